@@ -1,0 +1,5 @@
+pub mod Bytes
+pub mod Stops
+pub mod Wordwise
+pub mod Marks
+pub mod Fences

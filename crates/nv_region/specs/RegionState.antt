@@ -1,0 +1,35 @@
+-- A region in memory, as its contracts see it.
+use Rattle.std.specs.Prelude.{◌≡◌, ◌⊎◌, ℕ, Bool, false, ◌-◌, ◌==◌, List, get_or}
+use Rattle.nv_region.specs.Region.{Region}
+use Rattle.nv_region.specs.declared.memory.Fuse.{Fuse}
+use Rattle.nv_region.specs.declared.memory.Fuse.TheVariants.{Off, After, At}
+
+-- the region as it reads, its words at the last fence, and when it stops
+pub record RegionState : Type 0 where
+  pub region : Region
+  -- the words at the last fence
+  pub fenced : List ℕ
+  pub fuse : Fuse
+  pub burnt : Bool
+
+-- each word is left as at the last fence or as last stored
+abbrev pub fenced_or_last : RegionState → ℕ → ℕ → Type 0
+fenced_or_last m i x = (x ≡ get_or m.region.words i 0) ⊎ (x ≡ get_or m.fenced i 0)
+
+-- the fuse burns at a store to this address
+abbrev pub burns_at_store : Fuse → ℕ → Bool
+burns_at_store Off at = false
+burns_at_store (After n) at = n == 0
+burns_at_store (At a) at = a == at
+
+-- the fuse burns at a fence
+abbrev pub burns_at_fence : Fuse → Bool
+burns_at_fence (After n) = n == 0
+burns_at_fence Off = false
+burns_at_fence (At a) = false
+
+-- the fuse after a store or a fence that passed
+abbrev pub one_passed : Fuse → Fuse
+one_passed (After n) = After (n - 1)
+one_passed Off = Off
+one_passed (At a) = At a

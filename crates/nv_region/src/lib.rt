@@ -1,0 +1,17 @@
+//! A region of byte-addressable memory: its words, its fence, and what a stop may leave of it.
+//!
+//! A store of an aligned 8-byte word is atomic. After a stop each word, by itself, has its value at the last fence
+//! or one that was stored to it since (the store model of the FAST 2016 paper's persistent memory).
+#![tactic(auto)]
+
+mod memory;
+mod pmem;
+mod stored;
+mod words;
+
+pub use memory::{Fuse, MemRegion, RegionRefusal};
+pub use pmem::{Pmem, Stopped};
+pub use words::{commit_word, store_word};
+
+#[cfg(test)]
+mod tests;

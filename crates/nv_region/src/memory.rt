@@ -1,0 +1,299 @@
+//! A region in ordinary memory, which a fuse can stop.
+//!
+//! It holds its words twice: as they read, and as they were at the last fence. A fence copies the pages that were
+//! stored to since the last one, so it costs what was stored and never the size of the region.
+
+ghost use Rattle.std.specs.Prelude.{◌≡◌, ◌≢◌, ◌⊎◌, ◌≤◌, ◌<◌, ◌+◌, ◌*◌, ◌/◌, ◌%◌, ◌||◌, ◌↔◌, ◌^◌, ◌==◌, ℕ, Bool, true, false, IsTrue, IfOk, OnOk, OnErr, IsErrOf, is_err, get_or, eqb, length, drop, replicate, List, [], ◌∷◌, refl};
+ghost use Rattle.std.proofs.Common.{inl, inr};
+ghost use Rattle.std.specs.List.{list_any};
+ghost use Rattle.byteorder.specs.Endian.{little_number};
+ghost use Rattle.nv_region.specs.Region.{size, word, put, region_of, bytes_of};
+ghost use Rattle.nv_region.specs.Stops.{NothingPending, NoneAdded, Adds, One};
+ghost use Rattle.nv_region.specs.RegionState.{RegionState, fenced_or_last, burns_at_store, burns_at_fence, one_passed};
+ghost use Rattle.nv_region.specs.Fenced.{DifferOnlyIn};
+
+use crate::stored::StoredPages;
+use crate::{Pmem, Stopped};
+use byteorder::{ByteOrder, LittleEndian};
+use std::alloc::{AllocError, Global};
+use std::marker::Model;
+
+const WORDS_IN_PAGE: usize = 512;
+
+const MOST_BLOCKS: u64 = 262_144;
+
+const MOST_BYTES: usize = 1 << 30;
+
+/// When the memory stops. A fuse that has burnt refuses each later store and fence.
+#[derive(Clone, Copy, Debug, PartialEq, Eq)]
+pub enum Fuse {
+    /// Never.
+    Off,
+    /// So many more stores and fences pass; it burns at the next one.
+    After(u64),
+    /// At the first store to this byte address, which isn't done.
+    At(u64),
+}
+
+/// Why no region was made.
+#[derive(Clone, Copy, Debug, PartialEq, Eq)]
+pub enum RegionRefusal {
+    /// No block, more than 262,144 blocks, or more than 1,073,741,824 bytes.
+    Length,
+    /// A growth was refused.
+    Memory,
+}
+
+impl From<AllocError> for RegionRefusal {
+    ghost use Rattle.nv_region.specs.declared.memory.RegionRefusal.TheVariants.{Memory};
+
+    ghost from_gives = { λ _ e. e ≡ Memory };
+
+    fn from(_: AllocError) -> Self {
+        RegionRefusal::Memory
+    }
+}
+
+/// A region in ordinary memory. Contracts see its words, those at the last fence, and its fuse.
+#[derive(Drop)]
+pub struct MemRegion {
+    alloc: Global,
+    words: Vec<u64>,
+    fenced: Vec<u64>,
+    stored: StoredPages,
+    rest: Vec<u8>,
+    fuse: Fuse,
+    burnt: bool,
+}
+
+impl Model for MemRegion {
+    ghost use Rattle.nv_region.specs.RegionState.{RegionState};
+
+    ghost Value = { RegionState };
+
+    ghost view = { λ m. record { region = record { words = m.words.items; rest = m.rest.items }; fenced = m.fenced.items; fuse = m.fuse; burnt = m.burnt } };
+
+    ghost use Rattle.nv_region.specs.Fenced.{IsTracked};
+
+    ghost invariant = { IsTracked };
+}
+
+impl MemRegion {
+    /// A region of `blocks` blocks of 4096 zero bytes, with nothing pending and no fuse.
+    ///
+    /// Refuses `Length` where there is no block or more than 262,144, and `Memory` where a growth was refused.
+    pub fn new(alloc: Global, blocks: u64) -> Result<MemRegion, RegionRefusal>
+        ensures zeros { IfOk result (λ m. m.region ≡ record { words = replicate (512 * blocks) 0; rest = [] }) }
+        ensures settled { IfOk result (λ m. NothingPending m.region (fenced_or_last m)) }
+        ensures fuse { IfOk result (λ m. (m.fuse ≡ Fuse.Off) × (m.burnt ≡ false)) }
+        ensures length { IsErrOf result RegionRefusal.Length ↔ (blocks ≡ 0) ⊎ (262144 < blocks) }
+    {
+        if blocks == 0 || blocks > MOST_BLOCKS {
+            return Err(RegionRefusal::Length);
+        }
+        let count = blocks as usize * WORDS_IN_PAGE;
+        Ok(MemRegion {
+            alloc,
+            words: vec![in alloc; 0; count]?,
+            fenced: vec![in alloc; 0; count]?,
+            stored: StoredPages::new(alloc, pages_of(count))?,
+            rest: Vec::new(alloc),
+            fuse: Fuse::Off,
+            burnt: false,
+        })
+    }
+
+    /// A region of these bytes, with nothing pending and no fuse. Any length up to 1,073,741,824 is taken, so that a
+    /// region that was cut can be shown too.
+    ///
+    /// Refuses `Length` for more bytes, and `Memory` where a growth was refused.
+    pub fn from_bytes(alloc: Global, bytes: &[u8]) -> Result<MemRegion, RegionRefusal>
+        ensures region { IfOk result (λ m. m.region ≡ region_of bytes.now) }
+        ensures size { IfOk result (λ m. size m.region ≡ length bytes.now) }
+        ensures words { IfOk result (λ m. (at : ℕ) → at % 8 ≡ 0 → at + 8 ≤ length bytes.now → word m.region at ≡ little_number 8 (drop at bytes.now)) }
+        ensures bytes { IfOk result (λ m. bytes_of m.region ≡ bytes.now) }
+        ensures settled { IfOk result (λ m. NothingPending m.region (fenced_or_last m)) }
+        ensures fuse { IfOk result (λ m. (m.fuse ≡ Fuse.Off) × (m.burnt ≡ false)) }
+        ensures length { IsErrOf result RegionRefusal.Length ↔ (2 ^ 30 < length bytes.now) }
+    {
+        if bytes.len() > MOST_BYTES {
+            return Err(RegionRefusal::Length);
+        }
+        let (words, rest) = read_words(alloc, bytes)?;
+        let fenced = words.as_slice().to_vec(alloc)?;
+        let stored = StoredPages::new(alloc, pages_of(words.len()))?;
+        Ok(MemRegion {
+            alloc,
+            words,
+            fenced,
+            stored,
+            rest,
+            fuse: Fuse::Off,
+            burnt: false,
+        })
+    }
+
+    /// The bytes of the region as it reads.
+    pub fn to_bytes(&self) -> Result<Vec<u8>, AllocError>
+        ensures { IfOk result (λ bytes. bytes.items ≡ bytes_of self.now.region) }
+    {
+        let mut bytes = Vec::new(self.alloc);
+        for word in &self.words {
+            let mut eight = [0; 8];
+            LittleEndian::write_u64(&mut eight, *word);
+            bytes.extend_from_slice(&eight)?;
+        }
+        bytes.extend_from_slice(&self.rest)?;
+        Ok(bytes)
+    }
+
+    /// Puts another fuse in, also where the last one has burnt. No byte changes.
+    pub fn set_fuse(&mut self, fuse: Fuse)
+        ensures { self.new ≡ record self.old { fuse = fuse; burnt = false } }
+    {
+        self.fuse = fuse;
+        self.burnt = false;
+    }
+}
+
+// The words of the bytes, and the bytes behind them.
+fn read_words(alloc: Global, bytes: &[u8]) -> Result<(Vec<u64>, Vec<u8>), AllocError>
+    ensures words { IfOk result (λ r. record { words = r.0.items; rest = r.1.items } ≡ region_of bytes.now) }
+    ensures short { IfOk result (λ r. length r.1.items < 8) }
+    ensures count { IfOk result (λ r. 8 * length r.0.items ≤ length bytes.now) }
+{
+    let mut words = Vec::new(alloc);
+    let mut left = bytes;
+    while left.len() >= 8 {
+        words.push(LittleEndian::read_u64(left))?;
+        left = &left[8..];
+    }
+    Ok((words, left.to_vec(alloc)?))
+}
+
+impl Pmem for MemRegion {
+    ghost region = { λ m. m.region };
+
+    ghost may_hold = { fenced_or_last };
+
+    ghost has_burnt = { λ m. m.burnt };
+
+    ghost holds_now = { λ m i. inl refl };
+
+    fn len(&self) -> u64 {
+        8 * self.words.len() as u64 + self.rest.len() as u64
+    }
+
+    fn load(&self, at: u64) -> u64 {
+        self.words[(at / 8) as usize]
+    }
+
+    fn store(&mut self, at: u64, value: u64) -> Result<(), Stopped>
+        requires aligned { at % 8 ≡ 0 }
+        requires within { at + 8 ≤ size self.old.region }
+        ensures stored { OnOk result (self.new.region ≡ put self.old.region at value) }
+        ensures may_keep { OnOk result (Adds (One at value) (fenced_or_last self.old) (fenced_or_last self.new)) }
+        ensures refused { OnErr result (self.new.region ≡ self.old.region) }
+        ensures refused_keep { OnErr result (NoneAdded (fenced_or_last self.old) (fenced_or_last self.new)) }
+        ensures stopped { is_err result ≡ self.new.burnt }
+        ensures burnt { IsTrue self.old.burnt → IsTrue self.new.burnt }
+        // The fuse burns where it says.
+        ensures burns { self.new.burnt ≡ (self.old.burnt || burns_at_store self.old.fuse at) }
+        ensures counts { OnOk result (self.new.fuse ≡ one_passed self.old.fuse) }
+        ensures fenced { self.new.fenced ≡ self.old.fenced }
+    {
+        if self.burnt {
+            return Err(Stopped);
+        }
+        let burns = match self.fuse {
+            Fuse::Off => false,
+            Fuse::After(left) => left == 0,
+            Fuse::At(address) => address == at,
+        };
+        if burns {
+            self.burnt = true;
+            return Err(Stopped);
+        }
+        self.count_down();
+        self.put((at / 8) as usize, value);
+        Ok(())
+    }
+
+    fn fence(&mut self) -> Result<(), Stopped>
+        ensures same { self.new.region ≡ self.old.region }
+        ensures fenced { OnOk result (NothingPending self.new.region (fenced_or_last self.new)) }
+        ensures refused_keep { OnErr result (NoneAdded (fenced_or_last self.old) (fenced_or_last self.new)) }
+        ensures stopped { is_err result ≡ self.new.burnt }
+        ensures burnt { IsTrue self.old.burnt → IsTrue self.new.burnt }
+        // The fuse burns where it says.
+        ensures burns { self.new.burnt ≡ (self.old.burnt || burns_at_fence self.old.fuse) }
+        ensures counts { OnOk result (self.new.fuse ≡ one_passed self.old.fuse) }
+    {
+        if self.burnt {
+            return Err(Stopped);
+        }
+        if let Fuse::After(0) = self.fuse {
+            self.burnt = true;
+            return Err(Stopped);
+        }
+        self.count_down();
+        copy_pages(&mut self.fenced, &self.words, self.stored.pages());
+        self.stored.clear();
+        Ok(())
+    }
+}
+
+impl MemRegion {
+    // One store or fence passes.
+    fn count_down(&mut self)
+        ensures { self.new ≡ record self.old { fuse = one_passed self.old.fuse } }
+    {
+        if let Fuse::After(left) = self.fuse {
+            self.fuse = Fuse::After(left.saturating_sub(1));
+        }
+    }
+
+    // Changes the word of this number, and notes its page.
+    fn put(&mut self, number: usize, value: u64)
+        requires { number < length self.old.region.words }
+        ensures { self.new ≡ record self.old { region = put self.old.region (8 * number) value } }
+    {
+        self.stored.note(number / WORDS_IN_PAGE);
+        self.words[number] = value;
+    }
+}
+
+// How many pages have words, of which there are so many.
+fn pages_of(words: usize) -> usize
+    requires { words ≤ 2 ^ 27 }
+    ensures { result ≡ (words + 511) / 512 }
+{
+    words.div_ceil(WORDS_IN_PAGE)
+}
+
+// Makes the words at the last fence those of now: only these pages can differ.
+fn copy_pages(fenced: &mut [u64], words: &[u64], pages: &[usize])
+    requires as_long { length fenced.old ≡ length words.now }
+    requires small { length words.now ≤ 2 ^ 27 }
+    requires below { (p : ℕ) → list_any (eqb p) pages.now ≡ true → 512 * p < length words.now }
+    requires differ { DifferOnlyIn pages.now words.now fenced.old }
+    ensures { fenced.new ≡ words.now }
+{
+    for page in pages {
+        copy_page(fenced, words, *page);
+    }
+}
+
+// Copies one page, whose last words may lie past the end.
+fn copy_page(fenced: &mut [u64], words: &[u64], page: usize)
+    requires as_long { length fenced.old ≡ length words.now }
+    requires small { length words.now ≤ 2 ^ 27 }
+    requires within { 512 * page < length words.now }
+    ensures as_long { length fenced.new ≡ length fenced.old }
+    ensures here { (i : ℕ) → i / 512 ≡ page → get_or fenced.new i 0 ≡ get_or words.now i 0 }
+    ensures others { (i : ℕ) → i / 512 ≢ page → get_or fenced.new i 0 ≡ get_or fenced.old i 0 }
+{
+    let start = page * WORDS_IN_PAGE;
+    let end = (start + WORDS_IN_PAGE).min(words.len());
+    fenced[start..end].copy_from_slice(&words[start..end]);
+}

@@ -1,0 +1,61 @@
+//! Memory that keeps its words over a stop, as far as they were fenced.
+
+ghost use Rattle.std.specs.Prelude.{◌≡◌, ◌+◌, ◌≤◌, ◌%◌, ℕ, Bool, IsTrue, OnOk, OnErr, is_err, get_or, length, ◌<◌};
+ghost use Rattle.nv_region.specs.Region.{Region, size, word, put};
+ghost use Rattle.nv_region.specs.Stops.{Adds, One, NoneAdded, NothingPending};
+
+/// The memory has been stopped: its fuse has burnt, and nothing is stored any more.
+#[derive(Clone, Copy, Debug, PartialEq, Eq)]
+pub struct Stopped;
+
+/// A region of 8-byte words at byte addresses, of which a stop may lose what was stored since the last fence.
+///
+/// Callers give addresses that are multiples of 8, of words that lie within the region.
+pub trait Pmem {
+    /// The region as it reads.
+    ghost region: { Self → Region };
+
+    /// A stop at this moment may leave this value in the word of this number.
+    ghost may_hold: { Self → ℕ → ℕ → Type 0 };
+
+    /// The fuse has burnt.
+    ghost has_burnt: { Self → Bool };
+
+    /// The number of bytes.
+    fn len(&self) -> u64
+        ensures bytes { result ≡ size (region self.now) }
+        ensures short { length (region self.now).rest < 8 };
+
+    /// The word at a byte address.
+    fn load(&self, at: u64) -> u64
+        requires aligned { at % 8 ≡ 0 }
+        requires within { at + 8 ≤ size (region self.now) }
+        ensures { result ≡ word (region self.now) at };
+
+    /// Stores a word at once and whole. A stop may lose it until the next fence.
+    ///
+    /// Answers `Stopped` exactly where the fuse has burnt by the end of the call; nothing has changed then.
+    fn store(&mut self, at: u64, value: u64) -> Result<(), Stopped>
+        requires aligned { at % 8 ≡ 0 }
+        requires within { at + 8 ≤ size (region self.old) }
+        ensures stored { OnOk result (region self.new ≡ put (region self.old) at value) }
+        ensures may_keep { OnOk result (Adds (One at value) (may_hold self.old) (may_hold self.new)) }
+        ensures refused { OnErr result (region self.new ≡ region self.old) }
+        ensures refused_keep { OnErr result (NoneAdded (may_hold self.old) (may_hold self.new)) }
+        ensures stopped { is_err result ≡ has_burnt self.new }
+        ensures burnt { IsTrue (has_burnt self.old) → IsTrue (has_burnt self.new) };
+
+    /// After it, a stop leaves all that was stored before.
+    ///
+    /// Answers `Stopped` exactly where the fuse has burnt by the end of the call; a stop may leave then what it
+    /// could leave before.
+    fn fence(&mut self) -> Result<(), Stopped>
+        ensures same { region self.new ≡ region self.old }
+        ensures fenced { OnOk result (NothingPending (region self.new) (may_hold self.new)) }
+        ensures refused_keep { OnErr result (NoneAdded (may_hold self.old) (may_hold self.new)) }
+        ensures stopped { is_err result ≡ has_burnt self.new }
+        ensures burnt { IsTrue (has_burnt self.old) → IsTrue (has_burnt self.new) };
+
+    /// A stop may leave each word as it reads.
+    ghost holds_now: { (m : Self) (i : ℕ) → may_hold m i (get_or (region m).words i 0) };
+}

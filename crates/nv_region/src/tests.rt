@@ -1,0 +1,92 @@
+//! Regions in memory: their bytes, their refusals and their fuse.
+
+use crate::{Fuse, MemRegion, Pmem, RegionRefusal, Stopped, commit_word, store_word};
+use std::alloc::{AllocError, Global};
+use std::process::Abort;
+use std::test::Fail;
+
+/// Bytes of which neighbours differ.
+fn counted(alloc: Global, count: u64) -> Result<Vec<u8>, AllocError> {
+    let mut bytes = Vec::new(alloc);
+    for k in 0..count {
+        bytes.push((k % 251) as u8)?;
+    }
+    Ok(bytes)
+}
+
+fn gives_back(rt: &impl Abort, alloc: Global, count: u64) -> Result<(), Fail> {
+    let bytes = counted(alloc, count)?;
+    let region = MemRegion::from_bytes(alloc, &bytes)?;
+    assert_eq!(rt; region.len(), count);
+    let back = region.to_bytes()?;
+    assert!(rt; back.as_slice() == bytes.as_slice(), "of {count} bytes");
+    Ok(())
+}
+
+#[test]
+fn bytes_of_any_length_are_given_back(rt: HostRuntime) -> Result<(), Fail> {
+    for count in [0, 1, 7, 8, 4095, 4096] {
+        gives_back(&rt, rt.alloc(), count)?;
+    }
+    Ok(())
+}
+
+#[test]
+fn words_are_little_endian(rt: HostRuntime) -> Result<(), Fail> {
+    let bytes = [1, 2, 0, 0, 0, 0, 0, 128, 255];
+    let region = MemRegion::from_bytes(rt.alloc(), &bytes)?;
+    assert_eq!(rt; region.load(0), 0x8000_0000_0000_0201);
+    Ok(())
+}
+
+#[test]
+fn no_block_and_too_many_blocks_are_refused(rt: HostRuntime) {
+    assert!(rt; matches!(&MemRegion::new(rt.alloc(), 0), Err(RegionRefusal::Length)));
+    assert!(rt;
+        matches!(
+            &MemRegion::new(rt.alloc(), 262_145),
+            Err(RegionRefusal::Length)
+        )
+    );
+}
+
+#[test]
+fn a_new_region_is_zeros_and_takes_stores(rt: HostRuntime) -> Result<(), Fail> {
+    let mut region = MemRegion::new(rt.alloc(), 8)?;
+    assert_eq!(rt; region.len(), 32_768);
+    assert_eq!(rt; region.load(32_760), 0);
+    region.store(32_760, 7)?;
+    region.fence()?;
+    commit_word(&mut region, 0, 8)?;
+    store_word(&mut region, 8, 9)?;
+    assert_eq!(rt;
+        (region.load(32_760), region.load(0), region.load(8)),
+        (7, 8, 9)
+    );
+    Ok(())
+}
+
+#[test]
+fn a_fuse_counts_stores_and_fences(rt: HostRuntime) -> Result<(), Fail> {
+    let mut region = MemRegion::new(rt.alloc(), 8)?;
+    region.set_fuse(Fuse::After(2));
+    region.store(0, 1)?;
+    region.fence()?;
+    assert_eq!(rt; region.store(8, 2), Err(Stopped));
+    assert_eq!(rt; region.fence(), Err(Stopped));
+    assert_eq!(rt; region.load(8), 0);
+    region.set_fuse(Fuse::Off);
+    assert_eq!(rt; region.store(8, 2), Ok(()));
+    Ok(())
+}
+
+#[test]
+fn a_fuse_waits_for_its_address(rt: HostRuntime) -> Result<(), Fail> {
+    let mut region = MemRegion::new(rt.alloc(), 8)?;
+    region.set_fuse(Fuse::At(16));
+    region.store(8, 1)?;
+    region.fence()?;
+    assert_eq!(rt; region.store(16, 2), Err(Stopped));
+    assert_eq!(rt; (region.load(8), region.load(16)), (1, 0));
+    Ok(())
+}

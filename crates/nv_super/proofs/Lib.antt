@@ -1,0 +1,5 @@
+pub mod Rising
+pub mod Runs
+pub mod Sorted
+pub mod Pools
+pub mod Slots

@@ -1,0 +1,10 @@
+pub mod Layout
+pub mod Super
+pub mod Owners
+pub mod Order
+pub mod Keys
+pub mod Sets
+pub mod Runs
+pub use Rattle.nv_region.specs.Region
+pub use Rattle.nv_region.specs.Stops
+pub use Rattle.nv_region.specs.Stored

@@ -1,0 +1,223 @@
+//! The order of owners and of faults: both are compared by a key, whose numbers are compared from left to right.
+
+ghost use Rattle.std.specs.Prelude.{◌≡◌};
+
+use crate::faults::Fault;
+use crate::owners::Owner;
+use std::cmp::Ordering;
+
+/// By inode, then log before data, then number.
+#[derive(Clone, Copy, Debug, PartialEq, Eq, PartialOrd, Ord)]
+pub(crate) struct OwnerKey {
+    inode: u64,
+    role: u64,
+    number: u64,
+}
+
+/// By class, then by the fields from left to right.
+#[derive(Clone, Copy, Debug, PartialEq, Eq, PartialOrd, Ord)]
+pub(crate) struct FaultKey {
+    class: u64,
+    first: u64,
+    second: u64,
+    third: u64,
+    fourth: u64,
+}
+
+fn short_key(class: u64, first: u64, second: u64) -> FaultKey
+    ensures { result ≡ record { class = class; first = first; second = second; third = 0; fourth = 0 } }
+{
+    FaultKey {
+        class,
+        first,
+        second,
+        third: 0,
+        fourth: 0,
+    }
+}
+
+impl Owner {
+    ghost use Rattle.std.specs.Prelude.{◌≡◌, List, ℕ, []};
+    ghost use Rattle.nv_super.specs.Order.{owner_key};
+    ghost use Rattle.nv_super.specs.Keys.{owner_fields};
+
+    /// What owners are compared by.
+    fn key(&self) -> OwnerKey
+        ensures { owner_fields result ≡ owner_key self.now }
+    {
+        match self {
+            Owner::Log { inode, page } => OwnerKey {
+                inode: *inode,
+                role: 0,
+                number: *page,
+            },
+            Owner::Data { inode, page } => OwnerKey {
+                inode: *inode,
+                role: 1,
+                number: *page,
+            },
+        }
+    }
+}
+
+impl Fault {
+    ghost use Rattle.std.specs.Prelude.{◌≡◌, List, ℕ, []};
+    ghost use Rattle.nv_super.specs.Order.{fault_key};
+    ghost use Rattle.nv_super.specs.Keys.{fault_fields};
+
+    /// What faults are compared by.
+    fn key(&self) -> FaultKey
+        ensures { fault_fields result ≡ fault_key self.now }
+    {
+        match self {
+            Fault::J1 { cpu } => short_key(0, *cpu, 0),
+            Fault::J2 { cpu, record } => short_key(1, *cpu, *record),
+            Fault::I1 { inode } => short_key(2, *inode, 0),
+            Fault::I2 { inode } => short_key(3, *inode, 0),
+            Fault::I3 { inode } => short_key(4, *inode, 0),
+            Fault::L1 { inode, at } => short_key(5, *inode, *at),
+            Fault::L2 { inode, at } => short_key(6, *inode, *at),
+            Fault::L3 { inode, at } => short_key(7, *inode, *at),
+            Fault::L4 { inode, at } => short_key(8, *inode, *at),
+            Fault::E1 { inode, at } => short_key(9, *inode, *at),
+            Fault::E2 { inode, at } => short_key(10, *inode, *at),
+            Fault::E3 { inode, at } => short_key(11, *inode, *at),
+            Fault::E4 { inode, at } => short_key(12, *inode, *at),
+            Fault::C1 { directory, at } => short_key(13, *directory, *at),
+            Fault::C2 { inode } => short_key(14, *inode, 0),
+            Fault::C3 { inode } => short_key(15, *inode, 0),
+            Fault::C4 { inode } => short_key(16, *inode, 0),
+            Fault::C5 => short_key(17, 0, 0),
+            Fault::B1 { block, owner } => {
+                let key = owner.key();
+                FaultKey {
+                    class: 18,
+                    first: *block,
+                    second: key.inode,
+                    third: key.role,
+                    fourth: key.number,
+                }
+            }
+        }
+    }
+}
+
+impl PartialEq for Owner {
+    ghost use Rattle.std.specs.Prelude.{nat_eq};
+    ghost use Rattle.std.specs.Cmp as Cmp;
+    ghost use Rattle.std.specs.Cmp.{on_equiv};
+    ghost use Rattle.std.specs.Cmp.Lexicographic.{pointwise, nat_list_eq_equiv};
+    ghost use Rattle.nv_super.specs.Order.{owner_key};
+
+    ghost eq = { λ a b. pointwise nat_eq (owner_key a) (owner_key b) };
+
+    ghost laws = { Cmp.partial_equiv_from_equiv (on_equiv owner_key nat_list_eq_equiv) };
+
+    fn eq(&self, other: &Owner) -> bool {
+        self.key() == other.key()
+    }
+}
+
+impl Eq for Owner {
+    ghost use Rattle.std.specs.Cmp.{on_equiv};
+    ghost use Rattle.std.specs.Cmp.Lexicographic.{nat_list_eq_equiv};
+    ghost use Rattle.nv_super.specs.Order.{owner_key};
+
+    ghost laws = { on_equiv owner_key nat_list_eq_equiv };
+}
+
+impl Ord for Owner {
+    ghost use Rattle.std.specs.Ordering.{nat_cmp};
+    ghost use Rattle.std.specs.Cmp.Lexicographic.{slice_cmp, on_texts, texts_ties};
+    ghost use Rattle.nv_super.specs.Order.{owner_key};
+    ghost use Rattle.std.proofs.Common.{refl};
+
+    ghost cmp = { λ a b. slice_cmp nat_cmp (owner_key a) (owner_key b) };
+
+    ghost total = { on_texts owner_key };
+
+    ghost matches_partial_cmp = { λ a b. refl };
+
+    ghost matches_eq = { λ a b. texts_ties (owner_key a) (owner_key b) };
+
+    fn cmp(&self, other: &Owner) -> Ordering {
+        self.key().cmp(&other.key())
+    }
+}
+
+impl PartialOrd for Owner {
+    ghost use Rattle.std.specs.Prelude.{Some};
+    ghost use Rattle.std.specs.Ordering.{nat_cmp};
+    ghost use Rattle.std.specs.Cmp.{partial_order_from_agreeing_total};
+    ghost use Rattle.std.specs.Cmp.Lexicographic.{slice_cmp, on_texts, texts_ties};
+    ghost use Rattle.nv_super.specs.Order.{owner_key};
+    ghost use Rattle.std.proofs.Common.{refl};
+
+    ghost partial_cmp = { λ a b. Some (slice_cmp nat_cmp (owner_key a) (owner_key b)) };
+
+    ghost laws = { partial_order_from_agreeing_total (λ a b. slice_cmp nat_cmp (owner_key a) (owner_key b)) (on_texts owner_key) (λ a b. refl) (λ a b. texts_ties (owner_key a) (owner_key b)) };
+
+    fn partial_cmp(&self, other: &Owner) -> Option<Ordering> {
+        Some(self.cmp(other))
+    }
+}
+
+impl PartialEq for Fault {
+    ghost use Rattle.std.specs.Prelude.{nat_eq};
+    ghost use Rattle.std.specs.Cmp as Cmp;
+    ghost use Rattle.std.specs.Cmp.{on_equiv};
+    ghost use Rattle.std.specs.Cmp.Lexicographic.{pointwise, nat_list_eq_equiv};
+    ghost use Rattle.nv_super.specs.Order.{fault_key};
+
+    ghost eq = { λ a b. pointwise nat_eq (fault_key a) (fault_key b) };
+
+    ghost laws = { Cmp.partial_equiv_from_equiv (on_equiv fault_key nat_list_eq_equiv) };
+
+    fn eq(&self, other: &Fault) -> bool {
+        self.key() == other.key()
+    }
+}
+
+impl Eq for Fault {
+    ghost use Rattle.std.specs.Cmp.{on_equiv};
+    ghost use Rattle.std.specs.Cmp.Lexicographic.{nat_list_eq_equiv};
+    ghost use Rattle.nv_super.specs.Order.{fault_key};
+
+    ghost laws = { on_equiv fault_key nat_list_eq_equiv };
+}
+
+impl Ord for Fault {
+    ghost use Rattle.std.specs.Ordering.{nat_cmp};
+    ghost use Rattle.std.specs.Cmp.Lexicographic.{slice_cmp, on_texts, texts_ties};
+    ghost use Rattle.nv_super.specs.Order.{fault_key};
+    ghost use Rattle.std.proofs.Common.{refl};
+
+    ghost cmp = { λ a b. slice_cmp nat_cmp (fault_key a) (fault_key b) };
+
+    ghost total = { on_texts fault_key };
+
+    ghost matches_partial_cmp = { λ a b. refl };
+
+    ghost matches_eq = { λ a b. texts_ties (fault_key a) (fault_key b) };
+
+    fn cmp(&self, other: &Fault) -> Ordering {
+        self.key().cmp(&other.key())
+    }
+}
+
+impl PartialOrd for Fault {
+    ghost use Rattle.std.specs.Prelude.{Some};
+    ghost use Rattle.std.specs.Ordering.{nat_cmp};
+    ghost use Rattle.std.specs.Cmp.{partial_order_from_agreeing_total};
+    ghost use Rattle.std.specs.Cmp.Lexicographic.{slice_cmp, on_texts, texts_ties};
+    ghost use Rattle.nv_super.specs.Order.{fault_key};
+    ghost use Rattle.std.proofs.Common.{refl};
+
+    ghost partial_cmp = { λ a b. Some (slice_cmp nat_cmp (fault_key a) (fault_key b)) };
+
+    ghost laws = { partial_order_from_agreeing_total (λ a b. slice_cmp nat_cmp (fault_key a) (fault_key b)) (on_texts fault_key) (λ a b. refl) (λ a b. texts_ties (fault_key a) (fault_key b)) };
+
+    fn partial_cmp(&self, other: &Fault) -> Option<Ordering> {
+        Some(self.cmp(other))
+    }
+}

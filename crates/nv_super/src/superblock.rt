@@ -1,0 +1,172 @@
+//! The superblock: block 0 of a region, whose words lay out all other areas.
+//!
+//! Word 0 is the magic, word 8 the version, 16 the number of CPUs, 24 of blocks, 32 of table blocks for each CPU, 40 the state.
+//! The magic is stored last when a region is made, so a region without it is no file system.
+
+ghost use Rattle.std.specs.Prelude.{◌≡◌, ◌≤◌, ◌<◌, ◌+◌, ◌-◌, ◌*◌, ◌/◌, ◌%◌, ℕ, IfOk, IfErr, OnOk, is_err};
+ghost use Rattle.nv_region.specs.Region.{Region, HasBlocks, size, word, put};
+ghost use Rattle.nv_region.specs.Stored.{StoresOnly, Within};
+ghost use Rattle.nv_super.specs.Layout.{system_blocks, pool_start, slot_address, is_page_start, is_number, HasAreas, IsLayout};
+ghost use Rattle.nv_super.specs.Super.{IsSuper, IsRefused};
+
+use nv_region::{Pmem, Stopped};
+
+/// The bytes of a block.
+pub const BLOCK_SIZE: u64 = 4096;
+
+/// The eight ASCII bytes `NOVAPM01`, as a little-endian word.
+const MAGIC: u64 = 0x3130_4d50_4156_4f4e;
+
+const LEAST_BLOCKS: u64 = 8;
+
+const MOST_BLOCKS: u64 = 65_536;
+
+/// The numbers of a superblock: the layout's version, CPUs, blocks of the region, table blocks for each CPU, and the
+/// state, which is shown and never used.
+#[derive(Clone, Copy, Debug, PartialEq, Eq)]
+pub struct Super {
+    pub version: u64,
+    pub cpus: u64,
+    pub blocks: u64,
+    pub table_blocks: u64,
+    pub state: u64,
+}
+
+/// Why a region is no file system, in the order in which the faults are looked for.
+#[derive(Clone, Copy, Debug, PartialEq, Eq)]
+pub enum SuperFault {
+    /// The length isn't a multiple of 4096 bytes, or isn't of 8 to 65,536 blocks.
+    Length,
+    /// The magic word is another.
+    Magic,
+    /// The version isn't 1.
+    Version,
+    /// There aren't 1 to 64 CPUs.
+    Cpus,
+    /// The number of blocks isn't that of the region.
+    Blocks,
+    /// There aren't 1 to 64 table blocks for each CPU, or no data block is left behind the tables.
+    Tables,
+    /// The state is neither 0 nor 1.
+    State,
+}
+
+/// Reads the superblock of any region, or finds the first fault that applies. It takes no memory.
+pub fn read_super<P: Pmem>(memory: &P) -> Result<Super, SuperFault>
+    ensures accepted { IfOk result (λ s. IsSuper (P.region memory.now) s) }
+    ensures layout { IfOk result (λ s. IsLayout s × HasBlocks (P.region memory.now) s.blocks) }
+    ensures refused { IfErr result (λ fault. IsRefused (P.region memory.now) fault) }
+{
+    let length = memory.len();
+    let blocks = length / BLOCK_SIZE;
+    if length % BLOCK_SIZE != 0 || blocks < LEAST_BLOCKS || blocks > MOST_BLOCKS {
+        return Err(SuperFault::Length);
+    }
+    if memory.load(0) != MAGIC {
+        return Err(SuperFault::Magic);
+    }
+    let found = Super {
+        version: memory.load(8),
+        cpus: memory.load(16),
+        blocks: memory.load(24),
+        table_blocks: memory.load(32),
+        state: memory.load(40),
+    };
+    if found.version != 1 {
+        return Err(SuperFault::Version);
+    }
+    if found.cpus < 1 || found.cpus > 64 {
+        return Err(SuperFault::Cpus);
+    }
+    if found.blocks != blocks {
+        return Err(SuperFault::Blocks);
+    }
+    if found.table_blocks < 1 || found.table_blocks > 64 {
+        return Err(SuperFault::Tables);
+    }
+    if 1 + found.cpus + found.cpus * found.table_blocks >= found.blocks {
+        return Err(SuperFault::Tables);
+    }
+    if found.state > 1 {
+        return Err(SuperFault::State);
+    }
+    Ok(found)
+}
+
+/// Stores all words of the superblock but the magic, in rising order and without a fence.
+///
+/// Answers `Stopped` exactly where the fuse has burnt; only words of the superblock's numbers may have changed then.
+pub fn write_super<P: Pmem>(memory: &mut P, numbers: &Super) -> Result<(), Stopped>
+    requires { 4096 ≤ size (P.region memory.old) }
+    ensures done { OnOk result (P.region memory.new ≡ put (put (put (put (put (P.region memory.old) 8 numbers.now.version) 16 numbers.now.cpus) 24 numbers.now.blocks) 32 numbers.now.table_blocks) 40 numbers.now.state) }
+    ensures wrote { StoresOnly (Within 8 40) (P.region memory.old) (P.region memory.new) (P.may_hold memory.old) (P.may_hold memory.new) }
+    ensures stopped { is_err result ≡ P.has_burnt memory.new }
+{
+    memory.store(8, numbers.version)?;
+    memory.store(16, numbers.cpus)?;
+    memory.store(24, numbers.blocks)?;
+    memory.store(32, numbers.table_blocks)?;
+    memory.store(40, numbers.state)
+}
+
+impl Super {
+    /// The number of blocks before the data blocks: the superblock, the journals and the tables. It is also the
+    /// number of the first data block.
+    pub fn system_blocks(&self) -> u64
+        requires { HasAreas self.now }
+        ensures { result ≡ system_blocks self.now }
+    {
+        1 + self.cpus + self.cpus * self.table_blocks
+    }
+
+    /// Whether a data block begins at the byte address.
+    pub fn is_page_start(&self, address: u64) -> bool
+        requires { HasAreas self.now }
+        ensures { result ≡ is_page_start self.now address }
+    {
+        self.system_blocks() <= address / BLOCK_SIZE
+            && address / BLOCK_SIZE < self.blocks
+            && address % BLOCK_SIZE == 0
+    }
+
+    /// Whether an inode can have this number.
+    pub fn is_number(&self, ino: u64) -> bool
+        requires { HasAreas self.now }
+        ensures { result ≡ is_number self.now ino }
+    {
+        ino > 0 && ino < 32 * self.cpus * self.table_blocks
+    }
+
+    /// The first block of the pool of a CPU, and the block behind its last. A pool may be empty.
+    pub fn pool(&self, cpu: u64) -> (u64, u64)
+        requires layout { IsLayout self.now }
+        requires cpu { cpu < self.now.cpus }
+        ensures start { result.0 ≡ pool_start self.now cpu }
+        ensures end { result.1 ≡ pool_start self.now (cpu + 1) }
+    {
+        let first = self.system_blocks();
+        let count = self.blocks - first;
+        (
+            first + cpu * count / self.cpus,
+            first + (cpu + 1) * count / self.cpus,
+        )
+    }
+
+    /// The byte address of the slot of an inode: inode `i` is slot `i / cpus` of the table of CPU `i % cpus`, and a
+    /// slot has 128 bytes.
+    pub fn slot_address(&self, ino: u64) -> u64
+        requires layout { IsLayout self.now }
+        requires ino { ino < 32 * self.now.cpus * self.now.table_blocks }
+        ensures { result ≡ slot_address self.now ino }
+    {
+        (1 + self.cpus + ino % self.cpus * self.table_blocks) * BLOCK_SIZE + ino / self.cpus * 128
+    }
+
+    /// The greatest inode number.
+    pub fn max_inode(&self) -> u64
+        requires { IsLayout self.now }
+        ensures { result ≡ 32 * self.now.cpus * self.now.table_blocks - 1 }
+    {
+        32 * self.cpus * self.table_blocks - 1
+    }
+}
