@@ -1,5 +1,6 @@
 -- A region in memory, as its contracts see it.
-use Rattle.std.specs.Prelude.{◌≡◌, ◌⊎◌, ℕ, Bool, false, ◌-◌, ◌==◌, List, get_or}
+use Rattle.std.specs.Prelude.{◌≡◌, ◌⊎◌, ℕ, Bool, true, false, ◌&&◌, not, ◌-◌, ◌==◌, List, get_or, refl}
+use Rattle.std.proofs.Common.{sym}
 use Rattle.nv_region.specs.Region.{Region}
 use Rattle.nv_region.specs.declared.memory.Fuse.{Fuse}
 use Rattle.nv_region.specs.declared.memory.Fuse.TheVariants.{Off, After, At}
@@ -33,3 +34,23 @@ abbrev pub one_passed : Fuse → Fuse
 one_passed (After n) = After (n - 1)
 one_passed Off = Off
 one_passed (At a) = At a
+
+-- no fuse is set
+abbrev pub is_off : Fuse → Bool
+is_off Off = true
+is_off (After n) = false
+is_off (At a) = false
+
+-- no store and no fence burns it
+abbrev pub is_steady : RegionState → Bool
+is_steady m = is_off m.fuse && not m.burnt
+
+right_of : (a b : Bool) → (a && not b) ≡ true → b ≡ false
+right_of true true h = sym h
+right_of false true h = sym h
+right_of true false h = refl
+right_of false false h = refl
+
+-- a memory without a fuse hasn't burnt
+pub steady_unburnt : (m : RegionState) → is_steady m ≡ true → m.burnt ≡ false
+steady_unburnt m = right_of (is_off m.fuse) m.burnt

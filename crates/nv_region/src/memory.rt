@@ -8,8 +8,8 @@ ghost use Rattle.std.proofs.Common.{inl, inr};
 ghost use Rattle.std.specs.List.{list_any};
 ghost use Rattle.byteorder.specs.Endian.{little_number};
 ghost use Rattle.nv_region.specs.Region.{size, word, put, region_of, bytes_of};
-ghost use Rattle.nv_region.specs.Stops.{NothingPending, NoneAdded, Adds, One};
-ghost use Rattle.nv_region.specs.RegionState.{RegionState, fenced_or_last, burns_at_store, burns_at_fence, one_passed};
+ghost use Rattle.nv_region.specs.Stops.{NothingPending, NoneAdded, Adds, One, StaysSteady};
+ghost use Rattle.nv_region.specs.RegionState.{RegionState, fenced_or_last, burns_at_store, burns_at_fence, one_passed, is_steady, steady_unburnt};
 ghost use Rattle.nv_region.specs.Fenced.{DifferOnlyIn};
 
 use crate::stored::StoredPages;
@@ -178,6 +178,10 @@ impl Pmem for MemRegion {
 
     ghost has_burnt = { λ m. m.burnt };
 
+    ghost is_steady = { is_steady };
+
+    ghost unburnt = { steady_unburnt };
+
     ghost holds_now = { λ m i. inl refl };
 
     fn len(&self) -> u64 {
@@ -197,6 +201,7 @@ impl Pmem for MemRegion {
         ensures refused_keep { OnErr result (NoneAdded (fenced_or_last self.old) (fenced_or_last self.new)) }
         ensures stopped { is_err result ≡ self.new.burnt }
         ensures burnt { IsTrue self.old.burnt → IsTrue self.new.burnt }
+        ensures steady { StaysSteady (is_steady self.old) (is_steady self.new) }
         // The fuse burns where it says.
         ensures burns { self.new.burnt ≡ (self.old.burnt || burns_at_store self.old.fuse at) }
         ensures counts { OnOk result (self.new.fuse ≡ one_passed self.old.fuse) }
@@ -225,6 +230,7 @@ impl Pmem for MemRegion {
         ensures refused_keep { OnErr result (NoneAdded (fenced_or_last self.old) (fenced_or_last self.new)) }
         ensures stopped { is_err result ≡ self.new.burnt }
         ensures burnt { IsTrue self.old.burnt → IsTrue self.new.burnt }
+        ensures steady { StaysSteady (is_steady self.old) (is_steady self.new) }
         // The fuse burns where it says.
         ensures burns { self.new.burnt ≡ (self.old.burnt || burns_at_fence self.old.fuse) }
         ensures counts { OnOk result (self.new.fuse ≡ one_passed self.old.fuse) }

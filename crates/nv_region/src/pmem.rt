@@ -1,8 +1,8 @@
 //! Memory that keeps its words over a stop, as far as they were fenced.
 
-ghost use Rattle.std.specs.Prelude.{◌≡◌, ◌+◌, ◌≤◌, ◌%◌, ℕ, Bool, IsTrue, OnOk, OnErr, is_err, get_or, length, ◌<◌};
+ghost use Rattle.std.specs.Prelude.{◌≡◌, ◌+◌, ◌≤◌, ◌%◌, ℕ, Bool, false, IsTrue, OnOk, OnErr, is_err, get_or, length, ◌<◌};
 ghost use Rattle.nv_region.specs.Region.{Region, size, word, put};
-ghost use Rattle.nv_region.specs.Stops.{Adds, One, NoneAdded, NothingPending};
+ghost use Rattle.nv_region.specs.Stops.{Adds, One, NoneAdded, NothingPending, StaysSteady};
 
 /// The memory has been stopped: its fuse has burnt, and nothing is stored any more.
 #[derive(Clone, Copy, Debug, PartialEq, Eq)]
@@ -20,6 +20,9 @@ pub trait Pmem {
 
     /// The fuse has burnt.
     ghost has_burnt: { Self → Bool };
+
+    /// No fuse is set: no store and no fence burns it.
+    ghost is_steady: { Self → Bool };
 
     /// The number of bytes.
     fn len(&self) -> u64
@@ -43,7 +46,8 @@ pub trait Pmem {
         ensures refused { OnErr result (region self.new ≡ region self.old) }
         ensures refused_keep { OnErr result (NoneAdded (may_hold self.old) (may_hold self.new)) }
         ensures stopped { is_err result ≡ has_burnt self.new }
-        ensures burnt { IsTrue (has_burnt self.old) → IsTrue (has_burnt self.new) };
+        ensures burnt { IsTrue (has_burnt self.old) → IsTrue (has_burnt self.new) }
+        ensures steady { StaysSteady (is_steady self.old) (is_steady self.new) };
 
     /// After it, a stop leaves all that was stored before.
     ///
@@ -54,7 +58,11 @@ pub trait Pmem {
         ensures fenced { OnOk result (NothingPending (region self.new) (may_hold self.new)) }
         ensures refused_keep { OnErr result (NoneAdded (may_hold self.old) (may_hold self.new)) }
         ensures stopped { is_err result ≡ has_burnt self.new }
-        ensures burnt { IsTrue (has_burnt self.old) → IsTrue (has_burnt self.new) };
+        ensures burnt { IsTrue (has_burnt self.old) → IsTrue (has_burnt self.new) }
+        ensures steady { StaysSteady (is_steady self.old) (is_steady self.new) };
+
+    /// A memory without a fuse hasn't burnt.
+    ghost unburnt: { (m : Self) → IsTrue (is_steady m) → has_burnt m ≡ false };
 
     /// A stop may leave each word as it reads.
     ghost holds_now: { (m : Self) (i : ℕ) → may_hold m i (get_or (region m).words i 0) };

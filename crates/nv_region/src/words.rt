@@ -2,7 +2,7 @@
 
 ghost use Rattle.std.specs.Prelude.{◌≡◌, ◌⊎◌, ◌+◌, ◌≤◌, ◌%◌, ℕ, IsTrue, OnOk, OnErr, is_err};
 ghost use Rattle.nv_region.specs.Region.{put, size};
-ghost use Rattle.nv_region.specs.Stops.{Adds, LeavesOnly, NothingPending, One, NoneAdded};
+ghost use Rattle.nv_region.specs.Stops.{Adds, LeavesOnly, NothingPending, One, NoneAdded, StaysSteady};
 ghost use Rattle.nv_region.specs.Stored.{Stored};
 
 use crate::pmem::{Pmem, Stopped};
@@ -17,6 +17,7 @@ pub fn store_word<P: Pmem>(memory: &mut P, at: u64, value: u64) -> Result<(), St
     ensures refused { OnErr result (P.region memory.new ≡ P.region memory.old) }
     ensures may_keep { Adds (One at value) (P.may_hold memory.old) (P.may_hold memory.new) }
     ensures stopped { is_err result ≡ P.has_burnt memory.new }
+    ensures steady { StaysSteady (P.is_steady memory.old) (P.is_steady memory.new) }
 {
     let _length = memory.len();
     memory.store(at, value)
@@ -31,6 +32,7 @@ pub fn commit_word<P: Pmem>(memory: &mut P, at: u64, value: u64) -> Result<(), S
     ensures settled { OnOk result (NothingPending (P.region memory.new) (P.may_hold memory.new)) }
     ensures reads { (P.region memory.new ≡ P.region memory.old) ⊎ (P.region memory.new ≡ put (P.region memory.old) at value) }
     ensures stopped { OnErr result (IsTrue (P.has_burnt memory.new)) }
+    ensures steady { StaysSteady (P.is_steady memory.old) (P.is_steady memory.new) }
     ensures any_stop { NothingPending (P.region memory.old) (P.may_hold memory.old) → LeavesOnly (P.region memory.new) (P.may_hold memory.new) (λ left. (left ≡ P.region memory.old) ⊎ (left ≡ put (P.region memory.old) at value)) }
 {
     memory.store(at, value)?;

@@ -1,5 +1,6 @@
 pub mod Layout
 pub mod Super
+pub mod Kind
 pub mod Owners
 pub mod Order
 pub mod Keys

@@ -1,8 +1,9 @@
 //! The superblock, the areas that its numbers lay out, and the types that several crates name:
-//! runs of blocks, the owners of blocks, and the faults of a region with their order.
+//! runs of blocks, the owners of blocks, the kinds of inodes, and the faults of a region with their order.
 #![tactic(auto)]
 
 mod faults;
+mod kind;
 mod laws;
 mod order;
 mod owners;
@@ -10,10 +11,11 @@ mod sorting;
 mod superblock;
 
 pub use faults::Fault;
+pub use kind::Kind;
 pub use laws::{pools_cover_the_data_blocks, slots_stand_apart};
 pub use owners::{Owner, Run};
 pub use sorting::{sort_claims, sort_faults};
-pub use superblock::{BLOCK_SIZE, Super, SuperFault, read_super, write_super};
+pub use superblock::{BLOCK_SIZE, MAGIC, Super, SuperFault, read_super, write_super};
 
 #[cfg(test)]
 mod tests;

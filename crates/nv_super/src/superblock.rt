@@ -5,6 +5,7 @@
 
 ghost use Rattle.std.specs.Prelude.{◌≡◌, ◌≤◌, ◌<◌, ◌+◌, ◌-◌, ◌*◌, ◌/◌, ◌%◌, ℕ, IfOk, IfErr, OnOk, is_err};
 ghost use Rattle.nv_region.specs.Region.{Region, HasBlocks, size, word, put};
+ghost use Rattle.nv_region.specs.Stops.{StaysSteady};
 ghost use Rattle.nv_region.specs.Stored.{StoresOnly, Within};
 ghost use Rattle.nv_super.specs.Layout.{system_blocks, pool_start, slot_address, is_page_start, is_number, HasAreas, IsLayout};
 ghost use Rattle.nv_super.specs.Super.{IsSuper, IsRefused};
@@ -15,7 +16,7 @@ use nv_region::{Pmem, Stopped};
 pub const BLOCK_SIZE: u64 = 4096;
 
 /// The eight ASCII bytes `NOVAPM01`, as a little-endian word.
-const MAGIC: u64 = 0x3130_4d50_4156_4f4e;
+pub const MAGIC: u64 = 0x3130_4d50_4156_4f4e;
 
 const LEAST_BLOCKS: u64 = 8;
 
@@ -101,6 +102,7 @@ pub fn write_super<P: Pmem>(memory: &mut P, numbers: &Super) -> Result<(), Stopp
     ensures done { OnOk result (P.region memory.new ≡ put (put (put (put (put (P.region memory.old) 8 numbers.now.version) 16 numbers.now.cpus) 24 numbers.now.blocks) 32 numbers.now.table_blocks) 40 numbers.now.state) }
     ensures wrote { StoresOnly (Within 8 40) (P.region memory.old) (P.region memory.new) (P.may_hold memory.old) (P.may_hold memory.new) }
     ensures stopped { is_err result ≡ P.has_burnt memory.new }
+    ensures steady { StaysSteady (P.is_steady memory.old) (P.is_steady memory.new) }
 {
     memory.store(8, numbers.version)?;
     memory.store(16, numbers.cpus)?;

@@ -1,0 +1,70 @@
+//! Slots read and stored.
+
+ghost use Rattle.std.specs.Prelude.{◌≡◌, ◌≤◌, ◌+◌, ◌*◌, ◌%◌, IsTrue, OnOk, is_err};
+ghost use Rattle.nv_region.specs.Region.{HasBlocks, size, put};
+ghost use Rattle.nv_region.specs.Stops.{One, StaysSteady};
+ghost use Rattle.nv_region.specs.Stored.{StoresOnly, Within};
+ghost use Rattle.nv_super.specs.Layout.{IsLayout, is_number, slot_address};
+ghost use Rattle.nv_inode.specs.Slot.{slot_at};
+
+use crate::slot::Slot;
+use nv_region::{Pmem, Stopped};
+use nv_super::Super;
+
+/// Reads the slot of an inode, in use or not.
+pub fn read_slot<P: Pmem>(memory: &P, sup: &Super, ino: u64) -> Slot
+    requires layout { IsLayout sup.now }
+    requires blocks { HasBlocks (P.region memory.now) sup.now.blocks }
+    requires number { IsTrue (is_number sup.now ino) }
+    ensures { result ≡ slot_at (P.region memory.now) (slot_address sup.now ino) }
+{
+    let at = slot_start(sup, ino);
+    Slot {
+        valid: memory.load(at),
+        kind: memory.load(at + 8),
+        head: memory.load(at + 16),
+        tail: memory.load(at + 24),
+        created: memory.load(at + 32),
+    }
+}
+
+/// Stores the kind, head, tail and creation time of a slot, in this order. The valid word stays:
+/// it is what puts an inode in use, so it is stored by itself, after the rest is fenced.
+pub fn put_slot<P: Pmem>(memory: &mut P, sup: &Super, ino: u64, slot: &Slot) -> Result<(), Stopped>
+    requires layout { IsLayout sup.now }
+    requires blocks { HasBlocks (P.region memory.old) sup.now.blocks }
+    requires number { IsTrue (is_number sup.now ino) }
+    ensures done { let at = slot_address sup.now ino in OnOk result (P.region memory.new ≡ put (put (put (put (P.region memory.old) (at + 8) slot.now.kind) (at + 16) slot.now.head) (at + 24) slot.now.tail) (at + 32) slot.now.created) }
+    ensures wrote { StoresOnly (Within (slot_address sup.now ino + 8) 32) (P.region memory.old) (P.region memory.new) (P.may_hold memory.old) (P.may_hold memory.new) }
+    ensures stopped { is_err result ≡ P.has_burnt memory.new }
+    ensures steady { StaysSteady (P.is_steady memory.old) (P.is_steady memory.new) }
+{
+    let at = slot_start(sup, ino);
+    memory.store(at + 8, slot.kind)?;
+    memory.store(at + 16, slot.head)?;
+    memory.store(at + 24, slot.tail)?;
+    memory.store(at + 32, slot.created)
+}
+
+/// Stores one word.
+pub fn set_word<P: Pmem>(memory: &mut P, at: u64, value: u64) -> Result<(), Stopped>
+    requires aligned { at % 8 ≡ 0 }
+    requires within { at + 8 ≤ size (P.region memory.old) }
+    ensures done { OnOk result (P.region memory.new ≡ put (P.region memory.old) at value) }
+    ensures wrote { StoresOnly (One at value) (P.region memory.old) (P.region memory.new) (P.may_hold memory.old) (P.may_hold memory.new) }
+    ensures stopped { is_err result ≡ P.has_burnt memory.new }
+    ensures steady { StaysSteady (P.is_steady memory.old) (P.is_steady memory.new) }
+{
+    memory.store(at, value)
+}
+
+// The address of a slot, which stands whole before the data blocks.
+fn slot_start(sup: &Super, ino: u64) -> u64
+    requires layout { IsLayout sup.now }
+    requires number { IsTrue (is_number sup.now ino) }
+    ensures value { result ≡ slot_address sup.now ino }
+    ensures whole { result % 128 ≡ 0 }
+    ensures inside { result + 128 ≤ 4096 * sup.now.blocks }
+{
+    sup.slot_address(ino)
+}

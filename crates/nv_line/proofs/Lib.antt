@@ -1,0 +1,5 @@
+pub mod Choice
+pub mod Numbers
+pub mod Words
+pub mod Requests
+pub mod Grammar

@@ -1,0 +1,5 @@
+pub mod Request
+pub mod Spelling
+pub mod View
+pub mod Lines
+pub mod Reading

@@ -1,0 +1,16 @@
+-- A command without where its bytes lie in memory.
+use Rattle.nv_line.specs.Request as request
+use Rattle.nv_line.specs.Request.{Request}
+use Rattle.nv_line.specs.declared.commands.Command.{Command}
+use Rattle.nv_line.specs.declared.commands.Command.TheVariants as commands
+
+-- what a command asks for
+abbrev pub view : Command → Request
+view (commands.Format cpus blocks table_blocks) = request.Format cpus blocks table_blocks
+view (commands.Time time) = request.Time time
+view (commands.Recover workers) = request.Recover workers
+view commands.Tree = request.Tree
+view commands.Free = request.Free
+view commands.Faults = request.Faults
+view commands.Report = request.Report
+view (commands.Peek at) = request.Peek at
