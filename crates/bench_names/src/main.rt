@@ -1,0 +1,92 @@
+//! Measures the name index: adds as many names as the first argument says, in a shuffled order, and looks
+//! them up, lists and removes them, each in another order. It prints the seconds on standard error, and what
+//! it counted on standard output.
+#![tactic(auto)]
+
+use nv_names::NameIndex;
+use rand::seq::SliceRandom;
+use rand_pcg::Pcg32;
+use std::alloc::{AllocError, Global};
+use std::rt::Clock;
+use std::time::Instant;
+use std::{env, io};
+
+/// The bytes of a name.
+type Name = [u8; 16];
+
+/// `file-` and a number of eleven digits.
+fn name_of(number: u32) -> Name {
+    let mut name = *b"file-00000000000";
+    let mut rest = number;
+    for at in 5..16 {
+        name[20 - at] = b'0' + (rest % 10) as u8;
+        rest /= 10;
+    }
+    name
+}
+
+fn names(alloc: Global, count: u32) -> Result<Vec<Name>, AllocError> {
+    (0..count).map(name_of).collect(alloc)
+}
+
+/// Adds each name, with room made for one at a time.
+fn add_all(index: &mut NameIndex, names: &[Name]) -> Result<(), AllocError> {
+    for (number, name) in names.iter().enumerate() {
+        index.reserve(1)?;
+        index.add(name, number as u64, 4096);
+    }
+    Ok(())
+}
+
+fn count_found(index: &NameIndex, names: &[Name]) -> usize {
+    names
+        .iter()
+        .filter(|name| index.get(*name).is_some())
+        .count()
+}
+
+fn remove_all(index: &mut NameIndex, names: &[Name]) {
+    for name in names {
+        index.remove(name);
+    }
+}
+
+fn measure<R: AllocGlobal + Print + Eprint + Clock>(rt: &R, count: u32) -> io::Result<()> {
+    let mut rng = Pcg32::new(1, 1);
+    let mut names = names(rt.alloc(), count)?;
+    let mut index = NameIndex::new(rt.alloc());
+
+    names.as_mut_slice().shuffle(&mut rng);
+    let start = Instant::now(rt)?;
+    add_all(&mut index, names.as_slice())?;
+    eprintln!(rt; "add    {:.3}", start.elapsed(rt)?.as_secs_f64())?;
+
+    names.as_mut_slice().shuffle(&mut rng);
+    let start = Instant::now(rt)?;
+    let found = count_found(&index, names.as_slice());
+    eprintln!(rt; "get    {:.3}", start.elapsed(rt)?.as_secs_f64())?;
+
+    let start = Instant::now(rt)?;
+    let listed = index.list()?.len();
+    eprintln!(rt; "list   {:.3}", start.elapsed(rt)?.as_secs_f64())?;
+
+    names.as_mut_slice().shuffle(&mut rng);
+    let start = Instant::now(rt)?;
+    remove_all(&mut index, names.as_slice());
+    eprintln!(rt; "remove {:.3}", start.elapsed(rt)?.as_secs_f64())?;
+
+    println!(rt;
+        "{count} names: {found} found, {listed} listed, {} left",
+        index.len()
+    )
+}
+
+fn main(rt: HostRuntime) -> io::Result<()> {
+    let count = env::args(&rt)?
+        .nth(1)
+        .and_then(|text| text.as_str().parse::<u32>().ok());
+    match count {
+        Some(count) => measure(&rt, count),
+        None => eprintln!(rt; "usage: bench_names COUNT"),
+    }
+}

@@ -1,0 +1,127 @@
+//! Whether what an entry says can be.
+//!
+//! Tests an entry by itself, against its inode's kind and the superblock's numbers. What it says together with other
+//! entries, as two adds of one name, is no matter of this file.
+
+ghost use Rattle.std.specs.Prelude.{◌≡◌, ℕ, ◌+◌, ◌*◌, ◌^◌, ◌<◌, ◌≤◌, is_none};
+ghost use Rattle.nv_super.specs.Layout.{HasAreas};
+ghost use Rattle.nv_entry.specs.Content.{is_wrong_kind, is_out_of_range, is_write_out_of_range, is_attr_out_of_range, is_name_out_of_range, is_links_out_of_range, is_dots, has_bad_byte, content_fault, is_good};
+
+use crate::entry::{AttrEntry, Entry, LinksEntry, NameEntry, WriteEntry};
+use nv_super::{BLOCK_SIZE, Kind, Super};
+
+const MOST_PAGES: u64 = 262_144;
+
+const MOST_SIZE: u64 = 1_073_741_824;
+
+const MOST_MODE: u32 = 4095;
+
+const MOST_LINKS: u32 = 1000;
+
+/// What is wrong with what an entry says.
+#[derive(Clone, Copy, Debug, PartialEq, Eq)]
+pub enum ContentFault {
+    /// A number or a name that can't be.
+    OutOfRange,
+    /// An entry that an inode of this kind can't have.
+    WrongKind,
+}
+
+/// The fault in what an entry says, or `None` where the entry is good. The wrong kind is tested first.
+pub fn check_content(numbers: &Super, kind: Kind, entry: &Entry) -> Option<ContentFault>
+    requires { HasAreas numbers.now }
+    ensures fault { result ≡ content_fault numbers.now kind entry.now }
+    ensures good { is_none result ≡ is_good numbers.now kind entry.now }
+{
+    if is_wrong_kind(entry, kind) {
+        Some(ContentFault::WrongKind)
+    } else if is_out_of_range(numbers, kind, entry) {
+        Some(ContentFault::OutOfRange)
+    } else {
+        None
+    }
+}
+
+/// Whether it is a write or links entry of a directory, or a name entry of a file.
+pub fn is_wrong_kind(entry: &Entry, kind: Kind) -> bool
+    ensures { result ≡ is_wrong_kind entry.now kind }
+{
+    match (entry, kind) {
+        (Entry::Write(_), Kind::Directory) => true,
+        (Entry::Links(_), Kind::Directory) => true,
+        (Entry::Name(_), Kind::File) => true,
+        _ => false,
+    }
+}
+
+/// Whether a number or the name that it says can't be in an inode of this kind.
+pub fn is_out_of_range(numbers: &Super, kind: Kind, entry: &Entry) -> bool
+    requires { HasAreas numbers.now }
+    ensures { result ≡ is_out_of_range numbers.now kind entry.now }
+{
+    match entry {
+        Entry::NextPage => false,
+        Entry::Write(e) => is_write_out_of_range(numbers, e),
+        Entry::Attr(e) => is_attr_out_of_range(kind, e),
+        Entry::Name(e) => is_name_out_of_range(numbers, e),
+        Entry::Links(e) => is_links_out_of_range(e),
+    }
+}
+
+fn is_write_out_of_range(numbers: &Super, e: &WriteEntry) -> bool
+    requires { HasAreas numbers.now }
+    ensures { result ≡ is_write_out_of_range numbers.now e.now }
+{
+    let count = e.count as u64;
+    // Each sum is made where both its parts are small, so none wraps.
+    count == 0
+        || e.offset > MOST_PAGES
+        || e.offset + count > MOST_PAGES
+        || e.block < numbers.system_blocks()
+        || e.block > numbers.blocks
+        || e.block + count > numbers.blocks
+        || e.size > MOST_SIZE
+        || (e.offset + count - 1) * BLOCK_SIZE >= e.size
+}
+
+fn is_attr_out_of_range(kind: Kind, e: &AttrEntry) -> bool
+    ensures { result ≡ is_attr_out_of_range kind e.now }
+{
+    e.mode > MOST_MODE
+        || match kind {
+            Kind::File => e.size > MOST_SIZE,
+            Kind::Directory => e.size != 0,
+        }
+}
+
+fn is_name_out_of_range(numbers: &Super, e: &NameEntry) -> bool
+    requires { HasAreas numbers.now }
+    ensures { result ≡ is_name_out_of_range numbers.now e.now }
+{
+    let name = e.name.as_slice();
+    has_bad_byte(name) || is_dots(name) || !numbers.is_number(e.inode)
+}
+
+/// Whether it has a byte 0 or a `/`.
+fn has_bad_byte(name: &[u8]) -> bool
+    ensures { result ≡ has_bad_byte name.now }
+{
+    name.iter().any(|byte| *byte == 0 || *byte == b'/')
+}
+
+/// Whether it is `.` or `..`.
+fn is_dots(name: &[u8]) -> bool
+    ensures { result ≡ is_dots name.now }
+{
+    match name {
+        [first] => *first == b'.',
+        [first, second] => *first == b'.' && *second == b'.',
+        _ => false,
+    }
+}
+
+fn is_links_out_of_range(e: &LinksEntry) -> bool
+    ensures { result ≡ is_links_out_of_range e.now }
+{
+    e.count == 0 || e.count > MOST_LINKS
+}

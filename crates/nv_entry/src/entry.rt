@@ -1,0 +1,62 @@
+//! What a log says, entry by entry.
+
+use crate::name::FileName;
+
+/// What a name entry does with its name.
+#[derive(Clone, Copy, Debug, PartialEq, Eq)]
+pub enum Operation {
+    Add,
+    Remove,
+}
+
+/// Pages of a file were written to blocks in a row.
+#[derive(Clone, Copy, Debug, PartialEq, Eq)]
+pub struct WriteEntry {
+    /// How many pages.
+    pub count: u32,
+    /// The first page, counted from the start of the file.
+    pub offset: u64,
+    /// The block of the first page.
+    pub block: u64,
+    /// The file's bytes after the write.
+    pub size: u64,
+    pub time: u64,
+}
+
+/// New attributes of an inode.
+#[derive(Clone, Copy, Debug, PartialEq, Eq)]
+pub struct AttrEntry {
+    pub mode: u32,
+    /// The file's bytes; 0 in a directory.
+    pub size: u64,
+    pub time: u64,
+    pub owner: u32,
+    pub group: u32,
+}
+
+/// A name was added to a directory, or removed from it.
+#[derive(Debug, Drop, PartialEq, Eq)]
+pub struct NameEntry {
+    pub operation: Operation,
+    pub inode: u64,
+    pub time: u64,
+    pub name: FileName,
+}
+
+/// A new link count of a file.
+#[derive(Clone, Copy, Debug, PartialEq, Eq)]
+pub struct LinksEntry {
+    pub count: u32,
+    pub time: u64,
+}
+
+/// An entry of a log.
+#[derive(Debug, Drop, PartialEq, Eq)]
+pub enum Entry {
+    /// The log goes on at the next page.
+    NextPage,
+    Write(WriteEntry),
+    Attr(AttrEntry),
+    Name(NameEntry),
+    Links(LinksEntry),
+}

@@ -1,0 +1,14 @@
+//! The names of a directory, as a map from a name's bytes to its inode and the place of its entry.
+#![tactic(auto)]
+
+mod index;
+mod name;
+mod named;
+mod target;
+
+pub use index::NameIndex;
+pub use named::Named;
+pub use target::Target;
+
+#[cfg(test)]
+mod tests;
