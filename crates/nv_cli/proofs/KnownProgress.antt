@@ -1,0 +1,99 @@
+-- How far a script has come, where the bytes of its reader are known. `left` is what is left of the input.
+use Rattle.std.proofs.Common.{◌≡◌, ℕ, List, [], ◌∷◌, ◌++◌, Option, Some, None}
+use Rattle.std.specs.Prelude.{OnErr, Result, Ok, Err}
+use Rattle.std.specs.Io.KnownBytes.{Appends}
+use Rattle.nv_cli.specs.Known.{IfKnown}
+use Rattle.nv_cli.specs.Lines.{lines_of}
+use Rattle.nv_cli.specs.Streams.{AppendsFront}
+use Rattle.nv_cli.specs.Transcript.{WritesAll, WritesFront, WritesWhole}
+use Rattle.nv_cli.specs.declared.fault.ScriptError.{ScriptError}
+use Rattle.nv_cli.specs.declared.fault.ScriptError.TheVariants as errors
+use Rattle.nv_cli.proofs.Progress.{Progress, begins, goes_on, all_here, whole_here, front_there}
+use Rattle.nv_cli.proofs.StreamLemmas.{front_of_whole}
+
+abbrev pub KnownProgress : (shows here : List (List ℕ) → List ℕ → ℕ → Type 0) → (known left old now : Option (List ℕ)) → Type 0
+KnownProgress shows here known left old now = IfKnown known left (λ input rest. Progress shows here (lines_of input) (lines_of rest) old now)
+
+-- a fact that follows from another
+pub known_map : (a b : Option (List ℕ)) (P Q : List ℕ → List ℕ → Type 0) → ((x y : List ℕ) → P x y → Q x y) → IfKnown a b P → IfKnown a b Q
+known_map None b P Q f p = tt
+known_map (Some x) None P Q f p = absurd p
+known_map (Some x) (Some y) P Q f p = f x y p
+
+-- The next line of the input printed `first`, and `next` is what the lines behind it may show.
+pub record GoesOn (here next : List (List ℕ) → List ℕ → ℕ → Type 0) (now then : Option (List ℕ)) (input rest : List ℕ) : Type 0 where
+  pub line : List ℕ
+  pub first : List ℕ
+  pub read : lines_of input ≡ line ∷ lines_of rest
+  pub added : Appends now then first
+  pub step : (more : List (List ℕ)) (text : List ℕ) (status : ℕ) → next more text status → here (line ∷ more) (first ++ text) status
+
+-- All lines of the input show a text, which was added.
+pub record Ends (here : List (List ℕ) → List ℕ → ℕ → Type 0) (now then : Option (List ℕ)) (input : List ℕ) (status : ℕ) : Type 0 where
+  pub text : List ℕ
+  pub added : Appends now then text
+  pub shown : here (lines_of input) text status
+
+-- The next line of the input shows a text, of which a front was added.
+pub record EndsInside (here : List (List ℕ) → List ℕ → ℕ → Type 0) (now then : Option (List ℕ)) (input : List ℕ) : Type 0 where
+  pub line : List ℕ
+  pub behind : List (List ℕ)
+  pub text : List ℕ
+  pub status : ℕ
+  pub read : lines_of input ≡ line ∷ behind
+  pub added : AppendsFront now then text
+  pub shown : here (line ∷ []) text status
+
+module _ (shows : List (List ℕ) → List ℕ → ℕ → Type 0) (old : Option (List ℕ)) where
+  -- before the first line
+  pub known_begins : (known : Option (List ℕ)) → KnownProgress shows shows known known old old
+  known_begins None = tt
+  known_begins (Some input) = begins shows (lines_of input) old
+
+  module _ (here : List (List ℕ) → List ℕ → ℕ → Type 0) (now : Option (List ℕ)) where
+    -- after one line more
+    pub known_on : (next : List (List ℕ) → List ℕ → ℕ → Type 0) (known left after then : Option (List ℕ)) → KnownProgress shows here known left old now
+        → IfKnown left after (λ input rest. GoesOn here next now then input rest) → KnownProgress shows next known after old then
+    known_on next None left after then p on = tt
+    known_on next (Some input) None after then p on = absurd p
+    known_on next (Some input) (Some left) None then p on = absurd on
+    known_on next (Some input) (Some left) (Some after) then p on =
+        goes_on shows here (lines_of input) (lines_of after) old now next on.line on.first then (rw on.read at p) on.added on.step
+
+    -- at the end
+    pub known_all : (known left after then : Option (List ℕ)) (status : ℕ) → KnownProgress shows here known left old now
+        → IfKnown left after (λ input rest. Ends here now then input status) → WritesAll shows known old then status
+    known_all None left after then status p end = tt
+    known_all (Some input) None after then status p end = absurd p
+    known_all (Some input) (Some left) None then status p end = absurd end
+    known_all (Some input) (Some left) (Some after) then status p end =
+        all_here shows here (lines_of input) (lines_of left) old now then end.text status p end.shown end.added
+
+    -- an error between two lines
+    pub known_whole : (known left : Option (List ℕ)) (status : ℕ) → KnownProgress shows here known left old now → here [] [] status → WritesWhole shows known old now
+    known_whole None left status p ended = tt
+    known_whole (Some input) None status p ended = absurd p
+    known_whole (Some input) (Some left) status p ended = whole_here shows here (lines_of input) (lines_of left) old now status p ended
+
+    -- an error while a line was answered
+    pub known_front : (known left after then : Option (List ℕ)) → KnownProgress shows here known left old now
+        → IfKnown left after (λ input rest. EndsInside here now then input) → WritesFront shows known old then
+    known_front None left after then p end = tt
+    known_front (Some input) None after then p end = absurd p
+    known_front (Some input) (Some left) None then p end = absurd end
+    known_front (Some input) (Some left) (Some after) then p end =
+        front_there shows here (lines_of input) end.behind old now end.line then end.text end.status (rw end.read at p) end.shown end.added
+
+-- a whole transcript is a front of one
+pub front_from_whole : (shows : List (List ℕ) → List ℕ → ℕ → Type 0) (known old new : Option (List ℕ)) → WritesWhole shows known old new → WritesFront shows known old new
+front_from_whole shows None old new whole = tt
+front_from_whole shows (Some input) old new (count, text, status, added, shown) = (count, text, status, front_of_whole old new text added, shown)
+
+-- what holds at every `Err`
+pub on_err : {T E : Type 0} (P : Type 0) (r : Result T E) → P → OnErr r P
+on_err P (Ok x) p = tt
+on_err P (Err e) p = p
+
+-- a refused write is no want of memory
+pub no_memory : {T : Type 0} (r : Result T ScriptError) (x f : ScriptError) → r ≡ Err x → x ≡ f → f ≡ errors.Write → r ≡ Err errors.Memory → ⊥
+no_memory r x f a b d e = let bad : errors.Write ≡ errors.Memory = cc in cc

@@ -1,0 +1,5 @@
+pub mod Plain
+pub mod LineLemmas
+pub mod StreamLemmas
+pub mod Progress
+pub mod KnownProgress

@@ -1,0 +1,41 @@
+-- The names under which refusals are printed.
+use Rattle.std.specs.Prelude.{ℕ, List, codes}
+use Rattle.nv_super.specs.declared.superblock.SuperFault.{SuperFault}
+use Rattle.nv_super.specs.declared.superblock.SuperFault.TheVariants as super_faults
+use Rattle.nv_text.specs.declared.refusals.Refusal.{Refusal}
+use Rattle.nv_text.specs.declared.refusals.Refusal.TheVariants as refusals
+
+-- the faults of a superblock, in the order of their tests
+abbrev pub super_fault_name : SuperFault → List ℕ
+super_fault_name super_faults.Length = codes "S1"
+super_fault_name super_faults.Magic = codes "S2"
+super_fault_name super_faults.Version = codes "S3"
+super_fault_name super_faults.Cpus = codes "S4"
+super_fault_name super_faults.Blocks = codes "S5"
+super_fault_name super_faults.Tables = codes "S6"
+super_fault_name super_faults.State = codes "S7"
+
+-- a refusal's name
+abbrev pub refusal_name : Refusal → List ℕ
+refusal_name refusals.NoRegion = codes "NoRegion"
+refusal_name refusals.NotMounted = codes "NotMounted"
+refusal_name refusals.Address = codes "Address"
+refusal_name refusals.Length = codes "Length"
+refusal_name refusals.Cpus = codes "Cpus"
+refusal_name refusals.Tables = codes "Tables"
+refusal_name refusals.Workers = codes "Workers"
+refusal_name refusals.Schedule = codes "Schedule"
+refusal_name (refusals.Super fault) = super_fault_name fault
+refusal_name refusals.NotFound = codes "NotFound"
+refusal_name refusals.Exists = codes "Exists"
+refusal_name refusals.NotDirectory = codes "NotDirectory"
+refusal_name refusals.IsDirectory = codes "IsDirectory"
+refusal_name refusals.NotEmpty = codes "NotEmpty"
+refusal_name refusals.BadName = codes "BadName"
+refusal_name refusals.NoSpace = codes "NoSpace"
+refusal_name refusals.NoInodes = codes "NoInodes"
+refusal_name refusals.TooLarge = codes "TooLarge"
+refusal_name refusals.ReadOnly = codes "ReadOnly"
+refusal_name refusals.LinkLimit = codes "LinkLimit"
+refusal_name refusals.IntoItself = codes "IntoItself"
+refusal_name refusals.BadCpu = codes "BadCpu"

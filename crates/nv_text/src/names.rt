@@ -1,0 +1,81 @@
+//! Bytes as text: names with their escapes, and the content of files in hexadecimal digits.
+
+ghost use Rattle.std.specs.Prelude.{◌≡◌, ◌++◌, OnOk, string_bytes, flat_map};
+ghost use Rattle.nv_text.specs.Names.{hex_byte, escaped_byte, escaped, list_line, name_line, data_text, data_line};
+
+use std::alloc::AllocError;
+use std::fmt::Write;
+
+/// Two lower-case hexadecimal digits.
+fn push_hex_byte(out: &mut String, byte: u8) -> Result<(), AllocError>
+    ensures { OnOk result (string_bytes out.new ≡ string_bytes out.old ++ hex_byte byte) }
+{
+    let high = byte / 16;
+    let low = byte % 16;
+    write!(out, "{high:x}{low:x}")
+}
+
+#[tactic(auto, unfolding(crate::specs::Names::escaped_byte))]
+fn push_escaped_byte(out: &mut String, byte: u8) -> Result<(), AllocError>
+    ensures { OnOk result (string_bytes out.new ≡ string_bytes out.old ++ escaped_byte byte) }
+{
+    if byte.is_ascii_graphic() && byte != b'\\' {
+        out.push(char::from(byte))
+    } else {
+        out.push_str("\\x")?;
+        push_hex_byte(out, byte)
+    }
+}
+
+fn push_escaped(out: &mut String, name: &[u8]) -> Result<(), AllocError>
+    ensures { OnOk result (string_bytes out.new ≡ string_bytes out.old ++ escaped name.now) }
+{
+    for byte in name {
+        push_escaped_byte(out, *byte)?;
+    }
+    Ok(())
+}
+
+/// A name and its inode, as a directory's list shows them.
+pub fn push_list_line(out: &mut String, name: &[u8], inode: u64) -> Result<(), AllocError>
+    ensures { OnOk result (string_bytes out.new ≡ string_bytes out.old ++ list_line name.now inode) }
+{
+    push_escaped(out, name)?;
+    writeln!(out, " {inode}")
+}
+
+/// `  name NAME INODE`.
+pub fn push_name_line(out: &mut String, name: &[u8], inode: u64) -> Result<(), AllocError>
+    ensures { OnOk result (string_bytes out.new ≡ string_bytes out.old ++ name_line name.now inode) }
+{
+    out.push_str("  name ")?;
+    push_list_line(out, name, inode)
+}
+
+fn push_hex(out: &mut String, bytes: &[u8]) -> Result<(), AllocError>
+    ensures { OnOk result (string_bytes out.new ≡ string_bytes out.old ++ flat_map hex_byte bytes.now) }
+{
+    for byte in bytes {
+        push_hex_byte(out, *byte)?;
+    }
+    Ok(())
+}
+
+fn push_data(out: &mut String, bytes: &[u8]) -> Result<(), AllocError>
+    ensures { OnOk result (string_bytes out.new ≡ string_bytes out.old ++ data_text bytes.now) }
+{
+    if bytes.is_empty() {
+        return Ok(());
+    }
+    out.push(' ')?;
+    push_hex(out, bytes)
+}
+
+/// `data`, and where there are bytes a space and their hexadecimal digits.
+pub fn push_data_line(out: &mut String, bytes: &[u8]) -> Result<(), AllocError>
+    ensures { OnOk result (string_bytes out.new ≡ string_bytes out.old ++ data_line bytes.now) }
+{
+    out.push_str("data")?;
+    push_data(out, bytes)?;
+    out.push('\n')
+}
