@@ -1,0 +1,13 @@
+pub mod Cutting
+pub mod Filling
+pub mod Mapped
+pub mod OnlyPieces
+pub mod Parts
+pub mod PieceLemmas
+pub mod Places
+pub mod Readying
+pub mod Rising
+pub mod Runs
+pub mod Setting
+pub mod Shifting
+pub mod Writing

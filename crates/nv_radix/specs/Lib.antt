@@ -1,0 +1,4 @@
+pub mod Entries
+pub mod Pages
+pub mod Pieces
+pub mod Rising

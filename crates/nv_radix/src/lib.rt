@@ -1,0 +1,17 @@
+//! The file index: a map from the pages of one file to blocks, and the set of
+//! the pages that are ready, which can be mapped without memory. It relies on
+//! nothing else and hands on the map alone, so that its body can change.
+#![tactic(auto)]
+
+mod entries;
+mod index;
+mod piece;
+mod pieces;
+#[cfg(test)]
+mod tests;
+
+pub use index::FileIndex;
+pub use piece::Piece;
+
+/// The number of pages that a file may have: page numbers are below it.
+pub const MAX_FILE_PAGES: u64 = 262_144;

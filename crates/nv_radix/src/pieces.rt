@@ -1,0 +1,49 @@
+//! The pieces of rising pages, found in one walk.
+
+ghost use Rattle.std.specs.Prelude.{◌<◌, ◌∷◌, ◌++◌, [], IfOk, OnOk, Some};
+ghost use Rattle.nv_radix.specs.Pages.{Pages};
+ghost use Rattle.nv_radix.specs.Pieces.{ArePieces};
+ghost use Rattle.nv_radix.specs.Rising.{Rises};
+
+use crate::MAX_FILE_PAGES;
+use crate::entries::Entry;
+use crate::piece::Piece;
+use std::alloc::{AllocError, Global};
+
+/// Adds a mapped page, which stands behind all pages of the pieces.
+fn add_page(pieces: &mut Vec<Piece>, page: u64, block: u64) -> Result<(), AllocError>
+    requires { page < MAX_FILE_PAGES }
+    ensures { OnOk result ((m : Pages) → Rises 0 page m → ArePieces m pieces.old.items → ArePieces (m ++ (page, Some block) ∷ []) pieces.new.items) }
+{
+    let len = pieces.len();
+    if len > 0 {
+        let last = pieces[len - 1];
+        if last.is_followed_by(page, block) {
+            pieces[len - 1] = Piece {
+                count: last.count + 1,
+                ..last
+            };
+            return Ok(());
+        }
+    }
+    pieces.push(Piece {
+        page,
+        count: 1,
+        block,
+    })?;
+    Ok(())
+}
+
+/// The pieces of rising pages.
+pub fn pieces_of(alloc: Global, entries: &[Entry]) -> Result<Vec<Piece>, AllocError>
+    requires { Rises 0 MAX_FILE_PAGES entries.now }
+    ensures { IfOk result (λ v. ArePieces entries.now v.items) }
+{
+    let mut pieces = Vec::new(alloc);
+    for (page, block) in entries {
+        if let Some(block) = block {
+            add_page(&mut pieces, *page, *block)?;
+        }
+    }
+    Ok(pieces)
+}

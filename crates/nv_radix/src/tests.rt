@@ -1,0 +1,180 @@
+//! Each call once with ample memory, and the pieces of small maps.
+
+ghost use Rattle.std.specs.Prelude.{◌+◌, ◌^◌, ◌<◌, ◌≤◌};
+ghost use Rattle.nv_radix.specs.Pages.{AreFilePages};
+
+use crate::{FileIndex, Piece};
+use std::alloc::AllocError;
+use std::test::Fail;
+
+/// Makes a run ready and maps it.
+fn map_run(index: &mut FileIndex, page: u64, block: u64, count: u64) -> Result<(), AllocError>
+    requires pages { AreFilePages page count }
+    requires blocks { 0 < count → block + count ≤ 2 ^ 64 }
+{
+    index.reserve(page, count)?;
+    index.set_run(page, block, count);
+    Ok(())
+}
+
+fn piece(page: u64, count: u64, block: u64) -> Piece {
+    Piece { page, count, block }
+}
+
+#[test]
+fn a_new_index_maps_no_page(rt: HostRuntime) -> Result<(), Fail> {
+    let index = FileIndex::new(rt.alloc());
+    assert_eq!(rt; index.get(0), None);
+    assert_eq!(rt; index.get(u64::MAX), None);
+    assert_eq!(rt; index.runs()?.len(), 0);
+    Ok(())
+}
+
+#[test]
+fn a_ready_page_has_no_block(rt: HostRuntime) -> Result<(), Fail> {
+    let mut index = FileIndex::new(rt.alloc());
+    index.reserve(3, 2)?;
+    assert_eq!(rt; index.get(3), None);
+    assert_eq!(rt; index.runs()?.len(), 0);
+    Ok(())
+}
+
+#[test]
+fn the_pages_of_a_run_go_to_its_blocks(rt: HostRuntime) -> Result<(), Fail> {
+    let mut index = FileIndex::new(rt.alloc());
+    map_run(&mut index, 4, 100, 3)?;
+    assert_eq!(rt; index.get(3), None);
+    assert_eq!(rt; index.get(4), Some(100));
+    assert_eq!(rt; index.get(6), Some(102));
+    assert_eq!(rt; index.get(7), None);
+    Ok(())
+}
+
+#[test]
+fn the_last_page_and_the_last_block_are_mapped(rt: HostRuntime) -> Result<(), Fail> {
+    let mut index = FileIndex::new(rt.alloc());
+    map_run(&mut index, 262_143, u64::MAX, 1)?;
+    assert_eq!(rt; index.get(262_143), Some(u64::MAX));
+    let pieces = index.runs()?;
+    assert_eq!(rt; pieces.as_slice(), [piece(262_143, 1, u64::MAX)].as_slice());
+    Ok(())
+}
+
+#[test]
+fn pages_that_are_ready_keep_their_blocks_between_new_ones(rt: HostRuntime) -> Result<(), Fail> {
+    let mut index = FileIndex::new(rt.alloc());
+    map_run(&mut index, 5, 50, 1)?;
+    map_run(&mut index, 9, 90, 1)?;
+    map_run(&mut index, 20, 200, 1)?;
+    index.reserve(3, 8)?;
+    assert_eq!(rt; index.get(4), None);
+    assert_eq!(rt; index.get(5), Some(50));
+    assert_eq!(rt; index.get(9), Some(90));
+    assert_eq!(rt; index.get(20), Some(200));
+    Ok(())
+}
+
+#[test]
+fn runs_that_follow_on_in_pages_and_blocks_are_one_piece(rt: HostRuntime) -> Result<(), Fail> {
+    let mut index = FileIndex::new(rt.alloc());
+    map_run(&mut index, 2, 12, 2)?;
+    map_run(&mut index, 0, 10, 2)?;
+    let pieces = index.runs()?;
+    assert_eq!(rt; pieces.as_slice(), [piece(0, 4, 10)].as_slice());
+    Ok(())
+}
+
+#[test]
+fn runs_that_touch_in_pages_alone_are_two_pieces(rt: HostRuntime) -> Result<(), Fail> {
+    let mut index = FileIndex::new(rt.alloc());
+    map_run(&mut index, 0, 10, 2)?;
+    map_run(&mut index, 2, 20, 2)?;
+    let pieces = index.runs()?;
+    assert_eq!(rt;
+        pieces.as_slice(),
+        [piece(0, 2, 10), piece(2, 2, 20)].as_slice()
+    );
+    Ok(())
+}
+
+#[test]
+fn runs_that_touch_in_blocks_alone_are_two_pieces(rt: HostRuntime) -> Result<(), Fail> {
+    let mut index = FileIndex::new(rt.alloc());
+    map_run(&mut index, 0, 10, 2)?;
+    map_run(&mut index, 3, 12, 2)?;
+    let pieces = index.runs()?;
+    assert_eq!(rt;
+        pieces.as_slice(),
+        [piece(0, 2, 10), piece(3, 2, 12)].as_slice()
+    );
+    Ok(())
+}
+
+#[test]
+fn a_ready_page_with_no_block_parts_two_pieces(rt: HostRuntime) -> Result<(), Fail> {
+    let mut index = FileIndex::new(rt.alloc());
+    index.reserve(0, 3)?;
+    map_run(&mut index, 0, 10, 1)?;
+    map_run(&mut index, 2, 12, 1)?;
+    let pieces = index.runs()?;
+    assert_eq!(rt;
+        pieces.as_slice(),
+        [piece(0, 1, 10), piece(2, 1, 12)].as_slice()
+    );
+    Ok(())
+}
+
+#[test]
+fn a_cut_in_the_middle_of_a_run_keeps_its_front(rt: HostRuntime) -> Result<(), Fail> {
+    let mut index = FileIndex::new(rt.alloc());
+    map_run(&mut index, 4, 100, 6)?;
+    index.cut(7);
+    assert_eq!(rt; index.get(6), Some(102));
+    assert_eq!(rt; index.get(7), None);
+    let pieces = index.runs()?;
+    assert_eq!(rt; pieces.as_slice(), [piece(4, 3, 100)].as_slice());
+    Ok(())
+}
+
+#[test]
+fn a_cut_may_lie_behind_all_pages(rt: HostRuntime) -> Result<(), Fail> {
+    let mut index = FileIndex::new(rt.alloc());
+    map_run(&mut index, 4, 100, 6)?;
+    index.cut(u64::MAX);
+    assert_eq!(rt; index.get(9), Some(105));
+    Ok(())
+}
+
+#[test]
+fn an_empty_run_changes_nothing(rt: HostRuntime) -> Result<(), Fail> {
+    let mut index = FileIndex::new(rt.alloc());
+    index.reserve(u64::MAX, 0)?;
+    index.set_run(u64::MAX, u64::MAX, 0);
+    assert_eq!(rt; index.get(u64::MAX), None);
+    Ok(())
+}
+
+#[test]
+fn a_run_replaces_older_blocks(rt: HostRuntime) -> Result<(), Fail> {
+    let mut index = FileIndex::new(rt.alloc());
+    map_run(&mut index, 0, 10, 6)?;
+    map_run(&mut index, 2, 40, 2)?;
+    let pieces = index.runs()?;
+    assert_eq!(rt;
+        pieces.as_slice(),
+        [piece(0, 2, 10), piece(2, 2, 40), piece(4, 2, 14)].as_slice()
+    );
+    Ok(())
+}
+
+#[test]
+fn shuffled_pages_give_the_map_of_rising_ones(rt: HostRuntime) -> Result<(), Fail> {
+    let mut index = FileIndex::new(rt.alloc());
+    for step in 0..64u64 {
+        let page = step * 37 % 64;
+        map_run(&mut index, page, 1000 + page, 1)?;
+    }
+    let pieces = index.runs()?;
+    assert_eq!(rt; pieces.as_slice(), [piece(0, 64, 1000)].as_slice());
+    Ok(())
+}
