@@ -1,0 +1,191 @@
+//! The core's state, and one event after the other.
+
+ghost use Rattle.std.specs.Prelude.{◌≡◌, ℕ, ◌+◌, ◌/◌, ◌<◌, ◌^◌, ◌==◌, true, length, IfOk, OnOk, OnErr};
+ghost use Rattle.nv_claimcore.specs.Sets.{has, with_block, words_for};
+ghost use Rattle.nv_claimcore.specs.Claims.{State, Legal, Owes, after_draw, after_claim, after_mark};
+ghost use Rattle.nv_claimcore.specs.Events.{start, view_of, is_allowed, after};
+
+use crate::event::Event;
+use crate::view::{Record, Sizes};
+use crate::worker::Worker;
+use nv_super::Owner;
+use std::alloc::{AllocError, Global};
+use std::marker::Model;
+
+/// The first and the second set of blocks as words, the cursor, and what each worker has drawn and claimed.
+/// Block b is bit `b % 64` of word `b / 64`.
+#[derive(Drop)]
+pub struct ClaimState {
+    first: Vec<u64>,
+    second: Vec<u64>,
+    cursor: u64,
+    views: Vec<Worker>,
+}
+
+impl Model for ClaimState {
+    ghost Value = { State };
+
+    ghost view = { λ s. record { first = s.first.items; second = s.second.items; cursor = s.cursor; views = s.views.items } };
+}
+
+impl ClaimState {
+    /// The words of the first set: the blocks that were claimed.
+    pub fn first(&self) -> &[u64]
+        ensures { result.now ≡ self.now.first }
+    {
+        &self.first
+    }
+
+    /// The words of the second set: the blocks with a lost claim that was marked.
+    pub fn second(&self) -> &[u64]
+        ensures { result.now ≡ self.now.second }
+    {
+        &self.second
+    }
+
+    /// The number that is drawn next.
+    pub fn cursor(&self) -> u64
+        ensures { result ≡ self.now.cursor }
+    {
+        self.cursor
+    }
+
+    /// What each worker has drawn and claimed, by its number.
+    pub fn views(&self) -> &[Worker]
+        ensures { result.now ≡ self.now.views }
+    {
+        &self.views
+    }
+
+    // Nothing is drawn or claimed.
+    pub(crate) fn new(alloc: Global, sizes: Sizes) -> Result<ClaimState, AllocError>
+        ensures { IfOk result (λ s. s ≡ start sizes) }
+    {
+        let words = words_of(sizes.blocks);
+        let first = vec![in alloc; 0u64; words]?;
+        let second = vec![in alloc; 0u64; words]?;
+        let mut views = Vec::new(alloc);
+        for _ in 0..sizes.workers {
+            views.push(Worker::new(alloc))?;
+        }
+        Ok(ClaimState {
+            first,
+            second,
+            cursor: 0,
+            views,
+        })
+    }
+
+    // The worker draws the number that is answered.
+    pub(crate) fn draw(&mut self, worker: usize) -> Result<u64, AllocError>
+        requires { (worker < length self.old.views) × (self.old.cursor + 1 < 2 ^ 64) }
+        ensures number { IfOk result (λ number. number ≡ self.old.cursor) }
+        ensures ok { OnOk result (self.new ≡ after_draw self.old worker (view_of self.old worker)) }
+        ensures err { OnErr result (self.new ≡ self.old) }
+    {
+        let number = self.cursor;
+        self.views[worker].draw(number)?;
+        self.cursor += 1;
+        Ok(number)
+    }
+
+    // The worker claims the block; the answer is whether it won.
+    pub(crate) fn claim(
+        &mut self,
+        worker: usize,
+        block: u64,
+        owner: Owner,
+    ) -> Result<bool, AllocError>
+        requires { (worker < length self.old.views) × (block / 64 < length self.old.first) }
+        ensures won { IfOk result (λ won. won ≡ (has self.old.first block == 0)) }
+        ensures ok { OnOk result (self.new ≡ after_claim self.old worker (view_of self.old worker) block owner) }
+        ensures err { OnErr result (self.new ≡ self.old) }
+    {
+        let place = (block / 64) as usize;
+        let mask = 1u64 << (block % 64);
+        let won = self.first[place] & mask == 0;
+        self.views[worker].claim(Record {
+            block,
+            owner,
+            won,
+            marked: false,
+        })?;
+        self.first[place] |= mask;
+        Ok(won)
+    }
+
+    // The worker marks its oldest lost claim of the block that is not marked.
+    fn mark(&mut self, worker: usize, block: u64)
+        requires { (worker < length self.old.views) × (block / 64 < length self.old.second) }
+        ensures { self.new ≡ after_mark self.old worker (view_of self.old worker) block }
+    {
+        self.views[worker].mark(block);
+        self.add_to_second(block);
+    }
+
+    // The same where the worker's last record is the one to be marked: no record is searched.
+    pub(crate) fn mark_last(&mut self, worker: usize, block: u64)
+        requires inside { (worker < length self.old.views) × (block / 64 < length self.old.second) }
+        requires last { Owes block (view_of self.old worker).records }
+        ensures { self.new ≡ after_mark self.old worker (view_of self.old worker) block }
+    {
+        self.views[worker].mark_last();
+        self.add_to_second(block);
+    }
+
+    fn add_to_second(&mut self, block: u64)
+        requires { block / 64 < length self.old.second }
+        ensures { self.new ≡ record { first = self.old.first; second = with_block self.old.second block; cursor = self.old.cursor; views = self.old.views } }
+    {
+        let place = (block / 64) as usize;
+        self.second[place] |= 1u64 << (block % 64);
+    }
+
+    // Whether the event is allowed.
+    pub(crate) fn allows(&self, sizes: Sizes, event: Event) -> bool
+        requires { length self.now.first ≡ words_for sizes.blocks }
+        ensures { result ≡ is_allowed sizes self.now event }
+    {
+        match event {
+            Event::Draw { worker } => {
+                (worker as usize) < self.views.len()
+                    && self.views[worker as usize].count_past(sizes.tickets) == 0
+            }
+            Event::Claim { worker, block, .. } => (worker as usize) < self.views.len()
+                && block < sizes.blocks,
+            Event::Mark { worker, block } => {
+                (worker as usize) < self.views.len() && self.views[worker as usize].has_open(block)
+            }
+        }
+    }
+
+    // Does an allowed event.
+    pub(crate) fn step(&mut self, sizes: Sizes, event: Event) -> Result<(), AllocError>
+        requires { Legal sizes self.old × (is_allowed sizes self.old event ≡ true) × (self.old.cursor + 1 < 2 ^ 64) }
+        ensures ok { OnOk result (self.new ≡ after self.old event) }
+        ensures err { OnErr result (self.new ≡ self.old) }
+    {
+        match event {
+            Event::Draw { worker } => {
+                self.draw(worker as usize)?;
+            }
+            Event::Claim {
+                worker,
+                block,
+                owner,
+            } => {
+                self.claim(worker as usize, block, owner)?;
+            }
+            Event::Mark { worker, block } => self.mark(worker as usize, block),
+        }
+        Ok(())
+    }
+}
+
+// How many words a set of this many blocks has.
+fn words_of(blocks: u64) -> usize
+    ensures { result ≡ words_for blocks }
+{
+    let whole = (blocks / 64) as usize;
+    if blocks % 64 == 0 { whole } else { whole + 1 }
+}
