@@ -1,0 +1,17 @@
+//! The journals of a region: the calls that a stop cut short are rolled back, and what is wrong with a journal is told.
+//!
+//! Each CPU has a journal of one block, the blocks from 1 on. Word 0 is the number of the oldest pending record (dequeue),
+//! word 8 the number of the place behind the newest (enqueue). Record k, of 252, stands at 64 + 16 k: an address,
+//! and the value that stood there before the call. After 251 comes 0.
+#![tactic(auto)]
+
+mod faults;
+mod journal;
+mod laws;
+mod rollback;
+#[cfg(test)]
+mod tests;
+mod undoing;
+
+pub use laws::{one_region_is_undone, undo_again_changes_nothing};
+pub use undoing::{UndoError, undo};

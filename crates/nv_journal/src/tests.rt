@@ -1,0 +1,196 @@
+//! Journals of a small region, undone.
+
+ghost use Rattle.std.specs.Prelude.{IfOk};
+ghost use Rattle.nv_region.specs.Region.{HasBlocks};
+
+use crate::{UndoError, one_region_is_undone, undo, undo_again_changes_nothing};
+use nv_region::{Fuse, MemRegion, Pmem, RegionRefusal};
+use nv_super::{Fault, Super};
+
+// One CPU: its journal is block 1, the table block 2, whose slot 1 begins at 8320.
+const ONE: Super = Super {
+    version: 1,
+    cpus: 1,
+    blocks: 16,
+    table_blocks: 1,
+    state: 0,
+};
+
+// Two CPUs: their journals are blocks 1 and 2, the tables blocks 3 and 4. Slot 2 begins at 12416.
+const TWO: Super = Super {
+    version: 1,
+    cpus: 2,
+    blocks: 16,
+    table_blocks: 1,
+    state: 0,
+};
+
+// Records 250, 251 and 0 are pending. The first two name the tail of slot 1.
+const WRAPPED: [(u64, u64); 11] = [
+    (4096, 250),
+    (4104, 1),
+    (8160, 8344),
+    (8168, 12320),
+    (8176, 8344),
+    (8184, 12328),
+    (4160, 8336),
+    (4168, 12288),
+    (8320, 1),
+    (8336, 12288),
+    (8344, 12344),
+];
+
+#[derive(Debug, Drop)]
+enum Failure {
+    Region(RegionRefusal),
+    Undo(UndoError),
+}
+
+impl From<RegionRefusal> for Failure {
+    fn from(refusal: RegionRefusal) -> Self {
+        Failure::Region(refusal)
+    }
+}
+
+impl From<UndoError> for Failure {
+    fn from(error: UndoError) -> Self {
+        Failure::Undo(error)
+    }
+}
+
+// Sixteen blocks of zeros but for these words.
+fn region_with(rt: HostRuntime, words: &[(u64, u64)]) -> Result<MemRegion, RegionRefusal>
+    ensures { IfOk result (λ m. HasBlocks m.region 16) }
+{
+    let mut memory = MemRegion::new(rt.alloc(), 16)?;
+    for (at, word) in words {
+        if *at % 8 == 0 && *at < 65536 {
+            let _unstopped = memory.store(*at, *word);
+        }
+    }
+    Ok(memory)
+}
+
+#[test]
+fn three_records_that_wrap_are_rolled_back(rt: HostRuntime) -> Result<(), Failure> {
+    let mut memory = region_with(rt, &WRAPPED)?;
+    let faults = undo(rt.alloc(), &mut memory, &ONE)?;
+    assert_eq!(rt; faults.len(), 0);
+    assert_eq!(rt; memory.load(8344), 12320);
+    assert_eq!(rt; memory.load(8336), 12288);
+    assert_eq!(rt; memory.load(4096), 1);
+    Ok(())
+}
+
+#[test]
+fn a_pointer_that_is_too_large_stays(rt: HostRuntime) -> Result<(), Failure> {
+    let mut memory = region_with(rt, &[(4096, 252), (4160, 8344), (4168, 5)])?;
+    let faults = undo(rt.alloc(), &mut memory, &ONE)?;
+    assert_eq!(rt; faults.as_slice(), [Fault::J1 { cpu: 0 }].as_slice());
+    assert_eq!(rt; memory.load(4096), 252);
+    assert_eq!(rt; memory.load(8344), 0);
+    let faults = undo(rt.alloc(), &mut memory, &ONE)?;
+    assert_eq!(rt; faults.as_slice(), [Fault::J1 { cpu: 0 }].as_slice());
+    assert_eq!(rt; memory.load(4096), 252);
+    Ok(())
+}
+
+#[test]
+fn an_address_that_is_not_permitted_is_skipped(rt: HostRuntime) -> Result<(), Failure> {
+    let mut memory = region_with(rt, &[(4104, 1), (4160, 4096), (4168, 77)])?;
+    let faults = undo(rt.alloc(), &mut memory, &ONE)?;
+    assert_eq!(rt;
+        faults.as_slice(),
+        [Fault::J2 { cpu: 0, record: 0 }].as_slice()
+    );
+    assert_eq!(rt; memory.load(4096), 1);
+    let faults = undo(rt.alloc(), &mut memory, &ONE)?;
+    assert_eq!(rt; faults.len(), 0);
+    assert_eq!(rt; memory.load(4096), 1);
+    Ok(())
+}
+
+#[test]
+fn faults_rise_by_class_and_then_by_record(rt: HostRuntime) -> Result<(), Failure> {
+    let words = [
+        (4096, 251),
+        (4104, 1),
+        (8176, 12416 + 8),
+        (4160, 12416 + 32),
+        (8200, 300),
+    ];
+    let mut memory = region_with(rt, &words)?;
+    let faults = undo(rt.alloc(), &mut memory, &TWO)?;
+    let expected = [
+        Fault::J1 { cpu: 1 },
+        Fault::J2 { cpu: 0, record: 0 },
+        Fault::J2 {
+            cpu: 0,
+            record: 251,
+        },
+    ];
+    assert_eq!(rt; faults.as_slice(), expected.as_slice());
+    Ok(())
+}
+
+#[test]
+fn the_highest_journal_that_names_a_word_counts(rt: HostRuntime) -> Result<(), Failure> {
+    let words = [
+        (4104, 2),
+        (4160, 12416 + 24),
+        (4168, 1),
+        (4176, 12416),
+        (4184, 2),
+        (8200, 2),
+        (8256, 12416 + 24),
+        (8264, 3),
+        (8272, 12416 + 24),
+        (8280, 4),
+    ];
+    let mut memory = region_with(rt, &words)?;
+    let faults = undo(rt.alloc(), &mut memory, &TWO)?;
+    assert_eq!(rt; faults.len(), 0);
+    assert_eq!(rt; memory.load(12416 + 24), 3);
+    assert_eq!(rt; memory.load(12416), 2);
+    assert_eq!(rt; memory.load(4096), 2);
+    assert_eq!(rt; memory.load(8192), 2);
+    Ok(())
+}
+
+#[test]
+fn journals_with_nothing_pending_cause_no_store(rt: HostRuntime) -> Result<(), Failure> {
+    let mut memory = region_with(rt, &[(4096, 7), (4104, 7), (8192, 252)])?;
+    memory.set_fuse(Fuse::After(0));
+    let faults = undo(rt.alloc(), &mut memory, &TWO)?;
+    assert_eq!(rt; faults.as_slice(), [Fault::J1 { cpu: 1 }].as_slice());
+    Ok(())
+}
+
+// Whether so many stores and fences are too few, and the head, the tail and the dequeue word after another undo.
+fn stopped_and_undone(rt: HostRuntime, passed: u64) -> Result<(bool, [u64; 3]), Failure> {
+    let mut memory = region_with(rt, &WRAPPED)?;
+    memory.set_fuse(Fuse::After(passed));
+    let stopped = match undo(rt.alloc(), &mut memory, &ONE) {
+        Ok(_) => false,
+        Err(UndoError::Stopped) => true,
+        Err(error) => return Err(Failure::Undo(error)),
+    };
+    memory.set_fuse(Fuse::Off);
+    let _faults = undo(rt.alloc(), &mut memory, &ONE)?;
+    Ok((
+        stopped,
+        [memory.load(8336), memory.load(8344), memory.load(4096)],
+    ))
+}
+
+#[test]
+fn an_undo_that_was_stopped_is_finished_by_another(rt: HostRuntime) -> Result<(), Failure> {
+    for passed in 0..7 {
+        let (stopped, words) = stopped_and_undone(rt, passed)?;
+        assert_eq!(rt; stopped, passed < 6);
+        assert!(rt; words == [12288, 12320, 1], "after {passed}");
+    }
+    one_region_is_undone();
+    undo_again_changes_nothing();
+    Ok(())
+}
