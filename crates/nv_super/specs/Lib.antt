@@ -3,6 +3,7 @@ pub mod Super
 pub mod Kind
 pub mod Owners
 pub mod Order
+pub mod FaultText
 pub mod Keys
 pub mod Sets
 pub mod Runs

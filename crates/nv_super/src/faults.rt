@@ -1,6 +1,10 @@
-//! What can be wrong with a region: one table of the fault classes, with their fields and their order.
+//! What can be wrong with a region: one table of the fault classes, with their fields, their order and their texts.
 
+ghost use Rattle.std.specs.Prelude.{◌≡◌};
+
+use crate::order::{FaultKey, short_key};
 use crate::owners::Owner;
+use std::fmt;
 
 /// A fault. Faults rise by class as the classes stand here, and then by their fields from left to right.
 /// Addresses and places are in bytes from the start of the region.
@@ -44,4 +48,77 @@ pub enum Fault {
     C5,
     /// A block with more than one owner, once for each of them.
     B1 { block: u64, owner: Owner },
+}
+
+impl Fault {
+    ghost use Rattle.std.specs.Prelude.{◌≡◌, List, ℕ, []};
+    ghost use Rattle.nv_super.specs.Order.{fault_key};
+    ghost use Rattle.nv_super.specs.Keys.{fault_fields};
+
+    /// What faults are compared by.
+    pub(crate) fn key(&self) -> FaultKey
+        ensures { fault_fields result ≡ fault_key self.now }
+    {
+        match self {
+            Fault::J1 { cpu } => short_key(0, *cpu, 0),
+            Fault::J2 { cpu, record } => short_key(1, *cpu, *record),
+            Fault::I1 { inode } => short_key(2, *inode, 0),
+            Fault::I2 { inode } => short_key(3, *inode, 0),
+            Fault::I3 { inode } => short_key(4, *inode, 0),
+            Fault::L1 { inode, at } => short_key(5, *inode, *at),
+            Fault::L2 { inode, at } => short_key(6, *inode, *at),
+            Fault::L3 { inode, at } => short_key(7, *inode, *at),
+            Fault::L4 { inode, at } => short_key(8, *inode, *at),
+            Fault::E1 { inode, at } => short_key(9, *inode, *at),
+            Fault::E2 { inode, at } => short_key(10, *inode, *at),
+            Fault::E3 { inode, at } => short_key(11, *inode, *at),
+            Fault::E4 { inode, at } => short_key(12, *inode, *at),
+            Fault::C1 { directory, at } => short_key(13, *directory, *at),
+            Fault::C2 { inode } => short_key(14, *inode, 0),
+            Fault::C3 { inode } => short_key(15, *inode, 0),
+            Fault::C4 { inode } => short_key(16, *inode, 0),
+            Fault::C5 => short_key(17, 0, 0),
+            Fault::B1 { block, owner } => {
+                let key = owner.key();
+                FaultKey {
+                    class: 18,
+                    first: *block,
+                    second: key.inode,
+                    third: key.role,
+                    fourth: key.number,
+                }
+            }
+        }
+    }
+}
+
+impl fmt::Display for Fault {
+    ghost use Rattle.std.specs.Prelude.{Some};
+    ghost use Rattle.nv_super.specs.FaultText.{fault_text};
+
+    ghost output = { λ fault. Some (fault_text fault) };
+
+    fn fmt<W: fmt::Write>(&self, f: &mut fmt::Formatter<W>) -> fmt::Result {
+        match *self {
+            Fault::J1 { cpu } => write!(f, "J1 cpu {cpu}"),
+            Fault::J2 { cpu, record } => write!(f, "J2 cpu {cpu} record {record}"),
+            Fault::I1 { inode } => write!(f, "I1 inode {inode}"),
+            Fault::I2 { inode } => write!(f, "I2 inode {inode}"),
+            Fault::I3 { inode } => write!(f, "I3 inode {inode}"),
+            Fault::L1 { inode, at } => write!(f, "L1 inode {inode} at {at}"),
+            Fault::L2 { inode, at } => write!(f, "L2 inode {inode} at {at}"),
+            Fault::L3 { inode, at } => write!(f, "L3 inode {inode} at {at}"),
+            Fault::L4 { inode, at } => write!(f, "L4 inode {inode} at {at}"),
+            Fault::E1 { inode, at } => write!(f, "E1 inode {inode} at {at}"),
+            Fault::E2 { inode, at } => write!(f, "E2 inode {inode} at {at}"),
+            Fault::E3 { inode, at } => write!(f, "E3 inode {inode} at {at}"),
+            Fault::E4 { inode, at } => write!(f, "E4 inode {inode} at {at}"),
+            Fault::C1 { directory, at } => write!(f, "C1 inode {directory} at {at}"),
+            Fault::C2 { inode } => write!(f, "C2 inode {inode}"),
+            Fault::C3 { inode } => write!(f, "C3 inode {inode}"),
+            Fault::C4 { inode } => write!(f, "C4 inode {inode}"),
+            Fault::C5 => f.write_str("C5"),
+            Fault::B1 { block, owner } => write!(f, "B1 block {block} {owner}"),
+        }
+    }
 }

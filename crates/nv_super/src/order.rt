@@ -9,22 +9,22 @@ use std::cmp::Ordering;
 /// By inode, then log before data, then number.
 #[derive(Clone, Copy, Debug, PartialEq, Eq, PartialOrd, Ord)]
 pub(crate) struct OwnerKey {
-    inode: u64,
-    role: u64,
-    number: u64,
+    pub(crate) inode: u64,
+    pub(crate) role: u64,
+    pub(crate) number: u64,
 }
 
 /// By class, then by the fields from left to right.
 #[derive(Clone, Copy, Debug, PartialEq, Eq, PartialOrd, Ord)]
 pub(crate) struct FaultKey {
-    class: u64,
-    first: u64,
-    second: u64,
-    third: u64,
-    fourth: u64,
+    pub(crate) class: u64,
+    pub(crate) first: u64,
+    pub(crate) second: u64,
+    pub(crate) third: u64,
+    pub(crate) fourth: u64,
 }
 
-fn short_key(class: u64, first: u64, second: u64) -> FaultKey
+pub(crate) fn short_key(class: u64, first: u64, second: u64) -> FaultKey
     ensures { result ≡ record { class = class; first = first; second = second; third = 0; fourth = 0 } }
 {
     FaultKey {
@@ -42,7 +42,7 @@ impl Owner {
     ghost use Rattle.nv_super.specs.Keys.{owner_fields};
 
     /// What owners are compared by.
-    fn key(&self) -> OwnerKey
+    pub(crate) fn key(&self) -> OwnerKey
         ensures { owner_fields result ≡ owner_key self.now }
     {
         match self {
@@ -56,48 +56,6 @@ impl Owner {
                 role: 1,
                 number: *page,
             },
-        }
-    }
-}
-
-impl Fault {
-    ghost use Rattle.std.specs.Prelude.{◌≡◌, List, ℕ, []};
-    ghost use Rattle.nv_super.specs.Order.{fault_key};
-    ghost use Rattle.nv_super.specs.Keys.{fault_fields};
-
-    /// What faults are compared by.
-    fn key(&self) -> FaultKey
-        ensures { fault_fields result ≡ fault_key self.now }
-    {
-        match self {
-            Fault::J1 { cpu } => short_key(0, *cpu, 0),
-            Fault::J2 { cpu, record } => short_key(1, *cpu, *record),
-            Fault::I1 { inode } => short_key(2, *inode, 0),
-            Fault::I2 { inode } => short_key(3, *inode, 0),
-            Fault::I3 { inode } => short_key(4, *inode, 0),
-            Fault::L1 { inode, at } => short_key(5, *inode, *at),
-            Fault::L2 { inode, at } => short_key(6, *inode, *at),
-            Fault::L3 { inode, at } => short_key(7, *inode, *at),
-            Fault::L4 { inode, at } => short_key(8, *inode, *at),
-            Fault::E1 { inode, at } => short_key(9, *inode, *at),
-            Fault::E2 { inode, at } => short_key(10, *inode, *at),
-            Fault::E3 { inode, at } => short_key(11, *inode, *at),
-            Fault::E4 { inode, at } => short_key(12, *inode, *at),
-            Fault::C1 { directory, at } => short_key(13, *directory, *at),
-            Fault::C2 { inode } => short_key(14, *inode, 0),
-            Fault::C3 { inode } => short_key(15, *inode, 0),
-            Fault::C4 { inode } => short_key(16, *inode, 0),
-            Fault::C5 => short_key(17, 0, 0),
-            Fault::B1 { block, owner } => {
-                let key = owner.key();
-                FaultKey {
-                    class: 18,
-                    first: *block,
-                    second: key.inode,
-                    third: key.role,
-                    fourth: key.number,
-                }
-            }
         }
     }
 }

@@ -3,6 +3,8 @@
 ghost use Rattle.std.specs.Prelude.{◌≡◌, ◌==◌, ◌<◌, ◌^◌};
 ghost use Rattle.nv_super.specs.Owners.{raised, page_end};
 
+use std::fmt;
+
 /// Blocks side by side: `count` blocks from block `start` on.
 #[derive(Clone, Copy, Debug, PartialEq, Eq)]
 pub struct Run {
@@ -38,6 +40,20 @@ impl Owner {
                 inode,
                 page: page + by,
             },
+        }
+    }
+}
+
+impl fmt::Display for Owner {
+    ghost use Rattle.std.specs.Prelude.{Some};
+    ghost use Rattle.nv_super.specs.FaultText.{owner_text};
+
+    ghost output = { λ owner. Some (owner_text owner) };
+
+    fn fmt<W: fmt::Write>(&self, f: &mut fmt::Formatter<W>) -> fmt::Result {
+        match *self {
+            Owner::Log { inode, page } => write!(f, "log {inode} {page}"),
+            Owner::Data { inode, page } => write!(f, "data {inode} {page}"),
         }
     }
 }

@@ -16,7 +16,7 @@ mod region;
 mod tests;
 
 pub use answers::{push_bad_line, push_ok, push_recovered, push_refused, push_stopped, push_word};
-pub use faults::{push_fault, push_fault_line, push_faults};
+pub use faults::{push_fault_line, push_faults};
 pub use free::{push_free_line, push_free_lines};
 pub use inodes::{Attributes, push_inode_line, push_log_line, push_page_line, push_stat_line};
 pub use names::{push_data_line, push_list_line, push_name_line};
