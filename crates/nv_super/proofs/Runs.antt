@@ -6,16 +6,18 @@ use Rattle.nv_super.proofs.Rising.{Contains-cons, Contains-head, Contains-tail}
 use Rattle.nv_super.specs.Runs.{Apart, AreRuns}
 use Rattle.nv_super.specs.declared.owners.Run.{Run}
 
-tail_apart : (x : Run) (xs : List Run) → Apart (x ∷ xs) → Apart xs
+-- what is behind the first run is apart too
+pub tail_apart : (x : Run) (xs : List Run) → Apart (x ∷ xs) → Apart xs
 tail_apart x [] a = tt
 tail_apart x (y ∷ xs) a = a.2
 
-some_blocks : (x : Run) (xs : List Run) → Apart (x ∷ xs) → 0 < x.count
+-- no run is empty
+pub some_blocks : (x : Run) (xs : List Run) → Apart (x ∷ xs) → 0 < x.count
 some_blocks x [] a = a
 some_blocks x (y ∷ xs) a = a.0
 
 -- behind the first run comes a gap
-gap : (x : Run) (xs : List Run) → Apart (x ∷ xs) → (y : Run) → Contains xs y → x.start + x.count < y.start
+pub gap : (x : Run) (xs : List Run) → Apart (x ∷ xs) → (y : Run) → Contains xs y → x.start + x.count < y.start
 gap x [] a y c = absurd (omega (arith, c.1))
 gap x (z ∷ xs) a y c = elim (Contains-cons z xs y c) [
   | inl w ↦ rw w a.1

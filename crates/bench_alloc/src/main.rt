@@ -1,0 +1,68 @@
+//! Measures the allocator: takes all blocks of a region one by one, with the CPUs in turn, and gives them back in a shuffled
+//! order, all of it twice. The arguments are the number of blocks and of CPUs. The seconds go to standard error.
+#![tactic(auto)]
+
+mod hold;
+
+ghost use Rattle.std.specs.Prelude.{◌≡◌, ◌≤◌, ◌<◌, IfSome};
+ghost use Rattle.nv_super.specs.Layout.{IsLayout};
+
+use hold::{give_all, take_all};
+use nv_alloc::Allocators;
+use nv_super::Super;
+use rand::seq::SliceRandom;
+use rand_pcg::Pcg32;
+use std::rt::Clock;
+use std::time::Instant;
+use std::{env, io};
+
+/// The superblock of a region with one table block for each CPU, if it can be as small or large.
+fn layout(blocks: u64, cpus: u64) -> Option<Super>
+    ensures { IfSome result (λ s. IsLayout s × (s.blocks ≤ 65536)) }
+{
+    if blocks < 200 || blocks > 65_536 || cpus < 1 || cpus > 64 {
+        return None;
+    }
+    Some(Super {
+        version: 1,
+        cpus,
+        blocks,
+        table_blocks: 1,
+        state: 0,
+    })
+}
+
+fn measure<R: AllocGlobal + Print + Eprint + Clock>(rt: &R, sup: &Super) -> io::Result<()>
+    requires layout { IsLayout sup.now }
+    requires blocks { sup.now.blocks ≤ 65536 }
+{
+    let words = [0; 1024];
+    let mut rng = Pcg32::new(1, 1);
+    let mut free = Allocators::from_words(rt.alloc(), &words, sup)?;
+    let blocks = free.free_blocks();
+    for _ in 0..2 {
+        let mut held = Vec::new(rt.alloc());
+        let start = Instant::now(rt)?;
+        take_all(&mut free, sup.cpus, blocks, &mut held)?;
+        eprintln!(rt; "take {:.4}", start.elapsed(rt)?.as_secs_f64())?;
+        held.as_mut_slice().shuffle(&mut rng);
+        let start = Instant::now(rt)?;
+        give_all(&mut free, &mut held)?;
+        eprintln!(rt; "give {:.4}", start.elapsed(rt)?.as_secs_f64())?;
+    }
+    println!(rt; "{blocks} blocks, {} free", free.free_blocks())
+}
+
+fn main(rt: HostRuntime) -> io::Result<()> {
+    let mut words = env::args(&rt)?.skip(1);
+    let blocks = words
+        .next()
+        .and_then(|text| text.as_str().parse::<u64>().ok());
+    let cpus = words
+        .next()
+        .and_then(|text| text.as_str().parse::<u64>().ok());
+    match layout(blocks.unwrap_or(0), cpus.unwrap_or(0)) {
+        Some(sup) => measure(&rt, &sup),
+        None => eprintln!(rt; "usage: bench_alloc BLOCKS CPUS"),
+    }
+}

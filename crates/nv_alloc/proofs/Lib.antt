@@ -1,0 +1,11 @@
+pub mod Places
+pub mod Fronts
+pub mod Cuts
+pub mod Replaced
+pub mod Bits
+pub mod Bounds
+pub mod Pools
+pub mod Leaving
+pub mod Changed
+pub mod Sound
+pub mod GivenBack

@@ -1,0 +1,9 @@
+use Rattle.std.proofs.Common.{◌≤◌, ◌-◌}
+use Rattle.nv_alloc.specs.Inside.{CutUpTo}
+use Rattle.nv_alloc.proofs.cutting.runs_between.Given as goal
+
+abbrev pub invariant-loop-here : goal.invariant-loop-here
+invariant-loop-here l = CutUpTo l.words l.from l.to l.start l.here l.runs.items × (l.here ≤ l.to)
+
+abbrev pub decreases-loop-here : goal.decreases-loop-here
+decreases-loop-here l = l.to - l.here

@@ -1,0 +1,7 @@
+pub mod Taking
+pub mod FreeValue
+pub mod FreeLists
+pub mod PoolValue
+pub mod Inside
+pub mod Whole
+pub mod Names

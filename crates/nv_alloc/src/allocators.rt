@@ -1,0 +1,295 @@
+//! The free blocks of all pools.
+//!
+//! Each pool keeps the runs of its free blocks in rising order in a ring. So taking is constant work a run taken, and giving a
+//! binary search and a move of the runs on the shorter side of the place.
+
+ghost use Rattle.std.specs.Prelude.{◌≡◌, ◌⊎◌, ◌<◌, ◌≤◌, ◌+◌, ◌*◌, ◌^◌, ℕ, length, IfOk, OnOk, OnErr, IfErr};
+ghost use Rattle.nv_super.specs.Layout.{IsLayout, InPool, system_blocks};
+ghost use Rattle.nv_super.specs.Runs.{InRun, Apart, AreRuns};
+ghost use Rattle.nv_alloc.specs.Taking.{HasBlock, all_blocks, pool_at, IsFullest, Takes};
+ghost use Rattle.nv_alloc.specs.FreeLists.{IsSound, AreOutside, SameLists, Took, Leave, Refuses, CanJoin, Joins, runs_in};
+ghost use Rattle.nv_alloc.specs.Inside.{lists_of, spare_at, TakesOnto, JoinedUpTo};
+
+use crate::pool::Pool;
+use nv_super::{Run, Super};
+use std::alloc::{AllocError, Global};
+use std::fmt;
+use std::marker::Model;
+
+/// Why no blocks were taken.
+#[derive(Clone, Copy, Debug, PartialEq, Eq)]
+pub enum AllocRefusal {
+    NoSpace,
+    Memory,
+}
+
+impl fmt::Display for AllocRefusal {
+    ghost use Rattle.std.specs.Prelude.{Some};
+    ghost use Rattle.nv_alloc.specs.Names.{refusal_name};
+
+    ghost output = { λ refusal. Some (refusal_name refusal) };
+
+    fn fmt<W: fmt::Write>(&self, f: &mut fmt::Formatter<W>) -> fmt::Result {
+        match self {
+            AllocRefusal::NoSpace => f.write_str("NoSpace"),
+            AllocRefusal::Memory => f.write_str("Memory"),
+        }
+    }
+}
+
+/// The free blocks by pool.
+#[derive(Drop)]
+pub struct Allocators {
+    alloc: Global,
+    sup: Super,
+    pools: Vec<Pool>,
+    room: usize,
+}
+
+impl Model for Allocators {
+    ghost use Rattle.nv_alloc.specs.FreeValue.{FreeLists};
+
+    ghost Value = { FreeLists };
+
+    ghost use Rattle.nv_alloc.specs.Whole.{view_of, IsWhole};
+
+    ghost view = { λ a. view_of a.sup a.pools.items a.room };
+
+    ghost invariant = { λ a. IsWhole a.sup a.pools.items a.room };
+}
+
+impl Allocators {
+    /// The blocks of the pools that aren't in the set, whose words cover all blocks of the region. There is no room to give yet.
+    pub fn from_words(alloc: Global, words: &[u64], sup: &Super) -> Result<Allocators, AllocError>
+        requires layout { IsLayout sup.now }
+        requires covers { sup.now.blocks ≤ 64 * length words.now }
+        ensures outside { IfOk result (λ a. AreOutside words.now sup.now a) }
+        ensures sound { IfOk result (λ a. IsSound a) }
+    {
+        let mut pools = Vec::new(alloc);
+        for cpu in 0..sup.cpus {
+            let (start, end) = sup.pool(cpu);
+            let pool = Pool::between(alloc, words, start, end)?;
+            pools.push(pool)?;
+        }
+        Ok(Allocators {
+            alloc,
+            sup: *sup,
+            pools,
+            room: 0,
+        })
+    }
+
+    /// Takes n blocks, lowest first, from the pool of a CPU. Once it is empty, they come from the pool that then has most free blocks
+    /// (of several, that of the lowest CPU), which is used until it is empty or nothing more is needed. Runs of two pools aren't joined.
+    ///
+    /// `NoSpace` where all pools together have fewer blocks, and `Memory` where the answer's runs found none; both change nothing.
+    /// The time goes with the runs that are taken.
+    pub fn take(&mut self, cpu: u64, n: u64) -> Result<Vec<Run>, AllocRefusal>
+        requires cpu { cpu < self.old.sup.cpus }
+        ensures ok { IfOk result (λ runs. (n ≤ all_blocks self.old.pools) × Took self.old cpu n runs.items self.new) }
+        ensures leave { IfOk result (λ runs. Leave self.old n runs.items self.new) }
+        ensures err { IfErr result (λ refusal. Refuses refusal n self.old.pools × SameLists self.old self.new) }
+        ensures sound { IsSound self.old × IsSound self.new }
+    {
+        take_from(self.alloc, self.pools.as_mut_slice(), cpu as usize, n)
+    }
+
+    /// Makes room: the next k calls of `give` take no memory, also with calls of `take` between.
+    pub fn reserve(&mut self, k: usize) -> Result<(), AllocError>
+        ensures same { SameLists self.old self.new }
+        ensures room { OnOk result (k ≤ self.new.room) }
+        ensures sound { IsSound self.old × IsSound self.new }
+    {
+        if self.room < k {
+            reserve_each(self.pools.as_mut_slice(), k)?;
+            self.room = k;
+        }
+        Ok(())
+    }
+
+    /// Adds a run of data blocks, none of which is free, to the pools in which they lie, joined with the runs that they touch. A run
+    /// of no blocks changes nothing. It takes no memory.
+    ///
+    /// The first pool is found by a binary search, and in each pool that the run touches another finds the place; the runs on the
+    /// shorter side of the place may move.
+    pub fn give(&mut self, run: Run)
+        requires can_join { CanJoin self.old run }
+        requires room { 0 < run.count → 0 < self.old.room }
+        ensures joined { Joins self.old run self.new }
+        ensures room { self.old.room ≤ self.new.room + 1 }
+        ensures empty { run.count ≡ 0 → self.new ≡ self.old }
+        ensures sound { IsSound self.old × IsSound self.new }
+    {
+        if !run.is_empty() {
+            join_all(self.pools.as_mut_slice(), &self.sup, run);
+            self.room -= 1;
+        }
+    }
+
+    /// The runs of free blocks, by CPU.
+    pub fn lists(&self) -> Result<Vec<Vec<Run>>, AllocError>
+        ensures lists { IfOk result (λ lists. runs_in lists.items ≡ self.now.pools) }
+        ensures sound { IsSound self.now }
+    {
+        let mut lists = Vec::new(self.alloc);
+        for pool in self.pools.as_slice() {
+            let list = pool.list(self.alloc)?;
+            lists.push(list)?;
+        }
+        Ok(lists)
+    }
+
+    /// How many blocks are free.
+    pub fn free_blocks(&self) -> u64
+        ensures blocks { result ≡ all_blocks self.now.pools }
+        ensures sound { IsSound self.now }
+    {
+        count_free(self.pools.as_slice())
+    }
+}
+
+/// How many blocks are free in all pools.
+fn count_free(pools: &[Pool]) -> u64
+    requires { length pools.now ≤ 64 }
+    ensures { result ≡ all_blocks (lists_of pools.now) }
+{
+    let mut blocks = 0;
+    for pool in pools {
+        blocks += pool.free();
+    }
+    blocks
+}
+
+/// Takes n blocks from the pool of a CPU on, where all pools have so many.
+fn take_from(
+    alloc: Global,
+    pools: &mut [Pool],
+    cpu: usize,
+    n: u64,
+) -> Result<Vec<Run>, AllocRefusal>
+    requires cpu { cpu < length pools.old }
+    requires few { length pools.old ≤ 64 }
+    ensures ok { IfOk result (λ runs. (n ≤ all_blocks (lists_of pools.old)) × Takes (lists_of pools.old) cpu n runs.items (lists_of pools.new)) }
+    ensures err { IfErr result (λ refusal. Refuses refusal n (lists_of pools.old) × (lists_of pools.new ≡ lists_of pools.old)) }
+    ensures spare { (c : ℕ) → spare_at pools.old c ≤ spare_at pools.new c }
+{
+    if count_free(pools) < n {
+        return Err(AllocRefusal::NoSpace);
+    }
+    let mut taken = Vec::new(alloc);
+    match take_on(pools, cpu, n, &mut taken) {
+        Ok(()) => Ok(taken),
+        Err(AllocError) => Err(AllocRefusal::Memory),
+    }
+}
+
+/// Takes what is needed, of which there is enough, from the pool of a CPU on.
+fn take_on(pools: &mut [Pool], cpu: usize, need: u64, out: &mut Vec<Run>) -> Result<(), AllocError>
+    requires cpu { cpu < length pools.old }
+    requires enough { need ≤ all_blocks (lists_of pools.old) }
+    ensures ok { OnOk result (TakesOnto (lists_of pools.old) cpu need out.old.items out.new.items (lists_of pools.new)) }
+    ensures err { OnErr result ((lists_of pools.new ≡ lists_of pools.old) × (out.new.items ≡ out.old.items)) }
+    ensures spare { (c : ℕ) → spare_at pools.old c ≤ spare_at pools.new c }
+{
+    let kept = out.len();
+    let rest = pools[cpu].take(need, out)?;
+    if rest == 0 {
+        return Ok(());
+    }
+    let next = fullest(pools);
+    match take_on(pools, next, rest, out) {
+        Ok(()) => Ok(()),
+        Err(refusal) => {
+            pools[cpu].take_back(out, kept);
+            Err(refusal)
+        }
+    }
+}
+
+/// The pool with most free blocks, the lowest of these.
+fn fullest(pools: &[Pool]) -> usize
+    requires { 0 < length pools.now }
+    ensures { IsFullest (lists_of pools.now) result }
+{
+    let mut best = 0;
+    for (place, pool) in pools.iter().enumerate() {
+        let leader = &pools[best];
+        if leader.free() < pool.free() {
+            best = place;
+        }
+    }
+    best
+}
+
+/// Makes room for k more runs in each pool.
+fn reserve_each(pools: &mut [Pool], k: usize) -> Result<(), AllocError>
+    ensures same { lists_of pools.new ≡ lists_of pools.old }
+    ensures kept { (c : ℕ) → spare_at pools.old c ≤ spare_at pools.new c }
+    ensures room { OnOk result ((c : ℕ) → c < length pools.old → k ≤ spare_at pools.new c) }
+{
+    for cpu in 0..pools.len() {
+        pools[cpu].reserve(k)?;
+    }
+    Ok(())
+}
+
+/// Adds to each pool those blocks of the run that lie in it: from the pool of its first block up to that of its last.
+fn join_all(pools: &mut [Pool], sup: &Super, run: Run)
+    requires layout { IsLayout sup.now }
+    requires count { length pools.old ≡ sup.now.cpus }
+    requires blocks { (b : ℕ) → InRun run b → (system_blocks sup.now ≤ b) × (b < sup.now.blocks) }
+    requires some { 0 < run.count }
+    requires used { (c b : ℕ) → InRun run b → HasBlock (pool_at (lists_of pools.old) c) b → ⊥ }
+    requires apart { (c : ℕ) → Apart (pool_at (lists_of pools.old) c) }
+    requires room { (c : ℕ) → c < length pools.old → 0 < spare_at pools.old c }
+    ensures joined { JoinedUpTo sup.now run (length pools.old) pools.old pools.new }
+{
+    let end = run.start + run.count;
+    let home = pool_of(sup, run.start) as usize;
+    for cpu in home..pools.len() {
+        let (first, behind) = sup.pool(cpu as u64);
+        join_part(&mut pools[cpu], first, behind, run);
+        if end <= behind {
+            return;
+        }
+    }
+}
+
+/// The CPU whose pool has the block, by a binary search.
+fn pool_of(sup: &Super, block: u64) -> u64
+    requires layout { IsLayout sup.now }
+    requires block { (system_blocks sup.now ≤ block) × (block < sup.now.blocks) }
+    ensures cpu { result < sup.now.cpus }
+    ensures pool { InPool sup.now result block }
+{
+    let mut low = 0;
+    let mut high = sup.cpus;
+    while high - low > 1 {
+        let middle = low + (high - low) / 2;
+        let (start, _) = sup.pool(middle);
+        if start <= block {
+            low = middle;
+        } else {
+            high = middle;
+        }
+    }
+    low
+}
+
+/// Adds to a pool, whose blocks go from `first` up to `end`, those of the run's blocks that lie in it.
+fn join_part(pool: &mut Pool, first: u64, end: u64, run: Run)
+    requires used { (b : ℕ) → InRun run b → HasBlock pool.old.runs b → ⊥ }
+    requires apart { Apart pool.old.runs }
+    requires bounds { (end ≤ 2 ^ 32) × (run.start + run.count ≤ 2 ^ 32) }
+    requires room { 0 < pool.old.spare }
+    ensures joined { AreRuns (λ b. HasBlock pool.old.runs b ⊎ (((first ≤ b) × (b < end)) × InRun run b)) pool.new.runs }
+    ensures room { pool.old.spare ≤ pool.new.spare + 1 }
+{
+    let from = run.start.max(first);
+    let to = (run.start + run.count).min(end);
+    if from >= to {
+        return;
+    }
+    pool.join(from, to);
+}

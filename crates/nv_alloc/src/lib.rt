@@ -1,0 +1,14 @@
+//! The free blocks of a region, by pools: made from the set of the blocks in use, taken by CPU, and given back.
+#![tactic(auto)]
+
+mod allocators;
+mod cutting;
+mod joining;
+mod laws;
+mod pool;
+mod taking;
+#[cfg(test)]
+mod tests;
+
+pub use allocators::{AllocRefusal, Allocators};
+pub use laws::{sets_determine_lists, take_then_give_restores, taken_can_join};
