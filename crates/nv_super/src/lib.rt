@@ -15,7 +15,9 @@ pub use kind::Kind;
 pub use laws::{pools_cover_the_data_blocks, slots_stand_apart};
 pub use owners::{Owner, Run};
 pub use sorting::{sort_claims, sort_faults};
-pub use superblock::{BLOCK_SIZE, MAGIC, Super, SuperFault, read_super, write_super};
+pub use superblock::{
+    BLOCK_SIZE, LEAST_BLOCKS, MAGIC, MOST_BLOCKS, Super, SuperFault, read_super, write_super,
+};
 
 #[cfg(test)]
 mod tests;

@@ -18,9 +18,11 @@ pub const BLOCK_SIZE: u64 = 4096;
 /// The eight ASCII bytes `NOVAPM01`, as a little-endian word.
 pub const MAGIC: u64 = 0x3130_4d50_4156_4f4e;
 
-const LEAST_BLOCKS: u64 = 8;
+/// The fewest blocks of a region.
+pub const LEAST_BLOCKS: u64 = 8;
 
-const MOST_BLOCKS: u64 = 65_536;
+/// The most blocks of a region.
+pub const MOST_BLOCKS: u64 = 65_536;
 
 /// The numbers of a superblock: the layout's version, CPUs, blocks of the region, table blocks for each CPU, and the
 /// state, which is shown and never used.

@@ -1,0 +1,9 @@
+//! Calls on a region: `format` makes a file system of a region of any content, with the root directory alone.
+#![tactic(auto)]
+
+mod clearing;
+mod formatting;
+#[cfg(test)]
+mod tests;
+
+pub use formatting::{FormatRefusal, format, format_is_determined};
