@@ -1,5 +1,10 @@
 pub mod Plain
+pub mod Pieces
+pub mod Fresh
+pub mod Pushed
+pub mod FreeBlocks
 pub mod LineLemmas
 pub mod StreamLemmas
 pub mod Progress
 pub mod KnownProgress
+pub mod LineReplies

@@ -1,14 +1,24 @@
 //! Readers and writers that are slow, are interrupted, and fail in mid-stream.
 
 use super::*;
+use std::alloc::Global;
 use std::io::{Error, ErrorKind, Read, Result as IoResult, Write};
 use std::test::Fail;
 
 // Gives a byte at every second call, interrupts the calls between, and fails at its end.
 #[derive(Drop)]
-struct Failing {
+pub struct Failing {
     bytes: &'static [u8],
     interrupts: bool,
+}
+
+impl Failing {
+    pub fn new(bytes: &'static [u8]) -> Failing {
+        Failing {
+            bytes,
+            interrupts: false,
+        }
+    }
 }
 
 impl Read for Failing {
@@ -29,10 +39,24 @@ impl Read for Failing {
 
 // Takes two bytes at a time at every second call, interrupts the calls between, and is closed after `room` bytes.
 #[derive(Drop)]
-struct Closing {
+pub struct Closing {
     taken: Vec<u8>,
     room: usize,
     interrupts: bool,
+}
+
+impl Closing {
+    pub fn new(alloc: Global, room: usize) -> Closing {
+        Closing {
+            taken: Vec::new(alloc),
+            room,
+            interrupts: false,
+        }
+    }
+
+    pub fn taken(&self) -> &[u8] {
+        &self.taken
+    }
 }
 
 impl Write for Closing {
@@ -81,10 +105,7 @@ fn a_line_of_4096_bytes_is_the_longest(rt: HostRuntime) -> Result<(), Fail> {
 
 #[test]
 fn a_reader_that_fails_loses_the_line_and_none_before(rt: HostRuntime) -> Result<(), Fail> {
-    let mut reader = Failing {
-        bytes: b"ab\n\nc",
-        interrupts: false,
-    };
+    let mut reader = Failing::new(b"ab\n\nc");
     let mut line = Vec::new(rt.alloc());
     assert!(rt; read_line(&mut reader, &mut line)? == Next::Line);
     assert!(rt; line.as_slice() == b"ab".as_slice());
@@ -97,16 +118,12 @@ fn a_reader_that_fails_loses_the_line_and_none_before(rt: HostRuntime) -> Result
 
 #[test]
 fn a_closed_writer_has_the_front(rt: HostRuntime) -> Result<(), Fail> {
-    let mut writer = Closing {
-        taken: Vec::new(rt.alloc()),
-        room: 9,
-        interrupts: false,
-    };
+    let mut writer = Closing::new(rt.alloc(), 9);
     write_text(&mut writer, b"")?;
     write_text(&mut writer, b"abcde")?;
-    assert!(rt; writer.taken.as_slice() == b"abcde".as_slice());
+    assert!(rt; writer.taken() == b"abcde".as_slice());
     assert!(rt; write_text(&mut writer, b"fghij") == Err(ScriptError::Write));
-    assert!(rt; writer.taken.as_slice() == b"abcdefghi".as_slice());
+    assert!(rt; writer.taken() == b"abcdefghi".as_slice());
     Ok(())
 }
 

@@ -1,0 +1,71 @@
+-- What the answer to a line says of the lines that are reached: `number` is the line's number, and `state` and `mid` are
+-- the states before and after it.
+use Rattle.std.proofs.Common.{◌≡◌, ℕ, ◌+◌, List, [], ◌∷◌, ◌++◌, Option, refl, inl, inr, subst, ap, sym, ◌∙◌, append-nil, string_bytes}
+use Rattle.std.specs.Prelude.{String}
+use Rattle.std.specs.declared.alloc.Global.{Global}
+use Rattle.std.specs.Io.KnownBytes.{Appends}
+use Rattle.nv_text.specs.Answers.{bad_line}
+use Rattle.nv_cli.specs.Known.{IfKnown}
+use Rattle.nv_cli.specs.Last.{status_of}
+use Rattle.nv_cli.specs.Lines.{lines_of}
+use Rattle.nv_cli.specs.Machine.{State, Shows}
+use Rattle.nv_cli.specs.Replies.{Replies, KnownReplies}
+use Rattle.nv_cli.specs.Streams.{AppendsFront}
+use Rattle.nv_cli.specs.declared.script.Reply.TheVariants.{End, Skipped, Text, Bad}
+use Rattle.nv_cli.proofs.KnownProgress.{known_map, GoesOn, Ends, EndsInside}
+use Rattle.nv_cli.proofs.StreamLemmas.{appends_none}
+
+module _ (left after now then : Option (List ℕ)) (number : ℕ) (state mid : State) where
+  pub skipped_goes_on : KnownReplies left after state Skipped mid → IfKnown left after (λ input rest. GoesOn (Shows number state) (Shows (number + 1) mid) now now input rest)
+  skipped_goes_on replies = known_map left after _ _ (λ input rest (r : Replies input rest state Skipped mid). record {
+    line = r.0;
+    first = [];
+    read = r.1;
+    added = appends_none now;
+    step = λ more text status shown. inl (r.2, r.3, subst (λ (s : State). Shows (number + 1) s more text status) r.4 shown);
+  }) replies
+
+  pub end_ends : (status : ℕ) → KnownReplies left after state End mid → status ≡ status_of mid.last → IfKnown left after (λ input rest. Ends (Shows number state) now now input status)
+  end_ends status replies is = known_map left after _ _ (λ input rest (r : Replies input rest state End mid).
+      let none : lines_of input ≡ [] = ap lines_of r.0 in
+      let last : status ≡ status_of state.last = is ∙ ap (λ (s : State). status_of s.last) r.1 in
+      record { text = []; added = appends_none now; shown = rw none (refl, last) }) replies
+
+  pub bad_ends : KnownReplies left after state Bad mid → Appends now then (bad_line number) → IfKnown left after (λ input rest. Ends (Shows number state) now then input 2)
+  bad_ends replies added = known_map left after _ _ (λ input rest (r : Replies input rest state Bad mid). record {
+    text = bad_line number;
+    added = added;
+    shown = rw r.2 (inr (inr (r.3, refl, refl)));
+  }) replies
+
+  pub bad_ends_inside : KnownReplies left after state Bad mid → AppendsFront now then (bad_line number) → IfKnown left after (λ input rest. EndsInside (Shows number state) now then input)
+  bad_ends_inside replies added = known_map left after _ _ (λ input rest (r : Replies input rest state Bad mid). record {
+    line = r.0;
+    behind = r.1;
+    text = bad_line number;
+    status = 2;
+    read = r.2;
+    added = added;
+    shown = inr (inr (r.3, refl, refl));
+  }) replies
+
+  module _ (text : String Global) where
+    pub text_goes_on : KnownReplies left after state (Text text) mid → Appends now then (string_bytes text) → IfKnown left after (λ input rest. GoesOn (Shows number state) (Shows (number + 1) mid) now then input rest)
+    text_goes_on replies added = known_map left after _ _ (λ input rest (r : Replies input rest state (Text text) mid). record {
+      line = r.0;
+      first = string_bytes text;
+      read = r.1;
+      added = added;
+      step = λ more others status shown. inr (inl (r.2, string_bytes text, others, mid, r.3, shown, refl));
+    }) replies
+
+    pub text_ends_inside : KnownReplies left after state (Text text) mid → AppendsFront now then (string_bytes text) → IfKnown left after (λ input rest. EndsInside (Shows number state) now then input)
+    text_ends_inside replies added = known_map left after _ _ (λ input rest (r : Replies input rest state (Text text) mid). record {
+      line = r.0;
+      behind = lines_of rest;
+      text = string_bytes text;
+      status = status_of mid.last;
+      read = r.1;
+      added = added;
+      shown = inr (inl (r.2, string_bytes text, [], mid, r.3, (refl, refl), sym (append-nil (string_bytes text))));
+    }) replies

@@ -1,0 +1,138 @@
+-- The machine that a script runs: its state, what each command may print and leave, and what a whole script shows.
+use Rattle.std.specs.Prelude.{◌≡◌, ◌≢◌, ◌⊎◌, ◌≤◌, ◌+◌, ◌*◌, ◌%◌, ℕ, Bool, ◌&&◌, ◌==◌, nat_le, MatchBool, if◌then◌else◌, List, [], ◌∷◌, ◌++◌, length, replicate, Option, Some, None, codes}
+use Rattle.nv_region.specs.Region.{Region, size, word}
+use Rattle.nv_super.specs.declared.faults.Fault.{Fault}
+use Rattle.nv_calls.specs.Format.{IsFormatRefusal, IsFormatted, fresh_super}
+use Rattle.nv_calls.specs.Format as formats
+use Rattle.nv_calls.specs.declared.formatting.FormatRefusal.{FormatRefusal}
+use Rattle.nv_calls.specs.declared.formatting.FormatRefusal.TheVariants.{Stopped}
+use Rattle.nv_line.specs.Request.{Request, Format, Time, Recover, Tree, Free, Faults, Report, Peek}
+use Rattle.nv_line.specs.Spelling.{Says}
+use Rattle.nv_line.specs.Lines.{IsSkipped, IsBad}
+use Rattle.nv_text.specs.Answers.{ok_line, bad_line, refused_line, word_line}
+use Rattle.nv_cli.specs.Lines.{line_limit}
+use Rattle.nv_cli.specs.Outcome.{Outcome, IsOutcome}
+use Rattle.nv_cli.specs.Texts.{recovered_text, tree_text, free_text, fault_lines_text, report_text}
+use Rattle.nv_cli.specs.Last.{status_of}
+use Rattle.nv_cli.specs.declared.last.Last.{Last}
+use Rattle.nv_cli.specs.declared.last.Last.TheVariants.{Sound, Faulty, Refused}
+
+-- What a script has made so far: a region, the region whose outcome the mount shows, the current time, and how the last
+-- recovery went.
+pub record State : Type 0 where
+  pub region : Option Region
+  pub mounted : Option Region
+  pub time : ℕ
+  pub last : Last
+
+-- before the first line
+abbrev pub first_state : State
+first_state = record { region = None; mounted = None; time = 0; last = Sound }
+
+-- the command prints this, and leaves all as it was
+abbrev pub Answers : List ℕ → State → List ℕ → State → Type 0
+Answers said old text new = (text ≡ said) × (new ≡ old)
+
+-- the command is refused by this name, and leaves all as it was
+abbrev pub IsRefusedAs : List ℕ → State → List ℕ → State → Type 0
+IsRefusedAs name old text new = Answers (refused_line name) old text new
+
+-- `time` sets the current time
+abbrev pub SetsTime : ℕ → State → List ℕ → State → Type 0
+SetsTime time old text new = (text ≡ ok_line) × (new ≡ record old { time = time })
+
+-- a region of so many blocks of zeros
+abbrev pub zeros : ℕ → Region
+zeros blocks = record { words = replicate (512 * blocks) 0; rest = [] }
+
+-- the first refusal that applies, which is no stop
+abbrev pub RefusesFormat : ℕ → ℕ → ℕ → State → List ℕ → State → Type 0
+RefusesFormat cpus blocks tables old text new = (refusal : FormatRefusal) × (refusal ≢ Stopped)
+    × IsFormatRefusal (zeros blocks) cpus tables refusal × IsRefusedAs (formats.refusal_name refusal) old text new
+
+-- zeros that were formatted at the current time; nothing is mounted
+abbrev pub MakesRegion : ℕ → ℕ → ℕ → State → List ℕ → State → Type 0
+MakesRegion cpus blocks tables old text new = (R : Region)
+    × IsFormatted (zeros blocks) R (fresh_super (zeros blocks) cpus tables) old.time
+    × (text ≡ ok_line) × (new ≡ record old { region = Some R; mounted = None })
+
+-- `format` is refused, or makes a region
+abbrev pub Formats : ℕ → ℕ → ℕ → State → List ℕ → State → Type 0
+Formats cpus blocks tables old text new = RefusesFormat cpus blocks tables old text new ⊎ MakesRegion cpus blocks tables old text new
+
+-- how a recovery with these faults went
+abbrev pub how_it_went : List Fault → Last
+how_it_went [] = Sound
+how_it_went (fault ∷ faults) = Faulty
+
+-- the region's outcome is told, and mounted
+abbrev pub Mounts : Region → State → List ℕ → State → Type 0
+Mounts R old text new = (o : Outcome) × IsOutcome R o × (text ≡ recovered_text o) × (new ≡ record old { mounted = Some R; last = how_it_went o.faults })
+
+-- the recovery is refused by this name, and nothing is mounted
+abbrev pub Unmounts : List ℕ → State → List ℕ → State → Type 0
+Unmounts name old text new = (text ≡ refused_line name) × (new ≡ record old { mounted = None; last = Refused })
+
+-- there can be so many workers
+abbrev pub is_worker_count : ℕ → Bool
+is_worker_count workers = nat_le 1 workers && nat_le workers 64
+
+-- `recover`, of the region that there is
+abbrev pub RecoversRegion : Option Region → ℕ → State → List ℕ → State → Type 0
+RecoversRegion None workers old text new = Unmounts (codes "NoRegion") old text new
+RecoversRegion (Some R) workers old text new = MatchBool (is_worker_count workers) (Mounts R old text new) (Unmounts (codes "Workers") old text new)
+
+-- `recover`: whether there is a region is tested first, then the number of workers
+abbrev pub Recovers : ℕ → State → List ℕ → State → Type 0
+Recovers workers old text new = RecoversRegion old.region workers old text new
+
+-- a text of the outcome of the mounted region
+abbrev pub ShowsMounted : Option Region → (Outcome → List ℕ) → State → List ℕ → State → Type 0
+ShowsMounted None text_of old text new = IsRefusedAs (codes "NotMounted") old text new
+ShowsMounted (Some R) text_of old text new = (o : Outcome) × IsOutcome R o × Answers (text_of o) old text new
+
+-- `tree`, `free`, `faults` and `report` show a text of the mounted outcome
+abbrev pub ShowsOutcome : (Outcome → List ℕ) → State → List ℕ → State → Type 0
+ShowsOutcome text_of old text new = ShowsMounted old.mounted text_of old text new
+
+-- a word begins at the address, and is in the region
+abbrev pub has_word : Region → ℕ → Bool
+has_word R at = (at % 8 == 0) && nat_le (at + 8) (size R)
+
+-- the word at an address of the region that there is
+abbrev pub peek_text : Option Region → ℕ → List ℕ
+peek_text None at = refused_line (codes "NoRegion")
+peek_text (Some R) at = if has_word R at then word_line (word R at) else refused_line (codes "Address")
+
+-- `peek` shows a word
+abbrev pub Peeks : ℕ → State → List ℕ → State → Type 0
+Peeks at old text new = Answers (peek_text old.region at) old text new
+
+-- What a command may print and leave.
+abbrev pub Step : State → Request → List ℕ → State → Type 0
+Step old (Format cpus blocks tables) text new = Formats cpus blocks tables old text new
+Step old (Time time) text new = SetsTime time old text new
+Step old (Recover workers) text new = Recovers workers old text new
+Step old Tree text new = ShowsOutcome tree_text old text new
+Step old Free text new = ShowsOutcome free_text old text new
+Step old Faults text new = ShowsOutcome fault_lines_text old text new
+Step old Report text new = ShowsOutcome report_text old text new
+Step old (Peek at) text new = Peeks at old text new
+
+-- what a line asks for was run
+abbrev pub Runs : List ℕ → State → List ℕ → State → Type 0
+Runs line old text new = (request : Request) × Says line request × Step old request text new
+
+-- The lines from this number on may print this text and end with this status, from a state on: a skipped line prints
+-- nothing, a command what it may print, and a bad line is the last.
+abbrev pub Shows : ℕ → State → List (List ℕ) → List ℕ → ℕ → Type 0
+Shows number old [] text status = (text ≡ []) × (status ≡ status_of old.last)
+Shows number old (line ∷ lines) text status =
+    ((length line ≤ line_limit) × IsSkipped line × Shows (number + 1) old lines text status)
+    ⊎ ((length line ≤ line_limit) × (first : List ℕ) × (rest : List ℕ) × (mid : State)
+    × Runs line old first mid × Shows (number + 1) mid lines rest status × (text ≡ first ++ rest))
+    ⊎ (IsBad line × (text ≡ bad_line number) × (status ≡ 2))
+
+-- what a whole script may print, and its exit status
+abbrev pub ShowsScript : List (List ℕ) → List ℕ → ℕ → Type 0
+ShowsScript lines text status = Shows 1 first_state lines text status

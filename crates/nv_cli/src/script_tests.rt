@@ -1,0 +1,281 @@
+//! Scripts with all that they print and their exit statuses.
+
+use super::tests::{Closing, Failing};
+use super::*;
+use nv_calls::format;
+use nv_region::MemRegion;
+use std::process::Abort;
+use std::sync::Wait;
+use std::test::Fail;
+use std::thread::Threads;
+
+// Regions of one and of more CPUs, the largest one, and one without a free block.
+const FIRST_PATH: [(&str, &str, u8); 7] = [
+    (
+        "format 64 130 1\nrecover 1\nfree\n",
+        "ok\nrecovered inodes 1 free 0 faults 0\nfree 0\nfree 1\nfree 2\nfree 3\nfree 4\nfree 5\n\
+             free 6\nfree 7\nfree 8\nfree 9\nfree 10\nfree 11\nfree 12\nfree 13\nfree 14\nfree 15\nfree 16\n\
+             free 17\nfree 18\nfree 19\nfree 20\nfree 21\nfree 22\nfree 23\nfree 24\nfree 25\nfree 26\n\
+             free 27\nfree 28\nfree 29\nfree 30\nfree 31\nfree 32\nfree 33\nfree 34\nfree 35\nfree 36\n\
+             free 37\nfree 38\nfree 39\nfree 40\nfree 41\nfree 42\nfree 43\nfree 44\nfree 45\nfree 46\n\
+             free 47\nfree 48\nfree 49\nfree 50\nfree 51\nfree 52\nfree 53\nfree 54\nfree 55\nfree 56\n\
+             free 57\nfree 58\nfree 59\nfree 60\nfree 61\nfree 62\nfree 63\n",
+        0,
+    ),
+    (
+        "format 64 65536 64\nrecover 1\nreport\n",
+        "ok\nrecovered inodes 1 free 61374 faults 0\n\
+             region version 1 cpus 64 blocks 65536 tables 64 state 0\n\
+             inode 1 dir mode 493 owner 0 group 0 size 0 links 1 time 0\n  log 4161 tail 17043488\n\
+             free 0 4162-5118\nfree 1 5119-6077\nfree 2 6078-7036\nfree 3 7037-7995\nfree 4 7996-8954\n\
+             free 5 8955-9913\nfree 6 9914-10872\nfree 7 10873-11831\nfree 8 11832-12790\n\
+             free 9 12791-13749\nfree 10 13750-14708\nfree 11 14709-15667\nfree 12 15668-16626\n\
+             free 13 16627-17585\nfree 14 17586-18544\nfree 15 18545-19503\nfree 16 19504-20462\n\
+             free 17 20463-21421\nfree 18 21422-22380\nfree 19 22381-23339\nfree 20 23340-24298\n\
+             free 21 24299-25257\nfree 22 25258-26216\nfree 23 26217-27175\nfree 24 27176-28134\n\
+             free 25 28135-29093\nfree 26 29094-30052\nfree 27 30053-31011\nfree 28 31012-31970\n\
+             free 29 31971-32929\nfree 30 32930-33888\nfree 31 33889-34847\nfree 32 34848-35806\n\
+             free 33 35807-36765\nfree 34 36766-37724\nfree 35 37725-38683\nfree 36 38684-39642\n\
+             free 37 39643-40601\nfree 38 40602-41560\nfree 39 41561-42519\nfree 40 42520-43478\n\
+             free 41 43479-44437\nfree 42 44438-45396\nfree 43 45397-46355\nfree 44 46356-47314\n\
+             free 45 47315-48273\nfree 46 48274-49232\nfree 47 49233-50191\nfree 48 50192-51150\n\
+             free 49 51151-52109\nfree 50 52110-53068\nfree 51 53069-54027\nfree 52 54028-54986\n\
+             free 53 54987-55945\nfree 54 55946-56904\nfree 55 56905-57863\nfree 56 57864-58822\n\
+             free 57 58823-59781\nfree 58 59782-60740\nfree 59 60741-61699\nfree 60 61700-62658\n\
+             free 61 62659-63617\nfree 62 63618-64576\nfree 63 64577-65535\nno faults\n",
+        0,
+    ),
+    (
+        "format 1 7 1\nformat 0 16 1\nformat 1 8 6\n",
+        "refused Length\nrefused Cpus\nrefused Tables\n",
+        0,
+    ),
+    (
+        "format 1 16 1\nrecover 1\nreport\n",
+        "ok\nrecovered inodes 1 free 12 faults 0\nregion version 1 cpus 1 blocks 16 tables 1 state 0\n\
+             inode 1 dir mode 493 owner 0 group 0 size 0 links 1 time 0\n  log 3 tail 12320\nfree 0 4-15\n\
+             no faults\n",
+        0,
+    ),
+    (
+        "time 7\nformat 1 16 1\nrecover 1\ntree\n",
+        "ok\nok\nrecovered inodes 1 free 12 faults 0\n\
+             inode 1 dir mode 493 owner 0 group 0 size 0 links 1 time 7\n  log 3 tail 12320\n",
+        0,
+    ),
+    (
+        "format 2 64 1\nrecover 1\nfree\n",
+        "ok\nrecovered inodes 1 free 58 faults 0\nfree 0 6-33\nfree 1 34-63\n",
+        0,
+    ),
+    (
+        "format 2 64 1\nrecover 1\ntree\n",
+        "ok\nrecovered inodes 1 free 58 faults 0\n\
+             inode 1 dir mode 493 owner 0 group 0 size 0 links 1 time 0\n  log 5 tail 20512\n",
+        0,
+    ),
+];
+
+// Lines that are skipped, and lines that are no command.
+const LINES: [(&str, &str, u8); 16] = [
+    ("", "", 0),
+    ("# a\n\ntime 7", "ok\n", 0),
+    ("time 18446744073709551615\n", "ok\n", 0),
+    ("time 18446744073709551616\ntime 1\n", "bad line 1\n", 2),
+    ("time 07\ntime 7\n", "bad line 1\n", 2),
+    ("time 1\n# c\n\n time 2\ntime 3\n", "ok\nbad line 4\n", 2),
+    ("tree \n", "bad line 1\n", 2),
+    ("time  1\n", "bad line 1\n", 2),
+    ("TREE\n", "bad line 1\n", 2),
+    ("recover 1\r\n", "bad line 1\n", 2),
+    ("peek -1\n", "bad line 1\n", 2),
+    ("peek +1\n", "bad line 1\n", 2),
+    ("format 1 16\n", "bad line 1\n", 2),
+    ("format 1 16 1 1\n", "bad line 1\n", 2),
+    ("create 0 /a\n", "bad line 1\n", 2),
+    (
+        "format 1 16 1\nrecover 1\n\t\nreport\n",
+        "ok\nrecovered inodes 1 free 12 faults 0\nbad line 3\n",
+        2,
+    ),
+];
+
+// Each refusal, and what it leaves.
+const REFUSALS: [(&str, &str, u8); 16] = [
+    ("recover 1\n", "refused NoRegion\n", 2),
+    ("recover 65\n", "refused NoRegion\n", 2),
+    ("peek 4\n", "refused NoRegion\n", 0),
+    (
+        "tree\nfree\nfaults\nreport\n",
+        "refused NotMounted\nrefused NotMounted\nrefused NotMounted\nrefused NotMounted\n",
+        0,
+    ),
+    ("format 1 16 1\ntree\n", "ok\nrefused NotMounted\n", 0),
+    (
+        "format 1 16 1\nrecover 0\nrecover 65\nrecover 64\n",
+        "ok\nrefused Workers\nrefused Workers\nrecovered inodes 1 free 12 faults 0\n",
+        0,
+    ),
+    (
+        "format 1 16 1\nrecover 18446744073709551615\n",
+        "ok\nrefused Workers\n",
+        2,
+    ),
+    (
+        "format 1 16 1\nrecover 1\nrecover 65\ntree\n",
+        "ok\nrecovered inodes 1 free 12 faults 0\nrefused Workers\nrefused NotMounted\n",
+        2,
+    ),
+    (
+        "format 1 16 1\nrecover 1\nrecover 0\ntime 1\nformat 1 16 1\n",
+        "ok\nrecovered inodes 1 free 12 faults 0\nrefused Workers\nok\nok\n",
+        2,
+    ),
+    (
+        "format 1 16 1\nrecover 1\nformat 1 7 1\nfree\n",
+        "ok\nrecovered inodes 1 free 12 faults 0\nrefused Length\nfree 0 4-15\n",
+        0,
+    ),
+    (
+        "format 1 16 1\nrecover 1\nformat 0 16 1\ntree\n",
+        "ok\nrecovered inodes 1 free 12 faults 0\nrefused Cpus\n\
+             inode 1 dir mode 493 owner 0 group 0 size 0 links 1 time 0\n  log 3 tail 12320\n",
+        0,
+    ),
+    (
+        "format 1 16 1\nrecover 1\nformat 1 16 1\nfree\n",
+        "ok\nrecovered inodes 1 free 12 faults 0\nok\nrefused NotMounted\n",
+        0,
+    ),
+    (
+        "format 0 0 0\nformat 0 7 0\nformat 1 65537 1\nformat 1 262145 1\n\
+             format 1 18446744073709551615 1\n",
+        "refused Length\nrefused Length\nrefused Length\nrefused Length\nrefused Length\n",
+        0,
+    ),
+    (
+        "format 0 16 0\nformat 65 16 1\nformat 18446744073709551615 16 1\n",
+        "refused Cpus\nrefused Cpus\nrefused Cpus\n",
+        0,
+    ),
+    (
+        "format 1 16 0\nformat 1 16 65\nformat 64 130 2\nformat 1 16 14\n",
+        "refused Tables\nrefused Tables\nrefused Tables\nrefused Tables\n",
+        0,
+    ),
+    ("format 1 16 13\n", "ok\n", 0),
+];
+
+// The words of a region after format: its superblock, a journal and slots, and the entry of the root.
+const WORDS: [(&str, &str, u8); 5] = [
+    (
+        "time 5\nformat 1 16 1\npeek 0\npeek 8\npeek 16\npeek 24\npeek 32\npeek 40\n",
+        "ok\nok\nword 3544417913829478222\nword 1\nword 1\nword 16\nword 1\nword 0\n",
+        0,
+    ),
+    (
+        "time 5\nformat 1 16 1\npeek 4096\npeek 4104\npeek 8192\npeek 8320\npeek 8328\npeek 8336\n\
+             peek 8344\npeek 8352\npeek 8448\n",
+        "ok\nok\nword 0\nword 0\nword 0\nword 1\nword 2\nword 12288\nword 12320\nword 5\nword 0\n",
+        0,
+    ),
+    (
+        "time 5\nformat 1 16 1\npeek 12288\npeek 12296\npeek 12304\npeek 12312\npeek 12320\n",
+        "ok\nok\nword 2117420974082\nword 0\nword 5\nword 0\nword 0\n",
+        0,
+    ),
+    (
+        "format 1 16 1\npeek 65528\npeek 65536\npeek 65532\npeek 4\npeek 18446744073709551608\n\
+             peek 18446744073709551615\n",
+        "ok\nword 0\nrefused Address\nrefused Address\nrefused Address\nrefused Address\n\
+             refused Address\n",
+        0,
+    ),
+    (
+        "format 1 16 1\nrecover 1\npeek 0\npeek 1\nfree\n",
+        "ok\nrecovered inodes 1 free 12 faults 0\nword 3544417913829478222\nrefused Address\n\
+             free 0 4-15\n",
+        0,
+    ),
+];
+
+fn check_rows<H: AllocGlobal + Abort + Threads + Wait>(
+    rt: &H,
+    rows: &[(&str, &str, u8)],
+) -> Result<(), Fail> {
+    for (script, output, status) in rows {
+        let mut out = Vec::new(rt.alloc());
+        let answer = run_script(rt, rt.alloc(), script.as_bytes(), &mut out)?;
+        assert!(rt; out.as_slice() == output.as_bytes(), "at {script:?}");
+        assert_eq!(rt; answer, *status, "at {script:?}");
+    }
+    Ok(())
+}
+
+#[test]
+fn regions_are_reported(rt: HostRuntime) -> Result<(), Fail> {
+    check_rows(&rt, &FIRST_PATH)
+}
+
+#[test]
+fn a_bad_line_ends_a_script(rt: HostRuntime) -> Result<(), Fail> {
+    check_rows(&rt, &LINES)
+}
+
+#[test]
+fn a_refusal_is_named(rt: HostRuntime) -> Result<(), Fail> {
+    check_rows(&rt, &REFUSALS)
+}
+
+#[test]
+fn words_are_where_the_format_has_them(rt: HostRuntime) -> Result<(), Fail> {
+    check_rows(&rt, &WORDS)
+}
+
+#[test]
+fn a_line_of_more_than_4096_bytes_is_bad(rt: HostRuntime) -> Result<(), Fail> {
+    for (count, output, status) in [(4096, "ok\n", 0), (4097, "bad line 1\n", 2)] {
+        let mut script = vec![in rt.alloc(); b'#'; count]?;
+        script.extend_from_slice(b"\ntime 1\n")?;
+        let mut out = Vec::new(rt.alloc());
+        assert_eq!(rt;
+            run_script(&rt, rt.alloc(), script.as_slice(), &mut out)?,
+            status
+        );
+        assert!(rt; out.as_slice() == output.as_bytes());
+    }
+    Ok(())
+}
+
+#[test]
+fn a_reader_that_fails_keeps_the_output_of_the_lines_before(rt: HostRuntime) {
+    let reader = Failing::new(b"time 1\nformat 1 16 1\nrecov");
+    let mut out = Vec::new(rt.alloc());
+    let answer = run_script(&rt, rt.alloc(), reader, &mut out);
+    assert!(rt; answer == Err(ScriptError::Read));
+    assert!(rt; out.as_slice() == b"ok\nok\n".as_slice());
+}
+
+#[test]
+fn a_writer_that_closes_has_the_front(rt: HostRuntime) {
+    let mut out = Closing::new(rt.alloc(), 12);
+    let script = b"format 1 16 1\nrecover 1\nreport\n".as_slice();
+    let answer = run_script(&rt, rt.alloc(), script, &mut out);
+    assert!(rt; answer == Err(ScriptError::Write));
+    assert!(rt; out.taken() == b"ok\nrecovered".as_slice());
+}
+
+#[test]
+fn a_fresh_region_is_recovered(rt: HostRuntime) -> Result<(), Fail> {
+    let Ok(mut memory) = MemRegion::new(rt.alloc(), 16) else {
+        return Ok(());
+    };
+    assert!(rt; format(&mut memory, 1, 1, 7).is_ok());
+    let Ok(recovered) = recover_one(rt.alloc(), &mut memory) else {
+        return Ok(());
+    };
+    assert!(rt; recovered.sup.blocks == 16);
+    assert!(rt; recovered.rows.len() == 1 && recovered.rows[0].head == 12288);
+    assert!(rt; recovered.free.len() == 1 && recovered.faults.is_empty());
+    Ok(())
+}
