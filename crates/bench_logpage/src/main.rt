@@ -1,0 +1,190 @@
+//! Measures the reading of one log: builds a log of as many pages as the first argument says, each with as many
+//! entries of 32 bytes as the second says and a next-page entry behind them, and reads it whole and one finding at a
+//! time. It prints the seconds on standard error, and what it counted on standard output.
+#![tactic(auto)]
+
+ghost use Rattle.std.specs.Prelude.{◌≡◌, ◌≤◌, ◌<◌, ◌+◌, ◌*◌, ◌%◌, IsTrue};
+ghost use Rattle.nv_region.specs.Region.{HasBlocks};
+ghost use Rattle.nv_super.specs.Layout.{HasAreas, is_page_start};
+
+use nv_logpage::{Finding, LogReader, walk};
+use nv_region::{MemRegion, Pmem, Stopped};
+use nv_super::Super;
+use std::alloc::{AllocError, Global};
+use std::rt::Clock;
+use std::time::Instant;
+use std::{env, io};
+
+/// The superblock, one journal and one block of the table stand before the log.
+const FIRST_BLOCK: u64 = 3;
+
+const HEAD: u64 = 12288;
+
+/// The first word of an attributes entry, whose other words are zeros.
+const ATTR: u64 = 493 * 4294967296 + 32 * 65536 + 2;
+
+/// The word of a next-page entry.
+const NEXT_PAGE: u64 = 524288;
+
+const MOST_PAGES: u64 = 200_000;
+
+const MOST_ENTRIES: u64 = 126;
+
+/// What was read.
+#[derive(Clone, Copy)]
+struct Counts {
+    pages: usize,
+    entries: usize,
+    ended: bool,
+}
+
+fn numbers_of(pages: u64) -> Super
+    requires some { 0 < pages }
+    requires most { pages ≤ 200000 }
+    ensures areas { HasAreas result }
+    ensures blocks { result.blocks ≡ pages + 3 }
+    ensures head { IsTrue (is_page_start result 12288) }
+{
+    Super {
+        version: 1,
+        cpus: 1,
+        blocks: pages + FIRST_BLOCK,
+        table_blocks: 1,
+        state: 0,
+    }
+}
+
+fn store(memory: &mut MemRegion, blocks: u64, at: u64, word: u64) -> Result<(), Stopped>
+    requires aligned { at % 8 ≡ 0 }
+    requires inside { at + 8 ≤ 4096 * blocks }
+    requires blocks { HasBlocks memory.old.region blocks }
+    ensures { HasBlocks memory.new.region blocks }
+{
+    memory.store(at, word)
+}
+
+/// Stores a page of the log, with its link to the next block.
+fn store_page(memory: &mut MemRegion, blocks: u64, page: u64, entries: u64) -> Result<(), Stopped>
+    requires page { page < blocks }
+    requires few { blocks ≤ 262144 }
+    requires entries { entries ≤ 126 }
+    requires blocks { HasBlocks memory.old.region blocks }
+    ensures { HasBlocks memory.new.region blocks }
+{
+    let start = page * 4096;
+    for k in 0..entries {
+        store(memory, blocks, start + 32 * k, ATTR)?;
+    }
+    store(memory, blocks, start + 32 * entries, NEXT_PAGE)?;
+    store(memory, blocks, start + 4064, start + 4096)
+}
+
+fn store_log(memory: &mut MemRegion, blocks: u64, entries: u64) -> Result<(), Stopped>
+    requires few { blocks ≤ 262144 }
+    requires entries { entries ≤ 126 }
+    requires blocks { HasBlocks memory.old.region blocks }
+    ensures { HasBlocks memory.new.region blocks }
+{
+    for page in FIRST_BLOCK..blocks {
+        store_page(memory, blocks, page, entries)?;
+    }
+    Ok(())
+}
+
+fn read_whole(
+    alloc: Global,
+    memory: &MemRegion,
+    numbers: &Super,
+    tail: u64,
+) -> Result<Counts, AllocError>
+    requires areas { HasAreas numbers.now }
+    requires blocks { HasBlocks memory.now.region numbers.now.blocks }
+    requires head { IsTrue (is_page_start numbers.now 12288) }
+{
+    let read = walk(alloc, memory, numbers, HEAD, tail)?;
+    Ok(Counts {
+        pages: read.pages.len(),
+        entries: read.entries.len(),
+        ended: read.fault.is_none(),
+    })
+}
+
+fn read_by_findings(
+    alloc: Global,
+    memory: &MemRegion,
+    numbers: &Super,
+    tail: u64,
+) -> Result<Counts, AllocError>
+    requires areas { HasAreas numbers.now }
+    requires blocks { HasBlocks memory.now.region numbers.now.blocks }
+    requires head { IsTrue (is_page_start numbers.now 12288) }
+{
+    let mut reader = LogReader::new(alloc, numbers, HEAD, tail)?;
+    let mut entries: usize = 0;
+    'reading: loop {
+        match reader.next(memory)? {
+            Finding::Entry(_) => entries = entries.wrapping_add(1),
+            Finding::Page(_) => {}
+            Finding::End(fault) => {
+                return Ok(Counts {
+                    pages: reader.pages().len(),
+                    entries,
+                    ended: fault.is_none(),
+                });
+            }
+        }
+    }
+}
+
+fn measure<R: AllocGlobal + Print + Eprint + Clock>(
+    rt: &R,
+    pages: u64,
+    entries: u64,
+) -> io::Result<()>
+    requires some { 0 < pages }
+    requires most { pages ≤ 200000 }
+    requires entries { entries ≤ 126 }
+{
+    let numbers = numbers_of(pages);
+    let Ok(mut memory) = MemRegion::new(rt.alloc(), numbers.blocks) else {
+        return eprintln!(rt; "no memory");
+    };
+    if store_log(&mut memory, numbers.blocks, entries).is_err() {
+        return eprintln!(rt; "stopped");
+    }
+    let tail = (numbers.blocks - 1) * 4096 + 32 * entries;
+
+    let start = Instant::now(rt)?;
+    let whole = read_whole(rt.alloc(), &memory, &numbers, tail)?;
+    eprintln!(rt; "walk     {:.3}", start.elapsed(rt)?.as_secs_f64())?;
+
+    let start = Instant::now(rt)?;
+    let found = read_by_findings(rt.alloc(), &memory, &numbers, tail)?;
+    eprintln!(rt; "findings {:.3}", start.elapsed(rt)?.as_secs_f64())?;
+
+    println!(rt;
+        "walk: {} pages {} entries at the tail {}",
+        whole.pages, whole.entries, whole.ended
+    )?;
+    println!(rt;
+        "findings: {} pages {} entries at the tail {}",
+        found.pages, found.entries, found.ended
+    )
+}
+
+fn number_of(text: Option<String>) -> Option<u64> {
+    text.and_then(|text| text.as_str().parse::<u64>().ok())
+}
+
+fn main(rt: HostRuntime) -> io::Result<()> {
+    let mut words = env::args(&rt)?.skip(1);
+    let pages = number_of(words.next());
+    let entries = number_of(words.next());
+    match (pages, entries) {
+        (Some(pages), Some(entries))
+            if pages > 0 && pages <= MOST_PAGES && entries <= MOST_ENTRIES => {
+            measure(&rt, pages, entries)
+        }
+        _ => eprintln!(rt; "usage: bench_logpage PAGES ENTRIES"),
+    }
+}

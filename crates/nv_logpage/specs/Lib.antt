@@ -1,0 +1,9 @@
+pub mod Reads
+pub mod Steps
+pub mod Grows
+pub mod Visited
+pub mod Noted
+pub mod Progress
+pub mod Reading
+pub mod DataBlocks
+pub mod Good

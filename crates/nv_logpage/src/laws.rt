@@ -1,0 +1,43 @@
+//! Laws of reading a log.
+
+ghost use Rattle.std.specs.Prelude.{◌≡◌, List, ◌++◌, ℕ, ◌≤◌, ◌%◌, Option, None, IsTrue};
+ghost use Rattle.std.specs.List.{Contains};
+ghost use Rattle.nv_region.specs.Region.{Region};
+ghost use Rattle.nv_logpage.specs.Grows.{SamePage, GoesPast};
+ghost use Rattle.nv_logpage.specs.DataBlocks.{AreDataBlocks};
+ghost use Rattle.nv_logpage.specs.Reads.{Reads, ReadsOn};
+ghost use Rattle.nv_inode.specs.Slot.{is_right_log};
+ghost use Rattle.nv_super.specs.Layout.{is_page_start};
+ghost use Rattle.nv_super.specs.declared.superblock.Super.{Super as SuperValue};
+ghost use Rattle.nv_logpage.specs.declared.found.Placed.{Placed as PlacedValue};
+ghost use Rattle.nv_logpage.specs.declared.found.LogEnd.{LogEnd as EndValue};
+
+/// A log is read in one way.
+pub fn reads_once()
+    ensures { (region : Region) (s : SuperValue) (head tail : ℕ) (es fs : List PlacedValue) (pages others : List ℕ) (x y : Option EndValue)
+        → Reads region s head tail es pages x → Reads region s head tail fs others y → (es ≡ fs) × (pages ≡ others) × (x ≡ y) }
+{}
+
+/// Regions with the same words in all pages of a log have the same log.
+pub fn reads_its_pages_alone()
+    ensures { (region other : Region) (s : SuperValue) (head tail : ℕ) (es : List PlacedValue) (pages : List ℕ) (x : Option EndValue)
+        → IsTrue (is_page_start s head) → ((b : ℕ) → Contains pages b → SamePage region other b) → Reads region s head tail es pages x → Reads other s head tail es pages x }
+{}
+
+/// A log whose tail moved on is the log as it was, and then what follows from the old tail on.
+pub fn reads_on_from_the_tail()
+    ensures { (region other : Region) (s : SuperValue) (head tail new : ℕ) (es more : List PlacedValue) (pages all : List ℕ) (x : Option EndValue)
+        → IsTrue (is_page_start s head) → tail % 4096 ≤ 4064 → GoesPast region other tail new pages
+        → Reads region s head tail es pages None → ReadsOn other s new pages tail more all x → Reads other s head new (es ++ more) all x }
+{}
+
+/// The pages of a log are data blocks, each once.
+pub fn log_pages_are_data_blocks()
+    ensures { (region : Region) (s : SuperValue) (head tail : ℕ) (es : List PlacedValue) (pages : List ℕ) (x : Option EndValue)
+        → IsTrue (is_page_start s head) → Reads region s head tail es pages x → AreDataBlocks s pages }
+{}
+
+/// The right head and tail of an inode in use meet what reading its log asks for.
+pub fn right_logs_can_be_read()
+    ensures { (s : SuperValue) (head tail : ℕ) → IsTrue (is_right_log s head tail) → IsTrue (is_page_start s head) × (tail % 8 ≡ 0) × (tail % 4096 ≤ 4064) }
+{}

@@ -1,0 +1,25 @@
+//! The log pages of an inode: reading a log from its head to its tail, or to the first fault on the way.
+//!
+//! A log is a chain of pages. Its entries stand in each page one after the other, and the last word of a page's
+//! entries, at offset 4064, leads to the next page. What lies past the tail is no part of the log (FAST 2016): the
+//! tail alone commits what was appended. A damaged region may hold anything in its pages, so a reading ends at the
+//! tail or at a named fault, and it always ends.
+#![tactic(auto)]
+
+mod found;
+mod laws;
+mod looking;
+mod pages;
+mod reader;
+mod walking;
+
+pub use found::{Finding, LogEnd, LogFault, Placed, Walk};
+pub use laws::{
+    log_pages_are_data_blocks, reads_its_pages_alone, reads_on_from_the_tail, reads_once,
+    right_logs_can_be_read,
+};
+pub use reader::LogReader;
+pub use walking::walk;
+
+#[cfg(test)]
+mod tests;

@@ -1,0 +1,330 @@
+//! Logs in a small region, written word by word: their pages, entries and ends.
+
+ghost use Rattle.std.specs.Prelude.{◌≡◌, IfOk};
+ghost use Rattle.nv_region.specs.Region.{HasBlocks};
+
+use crate::{
+    Finding, LogEnd, LogFault, LogReader, Placed, Walk, log_pages_are_data_blocks,
+    reads_its_pages_alone, reads_on_from_the_tail, reads_once, right_logs_can_be_read, walk,
+};
+use nv_entry::{AttrEntry, Entry};
+use nv_region::{MemRegion, Pmem};
+use nv_super::Super;
+use std::alloc::Global;
+use std::process::Abort;
+use std::test::Fail;
+
+/// One CPU, 16 blocks, one table block: the data blocks are 3 to 15.
+const SMALL: Super = Super {
+    version: 1,
+    cpus: 1,
+    blocks: 16,
+    table_blocks: 1,
+    state: 0,
+};
+
+/// The start of block 3, where each log begins.
+const HEAD: u64 = 12288;
+
+/// The first word of an attributes entry of mode 493, whose other words are zeros. It takes 32 bytes.
+const ATTR: u64 = 493 * 4294967296 + 32 * 65536 + 2;
+
+/// The word of a next-page entry.
+const NEXT_PAGE: u64 = 524288;
+
+/// A word at its address.
+type Word = (u64, u64);
+
+#[derive(Clone, Copy)]
+struct Case<'a> {
+    name: &'a str,
+    words: &'a [Word],
+    tail: u64,
+    pages: &'a [u64],
+    entries: &'a [u64],
+    fault: Option<LogEnd>,
+}
+
+/// A region of zeros but for these words.
+fn region(alloc: Global, words: &[Word]) -> Result<MemRegion, Fail>
+    ensures { IfOk result (λ m. HasBlocks m.region 16) }
+{
+    let mut memory = MemRegion::new(alloc, 16)?;
+    for (at, word) in words {
+        store(&mut memory, *at, *word)?;
+    }
+    Ok(memory)
+}
+
+fn store(memory: &mut MemRegion, at: u64, word: u64) -> Result<(), Fail>
+    requires { HasBlocks memory.old.region 16 }
+    ensures { HasBlocks memory.new.region 16 }
+{
+    if at % 8 == 0 && at < 65536 {
+        memory.store(at, word)?;
+    }
+    Ok(())
+}
+
+fn fault(fault: LogFault, at: u64) -> Option<LogEnd> {
+    Some(LogEnd { fault, at })
+}
+
+fn attr_at(at: u64) -> Placed {
+    let entry = Entry::Attr(AttrEntry {
+        mode: 493,
+        size: 0,
+        time: 0,
+        owner: 0,
+        group: 0,
+    });
+    Placed { at, entry }
+}
+
+/// Reads a log one finding at a time.
+fn read_by_findings(alloc: Global, memory: &MemRegion, tail: u64) -> Result<Walk, Fail>
+    requires { HasBlocks memory.now.region 16 }
+{
+    let mut reader = LogReader::new(alloc, &SMALL, HEAD, tail)?;
+    let mut entries = Vec::new(alloc);
+    for _ in 0..1000 {
+        match reader.next(memory)? {
+            Finding::Entry(placed) => entries.push(placed)?,
+            Finding::Page(address) => {
+                if reader.place() != address || reader.pages().last() != Some(&(address / 4096)) {
+                    return Err("the page that was turned to is the last".into());
+                }
+            }
+            Finding::End(fault) => {
+                return Ok(Walk {
+                    pages: reader.into_pages(),
+                    entries,
+                    fault,
+                });
+            }
+        }
+    }
+    Err("the log ends".into())
+}
+
+/// Reads the log of a case whole and one finding at a time, and compares both.
+fn is_read(alloc: Global, rt: &impl Abort, case: &Case) -> Result<(), Fail> {
+    let memory = region(alloc, case.words)?;
+    let name = case.name;
+    let read = walk(alloc, &memory, &SMALL, HEAD, case.tail)?;
+    assert!(rt; read.pages.as_slice() == case.pages, "the pages of {name}");
+    assert_eq!(rt;
+        read.entries.len(),
+        case.entries.len(),
+        "the entries of {name}"
+    );
+    for (placed, at) in read.entries.iter().zip(case.entries) {
+        assert!(rt; *placed == attr_at(*at), "the entry at {at} of {name}");
+    }
+    assert_eq!(rt; read.fault, case.fault, "the end of {name}");
+    let again = read_by_findings(alloc, &memory, case.tail)?;
+    assert!(rt; again == read, "the findings of {name}");
+    Ok(())
+}
+
+#[test]
+fn logs_end_at_their_tails(rt: HostRuntime) -> Result<(), Fail> {
+    let cases = [
+        Case {
+            name: "a log of no entry",
+            words: &[],
+            tail: HEAD,
+            pages: &[3],
+            entries: &[],
+            fault: None,
+        },
+        Case {
+            name: "a new root's log",
+            words: &[(12288, ATTR)],
+            tail: 12320,
+            pages: &[3],
+            entries: &[12288],
+            fault: None,
+        },
+        Case {
+            name: "an entry past the tail",
+            words: &[(12288, ATTR), (12320, ATTR)],
+            tail: 12320,
+            pages: &[3],
+            entries: &[12288],
+            fault: None,
+        },
+        Case {
+            name: "a page linked past the tail",
+            words: &[(12288, ATTR), (12320, NEXT_PAGE), (16352, 16384)],
+            tail: 12320,
+            pages: &[3],
+            entries: &[12288],
+            fault: None,
+        },
+        Case {
+            name: "a log over two pages",
+            words: &[
+                (12288, ATTR),
+                (12320, NEXT_PAGE),
+                (16352, 20480),
+                (20480, ATTR),
+                (20512, ATTR),
+            ],
+            tail: 20544,
+            pages: &[3, 5],
+            entries: &[12288, 20480, 20512],
+            fault: None,
+        },
+    ];
+    for case in &cases {
+        is_read(rt.alloc(), &rt, case)?;
+    }
+    Ok(())
+}
+
+#[test]
+fn a_log_ends_at_its_first_fault(rt: HostRuntime) -> Result<(), Fail> {
+    let cases = [
+        Case {
+            name: "a ring",
+            words: &[
+                (12288, ATTR),
+                (12320, NEXT_PAGE),
+                (16352, 16384),
+                (16384, NEXT_PAGE),
+                (20448, 12288),
+            ],
+            tail: 20488,
+            pages: &[3, 4],
+            entries: &[12288],
+            fault: fault(LogFault::L2, 20448),
+        },
+        Case {
+            name: "zeros before the tail",
+            words: &[(12288, ATTR)],
+            tail: 16352,
+            pages: &[3],
+            entries: &[12288],
+            fault: fault(LogFault::L3, 12320),
+        },
+        Case {
+            name: "a next-page entry in the tail's page",
+            words: &[(12288, ATTR), (12320, NEXT_PAGE), (16352, 16384)],
+            tail: 12328,
+            pages: &[3],
+            entries: &[12288],
+            fault: fault(LogFault::L4, 12320),
+        },
+        Case {
+            name: "an entry that ends past the tail",
+            words: &[(12288, ATTR), (12320, ATTR)],
+            tail: 12336,
+            pages: &[3],
+            entries: &[12288],
+            fault: fault(LogFault::L4, 12320),
+        },
+        Case {
+            name: "a link to a system block",
+            words: &[(12288, ATTR), (12320, NEXT_PAGE), (16352, 8192)],
+            tail: 20488,
+            pages: &[3],
+            entries: &[12288],
+            fault: fault(LogFault::L1, 16352),
+        },
+        Case {
+            name: "a link into the middle of a page",
+            words: &[(12288, NEXT_PAGE), (16352, 16392)],
+            tail: 20488,
+            pages: &[3],
+            entries: &[],
+            fault: fault(LogFault::L1, 16352),
+        },
+        Case {
+            name: "a link behind the region",
+            words: &[(12288, NEXT_PAGE), (16352, 65536)],
+            tail: 20488,
+            pages: &[3],
+            entries: &[],
+            fault: fault(LogFault::L1, 16352),
+        },
+    ];
+    for case in &cases {
+        is_read(rt.alloc(), &rt, case)?;
+    }
+    Ok(())
+}
+
+#[test]
+fn a_full_page_leads_on_by_its_link_alone(rt: HostRuntime) -> Result<(), Fail> {
+    let mut words = [(16352, 16384); 128];
+    let mut places = [0; 127];
+    for k in 0..127 {
+        let at = HEAD + 32 * k as u64;
+        words[k] = (at, ATTR);
+        places[k] = at;
+    }
+    let full = Case {
+        name: "a full page up to its link",
+        words: &words,
+        tail: 16352,
+        pages: &[3],
+        entries: &places,
+        fault: None,
+    };
+    is_read(rt.alloc(), &rt, &full)?;
+    let linked = Case {
+        name: "a full page and an empty one",
+        tail: 16384,
+        pages: &[3, 4],
+        ..full
+    };
+    is_read(rt.alloc(), &rt, &linked)
+}
+
+fn finds(
+    rt: &impl Abort,
+    reader: &mut LogReader,
+    memory: &MemRegion,
+    wanted: Finding,
+) -> Result<(), Fail>
+    requires { HasBlocks memory.now.region reader.old.numbers.blocks }
+    ensures { reader.new.numbers ≡ reader.old.numbers }
+{
+    let found = reader.next(memory)?;
+    assert!(rt; found == wanted, "{found:?} is found");
+    Ok(())
+}
+
+#[test]
+fn a_reader_goes_on_to_another_log(rt: HostRuntime) -> Result<(), Fail> {
+    let words = [
+        (12288, NEXT_PAGE),
+        (16352, 16384),
+        (16384, ATTR),
+        (16416, ATTR),
+    ];
+    let memory = region(rt.alloc(), &words)?;
+    let mut reader = LogReader::new(rt.alloc(), &SMALL, HEAD, 16416)?;
+    finds(&rt, &mut reader, &memory, Finding::Page(16384))?;
+    finds(&rt, &mut reader, &memory, Finding::Entry(attr_at(16384)))?;
+    finds(&rt, &mut reader, &memory, Finding::End(None))?;
+    finds(&rt, &mut reader, &memory, Finding::End(None))?;
+    assert_eq!(rt; reader.pages(), [3, 4].as_slice());
+    // The last log's pages are this one's to read again.
+    reader.restart(HEAD, 16448);
+    assert_eq!(rt; reader.pages(), [3].as_slice());
+    finds(&rt, &mut reader, &memory, Finding::Page(16384))?;
+    finds(&rt, &mut reader, &memory, Finding::Entry(attr_at(16384)))?;
+    finds(&rt, &mut reader, &memory, Finding::Entry(attr_at(16416)))?;
+    finds(&rt, &mut reader, &memory, Finding::End(None))
+}
+
+#[test]
+fn the_laws_hold(_rt: HostRuntime) {
+    reads_once();
+    reads_its_pages_alone();
+    reads_on_from_the_tail();
+    log_pages_are_data_blocks();
+    right_logs_can_be_read();
+}
