@@ -1,15 +1,14 @@
 -- The free blocks of a region that format left are no more than its blocks, and each part of their sum is within the sum.
-use Rattle.std.proofs.Common.{◌≡◌, ℕ, zero, suc, ◌+◌, ◌-◌, ◌<◌, ◌≤◌, inl, inr, List, [], ◌∷◌, length, get_or, take, map, Some, refl, ap, sym, ◌∙◌, subst, arith}
+use Rattle.std.proofs.Common.{◌≡◌, ℕ, suc, ◌+◌, ◌-◌, ◌<◌, ◌≤◌, inl, inr, List, [], ◌∷◌, length, get_or, take, map, Some, refl, ap, subst, arith}
 use Rattle.std.specs.Prelude.{slice_get, sum_by}
 use Rattle.std.specs.List.{Contains}
 use Rattle.std.proofs.lemmas.List.Sums.{sum_by_more_le, sum_by-cons}
 use Rattle.nv_region.specs.Region.{Region}
 use Rattle.nv_super.proofs.Rising.{Contains-cons, Contains-head, Contains-tail}
 use Rattle.nv_super.proofs.Pools.{pools_rise, pools_end}
-use Rattle.nv_super.specs.Layout.{InPool, IsLayout, pool_start, system_blocks}
+use Rattle.nv_super.specs.Layout.{IsLayout, pool_start}
 use Rattle.nv_super.specs.Runs.{Apart, AreRuns}
 use Rattle.nv_super.specs.declared.owners.Run.{Run}
-use Rattle.nv_super.specs.declared.superblock.Super.{Super}
 use Rattle.nv_cli.specs.Outcome.{Outcome, IsFresh, IsOutcome, run_blocks, free_blocks}
 use Rattle.nv_cli.proofs.Fresh.{one_super}
 

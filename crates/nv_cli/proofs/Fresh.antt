@@ -1,11 +1,10 @@
 -- What a region that format left holds.
-use Rattle.std.proofs.Common.{◌≡◌, ℕ, ◌+◌, ◌*◌, ◌/◌, ◌%◌, ◌^◌, ◌<◌, ◌≤◌, Bool, true, subst, ap, sym, ◌∙◌, arith, refl}
-use Rattle.nv_region.specs.Region.{Region, HasBlocks, size, word}
-use Rattle.nv_super.specs.Layout.{system_blocks, slot_address, IsLayout}
+use Rattle.std.proofs.Common.{◌≡◌, ◌+◌, ◌*◌, ◌^◌, ◌<◌, ◌≤◌, subst, ap, sym, ◌∙◌, arith}
+use Rattle.nv_region.specs.Region.{Region, HasBlocks, size}
+use Rattle.nv_super.specs.Layout.{system_blocks, IsLayout}
 use Rattle.nv_super.specs.Super.{IsSuper}
 use Rattle.nv_super.specs.declared.superblock.Super.{Super}
 use Rattle.nv_inode.specs.declared.slot.Slot.{Slot}
-use Rattle.nv_calls.specs.Format.{IsFormatted, root_page}
 use Rattle.nv_cli.specs.Outcome.{IsFresh, root_slot_of}
 
 -- a region has one superblock

@@ -3,6 +3,7 @@ pub mod Pieces
 pub mod Fresh
 pub mod Pushed
 pub mod FreeBlocks
+pub mod OneOutcome
 pub mod LineLemmas
 pub mod StreamLemmas
 pub mod Progress

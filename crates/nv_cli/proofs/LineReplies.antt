@@ -1,6 +1,6 @@
 -- What the answer to a line says of the lines that are reached: `number` is the line's number, and `state` and `mid` are
 -- the states before and after it.
-use Rattle.std.proofs.Common.{◌≡◌, ℕ, ◌+◌, List, [], ◌∷◌, ◌++◌, Option, refl, inl, inr, subst, ap, sym, ◌∙◌, append-nil, string_bytes}
+use Rattle.std.proofs.Common.{◌≡◌, ℕ, ◌+◌, List, [], Option, refl, inl, inr, subst, ap, sym, ◌∙◌, append-nil, string_bytes}
 use Rattle.std.specs.Prelude.{String}
 use Rattle.std.specs.declared.alloc.Global.{Global}
 use Rattle.std.specs.Io.KnownBytes.{Appends}

@@ -1,5 +1,5 @@
 -- A fact of each element of a list, after one more.
-use Rattle.std.proofs.Common.{◌≡◌, ℕ, zero, suc, ◌+◌, List, [], ◌∷◌, ◌++◌, length, map, Option, Some, None, subst, sym}
+use Rattle.std.proofs.Common.{◌≡◌, ℕ, zero, suc, List, [], ◌∷◌, ◌++◌, length, map, Some, subst}
 use Rattle.std.specs.Prelude.{slice_get}
 
 pub each-push : {A B : Type 0} (f : A → B) (P : ℕ → B → Type 0) (xs : List A) (x : A) → ((k : ℕ) (y : B) → slice_get (map f xs) k ≡ Some y → P k y) → P (length xs) (f x)

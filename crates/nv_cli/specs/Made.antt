@@ -1,5 +1,5 @@
 -- What making a region may answer, and what a mount may hold.
-use Rattle.std.specs.Prelude.{◌≡◌, ◌≢◌, IsTrue, ℕ, Option, Some, None, ⊤}
+use Rattle.std.specs.Prelude.{◌≢◌, IsTrue, ℕ, Option, Some, None, ⊤}
 use Rattle.nv_region.specs.Region.{Region}
 use Rattle.nv_region.specs.RegionState.{is_steady}
 use Rattle.nv_calls.specs.Format.{IsFormatRefusal, IsFormatted, fresh_super}

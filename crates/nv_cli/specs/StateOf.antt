@@ -1,5 +1,5 @@
 -- The state that a session stands for.
-use Rattle.std.specs.Prelude.{Option, Some, None, option_map, option_and_then}
+use Rattle.std.specs.Prelude.{Option, option_map, option_and_then}
 use Rattle.nv_region.specs.Region.{Region}
 use Rattle.nv_cli.specs.Machine.{State}
 use Rattle.nv_cli.specs.Stores.{IsSoundStore}

@@ -22,6 +22,6 @@ mod writing;
 
 pub use fault::ScriptError;
 pub use reading::{LINE_LIMIT, Next, read_line};
-pub use recover::{RecoverError, Recovered, Row, recover_one};
+pub use recover::{RecoverError, Recovered, Row, one_outcome, recover_one};
 pub use script::run_script;
 pub use writing::write_text;

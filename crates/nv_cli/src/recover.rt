@@ -5,11 +5,11 @@
 //! of the superblock, a row for the root, the free runs, and no fault. It stores nothing.
 
 ghost use Rattle.std.specs.Prelude.{◌≡◌, ◌≢◌, ◌≤◌, ◌<◌, ◌+◌, ◌%◌, ◌^◌, ℕ, List, IfOk, IfErr, OnOk, length, map, Some, slice_get, ◌++◌};
-ghost use Rattle.nv_region.specs.Region.{HasBlocks, size};
+ghost use Rattle.nv_region.specs.Region.{Region, HasBlocks, size};
 ghost use Rattle.nv_region.specs.Stops.{NoneAdded, StaysSteady};
 ghost use Rattle.nv_super.specs.Layout.{IsLayout, InPool};
 ghost use Rattle.nv_super.specs.Runs.{AreRuns};
-ghost use Rattle.nv_cli.specs.Outcome.{IsFresh, IsOutcome, lone_entry_row};
+ghost use Rattle.nv_cli.specs.Outcome.{Outcome, IsFresh, IsOutcome, lone_entry_row};
 ghost use Rattle.nv_cli.specs.Recovered.{row_value, outcome_of};
 ghost use Rattle.nv_cli.specs.Pieces.{piece};
 
@@ -113,6 +113,11 @@ pub fn recover_one<P: Pmem>(alloc: Global, memory: &mut P) -> Result<Recovered, 
         faults: Vec::new(alloc),
     })
 }
+
+/// A region has one outcome, so what a recovery answers is a function of the region.
+pub fn one_outcome()
+    ensures { (R : Region) (a b : Outcome) → IsOutcome R a → IsOutcome R b → a ≡ b }
+{}
 
 // The row of a directory whose log is one attributes entry.
 fn lone_entry_row<P: Pmem>(

@@ -279,3 +279,33 @@ fn a_fresh_region_is_recovered(rt: HostRuntime) -> Result<(), Fail> {
     assert!(rt; recovered.free.len() == 1 && recovered.faults.is_empty());
     Ok(())
 }
+
+// What the first lines of a script print, for each number of lines.
+const FRONTS: [&str; 4] = [
+    "",
+    "ok\n",
+    "ok\nrecovered inodes 1 free 58 faults 0\n",
+    "ok\nrecovered inodes 1 free 58 faults 0\nfree 0 6-33\nfree 1 34-63\n",
+];
+
+// Where an allocation is made to fail, the script ends with `Memory` after whole lines, or the allocation wasn't needed.
+#[test]
+fn want_of_memory_prints_whole_answers_alone(rt: HostRuntime) {
+    let Ok(mut out) = Vec::with_capacity(rt.alloc(), 256) else {
+        return;
+    };
+    let script = b"format 2 64 1\nrecover 1\nfree\n".as_slice();
+    let answer = run_script(&rt, rt.alloc(), script, &mut out);
+    let all = out.as_slice() == FRONTS[3].as_bytes();
+    match answer {
+        Ok(status) => assert!(rt; status == 0 && all),
+        Err(error) => {
+            assert!(rt; error == ScriptError::Memory);
+            assert!(rt;
+                FRONTS
+                    .iter()
+                    .any(|front| out.as_slice() == front.as_bytes())
+            );
+        }
+    }
+}

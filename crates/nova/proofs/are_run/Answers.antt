@@ -1,5 +1,5 @@
 -- Of a list with one word the word decides.
-use Rattle.std.proofs.Common.{◌≡◌, ◌↔◌, ◌∙◌, [], ◌∷◌, IsTrue, map, codes, string_bytes, ℕ, ◌<◌, ◌≤◌, length, Bool, true, List, get_or, ap, sym, arith}
+use Rattle.std.proofs.Common.{◌≡◌, ◌↔◌, ◌∙◌, [], ◌∷◌, IsTrue, map, codes, string_bytes, ℕ, ◌<◌, ◌≤◌, length, Bool, List, get_or, ap, sym, arith}
 use Rattle.std.specs.Prelude.{bytes_eq}
 use Rattle.std.proofs.lemmas.Slice.Eq.{bytes_eq-Decides}
 use Rattle.nova.proofs.are_run.Goals as goal

@@ -1,5 +1,4 @@
-use Rattle.std.proofs.Common.{◌≡◌, ◌≢◌, ◌+◌, ◌<◌, ◌≤◌, ℕ, length, rules, sym}
-use Rattle.std.proofs.lemmas.List.{length_push}
+use Rattle.std.proofs.Common.{◌≢◌, rules}
 use Rattle.nv_super.specs.Layout.{InPool}
 use Rattle.nv_super.specs.Runs.{AreRuns}
 use Rattle.nv_cli.proofs.Pushed.{each-push}

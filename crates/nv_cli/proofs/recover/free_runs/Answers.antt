@@ -1,5 +1,4 @@
-use Rattle.std.proofs.Common.{◌≡◌, ◌≢◌, ◌<◌, ◌≤◌, ◌++◌, ap, ◌∙◌, arith}
-use Rattle.nv_super.specs.Runs.{AreRuns}
+use Rattle.std.proofs.Common.{◌≡◌, ◌++◌, ap, ◌∙◌, arith}
 use Rattle.nv_cli.specs.Pieces.{piece}
 use Rattle.nv_cli.proofs.Pieces.{runs_around}
 use Rattle.nv_cli.proofs.recover.free_runs.Goals as goal

@@ -1,4 +1,4 @@
-use Rattle.std.proofs.Common.{◌<◌, subst, sym, arith}
+use Rattle.std.proofs.Common.{subst, sym, arith}
 use Rattle.nv_cli.specs.Outcome.{IsFresh}
 use Rattle.nv_cli.specs.Recovered.{outcome_of}
 use Rattle.nv_cli.proofs.FreeBlocks.{free_few}

@@ -1,4 +1,4 @@
-use Rattle.std.proofs.Common.{◌<◌, ◌+◌, ap, arith, rules}
+use Rattle.std.proofs.Common.{ap, arith}
 use Rattle.nv_cli.specs.Outcome.{run_blocks}
 use Rattle.nv_cli.proofs.FreeBlocks.{blocks_within}
 use Rattle.nv_cli.proofs.texts.free_blocks.Goals as goal
