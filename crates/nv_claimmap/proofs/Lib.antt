@@ -1,0 +1,4 @@
+pub mod TableWords
+pub mod Keeping
+pub mod Closing
+pub mod Seats
