@@ -1,0 +1,25 @@
+-- An inode is read from its slot's words and its log's pages alone.
+use Rattle.std.proofs.Common.{◌≡◌, ℕ, ◌+◌, ◌%◌, ◌≤◌, true, IsTrue, refl, arith}
+use Rattle.std.specs.List.{Contains}
+use Rattle.std.proofs.lemmas.Bool.Decides.{nat_tests}
+use Rattle.nv_region.specs.Region.{Region, word}
+use Rattle.nv_super.specs.declared.superblock.Super.{Super}
+use Rattle.nv_super.specs.Layout.{Layout, is_page_start}
+use Rattle.nv_inode.specs.Slot.{is_right_log}
+use Rattle.nv_logpage.specs.Grows.{SamePage}
+use Rattle.nv_logpage.proofs.Local.{ReadsOn-same}
+use Rattle.nv_logpage.proofs.Steps.{start_whole}
+use Rattle.nv_scan.specs.Inode.{Log, IsInode, right, wrong}
+use Rattle.nv_scan.specs.Scanned.{SameSlot}
+
+pub head_starts : (s : Super) (head tail : ℕ) → is_right_log s head tail ≡ true → IsTrue (is_page_start s head)
+head_starts s head tail h = grind (arith, nat_tests)
+
+pub IsInode-same : {R : Region} {l : Layout} {i a : ℕ} {log : Log} (R' : Region) → SameSlot R R' a → ((b : ℕ) → Contains log.pages b → SamePage R R' b) → IsInode R l i a log → IsInode R' l i a log
+IsInode-same {R} {l} {i} {a} {log} R' slot pages (right s k t r) =
+    let start : word R (a + 16) % 4096 ≡ 0 = start_whole l.sup (word R (a + 16)) (head_starts l.sup (word R (a + 16)) (word R (a + 24)) t) in
+    let whole : word R (a + 16) % 8 ≡ 0 = omega arith in
+    let low : word R (a + 16) % 4096 ≤ 4064 = omega arith in
+    right s (rw (slot.valid, slot.kind) k) (rw (slot.head, slot.tail) t)
+    (rw (slot.head, slot.tail) (ReadsOn-same R' pages (0, omega arith, refl) whole low r))
+IsInode-same {R} {l} {i} {a} R' slot pages (wrong s k t) = wrong s (rw (slot.valid, slot.kind) k) (rw (slot.head, slot.tail) t)

@@ -1,0 +1,14 @@
+pub mod Words
+pub mod EntryFaults
+pub mod Steps
+pub mod ReadSoFar
+pub mod Rising
+pub mod ClaimLists
+pub mod Only
+pub mod Alone
+pub mod Blocks
+pub mod Pieces
+pub mod Scanning
+pub mod NamesListed
+pub mod Owned
+pub mod KindsApart

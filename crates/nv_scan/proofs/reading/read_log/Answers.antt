@@ -1,0 +1,22 @@
+use Rattle.std.proofs.Common.{◌≡◌, ap, ◌∙◌, refl}
+use Rattle.nv_logpage.specs.Progress.{Progress, after}
+use Rattle.nv_logpage.specs.declared.found.Finding.TheVariants.{Entry}
+use Rattle.nv_scan.proofs.ReadSoFar.{read_none, read_more}
+use Rattle.nv_scan.proofs.reading.read_log.Goals as goal
+
+pub reading-init : goal.reading-init
+reading-init g c = record {
+  numbers = rw c.in_ok-reader.ensures refl;
+  tail = rw c.in_ok-reader.ensures refl;
+  so_far = rw c.in_ok-reader.ensures (read_none _ _ _ _ _ _ _ _ (c.new-fold.ensures _ _ _));
+}
+
+pub reading-preserved-in-Continue-branch-4 : goal.reading-preserved-in-Continue-branch-4
+reading-preserved-in-Continue-branch-4 g c =
+    let moved : c.next.new.self ≡ after c.reading.reader (Entry c.in-Entry.placed) = c.in_ok-placed.ensures.moves ∙ ap (after c.reading.reader) c.in-Entry.is in
+    let numbers : c.next.new.self.numbers ≡ c.args.sup.now = ap (λ (r : Progress). r.numbers) moved ∙ c.reading.invariant.numbers in
+    record {
+      numbers = numbers;
+      tail = ap (λ (r : Progress). r.tail) moved ∙ c.reading.invariant.tail;
+      so_far = read_more _ _ c.args.sup.now _ _ _ c.reading.reader _ c.reading.fold _ _ c.in-Entry.placed c.reading.invariant.so_far c.in_ok-placed.ensures.leads c.in-Entry.is c.reading.invariant.numbers numbers c.in_ok-take-in-Entry.ensures;
+    }

@@ -1,0 +1,34 @@
+-- The claims of an inode, by the pages of its log and its file index.
+use Rattle.std.specs.Prelude.{◌≡◌, ℕ, ◌+◌, ◌<◌, ◌≤◌, ◌^◌, List, [], ◌∷◌, Some, slice_get}
+use Rattle.std.specs.List.{flat_map}
+use Rattle.nv_super.specs.Owners.{pairs}
+use Rattle.nv_super.specs.declared.owners.Owner.{Owner}
+use Rattle.nv_super.specs.declared.owners.Owner.TheVariants as owners
+use Rattle.nv_radix.specs.Pages.{Pages, block_at}
+use Rattle.nv_radix.specs.declared.piece.Piece.{Piece as Run}
+
+-- a block with its owner: a page of the log, or the block of a page of the file
+pub data IsClaim (i : ℕ) (pages : List ℕ) (m : Pages) : ℕ × Owner → Type 0 where
+  of_log : (k b : ℕ) → slice_get pages k ≡ Some b → IsClaim i pages m (b, owners.Log i k)
+  of_page : (p b : ℕ) → block_at m p ≡ Some b → IsClaim i pages m (b, owners.Data i p)
+
+-- the pages of a log, the first of them its k-th
+abbrev pub log_claims : ℕ → ℕ → List ℕ → List (ℕ × Owner)
+log_claims i k [] = []
+log_claims i k (b ∷ bs) = (b, owners.Log i k) ∷ log_claims i (k + 1) bs
+
+-- the blocks of a piece of the file
+abbrev pub run_claims : ℕ → Run → List (ℕ × Owner)
+run_claims i x = pairs x.block (owners.Data i x.page) x.count
+
+-- the blocks of all pieces
+abbrev pub data_claims : ℕ → List Run → List (ℕ × Owner)
+data_claims i runs = flat_map (run_claims i) runs
+
+-- the pages and the blocks of a piece have numbers of 64 bits
+abbrev pub IsSmall : Run → Type 0
+IsSmall x = (x.block + x.count ≤ 2 ^ 64) × (x.page + x.count ≤ 2 ^ 64)
+
+-- pages and their blocks have small numbers
+abbrev pub AreSmall : Pages → Type 0
+AreSmall m = (p b : ℕ) → block_at m p ≡ Some b → (p < 262144) × (b < 262144)

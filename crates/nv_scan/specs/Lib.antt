@@ -1,0 +1,10 @@
+pub mod LastWord
+pub mod State
+pub mod Inode
+pub mod Owners
+pub mod Faults
+pub mod Rows
+pub mod Fold
+pub mod Reading
+pub mod Claims
+pub mod Scanned

@@ -1,0 +1,55 @@
+-- What is put together from a slot and its log.
+use Rattle.std.specs.Prelude.{◌≡◌, ℕ, ◌+◌, List, [], ◌++◌, Option, Some, None}
+use Rattle.std.specs.List.{cons_option}
+use Rattle.nv_region.specs.Region.{Region, word}
+use Rattle.nv_super.specs.declared.kind.Kind.{Kind}
+use Rattle.nv_super.specs.declared.owners.Owner.{Owner}
+use Rattle.nv_super.specs.declared.faults.Fault.{Fault}
+use Rattle.nv_super.specs.declared.faults.Fault.TheVariants as faults
+use Rattle.nv_super.specs.Order.{Lists, owner_key}
+use Rattle.nv_inode.specs.declared.slot.Slot.{Slot}
+use Rattle.nv_logpage.specs.declared.found.LogEnd.{LogEnd}
+use Rattle.nv_logpage.specs.declared.found.LogFault.{LogFault}
+use Rattle.nv_logpage.specs.declared.found.LogFault.TheVariants as logs
+use Rattle.nv_scan.specs.Claims.{IsClaim}
+use Rattle.nv_scan.specs.declared.fold.Fold.{Fold}
+use Rattle.nv_scan.specs.declared.piece.Row.{Row}
+use Rattle.nv_scan.specs.declared.piece.Piece.{Piece}
+
+-- the fault of an inode whose log ends so
+abbrev pub fault_by : ℕ → LogFault → ℕ → Fault
+fault_by i logs.L1 at = faults.L1 i at
+fault_by i logs.L2 at = faults.L2 i at
+fault_by i logs.L3 at = faults.L3 i at
+fault_by i logs.L4 at = faults.L4 i at
+
+abbrev pub fault_of_end : ℕ → Option LogEnd → Option Fault
+fault_of_end i None = None
+fault_of_end i (Some e) = Some (fault_by i e.fault e.at)
+
+-- the row of a slot in use, with what its log says
+abbrev pub row_of : ℕ → Kind → Slot → List ℕ → Fold → Row → Type 0
+row_of i kind slot pages fold row =
+    (row.inode ≡ i) × (row.kind ≡ kind) × (row.numbers ≡ fold.numbers) × (row.head ≡ slot.head) × (row.tail ≡ slot.tail)
+    × (row.pages.items ≡ pages) × (row.index ≡ fold.index) × (row.names ≡ fold.names)
+
+-- a piece of a slot in use: what its log says, and one fault more, if there is one
+pub record IsPieceOf (i : ℕ) (kind : Kind) (slot : Slot) (pages : List ℕ) (fold : Fold) (fault : Option Fault) (p : Piece) : Type 0 where
+  pub inode : p.inode ≡ i
+  pub row : (r : Row) × (p.row ≡ Some r) × row_of i kind slot pages fold r
+  pub claims : Lists (λ (x : ℕ × Owner). owner_key x.1) (IsClaim i pages fold.index) p.claims.items
+  pub faults : p.faults.items ≡ fold.faults.items ++ cons_option fault []
+
+-- a piece of a slot that isn't in use
+pub record IsEmptyPiece (i : ℕ) (fault : Option Fault) (p : Piece) : Type 0 where
+  pub inode : p.inode ≡ i
+  pub row : p.row ≡ None
+  pub claims : p.claims.items ≡ []
+  pub faults : p.faults.items ≡ cons_option fault []
+
+-- the slots at an address have the same words
+pub record SameSlot (R R' : Region) (a : ℕ) : Type 0 where
+  pub valid : word R' a ≡ word R a
+  pub kind : word R' (a + 8) ≡ word R (a + 8)
+  pub head : word R' (a + 16) ≡ word R (a + 16)
+  pub tail : word R' (a + 24) ≡ word R (a + 24)

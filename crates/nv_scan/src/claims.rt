@@ -1,0 +1,66 @@
+//! The blocks that an inode claims.
+
+ghost use Rattle.std.specs.Prelude.{◌≡◌, ◌+◌, ◌≤◌, ◌<◌, ◌^◌, ◌++◌, IfOk, OnOk};
+ghost use Rattle.std.specs.List.{All};
+ghost use Rattle.nv_super.specs.Order.{Lists, owner_key};
+ghost use Rattle.nv_super.specs.Owners.{pairs};
+ghost use Rattle.nv_radix.specs.declared.piece.Piece.{Piece as RunValue};
+ghost use Rattle.nv_scan.specs.Claims.{IsClaim, log_claims, run_claims, data_claims, IsSmall, AreSmall};
+
+use nv_radix::{FileIndex, Piece as Run};
+use nv_super::Owner;
+use std::alloc::{AllocError, Global};
+
+/// First the pages of the inode's log, in their order, and then the blocks of its file, by page.
+pub(crate) fn claims_of(
+    alloc: Global,
+    inode: u64,
+    pages: &[u64],
+    index: &FileIndex,
+) -> Result<Vec<(u64, Owner)>, AllocError>
+    requires { AreSmall index.now }
+    ensures { IfOk result (λ claims. Lists (λ x. owner_key x.1) (IsClaim inode pages.now index.now) claims.items) }
+{
+    let mut claims = Vec::new(alloc);
+    push_pages(&mut claims, inode, pages)?;
+    let runs = index.runs()?;
+    push_runs(&mut claims, inode, &runs)?;
+    Ok(claims)
+}
+
+fn push_pages(claims: &mut Vec<(u64, Owner)>, inode: u64, pages: &[u64]) -> Result<(), AllocError>
+    ensures { OnOk result (claims.new.items ≡ claims.old.items ++ log_claims inode 0 pages.now) }
+{
+    let mut page = 0;
+    for block in pages {
+        claims.push((*block, Owner::Log { inode, page }))?;
+        page += 1;
+    }
+    Ok(())
+}
+
+fn push_runs(claims: &mut Vec<(u64, Owner)>, inode: u64, runs: &[Run]) -> Result<(), AllocError>
+    requires { All IsSmall runs.now }
+    ensures { OnOk result (claims.new.items ≡ claims.old.items ++ data_claims inode runs.now) }
+{
+    for run in runs {
+        push_run(claims, inode, run)?;
+    }
+    Ok(())
+}
+
+fn push_run(claims: &mut Vec<(u64, Owner)>, inode: u64, run: &Run) -> Result<(), AllocError>
+    requires { IsSmall run.now }
+    ensures { OnOk result (claims.new.items ≡ claims.old.items ++ run_claims inode run.now) }
+{
+    for by in 0..run.count {
+        claims.push((
+            run.block + by,
+            Owner::Data {
+                inode,
+                page: run.page + by,
+            },
+        ))?;
+    }
+    Ok(())
+}

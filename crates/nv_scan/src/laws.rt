@@ -1,0 +1,54 @@
+//! Laws of what a region holds of an inode.
+
+ghost use Rattle.std.specs.Prelude.{◌≡◌, ◌<◌, ◌≤◌, ℕ, List, Some, None};
+ghost use Rattle.std.specs.List.{Contains};
+ghost use Rattle.nv_region.specs.Region.{Region};
+ghost use Rattle.nv_super.specs.Layout.{Layout, system_blocks};
+ghost use Rattle.nv_super.specs.declared.owners.Owner.{Owner as OwnerValue};
+ghost use Rattle.nv_logpage.specs.Grows.{SamePage};
+ghost use Rattle.nv_super.specs.Order.{Lists};
+ghost use Rattle.nv_names.specs.Names.{Names, ListsNames, name_at};
+ghost use Rattle.nv_super.specs.declared.superblock.Super.{Super as SuperValue};
+ghost use Rattle.nv_logpage.specs.declared.found.Placed.{Placed as PlacedValue};
+ghost use Rattle.nv_logpage.specs.Good.{good_entries};
+ghost use Rattle.nv_scan.specs.State.{block_of, named};
+ghost use Rattle.nv_scan.specs.Inode.{Log, IsInode};
+ghost use Rattle.nv_scan.specs.Owners.{Owns};
+ghost use Rattle.nv_scan.specs.Scanned.{SameSlot};
+
+use nv_super::Kind;
+
+/// A region holds one log of each inode, at one address.
+pub fn one_inode()
+    ensures { (region : Region) (l : Layout) (i a b : ℕ) (x y : Log) → IsInode region l i a x → IsInode region l i b y → (a ≡ b) × (x ≡ y) }
+{}
+
+/// An inode is read from the words of its slot and from its log's pages alone.
+pub fn inode_alone()
+    ensures { (region other : Region) (l : Layout) (i a : ℕ) (log : Log) → SameSlot region other a → ((b : ℕ) → Contains log.pages b → SamePage region other b) → IsInode region l i a log → IsInode other l i a log }
+{}
+
+/// Each owner has one block.
+pub fn one_block()
+    ensures { (region : Region) (l : Layout) (o : OwnerValue) (b c : ℕ) → Owns region l b o → Owns region l c o → b ≡ c }
+{}
+
+/// A listing of the names of an index rises by their bytes, and has each name once with its inode and place.
+pub fn names_are_listed()
+    ensures { (index : Names) (listed : List (List ℕ × ℕ × ℕ)) → ListsNames index listed → Lists (λ (x : List ℕ × ℕ × ℕ). x.0) (λ x. name_at index x.0 ≡ Some (x.1, x.2)) listed }
+{}
+
+/// Each owned block is a data block.
+pub fn owned_blocks_are_data_blocks()
+    ensures { (region : Region) (l : Layout) (b : ℕ) (o : OwnerValue) → Owns region l b o → (system_blocks l.sup ≤ b) × (b < l.sup.blocks) }
+{}
+
+/// A file has no names, whatever its log says.
+pub fn files_have_no_names()
+    ensures { (s : SuperValue) (entries : List PlacedValue) (q : List ℕ) → named (good_entries s Kind.File entries) q ≡ None }
+{}
+
+/// A directory has no pages, whatever its log says.
+pub fn directories_have_no_pages()
+    ensures { (s : SuperValue) (entries : List PlacedValue) (p : ℕ) → block_of (good_entries s Kind.Directory entries) p ≡ None }
+{}

@@ -1,0 +1,27 @@
+//! The state of one inode: its slot and its log become its row, its indexes, the blocks that it owns and its faults.
+//!
+//! The last word counts: each number of an inode, the block of each page and the target of each name come from the
+//! last good entry that gives them. A log is read entry by entry and none is kept, so the memory goes with its pages and
+//! the indexes, not with the entries. What is found of one inode rests on its slot and its log alone, so the pieces of
+//! all inodes can be made in any order, and on any thread, before they are put together.
+#![tactic(auto)]
+
+mod claims;
+mod fold;
+mod laws;
+mod names;
+mod numbers;
+mod pages;
+mod piece;
+mod reading;
+mod scan;
+#[cfg(test)]
+mod tests;
+
+pub use laws::{
+    directories_have_no_pages, files_have_no_names, inode_alone, names_are_listed, one_block,
+    one_inode, owned_blocks_are_data_blocks,
+};
+pub use numbers::Numbers;
+pub use piece::{Piece, Row};
+pub use scan::scan_slot;

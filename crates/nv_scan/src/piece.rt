@@ -1,0 +1,34 @@
+//! What a scan finds of one inode.
+
+use crate::numbers::Numbers;
+use nv_names::NameIndex;
+use nv_radix::FileIndex;
+use nv_super::{Fault, Kind, Owner};
+
+/// The row of an inode in use.
+#[derive(Drop)]
+pub struct Row {
+    pub inode: u64,
+    pub kind: Kind,
+    pub numbers: Numbers,
+    /// The byte address where the log begins.
+    pub head: u64,
+    /// The byte address where it ends.
+    pub tail: u64,
+    /// The blocks of the log's pages, in the order of reading.
+    pub pages: Vec<u64>,
+    /// The blocks of a file's pages.
+    pub index: FileIndex,
+    /// The names of a directory.
+    pub names: NameIndex,
+}
+
+/// All that is found of one inode by itself: its row, if it is in use, the blocks that it claims, each with the owner,
+/// first the pages of the log in their order and then the pages of the file, and its faults, in no order.
+#[derive(Drop)]
+pub struct Piece {
+    pub inode: u64,
+    pub row: Option<Row>,
+    pub claims: Vec<(u64, Owner)>,
+    pub faults: Vec<Fault>,
+}

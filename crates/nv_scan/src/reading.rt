@@ -1,0 +1,53 @@
+//! Reading the log of an inode to its end, entry by entry.
+
+ghost use Rattle.std.specs.Prelude.{◌≡◌, IfOk, true};
+ghost use Rattle.nv_region.specs.Region.{HasBlocks};
+ghost use Rattle.nv_super.specs.Layout.{HasAreas};
+ghost use Rattle.nv_inode.specs.Slot.{is_right_log};
+ghost use Rattle.nv_scan.specs.Reading.{IsRead};
+
+use crate::fold::Fold;
+use nv_inode::Slot;
+use nv_logpage::{Finding, LogEnd, LogReader};
+use nv_region::Pmem;
+use nv_super::{Kind, Super};
+use std::alloc::{AllocError, Global};
+
+/// What a log gave: its pages, the fault that ended it, unless it ended at its tail, and what its entries say.
+#[derive(Drop)]
+pub(crate) struct Read {
+    pub pages: Vec<u64>,
+    pub fault: Option<LogEnd>,
+    pub fold: Fold,
+}
+
+/// Reads the log of an inode's slot, whose head and tail are right. No entry is kept.
+pub(crate) fn read_log<P: Pmem>(
+    alloc: Global,
+    memory: &P,
+    sup: &Super,
+    inode: u64,
+    kind: Kind,
+    slot: &Slot,
+) -> Result<Read, AllocError>
+    requires areas { HasAreas sup.now }
+    requires blocks { HasBlocks (P.region memory.now) sup.now.blocks }
+    requires right { is_right_log sup.now slot.now.head slot.now.tail ≡ true }
+    ensures { IfOk result (λ read. IsRead (P.region memory.now) sup.now inode kind slot.now read) }
+{
+    let mut reader = LogReader::new(alloc, sup, slot.head, slot.tail)?;
+    let mut fold = Fold::new(alloc, slot.created);
+    'reading: loop {
+        match reader.next(memory)? {
+            Finding::Entry(placed) => fold.take(sup, kind, inode, &placed)?,
+            Finding::Page(_) => {}
+            Finding::End(fault) => {
+                return Ok(Read {
+                    pages: reader.into_pages(),
+                    fault,
+                    fold,
+                });
+            }
+        }
+    }
+}
