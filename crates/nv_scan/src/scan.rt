@@ -20,7 +20,8 @@ use nv_super::{Fault, Kind, Super};
 use std::alloc::{AllocError, Global};
 
 /// Scans one inode: the words of its slot, and each page of its log once. Memory is taken for the pages, the indexes,
-/// the claims and the faults, and not for the entries.
+/// the claims and the faults, and not for the entries; and, where there is a log to read, for a bit for each block of
+/// the region, which are cleared at each call.
 pub fn scan_slot<P: Pmem>(
     alloc: Global,
     memory: &P,
