@@ -12,3 +12,5 @@ pub mod Scanning
 pub mod NamesListed
 pub mod Owned
 pub mod KindsApart
+pub mod Runs
+pub mod Work

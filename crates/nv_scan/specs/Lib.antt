@@ -8,3 +8,6 @@ pub mod Fold
 pub mod Reading
 pub mod Claims
 pub mod Scanned
+pub mod Work
+pub mod Scanner
+pub mod Claiming

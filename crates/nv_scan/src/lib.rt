@@ -6,6 +6,7 @@
 //! all inodes can be made in any order, and on any thread, before they are put together.
 #![tactic(auto)]
 
+mod claiming;
 mod claims;
 mod fold;
 mod laws;
@@ -17,6 +18,7 @@ mod reading;
 mod scan;
 #[cfg(test)]
 mod tests;
+mod working;
 
 pub use laws::{
     directories_have_no_pages, files_have_no_names, inode_alone, names_are_listed, one_block,
@@ -24,4 +26,5 @@ pub use laws::{
 };
 pub use numbers::Numbers;
 pub use piece::{Piece, Row};
-pub use scan::scan_slot;
+pub use scan::{Scanner, scan_slot};
+pub use working::{Gate, OpenGate, WorkerResult, worker};

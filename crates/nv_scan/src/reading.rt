@@ -1,9 +1,9 @@
 //! Reading the log of an inode to its end, entry by entry.
 
-ghost use Rattle.std.specs.Prelude.{◌≡◌, IfOk, true};
+ghost use Rattle.std.specs.Prelude.{◌≡◌, IfOk};
 ghost use Rattle.nv_region.specs.Region.{HasBlocks};
 ghost use Rattle.nv_super.specs.Layout.{HasAreas};
-ghost use Rattle.nv_inode.specs.Slot.{is_right_log};
+ghost use Rattle.nv_logpage.specs.Progress.{at_head};
 ghost use Rattle.nv_scan.specs.Reading.{IsRead};
 
 use crate::fold::Fold;
@@ -21,21 +21,22 @@ pub(crate) struct Read {
     pub fold: Fold,
 }
 
-/// Reads the log of an inode's slot, whose head and tail are right. No entry is kept.
+/// Reads the log of an inode's slot by a reader at its head. No entry is kept.
 pub(crate) fn read_log<P: Pmem>(
     alloc: Global,
     memory: &P,
     sup: &Super,
+    reader: &mut LogReader,
     inode: u64,
     kind: Kind,
     slot: &Slot,
 ) -> Result<Read, AllocError>
     requires areas { HasAreas sup.now }
     requires blocks { HasBlocks (P.region memory.now) sup.now.blocks }
-    requires right { is_right_log sup.now slot.now.head slot.now.tail ≡ true }
-    ensures { IfOk result (λ read. IsRead (P.region memory.now) sup.now inode kind slot.now read) }
+    requires start { reader.old ≡ at_head sup.now slot.now.head slot.now.tail }
+    ensures reader { reader.new.numbers ≡ sup.now }
+    ensures read { IfOk result (λ read. IsRead (P.region memory.now) sup.now inode kind slot.now read) }
 {
-    let mut reader = LogReader::new(alloc, sup, slot.head, slot.tail)?;
     let mut fold = Fold::new(alloc, slot.created);
     'reading: loop {
         match reader.next(memory)? {
@@ -43,7 +44,7 @@ pub(crate) fn read_log<P: Pmem>(
             Finding::Page(_) => {}
             Finding::End(fault) => {
                 return Ok(Read {
-                    pages: reader.into_pages(),
+                    pages: reader.pages().to_vec(alloc)?,
                     fault,
                     fold,
                 });

@@ -1,10 +1,11 @@
 //! One inode: its slot and its log become its row, the blocks that it claims and its faults.
 
-ghost use Rattle.std.specs.Prelude.{◌≡◌, ◌++◌, [], IfOk, OnOk, IsTrue, Some, ℕ, List};
+ghost use Rattle.std.specs.Prelude.{◌≡◌, ◌++◌, [], IfOk, IfSome, OnOk, IsTrue, Some, true};
 ghost use Rattle.std.specs.List.{cons_option};
 ghost use Rattle.nv_region.specs.Region.{HasBlocks};
-ghost use Rattle.nv_super.specs.Layout.{IsLayout, is_number, slot_address, fixed_layout};
-ghost use Rattle.nv_inode.specs.Slot.{slot_at, kind_of};
+ghost use Rattle.nv_super.specs.Layout.{IsLayout, HasAreas, is_number, slot_address, fixed_layout};
+ghost use Rattle.nv_inode.specs.Slot.{slot_at, kind_of, is_right_log};
+ghost use Rattle.nv_logpage.specs.Progress.{at_head};
 ghost use Rattle.nv_scan.specs.Claims.{AreSmall};
 ghost use Rattle.nv_scan.specs.Rows.{IsPiece};
 ghost use Rattle.nv_scan.specs.Scanned.{IsPieceOf, IsEmptyPiece, fault_of_end};
@@ -14,14 +15,78 @@ use crate::fold::Fold;
 use crate::piece::{Piece, Row};
 use crate::reading::{Read, read_log};
 use nv_inode::{Slot, SlotState, read_slot};
-use nv_logpage::{LogEnd, LogFault};
+use nv_logpage::{LogEnd, LogFault, LogReader};
 use nv_region::Pmem;
 use nv_super::{Fault, Kind, Super};
 use std::alloc::{AllocError, Global};
+use std::marker::Model;
+
+/// Scans inodes one after another, with one reader for all their logs. It has a bit for each block of the region, made
+/// at the first log that is read; each later log costs what its own pages do.
+#[derive(Drop)]
+pub struct Scanner {
+    alloc: Global,
+    sup: Super,
+    reader: Option<LogReader>,
+}
+
+impl Model for Scanner {
+    ghost use Rattle.nv_super.specs.declared.superblock.Super.{Super as SuperValue};
+
+    ghost Value = { SuperValue };
+
+    ghost view = { λ s. s.sup };
+
+    ghost use Rattle.nv_scan.specs.Scanner.{IsScanner};
+
+    ghost invariant = { IsScanner };
+}
+
+impl Scanner {
+    /// A scanner of the region with this superblock. It takes no memory.
+    pub fn new(alloc: Global, sup: &Super) -> Scanner
+        requires layout { IsLayout sup.now }
+        ensures { result ≡ sup.now }
+    {
+        Scanner {
+            alloc,
+            sup: *sup,
+            reader: None,
+        }
+    }
+
+    /// Scans one inode: the words of its slot, and each page of its log once. Memory is taken for the pages, the
+    /// indexes, the claims and the faults, and not for the entries; and, at the first log, for the reader. After a
+    /// refusal the scanner can be used on.
+    pub fn scan<P: Pmem>(&mut self, memory: &P, inode: u64) -> Result<Piece, AllocError>
+        requires blocks { HasBlocks (P.region memory.now) self.old.blocks }
+        requires number { IsTrue (is_number self.old inode) }
+        ensures same { self.new ≡ self.old }
+        ensures number { IfOk result (λ piece. piece.inode ≡ inode) }
+        ensures piece { IfOk result (λ piece. IsPiece (P.region memory.now) (fixed_layout self.old) piece) }
+    {
+        let alloc = self.alloc;
+        let slot = read_slot(memory, &self.sup, inode);
+        match slot.state() {
+            SlotState::Unused => without_row(alloc, inode, None),
+            SlotState::BadValid => without_row(alloc, inode, Some(Fault::I1 { inode })),
+            SlotState::BadKind => without_row(alloc, inode, Some(Fault::I2 { inode })),
+            SlotState::InUse(kind) => scan_log(
+                alloc,
+                memory,
+                &self.sup,
+                &mut self.reader,
+                inode,
+                kind,
+                &slot,
+            ),
+        }
+    }
+}
 
 /// Scans one inode: the words of its slot, and each page of its log once. Memory is taken for the pages, the indexes,
 /// the claims and the faults, and not for the entries; and, where there is a log to read, for a bit for each block of
-/// the region, which are cleared at each call.
+/// the region. A `Scanner` makes these bits once for many inodes.
 pub fn scan_slot<P: Pmem>(
     alloc: Global,
     memory: &P,
@@ -34,20 +99,16 @@ pub fn scan_slot<P: Pmem>(
     ensures number { IfOk result (λ piece. piece.inode ≡ inode) }
     ensures piece { IfOk result (λ piece. IsPiece (P.region memory.now) (fixed_layout sup.now) piece) }
 {
-    let slot = read_slot(memory, sup, inode);
-    match slot.state() {
-        SlotState::Unused => without_row(alloc, inode, None),
-        SlotState::BadValid => without_row(alloc, inode, Some(Fault::I1 { inode })),
-        SlotState::BadKind => without_row(alloc, inode, Some(Fault::I2 { inode })),
-        SlotState::InUse(kind) => scan_log(alloc, memory, sup, inode, kind, &slot),
-    }
+    Scanner::new(alloc, sup).scan(memory, inode)
 }
 
-/// Scans an inode in use. Where its head or tail isn't right, no log is read.
+/// Scans an inode in use, by the reader of the last log, if there is one. Where its head or tail isn't right, no log is
+/// read.
 fn scan_log<P: Pmem>(
     alloc: Global,
     memory: &P,
     sup: &Super,
+    reader: &mut Option<LogReader>,
     inode: u64,
     kind: Kind,
     slot: &Slot,
@@ -57,11 +118,16 @@ fn scan_log<P: Pmem>(
     requires number { IsTrue (is_number sup.now inode) }
     requires slot { slot.now ≡ slot_at (P.region memory.now) (slot_address sup.now inode) }
     requires kind { kind_of slot.now ≡ Some kind }
+    requires reader { IfSome reader.old (λ r. r.numbers ≡ sup.now) }
+    ensures reader { IfSome reader.new (λ r. r.numbers ≡ sup.now) }
     ensures number { IfOk result (λ piece. piece.inode ≡ inode) }
     ensures piece { IfOk result (λ piece. IsPiece (P.region memory.now) (fixed_layout sup.now) piece) }
 {
     if slot.has_right_log(sup) {
-        let Read { pages, fault, fold } = read_log(alloc, memory, sup, inode, kind, slot)?;
+        let mut at_head = reader_at(alloc, sup, reader.take(), slot)?;
+        let read = read_log(alloc, memory, sup, &mut at_head, inode, kind, slot);
+        *reader = Some(at_head);
+        let Read { pages, fault, fold } = read?;
         piece_of(
             alloc,
             inode,
@@ -83,6 +149,27 @@ fn scan_log<P: Pmem>(
             fold,
             Some(Fault::I3 { inode }),
         )
+    }
+}
+
+/// A reader at the head of a slot's log, whose head and tail are right: the last one, restarted, or a new one.
+fn reader_at(
+    alloc: Global,
+    sup: &Super,
+    last: Option<LogReader>,
+    slot: &Slot,
+) -> Result<LogReader, AllocError>
+    requires areas { HasAreas sup.now }
+    requires last { IfSome last (λ r. r.numbers ≡ sup.now) }
+    requires right { is_right_log sup.now slot.now.head slot.now.tail ≡ true }
+    ensures { IfOk result (λ r. r ≡ at_head sup.now slot.now.head slot.now.tail) }
+{
+    match last {
+        Some(mut reader) => {
+            reader.restart(slot.head, slot.tail);
+            Ok(reader)
+        }
+        None => LogReader::new(alloc, sup, slot.head, slot.tail),
     }
 }
 

@@ -2,15 +2,18 @@
 
 ghost use Rattle.std.specs.Prelude.{◌≡◌, ◌<◌, IfOk};
 ghost use Rattle.nv_region.specs.Region.{HasBlocks};
+ghost use Rattle.nv_claimcore.specs.Claims.{nothing};
 
 use crate::{
-    Numbers, Piece, directories_have_no_pages, files_have_no_names, inode_alone, names_are_listed,
-    one_block, one_inode, owned_blocks_are_data_blocks, scan_slot,
+    Numbers, OpenGate, Piece, Scanner, directories_have_no_pages, files_have_no_names, inode_alone,
+    names_are_listed, one_block, one_inode, owned_blocks_are_data_blocks, scan_slot, worker,
 };
+use nv_claimcore::Sizes;
+use nv_claimmap::{ClaimMap, ClaimSeat};
 use nv_names::Target;
 use nv_region::{MemRegion, Pmem};
 use nv_super::{Fault, Kind, Owner, Super};
-use std::alloc::Global;
+use std::alloc::{AllocError, Global};
 use std::test::Fail;
 
 /// One CPU, 16 blocks, one table block: the slots begin at 8192, and the data blocks are 3 to 15.
@@ -65,6 +68,50 @@ fn scan(alloc: Global, words: &[(u64, u64)]) -> Result<Piece, Fail> {
 /// How many claims and faults it has.
 fn counts(piece: &Piece) -> (usize, usize) {
     (piece.claims.len(), piece.faults.len())
+}
+
+/// A directory, inode 1, with one entry in block 3; and a file, inode 2, whose log in block 4 maps pages 0 and 1 to
+/// blocks 5 and 6, and page 2 to block 9.
+const TWO_INODES: [(u64, u64); 16] = [
+    (8320, 1),
+    (8328, 2),
+    (8336, 12288),
+    (8344, 12320),
+    (12288, DIRECTORY_MODE),
+    (8448, 1),
+    (8456, 1),
+    (8464, 16384),
+    (8472, 16464),
+    (16384, WRITE_TWO),
+    (16400, 5),
+    (16408, 12288),
+    (16424, WRITE_ONE),
+    (16432, 2),
+    (16440, 9),
+    (16448, 12288),
+];
+
+const OWNED_BY_FILE: [(u64, Owner); 4] = [
+    (4, Owner::Log { inode: 2, page: 0 }),
+    (5, Owner::Data { inode: 2, page: 0 }),
+    (6, Owner::Data { inode: 2, page: 1 }),
+    (9, Owner::Data { inode: 2, page: 2 }),
+];
+
+/// A claim map of the small region, with its one seat.
+fn opened(alloc: Global) -> Result<(ClaimMap, ClaimSeat), AllocError>
+    ensures { IfOk result (λ r. (r.1.map ≡ r.0) × (r.1.view ≡ nothing 1) × (r.0.sizes ≡ record { blocks = 16; tickets = 31; workers = 1 })) }
+{
+    let sizes = Sizes {
+        blocks: 16,
+        tickets: 31,
+        workers: 1,
+    };
+    let (map, mut seats) = ClaimMap::open(alloc, sizes)?;
+    let Some(seat) = seats.pop() else {
+        unreachable!()
+    };
+    Ok((map, seat))
 }
 
 #[test]
@@ -221,6 +268,35 @@ fn a_wrong_head_is_told_and_no_log_is_read(rt: HostRuntime) -> Result<(), Fail> 
     assert_eq!(rt; piece.faults.as_slice(), &[Fault::I3 { inode: 1 }][..]);
     let row = piece.row.expect(&rt, "inode 1 is in use");
     assert_eq!(rt; (row.pages.len(), row.numbers), (0, Numbers::new(9)));
+    Ok(())
+}
+
+#[test]
+fn a_scanner_reads_a_log_again(rt: HostRuntime) -> Result<(), Fail> {
+    let memory = region(rt.alloc(), &TWO_INODES)?;
+    let mut scanner = Scanner::new(rt.alloc(), &SMALL);
+    let first = scanner.scan(&memory, 2)?;
+    let second = scanner.scan(&memory, 2)?;
+    assert_eq!(rt; first.claims.as_slice(), &OWNED_BY_FILE[..]);
+    assert_eq!(rt; second.claims.as_slice(), &OWNED_BY_FILE[..]);
+    Ok(())
+}
+
+#[test]
+fn a_worker_claims_what_the_inodes_own(rt: HostRuntime) -> Result<(), Fail> {
+    let memory = region(rt.alloc(), &TWO_INODES)?;
+    let (map, seat) = opened(rt.alloc())?;
+    let done = worker(rt.alloc(), &memory, &SMALL, &map, seat, &OpenGate);
+    if done.refused {
+        return Err(AllocError)?;
+    }
+    assert_eq!(rt; done.pieces.len(), 31);
+    assert_eq!(rt; done.pieces[1].claims.as_slice(), &OWNED_BY_FILE[..]);
+    let closed = map.close(done.seat);
+    assert_eq!(rt; closed.first.as_slice(), &[632][..]);
+    assert_eq!(rt; closed.second.as_slice(), &[0][..]);
+    assert_eq!(rt; closed.claims.len(), 5);
+    assert_eq!(rt; &closed.claims[1..], &OWNED_BY_FILE[..]);
     Ok(())
 }
 

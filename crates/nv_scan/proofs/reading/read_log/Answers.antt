@@ -6,13 +6,13 @@ use Rattle.nv_scan.proofs.reading.read_log.Goals as goal
 
 pub reading-init : goal.reading-init
 reading-init g c = record {
-  numbers = rw c.in_ok-reader.ensures refl;
-  tail = rw c.in_ok-reader.ensures refl;
-  so_far = rw c.in_ok-reader.ensures (read_none _ _ _ _ _ _ _ _ (c.new-fold.ensures _ _ _));
+  numbers = rw c.requires.start refl;
+  tail = rw c.requires.start refl;
+  so_far = rw c.requires.start (read_none _ _ _ _ _ _ _ _ (c.new-fold.ensures _ _ _));
 }
 
-pub reading-preserved-in-Continue-branch-4 : goal.reading-preserved-in-Continue-branch-4
-reading-preserved-in-Continue-branch-4 g c =
+pub reading-preserved-in_ok-take-in-Entry : goal.reading-preserved-in_ok-take-in-Entry
+reading-preserved-in_ok-take-in-Entry g c =
     let moved : c.next.new.self ≡ after c.reading.reader (Entry c.in-Entry.placed) = c.in_ok-placed.ensures.moves ∙ ap (after c.reading.reader) c.in-Entry.is in
     let numbers : c.next.new.self.numbers ≡ c.args.sup.now = ap (λ (r : Progress). r.numbers) moved ∙ c.reading.invariant.numbers in
     record {

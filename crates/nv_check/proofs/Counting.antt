@@ -1,0 +1,58 @@
+-- Counting what is named, one after another.
+use Rattle.std.proofs.Common.{◌≡◌, ◌≢◌, ℕ, zero, suc, ◌+◌, ◌<◌, ◌≤◌, ◌⊎◌, inl, inr, eqb, Bool, true, false, cond, List, [], ◌∷◌, ◌++◌, length, get_or, take, replicate, refl, ap, sym, ◌∙◌, subst, arith, eq-eqb, eqb-true, get_or-set_same, get_or-set_other, Option, Some, None, append-nil}
+use Rattle.std.proofs.Math.ListN.{set, length-set}
+use Rattle.std.specs.List.{count_by, filter_map, cons_option}
+use Rattle.std.proofs.lemmas.List.Elements.{filter_map-append}
+use Rattle.std.proofs.lemmas.List.Sums.{count_by_more_yes, count_by_more_no, count_by-le-length}
+use Rattle.std.proofs.lemmas.List.{length-take-le, take_more}
+use Rattle.nv_check.specs.Steps.{place_of, IsTable, AreCounts}
+use Rattle.nv_check.proofs.PlaceTable.{some_only, none_some, equal_or}
+
+pub not_equal : (a b : ℕ) → a ≢ b → eqb a b ≡ false
+not_equal a b ne = test (eqb a b) refl where
+  test : (t : Bool) → eqb a b ≡ t → eqb a b ≡ false
+  test true e = absurd (ne (eqb-true a b e))
+  test false e = e
+
+module _ (n : ℕ) (table : List (Option ℕ)) (named counts : List ℕ) (i t : ℕ) (lt : i < length named) (is : get_or named i 0 ≡ t) (h : AreCounts n table (take i named) counts) where
+  pub counts_skip : place_of table t ≡ None → AreCounts n table (take (i + 1) named) counts
+  counts_skip none = record {
+    same = h.same;
+    each = λ j k e. h.each j k e ∙ sym (count_by_more_no (λ s. eqb s j) named i 0 lt
+        (not_equal (get_or named i 0) j (λ q. none_some k (sym none ∙ ap (place_of table) (sym is ∙ q) ∙ e))));
+  }
+
+  pub counts_add : (place : ℕ) → IsTable n table → place_of table t ≡ Some place → AreCounts n table (take (i + 1) named) (set counts place (get_or counts place 0 + 1))
+  counts_add place w at = record {
+    same = length-set counts place (get_or counts place 0 + 1) ∙ h.same;
+    each = λ j k e. equal_or k place (λ q. here j k e q) (λ ne. there j k e ne);
+  } where
+    within : place < length counts
+    within = let s = h.same in let l = w.within t place at in omega (arith, s, l)
+
+    stored : (m : ℕ) → get_or (set counts place m) place 0 ≡ m
+    stored m = let l : place < length counts = within in rw get_or-set_same refl
+
+    here : (j k : ℕ) → place_of table j ≡ Some k → k ≡ place → get_or (set counts place (get_or counts place 0 + 1)) k 0 ≡ count_by (λ s. eqb s j) (take (i + 1) named)
+    here j k e q =
+        let same : j ≡ t = w.once j t place (e ∙ ap Some q) at in
+        ap (λ p. get_or (set counts place (get_or counts place 0 + 1)) p 0) q ∙ stored (get_or counts place 0 + 1) ∙ ap (λ m. m + 1) (h.each j place (e ∙ ap Some q))
+        ∙ sym (count_by_more_yes (λ s. eqb s j) named i 0 lt (eq-eqb _ _ (is ∙ sym same)))
+
+    kept : (k m : ℕ) → k ≢ place → get_or (set counts place m) k 0 ≡ get_or counts k 0
+    kept k m ne = rw get_or-set_other refl
+
+    there : (j k : ℕ) → place_of table j ≡ Some k → k ≢ place → get_or (set counts place (get_or counts place 0 + 1)) k 0 ≡ count_by (λ s. eqb s j) (take (i + 1) named)
+    there j k e ne = kept k (get_or counts place 0 + 1) ne ∙ h.each j k e ∙ sym (count_by_more_no (λ s. eqb s j) named i 0 lt
+        (not_equal (get_or named i 0) j (λ q. ne (some_only k place (sym e ∙ ap (place_of table) (sym q ∙ is) ∙ at)))))
+
+  -- a count is at most the number of names so far
+  pub count_small : (place : ℕ) → place_of table t ≡ Some place → get_or counts place 0 ≤ i
+  count_small place at = let e = h.each t place at in let c = count_by-le-length (λ s. eqb s t) (take i named) in let l = length-take-le i named (omega arith) in omega (arith, e, c, l)
+
+pub filter_step : {A B : Type 0} (f : A → Option B) (xs : List A) (i : ℕ) (r : A) → i < length xs → r ≡ get_or xs i r → filter_map f (take (i + 1) xs) ≡ filter_map f (take i xs) ++ cons_option (f r) []
+filter_step {A} {B} f xs i r lt is = ap (filter_map f) (take_more xs i r lt) ∙ filter_map-append f (take i xs) (get_or xs i r ∷ []) ∙ ap (λ (x : A). filter_map f (take i xs) ++ cons_option (f x) []) (sym is)
+
+pub skips : {A B : Type 0} (f : A → Option B) (xs : List A) (i : ℕ) (r : A) (old now new : List B) → i < length xs → r ≡ get_or xs i r → f r ≡ None → new ≡ now → now ≡ old ++ filter_map f (take i xs) → new ≡ old ++ filter_map f (take (i + 1) xs)
+skips {A} {B} f xs i r old now new lt is none e h =
+    e ∙ h ∙ ap (λ (ys : List B). old ++ ys) (sym (filter_step f xs i r lt is ∙ ap (λ (o : Option B). filter_map f (take i xs) ++ cons_option o []) none ∙ append-nil (filter_map f (take i xs))))

@@ -1,0 +1,228 @@
+-- What is wrong between the listed rows is what is wrong between the rows.
+use Rattle.std.proofs.Common.{◌≡◌, ◌≢◌, ℕ, zero, suc, ◌+◌, ◌<◌, ◌≤◌, inl, inr, eqb, nat_cmp, Bool, true, false, cond, Option, Some, None, List, [], ◌∷◌, ◌++◌, length, get_or, map, refl, ap, sym, ◌∙◌, subst, arith, eqb-true, eq-eqb}
+use Rattle.std.specs.List.{Contains, flat_map, filter, count_by}
+use Rattle.std.specs.Cmp.Lexicographic.{slice_cmp}
+use Rattle.std.specs.declared.cmp.Ordering.TheVariants.{Less}
+use Rattle.std.proofs.lemmas.List.Sums.{sum_by-cons, sum_by-append}
+use Rattle.std.proofs.lemmas.List.{length-append}
+use Rattle.nv_super.specs.Order.{Lists, Rises, SortedOf, fault_key}
+use Rattle.nv_super.specs.declared.faults.Fault.{Fault}
+use Rattle.nv_super.specs.declared.faults.Fault.TheVariants as faults
+use Rattle.nv_super.specs.declared.kind.Kind.TheVariants.{File, Directory}
+use Rattle.nv_super.proofs.Rising.{Contains-cons, Contains-head, Contains-tail, Lists-only}
+use Rattle.nv_names.specs.Names.{name_at, line_of}
+use Rattle.nv_names.specs.declared.named.Named.{Named}
+use Rattle.nv_scan.specs.declared.piece.Row.{Row}
+use Rattle.nv_scan.proofs.Rising.{below_first, below_rest, head_least, rises_cons, rises_append}
+use Rattle.nv_scan.proofs.NamesListed.{names_listed}
+use Rattle.nv_check.specs.declared.listing.Listing.{Listing}
+use Rattle.nv_check.specs.Cross as cross
+use Rattle.nv_check.specs.Cross.{row_key, HasNameIn, IsUnusedIn, AreNamesIn, IsReachedIn, IsCrossFaultIn}
+use Rattle.nv_check.specs.Listings as listed
+use Rattle.nv_check.specs.Listings.{IsListing, AreListings, target, targets, names_of, IsReached, IsUnused, IsFault}
+use Rattle.nv_check.proofs.Filters.{from_filter, into_filter}
+use Rattle.nv_check.proofs.Follow.{from_map, into_map}
+use Rattle.nv_check.proofs.Rows.{listing_of, row_of, key_less}
+use Rattle.nv_check.proofs.Together.{from_flat, into_flat}
+
+abbrev Line : Type 0
+Line = List ℕ × ℕ × ℕ
+
+abbrev name_of : Line → List ℕ
+name_of x = x.0
+
+abbrev lines : Listing → List Line
+lines l = map line_of l.names.items
+
+abbrev pair_key : ℕ × List ℕ → List ℕ
+pair_key x = x.0 ∷ x.1
+
+abbrev listing_key : Listing → List ℕ
+listing_key l = l.inode ∷ []
+
+-- the names of inode i among these of directory d, as directory and name
+abbrev pairs_among : ℕ → ℕ → List Line → List (ℕ × List ℕ)
+pairs_among i d ns = map (λ (x : Line). (d, x.0)) (filter (λ (x : Line). eqb x.1 i) ns)
+
+abbrev pairs_of : ℕ → Listing → List (ℕ × List ℕ)
+pairs_of i l = pairs_among i l.inode (lines l)
+
+-- over all rows
+abbrev pairs_in : ℕ → List Listing → List (ℕ × List ℕ)
+pairs_in i listings = flat_map (pairs_of i) listings
+
+tail_rises : {A : Type 0} (key : A → List ℕ) (x : A) (xs : List A) → Rises key (x ∷ xs) → Rises key xs
+tail_rises key x [] r = tt
+tail_rises key x (y ∷ xs) r = r.1
+
+pair_from : (i d : ℕ) (ns : List Line) (y : ℕ × List ℕ) → Contains (pairs_among i d ns) y → (x : Line) × Contains ns x × (x.1 ≡ i) × (y ≡ (d, x.0))
+pair_from i d ns y c = let m = from_map (λ (x : Line). (d, x.0)) (filter (λ (x : Line). eqb x.1 i) ns) y c in let f = from_filter (λ (x : Line). eqb x.1 i) ns m.0 m.1 in (m.0, f.0, eqb-true m.0.1 i f.1, m.2)
+
+row_rises : (i d : ℕ) (ns : List Line) → Rises name_of ns → Rises pair_key (pairs_among i d ns)
+row_rises i d [] r = tt
+row_rises i d (x ∷ ns) r = test (eqb x.1 i) (row_rises i d ns (tail_rises name_of x ns r)) where
+  test : (t : Bool) → Rises pair_key (pairs_among i d ns) → Rises pair_key (map (λ (y : Line). (d, y.0)) (cond t (x ∷ filter (λ (y : Line). eqb y.1 i) ns) (filter (λ (y : Line). eqb y.1 i) ns)))
+  test true h = rises_cons pair_key (d, x.0) (pairs_among i d ns) (λ y c. (let w = pair_from i d ns y c in
+      let P : ℕ × List ℕ → Type 0 = λ z. slice_cmp nat_cmp (d ∷ x.0) (pair_key z) ≡ Less in
+      subst P (sym w.3) (below_rest d x.0 w.0.0 (head_least name_of x ns r w.0 w.1)))) h
+  test false h = h
+
+row_count : (i d : ℕ) (xs : List Named) → length {A = ℕ × List ℕ} (pairs_among i d (map line_of xs)) ≡ count_by (λ t. eqb t i) (map target xs)
+row_count i d [] = refl
+row_count i d (x ∷ xs) = test (eqb x.inode i) refl (row_count i d xs) where
+  ns : List Line
+  ns = map line_of xs
+
+  test : (t : Bool) → eqb x.inode i ≡ t → length {A = ℕ × List ℕ} (pairs_among i d ns) ≡ count_by (λ t. eqb t i) (map target xs)
+      → length {A = ℕ × List ℕ} (map (λ (y : Line). (d, y.0)) (cond t (line_of x ∷ filter (λ (y : Line). eqb y.1 i) ns) (filter (λ (y : Line). eqb y.1 i) ns))) ≡ count_by (λ t. eqb t i) (map target (x ∷ xs))
+  test true e h = let s = sum_by-cons (λ t. cond (eqb t i) 1 0) (target x) (map target xs) in let c : cond {A = ℕ} (eqb (target x) i) 1 0 ≡ 1 = ap (λ (b : Bool). cond b 1 0) e in omega (arith, s, c, h)
+  test false e h = let s = sum_by-cons (λ t. cond (eqb t i) 1 0) (target x) (map target xs) in let c : cond {A = ℕ} (eqb (target x) i) 1 0 ≡ 0 = ap (λ (b : Bool). cond b 1 0) e in omega (arith, s, c, h)
+
+pairs_count : (i : ℕ) (listings : List Listing) → length (pairs_in i listings) ≡ names_of listings i
+pairs_count i [] = refl
+pairs_count i (l ∷ listings) =
+    let n = length-append (pairs_of i l) (pairs_in i listings) in let one = row_count i l.inode l.names.items in let rest = pairs_count i listings in
+    let s = sum_by-append (λ t. cond (eqb t i) 1 0) (map target l.names.items) (targets listings) in omega (arith, n, one, rest, s)
+
+rises_listed : (rows : List Row) (listings : List Listing) → AreListings rows listings → Rises row_key rows → Rises listing_key listings
+rises_listed [] [] h r = tt
+rises_listed [] (l ∷ listings) h r = absurd h
+rises_listed (x ∷ rows) [] h r = absurd h
+rises_listed (x ∷ []) (l ∷ []) h r = tt
+rises_listed (x ∷ []) (l ∷ m ∷ listings) h r = absurd h.1
+rises_listed (x ∷ y ∷ rows) (l ∷ []) h r = absurd h.1
+rises_listed (x ∷ y ∷ rows) (l ∷ m ∷ listings) h r =
+    let P : ℕ → Type 0 = λ i. slice_cmp nat_cmp (i ∷ []) (m.inode ∷ []) ≡ Less in let Q : ℕ → Type 0 = λ i. slice_cmp nat_cmp (x.inode ∷ []) (i ∷ []) ≡ Less in
+    (subst P (sym h.0.inode) (subst Q (sym h.1.0.inode) r.0), rises_listed (y ∷ rows) (m ∷ listings) h.1 r.1)
+
+module _ (rows : List Row) (listings : List Listing) (are : AreListings rows listings) (rising : Rises row_key rows) where
+  names_in : (r : Row) (l : Listing) → IsListing r l → Lists name_of (λ x. name_at r.names x.0 ≡ Some (x.1, x.2)) (lines l)
+  names_in r l h = names_listed r.names (lines l) h.names
+
+  has_name : (r : Row) (l : Listing) (x : Named) → IsListing r l → Contains l.names.items x → name_at r.names x.name.now ≡ Some (x.inode, x.place)
+  has_name r l x h c = (names_in r l h).each (line_of x) (into_map line_of l.names.items x c)
+
+  -- the listing of a name
+  record Found (d i at : ℕ) (name : List ℕ) : Type 0 where
+    listing : Listing
+    here : Contains listings listing
+    line : Named
+    has : Contains listing.names.items line
+    inode : listing.inode ≡ d
+    is : (name, i, at) ≡ line_of line
+
+  found : (d i at : ℕ) (name : List ℕ) → HasNameIn rows d name i at → Found d i at name
+  found d i at name h =
+      let w = listing_of IsListing rows listings h.0 are h.1 in
+      let m = from_map line_of w.0.names.items (name, i, at) ((names_in h.0 w.0 w.2).all (name, i, at) h.3) in
+      record { listing = w.0; here = w.1; line = m.0; has = m.1; inode = w.2.inode ∙ h.2; is = m.2 }
+
+  listing : (r : Row) → Contains rows r → (l : Listing) × Contains listings l × IsListing r l
+  listing r c = listing_of IsListing rows listings r are c
+
+  row : (l : Listing) → Contains listings l → (r : Row) × Contains rows r × IsListing r l
+  row l c = row_of IsListing rows listings l are c
+
+  unused_there : (i : ℕ) → IsUnused listings i → IsUnusedIn rows i
+  unused_there i un r c e = let w = listing r c in un w.0 w.1 (w.2.inode ∙ e)
+
+  unused_back : (i : ℕ) → IsUnusedIn rows i → IsUnused listings i
+  unused_back i un l c e = let w = row l c in un w.0 w.1 (sym w.2.inode ∙ e)
+
+  -- what a listed name says of its row
+  says : (d : Listing) (x : Named) (i : ℕ) → Contains listings d → Contains d.names.items x → i ≡ target x → HasNameIn rows d.inode x.name.now i x.place
+  says d x i dc xc e = let w = row d dc in (w.0, w.1, sym w.2.inode, has_name w.0 d x w.2 xc ∙ ap (λ (j : ℕ). Some (j, x.place)) (sym e))
+
+  reached_there : (i : ℕ) → IsReached listings i → IsReachedIn rows i
+  reached_there i (listed.root l c one dir) = let w = row l c in
+      let P : ℕ → Type 0 = λ j. IsReachedIn rows j in subst P (sym one) (cross.root w.0 w.1 (sym w.2.inode ∙ one) (sym w.2.kind ∙ dir))
+  reached_there i (listed.step d l x rd dc xc lc e) = let w = row l lc in
+      cross.step x.name.now x.place w.0 (reached_there d.inode rd) (says d x l.inode dc xc e) w.1 (sym w.2.inode)
+
+  reached_back : (i : ℕ) → IsReachedIn rows i → IsReached listings i
+  reached_back i (cross.root r c one dir) = let w = listing r c in let P : ℕ → Type 0 = λ j. IsReached listings j in
+      subst P (w.2.inode ∙ one) (listed.root w.0 w.1 (w.2.inode ∙ one) (w.2.kind ∙ dir))
+  reached_back i (cross.step {d = d} name at r rd h rc e) =
+      let s = found d i at name h in let w = listing r rc in
+      let P : ℕ → Type 0 = λ j. IsReached listings j in
+      subst P (w.2.inode ∙ e) (listed.step s.listing w.0 s.line (subst P (sym s.inode) (reached_back d rd)) s.here s.has w.1 (w.2.inode ∙ e ∙ ap (λ (z : Line). z.1) s.is))
+
+  pairs_rise : (i : ℕ) (some : List Listing) → Rises listing_key some → ((l : Listing) → Contains some l → Contains listings l) → Rises pair_key (pairs_in i some)
+  pairs_rise i [] r sub = tt
+  pairs_rise i (x ∷ some) r sub = rises_append pair_key (pairs_of i x) (pairs_in i some)
+      (let w = row x (sub x (Contains-head x some)) in row_rises i x.inode (lines x) (names_in w.0 x w.2).rising)
+      (pairs_rise i some (tail_rises listing_key x some r) (λ q c. sub q (Contains-tail x some q c)))
+      (λ u v c d. (
+      let m = pair_from i x.inode (lines x) u c in
+      let f = from_flat (pairs_of i) some v d in
+      let n = pair_from i f.0.inode (lines f.0) v f.2 in
+      let P : ℕ × List ℕ → Type 0 = λ z. slice_cmp nat_cmp (pair_key z) (pair_key v) ≡ Less in
+      let Q : ℕ × List ℕ → Type 0 = λ z. slice_cmp nat_cmp (x.inode ∷ m.0.0) (pair_key z) ≡ Less in
+      subst P (sym m.3) (subst Q (sym n.3) (below_first x.inode f.0.inode m.0.0 n.0.0 (key_less x.inode f.0.inode (head_least listing_key x some r f.0 f.1))))))
+
+  names_are : (i : ℕ) → AreNamesIn rows i (pairs_in i listings)
+  names_are i = record {
+    rising = pairs_rise i listings (rises_listed rows listings are rising) (λ l c. c);
+    each = λ y c. (
+        let f = from_flat (pairs_of i) listings y c in let m = pair_from i f.0.inode (lines f.0) y f.2 in
+        let x = from_map line_of f.0.names.items m.0 m.1 in
+        let P : ℕ × List ℕ → Type 0 = λ z. (at : ℕ) × HasNameIn rows z.0 z.1 i at in
+        let N : List ℕ → Type 0 = λ q. HasNameIn rows f.0.inode q i x.0.place in
+        subst P (sym m.3) (x.0.place, subst N (sym (ap name_of x.2)) (says f.0 x.0 i f.1 x.1 (sym m.2 ∙ ap (λ (z : Line). z.1) x.2))));
+    all = λ y h. (
+        let s = found y.0 i h.0 y.1 h.1 in
+        let e : (s.listing.inode, y.1) ≡ y = (λ j. (s.inode j, y.1)) in
+        let P : ℕ × List ℕ → Type 0 = λ z. Contains (pairs_in i listings) z in
+        let L : Line → Type 0 = λ z. Contains (lines s.listing) z in
+        let line : Contains (lines s.listing) (y.1, i, h.0) = subst L (sym s.is) (into_map line_of s.listing.names.items s.line s.has) in
+        subst P e (into_flat (pairs_of i) listings s.listing (s.listing.inode, y.1) s.here
+        (into_map (λ (x : Line). (s.listing.inode, x.0)) (filter (λ (x : Line). eqb x.1 i) (lines s.listing)) (y.1, i, h.0) (into_filter (λ (x : Line). eqb x.1 i) (lines s.listing) (y.1, i, h.0) line (eq-eqb i i refl)))));
+  }
+
+  names_count : (i : ℕ) (names : List (ℕ × List ℕ)) → AreNamesIn rows i names → length names ≡ names_of listings i
+  names_count i names h = ap length (Lists-only pair_key (λ x. (at : ℕ) × HasNameIn rows x.0 x.1 i at) names (pairs_in i listings) h (names_are i)) ∙ pairs_count i listings
+
+  pub cross_there : (f : Fault) → IsFault listings f → IsCrossFaultIn rows f
+  cross_there f (listed.c1 d x dc xc un) = cross.c1 x.name.now x.inode (says d x x.inode dc xc refl) (unused_there x.inode un)
+  cross_there f (listed.c2 l c dir other ne) = let w = row l c in
+      let P : ℕ → Type 0 = λ j. IsCrossFaultIn rows (faults.C2 j) in
+      subst P (sym w.2.inode) (cross.c2 w.0 (pairs_in w.0.inode listings) w.1 (sym w.2.kind ∙ dir) (λ e. other (w.2.inode ∙ e)) (names_are w.0.inode) (λ e. ne (ap (names_of listings) w.2.inode ∙ sym (pairs_count w.0.inode listings) ∙ e)))
+  cross_there f (listed.c2_root l c dir one some) = let w = row l c in
+      let P : ℕ → Type 0 = λ j. IsCrossFaultIn rows (faults.C2 j) in let N : ℕ → Type 0 = λ j. 0 < names_of listings j in
+      subst P (sym one) (cross.c2_root w.0 (pairs_in 1 listings) w.1 (sym w.2.kind ∙ dir) (sym w.2.inode ∙ one) (names_are 1) (let n = pairs_count 1 listings in let g = subst N one some in omega (arith, n, g)))
+  cross_there f (listed.c3 l c file ne) = let w = row l c in
+      let P : ℕ → Type 0 = λ j. IsCrossFaultIn rows (faults.C3 j) in
+      subst P (sym w.2.inode) (cross.c3 w.0 (pairs_in w.0.inode listings) w.1 (sym w.2.kind ∙ file) (names_are w.0.inode) (λ e. ne (w.2.links ∙ e ∙ pairs_count w.0.inode listings ∙ ap (names_of listings) (sym w.2.inode))))
+  cross_there f (listed.c4 l c out) = let w = row l c in
+      let P : ℕ → Type 0 = λ j. IsCrossFaultIn rows (faults.C4 j) in let Q : ℕ → Type 0 = λ j. IsReached listings j in
+      subst P (sym w.2.inode) (cross.c4 w.0 w.1 (λ u. out (subst Q (sym w.2.inode) (reached_back w.0.inode u))))
+  cross_there f (listed.c5 out) = cross.c5 (λ r c one dir. (let w = listing r c in out w.0 w.1 (w.2.inode ∙ one) (w.2.kind ∙ dir)))
+
+  pub cross_back : (f : Fault) → IsCrossFaultIn rows f → IsFault listings f
+  cross_back f (cross.c1 {d = d} {at = at} name i h un) = let s = found d i at name h in
+      let e = s.is in
+      let place : s.line.place ≡ at = sym (ap (λ (z : Line). z.2) e) in let to : i ≡ s.line.inode = ap (λ (z : Line). z.1) e in
+      let P : ℕ → Type 0 = λ j. IsFault listings (faults.C1 j at) in let Q : ℕ → Type 0 = λ a. IsFault listings (faults.C1 s.listing.inode a) in let U : ℕ → Type 0 = λ j. IsUnused listings j in
+      subst P s.inode (subst Q place (listed.c1 s.listing s.line s.here s.has (subst U to (unused_back i un))))
+  cross_back f (cross.c2 r names c dir other are_names ne) = let w = listing r c in
+      let P : ℕ → Type 0 = λ j. IsFault listings (faults.C2 j) in
+      subst P w.2.inode (listed.c2 w.0 w.1 (w.2.kind ∙ dir) (λ e. other (sym w.2.inode ∙ e)) (λ e. ne (names_count r.inode names are_names ∙ ap (names_of listings) (sym w.2.inode) ∙ e)))
+  cross_back f (cross.c2_root r names c dir one are_names some) = let w = listing r c in
+      let P : ℕ → Type 0 = λ j. IsFault listings (faults.C2 j) in let N : ℕ → Type 0 = λ j. 0 < names_of listings j in
+      subst P (w.2.inode ∙ one) (listed.c2_root w.0 w.1 (w.2.kind ∙ dir) (w.2.inode ∙ one) (subst N (sym (w.2.inode ∙ one)) (let n = names_count 1 names are_names in omega (arith, n, some))))
+  cross_back f (cross.c3 r names c file are_names ne) = let w = listing r c in
+      let P : ℕ → Type 0 = λ j. IsFault listings (faults.C3 j) in
+      subst P w.2.inode (listed.c3 w.0 w.1 (w.2.kind ∙ file) (λ e. ne (sym w.2.links ∙ e ∙ ap (names_of listings) w.2.inode ∙ sym (names_count r.inode names are_names))))
+  cross_back f (cross.c4 r c out) = let w = listing r c in
+      let P : ℕ → Type 0 = λ j. IsFault listings (faults.C4 j) in let Q : ℕ → Type 0 = λ j. IsReachedIn rows j in
+      subst P w.2.inode (listed.c4 w.0 w.1 (λ u. out (subst Q w.2.inode (reached_there w.0.inode u))))
+  cross_back f (cross.c5 out) = listed.c5 (λ l c one dir. (let w = row l c in out w.0 w.1 (sym w.2.inode ∙ one) (sym w.2.kind ∙ dir)))
+
+-- the faults between the listed rows, sorted, are those between the rows
+pub cross_listed : (rows : List Row) (listings : List Listing) (are : AreListings rows listings) (rising : Rises row_key rows) (every new : List Fault)
+    → ((f : Fault) → (Contains every f → IsFault listings f) × (IsFault listings f → Contains every f)) → SortedOf fault_key every new → Lists fault_key (IsCrossFaultIn rows) new
+cross_listed rows listings are rising every new all s = record {
+  rising = s.rising;
+  each = λ f c. cross_there rows listings are rising f ((all f).0 (s.from f c));
+  all = λ f h. s.kept f ((all f).1 (cross_back rows listings are rising f h));
+}

@@ -1,0 +1,9 @@
+pub mod Filters
+pub mod PlaceTable
+pub mod Spread
+pub mod Counting
+pub mod Follow
+pub mod Adds
+pub mod Rows
+pub mod Together
+pub mod CrossRows

@@ -1,0 +1,78 @@
+-- The rows, and the same with their names listed.
+use Rattle.std.proofs.Common.{◌≡◌, ℕ, zero, suc, ◌+◌, ◌<◌, nat_cmp, inl, inr, List, [], ◌∷◌, ◌++◌, length, get_or, map, take, refl, ap, sym, ◌∙◌, subst, arith}
+use Rattle.std.specs.Prelude.{All, IsTrue}
+use Rattle.std.specs.List.{Contains, AllZip}
+use Rattle.std.specs.List.Sorted.{IsStrictlyIncreasing}
+use Rattle.std.specs.Cmp.Lexicographic.{slice_cmp}
+use Rattle.std.specs.declared.cmp.Ordering.TheVariants.{Less, Equal, Greater}
+use Rattle.std.proofs.lemmas.Bool.Decides.{nat_tests}
+use Rattle.std.proofs.lemmas.List.{take_more}
+use Rattle.nv_super.specs.Order.{Rises}
+use Rattle.nv_super.specs.Layout.{is_number}
+use Rattle.nv_super.specs.declared.superblock.Super.{Super}
+use Rattle.nv_super.proofs.Rising.{Contains-cons, Contains-head, Contains-tail}
+use Rattle.nv_scan.specs.declared.piece.Row.{Row}
+use Rattle.nv_check.specs.declared.listing.Listing.{Listing}
+use Rattle.nv_check.proofs.Spread.{get_or_any}
+use Rattle.nv_check.specs.Cross.{row_key}
+use Rattle.nv_check.specs.Listings.{IsListing, AreListings, inodes_of}
+
+zip_push : {A B : Type 0} (R : A → B → Type 0) (xs : List A) (ys : List B) (x : A) (y : B) → AllZip R xs ys → R x y → AllZip R (xs ++ x ∷ []) (ys ++ y ∷ [])
+zip_push R [] [] x y h r = (r, tt)
+zip_push R [] (b ∷ ys) x y h r = absurd h
+zip_push R (a ∷ xs) [] x y h r = absurd h
+zip_push R (a ∷ xs) (b ∷ ys) x y h r = (h.0, zip_push R xs ys x y h.1 r)
+
+pub listed_more : (rows : List Row) (n : ℕ) (r : Row) (old new : List Listing) (l : Listing) → n < length rows → r ≡ get_or rows n r → AreListings (take n rows) old → new ≡ old ++ l ∷ [] → IsListing r l → AreListings (take (n + 1) rows) new
+listed_more rows n r old new l lt is h e one =
+    let more : take (n + 1) rows ≡ take n rows ++ r ∷ [] = take_more rows n r lt ∙ ap (λ (x : Row). take n rows ++ x ∷ []) (sym is) in
+    let P : List Row → Type 0 = λ rs. AreListings rs new in let Q : List Listing → Type 0 = λ ls. AreListings (take n rows ++ r ∷ []) ls in
+    subst P (sym more) (subst Q (sym e) (zip_push IsListing (take n rows) old r l h one))
+
+-- each row is listed
+pub listing_of : {A B : Type 0} (R : A → B → Type 0) (xs : List A) (ys : List B) (x : A) → AllZip R xs ys → Contains xs x → (y : B) × Contains ys y × R x y
+listing_of R [] [] x h c = absurd (omega (arith, c.1))
+listing_of R [] (b ∷ ys) x h c = absurd h
+listing_of R (a ∷ xs) [] x h c = absurd h
+listing_of {A} {B} R (a ∷ xs) (b ∷ ys) x h c = elim (Contains-cons a xs x c) [
+  | inl w ↦ (b, Contains-head b ys, (let P : A → Type 0 = λ z. R z b in subst P (sym w) h.0))
+  | inr w ↦ (let r = listing_of R xs ys x h.1 w in (r.0, Contains-tail b ys r.0 r.1, r.2))
+]
+
+-- each listing is a row's
+pub row_of : {A B : Type 0} (R : A → B → Type 0) (xs : List A) (ys : List B) (y : B) → AllZip R xs ys → Contains ys y → (x : A) × Contains xs x × R x y
+row_of R [] [] y h c = absurd (omega (arith, c.1))
+row_of R [] (b ∷ ys) y h c = absurd h
+row_of R (a ∷ xs) [] y h c = absurd h
+row_of {A} {B} R (a ∷ xs) (b ∷ ys) y h c = elim (Contains-cons b ys y c) [
+  | inl w ↦ (a, Contains-head a xs, (let P : B → Type 0 = λ z. R a z in subst P (sym w) h.0))
+  | inr w ↦ (let r = row_of R xs ys y h.1 w in (r.0, Contains-tail a xs r.0 r.1, r.2))
+]
+
+inodes_same : (rows : List Row) (listings : List Listing) → AreListings rows listings → inodes_of listings ≡ map (λ (r : Row). r.inode) rows
+inodes_same [] [] h = refl
+inodes_same [] (l ∷ listings) h = absurd h
+inodes_same (r ∷ rows) [] h = absurd h
+inodes_same (r ∷ rows) (l ∷ listings) h = λ i. h.0.inode i ∷ inodes_same rows listings h.1 i
+
+pub key_less : (a b : ℕ) → slice_cmp nat_cmp (a ∷ []) (b ∷ []) ≡ Less → a < b
+key_less a b h = grind (arith, nat_tests)
+
+rising_rows : (rows : List Row) → Rises row_key rows → IsStrictlyIncreasing (map (λ (r : Row). r.inode) rows)
+rising_rows [] r k lt = absurd (omega (arith, lt))
+rising_rows (x ∷ []) r k lt = absurd (omega (arith, lt))
+rising_rows (x ∷ y ∷ rows) r zero lt = key_less x.inode y.inode r.0
+rising_rows (x ∷ y ∷ rows) r (suc k) lt =
+    let e : suc k + 1 ≡ suc (k + 1) = omega arith in
+    let P : ℕ → Type 0 = λ n. get_or (map (λ (r : Row). r.inode) (x ∷ y ∷ rows)) (suc k) 0 < get_or (map (λ (r : Row). r.inode) (x ∷ y ∷ rows)) n 0 in
+    subst P (sym e) (rising_rows (y ∷ rows) r.1 k (omega (arith, lt)))
+
+pub rising_inodes : (rows : List Row) (listings : List Listing) → AreListings rows listings → Rises row_key rows → IsStrictlyIncreasing (inodes_of listings)
+rising_inodes rows listings h r = let P : List ℕ → Type 0 = λ is. IsStrictlyIncreasing is in subst P (sym (inodes_same rows listings h)) (rising_rows rows r)
+
+pub numbers_listed : (s : Super) (rows : List Row) (listings : List Listing) → AreListings rows listings → All (λ (r : Row). IsTrue (is_number s r.inode)) rows → All (λ (l : Listing). IsTrue (is_number s l.inode)) listings
+numbers_listed s rows listings h each k d lt =
+    let w = row_of IsListing rows listings (get_or listings k d) h (k, lt, get_or_any listings k (get_or listings k d) d lt) in
+    let P : ℕ → Type 0 = λ i. IsTrue (is_number s i) in
+    let Q : Row → Type 0 = λ r. IsTrue (is_number s r.inode) in
+    subst P (sym w.2.inode) (subst Q w.1.2 (each w.1.0 w.0 w.1.1))

@@ -1,0 +1,15 @@
+use Rattle.std.proofs.Common.{◌≡◌, ℕ, List, ◌<◌, ◌≤◌, length, take, arith, sym, subst, ◌∙◌, ap, true, eqb-true, eq-eqb}
+use Rattle.std.specs.List.{filter}
+use Rattle.std.proofs.lemmas.List.{take_all}
+use Rattle.nv_super.specs.declared.owners.Owner.{Owner}
+use Rattle.nv_super.specs.Order.{claim_key, SortedOf}
+use Rattle.nv_super.specs.Sets.{is_set, has}
+use Rattle.nv_check.proofs.Filters.{lists_filter}
+use Rattle.nv_check.proofs.owners.doubled.Goals as goal
+
+pub returns : goal.returns
+returns c =
+    let all : take c.loop-claim.claim-index c.args.claims.now ≡ c.args.claims.now = take_all _ _ c.loop-claim-test.false in
+    let is : c.loop-claim.found.items ≡ filter (λ (x : ℕ × Owner). is_set c.args.second.now x.0) c.args.claims.now = c.loop-claim.invariant ∙ ap (filter (λ (x : ℕ × Owner). is_set c.args.second.now x.0)) all in
+    let P : List (ℕ × Owner) → Type 0 = λ xs. SortedOf claim_key xs c.sort_claims.new.claims.items in
+    lists_filter claim_key (λ (x : ℕ × Owner). is_set c.args.second.now x.0) (λ x. has c.args.second.now x.0 ≡ 1) _ _ (λ x h. eqb-true _ _ h) (λ x h. eq-eqb _ _ h) (subst P is c.sort_claims.ensures)

@@ -1,0 +1,26 @@
+use Rattle.std.proofs.Common.{◌≡◌, ◌∙◌, ◌<◌, ◌+◌, ℕ, sym, ap, arith, length, get_or, Some, subst, List, Option}
+use Rattle.std.proofs.Math.ListN.{set, length-set}
+use Rattle.nv_super.specs.Layout.{inode_limit}
+use Rattle.nv_check.specs.Listings.{inodes_of}
+use Rattle.nv_check.specs.Steps.{ArePlacesTo}
+use Rattle.nv_check.proofs.PlaceTable.{places_more, below_limit}
+use Rattle.nv_check.proofs.Follow.{inodes_len, inode_at}
+use Rattle.nv_check.proofs.places.places_of.Goals as goal
+
+pub loop-place-preserved : goal.loop-place-preserved
+loop-place-preserved c =
+    let inodes = inodes_of c.args.listings.now in let l = c.index-listings-place.result in let n = c.loop-place.place in
+    let lt = c.loop-place-test.true in
+    let len = inodes_len c.args.listings.now in
+    let here : get_or inodes n 0 ≡ l.inode = inode_at c.args.listings.now n l (lt, sym c.index-listings-place.is) in
+    let small : l.inode < inode_limit c.args.sup.now = below_limit c.args.sup.now c.args.listings.now n l lt c.index-listings-place.is c.requires.numbers in
+    let within : get_or inodes n 0 < length c.loop-place.places.items = omega (arith, here, small, c.loop-place.invariant.0) in
+    let P : ℕ → Type 0 = λ i. ArePlacesTo inodes (n + 1) (set c.loop-place.places.items i (Some n)) in (
+      length-set c.loop-place.places.items l.inode (Some n) ∙ c.loop-place.invariant.0,
+      subst P here (places_more inodes n c.loop-place.places.items c.requires.rising (omega (arith, lt, len)) within c.loop-place.invariant.1),
+    )
+
+pub returns : goal.returns
+returns c =
+    let e : c.loop-place.place ≡ length c.args.listings.now = omega arith in
+    let P : ℕ → Type 0 = λ n. ArePlacesTo (inodes_of c.args.listings.now) n c.loop-place.places.items in subst P e c.loop-place.invariant.1

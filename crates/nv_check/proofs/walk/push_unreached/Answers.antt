@@ -1,0 +1,18 @@
+use Rattle.std.proofs.Common.{◌≡◌, ◌++◌, ◌∷◌, [], arith, sym, ◌∙◌, ◌<◌, length, ap}
+use Rattle.nv_super.specs.declared.faults.Fault.TheVariants as faults
+use Rattle.nv_check.proofs.Adds.{adds_one, adds_skip}
+use Rattle.nv_check.proofs.walk.push_unreached.Goals as goal
+use Rattle.nv_check.proofs.walk.push_unreached.Goals.{then-not-marks-place+in_ok-push, else-not-marks-place}
+
+pub loop-place-preserved : goal.loop-place-preserved
+loop-place-preserved c =
+    let lt : c.loop-place.place < length c.args.listings.now = omega arith in
+    elim c.if-not-marks-place.branch [
+      | then-not-marks-place+in_ok-push w ↦
+          (let e : c.if-not-marks-place.faults.items ≡ c.loop-place.faults.items ++ faults.C4 c.index-listings-place.result.inode ∷ [] =
+          ap (λ v. v.items) w.faults-is ∙ w.in_ok-push.ensures.items in
+          rw e (adds_one _ _ _ _ _ _ (lt, sym c.index-listings-place.is) w.if-not-marks-place.true c.loop-place.invariant))
+      | else-not-marks-place w ↦
+          (let e : c.if-not-marks-place.faults.items ≡ c.loop-place.faults.items = ap (λ v. v.items) w.faults-is in
+          rw e (adds_skip _ _ _ _ _ w.if-not-marks-place.false c.loop-place.invariant))
+    ]

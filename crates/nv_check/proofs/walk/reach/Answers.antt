@@ -1,0 +1,37 @@
+use Rattle.std.proofs.Common.{◌≡◌, Bool, map, List, ℕ, [], ◌∷◌, ◌++◌, ◌<◌, ◌*◌, length, arith, subst, sym, ◌∙◌, Option}
+use Rattle.std.proofs.lemmas.List.Elements.{Contains-push}
+use Rattle.nv_names.specs.declared.named.Named.{Named}
+use Rattle.nv_check.specs.declared.listing.Listing.{Listing}
+use Rattle.nv_check.specs.Steps.{Reaching, Spreads, IsAt, IsTable}
+use Rattle.nv_check.specs.Listings.{target}
+use Rattle.nv_check.proofs.Follow.{reaching_step, reaching_done, empty_list, is_table}
+use Rattle.nv_check.proofs.walk.reach.Goals as goal
+
+stands_in : {listings : List Listing} {table : List (Option ℕ)} {marks : List Bool} {todo : List ℕ} (rest : List ℕ) (place : ℕ) → Reaching listings table marks todo → todo ≡ rest ++ place ∷ [] → Reaching listings table marks (rest ++ place ∷ [])
+stands_in {listings} {table} {marks} rest place h e = let P : List ℕ → Type 0 = λ xs. Reaching listings table marks xs in subst P e h
+
+place_below : {listings : List Listing} {table : List (Option ℕ)} {marks : List Bool} {todo : List ℕ} (rest : List ℕ) (place : ℕ) → Reaching listings table marks todo → todo ≡ rest ++ place ∷ [] → place < length listings
+place_below rest place h e = ((stands_in rest place h e).todo_marked place (Contains-push rest place)).1
+
+pub bounds-listings-place : goal.bounds-listings-place
+bounds-listings-place c = place_below _ _ c.loop-place.invariant c.in-Some.ensures.items
+
+pub offset_bounds-listings-place : goal.offset_bounds-listings-place
+offset_bounds-listings-place c = let lt = place_below _ _ c.loop-place.invariant c.in-Some.ensures.items in omega (arith, lt)
+
+pub spread-requires : goal.spread-requires
+spread-requires c = let P : ℕ → Type 0 = λ n. IsTable n c.args.places.now in subst P (sym c.loop-place.invariant.same) (is_table c.args.listings.now c.args.places.now c.requires)
+
+pub loop-place-preserved : goal.loop-place-preserved
+loop-place-preserved c =
+    let at : IsAt c.args.listings.now c.in-Some.place c.index-listings-place.result = (place_below _ _ c.loop-place.invariant c.in-Some.ensures.items, sym c.index-listings-place.is) in
+    let S : List Named → Type 0 = λ ns. Spreads c.args.places.now (map target ns) c.loop-place.marks.items c.pop.new.self.items c.spread.new.marks.items c.spread.new.todo.items in
+    let L : Listing → Type 0 = λ l. S l.names.items in
+    let one : S c.index-listings-place.result.names.items = subst L (sym c.index-listings-place.is) (subst S c.deref.ensures.value c.in_ok-spread.ensures) in
+    reaching_step c.args.listings.now c.args.places.now c.requires _ _ _ _ _ _ at (stands_in _ _ c.loop-place.invariant c.in-Some.ensures.items) one
+
+pub returns : goal.returns
+returns c =
+    let none : c.loop-place.todo.items ≡ [] = empty_list _ (omega (arith, c.in_default.ensures.cases)) in
+    let P : List ℕ → Type 0 = λ xs. Reaching c.args.listings.now c.args.places.now c.loop-place.marks.items xs in
+    reaching_done c.args.listings.now c.args.places.now c.requires _ (subst P none c.loop-place.invariant)

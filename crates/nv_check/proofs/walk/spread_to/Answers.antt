@@ -1,0 +1,18 @@
+use Rattle.std.proofs.Common.{arith, sym, ◌∙◌, false, true}
+use Rattle.nv_check.proofs.Spread.{spread_new, spread_old, spread_none, read_at}
+use Rattle.nv_check.proofs.walk.spread_to.Goals as goal
+
+pub returns-in_ok-push : goal.returns-in_ok-push
+returns-in_ok-push c =
+    let at = sym c.find.ensures ∙ c.in-Some.is in
+    let within = c.requires.within _ _ at in
+    rw c.in_ok-push.ensures.items (spread_new _ _ _ _ _ at within (read_at _ _ _ false false within c.index.ensures c.if-not-index.true))
+
+pub returns-else-not-index : goal.returns-else-not-index
+returns-else-not-index c =
+    let at = sym c.find.ensures ∙ c.in-Some.is in
+    let within = c.requires.within _ _ at in
+    spread_old _ _ _ _ _ at (read_at _ _ _ true false within c.index.ensures c.if-not-index.false)
+
+pub returns-in_default : goal.returns-in_default
+returns-in_default c = spread_none _ _ _ _ (sym c.find.ensures ∙ c.in_default.is)

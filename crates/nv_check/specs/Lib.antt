@@ -1,0 +1,5 @@
+pub mod Cross
+pub mod Doubled
+pub mod Listings
+pub mod Steps
+pub mod Tables

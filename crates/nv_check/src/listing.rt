@@ -1,0 +1,57 @@
+//! The rows with their names listed, once for all checks.
+
+ghost use Rattle.std.specs.Prelude.{◌≡◌, ◌++◌, List, map, IfOk, OnOk};
+ghost use Rattle.nv_check.specs.Listings.{AreListings, target, targets};
+
+use nv_names::Named;
+use nv_scan::Row;
+use nv_super::Kind;
+use std::alloc::{AllocError, Global};
+
+/// What the checks read of a row, with each name once, rising.
+#[derive(Drop)]
+pub(crate) struct Listing<'a> {
+    pub(crate) inode: u64,
+    pub(crate) kind: Kind,
+    pub(crate) links: u32,
+    pub(crate) names: Vec<Named<'a>>,
+}
+
+/// The rows with their names listed. A row without names takes no memory for them.
+pub(crate) fn listings_of<'a>(
+    alloc: Global,
+    rows: &'a [Row],
+) -> Result<Vec<Listing<'a>>, AllocError>
+    ensures { IfOk result (λ listings. AreListings rows.now listings.items) }
+{
+    let mut listings = Vec::new(alloc);
+    for row in rows {
+        listings.push(Listing {
+            inode: row.inode,
+            kind: row.kind,
+            links: row.numbers.links,
+            names: row.names.list()?,
+        })?;
+    }
+    Ok(listings)
+}
+
+/// The inodes named, once for each name.
+pub(crate) fn targets_of(alloc: Global, listings: &[Listing<'_>]) -> Result<Vec<u64>, AllocError>
+    ensures { IfOk result (λ found. found.items ≡ targets listings.now) }
+{
+    let mut found = Vec::new(alloc);
+    for listing in listings {
+        push_targets(&mut found, &listing.names)?;
+    }
+    Ok(found)
+}
+
+fn push_targets(found: &mut Vec<u64>, names: &[Named<'_>]) -> Result<(), AllocError>
+    ensures { OnOk result (found.new.items ≡ found.old.items ++ map target names.now) }
+{
+    for name in names {
+        found.push(name.inode)?;
+    }
+    Ok(())
+}

@@ -1,0 +1,42 @@
+//! Names that lead nowhere.
+
+ghost use Rattle.std.specs.Prelude.{◌≡◌, ◌++◌, List, IfOk, OnOk};
+ghost use Rattle.nv_check.specs.Steps.{unused_of, unused_faults};
+
+use crate::listing::Listing;
+use crate::places::find;
+use nv_super::Fault;
+use std::alloc::{AllocError, Global};
+
+/// Faults of names whose inode isn't in use.
+pub(crate) fn push_unused(
+    faults: &mut Vec<Fault>,
+    places: &[Option<usize>],
+    listings: &[Listing<'_>],
+) -> Result<(), AllocError>
+    ensures { OnOk result (faults.new.items ≡ faults.old.items ++ unused_faults places.now listings.now) }
+{
+    for listing in listings {
+        push_unused_of(faults, places, listing)?;
+    }
+    Ok(())
+}
+
+/// The same of one row.
+pub(crate) fn push_unused_of(
+    faults: &mut Vec<Fault>,
+    places: &[Option<usize>],
+    listing: &Listing<'_>,
+) -> Result<(), AllocError>
+    ensures { OnOk result (faults.new.items ≡ faults.old.items ++ unused_of places.now listing.now) }
+{
+    for name in &listing.names {
+        if find(places, name.inode).is_none() {
+            faults.push(Fault::C1 {
+                directory: listing.inode,
+                at: name.place,
+            })?;
+        }
+    }
+    Ok(())
+}

@@ -1,0 +1,39 @@
+//! Blocks with two owners or more.
+
+ghost use Rattle.std.specs.Prelude.{◌≡◌, ◌<◌, ◌*◌, ℕ, length, IfOk};
+ghost use Rattle.std.specs.List.{All};
+ghost use Rattle.nv_super.specs.declared.owners.Owner.{Owner as OwnerValue};
+ghost use Rattle.nv_super.specs.Sets.{is_set};
+ghost use Rattle.nv_check.specs.Doubled.{AreDoubled};
+
+use nv_super::{Owner, sort_claims};
+use std::alloc::{AllocError, Global};
+
+/// All claims of the blocks in the second set, each once, rising by block and owner: also the one that came first.
+///
+/// Block b is bit `b % 64` of word `b / 64` of the set, which has a word for each claim's block.
+pub fn doubled(
+    alloc: Global,
+    claims: &[(u64, Owner)],
+    second: &[u64],
+) -> Result<Vec<(u64, Owner)>, AllocError>
+    requires covers { All (λ (x : ℕ × OwnerValue). x.0 < 64 * length second.now) claims.now }
+    ensures { IfOk result (λ found. AreDoubled claims.now second.now found.items) }
+{
+    let mut found = Vec::new(alloc);
+    for claim in claims {
+        if is_in(second, claim.0) {
+            found.push(*claim)?;
+        }
+    }
+    sort_claims(&mut found);
+    Ok(found)
+}
+
+/// Whether a block is in a set.
+fn is_in(set: &[u64], block: u64) -> bool
+    requires { block < 64 * length set.now }
+    ensures { result ≡ is_set set.now block }
+{
+    set[(block / 64) as usize] >> (block % 64) & 1 == 1
+}

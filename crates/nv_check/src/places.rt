@@ -1,0 +1,38 @@
+//! Where the row of each inode stands.
+
+ghost use Rattle.std.specs.Prelude.{◌≡◌, IfOk, IsTrue};
+ghost use Rattle.std.specs.List.{All};
+ghost use Rattle.std.specs.List.Sorted.{IsStrictlyIncreasing};
+ghost use Rattle.nv_super.specs.Layout.{IsLayout, is_number};
+ghost use Rattle.nv_check.specs.declared.listing.Listing.{Listing as ListingValue};
+ghost use Rattle.nv_check.specs.Listings.{inodes_of};
+ghost use Rattle.nv_check.specs.Steps.{place_of, ArePlaces};
+
+use crate::listing::Listing;
+use nv_super::Super;
+use std::alloc::{AllocError, Global};
+
+/// The place of each inode's row, by the inode's number.
+pub(crate) fn places_of(
+    alloc: Global,
+    sup: &Super,
+    listings: &[Listing<'_>],
+) -> Result<Vec<Option<usize>>, AllocError>
+    requires layout { IsLayout sup.now }
+    requires rising { IsStrictlyIncreasing (inodes_of listings.now) }
+    requires numbers { All (λ (l : ListingValue). IsTrue (is_number sup.now l.inode)) listings.now }
+    ensures { IfOk result (λ table. ArePlaces listings.now table.items) }
+{
+    let mut places = vec![in alloc; None; sup.max_inode() as usize + 1]?;
+    for (place, listing) in listings.iter().enumerate() {
+        places[listing.inode as usize] = Some(place);
+    }
+    Ok(places)
+}
+
+/// The place of an inode's row, if it is in use.
+pub(crate) fn find(places: &[Option<usize>], inode: u64) -> Option<usize>
+    ensures { result ≡ place_of places.now inode }
+{
+    places.get(inode as usize).copied().flatten()
+}

@@ -1,0 +1,141 @@
+//! Which inodes are reached by names from the root.
+
+ghost use Rattle.std.specs.Prelude.{◌≡◌, ◌<◌, ◌≤◌, ◌++◌, ℕ, List, [], ◌∷◌, length, map, replicate, false, OnOk, IfOk};
+ghost use Rattle.nv_check.specs.Listings.{target};
+ghost use Rattle.nv_check.specs.Steps.{Spreads, IsTable, ArePlaces, AreReached, Reaching, Adds, IsUnmarkedBelow, IsFar, root_faults};
+
+use crate::listing::Listing;
+use crate::places::find;
+use nv_names::Named;
+use nv_super::{Fault, Kind};
+use std::alloc::{AllocError, Global};
+
+/// Faults of inodes that aren't reached from the root, and of a root that is no directory in use.
+pub(crate) fn push_far(
+    alloc: Global,
+    faults: &mut Vec<Fault>,
+    places: &[Option<usize>],
+    listings: &[Listing<'_>],
+) -> Result<(), AllocError>
+    requires { ArePlaces listings.now places.now }
+    ensures { OnOk result (Adds (IsFar listings.now) faults.old.items faults.new.items) }
+{
+    let marks = reach(alloc, listings, places)?;
+    push_unreached(faults, listings, &marks)?;
+    push_no_root(faults, listings)
+}
+
+/// Which of the rows are reached by names from the root. Each row's names are followed once at most.
+pub(crate) fn reach(
+    alloc: Global,
+    listings: &[Listing<'_>],
+    places: &[Option<usize>],
+) -> Result<Vec<bool>, AllocError>
+    requires { ArePlaces listings.now places.now }
+    ensures { IfOk result (λ marks. AreReached listings.now marks.items) }
+{
+    let mut marks = vec![in alloc; false; listings.len()]?;
+    let mut todo = Vec::new(alloc);
+    mark_root(listings, places, &mut marks, &mut todo)?;
+    while let Some(place) = todo.pop() {
+        spread(places, &listings[place].names, &mut marks, &mut todo)?;
+    }
+    Ok(marks)
+}
+
+/// Marks the root, where it is a directory.
+fn mark_root(
+    listings: &[Listing<'_>],
+    places: &[Option<usize>],
+    marks: &mut Vec<bool>,
+    todo: &mut Vec<usize>,
+) -> Result<(), AllocError>
+    requires places { ArePlaces listings.now places.now }
+    requires clear { marks.old.items ≡ replicate (length listings.now) false }
+    requires none { todo.old.items ≡ [] }
+    ensures { OnOk result (Reaching listings.now places.now marks.new.items todo.new.items) }
+{
+    if let Some(place) = find(places, 1) {
+        let root = &listings[place];
+        match root.kind {
+            Kind::Directory => {
+                todo.push(place)?;
+                marks[place] = true;
+            }
+            Kind::File => {}
+        }
+    }
+    Ok(())
+}
+
+/// Faults of inodes that aren't marked.
+pub(crate) fn push_unreached(
+    faults: &mut Vec<Fault>,
+    listings: &[Listing<'_>],
+    marks: &[bool],
+) -> Result<(), AllocError>
+    requires { length marks.now ≡ length listings.now }
+    ensures { OnOk result (Adds (IsUnmarkedBelow listings.now marks.now (length listings.now)) faults.old.items faults.new.items) }
+{
+    for (place, listing) in listings.iter().enumerate() {
+        if !marks[place] {
+            faults.push(Fault::C4 {
+                inode: listing.inode,
+            })?;
+        }
+    }
+    Ok(())
+}
+
+/// The fault of a region whose inode 1 isn't a directory in use.
+fn push_no_root(faults: &mut Vec<Fault>, listings: &[Listing<'_>]) -> Result<(), AllocError>
+    ensures { OnOk result (faults.new.items ≡ faults.old.items ++ root_faults listings.now) }
+{
+    for listing in listings {
+        match listing.kind {
+            Kind::Directory => {
+                if listing.inode == 1 {
+                    return Ok(());
+                }
+            }
+            Kind::File => {}
+        }
+    }
+    faults.push(Fault::C5)?;
+    Ok(())
+}
+
+/// Marks what the names name, and opens it where it wasn't marked.
+fn spread(
+    places: &[Option<usize>],
+    names: &[Named<'_>],
+    marks: &mut Vec<bool>,
+    todo: &mut Vec<usize>,
+) -> Result<(), AllocError>
+    requires { IsTable (length marks.old.items) places.now }
+    ensures { OnOk result (Spreads places.now (map target names.now) marks.old.items todo.old.items marks.new.items todo.new.items) }
+{
+    for name in names {
+        spread_to(places, name.inode, marks, todo)?;
+    }
+    Ok(())
+}
+
+/// Marks an inode, and opens it where it wasn't marked.
+fn spread_to(
+    places: &[Option<usize>],
+    inode: u64,
+    marks: &mut Vec<bool>,
+    todo: &mut Vec<usize>,
+) -> Result<(), AllocError>
+    requires { IsTable (length marks.old.items) places.now }
+    ensures { OnOk result (Spreads places.now (inode ∷ []) marks.old.items todo.old.items marks.new.items todo.new.items) }
+{
+    if let Some(place) = find(places, inode) {
+        if !marks[place] {
+            todo.push(place)?;
+            marks[place] = true;
+        }
+    }
+    Ok(())
+}

@@ -1,0 +1,111 @@
+-- Recovering again shows the same, but for pending records.
+use Rattle.std.proofs.Common.{◌≡◌, ℕ, ◌*◌, ◌+◌, sym, ◌∙◌, subst, arith}
+use Rattle.nv_region.specs.Region.{Region}
+use Rattle.nv_super.specs.declared.superblock.Super.{Super}
+use Rattle.nv_super.specs.declared.owners.Owner.{Owner}
+use Rattle.nv_super.specs.declared.faults.Fault.{Fault}
+use Rattle.nv_super.specs.declared.faults.Fault.TheVariants as faults
+use Rattle.nv_super.specs.Layout.{Layout, fixed_layout}
+use Rattle.nv_super.specs.Order.{Lists, claim_key, fault_key}
+use Rattle.nv_super.specs.Super.{IsSuper}
+use Rattle.nv_super.proofs.Rising.{Lists-only}
+use Rattle.nv_journal.specs.Permitted.{LiesBehind, is_permitted}
+use Rattle.nv_journal.specs.Undo.{undone}
+use Rattle.nv_journal.specs.Faults.{HasFault, IsPointerFault}
+use Rattle.nv_journal.proofs.Partly.{low_rule}
+use Rattle.nv_scan.specs.Faults.{IsFaultOf, IsEntryFault, e1, e2, e3, e4, i1, i2, i3, l1, l2, l3, l4, entry}
+use Rattle.nv_outcome.specs.Outcome.{AreRows, AreFreeLists, IsDoubled, IsCrossFault, c1, c2, c2_root, c3, c4, c5, IsFaulty, journal, inode, cross, double, Outcome, IsOutcome}
+use Rattle.nv_outcome.specs.Same.{IsLasting, ShowsAgain}
+use Rattle.nv_outcome.proofs.SuperOf.{layout_of_super}
+use Rattle.nv_outcome.proofs.OnlyOne.{same_rows, same_free}
+use Rattle.nv_outcome.proofs.UndoneAgain.{first_word, faults_left, undo_twice}
+
+-- ---- faults that last
+
+entry_lasts : {s : Super} {kind : _} {i : ℕ} {entries : _} {f : Fault} → IsEntryFault s kind i entries f → IsLasting f
+entry_lasts (e1 before x behind fault) = tt
+entry_lasts (e2 before x behind fault) = tt
+entry_lasts (e3 before at e old behind good add known) = tt
+entry_lasts (e4 before at e behind good remove unknown) = tt
+
+inode_lasts : {R : Region} {l : Layout} {i : ℕ} {f : Fault} → IsFaultOf R l i f → IsLasting f
+inode_lasts (i1 s h) = tt
+inode_lasts (i2 s h k) = tt
+inode_lasts (i3 s k t) = tt
+inode_lasts (l1 h e) = tt
+inode_lasts (l2 h e) = tt
+inode_lasts (l3 h e) = tt
+inode_lasts (l4 h e) = tt
+inode_lasts (entry h e) = entry_lasts e
+
+cross_lasts : {R : Region} {l : Layout} {f : Fault} → IsCrossFault R l f → IsLasting f
+cross_lasts (c1 name i h out) = tt
+cross_lasts (c2 names h dir other are ne) = tt
+cross_lasts (c2_root names h dir are some) = tt
+cross_lasts (c3 names h file are ne) = tt
+cross_lasts (c4 u out) = tt
+cross_lasts (c5 out) = tt
+
+pointer_lasts : (f : Fault) → IsPointerFault f → IsLasting f
+pointer_lasts (faults.J1 cpu) h = tt
+pointer_lasts _ h = absurd h
+
+-- of a journal's faults those of pointers last
+lasts_pointer : (s : Super) (R : Region) (f : Fault) → HasFault s R f → IsLasting f → IsPointerFault f
+lasts_pointer s R (faults.J1 cpu) h lasting = tt
+lasts_pointer s R (faults.J2 cpu k) h lasting = absurd lasting
+lasts_pointer s R _ h lasting = absurd h.2
+
+-- ---- the region with its journals rolled back
+
+module _ (R : Region) (s : Super) (is : IsSuper R s) where
+  rule : LiesBehind (is_permitted s) ((1 + s.cpus) * 4096)
+  rule = low_rule s (layout_of_super R s is)
+
+  -- it stays so
+  stays : undone s (undone s R) ≡ undone s R
+  stays = undo_twice (is_permitted s) s.cpus rule R
+
+  -- its superblock is as before
+  super_again : (t : Super) → IsSuper (undone s R) t → t ≡ s
+  super_again t q = λ i. record {
+    version = (q.version ∙ first_word (is_permitted s) s.cpus rule R 8 (omega arith) (omega arith) ∙ sym is.version) i;
+    cpus = (q.cpus ∙ first_word (is_permitted s) s.cpus rule R 16 (omega arith) (omega arith) ∙ sym is.cpus) i;
+    blocks = (q.blocks ∙ first_word (is_permitted s) s.cpus rule R 24 (omega arith) (omega arith) ∙ sym is.blocks) i;
+    table_blocks = (q.table_blocks ∙ first_word (is_permitted s) s.cpus rule R 32 (omega arith) (omega arith) ∙ sym is.table_blocks) i;
+    state = (q.state ∙ first_word (is_permitted s) s.cpus rule R 40 (omega arith) (omega arith) ∙ sym is.state) i;
+  }
+
+  faulty_before : {f : Fault} → IsFaulty (undone s R) s f → IsFaulty R s f × IsLasting f
+  faulty_before {f} (journal h) = let w = (faults_left (is_permitted s) s.cpus rule R f).0 h in (journal w.0, pointer_lasts f w.1)
+  faulty_before {f} (inode i h) = let P : Region → Type 0 = λ Q. IsFaultOf Q (fixed_layout s) i f in (inode i (subst P stays h), inode_lasts h)
+  faulty_before {f} (cross h) = let P : Region → Type 0 = λ Q. IsCrossFault Q (fixed_layout s) f in (cross (subst P stays h), cross_lasts h)
+  faulty_before (double {b = b} {o = o} h) = let P : Region → Type 0 = λ Q. IsDoubled Q (fixed_layout s) b o in (double (subst P stays h), tt)
+
+  faulty_again : {f : Fault} → IsFaulty R s f → IsLasting f → IsFaulty (undone s R) s f
+  faulty_again {f} (journal h) lasting = journal ((faults_left (is_permitted s) s.cpus rule R f).1 (h, lasts_pointer s R f h lasting))
+  faulty_again {f} (inode i h) lasting = let P : Region → Type 0 = λ Q. IsFaultOf Q (fixed_layout s) i f in inode i (subst P (sym stays) h)
+  faulty_again {f} (cross h) lasting = let P : Region → Type 0 = λ Q. IsCrossFault Q (fixed_layout s) f in cross (subst P (sym stays) h)
+  faulty_again (double {b = b} {o = o} h) lasting = let P : Region → Type 0 = λ Q. IsDoubled Q (fixed_layout s) b o in double (subst P (sym stays) h)
+
+pub shows_again : (R : Region) (a b : Outcome) → IsOutcome R a → IsOutcome (undone a.sup R) b → ShowsAgain a b
+shows_again R a b p q = record {
+  sup = e;
+  rows = same_rows a.rows b.rows p.rows (as_first (λ U s. AreRows U (fixed_layout s) b.rows) q.rows);
+  free = same_free a.free b.free p.free (as_first (λ U s. AreFreeLists U (fixed_layout s) b.free) q.free);
+  doubled = Lists-only claim_key _ b.doubled a.doubled (as_first (λ U s. Lists claim_key (λ (x : ℕ × Owner). IsDoubled U (fixed_layout s) x.0 x.1) b.doubled) q.doubled) p.doubled;
+  faults = λ f. (
+    (λ c. (let w = faulty_before R a.sup p.sup (its.each f c) in (p.faults.all f w.0, w.1))),
+    (λ c. its.all f (faulty_again R a.sup p.sup (p.faults.each f c.0) c.1)),
+  );
+} where
+  e : b.sup ≡ a.sup
+  e = super_again R a.sup p.sup b.sup q.sup
+
+  as_first : (P : Region → Super → Type 0) → P (undone b.sup (undone a.sup R)) b.sup → P (undone a.sup R) a.sup
+  as_first P h =
+      let at : P (undone a.sup (undone a.sup R)) a.sup = subst (λ (s : Super). P (undone s (undone a.sup R)) s) e h in
+      subst (λ (U : Region). P U a.sup) (stays R a.sup p.sup) at
+
+  its : Lists fault_key (IsFaulty (undone a.sup R) a.sup) b.faults
+  its = subst (λ (s : Super). Lists fault_key (IsFaulty (undone a.sup R) s) b.faults) e q.faults

@@ -1,0 +1,13 @@
+pub mod Members
+pub mod Counts
+pub mod Pieces
+pub mod RowsOf
+pub mod SuperOf
+pub mod CrossLaw
+pub mod Whole
+pub mod Shared
+pub mod OnlyOne
+pub mod UndoneAgain
+pub mod Again
+pub mod Reordered
+pub mod Tickets

@@ -1,0 +1,68 @@
+-- What pieces of all inodes have together.
+use Rattle.std.proofs.Common.{◌≡◌, ℕ, List, [], ◌∷◌, Some, ap, sym, ◌∙◌, subst}
+use Rattle.std.specs.List.{Contains}
+use Rattle.nv_region.specs.Region.{Region}
+use Rattle.nv_super.specs.declared.owners.Owner.{Owner}
+use Rattle.nv_super.specs.declared.owners.Owner.TheVariants as owners
+use Rattle.nv_super.specs.declared.faults.Fault.{Fault}
+use Rattle.nv_super.specs.Layout.{Layout, slot_of}
+use Rattle.nv_super.specs.Order.{owner_key, Rises}
+use Rattle.nv_super.proofs.Rising.{Contains-head, Contains-tail}
+use Rattle.nv_scan.specs.Owners.{Owns, by_log, by_page, inode_of}
+use Rattle.nv_scan.specs.Faults.{Has, IsFaultOf, i1, i2, i3, l1, l2, l3, l4, entry}
+use Rattle.nv_scan.specs.Rows.{IsPiece}
+use Rattle.nv_scan.specs.Work.{claims_in}
+use Rattle.nv_scan.specs.declared.piece.Piece.{Piece}
+use Rattle.nv_scan.proofs.Only.{slot_in_use}
+use Rattle.nv_scan.proofs.Rising.{Below, head_least}
+use Rattle.nv_outcome.specs.Parts.{ArePieces, faults_in, piece_key}
+use Rattle.nv_outcome.proofs.Members.{into_flat, from_flat, tail_rises, below_not_self}
+use Rattle.nv_outcome.proofs.Counts.{Once, Once-from_rises, Once-append}
+
+pub slot_of_owner : {R : Region} {l : Layout} {b : ℕ} (o : Owner) → Owns R l b o → (a : ℕ) × (slot_of l (inode_of o) ≡ Some a)
+slot_of_owner (owners.Log i k) (by_log {a = a} h e) = (a, slot_in_use h)
+slot_of_owner (owners.Data i p) (by_page {a = a} h e) = (a, slot_in_use h)
+
+pub slot_of_fault : {R : Region} {l : Layout} {i : ℕ} {f : Fault} → IsFaultOf R l i f → (a : ℕ) × (slot_of l i ≡ Some a)
+slot_of_fault (i1 {a = a} s h) = (a, s)
+slot_of_fault (i2 {a = a} s h k) = (a, s)
+slot_of_fault (i3 {a = a} s k t) = (a, s)
+slot_of_fault (l1 {a = a} h e) = (a, slot_in_use h)
+slot_of_fault (l2 {a = a} h e) = (a, slot_in_use h)
+slot_of_fault (l3 {a = a} h e) = (a, slot_in_use h)
+slot_of_fault (l4 {a = a} h e) = (a, slot_in_use h)
+slot_of_fault (entry {a = a} h e) = (a, slot_in_use h)
+
+module _ {R : Region} {l : Layout} where
+  pub owned_claimed : (ps : List Piece) → ArePieces R l ps → (b : ℕ) (o : Owner) → Owns R l b o → Contains (claims_in ps) (b, o)
+  owned_claimed ps h b o q =
+      let s = slot_of_owner o q in let w = h.all (inode_of o) s.0 s.1 in
+      into_flat (λ (p : Piece). p.claims.items) ps w.0 (b, o) w.1 ((h.each w.0 w.1).claims.all (b, o) (q, sym w.2))
+
+  pub claimed_owned : (ps : List Piece) → ArePieces R l ps → (b : ℕ) (o : Owner) → Contains (claims_in ps) (b, o) → Owns R l b o
+  claimed_owned ps h b o c =
+      let w = from_flat (λ (p : Piece). p.claims.items) ps (b, o) c in ((h.each w.0 w.1).claims.each (b, o) w.2).0
+
+  -- the claims of pieces of rising inodes are all different
+  once_in : (ps : List Piece) → Rises piece_key ps → ((p : Piece) → Contains ps p → IsPiece R l p) → Once (claims_in ps)
+  once_in [] r each = tt
+  once_in (p ∷ ps) r each =
+      Once-append p.claims.items (claims_in ps) (Once-from_rises (λ (x : ℕ × Owner). owner_key x.1) p.claims.items (each p (Contains-head p ps)).claims.rising)
+      (once_in ps (tail_rises piece_key p ps r) (λ q c. each q (Contains-tail p ps q c)))
+      (λ x c d. (let w = from_flat (λ (q : Piece). q.claims.items) ps x d in
+      let mine : inode_of x.1 ≡ p.inode = ((each p (Contains-head p ps)).claims.each x c).1 in
+      let its : inode_of x.1 ≡ w.0.inode = ((each w.0 (Contains-tail p ps w.0 w.1)).claims.each x w.2).1 in
+      let less = head_least piece_key p ps r w.0 w.1 in
+      let same : piece_key p ≡ piece_key w.0 = ap (λ (n : ℕ). n ∷ []) (sym mine ∙ its) in
+      let B : List ℕ → Type 0 = λ k. Below k (piece_key w.0) in
+      below_not_self (piece_key w.0) (subst B same less)))
+
+  pub claims_once : (ps : List Piece) → ArePieces R l ps → Once (claims_in ps)
+  claims_once ps h = once_in ps h.rising h.each
+
+  pub own_faults : (ps : List Piece) → ArePieces R l ps → Has (λ f. (i : ℕ) × IsFaultOf R l i f) (faults_in ps)
+  own_faults ps h = record {
+    each = λ f c. (let w = from_flat (λ (p : Piece). p.faults.items) ps f c in (w.0.inode, (h.each w.0 w.1).faults.each f w.2));
+    all = λ f q. (let s = slot_of_fault q.1 in let w = h.all q.0 s.0 s.1 in
+        into_flat (λ (p : Piece). p.faults.items) ps w.0 f w.1 ((h.each w.0 w.1).faults.all f (let P : ℕ → Type 0 = λ i. IsFaultOf R l i f in subst P (sym w.2) q.1)));
+  }

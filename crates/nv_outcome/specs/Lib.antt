@@ -1,0 +1,4 @@
+pub mod Outcome
+pub mod Same
+pub mod Shared
+pub mod Parts

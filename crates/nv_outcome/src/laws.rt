@@ -1,0 +1,47 @@
+//! What the parts of a recovery make up, and that a region has one outcome.
+
+ghost use Rattle.std.specs.Prelude.{◌≡◌, ◌↔◌, ℕ, List, []};
+ghost use Rattle.nv_region.specs.Region.{Region};
+ghost use Rattle.nv_super.specs.declared.superblock.Super.{Super};
+ghost use Rattle.nv_super.specs.declared.owners.Owner.{Owner};
+ghost use Rattle.nv_super.specs.declared.faults.Fault.{Fault};
+ghost use Rattle.nv_super.specs.Layout.{IsLayout, Layout, fixed_layout};
+ghost use Rattle.nv_super.specs.Super.{IsSuper};
+ghost use Rattle.nv_journal.specs.Undo.{undone};
+ghost use Rattle.nv_alloc.specs.FreeValue.{FreeLists};
+ghost use Rattle.nv_scan.specs.declared.piece.Row.{Row};
+ghost use Rattle.nv_scan.specs.declared.piece.Piece.{Piece};
+ghost use Rattle.nv_check.specs.Cross.{IsCrossFaultIn};
+ghost use Rattle.nv_outcome.specs.Outcome.{AreRows, IsCrossFault, Outcome, IsOutcome};
+ghost use Rattle.nv_outcome.specs.Same.{SameOutcome, ShowsAgain};
+ghost use Rattle.nv_outcome.specs.Shared.{SharesAll};
+ghost use Rattle.nv_outcome.specs.Parts.{AreParts, rows_in};
+
+/// A region has one outcome, so what a recovery answers is a function of the region.
+pub fn one_outcome()
+    ensures { (region : Region) (a b : Outcome) → IsOutcome region a → IsOutcome region b → SameOutcome a b }
+{}
+
+/// The pieces of all inodes, the sets of the blocks that they claim, and what is made of these are the outcome.
+pub fn parts_make_the_outcome()
+    ensures { (region : Region) (s : Super) (pieces : List Piece) (claims : List (ℕ × Owner)) (first second : List ℕ) (free : FreeLists) (doubled : List (ℕ × Owner)) (journal cross found : List Fault)
+        → IsSuper region s → AreParts region s pieces claims first second free doubled journal cross found
+        → IsOutcome region record { sup = s; rows = rows_in pieces; free = free.pools; doubled = doubled; faults = found } }
+{}
+
+/// Where there are no faults, each data block stands in exactly one free list or has exactly one owner.
+pub fn each_block_once()
+    ensures { (region : Region) (s : Super) (pieces : List Piece) (claims : List (ℕ × Owner)) (first second : List ℕ) (free : FreeLists) (doubled : List (ℕ × Owner)) (journal cross : List Fault)
+        → IsLayout s → AreParts region s pieces claims first second free doubled journal cross []
+        → SharesAll (undone s region) (fixed_layout s) free.pools }
+{}
+
+/// What is wrong between the rows of a region is what is wrong between its inodes.
+pub fn cross_faults_are()
+    ensures { (region : Region) (l : Layout) (rows : List Row) (f : Fault) → AreRows region l rows → (IsCrossFaultIn rows f ↔ IsCrossFault region l f) }
+{}
+
+/// Recovering again shows the same, but for the pending records of journals, of which none is left.
+pub fn recovered_again()
+    ensures { (region : Region) (a b : Outcome) → IsOutcome region a → IsOutcome (undone a.sup region) b → ShowsAgain a b }
+{}

@@ -1,0 +1,12 @@
+//! The outcome of a region: the definition that every recovery is measured by, and the laws that put it together.
+//!
+//! There is no code here but the names of laws. What a region's bytes say of rows, free blocks, doubled blocks and faults
+//! is defined as relations, without any worker, map, ticket or merge; the laws lead from the parts that a recovery makes,
+//! on one thread or on many, to the whole.
+#![tactic(auto)]
+
+mod laws;
+
+pub use laws::{
+    cross_faults_are, each_block_once, one_outcome, parts_make_the_outcome, recovered_again,
+};

@@ -1,0 +1,26 @@
+use Rattle.std.proofs.Common.{◌++◌, ◌∙◌, ℕ, List, take, drop, sym, ap, subst, append_assoc}
+use Rattle.std.proofs.lemmas.List.{take_rest, take-append-drop}
+use Rattle.std.proofs.lemmas.List.Elements.{All-drop}
+use Rattle.std.specs.List.{All}
+use Rattle.nv_super.specs.declared.owners.Owner.{Owner}
+use Rattle.nv_claimcore.specs.Spans.{Adds}
+use Rattle.nv_scan.specs.Claiming.{IsClaimable}
+use Rattle.nv_scan.proofs.Runs.{begin_fits, adds_both}
+use Rattle.nv_scan.proofs.claiming.claim_all.Goals as goal
+
+pub claim-requires-clause-run : goal.claim-requires-clause-run
+claim-requires-clause-run c = begin_fits _ c.loop-run.rest.now c.in-Some.run' c.in-Some.owner c.loop-run.invariant.each c.in-Some.ensures.some
+
+pub loop-run-preserved : goal.loop-run-preserved
+loop-run-preserved c =
+    let old = c.loop-run.rest.now in let n = c.in-Some.run'.count in let front = c.loop-run.invariant.front in
+    record {
+      map = c.claim.ensures.same.0 ∙ c.loop-run.invariant.map;
+      number = c.claim.ensures.same.1 ∙ c.loop-run.invariant.number;
+      each = subst (All (IsClaimable _)) (sym (take_rest old n)) (All-drop (IsClaimable _) n old c.loop-run.invariant.each);
+      front = front ++ take n old;
+      parts = c.loop-run.invariant.parts ∙ ap (λ (xs : List (ℕ × Owner)). front ++ xs) (sym (take-append-drop n old)) ∙ sym (append_assoc front (take n old) (drop n old))
+          ∙ ap (λ (xs : List (ℕ × Owner)). (front ++ take n old) ++ xs) (sym (take_rest old n));
+      adds = adds_both front (take n old) c.args.seat.now.view c.loop-run.seat.view c.claim.new.seat.view c.loop-run.invariant.adds
+          (subst (λ (ps : List (ℕ × Owner)). Adds ps c.loop-run.seat.view c.claim.new.seat.view) (sym c.in-Some.ensures.some.is) c.in_ok-claim.ensures.ok);
+    }

@@ -1,0 +1,48 @@
+use Rattle.std.proofs.Common.{◌<◌, ◌≤◌, ◌∙◌, ℕ, sym, ap, subst, ⊎_elim, refl}
+use Rattle.nv_super.specs.declared.superblock.Super.{Super}
+use Rattle.nv_claimcore.specs.declared.view.View.{View}
+use Rattle.nv_claimcore.specs.Claims.{past}
+use Rattle.nv_scan.specs.Work.{IsWork, IsDone}
+use Rattle.nv_scan.proofs.Work.{work_none, work_past, work_more, nearer}
+use Rattle.nv_scan.proofs.working.worker.Goals as goal
+
+pub loop-ticket-init : goal.loop-ticket-init
+loop-ticket-init g c = record {
+  scanner = c.new-scanner.ensures;
+  map = c.requires.own.0;
+  number = refl;
+  seats = ap (λ (v : View). v.seats) c.requires.own.1;
+  work = work_none (g.P.Pmem.region c.args.memory.now) c.args.sup.now c.args.seat.view c.new-pieces.result.items c.requires.own.1 c.new-pieces.ensures.items;
+}
+
+pub loop-ticket-smaller : goal.loop-ticket-smaller
+loop-ticket-smaller g c = let d = c.in-Some.ensures in
+    nearer (g.P.Pmem.region c.args.memory.now) c.loop-ticket.scanner c.args.map.now.sizes.tickets c.in-Some.ticket c.loop-ticket.seat.view c.draw.new.seat.view c.scan_ticket.new.seat.view c.loop-ticket.pieces.items c.scan_ticket.new.pieces.items
+    d.some.2 d.some.0 d.some.3 c.in-Ok.ensures.done
+
+pub loop-ticket-preserved : goal.loop-ticket-preserved
+loop-ticket-preserved g c =
+    let l = c.loop-ticket.invariant in let d = c.in-Some.ensures in let t = c.in-Some.ticket in
+    let R = g.P.Pmem.region c.args.memory.now in let s = c.args.sup.now in
+    let v = c.loop-ticket.seat.view in let u = c.draw.new.seat.view in let w = c.scan_ticket.new.seat.view in
+    let old = c.loop-ticket.pieces.items in let new = c.scan_ticket.new.pieces.items in
+    record {
+      scanner = c.scan_ticket.ensures.scanner ∙ l.scanner;
+      map = c.scan_ticket.ensures.seat.0 ∙ d.same.0 ∙ l.map;
+      number = c.scan_ticket.ensures.seat.1 ∙ d.same.1 ∙ l.number;
+      seats = c.scan_ticket.ensures.seat.2 ∙ ap (λ (x : View). x.seats) d.some.3 ∙ l.seats;
+      work = work_more R s v u w old new t l.work (subst (λ (n : ℕ). t < n) c.requires.sizes.1 d.some.0) d.some.3 (subst (λ (x : Super). IsDone R x t u w old new) l.scanner c.in-Ok.ensures.done);
+    }
+
+pub returns-clause-returned : goal.returns-clause-returned
+returns-clause-returned g c =
+    let l = c.loop-ticket.invariant in let d = c.in_default.ensures in
+    let R = g.P.Pmem.region c.args.memory.now in let s = c.args.sup.now in
+    let v = c.loop-ticket.seat.view in let w = c.draw.new.seat.view in let pieces = c.loop-ticket.pieces.items in
+    record {
+      map = d.same.0 ∙ l.map;
+      seats = ⊎_elim (λ same. ap (λ (x : View). x.seats) same ∙ l.seats) (λ more. ap (λ (x : View). x.seats) more.2 ∙ l.seats) d.none.1;
+      ended = λ _. subst (λ (n : ℕ). 0 < past n w.numbers) c.requires.sizes.1 d.none.0;
+      work = λ _. ⊎_elim (λ same. subst (λ (x : View). IsWork R s x pieces) (sym same) l.work)
+          (λ more. work_past R s v w pieces more.0 l.work (subst (λ (n : ℕ). n ≤ more.0) c.requires.sizes.1 more.1) more.2) d.none.1;
+    }

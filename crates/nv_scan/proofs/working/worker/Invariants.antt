@@ -1,0 +1,16 @@
+use Rattle.std.proofs.Common.{◌≡◌, ◌-◌}
+use Rattle.nv_claimcore.specs.Claims.{above}
+use Rattle.nv_scan.specs.Work.{IsWork}
+use Rattle.nv_scan.proofs.working.worker.Given as goal
+
+abbrev pub invariant-loop-ticket : goal.invariant-loop-ticket
+invariant-loop-ticket g l = record {
+  scanner : l.scanner ≡ l.sup;
+  map : l.seat.map ≡ l.map;
+  number : l.seat.number ≡ l.fn.seat.number;
+  seats : l.seat.view.seats ≡ 1;
+  work : IsWork (g.P.Pmem.region l.memory) l.sup l.seat.view l.pieces.items;
+}
+
+abbrev pub decreases-loop-ticket : goal.decreases-loop-ticket
+decreases-loop-ticket g l = l.map.sizes.tickets - above l.seat.view.numbers
