@@ -1,5 +1,5 @@
 -- What is wrong between the listed rows is what is wrong between the rows.
-use Rattle.std.proofs.Common.{◌≡◌, ◌≢◌, ℕ, zero, suc, ◌+◌, ◌<◌, ◌≤◌, inl, inr, eqb, nat_cmp, Bool, true, false, cond, Option, Some, None, List, [], ◌∷◌, ◌++◌, length, get_or, map, refl, ap, sym, ◌∙◌, subst, arith, eqb-true, eq-eqb}
+use Rattle.std.proofs.Common.{◌≡◌, ℕ, ◌<◌, eqb, nat_cmp, Bool, true, false, cond, Some, List, [], ◌∷◌, length, map, refl, ap, sym, ◌∙◌, subst, arith, eqb-true, eq-eqb}
 use Rattle.std.specs.List.{Contains, flat_map, filter, count_by}
 use Rattle.std.specs.Cmp.Lexicographic.{slice_cmp}
 use Rattle.std.specs.declared.cmp.Ordering.TheVariants.{Less}
@@ -8,8 +8,7 @@ use Rattle.std.proofs.lemmas.List.{length-append}
 use Rattle.nv_super.specs.Order.{Lists, Rises, SortedOf, fault_key}
 use Rattle.nv_super.specs.declared.faults.Fault.{Fault}
 use Rattle.nv_super.specs.declared.faults.Fault.TheVariants as faults
-use Rattle.nv_super.specs.declared.kind.Kind.TheVariants.{File, Directory}
-use Rattle.nv_super.proofs.Rising.{Contains-cons, Contains-head, Contains-tail, Lists-only}
+use Rattle.nv_super.proofs.Rising.{Contains-head, Contains-tail, Lists-only}
 use Rattle.nv_names.specs.Names.{name_at, line_of}
 use Rattle.nv_names.specs.declared.named.Named.{Named}
 use Rattle.nv_scan.specs.declared.piece.Row.{Row}

@@ -1,5 +1,5 @@
 -- A table of the places of inodes.
-use Rattle.std.proofs.Common.{◌≡◌, ◌≢◌, ℕ, zero, suc, ◌+◌, ◌<◌, ◌≤◌, ◌⊎◌, inl, inr, Option, Some, None, List, [], ◌∷◌, length, get_or, replicate, refl, ap, sym, ◌∙◌, subst, arith, get_or-set_same, get_or-set_other}
+use Rattle.std.proofs.Common.{◌≡◌, ◌≢◌, ℕ, zero, suc, ◌+◌, ◌<◌, ◌⊎◌, inl, inr, Option, Some, None, List, length, get_or, replicate, refl, ap, sym, ◌∙◌, subst, arith, get_or-set_same, get_or-set_other}
 use Rattle.std.proofs.Math.ListN.{set}
 use Rattle.std.specs.List.Sorted.{IsStrictlyIncreasing}
 use Rattle.std.proofs.lemmas.List.Kept.{AllPairs-from_increasing}
@@ -8,7 +8,7 @@ use Rattle.std.specs.Prelude.{IsTrue, All, nat_lt, ◌&&◌, Bool, true, false}
 use Rattle.nv_super.specs.Layout.{is_number, inode_limit}
 use Rattle.nv_super.specs.declared.superblock.Super.{Super}
 use Rattle.nv_check.specs.declared.listing.Listing.{Listing}
-use Rattle.nv_check.specs.Steps.{place_of, ArePlacesTo, IsTable}
+use Rattle.nv_check.specs.Steps.{place_of, ArePlacesTo}
 
 pub some_only : {A : Type 0} (a b : A) → Some a ≡ Some b → a ≡ b
 some_only a b e = cc

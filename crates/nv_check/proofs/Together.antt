@@ -1,11 +1,10 @@
 -- The faults of each kind are all faults between the rows.
-use Rattle.std.proofs.Common.{◌≡◌, ◌≢◌, ℕ, zero, suc, ◌+◌, ◌<◌, ◌≤◌, ◌⊎◌, inl, inr, eqb, Bool, true, false, cond, if◌then◌else◌, Option, Some, None, Result, Ok, Err, List, [], ◌∷◌, ◌++◌, length, get_or, map, refl, ap, sym, ◌∙◌, subst, arith, eqb-true, eq-eqb}
+use Rattle.std.proofs.Common.{◌≡◌, ◌≢◌, ℕ, ◌<◌, ◌⊎◌, inl, inr, eqb, Bool, true, false, if◌then◌else◌, Option, Some, None, Result, Ok, Err, List, [], ◌∷◌, ◌++◌, length, get_or, refl, ap, sym, ◌∙◌, subst, arith, eqb-true, eq-eqb}
 use Rattle.std.specs.Prelude.{is_some, OnOk}
 use Rattle.std.specs.List.{Contains, flat_map, filter_map, cons_option, list_any}
 use Rattle.std.proofs.lemmas.Bool.{true≢false}
 use Rattle.std.proofs.lemmas.List.Folds.{list_any_at, Any-from_list_any}
 use Rattle.std.proofs.lemmas.List.Elements.{Contains-append_left, Contains-append_right, Contains-append_cases}
-use Rattle.nv_super.specs.Order.{fault_key, Lists, SortedOf}
 use Rattle.nv_super.specs.declared.kind.Kind.{Kind}
 use Rattle.nv_super.specs.declared.kind.Kind.TheVariants.{File, Directory}
 use Rattle.nv_super.specs.declared.faults.Fault.{Fault}
@@ -13,7 +12,7 @@ use Rattle.nv_super.specs.declared.faults.Fault.TheVariants as faults
 use Rattle.nv_super.proofs.Rising.{Contains-cons, Contains-head, Contains-tail}
 use Rattle.nv_names.specs.declared.named.Named.{Named}
 use Rattle.nv_check.specs.declared.listing.Listing.{Listing}
-use Rattle.nv_check.specs.Listings.{inodes_of, target, names_of, IsReached, IsUnused, IsFault, c1, c2, c2_root, c3, c4, c5}
+use Rattle.nv_check.specs.Listings.{target, names_of, IsReached, IsUnused, IsFault, c1, c2, c2_root, c3, c4, c5}
 use Rattle.nv_check.specs.Steps.{place_of, ArePlaces, unused_fault, unused_of, unused_faults, count_fault, count_fault_of, is_root, is_root_of, root_faults, Adds, IsUnmarkedBelow, IsFar, unreached, no_root, AreReached}
 use Rattle.nv_check.proofs.Follow.{inode_at, row_at, row_place}
 use Rattle.nv_check.proofs.Counting.{not_equal}

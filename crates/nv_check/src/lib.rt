@@ -9,9 +9,13 @@ mod cross;
 mod listing;
 mod names;
 mod owners;
+mod parallel;
 mod places;
 mod tables;
+#[cfg(test)]
+mod tests;
 mod walk;
 
 pub use cross::cross_faults_one;
 pub use owners::doubled;
+pub use parallel::cross_faults;

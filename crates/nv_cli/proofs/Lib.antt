@@ -1,11 +1,12 @@
 pub mod Plain
-pub mod Pieces
-pub mod Fresh
-pub mod Pushed
-pub mod FreeBlocks
-pub mod OneOutcome
+pub mod Results
 pub mod LineLemmas
 pub mod StreamLemmas
+pub mod TextLemmas
+pub mod OneText
+pub mod Answered
+pub mod Moved
+pub mod Checked
 pub mod Progress
 pub mod KnownProgress
 pub mod LineReplies

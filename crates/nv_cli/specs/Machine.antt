@@ -1,19 +1,26 @@
 -- The machine that a script runs: its state, what each command may print and leave, and what a whole script shows.
-use Rattle.std.specs.Prelude.{◌≡◌, ◌≢◌, ◌⊎◌, ◌≤◌, ◌+◌, ◌*◌, ◌%◌, ℕ, Bool, ◌&&◌, ◌==◌, nat_le, MatchBool, if◌then◌else◌, List, [], ◌∷◌, ◌++◌, length, replicate, Option, Some, None, codes}
-use Rattle.nv_region.specs.Region.{Region, size, word}
+use Rattle.std.specs.Prelude.{◌≡◌, ◌≢◌, ◌⊎◌, ◌≤◌, ◌+◌, ◌*◌, ◌%◌, ℕ, Bool, ◌&&◌, ◌==◌, nat_le, MatchBool, if◌then◌else◌, List, [], ◌∷◌, ◌++◌, length, replicate, take, Option, Some, None, codes}
+use Rattle.nv_region.specs.Region.{Region, size, word, put, region_of, bytes_of}
 use Rattle.nv_super.specs.declared.faults.Fault.{Fault}
+use Rattle.nv_super.specs.declared.superblock.SuperFault.{SuperFault}
+use Rattle.nv_super.specs.Super.{IsRefused}
+use Rattle.nv_journal.specs.Undo.{undone}
+use Rattle.nv_outcome.specs.Outcome.{Outcome, IsOutcome}
 use Rattle.nv_calls.specs.Format.{IsFormatRefusal, IsFormatted, fresh_super}
 use Rattle.nv_calls.specs.Format as formats
 use Rattle.nv_calls.specs.declared.formatting.FormatRefusal.{FormatRefusal}
 use Rattle.nv_calls.specs.declared.formatting.FormatRefusal.TheVariants.{Stopped}
-use Rattle.nv_line.specs.Request.{Request, Format, Time, Recover, Tree, Free, Faults, Report, Peek}
+use Rattle.nv_line.specs.Request.{Request, Format, Time, Poke, Cut, Recover, Replay, Tree, Free, Faults, Report, Peek}
 use Rattle.nv_line.specs.Spelling.{Says}
 use Rattle.nv_line.specs.Lines.{IsSkipped, IsBad}
+use Rattle.nv_text.specs.Refusals.{super_fault_name}
 use Rattle.nv_text.specs.Answers.{ok_line, bad_line, refused_line, word_line}
 use Rattle.nv_cli.specs.Lines.{line_limit}
-use Rattle.nv_cli.specs.Outcome.{Outcome, IsOutcome}
-use Rattle.nv_cli.specs.Texts.{recovered_text, tree_text, free_text, fault_lines_text, report_text}
+use Rattle.nv_cli.specs.Texts.{recovered_text, IsPartText}
+use Rattle.nv_cli.specs.Workers.{is_worker_count, names_stranger}
 use Rattle.nv_cli.specs.Last.{status_of}
+use Rattle.nv_cli.specs.declared.part.Part.{Part}
+use Rattle.nv_cli.specs.declared.part.Part.TheVariants as parts
 use Rattle.nv_cli.specs.declared.last.Last.{Last}
 use Rattle.nv_cli.specs.declared.last.Last.TheVariants.{Sound, Faulty, Refused}
 
@@ -65,35 +72,43 @@ abbrev pub how_it_went : List Fault → Last
 how_it_went [] = Sound
 how_it_went (fault ∷ faults) = Faulty
 
--- the region's outcome is told, and mounted
+-- The region's outcome is told and mounted: the region that came, also where pending records of its journals are told as
+-- faults, which are rolled back in the region that is left.
 abbrev pub Mounts : Region → State → List ℕ → State → Type 0
-Mounts R old text new = (o : Outcome) × IsOutcome R o × (text ≡ recovered_text o) × (new ≡ record old { mounted = Some R; last = how_it_went o.faults })
+Mounts R old text new = (o : Outcome) × IsOutcome R o × (text ≡ recovered_text o)
+    × (new ≡ record old { region = Some (undone o.sup R); mounted = Some R; last = how_it_went o.faults })
 
 -- the recovery is refused by this name, and nothing is mounted
 abbrev pub Unmounts : List ℕ → State → List ℕ → State → Type 0
 Unmounts name old text new = (text ≡ refused_line name) × (new ≡ record old { mounted = None; last = Refused })
 
--- there can be so many workers
-abbrev pub is_worker_count : ℕ → Bool
-is_worker_count workers = nat_le 1 workers && nat_le workers 64
+-- the superblock isn't accepted: the first fault that applies is named
+abbrev pub RefusesSuper : Region → State → List ℕ → State → Type 0
+RefusesSuper R old text new = (fault : SuperFault) × IsRefused R fault × Unmounts (super_fault_name fault) old text new
 
--- `recover`, of the region that there is
-abbrev pub RecoversRegion : Option Region → ℕ → State → List ℕ → State → Type 0
-RecoversRegion None workers old text new = Unmounts (codes "NoRegion") old text new
-RecoversRegion (Some R) workers old text new = MatchBool (is_worker_count workers) (Mounts R old text new) (Unmounts (codes "Workers") old text new)
+-- a recovery of the region that there is: the workers are tested first, then the schedule, and then the superblock
+abbrev pub RecoversRegion : Option Region → ℕ → List ℕ → State → List ℕ → State → Type 0
+RecoversRegion None workers schedule old text new = Unmounts (codes "NoRegion") old text new
+RecoversRegion (Some R) workers schedule old text new = MatchBool (is_worker_count workers)
+    (MatchBool (names_stranger workers schedule) (Unmounts (codes "Schedule") old text new) (RefusesSuper R old text new ⊎ Mounts R old text new))
+    (Unmounts (codes "Workers") old text new)
 
--- `recover`: whether there is a region is tested first, then the number of workers
+-- `recover`, which has no schedule
 abbrev pub Recovers : ℕ → State → List ℕ → State → Type 0
-Recovers workers old text new = RecoversRegion old.region workers old text new
+Recovers workers old text new = RecoversRegion old.region workers [] old text new
 
--- a text of the outcome of the mounted region
-abbrev pub ShowsMounted : Option Region → (Outcome → List ℕ) → State → List ℕ → State → Type 0
-ShowsMounted None text_of old text new = IsRefusedAs (codes "NotMounted") old text new
-ShowsMounted (Some R) text_of old text new = (o : Outcome) × IsOutcome R o × Answers (text_of o) old text new
+-- `replay`, which answers what `recover` does, and may be refused for its schedule
+abbrev pub Replays : ℕ → List ℕ → State → List ℕ → State → Type 0
+Replays workers schedule old text new = RecoversRegion old.region workers schedule old text new
 
--- `tree`, `free`, `faults` and `report` show a text of the mounted outcome
-abbrev pub ShowsOutcome : (Outcome → List ℕ) → State → List ℕ → State → Type 0
-ShowsOutcome text_of old text new = ShowsMounted old.mounted text_of old text new
+-- a part of the outcome of the mounted region
+abbrev pub ShowsMounted : Option Region → Part → State → List ℕ → State → Type 0
+ShowsMounted None part old text new = IsRefusedAs (codes "NotMounted") old text new
+ShowsMounted (Some R) part old text new = (o : Outcome) × IsOutcome R o × IsPartText part o text × (new ≡ old)
+
+-- `tree`, `free`, `faults` and `report` show the mounted outcome
+abbrev pub ShowsPart : Part → State → List ℕ → State → Type 0
+ShowsPart part old text new = ShowsMounted old.mounted part old text new
 
 -- a word begins at the address, and is in the region
 abbrev pub has_word : Region → ℕ → Bool
@@ -108,15 +123,44 @@ peek_text (Some R) at = if has_word R at then word_line (word R at) else refused
 abbrev pub Peeks : ℕ → State → List ℕ → State → Type 0
 Peeks at old text new = Answers (peek_text old.region at) old text new
 
+-- the command is done, and leaves another region, of which nothing is mounted
+abbrev pub Replaces : Region → State → List ℕ → State → Type 0
+Replaces R old text new = (text ≡ ok_line) × (new ≡ record old { region = Some R; mounted = None })
+
+-- a word is stored in the region that there is
+abbrev pub PokesRegion : Option Region → ℕ → ℕ → State → List ℕ → State → Type 0
+PokesRegion None at value old text new = IsRefusedAs (codes "NoRegion") old text new
+PokesRegion (Some R) at value old text new = MatchBool (has_word R at) (Replaces (put R at value) old text new) (IsRefusedAs (codes "Address") old text new)
+
+-- `poke` stores a word
+abbrev pub Pokes : ℕ → ℕ → State → List ℕ → State → Type 0
+Pokes at value old text new = PokesRegion old.region at value old text new
+
+-- the first bytes of a region, as a region
+abbrev pub front : Region → ℕ → Region
+front R length = region_of (take length (bytes_of R))
+
+-- the region that there is becomes a front of it
+abbrev pub CutsRegion : Option Region → ℕ → State → List ℕ → State → Type 0
+CutsRegion None length old text new = IsRefusedAs (codes "NoRegion") old text new
+CutsRegion (Some R) length old text new = MatchBool (nat_le length (size R)) (Replaces (front R length) old text new) (IsRefusedAs (codes "Length") old text new)
+
+-- `cut` keeps so many bytes, of any number that the region has
+abbrev pub Cuts : ℕ → State → List ℕ → State → Type 0
+Cuts length old text new = CutsRegion old.region length old text new
+
 -- What a command may print and leave.
 abbrev pub Step : State → Request → List ℕ → State → Type 0
 Step old (Format cpus blocks tables) text new = Formats cpus blocks tables old text new
 Step old (Time time) text new = SetsTime time old text new
+Step old (Poke at value) text new = Pokes at value old text new
+Step old (Cut length) text new = Cuts length old text new
 Step old (Recover workers) text new = Recovers workers old text new
-Step old Tree text new = ShowsOutcome tree_text old text new
-Step old Free text new = ShowsOutcome free_text old text new
-Step old Faults text new = ShowsOutcome fault_lines_text old text new
-Step old Report text new = ShowsOutcome report_text old text new
+Step old (Replay workers schedule) text new = Replays workers schedule old text new
+Step old Tree text new = ShowsPart parts.Tree old text new
+Step old Free text new = ShowsPart parts.Free old text new
+Step old Faults text new = ShowsPart parts.Faults old text new
+Step old Report text new = ShowsPart parts.Report old text new
 Step old (Peek at) text new = Peeks at old text new
 
 -- what a line asks for was run

@@ -1,13 +1,9 @@
--- What making a region may answer, and what a mount may hold.
-use Rattle.std.specs.Prelude.{◌≢◌, IsTrue, ℕ, Option, Some, None, ⊤}
-use Rattle.nv_region.specs.Region.{Region}
+-- What making a region may answer.
+use Rattle.std.specs.Prelude.{◌≢◌, IsTrue, ℕ}
 use Rattle.nv_region.specs.RegionState.{is_steady}
 use Rattle.nv_calls.specs.Format.{IsFormatRefusal, IsFormatted, fresh_super}
 use Rattle.nv_calls.specs.declared.formatting.FormatRefusal.TheVariants.{Stopped}
-use Rattle.nv_cli.specs.Outcome.{IsOutcome}
 use Rattle.nv_cli.specs.Machine.{zeros}
-use Rattle.nv_cli.specs.Recovered.{outcome_of}
-use Rattle.nv_cli.specs.declared.recover.Recovered.{Recovered}
 use Rattle.nv_cli.specs.declared.making.Made as making
 use Rattle.nv_cli.specs.declared.making.Made.TheVariants as made
 
@@ -15,10 +11,3 @@ use Rattle.nv_cli.specs.declared.making.Made.TheVariants as made
 abbrev pub MayMake : ℕ → ℕ → ℕ → ℕ → making.Made → Type 0
 MayMake cpus blocks tables time (made.Region memory) = IsFormatted (zeros blocks) memory.region (fresh_super (zeros blocks) cpus tables) time × IsTrue (is_steady memory)
 MayMake cpus blocks tables time (made.Refused refusal) = IsFormatRefusal (zeros blocks) cpus tables refusal × (refusal ≢ Stopped)
-
--- what is mounted: nothing, or the outcome of the mounted region
-abbrev pub IsMountOf : Option Region → Option Recovered → Type 0
-IsMountOf None None = ⊤
-IsMountOf None (Some recovered) = ⊥
-IsMountOf (Some R) None = ⊥
-IsMountOf (Some R) (Some recovered) = IsOutcome R (outcome_of recovered)

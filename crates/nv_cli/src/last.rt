@@ -1,6 +1,9 @@
 //! How the last recovery of a script went, which decides the exit status.
 
 ghost use Rattle.std.specs.Prelude.{◌≡◌};
+ghost use Rattle.nv_cli.specs.Machine.{how_it_went};
+
+use nv_super::Fault;
 
 /// How the last recovery went. With none at all it is `Sound`.
 #[derive(Clone, Copy, Debug, PartialEq, Eq)]
@@ -25,5 +28,16 @@ impl Last {
             Last::Faulty => 1,
             Last::Refused => 2,
         }
+    }
+}
+
+/// How a recovery with these faults went.
+pub fn how_it_went(faults: &[Fault]) -> Last
+    ensures { result ≡ how_it_went faults.now }
+{
+    if faults.is_empty() {
+        Last::Sound
+    } else {
+        Last::Faulty
     }
 }

@@ -1,6 +1,9 @@
-//! Making a region of zeros that is formatted, or telling why it can't be.
+//! Making a region: of zeros that are formatted, or of the first bytes of another one.
 
-ghost use Rattle.std.specs.Prelude.{IfOk};
+ghost use Rattle.std.specs.Prelude.{◌≡◌, ◌≤◌, IfOk, IsTrue, take};
+ghost use Rattle.nv_region.specs.Region.{size, bytes_of};
+ghost use Rattle.nv_region.specs.RegionState.{is_steady};
+ghost use Rattle.nv_cli.specs.Machine.{front};
 ghost use Rattle.nv_cli.specs.Made.{MayMake};
 
 use nv_calls::{FormatRefusal, format};
@@ -40,4 +43,27 @@ pub fn new_region(
         Ok(()) => Ok(Made::Region(memory)),
         Err(refusal) => Ok(Made::Refused(refusal)),
     }
+}
+
+/// A region of the first `length` bytes of another, which is let go before the new one is made.
+pub fn front_region(alloc: Global, memory: MemRegion, length: u64) -> Result<MemRegion, AllocError>
+    requires { length ≤ size memory.region }
+    ensures region { IfOk result (λ cut. cut.region ≡ front memory.region length) }
+    ensures steady { IfOk result (λ cut. IsTrue (is_steady cut)) }
+{
+    let bytes = front_bytes(memory, length as usize)?;
+    // No region has more bytes than one may have, so it is memory that is wanting.
+    match MemRegion::from_bytes(alloc, &bytes) {
+        Ok(cut) => Ok(cut),
+        Err(_) => Err(AllocError),
+    }
+}
+
+fn front_bytes(memory: MemRegion, length: usize) -> Result<Vec<u8>, AllocError>
+    requires { length ≤ size memory.region }
+    ensures { IfOk result (λ bytes. bytes.items ≡ take length (bytes_of memory.region)) }
+{
+    let mut bytes = memory.to_bytes()?;
+    bytes.truncate(length);
+    Ok(bytes)
 }

@@ -5,7 +5,7 @@
 ghost use Rattle.std.specs.Prelude.{◌≡◌, IfOk, IfErr, OnErr, IsErrOf};
 ghost use Rattle.nv_cli.specs.Machine.{ShowsScript};
 ghost use Rattle.nv_cli.specs.Replies.{KnownReplies, RepliesTo};
-ghost use Rattle.nv_cli.specs.StateOf.{state_of, IsSound};
+ghost use Rattle.nv_cli.specs.Sessions.{Leads};
 ghost use Rattle.nv_cli.specs.Transcript.{WritesAll, WritesFront, WritesWhole};
 
 use crate::fault::ScriptError;
@@ -16,7 +16,6 @@ use crate::writing::write_text;
 use nv_line::{Line, classify};
 use std::alloc::Global;
 use std::io::{BufReader, Read, Write};
-use std::sync::Wait;
 use std::thread::Threads;
 
 const BUFFER_SIZE: usize = 4096;
@@ -41,8 +40,8 @@ enum Reply {
 ///
 /// Reads to the end of the input or to the first bad line. Answers `Read` or `Write` where the reader or the writer
 /// failed, and `Memory` where a growth was refused; a front of the output of the lines so far was written then.
-pub fn run_script<H: Threads + Wait, R: Read + Drop, W: Write>(
-    _rt: &H,
+pub fn run_script<H: Threads + Sync, R: Read + Drop, W: Write>(
+    rt: &H,
     alloc: Global,
     reader: R,
     writer: &mut W,
@@ -57,10 +56,11 @@ pub fn run_script<H: Threads + Wait, R: Read + Drop, W: Write>(
     let Ok(mut reader) = BufReader::with_capacity(alloc, BUFFER_SIZE, reader) else {
         return Err(ScriptError::Memory);
     };
-    run_lines(alloc, &mut reader, writer)
+    run_lines(rt, alloc, &mut reader, writer)
 }
 
-fn run_lines<R: Read, W: Write>(
+fn run_lines<H: Threads + Sync, R: Read, W: Write>(
+    rt: &H,
     alloc: Global,
     reader: &mut R,
     writer: &mut W,
@@ -72,7 +72,7 @@ fn run_lines<R: Read, W: Write>(
     let mut session = Session::new();
     let mut line = Vec::new(alloc);
     'lines: for number in 1..u64::MAX {
-        match next_reply(alloc, &mut session, &mut line, reader)? {
+        match next_reply(rt, alloc, &mut session, &mut line, reader)? {
             Reply::End => return Ok(session.status()),
             Reply::Skipped => {}
             Reply::Text(text) => write_text(writer, text.as_bytes())?,
@@ -86,32 +86,34 @@ fn run_lines<R: Read, W: Write>(
     Err(ScriptError::Read)
 }
 
-fn next_reply<R: Read>(
+fn next_reply<H: Threads + Sync, R: Read>(
+    rt: &H,
     alloc: Global,
     session: &mut Session,
     line: &mut Vec<u8>,
     reader: &mut R,
 ) -> Result<Reply, ScriptError>
-    requires { IsSound session.old }
-    ensures replies { IfOk result (λ reply. KnownReplies (R.remaining reader.old) (R.remaining reader.new) (state_of session.old) reply (state_of session.new)) }
-    ensures sound { IfOk result (λ _. IsSound session.new) }
+    ensures { IfOk result (λ reply. Leads (λ old new. KnownReplies (R.remaining reader.old) (R.remaining reader.new) old reply new) session.old session.new) }
 {
     match read_line(reader, line)? {
         Next::End => Ok(Reply::End),
         Next::TooLong => Ok(Reply::Bad),
-        Next::Line => answer_line(alloc, session, line),
+        Next::Line => answer_line(rt, alloc, session, line),
     }
 }
 
-fn answer_line(alloc: Global, session: &mut Session, line: &[u8]) -> Result<Reply, ScriptError>
-    requires { IsSound session.old }
-    ensures replies { IfOk result (λ reply. RepliesTo line.now (state_of session.old) reply (state_of session.new)) }
+fn answer_line<H: Threads + Sync>(
+    rt: &H,
+    alloc: Global,
+    session: &mut Session,
+    line: &[u8],
+) -> Result<Reply, ScriptError>
+    ensures replies { IfOk result (λ reply. Leads (λ old new. RepliesTo line.now old reply new) session.old session.new) }
     ensures kind { IfErr result (λ e. e ≡ ScriptError.Memory) }
-    ensures sound { IfOk result (λ _. IsSound session.new) }
 {
     match classify(alloc, line)? {
         Line::Skipped => Ok(Reply::Skipped),
-        Line::Command(command) => Ok(Reply::Text(session.execute(alloc, command)?)),
+        Line::Command(command) => Ok(Reply::Text(session.execute(rt, alloc, command)?)),
         Line::Bad => Ok(Reply::Bad),
     }
 }

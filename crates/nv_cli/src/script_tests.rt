@@ -1,11 +1,9 @@
 //! Scripts with all that they print and their exit statuses.
 
+use super::damage_tests::{JOURNALS, LOGS, NAMES, REPLAYED};
 use super::tests::{Closing, Failing};
 use super::*;
-use nv_calls::format;
-use nv_region::MemRegion;
 use std::process::Abort;
-use std::sync::Wait;
 use std::test::Fail;
 use std::thread::Threads;
 
@@ -199,7 +197,84 @@ const WORDS: [(&str, &str, u8); 5] = [
     ),
 ];
 
-fn check_rows<H: AllocGlobal + Abort + Threads + Wait>(
+// What `poke`, `cut` and `replay` are refused, and what they leave, where nothing is recovered.
+const CHANGES: [(&str, &str, u8); 7] = [
+    (
+        "poke 1 1\ncut 0\nreplay 1\nreplay 0 5\n",
+        "refused NoRegion\nrefused NoRegion\nrefused NoRegion\nrefused NoRegion\n",
+        2,
+    ),
+    (
+        "format 1 16 1\npoke 4 1\npoke 65536 1\npoke 65532 1\npoke 18446744073709551608 1\ncut 65537\n\
+             cut 18446744073709551615\n",
+        "ok\nrefused Address\nrefused Address\nrefused Address\nrefused Address\nrefused Length\n\
+             refused Length\n",
+        0,
+    ),
+    (
+        "format 1 16 1\nreplay 0 5\nreplay 65\nreplay 2 0 1 2\nreplay 64 64\nreplay 1 4294967296\n\
+             replay 1 18446744073709551615\n",
+        "ok\nrefused Workers\nrefused Workers\nrefused Schedule\nrefused Schedule\nrefused Schedule\n\
+             refused Schedule\n",
+        2,
+    ),
+    (
+        "format 1 16 1\npoke 0 7\npeek 0\npoke 65528 18446744073709551615\npeek 65528\n",
+        "ok\nok\nword 7\nok\nword 18446744073709551615\n",
+        0,
+    ),
+    (
+        "format 1 16 1\ncut 65535\npeek 65520\npeek 65528\npoke 65528 1\ncut 8\npeek 0\npeek 8\ncut 7\n\
+             peek 0\ncut 0\ncut 0\npeek 0\ncut 1\n",
+        "ok\nok\nword 0\nrefused Address\nrefused Address\nok\nword 3544417913829478222\n\
+             refused Address\nok\nrefused Address\nok\nok\nrefused Address\nrefused Length\n",
+        0,
+    ),
+    (
+        "format 1 16 1\ncut 65536\ntree\n",
+        "ok\nok\nrefused NotMounted\n",
+        0,
+    ),
+    (
+        "format 1 16 1\ncut 4096\nrecover 1\nrecover 0\nreplay 1 1\ntime 1\n",
+        "ok\nok\nrefused S1\nrefused Workers\nrefused Schedule\nok\n",
+        2,
+    ),
+];
+
+// What `poke` and `cut` do to a mount, and what a status outlives.
+const MOUNTS: [(&str, &str, u8); 5] = [
+    (
+        "format 1 16 1\nrecover 1\npoke 4 0\ncut 65537\nfree\npoke 65528 0\nfree\n",
+        "ok\nrecovered inodes 1 free 12 faults 0\nrefused Address\nrefused Length\nfree 0 4-15\nok\n\
+             refused NotMounted\n",
+        0,
+    ),
+    (
+        "format 1 16 1\nrecover 1\ncut 65536\nfaults\nreplay 2 1 0\nfaults\n",
+        "ok\nrecovered inodes 1 free 12 faults 0\nok\nrefused NotMounted\n\
+             recovered inodes 1 free 12 faults 0\nno faults\n",
+        0,
+    ),
+    (
+        "time 9\nformat 1 16 1\npoke 8 3\ncut 65536\nrecover 1\nformat 1 16 1\nrecover 1\ntree\n",
+        "ok\nok\nok\nok\nrefused S3\nok\nrecovered inodes 1 free 12 faults 0\n\
+             inode 1 dir mode 493 owner 0 group 0 size 0 links 1 time 9\n  log 3 tail 12320\n",
+        0,
+    ),
+    (
+        "format 1 16 1\npoke 8320 0\nrecover 1\nformat 1 16 1\n",
+        "ok\nok\nrecovered inodes 0 free 13 faults 1\nok\n",
+        1,
+    ),
+    (
+        "format 1 16 1\nrecover 1\nreplay 1 1\nfree\n",
+        "ok\nrecovered inodes 1 free 12 faults 0\nrefused Schedule\nrefused NotMounted\n",
+        2,
+    ),
+];
+
+fn check_rows<H: AllocGlobal + Abort + Threads + Sync>(
     rt: &H,
     rows: &[(&str, &str, u8)],
 ) -> Result<(), Fail> {
@@ -233,6 +308,36 @@ fn words_are_where_the_format_has_them(rt: HostRuntime) -> Result<(), Fail> {
 }
 
 #[test]
+fn a_region_is_changed_by_words_and_by_length(rt: HostRuntime) -> Result<(), Fail> {
+    check_rows(&rt, &CHANGES)
+}
+
+#[test]
+fn a_mount_ends_where_the_region_changes(rt: HostRuntime) -> Result<(), Fail> {
+    check_rows(&rt, &MOUNTS)
+}
+
+#[test]
+fn a_damaged_log_is_reported(rt: HostRuntime) -> Result<(), Fail> {
+    check_rows(&rt, &LOGS)
+}
+
+#[test]
+fn pending_records_are_rolled_back(rt: HostRuntime) -> Result<(), Fail> {
+    check_rows(&rt, &JOURNALS)
+}
+
+#[test]
+fn names_and_owners_are_checked(rt: HostRuntime) -> Result<(), Fail> {
+    check_rows(&rt, &NAMES)
+}
+
+#[test]
+fn every_order_gives_one_report(rt: HostRuntime) -> Result<(), Fail> {
+    check_rows(&rt, &REPLAYED)
+}
+
+#[test]
 fn a_line_of_more_than_4096_bytes_is_bad(rt: HostRuntime) -> Result<(), Fail> {
     for (count, output, status) in [(4096, "ok\n", 0), (4097, "bad line 1\n", 2)] {
         let mut script = vec![in rt.alloc(); b'#'; count]?;
@@ -263,21 +368,6 @@ fn a_writer_that_closes_has_the_front(rt: HostRuntime) {
     let answer = run_script(&rt, rt.alloc(), script, &mut out);
     assert!(rt; answer == Err(ScriptError::Write));
     assert!(rt; out.taken() == b"ok\nrecovered".as_slice());
-}
-
-#[test]
-fn a_fresh_region_is_recovered(rt: HostRuntime) -> Result<(), Fail> {
-    let Ok(mut memory) = MemRegion::new(rt.alloc(), 16) else {
-        return Ok(());
-    };
-    assert!(rt; format(&mut memory, 1, 1, 7).is_ok());
-    let Ok(recovered) = recover_one(rt.alloc(), &mut memory) else {
-        return Ok(());
-    };
-    assert!(rt; recovered.sup.blocks == 16);
-    assert!(rt; recovered.rows.len() == 1 && recovered.rows[0].head == 12288);
-    assert!(rt; recovered.free.len() == 1 && recovered.faults.is_empty());
-    Ok(())
 }
 
 // What the first lines of a script print, for each number of lines.

@@ -3,28 +3,24 @@
 //! A method answers the text that its command prints, whole, and leaves what the command leaves. After want of memory the
 //! script ends, and what the session holds is of no use.
 
-ghost use Rattle.std.specs.Prelude.{◌≡◌, ◌<◌, ◌^◌, IfOk, IfSome, IsTrue, None, Some, option_map, string_bytes};
+ghost use Rattle.std.specs.Prelude.{◌≡◌, IfOk, IfSome, IsTrue, None, Some, [], option_map};
 ghost use Rattle.nv_region.specs.RegionState.{is_steady};
-ghost use Rattle.nv_cli.specs.Outcome.{IsFresh, IsOutcome, free_blocks};
-ghost use Rattle.nv_cli.specs.Recovered.{outcome_of};
-ghost use Rattle.nv_cli.specs.Stores.{IsShown};
-ghost use Rattle.nv_cli.specs.Machine.{is_worker_count, has_word, how_it_went};
-ghost use Rattle.nv_cli.specs.Made.{IsMountOf};
 
-use crate::last::Last;
-use crate::making::{Made, new_region};
-use crate::recover::{Recovered, recover_one};
+use crate::last::{Last, how_it_went};
+use crate::making::{Made, front_region, new_region};
+use crate::part::Part;
+use crate::recovering::{recover_region, replay_region};
+use crate::recovery::Answer;
 use crate::store::Store;
 use crate::texts::{
-    faults_text, free_text, ok_text, recovered_text, refused_format_text, refused_text,
-    report_text, tree_text, word_text,
+    ok_text, part_text, recovered_text, refused_format_text, refused_text, word_text,
 };
 use nv_line::Command;
+use nv_recover::Recovered;
 use nv_region::{MemRegion, Pmem};
 use nv_text::Refusal;
 use std::alloc::{AllocError, Global};
-
-const MOST_WORKERS: u64 = 64;
+use std::thread::Threads;
 
 /// What a script has made so far.
 #[derive(Drop)]
@@ -35,16 +31,16 @@ pub struct Session {
 }
 
 impl Session {
-    ghost use Rattle.nv_cli.specs.StateOf.{state_of, IsSound};
-    ghost use Rattle.nv_cli.specs.Machine.{first_state, SetsTime, Formats, Recovers, ShowsOutcome, Peeks, Step};
-    ghost use Rattle.nv_cli.specs.Texts.{tree_text, free_text, fault_lines_text, report_text};
+    ghost use Rattle.std.specs.Prelude.{string_bytes};
+    ghost use Rattle.nv_cli.specs.Sessions.{StandsFor, Moves, Settles, region_in, shown_in};
+    ghost use Rattle.nv_cli.specs.Answering.{MayAnswer};
+    ghost use Rattle.nv_cli.specs.Machine.{State, first_state, SetsTime, Formats, Recovers, Replays, Pokes, Cuts, ShowsPart, Peeks, RecoversRegion, Step};
     ghost use Rattle.nv_cli.specs.Last.{status_of};
     ghost use Rattle.nv_line.specs.View.{view};
 
     /// Nothing made yet, at time 0.
     pub fn new() -> Session
-        ensures first { state_of result ≡ first_state }
-        ensures sound { IsSound result }
+        ensures { StandsFor result first_state }
     {
         Session {
             store: None,
@@ -55,16 +51,19 @@ impl Session {
 
     /// The exit status after what was run.
     pub fn status(&self) -> u8
-        ensures { result ≡ status_of (state_of self.now).last }
+        ensures { (state : State) → StandsFor self.now state → result ≡ status_of state.last }
     {
         self.last.status()
     }
 
     /// Runs one command, and answers what it prints.
-    pub fn execute(&mut self, alloc: Global, command: Command) -> Result<String, AllocError>
-        requires { IsSound self.old }
-        ensures step { IfOk result (λ text. Step (state_of self.old) (view command) (string_bytes text) (state_of self.new)) }
-        ensures sound { IfOk result (λ _. IsSound self.new) }
+    pub fn execute<H: Threads + Sync>(
+        &mut self,
+        rt: &H,
+        alloc: Global,
+        command: Command,
+    ) -> Result<String, AllocError>
+        ensures { IfOk result (λ text. Moves (λ old said new. Step old (view command) said new) self.old (string_bytes text) self.new) }
     {
         match command {
             Command::Format {
@@ -73,19 +72,20 @@ impl Session {
                 table_blocks,
             } => self.format(alloc, cpus, blocks, table_blocks),
             Command::Time { time } => self.set_time(alloc, time),
-            Command::Recover { workers } => self.recover(alloc, workers),
-            Command::Tree => self.tree(alloc),
-            Command::Free => self.free(alloc),
-            Command::Faults => self.faults(alloc),
-            Command::Report => self.report(alloc),
+            Command::Poke { at, value } => self.poke(alloc, at, value),
+            Command::Cut { length } => self.cut(alloc, length),
+            Command::Recover { workers } => self.recover(rt, alloc, workers),
+            Command::Replay { workers, schedule } => self.replay(alloc, workers, &schedule),
+            Command::Tree => self.show(alloc, Part::Tree),
+            Command::Free => self.show(alloc, Part::Free),
+            Command::Faults => self.show(alloc, Part::Faults),
+            Command::Report => self.show(alloc, Part::Report),
             Command::Peek { at } => self.peek(alloc, at),
         }
     }
 
     fn set_time(&mut self, alloc: Global, time: u64) -> Result<String, AllocError>
-        requires { IsSound self.old }
-        ensures step { IfOk result (λ text. SetsTime time (state_of self.old) (string_bytes text) (state_of self.new)) }
-        ensures sound { IfOk result (λ _. IsSound self.new) }
+        ensures { IfOk result (λ text. Moves (SetsTime time) self.old (string_bytes text) self.new) }
     {
         self.time = time;
         ok_text(alloc)
@@ -98,9 +98,7 @@ impl Session {
         blocks: u64,
         table_blocks: u64,
     ) -> Result<String, AllocError>
-        requires { IsSound self.old }
-        ensures step { IfOk result (λ text. Formats cpus blocks table_blocks (state_of self.old) (string_bytes text) (state_of self.new)) }
-        ensures sound { IfOk result (λ _. IsSound self.new) }
+        ensures { IfOk result (λ text. Moves (Formats cpus blocks table_blocks) self.old (string_bytes text) self.new) }
     {
         match new_region(alloc, cpus, blocks, table_blocks, self.time)? {
             Made::Region(memory) => {
@@ -111,72 +109,80 @@ impl Session {
         }
     }
 
-    fn recover(&mut self, alloc: Global, workers: u64) -> Result<String, AllocError>
-        requires { IsSound self.old }
-        ensures step { IfOk result (λ text. Recovers workers (state_of self.old) (string_bytes text) (state_of self.new)) }
-        ensures sound { IfOk result (λ _. IsSound self.new) }
+    fn poke(&mut self, alloc: Global, at: u64, value: u64) -> Result<String, AllocError>
+        ensures { IfOk result (λ text. Moves (Pokes at value) self.old (string_bytes text) self.new) }
+    {
+        let Some(store) = &mut self.store else {
+            return refused_text(alloc, Refusal::NoRegion);
+        };
+        if !store.has_word(at) {
+            return refused_text(alloc, Refusal::Address);
+        }
+        store.poke(at, value);
+        ok_text(alloc)
+    }
+
+    fn cut(&mut self, alloc: Global, length: u64) -> Result<String, AllocError>
+        ensures { IfOk result (λ text. Moves (Cuts length) self.old (string_bytes text) self.new) }
+    {
+        let Some(store) = self.store.take() else {
+            return refused_text(alloc, Refusal::NoRegion);
+        };
+        if length > store.memory.len() {
+            self.store = Some(store);
+            return refused_text(alloc, Refusal::Length);
+        }
+        let front = front_region(alloc, store.memory, length)?;
+        self.put(front, None);
+        ok_text(alloc)
+    }
+
+    fn recover<H: Threads + Sync>(
+        &mut self,
+        rt: &H,
+        alloc: Global,
+        workers: u64,
+    ) -> Result<String, AllocError>
+        ensures { IfOk result (λ text. Moves (Recovers workers) self.old (string_bytes text) self.new) }
     {
         let Some(mut memory) = self.take_region() else {
             self.last = Last::Refused;
             return refused_text(alloc, Refusal::NoRegion);
         };
-        if !is_worker_count(workers) {
-            self.put(memory, None);
+        let answer = recover_region(rt, alloc, &mut memory, workers)?;
+        self.settle(alloc, memory, answer)
+    }
+
+    fn replay(
+        &mut self,
+        alloc: Global,
+        workers: u64,
+        schedule: &[u64],
+    ) -> Result<String, AllocError>
+        ensures { IfOk result (λ text. Moves (Replays workers schedule.now) self.old (string_bytes text) self.new) }
+    {
+        let Some(mut memory) = self.take_region() else {
             self.last = Last::Refused;
-            return refused_text(alloc, Refusal::Workers);
-        }
-        let recovered = recovered(alloc, &mut memory)?;
-        let text = recovered_text(alloc, &recovered)?;
-        self.last = how_it_went(&recovered);
-        self.put(memory, Some(recovered));
-        Ok(text)
+            return refused_text(alloc, Refusal::NoRegion);
+        };
+        let answer = replay_region(alloc, &mut memory, workers, schedule)?;
+        self.settle(alloc, memory, answer)
     }
 
-    fn tree(&self, alloc: Global) -> Result<String, AllocError>
-        requires { IsSound self.now }
-        ensures { IfOk result (λ text. ShowsOutcome tree_text (state_of self.now) (string_bytes text) (state_of self.now)) }
+    fn show(&self, alloc: Global, part: Part) -> Result<String, AllocError>
+        ensures { IfOk result (λ text. Moves (ShowsPart part) self.now (string_bytes text) self.now) }
     {
         match self.shown() {
-            Some(recovered) => tree_text(alloc, recovered),
-            None => refused_text(alloc, Refusal::NotMounted),
-        }
-    }
-
-    fn free(&self, alloc: Global) -> Result<String, AllocError>
-        requires { IsSound self.now }
-        ensures { IfOk result (λ text. ShowsOutcome free_text (state_of self.now) (string_bytes text) (state_of self.now)) }
-    {
-        match self.shown() {
-            Some(recovered) => free_text(alloc, recovered),
-            None => refused_text(alloc, Refusal::NotMounted),
-        }
-    }
-
-    fn faults(&self, alloc: Global) -> Result<String, AllocError>
-        requires { IsSound self.now }
-        ensures { IfOk result (λ text. ShowsOutcome fault_lines_text (state_of self.now) (string_bytes text) (state_of self.now)) }
-    {
-        match self.shown() {
-            Some(recovered) => faults_text(alloc, recovered),
-            None => refused_text(alloc, Refusal::NotMounted),
-        }
-    }
-
-    fn report(&self, alloc: Global) -> Result<String, AllocError>
-        requires { IsSound self.now }
-        ensures { IfOk result (λ text. ShowsOutcome report_text (state_of self.now) (string_bytes text) (state_of self.now)) }
-    {
-        match self.shown() {
-            Some(recovered) => report_text(alloc, recovered),
+            Some(recovered) => part_text(alloc, recovered, part),
             None => refused_text(alloc, Refusal::NotMounted),
         }
     }
 
     fn peek(&self, alloc: Global, at: u64) -> Result<String, AllocError>
-        ensures { IfOk result (λ text. Peeks at (state_of self.now) (string_bytes text) (state_of self.now)) }
+        ensures { IfOk result (λ text. Moves (Peeks at) self.now (string_bytes text) self.now) }
     {
         match &self.store {
-            Some(store) if has_word(&store.memory, at) => word_text(alloc, store.memory.load(at)),
+            Some(store) if store.has_word(at) => word_text(alloc, store.memory.load(at)),
             Some(_) => refused_text(alloc, Refusal::Address),
             None => refused_text(alloc, Refusal::NoRegion),
         }
@@ -184,8 +190,7 @@ impl Session {
 
     // What the mount shows.
     fn shown(&self) -> Option<&Recovered>
-        requires { IsSound self.now }
-        ensures { IsMountOf (state_of self.now).mounted (option_map (λ recovered. recovered.now) result) }
+        ensures { option_map (λ recovered. recovered.now) result ≡ shown_in self.now.store }
     {
         match &self.store {
             Some(store) => store.shown.as_ref(),
@@ -193,64 +198,49 @@ impl Session {
         }
     }
 
+    // Puts back the region that a recovery was tried on, mounted where it was recovered, and answers what is printed.
+    fn settle(
+        &mut self,
+        alloc: Global,
+        memory: MemRegion,
+        answer: Answer,
+    ) -> Result<String, AllocError>
+        requires { IsTrue (is_steady memory) }
+        ensures { IfOk result (λ text. Settles memory.region answer self.old (string_bytes text) self.new) }
+    {
+        match answer {
+            Answer::Recovered(recovered) => {
+                let text = recovered_text(alloc, &recovered)?;
+                self.last = how_it_went(&recovered.faults);
+                self.put(memory, Some(recovered));
+                Ok(text)
+            }
+            Answer::Refused(refusal) => {
+                self.last = Last::Refused;
+                self.put(memory, None);
+                refused_text(alloc, refusal)
+            }
+        }
+    }
+
     // Hands out the region, where there is one.
     fn take_region(&mut self) -> Option<MemRegion>
-        requires { IsSound self.old }
-        ensures region { option_map (λ memory. memory.region) result ≡ (state_of self.old).region }
-        ensures fresh { IfSome result (λ memory. IsFresh memory.region) }
+        ensures region { option_map (λ memory. memory.region) result ≡ region_in self.old.store }
         ensures steady { IfSome result (λ memory. IsTrue (is_steady memory)) }
-        ensures others { state_of self.new ≡ record (state_of self.old) { region = None; mounted = None } }
+        ensures rest { self.new ≡ record self.old { store = None } }
     {
         let store = self.store.take()?;
         Some(store.memory)
     }
 
-    // Puts a region in, with what is shown of it.
+    // Puts a region in, with what is shown.
     fn put(&mut self, memory: MemRegion, shown: Option<Recovered>)
-        requires fresh { IsFresh memory.region }
-        requires steady { IsTrue (is_steady memory) }
-        requires shows { IsShown memory.region shown }
-        ensures state { state_of self.new ≡ record (state_of self.old) { region = Some memory.region; mounted = option_map (λ _. memory.region) shown } }
-        ensures sound { IsSound self.new }
+        requires { IsTrue (is_steady memory) }
+        ensures region { region_in self.new.store ≡ Some memory.region }
+        ensures shown { shown_in self.new.store ≡ shown }
+        ensures time { self.new.time ≡ self.old.time }
+        ensures last { self.new.last ≡ self.old.last }
     {
         self.store = Some(Store { memory, shown });
-    }
-}
-
-fn is_worker_count(workers: u64) -> bool
-    ensures { result ≡ is_worker_count workers }
-{
-    1 <= workers && workers <= MOST_WORKERS
-}
-
-// Whether a word begins at the address, and is in the region.
-fn has_word(memory: &MemRegion, at: u64) -> bool
-    ensures { result ≡ has_word memory.now.region at }
-{
-    at % 8 == 0 && memory.len().saturating_sub(at) >= 8
-}
-
-fn how_it_went(recovered: &Recovered) -> Last
-    ensures { result ≡ how_it_went recovered.now.faults.items }
-{
-    if recovered.faults.is_empty() {
-        Last::Sound
-    } else {
-        Last::Faulty
-    }
-}
-
-// Recovers a region that `format` left, which want of memory alone can prevent.
-fn recovered(alloc: Global, memory: &mut MemRegion) -> Result<Recovered, AllocError>
-    requires fresh { IsFresh memory.old.region }
-    requires steady { IsTrue (is_steady memory.old) }
-    ensures ok { IfOk result (λ r. IsOutcome memory.new.region (outcome_of r)) }
-    ensures few { IfOk result (λ r. free_blocks (outcome_of r).free < 2 ^ 64) }
-    ensures same { memory.new.region ≡ memory.old.region }
-    ensures steady { IsTrue (is_steady memory.new) }
-{
-    match recover_one(alloc, memory) {
-        Ok(recovered) => Ok(recovered),
-        Err(_) => Err(AllocError),
     }
 }

@@ -1,19 +1,21 @@
 //! The texts of a recovery's answer, each whole before any byte of it is written.
 
-ghost use Rattle.std.specs.Prelude.{◌≡◌, ◌++◌, ◌<◌, ◌^◌, IfOk, OnOk, map, flat_map, sum_by, string_bytes};
+ghost use Rattle.std.specs.Prelude.{◌≡◌, ◌++◌, IfOk, OnOk, string_bytes};
 ghost use Rattle.nv_text.specs.Answers.{ok_line, bad_line, refused_line, word_line};
 ghost use Rattle.nv_text.specs.Refusals.{refusal_name};
 ghost use Rattle.nv_calls.specs.Format as formats;
-ghost use Rattle.nv_cli.specs.Outcome.{run_blocks, free_blocks};
-ghost use Rattle.nv_cli.specs.Recovered.{row_value, outcome_of};
-ghost use Rattle.nv_cli.specs.Texts.{recovered_text, row_text, tree_text, free_text, fault_lines_text, report_text};
+ghost use Rattle.nv_text.specs.Free.{free_lines};
+ghost use Rattle.nv_recover.specs.Answer.{outcome_of};
+ghost use Rattle.nv_cli.specs.Texts.{recovered_text, IsPartText, IsReportText, AddsText};
 
-use crate::recover::{Recovered, Row};
+use crate::contents::push_rows;
+use crate::part::Part;
+use nv_alloc::Allocators;
 use nv_calls::FormatRefusal;
-use nv_super::Run;
+use nv_recover::Recovered;
 use nv_text::{
-    Refusal, push_bad_line, push_faults, push_free_lines, push_inode_line, push_log_line, push_ok,
-    push_recovered, push_refused, push_region_line, push_word,
+    Refusal, push_bad_line, push_faults, push_free_lines, push_ok, push_recovered, push_refused,
+    push_region_line, push_word,
 };
 use std::alloc::{AllocError, Global};
 use std::fmt::Write;
@@ -59,86 +61,47 @@ pub fn word_text(alloc: Global, word: u64) -> Result<String, AllocError>
 }
 
 pub fn recovered_text(alloc: Global, recovered: &Recovered) -> Result<String, AllocError>
-    requires { free_blocks (outcome_of recovered.now).free < 2 ^ 64 }
     ensures { IfOk result (λ text. string_bytes text ≡ recovered_text (outcome_of recovered.now)) }
 {
     let inodes = recovered.rows.len() as u64;
-    let free = free_blocks(&recovered.free);
+    let free = recovered.free.free_blocks();
     let faults = recovered.faults.len() as u64;
     let mut text = String::new(alloc);
     push_recovered(&mut text, inodes, free, faults)?;
     Ok(text)
 }
 
-pub fn tree_text(alloc: Global, recovered: &Recovered) -> Result<String, AllocError>
-    ensures { IfOk result (λ text. string_bytes text ≡ tree_text (outcome_of recovered.now)) }
+pub fn part_text(alloc: Global, recovered: &Recovered, part: Part) -> Result<String, AllocError>
+    ensures { IfOk result (λ text. IsPartText part (outcome_of recovered.now) (string_bytes text)) }
 {
     let mut text = String::new(alloc);
-    push_rows(&mut text, &recovered.rows)?;
+    push_part(&mut text, recovered, part)?;
     Ok(text)
 }
 
-pub fn free_text(alloc: Global, recovered: &Recovered) -> Result<String, AllocError>
-    ensures { IfOk result (λ text. string_bytes text ≡ free_text (outcome_of recovered.now)) }
+fn push_part(out: &mut String, recovered: &Recovered, part: Part) -> Result<(), AllocError>
+    ensures { OnOk result (AddsText (IsPartText part (outcome_of recovered.now)) (string_bytes out.old) (string_bytes out.new)) }
 {
-    let mut text = String::new(alloc);
-    push_free_lines(&mut text, &recovered.free)?;
-    Ok(text)
-}
-
-pub fn faults_text(alloc: Global, recovered: &Recovered) -> Result<String, AllocError>
-    ensures { IfOk result (λ text. string_bytes text ≡ fault_lines_text (outcome_of recovered.now)) }
-{
-    let mut text = String::new(alloc);
-    push_faults(&mut text, &recovered.faults)?;
-    Ok(text)
-}
-
-pub fn report_text(alloc: Global, recovered: &Recovered) -> Result<String, AllocError>
-    ensures { IfOk result (λ text. string_bytes text ≡ report_text (outcome_of recovered.now)) }
-{
-    let mut text = String::new(alloc);
-    push_region_line(&mut text, &recovered.sup)?;
-    push_rows(&mut text, &recovered.rows)?;
-    push_free_lines(&mut text, &recovered.free)?;
-    push_faults(&mut text, &recovered.faults)?;
-    Ok(text)
-}
-
-fn push_rows(out: &mut String, rows: &[Row]) -> Result<(), AllocError>
-    ensures { OnOk result (string_bytes out.new ≡ string_bytes out.old ++ flat_map row_text (map row_value rows.now)) }
-{
-    for row in rows {
-        push_row(out, row)?;
+    match part {
+        Part::Tree => push_rows(out, &recovered.rows),
+        Part::Free => push_free(out, &recovered.free),
+        Part::Faults => push_faults(out, &recovered.faults),
+        Part::Report => push_report(out, recovered),
     }
-    Ok(())
 }
 
-fn push_row(out: &mut String, row: &Row) -> Result<(), AllocError>
-    ensures { OnOk result (string_bytes out.new ≡ string_bytes out.old ++ row_text (row_value row.now)) }
+fn push_report(out: &mut String, recovered: &Recovered) -> Result<(), AllocError>
+    ensures { OnOk result (AddsText (IsReportText (outcome_of recovered.now)) (string_bytes out.old) (string_bytes out.new)) }
 {
-    push_inode_line(out, &row.attributes)?;
-    push_log_line(out, &row.pages, row.tail)
+    push_region_line(out, &recovered.sup)?;
+    push_rows(out, &recovered.rows)?;
+    push_free(out, &recovered.free)?;
+    push_faults(out, &recovered.faults)
 }
 
-fn free_blocks(pools: &[Vec<Run>]) -> u64
-    requires { free_blocks (map (λ runs. runs.items) pools.now) < 2 ^ 64 }
-    ensures { result ≡ free_blocks (map (λ runs. runs.items) pools.now) }
+fn push_free(out: &mut String, free: &Allocators) -> Result<(), AllocError>
+    ensures { OnOk result (string_bytes out.new ≡ string_bytes out.old ++ free_lines free.now.pools) }
 {
-    let mut blocks = 0;
-    for runs in pools {
-        blocks += run_blocks(runs);
-    }
-    blocks
-}
-
-fn run_blocks(runs: &[Run]) -> u64
-    requires { run_blocks runs.now < 2 ^ 64 }
-    ensures { result ≡ run_blocks runs.now }
-{
-    let mut blocks = 0;
-    for run in runs {
-        blocks += run.count;
-    }
-    blocks
+    let lists = free.lists()?;
+    push_free_lines(out, &lists)
 }

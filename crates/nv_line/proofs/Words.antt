@@ -1,5 +1,5 @@
 -- The parts of a line between its spaces have no space, and words without a space are the parts of their line.
-use Rattle.std.proofs.Common.{◌≡◌, ◌≢◌, ℕ, Bool, true, false, cond, eqb, List, [], ◌∷◌, refl, ap, ◌∙◌, arith, decimal, not}
+use Rattle.std.proofs.Common.{◌≡◌, ◌≢◌, ℕ, Bool, true, false, cond, eqb, List, [], ◌∷◌, map, refl, ap, ◌∙◌, arith, decimal, not}
 use Rattle.std.specs.List.{list_all, AllByRecursion, slice_split, join_with_byte, onto_first}
 use Rattle.std.specs.Int.{IsInRange}
 use Rattle.std.specs.Str.Parse.{AllDigits}
@@ -52,6 +52,10 @@ digits_unspaced (c ∷ cs) digits = ((λ e. let range : IsInRange 48 57 c = digi
 
 pub decimal_unspaced : (n : ℕ) → IsSmall n → IsUnspaced (decimal n)
 decimal_unspaced n small = digits_unspaced (decimal n) (decimal_is_IsNumeral n small).0.1
+
+pub decimals_unspaced : (ns : List ℕ) → AllByRecursion IsSmall ns → AllByRecursion IsUnspaced (map decimal ns)
+decimals_unspaced [] small = tt
+decimals_unspaced (n ∷ ns) small = (decimal_unspaced n small.0, decimals_unspaced ns small.1)
 
 -- of a text that is written out, the test computes
 pub text_unspaced : (word : List ℕ) → list_all (λ b. not (eqb b 32)) word ≡ true → IsUnspaced word

@@ -4,7 +4,7 @@ use Rattle.std.specs.Prelude.{ℕ, ◌^◌, Bool, ◌&&◌, ◌||◌, not, List,
 use Rattle.std.specs.List.{slice_split, list_all}
 use Rattle.std.specs.Char.{is_ascii_digit}
 use Rattle.std.specs.Str.Parse.{digits_value}
-use Rattle.nv_line.specs.Request.{Request, Format, Time, Recover, Tree, Free, Faults, Report, Peek}
+use Rattle.nv_line.specs.Request.{Request, Format, Time, Poke, Cut, Recover, Replay, Tree, Free, Faults, Report, Peek}
 
 -- digits with no zero in front, or a zero alone
 unfoldable pub is_numeral : List ℕ → Bool
@@ -25,6 +25,11 @@ only_number [] = None
 only_number (word ∷ []) = number_of word
 only_number (word ∷ other ∷ more) = None
 
+-- the numbers of the words, if each writes one
+unfoldable pub numbers_of : List (List ℕ) → Option (List ℕ)
+numbers_of [] = Some []
+numbers_of (word ∷ words) = option_and_then (λ n. option_map (λ ns. n ∷ ns) (numbers_of words)) (number_of word)
+
 -- a format by its three numbers
 unfoldable pub format_of : List (List ℕ) → Option Request
 format_of [] = None
@@ -33,11 +38,26 @@ format_of (cpus ∷ blocks ∷ []) = None
 format_of (cpus ∷ blocks ∷ tables ∷ []) = option_and_then (λ c. option_and_then (λ n. option_map (λ t. Format c n t) (number_of tables)) (number_of blocks)) (number_of cpus)
 format_of (cpus ∷ blocks ∷ tables ∷ other ∷ more) = None
 
+-- a poke by its two numbers
+unfoldable pub poke_of : List (List ℕ) → Option Request
+poke_of [] = None
+poke_of (at ∷ []) = None
+poke_of (at ∷ value ∷ []) = option_and_then (λ a. option_map (λ v. Poke a v) (number_of value)) (number_of at)
+poke_of (at ∷ value ∷ other ∷ more) = None
+
+-- a replay by its number of workers and its schedule
+unfoldable pub replay_of : List (List ℕ) → Option Request
+replay_of [] = None
+replay_of (workers ∷ schedule) = option_and_then (λ n. option_map (λ ns. Replay n ns) (numbers_of schedule)) (number_of workers)
+
 -- a request by its name and the words after it
 unfoldable pub named : List ℕ → List (List ℕ) → Option Request
 named name words = if bytes_eq name (codes "format") then format_of words
     else if bytes_eq name (codes "time") then option_map Time (only_number words)
+    else if bytes_eq name (codes "poke") then poke_of words
+    else if bytes_eq name (codes "cut") then option_map Cut (only_number words)
     else if bytes_eq name (codes "recover") then option_map Recover (only_number words)
+    else if bytes_eq name (codes "replay") then replay_of words
     else if bytes_eq name (codes "tree") then alone Tree words
     else if bytes_eq name (codes "free") then alone Free words
     else if bytes_eq name (codes "faults") then alone Faults words

@@ -8,7 +8,10 @@ use Rattle.nv_line.specs.declared.commands.Command.TheVariants as commands
 abbrev pub view : Command → Request
 view (commands.Format cpus blocks table_blocks) = request.Format cpus blocks table_blocks
 view (commands.Time time) = request.Time time
+view (commands.Poke at value) = request.Poke at value
+view (commands.Cut length) = request.Cut length
 view (commands.Recover workers) = request.Recover workers
+view (commands.Replay workers schedule) = request.Replay workers schedule.items
 view commands.Tree = request.Tree
 view commands.Free = request.Free
 view commands.Faults = request.Faults

@@ -13,9 +13,24 @@ pub enum Command {
     Time {
         time: u64,
     },
+    /// Store a word at an address, in bytes. Nothing is mounted any more.
+    Poke {
+        at: u64,
+        value: u64,
+    },
+    /// Keep the region's first `length` bytes. Nothing is mounted any more.
+    Cut {
+        length: u64,
+    },
     /// Recover the region on this number of workers, and mount it.
     Recover {
         workers: u64,
+    },
+    /// Recover the region on one thread, with the claims of this number of workers made in the
+    /// schedule's order, and mount it. A number of the schedule that names no worker is read too.
+    Replay {
+        workers: u64,
+        schedule: Vec<u64>,
     },
     /// Print the inodes in use.
     Tree,

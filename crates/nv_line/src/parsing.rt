@@ -3,7 +3,7 @@
 
 ghost use Rattle.std.specs.Prelude.{◌≡◌, ◌==◌, ℕ, List, map, IfOk, IfSome, Some, option_map};
 ghost use Rattle.std.specs.List.{slice_split};
-ghost use Rattle.nv_line.specs.Reading.{only_number, format_of, named, request_of};
+ghost use Rattle.nv_line.specs.Reading.{only_number, numbers_of, format_of, poke_of, replay_of, named, request_of};
 ghost use Rattle.nv_line.specs.Request.{Request};
 ghost use Rattle.nv_line.specs.Spelling.{Says};
 ghost use Rattle.nv_line.specs.View.{view};
@@ -42,29 +42,74 @@ fn format(words: &[&[u8]]) -> Option<Command>
     })
 }
 
+#[tactic(auto, unfolding(crate::specs::Reading::poke_of))]
+fn poke(words: &[&[u8]]) -> Option<Command>
+    ensures { option_map view result ≡ poke_of (map (λ word. word.now) words.now) }
+{
+    let [at, value] = words else { return None };
+    Some(Command::Poke {
+        at: read_number(at)?,
+        value: read_number(value)?,
+    })
+}
+
+/// The numbers that the words write, if each writes one.
+fn numbers(alloc: Global, words: &[&[u8]]) -> Result<Option<Vec<u64>>, AllocError>
+    ensures { IfOk result (λ found. option_map (λ numbers. numbers.items) found ≡ numbers_of (map (λ word. word.now) words.now)) }
+{
+    let mut numbers = Vec::new(alloc);
+    for word in words {
+        match read_number(word) {
+            Some(number) => numbers.push(number)?,
+            None => return Ok(None),
+        }
+    }
+    Ok(Some(numbers))
+}
+
+#[tactic(auto, unfolding(crate::specs::Reading::replay_of))]
+fn replay(alloc: Global, words: &[&[u8]]) -> Result<Option<Command>, AllocError>
+    ensures { IfOk result (λ found. option_map view found ≡ replay_of (map (λ word. word.now) words.now)) }
+{
+    let [workers, schedule @ ..] = words else {
+        return Ok(None);
+    };
+    let Some(workers) = read_number(workers) else {
+        return Ok(None);
+    };
+    let schedule = numbers(alloc, schedule)?;
+    Ok(schedule.map(|schedule| Command::Replay { workers, schedule }))
+}
+
 /// The command with this name and these words after it.
 #[tactic(auto, unfolding(crate::specs::Reading::named, crate::specs::Reading::alone))]
-fn named(name: &[u8], words: &[&[u8]]) -> Option<Command>
-    ensures { option_map view result ≡ named name.now (map (λ word. word.now) words.now) }
+fn named(alloc: Global, name: &[u8], words: &[&[u8]]) -> Result<Option<Command>, AllocError>
+    ensures { IfOk result (λ found. option_map view found ≡ named name.now (map (λ word. word.now) words.now)) }
 {
     if name == b"format".as_slice() {
-        format(words)
+        Ok(format(words))
     } else if name == b"time".as_slice() {
-        only_number(words).map(|time| Command::Time { time })
+        Ok(only_number(words).map(|time| Command::Time { time }))
+    } else if name == b"poke".as_slice() {
+        Ok(poke(words))
+    } else if name == b"cut".as_slice() {
+        Ok(only_number(words).map(|length| Command::Cut { length }))
     } else if name == b"recover".as_slice() {
-        only_number(words).map(|workers| Command::Recover { workers })
+        Ok(only_number(words).map(|workers| Command::Recover { workers }))
+    } else if name == b"replay".as_slice() {
+        replay(alloc, words)
     } else if name == b"tree".as_slice() {
-        words.is_empty().then_some(Command::Tree)
+        Ok(words.is_empty().then_some(Command::Tree))
     } else if name == b"free".as_slice() {
-        words.is_empty().then_some(Command::Free)
+        Ok(words.is_empty().then_some(Command::Free))
     } else if name == b"faults".as_slice() {
-        words.is_empty().then_some(Command::Faults)
+        Ok(words.is_empty().then_some(Command::Faults))
     } else if name == b"report".as_slice() {
-        words.is_empty().then_some(Command::Report)
+        Ok(words.is_empty().then_some(Command::Report))
     } else if name == b"peek".as_slice() {
-        only_number(words).map(|at| Command::Peek { at })
+        Ok(only_number(words).map(|at| Command::Peek { at }))
     } else {
-        None
+        Ok(None)
     }
 }
 
@@ -75,12 +120,12 @@ fn parse_line(alloc: Global, line: &[u8]) -> Result<Option<Command>, AllocError>
     let words = words(alloc, line)?;
     match words.as_slice() {
         [] => Ok(None),
-        [name, words @ ..] => Ok(named(name, words)),
+        [name, words @ ..] => named(alloc, name, words),
     }
 }
 
 /// The command that a line spells, if it spells one. The error is a refused growth of the list of
-/// the line's words.
+/// the line's words, or of a schedule.
 pub fn parse(alloc: Global, line: &[u8]) -> Result<Option<Command>, AllocError>
     // What is found is spelled so.
     ensures found { IfOk result (λ found. IfSome found (λ command. Says line.now (view command))) }

@@ -33,8 +33,30 @@ fn a_command_is_read_with_its_numbers(rt: HostRuntime) -> Result<(), Fail> {
         ),
         ("time 0", Command::Time { time: 0 }),
         ("time 18446744073709551615", Command::Time { time: largest }),
+        (
+            "poke 8344 12288",
+            Command::Poke {
+                at: 8344,
+                value: 12288,
+            },
+        ),
+        ("cut 0", Command::Cut { length: 0 }),
         ("recover 1", Command::Recover { workers: 1 }),
         ("recover 65", Command::Recover { workers: 65 }),
+        (
+            "replay 2 0 0 0 0 1 1 1 1",
+            Command::Replay {
+                workers: 2,
+                schedule: vec![in rt.alloc(); 0, 0, 0, 0, 1, 1, 1, 1]?,
+            },
+        ),
+        (
+            "replay 3",
+            Command::Replay {
+                workers: 3,
+                schedule: Vec::new(rt.alloc()),
+            },
+        ),
         ("tree", Command::Tree),
         ("free", Command::Free),
         ("faults", Command::Faults),
@@ -61,8 +83,11 @@ fn a_line_that_is_no_command_is_bad(rt: HostRuntime) -> Result<(), Fail> {
         "format 1 16 1 1",
         "time",
         "time 1 2",
+        "poke 1",
+        "cut",
         "recover",
         "recover 1 1",
+        "replay",
         "tree 1",
         "free 0",
         "faults 1",
@@ -83,6 +108,7 @@ fn a_line_that_is_no_command_is_bad(rt: HostRuntime) -> Result<(), Fail> {
         " ",
         "  ",
         "format 1  16 1",
+        "replay 2 ",
         " #",
         // numbers
         "time 18446744073709551616",
@@ -100,7 +126,9 @@ fn a_line_that_is_no_command_is_bad(rt: HostRuntime) -> Result<(), Fail> {
         "format 01 16 1",
         "format 1 016 1",
         "format 1 16 01",
+        "cut +5",
         "recover 01",
+        "replay 2 01",
         "peek 08",
         // letters and other bytes
         "Time 1",

@@ -1,6 +1,5 @@
 -- What a fence copies.
-use Rattle.std.proofs.Common.{◌≡◌, ◌≢◌, ◌+◌, ◌-◌, ◌*◌, ◌/◌, ◌<◌, ◌≤◌, ◌⊎◌, inl, inr, ℕ, zero, suc, true, List, [], ◌∷◌, eqb, length, get_or, take, drop, min, refl, subst, sym, ◌∙◌, arith}
-use Rattle.std.specs.List.{list_any}
+use Rattle.std.proofs.Common.{◌≡◌, ◌≢◌, ◌+◌, ◌-◌, ◌*◌, ◌/◌, ◌<◌, ◌≤◌, inl, inr, ℕ, zero, suc, List, [], ◌∷◌, length, get_or, take, drop, min, refl, sym, ◌∙◌, arith}
 use Rattle.std.proofs.lemmas.List.{places, ext_get_or, get_or_past}
 use Rattle.std.proofs.lemmas.Bool.{cases_eq, cases_lt}
 use Rattle.nv_region.specs.Fenced.{DifferOnlyIn}
@@ -34,7 +33,7 @@ page_not fenced words part page end i as_long ends within is away = elim (cases_
     beyond : (i page : ℕ) → page * 512 ≤ i → i / 512 ≢ page → page * 512 + 512 ≤ i
     beyond i page low away = omega arith
 
-drop_past : (xs : List ℕ) (k : ℕ) → length xs ≤ k → drop k xs ≡ []
+pub drop_past : (xs : List ℕ) (k : ℕ) → length xs ≤ k → drop k xs ≡ []
 drop_past [] zero h = refl
 drop_past [] (suc k) h = refl
 drop_past (x ∷ xs) zero h = absurd (omega arith)

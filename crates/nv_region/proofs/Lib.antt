@@ -3,3 +3,4 @@ pub mod Stops
 pub mod Wordwise
 pub mod Marks
 pub mod Fences
+pub mod Fronted

@@ -1,7 +1,6 @@
 -- The pages that were stored to: each has its mark, and the list of them has room for all.
-use Rattle.std.proofs.Common.{◌≡◌, ◌≢◌, ◌+◌, ◌<◌, ◌≤◌, ◌||◌, ◌⊎◌, inl, inr, ℕ, Bool, true, false, zero, suc, List, [], ◌∷◌, ◌++◌, length, get_or, set, eqb, vec_len, vec_capacity, refl, sym, ap, ◌∙◌, subst, arith, length-append, length-set, replicate, get_or-set_same, get_or-set_other}
+use Rattle.std.proofs.Common.{◌≡◌, ◌≢◌, ◌<◌, ◌≤◌, ◌||◌, ◌⊎◌, inl, inr, ℕ, Bool, true, false, zero, suc, List, [], ◌∷◌, ◌++◌, length, get_or, set, eqb, vec_len, vec_capacity, refl, sym, ap, ◌∙◌, subst, arith, length-append, length-set, replicate, get_or-set_same, get_or-set_other}
 use Rattle.std.specs.List.{list_any, IsDistinct}
-use Rattle.std.specs.Cmp.{IsEquivalence}
 use Rattle.std.proofs.lemmas.Bool.{cases_eq, cases_lt, eqb-true, ne_eqb, eq-eqb}
 use Rattle.std.proofs.lemmas.List.{get_or_past, length-replicate, places}
 use Rattle.std.proofs.lemmas.List.Folds.{list_any-append}

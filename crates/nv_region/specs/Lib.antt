@@ -5,3 +5,5 @@ pub mod Stored
 pub mod StoredPages
 pub mod Marks
 pub mod Fenced
+pub mod ImageState
+pub mod Fronts

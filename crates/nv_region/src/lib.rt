@@ -4,11 +4,13 @@
 //! or one that was stored to it since (the store model of the FAST 2016 paper's persistent memory).
 #![tactic(auto)]
 
+mod image;
 mod memory;
 mod pmem;
 mod stored;
 mod words;
 
+pub use image::ImageRegion;
 pub use memory::{Fuse, MemRegion, RegionRefusal};
 pub use pmem::{Pmem, Stopped};
 pub use words::{commit_word, store_word};

@@ -8,7 +8,7 @@ ghost use Rattle.std.proofs.Common.{inl, inr};
 ghost use Rattle.std.specs.List.{list_any};
 ghost use Rattle.byteorder.specs.Endian.{little_number};
 ghost use Rattle.nv_region.specs.Region.{size, word, put, region_of, bytes_of};
-ghost use Rattle.nv_region.specs.Stops.{NothingPending, NoneAdded, Adds, One, StaysSteady};
+ghost use Rattle.nv_region.specs.Stops.{NothingPending, NoneAdded, Adds, One, StaysSteady, StaysOpen};
 ghost use Rattle.nv_region.specs.RegionState.{RegionState, fenced_or_last, burns_at_store, burns_at_fence, one_passed, is_steady, steady_unburnt};
 ghost use Rattle.nv_region.specs.Fenced.{DifferOnlyIn};
 
@@ -180,7 +180,11 @@ impl Pmem for MemRegion {
 
     ghost is_steady = { is_steady };
 
+    ghost is_open = { λ m limit. is_steady m };
+
     ghost unburnt = { steady_unburnt };
+
+    ghost open_unburnt = { λ m limit. steady_unburnt m };
 
     ghost holds_now = { λ m i. inl refl };
 
@@ -202,6 +206,7 @@ impl Pmem for MemRegion {
         ensures stopped { is_err result ≡ self.new.burnt }
         ensures burnt { IsTrue self.old.burnt → IsTrue self.new.burnt }
         ensures steady { StaysSteady (is_steady self.old) (is_steady self.new) }
+        ensures open { (limit : ℕ) → at + 8 ≤ limit → StaysOpen limit (λ _. is_steady self.old) (λ _. is_steady self.new) }
         // The fuse burns where it says.
         ensures burns { self.new.burnt ≡ (self.old.burnt || burns_at_store self.old.fuse at) }
         ensures counts { OnOk result (self.new.fuse ≡ one_passed self.old.fuse) }
@@ -231,6 +236,7 @@ impl Pmem for MemRegion {
         ensures stopped { is_err result ≡ self.new.burnt }
         ensures burnt { IsTrue self.old.burnt → IsTrue self.new.burnt }
         ensures steady { StaysSteady (is_steady self.old) (is_steady self.new) }
+        ensures open { (limit : ℕ) → StaysOpen limit (λ _. is_steady self.old) (λ _. is_steady self.new) }
         // The fuse burns where it says.
         ensures burns { self.new.burnt ≡ (self.old.burnt || burns_at_fence self.old.fuse) }
         ensures counts { OnOk result (self.new.fuse ≡ one_passed self.old.fuse) }

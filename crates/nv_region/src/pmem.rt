@@ -2,7 +2,7 @@
 
 ghost use Rattle.std.specs.Prelude.{◌≡◌, ◌+◌, ◌≤◌, ◌%◌, ℕ, Bool, false, IsTrue, OnOk, OnErr, is_err, get_or, length, ◌<◌};
 ghost use Rattle.nv_region.specs.Region.{Region, size, word, put};
-ghost use Rattle.nv_region.specs.Stops.{Adds, One, NoneAdded, NothingPending, StaysSteady};
+ghost use Rattle.nv_region.specs.Stops.{Adds, One, NoneAdded, NothingPending, StaysSteady, StaysOpen};
 
 /// The memory has been stopped: its fuse has burnt, and nothing is stored any more.
 #[derive(Clone, Copy, Debug, PartialEq, Eq)]
@@ -23,6 +23,9 @@ pub trait Pmem {
 
     /// No fuse is set: no store and no fence burns it.
     ghost is_steady: { Self → Bool };
+
+    /// No store that ends at or before this byte address burns the fuse, and no fence does.
+    ghost is_open: { Self → ℕ → Bool };
 
     /// The number of bytes.
     fn len(&self) -> u64
@@ -47,7 +50,8 @@ pub trait Pmem {
         ensures refused_keep { OnErr result (NoneAdded (may_hold self.old) (may_hold self.new)) }
         ensures stopped { is_err result ≡ has_burnt self.new }
         ensures burnt { IsTrue (has_burnt self.old) → IsTrue (has_burnt self.new) }
-        ensures steady { StaysSteady (is_steady self.old) (is_steady self.new) };
+        ensures steady { StaysSteady (is_steady self.old) (is_steady self.new) }
+        ensures open { (limit : ℕ) → at + 8 ≤ limit → StaysOpen limit (is_open self.old) (is_open self.new) };
 
     /// After it, a stop leaves all that was stored before.
     ///
@@ -59,10 +63,14 @@ pub trait Pmem {
         ensures refused_keep { OnErr result (NoneAdded (may_hold self.old) (may_hold self.new)) }
         ensures stopped { is_err result ≡ has_burnt self.new }
         ensures burnt { IsTrue (has_burnt self.old) → IsTrue (has_burnt self.new) }
-        ensures steady { StaysSteady (is_steady self.old) (is_steady self.new) };
+        ensures steady { StaysSteady (is_steady self.old) (is_steady self.new) }
+        ensures open { (limit : ℕ) → StaysOpen limit (is_open self.old) (is_open self.new) };
 
     /// A memory without a fuse hasn't burnt.
     ghost unburnt: { (m : Self) → IsTrue (is_steady m) → has_burnt m ≡ false };
+
+    /// A memory that is open up to some address hasn't burnt.
+    ghost open_unburnt: { (m : Self) (limit : ℕ) → IsTrue (is_open m limit) → has_burnt m ≡ false };
 
     /// A stop may leave each word as it reads.
     ghost holds_now: { (m : Self) (i : ℕ) → may_hold m i (get_or (region m).words i 0) };

@@ -1,12 +1,18 @@
 //! Regions in memory: their bytes, their refusals and their fuse.
 
+mod image;
+
+ghost use Rattle.std.specs.Prelude.{◌≡◌, IfOk, length};
+
 use crate::{Fuse, MemRegion, Pmem, RegionRefusal, Stopped, commit_word, store_word};
 use std::alloc::{AllocError, Global};
 use std::process::Abort;
 use std::test::Fail;
 
 /// Bytes of which neighbours differ.
-fn counted(alloc: Global, count: u64) -> Result<Vec<u8>, AllocError> {
+fn counted(alloc: Global, count: u64) -> Result<Vec<u8>, AllocError>
+    ensures { IfOk result (λ bytes. length bytes.items ≡ count) }
+{
     let mut bytes = Vec::new(alloc);
     for k in 0..count {
         bytes.push((k % 251) as u8)?;

@@ -2,7 +2,7 @@
 
 ghost use Rattle.std.specs.Prelude.{◌≡◌, ◌⊎◌, ◌+◌, ◌≤◌, ◌%◌, ℕ, IsTrue, OnOk, OnErr, is_err};
 ghost use Rattle.nv_region.specs.Region.{put, size};
-ghost use Rattle.nv_region.specs.Stops.{Adds, LeavesOnly, NothingPending, One, NoneAdded, StaysSteady};
+ghost use Rattle.nv_region.specs.Stops.{Adds, LeavesOnly, NothingPending, One, NoneAdded, StaysSteady, StaysOpen};
 ghost use Rattle.nv_region.specs.Stored.{Stored};
 
 use crate::pmem::{Pmem, Stopped};
@@ -18,6 +18,7 @@ pub fn store_word<P: Pmem>(memory: &mut P, at: u64, value: u64) -> Result<(), St
     ensures may_keep { Adds (One at value) (P.may_hold memory.old) (P.may_hold memory.new) }
     ensures stopped { is_err result ≡ P.has_burnt memory.new }
     ensures steady { StaysSteady (P.is_steady memory.old) (P.is_steady memory.new) }
+    ensures open { (limit : ℕ) → at + 8 ≤ limit → StaysOpen limit (P.is_open memory.old) (P.is_open memory.new) }
 {
     let _length = memory.len();
     memory.store(at, value)
@@ -33,6 +34,7 @@ pub fn commit_word<P: Pmem>(memory: &mut P, at: u64, value: u64) -> Result<(), S
     ensures reads { (P.region memory.new ≡ P.region memory.old) ⊎ (P.region memory.new ≡ put (P.region memory.old) at value) }
     ensures stopped { OnErr result (IsTrue (P.has_burnt memory.new)) }
     ensures steady { StaysSteady (P.is_steady memory.old) (P.is_steady memory.new) }
+    ensures open { (limit : ℕ) → at + 8 ≤ limit → StaysOpen limit (P.is_open memory.old) (P.is_open memory.new) }
     ensures any_stop { NothingPending (P.region memory.old) (P.may_hold memory.old) → LeavesOnly (P.region memory.new) (P.may_hold memory.new) (λ left. (left ≡ P.region memory.old) ⊎ (left ≡ put (P.region memory.old) at value)) }
 {
     memory.store(at, value)?;

@@ -1,4 +1,4 @@
-use Rattle.std.proofs.Common.{◌≡◌, ◌++◌, ◌∙◌, sym, ap, subst, List, ℕ, Option}
+use Rattle.std.proofs.Common.{◌≡◌, ◌++◌, ◌∙◌, sym, subst, List, ℕ, Option}
 use Rattle.std.specs.List.{filter_map}
 use Rattle.nv_check.specs.declared.listing.Listing.{Listing}
 use Rattle.nv_check.specs.Steps.{unused_faults, count_fault, AreNumbersOfNames, ArePlaces, Adds, IsFar}

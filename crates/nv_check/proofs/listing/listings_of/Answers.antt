@@ -1,8 +1,5 @@
-use Rattle.std.proofs.Common.{◌≡◌, ◌∙◌, ◌+◌, ◌++◌, ◌∷◌, [], take, List, refl, sym, ap, subst}
-use Rattle.std.proofs.lemmas.List.{take_more}
-use Rattle.nv_scan.specs.declared.piece.Row.{Row}
-use Rattle.nv_check.specs.declared.listing.Listing.{Listing}
-use Rattle.nv_check.specs.Listings.{IsListing, AreListings}
+use Rattle.std.proofs.Common.{refl}
+use Rattle.nv_check.specs.Listings.{IsListing}
 use Rattle.nv_check.proofs.Rows.{listed_more}
 use Rattle.nv_check.proofs.listing.listings_of.Goals as goal
 

@@ -1,4 +1,4 @@
-use Rattle.std.proofs.Common.{◌≡◌, ◌∙◌, ◌<◌, ◌+◌, ℕ, sym, ap, arith, length, get_or, Some, subst, List, Option}
+use Rattle.std.proofs.Common.{◌≡◌, ◌∙◌, ◌<◌, ◌+◌, ℕ, sym, arith, length, get_or, Some, subst}
 use Rattle.std.proofs.Math.ListN.{set, length-set}
 use Rattle.nv_super.specs.Layout.{inode_limit}
 use Rattle.nv_check.specs.Listings.{inodes_of}

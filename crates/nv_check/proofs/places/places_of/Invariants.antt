@@ -1,4 +1,4 @@
-use Rattle.std.proofs.Common.{◌≡◌, ◌*◌, length}
+use Rattle.std.proofs.Common.{◌≡◌, length}
 use Rattle.nv_super.specs.Layout.{inode_limit}
 use Rattle.nv_check.specs.Listings.{inodes_of}
 use Rattle.nv_check.specs.Steps.{ArePlacesTo}

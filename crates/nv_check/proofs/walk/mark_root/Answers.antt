@@ -1,4 +1,4 @@
-use Rattle.std.proofs.Common.{arith, sym, ◌∙◌, ◌<◌, ◌≡◌, length}
+use Rattle.std.proofs.Common.{arith, sym, ◌∙◌}
 use Rattle.nv_check.proofs.Follow.{with_root, without_one, with_file, as_long}
 use Rattle.nv_check.proofs.walk.mark_root.Goals as goal
 

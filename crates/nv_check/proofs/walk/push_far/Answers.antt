@@ -1,4 +1,4 @@
-use Rattle.std.proofs.Common.{◌≡◌, ◌∙◌, sym, ap, subst, List, Bool}
+use Rattle.std.proofs.Common.{sym, subst, List, Bool}
 use Rattle.nv_check.specs.Steps.{AreReached}
 use Rattle.nv_check.proofs.Together.{far_added, on_ok}
 use Rattle.nv_check.proofs.walk.push_far.Goals as goal

@@ -1,4 +1,4 @@
-use Rattle.std.proofs.Common.{◌≡◌, Bool, map, List, ℕ, [], ◌∷◌, ◌++◌, ◌<◌, ◌*◌, length, arith, subst, sym, ◌∙◌, Option}
+use Rattle.std.proofs.Common.{◌≡◌, Bool, map, List, ℕ, [], ◌∷◌, ◌++◌, ◌<◌, length, arith, subst, sym, Option}
 use Rattle.std.proofs.lemmas.List.Elements.{Contains-push}
 use Rattle.nv_names.specs.declared.named.Named.{Named}
 use Rattle.nv_check.specs.declared.listing.Listing.{Listing}

@@ -1,4 +1,4 @@
-use Rattle.std.proofs.Common.{arith, sym, ◌∙◌, false, true}
+use Rattle.std.proofs.Common.{sym, ◌∙◌, false, true}
 use Rattle.nv_check.proofs.Spread.{spread_new, spread_old, spread_none, read_at}
 use Rattle.nv_check.proofs.walk.spread_to.Goals as goal
 

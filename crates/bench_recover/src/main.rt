@@ -1,0 +1,132 @@
+//! Measures recovery: recovers the image at the path that the second word gives, or a region just formatted where there
+//! is none, on one thread and on 1, 2 and 4 workers, each as often as the first word says. It prints the best
+//! milliseconds of each on standard error, and what was found on standard output.
+#![tactic(auto)]
+
+use nv_calls::format;
+use nv_recover::{RecoverError, Recovered, recover, recover_one};
+use nv_region::{MemRegion, RegionRefusal};
+use nv_scan::OpenGate;
+use std::alloc::Global;
+use std::rt::{Clock, Files};
+use std::thread::Threads;
+use std::time::Instant;
+use std::{env, fs, io};
+
+const BLOCKS: u64 = 65_536;
+
+const CPUS: u64 = 16;
+
+const TABLE_BLOCKS: u64 = 64;
+
+/// On how many threads a recovery runs.
+#[derive(Clone, Copy)]
+enum Threading {
+    One,
+    Workers(u64),
+}
+
+const WAYS: [Threading; 4] = [
+    Threading::One,
+    Threading::Workers(1),
+    Threading::Workers(2),
+    Threading::Workers(4),
+];
+
+/// What a recovery found.
+#[derive(Clone, Copy)]
+struct Counts {
+    inodes: usize,
+    free: u64,
+    doubled: usize,
+    faults: usize,
+}
+
+impl From<&Recovered> for Counts {
+    fn from(recovered: &Recovered) -> Counts {
+        Counts {
+            inodes: recovered.rows.len(),
+            free: recovered.free.free_blocks(),
+            doubled: recovered.doubled.len(),
+            faults: recovered.faults.len(),
+        }
+    }
+}
+
+fn formatted(alloc: Global) -> Result<MemRegion, RegionRefusal> {
+    let mut memory = MemRegion::new(alloc, BLOCKS)?;
+    let _made = format(&mut memory, CPUS, TABLE_BLOCKS, 0);
+    Ok(memory)
+}
+
+fn recovered_so<R: AllocGlobal + Threads + Sync>(
+    rt: &R,
+    memory: &mut MemRegion,
+    way: Threading,
+) -> Result<Recovered, RecoverError> {
+    match way {
+        Threading::One => recover_one(rt.alloc(), memory),
+        Threading::Workers(workers) => recover(rt, rt.alloc(), memory, workers, &OpenGate),
+    }
+}
+
+/// The best milliseconds of so many recoveries, and what the last of them found.
+fn best<R: AllocGlobal + Clock + Threads + Sync>(
+    rt: &R,
+    memory: &mut MemRegion,
+    way: Threading,
+    runs: u64,
+) -> io::Result<(f64, Option<Counts>)> {
+    let mut least = f64::INFINITY;
+    let mut found = None;
+    for _ in 0..runs {
+        let start = Instant::now(rt)?;
+        let answer = recovered_so(rt, memory, way);
+        least = least.min(start.elapsed(rt)?.as_secs_f64() * 1000.0);
+        found = answer
+            .as_ref()
+            .ok()
+            .map(|recovered| Counts::from(recovered));
+    }
+    Ok((least, found))
+}
+
+fn measure<R: AllocGlobal + Print + Eprint + Clock + Threads + Sync>(
+    rt: &R,
+    memory: &mut MemRegion,
+    runs: u64,
+) -> io::Result<()> {
+    for way in WAYS {
+        let (least, found) = best(rt, memory, way, runs)?;
+        match way {
+            Threading::One => eprintln!(rt; "one thread {least:.3} ms")?,
+            Threading::Workers(workers) => eprintln!(rt; "{workers} workers {least:.3} ms")?,
+        }
+        match found {
+            Some(counts) => println!(rt;
+                "inodes {} free {} doubled {} faults {}",
+                counts.inodes, counts.free, counts.doubled, counts.faults
+            )?,
+            None => println!(rt; "refused")?,
+        }
+    }
+    Ok(())
+}
+
+fn main(rt: HostRuntime) -> io::Result<()> {
+    let mut words = env::args(&rt)?.skip(1);
+    let runs = words
+        .next()
+        .and_then(|text| text.as_str().parse::<u64>().ok());
+    let Some(runs) = runs else {
+        return eprintln!(rt; "usage: bench_recover RUNS [PATH]");
+    };
+    let made = match words.next() {
+        Some(path) => MemRegion::from_bytes(rt.alloc(), &fs::read(&rt, path.as_str())?),
+        None => formatted(rt.alloc()),
+    };
+    match made {
+        Ok(mut memory) => measure(&rt, &mut memory, runs),
+        Err(refusal) => eprintln!(rt; "{refusal:?}"),
+    }
+}

@@ -1,0 +1,75 @@
+//! The check of the image in a file.
+
+ghost use Rattle.std.specs.Prelude.{◌≡◌, OnOk, OnErr, IfOk, codes};
+ghost use Rattle.std.specs.Io.KnownBytes.{Appends};
+ghost use Rattle.nv_cli.specs.Streams.{AppendsFront};
+
+use crate::contents::{Contents, Unread, contents_at};
+use nv_cli::{ScriptError, check_region, write_text};
+use std::io::Write;
+use std::rt::Files;
+use std::thread::Threads;
+use std::{fmt, io};
+
+// The number of bytes of the longest region.
+const LONGEST_REGION: usize = 1 << 30;
+
+/// What ends a check before its answer.
+#[derive(Clone, Copy, Debug, PartialEq, Eq)]
+pub(crate) enum CheckError<'a> {
+    /// The file at this path can't be read.
+    CannotRead(&'a str),
+    /// The answer can't be held in memory, or not be written.
+    Answer(ScriptError),
+}
+
+impl From<ScriptError> for CheckError<'_> {
+    fn from(error: ScriptError) -> Self {
+        CheckError::Answer(error)
+    }
+}
+
+impl fmt::Display for CheckError<'_> {
+    fn fmt<W: fmt::Write>(&self, f: &mut fmt::Formatter<W>) -> fmt::Result {
+        match self {
+            CheckError::CannotRead(path) => write!(f, "cannot read {path}"),
+            CheckError::Answer(error) => write!(f, "{error}"),
+        }
+    }
+}
+
+/// Recovers the image in the file at a path in memory, on so many threads, prints its report on standard output, and
+/// answers the exit status: 0 where the report shows no faults, 1 where it does, and 2 where the image is refused, as
+/// each is that is longer than a region can be. The file is read once, and never written.
+pub(crate) fn check<'a, H: Files + AllocGlobal + Print + Threads + Sync>(
+    rt: &H,
+    path: &'a str,
+    workers: u32,
+) -> Result<u8, CheckError<'a>> {
+    match contents_at(rt, path, LONGEST_REGION) {
+        Ok(Contents::Whole(bytes)) => {
+            let workers = u64::from(workers);
+            let status = check_region(
+                rt,
+                rt.alloc(),
+                bytes.as_slice(),
+                workers,
+                &mut io::writer(rt),
+            )?;
+            Ok(status)
+        }
+        Ok(Contents::Longer) => Ok(refuse_length(&mut io::writer(rt))?),
+        Err(Unread::Unreadable) => Err(CheckError::CannotRead(path)),
+        Err(Unread::Memory) => Err(CheckError::Answer(ScriptError::Memory)),
+    }
+}
+
+// The answer to bytes that are too many for a region.
+fn refuse_length<W: Write>(writer: &mut W) -> Result<u8, ScriptError>
+    ensures ok { OnOk result (Appends (W.contents writer.old) (W.contents writer.new) (codes "refused S1\n")) }
+    ensures err { OnErr result (AppendsFront (W.contents writer.old) (W.contents writer.new) (codes "refused S1\n")) }
+    ensures status { IfOk result (λ status. status ≡ 2) }
+{
+    write_text(writer, b"refused S1\n")?;
+    Ok(2)
+}

@@ -1,0 +1,84 @@
+//! The bytes of a file, where it isn't longer than a limit.
+
+ghost use Rattle.std.specs.Prelude.{◌<◌, ◌≤◌, ◌^◌, IfOk, IfSome};
+ghost use Rattle.nova.specs.Contents.{AreRead};
+
+use std::alloc::{AllocError, Global};
+use std::fs;
+use std::fs::OpenFile;
+use std::io::{Error, ErrorKind, Read};
+use std::rt::Files;
+
+/// What a file holds.
+#[derive(Debug, Drop)]
+pub(crate) enum Contents {
+    /// These bytes.
+    Whole(Vec<u8>),
+    /// More than the limit.
+    Longer,
+}
+
+/// Why a file's bytes are not there.
+#[derive(Clone, Copy, Debug, PartialEq, Eq)]
+pub(crate) enum Unread {
+    /// The file is missing, isn't a file, or can't be read.
+    Unreadable,
+    /// Memory was refused.
+    Memory,
+}
+
+impl From<Error> for Unread {
+    fn from(error: Error) -> Unread {
+        match error.kind() {
+            ErrorKind::OutOfMemory => Unread::Memory,
+            _ => Unread::Unreadable,
+        }
+    }
+}
+
+impl From<AllocError> for Unread {
+    fn from(_error: AllocError) -> Unread {
+        Unread::Memory
+    }
+}
+
+/// The bytes that a reader gives up to its end, or that there are more than `limit`. About `length` of them are
+/// expected: with so many no growth is needed. Of longer input one byte more than the limit is read.
+///
+/// Answers `Unreadable` where the reader fails, and `Memory` where a growth is refused.
+pub(crate) fn read_whole<R: Read + Drop>(
+    alloc: Global,
+    reader: R,
+    length: usize,
+    limit: usize,
+) -> Result<Contents, Unread>
+    requires within { length ≤ limit }
+    requires small { limit < 2 ^ 62 }
+    ensures { IfOk result (λ contents. IfSome (R.remaining reader) (λ bytes. AreRead limit bytes contents)) }
+{
+    // Room for one more byte, so that the end is met before a growth.
+    let mut bytes = Vec::with_capacity(alloc, length + 1)?;
+    let mut reader = reader.take(limit as u64 + 1);
+    let count = reader.read_to_end(&mut bytes)?;
+    if count <= limit {
+        Ok(Contents::Whole(bytes))
+    } else {
+        Ok(Contents::Longer)
+    }
+}
+
+/// What the file at a path holds, where that are no more than `limit` bytes. A file that says that it is longer isn't
+/// read. Errors as of `read_whole`.
+pub(crate) fn contents_at<H: Files + AllocGlobal>(
+    rt: &H,
+    path: &str,
+    limit: usize,
+) -> Result<Contents, Unread>
+    requires { limit < 2 ^ 62 }
+{
+    let file = fs::open(rt, path)?;
+    match usize::try_from(file.metadata()?.len()) {
+        Ok(length) if length <= limit => read_whole(rt.alloc(), file, length, limit),
+        _ => Ok(Contents::Longer),
+    }
+}

@@ -1,0 +1,109 @@
+//! The same faults, with the work on each row shared among threads.
+
+ghost use Rattle.std.specs.Prelude.{◌≡◌, ◌++◌, List, IfOk, IsTrue, OnOk};
+ghost use Rattle.std.specs.List.{All, AllZip};
+ghost use Rattle.nv_super.specs.Layout.{IsLayout, is_number};
+ghost use Rattle.nv_super.specs.Order.{fault_key, Lists, Rises};
+ghost use Rattle.nv_scan.specs.declared.piece.Row.{Row as RowValue};
+ghost use Rattle.nv_check.specs.Cross.{row_key, IsCrossFaultIn};
+ghost use Rattle.nv_check.specs.Steps.{named_by, all_of, AreNear};
+
+use crate::counts::fault_of;
+use crate::listing::Listing;
+use crate::names::push_unused_of;
+use crate::places::find;
+use crate::tables::tables_of;
+use crate::walk::push_far;
+use nv_scan::Row;
+use nv_super::{Fault, Super, sort_faults};
+use rayon::prelude::*;
+use std::alloc::{AllocError, Global};
+use std::thread::Threads;
+
+/// The faults between the rows of all inodes in use, as `cross_faults_one` gives them: each row's names are looked up,
+/// and its names counted out, in threads.
+pub fn cross_faults<H: Threads + Sync>(
+    rt: &H,
+    alloc: Global,
+    sup: &Super,
+    rows: &[Row],
+) -> Result<Vec<Fault>, AllocError>
+    requires layout { IsLayout sup.now }
+    requires rising { Rises row_key rows.now }
+    requires numbers { All (λ (r : RowValue). IsTrue (is_number sup.now r.inode)) rows.now }
+    ensures { IfOk result (λ found. Lists fault_key (IsCrossFaultIn rows.now) found.items) }
+{
+    let tables = tables_of(alloc, sup, rows)?;
+    let near = near_by_row(rt, alloc, &tables.places, &tables.counts, &tables.listings)?;
+    let mut faults = Vec::new(alloc);
+    push_rows(&mut faults, &near)?;
+    push_far(alloc, &mut faults, &tables.places, &tables.listings)?;
+    sort_faults(&mut faults);
+    Ok(faults)
+}
+
+/// For each row in order, the faults of its names and of how often it is named.
+fn near_by_row<H: Threads + Sync>(
+    rt: &H,
+    alloc: Global,
+    places: &[Option<usize>],
+    counts: &[u64],
+    listings: &[Listing<'_>],
+) -> Result<Vec<Vec<Fault>>, AllocError>
+    ensures { IfOk result (λ near. AllZip (AreNear places.now counts.now) listings.now near.items) }
+{
+    listings
+        .par_iter()
+        .map(
+            |listing: &Listing<'_>| -> Result<Vec<Fault>, AllocError>
+                ensures { IfOk result (AreNear places.entry.now counts.entry.now listing.now) }
+            { near_of(alloc, places, counts, listing) },
+        )
+        .collect::<Result<Vec<Vec<Fault>>, AllocError>>(rt, alloc)?
+}
+
+/// The faults of one row's names, and of how often it is named.
+fn near_of(
+    alloc: Global,
+    places: &[Option<usize>],
+    counts: &[u64],
+    listing: &Listing<'_>,
+) -> Result<Vec<Fault>, AllocError>
+    ensures { IfOk result (AreNear places.now counts.now listing.now) }
+{
+    let mut faults = Vec::new(alloc);
+    push_unused_of(&mut faults, places, listing)?;
+    if let Some(fault) = fault_of(listing, named_by(places, counts, listing.inode)) {
+        faults.push(fault)?;
+    }
+    Ok(faults)
+}
+
+/// How often an inode is named.
+fn named_by(places: &[Option<usize>], counts: &[u64], inode: u64) -> u64
+    ensures { result ≡ named_by places.now counts.now inode }
+{
+    match find(places, inode) {
+        Some(place) => counts.get(place).copied().unwrap_or(0),
+        None => 0,
+    }
+}
+
+/// Puts the faults of all rows behind one another.
+fn push_rows(faults: &mut Vec<Fault>, near: &[Vec<Fault>]) -> Result<(), AllocError>
+    ensures { OnOk result (faults.new.items ≡ faults.old.items ++ all_of near.now) }
+{
+    for row in near {
+        push_row(faults, row)?;
+    }
+    Ok(())
+}
+
+fn push_row(faults: &mut Vec<Fault>, row: &[Fault]) -> Result<(), AllocError>
+    ensures { OnOk result (faults.new.items ≡ faults.old.items ++ row.now) }
+{
+    for fault in row {
+        faults.push(*fault)?;
+    }
+    Ok(())
+}

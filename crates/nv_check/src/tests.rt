@@ -1,0 +1,90 @@
+//! Small rows, written by hand.
+
+ghost use Rattle.std.specs.Prelude.{◌≡◌};
+
+use crate::{cross_faults, cross_faults_one, doubled};
+use nv_names::NameIndex;
+use nv_radix::FileIndex;
+use nv_scan::{Numbers, Row};
+use nv_super::{Fault, Kind, Owner, Super};
+use std::alloc::Global;
+use std::test::Fail;
+
+/// One CPU and one table block: inodes have the numbers 1 to 31.
+const SMALL: Super = Super {
+    version: 1,
+    cpus: 1,
+    blocks: 16,
+    table_blocks: 1,
+    state: 0,
+};
+
+fn row(alloc: Global, inode: u64, kind: Kind, links: u32, names: NameIndex) -> Row
+    ensures { result.inode ≡ inode }
+{
+    Row {
+        inode,
+        kind,
+        numbers: Numbers {
+            size: 0,
+            mode: 0,
+            owner: 0,
+            group: 0,
+            links,
+            time: 0,
+        },
+        head: 0,
+        tail: 0,
+        pages: Vec::new(alloc),
+        index: FileIndex::new(alloc),
+        names,
+    }
+}
+
+/// One name, of this inode and at this place.
+fn one_name(alloc: Global, inode: u64, place: u64) -> Result<NameIndex, Fail> {
+    let mut names = NameIndex::new(alloc);
+    names.reserve(1)?;
+    names.add(b"a", inode, place);
+    Ok(names)
+}
+
+/// The root names inode 2, a file of two links, and inode 9, which has no row. Inodes 3 and 4 name each other.
+#[test]
+fn faults_between_four_rows(rt: HostRuntime) -> Result<(), Fail> {
+    let alloc = rt.alloc();
+    let mut root = one_name(alloc, 2, 12288)?;
+    root.reserve(1)?;
+    root.add(b"b", 9, 12352);
+    let rows = [
+        row(alloc, 1, Kind::Directory, 1, root),
+        row(alloc, 2, Kind::File, 2, NameIndex::new(alloc)),
+        row(alloc, 3, Kind::Directory, 1, one_name(alloc, 4, 16384)?),
+        row(alloc, 4, Kind::Directory, 1, one_name(alloc, 3, 20480)?),
+    ];
+    let found = [
+        Fault::C1 {
+            directory: 1,
+            at: 12352,
+        },
+        Fault::C3 { inode: 2 },
+        Fault::C4 { inode: 3 },
+        Fault::C4 { inode: 4 },
+    ];
+    let one = cross_faults_one(alloc, &SMALL, &rows)?;
+    assert_eq!(rt; one.as_slice(), &found[..]);
+    let threads = cross_faults(&rt, alloc, &SMALL, &rows)?;
+    assert_eq!(rt; threads.as_slice(), &found[..]);
+    Ok(())
+}
+
+/// Block 5 is in the second set, and block 6 isn't.
+#[test]
+fn both_owners_of_a_block_are_told(rt: HostRuntime) -> Result<(), Fail> {
+    let first = (5, Owner::Log { inode: 2, page: 0 });
+    let other = (6, Owner::Data { inode: 2, page: 0 });
+    let second = (5, Owner::Data { inode: 3, page: 1 });
+    let found = doubled(rt.alloc(), &[second, other, first], &[32])?;
+    assert_eq!(rt; found.as_slice(), &[first, second][..]);
+    Ok(())
+}

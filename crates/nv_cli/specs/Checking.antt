@@ -1,0 +1,42 @@
+-- What checking the bytes of a region may write, and its exit status.
+use Rattle.std.specs.Prelude.{◌≡◌, ◌⊎◌, ℕ, MatchBool, List, Option, codes}
+use Rattle.std.specs.Io.KnownBytes.{Appends, Keeps}
+use Rattle.nv_region.specs.Region.{Region, region_of}
+use Rattle.nv_super.specs.declared.superblock.SuperFault.{SuperFault}
+use Rattle.nv_super.specs.Super.{IsRefused}
+use Rattle.nv_outcome.specs.Outcome.{Outcome, IsOutcome}
+use Rattle.nv_text.specs.Answers.{refused_line}
+use Rattle.nv_text.specs.Refusals.{super_fault_name}
+use Rattle.nv_cli.specs.Last.{status_of}
+use Rattle.nv_cli.specs.Machine.{how_it_went}
+use Rattle.nv_cli.specs.Streams.{AppendsFront}
+use Rattle.nv_cli.specs.Texts.{IsReportText}
+use Rattle.nv_cli.specs.Workers.{is_worker_count}
+
+-- the command was refused by this name
+abbrev pub IsRefusal : List ℕ → List ℕ → ℕ → Type 0
+IsRefusal name text status = (text ≡ refused_line name) × (status ≡ 2)
+
+-- the superblock isn't accepted, also for the region's length: the first fault that applies is named
+abbrev pub IsSuperRefusal : Region → List ℕ → ℕ → Type 0
+IsSuperRefusal R text status = (fault : SuperFault) × IsRefused R fault × IsRefusal (super_fault_name fault) text status
+
+-- the report of the region's outcome; the status says whether there are faults
+abbrev pub IsReport : Region → List ℕ → ℕ → Type 0
+IsReport R text status = (o : Outcome) × IsOutcome R o × IsReportText o text × (status ≡ status_of (how_it_went o.faults))
+
+-- a region checked by so many workers, whose number is tested first
+abbrev pub IsCheck : Region → ℕ → List ℕ → ℕ → Type 0
+IsCheck R workers text status = MatchBool (is_worker_count workers) (IsSuperRefusal R text status ⊎ IsReport R text status) (IsRefusal (codes "Workers") text status)
+
+-- the text of a check of these bytes was written
+abbrev pub WritesCheck : List ℕ → ℕ → Option (List ℕ) → Option (List ℕ) → Type 0
+WritesCheck bytes workers old new = (text : List ℕ) × (status : ℕ) × IsCheck (region_of bytes) workers text status × Appends old new text
+
+-- the status is that of a check of these bytes, whose text was written
+abbrev pub EndsCheck : List ℕ → ℕ → Option (List ℕ) → Option (List ℕ) → ℕ → Type 0
+EndsCheck bytes workers old new status = (text : List ℕ) × IsCheck (region_of bytes) workers text status × Appends old new text
+
+-- nothing was written, or a front of the text of a check of these bytes
+abbrev pub WritesCheckFront : List ℕ → ℕ → Option (List ℕ) → Option (List ℕ) → Type 0
+WritesCheckFront bytes workers old new = Keeps old new ⊎ ((text : List ℕ) × (status : ℕ) × IsCheck (region_of bytes) workers text status × AppendsFront old new text)

@@ -1,0 +1,109 @@
+//! Checking a region that is given as bytes: it is recovered in memory, and its report is written.
+
+ghost use Rattle.std.specs.Prelude.{◌≡◌, ◌≢◌, IfOk, IfErr, OnErr, IsErrOf, IsTrue, string_bytes};
+ghost use Rattle.std.specs.Io.KnownBytes.{Keeps};
+ghost use Rattle.nv_region.specs.Region.{region_of};
+ghost use Rattle.nv_text.specs.Refusals.{refusal_name};
+ghost use Rattle.nv_cli.specs.Workers.{is_worker_count};
+ghost use Rattle.nv_cli.specs.Checking.{IsCheck, IsRefusal, WritesCheck, EndsCheck, WritesCheckFront};
+
+use crate::fault::ScriptError;
+use crate::last::{Last, how_it_went};
+use crate::part::Part;
+use crate::recovering::recover_region;
+use crate::recovery::Answer;
+use crate::texts::{part_text, refused_text};
+use crate::writing::write_text;
+use nv_region::{MemRegion, Pmem, RegionRefusal};
+use nv_super::SuperFault;
+use nv_text::Refusal;
+use std::alloc::{AllocError, Global};
+use std::io::Write;
+use std::thread::Threads;
+
+const MOST_WORKERS: u64 = 64;
+
+/// What a check prints, and its exit status.
+#[derive(Drop)]
+struct Checked {
+    text: String,
+    status: u8,
+}
+
+/// Recovers the region of these bytes in memory by 1 to 64 workers on threads of their own, and writes its report, or
+/// `refused NAME`. Answers the exit status: 0 without faults, 1 with faults, and 2 where it was refused.
+///
+/// It is refused as `Workers`, which is tested first, or by the first fault of its superblock, which is `S1` for a length
+/// that no region has.
+///
+/// Errors: `Memory` where a growth was refused or no thread could be started, and nothing was written then; `Write` where
+/// the writer failed, and a front of the text was written then.
+pub fn check_region<H: Threads + Sync, W: Write>(
+    rt: &H,
+    alloc: Global,
+    bytes: &[u8],
+    workers: u64,
+    writer: &mut W,
+) -> Result<u8, ScriptError>
+    ensures text { IfOk result (λ _. WritesCheck bytes.now workers (W.contents writer.old) (W.contents writer.new)) }
+    ensures status { IfOk result (λ status. EndsCheck bytes.now workers (W.contents writer.old) (W.contents writer.new) status) }
+    ensures err { OnErr result (WritesCheckFront bytes.now workers (W.contents writer.old) (W.contents writer.new)) }
+    ensures memory { IsErrOf result ScriptError.Memory → Keeps (W.contents writer.old) (W.contents writer.new) }
+    ensures kind { IfErr result (λ e. e ≢ ScriptError.Read) }
+{
+    let checked = check_bytes(rt, alloc, bytes, workers)?;
+    write_text(writer, checked.text.as_bytes())?;
+    Ok(checked.status)
+}
+
+fn check_bytes<H: Threads + Sync>(
+    rt: &H,
+    alloc: Global,
+    bytes: &[u8],
+    workers: u64,
+) -> Result<Checked, AllocError>
+    ensures { IfOk result (λ checked. IsCheck (region_of bytes.now) workers (string_bytes checked.text) checked.status) }
+{
+    if !is_worker_count(workers) {
+        return refused(alloc, Refusal::Workers);
+    }
+    match MemRegion::from_bytes(alloc, bytes) {
+        Ok(mut memory) => check_memory(rt, alloc, &mut memory, workers),
+        Err(RegionRefusal::Length) => refused(alloc, Refusal::Super(SuperFault::Length)),
+        Err(RegionRefusal::Memory) => Err(AllocError),
+    }
+}
+
+// Checks the region that a memory without a fuse holds.
+fn check_memory<P: Pmem + Sync, H: Threads + Sync>(
+    rt: &H,
+    alloc: Global,
+    memory: &mut P,
+    workers: u64,
+) -> Result<Checked, AllocError>
+    requires { IsTrue (P.is_steady memory.old) }
+    ensures { IfOk result (λ checked. IsCheck (P.region memory.old) workers (string_bytes checked.text) checked.status) }
+{
+    match recover_region(rt, alloc, memory, workers)? {
+        Answer::Recovered(recovered) => Ok(Checked {
+            text: part_text(alloc, &recovered, Part::Report)?,
+            status: how_it_went(&recovered.faults).status(),
+        }),
+        Answer::Refused(refusal) => refused(alloc, refusal),
+    }
+}
+
+fn refused(alloc: Global, refusal: Refusal) -> Result<Checked, AllocError>
+    ensures { IfOk result (λ checked. IsRefusal (refusal_name refusal) (string_bytes checked.text) checked.status) }
+{
+    Ok(Checked {
+        text: refused_text(alloc, refusal)?,
+        status: Last::Refused.status(),
+    })
+}
+
+fn is_worker_count(workers: u64) -> bool
+    ensures { result ≡ is_worker_count workers }
+{
+    1 <= workers && workers <= MOST_WORKERS
+}

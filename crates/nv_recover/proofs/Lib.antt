@@ -1,0 +1,5 @@
+pub mod TwoSets
+pub mod Numbers
+pub mod PiecesApart
+pub mod Readings
+pub mod Seats

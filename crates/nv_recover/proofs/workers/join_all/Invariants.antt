@@ -1,0 +1,17 @@
+use Rattle.std.proofs.Common.{◌≡◌, ◌+◌, ◌<◌, vec_len}
+use Rattle.std.specs.List.{All}
+use Rattle.nv_claimcore.specs.Claims.{past}
+use Rattle.nv_scan.specs.Work.{ticket_count, Returned, IsWork}
+use Rattle.nv_recover.proofs.workers.join_all.Given as goal
+
+abbrev pub invariant-loop-next : goal.invariant-loop-next
+invariant-loop-next g l = record {
+  map : l.seat.map ≡ l.map;
+  seats : l.seat.view.seats + vec_len l.results ≡ vec_len l.fn.results;
+  rest : All (Returned (g.P.Pmem.region l._memory) l._sup l.map) l.results.items;
+  ended : 0 < past (ticket_count l._sup) l.seat.view.numbers;
+  work : IsWork (g.P.Pmem.region l._memory) l._sup l.seat.view l.pieces.items;
+}
+
+abbrev pub decreases-loop-next : goal.decreases-loop-next
+decreases-loop-next g l = vec_len l.results

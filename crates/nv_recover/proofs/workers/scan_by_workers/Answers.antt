@@ -1,0 +1,43 @@
+use Rattle.std.proofs.Common.{◌≡◌, ◌<◌, ◌-◌, ◌≤◌, nat_cmp, ap, sym, ◌∙◌, subst, arith, rules}
+use Rattle.std.specs.List.{All}
+use Rattle.std.specs.List.Sorted.{IsPermutation, IsSortedByKey}
+use Rattle.std.proofs.lemmas.List.Sorted.{answers_always}
+use Rattle.nv_claimcore.specs.Claims.{nothing}
+use Rattle.nv_claimcore.specs.declared.view.Sizes.{Sizes}
+use Rattle.nv_claimcore.proofs.Runs.{all_drawn}
+use Rattle.nv_claimmap.specs.Held.{Held}
+use Rattle.nv_scan.specs.Work.{ticket_count, claims_in}
+use Rattle.nv_scan.specs.declared.piece.Piece.{Piece}
+use Rattle.nv_outcome.proofs.Tickets.{work_covers}
+use Rattle.nv_recover.proofs.Seats.{fresh_all}
+use Rattle.nv_recover.proofs.workers.scan_by_workers.Goals as goal
+
+pub map_vec-requires-after_bounds : goal.map_vec-requires-after_bounds
+map_vec-requires-after_bounds g c κs within = λ i x l is.
+    let all = subst (All (λ (h : Held). (h.map ≡ c.in_ok-map.map) × (h.view ≡ nothing 1))) (sym c.in_ok-map.ensures.1) (fresh_all c.in_ok-map.map c.args.workers) in
+    let here = all i x l in (
+      ap (λ (h : Held). h.map) is ∙ here.0,
+      ap (λ (h : Held). h.view) is ∙ here.1,
+      ap (λ (z : Sizes). z.blocks) c.in_ok-map.ensures.0,
+      ap (λ (z : Sizes). z.tickets) c.in_ok-map.ensures.0 ∙ c.max_inode.ensures,
+      c.requires.layout,
+      c.requires.blocks,
+    )
+
+pub returns : goal.returns
+returns g c =
+    let s = c.args.sup.now in
+    let brought = c.in_ok-brought.brought in
+    let is = c.in_ok-brought.ensures in
+    let blocks : c.in_ok-map.map.sizes.blocks ≡ c.args.sup.now.blocks = ap (λ (z : Sizes). z.blocks) c.in_ok-map.ensures.0 in
+    let numbers = c.close.ensures.numbers in
+    let past_end : ticket_count s < numbers.0 = all_drawn (ticket_count s) numbers.0 brought.seat.view.numbers numbers.1 is.ended in
+    let sorted : IsSortedByKey (λ (p : Piece). p.inode) nat_cmp c.sort_unstable_by_key.new.self.items = c.sort_unstable_by_key.ensures.sorted (λ (p : Piece). p.inode) (answers_always _ _ _ (λ f a r g h. search rules)) in
+    let covers = work_covers (g.P.Pmem.region c.args.memory.now) s brought.seat.view brought.pieces.items c.sort_unstable_by_key.new.self.items numbers.0 c.requires.layout is.work numbers.1 (omega (arith, past_end))
+    c.sort_unstable_by_key.ensures.permutation sorted in
+    record {
+      pieces_are = covers.0;
+      claimed = subst (IsPermutation (claims_in c.sort_unstable_by_key.new.self.items)) (sym (c.close.ensures.claims ∙ is.work.claims)) covers.1;
+      maps = record { once = c.close.ensures.first.1; twice = c.close.ensures.second.1 };
+      cover = (omega (arith, c.close.ensures.first.0, blocks), omega (arith, c.close.ensures.second.0, blocks));
+    }

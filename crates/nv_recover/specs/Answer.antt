@@ -1,0 +1,14 @@
+-- What a recovery's answer stands for.
+use Rattle.nv_region.specs.Region.{Region}
+use Rattle.nv_super.specs.Layout.{fixed_layout}
+use Rattle.nv_outcome.specs.Outcome.{Outcome}
+use Rattle.nv_outcome.specs.Shared.{SharesAll}
+use Rattle.nv_recover.specs.declared.recovered.Recovered.{Recovered}
+
+-- the answer as an outcome
+abbrev pub outcome_of : Recovered → Outcome
+outcome_of r = record { sup = r.sup; rows = r.rows.items; free = r.free.pools; doubled = r.doubled.items; faults = r.faults.items }
+
+-- each data block of the region stands in exactly one of the answer's free lists or has exactly one owner
+abbrev pub SharesBlocks : Region → Recovered → Type 0
+SharesBlocks R r = SharesAll R (fixed_layout r.sup) r.free.pools

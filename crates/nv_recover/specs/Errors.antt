@@ -1,0 +1,36 @@
+-- What an error leaves of the region.
+use Rattle.std.specs.Prelude.{◌≡◌, ◌⊎◌, ◌<◌, ℕ, List, Some}
+use Rattle.nv_region.specs.Region.{Region}
+use Rattle.nv_super.specs.declared.superblock.Super.{Super}
+use Rattle.nv_super.specs.Super.{IsSuper, IsRefused}
+use Rattle.nv_journal.specs.Undo.{undone}
+use Rattle.nv_journal.specs.declared.undoing.UndoError.{UndoError}
+use Rattle.nv_journal.specs.declared.undoing.UndoError.TheVariants as undo
+use Rattle.nv_claimcore.specs.Replay.{first_stranger}
+use Rattle.nv_recover.specs.declared.recovered.RecoverError.{RecoverError}
+use Rattle.nv_recover.specs.declared.recovered.RecoverError.TheVariants.{Super as Refused, Memory, Stopped, Workers, Schedule}
+
+-- the region is as before, or its journals are rolled back
+abbrev pub AsBeforeOrUndone : Region → Region → Type 0
+AsBeforeOrUndone old new = (s : Super) × IsSuper old s × ((new ≡ old) ⊎ (new ≡ undone s old))
+
+-- rolling the journals back gives the region that it would have given before
+abbrev pub UndoesAsBefore : Region → Region → Type 0
+UndoesAsBefore old new = (s : Super) × IsSuper old s × (undone s new ≡ undone s old)
+
+-- there can't be so many workers
+abbrev pub IsBadCount : ℕ → Type 0
+IsBadCount workers = (workers < 1) ⊎ (64 < workers)
+
+-- When each error comes, by so many workers and a schedule, and what it leaves of the region.
+abbrev pub Fails : ℕ → List ℕ → RecoverError → Region → Region → Type 0
+Fails workers schedule (Refused fault) old new = IsRefused old fault × (new ≡ old)
+Fails workers schedule Memory old new = AsBeforeOrUndone old new
+Fails workers schedule Stopped old new = UndoesAsBefore old new
+Fails workers schedule Workers old new = IsBadCount workers × (new ≡ old)
+Fails workers schedule (Schedule place) old new = (first_stranger workers schedule ≡ Some place) × (new ≡ old)
+
+-- why a region was not recovered, where its journals could not be rolled back
+abbrev pub error_of_undo : UndoError → RecoverError
+error_of_undo undo.Memory = Memory
+error_of_undo undo.Stopped = Stopped

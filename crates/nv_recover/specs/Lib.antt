@@ -1,0 +1,4 @@
+pub mod Answer
+pub mod Errors
+pub mod Reading
+pub mod Workers

@@ -1,0 +1,22 @@
+//! Recovery, the mount after an unclean stop: the journals are rolled back, and what the region then holds is read from
+//! its bytes, inode by inode, into rows, free lists, doubled blocks and faults.
+//!
+//! On one thread, on many, or by a written schedule, the answer is the same outcome, which is defined without any of them.
+#![tactic(auto)]
+
+mod finishing;
+mod maps;
+mod one;
+mod opening;
+mod parallel;
+mod recovered;
+mod replaying;
+mod scanning;
+#[cfg(test)]
+mod tests;
+mod workers;
+
+pub use one::recover_one;
+pub use parallel::recover;
+pub use recovered::{RecoverError, Recovered};
+pub use replaying::recover_replay;

@@ -1,0 +1,73 @@
+//! The blocks that are claimed, and those that are claimed twice or more, as sets.
+
+ghost use Rattle.std.specs.Prelude.{◌≡◌, ◌/◌, ◌<◌, ℕ, [], IfOk, length};
+ghost use Rattle.std.specs.List.{All};
+ghost use Rattle.nv_super.specs.declared.owners.Owner.{Owner as OwnerValue};
+ghost use Rattle.nv_super.specs.Sets.{is_set};
+ghost use Rattle.nv_claimcore.specs.Sets.{with_block};
+ghost use Rattle.nv_outcome.specs.Parts.{AreMaps};
+ghost use Rattle.nv_recover.specs.Reading.{AreWithin, Cover, second_after};
+
+use nv_super::{Owner, Super};
+use std::alloc::{AllocError, Global};
+
+/// Two sets of blocks. Block b is bit `b % 64` of word `b / 64`.
+#[derive(Drop)]
+pub(crate) struct Maps {
+    pub first: Vec<u64>,
+    pub second: Vec<u64>,
+}
+
+/// The sets of these claims: a block goes into the second where it is in the first already.
+pub(crate) fn maps_of(
+    alloc: Global,
+    sup: &Super,
+    claims: &[(u64, Owner)],
+) -> Result<Maps, AllocError>
+    requires within { AreWithin sup.now claims.now }
+    ensures maps { IfOk result (λ maps. AreMaps claims.now maps.first.items maps.second.items) }
+    ensures cover { IfOk result (λ maps. Cover sup.now maps.first.items maps.second.items) }
+{
+    let words = sup.blocks.div_ceil(64) as usize;
+    let mut first = vec![in alloc; 0u64; words]?;
+    let mut second = vec![in alloc; 0u64; words]?;
+    fill(&mut first, &mut second, claims);
+    Ok(Maps { first, second })
+}
+
+// Puts the claims' blocks into sets that are empty.
+fn fill(first: &mut [u64], second: &mut [u64], claims: &[(u64, Owner)])
+    requires within { All (λ (x : ℕ × OwnerValue). (x.0 / 64 < length first.old) × (x.0 / 64 < length second.old)) claims.now }
+    requires empty { AreMaps [] first.old second.old }
+    ensures maps { AreMaps claims.now first.new second.new }
+    ensures as_long { (length first.new ≡ length first.old) × (length second.new ≡ length second.old) }
+{
+    for (block, _) in claims {
+        claim(first, second, *block);
+    }
+}
+
+fn claim(first: &mut [u64], second: &mut [u64], block: u64)
+    requires { (block / 64 < length first.old) × (block / 64 < length second.old) }
+    ensures first { first.new ≡ with_block first.old block }
+    ensures second { second.new ≡ second_after first.old second.old block }
+{
+    if has_block(first, block) {
+        add_block(second, block);
+    }
+    add_block(first, block);
+}
+
+fn has_block(words: &[u64], block: u64) -> bool
+    requires { block / 64 < length words.now }
+    ensures { result ≡ is_set words.now block }
+{
+    words[(block / 64) as usize] >> (block % 64) & 1 == 1
+}
+
+fn add_block(words: &mut [u64], block: u64)
+    requires { block / 64 < length words.old }
+    ensures { words.new ≡ with_block words.old block }
+{
+    words[(block / 64) as usize] |= 1u64 << (block % 64);
+}

@@ -1,0 +1,32 @@
+//! How each recovery begins: the superblock is read, and the journals are rolled back.
+
+ghost use Rattle.std.specs.Prelude.{◌≡◌, ℕ, List, IfOk, IfErr, IsTrue};
+ghost use Rattle.nv_region.specs.Stops.{StaysSteady};
+ghost use Rattle.nv_recover.specs.declared.recovered.RecoverError.TheVariants as errors;
+ghost use Rattle.nv_recover.specs.Errors.{Fails};
+ghost use Rattle.nv_recover.specs.Reading.{IsOpened};
+
+use crate::recovered::RecoverError;
+use nv_journal::undo;
+use nv_region::Pmem;
+use nv_super::{Fault, Super, read_super};
+use std::alloc::Global;
+
+/// The superblock's numbers, and what is wrong with the journals as the region came.
+#[derive(Drop)]
+pub(crate) struct Opened {
+    pub sup: Super,
+    pub journal: Vec<Fault>,
+}
+
+/// Reads the superblock and rolls the journals back. What comes after it only reads.
+pub(crate) fn open<P: Pmem>(alloc: Global, memory: &mut P) -> Result<Opened, RecoverError>
+    ensures ok { IfOk result (λ opened. IsOpened (P.region memory.old) (P.region memory.new) opened) }
+    ensures err { (workers : ℕ) (schedule : List ℕ) → IfErr result (λ e. Fails workers schedule e (P.region memory.old) (P.region memory.new)) }
+    ensures stopped { IfErr result (λ e. e ≡ errors.Stopped → IsTrue (P.has_burnt memory.new)) }
+    ensures steady { StaysSteady (P.is_steady memory.old) (P.is_steady memory.new) }
+{
+    let sup = read_super(memory)?;
+    let journal = undo(alloc, memory, &sup)?;
+    Ok(Opened { sup, journal })
+}

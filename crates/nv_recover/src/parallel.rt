@@ -1,0 +1,86 @@
+//! Recovery by workers on threads of their own.
+
+ghost use Rattle.std.specs.Prelude.{◌≡◌, ◌<◌, ◌≤◌, [], IfOk, IfErr, IsTrue};
+ghost use Rattle.nv_region.specs.Region.{HasBlocks};
+ghost use Rattle.nv_region.specs.Stops.{StaysSteady};
+ghost use Rattle.nv_super.specs.Layout.{IsLayout};
+ghost use Rattle.nv_journal.specs.Undo.{undone};
+ghost use Rattle.nv_outcome.specs.Outcome.{IsOutcome};
+ghost use Rattle.nv_recover.specs.declared.recovered.RecoverError.TheVariants as errors;
+ghost use Rattle.nv_recover.specs.Answer.{outcome_of, SharesBlocks};
+ghost use Rattle.nv_recover.specs.Errors.{Fails, IsBadCount};
+ghost use Rattle.nv_recover.specs.Reading.{IsReading};
+
+use crate::finishing::{Told, finish};
+use crate::opening::{Opened, open};
+use crate::recovered::{RecoverError, Recovered};
+use crate::scanning::split;
+use crate::workers::scan_by_workers;
+use nv_check::cross_faults;
+use nv_region::Pmem;
+use nv_scan::Gate;
+use nv_super::{Fault, Super};
+use std::alloc::{AllocError, Global};
+use std::thread::Threads;
+
+/// Recovers a region, damaged or not, by 1 to 64 workers on threads of their own: rolls its journals back, and answers
+/// its outcome, whatever order the workers' steps fall in. All threads are joined before it answers; it waits for them
+/// and for the gate, which each worker enters after each ticket that it draws.
+///
+/// Errors: `Workers`, tested first, where their number isn't 1 to 64, the region as before; and those of `recover_one`.
+/// A thread that can't be started is want of memory.
+pub fn recover<P: Pmem + Sync, G: Gate + Sync, H: Threads + Sync>(
+    rt: &H,
+    alloc: Global,
+    memory: &mut P,
+    workers: u64,
+    gate: &G,
+) -> Result<Recovered, RecoverError>
+    ensures ok { IfOk result (λ r. IsOutcome (P.region memory.old) (outcome_of r)) }
+    ensures undone { IfOk result (λ r. P.region memory.new ≡ undone r.sup (P.region memory.old)) }
+    // Where nothing is wrong, each data block stands in exactly one free list or has exactly one owner.
+    ensures once { IfOk result (λ r. r.faults.items ≡ [] → SharesBlocks (P.region memory.new) r) }
+    ensures workers { IsBadCount workers → IfOk result (λ _. ⊥) × IfErr result (λ e. e ≡ errors.Workers) }
+    ensures err { IfErr result (λ e. Fails workers [] e (P.region memory.old) (P.region memory.new)) }
+    ensures stopped { IfErr result (λ e. e ≡ errors.Stopped → IsTrue (P.has_burnt memory.new)) }
+    ensures steady { StaysSteady (P.is_steady memory.old) (P.is_steady memory.new) }
+{
+    if !(1..=64).contains(&workers) {
+        return Err(RecoverError::Workers);
+    }
+    let Opened { sup, journal } = open(alloc, memory)?;
+    Ok(read_by_workers(rt, alloc, &*memory, &sup, journal, workers, gate)?)
+}
+
+// The answer for a region whose journals were rolled back, with their faults.
+fn read_by_workers<P: Pmem + Sync, G: Gate + Sync, H: Threads + Sync>(
+    rt: &H,
+    alloc: Global,
+    memory: &P,
+    sup: &Super,
+    journal: Vec<Fault>,
+    workers: u64,
+    gate: &G,
+) -> Result<Recovered, AllocError>
+    requires layout { IsLayout sup.now }
+    requires blocks { HasBlocks (P.region memory.now) sup.now.blocks }
+    requires workers { (0 < workers) × (workers ≤ 64) }
+    ensures { IfOk result (IsReading (P.region memory.now) sup.now journal.items) }
+{
+    let (pieces, claimed) = scan_by_workers(rt, alloc, memory, sup, workers, gate)?;
+    let parts = split(alloc, pieces)?;
+    let cross = cross_faults(rt, alloc, sup, &parts.rows)?;
+    let told = Told {
+        parts,
+        journal,
+        cross,
+    };
+    finish(
+        alloc,
+        sup,
+        told,
+        &claimed.claims,
+        &claimed.first,
+        &claimed.second,
+    )
+}

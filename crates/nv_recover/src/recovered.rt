@@ -1,0 +1,87 @@
+//! What a recovery answers.
+
+ghost use Rattle.std.specs.Prelude.{◌≡◌};
+
+use nv_alloc::Allocators;
+use nv_journal::UndoError;
+use nv_scan::Row;
+use nv_super::{Fault, Owner, Super, SuperFault};
+use std::alloc::{AllocError, AllocFailed};
+use thiserror::Error;
+
+/// What a region holds, read from its bytes once its journals were rolled back.
+#[derive(Drop)]
+pub struct Recovered {
+    pub sup: Super,
+    /// The inodes in use, rising by number.
+    pub rows: Vec<Row>,
+    /// The free blocks of each CPU's pool.
+    pub free: Allocators,
+    /// The blocks with two owners or more, each with all its owners, rising by block and owner.
+    pub doubled: Vec<(u64, Owner)>,
+    /// All that is wrong, in the order of the classes, each once.
+    pub faults: Vec<Fault>,
+}
+
+/// Why a region was not recovered.
+#[derive(Clone, Copy, Debug, PartialEq, Eq, Error)]
+pub enum RecoverError {
+    /// The superblock isn't accepted. The region is as before.
+    #[error("superblock fault {0:?}")]
+    Super(SuperFault),
+    /// A growth was refused, or a thread couldn't be started. The region is as before, or its journals are rolled back.
+    #[error("out of memory")]
+    Memory,
+    /// The region's fuse has burnt. A later recovery gives the region that this one would have given.
+    #[error("stopped")]
+    Stopped,
+    /// The number of workers isn't 1 to 64. The region is as before.
+    #[error("not 1 to 64 workers")]
+    Workers,
+    /// The number at this place of the schedule, the first such, is no worker's. The region is as before.
+    #[error("no worker at place {0} of the schedule")]
+    Schedule(usize),
+}
+
+impl From<SuperFault> for RecoverError {
+    ghost use Rattle.nv_recover.specs.declared.recovered.RecoverError.TheVariants.{Super as Refused};
+
+    ghost from_gives = { λ fault e. e ≡ Refused fault };
+
+    fn from(fault: SuperFault) -> Self {
+        RecoverError::Super(fault)
+    }
+}
+
+impl From<UndoError> for RecoverError {
+    ghost use Rattle.nv_recover.specs.Errors.{error_of_undo};
+
+    ghost from_gives = { λ error e. e ≡ error_of_undo error };
+
+    fn from(error: UndoError) -> Self {
+        match error {
+            UndoError::Memory => RecoverError::Memory,
+            UndoError::Stopped => RecoverError::Stopped,
+        }
+    }
+}
+
+impl From<AllocError> for RecoverError {
+    ghost use Rattle.nv_recover.specs.declared.recovered.RecoverError.TheVariants.{Memory};
+
+    ghost from_gives = { λ _ e. e ≡ Memory };
+
+    fn from(_: AllocError) -> Self {
+        RecoverError::Memory
+    }
+}
+
+impl<T: Drop> From<AllocFailed<T>> for RecoverError {
+    ghost use Rattle.nv_recover.specs.declared.recovered.RecoverError.TheVariants.{Memory};
+
+    ghost from_gives = { λ _ e. e ≡ Memory };
+
+    fn from(_: AllocFailed<T>) -> Self {
+        RecoverError::Memory
+    }
+}

@@ -1,0 +1,116 @@
+//! Small regions, written word by word, and what each recovery answers of them.
+
+ghost use Rattle.std.specs.Prelude.{IfOk};
+ghost use Rattle.nv_region.specs.Region.{HasBlocks};
+
+use crate::{RecoverError, Recovered, recover, recover_one, recover_replay};
+use nv_region::{MemRegion, Pmem};
+use nv_scan::OpenGate;
+use nv_super::{Kind, MAGIC, Run, Super, SuperFault, write_super};
+use std::alloc::Global;
+use std::process::Abort;
+use std::test::Fail;
+
+/// One CPU, 16 blocks, one table block: the slots begin at 8192, and the data blocks are 3 to 15.
+const SMALL: Super = Super {
+    version: 1,
+    cpus: 1,
+    blocks: 16,
+    table_blocks: 1,
+    state: 0,
+};
+
+/// Inode 1 is a directory whose log, block 3, has one attributes entry, of mode 755.
+const ROOT: [(u64, u64); 5] = [
+    (8320, 1),
+    (8328, 2),
+    (8336, 12288),
+    (8344, 12320),
+    (12288, 493 * 4294967296 + 32 * 65536 + 2),
+];
+
+/// A region with a superblock and these words, each after its address.
+fn region(alloc: Global, words: &[(u64, u64)]) -> Result<MemRegion, Fail>
+    ensures { IfOk result (λ m. HasBlocks m.region 16) }
+{
+    let mut memory = MemRegion::new(alloc, 16)?;
+    write_super(&mut memory, &SMALL)?;
+    store(&mut memory, 0, MAGIC)?;
+    for (at, word) in words {
+        store(&mut memory, *at, *word)?;
+    }
+    Ok(memory)
+}
+
+fn store(memory: &mut MemRegion, at: u64, word: u64) -> Result<(), Fail>
+    requires { HasBlocks memory.old.region 16 }
+    ensures { HasBlocks memory.new.region 16 }
+{
+    if at % 8 == 0 && at < 65536 {
+        memory.store(at, word)?;
+    }
+    Ok(())
+}
+
+/// The root alone: its row, the blocks 4 to 15 free, nothing doubled and nothing wrong.
+fn assert_root_alone(rt: &impl Abort, answer: &Recovered) -> Result<(), Fail> {
+    assert_eq!(rt; answer.sup, SMALL);
+    assert_eq!(rt; answer.rows.len(), 1);
+    let row = answer.rows.first().expect(rt, "there is a row");
+    assert_eq!(rt; (row.inode, row.kind), (1, Kind::Directory));
+    assert_eq!(rt; (row.head, row.tail), (12288, 12320));
+    assert_eq!(rt; row.numbers.mode, 493);
+    let lists = answer.free.lists()?;
+    assert_eq!(rt; lists.len(), 1);
+    assert_eq!(rt;
+        lists.first().expect(rt, "there is a pool").as_slice(),
+        [Run {
+            start: 4,
+            count: 12
+        }]
+        .as_slice()
+    );
+    assert_eq!(rt; (answer.doubled.len(), answer.faults.len()), (0, 0));
+    Ok(())
+}
+
+#[test]
+fn the_root_alone_on_one_thread(rt: HostRuntime) -> Result<(), Fail> {
+    let mut memory = region(rt.alloc(), &ROOT)?;
+    let answer = recover_one(rt.alloc(), &mut memory)?;
+    assert_root_alone(&rt, &answer)
+}
+
+#[test]
+fn the_root_alone_by_workers(rt: HostRuntime) -> Result<(), Fail> {
+    for workers in [1, 2, 8] {
+        let mut memory = region(rt.alloc(), &ROOT)?;
+        let answer = recover(&rt, rt.alloc(), &mut memory, workers, &OpenGate)?;
+        assert_root_alone(&rt, &answer)?;
+    }
+    Ok(())
+}
+
+#[test]
+fn the_root_alone_by_a_schedule(rt: HostRuntime) -> Result<(), Fail> {
+    let mut memory = region(rt.alloc(), &ROOT)?;
+    let answer = recover_replay(rt.alloc(), &mut memory, 2, &[1, 0, 1, 1, 0])?;
+    assert_root_alone(&rt, &answer)
+}
+
+#[test]
+fn refusals_in_their_order(rt: HostRuntime) -> Result<(), Fail> {
+    let alloc: Global = rt.alloc();
+    let mut zeros = MemRegion::new(alloc, 16)?;
+    for workers in [0, 65] {
+        let answer = recover(&rt, alloc, &mut zeros, workers, &OpenGate);
+        assert_eq!(rt; answer.err(), Some(RecoverError::Workers));
+    }
+    let answer = recover_replay(alloc, &mut zeros, 65, &[70]);
+    assert_eq!(rt; answer.err(), Some(RecoverError::Workers));
+    let answer = recover_replay(alloc, &mut zeros, 2, &[1, 0, 2, 3]);
+    assert_eq!(rt; answer.err(), Some(RecoverError::Schedule(2)));
+    let answer = recover_one(alloc, &mut zeros);
+    assert_eq!(rt; answer.err(), Some(RecoverError::Super(SuperFault::Magic)));
+    Ok(())
+}

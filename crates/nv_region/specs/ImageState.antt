@@ -1,0 +1,32 @@
+-- A region over borrowed bytes, as its contracts see it.
+use Rattle.std.specs.Prelude.{◌≡◌, ℕ, Bool, true, false, ◌&&◌, not, nat_le, List, ◌++◌, length, drop, get_or, refl}
+use Rattle.std.proofs.Common.{sym}
+use Rattle.nv_region.specs.Region.{Region}
+
+-- the region as it reads, how many bytes at its front take stores, and whether a store was refused
+pub record ImageState : Type 0 where
+  pub region : Region
+  pub front : ℕ
+  pub burnt : Bool
+
+-- the region with these words at its front
+abbrev pub with_front : List ℕ → Region → Region
+with_front front R = record R { words = front ++ drop (length front) R.words }
+
+-- a word may be left only as it reads: a store is there at once
+abbrev pub as_it_reads : ImageState → ℕ → ℕ → Type 0
+as_it_reads m i x = x ≡ get_or m.region.words i 0
+
+-- no store was refused, and none that ends at or before this address will be
+abbrev pub is_open_to : ImageState → ℕ → Bool
+is_open_to m limit = nat_le limit m.front && not m.burnt
+
+right_of : (a b : Bool) → (a && not b) ≡ true → b ≡ false
+right_of true true h = sym h
+right_of false true h = sym h
+right_of true false h = refl
+right_of false false h = refl
+
+-- a memory that is open up to some address has refused no store
+pub open_not_burnt : (m : ImageState) (limit : ℕ) → is_open_to m limit ≡ true → m.burnt ≡ false
+open_not_burnt m limit = right_of (nat_le limit m.front) m.burnt

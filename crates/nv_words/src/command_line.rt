@@ -1,0 +1,75 @@
+//! The command line of the program, with the help that a user reads.
+
+ghost use Rattle.std.specs.Prelude.{◌≡◌, IfOk, false, pos};
+ghost use Rattle.clap.specs.Walk.{rule_of};
+ghost use Rattle.clap.specs.Simple.{app_of};
+ghost use Rattle.clap.specs.declared.builder.command.Command.TheViews.{out-Command};
+ghost use Rattle.nv_words.specs.CommandLine.{path_rule, workers_rule, run_app, check_app, bare_app, nova_app};
+
+use clap::builder::ValueParser;
+use clap::{Arg, Command, value_parser};
+use std::alloc::{AllocError, Global};
+
+fn workers_parser<'a>() -> ValueParser<'a>
+    ensures { result ≡ ValueParser.Signed (pos 1) (pos 64) }
+{
+    value_parser!(u32).range(1..=64)
+}
+
+fn workers<'a>(alloc: Global) -> Arg<'a>
+    ensures rule { rule_of result ≡ workers_rule }
+    ensures local { result.global ≡ false }
+{
+    Arg::new(alloc, "workers")
+        .long("workers")
+        .help("The number of threads that recover it, from 1 to 64; 1 where left out")
+        .value_parser(workers_parser())
+}
+
+fn path<'a>(alloc: Global) -> Arg<'a>
+    ensures rule { rule_of result ≡ path_rule }
+    ensures local { result.global ≡ false }
+{
+    Arg::new(alloc, "path")
+        .required(true)
+        .help("The file that holds the image")
+}
+
+fn run<'a>(alloc: Global) -> Result<Command<'a>, AllocError>
+    ensures local { IfOk result (λ c. (out-Command c).has_globals ≡ false) }
+    ensures shape { IfOk result (λ c. app_of c ≡ run_app) }
+{
+    Command::new(alloc, "run")
+        .about("Runs the script on standard input and prints its answers")
+        .bin_name("nova run")
+}
+
+fn check<'a>(alloc: Global) -> Result<Command<'a>, AllocError>
+    ensures local { IfOk result (λ c. (out-Command c).has_globals ≡ false) }
+    ensures shape { IfOk result (λ c. app_of c ≡ check_app) }
+{
+    Command::new(alloc, "check")
+        .about("Recovers an image in memory and prints its report; the file is never written")
+        .bin_name("nova check")?
+        .arg(path(alloc))?
+        .arg(workers(alloc))
+}
+
+// The program before its commands.
+fn bare<'a>(alloc: Global) -> Command<'a>
+    ensures { app_of result ≡ bare_app }
+{
+    Command::new(alloc, "nova")
+        .about("Runs scripts on images of the NOVA file system, and checks an image")
+        .no_binary_name(true)
+        .subcommand_required(true)
+}
+
+/// The program's command line. Fails where memory is refused.
+pub(crate) fn nova<'a>(alloc: Global) -> Result<Command<'a>, AllocError>
+    ensures { IfOk result (λ c. app_of c ≡ nova_app) }
+{
+    bare(alloc)
+        .subcommand(run(alloc)?)?
+        .subcommand(check(alloc)?)
+}

@@ -1,0 +1,49 @@
+#!/usr/bin/env bash
+# Runs `nova check` on files that hold no region, or that can't be read, and compares what it writes and its exit status.
+# Needs the built program (`./nova` builds it), and root for the file without permission, which else is left out.
+set -u
+here=$(cd "$(dirname "${BASH_SOURCE[0]}")/.." && pwd)
+program=$here/crates/nova/out/nova
+folder=$(mktemp -d)
+trap 'rm -rf "$folder"' EXIT
+chmod 755 "$folder"
+wrong=0
+
+# expect NAME STATUS OUTPUT ERROR COMMAND..: what the command has to answer, to write and to say.
+expect() {
+    local name=$1 status=$2 output=$3 error=$4
+    shift 4
+    local found_output found_status found_error
+    found_output=$("$@" 2>"$folder/error" </dev/null)
+    found_status=$?
+    found_error=$(cat "$folder/error")
+    if [ "$found_status" = "$status" ] && [ "$found_output" = "$output" ] && [ "$found_error" = "$error" ]; then
+        echo "ok: $name"
+    else
+        echo "WRONG: $name: status $found_status, wrote '$found_output', said '$found_error'"
+        wrong=1
+    fi
+}
+
+: >"$folder/empty"
+head -c 100 /dev/zero >"$folder/short"
+mkdir "$folder/folder"
+truncate -s 1100M "$folder/long"
+
+expect "an empty file" 2 "refused S1" "" "$program" check "$folder/empty"
+expect "100 bytes" 2 "refused S1" "" "$program" check "$folder/short"
+expect "100 bytes, 64 workers" 2 "refused S1" "" "$program" check "$folder/short" --workers 64
+expect "a file longer than a region can be" 2 "refused S1" "" "$program" check "$folder/long"
+expect "a missing file" 2 "" "cannot read $folder/missing" "$program" check "$folder/missing"
+expect "a folder" 2 "" "cannot read $folder/folder" "$program" check "$folder/folder"
+if [ "$(id -u)" = 0 ]; then
+    # The program is copied, since others may not reach the folder that it stands in.
+    cp "$program" "$folder/nova"
+    : >"$folder/closed"
+    chmod 600 "$folder/closed"
+    expect "a file without permission" 2 "" "cannot read $folder/closed" \
+        setpriv --reuid 65534 --regid 65534 --clear-groups "$folder/nova" check "$folder/closed"
+else
+    echo "left out: a file without permission (needs root)"
+fi
+exit $wrong
