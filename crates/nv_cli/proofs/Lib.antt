@@ -5,6 +5,7 @@ pub mod StreamLemmas
 pub mod TextLemmas
 pub mod OneText
 pub mod Answered
+pub mod Unstopped
 pub mod Moved
 pub mod Checked
 pub mod Progress

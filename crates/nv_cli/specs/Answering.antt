@@ -1,7 +1,9 @@
 -- What a recovery may answer, and what it leaves of the region.
-use Rattle.std.specs.Prelude.{◌≡◌, ℕ, ◌-◌, ◌^◌, min, true, false, List, Option, Some, None}
+use Rattle.std.specs.Prelude.{◌≡◌, ◌⊎◌, ℕ, ◌*◌, ◌-◌, ◌^◌, min, Bool, true, false, IsTrue, List, Option, Some, None}
 use Rattle.nv_region.specs.Region.{Region}
-use Rattle.nv_super.specs.Super.{IsRefused}
+use Rattle.nv_super.specs.declared.superblock.Super.{Super}
+use Rattle.nv_super.specs.Layout.{system_blocks}
+use Rattle.nv_super.specs.Super.{IsSuper, IsRefused}
 use Rattle.nv_journal.specs.Undo.{undone}
 use Rattle.nv_outcome.specs.Outcome.{IsOutcome}
 use Rattle.nv_recover.specs.Answer.{outcome_of}
@@ -13,7 +15,15 @@ use Rattle.nv_cli.specs.Workers.{is_worker_count, names_stranger}
 use Rattle.nv_cli.specs.declared.recovery.Answer.{Answer}
 use Rattle.nv_cli.specs.declared.recovery.Answer.TheVariants as answers
 
--- the refusal that an error is told as: none for want of memory, and for a stop, which doesn't come without a fuse
+-- where its region has a superblock, the memory takes stores up to the first data block
+abbrev pub IsOpenInFront : Region → (ℕ → Bool) → Type 0
+IsOpenInFront R is_open = (s : Super) → IsSuper R s → IsTrue (is_open (4096 * system_blocks s))
+
+-- nothing stops a recovery: no fuse is set, or each store in front of the data blocks is taken
+abbrev pub TakesRecovery : Region → Bool → (ℕ → Bool) → Type 0
+TakesRecovery R is_steady is_open = IsTrue is_steady ⊎ IsOpenInFront R is_open
+
+-- the refusal that an error is told as: none for want of memory, and for a stop, which doesn't come where a recovery is taken
 abbrev pub refusal_of : RecoverError → Option Refusal
 refusal_of (errors.Super fault) = Some (refusals.Super fault)
 refusal_of errors.Memory = None

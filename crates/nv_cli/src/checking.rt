@@ -1,9 +1,13 @@
-//! Checking a region that is given as bytes: it is recovered in memory, and its report is written.
+//! Checking a region that is given as bytes: it is recovered over them, and its report is written.
+//!
+//! A recovery stores words in front of the data blocks alone. So only these are copied, and the rest is read where it stands.
 
-ghost use Rattle.std.specs.Prelude.{◌≡◌, ◌≢◌, IfOk, IfErr, OnErr, IsErrOf, IsTrue, string_bytes};
+ghost use Rattle.std.specs.Prelude.{◌≡◌, ◌≢◌, false, IfOk, IfErr, OnOk, OnErr, IsErrOf, string_bytes};
 ghost use Rattle.std.specs.Io.KnownBytes.{Keeps};
 ghost use Rattle.nv_region.specs.Region.{region_of};
+ghost use Rattle.nv_region.specs.ImageState.{is_open_to};
 ghost use Rattle.nv_text.specs.Refusals.{refusal_name};
+ghost use Rattle.nv_cli.specs.Answering.{IsOpenInFront};
 ghost use Rattle.nv_cli.specs.Workers.{is_worker_count};
 ghost use Rattle.nv_cli.specs.Checking.{IsCheck, IsRefusal, WritesCheck, EndsCheck, WritesCheckFront};
 
@@ -14,8 +18,8 @@ use crate::recovering::recover_region;
 use crate::recovery::Answer;
 use crate::texts::{part_text, refused_text};
 use crate::writing::write_text;
-use nv_region::{MemRegion, Pmem, RegionRefusal};
-use nv_super::SuperFault;
+use nv_region::{ImageRegion, Pmem, RegionRefusal};
+use nv_super::{SuperFault, read_super};
 use nv_text::Refusal;
 use std::alloc::{AllocError, Global};
 use std::io::Write;
@@ -67,21 +71,36 @@ fn check_bytes<H: Threads + Sync>(
     if !is_worker_count(workers) {
         return refused(alloc, Refusal::Workers);
     }
-    match MemRegion::from_bytes(alloc, bytes) {
-        Ok(mut memory) => check_memory(rt, alloc, &mut memory, workers),
+    match ImageRegion::from_bytes(alloc, bytes) {
+        Ok(mut image) => {
+            open_system(&mut image)?;
+            check_memory(rt, alloc, &mut image, workers)
+        }
         Err(RegionRefusal::Length) => refused(alloc, Refusal::Super(SuperFault::Length)),
         Err(RegionRefusal::Memory) => Err(AllocError),
     }
 }
 
-// Checks the region that a memory without a fuse holds.
+// Opens all blocks in front of the data blocks, where the superblock is accepted.
+fn open_system(image: &mut ImageRegion) -> Result<(), AllocError>
+    requires { image.old.burnt ≡ false }
+    ensures same { image.new.region ≡ image.old.region }
+    ensures open { OnOk result (IsOpenInFront image.new.region (is_open_to image.new)) }
+{
+    match read_super(image) {
+        Ok(sup) => image.open_front(sup.system_blocks()),
+        Err(_) => Ok(()),
+    }
+}
+
+// Checks the region that a memory holds whose blocks in front of the data blocks take stores.
 fn check_memory<P: Pmem + Sync, H: Threads + Sync>(
     rt: &H,
     alloc: Global,
     memory: &mut P,
     workers: u64,
 ) -> Result<Checked, AllocError>
-    requires { IsTrue (P.is_steady memory.old) }
+    requires { IsOpenInFront (P.region memory.old) (P.is_open memory.old) }
     ensures { IfOk result (λ checked. IsCheck (P.region memory.old) workers (string_bytes checked.text) checked.status) }
 {
     match recover_region(rt, alloc, memory, workers)? {

@@ -1,8 +1,9 @@
-//! Recoveries of a region without a fuse, as the commands see them: nothing but want of memory prevents an answer.
+//! Recoveries of a region in a memory that stops none, as the commands see them: nothing but want of memory prevents an answer.
 
 ghost use Rattle.std.specs.Prelude.{◌≡◌, [], None, IfOk, OnErr, IsTrue, map};
+ghost use Rattle.nv_region.specs.Stops.{StaysSteady};
 ghost use Rattle.nv_recover.specs.Errors.{AsBeforeOrUndone};
-ghost use Rattle.nv_cli.specs.Answering.{MayAnswer, IsToldAs, refusal_of, worker_number};
+ghost use Rattle.nv_cli.specs.Answering.{TakesRecovery, MayAnswer, IsToldAs, refusal_of, worker_number};
 
 use crate::recovery::Answer;
 use nv_recover::{RecoverError, recover, recover_replay};
@@ -19,11 +20,11 @@ pub fn recover_region<P: Pmem + Sync, H: Threads + Sync>(
     memory: &mut P,
     workers: u64,
 ) -> Result<Answer, AllocError>
-    requires steady { IsTrue (P.is_steady memory.old) }
+    requires taken { TakesRecovery (P.region memory.old) (P.is_steady memory.old) (P.is_open memory.old) }
     ensures ok { IfOk result (λ answer. MayAnswer (P.region memory.old) workers [] answer (P.region memory.new)) }
     // Only want of memory prevents an answer.
     ensures err { OnErr result (AsBeforeOrUndone (P.region memory.old) (P.region memory.new)) }
-    ensures steady { IsTrue (P.is_steady memory.new) }
+    ensures steady { StaysSteady (P.is_steady memory.old) (P.is_steady memory.new) }
 {
     match recover(rt, alloc, memory, workers, &OpenGate) {
         Ok(recovered) => Ok(Answer::Recovered(recovered)),
@@ -49,7 +50,7 @@ pub fn replay_region<P: Pmem>(
     }
 }
 
-// Want of memory is told as no refusal, and without a fuse no stop comes.
+// Want of memory is told as no refusal, and no stop comes where a recovery is taken.
 fn refused(error: RecoverError) -> Result<Answer, AllocError>
     ensures ok { IfOk result (λ answer. IsToldAs error answer) }
     ensures err { OnErr result (refusal_of error ≡ None) }

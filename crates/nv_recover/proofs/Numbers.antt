@@ -4,7 +4,7 @@ use Rattle.std.proofs.Math.Nat.{mul-le-mul_right}
 use Rattle.std.proofs.lemmas.Bool.{ltb-true}
 use Rattle.std.proofs.lemmas.Bool.Decides.{nat_tests}
 use Rattle.nv_super.specs.declared.superblock.Super.{Super}
-use Rattle.nv_super.specs.Layout.{slot_of, slot_address, extra_slot, chain_of, inode_limit, is_number, fixed_layout, IsLayout}
+use Rattle.nv_super.specs.Layout.{slot_of, slot_address, extra_slot, chain_of, inode_limit, is_number, fixed_layout}
 
 -- an inode with a slot in the fixed tables has a number below the limit
 pub slot_numbered : (s : Super) (i a : ℕ) → 0 < s.cpus → slot_of (fixed_layout s) i ≡ Some a → IsTrue (is_number s i)

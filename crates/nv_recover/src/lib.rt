@@ -5,6 +5,8 @@
 #![tactic(auto)]
 
 mod finishing;
+#[cfg(test)]
+mod gate_tests;
 mod maps;
 mod one;
 mod opening;

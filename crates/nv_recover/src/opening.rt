@@ -1,7 +1,10 @@
 //! How each recovery begins: the superblock is read, and the journals are rolled back.
 
-ghost use Rattle.std.specs.Prelude.{◌≡◌, ℕ, List, IfOk, IfErr, IsTrue};
+ghost use Rattle.std.specs.Prelude.{◌≡◌, ◌*◌, ◌≢◌, ℕ, List, IfOk, IfErr, IsTrue};
 ghost use Rattle.nv_region.specs.Stops.{StaysSteady};
+ghost use Rattle.nv_super.specs.Layout.{system_blocks};
+ghost use Rattle.nv_super.specs.Super.{IsSuper};
+ghost use Rattle.nv_super.specs.declared.superblock.Super.{Super as SuperValue};
 ghost use Rattle.nv_recover.specs.declared.recovered.RecoverError.TheVariants as errors;
 ghost use Rattle.nv_recover.specs.Errors.{Fails};
 ghost use Rattle.nv_recover.specs.Reading.{IsOpened};
@@ -24,6 +27,8 @@ pub(crate) fn open<P: Pmem>(alloc: Global, memory: &mut P) -> Result<Opened, Rec
     ensures ok { IfOk result (λ opened. IsOpened (P.region memory.old) (P.region memory.new) opened) }
     ensures err { (workers : ℕ) (schedule : List ℕ) → IfErr result (λ e. Fails workers schedule e (P.region memory.old) (P.region memory.new)) }
     ensures stopped { IfErr result (λ e. e ≡ errors.Stopped → IsTrue (P.has_burnt memory.new)) }
+    // A memory that takes stores up to the first data block isn't stopped.
+    ensures unstopped { (s : SuperValue) → IsSuper (P.region memory.old) s → IsTrue (P.is_open memory.old (4096 * system_blocks s)) → IfErr result (λ e. e ≢ errors.Stopped) }
     ensures steady { StaysSteady (P.is_steady memory.old) (P.is_steady memory.new) }
 {
     let sup = read_super(memory)?;

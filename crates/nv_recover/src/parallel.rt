@@ -1,9 +1,11 @@
 //! Recovery by workers on threads of their own.
 
-ghost use Rattle.std.specs.Prelude.{◌≡◌, ◌<◌, ◌≤◌, [], IfOk, IfErr, IsTrue};
+ghost use Rattle.std.specs.Prelude.{◌≡◌, ◌*◌, ◌≢◌, ◌<◌, ◌≤◌, [], IfOk, IfErr, IsTrue};
 ghost use Rattle.nv_region.specs.Region.{HasBlocks};
 ghost use Rattle.nv_region.specs.Stops.{StaysSteady};
-ghost use Rattle.nv_super.specs.Layout.{IsLayout};
+ghost use Rattle.nv_super.specs.Layout.{IsLayout, system_blocks};
+ghost use Rattle.nv_super.specs.Super.{IsSuper};
+ghost use Rattle.nv_super.specs.declared.superblock.Super.{Super as SuperValue};
 ghost use Rattle.nv_journal.specs.Undo.{undone};
 ghost use Rattle.nv_outcome.specs.Outcome.{IsOutcome};
 ghost use Rattle.nv_recover.specs.declared.recovered.RecoverError.TheVariants as errors;
@@ -43,6 +45,8 @@ pub fn recover<P: Pmem + Sync, G: Gate + Sync, H: Threads + Sync>(
     ensures workers { IsBadCount workers → IfOk result (λ _. ⊥) × IfErr result (λ e. e ≡ errors.Workers) }
     ensures err { IfErr result (λ e. Fails workers [] e (P.region memory.old) (P.region memory.new)) }
     ensures stopped { IfErr result (λ e. e ≡ errors.Stopped → IsTrue (P.has_burnt memory.new)) }
+    // A memory that takes stores up to the first data block isn't stopped.
+    ensures unstopped { (s : SuperValue) → IsSuper (P.region memory.old) s → IsTrue (P.is_open memory.old (4096 * system_blocks s)) → IfErr result (λ e. e ≢ errors.Stopped) }
     ensures steady { StaysSteady (P.is_steady memory.old) (P.is_steady memory.new) }
 {
     if !(1..=64).contains(&workers) {

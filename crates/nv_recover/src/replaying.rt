@@ -1,9 +1,11 @@
 //! Recovery whose claims are made in a written order, with no thread.
 
-ghost use Rattle.std.specs.Prelude.{◌≡◌, ◌<◌, ℕ, Some, None, [], IfOk, IfErr, IsTrue};
+ghost use Rattle.std.specs.Prelude.{◌≡◌, ◌*◌, ◌≢◌, ◌<◌, ℕ, Some, None, [], IfOk, IfErr, IsTrue};
 ghost use Rattle.nv_region.specs.Region.{HasBlocks};
 ghost use Rattle.nv_region.specs.Stops.{StaysSteady};
-ghost use Rattle.nv_super.specs.Layout.{IsLayout};
+ghost use Rattle.nv_super.specs.Layout.{IsLayout, system_blocks};
+ghost use Rattle.nv_super.specs.Super.{IsSuper};
+ghost use Rattle.nv_super.specs.declared.superblock.Super.{Super as SuperValue};
 ghost use Rattle.nv_journal.specs.Undo.{undone};
 ghost use Rattle.nv_claimcore.specs.Replay.{lists, Inside, first_stranger};
 ghost use Rattle.nv_outcome.specs.Outcome.{IsOutcome};
@@ -41,6 +43,8 @@ pub fn recover_replay<P: Pmem>(
     ensures schedule { (place : ℕ) → (IsBadCount workers → ⊥) → first_stranger workers schedule.now ≡ Some place → IfOk result (λ _. ⊥) × IfErr result (λ e. e ≡ errors.Schedule place) }
     ensures err { IfErr result (λ e. Fails workers schedule.now e (P.region memory.old) (P.region memory.new)) }
     ensures stopped { IfErr result (λ e. e ≡ errors.Stopped → IsTrue (P.has_burnt memory.new)) }
+    // A memory that takes stores up to the first data block isn't stopped.
+    ensures unstopped { (s : SuperValue) → IsSuper (P.region memory.old) s → IsTrue (P.is_open memory.old (4096 * system_blocks s)) → IfErr result (λ e. e ≢ errors.Stopped) }
     ensures steady { StaysSteady (P.is_steady memory.old) (P.is_steady memory.new) }
 {
     if !(1..=64).contains(&workers) {

@@ -6,7 +6,7 @@ ghost use Rattle.nv_region.specs.Region.{HasBlocks};
 use crate::{RecoverError, Recovered, recover, recover_one, recover_replay};
 use nv_region::{MemRegion, Pmem};
 use nv_scan::OpenGate;
-use nv_super::{Kind, MAGIC, Run, Super, SuperFault, write_super};
+use nv_super::{Fault, Kind, MAGIC, Owner, Run, Super, SuperFault, write_super};
 use std::alloc::Global;
 use std::process::Abort;
 use std::test::Fail;
@@ -26,6 +26,19 @@ const ROOT: [(u64, u64); 5] = [
     (8328, 2),
     (8336, 12288),
     (8344, 12320),
+    (12288, 493 * 4294967296 + 32 * 65536 + 2),
+];
+
+/// Inode 2 is a file with the root's log, so two inodes own block 3.
+const SHARED_LOG: [(u64, u64); 9] = [
+    (8320, 1),
+    (8328, 2),
+    (8336, 12288),
+    (8344, 12320),
+    (8448, 1),
+    (8456, 1),
+    (8464, 12288),
+    (8472, 12320),
     (12288, 493 * 4294967296 + 32 * 65536 + 2),
 ];
 
@@ -96,6 +109,41 @@ fn the_root_alone_by_a_schedule(rt: HostRuntime) -> Result<(), Fail> {
     let mut memory = region(rt.alloc(), &ROOT)?;
     let answer = recover_replay(rt.alloc(), &mut memory, 2, &[1, 0, 1, 1, 0])?;
     assert_root_alone(&rt, &answer)
+}
+
+/// The file has no name, and both inodes are told as owners of the block.
+fn assert_shared_log(rt: &impl Abort, answer: &Recovered) {
+    let owners = [
+        (3, Owner::Log { inode: 1, page: 0 }),
+        (3, Owner::Log { inode: 2, page: 0 }),
+    ];
+    assert_eq!(rt; answer.rows.len(), 2);
+    assert_eq!(rt; answer.doubled.as_slice(), owners.as_slice());
+    let faults = [
+        Fault::C3 { inode: 2 },
+        Fault::C4 { inode: 2 },
+        Fault::B1 {
+            block: 3,
+            owner: Owner::Log { inode: 1, page: 0 },
+        },
+        Fault::B1 {
+            block: 3,
+            owner: Owner::Log { inode: 2, page: 0 },
+        },
+    ];
+    assert_eq!(rt; answer.faults.as_slice(), faults.as_slice());
+}
+
+#[test]
+fn a_log_that_two_inodes_own_is_told_alike_by_all(rt: HostRuntime) -> Result<(), Fail> {
+    let mut memory = region(rt.alloc(), &SHARED_LOG)?;
+    let answer = recover_one(rt.alloc(), &mut memory)?;
+    assert_shared_log(&rt, &answer);
+    let answer = recover(&rt, rt.alloc(), &mut memory, 8, &OpenGate)?;
+    assert_shared_log(&rt, &answer);
+    let answer = recover_replay(rt.alloc(), &mut memory, 3, &[2, 2, 1])?;
+    assert_shared_log(&rt, &answer);
+    Ok(())
 }
 
 #[test]

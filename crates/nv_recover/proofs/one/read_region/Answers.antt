@@ -1,5 +1,4 @@
 use Rattle.std.proofs.Common.{◌≡◌, List, sym, ◌∙◌, subst}
-use Rattle.std.specs.List.Sorted.{IsPermutation}
 use Rattle.nv_super.specs.Order.{fault_key, Lists}
 use Rattle.nv_check.specs.Cross.{IsCrossFaultIn}
 use Rattle.nv_scan.specs.Work.{claims_in}

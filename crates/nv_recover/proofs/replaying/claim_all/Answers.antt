@@ -1,4 +1,4 @@
-use Rattle.std.proofs.Common.{◌≡◌, ◌*◌, ◌≤◌, length, arith}
+use Rattle.std.proofs.Common.{arith}
 use Rattle.nv_claimcore.specs.Replay.{lists}
 use Rattle.nv_claimcore.proofs.Ends.{finished_first, finished_second}
 use Rattle.nv_recover.proofs.replaying.claim_all.Goals as goal

@@ -1,14 +1,11 @@
-use Rattle.std.proofs.Common.{◌≡◌, ℕ, List, refl, sym, ◌∙◌, subst}
-use Rattle.std.specs.List.Sorted.{IsPermutation}
-use Rattle.nv_super.specs.declared.owners.Owner.{Owner}
+use Rattle.std.proofs.Common.{◌≡◌, List, refl, sym, ◌∙◌, subst}
 use Rattle.nv_super.specs.Order.{fault_key, Lists}
 use Rattle.nv_check.specs.Cross.{IsCrossFaultIn}
 use Rattle.nv_claimcore.specs.Replay.{lists}
 use Rattle.nv_scan.specs.Work.{claims_in}
 use Rattle.nv_scan.specs.declared.piece.Row.{Row}
-use Rattle.nv_scan.specs.declared.piece.Piece.{Piece}
 use Rattle.nv_scan.proofs.Pieces.{if_ok}
-use Rattle.nv_recover.specs.Reading.{AreOrdered, AreWithin, AreClaimedSets}
+use Rattle.nv_recover.specs.Reading.{AreOrdered}
 use Rattle.nv_recover.proofs.PiecesApart.{joined_claims, lists_apart}
 use Rattle.nv_recover.proofs.Readings.{rows_ordered, claims_within, same_claims, work_inside, maps_of_sets, reading_of, same_maps}
 use Rattle.nv_recover.proofs.replaying.read_by_schedule.Goals as goal

@@ -1,0 +1,188 @@
+//! Two workers are at work at the same time: each waits, for so many turns at most, until the other was seen.
+
+ghost use Rattle.std.proofs.Common.{inl, refl};
+ghost use Rattle.nv_region.specs.RegionState.{fenced_or_last, is_steady, steady_unburnt};
+
+use crate::{RecoverError, recover};
+use nv_region::{MemRegion, Pmem, RegionRefusal, Stopped};
+use nv_scan::{Gate, OpenGate};
+use std::sync::atomic::{AtomicBool, Ordering};
+use std::test::Fail;
+
+/// The most turns that a party waits for the other.
+const TURNS: u64 = 10_000_000;
+
+/// Where two parties meet: each shows that it came, and waits for the other.
+#[derive(Drop)]
+struct Meeting {
+    came: [AtomicBool; 2],
+    met: [AtomicBool; 2],
+}
+
+impl Meeting {
+    fn new() -> Meeting {
+        Meeting {
+            came: [AtomicBool::new(false), AtomicBool::new(false)],
+            met: [AtomicBool::new(false), AtomicBool::new(false)],
+        }
+    }
+
+    fn first(&self) {
+        wait_for(&self.came[0], &self.came[1], &self.met[0]);
+    }
+
+    fn second(&self) {
+        wait_for(&self.came[1], &self.came[0], &self.met[1]);
+    }
+
+    fn both_met(&self) -> bool {
+        self.met[0].load(Ordering::SeqCst) && self.met[1].load(Ordering::SeqCst)
+    }
+}
+
+/// Shows that one party came, and waits until the other came.
+fn wait_for(mine: &AtomicBool, other: &AtomicBool, met: &AtomicBool) {
+    mine.store(true, Ordering::SeqCst);
+    for _ in 0..TURNS {
+        if other.load(Ordering::SeqCst) {
+            met.store(true, Ordering::SeqCst);
+            return;
+        }
+    }
+}
+
+/// A gate at which the workers that drew tickets 0 and 1 meet.
+#[derive(Drop)]
+struct MeetingGate {
+    meeting: Meeting,
+}
+
+impl Gate for MeetingGate {
+    fn enter(&self, _worker: u32, ticket: u64) {
+        match ticket {
+            0 => self.meeting.first(),
+            1 => self.meeting.second(),
+            _ => {}
+        }
+    }
+}
+
+/// The valid word of inode 1 in the region of these tests.
+const FIRST_SLOT: u64 = 16384;
+
+/// The valid word of inode 2.
+const SECOND_SLOT: u64 = 12416;
+
+/// A region at which the workers that load the valid words of inodes 1 and 2 meet.
+#[derive(Drop)]
+struct MeetingRegion {
+    memory: MemRegion,
+    meeting: Meeting,
+}
+
+impl Pmem for MeetingRegion {
+    ghost region = { λ m. m.memory.region };
+
+    ghost may_hold = { λ m. fenced_or_last m.memory };
+
+    ghost has_burnt = { λ m. m.memory.burnt };
+
+    ghost is_steady = { λ m. is_steady m.memory };
+
+    ghost is_open = { λ m limit. is_steady m.memory };
+
+    ghost unburnt = { λ m. steady_unburnt m.memory };
+
+    ghost open_unburnt = { λ m limit. steady_unburnt m.memory };
+
+    ghost holds_now = { λ m i. inl refl };
+
+    fn len(&self) -> u64 {
+        self.memory.len()
+    }
+
+    fn load(&self, at: u64) -> u64 {
+        match at {
+            FIRST_SLOT => self.meeting.first(),
+            SECOND_SLOT => self.meeting.second(),
+            _ => {}
+        }
+        self.memory.load(at)
+    }
+
+    fn store(&mut self, at: u64, value: u64) -> Result<(), Stopped> {
+        self.memory.store(at, value)
+    }
+
+    fn fence(&mut self) -> Result<(), Stopped> {
+        self.memory.fence()
+    }
+}
+
+/// The words of a region of two CPUs and 64 blocks, in which the root alone is in use.
+const WORDS: [(u64, u64); 12] = [
+    (0, 0x3130_4d50_4156_4f4e),
+    (8, 1),
+    (16, 2),
+    (24, 64),
+    (32, 1),
+    (FIRST_SLOT, 1),
+    (FIRST_SLOT + 8, 2),
+    (FIRST_SLOT + 16, 20480),
+    (FIRST_SLOT + 24, 20512),
+    (20480, 493 * 4294967296 + 32 * 65536 + 2),
+    (20488, 0),
+    (20496, 0),
+];
+
+fn region_of_two(rt: HostRuntime) -> Result<MemRegion, RegionRefusal> {
+    let mut memory = MemRegion::new(rt.alloc(), 64)?;
+    for (at, word) in WORDS {
+        if at % 8 == 0 && memory.len().saturating_sub(at) >= 8 {
+            let _unstopped = memory.store(at, word);
+        }
+    }
+    Ok(memory)
+}
+
+#[derive(Debug, Drop)]
+enum Failure {
+    Region(RegionRefusal),
+    Recover(RecoverError),
+}
+
+impl From<RegionRefusal> for Failure {
+    fn from(refusal: RegionRefusal) -> Self {
+        Failure::Region(refusal)
+    }
+}
+
+impl From<RecoverError> for Failure {
+    fn from(error: RecoverError) -> Self {
+        Failure::Recover(error)
+    }
+}
+
+#[test]
+fn two_tickets_at_once(rt: HostRuntime) -> Result<(), Failure> {
+    let mut memory = region_of_two(rt)?;
+    let gate = MeetingGate {
+        meeting: Meeting::new(),
+    };
+    let recovered = recover(&rt, rt.alloc(), &mut memory, 2, &gate)?;
+    assert_eq!(rt; recovered.rows.len(), 1);
+    assert!(rt; gate.meeting.both_met());
+    Ok(())
+}
+
+#[test]
+fn two_inodes_are_read_at_once(rt: HostRuntime) -> Result<(), Failure> {
+    let mut memory = MeetingRegion {
+        memory: region_of_two(rt)?,
+        meeting: Meeting::new(),
+    };
+    let recovered = recover(&rt, rt.alloc(), &mut memory, 2, &OpenGate)?;
+    assert_eq!(rt; recovered.faults.len(), 0);
+    assert!(rt; memory.meeting.both_met());
+    Ok(())
+}
