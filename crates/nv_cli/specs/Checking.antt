@@ -7,6 +7,8 @@ use Rattle.nv_super.specs.Super.{IsRefused}
 use Rattle.nv_outcome.specs.Outcome.{Outcome, IsOutcome}
 use Rattle.nv_text.specs.Answers.{refused_line}
 use Rattle.nv_text.specs.Refusals.{super_fault_name}
+use Rattle.nv_cli.specs.declared.fault.ScriptError.{ScriptError}
+use Rattle.nv_cli.specs.declared.fault.ScriptError.TheVariants.{Read, Write, Memory}
 use Rattle.nv_cli.specs.Last.{status_of}
 use Rattle.nv_cli.specs.Machine.{how_it_went}
 use Rattle.nv_cli.specs.Streams.{AppendsFront}
@@ -37,6 +39,9 @@ WritesCheck bytes workers old new = (text : List ℕ) × (status : ℕ) × IsChe
 abbrev pub EndsCheck : List ℕ → ℕ → Option (List ℕ) → Option (List ℕ) → ℕ → Type 0
 EndsCheck bytes workers old new status = (text : List ℕ) × IsCheck (region_of bytes) workers text status × Appends old new text
 
--- nothing was written, or a front of the text of a check of these bytes
-abbrev pub WritesCheckFront : List ℕ → ℕ → Option (List ℕ) → Option (List ℕ) → Type 0
-WritesCheckFront bytes workers old new = Keeps old new ⊎ ((text : List ℕ) × (status : ℕ) × IsCheck (region_of bytes) workers text status × AppendsFront old new text)
+-- After an error: a front of the text of a check of these bytes was written where the writer failed, and nothing where
+-- memory was refused. A check has no reader that could fail.
+abbrev pub FailsCheck : List ℕ → ℕ → ScriptError → Option (List ℕ) → Option (List ℕ) → Type 0
+FailsCheck bytes workers Read old new = ⊥
+FailsCheck bytes workers Write old new = (text : List ℕ) × (status : ℕ) × IsCheck (region_of bytes) workers text status × AppendsFront old new text
+FailsCheck bytes workers Memory old new = Keeps old new

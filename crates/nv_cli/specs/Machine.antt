@@ -72,8 +72,8 @@ abbrev pub how_it_went : List Fault → Last
 how_it_went [] = Sound
 how_it_went (fault ∷ faults) = Faulty
 
--- The region's outcome is told and mounted: the region that came, also where pending records of its journals are told as
--- faults, which are rolled back in the region that is left.
+-- The region's outcome is told and mounted. Its journals are rolled back in the region that is left; the one that came is
+-- mounted, since a fault of its pending records is in no outcome of the other.
 abbrev pub Mounts : Region → State → List ℕ → State → Type 0
 Mounts R old text new = (o : Outcome) × IsOutcome R o × (text ≡ recovered_text o)
     × (new ≡ record old { region = Some (undone o.sup R); mounted = Some R; last = how_it_went o.faults })

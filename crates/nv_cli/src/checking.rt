@@ -2,14 +2,13 @@
 //!
 //! A recovery stores words in front of the data blocks alone. So only these are copied, and the rest is read where it stands.
 
-ghost use Rattle.std.specs.Prelude.{◌≡◌, ◌≢◌, false, IfOk, IfErr, OnOk, OnErr, IsErrOf, string_bytes};
-ghost use Rattle.std.specs.Io.KnownBytes.{Keeps};
+ghost use Rattle.std.specs.Prelude.{◌≡◌, false, IfOk, IfErr, OnOk, string_bytes};
 ghost use Rattle.nv_region.specs.Region.{region_of};
 ghost use Rattle.nv_region.specs.ImageState.{is_open_to};
 ghost use Rattle.nv_text.specs.Refusals.{refusal_name};
 ghost use Rattle.nv_cli.specs.Answering.{IsOpenInFront};
 ghost use Rattle.nv_cli.specs.Workers.{is_worker_count};
-ghost use Rattle.nv_cli.specs.Checking.{IsCheck, IsRefusal, WritesCheck, EndsCheck, WritesCheckFront};
+ghost use Rattle.nv_cli.specs.Checking.{IsCheck, IsRefusal, WritesCheck, EndsCheck, FailsCheck};
 
 use crate::fault::ScriptError;
 use crate::last::{Last, how_it_went};
@@ -51,9 +50,7 @@ pub fn check_region<H: Threads + Sync, W: Write>(
 ) -> Result<u8, ScriptError>
     ensures text { IfOk result (λ _. WritesCheck bytes.now workers (W.contents writer.old) (W.contents writer.new)) }
     ensures status { IfOk result (λ status. EndsCheck bytes.now workers (W.contents writer.old) (W.contents writer.new) status) }
-    ensures err { OnErr result (WritesCheckFront bytes.now workers (W.contents writer.old) (W.contents writer.new)) }
-    ensures memory { IsErrOf result ScriptError.Memory → Keeps (W.contents writer.old) (W.contents writer.new) }
-    ensures kind { IfErr result (λ e. e ≢ ScriptError.Read) }
+    ensures err { IfErr result (λ e. FailsCheck bytes.now workers e (W.contents writer.old) (W.contents writer.new)) }
 {
     let checked = check_bytes(rt, alloc, bytes, workers)?;
     write_text(writer, checked.text.as_bytes())?;
