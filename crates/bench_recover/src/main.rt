@@ -3,6 +3,9 @@
 //! milliseconds of each on standard error, and what was found on standard output.
 #![tactic(auto)]
 
+ghost use Rattle.std.specs.Prelude.{◌≡◌, length};
+ghost use Rattle.nv_alloc.specs.Taking.{all_blocks};
+
 use nv_calls::format;
 use nv_recover::{RecoverError, Recovered, recover, recover_one};
 use nv_region::{MemRegion, RegionRefusal};
@@ -42,14 +45,17 @@ struct Counts {
     faults: usize,
 }
 
-impl From<&Recovered> for Counts {
-    fn from(recovered: &Recovered) -> Counts {
-        Counts {
-            inodes: recovered.rows.len(),
-            free: recovered.free.free_blocks(),
-            doubled: recovered.doubled.len(),
-            faults: recovered.faults.len(),
-        }
+fn counts_of(recovered: &Recovered) -> Counts
+    ensures inodes { result.inodes ≡ length recovered.now.rows.items }
+    ensures free { result.free ≡ all_blocks recovered.now.free.pools }
+    ensures doubled { result.doubled ≡ length recovered.now.doubled.items }
+    ensures faults { result.faults ≡ length recovered.now.faults.items }
+{
+    Counts {
+        inodes: recovered.rows.len(),
+        free: recovered.free.free_blocks(),
+        doubled: recovered.doubled.len(),
+        faults: recovered.faults.len(),
     }
 }
 
@@ -83,10 +89,10 @@ fn best<R: AllocGlobal + Clock + Threads + Sync>(
         let start = Instant::now(rt)?;
         let answer = recovered_so(rt, memory, way);
         least = least.min(start.elapsed(rt)?.as_secs_f64() * 1000.0);
-        found = answer
-            .as_ref()
-            .ok()
-            .map(|recovered| Counts::from(recovered));
+        found = match &answer {
+            Ok(recovered) => Some(counts_of(recovered)),
+            Err(_) => None,
+        };
     }
     Ok((least, found))
 }
