@@ -1,11 +1,12 @@
 -- The names of an index: each once, and in order.
-use Rattle.std.proofs.Common.{◌≡◌, ◌<◌, ◌≤◌, ◌+◌, ℕ, Bool, true, false, cond, nat_eq, List, [], ◌∷◌, ◌++◌, map, length, get_or, Some, None, IsSome, is_some, refl, sym, ap, subst, ◌∙◌, arith}
+use Rattle.std.proofs.Common.{Option, None, Box, ◌≡◌, ◌<◌, ◌≤◌, ◌+◌, ℕ, Bool, true, false, cond, nat_eq, List, [], ◌∷◌, ◌++◌, map, length, get_or, Some, IsSome, is_some, refl, sym, ap, subst, ◌∙◌, arith}
 use Rattle.std.specs.List.{IsDistinct, AllByRecursion, Contains}
 use Rattle.std.specs.List.Sorted.{IsSorted, IsSortedByKey, IsStrictlySortedBy, IsPermutation}
 use Rattle.std.specs.Ordering.{nat_cmp, is_lt, is_eq, ordering_reverse}
 use Rattle.std.specs.declared.cmp.Ordering.{Ordering}
 use Rattle.std.specs.declared.cmp.Ordering.TheVariants.{Less, Equal, Greater}
 use Rattle.std.specs.Map.{lookup, keys_of}
+use Rattle.std.specs.declared.alloc.Global.{Global}
 use Rattle.std.specs.Cmp.Lexicographic.{pointwise, slice_cmp, nat_list_eq_equiv, nat_list_cmp_total, texts_ties, bytes_decides}
 use Rattle.std.proofs.lemmas.List.{map-append, length-map, get_or-map}
 use Rattle.std.proofs.lemmas.List.Elements.{All-from_recursion, Contains-get_or, Contains-append_right}
@@ -15,7 +16,7 @@ use Rattle.std.proofs.lemmas.Map.Keys.{IsDistinct-head, IsDistinct-tail, IsDisti
 use Rattle.nv_names.specs.declared.target.Target.{Target}
 use Rattle.nv_names.specs.declared.named.Named.{Named}
 use Rattle.nv_names.specs.Names.{Names, found_in, names_of, EachOnce, ListsNames, line_of}
-use Rattle.nv_names.specs.Tables.{entry_of, IsSplit}
+use Rattle.nv_names.specs.Tables.{entry_of, names_held, IsSplit}
 use Rattle.nv_names.proofs.Entries.{other_length}
 
 -- no value is none
@@ -146,3 +147,8 @@ lists_names index us vs distinct lines moved sorted = record {
 
     renamed : IsPermutation (names_of index.names) (names_of (map line_of vs))
     renamed = IsPermutation-map (λ e. e.0) index.names (map line_of vs) entries
+
+-- where there are no tables, no name is there twice
+pub held_once : (tables : Option (Box Names Global)) → tables ≡ None → EachOnce (names_held tables)
+unfolding IsDistinct
+held_once tables none = subst (λ t. EachOnce (names_held t)) (sym none) tt

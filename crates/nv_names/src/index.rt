@@ -1,52 +1,34 @@
 //! The name index of a directory: a finite map that recovery rebuilds from the directory's log, and that the
-//! file calls look names up in. Only `reserve` and `list` take memory.
+//! file calls look names up in. Only `reserve`, `insert` and `list` take memory.
 
-ghost use Rattle.std.specs.Prelude.{◌≡◌, ◌+◌, ◌<◌, ◌≤◌, ◌↔◌, ◌++◌, IsTrue, if◌then◌else◌, List, ℕ, length, map, IfOk, OnOk, Some, None, nat_eq};
+ghost use Rattle.std.specs.Prelude.{◌≡◌, ◌+◌, ◌<◌, ◌≤◌, ◌↔◌, IsTrue, if◌then◌else◌, List, ℕ, length, map, IfOk, OnOk, OnErr, Some, None, nat_eq};
 ghost use Rattle.std.specs.Option.{option_map};
 ghost use Rattle.std.specs.Cmp.Lexicographic.{pointwise};
 ghost use Rattle.nv_names.specs.Names.{IsName, name_at, EachOnce, ListsNames, inode_and_place, line_of};
-ghost use Rattle.nv_names.specs.Tables.{entry_of};
 
-use crate::name::Name;
+use crate::tables::Tables;
 use crate::{Named, Target};
 use std::alloc::{AllocError, Global};
-use std::collections::HashMap;
 use std::marker::Model;
-
-/// The most bytes of a short name. Most names are shorter, and with room for 255 bytes each would take four
-/// times the memory.
-const SHORT: usize = 40;
-
-/// The most bytes of a name.
-const LONGEST: usize = 255;
 
 /// A map from names to the inodes that they stand for and the places of their entries.
 ///
-/// It is two hash tables, of short names and of long ones. Their hasher has a fixed seed, so the order and the
-/// speed of an index are the same in each run, and whoever picks the names of a directory can make them
-/// collide: then each call on it may look at every name.
+/// It is two hash tables, of short names and of long ones, which are made for the first name: an index that never had
+/// one takes 8 bytes. Their hasher has a fixed seed, so the order and the speed of an index are the same in each run,
+/// and whoever picks the names of a directory can make them collide: then each call on it may look at every name.
 #[derive(Drop)]
 pub struct NameIndex {
-    short: HashMap<Name<SHORT>, Target>,
-    long: HashMap<Name<LONGEST>, Target>,
+    tables: Option<Box<Tables>>,
     alloc: Global,
 }
 
 impl Model for NameIndex {
-    ghost use Rattle.std.specs.Prelude.{map, ◌++◌, min};
-    ghost use Rattle.std.specs.HashMap.{spare};
     ghost use Rattle.nv_names.specs.Names.{Names};
+    ghost use Rattle.nv_names.specs.Tables.{names_held};
 
     ghost Value = { Names };
 
-    ghost use Rattle.nv_names.specs.Tables.{entry_of, IsSplit};
-
-    ghost view = { λ a. record {
-      names = map entry_of (a.short.entries ++ a.long.entries);
-      room = min (spare a.short) (spare a.long);
-    } };
-
-    ghost invariant = { λ a. IsSplit a.short.entries a.long.entries };
+    ghost view = { λ a. names_held a.tables };
 }
 
 impl NameIndex {
@@ -55,8 +37,7 @@ impl NameIndex {
         ensures empty { (q : List ℕ) → name_at result q ≡ None }
     {
         NameIndex {
-            short: HashMap::new(alloc),
-            long: HashMap::new(alloc),
+            tables: None,
             alloc,
         }
     }
@@ -67,13 +48,9 @@ impl NameIndex {
     pub fn get(&self, name: &[u8]) -> Option<Target>
         ensures { option_map inode_and_place result ≡ name_at self.now name.now }
     {
-        let (short, long) = (&self.short, &self.long);
-        if name.len() <= SHORT {
-            short.get(&Name::new(name)).copied()
-        } else if name.len() <= LONGEST {
-            long.get(&Name::new(name)).copied()
-        } else {
-            None
+        match &self.tables {
+            Some(tables) => tables.get(name),
+            None => None,
         }
     }
 
@@ -88,8 +65,15 @@ impl NameIndex {
         ensures ready { OnOk result (more ≤ self.new.room) }
         ensures room { self.old.room ≤ self.new.room }
     {
-        self.short.reserve(more)?;
-        self.long.reserve(more)
+        match &mut self.tables {
+            Some(tables) => tables.reserve(more),
+            None => {
+                let mut tables = Tables::new(self.alloc);
+                tables.reserve(more)?;
+                self.tables = Some(Box::new(self.alloc, tables)?);
+                Ok(())
+            }
+        }
     }
 
     /// Gives a name of 1 to 255 bytes its inode and the place of its entry, in place of those that it had.
@@ -103,11 +87,29 @@ impl NameIndex {
             ≡ (if pointwise nat_eq q name.now then Some (inode, place) else name_at self.old q) }
         ensures room { self.old.room ≤ self.new.room + 1 }
     {
-        let target = Target { inode, place };
-        if name.len() <= SHORT {
-            let _had = self.short.insert(Name::new(name), target);
-        } else {
-            let _had = self.long.insert(Name::new(name), target);
+        match &mut self.tables {
+            Some(tables) => tables.add(name, inode, place),
+            None => unreachable!(),
+        }
+    }
+
+    /// As `add`, where no room need have been made: the table of names of this length grows where it is full, and so
+    /// that a call adds a constant to its cost. An error leaves the names.
+    pub fn insert(&mut self, name: &[u8], inode: u64, place: u64) -> Result<(), AllocError>
+        requires name { IsName name.now }
+        ensures ok { OnOk result ((q : List ℕ) → name_at self.new q
+            ≡ (if pointwise nat_eq q name.now then Some (inode, place) else name_at self.old q)) }
+        ensures err { OnErr result ((q : List ℕ) → name_at self.new q ≡ name_at self.old q) }
+        ensures room { self.old.room ≤ self.new.room + 1 }
+    {
+        match &mut self.tables {
+            Some(tables) => tables.insert(name, inode, place),
+            None => {
+                let mut tables = Tables::new(self.alloc);
+                tables.insert(name, inode, place)?;
+                self.tables = Some(Box::new(self.alloc, tables)?);
+                Ok(())
+            }
         }
     }
 
@@ -119,10 +121,8 @@ impl NameIndex {
             ≡ (if pointwise nat_eq q name.now then None else name_at self.old q) }
         ensures room { self.old.room ≤ self.new.room }
     {
-        if name.len() <= SHORT {
-            let _had = self.short.remove(&Name::new(name));
-        } else if name.len() <= LONGEST {
-            let _had = self.long.remove(&Name::new(name));
+        if let Some(tables) = &mut self.tables {
+            tables.remove(name);
         }
     }
 
@@ -131,7 +131,10 @@ impl NameIndex {
         ensures exact { result ≡ length self.now.names }
         ensures each_once { EachOnce self.now }
     {
-        self.short.len() + self.long.len()
+        match &self.tables {
+            Some(tables) => tables.len(),
+            None => 0,
+        }
     }
 
     /// Whether there is no name.
@@ -157,33 +160,9 @@ impl NameIndex {
         ensures names { IfOk result (λ listed. map line_of listed.items ≡ self.now.names) }
         ensures each_once { EachOnce self.now }
     {
-        let mut listed = Vec::with_capacity(self.alloc, self.len())?;
-        push_lines(&mut listed, &self.short)?;
-        push_lines(&mut listed, &self.long)?;
-        Ok(listed)
-    }
-}
-
-/// Puts a line for each name of a table at the end of a listing.
-fn push_lines<'a, const CAP: usize>(
-    listed: &mut Vec<Named<'a>>,
-    table: &'a HashMap<Name<CAP>, Target>,
-) -> Result<(), AllocError>
-    ensures { OnOk result (map line_of listed.new.items ≡ map line_of listed.old.items ++ map entry_of table.now.entries) }
-{
-    for (name, target) in table {
-        listed.push(line(name, *target))?;
-    }
-    Ok(())
-}
-
-/// The line of a name.
-fn line<'a, const CAP: usize>(name: &'a Name<CAP>, target: Target) -> Named<'a>
-    ensures { line_of result ≡ entry_of (name.now, target) }
-{
-    Named {
-        name: name.as_bytes(),
-        inode: target.inode,
-        place: target.place,
+        match &self.tables {
+            Some(tables) => tables.unsorted(),
+            None => Ok(Vec::new(self.alloc)),
+        }
     }
 }

@@ -4,6 +4,7 @@
 mod index;
 mod name;
 mod named;
+mod tables;
 mod target;
 
 pub use index::NameIndex;

@@ -121,3 +121,22 @@ fn names_are_removed_once_and_again(rt: HostRuntime) -> Result<(), Fail> {
     assert!(rt; index.is_empty());
     Ok(())
 }
+
+#[test]
+fn names_are_inserted_where_no_room_was_made(rt: HostRuntime) -> Result<(), Fail> {
+    let mut index = NameIndex::new(rt.alloc());
+    for length in [1, 40, 41, 255] {
+        index.insert(&[b'n'; 255][..length], 7, length as u64)?;
+    }
+    assert_eq!(rt; index.len(), 4);
+    for length in [1, 40, 41, 255] {
+        assert_eq!(rt;
+            index.get(&[b'n'; 255][..length]),
+            Some(Target {
+                inode: 7,
+                place: length as u64
+            })
+        );
+    }
+    Ok(())
+}

@@ -46,7 +46,8 @@ pub(crate) fn scan_by_workers<P: Pmem + Sync, G: Gate + Sync, H: Threads + Sync>
         { worker(alloc, memory, sup, &map, seat, gate) },
     )?;
     let mut brought = join_all(memory, sup, &map, results)?;
-    brought.pieces.sort_unstable_by_key(|piece| piece.inode);
+    // Each worker's pieces rise, and a stable sort merges what rises already.
+    brought.pieces.sort_by_key(|piece| piece.inode)?;
     Ok((brought.pieces, map.close(brought.seat)))
 }
 

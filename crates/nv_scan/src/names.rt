@@ -26,13 +26,12 @@ fn apply_name(names: &mut NameIndex, at: u64, e: &NameEntry) -> Result<(), Alloc
     ensures { OnOk result ((q : List ℕ) → name_at names.new q ≡ unwrap_or (name_in q at (Entry.Name e.now)) (name_at names.old q)) }
 {
     match e.operation {
-        Operation::Add => {
-            names.reserve(1)?;
-            names.add(e.name.as_slice(), e.inode, at);
+        Operation::Add => names.insert(e.name.as_slice(), e.inode, at),
+        Operation::Remove => {
+            names.remove(e.name.as_slice());
+            Ok(())
         }
-        Operation::Remove => names.remove(e.name.as_slice()),
     }
-    Ok(())
 }
 
 /// The fault of a good entry of an inode beside the names before it: an add of a name that is there, or a removal of

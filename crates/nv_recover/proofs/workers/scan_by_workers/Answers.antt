@@ -32,12 +32,12 @@ returns g c =
     let blocks : c.in_ok-map.map.sizes.blocks ≡ c.args.sup.now.blocks = ap (λ (z : Sizes). z.blocks) c.in_ok-map.ensures.0 in
     let numbers = c.close.ensures.numbers in
     let past_end : ticket_count s < numbers.0 = all_drawn (ticket_count s) numbers.0 brought.seat.view.numbers numbers.1 is.ended in
-    let sorted : IsSortedByKey (λ (p : Piece). p.inode) nat_cmp c.sort_unstable_by_key.new.self.items = c.sort_unstable_by_key.ensures.sorted (λ (p : Piece). p.inode) (answers_always _ _ _ (λ f a r g h. search rules)) in
-    let covers = work_covers (g.P.Pmem.region c.args.memory.now) s brought.seat.view brought.pieces.items c.sort_unstable_by_key.new.self.items numbers.0 c.requires.layout is.work numbers.1 (omega (arith, past_end))
-    c.sort_unstable_by_key.ensures.permutation sorted in
+    let sorted : IsSortedByKey (λ (p : Piece). p.inode) nat_cmp c.sort_by_key.new.self.items = c.in_ok-sort_by_key.ensures.sorted (λ (p : Piece). p.inode) (answers_always _ _ _ (λ f a r g h. search rules)) in
+    let covers = work_covers (g.P.Pmem.region c.args.memory.now) s brought.seat.view brought.pieces.items c.sort_by_key.new.self.items numbers.0 c.requires.layout is.work numbers.1 (omega (arith, past_end))
+    c.in_ok-sort_by_key.ensures.permutation sorted in
     record {
       pieces_are = covers.0;
-      claimed = subst (IsPermutation (claims_in c.sort_unstable_by_key.new.self.items)) (sym (c.close.ensures.claims ∙ is.work.claims)) covers.1;
+      claimed = subst (IsPermutation (claims_in c.sort_by_key.new.self.items)) (sym (c.close.ensures.claims ∙ is.work.claims)) covers.1;
       maps = record { once = c.close.ensures.first.1; twice = c.close.ensures.second.1 };
       cover = (omega (arith, c.close.ensures.first.0, blocks), omega (arith, c.close.ensures.second.0, blocks));
     }

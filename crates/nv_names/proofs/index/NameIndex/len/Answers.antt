@@ -1,5 +1,5 @@
-use Rattle.nv_names.proofs.Listing.{distinct_names}
+use Rattle.nv_names.proofs.Listing.{held_once}
 use Rattle.nv_names.proofs.index.NameIndex.len.Goals as goal
 
-pub returns-clause-each_once : goal.returns-clause-each_once
-returns-clause-each_once c = rw (← c.self.view_is) (distinct_names _ _ c.self.invariant c.len.ensures.unique c.len-2.ensures.unique)
+pub returns-in-None-clause-each_once : goal.returns-in-None-clause-each_once
+returns-in-None-clause-each_once c = rw (← c.self.view_is) (held_once c.self.inside.tables c.in-None.is)

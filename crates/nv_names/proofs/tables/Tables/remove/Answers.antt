@@ -1,5 +1,5 @@
 use Rattle.nv_names.proofs.Split.{found_in-update_short, found_in-update_long, found_in-without_none}
-use Rattle.nv_names.proofs.index.NameIndex.remove.Goals as goal
+use Rattle.nv_names.proofs.tables.Tables.remove.Goals as goal
 
 pub returns-then-name-le-SHORT-clause-names : goal.returns-then-name-le-SHORT-clause-names
 returns-then-name-le-SHORT-clause-names c =

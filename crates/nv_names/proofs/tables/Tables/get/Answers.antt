@@ -1,6 +1,6 @@
 use Rattle.std.proofs.Common.{sym}
 use Rattle.nv_names.proofs.Split.{found_in-short, found_in-long, found_in-none}
-use Rattle.nv_names.proofs.index.NameIndex.get.Goals as goal
+use Rattle.nv_names.proofs.tables.Tables.get.Goals as goal
 
 pub returns-then-name-le-SHORT : goal.returns-then-name-le-SHORT
 returns-then-name-le-SHORT c =

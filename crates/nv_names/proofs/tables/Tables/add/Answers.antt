@@ -2,7 +2,7 @@ use Rattle.std.proofs.Common.{◌<◌, arith}
 use Rattle.std.specs.HashMap.{spare}
 use Rattle.nv_names.proofs.Entries.{fact_of_ok}
 use Rattle.nv_names.proofs.Split.{found_in-update_short, found_in-update_long}
-use Rattle.nv_names.proofs.index.NameIndex.add.Goals as goal
+use Rattle.nv_names.proofs.tables.Tables.add.Goals as goal
 
 pub returns-then-name-le-SHORT-clause-names : goal.returns-then-name-le-SHORT-clause-names
 returns-then-name-le-SHORT-clause-names c =
