@@ -1,8 +1,8 @@
 pub mod Stored
 pub mod Undone
+pub mod AnyLength
 pub mod Again
 pub mod Resumed
 pub mod Partly
 pub mod Listed
-pub mod Later
 pub mod Words

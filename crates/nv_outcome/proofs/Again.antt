@@ -18,7 +18,7 @@ use Rattle.nv_outcome.specs.Outcome.{AreRows, AreFreeLists, IsDoubled, IsCrossFa
 use Rattle.nv_outcome.specs.Same.{IsLasting, ShowsAgain}
 use Rattle.nv_outcome.proofs.SuperOf.{layout_of_super}
 use Rattle.nv_outcome.proofs.OnlyOne.{same_rows, same_free}
-use Rattle.nv_outcome.proofs.UndoneAgain.{first_word, faults_left, undo_twice}
+use Rattle.nv_journal.proofs.AnyLength.{first_word, faults_left, undo_twice}
 
 -- ---- faults that last
 

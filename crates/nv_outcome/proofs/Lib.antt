@@ -7,7 +7,6 @@ pub mod CrossLaw
 pub mod Whole
 pub mod Shared
 pub mod OnlyOne
-pub mod UndoneAgain
 pub mod Again
 pub mod Reordered
 pub mod Tickets

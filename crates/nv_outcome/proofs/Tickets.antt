@@ -35,7 +35,7 @@ past_tables : (s : Super) (i a : ℕ) → extra_slot ((i / s.cpus - 32 * s.table
 past_tables s i a e = cc
 
 -- in the fixed tables the inodes from 1 on below the limit have slots, and no others
-slot_number : (s : Super) (i a : ℕ) → IsLayout s → slot_of (fixed_layout s) i ≡ Some a → (0 < i) × (i < inode_limit s)
+pub slot_number : (s : Super) (i a : ℕ) → IsLayout s → slot_of (fixed_layout s) i ≡ Some a → (0 < i) × (i < inode_limit s)
 slot_number s i a layout = at (i == 0) refl where
   low : i / s.cpus < 32 * s.table_blocks → i < inode_limit s
   low h = elim (cases_lt i (inode_limit s)) [

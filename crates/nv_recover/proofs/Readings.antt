@@ -1,5 +1,6 @@
 -- From the parts of a recovery to the outcome.
-use Rattle.std.proofs.Common.{◌≡◌, ℕ, ◌-◌, min, List, [], ◌++◌, map, get_or, ap, sym, ◌∙◌, subst}
+use Rattle.std.proofs.Common.{◌≡◌, ◌<◌, ℕ, ◌-◌, min, IsTrue, List, [], ◌++◌, map, get_or, ap, sym, ◌∙◌, subst, arith}
+use Rattle.std.proofs.lemmas.Bool.Decides.{nat_tests}
 use Rattle.std.specs.Prelude.{Vec}
 use Rattle.std.specs.declared.alloc.Global.{Global}
 use Rattle.std.specs.List.{Contains}
@@ -10,7 +11,7 @@ use Rattle.nv_region.specs.Region.{Region}
 use Rattle.nv_super.specs.declared.superblock.Super.{Super}
 use Rattle.nv_super.specs.declared.owners.Owner.{Owner}
 use Rattle.nv_super.specs.declared.faults.Fault.{Fault}
-use Rattle.nv_super.specs.Layout.{IsLayout, fixed_layout}
+use Rattle.nv_super.specs.Layout.{IsLayout, fixed_layout, inode_limit, is_number}
 use Rattle.nv_super.specs.Order.{fault_key, Lists, SortedOf}
 use Rattle.nv_super.specs.Sets.{claims_of}
 use Rattle.nv_claimcore.specs.Finished.{works_of}
@@ -26,7 +27,7 @@ use Rattle.nv_outcome.specs.Outcome.{IsOutcome}
 use Rattle.nv_outcome.specs.Parts.{ArePieces, AreMaps, AreParts, rows_in, double_fault}
 use Rattle.nv_outcome.specs.Shared.{SharesAll}
 use Rattle.nv_outcome.proofs.Members.{from_map}
-use Rattle.nv_outcome.proofs.Tickets.{maps_of_work}
+use Rattle.nv_outcome.proofs.Tickets.{maps_of_work, slot_number}
 use Rattle.nv_outcome.proofs.Pieces.{claimed_owned}
 use Rattle.nv_outcome.proofs.RowsOf.{rows_are}
 use Rattle.nv_outcome.proofs.Whole.{parts_outcome}
@@ -36,7 +37,9 @@ use Rattle.nv_recover.specs.declared.finishing.Told.{Told}
 use Rattle.nv_recover.specs.declared.recovered.Recovered.{Recovered}
 use Rattle.nv_recover.specs.Answer.{outcome_of, SharesBlocks}
 use Rattle.nv_recover.specs.Reading.{IsOpened, IsReading, IsMade, AreSplit, AreOrdered, AreWithin, AreClaimedSets}
-use Rattle.nv_recover.proofs.Numbers.{slot_numbered}
+
+numbered : (s : Super) (i : ℕ) → 0 < i → i < inode_limit s → IsTrue (is_number s i)
+numbered s i some below = grind (arith, nat_tests)
 
 pub same_claims : (xs ys : List (ℕ × Owner)) → ys ≡ xs → IsPermutation xs ys
 same_claims xs ys same = subst (IsPermutation xs) (sym same) (IsPermutation-refl xs)
@@ -48,7 +51,8 @@ module _ {R : Region} (s : Super) (pieces : List Piece) (scanned : ArePieces R (
     numbers = λ k d less. (let c = All-contains_itself (rows_in pieces) k d less in
         let row = get_or (rows_in pieces) k d in
         let w = (rows_are pieces scanned).each row c in
-        slot_numbered s row.inode w.0 layout.cpus_from (slot_in_use w.2.inode));
+        let number = slot_number s row.inode w.0 layout (slot_in_use w.2.inode) in
+        numbered s row.inode number.0 number.1);
   }
 
   pub claims_within : (claims : List (ℕ × Owner)) → IsPermutation (claims_in pieces) claims → AreWithin s claims

@@ -1,4 +1,4 @@
--- A region whose journals are rolled back, of any length: its superblock is as before, and rolling back again changes nothing.
+-- A region of any length whose journals are rolled back: its superblock is as before, rolling back again changes nothing, and the faults of pointers alone are left.
 use Rattle.std.proofs.Common.{◌≡◌, ◌≢◌, ◌↔◌, ◌⊎◌, inl, inr, ◌≤◌, ◌<◌, ◌+◌, ◌*◌, ◌/◌, ◌%◌, ◌==◌, ◌&&◌, ℕ, zero, suc, Bool, true, false, cond, nat_lt, List, [], ◌++◌, length, get_or, refl, sym, ap, ◌∙◌, arith, eqb-true}
 use Rattle.std.proofs.lemmas.List.{get_or_past}
 use Rattle.std.proofs.lemmas.Bool.{cases_eq, cases_lt}
@@ -7,21 +7,21 @@ use Rattle.nv_region.specs.Region.{Region, word, size}
 use Rattle.nv_region.proofs.Stops.{same_region}
 use Rattle.nv_super.specs.declared.faults.Fault.{Fault}
 use Rattle.nv_super.specs.declared.faults.Fault.TheVariants.{J1, J2}
-use Rattle.nv_journal.specs.Permitted.{LiesBehind}
+use Rattle.nv_inode.specs.Permitted.{LiesBehind}
 use Rattle.nv_journal.specs.Undo.{journal, dequeue, enqueue, is_sound, pending_count, pending_from, permitted, journal_records, all_records, value_named, settled_word, undone_word, undo, IsQuiet}
 use Rattle.nv_journal.specs.Faults.{IsFaultOf, IsJournalFault, IsPointerFault}
 use Rattle.nv_journal.proofs.Undone.{all_low, word_undo, length_undo}
 
 -- ---- what is settled
 
-settled_enqueue : (R : Region) (k j : ℕ) → settled_word R k (journal j + 8) ≡ enqueue R j
+pub settled_enqueue : (R : Region) (k j : ℕ) → settled_word R k (journal j + 8) ≡ enqueue R j
 settled_enqueue R zero j = refl
 settled_enqueue R (suc k) j = skip (omega arith) ∙ settled_enqueue R k j
   where
     skip : journal k ≢ journal j + 8 → settled_word R (suc k) (journal j + 8) ≡ settled_word R k (journal j + 8)
     skip differ = grind (arith, nat_tests)
 
-settled_unsound : (R : Region) (k j : ℕ) → is_sound R j ≡ false → settled_word R k (journal j) ≡ dequeue R j
+pub settled_unsound : (R : Region) (k j : ℕ) → is_sound R j ≡ false → settled_word R k (journal j) ≡ dequeue R j
 settled_unsound R zero j unsound = refl
 settled_unsound R (suc k) j unsound = elim (cases_eq k j) [ inl same ↦ at_it same ∙ settled_unsound R k j unsound | inr differ ↦ skip (omega arith) ∙ settled_unsound R k j unsound ]
   where
@@ -31,7 +31,7 @@ settled_unsound R (suc k) j unsound = elim (cases_eq k j) [ inl same ↦ at_it s
     skip : journal k ≢ journal j → settled_word R (suc k) (journal j) ≡ settled_word R k (journal j)
     skip differ = grind (arith, nat_tests)
 
-settled_sound : (R : Region) (k j : ℕ) → j < k → is_sound R j ≡ true → settled_word R k (journal j) ≡ enqueue R j
+pub settled_sound : (R : Region) (k j : ℕ) → j < k → is_sound R j ≡ true → settled_word R k (journal j) ≡ enqueue R j
 settled_sound R zero j below sound = absurd (omega arith)
 settled_sound R (suc k) j below sound = elim (cases_eq k j) [ inl same ↦ at_it same | inr differ ↦ skip (omega arith) ∙ settled_sound R k j (omega arith) sound ]
   where
