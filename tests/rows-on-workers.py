@@ -5,17 +5,20 @@ usage: tests/rows-on-workers.py PROGRAM FOLDER WORKERS..
 
 FOLDER has, also in folders below it, files NAME.script, NAME.expected and NAME.status. Each `recover N` of a script, N
 from 1 to 64, becomes `recover W`, for each W of WORKERS. A script with a command that the program doesn't know yet is
-left out, as is one without a recovery. Behind the script the words of the first five blocks are peeked, so that the
-regions are compared too.
+left out, as is one without a recovery. Behind the script every word of the region is peeked, whatever its length, so
+that the regions are compared byte by byte; of what that run prints a hash is kept.
 """
 
+import hashlib
 import re
 import subprocess
 import sys
+import tempfile
 from pathlib import Path
 
 COMMANDS = "format time recover replay tree free faults report poke cut peek".split()
-PEEKS = "".join(f"peek {at}\n" for at in range(0, 5 * 4096, 8))
+BLOCK = 4096
+MOST_BLOCKS = 65536
 
 
 def is_known(script):
@@ -27,9 +30,27 @@ def with_workers(script, workers):
     return re.sub(r"(?m)^recover ([1-9]|[1-5][0-9]|6[0-4])$", f"recover {workers}", script)
 
 
+def most_blocks(script):
+    """The most blocks that a region of the script can have."""
+    named = map(int, re.findall(r"(?m)^format [0-9]+ ([0-9]+) [0-9]+$", script))
+    return max((blocks for blocks in named if blocks <= MOST_BLOCKS), default=0)
+
+
 def run(program, script):
     done = subprocess.run([program, "run"], input=script.encode("latin-1"), capture_output=True, timeout=120)
     return done.stdout, done.returncode
+
+
+def run_and_peek(program, script, blocks):
+    """The hash of what the script prints with a peek of each word of so many blocks behind it, and the exit status."""
+    with tempfile.TemporaryFile() as lines:
+        lines.write(script.encode("latin-1"))
+        for start in range(0, blocks * BLOCK, BLOCK):
+            lines.write(b"".join(b"peek %d\n" % at for at in range(start, start + BLOCK, 8)))
+        lines.seek(0)
+        with subprocess.Popen([program, "run"], stdin=lines, stdout=subprocess.PIPE) as done:
+            digest = hashlib.file_digest(done.stdout, "sha256").hexdigest()
+    return digest, done.returncode
 
 
 def check(program, path, workers):
@@ -43,7 +64,7 @@ def check(program, path, workers):
         output, code = run(program, with_workers(script, count))
         if output != expected or code != status:
             return f"{path}: differs on {count} workers, status {code}"
-        peeked = run(program, with_workers(whole, count) + PEEKS)
+        peeked = run_and_peek(program, with_workers(whole, count), most_blocks(script))
         if words not in (None, peeked):
             return f"{path}: the region differs on {count} workers"
         words = peeked
