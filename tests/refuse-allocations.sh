@@ -5,8 +5,8 @@
 # within one that answered so and left its region as before or with its journals rolled back.
 #
 # One build of `rt try` refuses the allocation of the same number in all its runs. So run K takes K blocks of memory first:
-# run 0 meets no refusal, in the last the first allocation is refused. Two threads make those of a recovery by workers, so
-# their order differs from run to run. It takes about two minutes.
+# run 0 meets no refusal, in the last the first allocation is refused. Two threads make those of the recovery by workers,
+# the last one, in an order that differs from run to run. It takes about two minutes.
 set -u
 here=$(cd "$(dirname "${BASH_SOURCE[0]}")/.." && pwd)
 runs=400
@@ -35,8 +35,8 @@ wanted=(
 for left in AsBefore RolledBack; do
     wanted+=(
         "$refused refused Within(OneThread, $left);"
-        "$refused $one refused Within(TwoWorkers, $left);"
-        "$refused $two refused Within(Schedule, $left);"
+        "$refused $one refused Within(Schedule, $left);"
+        "$refused $two refused Within(TwoWorkers, $left);"
     )
 done
 

@@ -23,11 +23,12 @@ use std::thread::Threads;
 #[derive(Clone, Copy, Debug, PartialEq, Eq)]
 enum Way {
     OneThread,
-    TwoWorkers,
     Schedule,
+    TwoWorkers,
 }
 
-const WAYS: [Way; 3] = [Way::OneThread, Way::TwoWorkers, Way::Schedule];
+/// The recovery whose allocations have no order of their own comes last.
+const WAYS: [Way; 3] = [Way::OneThread, Way::Schedule, Way::TwoWorkers];
 
 /// How a recovery ended.
 #[derive(Clone, Copy, Debug, PartialEq, Eq)]
@@ -62,8 +63,8 @@ fn recovered_so<R: AllocGlobal + Threads + Sync>(
 ) -> Result<Recovered, RecoverError> {
     match way {
         Way::OneThread => recover_one(rt.alloc(), memory),
-        Way::TwoWorkers => recover(rt, rt.alloc(), memory, 2, &OpenGate),
         Way::Schedule => recover_replay(rt.alloc(), memory, 2, &[1, 0, 1, 1, 0]),
+        Way::TwoWorkers => recover(rt, rt.alloc(), memory, 2, &OpenGate),
     }
 }
 
