@@ -2,10 +2,11 @@
 
 ghost use Rattle.std.specs.Prelude.{◌≡◌, OnOk, OnErr, IfOk, codes};
 ghost use Rattle.std.specs.Io.KnownBytes.{Appends};
-ghost use Rattle.nv_cli.specs.Streams.{AppendsFront};
+ghost use Rattle.nv_stream.specs.Streams.{AppendsFront};
 
 use crate::contents::{Contents, Unread, contents_at};
-use nv_cli::{ScriptError, check_region, write_text};
+use nv_cli::{ScriptError, check_region};
+use nv_stream::write_text;
 use std::io::Write;
 use std::rt::Files;
 use std::thread::Threads;

@@ -2,23 +2,17 @@
 use Rattle.std.proofs.Common.{◌≡◌, ℕ, List, [], ◌∷◌, ◌++◌, Option, Some, None}
 use Rattle.std.specs.Prelude.{OnErr, Result, Ok, Err}
 use Rattle.std.specs.Io.KnownBytes.{Appends}
-use Rattle.nv_cli.specs.Known.{IfKnown}
-use Rattle.nv_cli.specs.Lines.{lines_of}
-use Rattle.nv_cli.specs.Streams.{AppendsFront}
+use Rattle.nv_stream.specs.Known.{IfKnown}
+use Rattle.nv_stream.specs.Lines.{lines_of}
+use Rattle.nv_stream.specs.Streams.{AppendsFront}
 use Rattle.nv_cli.specs.Transcript.{WritesAll, WritesFront, WritesWhole}
-use Rattle.nv_cli.specs.declared.fault.ScriptError.{ScriptError}
-use Rattle.nv_cli.specs.declared.fault.ScriptError.TheVariants as errors
+use Rattle.nv_stream.specs.declared.fault.ScriptError.{ScriptError}
+use Rattle.nv_stream.specs.declared.fault.ScriptError.TheVariants as errors
 use Rattle.nv_cli.proofs.Progress.{Progress, begins, goes_on, all_here, whole_here, front_there}
-use Rattle.nv_cli.proofs.StreamLemmas.{front_of_whole}
+use Rattle.nv_stream.proofs.StreamLemmas.{front_of_whole}
 
 abbrev pub KnownProgress : (shows here : List (List ℕ) → List ℕ → ℕ → Type 0) → (known left old now : Option (List ℕ)) → Type 0
 KnownProgress shows here known left old now = IfKnown known left (λ input rest. Progress shows here (lines_of input) (lines_of rest) old now)
-
--- a fact that follows from another
-pub known_map : (a b : Option (List ℕ)) (P Q : List ℕ → List ℕ → Type 0) → ((x y : List ℕ) → P x y → Q x y) → IfKnown a b P → IfKnown a b Q
-known_map None b P Q f p = tt
-known_map (Some x) None P Q f p = absurd p
-known_map (Some x) (Some y) P Q f p = f x y p
 
 -- The next line of the input printed `first`, and `next` is what the lines behind it may show.
 pub record GoesOn (here next : List (List ℕ) → List ℕ → ℕ → Type 0) (now then : Option (List ℕ)) (input rest : List ℕ) : Type 0 where

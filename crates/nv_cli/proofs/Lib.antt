@@ -1,7 +1,4 @@
-pub mod Plain
 pub mod Results
-pub mod LineLemmas
-pub mod StreamLemmas
 pub mod TextLemmas
 pub mod OneText
 pub mod Answered

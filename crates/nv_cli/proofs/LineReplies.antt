@@ -5,15 +5,16 @@ use Rattle.std.specs.Prelude.{String}
 use Rattle.std.specs.declared.alloc.Global.{Global}
 use Rattle.std.specs.Io.KnownBytes.{Appends}
 use Rattle.nv_text.specs.Answers.{bad_line}
-use Rattle.nv_cli.specs.Known.{IfKnown}
+use Rattle.nv_stream.specs.Known.{IfKnown}
 use Rattle.nv_cli.specs.Last.{status_of}
-use Rattle.nv_cli.specs.Lines.{lines_of}
+use Rattle.nv_stream.specs.Lines.{lines_of}
 use Rattle.nv_cli.specs.Machine.{State, Shows}
 use Rattle.nv_cli.specs.Replies.{Replies, KnownReplies}
-use Rattle.nv_cli.specs.Streams.{AppendsFront}
+use Rattle.nv_stream.specs.Streams.{AppendsFront}
 use Rattle.nv_cli.specs.declared.script.Reply.TheVariants.{End, Skipped, Text, Bad}
-use Rattle.nv_cli.proofs.KnownProgress.{known_map, GoesOn, Ends, EndsInside}
-use Rattle.nv_cli.proofs.StreamLemmas.{appends_none}
+use Rattle.nv_cli.proofs.KnownProgress.{GoesOn, Ends, EndsInside}
+use Rattle.nv_stream.proofs.KnownFacts.{known_map}
+use Rattle.nv_stream.proofs.StreamLemmas.{appends_none}
 
 module _ (left after now then : Option (List ℕ)) (number : ℕ) (state mid : State) where
   pub skipped_goes_on : KnownReplies left after state Skipped mid → IfKnown left after (λ input rest. GoesOn (Shows number state) (Shows (number + 1) mid) now now input rest)

@@ -4,8 +4,8 @@
 use Rattle.std.proofs.Common.{◌≡◌, ℕ, ◌+◌, List, [], ◌∷◌, ◌++◌, length, take, Option, refl, sym, ap, ◌∙◌, append_assoc, append-nil}
 use Rattle.std.proofs.Math.Seq.{take-append-add, take-append_seam}
 use Rattle.std.specs.Io.KnownBytes.{Appends}
-use Rattle.nv_cli.specs.Streams.{AppendsFront}
-use Rattle.nv_cli.proofs.StreamLemmas.{appends_none, appends_both, appends_front}
+use Rattle.nv_stream.specs.Streams.{AppendsFront}
+use Rattle.nv_stream.proofs.StreamLemmas.{appends_none, appends_both, appends_front}
 
 -- the lines were `done`, then `rest`, and `written` was added
 pub record Progress (shows here : List (List ℕ) → List ℕ → ℕ → Type 0) (lines rest : List (List ℕ)) (old now : Option (List ℕ)) : Type 0 where

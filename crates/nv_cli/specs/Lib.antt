@@ -1,6 +1,3 @@
-pub mod Lines
-pub mod Known
-pub mod Streams
 pub mod Transcript
 pub mod Texts
 pub mod Last

@@ -15,7 +15,7 @@ use Rattle.nv_line.specs.Spelling.{Says}
 use Rattle.nv_line.specs.Lines.{IsSkipped, IsBad}
 use Rattle.nv_text.specs.Refusals.{super_fault_name}
 use Rattle.nv_text.specs.Answers.{ok_line, bad_line, refused_line, word_line}
-use Rattle.nv_cli.specs.Lines.{line_limit}
+use Rattle.nv_stream.specs.Lines.{line_limit}
 use Rattle.nv_cli.specs.Texts.{recovered_text, IsPartText}
 use Rattle.nv_cli.specs.Workers.{is_worker_count, names_stranger}
 use Rattle.nv_cli.specs.Last.{status_of}

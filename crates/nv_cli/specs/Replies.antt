@@ -1,8 +1,8 @@
 -- What reading and running one line may answer.
 use Rattle.std.specs.Prelude.{◌≡◌, ℕ, ◌≤◌, List, ◌∷◌, [], length, Option, string_bytes}
 use Rattle.nv_line.specs.Lines.{IsSkipped, IsBad}
-use Rattle.nv_cli.specs.Known.{IfKnown}
-use Rattle.nv_cli.specs.Lines.{lines_of, line_limit}
+use Rattle.nv_stream.specs.Known.{IfKnown}
+use Rattle.nv_stream.specs.Lines.{lines_of, line_limit}
 use Rattle.nv_cli.specs.Machine.{State, Runs}
 use Rattle.nv_cli.specs.declared.script.Reply.{Reply}
 use Rattle.nv_cli.specs.declared.script.Reply.TheVariants.{End, Skipped, Text, Bad}

@@ -2,8 +2,8 @@
 -- A transcript relates lines, a text and an exit status: these lines may print this text and end with this status.
 use Rattle.std.specs.Prelude.{ℕ, List, take, Option, IfSome}
 use Rattle.std.specs.Io.KnownBytes.{Appends}
-use Rattle.nv_cli.specs.Lines.{lines_of}
-use Rattle.nv_cli.specs.Streams.{AppendsFront}
+use Rattle.nv_stream.specs.Lines.{lines_of}
+use Rattle.nv_stream.specs.Streams.{AppendsFront}
 
 -- the output that was added is a transcript of the input
 abbrev pub WritesAll : (List (List ℕ) → List ℕ → ℕ → Type 0) → Option (List ℕ) → Option (List ℕ) → Option (List ℕ) → ℕ → Type 0

@@ -10,14 +10,13 @@ ghost use Rattle.nv_cli.specs.Answering.{IsOpenInFront};
 ghost use Rattle.nv_cli.specs.Workers.{is_worker_count};
 ghost use Rattle.nv_cli.specs.Checking.{IsCheck, IsRefusal, WritesCheck, EndsCheck, FailsCheck};
 
-use crate::fault::ScriptError;
 use crate::last::{Last, how_it_went};
 use crate::part::Part;
 use crate::recovering::recover_region;
 use crate::recovery::Answer;
 use crate::texts::{part_text, refused_text};
-use crate::writing::write_text;
 use nv_region::{ImageRegion, Pmem, RegionRefusal};
+use nv_stream::{ScriptError, write_text};
 use nv_super::{SuperFault, read_super};
 use nv_text::Refusal;
 use std::alloc::{AllocError, Global};

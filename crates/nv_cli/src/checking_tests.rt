@@ -1,6 +1,6 @@
 //! Checks of a region's bytes, with all that they print and their exit statuses.
 
-use super::tests::Closing;
+use super::broken_streams::Closing;
 use super::*;
 use nv_calls::format;
 use nv_region::MemRegion;

@@ -8,12 +8,10 @@ ghost use Rattle.nv_cli.specs.Replies.{KnownReplies, RepliesTo};
 ghost use Rattle.nv_cli.specs.Sessions.{Leads};
 ghost use Rattle.nv_cli.specs.Transcript.{WritesAll, WritesFront, WritesWhole};
 
-use crate::fault::ScriptError;
-use crate::reading::{Next, read_line};
 use crate::session::Session;
 use crate::texts::bad_line_text;
-use crate::writing::write_text;
 use nv_line::{Line, classify};
+use nv_stream::{Next, ScriptError, read_line, write_text};
 use std::alloc::Global;
 use std::io::{BufReader, Read, Write};
 use std::thread::Threads;

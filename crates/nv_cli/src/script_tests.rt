@@ -1,7 +1,7 @@
 //! Scripts with all that they print and their exit statuses.
 
+use super::broken_streams::{Closing, Failing};
 use super::damage_tests::{JOURNALS, LOGS, NAMES, REPLAYED};
-use super::tests::{Closing, Failing};
 use super::*;
 use std::process::Abort;
 use std::test::Fail;

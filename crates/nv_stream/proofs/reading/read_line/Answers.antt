@@ -1,6 +1,6 @@
 use Rattle.std.proofs.Common.{arith, rules}
-use Rattle.nv_cli.proofs.LineLemmas.{takes_ended, takes_last, takes_none, takes_long}
-use Rattle.nv_cli.proofs.reading.read_line.Goals as goal
+use Rattle.nv_stream.proofs.LineLemmas.{takes_ended, takes_last, takes_none, takes_long}
+use Rattle.nv_stream.proofs.reading.read_line.Goals as goal
 
 pub returns-in-Some-eq10-clause-ok : goal.returns-in-Some-eq10-clause-ok
 returns-in-Some-eq10-clause-ok g c = takes_ended _ _ _ c.bytes.line.items c.bytes.invariant.1 (omega arith) c.bytes.invariant.0 (rw (c.in-Some-eq10.is, c.in-Some-eq10.field-0-test) at c.in_ok-next_byte.ensures.ok)

@@ -2,7 +2,7 @@
 
 ghost use Rattle.std.specs.Prelude.{◌≡◌, ◌≤◌, length, take, OnOk, OnErr, IfOk, IfErr};
 ghost use Rattle.std.specs.Io.KnownBytes.{Appends, Keeps};
-ghost use Rattle.nv_cli.specs.Streams.{AppendsFront};
+ghost use Rattle.nv_stream.specs.Streams.{AppendsFront};
 
 use crate::fault::ScriptError;
 use std::io::{ErrorKind, Write};

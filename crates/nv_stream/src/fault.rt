@@ -1,7 +1,7 @@
 //! What ends a script before its last line.
 
 ghost use Rattle.std.specs.Prelude.{◌≡◌};
-ghost use Rattle.nv_cli.specs.declared.fault.ScriptError.TheVariants.{Memory};
+ghost use Rattle.nv_stream.specs.declared.fault.ScriptError.TheVariants.{Memory};
 
 use std::alloc::{AllocError, AllocFailed};
 use thiserror::Error;

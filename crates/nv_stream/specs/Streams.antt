@@ -1,10 +1,10 @@
 -- What a call takes from a reader and adds to a writer, where their bytes are known.
 use Rattle.std.specs.Prelude.{◌≡◌, ℕ, ◌<◌, ◌≤◌, List, [], ◌∷◌, length, take, Option, Some, None}
 use Rattle.std.specs.Io.KnownBytes.{Appends, Consumes, IsAtEnd}
-use Rattle.nv_cli.specs.Known.{IfKnown}
-use Rattle.nv_cli.specs.Lines.{lines_of, line_limit}
-use Rattle.nv_cli.specs.declared.reading.Next.{Next}
-use Rattle.nv_cli.specs.declared.reading.Next.TheVariants.{Line, TooLong, End}
+use Rattle.nv_stream.specs.Known.{IfKnown}
+use Rattle.nv_stream.specs.Lines.{lines_of, line_limit}
+use Rattle.nv_stream.specs.declared.reading.Next.{Next}
+use Rattle.nv_stream.specs.declared.reading.Next.TheVariants.{Line, TooLong, End}
 
 -- known bytes lose their first one, or there was none
 abbrev pub GivesByte : Option (List ℕ) → Option (List ℕ) → Option ℕ → Type 0

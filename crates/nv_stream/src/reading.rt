@@ -5,8 +5,8 @@
 
 ghost use Rattle.std.specs.Prelude.{◌≡◌, ◌≢◌, ◌≤◌, IfOk, IfErr, IsErrOf};
 ghost use Rattle.std.specs.Vec.{vec_capacity};
-ghost use Rattle.nv_cli.specs.Lines.{line_limit};
-ghost use Rattle.nv_cli.specs.Streams.{GivesByte, TakesKnownLine};
+ghost use Rattle.nv_stream.specs.Lines.{line_limit};
+ghost use Rattle.nv_stream.specs.Streams.{GivesByte, TakesKnownLine};
 
 use crate::fault::ScriptError;
 use std::io::{ErrorKind, Read};

@@ -7,13 +7,13 @@ use std::test::Fail;
 
 // Gives a byte at every second call, interrupts the calls between, and fails at its end.
 #[derive(Drop)]
-pub struct Failing {
+struct Failing {
     bytes: &'static [u8],
     interrupts: bool,
 }
 
 impl Failing {
-    pub fn new(bytes: &'static [u8]) -> Failing {
+    fn new(bytes: &'static [u8]) -> Failing {
         Failing {
             bytes,
             interrupts: false,
@@ -39,14 +39,14 @@ impl Read for Failing {
 
 // Takes two bytes at a time at every second call, interrupts the calls between, and is closed after `room` bytes.
 #[derive(Drop)]
-pub struct Closing {
+struct Closing {
     taken: Vec<u8>,
     room: usize,
     interrupts: bool,
 }
 
 impl Closing {
-    pub fn new(alloc: Global, room: usize) -> Closing {
+    fn new(alloc: Global, room: usize) -> Closing {
         Closing {
             taken: Vec::new(alloc),
             room,
@@ -54,7 +54,7 @@ impl Closing {
         }
     }
 
-    pub fn taken(&self) -> &[u8] {
+    fn taken(&self) -> &[u8] {
         &self.taken
     }
 }

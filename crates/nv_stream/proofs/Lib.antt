@@ -1,0 +1,4 @@
+pub mod Plain
+pub mod KnownFacts
+pub mod LineLemmas
+pub mod StreamLemmas
