@@ -14,3 +14,5 @@ pub use Rattle.nv_super.specs.Super
 pub use Rattle.nv_super.specs.Layout
 pub use Rattle.nv_calls.specs.Format
 pub use Rattle.nv_outcome.specs.Outcome
+pub use Rattle.nv_stream.specs.Lines
+pub use Rattle.nv_stream.specs.Streams
