@@ -4,7 +4,7 @@ ghost use Rattle.std.specs.Prelude.{◌≡◌, ◌+◌, ◌<◌, ◌≤◌, IfOk
 ghost use Rattle.nv_super.specs.Owners.{MayOwn};
 ghost use Rattle.nv_claimcore.specs.Claims.{nothing, both_views};
 
-use crate::{ClaimMap, ClaimSeat};
+use crate::{ClaimMap, ClaimSeat, Claimed};
 use nv_claimcore::Sizes;
 use nv_super::{Owner, Run};
 use std::alloc::{AllocError, Global};
@@ -56,93 +56,96 @@ fn joined(map: &ClaimMap, one: ClaimSeat, other: ClaimSeat) -> Result<ClaimSeat,
     }
 }
 
-// Claims a run. A refusal makes no step, so a second try has the same answer.
-fn claimed(map: &ClaimMap, seat: &mut ClaimSeat, run: Run, owner: Owner) -> Result<(), AllocError>
-    requires own { seat.old.map ≡ map.now }
-    requires run { (run.start + run.count ≤ map.now.sizes.blocks) × MayOwn owner run.count }
-    ensures { (seat.new.map ≡ seat.old.map) × (seat.new.view.seats ≡ seat.old.view.seats) }
+// A map with one seat.
+fn opened_for_one(
+    alloc: Global,
+    blocks: u64,
+    tickets: u64,
+) -> Result<(ClaimMap, ClaimSeat), AllocError>
+    requires { tickets < 1000000 }
+    ensures { IfOk result (λ r. (r.1.map ≡ r.0) × (r.1.view ≡ nothing 1) × (r.0.sizes.blocks ≡ blocks) × (r.0.sizes.workers ≡ 1)) }
 {
-    match map.claim(seat, run, owner) {
-        Ok(()) => Ok(()),
-        Err(AllocError) => map.claim(seat, run, owner),
+    let (map, mut seats) = ClaimMap::open(alloc, sizes(blocks, tickets, 1))?;
+    let Some(seat) = seats.pop() else {
+        unreachable!()
+    };
+    Ok((map, seat))
+}
+
+// Claims a run. A refusal makes no step, so a second try has the same answer.
+fn claimed(
+    map: &ClaimMap,
+    mut seat: ClaimSeat,
+    run: Run,
+    owner: Owner,
+) -> Result<ClaimSeat, AllocError>
+    requires own { seat.map ≡ map.now }
+    requires run { (run.start + run.count ≤ map.now.sizes.blocks) × MayOwn owner run.count }
+    ensures { IfOk result (λ s. (s.map ≡ seat.map) × (s.view.seats ≡ seat.view.seats)) }
+{
+    match map.claim(&mut seat, run, owner) {
+        Ok(()) => {}
+        Err(AllocError) => map.claim(&mut seat, run, owner)?,
     }
+    Ok(seat)
+}
+
+// The first page of an inode.
+const fn page_of(inode: u64) -> Owner
+    ensures { result ≡ Owner.Data inode 0 }
+{
+    Owner::Data { inode, page: 0 }
+}
+
+// The two sets of a closed map, and how many claims it has.
+fn assert_claimed(rt: &impl Abort, closed: &Claimed, first: &[u64], second: &[u64], claims: usize) {
+    assert_eq!(rt; closed.first.as_slice(), first);
+    assert_eq!(rt; closed.second.as_slice(), second);
+    assert_eq!(rt; closed.claims.len(), claims);
 }
 
 #[test]
 fn two_threads_claim_two_blocks_in_common(rt: HostRuntime) -> Result<(), Fail> {
-    let (map, mut one, mut two) = opened(rt.alloc(), 128, 2)?;
-    let (first, second) = thread::join(
+    let (map, one, two) = opened(rt.alloc(), 128, 2)?;
+    let (one, two) = thread::join(
         &rt,
-        || {
-            let done = claimed(
-                &map,
-                &mut one,
-                run(60, 11),
-                Owner::Data { inode: 2, page: 0 },
-            );
-            (one, done)
-        },
-        || {
-            let done = claimed(
-                &map,
-                &mut two,
-                run(63, 2),
-                Owner::Data { inode: 4, page: 0 },
-            );
-            (two, done)
-        },
+        || claimed(&map, one, run(60, 11), page_of(2)),
+        || claimed(&map, two, run(63, 2), page_of(4)),
     );
-    first.1?;
-    second.1?;
-    let seat = joined(&map, first.0, second.0)?;
+    let seat = joined(&map, one?, two?)?;
     let closed = map.close(seat);
-    assert_eq!(rt;
-        closed.first.as_slice(),
-        [17293822569102704640, 127].as_slice()
+    assert_claimed(
+        &rt,
+        &closed,
+        &[17293822569102704640, 127],
+        &[9223372036854775808, 1],
+        13,
     );
-    assert_eq!(rt;
-        closed.second.as_slice(),
-        [9223372036854775808, 1].as_slice()
-    );
-    assert_eq!(rt; closed.claims.len(), 13);
     Ok(())
 }
 
 #[test]
 fn a_claim_of_a_whole_word_loses_one_block(rt: HostRuntime) -> Result<(), Fail> {
-    let (map, mut one, mut two) = opened(rt.alloc(), 64, 0)?;
-    claimed(
-        &map,
-        &mut one,
-        run(0, 64),
-        Owner::Data { inode: 2, page: 0 },
-    )?;
-    claimed(
-        &map,
-        &mut two,
-        run(63, 1),
-        Owner::Data { inode: 4, page: 0 },
-    )?;
+    let (map, one, two) = opened(rt.alloc(), 64, 0)?;
+    let one = claimed(&map, one, run(0, 64), page_of(2))?;
+    let two = claimed(&map, two, run(63, 1), page_of(4))?;
     let seat = joined(&map, one, two)?;
     let closed = map.close(seat);
-    assert_eq!(rt; closed.first.as_slice(), [18446744073709551615].as_slice());
-    assert_eq!(rt; closed.second.as_slice(), [9223372036854775808].as_slice());
-    assert_eq!(rt; closed.claims.len(), 65);
+    assert_claimed(
+        &rt,
+        &closed,
+        &[18446744073709551615],
+        &[9223372036854775808],
+        65,
+    );
     Ok(())
 }
 
 #[test]
 fn the_last_block_of_a_large_map_is_claimed(rt: HostRuntime) -> Result<(), Fail> {
-    let (map, mut seats) = ClaimMap::open(rt.alloc(), sizes(262144, 1, 1))?;
-    let Some(mut seat) = seats.pop() else {
-        unreachable!()
-    };
-    claimed(
-        &map,
-        &mut seat,
-        run(262143, 1),
-        Owner::Log { inode: 1, page: 0 },
-    )?;
+    let (map, seat) = opened_for_one(rt.alloc(), 262144, 1)?;
+    let owner = Owner::Log { inode: 1, page: 0 };
+    let seat = claimed(&map, seat, run(262143, 1), owner)?;
     let closed = map.close(seat);
     assert_eq!(rt; closed.first.len(), 4096);
     assert_eq!(rt; closed.first[4095], 9223372036854775808);
@@ -152,16 +155,11 @@ fn the_last_block_of_a_large_map_is_claimed(rt: HostRuntime) -> Result<(), Fail>
 
 #[test]
 fn a_map_of_no_tickets_has_none_to_draw(rt: HostRuntime) -> Result<(), Fail> {
-    let (map, mut seats) = ClaimMap::open(rt.alloc(), sizes(128, 0, 1))?;
-    let Some(mut seat) = seats.pop() else {
-        unreachable!()
-    };
+    let (map, mut seat) = opened_for_one(rt.alloc(), 128, 0)?;
     assert!(rt; map.draw(&mut seat).is_none());
     assert!(rt; map.draw(&mut seat).is_none());
     let closed = map.close(seat);
-    assert_eq!(rt; closed.first.as_slice(), [0, 0].as_slice());
-    assert_eq!(rt; closed.second.as_slice(), [0, 0].as_slice());
-    assert_eq!(rt; closed.claims.len(), 0);
+    assert_claimed(&rt, &closed, &[0, 0], &[0, 0], 0);
     Ok(())
 }
 
@@ -187,17 +185,39 @@ fn draw_all(alloc: Global, map: &ClaimMap, seat: &mut ClaimSeat) -> Result<Vec<u
     Ok(tickets)
 }
 
-// The same in a thread, which gives the seat back.
-fn draw_in_thread(
+// A seat, and the tickets that were drawn by it.
+type Drawn = (ClaimSeat, Vec<u64>);
+
+fn drawn(alloc: Global, map: &ClaimMap, mut seat: ClaimSeat) -> Result<Drawn, AllocError>
+    requires { seat.map ≡ map.now }
+    ensures { IfOk result (λ r. (r.0.map ≡ seat.map) × (r.0.view.seats ≡ seat.view.seats)) }
+{
+    let tickets = draw_all(alloc, map, &mut seat)?;
+    Ok((seat, tickets))
+}
+
+// The two seats joined, and the tickets of both.
+fn both(map: &ClaimMap, one: Drawn, other: Drawn) -> Result<Drawn, AllocError>
+    requires { (one.0.map ≡ map.now) × (other.0.map ≡ map.now) }
+    ensures { IfOk result (λ r. (r.0.map ≡ map.now) × (r.0.view.seats ≡ one.0.view.seats + other.0.view.seats)) }
+{
+    let mut tickets = one.1;
+    tickets.extend_from_slice(&other.1)?;
+    Ok((joined(map, one.0, other.0)?, tickets))
+}
+
+fn drawn_by_two<R: Threads>(
+    rt: &R,
     alloc: Global,
     map: &ClaimMap,
-    mut seat: ClaimSeat,
-) -> (ClaimSeat, Result<Vec<u64>, AllocError>)
-    requires { seat.map ≡ map.now }
-    ensures { (result.0.map ≡ seat.map) × (result.0.view.seats ≡ seat.view.seats) }
+    one: ClaimSeat,
+    two: ClaimSeat,
+) -> Result<Drawn, AllocError>
+    requires { (one.map ≡ map.now) × (two.map ≡ map.now) }
+    ensures { IfOk result (λ r. (r.0.map ≡ map.now) × (r.0.view.seats ≡ one.view.seats + two.view.seats)) }
 {
-    let tickets = draw_all(alloc, map, &mut seat);
-    (seat, tickets)
+    let (one, two) = thread::join(rt, || drawn(alloc, map, one), || drawn(alloc, map, two));
+    both(map, one?, two?)
 }
 
 // The tickets, sorted, are the numbers from 0 on, so many of them.
@@ -209,49 +229,33 @@ fn assert_each_once(rt: &impl Abort, mut tickets: Vec<u64>, count: usize) {
     }
 }
 
-fn draw_in_two_threads<R: Threads>(
-    rt: &R,
+// A map with three seats.
+fn opened_for_three(
     alloc: Global,
-    map: &ClaimMap,
-    one: ClaimSeat,
-    two: ClaimSeat,
-) -> (
-    (ClaimSeat, Result<Vec<u64>, AllocError>),
-    (ClaimSeat, Result<Vec<u64>, AllocError>),
-)
-    requires { (one.map ≡ map.now) × (two.map ≡ map.now) }
-    ensures one { (result.0.0.map ≡ one.map) × (result.0.0.view.seats ≡ one.view.seats) }
-    ensures two { (result.1.0.map ≡ two.map) × (result.1.0.view.seats ≡ two.view.seats) }
+) -> Result<(ClaimMap, ClaimSeat, ClaimSeat, ClaimSeat), AllocError>
+    ensures map { IfOk result (λ r. r.0.sizes.workers ≡ 3) }
+    ensures one { IfOk result (λ r. (r.1.map ≡ r.0) × (r.1.view ≡ nothing 1)) }
+    ensures two { IfOk result (λ r. (r.2.map ≡ r.0) × (r.2.view ≡ nothing 1)) }
+    ensures three { IfOk result (λ r. (r.3.map ≡ r.0) × (r.3.view ≡ nothing 1)) }
 {
-    thread::join(
-        rt,
-        || draw_in_thread(alloc, map, one),
-        || draw_in_thread(alloc, map, two),
-    )
+    let (map, mut seats) = ClaimMap::open(alloc, sizes(64, 1000, 3))?;
+    let (Some(three), Some(two), Some(one)) = (seats.pop(), seats.pop(), seats.pop()) else {
+        unreachable!()
+    };
+    Ok((map, one, two, three))
 }
 
 #[test]
 fn three_threads_draw_each_ticket_once(rt: HostRuntime) -> Result<(), Fail> {
     let alloc: Global = rt.alloc();
-    let (map, mut seats) = ClaimMap::open(alloc, sizes(64, 1000, 3))?;
-    let (Some(three), Some(two), Some(one)) = (seats.pop(), seats.pop(), seats.pop()) else {
-        unreachable!()
-    };
-    let (first, (second, third)) = thread::join(
+    let (map, one, two, three) = opened_for_three(alloc)?;
+    let (first, others) = thread::join(
         &rt,
-        || draw_in_thread(alloc, &map, one),
-        || draw_in_two_threads(&rt, alloc, &map, two, three),
+        || drawn(alloc, &map, one),
+        || drawn_by_two(&rt, alloc, &map, two, three),
     );
-    let mut tickets = first.1?;
-    for ticket in second.1? {
-        tickets.push(ticket)?;
-    }
-    for ticket in third.1? {
-        tickets.push(ticket)?;
-    }
+    let (seat, tickets) = both(&map, first?, others?)?;
     assert_each_once(&rt, tickets, 1000);
-    let two_seats = joined(&map, first.0, second.0)?;
-    let seat = joined(&map, two_seats, third.0)?;
     let closed = map.close(seat);
     assert_eq!(rt; closed.claims.len(), 0);
     Ok(())
@@ -270,9 +274,7 @@ fn sixty_four_threads_draw_each_ticket_once(rt: HostRuntime) -> Result<(), Fail>
     )?;
     let mut tickets = Vec::new(alloc);
     for list in lists {
-        for ticket in list? {
-            tickets.push(ticket)?;
-        }
+        tickets.extend_from_slice(&list?)?;
     }
     assert_each_once(&rt, tickets, 1000);
     Ok(())
@@ -288,22 +290,17 @@ fn overlapping(place: u64, stride: u64) -> Run
 
 fn claim_overlapping(
     map: &ClaimMap,
-    seat: &mut ClaimSeat,
+    mut seat: ClaimSeat,
     stride: u64,
     inode: u64,
-) -> Result<(), AllocError>
-    requires { (seat.old.map ≡ map.now) × (map.now.sizes.blocks ≡ 1000) × (stride < 1000) }
-    ensures { (seat.new.map ≡ seat.old.map) × (seat.new.view.seats ≡ seat.old.view.seats) }
+) -> Result<ClaimSeat, AllocError>
+    requires { (seat.map ≡ map.now) × (map.now.sizes.blocks ≡ 1000) × (stride < 1000) }
+    ensures { IfOk result (λ s. (s.map ≡ seat.map) × (s.view.seats ≡ seat.view.seats)) }
 {
     for place in 0..300 {
-        claimed(
-            map,
-            seat,
-            overlapping(place, stride),
-            Owner::Data { inode, page: 0 },
-        )?;
+        seat = claimed(map, seat, overlapping(place, stride), page_of(inode))?;
     }
-    Ok(())
+    Ok(seat)
 }
 
 // How often the blocks of the runs of one stride stand in them.
@@ -326,32 +323,29 @@ fn is_in(words: &[u64], block: usize) -> bool {
     }
 }
 
-#[test]
-fn two_threads_that_claim_overlapping_runs_agree_with_a_plain_count(
-    rt: HostRuntime,
-) -> Result<(), Fail> {
-    let (map, mut one, mut two) = opened(rt.alloc(), 1000, 0)?;
-    let (first, second) = thread::join(
-        &rt,
-        || {
-            let done = claim_overlapping(&map, &mut one, 37, 2);
-            (one, done)
-        },
-        || {
-            let done = claim_overlapping(&map, &mut two, 53, 4);
-            (two, done)
-        },
-    );
-    first.1?;
-    second.1?;
-    let seat = joined(&map, first.0, second.0)?;
-    let closed = map.close(seat);
-    let mut counts = [0; 1000];
-    count_overlapping(&mut counts, 37);
-    count_overlapping(&mut counts, 53);
+// The sets have the blocks that are counted once or more, and twice or more.
+fn assert_counted(rt: &impl Abort, closed: &Claimed, counts: &[u64; 1000]) {
     for (block, count) in counts.iter().enumerate() {
         assert_eq!(rt; is_in(&closed.first, block), *count > 0);
         assert_eq!(rt; is_in(&closed.second, block), *count > 1);
     }
+}
+
+#[test]
+fn two_threads_that_claim_overlapping_runs_agree_with_a_plain_count(
+    rt: HostRuntime,
+) -> Result<(), Fail> {
+    let (map, one, two) = opened(rt.alloc(), 1000, 0)?;
+    let (one, two) = thread::join(
+        &rt,
+        || claim_overlapping(&map, one, 37, 2),
+        || claim_overlapping(&map, two, 53, 4),
+    );
+    let seat = joined(&map, one?, two?)?;
+    let closed = map.close(seat);
+    let mut counts = [0; 1000];
+    count_overlapping(&mut counts, 37);
+    count_overlapping(&mut counts, 53);
+    assert_counted(&rt, &closed, &counts);
     Ok(())
 }
