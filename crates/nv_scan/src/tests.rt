@@ -5,15 +5,17 @@ ghost use Rattle.nv_region.specs.Region.{HasBlocks};
 ghost use Rattle.nv_claimcore.specs.Claims.{nothing};
 
 use crate::{
-    Numbers, OpenGate, Piece, Scanner, directories_have_no_pages, files_have_no_names, inode_alone,
-    names_are_listed, one_block, one_inode, owned_blocks_are_data_blocks, scan_slot, worker,
+    Numbers, OpenGate, Piece, Row, Scanner, directories_have_no_pages, files_have_no_names,
+    inode_alone, names_are_listed, one_block, one_inode, owned_blocks_are_data_blocks, scan_slot,
+    worker,
 };
 use nv_claimcore::Sizes;
-use nv_claimmap::{ClaimMap, ClaimSeat};
+use nv_claimmap::{ClaimMap, ClaimSeat, Claimed};
 use nv_names::Target;
 use nv_region::{MemRegion, Pmem};
 use nv_super::{Fault, Kind, Owner, Super};
 use std::alloc::{AllocError, Global};
+use std::process::Abort;
 use std::test::Fail;
 
 /// One CPU, 16 blocks, one table block: the slots begin at 8192, and the data blocks are 3 to 15.
@@ -65,9 +67,18 @@ fn scan(alloc: Global, words: &[(u64, u64)]) -> Result<Piece, Fail> {
     Ok(scan_slot(alloc, &memory, &SMALL, 1)?)
 }
 
-/// How many claims and faults it has.
-fn counts(piece: &Piece) -> (usize, usize) {
-    (piece.claims.len(), piece.faults.len())
+fn assert_faults(rt: &impl Abort, piece: &Piece, told: &[Fault]) {
+    assert!(rt; piece.faults.as_slice() == told);
+}
+
+fn assert_claims(rt: &impl Abort, piece: &Piece, owned: &[(u64, Owner)]) {
+    assert!(rt; piece.claims.as_slice() == owned);
+}
+
+/// The target of the name in the piece's row.
+fn target(piece: &Piece, name: &[u8]) -> Option<Target> {
+    let row = piece.row.as_ref()?;
+    row.names.get(name)
 }
 
 /// A directory, inode 1, with one entry in block 3; and a file, inode 2, whose log in block 4 maps pages 0 and 1 to
@@ -114,189 +125,221 @@ fn opened(alloc: Global) -> Result<(ClaimMap, ClaimSeat), AllocError>
     Ok((map, seat))
 }
 
+/// A directory, inode 1, whose log in block 3 sets its mode and adds the name a.
+const ONE_NAME: [(u64, u64); 9] = [
+    (8320, 1),
+    (8328, 2),
+    (8336, 12288),
+    (8344, 12352),
+    (12288, DIRECTORY_MODE),
+    (12320, ADD),
+    (12328, 2),
+    (12336, 5),
+    (12344, 97),
+];
+
+const ITS_NUMBERS: Numbers = Numbers {
+    size: 0,
+    mode: 493,
+    owner: 0,
+    group: 0,
+    links: 1,
+    time: 5,
+};
+
+fn assert_named(rt: &impl Abort, piece: &Piece, name: &[u8], inode: u64, place: u64) {
+    assert!(rt; target(piece, name) == Some(Target { inode, place }));
+}
+
+fn assert_row(rt: &impl Abort, row: &Row) {
+    assert!(rt; row.inode == 1);
+    assert!(rt; row.kind == Kind::Directory);
+    assert!(rt; row.numbers == ITS_NUMBERS);
+    assert!(rt; row.head == 12288);
+    assert!(rt; row.tail == 12352);
+    assert!(rt; row.pages.as_slice() == [3].as_slice());
+}
+
 #[test]
 fn a_directory_has_the_name_that_its_log_adds(rt: HostRuntime) -> Result<(), Fail> {
-    let words = [
-        (8320, 1),
-        (8328, 2),
-        (8336, 12288),
-        (8344, 12352),
-        (12288, DIRECTORY_MODE),
-        (12320, ADD),
-        (12328, 2),
-        (12336, 5),
-        (12344, 97),
-    ];
-    let piece = scan(rt.alloc(), &words)?;
-    assert_eq!(rt; counts(&piece), (1, 0));
-    let row = piece.row.expect(&rt, "inode 1 is in use");
-    let numbers = Numbers {
-        size: 0,
-        mode: 493,
-        owner: 0,
-        group: 0,
-        links: 1,
-        time: 5,
-    };
-    assert_eq!(rt;
-        (row.inode, row.kind, row.numbers),
-        (1, Kind::Directory, numbers)
-    );
-    assert_eq!(rt;
-        (row.head, row.tail, row.pages.as_slice()),
-        (12288, 12352, &[3][..])
-    );
-    assert_eq!(rt;
-        row.names.get(b"a"),
-        Some(Target {
-            inode: 2,
-            place: 12320
-        })
-    );
+    let piece = scan(rt.alloc(), &ONE_NAME)?;
+    assert!(rt; piece.claims.len() == 1);
+    assert!(rt; piece.faults.is_empty());
+    assert_row(&rt, piece.row.as_ref().expect(&rt, "inode 1 is in use"));
+    assert_named(&rt, &piece, b"a", 2, 12320);
     Ok(())
 }
+
+/// A file, inode 1, with two writes out of range, and then one in range.
+const TWO_OUT_OF_RANGE: [(u64, u64); 16] = [
+    (8320, 1),
+    (8328, 1),
+    (8336, 12288),
+    (8344, 12440),
+    (12288, FILE_MODE),
+    (12320, WRITE_TWO),
+    (12328, 18446744073709551615),
+    (12336, 7),
+    (12344, 5000),
+    (12360, WRITE_TWO),
+    (12368, 262143),
+    (12376, 9),
+    (12384, 8192),
+    (12400, WRITE_ONE),
+    (12416, 7),
+    (12424, 8192),
+];
+
+const THEIR_FAULTS: [Fault; 2] = [
+    Fault::E1 {
+        inode: 1,
+        at: 12320,
+    },
+    Fault::E1 {
+        inode: 1,
+        at: 12360,
+    },
+];
+
+const OWNED_BY_THE_THIRD: [(u64, Owner); 2] = [
+    (3, Owner::Log { inode: 1, page: 0 }),
+    (7, Owner::Data { inode: 1, page: 0 }),
+];
 
 #[test]
 fn an_entry_out_of_range_is_skipped_and_the_log_read_on(rt: HostRuntime) -> Result<(), Fail> {
-    let words = [
-        (8320, 1),
-        (8328, 1),
-        (8336, 12288),
-        (8344, 12440),
-        (12288, FILE_MODE),
-        (12320, WRITE_TWO),
-        (12328, 18446744073709551615),
-        (12336, 7),
-        (12344, 5000),
-        (12360, WRITE_TWO),
-        (12368, 262143),
-        (12376, 9),
-        (12384, 8192),
-        (12400, WRITE_ONE),
-        (12416, 7),
-        (12424, 8192),
-    ];
-    let piece = scan(rt.alloc(), &words)?;
-    assert_eq!(rt;
-        piece.faults.as_slice(),
-        &[
-            Fault::E1 {
-                inode: 1,
-                at: 12320
-            },
-            Fault::E1 {
-                inode: 1,
-                at: 12360
-            }
-        ][..]
-    );
-    let owned = [
-        (3, Owner::Log { inode: 1, page: 0 }),
-        (7, Owner::Data { inode: 1, page: 0 }),
-    ];
-    assert_eq!(rt; piece.claims.as_slice(), &owned[..]);
+    let piece = scan(rt.alloc(), &TWO_OUT_OF_RANGE)?;
+    assert_faults(&rt, &piece, &THEIR_FAULTS);
+    assert_claims(&rt, &piece, &OWNED_BY_THE_THIRD);
     Ok(())
 }
 
+/// A directory, inode 1, that adds the name a twice, and removes b, which it hasn't.
+const A_TWICE: [(u64, u64); 13] = [
+    (8320, 1),
+    (8328, 2),
+    (8336, 12288),
+    (8344, 12384),
+    (12288, ADD),
+    (12296, 2),
+    (12312, 97),
+    (12320, ADD),
+    (12328, 4),
+    (12344, 97),
+    (12352, REMOVE),
+    (12360, 2),
+    (12376, 98),
+];
+
+const TOLD_OF_NAMES: [Fault; 2] = [
+    Fault::E3 {
+        inode: 1,
+        at: 12320,
+    },
+    Fault::E4 {
+        inode: 1,
+        at: 12352,
+    },
+];
+
 #[test]
 fn a_second_add_is_told_and_holds(rt: HostRuntime) -> Result<(), Fail> {
-    let words = [
-        (8320, 1),
-        (8328, 2),
-        (8336, 12288),
-        (8344, 12384),
-        (12288, ADD),
-        (12296, 2),
-        (12312, 97),
-        (12320, ADD),
-        (12328, 4),
-        (12344, 97),
-        (12352, REMOVE),
-        (12360, 2),
-        (12376, 98),
-    ];
-    let piece = scan(rt.alloc(), &words)?;
-    let told = [
-        Fault::E3 {
-            inode: 1,
-            at: 12320,
-        },
-        Fault::E4 {
-            inode: 1,
-            at: 12352,
-        },
-    ];
-    assert_eq!(rt; piece.faults.as_slice(), &told[..]);
-    let row = piece.row.expect(&rt, "inode 1 is in use");
-    assert_eq!(rt;
-        row.names.get(b"a"),
-        Some(Target {
-            inode: 4,
-            place: 12320
-        })
-    );
-    assert_eq!(rt; row.names.get(b"b"), None);
+    let piece = scan(rt.alloc(), &A_TWICE)?;
+    assert_faults(&rt, &piece, &TOLD_OF_NAMES);
+    assert_named(&rt, &piece, b"a", 4, 12320);
+    assert!(rt; target(&piece, b"b").is_none());
     Ok(())
+}
+
+/// The valid word and the kind of a slot out of use, and the fault that is told.
+const OUT_OF_USE: [(u64, u64, Option<Fault>); 3] = [
+    (0, 0, None),
+    (2, 1, Some(Fault::I1 { inode: 1 })),
+    (1, 3, Some(Fault::I2 { inode: 1 })),
+];
+
+fn assert_out_of_use(rt: &impl Abort, piece: &Piece, told: Option<Fault>) {
+    assert!(rt; piece.row.is_none());
+    assert!(rt; piece.faults.first().copied() == told);
+    assert!(rt; piece.claims.is_empty());
 }
 
 #[test]
 fn slots_out_of_use_have_no_row(rt: HostRuntime) -> Result<(), Fail> {
-    let cases = [
-        ((0, 0), None),
-        ((2, 1), Some(Fault::I1 { inode: 1 })),
-        ((1, 3), Some(Fault::I2 { inode: 1 })),
-    ];
-    for ((valid, kind), told) in cases {
+    for (valid, kind, told) in OUT_OF_USE {
         let piece = scan(rt.alloc(), &[(8320, valid), (8328, kind)])?;
-        assert_eq!(rt; piece.row.is_none(), true);
-        assert_eq!(rt; piece.faults.first().copied(), told);
-        assert_eq!(rt; piece.claims.len(), 0);
+        assert_out_of_use(&rt, &piece, told);
     }
     Ok(())
+}
+
+const WRONG_HEAD: [(u64, u64); 5] = [
+    (8320, 1),
+    (8328, 2),
+    (8336, 12296),
+    (8344, 12320),
+    (8352, 9),
+];
+
+fn assert_no_log(rt: &impl Abort, row: &Row) {
+    assert!(rt; row.pages.is_empty());
+    assert!(rt; row.numbers == Numbers::new(9));
 }
 
 #[test]
 fn a_wrong_head_is_told_and_no_log_is_read(rt: HostRuntime) -> Result<(), Fail> {
-    let words = [
-        (8320, 1),
-        (8328, 2),
-        (8336, 12296),
-        (8344, 12320),
-        (8352, 9),
-    ];
-    let piece = scan(rt.alloc(), &words)?;
-    assert_eq!(rt; piece.faults.as_slice(), &[Fault::I3 { inode: 1 }][..]);
-    let row = piece.row.expect(&rt, "inode 1 is in use");
-    assert_eq!(rt; (row.pages.len(), row.numbers), (0, Numbers::new(9)));
+    let piece = scan(rt.alloc(), &WRONG_HEAD)?;
+    assert_faults(&rt, &piece, &[Fault::I3 { inode: 1 }]);
+    assert_no_log(&rt, piece.row.as_ref().expect(&rt, "inode 1 is in use"));
     Ok(())
+}
+
+/// The piece of inode 2, twice by one scanner.
+fn scanned_twice(alloc: Global) -> Result<(Piece, Piece), Fail> {
+    let memory = region(alloc, &TWO_INODES)?;
+    let mut scanner = Scanner::new(alloc, &SMALL);
+    let first = scanner.scan(&memory, 2)?;
+    let second = scanner.scan(&memory, 2)?;
+    Ok((first, second))
 }
 
 #[test]
 fn a_scanner_reads_a_log_again(rt: HostRuntime) -> Result<(), Fail> {
-    let memory = region(rt.alloc(), &TWO_INODES)?;
-    let mut scanner = Scanner::new(rt.alloc(), &SMALL);
-    let first = scanner.scan(&memory, 2)?;
-    let second = scanner.scan(&memory, 2)?;
-    assert_eq!(rt; first.claims.as_slice(), &OWNED_BY_FILE[..]);
-    assert_eq!(rt; second.claims.as_slice(), &OWNED_BY_FILE[..]);
+    let (first, second) = scanned_twice(rt.alloc())?;
+    assert_claims(&rt, &first, &OWNED_BY_FILE);
+    assert_claims(&rt, &second, &OWNED_BY_FILE);
     Ok(())
+}
+
+/// What a worker finds in the region of two inodes, and the map closed after it.
+fn worked(alloc: Global) -> Result<(Vec<Piece>, Claimed), Fail> {
+    let memory = region(alloc, &TWO_INODES)?;
+    let (map, seat) = opened(alloc)?;
+    let done = worker(alloc, &memory, &SMALL, &map, seat, &OpenGate);
+    if done.refused {
+        return Err(AllocError)?;
+    }
+    let closed = map.close(done.seat);
+    Ok((done.pieces, closed))
+}
+
+fn assert_pieces(rt: &impl Abort, pieces: &[Piece]) {
+    assert!(rt; pieces.len() == 31);
+    assert_claims(rt, &pieces[1], &OWNED_BY_FILE);
+}
+
+fn assert_closed(rt: &impl Abort, closed: &Claimed) {
+    assert!(rt; closed.first.as_slice() == [632].as_slice());
+    assert!(rt; closed.second.as_slice() == [0].as_slice());
+    assert!(rt; closed.claims.len() == 5);
+    assert!(rt; closed.claims[1..] == OWNED_BY_FILE[..]);
 }
 
 #[test]
 fn a_worker_claims_what_the_inodes_own(rt: HostRuntime) -> Result<(), Fail> {
-    let memory = region(rt.alloc(), &TWO_INODES)?;
-    let (map, seat) = opened(rt.alloc())?;
-    let done = worker(rt.alloc(), &memory, &SMALL, &map, seat, &OpenGate);
-    if done.refused {
-        return Err(AllocError)?;
-    }
-    assert_eq!(rt; done.pieces.len(), 31);
-    assert_eq!(rt; done.pieces[1].claims.as_slice(), &OWNED_BY_FILE[..]);
-    let closed = map.close(done.seat);
-    assert_eq!(rt; closed.first.as_slice(), &[632][..]);
-    assert_eq!(rt; closed.second.as_slice(), &[0][..]);
-    assert_eq!(rt; closed.claims.len(), 5);
-    assert_eq!(rt; &closed.claims[1..], &OWNED_BY_FILE[..]);
+    let (pieces, closed) = worked(rt.alloc())?;
+    assert_pieces(&rt, &pieces);
+    assert_closed(&rt, &closed);
     Ok(())
 }
 
