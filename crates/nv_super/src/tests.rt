@@ -1,9 +1,12 @@
 //! The superblock of small regions, and the order of faults.
 
+ghost use Rattle.nv_region.specs.Region.{HasBlocks};
+
 use crate::{
     Fault, Owner, Run, Super, SuperFault, read_super, sort_claims, sort_faults, write_super,
 };
 use nv_region::{MemRegion, Pmem};
+use std::process::Abort;
 use std::test::Fail;
 
 const MAGIC: u64 = 0x3130_4d50_4156_4f4e;
@@ -19,10 +22,39 @@ const TWO_CPUS: Super = Super {
 #[test]
 fn a_superblock_reads_as_it_was_written(rt: HostRuntime) -> Result<(), Fail> {
     let mut region = MemRegion::new(rt.alloc(), 64)?;
-    assert_eq!(rt; read_super(&region), Err(SuperFault::Magic));
+    assert!(rt; read_super(&region) == Err(SuperFault::Magic));
     write_super(&mut region, &TWO_CPUS)?;
     region.store(0, MAGIC)?;
-    assert_eq!(rt; read_super(&region), Ok(TWO_CPUS));
+    assert!(rt; read_super(&region) == Ok(TWO_CPUS));
+    Ok(())
+}
+
+/// Words that are stored one after another, and the fault that is told then.
+const FIRST_FAULTS: [(u64, u64, SuperFault); 5] = [
+    (40, 2, SuperFault::State),
+    (32, 31, SuperFault::Tables),
+    (24, 65, SuperFault::Blocks),
+    (16, 65, SuperFault::Cpus),
+    (8, 2, SuperFault::Version),
+];
+
+fn store(memory: &mut MemRegion, at: u64, word: u64) -> Result<(), Fail>
+    requires { HasBlocks memory.old.region 64 }
+    ensures { HasBlocks memory.new.region 64 }
+{
+    if at % 8 == 0 && at < 262_144 {
+        memory.store(at, word)?;
+    }
+    Ok(())
+}
+
+fn faults_are_told(rt: &impl Abort, memory: &mut MemRegion) -> Result<(), Fail>
+    requires { HasBlocks memory.old.region 64 }
+{
+    for (at, word, fault) in FIRST_FAULTS {
+        store(memory, at, word)?;
+        assert!(rt; read_super(memory) == Err(fault), "after word {at}");
+    }
     Ok(())
 }
 
@@ -30,19 +62,14 @@ fn a_superblock_reads_as_it_was_written(rt: HostRuntime) -> Result<(), Fail> {
 fn the_first_fault_that_applies_is_told(rt: HostRuntime) -> Result<(), Fail> {
     let mut region = MemRegion::new(rt.alloc(), 64)?;
     write_super(&mut region, &TWO_CPUS)?;
-    region.store(40, 2)?;
     region.store(0, MAGIC)?;
-    assert_eq!(rt; read_super(&region), Err(SuperFault::State));
-    region.store(32, 31)?;
-    assert_eq!(rt; read_super(&region), Err(SuperFault::Tables));
-    region.store(24, 65)?;
-    assert_eq!(rt; read_super(&region), Err(SuperFault::Blocks));
-    region.store(16, 65)?;
-    assert_eq!(rt; read_super(&region), Err(SuperFault::Cpus));
-    region.store(8, 2)?;
-    assert_eq!(rt; read_super(&region), Err(SuperFault::Version));
+    faults_are_told(&rt, &mut region)
+}
+
+#[test]
+fn a_region_that_is_too_short_is_told(rt: HostRuntime) -> Result<(), Fail> {
     let short = MemRegion::from_bytes(rt.alloc(), &[0; 100])?;
-    assert_eq!(rt; read_super(&short), Err(SuperFault::Length));
+    assert!(rt; read_super(&short) == Err(SuperFault::Length));
     Ok(())
 }
 
