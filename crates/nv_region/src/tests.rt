@@ -3,6 +3,7 @@
 mod image;
 
 ghost use Rattle.std.specs.Prelude.{◌≡◌, IfOk, length};
+ghost use Rattle.nv_region.specs.Region.{HasBlocks};
 
 use crate::{Fuse, MemRegion, Pmem, RegionRefusal, Stopped, commit_word, store_word};
 use std::alloc::{AllocError, Global};
@@ -23,7 +24,7 @@ fn counted(alloc: Global, count: u64) -> Result<Vec<u8>, AllocError>
 fn gives_back(rt: &impl Abort, alloc: Global, count: u64) -> Result<(), Fail> {
     let bytes = counted(alloc, count)?;
     let region = MemRegion::from_bytes(alloc, &bytes)?;
-    assert_eq!(rt; region.len(), count);
+    assert!(rt; region.len() == count);
     let back = region.to_bytes()?;
     assert!(rt; back.as_slice() == bytes.as_slice(), "of {count} bytes");
     Ok(())
@@ -41,7 +42,7 @@ fn bytes_of_any_length_are_given_back(rt: HostRuntime) -> Result<(), Fail> {
 fn words_are_little_endian(rt: HostRuntime) -> Result<(), Fail> {
     let bytes = [1, 2, 0, 0, 0, 0, 0, 128, 255];
     let region = MemRegion::from_bytes(rt.alloc(), &bytes)?;
-    assert_eq!(rt; region.load(0), 0x8000_0000_0000_0201);
+    assert!(rt; region.load(0) == 0x8000_0000_0000_0201);
     Ok(())
 }
 
@@ -56,43 +57,64 @@ fn no_block_and_too_many_blocks_are_refused(rt: HostRuntime) {
     );
 }
 
+fn store_three(region: &mut MemRegion) -> Result<(), Stopped>
+    requires { HasBlocks region.old.region 8 }
+    ensures { HasBlocks region.new.region 8 }
+{
+    region.store(32_760, 7)?;
+    region.fence()?;
+    commit_word(region, 0, 8)?;
+    store_word(region, 8, 9)
+}
+
 #[test]
 fn a_new_region_is_zeros_and_takes_stores(rt: HostRuntime) -> Result<(), Fail> {
     let mut region = MemRegion::new(rt.alloc(), 8)?;
-    assert_eq!(rt; region.len(), 32_768);
-    assert_eq!(rt; region.load(32_760), 0);
-    region.store(32_760, 7)?;
-    region.fence()?;
-    commit_word(&mut region, 0, 8)?;
-    store_word(&mut region, 8, 9)?;
-    assert_eq!(rt;
-        (region.load(32_760), region.load(0), region.load(8)),
-        (7, 8, 9)
-    );
+    assert!(rt; region.len() == 32_768);
+    assert!(rt; region.load(32_760) == 0);
+    store_three(&mut region)?;
+    assert!(rt; region.load(32_760) == 7);
+    assert!(rt; region.load(0) == 8);
+    assert!(rt; region.load(8) == 9);
     Ok(())
+}
+
+/// One store and one fence are taken, and no more.
+fn assert_two_are_taken(rt: &impl Abort, region: &mut MemRegion)
+    requires { HasBlocks region.old.region 8 }
+    ensures { HasBlocks region.new.region 8 }
+{
+    assert!(rt; region.store(0, 1) == Ok(()));
+    assert!(rt; region.fence() == Ok(()));
+    assert!(rt; region.store(8, 2) == Err(Stopped));
+    assert!(rt; region.fence() == Err(Stopped));
+    assert!(rt; region.load(8) == 0);
 }
 
 #[test]
 fn a_fuse_counts_stores_and_fences(rt: HostRuntime) -> Result<(), Fail> {
     let mut region = MemRegion::new(rt.alloc(), 8)?;
     region.set_fuse(Fuse::After(2));
-    region.store(0, 1)?;
-    region.fence()?;
-    assert_eq!(rt; region.store(8, 2), Err(Stopped));
-    assert_eq!(rt; region.fence(), Err(Stopped));
-    assert_eq!(rt; region.load(8), 0);
+    assert_two_are_taken(&rt, &mut region);
     region.set_fuse(Fuse::Off);
-    assert_eq!(rt; region.store(8, 2), Ok(()));
+    assert!(rt; region.store(8, 2) == Ok(()));
     Ok(())
+}
+
+fn assert_stopped_at_16(rt: &impl Abort, region: &mut MemRegion)
+    requires { HasBlocks region.old.region 8 }
+{
+    assert!(rt; region.store(8, 1) == Ok(()));
+    assert!(rt; region.fence() == Ok(()));
+    assert!(rt; region.store(16, 2) == Err(Stopped));
+    assert!(rt; region.load(8) == 1);
+    assert!(rt; region.load(16) == 0);
 }
 
 #[test]
 fn a_fuse_waits_for_its_address(rt: HostRuntime) -> Result<(), Fail> {
     let mut region = MemRegion::new(rt.alloc(), 8)?;
     region.set_fuse(Fuse::At(16));
-    region.store(8, 1)?;
-    region.fence()?;
-    assert_eq!(rt; region.store(16, 2), Err(Stopped));
-    assert_eq!(rt; (region.load(8), region.load(16)), (1, 0));
+    assert_stopped_at_16(&rt, &mut region);
     Ok(())
 }
