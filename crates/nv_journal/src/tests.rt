@@ -75,10 +75,10 @@ fn region_with(rt: HostRuntime, words: &[(u64, u64)]) -> Result<MemRegion, Regio
 fn three_records_that_wrap_are_rolled_back(rt: HostRuntime) -> Result<(), Failure> {
     let mut memory = region_with(rt, &WRAPPED)?;
     let faults = undo(rt.alloc(), &mut memory, &ONE)?;
-    assert_eq!(rt; faults.len(), 0);
-    assert_eq!(rt; memory.load(8344), 12320);
-    assert_eq!(rt; memory.load(8336), 12288);
-    assert_eq!(rt; memory.load(4096), 1);
+    assert!(rt; faults.len() == 0);
+    assert!(rt; memory.load(8344) == 12320);
+    assert!(rt; memory.load(8336) == 12288);
+    assert!(rt; memory.load(4096) == 1);
     Ok(())
 }
 
@@ -86,12 +86,12 @@ fn three_records_that_wrap_are_rolled_back(rt: HostRuntime) -> Result<(), Failur
 fn a_pointer_that_is_too_large_stays(rt: HostRuntime) -> Result<(), Failure> {
     let mut memory = region_with(rt, &[(4096, 252), (4160, 8344), (4168, 5)])?;
     let faults = undo(rt.alloc(), &mut memory, &ONE)?;
-    assert_eq!(rt; faults.as_slice(), [Fault::J1 { cpu: 0 }].as_slice());
-    assert_eq!(rt; memory.load(4096), 252);
-    assert_eq!(rt; memory.load(8344), 0);
+    assert!(rt; faults.as_slice() == [Fault::J1 { cpu: 0 }].as_slice());
+    assert!(rt; memory.load(4096) == 252);
+    assert!(rt; memory.load(8344) == 0);
     let faults = undo(rt.alloc(), &mut memory, &ONE)?;
-    assert_eq!(rt; faults.as_slice(), [Fault::J1 { cpu: 0 }].as_slice());
-    assert_eq!(rt; memory.load(4096), 252);
+    assert!(rt; faults.as_slice() == [Fault::J1 { cpu: 0 }].as_slice());
+    assert!(rt; memory.load(4096) == 252);
     Ok(())
 }
 
@@ -99,61 +99,63 @@ fn a_pointer_that_is_too_large_stays(rt: HostRuntime) -> Result<(), Failure> {
 fn an_address_that_is_not_permitted_is_skipped(rt: HostRuntime) -> Result<(), Failure> {
     let mut memory = region_with(rt, &[(4104, 1), (4160, 4096), (4168, 77)])?;
     let faults = undo(rt.alloc(), &mut memory, &ONE)?;
-    assert_eq!(rt;
-        faults.as_slice(),
-        [Fault::J2 { cpu: 0, record: 0 }].as_slice()
-    );
-    assert_eq!(rt; memory.load(4096), 1);
+    assert!(rt; faults.as_slice() == [Fault::J2 { cpu: 0, record: 0 }].as_slice());
+    assert!(rt; memory.load(4096) == 1);
     let faults = undo(rt.alloc(), &mut memory, &ONE)?;
-    assert_eq!(rt; faults.len(), 0);
-    assert_eq!(rt; memory.load(4096), 1);
+    assert!(rt; faults.len() == 0);
+    assert!(rt; memory.load(4096) == 1);
     Ok(())
 }
+
+// Records 251 and 0 of the first journal name words that none may, and a pointer of the second is too large.
+const FAULTY: [(u64, u64); 5] = [
+    (4096, 251),
+    (4104, 1),
+    (8176, 12416 + 8),
+    (4160, 12416 + 32),
+    (8200, 300),
+];
+
+const RISING: [Fault; 3] = [
+    Fault::J1 { cpu: 1 },
+    Fault::J2 { cpu: 0, record: 0 },
+    Fault::J2 {
+        cpu: 0,
+        record: 251,
+    },
+];
 
 #[test]
 fn faults_rise_by_class_and_then_by_record(rt: HostRuntime) -> Result<(), Failure> {
-    let words = [
-        (4096, 251),
-        (4104, 1),
-        (8176, 12416 + 8),
-        (4160, 12416 + 32),
-        (8200, 300),
-    ];
-    let mut memory = region_with(rt, &words)?;
+    let mut memory = region_with(rt, &FAULTY)?;
     let faults = undo(rt.alloc(), &mut memory, &TWO)?;
-    let expected = [
-        Fault::J1 { cpu: 1 },
-        Fault::J2 { cpu: 0, record: 0 },
-        Fault::J2 {
-            cpu: 0,
-            record: 251,
-        },
-    ];
-    assert_eq!(rt; faults.as_slice(), expected.as_slice());
+    assert!(rt; faults.as_slice() == RISING.as_slice());
     Ok(())
 }
 
+// Both journals name the head of slot 2, the second one twice.
+const NAMED_BY_BOTH: [(u64, u64); 10] = [
+    (4104, 2),
+    (4160, 12416 + 24),
+    (4168, 1),
+    (4176, 12416),
+    (4184, 2),
+    (8200, 2),
+    (8256, 12416 + 24),
+    (8264, 3),
+    (8272, 12416 + 24),
+    (8280, 4),
+];
+
 #[test]
 fn the_highest_journal_that_names_a_word_counts(rt: HostRuntime) -> Result<(), Failure> {
-    let words = [
-        (4104, 2),
-        (4160, 12416 + 24),
-        (4168, 1),
-        (4176, 12416),
-        (4184, 2),
-        (8200, 2),
-        (8256, 12416 + 24),
-        (8264, 3),
-        (8272, 12416 + 24),
-        (8280, 4),
-    ];
-    let mut memory = region_with(rt, &words)?;
+    let mut memory = region_with(rt, &NAMED_BY_BOTH)?;
     let faults = undo(rt.alloc(), &mut memory, &TWO)?;
-    assert_eq!(rt; faults.len(), 0);
-    assert_eq!(rt; memory.load(12416 + 24), 3);
-    assert_eq!(rt; memory.load(12416), 2);
-    assert_eq!(rt; memory.load(4096), 2);
-    assert_eq!(rt; memory.load(8192), 2);
+    assert!(rt; faults.len() == 0);
+    assert!(rt; memory.load(12416 + 24) == 3);
+    assert!(rt; memory.load(12416) == 2);
+    assert!(rt; memory.load(4096) == 2);
+    assert!(rt; memory.load(8192) == 2);
     Ok(())
 }
 
@@ -162,7 +164,7 @@ fn journals_with_nothing_pending_cause_no_store(rt: HostRuntime) -> Result<(), F
     let mut memory = region_with(rt, &[(4096, 7), (4104, 7), (8192, 252)])?;
     memory.set_fuse(Fuse::After(0));
     let faults = undo(rt.alloc(), &mut memory, &TWO)?;
-    assert_eq!(rt; faults.as_slice(), [Fault::J1 { cpu: 1 }].as_slice());
+    assert!(rt; faults.as_slice() == [Fault::J1 { cpu: 1 }].as_slice());
     Ok(())
 }
 
@@ -187,7 +189,7 @@ fn stopped_and_undone(rt: HostRuntime, passed: u64) -> Result<(bool, [u64; 3]), 
 fn an_undo_that_was_stopped_is_finished_by_another(rt: HostRuntime) -> Result<(), Failure> {
     for passed in 0..7 {
         let (stopped, words) = stopped_and_undone(rt, passed)?;
-        assert_eq!(rt; stopped, passed < 6);
+        assert!(rt; stopped == (passed < 6));
         assert!(rt; words == [12288, 12320, 1], "after {passed}");
     }
     one_region_is_undone();
