@@ -5,11 +5,12 @@ ghost use Rattle.nv_region.specs.Region.{HasBlocks};
 
 use crate::{RecoverError, Recovered, recover, recover_one, recover_replay};
 use nv_region::{MemRegion, Pmem};
-use nv_scan::OpenGate;
+use nv_scan::{OpenGate, Row};
 use nv_super::{Fault, Kind, MAGIC, Owner, Run, Super, SuperFault, write_super};
 use std::alloc::Global;
 use std::process::Abort;
 use std::test::Fail;
+use std::thread::Threads;
 
 /// One CPU, 16 blocks, one table block: the slots begin at 8192, and the data blocks are 3 to 15.
 const SMALL: Super = Super {
@@ -65,25 +66,33 @@ fn store(memory: &mut MemRegion, at: u64, word: u64) -> Result<(), Fail>
     Ok(())
 }
 
+fn assert_root_row(rt: &impl Abort, row: &Row) {
+    assert!(rt; row.inode == 1);
+    assert!(rt; row.kind == Kind::Directory);
+    assert!(rt; row.head == 12288);
+    assert!(rt; row.tail == 12320);
+    assert!(rt; row.numbers.mode == 493);
+}
+
+/// One pool, of the blocks 4 to 15.
+fn assert_free(rt: &impl Abort, lists: &[Vec<Run>]) {
+    assert!(rt; lists.len() == 1);
+    let pool = lists.first().expect(rt, "there is a pool");
+    let free = Run {
+        start: 4,
+        count: 12,
+    };
+    assert!(rt; pool.as_slice() == [free].as_slice());
+}
+
 /// The root alone: its row, the blocks 4 to 15 free, nothing doubled and nothing wrong.
 fn assert_root_alone(rt: &impl Abort, answer: &Recovered) -> Result<(), Fail> {
-    assert_eq!(rt; answer.sup, SMALL);
-    assert_eq!(rt; answer.rows.len(), 1);
-    let row = answer.rows.first().expect(rt, "there is a row");
-    assert_eq!(rt; (row.inode, row.kind), (1, Kind::Directory));
-    assert_eq!(rt; (row.head, row.tail), (12288, 12320));
-    assert_eq!(rt; row.numbers.mode, 493);
-    let lists = answer.free.lists()?;
-    assert_eq!(rt; lists.len(), 1);
-    assert_eq!(rt;
-        lists.first().expect(rt, "there is a pool").as_slice(),
-        [Run {
-            start: 4,
-            count: 12
-        }]
-        .as_slice()
-    );
-    assert_eq!(rt; (answer.doubled.len(), answer.faults.len()), (0, 0));
+    assert!(rt; answer.sup == SMALL);
+    assert!(rt; answer.rows.len() == 1);
+    assert_root_row(rt, answer.rows.first().expect(rt, "there is a row"));
+    assert!(rt; answer.doubled.is_empty());
+    assert!(rt; answer.faults.is_empty());
+    assert_free(rt, &answer.free.lists()?);
     Ok(())
 }
 
@@ -94,12 +103,20 @@ fn the_root_alone_on_one_thread(rt: HostRuntime) -> Result<(), Fail> {
     assert_root_alone(&rt, &answer)
 }
 
+fn root_by_workers<R: Threads + Abort + Sync>(
+    rt: &R,
+    alloc: Global,
+    workers: u64,
+) -> Result<(), Fail> {
+    let mut memory = region(alloc, &ROOT)?;
+    let answer = recover(rt, alloc, &mut memory, workers, &OpenGate)?;
+    assert_root_alone(rt, &answer)
+}
+
 #[test]
 fn the_root_alone_by_workers(rt: HostRuntime) -> Result<(), Fail> {
     for workers in [1, 2, 8] {
-        let mut memory = region(rt.alloc(), &ROOT)?;
-        let answer = recover(&rt, rt.alloc(), &mut memory, workers, &OpenGate)?;
-        assert_root_alone(&rt, &answer)?;
+        root_by_workers(&rt, rt.alloc(), workers)?;
     }
     Ok(())
 }
@@ -111,39 +128,68 @@ fn the_root_alone_by_a_schedule(rt: HostRuntime) -> Result<(), Fail> {
     assert_root_alone(&rt, &answer)
 }
 
+/// The log of both.
+const ITS_OWNERS: [(u64, Owner); 2] = [
+    (3, Owner::Log { inode: 1, page: 0 }),
+    (3, Owner::Log { inode: 2, page: 0 }),
+];
+
+const ITS_FAULTS: [Fault; 4] = [
+    Fault::C3 { inode: 2 },
+    Fault::C4 { inode: 2 },
+    Fault::B1 {
+        block: 3,
+        owner: Owner::Log { inode: 1, page: 0 },
+    },
+    Fault::B1 {
+        block: 3,
+        owner: Owner::Log { inode: 2, page: 0 },
+    },
+];
+
 /// The file has no name, and both inodes are told as owners of the block.
 fn assert_shared_log(rt: &impl Abort, answer: &Recovered) {
-    let owners = [
-        (3, Owner::Log { inode: 1, page: 0 }),
-        (3, Owner::Log { inode: 2, page: 0 }),
-    ];
-    assert_eq!(rt; answer.rows.len(), 2);
-    assert_eq!(rt; answer.doubled.as_slice(), owners.as_slice());
-    let faults = [
-        Fault::C3 { inode: 2 },
-        Fault::C4 { inode: 2 },
-        Fault::B1 {
-            block: 3,
-            owner: Owner::Log { inode: 1, page: 0 },
-        },
-        Fault::B1 {
-            block: 3,
-            owner: Owner::Log { inode: 2, page: 0 },
-        },
-    ];
-    assert_eq!(rt; answer.faults.as_slice(), faults.as_slice());
+    assert!(rt; answer.rows.len() == 2);
+    assert!(rt; answer.doubled.as_slice() == ITS_OWNERS.as_slice());
+    assert!(rt; answer.faults.as_slice() == ITS_FAULTS.as_slice());
+}
+
+fn shared_log_on_one_thread(
+    rt: &impl Abort,
+    alloc: Global,
+    memory: &mut MemRegion,
+) -> Result<(), Fail> {
+    let answer = recover_one(alloc, memory)?;
+    assert_shared_log(rt, &answer);
+    Ok(())
+}
+
+fn shared_log_by_workers<R: Threads + Abort + Sync>(
+    rt: &R,
+    alloc: Global,
+    memory: &mut MemRegion,
+) -> Result<(), Fail> {
+    let answer = recover(rt, alloc, memory, 8, &OpenGate)?;
+    assert_shared_log(rt, &answer);
+    Ok(())
+}
+
+fn shared_log_by_a_schedule(
+    rt: &impl Abort,
+    alloc: Global,
+    memory: &mut MemRegion,
+) -> Result<(), Fail> {
+    let answer = recover_replay(alloc, memory, 3, &[2, 2, 1])?;
+    assert_shared_log(rt, &answer);
+    Ok(())
 }
 
 #[test]
 fn a_log_that_two_inodes_own_is_told_alike_by_all(rt: HostRuntime) -> Result<(), Fail> {
     let mut memory = region(rt.alloc(), &SHARED_LOG)?;
-    let answer = recover_one(rt.alloc(), &mut memory)?;
-    assert_shared_log(&rt, &answer);
-    let answer = recover(&rt, rt.alloc(), &mut memory, 8, &OpenGate)?;
-    assert_shared_log(&rt, &answer);
-    let answer = recover_replay(rt.alloc(), &mut memory, 3, &[2, 2, 1])?;
-    assert_shared_log(&rt, &answer);
-    Ok(())
+    shared_log_on_one_thread(&rt, rt.alloc(), &mut memory)?;
+    shared_log_by_workers(&rt, rt.alloc(), &mut memory)?;
+    shared_log_by_a_schedule(&rt, rt.alloc(), &mut memory)
 }
 
 #[test]
@@ -152,13 +198,13 @@ fn refusals_in_their_order(rt: HostRuntime) -> Result<(), Fail> {
     let mut zeros = MemRegion::new(alloc, 16)?;
     for workers in [0, 65] {
         let answer = recover(&rt, alloc, &mut zeros, workers, &OpenGate);
-        assert_eq!(rt; answer.err(), Some(RecoverError::Workers));
+        assert!(rt; answer.err() == Some(RecoverError::Workers));
     }
     let answer = recover_replay(alloc, &mut zeros, 65, &[70]);
-    assert_eq!(rt; answer.err(), Some(RecoverError::Workers));
+    assert!(rt; answer.err() == Some(RecoverError::Workers));
     let answer = recover_replay(alloc, &mut zeros, 2, &[1, 0, 2, 3]);
-    assert_eq!(rt; answer.err(), Some(RecoverError::Schedule(2)));
+    assert!(rt; answer.err() == Some(RecoverError::Schedule(2)));
     let answer = recover_one(alloc, &mut zeros);
-    assert_eq!(rt; answer.err(), Some(RecoverError::Super(SuperFault::Magic)));
+    assert!(rt; answer.err() == Some(RecoverError::Super(SuperFault::Magic)));
     Ok(())
 }
