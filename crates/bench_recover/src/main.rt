@@ -1,11 +1,14 @@
 //! Measures recovery: recovers the image at the path that the second word gives, or a region just formatted where there
 //! is none, on one thread and on 1, 2 and 4 workers, each as often as the first word says. It prints the best
-//! milliseconds of each on standard error, and what was found on standard output.
+//! milliseconds of each on standard error, with nanoseconds an inode and an entry, and what was found on standard output.
 #![tactic(auto)]
 
 ghost use Rattle.std.specs.Prelude.{◌≡◌, length};
 ghost use Rattle.nv_alloc.specs.Taking.{all_blocks};
 
+mod entries;
+
+use entries::count_entries;
 use nv_calls::format;
 use nv_recover::{RecoverError, Recovered, recover, recover_one};
 use nv_region::{MemRegion, RegionRefusal};
@@ -97,6 +100,28 @@ fn best<R: AllocGlobal + Clock + Threads + Sync>(
     Ok((least, found))
 }
 
+/// The nanoseconds of each, where so many took so many milliseconds.
+fn of_each(milliseconds: f64, count: u64) -> f64 {
+    milliseconds * 1e6 / f64::from(u32::try_from(count).unwrap_or(u32::MAX))
+}
+
+/// Prints the milliseconds of a recovery, and the nanoseconds for each of the inodes and entries that it read.
+fn tell_time<R: Eprint>(
+    rt: &R,
+    way: Threading,
+    least: f64,
+    inodes: usize,
+    entries: u64,
+) -> io::Result<()> {
+    match way {
+        Threading::One => eprint!(rt; "one thread")?,
+        Threading::Workers(workers) => eprint!(rt; "{workers} workers")?,
+    }
+    let inode = of_each(least, inodes as u64);
+    let entry = of_each(least, entries);
+    eprintln!(rt; " {least:.3} ms, {inode:.0} ns an inode, {entry:.0} ns an entry")
+}
+
 fn measure<R: AllocGlobal + Print + Eprint + Clock + Threads + Sync>(
     rt: &R,
     memory: &mut MemRegion,
@@ -104,17 +129,15 @@ fn measure<R: AllocGlobal + Print + Eprint + Clock + Threads + Sync>(
 ) -> io::Result<()> {
     for way in WAYS {
         let (least, found) = best(rt, memory, way, runs)?;
-        match way {
-            Threading::One => eprintln!(rt; "one thread {least:.3} ms")?,
-            Threading::Workers(workers) => eprintln!(rt; "{workers} workers {least:.3} ms")?,
-        }
-        match found {
-            Some(counts) => println!(rt;
-                "inodes {} free {} doubled {} faults {}",
-                counts.inodes, counts.free, counts.doubled, counts.faults
-            )?,
-            None => println!(rt; "refused")?,
-        }
+        let Some(counts) = found else {
+            return println!(rt; "refused");
+        };
+        let entries = count_entries(rt.alloc(), &*memory).unwrap_or(0);
+        tell_time(rt, way, least, counts.inodes, entries)?;
+        println!(rt;
+            "inodes {} free {} doubled {} faults {}",
+            counts.inodes, counts.free, counts.doubled, counts.faults
+        )?;
     }
     Ok(())
 }
