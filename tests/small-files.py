@@ -77,7 +77,7 @@ def put_file(image, inode, block):
 
 
 def main():
-    if len(sys.argv) != 2:
+    if len(sys.argv) != 2 or sys.argv[1].startswith("-"):
         sys.exit(__doc__)
     image = bytearray(BLOCK * BLOCKS)
     files = files_that_fit()
