@@ -1,6 +1,6 @@
 //! The check of the image in a file.
 
-ghost use Rattle.std.specs.Prelude.{◌≡◌, OnOk, OnErr, IfOk, codes};
+ghost use Rattle.std.specs.Prelude.{◌≡◌, OnOk, OnErr, IfOk, IfErr, codes};
 ghost use Rattle.std.specs.Io.KnownBytes.{Appends};
 ghost use Rattle.nv_stream.specs.Streams.{AppendsFront};
 
@@ -25,12 +25,20 @@ pub(crate) enum CheckError<'a> {
 }
 
 impl From<ScriptError> for CheckError<'_> {
+    ghost use Rattle.nova.specs.declared.check.CheckError.TheVariants.{Answer};
+
+    ghost from_gives = { λ error e. e ≡ Answer error };
+
     fn from(error: ScriptError) -> Self {
         CheckError::Answer(error)
     }
 }
 
 impl fmt::Display for CheckError<'_> {
+    ghost use Rattle.nova.specs.Errors.{check_error_text};
+
+    ghost output = { check_error_text };
+
     fn fmt<W: fmt::Write>(&self, f: &mut fmt::Formatter<W>) -> fmt::Result {
         match self {
             CheckError::CannotRead(path) => write!(f, "cannot read {path}"),
@@ -70,6 +78,7 @@ fn refuse_length<W: Write>(writer: &mut W) -> Result<u8, ScriptError>
     ensures ok { OnOk result (Appends (W.contents writer.old) (W.contents writer.new) (codes "refused S1\n")) }
     ensures err { OnErr result (AppendsFront (W.contents writer.old) (W.contents writer.new) (codes "refused S1\n")) }
     ensures status { IfOk result (λ status. status ≡ 2) }
+    ensures kind { IfErr result (λ e. e ≡ ScriptError.Write) }
 {
     write_text(writer, b"refused S1\n")?;
     Ok(2)

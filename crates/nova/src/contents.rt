@@ -28,6 +28,12 @@ pub(crate) enum Unread {
 }
 
 impl From<Error> for Unread {
+    ghost use Rattle.std.specs.Prelude.{◌≡◌};
+    ghost use Rattle.std.specs.IoError.{error_kind};
+    ghost use Rattle.nova.specs.Errors.{unread_of};
+
+    ghost from_gives = { λ error e. e ≡ unread_of (error_kind error) };
+
     fn from(error: Error) -> Unread {
         match error.kind() {
             ErrorKind::OutOfMemory => Unread::Memory,
@@ -37,6 +43,11 @@ impl From<Error> for Unread {
 }
 
 impl From<AllocError> for Unread {
+    ghost use Rattle.std.specs.Prelude.{◌≡◌};
+    ghost use Rattle.nova.specs.declared.contents.Unread.TheVariants.{Memory};
+
+    ghost from_gives = { λ _ e. e ≡ Memory };
+
     fn from(_error: AllocError) -> Unread {
         Unread::Memory
     }
