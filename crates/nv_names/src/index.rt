@@ -13,9 +13,10 @@ use std::marker::Model;
 
 /// A map from names to the inodes that they stand for and the places of their entries.
 ///
-/// It is two hash tables, of short names and of long ones, which are made for the first name: an index that never had
-/// one takes 8 bytes. Their hasher has a fixed seed, so the order and the speed of an index are the same in each run,
-/// and whoever picks the names of a directory can make them collide: then each call on it may look at every name.
+/// It is two hash tables, of short names and of long ones, which are made for the first name, so that an index that
+/// never had one stays small. Their hasher has a fixed seed, so the order and the speed of an index are the same in
+/// each run, and whoever picks the names of a directory can make them collide: then each call on it may look at every
+/// name.
 #[derive(Drop)]
 pub struct NameIndex {
     tables: Option<Box<Tables>>,
