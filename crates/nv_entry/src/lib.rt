@@ -14,7 +14,9 @@ mod writing;
 
 pub use content::{ContentFault, check_content, is_out_of_range, is_wrong_kind};
 pub use entry::{AttrEntry, Entry, LinksEntry, NameEntry, Operation, WriteEntry};
-pub use laws::{no_spelling_begins_another, one_entry_at_a_place, one_spelling};
+pub use laws::{
+    an_entry_or_none_at_a_place, no_spelling_begins_another, one_entry_at_a_place, one_spelling,
+};
 pub use name::FileName;
 pub use reading::{Framing, read_entry};
 pub use writing::{length, write_entry};
