@@ -1,12 +1,12 @@
 -- At each place an entry is spelled, or none is.
-use Rattle.std.proofs.Common.{◌≡◌, ◌≢◌, ◌⊎◌, inl, inr, ℕ, zero, suc, ◌+◌, ◌-◌, ◌*◌, ◌/◌, ◌%◌, ◌<◌, ◌≤◌, List, [], ◌++◌, length, min, get_or, refl, sym, ◌∙◌, ap, subst, arith, length-append}
+use Rattle.std.proofs.Common.{◌≡◌, ◌⊎◌, inl, inr, ℕ, zero, suc, ◌+◌, ◌-◌, ◌*◌, ◌/◌, ◌%◌, ◌<◌, ◌≤◌, List, [], ◌++◌, length, min, get_or, refl, sym, ◌∙◌, ap, arith, length-append}
 use Rattle.std.proofs.lemmas.Bool.{cases_eq, cases_lt}
 use Rattle.nv_region.specs.Region.{Region, word}
 use Rattle.nv_entry.specs.Digits.{low_bytes, high_part}
 use Rattle.nv_entry.specs.Name.{IsName}
 use Rattle.nv_entry.specs.Spelling.{first_word, operation_code, words_for, IsTextAt, IsWriteAt, IsAttrAt, IsNameAt, IsLinksAt, Stands}
 use Rattle.nv_entry.proofs.Words.{TextBelow, text_more, name_refused, fits_append, low_bytes_fit, length-low_bytes}
-use Rattle.nv_entry.proofs.ByKind.{Stands-kind, small_operation}
+use Rattle.nv_entry.proofs.ByKind.{small_operation}
 use Rattle.nv_entry.specs.declared.entry.Operation.{Operation}
 use Rattle.nv_entry.specs.declared.entry.Operation.TheVariants.{Add, Remove}
 use Rattle.nv_entry.specs.declared.entry.WriteEntry.{WriteEntry}

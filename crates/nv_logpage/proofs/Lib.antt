@@ -5,3 +5,6 @@ pub mod Once
 pub mod Local
 pub mod Longer
 pub mod DataBlocks
+pub mod RightLogs
+pub mod Readable
+pub mod Tail

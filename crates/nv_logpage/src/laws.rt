@@ -1,6 +1,6 @@
 //! Laws of reading a log.
 
-ghost use Rattle.std.specs.Prelude.{◌≡◌, List, ◌++◌, ℕ, ◌≤◌, ◌%◌, Option, None, IsTrue};
+ghost use Rattle.std.specs.Prelude.{◌≡◌, List, ◌++◌, ℕ, ◌≤◌, ◌/◌, ◌%◌, Option, None, IsTrue};
 ghost use Rattle.std.specs.List.{Contains};
 ghost use Rattle.nv_region.specs.Region.{Region};
 ghost use Rattle.nv_logpage.specs.Grows.{SamePage, GoesPast};
@@ -40,4 +40,16 @@ pub fn log_pages_are_data_blocks()
 /// The right head and tail of an inode in use meet what reading its log asks for.
 pub fn right_logs_can_be_read()
     ensures { (s : SuperValue) (head tail : ℕ) → IsTrue (is_right_log s head tail) → IsTrue (is_page_start s head) × (tail % 8 ≡ 0) × (tail % 4096 ≤ 4064) }
+{}
+
+/// Each right log has a reading, whatever the region holds.
+pub fn right_logs_have_a_reading()
+    ensures { (region : Region) (s : SuperValue) (head tail : ℕ) → IsTrue (is_right_log s head tail)
+        → (es : List PlacedValue) × (pages : List ℕ) × (x : Option EndValue) × Reads region s head tail es pages x }
+{}
+
+/// A log without a fault has its tail's page.
+pub fn a_log_has_the_page_of_its_tail()
+    ensures { (region : Region) (s : SuperValue) (head tail : ℕ) (es : List PlacedValue) (pages : List ℕ)
+        → IsTrue (is_page_start s head) → Reads region s head tail es pages None → Contains pages (tail / 4096) }
 {}

@@ -7,11 +7,12 @@ use Rattle.nv_super.specs.Layout.{system_blocks, slot_address, slot_of, fixed_la
 use Rattle.nv_super.specs.declared.superblock.Super.{Super}
 
 -- the slot of an inode in a fixed table
-record IsSlot (s : Super) (i a : ℕ) : Type 0 where
+pub record IsSlot (s : Super) (i a : ℕ) : Type 0 where
   pub low : i / s.cpus < 32 * s.table_blocks
   pub is : a ≡ slot_address s i
 
-slot_is : (s : Super) (i a : ℕ) → slot_of (fixed_layout s) i ≡ Some a → IsSlot s i a
+-- from a slot to its place in the table of its CPU
+pub slot_is : (s : Super) (i a : ℕ) → slot_of (fixed_layout s) i ≡ Some a → IsSlot s i a
 slot_is s i a = at (i == 0) where
   further : (b : Bool) → nat_lt (i / s.cpus) (32 * s.table_blocks) ≡ b
       → (if b then Some (slot_address s i) else extra_slot ((i / s.cpus - 32 * s.table_blocks) % 31) (slice_get (chain_of (fixed_layout s) (i % s.cpus)) ((i / s.cpus - 32 * s.table_blocks) / 31))) ≡ Some a → IsSlot s i a
