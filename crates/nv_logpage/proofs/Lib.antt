@@ -8,3 +8,4 @@ pub mod DataBlocks
 pub mod RightLogs
 pub mod Readable
 pub mod Tail
+pub mod Places

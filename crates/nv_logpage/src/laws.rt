@@ -1,11 +1,11 @@
 //! Laws of reading a log.
 
-ghost use Rattle.std.specs.Prelude.{◌≡◌, List, ◌++◌, ℕ, ◌≤◌, ◌/◌, ◌%◌, Option, None, IsTrue};
-ghost use Rattle.std.specs.List.{Contains};
+ghost use Rattle.std.specs.Prelude.{◌≡◌, List, ◌++◌, ℕ, ◌≤◌, ◌/◌, ◌%◌, eqb, Option, None, IsTrue};
+ghost use Rattle.std.specs.List.{Contains, IsDistinct};
 ghost use Rattle.nv_region.specs.Region.{Region};
 ghost use Rattle.nv_logpage.specs.Grows.{SamePage, GoesPast};
 ghost use Rattle.nv_logpage.specs.DataBlocks.{AreDataBlocks};
-ghost use Rattle.nv_logpage.specs.Reads.{Reads, ReadsOn};
+ghost use Rattle.nv_logpage.specs.Reads.{Reads, ReadsOn, places_of};
 ghost use Rattle.nv_inode.specs.Slot.{is_right_log};
 ghost use Rattle.nv_super.specs.Layout.{is_page_start};
 ghost use Rattle.nv_super.specs.declared.superblock.Super.{Super as SuperValue};
@@ -52,4 +52,10 @@ pub fn right_logs_have_a_reading()
 pub fn a_log_has_the_page_of_its_tail()
     ensures { (region : Region) (s : SuperValue) (head tail : ℕ) (es : List PlacedValue) (pages : List ℕ)
         → IsTrue (is_page_start s head) → Reads region s head tail es pages None → Contains pages (tail / 4096) }
+{}
+
+/// No two entries of a log stand at one place.
+pub fn entries_stand_apart()
+    ensures { (region : Region) (s : SuperValue) (head tail : ℕ) (es : List PlacedValue) (pages : List ℕ) (x : Option EndValue)
+        → IsTrue (is_page_start s head) → Reads region s head tail es pages x → IsDistinct eqb (places_of es) }
 {}

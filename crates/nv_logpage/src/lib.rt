@@ -15,8 +15,9 @@ mod walking;
 
 pub use found::{Finding, LogEnd, LogFault, Placed, Walk};
 pub use laws::{
-    a_log_has_the_page_of_its_tail, log_pages_are_data_blocks, reads_its_pages_alone,
-    reads_on_from_the_tail, reads_once, right_logs_can_be_read, right_logs_have_a_reading,
+    a_log_has_the_page_of_its_tail, entries_stand_apart, log_pages_are_data_blocks,
+    reads_its_pages_alone, reads_on_from_the_tail, reads_once, right_logs_can_be_read,
+    right_logs_have_a_reading,
 };
 pub use reader::LogReader;
 pub use walking::walk;
