@@ -1,7 +1,7 @@
 //! The name index of a directory: a finite map that recovery rebuilds from the directory's log, and that the
 //! file calls look names up in. Only `reserve`, `insert` and `list` take memory.
 
-ghost use Rattle.std.specs.Prelude.{◌≡◌, ◌+◌, ◌<◌, ◌≤◌, ◌↔◌, IsTrue, if◌then◌else◌, List, ℕ, length, map, IfOk, OnOk, OnErr, Some, None, nat_eq};
+ghost use Rattle.std.specs.Prelude.{◌≡◌, ◌+◌, ◌<◌, ◌≤◌, ◌↔◌, IsTrue, if◌then◌else◌, List, ℕ, length, map, IfOk, IsOk, OnOk, OnErr, Some, None, nat_eq};
 ghost use Rattle.std.specs.Option.{option_map};
 ghost use Rattle.std.specs.Cmp.Lexicographic.{pointwise};
 ghost use Rattle.nv_names.specs.Names.{IsName, name_at, EachOnce, ListsNames, inode_and_place, line_of};
@@ -95,12 +95,13 @@ impl NameIndex {
     }
 
     /// As `add`, where no room need have been made: the table of names of this length grows where it is full, and so
-    /// that a call adds a constant to its cost. An error leaves the names.
+    /// that a call adds a constant to its cost. An error leaves the names. Where room was made it succeeds.
     pub fn insert(&mut self, name: &[u8], inode: u64, place: u64) -> Result<(), AllocError>
         requires name { IsName name.now }
         ensures ok { OnOk result ((q : List ℕ) → name_at self.new q
             ≡ (if pointwise nat_eq q name.now then Some (inode, place) else name_at self.old q)) }
         ensures err { OnErr result ((q : List ℕ) → name_at self.new q ≡ name_at self.old q) }
+        ensures succeeds { 0 < self.old.room → IsOk result }
         ensures room { self.old.room ≤ self.new.room + 1 }
     {
         match &mut self.tables {

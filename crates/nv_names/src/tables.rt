@@ -1,6 +1,6 @@
 //! The two hash tables of a name index that has, or had, a name. Only `reserve`, `insert` and `unsorted` take memory.
 
-ghost use Rattle.std.specs.Prelude.{◌≡◌, ◌+◌, ◌<◌, ◌≤◌, ◌++◌, if◌then◌else◌, List, ℕ, length, map, IfOk, OnOk, OnErr, Some, None, nat_eq};
+ghost use Rattle.std.specs.Prelude.{◌≡◌, ◌+◌, ◌<◌, ◌≤◌, ◌++◌, if◌then◌else◌, List, ℕ, length, map, IfOk, IsOk, OnOk, OnErr, Some, None, nat_eq};
 ghost use Rattle.std.specs.Option.{option_map};
 ghost use Rattle.std.specs.Cmp.Lexicographic.{pointwise};
 ghost use Rattle.nv_names.specs.Names.{IsName, name_at, EachOnce, inode_and_place, line_of};
@@ -103,6 +103,7 @@ impl Tables {
         ensures ok { OnOk result ((q : List ℕ) → name_at self.new q
             ≡ (if pointwise nat_eq q name.now then Some (inode, place) else name_at self.old q)) }
         ensures err { OnErr result ((q : List ℕ) → name_at self.new q ≡ name_at self.old q) }
+        ensures succeeds { 0 < self.old.room → IsOk result }
         ensures room { self.old.room ≤ self.new.room + 1 }
     {
         if name.len() <= SHORT {
