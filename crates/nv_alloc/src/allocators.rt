@@ -87,10 +87,13 @@ impl Allocators {
     /// The time goes with the runs that are taken.
     pub fn take(&mut self, cpu: u64, n: u64) -> Result<Vec<Run>, AllocRefusal>
         requires cpu { cpu < self.old.sup.cpus }
-        ensures ok { IfOk result (λ runs. (n ≤ all_blocks self.old.pools) × Took self.old cpu n runs.items self.new) }
+        ensures ok { IfOk result (λ runs. Took self.old cpu n runs.items self.new) }
+        ensures enough { OnOk result (n ≤ all_blocks self.old.pools) }
         ensures leave { IfOk result (λ runs. Leave self.old n runs.items self.new) }
-        ensures err { IfErr result (λ refusal. Refuses refusal n self.old.pools × SameLists self.old self.new) }
-        ensures sound { IsSound self.old × IsSound self.new }
+        ensures err { IfErr result (λ refusal. Refuses refusal n self.old.pools) }
+        ensures unchanged { OnErr result (SameLists self.old self.new) }
+        ensures sound_before { IsSound self.old }
+        ensures sound { IsSound self.new }
     {
         take_from(self.alloc, self.pools.as_mut_slice(), cpu as usize, n)
     }
@@ -99,7 +102,8 @@ impl Allocators {
     pub fn reserve(&mut self, k: usize) -> Result<(), AllocError>
         ensures same { SameLists self.old self.new }
         ensures room { OnOk result (k ≤ self.new.room) }
-        ensures sound { IsSound self.old × IsSound self.new }
+        ensures sound_before { IsSound self.old }
+        ensures sound { IsSound self.new }
     {
         if self.room < k {
             reserve_each(self.pools.as_mut_slice(), k)?;
@@ -119,7 +123,8 @@ impl Allocators {
         ensures joined { Joins self.old run self.new }
         ensures room { self.old.room ≤ self.new.room + 1 }
         ensures empty { run.count ≡ 0 → self.new ≡ self.old }
-        ensures sound { IsSound self.old × IsSound self.new }
+        ensures sound_before { IsSound self.old }
+        ensures sound { IsSound self.new }
     {
         if !run.is_empty() {
             join_all(self.pools.as_mut_slice(), &self.sup, run);

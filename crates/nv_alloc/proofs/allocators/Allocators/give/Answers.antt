@@ -28,10 +28,12 @@ returns-then-not-is_empty-clause-joined c =
     let P : FreeLists → Type 0 = λ v. Joins v c.args.run (view_of c.self.inside.sup (with_items c.self.inside.pools c.join_all.new.pools).items (c.self.inside.room - 1)) in
     subst P c.self.view_is (gave _ c.self.inside.pools.items c.self.inside.room _ c.join_all.new.pools _ c.args.run c.self.invariant (with_items_is c.self.inside.pools c.join_all.new.pools len) c.as_mut_slice.ensures.value (omega arith) c.join_all.ensures.joined).1
 
+pub returns-then-not-is_empty-clause-sound_before : goal.returns-then-not-is_empty-clause-sound_before
+returns-then-not-is_empty-clause-sound_before c =
+    let P : FreeLists → Type 0 = λ v. IsSound v in
+    subst P c.self.view_is c.self.invariant.sound
+
 pub returns-then-not-is_empty-clause-sound : goal.returns-then-not-is_empty-clause-sound
 returns-then-not-is_empty-clause-sound c =
     let len : length c.join_all.new.pools ≡ c.self.inside.pools.len = omega arith in
-    let P : FreeLists → Type 0 = λ v. IsSound v in (
-      subst P c.self.view_is c.self.invariant.sound,
-      (gave _ c.self.inside.pools.items c.self.inside.room _ c.join_all.new.pools _ c.args.run c.self.invariant (with_items_is c.self.inside.pools c.join_all.new.pools len) c.as_mut_slice.ensures.value (omega arith) c.join_all.ensures.joined).0.sound,
-    )
+    (gave _ c.self.inside.pools.items c.self.inside.room _ c.join_all.new.pools _ c.args.run c.self.invariant (with_items_is c.self.inside.pools c.join_all.new.pools len) c.as_mut_slice.ensures.value (omega arith) c.join_all.ensures.joined).0.sound

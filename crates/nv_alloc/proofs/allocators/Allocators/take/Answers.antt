@@ -22,12 +22,14 @@ returns-clause-leave c =
     subst P c.self.view_is (took _ c.self.inside.pools.items c.self.inside.room _ c.take_from.new.pools _ c.args.cpu c.args.n c.take_from.result c.self.invariant (with_items_is c.self.inside.pools c.take_from.new.pools len) c.as_mut_slice.ensures.value (omega (arith, cpus))
     c.take_from.ensures.spare c.take_from.ensures.ok c.take_from.ensures.err).1
 
+pub returns-clause-sound_before : goal.returns-clause-sound_before
+returns-clause-sound_before c =
+    let P : FreeLists → Type 0 = λ v. IsSound v in
+    subst P c.self.view_is c.self.invariant.sound
+
 pub returns-clause-sound : goal.returns-clause-sound
 returns-clause-sound c =
     let len : length c.take_from.new.pools ≡ c.self.inside.pools.len = omega arith in
     let cpus = ap (λ (v : FreeLists). v.sup.cpus) c.self.view_is in
-    let P : FreeLists → Type 0 = λ v. IsSound v in (
-      subst P c.self.view_is c.self.invariant.sound,
-      (took _ c.self.inside.pools.items c.self.inside.room _ c.take_from.new.pools _ c.args.cpu c.args.n c.take_from.result c.self.invariant (with_items_is c.self.inside.pools c.take_from.new.pools len) c.as_mut_slice.ensures.value (omega (arith, cpus))
-          c.take_from.ensures.spare c.take_from.ensures.ok c.take_from.ensures.err).0.sound,
-    )
+    (took _ c.self.inside.pools.items c.self.inside.room _ c.take_from.new.pools _ c.args.cpu c.args.n c.take_from.result c.self.invariant (with_items_is c.self.inside.pools c.take_from.new.pools len) c.as_mut_slice.ensures.value (omega (arith, cpus))
+    c.take_from.ensures.spare c.take_from.ensures.ok c.take_from.ensures.err).0.sound
