@@ -1,15 +1,13 @@
 -- What the words of a command line ask for.
-use Rattle.std.specs.Prelude.{◌≡◌, ℕ, ◌≤◌, List, [], Option, Some, None, IfSome, codes}
+use Rattle.std.specs.Prelude.{◌≡◌, ℕ, ◌≤◌, List, [], Option, Some, None, IsTrue, codes}
 use Rattle.std.specs.Str.Parse.{IsNumeral, digits_value, without_leading_plus}
-use Rattle.clap.specs.Values.{kind_of}
 use Rattle.clap.specs.Walk.{Row, Text, first_of}
 use Rattle.clap.specs.Simple.{subcommand_of}
 use Rattle.clap.specs.Faults.{fault_of}
-use Rattle.clap.specs.declared.error.kind.ErrorKind.TheVariants.{OutOfMemory}
 use Rattle.nv_words.specs.CommandLine.{nova_app}
 use Rattle.nv_words.specs.declared.reading.Todo.{Todo}
 use Rattle.nv_words.specs.declared.reading.Todo.TheVariants.{Run, Check}
-use Rattle.nv_words.specs.declared.reading.Usage.{Usage}
+use Rattle.nv_words.specs.UsageValue.{UsageTold}
 
 -- the number of workers is 1 where none is written, and else the decimal number that is, from 1 to 64
 abbrev pub AreWorkers : Option Text → ℕ → Type 0
@@ -33,5 +31,5 @@ abbrev pub WordsSay : List Text → Todo → Type 0
 WordsSay words todo = (fault_of nova_app words ≡ []) × Says (subcommand_of nova_app words) todo
 
 -- it tells of want of memory
-abbrev pub WantsMemory : Usage → Type 0
-WantsMemory usage = IfSome usage.error (λ error. kind_of error ≡ OutOfMemory)
+abbrev pub WantsMemory : UsageTold → Type 0
+WantsMemory usage = IsTrue usage.out_of_memory

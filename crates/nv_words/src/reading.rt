@@ -1,6 +1,6 @@
 //! What the words of the command line ask for.
 
-ghost use Rattle.std.specs.Prelude.{◌↔◌, ℕ, IfOk, IfErr, IfSome, IsNone, IsTrue, option_map, map, codes};
+ghost use Rattle.std.specs.Prelude.{◌≡◌, ℕ, IfOk, IfErr, IfSome, IsNone, option_map, map, codes};
 ghost use Rattle.clap.specs.Walk.{rows_of};
 ghost use Rattle.clap.specs.Simple.{subcommand_rows_of};
 ghost use Rattle.clap.specs.Matches.{found_of};
@@ -11,6 +11,7 @@ use clap::error::ErrorKind;
 use clap::{ArgMatches, Error};
 use std::alloc::Global;
 use std::fmt;
+use std::marker::Model;
 
 /// What the program is to do.
 #[derive(Clone, Copy, Debug, PartialEq, Eq)]
@@ -28,10 +29,18 @@ pub struct Usage {
     error: Option<Error>,
 }
 
+impl Model for Usage {
+    ghost use Rattle.nv_words.specs.UsageValue.{UsageTold, told_by};
+
+    ghost Value = { UsageTold };
+
+    ghost view = { λ u. told_by u.error };
+}
+
 impl Usage {
     /// Whether memory was refused, so that the words may well ask for something.
     pub fn is_out_of_memory(&self) -> bool
-        ensures { IsTrue result ↔ WantsMemory self.now }
+        ensures { result ≡ self.now.out_of_memory }
     {
         match &self.error {
             Some(error) => error.kind() == ErrorKind::OutOfMemory,
