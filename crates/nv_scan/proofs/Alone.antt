@@ -1,19 +1,16 @@
 -- An inode is read from its slot's words and its log's pages alone.
-use Rattle.std.proofs.Common.{◌≡◌, ℕ, ◌+◌, ◌%◌, ◌≤◌, true, IsTrue, refl, arith}
+use Rattle.std.proofs.Common.{◌≡◌, ℕ, ◌+◌, ◌%◌, ◌≤◌, refl, ◌∙◌, sym, arith}
 use Rattle.std.specs.List.{Contains}
-use Rattle.std.proofs.lemmas.Bool.Decides.{nat_tests}
 use Rattle.nv_region.specs.Region.{Region, word}
-use Rattle.nv_super.specs.declared.superblock.Super.{Super}
-use Rattle.nv_super.specs.Layout.{Layout, is_page_start}
-use Rattle.nv_inode.specs.Slot.{is_right_log}
+use Rattle.nv_super.specs.Layout.{Layout}
 use Rattle.nv_logpage.specs.Grows.{SamePage}
 use Rattle.nv_logpage.proofs.Local.{ReadsOn-same}
+use Rattle.nv_logpage.proofs.RightLogs.{head_starts}
 use Rattle.nv_logpage.proofs.Steps.{start_whole}
 use Rattle.nv_scan.specs.Inode.{Log, IsInode, right, wrong}
+use Rattle.nv_scan.specs.Rows.{IsRow}
 use Rattle.nv_scan.specs.Scanned.{SameSlot}
-
-pub head_starts : (s : Super) (head tail : ℕ) → is_right_log s head tail ≡ true → IsTrue (is_page_start s head)
-head_starts s head tail h = grind (arith, nat_tests)
+use Rattle.nv_scan.specs.declared.piece.Row.{Row}
 
 pub IsInode-same : {R : Region} {l : Layout} {i a : ℕ} {log : Log} (R' : Region) → SameSlot R R' a → ((b : ℕ) → Contains log.pages b → SamePage R R' b) → IsInode R l i a log → IsInode R' l i a log
 IsInode-same {R} {l} {i} {a} {log} R' slot pages (right s k t r) =
@@ -23,3 +20,16 @@ IsInode-same {R} {l} {i} {a} {log} R' slot pages (right s k t r) =
     right s (rw (slot.valid, slot.kind) k) (rw (slot.head, slot.tail) t)
     (rw (slot.head, slot.tail) (ReadsOn-same R' pages (0, omega arith, refl) whole low r))
 IsInode-same {R} {l} {i} {a} R' slot pages (wrong s k t) = wrong s (rw (slot.valid, slot.kind) k) (rw (slot.head, slot.tail) t)
+
+-- and so is its row
+pub IsRow-same : {R : Region} {l : Layout} {a : ℕ} {log : Log} {row : Row} (R' : Region) → SameSlot R R' a → ((b : ℕ) → Contains log.pages b → SamePage R R' b) → IsRow R l a log row → IsRow R' l a log row
+IsRow-same R' slot pages is = record {
+  inode = IsInode-same R' slot pages is.inode;
+  kind = is.kind;
+  numbers = rw slot.created is.numbers;
+  head = is.head ∙ sym slot.head;
+  tail = is.tail ∙ sym slot.tail;
+  pages = is.pages;
+  index = is.index;
+  names = is.names;
+}

@@ -39,7 +39,8 @@ write_says s p e b good run same =
     let to : p < e.offset + e.count = grind (arith, nat_tests) in
     (omega arith, omega arith, omega arith)
 
-in_range : (s : Super) (k : Kind) (e : Entry) → is_good s k e ≡ true → is_out_of_range s k e ≡ false
+-- what a good entry says is in range
+pub in_range : (s : Super) (k : Kind) (e : Entry) → is_good s k e ≡ true → is_out_of_range s k e ≡ false
 in_range s k e h = second (not (is_wrong_kind e k)) (is_out_of_range s k e) h
   where
     second : (a b : Bool) → (a && not b) ≡ true → b ≡ false

@@ -1,12 +1,15 @@
 pub mod Words
 pub mod EntryFaults
+pub mod FaultsOnce
 pub mod Steps
 pub mod ReadSoFar
 pub mod Rising
 pub mod ClaimLists
 pub mod Only
 pub mod Alone
+pub mod InUse
 pub mod Blocks
+pub mod Sizes
 pub mod Pieces
 pub mod Scanning
 pub mod NamesListed

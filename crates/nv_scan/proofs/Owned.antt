@@ -8,9 +8,9 @@ use Rattle.nv_super.specs.declared.owners.Owner.{Owner}
 use Rattle.nv_super.specs.declared.owners.Owner.TheVariants as owners
 use Rattle.nv_logpage.specs.DataBlocks.{AreDataBlocks}
 use Rattle.nv_logpage.proofs.DataBlocks.{one_page, pages_are}
+use Rattle.nv_logpage.proofs.RightLogs.{head_starts}
 use Rattle.nv_scan.specs.Inode.{Log, IsInode, right, wrong}
 use Rattle.nv_scan.specs.Owners.{Owns}
-use Rattle.nv_scan.proofs.Alone.{head_starts}
 use Rattle.nv_scan.proofs.Blocks.{data_pages}
 use Rattle.nv_scan.proofs.Only.{owned_log, owned_page}
 

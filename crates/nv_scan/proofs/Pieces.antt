@@ -29,7 +29,7 @@ use Rattle.nv_radix.specs.Pages.{Pages, block_at}
 use Rattle.nv_scan.specs.State.{block_of}
 use Rattle.nv_scan.specs.Inode.{Log, IsInode, IsInUse, right, wrong, empty_log, good_of}
 use Rattle.nv_scan.specs.Owners.{Owns, by_log, by_page, inode_of, AreClaims}
-use Rattle.nv_scan.specs.Faults.{Has, IsEntryFault, IsFaultOf, i1, i2, i3, l1, l2, l3, l4, entry}
+use Rattle.nv_scan.specs.Faults.{Has, HasOnce, IsOnce, IsEntryFault, IsFaultOf, i1, i2, i3, l1, l2, l3, l4, entry}
 use Rattle.nv_scan.specs.Fold.{Holds}
 use Rattle.nv_scan.specs.Rows.{AreNumbers, IsRow, IsPiece}
 use Rattle.nv_names.specs.Names.{Names, name_at}
@@ -40,6 +40,7 @@ use Rattle.nv_scan.specs.declared.fold.Fold.{Fold}
 use Rattle.nv_scan.specs.declared.piece.Row.{Row}
 use Rattle.nv_scan.specs.declared.piece.Piece.{Piece}
 use Rattle.nv_scan.specs.declared.reading.Read.{Read}
+use Rattle.nv_scan.proofs.FaultsOnce.{IsOnce-option, IsOnce-more, end_apart, head_apart, inode_apart}
 use Rattle.nv_scan.proofs.Only.{some_is, IsInode-only, slot_in_use, kind_in_use, owned_log, owned_page}
 
 -- what a value has is what it has by another fact
@@ -91,8 +92,9 @@ module _ {R : Region} {l : Layout} {i a : ℕ} {log : Log} (is : IsInode R l i a
   pub record FaultBy (fault : Option Fault) : Type 0 where
     pub is_one : (f : Fault) → fault ≡ Some f → IsFaultOf R l i f
     pub split : (f : Fault) → IsFaultOf R l i f → IsEntryFault l.sup log.kind i log.entries f ⊎ (fault ≡ Some f)
+    pub apart : (f : Fault) → fault ≡ Some f → IsEntryFault l.sup log.kind i log.entries f → ⊥
 
-  pub faults_are : (found : List Fault) (fault : Option Fault) → FaultBy fault → Has (IsEntryFault l.sup log.kind i log.entries) found → Has (IsFaultOf R l i) (found ++ cons_option fault [])
+  faults_are : (found : List Fault) (fault : Option Fault) → FaultBy fault → Has (IsEntryFault l.sup log.kind i log.entries) found → Has (IsFaultOf R l i) (found ++ cons_option fault [])
   faults_are found None by has = rw append-nil record {
     each = λ f c. entry is (has.each f c);
     all = λ f h. elim (by.split f h) [ inl w ↦ has.all f w | inr w ↦ absurd (cc) ];
@@ -109,6 +111,12 @@ module _ {R : Region} {l : Layout} {i a : ℕ} {log : Log} (is : IsInode R l i a
       | inl w ↦ Contains-append_left found (t ∷ []) f (has.all f w)
       | inr w ↦ Contains-append_right found (t ∷ []) f (let e : t ≡ f = cc in subst (Contains (t ∷ [])) e (Contains-head t []))
     ];
+  }
+
+  pub faults_once : (found : List Fault) (fault : Option Fault) → FaultBy fault → Has (IsEntryFault l.sup log.kind i log.entries) found → IsOnce found → HasOnce (IsFaultOf R l i) (found ++ cons_option fault [])
+  faults_once found fault by has once = record {
+    has = faults_are found fault by has;
+    once = IsOnce-more found fault once (λ f e c. by.apart f e (has.each f c));
   }
 
   -- the piece of an inode in use
@@ -131,14 +139,15 @@ module _ {R : Region} {l : Layout} {i a : ℕ} {log : Log} (is : IsInode R l i a
       record {
         row = subst (λ (o : Option Row). MatchOption o (IsInUse R l p.inode → ⊥) (λ r. (r.inode ≡ p.inode) × (a : ℕ) × (log : Log) × IsRow R l a log r)) (sym of.row.1) (row.0 ∙ sym of.inode, a, log, is_row);
         claims = subst (λ (n : ℕ). AreClaims R l n p.claims.items) (sym of.inode) (claims_are pages fold.index p.claims.items same_pages holds.index of.claims);
-        faults = subst (λ (n : ℕ). Has (IsFaultOf R l n) p.faults.items) (sym of.inode) (subst (λ (fs : List Fault). Has (IsFaultOf R l i) fs) (sym of.faults) (faults_are fold.faults.items fault by holds.found));
+        faults = subst (λ (n : ℕ). HasOnce (IsFaultOf R l n) p.faults.items) (sym of.inode)
+            (subst (λ (fs : List Fault). HasOnce (IsFaultOf R l i) fs) (sym of.faults) (faults_once fold.faults.items fault by holds.found (holds.once (inode_apart is))));
       }
 
 some_one : {A : Type 0} (x y : A) → Some x ≡ Some y → x ≡ y
 some_one x y h = cc
 
 -- the valid word of a slot of a kind
-valid_one : (slot : Slot) (kind : Kind) → kind_of slot ≡ Some kind → slot.valid ≡ 1
+pub valid_one : (slot : Slot) (kind : Kind) → kind_of slot ≡ Some kind → slot.valid ≡ 1
 valid_one slot kind h = by_test (slot.valid == 1) refl h
   where
     by_test : (t : Bool) → (slot.valid == 1) ≡ t → cond t (cond (slot.kind == 1) (Some File) (cond (slot.kind == 2) (Some Directory) None)) None ≡ Some kind → slot.valid ≡ 1
@@ -184,6 +193,7 @@ pub right_faults : {R : Region} {l : Layout} {i a : ℕ} {log : Log} (is : IsIno
 right_faults {R} {l} {i} {a} {log} is t = record {
   is_one = end_is is log.fault refl;
   split = split;
+  apart = end_apart l.sup log.kind i log.entries log.fault;
 }
   where
     split : (f : Fault) → IsFaultOf R l i f → IsEntryFault l.sup log.kind i log.entries f ⊎ (fault_of_end i log.fault ≡ Some f)
@@ -201,6 +211,7 @@ pub wrong_faults : {R : Region} {l : Layout} {i a : ℕ} {log : Log} (is : IsIno
 wrong_faults {R} {l} {i} {a} {log} is none t = record {
   is_one = λ f h. (let e : faults.I3 i ≡ f = cc in subst (IsFaultOf R l i) e (i3 (slot_in_use is) (kind_in_use is) t));
   split = split;
+  apart = head_apart l.sup log.kind i log.entries;
 }
   where
     no_fault : {b : ℕ} {other : Log} {end : LogEnd} → IsInode R l i b other → other.fault ≡ Some end → ⊥
@@ -248,7 +259,7 @@ empty_piece R s i fault p layout number no_kind told one two e = record {
   row = subst (λ (o : Option Row). MatchOption o (IsInUse R l p.inode → ⊥) (λ r. (r.inode ≡ p.inode) × (a : ℕ) × (log : Log) × IsRow R l a log r)) (sym e.row)
       (subst (λ (n : ℕ). IsInUse R l n → ⊥) (sym e.inode) (λ u. unused u.2));
   claims = subst (λ (n : ℕ). AreClaims R l n p.claims.items) (sym e.inode) (subst (λ (cs : List (ℕ × Owner)). AreClaims R l i cs) (sym e.claims) none);
-  faults = subst (λ (n : ℕ). Has (IsFaultOf R l n) p.faults.items) (sym e.inode) (subst (λ (fs : List Fault). Has (IsFaultOf R l i) fs) (sym e.faults) (found fault told one two));
+  faults = subst (λ (n : ℕ). HasOnce (IsFaultOf R l n) p.faults.items) (sym e.inode) (subst (λ (fs : List Fault). HasOnce (IsFaultOf R l i) fs) (sym e.faults) (found fault told one two));
 }
   where
     l : Layout
@@ -279,8 +290,8 @@ empty_piece R s i fault p layout number no_kind told one two e = record {
     at_slot {b} h = some_is b (slot_address s i) (slot_of (fixed_layout s) i) h (slot_is s i layout number)
 
     found : (o : Option Fault) → ((f : Fault) → o ≡ Some f → IsFaultOf R (fixed_layout s) i f) → (1 < word R (slot_address s i) → o ≡ Some (faults.I1 i)) → (word R (slot_address s i) ≡ 1 → o ≡ Some (faults.I2 i))
-        → Has (IsFaultOf R (fixed_layout s) i) (cons_option o [])
-    found o told one two = record { each = each o told; all = all }
+        → HasOnce (IsFaultOf R (fixed_layout s) i) (cons_option o [])
+    found o told one two = record { has = record { each = each o told; all = all }; once = IsOnce-option o }
       where
         each : (o : Option Fault) → ((f : Fault) → o ≡ Some f → IsFaultOf R (fixed_layout s) i f) → (f : Fault) → Contains (cons_option o []) f → IsFaultOf R (fixed_layout s) i f
         each None told f c = absurd (omega (arith, c.1))

@@ -1,7 +1,9 @@
 -- What is kept, before the first entry and after one entry more.
 use Rattle.std.proofs.Common.{◌≡◌, ℕ, List, [], ◌∷◌, ◌++◌, refl, ap, sym, ◌∙◌, subst, Option, None}
+use Rattle.std.specs.List.{cons_option}
 use Rattle.nv_super.specs.declared.superblock.Super.{Super}
 use Rattle.nv_super.specs.declared.kind.Kind.{Kind}
+use Rattle.nv_super.specs.declared.faults.Fault.{Fault}
 use Rattle.nv_entry.specs.Content.{is_good}
 use Rattle.nv_logpage.specs.declared.found.Placed.{Placed}
 use Rattle.nv_logpage.specs.Good.{good_entries}
@@ -12,8 +14,9 @@ use Rattle.nv_scan.specs.Rows.{AreNumbers}
 use Rattle.nv_scan.specs.declared.fold.Fold.{Fold}
 use Rattle.nv_scan.specs.declared.numbers.Numbers.{Numbers}
 use Rattle.nv_scan.proofs.Words.{word-more}
-use Rattle.nv_scan.specs.Faults.{Has, IsEntryFault}
-use Rattle.nv_scan.proofs.EntryFaults.{found-more}
+use Rattle.nv_scan.specs.Faults.{Has, IsOnce, IsEntryFault}
+use Rattle.nv_scan.proofs.EntryFaults.{fault_behind, found-more}
+use Rattle.nv_scan.proofs.FaultsOnce.{once-more}
 
 numbers-more : (s : Super) (kind : Kind) (created : ℕ) (entries : List Placed) (x : Placed) (old new : Numbers)
     → AreNumbers created (good_entries s kind entries) old → Counts (is_good s kind x.entry) x old new → AreNumbers created (good_entries s kind (entries ++ x ∷ [])) new
@@ -37,5 +40,9 @@ Holds-more {s} {kind} {i} {created} {entries} {x} {old} {new} h t = record {
   numbers = numbers-more s kind created entries x old.numbers new.numbers h.numbers t.numbers;
   index = λ p. t.index p ∙ ap (word_after (is_good s kind x.entry) (says_block p x)) (h.index p) ∙ sym (word-more (says_block p) None s kind entries x (is_good s kind x.entry) refl);
   names = λ q. t.names q ∙ ap (word_after (is_good s kind x.entry) (says_name q x)) (h.names q) ∙ sym (word-more (says_name q) None s kind entries x (is_good s kind x.entry) refl);
-  found = subst (Has (IsEntryFault s kind i (entries ++ x ∷ []))) (sym t.found) (found-more s kind i entries x old.faults.items _ (sym (told_same s kind i (name_at old.names) (named (good_entries s kind entries)) x h.names)) h.found);
+  found = subst (Has (IsEntryFault s kind i (entries ++ x ∷ []))) (sym t.found) (found-more s kind i entries x old.faults.items _ (sym same) h.found);
+  once = λ apart. subst IsOnce (sym (t.found ∙ ap (λ (o : Option Fault). old.faults.items ++ cons_option o []) same)) (once-more s kind i entries x old.faults.items h.found h.once apart);
 }
+  where
+    same : entry_fault s kind i (name_at old.names) x ≡ fault_behind s kind i entries x
+    same = told_same s kind i (name_at old.names) (named (good_entries s kind entries)) x h.names

@@ -1,5 +1,5 @@
 -- What is wrong with one inode: its slot, its log, its entries.
-use Rattle.std.specs.Prelude.{◌≡◌, ℕ, ◌+◌, ◌<◌, List, ◌∷◌, ◌++◌, Some, None, false}
+use Rattle.std.specs.Prelude.{◌≡◌, ℕ, ◌+◌, ◌<◌, List, [], ◌∷◌, ◌++◌, Some, None, false}
 use Rattle.std.specs.List.{Contains}
 use Rattle.nv_region.specs.Region.{Region, word}
 use Rattle.nv_super.specs.declared.superblock.Super.{Super}
@@ -24,6 +24,17 @@ use Rattle.nv_scan.specs.Inode.{Log, IsInode}
 pub record Has {A : Type 0} (P : A → Type 0) (xs : List A) : Type 0 where
   pub each : (x : A) → Contains xs x → P x
   pub all : (x : A) → P x → Contains xs x
+
+-- no element stands twice
+abbrev pub IsOnce : {A : Type 0} → List A → Type 0
+IsOnce [] = Unit {0}
+IsOnce (x ∷ xs) = (Contains xs x → ⊥) × IsOnce xs
+
+-- The list has just what P holds of, once each, in any order.
+pub record HasOnce {A : Type 0} (P : A → Type 0) (xs : List A) : Type 0 where
+  pub has : Has P xs
+  pub open has use *
+  pub once : IsOnce xs
 
 -- The element stands in the list behind these.
 abbrev pub StandsBehind : {A : Type 0} → List A → List A → A → Type 0

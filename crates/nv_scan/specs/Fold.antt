@@ -1,6 +1,6 @@
 -- What is kept while a log is read.
-use Rattle.std.specs.Prelude.{◌≡◌, ℕ, Bool, if◌then◌else◌, List, [], ◌++◌, Option, Some, None, unwrap_or}
-use Rattle.std.specs.List.{cons_option}
+use Rattle.std.specs.Prelude.{◌≡◌, ℕ, eqb, Bool, if◌then◌else◌, List, [], ◌++◌, Option, Some, None, unwrap_or}
+use Rattle.std.specs.List.{cons_option, IsDistinct}
 use Rattle.nv_super.specs.declared.superblock.Super.{Super}
 use Rattle.nv_super.specs.declared.kind.Kind.{Kind}
 use Rattle.nv_super.specs.declared.faults.Fault.{Fault}
@@ -13,11 +13,12 @@ use Rattle.nv_entry.specs.declared.entry.Entry.{Entry}
 use Rattle.nv_entry.specs.declared.entry.Entry.TheVariants.{NextPage, Write, Attr, Name, Links}
 use Rattle.nv_entry.specs.Content.{content_fault, is_good}
 use Rattle.nv_logpage.specs.declared.found.Placed.{Placed}
+use Rattle.nv_logpage.specs.Reads.{places_of}
 use Rattle.nv_logpage.specs.Good.{good_entries}
 use Rattle.nv_radix.specs.Pages.{block_at}
 use Rattle.nv_names.specs.Names.{name_at}
 use Rattle.nv_scan.specs.State.{says_size, says_mode, says_owner, says_group, says_links, says_time, says_block, says_name, block_of, named}
-use Rattle.nv_scan.specs.Faults.{Has, IsEntryFault}
+use Rattle.nv_scan.specs.Faults.{Has, IsOnce, IsEntryFault}
 use Rattle.nv_scan.specs.Rows.{AreNumbers}
 use Rattle.nv_scan.specs.declared.numbers.Numbers.{Numbers}
 use Rattle.nv_scan.specs.declared.fold.Fold.{Fold}
@@ -71,9 +72,10 @@ pub record Takes (s : Super) (kind : Kind) (i : ℕ) (x : Placed) (old new : Fol
   pub names : (q : List ℕ) → name_at new.names q ≡ word_after (is_good s kind x.entry) (says_name q x) (name_at old.names q)
   pub found : new.faults.items ≡ old.faults.items ++ cons_option (entry_fault s kind i (name_at old.names) x) []
 
--- What is kept is what these entries say, and what is wrong with them.
+-- What is kept is what these entries say, and what is wrong with them, once each where no two stand at one place.
 pub record Holds (s : Super) (kind : Kind) (i created : ℕ) (entries : List Placed) (f : Fold) : Type 0 where
   pub numbers : AreNumbers created (good_entries s kind entries) f.numbers
   pub index : (p : ℕ) → block_at f.index p ≡ block_of (good_entries s kind entries) p
   pub names : (q : List ℕ) → name_at f.names q ≡ named (good_entries s kind entries) q
   pub found : Has (IsEntryFault s kind i entries) f.faults.items
+  pub once : IsDistinct eqb (places_of entries) → IsOnce f.faults.items

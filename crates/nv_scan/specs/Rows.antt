@@ -9,7 +9,7 @@ use Rattle.nv_names.specs.Names.{name_at}
 use Rattle.nv_scan.specs.State.{size_of, mode_of, owner_of, group_of, links_of, time_of, block_of, named}
 use Rattle.nv_scan.specs.Inode.{Log, IsInode, IsInUse, good_of}
 use Rattle.nv_scan.specs.Owners.{AreClaims}
-use Rattle.nv_scan.specs.Faults.{Has, IsFaultOf}
+use Rattle.nv_scan.specs.Faults.{HasOnce, IsFaultOf}
 use Rattle.nv_scan.specs.declared.numbers.Numbers.{Numbers}
 use Rattle.nv_scan.specs.declared.piece.Row.{Row}
 use Rattle.nv_scan.specs.declared.piece.Piece.{Piece}
@@ -38,4 +38,4 @@ pub record IsRow (R : Region) (l : Layout) (a : ℕ) (log : Log) (row : Row) : T
 pub record IsPiece (R : Region) (l : Layout) (p : Piece) : Type 0 where
   pub row : MatchOption p.row (IsInUse R l p.inode → ⊥) (λ row. (row.inode ≡ p.inode) × (a : ℕ) × (log : Log) × IsRow R l a log row)
   pub claims : AreClaims R l p.inode p.claims.items
-  pub faults : Has (IsFaultOf R l p.inode) p.faults.items
+  pub faults : HasOnce (IsFaultOf R l p.inode) p.faults.items

@@ -1,9 +1,9 @@
 //! Laws of what a region holds of an inode.
 
-ghost use Rattle.std.specs.Prelude.{◌≡◌, ◌<◌, ◌≤◌, ℕ, List, Some, None};
+ghost use Rattle.std.specs.Prelude.{◌≡◌, ◌↔◌, ◌*◌, ◌<◌, ◌≤◌, ℕ, List, Some, None};
 ghost use Rattle.std.specs.List.{Contains};
 ghost use Rattle.nv_region.specs.Region.{Region};
-ghost use Rattle.nv_super.specs.Layout.{Layout, system_blocks};
+ghost use Rattle.nv_super.specs.Layout.{Layout, slot_of, system_blocks};
 ghost use Rattle.nv_super.specs.declared.owners.Owner.{Owner as OwnerValue};
 ghost use Rattle.nv_logpage.specs.Grows.{SamePage};
 ghost use Rattle.nv_super.specs.Order.{Lists};
@@ -11,10 +11,14 @@ ghost use Rattle.nv_names.specs.Names.{Names, ListsNames, name_at};
 ghost use Rattle.nv_super.specs.declared.superblock.Super.{Super as SuperValue};
 ghost use Rattle.nv_logpage.specs.declared.found.Placed.{Placed as PlacedValue};
 ghost use Rattle.nv_logpage.specs.Good.{good_entries};
-ghost use Rattle.nv_scan.specs.State.{block_of, named};
-ghost use Rattle.nv_scan.specs.Inode.{Log, IsInode};
+ghost use Rattle.nv_scan.specs.State.{block_of, named, size_of};
+ghost use Rattle.nv_scan.specs.Inode.{Log, IsInode, IsInUse};
 ghost use Rattle.nv_scan.specs.Owners.{Owns};
 ghost use Rattle.nv_scan.specs.Scanned.{SameSlot};
+ghost use Rattle.nv_scan.specs.Rows.{IsRow};
+ghost use Rattle.nv_scan.specs.declared.piece.Row.{Row as RowValue};
+ghost use Rattle.nv_super.specs.declared.kind.Kind.{Kind as KindValue};
+ghost use Rattle.nv_inode.specs.Slot.{kind_at};
 
 use nv_super::Kind;
 
@@ -23,9 +27,16 @@ pub fn one_inode()
     ensures { (region : Region) (l : Layout) (i a b : ℕ) (x y : Log) → IsInode region l i a x → IsInode region l i b y → (a ≡ b) × (x ≡ y) }
 {}
 
-/// An inode is read from the words of its slot and from its log's pages alone.
+/// An inode and its row are read from the words of its slot and from its log's pages alone.
 pub fn inode_alone()
-    ensures { (region other : Region) (l : Layout) (i a : ℕ) (log : Log) → SameSlot region other a → ((b : ℕ) → Contains log.pages b → SamePage region other b) → IsInode region l i a log → IsInode other l i a log }
+    ensures log { (region other : Region) (l : Layout) (i a : ℕ) (log : Log) → SameSlot region other a → ((b : ℕ) → Contains log.pages b → SamePage region other b) → IsInode region l i a log → IsInode other l i a log }
+    ensures row { (region other : Region) (l : Layout) (a : ℕ) (log : Log) (row : RowValue) → SameSlot region other a → ((b : ℕ) → Contains log.pages b → SamePage region other b) → IsRow region l a log row → IsRow other l a log row }
+{}
+
+/// An inode is in use exactly where its number has a slot, and the slot a kind; and then it has its log there.
+pub fn in_use_by_the_slot()
+    ensures slot { (region : Region) (l : Layout) (i : ℕ) → IsInUse region l i ↔ ((a : ℕ) × (kind : KindValue) × (slot_of l i ≡ Some a) × (kind_at region a ≡ Some kind)) }
+    ensures log { (region : Region) (l : Layout) (i a : ℕ) (kind : KindValue) → slot_of l i ≡ Some a → kind_at region a ≡ Some kind → (log : Log) × (log.kind ≡ kind) × IsInode region l i a log }
 {}
 
 /// Each owner has one block.
@@ -51,4 +62,9 @@ pub fn files_have_no_names()
 /// A directory has no pages, whatever its log says.
 pub fn directories_have_no_pages()
     ensures { (s : SuperValue) (entries : List PlacedValue) (p : ℕ) → block_of (good_entries s Kind.Directory entries) p ≡ None }
+{}
+
+/// Each page of a file that maps to a block begins below the file's size.
+pub fn mapped_pages_begin_below_the_size()
+    ensures { (s : SuperValue) (kind : KindValue) (entries : List PlacedValue) (p b : ℕ) → block_of (good_entries s kind entries) p ≡ Some b → p * 4096 < size_of (good_entries s kind entries) }
 {}

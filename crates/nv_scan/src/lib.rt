@@ -21,8 +21,9 @@ mod tests;
 mod working;
 
 pub use laws::{
-    directories_have_no_pages, files_have_no_names, inode_alone, names_are_listed, one_block,
-    one_inode, owned_blocks_are_data_blocks,
+    directories_have_no_pages, files_have_no_names, in_use_by_the_slot, inode_alone,
+    mapped_pages_begin_below_the_size, names_are_listed, one_block, one_inode,
+    owned_blocks_are_data_blocks,
 };
 pub use numbers::Numbers;
 pub use piece::{Piece, Row};

@@ -1,5 +1,8 @@
-use Rattle.nv_scan.proofs.Alone.{IsInode-same}
+use Rattle.nv_scan.proofs.Alone.{IsInode-same, IsRow-same}
 use Rattle.nv_scan.proofs.laws.inode_alone.Goals as goal
 
 pub returns : goal.returns
-returns c = λ R Q l i a w slot pages h. IsInode-same Q slot pages h
+returns c = record {
+  log = λ R Q l i a w slot pages h. IsInode-same Q slot pages h;
+  row = λ R Q l a w row slot pages h. IsRow-same Q slot pages h;
+}

@@ -8,4 +8,5 @@ returns c = λ s kind i. record {
   index = c.new-2.ensures.empty;
   names = c.new-3.ensures.empty;
   found = rw c.new-4.ensures.items (found-none s kind i);
+  once = λ apart. rw c.new-4.ensures.items tt;
 }
