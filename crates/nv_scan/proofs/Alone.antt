@@ -21,12 +21,12 @@ IsInode-same {R} {l} {i} {a} {log} R' slot pages (right s k t r) =
     (rw (slot.head, slot.tail) (ReadsOn-same R' pages (0, omega arith, refl) whole low r))
 IsInode-same {R} {l} {i} {a} R' slot pages (wrong s k t) = wrong s (rw (slot.valid, slot.kind) k) (rw (slot.head, slot.tail) t)
 
--- and so is its row
-pub IsRow-same : {R : Region} {l : Layout} {a : ℕ} {log : Log} {row : Row} (R' : Region) → SameSlot R R' a → ((b : ℕ) → Contains log.pages b → SamePage R R' b) → IsRow R l a log row → IsRow R' l a log row
-IsRow-same R' slot pages is = record {
+-- and so is its row, with the creation time
+pub IsRow-same : {R : Region} {l : Layout} {a : ℕ} {log : Log} {row : Row} (R' : Region) → SameSlot R R' a → word R' (a + 32) ≡ word R (a + 32) → ((b : ℕ) → Contains log.pages b → SamePage R R' b) → IsRow R l a log row → IsRow R' l a log row
+IsRow-same R' slot created pages is = record {
   inode = IsInode-same R' slot pages is.inode;
   kind = is.kind;
-  numbers = rw slot.created is.numbers;
+  numbers = rw created is.numbers;
   head = is.head ∙ sym slot.head;
   tail = is.tail ∙ sym slot.tail;
   pages = is.pages;

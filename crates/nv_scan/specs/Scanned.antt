@@ -53,4 +53,3 @@ pub record SameSlot (R R' : Region) (a : ℕ) : Type 0 where
   pub kind : word R' (a + 8) ≡ word R (a + 8)
   pub head : word R' (a + 16) ≡ word R (a + 16)
   pub tail : word R' (a + 24) ≡ word R (a + 24)
-  pub created : word R' (a + 32) ≡ word R (a + 32)
