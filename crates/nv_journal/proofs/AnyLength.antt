@@ -101,13 +101,15 @@ module _ (permits : ℕ → Bool) (cpus : ℕ) (rule : LiesBehind permits ((1 + 
     enqueue_kept : enqueue (undo permits cpus R) k ≡ enqueue R k
     enqueue_kept = low_word (journal k + 8) (enqueue R k) (omega arith) (omega (arith, below)) (settled_enqueue R cpus k) (past_zero R (journal k + 8))
 
-    dequeue_settled : is_sound R k ≡ true → dequeue (undo permits cpus R) k ≡ enqueue R k
+    -- the dequeue number of a sound journal is its enqueue number
+    pub dequeue_settled : is_sound R k ≡ true → dequeue (undo permits cpus R) k ≡ enqueue R k
     dequeue_settled sound = low_word (journal k) (enqueue R k) (omega arith) (omega (arith, below)) (settled_sound R cpus k below sound) (λ past. past_zero R (journal k + 8) (omega (arith, past)))
 
     dequeue_kept : is_sound R k ≡ false → dequeue (undo permits cpus R) k ≡ dequeue R k
     dequeue_kept unsound = low_word (journal k) (dequeue R k) (omega arith) (omega (arith, below)) (settled_unsound R cpus k unsound) (past_zero R (journal k))
 
-    all_quiet : IsQuiet (undo permits cpus R) k
+    -- nothing is left to roll back
+    pub all_quiet : IsQuiet (undo permits cpus R) k
     all_quiet sound_after = test (is_sound R k) refl
       where
         test : (b : Bool) → is_sound R k ≡ b → dequeue (undo permits cpus R) k ≡ enqueue (undo permits cpus R) k
@@ -160,7 +162,7 @@ module _ (permits : ℕ → Bool) (cpus : ℕ) (rule : LiesBehind permits ((1 + 
   )
 
 -- where each journal is quiet, rolling back changes nothing
-quiet_same : (permits : ℕ → Bool) (cpus : ℕ) → LiesBehind permits ((1 + cpus) * 4096) → (R : Region) → ((j : ℕ) → j < cpus → IsQuiet R j) → undo permits cpus R ≡ R
+pub quiet_same : (permits : ℕ → Bool) (cpus : ℕ) → LiesBehind permits ((1 + cpus) * 4096) → (R : Region) → ((j : ℕ) → j < cpus → IsQuiet R j) → undo permits cpus R ≡ R
 quiet_same permits cpus rule R quiet = same_region (undo permits cpus R) R as_long refl (λ i within. (
     let inside : i < length R.words = omega (arith, within, as_long) in
     let back : 8 * i / 8 ≡ i = omega arith in
