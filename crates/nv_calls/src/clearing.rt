@@ -3,7 +3,7 @@
 
 ghost use Rattle.std.specs.Prelude.{◌≡◌, ◌≤◌, ◌<◌, ◌+◌, ◌*◌, ◌%◌, ℕ, IsTrue, OnOk, OnErr};
 ghost use Rattle.nv_region.specs.Region.{HasBlocks, size, word};
-ghost use Rattle.nv_region.specs.Stops.{One, StaysSteady};
+ghost use Rattle.nv_region.specs.Stops.{One, StaysBurnt, StaysSteady};
 ghost use Rattle.nv_region.specs.Stored.{StoresOnly};
 ghost use Rattle.nv_super.specs.Layout.{IsLayout, inode_limit, slot_address};
 ghost use Rattle.nv_calls.specs.Format.{AnyAt, IsPointer, IsValidWord, IsSystemWord, IsEmptySystem};
@@ -21,6 +21,7 @@ pub fn clear_system<P: Pmem>(memory: &mut P, sup: &Super) -> Result<(), Stopped>
     ensures blocks { HasBlocks (P.region memory.new) sup.now.blocks }
     ensures wrote { StoresOnly (AnyAt (IsSystemWord sup.now)) (P.region memory.old) (P.region memory.new) (P.may_hold memory.old) (P.may_hold memory.new) }
     ensures stopped { OnErr result (IsTrue (P.has_burnt memory.new)) }
+    ensures burnt { StaysBurnt (P.has_burnt memory.old) (P.has_burnt memory.new) }
     ensures steady { StaysSteady (P.is_steady memory.old) (P.is_steady memory.new) }
 {
     write_super(memory, sup)?;
@@ -36,6 +37,7 @@ fn clear_journals<P: Pmem>(memory: &mut P, sup: &Super) -> Result<(), Stopped>
     ensures blocks { HasBlocks (P.region memory.new) sup.now.blocks }
     ensures wrote { StoresOnly (AnyAt (IsPointer sup.now)) (P.region memory.old) (P.region memory.new) (P.may_hold memory.old) (P.may_hold memory.new) }
     ensures stopped { OnErr result (IsTrue (P.has_burnt memory.new)) }
+    ensures burnt { StaysBurnt (P.has_burnt memory.old) (P.has_burnt memory.new) }
     ensures steady { StaysSteady (P.is_steady memory.old) (P.is_steady memory.new) }
 {
     for cpu in 0..sup.cpus {
@@ -55,6 +57,7 @@ fn clear_tables<P: Pmem>(memory: &mut P, sup: &Super) -> Result<(), Stopped>
     ensures blocks { HasBlocks (P.region memory.new) sup.now.blocks }
     ensures wrote { StoresOnly (AnyAt (IsValidWord sup.now)) (P.region memory.old) (P.region memory.new) (P.may_hold memory.old) (P.may_hold memory.new) }
     ensures stopped { OnErr result (IsTrue (P.has_burnt memory.new)) }
+    ensures burnt { StaysBurnt (P.has_burnt memory.old) (P.has_burnt memory.new) }
     ensures steady { StaysSteady (P.is_steady memory.old) (P.is_steady memory.new) }
 {
     let tables = (1 + sup.cpus) * BLOCK_SIZE;
@@ -73,6 +76,7 @@ fn clear_word<P: Pmem>(memory: &mut P, at: u64) -> Result<(), Stopped>
     ensures size { size (P.region memory.new) ≡ size (P.region memory.old) }
     ensures wrote { StoresOnly (One at 0) (P.region memory.old) (P.region memory.new) (P.may_hold memory.old) (P.may_hold memory.new) }
     ensures stopped { OnErr result (IsTrue (P.has_burnt memory.new)) }
+    ensures burnt { StaysBurnt (P.has_burnt memory.old) (P.has_burnt memory.new) }
     ensures steady { StaysSteady (P.is_steady memory.old) (P.is_steady memory.new) }
 {
     store_word(memory, at, 0)

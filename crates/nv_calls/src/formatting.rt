@@ -5,7 +5,7 @@
 
 ghost use Rattle.std.specs.Prelude.{◌≡◌, ◌≢◌, ◌⊎◌, ◌≤◌, ◌<◌, ◌+◌, ◌*◌, ◌%◌, IsTrue, IfOk, IfErr, IsOk, IsErrOf, OnOk, OnErr};
 ghost use Rattle.nv_region.specs.Region.{HasBlocks, size, put};
-ghost use Rattle.nv_region.specs.Stops.{NothingPending, LeavesOnly, StaysSteady};
+ghost use Rattle.nv_region.specs.Stops.{NothingPending, LeavesOnly, StaysBurnt, StaysSteady};
 ghost use Rattle.nv_region.specs.Stored.{StoresOnly, Within};
 ghost use Rattle.nv_super.specs.Layout.{IsLayout, slot_address};
 ghost use Rattle.nv_calls.specs.Format.{IsFormatRefusal, CanFormat, IsFormatted, IsLaidOut, HasRoot, AnyAt, IsSystemWord, IsRootWord, fresh_super, refusal_name, FormatIsDetermined, FormatLeaves};
@@ -78,6 +78,7 @@ pub fn format<P: Pmem>(
     ensures refused { IfErr result (λ refusal. IsFormatRefusal (P.region memory.old) cpus table_blocks refusal) }
     ensures unchanged { IfErr result (λ refusal. refusal ≢ FormatRefusal.Stopped → memory.new ≡ memory.old) }
     ensures stopped { IsErrOf result FormatRefusal.Stopped → IsTrue (P.has_burnt memory.new) }
+    ensures burnt { StaysBurnt (P.has_burnt memory.old) (P.has_burnt memory.new) }
     ensures steady_ok { IsTrue (P.is_steady memory.old) → CanFormat (P.region memory.old) cpus table_blocks → IsOk result }
     ensures steady { StaysSteady (P.is_steady memory.old) (P.is_steady memory.new) }
     ensures size { size (P.region memory.new) ≡ size (P.region memory.old) }
@@ -132,6 +133,7 @@ fn write_region<P: Pmem>(memory: &mut P, sup: &Super, time: u64) -> Result<(), S
     ensures done { OnOk result (IsFormatted (P.region memory.old) (P.region memory.new) sup.now time) }
     ensures settled { OnOk result (NothingPending (P.region memory.new) (P.may_hold memory.new)) }
     ensures stopped { OnErr result (IsTrue (P.has_burnt memory.new)) }
+    ensures burnt { StaysBurnt (P.has_burnt memory.old) (P.has_burnt memory.new) }
     ensures steady { StaysSteady (P.is_steady memory.old) (P.is_steady memory.new) }
     ensures blocks { HasBlocks (P.region memory.new) sup.now.blocks }
     ensures any_stop { NothingPending (P.region memory.old) (P.may_hold memory.old) → LeavesOnly (P.region memory.new) (P.may_hold memory.new) (FormatLeaves (P.region memory.old) sup.now time) }
@@ -150,6 +152,7 @@ fn lay_out<P: Pmem>(memory: &mut P, sup: &Super, time: u64) -> Result<(), Stoppe
     ensures blocks { HasBlocks (P.region memory.new) sup.now.blocks }
     ensures wrote { StoresOnly (AnyAt (λ a. IsSystemWord sup.now a ⊎ IsRootWord sup.now a)) (P.region memory.old) (P.region memory.new) (P.may_hold memory.old) (P.may_hold memory.new) }
     ensures stopped { OnErr result (IsTrue (P.has_burnt memory.new)) }
+    ensures burnt { StaysBurnt (P.has_burnt memory.old) (P.has_burnt memory.new) }
     ensures steady { StaysSteady (P.is_steady memory.old) (P.is_steady memory.new) }
 {
     clear_system(memory, sup)?;
@@ -164,6 +167,7 @@ fn write_root<P: Pmem>(memory: &mut P, sup: &Super, time: u64) -> Result<(), Sto
     ensures blocks { HasBlocks (P.region memory.new) sup.now.blocks }
     ensures wrote { StoresOnly (AnyAt (IsRootWord sup.now)) (P.region memory.old) (P.region memory.new) (P.may_hold memory.old) (P.may_hold memory.new) }
     ensures stopped { OnErr result (IsTrue (P.has_burnt memory.new)) }
+    ensures burnt { StaysBurnt (P.has_burnt memory.old) (P.has_burnt memory.new) }
     ensures steady { StaysSteady (P.is_steady memory.old) (P.is_steady memory.new) }
 {
     let page = BLOCK_SIZE * sup.system_blocks();
@@ -186,6 +190,7 @@ fn write_root_entry<P: Pmem>(memory: &mut P, at: u64, time: u64) -> Result<(), S
     ensures done { OnOk result (P.region memory.new ≡ put (put (put (put (P.region memory.old) at ROOT_ATTRIBUTES) (at + 8) 0) (at + 16) time) (at + 24) 0) }
     ensures wrote { StoresOnly (Within at 32) (P.region memory.old) (P.region memory.new) (P.may_hold memory.old) (P.may_hold memory.new) }
     ensures stopped { OnErr result (IsTrue (P.has_burnt memory.new)) }
+    ensures burnt { StaysBurnt (P.has_burnt memory.old) (P.has_burnt memory.new) }
     ensures steady { StaysSteady (P.is_steady memory.old) (P.is_steady memory.new) }
 {
     let _length = memory.len();

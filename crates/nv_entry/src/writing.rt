@@ -2,7 +2,7 @@
 
 ghost use Rattle.std.specs.Prelude.{◌≡◌, ◌+◌, ◌*◌, ◌/◌, ◌%◌, ◌^◌, ◌<◌, ◌≤◌, length, OnOk, is_err};
 ghost use Rattle.nv_region.specs.Region.{size};
-ghost use Rattle.nv_region.specs.Stops.{Adds, StaysSteady};
+ghost use Rattle.nv_region.specs.Stops.{Adds, StaysBurnt, StaysSteady};
 ghost use Rattle.nv_region.specs.Stored.{SameOutside, StoresOnly, Within};
 ghost use Rattle.nv_entry.specs.Text.{number_of, text_word};
 ghost use Rattle.nv_entry.specs.Spelling.{Stands, entry_length, operation_code, words_for, IsTextAt, IsNameAt, first_word};
@@ -38,6 +38,7 @@ pub fn write_entry<P: Pmem>(memory: &mut P, at: u64, entry: &Entry) -> Result<()
     ensures rest { SameOutside (P.region memory.old) at (entry_length entry.now) (P.region memory.new) }
     ensures wrote { StoresOnly (Within at (entry_length entry.now)) (P.region memory.old) (P.region memory.new) (P.may_hold memory.old) (P.may_hold memory.new) }
     ensures stopped { is_err result ≡ P.has_burnt memory.new }
+    ensures burnt { StaysBurnt (P.has_burnt memory.old) (P.has_burnt memory.new) }
     ensures steady { StaysSteady (P.is_steady memory.old) (P.is_steady memory.new) }
 {
     // The region's length is a u64, and so is each address up to it.
@@ -53,6 +54,7 @@ fn store_entry<P: Pmem>(memory: &mut P, at: u64, entry: &Entry) -> Result<(), St
     ensures rest { SameOutside (P.region memory.old) at (entry_length entry.now) (P.region memory.new) }
     ensures may_keep { Adds (Within at (entry_length entry.now)) (P.may_hold memory.old) (P.may_hold memory.new) }
     ensures stopped { is_err result ≡ P.has_burnt memory.new }
+    ensures burnt { StaysBurnt (P.has_burnt memory.old) (P.has_burnt memory.new) }
     ensures steady { StaysSteady (P.is_steady memory.old) (P.is_steady memory.new) }
 {
     match entry {
@@ -85,6 +87,7 @@ fn store_name_entry<P: Pmem>(memory: &mut P, at: u64, e: &NameEntry) -> Result<(
     ensures rest { SameOutside (P.region memory.old) at (24 + 8 * words_for (length e.now.name)) (P.region memory.new) }
     ensures may_keep { Adds (Within at (24 + 8 * words_for (length e.now.name))) (P.may_hold memory.old) (P.may_hold memory.new) }
     ensures stopped { is_err result ≡ P.has_burnt memory.new }
+    ensures burnt { StaysBurnt (P.has_burnt memory.old) (P.has_burnt memory.new) }
     ensures steady { StaysSteady (P.is_steady memory.old) (P.is_steady memory.new) }
 {
     let name = e.name.as_slice();
@@ -125,6 +128,7 @@ fn store_words<P: Pmem>(memory: &mut P, at: u64, words: &[u64]) -> Result<(), St
     ensures rest { SameOutside (P.region memory.old) at (8 * length words.now) (P.region memory.new) }
     ensures may_keep { Adds (Within at (8 * length words.now)) (P.may_hold memory.old) (P.may_hold memory.new) }
     ensures stopped { is_err result ≡ P.has_burnt memory.new }
+    ensures burnt { StaysBurnt (P.has_burnt memory.old) (P.has_burnt memory.new) }
     ensures steady { StaysSteady (P.is_steady memory.old) (P.is_steady memory.new) }
 {
     for (k, word) in words.iter().enumerate() {
@@ -144,6 +148,7 @@ fn store_text<P: Pmem>(memory: &mut P, at: u64, name: &[u8]) -> Result<(), Stopp
     ensures rest { SameOutside (P.region memory.old) at (8 * words_for (length name.now)) (P.region memory.new) }
     ensures may_keep { Adds (Within at (8 * words_for (length name.now))) (P.may_hold memory.old) (P.may_hold memory.new) }
     ensures stopped { is_err result ≡ P.has_burnt memory.new }
+    ensures burnt { StaysBurnt (P.has_burnt memory.old) (P.has_burnt memory.new) }
     ensures steady { StaysSteady (P.is_steady memory.old) (P.is_steady memory.new) }
 {
     for k in 0..(name.len() + 7) / 8 {

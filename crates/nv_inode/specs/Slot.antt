@@ -1,6 +1,6 @@
 -- What a slot says of an inode.
 use Rattle.std.specs.Prelude.{ℕ, ◌+◌, ◌%◌, ◌&&◌, ◌==◌, nat_le, Bool, if◌then◌else◌, Option, Some, None}
-use Rattle.nv_region.specs.Region.{Region, word}
+use Rattle.nv_region.specs.Region.{Region, word, put}
 use Rattle.nv_super.specs.declared.superblock.Super.{Super}
 use Rattle.nv_super.specs.Layout.{is_data_address, is_page_start}
 use Rattle.nv_super.specs.declared.kind.Kind.{Kind}
@@ -12,6 +12,10 @@ use Rattle.nv_inode.specs.declared.slot.SlotState.TheVariants.{Unused, BadValid,
 -- the slot at an address, as its words stand
 abbrev pub slot_at : Region → ℕ → Slot
 slot_at R a = record { valid = word R a; kind = word R (a + 8); head = word R (a + 16); tail = word R (a + 24); created = word R (a + 32) }
+
+-- the region with these words in the slot at an address, whose valid word stays
+abbrev pub with_slot : Region → ℕ → Slot → Region
+with_slot R a slot = put (put (put (put R (a + 8) slot.kind) (a + 16) slot.head) (a + 24) slot.tail) (a + 32) slot.created
 
 -- the kind of a slot in use: one whose valid word is 1 and whose kind word is that of a kind
 abbrev pub kind_of : Slot → Option Kind

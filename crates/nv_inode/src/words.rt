@@ -2,10 +2,10 @@
 
 ghost use Rattle.std.specs.Prelude.{◌≡◌, ◌≤◌, ◌+◌, ◌*◌, ◌%◌, IsTrue, OnOk, is_err};
 ghost use Rattle.nv_region.specs.Region.{HasBlocks, size, put};
-ghost use Rattle.nv_region.specs.Stops.{One, StaysSteady};
+ghost use Rattle.nv_region.specs.Stops.{One, StaysBurnt, StaysSteady};
 ghost use Rattle.nv_region.specs.Stored.{StoresOnly, Within};
 ghost use Rattle.nv_super.specs.Layout.{IsLayout, is_number, slot_address};
-ghost use Rattle.nv_inode.specs.Slot.{slot_at};
+ghost use Rattle.nv_inode.specs.Slot.{slot_at, with_slot};
 
 use crate::slot::Slot;
 use nv_region::{Pmem, Stopped};
@@ -34,9 +34,10 @@ pub fn put_slot<P: Pmem>(memory: &mut P, sup: &Super, ino: u64, slot: &Slot) -> 
     requires layout { IsLayout sup.now }
     requires blocks { HasBlocks (P.region memory.old) sup.now.blocks }
     requires number { IsTrue (is_number sup.now ino) }
-    ensures done { let at = slot_address sup.now ino in OnOk result (P.region memory.new ≡ put (put (put (put (P.region memory.old) (at + 8) slot.now.kind) (at + 16) slot.now.head) (at + 24) slot.now.tail) (at + 32) slot.now.created) }
+    ensures done { OnOk result (P.region memory.new ≡ with_slot (P.region memory.old) (slot_address sup.now ino) slot.now) }
     ensures wrote { StoresOnly (Within (slot_address sup.now ino + 8) 32) (P.region memory.old) (P.region memory.new) (P.may_hold memory.old) (P.may_hold memory.new) }
     ensures stopped { is_err result ≡ P.has_burnt memory.new }
+    ensures burnt { StaysBurnt (P.has_burnt memory.old) (P.has_burnt memory.new) }
     ensures steady { StaysSteady (P.is_steady memory.old) (P.is_steady memory.new) }
 {
     let at = slot_start(sup, ino);
@@ -53,6 +54,7 @@ pub fn set_word<P: Pmem>(memory: &mut P, at: u64, value: u64) -> Result<(), Stop
     ensures done { OnOk result (P.region memory.new ≡ put (P.region memory.old) at value) }
     ensures wrote { StoresOnly (One at value) (P.region memory.old) (P.region memory.new) (P.may_hold memory.old) (P.may_hold memory.new) }
     ensures stopped { is_err result ≡ P.has_burnt memory.new }
+    ensures burnt { StaysBurnt (P.has_burnt memory.old) (P.has_burnt memory.new) }
     ensures steady { StaysSteady (P.is_steady memory.old) (P.is_steady memory.new) }
 {
     memory.store(at, value)

@@ -13,5 +13,8 @@ mod rollback;
 mod tests;
 mod undoing;
 
-pub use laws::{one_region_is_undone, undo_again_changes_nothing, undone_regions_are_quiet};
+pub use laws::{
+    one_region_is_undone, the_superblock_stays, undo_again_changes_nothing,
+    undone_regions_are_quiet,
+};
 pub use undoing::{UndoError, undo};

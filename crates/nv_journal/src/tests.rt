@@ -1,10 +1,13 @@
 //! Journals of a small region, undone.
 
+mod stores;
+
 ghost use Rattle.std.specs.Prelude.{IfOk};
 ghost use Rattle.nv_region.specs.Region.{HasBlocks};
 
 use crate::{
-    UndoError, one_region_is_undone, undo, undo_again_changes_nothing, undone_regions_are_quiet,
+    UndoError, one_region_is_undone, the_superblock_stays, undo, undo_again_changes_nothing,
+    undone_regions_are_quiet,
 };
 use nv_region::{Fuse, MemRegion, Pmem, RegionRefusal};
 use nv_super::{Fault, Super};
@@ -197,5 +200,6 @@ fn an_undo_that_was_stopped_is_finished_by_another(rt: HostRuntime) -> Result<()
     one_region_is_undone();
     undo_again_changes_nothing();
     undone_regions_are_quiet();
+    the_superblock_stays();
     Ok(())
 }

@@ -8,7 +8,7 @@ ghost use Rattle.std.specs.Prelude.{◌≡◌, ◌≤◌, ◌<◌, ◌+◌, ◌*
 ghost use Rattle.std.proofs.lemmas.Bool.{false≢true};
 ghost use Rattle.byteorder.specs.Endian.{little_number};
 ghost use Rattle.nv_region.specs.Region.{size, word, put, region_of, bytes_of, words_of};
-ghost use Rattle.nv_region.specs.Stops.{NothingPending, NoneAdded, Adds, One, StaysSteady, StaysOpen};
+ghost use Rattle.nv_region.specs.Stops.{NothingPending, NoneAdded, Adds, One, StaysBurnt, StaysSteady, StaysOpen};
 ghost use Rattle.nv_region.specs.ImageState.{as_it_reads, is_open_to, open_not_burnt};
 
 use crate::memory::RegionRefusal;
@@ -151,7 +151,7 @@ impl Pmem for ImageRegion<'_> {
         ensures refused { OnErr result (self.new.region ≡ self.old.region) }
         ensures refused_keep { OnErr result (NoneAdded (as_it_reads self.old) (as_it_reads self.new)) }
         ensures stopped { is_err result ≡ self.new.burnt }
-        ensures burnt { IsTrue self.old.burnt → IsTrue self.new.burnt }
+        ensures burnt { StaysBurnt self.old.burnt self.new.burnt }
         ensures steady { StaysSteady false false }
         ensures open { (limit : ℕ) → at + 8 ≤ limit → StaysOpen limit (is_open_to self.old) (is_open_to self.new) }
         // A store is refused behind the front, and each one from then on.
@@ -172,7 +172,7 @@ impl Pmem for ImageRegion<'_> {
         ensures fenced { OnOk result (NothingPending self.new.region (as_it_reads self.new)) }
         ensures refused_keep { OnErr result (NoneAdded (as_it_reads self.old) (as_it_reads self.new)) }
         ensures stopped { is_err result ≡ self.new.burnt }
-        ensures burnt { IsTrue self.old.burnt → IsTrue self.new.burnt }
+        ensures burnt { StaysBurnt self.old.burnt self.new.burnt }
         ensures steady { StaysSteady false false }
         ensures open { (limit : ℕ) → StaysOpen limit (is_open_to self.old) (is_open_to self.new) }
         // It changes nothing.

@@ -8,7 +8,7 @@ ghost use Rattle.std.proofs.Common.{inl, inr};
 ghost use Rattle.std.specs.List.{list_any};
 ghost use Rattle.byteorder.specs.Endian.{little_number};
 ghost use Rattle.nv_region.specs.Region.{size, word, put, region_of, bytes_of};
-ghost use Rattle.nv_region.specs.Stops.{NothingPending, NoneAdded, Adds, One, StaysSteady, StaysOpen};
+ghost use Rattle.nv_region.specs.Stops.{NothingPending, NoneAdded, Adds, One, StaysBurnt, StaysSteady, StaysOpen};
 ghost use Rattle.nv_region.specs.RegionState.{RegionState, fenced_or_last, burns_at_store, burns_at_fence, one_passed, is_steady, steady_unburnt};
 ghost use Rattle.nv_region.specs.Fenced.{DifferOnlyIn};
 
@@ -204,7 +204,7 @@ impl Pmem for MemRegion {
         ensures refused { OnErr result (self.new.region ≡ self.old.region) }
         ensures refused_keep { OnErr result (NoneAdded (fenced_or_last self.old) (fenced_or_last self.new)) }
         ensures stopped { is_err result ≡ self.new.burnt }
-        ensures burnt { IsTrue self.old.burnt → IsTrue self.new.burnt }
+        ensures burnt { StaysBurnt self.old.burnt self.new.burnt }
         ensures steady { StaysSteady (is_steady self.old) (is_steady self.new) }
         ensures open { (limit : ℕ) → at + 8 ≤ limit → StaysOpen limit (λ _. is_steady self.old) (λ _. is_steady self.new) }
         // The fuse burns where it says.
@@ -234,12 +234,14 @@ impl Pmem for MemRegion {
         ensures fenced { OnOk result (NothingPending self.new.region (fenced_or_last self.new)) }
         ensures refused_keep { OnErr result (NoneAdded (fenced_or_last self.old) (fenced_or_last self.new)) }
         ensures stopped { is_err result ≡ self.new.burnt }
-        ensures burnt { IsTrue self.old.burnt → IsTrue self.new.burnt }
+        ensures burnt { StaysBurnt self.old.burnt self.new.burnt }
         ensures steady { StaysSteady (is_steady self.old) (is_steady self.new) }
         ensures open { (limit : ℕ) → StaysOpen limit (λ _. is_steady self.old) (λ _. is_steady self.new) }
         // The fuse burns where it says.
         ensures burns { self.new.burnt ≡ (self.old.burnt || burns_at_fence self.old.fuse) }
         ensures counts { OnOk result (self.new.fuse ≡ one_passed self.old.fuse) }
+        // A fence that is refused isn't done in part.
+        ensures kept { OnErr result (self.new.fenced ≡ self.old.fenced) }
     {
         if self.burnt {
             return Err(Stopped);

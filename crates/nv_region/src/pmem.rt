@@ -2,7 +2,7 @@
 
 ghost use Rattle.std.specs.Prelude.{◌≡◌, ◌+◌, ◌≤◌, ◌%◌, ℕ, Bool, false, IsTrue, OnOk, OnErr, is_err, get_or, length, ◌<◌};
 ghost use Rattle.nv_region.specs.Region.{Region, size, word, put};
-ghost use Rattle.nv_region.specs.Stops.{Adds, One, NoneAdded, NothingPending, StaysSteady, StaysOpen};
+ghost use Rattle.nv_region.specs.Stops.{Adds, One, NoneAdded, NothingPending, StaysBurnt, StaysSteady, StaysOpen};
 
 /// The memory has been stopped: its fuse has burnt, and nothing is stored any more.
 #[derive(Clone, Copy, Debug, PartialEq, Eq)]
@@ -49,7 +49,7 @@ pub trait Pmem {
         ensures refused { OnErr result (region self.new ≡ region self.old) }
         ensures refused_keep { OnErr result (NoneAdded (may_hold self.old) (may_hold self.new)) }
         ensures stopped { is_err result ≡ has_burnt self.new }
-        ensures burnt { IsTrue (has_burnt self.old) → IsTrue (has_burnt self.new) }
+        ensures burnt { StaysBurnt (has_burnt self.old) (has_burnt self.new) }
         ensures steady { StaysSteady (is_steady self.old) (is_steady self.new) }
         ensures open { (limit : ℕ) → at + 8 ≤ limit → StaysOpen limit (is_open self.old) (is_open self.new) };
 
@@ -62,7 +62,7 @@ pub trait Pmem {
         ensures fenced { OnOk result (NothingPending (region self.new) (may_hold self.new)) }
         ensures refused_keep { OnErr result (NoneAdded (may_hold self.old) (may_hold self.new)) }
         ensures stopped { is_err result ≡ has_burnt self.new }
-        ensures burnt { IsTrue (has_burnt self.old) → IsTrue (has_burnt self.new) }
+        ensures burnt { StaysBurnt (has_burnt self.old) (has_burnt self.new) }
         ensures steady { StaysSteady (is_steady self.old) (is_steady self.new) }
         ensures open { (limit : ℕ) → StaysOpen limit (is_open self.old) (is_open self.new) };
 

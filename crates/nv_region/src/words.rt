@@ -2,7 +2,7 @@
 
 ghost use Rattle.std.specs.Prelude.{◌≡◌, ◌⊎◌, ◌+◌, ◌≤◌, ◌%◌, ℕ, IsTrue, OnOk, OnErr, is_err};
 ghost use Rattle.nv_region.specs.Region.{put, size};
-ghost use Rattle.nv_region.specs.Stops.{Adds, LeavesOnly, NothingPending, One, NoneAdded, StaysSteady, StaysOpen};
+ghost use Rattle.nv_region.specs.Stops.{Adds, LeavesOnly, NothingPending, One, NoneAdded, StaysBurnt, StaysSteady, StaysOpen};
 ghost use Rattle.nv_region.specs.Stored.{Stored};
 
 use crate::pmem::{Pmem, Stopped};
@@ -17,6 +17,7 @@ pub fn store_word<P: Pmem>(memory: &mut P, at: u64, value: u64) -> Result<(), St
     ensures refused { OnErr result (P.region memory.new ≡ P.region memory.old) }
     ensures may_keep { Adds (One at value) (P.may_hold memory.old) (P.may_hold memory.new) }
     ensures stopped { is_err result ≡ P.has_burnt memory.new }
+    ensures burnt { StaysBurnt (P.has_burnt memory.old) (P.has_burnt memory.new) }
     ensures steady { StaysSteady (P.is_steady memory.old) (P.is_steady memory.new) }
     ensures open { (limit : ℕ) → at + 8 ≤ limit → StaysOpen limit (P.is_open memory.old) (P.is_open memory.new) }
 {
@@ -26,13 +27,16 @@ pub fn store_word<P: Pmem>(memory: &mut P, at: u64, value: u64) -> Result<(), St
 
 /// Stores a word and fences it: where nothing was pending, a stop at any moment of the call leaves the region from
 /// before it or the region with the word.
+///
+/// Answers `Stopped` exactly where the fuse has burnt by the end of the call.
 pub fn commit_word<P: Pmem>(memory: &mut P, at: u64, value: u64) -> Result<(), Stopped>
     requires aligned { at % 8 ≡ 0 }
     requires within { at + 8 ≤ size (P.region memory.old) }
     ensures done { OnOk result (P.region memory.new ≡ put (P.region memory.old) at value) }
     ensures settled { OnOk result (NothingPending (P.region memory.new) (P.may_hold memory.new)) }
     ensures reads { (P.region memory.new ≡ P.region memory.old) ⊎ (P.region memory.new ≡ put (P.region memory.old) at value) }
-    ensures stopped { OnErr result (IsTrue (P.has_burnt memory.new)) }
+    ensures stopped { is_err result ≡ P.has_burnt memory.new }
+    ensures burnt { StaysBurnt (P.has_burnt memory.old) (P.has_burnt memory.new) }
     ensures steady { StaysSteady (P.is_steady memory.old) (P.is_steady memory.new) }
     ensures open { (limit : ℕ) → at + 8 ≤ limit → StaysOpen limit (P.is_open memory.old) (P.is_open memory.new) }
     ensures any_stop { NothingPending (P.region memory.old) (P.may_hold memory.old) → LeavesOnly (P.region memory.new) (P.may_hold memory.new) (λ left. (left ≡ P.region memory.old) ⊎ (left ≡ put (P.region memory.old) at value)) }

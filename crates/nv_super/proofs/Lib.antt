@@ -3,3 +3,4 @@ pub mod Runs
 pub mod Sorted
 pub mod Pools
 pub mod Slots
+pub mod Accepted

@@ -1,6 +1,6 @@
 -- A superblock is accepted, or refused by the first fault that applies.
 use Rattle.std.specs.Prelude.{◌≡◌, ◌≢◌, ◌⊎◌, ◌≤◌, ◌<◌, ◌+◌, ◌*◌, ◌/◌, ◌%◌, ℕ}
-use Rattle.nv_region.specs.Region.{Region, size, word}
+use Rattle.nv_region.specs.Region.{Region, size, word, put}
 use Rattle.nv_super.specs.Layout.{most_blocks}
 use Rattle.nv_super.specs.declared.superblock.Super.{Super}
 use Rattle.nv_super.specs.declared.superblock.SuperFault.{SuperFault}
@@ -38,6 +38,10 @@ pub record IsSuper (R : Region) (s : Super) : Type 0 where
   pub blocks : s.blocks ≡ word R 24
   pub table_blocks : s.table_blocks ≡ word R 32
   pub state : s.state ≡ word R 40
+
+-- the region with these numbers in its superblock, whose magic stays
+abbrev pub with_numbers : Region → Super → Region
+with_numbers R s = put (put (put (put (put R 8 s.version) 16 s.cpus) 24 s.blocks) 32 s.table_blocks) 40 s.state
 
 -- the first fault that applies
 pub record IsRefused (R : Region) (fault : SuperFault) : Type 0 where

@@ -4,11 +4,11 @@
 //! The magic is stored last when a region is made, so a region without it is no file system.
 
 ghost use Rattle.std.specs.Prelude.{◌≡◌, ◌≤◌, ◌<◌, ◌+◌, ◌-◌, ◌*◌, ◌/◌, ◌%◌, ℕ, IfOk, IfErr, OnOk, is_err};
-ghost use Rattle.nv_region.specs.Region.{Region, HasBlocks, size, word, put};
-ghost use Rattle.nv_region.specs.Stops.{StaysSteady};
+ghost use Rattle.nv_region.specs.Region.{HasBlocks, size};
+ghost use Rattle.nv_region.specs.Stops.{StaysBurnt, StaysSteady};
 ghost use Rattle.nv_region.specs.Stored.{StoresOnly, Within};
 ghost use Rattle.nv_super.specs.Layout.{system_blocks, pool_start, slot_address, is_page_start, is_number, HasAreas, IsLayout};
-ghost use Rattle.nv_super.specs.Super.{IsSuper, IsRefused};
+ghost use Rattle.nv_super.specs.Super.{IsSuper, IsRefused, with_numbers};
 
 use nv_region::{Pmem, Stopped};
 
@@ -57,7 +57,8 @@ pub enum SuperFault {
 /// Reads the superblock of any region, or finds the first fault that applies. It takes no memory.
 pub fn read_super<P: Pmem>(memory: &P) -> Result<Super, SuperFault>
     ensures accepted { IfOk result (λ s. IsSuper (P.region memory.now) s) }
-    ensures layout { IfOk result (λ s. IsLayout s × HasBlocks (P.region memory.now) s.blocks) }
+    ensures layout { IfOk result (λ s. IsLayout s) }
+    ensures blocks { IfOk result (λ s. HasBlocks (P.region memory.now) s.blocks) }
     ensures refused { IfErr result (λ fault. IsRefused (P.region memory.now) fault) }
 {
     let length = memory.len();
@@ -101,9 +102,10 @@ pub fn read_super<P: Pmem>(memory: &P) -> Result<Super, SuperFault>
 /// Answers `Stopped` exactly where the fuse has burnt; only words of the superblock's numbers may have changed then.
 pub fn write_super<P: Pmem>(memory: &mut P, numbers: &Super) -> Result<(), Stopped>
     requires { 4096 ≤ size (P.region memory.old) }
-    ensures done { OnOk result (P.region memory.new ≡ put (put (put (put (put (P.region memory.old) 8 numbers.now.version) 16 numbers.now.cpus) 24 numbers.now.blocks) 32 numbers.now.table_blocks) 40 numbers.now.state) }
+    ensures done { OnOk result (P.region memory.new ≡ with_numbers (P.region memory.old) numbers.now) }
     ensures wrote { StoresOnly (Within 8 40) (P.region memory.old) (P.region memory.new) (P.may_hold memory.old) (P.may_hold memory.new) }
     ensures stopped { is_err result ≡ P.has_burnt memory.new }
+    ensures burnt { StaysBurnt (P.has_burnt memory.old) (P.has_burnt memory.new) }
     ensures steady { StaysSteady (P.is_steady memory.old) (P.is_steady memory.new) }
 {
     memory.store(8, numbers.version)?;

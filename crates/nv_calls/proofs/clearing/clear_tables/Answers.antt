@@ -23,6 +23,7 @@ loop-place-preserved g c =
       unused = below_more (λ (k : ℕ). word after ((1 + s.cpus) * 4096 + 128 * k) ≡ 0) c.loop-place.place
           (λ k below. zero_more before after at ((1 + s.cpus) * 4096 + 128 * k) wrote.mixed (c.loop-place.invariant.unused k below)) c.in_ok-clear_word.ensures.cleared;
       wrote = clears_more (IsValidWord s) at 0 _ _ _ _ _ _ (omega arith) (slot_at_place s c.loop-place.place c.requires.layout c.loop-place-test.true) c.loop-place.invariant.wrote wrote;
+      burnt = λ old. c.clear_word.ensures.burnt (c.loop-place.invariant.burnt old);
       steady = λ old. c.clear_word.ensures.steady (c.loop-place.invariant.steady old);
     }
 
