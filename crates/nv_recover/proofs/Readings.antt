@@ -128,6 +128,10 @@ module _ (old new : Region) (o : Opened) (r : Recovered) (opened : IsOpened old 
       subst (λ (s : Super). SharesAll new (fixed_layout s) r.free.pools) (sym reading.sup)
       (subst (λ (R : Region). SharesAll R (fixed_layout o.sup) r.free.pools) (sym opened.rolled_back) (shares_all opened.layout clean))
 
+-- the free lists are those of the answer's superblock
+pub reading_lists : (R : Region) (o : Opened) (r : Recovered) → IsReading R o.sup o.journal.items r → r.free.sup ≡ r.sup
+reading_lists R o r reading = reading.outside.sup ∙ sym reading.sup
+
 -- the sets of claims, told of what is the same
 pub same_maps : {claims other : List (ℕ × Owner)} {first first' second second' : List ℕ} → other ≡ claims → first' ≡ first → second' ≡ second → AreMaps claims first second → AreMaps other first' second'
 same_maps same one two maps = rw (same, one, two) maps

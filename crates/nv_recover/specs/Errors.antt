@@ -1,5 +1,5 @@
 -- What an error leaves of the region.
-use Rattle.std.specs.Prelude.{◌≡◌, ◌⊎◌, ◌<◌, ℕ, List, Some}
+use Rattle.std.specs.Prelude.{◌≡◌, ◌⊎◌, ◌<◌, ℕ, Bool, true, false, List, Some}
 use Rattle.nv_region.specs.Region.{Region}
 use Rattle.nv_super.specs.declared.superblock.Super.{Super}
 use Rattle.nv_super.specs.Super.{IsSuper, IsRefused}
@@ -14,13 +14,21 @@ use Rattle.nv_recover.specs.declared.recovered.RecoverError.TheVariants.{Super a
 abbrev pub AsBeforeOrUndone : Region → Region → Type 0
 AsBeforeOrUndone old new = (s : Super) × IsSuper old s × ((new ≡ old) ⊎ (new ≡ undone s old))
 
--- rolling the journals back gives the region that it would have given before
+-- the superblock is the same, and rolling the journals back gives the region that it would have given before
 abbrev pub UndoesAsBefore : Region → Region → Type 0
-UndoesAsBefore old new = (s : Super) × IsSuper old s × (undone s new ≡ undone s old)
+UndoesAsBefore old new = (s : Super) × IsSuper old s × IsSuper new s × (undone s new ≡ undone s old)
 
 -- there can't be so many workers
 abbrev pub IsBadCount : ℕ → Type 0
 IsBadCount workers = (workers < 1) ⊎ (64 < workers)
+
+-- the error is found before anything is stored
+abbrev pub comes_first : RecoverError → Bool
+comes_first (Refused fault) = true
+comes_first Workers = true
+comes_first (Schedule place) = true
+comes_first Memory = false
+comes_first Stopped = false
 
 -- When each error comes, by so many workers and a schedule, and what it leaves of the region.
 abbrev pub Fails : ℕ → List ℕ → RecoverError → Region → Region → Type 0

@@ -1,12 +1,13 @@
 //! How each recovery begins: the superblock is read, and the journals are rolled back.
 
 ghost use Rattle.std.specs.Prelude.{◌≡◌, ◌*◌, ◌≢◌, ℕ, List, IfOk, IfErr, IsTrue};
-ghost use Rattle.nv_region.specs.Stops.{StaysSteady};
+ghost use Rattle.nv_region.specs.Stops.{StaysBurnt, StaysSteady};
 ghost use Rattle.nv_super.specs.Layout.{system_blocks};
 ghost use Rattle.nv_super.specs.Super.{IsSuper};
 ghost use Rattle.nv_super.specs.declared.superblock.Super.{Super as SuperValue};
+ghost use Rattle.nv_journal.specs.Undone.{AllQuiet};
 ghost use Rattle.nv_recover.specs.declared.recovered.RecoverError.TheVariants as errors;
-ghost use Rattle.nv_recover.specs.Errors.{Fails};
+ghost use Rattle.nv_recover.specs.Errors.{Fails, comes_first};
 ghost use Rattle.nv_recover.specs.Reading.{IsOpened};
 
 use crate::recovered::RecoverError;
@@ -25,8 +26,13 @@ pub(crate) struct Opened {
 /// Reads the superblock and rolls the journals back. What comes after it only reads.
 pub(crate) fn open<P: Pmem>(alloc: Global, memory: &mut P) -> Result<Opened, RecoverError>
     ensures ok { IfOk result (λ opened. IsOpened (P.region memory.old) (P.region memory.new) opened) }
+    // With nothing to roll back, nothing is stored or fenced, and it isn't stopped.
+    ensures quiet { (s : SuperValue) → IsSuper (P.region memory.old) s → AllQuiet s.cpus (P.region memory.old) → memory.new ≡ memory.old }
+    ensures quiet_done { (s : SuperValue) → IsSuper (P.region memory.old) s → AllQuiet s.cpus (P.region memory.old) → IfErr result (λ e. e ≢ errors.Stopped) }
+    ensures untouched { IfErr result (λ e. IsTrue (comes_first e) → memory.new ≡ memory.old) }
     ensures err { (workers : ℕ) (schedule : List ℕ) → IfErr result (λ e. Fails workers schedule e (P.region memory.old) (P.region memory.new)) }
     ensures stopped { IfErr result (λ e. e ≡ errors.Stopped → IsTrue (P.has_burnt memory.new)) }
+    ensures burnt { StaysBurnt (P.has_burnt memory.old) (P.has_burnt memory.new) }
     // A memory that takes stores up to the first data block isn't stopped.
     ensures unstopped { (s : SuperValue) → IsSuper (P.region memory.old) s → IsTrue (P.is_open memory.old (4096 * system_blocks s)) → IfErr result (λ e. e ≢ errors.Stopped) }
     ensures steady { StaysSteady (P.is_steady memory.old) (P.is_steady memory.new) }

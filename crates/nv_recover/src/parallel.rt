@@ -2,15 +2,16 @@
 
 ghost use Rattle.std.specs.Prelude.{◌≡◌, ◌*◌, ◌≢◌, ◌<◌, ◌≤◌, [], IfOk, IfErr, IsTrue};
 ghost use Rattle.nv_region.specs.Region.{HasBlocks};
-ghost use Rattle.nv_region.specs.Stops.{StaysSteady};
+ghost use Rattle.nv_region.specs.Stops.{StaysBurnt, StaysSteady};
 ghost use Rattle.nv_super.specs.Layout.{IsLayout, system_blocks};
 ghost use Rattle.nv_super.specs.Super.{IsSuper};
 ghost use Rattle.nv_super.specs.declared.superblock.Super.{Super as SuperValue};
 ghost use Rattle.nv_journal.specs.Undo.{undone};
+ghost use Rattle.nv_journal.specs.Undone.{AllQuiet};
 ghost use Rattle.nv_outcome.specs.Outcome.{IsOutcome};
 ghost use Rattle.nv_recover.specs.declared.recovered.RecoverError.TheVariants as errors;
 ghost use Rattle.nv_recover.specs.Answer.{outcome_of, SharesBlocks};
-ghost use Rattle.nv_recover.specs.Errors.{Fails, IsBadCount};
+ghost use Rattle.nv_recover.specs.Errors.{Fails, comes_first, IsBadCount};
 ghost use Rattle.nv_recover.specs.Reading.{IsReading};
 
 use crate::finishing::{Told, finish};
@@ -42,9 +43,15 @@ pub fn recover<P: Pmem + Sync, G: Gate + Sync, H: Threads + Sync>(
     ensures undone { IfOk result (λ r. P.region memory.new ≡ undone r.sup (P.region memory.old)) }
     // Where nothing is wrong, each data block stands in exactly one free list or has exactly one owner.
     ensures once { IfOk result (λ r. r.faults.items ≡ [] → SharesBlocks (P.region memory.new) r) }
+    ensures lists { IfOk result (λ r. r.free.sup ≡ r.sup) }
+    // With nothing to roll back, nothing is stored or fenced, and it isn't stopped.
+    ensures quiet { (s : SuperValue) → IsSuper (P.region memory.old) s → AllQuiet s.cpus (P.region memory.old) → memory.new ≡ memory.old }
+    ensures quiet_done { (s : SuperValue) → IsSuper (P.region memory.old) s → AllQuiet s.cpus (P.region memory.old) → IfErr result (λ e. e ≢ errors.Stopped) }
+    ensures untouched { IfErr result (λ e. IsTrue (comes_first e) → memory.new ≡ memory.old) }
     ensures workers { IsBadCount workers → IfOk result (λ _. ⊥) × IfErr result (λ e. e ≡ errors.Workers) }
     ensures err { IfErr result (λ e. Fails workers [] e (P.region memory.old) (P.region memory.new)) }
     ensures stopped { IfErr result (λ e. e ≡ errors.Stopped → IsTrue (P.has_burnt memory.new)) }
+    ensures burnt { StaysBurnt (P.has_burnt memory.old) (P.has_burnt memory.new) }
     // A memory that takes stores up to the first data block isn't stopped.
     ensures unstopped { (s : SuperValue) → IsSuper (P.region memory.old) s → IsTrue (P.is_open memory.old (4096 * system_blocks s)) → IfErr result (λ e. e ≢ errors.Stopped) }
     ensures steady { StaysSteady (P.is_steady memory.old) (P.is_steady memory.new) }

@@ -1,4 +1,4 @@
-use Rattle.nv_recover.proofs.Readings.{reading_outcome, reading_shares}
+use Rattle.nv_recover.proofs.Readings.{reading_lists, reading_outcome, reading_shares}
 use Rattle.nv_recover.proofs.parallel.recover.Goals as goal
 
 pub returns-clause-ok : goal.returns-clause-ok
@@ -6,3 +6,6 @@ returns-clause-ok g c = reading_outcome (g.P.Pmem.region c.args.memory.now) (g.P
 
 pub returns-clause-once : goal.returns-clause-once
 returns-clause-once g c = reading_shares (g.P.Pmem.region c.args.memory.now) (g.P.Pmem.region c.open.new.memory) c.in_ok-sup.field-0 c.in_ok-read_by_workers.field-0 c.in_ok-sup.ensures.ok c.in_ok-read_by_workers.ensures
+
+pub returns-clause-lists : goal.returns-clause-lists
+returns-clause-lists g c = reading_lists (g.P.Pmem.region c.open.new.memory) c.in_ok-sup.field-0 c.in_ok-read_by_workers.field-0 c.in_ok-read_by_workers.ensures
