@@ -1,7 +1,7 @@
 //! The map itself: it is opened with a seat for each worker, worked on by all of them at once, and closed by the seat
 //! that was joined of all seats.
 
-ghost use Rattle.std.specs.Prelude.{◌≡◌, ℕ, ◌+◌, ◌-◌, ◌^◌, ◌<◌, ◌≤◌, ◌++◌, ◌⊎◌, [], IfSome, IfNone, IfOk, IfErr, OnOk, OnErr, length, map, min, take, drop};
+ghost use Rattle.std.specs.Prelude.{◌≡◌, ℕ, ◌+◌, ◌-◌, ◌^◌, ◌<◌, ◌≤◌, ◌++◌, ◌⊎◌, [], IfSome, IfNone, IsNone, IfOk, IfErr, OnOk, OnErr, length, map, min, take, drop};
 ghost use Rattle.std.specs.Mem.Slots.{slots_items, slots_len, IsFull};
 ghost use Rattle.std.specs.Vec.{vec_len, vec_capacity};
 ghost use Rattle.nv_super.specs.Owners.{MayOwn, pairs};
@@ -59,7 +59,9 @@ impl ClaimMap {
     pub fn open(alloc: Global, sizes: Sizes) -> Result<(ClaimMap, Vec<ClaimSeat>), AllocError>
         requires workers { (0 < sizes.workers) × (sizes.workers < 2 ^ 32) }
         requires numbers { sizes.tickets + sizes.workers < 2 ^ 64 }
-        ensures { IfOk result (λ r. (r.0.sizes ≡ sizes) × (r.1.items ≡ fresh r.0 sizes.workers) × (vec_len r.1 ≡ sizes.workers)) }
+        ensures sizes { IfOk result (λ r. r.0.sizes ≡ sizes) }
+        ensures seats { IfOk result (λ r. r.1.items ≡ fresh r.0 sizes.workers) }
+        ensures count { IfOk result (λ r. vec_len r.1 ≡ sizes.workers) }
     {
         let words = words_of(sizes.blocks);
         let zeros = vec![in alloc; 0u64; table_words(words)]?;
@@ -81,9 +83,21 @@ impl ClaimMap {
     /// seat makes no further step. It takes no memory and waits for nobody.
     pub fn draw(&self, seat: &mut ClaimSeat) -> Option<u64>
         requires own { seat.old.map ≡ self.now }
-        ensures same { (seat.new.map ≡ seat.old.map) × (seat.new.number ≡ seat.old.number) }
-        ensures some { IfSome result (λ t. (t < self.now.sizes.tickets) × (times t seat.old.view.numbers ≡ 0) × (above seat.old.view.numbers ≤ t) × (seat.new.view ≡ with_number seat.old.view t)) }
-        ensures none { IfNone result ((0 < past self.now.sizes.tickets seat.new.view.numbers) × ((seat.new.view ≡ seat.old.view) ⊎ ((n : ℕ) × (self.now.sizes.tickets ≤ n) × (seat.new.view ≡ with_number seat.old.view n)))) }
+        ensures map { seat.new.map ≡ seat.old.map }
+        ensures number { seat.new.number ≡ seat.old.number }
+        ensures some { IfSome result (λ t. t < self.now.sizes.tickets) }
+        // The seat hasn't drawn the ticket before, ..
+        ensures unseen { IfSome result (λ t. times t seat.old.view.numbers ≡ 0) }
+        // .. nor any above it.
+        ensures rises { IfSome result (λ t. above seat.old.view.numbers ≤ t) }
+        ensures joins { IfSome result (λ t. seat.new.view ≡ with_number seat.old.view t) }
+        ensures none { IfNone result (0 < past self.now.sizes.tickets seat.new.view.numbers) }
+        // Without a ticket at most a number past the end is drawn.
+        ensures last { IfNone result ((seat.new.view ≡ seat.old.view) ⊎ ((n : ℕ) × (self.now.sizes.tickets ≤ n) × (seat.new.view ≡ with_number seat.old.view n))) }
+        // A seat that holds a number past the end, a joined one too, gets no ticket any more, ..
+        ensures ended { 0 < past self.now.sizes.tickets seat.old.view.numbers → IsNone result }
+        // .. and makes no step.
+        ensures rests { 0 < past self.now.sizes.tickets seat.old.view.numbers → seat.new ≡ seat.old }
     {
         if seat.ended {
             return None;
@@ -100,15 +114,20 @@ impl ClaimMap {
     }
 
     /// Claims the blocks of a run for an owner, whose page is raised by one from block to block. A run of no blocks
-    /// changes nothing. A refusal, for want of memory, makes no step. It costs at most two steps for each 64 blocks,
-    /// and waits for nobody.
+    /// changes nothing, wherever it begins. A refusal, for want of memory, makes no step. It costs at most two steps
+    /// for each 64 blocks, and waits for nobody.
     pub fn claim(&self, seat: &mut ClaimSeat, run: Run, owner: Owner) -> Result<(), AllocError>
         requires own { seat.old.map ≡ self.now }
-        requires run { (run.start + run.count ≤ self.now.sizes.blocks) × MayOwn owner run.count }
-        ensures same { (seat.new.map ≡ seat.old.map) × (seat.new.number ≡ seat.old.number) }
+        requires blocks { 0 < run.count → run.start + run.count ≤ self.now.sizes.blocks }
+        requires owner { 0 < run.count → MayOwn owner run.count }
+        ensures map { seat.new.map ≡ seat.old.map }
+        ensures number { seat.new.number ≡ seat.old.number }
         ensures ok { OnOk result (Adds (pairs run.start owner run.count) seat.old.view seat.new.view) }
         ensures err { OnErr result (seat.new.view ≡ seat.old.view) }
     {
+        if run.is_empty() {
+            return Ok(());
+        }
         seat.claims.reserve(run.count as usize)?;
         claim_words(&self.table.shared, &mut seat.seat, self.words, run, owner);
         list_claims(&mut seat.claims, run, owner);
@@ -122,9 +141,15 @@ impl ClaimMap {
         mut one: ClaimSeat,
         other: ClaimSeat,
     ) -> Result<ClaimSeat, (ClaimSeat, ClaimSeat)>
-        requires own { (one.map ≡ self.now) × (other.map ≡ self.now) }
-        ensures ok { IfOk result (λ s. (s.map ≡ one.map) × (s.number ≡ one.number) × (s.view ≡ both_views one.view other.view) × ((b : ℕ) → won b s.view ≤ 1)) }
-        ensures err { IfErr result (λ r. (r.0 ≡ one) × (r.1 ≡ other)) }
+        requires own { one.map ≡ self.now }
+        requires other { other.map ≡ self.now }
+        ensures map { IfOk result (λ s. s.map ≡ one.map) }
+        ensures number { IfOk result (λ s. s.number ≡ one.number) }
+        ensures view { IfOk result (λ s. s.view ≡ both_views one.view other.view) }
+        // No block is won twice.
+        ensures once { IfOk result (λ s. (b : ℕ) → won b s.view ≤ 1) }
+        ensures first { IfErr result (λ r. r.0 ≡ one) }
+        ensures second { IfErr result (λ r. r.1 ≡ other) }
     {
         if one.claims.reserve(other.claims.len()).is_err() {
             return Err((one, other));
@@ -150,8 +175,10 @@ impl ClaimMap {
         requires all { seat.view.seats ≡ self.sizes.workers }
         ensures numbers { (n : ℕ) × ((x : ℕ) → times x seat.view.numbers ≡ below x n) }
         ensures once { (b : ℕ) → won b seat.view ≡ min 1 (claims_of b result.claims.items) }
-        ensures first { (length result.first.items ≡ words_for self.sizes.blocks) × ((b : ℕ) → has result.first.items b ≡ min 1 (claims_of b result.claims.items)) }
-        ensures second { (length result.second.items ≡ words_for self.sizes.blocks) × ((b : ℕ) → has result.second.items b ≡ min 1 (claims_of b result.claims.items - 1)) }
+        ensures first { (b : ℕ) → has result.first.items b ≡ min 1 (claims_of b result.claims.items) }
+        ensures first_words { length result.first.items ≡ words_for self.sizes.blocks }
+        ensures second { (b : ℕ) → has result.second.items b ≡ min 1 (claims_of b result.claims.items - 1) }
+        ensures second_words { length result.second.items ≡ words_for self.sizes.blocks }
         ensures claims { result.claims.items ≡ map pair_of seat.view.records }
     {
         let ClaimMap {

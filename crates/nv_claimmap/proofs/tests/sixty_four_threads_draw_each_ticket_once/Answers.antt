@@ -7,5 +7,5 @@ use Rattle.nv_claimmap.proofs.tests.sixty_four_threads_draw_each_ticket_once.Goa
 
 pub map_vec-requires-after_bounds : goal.map_vec-requires-after_bounds
 map_vec-requires-after_bounds g c κs within = λ i x l is.
-    let all = subst (All (λ (h : Held). (h.map ≡ c.in_ok-map.map) × (h.view ≡ nothing 1))) (sym c.in_ok-map.ensures.1) (fresh_all c.in_ok-map.map c.sizes.result.workers) in
+    let all = subst (All (λ (h : Held). (h.map ≡ c.in_ok-map.map) × (h.view ≡ nothing 1))) (sym c.in_ok-map.ensures.seats) (fresh_all c.in_ok-map.map c.sizes.result.workers) in
     ap (λ (h : Held). h.map) is ∙ (all i x l).0

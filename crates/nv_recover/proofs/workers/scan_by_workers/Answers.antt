@@ -14,12 +14,12 @@ use Rattle.nv_recover.proofs.workers.scan_by_workers.Goals as goal
 
 pub map_vec-requires-after_bounds : goal.map_vec-requires-after_bounds
 map_vec-requires-after_bounds g c κs within = λ i x l is.
-    let all = subst (All (λ (h : Held). (h.map ≡ c.in_ok-map.map) × (h.view ≡ nothing 1))) (sym c.in_ok-map.ensures.1) (fresh_all c.in_ok-map.map c.args.workers) in
+    let all = subst (All (λ (h : Held). (h.map ≡ c.in_ok-map.map) × (h.view ≡ nothing 1))) (sym c.in_ok-map.ensures.seats) (fresh_all c.in_ok-map.map c.args.workers) in
     let here = all i x l in (
       ap (λ (h : Held). h.map) is ∙ here.0,
       ap (λ (h : Held). h.view) is ∙ here.1,
-      ap (λ (z : Sizes). z.blocks) c.in_ok-map.ensures.0,
-      ap (λ (z : Sizes). z.tickets) c.in_ok-map.ensures.0 ∙ c.max_inode.ensures,
+      ap (λ (z : Sizes). z.blocks) c.in_ok-map.ensures.sizes,
+      ap (λ (z : Sizes). z.tickets) c.in_ok-map.ensures.sizes ∙ c.max_inode.ensures,
       c.requires.layout,
       c.requires.blocks,
     )
@@ -29,7 +29,7 @@ returns g c =
     let s = c.args.sup.now in
     let brought = c.in_ok-brought.brought in
     let is = c.in_ok-brought.ensures in
-    let blocks : c.in_ok-map.map.sizes.blocks ≡ c.args.sup.now.blocks = ap (λ (z : Sizes). z.blocks) c.in_ok-map.ensures.0 in
+    let blocks : c.in_ok-map.map.sizes.blocks ≡ c.args.sup.now.blocks = ap (λ (z : Sizes). z.blocks) c.in_ok-map.ensures.sizes in
     let numbers = c.close.ensures.numbers in
     let past_end : ticket_count s < numbers.0 = all_drawn (ticket_count s) numbers.0 brought.seat.view.numbers numbers.1 is.ended in
     let sorted : IsSortedByKey (λ (p : Piece). p.inode) nat_cmp c.sort_by_key.new.self.items = c.in_ok-sort_by_key.ensures.sorted (λ (p : Piece). p.inode) (answers_always _ _ _ (λ f a r g h. search rules)) in
@@ -38,6 +38,6 @@ returns g c =
     record {
       pieces_are = covers.0;
       claimed = subst (IsPermutation (claims_in c.sort_by_key.new.self.items)) (sym (c.close.ensures.claims ∙ is.work.claims)) covers.1;
-      maps = record { once = c.close.ensures.first.1; twice = c.close.ensures.second.1 };
-      cover = (omega (arith, c.close.ensures.first.0, blocks), omega (arith, c.close.ensures.second.0, blocks));
+      maps = record { once = c.close.ensures.first; twice = c.close.ensures.second };
+      cover = (omega (arith, c.close.ensures.first_words, blocks), omega (arith, c.close.ensures.second_words, blocks));
     }

@@ -8,15 +8,18 @@ use Rattle.nv_scan.specs.Claiming.{IsClaimable}
 use Rattle.nv_scan.proofs.Runs.{begin_fits, adds_both}
 use Rattle.nv_scan.proofs.claiming.claim_all.Goals as goal
 
-pub claim-requires-clause-run : goal.claim-requires-clause-run
-claim-requires-clause-run c = begin_fits _ c.loop-run.rest.now c.in-Some.run' c.in-Some.owner c.loop-run.invariant.each c.in-Some.ensures.some
+pub claim-requires-clause-blocks : goal.claim-requires-clause-blocks
+claim-requires-clause-blocks c = λ _. (begin_fits _ c.loop-run.rest.now c.in-Some.run' c.in-Some.owner c.loop-run.invariant.each c.in-Some.ensures.some).0
+
+pub claim-requires-clause-owner : goal.claim-requires-clause-owner
+claim-requires-clause-owner c = λ _. (begin_fits _ c.loop-run.rest.now c.in-Some.run' c.in-Some.owner c.loop-run.invariant.each c.in-Some.ensures.some).1
 
 pub loop-run-preserved : goal.loop-run-preserved
 loop-run-preserved c =
     let old = c.loop-run.rest.now in let n = c.in-Some.run'.count in let front = c.loop-run.invariant.front in
     record {
-      map = c.claim.ensures.same.0 ∙ c.loop-run.invariant.map;
-      number = c.claim.ensures.same.1 ∙ c.loop-run.invariant.number;
+      map = c.claim.ensures.map ∙ c.loop-run.invariant.map;
+      number = c.claim.ensures.number ∙ c.loop-run.invariant.number;
       each = subst (All (IsClaimable _)) (sym (take_rest old n)) (All-drop (IsClaimable _) n old c.loop-run.invariant.each);
       front = front ++ take n old;
       parts = c.loop-run.invariant.parts ∙ ap (λ (xs : List (ℕ × Owner)). front ++ xs) (sym (take-append-drop n old)) ∙ sym (append_assoc front (take n old) (drop n old))

@@ -18,7 +18,7 @@ loop-ticket-init g c = record {
 pub loop-ticket-smaller : goal.loop-ticket-smaller
 loop-ticket-smaller g c = let d = c.in-Some.ensures in
     nearer (g.P.Pmem.region c.args.memory.now) c.loop-ticket.scanner c.args.map.now.sizes.tickets c.in-Some.ticket c.loop-ticket.seat.view c.draw.new.seat.view c.scan_ticket.new.seat.view c.loop-ticket.pieces.items c.scan_ticket.new.pieces.items
-    d.some.2 d.some.0 d.some.3 c.in-Ok.ensures.done
+    d.rises d.some d.joins c.in-Ok.ensures.done
 
 pub loop-ticket-preserved : goal.loop-ticket-preserved
 loop-ticket-preserved g c =
@@ -28,10 +28,10 @@ loop-ticket-preserved g c =
     let old = c.loop-ticket.pieces.items in let new = c.scan_ticket.new.pieces.items in
     record {
       scanner = c.scan_ticket.ensures.scanner ∙ l.scanner;
-      map = c.scan_ticket.ensures.seat.0 ∙ d.same.0 ∙ l.map;
-      number = c.scan_ticket.ensures.seat.1 ∙ d.same.1 ∙ l.number;
-      seats = c.scan_ticket.ensures.seat.2 ∙ ap (λ (x : View). x.seats) d.some.3 ∙ l.seats;
-      work = work_more R s v u w old new t l.work (subst (λ (n : ℕ). t < n) c.requires.sizes.1 d.some.0) d.some.3 (subst (λ (x : Super). IsDone R x t u w old new) l.scanner c.in-Ok.ensures.done);
+      map = c.scan_ticket.ensures.seat.0 ∙ d.map ∙ l.map;
+      number = c.scan_ticket.ensures.seat.1 ∙ d.number ∙ l.number;
+      seats = c.scan_ticket.ensures.seat.2 ∙ ap (λ (x : View). x.seats) d.joins ∙ l.seats;
+      work = work_more R s v u w old new t l.work (subst (λ (n : ℕ). t < n) c.requires.sizes.1 d.some) d.joins (subst (λ (x : Super). IsDone R x t u w old new) l.scanner c.in-Ok.ensures.done);
     }
 
 pub returns-clause-returned : goal.returns-clause-returned
@@ -40,9 +40,9 @@ returns-clause-returned g c =
     let R = g.P.Pmem.region c.args.memory.now in let s = c.args.sup.now in
     let v = c.loop-ticket.seat.view in let w = c.draw.new.seat.view in let pieces = c.loop-ticket.pieces.items in
     record {
-      map = d.same.0 ∙ l.map;
-      seats = ⊎_elim (λ same. ap (λ (x : View). x.seats) same ∙ l.seats) (λ more. ap (λ (x : View). x.seats) more.2 ∙ l.seats) d.none.1;
-      ended = λ _. subst (λ (n : ℕ). 0 < past n w.numbers) c.requires.sizes.1 d.none.0;
+      map = d.map ∙ l.map;
+      seats = ⊎_elim (λ same. ap (λ (x : View). x.seats) same ∙ l.seats) (λ more. ap (λ (x : View). x.seats) more.2 ∙ l.seats) d.last;
+      ended = λ _. subst (λ (n : ℕ). 0 < past n w.numbers) c.requires.sizes.1 d.none;
       work = λ _. ⊎_elim (λ same. subst (λ (x : View). IsWork R s x pieces) (sym same) l.work)
-          (λ more. work_past R s v w pieces more.0 l.work (subst (λ (n : ℕ). n ≤ more.0) c.requires.sizes.1 more.1) more.2) d.none.1;
+          (λ more. work_past R s v w pieces more.0 l.work (subst (λ (n : ℕ). n ≤ more.0) c.requires.sizes.1 more.1) more.2) d.last;
     }

@@ -31,7 +31,13 @@ pub returns-clause-once : goal.returns-clause-once
 returns-clause-once c = λ b. (ends c).once b ∙ ap (λ ps. min 1 (claims_of b ps)) (sym (claims c))
 
 pub returns-clause-first : goal.returns-clause-first
-returns-clause-first c = ((ends c).first_words, λ b. (ends c).first_has b ∙ ap (λ ps. min 1 (claims_of b ps)) (sym (claims c)))
+returns-clause-first c = λ b. (ends c).first_has b ∙ ap (λ ps. min 1 (claims_of b ps)) (sym (claims c))
+
+pub returns-clause-first_words : goal.returns-clause-first_words
+returns-clause-first_words c = (ends c).first_words
 
 pub returns-clause-second : goal.returns-clause-second
-returns-clause-second c = ((ends c).second_words, λ b. (ends c).second_has b ∙ ap (λ ps. min 1 (claims_of b ps - 1)) (sym (claims c)))
+returns-clause-second c = λ b. (ends c).second_has b ∙ ap (λ ps. min 1 (claims_of b ps - 1)) (sym (claims c))
+
+pub returns-clause-second_words : goal.returns-clause-second_words
+returns-clause-second_words c = (ends c).second_words

@@ -5,6 +5,13 @@ use Rattle.nv_claimmap.specs.Held.{MapId, Held}
 use Rattle.nv_claimmap.proofs.Keeping.{draw_allowed}
 use Rattle.nv_claimmap.proofs.map.ClaimMap.draw.Goals as goal
 
+-- a seat that isn't ended holds no number past the end
+still_going : (m : MapId) (inside now : Held) → inside ≡ now → now.map ≡ m → past inside.map.sizes.tickets inside.view.numbers ≡ 0 → 0 < past m.sizes.tickets now.view.numbers → ⊥
+still_going m inside now is own none some =
+    let shown : past now.map.sizes.tickets now.view.numbers ≡ 0 = subst (λ (h : Held). past h.map.sizes.tickets h.view.numbers ≡ 0) is none in
+    let here : past m.sizes.tickets now.view.numbers ≡ 0 = subst (λ (x : MapId). past x.sizes.tickets now.view.numbers ≡ 0) own shown in
+    absurd (omega arith)
+
 pub fetch_add-number-requires : goal.fetch_add-number-requires
 fetch_add-number-requires c =
     let seat = c.seat.inside in let map = c.self.inside in
@@ -20,3 +27,12 @@ fetch_add-number-requires c =
       omega arith,
       draw_allowed map.table.shared.key fits map.table.shared.table_id.slots seat.seat.id seat.seat.me room,
     )
+
+pub returns-then-number-self-clause-ended : goal.returns-then-number-self-clause-ended
+returns-then-number-self-clause-ended c = λ some. absurd (still_going _ _ _ c.seat.view_is c.requires.own (c.seat.invariant.going c.if-seat.false) some)
+
+pub returns-then-number-self-clause-rests : goal.returns-then-number-self-clause-rests
+returns-then-number-self-clause-rests c = λ some. absurd (still_going _ _ _ c.seat.view_is c.requires.own (c.seat.invariant.going c.if-seat.false) some)
+
+pub returns-clause-rests : goal.returns-clause-rests
+returns-clause-rests c = λ some. absurd (still_going _ _ _ c.seat.view_is c.requires.own (c.seat.invariant.going c.if-seat.false) some)

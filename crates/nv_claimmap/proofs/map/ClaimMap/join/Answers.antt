@@ -13,8 +13,8 @@ use Rattle.nv_claimmap.proofs.map.ClaimMap.join.Goals as goal
 
 pub join_seat-requires : goal.join_seat-requires
 join_seat-requires c = let words = c.self.invariant.table_words in (
-  ap (λ (h : Held). h.map.table) c.one.view_is ∙ (ap (λ (m : MapId). m.table) c.requires.own.0 ∙ sym (ap (λ (m : MapId). m.table) c.self.view_is)),
-  ap (λ (h : Held). h.map.table) c.other.view_is ∙ (ap (λ (m : MapId). m.table) c.requires.own.1 ∙ sym (ap (λ (m : MapId). m.table) c.self.view_is)),
+  ap (λ (h : Held). h.map.table) c.one.view_is ∙ (ap (λ (m : MapId). m.table) c.requires.own ∙ sym (ap (λ (m : MapId). m.table) c.self.view_is)),
+  ap (λ (h : Held). h.map.table) c.other.view_is ∙ (ap (λ (m : MapId). m.table) c.requires.other ∙ sym (ap (λ (m : MapId). m.table) c.self.view_is)),
   c.other.invariant.slots,
   omega arith,
   both_allowed _ _ _ _ _,
@@ -22,7 +22,7 @@ join_seat-requires c = let words = c.self.invariant.table_words in (
 
 pub load-requires : goal.load-requires
 load-requires c = let words = c.self.invariant.table_words in (
-  c.join_seat.ensures.0 ∙ (ap (λ (h : Held). h.map.table) c.one.view_is ∙ (ap (λ (m : MapId). m.table) c.requires.own.0 ∙ sym (ap (λ (m : MapId). m.table) c.self.view_is))),
+  c.join_seat.ensures.0 ∙ (ap (λ (h : Held). h.map.table) c.one.view_is ∙ (ap (λ (m : MapId). m.table) c.requires.own ∙ sym (ap (λ (m : MapId). m.table) c.self.view_is))),
   omega arith,
   look_allowed _ _ _ _ _,
 )
@@ -32,7 +32,7 @@ invariant_of-one-2 c =
     let me = c.load.ensures.2.0 ∙ c.join_seat.ensures.2 in
     let a = c.one.inside in let b = c.other.inside in
     let v : View = a.seat.me.0 in let u : View = b.seat.me.0 in
-    let same : b.sizes.tickets ≡ a.sizes.tickets = ap (λ (h : Held). h.map.sizes.tickets) c.other.view_is ∙ (ap (λ (m : MapId). m.sizes.tickets) (c.requires.own.1 ∙ sym c.requires.own.0) ∙ sym (ap (λ (h : Held). h.map.sizes.tickets) c.one.view_is)) in
+    let same : b.sizes.tickets ≡ a.sizes.tickets = ap (λ (h : Held). h.map.sizes.tickets) c.other.view_is ∙ (ap (λ (m : MapId). m.sizes.tickets) (c.requires.other ∙ sym c.requires.own) ∙ sym (ap (λ (h : Held). h.map.sizes.tickets) c.one.view_is)) in
     let sum : past a.sizes.tickets c.load.new.seat.me.0.numbers ≡ past a.sizes.tickets v.numbers + past b.sizes.tickets u.numbers =
     ap (λ m. past a.sizes.tickets m.0.numbers) me ∙ (past_both a.sizes.tickets v.numbers u.numbers ∙ ap (λ t. past a.sizes.tickets v.numbers + past t u.numbers) (sym same)) in record {
       slots = ap (λ m. m.1) me ∙ c.one.invariant.slots;
@@ -49,10 +49,14 @@ invariant_of-one-2 c =
       claims = c.append.ensures ∙ ((λ i. c.reserve.ensures.items i ++ c.other.inside.claims.items) ∙ ((λ i. c.one.invariant.claims i ++ c.other.invariant.claims i) ∙ (sym (pairs_both v.records u.records) ∙ ap (λ m. map pair_of m.0.records) (sym me))));
     }
 
-pub returns-clause-ok : goal.returns-clause-ok
-returns-clause-ok c = (
-  ap (λ t. record { table = t; sizes = c.one.inside.sizes }) (c.load.ensures.0 ∙ c.join_seat.ensures.0) ∙ ap (λ (h : Held). h.map) c.one.view_is,
-  ap (λ (h : Held). h.number) c.one.view_is,
-  ap (λ m. m.0) (c.load.ensures.2.0 ∙ c.join_seat.ensures.2) ∙ (λ i. both_views (c.one.view_is i).view (c.other.view_is i).view),
-  λ b. subst (λ (u : View). won b u ≤ 1) (sym (ap (λ m. m.0) c.load.ensures.2.0)) (c.load.ensures.2.1 b),
-)
+pub returns-clause-map : goal.returns-clause-map
+returns-clause-map c = ap (λ t. record { table = t; sizes = c.one.inside.sizes }) (c.load.ensures.0 ∙ c.join_seat.ensures.0) ∙ ap (λ (h : Held). h.map) c.one.view_is
+
+pub returns-clause-number : goal.returns-clause-number
+returns-clause-number c = ap (λ (h : Held). h.number) c.one.view_is
+
+pub returns-clause-view : goal.returns-clause-view
+returns-clause-view c = ap (λ m. m.0) (c.load.ensures.2.0 ∙ c.join_seat.ensures.2) ∙ (λ i. both_views (c.one.view_is i).view (c.other.view_is i).view)
+
+pub returns-clause-once : goal.returns-clause-once
+returns-clause-once c = λ b. subst (λ (u : View). won b u ≤ 1) (sym (ap (λ m. m.0) c.load.ensures.2.0)) (c.load.ensures.2.1 b)
