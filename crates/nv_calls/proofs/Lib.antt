@@ -6,3 +6,4 @@ pub mod Root
 pub mod Formatted
 pub mod Determined
 pub mod Stopped
+pub mod OneAnswer
