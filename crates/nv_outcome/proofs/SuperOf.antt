@@ -1,11 +1,13 @@
 -- What an accepted superblock is.
-use Rattle.std.proofs.Common.{◌≡◌, ◌≢◌, ℕ, ◌+◌, ◌*◌, ◌/◌, ◌<◌, ◌≤◌, inl, inr, sym, ◌∙◌, arith}
+use Rattle.std.proofs.Common.{◌≡◌, ◌≢◌, ℕ, ◌+◌, ◌*◌, ◌/◌, ◌<◌, ◌≤◌, inl, inr, refl, ap, sym, ◌∙◌, arith}
+use Rattle.std.specs.Prelude.{◌==◌, if◌then◌else◌}
 use Rattle.std.proofs.lemmas.Bool.{cases_eq, cases_lt}
 use Rattle.nv_region.specs.Region.{Region, word, size}
 use Rattle.nv_super.specs.Layout.{most_blocks, IsLayout}
-use Rattle.nv_super.specs.Super.{IsSuper}
+use Rattle.nv_super.specs.Super.{IsSuper, IsRefused, rank}
 use Rattle.nv_super.specs.declared.superblock.Super.{Super}
-use Rattle.nv_super.specs.declared.superblock.SuperFault.TheVariants.{Length, Version, Cpus, Blocks, Tables, State}
+use Rattle.nv_super.specs.declared.superblock.SuperFault.{SuperFault}
+use Rattle.nv_super.specs.declared.superblock.SuperFault.TheVariants.{Length, Magic, Version, Cpus, Blocks, Tables, State}
 
 -- a region has one superblock
 pub one_super : (R : Region) (s t : Super) → IsSuper R s → IsSuper R t → t ≡ s
@@ -16,6 +18,28 @@ one_super R s t p q = λ i. record {
   table_blocks = (q.table_blocks ∙ sym p.table_blocks) i;
   state = (q.state ∙ sym p.state) i;
 }
+
+abbrev fault_at : ℕ → SuperFault
+fault_at place = if place == 1 then Length else (if place == 2 then Magic else (if place == 3 then Version else (if place == 4 then Cpus else (if place == 5 then Blocks else (if place == 6 then Tables else State)))))
+
+fault_back : (fault : SuperFault) → fault_at (rank fault) ≡ fault
+fault_back Length = refl
+fault_back Magic = refl
+fault_back Version = refl
+fault_back Cpus = refl
+fault_back Blocks = refl
+fault_back Tables = refl
+fault_back State = refl
+
+-- a region is refused for one fault
+pub one_fault : (R : Region) (a b : SuperFault) → IsRefused R a → IsRefused R b → a ≡ b
+one_fault R a b p q = elim (cases_lt (rank a) (rank b)) [
+  | inl less ↦ absurd (q.first a less p.applies)
+  | inr more ↦ elim (cases_lt (rank b) (rank a)) [
+    | inl less ↦ absurd (p.first b less q.applies)
+    | inr other ↦ (let same : rank a ≡ rank b = omega (arith, more, other) in sym (fault_back a) ∙ ap fault_at same ∙ fault_back b)
+  ]
+]
 
 is_equal : (a b : ℕ) → (a ≢ b → ⊥) → a ≡ b
 is_equal a b h = elim (cases_eq a b) [ inl e ↦ e | inr ne ↦ absurd (h ne) ]
