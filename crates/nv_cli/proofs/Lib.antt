@@ -8,3 +8,4 @@ pub mod Checked
 pub mod Progress
 pub mod KnownProgress
 pub mod LineReplies
+pub mod OneTranscript

@@ -61,7 +61,7 @@ row_only a b s t same p q =
     let head = head_only a b same in
     p.2 ∙ (λ i. sym head i ++ content i) ∙ sym q.2
 
-tree_only : (xs ys : List Row) (s t : List ℕ) → SameRows xs ys → IsTreeText xs s → IsTreeText ys t → s ≡ t
+pub tree_only : (xs ys : List Row) (s t : List ℕ) → SameRows xs ys → IsTreeText xs s → IsTreeText ys t → s ≡ t
 tree_only [] [] s t same p q = p ∙ sym q
 tree_only [] (y ∷ ys) s t same p q = absurd same
 tree_only (x ∷ xs) [] s t same p q = absurd same

@@ -26,6 +26,6 @@ mod store;
 mod texts;
 
 pub use checking::check_region;
-pub use laws::{one_report, one_row_text};
+pub use laws::{one_check, one_report, one_row_text, one_transcript};
 pub use nv_stream::ScriptError;
 pub use script::run_script;

@@ -1,0 +1,9 @@
+use Rattle.nv_cli.specs.Machine.{first_state}
+use Rattle.nv_cli.proofs.OneTranscript.{shows_one}
+use Rattle.nv_cli.proofs.laws.one_transcript.Goals as goal
+
+pub returns-clause-text : goal.returns-clause-text
+returns-clause-text c = λ lines text other status another p q. (shows_one 1 first_state lines text other status another p q).0
+
+pub returns-clause-status : goal.returns-clause-status
+returns-clause-status c = λ lines text other status another p q. (shows_one 1 first_state lines text other status another p q).1
