@@ -6,3 +6,4 @@ pub mod Resumed
 pub mod Partly
 pub mod Listed
 pub mod Words
+pub mod SuperKept

@@ -1,5 +1,5 @@
 -- Recovering again shows the same, but for pending records.
-use Rattle.std.proofs.Common.{◌≡◌, ℕ, ◌*◌, ◌+◌, sym, ◌∙◌, subst, arith}
+use Rattle.std.proofs.Common.{◌≡◌, ℕ, ◌*◌, ◌+◌, sym, ◌∙◌, refl, subst, arith}
 use Rattle.nv_region.specs.Region.{Region}
 use Rattle.nv_super.specs.declared.superblock.Super.{Super}
 use Rattle.nv_super.specs.declared.owners.Owner.{Owner}
@@ -15,59 +15,62 @@ use Rattle.nv_journal.specs.Faults.{HasFault, IsPointerFault}
 use Rattle.nv_journal.proofs.Partly.{low_rule}
 use Rattle.nv_scan.specs.Faults.{IsFaultOf, IsEntryFault, e1, e2, e3, e4, i1, i2, i3, l1, l2, l3, l4, entry}
 use Rattle.nv_outcome.specs.Outcome.{AreRows, AreFreeLists, IsDoubled, IsCrossFault, c1, c2, c2_root, c3, c4, c5, IsFaulty, journal, inode, cross, double, Outcome, IsOutcome}
-use Rattle.nv_outcome.specs.Same.{IsLasting, ShowsAgain}
+use Rattle.nv_outcome.specs.Same.{is_lasting, IsLasting, ShowsAgain, lasting_outcome}
 use Rattle.nv_outcome.proofs.SuperOf.{layout_of_super}
+use Rattle.nv_check.proofs.Filters.{from_filter, into_filter}
+use Rattle.nv_outcome.proofs.Members.{rises_filter}
 use Rattle.nv_outcome.proofs.OnlyOne.{same_rows, same_free}
-use Rattle.nv_journal.proofs.AnyLength.{first_word, faults_left, undo_twice}
+use Rattle.nv_journal.proofs.AnyLength.{faults_left, undo_twice}
+use Rattle.nv_journal.proofs.SuperKept.{super_undone}
 
 -- ---- faults that last
 
-entry_lasts : {s : Super} {kind : _} {i : ℕ} {entries : _} {f : Fault} → IsEntryFault s kind i entries f → IsLasting f
-entry_lasts (e1 before x behind fault) = tt
-entry_lasts (e2 before x behind fault) = tt
-entry_lasts (e3 before at e old behind good add known) = tt
-entry_lasts (e4 before at e behind good remove unknown) = tt
+pub entry_lasts : {s : Super} {kind : _} {i : ℕ} {entries : _} {f : Fault} → IsEntryFault s kind i entries f → IsLasting f
+entry_lasts (e1 before x behind fault) = refl
+entry_lasts (e2 before x behind fault) = refl
+entry_lasts (e3 before at e old behind good add known) = refl
+entry_lasts (e4 before at e behind good remove unknown) = refl
 
-inode_lasts : {R : Region} {l : Layout} {i : ℕ} {f : Fault} → IsFaultOf R l i f → IsLasting f
-inode_lasts (i1 s h) = tt
-inode_lasts (i2 s h k) = tt
-inode_lasts (i3 s k t) = tt
-inode_lasts (l1 h e) = tt
-inode_lasts (l2 h e) = tt
-inode_lasts (l3 h e) = tt
-inode_lasts (l4 h e) = tt
+pub inode_lasts : {R : Region} {l : Layout} {i : ℕ} {f : Fault} → IsFaultOf R l i f → IsLasting f
+inode_lasts (i1 s h) = refl
+inode_lasts (i2 s h k) = refl
+inode_lasts (i3 s k t) = refl
+inode_lasts (l1 h e) = refl
+inode_lasts (l2 h e) = refl
+inode_lasts (l3 h e) = refl
+inode_lasts (l4 h e) = refl
 inode_lasts (entry h e) = entry_lasts e
 
-cross_lasts : {R : Region} {l : Layout} {f : Fault} → IsCrossFault R l f → IsLasting f
-cross_lasts (c1 name i h out) = tt
-cross_lasts (c2 names h dir other are ne) = tt
-cross_lasts (c2_root names h dir are some) = tt
-cross_lasts (c3 names h file are ne) = tt
-cross_lasts (c4 u out) = tt
-cross_lasts (c5 out) = tt
+pub cross_lasts : {R : Region} {l : Layout} {f : Fault} → IsCrossFault R l f → IsLasting f
+cross_lasts (c1 name i h out) = refl
+cross_lasts (c2 names h dir other are ne) = refl
+cross_lasts (c2_root names h dir are some) = refl
+cross_lasts (c3 names h file are ne) = refl
+cross_lasts (c4 u out) = refl
+cross_lasts (c5 out) = refl
 
-pointer_lasts : (f : Fault) → IsPointerFault f → IsLasting f
-pointer_lasts (faults.J1 cpu) h = tt
+pub pointer_lasts : (f : Fault) → IsPointerFault f → IsLasting f
+pointer_lasts (faults.J1 cpu) h = refl
 pointer_lasts _ h = absurd h
 
 -- of a journal's faults those of pointers last
-lasts_pointer : (s : Super) (R : Region) (f : Fault) → HasFault s R f → IsLasting f → IsPointerFault f
+pub lasts_pointer : (s : Super) (R : Region) (f : Fault) → HasFault s R f → IsLasting f → IsPointerFault f
 lasts_pointer s R (faults.J1 cpu) h lasting = tt
-lasts_pointer s R (faults.J2 cpu k) h lasting = absurd lasting
+lasts_pointer s R (faults.J2 cpu k) h lasting = absurd (cc)
 lasts_pointer s R _ h lasting = absurd h.2
 
 -- ---- the region with its journals rolled back
 
 module _ (R : Region) (s : Super) (is : IsSuper R s) where
-  rule : LiesBehind (is_permitted s) ((1 + s.cpus) * 4096)
+  pub rule : LiesBehind (is_permitted s) ((1 + s.cpus) * 4096)
   rule = low_rule s (layout_of_super R s is)
 
   -- it stays so
-  stays : undone s (undone s R) ≡ undone s R
+  pub stays : undone s (undone s R) ≡ undone s R
   stays = undo_twice (is_permitted s) s.cpus rule R
 
   -- its superblock is as before
-  super_again : (t : Super) → IsSuper (undone s R) t → t ≡ s
+  pub super_again : (t : Super) → IsSuper (undone s R) t → t ≡ s
   super_again t q = λ i. record {
     version = (q.version ∙ first_word (is_permitted s) s.cpus rule R 8 (omega arith) (omega arith) ∙ sym is.version) i;
     cpus = (q.cpus ∙ first_word (is_permitted s) s.cpus rule R 16 (omega arith) (omega arith) ∙ sym is.cpus) i;
@@ -76,13 +79,13 @@ module _ (R : Region) (s : Super) (is : IsSuper R s) where
     state = (q.state ∙ first_word (is_permitted s) s.cpus rule R 40 (omega arith) (omega arith) ∙ sym is.state) i;
   }
 
-  faulty_before : {f : Fault} → IsFaulty (undone s R) s f → IsFaulty R s f × IsLasting f
+  pub faulty_before : {f : Fault} → IsFaulty (undone s R) s f → IsFaulty R s f × IsLasting f
   faulty_before {f} (journal h) = let w = (faults_left (is_permitted s) s.cpus rule R f).0 h in (journal w.0, pointer_lasts f w.1)
   faulty_before {f} (inode i h) = let P : Region → Type 0 = λ Q. IsFaultOf Q (fixed_layout s) i f in (inode i (subst P stays h), inode_lasts h)
   faulty_before {f} (cross h) = let P : Region → Type 0 = λ Q. IsCrossFault Q (fixed_layout s) f in (cross (subst P stays h), cross_lasts h)
-  faulty_before (double {b = b} {o = o} h) = let P : Region → Type 0 = λ Q. IsDoubled Q (fixed_layout s) b o in (double (subst P stays h), tt)
+  faulty_before (double {b = b} {o = o} h) = let P : Region → Type 0 = λ Q. IsDoubled Q (fixed_layout s) b o in (double (subst P stays h), refl)
 
-  faulty_again : {f : Fault} → IsFaulty R s f → IsLasting f → IsFaulty (undone s R) s f
+  pub faulty_again : {f : Fault} → IsFaulty R s f → IsLasting f → IsFaulty (undone s R) s f
   faulty_again {f} (journal h) lasting = journal ((faults_left (is_permitted s) s.cpus rule R f).1 (h, lasts_pointer s R f h lasting))
   faulty_again {f} (inode i h) lasting = let P : Region → Type 0 = λ Q. IsFaultOf Q (fixed_layout s) i f in inode i (subst P (sym stays) h)
   faulty_again {f} (cross h) lasting = let P : Region → Type 0 = λ Q. IsCrossFault Q (fixed_layout s) f in cross (subst P (sym stays) h)
@@ -109,3 +112,20 @@ shows_again R a b p q = record {
 
   its : Lists fault_key (IsFaulty (undone a.sup R) a.sup) b.faults
   its = subst (λ (s : Super). Lists fault_key (IsFaulty (undone a.sup R) s) b.faults) e q.faults
+
+-- ---- the outcome of the region that was rolled back
+
+pub rolled_back : (R : Region) (o : Outcome) → IsOutcome R o → IsOutcome (undone o.sup R) (lasting_outcome o)
+rolled_back R o is = record {
+  sup = super_undone o.sup R (layout_of_super R o.sup is.sup) is.sup;
+  rows = (let P : Region → Type 0 = λ Q. AreRows Q (fixed_layout o.sup) o.rows in subst P (sym same) is.rows);
+  free = (let P : Region → Type 0 = λ Q. AreFreeLists Q (fixed_layout o.sup) o.free in subst P (sym same) is.free);
+  doubled = (let P : Region → Type 0 = λ Q. Lists claim_key (λ (x : ℕ × Owner). IsDoubled Q (fixed_layout o.sup) x.0 x.1) o.doubled in subst P (sym same) is.doubled);
+  faults = record {
+    rising = rises_filter fault_key is_lasting o.faults is.faults.rising;
+    each = λ f c. (let w = from_filter is_lasting o.faults f c in faulty_again R o.sup is.sup (is.faults.each f w.0) w.1);
+    all = λ f h. (let w = faulty_before R o.sup is.sup h in into_filter is_lasting o.faults f (is.faults.all f w.0) w.1);
+  };
+} where
+  same : undone o.sup (undone o.sup R) ≡ undone o.sup R
+  same = stays R o.sup is.sup

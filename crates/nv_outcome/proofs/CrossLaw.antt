@@ -36,13 +36,13 @@ names_directory l log name x e = test log.kind refl where
 
 module _ {R : Region} {l : Layout} {rows : List Row} (are : AreRows R l rows) where
   -- a row of an inode, with what stands behind it
-  record Stands (i : ℕ) (a : ℕ) (log : Log) : Type 0 where
-    row : Row
-    here : Contains rows row
-    is : IsRow R l a log row
-    inode : row.inode ≡ i
+  pub record Stands (i : ℕ) (a : ℕ) (log : Log) : Type 0 where
+    pub row : Row
+    pub here : Contains rows row
+    pub is : IsRow R l a log row
+    pub inode : row.inode ≡ i
 
-  stands : (i a : ℕ) (log : Log) → IsInode R l i a log → Stands i a log
+  pub stands : (i a : ℕ) (log : Log) → IsInode R l i a log → Stands i a log
   stands i a w h =
       let r = are.all i (a, w, h) in
       let q = are.each r.0 r.1 in

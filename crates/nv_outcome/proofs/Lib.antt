@@ -1,10 +1,12 @@
 pub mod Members
 pub mod Counts
+pub mod Finite
 pub mod Pieces
 pub mod RowsOf
 pub mod SuperOf
 pub mod CrossLaw
 pub mod Whole
+pub mod OwnersOf
 pub mod Shared
 pub mod OnlyOne
 pub mod Again

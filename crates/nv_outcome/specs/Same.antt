@@ -1,6 +1,6 @@
 -- When two outcomes are the same: an index is compared by what each page and each name stands for.
-use Rattle.std.specs.Prelude.{◌≡◌, ◌↔◌, ℕ, List, [], ◌∷◌}
-use Rattle.std.specs.List.{Contains}
+use Rattle.std.specs.Prelude.{◌≡◌, ◌↔◌, ℕ, Bool, true, false, List, [], ◌∷◌}
+use Rattle.std.specs.List.{Contains, filter}
 use Rattle.nv_super.specs.declared.faults.Fault.{Fault}
 use Rattle.nv_super.specs.declared.faults.Fault.TheVariants.{J2}
 use Rattle.nv_radix.specs.Pages.{block_at}
@@ -35,9 +35,17 @@ pub record SameOutcome (a b : Outcome) : Type 0 where
   pub faults : b.faults ≡ a.faults
 
 -- not the fault of a pending record: once a journal was rolled back none is pending
+abbrev pub is_lasting : Fault → Bool
+is_lasting (J2 cpu k) = false
+is_lasting _ = true
+
+-- the same as a fact
 abbrev pub IsLasting : Fault → Type 0
-IsLasting (J2 cpu k) = ⊥
-IsLasting _ = Unit {0}
+IsLasting f = is_lasting f ≡ true
+
+-- the outcome without the faults of pending records
+abbrev pub lasting_outcome : Outcome → Outcome
+lasting_outcome o = record o { faults = filter is_lasting o.faults }
 
 -- The second outcome shows what the first does, without the faults of pending records.
 pub record ShowsAgain (a b : Outcome) : Type 0 where

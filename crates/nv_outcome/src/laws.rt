@@ -5,7 +5,7 @@ ghost use Rattle.nv_region.specs.Region.{Region};
 ghost use Rattle.nv_super.specs.declared.superblock.Super.{Super};
 ghost use Rattle.nv_super.specs.declared.owners.Owner.{Owner};
 ghost use Rattle.nv_super.specs.declared.faults.Fault.{Fault};
-ghost use Rattle.nv_super.specs.Layout.{IsLayout, Layout, fixed_layout};
+ghost use Rattle.nv_super.specs.Layout.{Layout, fixed_layout};
 ghost use Rattle.nv_super.specs.Super.{IsSuper};
 ghost use Rattle.nv_journal.specs.Undo.{undone};
 ghost use Rattle.nv_alloc.specs.FreeValue.{FreeLists};
@@ -13,7 +13,7 @@ ghost use Rattle.nv_scan.specs.declared.piece.Row.{Row};
 ghost use Rattle.nv_scan.specs.declared.piece.Piece.{Piece};
 ghost use Rattle.nv_check.specs.Cross.{IsCrossFaultIn};
 ghost use Rattle.nv_outcome.specs.Outcome.{AreRows, IsCrossFault, Outcome, IsOutcome};
-ghost use Rattle.nv_outcome.specs.Same.{SameOutcome, ShowsAgain};
+ghost use Rattle.nv_outcome.specs.Same.{SameOutcome, ShowsAgain, lasting_outcome};
 ghost use Rattle.nv_outcome.specs.Shared.{SharesAll};
 ghost use Rattle.nv_outcome.specs.Parts.{AreParts, rows_in};
 
@@ -29,11 +29,9 @@ pub fn parts_make_the_outcome()
         → IsOutcome region record { sup = s; rows = rows_in pieces; free = free.pools; doubled = doubled; faults = found } }
 {}
 
-/// Where there are no faults, each data block stands in exactly one free list or has exactly one owner.
+/// Where an outcome has no faults, each data block stands in exactly one free list or has exactly one owner.
 pub fn each_block_once()
-    ensures { (region : Region) (s : Super) (pieces : List Piece) (claims : List (ℕ × Owner)) (first second : List ℕ) (free : FreeLists) (doubled : List (ℕ × Owner)) (journal cross : List Fault)
-        → IsLayout s → AreParts region s pieces claims first second free doubled journal cross []
-        → SharesAll (undone s region) (fixed_layout s) free.pools }
+    ensures { (region : Region) (o : Outcome) → IsOutcome region o → o.faults ≡ [] → SharesAll (undone o.sup region) (fixed_layout o.sup) o.free }
 {}
 
 /// What is wrong between the rows of a region is what is wrong between its inodes.
@@ -44,4 +42,10 @@ pub fn cross_faults_are()
 /// Recovering again shows the same, but for the pending records of journals, of which none is left.
 pub fn recovered_again()
     ensures { (region : Region) (a b : Outcome) → IsOutcome region a → IsOutcome (undone a.sup region) b → ShowsAgain a b }
+{}
+
+/// A region that was rolled back has an outcome: that of before, without the faults of pending records. And it is its own undone region.
+pub fn rolled_back_outcome()
+    ensures outcome { (region : Region) (o : Outcome) → IsOutcome region o → IsOutcome (undone o.sup region) (lasting_outcome o) }
+    ensures same { (region : Region) (o : Outcome) → IsOutcome region o → undone o.sup (undone o.sup region) ≡ undone o.sup region }
 {}

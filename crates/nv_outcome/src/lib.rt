@@ -9,4 +9,5 @@ mod laws;
 
 pub use laws::{
     cross_faults_are, each_block_once, one_outcome, parts_make_the_outcome, recovered_again,
+    rolled_back_outcome,
 };

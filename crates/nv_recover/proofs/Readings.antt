@@ -122,11 +122,7 @@ module _ (old new : Region) (o : Opened) (r : Recovered) (opened : IsOpened old 
   reading_undone = opened.rolled_back ∙ ap (λ (s : Super). undone s old) (sym reading.sup)
 
   pub reading_shares : r.faults.items ≡ [] → SharesBlocks new r
-  reading_shares none =
-      let clean : AreParts old o.sup reading.pieces reading.claims reading.first reading.second r.free r.doubled.items o.journal.items reading.cross [] =
-      subst (λ (found : List Fault). AreParts old o.sup reading.pieces reading.claims reading.first reading.second r.free r.doubled.items o.journal.items reading.cross found) none parts in
-      subst (λ (s : Super). SharesAll new (fixed_layout s) r.free.pools) (sym reading.sup)
-      (subst (λ (R : Region). SharesAll R (fixed_layout o.sup) r.free.pools) (sym opened.rolled_back) (shares_all opened.layout clean))
+  reading_shares none = subst (λ (R : Region). SharesAll R (fixed_layout r.sup) r.free.pools) (sym reading_undone) (shares_all reading_outcome none)
 
 -- the free lists are those of the answer's superblock
 pub reading_lists : (R : Region) (o : Opened) (r : Recovered) → IsReading R o.sup o.journal.items r → r.free.sup ≡ r.sup

@@ -64,7 +64,7 @@ module _ {R : Region} {l : Layout} {i a : ℕ} {log : Log} (is : IsInode R l i a
   same_log h = (IsInode-only h is).1
 
   -- what the inode owns is what its log's pages and its index give
-  owned : (pages : List ℕ) (m : Pages) → pages ≡ log.pages → ((p : ℕ) → block_at m p ≡ block_of (good_of l log) p)
+  pub owned : (pages : List ℕ) (m : Pages) → pages ≡ log.pages → ((p : ℕ) → block_at m p ≡ block_of (good_of l log) p)
       → (b : ℕ) (o : Owner) → Owns R l b o → inode_of o ≡ i → IsClaim i pages m (b, o)
   owned pages m same index b (owners.Log j k) h e =
       let w = owned_log (subst (λ (n : ℕ). Owns R l b (owners.Log n k)) e h) in
@@ -75,7 +75,7 @@ module _ {R : Region} {l : Layout} {i a : ℕ} {log : Log} (is : IsInode R l i a
       subst (λ (n : ℕ). IsClaim i pages m (b, owners.Data n p)) (sym e)
       (of_page p b (index p ∙ ap (λ (x : Log). block_of (good_of l x) p) (sym (same_log w.is)) ∙ w.maps))
 
-  owns : (pages : List ℕ) (m : Pages) → pages ≡ log.pages → ((p : ℕ) → block_at m p ≡ block_of (good_of l log) p)
+  pub owns : (pages : List ℕ) (m : Pages) → pages ≡ log.pages → ((p : ℕ) → block_at m p ≡ block_of (good_of l log) p)
       → (x : ℕ × Owner) → IsClaim i pages m x → Owns R l x.0 x.1 × (inode_of x.1 ≡ i)
   owns pages m same index _ (of_log k b h) = (by_log is (ap (λ (xs : List ℕ). slice_get xs k) (sym same) ∙ h), refl)
   owns pages m same index _ (of_page p b h) = (by_page is (sym (index p) ∙ h), refl)

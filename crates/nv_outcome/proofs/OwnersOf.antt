@@ -1,0 +1,80 @@
+-- The owners of blocks, found by the rows.
+use Rattle.std.proofs.Common.{◌≡◌, ◌⊎◌, inl, inr, ◌==◌, ℕ, ◌<◌, Bool, true, false, cond, List, [], ◌∷◌, map, length, Option, Some, None, slice_get, refl, sym, subst, arith, eqb-true}
+use Rattle.std.specs.List.{Contains}
+use Rattle.std.proofs.lemmas.Option.{slice_get_within}
+use Rattle.nv_region.specs.Region.{Region}
+use Rattle.nv_super.specs.declared.owners.Owner.{Owner}
+use Rattle.nv_super.specs.declared.owners.Owner.TheVariants as owners
+use Rattle.nv_super.specs.Layout.{Layout}
+use Rattle.nv_super.proofs.Rising.{Contains-head, Contains-tail}
+use Rattle.nv_radix.specs.Pages.{Pages, block_at}
+use Rattle.nv_scan.specs.Inode.{Log, IsInode}
+use Rattle.nv_scan.specs.Owners.{Owns, inode_of}
+use Rattle.nv_scan.specs.Claims.{IsClaim, of_log, of_page}
+use Rattle.nv_scan.specs.declared.piece.Row.{Row}
+use Rattle.nv_scan.proofs.Only.{owned_log, owned_page}
+use Rattle.nv_scan.proofs.Pieces.{owned, owns}
+use Rattle.nv_outcome.specs.Outcome.{AreRows}
+use Rattle.nv_outcome.proofs.CrossLaw.{stands}
+use Rattle.nv_outcome.proofs.Finite.{Decided, told_as, number_is, Finite, only, elements, value_of, numbers, by_name, either, over, those, some}
+
+-- the pages of an index
+abbrev pages_of : Pages → List ℕ
+pages_of m = map (λ (x : ℕ × Option ℕ). x.0) m
+
+page_listed : (m : Pages) (p b : ℕ) → block_at m p ≡ Some b → Contains (pages_of m) p
+page_listed [] p b h = absurd (cc)
+page_listed (x ∷ m) p b h = test (x.0 == p) refl (page_listed m p b) h where
+  test : (t : Bool) → (x.0 == p) ≡ t → (block_at m p ≡ Some b → Contains (pages_of m) p) → cond t x.1 (block_at m p) ≡ Some b → Contains (x.0 ∷ pages_of m) p
+  test true e rest h = subst (Contains (x.0 ∷ pages_of m)) (eqb-true x.0 p e) (Contains-head x.0 (pages_of m))
+  test false e rest h = Contains-tail x.0 (pages_of m) p (rest h)
+
+-- the claims of one inode
+claims : (i : ℕ) (pages : List ℕ) (m : Pages) → Finite (IsClaim i pages m)
+claims i pages m = by_name there back (either logs files) where
+  OfLog : ℕ × Owner → Type 0
+  OfLog x = (k : ℕ) × (k < length pages) × ((b : ℕ) × (slice_get pages k ≡ Some b) × (x ≡ (b, owners.Log i k)))
+
+  OfPage : ℕ × Owner → Type 0
+  OfPage x = (p : ℕ) × Contains (pages_of m) p × ((b : ℕ) × (block_at m p ≡ Some b) × (x ≡ (b, owners.Data i p)))
+
+  logs : Finite OfLog
+  logs = over (numbers (length pages)) (λ k. over (value_of (slice_get pages k)) (λ b. only (b, owners.Log i k)))
+
+  files : Finite OfPage
+  files = over (elements (pages_of m)) (λ p. over (value_of (block_at m p)) (λ b. only (b, owners.Data i p)))
+
+  there : (x : ℕ × Owner) → OfLog x ⊎ OfPage x → IsClaim i pages m x
+  there x (inl w) = subst (IsClaim i pages m) (sym w.2.2) (of_log w.0 w.2.0 w.2.1)
+  there x (inr w) = subst (IsClaim i pages m) (sym w.2.2) (of_page w.0 w.2.0 w.2.1)
+
+  back : (x : ℕ × Owner) → IsClaim i pages m x → OfLog x ⊎ OfPage x
+  back _ (of_log k b h) = inl (k, slice_get_within pages k b h, (b, h, refl))
+  back _ (of_page p b h) = inr (p, page_listed m p b h, (b, h, refl))
+
+in_use_of : {R : Region} {l : Layout} (b : ℕ) (o : Owner) → Owns R l b o → (a : ℕ) × (log : Log) × IsInode R l (inode_of o) a log
+in_use_of b (owners.Log i k) h = let w = owned_log h in (w.a, w.log, w.is)
+in_use_of b (owners.Data i p) h = let w = owned_page h in (w.a, w.log, w.is)
+
+module _ {R : Region} {l : Layout} {rows : List Row} (are : AreRows R l rows) where
+  -- all owners, each with its block
+  pub claimed : Finite (λ (x : ℕ × Owner). Owns R l x.0 x.1)
+  claimed = by_name there back (over (elements rows) (λ (r : Row). claims r.inode r.pages.items r.index)) where
+    Claimed : ℕ × Owner → Type 0
+    Claimed x = (r : Row) × Contains rows r × IsClaim r.inode r.pages.items r.index x
+
+    there : (x : ℕ × Owner) → Claimed x → Owns R l x.0 x.1
+    there x w = let q = are.each w.0 w.1 in (owns q.2.inode w.0.pages.items w.0.index q.2.pages q.2.index x w.2).0
+
+    back : (x : ℕ × Owner) → Owns R l x.0 x.1 → Claimed x
+    back x h =
+        let u = in_use_of x.0 x.1 h in
+        let s = stands are (inode_of x.1) u.0 u.1 u.2 in
+        (s.row, s.here, owned s.is.inode s.row.pages.items s.row.index s.is.pages s.is.index x.0 x.1 h (sym s.inode))
+
+  -- a block has an owner or none
+  pub owned_or_not : (b : ℕ) → Decided ((o : Owner) × Owns R l b o)
+  owned_or_not b = told_as
+      (λ w. (w.0.1, subst (λ (c : ℕ). Owns R l c w.0.1) w.1.1 w.1.0))
+      (λ h. ((b, h.0), (h.1, refl)))
+      (some (those (λ (x : ℕ × Owner). x.0 ≡ b) claimed (λ x. number_is x.0 b)))
