@@ -8,6 +8,9 @@ pub mod CrossLaw
 pub mod Whole
 pub mod OwnersOf
 pub mod Shared
+pub mod FreeRuns
+pub mod CrossFinite
+pub mod JournalFinite
 pub mod OnlyOne
 pub mod Again
 pub mod Reordered
