@@ -15,3 +15,4 @@ pub mod OnlyOne
 pub mod Again
 pub mod Reordered
 pub mod Tickets
+pub mod Exists

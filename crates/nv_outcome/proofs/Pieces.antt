@@ -9,10 +9,11 @@ use Rattle.nv_super.specs.Layout.{Layout, slot_of}
 use Rattle.nv_super.specs.Order.{owner_key, Rises}
 use Rattle.nv_super.proofs.Rising.{Contains-head, Contains-tail}
 use Rattle.nv_scan.specs.Owners.{Owns, by_log, by_page, inode_of}
-use Rattle.nv_scan.specs.Faults.{Has, IsFaultOf, i1, i2, i3, l1, l2, l3, l4, entry}
+use Rattle.nv_scan.specs.Faults.{Has, IsFaultOf}
 use Rattle.nv_scan.specs.Rows.{IsPiece}
 use Rattle.nv_scan.specs.Work.{claims_in}
 use Rattle.nv_scan.specs.declared.piece.Piece.{Piece}
+use Rattle.nv_scan.proofs.Existing.{slot_of_fault}
 use Rattle.nv_scan.proofs.Only.{slot_in_use}
 use Rattle.nv_scan.proofs.Rising.{Below, head_least}
 use Rattle.nv_outcome.specs.Parts.{ArePieces, faults_in, piece_key}
@@ -22,16 +23,6 @@ use Rattle.nv_outcome.proofs.Counts.{Once, Once-from_rises, Once-append}
 pub slot_of_owner : {R : Region} {l : Layout} {b : ℕ} (o : Owner) → Owns R l b o → (a : ℕ) × (slot_of l (inode_of o) ≡ Some a)
 slot_of_owner (owners.Log i k) (by_log {a = a} h e) = (a, slot_in_use h)
 slot_of_owner (owners.Data i p) (by_page {a = a} h e) = (a, slot_in_use h)
-
-pub slot_of_fault : {R : Region} {l : Layout} {i : ℕ} {f : Fault} → IsFaultOf R l i f → (a : ℕ) × (slot_of l i ≡ Some a)
-slot_of_fault (i1 {a = a} s h) = (a, s)
-slot_of_fault (i2 {a = a} s h k) = (a, s)
-slot_of_fault (i3 {a = a} s k t) = (a, s)
-slot_of_fault (l1 {a = a} h e) = (a, slot_in_use h)
-slot_of_fault (l2 {a = a} h e) = (a, slot_in_use h)
-slot_of_fault (l3 {a = a} h e) = (a, slot_in_use h)
-slot_of_fault (l4 {a = a} h e) = (a, slot_in_use h)
-slot_of_fault (entry {a = a} h e) = (a, slot_in_use h)
 
 module _ {R : Region} {l : Layout} where
   pub owned_claimed : (ps : List Piece) → ArePieces R l ps → (b : ℕ) (o : Owner) → Owns R l b o → Contains (claims_in ps) (b, o)

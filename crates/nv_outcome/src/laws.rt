@@ -3,10 +3,11 @@
 ghost use Rattle.std.specs.Prelude.{◌≡◌, ◌↔◌, ℕ, List, []};
 ghost use Rattle.nv_region.specs.Region.{Region};
 ghost use Rattle.nv_super.specs.declared.superblock.Super.{Super};
+ghost use Rattle.nv_super.specs.declared.superblock.SuperFault.{SuperFault};
 ghost use Rattle.nv_super.specs.declared.owners.Owner.{Owner};
 ghost use Rattle.nv_super.specs.declared.faults.Fault.{Fault};
 ghost use Rattle.nv_super.specs.Layout.{Layout, fixed_layout};
-ghost use Rattle.nv_super.specs.Super.{IsSuper};
+ghost use Rattle.nv_super.specs.Super.{IsSuper, IsRefused};
 ghost use Rattle.nv_journal.specs.Undo.{undone};
 ghost use Rattle.nv_alloc.specs.FreeValue.{FreeLists};
 ghost use Rattle.nv_scan.specs.declared.piece.Row.{Row};
@@ -20,6 +21,12 @@ ghost use Rattle.nv_outcome.specs.Parts.{AreParts, rows_in};
 /// A region has one outcome, so what a recovery answers is a function of the region.
 pub fn one_outcome()
     ensures { (region : Region) (a b : Outcome) → IsOutcome region a → IsOutcome region b → SameOutcome a b }
+{}
+
+/// Each region has an outcome where its superblock is accepted, and none where it is refused.
+pub fn each_region_has_an_outcome()
+    ensures some { (region : Region) (s : Super) → IsSuper region s → (o : Outcome) × (o.sup ≡ s) × IsOutcome region o }
+    ensures none { (region : Region) (fault : SuperFault) (o : Outcome) → IsRefused region fault → IsOutcome region o → ⊥ }
 {}
 
 /// The pieces of all inodes, the sets of the blocks that they claim, and what is made of these are the outcome.

@@ -8,6 +8,6 @@
 mod laws;
 
 pub use laws::{
-    cross_faults_are, each_block_once, one_outcome, parts_make_the_outcome, recovered_again,
-    rolled_back_outcome,
+    cross_faults_are, each_block_once, each_region_has_an_outcome, one_outcome,
+    parts_make_the_outcome, recovered_again, rolled_back_outcome,
 };

@@ -17,3 +17,4 @@ pub mod Owned
 pub mod KindsApart
 pub mod Runs
 pub mod Work
+pub mod Existing

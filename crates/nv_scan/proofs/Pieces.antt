@@ -94,7 +94,7 @@ module _ {R : Region} {l : Layout} {i a : ℕ} {log : Log} (is : IsInode R l i a
     pub split : (f : Fault) → IsFaultOf R l i f → IsEntryFault l.sup log.kind i log.entries f ⊎ (fault ≡ Some f)
     pub apart : (f : Fault) → fault ≡ Some f → IsEntryFault l.sup log.kind i log.entries f → ⊥
 
-  faults_are : (found : List Fault) (fault : Option Fault) → FaultBy fault → Has (IsEntryFault l.sup log.kind i log.entries) found → Has (IsFaultOf R l i) (found ++ cons_option fault [])
+  pub faults_are : (found : List Fault) (fault : Option Fault) → FaultBy fault → Has (IsEntryFault l.sup log.kind i log.entries) found → Has (IsFaultOf R l i) (found ++ cons_option fault [])
   faults_are found None by has = rw append-nil record {
     each = λ f c. entry is (has.each f c);
     all = λ f h. elim (by.split f h) [ inl w ↦ has.all f w | inr w ↦ absurd (cc) ];
