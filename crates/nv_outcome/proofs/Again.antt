@@ -16,7 +16,7 @@ use Rattle.nv_journal.proofs.Partly.{low_rule}
 use Rattle.nv_scan.specs.Faults.{IsFaultOf, IsEntryFault, e1, e2, e3, e4, i1, i2, i3, l1, l2, l3, l4, entry}
 use Rattle.nv_outcome.specs.Outcome.{AreRows, AreFreeLists, IsDoubled, IsCrossFault, c1, c2, c2_root, c3, c4, c5, IsFaulty, journal, inode, cross, double, Outcome, IsOutcome}
 use Rattle.nv_outcome.specs.Same.{is_lasting, IsLasting, ShowsAgain, lasting_outcome}
-use Rattle.nv_outcome.proofs.SuperOf.{layout_of_super}
+use Rattle.nv_outcome.proofs.SuperOf.{one_super, layout_of_super}
 use Rattle.nv_check.proofs.Filters.{from_filter, into_filter}
 use Rattle.nv_outcome.proofs.Members.{rises_filter}
 use Rattle.nv_outcome.proofs.OnlyOne.{same_rows, same_free}
@@ -71,13 +71,7 @@ module _ (R : Region) (s : Super) (is : IsSuper R s) where
 
   -- its superblock is as before
   pub super_again : (t : Super) → IsSuper (undone s R) t → t ≡ s
-  super_again t q = λ i. record {
-    version = (q.version ∙ first_word (is_permitted s) s.cpus rule R 8 (omega arith) (omega arith) ∙ sym is.version) i;
-    cpus = (q.cpus ∙ first_word (is_permitted s) s.cpus rule R 16 (omega arith) (omega arith) ∙ sym is.cpus) i;
-    blocks = (q.blocks ∙ first_word (is_permitted s) s.cpus rule R 24 (omega arith) (omega arith) ∙ sym is.blocks) i;
-    table_blocks = (q.table_blocks ∙ first_word (is_permitted s) s.cpus rule R 32 (omega arith) (omega arith) ∙ sym is.table_blocks) i;
-    state = (q.state ∙ first_word (is_permitted s) s.cpus rule R 40 (omega arith) (omega arith) ∙ sym is.state) i;
-  }
+  super_again t q = one_super (undone s R) s t (super_undone s R (layout_of_super R s is) is) q
 
   pub faulty_before : {f : Fault} → IsFaulty (undone s R) s f → IsFaulty R s f × IsLasting f
   faulty_before {f} (journal h) = let w = (faults_left (is_permitted s) s.cpus rule R f).0 h in (journal w.0, pointer_lasts f w.1)
