@@ -5,8 +5,9 @@ ghost use Rattle.nv_entry.specs.Spelling.{entry_length};
 
 use crate::entry::{AttrEntry, Entry, LinksEntry, NameEntry, Operation, WriteEntry};
 use crate::{
-    ContentFault, FileName, Framing, check_content, is_out_of_range, is_wrong_kind, length,
-    no_spelling_begins_another, one_entry_at_a_place, one_spelling, read_entry, write_entry,
+    ContentFault, FileName, Framing, an_entry_or_none_at_a_place, check_content, is_out_of_range,
+    is_wrong_kind, length, no_spelling_begins_another, one_entry_at_a_place, one_spelling,
+    read_entry, write_entry,
 };
 use nv_region::MemRegion;
 use nv_super::{Kind, Super};
@@ -426,4 +427,5 @@ fn the_laws_can_be_called() {
     no_spelling_begins_another();
     one_spelling();
     one_entry_at_a_place();
+    an_entry_or_none_at_a_place();
 }

@@ -4,8 +4,9 @@ ghost use Rattle.std.specs.Prelude.{◌≡◌, IfOk};
 ghost use Rattle.nv_region.specs.Region.{HasBlocks};
 
 use crate::{
-    Finding, LogEnd, LogFault, LogReader, Placed, Walk, log_pages_are_data_blocks,
-    reads_its_pages_alone, reads_on_from_the_tail, reads_once, right_logs_can_be_read, walk,
+    Finding, LogEnd, LogFault, LogReader, Placed, Walk, a_log_has_the_page_of_its_tail,
+    entries_stand_apart, log_pages_are_data_blocks, reads_its_pages_alone, reads_on_from_the_tail,
+    reads_once, right_logs_can_be_read, right_logs_have_a_reading, walk,
 };
 use nv_entry::{AttrEntry, Entry};
 use nv_region::{MemRegion, Pmem};
@@ -389,4 +390,7 @@ fn the_laws_hold(_rt: HostRuntime) {
     reads_on_from_the_tail();
     log_pages_are_data_blocks();
     right_logs_can_be_read();
+    right_logs_have_a_reading();
+    a_log_has_the_page_of_its_tail();
+    entries_stand_apart();
 }

@@ -9,6 +9,8 @@
 mod claiming;
 mod claims;
 mod fold;
+#[cfg(test)]
+mod gate_tests;
 mod laws;
 mod names;
 mod numbers;

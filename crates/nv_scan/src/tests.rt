@@ -6,8 +6,8 @@ ghost use Rattle.nv_claimcore.specs.Claims.{nothing};
 
 use crate::{
     Numbers, OpenGate, Piece, Row, Scanner, directories_have_no_pages, files_have_no_names,
-    inode_alone, names_are_listed, one_block, one_inode, owned_blocks_are_data_blocks, scan_slot,
-    worker,
+    in_use_by_the_slot, inode_alone, mapped_pages_begin_below_the_size, names_are_listed,
+    one_block, one_inode, owned_blocks_are_data_blocks, scan_slot, worker,
 };
 use nv_claimcore::Sizes;
 use nv_claimmap::{ClaimMap, ClaimSeat, Claimed};
@@ -347,10 +347,12 @@ fn a_worker_claims_what_the_inodes_own(rt: HostRuntime) -> Result<(), Fail> {
 fn the_laws_can_be_called(rt: HostRuntime) {
     one_inode();
     inode_alone();
+    in_use_by_the_slot();
     one_block();
     names_are_listed();
     owned_blocks_are_data_blocks();
     files_have_no_names();
     directories_have_no_pages();
+    mapped_pages_begin_below_the_size();
     assert!(rt; true);
 }
