@@ -24,7 +24,7 @@ pub struct Row {
 }
 
 /// All that is found of one inode by itself: its row, if it is in use, the blocks that it claims, each with the owner,
-/// first the pages of the log in their order and then the pages of the file, and its faults, in no order.
+/// first the pages of the log in their order and then the pages of the file, and its faults, each once and in no order.
 #[derive(Drop)]
 pub struct Piece {
     pub inode: u64,
