@@ -86,17 +86,17 @@ impl ClaimMap {
         ensures map { seat.new.map ≡ seat.old.map }
         ensures number { seat.new.number ≡ seat.old.number }
         ensures some { IfSome result (λ t. t < self.now.sizes.tickets) }
-        // The seat hasn't drawn the ticket before.
+        // The ticket is none of the seat's numbers.
         ensures unseen { IfSome result (λ t. times t seat.old.view.numbers ≡ 0) }
-        // A seat's tickets rise.
+        // The seat's numbers are all below the ticket.
         ensures rises { IfSome result (λ t. above seat.old.view.numbers ≤ t) }
         ensures joins { IfSome result (λ t. seat.new.view ≡ with_number seat.old.view t) }
         ensures none { IfNone result (0 < past self.now.sizes.tickets seat.new.view.numbers) }
-        // Without a ticket at most a number past the end is drawn.
+        // Where there is no ticket, at most a number past the end is drawn.
         ensures last { IfNone result ((seat.new.view ≡ seat.old.view) ⊎ ((n : ℕ) × (self.now.sizes.tickets ≤ n) × (seat.new.view ≡ with_number seat.old.view n))) }
         // A seat that holds a number past the end, a joined one too, gets no ticket any more.
         ensures ended { 0 < past self.now.sizes.tickets seat.old.view.numbers → IsNone result }
-        // Nor does it make a step.
+        // Such a seat makes no step.
         ensures rests { 0 < past self.now.sizes.tickets seat.old.view.numbers → seat.new ≡ seat.old }
     {
         if seat.ended {
