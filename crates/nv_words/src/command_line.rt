@@ -10,6 +10,22 @@ use clap::builder::ValueParser;
 use clap::{Arg, Command, value_parser};
 use std::alloc::{AllocError, Global};
 
+const RUN_NOTES: &str = "\
+Exit status:
+  0  the last recovery showed no faults, or there was none
+  1  the last recovery showed faults
+  2  a bad line; the last recovery was refused; the script or the output failed; or memory ran out
+
+docs/SCRIPT.md tells the commands of a script and the lines that they print.";
+
+const CHECK_NOTES: &str = "\
+Exit status:
+  0  the report shows no faults
+  1  the report shows faults
+  2  the image was refused; the file can't be read; the output failed; or memory ran out
+
+docs/SCRIPT.md tells the lines of a report, docs/FAULTS.md what each fault means.";
+
 fn workers_parser<'a>() -> ValueParser<'a>
     ensures { result ≡ ValueParser.Signed (pos 1) (pos 64) }
 {
@@ -35,13 +51,13 @@ fn path<'a>(alloc: Global) -> Arg<'a>
         .help("The file that holds the image")
 }
 
-fn run<'a>(alloc: Global) -> Result<Command<'a>, AllocError>
-    ensures local { IfOk result (λ c. (out-Command c).has_globals ≡ false) }
-    ensures shape { IfOk result (λ c. app_of c ≡ run_app) }
+fn run<'a>(alloc: Global) -> Command<'a>
+    ensures local { (out-Command result).has_globals ≡ false }
+    ensures shape { app_of result ≡ run_app }
 {
     Command::new(alloc, "run")
         .about("Runs the script on standard input and prints its answers")
-        .bin_name("nova run")
+        .after_help(RUN_NOTES)
 }
 
 fn check<'a>(alloc: Global) -> Result<Command<'a>, AllocError>
@@ -50,26 +66,27 @@ fn check<'a>(alloc: Global) -> Result<Command<'a>, AllocError>
 {
     Command::new(alloc, "check")
         .about("Recovers an image in memory and prints its report; the file is never written")
-        .bin_name("nova check")?
+        .after_help(CHECK_NOTES)
         .arg(path(alloc))?
         .arg(workers(alloc))
 }
 
-// The program before its commands.
-fn bare<'a>(alloc: Global) -> Command<'a>
-    ensures { app_of result ≡ bare_app }
+// The program before its commands. Its name leads the usage of each command.
+fn bare<'a>(alloc: Global) -> Result<Command<'a>, AllocError>
+    ensures { IfOk result (λ c. app_of c ≡ bare_app) }
 {
     Command::new(alloc, "nova")
         .about("Runs scripts on images of the NOVA file system, and checks an image")
         .no_binary_name(true)
         .subcommand_required(true)
+        .bin_name("nova")
 }
 
 /// The program's command line. Fails where memory is refused.
 pub(crate) fn nova<'a>(alloc: Global) -> Result<Command<'a>, AllocError>
     ensures { IfOk result (λ c. app_of c ≡ nova_app) }
 {
-    bare(alloc)
-        .subcommand(run(alloc)?)?
+    bare(alloc)?
+        .subcommand(run(alloc))?
         .subcommand(check(alloc)?)
 }

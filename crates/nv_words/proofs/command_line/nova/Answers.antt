@@ -8,5 +8,5 @@ pub returns : goal.returns
 returns c =
     let top : App → _ = λ a. a.top in
     let run_is : app_of c.in_ok-subcommand.field-0 ≡ with_subcommand bare_app run_app.top
-    = c.in_ok-subcommand.ensures.shape c.in_ok-run.ensures.local ∙ ap₂ with_subcommand c.bare.ensures (ap top c.in_ok-run.ensures.shape) in
+    = c.in_ok-subcommand.ensures.shape c.run.ensures.local ∙ ap₂ with_subcommand c.in_ok-bare.ensures (ap top c.run.ensures.shape) in
     IfOk-weaker c.subcommand-2.result _ _ (λ new adds. adds.shape c.in_ok-check.ensures.local ∙ ap₂ with_subcommand run_is (ap top c.in_ok-check.ensures.shape)) c.subcommand-2.ensures
