@@ -8,6 +8,9 @@ folder=$(mktemp -d)
 trap 'rm -rf "$folder"' EXIT
 chmod 755 "$folder"
 wrong=0
+newline=$'\n'
+# U+FFFD, which stands for bytes that aren't UTF-8.
+replacement=$'\xef\xbf\xbd'
 
 # expect NAME STATUS OUTPUT ERROR COMMAND..: what the command has to answer, to write and to say.
 expect() {
@@ -28,20 +31,30 @@ expect() {
 : >"$folder/empty"
 head -c 100 /dev/zero >"$folder/short"
 mkdir "$folder/folder"
-truncate -s 1100M "$folder/long"
+truncate -s 268435456 "$folder/longest"
+truncate -s 268435457 "$folder/longer"
+long_way=$(printf './%.0s' {1..300})
+not_utf8=$folder/$'a\xffb'
+: >"$not_utf8"
 
 expect "an empty file" 2 "refused S1" "" "$program" check "$folder/empty"
 expect "100 bytes" 2 "refused S1" "" "$program" check "$folder/short"
 expect "100 bytes, 64 workers" 2 "refused S1" "" "$program" check "$folder/short" --workers 64
-expect "a file longer than a region can be" 2 "refused S1" "" "$program" check "$folder/long"
-expect "a missing file" 2 "" "cannot read $folder/missing" "$program" check "$folder/missing"
-expect "a folder" 2 "" "cannot read $folder/folder" "$program" check "$folder/folder"
+expect "a file of zeros as long as the longest region" 2 "refused S2" "" "$program" check "$folder/longest"
+expect "a file longer than a region can be" 2 "refused S1" "" "$program" check "$folder/longer"
+expect "a path of more than 600 bytes" 2 "refused S1" "" "$program" check "$folder/${long_way}short"
+expect "a missing file" 2 "" "cannot read $folder/missing${newline}no such file" "$program" check "$folder/missing"
+expect "a folder" 2 "" "cannot read $folder/folder${newline}it is a directory" "$program" check "$folder/folder"
+expect "a file in the place of a folder" 2 "" "cannot read $folder/short/a${newline}Not a directory (os error 20)" \
+    "$program" check "$folder/short/a"
+expect "a path that isn't UTF-8" 2 "" "cannot read $folder/a${replacement}b${newline}its path isn't UTF-8" \
+    "$program" check "$not_utf8" --workers 2
 if [ "$(id -u)" = 0 ]; then
     # The program is copied, since others may not reach the folder that it stands in.
     cp "$program" "$folder/nova"
     : >"$folder/closed"
     chmod 600 "$folder/closed"
-    expect "a file without permission" 2 "" "cannot read $folder/closed" \
+    expect "a file without permission" 2 "" "cannot read $folder/closed${newline}no permission to read it" \
         setpriv --reuid 65534 --regid 65534 --clear-groups "$folder/nova" check "$folder/closed"
 else
     echo "left out: a file without permission (needs root)"

@@ -5,6 +5,7 @@ ghost use Rattle.std.specs.Io.KnownBytes.{Appends};
 ghost use Rattle.nv_stream.specs.Streams.{AppendsFront};
 
 use crate::contents::{Contents, Unread, contents_at};
+use crate::reason::Reason;
 use nv_cli::{ScriptError, check_region};
 use nv_stream::write_text;
 use std::io::Write;
@@ -12,14 +13,14 @@ use std::rt::Files;
 use std::thread::Threads;
 use std::{fmt, io};
 
-// The number of bytes of the longest region.
-const LONGEST_REGION: usize = 1 << 30;
+// The number of bytes of the longest region: 65,536 blocks of 4096 bytes.
+const LONGEST_REGION: usize = 65_536 * 4096;
 
 /// What ends a check before its answer.
-#[derive(Clone, Copy, Debug, PartialEq, Eq)]
+#[derive(Clone, Copy, Debug)]
 pub(crate) enum CheckError<'a> {
-    /// The file at this path can't be read.
-    CannotRead(&'a str),
+    /// The file at this path can't be read, for this reason, which its text leaves out.
+    CannotRead(&'a str, Reason),
     /// The answer can't be held in memory, or not be written.
     Answer(ScriptError),
 }
@@ -41,7 +42,7 @@ impl fmt::Display for CheckError<'_> {
 
     fn fmt<W: fmt::Write>(&self, f: &mut fmt::Formatter<W>) -> fmt::Result {
         match self {
-            CheckError::CannotRead(path) => write!(f, "cannot read {path}"),
+            CheckError::CannotRead(path, _) => write!(f, "cannot read {path}"),
             CheckError::Answer(error) => write!(f, "{error}"),
         }
     }
@@ -68,7 +69,7 @@ pub(crate) fn check<'a, H: Files + AllocGlobal + Print + Threads + Sync>(
             Ok(status)
         }
         Ok(Contents::Longer) => Ok(refuse_length(&mut io::writer(rt))?),
-        Err(Unread::Unreadable) => Err(CheckError::CannotRead(path)),
+        Err(Unread::Unreadable(error)) => Err(CheckError::CannotRead(path, Reason::System(error))),
         Err(Unread::Memory) => Err(CheckError::Answer(ScriptError::Memory)),
     }
 }

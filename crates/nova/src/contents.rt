@@ -19,25 +19,24 @@ pub(crate) enum Contents {
 }
 
 /// Why a file's bytes are not there.
-#[derive(Clone, Copy, Debug, PartialEq, Eq)]
+#[derive(Clone, Copy, Debug)]
 pub(crate) enum Unread {
-    /// The file is missing, isn't a file, or can't be read.
-    Unreadable,
+    /// The file is missing, isn't a file, or can't be read, as the system's error says.
+    Unreadable(Error),
     /// Memory was refused.
     Memory,
 }
 
 impl From<Error> for Unread {
     ghost use Rattle.std.specs.Prelude.{◌≡◌};
-    ghost use Rattle.std.specs.IoError.{error_kind};
     ghost use Rattle.nova.specs.Errors.{unread_of};
 
-    ghost from_gives = { λ error e. e ≡ unread_of (error_kind error) };
+    ghost from_gives = { λ error e. e ≡ unread_of error };
 
     fn from(error: Error) -> Unread {
         match error.kind() {
             ErrorKind::OutOfMemory => Unread::Memory,
-            _ => Unread::Unreadable,
+            _ => Unread::Unreadable(error),
         }
     }
 }

@@ -7,43 +7,63 @@
 
 mod check;
 mod contents;
+mod reason;
 #[cfg(test)]
 mod tests;
+mod words;
 
 ghost use Rattle.std.specs.Prelude.{◌≡◌, MatchResult};
 ghost use Rattle.std.specs.Process.{exit_status};
 
-use check::check;
+use check::{CheckError, check};
 use nv_cli::{ScriptError, run_script};
 use nv_words::{Todo, read_words};
-use std::env;
+use reason::Reason;
 use std::fmt::Display;
 use std::process::ExitCode;
+use words::words_of;
 
 fn main(rt: HostRuntime) -> ExitCode {
     let alloc = rt.alloc();
-    let Ok(arguments) = env::args(&rt) else {
+    let Ok(words) = words_of(&rt, alloc) else {
         return refused(&rt, ScriptError::Memory);
     };
-    let Ok(texts) = arguments.skip(1).collect::<Vec<String>>(alloc) else {
-        return refused(&rt, ScriptError::Memory);
-    };
-    let Ok(words) = texts
+    let Ok(texts) = words
+        .texts
         .iter()
         .map(|text| text.as_str())
         .collect::<Vec<&str>>(alloc)
     else {
         return refused(&rt, ScriptError::Memory);
     };
-    match read_words(alloc, words.as_slice()) {
+    match read_words(alloc, texts.as_slice()) {
         Ok(Todo::Run) => ended(&rt, run_script(&rt, alloc, rt.stdin(), &mut rt.stdout())),
-        Ok(Todo::Check { path, workers }) => ended(&rt, check(&rt, path, workers)),
+        // Of the words of a check only the path can be one that isn't UTF-8.
+        Ok(Todo::Check { path, .. }) if !words.are_utf8 => {
+            checked(&rt, Err(CheckError::CannotRead(path, Reason::PathNotUtf8)))
+        }
+        Ok(Todo::Check { path, workers }) => checked(&rt, check(&rt, path, workers)),
         Err(usage) => {
             // Its text ends its last line.
             let _ = eprint!(rt; "{usage}");
             ExitCode::from(2)
         }
     }
+}
+
+// Ends the program as a check ended. Behind the text of a file that can't be read a line says why.
+fn checked(rt: &HostRuntime, answer: Result<u8, CheckError<'_>>) -> ExitCode
+    ensures { MatchResult answer.entry (λ status. exit_status result ≡ status) (λ _. exit_status result ≡ 2) }
+{
+    let reason = match &answer {
+        Err(CheckError::CannotRead(_, reason)) => Some(*reason),
+        _ => None,
+    };
+    let code = ended(rt, answer);
+    if let Some(reason) = reason {
+        let _ = eprintln!(rt; "{reason}");
+    }
+    code
 }
 
 // Ends the program with the status that it has come to, or refused.

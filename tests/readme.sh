@@ -1,0 +1,131 @@
+#!/usr/bin/env bash
+# Runs the commands and scripts that README.md and docs/ show on the built program, and compares what they print; and looks
+# up in the sources what README.md and docs/ quote of them. Builds and the gate are left out.
+#
+#     tests/readme.sh                      prints a line for each difference, and closes with 'N passed, M failed'
+#     tests/readme.sh --scripts FOLDER     also keeps the scripts, with what they print and their status, for rows-on-workers.py
+#
+# In docs/ a block `script` is run by `nova run`, and the block `output` behind it is what it prints but for lines `ok`. A
+# command on an indented line prints the next block. `parallel` and `man` are left out where they aren't installed.
+set -u
+here=$(cd "$(dirname "${BASH_SOURCE[0]}")/.." && pwd)
+program=$here/crates/nova/out/nova
+kept=
+if [ "${1-}" = --scripts ] && [ $# -eq 2 ]; then
+    mkdir -p "$2" && kept=$(cd "$2" && pwd)
+elif [ $# -ne 0 ]; then
+    sed -n 's/^# \{0,1\}//p' "${BASH_SOURCE[0]}" | sed -n 2,9p >&2
+    exit 2
+fi
+if [ ! -x "$program" ]; then
+    echo "there is no program at $program; ./nova builds it" >&2
+    exit 2
+fi
+folder=$(mktemp -d)
+trap 'rm -rf "$folder"' EXIT
+cd "$here" || exit 2
+passed=0
+failed=0
+
+# same NAME WANTED FOUND
+same() {
+    if [ "$2" = "$3" ]; then
+        passed=$((passed + 1))
+    else
+        failed=$((failed + 1))
+        echo "WRONG: $1"
+        diff <(printf '%s\n' "$2") <(printf '%s\n' "$3") | sed 's/^/    /'
+    fi
+}
+
+# Writes each case of a document: what is run, its kind, and what it prints.
+cases_of() {
+    awk -v into="$folder/$2" '
+        function begin(what) { number++; name = sprintf("%s-%02d", into, number); kind = what }
+        block == "" && /^```script$/ { begin("script"); block = "run"; printf "" > (name ".run"); next }
+        block == "" && /^```/ { block = (name != "" && !done[name]) ? "out" : "skip"; if (block == "out") { done[name] = 1; printf "" > (name ".out"); print kind > (name ".kind") } next }
+        block != "" && /^```$/ { block = ""; next }
+        block == "run" { print > (name ".run"); next }
+        block == "out" { print > (name ".out"); next }
+        block == "skip" { next }
+        /^    (\.\/nova run <|\.\/nova check [a-z]|od )/ { begin("command"); sub(/^    /, ""); print > (name ".run") }
+    ' "$1"
+}
+
+for document in README.md docs/*.md; do
+    cases_of "$document" "$(basename "$document" .md)"
+done
+for kind in "$folder"/*.kind; do
+    name=${kind%.kind}
+    title=$(basename "$name"): $(head -n 1 "$name.run")
+    if [ "$(cat "$kind")" = script ]; then
+        "$program" run <"$name.run" >"$name.whole" 2>&1
+        status=$?
+        same "$title" "$(cat "$name.out")" "$(grep -vx ok "$name.whole")"
+        if [ -n "$kept" ]; then
+            cp "$name.run" "$kept/$(basename "$name").script"
+            cp "$name.whole" "$kept/$(basename "$name").expected"
+            echo "$status" >"$kept/$(basename "$name").status"
+        fi
+    else
+        same "$title" "$(cat "$name.out")" "$(sed "s|^\./nova |'$program' |" "$name.run" | bash 2>&1)"
+    fi
+done
+
+# Statuses that README.md tells.
+"$program" run <examples/first.nova >/dev/null
+same "status of the first example" 0 $?
+"$program" check examples/ring.img >/dev/null
+same "status of examples/ring.img" 1 $?
+for words in "check --help" "run --help" "--help" ""; do
+    # shellcheck disable=SC2086
+    "$program" $words >"$folder/said" 2>"$folder/help"
+    same "status of nova $words" 2 $?
+    same "standard output of nova $words" "" "$(cat "$folder/said")"
+done
+for command in run check; do
+    same "usage of nova $command" "Usage: nova $command" "$("$program" $command --help 2>&1 | grep -o "^Usage: nova $command")"
+done
+
+if command -v parallel >/dev/null; then
+    mkdir "$folder/images"
+    cp examples/ring.img "$folder/images/one"
+    cp examples/ring.img "$folder/images/two"
+    wanted=$(for image in one two; do "$program" check examples/ring.img | sed "s|^|images/$image\t|"; done)
+    found=$(cd "$folder" && parallel --tag "$program" check {} ::: images/* 2>/dev/null)
+    same "status of parallel over two images with faults" 2 $?
+    same "parallel over two images" "$wanted" "$(sort -s -k1,1 <<<"$found")"
+else
+    echo "left out: parallel isn't installed"
+fi
+if command -v man >/dev/null; then
+    same "man ./docs/nova.1" "NOVA(1)" "$(man ./docs/nova.1 2>/dev/null | head -n 1 | grep -o '^NOVA(1)')"
+else
+    echo "left out: man isn't installed"
+fi
+same "the output of mount_and_list" "$(cat crates/mount_and_list/stdout)" "$(grep -xFf crates/mount_and_list/stdout README.md)"
+
+# Clauses and definitions that are quoted stand in the sources.
+while IFS= read -r line; do
+    grep -rqF -- "$line" crates/*/src crates/*/specs
+    same "quoted: $line" 0 $?
+done < <(awk '/^```/ { inside = !inside; next } inside && /^(ensures |outcome_of |pub record |  pub )/' README.md docs/READING.md)
+
+# Each row of docs/PROVED.md names files that are there, and clauses or functions that stand in one of them.
+while IFS='|' read -r crate clauses files; do
+    paths=()
+    for file in $(grep -oE '[a-z_/]*(src|specs)(/[A-Za-z_]+\.(rt|antt))?' <<<"$files"); do
+        [ -e "crates/$file" ] || file=$crate/$file
+        [ -e "crates/$file" ]
+        same "docs/PROVED.md: crates/$file" 0 $?
+        paths+=("crates/$file")
+    done
+    for word in $(grep -o '`[^`]*`' <<<"$clauses" | tr -d '`'); do
+        grep -rqw -- "$word" "${paths[@]:-crates/$crate/src}"
+        same "docs/PROVED.md: $word in ${paths[*]:-$crate}" 0 $?
+    done
+done < <(awk -F'|' '/^## / { crate = $0; sub(/^## /, "", crate); sub(/[ :,].*/, "", crate) }
+    /^\| / && !/^\| promise/ { print crate "|" $3 "|" $4 }' docs/PROVED.md)
+
+echo "$passed passed, $failed failed"
+[ "$failed" -eq 0 ]
