@@ -57,7 +57,7 @@ for document in README.md docs/*.md; do
 done
 for kind in "$folder"/*.kind; do
     name=${kind%.kind}
-    title=$(basename "$name"): $(head -n 1 "$name.run")
+    title="$(basename "$name"): $(head -n 1 "$name.run")"
     if [ "$(cat "$kind")" = script ]; then
         "$program" run <"$name.run" >"$name.whole" 2>&1
         status=$?
