@@ -1,5 +1,5 @@
 //! Makes a region in memory, formats it, recovers it, and lists its inodes and its free blocks, by the calls that a program
-//! of one's own would make. What is listed is proved to be the outcome of the region that `format` made.
+//! of one's own would make. What `mount` answers is proved to be an outcome of the region that `format` made.
 #![tactic(auto)]
 
 ghost use Rattle.std.specs.Prelude.{IfOk};
