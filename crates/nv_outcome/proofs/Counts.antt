@@ -7,23 +7,19 @@ use Rattle.nv_super.specs.declared.owners.Owner.{Owner}
 use Rattle.nv_super.specs.Order.{Rises}
 use Rattle.nv_super.specs.Sets.{claims_of}
 use Rattle.nv_super.proofs.Rising.{Contains-cons, Contains-head, Contains-tail}
+use Rattle.nv_scan.specs.Faults.{IsOnce}
 use Rattle.nv_scan.proofs.Rising.{head_least}
 use Rattle.nv_outcome.proofs.Members.{none_in, tail_rises, below_not_self}
 
--- no element stands twice
-abbrev pub Once : {A : Type 0} → List A → Type 0
-Once [] = Unit {0}
-Once (x ∷ xs) = (Contains xs x → ⊥) × Once xs
+pub IsOnce-from_rises : {A : Type 0} (key : A → List ℕ) (xs : List A) → Rises key xs → IsOnce xs
+IsOnce-from_rises key [] r = tt
+IsOnce-from_rises key (x ∷ xs) r = (λ c. below_not_self (key x) (head_least key x xs r x c), IsOnce-from_rises key xs (tail_rises key x xs r))
 
-pub Once-from_rises : {A : Type 0} (key : A → List ℕ) (xs : List A) → Rises key xs → Once xs
-Once-from_rises key [] r = tt
-Once-from_rises key (x ∷ xs) r = (λ c. below_not_self (key x) (head_least key x xs r x c), Once-from_rises key xs (tail_rises key x xs r))
-
-pub Once-append : {A : Type 0} (xs ys : List A) → Once xs → Once ys → ((x : A) → Contains xs x → Contains ys x → ⊥) → Once (xs ++ ys)
-Once-append [] ys a b apart = b
-Once-append (x ∷ xs) ys a b apart = (
+pub IsOnce-append : {A : Type 0} (xs ys : List A) → IsOnce xs → IsOnce ys → ((x : A) → Contains xs x → Contains ys x → ⊥) → IsOnce (xs ++ ys)
+IsOnce-append [] ys a b apart = b
+IsOnce-append (x ∷ xs) ys a b apart = (
   λ c. elim (Contains-append_cases xs ys x c) [ inl w ↦ a.0 w | inr w ↦ apart x (Contains-head x xs) w ],
-  Once-append xs ys a.1 b (λ y v w. apart y (Contains-tail x xs y v) w),
+  IsOnce-append xs ys a.1 b (λ y v w. apart y (Contains-tail x xs y v) w),
 )
 
 pub claims_yes : (x : ℕ × Owner) (xs : List (ℕ × Owner)) (b : ℕ) → eqb x.0 b ≡ true → claims_of b (x ∷ xs) ≡ 1 + claims_of b xs
@@ -91,7 +87,7 @@ pub record TwoOf (xs : List (ℕ × Owner)) (b : ℕ) : Type 0 where
   pub has_two : Contains xs (b, two)
 
 -- a block that is counted twice has two claims
-pub two_claims : (xs : List (ℕ × Owner)) (b : ℕ) → Once xs → 1 < claims_of b xs → TwoOf xs b
+pub two_claims : (xs : List (ℕ × Owner)) (b : ℕ) → IsOnce xs → 1 < claims_of b xs → TwoOf xs b
 two_claims [] b once h = absurd (omega arith)
 two_claims (x ∷ xs) b once h = test (two_claims xs b once.1) (eqb x.0 b) refl where
   less_one : {n : ℕ} → 1 < 1 + n → 0 < n

@@ -9,7 +9,7 @@ use Rattle.nv_super.specs.Layout.{Layout, slot_of}
 use Rattle.nv_super.specs.Order.{owner_key, Rises}
 use Rattle.nv_super.proofs.Rising.{Contains-head, Contains-tail}
 use Rattle.nv_scan.specs.Owners.{Owns, by_log, by_page, inode_of}
-use Rattle.nv_scan.specs.Faults.{Has, IsFaultOf}
+use Rattle.nv_scan.specs.Faults.{Has, IsOnce, IsFaultOf}
 use Rattle.nv_scan.specs.Rows.{IsPiece}
 use Rattle.nv_scan.specs.Work.{claims_in}
 use Rattle.nv_scan.specs.declared.piece.Piece.{Piece}
@@ -18,7 +18,7 @@ use Rattle.nv_scan.proofs.Only.{slot_in_use}
 use Rattle.nv_scan.proofs.Rising.{Below, head_least}
 use Rattle.nv_outcome.specs.Parts.{ArePieces, faults_in, piece_key}
 use Rattle.nv_outcome.proofs.Members.{into_flat, from_flat, tail_rises, below_not_self}
-use Rattle.nv_outcome.proofs.Counts.{Once, Once-from_rises, Once-append}
+use Rattle.nv_outcome.proofs.Counts.{IsOnce-from_rises, IsOnce-append}
 
 pub slot_of_owner : {R : Region} {l : Layout} {b : ℕ} (o : Owner) → Owns R l b o → (a : ℕ) × (slot_of l (inode_of o) ≡ Some a)
 slot_of_owner (owners.Log i k) (by_log {a = a} h e) = (a, slot_in_use h)
@@ -35,10 +35,10 @@ module _ {R : Region} {l : Layout} where
       let w = from_flat (λ (p : Piece). p.claims.items) ps (b, o) c in ((h.each w.0 w.1).claims.each (b, o) w.2).0
 
   -- the claims of pieces of rising inodes are all different
-  once_in : (ps : List Piece) → Rises piece_key ps → ((p : Piece) → Contains ps p → IsPiece R l p) → Once (claims_in ps)
+  once_in : (ps : List Piece) → Rises piece_key ps → ((p : Piece) → Contains ps p → IsPiece R l p) → IsOnce (claims_in ps)
   once_in [] r each = tt
   once_in (p ∷ ps) r each =
-      Once-append p.claims.items (claims_in ps) (Once-from_rises (λ (x : ℕ × Owner). owner_key x.1) p.claims.items (each p (Contains-head p ps)).claims.rising)
+      IsOnce-append p.claims.items (claims_in ps) (IsOnce-from_rises (λ (x : ℕ × Owner). owner_key x.1) p.claims.items (each p (Contains-head p ps)).claims.rising)
       (once_in ps (tail_rises piece_key p ps r) (λ q c. each q (Contains-tail p ps q c)))
       (λ x c d. (let w = from_flat (λ (q : Piece). q.claims.items) ps x d in
       let mine : inode_of x.1 ≡ p.inode = ((each p (Contains-head p ps)).claims.each x c).1 in
@@ -48,7 +48,7 @@ module _ {R : Region} {l : Layout} where
       let B : List ℕ → Type 0 = λ k. Below k (piece_key w.0) in
       below_not_self (piece_key w.0) (subst B same less)))
 
-  pub claims_once : (ps : List Piece) → ArePieces R l ps → Once (claims_in ps)
+  pub claims_once : (ps : List Piece) → ArePieces R l ps → IsOnce (claims_in ps)
   claims_once ps h = once_in ps h.rising h.each
 
   pub own_faults : (ps : List Piece) → ArePieces R l ps → Has (λ f. (i : ℕ) × IsFaultOf R l i f) (faults_in ps)

@@ -47,6 +47,10 @@ is_equal a b h = elim (cases_eq a b) [ inl e ↦ e | inr ne ↦ absurd (h ne) ]
 at_least : (a b : ℕ) → (a < b → ⊥) → b ≤ a
 at_least a b h = elim (cases_lt a b) [ inl less ↦ absurd (h less) | inr more ↦ more ]
 
+-- it has as many blocks as the region
+pub blocks_of_super : (R : Region) (s : Super) → IsSuper R s → s.blocks ≡ size R / 4096
+blocks_of_super R s is = is.blocks ∙ is_equal (word R 24) (size R / 4096) (is.sound Blocks)
+
 -- its numbers are those of a layout
 pub layout_of_super : (R : Region) (s : Super) → IsSuper R s → IsLayout s
 layout_of_super R s is = record {
@@ -67,7 +71,7 @@ layout_of_super R s is = record {
   };
 } where
   blocks : s.blocks ≡ size R / 4096
-  blocks = is.blocks ∙ is_equal (word R 24) (size R / 4096) (is.sound Blocks)
+  blocks = blocks_of_super R s is
 
   no_room : (a b : ℕ) → (a ≤ b → ⊥) → b < a
   no_room a b h = elim (cases_lt b a) [ inl less ↦ less | inr more ↦ absurd (h more) ]

@@ -1,4 +1,4 @@
-//! What the parts of a recovery make up, and that a region has one outcome.
+//! What the parts of a recovery make up, and that a region has exactly one outcome.
 
 ghost use Rattle.std.specs.Prelude.{◌≡◌, ◌↔◌, ℕ, List, []};
 ghost use Rattle.nv_region.specs.Region.{Region};
@@ -18,7 +18,7 @@ ghost use Rattle.nv_outcome.specs.Same.{SameOutcome, ShowsAgain, lasting_outcome
 ghost use Rattle.nv_outcome.specs.Shared.{SharesAll};
 ghost use Rattle.nv_outcome.specs.Parts.{AreParts, rows_in};
 
-/// A region has one outcome, so what a recovery answers is a function of the region.
+/// Two outcomes of a region show the same, so what a recovery answers is a function of the region.
 pub fn one_outcome()
     ensures { (region : Region) (a b : Outcome) → IsOutcome region a → IsOutcome region b → SameOutcome a b }
 {}
