@@ -138,8 +138,10 @@ fn write_region<P: Pmem>(memory: &mut P, sup: &Super, time: u64) -> Result<(), S
     ensures blocks { HasBlocks (P.region memory.new) sup.now.blocks }
     ensures any_stop { NothingPending (P.region memory.old) (P.may_hold memory.old) → LeavesOnly (P.region memory.new) (P.may_hold memory.new) (FormatLeaves (P.region memory.old) sup.now time) }
 {
+    // The magic is gone before another word changes, or a stop could leave old and new words under it.
     commit_word(memory, 0, 0)?;
     lay_out(memory, sup, time)?;
+    // All words are kept before the magic is, or a stop could leave it over some that were lost.
     memory.fence()?;
     commit_word(memory, 0, MAGIC)
 }
