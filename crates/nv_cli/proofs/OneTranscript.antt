@@ -3,7 +3,6 @@ use Rattle.std.proofs.Common.{◌≡◌, ◌⊎◌, ◌+◌, inl, inr, ℕ, Bool
 use Rattle.std.specs.Prelude.{◌≤◌, MatchBool, codes}
 use Rattle.nv_region.specs.Region.{Region}
 use Rattle.nv_super.specs.declared.faults.Fault.{Fault}
-use Rattle.nv_super.specs.declared.superblock.Super.{Super}
 use Rattle.nv_super.specs.declared.superblock.SuperFault.{SuperFault}
 use Rattle.nv_journal.specs.Undo.{undone}
 use Rattle.nv_calls.specs.Format as formats
@@ -15,7 +14,7 @@ use Rattle.nv_line.specs.Spelling.{Says}
 use Rattle.nv_line.specs.Lines.{IsSkipped, IsBad}
 use Rattle.nv_line.proofs.Grammar.{one_request, skipped_says}
 use Rattle.nv_scan.specs.declared.piece.Row.{Row}
-use Rattle.nv_outcome.specs.Outcome.{Outcome, IsOutcome}
+use Rattle.nv_outcome.specs.Outcome.{Outcome}
 use Rattle.nv_outcome.specs.Same.{SameRows, SameOutcome}
 use Rattle.nv_outcome.proofs.OnlyOne.{same_outcome}
 use Rattle.nv_outcome.proofs.SuperOf.{one_fault}
@@ -90,6 +89,13 @@ cut_one : (region : Option Region) (length : ℕ) (old : State) → IsOne (λ s 
 cut_one None length old = given_one _ _
 cut_one (Some R) length old = chosen_one _ _ _ (given_one _ _) (given_one _ _)
 
+-- what is left where an outcome of the region was mounted
+abbrev mounted_by : Region → State → Outcome → State
+mounted_by R old o = record old { region = Some (undone o.sup R); mounted = Some R; last = how_it_went o.faults }
+
+mounted_same : (R : Region) (old : State) (a b : Outcome) → SameOutcome a b → mounted_by R old b ≡ mounted_by R old a
+mounted_same R old a b same = λ i. record old { region = Some (undone (same.sup i) R); mounted = Some R; last = how_it_went (same.faults i) }
+
 -- a region's superblock is refused, or its outcome is told
 told_one : (R : Region) (old : State) → IsOne (λ s m. RefusesSuper R old s m ⊎ Mounts R old s m)
 told_one R old s t m n (inl p) (inl q) =
@@ -98,10 +104,7 @@ told_one R old s t m n (inl p) (inr q) = absurd (q.1.sup.sound p.0 p.1.applies)
 told_one R old s t m n (inr p) (inl q) = absurd (p.1.sup.sound q.0 q.1.applies)
 told_one R old s t m n (inr p) (inr q) =
     let same = same_outcome R p.0 q.0 p.1 q.1 in
-    let left : State → State → Type 0 = λ a b. a ≡ b in
-    let same_left : left (record old { region = Some (undone p.0.sup R); mounted = Some R; last = how_it_went p.0.faults }) (record old { region = Some (undone q.0.sup R); mounted = Some R; last = how_it_went q.0.faults })
-    = λ i. record old { region = Some (undone (sym same.sup i) R); mounted = Some R; last = how_it_went (sym same.faults i) } in
-    (p.2 ∙ sym (recovered_one p.0 q.0 same) ∙ sym q.2, p.3 ∙ same_left ∙ sym q.3)
+    (p.2 ∙ sym (recovered_one p.0 q.0 same) ∙ sym q.2, p.3 ∙ sym (mounted_same R old p.0 q.0 same) ∙ sym q.3)
 
 -- a recovery
 recovery_one : (region : Option Region) (workers : ℕ) (schedule : List ℕ) (old : State) → IsOne (λ s m. RecoversRegion region workers schedule old s m)
