@@ -1,8 +1,8 @@
 -- Slots in the fixed tables are whole, lie between the journals and the data blocks, and stand apart.
-use Rattle.std.proofs.Common.{◌≡◌, ◌≢◌, ◌⊎◌, inl, inr, ℕ, suc, ◌+◌, ◌-◌, ◌*◌, ◌/◌, ◌%◌, ◌<◌, ◌≤◌, ◌==◌, nat_lt, Bool, true, false, if◌then◌else◌, [], Option, Some, None, refl, ap, sym, ◌∙◌, subst, arith}
-use Rattle.std.specs.Prelude.{slice_get, unwrap_or}
+use Rattle.std.proofs.Common.{◌≡◌, ◌≢◌, ◌⊎◌, inl, inr, ℕ, suc, ◌+◌, ◌-◌, ◌*◌, ◌/◌, ◌%◌, ◌<◌, ◌≤◌, ◌==◌, nat_lt, Bool, true, false, if◌then◌else◌, Some, None, refl, ap, sym, arith}
+use Rattle.std.specs.Prelude.{slice_get}
 use Rattle.std.proofs.Math.Nat.{mul-le-mul_right}
-use Rattle.std.proofs.lemmas.Bool.{cases_order, cases_eq, ltb-true}
+use Rattle.std.proofs.lemmas.Bool.{cases_order, ltb-true}
 use Rattle.nv_super.specs.Layout.{system_blocks, slot_address, slot_of, fixed_layout, extra_slot, chain_of, IsLayout, SlotsApart}
 use Rattle.nv_super.specs.declared.superblock.Super.{Super}
 
