@@ -1,8 +1,8 @@
 //! Writing an entry: its words, stored one after the other.
 
-ghost use Rattle.std.specs.Prelude.{◌≡◌, ◌+◌, ◌*◌, ◌/◌, ◌%◌, ◌^◌, ◌<◌, ◌≤◌, length, OnOk, is_err};
+ghost use Rattle.std.specs.Prelude.{◌≡◌, ℕ, ◌+◌, ◌*◌, ◌/◌, ◌%◌, ◌^◌, ◌<◌, ◌≤◌, length, OnOk, is_err};
 ghost use Rattle.nv_region.specs.Region.{size};
-ghost use Rattle.nv_region.specs.Stops.{Adds, StaysBurnt, StaysSteady};
+ghost use Rattle.nv_region.specs.Stops.{Adds, StaysBurnt, StaysOpen, StaysSteady};
 ghost use Rattle.nv_region.specs.Stored.{SameOutside, StoresOnly, Within};
 ghost use Rattle.nv_entry.specs.Text.{number_of, text_word};
 ghost use Rattle.nv_entry.specs.Spelling.{Stands, entry_length, operation_code, words_for, IsTextAt, IsNameAt, first_word};
@@ -40,6 +40,7 @@ pub fn write_entry<P: Pmem>(memory: &mut P, at: u64, entry: &Entry) -> Result<()
     ensures stopped { is_err result ≡ P.has_burnt memory.new }
     ensures burnt { StaysBurnt (P.has_burnt memory.old) (P.has_burnt memory.new) }
     ensures steady { StaysSteady (P.is_steady memory.old) (P.is_steady memory.new) }
+    ensures open { (limit : ℕ) → at + entry_length entry.now ≤ limit → StaysOpen limit (P.is_open memory.old) (P.is_open memory.new) }
 {
     // The region's length is a u64, and so is each address up to it.
     let _end = memory.len();
@@ -56,6 +57,7 @@ fn store_entry<P: Pmem>(memory: &mut P, at: u64, entry: &Entry) -> Result<(), St
     ensures stopped { is_err result ≡ P.has_burnt memory.new }
     ensures burnt { StaysBurnt (P.has_burnt memory.old) (P.has_burnt memory.new) }
     ensures steady { StaysSteady (P.is_steady memory.old) (P.is_steady memory.new) }
+    ensures open { (limit : ℕ) → at + entry_length entry.now ≤ limit → StaysOpen limit (P.is_open memory.old) (P.is_open memory.new) }
 {
     match entry {
         Entry::NextPage => {
@@ -89,6 +91,7 @@ fn store_name_entry<P: Pmem>(memory: &mut P, at: u64, e: &NameEntry) -> Result<(
     ensures stopped { is_err result ≡ P.has_burnt memory.new }
     ensures burnt { StaysBurnt (P.has_burnt memory.old) (P.has_burnt memory.new) }
     ensures steady { StaysSteady (P.is_steady memory.old) (P.is_steady memory.new) }
+    ensures open { (limit : ℕ) → at + 24 + 8 * words_for (length e.now.name) ≤ limit → StaysOpen limit (P.is_open memory.old) (P.is_open memory.new) }
 {
     let name = e.name.as_slice();
     let size = 24 + 8 * ((name.len() + 7) / 8);
@@ -130,6 +133,7 @@ fn store_words<P: Pmem>(memory: &mut P, at: u64, words: &[u64]) -> Result<(), St
     ensures stopped { is_err result ≡ P.has_burnt memory.new }
     ensures burnt { StaysBurnt (P.has_burnt memory.old) (P.has_burnt memory.new) }
     ensures steady { StaysSteady (P.is_steady memory.old) (P.is_steady memory.new) }
+    ensures open { (limit : ℕ) → at + 8 * length words.now ≤ limit → StaysOpen limit (P.is_open memory.old) (P.is_open memory.new) }
 {
     for (k, word) in words.iter().enumerate() {
         store_word(memory, at + 8 * k as u64, *word)?;
@@ -150,6 +154,7 @@ fn store_text<P: Pmem>(memory: &mut P, at: u64, name: &[u8]) -> Result<(), Stopp
     ensures stopped { is_err result ≡ P.has_burnt memory.new }
     ensures burnt { StaysBurnt (P.has_burnt memory.old) (P.has_burnt memory.new) }
     ensures steady { StaysSteady (P.is_steady memory.old) (P.is_steady memory.new) }
+    ensures open { (limit : ℕ) → at + 8 * words_for (length name.now) ≤ limit → StaysOpen limit (P.is_open memory.old) (P.is_open memory.new) }
 {
     for k in 0..(name.len() + 7) / 8 {
         store_word(memory, at + 8 * k as u64, word_of(name, 8 * k))?;
