@@ -9,3 +9,8 @@ pub mod RightLogs
 pub mod Readable
 pub mod Tail
 pub mod Places
+pub mod Placing
+pub mod Written
+pub mod Writing
+pub mod Laid
+pub mod Grown

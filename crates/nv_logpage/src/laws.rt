@@ -1,8 +1,10 @@
 //! Laws of reading a log.
 
-ghost use Rattle.std.specs.Prelude.{◌≡◌, List, ◌++◌, ℕ, ◌≤◌, ◌/◌, ◌%◌, eqb, Option, None, IsTrue};
+ghost use Rattle.std.specs.Prelude.{◌≡◌, List, ◌∷◌, ◌++◌, ℕ, ◌≤◌, ◌/◌, ◌%◌, eqb, Option, None, IsTrue};
 ghost use Rattle.std.specs.List.{Contains, IsDistinct};
 ghost use Rattle.nv_region.specs.Region.{Region};
+ghost use Rattle.nv_region.specs.Stops.{IsMixed};
+ghost use Rattle.nv_logpage.specs.Append.{AllDiffer, AppendWords, FreshFor};
 ghost use Rattle.nv_logpage.specs.Grows.{SamePage, GoesPast};
 ghost use Rattle.nv_logpage.specs.DataBlocks.{AreDataBlocks};
 ghost use Rattle.nv_logpage.specs.Reads.{Reads, ReadsOn, places_of};
@@ -29,6 +31,14 @@ pub fn reads_on_from_the_tail()
     ensures { (region other : Region) (s : SuperValue) (head tail new : ℕ) (es more : List PlacedValue) (pages all : List ℕ) (x : Option EndValue)
         → IsTrue (is_page_start s head) → tail % 4096 ≤ 4064 → GoesPast region other tail new pages
         → Reads region s head tail es pages None → ReadsOn other s new pages tail more all x → Reads other s head new (es ++ more) all x }
+{}
+
+/// What is stored behind the tail of a log in its page, and in pages that aren't the log's, isn't read. So a stop while
+/// entries are appended leaves the log as it was.
+pub fn words_behind_the_tail_are_unread()
+    ensures { (region other : Region) (s : SuperValue) (head tail : ℕ) (fresh all : List ℕ) (es : List PlacedValue)
+        → IsTrue (is_page_start s head) → tail % 4096 ≤ 4064 → AllDiffer (tail / 4096 ∷ fresh) → FreshFor s fresh all → IsMixed region (AppendWords tail fresh) other
+        → Reads region s head tail es all None → Reads other s head tail es all None }
 {}
 
 /// The pages of a log are data blocks, each once.

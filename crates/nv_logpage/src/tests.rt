@@ -1,5 +1,7 @@
 //! Logs in a small region, written word by word: their pages, entries and ends.
 
+mod appending;
+
 ghost use Rattle.std.specs.Prelude.{◌≡◌, IfOk};
 ghost use Rattle.nv_region.specs.Region.{HasBlocks};
 
@@ -7,6 +9,7 @@ use crate::{
     Finding, LogEnd, LogFault, LogReader, Placed, Walk, a_log_has_the_page_of_its_tail,
     entries_stand_apart, log_pages_are_data_blocks, reads_its_pages_alone, reads_on_from_the_tail,
     reads_once, right_logs_can_be_read, right_logs_have_a_reading, walk,
+    words_behind_the_tail_are_unread,
 };
 use nv_entry::{AttrEntry, Entry};
 use nv_region::{MemRegion, Pmem};
@@ -391,6 +394,7 @@ fn the_laws_hold(_rt: HostRuntime) {
     log_pages_are_data_blocks();
     right_logs_can_be_read();
     right_logs_have_a_reading();
+    words_behind_the_tail_are_unread();
     a_log_has_the_page_of_its_tail();
     entries_stand_apart();
 }

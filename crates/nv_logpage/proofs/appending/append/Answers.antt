@@ -1,0 +1,72 @@
+use Rattle.std.proofs.Common.{IsTrue, ℕ, arith, ◌/◌, ◌∷◌, subst, sym, ◌%◌, ◌++◌, take, inl, inr, None}
+use Rattle.nv_logpage.specs.Append.{needed, Linked, appended}
+use Rattle.nv_logpage.specs.Reads.{Reads}
+use Rattle.nv_logpage.proofs.Written.{settled_links, entries_within, links_too}
+use Rattle.nv_inode.specs.Slot.{is_right_log}
+use Rattle.nv_logpage.proofs.Grown.{grown, left_unread, right_after, unread}
+use Rattle.nv_logpage.proofs.appending.append.Goals as goal
+
+pub returns-clause-laid : goal.returns-clause-laid
+returns-clause-laid g c = c.in_ok-end.ensures.laid (g.P.Pmem.region c.link_pages.new.memory) (settled_links _ _ (c.args.tail / 4096 ∷ c.args.fresh.now) c.in_ok-end.used c.in_ok-end.used c.in_ok-end.end c.link_pages.ensures.wrote.mixed)
+
+pub returns-in_err-end-clause-wrote : goal.returns-in_err-end-clause-wrote
+returns-in_err-end-clause-wrote g c = entries_within c.args.tail c.args.fresh.now _ _ _ _ c.write_entries.ensures.wrote
+
+pub returns-in_err-link_pages-clause-wrote : goal.returns-in_err-link_pages-clause-wrote
+returns-in_err-link_pages-clause-wrote g c =
+    links_too c.args.tail c.in_ok-end.used c.args.fresh.now _ _ _ _ _ _ c.requires.offset (omega (arith, c.in_ok-end.ensures.end.1, c.requires.enough)) c.write_entries.ensures.wrote c.link_pages.ensures.wrote
+
+pub returns-clause-wrote : goal.returns-clause-wrote
+returns-clause-wrote g c =
+    links_too c.args.tail c.in_ok-end.used c.args.fresh.now _ _ _ _ _ _ c.requires.offset (omega (arith, c.in_ok-end.ensures.end.1, c.requires.enough)) c.write_entries.ensures.wrote c.link_pages.ensures.wrote
+
+pub returns-in_err-end-clause-unread : goal.returns-in_err-end-clause-unread
+returns-in_err-end-clause-unread g c s head es all start free read =
+    unread (g.P.Pmem.region c.args.memory.now) _ s head c.args.tail c.args.fresh.now all es c.requires.differ c.requires.offset start (entries_within c.args.tail c.args.fresh.now _ _ _ _ c.write_entries.ensures.wrote).mixed free read
+
+pub returns-in_err-link_pages-clause-unread : goal.returns-in_err-link_pages-clause-unread
+returns-in_err-link_pages-clause-unread g c s head es all start free read =
+    let wrote = links_too c.args.tail c.in_ok-end.used c.args.fresh.now (g.P.Pmem.region c.args.memory.now) _ _ (g.P.Pmem.may_hold c.args.memory.now) _ _ c.requires.offset (omega (arith, c.in_ok-end.ensures.end.1, c.requires.enough)) c.write_entries.ensures.wrote c.link_pages.ensures.wrote in
+    unread (g.P.Pmem.region c.args.memory.now) _ s head c.args.tail c.args.fresh.now all es c.requires.differ c.requires.offset start wrote.mixed free read
+
+pub returns-clause-unread : goal.returns-clause-unread
+returns-clause-unread g c s head es all start free read =
+    let wrote = links_too c.args.tail c.in_ok-end.used c.args.fresh.now (g.P.Pmem.region c.args.memory.now) _ _ (g.P.Pmem.may_hold c.args.memory.now) _ _ c.requires.offset (omega (arith, c.in_ok-end.ensures.end.1, c.requires.enough)) c.write_entries.ensures.wrote c.link_pages.ensures.wrote in
+    unread (g.P.Pmem.region c.args.memory.now) _ s head c.args.tail c.args.fresh.now all es c.requires.differ c.requires.offset start wrote.mixed free read
+
+pub returns-clause-reads : goal.returns-clause-reads
+returns-clause-reads g c s head es all start free read =
+    let wrote = links_too c.args.tail c.in_ok-end.used c.args.fresh.now (g.P.Pmem.region c.args.memory.now) _ _ (g.P.Pmem.may_hold c.args.memory.now) _ _ c.requires.offset (omega (arith, c.in_ok-end.ensures.end.1, c.requires.enough)) c.write_entries.ensures.wrote c.link_pages.ensures.wrote in
+    let laid = c.in_ok-end.ensures.laid (g.P.Pmem.region c.link_pages.new.memory) (settled_links _ _ (c.args.tail / 4096 ∷ c.args.fresh.now) c.in_ok-end.used c.in_ok-end.used c.in_ok-end.end c.link_pages.ensures.wrote.mixed) in
+    let linked = subst (λ (n : ℕ). Linked (g.P.Pmem.region c.link_pages.new.memory) (c.args.tail / 4096 ∷ c.args.fresh.now) n) c.in_ok-end.ensures.end.1 c.in_ok-link_pages.ensures.linked in
+    subst (λ (n : ℕ). Reads (g.P.Pmem.region c.link_pages.new.memory) s head n (es ++ appended c.args.fresh.now 0 c.args.tail c.args.entries.now) (all ++ take (needed (c.args.tail % 4096) c.args.entries.now) c.args.fresh.now) None)
+    (sym c.in_ok-end.ensures.end.0)
+    (grown (g.P.Pmem.region c.args.memory.now) (g.P.Pmem.region c.link_pages.new.memory) s head c.args.tail c.args.entries.now c.args.fresh.now all es c.requires.differ c.in_ok-end.ensures.fit c.requires.enough c.requires.whole c.requires.offset start wrote.mixed laid linked free read)
+
+pub returns-clause-right : goal.returns-clause-right
+returns-clause-right g c s head start in_data starts either =
+    subst (λ (n : ℕ). IsTrue (is_right_log s head n)) (sym c.in_ok-end.ensures.end.0)
+    (right_after s head c.args.tail c.args.entries.now c.args.fresh.now c.in_ok-end.ensures.fit c.requires.enough c.requires.whole c.requires.offset start in_data starts either)
+
+pub returns-in_err-end-clause-order : goal.returns-in_err-end-clause-order
+returns-in_err-end-clause-order g c = inl c.write_entries.ensures.wrote
+
+pub returns-in_err-link_pages-clause-order : goal.returns-in_err-link_pages-clause-order
+returns-in_err-link_pages-clause-order g c = inr (c.in_ok-end.ensures.laid (g.P.Pmem.region c.link_pages.new.memory) (settled_links _ _ (c.args.tail / 4096 ∷ c.args.fresh.now) c.in_ok-end.used c.in_ok-end.used c.in_ok-end.end c.link_pages.ensures.wrote.mixed))
+
+pub returns-clause-order : goal.returns-clause-order
+returns-clause-order g c = inr (c.in_ok-end.ensures.laid (g.P.Pmem.region c.link_pages.new.memory) (settled_links _ _ (c.args.tail / 4096 ∷ c.args.fresh.now) c.in_ok-end.used c.in_ok-end.used c.in_ok-end.end c.link_pages.ensures.wrote.mixed))
+
+pub returns-in_err-end-clause-any_stop : goal.returns-in_err-end-clause-any_stop
+returns-in_err-end-clause-any_stop g c s head es all start free read =
+    left_unread (g.P.Pmem.region c.args.memory.now) _ _ _ s head c.args.tail c.args.fresh.now all es c.requires.differ c.requires.offset start (entries_within c.args.tail c.args.fresh.now _ _ _ _ c.write_entries.ensures.wrote) free read
+
+pub returns-in_err-link_pages-clause-any_stop : goal.returns-in_err-link_pages-clause-any_stop
+returns-in_err-link_pages-clause-any_stop g c s head es all start free read =
+    let wrote = links_too c.args.tail c.in_ok-end.used c.args.fresh.now (g.P.Pmem.region c.args.memory.now) _ _ (g.P.Pmem.may_hold c.args.memory.now) _ _ c.requires.offset (omega (arith, c.in_ok-end.ensures.end.1, c.requires.enough)) c.write_entries.ensures.wrote c.link_pages.ensures.wrote in
+    left_unread (g.P.Pmem.region c.args.memory.now) _ _ _ s head c.args.tail c.args.fresh.now all es c.requires.differ c.requires.offset start wrote free read
+
+pub returns-clause-any_stop : goal.returns-clause-any_stop
+returns-clause-any_stop g c s head es all start free read =
+    let wrote = links_too c.args.tail c.in_ok-end.used c.args.fresh.now (g.P.Pmem.region c.args.memory.now) _ _ (g.P.Pmem.may_hold c.args.memory.now) _ _ c.requires.offset (omega (arith, c.in_ok-end.ensures.end.1, c.requires.enough)) c.write_entries.ensures.wrote c.link_pages.ensures.wrote in
+    left_unread (g.P.Pmem.region c.args.memory.now) _ _ _ s head c.args.tail c.args.fresh.now all es c.requires.differ c.requires.offset start wrote free read

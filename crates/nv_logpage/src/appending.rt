@@ -1,0 +1,204 @@
+//! Writing behind the tail of a log.
+//!
+//! An entry that doesn't fit in the rest of a page goes to the start of a fresh page, and where the rest isn't empty a
+//! next-page entry is written there. The links are written last. They form a chain of pages that doesn't depend on
+//! the entries.
+
+ghost use Rattle.std.specs.Prelude.{◌≡◌, ◌≢◌, ◌⊎◌, ◌+◌, ◌*◌, ◌/◌, ◌%◌, ◌^◌, ◌<◌, ◌≤◌, List, ◌∷◌, ◌++◌, ℕ, suc, length, get_or, take, IfOk, OnOk, OnErr, None, IsTrue, false, is_err};
+ghost use Rattle.nv_region.specs.Region.{Region, size};
+ghost use Rattle.nv_region.specs.Stops.{LeavesOnly, NothingPending, StaysBurnt, StaysOpen, StaysSteady};
+ghost use Rattle.nv_region.specs.Stored.{StoresOnly};
+ghost use Rattle.nv_super.specs.Layout.{is_data_address, is_page_start};
+ghost use Rattle.nv_super.specs.declared.superblock.Super.{Super};
+ghost use Rattle.nv_inode.specs.Slot.{is_right_log};
+ghost use Rattle.nv_entry.specs.Spelling.{Stands, entry_length};
+ghost use Rattle.nv_logpage.specs.declared.found.Placed.{Placed};
+ghost use Rattle.nv_logpage.specs.Reads.{Reads};
+ghost use Rattle.nv_logpage.specs.Append.{AllDiffer, AppendWords, CanAppend, CanBePages, EndBy, EntryWords, FreshFor, Laid, Linked, appended, end_of, needed};
+ghost use Rattle.nv_logpage.specs.Writing.{FitPages, FromOrIn, LinkWords, PageFrom, Settled};
+
+use crate::looking::LINK;
+use nv_entry::{Entry, length, write_entry};
+use nv_region::{Pmem, Stopped, store_word};
+use nv_super::BLOCK_SIZE;
+
+/// How many fresh pages the entries take behind this tail.
+pub fn pages_needed(tail: u64, entries: &[Entry]) -> u64
+    ensures { result ≡ needed (tail % 4096) entries.now }
+{
+    let _count = entries.len();
+    let mut pages = 0;
+    let mut offset = tail % BLOCK_SIZE;
+    for entry in entries {
+        let size = length(entry);
+        if offset + size <= LINK {
+            offset += size;
+        } else {
+            pages += 1;
+            offset = size;
+        }
+    }
+    pages
+}
+
+/// Writes the entries behind the tail of a log, over these fresh pages, links those that it takes, and answers the new
+/// tail. It doesn't fence, and it leaves the tail to its caller: before that is stored, the log is as it was.
+///
+/// A new log's tail is its page's start.
+pub fn append<P: Pmem>(
+    memory: &mut P,
+    tail: u64,
+    entries: &[Entry],
+    fresh: &[u64],
+) -> Result<u64, Stopped>
+    requires { CanAppend (P.region memory.old) tail entries.now fresh.now }
+    ensures end { IfOk result (λ new. new ≡ end_of fresh.now 0 tail entries.now) }
+    ensures laid { OnOk result (Laid (P.region memory.new) fresh.now 0 tail entries.now) }
+    ensures linked { OnOk result (Linked (P.region memory.new) (tail / 4096 ∷ fresh.now) (needed (tail % 4096) entries.now)) }
+
+    // Up to the new tail the old entries are read, and then the given ones.
+    ensures reads { (s : Super) (head : ℕ) (es : List Placed) (all : List ℕ) → IsTrue (is_page_start s head) → FreshFor s fresh.now all → Reads (P.region memory.old) s head tail es all None
+        → IfOk result (λ new. Reads (P.region memory.new) s head new (es ++ appended fresh.now 0 tail entries.now) (all ++ take (needed (tail % 4096) entries.now) fresh.now) None) }
+
+    // Up to the old tail the log is read as it was, also where a stop refuses a store half-way.
+    ensures unread { (s : Super) (head : ℕ) (es : List Placed) (all : List ℕ) → IsTrue (is_page_start s head) → FreshFor s fresh.now all → Reads (P.region memory.old) s head tail es all None
+        → Reads (P.region memory.new) s head tail es all None }
+
+    // The new tail is right for an inode whose log began in a data block.
+    ensures right { (s : Super) (head : ℕ) → IsTrue (is_page_start s head) → IsTrue (is_data_address s tail) → CanBePages s fresh.now → (8 ≤ tail % 4096) ⊎ (0 < length entries.now)
+        → IfOk result (λ new. IsTrue (is_right_log s head new)) }
+    ensures wrote { StoresOnly (AppendWords tail fresh.now) (P.region memory.old) (P.region memory.new) (P.may_hold memory.old) (P.may_hold memory.new) }
+
+    // No link is written before all entries are.
+    ensures order { StoresOnly (EntryWords tail fresh.now) (P.region memory.old) (P.region memory.new) (P.may_hold memory.old) (P.may_hold memory.new) ⊎ Laid (P.region memory.new) fresh.now 0 tail entries.now }
+    ensures len { size (P.region memory.new) ≡ size (P.region memory.old) }
+    ensures nothing { length entries.now ≡ 0 → (is_err result ≡ false) × (memory.new ≡ memory.old) }
+    ensures stopped { 0 < length entries.now → is_err result ≡ P.has_burnt memory.new }
+    ensures burnt { StaysBurnt (P.has_burnt memory.old) (P.has_burnt memory.new) }
+    ensures steady { StaysSteady (P.is_steady memory.old) (P.is_steady memory.new) }
+    ensures open { (limit : ℕ) → EndBy (tail / 4096 ∷ fresh.now) limit → StaysOpen limit (P.is_open memory.old) (P.is_open memory.new) }
+
+    // A stop at any moment of the call leaves the log as it was up to the old tail.
+    ensures any_stop { (s : Super) (head : ℕ) (es : List Placed) (all : List ℕ) → IsTrue (is_page_start s head) → FreshFor s fresh.now all → Reads (P.region memory.old) s head tail es all None
+        → NothingPending (P.region memory.old) (P.may_hold memory.old) → LeavesOnly (P.region memory.new) (P.may_hold memory.new) (λ left. Reads left s head tail es all None) }
+{
+    // The region's length is a u64, and so is each address up to it.
+    let _end = memory.len();
+    let (end, used) = write_entries(memory, tail, entries, fresh)?;
+    link_pages(memory, tail / BLOCK_SIZE, fresh, used)?;
+    Ok(end)
+}
+
+/// Writes the entries, and the next-page entries between them. Answers the place behind the last, and how many fresh
+/// pages are used.
+fn write_entries<P: Pmem>(
+    memory: &mut P,
+    tail: u64,
+    entries: &[Entry],
+    fresh: &[u64],
+) -> Result<(u64, usize), Stopped>
+    requires can { CanAppend (P.region memory.old) tail entries.now fresh.now }
+    requires small { size (P.region memory.old) < 2 ^ 64 }
+    ensures end { IfOk result (λ r. (r.0 ≡ end_of fresh.now 0 tail entries.now) × (r.1 ≡ needed (tail % 4096) entries.now)) }
+    ensures fit { OnOk result (FitPages entries.now) }
+    ensures laid { IfOk result (λ r. (S : Region) → Settled (P.region memory.new) S (tail / 4096 ∷ fresh.now) r.1 r.0 → Laid S fresh.now 0 tail entries.now) }
+    ensures wrote { StoresOnly (EntryWords tail fresh.now) (P.region memory.old) (P.region memory.new) (P.may_hold memory.old) (P.may_hold memory.new) }
+    ensures len { size (P.region memory.new) ≡ size (P.region memory.old) }
+    ensures nothing { length entries.now ≡ 0 → (is_err result ≡ false) × (memory.new ≡ memory.old) }
+    ensures stopped { 0 < length entries.now → is_err result ≡ P.has_burnt memory.new }
+    ensures burnt { StaysBurnt (P.has_burnt memory.old) (P.has_burnt memory.new) }
+    ensures steady { StaysSteady (P.is_steady memory.old) (P.is_steady memory.new) }
+    ensures open { (limit : ℕ) → EndBy (tail / 4096 ∷ fresh.now) limit → StaysOpen limit (P.is_open memory.old) (P.is_open memory.new) }
+{
+    let mut place = tail;
+    let mut used = 0;
+    for entry in entries {
+        let size = length(entry);
+        if place % BLOCK_SIZE + size <= LINK {
+            write_entry(memory, place, entry)?;
+            place += size;
+        } else {
+            let next = fresh[used];
+            write_turned(memory, place, entry, next)?;
+            used += 1;
+            place = next * BLOCK_SIZE + size;
+        }
+    }
+    Ok((place, used))
+}
+
+/// Writes an entry to the start of the page that comes next, and a next-page entry where it would have stood.
+fn write_turned<P: Pmem>(
+    memory: &mut P,
+    place: u64,
+    entry: &Entry,
+    next: u64,
+) -> Result<(), Stopped>
+    requires whole { place % 8 ≡ 0 }
+    requires offset { place % 4096 ≤ 4064 }
+    requires inside { place / 4096 * 4096 + 4096 ≤ size (P.region memory.old) }
+    requires next_inside { 4096 * next + 4096 ≤ size (P.region memory.old) }
+    requires small { size (P.region memory.old) < 2 ^ 64 }
+    requires short { entry_length entry.now ≤ 4064 }
+    requires apart { next ≢ place / 4096 }
+    ensures entry { OnOk result (Stands (P.region memory.new) (4096 * next) entry.now) }
+    ensures marker { OnOk result (place % 4096 < 4064 → Stands (P.region memory.new) place Entry.NextPage) }
+    ensures wrote { StoresOnly (FromOrIn place next) (P.region memory.old) (P.region memory.new) (P.may_hold memory.old) (P.may_hold memory.new) }
+    ensures len { size (P.region memory.new) ≡ size (P.region memory.old) }
+    ensures stopped { is_err result ≡ P.has_burnt memory.new }
+    ensures burnt { StaysBurnt (P.has_burnt memory.old) (P.has_burnt memory.new) }
+    ensures steady { StaysSteady (P.is_steady memory.old) (P.is_steady memory.new) }
+    ensures open { (limit : ℕ) → place / 4096 * 4096 + 4096 ≤ limit → 4096 * next + 4096 ≤ limit → StaysOpen limit (P.is_open memory.old) (P.is_open memory.new) }
+{
+    write_marker(memory, place)?;
+    write_entry(memory, next * BLOCK_SIZE, entry)
+}
+
+/// Writes a next-page entry, where the page has room for it.
+fn write_marker<P: Pmem>(memory: &mut P, place: u64) -> Result<(), Stopped>
+    requires whole { place % 8 ≡ 0 }
+    requires offset { place % 4096 ≤ 4064 }
+    requires inside { place / 4096 * 4096 + 4096 ≤ size (P.region memory.old) }
+    ensures marker { OnOk result (place % 4096 < 4064 → Stands (P.region memory.new) place Entry.NextPage) }
+    ensures wrote { StoresOnly (PageFrom place) (P.region memory.old) (P.region memory.new) (P.may_hold memory.old) (P.may_hold memory.new) }
+    ensures len { size (P.region memory.new) ≡ size (P.region memory.old) }
+    ensures stopped { OnErr result (IsTrue (P.has_burnt memory.new)) }
+    ensures burnt { StaysBurnt (P.has_burnt memory.old) (P.has_burnt memory.new) }
+    ensures steady { StaysSteady (P.is_steady memory.old) (P.is_steady memory.new) }
+    ensures open { (limit : ℕ) → place / 4096 * 4096 + 4096 ≤ limit → StaysOpen limit (P.is_open memory.old) (P.is_open memory.new) }
+{
+    if place % BLOCK_SIZE < LINK {
+        write_entry(memory, place, &Entry::NextPage)
+    } else {
+        Ok(())
+    }
+}
+
+/// Links each of these pages to the next: the first, and as many fresh ones as are counted.
+fn link_pages<P: Pmem>(
+    memory: &mut P,
+    first: u64,
+    fresh: &[u64],
+    count: usize,
+) -> Result<(), Stopped>
+    requires count { count ≤ length fresh.now }
+    requires differ { AllDiffer (first ∷ fresh.now) }
+    requires inside { EndBy (first ∷ fresh.now) (size (P.region memory.old)) }
+    requires small { size (P.region memory.old) < 2 ^ 64 }
+    ensures linked { OnOk result (Linked (P.region memory.new) (first ∷ fresh.now) count) }
+    ensures wrote { StoresOnly (LinkWords (first ∷ fresh.now) count) (P.region memory.old) (P.region memory.new) (P.may_hold memory.old) (P.may_hold memory.new) }
+    ensures len { size (P.region memory.new) ≡ size (P.region memory.old) }
+    ensures nothing { count ≡ 0 → (is_err result ≡ false) × (memory.new ≡ memory.old) }
+    ensures stopped { P.has_burnt memory.old ≡ false → is_err result ≡ P.has_burnt memory.new }
+    ensures burnt { StaysBurnt (P.has_burnt memory.old) (P.has_burnt memory.new) }
+    ensures steady { StaysSteady (P.is_steady memory.old) (P.is_steady memory.new) }
+    ensures open { (limit : ℕ) → EndBy (first ∷ fresh.now) limit → StaysOpen limit (P.is_open memory.old) (P.is_open memory.new) }
+{
+    let mut page = first;
+    for k in 0..count {
+        let next = fresh[k];
+        store_word(memory, page * BLOCK_SIZE + LINK, next * BLOCK_SIZE)?;
+        page = next;
+    }
+    Ok(())
+}
