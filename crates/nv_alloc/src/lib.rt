@@ -11,4 +11,6 @@ mod taking;
 mod tests;
 
 pub use allocators::{AllocRefusal, Allocators};
-pub use laws::{sets_determine_lists, take_then_give_restores, taken_can_join};
+pub use laws::{
+    sets_determine_lists, take_then_give_restores, taken_blocks_are_data_blocks, taken_can_join,
+};
