@@ -9,7 +9,7 @@ use Rattle.nv_radix.specs.declared.piece.Piece.{Piece}
 use Rattle.nv_radix.specs.Pages.{Pages, block_at}
 use Rattle.nv_radix.specs.Pieces.{IsMapped, HasPage, IsApart, AreApart, ArePieces}
 use Rattle.nv_radix.specs.Rising.{Rises}
-use Rattle.nv_radix.proofs.Places.{Rises-get_or}
+use Rattle.nv_radix.proofs.Rising.{Rises-get_or}
 use Rattle.nv_radix.proofs.Mapped.{block_at-push_same, block_at-push_below, block_at-push_above, block_at-push_none, mapped-below}
 
 All-front : {X : Type 0} (P : X → Type 0) (xs : List X) (x : X) → All P (xs ++ x ∷ []) → All P xs
@@ -39,14 +39,18 @@ page_cases m p b q h some = elim (cases_order q p) [
 pub ArePieces-nil : ArePieces [] []
 ArePieces-nil = record { some = All-nil _; mapped = All-nil _; whole = λ p h. absurd (false≢true h); apart = tt }
 
--- a page with no block adds nothing
-pub ArePieces-skip : (m : Pages) (p : ℕ) (pieces : List Piece) → ArePieces m pieces → ArePieces (m ++ (p, None) ∷ []) pieces
-ArePieces-skip m p pieces a = record {
+-- maps that show the same have the same pieces
+pub ArePieces-same : (m n : Pages) (pieces : List Piece) → ((p : ℕ) → block_at m p ≡ block_at n p) → ArePieces m pieces → ArePieces n pieces
+ArePieces-same m n pieces same a = record {
   some = a.some;
-  mapped = All-weaker (IsMapped m) (IsMapped (m ++ (p, None) ∷ [])) (λ x w j l. block_at-push_none m p (x.page + j) ∙ w j l) pieces a.mapped;
-  whole = λ q h. a.whole q (subst (λ (o : Option ℕ). IsSome o) (block_at-push_none m p q) h);
+  mapped = All-weaker (IsMapped m) (IsMapped n) (λ x w j l. sym (same (x.page + j)) ∙ w j l) pieces a.mapped;
+  whole = λ q h. a.whole q (subst (λ (o : Option ℕ). IsSome o) (sym (same q)) h);
   apart = a.apart;
 }
+
+-- a page with no block adds nothing
+pub ArePieces-skip : (m : Pages) (p : ℕ) (pieces : List Piece) → ArePieces m pieces → ArePieces (m ++ (p, None) ∷ []) pieces
+ArePieces-skip m p pieces a = ArePieces-same m (m ++ (p, None) ∷ []) pieces (λ q. sym (block_at-push_none m p q)) a
 
 -- a longer last piece stands apart as the old one did
 AreApart-longer : (pieces : List Piece) (x y : Piece) → y.page ≡ x.page → y.block ≡ x.block → AreApart (pieces ++ x ∷ []) → AreApart (pieces ++ y ∷ [])
@@ -113,22 +117,3 @@ last_set xs n y l = sym (take_all (n + 1) (set xs n y) (omega (arith, l, length-
 pub ArePieces-set_last : (m : Pages) (p b : ℕ) (pieces : List Piece) (n : ℕ) (x y : Piece) → Rises 0 p m → ArePieces m pieces → length pieces ≡ n + 1 → x ≡ get_or pieces n x → x.page + x.count ≡ p → x.block + x.count ≡ b → y.page ≡ x.page → y.block ≡ x.block → y.count ≡ x.count + 1 → ArePieces (m ++ (p, Some b) ∷ []) (set pieces n y)
 ArePieces-set_last m p b pieces n x y h a l e page block same_page same_block size =
     subst (ArePieces (m ++ (p, Some b) ∷ [])) (sym (last_set pieces n y l)) (ArePieces-longer m p b (take n pieces) x y h (subst (ArePieces m) (last_split pieces n x l e) a) page block same_page same_block size)
-
-Rises-take_at : (a b : ℕ) (m : Pages) (i : ℕ) (d : ℕ × Option ℕ) → Rises a b m → i < length m → Rises a (get_or m i d).0 (take i m)
-Rises-take_at a b [] i d h l = absurd (omega (arith, l))
-Rises-take_at a b (x ∷ xs) zero d h l = h.0
-Rises-take_at a b (x ∷ xs) (suc i) d h l = (h.0, (let next = Rises-get_or (x.0 + 1) b xs i d h.2 (omega (arith, l)) in omega (arith, next.0)), Rises-take_at (x.0 + 1) b xs i d h.2 (omega (arith, l)))
-
--- the step of a walk at a mapped page
-pub ArePieces-more_some : (high : ℕ) (m : Pages) (i b : ℕ) (d : ℕ × Option ℕ) (old new : List Piece) → Rises 0 high m → i < length m → (get_or m i d).1 ≡ Some b → ((n : Pages) → Rises 0 (get_or m i d).0 n → ArePieces n old → ArePieces (n ++ ((get_or m i d).0, Some b) ∷ []) new) → ArePieces (take i m) old → ArePieces (take (i + 1) m) new
-ArePieces-more_some high m i b d old new h l e step a =
-    let entry : get_or m i d ≡ ((get_or m i d).0, Some b) = ap (λ (o : Option ℕ). ((get_or m i d).0, o)) e in
-    let more : take (i + 1) m ≡ take i m ++ ((get_or m i d).0, Some b) ∷ [] = take_more m i d l ∙ ap (λ x. take i m ++ x ∷ []) entry in
-    subst (λ n. ArePieces n new) (sym more) (step (take i m) (Rises-take_at 0 high m i d h l) a)
-
--- and at a page with no block
-pub ArePieces-more_none : (m : Pages) (i : ℕ) (d : ℕ × Option ℕ) (old : List Piece) → i < length m → (get_or m i d).1 ≡ None → ArePieces (take i m) old → ArePieces (take (i + 1) m) old
-ArePieces-more_none m i d old l e a =
-    let entry : get_or m i d ≡ ((get_or m i d).0, None) = ap (λ (o : Option ℕ). ((get_or m i d).0, o)) e in
-    let more : take (i + 1) m ≡ take i m ++ ((get_or m i d).0, None) ∷ [] = take_more m i d l ∙ ap (λ x. take i m ++ x ∷ []) entry in
-    subst (λ n. ArePieces n old) (sym more) (ArePieces-skip (take i m) (get_or m i d).0 old a)

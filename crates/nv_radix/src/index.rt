@@ -1,32 +1,36 @@
-//! A file index as a list of its ready pages, rising.
+//! A file index as a tree of three levels, of which each node has up to 64 others or 64 pages.
 
-ghost use Rattle.std.specs.Prelude.{◌≡◌, ◌+◌, ◌-◌, ◌^◌, ◌<◌, ◌≤◌, ℕ, List, if◌then◌else◌, nat_le, Some, None, true, OnOk, IfOk};
+ghost use Rattle.std.specs.Prelude.{◌≡◌, ℕ, ◌+◌, ◌-◌, ◌/◌, ◌%◌, ◌^◌, ◌<◌, ◌≤◌, ◌||◌, ◌==◌, List, if◌then◌else◌, nat_le, Some, None, true, false, OnOk, OnErr, IfOk};
 ghost use Rattle.nv_radix.specs.Pages.{block_at, is_ready, in_run, AreReady, AreFilePages};
 ghost use Rattle.nv_radix.specs.Pieces.{ArePieces};
 
 use crate::MAX_FILE_PAGES;
-use crate::entries::{Entry, block_of, make_ready, place_of, set_run};
+use crate::leaf::Leaf;
 use crate::piece::Piece;
-use crate::pieces::pieces_of;
+use crate::root::Root;
 use std::alloc::{AllocError, Global};
 use std::marker::Model;
 
-/// A map from pages to blocks, with a set of pages that are ready.
+/// A map from pages to blocks, with a set of pages that are ready. The first 64 pages, which are
+/// all that most files have, stand in a leaf of their own, and the others in the tree.
 #[derive(Drop)]
 pub struct FileIndex {
-    entries: Vec<Entry>,
+    front: Leaf,
+    rest: Root,
+    alloc: Global,
 }
 
 impl Model for FileIndex {
-    ghost use Rattle.std.specs.Prelude.{List, ℕ, Option};
+    ghost use Rattle.std.specs.Prelude.{◌≡◌, ◌≤◌, ◌++◌, List, ℕ, Option, false};
     ghost use Rattle.nv_radix.specs.declared.TheConstants.{MAX_FILE_PAGES};
-    ghost use Rattle.nv_radix.specs.Rising.{Rises};
+    ghost use Rattle.nv_radix.specs.Pages.{is_ready};
+    ghost use Rattle.nv_radix.specs.Nodes.{raised, IsNode};
 
     ghost Value = { List (ℕ × Option ℕ) };
 
-    ghost view = { λ a. a.entries.items };
+    ghost view = { λ a. a.front ++ raised 64 a.rest };
 
-    ghost invariant = { λ a. Rises 0 MAX_FILE_PAGES a.entries.items };
+    ghost invariant = { λ a. IsNode 64 a.front × IsNode 262144 a.rest × ((p : ℕ) → MAX_FILE_PAGES ≤ p → is_ready (a.front ++ raised 64 a.rest) p ≡ false) };
 }
 
 impl FileIndex {
@@ -35,31 +39,57 @@ impl FileIndex {
         ensures empty { (p : ℕ) → block_at result p ≡ None }
     {
         FileIndex {
-            entries: Vec::new(alloc),
+            front: Leaf::new(alloc),
+            rest: Root::new(alloc),
+            alloc,
         }
     }
 
-    /// The block of a page, by binary search.
+    /// The block of a page.
     pub fn get(&self, page: u64) -> Option<u64>
         ensures { result ≡ block_at self.now page }
     {
-        block_of(&self.entries, page)
+        if page < 64 {
+            self.front.get(page)
+        } else {
+            self.rest.get(page - 64)
+        }
     }
 
-    /// Unmaps the pages from `first_page` on, which may be any number. It takes no memory and
-    /// costs one binary search.
+    /// Whether a page is ready: the 64 pages of a leaf are ready together.
+    pub fn ready(&self, page: u64) -> bool
+        ensures ready { result ≡ is_ready self.now page }
+        ensures leaf { (p : ℕ) → p / 64 ≡ page / 64 → is_ready self.now p ≡ result }
+        ensures beyond { MAX_FILE_PAGES ≤ page → result ≡ false }
+    {
+        if page < 64 {
+            self.front.is_ready()
+        } else {
+            self.rest.is_ready(page - 64)
+        }
+    }
+
+    /// Unmaps the pages from `first_page` on, which may be any number, and frees each node of which
+    /// no page is before it. It takes no memory.
     pub fn cut(&mut self, first_page: u64)
         ensures blocks { (p : ℕ) → block_at self.new p ≡ (if nat_le first_page p then None else block_at self.old p) }
         ensures ready { (p : ℕ) → p < first_page → is_ready self.new p ≡ is_ready self.old p }
         ensures no_more { (p : ℕ) → is_ready self.new p ≡ true → is_ready self.old p ≡ true }
     {
-        let first = place_of(&self.entries, first_page);
-        self.entries.truncate(first);
+        if first_page >= 64 {
+            self.rest.cut(first_page - 64);
+            return;
+        }
+        self.rest.cut(0);
+        if first_page == 0 {
+            self.front = Leaf::new(self.alloc);
+        } else {
+            self.front.cut(first_page);
+        }
     }
 
-    /// Makes the `count` pages from `page` on ready, in at most one growth of the list. An error
-    /// leaves the map. It costs a walk over the run and what stands behind it; a run behind the
-    /// last ready page costs its own pages alone, amortized.
+    /// Makes the `count` pages from `page` on ready, and with them all pages of their leaves. An error
+    /// leaves the map; leaves that were made before it stay ready. It costs a step a leaf.
     pub fn reserve(&mut self, page: u64, count: u64) -> Result<(), AllocError>
         requires { AreFilePages page count }
         ensures blocks { (p : ℕ) → block_at self.new p ≡ block_at self.old p }
@@ -69,28 +99,66 @@ impl FileIndex {
         if count == 0 {
             return Ok(());
         }
-        make_ready(&mut self.entries, page, count)
+        for leaf in page / 64..(page + count - 1) / 64 + 1 {
+            self.make_ready(leaf * 64)?;
+        }
+        Ok(())
+    }
+
+    /// Makes the leaf of a page ready. An error leaves the pages.
+    fn make_ready(&mut self, page: u64) -> Result<(), AllocError>
+        requires { page < 262144 }
+        ensures blocks { (p : ℕ) → block_at self.new p ≡ block_at self.old p }
+        ensures ready { OnOk result ((p : ℕ) → is_ready self.new p ≡ (p / 64 == page / 64 || is_ready self.old p)) }
+        ensures err { OnErr result ((p : ℕ) → is_ready self.new p ≡ is_ready self.old p) }
+    {
+        if page < 64 {
+            self.front.make_ready()
+        } else {
+            self.rest.make_ready(page - 64)
+        }
     }
 
     /// Maps the `count` pages from `page` on to as many blocks from `block` on. It takes no memory
-    /// and costs two binary searches and a walk over the run.
+    /// and costs a step a leaf and one a page.
     pub fn set_run(&mut self, page: u64, block: u64, count: u64)
         requires ready { AreReady self.old page count }
         requires blocks { 0 < count → block + count ≤ 2 ^ 64 }
         ensures blocks { (p : ℕ) → block_at self.new p ≡ (if in_run page count p then Some (block + (p - page)) else block_at self.old p) }
         ensures ready { (p : ℕ) → is_ready self.new p ≡ is_ready self.old p }
     {
-        if count == 0 {
-            return;
+        let mut done = 0;
+        while done < count {
+            let part = (64 - (page + done) % 64).min(count - done);
+            self.set_part(page + done, block + done, part);
+            done += part;
         }
-        set_run(&mut self.entries, page, block, count);
     }
 
-    /// The longest pieces of the map, rising. It costs one walk over the ready pages.
+    /// Maps the `count` pages from `page` on, all of one leaf, to as many blocks from `block` on.
+    fn set_part(&mut self, page: u64, block: u64, count: u64)
+        requires part { page % 64 + count ≤ 64 }
+        requires ready { is_ready self.old page ≡ true }
+        requires blocks { block + count ≤ 2 ^ 64 }
+        ensures bound { page < MAX_FILE_PAGES }
+        ensures blocks { (p : ℕ) → block_at self.new p ≡ (if in_run page count p then Some (block + (p - page)) else block_at self.old p) }
+        ensures ready { (p : ℕ) → is_ready self.new p ≡ is_ready self.old p }
+    {
+        if page < 64 {
+            self.front.set_part(page, block, count);
+        } else {
+            self.rest.set_part(page - 64, block, count);
+        }
+    }
+
+    /// The longest pieces of the map, rising. It costs a walk over the tree.
     pub fn runs(&self) -> Result<Vec<Piece>, AllocError>
         ensures pieces { IfOk result (λ v. ArePieces self.now v.items) }
         ensures only { IfOk result (λ v. (others : List Piece) → ArePieces self.now others → others ≡ v.items) }
     {
-        pieces_of(*self.entries.allocator(), &self.entries)
+        let mut pieces = Vec::new(self.alloc);
+        self.front.add_pages(&mut pieces, 0)?;
+        self.rest.add_pages(&mut pieces, 64)?;
+        Ok(pieces)
     }
 }

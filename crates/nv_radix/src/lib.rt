@@ -3,10 +3,12 @@
 //! nothing else and hands on the map alone, so that its body can change.
 #![tactic(auto)]
 
-mod entries;
+mod branch;
 mod index;
+mod leaf;
 mod piece;
 mod pieces;
+mod root;
 #[cfg(test)]
 mod tests;
 

@@ -1,18 +1,16 @@
 //! The pieces of rising pages, found in one walk.
 
-ghost use Rattle.std.specs.Prelude.{◌<◌, ◌∷◌, ◌++◌, [], IfOk, OnOk, Some};
+ghost use Rattle.std.specs.Prelude.{◌^◌, ◌<◌, ◌∷◌, ◌++◌, [], OnOk, Some};
 ghost use Rattle.nv_radix.specs.Pages.{Pages};
 ghost use Rattle.nv_radix.specs.Pieces.{ArePieces};
 ghost use Rattle.nv_radix.specs.Rising.{Rises};
 
-use crate::MAX_FILE_PAGES;
-use crate::entries::Entry;
 use crate::piece::Piece;
-use std::alloc::{AllocError, Global};
+use std::alloc::AllocError;
 
 /// Adds a mapped page, which stands behind all pages of the pieces.
-fn add_page(pieces: &mut Vec<Piece>, page: u64, block: u64) -> Result<(), AllocError>
-    requires { page < MAX_FILE_PAGES }
+pub fn add_page(pieces: &mut Vec<Piece>, page: u64, block: u64) -> Result<(), AllocError>
+    requires { page < 2 ^ 33 }
     ensures { OnOk result ((m : Pages) → Rises 0 page m → ArePieces m pieces.old.items → ArePieces (m ++ (page, Some block) ∷ []) pieces.new.items) }
 {
     let len = pieces.len();
@@ -32,18 +30,4 @@ fn add_page(pieces: &mut Vec<Piece>, page: u64, block: u64) -> Result<(), AllocE
         block,
     })?;
     Ok(())
-}
-
-/// The pieces of rising pages.
-pub fn pieces_of(alloc: Global, entries: &[Entry]) -> Result<Vec<Piece>, AllocError>
-    requires { Rises 0 MAX_FILE_PAGES entries.now }
-    ensures { IfOk result (λ v. ArePieces entries.now v.items) }
-{
-    let mut pieces = Vec::new(alloc);
-    for (page, block) in entries {
-        if let Some(block) = block {
-            add_page(&mut pieces, *page, *block)?;
-        }
-    }
-    Ok(pieces)
 }

@@ -178,3 +178,108 @@ fn shuffled_pages_give_the_map_of_rising_ones(rt: HostRuntime) -> Result<(), Fai
     assert_eq!(rt; pieces.as_slice(), [piece(0, 64, 1000)].as_slice());
     Ok(())
 }
+
+#[test]
+fn a_run_over_two_leaves_is_one_piece_and_makes_both_ready(rt: HostRuntime) -> Result<(), Fail> {
+    let mut index = FileIndex::new(rt.alloc());
+    map_run(&mut index, 4090, 100, 10)?;
+    let pieces = index.runs()?;
+    assert_eq!(rt; pieces.as_slice(), [piece(4090, 10, 100)].as_slice());
+    assert_eq!(rt; index.ready(4031), false);
+    assert_eq!(rt; index.ready(4032), true);
+    assert_eq!(rt; index.ready(4159), true);
+    assert_eq!(rt; index.ready(4160), false);
+    index.cut(4096);
+    let pieces = index.runs()?;
+    assert_eq!(rt; pieces.as_slice(), [piece(4090, 6, 100)].as_slice());
+    Ok(())
+}
+
+#[test]
+fn the_last_page_is_mapped_alone(rt: HostRuntime) -> Result<(), Fail> {
+    let mut index = FileIndex::new(rt.alloc());
+    map_run(&mut index, 262_143, 5, 1)?;
+    assert_eq!(rt; index.get(262_143), Some(5));
+    assert_eq!(rt; index.get(262_142), None);
+    assert_eq!(rt; index.ready(262_144), false);
+    Ok(())
+}
+
+#[test]
+fn no_page_of_a_new_index_is_ready(rt: HostRuntime) -> Result<(), Fail> {
+    let index = FileIndex::new(rt.alloc());
+    assert_eq!(rt; index.ready(0), false);
+    assert_eq!(rt; index.ready(64), false);
+    assert_eq!(rt; index.ready(u64::MAX), false);
+    Ok(())
+}
+
+#[test]
+fn a_cut_at_a_leaf_frees_it(rt: HostRuntime) -> Result<(), Fail> {
+    let mut index = FileIndex::new(rt.alloc());
+    map_run(&mut index, 0, 1000, 300)?;
+    index.cut(128);
+    assert_eq!(rt; index.ready(127), true);
+    assert_eq!(rt; index.ready(128), false);
+    index.cut(0);
+    assert_eq!(rt; index.ready(0), false);
+    Ok(())
+}
+
+#[test]
+fn pages_of_a_leaf_are_mapped_without_another_reserve(rt: HostRuntime) -> Result<(), Fail> {
+    let mut index = FileIndex::new(rt.alloc());
+    index.reserve(70, 1)?;
+    if index.ready(127) {
+        index.set_run(127, 9, 1);
+    }
+    assert_eq!(rt; index.get(127), Some(9));
+    assert_eq!(rt; index.get(70), None);
+    Ok(())
+}
+
+/// Steps over all levels of the tree: the first page, the number of pages, and the first block of
+/// a run that is mapped, or a page where the map is cut, with a count of 0.
+const STEPS: [(u64, u64, u64); 12] = [
+    (60, 10, 500),
+    (0, 1, 7),
+    (4150, 20, 900),
+    (8190, 2, 40),
+    (63, 2, 1),
+    (200, 0, 0),
+    (4159, 3, 77),
+    (66, 1, 506),
+    (65, 0, 0),
+    (64, 70, 300),
+    (130, 0, 0),
+    (8191, 130, 2000),
+];
+
+#[test]
+fn many_steps_give_the_map_of_a_plain_list(rt: HostRuntime) -> Result<(), Fail> {
+    let mut index = FileIndex::new(rt.alloc());
+    let mut plain = Vec::from_elem(rt.alloc(), None, 8400)?;
+    for (first, count, block) in &STEPS {
+        let (first, count, block) = (*first, *count, *block);
+        if first > 8200 || count > 200 || block > 3000 {
+            continue;
+        }
+        if count == 0 {
+            index.cut(first);
+        } else {
+            map_run(&mut index, first, block, count)?;
+        }
+        for (page, slot) in plain.iter_mut().enumerate() {
+            let page = page as u64;
+            if count == 0 && page >= first {
+                *slot = None;
+            } else if page >= first && page < first + count {
+                *slot = Some(block + (page - first));
+            }
+        }
+        for (page, slot) in plain.iter().enumerate() {
+            assert_eq!(rt; index.get(page as u64), *slot);
+        }
+    }
+    Ok(())
+}

@@ -1,31 +1,30 @@
-use Rattle.std.proofs.Common.{◌≡◌, true, refl, arith}
-use Rattle.nv_radix.specs.Pages.{block_at, is_ready, AreReady}
-use Rattle.nv_radix.specs.Rising.{Rises}
-use Rattle.nv_radix.specs.declared.TheConstants.{MAX_FILE_PAGES}
-use Rattle.nv_radix.proofs.Parts.{HasParts, parts}
-use Rattle.nv_radix.proofs.Readying.{Rises-with_run_ready, block_at-with_run_ready, is_ready-kept, AreReady-with_run_ready, by_outcome, OnOk-same}
+use Rattle.std.proofs.Common.{◌≡◌, ℕ, ◌+◌, ◌*◌, ◌/◌, ◌<◌, ◌≤◌, ◌||◌, Bool, true, eqb, refl, ap, sym, ◌∙◌, arith, inl, inr}
+use Rattle.std.proofs.lemmas.Bool.{cases_eq}
+use Rattle.nv_radix.specs.Pages.{is_ready}
+use Rattle.nv_radix.proofs.Halves.{or_kept, or_here}
 use Rattle.nv_radix.proofs.index.FileIndex.reserve.Goals as goal
 
-pub invariant_of-self : goal.invariant_of-self
-invariant_of-self c =
-    let m = c.self.inside.entries.items in
-    let w : HasParts m c.args.page c.args.count MAX_FILE_PAGES = parts m c.args.page c.args.count _ c.self.invariant (c.requires (omega arith)) in
-    by_outcome (λ n. Rises 0 MAX_FILE_PAGES n) _ _ _ _ c.make_ready.ensures.ok c.make_ready.ensures.err (Rises-with_run_ready m c.args.page c.args.count _ w) c.self.invariant
+pub loop-leaf-init : goal.loop-leaf-init
+loop-leaf-init c = (λ p. refl, λ p h. h, λ p l h. absurd (omega (arith, l, h)))
+
+pub returns-in_err-make_ready-clause-blocks : goal.returns-in_err-make_ready-clause-blocks
+returns-in_err-make_ready-clause-blocks c = λ p. c.make_ready.ensures.blocks p ∙ c.loop-leaf.invariant.0 p
+
+pub returns-in_err-make_ready-clause-keeps : goal.returns-in_err-make_ready-clause-keeps
+returns-in_err-make_ready-clause-keeps c = λ p h. c.in_err-make_ready.ensures.err p ∙ c.loop-leaf.invariant.1 p h
+
+pub loop-leaf-preserved : goal.loop-leaf-preserved
+loop-leaf-preserved c = (
+  λ p. c.make_ready.ensures.blocks p ∙ c.loop-leaf.invariant.0 p,
+  λ p h. c.in_ok-make_ready.ensures.ready p ∙ or_kept _ _ (c.loop-leaf.invariant.1 p h),
+  λ p l h. c.in_ok-make_ready.ensures.ready p ∙ elim (cases_eq (p / 64) c.loop-leaf.leaf) [ inl e ↦ or_here (p / 64) (c.loop-leaf.leaf * 64 / 64) _ (omega (arith, e)) | inr n ↦ or_kept _ _ (c.loop-leaf.invariant.2 p l (omega (arith, h, n))) ],
+)
 
 pub returns-clause-blocks : goal.returns-clause-blocks
-returns-clause-blocks c =
-    let m = c.self.inside.entries.items in
-    let w : HasParts m c.args.page c.args.count MAX_FILE_PAGES = parts m c.args.page c.args.count _ c.self.invariant (c.requires (omega arith)) in
-    λ p. rw (← c.self.view_is) (by_outcome (λ n. block_at n p ≡ block_at m p) _ _ _ _ c.make_ready.ensures.ok c.make_ready.ensures.err (block_at-with_run_ready m c.args.page c.args.count _ p w) refl)
+returns-clause-blocks c = c.loop-leaf.invariant.0
 
 pub returns-clause-keeps : goal.returns-clause-keeps
-returns-clause-keeps c =
-    let m = c.self.inside.entries.items in
-    let w : HasParts m c.args.page c.args.count MAX_FILE_PAGES = parts m c.args.page c.args.count _ c.self.invariant (c.requires (omega arith)) in
-    λ p h. (let ready = rw (← c.self.view_is) at h in by_outcome (λ n. is_ready n p ≡ true) _ _ _ _ c.make_ready.ensures.ok c.make_ready.ensures.err (is_ready-kept m c.args.page c.args.count _ p w ready) ready)
+returns-clause-keeps c = c.loop-leaf.invariant.1
 
 pub returns-clause-ready : goal.returns-clause-ready
-returns-clause-ready c =
-    let m = c.self.inside.entries.items in
-    let w : HasParts m c.args.page c.args.count MAX_FILE_PAGES = parts m c.args.page c.args.count _ c.self.invariant (c.requires (omega arith)) in
-    OnOk-same (λ n. AreReady n c.args.page c.args.count) _ _ _ c.make_ready.ensures.ok (AreReady-with_run_ready m c.args.page c.args.count _ w)
+returns-clause-ready c = λ p l h. c.loop-leaf.invariant.2 p l (omega (arith, h, c.loop-leaf-test.false))

@@ -1,0 +1,154 @@
+-- What each call on a leaf makes of its pages.
+use Rattle.std.proofs.Common.{◌≡◌, ℕ, ◌+◌, ◌-◌, ◌*◌, ◌/◌, ◌%◌, ◌^◌, ◌<◌, ◌≤◌, Bool, true, false, true≢false, cond, not, eqb, leb, ltb, ◌&&◌, List, [], ◌∷◌, ◌++◌, length, get_or, take, drop, Option, Some, None, refl, ap, sym, ◌∙◌, subst, arith, inl, inr, zero, suc, min, bit_and, append_assoc}
+use Rattle.std.specs.Int.{bit_at}
+use Rattle.std.proofs.lemmas.Bool.{cases_lt}
+use Rattle.std.proofs.lemmas.Bool.Decides.{eqb_tells, leb_tells, nat_tests}
+use Rattle.std.proofs.lemmas.Grind.{one_shifted}
+use Rattle.std.proofs.lemmas.List.{take_more, length-take-le, take-append-drop}
+use Rattle.std.proofs.lemmas.Nat.{pow-add}
+use Rattle.std.proofs.lemmas.Nat.Bits.{bit_at-zero, bit_at-lt, bit_at_and, bit_at_ones, bit_at_ones_above}
+use Rattle.std.proofs.Math.Nat.{div-div-eq-div-mul}
+use Rattle.nv_radix.specs.declared.piece.Piece.{Piece}
+use Rattle.nv_radix.specs.Pages.{Pages, block_at, is_ready, in_run}
+use Rattle.nv_radix.specs.Pieces.{ArePieces}
+use Rattle.nv_radix.specs.Rising.{Rises}
+use Rattle.nv_radix.specs.Nodes.{leaf_pages, raised}
+use Rattle.nv_radix.proofs.Leaves.{leaf_block, block_at-leaf, block_at-past_leaf, block_at-unset, is_ready-leaf, leaf_pages-append, Rises-leaf_pages}
+use Rattle.nv_radix.proofs.PieceLemmas.{ArePieces-same, ArePieces-skip}
+use Rattle.nv_radix.proofs.Rising.{Rises-append, Rises-higher, block_at-none}
+use Rattle.nv_radix.proofs.Rows.{Rises-raised, raised-append, block_at-raised_none}
+
+-- a leaf that isn't empty is ready
+pub not_empty : (n k p : ℕ) (b : Bool) → b ≡ eqb k 0 → n ≡ k → p < 64 → (0 < n → n ≡ 64) → not b ≡ ltb p n
+not_empty n k p b e same l size = rw e (elim (eqb_tells k 0) [
+  | inl w ↦ elim (leb_tells (suc p) n) [ inl v ↦ absurd (omega (arith, w.1, v.1, same)) | inr v ↦ rw (w.0, v.0) refl ]
+  | inr w ↦ elim (leb_tells (suc p) n) [ inl v ↦ rw (w.0, v.0) refl | inr v ↦ absurd (let some : 0 < n = omega (arith, w.1, same) in let full = size some in omega (arith, v.1, full, l)) ]
+])
+
+pub leaf_found : (mapped : ℕ) (blocks : List ℕ) (p block : ℕ) → p < length blocks → bit_at mapped p ≡ 1 → block ≡ get_or blocks p 0 → Some block ≡ block_at (leaf_pages mapped blocks 0) p
+leaf_found mapped blocks p block l set is = rw (block_at-leaf mapped blocks p l, set) (ap (λ (b : ℕ). Some b) is)
+
+pub leaf_unset : (mapped : ℕ) (blocks : List ℕ) (p : ℕ) → (bit_at mapped p ≡ 1 → ⊥) → None ≡ block_at (leaf_pages mapped blocks 0) p
+leaf_unset mapped blocks p unset = elim (cases_lt p (length blocks)) [
+  | inl l ↦ rw (block_at-leaf mapped blocks p l) (elim (eqb_tells (bit_at mapped p) 1) [ inl w ↦ absurd (unset w.1) | inr w ↦ rw w.0 refl ])
+  | inr l ↦ sym (block_at-past_leaf mapped blocks p l)
+]
+
+-- a leaf that is made ready has no block, as before
+pub made_ready : (mapped : ℕ) (old new : List ℕ) (p : ℕ) → length old ≡ 0 → block_at (leaf_pages 0 new 0) p ≡ block_at (leaf_pages mapped old 0) p
+made_ready mapped old new p e = block_at-unset 0 new 0 p (λ q l. bit_at-zero q) ∙ sym (block_at-past_leaf mapped old p (omega (arith, e)))
+
+-- the mask of the bits below a place
+pub low_bits : (mapped k p : ℕ) → k < 64 → bit_at (bit_and mapped (1 * 2 ^ k % 18446744073709551616 - 1)) p ≡ cond (leb k p) 0 (bit_at mapped p)
+low_bits mapped k p l =
+    let one : 1 * 2 ^ k % 18446744073709551616 ≡ 2 ^ k = (one_shifted k 18446744073709551615 refl l).0 in
+    ap (λ (m : ℕ). bit_at (bit_and mapped (m - 1)) p) one ∙ bit_at_and mapped (2 ^ k - 1) p ∙ elim (leb_tells k p) [
+      | inl w ↦ rw (w.0, bit_at_ones_above k p w.1) (omega arith)
+      | inr w ↦ rw (w.0, bit_at_ones k p w.1) (let few = bit_at-lt mapped p in omega (arith, few))
+    ]
+
+-- a leaf with the bits from a place on cleared
+pub leaf_cut : (mapped new : ℕ) (blocks : List ℕ) (k p : ℕ) → bit_at new p ≡ cond (leb k p) 0 (bit_at mapped p) → block_at (leaf_pages new blocks 0) p ≡ cond (leb k p) None (block_at (leaf_pages mapped blocks 0) p)
+leaf_cut mapped new blocks k p bits = elim (cases_lt p (length blocks)) [
+  | inl l ↦ rw (block_at-leaf new blocks p l, block_at-leaf mapped blocks p l, bits) (elim (leb_tells k p) [ inl w ↦ rw w.0 refl | inr w ↦ rw w.0 refl ])
+  | inr l ↦ rw (block_at-past_leaf new blocks p l, block_at-past_leaf mapped blocks p l) (elim (leb_tells k p) [ inl w ↦ rw w.0 refl | inr w ↦ rw w.0 refl ])
+]
+
+pub leaf_same_ready : (mapped new : ℕ) (blocks written : List ℕ) (p : ℕ) → length written ≡ length blocks → is_ready (leaf_pages new written 0) p ≡ is_ready (leaf_pages mapped blocks 0) p
+leaf_same_ready mapped new blocks written p same = is_ready-leaf new written p ∙ ap (λ (n : ℕ). ltb p n) same ∙ sym (is_ready-leaf mapped blocks p)
+
+-- a ready page is one of 64
+pub leaf_full : (mapped : ℕ) (blocks : List ℕ) (p : ℕ) → is_ready (leaf_pages mapped blocks 0) p ≡ true → (0 < length blocks → length blocks ≡ 64) → length blocks ≡ 64
+leaf_full mapped blocks p ready size = elim (leb_tells (suc p) (length blocks)) [
+  | inl w ↦ size (omega (arith, w.1))
+  | inr w ↦ absurd (true≢false (sym ready ∙ is_ready-leaf mapped blocks p ∙ w.0))
+]
+
+-- a leaf with a run of its pages set
+pub leaf_set : (mapped new : ℕ) (blocks written : List ℕ) (page block count p : ℕ) → length written ≡ length blocks → length blocks ≡ 64 → page + count ≤ 64 → ((q : ℕ) → q < 64 → bit_at new q ≡ cond (in_run page count q) 1 (bit_at mapped q)) → ((q : ℕ) → get_or written q 0 ≡ cond (in_run page count q) (block + (q - page)) (get_or blocks q 0)) → block_at (leaf_pages new written 0) p ≡ cond (in_run page count p) (Some (block + (p - page))) (block_at (leaf_pages mapped blocks 0) p)
+leaf_set mapped new blocks written page block count p same full part bits is = elim (cases_lt p 64) [
+  | inl l ↦
+      let old : p < length blocks = omega (arith, l, full) in
+      let now : p < length written = omega (arith, l, full, same) in
+      rw (block_at-leaf new written p now, block_at-leaf mapped blocks p old, bits p l, is p) (either (in_run page count p) (bit_at mapped p) (block + (p - page)) (get_or blocks p 0))
+  | inr l ↦
+      let old : length blocks ≤ p = omega (arith, l, full) in
+      let now : length written ≤ p = omega (arith, l, full, same) in
+      rw (block_at-past_leaf new written p now, block_at-past_leaf mapped blocks p old, outside page count p part l) refl
+]
+  where
+    either : (b : Bool) (bit new old : ℕ) → cond (eqb (cond b 1 bit) 1) (Some (cond b new old)) None ≡ cond b (Some new) (cond (eqb bit 1) (Some old) None)
+    either true bit new old = refl
+    either false bit new old = refl
+
+    outside : (page count p : ℕ) → page + count ≤ 64 → 64 ≤ p → in_run page count p ≡ false
+    outside page count p part l = grind (arith, nat_tests)
+
+-- one place more of a loop that writes a run
+pub run_more : (X : Type 0) (page step p : ℕ) (new old : X) → (p ≡ page + step → ⊥) → cond (in_run page step p) new old ≡ cond (in_run page (step + 1) p) new old
+run_more X page step p new old other = ap (λ (b : Bool). cond b new old) (same page step p other)
+  where
+    same : (page step p : ℕ) → (p ≡ page + step → ⊥) → in_run page step p ≡ in_run page (step + 1) p
+    same page step p other = elim (leb_tells page p) [
+      | inl w ↦ elim (leb_tells (suc p) (page + step)) [
+        | inl v ↦ elim (leb_tells (suc p) (page + (step + 1))) [ inl u ↦ rw (w.0, v.0, u.0) refl | inr u ↦ absurd (omega (arith, v.1, u.1)) ]
+        | inr v ↦ elim (leb_tells (suc p) (page + (step + 1))) [ inl u ↦ absurd (other (omega (arith, v.1, u.1))) | inr u ↦ rw (w.0, v.0, u.0) refl ]
+      ]
+      | inr w ↦ rw w.0 refl
+    ]
+
+pub in_run-last : (page step : ℕ) → in_run page (step + 1) (page + step) ≡ true
+in_run-last page step = elim (leb_tells page (page + step)) [
+  | inl w ↦ elim (leb_tells (suc (page + step)) (page + (step + 1))) [ inl v ↦ rw (w.0, v.0) refl | inr v ↦ absurd (omega (arith, v.1)) ]
+  | inr w ↦ absurd (omega (arith, w.1))
+]
+
+-- no bit is set from a place on where the number shifted by it is 0
+pub no_more_bits : (n k q : ℕ) → n / 2 ^ k ≡ 0 → k ≤ q → bit_at n q ≡ 0
+no_more_bits n k q e l =
+    let far : k + (q - k) ≡ q = omega (arith, l) in
+    ap (bit_at n) (sym far)
+    ∙ sym (ap (λ (m : ℕ). m % 2) (div-div-eq-div-mul n (2 ^ k) (2 ^ (q - k)) ∙ ap (λ (m : ℕ). n / m) (sym (pow-add 2 k (q - k)))))
+    ∙ ap (λ (m : ℕ). bit_at m (q - k)) e
+    ∙ bit_at-zero (q - k)
+
+-- the pieces of a leaf whose pages from a place on have no block
+pub ArePieces-rest : (base i mapped : ℕ) (blocks : List ℕ) (m : Pages) (pieces : List Piece) → i ≤ length blocks → mapped / 2 ^ i ≡ 0 → ArePieces (m ++ raised base (leaf_pages mapped (take i blocks) 0)) pieces → ArePieces (m ++ raised base (leaf_pages mapped blocks 0)) pieces
+ArePieces-rest base i mapped blocks m pieces l e a =
+    let tail = leaf_pages mapped (drop i blocks) i in
+    let size : 0 + length (take i blocks) ≡ i = (let n = length-take-le i blocks l in omega (arith, n)) in
+    let parts : leaf_pages mapped blocks 0 ≡ leaf_pages mapped (take i blocks) 0 ++ tail = ap (λ (bs : List ℕ). leaf_pages mapped bs 0) (sym (take-append-drop i blocks)) ∙ leaf_pages-append mapped (take i blocks) (drop i blocks) 0 ∙ ap (λ (k : ℕ). leaf_pages mapped (take i blocks) 0 ++ leaf_pages mapped (drop i blocks) k) size in
+    let whole : m ++ raised base (leaf_pages mapped blocks 0) ≡ (m ++ raised base (leaf_pages mapped (take i blocks) 0)) ++ raised base tail = ap (λ (n : Pages). m ++ raised base n) parts ∙ ap (λ (n : Pages). m ++ n) (raised-append base (leaf_pages mapped (take i blocks) 0) tail) ∙ sym (append_assoc m (raised base (leaf_pages mapped (take i blocks) 0)) (raised base tail)) in
+    subst (λ (n : Pages). ArePieces n pieces) (sym whole) (ArePieces-same _ _ pieces (λ p. sym (block_at-none _ (raised base tail) p (λ q. block_at-raised_none base tail q (λ r. block_at-unset mapped (drop i blocks) i r (λ s k. no_more_bits mapped i s e k))))) a)
+
+-- one page more of a leaf
+leaf_more : (mapped : ℕ) (blocks : List ℕ) (i : ℕ) → i < length blocks → leaf_pages mapped (take (i + 1) blocks) 0 ≡ leaf_pages mapped (take i blocks) 0 ++ (i, leaf_block mapped blocks i i) ∷ []
+leaf_more mapped blocks i l =
+    let size : 0 + length (take i blocks) ≡ i = (let n = length-take-le i blocks (omega (arith, l)) in omega (arith, n)) in
+    ap (λ (bs : List ℕ). leaf_pages mapped bs 0) (take_more blocks i 0 l) ∙ leaf_pages-append mapped (take i blocks) (get_or blocks i 0 ∷ []) 0 ∙ ap (λ (k : ℕ). leaf_pages mapped (take i blocks) 0 ++ (k, leaf_block mapped blocks k i) ∷ []) size
+
+pub raised_more : (base mapped : ℕ) (blocks : List ℕ) (i : ℕ) (m : Pages) → i < length blocks → m ++ raised base (leaf_pages mapped (take (i + 1) blocks) 0) ≡ (m ++ raised base (leaf_pages mapped (take i blocks) 0)) ++ (base + i, leaf_block mapped blocks i i) ∷ []
+raised_more base mapped blocks i m l =
+    ap (λ (n : Pages). m ++ raised base n) (leaf_more mapped blocks i l) ∙ ap (λ (n : Pages). m ++ n) (raised-append base (leaf_pages mapped (take i blocks) 0) ((i, leaf_block mapped blocks i i) ∷ [])) ∙ sym (append_assoc m (raised base (leaf_pages mapped (take i blocks) 0)) ((base + i, leaf_block mapped blocks i i) ∷ []))
+
+pub Rises-so_far : (base mapped : ℕ) (blocks : List ℕ) (i : ℕ) (m : Pages) → i ≤ length blocks → Rises 0 base m → Rises 0 (base + i) (m ++ raised base (leaf_pages mapped (take i blocks) 0))
+Rises-so_far base mapped blocks i m l h =
+    let size : 0 + length (take i blocks) ≡ i = (let n = length-take-le i blocks l in omega (arith, n)) in
+    let low : base + 0 ≡ base = omega arith in
+    let high : base + (0 + length (take i blocks)) ≡ base + i = ap (λ (k : ℕ). base + k) size in
+    let rises = Rises-raised base 0 (0 + length (take i blocks)) (leaf_pages mapped (take i blocks) 0) (Rises-leaf_pages mapped (take i blocks) 0) in
+    Rises-append 0 base (base + i) m _ h (subst (λ k. Rises base k (raised base (leaf_pages mapped (take i blocks) 0))) high (subst (λ k. Rises k (base + (0 + length (take i blocks))) (raised base (leaf_pages mapped (take i blocks) 0))) low rises))
+
+-- the step of a walk at a mapped page
+pub ArePieces-set : (base mapped block : ℕ) (blocks : List ℕ) (i : ℕ) (m : Pages) (old new : List Piece) → i < length blocks → bit_at mapped i ≡ 1 → block ≡ get_or blocks i 0 → Rises 0 base m → ((n : Pages) → Rises 0 (base + i) n → ArePieces n old → ArePieces (n ++ (base + i, Some block) ∷ []) new) → ArePieces (m ++ raised base (leaf_pages mapped (take i blocks) 0)) old → ArePieces (m ++ raised base (leaf_pages mapped (take (i + 1) blocks) 0)) new
+ArePieces-set base mapped block blocks i m old new l set is h step a =
+    let entry : Some block ≡ leaf_block mapped blocks i i = rw set (ap (λ (b : ℕ). Some b) is) in
+    let more : (m ++ raised base (leaf_pages mapped (take i blocks) 0)) ++ (base + i, Some block) ∷ [] ≡ m ++ raised base (leaf_pages mapped (take (i + 1) blocks) 0) = ap (λ (o : Option ℕ). (m ++ raised base (leaf_pages mapped (take i blocks) 0)) ++ (base + i, o) ∷ []) entry ∙ sym (raised_more base mapped blocks i m l) in
+    subst (λ (n : Pages). ArePieces n new) more (step _ (Rises-so_far base mapped blocks i m (omega (arith, l)) h) a)
+
+-- and at a page with no block
+pub ArePieces-unset : (base mapped : ℕ) (blocks : List ℕ) (i : ℕ) (m : Pages) (pieces : List Piece) → i < length blocks → (bit_at mapped i ≡ 1 → ⊥) → ArePieces (m ++ raised base (leaf_pages mapped (take i blocks) 0)) pieces → ArePieces (m ++ raised base (leaf_pages mapped (take (i + 1) blocks) 0)) pieces
+ArePieces-unset base mapped blocks i m pieces l unset a =
+    let entry : None ≡ leaf_block mapped blocks i i = elim (eqb_tells (bit_at mapped i) 1) [ inl w ↦ absurd (unset w.1) | inr w ↦ rw w.0 refl ] in
+    let more : (m ++ raised base (leaf_pages mapped (take i blocks) 0)) ++ (base + i, None) ∷ [] ≡ m ++ raised base (leaf_pages mapped (take (i + 1) blocks) 0) = ap (λ (o : Option ℕ). (m ++ raised base (leaf_pages mapped (take i blocks) 0)) ++ (base + i, o) ∷ []) entry ∙ sym (raised_more base mapped blocks i m l) in
+    subst (λ (n : Pages). ArePieces n pieces) more (ArePieces-skip _ (base + i) pieces a)

@@ -1,0 +1,18 @@
+use Rattle.std.proofs.Common.{◌≡◌, ◌/◌, ◌%◌, [], get_or, ap, sym, ◌∙◌, arith}
+use Rattle.std.proofs.lemmas.List.{get_or_past}
+use Rattle.nv_radix.specs.Pages.{block_at}
+use Rattle.nv_radix.proofs.RowSteps.{block_at-page}
+use Rattle.nv_radix.proofs.branch.Branch.get.Goals as goal
+
+pub returns-in-Some : goal.returns-in-Some
+returns-in-Some c =
+    let nodes = c.self.inside.leaves.items in
+    let found = rw c.deref.ensures.value at c.in-Some.ensures.lookup in
+    let is : c.in-Some.leaf.now ≡ get_or nodes (c.args.page / 64) [] = found.3.1 [] in
+    rw (← c.self.view_is) (c.get-in-Some.ensures ∙ ap (λ m. block_at m (c.args.page % 64)) is ∙ sym (block_at-page 64 nodes c.args.page (omega arith) c.self.invariant.0))
+
+pub returns-in-None : goal.returns-in-None
+returns-in-None c =
+    let nodes = c.self.inside.leaves.items in
+    let past = rw c.deref.ensures.value at c.in-None.ensures.lookup in
+    rw (← c.self.view_is) (sym (block_at-page 64 nodes c.args.page (omega arith) c.self.invariant.0 ∙ ap (λ m. block_at m (c.args.page % 64)) (get_or_past nodes (c.args.page / 64) [] past.3)))

@@ -1,0 +1,34 @@
+use Rattle.std.proofs.Common.{◌≡◌, ◌≤◌, length, max, ap, sym, ◌∙◌, arith}
+use Rattle.nv_radix.proofs.RowSteps.{IsGrown, IsGrown-none, IsGrown-push}
+use Rattle.nv_radix.proofs.root.grow.Goals as goal
+
+pub loop-init : goal.loop-init
+loop-init c = (IsGrown-none 4096 c.args.branches.now.items, omega (arith, c.len-counter.ensures, c.args.branches.now.ok.0), omega arith)
+
+pub returns-in_err-push-clause-same : goal.returns-in_err-push-clause-same
+returns-in_err-push-clause-same c = λ i. rw c.in_err-push.ensures.items (c.loop.invariant.0.same i)
+
+pub returns-in_err-push-clause-nodes : goal.returns-in_err-push-clause-nodes
+returns-in_err-push-clause-nodes c = λ h. rw c.in_err-push.ensures.items (c.loop.invariant.0.nodes h)
+
+pub returns-in_err-push-clause-few : goal.returns-in_err-push-clause-few
+returns-in_err-push-clause-few c = rw c.in_err-push.ensures.items (omega (arith, c.loop.invariant.1, c.loop-test.true))
+
+pub loop-preserved : goal.loop-preserved
+loop-preserved c = (
+  rw c.in_ok-push.ensures.items (IsGrown-push 4096 _ _ _ c.new.ensures c.loop.invariant.0),
+  omega (arith, c.in_ok-push.ensures.len, c.push.new.self.ok.0, c.loop.branches.ok.0, c.loop.invariant.1),
+  omega (arith, c.in_ok-push.ensures.len, c.push.new.self.ok.0, c.loop.branches.ok.0, c.loop.invariant.1, c.loop-test.true),
+)
+
+pub returns-clause-same : goal.returns-clause-same
+returns-clause-same c = c.loop.invariant.0.same
+
+pub returns-clause-nodes : goal.returns-clause-nodes
+returns-clause-nodes c = c.loop.invariant.0.nodes
+
+pub returns-clause-few : goal.returns-clause-few
+returns-clause-few c = c.loop.invariant.2
+
+pub returns-clause-enough : goal.returns-clause-enough
+returns-clause-enough c = omega (arith, c.loop.invariant.1, c.loop-test.false)
