@@ -26,6 +26,7 @@ use nv_super::BLOCK_SIZE;
 pub fn pages_needed(tail: u64, entries: &[Entry]) -> u64
     ensures { result ≡ needed (tail % 4096) entries.now }
 {
+    // The number of entries is a u64, and no more pages are needed.
     let _count = entries.len();
     let mut pages = 0;
     let mut offset = tail % BLOCK_SIZE;
@@ -44,7 +45,11 @@ pub fn pages_needed(tail: u64, entries: &[Entry]) -> u64
 /// Writes the entries behind the tail of a log, over these fresh pages, links those that it takes, and answers the new
 /// tail. It doesn't fence, and it leaves the tail to its caller: before that is stored, the log is as it was.
 ///
-/// A new log's tail is its page's start.
+/// The tail is that of the log, or the start of a new log's page. As many fresh pages are given as `pages_needed` says, or
+/// more: data blocks, all different and none of them a page of the log. No given entry is a next-page entry.
+///
+/// Answers `Stopped` exactly where the fuse has burnt by the end of the call. Where there is nothing to append it stores
+/// nothing, and answers the tail.
 pub fn append<P: Pmem>(
     memory: &mut P,
     tail: u64,
