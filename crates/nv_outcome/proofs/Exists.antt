@@ -1,7 +1,7 @@
 -- Each region whose superblock is accepted has an outcome.
 use Rattle.std.proofs.Common.{◌≡◌, ◌≢◌, ◌⊎◌, inl, inr, ◌&&◌, nat_lt, ℕ, zero, suc, ◌+◌, ◌<◌, ◌≤◌, true, IsTrue, List, [], ◌∷◌, ◌++◌, length, get_or, refl, sym, ap, subst, arith}
 use Rattle.std.specs.List.{Contains}
-use Rattle.std.proofs.lemmas.Bool.{cases_lt, cases_eq}
+use Rattle.std.proofs.lemmas.Bool.{cases_lt}
 use Rattle.std.proofs.lemmas.Bool.Decides.{nat_tests}
 use Rattle.std.proofs.lemmas.List.Elements.{Contains-append_left, Contains-append_right, Contains-append_cases}
 use Rattle.nv_region.specs.Region.{Region}
@@ -10,7 +10,7 @@ use Rattle.nv_super.specs.declared.owners.Owner.{Owner}
 use Rattle.nv_super.specs.declared.owners.Run.{Run}
 use Rattle.nv_super.specs.declared.faults.Fault.{Fault}
 use Rattle.nv_super.specs.declared.faults.Fault.TheVariants as faults
-use Rattle.nv_super.specs.Layout.{Layout, IsLayout, system_blocks, pool_start, inode_limit, is_number, fixed_layout, InPool}
+use Rattle.nv_super.specs.Layout.{IsLayout, system_blocks, pool_start, inode_limit, is_number, fixed_layout, InPool}
 use Rattle.nv_super.specs.Order.{Rises, fault_key, claim_key}
 use Rattle.nv_super.specs.Runs.{AreRuns}
 use Rattle.nv_super.specs.Super.{IsSuper}
@@ -19,7 +19,6 @@ use Rattle.nv_super.proofs.Rising.{Contains-cons, Contains-head}
 use Rattle.nv_super.proofs.Sorted.{one_owner, fault_key_only, claim_key_only}
 use Rattle.nv_journal.specs.Undo.{undone}
 use Rattle.nv_journal.specs.Faults.{HasFault}
-use Rattle.nv_alloc.specs.Taking.{pool_at}
 use Rattle.nv_alloc.proofs.Changed.{AreRuns-same}
 use Rattle.nv_scan.specs.Inode.{Log, IsInUse}
 use Rattle.nv_scan.specs.Owners.{Owns}

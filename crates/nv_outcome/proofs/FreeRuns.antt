@@ -1,10 +1,9 @@
 -- The runs of the blocks of which something holds.
 use Rattle.std.proofs.Common.{◌≡◌, ◌≢◌, inl, inr, ℕ, zero, suc, ◌+◌, ◌-◌, ◌<◌, ◌≤◌, List, [], ◌∷◌, ap, sym, subst, arith}
-use Rattle.std.specs.List.{Contains}
 use Rattle.nv_super.specs.declared.owners.Run.{Run}
-use Rattle.nv_super.specs.Runs.{InRun, Apart, AreRuns}
+use Rattle.nv_super.specs.Runs.{Apart, AreRuns}
 use Rattle.nv_super.proofs.Rising.{Contains-cons, Contains-head, Contains-tail}
-use Rattle.nv_super.proofs.Runs.{tail_apart, some_blocks}
+use Rattle.nv_super.proofs.Runs.{some_blocks}
 use Rattle.nv_alloc.proofs.Changed.{AreRuns-same}
 use Rattle.nv_alloc.proofs.Fronts.{cut_apart}
 use Rattle.nv_outcome.proofs.Finite.{Decided, number_is}

@@ -1,5 +1,5 @@
 -- What is wrong with the journals can be listed.
-use Rattle.std.proofs.Common.{◌≡◌, ◌⊎◌, inl, inr, ℕ, ◌+◌, ◌%◌, ◌<◌, ◌≤◌, Bool, true, false, refl, sym, ◌∙◌, ap, subst, arith}
+use Rattle.std.proofs.Common.{◌≡◌, ◌⊎◌, inl, inr, ℕ, ◌+◌, ◌%◌, ◌<◌, ◌≤◌, Bool, true, false, refl, sym, ap, subst, arith}
 use Rattle.std.proofs.lemmas.Bool.{cases_lt}
 use Rattle.nv_region.specs.Region.{Region}
 use Rattle.nv_super.specs.declared.superblock.Super.{Super}
@@ -8,7 +8,7 @@ use Rattle.nv_super.specs.declared.faults.Fault.TheVariants as faults
 use Rattle.nv_journal.specs.Permitted.{is_permitted}
 use Rattle.nv_journal.specs.Undo.{dequeue, enqueue, is_sound, pending_count, record_at}
 use Rattle.nv_journal.specs.Faults.{IsFaultOf, HasFault}
-use Rattle.nv_outcome.proofs.Finite.{Decided, told_as, number_below, Finite, only, numbers, by_name, either, if_so, over}
+use Rattle.nv_outcome.proofs.Finite.{Decided, Finite, only, numbers, by_name, either, if_so, over}
 
 bool_is : (a b : Bool) → Decided (a ≡ b)
 bool_is true true = inl refl

@@ -4,7 +4,6 @@ use Rattle.std.specs.List.{Contains}
 use Rattle.nv_region.specs.Region.{Region}
 use Rattle.nv_super.specs.declared.owners.Owner.{Owner}
 use Rattle.nv_super.specs.declared.owners.Owner.TheVariants as owners
-use Rattle.nv_super.specs.declared.faults.Fault.{Fault}
 use Rattle.nv_super.specs.Layout.{Layout, slot_of}
 use Rattle.nv_super.specs.Order.{owner_key, Rises}
 use Rattle.nv_super.proofs.Rising.{Contains-head, Contains-tail}

@@ -1,8 +1,7 @@
 -- Without faults each data block is free once or owned once.
-use Rattle.std.proofs.Common.{◌≡◌, ◌⊎◌, inl, inr, ℕ, ◌<◌, List, [], sym, subst, arith}
+use Rattle.std.proofs.Common.{◌≡◌, inl, inr, ℕ, ◌<◌, List, [], sym, subst, arith}
 use Rattle.std.specs.List.{Contains}
 use Rattle.nv_region.specs.Region.{Region}
-use Rattle.nv_super.specs.declared.owners.Owner.{Owner}
 use Rattle.nv_super.specs.declared.faults.Fault.{Fault}
 use Rattle.nv_super.specs.declared.faults.Fault.TheVariants as faults
 use Rattle.nv_super.specs.Layout.{fixed_layout, InPool, PoolsCover}
@@ -11,7 +10,6 @@ use Rattle.nv_super.proofs.Sorted.{one_owner}
 use Rattle.nv_journal.specs.Undo.{undone}
 use Rattle.nv_alloc.specs.Taking.{HasBlock, pool_at}
 use Rattle.nv_alloc.proofs.Sound.{free_within}
-use Rattle.nv_scan.specs.Owners.{Owns}
 use Rattle.nv_outcome.specs.Outcome.{IsFree, double, Outcome, IsOutcome}
 use Rattle.nv_outcome.specs.Shared.{SharesAll}
 use Rattle.nv_outcome.proofs.Members.{none_in}
