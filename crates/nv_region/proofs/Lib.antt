@@ -4,3 +4,4 @@ pub mod Wordwise
 pub mod Marks
 pub mod Fences
 pub mod Fronted
+pub mod Alternate

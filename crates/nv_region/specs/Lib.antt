@@ -5,5 +5,6 @@ pub mod Stored
 pub mod StoredPages
 pub mod Marks
 pub mod Fenced
+pub mod Kept
 pub mod ImageState
 pub mod Fronts

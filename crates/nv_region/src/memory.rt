@@ -8,8 +8,9 @@ ghost use Rattle.std.proofs.Common.{inl, inr};
 ghost use Rattle.std.specs.List.{list_any};
 ghost use Rattle.byteorder.specs.Endian.{little_number};
 ghost use Rattle.nv_region.specs.Region.{size, word, put, region_of, bytes_of};
-ghost use Rattle.nv_region.specs.Stops.{NothingPending, NoneAdded, Adds, One, StaysBurnt, StaysSteady, StaysOpen};
+ghost use Rattle.nv_region.specs.Stops.{MayBeLeft, NothingPending, NoneAdded, Adds, One, StaysBurnt, StaysSteady, StaysOpen};
 ghost use Rattle.nv_region.specs.RegionState.{RegionState, fenced_or_last, burns_at_store, burns_at_fence, one_passed, is_steady, steady_unburnt};
+ghost use Rattle.nv_region.specs.Kept.{alternate, kept};
 ghost use Rattle.nv_region.specs.Fenced.{DifferOnlyIn};
 
 use crate::stored::StoredPages;
@@ -33,6 +34,18 @@ pub enum Fuse {
     After(u64),
     /// At the first store to this byte address, which isn't done.
     At(u64),
+}
+
+/// Which of the words that were stored since the last fence a stop keeps.
+#[derive(Clone, Copy, Debug, PartialEq, Eq)]
+pub enum Keep {
+    /// None: each word is as at the last fence.
+    None,
+    /// All: each word is as last stored.
+    All,
+    /// Of the words that differ from those at the last fence, in rising address, the first, third and so on are as last
+    /// stored, and the others as at the fence.
+    Alternate,
 }
 
 /// Why no region was made.
@@ -153,6 +166,38 @@ impl MemRegion {
     {
         self.fuse = fuse;
         self.burnt = false;
+    }
+
+    /// The region that a stop at this moment leaves, where it keeps these words. Nothing is pending in it, and it has no
+    /// fuse.
+    ///
+    /// It takes no memory. `None` and `All` cost what was stored since the last fence, `Alternate` a pass over the region.
+    pub fn after_stop(self, keep: Keep) -> MemRegion
+        ensures left { MayBeLeft self.region (fenced_or_last self) result.region }
+        ensures words { result.region.words ≡ kept keep self.region.words self.fenced }
+        ensures settled { NothingPending result.region (fenced_or_last result) }
+        ensures fuse { (result.fuse ≡ Fuse.Off) × (result.burnt ≡ false) }
+    {
+        let MemRegion {
+            alloc,
+            mut words,
+            mut fenced,
+            mut stored,
+            rest,
+            ..
+        } = self;
+        keep_words(&mut words, &fenced, stored.pages(), keep);
+        copy_pages(&mut fenced, &words, stored.pages());
+        stored.clear();
+        MemRegion {
+            alloc,
+            words,
+            fenced,
+            stored,
+            rest,
+            fuse: Fuse::Off,
+            burnt: false,
+        }
     }
 }
 
@@ -310,4 +355,37 @@ fn copy_page(fenced: &mut [u64], words: &[u64], page: usize)
     let start = page * WORDS_IN_PAGE;
     let end = (start + WORDS_IN_PAGE).min(words.len());
     fenced[start..end].copy_from_slice(&words[start..end]);
+}
+
+// Leaves the words that a stop keeps: only these pages can differ from those at the last fence.
+fn keep_words(words: &mut [u64], fenced: &[u64], pages: &[usize], keep: Keep)
+    requires as_long { length fenced.now ≡ length words.old }
+    requires small { length words.old ≤ 2 ^ 27 }
+    requires below { (p : ℕ) → list_any (eqb p) pages.now ≡ true → 512 * p < length words.old }
+    requires differ { DifferOnlyIn pages.now words.old fenced.now }
+    ensures words { words.new ≡ kept keep words.old fenced.now }
+    ensures as_long { length words.new ≡ length words.old }
+{
+    match keep {
+        Keep::None => copy_pages(words, fenced, pages),
+        Keep::All => {}
+        Keep::Alternate => keep_alternate(words, fenced),
+    }
+}
+
+// Keeps the first, third and so on of the words that differ, and takes the others back.
+fn keep_alternate(words: &mut [u64], fenced: &[u64])
+    requires { length fenced.now ≡ length words.old }
+    ensures words { words.new ≡ alternate true words.old fenced.now }
+    ensures as_long { length words.new ≡ length words.old }
+{
+    let mut turn = true;
+    for i in 0..words.len() {
+        if words[i] != fenced[i] {
+            if !turn {
+                words[i] = fenced[i];
+            }
+            turn = !turn;
+        }
+    }
 }

@@ -3,7 +3,7 @@
 ghost use Rattle.std.specs.Prelude.{◌≡◌, ◌⊎◌, ◌+◌, ◌≤◌, ◌%◌, ℕ, IsTrue, OnOk, OnErr, is_err};
 ghost use Rattle.nv_region.specs.Region.{put, size};
 ghost use Rattle.nv_region.specs.Stops.{Adds, LeavesOnly, NothingPending, One, NoneAdded, StaysBurnt, StaysSteady, StaysOpen};
-ghost use Rattle.nv_region.specs.Stored.{Stored};
+ghost use Rattle.nv_region.specs.Stored.{Stored, StoresOnly};
 
 use crate::pmem::{Pmem, Stopped};
 
@@ -35,6 +35,7 @@ pub fn commit_word<P: Pmem>(memory: &mut P, at: u64, value: u64) -> Result<(), S
     ensures done { OnOk result (P.region memory.new ≡ put (P.region memory.old) at value) }
     ensures settled { OnOk result (NothingPending (P.region memory.new) (P.may_hold memory.new)) }
     ensures reads { (P.region memory.new ≡ P.region memory.old) ⊎ (P.region memory.new ≡ put (P.region memory.old) at value) }
+    ensures wrote { StoresOnly (One at value) (P.region memory.old) (P.region memory.new) (P.may_hold memory.old) (P.may_hold memory.new) }
     ensures stopped { is_err result ≡ P.has_burnt memory.new }
     ensures burnt { StaysBurnt (P.has_burnt memory.old) (P.has_burnt memory.new) }
     ensures steady { StaysSteady (P.is_steady memory.old) (P.is_steady memory.new) }
