@@ -50,7 +50,7 @@ settled_before R (suc k) at before = skip (omega (arith, before)) ∙ settled_be
     skip differ = grind (arith, nat_tests)
 
 -- nothing where each journal is quiet
-settled_quiet : (R : Region) (k at : ℕ) → ((j : ℕ) → j < k → IsQuiet R j) → settled_word R k at ≡ word R at
+pub settled_quiet : (R : Region) (k at : ℕ) → ((j : ℕ) → j < k → IsQuiet R j) → settled_word R k at ≡ word R at
 settled_quiet R zero at quiet = refl
 settled_quiet R (suc k) at quiet = test (journal k == at) (is_sound R k) refl refl (settled_quiet R k at (λ j less. quiet j (omega arith)))
   where
@@ -65,14 +65,14 @@ past_zero : (R : Region) (at : ℕ) → length R.words ≤ at / 8 → word R at 
 past_zero R at past = get_or_past R.words (at / 8) 0 past
 
 module _ (permits : ℕ → Bool) where
-  quiet_journal : (R : Region) (k : ℕ) (sound : Bool) → is_sound R k ≡ sound → IsQuiet R k → cond sound (permitted permits (pending_from R k 0 (pending_count R k))) [] ≡ []
+  pub quiet_journal : (R : Region) (k : ℕ) (sound : Bool) → is_sound R k ≡ sound → IsQuiet R k → cond sound (permitted permits (pending_from R k 0 (pending_count R k))) [] ≡ []
   quiet_journal R k false sound quiet = refl
   quiet_journal R k true sound quiet =
       let same = quiet sound in
       let none : pending_count R k ≡ 0 = omega (arith, same) in
       ap (λ (n : ℕ). permitted permits (pending_from R k 0 n)) none
 
-  quiet_records : (R : Region) (k : ℕ) → ((j : ℕ) → j < k → IsQuiet R j) → all_records permits R k ≡ []
+  pub quiet_records : (R : Region) (k : ℕ) → ((j : ℕ) → j < k → IsQuiet R j) → all_records permits R k ≡ []
   quiet_records R zero quiet = refl
   quiet_records R (suc k) quiet =
       let here : journal_records permits R k ≡ [] = quiet_journal R k (is_sound R k) refl (quiet k (omega arith)) in

@@ -7,3 +7,8 @@ pub mod Partly
 pub mod Listed
 pub mod Words
 pub mod SuperKept
+pub mod Recording
+pub mod Begins
+pub mod OneJournal
+pub mod Both
+pub mod Emptied

@@ -1,10 +1,12 @@
 //! The journals of a region: the calls that a stop cut short are rolled back, and what is wrong with a journal is told.
+//! A call that changes more than one word records them first, so that a stop leaves all as they were or all changed.
 //!
 //! Each CPU has a journal of one block, the blocks from 1 on. Word 0 is the number of the oldest pending record (dequeue),
 //! word 8 the number of the place behind the newest (enqueue). Record k, of 252, stands at 64 + 16 k: an address,
 //! and the value that stood there before the call. After 251 comes 0.
 #![tactic(auto)]
 
+mod committing;
 mod faults;
 mod journal;
 mod laws;
@@ -13,6 +15,7 @@ mod rollback;
 mod tests;
 mod undoing;
 
+pub use committing::{begin, change_two, commit};
 pub use laws::{
     one_region_is_undone, the_superblock_stays, undo_again_changes_nothing,
     undone_regions_are_quiet,

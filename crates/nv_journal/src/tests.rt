@@ -1,5 +1,6 @@
 //! Journals of a small region, undone.
 
+mod changes;
 mod stores;
 
 ghost use Rattle.std.specs.Prelude.{IfOk};
@@ -9,7 +10,7 @@ use crate::{
     UndoError, one_region_is_undone, the_superblock_stays, undo, undo_again_changes_nothing,
     undone_regions_are_quiet,
 };
-use nv_region::{Fuse, MemRegion, Pmem, RegionRefusal};
+use nv_region::{Fuse, MemRegion, Pmem, RegionRefusal, Stopped};
 use nv_super::{Fault, Super};
 
 // One CPU: its journal is block 1, the table block 2, whose slot 1 begins at 8320.
@@ -54,6 +55,12 @@ enum Failure {
 impl From<RegionRefusal> for Failure {
     fn from(refusal: RegionRefusal) -> Self {
         Failure::Region(refusal)
+    }
+}
+
+impl From<Stopped> for Failure {
+    fn from(_: Stopped) -> Self {
+        Failure::Undo(UndoError::Stopped)
     }
 }
 

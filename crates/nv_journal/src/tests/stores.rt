@@ -1,11 +1,11 @@
-//! Which words an undo stores, and in which order.
+//! Which words an undo and a change of two words store, and in which order.
 
 ghost use Rattle.std.specs.Prelude.{◌≡◌};
 ghost use Rattle.std.proofs.Common.{inl, refl};
 ghost use Rattle.nv_region.specs.RegionState.{fenced_or_last, is_steady, steady_unburnt};
 
 use super::{Failure, TWO, region_with};
-use crate::undo;
+use crate::{change_two, undo};
 use nv_region::{MemRegion, Pmem, Stopped};
 
 /// A memory that counts its stores and fences, and notes the addresses of the first eight stores.
@@ -93,5 +93,24 @@ fn an_empty_journal_causes_no_store_beside_a_pending_one(rt: HostRuntime) -> Res
     assert!(rt; memory.addresses == [12416, 12440, 8192, 0, 0, 0, 0, 0]);
     assert_eq!(rt; memory.fences, 2);
     assert_eq!(rt; memory.load(12440), 20488);
+    Ok(())
+}
+
+#[test]
+fn a_change_of_two_words_costs_eight_stores_and_four_fences(
+    rt: HostRuntime,
+) -> Result<(), Failure> {
+    let mut memory = NotedRegion {
+        memory: region_with(rt, &[])?,
+        addresses: [0; 8],
+        stores: 0,
+        fences: 0,
+    };
+    if memory.load(4096) == 0 && memory.load(4104) == 0 {
+        change_two(&mut memory, 0, 8336, 16384, 8344, 16416)?;
+    }
+    assert_eq!(rt; memory.stores, 8);
+    assert!(rt; memory.addresses == [4160, 4168, 4176, 4184, 4104, 8336, 8344, 4096]);
+    assert_eq!(rt; memory.fences, 4);
     Ok(())
 }

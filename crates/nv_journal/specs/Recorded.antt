@@ -1,0 +1,19 @@
+-- What is stored while a journal is in use.
+use Rattle.std.specs.Prelude.{◌≡◌, ◌⊎◌, ◌<◌, ◌+◌, ◌*◌, ◌/◌, ◌%◌, ℕ, List, get_or}
+use Rattle.nv_region.specs.Region.{Region, word}
+use Rattle.nv_region.specs.Stops.{Choices}
+use Rattle.nv_region.specs.Stored.{Within}
+use Rattle.nv_journal.specs.Undo.{journal}
+
+-- the first of the records stand in the places from a number on, where 0 comes after 251
+abbrev pub Recorded : Region → ℕ → ℕ → List (ℕ × ℕ) → ℕ → Type 0
+Recorded R base from records count = (j : ℕ) → j < count
+    → (word R (base + 64 + 16 * ((from + j) % 252)) ≡ (get_or records j (0, 0)).0) × (word R (base + 64 + 16 * ((from + j) % 252) + 8) ≡ (get_or records j (0, 0)).1)
+
+-- these values at these two addresses
+abbrev pub Two : ℕ → ℕ → ℕ → ℕ → Choices
+Two first first_value second second_value i x = ((i ≡ first / 8) × (x ≡ first_value)) ⊎ ((i ≡ second / 8) × (x ≡ second_value))
+
+-- any word of this CPU's journal, or one of these values at its address
+abbrev pub Changes : ℕ → ℕ → ℕ → ℕ → ℕ → Choices
+Changes cpu first first_value second second_value i x = Within (journal cpu) 4096 i x ⊎ Two first first_value second second_value i x

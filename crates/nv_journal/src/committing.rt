@@ -1,0 +1,167 @@
+//! Calls that change more than one word: the journal of a CPU holds the old values until all of them are stored.
+//!
+//! The records are fenced before the enqueue number makes them pending, and that number before the words change. The
+//! words are fenced before the journal is emptied. So a stop at any moment leaves all records of a call or none, and
+//! undo gives the words from before, or all of them changed.
+
+ghost use Rattle.std.specs.Prelude.{◌≡◌, ◌⊎◌, ◌≤◌, ◌<◌, ◌+◌, ◌*◌, ◌%◌, ◌^◌, ℕ, Bool, IsTrue, OnOk, OnErr, is_err, length};
+ghost use Rattle.nv_region.specs.Region.{put, size};
+ghost use Rattle.nv_region.specs.Stops.{NothingPending, LeavesOnly, One, StaysBurnt, StaysSteady, StaysOpen};
+ghost use Rattle.nv_region.specs.Stored.{SameOutside, StoresOnly, Within};
+ghost use Rattle.nv_journal.specs.Undo.{journal, enqueue};
+ghost use Rattle.nv_journal.specs.Pending.{BeforeOrAfter, Begun, CanUndo, HasRecords, IsEmpty};
+ghost use Rattle.nv_journal.specs.Recorded.{Recorded, Changes, Two};
+
+use crate::journal::{FIRST_RECORD, PLACES, RECORD_SIZE};
+use nv_region::{Pmem, Stopped, commit_word, store_word};
+use nv_super::BLOCK_SIZE;
+
+/// Makes records pending in the empty journal of a CPU: of each word that is about to change its byte address, which is
+/// a permitted one, and the value that it has now. A journal has room for 251.
+///
+/// A stop at any moment of the call leaves all of them pending or none. It costs two fences and takes no memory.
+/// Answers `Stopped` exactly where the fuse has burnt by the end of the call.
+pub fn begin<P: Pmem>(memory: &mut P, cpu: u64, records: &[(u64, u64)]) -> Result<(), Stopped>
+    requires inside { journal cpu + 4096 ≤ size (P.region memory.old) }
+    requires empty { IsEmpty (P.region memory.old) cpu }
+    requires few { length records.now ≤ 251 }
+    ensures pending { OnOk result (HasRecords (P.region memory.new) cpu records.now) }
+    // The region as it reads, also after a stop.
+    ensures reads { Begun (P.region memory.old) cpu records.now (P.region memory.new) }
+    ensures wrote { StoresOnly (Within (journal cpu) 4096) (P.region memory.old) (P.region memory.new) (P.may_hold memory.old) (P.may_hold memory.new) }
+    ensures stopped { is_err result ≡ P.has_burnt memory.new }
+    ensures burnt { StaysBurnt (P.has_burnt memory.old) (P.has_burnt memory.new) }
+    ensures steady { StaysSteady (P.is_steady memory.old) (P.is_steady memory.new) }
+    ensures open { (limit : ℕ) → journal cpu + 4096 ≤ limit → StaysOpen limit (P.is_open memory.old) (P.is_open memory.new) }
+    ensures settled { OnOk result (NothingPending (P.region memory.new) (P.may_hold memory.new)) }
+    ensures any_stop { NothingPending (P.region memory.old) (P.may_hold memory.old) → LeavesOnly (P.region memory.new) (P.may_hold memory.new) (Begun (P.region memory.old) cpu records.now) }
+{
+    // The region's length is a u64, and so is each address up to it.
+    let _end = memory.len();
+    let base = BLOCK_SIZE * (1 + cpu);
+    let from = memory.load(base + 8);
+    let to = (from + records.len() as u64) % PLACES;
+    write_records(memory, base, from, records)?;
+    memory.fence()?;
+    commit_word(memory, base + 8, to)
+}
+
+/// Writes records to the places from a number on, where 0 comes after 251.
+fn write_records<P: Pmem>(
+    memory: &mut P,
+    base: u64,
+    from: u64,
+    records: &[(u64, u64)],
+) -> Result<(), Stopped>
+    requires aligned { base % 4096 ≡ 0 }
+    requires inside { base + 4096 ≤ size (P.region memory.old) }
+    requires small { size (P.region memory.old) < 2 ^ 64 }
+    requires from { from < 252 }
+    requires few { length records.now ≤ 251 }
+    ensures recorded { OnOk result (Recorded (P.region memory.new) base from records.now (length records.now)) }
+    ensures wrote { StoresOnly (Within (base + 64) 4032) (P.region memory.old) (P.region memory.new) (P.may_hold memory.old) (P.may_hold memory.new) }
+    ensures len { size (P.region memory.new) ≡ size (P.region memory.old) }
+    ensures stopped { OnErr result (IsTrue (P.has_burnt memory.new)) }
+    ensures burnt { StaysBurnt (P.has_burnt memory.old) (P.has_burnt memory.new) }
+    ensures steady { StaysSteady (P.is_steady memory.old) (P.is_steady memory.new) }
+    ensures open { (limit : ℕ) → base + 4096 ≤ limit → StaysOpen limit (P.is_open memory.old) (P.is_open memory.new) }
+{
+    for k in 0..records.len() {
+        let record = records[k];
+        let place = base + FIRST_RECORD + RECORD_SIZE * ((from + k as u64) % PLACES);
+        store_word(memory, place, record.0)?;
+        store_word(memory, place + 8, record.1)?;
+    }
+    Ok(())
+}
+
+/// Empties the journal of a CPU, so that no record is pending in it: the change that it records is done.
+///
+/// The words that the records name are fenced before. It costs one fence and takes no memory. Answers `Stopped` exactly
+/// where the fuse has burnt by the end of the call.
+pub fn commit<P: Pmem>(memory: &mut P, cpu: u64) -> Result<(), Stopped>
+    requires { journal cpu + 4096 ≤ size (P.region memory.old) }
+    ensures done { OnOk result (P.region memory.new ≡ put (P.region memory.old) (journal cpu) (enqueue (P.region memory.old) cpu)) }
+    ensures empty { OnOk result (enqueue (P.region memory.old) cpu < 252 → IsEmpty (P.region memory.new) cpu) }
+    ensures reads { (P.region memory.new ≡ P.region memory.old) ⊎ (P.region memory.new ≡ put (P.region memory.old) (journal cpu) (enqueue (P.region memory.old) cpu)) }
+    ensures wrote { StoresOnly (One (journal cpu) (enqueue (P.region memory.old) cpu)) (P.region memory.old) (P.region memory.new) (P.may_hold memory.old) (P.may_hold memory.new) }
+    ensures stopped { is_err result ≡ P.has_burnt memory.new }
+    ensures burnt { StaysBurnt (P.has_burnt memory.old) (P.has_burnt memory.new) }
+    ensures steady { StaysSteady (P.is_steady memory.old) (P.is_steady memory.new) }
+    ensures open { (limit : ℕ) → journal cpu + 8 ≤ limit → StaysOpen limit (P.is_open memory.old) (P.is_open memory.new) }
+    ensures settled { OnOk result (NothingPending (P.region memory.new) (P.may_hold memory.new)) }
+    ensures any_stop { NothingPending (P.region memory.old) (P.may_hold memory.old) → LeavesOnly (P.region memory.new) (P.may_hold memory.new)
+        (λ left. (left ≡ P.region memory.old) ⊎ (left ≡ put (P.region memory.old) (journal cpu) (enqueue (P.region memory.old) cpu))) }
+{
+    // The region's length is a u64, and so is each address up to it.
+    let _end = memory.len();
+    let base = BLOCK_SIZE * (1 + cpu);
+    let enqueue = memory.load(base + 8);
+    commit_word(memory, base, enqueue)
+}
+
+/// Changes the words at two permitted byte addresses together, by the empty journal of a CPU: where nothing was
+/// pending, a stop at any moment of the call leaves a region whose undone region has both words as they were, or both
+/// changed.
+///
+/// It costs four fences and takes no memory. Answers `Stopped` exactly where the fuse has burnt by the end of the call.
+pub fn change_two<P: Pmem>(
+    memory: &mut P,
+    cpu: u64,
+    first: u64,
+    first_value: u64,
+    second: u64,
+    second_value: u64,
+) -> Result<(), Stopped>
+    requires inside { journal cpu + 4096 ≤ size (P.region memory.old) }
+    requires empty { IsEmpty (P.region memory.old) cpu }
+    requires first { (first % 8 ≡ 0) × (first + 8 ≤ size (P.region memory.old)) }
+    requires second { (second % 8 ≡ 0) × (second + 8 ≤ size (P.region memory.old)) }
+    requires behind { (journal cpu + 4096 ≤ first) × (journal cpu + 4096 ≤ second) }
+    // Both words are changed, and no other outside this journal's block.
+    ensures done { OnOk result (SameOutside (put (put (P.region memory.old) first first_value) second second_value) (journal cpu) 4096 (P.region memory.new)) }
+    ensures empty { OnOk result (IsEmpty (P.region memory.new) cpu) }
+    ensures wrote { StoresOnly (Changes cpu first first_value second second_value) (P.region memory.old) (P.region memory.new) (P.may_hold memory.old) (P.may_hold memory.new) }
+    ensures stopped { is_err result ≡ P.has_burnt memory.new }
+    ensures burnt { StaysBurnt (P.has_burnt memory.old) (P.has_burnt memory.new) }
+    ensures steady { StaysSteady (P.is_steady memory.old) (P.is_steady memory.new) }
+    ensures open { (limit : ℕ) → journal cpu + 4096 ≤ limit → first + 8 ≤ limit → second + 8 ≤ limit → StaysOpen limit (P.is_open memory.old) (P.is_open memory.new) }
+    ensures settled { OnOk result (NothingPending (P.region memory.new) (P.may_hold memory.new)) }
+    // The region as it reads and each that a stop leaves, of any number of CPUs: rolled back, both words are as they
+    // were, or both changed.
+    ensures reads { (permits : ℕ → Bool) (cpus : ℕ) → CanUndo permits cpus (P.region memory.old) cpu first second
+        → BeforeOrAfter permits cpus (P.region memory.old) first first_value second second_value (P.region memory.new) }
+    ensures any_stop { (permits : ℕ → Bool) (cpus : ℕ) → CanUndo permits cpus (P.region memory.old) cpu first second → NothingPending (P.region memory.old) (P.may_hold memory.old)
+        → LeavesOnly (P.region memory.new) (P.may_hold memory.new) (BeforeOrAfter permits cpus (P.region memory.old) first first_value second second_value) }
+{
+    // Fewer than eight bytes stand behind the last word, so each of these addresses is a word's.
+    let _end = memory.len();
+    let old_first = memory.load(first);
+    let old_second = memory.load(second);
+    begin(memory, cpu, &[(first, old_first), (second, old_second)])?;
+    store_both(memory, first, first_value, second, second_value)?;
+    commit(memory, cpu)
+}
+
+/// Stores two words and fences them.
+fn store_both<P: Pmem>(
+    memory: &mut P,
+    first: u64,
+    first_value: u64,
+    second: u64,
+    second_value: u64,
+) -> Result<(), Stopped>
+    requires first { (first % 8 ≡ 0) × (first + 8 ≤ size (P.region memory.old)) }
+    requires second { (second % 8 ≡ 0) × (second + 8 ≤ size (P.region memory.old)) }
+    ensures done { OnOk result (P.region memory.new ≡ put (put (P.region memory.old) first first_value) second second_value) }
+    ensures stopped { OnErr result (IsTrue (P.has_burnt memory.new)) }
+    ensures burnt { StaysBurnt (P.has_burnt memory.old) (P.has_burnt memory.new) }
+    ensures steady { StaysSteady (P.is_steady memory.old) (P.is_steady memory.new) }
+    ensures open { (limit : ℕ) → first + 8 ≤ limit → second + 8 ≤ limit → StaysOpen limit (P.is_open memory.old) (P.is_open memory.new) }
+    ensures settled { OnOk result (NothingPending (P.region memory.new) (P.may_hold memory.new)) }
+    ensures wrote { StoresOnly (Two first first_value second second_value) (P.region memory.old) (P.region memory.new) (P.may_hold memory.old) (P.may_hold memory.new) }
+{
+    memory.store(first, first_value)?;
+    memory.store(second, second_value)?;
+    memory.fence()
+}
