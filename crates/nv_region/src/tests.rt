@@ -5,7 +5,7 @@ mod image;
 ghost use Rattle.std.specs.Prelude.{◌≡◌, IfOk, length};
 ghost use Rattle.nv_region.specs.Region.{HasBlocks};
 
-use crate::{Fuse, MemRegion, Pmem, RegionRefusal, Stopped, commit_word, store_word};
+use crate::{Fuse, Keep, MemRegion, Pmem, RegionRefusal, Stopped, commit_word, store_word};
 use std::alloc::{AllocError, Global};
 use std::process::Abort;
 use std::test::Fail;
@@ -116,5 +116,37 @@ fn a_fuse_waits_for_its_address(rt: HostRuntime) -> Result<(), Fail> {
     let mut region = MemRegion::new(rt.alloc(), 8)?;
     region.set_fuse(Fuse::At(16));
     assert_stopped_at_16(&rt, &mut region);
+    Ok(())
+}
+
+// Two words are fenced. Then the last word, those at 0, 16 and 32, and that at 8 are stored, the latter as it was.
+fn store_unfenced(region: &mut MemRegion) -> Result<(), Stopped>
+    requires { HasBlocks region.old.region 8 }
+    ensures { HasBlocks region.new.region 8 }
+{
+    store_word(region, 0, 1)?;
+    commit_word(region, 8, 2)?;
+    store_word(region, 32_760, 44)?;
+    store_word(region, 0, 11)?;
+    store_word(region, 32, 55)?;
+    store_word(region, 16, 33)?;
+    store_word(region, 8, 2)
+}
+
+// The words at 0, 8, 16, 32 and the last one that a stop leaves.
+fn left_by(alloc: Global, keep: Keep) -> Result<[u64; 5], Fail> {
+    let mut region = MemRegion::new(alloc, 8)?;
+    store_unfenced(&mut region)?;
+    region.set_fuse(Fuse::After(0));
+    let left = region.after_stop(keep);
+    let [a, b, c] = [left.load(0), left.load(8), left.load(16)];
+    Ok([a, b, c, left.load(32), left.load(32_760)])
+}
+
+#[test]
+fn a_stop_keeps_none_all_or_every_second_word(rt: HostRuntime) -> Result<(), Fail> {
+    assert!(rt; left_by(rt.alloc(), Keep::None)? == [1, 2, 0, 0, 0]);
+    assert!(rt; left_by(rt.alloc(), Keep::All)? == [11, 2, 33, 55, 44]);
+    assert!(rt; left_by(rt.alloc(), Keep::Alternate)? == [11, 2, 0, 55, 0]);
     Ok(())
 }
