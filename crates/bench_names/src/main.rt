@@ -51,30 +51,59 @@ fn remove_all(index: &mut NameIndex, names: &[Name]) {
     }
 }
 
+fn print_time<R: Eprint + Clock>(rt: &R, what: &str, start: Instant) -> io::Result<()> {
+    eprintln!(rt; "{what:6} {:.3}", start.elapsed(rt)?.as_secs_f64())
+}
+
+fn measure_adds<R: Eprint + Clock>(
+    rt: &R,
+    index: &mut NameIndex,
+    names: &[Name],
+) -> io::Result<()> {
+    let start = Instant::now(rt)?;
+    add_all(index, names)?;
+    print_time(rt, "add", start)
+}
+
+fn measure_lookups<R: Eprint + Clock>(
+    rt: &R,
+    index: &NameIndex,
+    names: &[Name],
+) -> io::Result<usize> {
+    let start = Instant::now(rt)?;
+    let found = count_found(index, names);
+    print_time(rt, "get", start)?;
+    Ok(found)
+}
+
+fn measure_listing<R: Eprint + Clock>(rt: &R, index: &NameIndex) -> io::Result<usize> {
+    let start = Instant::now(rt)?;
+    let listed = index.list()?.len();
+    print_time(rt, "list", start)?;
+    Ok(listed)
+}
+
+fn measure_removals<R: Eprint + Clock>(
+    rt: &R,
+    index: &mut NameIndex,
+    names: &[Name],
+) -> io::Result<()> {
+    let start = Instant::now(rt)?;
+    remove_all(index, names);
+    print_time(rt, "remove", start)
+}
+
 fn measure<R: AllocGlobal + Print + Eprint + Clock>(rt: &R, count: u32) -> io::Result<()> {
     let mut rng = Pcg32::new(1, 1);
     let mut names = names(rt.alloc(), count)?;
     let mut index = NameIndex::new(rt.alloc());
-
     names.as_mut_slice().shuffle(&mut rng);
-    let start = Instant::now(rt)?;
-    add_all(&mut index, names.as_slice())?;
-    eprintln!(rt; "add    {:.3}", start.elapsed(rt)?.as_secs_f64())?;
-
+    measure_adds(rt, &mut index, names.as_slice())?;
     names.as_mut_slice().shuffle(&mut rng);
-    let start = Instant::now(rt)?;
-    let found = count_found(&index, names.as_slice());
-    eprintln!(rt; "get    {:.3}", start.elapsed(rt)?.as_secs_f64())?;
-
-    let start = Instant::now(rt)?;
-    let listed = index.list()?.len();
-    eprintln!(rt; "list   {:.3}", start.elapsed(rt)?.as_secs_f64())?;
-
+    let found = measure_lookups(rt, &index, names.as_slice())?;
+    let listed = measure_listing(rt, &index)?;
     names.as_mut_slice().shuffle(&mut rng);
-    let start = Instant::now(rt)?;
-    remove_all(&mut index, names.as_slice());
-    eprintln!(rt; "remove {:.3}", start.elapsed(rt)?.as_secs_f64())?;
-
+    measure_removals(rt, &mut index, names.as_slice())?;
     println!(rt;
         "{count} names: {found} found, {listed} listed, {} left",
         index.len()
