@@ -3,7 +3,5 @@
 
 mod clearing;
 mod formatting;
-#[cfg(test)]
-mod tests;
 
 pub use formatting::{FormatRefusal, format, format_is_determined};

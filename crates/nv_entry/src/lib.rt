@@ -20,6 +20,3 @@ pub use laws::{
 pub use name::FileName;
 pub use reading::{Framing, read_entry};
 pub use writing::{length, write_entry};
-
-#[cfg(test)]
-mod tests;

@@ -3,8 +3,6 @@
 
 mod permitted;
 mod slot;
-#[cfg(test)]
-mod tests;
 mod words;
 
 pub use permitted::is_journal_word;

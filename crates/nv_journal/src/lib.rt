@@ -11,8 +11,6 @@ mod faults;
 mod journal;
 mod laws;
 mod rollback;
-#[cfg(test)]
-mod tests;
 mod undoing;
 
 pub use committing::{begin, change_two, commit};

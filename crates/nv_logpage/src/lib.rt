@@ -24,6 +24,3 @@ pub use laws::{
 };
 pub use reader::LogReader;
 pub use walking::walk;
-
-#[cfg(test)]
-mod tests;

@@ -14,6 +14,3 @@ pub use image::ImageRegion;
 pub use memory::{Fuse, Keep, MemRegion, RegionRefusal};
 pub use pmem::{Pmem, Stopped};
 pub use words::{commit_word, store_word};
-
-#[cfg(test)]
-mod tests;

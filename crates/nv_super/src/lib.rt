@@ -18,6 +18,3 @@ pub use sorting::{sort_claims, sort_faults};
 pub use superblock::{
     BLOCK_SIZE, LEAST_BLOCKS, MAGIC, MOST_BLOCKS, Super, SuperFault, read_super, write_super,
 };
-
-#[cfg(test)]
-mod tests;

@@ -1,5 +1,0 @@
-use Rattle.nv_region.specs.Region.{HasBlocks}
-use Rattle.nv_logpage.proofs.tests.appending.used_region.Given as goal
-
-abbrev pub invariant-loop-k : goal.invariant-loop-k
-invariant-loop-k l = HasBlocks l.memory.region 16

@@ -1,0 +1,422 @@
+//! The spellings byte by byte, the ways to depart from them, and the bounds of what an entry can say.
+
+ghost use Rattle.std.specs.Prelude.{◌≤◌};
+ghost use Rattle.nv_entry.specs.Spelling.{entry_length};
+
+use crate::small::SMALL;
+use nv_entry::{
+    AttrEntry, ContentFault, Entry, FileName, Framing, LinksEntry, NameEntry, Operation,
+    WriteEntry, an_entry_or_none_at_a_place, check_content, is_out_of_range, is_wrong_kind, length,
+    no_spelling_begins_another, one_entry_at_a_place, one_spelling, read_entry, write_entry,
+};
+use nv_region::MemRegion;
+use nv_super::Kind;
+use std::alloc::Global;
+use std::process::Abort;
+use std::test::Fail;
+
+fn write(count: u32, offset: u64, block: u64, size: u64) -> Entry {
+    Entry::Write(WriteEntry {
+        count,
+        offset,
+        block,
+        size,
+        time: 5,
+    })
+}
+
+fn attr(mode: u32, size: u64) -> Entry {
+    Entry::Attr(AttrEntry {
+        mode,
+        size,
+        time: 9,
+        owner: 1000,
+        group: 100,
+    })
+}
+
+fn name(operation: Operation, bytes: &[u8], inode: u64) -> Option<Entry> {
+    let name = FileName::new(bytes)?;
+    Some(Entry::Name(NameEntry {
+        operation,
+        inode,
+        time: 0,
+        name,
+    }))
+}
+
+fn links(count: u32) -> Entry {
+    Entry::Links(LinksEntry { count, time: 7 })
+}
+
+/// The entry is as long as its spelling, is written as it, and is read from it.
+fn is_spelled(alloc: Global, rt: &impl Abort, entry: &Entry, spelling: &[u8]) -> Result<(), Fail> {
+    assert_eq!(rt;
+        length(entry),
+        spelling.len() as u64,
+        "the length of {entry:?}"
+    );
+    stands_alone(rt, &written(alloc, entry)?, spelling);
+    is_read(alloc, rt, entry, spelling)
+}
+
+/// The entry at 64, amid 512 bytes that were all 255.
+fn written(alloc: Global, entry: &Entry) -> Result<Vec<u8>, Fail>
+    requires { entry_length entry.now ≤ 280 }
+{
+    let mut memory = MemRegion::from_bytes(alloc, &vec![in alloc; 255; 512]?)?;
+    write_entry(&mut memory, 64, entry)?;
+    Ok(memory.to_bytes()?)
+}
+
+/// The bytes from 64 on are the spelling, and all others of the 512 are still 255.
+fn stands_alone(rt: &impl Abort, bytes: &[u8], spelling: &[u8]) {
+    assert_eq!(rt; bytes.len(), 512);
+    for (i, byte) in bytes.iter().enumerate() {
+        let want = if i < 64 {
+            255
+        } else {
+            spelling.get(i - 64).copied().unwrap_or(255)
+        };
+        assert_eq!(rt; *byte, want, "byte {i} of {spelling:?}");
+    }
+}
+
+fn is_read(alloc: Global, rt: &impl Abort, entry: &Entry, spelling: &[u8]) -> Result<(), Fail> {
+    let alone = MemRegion::from_bytes(alloc, spelling)?;
+    let read = read_entry(&alone, 0, spelling.len() as u64)?;
+    assert!(rt; read == *entry, "{read:?} is read for {entry:?}");
+    Ok(())
+}
+
+/// These bytes with zeros behind, which depart from every spelling, are refused.
+fn departs(
+    alloc: Global,
+    rt: &impl Abort,
+    front: &[u8],
+    length: usize,
+    how: &str,
+) -> Result<(), Fail> {
+    let mut bytes = front.to_vec(alloc)?;
+    bytes.resize(length, 0)?;
+    let memory = MemRegion::from_bytes(alloc, &bytes)?;
+    assert!(rt;
+        read_entry(&memory, 0, bytes.len() as u64) == Err(Framing),
+        "{how}"
+    );
+    Ok(())
+}
+
+/// Entries with no name, and their bytes.
+const SPELLINGS: [(Entry, &[u8]); 4] = [
+    (Entry::NextPage, b"\x00\x00\x08\x00\x00\x00\x00\x00"),
+    (
+        Entry::Write(WriteEntry {
+            count: 2,
+            offset: 3,
+            block: 4,
+            size: 20480,
+            time: 5,
+        }),
+        b"\x01\x00\x28\x00\x02\x00\x00\x00\x03\0\0\0\0\0\0\0\x04\0\0\0\0\0\0\0\0\x50\0\0\0\0\0\0\x05\0\0\0\0\0\0\0",
+    ),
+    (
+        Entry::Attr(AttrEntry {
+            mode: 0o644,
+            size: 258,
+            time: 9,
+            owner: 1000,
+            group: 100,
+        }),
+        b"\x02\x00\x20\x00\xa4\x01\x00\x00\x02\x01\0\0\0\0\0\0\x09\0\0\0\0\0\0\0\xe8\x03\0\0\x64\0\0\0",
+    ),
+    (
+        Entry::Links(LinksEntry { count: 3, time: 7 }),
+        b"\x04\x00\x18\x00\x03\x00\x00\x00\x07\0\0\0\0\0\0\0\0\0\0\0\0\0\0\0",
+    ),
+];
+
+#[test]
+fn entries_have_their_worked_spellings(rt: HostRuntime) -> Result<(), Fail> {
+    for (entry, spelling) in SPELLINGS.iter() {
+        is_spelled(rt.alloc(), &rt, entry, spelling)?;
+    }
+    Ok(())
+}
+
+/// Operations on names, with their inodes and the entries' bytes.
+const NAME_SPELLINGS: [(Operation, &[u8], u64, &[u8]); 4] = [
+    (
+        Operation::Add,
+        b"a",
+        2,
+        b"\x03\x01\x20\x00\x01\x00\x00\x00\x02\0\0\0\0\0\0\0\0\0\0\0\0\0\0\0a\0\0\0\0\0\0\0",
+    ),
+    (
+        Operation::Remove,
+        b"a",
+        2,
+        b"\x03\x02\x20\x00\x01\x00\x00\x00\x02\0\0\0\0\0\0\0\0\0\0\0\0\0\0\0a\0\0\0\0\0\0\0",
+    ),
+    (
+        Operation::Add,
+        b"eight by",
+        1,
+        b"\x03\x01\x20\x00\x08\x00\x00\x00\x01\0\0\0\0\0\0\0\0\0\0\0\0\0\0\0eight by",
+    ),
+    (
+        Operation::Add,
+        b"nine byte",
+        1,
+        b"\x03\x01\x28\x00\x09\x00\x00\x00\x01\0\0\0\0\0\0\0\0\0\0\0\0\0\0\0nine byte\0\0\0\0\0\0\0",
+    ),
+];
+
+#[test]
+fn names_fill_whole_words(rt: HostRuntime) -> Result<(), Fail> {
+    for (operation, bytes, inode, spelling) in NAME_SPELLINGS {
+        let entry = name(operation, bytes, inode).ok_or("a name")?;
+        is_spelled(rt.alloc(), &rt, &entry, spelling)?;
+    }
+    Ok(())
+}
+
+#[test]
+fn the_largest_name_has_255_bytes(rt: HostRuntime) -> Result<(), Fail> {
+    let mut largest = [b'n'; 280];
+    let front = b"\x03\x01\x18\x01\xff\x00\x00\x00\x01\0\0\0\0\0\0\0\0\0\0\0\0\0\0\0";
+    largest[..24].copy_from_slice(front);
+    largest[279] = 0;
+    let entry = name(Operation::Add, &[b'n'; 255], 1).ok_or("255 bytes")?;
+    is_spelled(rt.alloc(), &rt, &entry, &largest)?;
+    assert!(rt; FileName::new(b"").is_none());
+    assert!(rt; FileName::new(&[b'n'; 256]).is_none());
+    Ok(())
+}
+
+/// Bytes that depart from every spelling: the first of them, how many there are with the zeros behind, and how.
+const DEPARTURES: [(&[u8], usize, &str); 14] = [
+    (b"", 0, "no room for a word"),
+    (b"\x05\0\x08", 8, "a type past the last"),
+    (b"\0\x01\x08", 8, "a next-page entry's operation"),
+    (b"\0\0\x10", 16, "a next-page entry's length"),
+    (b"\0\0\x08\0\x01", 8, "a next-page entry's number"),
+    (b"", 8, "a word of zeros"),
+    (b"\x01\x01\x28\0\x01", 40, "a write entry's operation"),
+    (b"\x01\0\x20\0\x01", 40, "a write entry's length"),
+    (b"\x01\0\x28\0\x01", 32, "a write entry past the room"),
+    (b"\x02\x02\x20", 32, "an attributes entry's operation"),
+    (b"\x02\0\x18", 32, "an attributes entry's length"),
+    (b"\x04\x01\x18\0\x01", 24, "a links entry's operation"),
+    (b"\x04\0\x10\0\x01", 24, "a links entry's length"),
+    (
+        b"\x04\0\x18\0\x01\0\0\0\0\0\0\0\0\0\0\0\x01",
+        24,
+        "a links entry's zero word",
+    ),
+];
+
+#[test]
+fn departures_are_wrong_framing(rt: HostRuntime) -> Result<(), Fail> {
+    for (front, length, how) in DEPARTURES {
+        departs(rt.alloc(), &rt, front, length, how)?;
+    }
+    Ok(())
+}
+
+/// The same of names.
+const NAME_DEPARTURES: [(&[u8], usize, &str); 8] = [
+    (
+        b"\x03\0\x20\0\x01\0\0\0\0\0\0\0\0\0\0\0\0\0\0\0\0\0\0\0a",
+        288,
+        "operation 0",
+    ),
+    (
+        b"\x03\x03\x20\0\x01\0\0\0\0\0\0\0\0\0\0\0\0\0\0\0\0\0\0\0a",
+        288,
+        "operation 3",
+    ),
+    (
+        b"\x03\x01\x28\0\x01\0\0\0\0\0\0\0\0\0\0\0\0\0\0\0\0\0\0\0a",
+        288,
+        "a word more than the name fills",
+    ),
+    (
+        b"\x03\x01\x20\0\x09\0\0\0\0\0\0\0\0\0\0\0\0\0\0\0\0\0\0\0a",
+        288,
+        "a word less than the name fills",
+    ),
+    (
+        b"\x03\x01\x18\0\0\0\0\0\0\0\0\0\0\0\0\0\0\0\0\0\0\0\0\0a",
+        288,
+        "no byte",
+    ),
+    (
+        b"\x03\x01\x18\x01\0\x01\0\0\0\0\0\0\0\0\0\0\0\0\0\0\0\0\0\0a",
+        288,
+        "256 bytes",
+    ),
+    (b"\x03\x01\x20\0\x01", 24, "a name past the room"),
+    (
+        b"\x03\x01\x20\0\x01\0\0\0\0\0\0\0\0\0\0\0\0\0\0\0\0\0\0\0a\0\0\0\0\0\0\x01",
+        32,
+        "a bit behind the name",
+    ),
+];
+
+#[test]
+fn departures_of_names_are_wrong_framing(rt: HostRuntime) -> Result<(), Fail> {
+    for (front, length, how) in NAME_DEPARTURES {
+        departs(rt.alloc(), &rt, front, length, how)?;
+    }
+    Ok(())
+}
+
+#[test]
+fn writes_stay_in_range(rt: HostRuntime) {
+    let rows = [
+        (1, 0, 3, 4096, false, "one page of the first data block"),
+        (0, 0, 3, 4096, true, "no page"),
+        (13, 0, 3, 65536, false, "all data blocks"),
+        (14, 0, 3, 65536, true, "a block behind the last"),
+        (1, 0, 2, 4096, true, "a block before the first"),
+        (1, 0, 15, 1, false, "the last block"),
+        (1, 0, 16, 1, true, "the block behind the last"),
+        (1, 0, u64::MAX, 4096, true, "blocks whose sum would wrap"),
+        (
+            u32::MAX,
+            0,
+            3,
+            4096,
+            true,
+            "the most pages that a word can say",
+        ),
+        (
+            1,
+            262143,
+            3,
+            1073741824,
+            false,
+            "the last page that a file can have",
+        ),
+        (2, 262143, 3, 1073741824, true, "a page behind it"),
+        (1, u64::MAX, 3, 4096, true, "pages whose sum would wrap"),
+        (1, 0, 3, 1073741824, false, "the greatest size"),
+        (1, 0, 3, 1073741825, true, "a greater size"),
+        (2, 0, 3, 4097, false, "a last page of one byte"),
+        (2, 0, 3, 4096, true, "a last page that begins at the size"),
+        (1, 0, 3, 0, true, "a page of an empty file"),
+    ];
+    for (count, offset, block, size, want, what) in rows {
+        let entry = write(count, offset, block, size);
+        assert_eq!(rt; is_out_of_range(&SMALL, Kind::File, &entry), want, "{what}");
+    }
+}
+
+/// Modes and sizes, where they are set, and whether they are out of range there.
+const ATTRIBUTES: [(u32, u64, Kind, bool); 10] = [
+    (4095, 1073741824, Kind::File, false),
+    (4095, 1073741824, Kind::Directory, true),
+    (4096, 0, Kind::File, true),
+    (4096, 0, Kind::Directory, true),
+    (0, 1073741825, Kind::File, true),
+    (0, 1073741825, Kind::Directory, true),
+    (0o755, 0, Kind::File, false),
+    (0o755, 0, Kind::Directory, false),
+    (0, 1, Kind::File, false),
+    (0, 1, Kind::Directory, true),
+];
+
+#[test]
+fn attributes_stay_in_range(rt: HostRuntime) {
+    for (mode, size, kind, want) in ATTRIBUTES {
+        assert!(rt;
+            is_out_of_range(&SMALL, kind, &attr(mode, size)) == want,
+            "mode {mode} and size {size} in {kind:?}"
+        );
+    }
+}
+
+#[test]
+fn links_stay_in_range(rt: HostRuntime) {
+    for (count, want) in [(0, true), (1, false), (1000, false), (1001, true)] {
+        let entry = Entry::Links(LinksEntry { count, time: 7 });
+        assert!(rt;
+            is_out_of_range(&SMALL, Kind::File, &entry) == want,
+            "{count} links"
+        );
+    }
+}
+
+/// Whether adding this name is out of range.
+fn is_refused(bytes: &[u8], inode: u64) -> Option<bool> {
+    let entry = name(Operation::Add, bytes, inode)?;
+    Some(is_out_of_range(&SMALL, Kind::Directory, &entry))
+}
+
+/// Names, the inodes that they name, and whether adding them is out of range.
+const NAMES: [(&[u8], u64, bool); 11] = [
+    (b"a", 1, false),
+    (b"a", 31, false),
+    (b"a", 0, true),
+    (b"a", 32, true),
+    (b".", 1, true),
+    (b"..", 1, true),
+    (b"...", 1, false),
+    (b".a", 1, false),
+    (b"a/b", 1, true),
+    (b"a\0", 1, true),
+    (b"\xff", 1, false),
+];
+
+#[test]
+fn names_stay_in_range(rt: HostRuntime) {
+    for (bytes, inode, want) in NAMES {
+        assert_eq!(rt;
+            is_refused(bytes, inode),
+            Some(want),
+            "{bytes:?} names {inode}"
+        );
+    }
+}
+
+/// What is told of the entry in a file's log, and in a directory's.
+fn is_told(
+    rt: &impl Abort,
+    entry: &Entry,
+    in_file: Option<ContentFault>,
+    in_directory: Option<ContentFault>,
+) {
+    assert!(rt;
+        check_content(&SMALL, Kind::File, entry) == in_file,
+        "{entry:?} in a file"
+    );
+    assert!(rt;
+        check_content(&SMALL, Kind::Directory, entry) == in_directory,
+        "{entry:?} in a directory"
+    );
+}
+
+#[test]
+fn the_wrong_kind_is_found_first(rt: HostRuntime) -> Result<(), Fail> {
+    let (kind, range) = (
+        Some(ContentFault::WrongKind),
+        Some(ContentFault::OutOfRange),
+    );
+    is_told(&rt, &Entry::NextPage, None, None);
+    is_told(&rt, &write(0, 0, 0, 0), range, kind);
+    is_told(&rt, &attr(0, 0), None, None);
+    is_told(&rt, &links(0), range, kind);
+    let bad_name = name(Operation::Add, b".", 1).ok_or("a name")?;
+    is_told(&rt, &bad_name, kind, range);
+    assert!(rt; is_wrong_kind(&bad_name, Kind::File));
+    Ok(())
+}
+
+#[test]
+fn the_laws_can_be_called() {
+    no_spelling_begins_another();
+    one_spelling();
+    one_entry_at_a_place();
+    an_entry_or_none_at_a_place();
+}

@@ -1,0 +1,117 @@
+//! Which words an undo and a change of two words store, and in which order.
+
+ghost use Rattle.std.specs.Prelude.{◌≡◌};
+ghost use Rattle.std.proofs.Common.{inl, refl};
+ghost use Rattle.nv_region.specs.RegionState.{fenced_or_last, is_steady, steady_unburnt};
+
+use super::{Failure, TWO};
+use crate::small::small_region;
+use nv_journal::{change_two, undo};
+use nv_region::{MemRegion, Pmem, Stopped};
+
+/// A memory that counts its stores and fences, and notes the addresses of the first eight stores.
+#[derive(Drop)]
+struct NotedRegion {
+    memory: MemRegion,
+    addresses: [u64; 8],
+    stores: usize,
+    fences: usize,
+}
+
+impl NotedRegion {
+    fn note(&mut self, at: u64)
+        ensures { self.new.memory ≡ self.old.memory }
+    {
+        if self.stores < 8 {
+            self.addresses[self.stores] = at;
+        }
+        self.stores = self.stores.saturating_add(1);
+    }
+}
+
+impl Pmem for NotedRegion {
+    ghost region = { λ m. m.memory.region };
+
+    ghost may_hold = { λ m. fenced_or_last m.memory };
+
+    ghost has_burnt = { λ m. m.memory.burnt };
+
+    ghost is_steady = { λ m. is_steady m.memory };
+
+    ghost is_open = { λ m limit. is_steady m.memory };
+
+    ghost unburnt = { λ m. steady_unburnt m.memory };
+
+    ghost open_unburnt = { λ m limit. steady_unburnt m.memory };
+
+    ghost holds_now = { λ m i. inl refl };
+
+    fn len(&self) -> u64 {
+        self.memory.len()
+    }
+
+    fn load(&self, at: u64) -> u64 {
+        self.memory.load(at)
+    }
+
+    fn store(&mut self, at: u64, value: u64) -> Result<(), Stopped> {
+        self.note(at);
+        self.memory.store(at, value)
+    }
+
+    fn fence(&mut self) -> Result<(), Stopped> {
+        self.fences = self.fences.saturating_add(1);
+        self.memory.fence()
+    }
+}
+
+// The first journal is empty, and its last record is still there. Of the second, records 251 and 0 are pending: the
+// tail of slot 2, and its valid word.
+const ONE_PENDING: [(u64, u64); 10] = [
+    (4096, 8),
+    (4104, 8),
+    (4272, 12432),
+    (4280, 20480),
+    (8192, 251),
+    (8200, 1),
+    (12272, 12440),
+    (12280, 20488),
+    (8256, 12416),
+    (8264, 1),
+];
+
+#[test]
+fn an_empty_journal_causes_no_store_beside_a_pending_one(rt: HostRuntime) -> Result<(), Failure> {
+    let mut memory = NotedRegion {
+        memory: small_region(rt.alloc(), &ONE_PENDING)?,
+        addresses: [0; 8],
+        stores: 0,
+        fences: 0,
+    };
+    let faults = undo(rt.alloc(), &mut memory, &TWO)?;
+    assert!(rt; faults.len() == 0);
+    assert_eq!(rt; memory.stores, 3);
+    assert!(rt; memory.addresses == [12416, 12440, 8192, 0, 0, 0, 0, 0]);
+    assert_eq!(rt; memory.fences, 2);
+    assert_eq!(rt; memory.load(12440), 20488);
+    Ok(())
+}
+
+#[test]
+fn a_change_of_two_words_costs_eight_stores_and_four_fences(
+    rt: HostRuntime,
+) -> Result<(), Failure> {
+    let mut memory = NotedRegion {
+        memory: small_region(rt.alloc(), &[])?,
+        addresses: [0; 8],
+        stores: 0,
+        fences: 0,
+    };
+    if memory.load(4096) == 0 && memory.load(4104) == 0 {
+        change_two(&mut memory, 0, 8336, 16384, 8344, 16416)?;
+    }
+    assert_eq!(rt; memory.stores, 8);
+    assert!(rt; memory.addresses == [4160, 4168, 4176, 4184, 4104, 8336, 8344, 4096]);
+    assert_eq!(rt; memory.fences, 4);
+    Ok(())
+}

@@ -1,0 +1,367 @@
+//! Logs in a small region, written word by word: their pages, entries and ends.
+
+mod appending;
+
+ghost use Rattle.std.specs.Prelude.{◌≡◌};
+ghost use Rattle.nv_region.specs.Region.{HasBlocks};
+
+use crate::small::{SMALL, Word, small_region};
+use nv_entry::{AttrEntry, Entry};
+use nv_logpage::{
+    Finding, LogEnd, LogFault, LogReader, Placed, Walk, a_log_has_the_page_of_its_tail,
+    entries_stand_apart, log_pages_are_data_blocks, reads_its_pages_alone, reads_on_from_the_tail,
+    reads_once, right_logs_can_be_read, right_logs_have_a_reading, walk,
+    words_behind_the_tail_are_unread,
+};
+use nv_region::MemRegion;
+use std::alloc::Global;
+use std::process::Abort;
+use std::test::Fail;
+
+/// The start of block 3, where each log begins.
+const HEAD: u64 = 12288;
+
+/// The first word of an attributes entry of mode 493, whose other words are zeros. It takes 32 bytes.
+const ATTR: u64 = 493 * 4294967296 + 32 * 65536 + 2;
+
+/// The word of a next-page entry.
+const NEXT_PAGE: u64 = 524288;
+
+#[derive(Clone, Copy)]
+struct Case<'a> {
+    name: &'a str,
+    words: &'a [Word],
+    tail: u64,
+    pages: &'a [u64],
+    entries: &'a [u64],
+    fault: Option<LogEnd>,
+}
+
+fn attr_at(at: u64) -> Placed {
+    let entry = Entry::Attr(AttrEntry {
+        mode: 493,
+        size: 0,
+        time: 0,
+        owner: 0,
+        group: 0,
+    });
+    Placed { at, entry }
+}
+
+/// Reads a log one finding at a time.
+fn read_by_findings(alloc: Global, memory: &MemRegion, tail: u64) -> Result<Walk, Fail>
+    requires { HasBlocks memory.now.region 16 }
+{
+    let mut reader = LogReader::new(alloc, &SMALL, HEAD, tail)?;
+    let mut entries = Vec::new(alloc);
+    for _ in 0..1000 {
+        match reader.next(memory)? {
+            Finding::Entry(placed) => entries.push(placed)?,
+            Finding::Page(address) => {
+                if reader.place() != address || reader.pages().last() != Some(&(address / 4096)) {
+                    return Err("the page that was turned to is the last".into());
+                }
+            }
+            Finding::End(fault) => {
+                return Ok(Walk {
+                    pages: reader.into_pages(),
+                    entries,
+                    fault,
+                });
+            }
+        }
+    }
+    Err("the log ends".into())
+}
+
+/// What was read is what the case says.
+fn is_as_told(rt: &impl Abort, read: &Walk, case: &Case) {
+    let name = case.name;
+    assert!(rt; read.pages.as_slice() == case.pages, "the pages of {name}");
+    assert!(rt;
+        read.entries.len() == case.entries.len(),
+        "the entries of {name}"
+    );
+    for (placed, at) in read.entries.iter().zip(case.entries) {
+        assert!(rt; *placed == attr_at(*at), "the entry at {at} of {name}");
+    }
+    assert!(rt; read.fault == case.fault, "the end of {name}");
+}
+
+/// Reads the log of a case whole and one finding at a time, and compares both.
+fn is_read(alloc: Global, rt: &impl Abort, case: &Case) -> Result<(), Fail> {
+    let memory = small_region(alloc, case.words)?;
+    let read = walk(alloc, &memory, &SMALL, HEAD, case.tail)?;
+    is_as_told(rt, &read, case);
+    let again = read_by_findings(alloc, &memory, case.tail)?;
+    assert!(rt; again == read, "the findings of {}", case.name);
+    Ok(())
+}
+
+/// Logs with no fault.
+const RIGHT_LOGS: [Case<'static>; 5] = [
+    Case {
+        name: "a log of no entry",
+        words: &[],
+        tail: HEAD,
+        pages: &[3],
+        entries: &[],
+        fault: None,
+    },
+    Case {
+        name: "a new root's log",
+        words: &[(12288, ATTR)],
+        tail: 12320,
+        pages: &[3],
+        entries: &[12288],
+        fault: None,
+    },
+    Case {
+        name: "an entry past the tail",
+        words: &[(12288, ATTR), (12320, ATTR)],
+        tail: 12320,
+        pages: &[3],
+        entries: &[12288],
+        fault: None,
+    },
+    Case {
+        name: "a page linked past the tail",
+        words: &[(12288, ATTR), (12320, NEXT_PAGE), (16352, 16384)],
+        tail: 12320,
+        pages: &[3],
+        entries: &[12288],
+        fault: None,
+    },
+    Case {
+        name: "a log over two pages",
+        words: &[
+            (12288, ATTR),
+            (12320, NEXT_PAGE),
+            (16352, 20480),
+            (20480, ATTR),
+            (20512, ATTR),
+        ],
+        tail: 20544,
+        pages: &[3, 5],
+        entries: &[12288, 20480, 20512],
+        fault: None,
+    },
+];
+
+#[test]
+fn logs_end_at_their_tails(rt: HostRuntime) -> Result<(), Fail> {
+    for case in RIGHT_LOGS.iter() {
+        is_read(rt.alloc(), &rt, case)?;
+    }
+    Ok(())
+}
+
+/// Logs that a fault ends.
+const WRONG_LOGS: [Case<'static>; 7] = [
+    Case {
+        name: "a ring",
+        words: &[
+            (12288, ATTR),
+            (12320, NEXT_PAGE),
+            (16352, 16384),
+            (16384, NEXT_PAGE),
+            (20448, 12288),
+        ],
+        tail: 20488,
+        pages: &[3, 4],
+        entries: &[12288],
+        fault: Some(LogEnd {
+            fault: LogFault::L2,
+            at: 20448,
+        }),
+    },
+    Case {
+        name: "zeros before the tail",
+        words: &[(12288, ATTR)],
+        tail: 16352,
+        pages: &[3],
+        entries: &[12288],
+        fault: Some(LogEnd {
+            fault: LogFault::L3,
+            at: 12320,
+        }),
+    },
+    Case {
+        name: "a next-page entry in the tail's page",
+        words: &[(12288, ATTR), (12320, NEXT_PAGE), (16352, 16384)],
+        tail: 12328,
+        pages: &[3],
+        entries: &[12288],
+        fault: Some(LogEnd {
+            fault: LogFault::L4,
+            at: 12320,
+        }),
+    },
+    Case {
+        name: "an entry that ends past the tail",
+        words: &[(12288, ATTR), (12320, ATTR)],
+        tail: 12336,
+        pages: &[3],
+        entries: &[12288],
+        fault: Some(LogEnd {
+            fault: LogFault::L4,
+            at: 12320,
+        }),
+    },
+    Case {
+        name: "a link to a system block",
+        words: &[(12288, ATTR), (12320, NEXT_PAGE), (16352, 8192)],
+        tail: 20488,
+        pages: &[3],
+        entries: &[12288],
+        fault: Some(LogEnd {
+            fault: LogFault::L1,
+            at: 16352,
+        }),
+    },
+    Case {
+        name: "a link into the middle of a page",
+        words: &[(12288, NEXT_PAGE), (16352, 16392)],
+        tail: 20488,
+        pages: &[3],
+        entries: &[],
+        fault: Some(LogEnd {
+            fault: LogFault::L1,
+            at: 16352,
+        }),
+    },
+    Case {
+        name: "a link behind the region",
+        words: &[(12288, NEXT_PAGE), (16352, 65536)],
+        tail: 20488,
+        pages: &[3],
+        entries: &[],
+        fault: Some(LogEnd {
+            fault: LogFault::L1,
+            at: 16352,
+        }),
+    },
+];
+
+#[test]
+fn a_log_ends_at_its_first_fault(rt: HostRuntime) -> Result<(), Fail> {
+    for case in WRONG_LOGS.iter() {
+        is_read(rt.alloc(), &rt, case)?;
+    }
+    Ok(())
+}
+
+/// A page full of entries with a link to block 4, and the places of its entries.
+fn full_page(alloc: Global) -> Result<(Vec<Word>, Vec<u64>), Fail> {
+    let mut words = Vec::new(alloc);
+    let mut places = Vec::new(alloc);
+    for k in 0..127 {
+        let at = HEAD + 32 * k;
+        words.push((at, ATTR))?;
+        places.push(at)?;
+    }
+    words.push((16352, 16384))?;
+    Ok((words, places))
+}
+
+#[test]
+fn a_full_page_leads_on_by_its_link_alone(rt: HostRuntime) -> Result<(), Fail> {
+    let (words, places) = full_page(rt.alloc())?;
+    let full = Case {
+        name: "a full page up to its link",
+        words: &words,
+        tail: 16352,
+        pages: &[3],
+        entries: &places,
+        fault: None,
+    };
+    let linked = Case {
+        name: "a full page and an empty one",
+        tail: 16384,
+        pages: &[3, 4],
+        ..full
+    };
+    is_read(rt.alloc(), &rt, &full)?;
+    is_read(rt.alloc(), &rt, &linked)
+}
+
+const NOTHING_SET: AttrEntry = AttrEntry {
+    mode: 493,
+    size: 0,
+    time: 0,
+    owner: 0,
+    group: 0,
+};
+
+const ENTRY_AT_16384: Finding = Finding::Entry(Placed {
+    at: 16384,
+    entry: Entry::Attr(NOTHING_SET),
+});
+
+const ENTRY_AT_16416: Finding = Finding::Entry(Placed {
+    at: 16416,
+    entry: Entry::Attr(NOTHING_SET),
+});
+
+/// What is found in the log up to 16416, and in the one up to 16448.
+const FIRST_LOG: [Finding; 4] = [
+    Finding::Page(16384),
+    ENTRY_AT_16384,
+    Finding::End(None),
+    Finding::End(None),
+];
+
+const SECOND_LOG: [Finding; 4] = [
+    Finding::Page(16384),
+    ENTRY_AT_16384,
+    ENTRY_AT_16416,
+    Finding::End(None),
+];
+
+const TWO_ENTRIES: [Word; 4] = [
+    (12288, NEXT_PAGE),
+    (16352, 16384),
+    (16384, ATTR),
+    (16416, ATTR),
+];
+
+fn finds(
+    rt: &impl Abort,
+    reader: &mut LogReader,
+    memory: &MemRegion,
+    all: &[Finding],
+) -> Result<(), Fail>
+    requires { HasBlocks memory.now.region reader.old.numbers.blocks }
+    ensures { reader.new.numbers ≡ reader.old.numbers }
+{
+    for wanted in all {
+        let found = reader.next(memory)?;
+        assert!(rt; found == *wanted, "{found:?} is found");
+    }
+    Ok(())
+}
+
+#[test]
+fn a_reader_goes_on_to_another_log(rt: HostRuntime) -> Result<(), Fail> {
+    let memory = small_region(rt.alloc(), &TWO_ENTRIES)?;
+    let mut reader = LogReader::new(rt.alloc(), &SMALL, HEAD, 16416)?;
+    finds(&rt, &mut reader, &memory, &FIRST_LOG)?;
+    assert!(rt; reader.pages() == [3, 4].as_slice());
+    // The last log's pages are this one's to read again.
+    reader.restart(HEAD, 16448);
+    assert!(rt; reader.pages() == [3].as_slice());
+    finds(&rt, &mut reader, &memory, &SECOND_LOG)
+}
+
+#[test]
+fn the_laws_hold(_rt: HostRuntime) {
+    reads_once();
+    reads_its_pages_alone();
+    reads_on_from_the_tail();
+    log_pages_are_data_blocks();
+    right_logs_can_be_read();
+    right_logs_have_a_reading();
+    words_behind_the_tail_are_unread();
+    a_log_has_the_page_of_its_tail();
+    entries_stand_apart();
+}
