@@ -7,8 +7,6 @@ mod joining;
 mod laws;
 mod pool;
 mod taking;
-#[cfg(test)]
-mod tests;
 
 pub use allocators::{AllocRefusal, Allocators};
 pub use laws::{

@@ -12,8 +12,6 @@ mod laws;
 mod refusal;
 mod schedule;
 mod state;
-#[cfg(test)]
-mod tests;
 mod view;
 mod worker;
 

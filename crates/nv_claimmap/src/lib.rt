@@ -13,8 +13,6 @@ mod places;
 mod rule;
 mod seat;
 mod steps;
-#[cfg(test)]
-mod tests;
 
 pub use map::{ClaimMap, Claimed};
 pub use seat::ClaimSeat;

@@ -10,6 +10,3 @@ mod target;
 pub use index::NameIndex;
 pub use named::Named;
 pub use target::Target;
-
-#[cfg(test)]
-mod tests;

@@ -9,8 +9,6 @@ mod leaf;
 mod piece;
 mod pieces;
 mod root;
-#[cfg(test)]
-mod tests;
 
 pub use index::FileIndex;
 pub use piece::Piece;

@@ -4,7 +4,7 @@
 ghost use Rattle.std.specs.Prelude.{IfOk};
 ghost use Rattle.nv_claimcore.specs.Replay.{lists, Inside};
 
-use crate::{ClaimState, CoreRefusal, Event, Record, Sizes, replay, run};
+use nv_claimcore::{ClaimState, CoreRefusal, Event, Record, Sizes, replay, run};
 use nv_super::Owner;
 use std::alloc::{AllocError, Global};
 use std::process::Abort;

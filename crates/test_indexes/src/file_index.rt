@@ -3,7 +3,7 @@
 ghost use Rattle.std.specs.Prelude.{◌+◌, ◌^◌, ◌<◌, ◌≤◌};
 ghost use Rattle.nv_radix.specs.Pages.{AreFilePages};
 
-use crate::{FileIndex, Piece};
+use nv_radix::{FileIndex, Piece};
 use std::alloc::AllocError;
 use std::test::Fail;
 

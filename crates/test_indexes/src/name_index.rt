@@ -1,6 +1,6 @@
 //! Each call on its happy path with ample memory, and names at the edges.
 
-use crate::{NameIndex, Target};
+use nv_names::{NameIndex, Target};
 use std::alloc::{AllocError, Global};
 use std::test::Fail;
 

@@ -2,7 +2,7 @@
 
 ghost use Rattle.std.specs.Prelude.{◌≡◌, ◌<◌, ◌≤◌, ◌+◌, IfOk};
 
-use crate::{AllocRefusal, Allocators};
+use nv_alloc::{AllocRefusal, Allocators};
 use nv_super::{Run, Super};
 use std::alloc::{AllocError, Global};
 use std::process::Abort;

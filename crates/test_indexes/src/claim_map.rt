@@ -4,8 +4,8 @@ ghost use Rattle.std.specs.Prelude.{◌≡◌, ◌+◌, ◌<◌, ◌≤◌, IfOk
 ghost use Rattle.nv_super.specs.Owners.{MayOwn};
 ghost use Rattle.nv_claimcore.specs.Claims.{nothing, both_views};
 
-use crate::{ClaimMap, ClaimSeat, Claimed};
 use nv_claimcore::Sizes;
+use nv_claimmap::{ClaimMap, ClaimSeat, Claimed};
 use nv_super::{Owner, Run};
 use std::alloc::{AllocError, Global};
 use std::process::Abort;
