@@ -1,0 +1,2 @@
+pub mod BlockSet
+pub mod Listed
