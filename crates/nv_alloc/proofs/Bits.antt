@@ -7,7 +7,7 @@ use Rattle.std.proofs.Math.Nat.{div-div-eq-div-mul}
 use Rattle.std.proofs.lemmas.Nat.{pow-add}
 use lib.Count.{trailing_of_zero}
 use Rattle.std.specs.List.{slice_index}
-use Rattle.nv_super.specs.Sets.{has}
+use Rattle.nv_blockset.specs.BlockSet.{has}
 use Rattle.nv_alloc.specs.Inside.{IsAlike}
 
 -- the bits before the first 1

@@ -4,12 +4,12 @@ use Rattle.std.proofs.Math.ListN.{set}
 use Rattle.std.proofs.lemmas.Bool.{cases_lt}
 use Rattle.std.proofs.lemmas.List.{take_more, map-append, length-append, get_or-set_same, get_or-set_other, get_or_default, get_or_past, set-get_or, get_or_append_left, get_or_push}
 use Rattle.std.proofs.lemmas.List.Sums.{sum_by-append}
+use Rattle.nv_blockset.specs.BlockSet.{has}
 use Rattle.nv_super.specs.declared.owners.Run.{Run}
 use Rattle.nv_super.specs.declared.superblock.Super.{Super}
 use Rattle.nv_super.specs.Layout.{pool_start, InPool, IsLayout}
 use Rattle.nv_super.proofs.Pools.{pools_rise, pools_to}
 use Rattle.nv_super.specs.Runs.{InRun, Apart, AreRuns}
-use Rattle.nv_super.specs.Sets.{has}
 use Rattle.nv_alloc.specs.PoolValue.{PoolState}
 use Rattle.nv_alloc.specs.Taking.{HasBlock, blocks_in, all_blocks, pool_at, IsFullest}
 use Rattle.nv_alloc.specs.Inside.{lists_of, spare_at, size_at, JoinedUpTo, ArePools, IsClear}

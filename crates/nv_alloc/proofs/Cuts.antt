@@ -3,8 +3,8 @@ use Rattle.std.proofs.Common.{◌≡◌, ℕ, ◌+◌, ◌-◌, ◌<◌, ◌≤�
 use Rattle.std.specs.List.{Contains}
 use Rattle.std.proofs.lemmas.Bool.{cases_lt}
 use Rattle.std.proofs.lemmas.List.Elements.{Contains-append_left, Contains-push, Contains-push_cases}
+use Rattle.nv_blockset.specs.BlockSet.{has}
 use Rattle.nv_super.proofs.Rising.{Contains-head, Contains-tail}
-use Rattle.nv_super.specs.Sets.{has}
 use Rattle.nv_super.specs.declared.owners.Run.{Run}
 use Rattle.nv_super.specs.Runs.{Apart, AreRuns}
 use Rattle.nv_alloc.specs.Inside.{IsClear, CutUpTo}

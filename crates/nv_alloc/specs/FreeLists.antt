@@ -1,11 +1,11 @@
 -- What `Allocators` shows, and what its calls do to it.
 use Rattle.std.specs.Prelude.{◌≡◌, ◌⊎◌, ℕ, ◌<◌, ◌≤◌, List, [], ◌∷◌, ◌++◌, length, map, Vec}
 use Rattle.std.specs.declared.alloc.Global.{Global}
+use Rattle.nv_blockset.specs.BlockSet.{has}
 use Rattle.nv_super.specs.declared.superblock.Super.{Super}
 use Rattle.nv_super.specs.declared.owners.Run.{Run}
 use Rattle.nv_super.specs.Layout.{system_blocks, IsLayout, InPool}
 use Rattle.nv_super.specs.Runs.{InRun, Apart, AreRuns}
-use Rattle.nv_super.specs.Sets.{has}
 use Rattle.nv_alloc.specs.declared.allocators.AllocRefusal.{AllocRefusal}
 use Rattle.nv_alloc.specs.declared.allocators.AllocRefusal.TheVariants.{NoSpace, Memory}
 use Rattle.nv_alloc.specs.FreeValue.{FreeLists}

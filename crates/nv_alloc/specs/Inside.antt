@@ -1,11 +1,11 @@
 -- What the crate's own functions say to each other.
 use Rattle.std.specs.Prelude.{◌≡◌, ◌⊎◌, ℕ, ◌+◌, ◌-◌, ◌^◌, ◌<◌, ◌≤◌, List, [], ◌++◌, length, map, take, drop}
 use Rattle.std.specs.List.{Contains, AllByRecursion, slice_index_or}
+use Rattle.nv_blockset.specs.BlockSet.{has}
 use Rattle.nv_super.specs.declared.owners.Run.{Run}
 use Rattle.nv_super.specs.declared.superblock.Super.{Super}
 use Rattle.nv_super.specs.Layout.{InPool}
 use Rattle.nv_super.specs.Runs.{InRun, Apart, AreRuns}
-use Rattle.nv_super.specs.Sets.{has}
 use Rattle.nv_alloc.specs.Taking.{HasBlock, blocks_in, taken, left, pool_at, Takes}
 use Rattle.nv_alloc.specs.PoolValue.{PoolState}
 

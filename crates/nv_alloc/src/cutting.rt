@@ -2,8 +2,8 @@
 
 ghost use Rattle.std.specs.Prelude.{◌≡◌, ℕ, ◌<◌, ◌≤◌, ◌*◌, ◌-◌, ◌%◌, ◌==◌, ◌++◌, [], ◌∷◌, length, IfOk, OnOk};
 ghost use Rattle.std.specs.Int.{bit_at};
+ghost use Rattle.nv_blockset.specs.BlockSet.{has};
 ghost use Rattle.nv_super.specs.Runs.{AreRuns};
-ghost use Rattle.nv_super.specs.Sets.{has};
 ghost use Rattle.nv_alloc.specs.Inside.{IsClear, IsAlike};
 
 use nv_super::Run;

@@ -1,11 +1,11 @@
 //! Blocks with two owners or more.
 
-ghost use Rattle.std.specs.Prelude.{◌≡◌, ◌<◌, ◌*◌, ℕ, length, IfOk};
+ghost use Rattle.std.specs.Prelude.{◌<◌, ◌*◌, ℕ, length, IfOk};
 ghost use Rattle.std.specs.List.{All};
 ghost use Rattle.nv_super.specs.declared.owners.Owner.{Owner as OwnerValue};
-ghost use Rattle.nv_super.specs.Sets.{is_set};
 ghost use Rattle.nv_check.specs.Doubled.{AreDoubled};
 
+use nv_blockset::contains;
 use nv_super::{Owner, sort_claims};
 use std::alloc::{AllocError, Global};
 
@@ -22,18 +22,10 @@ pub fn doubled(
 {
     let mut found = Vec::new(alloc);
     for claim in claims {
-        if is_in(second, claim.0) {
+        if contains(second, claim.0) {
             found.push(*claim)?;
         }
     }
     sort_claims(&mut found);
     Ok(found)
-}
-
-/// Whether a block is in a set.
-fn is_in(set: &[u64], block: u64) -> bool
-    requires { block < 64 * length set.now }
-    ensures { result ≡ is_set set.now block }
-{
-    set[(block / 64) as usize] >> (block % 64) & 1 == 1
 }

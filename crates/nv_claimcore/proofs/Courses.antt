@@ -10,6 +10,7 @@ use mathlib.Core.Logic.{dite}
 use mathlib.Core.Option.{some, some-injective, some-ne-none}
 use lib.ListN.{get_elem?}
 use native.Mathlib.Decide.{ℕ_discrete}
+use Rattle.nv_blockset.specs.BlockSet.{has}
 use Rattle.nv_super.specs.declared.owners.Owner.{Owner}
 use Rattle.nv_claimcore.specs.declared.view.Sizes.{Sizes}
 use Rattle.nv_claimcore.specs.declared.view.Record.{Record}
@@ -17,7 +18,6 @@ use Rattle.nv_claimcore.specs.declared.view.View.{View}
 use Rattle.nv_claimcore.specs.declared.event.Event.{Event}
 use Rattle.nv_claimcore.specs.declared.schedule.Pace.{Pace}
 use Rattle.nv_claimcore.specs.declared.schedule.Progress.{Progress}
-use Rattle.nv_claimcore.specs.Sets.{has}
 use Rattle.nv_claimcore.specs.Claims.{State, Legal, past, is_open, claim_of, with_number, with_record, with_mark, nothing}
 use Rattle.nv_claimcore.specs.Events.{view_of, start, is_allowed, after, all_allowed, after_all}
 use Rattle.nv_claimcore.specs.Finished.{pair_of, pairs_of, pair_times, Finished}

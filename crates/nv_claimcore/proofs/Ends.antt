@@ -7,13 +7,14 @@ use Rattle.std.proofs.lemmas.Nat.Bits.{bit_at-lt}
 use mathlib.Core.Bool.{Bool, not, ◌&&◌}
 use mathlib.Core.Option.{some}
 use lib.ListN.{get_elem?}
+use Rattle.nv_blockset.specs.BlockSet.{has}
 use Rattle.nv_super.specs.declared.owners.Owner.{Owner}
+use Rattle.nv_super.specs.Owners.{claims_of}
 use Rattle.nv_claimcore.specs.declared.view.Sizes.{Sizes}
 use Rattle.nv_claimcore.specs.declared.view.Record.{Record}
 use Rattle.nv_claimcore.specs.declared.view.View.{View}
-use Rattle.nv_claimcore.specs.Sets.{has}
 use Rattle.nv_claimcore.specs.Claims.{State, Legal, won, lost, marked, is_lost, is_marked, is_open}
-use Rattle.nv_claimcore.specs.Finished.{pair_of, claims_of, Finished, pairs_at, pairs_of, works_of}
+use Rattle.nv_claimcore.specs.Finished.{pair_of, Finished, pairs_at, pairs_of, works_of}
 use Rattle.nv_claimcore.proofs.Counting.{sum_le}
 use Rattle.nv_claimcore.proofs.Once.{sum_once, sum_places}
 use Rattle.nv_claimcore.proofs.SamePairs.{same_sums_of_pairs}

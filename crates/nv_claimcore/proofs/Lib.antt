@@ -1,9 +1,7 @@
 pub mod Counting
-pub mod Words
 pub mod Keeps
 pub mod Spans
 pub mod Marks
-pub mod OneBit
 pub mod Runs
 pub mod Whole
 pub mod Once

@@ -10,16 +10,16 @@ use Rattle.std.proofs.lemmas.Bool.{cases_lt, false≢true}
 use mathlib.Core.Bool.{Bool, not, ◌&&◌}
 use mathlib.Core.Option.{some, some-injective, some-ne-none}
 use lib.ListN.{get_elem?}
+use Rattle.nv_blockset.specs.BlockSet.{has, words_for}
+use Rattle.nv_blockset.proofs.Sets.{has_none}
 use Rattle.nv_claimcore.specs.declared.view.Sizes.{Sizes}
 use Rattle.nv_claimcore.specs.declared.view.Record.{Record}
 use Rattle.nv_claimcore.specs.declared.view.View.{View}
 use Rattle.nv_claimcore.specs.declared.event.Event.{Event}
 use Rattle.nv_claimcore.specs.declared.event.Event.TheVariants.{Draw, Claim, Mark}
-use Rattle.nv_claimcore.specs.Sets.{has, words_for}
 use Rattle.nv_claimcore.specs.Claims.{State, Sound, Legal, past, times, won, lost, marked, is_lost, is_open, nothing, with_number, with_record, with_mark, claim_of}
 use Rattle.nv_claimcore.specs.Events.{view_of, start, is_allowed, after, all_allowed, after_all}
 use Rattle.nv_claimcore.proofs.Counting.{at_set, sum_part, sum_le}
-use Rattle.nv_claimcore.proofs.Words.{has_none}
 use Rattle.nv_claimcore.proofs.Keeps.{draw_keeps, claim_keeps, mark_keeps}
 
 -- each view has one seat

@@ -7,13 +7,13 @@ use Rattle.std.proofs.lemmas.Nat.Bits.{bit_at_or, same_from_bits}
 use mathlib.Core.Option.{some, some-injective, some-ne-none}
 use lib.ListN.{get_elem?}
 use lib.Seq.{set-get_or}
+use Rattle.nv_blockset.specs.BlockSet.{mask_of}
+use Rattle.nv_blockset.proofs.Sets.{or_other, word_inside}
 use Rattle.nv_super.specs.declared.owners.Owner.{Owner}
 use Rattle.nv_claimcore.specs.declared.view.Sizes.{Sizes}
 use Rattle.nv_claimcore.specs.declared.view.View.{View}
-use Rattle.nv_claimcore.specs.Sets.{mask_of}
 use Rattle.nv_claimcore.specs.Claims.{State, Legal, claim_of, with_record, with_mark}
 use Rattle.nv_claimcore.specs.Spans.{mask_all, claim_all, mark_all, Rises, AreOpen}
-use Rattle.nv_claimcore.proofs.Words.{or_other, word_inside}
 use Rattle.nv_claimcore.proofs.Keeps.{claim_keeps, mark_keeps}
 
 max_assoc : (a b c : ℕ) → max (max a b) c ≡ max a (max b c)

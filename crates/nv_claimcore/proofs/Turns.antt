@@ -13,6 +13,8 @@ use mathlib.Core.Logic.{dite}
 use mathlib.Core.Option.{some}
 use lib.ListN.{get_elem?}
 use native.Mathlib.Decide.{ℕ_discrete}
+use Rattle.nv_blockset.specs.BlockSet.{has}
+use Rattle.nv_blockset.proofs.Sets.{word_inside}
 use Rattle.nv_super.specs.declared.owners.Owner.{Owner}
 use Rattle.nv_claimcore.specs.declared.view.Sizes.{Sizes}
 use Rattle.nv_claimcore.specs.declared.view.Record.{Record}
@@ -20,7 +22,6 @@ use Rattle.nv_claimcore.specs.declared.view.View.{View}
 use Rattle.nv_claimcore.specs.declared.event.Event.{Event}
 use Rattle.nv_claimcore.specs.declared.event.Event.TheVariants.{Draw, Claim, Mark}
 use Rattle.nv_claimcore.specs.declared.schedule.Pace.{Pace}
-use Rattle.nv_claimcore.specs.Sets.{has}
 use Rattle.nv_claimcore.specs.Claims.{State, Legal, past, is_open, claim_of, mark, mark_first, with_number, with_record, with_mark, nothing, Settled, Owes}
 use Rattle.nv_claimcore.specs.Events.{view_of, start, is_allowed, after}
 use Rattle.nv_claimcore.specs.Finished.{pair_of, pairs_at, pairs_of}
@@ -28,7 +29,6 @@ use Rattle.nv_claimcore.specs.Replay.{open_blocks, next_event, turn}
 use Rattle.nv_claimcore.specs.Pace.{left_at, Keeps, Running, no_pace, pace_of, marked_pace, owed, undrawn, effort}
 use Rattle.nv_claimcore.proofs.Keeps.{draw_small}
 use Rattle.nv_claimcore.proofs.Lists.{at_view, every_list, every_seat, allowed_more, after_more, mark_place}
-use Rattle.nv_claimcore.proofs.Words.{word_inside}
 use Rattle.nv_claimcore.proofs.Marks.{marks_last, open_last}
 
 -- ---- a turn, told by what is kept of the worker

@@ -9,13 +9,14 @@ use Rattle.std.proofs.Common.{get_or, ◌/◌, ◌%◌}
 use mathlib.Core.Bool.{Bool, not, ◌&&◌}
 use mathlib.Core.Option.{some}
 use lib.ListN.{get_elem?}
+use Rattle.nv_blockset.specs.BlockSet.{has}
 use Rattle.nv_super.specs.declared.owners.Owner.{Owner}
+use Rattle.nv_super.specs.Owners.{claims_of}
 use Rattle.nv_claimcore.specs.declared.view.Sizes.{Sizes}
 use Rattle.nv_claimcore.specs.declared.view.Record.{Record}
 use Rattle.nv_claimcore.specs.declared.view.View.{View}
-use Rattle.nv_claimcore.specs.Sets.{has}
 use Rattle.nv_claimcore.specs.Claims.{State, Legal, times, won, lost, marked, is_won, is_lost, is_marked, below, Settled}
-use Rattle.nv_claimcore.specs.Finished.{pair_of, claims_of}
+use Rattle.nv_claimcore.specs.Finished.{pair_of}
 use Rattle.nv_claimcore.proofs.Counting.{sum_alone}
 
 won_or_lost : (w t : Bool) → ◌≡◌ {A = ℕ} (cond t 1 0) (cond (w && t) 1 0 + cond (not w && t) 1 0)

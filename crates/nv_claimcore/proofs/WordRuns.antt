@@ -14,11 +14,11 @@ use Rattle.std.proofs.Math.Pow.{pow_mono}
 use mathlib.Core.Bool.{Bool, not, ◌&&◌}
 use mathlib.Core.Logic.{dite}
 use native.Mathlib.Decide.{ℕ_discrete}
+use Rattle.nv_blockset.specs.BlockSet.{mask_of}
 use Rattle.nv_super.specs.declared.owners.Owner.{Owner}
 use Rattle.nv_super.specs.Owners.{raised, pairs}
 use Rattle.nv_claimcore.specs.declared.view.Record.{Record}
 use Rattle.nv_claimcore.specs.declared.view.View.{View}
-use Rattle.nv_claimcore.specs.Sets.{mask_of}
 use Rattle.nv_claimcore.specs.Spans.{mask_all, claim_all, mark_all, is_free, lost_in, settle, Rises, AreOpen}
 use Rattle.nv_claimcore.specs.Claims.{claim_of, mark, mark_first, is_open, Settled, with_record}
 use Rattle.nv_claimcore.proofs.Spans.{or_assoc}

@@ -1,11 +1,11 @@
 -- Events: which are allowed, what each does, and what a list of them does.
 use Rattle.std.specs.Prelude.{ℕ, ◌==◌, nat_lt, List, [], ◌∷◌, Bool, true, ◌&&◌, slice_index_or, length, replicate}
 use Rattle.std.specs.List.{count_by}
+use Rattle.nv_blockset.specs.BlockSet.{words_for}
 use Rattle.nv_claimcore.specs.declared.view.Sizes.{Sizes}
 use Rattle.nv_claimcore.specs.declared.view.View.{View}
 use Rattle.nv_claimcore.specs.declared.event.Event.{Event}
 use Rattle.nv_claimcore.specs.declared.event.Event.TheVariants.{Draw, Claim, Mark}
-use Rattle.nv_claimcore.specs.Sets.{words_for}
 use Rattle.nv_claimcore.specs.Claims.{State, past, is_open, nothing, after_draw, after_claim, after_mark}
 
 -- what a worker knows

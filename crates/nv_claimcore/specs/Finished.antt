@@ -1,11 +1,12 @@
 -- What a state is once all work is done.
-use Rattle.std.specs.Prelude.{◌≡◌, ℕ, ◌<◌, ◌==◌, nat_eq, List, [], ◌∷◌, ◌++◌, Bool, slice_index_or, length, map}
+use Rattle.std.specs.Prelude.{◌≡◌, ℕ, ◌<◌, nat_eq, List, [], ◌∷◌, ◌++◌, Bool, slice_index_or, length, map}
 use Rattle.std.specs.List.{sum_by, count_by}
 use Rattle.std.specs.Cmp.Lexicographic.{pointwise}
 use mathlib.Core.Option.{some}
 use lib.ListN.{get_elem?}
 use Rattle.nv_super.specs.declared.owners.Owner.{Owner}
 use Rattle.nv_super.specs.Order.{claim_key}
+use Rattle.nv_super.specs.Owners.{claims_of}
 use Rattle.nv_claimcore.specs.declared.view.Record.{Record}
 use Rattle.nv_claimcore.specs.declared.view.View.{View}
 use Rattle.nv_claimcore.specs.Claims.{State, times, is_open}
@@ -21,10 +22,6 @@ same_pair p q = pointwise nat_eq (claim_key p) (claim_key q)
 -- how often a pair stands in a list
 abbrev pub pair_times : ℕ × Owner → List (ℕ × Owner) → ℕ
 pair_times p ps = count_by (same_pair p) ps
-
--- how often a block is claimed
-abbrev pub claims_of : ℕ → List (ℕ × Owner) → ℕ
-claims_of b ps = count_by (λ p. p.0 == b) ps
 
 -- ---- the work: a list of pairs for each ticket
 

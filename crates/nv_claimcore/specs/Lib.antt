@@ -1,4 +1,3 @@
-pub mod Sets
 pub mod Claims
 pub mod Events
 pub mod Finished

@@ -2,10 +2,10 @@
 use Rattle.std.specs.Prelude.{◌≡◌, ℕ, ◌+◌, ◌%◌, ◌<◌, ◌≤◌, ◌==◌, List, [], ◌∷◌, ◌++◌, if◌then◌else◌, Bool, not, map, bit_or}
 use Rattle.std.specs.Int.{bit_at}
 use Rattle.std.specs.List.{count_by, All}
+use Rattle.nv_blockset.specs.BlockSet.{mask_of}
 use Rattle.nv_super.specs.declared.owners.Owner.{Owner}
 use Rattle.nv_claimcore.specs.declared.view.Record.{Record}
 use Rattle.nv_claimcore.specs.declared.view.View.{View}
-use Rattle.nv_claimcore.specs.Sets.{mask_of}
 use Rattle.nv_claimcore.specs.Claims.{with_record, with_mark, claim_of, is_open, Settled}
 use Rattle.nv_claimcore.specs.Finished.{pair_of}
 

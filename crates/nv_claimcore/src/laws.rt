@@ -1,10 +1,10 @@
 //! Laws of the core over every list of events, each as the contract of a function with nothing to do.
 
 ghost use Rattle.std.specs.Prelude.{◌≡◌, ℕ, ◌+◌, ◌-◌, ◌≤◌, List, true, min};
+ghost use Rattle.nv_blockset.specs.BlockSet.{has};
 ghost use Rattle.nv_super.specs.declared.owners.Owner.{Owner};
 ghost use Rattle.nv_claimcore.specs.declared.view.Sizes.{Sizes};
 ghost use Rattle.nv_claimcore.specs.declared.event.Event.{Event};
-ghost use Rattle.nv_claimcore.specs.Sets.{has};
 ghost use Rattle.nv_claimcore.specs.Claims.{State, Legal};
 ghost use Rattle.nv_claimcore.specs.Events.{start, all_allowed, after_all};
 ghost use Rattle.nv_claimcore.specs.Finished.{Finished, works_of};

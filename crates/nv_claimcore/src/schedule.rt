@@ -1,9 +1,9 @@
 //! Workers that take their steps by a schedule, and then run to their ends, with no thread.
 
 ghost use Rattle.std.specs.Prelude.{◌≡◌, ℕ, ◌+◌, ◌/◌, ◌<◌, ◌^◌, ◌==◌, List, [], ◌∷◌, length, drop, slice_set, None, IfOk, IfErr, OnOk, MatchOption};
+ghost use Rattle.nv_blockset.specs.BlockSet.{has};
 ghost use Rattle.nv_super.specs.declared.owners.Owner.{Owner};
 ghost use Rattle.nv_claimcore.specs.declared.event.Event.TheVariants.{Draw, Claim, Mark};
-ghost use Rattle.nv_claimcore.specs.Sets.{has};
 ghost use Rattle.nv_claimcore.specs.Claims.{Legal, Owes};
 ghost use Rattle.nv_claimcore.specs.Events.{start, view_of, after};
 ghost use Rattle.nv_claimcore.specs.Finished.{Finished, pairs_at};

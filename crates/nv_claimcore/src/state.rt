@@ -1,13 +1,14 @@
 //! The core's state, and one event after the other.
 
 ghost use Rattle.std.specs.Prelude.{◌≡◌, ℕ, ◌+◌, ◌/◌, ◌<◌, ◌^◌, ◌==◌, true, length, IfOk, OnOk, OnErr};
-ghost use Rattle.nv_claimcore.specs.Sets.{has, with_block, words_for};
+ghost use Rattle.nv_blockset.specs.BlockSet.{has, words_for};
 ghost use Rattle.nv_claimcore.specs.Claims.{State, Legal, Owes, after_draw, after_claim, after_mark};
 ghost use Rattle.nv_claimcore.specs.Events.{start, view_of, is_allowed, after};
 
 use crate::event::Event;
 use crate::view::{Record, Sizes};
 use crate::worker::Worker;
+use nv_blockset::{contains, insert, words_for};
 use nv_super::Owner;
 use std::alloc::{AllocError, Global};
 use std::marker::Model;
@@ -61,7 +62,7 @@ impl ClaimState {
     pub(crate) fn new(alloc: Global, sizes: Sizes) -> Result<ClaimState, AllocError>
         ensures { IfOk result (λ s. s ≡ start sizes) }
     {
-        let words = words_of(sizes.blocks);
+        let words = words_for(sizes.blocks);
         let first = vec![in alloc; 0u64; words]?;
         let second = vec![in alloc; 0u64; words]?;
         let mut views = Vec::new(alloc);
@@ -101,16 +102,14 @@ impl ClaimState {
         ensures ok { OnOk result (self.new ≡ after_claim self.old worker (view_of self.old worker) block owner) }
         ensures err { OnErr result (self.new ≡ self.old) }
     {
-        let place = (block / 64) as usize;
-        let mask = 1u64 << (block % 64);
-        let won = self.first[place] & mask == 0;
+        let won = !contains(&self.first, block);
         self.views[worker].claim(Record {
             block,
             owner,
             won,
             marked: false,
         })?;
-        self.first[place] |= mask;
+        insert(&mut self.first, block);
         Ok(won)
     }
 
@@ -120,7 +119,7 @@ impl ClaimState {
         ensures { self.new ≡ after_mark self.old worker (view_of self.old worker) block }
     {
         self.views[worker].mark(block);
-        self.add_to_second(block);
+        insert(&mut self.second, block);
     }
 
     // The same where the worker's last record is the one to be marked: no record is searched.
@@ -130,15 +129,7 @@ impl ClaimState {
         ensures { self.new ≡ after_mark self.old worker (view_of self.old worker) block }
     {
         self.views[worker].mark_last();
-        self.add_to_second(block);
-    }
-
-    fn add_to_second(&mut self, block: u64)
-        requires { block / 64 < length self.old.second }
-        ensures { self.new ≡ record { first = self.old.first; second = with_block self.old.second block; cursor = self.old.cursor; views = self.old.views } }
-    {
-        let place = (block / 64) as usize;
-        self.second[place] |= 1u64 << (block % 64);
+        insert(&mut self.second, block);
     }
 
     // Whether the event is allowed.
@@ -180,12 +171,4 @@ impl ClaimState {
         }
         Ok(())
     }
-}
-
-// How many words a set of this many blocks has.
-fn words_of(blocks: u64) -> usize
-    ensures { result ≡ words_for blocks }
-{
-    let whole = (blocks / 64) as usize;
-    if blocks % 64 == 0 { whole } else { whole + 1 }
 }

@@ -4,11 +4,12 @@ use Rattle.std.specs.List.{All}
 use mathlib.Core.Option.{some, some-injective, some-ne-none}
 use lib.ListN.{get_elem?}
 use Rattle.atomic_table.specs.Table.{Final, Seen}
+use Rattle.nv_blockset.specs.BlockSet.{has, words_for}
+use Rattle.nv_super.specs.Owners.{claims_of}
 use Rattle.nv_claimcore.specs.declared.view.Sizes.{Sizes}
 use Rattle.nv_claimcore.specs.declared.view.View.{View}
-use Rattle.nv_claimcore.specs.Sets.{has, words_for}
 use Rattle.nv_claimcore.specs.Claims.{times, won, below, Settled}
-use Rattle.nv_claimcore.specs.Finished.{pair_of, claims_of}
+use Rattle.nv_claimcore.specs.Finished.{pair_of}
 use Rattle.nv_claimcore.proofs.Whole.{whole_numbers, whole_once, whole_first, whole_second}
 use Rattle.std.proofs.Math.Seq.{take-append_seam, drop-append_seam}
 use Rattle.nv_claimmap.specs.Rule.{Kept, idle, table_of}

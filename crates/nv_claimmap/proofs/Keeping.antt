@@ -3,9 +3,9 @@ use Rattle.std.proofs.Common.{◌≡◌, ℕ, suc, ◌+◌, ◌*◌, ◌/◌, �
 use mathlib.Core.Option.{some, none}
 use lib.ListN.{get_elem?}
 use Rattle.atomic_table.specs.Table.{Me, keeps, step, Allows, Splits, Joins, opening}
+use Rattle.nv_blockset.specs.BlockSet.{words_for}
 use Rattle.nv_claimcore.specs.declared.view.Sizes.{Sizes}
 use Rattle.nv_claimcore.specs.declared.view.View.{View}
-use Rattle.nv_claimcore.specs.Sets.{words_for}
 use Rattle.nv_claimcore.specs.Claims as C
 use Rattle.nv_claimcore.specs.Claims.{Legal, past, times, above, won, with_number, nothing, both_views}
 use Rattle.nv_claimcore.specs.Spans.{mask_all, claim_all, mark_all, Rises, AreOpen}

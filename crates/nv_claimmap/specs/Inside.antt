@@ -3,8 +3,8 @@ use Rattle.std.specs.Prelude.{◌≡◌, ℕ, ◌+◌, ◌*◌, ◌%◌, ◌^◌
 use Rattle.std.specs.List.{All}
 use Rattle.std.specs.Vec.{vec_capacity}
 use Rattle.atomic_table.specs.Seated.{TableId}
+use Rattle.nv_blockset.specs.BlockSet.{words_for}
 use Rattle.nv_claimcore.specs.declared.view.Sizes.{Sizes}
-use Rattle.nv_claimcore.specs.Sets.{words_for}
 use Rattle.nv_claimcore.specs.Claims.{past, Settled}
 use Rattle.nv_claimcore.specs.Finished.{pair_of}
 use Rattle.nv_claimmap.specs.declared.map.ClaimMap.TheInside as Map

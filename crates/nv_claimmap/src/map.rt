@@ -4,19 +4,20 @@
 ghost use Rattle.std.specs.Prelude.{◌≡◌, ℕ, ◌+◌, ◌-◌, ◌^◌, ◌<◌, ◌≤◌, ◌++◌, ◌⊎◌, [], IfSome, IfNone, IsNone, IfOk, IfErr, OnOk, OnErr, length, map, min, take, drop};
 ghost use Rattle.std.specs.Mem.Slots.{slots_items, slots_len, IsFull};
 ghost use Rattle.std.specs.Vec.{vec_len, vec_capacity};
-ghost use Rattle.nv_super.specs.Owners.{MayOwn, pairs};
-ghost use Rattle.nv_claimcore.specs.Sets.{has, words_for};
+ghost use Rattle.nv_blockset.specs.BlockSet.{has, words_for};
+ghost use Rattle.nv_super.specs.Owners.{MayOwn, pairs, claims_of};
 ghost use Rattle.nv_claimcore.specs.Claims.{past, times, above, won, with_number, both_views, below};
-ghost use Rattle.nv_claimcore.specs.Finished.{pair_of, claims_of};
+ghost use Rattle.nv_claimcore.specs.Finished.{pair_of};
 ghost use Rattle.nv_claimcore.specs.Spans.{Adds};
 ghost use Rattle.nv_claimmap.specs.Held.{MapId, map_id, fresh};
 ghost use Rattle.nv_claimmap.specs.Inside.{IsMap};
 
-use crate::places::{CURSOR, FIRST, second_from, table_words, words_of};
+use crate::places::{CURSOR, FIRST, second_from, table_words};
 use crate::rule::{Both, Draw, Law, Look};
 use crate::seat::{ClaimSeat, seat_all};
 use crate::steps::{claim_words, list_claims};
 use atomic_table::{Closed, Table};
+use nv_blockset::words_for;
 use nv_claimcore::{Sizes, View};
 use nv_super::{Owner, Run};
 use std::alloc::{AllocError, Global};
@@ -63,7 +64,7 @@ impl ClaimMap {
         ensures seats { IfOk result (λ r. r.1.items ≡ fresh r.0 sizes.workers) }
         ensures count { IfOk result (λ r. vec_len r.1 ≡ sizes.workers) }
     {
-        let words = words_of(sizes.blocks);
+        let words = words_for(sizes.blocks);
         let zeros = vec![in alloc; 0u64; table_words(words)]?;
         let (table, seat) = Table::of_words(alloc, zeros.as_slice(), &sizes)?;
         let seats = seat_all(alloc, &table.shared, seat, sizes)?;

@@ -3,7 +3,6 @@
 //! bytes from one another and no two of them share a cache line.
 
 ghost use Rattle.std.specs.Prelude.{◌≡◌, ◌+◌, ◌*◌, ◌<◌, ◌^◌};
-ghost use Rattle.nv_claimcore.specs.Sets.{words_for};
 
 /// The place of the cursor.
 pub(crate) const CURSOR: usize = 0;
@@ -25,12 +24,4 @@ pub(crate) fn table_words(words: usize) -> usize
     ensures { result ≡ 2 * words + 31 }
 {
     second_from(words) + words
-}
-
-/// How many words the set of this many blocks has.
-pub(crate) fn words_of(blocks: u64) -> usize
-    ensures { result ≡ words_for blocks }
-{
-    let whole = (blocks / 64) as usize;
-    if blocks % 64 == 0 { whole } else { whole + 1 }
 }

@@ -5,8 +5,8 @@
 ghost use Rattle.std.specs.Prelude.{◌≡◌, ℕ, ◌+◌, ◌-◌, ◌*◌, ◌/◌, ◌%◌, ◌^◌, ◌<◌, ◌≤◌, ◌++◌, bit_and};
 ghost use Rattle.std.specs.List.{All};
 ghost use Rattle.std.specs.Vec.{vec_len, vec_capacity};
+ghost use Rattle.nv_blockset.specs.BlockSet.{words_for};
 ghost use Rattle.nv_super.specs.Owners.{MayOwn, pairs};
-ghost use Rattle.nv_claimcore.specs.Sets.{words_for};
 ghost use Rattle.nv_claimcore.specs.Claims.{Settled};
 ghost use Rattle.nv_claimcore.specs.Spans.{claim_all, mark_all, lost_in, settle, AreOpen, Adds};
 ghost use Rattle.nv_claimmap.specs.Inside.{HasSets, InWord};

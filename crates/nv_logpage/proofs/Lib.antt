@@ -1,5 +1,4 @@
 pub mod Steps
-pub mod Noted
 pub mod Progress
 pub mod Once
 pub mod Local

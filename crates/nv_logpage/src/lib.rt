@@ -11,7 +11,6 @@ mod appending;
 mod found;
 mod laws;
 mod looking;
-mod pages;
 mod reader;
 mod walking;
 

@@ -5,8 +5,8 @@ use Rattle.std.specs.List.{Contains}
 use Rattle.std.proofs.lemmas.List.Elements.{Contains-append_cases}
 use Rattle.nv_super.specs.declared.owners.Owner.{Owner}
 use Rattle.nv_super.specs.Order.{Rises}
-use Rattle.nv_super.specs.Sets.{claims_of}
 use Rattle.nv_super.proofs.Rising.{Contains-cons, Contains-head, Contains-tail}
+use Rattle.nv_super.specs.Owners.{claims_of}
 use Rattle.nv_scan.specs.Faults.{IsOnce}
 use Rattle.nv_scan.proofs.Rising.{head_least}
 use Rattle.nv_outcome.proofs.Members.{none_in, tail_rises, below_not_self}

@@ -16,8 +16,8 @@ use Rattle.nv_super.specs.declared.superblock.Super.{Super}
 use Rattle.nv_super.specs.declared.owners.Owner.{Owner}
 use Rattle.nv_super.specs.Layout.{IsLayout, fixed_layout, inode_limit, slot_of, slot_address, extra_slot, chain_of}
 use Rattle.nv_super.specs.Order.{Rises}
-use Rattle.nv_super.specs.Sets.{claims_of}
 use Rattle.nv_super.proofs.Rising.{Contains-cons, Contains-head, Contains-tail}
+use Rattle.nv_super.specs.Owners.{claims_of}
 use Rattle.nv_claimcore.specs.declared.view.View.{View}
 use Rattle.nv_claimcore.specs.Claims.{times, below, nothing, both_views}
 use Rattle.nv_claimcore.specs.Finished.{pair_of, works_of}

@@ -4,16 +4,17 @@ use Rattle.std.specs.List.{Contains}
 use Rattle.std.specs.List.Sorted.{IsPermutation}
 use Rattle.std.proofs.lemmas.List.Sorted.{Contains-permutation, IsPermutation-sym, sum_by-IsPermutation}
 use Rattle.std.proofs.lemmas.List.Elements.{Contains-append_left, Contains-append_right, Contains-append_cases}
+use Rattle.nv_blockset.specs.BlockSet.{has}
 use Rattle.nv_region.specs.Region.{Region}
 use Rattle.nv_super.specs.declared.superblock.Super.{Super}
 use Rattle.nv_super.specs.declared.owners.Owner.{Owner}
 use Rattle.nv_super.specs.declared.faults.Fault.{Fault}
 use Rattle.nv_super.specs.Layout.{Layout, fixed_layout, system_blocks, InPool}
 use Rattle.nv_super.specs.Order.{claim_key}
-use Rattle.nv_super.specs.Sets.{has, claims_of}
 use Rattle.nv_super.specs.Super.{IsSuper}
 use Rattle.nv_super.proofs.Pools.{pools_from, pools_to}
 use Rattle.nv_super.proofs.Sorted.{one_owner}
+use Rattle.nv_super.specs.Owners.{claims_of}
 use Rattle.nv_journal.specs.Undo.{undone}
 use Rattle.nv_alloc.specs.FreeValue.{FreeLists}
 use Rattle.nv_alloc.proofs.Changed.{AreRuns-same}

@@ -2,6 +2,7 @@
 use Rattle.std.specs.Prelude.{◌≡◌, ℕ, ◌-◌, min, List, [], ◌∷◌, ◌++◌, map, Some}
 use Rattle.std.specs.List.{Contains, flat_map, filter_map}
 use Rattle.std.specs.List.Sorted.{IsPermutation}
+use Rattle.nv_blockset.specs.BlockSet.{has}
 use Rattle.nv_region.specs.Region.{Region}
 use Rattle.nv_super.specs.declared.superblock.Super.{Super}
 use Rattle.nv_super.specs.declared.owners.Owner.{Owner}
@@ -9,7 +10,7 @@ use Rattle.nv_super.specs.declared.faults.Fault.{Fault}
 use Rattle.nv_super.specs.declared.faults.Fault.TheVariants as faults
 use Rattle.nv_super.specs.Layout.{Layout, slot_of, fixed_layout}
 use Rattle.nv_super.specs.Order.{fault_key, Lists, Rises, SortedOf}
-use Rattle.nv_super.specs.Sets.{has, claims_of}
+use Rattle.nv_super.specs.Owners.{claims_of}
 use Rattle.nv_journal.specs.Undo.{undone}
 use Rattle.nv_journal.specs.Faults.{HasFault}
 use Rattle.nv_alloc.specs.FreeValue.{FreeLists}

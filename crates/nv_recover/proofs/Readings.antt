@@ -13,7 +13,7 @@ use Rattle.nv_super.specs.declared.owners.Owner.{Owner}
 use Rattle.nv_super.specs.declared.faults.Fault.{Fault}
 use Rattle.nv_super.specs.Layout.{IsLayout, fixed_layout, inode_limit, is_number}
 use Rattle.nv_super.specs.Order.{fault_key, Lists, SortedOf}
-use Rattle.nv_super.specs.Sets.{claims_of}
+use Rattle.nv_super.specs.Owners.{claims_of}
 use Rattle.nv_claimcore.specs.Finished.{works_of}
 use Rattle.nv_claimcore.specs.Replay.{Inside}
 use Rattle.nv_journal.specs.Undo.{undone}

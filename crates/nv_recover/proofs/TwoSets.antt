@@ -7,10 +7,10 @@ use Rattle.std.specs.List.{All}
 use Rattle.std.proofs.lemmas.List.{take_more}
 use mathlib.Core.Logic.{dite}
 use native.Mathlib.Decide.{ℕ_discrete}
+use Rattle.nv_blockset.specs.BlockSet.{has, is_set, with_block}
+use Rattle.nv_blockset.proofs.Sets.{has_same, has_other, has_none, with_block_long}
 use Rattle.nv_super.specs.declared.owners.Owner.{Owner}
-use Rattle.nv_super.specs.Sets.{has, is_set, claims_of}
-use Rattle.nv_claimcore.specs.Sets.{with_block}
-use Rattle.nv_claimcore.proofs.Words.{has_same, has_other, has_none}
+use Rattle.nv_super.specs.Owners.{claims_of}
 use Rattle.nv_outcome.specs.Parts.{AreMaps}
 use Rattle.nv_recover.specs.Reading.{second_after}
 
@@ -47,9 +47,6 @@ module _ (claims : List (ℕ × Owner)) (first second : List ℕ) (maps : AreMap
 -- nothing is claimed yet
 pub no_maps : (n m : ℕ) → AreMaps [] (replicate n 0) (replicate m 0)
 no_maps n m = record { once = λ b. has_none n b; twice = λ b. has_none m b }
-
-pub with_block_long : (words : List ℕ) (b : ℕ) → length (with_block words b) ≡ length words
-with_block_long words b = length-set words (b / 64) (bit_or (get_or words (b / 64) 0) (2 ^ (b % 64)))
 
 pub second_after_long : (first second : List ℕ) (b : ℕ) → length (second_after first second b) ≡ length second
 second_after_long first second b = at (is_set first b) where

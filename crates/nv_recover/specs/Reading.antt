@@ -3,6 +3,7 @@ use Rattle.std.specs.Prelude.{◌≡◌, ℕ, ◌*◌, ◌<◌, ◌≤◌, ◌-�
 use Rattle.std.specs.declared.alloc.Global.{Global}
 use Rattle.std.specs.List.{All, flat_map}
 use Rattle.std.specs.List.Sorted.{IsPermutation}
+use Rattle.nv_blockset.specs.BlockSet.{is_set, has, with_block}
 use Rattle.nv_region.specs.Region.{Region, HasBlocks}
 use Rattle.nv_super.specs.declared.superblock.Super.{Super}
 use Rattle.nv_super.specs.declared.owners.Owner.{Owner}
@@ -10,9 +11,7 @@ use Rattle.nv_super.specs.declared.faults.Fault.{Fault}
 use Rattle.nv_super.specs.Layout.{IsLayout, is_number, fixed_layout}
 use Rattle.nv_super.specs.Order.{fault_key, Lists, Rises, SortedOf}
 use Rattle.nv_super.specs.Super.{IsSuper}
-use Rattle.nv_super.specs.Sets.{is_set, has}
 use Rattle.nv_claimcore.specs.Finished.{works_of}
-use Rattle.nv_claimcore.specs.Sets.{with_block}
 use Rattle.nv_journal.specs.Undo.{undone}
 use Rattle.nv_journal.specs.Faults.{HasFault}
 use Rattle.nv_alloc.specs.FreeLists.{AreOutside}

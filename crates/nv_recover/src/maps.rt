@@ -2,16 +2,16 @@
 
 ghost use Rattle.std.specs.Prelude.{◌≡◌, ◌/◌, ◌<◌, ℕ, [], IfOk, length};
 ghost use Rattle.std.specs.List.{All};
+ghost use Rattle.nv_blockset.specs.BlockSet.{with_block};
 ghost use Rattle.nv_super.specs.declared.owners.Owner.{Owner as OwnerValue};
-ghost use Rattle.nv_super.specs.Sets.{is_set};
-ghost use Rattle.nv_claimcore.specs.Sets.{with_block};
 ghost use Rattle.nv_outcome.specs.Parts.{AreMaps};
 ghost use Rattle.nv_recover.specs.Reading.{AreWithin, Cover, second_after};
 
+use nv_blockset::{contains, insert, words_for};
 use nv_super::{Owner, Super};
 use std::alloc::{AllocError, Global};
 
-/// Two sets of blocks. Block b is bit `b % 64` of word `b / 64`.
+/// Two sets of blocks.
 #[derive(Drop)]
 pub(crate) struct Maps {
     pub first: Vec<u64>,
@@ -28,7 +28,7 @@ pub(crate) fn maps_of(
     ensures maps { IfOk result (λ maps. AreMaps claims.now maps.first.items maps.second.items) }
     ensures cover { IfOk result (λ maps. Cover sup.now maps.first.items maps.second.items) }
 {
-    let words = sup.blocks.div_ceil(64) as usize;
+    let words = words_for(sup.blocks);
     let mut first = vec![in alloc; 0u64; words]?;
     let mut second = vec![in alloc; 0u64; words]?;
     fill(&mut first, &mut second, claims);
@@ -52,22 +52,8 @@ fn claim(first: &mut [u64], second: &mut [u64], block: u64)
     ensures first { first.new ≡ with_block first.old block }
     ensures second { second.new ≡ second_after first.old second.old block }
 {
-    if has_block(first, block) {
-        add_block(second, block);
+    if contains(first, block) {
+        insert(second, block);
     }
-    add_block(first, block);
-}
-
-fn has_block(words: &[u64], block: u64) -> bool
-    requires { block / 64 < length words.now }
-    ensures { result ≡ is_set words.now block }
-{
-    words[(block / 64) as usize] >> (block % 64) & 1 == 1
-}
-
-fn add_block(words: &mut [u64], block: u64)
-    requires { block / 64 < length words.old }
-    ensures { words.new ≡ with_block words.old block }
-{
-    words[(block / 64) as usize] |= 1u64 << (block % 64);
+    insert(first, block);
 }

@@ -5,7 +5,6 @@ pub mod Owners
 pub mod Order
 pub mod FaultText
 pub mod Keys
-pub mod Sets
 pub mod Runs
 pub use Rattle.nv_region.specs.Region
 pub use Rattle.nv_region.specs.Stops

@@ -1,9 +1,9 @@
 use Rattle.std.proofs.Common.{◌≡◌, ℕ, List, take, subst, ◌∙◌, ap, eqb-true, eq-eqb}
 use Rattle.std.specs.List.{filter}
 use Rattle.std.proofs.lemmas.List.{take_all}
+use Rattle.nv_blockset.specs.BlockSet.{is_set, has}
 use Rattle.nv_super.specs.declared.owners.Owner.{Owner}
 use Rattle.nv_super.specs.Order.{claim_key, SortedOf}
-use Rattle.nv_super.specs.Sets.{is_set, has}
 use Rattle.nv_check.proofs.Filters.{lists_filter}
 use Rattle.nv_check.proofs.owners.doubled.Goals as goal
 

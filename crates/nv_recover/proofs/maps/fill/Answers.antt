@@ -1,5 +1,6 @@
 use Rattle.std.proofs.Common.{ap, ◌∙◌, length}
-use Rattle.nv_recover.proofs.TwoSets.{with_block_long, second_after_long, maps_next}
+use Rattle.nv_blockset.proofs.Sets.{with_block_long}
+use Rattle.nv_recover.proofs.TwoSets.{second_after_long, maps_next}
 use Rattle.nv_recover.proofs.maps.fill.Goals as goal
 
 pub loop-block-preserved : goal.loop-block-preserved

@@ -2,11 +2,11 @@ use Rattle.std.proofs.Common.{◌≡◌, inl, inr, ◌+◌, ◌/◌, ◌%◌, �
 use Rattle.std.specs.List.{slice_index}
 use Rattle.std.specs.Int.{bit_at}
 use Rattle.std.proofs.lemmas.Nat.Bits.{bit_at_ones}
+use Rattle.nv_blockset.specs.BlockSet.{has}
 use Rattle.nv_super.specs.declared.owners.Run.{Run}
 use Rattle.nv_super.specs.declared.superblock.Super.{Super}
 use Rattle.nv_super.specs.Layout.{system_blocks}
 use Rattle.nv_super.specs.Runs.{InRun}
-use Rattle.nv_super.specs.Sets.{has}
 use Rattle.nv_alloc.specs.FreeValue.{FreeLists}
 use Rattle.nv_alloc.specs.FreeLists.{IsFreeIn, IsSound, AreOutside, CanJoin, SameLists}
 use Rattle.nv_alloc.specs.Taking.{HasBlock, pool_at}

@@ -1,8 +1,8 @@
 use Rattle.std.proofs.Common.{◌≡◌, ℕ, ◌+◌, ◌<◌, ◌^◌, List, [], ◌∷◌, drop, get_or, false, None, sym, refl, ap, ◌∙◌, subst}
+use Rattle.nv_blockset.specs.BlockSet.{has}
 use Rattle.nv_super.specs.declared.owners.Owner.{Owner}
 use Rattle.nv_claimcore.specs.declared.event.Event.TheVariants.{Draw, Claim, Mark}
 use Rattle.nv_claimcore.specs.declared.schedule.Pace.{Pace}
-use Rattle.nv_claimcore.specs.Sets.{has}
 use Rattle.std.specs.Prelude.{◌==◌}
 use Rattle.nv_claimcore.specs.declared.view.Sizes.{Sizes}
 use Rattle.nv_claimcore.specs.Claims.{State}

@@ -1,9 +1,10 @@
 use Rattle.std.proofs.Common.{◌≡◌, ℕ, ◌+◌, List, map, take, drop, sym, ap, ◌∙◌, subst, min, ◌-◌}
 use Rattle.std.specs.Mem.Slots.{slots_items}
+use Rattle.nv_blockset.specs.BlockSet.{words_for}
+use Rattle.nv_super.specs.Owners.{claims_of}
 use Rattle.nv_claimcore.specs.declared.view.Sizes.{Sizes}
 use Rattle.nv_claimcore.specs.declared.view.View.{View}
-use Rattle.nv_claimcore.specs.Sets.{words_for}
-use Rattle.nv_claimcore.specs.Finished.{pair_of, claims_of}
+use Rattle.nv_claimcore.specs.Finished.{pair_of}
 use Rattle.nv_claimmap.specs.Held.{MapId, Held}
 use Rattle.nv_claimmap.proofs.Closing.{Ends, ending}
 use Rattle.nv_claimmap.proofs.map.ClaimMap.close.Goals as goal
