@@ -12,8 +12,6 @@ mod owners;
 mod parallel;
 mod places;
 mod tables;
-#[cfg(test)]
-mod tests;
 mod walk;
 
 pub use cross::cross_faults_one;

@@ -5,8 +5,6 @@
 #![tactic(auto)]
 
 mod finishing;
-#[cfg(test)]
-mod gate_tests;
 mod maps;
 mod one;
 mod opening;
@@ -14,8 +12,6 @@ mod parallel;
 mod recovered;
 mod replaying;
 mod scanning;
-#[cfg(test)]
-mod tests;
 mod workers;
 
 pub use one::recover_one;

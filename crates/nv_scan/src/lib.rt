@@ -9,8 +9,6 @@
 mod claiming;
 mod claims;
 mod fold;
-#[cfg(test)]
-mod gate_tests;
 mod laws;
 mod names;
 mod numbers;
@@ -18,8 +16,6 @@ mod pages;
 mod piece;
 mod reading;
 mod scan;
-#[cfg(test)]
-mod tests;
 mod working;
 
 pub use laws::{

@@ -1,23 +1,15 @@
-//! Small rows, written by hand.
+//! Small rows, written by hand. Inodes have the numbers 1 to 31.
 
 ghost use Rattle.std.specs.Prelude.{◌≡◌};
 
-use crate::{cross_faults, cross_faults_one, doubled};
+use crate::small::SMALL;
+use nv_check::{cross_faults, cross_faults_one, doubled};
 use nv_names::NameIndex;
 use nv_radix::FileIndex;
 use nv_scan::{Numbers, Row};
-use nv_super::{Fault, Kind, Owner, Super};
+use nv_super::{Fault, Kind, Owner};
 use std::alloc::Global;
 use std::test::Fail;
-
-/// One CPU and one table block: inodes have the numbers 1 to 31.
-const SMALL: Super = Super {
-    version: 1,
-    cpus: 1,
-    blocks: 16,
-    table_blocks: 1,
-    state: 0,
-};
 
 fn row(alloc: Global, inode: u64, kind: Kind, links: u32, names: NameIndex) -> Row
     ensures { result.inode ≡ inode }

@@ -5,7 +5,7 @@ use Rattle.std.specs.declared.cmp.Ordering.TheVariants.{Less, Equal}
 use Rattle.nv_super.specs.Layout.{is_number}
 use Rattle.nv_super.specs.declared.superblock.Super.{Super}
 use Rattle.nv_scan.specs.declared.piece.Row.{Row}
-use Rattle.nv_check.proofs.tests.faults_between_four_rows.Goals as goal
+use Rattle.test_recovery.proofs.faults.faults_between_four_rows.Goals as goal
 
 less : (x y i j : ℕ) → x ≡ i → y ≡ j → nat_cmp i j ≡ Less → ordering_then (nat_cmp x y) Equal ≡ Less
 less x y i j p q h = (λ k. ordering_then (nat_cmp (p k) (q k)) Equal) ∙ ap (λ o. ordering_then o Equal) h

@@ -1,37 +1,36 @@
 //! Small regions, written word by word, and what each recovery answers of them.
 
-ghost use Rattle.std.specs.Prelude.{IfOk};
-ghost use Rattle.nv_region.specs.Region.{HasBlocks};
-
-use crate::{RecoverError, Recovered, recover, recover_one, recover_replay};
-use nv_region::{MemRegion, Pmem};
+use crate::small::{DIRECTORY_MODE, SMALL, Word, small_region};
+use nv_recover::{RecoverError, Recovered, recover, recover_one, recover_replay};
+use nv_region::MemRegion;
 use nv_scan::{OpenGate, Row};
-use nv_super::{Fault, Kind, MAGIC, Owner, Run, Super, SuperFault, write_super};
+use nv_super::{Fault, Kind, MAGIC, Owner, Run, SuperFault};
 use std::alloc::Global;
 use std::process::Abort;
 use std::test::Fail;
 use std::thread::Threads;
 
-/// One CPU, 16 blocks, one table block: the slots begin at 8192, and the data blocks are 3 to 15.
-const SMALL: Super = Super {
-    version: 1,
-    cpus: 1,
-    blocks: 16,
-    table_blocks: 1,
-    state: 0,
-};
-
-/// Inode 1 is a directory whose log, block 3, has one attributes entry, of mode 755.
-const ROOT: [(u64, u64); 5] = [
+/// A superblock. Inode 1 is a directory whose log, block 3, has one attributes entry, of mode 755.
+const ROOT: [Word; 10] = [
+    (0, MAGIC),
+    (8, 1),
+    (16, 1),
+    (24, 16),
+    (32, 1),
     (8320, 1),
     (8328, 2),
     (8336, 12288),
     (8344, 12320),
-    (12288, 493 * 4294967296 + 32 * 65536 + 2),
+    (12288, DIRECTORY_MODE),
 ];
 
-/// Inode 2 is a file with the root's log, so two inodes own block 3.
-const SHARED_LOG: [(u64, u64); 9] = [
+/// The same, and inode 2 is a file with the root's log, so two inodes own block 3.
+const SHARED_LOG: [Word; 14] = [
+    (0, MAGIC),
+    (8, 1),
+    (16, 1),
+    (24, 16),
+    (32, 1),
     (8320, 1),
     (8328, 2),
     (8336, 12288),
@@ -40,31 +39,8 @@ const SHARED_LOG: [(u64, u64); 9] = [
     (8456, 1),
     (8464, 12288),
     (8472, 12320),
-    (12288, 493 * 4294967296 + 32 * 65536 + 2),
+    (12288, DIRECTORY_MODE),
 ];
-
-/// A region with a superblock and these words, each after its address.
-fn region(alloc: Global, words: &[(u64, u64)]) -> Result<MemRegion, Fail>
-    ensures { IfOk result (λ m. HasBlocks m.region 16) }
-{
-    let mut memory = MemRegion::new(alloc, 16)?;
-    write_super(&mut memory, &SMALL)?;
-    store(&mut memory, 0, MAGIC)?;
-    for (at, word) in words {
-        store(&mut memory, *at, *word)?;
-    }
-    Ok(memory)
-}
-
-fn store(memory: &mut MemRegion, at: u64, word: u64) -> Result<(), Fail>
-    requires { HasBlocks memory.old.region 16 }
-    ensures { HasBlocks memory.new.region 16 }
-{
-    if at % 8 == 0 && at < 65536 {
-        memory.store(at, word)?;
-    }
-    Ok(())
-}
 
 fn assert_root_row(rt: &impl Abort, row: &Row) {
     assert!(rt; row.inode == 1);
@@ -98,7 +74,7 @@ fn assert_root_alone(rt: &impl Abort, answer: &Recovered) -> Result<(), Fail> {
 
 #[test]
 fn the_root_alone_on_one_thread(rt: HostRuntime) -> Result<(), Fail> {
-    let mut memory = region(rt.alloc(), &ROOT)?;
+    let mut memory = small_region(rt.alloc(), &ROOT)?;
     let answer = recover_one(rt.alloc(), &mut memory)?;
     assert_root_alone(&rt, &answer)
 }
@@ -108,7 +84,7 @@ fn root_by_workers<R: Threads + Abort + Sync>(
     alloc: Global,
     workers: u64,
 ) -> Result<(), Fail> {
-    let mut memory = region(alloc, &ROOT)?;
+    let mut memory = small_region(alloc, &ROOT)?;
     let answer = recover(rt, alloc, &mut memory, workers, &OpenGate)?;
     assert_root_alone(rt, &answer)
 }
@@ -123,7 +99,7 @@ fn the_root_alone_by_workers(rt: HostRuntime) -> Result<(), Fail> {
 
 #[test]
 fn the_root_alone_by_a_schedule(rt: HostRuntime) -> Result<(), Fail> {
-    let mut memory = region(rt.alloc(), &ROOT)?;
+    let mut memory = small_region(rt.alloc(), &ROOT)?;
     let answer = recover_replay(rt.alloc(), &mut memory, 2, &[1, 0, 1, 1, 0])?;
     assert_root_alone(&rt, &answer)
 }
@@ -186,10 +162,32 @@ fn shared_log_by_a_schedule(
 
 #[test]
 fn a_log_that_two_inodes_own_is_told_alike_by_all(rt: HostRuntime) -> Result<(), Fail> {
-    let mut memory = region(rt.alloc(), &SHARED_LOG)?;
+    let mut memory = small_region(rt.alloc(), &SHARED_LOG)?;
     shared_log_on_one_thread(&rt, rt.alloc(), &mut memory)?;
     shared_log_by_workers(&rt, rt.alloc(), &mut memory)?;
     shared_log_by_a_schedule(&rt, rt.alloc(), &mut memory)
+}
+
+fn refusal_by_workers<R: Threads + Sync>(
+    rt: &R,
+    alloc: Global,
+    memory: &mut MemRegion,
+    workers: u64,
+) -> Option<RecoverError> {
+    recover(rt, alloc, memory, workers, &OpenGate).err()
+}
+
+fn refusal_by_a_schedule(
+    alloc: Global,
+    memory: &mut MemRegion,
+    workers: u64,
+    schedule: &[u32],
+) -> Option<RecoverError> {
+    recover_replay(alloc, memory, workers, schedule).err()
+}
+
+fn refusal_on_one_thread(alloc: Global, memory: &mut MemRegion) -> Option<RecoverError> {
+    recover_one(alloc, memory).err()
 }
 
 #[test]
@@ -197,14 +195,14 @@ fn refusals_in_their_order(rt: HostRuntime) -> Result<(), Fail> {
     let alloc: Global = rt.alloc();
     let mut zeros = MemRegion::new(alloc, 16)?;
     for workers in [0, 65] {
-        let answer = recover(&rt, alloc, &mut zeros, workers, &OpenGate);
-        assert!(rt; answer.err() == Some(RecoverError::Workers));
+        let refusal = refusal_by_workers(&rt, alloc, &mut zeros, workers);
+        assert!(rt; refusal == Some(RecoverError::Workers));
     }
-    let answer = recover_replay(alloc, &mut zeros, 65, &[70]);
-    assert!(rt; answer.err() == Some(RecoverError::Workers));
-    let answer = recover_replay(alloc, &mut zeros, 2, &[1, 0, 2, 3]);
-    assert!(rt; answer.err() == Some(RecoverError::Schedule(2)));
-    let answer = recover_one(alloc, &mut zeros);
-    assert!(rt; answer.err() == Some(RecoverError::Super(SuperFault::Magic)));
+    let refusal = refusal_by_a_schedule(alloc, &mut zeros, 65, &[70]);
+    assert!(rt; refusal == Some(RecoverError::Workers));
+    let refusal = refusal_by_a_schedule(alloc, &mut zeros, 2, &[1, 0, 2, 3]);
+    assert!(rt; refusal == Some(RecoverError::Schedule(2)));
+    let refusal = refusal_on_one_thread(alloc, &mut zeros);
+    assert!(rt; refusal == Some(RecoverError::Super(SuperFault::Magic)));
     Ok(())
 }

@@ -1,13 +1,12 @@
 //! Two workers are at work at the same time: each waits, for so many turns at most, until the other was seen.
 
-ghost use Rattle.std.proofs.Common.{inl, refl};
-ghost use Rattle.nv_region.specs.RegionState.{fenced_or_last, is_steady, steady_unburnt};
-
-use crate::{RecoverError, recover};
-use nv_region::{MemRegion, Pmem, RegionRefusal, Stopped};
+use crate::small::{DIRECTORY_MODE, Word};
+use crate::watched::{Watch, WatchedRegion};
+use nv_recover::{RecoverError, recover};
+use nv_region::{MemRegion, Pmem, RegionRefusal};
 use nv_scan::{Gate, OpenGate};
+use nv_super::MAGIC;
 use std::sync::atomic::{AtomicBool, Ordering};
-use std::test::Fail;
 
 /// The most turns that a party waits for the other.
 const TURNS: u64 = 10_000_000;
@@ -73,55 +72,25 @@ const FIRST_SLOT: u64 = 16384;
 /// The valid word of inode 2.
 const SECOND_SLOT: u64 = 12416;
 
-/// A region at which the workers that load the valid words of inodes 1 and 2 meet.
+/// A meeting of the workers that load the valid words of inodes 1 and 2.
 #[derive(Drop)]
-struct MeetingRegion {
-    memory: MemRegion,
+struct MeetingLoads {
     meeting: Meeting,
 }
 
-impl Pmem for MeetingRegion {
-    ghost region = { λ m. m.memory.region };
-
-    ghost may_hold = { λ m. fenced_or_last m.memory };
-
-    ghost has_burnt = { λ m. m.memory.burnt };
-
-    ghost is_steady = { λ m. is_steady m.memory };
-
-    ghost is_open = { λ m limit. is_steady m.memory };
-
-    ghost unburnt = { λ m. steady_unburnt m.memory };
-
-    ghost open_unburnt = { λ m limit. steady_unburnt m.memory };
-
-    ghost holds_now = { λ m i. inl refl };
-
-    fn len(&self) -> u64 {
-        self.memory.len()
-    }
-
-    fn load(&self, at: u64) -> u64 {
+impl Watch for MeetingLoads {
+    fn loads(&self, at: u64) {
         match at {
             FIRST_SLOT => self.meeting.first(),
             SECOND_SLOT => self.meeting.second(),
             _ => {}
         }
-        self.memory.load(at)
-    }
-
-    fn store(&mut self, at: u64, value: u64) -> Result<(), Stopped> {
-        self.memory.store(at, value)
-    }
-
-    fn fence(&mut self) -> Result<(), Stopped> {
-        self.memory.fence()
     }
 }
 
 /// The words of a region of two CPUs and 64 blocks, in which the root alone is in use.
-const WORDS: [(u64, u64); 12] = [
-    (0, 0x3130_4d50_4156_4f4e),
+const WORDS: [Word; 10] = [
+    (0, MAGIC),
     (8, 1),
     (16, 2),
     (24, 64),
@@ -130,9 +99,7 @@ const WORDS: [(u64, u64); 12] = [
     (FIRST_SLOT + 8, 2),
     (FIRST_SLOT + 16, 20480),
     (FIRST_SLOT + 24, 20512),
-    (20480, 493 * 4294967296 + 32 * 65536 + 2),
-    (20488, 0),
-    (20496, 0),
+    (20480, DIRECTORY_MODE),
 ];
 
 fn region_of_two(rt: HostRuntime) -> Result<MemRegion, RegionRefusal> {
@@ -177,12 +144,14 @@ fn two_tickets_at_once(rt: HostRuntime) -> Result<(), Failure> {
 
 #[test]
 fn two_inodes_are_read_at_once(rt: HostRuntime) -> Result<(), Failure> {
-    let mut memory = MeetingRegion {
+    let mut memory = WatchedRegion {
         memory: region_of_two(rt)?,
-        meeting: Meeting::new(),
+        watch: MeetingLoads {
+            meeting: Meeting::new(),
+        },
     };
     let recovered = recover(&rt, rt.alloc(), &mut memory, 2, &OpenGate)?;
     assert_eq!(rt; recovered.faults.len(), 0);
-    assert!(rt; memory.meeting.both_met());
+    assert!(rt; memory.watch.meeting.both_met());
     Ok(())
 }

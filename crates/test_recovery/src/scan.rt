@@ -1,35 +1,19 @@
 //! Inodes of small regions, written word by word, and their pieces.
 
-ghost use Rattle.std.specs.Prelude.{◌≡◌, ◌<◌, IfOk};
-ghost use Rattle.nv_region.specs.Region.{HasBlocks};
-ghost use Rattle.nv_claimcore.specs.Claims.{nothing};
-
-use crate::{
+use crate::small::{DIRECTORY_MODE, SMALL, opened_for_one, small_region};
+use nv_claimmap::Claimed;
+use nv_names::Target;
+use nv_scan::{
     Numbers, OpenGate, Piece, Row, Scanner, directories_have_no_pages, files_have_no_names,
     in_use_by_the_slot, inode_alone, mapped_pages_begin_below_the_size, names_are_listed,
     one_block, one_inode, owned_blocks_are_data_blocks, scan_slot, worker,
 };
-use nv_claimcore::Sizes;
-use nv_claimmap::{ClaimMap, ClaimSeat, Claimed};
-use nv_names::Target;
-use nv_region::{MemRegion, Pmem};
-use nv_super::{Fault, Kind, Owner, Super};
+use nv_super::{Fault, Kind, Owner};
 use std::alloc::{AllocError, Global};
 use std::process::Abort;
 use std::test::Fail;
 
-/// One CPU, 16 blocks, one table block: the slots begin at 8192, and the data blocks are 3 to 15.
-const SMALL: Super = Super {
-    version: 1,
-    cpus: 1,
-    blocks: 16,
-    table_blocks: 1,
-    state: 0,
-};
-
 /// The first words of an attributes entry of a mode, of a write of pages, and of an add and a removal of a one-byte name.
-const DIRECTORY_MODE: u64 = 493 * 4294967296 + 32 * 65536 + 2;
-
 const FILE_MODE: u64 = 420 * 4294967296 + 32 * 65536 + 2;
 
 const WRITE_ONE: u64 = 4294967296 + 40 * 65536 + 1;
@@ -40,30 +24,9 @@ const ADD: u64 = 4297064707;
 
 const REMOVE: u64 = 4297064963;
 
-/// A region of zeros but for these words, each after its address.
-fn region(alloc: Global, words: &[(u64, u64)]) -> Result<MemRegion, Fail>
-    ensures { IfOk result (λ m. HasBlocks m.region 16) }
-{
-    let mut memory = MemRegion::new(alloc, 16)?;
-    for (at, word) in words {
-        store(&mut memory, *at, *word)?;
-    }
-    Ok(memory)
-}
-
-fn store(memory: &mut MemRegion, at: u64, word: u64) -> Result<(), Fail>
-    requires { HasBlocks memory.old.region 16 }
-    ensures { HasBlocks memory.new.region 16 }
-{
-    if at % 8 == 0 && at < 65536 {
-        memory.store(at, word)?;
-    }
-    Ok(())
-}
-
 /// The piece of inode 1, whose slot is at 8320.
 fn scan(alloc: Global, words: &[(u64, u64)]) -> Result<Piece, Fail> {
-    let memory = region(alloc, words)?;
+    let memory = small_region(alloc, words)?;
     Ok(scan_slot(alloc, &memory, &SMALL, 1)?)
 }
 
@@ -108,22 +71,6 @@ const OWNED_BY_FILE: [(u64, Owner); 4] = [
     (6, Owner::Data { inode: 2, page: 1 }),
     (9, Owner::Data { inode: 2, page: 2 }),
 ];
-
-/// A claim map of the small region, with its one seat.
-fn opened(alloc: Global) -> Result<(ClaimMap, ClaimSeat), AllocError>
-    ensures { IfOk result (λ r. (r.1.map ≡ r.0) × (r.1.view ≡ nothing 1) × (r.0.sizes ≡ record { blocks = 16; tickets = 31; workers = 1 })) }
-{
-    let sizes = Sizes {
-        blocks: 16,
-        tickets: 31,
-        workers: 1,
-    };
-    let (map, mut seats) = ClaimMap::open(alloc, sizes)?;
-    let Some(seat) = seats.pop() else {
-        unreachable!()
-    };
-    Ok((map, seat))
-}
 
 /// A directory, inode 1, whose log in block 3 sets its mode and adds the name a.
 const ONE_NAME: [(u64, u64); 9] = [
@@ -296,7 +243,7 @@ fn a_wrong_head_is_told_and_no_log_is_read(rt: HostRuntime) -> Result<(), Fail> 
 
 /// The piece of inode 2, twice by one scanner.
 fn scanned_twice(alloc: Global) -> Result<(Piece, Piece), Fail> {
-    let memory = region(alloc, &TWO_INODES)?;
+    let memory = small_region(alloc, &TWO_INODES)?;
     let mut scanner = Scanner::new(alloc, &SMALL);
     let first = scanner.scan(&memory, 2)?;
     let second = scanner.scan(&memory, 2)?;
@@ -313,8 +260,8 @@ fn a_scanner_reads_a_log_again(rt: HostRuntime) -> Result<(), Fail> {
 
 /// What a worker finds in the region of two inodes, and the map closed after it.
 fn worked(alloc: Global) -> Result<(Vec<Piece>, Claimed), Fail> {
-    let memory = region(alloc, &TWO_INODES)?;
-    let (map, seat) = opened(alloc)?;
+    let memory = small_region(alloc, &TWO_INODES)?;
+    let (map, seat) = opened_for_one(alloc)?;
     let done = worker(alloc, &memory, &SMALL, &map, seat, &OpenGate);
     if done.refused {
         return Err(AllocError)?;

@@ -1,0 +1,71 @@
+//! A small region and its claim maps. The slot of inode `i` begins at `8192 + 128 * i`, and the data blocks are 3 to 15.
+
+ghost use Rattle.std.specs.Prelude.{◌≡◌, IfOk};
+ghost use Rattle.nv_region.specs.Region.{HasBlocks};
+ghost use Rattle.nv_claimcore.specs.Claims.{nothing};
+
+use nv_claimcore::Sizes;
+use nv_claimmap::{ClaimMap, ClaimSeat};
+use nv_region::{MemRegion, Pmem, RegionRefusal};
+use nv_super::Super;
+use std::alloc::{AllocError, Global};
+
+/// One CPU, 16 blocks, one table block.
+pub const SMALL: Super = Super {
+    version: 1,
+    cpus: 1,
+    blocks: 16,
+    table_blocks: 1,
+    state: 0,
+};
+
+/// A word at its address.
+pub type Word = (u64, u64);
+
+/// The first word of the attributes entry of a directory of mode 755, whose other words are zeros.
+pub const DIRECTORY_MODE: u64 = 493 * 4294967296 + 32 * 65536 + 2;
+
+/// Sixteen blocks of zeros but for these words.
+pub fn small_region(alloc: Global, words: &[Word]) -> Result<MemRegion, RegionRefusal>
+    ensures { IfOk result (λ m. HasBlocks m.region 16) }
+{
+    let mut memory = MemRegion::new(alloc, 16)?;
+    for (at, word) in words {
+        if *at % 8 == 0 && *at < 65536 {
+            let _unstopped = memory.store(*at, *word);
+        }
+    }
+    Ok(memory)
+}
+
+/// A claim map of the small region for one worker, with its seat.
+pub fn opened_for_one(alloc: Global) -> Result<(ClaimMap, ClaimSeat), AllocError>
+    ensures { IfOk result (λ r. (r.1.map ≡ r.0) × (r.1.view ≡ nothing 1) × (r.0.sizes ≡ record { blocks = 16; tickets = 31; workers = 1 })) }
+{
+    let sizes = Sizes {
+        blocks: 16,
+        tickets: 31,
+        workers: 1,
+    };
+    let (map, mut seats) = ClaimMap::open(alloc, sizes)?;
+    let Some(seat) = seats.pop() else {
+        unreachable!()
+    };
+    Ok((map, seat))
+}
+
+/// A claim map of the small region for two workers, with the seat of the second.
+pub fn opened_for_two(alloc: Global) -> Result<(ClaimMap, ClaimSeat), AllocError>
+    ensures { IfOk result (λ r. (r.1.map ≡ r.0) × (r.1.view ≡ nothing 1) × (r.0.sizes ≡ record { blocks = 16; tickets = 31; workers = 2 })) }
+{
+    let sizes = Sizes {
+        blocks: 16,
+        tickets: 31,
+        workers: 2,
+    };
+    let (map, mut seats) = ClaimMap::open(alloc, sizes)?;
+    let Some(seat) = seats.pop() else {
+        unreachable!()
+    };
+    Ok((map, seat))
+}
