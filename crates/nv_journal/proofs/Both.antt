@@ -5,7 +5,7 @@ use Rattle.std.proofs.lemmas.List.FromFn.{get_or-map-range_with_len, length-map-
 use Rattle.std.proofs.lemmas.Bool.{cases_eq, cases_lt}
 use Rattle.std.proofs.lemmas.Bool.Decides.{nat_tests}
 use Rattle.std.specs.List.{range_with_len}
-use Rattle.nv_region.specs.Region.{Region, size, word, put}
+use Rattle.nv_region.specs.Region.{Region, word, put}
 use Rattle.nv_region.specs.Stops.{IsMixed}
 use Rattle.nv_region.specs.Stored.{SameOutside}
 use Rattle.nv_region.proofs.Wordwise.{mixed_word}
@@ -54,10 +54,10 @@ module _ (R S : Region) (cpu first second a b : ℕ) (one : a ≡ word R first) 
   both : (first, a) ∷ (second, b) ∷ [] ≡ both_of R first second
   both = λ i. (first, one i) ∷ (second, two i) ∷ []
 
-  pub both_begun : Begun R cpu ((first, a) ∷ (second, b) ∷ []) S → Begun R cpu (both_of R first second) S
+  both_begun : Begun R cpu ((first, a) ∷ (second, b) ∷ []) S → Begun R cpu (both_of R first second) S
   both_begun = subst (λ (l : List (ℕ × ℕ)). Begun R cpu l S) both
 
-  pub both_pending : HasRecords S cpu ((first, a) ∷ (second, b) ∷ []) → HasRecords S cpu (both_of R first second)
+  both_pending : HasRecords S cpu ((first, a) ∷ (second, b) ∷ []) → HasRecords S cpu (both_of R first second)
   both_pending = subst (λ (l : List (ℕ × ℕ)). HasRecords S cpu l) both
 
 -- rolled back, the words are as before
@@ -215,17 +215,21 @@ still_small S Q cpu first v second w records has behind is =
     let sound = has.sound in
     grind (arith, nat_tests)
 
--- the moments of a change of two words
-module _ (permits : ℕ → Bool) (cpus : ℕ) (R : Region) (cpu first v second w : ℕ) (can : CanUndo permits cpus R cpu first second) where
-  pub while_begun : (S : Region) → Begun R cpu (both_of R first second) S → BeforeOrAfter permits cpus R first v second w S
-  while_begun S begun = inl (begun_before permits cpus R cpu first second can.inside can.quiet can.permits_first can.permits_second can.rule S begun)
+-- the moments of a change of two words, by the values that were loaded of them
+module _ (permits : ℕ → Bool) (cpus : ℕ) (R : Region) (cpu first v second w a b : ℕ) (one : a ≡ word R first) (two : b ≡ word R second) (can : CanUndo permits cpus R cpu first second) where
+  abbrev Loaded : List (ℕ × ℕ)
+  Loaded = (first, a) ∷ (second, b) ∷ []
 
-  module _ (S : Region) (begun : Begun R cpu (both_of R first second) S) (has : HasRecords S cpu (both_of R first second)) where
+  pub while_begun : (S : Region) → Begun R cpu Loaded S → BeforeOrAfter permits cpus R first v second w S
+  while_begun S begun = inl (begun_before permits cpus R cpu first second can.inside can.quiet can.permits_first can.permits_second can.rule S (both_begun R S cpu first second a b one two begun))
+
+  module _ (S : Region) (begun : Begun R cpu Loaded S) (has : HasRecords S cpu Loaded) where
     pub while_pending : (X : Region) → IsMixed S (Two first v second w) X → BeforeOrAfter permits cpus R first v second w X
-    while_pending X mixed = inl (mixed_before permits cpus R cpu first second can.inside can.quiet can.permits_first can.permits_second can.rule S begun has v w X mixed)
+    while_pending X mixed =
+        inl (mixed_before permits cpus R cpu first second can.inside can.quiet can.permits_first can.permits_second can.rule S (both_begun R S cpu first second a b one two begun) (both_pending R S cpu first second a b one two has) v w X mixed)
 
     -- the number that empties the journal is lost, or it is there
     pub once_stored : (Q X : Region) → Q ≡ put (put S first v) second w → IsMixed S (Two first v second w) Q → (X ≡ Q) ⊎ (X ≡ put Q (journal cpu) (enqueue Q cpu)) → BeforeOrAfter permits cpus R first v second w X
     once_stored Q X is mixed (inl same) = while_pending X (subst (λ (Y : Region). IsMixed S (Two first v second w) Y) (sym same) mixed)
     once_stored Q X is mixed (inr emptied) =
-        inr (emptied_after permits cpus R cpu first second can.inside can.quiet can.permits_first can.permits_second can.rule S begun v w X (emptied ∙ ap (λ (Y : Region). put Y (journal cpu) (enqueue Y cpu)) is) can.journals)
+        inr (emptied_after permits cpus R cpu first second can.inside can.quiet can.permits_first can.permits_second can.rule S (both_begun R S cpu first second a b one two begun) v w X (emptied ∙ ap (λ (Y : Region). put Y (journal cpu) (enqueue Y cpu)) is) can.journals)

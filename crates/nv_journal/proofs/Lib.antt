@@ -4,6 +4,7 @@ pub mod AnyLength
 pub mod Again
 pub mod Resumed
 pub mod Partly
+pub mod Turns
 pub mod Listed
 pub mod Words
 pub mod SuperKept

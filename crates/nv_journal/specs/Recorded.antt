@@ -1,14 +1,14 @@
 -- What is stored while a journal is in use.
-use Rattle.std.specs.Prelude.{◌≡◌, ◌⊎◌, ◌<◌, ◌+◌, ◌*◌, ◌/◌, ◌%◌, ℕ, List, get_or}
+use Rattle.std.specs.Prelude.{◌≡◌, ◌⊎◌, ◌<◌, ◌+◌, ◌/◌, ℕ, List, get_or}
 use Rattle.nv_region.specs.Region.{Region, word}
 use Rattle.nv_region.specs.Stops.{Choices}
 use Rattle.nv_region.specs.Stored.{Within}
-use Rattle.nv_journal.specs.Undo.{journal}
+use Rattle.nv_journal.specs.Undo.{journal, place_of}
+use Rattle.nv_journal.specs.declared.pending.Pending.{Pending}
 
--- the first of the records stand in the places from a number on, where 0 comes after 251
-abbrev pub Recorded : Region → ℕ → ℕ → List (ℕ × ℕ) → ℕ → Type 0
-Recorded R base from records count = (j : ℕ) → j < count
-    → (word R (base + 64 + 16 * ((from + j) % 252)) ≡ (get_or records j (0, 0)).0) × (word R (base + 64 + 16 * ((from + j) % 252) + 8) ≡ (get_or records j (0, 0)).1)
+-- the first of the records stand in the places from the dequeue number on
+abbrev pub Recorded : Region → Pending → List (ℕ × ℕ) → ℕ → Type 0
+Recorded R p records count = (j : ℕ) → j < count → (word R (place_of p j) ≡ (get_or records j (0, 0)).0) × (word R (place_of p j + 8) ≡ (get_or records j (0, 0)).1)
 
 -- these values at these two addresses
 abbrev pub Two : ℕ → ℕ → ℕ → ℕ → Choices

@@ -12,9 +12,8 @@ ghost use Rattle.nv_journal.specs.Undo.{journal, enqueue};
 ghost use Rattle.nv_journal.specs.Pending.{BeforeOrAfter, Begun, CanUndo, HasRecords, IsEmpty};
 ghost use Rattle.nv_journal.specs.Recorded.{Recorded, Changes, Two};
 
-use crate::journal::{FIRST_RECORD, PLACES, RECORD_SIZE};
+use crate::pending::{Pending, dequeue_word, enqueue_word};
 use nv_region::{Pmem, Stopped, commit_word, store_word};
-use nv_super::BLOCK_SIZE;
 
 /// Makes records pending in the empty journal of a CPU: of each word that is about to change its byte address, which is
 /// a permitted one, and the value that it has now. A journal has room for 251.
@@ -36,39 +35,34 @@ pub fn begin<P: Pmem>(memory: &mut P, cpu: u64, records: &[(u64, u64)]) -> Resul
     ensures settled { OnOk result (NothingPending (P.region memory.new) (P.may_hold memory.new)) }
     ensures any_stop { NothingPending (P.region memory.old) (P.may_hold memory.old) → LeavesOnly (P.region memory.new) (P.may_hold memory.new) (Begun (P.region memory.old) cpu records.now) }
 {
-    // The region's length is a u64, and so is each address up to it.
-    let _end = memory.len();
-    let base = BLOCK_SIZE * (1 + cpu);
-    let from = memory.load(base + 8);
-    let to = (from + records.len() as u64) % PLACES;
-    write_records(memory, base, from, records)?;
+    let pending = Pending::read(memory, cpu);
+    write_records(memory, &pending, records)?;
     memory.fence()?;
-    commit_word(memory, base + 8, to)
+    let behind_all = pending.number(records.len() as u64);
+    commit_word(memory, enqueue_word(cpu), behind_all)
 }
 
-/// Writes records to the places from a number on, where 0 comes after 251.
+/// Writes records to the places behind the pending ones' dequeue number.
 fn write_records<P: Pmem>(
     memory: &mut P,
-    base: u64,
-    from: u64,
+    pending: &Pending,
     records: &[(u64, u64)],
 ) -> Result<(), Stopped>
-    requires aligned { base % 4096 ≡ 0 }
-    requires inside { base + 4096 ≤ size (P.region memory.old) }
-    requires small { size (P.region memory.old) < 2 ^ 64 }
-    requires from { from < 252 }
+    requires inside { journal pending.now.cpu + 4096 ≤ size (P.region memory.old) }
+    requires fits { journal pending.now.cpu + 4096 < 2 ^ 64 }
+    requires dequeue { pending.now.dequeue < 252 }
     requires few { length records.now ≤ 251 }
-    ensures recorded { OnOk result (Recorded (P.region memory.new) base from records.now (length records.now)) }
-    ensures wrote { StoresOnly (Within (base + 64) 4032) (P.region memory.old) (P.region memory.new) (P.may_hold memory.old) (P.may_hold memory.new) }
+    ensures recorded { OnOk result (Recorded (P.region memory.new) pending.now records.now (length records.now)) }
+    ensures wrote { StoresOnly (Within (journal pending.now.cpu + 64) 4032) (P.region memory.old) (P.region memory.new) (P.may_hold memory.old) (P.may_hold memory.new) }
     ensures len { size (P.region memory.new) ≡ size (P.region memory.old) }
     ensures stopped { OnErr result (IsTrue (P.has_burnt memory.new)) }
     ensures burnt { StaysBurnt (P.has_burnt memory.old) (P.has_burnt memory.new) }
     ensures steady { StaysSteady (P.is_steady memory.old) (P.is_steady memory.new) }
-    ensures open { (limit : ℕ) → base + 4096 ≤ limit → StaysOpen limit (P.is_open memory.old) (P.is_open memory.new) }
+    ensures open { (limit : ℕ) → journal pending.now.cpu + 4096 ≤ limit → StaysOpen limit (P.is_open memory.old) (P.is_open memory.new) }
 {
     for k in 0..records.len() {
         let record = records[k];
-        let place = base + FIRST_RECORD + RECORD_SIZE * ((from + k as u64) % PLACES);
+        let place = pending.place(k as u64);
         store_word(memory, place, record.0)?;
         store_word(memory, place + 8, record.1)?;
     }
@@ -93,11 +87,9 @@ pub fn commit<P: Pmem>(memory: &mut P, cpu: u64) -> Result<(), Stopped>
     ensures any_stop { NothingPending (P.region memory.old) (P.may_hold memory.old) → LeavesOnly (P.region memory.new) (P.may_hold memory.new)
         (λ left. (left ≡ P.region memory.old) ⊎ (left ≡ put (P.region memory.old) (journal cpu) (enqueue (P.region memory.old) cpu))) }
 {
-    // The region's length is a u64, and so is each address up to it.
-    let _end = memory.len();
-    let base = BLOCK_SIZE * (1 + cpu);
-    let enqueue = memory.load(base + 8);
-    commit_word(memory, base, enqueue)
+    let pending = Pending::read(memory, cpu);
+    // Unfenced, later stores could be kept and this one lost: the records would then undo those stores' words.
+    commit_word(memory, dequeue_word(cpu), pending.enqueue)
 }
 
 /// Changes the words at two permitted byte addresses together, by the empty journal of a CPU: where nothing was

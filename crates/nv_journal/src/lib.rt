@@ -8,8 +8,8 @@
 
 mod committing;
 mod faults;
-mod journal;
 mod laws;
+mod pending;
 mod rollback;
 mod undoing;
 

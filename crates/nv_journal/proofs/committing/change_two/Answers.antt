@@ -1,4 +1,4 @@
-use Rattle.std.proofs.Common.{inl, inr, ap, ◌∙◌, ◌+◌, arith}
+use Rattle.std.proofs.Common.{inl, inr, ap, ◌∙◌, arith}
 use Rattle.std.proofs.lemmas.Result.{on_ok_weaker}
 use Rattle.nv_region.specs.Region.{Region, put}
 use Rattle.nv_region.specs.Stops.{One}
@@ -7,18 +7,16 @@ use Rattle.nv_region.proofs.Stops.{mixed_left}
 use Rattle.nv_region.proofs.Wordwise.{stores_more, stores_within, within_one}
 use Rattle.nv_journal.specs.Undo.{journal, enqueue}
 use Rattle.nv_journal.specs.Recorded.{Changes, Two}
-use Rattle.nv_journal.proofs.Both.{both_begun, both_pending, while_begun, while_pending, once_stored, still_small, changed}
+use Rattle.nv_journal.proofs.Both.{while_begun, while_pending, once_stored, still_small, changed}
 use Rattle.nv_journal.proofs.committing.change_two.Goals as goal
 
 pub returns-in_err-begin-clause-reads : goal.returns-in_err-begin-clause-reads
 returns-in_err-begin-clause-reads g c permits cpus can =
-    while_begun permits cpus (g.P.Pmem.region c.args.memory.now) c.args.cpu c.args.first c.args.first_value c.args.second c.args.second_value can (g.P.Pmem.region c.begin.new.memory)
-    (both_begun (g.P.Pmem.region c.args.memory.now) (g.P.Pmem.region c.begin.new.memory) c.args.cpu c.args.first c.args.second _ _ c.load-old_first.ensures c.load-old_second.ensures c.begin.ensures.reads)
+    while_begun permits cpus (g.P.Pmem.region c.args.memory.now) c.args.cpu c.args.first c.args.first_value c.args.second c.args.second_value _ _ c.load-old_first.ensures c.load-old_second.ensures can _ c.begin.ensures.reads
 
 pub returns-in_err-begin-clause-any_stop : goal.returns-in_err-begin-clause-any_stop
 returns-in_err-begin-clause-any_stop g c permits cpus can settled left may =
-    while_begun permits cpus (g.P.Pmem.region c.args.memory.now) c.args.cpu c.args.first c.args.first_value c.args.second c.args.second_value can left
-    (both_begun (g.P.Pmem.region c.args.memory.now) left c.args.cpu c.args.first c.args.second _ _ c.load-old_first.ensures c.load-old_second.ensures (c.begin.ensures.any_stop settled left may))
+    while_begun permits cpus (g.P.Pmem.region c.args.memory.now) c.args.cpu c.args.first c.args.first_value c.args.second c.args.second_value _ _ c.load-old_first.ensures c.load-old_second.ensures can left (c.begin.ensures.any_stop settled left may)
 
 pub returns-in_err-begin-clause-wrote : goal.returns-in_err-begin-clause-wrote
 returns-in_err-begin-clause-wrote g c =
@@ -26,16 +24,12 @@ returns-in_err-begin-clause-wrote g c =
 
 pub returns-in_err-store_both-clause-reads : goal.returns-in_err-store_both-clause-reads
 returns-in_err-store_both-clause-reads g c permits cpus can =
-    let begun = both_begun (g.P.Pmem.region c.args.memory.now) (g.P.Pmem.region c.begin.new.memory) c.args.cpu c.args.first c.args.second _ _ c.load-old_first.ensures c.load-old_second.ensures c.begin.ensures.reads in
-    let has = both_pending (g.P.Pmem.region c.args.memory.now) (g.P.Pmem.region c.begin.new.memory) c.args.cpu c.args.first c.args.second _ _ c.load-old_first.ensures c.load-old_second.ensures c.in_ok-begin.ensures.pending in
-    while_pending permits cpus (g.P.Pmem.region c.args.memory.now) c.args.cpu c.args.first c.args.first_value c.args.second c.args.second_value can (g.P.Pmem.region c.begin.new.memory) begun has _ c.store_both.ensures.wrote.mixed
+    while_pending permits cpus (g.P.Pmem.region c.args.memory.now) c.args.cpu c.args.first c.args.first_value c.args.second c.args.second_value _ _ c.load-old_first.ensures c.load-old_second.ensures can _ c.begin.ensures.reads c.in_ok-begin.ensures.pending _ c.store_both.ensures.wrote.mixed
 
 pub returns-in_err-store_both-clause-any_stop : goal.returns-in_err-store_both-clause-any_stop
 returns-in_err-store_both-clause-any_stop g c permits cpus can settled left may =
-    let begun = both_begun (g.P.Pmem.region c.args.memory.now) (g.P.Pmem.region c.begin.new.memory) c.args.cpu c.args.first c.args.second _ _ c.load-old_first.ensures c.load-old_second.ensures c.begin.ensures.reads in
-    let has = both_pending (g.P.Pmem.region c.args.memory.now) (g.P.Pmem.region c.begin.new.memory) c.args.cpu c.args.first c.args.second _ _ c.load-old_first.ensures c.load-old_second.ensures c.in_ok-begin.ensures.pending in
-    while_pending permits cpus (g.P.Pmem.region c.args.memory.now) c.args.cpu c.args.first c.args.first_value c.args.second c.args.second_value can (g.P.Pmem.region c.begin.new.memory) begun has left
-    (mixed_left (g.P.Pmem.region c.begin.new.memory) (g.P.Pmem.region c.store_both.new.memory) (Two c.args.first c.args.first_value c.args.second c.args.second_value) _ _ c.store_both.ensures.wrote.mixed.as_long c.store_both.ensures.wrote.mixed.same_rest c.in_ok-begin.ensures.settled c.store_both.ensures.wrote.adds left may)
+    while_pending permits cpus (g.P.Pmem.region c.args.memory.now) c.args.cpu c.args.first c.args.first_value c.args.second c.args.second_value _ _ c.load-old_first.ensures c.load-old_second.ensures can _ c.begin.ensures.reads c.in_ok-begin.ensures.pending left
+    (mixed_left _ _ (Two c.args.first c.args.first_value c.args.second c.args.second_value) _ _ c.store_both.ensures.wrote.mixed.as_long c.store_both.ensures.wrote.mixed.same_rest c.in_ok-begin.ensures.settled c.store_both.ensures.wrote.adds left may)
 
 pub returns-in_err-store_both-clause-wrote : goal.returns-in_err-store_both-clause-wrote
 returns-in_err-store_both-clause-wrote g c =
@@ -45,17 +39,11 @@ returns-in_err-store_both-clause-wrote g c =
 
 pub returns-clause-reads : goal.returns-clause-reads
 returns-clause-reads g c permits cpus can =
-    let begun = both_begun (g.P.Pmem.region c.args.memory.now) (g.P.Pmem.region c.begin.new.memory) c.args.cpu c.args.first c.args.second _ _ c.load-old_first.ensures c.load-old_second.ensures c.begin.ensures.reads in
-    let has = both_pending (g.P.Pmem.region c.args.memory.now) (g.P.Pmem.region c.begin.new.memory) c.args.cpu c.args.first c.args.second _ _ c.load-old_first.ensures c.load-old_second.ensures c.in_ok-begin.ensures.pending in
-    once_stored permits cpus (g.P.Pmem.region c.args.memory.now) c.args.cpu c.args.first c.args.first_value c.args.second c.args.second_value can (g.P.Pmem.region c.begin.new.memory) begun has
-    (g.P.Pmem.region c.store_both.new.memory) (g.P.Pmem.region c.commit.new.memory) c.in_ok-store_both.ensures.done c.store_both.ensures.wrote.mixed c.commit.ensures.reads
+    once_stored permits cpus (g.P.Pmem.region c.args.memory.now) c.args.cpu c.args.first c.args.first_value c.args.second c.args.second_value _ _ c.load-old_first.ensures c.load-old_second.ensures can _ c.begin.ensures.reads c.in_ok-begin.ensures.pending _ _ c.in_ok-store_both.ensures.done c.store_both.ensures.wrote.mixed c.commit.ensures.reads
 
 pub returns-clause-any_stop : goal.returns-clause-any_stop
 returns-clause-any_stop g c permits cpus can settled left may =
-    let begun = both_begun (g.P.Pmem.region c.args.memory.now) (g.P.Pmem.region c.begin.new.memory) c.args.cpu c.args.first c.args.second _ _ c.load-old_first.ensures c.load-old_second.ensures c.begin.ensures.reads in
-    let has = both_pending (g.P.Pmem.region c.args.memory.now) (g.P.Pmem.region c.begin.new.memory) c.args.cpu c.args.first c.args.second _ _ c.load-old_first.ensures c.load-old_second.ensures c.in_ok-begin.ensures.pending in
-    once_stored permits cpus (g.P.Pmem.region c.args.memory.now) c.args.cpu c.args.first c.args.first_value c.args.second c.args.second_value can (g.P.Pmem.region c.begin.new.memory) begun has
-    (g.P.Pmem.region c.store_both.new.memory) left c.in_ok-store_both.ensures.done c.store_both.ensures.wrote.mixed (c.commit.ensures.any_stop c.in_ok-store_both.ensures.settled left may)
+    once_stored permits cpus (g.P.Pmem.region c.args.memory.now) c.args.cpu c.args.first c.args.first_value c.args.second c.args.second_value _ _ c.load-old_first.ensures c.load-old_second.ensures can _ c.begin.ensures.reads c.in_ok-begin.ensures.pending _ left c.in_ok-store_both.ensures.done c.store_both.ensures.wrote.mixed (c.commit.ensures.any_stop c.in_ok-store_both.ensures.settled left may)
 
 pub returns-clause-wrote : goal.returns-clause-wrote
 returns-clause-wrote g c =
@@ -67,9 +55,8 @@ returns-clause-wrote g c =
 
 pub returns-clause-done : goal.returns-clause-done
 returns-clause-done g c =
-    let begun = both_begun (g.P.Pmem.region c.args.memory.now) (g.P.Pmem.region c.begin.new.memory) c.args.cpu c.args.first c.args.second _ _ c.load-old_first.ensures c.load-old_second.ensures c.begin.ensures.reads in
     on_ok_weaker c.commit.result
-    (λ done. changed (g.P.Pmem.region c.args.memory.now) (g.P.Pmem.region c.begin.new.memory) _ c.args.cpu c.args.first c.args.first_value c.args.second c.args.second_value _ begun
+    (λ done. changed (g.P.Pmem.region c.args.memory.now) (g.P.Pmem.region c.begin.new.memory) _ c.args.cpu c.args.first c.args.first_value c.args.second c.args.second_value _ c.begin.ensures.reads
     (done ∙ ap (λ (X : Region). put X (journal c.args.cpu) (enqueue X c.args.cpu)) c.in_ok-store_both.ensures.done)) c.commit.ensures.done
 
 pub returns-clause-empty : goal.returns-clause-empty

@@ -1,28 +1,33 @@
-use Rattle.std.proofs.Common.{arith, refl, ◌+◌, ◌*◌, ◌%◌, ◌∙◌}
+use Rattle.std.proofs.Common.{arith, refl, ◌+◌, ◌∙◌}
 use Rattle.nv_region.proofs.Wordwise.{stores_more, stored_only, within_one}
+use Rattle.nv_journal.specs.Undo.{journal}
 use Rattle.nv_journal.proofs.Recording.{record_more}
 use Rattle.nv_journal.proofs.committing.write_records.Goals as goal
 
 pub returns-in_err-store_word-2-clause-wrote : goal.returns-in_err-store_word-2-clause-wrote
 returns-in_err-store_word-2-clause-wrote g c =
-    let place = c.args.base + 64 + 16 * ((c.args.from + c.loop-k.k) % 252) in
-    stores_more _ _ _ _ _ _ _ _ (within_one (c.args.base + 64) 4032 (place + 8) _ (omega arith) (omega arith) (omega arith))
-    (stores_more _ _ _ _ _ _ _ _ (within_one (c.args.base + 64) 4032 place _ (omega arith) (omega arith) (omega arith)) c.loop-k.invariant.wrote
-    (stored_only c.store_word.result _ _ place _ _ _ (omega arith) c.store_word.ensures.stored c.store_word.ensures.refused c.store_word.ensures.may_keep))
-    (stored_only c.store_word-in-loop-k.result _ _ (place + 8) _ _ _ (omega arith) c.store_word-in-loop-k.ensures.stored c.store_word-in-loop-k.ensures.refused c.store_word-in-loop-k.ensures.may_keep)
+    let base = journal c.args.pending.now.cpu in
+    let place = c.place-place.result in
+    let stands = c.place-place.ensures in
+    stores_more _ _ _ _ _ _ _ _ (within_one (base + 64) 4032 (place + 8) _ (omega (arith, stands)) (omega (arith, stands)) (omega (arith, stands)))
+    (stores_more _ _ _ _ _ _ _ _ (within_one (base + 64) 4032 place _ (omega (arith, stands)) (omega (arith, stands)) (omega (arith, stands))) c.loop-k.invariant.wrote
+    (stored_only c.store_word.result _ _ place _ _ _ (omega (arith, stands)) c.store_word.ensures.stored c.store_word.ensures.refused c.store_word.ensures.may_keep))
+    (stored_only c.store_word-in-loop-k.result _ _ (place + 8) _ _ _ (omega (arith, stands)) c.store_word-in-loop-k.ensures.stored c.store_word-in-loop-k.ensures.refused c.store_word-in-loop-k.ensures.may_keep)
 
 pub loop-k-preserved : goal.loop-k-preserved
 loop-k-preserved g c =
-    let place = c.args.base + 64 + 16 * ((c.args.from + c.loop-k.k) % 252) in
+    let base = journal c.args.pending.now.cpu in
+    let place = c.place-place.result in
+    let stands = c.place-place.ensures in
     record {
-      recorded = record_more _ _ _ c.args.base c.args.from c.args.records.now c.loop-k.k place _ _ (omega arith) (omega arith) refl refl refl c.in_ok-store_word.ensures.stored c.in_ok-store_word-2.ensures.stored c.loop-k.invariant.recorded;
+      recorded = record_more _ _ _ c.args.pending.now c.args.records.now c.loop-k.k place _ _ (omega arith) stands refl refl c.in_ok-store_word.ensures.stored c.in_ok-store_word-2.ensures.stored c.loop-k.invariant.recorded;
       wrote =
-          stores_more _ _ _ _ _ _ _ _ (within_one (c.args.base + 64) 4032 (place + 8) _ (omega arith) (omega arith) (omega arith))
-          (stores_more _ _ _ _ _ _ _ _ (within_one (c.args.base + 64) 4032 place _ (omega arith) (omega arith) (omega arith)) c.loop-k.invariant.wrote
-          (stored_only c.store_word.result _ _ place _ _ _ (omega arith) c.store_word.ensures.stored c.store_word.ensures.refused c.store_word.ensures.may_keep))
-          (stored_only c.store_word-in-loop-k.result _ _ (place + 8) _ _ _ (omega arith) c.store_word-in-loop-k.ensures.stored c.store_word-in-loop-k.ensures.refused c.store_word-in-loop-k.ensures.may_keep);
+          stores_more _ _ _ _ _ _ _ _ (within_one (base + 64) 4032 (place + 8) _ (omega (arith, stands)) (omega (arith, stands)) (omega (arith, stands)))
+          (stores_more _ _ _ _ _ _ _ _ (within_one (base + 64) 4032 place _ (omega (arith, stands)) (omega (arith, stands)) (omega (arith, stands))) c.loop-k.invariant.wrote
+          (stored_only c.store_word.result _ _ place _ _ _ (omega (arith, stands)) c.store_word.ensures.stored c.store_word.ensures.refused c.store_word.ensures.may_keep))
+          (stored_only c.store_word-in-loop-k.result _ _ (place + 8) _ _ _ (omega (arith, stands)) c.store_word-in-loop-k.ensures.stored c.store_word-in-loop-k.ensures.refused c.store_word-in-loop-k.ensures.may_keep);
       len = c.in_ok-store_word-2.ensures.stored.len ∙ c.in_ok-store_word.ensures.stored.len ∙ c.loop-k.invariant.len;
       burnt = λ on. c.store_word-in-loop-k.ensures.burnt (c.store_word.ensures.burnt (c.loop-k.invariant.burnt on));
       steady = λ is. c.store_word-in-loop-k.ensures.steady (c.store_word.ensures.steady (c.loop-k.invariant.steady is));
-      stays_open = λ limit low is. c.store_word-in-loop-k.ensures.open limit (omega arith) (c.store_word.ensures.open limit (omega arith) (c.loop-k.invariant.stays_open limit low is));
+      stays_open = λ limit low is. c.store_word-in-loop-k.ensures.open limit (omega (arith, stands, low)) (c.store_word.ensures.open limit (omega (arith, stands, low)) (c.loop-k.invariant.stays_open limit low is));
     }
