@@ -17,7 +17,7 @@ ghost use Rattle.std.specs.Process.{exit_status};
 
 use check::{CheckError, check};
 use nv_cli::{ScriptError, run_script};
-use nv_words::{Todo, read_words};
+use nv_args::{Todo, read_words};
 use reason::Reason;
 use std::fmt::Display;
 use std::process::ExitCode;

@@ -4,7 +4,7 @@ ghost use Rattle.std.specs.Prelude.{◌≡◌, ℕ, IfOk, IfErr, IfSome, IsNone,
 ghost use Rattle.clap.specs.Walk.{rows_of};
 ghost use Rattle.clap.specs.Simple.{subcommand_rows_of};
 ghost use Rattle.clap.specs.Matches.{found_of};
-ghost use Rattle.nv_words.specs.Words.{AreWorkers, Asks, Says, WordsSay, WantsMemory};
+ghost use Rattle.nv_args.specs.Words.{AreWorkers, Asks, Says, WordsSay, WantsMemory};
 
 use crate::command_line::nova;
 use clap::error::ErrorKind;
@@ -30,7 +30,7 @@ pub struct Usage {
 }
 
 impl Model for Usage {
-    ghost use Rattle.nv_words.specs.UsageValue.{UsageTold, told_by};
+    ghost use Rattle.nv_args.specs.UsageValue.{UsageTold, told_by};
 
     ghost Value = { UsageTold };
 

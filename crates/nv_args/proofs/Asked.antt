@@ -1,9 +1,9 @@
 -- What a command can't ask for.
 use Rattle.std.proofs.Common.{◌≡◌, ◌∙◌, ℕ, List, Option, Some, None, true≢false, is_some, slice_index, ap, sym, codes, arith}
 use Rattle.clap.specs.Walk.{Row, first_of}
-use Rattle.nv_words.specs.Words.{AreWorkers, Asks}
-use Rattle.nv_words.specs.declared.reading.Todo.{Todo}
-use Rattle.nv_words.specs.declared.reading.Todo.TheVariants.{Run, Check}
+use Rattle.nv_args.specs.Words.{AreWorkers, Asks}
+use Rattle.nv_args.specs.declared.reading.Todo.{Todo}
+use Rattle.nv_args.specs.declared.reading.Todo.TheVariants.{Run, Check}
 
 pub check_is_no_run : codes "check" ≡ codes "run" → ⊥
 check_is_no_run e =

@@ -2,9 +2,9 @@ use Rattle.std.proofs.Common.{◌≡◌, ◌∙◌, ℕ, None, Some, refl, sym, 
 use Rattle.clap.specs.Walk.{rows_of, first_of}
 use Rattle.clap.specs.Matches.{found_of}
 use Rattle.clap.proofs.WalkLemmas.{first_value-rows}
-use Rattle.nv_words.specs.Words.{AreWorkers}
-use Rattle.nv_words.proofs.Asked.{no_path, no_workers}
-use Rattle.nv_words.proofs.reading.check_of.Goals as goal
+use Rattle.nv_args.specs.Words.{AreWorkers}
+use Rattle.nv_args.proofs.Asked.{no_path, no_workers}
+use Rattle.nv_args.proofs.reading.check_of.Goals as goal
 
 pub returns-clause-some : goal.returns-clause-some
 returns-clause-some c =

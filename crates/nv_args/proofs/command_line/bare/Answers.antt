@@ -1,7 +1,7 @@
 use Rattle.std.proofs.Common.{true, ◌∙◌, ap}
 use Rattle.std.proofs.lemmas.Result.{IfOk-weaker}
 use Rattle.clap.specs.Simple.{app_of_fields, on_top}
-use Rattle.nv_words.proofs.command_line.bare.Goals as goal
+use Rattle.nv_args.proofs.command_line.bare.Goals as goal
 
 pub returns : goal.returns
 returns c =

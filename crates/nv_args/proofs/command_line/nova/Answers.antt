@@ -1,8 +1,8 @@
 use Rattle.std.proofs.Common.{◌≡◌, ◌∙◌, ap, ap₂}
 use Rattle.std.proofs.lemmas.Result.{IfOk-weaker}
 use Rattle.clap.specs.Simple.{App, with_subcommand, app_of}
-use Rattle.nv_words.specs.CommandLine.{bare_app, run_app}
-use Rattle.nv_words.proofs.command_line.nova.Goals as goal
+use Rattle.nv_args.specs.CommandLine.{bare_app, run_app}
+use Rattle.nv_args.proofs.command_line.nova.Goals as goal
 
 pub returns : goal.returns
 returns c =

@@ -4,10 +4,10 @@ use Rattle.std.specs.Str.Parse.{IsNumeral, digits_value, without_leading_plus}
 use Rattle.clap.specs.Walk.{Row, Text, first_of}
 use Rattle.clap.specs.Simple.{subcommand_of}
 use Rattle.clap.specs.Faults.{fault_of}
-use Rattle.nv_words.specs.CommandLine.{nova_app}
-use Rattle.nv_words.specs.declared.reading.Todo.{Todo}
-use Rattle.nv_words.specs.declared.reading.Todo.TheVariants.{Run, Check}
-use Rattle.nv_words.specs.UsageValue.{UsageTold}
+use Rattle.nv_args.specs.CommandLine.{nova_app}
+use Rattle.nv_args.specs.declared.reading.Todo.{Todo}
+use Rattle.nv_args.specs.declared.reading.Todo.TheVariants.{Run, Check}
+use Rattle.nv_args.specs.UsageValue.{UsageTold}
 
 -- the number of workers is 1 where none is written, and else the decimal number that is, from 1 to 64
 abbrev pub AreWorkers : Option Text → ℕ → Type 0

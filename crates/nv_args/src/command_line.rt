@@ -4,7 +4,7 @@ ghost use Rattle.std.specs.Prelude.{◌≡◌, IfOk, false, pos};
 ghost use Rattle.clap.specs.Walk.{rule_of};
 ghost use Rattle.clap.specs.Simple.{app_of};
 ghost use Rattle.clap.specs.declared.builder.command.Command.TheViews.{out-Command};
-ghost use Rattle.nv_words.specs.CommandLine.{path_rule, workers_rule, run_app, check_app, bare_app, nova_app};
+ghost use Rattle.nv_args.specs.CommandLine.{path_rule, workers_rule, run_app, check_app, bare_app, nova_app};
 
 use clap::builder::ValueParser;
 use clap::{Arg, Command, value_parser};
