@@ -1,5 +1,6 @@
 #!/usr/bin/env bash
-# Runs `nova check` on files that hold no region, or that can't be read, and compares what it writes and its exit status.
+# Runs `nova check` on files that hold no region, or that can't be read, and scripts with a bad line or a cut region, and
+# compares what they write, what they say on standard error, and their exit status.
 # Needs the built program (`./nova` builds it), and root for the file without permission, which else is left out.
 set -u
 here=$(cd "$(dirname "${BASH_SOURCE[0]}")/.." && pwd)
@@ -33,16 +34,26 @@ head -c 100 /dev/zero >"$folder/short"
 mkdir "$folder/folder"
 truncate -s 268435456 "$folder/longest"
 truncate -s 268435457 "$folder/longer"
+lengths="a region has a multiple of 4096, from 32768 to 268435456"
+words="with one space between two words, and numbers in decimal up to 18446744073709551615"
 long_way=$(printf './%.0s' {1..300})
 not_utf8=$folder/$'a\xffb'
 : >"$not_utf8"
 
-expect "an empty file" 2 "refused S1" "" "$program" check "$folder/empty"
-expect "100 bytes" 2 "refused S1" "" "$program" check "$folder/short"
-expect "100 bytes, 64 workers" 2 "refused S1" "" "$program" check "$folder/short" --workers 64
+# expect_script NAME STATUS OUTPUT ERROR SCRIPT: the same of a script, whose backslashes printf reads.
+expect_script() {
+    # shellcheck disable=SC2016
+    expect "$1" "$2" "$3" "$4" bash -c 'printf "$1" | "$2" run' bash "$5" "$program"
+}
+
+expect "an empty file" 2 "refused S1" "it has 0 bytes; $lengths" "$program" check "$folder/empty"
+expect "100 bytes" 2 "refused S1" "it has 100 bytes; $lengths" "$program" check "$folder/short"
+expect "100 bytes, 64 workers" 2 "refused S1" "it has 100 bytes; $lengths" "$program" check "$folder/short" --workers 64
 expect "a file of zeros as long as the longest region" 2 "refused S2" "" "$program" check "$folder/longest"
-expect "a file longer than a region can be" 2 "refused S1" "" "$program" check "$folder/longer"
-expect "a path of more than 600 bytes" 2 "refused S1" "" "$program" check "$folder/${long_way}short"
+expect "a file longer than a region can be" 2 "refused S1" "it has 268435457 bytes; $lengths" "$program" check "$folder/longer"
+expect "a path of more than 600 bytes" 2 "refused S1" "it has 100 bytes; $lengths" "$program" check "$folder/${long_way}short"
+expect "a pipe that is longer than a region can be" 2 "refused S1" "it has more than 268435456 bytes; $lengths" \
+    bash -c 'head -c 268435457 /dev/zero | "$1" check /dev/stdin' bash "$program"
 expect "a missing file" 2 "" "cannot read $folder/missing${newline}no such file" "$program" check "$folder/missing"
 expect "a folder" 2 "" "cannot read $folder/folder${newline}it is a directory" "$program" check "$folder/folder"
 expect "a file in the place of a folder" 2 "" "cannot read $folder/short/a${newline}Not a directory (os error 20)" \
@@ -59,4 +70,15 @@ if [ "$(id -u)" = 0 ]; then
 else
     echo "left out: a file without permission (needs root)"
 fi
+
+expect_script "a region that was cut" 2 "ok${newline}ok${newline}refused S1" "it has 65535 bytes; $lengths" \
+    'format 1 16 1\ncut 65535\nrecover 1\n'
+expect_script "a cut region and 65 workers" 2 "ok${newline}ok${newline}refused Workers" "" 'format 1 16 1\ncut 65535\nrecover 65\n'
+expect_script "a number too few" 2 "ok${newline}bad line 3" "line 3: expected poke AT VALUE, $words" 'time 7\n\npoke 8\ntree\n'
+expect_script "a space behind a command" 2 "bad line 1" "line 1: expected tree, $words" 'tree \n'
+expect_script "no command" 2 "bad line 1" \
+    "line 1: expected time, format, recover, replay, poke, cut, tree, free, faults, report or peek" 'create 0 /a\n'
+expect_script "a carriage return" 2 "bad line 1" \
+    "line 1: it ends with a carriage return, byte 13; byte 10 alone ends a line" 'recover 1\r\n'
+expect_script "a line of 4097 bytes" 2 "bad line 1" "line 1: it has more than 4096 bytes" '#%4096d\n'
 exit $wrong

@@ -59,7 +59,7 @@ for kind in "$folder"/*.kind; do
     name=${kind%.kind}
     title="$(basename "$name"): $(head -n 1 "$name.run")"
     if [ "$(cat "$kind")" = script ]; then
-        "$program" run <"$name.run" >"$name.whole" 2>&1
+        "$program" run <"$name.run" >"$name.whole" 2>/dev/null
         status=$?
         same "$title" "$(cat "$name.out")" "$(grep -vx ok "$name.whole")"
         if [ -n "$kept" ]; then

@@ -7,6 +7,7 @@ ghost use Rattle.nv_stream.specs.Streams.{AppendsFront};
 use crate::contents::{Contents, Unread, contents_at};
 use crate::reason::Reason;
 use nv_cli::{ScriptError, check_region};
+use nv_report::{BadLength, is_region_length};
 use nv_stream::write_text;
 use std::io::Write;
 use std::rt::Files;
@@ -15,6 +16,9 @@ use std::{fmt, io};
 
 // The number of bytes of the longest region: 65,536 blocks of 4096 bytes.
 const LONGEST_REGION: usize = 65_536 * 4096;
+
+// The status of an image that is refused.
+const REFUSED_STATUS: u8 = 2;
 
 /// What ends a check before its answer.
 #[derive(Clone, Copy, Debug)]
@@ -51,7 +55,7 @@ impl fmt::Display for CheckError<'_> {
 /// Recovers the image in the file at a path in memory, on so many threads, prints its report on standard output, and
 /// answers the exit status: 0 where the report shows no faults, 1 where it does, and 2 where the image is refused, as
 /// each is that is longer than a region can be. The file is read once, and never written.
-pub(crate) fn check<'a, H: Files + AllocGlobal + Print + Threads + Sync>(
+pub(crate) fn check<'a, H: Files + AllocGlobal + Print + Eprint + Threads + Sync>(
     rt: &H,
     path: &'a str,
     workers: u32,
@@ -66,9 +70,17 @@ pub(crate) fn check<'a, H: Files + AllocGlobal + Print + Threads + Sync>(
                 workers,
                 &mut io::writer(rt),
             )?;
+            let length = bytes.len() as u64;
+            if status == REFUSED_STATUS && !is_region_length(length) {
+                tell_length(rt, BadLength::Bytes(length));
+            }
             Ok(status)
         }
-        Ok(Contents::Longer) => Ok(refuse_length(&mut io::writer(rt))?),
+        Ok(Contents::Longer(told)) => {
+            let status = refuse_length(&mut io::writer(rt))?;
+            tell_length(rt, length_of(told));
+            Ok(status)
+        }
         Err(Unread::Unreadable(error)) => Err(CheckError::CannotRead(path, Reason::System(error))),
         Err(Unread::Memory) => Err(CheckError::Answer(ScriptError::Memory)),
     }
@@ -82,5 +94,18 @@ fn refuse_length<W: Write>(writer: &mut W) -> Result<u8, ScriptError>
     ensures kind { IfErr result (λ e. e ≡ ScriptError.Write) }
 {
     write_text(writer, b"refused S1\n")?;
-    Ok(2)
+    Ok(REFUSED_STATUS)
+}
+
+// Says on standard error for which length an image was refused, right behind that.
+fn tell_length<H: Eprint>(rt: &H, length: BadLength) {
+    let _ = eprintln!(rt; "{length}");
+}
+
+// The length of a file that is too long, where it tells one.
+fn length_of(told: Option<u64>) -> BadLength {
+    match told {
+        Some(length) => BadLength::Bytes(length),
+        None => BadLength::MoreThan(LONGEST_REGION as u64),
+    }
 }

@@ -14,8 +14,8 @@ use std::rt::Files;
 pub(crate) enum Contents {
     /// These bytes.
     Whole(Vec<u8>),
-    /// More than the limit.
-    Longer,
+    /// More than the limit. So many, where the file says so.
+    Longer(Option<u64>),
 }
 
 /// Why a file's bytes are not there.
@@ -73,7 +73,7 @@ pub(crate) fn read_whole<R: Read + Drop>(
     if count <= limit {
         Ok(Contents::Whole(bytes))
     } else {
-        Ok(Contents::Longer)
+        Ok(Contents::Longer(None))
     }
 }
 
@@ -87,8 +87,9 @@ pub(crate) fn contents_at<H: Files + AllocGlobal>(
     requires { limit < 2 ^ 62 }
 {
     let file = fs::open(rt, path)?;
-    match usize::try_from(file.metadata()?.len()) {
+    let told = file.metadata()?.len();
+    match usize::try_from(told) {
         Ok(length) if length <= limit => read_whole(rt.alloc(), file, length, limit),
-        _ => Ok(Contents::Longer),
+        _ => Ok(Contents::Longer(Some(told))),
     }
 }

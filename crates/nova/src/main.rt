@@ -1,12 +1,15 @@
 //! The program `nova`: `nova run` runs the script on its standard input and prints what its commands answer, and
 //! `nova check PATH --workers N` recovers the image in a file in memory and prints its report.
 //!
+//! Behind a bad line, and a region that is refused for its length, a line on standard error says more.
+//!
 //! Its exit status is the script's or the check's. Words that ask for neither, a file that can't be read, and output or
 //! memory that is refused end it with status 2 and a text on standard error.
 #![tactic(auto)]
 
 mod check;
 mod contents;
+mod hints;
 mod reason;
 #[cfg(test)]
 mod tests;
@@ -16,8 +19,9 @@ ghost use Rattle.std.specs.Prelude.{◌≡◌, MatchResult};
 ghost use Rattle.std.specs.Process.{exit_status};
 
 use check::{CheckError, check};
-use nv_cli::{ScriptError, run_script};
+use hints::ErrorOutput;
 use nv_args::{Todo, read_words};
+use nv_cli::{ScriptError, run_script_with_hints};
 use reason::Reason;
 use std::fmt::Display;
 use std::process::ExitCode;
@@ -37,7 +41,17 @@ fn main(rt: HostRuntime) -> ExitCode {
         return refused(&rt, ScriptError::Memory);
     };
     match read_words(alloc, texts.as_slice()) {
-        Ok(Todo::Run) => ended(&rt, run_script(&rt, alloc, rt.stdin(), &mut rt.stdout())),
+        Ok(Todo::Run) => {
+            let mut hints = ErrorOutput { rt: &rt };
+            let answer = run_script_with_hints(
+                &rt,
+                alloc,
+                rt.stdin(),
+                &mut rt.stdout(),
+                &mut hints,
+            );
+            ended(&rt, answer)
+        }
         // Of the words of a check only the path can be one that isn't UTF-8.
         Ok(Todo::Check { path, .. }) if !words.are_utf8 => {
             checked(&rt, Err(CheckError::CannotRead(path, Reason::PathNotUtf8)))

@@ -14,5 +14,5 @@ fn no_more_than_the_limit_is_read(rt: HostRuntime) {
     let held = read_whole(rt.alloc(), b"abc".as_slice(), 1, 3);
     assert!(rt; is_whole(&held, b"abc"));
     let longer = read_whole(rt.alloc(), b"abcd".as_slice(), 3, 3);
-    assert!(rt; matches!(&longer, Ok(Contents::Longer)));
+    assert!(rt; matches!(&longer, Ok(Contents::Longer(None))));
 }

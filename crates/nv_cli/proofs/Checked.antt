@@ -7,7 +7,7 @@ use Rattle.nv_super.specs.declared.superblock.SuperFault.{SuperFault}
 use Rattle.nv_super.specs.declared.superblock.SuperFault.TheVariants.{Length, Magic, Version, Cpus, Blocks, Tables, State}
 use Rattle.nv_text.specs.Refusals.{super_fault_name}
 use Rattle.nv_cli.specs.Checking.{IsRefusal, IsCheck}
-use Rattle.nv_cli.specs.Workers.{is_worker_count}
+use Rattle.nv_report.specs.Workers.{is_worker_count}
 
 none_before : (fault : SuperFault) → rank fault < 1 → ⊥
 none_before Length below = omega arith

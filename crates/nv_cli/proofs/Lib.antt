@@ -1,10 +1,5 @@
-pub mod Results
-pub mod TextLemmas
-pub mod OneText
-pub mod Answered
-pub mod Unstopped
-pub mod Moved
 pub mod Checked
+pub mod OneCheck
 pub mod Progress
 pub mod KnownProgress
 pub mod LineReplies

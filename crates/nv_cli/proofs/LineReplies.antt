@@ -1,15 +1,21 @@
 -- What the answer to a line says of the lines that are reached: `number` is the line's number, and `state` and `mid` are
 -- the states before and after it.
-use Rattle.std.proofs.Common.{◌≡◌, ℕ, ◌+◌, List, [], Option, refl, inl, inr, subst, ap, sym, ◌∙◌, append-nil, string_bytes}
+use Rattle.std.proofs.Common.{◌≡◌, ◌≤◌, ℕ, ◌+◌, List, [], length, Option, refl, inl, inr, subst, ap, sym, ◌∙◌, append-nil, string_bytes}
 use Rattle.std.specs.Prelude.{String}
 use Rattle.std.specs.declared.alloc.Global.{Global}
 use Rattle.std.specs.Io.KnownBytes.{Appends}
 use Rattle.nv_text.specs.Answers.{bad_line}
 use Rattle.nv_stream.specs.Known.{IfKnown}
-use Rattle.nv_cli.specs.Last.{status_of}
-use Rattle.nv_stream.specs.Lines.{lines_of}
-use Rattle.nv_cli.specs.Machine.{State, Shows}
-use Rattle.nv_cli.specs.Replies.{Replies, KnownReplies}
+use Rattle.nv_report.specs.Last.{status_of}
+use Rattle.nv_stream.specs.Lines.{lines_of, line_limit}
+use Rattle.nv_line.specs.Spelling.{Says}
+use Rattle.nv_line.specs.View.{view}
+use Rattle.nv_line.specs.declared.commands.Command.{Command}
+use Rattle.nv_session.specs.Sessions.{Moves, Leads}
+use Rattle.nv_session.specs.declared.session.Session.{Session}
+use Rattle.nv_session.specs.Machine.{State, Step}
+use Rattle.nv_cli.specs.Script.{Shows}
+use Rattle.nv_cli.specs.Replies.{Replies, KnownReplies, RepliesTo}
 use Rattle.nv_stream.specs.Streams.{AppendsFront}
 use Rattle.nv_cli.specs.declared.script.Reply.TheVariants.{End, Skipped, Text, Bad}
 use Rattle.nv_cli.proofs.KnownProgress.{GoesOn, Ends, EndsInside}
@@ -70,3 +76,8 @@ module _ (left after now then : Option (List ℕ)) (number : ℕ) (state mid : S
       added = added;
       shown = inr (inl (r.2, string_bytes text, [], mid, r.3, (refl, refl), sym (append-nil (string_bytes text))));
     }) replies
+
+-- a command was run
+pub executed : (line : List ℕ) (command : Command) (old new : Session) (text : String Global) → (length line ≤ line_limit) × Says line (view command)
+    → Moves (λ from said to. Step from (view command) said to) old (string_bytes text) new → Leads (λ from to. RepliesTo line from (Text text) to) old new
+executed line command old new text says moves = λ state stands. let next = moves state stands in (next.0, (says.0, (view command, says.1, next.1)), next.2)

@@ -9,11 +9,11 @@ use Rattle.nv_text.specs.Answers.{refused_line}
 use Rattle.nv_text.specs.Refusals.{super_fault_name}
 use Rattle.nv_stream.specs.declared.fault.ScriptError.{ScriptError}
 use Rattle.nv_stream.specs.declared.fault.ScriptError.TheVariants.{Read, Write, Memory}
-use Rattle.nv_cli.specs.Last.{status_of}
-use Rattle.nv_cli.specs.Machine.{how_it_went}
+use Rattle.nv_report.specs.Last.{status_of}
+use Rattle.nv_report.specs.Last.{how_it_went}
 use Rattle.nv_stream.specs.Streams.{AppendsFront}
-use Rattle.nv_cli.specs.Texts.{IsReportText}
-use Rattle.nv_cli.specs.Workers.{is_worker_count}
+use Rattle.nv_report.specs.Texts.{IsReportText}
+use Rattle.nv_report.specs.Workers.{is_worker_count}
 
 -- the command was refused by this name
 abbrev pub IsRefusal : List ℕ → List ℕ → ℕ → Type 0

@@ -6,16 +6,12 @@ ghost use Rattle.std.specs.Prelude.{◌≡◌, false, IfOk, IfErr, OnOk, string_
 ghost use Rattle.nv_region.specs.Region.{region_of};
 ghost use Rattle.nv_region.specs.ImageState.{is_open_to};
 ghost use Rattle.nv_text.specs.Refusals.{refusal_name};
-ghost use Rattle.nv_cli.specs.Answering.{IsOpenInFront};
-ghost use Rattle.nv_cli.specs.Workers.{is_worker_count};
+ghost use Rattle.nv_report.specs.Answering.{IsOpenInFront};
+ghost use Rattle.nv_report.specs.Workers.{is_worker_count};
 ghost use Rattle.nv_cli.specs.Checking.{IsCheck, IsRefusal, WritesCheck, EndsCheck, FailsCheck};
 
-use crate::last::{Last, how_it_went};
-use crate::part::Part;
-use crate::recovering::recover_region;
-use crate::recovery::Answer;
-use crate::texts::{part_text, refused_text};
 use nv_region::{ImageRegion, Pmem, RegionRefusal};
+use nv_report::{Answer, Last, Part, how_it_went, part_text, recover_region, refused_text};
 use nv_stream::{ScriptError, write_text};
 use nv_super::{SuperFault, read_super};
 use nv_text::Refusal;

@@ -1,7 +1,6 @@
-//! Scripts: their lines are read, run, and answered, and what a region holds is recovered and shown.
+//! Scripts: their lines are read, run on a session, and answered. And checks of a region's bytes.
 //!
-//! `session` has what a script has made so far, and a method for each command; `script` runs the lines one after another.
-//! `checking` recovers the bytes of a region, and writes its report.
+//! `script` runs the lines one after another, and gives hints of what their answers leave out (`hinting`). `checking` recovers the bytes of a region, and writes its report.
 #![tactic(auto)]
 
 #[cfg(test)]
@@ -9,23 +8,16 @@ mod broken_streams;
 mod checking;
 #[cfg(test)]
 mod checking_tests;
-mod contents;
 #[cfg(test)]
 mod damage_tests;
-mod last;
+mod hinting;
 mod laws;
-mod making;
-mod part;
-mod recovering;
-mod recovery;
 mod script;
 #[cfg(test)]
 mod script_tests;
-mod session;
-mod store;
-mod texts;
 
 pub use checking::check_region;
-pub use laws::{one_check, one_report, one_row_text, one_transcript};
+pub use hinting::{Hint, Hints};
+pub use laws::{one_check, one_transcript};
 pub use nv_stream::ScriptError;
-pub use script::run_script;
+pub use script::{run_script, run_script_with_hints};

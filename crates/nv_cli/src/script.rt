@@ -2,17 +2,22 @@
 //!
 //! Each line's whole text is made before a byte of it is written, so a line for which memory is wanted prints nothing.
 
-ghost use Rattle.std.specs.Prelude.{◌≡◌, IfOk, IfErr, OnErr, IsErrOf};
-ghost use Rattle.nv_cli.specs.Machine.{ShowsScript};
+ghost use Rattle.std.specs.Prelude.{◌≡◌, ◌↔◌, IfOk, IfErr, OnErr, IsErrOf, IsTrue, string_bytes};
+ghost use Rattle.nv_super.specs.declared.superblock.SuperFault.TheVariants as SuperFault;
+ghost use Rattle.nv_text.specs.Answers.{bad_line, refused_line};
+ghost use Rattle.nv_text.specs.Refusals.{super_fault_name};
+ghost use Rattle.nv_cli.specs.Script.{ShowsScript};
 ghost use Rattle.nv_cli.specs.Replies.{KnownReplies, RepliesTo};
-ghost use Rattle.nv_cli.specs.Sessions.{Leads};
+ghost use Rattle.nv_session.specs.Sessions.{Leads};
 ghost use Rattle.nv_cli.specs.Transcript.{WritesAll, WritesFront, WritesWhole};
 
-use crate::session::Session;
-use crate::texts::bad_line_text;
-use nv_line::{Line, classify};
+use crate::hinting::{Hint, Hints, NoHints};
+use nv_line::{Line, classify, why_bad};
+use nv_report::BadLength;
+use nv_session::Session;
 use nv_stream::{Next, ScriptError, read_line, write_text};
-use std::alloc::Global;
+use nv_text::push_bad_line;
+use std::alloc::{AllocError, Global};
 use std::io::{BufReader, Read, Write};
 use std::thread::Threads;
 
@@ -51,17 +56,34 @@ pub fn run_script<H: Threads + Sync, R: Read + Drop, W: Write>(
     // A line whose memory was refused prints nothing.
     ensures memory { IsErrOf result ScriptError.Memory → WritesWhole ShowsScript (R.remaining reader) (W.contents writer.old) (W.contents writer.new) }
 {
+    run_script_with_hints(rt, alloc, reader, writer, &mut NoHints)
+}
+
+/// `run_script`, which also gives a hint behind each line of the output that leaves out what a user needs: behind
+/// `bad line K`, and behind the refusal of a region for its length.
+pub fn run_script_with_hints<H: Threads + Sync, R: Read + Drop, W: Write, N: Hints>(
+    rt: &H,
+    alloc: Global,
+    reader: R,
+    writer: &mut W,
+    hints: &mut N,
+) -> Result<u8, ScriptError>
+    ensures ok { IfOk result (λ status. WritesAll ShowsScript (R.remaining reader) (W.contents writer.old) (W.contents writer.new) status) }
+    ensures err { OnErr result (WritesFront ShowsScript (R.remaining reader) (W.contents writer.old) (W.contents writer.new)) }
+    ensures memory { IsErrOf result ScriptError.Memory → WritesWhole ShowsScript (R.remaining reader) (W.contents writer.old) (W.contents writer.new) }
+{
     let Ok(mut reader) = BufReader::with_capacity(alloc, BUFFER_SIZE, reader) else {
         return Err(ScriptError::Memory);
     };
-    run_lines(rt, alloc, &mut reader, writer)
+    run_lines(rt, alloc, &mut reader, writer, hints)
 }
 
-fn run_lines<H: Threads + Sync, R: Read, W: Write>(
+fn run_lines<H: Threads + Sync, R: Read, W: Write, N: Hints>(
     rt: &H,
     alloc: Global,
     reader: &mut R,
     writer: &mut W,
+    hints: &mut N,
 ) -> Result<u8, ScriptError>
     ensures ok { IfOk result (λ status. WritesAll ShowsScript (R.remaining reader.old) (W.contents writer.old) (W.contents writer.new) status) }
     ensures err { OnErr result (WritesFront ShowsScript (R.remaining reader.old) (W.contents writer.old) (W.contents writer.new)) }
@@ -73,10 +95,14 @@ fn run_lines<H: Threads + Sync, R: Read, W: Write>(
         match next_reply(rt, alloc, &mut session, &mut line, reader)? {
             Reply::End => return Ok(session.status()),
             Reply::Skipped => {}
-            Reply::Text(text) => write_text(writer, text.as_bytes())?,
+            Reply::Text(text) => {
+                write_text(writer, text.as_bytes())?;
+                hint_length(&session, &text, hints);
+            }
             Reply::Bad => {
                 let text = bad_line_text(alloc, number)?;
                 write_text(writer, text.as_bytes())?;
+                hint_bad_line(alloc, number, &line, hints);
                 return Ok(BAD_LINE_STATUS);
             }
         }
@@ -100,6 +126,7 @@ fn next_reply<H: Threads + Sync, R: Read>(
     }
 }
 
+#[tactic(auto, using(crate::proofs::LineReplies::executed))]
 fn answer_line<H: Threads + Sync>(
     rt: &H,
     alloc: Global,
@@ -114,4 +141,35 @@ fn answer_line<H: Threads + Sync>(
         Line::Command(command) => Ok(Reply::Text(session.execute(rt, alloc, command)?)),
         Line::Bad => Ok(Reply::Bad),
     }
+}
+
+fn bad_line_text(alloc: Global, number: u64) -> Result<String, AllocError>
+    ensures { IfOk result (λ text. string_bytes text ≡ bad_line number) }
+{
+    let mut text = String::new(alloc);
+    push_bad_line(&mut text, number)?;
+    Ok(text)
+}
+
+// Tells why a line is bad, unless memory is wanted for that.
+fn hint_bad_line<N: Hints>(alloc: Global, number: u64, line: &[u8], hints: &mut N) {
+    if let Ok(reason) = why_bad(alloc, line) {
+        hints.give(Hint::BadLine(number, reason));
+    }
+}
+
+// Tells the region's length behind a refusal for it.
+fn hint_length<N: Hints>(session: &Session, text: &str, hints: &mut N) {
+    if !is_length_refusal(text) {
+        return;
+    }
+    if let Some(length) = session.region_length() {
+        hints.give(Hint::Length(BadLength::Bytes(length)));
+    }
+}
+
+fn is_length_refusal(text: &str) -> bool
+    ensures { IsTrue result ↔ text.now ≡ refused_line (super_fault_name SuperFault.Length) }
+{
+    text == "refused S1\n"
 }

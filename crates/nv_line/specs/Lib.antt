@@ -3,3 +3,4 @@ pub mod Spelling
 pub mod View
 pub mod Lines
 pub mod Reading
+pub mod Reasons

@@ -3,13 +3,14 @@
 //! A line that begins with `#`, or has no byte, is skipped. Any other is a command, or it is bad:
 //! the words of a command stand with one space between two, its numbers in decimal without leading
 //! zeros and below 2^64. The grammar is the spelling of a request; the parser is proved to find
-//! what a line spells, and nothing else.
+//! what a line spells, and nothing else. `reasons` says for a user why a line is bad.
 #![tactic(auto)]
 
 mod commands;
 mod lines;
 mod numeral;
 mod parsing;
+mod reasons;
 #[cfg(test)]
 mod tests;
 
@@ -17,3 +18,4 @@ pub use commands::{Command, Line};
 pub use lines::{LINE_LIMIT, classify, no_skipped_command};
 pub use numeral::number;
 pub use parsing::{one_reading, parse};
+pub use reasons::{Form, Reason, why_bad};

@@ -13,7 +13,7 @@ use crate::numeral::read_number;
 use std::alloc::{AllocError, Global};
 
 /// The parts of a line between its spaces.
-fn words(alloc: Global, line: &[u8]) -> Result<Vec<&[u8]>, AllocError>
+pub(crate) fn words(alloc: Global, line: &[u8]) -> Result<Vec<&[u8]>, AllocError>
     ensures { IfOk result (λ words. map (λ word. word.now) words.items ≡ slice_split (λ b. b == 32) line.now) }
 {
     line.split(|byte| *byte == b' ').collect(alloc)

@@ -1,7 +1,7 @@
 use Rattle.std.proofs.Common.{string_bytes, ap, ◌∙◌, rules}
 use Rattle.std.specs.Prelude.{Err}
 use Rattle.nv_cli.proofs.Checked.{long_check}
-use Rattle.nv_cli.proofs.Results.{if_ok}
+use Rattle.nv_report.proofs.Results.{if_ok}
 use Rattle.nv_cli.proofs.checking.check_bytes.Goals as goal
 
 pub returns-in-Err-Length : goal.returns-in-Err-Length

@@ -1,4 +1,4 @@
-use Rattle.nv_cli.proofs.OneTranscript.{check_one}
+use Rattle.nv_cli.proofs.OneCheck.{check_one}
 use Rattle.nv_cli.proofs.laws.one_check.Goals as goal
 
 pub returns-clause-text : goal.returns-clause-text

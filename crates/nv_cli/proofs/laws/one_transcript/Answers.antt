@@ -1,4 +1,4 @@
-use Rattle.nv_cli.specs.Machine.{first_state}
+use Rattle.nv_session.specs.Machine.{first_state}
 use Rattle.nv_cli.proofs.OneTranscript.{shows_one}
 use Rattle.nv_cli.proofs.laws.one_transcript.Goals as goal
 

@@ -1,6 +1,7 @@
 use Rattle.std.proofs.Common.{refl, ◌+◌}
 use Rattle.std.proofs.lemmas.Result.{err_from_is_err_and}
-use Rattle.nv_cli.specs.Machine.{first_state, Shows, ShowsScript}
+use Rattle.nv_session.specs.Machine.{first_state}
+use Rattle.nv_cli.specs.Script.{Shows, ShowsScript}
 use Rattle.nv_cli.proofs.KnownProgress.{known_begins, known_on, known_all, known_whole, known_front, front_from_whole, on_err, no_memory}
 use Rattle.nv_cli.proofs.LineReplies.{skipped_goes_on, text_goes_on, text_ends_inside, bad_ends, bad_ends_inside, end_ends}
 use Rattle.nv_cli.proofs.script.run_lines.Goals as goal

@@ -1,5 +1,6 @@
-use Rattle.nv_cli.specs.Machine.{State, Shows, ShowsScript}
-use Rattle.nv_cli.specs.Sessions.{StandsFor}
+use Rattle.nv_session.specs.Machine.{State}
+use Rattle.nv_cli.specs.Script.{Shows, ShowsScript}
+use Rattle.nv_session.specs.Sessions.{StandsFor}
 use Rattle.nv_cli.proofs.KnownProgress.{KnownProgress}
 use Rattle.nv_cli.proofs.script.run_lines.Given as goal
 

@@ -1,0 +1,41 @@
+//! What a user may want to know behind a line that a script prints.
+
+ghost use Rattle.std.specs.Prelude.{Some};
+ghost use Rattle.nv_cli.specs.Hints.{hint_text};
+
+use nv_line::Reason;
+use nv_report::BadLength;
+use std::fmt;
+
+/// What stands behind a line of the output.
+#[derive(Clone, Copy, Debug, PartialEq, Eq)]
+pub enum Hint {
+    /// Why the line of this number is bad.
+    BadLine(u64, Reason),
+    /// The length for which the region was refused.
+    Length(BadLength),
+}
+
+impl fmt::Display for Hint {
+    ghost output = { λ hint. Some (hint_text hint) };
+
+    fn fmt<W: fmt::Write>(&self, f: &mut fmt::Formatter<W>) -> fmt::Result {
+        match self {
+            Hint::BadLine(number, reason) => write!(f, "line {number}: {reason}"),
+            Hint::Length(length) => write!(f, "{length}"),
+        }
+    }
+}
+
+/// Takes hints, each right after the line of the output that it stands behind was written.
+pub trait Hints {
+    fn give(&mut self, hint: Hint);
+}
+
+/// Leaves all hints out.
+#[derive(Clone, Copy, Debug)]
+pub struct NoHints;
+
+impl Hints for NoHints {
+    fn give(&mut self, _hint: Hint) {}
+}

@@ -1,0 +1,5 @@
+pub mod Results
+pub mod TextLemmas
+pub mod OneText
+pub mod Answered
+pub mod Unstopped

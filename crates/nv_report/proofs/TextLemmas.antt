@@ -1,0 +1,39 @@
+-- One text behind another.
+use Rattle.std.proofs.Common.{◌≡◌, ℕ, List, [], ◌∷◌, ◌++◌, refl, sym, ap, ◌∙◌, append_assoc, append-nil}
+use Rattle.nv_scan.specs.declared.piece.Row.{Row}
+use Rattle.nv_outcome.specs.Outcome.{Outcome}
+use Rattle.nv_text.specs.Report.{region_line}
+use Rattle.nv_text.specs.Free.{free_lines}
+use Rattle.nv_text.specs.Faults.{faults_text}
+use Rattle.nv_report.specs.Texts.{row_head, IsContentText, IsRowText, IsTreeText, IsReportText, AddsText}
+
+-- the text of one inode more
+pub tree_snoc : (rows : List Row) (row : Row) (text more : List ℕ) → IsTreeText rows text → IsRowText row more → IsTreeText (rows ++ row ∷ []) (text ++ more)
+tree_snoc [] row text more is shown = (more, [], shown, refl, ap (λ t. t ++ more) is ∙ sym (append-nil more))
+tree_snoc (x ∷ rows) row text more is shown = (is.0, is.1 ++ more, is.2, tree_snoc rows row is.1 more is.3 shown, ap (λ t. t ++ more) is.4 ∙ append_assoc is.0 is.1 more)
+
+-- two texts, one after the other
+pub adds_both : (P Q S : List ℕ → Type 0) (old mid new : List ℕ) → ((a b : List ℕ) → P a → Q b → S (a ++ b)) → AddsText P old mid → AddsText Q mid new → AddsText S old new
+adds_both P Q S old mid new both a b = (a.0 ++ b.0, both a.0 b.0 a.1 b.1, b.2 ∙ ap (λ t. t ++ b.0) a.2 ∙ append_assoc old a.0 b.0)
+
+-- a known text, and then another
+pub adds_after : (P S : List ℕ → Type 0) (old mid new head : List ℕ) → ((b : List ℕ) → P b → S (head ++ b)) → mid ≡ old ++ head → AddsText P mid new → AddsText S old new
+adds_after P S old mid new head both e b = (head ++ b.0, both b.0 b.1, b.2 ∙ ap (λ t. t ++ b.0) e ∙ append_assoc old head b.0)
+
+-- what an inode holds, behind its head
+pub adds_row : (row : Row) (old mid new : List ℕ) → mid ≡ old ++ row_head row → AddsText (IsContentText row.kind row.index row.names) mid new → AddsText (IsRowText row) old new
+adds_row row old mid new e b = adds_after (IsContentText row.kind row.index row.names) (IsRowText row) old mid new (row_head row) (λ t is. (t, is, refl)) e b
+
+-- one inode more
+pub adds_tree : (rows : List Row) (row : Row) (old mid new : List ℕ) → AddsText (IsTreeText rows) old mid → AddsText (IsRowText row) mid new → AddsText (IsTreeText (rows ++ row ∷ [])) old new
+adds_tree rows row old mid new a b = adds_both (IsTreeText rows) (IsRowText row) (IsTreeText (rows ++ row ∷ [])) old mid new (λ s t is shown. tree_snoc rows row s t is shown) a b
+
+-- all parts of a report
+pub adds_report : (o : Outcome) (a b c d e : List ℕ) → b ≡ a ++ region_line o.sup → AddsText (IsTreeText o.rows) b c → d ≡ c ++ free_lines o.free → e ≡ d ++ faults_text o.faults → AddsText (IsReportText o) a e
+adds_report o a b c d e head tree free faults =
+    let r = region_line o.sup in
+    let f = free_lines o.free in
+    let u = faults_text o.faults in
+    let t = tree.0 in
+    let all : e ≡ (((a ++ r) ++ t) ++ f) ++ u = faults ∙ ap (λ x. x ++ u) (free ∙ ap (λ x. x ++ f) (tree.2 ∙ ap (λ x. x ++ t) head)) in
+    (r ++ t ++ f ++ u, (t, tree.1, refl), all ∙ ap (λ x. x ++ f ++ u) (append_assoc a r t) ∙ ap (λ x. x ++ u) (append_assoc a (r ++ t) f) ∙ append_assoc a (r ++ t ++ f) u)

@@ -1,0 +1,5 @@
+pub mod Last
+pub mod Workers
+pub mod Texts
+pub mod Answering
+pub mod Lengths

@@ -1,0 +1,86 @@
+//! The texts of the inodes in use: for each its attributes, its log, and its names or the pieces of its pages.
+
+ghost use Rattle.std.specs.Prelude.{◌≡◌, ◌++◌, OnOk, map, string_bytes};
+ghost use Rattle.nv_names.specs.Names.{line_of};
+ghost use Rattle.nv_super.specs.declared.kind.Kind.TheVariants as kinds;
+ghost use Rattle.nv_report.specs.Texts.{attributes_of, row_head, names_text, pieces_text, IsContentText, IsRowText, IsTreeText, AddsText};
+
+use nv_names::Named;
+use nv_radix::Piece;
+use nv_scan::Row;
+use nv_super::Kind;
+use nv_text::{Attributes, push_inode_line, push_log_line, push_name_line, push_page_line};
+use std::alloc::AllocError;
+
+/// The texts of the inodes, one after another.
+pub fn push_rows(out: &mut String, rows: &[Row]) -> Result<(), AllocError>
+    ensures { OnOk result (AddsText (IsTreeText rows.now) (string_bytes out.old) (string_bytes out.new)) }
+{
+    for row in rows {
+        push_row(out, row)?;
+    }
+    Ok(())
+}
+
+fn push_row(out: &mut String, row: &Row) -> Result<(), AllocError>
+    ensures { OnOk result (AddsText (IsRowText row.now) (string_bytes out.old) (string_bytes out.new)) }
+{
+    push_row_head(out, row)?;
+    push_content(out, row)
+}
+
+fn push_row_head(out: &mut String, row: &Row) -> Result<(), AllocError>
+    ensures { OnOk result (string_bytes out.new ≡ string_bytes out.old ++ row_head row.now) }
+{
+    push_inode_line(out, &attributes_of(row))?;
+    push_log_line(out, &row.pages, row.tail)
+}
+
+fn attributes_of(row: &Row) -> Attributes
+    ensures { result ≡ attributes_of row.now }
+{
+    let numbers = row.numbers;
+    Attributes {
+        inode: row.inode,
+        kind: row.kind,
+        mode: numbers.mode,
+        owner: numbers.owner,
+        group: numbers.group,
+        size: numbers.size,
+        links: numbers.links,
+        time: numbers.time,
+    }
+}
+
+fn push_content(out: &mut String, row: &Row) -> Result<(), AllocError>
+    ensures { OnOk result (AddsText (IsContentText row.now.kind row.now.index row.now.names) (string_bytes out.old) (string_bytes out.new)) }
+{
+    match row.kind {
+        Kind::Directory => {
+            let listed = row.names.list()?;
+            push_names(out, &listed)
+        }
+        Kind::File => {
+            let pieces = row.index.runs()?;
+            push_pieces(out, &pieces)
+        }
+    }
+}
+
+fn push_names(out: &mut String, listed: &[Named<'_>]) -> Result<(), AllocError>
+    ensures { OnOk result (string_bytes out.new ≡ string_bytes out.old ++ names_text (map line_of listed.now)) }
+{
+    for named in listed {
+        push_name_line(out, named.name, named.inode)?;
+    }
+    Ok(())
+}
+
+fn push_pieces(out: &mut String, pieces: &[Piece]) -> Result<(), AllocError>
+    ensures { OnOk result (string_bytes out.new ≡ string_bytes out.old ++ pieces_text pieces.now) }
+{
+    for piece in pieces {
+        push_page_line(out, piece.page, piece.count, piece.block)?;
+    }
+    Ok(())
+}

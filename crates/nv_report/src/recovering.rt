@@ -1,0 +1,82 @@
+//! Recoveries of a region in a memory that stops none, as the commands see them: nothing but want of memory prevents an answer.
+
+ghost use Rattle.std.specs.Prelude.{◌≡◌, [], None, IfOk, OnErr, IsTrue, map};
+ghost use Rattle.nv_region.specs.Stops.{StaysSteady};
+ghost use Rattle.nv_recover.specs.Errors.{AsBeforeOrUndone};
+ghost use Rattle.nv_report.specs.Answering.{TakesRecovery, MayAnswer, IsToldAs, refusal_of, worker_number};
+
+use crate::recovery::Answer;
+use nv_recover::{RecoverError, recover, recover_replay};
+use nv_region::Pmem;
+use nv_scan::OpenGate;
+use nv_text::Refusal;
+use std::alloc::{AllocError, Global};
+use std::thread::Threads;
+
+/// Recovers by so many workers on threads of their own.
+pub fn recover_region<P: Pmem + Sync, H: Threads + Sync>(
+    rt: &H,
+    alloc: Global,
+    memory: &mut P,
+    workers: u64,
+) -> Result<Answer, AllocError>
+    requires taken { TakesRecovery (P.region memory.old) (P.is_steady memory.old) (P.is_open memory.old) }
+    ensures ok { IfOk result (λ answer. MayAnswer (P.region memory.old) workers [] answer (P.region memory.new)) }
+    // Only want of memory prevents an answer.
+    ensures err { OnErr result (AsBeforeOrUndone (P.region memory.old) (P.region memory.new)) }
+    ensures steady { StaysSteady (P.is_steady memory.old) (P.is_steady memory.new) }
+{
+    match recover(rt, alloc, memory, workers, &OpenGate) {
+        Ok(recovered) => Ok(Answer::Recovered(recovered)),
+        Err(error) => refused(error),
+    }
+}
+
+/// Recovers on this thread, the claims of so many workers made in the order of the schedule.
+pub fn replay_region<P: Pmem>(
+    alloc: Global,
+    memory: &mut P,
+    workers: u64,
+    schedule: &[u64],
+) -> Result<Answer, AllocError>
+    requires steady { IsTrue (P.is_steady memory.old) }
+    ensures ok { IfOk result (λ answer. MayAnswer (P.region memory.old) workers schedule.now answer (P.region memory.new)) }
+    ensures steady { IsTrue (P.is_steady memory.new) }
+{
+    let numbers = worker_numbers(alloc, schedule)?;
+    match recover_replay(alloc, memory, workers, &numbers) {
+        Ok(recovered) => Ok(Answer::Recovered(recovered)),
+        Err(error) => refused(error),
+    }
+}
+
+// Want of memory is told as no refusal, and no stop comes where a recovery is taken.
+fn refused(error: RecoverError) -> Result<Answer, AllocError>
+    ensures ok { IfOk result (λ answer. IsToldAs error answer) }
+    ensures err { OnErr result (refusal_of error ≡ None) }
+{
+    let refusal = match error {
+        RecoverError::Super(fault) => Refusal::Super(fault),
+        RecoverError::Workers => Refusal::Workers,
+        RecoverError::Schedule(_) => Refusal::Schedule,
+        RecoverError::Memory | RecoverError::Stopped => return Err(AllocError),
+    };
+    Ok(Answer::Refused(refusal))
+}
+
+// The numbers of a schedule in 32 bits.
+fn worker_numbers(alloc: Global, schedule: &[u64]) -> Result<Vec<u32>, AllocError>
+    ensures { IfOk result (λ numbers. numbers.items ≡ map worker_number schedule.now) }
+{
+    let mut numbers = Vec::new(alloc);
+    for number in schedule {
+        numbers.push(worker_number(*number))?;
+    }
+    Ok(numbers)
+}
+
+fn worker_number(number: u64) -> u32
+    ensures { result ≡ worker_number number }
+{
+    u32::try_from(number).unwrap_or(u32::MAX)
+}

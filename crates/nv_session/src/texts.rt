@@ -1,0 +1,34 @@
+//! The texts of the commands that tell of no recovery.
+
+ghost use Rattle.std.specs.Prelude.{◌≡◌, IfOk, string_bytes};
+ghost use Rattle.nv_text.specs.Answers.{ok_line, refused_line, word_line};
+ghost use Rattle.nv_calls.specs.Format as formats;
+
+use nv_calls::FormatRefusal;
+use nv_text::{push_ok, push_word};
+use std::alloc::{AllocError, Global};
+use std::fmt::Write;
+
+pub fn ok_text(alloc: Global) -> Result<String, AllocError>
+    ensures { IfOk result (λ text. string_bytes text ≡ ok_line) }
+{
+    let mut text = String::new(alloc);
+    push_ok(&mut text)?;
+    Ok(text)
+}
+
+pub fn refused_format_text(alloc: Global, refusal: FormatRefusal) -> Result<String, AllocError>
+    ensures { IfOk result (λ text. string_bytes text ≡ refused_line (formats.refusal_name refusal)) }
+{
+    let mut text = String::new(alloc);
+    writeln!(text, "refused {refusal}")?;
+    Ok(text)
+}
+
+pub fn word_text(alloc: Global, word: u64) -> Result<String, AllocError>
+    ensures { IfOk result (λ text. string_bytes text ≡ word_line word) }
+{
+    let mut text = String::new(alloc);
+    push_word(&mut text, word)?;
+    Ok(text)
+}
