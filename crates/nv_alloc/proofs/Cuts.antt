@@ -1,5 +1,5 @@
--- Cutting runs out of a set, piece by piece.
-use Rattle.std.proofs.Common.{◌≡◌, ℕ, ◌+◌, ◌-◌, ◌<◌, ◌≤◌, inl, inr, List, [], ◌∷◌, ◌++◌, ap, sym, subst, arith}
+-- Cutting runs out of a set, one by one.
+use Rattle.std.proofs.Common.{◌≡◌, ℕ, ◌+◌, ◌-◌, ◌<◌, ◌≤◌, inl, inr, List, [], ◌∷◌, ◌++◌, ap, arith}
 use Rattle.std.specs.List.{Contains}
 use Rattle.std.proofs.lemmas.Bool.{cases_lt}
 use Rattle.std.proofs.lemmas.List.Elements.{Contains-append_left, Contains-push, Contains-push_cases}
@@ -15,62 +15,59 @@ apart_push (x ∷ []) r a ends pos = (a, ends x (Contains-head x []), pos)
 apart_push (x ∷ y ∷ xs) r a ends pos = (a.0, a.1, apart_push (y ∷ xs) r a.2 (λ z c. ends z (Contains-tail x (y ∷ xs) z c)) pos)
 
 module _ (words : List ℕ) (from to : ℕ) where
-  new_each : (start here : ℕ) (runs : List Run) → here ≤ to → CutUpTo words from to start here runs → (x : Run) (b : ℕ) → Contains (runs ++ record { start = start; count = here - start } ∷ []) x → x.start ≤ b → b < x.start + x.count → IsClear words from to b
-  new_each start here runs le h x b c low high = elim (Contains-push_cases runs (record { start = start; count = here - start }) x c) [
-    | inl w ↦ h.each x b w low high
-    | inr w ↦ (let s : start ≡ x.start = ap (λ (r : Run). r.start) w in let n : here - start ≡ x.count = ap (λ (r : Run). r.count) w in
-        let g = h.low in let hi = h.high in
-        let below : b < here = omega (arith, s, n, low, high, hi) in
-        (omega (arith, g, s, low), omega (arith, below, le), h.clear b (omega (arith, s, low)) below))
-  ]
+  -- before the first clear block
+  pub cut_none : (here : ℕ) → from ≤ here → here ≤ to → ((b : ℕ) → from ≤ b → b < here → has words b ≡ 1) → CutUpTo words from to here []
+  cut_none here low high set = record {
+    apart = tt;
+    ends = λ lt x c. absurd (omega (arith, c.1));
+    each = λ x b c lo hi. absurd (omega (arith, c.1));
+    all = λ b lo hi z. absurd (let s = set b lo hi in omega (arith, s, z));
+    low = low;
+    high = high;
+  }
 
-  new_all : (start here : ℕ) (runs : List Run) → CutUpTo words from to start here runs → (b : ℕ) → from ≤ b → b < here → has words b ≡ 0 → (x : Run) × Contains (runs ++ record { start = start; count = here - start } ∷ []) x × (x.start ≤ b) × (b < x.start + x.count)
-  new_all start here runs h b low high e = elim (cases_lt b start) [
-    | inl w ↦ (let r = h.all b low w e in (r.0, Contains-append_left runs _ r.0 r.1, r.2, r.3))
-    | inr w ↦ (record { start = start; count = here - start }, Contains-push runs _, w, omega (arith, w, high))
-  ]
+  -- one more run, from a clear block up to a set one or the bound, and then set blocks up to the next clear one or the bound
+  module _ (here end next : ℕ) (runs : List Run) (h : CutUpTo words from to here runs) (lt : here < to) (first : has words here ≡ 0)
+      (ends : (here ≤ end) × (end ≤ to)) (clear : (b : ℕ) → here ≤ b → b < end → has words b ≡ 0) (stops : end < to → has words end ≡ 1)
+      (nexts : (end ≤ next) × (next ≤ to)) (set : (b : ℕ) → end ≤ b → b < next → has words b ≡ 1) (starts : next < to → has words next ≡ 0) where
+    some : here < end
+    some = elim (cases_lt here end) [
+      | inl w ↦ w
+      | inr w ↦ absurd (let e = ends.0 in let same : here ≡ end = omega (arith, w, e) in let one = stops (omega (arith, lt, same)) in let zero = ap (has words) same in omega (arith, one, zero, first))
+    ]
 
-  new_ends : (start here : ℕ) (runs : List Run) → CutUpTo words from to start here runs → (x : Run) → Contains (runs ++ record { start = start; count = here - start } ∷ []) x → x.start + x.count ≤ here
-  new_ends start here runs h x c = elim (Contains-push_cases runs (record { start = start; count = here - start }) x c) [
-    | inl w ↦ (let g = h.ends x w in let hi = h.high in omega (arith, g, hi))
-    | inr w ↦ (let s : start ≡ x.start = ap (λ (r : Run). r.start) w in let n : here - start ≡ x.count = ap (λ (r : Run). r.count) w in let hi = h.high in omega (arith, s, n, hi))
-  ]
+    behind : next < to → end < next
+    behind more = elim (cases_lt end next) [
+      | inl w ↦ w
+      | inr w ↦ absurd (let n = nexts.0 in let same : end ≡ next = omega (arith, w, n) in let one = stops (omega (arith, more, same)) in let zero = starts more in let e = ap (has words) same in omega (arith, one, zero, e))
+    ]
 
-  pub cut_set : (start here next : ℕ) (runs new : List Run) → here < next → here < to → ((b : ℕ) → here ≤ b → b < next → has words b ≡ 1) → CutUpTo words from to start here runs
-      → (start < here → new ≡ runs ++ record { start = start; count = here - start } ∷ []) → (here ≤ start → new ≡ runs) → CutUpTo words from to next next new
-  cut_set start here next runs new more lt e h some none = elim (cases_lt start here) [
-    | inl w ↦ (let P : List Run → Type 0 = λ xs. CutUpTo words from to next next xs in subst P (sym (some w)) (record {
-      apart = apart_push runs _ h.apart h.ends (omega (arith, w));
-      ends = λ x c. (let g = new_ends start here runs h x c in omega (arith, g, more));
-      each = new_each start here runs (omega (arith, lt)) h;
-      all = λ b low high z. new_all start here runs h b low (below b high z) z;
-      clear = λ b low high. absurd (omega (arith, low, high));
-      low = (let g = h.low in let hi = h.high in omega (arith, g, hi, more));
-      high = omega arith;
-    }))
-    | inr w ↦ (let P : List Run → Type 0 = λ xs. CutUpTo words from to next next xs in subst P (sym (none w)) (record {
-      apart = h.apart;
-      ends = λ x c. (let g = h.ends x c in let hi = h.high in omega (arith, g, hi, more));
-      each = h.each;
-      all = λ b low high z. (let k = below b high z in h.all b low (omega (arith, k, w)) z);
-      clear = λ b low high. absurd (omega (arith, low, high));
-      low = (let g = h.low in let hi = h.high in omega (arith, g, hi, more));
-      high = omega arith;
-    }))
-  ] where
-    below : (b : ℕ) → b < next → has words b ≡ 0 → b < here
-    below b high z = elim (cases_lt b here) [ inl w ↦ w | inr w ↦ absurd (let y = e b w high in omega (arith, y, z)) ]
+    pub cut_more : CutUpTo words from to next (runs ++ record { start = here; count = end - here } ∷ [])
+    cut_more = record {
+      apart = apart_push runs (record { start = here; count = end - here }) h.apart (h.ends lt) (omega (arith, some));
+      ends = λ more x c. elim (Contains-push_cases runs (record { start = here; count = end - here }) x c) [
+        | inl w ↦ (let e = h.ends lt x w in let b = behind more in omega (arith, e, b, some))
+        | inr w ↦ (let s : here ≡ x.start = ap (λ (r : Run). r.start) w in let n : end - here ≡ x.count = ap (λ (r : Run). r.count) w in let b = behind more in omega (arith, s, n, b, some))
+      ];
+      each = λ x b c lo hi. elim (Contains-push_cases runs (record { start = here; count = end - here }) x c) [
+        | inl w ↦ h.each x b w lo hi
+        | inr w ↦ (let s : here ≡ x.start = ap (λ (r : Run). r.start) w in let n : end - here ≡ x.count = ap (λ (r : Run). r.count) w in let g = h.low in let t = ends.1 in
+            (omega (arith, g, s, lo), omega (arith, s, n, hi, some, t), clear b (omega (arith, s, lo)) (omega (arith, s, n, hi, some))))
+      ];
+      all = λ b lo hi z. elim (cases_lt b here) [
+        | inl w ↦ (let r = h.all b lo w z in (r.0, Contains-append_left runs _ r.0 r.1, r.2, r.3))
+        | inr w ↦ elim (cases_lt b end) [
+          | inl v ↦ (record { start = here; count = end - here }, Contains-push runs _, w, omega (arith, v, some))
+          | inr v ↦ absurd (let s = set b v hi in omega (arith, s, z))
+        ]
+      ];
+      low = (let g = h.low in let n = nexts.0 in omega (arith, g, n, some));
+      high = nexts.1;
+    }
 
-  pub cut_done : (start : ℕ) (runs new : List Run) → CutUpTo words from to start to runs → (start < to → new ≡ runs ++ record { start = start; count = to - start } ∷ []) → (to ≤ start → new ≡ runs) → AreRuns (IsClear words from to) new
-  cut_done start runs new h some none = elim (cases_lt start to) [
-    | inl w ↦ (let P : List Run → Type 0 = λ xs. AreRuns (IsClear words from to) xs in subst P (sym (some w)) (record {
-      apart = apart_push runs _ h.apart h.ends (omega (arith, w));
-      each = new_each start to runs (omega arith) h;
-      all = λ b q. new_all start to runs h b q.0 q.1 q.2;
-    }))
-    | inr w ↦ (let P : List Run → Type 0 = λ xs. AreRuns (IsClear words from to) xs in subst P (sym (none w)) (record {
-      apart = h.apart;
-      each = h.each;
-      all = λ b q. (let lt = q.1 in h.all b q.0 (omega (arith, lt, w)) q.2);
-    }))
-  ]
+  pub cut_done : (here : ℕ) (runs : List Run) → CutUpTo words from to here runs → to ≤ here → AreRuns (IsClear words from to) runs
+  cut_done here runs h at_end = record {
+    apart = h.apart;
+    each = h.each;
+    all = λ b q. (let lt = q.1 in h.all b q.0 (omega (arith, lt, at_end)) q.2);
+  }

@@ -2,7 +2,7 @@ pub mod Places
 pub mod Fronts
 pub mod Cuts
 pub mod Replaced
-pub mod Bits
+pub mod WordBits
 pub mod Bounds
 pub mod Pools
 pub mod Leaving

@@ -35,21 +35,14 @@ AllFit runs = AllByRecursion (λ (r : Run). r.start + r.count ≤ 2 ^ 32) runs
 abbrev pub IsClear : List ℕ → ℕ → ℕ → ℕ → Type 0
 IsClear words from to b = (from ≤ b) × (b < to) × (has words b ≡ 0)
 
--- The runs up to start, where the blocks from start up to here are clear.
-pub record CutUpTo (words : List ℕ) (from to start here : ℕ) (runs : List Run) : Type 0 where
+-- The runs of the clear blocks before this one, which none of them touches.
+pub record CutUpTo (words : List ℕ) (from to here : ℕ) (runs : List Run) : Type 0 where
   pub apart : Apart runs
-  pub ends : (x : Run) → Contains runs x → x.start + x.count < start
+  pub ends : here < to → (x : Run) → Contains runs x → x.start + x.count < here
   pub each : (x : Run) (b : ℕ) → Contains runs x → x.start ≤ b → b < x.start + x.count → IsClear words from to b
-  pub all : (b : ℕ) → from ≤ b → b < start → has words b ≡ 0 → HasBlock runs b
-  pub clear : (b : ℕ) → start ≤ b → b < here → has words b ≡ 0
-  pub low : from ≤ start
-  pub high : start ≤ here
-
--- the number of blocks from here on, all of them in the set or none
-pub record IsAlike (words : List ℕ) (here to count : ℕ) : Type 0 where
-  pub some : 0 < count
-  pub within : here + count ≤ to
-  pub same : (b : ℕ) → here ≤ b → b < here + count → has words b ≡ has words here
+  pub all : (b : ℕ) → from ≤ b → b < here → has words b ≡ 0 → HasBlock runs b
+  pub low : from ≤ here
+  pub high : here ≤ to
 
 -- Some of what is to be taken was taken: what remains to take makes up the rest.
 pub record TakesSome (need : ℕ) (runs had : List Run) (rest : ℕ) (runs' has' : List Run) : Type 0 where

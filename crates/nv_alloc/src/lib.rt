@@ -2,6 +2,7 @@
 #![tactic(auto)]
 
 mod allocators;
+mod bits;
 mod cutting;
 mod joining;
 mod laws;
@@ -9,6 +10,7 @@ mod pool;
 mod taking;
 
 pub use allocators::{AllocRefusal, Allocators};
+pub use bits::word_run;
 pub use laws::{
     sets_determine_lists, take_then_give_restores, taken_blocks_are_data_blocks, taken_can_join,
 };

@@ -12,3 +12,5 @@ mod claim_map;
 mod file_index;
 #[cfg(test)]
 mod name_index;
+#[cfg(test)]
+mod word_runs;
