@@ -1,5 +1,6 @@
-//! Measures the allocator: takes all blocks of a region one by one, with the CPUs in turn, and gives them back in a shuffled
-//! order, all of it twice. The arguments are the number of blocks and of CPUs. The seconds go to standard error.
+//! Measures the allocator: takes all blocks of a region one by one, with the CPUs in turn, and gives them back. The first time they
+//! come back in a shuffled order; the second time so do those of odd number, which makes as many runs as can be, and then the others.
+//! The arguments are the number of blocks and of CPUs. The nanoseconds that a call takes go to standard error.
 #![tactic(auto)]
 
 mod hold;
@@ -13,7 +14,7 @@ use nv_super::Super;
 use rand::seq::SliceRandom;
 use rand_pcg::Pcg32;
 use std::rt::Clock;
-use std::time::Instant;
+use std::time::{Duration, Instant};
 use std::{env, io};
 
 /// The superblock of a region with one table block for each CPU, if it can be as small or large.
@@ -40,17 +41,24 @@ fn measure<R: AllocGlobal + Print + Eprint + Clock>(rt: &R, sup: &Super) -> io::
     let mut rng = Pcg32::new(1, 1);
     let mut free = Allocators::from_words(rt.alloc(), &words, sup)?;
     let blocks = free.free_blocks();
-    for _ in 0..2 {
+    for round in 0..2 {
         let mut held = Vec::new(rt.alloc());
         let start = Instant::now(rt)?;
         take_all(&mut free, sup.cpus, blocks, &mut held)?;
-        eprintln!(rt; "take {:.4}", start.elapsed(rt)?.as_secs_f64())?;
+        report(rt, "take", blocks, start.elapsed(rt)?)?;
         held.as_mut_slice().shuffle(&mut rng);
+        held.sort_by_key(|block| *block & round)?;
         let start = Instant::now(rt)?;
         give_all(&mut free, &mut held)?;
-        eprintln!(rt; "give {:.4}", start.elapsed(rt)?.as_secs_f64())?;
+        report(rt, "give", blocks, start.elapsed(rt)?)?;
     }
     println!(rt; "{blocks} blocks, {} free", free.free_blocks())
+}
+
+/// Prints how long each of the calls took.
+fn report<R: Eprint>(rt: &R, call: &str, calls: u64, time: Duration) -> io::Result<()> {
+    let each = time.as_nanos() / u128::from(calls.max(1));
+    eprintln!(rt; "{call}: {each} ns")
 }
 
 fn main(rt: HostRuntime) -> io::Result<()> {
