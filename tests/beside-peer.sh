@@ -1,0 +1,62 @@
+#!/usr/bin/env bash
+# Measures recovery beside a native program that does the same and proves nothing, and prints a table with the ratios.
+#
+# usage: tests/beside-peer.sh PEER [ROUNDS]
+#
+# PEER is the folder of the native program's sources, a crate `nova_ref` whose `bench` writes an image and times its own
+# recovery. In each round (5 where none are given) the native program and `bench_recover` run one after the other, three
+# recoveries each, and the best of all rounds counts. The images have 65,536 blocks: small files, one big file, one
+# directory of many names, and files of many overwrites. Nothing else should run meanwhile.
+set -eu
+here=$(cd "$(dirname "${BASH_SOURCE[0]}")/.." && pwd)
+if [ $# -lt 1 ] || [ ! -f "$1/Cargo.toml" ]; then
+    sed -n '2,10s/^# \{0,1\}//p' "${BASH_SOURCE[0]}"
+    exit 2
+fi
+rounds=${2:-5}
+folder=$(mktemp -d)
+trap 'rm -rf "$folder"' EXIT
+(cd "$1" && CARGO_TARGET_DIR=$folder/peer cargo build --release --offline -q)
+peer=$folder/peer/release/nova_ref
+(cd "$here/crates/bench_recover" && rt run >"$folder/built" 2>&1) || { tail -n 20 "$folder/built"; exit 2; }
+ours=$here/crates/bench_recover/out/bench_recover
+
+shape() {
+    case $1 in
+        small) echo --cpus 16 --blocks 65536 --tables 64 --files 31000 --dirs 200 --size 4096 ;;
+        *) echo --shape "$1" --blocks 65536 ;;
+    esac
+}
+
+for name in small big names frag; do
+    for _ in $(seq "$rounds"); do
+        # shellcheck disable=SC2046
+        "$peer" bench $(shape "$name") --runs 3 --out "$folder/image" |
+            awk -F'|' -v name="$name" '$3 + 0 > 0 { print name, "peer", $3 + 0, $7 + 0 }'
+        "$ours" 3 "$folder/image" 2>&1 >"$folder/found" |
+            awk -v name="$name" '/ ms, / { print name, "ours", ($1 == "one" ? 0 : $1), $3 }'
+        if grep -q refused "$folder/found"; then
+            echo "$name: refused" >&2
+            exit 1
+        fi
+    done
+    rm -f "$folder/image"
+done >"$folder/times"
+
+awk '
+    { key = $1 " " $2 " " $3; if (!(key in best) || $4 < best[key]) best[key] = $4; if (!seen[$1]++) names[++count] = $1 }
+    function cell(name, way, other,    mine, theirs) {
+        mine = best[name " ours " way]
+        theirs = best[name " peer " other]
+        return sprintf("%.1f (%.1f)", mine, mine / theirs)
+    }
+    END {
+        print "milliseconds, and how many times as long as the native program on as many threads"
+        print ""
+        print "| image | one thread | 1 worker | 2 workers | 4 workers | native 1 | native 2 | native 4 |"
+        print "|---|---|---|---|---|---|---|---|"
+        for (i = 1; i <= count; i++) {
+            n = names[i]
+            printf "| %s | %s | %s | %s | %s | %.1f | %.1f | %.1f |\n", n, cell(n, 0, 1), cell(n, 1, 1), cell(n, 2, 2), cell(n, 4, 4), best[n " peer 1"], best[n " peer 2"], best[n " peer 4"]
+        }
+    }' "$folder/times"
