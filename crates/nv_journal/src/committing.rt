@@ -42,7 +42,7 @@ pub fn begin<P: Pmem>(memory: &mut P, cpu: u64, records: &[(u64, u64)]) -> Resul
     commit_word(memory, enqueue_word(cpu), behind_all)
 }
 
-/// Writes records to the places behind the pending ones' dequeue number.
+/// Writes records to the places from the dequeue number on.
 fn write_records<P: Pmem>(
     memory: &mut P,
     pending: &Pending,
