@@ -6,7 +6,5 @@
 
 mod command_line;
 mod reading;
-#[cfg(test)]
-mod tests;
 
 pub use reading::{Todo, Usage, read_words};

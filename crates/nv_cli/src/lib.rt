@@ -3,18 +3,10 @@
 //! `script` runs the lines one after another, and gives hints of what their answers leave out (`hinting`). `checking` recovers the bytes of a region, and writes its report.
 #![tactic(auto)]
 
-#[cfg(test)]
-mod broken_streams;
 mod checking;
-#[cfg(test)]
-mod checking_tests;
-#[cfg(test)]
-mod damage_tests;
 mod hinting;
 mod laws;
 mod script;
-#[cfg(test)]
-mod script_tests;
 
 pub use checking::check_region;
 pub use hinting::{Hint, Hints};

@@ -11,8 +11,6 @@ mod lines;
 mod numeral;
 mod parsing;
 mod reasons;
-#[cfg(test)]
-mod tests;
 
 pub use commands::{Command, Line};
 pub use lines::{LINE_LIMIT, classify, no_skipped_command};

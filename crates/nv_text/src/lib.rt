@@ -12,8 +12,6 @@ mod inodes;
 mod names;
 mod refusals;
 mod region;
-#[cfg(test)]
-mod tests;
 
 pub use answers::{push_bad_line, push_ok, push_recovered, push_refused, push_stopped, push_word};
 pub use faults::{push_fault_line, push_faults};

@@ -1,7 +1,7 @@
 //! Lines of worked scripts, each from its values.
 
-use super::*;
 use nv_super::{Fault, Kind, Owner, Run, Super, SuperFault};
+use nv_text::*;
 use std::test::Fail;
 
 #[test]

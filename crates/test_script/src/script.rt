@@ -1,8 +1,8 @@
 //! Scripts with all that they print and their exit statuses.
 
-use super::broken_streams::{Closing, Failing};
-use super::damage_tests::{JOURNALS, LOGS, NAMES, REPLAYED};
-use super::*;
+use crate::broken_streams::{Closing, Failing};
+use crate::damage::{JOURNALS, LOGS, NAMES, REPLAYED};
+use nv_cli::{ScriptError, run_script};
 use std::process::Abort;
 use std::test::Fail;
 use std::thread::Threads;

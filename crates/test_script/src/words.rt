@@ -1,6 +1,6 @@
 //! Rows of words, with what they ask for.
 
-use crate::{Todo, read_words};
+use nv_args::{Todo, read_words};
 
 const ASKED: [(&[&str], Todo<'static>); 3] = [
     (&["run"], Todo::Run),

@@ -1,80 +1,8 @@
-//! Readers and writers that are slow, are interrupted, and fail in mid-stream.
+//! Lines of a reader and texts to a writer, also where these fail in mid-stream.
 
-use super::*;
-use std::alloc::Global;
-use std::io::{Error, ErrorKind, Read, Result as IoResult, Write};
+use crate::broken_streams::{Closing, Failing};
+use nv_stream::{Next, ScriptError, read_line, write_text};
 use std::test::Fail;
-
-// Gives a byte at every second call, interrupts the calls between, and fails at its end.
-#[derive(Drop)]
-struct Failing {
-    bytes: &'static [u8],
-    interrupts: bool,
-}
-
-impl Failing {
-    fn new(bytes: &'static [u8]) -> Failing {
-        Failing {
-            bytes,
-            interrupts: false,
-        }
-    }
-}
-
-impl Read for Failing {
-    fn read(&mut self, buf: &mut [u8]) -> IoResult<usize> {
-        self.interrupts = !self.interrupts;
-        if self.interrupts {
-            return Err(Error::from(ErrorKind::Interrupted));
-        }
-        if self.bytes.is_empty() {
-            return Err(Error::from(ErrorKind::ConnectionReset));
-        }
-        let count = buf.len().min(self.bytes.len()).min(1);
-        buf[..count].copy_from_slice(&self.bytes[..count]);
-        self.bytes = &self.bytes[count..];
-        Ok(count)
-    }
-}
-
-// Takes two bytes at a time at every second call, interrupts the calls between, and is closed after `room` bytes.
-#[derive(Drop)]
-struct Closing {
-    taken: Vec<u8>,
-    room: usize,
-    interrupts: bool,
-}
-
-impl Closing {
-    fn new(alloc: Global, room: usize) -> Closing {
-        Closing {
-            taken: Vec::new(alloc),
-            room,
-            interrupts: false,
-        }
-    }
-
-    fn taken(&self) -> &[u8] {
-        &self.taken
-    }
-}
-
-impl Write for Closing {
-    fn write(&mut self, buf: &[u8]) -> IoResult<usize> {
-        self.interrupts = !self.interrupts;
-        if self.interrupts {
-            return Err(Error::from(ErrorKind::Interrupted));
-        }
-        let count = buf.len().min(2).min(self.room);
-        self.room -= count;
-        self.taken.extend_from_slice(&buf[..count])?;
-        Ok(count)
-    }
-
-    fn flush(&mut self) -> IoResult<()> {
-        Ok(())
-    }
-}
 
 #[test]
 fn lines_are_cut_at_byte_10(rt: HostRuntime) -> Result<(), Fail> {
