@@ -62,78 +62,123 @@ fn lists_after(alloc: Global, low: Run, high: Run, middle: Run) -> Result<Vec<Ve
     free.lists()
 }
 
-/// The runs of each pool.
-fn assert_lists(rt: &impl Abort, lists: &[Vec<Run>], wanted: &[&[Run]]) {
-    assert!(rt; lists.len() == wanted.len());
-    for (list, runs) in lists.iter().zip(wanted) {
-        assert!(rt; list.as_slice() == *runs, "{list:?} are the runs");
+/// The start and the number of blocks of a run.
+type Pair = (u64, u64);
+
+fn assert_runs(rt: &impl Abort, runs: &[Run], wanted: &[Pair]) {
+    assert!(rt; runs.len() == wanted.len(), "{runs:?} are the runs");
+    for (run, (start, count)) in runs.iter().zip(wanted) {
+        assert!(rt;
+            run.start == *start && run.count == *count,
+            "{run:?} is a run"
+        );
     }
 }
+
+/// The runs of each pool.
+fn assert_lists(rt: &impl Abort, lists: &[Vec<Run>], wanted: &[&[Pair]]) {
+    assert!(rt; lists.len() == wanted.len());
+    for (list, runs) in lists.iter().zip(wanted) {
+        assert_runs(rt, list, runs);
+    }
+}
+
+/// The runs that are free in each pool.
+fn assert_free(rt: &impl Abort, free: &Allocators, wanted: &[&[Pair]]) -> Result<(), AllocError> {
+    assert_lists(rt, &free.lists()?, wanted);
+    Ok(())
+}
+
+const FROM_6: [&[Pair]; 2] = [&[(6, 28)], &[(34, 30)]];
 
 #[test]
 fn each_pool_lists_its_blocks_that_are_not_in_use(rt: HostRuntime) -> Result<(), Fail> {
     let free = two_pools(rt.alloc())?;
-    assert_lists(&rt, &free.lists()?, &[&[run(6, 28)], &[run(34, 30)]]);
+    assert_free(&rt, &free, &FROM_6)?;
     assert!(rt; free.free_blocks() == 58);
     Ok(())
 }
 
+const FROM_6_TO_62: [&[Pair]; 2] = [&[(6, 28)], &[(34, 29)]];
+
 #[test]
 fn blocks_in_use_part_the_runs(rt: HostRuntime) -> Result<(), Fail> {
     let free = Allocators::from_words(rt.alloc(), &[0x8000_0000_0000_0020], &TWO_POOLS)?;
-    assert_lists(&rt, &free.lists()?, &[&[run(6, 28)], &[run(34, 29)]]);
+    assert_free(&rt, &free, &FROM_6_TO_62)?;
     Ok(())
 }
+
+const FROM_4: [&[Pair]; 1] = [&[(4, 12)]];
 
 #[test]
 fn blocks_past_the_end_are_not_free(rt: HostRuntime) -> Result<(), Fail> {
     let free = Allocators::from_words(rt.alloc(), &[8, 0], &ONE_POOL)?;
-    assert_lists(&rt, &free.lists()?, &[&[run(4, 12)]]);
+    assert_free(&rt, &free, &FROM_4)?;
     Ok(())
 }
 
-/// The blocks that are first taken of two pools.
-fn taken_first(alloc: Global, cpu: u64, n: u64) -> Result<Vec<Run>, Fail>
-    requires { cpu < 2 }
+/// A take of two pools gives these runs.
+fn assert_taken(
+    rt: &impl Abort,
+    free: &mut Allocators,
+    cpu: u64,
+    n: u64,
+    wanted: &[Pair],
+) -> Result<(), AllocRefusal>
+    requires pools { free.old.sup.cpus ≡ 2 }
+    requires cpu { cpu < 2 }
+    ensures { free.new.sup.cpus ≡ 2 }
 {
-    let mut free = two_pools(alloc)?;
-    Ok(free.take(cpu, n)?)
+    let taken = free.take(cpu, n)?;
+    assert_runs(rt, &taken, wanted);
+    Ok(())
 }
+
+/// A take of two pools finds no space.
+fn assert_no_space(rt: &impl Abort, free: &mut Allocators, cpu: u64, n: u64)
+    requires pools { free.old.sup.cpus ≡ 2 }
+    requires cpu { cpu < 2 }
+    ensures { free.new.sup.cpus ≡ 2 }
+{
+    assert!(rt; free.take(cpu, n).err() == Some(AllocRefusal::NoSpace));
+}
+
+const FIRST_OF_0: [Pair; 2] = [(6, 28), (34, 2)];
+
+const FIRST_OF_1: [Pair; 2] = [(34, 30), (6, 28)];
 
 #[test]
 fn the_own_pool_is_taken_first_and_then_the_fullest(rt: HostRuntime) -> Result<(), Fail> {
-    let taken = taken_first(rt.alloc(), 0, 30)?;
-    assert!(rt; taken.as_slice() == [run(6, 28), run(34, 2)].as_slice());
-    let taken = taken_first(rt.alloc(), 1, 58)?;
-    assert!(rt; taken.as_slice() == [run(34, 30), run(6, 28)].as_slice());
+    let mut free = two_pools(rt.alloc())?;
+    assert_taken(&rt, &mut free, 0, 30, &FIRST_OF_0)?;
+    let mut free = two_pools(rt.alloc())?;
+    assert_taken(&rt, &mut free, 1, 58, &FIRST_OF_1)?;
     Ok(())
 }
+
+const ALL: [Pair; 2] = [(6, 28), (34, 30)];
 
 #[test]
 fn more_than_all_is_refused_and_changes_nothing(rt: HostRuntime) -> Result<(), Fail> {
     let mut free = two_pools(rt.alloc())?;
-    assert!(rt; free.take(0, 59).err() == Some(AllocRefusal::NoSpace));
-    let taken = free.take(0, 58)?;
-    assert!(rt; taken.as_slice() == [run(6, 28), run(34, 30)].as_slice());
-    assert_none_is_left(&rt, &mut free)
-}
-
-fn assert_none_is_left(rt: &impl Abort, free: &mut Allocators) -> Result<(), Fail>
-    requires { free.old.sup.cpus ≡ 2 }
-{
+    assert_no_space(&rt, &mut free, 0, 59);
+    assert_taken(&rt, &mut free, 0, 58, &ALL)?;
     assert!(rt; free.free_blocks() == 0);
-    assert!(rt; free.take(1, 1).err() == Some(AllocRefusal::NoSpace));
-    let none = free.take(1, 0)?;
-    assert!(rt; none.is_empty());
+    assert_no_space(&rt, &mut free, 1, 1);
+    assert_taken(&rt, &mut free, 1, 0, &[])?;
     Ok(())
 }
+
+const ONLY_7: [Pair; 1] = [(7, 1)];
+
+const ONLY_7_IN_THE_LAST: [&[Pair]; 3] = [&[], &[], &ONLY_7];
 
 #[test]
 fn an_empty_pool_takes_from_another(rt: HostRuntime) -> Result<(), Fail> {
     let mut free = three_pools(rt.alloc())?;
-    assert_lists(&rt, &free.lists()?, &[&[], &[], &[run(7, 1)]]);
+    assert_free(&rt, &free, &ONLY_7_IN_THE_LAST)?;
     let taken = free.take(0, 1)?;
-    assert!(rt; taken.as_slice() == [run(7, 1)].as_slice());
+    assert_runs(&rt, &taken, &ONLY_7);
     Ok(())
 }
 
@@ -143,33 +188,39 @@ fn three_pools(alloc: Global) -> Result<Allocators, AllocError>
     Allocators::from_words(alloc, &[0], &THREE_POOLS)
 }
 
+const BOTH_JOINED: [&[Pair]; 2] = [&[(10, 5)], &[]];
+
+const LOW_JOINED: [&[Pair]; 2] = [&[(10, 3), (14, 2)], &[]];
+
+const HIGH_JOINED: [&[Pair]; 2] = [&[(10, 2), (13, 3)], &[]];
+
 #[test]
 fn a_run_joins_the_two_that_it_touches(rt: HostRuntime) -> Result<(), Fail> {
     let lists = lists_after(rt.alloc(), run(10, 2), run(13, 2), run(12, 1))?;
-    assert_lists(&rt, &lists, &[&[run(10, 5)], &[]]);
+    assert_lists(&rt, &lists, &BOTH_JOINED);
     let lists = lists_after(rt.alloc(), run(10, 2), run(14, 2), run(12, 1))?;
-    assert_lists(&rt, &lists, &[&[run(10, 3), run(14, 2)], &[]]);
+    assert_lists(&rt, &lists, &LOW_JOINED);
     let lists = lists_after(rt.alloc(), run(10, 2), run(14, 2), run(13, 1))?;
-    assert_lists(&rt, &lists, &[&[run(10, 2), run(13, 3)], &[]]);
+    assert_lists(&rt, &lists, &HIGH_JOINED);
     Ok(())
 }
+
+const OVER_THE_BORDER: [&[Pair]; 2] = [&[(6, 1), (30, 4)], &[(34, 4)]];
 
 #[test]
 fn a_run_over_the_border_of_two_pools_joins_both(rt: HostRuntime) -> Result<(), Fail> {
     let lists = lists_after(rt.alloc(), run(6, 1), run(40, 0), run(30, 8))?;
-    assert_lists(&rt, &lists, &[&[run(6, 1), run(30, 4)], &[run(34, 4)]]);
+    assert_lists(&rt, &lists, &OVER_THE_BORDER);
     Ok(())
 }
 
+fn is_shown_as(alloc: Global, refusal: AllocRefusal, text: &str) -> Result<bool, AllocError> {
+    Ok(format!(in alloc; "{refusal}")?.as_str() == text)
+}
+
 #[test]
-fn a_refusal_has_its_name(rt: HostRuntime) -> Result<(), Fail> {
-    assert_eq!(rt;
-        format!(in rt.alloc(); "{}", AllocRefusal::NoSpace)?.as_str(),
-        "NoSpace"
-    );
-    assert_eq!(rt;
-        format!(in rt.alloc(); "{}", AllocRefusal::Memory)?.as_str(),
-        "Memory"
-    );
+fn a_refusal_has_its_name(rt: HostRuntime) -> Result<(), AllocError> {
+    assert!(rt; is_shown_as(rt.alloc(), AllocRefusal::NoSpace, "NoSpace")?);
+    assert!(rt; is_shown_as(rt.alloc(), AllocRefusal::Memory, "Memory")?);
     Ok(())
 }

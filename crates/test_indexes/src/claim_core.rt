@@ -4,7 +4,7 @@
 ghost use Rattle.std.specs.Prelude.{IfOk};
 ghost use Rattle.nv_claimcore.specs.Replay.{lists, Inside};
 
-use nv_claimcore::{ClaimState, CoreRefusal, Event, Record, Sizes, replay, run};
+use nv_claimcore::{ClaimState, CoreRefusal, Event, Record, Sizes, Worker, replay, run};
 use nv_super::Owner;
 use std::alloc::{AllocError, Global};
 use std::process::Abort;
@@ -41,56 +41,58 @@ const EVENTS: [Event; 7] = [
     Event::Draw { worker: 1 },
 ];
 
-const fn won(owner: Owner) -> Record {
-    Record {
-        block: 3,
-        owner,
-        won: true,
-        marked: false,
-    }
+// What a worker is to have at the end: the numbers that it drew, and its one record.
+#[derive(Clone, Copy)]
+struct Wanted {
+    numbers: [u64; 2],
+    record: Record,
 }
 
-const fn lost_and_marked(owner: Owner) -> Record {
-    Record {
-        block: 3,
-        owner,
-        won: false,
-        marked: true,
-    }
+const LOST_LOG: Record = Record {
+    block: 3,
+    owner: LOG,
+    won: false,
+    marked: true,
+};
+
+const WON_DATA: Record = Record {
+    block: 3,
+    owner: DATA,
+    won: true,
+    marked: false,
+};
+
+fn assert_worker(rt: &impl Abort, worker: &Worker, wanted: &Wanted) {
+    assert_eq!(rt; worker.numbers(), wanted.numbers.as_slice());
+    assert!(rt; worker.records() == [wanted.record].as_slice());
 }
 
-// What a worker is to have at the end.
-#[derive(Drop)]
-struct Wanted<'a> {
-    numbers: &'a [u64],
-    records: &'a [Record],
-}
-
-fn assert_state(rt: &impl Abort, state: &ClaimState, wanted: &[Wanted]) {
+fn assert_state(rt: &impl Abort, state: &ClaimState, first: &Wanted, second: &Wanted) {
     assert_eq!(rt; state.first(), [8u64].as_slice());
     assert_eq!(rt; state.second(), [8u64].as_slice());
     assert_eq!(rt; state.cursor(), 4);
-    assert_eq!(rt; state.views().len(), wanted.len());
-    for (view, want) in state.views().iter().zip(wanted) {
-        assert_eq!(rt; view.numbers(), want.numbers);
-        assert_eq!(rt; view.records(), want.records);
+    let workers = state.views();
+    assert!(rt; workers.len() == 2);
+    if workers.len() == 2 {
+        assert_worker(rt, &workers[0], first);
+        assert_worker(rt, &workers[1], second);
     }
 }
+
+const LOSES_AND_MARKS: Wanted = Wanted {
+    numbers: [0, 2],
+    record: LOST_LOG,
+};
+
+const WINS: Wanted = Wanted {
+    numbers: [1, 3],
+    record: WON_DATA,
+};
 
 #[test]
 fn the_second_claim_of_a_block_is_lost_and_marked(rt: HostRuntime) -> Result<(), CoreRefusal> {
     let state = run(rt.alloc(), SIZES, &EVENTS)?;
-    let wanted = [
-        Wanted {
-            numbers: &[0, 2],
-            records: &[lost_and_marked(LOG)],
-        },
-        Wanted {
-            numbers: &[1, 3],
-            records: &[won(DATA)],
-        },
-    ];
-    assert_state(&rt, &state, &wanted);
+    assert_state(&rt, &state, &LOSES_AND_MARKS, &WINS);
     Ok(())
 }
 
@@ -98,34 +100,48 @@ fn refusal_of(alloc: Global, events: &[Event]) -> Option<CoreRefusal> {
     run(alloc, SIZES, events).err()
 }
 
-#[test]
-fn the_first_event_that_is_not_allowed_is_refused(rt: HostRuntime) -> Result<(), AllocError> {
-    let mut marked_by_the_winner = EVENTS;
-    marked_by_the_winner[4] = Event::Mark {
+// The winner marks the block.
+const MARKED_BY_THE_WINNER: [Event; 7] = [
+    Event::Draw { worker: 0 },
+    Event::Draw { worker: 1 },
+    Event::Claim {
         worker: 1,
         block: 3,
-    };
-    assert_eq!(rt;
-        refusal_of(rt.alloc(), &marked_by_the_winner),
-        Some(CoreRefusal::NotAllowed { place: 4 })
-    );
+        owner: DATA,
+    },
+    Event::Claim {
+        worker: 0,
+        block: 3,
+        owner: LOG,
+    },
+    Event::Mark {
+        worker: 1,
+        block: 3,
+    },
+    Event::Draw { worker: 0 },
+    Event::Draw { worker: 1 },
+];
 
+const PAST_THE_BLOCKS: [Event; 1] = [Event::Claim {
+    worker: 0,
+    block: 4,
+    owner: LOG,
+}];
+
+#[test]
+fn the_first_event_that_is_not_allowed_is_refused(rt: HostRuntime) {
+    let refusal = refusal_of(rt.alloc(), &MARKED_BY_THE_WINNER);
+    assert!(rt; refusal == Some(CoreRefusal::NotAllowed { place: 4 }));
+    let refusal = refusal_of(rt.alloc(), &PAST_THE_BLOCKS);
+    assert!(rt; refusal == Some(CoreRefusal::NotAllowed { place: 0 }));
+}
+
+#[test]
+fn a_draw_more_is_refused(rt: HostRuntime) -> Result<(), AllocError> {
     let mut one_draw_more = Vec::from_array(rt.alloc(), EVENTS)?;
     one_draw_more.push(Event::Draw { worker: 0 })?;
-    assert_eq!(rt;
-        refusal_of(rt.alloc(), &one_draw_more),
-        Some(CoreRefusal::NotAllowed { place: 7 })
-    );
-
-    let past_the_blocks = [Event::Claim {
-        worker: 0,
-        block: 4,
-        owner: LOG,
-    }];
-    assert_eq!(rt;
-        refusal_of(rt.alloc(), &past_the_blocks),
-        Some(CoreRefusal::NotAllowed { place: 0 })
-    );
+    let refusal = refusal_of(rt.alloc(), &one_draw_more);
+    assert!(rt; refusal == Some(CoreRefusal::NotAllowed { place: 7 }));
     Ok(())
 }
 
@@ -139,21 +155,21 @@ fn work(alloc: Global) -> Result<Vec<Vec<(u64, Owner)>>, AllocError>
     Ok(work)
 }
 
+const DRAWS_1_AND_WINS: Wanted = Wanted {
+    numbers: [1, 2],
+    record: WON_DATA,
+};
+
+const DRAWS_0_AND_LOSES: Wanted = Wanted {
+    numbers: [0, 3],
+    record: LOST_LOG,
+};
+
 #[test]
 fn a_schedule_says_which_worker_wins(rt: HostRuntime) -> Result<(), CoreRefusal> {
     let work = work(rt.alloc())?;
     let state = replay(rt.alloc(), &[1, 0, 0], 4, 2, &work)?;
-    let wanted = [
-        Wanted {
-            numbers: &[1, 2],
-            records: &[won(DATA)],
-        },
-        Wanted {
-            numbers: &[0, 3],
-            records: &[lost_and_marked(LOG)],
-        },
-    ];
-    assert_state(&rt, &state, &wanted);
+    assert_state(&rt, &state, &DRAWS_1_AND_WINS, &DRAWS_0_AND_LOSES);
     Ok(())
 }
 

@@ -1,7 +1,8 @@
 //! Each call on its happy path with ample memory, and names at the edges.
 
-use nv_names::{NameIndex, Target};
+use nv_names::{NameIndex, Named, Target};
 use std::alloc::{AllocError, Global};
+use std::process::Abort;
 use std::test::Fail;
 
 /// Names of 1, 40, 41 and 255 bytes, names that begin one another, and bytes above 127, in no order.
@@ -36,57 +37,54 @@ fn filled(alloc: Global, names: &[Vec<u8>]) -> Result<NameIndex, AllocError> {
     Ok(index)
 }
 
+/// A name stands for this inode, by an entry at this place.
+fn assert_named(rt: &impl Abort, index: &NameIndex, name: &[u8], inode: u64, place: u64) {
+    let found = index.get(name);
+    assert!(rt;
+        found == Some(Target { inode, place }),
+        "{found:?} is found"
+    );
+}
+
 #[test]
 fn a_name_is_added_found_and_removed(rt: HostRuntime) {
     let mut index = NameIndex::new(rt.alloc());
     assert!(rt; index.is_empty());
-    assert_eq!(rt; index.reserve(2), Ok(()));
+    assert!(rt; index.reserve(2) == Ok(()));
     index.add(b"a", 5, 4096);
     index.add(b"b", 6, 4136);
-    assert_eq!(rt; index.len(), 2);
-    assert_eq!(rt;
-        index.get(b"a"),
-        Some(Target {
-            inode: 5,
-            place: 4096
-        })
-    );
-    assert_eq!(rt;
-        index.get(b"b"),
-        Some(Target {
-            inode: 6,
-            place: 4136
-        })
-    );
+    assert!(rt; index.len() == 2);
+    assert_named(&rt, &index, b"a", 5, 4096);
+    assert_named(&rt, &index, b"b", 6, 4136);
     index.remove(b"a");
-    assert_eq!(rt; index.get(b"a"), None);
-    assert_eq!(rt;
-        index.get(b"b"),
-        Some(Target {
-            inode: 6,
-            place: 4136
-        })
-    );
+    assert!(rt; index.get(b"a").is_none());
+    assert_named(&rt, &index, b"b", 6, 4136);
+}
+
+/// Each name stands for inode 7 at its place in the list.
+fn assert_all_named(rt: &impl Abort, index: &NameIndex, names: &[Vec<u8>]) {
+    for (place, name) in names.iter().enumerate() {
+        assert_named(rt, index, name, 7, place as u64);
+    }
 }
 
 #[test]
 fn names_at_the_edges_are_told_apart(rt: HostRuntime) -> Result<(), Fail> {
     let names = edge_names(rt.alloc())?;
     let index = filled(rt.alloc(), names.as_slice())?;
-    assert_eq!(rt; index.len(), 7);
-    for (place, name) in names.iter().enumerate() {
-        assert_eq!(rt;
-            index.get(name),
-            Some(Target {
-                inode: 7,
-                place: place as u64
-            })
-        );
-    }
-    assert_eq!(rt; index.get(b""), None);
-    assert_eq!(rt; index.get(&[b'z'; 254]), None);
-    assert_eq!(rt; index.get(&[b'z'; 256]), None);
+    assert!(rt; index.len() == 7);
+    assert_all_named(&rt, &index, &names);
+    assert!(rt; index.get(b"").is_none());
+    assert!(rt; index.get(&[b'z'; 254]).is_none());
+    assert!(rt; index.get(&[b'z'; 256]).is_none());
     Ok(())
+}
+
+fn assert_places(rt: &impl Abort, listed: &[Named]) {
+    assert!(rt; listed.len() == 7);
+    for (line, place) in listed.iter().zip(&RISING) {
+        assert!(rt; line.place == *place, "place {place}");
+    }
 }
 
 #[test]
@@ -94,10 +92,7 @@ fn a_listing_rises_by_bytes(rt: HostRuntime) -> Result<(), Fail> {
     let names = edge_names(rt.alloc())?;
     let index = filled(rt.alloc(), names.as_slice())?;
     let listed = index.list()?;
-    assert_eq!(rt; listed.len(), 7);
-    for (line, place) in listed.iter().zip(RISING) {
-        assert_eq!(rt; line.place, place);
-    }
+    assert_places(&rt, &listed);
     Ok(())
 }
 
@@ -105,8 +100,8 @@ fn a_listing_rises_by_bytes(rt: HostRuntime) -> Result<(), Fail> {
 fn a_refused_growth_leaves_the_names(rt: HostRuntime) -> Result<(), Fail> {
     let names = edge_names(rt.alloc())?;
     let mut index = filled(rt.alloc(), names.as_slice())?;
-    assert_eq!(rt; index.reserve(usize::MAX), Err(AllocError));
-    assert_eq!(rt; index.len(), 7);
+    assert!(rt; index.reserve(usize::MAX) == Err(AllocError));
+    assert!(rt; index.len() == 7);
     Ok(())
 }
 
@@ -122,21 +117,17 @@ fn names_are_removed_once_and_again(rt: HostRuntime) -> Result<(), Fail> {
     Ok(())
 }
 
+const LENGTHS: [usize; 4] = [1, 40, 41, 255];
+
 #[test]
 fn names_are_inserted_where_no_room_was_made(rt: HostRuntime) -> Result<(), Fail> {
     let mut index = NameIndex::new(rt.alloc());
-    for length in [1, 40, 41, 255] {
+    for length in LENGTHS {
         index.insert(&[b'n'; 255][..length], 7, length as u64)?;
     }
-    assert_eq!(rt; index.len(), 4);
-    for length in [1, 40, 41, 255] {
-        assert_eq!(rt;
-            index.get(&[b'n'; 255][..length]),
-            Some(Target {
-                inode: 7,
-                place: length as u64
-            })
-        );
+    assert!(rt; index.len() == 4);
+    for length in LENGTHS {
+        assert_named(&rt, &index, &[b'n'; 255][..length], 7, length as u64);
     }
     Ok(())
 }
