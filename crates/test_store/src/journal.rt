@@ -3,13 +3,18 @@
 mod changes;
 mod stores;
 
-use crate::small::{SMALL, small_region};
+ghost use Rattle.nv_region.specs.Region.{HasBlocks};
+ghost use Rattle.nv_super.specs.Layout.{IsLayout};
+
+use crate::small::{SMALL, Word, assert_words, small_region, word_at};
 use nv_journal::{
     UndoError, one_region_is_undone, the_superblock_stays, undo, undo_again_changes_nothing,
     undone_regions_are_quiet,
 };
-use nv_region::{Fuse, Pmem, RegionRefusal, Stopped};
+use nv_region::{Fuse, MemRegion, RegionRefusal, Stopped};
 use nv_super::{Fault, Super};
+use std::alloc::Global;
+use std::process::Abort;
 
 // Two CPUs: their journals are blocks 1 and 2, the tables blocks 3 and 4. Slot 2 begins at 12416.
 const TWO: Super = Super {
@@ -21,7 +26,7 @@ const TWO: Super = Super {
 };
 
 // Records 250, 251 and 0 are pending. The first two name the tail of slot 1.
-const WRAPPED: [(u64, u64); 11] = [
+const WRAPPED: [Word; 11] = [
     (4096, 250),
     (4104, 1),
     (8160, 8344),
@@ -59,44 +64,74 @@ impl From<UndoError> for Failure {
     }
 }
 
+/// An undo tells these faults.
+fn assert_undone(
+    rt: &impl Abort,
+    alloc: Global,
+    memory: &mut MemRegion,
+    numbers: &Super,
+    told: &[Fault],
+) -> Result<(), UndoError>
+    requires layout { IsLayout numbers.now }
+    requires blocks { HasBlocks memory.old.region numbers.now.blocks }
+    ensures { HasBlocks memory.new.region numbers.now.blocks }
+{
+    let faults = undo(alloc, memory, numbers)?;
+    assert!(rt; faults.as_slice() == told);
+    Ok(())
+}
+
+const ROLLED_BACK: [Word; 3] = [(8344, 12320), (8336, 12288), (4096, 1)];
+
 #[test]
 fn three_records_that_wrap_are_rolled_back(rt: HostRuntime) -> Result<(), Failure> {
     let mut memory = small_region(rt.alloc(), &WRAPPED)?;
-    let faults = undo(rt.alloc(), &mut memory, &SMALL)?;
-    assert!(rt; faults.len() == 0);
-    assert!(rt; memory.load(8344) == 12320);
-    assert!(rt; memory.load(8336) == 12288);
-    assert!(rt; memory.load(4096) == 1);
+    assert_undone(&rt, rt.alloc(), &mut memory, &SMALL, &[])?;
+    assert_words(&rt, &memory, &ROLLED_BACK);
     Ok(())
 }
+
+const TOO_LARGE: [Word; 3] = [(4096, 252), (4160, 8344), (4168, 5)];
 
 #[test]
 fn a_pointer_that_is_too_large_stays(rt: HostRuntime) -> Result<(), Failure> {
-    let mut memory = small_region(rt.alloc(), &[(4096, 252), (4160, 8344), (4168, 5)])?;
-    let faults = undo(rt.alloc(), &mut memory, &SMALL)?;
-    assert!(rt; faults.as_slice() == [Fault::J1 { cpu: 0 }].as_slice());
-    assert!(rt; memory.load(4096) == 252);
-    assert!(rt; memory.load(8344) == 0);
-    let faults = undo(rt.alloc(), &mut memory, &SMALL)?;
-    assert!(rt; faults.as_slice() == [Fault::J1 { cpu: 0 }].as_slice());
-    assert!(rt; memory.load(4096) == 252);
+    let mut memory = small_region(rt.alloc(), &TOO_LARGE)?;
+    assert_undone(
+        &rt,
+        rt.alloc(),
+        &mut memory,
+        &SMALL,
+        &[Fault::J1 { cpu: 0 }],
+    )?;
+    assert!(rt; word_at(&memory, 4096) == Some(252));
+    assert!(rt; word_at(&memory, 8344) == Some(0));
+    assert_undone(
+        &rt,
+        rt.alloc(),
+        &mut memory,
+        &SMALL,
+        &[Fault::J1 { cpu: 0 }],
+    )?;
+    assert!(rt; word_at(&memory, 4096) == Some(252));
     Ok(())
 }
 
+const NOT_PERMITTED: [Word; 3] = [(4104, 1), (4160, 4096), (4168, 77)];
+
+const NOT_PERMITTED_FAULT: Fault = Fault::J2 { cpu: 0, record: 0 };
+
 #[test]
 fn an_address_that_is_not_permitted_is_skipped(rt: HostRuntime) -> Result<(), Failure> {
-    let mut memory = small_region(rt.alloc(), &[(4104, 1), (4160, 4096), (4168, 77)])?;
-    let faults = undo(rt.alloc(), &mut memory, &SMALL)?;
-    assert!(rt; faults.as_slice() == [Fault::J2 { cpu: 0, record: 0 }].as_slice());
-    assert!(rt; memory.load(4096) == 1);
-    let faults = undo(rt.alloc(), &mut memory, &SMALL)?;
-    assert!(rt; faults.len() == 0);
-    assert!(rt; memory.load(4096) == 1);
+    let mut memory = small_region(rt.alloc(), &NOT_PERMITTED)?;
+    assert_undone(&rt, rt.alloc(), &mut memory, &SMALL, &[NOT_PERMITTED_FAULT])?;
+    assert!(rt; word_at(&memory, 4096) == Some(1));
+    assert_undone(&rt, rt.alloc(), &mut memory, &SMALL, &[])?;
+    assert!(rt; word_at(&memory, 4096) == Some(1));
     Ok(())
 }
 
 // Records 251 and 0 of the first journal name words that none may, and a pointer of the second is too large.
-const FAULTY: [(u64, u64); 5] = [
+const FAULTY: [Word; 5] = [
     (4096, 251),
     (4104, 1),
     (8176, 12416 + 8),
@@ -116,13 +151,12 @@ const RISING: [Fault; 3] = [
 #[test]
 fn faults_rise_by_class_and_then_by_record(rt: HostRuntime) -> Result<(), Failure> {
     let mut memory = small_region(rt.alloc(), &FAULTY)?;
-    let faults = undo(rt.alloc(), &mut memory, &TWO)?;
-    assert!(rt; faults.as_slice() == RISING.as_slice());
+    assert_undone(&rt, rt.alloc(), &mut memory, &TWO, &RISING)?;
     Ok(())
 }
 
 // Both journals name the head of slot 2, the second one twice.
-const NAMED_BY_BOTH: [(u64, u64); 10] = [
+const NAMED_BY_BOTH: [Word; 10] = [
     (4104, 2),
     (4160, 12416 + 24),
     (4168, 1),
@@ -135,50 +169,60 @@ const NAMED_BY_BOTH: [(u64, u64); 10] = [
     (8280, 4),
 ];
 
+const HIGHEST: [Word; 4] = [(12416 + 24, 3), (12416, 2), (4096, 2), (8192, 2)];
+
 #[test]
 fn the_highest_journal_that_names_a_word_counts(rt: HostRuntime) -> Result<(), Failure> {
     let mut memory = small_region(rt.alloc(), &NAMED_BY_BOTH)?;
-    let faults = undo(rt.alloc(), &mut memory, &TWO)?;
-    assert!(rt; faults.len() == 0);
-    assert!(rt; memory.load(12416 + 24) == 3);
-    assert!(rt; memory.load(12416) == 2);
-    assert!(rt; memory.load(4096) == 2);
-    assert!(rt; memory.load(8192) == 2);
+    assert_undone(&rt, rt.alloc(), &mut memory, &TWO, &[])?;
+    assert_words(&rt, &memory, &HIGHEST);
     Ok(())
 }
+
+const NOTHING_PENDING: [Word; 3] = [(4096, 7), (4104, 7), (8192, 252)];
 
 #[test]
 fn journals_with_nothing_pending_cause_no_store(rt: HostRuntime) -> Result<(), Failure> {
-    let mut memory = small_region(rt.alloc(), &[(4096, 7), (4104, 7), (8192, 252)])?;
+    let mut memory = small_region(rt.alloc(), &NOTHING_PENDING)?;
     memory.set_fuse(Fuse::After(0));
-    let faults = undo(rt.alloc(), &mut memory, &TWO)?;
-    assert!(rt; faults.as_slice() == [Fault::J1 { cpu: 1 }].as_slice());
+    assert_undone(&rt, rt.alloc(), &mut memory, &TWO, &[Fault::J1 { cpu: 1 }])?;
     Ok(())
 }
 
-// Whether so many stores and fences are too few, and the head, the tail and the dequeue word after another undo.
-fn stopped_and_undone(rt: HostRuntime, passed: u64) -> Result<(bool, [u64; 3]), Failure> {
-    let mut memory = small_region(rt.alloc(), &WRAPPED)?;
+/// Whether so many stores and fences are too few.
+fn is_stopped_after(alloc: Global, memory: &mut MemRegion, passed: u64) -> Result<bool, UndoError>
+    requires { HasBlocks memory.old.region 16 }
+    ensures { HasBlocks memory.new.region 16 }
+{
     memory.set_fuse(Fuse::After(passed));
-    let stopped = match undo(rt.alloc(), &mut memory, &SMALL) {
-        Ok(_) => false,
-        Err(UndoError::Stopped) => true,
-        Err(error) => return Err(Failure::Undo(error)),
-    };
-    memory.set_fuse(Fuse::Off);
-    let _faults = undo(rt.alloc(), &mut memory, &SMALL)?;
-    Ok((
-        stopped,
-        [memory.load(8336), memory.load(8344), memory.load(4096)],
-    ))
+    match undo(alloc, memory, &SMALL) {
+        Ok(_) => Ok(false),
+        Err(UndoError::Stopped) => Ok(true),
+        Err(error) => Err(error),
+    }
+}
+
+/// What was stopped is undone by another undo.
+fn assert_undone_again(
+    rt: &impl Abort,
+    alloc: Global,
+    memory: &mut MemRegion,
+) -> Result<(), UndoError>
+    requires { HasBlocks memory.old.region 16 }
+{
+    undo(alloc, memory, &SMALL)?;
+    assert_words(rt, memory, &ROLLED_BACK);
+    Ok(())
 }
 
 #[test]
 fn an_undo_that_was_stopped_is_finished_by_another(rt: HostRuntime) -> Result<(), Failure> {
     for passed in 0..7 {
-        let (stopped, words) = stopped_and_undone(rt, passed)?;
-        assert!(rt; stopped == (passed < 6));
-        assert!(rt; words == [12288, 12320, 1], "after {passed}");
+        let mut memory = small_region(rt.alloc(), &WRAPPED)?;
+        let stopped = is_stopped_after(rt.alloc(), &mut memory, passed)?;
+        assert!(rt; stopped == (passed < 6), "after {passed}");
+        memory.set_fuse(Fuse::Off);
+        assert_undone_again(&rt, rt.alloc(), &mut memory)?;
     }
     one_region_is_undone();
     undo_again_changes_nothing();

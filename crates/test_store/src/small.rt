@@ -7,6 +7,7 @@ ghost use Rattle.nv_region.specs.Region.{HasBlocks};
 use nv_region::{MemRegion, Pmem, RegionRefusal};
 use nv_super::Super;
 use std::alloc::Global;
+use std::process::Abort;
 
 /// One CPU, 16 blocks, one table block.
 pub const SMALL: Super = Super {
@@ -31,4 +32,21 @@ pub fn small_region(alloc: Global, words: &[Word]) -> Result<MemRegion, RegionRe
         }
     }
     Ok(memory)
+}
+
+/// The word at a byte address, where there is one.
+pub fn word_at(memory: &MemRegion, at: u64) -> Option<u64> {
+    let length = memory.len();
+    if at % 8 == 0 && length >= 8 && at <= length - 8 {
+        Some(memory.load(at))
+    } else {
+        None
+    }
+}
+
+/// The region holds these words.
+pub fn assert_words(rt: &impl Abort, memory: &MemRegion, words: &[Word]) {
+    for (at, word) in words {
+        assert!(rt; word_at(memory, *at) == Some(*word), "the word at {at}");
+    }
 }

@@ -4,13 +4,13 @@ ghost use Rattle.std.specs.Prelude.{◌≡◌, true};
 ghost use Rattle.nv_region.specs.Region.{HasBlocks};
 ghost use Rattle.nv_journal.specs.Pending.{IsEmpty};
 
-use super::Failure;
-use crate::small::{SMALL, small_region};
-use nv_journal::{begin, change_two, commit, undo};
-use nv_region::{MemRegion, Pmem};
+use super::{Failure, assert_undone};
+use crate::small::{SMALL, Word, assert_words, small_region, word_at};
+use nv_journal::{begin, change_two, commit};
+use nv_region::{MemRegion, Pmem, Stopped};
 
 // The head and the tail of slot 1.
-const SLOT: [(u64, u64); 2] = [(8336, 12288), (8344, 12320)];
+const SLOT: [Word; 2] = [(8336, 12288), (8344, 12320)];
 
 /// The number of the first of two records, the addresses of both, and the enqueue number then. Record k stands at
 /// 4160 + 16 k.
@@ -29,42 +29,51 @@ fn is_empty(memory: &MemRegion) -> bool
     memory.load(4096) == next && next < 252
 }
 
-fn two_words(memory: &MemRegion, at: u64) -> [u64; 2]
-    requires { HasBlocks memory.now.region 16 }
-{
-    if at % 8 == 0 && at < 65_528 {
-        [memory.load(at), memory.load(at + 8)]
-    } else {
-        [0, 0]
-    }
+fn two_words(memory: &MemRegion, at: u64) -> Option<[u64; 2]> {
+    Some([word_at(memory, at)?, word_at(memory, at.checked_add(8)?)?])
 }
 
-/// The words of two records that are begun in a journal whose numbers are this one, and its numbers before and after
-/// the commit.
-fn recorded(rt: HostRuntime, row: &[u64; 4]) -> Result<[[u64; 2]; 4], Failure> {
-    let mut memory = small_region(rt.alloc(), &[(4096, row[0]), (4104, row[0])])?;
-    if !is_empty(&memory) {
-        return Ok([[0; 2]; 4]);
+/// The words of two records that are begun in a journal whose numbers are this one, and its numbers before the commit.
+fn recorded(memory: &mut MemRegion, row: &[u64; 4]) -> Result<[Option<[u64; 2]>; 3], Stopped>
+    requires { HasBlocks memory.old.region 16 }
+    ensures { HasBlocks memory.new.region 16 }
+{
+    if is_empty(memory) {
+        begin(memory, 0, &SLOT)?;
     }
-    begin(&mut memory, 0, &SLOT)?;
-    let first = two_words(&memory, row[1]);
-    let second = two_words(&memory, row[2]);
-    let numbers = two_words(&memory, 4096);
-    commit(&mut memory, 0)?;
-    Ok([first, second, numbers, two_words(&memory, 4096)])
+    Ok([
+        two_words(memory, row[1]),
+        two_words(memory, row[2]),
+        two_words(memory, 4096),
+    ])
 }
 
 #[test]
 fn after_record_251_comes_0(rt: HostRuntime) -> Result<(), Failure> {
     for row in &WRAPPING {
         let [from, _, _, next] = *row;
-        let words = recorded(rt, row)?;
-        assert!(rt; words[0] == [8336, 12288], "the first from {from}");
-        assert!(rt; words[1] == [8344, 12320], "the second from {from}");
-        assert!(rt; words[2] == [from, next], "from {from}");
-        assert!(rt; words[3] == [next, next], "from {from}");
+        let mut memory = small_region(rt.alloc(), &[(4096, from), (4104, from)])?;
+        let words = recorded(&mut memory, row)?;
+        assert!(rt; words[0] == Some([8336, 12288]), "the first from {from}");
+        assert!(rt; words[1] == Some([8344, 12320]), "the second from {from}");
+        assert!(rt; words[2] == Some([from, next]), "from {from}");
+        commit(&mut memory, 0)?;
+        assert!(rt;
+            two_words(&memory, 4096) == Some([next, next]),
+            "from {from}"
+        );
     }
     Ok(())
+}
+
+const CHANGED: [Word; 2] = [(8336, 16384), (8344, 16416)];
+
+/// Changes the head and the tail of slot 1.
+fn change_slot(memory: &mut MemRegion) -> Result<(), Stopped>
+    requires blocks { HasBlocks memory.old.region 16 }
+    requires empty { IsEmpty memory.old.region 0 }
+{
+    change_two(memory, 0, 8336, 16384, 8344, 16416)
 }
 
 #[test]
@@ -72,12 +81,21 @@ fn two_words_change_together(rt: HostRuntime) -> Result<(), Failure> {
     let mut memory = small_region(rt.alloc(), &SLOT)?;
     assert!(rt; is_empty(&memory));
     if is_empty(&memory) {
-        change_two(&mut memory, 0, 8336, 16384, 8344, 16416)?;
-        assert!(rt; memory.load(8336) == 16384);
-        assert!(rt; memory.load(8344) == 16416);
-        assert!(rt; memory.load(4096) == memory.load(4104));
+        change_slot(&mut memory)?;
+        assert_words(&rt, &memory, &CHANGED);
+        assert!(rt; word_at(&memory, 4096) == word_at(&memory, 4104));
     }
     Ok(())
+}
+
+/// Begins a change of the head and the tail of slot 1, and stores the head.
+fn begin_slot(memory: &mut MemRegion) -> Result<(), Stopped>
+    requires blocks { HasBlocks memory.old.region 16 }
+    requires empty { IsEmpty memory.old.region 0 }
+    ensures { HasBlocks memory.new.region 16 }
+{
+    begin(memory, 0, &SLOT)?;
+    memory.store(8336, 16384)
 }
 
 #[test]
@@ -85,11 +103,9 @@ fn a_change_that_was_begun_is_rolled_back(rt: HostRuntime) -> Result<(), Failure
     let mut memory = small_region(rt.alloc(), &SLOT)?;
     assert!(rt; is_empty(&memory));
     if is_empty(&memory) {
-        begin(&mut memory, 0, &SLOT)?;
-        memory.store(8336, 16384)?;
-        undo(rt.alloc(), &mut memory, &SMALL)?;
-        assert!(rt; memory.load(8336) == 12288);
-        assert!(rt; memory.load(8344) == 12320);
+        begin_slot(&mut memory)?;
+        assert_undone(&rt, rt.alloc(), &mut memory, &SMALL, &[])?;
+        assert_words(&rt, &memory, &SLOT);
     }
     Ok(())
 }
