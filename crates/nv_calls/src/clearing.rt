@@ -3,9 +3,10 @@
 
 ghost use Rattle.std.specs.Prelude.{◌≡◌, ◌≤◌, ◌<◌, ◌+◌, ◌*◌, ◌%◌, ℕ, IsTrue, OnOk, OnErr};
 ghost use Rattle.nv_region.specs.Region.{HasBlocks, size, word};
-ghost use Rattle.nv_region.specs.Stops.{One, StaysBurnt, StaysSteady};
+ghost use Rattle.nv_region.specs.Stops.{One};
+ghost use Rattle.nv_region.specs.Fuses.{KeepsFuse};
 ghost use Rattle.nv_region.specs.Stored.{StoresOnly};
-ghost use Rattle.nv_super.specs.Layout.{IsLayout, inode_limit, slot_address};
+ghost use Rattle.nv_super.specs.Layout.{IsLayout, inode_limit, slot_address, system_blocks};
 ghost use Rattle.nv_calls.specs.Format.{AnyAt, IsPointer, IsValidWord, IsSystemWord, IsEmptySystem};
 
 use nv_region::{Pmem, Stopped, store_word};
@@ -20,9 +21,8 @@ pub fn clear_system<P: Pmem>(memory: &mut P, sup: &Super) -> Result<(), Stopped>
     ensures done { OnOk result (IsEmptySystem (P.region memory.new) sup.now) }
     ensures blocks { HasBlocks (P.region memory.new) sup.now.blocks }
     ensures wrote { StoresOnly (AnyAt (IsSystemWord sup.now)) (P.region memory.old) (P.region memory.new) (P.may_hold memory.old) (P.may_hold memory.new) }
-    ensures stopped { OnErr result (IsTrue (P.has_burnt memory.new)) }
-    ensures burnt { StaysBurnt (P.has_burnt memory.old) (P.has_burnt memory.new) }
-    ensures steady { StaysSteady (P.is_steady memory.old) (P.is_steady memory.new) }
+    ensures stopped { OnErr result (IsTrue (P.fuse memory.new).has_burnt) }
+    ensures keeps_fuse { KeepsFuse (λ limit. 4096 * system_blocks sup.now ≤ limit) (P.fuse memory.old) (P.fuse memory.new) }
 {
     write_super(memory, sup)?;
     clear_journals(memory, sup)?;
@@ -36,9 +36,8 @@ fn clear_journals<P: Pmem>(memory: &mut P, sup: &Super) -> Result<(), Stopped>
     ensures empty { OnOk result ((cpu : ℕ) → cpu < sup.now.cpus → (word (P.region memory.new) (4096 * (1 + cpu)) ≡ 0) × (word (P.region memory.new) (4096 * (1 + cpu) + 8) ≡ 0)) }
     ensures blocks { HasBlocks (P.region memory.new) sup.now.blocks }
     ensures wrote { StoresOnly (AnyAt (IsPointer sup.now)) (P.region memory.old) (P.region memory.new) (P.may_hold memory.old) (P.may_hold memory.new) }
-    ensures stopped { OnErr result (IsTrue (P.has_burnt memory.new)) }
-    ensures burnt { StaysBurnt (P.has_burnt memory.old) (P.has_burnt memory.new) }
-    ensures steady { StaysSteady (P.is_steady memory.old) (P.is_steady memory.new) }
+    ensures stopped { OnErr result (IsTrue (P.fuse memory.new).has_burnt) }
+    ensures keeps_fuse { KeepsFuse (λ limit. 4096 * (1 + sup.now.cpus) ≤ limit) (P.fuse memory.old) (P.fuse memory.new) }
 {
     for cpu in 0..sup.cpus {
         let dequeue = BLOCK_SIZE * (1 + cpu);
@@ -56,9 +55,8 @@ fn clear_tables<P: Pmem>(memory: &mut P, sup: &Super) -> Result<(), Stopped>
     ensures unused { OnOk result ((i : ℕ) → i < inode_limit sup.now → word (P.region memory.new) (slot_address sup.now i) ≡ 0) }
     ensures blocks { HasBlocks (P.region memory.new) sup.now.blocks }
     ensures wrote { StoresOnly (AnyAt (IsValidWord sup.now)) (P.region memory.old) (P.region memory.new) (P.may_hold memory.old) (P.may_hold memory.new) }
-    ensures stopped { OnErr result (IsTrue (P.has_burnt memory.new)) }
-    ensures burnt { StaysBurnt (P.has_burnt memory.old) (P.has_burnt memory.new) }
-    ensures steady { StaysSteady (P.is_steady memory.old) (P.is_steady memory.new) }
+    ensures stopped { OnErr result (IsTrue (P.fuse memory.new).has_burnt) }
+    ensures keeps_fuse { KeepsFuse (λ limit. 4096 * system_blocks sup.now ≤ limit) (P.fuse memory.old) (P.fuse memory.new) }
 {
     let tables = (1 + sup.cpus) * BLOCK_SIZE;
     let slots = 32 * sup.cpus * sup.table_blocks;
@@ -75,9 +73,8 @@ fn clear_word<P: Pmem>(memory: &mut P, at: u64) -> Result<(), Stopped>
     ensures cleared { OnOk result (word (P.region memory.new) at ≡ 0) }
     ensures size { size (P.region memory.new) ≡ size (P.region memory.old) }
     ensures wrote { StoresOnly (One at 0) (P.region memory.old) (P.region memory.new) (P.may_hold memory.old) (P.may_hold memory.new) }
-    ensures stopped { OnErr result (IsTrue (P.has_burnt memory.new)) }
-    ensures burnt { StaysBurnt (P.has_burnt memory.old) (P.has_burnt memory.new) }
-    ensures steady { StaysSteady (P.is_steady memory.old) (P.is_steady memory.new) }
+    ensures stopped { OnErr result (IsTrue (P.fuse memory.new).has_burnt) }
+    ensures keeps_fuse { KeepsFuse (λ limit. at + 8 ≤ limit) (P.fuse memory.old) (P.fuse memory.new) }
 {
     store_word(memory, at, 0)
 }

@@ -5,10 +5,11 @@
 
 ghost use Rattle.std.specs.Prelude.{◌≡◌, ◌≢◌, ◌⊎◌, ◌≤◌, ◌<◌, ◌+◌, ◌*◌, ◌%◌, IsTrue, IfOk, IfErr, IsOk, IsErrOf, OnOk, OnErr};
 ghost use Rattle.nv_region.specs.Region.{HasBlocks, size, put};
-ghost use Rattle.nv_region.specs.Stops.{NothingPending, LeavesOnly, StaysBurnt, StaysSteady};
+ghost use Rattle.nv_region.specs.Stops.{NothingPending, LeavesOnly};
+ghost use Rattle.nv_region.specs.Fuses.{KeepsFuse};
 ghost use Rattle.nv_region.specs.Stored.{StoresOnly, Within};
 ghost use Rattle.nv_super.specs.Layout.{IsLayout, slot_address};
-ghost use Rattle.nv_calls.specs.Format.{IsFormatRefusal, CanFormat, IsFormatted, IsLaidOut, HasRoot, AnyAt, IsSystemWord, IsRootWord, fresh_super, refusal_name, FormatIsDetermined, FormatLeaves};
+ghost use Rattle.nv_calls.specs.Format.{IsFormatRefusal, CanFormat, IsFormatted, IsLaidOut, HasRoot, AnyAt, IsSystemWord, IsRootWord, fresh_super, root_page, refusal_name, FormatIsDetermined, FormatLeaves};
 
 use crate::clearing::clear_system;
 use nv_inode::{Slot, put_slot, set_word};
@@ -77,10 +78,9 @@ pub fn format<P: Pmem>(
     ensures settled { OnOk result (NothingPending (P.region memory.new) (P.may_hold memory.new)) }
     ensures refused { IfErr result (λ refusal. IsFormatRefusal (P.region memory.old) cpus table_blocks refusal) }
     ensures unchanged { IfErr result (λ refusal. refusal ≢ FormatRefusal.Stopped → memory.new ≡ memory.old) }
-    ensures stopped { IsErrOf result FormatRefusal.Stopped → IsTrue (P.has_burnt memory.new) }
-    ensures burnt { StaysBurnt (P.has_burnt memory.old) (P.has_burnt memory.new) }
-    ensures steady_ok { IsTrue (P.is_steady memory.old) → CanFormat (P.region memory.old) cpus table_blocks → IsOk result }
-    ensures steady { StaysSteady (P.is_steady memory.old) (P.is_steady memory.new) }
+    ensures stopped { IsErrOf result FormatRefusal.Stopped → IsTrue (P.fuse memory.new).has_burnt }
+    ensures keeps_fuse { KeepsFuse (λ limit. root_page (fresh_super (P.region memory.old) cpus table_blocks) + 32 ≤ limit) (P.fuse memory.old) (P.fuse memory.new) }
+    ensures steady_ok { IsTrue (P.fuse memory.old).is_steady → CanFormat (P.region memory.old) cpus table_blocks → IsOk result }
     ensures size { size (P.region memory.new) ≡ size (P.region memory.old) }
     ensures any_stop { NothingPending (P.region memory.old) (P.may_hold memory.old) → LeavesOnly (P.region memory.new) (P.may_hold memory.new)
         (FormatLeaves (P.region memory.old) (fresh_super (P.region memory.old) cpus table_blocks) time) }
@@ -132,9 +132,8 @@ fn write_region<P: Pmem>(memory: &mut P, sup: &Super, time: u64) -> Result<(), S
     requires blocks { HasBlocks (P.region memory.old) sup.now.blocks }
     ensures done { OnOk result (IsFormatted (P.region memory.old) (P.region memory.new) sup.now time) }
     ensures settled { OnOk result (NothingPending (P.region memory.new) (P.may_hold memory.new)) }
-    ensures stopped { OnErr result (IsTrue (P.has_burnt memory.new)) }
-    ensures burnt { StaysBurnt (P.has_burnt memory.old) (P.has_burnt memory.new) }
-    ensures steady { StaysSteady (P.is_steady memory.old) (P.is_steady memory.new) }
+    ensures stopped { OnErr result (IsTrue (P.fuse memory.new).has_burnt) }
+    ensures keeps_fuse { KeepsFuse (λ limit. root_page sup.now + 32 ≤ limit) (P.fuse memory.old) (P.fuse memory.new) }
     ensures blocks { HasBlocks (P.region memory.new) sup.now.blocks }
     ensures any_stop { NothingPending (P.region memory.old) (P.may_hold memory.old) → LeavesOnly (P.region memory.new) (P.may_hold memory.new) (FormatLeaves (P.region memory.old) sup.now time) }
 {
@@ -153,9 +152,8 @@ fn lay_out<P: Pmem>(memory: &mut P, sup: &Super, time: u64) -> Result<(), Stoppe
     ensures done { OnOk result (IsLaidOut (P.region memory.new) sup.now time) }
     ensures blocks { HasBlocks (P.region memory.new) sup.now.blocks }
     ensures wrote { StoresOnly (AnyAt (λ a. IsSystemWord sup.now a ⊎ IsRootWord sup.now a)) (P.region memory.old) (P.region memory.new) (P.may_hold memory.old) (P.may_hold memory.new) }
-    ensures stopped { OnErr result (IsTrue (P.has_burnt memory.new)) }
-    ensures burnt { StaysBurnt (P.has_burnt memory.old) (P.has_burnt memory.new) }
-    ensures steady { StaysSteady (P.is_steady memory.old) (P.is_steady memory.new) }
+    ensures stopped { OnErr result (IsTrue (P.fuse memory.new).has_burnt) }
+    ensures keeps_fuse { KeepsFuse (λ limit. root_page sup.now + 32 ≤ limit) (P.fuse memory.old) (P.fuse memory.new) }
 {
     clear_system(memory, sup)?;
     write_root(memory, sup, time)
@@ -168,9 +166,8 @@ fn write_root<P: Pmem>(memory: &mut P, sup: &Super, time: u64) -> Result<(), Sto
     ensures done { OnOk result (HasRoot (P.region memory.new) sup.now time) }
     ensures blocks { HasBlocks (P.region memory.new) sup.now.blocks }
     ensures wrote { StoresOnly (AnyAt (IsRootWord sup.now)) (P.region memory.old) (P.region memory.new) (P.may_hold memory.old) (P.may_hold memory.new) }
-    ensures stopped { OnErr result (IsTrue (P.has_burnt memory.new)) }
-    ensures burnt { StaysBurnt (P.has_burnt memory.old) (P.has_burnt memory.new) }
-    ensures steady { StaysSteady (P.is_steady memory.old) (P.is_steady memory.new) }
+    ensures stopped { OnErr result (IsTrue (P.fuse memory.new).has_burnt) }
+    ensures keeps_fuse { KeepsFuse (λ limit. root_page sup.now + 32 ≤ limit) (P.fuse memory.old) (P.fuse memory.new) }
 {
     let page = BLOCK_SIZE * sup.system_blocks();
     let slot = Slot {
@@ -191,9 +188,8 @@ fn write_root_entry<P: Pmem>(memory: &mut P, at: u64, time: u64) -> Result<(), S
     requires within { at + 32 ≤ size (P.region memory.old) }
     ensures done { OnOk result (P.region memory.new ≡ put (put (put (put (P.region memory.old) at ROOT_ATTRIBUTES) (at + 8) 0) (at + 16) time) (at + 24) 0) }
     ensures wrote { StoresOnly (Within at 32) (P.region memory.old) (P.region memory.new) (P.may_hold memory.old) (P.may_hold memory.new) }
-    ensures stopped { OnErr result (IsTrue (P.has_burnt memory.new)) }
-    ensures burnt { StaysBurnt (P.has_burnt memory.old) (P.has_burnt memory.new) }
-    ensures steady { StaysSteady (P.is_steady memory.old) (P.is_steady memory.new) }
+    ensures stopped { OnErr result (IsTrue (P.fuse memory.new).has_burnt) }
+    ensures keeps_fuse { KeepsFuse (λ limit. at + 32 ≤ limit) (P.fuse memory.old) (P.fuse memory.new) }
 {
     let _length = memory.len();
     memory.store(at, ROOT_ATTRIBUTES)?;

@@ -2,7 +2,8 @@
 
 ghost use Rattle.std.specs.Prelude.{◌≡◌, ℕ, ◌+◌, ◌*◌, ◌/◌, ◌%◌, ◌^◌, ◌<◌, ◌≤◌, length, OnOk, is_err};
 ghost use Rattle.nv_region.specs.Region.{size};
-ghost use Rattle.nv_region.specs.Stops.{Adds, StaysBurnt, StaysOpen, StaysSteady};
+ghost use Rattle.nv_region.specs.Stops.{Adds};
+ghost use Rattle.nv_region.specs.Fuses.{KeepsFuse};
 ghost use Rattle.nv_region.specs.Stored.{SameOutside, StoresOnly, Within};
 ghost use Rattle.nv_entry.specs.Text.{number_of, text_word};
 ghost use Rattle.nv_entry.specs.Spelling.{Stands, entry_length, operation_code, words_for, IsTextAt, IsNameAt, first_word};
@@ -37,10 +38,8 @@ pub fn write_entry<P: Pmem>(memory: &mut P, at: u64, entry: &Entry) -> Result<()
     ensures spelled { OnOk result (Stands (P.region memory.new) at entry.now) }
     ensures rest { SameOutside (P.region memory.old) at (entry_length entry.now) (P.region memory.new) }
     ensures wrote { StoresOnly (Within at (entry_length entry.now)) (P.region memory.old) (P.region memory.new) (P.may_hold memory.old) (P.may_hold memory.new) }
-    ensures stopped { is_err result ≡ P.has_burnt memory.new }
-    ensures burnt { StaysBurnt (P.has_burnt memory.old) (P.has_burnt memory.new) }
-    ensures steady { StaysSteady (P.is_steady memory.old) (P.is_steady memory.new) }
-    ensures open { (limit : ℕ) → at + entry_length entry.now ≤ limit → StaysOpen limit (P.is_open memory.old) (P.is_open memory.new) }
+    ensures stopped { is_err result ≡ (P.fuse memory.new).has_burnt }
+    ensures keeps_fuse { KeepsFuse (λ limit. at + entry_length entry.now ≤ limit) (P.fuse memory.old) (P.fuse memory.new) }
 {
     // The region's length is a u64, and so is each address up to it.
     let _end = memory.len();
@@ -54,10 +53,8 @@ fn store_entry<P: Pmem>(memory: &mut P, at: u64, entry: &Entry) -> Result<(), St
     ensures spelled { OnOk result (Stands (P.region memory.new) at entry.now) }
     ensures rest { SameOutside (P.region memory.old) at (entry_length entry.now) (P.region memory.new) }
     ensures may_keep { Adds (Within at (entry_length entry.now)) (P.may_hold memory.old) (P.may_hold memory.new) }
-    ensures stopped { is_err result ≡ P.has_burnt memory.new }
-    ensures burnt { StaysBurnt (P.has_burnt memory.old) (P.has_burnt memory.new) }
-    ensures steady { StaysSteady (P.is_steady memory.old) (P.is_steady memory.new) }
-    ensures open { (limit : ℕ) → at + entry_length entry.now ≤ limit → StaysOpen limit (P.is_open memory.old) (P.is_open memory.new) }
+    ensures stopped { is_err result ≡ (P.fuse memory.new).has_burnt }
+    ensures keeps_fuse { KeepsFuse (λ limit. at + entry_length entry.now ≤ limit) (P.fuse memory.old) (P.fuse memory.new) }
 {
     match entry {
         Entry::NextPage => {
@@ -88,10 +85,8 @@ fn store_name_entry<P: Pmem>(memory: &mut P, at: u64, e: &NameEntry) -> Result<(
     ensures spelled { OnOk result (IsNameAt (P.region memory.new) at e.now) }
     ensures rest { SameOutside (P.region memory.old) at (24 + 8 * words_for (length e.now.name)) (P.region memory.new) }
     ensures may_keep { Adds (Within at (24 + 8 * words_for (length e.now.name))) (P.may_hold memory.old) (P.may_hold memory.new) }
-    ensures stopped { is_err result ≡ P.has_burnt memory.new }
-    ensures burnt { StaysBurnt (P.has_burnt memory.old) (P.has_burnt memory.new) }
-    ensures steady { StaysSteady (P.is_steady memory.old) (P.is_steady memory.new) }
-    ensures open { (limit : ℕ) → at + 24 + 8 * words_for (length e.now.name) ≤ limit → StaysOpen limit (P.is_open memory.old) (P.is_open memory.new) }
+    ensures stopped { is_err result ≡ (P.fuse memory.new).has_burnt }
+    ensures keeps_fuse { KeepsFuse (λ limit. at + 24 + 8 * words_for (length e.now.name) ≤ limit) (P.fuse memory.old) (P.fuse memory.new) }
 {
     let name = e.name.as_slice();
     let size = 24 + 8 * ((name.len() + 7) / 8);
@@ -130,10 +125,8 @@ fn store_words<P: Pmem>(memory: &mut P, at: u64, words: &[u64]) -> Result<(), St
     ensures held { OnOk result (HoldsWords (P.region memory.new) at words.now) }
     ensures rest { SameOutside (P.region memory.old) at (8 * length words.now) (P.region memory.new) }
     ensures may_keep { Adds (Within at (8 * length words.now)) (P.may_hold memory.old) (P.may_hold memory.new) }
-    ensures stopped { is_err result ≡ P.has_burnt memory.new }
-    ensures burnt { StaysBurnt (P.has_burnt memory.old) (P.has_burnt memory.new) }
-    ensures steady { StaysSteady (P.is_steady memory.old) (P.is_steady memory.new) }
-    ensures open { (limit : ℕ) → at + 8 * length words.now ≤ limit → StaysOpen limit (P.is_open memory.old) (P.is_open memory.new) }
+    ensures stopped { is_err result ≡ (P.fuse memory.new).has_burnt }
+    ensures keeps_fuse { KeepsFuse (λ limit. at + 8 * length words.now ≤ limit) (P.fuse memory.old) (P.fuse memory.new) }
 {
     for (k, word) in words.iter().enumerate() {
         store_word(memory, at + 8 * k as u64, *word)?;
@@ -151,10 +144,8 @@ fn store_text<P: Pmem>(memory: &mut P, at: u64, name: &[u8]) -> Result<(), Stopp
     ensures text { OnOk result (IsTextAt (P.region memory.new) at name.now) }
     ensures rest { SameOutside (P.region memory.old) at (8 * words_for (length name.now)) (P.region memory.new) }
     ensures may_keep { Adds (Within at (8 * words_for (length name.now))) (P.may_hold memory.old) (P.may_hold memory.new) }
-    ensures stopped { is_err result ≡ P.has_burnt memory.new }
-    ensures burnt { StaysBurnt (P.has_burnt memory.old) (P.has_burnt memory.new) }
-    ensures steady { StaysSteady (P.is_steady memory.old) (P.is_steady memory.new) }
-    ensures open { (limit : ℕ) → at + 8 * words_for (length name.now) ≤ limit → StaysOpen limit (P.is_open memory.old) (P.is_open memory.new) }
+    ensures stopped { is_err result ≡ (P.fuse memory.new).has_burnt }
+    ensures keeps_fuse { KeepsFuse (λ limit. at + 8 * words_for (length name.now) ≤ limit) (P.fuse memory.old) (P.fuse memory.new) }
 {
     for k in 0..(name.len() + 7) / 8 {
         store_word(memory, at + 8 * k as u64, word_of(name, 8 * k))?;

@@ -2,7 +2,8 @@
 
 ghost use Rattle.std.specs.Prelude.{◌≡◌, ◌≤◌, ◌+◌, ◌*◌, ◌%◌, IsTrue, OnOk, is_err};
 ghost use Rattle.nv_region.specs.Region.{HasBlocks, size, put};
-ghost use Rattle.nv_region.specs.Stops.{One, StaysBurnt, StaysSteady};
+ghost use Rattle.nv_region.specs.Stops.{One};
+ghost use Rattle.nv_region.specs.Fuses.{KeepsFuse};
 ghost use Rattle.nv_region.specs.Stored.{StoresOnly, Within};
 ghost use Rattle.nv_super.specs.Layout.{IsLayout, is_number, slot_address};
 ghost use Rattle.nv_inode.specs.Slot.{slot_at, with_slot};
@@ -36,9 +37,8 @@ pub fn put_slot<P: Pmem>(memory: &mut P, sup: &Super, ino: u64, slot: &Slot) -> 
     requires number { IsTrue (is_number sup.now ino) }
     ensures done { OnOk result (P.region memory.new ≡ with_slot (P.region memory.old) (slot_address sup.now ino) slot.now) }
     ensures wrote { StoresOnly (Within (slot_address sup.now ino + 8) 32) (P.region memory.old) (P.region memory.new) (P.may_hold memory.old) (P.may_hold memory.new) }
-    ensures stopped { is_err result ≡ P.has_burnt memory.new }
-    ensures burnt { StaysBurnt (P.has_burnt memory.old) (P.has_burnt memory.new) }
-    ensures steady { StaysSteady (P.is_steady memory.old) (P.is_steady memory.new) }
+    ensures stopped { is_err result ≡ (P.fuse memory.new).has_burnt }
+    ensures keeps_fuse { KeepsFuse (λ limit. slot_address sup.now ino + 40 ≤ limit) (P.fuse memory.old) (P.fuse memory.new) }
 {
     let at = slot_start(sup, ino);
     memory.store(at + 8, slot.kind)?;
@@ -53,9 +53,8 @@ pub fn set_word<P: Pmem>(memory: &mut P, at: u64, value: u64) -> Result<(), Stop
     requires within { at + 8 ≤ size (P.region memory.old) }
     ensures done { OnOk result (P.region memory.new ≡ put (P.region memory.old) at value) }
     ensures wrote { StoresOnly (One at value) (P.region memory.old) (P.region memory.new) (P.may_hold memory.old) (P.may_hold memory.new) }
-    ensures stopped { is_err result ≡ P.has_burnt memory.new }
-    ensures burnt { StaysBurnt (P.has_burnt memory.old) (P.has_burnt memory.new) }
-    ensures steady { StaysSteady (P.is_steady memory.old) (P.is_steady memory.new) }
+    ensures stopped { is_err result ≡ (P.fuse memory.new).has_burnt }
+    ensures keeps_fuse { KeepsFuse (λ limit. at + 8 ≤ limit) (P.fuse memory.old) (P.fuse memory.new) }
 {
     memory.store(at, value)
 }

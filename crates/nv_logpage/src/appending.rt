@@ -6,7 +6,8 @@
 
 ghost use Rattle.std.specs.Prelude.{◌≡◌, ◌≢◌, ◌⊎◌, ◌+◌, ◌*◌, ◌/◌, ◌%◌, ◌^◌, ◌<◌, ◌≤◌, List, ◌∷◌, ◌++◌, ℕ, suc, length, get_or, take, IfOk, OnOk, OnErr, None, IsTrue, false, is_err};
 ghost use Rattle.nv_region.specs.Region.{Region, size};
-ghost use Rattle.nv_region.specs.Stops.{LeavesOnly, NothingPending, StaysBurnt, StaysOpen, StaysSteady};
+ghost use Rattle.nv_region.specs.Stops.{LeavesOnly, NothingPending};
+ghost use Rattle.nv_region.specs.Fuses.{KeepsFuse};
 ghost use Rattle.nv_region.specs.Stored.{StoresOnly};
 ghost use Rattle.nv_super.specs.Layout.{is_data_address, is_page_start};
 ghost use Rattle.nv_super.specs.declared.superblock.Super.{Super};
@@ -78,10 +79,8 @@ pub fn append<P: Pmem>(
     ensures order { StoresOnly (EntryWords tail fresh.now) (P.region memory.old) (P.region memory.new) (P.may_hold memory.old) (P.may_hold memory.new) ⊎ Laid (P.region memory.new) fresh.now 0 tail entries.now }
     ensures len { size (P.region memory.new) ≡ size (P.region memory.old) }
     ensures nothing { length entries.now ≡ 0 → (is_err result ≡ false) × (memory.new ≡ memory.old) }
-    ensures stopped { 0 < length entries.now → is_err result ≡ P.has_burnt memory.new }
-    ensures burnt { StaysBurnt (P.has_burnt memory.old) (P.has_burnt memory.new) }
-    ensures steady { StaysSteady (P.is_steady memory.old) (P.is_steady memory.new) }
-    ensures open { (limit : ℕ) → EndBy (tail / 4096 ∷ fresh.now) limit → StaysOpen limit (P.is_open memory.old) (P.is_open memory.new) }
+    ensures stopped { 0 < length entries.now → is_err result ≡ (P.fuse memory.new).has_burnt }
+    ensures keeps_fuse { KeepsFuse (λ limit. EndBy (tail / 4096 ∷ fresh.now) limit) (P.fuse memory.old) (P.fuse memory.new) }
 
     // A stop at any moment of the call leaves the log as it was up to the old tail.
     ensures any_stop { (s : Super) (head : ℕ) (es : List Placed) (all : List ℕ) → IsTrue (is_page_start s head) → FreshFor s fresh.now all → Reads (P.region memory.old) s head tail es all None
@@ -110,10 +109,8 @@ fn write_entries<P: Pmem>(
     ensures wrote { StoresOnly (EntryWords tail fresh.now) (P.region memory.old) (P.region memory.new) (P.may_hold memory.old) (P.may_hold memory.new) }
     ensures len { size (P.region memory.new) ≡ size (P.region memory.old) }
     ensures nothing { length entries.now ≡ 0 → (is_err result ≡ false) × (memory.new ≡ memory.old) }
-    ensures stopped { 0 < length entries.now → is_err result ≡ P.has_burnt memory.new }
-    ensures burnt { StaysBurnt (P.has_burnt memory.old) (P.has_burnt memory.new) }
-    ensures steady { StaysSteady (P.is_steady memory.old) (P.is_steady memory.new) }
-    ensures open { (limit : ℕ) → EndBy (tail / 4096 ∷ fresh.now) limit → StaysOpen limit (P.is_open memory.old) (P.is_open memory.new) }
+    ensures stopped { 0 < length entries.now → is_err result ≡ (P.fuse memory.new).has_burnt }
+    ensures keeps_fuse { KeepsFuse (λ limit. EndBy (tail / 4096 ∷ fresh.now) limit) (P.fuse memory.old) (P.fuse memory.new) }
 {
     let mut place = tail;
     let mut used = 0;
@@ -150,10 +147,8 @@ fn write_turned<P: Pmem>(
     ensures marker { OnOk result (place % 4096 < 4064 → Stands (P.region memory.new) place Entry.NextPage) }
     ensures wrote { StoresOnly (FromOrIn place next) (P.region memory.old) (P.region memory.new) (P.may_hold memory.old) (P.may_hold memory.new) }
     ensures len { size (P.region memory.new) ≡ size (P.region memory.old) }
-    ensures stopped { is_err result ≡ P.has_burnt memory.new }
-    ensures burnt { StaysBurnt (P.has_burnt memory.old) (P.has_burnt memory.new) }
-    ensures steady { StaysSteady (P.is_steady memory.old) (P.is_steady memory.new) }
-    ensures open { (limit : ℕ) → place / 4096 * 4096 + 4096 ≤ limit → 4096 * next + 4096 ≤ limit → StaysOpen limit (P.is_open memory.old) (P.is_open memory.new) }
+    ensures stopped { is_err result ≡ (P.fuse memory.new).has_burnt }
+    ensures keeps_fuse { KeepsFuse (λ limit. (place / 4096 * 4096 + 4096 ≤ limit) × (4096 * next + 4096 ≤ limit)) (P.fuse memory.old) (P.fuse memory.new) }
 {
     write_marker(memory, place)?;
     write_entry(memory, next * BLOCK_SIZE, entry)
@@ -167,10 +162,8 @@ fn write_marker<P: Pmem>(memory: &mut P, place: u64) -> Result<(), Stopped>
     ensures marker { OnOk result (place % 4096 < 4064 → Stands (P.region memory.new) place Entry.NextPage) }
     ensures wrote { StoresOnly (PageFrom place) (P.region memory.old) (P.region memory.new) (P.may_hold memory.old) (P.may_hold memory.new) }
     ensures len { size (P.region memory.new) ≡ size (P.region memory.old) }
-    ensures stopped { OnErr result (IsTrue (P.has_burnt memory.new)) }
-    ensures burnt { StaysBurnt (P.has_burnt memory.old) (P.has_burnt memory.new) }
-    ensures steady { StaysSteady (P.is_steady memory.old) (P.is_steady memory.new) }
-    ensures open { (limit : ℕ) → place / 4096 * 4096 + 4096 ≤ limit → StaysOpen limit (P.is_open memory.old) (P.is_open memory.new) }
+    ensures stopped { OnErr result (IsTrue (P.fuse memory.new).has_burnt) }
+    ensures keeps_fuse { KeepsFuse (λ limit. place / 4096 * 4096 + 4096 ≤ limit) (P.fuse memory.old) (P.fuse memory.new) }
 {
     if place % BLOCK_SIZE < LINK {
         write_entry(memory, place, &Entry::NextPage)
@@ -194,10 +187,8 @@ fn link_pages<P: Pmem>(
     ensures wrote { StoresOnly (LinkWords (first ∷ fresh.now) count) (P.region memory.old) (P.region memory.new) (P.may_hold memory.old) (P.may_hold memory.new) }
     ensures len { size (P.region memory.new) ≡ size (P.region memory.old) }
     ensures nothing { count ≡ 0 → (is_err result ≡ false) × (memory.new ≡ memory.old) }
-    ensures stopped { P.has_burnt memory.old ≡ false → is_err result ≡ P.has_burnt memory.new }
-    ensures burnt { StaysBurnt (P.has_burnt memory.old) (P.has_burnt memory.new) }
-    ensures steady { StaysSteady (P.is_steady memory.old) (P.is_steady memory.new) }
-    ensures open { (limit : ℕ) → EndBy (first ∷ fresh.now) limit → StaysOpen limit (P.is_open memory.old) (P.is_open memory.new) }
+    ensures stopped { (P.fuse memory.old).has_burnt ≡ false → is_err result ≡ (P.fuse memory.new).has_burnt }
+    ensures keeps_fuse { KeepsFuse (λ limit. EndBy (first ∷ fresh.now) limit) (P.fuse memory.old) (P.fuse memory.new) }
 {
     let mut page = first;
     for k in 0..count {

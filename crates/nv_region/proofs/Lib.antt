@@ -1,4 +1,5 @@
 pub mod Bytes
+pub mod Fuses
 pub mod Stops
 pub mod Wordwise
 pub mod Marks

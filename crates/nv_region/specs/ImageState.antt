@@ -2,6 +2,7 @@
 use Rattle.std.specs.Prelude.{◌≡◌, ℕ, Bool, true, false, ◌&&◌, not, nat_le, List, ◌++◌, length, drop, get_or, refl}
 use Rattle.std.proofs.Common.{sym}
 use Rattle.nv_region.specs.Region.{Region}
+use Rattle.nv_region.specs.Fuses.{FuseState}
 
 -- the region as it reads, how many bytes at its front take stores, and whether a store was refused
 pub record ImageState : Type 0 where
@@ -20,6 +21,10 @@ as_it_reads m i x = x ≡ get_or m.region.words i 0
 -- no store was refused, and none that ends at or before this address will be
 abbrev pub is_open_to : ImageState → ℕ → Bool
 is_open_to m limit = nat_le limit m.front && not m.burnt
+
+-- what became of its fuse: a store behind the front always burns it, so it is never steady
+abbrev pub fuse_state : ImageState → FuseState
+fuse_state m = record { has_burnt = m.burnt; is_steady = false; is_open = is_open_to m }
 
 right_of : (a b : Bool) → (a && not b) ≡ true → b ≡ false
 right_of true true h = sym h

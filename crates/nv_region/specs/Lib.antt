@@ -1,5 +1,6 @@
 pub mod RegionState
 pub mod Region
+pub mod Fuses
 pub mod Stops
 pub mod Stored
 pub mod StoredPages

@@ -2,6 +2,7 @@
 use Rattle.std.specs.Prelude.{◌≡◌, ◌⊎◌, ℕ, Bool, true, false, ◌&&◌, not, ◌-◌, ◌==◌, List, get_or, refl}
 use Rattle.std.proofs.Common.{sym}
 use Rattle.nv_region.specs.Region.{Region}
+use Rattle.nv_region.specs.Fuses.{FuseState}
 use Rattle.nv_region.specs.declared.memory.Fuse.{Fuse}
 use Rattle.nv_region.specs.declared.memory.Fuse.TheVariants.{Off, After, At}
 
@@ -44,6 +45,10 @@ is_off (At a) = false
 -- no store and no fence burns it
 abbrev pub is_steady : RegionState → Bool
 is_steady m = is_off m.fuse && not m.burnt
+
+-- what became of its fuse: it is open either everywhere or nowhere
+abbrev pub fuse_state : RegionState → FuseState
+fuse_state m = record { has_burnt = m.burnt; is_steady = is_steady m; is_open = λ limit. is_steady m }
 
 right_of : (a b : Bool) → (a && not b) ≡ true → b ≡ false
 right_of true true h = sym h

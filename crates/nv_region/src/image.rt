@@ -8,8 +8,9 @@ ghost use Rattle.std.specs.Prelude.{◌≡◌, ◌≤◌, ◌<◌, ◌+◌, ◌*
 ghost use Rattle.std.proofs.lemmas.Bool.{false≢true};
 ghost use Rattle.byteorder.specs.Endian.{little_number};
 ghost use Rattle.nv_region.specs.Region.{size, word, put, region_of, bytes_of, words_of};
-ghost use Rattle.nv_region.specs.Stops.{NothingPending, NoneAdded, Adds, One, StaysBurnt, StaysSteady, StaysOpen};
-ghost use Rattle.nv_region.specs.ImageState.{as_it_reads, is_open_to, open_not_burnt};
+ghost use Rattle.nv_region.specs.Stops.{NothingPending, NoneAdded, Adds, One};
+ghost use Rattle.nv_region.specs.Fuses.{KeepsFuse};
+ghost use Rattle.nv_region.specs.ImageState.{as_it_reads, is_open_to, fuse_state, open_not_burnt};
 
 use crate::memory::RegionRefusal;
 use crate::{Pmem, Stopped};
@@ -118,11 +119,7 @@ impl Pmem for ImageRegion<'_> {
 
     ghost may_hold = { as_it_reads };
 
-    ghost has_burnt = { λ m. m.burnt };
-
-    ghost is_steady = { λ m. false };
-
-    ghost is_open = { is_open_to };
+    ghost fuse = { fuse_state };
 
     ghost unburnt = { λ m never. absurd (false≢true never) };
 
@@ -151,9 +148,7 @@ impl Pmem for ImageRegion<'_> {
         ensures refused { OnErr result (self.new.region ≡ self.old.region) }
         ensures refused_keep { OnErr result (NoneAdded (as_it_reads self.old) (as_it_reads self.new)) }
         ensures stopped { is_err result ≡ self.new.burnt }
-        ensures burnt { StaysBurnt self.old.burnt self.new.burnt }
-        ensures steady { StaysSteady false false }
-        ensures open { (limit : ℕ) → at + 8 ≤ limit → StaysOpen limit (is_open_to self.old) (is_open_to self.new) }
+        ensures keeps_fuse { KeepsFuse (λ limit. at + 8 ≤ limit) (fuse_state self.old) (fuse_state self.new) }
         // A store is refused behind the front, and each one from then on.
         ensures burns { self.new.burnt ≡ (self.old.burnt || nat_le self.old.front at) }
         ensures front { self.new.front ≡ self.old.front }
@@ -172,9 +167,7 @@ impl Pmem for ImageRegion<'_> {
         ensures fenced { OnOk result (NothingPending self.new.region (as_it_reads self.new)) }
         ensures refused_keep { OnErr result (NoneAdded (as_it_reads self.old) (as_it_reads self.new)) }
         ensures stopped { is_err result ≡ self.new.burnt }
-        ensures burnt { StaysBurnt self.old.burnt self.new.burnt }
-        ensures steady { StaysSteady false false }
-        ensures open { (limit : ℕ) → StaysOpen limit (is_open_to self.old) (is_open_to self.new) }
+        ensures keeps_fuse { KeepsFuse (λ limit. 0 ≤ limit) (fuse_state self.old) (fuse_state self.new) }
         // It changes nothing.
         ensures unchanged { self.new ≡ self.old }
     {

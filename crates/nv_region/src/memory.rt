@@ -8,8 +8,9 @@ ghost use Rattle.std.proofs.Common.{inl, inr};
 ghost use Rattle.std.specs.List.{list_any};
 ghost use Rattle.byteorder.specs.Endian.{little_number};
 ghost use Rattle.nv_region.specs.Region.{size, word, put, region_of, bytes_of};
-ghost use Rattle.nv_region.specs.Stops.{MayBeLeft, NothingPending, NoneAdded, Adds, One, StaysBurnt, StaysSteady, StaysOpen};
-ghost use Rattle.nv_region.specs.RegionState.{RegionState, fenced_or_last, burns_at_store, burns_at_fence, one_passed, is_steady, steady_unburnt};
+ghost use Rattle.nv_region.specs.Stops.{MayBeLeft, NothingPending, NoneAdded, Adds, One};
+ghost use Rattle.nv_region.specs.Fuses.{KeepsFuse};
+ghost use Rattle.nv_region.specs.RegionState.{RegionState, fenced_or_last, burns_at_store, burns_at_fence, one_passed, fuse_state, steady_unburnt};
 ghost use Rattle.nv_region.specs.Kept.{alternate, kept};
 ghost use Rattle.nv_region.specs.Fenced.{DifferOnlyIn};
 
@@ -221,11 +222,7 @@ impl Pmem for MemRegion {
 
     ghost may_hold = { fenced_or_last };
 
-    ghost has_burnt = { λ m. m.burnt };
-
-    ghost is_steady = { is_steady };
-
-    ghost is_open = { λ m limit. is_steady m };
+    ghost fuse = { fuse_state };
 
     ghost unburnt = { steady_unburnt };
 
@@ -249,9 +246,7 @@ impl Pmem for MemRegion {
         ensures refused { OnErr result (self.new.region ≡ self.old.region) }
         ensures refused_keep { OnErr result (NoneAdded (fenced_or_last self.old) (fenced_or_last self.new)) }
         ensures stopped { is_err result ≡ self.new.burnt }
-        ensures burnt { StaysBurnt self.old.burnt self.new.burnt }
-        ensures steady { StaysSteady (is_steady self.old) (is_steady self.new) }
-        ensures open { (limit : ℕ) → at + 8 ≤ limit → StaysOpen limit (λ _. is_steady self.old) (λ _. is_steady self.new) }
+        ensures keeps_fuse { KeepsFuse (λ limit. at + 8 ≤ limit) (fuse_state self.old) (fuse_state self.new) }
         // The fuse burns where it says.
         ensures burns { self.new.burnt ≡ (self.old.burnt || burns_at_store self.old.fuse at) }
         ensures counts { OnOk result (self.new.fuse ≡ one_passed self.old.fuse) }
@@ -279,9 +274,7 @@ impl Pmem for MemRegion {
         ensures fenced { OnOk result (NothingPending self.new.region (fenced_or_last self.new)) }
         ensures refused_keep { OnErr result (NoneAdded (fenced_or_last self.old) (fenced_or_last self.new)) }
         ensures stopped { is_err result ≡ self.new.burnt }
-        ensures burnt { StaysBurnt self.old.burnt self.new.burnt }
-        ensures steady { StaysSteady (is_steady self.old) (is_steady self.new) }
-        ensures open { (limit : ℕ) → StaysOpen limit (λ _. is_steady self.old) (λ _. is_steady self.new) }
+        ensures keeps_fuse { KeepsFuse (λ limit. 0 ≤ limit) (fuse_state self.old) (fuse_state self.new) }
         // The fuse burns where it says.
         ensures burns { self.new.burnt ≡ (self.old.burnt || burns_at_fence self.old.fuse) }
         ensures counts { OnOk result (self.new.fuse ≡ one_passed self.old.fuse) }

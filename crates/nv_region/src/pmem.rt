@@ -2,7 +2,8 @@
 
 ghost use Rattle.std.specs.Prelude.{◌≡◌, ◌+◌, ◌≤◌, ◌%◌, ℕ, Bool, false, IsTrue, OnOk, OnErr, is_err, get_or, length, ◌<◌};
 ghost use Rattle.nv_region.specs.Region.{Region, size, word, put};
-ghost use Rattle.nv_region.specs.Stops.{Adds, One, NoneAdded, NothingPending, StaysBurnt, StaysSteady, StaysOpen};
+ghost use Rattle.nv_region.specs.Stops.{Adds, One, NoneAdded, NothingPending};
+ghost use Rattle.nv_region.specs.Fuses.{FuseState, KeepsFuse};
 
 /// The memory has been stopped: its fuse has burnt, and nothing is stored any more.
 #[derive(Clone, Copy, Debug, PartialEq, Eq)]
@@ -18,14 +19,8 @@ pub trait Pmem {
     /// A stop at this moment may leave this value in the word of this number.
     ghost may_hold: { Self → ℕ → ℕ → Type 0 };
 
-    /// The fuse has burnt.
-    ghost has_burnt: { Self → Bool };
-
-    /// No fuse is set: no store and no fence burns it.
-    ghost is_steady: { Self → Bool };
-
-    /// No store that ends at or before this byte address burns the fuse, and no fence does.
-    ghost is_open: { Self → ℕ → Bool };
+    /// Its fuse: whether it has burnt, and which stores can burn it.
+    ghost fuse: { Self → FuseState };
 
     /// The number of bytes.
     fn len(&self) -> u64
@@ -48,10 +43,8 @@ pub trait Pmem {
         ensures may_keep { OnOk result (Adds (One at value) (may_hold self.old) (may_hold self.new)) }
         ensures refused { OnErr result (region self.new ≡ region self.old) }
         ensures refused_keep { OnErr result (NoneAdded (may_hold self.old) (may_hold self.new)) }
-        ensures stopped { is_err result ≡ has_burnt self.new }
-        ensures burnt { StaysBurnt (has_burnt self.old) (has_burnt self.new) }
-        ensures steady { StaysSteady (is_steady self.old) (is_steady self.new) }
-        ensures open { (limit : ℕ) → at + 8 ≤ limit → StaysOpen limit (is_open self.old) (is_open self.new) };
+        ensures stopped { is_err result ≡ (fuse self.new).has_burnt }
+        ensures keeps_fuse { KeepsFuse (λ limit. at + 8 ≤ limit) (fuse self.old) (fuse self.new) };
 
     /// After it, a stop leaves all that was stored before.
     ///
@@ -61,16 +54,14 @@ pub trait Pmem {
         ensures same { region self.new ≡ region self.old }
         ensures fenced { OnOk result (NothingPending (region self.new) (may_hold self.new)) }
         ensures refused_keep { OnErr result (NoneAdded (may_hold self.old) (may_hold self.new)) }
-        ensures stopped { is_err result ≡ has_burnt self.new }
-        ensures burnt { StaysBurnt (has_burnt self.old) (has_burnt self.new) }
-        ensures steady { StaysSteady (is_steady self.old) (is_steady self.new) }
-        ensures open { (limit : ℕ) → StaysOpen limit (is_open self.old) (is_open self.new) };
+        ensures stopped { is_err result ≡ (fuse self.new).has_burnt }
+        ensures keeps_fuse { KeepsFuse (λ limit. 0 ≤ limit) (fuse self.old) (fuse self.new) };
 
     /// A memory without a fuse hasn't burnt.
-    ghost unburnt: { (m : Self) → IsTrue (is_steady m) → has_burnt m ≡ false };
+    ghost unburnt: { (m : Self) → IsTrue (fuse m).is_steady → (fuse m).has_burnt ≡ false };
 
     /// A memory that is open up to some address hasn't burnt.
-    ghost open_unburnt: { (m : Self) (limit : ℕ) → IsTrue (is_open m limit) → has_burnt m ≡ false };
+    ghost open_unburnt: { (m : Self) (limit : ℕ) → IsTrue ((fuse m).is_open limit) → (fuse m).has_burnt ≡ false };
 
     /// A stop may leave each word as it reads.
     ghost holds_now: { (m : Self) (i : ℕ) → may_hold m i (get_or (region m).words i 0) };

@@ -2,7 +2,8 @@
 
 ghost use Rattle.std.specs.Prelude.{◌≡◌, ◌⊎◌, ◌+◌, ◌≤◌, ◌%◌, ℕ, IsTrue, OnOk, OnErr, is_err};
 ghost use Rattle.nv_region.specs.Region.{put, size};
-ghost use Rattle.nv_region.specs.Stops.{Adds, LeavesOnly, NothingPending, One, NoneAdded, StaysBurnt, StaysSteady, StaysOpen};
+ghost use Rattle.nv_region.specs.Stops.{Adds, LeavesOnly, NothingPending, One, NoneAdded};
+ghost use Rattle.nv_region.specs.Fuses.{KeepsFuse};
 ghost use Rattle.nv_region.specs.Stored.{Stored, StoresOnly};
 
 use crate::pmem::{Pmem, Stopped};
@@ -16,10 +17,8 @@ pub fn store_word<P: Pmem>(memory: &mut P, at: u64, value: u64) -> Result<(), St
     ensures stored { OnOk result (Stored (P.region memory.old) at value (P.region memory.new)) }
     ensures refused { OnErr result (P.region memory.new ≡ P.region memory.old) }
     ensures may_keep { Adds (One at value) (P.may_hold memory.old) (P.may_hold memory.new) }
-    ensures stopped { is_err result ≡ P.has_burnt memory.new }
-    ensures burnt { StaysBurnt (P.has_burnt memory.old) (P.has_burnt memory.new) }
-    ensures steady { StaysSteady (P.is_steady memory.old) (P.is_steady memory.new) }
-    ensures open { (limit : ℕ) → at + 8 ≤ limit → StaysOpen limit (P.is_open memory.old) (P.is_open memory.new) }
+    ensures stopped { is_err result ≡ (P.fuse memory.new).has_burnt }
+    ensures keeps_fuse { KeepsFuse (λ limit. at + 8 ≤ limit) (P.fuse memory.old) (P.fuse memory.new) }
 {
     let _length = memory.len();
     memory.store(at, value)
@@ -36,10 +35,8 @@ pub fn commit_word<P: Pmem>(memory: &mut P, at: u64, value: u64) -> Result<(), S
     ensures settled { OnOk result (NothingPending (P.region memory.new) (P.may_hold memory.new)) }
     ensures reads { (P.region memory.new ≡ P.region memory.old) ⊎ (P.region memory.new ≡ put (P.region memory.old) at value) }
     ensures wrote { StoresOnly (One at value) (P.region memory.old) (P.region memory.new) (P.may_hold memory.old) (P.may_hold memory.new) }
-    ensures stopped { is_err result ≡ P.has_burnt memory.new }
-    ensures burnt { StaysBurnt (P.has_burnt memory.old) (P.has_burnt memory.new) }
-    ensures steady { StaysSteady (P.is_steady memory.old) (P.is_steady memory.new) }
-    ensures open { (limit : ℕ) → at + 8 ≤ limit → StaysOpen limit (P.is_open memory.old) (P.is_open memory.new) }
+    ensures stopped { is_err result ≡ (P.fuse memory.new).has_burnt }
+    ensures keeps_fuse { KeepsFuse (λ limit. at + 8 ≤ limit) (P.fuse memory.old) (P.fuse memory.new) }
     ensures any_stop { NothingPending (P.region memory.old) (P.may_hold memory.old) → LeavesOnly (P.region memory.new) (P.may_hold memory.new) (λ left. (left ≡ P.region memory.old) ⊎ (left ≡ put (P.region memory.old) at value)) }
 {
     memory.store(at, value)?;

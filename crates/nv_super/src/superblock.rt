@@ -5,7 +5,7 @@
 
 ghost use Rattle.std.specs.Prelude.{◌≡◌, ◌≤◌, ◌<◌, ◌+◌, ◌-◌, ◌*◌, ◌/◌, ◌%◌, ℕ, IfOk, IfErr, OnOk, is_err};
 ghost use Rattle.nv_region.specs.Region.{HasBlocks, size};
-ghost use Rattle.nv_region.specs.Stops.{StaysBurnt, StaysSteady};
+ghost use Rattle.nv_region.specs.Fuses.{KeepsFuse};
 ghost use Rattle.nv_region.specs.Stored.{StoresOnly, Within};
 ghost use Rattle.nv_super.specs.Layout.{system_blocks, pool_start, slot_address, is_page_start, is_number, HasAreas, IsLayout};
 ghost use Rattle.nv_super.specs.Super.{IsSuper, IsRefused, with_numbers};
@@ -104,9 +104,8 @@ pub fn write_super<P: Pmem>(memory: &mut P, numbers: &Super) -> Result<(), Stopp
     requires { 4096 ≤ size (P.region memory.old) }
     ensures done { OnOk result (P.region memory.new ≡ with_numbers (P.region memory.old) numbers.now) }
     ensures wrote { StoresOnly (Within 8 40) (P.region memory.old) (P.region memory.new) (P.may_hold memory.old) (P.may_hold memory.new) }
-    ensures stopped { is_err result ≡ P.has_burnt memory.new }
-    ensures burnt { StaysBurnt (P.has_burnt memory.old) (P.has_burnt memory.new) }
-    ensures steady { StaysSteady (P.is_steady memory.old) (P.is_steady memory.new) }
+    ensures stopped { is_err result ≡ (P.fuse memory.new).has_burnt }
+    ensures keeps_fuse { KeepsFuse (λ limit. 48 ≤ limit) (P.fuse memory.old) (P.fuse memory.new) }
 {
     memory.store(8, numbers.version)?;
     memory.store(16, numbers.cpus)?;

@@ -1,6 +1,7 @@
 use Rattle.std.proofs.Common.{◌≡◌, ◌+◌, ◌*◌, ℕ, inl, inr, refl, arith, below_more}
 use Rattle.nv_region.specs.Region.{word}
 use Rattle.nv_region.specs.Stops.{One}
+use Rattle.nv_region.proofs.Fuses.{keeps_more}
 use Rattle.nv_calls.specs.Format.{IsPointer}
 use Rattle.nv_calls.proofs.Kept.{blocks_stay}
 use Rattle.nv_calls.proofs.Cleared.{zero_more, clears_more}
@@ -32,6 +33,5 @@ loop-cpu-preserved g c =
           (zero_more mid after (at + 8) at second.mixed c.in_ok-clear_word.ensures.cleared, c.in_ok-clear_word-2.ensures.cleared);
       wrote = clears_more (IsPointer s) (at + 8) 0 _ _ _ _ _ _ (omega arith) (c.loop-cpu.cpu, c.loop-cpu-test.true, inr refl)
           (clears_more (IsPointer s) at 0 _ _ _ _ _ _ (omega arith) (c.loop-cpu.cpu, c.loop-cpu-test.true, inl refl) c.loop-cpu.invariant.wrote first) second;
-      burnt = λ old. c.clear_word-in-loop-cpu.ensures.burnt (c.clear_word.ensures.burnt (c.loop-cpu.invariant.burnt old));
-      steady = λ old. c.clear_word-in-loop-cpu.ensures.steady (c.clear_word.ensures.steady (c.loop-cpu.invariant.steady old));
+      keeps_fuse = keeps_more (λ limit past. omega arith) (keeps_more (λ limit past. omega arith) c.loop-cpu.invariant.keeps_fuse c.clear_word.ensures.keeps_fuse) c.clear_word-in-loop-cpu.ensures.keeps_fuse;
     }

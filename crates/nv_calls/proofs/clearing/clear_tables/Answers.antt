@@ -1,6 +1,7 @@
 use Rattle.std.proofs.Common.{◌≡◌, ◌+◌, ◌*◌, ℕ, arith, below_more}
 use Rattle.nv_region.specs.Region.{word}
 use Rattle.nv_region.specs.Stops.{One}
+use Rattle.nv_region.proofs.Fuses.{keeps_more}
 use Rattle.nv_calls.specs.Format.{IsValidWord}
 use Rattle.nv_calls.proofs.Kept.{blocks_stay}
 use Rattle.nv_calls.proofs.Tables.{slot_at_place}
@@ -23,8 +24,7 @@ loop-place-preserved g c =
       unused = below_more (λ (k : ℕ). word after ((1 + s.cpus) * 4096 + 128 * k) ≡ 0) c.loop-place.place
           (λ k below. zero_more before after at ((1 + s.cpus) * 4096 + 128 * k) wrote.mixed (c.loop-place.invariant.unused k below)) c.in_ok-clear_word.ensures.cleared;
       wrote = clears_more (IsValidWord s) at 0 _ _ _ _ _ _ (omega arith) (slot_at_place s c.loop-place.place c.requires.layout c.loop-place-test.true) c.loop-place.invariant.wrote wrote;
-      burnt = λ old. c.clear_word.ensures.burnt (c.loop-place.invariant.burnt old);
-      steady = λ old. c.clear_word.ensures.steady (c.loop-place.invariant.steady old);
+      keeps_fuse = keeps_more (λ limit past. omega arith) c.loop-place.invariant.keeps_fuse c.clear_word.ensures.keeps_fuse;
     }
 
 pub returns-clause-unused : goal.returns-clause-unused

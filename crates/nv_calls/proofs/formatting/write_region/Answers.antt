@@ -1,7 +1,8 @@
-use Rattle.std.proofs.Common.{◌⊎◌, ℕ, ap, sym, ◌∙◌, subst}
+use Rattle.std.proofs.Common.{◌⊎◌, ℕ, arith, ap, sym, ◌∙◌, subst}
 use Rattle.std.proofs.lemmas.Result.{on_ok_weaker}
 use Rattle.nv_region.specs.Region.{Region, put}
 use Rattle.nv_region.specs.Stops.{IsMixed}
+use Rattle.nv_region.proofs.Fuses.{keeps_more, keeps_within}
 use Rattle.nv_region.proofs.Stops.{refused_leaves}
 use Rattle.nv_super.specs.Super.{magic}
 use Rattle.nv_calls.specs.Format.{AnyAt, IsSystemWord, IsRootWord, IsFormatted, FormatLeaves}
@@ -42,3 +43,13 @@ returns-clause-any_stop g c settled left may =
     let whole = formatted s c.args.time c.requires.layout old laid c.lay_out.ensures.blocks mixed c.in_ok-lay_out.ensures.done in
     magic_leaves s c.args.time c.requires.layout old c.requires.blocks _ laid (g.P.Pmem.region c.fence.new.self) left c.in_ok-commit_word.ensures.done c.lay_out.ensures.wrote.mixed c.in_ok-fence.ensures.same whole
     (c.commit_word-2.ensures.any_stop c.in_ok-fence.ensures.fenced left may)
+
+pub returns-in_err-fence-clause-keeps_fuse : goal.returns-in_err-fence-clause-keeps_fuse
+returns-in_err-fence-clause-keeps_fuse g c =
+    keeps_more (λ limit past. omega arith) (keeps_more (λ limit past. past) (keeps_within (λ limit past. omega arith) c.commit_word.ensures.keeps_fuse) c.lay_out.ensures.keeps_fuse) c.fence.ensures.keeps_fuse
+
+pub returns-clause-keeps_fuse : goal.returns-clause-keeps_fuse
+returns-clause-keeps_fuse g c =
+    keeps_more (λ limit past. omega arith)
+    (keeps_more (λ limit past. omega arith) (keeps_more (λ limit past. past) (keeps_within (λ limit past. omega arith) c.commit_word.ensures.keeps_fuse) c.lay_out.ensures.keeps_fuse) c.fence.ensures.keeps_fuse)
+    c.commit_word-2.ensures.keeps_fuse

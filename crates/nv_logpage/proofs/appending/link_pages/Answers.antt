@@ -1,4 +1,5 @@
 use Rattle.std.proofs.Common.{◌≡◌, ◌+◌, ◌*◌, ◌∷◌, suc, get_or, arith, ap, sym, ◌∙◌, is_err}
+use Rattle.nv_region.proofs.Fuses.{keeps_more}
 use Rattle.nv_region.proofs.Wordwise.{stores_more, stored_only}
 use Rattle.nv_logpage.proofs.Placing.{link_more, next_page}
 use Rattle.nv_logpage.proofs.appending.link_pages.Goals as goal
@@ -18,7 +19,5 @@ loop-k-preserved g c =
       len = c.in_ok-store_word.ensures.stored.len ∙ c.loop-k.invariant.len;
       nothing = λ none. absurd (omega (arith, none));
       quiet = λ was. sym c.store_word.ensures.stopped ∙ ap is_err c.in_ok-store_word.was;
-      burnt = λ is. c.store_word.ensures.burnt (c.loop-k.invariant.burnt is);
-      steady = λ is. c.store_word.ensures.steady (c.loop-k.invariant.steady is);
-      stays_open = λ limit end is. c.store_word.ensures.«open» limit (omega (arith, at, end c.loop-k.k (omega arith))) (c.loop-k.invariant.stays_open limit end is);
+      keeps_fuse = keeps_more (λ limit end. omega (arith, at, end c.loop-k.k (omega arith))) c.loop-k.invariant.keeps_fuse c.store_word.ensures.keeps_fuse;
     }

@@ -1,5 +1,5 @@
-use Rattle.std.proofs.Common.{◌≡◌, ◌∷◌, ℕ, get_or, false}
-use Rattle.nv_region.specs.Stops.{StaysBurnt, StaysOpen, StaysSteady}
+use Rattle.std.proofs.Common.{◌≡◌, ◌∷◌, get_or, false}
+use Rattle.nv_region.specs.Fuses.{KeepsFuse}
 use Rattle.nv_region.specs.Stored.{StoresOnly}
 use Rattle.nv_region.specs.Region.{size}
 use Rattle.nv_logpage.specs.Append.{EndBy, Linked}
@@ -13,8 +13,6 @@ invariant-loop-k g l = record {
   wrote : StoresOnly (LinkWords (l.first ∷ l.fresh) l.count) (g.P.Pmem.region l.fn.memory) (g.P.Pmem.region l.memory) (g.P.Pmem.may_hold l.fn.memory) (g.P.Pmem.may_hold l.memory);
   len : size (g.P.Pmem.region l.memory) ≡ size (g.P.Pmem.region l.fn.memory);
   nothing : l.k ≡ 0 → l.memory ≡ l.fn.memory;
-  quiet : g.P.Pmem.has_burnt l.fn.memory ≡ false → g.P.Pmem.has_burnt l.memory ≡ false;
-  burnt : StaysBurnt (g.P.Pmem.has_burnt l.fn.memory) (g.P.Pmem.has_burnt l.memory);
-  steady : StaysSteady (g.P.Pmem.is_steady l.fn.memory) (g.P.Pmem.is_steady l.memory);
-  stays_open : (limit : ℕ) → EndBy (l.first ∷ l.fresh) limit → StaysOpen limit (g.P.Pmem.is_open l.fn.memory) (g.P.Pmem.is_open l.memory);
+  quiet : (g.P.Pmem.fuse l.fn.memory).has_burnt ≡ false → (g.P.Pmem.fuse l.memory).has_burnt ≡ false;
+  keeps_fuse : KeepsFuse (λ limit. EndBy (l.first ∷ l.fresh) limit) (g.P.Pmem.fuse l.fn.memory) (g.P.Pmem.fuse l.memory);
 }

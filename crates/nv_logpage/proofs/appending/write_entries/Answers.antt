@@ -1,4 +1,5 @@
 use Rattle.std.proofs.Common.{arith, suc, refl, ap, sym, ◌∙◌, ◌*◌, ◌+◌, ◌/◌, ◌≡◌, ◌<◌, ◌∷◌, get_or, length, is_err}
+use Rattle.nv_region.proofs.Fuses.{keeps_more}
 use Rattle.nv_entry.specs.Spelling.{entry_length}
 use Rattle.nv_logpage.proofs.Placing.{page_end}
 use Rattle.nv_logpage.proofs.Writing.{writing_fits, writing_turns, turned_words, more_pages, fitted_words}
@@ -14,9 +15,8 @@ loop-entry-preserved g c =
                 w.in_ok-write_entry.ensures.spelled w.write_entry.ensures.rest w.write_entry.ensures.wrote);
             nothing = λ none. absurd (omega (arith, none));
             quiet = λ some. rw w.memory-is (sym w.write_entry.ensures.stopped ∙ ap is_err w.in_ok-write_entry.was);
-            burnt = rw w.memory-is (λ is. w.write_entry.ensures.burnt (c.loop-entry.invariant.burnt is));
-            steady = rw w.memory-is (λ is. w.write_entry.ensures.steady (c.loop-entry.invariant.steady is));
-            stays_open = rw w.memory-is (λ limit end is. w.write_entry.ensures.«open» limit (omega (arith, c.length-size.ensures.value, page_end (c.args.tail / 4096 ∷ c.args.fresh.now) c.loop-entry.used c.loop-entry.place limit end (omega (arith, c.loop-entry.invariant.writing.count, c.requires.can.enough)) c.loop-entry.invariant.writing.page)) (c.loop-entry.invariant.stays_open limit end is));
+            keeps_fuse = rw w.memory-is (keeps_more (λ limit end. omega (arith, c.length-size.ensures.value, page_end (c.args.tail / 4096 ∷ c.args.fresh.now) c.loop-entry.used c.loop-entry.place limit end (omega (arith, c.loop-entry.invariant.writing.count, c.requires.can.enough)) c.loop-entry.invariant.writing.page))
+                c.loop-entry.invariant.keeps_fuse w.write_entry.ensures.keeps_fuse);
           }
       | else-place-size-le-LINK+in_ok-write_turned w ↦
           let b = get_or c.args.fresh.now c.loop-entry.used 0 in
@@ -27,9 +27,8 @@ loop-entry-preserved g c =
                 w.in_ok-write_turned.ensures.entry w.in_ok-write_turned.ensures.marker w.write_turned.ensures.wrote w.write_turned.ensures.len);
             nothing = λ none. absurd (omega (arith, none));
             quiet = λ some. rw w.memory-is (sym w.write_turned.ensures.stopped ∙ ap is_err w.in_ok-write_turned.was);
-            burnt = rw w.memory-is (λ is. w.write_turned.ensures.burnt (c.loop-entry.invariant.burnt is));
-            steady = rw w.memory-is (λ is. w.write_turned.ensures.steady (c.loop-entry.invariant.steady is));
-            stays_open = rw w.memory-is (λ limit end is. w.write_turned.ensures.«open» limit (page_end (c.args.tail / 4096 ∷ c.args.fresh.now) c.loop-entry.used c.loop-entry.place limit end (omega (arith, c.loop-entry.invariant.writing.count, c.requires.can.enough)) c.loop-entry.invariant.writing.page) (end (suc c.loop-entry.used) (omega arith)) (c.loop-entry.invariant.stays_open limit end is));
+            keeps_fuse = rw w.memory-is (keeps_more (λ limit end. (page_end (c.args.tail / 4096 ∷ c.args.fresh.now) c.loop-entry.used c.loop-entry.place limit end (omega (arith, c.loop-entry.invariant.writing.count, c.requires.can.enough)) c.loop-entry.invariant.writing.page, end (suc c.loop-entry.used) (omega arith)))
+                c.loop-entry.invariant.keeps_fuse w.write_turned.ensures.keeps_fuse);
           }
     ]
 
@@ -52,7 +51,8 @@ returns-in_err-write_turned-clause-wrote g c =
     let more : c.loop-entry.used < length c.args.fresh.now = more_pages _ _ (g.P.Pmem.region c.loop-entry.memory) _ _ (g.P.Pmem.may_hold c.loop-entry.memory) c.args.tail c.args.entries.now c.args.fresh.now c.loop-entry.entry-index c.loop-entry.used c.loop-entry.place c.entry-item.result c.requires.can c.loop-entry.invariant.writing c.loop-entry-test.true c.entry-item.is (omega (arith, c.length-size.ensures.value)) in
     turned_words _ _ _ _ _ _ c.args.tail c.args.entries.now c.args.fresh.now c.loop-entry.entry-index c.loop-entry.used c.loop-entry.place c.entry-item.result c.requires.can c.loop-entry.invariant.writing c.loop-entry-test.true c.entry-item.is (get_or c.args.fresh.now c.loop-entry.used 0) refl more c.write_turned.ensures.wrote
 
-pub returns-in_err-write_turned-clause-open : goal.returns-in_err-write_turned-clause-open
-returns-in_err-write_turned-clause-open g c limit end is =
+pub returns-in_err-write_turned-clause-keeps_fuse : goal.returns-in_err-write_turned-clause-keeps_fuse
+returns-in_err-write_turned-clause-keeps_fuse g c =
     let more : c.loop-entry.used < length c.args.fresh.now = more_pages _ _ (g.P.Pmem.region c.loop-entry.memory) _ _ (g.P.Pmem.may_hold c.loop-entry.memory) c.args.tail c.args.entries.now c.args.fresh.now c.loop-entry.entry-index c.loop-entry.used c.loop-entry.place c.entry-item.result c.requires.can c.loop-entry.invariant.writing c.loop-entry-test.true c.entry-item.is (omega (arith, c.length-size.ensures.value)) in
-    c.write_turned.ensures.«open» limit (page_end (c.args.tail / 4096 ∷ c.args.fresh.now) c.loop-entry.used c.loop-entry.place limit end (omega arith) c.loop-entry.invariant.writing.page) (end (suc c.loop-entry.used) (omega arith)) (c.loop-entry.invariant.stays_open limit end is)
+    keeps_more (λ limit end. (page_end (c.args.tail / 4096 ∷ c.args.fresh.now) c.loop-entry.used c.loop-entry.place limit end (omega arith) c.loop-entry.invariant.writing.page, end (suc c.loop-entry.used) (omega arith)))
+    c.loop-entry.invariant.keeps_fuse c.write_turned.ensures.keeps_fuse
