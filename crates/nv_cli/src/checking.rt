@@ -92,7 +92,7 @@ fn check_memory<P: Pmem + Sync, H: Threads + Sync>(
     memory: &mut P,
     workers: u64,
 ) -> Result<Checked, AllocError>
-    requires { IsOpenInFront (P.region memory.old) (P.is_open memory.old) }
+    requires { IsOpenInFront (P.region memory.old) (P.fuse memory.old).is_open }
     ensures { IfOk result (λ checked. IsCheck (P.region memory.old) workers (string_bytes checked.text) checked.status) }
 {
     match recover_region(rt, alloc, memory, workers)? {

@@ -6,7 +6,8 @@
 
 ghost use Rattle.std.specs.Prelude.{◌≡◌, ◌⊎◌, ◌≤◌, ◌<◌, ◌+◌, ◌*◌, ◌%◌, ◌^◌, ℕ, Bool, IsTrue, OnOk, OnErr, is_err, length};
 ghost use Rattle.nv_region.specs.Region.{put, size};
-ghost use Rattle.nv_region.specs.Stops.{NothingPending, LeavesOnly, One, StaysBurnt, StaysSteady, StaysOpen};
+ghost use Rattle.nv_region.specs.Stops.{NothingPending, LeavesOnly, One};
+ghost use Rattle.nv_region.specs.Fuses.{KeepsFuse};
 ghost use Rattle.nv_region.specs.Stored.{SameOutside, StoresOnly, Within};
 ghost use Rattle.nv_journal.specs.Undo.{journal, enqueue};
 ghost use Rattle.nv_journal.specs.Pending.{BeforeOrAfter, Begun, CanUndo, HasRecords, IsEmpty};
@@ -28,10 +29,8 @@ pub fn begin<P: Pmem>(memory: &mut P, cpu: u64, records: &[(u64, u64)]) -> Resul
     // The region as it reads, also after a stop.
     ensures reads { Begun (P.region memory.old) cpu records.now (P.region memory.new) }
     ensures wrote { StoresOnly (Within (journal cpu) 4096) (P.region memory.old) (P.region memory.new) (P.may_hold memory.old) (P.may_hold memory.new) }
-    ensures stopped { is_err result ≡ P.has_burnt memory.new }
-    ensures burnt { StaysBurnt (P.has_burnt memory.old) (P.has_burnt memory.new) }
-    ensures steady { StaysSteady (P.is_steady memory.old) (P.is_steady memory.new) }
-    ensures open { (limit : ℕ) → journal cpu + 4096 ≤ limit → StaysOpen limit (P.is_open memory.old) (P.is_open memory.new) }
+    ensures stopped { is_err result ≡ (P.fuse memory.new).has_burnt }
+    ensures keeps_fuse { KeepsFuse (λ limit. journal cpu + 4096 ≤ limit) (P.fuse memory.old) (P.fuse memory.new) }
     ensures settled { OnOk result (NothingPending (P.region memory.new) (P.may_hold memory.new)) }
     ensures any_stop { NothingPending (P.region memory.old) (P.may_hold memory.old) → LeavesOnly (P.region memory.new) (P.may_hold memory.new) (Begun (P.region memory.old) cpu records.now) }
 {
@@ -55,10 +54,8 @@ fn write_records<P: Pmem>(
     ensures recorded { OnOk result (Recorded (P.region memory.new) pending.now records.now (length records.now)) }
     ensures wrote { StoresOnly (Within (journal pending.now.cpu + 64) 4032) (P.region memory.old) (P.region memory.new) (P.may_hold memory.old) (P.may_hold memory.new) }
     ensures len { size (P.region memory.new) ≡ size (P.region memory.old) }
-    ensures stopped { OnErr result (IsTrue (P.has_burnt memory.new)) }
-    ensures burnt { StaysBurnt (P.has_burnt memory.old) (P.has_burnt memory.new) }
-    ensures steady { StaysSteady (P.is_steady memory.old) (P.is_steady memory.new) }
-    ensures open { (limit : ℕ) → journal pending.now.cpu + 4096 ≤ limit → StaysOpen limit (P.is_open memory.old) (P.is_open memory.new) }
+    ensures stopped { OnErr result (IsTrue (P.fuse memory.new).has_burnt) }
+    ensures keeps_fuse { KeepsFuse (λ limit. journal pending.now.cpu + 4096 ≤ limit) (P.fuse memory.old) (P.fuse memory.new) }
 {
     for k in 0..records.len() {
         let record = records[k];
@@ -79,10 +76,8 @@ pub fn commit<P: Pmem>(memory: &mut P, cpu: u64) -> Result<(), Stopped>
     ensures empty { OnOk result (enqueue (P.region memory.old) cpu < 252 → IsEmpty (P.region memory.new) cpu) }
     ensures reads { (P.region memory.new ≡ P.region memory.old) ⊎ (P.region memory.new ≡ put (P.region memory.old) (journal cpu) (enqueue (P.region memory.old) cpu)) }
     ensures wrote { StoresOnly (One (journal cpu) (enqueue (P.region memory.old) cpu)) (P.region memory.old) (P.region memory.new) (P.may_hold memory.old) (P.may_hold memory.new) }
-    ensures stopped { is_err result ≡ P.has_burnt memory.new }
-    ensures burnt { StaysBurnt (P.has_burnt memory.old) (P.has_burnt memory.new) }
-    ensures steady { StaysSteady (P.is_steady memory.old) (P.is_steady memory.new) }
-    ensures open { (limit : ℕ) → journal cpu + 8 ≤ limit → StaysOpen limit (P.is_open memory.old) (P.is_open memory.new) }
+    ensures stopped { is_err result ≡ (P.fuse memory.new).has_burnt }
+    ensures keeps_fuse { KeepsFuse (λ limit. journal cpu + 8 ≤ limit) (P.fuse memory.old) (P.fuse memory.new) }
     ensures settled { OnOk result (NothingPending (P.region memory.new) (P.may_hold memory.new)) }
     ensures any_stop { NothingPending (P.region memory.old) (P.may_hold memory.old) → LeavesOnly (P.region memory.new) (P.may_hold memory.new)
         (λ left. (left ≡ P.region memory.old) ⊎ (left ≡ put (P.region memory.old) (journal cpu) (enqueue (P.region memory.old) cpu))) }
@@ -114,10 +109,8 @@ pub fn change_two<P: Pmem>(
     ensures done { OnOk result (SameOutside (put (put (P.region memory.old) first first_value) second second_value) (journal cpu) 4096 (P.region memory.new)) }
     ensures empty { OnOk result (IsEmpty (P.region memory.new) cpu) }
     ensures wrote { StoresOnly (Changes cpu first first_value second second_value) (P.region memory.old) (P.region memory.new) (P.may_hold memory.old) (P.may_hold memory.new) }
-    ensures stopped { is_err result ≡ P.has_burnt memory.new }
-    ensures burnt { StaysBurnt (P.has_burnt memory.old) (P.has_burnt memory.new) }
-    ensures steady { StaysSteady (P.is_steady memory.old) (P.is_steady memory.new) }
-    ensures open { (limit : ℕ) → journal cpu + 4096 ≤ limit → first + 8 ≤ limit → second + 8 ≤ limit → StaysOpen limit (P.is_open memory.old) (P.is_open memory.new) }
+    ensures stopped { is_err result ≡ (P.fuse memory.new).has_burnt }
+    ensures keeps_fuse { KeepsFuse (λ limit. (journal cpu + 4096 ≤ limit) × (first + 8 ≤ limit) × (second + 8 ≤ limit)) (P.fuse memory.old) (P.fuse memory.new) }
     ensures settled { OnOk result (NothingPending (P.region memory.new) (P.may_hold memory.new)) }
     // The region as it reads and each that a stop leaves, of any number of CPUs: rolled back, both words are as they
     // were, or both changed.
@@ -146,10 +139,8 @@ fn store_both<P: Pmem>(
     requires first { (first % 8 ≡ 0) × (first + 8 ≤ size (P.region memory.old)) }
     requires second { (second % 8 ≡ 0) × (second + 8 ≤ size (P.region memory.old)) }
     ensures done { OnOk result (P.region memory.new ≡ put (put (P.region memory.old) first first_value) second second_value) }
-    ensures stopped { OnErr result (IsTrue (P.has_burnt memory.new)) }
-    ensures burnt { StaysBurnt (P.has_burnt memory.old) (P.has_burnt memory.new) }
-    ensures steady { StaysSteady (P.is_steady memory.old) (P.is_steady memory.new) }
-    ensures open { (limit : ℕ) → first + 8 ≤ limit → second + 8 ≤ limit → StaysOpen limit (P.is_open memory.old) (P.is_open memory.new) }
+    ensures stopped { OnErr result (IsTrue (P.fuse memory.new).has_burnt) }
+    ensures keeps_fuse { KeepsFuse (λ limit. (first + 8 ≤ limit) × (second + 8 ≤ limit)) (P.fuse memory.old) (P.fuse memory.new) }
     ensures settled { OnOk result (NothingPending (P.region memory.new) (P.may_hold memory.new)) }
     ensures wrote { StoresOnly (Two first first_value second second_value) (P.region memory.old) (P.region memory.new) (P.may_hold memory.old) (P.may_hold memory.new) }
 {

@@ -2,7 +2,7 @@
 
 ghost use Rattle.std.specs.Prelude.{◌≡◌, ◌*◌, ◌≢◌, [], IfOk, IfErr, OnErr, IsTrue};
 ghost use Rattle.nv_region.specs.Region.{HasBlocks};
-ghost use Rattle.nv_region.specs.Stops.{StaysBurnt, StaysSteady};
+ghost use Rattle.nv_region.specs.Fuses.{KeepsFuse};
 ghost use Rattle.nv_super.specs.Layout.{IsLayout, system_blocks};
 ghost use Rattle.nv_super.specs.Super.{IsSuper};
 ghost use Rattle.nv_super.specs.declared.superblock.Super.{Super as SuperValue};
@@ -14,6 +14,7 @@ ghost use Rattle.nv_recover.specs.declared.recovered.RecoverError.TheVariants as
 ghost use Rattle.nv_recover.specs.Answer.{outcome_of, SharesBlocks};
 ghost use Rattle.nv_recover.specs.Errors.{Fails, comes_first};
 ghost use Rattle.nv_recover.specs.Reading.{IsReading};
+ghost use Rattle.nv_recover.specs.Behind.{BehindSystem};
 
 use crate::finishing::{Told, finish};
 use crate::maps::maps_of;
@@ -40,11 +41,10 @@ pub fn recover_one<P: Pmem>(alloc: Global, memory: &mut P) -> Result<Recovered, 
     ensures quiet_done { (s : SuperValue) → IsSuper (P.region memory.old) s → AllQuiet s.cpus (P.region memory.old) → IfErr result (λ e. e ≢ errors.Stopped) }
     ensures untouched { IfErr result (λ e. IsTrue (comes_first e) → memory.new ≡ memory.old) }
     ensures err { IfErr result (λ e. Fails 1 [] e (P.region memory.old) (P.region memory.new)) }
-    ensures stopped { IfErr result (λ e. e ≡ errors.Stopped → IsTrue (P.has_burnt memory.new)) }
-    ensures burnt { StaysBurnt (P.has_burnt memory.old) (P.has_burnt memory.new) }
+    ensures stopped { IfErr result (λ e. e ≡ errors.Stopped → IsTrue (P.fuse memory.new).has_burnt) }
+    ensures keeps_fuse { KeepsFuse (BehindSystem (P.region memory.old)) (P.fuse memory.old) (P.fuse memory.new) }
     // A memory that takes stores up to the first data block isn't stopped.
-    ensures unstopped { (s : SuperValue) → IsSuper (P.region memory.old) s → IsTrue (P.is_open memory.old (4096 * system_blocks s)) → IfErr result (λ e. e ≢ errors.Stopped) }
-    ensures steady { StaysSteady (P.is_steady memory.old) (P.is_steady memory.new) }
+    ensures unstopped { (s : SuperValue) → IsSuper (P.region memory.old) s → IsTrue ((P.fuse memory.old).is_open (4096 * system_blocks s)) → IfErr result (λ e. e ≢ errors.Stopped) }
 {
     let Opened { sup, journal } = open(alloc, memory)?;
     Ok(read_region(alloc, &*memory, &sup, journal)?)

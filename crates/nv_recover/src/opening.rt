@@ -1,7 +1,7 @@
 //! How each recovery begins: the superblock is read, and the journals are rolled back.
 
 ghost use Rattle.std.specs.Prelude.{◌≡◌, ◌*◌, ◌≢◌, ℕ, List, IfOk, IfErr, IsTrue};
-ghost use Rattle.nv_region.specs.Stops.{StaysBurnt, StaysSteady};
+ghost use Rattle.nv_region.specs.Fuses.{KeepsFuse};
 ghost use Rattle.nv_super.specs.Layout.{system_blocks};
 ghost use Rattle.nv_super.specs.Super.{IsSuper};
 ghost use Rattle.nv_super.specs.declared.superblock.Super.{Super as SuperValue};
@@ -9,6 +9,7 @@ ghost use Rattle.nv_journal.specs.Undone.{AllQuiet};
 ghost use Rattle.nv_recover.specs.declared.recovered.RecoverError.TheVariants as errors;
 ghost use Rattle.nv_recover.specs.Errors.{Fails, comes_first};
 ghost use Rattle.nv_recover.specs.Reading.{IsOpened};
+ghost use Rattle.nv_recover.specs.Behind.{BehindSystem};
 
 use crate::recovered::RecoverError;
 use nv_journal::undo;
@@ -31,11 +32,10 @@ pub(crate) fn open<P: Pmem>(alloc: Global, memory: &mut P) -> Result<Opened, Rec
     ensures quiet_done { (s : SuperValue) → IsSuper (P.region memory.old) s → AllQuiet s.cpus (P.region memory.old) → IfErr result (λ e. e ≢ errors.Stopped) }
     ensures untouched { IfErr result (λ e. IsTrue (comes_first e) → memory.new ≡ memory.old) }
     ensures err { (workers : ℕ) (schedule : List ℕ) → IfErr result (λ e. Fails workers schedule e (P.region memory.old) (P.region memory.new)) }
-    ensures stopped { IfErr result (λ e. e ≡ errors.Stopped → IsTrue (P.has_burnt memory.new)) }
-    ensures burnt { StaysBurnt (P.has_burnt memory.old) (P.has_burnt memory.new) }
+    ensures stopped { IfErr result (λ e. e ≡ errors.Stopped → IsTrue (P.fuse memory.new).has_burnt) }
+    ensures keeps_fuse { KeepsFuse (BehindSystem (P.region memory.old)) (P.fuse memory.old) (P.fuse memory.new) }
     // A memory that takes stores up to the first data block isn't stopped.
-    ensures unstopped { (s : SuperValue) → IsSuper (P.region memory.old) s → IsTrue (P.is_open memory.old (4096 * system_blocks s)) → IfErr result (λ e. e ≢ errors.Stopped) }
-    ensures steady { StaysSteady (P.is_steady memory.old) (P.is_steady memory.new) }
+    ensures unstopped { (s : SuperValue) → IsSuper (P.region memory.old) s → IsTrue ((P.fuse memory.old).is_open (4096 * system_blocks s)) → IfErr result (λ e. e ≢ errors.Stopped) }
 {
     let sup = read_super(memory)?;
     let journal = undo(alloc, memory, &sup)?;

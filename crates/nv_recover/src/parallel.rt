@@ -2,7 +2,7 @@
 
 ghost use Rattle.std.specs.Prelude.{◌≡◌, ◌*◌, ◌≢◌, ◌<◌, ◌≤◌, [], IfOk, IfErr, IsTrue};
 ghost use Rattle.nv_region.specs.Region.{HasBlocks};
-ghost use Rattle.nv_region.specs.Stops.{StaysBurnt, StaysSteady};
+ghost use Rattle.nv_region.specs.Fuses.{KeepsFuse};
 ghost use Rattle.nv_super.specs.Layout.{IsLayout, system_blocks};
 ghost use Rattle.nv_super.specs.Super.{IsSuper};
 ghost use Rattle.nv_super.specs.declared.superblock.Super.{Super as SuperValue};
@@ -13,6 +13,7 @@ ghost use Rattle.nv_recover.specs.declared.recovered.RecoverError.TheVariants as
 ghost use Rattle.nv_recover.specs.Answer.{outcome_of, SharesBlocks};
 ghost use Rattle.nv_recover.specs.Errors.{Fails, comes_first, IsBadCount};
 ghost use Rattle.nv_recover.specs.Reading.{IsReading};
+ghost use Rattle.nv_recover.specs.Behind.{BehindSystem};
 
 use crate::finishing::{Told, finish};
 use crate::opening::{Opened, open};
@@ -50,11 +51,10 @@ pub fn recover<P: Pmem + Sync, G: Gate + Sync, H: Threads + Sync>(
     ensures untouched { IfErr result (λ e. IsTrue (comes_first e) → memory.new ≡ memory.old) }
     ensures workers { IsBadCount workers → IfOk result (λ _. ⊥) × IfErr result (λ e. e ≡ errors.Workers) }
     ensures err { IfErr result (λ e. Fails workers [] e (P.region memory.old) (P.region memory.new)) }
-    ensures stopped { IfErr result (λ e. e ≡ errors.Stopped → IsTrue (P.has_burnt memory.new)) }
-    ensures burnt { StaysBurnt (P.has_burnt memory.old) (P.has_burnt memory.new) }
+    ensures stopped { IfErr result (λ e. e ≡ errors.Stopped → IsTrue (P.fuse memory.new).has_burnt) }
+    ensures keeps_fuse { KeepsFuse (BehindSystem (P.region memory.old)) (P.fuse memory.old) (P.fuse memory.new) }
     // A memory that takes stores up to the first data block isn't stopped.
-    ensures unstopped { (s : SuperValue) → IsSuper (P.region memory.old) s → IsTrue (P.is_open memory.old (4096 * system_blocks s)) → IfErr result (λ e. e ≢ errors.Stopped) }
-    ensures steady { StaysSteady (P.is_steady memory.old) (P.is_steady memory.new) }
+    ensures unstopped { (s : SuperValue) → IsSuper (P.region memory.old) s → IsTrue ((P.fuse memory.old).is_open (4096 * system_blocks s)) → IfErr result (λ e. e ≢ errors.Stopped) }
 {
     if !(1..=64).contains(&workers) {
         return Err(RecoverError::Workers);

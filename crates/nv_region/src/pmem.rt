@@ -1,6 +1,6 @@
 //! Memory that keeps its words over a stop, as far as they were fenced.
 
-ghost use Rattle.std.specs.Prelude.{◌≡◌, ◌+◌, ◌≤◌, ◌%◌, ℕ, Bool, false, IsTrue, OnOk, OnErr, is_err, get_or, length, ◌<◌};
+ghost use Rattle.std.specs.Prelude.{◌≡◌, ◌+◌, ◌≤◌, ◌%◌, ℕ, false, IsTrue, OnOk, OnErr, is_err, get_or, length, ◌<◌};
 ghost use Rattle.nv_region.specs.Region.{Region, size, word, put};
 ghost use Rattle.nv_region.specs.Stops.{Adds, One, NoneAdded, NothingPending};
 ghost use Rattle.nv_region.specs.Fuses.{FuseState, KeepsFuse};

@@ -1,5 +1,6 @@
 -- What a recovery may answer, and what it leaves of the region.
 use Rattle.std.specs.Prelude.{◌≡◌, ◌⊎◌, ℕ, ◌*◌, ◌-◌, ◌^◌, min, Bool, true, false, IsTrue, List, Option, Some, None}
+use Rattle.nv_region.specs.Fuses.{FuseState}
 use Rattle.nv_region.specs.Region.{Region}
 use Rattle.nv_super.specs.declared.superblock.Super.{Super}
 use Rattle.nv_super.specs.Layout.{system_blocks}
@@ -20,8 +21,8 @@ abbrev pub IsOpenInFront : Region → (ℕ → Bool) → Type 0
 IsOpenInFront R is_open = (s : Super) → IsSuper R s → IsTrue (is_open (4096 * system_blocks s))
 
 -- nothing stops a recovery: no fuse is set, or each store in front of the data blocks is taken
-abbrev pub TakesRecovery : Region → Bool → (ℕ → Bool) → Type 0
-TakesRecovery R is_steady is_open = IsTrue is_steady ⊎ IsOpenInFront R is_open
+abbrev pub TakesRecovery : Region → FuseState → Type 0
+TakesRecovery R fuse = IsTrue fuse.is_steady ⊎ IsOpenInFront R fuse.is_open
 
 -- the refusal that an error is told as: none for want of memory, and for a stop, which doesn't come where a recovery is taken
 abbrev pub refusal_of : RecoverError → Option Refusal

@@ -1,7 +1,8 @@
 //! Recoveries of a region in a memory that stops none, as the commands see them: nothing but want of memory prevents an answer.
 
 ghost use Rattle.std.specs.Prelude.{◌≡◌, [], None, IfOk, OnErr, IsTrue, map};
-ghost use Rattle.nv_region.specs.Stops.{StaysSteady};
+ghost use Rattle.nv_region.specs.Fuses.{KeepsFuse};
+ghost use Rattle.nv_recover.specs.Behind.{BehindSystem};
 ghost use Rattle.nv_recover.specs.Errors.{AsBeforeOrUndone};
 ghost use Rattle.nv_report.specs.Answering.{TakesRecovery, MayAnswer, IsToldAs, refusal_of, worker_number};
 
@@ -20,11 +21,11 @@ pub fn recover_region<P: Pmem + Sync, H: Threads + Sync>(
     memory: &mut P,
     workers: u64,
 ) -> Result<Answer, AllocError>
-    requires taken { TakesRecovery (P.region memory.old) (P.is_steady memory.old) (P.is_open memory.old) }
+    requires taken { TakesRecovery (P.region memory.old) (P.fuse memory.old) }
     ensures ok { IfOk result (λ answer. MayAnswer (P.region memory.old) workers [] answer (P.region memory.new)) }
     // Only want of memory prevents an answer.
     ensures err { OnErr result (AsBeforeOrUndone (P.region memory.old) (P.region memory.new)) }
-    ensures steady { StaysSteady (P.is_steady memory.old) (P.is_steady memory.new) }
+    ensures keeps_fuse { KeepsFuse (BehindSystem (P.region memory.old)) (P.fuse memory.old) (P.fuse memory.new) }
 {
     match recover(rt, alloc, memory, workers, &OpenGate) {
         Ok(recovered) => Ok(Answer::Recovered(recovered)),
@@ -39,9 +40,9 @@ pub fn replay_region<P: Pmem>(
     workers: u64,
     schedule: &[u64],
 ) -> Result<Answer, AllocError>
-    requires steady { IsTrue (P.is_steady memory.old) }
+    requires steady { IsTrue (P.fuse memory.old).is_steady }
     ensures ok { IfOk result (λ answer. MayAnswer (P.region memory.old) workers schedule.now answer (P.region memory.new)) }
-    ensures steady { IsTrue (P.is_steady memory.new) }
+    ensures steady { IsTrue (P.fuse memory.new).is_steady }
 {
     let numbers = worker_numbers(alloc, schedule)?;
     match recover_replay(alloc, memory, workers, &numbers) {

@@ -1,7 +1,7 @@
 //! A region whose loads are watched.
 
 ghost use Rattle.std.proofs.Common.{inl, refl};
-ghost use Rattle.nv_region.specs.RegionState.{fenced_or_last, is_steady, steady_unburnt};
+ghost use Rattle.nv_region.specs.RegionState.{fenced_or_last, fuse_state, steady_unburnt};
 
 use nv_region::{MemRegion, Pmem, Stopped};
 
@@ -21,11 +21,7 @@ impl<W: Watch> Pmem for WatchedRegion<W> {
 
     ghost may_hold = { λ m. fenced_or_last m.memory };
 
-    ghost has_burnt = { λ m. m.memory.burnt };
-
-    ghost is_steady = { λ m. is_steady m.memory };
-
-    ghost is_open = { λ m limit. is_steady m.memory };
+    ghost fuse = { λ m. fuse_state m.memory };
 
     ghost unburnt = { λ m. steady_unburnt m.memory };
 

@@ -2,7 +2,7 @@
 
 ghost use Rattle.std.specs.Prelude.{◌≡◌};
 ghost use Rattle.std.proofs.Common.{inl, refl};
-ghost use Rattle.nv_region.specs.RegionState.{fenced_or_last, is_steady, steady_unburnt};
+ghost use Rattle.nv_region.specs.RegionState.{fenced_or_last, fuse_state, steady_unburnt};
 
 use super::{Failure, TWO};
 use crate::small::small_region;
@@ -34,11 +34,7 @@ impl Pmem for NotedRegion {
 
     ghost may_hold = { λ m. fenced_or_last m.memory };
 
-    ghost has_burnt = { λ m. m.memory.burnt };
-
-    ghost is_steady = { λ m. is_steady m.memory };
-
-    ghost is_open = { λ m limit. is_steady m.memory };
+    ghost fuse = { λ m. fuse_state m.memory };
 
     ghost unburnt = { λ m. steady_unburnt m.memory };
 

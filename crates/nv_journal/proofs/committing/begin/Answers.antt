@@ -2,6 +2,7 @@ use Rattle.std.proofs.Common.{◌≡◌, ap, arith, subst, sym}
 use Rattle.std.proofs.lemmas.Result.{on_ok_weaker}
 use Rattle.nv_region.specs.Region.{Region, size}
 use Rattle.nv_region.specs.Stored.{Within}
+use Rattle.nv_region.proofs.Fuses.{keeps_more, keeps_within}
 use Rattle.nv_region.proofs.Stops.{fence_none, refused_leaves}
 use Rattle.nv_region.proofs.Wordwise.{same_stores, stores_more, stores_within, within_one}
 use Rattle.nv_journal.specs.Undo.{journal}
@@ -84,15 +85,17 @@ returns-clause-wrote g c =
     (same_stores (Within (journal c.args.cpu) 4096) _ _ _ _ c.fence.ensures.same (fence_none c.fence.result _ _ _ _ c.fence.ensures.same c.fence.ensures.fenced c.fence.ensures.refused_keep (g.met.P.Pmem.holds_now _))))
     c.commit_word.ensures.wrote
 
-pub returns-in_err-write_records-clause-open : goal.returns-in_err-write_records-clause-open
-returns-in_err-write_records-clause-open g c limit low is =
-    let here : c.read-pending.result.cpu ≡ c.args.cpu = ap (λ (p : _). p.cpu) c.read-pending.ensures.is in c.write_records.ensures.open limit (omega (arith, here, low)) is
+pub returns-in_err-write_records-clause-keeps_fuse : goal.returns-in_err-write_records-clause-keeps_fuse
+returns-in_err-write_records-clause-keeps_fuse g c =
+    let here : c.read-pending.result.cpu ≡ c.args.cpu = ap (λ (p : _). p.cpu) c.read-pending.ensures.is in keeps_within (λ limit past. omega (arith, here)) c.write_records.ensures.keeps_fuse
 
-pub returns-in_err-fence-clause-open : goal.returns-in_err-fence-clause-open
-returns-in_err-fence-clause-open g c limit low is =
-    let here : c.read-pending.result.cpu ≡ c.args.cpu = ap (λ (p : _). p.cpu) c.read-pending.ensures.is in c.fence.ensures.open limit (c.write_records.ensures.open limit (omega (arith, here, low)) is)
-
-pub returns-clause-open : goal.returns-clause-open
-returns-clause-open g c limit low is =
+pub returns-in_err-fence-clause-keeps_fuse : goal.returns-in_err-fence-clause-keeps_fuse
+returns-in_err-fence-clause-keeps_fuse g c =
     let here : c.read-pending.result.cpu ≡ c.args.cpu = ap (λ (p : _). p.cpu) c.read-pending.ensures.is in
-    c.commit_word.ensures.open limit (omega (arith, c.enqueue_word.ensures, low)) (c.fence.ensures.open limit (c.write_records.ensures.open limit (omega (arith, here, low)) is))
+    keeps_more (λ limit past. omega arith) (keeps_within (λ limit past. omega (arith, here)) c.write_records.ensures.keeps_fuse) c.fence.ensures.keeps_fuse
+
+pub returns-clause-keeps_fuse : goal.returns-clause-keeps_fuse
+returns-clause-keeps_fuse g c =
+    let here : c.read-pending.result.cpu ≡ c.args.cpu = ap (λ (p : _). p.cpu) c.read-pending.ensures.is in
+    keeps_more (λ limit past. omega (arith, c.enqueue_word.ensures)) (keeps_more (λ limit past. omega arith) (keeps_within (λ limit past. omega (arith, here)) c.write_records.ensures.keeps_fuse) c.fence.ensures.keeps_fuse)
+    c.commit_word.ensures.keeps_fuse

@@ -1,5 +1,6 @@
 use Rattle.std.proofs.Common.{inl, inr, ap, ◌∙◌, arith}
 use Rattle.std.proofs.lemmas.Result.{on_ok_weaker}
+use Rattle.nv_region.proofs.Fuses.{keeps_more, keeps_within}
 use Rattle.nv_region.specs.Region.{Region, put}
 use Rattle.nv_region.specs.Stops.{One}
 use Rattle.nv_region.specs.Stored.{Within}
@@ -64,3 +65,7 @@ returns-clause-empty g c =
     on_ok_weaker c.commit.result
     (λ empty. empty (still_small (g.P.Pmem.region c.begin.new.memory) (g.P.Pmem.region c.store_both.new.memory) c.args.cpu c.args.first c.args.first_value c.args.second c.args.second_value _ c.in_ok-begin.ensures.pending c.requires.behind c.in_ok-store_both.ensures.done))
     c.commit.ensures.empty
+
+pub returns-clause-keeps_fuse : goal.returns-clause-keeps_fuse
+returns-clause-keeps_fuse g c =
+    keeps_more (λ limit past. let journal = past.0 in omega arith) (keeps_more (λ limit past. (past.1, past.2)) (keeps_within (λ limit past. past.0) c.begin.ensures.keeps_fuse) c.store_both.ensures.keeps_fuse) c.commit.ensures.keeps_fuse

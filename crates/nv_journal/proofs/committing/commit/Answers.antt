@@ -1,5 +1,6 @@
 use Rattle.std.proofs.Common.{inl, inr, ap, arith, subst, ◌∙◌, ℕ}
 use Rattle.std.proofs.lemmas.Result.{on_ok_weaker}
+use Rattle.nv_region.proofs.Fuses.{keeps_within}
 use Rattle.nv_region.specs.Region.{put}
 use Rattle.nv_region.specs.Stops.{One}
 use Rattle.nv_region.specs.Stored.{StoresOnly}
@@ -41,5 +42,5 @@ returns-clause-wrote g c =
     subst (λ (at : ℕ). StoresOnly (One at (enqueue (g.P.Pmem.region c.args.memory.now) c.args.cpu)) (g.P.Pmem.region c.args.memory.now) (g.P.Pmem.region c.commit_word.new.memory) (g.P.Pmem.may_hold c.args.memory.now) (g.P.Pmem.may_hold c.commit_word.new.memory)) c.dequeue_word.ensures
     (subst (λ (n : ℕ). StoresOnly (One c.dequeue_word.result n) (g.P.Pmem.region c.args.memory.now) (g.P.Pmem.region c.commit_word.new.memory) (g.P.Pmem.may_hold c.args.memory.now) (g.P.Pmem.may_hold c.commit_word.new.memory)) value c.commit_word.ensures.wrote)
 
-pub returns-clause-open : goal.returns-clause-open
-returns-clause-open g c limit low = c.commit_word.ensures.«open» limit (omega (arith, c.dequeue_word.ensures, low))
+pub returns-clause-keeps_fuse : goal.returns-clause-keeps_fuse
+returns-clause-keeps_fuse g c = keeps_within (λ limit past. omega (arith, c.dequeue_word.ensures)) c.commit_word.ensures.keeps_fuse

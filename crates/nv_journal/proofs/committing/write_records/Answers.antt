@@ -1,4 +1,5 @@
 use Rattle.std.proofs.Common.{arith, refl, ◌+◌, ◌∙◌}
+use Rattle.nv_region.proofs.Fuses.{keeps_more}
 use Rattle.nv_region.proofs.Wordwise.{stores_more, stored_only, within_one}
 use Rattle.nv_journal.specs.Undo.{journal}
 use Rattle.nv_journal.proofs.Recording.{record_more}
@@ -27,7 +28,5 @@ loop-k-preserved g c =
           (stored_only c.store_word.result _ _ place _ _ _ (omega (arith, stands)) c.store_word.ensures.stored c.store_word.ensures.refused c.store_word.ensures.may_keep))
           (stored_only c.store_word-in-loop-k.result _ _ (place + 8) _ _ _ (omega (arith, stands)) c.store_word-in-loop-k.ensures.stored c.store_word-in-loop-k.ensures.refused c.store_word-in-loop-k.ensures.may_keep);
       len = c.in_ok-store_word-2.ensures.stored.len ∙ c.in_ok-store_word.ensures.stored.len ∙ c.loop-k.invariant.len;
-      burnt = λ on. c.store_word-in-loop-k.ensures.burnt (c.store_word.ensures.burnt (c.loop-k.invariant.burnt on));
-      steady = λ is. c.store_word-in-loop-k.ensures.steady (c.store_word.ensures.steady (c.loop-k.invariant.steady is));
-      stays_open = λ limit low is. c.store_word-in-loop-k.ensures.open limit (omega (arith, stands, low)) (c.store_word.ensures.open limit (omega (arith, stands, low)) (c.loop-k.invariant.stays_open limit low is));
+      keeps_fuse = keeps_more (λ limit past. omega (arith, stands)) (keeps_more (λ limit past. omega (arith, stands)) c.loop-k.invariant.keeps_fuse c.store_word.ensures.keeps_fuse) c.store_word-in-loop-k.ensures.keeps_fuse;
     }

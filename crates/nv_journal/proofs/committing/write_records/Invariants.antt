@@ -1,6 +1,6 @@
-use Rattle.std.proofs.Common.{◌≡◌, ◌≤◌, ◌+◌, ℕ}
+use Rattle.std.proofs.Common.{◌≡◌, ◌≤◌, ◌+◌}
 use Rattle.nv_region.specs.Region.{size}
-use Rattle.nv_region.specs.Stops.{StaysBurnt, StaysSteady, StaysOpen}
+use Rattle.nv_region.specs.Fuses.{KeepsFuse}
 use Rattle.nv_region.specs.Stored.{StoresOnly, Within}
 use Rattle.nv_journal.specs.Recorded.{Recorded}
 use Rattle.nv_journal.specs.Undo.{journal}
@@ -11,7 +11,5 @@ invariant-loop-k g l = record {
   recorded : Recorded (g.P.Pmem.region l.memory) l.pending l.records l.k;
   wrote : StoresOnly (Within (journal l.pending.cpu + 64) 4032) (g.P.Pmem.region l.fn.memory) (g.P.Pmem.region l.memory) (g.P.Pmem.may_hold l.fn.memory) (g.P.Pmem.may_hold l.memory);
   len : size (g.P.Pmem.region l.memory) ≡ size (g.P.Pmem.region l.fn.memory);
-  burnt : StaysBurnt (g.P.Pmem.has_burnt l.fn.memory) (g.P.Pmem.has_burnt l.memory);
-  steady : StaysSteady (g.P.Pmem.is_steady l.fn.memory) (g.P.Pmem.is_steady l.memory);
-  stays_open : (limit : ℕ) → journal l.pending.cpu + 4096 ≤ limit → StaysOpen limit (g.P.Pmem.is_open l.fn.memory) (g.P.Pmem.is_open l.memory);
+  keeps_fuse : KeepsFuse (λ limit. journal l.pending.cpu + 4096 ≤ limit) (g.P.Pmem.fuse l.fn.memory) (g.P.Pmem.fuse l.memory);
 }

@@ -1,5 +1,6 @@
 use Rattle.std.proofs.Common.{◌≡◌, ◌-◌, ◌*◌, ap, arith, subst, sym, ◌∙◌}
 use Rattle.std.proofs.lemmas.Result.{on_ok_weaker}
+use Rattle.nv_region.proofs.Fuses.{keeps_more}
 use Rattle.nv_region.specs.Region.{Region}
 use Rattle.nv_region.specs.Stored.{SameOutside}
 use Rattle.nv_region.proofs.Stops.{fence_none}
@@ -38,9 +39,7 @@ loop-done-preserved g c = record {
       c.requires.layout c.requires.cpu c.requires.read c.count-count.ensures c.loop-done-test.true c.loop-done.invariant.so_far c.place.ensures)
       c.loop-done.invariant.wrote c.put_back.ensures.wrote;
   outside = outside_more _ _ _ _ _ c.loop-done.invariant.outside c.put_back.ensures.outside;
-  burnt = λ on. c.put_back.ensures.burnt (c.loop-done.invariant.burnt on);
-  steady = λ is. c.put_back.ensures.steady (c.loop-done.invariant.steady is);
-  stays_open = λ is. c.put_back.ensures.«open» (c.loop-done.invariant.stays_open is);
+  keeps_fuse = keeps_more (λ limit past. past) c.loop-done.invariant.keeps_fuse c.put_back.ensures.keeps_fuse;
 }
 
 pub returns-clause-done : goal.returns-clause-done

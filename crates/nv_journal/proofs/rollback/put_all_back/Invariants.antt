@@ -1,5 +1,5 @@
-use Rattle.std.proofs.Common.{◌≡◌, ◌-◌, ◌*◌}
-use Rattle.nv_region.specs.Stops.{StaysBurnt, StaysSteady, StaysOpen}
+use Rattle.std.proofs.Common.{◌≤◌, ◌≡◌, ◌-◌, ◌*◌}
+use Rattle.nv_region.specs.Fuses.{KeepsFuse}
 use Rattle.nv_region.specs.Stored.{SameOutside, StoresOnly}
 use Rattle.nv_super.specs.Layout.{system_blocks}
 use Rattle.nv_inode.specs.Permitted.{is_permitted}
@@ -11,7 +11,5 @@ invariant-loop-done g l = record {
   so_far : g.P.Pmem.region l.memory ≡ stores (permitted (is_permitted l.sup) (pending_from (g.P.Pmem.region l.fn.memory) l.pending.cpu (l.count - l.done) l.done)) (g.P.Pmem.region l.fn.memory);
   wrote : StoresOnly (IsNamed (permitted_records (is_permitted l.sup) (g.P.Pmem.region l.fn.memory) l.pending.cpu)) (g.P.Pmem.region l.fn.memory) (g.P.Pmem.region l.memory) (g.P.Pmem.may_hold l.fn.memory) (g.P.Pmem.may_hold l.memory);
   outside : SameOutside (g.P.Pmem.region l.fn.memory) 4096 (4096 * (system_blocks l.sup - 1)) (g.P.Pmem.region l.memory);
-  burnt : StaysBurnt (g.P.Pmem.has_burnt l.fn.memory) (g.P.Pmem.has_burnt l.memory);
-  steady : StaysSteady (g.P.Pmem.is_steady l.fn.memory) (g.P.Pmem.is_steady l.memory);
-  stays_open : StaysOpen (4096 * system_blocks l.sup) (g.P.Pmem.is_open l.fn.memory) (g.P.Pmem.is_open l.memory);
+  keeps_fuse : KeepsFuse (λ limit. 4096 * system_blocks l.sup ≤ limit) (g.P.Pmem.fuse l.fn.memory) (g.P.Pmem.fuse l.memory);
 }

@@ -10,6 +10,6 @@ returns-in-Err-clause-err g c =
     let is = c.recover.new.memory in
     let R = g.P.Pmem.region was in
     let said = c.in-Err.ensures in
-    let unstopped = never_stopped R (g.P.Pmem.region is) c.args.workers [] c.in-Err.error said.err (g.P.Pmem.is_steady was) (g.P.Pmem.is_open was) c.requires.taken
-    (λ steady same. let burnt : IsTrue (g.P.Pmem.has_burnt is) = said.stopped same in let still : IsTrue (g.P.Pmem.is_steady is) = said.steady steady in let unburnt : g.P.Pmem.has_burnt is ≡ false = laws.unburnt is still in cc) said.unstopped in
+    let unstopped = never_stopped R (g.P.Pmem.region is) c.args.workers [] c.in-Err.error said.err (g.P.Pmem.fuse was) c.requires.taken
+    (λ steady same. let burnt : IsTrue (g.P.Pmem.fuse is).has_burnt = said.stopped same in let still : IsTrue (g.P.Pmem.fuse is).is_steady = said.keeps_fuse.steady steady in let unburnt : (g.P.Pmem.fuse is).has_burnt ≡ false = laws.unburnt is still in cc) said.unstopped in
     on_err c.refused.result _ _ (want_of_memory R (g.P.Pmem.region is) c.args.workers [] c.in-Err.error said.err unstopped) c.refused.ensures.err
