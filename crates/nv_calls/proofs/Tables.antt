@@ -1,12 +1,13 @@
 -- The slots as they lie in the tables: behind the journals, 128 bytes each, before the data blocks.
 use Rattle.std.proofs.Common.{◌≡◌, ◌≢◌, inl, inr, ℕ, ◌+◌, ◌*◌, ◌/◌, ◌%◌, ◌<◌, ◌≤◌, IsTrue, nat_lt, ◌&&◌, ap, sym, ◌∙◌, arith}
 use Rattle.std.proofs.Math.Nat.{le-mul_of_pos_right}
-use Rattle.std.proofs.lemmas.Nat.{div_below, mod_below, div-add-mod', div-mul-add, mod-mul-add, mul-add-lt}
+use Rattle.std.proofs.lemmas.Nat.{mod_below, div-add-mod', div-mul-add, mod-mul-add, mul-add-lt}
 use Rattle.std.proofs.lemmas.Bool.Decides.{nat_tests}
 use Rattle.std.proofs.lemmas.Bool.{cases_eq}
 use Rattle.nv_super.specs.declared.superblock.Super.{Super}
 use Rattle.nv_super.specs.Layout.{IsLayout, slot_address, inode_limit, is_number}
 use Rattle.nv_inode.proofs.KeyWords.{inode, inode_below, inode_slot}
+use Rattle.nv_inode.proofs.Slots.{row_below}
 use Rattle.nv_calls.specs.Format.{IsPointer, IsValidWord, IsRootWord, root_page}
 
 -- the place of an inode's slot among all slots of the tables
@@ -22,9 +23,6 @@ root_number s layout = holds (inode_limit s) (let some = some_slots s layout in 
     holds : (n : ℕ) → 1 < n → IsTrue (nat_lt 0 1 && nat_lt 1 n)
     holds n above = grind (arith, nat_tests)
 
-place_row : (C T i : ℕ) → 0 < C → i < 32 * C * T → i / C < 32 * T
-place_row C T i some below = div_below i C (32 * T) some (omega arith)
-
 some_cpus : (s : Super) → IsLayout s → 0 < s.cpus
 some_cpus s layout = let from = layout.cpus_from in omega arith
 
@@ -32,7 +30,7 @@ pub place_below : (s : Super) (i : ℕ) → IsLayout s → i < inode_limit s →
 place_below s i layout below = at s.cpus s.table_blocks (some_cpus s layout) below
   where
     at : (C T : ℕ) → 0 < C → i < 32 * C * T → i % C * (32 * T) + i / C < 32 * C * T
-    at C T some below = let row = mul-add-lt (i % C) (32 * T) (i / C) C (mod_below i C some) (place_row C T i some below) in omega (arith, row)
+    at C T some below = let row = mul-add-lt (i % C) (32 * T) (i / C) C (mod_below i C some) (row_below C T i some below) in omega (arith, row)
 
 pub slot_place : (s : Super) (i : ℕ) → slot_address s i ≡ (1 + s.cpus) * 4096 + 128 * place s i
 slot_place s i = at s.cpus s.table_blocks (i % s.cpus) (i / s.cpus)
@@ -46,10 +44,10 @@ one_place s i j layout below_i below_j same = at s.cpus s.table_blocks (some_cpu
   where
     at : (C T : ℕ) → 0 < C → i < 32 * C * T → j < 32 * C * T → i % C * (32 * T) + i / C ≡ j % C * (32 * T) + j / C → i ≡ j
     at C T some below_i below_j same =
-        let cpu_i = div-mul-add (i % C) (32 * T) (i / C) (place_row C T i some below_i) in
-        let cpu_j = div-mul-add (j % C) (32 * T) (j / C) (place_row C T j some below_j) in
-        let row_i = mod-mul-add (i % C) (32 * T) (i / C) (place_row C T i some below_i) in
-        let row_j = mod-mul-add (j % C) (32 * T) (j / C) (place_row C T j some below_j) in
+        let cpu_i = div-mul-add (i % C) (32 * T) (i / C) (row_below C T i some below_i) in
+        let cpu_j = div-mul-add (j % C) (32 * T) (j / C) (row_below C T j some below_j) in
+        let row_i = mod-mul-add (i % C) (32 * T) (i / C) (row_below C T i some below_i) in
+        let row_j = mod-mul-add (j % C) (32 * T) (j / C) (row_below C T j some below_j) in
         let cpus : i % C ≡ j % C = sym cpu_i ∙ ap (λ (n : ℕ). n / (32 * T)) same ∙ cpu_j in
         let rows : i / C ≡ j / C = sym row_i ∙ ap (λ (n : ℕ). n % (32 * T)) same ∙ row_j in
         sym (div-add-mod' i C) ∙ ap (λ (q : ℕ). q * C + i % C) rows ∙ ap (λ (r : ℕ). j / C * C + r) cpus ∙ div-add-mod' j C

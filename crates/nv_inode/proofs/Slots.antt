@@ -15,8 +15,8 @@ pub number_below : (s : Super) (i : ℕ) → IsTrue (is_number s i) → i < 32 *
 number_below s i number = grind (arith, nat_tests)
 
 -- the place of a slot in the table of its CPU
-place_below : (C T i : ℕ) → 0 < C → i < 32 * C * T → i / C < 32 * T
-place_below C T i some below = div_below i C (32 * T) some (omega arith)
+pub row_below : (C T i : ℕ) → 0 < C → i < 32 * C * T → i / C < 32 * T
+row_below C T i some below = div_below i C (32 * T) some (omega arith)
 
 -- a table before the last table's end
 table_before : (C T c : ℕ) → c < C → c * T + T ≤ C * T
@@ -25,7 +25,7 @@ table_before C T c before = let most : (c + 1) * T ≤ C * T = mul-le-mul_right 
 -- a slot stands whole before the data blocks
 slot_ends : (C T i : ℕ) → 0 < C → i < 32 * C * T → (1 + C + i % C * T) * 4096 + i / C * 128 + 128 ≤ (1 + C + C * T) * 4096
 slot_ends C T i some below =
-    let place = place_below C T i some below in
+    let place = row_below C T i some below in
     let table = table_before C T (i % C) (mod_below i C some) in
     omega (arith, place, table)
 

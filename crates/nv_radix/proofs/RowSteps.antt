@@ -226,14 +226,6 @@ pub other_branch : (page j r : ℕ) (b : Bool) → r < 4096 → j ≢ page / 409
 other_branch page j r b l n = elim (eqb_tells ((j * 4096 + r) / 64) (page / 64)) [ inl v ↦ absurd (n (omega (arith, l, v.1))) | inr v ↦ rw v.0 refl ]
 
 -- what holds on one outcome of a call
-pub on_ok : {T E : Type 0} (r : Result T E) (P Q : Type 0) → (P → Q) → OnOk r P → OnOk r Q
-on_ok (Ok x) P Q f h = f h
-on_ok (Err e) P Q f h = h
-
-pub on_err : {T E : Type 0} (r : Result T E) (P Q : Type 0) → (P → Q) → OnErr r P → OnErr r Q
-on_err (Ok x) P Q f h = h
-on_err (Err e) P Q f h = f h
-
 pub on_any_err : {T E : Type 0} (r : Result T E) (P : Type 0) → P → OnErr r P
 on_any_err (Ok x) P h = tt
 on_any_err (Err e) P h = h

@@ -2,9 +2,10 @@ use Rattle.std.proofs.Common.{◌≡◌, ℕ, ◌+◌, ◌*◌, ◌/◌, ◌%◌
 use Rattle.std.proofs.lemmas.List.{get_or_default, length-set}
 use Rattle.std.proofs.lemmas.List.Elements.{All-set}
 use Rattle.std.proofs.Math.ListN.{set}
+use Rattle.std.proofs.lemmas.Result.{on_ok_weaker, on_err_weaker}
 use Rattle.nv_radix.specs.Pages.{Pages, block_at, is_ready}
 use Rattle.nv_radix.specs.Nodes.{IsNode}
-use Rattle.nv_radix.proofs.RowSteps.{blocks_by_node, ready_by_node, set_by_place, IsNode-leaves, ready_leaf, other_leaf, on_ok, on_err, on_any_err}
+use Rattle.nv_radix.proofs.RowSteps.{blocks_by_node, ready_by_node, set_by_place, IsNode-leaves, ready_leaf, other_leaf, on_any_err}
 use Rattle.nv_radix.proofs.branch.Branch.make_ready.Goals as goal
 
 pub returns-in_err-grow-clause-blocks : goal.returns-in_err-grow-clause-blocks
@@ -37,7 +38,7 @@ returns-clause-ready c =
     let place = c.args.page / 64 in
     let there : place < length grown = omega (arith, c.in_ok-grow.ensures.enough) in
     let all = c.grow.ensures.nodes c.self.invariant.0 in
-    on_ok c.make_ready.result _ _ (λ ready p. rw (← c.self.view_is) (ready_by_node 64 nodes (set grown place c.make_ready.new.self) (λ q old new. new ≡ (eqb (q / 64) place || old)) (omega arith) c.self.invariant.0 (All-set (IsNode 64) grown place c.make_ready.new.self c.make_ready.ensures.node all) (λ j r l. set_by_place grown place c.make_ready.new.self (λ j m. is_ready m r ≡ (eqb ((j * 64 + r) / 64) place || is_ready (get_or nodes j []) r)) there (ready r ∙ ready_leaf place r (is_ready (get_or nodes place []) r) l) (λ j n. ap (λ m. is_ready m r) (c.grow.ensures.same j) ∙ other_leaf place j r (is_ready (get_or nodes j []) r) l n) j) p)) c.make_ready.ensures.ready
+    on_ok_weaker c.make_ready.result (λ ready p. rw (← c.self.view_is) (ready_by_node 64 nodes (set grown place c.make_ready.new.self) (λ q old new. new ≡ (eqb (q / 64) place || old)) (omega arith) c.self.invariant.0 (All-set (IsNode 64) grown place c.make_ready.new.self c.make_ready.ensures.node all) (λ j r l. set_by_place grown place c.make_ready.new.self (λ j m. is_ready m r ≡ (eqb ((j * 64 + r) / 64) place || is_ready (get_or nodes j []) r)) there (ready r ∙ ready_leaf place r (is_ready (get_or nodes place []) r) l) (λ j n. ap (λ m. is_ready m r) (c.grow.ensures.same j) ∙ other_leaf place j r (is_ready (get_or nodes j []) r) l n) j) p)) c.make_ready.ensures.ready
 
 pub returns-clause-err : goal.returns-clause-err
 returns-clause-err c =
@@ -47,7 +48,7 @@ returns-clause-err c =
     let there : place < length grown = omega (arith, c.in_ok-grow.ensures.enough) in
     let is : c.index_mut.result.now ≡ get_or nodes place [] = c.index_mut.ensures.value ∙ get_or_default grown place _ [] there ∙ c.grow.ensures.same place in
     let all = c.grow.ensures.nodes c.self.invariant.0 in
-    on_err c.make_ready.result (c.make_ready.new.self ≡ c.index_mut.result.now) _ (λ same p. rw (← c.self.view_is) (ready_by_node 64 nodes (set grown place c.make_ready.new.self) (λ q old new. new ≡ old) (omega arith) c.self.invariant.0 (All-set (IsNode 64) grown place c.make_ready.new.self c.make_ready.ensures.node all) (λ j r l. set_by_place grown place c.make_ready.new.self (λ j m. is_ready m r ≡ is_ready (get_or nodes j []) r) there (ap (λ m. is_ready m r) (same ∙ is)) (λ j n. ap (λ m. is_ready m r) (c.grow.ensures.same j)) j) p)) c.make_ready.ensures.err
+    on_err_weaker {P = c.make_ready.new.self ≡ c.index_mut.result.now} c.make_ready.result (λ same p. rw (← c.self.view_is) (ready_by_node 64 nodes (set grown place c.make_ready.new.self) (λ q old new. new ≡ old) (omega arith) c.self.invariant.0 (All-set (IsNode 64) grown place c.make_ready.new.self c.make_ready.ensures.node all) (λ j r l. set_by_place grown place c.make_ready.new.self (λ j m. is_ready m r ≡ is_ready (get_or nodes j []) r) there (ap (λ m. is_ready m r) (same ∙ is)) (λ j n. ap (λ m. is_ready m r) (c.grow.ensures.same j)) j) p)) c.make_ready.ensures.err
 
 pub returns-clause-node : goal.returns-clause-node
 returns-clause-node c =

@@ -1,24 +1,25 @@
 use Rattle.std.proofs.Common.{◌≡◌, ℕ, ◌+◌, ◌-◌, ◌/◌, ◌<◌, ◌≤◌, ◌||◌, Bool, true, false, eqb, refl, ap, sym, ◌∙◌, arith, inl, inr}
+use Rattle.std.proofs.lemmas.Result.{on_ok_weaker, on_err_weaker}
 use Rattle.nv_radix.specs.declared.TheConstants.{MAX_FILE_PAGES}
 use Rattle.nv_radix.specs.Pages.{is_ready}
 use Rattle.nv_radix.proofs.Halves.{blocks_by_half, ready_by_half, ready_front, other_front, ready_rest, other_rest, not_beyond}
-use Rattle.nv_radix.proofs.RowSteps.{on_ok, on_err, either_way}
+use Rattle.nv_radix.proofs.RowSteps.{either_way}
 use Rattle.nv_radix.proofs.index.FileIndex.make_ready.Goals as goal
 
 pub returns-then-page-lt64-clause-blocks : goal.returns-then-page-lt64-clause-blocks
 returns-then-page-lt64-clause-blocks c = λ p. rw (← c.self.view_is) (blocks_by_half c.self.inside.front c.self.inside.rest c.make_ready.new.self c.self.inside.rest (λ q old new. new ≡ old) c.self.invariant.0 c.self.invariant.1 c.make_ready.ensures.node c.self.invariant.1 (λ q l. c.make_ready.ensures.blocks q) (λ q. refl) p)
 
 pub returns-then-page-lt64-clause-ready : goal.returns-then-page-lt64-clause-ready
-returns-then-page-lt64-clause-ready c = on_ok c.make_ready.result _ _ (λ ready p. rw (← c.self.view_is) (ready_by_half c.self.inside.front c.self.inside.rest c.make_ready.new.self c.self.inside.rest (λ q old new. new ≡ (eqb (q / 64) (c.args.page / 64) || old)) c.self.invariant.0 c.self.invariant.1 c.make_ready.ensures.node c.self.invariant.1 (λ q l. ready q ∙ ready_front c.args.page q (is_ready c.self.inside.front q) c.if-page-lt64.true l) (λ q. other_rest c.args.page q (is_ready c.self.inside.rest q) c.if-page-lt64.true) p)) c.make_ready.ensures.ready
+returns-then-page-lt64-clause-ready c = on_ok_weaker c.make_ready.result (λ ready p. rw (← c.self.view_is) (ready_by_half c.self.inside.front c.self.inside.rest c.make_ready.new.self c.self.inside.rest (λ q old new. new ≡ (eqb (q / 64) (c.args.page / 64) || old)) c.self.invariant.0 c.self.invariant.1 c.make_ready.ensures.node c.self.invariant.1 (λ q l. ready q ∙ ready_front c.args.page q (is_ready c.self.inside.front q) c.if-page-lt64.true l) (λ q. other_rest c.args.page q (is_ready c.self.inside.rest q) c.if-page-lt64.true) p)) c.make_ready.ensures.ready
 
 pub returns-else-page-lt64-clause-blocks : goal.returns-else-page-lt64-clause-blocks
 returns-else-page-lt64-clause-blocks c = λ p. rw (← c.self.view_is) (blocks_by_half c.self.inside.front c.self.inside.rest c.self.inside.front c.make_ready-else-page-lt64.new.self (λ q old new. new ≡ old) c.self.invariant.0 c.self.invariant.1 c.self.invariant.0 c.make_ready-else-page-lt64.ensures.node (λ q l. refl) (λ q. c.make_ready-else-page-lt64.ensures.blocks q) p)
 
 pub returns-else-page-lt64-clause-ready : goal.returns-else-page-lt64-clause-ready
-returns-else-page-lt64-clause-ready c = on_ok c.make_ready-else-page-lt64.result _ _ (λ ready p. rw (← c.self.view_is) (ready_by_half c.self.inside.front c.self.inside.rest c.self.inside.front c.make_ready-else-page-lt64.new.self (λ q old new. new ≡ (eqb (q / 64) (c.args.page / 64) || old)) c.self.invariant.0 c.self.invariant.1 c.self.invariant.0 c.make_ready-else-page-lt64.ensures.node (λ q l. other_front c.args.page q (is_ready c.self.inside.front q) c.if-page-lt64.false l) (λ q. ready q ∙ ready_rest c.args.page q (is_ready c.self.inside.rest q) c.if-page-lt64.false) p)) c.make_ready-else-page-lt64.ensures.ready
+returns-else-page-lt64-clause-ready c = on_ok_weaker c.make_ready-else-page-lt64.result (λ ready p. rw (← c.self.view_is) (ready_by_half c.self.inside.front c.self.inside.rest c.self.inside.front c.make_ready-else-page-lt64.new.self (λ q old new. new ≡ (eqb (q / 64) (c.args.page / 64) || old)) c.self.invariant.0 c.self.invariant.1 c.self.invariant.0 c.make_ready-else-page-lt64.ensures.node (λ q l. other_front c.args.page q (is_ready c.self.inside.front q) c.if-page-lt64.false l) (λ q. ready q ∙ ready_rest c.args.page q (is_ready c.self.inside.rest q) c.if-page-lt64.false) p)) c.make_ready-else-page-lt64.ensures.ready
 
 pub returns-else-page-lt64-clause-err : goal.returns-else-page-lt64-clause-err
-returns-else-page-lt64-clause-err c = on_err c.make_ready-else-page-lt64.result _ _ (λ same p. rw (← c.self.view_is) (ready_by_half c.self.inside.front c.self.inside.rest c.self.inside.front c.make_ready-else-page-lt64.new.self (λ q old new. new ≡ old) c.self.invariant.0 c.self.invariant.1 c.self.invariant.0 c.make_ready-else-page-lt64.ensures.node (λ q l. refl) same p)) c.make_ready-else-page-lt64.ensures.err
+returns-else-page-lt64-clause-err c = on_err_weaker c.make_ready-else-page-lt64.result (λ same p. rw (← c.self.view_is) (ready_by_half c.self.inside.front c.self.inside.rest c.self.inside.front c.make_ready-else-page-lt64.new.self (λ q old new. new ≡ old) c.self.invariant.0 c.self.invariant.1 c.self.invariant.0 c.make_ready-else-page-lt64.ensures.node (λ q l. refl) same p)) c.make_ready-else-page-lt64.ensures.err
 
 pub invariant_of-self : goal.invariant_of-self
 invariant_of-self c =

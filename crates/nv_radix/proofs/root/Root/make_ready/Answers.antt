@@ -2,9 +2,10 @@ use Rattle.std.proofs.Common.{◌≡◌, ℕ, ◌+◌, ◌*◌, ◌/◌, ◌%◌
 use Rattle.std.proofs.lemmas.List.{get_or_default, length-set}
 use Rattle.std.proofs.lemmas.List.Elements.{All-set}
 use Rattle.std.proofs.Math.ListN.{set}
+use Rattle.std.proofs.lemmas.Result.{on_ok_weaker, on_err_weaker}
 use Rattle.nv_radix.specs.Pages.{Pages, block_at, is_ready}
 use Rattle.nv_radix.specs.Nodes.{IsNode}
-use Rattle.nv_radix.proofs.RowSteps.{blocks_by_node, ready_by_node, set_by_place, IsNode-branches, ready_branch, other_branch, on_ok, on_err, on_any_err}
+use Rattle.nv_radix.proofs.RowSteps.{blocks_by_node, ready_by_node, set_by_place, IsNode-branches, ready_branch, other_branch, on_any_err}
 use Rattle.nv_radix.proofs.root.Root.make_ready.Goals as goal
 
 pub returns-in_err-grow-clause-blocks : goal.returns-in_err-grow-clause-blocks
@@ -38,7 +39,7 @@ returns-clause-ready c =
     let there : place < length grown = omega (arith, c.in_ok-grow.ensures.enough) in
     let is : c.index_mut.result.now ≡ get_or nodes place [] = c.index_mut.ensures.value ∙ get_or_default grown place _ [] there ∙ c.grow.ensures.same place in
     let all = c.grow.ensures.nodes c.self.invariant.0 in
-    on_ok c.make_ready.result _ _ (λ ready p. rw (← c.self.view_is) (ready_by_node 4096 nodes (set grown place c.make_ready.new.self) (λ q old new. new ≡ (eqb (q / 64) (c.args.page / 64) || old)) (omega arith) c.self.invariant.0 (All-set (IsNode 4096) grown place c.make_ready.new.self c.make_ready.ensures.node all) (λ j r l. set_by_place grown place c.make_ready.new.self (λ j m. is_ready m r ≡ (eqb ((j * 4096 + r) / 64) (c.args.page / 64) || is_ready (get_or nodes j []) r)) there (ready r ∙ ap (λ m. (eqb (r / 64) (c.args.page % 4096 / 64) || is_ready m r)) is ∙ ready_branch c.args.page r (is_ready (get_or nodes place []) r) l) (λ j n. ap (λ m. is_ready m r) (c.grow.ensures.same j) ∙ other_branch c.args.page j r (is_ready (get_or nodes j []) r) l n) j) p)) c.make_ready.ensures.ready
+    on_ok_weaker c.make_ready.result (λ ready p. rw (← c.self.view_is) (ready_by_node 4096 nodes (set grown place c.make_ready.new.self) (λ q old new. new ≡ (eqb (q / 64) (c.args.page / 64) || old)) (omega arith) c.self.invariant.0 (All-set (IsNode 4096) grown place c.make_ready.new.self c.make_ready.ensures.node all) (λ j r l. set_by_place grown place c.make_ready.new.self (λ j m. is_ready m r ≡ (eqb ((j * 4096 + r) / 64) (c.args.page / 64) || is_ready (get_or nodes j []) r)) there (ready r ∙ ap (λ m. (eqb (r / 64) (c.args.page % 4096 / 64) || is_ready m r)) is ∙ ready_branch c.args.page r (is_ready (get_or nodes place []) r) l) (λ j n. ap (λ m. is_ready m r) (c.grow.ensures.same j) ∙ other_branch c.args.page j r (is_ready (get_or nodes j []) r) l n) j) p)) c.make_ready.ensures.ready
 
 pub returns-clause-err : goal.returns-clause-err
 returns-clause-err c =
@@ -48,7 +49,7 @@ returns-clause-err c =
     let there : place < length grown = omega (arith, c.in_ok-grow.ensures.enough) in
     let is : c.index_mut.result.now ≡ get_or nodes place [] = c.index_mut.ensures.value ∙ get_or_default grown place _ [] there ∙ c.grow.ensures.same place in
     let all = c.grow.ensures.nodes c.self.invariant.0 in
-    on_err c.make_ready.result _ _ (λ same p. rw (← c.self.view_is) (ready_by_node 4096 nodes (set grown place c.make_ready.new.self) (λ q old new. new ≡ old) (omega arith) c.self.invariant.0 (All-set (IsNode 4096) grown place c.make_ready.new.self c.make_ready.ensures.node all) (λ j r l. set_by_place grown place c.make_ready.new.self (λ j m. is_ready m r ≡ is_ready (get_or nodes j []) r) there (same r ∙ ap (λ m. is_ready m r) is) (λ j n. ap (λ m. is_ready m r) (c.grow.ensures.same j)) j) p)) c.make_ready.ensures.err
+    on_err_weaker c.make_ready.result (λ same p. rw (← c.self.view_is) (ready_by_node 4096 nodes (set grown place c.make_ready.new.self) (λ q old new. new ≡ old) (omega arith) c.self.invariant.0 (All-set (IsNode 4096) grown place c.make_ready.new.self c.make_ready.ensures.node all) (λ j r l. set_by_place grown place c.make_ready.new.self (λ j m. is_ready m r ≡ is_ready (get_or nodes j []) r) there (same r ∙ ap (λ m. is_ready m r) is) (λ j n. ap (λ m. is_ready m r) (c.grow.ensures.same j)) j) p)) c.make_ready.ensures.err
 
 pub returns-clause-node : goal.returns-clause-node
 returns-clause-node c =
