@@ -1,24 +1,12 @@
 -- What the errors of a check stand for, and their texts.
 use Rattle.std.specs.Prelude.{ℕ, List, ◌++◌, codes, Option, Some, None}
 use Rattle.std.specs.IoError.{error_kind}
-use Rattle.std.specs.declared.io.Error.{Error}
 use Rattle.std.specs.declared.io.ErrorKind.{ErrorKind}
-use Rattle.std.specs.declared.io.ErrorKind.TheVariants.{OutOfMemory, NotFound, IsADirectory, PermissionDenied}
-use Rattle.nova.specs.declared.contents.Unread.{Unread}
-use Rattle.nova.specs.declared.contents.Unread.TheVariants.{Unreadable, Memory}
+use Rattle.std.specs.declared.io.ErrorKind.TheVariants.{NotFound, IsADirectory, PermissionDenied}
 use Rattle.nova.specs.declared.reason.Reason.{Reason}
 use Rattle.nova.specs.declared.reason.Reason.TheVariants.{PathNotUtf8, System}
 use Rattle.nova.specs.declared.check.CheckError.{CheckError}
 use Rattle.nova.specs.declared.check.CheckError.TheVariants.{CannotRead, Answer}
-
--- a failure of this kind as what it says of a file
-abbrev pub unread_by : ErrorKind → Error → Unread
-unread_by OutOfMemory error = Memory
-unread_by _ error = Unreadable error
-
--- a failure as what it says of a file
-abbrev pub unread_of : Error → Unread
-unread_of error = unread_by (error_kind error) error
 
 -- the text for a kind of failure; no text is promised where the system's own is told
 abbrev pub kind_text : ErrorKind → Option (List ℕ)

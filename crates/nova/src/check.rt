@@ -4,11 +4,10 @@ ghost use Rattle.std.specs.Prelude.{◌≡◌, OnOk, OnErr, IfOk, IfErr, codes};
 ghost use Rattle.std.specs.Io.KnownBytes.{Appends};
 ghost use Rattle.nv_stream.specs.Streams.{AppendsFront};
 
-use crate::contents::{Contents, Unread, contents_at};
 use crate::reason::Reason;
 use nv_cli::{ScriptError, check_region};
 use nv_report::{BadLength, is_region_length};
-use nv_stream::write_text;
+use nv_stream::{Contents, Unread, contents_at, write_text};
 use std::io::Write;
 use std::rt::Files;
 use std::thread::Threads;

@@ -8,11 +8,8 @@
 #![tactic(auto)]
 
 mod check;
-mod contents;
 mod hints;
 mod reason;
-#[cfg(test)]
-mod tests;
 mod words;
 
 ghost use Rattle.std.specs.Prelude.{◌≡◌, MatchResult};

@@ -1,3 +1,4 @@
 pub mod Lines
 pub mod Known
 pub mod Streams
+pub mod Contents

@@ -8,6 +8,8 @@ mod broken_streams;
 #[cfg(test)]
 mod checking;
 #[cfg(test)]
+mod contents;
+#[cfg(test)]
 mod damage;
 #[cfg(test)]
 mod line;

@@ -1,6 +1,6 @@
 use Rattle.std.proofs.Common.{rules, ap}
-use Rattle.nova.proofs.Limits.{read_within}
-use Rattle.nova.proofs.contents.read_whole.Goals as goal
+use Rattle.nv_stream.proofs.Limits.{read_within}
+use Rattle.nv_stream.proofs.contents.read_whole.Goals as goal
 
 pub returns-then-count-limit : goal.returns-then-count-limit
 returns-then-count-limit g c =

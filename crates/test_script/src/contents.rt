@@ -1,6 +1,6 @@
 //! Reading up to a limit, over memory.
 
-use crate::contents::{Contents, Unread, read_whole};
+use nv_stream::{Contents, Unread, read_whole};
 
 fn is_whole(read: &Result<Contents, Unread>, bytes: &[u8]) -> bool {
     match read {

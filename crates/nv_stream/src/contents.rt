@@ -1,7 +1,7 @@
 //! The bytes of a file, where it isn't longer than a limit.
 
 ghost use Rattle.std.specs.Prelude.{◌<◌, ◌≤◌, ◌^◌, IfOk, IfSome};
-ghost use Rattle.nova.specs.Contents.{AreRead};
+ghost use Rattle.nv_stream.specs.Contents.{AreRead};
 
 use std::alloc::{AllocError, Global};
 use std::fs;
@@ -11,7 +11,7 @@ use std::rt::Files;
 
 /// What a file holds.
 #[derive(Debug, Drop)]
-pub(crate) enum Contents {
+pub enum Contents {
     /// These bytes.
     Whole(Vec<u8>),
     /// More than the limit. So many, where the file says so.
@@ -20,7 +20,7 @@ pub(crate) enum Contents {
 
 /// Why a file's bytes are not there.
 #[derive(Clone, Copy, Debug)]
-pub(crate) enum Unread {
+pub enum Unread {
     /// The file is missing, isn't a file, or can't be read, as the system's error says.
     Unreadable(Error),
     /// Memory was refused.
@@ -29,7 +29,7 @@ pub(crate) enum Unread {
 
 impl From<Error> for Unread {
     ghost use Rattle.std.specs.Prelude.{◌≡◌};
-    ghost use Rattle.nova.specs.Errors.{unread_of};
+    ghost use Rattle.nv_stream.specs.Contents.{unread_of};
 
     ghost from_gives = { λ error e. e ≡ unread_of error };
 
@@ -43,7 +43,7 @@ impl From<Error> for Unread {
 
 impl From<AllocError> for Unread {
     ghost use Rattle.std.specs.Prelude.{◌≡◌};
-    ghost use Rattle.nova.specs.declared.contents.Unread.TheVariants.{Memory};
+    ghost use Rattle.nv_stream.specs.declared.contents.Unread.TheVariants.{Memory};
 
     ghost from_gives = { λ _ e. e ≡ Memory };
 
@@ -56,7 +56,7 @@ impl From<AllocError> for Unread {
 /// expected: with so many no growth is needed. Of longer input one byte more than the limit is read.
 ///
 /// Answers `Unreadable` where the reader fails, and `Memory` where a growth is refused.
-pub(crate) fn read_whole<R: Read + Drop>(
+pub fn read_whole<R: Read + Drop>(
     alloc: Global,
     reader: R,
     length: usize,
@@ -79,7 +79,7 @@ pub(crate) fn read_whole<R: Read + Drop>(
 
 /// What the file at a path holds, where that are no more than `limit` bytes. A file that says that it is longer isn't
 /// read. Errors as of `read_whole`.
-pub(crate) fn contents_at<H: Files + AllocGlobal>(
+pub fn contents_at<H: Files + AllocGlobal>(
     rt: &H,
     path: &str,
     limit: usize,
