@@ -1,5 +1,5 @@
 -- Taking from one pool after another.
-use Rattle.std.proofs.Common.{◌≡◌, ◌≢◌, ℕ, zero, suc, ◌+◌, ◌-◌, ◌*◌, ◌<◌, ◌≤◌, inl, inr, eqb, cond, List, [], ◌∷◌, ◌++◌, length, get_or, drop, refl, ap, sym, ◌∙◌, subst, arith, append_assoc}
+use Rattle.std.proofs.Common.{◌≡◌, ◌≢◌, ℕ, suc, ◌+◌, ◌-◌, ◌*◌, ◌<◌, ◌≤◌, inl, inr, eqb, cond, List, [], ◌∷◌, ◌++◌, length, get_or, drop, refl, ap, sym, ◌∙◌, subst, arith, append_assoc}
 use Rattle.std.proofs.Math.ListN.{set}
 use Rattle.std.proofs.lemmas.Bool.{cases_lt}
 use Rattle.std.proofs.lemmas.Bool.Decides.{nat_tests}
@@ -49,11 +49,6 @@ onto_goes pools mid after c n d rest had half has' apart h m r pos f t =
       goes_on d t.0 after lt (subst F none f) (subst T none (subst N r t.1)),
       t.2 ∙ ap (λ (xs : List Run). xs ++ t.0) (h ∙ ap (λ (xs : List Run). had ++ xs) all) ∙ append_assoc had (pool_at pools c) t.0,
     )
-
-pub get_or_any : {A : Type 0} (xs : List A) (i : ℕ) (d e : A) → i < length xs → get_or xs i d ≡ get_or xs i e
-get_or_any [] i d e lt = absurd (omega arith)
-get_or_any (x ∷ xs) zero d e lt = refl
-get_or_any (x ∷ xs) (suc i) d e lt = get_or_any xs i d e (omega arith)
 
 -- One pool was asked for n blocks: what it had, what came, what is left, what is still needed.
 pub record Asked (pools : List (List Run)) (c n : ℕ) (had half : List Run) (p q : List Run) (rest : ℕ) : Type 0 where

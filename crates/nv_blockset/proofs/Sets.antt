@@ -29,11 +29,12 @@ has_other words b c inside other = dite (ℕ_discrete (c / 64) (b / 64))
 pub with_block_long : (words : List ℕ) (b : ℕ) → length (with_block words b) ≡ length words
 with_block_long words b = length-set words (b / 64) (bit_or (get_or words (b / 64) 0) (mask_of b))
 
-zeros_at : (n i : ℕ) → get_or {A = ℕ} (replicate n 0) i 0 ≡ 0
-zeros_at zero i = refl
-zeros_at (suc n) zero = refl
-zeros_at (suc n) (suc i) = zeros_at n i
+-- a list of one value, read at any place with the same default
+pub blank_at : {A : Type 0} (n i : ℕ) (x : A) → get_or (replicate n x) i x ≡ x
+blank_at zero i x = refl
+blank_at (suc n) zero x = refl
+blank_at (suc n) (suc i) x = blank_at n i x
 
 -- words of 0 hold no block
 pub has_none : (n b : ℕ) → has (replicate n 0) b ≡ 0
-has_none n b = rw (zeros_at n (b / 64)) (bit_at-zero (b % 64))
+has_none n b = rw (blank_at {A = ℕ} n (b / 64) 0) (bit_at-zero (b % 64))

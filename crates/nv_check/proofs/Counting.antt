@@ -1,25 +1,21 @@
 -- Counting what is named, one after another.
-use Rattle.std.proofs.Common.{◌≡◌, ◌≢◌, ℕ, ◌+◌, ◌<◌, ◌≤◌, eqb, Bool, true, false, List, [], ◌∷◌, ◌++◌, length, get_or, take, refl, ap, sym, ◌∙◌, arith, eq-eqb, eqb-true, get_or-set_same, get_or-set_other, Option, Some, None, append-nil}
+use Rattle.std.proofs.Common.{◌≡◌, ◌≢◌, ℕ, ◌+◌, ◌<◌, ◌≤◌, eqb, List, [], ◌∷◌, ◌++◌, length, get_or, take, refl, ap, sym, ◌∙◌, arith, eq-eqb, get_or-set_same, get_or-set_other, Option, Some, None, append-nil}
 use Rattle.std.proofs.Math.ListN.{set, length-set}
 use Rattle.std.specs.List.{count_by, filter_map, cons_option}
 use Rattle.std.proofs.lemmas.List.Elements.{filter_map-append}
 use Rattle.std.proofs.lemmas.List.Sums.{count_by_more_yes, count_by_more_no, count_by-le-length}
 use Rattle.std.proofs.lemmas.List.{length-take-le, take_more}
+use Rattle.std.proofs.lemmas.Bool.{ne_eqb}
+use Rattle.nv_super.proofs.Options.{some_only}
 use Rattle.nv_check.specs.Steps.{place_of, IsTable, AreCounts}
-use Rattle.nv_check.proofs.PlaceTable.{some_only, none_some, equal_or}
-
-pub not_equal : (a b : ℕ) → a ≢ b → eqb a b ≡ false
-not_equal a b ne = test (eqb a b) refl where
-  test : (t : Bool) → eqb a b ≡ t → eqb a b ≡ false
-  test true e = absurd (ne (eqb-true a b e))
-  test false e = e
+use Rattle.nv_check.proofs.PlaceTable.{none_some, equal_or}
 
 module _ (n : ℕ) (table : List (Option ℕ)) (named counts : List ℕ) (i t : ℕ) (lt : i < length named) (is : get_or named i 0 ≡ t) (h : AreCounts n table (take i named) counts) where
   pub counts_skip : place_of table t ≡ None → AreCounts n table (take (i + 1) named) counts
   counts_skip none = record {
     same = h.same;
     each = λ j k e. h.each j k e ∙ sym (count_by_more_no (λ s. eqb s j) named i 0 lt
-        (not_equal (get_or named i 0) j (λ q. none_some k (sym none ∙ ap (place_of table) (sym is ∙ q) ∙ e))));
+        (ne_eqb (get_or named i 0) j (λ q. none_some k (sym none ∙ ap (place_of table) (sym is ∙ q) ∙ e))));
   }
 
   pub counts_add : (place : ℕ) → IsTable n table → place_of table t ≡ Some place → AreCounts n table (take (i + 1) named) (set counts place (get_or counts place 0 + 1))
@@ -44,7 +40,7 @@ module _ (n : ℕ) (table : List (Option ℕ)) (named counts : List ℕ) (i t : 
 
     there : (j k : ℕ) → place_of table j ≡ Some k → k ≢ place → get_or (set counts place (get_or counts place 0 + 1)) k 0 ≡ count_by (λ s. eqb s j) (take (i + 1) named)
     there j k e ne = kept k (get_or counts place 0 + 1) ne ∙ h.each j k e ∙ sym (count_by_more_no (λ s. eqb s j) named i 0 lt
-        (not_equal (get_or named i 0) j (λ q. ne (some_only k place (sym e ∙ ap (place_of table) (sym q ∙ is) ∙ at)))))
+        (ne_eqb (get_or named i 0) j (λ q. ne (some_only k place (sym e ∙ ap (place_of table) (sym q ∙ is) ∙ at)))))
 
   -- a count is at most the number of names so far
   pub count_small : (place : ℕ) → place_of table t ≡ Some place → get_or counts place 0 ≤ i

@@ -8,21 +8,19 @@ use Rattle.std.proofs.lemmas.List.{length-append}
 use Rattle.nv_super.specs.Order.{Lists, Rises, SortedOf, fault_key}
 use Rattle.nv_super.specs.declared.faults.Fault.{Fault}
 use Rattle.nv_super.specs.declared.faults.Fault.TheVariants as faults
-use Rattle.nv_super.proofs.Rising.{Contains-head, Contains-tail, Lists-only}
+use Rattle.nv_super.proofs.Rising.{Contains-head, Contains-tail, Lists-only, below_rest, below_first, head_least, rises_cons, rises_append, tail_rises}
+use Rattle.nv_super.proofs.Filters.{from_filter, into_filter}
+use Rattle.nv_super.proofs.Members.{from_flat, into_flat, from_map, into_map}
 use Rattle.nv_names.specs.Names.{name_at, line_of}
 use Rattle.nv_names.specs.declared.named.Named.{Named}
 use Rattle.nv_scan.specs.declared.piece.Row.{Row}
-use Rattle.nv_scan.proofs.Rising.{below_first, below_rest, head_least, rises_cons, rises_append}
 use Rattle.nv_scan.proofs.NamesListed.{names_listed}
 use Rattle.nv_check.specs.declared.listing.Listing.{Listing}
 use Rattle.nv_check.specs.Cross as cross
 use Rattle.nv_check.specs.Cross.{row_key, HasNameIn, IsUnusedIn, AreNamesIn, IsReachedIn, IsCrossFaultIn}
 use Rattle.nv_check.specs.Listings as listed
 use Rattle.nv_check.specs.Listings.{IsListing, AreListings, target, targets, names_of, IsReached, IsUnused, IsFault}
-use Rattle.nv_check.proofs.Filters.{from_filter, into_filter}
-use Rattle.nv_check.proofs.Follow.{from_map, into_map}
 use Rattle.nv_check.proofs.Rows.{listing_of, row_of, key_less}
-use Rattle.nv_check.proofs.Together.{from_flat, into_flat}
 
 abbrev Line : Type 0
 Line = List ℕ × ℕ × ℕ
@@ -49,10 +47,6 @@ pairs_of i l = pairs_among i l.inode (lines l)
 -- over all rows
 abbrev pairs_in : ℕ → List Listing → List (ℕ × List ℕ)
 pairs_in i listings = flat_map (pairs_of i) listings
-
-tail_rises : {A : Type 0} (key : A → List ℕ) (x : A) (xs : List A) → Rises key (x ∷ xs) → Rises key xs
-tail_rises key x [] r = tt
-tail_rises key x (y ∷ xs) r = r.1
 
 pair_from : (i d : ℕ) (ns : List Line) (y : ℕ × List ℕ) → Contains (pairs_among i d ns) y → (x : Line) × Contains ns x × (x.1 ≡ i) × (y ≡ (d, x.0))
 pair_from i d ns y c = let m = from_map (λ (x : Line). (d, x.0)) (filter (λ (x : Line). eqb x.1 i) ns) y c in let f = from_filter (λ (x : Line). eqb x.1 i) ns m.0 m.1 in (m.0, f.0, eqb-true m.0.1 i f.1, m.2)

@@ -1,31 +1,20 @@
 -- Following names from the root.
-use Rattle.std.proofs.Common.{◌≡◌, ℕ, zero, suc, ◌<◌, inl, inr, Bool, true, false, Option, Some, None, List, [], ◌∷◌, ◌++◌, length, get_or, map, replicate, refl, ap, sym, ◌∙◌, subst, arith}
+use Rattle.std.proofs.Common.{◌≡◌, ℕ, suc, ◌<◌, inl, inr, Bool, true, false, Option, Some, None, List, [], ◌∷◌, ◌++◌, length, get_or, map, replicate, refl, ap, sym, ◌∙◌, subst, arith}
 use Rattle.std.proofs.Math.ListN.{set, length-set}
 use Rattle.std.proofs.lemmas.Bool.{true≢false}
 use Rattle.std.specs.List.{Contains}
-use Rattle.std.proofs.lemmas.List.{get_or-map}
+use Rattle.std.proofs.lemmas.List.{get_or-map, get_or_default, length-replicate}
 use Rattle.std.proofs.lemmas.List.Elements.{Contains-append_left, Contains-push, Contains-push_cases}
-use Rattle.nv_super.proofs.Rising.{Contains-cons, Contains-head, Contains-tail}
+use Rattle.nv_blockset.proofs.Sets.{blank_at}
+use Rattle.nv_super.proofs.Rising.{Contains-cons, Contains-head}
 use Rattle.nv_super.specs.declared.kind.Kind.TheVariants.{File, Directory}
+use Rattle.nv_super.proofs.Members.{from_map, into_map}
+use Rattle.nv_super.proofs.Options.{some_only}
 use Rattle.nv_check.specs.declared.listing.Listing.{Listing}
 use Rattle.nv_check.specs.Listings.{inodes_of, target, targets, IsReached, root, step}
 use Rattle.nv_check.specs.Steps.{place_of, ArePlaces, IsTable, IsMarked, Spreads, Reaching, AreReached, IsAt, NamesMarked, AreCounts, AreNumbersOfNames}
-use Rattle.nv_check.proofs.PlaceTable.{some_only, none_some, equal_or}
-use Rattle.nv_check.proofs.Spread.{get_or_any, marked_at, marked_else}
-
-pub from_map : {A B : Type 0} (f : A → B) (xs : List A) (z : B) → Contains (map f xs) z → (x : A) × Contains xs x × (z ≡ f x)
-from_map f [] z c = absurd (omega (arith, c.1))
-from_map f (y ∷ xs) z c = elim (Contains-cons (f y) (map f xs) z c) [
-  | inl w ↦ (y, Contains-head y xs, w)
-  | inr w ↦ (let r = from_map f xs z w in (r.0, Contains-tail y xs r.0 r.1, r.2))
-]
-
-pub into_map : {A B : Type 0} (f : A → B) (xs : List A) (x : A) → Contains xs x → Contains (map f xs) (f x)
-into_map f [] x c = absurd (omega (arith, c.1))
-into_map {A} {B} f (y ∷ xs) x c = elim (Contains-cons y xs x c) [
-  | inl w ↦ (let P : A → Type 0 = λ z. Contains (map f (y ∷ xs)) (f z) in subst P (sym w) (Contains-head (f y) (map f xs)))
-  | inr w ↦ Contains-tail (f y) (map f xs) (f x) (into_map f xs x w)
-]
+use Rattle.nv_check.proofs.PlaceTable.{none_some, equal_or}
+use Rattle.nv_check.proofs.Spread.{marked_at, marked_else}
 
 pub inodes_len : (listings : List Listing) → length (inodes_of listings) ≡ length listings
 inodes_len [] = refl
@@ -37,10 +26,10 @@ inode_at listings k l h = get_or-map (λ (x : Listing). x.inode) listings k l 0 
 
 -- one place has one row
 pub same_row : (listings : List Listing) (k : ℕ) (l m : Listing) → IsAt listings k l → IsAt listings k m → l ≡ m
-same_row listings k l m h g = sym h.1 ∙ get_or_any listings k l m h.0 ∙ g.1
+same_row listings k l m h g = sym h.1 ∙ get_or_default listings k l m h.0 ∙ g.1
 
 pub row_at : (listings : List Listing) (k : ℕ) (d : Listing) → k < length listings → IsAt listings k (get_or listings k d)
-row_at listings k d lt = (lt, get_or_any listings k (get_or listings k d) d lt)
+row_at listings k d lt = (lt, get_or_default listings k (get_or listings k d) d lt)
 
 module _ (listings : List Listing) (table : List (Option ℕ)) (places : ArePlaces listings table) where
   -- the inode of the row at an inode's place
@@ -59,10 +48,6 @@ module _ (listings : List Listing) (table : List (Option ℕ)) (places : ArePlac
 
   pub numbers_of_names : (counts : List ℕ) → AreCounts (length listings) table (targets listings) counts → AreNumbersOfNames listings counts
   numbers_of_names counts h = record { same = h.same; each = λ k l lt is. h.each l.inode k (row_place k l (lt, is)) }
-
-pub empty_list : (xs : List ℕ) → length xs ≡ 0 → xs ≡ []
-empty_list [] h = refl
-empty_list (x ∷ xs) h = absurd (omega (arith, h))
 
 pub reaching_step : (listings : List Listing) (table : List (Option ℕ)) (places : ArePlaces listings table) (marks marks' : List Bool) (todo todo' : List ℕ) (place : ℕ) (d : Listing) → IsAt listings place d
     → Reaching listings table marks (todo ++ place ∷ []) → Spreads table (map target d.names.items) marks todo marks' todo' → Reaching listings table marks' todo'
@@ -108,21 +93,12 @@ reaching_done listings table places marks h = record { same = h.same; sound = h.
         | inr w ↦ w x xc k (ap (place_of table) (sym (e ∙ names)) ∙ row_place listings table places k l is)
       ]
 
-clear_at : (n k : ℕ) → get_or (replicate n false) k false ≡ false
-clear_at zero k = refl
-clear_at (suc n) zero = refl
-clear_at (suc n) (suc k) = clear_at n k
-
-clear_len : (n : ℕ) → length (replicate n false) ≡ n
-clear_len zero = refl
-clear_len (suc n) = ap suc (clear_len n)
-
 module _ (listings : List Listing) (table : List (Option ℕ)) (places : ArePlaces listings table) (marks : List Bool) (clear : marks ≡ replicate (length listings) false) where
   unmarked_at : (k : ℕ) → IsMarked marks k → ⊥
-  unmarked_at k m = true≢false (sym m ∙ ap (λ (ms : List Bool). get_or ms k false) clear ∙ clear_at (length listings) k)
+  unmarked_at k m = true≢false (sym m ∙ ap (λ (ms : List Bool). get_or ms k false) clear ∙ blank_at {A = Bool} (length listings) k false)
 
   pub as_long : length marks ≡ length listings
-  as_long = ap length clear ∙ clear_len (length listings)
+  as_long = ap length clear ∙ length-replicate {A = Bool} (length listings) false
 
   no_root : (todo : List ℕ) → todo ≡ [] → ((k : ℕ) (l : Listing) → IsAt listings k l → l.inode ≡ 1 → l.kind ≡ Directory → ⊥) → Reaching listings table marks todo
   no_root todo none h = record {

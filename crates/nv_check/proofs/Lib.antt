@@ -1,4 +1,3 @@
-pub mod Filters
 pub mod PlaceTable
 pub mod Spread
 pub mod Counting

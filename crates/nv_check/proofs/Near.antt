@@ -7,12 +7,13 @@ use Rattle.std.specs.declared.alloc.Global.{Global}
 use Rattle.std.proofs.lemmas.List.Elements.{Contains-append_left, Contains-append_right, Contains-append_cases}
 use Rattle.nv_super.specs.declared.faults.Fault.{Fault}
 use Rattle.nv_super.proofs.Rising.{Contains-cons, Contains-head}
+use Rattle.nv_super.proofs.Members.{from_flat, into_flat}
 use Rattle.nv_check.specs.declared.listing.Listing.{Listing}
 use Rattle.nv_check.specs.Listings.{names_of}
 use Rattle.nv_check.specs.Steps.{ArePlaces, AreNumbersOfNames, unused_of, unused_faults, count_fault, count_fault_of, named_at, named_by, AreNear, all_of}
 use Rattle.nv_check.proofs.Follow.{row_place}
 use Rattle.nv_check.proofs.Rows.{listing_of, row_of}
-use Rattle.nv_check.proofs.Together.{from_flat, into_flat, from_options, into_options}
+use Rattle.nv_check.proofs.Together.{from_options, into_options}
 
 zip_oks : {A B : Type 0} (E : Type 0) (R : A → B → Type 0) (xs : List A) (ys : List B) → AllZip (λ x (o : Result B E). IfOk o (R x)) xs (map Ok ys) → AllZip R xs ys
 zip_oks E R [] [] h = tt

@@ -7,11 +7,9 @@ use Rattle.std.proofs.lemmas.Bool.{cases_order, cases_lt, ltb-true}
 use Rattle.std.specs.Prelude.{IsTrue, All, nat_lt, ◌&&◌, Bool, true, false}
 use Rattle.nv_super.specs.Layout.{is_number, inode_limit}
 use Rattle.nv_super.specs.declared.superblock.Super.{Super}
+use Rattle.nv_super.proofs.Options.{some_only}
 use Rattle.nv_check.specs.declared.listing.Listing.{Listing}
 use Rattle.nv_check.specs.Steps.{place_of, ArePlacesTo}
-
-pub some_only : {A : Type 0} (a b : A) → Some a ≡ Some b → a ≡ b
-some_only a b e = cc
 
 pub none_some : {A P : Type 0} (a : A) → None ≡ Some a → P
 none_some a e = cc

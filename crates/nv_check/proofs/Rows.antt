@@ -6,14 +6,13 @@ use Rattle.std.specs.List.Sorted.{IsStrictlyIncreasing}
 use Rattle.std.specs.Cmp.Lexicographic.{slice_cmp}
 use Rattle.std.specs.declared.cmp.Ordering.TheVariants.{Less}
 use Rattle.std.proofs.lemmas.Bool.Decides.{nat_tests}
-use Rattle.std.proofs.lemmas.List.{take_more}
+use Rattle.std.proofs.lemmas.List.{take_more, get_or_default}
 use Rattle.nv_super.specs.Order.{Rises}
 use Rattle.nv_super.specs.Layout.{is_number}
 use Rattle.nv_super.specs.declared.superblock.Super.{Super}
 use Rattle.nv_super.proofs.Rising.{Contains-cons, Contains-head, Contains-tail}
 use Rattle.nv_scan.specs.declared.piece.Row.{Row}
 use Rattle.nv_check.specs.declared.listing.Listing.{Listing}
-use Rattle.nv_check.proofs.Spread.{get_or_any}
 use Rattle.nv_check.specs.Cross.{row_key}
 use Rattle.nv_check.specs.Listings.{IsListing, AreListings, inodes_of}
 
@@ -72,7 +71,7 @@ rising_inodes rows listings h r = let P : List ℕ → Type 0 = λ is. IsStrictl
 
 pub numbers_listed : (s : Super) (rows : List Row) (listings : List Listing) → AreListings rows listings → All (λ (r : Row). IsTrue (is_number s r.inode)) rows → All (λ (l : Listing). IsTrue (is_number s l.inode)) listings
 numbers_listed s rows listings h each k d lt =
-    let w = row_of IsListing rows listings (get_or listings k d) h (k, lt, get_or_any listings k (get_or listings k d) d lt) in
+    let w = row_of IsListing rows listings (get_or listings k d) h (k, lt, get_or_default listings k (get_or listings k d) d lt) in
     let P : ℕ → Type 0 = λ i. IsTrue (is_number s i) in
     let Q : Row → Type 0 = λ r. IsTrue (is_number s r.inode) in
     subst P (sym w.2.inode) (subst Q w.1.2 (each w.1.0 w.0 w.1.1))

@@ -1,19 +1,18 @@
 -- Marking what is named, one after another.
-use Rattle.std.proofs.Common.{◌≡◌, ◌≢◌, ℕ, zero, suc, ◌+◌, ◌<◌, inl, inr, Bool, true, false, not, cond, Option, Some, None, List, [], ◌∷◌, ◌++◌, length, get_or, map, take, refl, ap, sym, ◌∙◌, subst, arith, get_or-set_same, get_or-set_other, add-zero}
+use Rattle.std.proofs.Common.{◌≡◌, ◌≢◌, ℕ, ◌+◌, ◌<◌, inl, inr, Bool, true, false, not, cond, Option, Some, None, List, [], ◌∷◌, ◌++◌, length, get_or, map, take, refl, ap, sym, ◌∙◌, subst, arith, get_or-set_same, get_or-set_other, add-zero}
 use Rattle.std.proofs.Math.ListN.{set, length-set}
 use Rattle.std.specs.List.{Contains}
 use Rattle.std.proofs.lemmas.List.Sums.{sum_by-set}
-use Rattle.std.proofs.lemmas.List.{length-append}
+use Rattle.std.proofs.lemmas.List.{length-append, get_or_default}
 use Rattle.std.proofs.lemmas.List.Elements.{Contains-append_left, Contains-append_right, Contains-append_cases, Contains-push, Contains-push_cases}
 use Rattle.nv_super.proofs.Rising.{Contains-cons, Contains-head}
 use Rattle.std.proofs.lemmas.List.{map_more}
+use Rattle.nv_super.proofs.Members.{none_in}
+use Rattle.nv_super.proofs.Options.{some_only}
 use Rattle.nv_names.specs.declared.named.Named.{Named}
 use Rattle.nv_check.specs.Listings.{target}
 use Rattle.nv_check.specs.Steps.{place_of, IsMarked, unmarked, Spreads}
-use Rattle.nv_check.proofs.PlaceTable.{some_only, none_some, equal_or}
-
-none_in : {A : Type 0} (x : A) → Contains [] x → ⊥
-none_in x c = omega (arith, c.1)
+use Rattle.nv_check.proofs.PlaceTable.{none_some, equal_or}
 
 pub spread_nothing : (table : List (Option ℕ)) (marks : List Bool) (todo : List ℕ) → Spreads table [] marks todo marks todo
 spread_nothing table marks todo = record {
@@ -105,11 +104,5 @@ spread_new table marks todo i place at lt off = record {
   here : IsMarked (set marks place true) place
   here = marked_at marks place lt
 
--- a read in range doesn't see the default
-pub get_or_any : {A : Type 0} (xs : List A) (i : ℕ) (d e : A) → i < length xs → get_or xs i d ≡ get_or xs i e
-get_or_any [] i d e lt = absurd (omega arith)
-get_or_any (x ∷ xs) zero d e lt = refl
-get_or_any (x ∷ xs) (suc i) d e lt = get_or_any xs i d e (omega arith)
-
 pub read_at : {A : Type 0} (xs : List A) (i : ℕ) (r b d : A) → i < length xs → r ≡ get_or xs i r → r ≡ b → get_or xs i d ≡ b
-read_at xs i r b d lt is e = get_or_any xs i d r lt ∙ sym is ∙ e
+read_at xs i r b d lt is e = get_or_default xs i d r lt ∙ sym is ∙ e

@@ -1,8 +1,8 @@
 -- The faults of each kind are all faults between the rows.
-use Rattle.std.proofs.Common.{◌≡◌, ◌≢◌, ℕ, ◌<◌, ◌⊎◌, inl, inr, eqb, Bool, true, false, if◌then◌else◌, Option, Some, None, Result, Ok, Err, List, [], ◌∷◌, ◌++◌, length, get_or, refl, ap, sym, ◌∙◌, subst, arith, eqb-true, eq-eqb}
-use Rattle.std.specs.Prelude.{is_some, OnOk}
-use Rattle.std.specs.List.{Contains, flat_map, filter_map, cons_option, list_any}
-use Rattle.std.proofs.lemmas.Bool.{true≢false}
+use Rattle.std.proofs.Common.{◌≡◌, ◌≢◌, ℕ, ◌<◌, ◌⊎◌, inl, inr, eqb, Bool, true, false, if◌then◌else◌, Option, Some, None, List, [], ◌∷◌, ◌++◌, length, get_or, refl, ap, sym, ◌∙◌, subst, arith, eqb-true, eq-eqb}
+use Rattle.std.specs.Prelude.{is_some}
+use Rattle.std.specs.List.{Contains, filter_map, cons_option, list_any}
+use Rattle.std.proofs.lemmas.Bool.{true≢false, ne_eqb}
 use Rattle.std.proofs.lemmas.List.Folds.{list_any_at, Any-from_list_any}
 use Rattle.std.proofs.lemmas.List.Elements.{Contains-append_left, Contains-append_right, Contains-append_cases}
 use Rattle.nv_super.specs.declared.kind.Kind.{Kind}
@@ -10,13 +10,14 @@ use Rattle.nv_super.specs.declared.kind.Kind.TheVariants.{File, Directory}
 use Rattle.nv_super.specs.declared.faults.Fault.{Fault}
 use Rattle.nv_super.specs.declared.faults.Fault.TheVariants as faults
 use Rattle.nv_super.proofs.Rising.{Contains-cons, Contains-head, Contains-tail}
+use Rattle.nv_super.proofs.Members.{from_flat, into_flat}
+use Rattle.nv_super.proofs.Options.{some_only}
 use Rattle.nv_names.specs.declared.named.Named.{Named}
 use Rattle.nv_check.specs.declared.listing.Listing.{Listing}
 use Rattle.nv_check.specs.Listings.{target, names_of, IsReached, IsUnused, IsFault, c1, c2, c2_root, c3, c4, c5}
 use Rattle.nv_check.specs.Steps.{place_of, ArePlaces, unused_fault, unused_of, unused_faults, count_fault, count_fault_of, is_root, is_root_of, root_faults, Adds, IsUnmarkedBelow, IsFar, unreached, no_root, AreReached}
 use Rattle.nv_check.proofs.Follow.{inode_at, row_at, row_place}
-use Rattle.nv_check.proofs.Counting.{not_equal}
-use Rattle.nv_check.proofs.PlaceTable.{some_only, none_some}
+use Rattle.nv_check.proofs.PlaceTable.{none_some}
 
 pub from_options : {A B : Type 0} (f : A → Option B) (xs : List A) (y : B) → Contains (filter_map f xs) y → (x : A) × Contains xs x × (f x ≡ Some y)
 from_options f [] y c = absurd (omega (arith, c.1))
@@ -37,20 +38,6 @@ into_options {A} {B} f (z ∷ xs) x y c e = elim (Contains-cons z xs x c) [
   skip : (o : Option B) → Contains (filter_map f xs) y → Contains (cons_option o (filter_map f xs)) y
   skip None d = d
   skip (Some u) d = Contains-tail u (filter_map f xs) y d
-
-pub into_flat : {A B : Type 0} (f : A → List B) (xs : List A) (p : A) (x : B) → Contains xs p → Contains (f p) x → Contains (flat_map f xs) x
-into_flat f [] p x c d = absurd (omega (arith, c.1))
-into_flat {A} {B} f (y ∷ xs) p x c d = elim (Contains-cons y xs p c) [
-  | inl w ↦ Contains-append_left (f y) (flat_map f xs) x (let P : A → Type 0 = λ z. Contains (f z) x in subst P w d)
-  | inr w ↦ Contains-append_right (f y) (flat_map f xs) x (into_flat f xs p x w d)
-]
-
-pub from_flat : {A B : Type 0} (f : A → List B) (xs : List A) (x : B) → Contains (flat_map f xs) x → (p : A) × Contains xs p × Contains (f p) x
-from_flat f [] x c = absurd (omega (arith, c.1))
-from_flat f (y ∷ xs) x c = elim (Contains-append_cases (f y) (flat_map f xs) x c) [
-  | inl w ↦ (y, Contains-head y xs, w)
-  | inr w ↦ (let r = from_flat f xs x w in (r.0, Contains-tail y xs r.0 r.1, r.2))
-]
 
 unequal : (a b : ℕ) → eqb a b ≡ false → a ≢ b
 unequal a b e q = true≢false (sym (eq-eqb a b q) ∙ e)
@@ -144,10 +131,6 @@ is_unreached listings marks l h c out = (c.0, l, c.1, (c.1, c.2), off (get_or ma
   off true e = absurd (out (h.sound c.0 l (c.1, c.2) e))
   off false e = e
 
-pub on_ok : {T E P Q : Type 0} (r : Result T E) → (P → Q) → OnOk r P → OnOk r Q
-on_ok (Ok v) f h = f h
-on_ok (Err e) f h = tt
-
 pub far_added : (listings : List Listing) (marks : List Bool) (old mid new : List Fault) → AreReached listings marks → Adds (IsUnmarkedBelow listings marks (length listings)) old mid → new ≡ mid ++ root_faults listings → Adds (IsFar listings) old new
 far_added listings marks old mid new h a e = record {
   each = λ f c. elim (Contains-append_cases mid _ f (let P : List Fault → Type 0 = λ xs. Contains xs f in subst P e c)) [
@@ -200,9 +183,9 @@ all_faults listings table places near every from into a f = (there f, back f) wh
 
   back : (f : Fault) → IsFault listings f → Contains every f
   back f (c1 d x dc xc un) = a.kept _ (into _ (inl (is_unused listings table places d x dc xc un)))
-  back f (c2 l c dir other not_one) = of_count l _ c (by_kind_of listings l Directory dir ∙ two_cases _ (not_equal l.inode 1 other) (not_equal (names_of listings l.inode) 1 not_one))
-  back f (c2_root l c dir one some) = of_count l _ c (by_kind_of listings l Directory dir ∙ root_case _ (eq-eqb l.inode 1 one) (not_equal (names_of listings l.inode) 0 (λ z. lost z some)))
-  back f (c3 l c file differ) = of_count l _ c (by_kind_of listings l File file ∙ ap (λ (t : Bool). if t then None else Some (faults.C3 l.inode)) (not_equal l.links (names_of listings l.inode) differ))
+  back f (c2 l c dir other not_one) = of_count l _ c (by_kind_of listings l Directory dir ∙ two_cases _ (ne_eqb l.inode 1 other) (ne_eqb (names_of listings l.inode) 1 not_one))
+  back f (c2_root l c dir one some) = of_count l _ c (by_kind_of listings l Directory dir ∙ root_case _ (eq-eqb l.inode 1 one) (ne_eqb (names_of listings l.inode) 0 (λ z. lost z some)))
+  back f (c3 l c file differ) = of_count l _ c (by_kind_of listings l File file ∙ ap (λ (t : Bool). if t then None else Some (faults.C3 l.inode)) (ne_eqb l.links (names_of listings l.inode) differ))
   back f (c4 l c out) = a.all _ (unreached l c out)
   back f (c5 out) = a.all _ (no_root out)
 

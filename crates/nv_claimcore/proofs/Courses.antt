@@ -5,6 +5,7 @@ use Rattle.std.specs.List.{count_by, position_or_len}
 use Rattle.std.proofs.lemmas.List.{append-nil, replicate-append-replicate}
 use Rattle.std.proofs.lemmas.List.Sums.{sum_by-cons, fails_before_first}
 use Rattle.std.proofs.lemmas.Bool.{false≢true, cases_lt}
+use Rattle.std.proofs.Math.Bool.{and_assoc}
 use mathlib.Core.Bool.{Bool, not, ◌&&◌}
 use mathlib.Core.Logic.{dite}
 use mathlib.Core.Option.{some, some-injective, some-ne-none}
@@ -34,13 +35,9 @@ pub after_both : (s : State) (xs ys : List Event) → after_all s (xs ++ ys) ≡
 after_both s [] ys = refl
 after_both s (x ∷ xs) ys = after_both (after s x) xs ys
 
-and_and : (a b c : Bool) → ((a && b) && c) ≡ (a && (b && c))
-and_and true b c = refl
-and_and false b c = refl
-
 pub allowed_both : (z : Sizes) (s : State) (xs ys : List Event) → all_allowed z s (xs ++ ys) ≡ (all_allowed z s xs && all_allowed z (after_all s xs) ys)
 allowed_both z s [] ys = refl
-allowed_both z s (x ∷ xs) ys = ap (λ t. is_allowed z s x && t) (allowed_both z (after s x) xs ys) ∙ sym (and_and (is_allowed z s x) (all_allowed z (after s x) xs) (all_allowed z (after_all (after s x) xs) ys))
+allowed_both z s (x ∷ xs) ys = ap (λ t. is_allowed z s x && t) (allowed_both z (after s x) xs ys) ∙ sym (and_assoc (is_allowed z s x) (all_allowed z (after s x) xs) (all_allowed z (after_all (after s x) xs) ys))
 
 pub both_allowed : (z : Sizes) (s : State) (xs ys : List Event) → all_allowed z s xs ≡ true → all_allowed z (after_all s xs) ys ≡ true → all_allowed z s (xs ++ ys) ≡ true
 both_allowed z s xs ys one two = allowed_both z s xs ys ∙ (λ i. one i && two i)

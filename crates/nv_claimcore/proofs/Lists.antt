@@ -7,6 +7,7 @@ use Rattle.std.proofs.lemmas.List.Sums.{sum_by-cons}
 use Rattle.std.proofs.lemmas.List.{length-replicate, get_or_past}
 use Rattle.std.proofs.lemmas.Nat.Bits.{bit_at-zero}
 use Rattle.std.proofs.lemmas.Bool.{cases_lt, false≢true}
+use Rattle.std.proofs.Math.Bool.{and_assoc}
 use mathlib.Core.Bool.{Bool, not, ◌&&◌}
 use mathlib.Core.Option.{some, some-injective, some-ne-none}
 use lib.ListN.{get_elem?}
@@ -132,10 +133,7 @@ allowed_more z s [] e = and_true (is_allowed z s e) where
   and_true : (a : Bool) → (a && true) ≡ a
   and_true true = refl
   and_true false = refl
-allowed_more z s (d ∷ es) e = ap (λ t. is_allowed z s d && t) (allowed_more z (after s d) es e) ∙ sym (and_and (is_allowed z s d) (all_allowed z (after s d) es) (is_allowed z (after_all (after s d) es) e)) where
-  and_and : (a b c : Bool) → ((a && b) && c) ≡ (a && (b && c))
-  and_and true b c = refl
-  and_and false b c = refl
+allowed_more z s (d ∷ es) e = ap (λ t. is_allowed z s d && t) (allowed_more z (after s d) es e) ∙ sym (and_assoc (is_allowed z s d) (all_allowed z (after s d) es) (is_allowed z (after_all (after s d) es) e))
 
 pub after_more : (s : State) (es : List Event) (e : Event) → after_all s (es ++ e ∷ []) ≡ after (after_all s es) e
 after_more s [] e = refl

@@ -1,5 +1,5 @@
 -- Where the oldest open claim of a block stands.
-use Rattle.std.proofs.Common.{◌≡◌, ℕ, zero, suc, ◌+◌, ◌-◌, ◌<◌, ◌≤◌, cond, ltb, true, false, List, [], ◌∷◌, ◌++◌, length, length-append, get_or, set, sym, refl, ap, ◌∙◌, arith}
+use Rattle.std.proofs.Common.{◌≡◌, ℕ, suc, ◌+◌, ◌-◌, ◌<◌, ◌≤◌, cond, ltb, true, false, List, [], ◌∷◌, ◌++◌, length, length-append, get_or, set, sym, refl, ap, ◌∙◌, arith}
 use Rattle.std.specs.List.{count_by}
 use Rattle.std.proofs.lemmas.List.Sums.{sum_by-cons}
 use mathlib.Core.Bool.{Bool}
@@ -29,11 +29,6 @@ some_at b (r ∷ rs) = go (is_open b r) refl (some_at b rs) where
   go : (t : Bool) → is_open b r ≡ t → ltb (place_of b rs) (length rs) ≡ ltb 0 (count_by (is_open b) rs) → ltb (cond t 0 (1 + place_of b rs)) (length (r ∷ rs)) ≡ ltb 0 (count_by (is_open b) (r ∷ rs))
   go true e again = let sum = sum_by-cons (λ q. cond (is_open b q) 1 0) r rs in let one : ◌≡◌ {A = ℕ} (cond (is_open b r) 1 0) 1 = ap (λ t. cond t 1 0) e in grind (arith, sum, one)
   go false e again = let sum = sum_by-cons (λ q. cond (is_open b q) 1 0) r rs in let none : ◌≡◌ {A = ℕ} (cond (is_open b r) 1 0) 0 = ap (λ t. cond t 1 0) e in grind (arith, sum, none, again)
-
-pub read_at : {A : Type 0} (xs : List A) (i : ℕ) (d e : A) → i < length xs → get_or xs i d ≡ get_or xs i e
-read_at [] i d e l = absurd (omega arith)
-read_at (x ∷ xs) zero d e l = refl
-read_at (x ∷ xs) (suc i) d e l = read_at xs i d e (omega arith)
 
 set_end : {A : Type 0} (xs : List A) (x y : A) → set (xs ++ x ∷ []) (length xs) y ≡ xs ++ y ∷ []
 set_end [] x y = refl

@@ -17,6 +17,7 @@ use native.Mathlib.Decide.{ℕ_discrete}
 use Rattle.nv_blockset.specs.BlockSet.{mask_of}
 use Rattle.nv_super.specs.declared.owners.Owner.{Owner}
 use Rattle.nv_super.specs.Owners.{raised, pairs}
+use Rattle.nv_claimcore.proofs.Marks.{eq_same}
 use Rattle.nv_claimcore.specs.declared.view.Record.{Record}
 use Rattle.nv_claimcore.specs.declared.view.View.{View}
 use Rattle.nv_claimcore.specs.Spans.{mask_all, claim_all, mark_all, is_free, lost_in, settle, Rises, AreOpen}
@@ -101,9 +102,6 @@ unfolding with_records raw
 claimed_records n [] v = ap (λ rs. record { seats = v.seats; numbers = v.numbers; records = rs }) (sym (append-nil v.records))
 claimed_records n (p ∷ ps) v = claimed_records n ps (with_record v (claim_of p.0 p.1 (is_free n p))) ∙ ap (λ rs. record { seats = v.seats; numbers = v.numbers; records = rs }) (append_assoc v.records (claim_of p.0 p.1 (is_free n p) ∷ []) (raw n ps))
 
-same_block : (b : ℕ) → (b == b) ≡ true
-same_block b = grind arith
-
 -- the open records are marked one after the other
 marked_records : (n : ℕ) (ps : List (ℕ × Owner)) (v : View) (xs : List Record) → All Settled xs → mark_all (lost_in n ps) (with_records v (xs ++ raw n ps)) ≡ with_records v (xs ++ settle n ps)
 unfolding with_records raw
@@ -112,7 +110,7 @@ marked_records n (p ∷ ps) v xs all = go (is_free n p) (λ r settled. marked_re
   go : (t : Bool) → ((r : Record) → Settled r → mark_all (lost_in n ps) (with_records v ((xs ++ r ∷ []) ++ raw n ps)) ≡ with_records v ((xs ++ r ∷ []) ++ settle n ps))
       → mark_all (cond t (lost_in n ps) (p ∷ lost_in n ps)) (with_records v (xs ++ claim_of p.0 p.1 t ∷ raw n ps)) ≡ with_records v (xs ++ record { block = p.0; owner = p.1; won = t; marked = not t } ∷ settle n ps)
   go true again = ap (λ rs. mark_all (lost_in n ps) (with_records v rs)) (sym (append_assoc xs (claim_of p.0 p.1 true ∷ []) (raw n ps))) ∙ (again (claim_of p.0 p.1 true) refl ∙ ap (with_records v) (append_assoc xs (claim_of p.0 p.1 true ∷ []) (settle n ps)))
-  go false again = ap (λ rs. mark_all (lost_in n ps) (with_records v rs)) (mark_behind p.0 xs (claim_of p.0 p.1 false) (raw n ps) all (same_block p.0) ∙ sym (append_assoc xs (mark (claim_of p.0 p.1 false) ∷ []) (raw n ps)))
+  go false again = ap (λ rs. mark_all (lost_in n ps) (with_records v rs)) (mark_behind p.0 xs (claim_of p.0 p.1 false) (raw n ps) all (eq_same p.0) ∙ sym (append_assoc xs (mark (claim_of p.0 p.1 false) ∷ []) (raw n ps)))
       ∙ (again (mark (claim_of p.0 p.1 false)) refl ∙ ap (with_records v) (append_assoc xs (mark (claim_of p.0 p.1 false) ∷ []) (settle n ps)))
 
 -- a claim of the blocks, and then a mark of the lost ones, adds the settled records
@@ -128,8 +126,8 @@ open_lost n (p ∷ ps) v xs all = go (is_free n p) (λ r settled. open_lost n ps
   go true again = subst (λ rs. AreOpen (lost_in n ps) (with_records v rs)) (append_assoc xs (claim_of p.0 p.1 true ∷ []) (raw n ps)) (again (claim_of p.0 p.1 true) refl)
   go false again = (
     (let cut : count_by (is_open p.0) (xs ++ claim_of p.0 p.1 false ∷ raw n ps) ≡ count_by (is_open p.0) xs + count_by (is_open p.0) (claim_of p.0 p.1 false ∷ raw n ps) = sum_by-append (λ r. cond (is_open p.0 r) 1 0) xs (claim_of p.0 p.1 false ∷ raw n ps) in
-        let one = sum_by-cons (λ r. cond (is_open p.0 r) 1 0) (claim_of p.0 p.1 false) (raw n ps) in let hit : ◌≡◌ {A = ℕ} (cond (is_open p.0 (claim_of p.0 p.1 false)) 1 0) 1 = ap (λ t. cond t 1 0) (same_block p.0) in omega arith),
-    subst (λ rs. AreOpen (lost_in n ps) (with_records v rs)) (sym (mark_behind p.0 xs (claim_of p.0 p.1 false) (raw n ps) all (same_block p.0) ∙ sym (append_assoc xs (mark (claim_of p.0 p.1 false) ∷ []) (raw n ps))))
+        let one = sum_by-cons (λ r. cond (is_open p.0 r) 1 0) (claim_of p.0 p.1 false) (raw n ps) in let hit : ◌≡◌ {A = ℕ} (cond (is_open p.0 (claim_of p.0 p.1 false)) 1 0) 1 = ap (λ t. cond t 1 0) (eq_same p.0) in omega arith),
+    subst (λ rs. AreOpen (lost_in n ps) (with_records v rs)) (sym (mark_behind p.0 xs (claim_of p.0 p.1 false) (raw n ps) all (eq_same p.0) ∙ sym (append_assoc xs (mark (claim_of p.0 p.1 false) ∷ []) (raw n ps))))
         (again (mark (claim_of p.0 p.1 false)) refl),
   )
 

@@ -1,6 +1,6 @@
 -- Where the words of the two sets stand among those of the table.
-use Rattle.std.proofs.Common.{◌≡◌, ℕ, zero, suc, ◌+◌, ◌-◌, ◌*◌, ◌<◌, List, [], ◌∷◌, ◌++◌, length, get_or, set, sym, refl, ap, ◌∙◌, arith, replicate}
-use Rattle.std.proofs.lemmas.List.{append_assoc, append-nil, length-append, get_or_append_left, get_or-append-add, set-append_left, set-append_right}
+use Rattle.std.proofs.Common.{◌≡◌, ℕ, ◌+◌, ◌-◌, ◌*◌, ◌<◌, List, [], ◌∷◌, ◌++◌, length, get_or, set, sym, refl, ap, ◌∙◌, arith, replicate}
+use Rattle.std.proofs.lemmas.List.{append_assoc, append-nil, length-append, get_or_append_left, get_or-append-add, set-append_left, set-append_right, replicate-append-replicate}
 use Rattle.nv_claimmap.specs.Rule.{idle, table_of}
 
 -- a stretch of a list, read and written at one place
@@ -49,12 +49,7 @@ module _ (words first second : List ℕ) (cursor : ℕ) (are : words ≡ table_o
   second_set x here inside = set_in (before_second cursor first) second [] words (are ∙ second_last cursor first second) (length first + 31) word k (before_long cursor first) here inside x
       ∙ sym (second_last cursor first (set second k x))
 
--- zeros in two parts
-zeros_cut : (n m : ℕ) → replicate {A = ℕ} (n + m) 0 ≡ replicate n 0 ++ replicate m 0
-zeros_cut zero m = ap (λ k. replicate k 0) (omega arith)
-zeros_cut (suc n) m = ap (λ k. replicate k 0) (let d : suc n + m ≡ suc (n + m) = omega arith in d) ∙ ap (λ xs. 0 ∷ xs) (zeros_cut n m)
-
 -- a table of zeros is that of a cursor at 0 and two empty sets of n words
 pub zeros : (n : ℕ) → replicate (2 * n + 31) 0 ≡ table_of 0 (replicate n 0) (replicate n 0)
 zeros n = ap (λ k. replicate k 0) (let d : 2 * n + 31 ≡ 16 + (n + (15 + n)) = omega arith in d)
-    ∙ (zeros_cut 16 (n + (15 + n)) ∙ ap (λ ws. 0 ∷ (idle ++ ws)) (zeros_cut n (15 + n) ∙ ap (λ ws. replicate n 0 ++ ws) (zeros_cut 15 n)))
+    ∙ (sym (replicate-append-replicate {A = ℕ} 16 (n + (15 + n)) 0) ∙ ap (λ ws. 0 ∷ (idle ++ ws)) (sym (replicate-append-replicate {A = ℕ} n (15 + n) 0) ∙ ap (λ ws. replicate n 0 ++ ws) (sym (replicate-append-replicate {A = ℕ} 15 n 0))))

@@ -1,7 +1,7 @@
 -- The entries of a log stand at different places.
 use Rattle.std.proofs.Common.{◌≡◌, ◌≢◌, ◌⊎◌, inl, inr, ℕ, ◌+◌, ◌/◌, ◌%◌, ◌≤◌, false, IsTrue, eqb, List, [], ◌∷◌, ◌++◌, refl, sym, ◌∙◌, subst, arith, Option}
 use Rattle.std.specs.List.{Contains, IsDistinct, AllByRecursion, list_any}
-use Rattle.std.proofs.lemmas.Bool.{true≢false}
+use Rattle.std.proofs.lemmas.Bool.{true≢false, ne_eqb}
 use Rattle.std.proofs.lemmas.Cmp.{nat_eq_equiv}
 use Rattle.std.proofs.lemmas.List.Elements.{Contains-append_left}
 use Rattle.std.proofs.lemmas.Map.Keys.{IsDistinct-cons}
@@ -17,7 +17,7 @@ use Rattle.nv_logpage.specs.declared.found.Placed.{Placed}
 use Rattle.nv_logpage.specs.declared.found.Finding.TheVariants as finds
 use Rattle.nv_logpage.specs.Reads.{ReadsOn, Reads, places_of, room_at, ends, reads, turns}
 use Rattle.nv_logpage.proofs.Local.{Contains-last}
-use Rattle.nv_logpage.proofs.Steps.{eqb_no, start_whole, Finds-onward}
+use Rattle.nv_logpage.proofs.Steps.{start_whole, Finds-onward}
 
 -- at a place or behind it in its page, or in a page that wasn't read
 abbrev IsBehind : List ℕ → ℕ → ℕ → Type 0
@@ -66,7 +66,7 @@ places_behind {R} {s} {tail} {pages} {p} in_pages whole low (turns {next = next}
 
 none_at : (a : ℕ) (es : List Placed) → ((y : Placed) → Contains es y → a ≢ y.at) → AllByRecursion (λ (b : ℕ). eqb a b ≡ false) (places_of es)
 none_at a [] differ = tt
-none_at a (y ∷ es) differ = (eqb_no a y.at (differ y (Contains-head y es)), none_at a es (λ z c. differ z (Contains-tail y es z c)))
+none_at a (y ∷ es) differ = (ne_eqb a y.at (differ y (Contains-head y es)), none_at a es (λ z c. differ z (Contains-tail y es z c)))
 
 -- a place behind an entry isn't that entry's
 differs : (pages : List ℕ) (p at : ℕ) (x : Placed) → Contains pages (p / 4096) → GoesBehind p x → IsBehind pages (x.at + entry_length x.entry) at → x.at ≢ at

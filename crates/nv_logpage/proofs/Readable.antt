@@ -1,6 +1,6 @@
 -- Each log that begins at a data block is read in some way.
 use Rattle.std.proofs.Common.{◌≡◌, ◌⊎◌, inl, inr, ℕ, zero, suc, ◌+◌, ◌-◌, ◌*◌, ◌/◌, ◌%◌, ◌≤◌, IsTrue, List, [], ◌∷◌, ◌++◌, length, refl, subst, arith, Option, Some, None}
-use Rattle.std.proofs.lemmas.Bool.{cases_lt}
+use Rattle.std.proofs.lemmas.Bool.{cases_lt, ne_eqb}
 use Rattle.std.proofs.lemmas.Bool.Decides.{eqb_tells}
 use Rattle.std.proofs.lemmas.List.{length-append}
 use Rattle.nv_region.specs.Region.{Region}
@@ -17,7 +17,7 @@ use Rattle.nv_logpage.specs.declared.found.Finding.TheVariants as finds
 use Rattle.nv_logpage.specs.DataBlocks.{AreDataBlocks}
 use Rattle.nv_logpage.specs.Reads.{EntryAt, room_at, Finds, followed, found_with, link_of, Reads, ReadsOn, ends, reads, turns}
 use Rattle.nv_logpage.proofs.DataBlocks.{one_page, one_more, few_data_blocks}
-use Rattle.nv_logpage.proofs.Steps.{eqb_no, start_whole, Finds-entry, Finds-onward}
+use Rattle.nv_logpage.proofs.Steps.{start_whole, Finds-entry, Finds-onward}
 
 -- at each place an entry is spelled within its page, or none is
 pub entry_at : (R : Region) (p : ℕ) → (here : Option Entry) × EntryAt R p here
@@ -48,7 +48,7 @@ module _ (R : Region) (s : Super) (tail : ℕ) where
   found_at pages p = elim (eqb_tells p tail) [
     | inl at_tail ↦ (finds.End None, rw at_tail.0 refl)
     | inr before ↦ elim (eqb_tells (p % 4096) 4064) [
-      | inl at_link ↦ (followed R s pages (link_of p), rw (eqb_no p tail before.1, at_link.0) refl)
+      | inl at_link ↦ (followed R s pages (link_of p), rw (ne_eqb p tail before.1, at_link.0) refl)
       | inr entry ↦ (let here = entry_at R p in (found_with R s tail pages p here.0, Finds-entry R s tail pages p _ before.1 entry.1 (here.0, here.1, refl)))
     ]
   ]

@@ -9,6 +9,7 @@ use Rattle.nv_super.specs.Layout.{Layout, fixed_layout}
 use Rattle.nv_super.specs.Order.{Lists, claim_key, fault_key}
 use Rattle.nv_super.specs.Super.{IsSuper}
 use Rattle.nv_super.proofs.Rising.{Lists-only}
+use Rattle.nv_super.proofs.Filters.{rises_filter, from_filter, into_filter}
 use Rattle.nv_journal.specs.Permitted.{LiesBehind, is_permitted}
 use Rattle.nv_journal.specs.Undo.{undone}
 use Rattle.nv_journal.specs.Faults.{HasFault, IsPointerFault}
@@ -17,8 +18,6 @@ use Rattle.nv_scan.specs.Faults.{IsFaultOf, IsEntryFault, e1, e2, e3, e4, i1, i2
 use Rattle.nv_outcome.specs.Outcome.{AreRows, AreFreeLists, IsDoubled, IsCrossFault, c1, c2, c2_root, c3, c4, c5, IsFaulty, journal, inode, cross, double, Outcome, IsOutcome}
 use Rattle.nv_outcome.specs.Same.{is_lasting, IsLasting, ShowsAgain, lasting_outcome}
 use Rattle.nv_outcome.proofs.SuperOf.{one_super, layout_of_super}
-use Rattle.nv_check.proofs.Filters.{from_filter, into_filter}
-use Rattle.nv_outcome.proofs.Members.{rises_filter}
 use Rattle.nv_outcome.proofs.OnlyOne.{same_rows, same_free}
 use Rattle.nv_journal.proofs.AnyLength.{faults_left, undo_twice}
 use Rattle.nv_journal.proofs.SuperKept.{super_undone}

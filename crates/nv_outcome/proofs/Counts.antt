@@ -3,13 +3,13 @@ use Rattle.std.proofs.Common.{◌≡◌, ◌≢◌, ℕ, ◌+◌, ◌<◌, ◌�
 use Rattle.std.proofs.lemmas.List.Sums.{sum_by-cons}
 use Rattle.std.specs.List.{Contains}
 use Rattle.std.proofs.lemmas.List.Elements.{Contains-append_cases}
+use Rattle.std.proofs.Math.Nat.{lt_of_lt_of_le}
 use Rattle.nv_super.specs.declared.owners.Owner.{Owner}
 use Rattle.nv_super.specs.Order.{Rises}
-use Rattle.nv_super.proofs.Rising.{Contains-cons, Contains-head, Contains-tail}
+use Rattle.nv_super.proofs.Rising.{Contains-cons, Contains-head, Contains-tail, head_least, below_not_self, tail_rises}
 use Rattle.nv_super.specs.Owners.{claims_of}
+use Rattle.nv_super.proofs.Members.{none_in}
 use Rattle.nv_scan.specs.Faults.{IsOnce}
-use Rattle.nv_scan.proofs.Rising.{head_least}
-use Rattle.nv_outcome.proofs.Members.{none_in, tail_rises, below_not_self}
 
 pub IsOnce-from_rises : {A : Type 0} (key : A → List ℕ) (xs : List A) → Rises key xs → IsOnce xs
 IsOnce-from_rises key [] r = tt
@@ -43,10 +43,8 @@ pub counted : (xs : List (ℕ × Owner)) (b : ℕ) (o : Owner) → Contains xs (
 counted [] b o c = absurd (none_in (b, o) c)
 counted (y ∷ xs) b o c = elim (Contains-cons y xs (b, o) c) [
   | inl w ↦ (let s = claims_yes y xs b (eq-eqb y.0 b (first_of w)) in rw s (omega arith))
-  | inr w ↦ (let s = claims_more y xs b in let r = counted xs b o w in lt_le r s)
-] where
-  lt_le : {k m n : ℕ} → k < m → m ≤ n → k < n
-  lt_le p q = omega arith
+  | inr w ↦ (let s = claims_more y xs b in let r = counted xs b o w in lt_of_lt_of_le r s)
+]
 
 head_pair : (x : ℕ × Owner) (xs : List (ℕ × Owner)) (b : ℕ) → eqb x.0 b ≡ true → Contains (x ∷ xs) (b, x.1)
 head_pair x xs b e = let same : x.0 ≡ b = eqb-true x.0 b e in let pair : (b, x.1) ≡ x = (λ i. (sym same i, x.1)) in rw pair (Contains-head x xs)
@@ -70,14 +68,11 @@ counted_twice (x ∷ xs) b o p ne c d =
       ]
       | inr v ↦ elim (Contains-cons x xs (b, p) d) [
         | inl w ↦ rw (claims_yes x xs b (eq-eqb x.0 b (first_of w))) (one_more (counted xs b o v))
-        | inr w ↦ lt_le (counted_twice xs b o p ne v w) (claims_more x xs b)
+        | inr w ↦ lt_of_lt_of_le (counted_twice xs b o p ne v w) (claims_more x xs b)
       ]
     ] where
       one_more : {n : ℕ} → 0 < n → 1 < 1 + n
       one_more h = omega arith
-
-      lt_le : {k m n : ℕ} → k < m → m ≤ n → k < n
-      lt_le p q = omega arith
 
 pub record TwoOf (xs : List (ℕ × Owner)) (b : ℕ) : Type 0 where
   pub one : Owner

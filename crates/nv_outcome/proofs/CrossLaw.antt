@@ -7,6 +7,7 @@ use Rattle.nv_super.specs.declared.kind.Kind.{Kind}
 use Rattle.nv_super.specs.declared.kind.Kind.TheVariants.{File, Directory}
 use Rattle.nv_super.specs.declared.faults.Fault.{Fault}
 use Rattle.nv_super.specs.declared.faults.Fault.TheVariants as faults
+use Rattle.nv_super.proofs.Rising.{Lists-same}
 use Rattle.nv_scan.specs.State.{named}
 use Rattle.nv_scan.specs.Inode.{Log, IsInode, IsInUse, good_of}
 use Rattle.nv_scan.specs.Rows.{IsRow}
@@ -17,7 +18,6 @@ use Rattle.nv_check.specs.Cross as rowed
 use Rattle.nv_check.specs.Cross.{HasNameIn, IsUnusedIn, AreNamesIn, IsReachedIn, IsCrossFaultIn}
 use Rattle.nv_outcome.specs.Outcome as reg
 use Rattle.nv_outcome.specs.Outcome.{AreRows, HasName, AreNamesOf, IsReached, IsCrossFault}
-use Rattle.nv_outcome.proofs.Members.{Lists-same}
 
 some_none : {A : Type 0} (o : Option A) (x : A) → o ≡ None → o ≡ Some x → ⊥
 some_none o x e f = let z : None ≡ Some x = sym e ∙ f in cc

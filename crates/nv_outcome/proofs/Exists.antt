@@ -15,8 +15,9 @@ use Rattle.nv_super.specs.Order.{Rises, fault_key, claim_key}
 use Rattle.nv_super.specs.Runs.{AreRuns}
 use Rattle.nv_super.specs.Super.{IsSuper}
 use Rattle.nv_super.proofs.Pools.{pools_from, pools_to}
-use Rattle.nv_super.proofs.Rising.{Contains-cons, Contains-head}
+use Rattle.nv_super.proofs.Rising.{Contains-cons, Contains-head, below_first, rises_append}
 use Rattle.nv_super.proofs.Sorted.{one_owner, fault_key_only, claim_key_only}
+use Rattle.nv_super.proofs.Members.{none_in}
 use Rattle.nv_journal.specs.Undo.{undone}
 use Rattle.nv_journal.specs.Faults.{HasFault}
 use Rattle.nv_alloc.proofs.Changed.{AreRuns-same}
@@ -27,7 +28,6 @@ use Rattle.nv_scan.specs.Rows.{IsRow}
 use Rattle.nv_scan.specs.declared.piece.Row.{Row}
 use Rattle.nv_scan.proofs.Existing.{slot_of_fault, inode_faults, row_or_none}
 use Rattle.nv_scan.proofs.Only.{slot_in_use}
-use Rattle.nv_scan.proofs.Rising.{below_first, rises_append}
 use Rattle.nv_check.specs.Cross.{row_key}
 use Rattle.nv_outcome.specs.Outcome.{AreRows, IsFree, AreFreeLists, IsDoubled, IsCrossFault, IsFaulty, journal, inode, cross, double, Outcome, IsOutcome}
 use Rattle.nv_outcome.proofs.Finite.{Decided, both, not_so, told_as, number_is, Finite, only, numbers, by_name, either, over, those, some, in_order}
@@ -35,7 +35,6 @@ use Rattle.nv_outcome.proofs.FreeRuns.{runs_between}
 use Rattle.nv_outcome.proofs.CrossFinite.{cross_listed}
 use Rattle.nv_outcome.proofs.CrossLaw.{cross_there, cross_back}
 use Rattle.nv_outcome.proofs.JournalFinite.{journal_listed}
-use Rattle.nv_outcome.proofs.Members.{none_in}
 use Rattle.nv_outcome.proofs.OwnersOf.{claimed, owned_or_not}
 use Rattle.nv_outcome.proofs.SuperOf.{layout_of_super}
 use Rattle.nv_outcome.proofs.Tickets.{slot_number}

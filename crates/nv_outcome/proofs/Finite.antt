@@ -8,11 +8,10 @@ use Rattle.std.specs.declared.cmp.Ordering.{Ordering}
 use Rattle.std.specs.declared.cmp.Ordering.TheVariants.{Less, Equal, Greater}
 use Rattle.std.proofs.lemmas.List.Elements.{Contains-append_left, Contains-append_right, Contains-append_cases}
 use Rattle.nv_super.specs.Order.{Rises, Lists, SortedOf}
-use Rattle.nv_super.proofs.Rising.{Contains-cons, Contains-head, Contains-tail}
+use Rattle.nv_super.proofs.Rising.{Contains-cons, Contains-head, Contains-tail, Below, head_least, rises_cons, tail_rises}
 use Rattle.nv_super.proofs.Sorted.{same_keys}
+use Rattle.nv_super.proofs.Members.{none_in, into_flat, from_flat}
 use Rattle.nv_scan.specs.Faults.{Has}
-use Rattle.nv_scan.proofs.Rising.{Below, head_least, rises_cons}
-use Rattle.nv_outcome.proofs.Members.{none_in, tail_rises, into_flat, from_flat}
 
 -- it holds or it doesn't
 abbrev pub Decided : Type 0 → Type 0

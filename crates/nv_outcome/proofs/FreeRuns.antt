@@ -4,10 +4,10 @@ use Rattle.nv_super.specs.declared.owners.Run.{Run}
 use Rattle.nv_super.specs.Runs.{Apart, AreRuns}
 use Rattle.nv_super.proofs.Rising.{Contains-cons, Contains-head, Contains-tail}
 use Rattle.nv_super.proofs.Runs.{some_blocks}
+use Rattle.nv_super.proofs.Members.{none_in}
 use Rattle.nv_alloc.proofs.Changed.{AreRuns-same}
 use Rattle.nv_alloc.proofs.Fronts.{cut_apart}
 use Rattle.nv_outcome.proofs.Finite.{Decided, number_is}
-use Rattle.nv_outcome.proofs.Members.{none_in}
 
 module _ (P : ℕ → Type 0) (decide : (b : ℕ) → Decided (P b)) where
   -- one of n blocks from this one on

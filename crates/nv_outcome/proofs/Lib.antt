@@ -1,4 +1,3 @@
-pub mod Members
 pub mod Counts
 pub mod Finite
 pub mod Pieces

@@ -10,6 +10,7 @@ use Rattle.nv_super.specs.Layout.{Layout, InPool, fixed_layout}
 use Rattle.nv_super.specs.Order.{Rises, Lists, claim_key, fault_key}
 use Rattle.nv_super.proofs.Rising.{Contains-head, Contains-tail, Lists-only}
 use Rattle.nv_super.proofs.Runs.{AreRuns-only}
+use Rattle.nv_super.proofs.Members.{into_map, from_map}
 use Rattle.nv_journal.specs.Undo.{undone}
 use Rattle.nv_alloc.specs.Taking.{pool_at}
 use Rattle.nv_scan.specs.Inode.{Log, IsInode, IsInUse}
@@ -19,7 +20,6 @@ use Rattle.nv_scan.proofs.Only.{IsInode-only}
 use Rattle.nv_check.specs.Cross.{row_key}
 use Rattle.nv_outcome.specs.Outcome.{AreRows, IsFree, AreFreeLists, IsDoubled, IsFaulty, Outcome, IsOutcome}
 use Rattle.nv_outcome.specs.Same.{SameRow, SameRows, SameOutcome}
-use Rattle.nv_outcome.proofs.Members.{into_map, from_map}
 use Rattle.nv_outcome.proofs.SuperOf.{one_super}
 
 -- ---- rows

@@ -6,7 +6,8 @@ use Rattle.nv_super.specs.declared.owners.Owner.{Owner}
 use Rattle.nv_super.specs.declared.owners.Owner.TheVariants as owners
 use Rattle.nv_super.specs.Layout.{Layout, slot_of}
 use Rattle.nv_super.specs.Order.{owner_key, Rises}
-use Rattle.nv_super.proofs.Rising.{Contains-head, Contains-tail}
+use Rattle.nv_super.proofs.Rising.{Contains-head, Contains-tail, Below, head_least, below_not_self, tail_rises}
+use Rattle.nv_super.proofs.Members.{into_flat, from_flat}
 use Rattle.nv_scan.specs.Owners.{Owns, by_log, by_page, inode_of}
 use Rattle.nv_scan.specs.Faults.{Has, IsOnce, IsFaultOf}
 use Rattle.nv_scan.specs.Rows.{IsPiece}
@@ -14,9 +15,7 @@ use Rattle.nv_scan.specs.Work.{claims_in}
 use Rattle.nv_scan.specs.declared.piece.Piece.{Piece}
 use Rattle.nv_scan.proofs.Existing.{slot_of_fault}
 use Rattle.nv_scan.proofs.Only.{slot_in_use}
-use Rattle.nv_scan.proofs.Rising.{Below, head_least}
 use Rattle.nv_outcome.specs.Parts.{ArePieces, faults_in, piece_key}
-use Rattle.nv_outcome.proofs.Members.{into_flat, from_flat, tail_rises, below_not_self}
 use Rattle.nv_outcome.proofs.Counts.{IsOnce-from_rises, IsOnce-append}
 
 pub slot_of_owner : {R : Region} {l : Layout} {b : ℕ} (o : Owner) → Owns R l b o → (a : ℕ) × (slot_of l (inode_of o) ≡ Some a)

@@ -5,17 +5,16 @@ use Rattle.std.specs.List.{Contains, cons_option}
 use Rattle.nv_region.specs.Region.{Region}
 use Rattle.nv_super.specs.Layout.{Layout}
 use Rattle.nv_super.specs.Order.{Rises}
-use Rattle.nv_super.proofs.Rising.{Contains-cons, Contains-head, Contains-tail}
+use Rattle.nv_super.proofs.Rising.{Contains-cons, Contains-head, Contains-tail, Below, head_least, rises_cons, tail_rises}
+use Rattle.nv_super.proofs.Members.{none_in}
 use Rattle.nv_scan.specs.Inode.{Log, IsInUse}
 use Rattle.nv_scan.specs.Rows.{IsRow, IsPiece}
 use Rattle.nv_scan.specs.declared.piece.Row.{Row}
 use Rattle.nv_scan.specs.declared.piece.Piece.{Piece}
 use Rattle.nv_scan.proofs.Only.{slot_in_use}
-use Rattle.nv_scan.proofs.Rising.{Below, head_least, rises_cons}
 use Rattle.nv_check.specs.Cross.{row_key}
 use Rattle.nv_outcome.specs.Outcome.{AreRows}
 use Rattle.nv_outcome.specs.Parts.{ArePieces, rows_in, piece_key}
-use Rattle.nv_outcome.proofs.Members.{none_in, tail_rises}
 
 pub row_from : (ps : List Piece) (r : Row) → Contains (rows_in ps) r → (p : Piece) × Contains ps p × (p.row ≡ Some r)
 row_from [] r c = absurd (none_in r c)

@@ -7,12 +7,12 @@ use Rattle.nv_super.specs.declared.faults.Fault.TheVariants as faults
 use Rattle.nv_super.specs.Layout.{fixed_layout, InPool, PoolsCover}
 use Rattle.nv_super.proofs.Pools.{pools_cover}
 use Rattle.nv_super.proofs.Sorted.{one_owner}
+use Rattle.nv_super.proofs.Members.{none_in}
 use Rattle.nv_journal.specs.Undo.{undone}
 use Rattle.nv_alloc.specs.Taking.{HasBlock, pool_at}
 use Rattle.nv_alloc.proofs.Sound.{free_within}
 use Rattle.nv_outcome.specs.Outcome.{IsFree, double, Outcome, IsOutcome}
 use Rattle.nv_outcome.specs.Shared.{SharesAll}
-use Rattle.nv_outcome.proofs.Members.{none_in}
 use Rattle.nv_outcome.proofs.OwnersOf.{owned_or_not}
 use Rattle.nv_outcome.proofs.SuperOf.{layout_of_super}
 

@@ -16,17 +16,17 @@ use Rattle.nv_super.specs.declared.superblock.Super.{Super}
 use Rattle.nv_super.specs.declared.owners.Owner.{Owner}
 use Rattle.nv_super.specs.Layout.{IsLayout, fixed_layout, inode_limit, slot_of, slot_address, extra_slot, chain_of}
 use Rattle.nv_super.specs.Order.{Rises}
-use Rattle.nv_super.proofs.Rising.{Contains-cons, Contains-head, Contains-tail}
+use Rattle.nv_super.proofs.Rising.{Contains-cons, Contains-head, Contains-tail, below_first}
 use Rattle.nv_super.specs.Owners.{claims_of}
+use Rattle.nv_super.proofs.Members.{none_in, into_map, from_map}
+use Rattle.nv_names.proofs.Listing.{AllByRecursion-append}
 use Rattle.nv_claimcore.specs.declared.view.View.{View}
 use Rattle.nv_claimcore.specs.Claims.{times, below, nothing, both_views}
 use Rattle.nv_claimcore.specs.Finished.{pair_of, works_of}
 use Rattle.nv_scan.specs.Rows.{IsPiece}
 use Rattle.nv_scan.specs.Work.{ticket_count, tickets_among, claims_in, IsWork}
 use Rattle.nv_scan.specs.declared.piece.Piece.{Piece}
-use Rattle.nv_scan.proofs.Rising.{below_first}
 use Rattle.nv_outcome.specs.Parts.{ArePieces, piece_key}
-use Rattle.nv_outcome.proofs.Members.{none_in, into_map, from_map}
 use Rattle.nv_outcome.proofs.Reordered.{flat_map_permutation}
 
 -- ---- inodes that have slots
@@ -63,10 +63,6 @@ slot_number s i a layout = at (i == 0) refl where
 pub of_each : {A : Type 0} (P : A → Type 0) (xs : List A) → AllByRecursion P xs → (x : A) → Contains xs x → P x
 of_each P [] all x c = absurd (none_in x c)
 of_each {A} P (y ∷ xs) all x c = elim (Contains-cons y xs x c) [ inl w ↦ (let Q : A → Type 0 = λ z. P z in subst Q (sym w) all.0) | inr w ↦ of_each P xs all.1 x w ]
-
-pub each_append : {A : Type 0} (P : A → Type 0) (xs ys : List A) → AllByRecursion P xs → AllByRecursion P ys → AllByRecursion P (xs ++ ys)
-each_append P [] ys all more = more
-each_append P (x ∷ xs) ys all more = (all.0, each_append P xs ys all.1 more)
 
 -- where every inode's number stands, its piece is found
 pieces_cover : (R : Region) (s : Super) (ps : List Piece) → IsLayout s → Rises piece_key ps → ((p : Piece) → Contains ps p → IsPiece R (fixed_layout s) p)
@@ -118,7 +114,7 @@ pub one_more_in_order : (R : Region) (s : Super) (ps : List Piece) (p : Piece) (
 one_more_in_order R s ps p n order all next is =
     let number : p.inode ≡ 1 + n = omega (arith, next) in (
       map-append (λ (p : Piece). p.inode) ps (p ∷ []) ∙ (λ i. order i ++ number i ∷ []) ∙ range_more 1 n,
-      each_append (IsPiece R (fixed_layout s)) ps (p ∷ []) all (is, tt),
+      AllByRecursion-append (IsPiece R (fixed_layout s)) ps (p ∷ []) all (is, tt),
     )
 
 -- ---- pieces of the tickets drawn
@@ -239,7 +235,7 @@ work_covers R s v pieces sorted n layout work drawn enough moved up =
 -- The work of two views together.
 pub work_joins : (R : Region) (s : Super) (v u : View) (ps qs : List Piece) → IsWork R s v ps → IsWork R s u qs → IsWork R s (both_views v u) (ps ++ qs)
 work_joins R s v u ps qs p q = record {
-  each = each_append (IsPiece R (fixed_layout s)) ps qs p.each q.each;
+  each = AllByRecursion-append (IsPiece R (fixed_layout s)) ps qs p.each q.each;
   tickets =
       map-append (λ (x : Piece). x.inode) ps qs
       ∙ (λ i. p.tickets i ++ q.tickets i)

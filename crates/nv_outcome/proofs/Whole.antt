@@ -4,6 +4,7 @@ use Rattle.std.specs.List.{Contains}
 use Rattle.std.specs.List.Sorted.{IsPermutation}
 use Rattle.std.proofs.lemmas.List.Sorted.{Contains-permutation, IsPermutation-sym, sum_by-IsPermutation}
 use Rattle.std.proofs.lemmas.List.Elements.{Contains-append_left, Contains-append_right, Contains-append_cases}
+use Rattle.std.proofs.Math.Nat.{lt_of_lt_of_le}
 use Rattle.nv_blockset.specs.BlockSet.{has}
 use Rattle.nv_region.specs.Region.{Region}
 use Rattle.nv_super.specs.declared.superblock.Super.{Super}
@@ -15,6 +16,8 @@ use Rattle.nv_super.specs.Super.{IsSuper}
 use Rattle.nv_super.proofs.Pools.{pools_from, pools_to}
 use Rattle.nv_super.proofs.Sorted.{one_owner}
 use Rattle.nv_super.specs.Owners.{claims_of}
+use Rattle.nv_super.proofs.Members.{into_map, from_map}
+use Rattle.nv_super.proofs.Rising.{Lists-same}
 use Rattle.nv_journal.specs.Undo.{undone}
 use Rattle.nv_alloc.specs.FreeValue.{FreeLists}
 use Rattle.nv_alloc.proofs.Changed.{AreRuns-same}
@@ -24,7 +27,6 @@ use Rattle.nv_scan.specs.Work.{claims_in}
 use Rattle.nv_scan.specs.declared.piece.Piece.{Piece}
 use Rattle.nv_outcome.specs.Outcome.{IsFree, IsDoubled, IsFaulty, journal, inode, cross, double, IsOutcome}
 use Rattle.nv_outcome.specs.Parts.{ArePieces, AreMaps, AreParts, rows_in, faults_in, double_fault}
-use Rattle.nv_outcome.proofs.Members.{into_map, from_map, Lists-same}
 use Rattle.nv_outcome.proofs.Counts.{counted, some_claim, counted_twice, two_claims}
 use Rattle.nv_outcome.proofs.Pieces.{owned_claimed, claimed_owned, claims_once, own_faults}
 use Rattle.nv_outcome.proofs.RowsOf.{rows_are}
@@ -98,15 +100,12 @@ module _ {R : Region} {s : Super} {ps : List Piece} {cs : List (ℕ × Owner)} {
     w.0,
     record {
       from = (let f = pools_from s c in let g = w.0.0 in le_le f g);
-      below = (let f = pools_to s c lt room in let g = w.0.1 in lt_le g f);
+      below = (let f = pools_to s c lt room in let g = w.0.1 in lt_of_lt_of_le g f);
       unowned = λ o q. (let f = owned_counted ps cs first second h.scanned h.claimed h.maps b o q in let g = w.1 in omega (arith, f, g));
     },
   ) where
     le_le : {k m n : ℕ} → k ≤ m → m ≤ n → k ≤ n
     le_le p q = omega arith
-
-    lt_le : {k m n : ℕ} → k < m → m ≤ n → k < n
-    lt_le p q = omega arith
 
   is_free : AreParts R s ps cs first second free doubled js xs found → (c b : ℕ) → InPool s c b × IsFree (undone s R) (fixed_layout s) b → InPool s c b × (has first b ≡ 0)
   is_free h c b w = (w.0, none (has first b) (λ k. (let o = counted_owned ps cs first second h.scanned h.claimed h.maps b k in w.1.unowned o.0 o.1))) where

@@ -1,6 +1,6 @@
 -- The claims of an inode are its owners with their blocks, in order.
 use Rattle.std.proofs.Common.{◌≡◌, ℕ, zero, suc, ◌+◌, ◌-◌, ◌<◌, ◌≤◌, inl, inr, List, [], ◌∷◌, ◌++◌, length, take, get_or, refl, ap, sym, ◌∙◌, subst, Option, Some, slice_get, arith, append-nil, length-take, IsSome, slice_index_or}
-use Rattle.std.specs.List.{Contains, All, flat_map}
+use Rattle.std.specs.List.{Contains, All}
 use Rattle.std.proofs.lemmas.List.{take_more}
 use Rattle.std.proofs.lemmas.Grind.{flat_map-append}
 use Rattle.std.proofs.lemmas.Bool.{cases_order}
@@ -9,12 +9,13 @@ use Rattle.nv_super.specs.Order.{Rises, Lists, owner_key}
 use Rattle.nv_super.specs.Owners.{pairs}
 use Rattle.nv_super.specs.declared.owners.Owner.{Owner}
 use Rattle.nv_super.specs.declared.owners.Owner.TheVariants as owners
-use Rattle.nv_super.proofs.Rising.{Contains-cons, Contains-head, Contains-tail}
+use Rattle.nv_super.proofs.Rising.{Contains-cons, Contains-head, Contains-tail, Below, below_rest, below_first, rises_cons, rises_append}
+use Rattle.nv_super.proofs.Members.{from_flat, into_flat}
+use Rattle.nv_super.proofs.Options.{some_is}
 use Rattle.nv_radix.specs.Pages.{Pages, block_at}
 use Rattle.nv_radix.specs.Pieces.{IsMapped, HasPage, AreApart, ArePieces}
 use Rattle.nv_radix.specs.declared.piece.Piece.{Piece as Run}
 use Rattle.nv_scan.specs.Claims.{IsClaim, of_log, of_page, log_claims, run_claims, data_claims, IsSmall, AreSmall}
-use Rattle.nv_scan.proofs.Rising.{Below, below_rest, below_first, rises_cons, rises_append}
 
 abbrev key : ℕ × Owner → List ℕ
 key x = owner_key x.1
@@ -103,21 +104,6 @@ run_rises i p b (suc n) = rises_append key (pairs b (owners.Data i p) n) ((b + n
       | inr w ↦ absurd (omega (arith, w.1))
     ])
 
--- what stands in a list made of parts
-from_flat : {A B : Type 0} (f : A → List B) (xs : List A) (x : B) → Contains (flat_map f xs) x → (p : A) × Contains xs p × Contains (f p) x
-from_flat f [] x c = absurd (omega (arith, c.1))
-from_flat f (y ∷ xs) x c = elim (Contains-append_cases (f y) (flat_map f xs) x c) [
-  | inl w ↦ (y, Contains-head y xs, w)
-  | inr w ↦ (let r = from_flat f xs x w in (r.0, Contains-tail y xs r.0 r.1, r.2))
-]
-
-into_flat : {A B : Type 0} (f : A → List B) (xs : List A) (p : A) (x : B) → Contains xs p → Contains (f p) x → Contains (flat_map f xs) x
-into_flat f [] p x c d = absurd (omega (arith, c.1))
-into_flat {A} {B} f (y ∷ xs) p x c d = elim (Contains-cons y xs p c) [
-  | inl w ↦ Contains-append_left (f y) (flat_map f xs) x (let P : A → Type 0 = λ z. Contains (f z) x in subst P w d)
-  | inr w ↦ Contains-append_right (f y) (flat_map f xs) x (into_flat f xs p x w d)
-]
-
 apart_tail : (x : Run) (xs : List Run) → AreApart (x ∷ xs) → AreApart xs
 apart_tail x [] a = tt
 apart_tail x (y ∷ xs) a = a.1
@@ -139,9 +125,6 @@ data_rises i (x ∷ xs) a = rises_append key (run_claims i x) (data_claims i xs)
     let q = run_claim i f.0.page f.0.block f.0.count v f.2 in
     let gap = apart_all x xs f.0 a f.1 in
     rw (r.is, q.is) (data_below i (x.page + r.j) (f.0.page + q.j) (omega (arith, r.within, gap)))))
-
-some_is : {A : Type 0} (a b : A) (o : Option A) → o ≡ Some a → o ≡ Some b → a ≡ b
-some_is a b o h k = let e : Some a ≡ Some b = sym h ∙ k in cc
 
 -- a page of a piece, by how far it stands behind its first
 page_of_piece : (m : Pages) (i : ℕ) (x : Run) (p b : ℕ) → IsMapped m x → HasPage x p → block_at m p ≡ Some b → Contains (run_claims i x) (b, owners.Data i p)

@@ -7,6 +7,7 @@ use Rattle.nv_super.specs.declared.superblock.Super.{Super}
 use Rattle.nv_super.specs.declared.kind.Kind.{Kind}
 use Rattle.nv_super.specs.declared.faults.Fault.{Fault}
 use Rattle.nv_super.specs.declared.faults.Fault.TheVariants as faults
+use Rattle.nv_super.proofs.Options.{some_is}
 use Rattle.nv_entry.specs.declared.content.ContentFault.TheVariants.{OutOfRange, WrongKind}
 use Rattle.nv_entry.specs.declared.content.ContentFault.{ContentFault}
 use Rattle.nv_entry.specs.declared.entry.Operation.{Operation}
@@ -109,9 +110,6 @@ fault_more s kind i entries y f h =
       | inl w ↦ inr (ap (λ (zs : List Placed). fault_behind s kind i zs y) (sym w.0) ∙ ap (fault_behind s kind i t.before) (sym w.1) ∙ t.told)
       | inr w ↦ inl (fault_is s kind i entries t.before t.x f w t.told)
     ]
-
-some_is : {A : Type 0} (a b : A) (o : Option A) → o ≡ Some a → o ≡ Some b → a ≡ b
-some_is a b o h k = let e : Some a ≡ Some b = sym h ∙ k in cc
 
 nothing_before : {A : Type 0} (before : List A) (x : A) (after : List A) → [] ≡ before ++ x ∷ after → ⊥
 nothing_before [] x after h = cc

@@ -17,6 +17,7 @@ use Rattle.nv_super.specs.declared.faults.Fault.TheVariants as faults
 use Rattle.nv_super.specs.Layout.{Layout, IsLayout, is_number, slot_address, slot_of, fixed_layout}
 use Rattle.nv_super.proofs.Rising.{Contains-cons, Contains-head, Contains-tail}
 use Rattle.nv_super.proofs.Sorted.{same_keys}
+use Rattle.nv_super.proofs.Options.{some_is}
 use Rattle.nv_inode.specs.Slot.{kind_at, is_right_log}
 use Rattle.nv_entry.specs.declared.entry.Entry.{Entry}
 use Rattle.nv_entry.specs.declared.entry.Entry.TheVariants.{NextPage, Write, Attr, Name, Links}
@@ -36,7 +37,7 @@ use Rattle.nv_scan.specs.declared.piece.Piece.{Piece}
 use Rattle.nv_scan.proofs.Blocks.{last_word-all, data_pages}
 use Rattle.nv_scan.proofs.EntryFaults.{fault_behind, found-more, found-none}
 use Rattle.nv_scan.proofs.InUse.{has_log}
-use Rattle.nv_scan.proofs.Only.{slot_in_use, kind_in_use, some_is}
+use Rattle.nv_scan.proofs.Only.{slot_in_use, kind_in_use}
 use Rattle.nv_scan.proofs.Pieces.{slot_is, faults_are, right_faults, wrong_faults, empty_piece}
 
 -- ---- vectors

@@ -3,7 +3,6 @@ pub mod EntryFaults
 pub mod FaultsOnce
 pub mod Steps
 pub mod ReadSoFar
-pub mod Rising
 pub mod ClaimLists
 pub mod Only
 pub mod Alone

@@ -6,6 +6,7 @@ use Rattle.std.specs.Cmp.Lexicographic.{slice_cmp}
 use Rattle.std.proofs.lemmas.List.Elements.{All-contains}
 use Rattle.nv_super.specs.Order.{Rises, Lists}
 use Rattle.nv_super.proofs.Rising.{Contains-cons, Contains-head, Contains-tail}
+use Rattle.nv_super.proofs.Options.{some_is}
 use Rattle.nv_names.specs.Names.{Names, name_at, names_of, ListsNames}
 
 abbrev name : List ℕ × ℕ × ℕ → List ℕ
@@ -23,9 +24,6 @@ named_in (x ∷ xs) q c = elim (Contains-cons x.0 (names_of xs) q c) [
   | inl w ↦ (x, Contains-head x xs, sym w)
   | inr w ↦ (let r = named_in xs q w in (r.0, Contains-tail x xs r.0 r.1, r.2))
 ]
-
-some_is : {A : Type 0} (a b : A) (o : Option A) → o ≡ Some a → o ≡ Some b → a ≡ b
-some_is a b o h k = let e : Some a ≡ Some b = sym h ∙ k in cc
 
 -- each name stands once, in order, with what it stands for
 pub names_listed : (index : Names) (listed : List (List ℕ × ℕ × ℕ)) → ListsNames index listed → Lists name (λ x. name_at index x.0 ≡ Some (x.1, x.2)) listed

@@ -1,19 +1,17 @@
 -- A region holds one thing of each inode.
-use Rattle.std.proofs.Common.{◌≡◌, ℕ, ◌+◌, true, false, ap, sym, ◌∙◌, subst, Option, Some, slice_get}
+use Rattle.std.proofs.Common.{◌≡◌, ℕ, ◌+◌, true, false, ap, sym, ◌∙◌, subst, Some, slice_get}
 use Rattle.std.proofs.lemmas.Bool.{true≢false}
 use Rattle.nv_region.specs.Region.{Region, word}
 use Rattle.nv_super.specs.Layout.{Layout, slot_of}
 use Rattle.nv_super.specs.declared.owners.Owner.{Owner}
 use Rattle.nv_super.specs.declared.owners.Owner.TheVariants as owners
+use Rattle.nv_super.proofs.Options.{some_is}
 use Rattle.nv_inode.specs.Slot.{kind_at, is_right_log}
 use Rattle.nv_logpage.specs.Reads.{Reads}
 use Rattle.nv_logpage.proofs.Once.{ReadsOn-only}
 use Rattle.nv_scan.specs.State.{block_of}
 use Rattle.nv_scan.specs.Inode.{Log, IsInode, right, wrong, empty_log, good_of}
 use Rattle.nv_scan.specs.Owners.{Owns, by_log, by_page}
-
-pub some_is : {A : Type 0} (a b : A) (o : Option A) → o ≡ Some a → o ≡ Some b → a ≡ b
-some_is a b o h k = let e : Some a ≡ Some b = sym h ∙ k in cc
 
 same_log : (a b : Log) → a.kind ≡ b.kind → a.entries ≡ b.entries → a.pages ≡ b.pages → a.fault ≡ b.fault → a ≡ b
 same_log a b p q r s = λ i. record { kind = p i; entries = q i; pages = r i; fault = s i }

@@ -18,6 +18,7 @@ use Rattle.nv_super.specs.declared.faults.Fault.TheVariants as faults
 use Rattle.nv_super.specs.Layout.{IsLayout, is_number, slot_address, slot_of, fixed_layout, Layout}
 use Rattle.nv_super.specs.Order.{Lists, owner_key}
 use Rattle.nv_super.proofs.Rising.{Contains-cons, Contains-head}
+use Rattle.nv_super.proofs.Options.{some_is, some_only}
 use Rattle.nv_inode.specs.declared.slot.Slot.{Slot}
 use Rattle.nv_inode.specs.Slot.{slot_at, kind_of, kind_at, is_right_log}
 use Rattle.nv_inode.proofs.Slots.{number_above, number_below}
@@ -41,7 +42,7 @@ use Rattle.nv_scan.specs.declared.piece.Row.{Row}
 use Rattle.nv_scan.specs.declared.piece.Piece.{Piece}
 use Rattle.nv_scan.specs.declared.reading.Read.{Read}
 use Rattle.nv_scan.proofs.FaultsOnce.{IsOnce-option, IsOnce-more, end_apart, head_apart, inode_apart}
-use Rattle.nv_scan.proofs.Only.{some_is, IsInode-only, slot_in_use, kind_in_use, owned_log, owned_page}
+use Rattle.nv_scan.proofs.Only.{IsInode-only, slot_in_use, kind_in_use, owned_log, owned_page}
 
 -- what a value has is what it has by another fact
 pub if_ok : {T E : Type 0} (P Q : T → Type 0) (r : Result T E) → ((v : T) → Q v → P v) → IfOk r Q → IfOk r P
@@ -143,9 +144,6 @@ module _ {R : Region} {l : Layout} {i a : ℕ} {log : Log} (is : IsInode R l i a
             (subst (λ (fs : List Fault). HasOnce (IsFaultOf R l i) fs) (sym of.faults) (faults_once fold.faults.items fault by holds.found (holds.once (inode_apart is))));
       }
 
-some_one : {A : Type 0} (x y : A) → Some x ≡ Some y → x ≡ y
-some_one x y h = cc
-
 -- the valid word of a slot of a kind
 pub valid_one : (slot : Slot) (kind : Kind) → kind_of slot ≡ Some kind → slot.valid ≡ 1
 valid_one slot kind h = by_test (slot.valid == 1) refl h
@@ -180,7 +178,7 @@ end_is {R} {l} {i} {a} {log} is (Some end) e f h = by_class end.fault refl h
     ends_as k = e ∙ ap (λ (d : LogFault). Some (end_by end.at d)) k
 
     told_as : {c : LogFault} → end.fault ≡ c → fault_of_end i (Some end) ≡ Some f → fault_by i c end.at ≡ f
-    told_as {c} k g = some_one (fault_by i c end.at) f (ap (λ (d : LogFault). Some (fault_by i d end.at)) (sym k) ∙ g)
+    told_as {c} k g = some_only (fault_by i c end.at) f (ap (λ (d : LogFault). Some (fault_by i d end.at)) (sym k) ∙ g)
 
     by_class : (c : LogFault) → end.fault ≡ c → fault_of_end i (Some end) ≡ Some f → IsFaultOf R l i f
     by_class logs.L1 k g = subst (IsFaultOf R l i) (told_as k g) (l1 is (ends_as k))

@@ -1,4 +1,7 @@
 pub mod Rising
+pub mod Members
+pub mod Filters
+pub mod Options
 pub mod Runs
 pub mod Sorted
 pub mod Pools

@@ -4,7 +4,7 @@ use Rattle.std.proofs.lemmas.List.{take_all}
 use Rattle.nv_blockset.specs.BlockSet.{is_set, has}
 use Rattle.nv_super.specs.declared.owners.Owner.{Owner}
 use Rattle.nv_super.specs.Order.{claim_key, SortedOf}
-use Rattle.nv_check.proofs.Filters.{lists_filter}
+use Rattle.nv_super.proofs.Filters.{lists_filter}
 use Rattle.nv_check.proofs.owners.doubled.Goals as goal
 
 pub returns : goal.returns

@@ -1,10 +1,11 @@
 use Rattle.std.proofs.Common.{◌≡◌, Bool, map, List, ℕ, [], ◌∷◌, ◌++◌, ◌<◌, length, arith, subst, sym, Option}
 use Rattle.std.proofs.lemmas.List.Elements.{Contains-push}
+use Rattle.std.proofs.lemmas.List.{nil_from_length}
 use Rattle.nv_names.specs.declared.named.Named.{Named}
 use Rattle.nv_check.specs.declared.listing.Listing.{Listing}
 use Rattle.nv_check.specs.Steps.{Reaching, Spreads, IsAt, IsTable}
 use Rattle.nv_check.specs.Listings.{target}
-use Rattle.nv_check.proofs.Follow.{reaching_step, reaching_done, empty_list, is_table}
+use Rattle.nv_check.proofs.Follow.{reaching_step, reaching_done, is_table}
 use Rattle.nv_check.proofs.walk.reach.Goals as goal
 
 stands_in : {listings : List Listing} {table : List (Option ℕ)} {marks : List Bool} {todo : List ℕ} (rest : List ℕ) (place : ℕ) → Reaching listings table marks todo → todo ≡ rest ++ place ∷ [] → Reaching listings table marks (rest ++ place ∷ [])
@@ -32,6 +33,6 @@ loop-place-preserved c =
 
 pub returns : goal.returns
 returns c =
-    let none : c.loop-place.todo.items ≡ [] = empty_list _ (omega (arith, c.in_default.ensures.cases)) in
+    let none : c.loop-place.todo.items ≡ [] = nil_from_length _ (omega (arith, c.in_default.ensures.cases)) in
     let P : List ℕ → Type 0 = λ xs. Reaching c.args.listings.now c.args.places.now c.loop-place.marks.items xs in
     reaching_done c.args.listings.now c.args.places.now c.requires _ (subst P none c.loop-place.invariant)

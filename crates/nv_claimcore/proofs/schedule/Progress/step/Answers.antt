@@ -4,23 +4,23 @@ use Rattle.nv_super.specs.declared.owners.Owner.{Owner}
 use Rattle.nv_claimcore.specs.declared.event.Event.TheVariants.{Draw, Claim, Mark}
 use Rattle.nv_claimcore.specs.declared.schedule.Pace.{Pace}
 use Rattle.std.specs.Prelude.{◌==◌}
+use Rattle.std.proofs.lemmas.List.{get_or_default}
 use Rattle.nv_claimcore.specs.declared.view.Sizes.{Sizes}
 use Rattle.nv_claimcore.specs.Claims.{State}
 use Rattle.nv_claimcore.specs.Finished.{pairs_at}
 use Rattle.nv_claimcore.specs.Replay.{lists, next_event}
 use Rattle.nv_claimcore.specs.Pace.{Running, no_pace, pace_of, left_at, owed, marked_pace, claimed_pace, drawn_pace}
-use Rattle.nv_claimcore.proofs.OpenAt.{read_at}
 use Rattle.nv_claimcore.proofs.Turns.{IsNext, IsDone, in_paces, mark_turn, mark_allowed, mark_word, mark_running, mark_less, claim_turn, claim_allowed, claim_word, claim_running, claim_less, draw_turn, draw_allowed, draw_fits, draw_running, draw_less, turn_is}
 use Rattle.nv_claimcore.proofs.Courses.{took, took_none}
 use Rattle.nv_claimcore.proofs.schedule.Progress.step.Goals as goal
 
 pub mark-requires-clause-block : goal.mark-requires-clause-block
-mark-requires-clause-block c = let p = c.args.self.now in let read = c.index.ensures ∙ read_at p.paces.items c.args.worker c.index.result.now no_pace (in_paces p.sizes (lists c.args.work.now) p.state p.paces.items c.requires.running c.args.worker c.requires.worker) in
+mark-requires-clause-block c = let p = c.args.self.now in let read = c.index.ensures ∙ get_or_default p.paces.items c.args.worker c.index.result.now no_pace (in_paces p.sizes (lists c.args.work.now) p.state p.paces.items c.requires.running c.args.worker c.requires.worker) in
     mark_word p.sizes (lists c.args.work.now) p.state p.paces.items c.requires.running c.args.worker c.requires.worker c.in-Some.block (ap (λ (q : Pace). q.lost) (sym read) ∙ c.in-Some.is)
 
 pub returns-in-Some : goal.returns-in-Some
 returns-in-Some c = let p = c.args.self.now in let here = in_paces p.sizes (lists c.args.work.now) p.state p.paces.items c.requires.running c.args.worker c.requires.worker in
-    let lost = ap (λ (q : Pace). q.lost) (sym (c.index.ensures ∙ read_at p.paces.items c.args.worker c.index.result.now no_pace here)) ∙ c.in-Some.is in
+    let lost = ap (λ (q : Pace). q.lost) (sym (c.index.ensures ∙ get_or_default p.paces.items c.args.worker c.index.result.now no_pace here)) ∙ c.in-Some.is in
     took (lists c.args.work.now) c.args.worker p c.mark.new.self (Mark c.args.worker c.in-Some.block) (marked_pace (pace_of p.paces.items c.args.worker))
     (mark_turn p.sizes (lists c.args.work.now) p.state p.paces.items c.requires.running c.args.worker c.requires.worker c.in-Some.block lost)
     (mark_allowed p.sizes (lists c.args.work.now) p.state p.paces.items c.requires.running c.args.worker c.requires.worker c.in-Some.block lost)
@@ -30,7 +30,7 @@ returns-in-Some c = let p = c.args.self.now in let here = in_paces p.sizes (list
 
 -- the pace that the step read
 read : (z : Sizes) (work : List (List (ℕ × Owner))) (s : State) (paces : List Pace) → Running z work s paces → (w : ℕ) → w < z.workers → (p : Pace) → p ≡ get_or paces w p → p ≡ pace_of paces w
-read z work s paces running w here p e = e ∙ read_at paces w p no_pace (in_paces z work s paces running w here)
+read z work s paces running w here p e = e ∙ get_or_default paces w p no_pace (in_paces z work s paces running w here)
 
 is_next : (work : List (List (ℕ × Owner))) (p q : Pace) (b : ℕ) (o : Owner) → p ≡ q → p.lost ≡ None → left_at work p ≡ (b, o) ∷ drop (p.made + 1) (pairs_at work p.ticket) → p.made + 1 < 2 ^ 64 → IsNext work q (b, o)
 is_next work p q b o e lost next room = subst (λ (x : Pace). IsNext work x (b, o)) e record { lost = lost; next = next; room = room }

@@ -1,8 +1,8 @@
 -- What a filter and a sort leave.
 use Rattle.std.proofs.Common.{◌≡◌, ℕ, ◌⊎◌, inl, inr, Bool, true, false, cond, List, [], ◌∷◌, refl, ap, sym, ◌∙◌, subst, arith}
 use Rattle.std.specs.List.{Contains, filter}
-use Rattle.nv_super.specs.Order.{Lists, SortedOf}
-use Rattle.nv_super.proofs.Rising.{Contains-cons, Contains-head, Contains-tail}
+use Rattle.nv_super.specs.Order.{Rises, Lists, SortedOf}
+use Rattle.nv_super.proofs.Rising.{Contains-cons, Contains-head, Contains-tail, head_least, tail_rises, rises_cons}
 
 pub from_filter : {A : Type 0} (p : A → Bool) (xs : List A) (x : A) → Contains (filter p xs) x → Contains xs x × (p x ≡ true)
 from_filter p [] x c = absurd (omega (arith, c.1))
@@ -29,3 +29,11 @@ lists_filter key p Q xs new there back s = record {
   each = λ x c. (let w = from_filter p xs x (s.from x c) in (w.0, there x w.1));
   all = λ x h. s.kept x (into_filter p xs x h.0 (back x h.1));
 }
+
+-- what is left of a rising list rises
+pub rises_filter : {A : Type 0} (key : A → List ℕ) (p : A → Bool) (xs : List A) → Rises key xs → Rises key (filter p xs)
+rises_filter key p [] r = tt
+rises_filter {A} key p (x ∷ xs) r = test (p x) (rises_filter key p xs (tail_rises key x xs r)) where
+  test : (b : Bool) → Rises key (filter p xs) → Rises key (cond b (x ∷ filter p xs) (filter p xs))
+  test true rest = rises_cons key x (filter p xs) (λ y c. head_least key x xs r y (from_filter p xs y c).0) rest
+  test false rest = rest
