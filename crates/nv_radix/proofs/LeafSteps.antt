@@ -1,5 +1,5 @@
 -- What each call on a leaf makes of its pages.
-use Rattle.std.proofs.Common.{◌≡◌, ℕ, ◌+◌, ◌-◌, ◌*◌, ◌/◌, ◌%◌, ◌^◌, ◌<◌, ◌≤◌, Bool, true, false, true≢false, cond, not, eqb, leb, ltb, ◌&&◌, List, [], ◌∷◌, ◌++◌, length, get_or, take, drop, Option, Some, None, refl, ap, sym, ◌∙◌, subst, arith, inl, inr, zero, suc, min, bit_and, append_assoc}
+use Rattle.std.proofs.Common.{◌≡◌, ℕ, ◌+◌, ◌-◌, ◌*◌, ◌/◌, ◌%◌, ◌^◌, ◌<◌, ◌≤◌, Bool, true, false, true≢false, cond, not, eqb, leb, ltb, List, [], ◌∷◌, ◌++◌, length, get_or, take, drop, Option, Some, None, refl, ap, sym, ◌∙◌, subst, arith, inl, inr, suc, bit_and, append_assoc}
 use Rattle.std.specs.Int.{bit_at}
 use Rattle.std.proofs.lemmas.Bool.{cases_lt}
 use Rattle.std.proofs.lemmas.Bool.Decides.{eqb_tells, leb_tells, nat_tests}
@@ -15,7 +15,7 @@ use Rattle.nv_radix.specs.Rising.{Rises}
 use Rattle.nv_radix.specs.Nodes.{leaf_pages, raised}
 use Rattle.nv_radix.proofs.Leaves.{leaf_block, block_at-leaf, block_at-past_leaf, block_at-unset, is_ready-leaf, leaf_pages-append, Rises-leaf_pages}
 use Rattle.nv_radix.proofs.PieceLemmas.{ArePieces-same, ArePieces-skip}
-use Rattle.nv_radix.proofs.Rising.{Rises-append, Rises-higher, block_at-none}
+use Rattle.nv_radix.proofs.Rising.{Rises-append, block_at-none}
 use Rattle.nv_radix.proofs.Rows.{Rises-raised, raised-append, block_at-raised_none}
 
 -- a leaf that isn't empty is ready

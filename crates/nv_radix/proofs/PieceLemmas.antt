@@ -1,5 +1,5 @@
 -- The pieces of a map with one page more.
-use Rattle.std.proofs.Common.{◌≡◌, ℕ, ◌+◌, ◌-◌, ◌<◌, ◌≤◌, length, get_or, take, ◌++◌, List, [], ◌∷◌, Option, Some, None, IsSome, refl, ap, sym, ◌∙◌, subst, arith, zero, suc, add-zero, inl, inr, ◌⊎◌}
+use Rattle.std.proofs.Common.{◌≡◌, ℕ, ◌+◌, ◌-◌, ◌<◌, ◌≤◌, length, get_or, take, ◌++◌, List, [], ◌∷◌, Option, Some, None, IsSome, refl, ap, sym, ◌∙◌, subst, arith, suc, add-zero, inl, inr, ◌⊎◌}
 use Rattle.std.proofs.Math.ListN.{set}
 use Rattle.std.specs.List.{All}
 use Rattle.std.proofs.lemmas.Bool.{cases_order, false≢true}
@@ -9,7 +9,6 @@ use Rattle.nv_radix.specs.declared.piece.Piece.{Piece}
 use Rattle.nv_radix.specs.Pages.{Pages, block_at}
 use Rattle.nv_radix.specs.Pieces.{IsMapped, HasPage, IsApart, AreApart, ArePieces}
 use Rattle.nv_radix.specs.Rising.{Rises}
-use Rattle.nv_radix.proofs.Rising.{Rises-get_or}
 use Rattle.nv_radix.proofs.Mapped.{block_at-push_same, block_at-push_below, block_at-push_above, block_at-push_none, mapped-below}
 
 All-front : {X : Type 0} (P : X → Type 0) (xs : List X) (x : X) → All P (xs ++ x ∷ []) → All P xs

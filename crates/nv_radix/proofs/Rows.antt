@@ -1,15 +1,13 @@
 -- The pages of nodes in a row, by the place of a node and a page of it.
-use Rattle.std.proofs.Common.{◌≡◌, ◌≢◌, ℕ, ◌+◌, ◌-◌, ◌*◌, ◌<◌, ◌≤◌, Bool, true, false, List, [], ◌∷◌, ◌++◌, length, get_or, take, Option, None, refl, ap, sym, ◌∙◌, subst, arith, inl, inr, zero, suc, add-one, append_assoc}
-use Rattle.std.proofs.Math.ListN.{set}
+use Rattle.std.proofs.Common.{◌≡◌, ℕ, ◌+◌, ◌-◌, ◌*◌, ◌<◌, List, [], ◌∷◌, ◌++◌, length, get_or, None, refl, ap, sym, ◌∙◌, subst, arith, inl, inr, zero, suc, append_assoc}
 use Rattle.std.specs.List.{All}
-use Rattle.std.proofs.lemmas.Bool.{cases_lt, cases_eq}
+use Rattle.std.proofs.lemmas.Bool.{cases_lt}
 use Rattle.std.proofs.lemmas.Bool.Decides.{eqb_tells}
-use Rattle.std.proofs.lemmas.List.{get_or-set_same, get_or-set_other, get_or-take, get_or_past, length-take}
-use Rattle.std.proofs.lemmas.List.Elements.{All-tail, All-set}
+use Rattle.std.proofs.lemmas.List.Elements.{All-tail}
 use Rattle.nv_radix.specs.Pages.{Pages, block_at, is_ready}
 use Rattle.nv_radix.specs.Rising.{Rises}
 use Rattle.nv_radix.specs.Nodes.{raised, in_row, IsNode}
-use Rattle.nv_radix.proofs.Rising.{Rises-append, block_at-below, block_at-first, block_at-second, is_ready-first, is_ready-second}
+use Rattle.nv_radix.proofs.Rising.{Rises-append, block_at-first, block_at-second, is_ready-first, is_ready-second}
 
 pub Rises-raised : (by a b : ℕ) (m : Pages) → Rises a b m → Rises (by + a) (by + b) (raised by m)
 Rises-raised by a b [] h = omega (arith, h)

@@ -1,9 +1,7 @@
-use Rattle.std.proofs.Common.{◌≡◌, ℕ, ◌+◌, ◌-◌, ◌<◌, cond, get_or, ap, sym, ◌∙◌, arith, inl, inr, length, w64, bit_or}
-use Rattle.std.specs.Int.{bit_at}
+use Rattle.std.proofs.Common.{◌≡◌, ℕ, ◌+◌, ◌-◌, ◌<◌, ◌∙◌, arith, inl, inr, length, w64}
 use Rattle.std.proofs.lemmas.Bool.{cases_eq}
 use Rattle.std.proofs.lemmas.List.{get_or-set_same, get_or-set_other}
 use Rattle.std.proofs.lemmas.Nat.Bits.{bit_at_set_same, bit_at_set_other}
-use Rattle.nv_radix.specs.Pages.{in_run}
 use Rattle.nv_radix.proofs.LeafSteps.{run_more, in_run-last}
 use Rattle.nv_radix.proofs.leaf.set_places.Goals as goal
 

@@ -1,5 +1,5 @@
-use Rattle.std.proofs.Common.{◌≡◌, ◌≤◌, length, max, ap, sym, ◌∙◌, arith}
-use Rattle.nv_radix.proofs.RowSteps.{IsGrown, IsGrown-none, IsGrown-push}
+use Rattle.std.proofs.Common.{arith}
+use Rattle.nv_radix.proofs.RowSteps.{IsGrown-none, IsGrown-push}
 use Rattle.nv_radix.proofs.root.grow.Goals as goal
 
 pub loop-init : goal.loop-init

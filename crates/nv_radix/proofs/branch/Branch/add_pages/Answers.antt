@@ -1,7 +1,6 @@
-use Rattle.std.proofs.Common.{◌≡◌, ◌+◌, ◌*◌, ◌<◌, ◌≤◌, length, get_or, take, [], ap, subst, ◌∙◌, sym, ◌++◌, arith}
+use Rattle.std.proofs.Common.{◌≡◌, ◌+◌, ◌*◌, ◌<◌, length, get_or, take, [], subst, ◌∙◌, sym, ◌++◌, arith}
 use Rattle.std.proofs.lemmas.List.{take_all, get_or_default}
 use Rattle.std.specs.List.{All}
-use Rattle.nv_radix.specs.Pages.{Pages}
 use Rattle.nv_radix.specs.Nodes.{raised, in_row, IsNode}
 use Rattle.nv_radix.specs.Pieces.{ArePieces}
 use Rattle.nv_radix.proofs.RowSteps.{ArePieces-node}

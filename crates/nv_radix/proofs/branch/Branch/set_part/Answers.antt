@@ -1,8 +1,8 @@
-use Rattle.std.proofs.Common.{◌≡◌, ◌≢◌, ℕ, ◌+◌, ◌-◌, ◌*◌, ◌/◌, ◌%◌, ◌<◌, Bool, Option, Some, true, cond, List, [], get_or, length, refl, ap, sym, ◌∙◌, arith}
+use Rattle.std.proofs.Common.{◌≡◌, ℕ, ◌+◌, ◌-◌, ◌*◌, ◌/◌, ◌%◌, Some, cond, [], get_or, refl, ap, sym, ◌∙◌, arith}
 use Rattle.std.proofs.lemmas.List.{get_or_default, length-set}
 use Rattle.std.proofs.lemmas.List.Elements.{All-set}
 use Rattle.std.proofs.Math.ListN.{set}
-use Rattle.nv_radix.specs.Pages.{Pages, block_at, is_ready, in_run}
+use Rattle.nv_radix.specs.Pages.{is_ready, in_run}
 use Rattle.nv_radix.specs.Nodes.{IsNode}
 use Rattle.nv_radix.proofs.RowSteps.{is_ready-page, ready_place, blocks_by_node, ready_by_node, set_step, set_by_place, IsNode-leaves}
 use Rattle.nv_radix.proofs.branch.Branch.set_part.Goals as goal

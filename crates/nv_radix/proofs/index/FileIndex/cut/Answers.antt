@@ -1,4 +1,4 @@
-use Rattle.std.proofs.Common.{◌≡◌, ◌≢◌, ℕ, ◌+◌, ◌-◌, ◌<◌, ◌≤◌, None, cond, leb, true, false, true≢false, [], refl, ap, sym, ◌∙◌, subst, arith}
+use Rattle.std.proofs.Common.{◌≡◌, ◌+◌, ◌<◌, None, cond, leb, true, true≢false, refl, ap, sym, ◌∙◌, subst, arith}
 use Rattle.nv_radix.specs.Pages.{block_at, is_ready}
 use Rattle.nv_radix.specs.Nodes.{IsNode}
 use Rattle.nv_radix.proofs.Halves.{blocks_by_half, ready_by_half, not_more, leb_behind, cut_low, cut_high, cut_all}

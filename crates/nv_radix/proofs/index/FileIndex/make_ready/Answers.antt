@@ -1,6 +1,5 @@
-use Rattle.std.proofs.Common.{◌≡◌, ℕ, ◌+◌, ◌-◌, ◌/◌, ◌<◌, ◌≤◌, ◌||◌, Bool, true, false, eqb, refl, ap, sym, ◌∙◌, arith, inl, inr}
+use Rattle.std.proofs.Common.{◌≡◌, ◌/◌, ◌||◌, eqb, refl, ap, ◌∙◌}
 use Rattle.std.proofs.lemmas.Result.{on_ok_weaker, on_err_weaker}
-use Rattle.nv_radix.specs.declared.TheConstants.{MAX_FILE_PAGES}
 use Rattle.nv_radix.specs.Pages.{is_ready}
 use Rattle.nv_radix.proofs.Halves.{blocks_by_half, ready_by_half, ready_front, other_front, ready_rest, other_rest, not_beyond}
 use Rattle.nv_radix.proofs.RowSteps.{either_way}

@@ -1,4 +1,4 @@
-use Rattle.std.proofs.Common.{◌≡◌, [], ◌++◌, refl, sym, subst, arith}
+use Rattle.std.proofs.Common.{[], refl, sym, subst, arith}
 use Rattle.nv_radix.specs.Pieces.{ArePieces}
 use Rattle.nv_radix.proofs.OnlyPieces.{ArePieces-only}
 use Rattle.nv_radix.proofs.PieceLemmas.{ArePieces-nil}

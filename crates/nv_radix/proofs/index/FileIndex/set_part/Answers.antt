@@ -1,5 +1,5 @@
-use Rattle.std.proofs.Common.{◌≡◌, ℕ, ◌+◌, ◌-◌, ◌%◌, ◌<◌, ◌≤◌, Some, cond, min, refl, ap, sym, ◌∙◌, arith, inl, inr}
-use Rattle.nv_radix.specs.Pages.{block_at, is_ready, in_run}
+use Rattle.std.proofs.Common.{◌≡◌, ◌+◌, ◌-◌, Some, cond, refl, sym, ◌∙◌, arith, inl, inr}
+use Rattle.nv_radix.specs.Pages.{block_at, in_run}
 use Rattle.nv_radix.proofs.Halves.{is_ready-low, is_ready-high, blocks_by_half, ready_by_half, run_behind, ready_bound}
 use Rattle.nv_radix.proofs.RowSteps.{run_elsewhere}
 use Rattle.nv_radix.proofs.index.FileIndex.set_part.Goals as goal

@@ -1,6 +1,6 @@
-use Rattle.std.proofs.Common.{◌≡◌, ℕ, ◌+◌, ◌-◌, ◌%◌, ◌<◌, ◌≤◌, Some, cond, min, refl, ap, sym, ◌∙◌, arith, inl, inr}
+use Rattle.std.proofs.Common.{◌≡◌, ◌+◌, ◌-◌, Some, cond, refl, ap, ◌∙◌, arith, inl, inr}
 use Rattle.std.proofs.lemmas.Bool.{cases_lt}
-use Rattle.nv_radix.specs.Pages.{block_at, is_ready, in_run}
+use Rattle.nv_radix.specs.Pages.{block_at, in_run}
 use Rattle.nv_radix.proofs.Halves.{no_run, longer_run}
 use Rattle.nv_radix.proofs.index.FileIndex.set_run.Goals as goal
 

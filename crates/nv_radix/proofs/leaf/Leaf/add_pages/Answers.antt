@@ -1,4 +1,4 @@
-use Rattle.std.proofs.Common.{◌≡◌, ◌<◌, ◌≤◌, length, get_or, ap, ◌∙◌, sym, arith}
+use Rattle.std.proofs.Common.{◌≡◌, ◌<◌, length, get_or, ap, ◌∙◌, sym, arith}
 use Rattle.std.proofs.lemmas.Nat.Bits.{shr_and_one}
 use Rattle.nv_radix.proofs.LeafSteps.{ArePieces-rest, ArePieces-set, ArePieces-unset}
 use Rattle.nv_radix.proofs.leaf.Leaf.add_pages.Goals as goal

@@ -1,4 +1,4 @@
-use Rattle.std.proofs.Common.{refl, arith}
+use Rattle.std.proofs.Common.{refl}
 use Rattle.nv_radix.proofs.Leaves.{IsNode-leaf}
 use Rattle.nv_radix.proofs.LeafSteps.{low_bits, leaf_cut, leaf_same_ready}
 use Rattle.nv_radix.proofs.leaf.Leaf.cut.Goals as goal

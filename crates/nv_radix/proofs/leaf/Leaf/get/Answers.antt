@@ -1,5 +1,4 @@
-use Rattle.std.proofs.Common.{◌≡◌, ◌<◌, length, get_or, sym, ◌∙◌, ap, arith}
-use Rattle.std.specs.Int.{bit_at}
+use Rattle.std.proofs.Common.{◌≡◌, get_or, sym, ◌∙◌}
 use Rattle.std.proofs.lemmas.Nat.Bits.{shr_and_one}
 use Rattle.nv_radix.proofs.LeafSteps.{leaf_found, leaf_unset}
 use Rattle.nv_radix.proofs.leaf.Leaf.get.Goals as goal

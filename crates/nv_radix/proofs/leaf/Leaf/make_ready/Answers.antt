@@ -1,5 +1,5 @@
-use Rattle.std.proofs.Common.{◌≡◌, ℕ, ◌<◌, length, sym, ◌∙◌, ap, arith, ltb, inl, inr, true, false, Bool, true≢false}
-use Rattle.std.proofs.lemmas.Bool.Decides.{eqb_tells, nat_tests}
+use Rattle.std.proofs.Common.{◌≡◌, ℕ, ◌<◌, length, ◌∙◌, ap, arith, ltb}
+use Rattle.std.proofs.lemmas.Bool.Decides.{nat_tests}
 use Rattle.nv_radix.proofs.Leaves.{is_ready-leaf, IsNode-leaf}
 use Rattle.nv_radix.proofs.LeafSteps.{made_ready}
 use Rattle.nv_radix.proofs.leaf.Leaf.make_ready.Goals as goal

@@ -1,4 +1,4 @@
-use Rattle.std.proofs.Common.{◌≡◌, length, ◌∙◌, sym, arith}
+use Rattle.std.proofs.Common.{◌≡◌, length, ◌∙◌, arith}
 use Rattle.std.proofs.lemmas.List.{with_items_is}
 use Rattle.nv_radix.proofs.Leaves.{IsNode-leaf}
 use Rattle.nv_radix.proofs.LeafSteps.{leaf_full, leaf_set, leaf_same_ready}

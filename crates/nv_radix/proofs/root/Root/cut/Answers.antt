@@ -1,8 +1,8 @@
-use Rattle.std.proofs.Common.{◌≡◌, ℕ, ◌+◌, ◌*◌, ◌/◌, ◌%◌, ◌<◌, ◌≤◌, ◌⊎◌, None, cond, leb, true, List, [], get_or, take, length, ap, sym, ◌∙◌, arith, inl, inr}
+use Rattle.std.proofs.Common.{◌≡◌, ◌+◌, ◌*◌, ◌/◌, ◌%◌, ◌<◌, ◌≤◌, ◌⊎◌, None, cond, leb, true, [], get_or, take, length, ap, sym, ◌∙◌, arith, inl, inr}
 use Rattle.std.proofs.lemmas.List.{get_or_default, length-set, length-take, length-take-le}
 use Rattle.std.proofs.lemmas.List.Elements.{All-set, All-take}
 use Rattle.std.proofs.Math.ListN.{set}
-use Rattle.nv_radix.specs.Pages.{Pages, block_at, is_ready}
+use Rattle.nv_radix.specs.Pages.{is_ready}
 use Rattle.nv_radix.specs.Nodes.{IsNode}
 use Rattle.nv_radix.proofs.RowSteps.{blocks_by_node, ready_by_node, cut_step, cut_ready_step, cut_no_more_step, part_step, part_ready_step, part_no_more_step, get_or-kept, IsNode-branches}
 use Rattle.nv_radix.proofs.root.Root.cut.Goals as goal

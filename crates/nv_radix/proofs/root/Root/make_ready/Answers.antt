@@ -1,9 +1,9 @@
-use Rattle.std.proofs.Common.{◌≡◌, ℕ, ◌+◌, ◌*◌, ◌/◌, ◌%◌, ◌<◌, ◌≤◌, ◌||◌, eqb, max, List, [], get_or, length, ap, sym, ◌∙◌, arith}
+use Rattle.std.proofs.Common.{◌≡◌, ◌+◌, ◌*◌, ◌/◌, ◌%◌, ◌<◌, ◌||◌, eqb, [], get_or, length, ap, ◌∙◌, arith}
 use Rattle.std.proofs.lemmas.List.{get_or_default, length-set}
 use Rattle.std.proofs.lemmas.List.Elements.{All-set}
 use Rattle.std.proofs.Math.ListN.{set}
 use Rattle.std.proofs.lemmas.Result.{on_ok_weaker, on_err_weaker}
-use Rattle.nv_radix.specs.Pages.{Pages, block_at, is_ready}
+use Rattle.nv_radix.specs.Pages.{block_at, is_ready}
 use Rattle.nv_radix.specs.Nodes.{IsNode}
 use Rattle.nv_radix.proofs.RowSteps.{blocks_by_node, ready_by_node, set_by_place, IsNode-branches, ready_branch, other_branch, on_any_err}
 use Rattle.nv_radix.proofs.root.Root.make_ready.Goals as goal
