@@ -171,27 +171,27 @@ drawn_stands tickets x (t ∷ ns) ticket some = elim (t == x) as (λ b. (t == x)
     | false ↦ c
   ]
 
--- sorted pieces rise where each inode has one at most
-rises_once : (ps : List Piece) → IsNonDecreasingBy (λ (p : Piece). p.inode) ps → ((i : ℕ) → count_by (λ (p : Piece). p.inode == i) ps ≤ 1) → Rises piece_key ps
-rises_once [] h once = tt
-rises_once (x ∷ []) h once = tt
-rises_once (x ∷ y ∷ ps) h once = (below_first x.inode y.inode [] [] less, rises_once (y ∷ ps) (IsNonDecreasingBy-drop (λ (p : Piece). p.inode) 1 (x ∷ y ∷ ps) h) rest) where
-  both : (i : ℕ) → count_by (λ (p : Piece). p.inode == i) (x ∷ y ∷ ps) ≡ cond {A = ℕ} (x.inode == i) 1 0 + (cond {A = ℕ} (y.inode == i) 1 0 + count_by (λ (p : Piece). p.inode == i) ps)
-  both i = count_cons (λ (p : Piece). p.inode == i) x (y ∷ ps) ∙ ap (λ (n : ℕ). cond {A = ℕ} (x.inode == i) 1 0 + n) (count_cons (λ (p : Piece). p.inode == i) y ps)
+-- a sorted list rises where no number stands in it twice
+pub rises_once : {A : Type 0} (n : A → ℕ) (xs : List A) → IsNonDecreasingBy n xs → ((i : ℕ) → count_by (λ x. n x == i) xs ≤ 1) → Rises (λ x. n x ∷ []) xs
+rises_once n [] h once = tt
+rises_once n (x ∷ []) h once = tt
+rises_once {A} n (x ∷ y ∷ xs) h once = (below_first (n x) (n y) [] [] less, rises_once n (y ∷ xs) (IsNonDecreasingBy-drop n 1 (x ∷ y ∷ xs) h) rest) where
+  both : (i : ℕ) → count_by (λ x. n x == i) (x ∷ y ∷ xs) ≡ cond {A = ℕ} (n x == i) 1 0 + (cond {A = ℕ} (n y == i) 1 0 + count_by (λ x. n x == i) xs)
+  both i = count_cons (λ x. n x == i) x (y ∷ xs) ∙ ap (λ (k : ℕ). cond {A = ℕ} (n x == i) 1 0 + k) (count_cons (λ x. n x == i) y xs)
 
-  rest : (i : ℕ) → count_by (λ (p : Piece). p.inode == i) (y ∷ ps) ≤ 1
-  rest i = let all = count_cons (λ (p : Piece). p.inode == i) x (y ∷ ps) in let most = once i in omega (arith, all, most)
+  rest : (i : ℕ) → count_by (λ x. n x == i) (y ∷ xs) ≤ 1
+  rest i = let all = count_cons (λ x. n x == i) x (y ∷ xs) in let most = once i in omega (arith, all, most)
 
-  less : x.inode < y.inode
-  less = elim (cases_lt x.inode y.inode) [
+  less : n x < n y
+  less = elim (cases_lt (n x) (n y)) [
     | inl w ↦ w
     | inr w ↦ absurd (
-        let up : x.inode ≤ y.inode = h 0 1 x (omega arith) (omega arith) in
-        let same : y.inode ≡ x.inode = omega (arith, up, w) in
-        let mine : cond {A = ℕ} (x.inode == x.inode) 1 0 ≡ 1 = ap (λ (b : Bool). cond {A = ℕ} b 1 0) (eq-eqb x.inode x.inode refl) in
-        let its : cond {A = ℕ} (y.inode == x.inode) 1 0 ≡ 1 = ap (λ (b : Bool). cond {A = ℕ} b 1 0) (eq-eqb y.inode x.inode same) in
-        let all = both x.inode in
-        let most = once x.inode in
+        let up : n x ≤ n y = h 0 1 x (omega arith) (omega arith) in
+        let same : n y ≡ n x = omega (arith, up, w) in
+        let mine : cond {A = ℕ} (n x == n x) 1 0 ≡ 1 = ap (λ (b : Bool). cond {A = ℕ} b 1 0) (eq-eqb (n x) (n x) refl) in
+        let its : cond {A = ℕ} (n y == n x) 1 0 ≡ 1 = ap (λ (b : Bool). cond {A = ℕ} b 1 0) (eq-eqb (n y) (n x) same) in
+        let all = both (n x) in
+        let most = once (n x) in
         omega (arith, mine, its, all, most))
   ]
 
@@ -210,7 +210,7 @@ ticket_piece pieces sorted tickets t i moved same number stands =
 pub work_covers : (R : Region) (s : Super) (v : View) (pieces sorted : List Piece) (n : ℕ) → IsLayout s → IsWork R s v pieces → ((x : ℕ) → times x v.numbers ≡ below x n) → ticket_count s ≤ n
     → IsPermutation pieces sorted → IsSortedByKey (λ (p : Piece). p.inode) nat_cmp sorted → ArePieces R (fixed_layout s) sorted × IsPermutation (claims_in sorted) (claims_in pieces)
 work_covers R s v pieces sorted n layout work drawn enough moved up =
-    (pieces_cover R s sorted layout (rises_once sorted (IsNonDecreasingBy-from_sort (λ (p : Piece). p.inode) sorted up) once) each numbers, claims_permute pieces sorted moved) where
+    (pieces_cover R s sorted layout (rises_once (λ (p : Piece). p.inode) sorted (IsNonDecreasingBy-from_sort (λ (p : Piece). p.inode) sorted up) once) each numbers, claims_permute pieces sorted moved) where
       each : (p : Piece) → Contains sorted p → IsPiece R (fixed_layout s) p
       each p c = of_each (IsPiece R (fixed_layout s)) pieces work.each p (Contains-permutation sorted pieces p (IsPermutation-sym pieces sorted moved) c)
 

@@ -1,4 +1,6 @@
 pub mod TwoSets
-pub mod PiecesApart
-pub mod Readings
+pub mod Inodes
+pub mod InOrder
+pub mod Claims
+pub mod Answers
 pub mod Seats

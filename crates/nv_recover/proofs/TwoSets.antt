@@ -1,6 +1,5 @@
 -- The two sets of claims, after one claim more.
-use Rattle.std.proofs.Common.{◌≡◌, ℕ, ◌+◌, ◌/◌, ◌<◌, ◌≢◌, eqb, Bool, true, false, min, List, [], ◌∷◌, ◌++◌, length, cond, refl, ap, ◌∙◌, arith, if◌then◌else◌, replicate, take, get_or, length-set, ◌^◌, ◌%◌}
-use Rattle.std.specs.Prelude.{bit_or}
+use Rattle.std.proofs.Common.{◌≡◌, ℕ, ◌+◌, ◌/◌, ◌<◌, ◌≢◌, eqb, Bool, true, false, min, List, [], ◌∷◌, ◌++◌, length, cond, refl, ap, ◌∙◌, arith, if◌then◌else◌, replicate, take, get_or}
 use Rattle.std.proofs.lemmas.Bool.Decides.{nat_tests}
 use Rattle.std.proofs.lemmas.List.Sums.{sum_by_push}
 use Rattle.std.specs.List.{All}
@@ -12,7 +11,7 @@ use Rattle.nv_blockset.proofs.Sets.{has_same, has_other, has_none, with_block_lo
 use Rattle.nv_super.specs.declared.owners.Owner.{Owner}
 use Rattle.nv_super.specs.Owners.{claims_of}
 use Rattle.nv_outcome.specs.Parts.{AreMaps}
-use Rattle.nv_recover.specs.Reading.{second_after}
+use Rattle.nv_recover.specs.Scanned.{second_after}
 
 -- one claim more of its block
 pub claims_here : (b : ℕ) (claims : List (ℕ × Owner)) (o : Owner) → claims_of b (claims ++ (b, o) ∷ []) ≡ claims_of b claims + 1

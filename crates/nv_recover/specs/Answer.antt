@@ -1,7 +1,9 @@
 -- What a recovery's answer stands for.
+use Rattle.std.specs.Prelude.{◌≡◌, []}
 use Rattle.nv_region.specs.Region.{Region}
 use Rattle.nv_super.specs.Layout.{fixed_layout}
-use Rattle.nv_outcome.specs.Outcome.{Outcome}
+use Rattle.nv_journal.specs.Undo.{undone}
+use Rattle.nv_outcome.specs.Outcome.{Outcome, IsOutcome}
 use Rattle.nv_outcome.specs.Shared.{SharesAll}
 use Rattle.nv_recover.specs.declared.recovered.Recovered.{Recovered}
 
@@ -12,3 +14,10 @@ outcome_of r = record { sup = r.sup; rows = r.rows.items; free = r.free.pools; d
 -- each data block of the region stands in exactly one of the answer's free lists or has exactly one owner
 abbrev pub SharesBlocks : Region → Recovered → Type 0
 SharesBlocks R r = SharesAll R (fixed_layout r.sup) r.free.pools
+
+-- The answer is the old region's outcome, the new region is the old with its journals rolled back, and where nothing is wrong each data block is free or owned, and not both.
+pub record IsAnswer (old new : Region) (r : Recovered) : Type 0 where
+  pub ok : IsOutcome old (outcome_of r)
+  pub rolled_back : new ≡ undone r.sup old
+  pub once : r.faults.items ≡ [] → SharesBlocks new r
+  pub lists : r.free.sup ≡ r.sup

@@ -1,5 +1,6 @@
 pub mod Answer
 pub mod Errors
-pub mod Reading
+pub mod Opened
+pub mod Scanned
 pub mod Workers
 pub mod Behind

@@ -1,54 +1,66 @@
-//! How each recovery ends: rows, claims and sets become the answer.
+//! How each recovery ends: what was scanned becomes the answer.
 
 ghost use Rattle.std.specs.Prelude.{◌≡◌, ◌++◌, IfOk, OnOk, map};
+ghost use Rattle.nv_region.specs.Region.{Region};
 ghost use Rattle.nv_super.specs.Layout.{IsLayout};
+ghost use Rattle.nv_super.specs.Order.{fault_key, SortedOf};
 ghost use Rattle.nv_outcome.specs.Parts.{double_fault};
-ghost use Rattle.nv_recover.specs.Reading.{AreWithin, Cover, IsMade};
+ghost use Rattle.nv_recover.specs.Answer.{IsAnswer};
+ghost use Rattle.nv_recover.specs.Opened.{IsOpened};
+ghost use Rattle.nv_recover.specs.Scanned.{IsScanned, all_told};
 
+use crate::opening::Opened;
 use crate::recovered::Recovered;
-use crate::scanning::Parts;
+use crate::scanned::Scanned;
 use nv_alloc::Allocators;
 use nv_check::doubled;
-use nv_super::{Fault, Owner, Super, sort_faults};
+use nv_super::{Fault, Owner, sort_faults};
 use std::alloc::{AllocError, Global};
-
-/// What is told of the inodes: their parts, what is wrong with the journals, and what is wrong between inodes.
-#[derive(Drop)]
-pub(crate) struct Told {
-    pub parts: Parts,
-    pub journal: Vec<Fault>,
-    pub cross: Vec<Fault>,
-}
 
 /// The answer: the free lists are made of the first set, the doubled blocks are found by the second, and all faults are
 /// put in order.
 pub(crate) fn finish(
     alloc: Global,
-    sup: &Super,
-    told: Told,
-    claims: &[(u64, Owner)],
-    first: &[u64],
-    second: &[u64],
+    opened: Opened,
+    scanned: Scanned,
 ) -> Result<Recovered, AllocError>
-    requires layout { IsLayout sup.now }
-    requires within { AreWithin sup.now claims.now }
-    requires cover { Cover sup.now first.now second.now }
-    ensures { IfOk result (IsMade sup.now told claims.now first.now second.now) }
+    requires layout { IsLayout opened.sup }
+    requires scanned { (R : Region) × IsScanned R opened.sup scanned }
+    ensures { IfOk result (λ r. (old new : Region) → IsOpened old new opened → IsScanned new opened.sup scanned → IsAnswer old new r) }
 {
-    let free = Allocators::from_words(alloc, first, sup)?;
-    let doubled = doubled(alloc, claims, second)?;
-    let mut faults = told.journal;
-    faults.extend_from_slice(&told.parts.faults)?;
-    faults.extend_from_slice(&told.cross)?;
-    push_doubled(&mut faults, &doubled)?;
-    sort_faults(&mut faults);
+    let Opened { sup, journal } = opened;
+    let Scanned {
+        inodes,
+        claimed,
+        cross,
+    } = scanned;
+    let free = Allocators::from_words(alloc, &claimed.first, &sup)?;
+    let doubled = doubled(alloc, &claimed.claims, &claimed.second)?;
+    let faults = all_faults(journal, &inodes.faults, &cross, &doubled)?;
     Ok(Recovered {
-        sup: *sup,
-        rows: told.parts.rows,
+        sup,
+        rows: inodes.rows,
         free,
         doubled,
         faults,
     })
+}
+
+// All faults in order: of the journals, of the inodes by themselves, between them, and of doubled blocks.
+fn all_faults(
+    journal: Vec<Fault>,
+    own: &[Fault],
+    cross: &[Fault],
+    doubled: &[(u64, Owner)],
+) -> Result<Vec<Fault>, AllocError>
+    ensures { IfOk result (λ faults. SortedOf fault_key (all_told journal.items own.now cross.now doubled.now) faults.items) }
+{
+    let mut faults = journal;
+    faults.extend_from_slice(own)?;
+    faults.extend_from_slice(cross)?;
+    push_doubled(&mut faults, doubled)?;
+    sort_faults(&mut faults);
+    Ok(faults)
 }
 
 fn push_doubled(faults: &mut Vec<Fault>, doubled: &[(u64, Owner)]) -> Result<(), AllocError>

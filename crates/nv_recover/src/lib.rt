@@ -11,6 +11,7 @@ mod opening;
 mod parallel;
 mod recovered;
 mod replaying;
+mod scanned;
 mod scanning;
 mod workers;
 

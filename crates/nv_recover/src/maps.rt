@@ -1,38 +1,38 @@
-//! The blocks that are claimed, and those that are claimed twice or more, as sets.
+//! The blocks that are claimed, and those that are claimed twice or more, as sets: block b is bit `b % 64` of word
+//! `b / 64`.
 
 ghost use Rattle.std.specs.Prelude.{◌≡◌, ◌/◌, ◌<◌, ℕ, [], IfOk, length};
 ghost use Rattle.std.specs.List.{All};
 ghost use Rattle.nv_blockset.specs.BlockSet.{with_block};
 ghost use Rattle.nv_super.specs.declared.owners.Owner.{Owner as OwnerValue};
 ghost use Rattle.nv_outcome.specs.Parts.{AreMaps};
-ghost use Rattle.nv_recover.specs.Reading.{AreWithin, Cover, second_after};
+ghost use Rattle.nv_recover.specs.Scanned.{AreWithin, Cover, second_after};
 
 use nv_blockset::{contains, insert, words_for};
+use nv_claimmap::Claimed;
 use nv_super::{Owner, Super};
 use std::alloc::{AllocError, Global};
 
-/// Two sets of blocks.
-#[derive(Drop)]
-pub(crate) struct Maps {
-    pub first: Vec<u64>,
-    pub second: Vec<u64>,
-}
-
-/// The sets of these claims: a block goes into the second where it is in the first already.
-pub(crate) fn maps_of(
+/// These claims and their sets: a block goes into the second where it is in the first already.
+pub(crate) fn claimed_of(
     alloc: Global,
     sup: &Super,
-    claims: &[(u64, Owner)],
-) -> Result<Maps, AllocError>
-    requires within { AreWithin sup.now claims.now }
-    ensures maps { IfOk result (λ maps. AreMaps claims.now maps.first.items maps.second.items) }
-    ensures cover { IfOk result (λ maps. Cover sup.now maps.first.items maps.second.items) }
+    claims: Vec<(u64, Owner)>,
+) -> Result<Claimed, AllocError>
+    requires within { AreWithin sup.now claims.items }
+    ensures claims { IfOk result (λ claimed. claimed.claims ≡ claims) }
+    ensures maps { IfOk result (λ claimed. AreMaps claims.items claimed.first.items claimed.second.items) }
+    ensures cover { IfOk result (λ claimed. Cover sup.now claimed.first.items claimed.second.items) }
 {
     let words = words_for(sup.blocks);
     let mut first = vec![in alloc; 0u64; words]?;
     let mut second = vec![in alloc; 0u64; words]?;
-    fill(&mut first, &mut second, claims);
-    Ok(Maps { first, second })
+    fill(&mut first, &mut second, &claims);
+    Ok(Claimed {
+        first,
+        second,
+        claims,
+    })
 }
 
 // Puts the claims' blocks into sets that are empty.

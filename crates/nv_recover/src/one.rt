@@ -1,6 +1,6 @@
 //! Recovery on one thread.
 
-ghost use Rattle.std.specs.Prelude.{◌≡◌, ◌*◌, ◌≢◌, [], IfOk, IfErr, OnErr, IsTrue};
+ghost use Rattle.std.specs.Prelude.{◌≡◌, ◌*◌, ◌≢◌, List, [], IfOk, IfErr, IsTrue};
 ghost use Rattle.nv_region.specs.Region.{HasBlocks};
 ghost use Rattle.nv_region.specs.Fuses.{KeepsFuse};
 ghost use Rattle.nv_super.specs.Layout.{IsLayout, system_blocks};
@@ -8,22 +8,25 @@ ghost use Rattle.nv_super.specs.Super.{IsSuper};
 ghost use Rattle.nv_super.specs.declared.superblock.Super.{Super as SuperValue};
 ghost use Rattle.nv_journal.specs.Undo.{undone};
 ghost use Rattle.nv_journal.specs.Undone.{AllQuiet};
+ghost use Rattle.nv_scan.specs.Work.{claims_in};
+ghost use Rattle.nv_scan.specs.declared.piece.Piece.{Piece};
 ghost use Rattle.nv_outcome.specs.Outcome.{IsOutcome};
-ghost use Rattle.nv_recover.specs.declared.recovered.RecoverError.{RecoverError as ErrorValue};
 ghost use Rattle.nv_recover.specs.declared.recovered.RecoverError.TheVariants as errors;
 ghost use Rattle.nv_recover.specs.Answer.{outcome_of, SharesBlocks};
 ghost use Rattle.nv_recover.specs.Errors.{Fails, comes_first};
-ghost use Rattle.nv_recover.specs.Reading.{IsReading};
 ghost use Rattle.nv_recover.specs.Behind.{BehindSystem};
+ghost use Rattle.nv_recover.specs.Scanned.{AreInodes, IsScanned};
 
-use crate::finishing::{Told, finish};
-use crate::maps::maps_of;
-use crate::opening::{Opened, open};
+use crate::finishing::finish;
+use crate::maps::claimed_of;
+use crate::opening::open;
 use crate::recovered::{RecoverError, Recovered};
-use crate::scanning::{join_claims, scan_all, split};
+use crate::scanned::{Inodes, Scanned};
+use crate::scanning::scan_next;
 use nv_check::cross_faults_one;
 use nv_region::Pmem;
-use nv_super::{Fault, Super};
+use nv_scan::Scanner;
+use nv_super::{Owner, Super};
 use std::alloc::{AllocError, Global};
 
 /// Recovers a region, damaged or not, on one thread: rolls its journals back, and answers its outcome.
@@ -46,30 +49,43 @@ pub fn recover_one<P: Pmem>(alloc: Global, memory: &mut P) -> Result<Recovered, 
     // A memory that takes stores up to the first data block isn't stopped.
     ensures unstopped { (s : SuperValue) → IsSuper (P.region memory.old) s → IsTrue ((P.fuse memory.old).is_open (4096 * system_blocks s)) → IfErr result (λ e. e ≢ errors.Stopped) }
 {
-    let Opened { sup, journal } = open(alloc, memory)?;
-    Ok(read_region(alloc, &*memory, &sup, journal)?)
+    let opened = open(alloc, memory)?;
+    let scanned = scan_all(alloc, &*memory, &opened.sup)?;
+    Ok(finish(alloc, opened, scanned)?)
 }
 
-// The answer for a region whose journals were rolled back, with their faults.
-fn read_region<P: Pmem>(
+// Scans all inodes. The sets of their claims are made at the end.
+fn scan_all<P: Pmem>(alloc: Global, memory: &P, sup: &Super) -> Result<Scanned, AllocError>
+    requires layout { IsLayout sup.now }
+    requires blocks { HasBlocks (P.region memory.now) sup.now.blocks }
+    ensures { IfOk result (IsScanned (P.region memory.now) sup.now) }
+{
+    let (inodes, claims) = scan_in_order(alloc, memory, sup)?;
+    let claimed = claimed_of(alloc, sup, claims)?;
+    let cross = cross_faults_one(alloc, sup, &inodes.rows)?;
+    Ok(Scanned {
+        inodes,
+        claimed,
+        cross,
+    })
+}
+
+// Scans each inode number, in rising order, and keeps all claims in one list.
+fn scan_in_order<P: Pmem>(
     alloc: Global,
     memory: &P,
     sup: &Super,
-    journal: Vec<Fault>,
-) -> Result<Recovered, AllocError>
+) -> Result<(Inodes, Vec<(u64, Owner)>), AllocError>
     requires layout { IsLayout sup.now }
     requires blocks { HasBlocks (P.region memory.now) sup.now.blocks }
-    ensures { IfOk result (IsReading (P.region memory.now) sup.now journal.items) }
+    ensures { IfOk result (λ r. (pieces : List Piece) × AreInodes (P.region memory.now) sup.now pieces r.0 × (r.1.items ≡ claims_in pieces)) }
 {
-    let pieces = scan_all(alloc, memory, sup)?;
-    let parts = split(alloc, pieces)?;
-    let claims = join_claims(alloc, &parts.claims)?;
-    let maps = maps_of(alloc, sup, &claims)?;
-    let cross = cross_faults_one(alloc, sup, &parts.rows)?;
-    let told = Told {
-        parts,
-        journal,
-        cross,
-    };
-    finish(alloc, sup, told, &claims, &maps.first, &maps.second)
+    let mut scanner = Scanner::new(alloc, sup);
+    let mut inodes = Inodes::new(alloc);
+    let mut claims = Vec::new(alloc);
+    for inode in 1..sup.max_inode() + 1 {
+        let list = scan_next(memory, &mut scanner, &mut inodes, inode)?;
+        claims.extend_from_slice(&list)?;
+    }
+    Ok((inodes, claims))
 }

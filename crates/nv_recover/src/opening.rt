@@ -8,8 +8,8 @@ ghost use Rattle.nv_super.specs.declared.superblock.Super.{Super as SuperValue};
 ghost use Rattle.nv_journal.specs.Undone.{AllQuiet};
 ghost use Rattle.nv_recover.specs.declared.recovered.RecoverError.TheVariants as errors;
 ghost use Rattle.nv_recover.specs.Errors.{Fails, comes_first};
-ghost use Rattle.nv_recover.specs.Reading.{IsOpened};
 ghost use Rattle.nv_recover.specs.Behind.{BehindSystem};
+ghost use Rattle.nv_recover.specs.Opened.{IsOpened};
 
 use crate::recovered::RecoverError;
 use nv_journal::undo;

@@ -12,18 +12,18 @@ ghost use Rattle.nv_outcome.specs.Outcome.{IsOutcome};
 ghost use Rattle.nv_recover.specs.declared.recovered.RecoverError.TheVariants as errors;
 ghost use Rattle.nv_recover.specs.Answer.{outcome_of, SharesBlocks};
 ghost use Rattle.nv_recover.specs.Errors.{Fails, comes_first, IsBadCount};
-ghost use Rattle.nv_recover.specs.Reading.{IsReading};
 ghost use Rattle.nv_recover.specs.Behind.{BehindSystem};
+ghost use Rattle.nv_recover.specs.Scanned.{IsScanned};
 
-use crate::finishing::{Told, finish};
-use crate::opening::{Opened, open};
+use crate::finishing::finish;
+use crate::opening::open;
 use crate::recovered::{RecoverError, Recovered};
-use crate::scanning::split;
+use crate::scanned::Scanned;
 use crate::workers::scan_by_workers;
 use nv_check::cross_faults;
 use nv_region::Pmem;
 use nv_scan::Gate;
-use nv_super::{Fault, Super};
+use nv_super::Super;
 use std::alloc::{AllocError, Global};
 use std::thread::Threads;
 
@@ -59,39 +59,30 @@ pub fn recover<P: Pmem + Sync, G: Gate + Sync, H: Threads + Sync>(
     if !(1..=64).contains(&workers) {
         return Err(RecoverError::Workers);
     }
-    let Opened { sup, journal } = open(alloc, memory)?;
-    Ok(read_by_workers(rt, alloc, &*memory, &sup, journal, workers, gate)?)
+    let opened = open(alloc, memory)?;
+    let scanned = scan_on_threads(rt, alloc, &*memory, &opened.sup, workers, gate)?;
+    Ok(finish(alloc, opened, scanned)?)
 }
 
-// The answer for a region whose journals were rolled back, with their faults.
-fn read_by_workers<P: Pmem + Sync, G: Gate + Sync, H: Threads + Sync>(
+// Scans all inodes by workers, and shares the work between inodes among threads too.
+fn scan_on_threads<P: Pmem + Sync, G: Gate + Sync, H: Threads + Sync>(
     rt: &H,
     alloc: Global,
     memory: &P,
     sup: &Super,
-    journal: Vec<Fault>,
     workers: u64,
     gate: &G,
-) -> Result<Recovered, AllocError>
+) -> Result<Scanned, AllocError>
     requires layout { IsLayout sup.now }
     requires blocks { HasBlocks (P.region memory.now) sup.now.blocks }
     requires workers { (0 < workers) × (workers ≤ 64) }
-    ensures { IfOk result (IsReading (P.region memory.now) sup.now journal.items) }
+    ensures { IfOk result (IsScanned (P.region memory.now) sup.now) }
 {
-    let (pieces, claimed) = scan_by_workers(rt, alloc, memory, sup, workers, gate)?;
-    let parts = split(alloc, pieces)?;
-    let cross = cross_faults(rt, alloc, sup, &parts.rows)?;
-    let told = Told {
-        parts,
-        journal,
+    let (inodes, claimed) = scan_by_workers(rt, alloc, memory, sup, workers, gate)?;
+    let cross = cross_faults(rt, alloc, sup, &inodes.rows)?;
+    Ok(Scanned {
+        inodes,
+        claimed,
         cross,
-    };
-    finish(
-        alloc,
-        sup,
-        told,
-        &claimed.claims,
-        &claimed.first,
-        &claimed.second,
-    )
+    })
 }

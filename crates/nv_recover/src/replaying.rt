@@ -1,6 +1,6 @@
 //! Recovery whose claims are made in a written order, with no thread.
 
-ghost use Rattle.std.specs.Prelude.{◌≡◌, ◌*◌, ◌≢◌, ◌<◌, ℕ, Some, None, [], IfOk, IfErr, IsTrue};
+ghost use Rattle.std.specs.Prelude.{◌≡◌, ◌*◌, ◌≢◌, ◌<◌, ℕ, List, Some, None, [], IfOk, IfErr, IsTrue, map};
 ghost use Rattle.nv_region.specs.Region.{HasBlocks};
 ghost use Rattle.nv_region.specs.Fuses.{KeepsFuse};
 ghost use Rattle.nv_super.specs.Layout.{IsLayout, system_blocks};
@@ -9,21 +9,25 @@ ghost use Rattle.nv_super.specs.declared.superblock.Super.{Super as SuperValue};
 ghost use Rattle.nv_journal.specs.Undo.{undone};
 ghost use Rattle.nv_journal.specs.Undone.{AllQuiet};
 ghost use Rattle.nv_claimcore.specs.Replay.{lists, Inside, first_stranger};
+ghost use Rattle.nv_scan.specs.declared.piece.Piece.{Piece};
 ghost use Rattle.nv_outcome.specs.Outcome.{IsOutcome};
 ghost use Rattle.nv_recover.specs.declared.recovered.RecoverError.TheVariants as errors;
 ghost use Rattle.nv_recover.specs.Answer.{outcome_of, SharesBlocks};
 ghost use Rattle.nv_recover.specs.Errors.{Fails, comes_first, IsBadCount};
-ghost use Rattle.nv_recover.specs.Reading.{IsReading, AreClaimedSets};
 ghost use Rattle.nv_recover.specs.Behind.{BehindSystem};
+ghost use Rattle.nv_recover.specs.Scanned.{AreInodes, IsScanned, AreClaimedSets, claims_of_piece, all_claims};
 
-use crate::finishing::{Told, finish};
-use crate::opening::{Opened, open};
+use crate::finishing::finish;
+use crate::opening::open;
 use crate::recovered::{RecoverError, Recovered};
-use crate::scanning::{join_claims, scan_all, split};
+use crate::scanned::{Inodes, Scanned};
+use crate::scanning::scan_next;
 use nv_check::cross_faults_one;
 use nv_claimcore::{ClaimState, CoreRefusal, replay};
+use nv_claimmap::Claimed;
 use nv_region::Pmem;
-use nv_super::{Fault, Owner, Super};
+use nv_scan::Scanner;
+use nv_super::{Owner, Super};
 use std::alloc::{AllocError, Global};
 
 /// Recovers a region as `recover` does, on one thread: the workers' claims are made in the order of the schedule, of
@@ -60,40 +64,79 @@ pub fn recover_replay<P: Pmem>(
     if let Some(place) = first_stranger(schedule, workers as u32) {
         return Err(RecoverError::Schedule(place));
     }
-    let Opened { sup, journal } = open(alloc, memory)?;
-    Ok(read_by_schedule(alloc, &*memory, &sup, journal, workers as u32, schedule)?)
+    let opened = open(alloc, memory)?;
+    let scanned = scan_by_schedule(alloc, &*memory, &opened.sup, workers as u32, schedule)?;
+    Ok(finish(alloc, opened, scanned)?)
 }
 
-// The answer for a region whose journals were rolled back, with their faults.
-fn read_by_schedule<P: Pmem>(
+// Scans all inodes, and makes their claims in the order of the schedule.
+fn scan_by_schedule<P: Pmem>(
     alloc: Global,
     memory: &P,
     sup: &Super,
-    journal: Vec<Fault>,
     workers: u32,
     schedule: &[u32],
-) -> Result<Recovered, AllocError>
+) -> Result<Scanned, AllocError>
     requires layout { IsLayout sup.now }
     requires blocks { HasBlocks (P.region memory.now) sup.now.blocks }
     requires workers { 0 < workers }
     requires named { first_stranger workers schedule.now ≡ None }
-    ensures { IfOk result (IsReading (P.region memory.now) sup.now journal.items) }
+    ensures { IfOk result (IsScanned (P.region memory.now) sup.now) }
 {
-    let pieces = scan_all(alloc, memory, sup)?;
-    let parts = split(alloc, pieces)?;
-    let state = claim_all(alloc, sup, workers, schedule, &parts.claims)?;
-    let claims = join_claims(alloc, &parts.claims)?;
-    let cross = cross_faults_one(alloc, sup, &parts.rows)?;
-    let told = Told {
-        parts,
-        journal,
+    let (inodes, work) = scan_apart(alloc, memory, sup)?;
+    let claimed = claim_all(alloc, sup, workers, schedule, work)?;
+    let cross = cross_faults_one(alloc, sup, &inodes.rows)?;
+    Ok(Scanned {
+        inodes,
+        claimed,
         cross,
-    };
-    finish(alloc, sup, told, &claims, state.first(), state.second())
+    })
+}
+
+// Scans each inode number, in rising order, and keeps a list of claims for each.
+fn scan_apart<P: Pmem>(
+    alloc: Global,
+    memory: &P,
+    sup: &Super,
+) -> Result<(Inodes, Vec<Vec<(u64, Owner)>>), AllocError>
+    requires layout { IsLayout sup.now }
+    requires blocks { HasBlocks (P.region memory.now) sup.now.blocks }
+    ensures { IfOk result (λ r. (pieces : List Piece) × AreInodes (P.region memory.now) sup.now pieces r.0 × (r.1.items ≡ map claims_of_piece pieces)) }
+{
+    let mut scanner = Scanner::new(alloc, sup);
+    let mut inodes = Inodes::new(alloc);
+    let mut work = Vec::new(alloc);
+    for inode in 1..sup.max_inode() + 1 {
+        let list = scan_next(memory, &mut scanner, &mut inodes, inode)?;
+        work.push(list)?;
+    }
+    Ok((inodes, work))
+}
+
+// The claims of this work, made in the order of the schedule.
+fn claim_all(
+    alloc: Global,
+    sup: &Super,
+    workers: u32,
+    schedule: &[u32],
+    work: Vec<Vec<(u64, Owner)>>,
+) -> Result<Claimed, AllocError>
+    requires workers { 0 < workers }
+    requires named { first_stranger workers schedule.now ≡ None }
+    requires inside { Inside sup.now.blocks (lists work.items) }
+    ensures sets { IfOk result (λ claimed. AreClaimedSets sup.now (lists work.items) claimed.first.items claimed.second.items) }
+    ensures claims { IfOk result (λ claimed. claimed.claims.items ≡ all_claims work.items) }
+{
+    let state = replay_all(alloc, sup, workers, schedule, &work)?;
+    Ok(Claimed {
+        first: state.first().to_vec(alloc)?,
+        second: state.second().to_vec(alloc)?,
+        claims: join_claims(alloc, work)?,
+    })
 }
 
 // The state in which the workers end. Since the schedule names workers alone, the one refusal is of memory.
-fn claim_all(
+fn replay_all(
     alloc: Global,
     sup: &Super,
     workers: u32,
@@ -110,6 +153,17 @@ fn claim_all(
         Err(CoreRefusal::Memory) => Err(AllocError),
         Err(CoreRefusal::NotAllowed { .. }) => unreachable!(),
     }
+}
+
+// All claims in one list. Each list is given back once it is copied.
+fn join_claims(alloc: Global, work: Vec<Vec<(u64, Owner)>>) -> Result<Vec<(u64, Owner)>, AllocError>
+    ensures { IfOk result (λ claims. claims.items ≡ all_claims work.items) }
+{
+    let mut claims = Vec::new(alloc);
+    for list in work {
+        claims.extend_from_slice(&list)?;
+    }
+    Ok(claims)
 }
 
 // The place of the first number that names no worker.

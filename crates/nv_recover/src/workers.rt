@@ -1,13 +1,17 @@
 //! The inodes are scanned by workers on threads of their own, and what they bring is put together.
 
-ghost use Rattle.std.specs.Prelude.{◌≡◌, ◌<◌, ◌≤◌, IfOk, vec_len};
+ghost use Rattle.std.specs.Prelude.{◌≡◌, ◌<◌, ◌≤◌, ◌++◌, List, IfOk, OnOk, false, vec_len};
 ghost use Rattle.std.specs.List.{All};
 ghost use Rattle.nv_region.specs.Region.{HasBlocks};
 ghost use Rattle.nv_super.specs.Layout.{IsLayout};
 ghost use Rattle.nv_claimcore.specs.Claims.{nothing};
 ghost use Rattle.nv_scan.specs.Work.{ticket_count, Returned};
-ghost use Rattle.nv_recover.specs.Workers.{IsScanned, IsBrought};
+ghost use Rattle.nv_scan.specs.declared.piece.Piece.{Piece as PieceValue};
+ghost use Rattle.nv_outcome.specs.Parts.{rows_in, faults_in};
+ghost use Rattle.nv_recover.specs.Scanned.{AreInodes, AreClaimed};
+ghost use Rattle.nv_recover.specs.Workers.{IsBrought};
 
+use crate::scanned::Inodes;
 use nv_claimcore::Sizes;
 use nv_claimmap::{ClaimMap, ClaimSeat, Claimed};
 use nv_region::Pmem;
@@ -17,7 +21,7 @@ use std::alloc::{AllocError, Global};
 use std::thread;
 use std::thread::Threads;
 
-/// The pieces of all inodes, by rising number, and what was claimed for them.
+/// All inodes by themselves, and what was claimed for them.
 pub(crate) fn scan_by_workers<P: Pmem + Sync, G: Gate + Sync, H: Threads + Sync>(
     rt: &H,
     alloc: Global,
@@ -25,11 +29,11 @@ pub(crate) fn scan_by_workers<P: Pmem + Sync, G: Gate + Sync, H: Threads + Sync>
     sup: &Super,
     workers: u64,
     gate: &G,
-) -> Result<(Vec<Piece>, Claimed), AllocError>
+) -> Result<(Inodes, Claimed), AllocError>
     requires layout { IsLayout sup.now }
     requires blocks { HasBlocks (P.region memory.now) sup.now.blocks }
     requires workers { (0 < workers) × (workers ≤ 64) }
-    ensures { IfOk result (λ r. IsScanned (P.region memory.now) sup.now r.0.items r.1) }
+    ensures { IfOk result (λ r. (pieces : List PieceValue) × AreInodes (P.region memory.now) sup.now pieces r.0 × AreClaimed sup.now pieces r.1) }
 {
     let sizes = Sizes {
         blocks: sup.blocks,
@@ -45,21 +49,22 @@ pub(crate) fn scan_by_workers<P: Pmem + Sync, G: Gate + Sync, H: Threads + Sync>
             ensures { Returned (P.region memory.entry.now) sup.entry.now map result }
         { worker(alloc, memory, sup, &map, seat, gate) },
     )?;
-    let mut brought = join_all(memory, sup, &map, results)?;
-    // Each worker's pieces rise, and a stable sort merges what rises already.
-    brought.pieces.sort_by_key(|piece| piece.inode)?;
-    Ok((brought.pieces, map.close(brought.seat)))
+    let mut brought = join_all(alloc, memory, sup, &map, results)?;
+    // Each worker's rows rise, and a stable sort merges what rises already.
+    brought.inodes.rows.sort_by_key(|row| row.inode)?;
+    Ok((brought.inodes, map.close(brought.seat)))
 }
 
-/// What all workers brought: the seat that was joined of theirs, and their pieces, one worker's after another's.
+/// What all workers brought: the seat that was joined of theirs, and their inodes, one worker's after another's.
 #[derive(Drop)]
 pub(crate) struct Brought {
     pub seat: ClaimSeat,
-    pub pieces: Vec<Piece>,
+    pub inodes: Inodes,
 }
 
-// Joins the seats, and moves the pieces together. A refused worker's work isn't whole, so there is no answer then.
+// Joins the seats, and moves what was scanned together.
 fn join_all<P: Pmem>(
+    alloc: Global,
     _memory: &P,
     _sup: &Super,
     map: &ClaimMap,
@@ -72,20 +77,43 @@ fn join_all<P: Pmem>(
     let Some(first) = results.pop() else {
         unreachable!()
     };
-    if first.refused {
-        return Err(AllocError);
-    }
-    let mut seat = first.seat;
-    let mut pieces = first.pieces;
-    while let Some(mut next) = results.pop() {
-        if next.refused {
-            return Err(AllocError);
-        }
-        match map.join(seat, next.seat) {
+    let mut inodes = Inodes::new(alloc);
+    let mut seat = take_apart(&mut inodes, first)?;
+    while let Some(next) = results.pop() {
+        let other = take_apart(&mut inodes, next)?;
+        match map.join(seat, other) {
             Ok(both) => seat = both,
             Err(_) => return Err(AllocError),
         }
-        pieces.append(&mut next.pieces)?;
     }
-    Ok(Brought { seat, pieces })
+    Ok(Brought { seat, inodes })
+}
+
+// Moves what a worker scanned behind what is there, and hands its seat on. A refused worker's work isn't whole, so there
+// is no answer then. The pieces' own claims are the seat's too.
+fn take_apart(inodes: &mut Inodes, work: WorkerResult) -> Result<ClaimSeat, AllocError>
+    ensures whole { IfOk result (λ _. work.refused ≡ false) }
+    ensures seat { IfOk result (λ seat. seat ≡ work.seat) }
+    ensures rows { OnOk result (inodes.new.rows.items ≡ inodes.old.rows.items ++ rows_in work.pieces.items) }
+    ensures faults { OnOk result (inodes.new.faults.items ≡ inodes.old.faults.items ++ faults_in work.pieces.items) }
+{
+    if work.refused {
+        return Err(AllocError);
+    }
+    let WorkerResult {
+        seat,
+        pieces,
+        refused: _,
+    } = work;
+    inodes.rows.reserve(pieces.len())?;
+    for piece in pieces {
+        let Piece {
+            inode: _,
+            row,
+            claims: _,
+            faults,
+        } = piece;
+        inodes.push(row, &faults)?;
+    }
+    Ok(seat)
 }

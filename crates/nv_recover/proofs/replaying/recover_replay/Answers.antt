@@ -1,11 +1,16 @@
-use Rattle.nv_recover.proofs.Readings.{reading_lists, reading_outcome, reading_shares}
 use Rattle.nv_recover.proofs.replaying.recover_replay.Goals as goal
 
+pub finish-requires-clause-scanned : goal.finish-requires-clause-scanned
+finish-requires-clause-scanned g c = (g.P.Pmem.region c.open.new.memory, c.in_ok-scanned.ensures)
+
 pub returns-clause-ok : goal.returns-clause-ok
-returns-clause-ok g c = reading_outcome (g.P.Pmem.region c.args.memory.now) (g.P.Pmem.region c.open.new.memory) c.in_ok-sup.field-0 c.in_ok-read_by_schedule.field-0 c.in_ok-sup.ensures.ok c.in_ok-read_by_schedule.ensures
+returns-clause-ok g c = (c.in_ok-finish.ensures _ _ c.in_ok-opened.ensures.ok c.in_ok-scanned.ensures).ok
+
+pub returns-clause-undone : goal.returns-clause-undone
+returns-clause-undone g c = (c.in_ok-finish.ensures _ _ c.in_ok-opened.ensures.ok c.in_ok-scanned.ensures).rolled_back
 
 pub returns-clause-once : goal.returns-clause-once
-returns-clause-once g c = reading_shares (g.P.Pmem.region c.args.memory.now) (g.P.Pmem.region c.open.new.memory) c.in_ok-sup.field-0 c.in_ok-read_by_schedule.field-0 c.in_ok-sup.ensures.ok c.in_ok-read_by_schedule.ensures
+returns-clause-once g c = (c.in_ok-finish.ensures _ _ c.in_ok-opened.ensures.ok c.in_ok-scanned.ensures).once
 
 pub returns-clause-lists : goal.returns-clause-lists
-returns-clause-lists g c = reading_lists (g.P.Pmem.region c.open.new.memory) c.in_ok-sup.field-0 c.in_ok-read_by_schedule.field-0 c.in_ok-read_by_schedule.ensures
+returns-clause-lists g c = (c.in_ok-finish.ensures _ _ c.in_ok-opened.ensures.ok c.in_ok-scanned.ensures).lists

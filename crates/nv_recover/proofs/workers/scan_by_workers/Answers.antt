@@ -1,4 +1,4 @@
-use Rattle.std.proofs.Common.{◌≡◌, ◌<◌, nat_cmp, ap, sym, ◌∙◌, subst, arith, rules}
+use Rattle.std.proofs.Common.{◌≡◌, ◌<◌, List, nat_cmp, ap, sym, ◌∙◌, subst, arith, rules}
 use Rattle.std.specs.List.{All}
 use Rattle.std.specs.List.Sorted.{IsPermutation, IsSortedByKey}
 use Rattle.std.proofs.lemmas.List.Sorted.{answers_always}
@@ -7,8 +7,9 @@ use Rattle.nv_claimcore.specs.declared.view.Sizes.{Sizes}
 use Rattle.nv_claimcore.proofs.Runs.{all_drawn}
 use Rattle.nv_claimmap.specs.Held.{Held}
 use Rattle.nv_scan.specs.Work.{ticket_count, claims_in}
-use Rattle.nv_scan.specs.declared.piece.Piece.{Piece}
-use Rattle.nv_outcome.proofs.Tickets.{work_covers}
+use Rattle.nv_scan.specs.declared.piece.Row.{Row}
+use Rattle.nv_outcome.specs.Parts.{faults_in}
+use Rattle.nv_recover.proofs.InOrder.{work_in_order}
 use Rattle.nv_recover.proofs.Seats.{fresh_all}
 use Rattle.nv_recover.proofs.workers.scan_by_workers.Goals as goal
 
@@ -32,12 +33,19 @@ returns g c =
     let blocks : c.in_ok-map.map.sizes.blocks ≡ c.args.sup.now.blocks = ap (λ (z : Sizes). z.blocks) c.in_ok-map.ensures.sizes in
     let numbers = c.close.ensures.numbers in
     let past_end : ticket_count s < numbers.0 = all_drawn (ticket_count s) numbers.0 brought.seat.view.numbers numbers.1 is.ended in
-    let sorted : IsSortedByKey (λ (p : Piece). p.inode) nat_cmp c.sort_by_key.new.self.items = c.in_ok-sort_by_key.ensures.sorted (λ (p : Piece). p.inode) (answers_always _ _ _ (λ f a r g h. search rules)) in
-    let covers = work_covers (g.P.Pmem.region c.args.memory.now) s brought.seat.view brought.pieces.items c.sort_by_key.new.self.items numbers.0 c.requires.layout is.work numbers.1 (omega (arith, past_end))
-    c.in_ok-sort_by_key.ensures.permutation sorted in
-    record {
-      pieces_are = covers.0;
-      claimed = subst (IsPermutation (claims_in c.sort_by_key.new.self.items)) (sym (c.close.ensures.claims ∙ is.work.claims)) covers.1;
-      maps = record { once = c.close.ensures.first; twice = c.close.ensures.second };
-      cover = (omega (arith, c.close.ensures.first_words, blocks), omega (arith, c.close.ensures.second_words, blocks));
-    }
+    let rows = c.sort_by_key.new.self.items in
+    let sorted : IsSortedByKey (λ (r : Row). r.inode) nat_cmp c.sort_by_key.new.self.items = c.in_ok-sort_by_key.ensures.sorted (λ (r : Row). r.inode) (answers_always _ _ _ (λ f a r g h. search rules)) in
+    let moved = subst (λ (old : List Row). IsPermutation old c.sort_by_key.new.self.items) is.rows c.in_ok-sort_by_key.ensures.permutation in
+    let order = work_in_order (g.P.Pmem.region c.args.memory.now) s brought.seat.view is.pieces rows numbers.0 c.requires.layout is.work numbers.1 (omega (arith, past_end)) moved sorted in (
+      order.sorted,
+      record {
+        pieces_are = order.pieces_are;
+        rows = order.rows_are;
+        faults = subst (IsPermutation (faults_in order.sorted)) (sym is.faults) order.faults;
+      },
+      record {
+        claimed = subst (IsPermutation (claims_in order.sorted)) (sym (c.close.ensures.claims ∙ is.work.claims)) order.claims;
+        maps = record { once = c.close.ensures.first; twice = c.close.ensures.second };
+        cover = (omega (arith, c.close.ensures.first_words, blocks), omega (arith, c.close.ensures.second_words, blocks));
+      },
+    )

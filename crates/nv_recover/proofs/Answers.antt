@@ -1,0 +1,79 @@
+-- From what was scanned to the outcome.
+use Rattle.std.proofs.Common.{◌≡◌, ℕ, List, ◌++◌, map, ap, sym, ◌∙◌, subst}
+use Rattle.std.specs.List.Sorted.{IsPermutation}
+use Rattle.std.proofs.lemmas.List.Sorted.{Contains-permutation, IsPermutation-sym, IsPermutation-append_left, IsPermutation-append_right}
+use Rattle.nv_region.specs.Region.{Region}
+use Rattle.nv_super.specs.declared.superblock.Super.{Super}
+use Rattle.nv_super.specs.declared.owners.Owner.{Owner}
+use Rattle.nv_super.specs.declared.faults.Fault.{Fault}
+use Rattle.nv_super.specs.Layout.{fixed_layout}
+use Rattle.nv_super.specs.Order.{fault_key, Lists, SortedOf}
+use Rattle.nv_journal.specs.Undo.{undone}
+use Rattle.nv_alloc.specs.FreeLists.{AreOutside}
+use Rattle.nv_scan.specs.declared.piece.Row.{Row}
+use Rattle.nv_check.specs.Cross.{IsCrossFaultIn}
+use Rattle.nv_check.specs.Doubled.{AreDoubled}
+use Rattle.nv_outcome.specs.Outcome.{IsOutcome}
+use Rattle.nv_outcome.specs.Parts.{ArePieces, AreParts, faults_in, double_fault}
+use Rattle.nv_outcome.specs.Shared.{SharesAll}
+use Rattle.nv_outcome.proofs.Whole.{parts_outcome}
+use Rattle.nv_outcome.proofs.Shared.{shares_all}
+use Rattle.nv_recover.specs.declared.opening.Opened.{Opened}
+use Rattle.nv_recover.specs.declared.scanned.Scanned.{Scanned}
+use Rattle.nv_recover.specs.declared.recovered.Recovered.{Recovered}
+use Rattle.nv_recover.specs.Answer.{outcome_of, IsAnswer}
+use Rattle.nv_recover.specs.Opened.{IsOpened}
+use Rattle.nv_recover.specs.Scanned.{IsScanned, all_told}
+
+-- faults that are told in another order are the same in order
+told_otherwise : (journal own others cross : List Fault) (doubled : List (ℕ × Owner)) (faults : List Fault) → IsPermutation others own → SortedOf fault_key (all_told journal own cross doubled) faults → SortedOf fault_key (all_told journal others cross doubled) faults
+told_otherwise journal own others cross doubled faults moved sorted = record {
+  rising = sorted.rising;
+  from = λ f c. Contains-permutation (all_told journal own cross doubled) (all_told journal others cross doubled) f (IsPermutation-sym (all_told journal others cross doubled) (all_told journal own cross doubled) all) (sorted.from f c);
+  kept = λ f c. sorted.kept f (Contains-permutation (all_told journal others cross doubled) (all_told journal own cross doubled) f all c);
+} where
+  all : IsPermutation (all_told journal others cross doubled) (all_told journal own cross doubled)
+  all = IsPermutation-append_right journal (others ++ (cross ++ map double_fault doubled)) (own ++ (cross ++ map double_fault doubled)) (IsPermutation-append_left (cross ++ map double_fault doubled) others own moved)
+
+-- the same, told of what is the same
+pub doubled_same : {claims same : List (ℕ × Owner)} {second covers : List ℕ} {found : List (ℕ × Owner)} → claims ≡ same → second ≡ covers → AreDoubled claims second found → AreDoubled same covers found
+doubled_same {found = found} one two are = subst (λ (z : List (ℕ × Owner) × List ℕ). AreDoubled z.0 z.1 found) (λ i. (one i, two i)) are
+
+pub told_same : (journal : List Fault) {own own' cross cross' faults : List Fault} {doubled doubled' : List (ℕ × Owner)} → own ≡ own' → cross ≡ cross' → doubled ≡ doubled' → SortedOf fault_key (all_told journal own cross doubled) faults → SortedOf fault_key (all_told journal own' cross' doubled') faults
+told_same journal {faults = faults} one two three are = subst (λ (told : List Fault). SortedOf fault_key told faults) (λ i. all_told journal (one i) (two i) (three i)) are
+
+-- What is made of what was scanned: the blocks outside the first set, the claims of the second set, and all faults in order.
+pub record IsMade (o : Opened) (x : Scanned) (r : Recovered) : Type 0 where
+  pub sup : r.sup ≡ o.sup
+  pub rows : r.rows.items ≡ x.inodes.rows.items
+  pub outside : AreOutside x.claimed.first.items o.sup r.free
+  pub owned_twice : AreDoubled x.claimed.claims.items x.claimed.second.items r.doubled.items
+  pub all : SortedOf fault_key (all_told o.journal.items x.inodes.faults.items x.cross.items r.doubled.items) r.faults.items
+
+module _ {old new : Region} {o : Opened} {x : Scanned} {r : Recovered} (opened : IsOpened old new o) (scanned : IsScanned new o.sup x) (made : IsMade o x r) where
+  parts : AreParts old o.sup scanned.pieces x.claimed.claims.items x.claimed.first.items x.claimed.second.items r.free r.doubled.items o.journal.items x.cross.items r.faults.items
+  parts = record {
+    scanned = subst (λ (R : Region). ArePieces R (fixed_layout o.sup) scanned.pieces) opened.rolled_back scanned.inodes.pieces_are;
+    claimed = scanned.claimed.claimed;
+    maps = scanned.claimed.maps;
+    outside = made.outside;
+    owned_twice = made.owned_twice;
+    in_journals = opened.in_journals;
+    between = subst (λ (rows : List Row). Lists fault_key (IsCrossFaultIn rows) x.cross.items) scanned.inodes.rows scanned.cross;
+    all = told_otherwise o.journal.items x.inodes.faults.items (faults_in scanned.pieces) x.cross.items r.doubled.items r.faults.items scanned.inodes.faults made.all;
+  }
+
+  outcome : IsOutcome old (outcome_of r)
+  outcome = subst (λ (s : Super). IsOutcome old (record { sup = s; rows = r.rows.items; free = r.free.pools; doubled = r.doubled.items; faults = r.faults.items })) (sym made.sup)
+      (subst (λ (rows : List Row). IsOutcome old (record { sup = o.sup; rows = rows; free = r.free.pools; doubled = r.doubled.items; faults = r.faults.items })) (sym (made.rows ∙ scanned.inodes.rows)) (parts_outcome opened.sup parts))
+
+  rolled_back : new ≡ undone r.sup old
+  rolled_back = opened.rolled_back ∙ ap (λ (s : Super). undone s old) (sym made.sup)
+
+  pub answer_of : IsAnswer old new r
+  answer_of = record {
+    ok = outcome;
+    rolled_back = rolled_back;
+    once = λ none. subst (λ (R : Region). SharesAll R (fixed_layout r.sup) r.free.pools) (sym rolled_back) (shares_all outcome none);
+    lists = made.outside.sup ∙ sym made.sup;
+  }

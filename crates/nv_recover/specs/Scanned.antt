@@ -1,0 +1,98 @@
+-- What a scan of all inodes gives, whichever way it goes.
+use Rattle.std.specs.Prelude.{◌≡◌, ℕ, ◌*◌, ◌<◌, ◌≤◌, ◌-◌, min, List, [], ◌++◌, length, map, Vec, IsTrue, if◌then◌else◌}
+use Rattle.std.specs.declared.alloc.Global.{Global}
+use Rattle.std.specs.List.{All, AllByRecursion, flat_map, cons_option, range_with_len}
+use Rattle.std.specs.List.Sorted.{IsPermutation}
+use Rattle.nv_blockset.specs.BlockSet.{is_set, has, with_block}
+use Rattle.nv_region.specs.Region.{Region}
+use Rattle.nv_super.specs.declared.superblock.Super.{Super}
+use Rattle.nv_super.specs.declared.owners.Owner.{Owner}
+use Rattle.nv_super.specs.declared.faults.Fault.{Fault}
+use Rattle.nv_super.specs.Layout.{is_number, fixed_layout}
+use Rattle.nv_super.specs.Order.{fault_key, Lists, Rises}
+use Rattle.nv_claimcore.specs.Finished.{works_of}
+use Rattle.nv_claimmap.specs.declared.map.Claimed.{Claimed}
+use Rattle.nv_scan.specs.Rows.{IsPiece}
+use Rattle.nv_scan.specs.Work.{claims_in}
+use Rattle.nv_scan.specs.declared.piece.Row.{Row}
+use Rattle.nv_scan.specs.declared.piece.Piece.{Piece}
+use Rattle.nv_check.specs.Cross.{row_key, IsCrossFaultIn}
+use Rattle.nv_outcome.specs.Parts.{ArePieces, AreMaps, rows_in, faults_in, double_fault}
+use Rattle.nv_recover.specs.declared.scanned.Inodes.{Inodes}
+use Rattle.nv_recover.specs.declared.scanned.Scanned.{Scanned}
+
+-- ---- the inodes by themselves
+
+-- The pieces are those of all inodes of the region; kept are their rows, rising by number, and their faults, in any order.
+pub record AreInodes (R : Region) (s : Super) (pieces : List Piece) (x : Inodes) : Type 0 where
+  pub pieces_are : ArePieces R (fixed_layout s) pieces
+  pub rows : x.rows.items ≡ rows_in pieces
+  pub faults : IsPermutation (faults_in pieces) x.faults.items
+
+-- A piece of this inode: its row and its faults were put behind the others, and its claims are these.
+pub record IsNext (R : Region) (s : Super) (inode : ℕ) (old new : Inodes) (claims : Vec (ℕ × Owner) Global) : Type 0 where
+  pub piece : Piece
+  pub is : IsPiece R (fixed_layout s) piece
+  pub number : piece.inode ≡ inode
+  pub rows : new.rows.items ≡ old.rows.items ++ cons_option piece.row []
+  pub faults : new.faults.items ≡ old.faults.items ++ piece.faults.items
+  pub claims_are : piece.claims ≡ claims
+
+-- The pieces are those of the inodes 1, 2, and so on up to this number, without it; kept are their rows and their faults.
+pub record AreFirst (R : Region) (s : Super) (number : ℕ) (pieces : List Piece) (x : Inodes) : Type 0 where
+  pub order : map (λ (p : Piece). p.inode) pieces ≡ range_with_len 1 (number - 1)
+  pub each : AllByRecursion (IsPiece R (fixed_layout s)) pieces
+  pub rows : x.rows.items ≡ rows_in pieces
+  pub faults : x.faults.items ≡ faults_in pieces
+
+-- Rows that rise by inode, each of a number that an inode can have.
+pub record AreOrdered (s : Super) (rows : List Row) : Type 0 where
+  pub rising : Rises row_key rows
+  pub numbers : All (λ (r : Row). IsTrue (is_number s r.inode)) rows
+
+-- ---- what they claim
+
+-- each claim is of a block of the region
+abbrev pub AreWithin : Super → List (ℕ × Owner) → Type 0
+AreWithin s claims = All (λ (x : ℕ × Owner). x.0 < s.blocks) claims
+
+-- the sets have a bit for each block of the region
+abbrev pub Cover : Super → List ℕ → List ℕ → Type 0
+Cover s first second = (s.blocks ≤ 64 * length first) × (s.blocks ≤ 64 * length second)
+
+-- The claims are those of the pieces, in any order, and the sets are those of the claims, with a bit for each block.
+pub record AreClaimed (s : Super) (pieces : List Piece) (c : Claimed) : Type 0 where
+  pub claimed : IsPermutation (claims_in pieces) c.claims.items
+  pub maps : AreMaps c.claims.items c.first.items c.second.items
+  pub cover : Cover s c.first.items c.second.items
+
+-- the claims of a piece
+abbrev pub claims_of_piece : Piece → Vec (ℕ × Owner) Global
+claims_of_piece p = p.claims
+
+-- the claims in these lists, one list after the other
+abbrev pub all_claims : List (Vec (ℕ × Owner) Global) → List (ℕ × Owner)
+all_claims lists = flat_map (λ (v : Vec (ℕ × Owner) Global). v.items) lists
+
+-- The sets have a bit for each block: in the first are the blocks of this work, in the second those that stand in it twice or more.
+pub record AreClaimedSets (s : Super) (work : List (List (ℕ × Owner))) (first second : List ℕ) : Type 0 where
+  pub cover : Cover s first second
+  pub once : (b : ℕ) → has first b ≡ min 1 (works_of b work)
+  pub twice : (b : ℕ) → has second b ≡ min 1 (works_of b work - 1)
+
+-- the second set after a claim: with the block, where it is in the first set already
+abbrev pub second_after : List ℕ → List ℕ → ℕ → List ℕ
+second_after first second b = if is_set first b then with_block second b else second
+
+-- ---- all of it
+
+-- All inodes of the region by themselves, what they claim, and what is wrong between them.
+pub record IsScanned (R : Region) (s : Super) (x : Scanned) : Type 0 where
+  pub pieces : List Piece
+  pub inodes : AreInodes R s pieces x.inodes
+  pub claimed : AreClaimed s pieces x.claimed
+  pub cross : Lists fault_key (IsCrossFaultIn x.inodes.rows.items) x.cross.items
+
+-- all faults that are told: of the journals, of the inodes, between them, and of doubled blocks
+abbrev pub all_told : List Fault → List Fault → List Fault → List (ℕ × Owner) → List Fault
+all_told journal own cross doubled = journal ++ (own ++ (cross ++ map double_fault doubled))

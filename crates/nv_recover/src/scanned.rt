@@ -1,0 +1,47 @@
+//! What a scan of all inodes gives, whichever way it goes.
+
+ghost use Rattle.std.specs.Prelude.{◌≡◌, ◌++◌, [], OnOk};
+ghost use Rattle.std.specs.List.{cons_option};
+
+use nv_claimmap::Claimed;
+use nv_scan::Row;
+use nv_super::Fault;
+use std::alloc::{AllocError, Global};
+
+/// The inodes by themselves: a row for each that is in use, and what is wrong with each.
+#[derive(Drop)]
+pub(crate) struct Inodes {
+    pub rows: Vec<Row>,
+    pub faults: Vec<Fault>,
+}
+
+impl Inodes {
+    pub fn new(alloc: Global) -> Inodes
+        ensures rows { result.rows.items ≡ [] }
+        ensures faults { result.faults.items ≡ [] }
+    {
+        Inodes {
+            rows: Vec::new(alloc),
+            faults: Vec::new(alloc),
+        }
+    }
+
+    /// Puts what was found of one inode behind what is there.
+    pub fn push(&mut self, row: Option<Row>, faults: &[Fault]) -> Result<(), AllocError>
+        ensures rows { OnOk result (self.new.rows.items ≡ self.old.rows.items ++ cons_option row []) }
+        ensures faults { OnOk result (self.new.faults.items ≡ self.old.faults.items ++ faults.now) }
+    {
+        if let Some(row) = row {
+            self.rows.push(row)?;
+        }
+        self.faults.extend_from_slice(faults)
+    }
+}
+
+/// All inodes by themselves, what they claim, and what is wrong between them.
+#[derive(Drop)]
+pub(crate) struct Scanned {
+    pub inodes: Inodes,
+    pub claimed: Claimed,
+    pub cross: Vec<Fault>,
+}
