@@ -20,7 +20,7 @@ use Rattle.nv_scan.specs.Work.{claims_in}
 use Rattle.nv_scan.specs.declared.piece.Piece.{Piece}
 use Rattle.nv_scan.proofs.Owned.{owned_block}
 use Rattle.nv_outcome.specs.Parts.{ArePieces, AreMaps}
-use Rattle.nv_outcome.proofs.Members.{from_map}
+use Rattle.nv_super.proofs.Members.{from_map}
 use Rattle.nv_outcome.proofs.Pieces.{claimed_owned}
 use Rattle.nv_outcome.proofs.Tickets.{maps_of_work}
 use Rattle.nv_recover.specs.Scanned.{AreWithin, Cover, AreClaimed, AreClaimedSets, claims_of_piece, all_claims}

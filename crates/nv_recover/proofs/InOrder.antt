@@ -18,11 +18,10 @@ use Rattle.nv_scan.specs.Work.{ticket_count, claims_in, IsWork}
 use Rattle.nv_scan.specs.declared.piece.Row.{Row}
 use Rattle.nv_scan.specs.declared.piece.Piece.{Piece}
 use Rattle.nv_outcome.specs.Parts.{ArePieces, rows_in, faults_in}
-use Rattle.nv_outcome.proofs.Members.{tail_rises}
+use Rattle.nv_super.proofs.Rising.{Below, head_least, tail_rises}
 use Rattle.nv_outcome.proofs.Reordered.{flat_map_permutation}
 use Rattle.nv_outcome.proofs.RowsOf.{rows_are}
 use Rattle.nv_outcome.proofs.Tickets.{rises_once, work_covers}
-use Rattle.nv_scan.proofs.Rising.{Below, head_least}
 
 module _ {A : Type 0} (n : A → ℕ) where
   -- ---- a list put in order

@@ -3,4 +3,3 @@ pub mod Inodes
 pub mod InOrder
 pub mod Claims
 pub mod Answers
-pub mod Seats

@@ -10,7 +10,7 @@ use Rattle.nv_scan.specs.Work.{ticket_count, claims_in}
 use Rattle.nv_scan.specs.declared.piece.Row.{Row}
 use Rattle.nv_outcome.specs.Parts.{faults_in}
 use Rattle.nv_recover.proofs.InOrder.{work_in_order}
-use Rattle.nv_recover.proofs.Seats.{fresh_all}
+use Rattle.nv_claimmap.proofs.Seats.{fresh_all}
 use Rattle.nv_recover.proofs.workers.scan_by_workers.Goals as goal
 
 pub map_vec-requires-after_bounds : goal.map_vec-requires-after_bounds
