@@ -8,6 +8,8 @@ set -u
 here=$(cd "$(dirname "${BASH_SOURCE[0]}")/.." && pwd)
 folder=$(mktemp -d)
 trap 'rm -rf "$folder"' EXIT
+# The gate runs what it built as nobody, who has to get through.
+chmod 711 "$folder"
 git clone -q "$here" "$folder/clone" || exit 2
 mkdir "$folder/temporary"
 samples=$folder/samples
@@ -21,7 +23,7 @@ sample() {
             "$folder"/*) ;;
             *) continue ;;
         esac
-        words=$(tr '\0' ' ' <"$process/cmdline" 2>/dev/null) || continue
+        words=$(tr '\0' ' ' 2>/dev/null <"$process/cmdline") || continue
         case "$place $words" in
             */rt-edit-*" "*/rattle" "*) kind=wrong ;;
             *" "*/rattle" "*" --test "*) kind=tests ;;
