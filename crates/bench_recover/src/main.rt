@@ -9,7 +9,7 @@ ghost use Rattle.nv_alloc.specs.Taking.{all_blocks};
 mod entries;
 
 use entries::count_entries;
-use nv_calls::format;
+use nv_format::format;
 use nv_recover::{RecoverError, Recovered, recover, recover_one};
 use nv_region::{MemRegion, RegionRefusal};
 use nv_scan::OpenGate;

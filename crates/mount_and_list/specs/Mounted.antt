@@ -1,7 +1,7 @@
 -- What the program lists.
 use Rattle.std.specs.Prelude.{ℕ, ◌*◌, [], replicate}
 use Rattle.nv_region.specs.Region.{Region}
-use Rattle.nv_calls.specs.Format.{IsFormatted, fresh_super}
+use Rattle.nv_format.specs.Format.{IsFormatted, fresh_super}
 use Rattle.nv_outcome.specs.Outcome.{Outcome, IsOutcome}
 
 -- a region of so many blocks of zeros

@@ -6,7 +6,7 @@ ghost use Rattle.std.specs.Prelude.{IfOk};
 ghost use Rattle.nv_recover.specs.Answer.{outcome_of};
 ghost use Rattle.mount_and_list.specs.Mounted.{IsFreshOutcome};
 
-use nv_calls::{FormatRefusal, format};
+use nv_format::{FormatRefusal, format};
 use nv_recover::{RecoverError, Recovered, recover_one};
 use nv_region::{MemRegion, RegionRefusal};
 use nv_scan::Row;

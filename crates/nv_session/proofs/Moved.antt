@@ -3,7 +3,7 @@ use Rattle.std.proofs.Common.{◌≡◌, ◌⊎◌, inl, inr, ℕ, nat_le, true,
 use Rattle.std.specs.Prelude.{codes}
 use Rattle.std.specs.Option.{MatchOption}
 use Rattle.nv_region.specs.Region.{Region, size, put}
-use Rattle.nv_calls.specs.Format.{IsFormatted, fresh_super}
+use Rattle.nv_format.specs.Format.{IsFormatted, fresh_super}
 use Rattle.nv_recover.specs.Answer.{outcome_of}
 use Rattle.nv_recover.specs.declared.recovered.Recovered.{Recovered}
 use Rattle.nv_text.specs.Answers.{ok_line, refused_line}

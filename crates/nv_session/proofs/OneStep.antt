@@ -4,10 +4,10 @@ use Rattle.std.specs.Prelude.{MatchBool}
 use Rattle.nv_region.specs.Region.{Region}
 use Rattle.nv_super.specs.declared.superblock.SuperFault.{SuperFault}
 use Rattle.nv_journal.specs.Undo.{undone}
-use Rattle.nv_calls.specs.Format as formats
-use Rattle.nv_calls.specs.declared.formatting.FormatRefusal.{FormatRefusal}
-use Rattle.nv_calls.proofs.OneAnswer.{one_refusal, not_prevented}
-use Rattle.nv_calls.proofs.Determined.{formatted_only}
+use Rattle.nv_format.specs.Format as formats
+use Rattle.nv_format.specs.declared.formatting.FormatRefusal.{FormatRefusal}
+use Rattle.nv_format.proofs.OneAnswer.{one_refusal, not_prevented}
+use Rattle.nv_format.proofs.Determined.{formatted_only}
 use Rattle.nv_line.specs.Request.{Request, Format, Time, Poke, Cut, Recover, Replay, Tree, Free, Faults, Report, Peek}
 use Rattle.nv_outcome.specs.Outcome.{Outcome}
 use Rattle.nv_outcome.specs.Same.{SameOutcome}

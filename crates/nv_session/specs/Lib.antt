@@ -3,5 +3,5 @@ pub mod Sessions
 pub mod Made
 pub use Rattle.nv_region.specs.Region
 pub use Rattle.nv_super.specs.Super
-pub use Rattle.nv_calls.specs.Format
+pub use Rattle.nv_format.specs.Format
 pub use Rattle.nv_outcome.specs.Outcome

@@ -5,10 +5,10 @@ use Rattle.nv_super.specs.declared.superblock.SuperFault.{SuperFault}
 use Rattle.nv_super.specs.Super.{IsRefused}
 use Rattle.nv_journal.specs.Undo.{undone}
 use Rattle.nv_outcome.specs.Outcome.{Outcome, IsOutcome}
-use Rattle.nv_calls.specs.Format.{IsFormatRefusal, IsFormatted, fresh_super}
-use Rattle.nv_calls.specs.Format as formats
-use Rattle.nv_calls.specs.declared.formatting.FormatRefusal.{FormatRefusal}
-use Rattle.nv_calls.specs.declared.formatting.FormatRefusal.TheVariants.{Stopped}
+use Rattle.nv_format.specs.Format.{IsFormatRefusal, IsFormatted, fresh_super}
+use Rattle.nv_format.specs.Format as formats
+use Rattle.nv_format.specs.declared.formatting.FormatRefusal.{FormatRefusal}
+use Rattle.nv_format.specs.declared.formatting.FormatRefusal.TheVariants.{Stopped}
 use Rattle.nv_line.specs.Request.{Request, Format, Time, Poke, Cut, Recover, Replay, Tree, Free, Faults, Report, Peek}
 use Rattle.nv_text.specs.Refusals.{super_fault_name}
 use Rattle.nv_text.specs.Answers.{ok_line, refused_line, word_line}

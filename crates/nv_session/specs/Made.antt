@@ -1,8 +1,8 @@
 -- What making a region may answer.
 use Rattle.std.specs.Prelude.{◌≢◌, IsTrue, ℕ}
 use Rattle.nv_region.specs.RegionState.{is_steady}
-use Rattle.nv_calls.specs.Format.{IsFormatRefusal, IsFormatted, fresh_super}
-use Rattle.nv_calls.specs.declared.formatting.FormatRefusal.TheVariants.{Stopped}
+use Rattle.nv_format.specs.Format.{IsFormatRefusal, IsFormatted, fresh_super}
+use Rattle.nv_format.specs.declared.formatting.FormatRefusal.TheVariants.{Stopped}
 use Rattle.nv_session.specs.Machine.{zeros}
 use Rattle.nv_session.specs.declared.making.Made as making
 use Rattle.nv_session.specs.declared.making.Made.TheVariants as made

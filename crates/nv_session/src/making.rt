@@ -6,7 +6,7 @@ ghost use Rattle.nv_region.specs.RegionState.{is_steady};
 ghost use Rattle.nv_session.specs.Machine.{front};
 ghost use Rattle.nv_session.specs.Made.{MayMake};
 
-use nv_calls::{FormatRefusal, format};
+use nv_format::{FormatRefusal, format};
 use nv_region::{MemRegion, RegionRefusal};
 use std::alloc::{AllocError, Global};
 

@@ -2,9 +2,9 @@
 
 ghost use Rattle.std.specs.Prelude.{◌≡◌, IfOk, string_bytes};
 ghost use Rattle.nv_text.specs.Answers.{ok_line, refused_line, word_line};
-ghost use Rattle.nv_calls.specs.Format as formats;
+ghost use Rattle.nv_format.specs.Format as formats;
 
-use nv_calls::FormatRefusal;
+use nv_format::FormatRefusal;
 use nv_text::{push_ok, push_word};
 use std::alloc::{AllocError, Global};
 use std::fmt::Write;

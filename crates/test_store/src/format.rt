@@ -1,7 +1,7 @@
 //! Regions after format: their words, the steps that it takes, and what it refuses.
 
 use crate::small::{Word, assert_words, small_region, word_at};
-use nv_calls::{FormatRefusal, format};
+use nv_format::{FormatRefusal, format};
 use nv_inode::{Slot, read_slot};
 use nv_region::{Fuse, MemRegion, RegionRefusal};
 use nv_super::{MAGIC, Super, SuperFault, read_super};

@@ -1,5 +1,0 @@
-use Rattle.nv_calls.proofs.Determined.{formatted_only}
-use Rattle.nv_calls.proofs.formatting.format_is_determined.Goals as goal
-
-pub returns : goal.returns
-returns c = formatted_only
