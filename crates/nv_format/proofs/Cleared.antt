@@ -8,8 +8,10 @@ use Rattle.nv_super.specs.declared.superblock.Super.{Super}
 use Rattle.nv_super.specs.Layout.{IsLayout, slot_address, inode_limit}
 use Rattle.nv_format.specs.Format.{AnyAt, IsPointer, IsValidWord, IsSystemWord, IsEmptySystem}
 use Rattle.nv_format.proofs.Kept.{zero_stays, kept_at}
-use Rattle.nv_format.proofs.Puts.{AreWords, put_here, four_words, fifth_word, four_long}
-use Rattle.nv_format.proofs.Tables.{no_valid_word, no_pointer, slot_place, place, place_below}
+use Rattle.nv_region.proofs.Puts.{put_here}
+use Rattle.nv_format.proofs.Puts.{AreWords, four_words, fifth_word, four_long}
+use Rattle.nv_inode.proofs.Places.{slot_place, place, place_below}
+use Rattle.nv_format.proofs.Tables.{no_valid_word, no_pointer}
 
 -- a word that is 0 stays so when another is cleared
 pub zero_more : (R S : Region) (at a : ℕ) → IsMixed R (One at 0) S → word R a ≡ 0 → word S a ≡ 0

@@ -10,8 +10,9 @@ use Rattle.nv_super.specs.Super.{IsSuper, Applies, magic}
 use Rattle.nv_inode.specs.Slot.{slot_at}
 use Rattle.nv_format.specs.Format.{AnyAt, IsSystemWord, IsRootWord, HasRoot, IsRootEntry, IsLaidOut, IsFormatted, root_page, root_slot}
 use Rattle.nv_format.proofs.Kept.{kept_at, put_blocks}
-use Rattle.nv_format.proofs.Puts.{put_here, put_other}
-use Rattle.nv_format.proofs.Tables.{slot_from, slot_to, root_below}
+use Rattle.nv_region.proofs.Puts.{put_here, put_other}
+use Rattle.nv_inode.proofs.Places.{slot_from}
+use Rattle.nv_format.proofs.Tables.{slot_to, root_below}
 
 -- the words of a laid-out superblock and the magic are accepted
 accepted : (s : Super) (R : Region) → IsLayout s → HasBlocks R s.blocks → word R 0 ≡ magic → word R 8 ≡ s.version → word R 16 ≡ s.cpus → word R 24 ≡ s.blocks → word R 32 ≡ s.table_blocks → word R 40 ≡ s.state → IsSuper R s

@@ -1,16 +1,7 @@
 -- Words that were put one behind the other.
-use Rattle.std.proofs.Common.{◌≡◌, ◌≢◌, ℕ, ◌+◌, ◌*◌, ◌/◌, ◌<◌, ◌≤◌, length, ◌∙◌, arith, length-set}
-use Rattle.std.proofs.lemmas.List.{get_or-set_same, get_or-set_other}
+use Rattle.std.proofs.Common.{◌≡◌, ℕ, ◌+◌, ◌*◌, ◌≤◌, length, ◌∙◌, arith}
 use Rattle.nv_region.specs.Region.{Region, word, put}
-
-pub put_here : (R : Region) (at value : ℕ) → at / 8 < length R.words → word (put R at value) at ≡ value
-put_here R at value inside = get_or-set_same R.words (at / 8) value 0 inside
-
-pub put_other : (R : Region) (at value a : ℕ) → a / 8 ≢ at / 8 → word (put R at value) a ≡ word R a
-put_other R at value a differ = get_or-set_other R.words (at / 8) (a / 8) value 0 differ
-
-pub put_long : (R : Region) (at value : ℕ) → length (put R at value).words ≡ length R.words
-put_long R at value = length-set R.words (at / 8) value
+use Rattle.nv_region.proofs.Puts.{put_here, put_other, put_long}
 
 -- the words at four addresses, each eight bytes behind the one before
 pub record AreWords (R : Region) (at₀ at₁ at₂ at₃ a b c d : ℕ) : Type 0 where

@@ -6,9 +6,11 @@ use Rattle.nv_region.specs.Stored.{Within}
 use Rattle.nv_super.specs.declared.superblock.Super.{Super}
 use Rattle.nv_super.specs.Layout.{IsLayout, slot_address}
 use Rattle.nv_format.specs.Format.{AnyAt, IsRootWord, IsEmptySystem, HasRoot, IsLaidOut, root_page, attributes_word}
-use Rattle.nv_format.proofs.Kept.{blocks_stay, kept_at, kept_behind, kept_other}
-use Rattle.nv_format.proofs.Puts.{AreWords, four_words, put_here}
-use Rattle.nv_format.proofs.Tables.{slot_whole, slot_to, root_below, no_root_word, other_slot}
+use Rattle.nv_format.proofs.Kept.{kept_at, kept_behind, kept_other}
+use Rattle.nv_region.proofs.Puts.{blocks_stay, put_here}
+use Rattle.nv_format.proofs.Puts.{AreWords, four_words}
+use Rattle.nv_inode.proofs.Places.{slot_aligned}
+use Rattle.nv_format.proofs.Tables.{slot_to, root_below, no_root_word, other_slot}
 
 -- words that were put at four addresses, in a region that is long enough
 pub words_put : (R Q : Region) (at₀ at₁ at₂ at₃ a b c d n : ℕ) → at₁ ≡ at₀ + 8 → at₂ ≡ at₀ + 16 → at₃ ≡ at₀ + 24 → HasBlocks R n → at₀ + 32 ≤ 4096 * n

@@ -10,8 +10,8 @@ use Rattle.nv_super.specs.declared.superblock.SuperFault.TheVariants.{Length, Ma
 use Rattle.nv_super.specs.Layout.{IsLayout}
 use Rattle.nv_super.specs.Super.{Applies, IsRefused, rank, magic}
 use Rattle.nv_format.specs.Format.{AnyAt, IsSystemWord, IsRootWord, IsFormatted, FormatLeaves}
-use Rattle.nv_format.proofs.Kept.{blocks_stay, put_blocks, kept_at}
-use Rattle.nv_format.proofs.Puts.{put_here}
+use Rattle.nv_format.proofs.Kept.{put_blocks, kept_at}
+use Rattle.nv_region.proofs.Puts.{blocks_stay, put_here}
 use Rattle.nv_format.proofs.Tables.{no_pointer, no_valid_word, no_root_word}
 
 -- a region of a right length whose first word is 0 is refused for its magic

@@ -14,7 +14,7 @@ use Rattle.nv_inode.specs.Permitted.{LiesBehind}
 use Rattle.nv_journal.specs.Undone.{AllQuiet}
 use Rattle.nv_journal.specs.Pending.{BeforeOrAfter, Begun, CanUndo, HasRecords, IsEmpty, IsOutside, SameButJournals}
 use Rattle.nv_journal.specs.Recorded.{Two}
-use Rattle.nv_journal.proofs.Stored.{word_put_other}
+use Rattle.nv_region.proofs.Puts.{put_other}
 use Rattle.nv_journal.proofs.Undone.{here, not_here}
 use Rattle.nv_journal.proofs.OneJournal.{undone_quiet, undone_pending}
 
@@ -147,13 +147,13 @@ module _ (permits : ℕ → Bool) (cpus : ℕ) where
         E = put (put (put S first v) second w) (journal cpu) (enqueue (put (put S first v) second w) cpu)
 
         low_put : (at : ℕ) → at < (1 + cpus) * 4096 → word (put (put S first v) second w) at ≡ word S at
-        low_put at low = word_put_other (put S first v) second w at (λ e. omega (arith, e, low, (rule second two).0, (rule second two).1)) ∙ word_put_other S first v at (λ e. omega (arith, e, low, (rule first one).0, (rule first one).1))
+        low_put at low = put_other (put S first v) second w at (λ e. omega (arith, e, low, (rule second two).0, (rule second two).1)) ∙ put_other S first v at (λ e. omega (arith, e, low, (rule first one).0, (rule first one).1))
 
         -- undo gives both words, changed
         emptied_after : (X : Region) → X ≡ put (put (put S first v) second w) (journal cpu) (enqueue (put (put S first v) second w) cpu) → (1 + cpus) * 4096 ≤ 8 * length R.words → SameButJournals cpus (put (put R first v) second w) (undo permits cpus X)
         emptied_after X is long = subst (λ (Y : Region). SameButJournals cpus (put (put R first v) second w) (undo permits cpus Y)) (sym is)
             (undone_is (put (put R first v) second w) E lengths begun.others.same_rest (λ at whole out.
-            undone_quiet permits cpus E at quiet_e ∙ word_put_other After (journal cpu) (enqueue After cpu) at (other at whole out)
+            undone_quiet permits cpus E at quiet_e ∙ put_other After (journal cpu) (enqueue After cpu) at (other at whole out)
             ∙ put_agrees (put R first v) (put S first v) second w at (length-set S.words (first / 8) v ∙ begun.others.as_long ∙ sym (length-set R.words (first / 8) v)) (put_agrees R S first v at begun.others.as_long (out_word at whole out))))
           where
             lengths : length E.words ≡ length (put (put R first v) second w).words
@@ -167,9 +167,9 @@ module _ (permits : ℕ → Bool) (cpus : ℕ) where
             quiet_e j below = elim (cases_eq j cpu) [
               | inl same ↦ (λ sound. ap (λ (k : ℕ). dequeue E k) same
                   ∙ get_or-set_same After.words (journal cpu / 8) (enqueue After cpu) 0 (omega (arith, long, inside, begun.others.as_long, length-set (put S first v).words (second / 8) w, length-set S.words (first / 8) v))
-                  ∙ sym (ap (λ (k : ℕ). enqueue E k) same ∙ word_put_other After (journal cpu) (enqueue After cpu) (journal cpu + 8) (λ e. omega (arith, e))))
-              | inr differs ↦ same_quiet S E j (word_put_other After (journal cpu) (enqueue After cpu) (journal j) (λ e. differs (omega (arith, e))) ∙ low_put (journal j) (omega (arith, below)))
-                  (word_put_other After (journal cpu) (enqueue After cpu) (journal j + 8) (λ e. differs (omega (arith, e))) ∙ low_put (journal j + 8) (omega (arith, below))) (quiet_other j below differs)
+                  ∙ sym (ap (λ (k : ℕ). enqueue E k) same ∙ put_other After (journal cpu) (enqueue After cpu) (journal cpu + 8) (λ e. omega (arith, e))))
+              | inr differs ↦ same_quiet S E j (put_other After (journal cpu) (enqueue After cpu) (journal j) (λ e. differs (omega (arith, e))) ∙ low_put (journal j) (omega (arith, below)))
+                  (put_other After (journal cpu) (enqueue After cpu) (journal j + 8) (λ e. differs (omega (arith, e))) ∙ low_put (journal j + 8) (omega (arith, below))) (quiet_other j below differs)
             ]
 
 module _ (R S X : Region) (cpu first v second w : ℕ) (records : List (ℕ × ℕ)) (begun : Begun R cpu records S)
@@ -189,7 +189,7 @@ module _ (R S X : Region) (cpu first v second w : ℕ) (records : List (ℕ × �
 
   changed_word : (at : ℕ) → at % 8 ≡ 0 → (at < journal cpu) ⊎ (journal cpu + 4096 ≤ at) → word X at ≡ word Old at
   changed_word at whole out =
-      ap (λ (Y : Region). word Y at) is ∙ word_put_other New (journal cpu) (enqueue New cpu) at (other out)
+      ap (λ (Y : Region). word Y at) is ∙ put_other New (journal cpu) (enqueue New cpu) at (other out)
       ∙ put_agrees (put R first v) (put S first v) second w at (length-set S.words (first / 8) v ∙ begun.others.as_long ∙ sym (length-set R.words (first / 8) v))
       (put_agrees R S first v at begun.others.as_long (elim out [ inl low ↦ begun.others.before at whole low | inr high ↦ begun.others.behind at whole high ]))
     where
@@ -211,7 +211,7 @@ module _ (R S X : Region) (cpu first v second w : ℕ) (records : List (ℕ × �
 pub still_small : (S Q : Region) (cpu first v second w : ℕ) (records : List (ℕ × ℕ)) → HasRecords S cpu records → (journal cpu + 4096 ≤ first) × (journal cpu + 4096 ≤ second) → Q ≡ put (put S first v) second w → enqueue Q cpu < 252
 still_small S Q cpu first v second w records has behind is =
     let same : enqueue Q cpu ≡ enqueue S cpu =
-    ap (λ (Y : Region). enqueue Y cpu) is ∙ word_put_other (put S first v) second w (journal cpu + 8) (λ e. omega (arith, e, behind.1)) ∙ word_put_other S first v (journal cpu + 8) (λ e. omega (arith, e, behind.0)) in
+    ap (λ (Y : Region). enqueue Y cpu) is ∙ put_other (put S first v) second w (journal cpu + 8) (λ e. omega (arith, e, behind.1)) ∙ put_other S first v (journal cpu + 8) (λ e. omega (arith, e, behind.0)) in
     let sound = has.sound in
     grind (arith, nat_tests)
 

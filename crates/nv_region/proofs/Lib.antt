@@ -1,5 +1,6 @@
 pub mod Bytes
 pub mod Fuses
+pub mod Puts
 pub mod Stops
 pub mod Wordwise
 pub mod Marks

@@ -1,5 +1,6 @@
 -- What becomes of a memory's fuse: once it has burnt, nothing is stored any more.
-use Rattle.std.specs.Prelude.{Bool, IsTrue, ℕ}
+use Rattle.std.specs.Prelude.{◌≡◌, Bool, true, false, ◌&&◌, not, refl, IsTrue, ℕ}
+use Rattle.std.proofs.Common.{sym}
 
 -- whether it has burnt, and whether it still can
 pub record FuseState : Type 0 where
@@ -27,3 +28,10 @@ pub record KeepsFuse (behind : ℕ → Type 0) (old new : FuseState) : Type 0 wh
   pub burnt : StaysBurnt old.has_burnt new.has_burnt
   pub steady : StaysSteady old.is_steady new.is_steady
   pub stays_open : (limit : ℕ) → behind limit → StaysOpen limit old.is_open new.is_open
+
+-- a memory that takes stores, by a test of its own and because it hasn't burnt, hasn't burnt
+pub not_burnt : (takes burnt : Bool) → (takes && not burnt) ≡ true → burnt ≡ false
+not_burnt true true h = sym h
+not_burnt false true h = sym h
+not_burnt true false h = refl
+not_burnt false false h = refl

@@ -1,8 +1,7 @@
 -- A region over borrowed bytes, as its contracts see it.
-use Rattle.std.specs.Prelude.{◌≡◌, ℕ, Bool, true, false, ◌&&◌, not, nat_le, List, ◌++◌, length, drop, get_or, refl}
-use Rattle.std.proofs.Common.{sym}
+use Rattle.std.specs.Prelude.{◌≡◌, ℕ, Bool, true, false, ◌&&◌, not, nat_le, List, ◌++◌, length, drop, get_or}
 use Rattle.nv_region.specs.Region.{Region}
-use Rattle.nv_region.specs.Fuses.{FuseState}
+use Rattle.nv_region.specs.Fuses.{FuseState, not_burnt}
 
 -- the region as it reads, how many bytes at its front take stores, and whether a store was refused
 pub record ImageState : Type 0 where
@@ -26,12 +25,6 @@ is_open_to m limit = nat_le limit m.front && not m.burnt
 abbrev pub fuse_state : ImageState → FuseState
 fuse_state m = record { has_burnt = m.burnt; is_steady = false; is_open = is_open_to m }
 
-right_of : (a b : Bool) → (a && not b) ≡ true → b ≡ false
-right_of true true h = sym h
-right_of false true h = sym h
-right_of true false h = refl
-right_of false false h = refl
-
 -- a memory that is open up to some address has refused no store
 pub open_not_burnt : (m : ImageState) (limit : ℕ) → is_open_to m limit ≡ true → m.burnt ≡ false
-open_not_burnt m limit = right_of (nat_le limit m.front) m.burnt
+open_not_burnt m limit = not_burnt (nat_le limit m.front) m.burnt

@@ -1,8 +1,7 @@
 -- A region in memory, as its contracts see it.
-use Rattle.std.specs.Prelude.{◌≡◌, ◌⊎◌, ℕ, Bool, true, false, ◌&&◌, not, ◌-◌, ◌==◌, List, get_or, refl}
-use Rattle.std.proofs.Common.{sym}
+use Rattle.std.specs.Prelude.{◌≡◌, ◌⊎◌, ℕ, Bool, true, false, ◌&&◌, not, ◌-◌, ◌==◌, List, get_or}
 use Rattle.nv_region.specs.Region.{Region}
-use Rattle.nv_region.specs.Fuses.{FuseState}
+use Rattle.nv_region.specs.Fuses.{FuseState, not_burnt}
 use Rattle.nv_region.specs.declared.memory.Fuse.{Fuse}
 use Rattle.nv_region.specs.declared.memory.Fuse.TheVariants.{Off, After, At}
 
@@ -50,12 +49,6 @@ is_steady m = is_off m.fuse && not m.burnt
 abbrev pub fuse_state : RegionState → FuseState
 fuse_state m = record { has_burnt = m.burnt; is_steady = is_steady m; is_open = λ limit. is_steady m }
 
-right_of : (a b : Bool) → (a && not b) ≡ true → b ≡ false
-right_of true true h = sym h
-right_of false true h = sym h
-right_of true false h = refl
-right_of false false h = refl
-
 -- a memory without a fuse hasn't burnt
 pub steady_unburnt : (m : RegionState) → is_steady m ≡ true → m.burnt ≡ false
-steady_unburnt m = right_of (is_off m.fuse) m.burnt
+steady_unburnt m = not_burnt (is_off m.fuse) m.burnt

@@ -36,7 +36,7 @@ names_again a b listed same l = let all = names_listed b listed l in record {
 pieces_again : (a b : Pages) (pieces : List Piece) → ((p : ℕ) → block_at b p ≡ block_at a p) → ArePieces b pieces → ArePieces a pieces
 pieces_again a b pieces same are = record {
   some = are.some;
-  mapped = All-weaker (IsMapped b) (IsMapped a) (λ (x : Piece) m. λ j inside. sym (same (x.page + j)) ∙ m j inside) pieces are.mapped;
+  mapped = All-weaker (IsMapped b) (IsMapped a) (λ (x : Extent) m. λ j inside. sym (same (x.page + j)) ∙ m j inside) extents are.mapped;
   whole = λ p some. are.whole p (rw (same p) some);
   apart = are.apart;
 }

@@ -1,6 +1,5 @@
 -- What is put together is the piece of its inode.
-use Rattle.std.proofs.Common.{◌≡◌, ℕ, ◌+◌, ◌*◌, ◌/◌, ◌<◌, ◌⊎◌, inl, inr, Bool, true, false, nat_lt, ◌==◌, List, [], ◌∷◌, ◌++◌, refl, ap, sym, ◌∙◌, subst, Option, Some, None, Result, Ok, Err, slice_get, IsTrue, append-nil, cond, eqb-true, arith}
-use Rattle.std.specs.Result.{IfOk}
+use Rattle.std.proofs.Common.{◌≡◌, ℕ, ◌+◌, ◌*◌, ◌/◌, ◌<◌, ◌⊎◌, inl, inr, Bool, true, false, nat_lt, ◌==◌, List, [], ◌∷◌, ◌++◌, refl, ap, sym, ◌∙◌, subst, Option, Some, None, slice_get, IsTrue, append-nil, cond, eqb-true, arith}
 use Rattle.std.specs.Option.{MatchOption}
 use Rattle.std.specs.List.{Contains, cons_option}
 use Rattle.std.proofs.lemmas.Bool.{true≢false}
@@ -43,11 +42,6 @@ use Rattle.nv_scan.specs.declared.piece.Piece.{Piece}
 use Rattle.nv_scan.specs.declared.reading.Read.{Read}
 use Rattle.nv_scan.proofs.FaultsOnce.{IsOnce-option, IsOnce-more, end_apart, head_apart, inode_apart}
 use Rattle.nv_scan.proofs.Only.{IsInode-only, slot_in_use, kind_in_use, owned_log, owned_page}
-
--- what a value has is what it has by another fact
-pub if_ok : {T E : Type 0} (P Q : T → Type 0) (r : Result T E) → ((v : T) → Q v → P v) → IfOk r Q → IfOk r P
-if_ok P Q (Ok v) h q = h v q
-if_ok P Q (Err e) h q = tt
 
 -- an inode's slot stands in the fixed tables
 pub slot_is : (s : Super) (i : ℕ) → IsLayout s → IsTrue (is_number s i) → slot_of (fixed_layout s) i ≡ Some (slot_address s i)

@@ -1,4 +1,5 @@
 use Rattle.std.proofs.Common.{◌≡◌, ◌+◌, ◌*◌, ℕ, inl, inr, refl, arith, below_more}
+use Rattle.nv_region.proofs.Puts.{blocks_stay}
 use Rattle.nv_region.specs.Region.{word}
 use Rattle.nv_region.specs.Stops.{One}
 use Rattle.nv_region.proofs.Fuses.{keeps_more}

@@ -2,6 +2,9 @@ use Rattle.std.proofs.Common.{◌≡◌, ◌+◌, ◌*◌, ℕ, arith, below_mor
 use Rattle.nv_region.specs.Region.{word}
 use Rattle.nv_region.specs.Stops.{One}
 use Rattle.nv_region.proofs.Fuses.{keeps_more}
+use Rattle.nv_region.proofs.Puts.{blocks_stay}
+use Rattle.nv_super.specs.Layout.{inode_limit}
+use Rattle.nv_inode.specs.Slot.{nth_slot}
 use Rattle.nv_format.specs.Format.{IsValidWord}
 use Rattle.nv_format.proofs.Kept.{blocks_stay}
 use Rattle.nv_format.proofs.Tables.{slot_at_place}

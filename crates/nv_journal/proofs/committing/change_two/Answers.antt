@@ -12,59 +12,44 @@ use Rattle.nv_journal.proofs.Both.{while_begun, while_pending, once_stored, stil
 use Rattle.nv_journal.proofs.committing.change_two.Goals as goal
 
 pub returns-in_err-begin-clause-reads : goal.returns-in_err-begin-clause-reads
-returns-in_err-begin-clause-reads g c permits cpus can =
-    while_begun permits cpus (g.P.Pmem.region c.args.memory.now) c.args.cpu c.args.first c.args.first_value c.args.second c.args.second_value _ _ c.load-old_first.ensures c.load-old_second.ensures can _ c.begin.ensures.reads
+returns-in_err-begin-clause-reads g c permits cpus can = while_begun permits cpus _ c.args.cpu c.args.first c.args.first_value c.args.second c.args.second_value _ _ c.load-old_first.ensures c.load-old_second.ensures can _ c.begin.ensures.reads
 
 pub returns-in_err-begin-clause-any_stop : goal.returns-in_err-begin-clause-any_stop
-returns-in_err-begin-clause-any_stop g c permits cpus can settled left may =
-    while_begun permits cpus (g.P.Pmem.region c.args.memory.now) c.args.cpu c.args.first c.args.first_value c.args.second c.args.second_value _ _ c.load-old_first.ensures c.load-old_second.ensures can left (c.begin.ensures.any_stop settled left may)
+returns-in_err-begin-clause-any_stop g c permits cpus can settled left may = while_begun permits cpus _ c.args.cpu c.args.first c.args.first_value c.args.second c.args.second_value _ _ c.load-old_first.ensures c.load-old_second.ensures can left (c.begin.ensures.any_stop settled left may)
 
 pub returns-in_err-begin-clause-wrote : goal.returns-in_err-begin-clause-wrote
-returns-in_err-begin-clause-wrote g c =
-    stores_within (Changes c.args.cpu c.args.first c.args.first_value c.args.second c.args.second_value) (Within (journal c.args.cpu) 4096) _ _ _ _ (λ i x here. inl here) c.begin.ensures.wrote
+returns-in_err-begin-clause-wrote g c = stores_within (Changes c.args.cpu c.args.first c.args.first_value c.args.second c.args.second_value) (Within (journal c.args.cpu) 4096) _ _ _ _ (λ i x here. inl here) c.begin.ensures.wrote
 
 pub returns-in_err-store_both-clause-reads : goal.returns-in_err-store_both-clause-reads
-returns-in_err-store_both-clause-reads g c permits cpus can =
-    while_pending permits cpus (g.P.Pmem.region c.args.memory.now) c.args.cpu c.args.first c.args.first_value c.args.second c.args.second_value _ _ c.load-old_first.ensures c.load-old_second.ensures can _ c.begin.ensures.reads c.in_ok-begin.ensures.pending _ c.store_both.ensures.wrote.mixed
+returns-in_err-store_both-clause-reads g c permits cpus can = while_pending permits cpus _ c.args.cpu c.args.first c.args.first_value c.args.second c.args.second_value _ _ c.load-old_first.ensures c.load-old_second.ensures can _ c.begin.ensures.reads c.in_ok-begin.ensures.pending _ c.store_both.ensures.wrote.mixed
 
 pub returns-in_err-store_both-clause-any_stop : goal.returns-in_err-store_both-clause-any_stop
 returns-in_err-store_both-clause-any_stop g c permits cpus can settled left may =
-    while_pending permits cpus (g.P.Pmem.region c.args.memory.now) c.args.cpu c.args.first c.args.first_value c.args.second c.args.second_value _ _ c.load-old_first.ensures c.load-old_second.ensures can _ c.begin.ensures.reads c.in_ok-begin.ensures.pending left
+    while_pending permits cpus _ c.args.cpu c.args.first c.args.first_value c.args.second c.args.second_value _ _ c.load-old_first.ensures c.load-old_second.ensures can _ c.begin.ensures.reads c.in_ok-begin.ensures.pending left
     (mixed_left _ _ (Two c.args.first c.args.first_value c.args.second c.args.second_value) _ _ c.store_both.ensures.wrote.mixed.as_long c.store_both.ensures.wrote.mixed.same_rest c.in_ok-begin.ensures.settled c.store_both.ensures.wrote.adds left may)
 
 pub returns-in_err-store_both-clause-wrote : goal.returns-in_err-store_both-clause-wrote
 returns-in_err-store_both-clause-wrote g c =
     let these = Changes c.args.cpu c.args.first c.args.first_value c.args.second c.args.second_value in
-    stores_more these (Two c.args.first c.args.first_value c.args.second c.args.second_value) _ _ _ _ _ _ (λ i x here. inr here)
-    (stores_within these (Within (journal c.args.cpu) 4096) _ _ _ _ (λ i x here. inl here) c.begin.ensures.wrote) c.store_both.ensures.wrote
+    stores_more these (Two c.args.first c.args.first_value c.args.second c.args.second_value) _ _ _ _ _ _ (λ i x here. inr here) (stores_within these (Within (journal c.args.cpu) 4096) _ _ _ _ (λ i x here. inl here) c.begin.ensures.wrote) c.store_both.ensures.wrote
 
 pub returns-clause-reads : goal.returns-clause-reads
-returns-clause-reads g c permits cpus can =
-    once_stored permits cpus (g.P.Pmem.region c.args.memory.now) c.args.cpu c.args.first c.args.first_value c.args.second c.args.second_value _ _ c.load-old_first.ensures c.load-old_second.ensures can _ c.begin.ensures.reads c.in_ok-begin.ensures.pending _ _ c.in_ok-store_both.ensures.done c.store_both.ensures.wrote.mixed c.commit.ensures.reads
+returns-clause-reads g c permits cpus can = once_stored permits cpus _ c.args.cpu c.args.first c.args.first_value c.args.second c.args.second_value _ _ c.load-old_first.ensures c.load-old_second.ensures can _ c.begin.ensures.reads c.in_ok-begin.ensures.pending _ _ c.in_ok-store_both.ensures.done c.store_both.ensures.wrote.mixed c.commit.ensures.reads
 
 pub returns-clause-any_stop : goal.returns-clause-any_stop
-returns-clause-any_stop g c permits cpus can settled left may =
-    once_stored permits cpus (g.P.Pmem.region c.args.memory.now) c.args.cpu c.args.first c.args.first_value c.args.second c.args.second_value _ _ c.load-old_first.ensures c.load-old_second.ensures can _ c.begin.ensures.reads c.in_ok-begin.ensures.pending _ left c.in_ok-store_both.ensures.done c.store_both.ensures.wrote.mixed (c.commit.ensures.any_stop c.in_ok-store_both.ensures.settled left may)
+returns-clause-any_stop g c permits cpus can settled left may = once_stored permits cpus _ c.args.cpu c.args.first c.args.first_value c.args.second c.args.second_value _ _ c.load-old_first.ensures c.load-old_second.ensures can _ c.begin.ensures.reads c.in_ok-begin.ensures.pending _ left c.in_ok-store_both.ensures.done c.store_both.ensures.wrote.mixed (c.commit.ensures.any_stop c.in_ok-store_both.ensures.settled left may)
 
 pub returns-clause-wrote : goal.returns-clause-wrote
 returns-clause-wrote g c =
     let these = Changes c.args.cpu c.args.first c.args.first_value c.args.second c.args.second_value in
-    stores_more these (One (journal c.args.cpu) (enqueue (g.P.Pmem.region c.store_both.new.memory) c.args.cpu)) _ _ _ _ _ _ (λ i x one. inl (within_one (journal c.args.cpu) 4096 (journal c.args.cpu) _ (omega arith) (omega arith) (omega arith) i x one))
-    (stores_more these (Two c.args.first c.args.first_value c.args.second c.args.second_value) _ _ _ _ _ _ (λ i x here. inr here)
-    (stores_within these (Within (journal c.args.cpu) 4096) _ _ _ _ (λ i x here. inl here) c.begin.ensures.wrote) c.store_both.ensures.wrote)
+    stores_more these (One (journal c.args.cpu) (enqueue (g.P.Pmem.region c.store_both.new.memory) c.args.cpu)) _ _ _ _ _ _ (λ i x one. inl (within_one (journal c.args.cpu) 4096 (journal c.args.cpu) _ (omega arith) (omega arith) (omega arith) i x one)) (stores_more these (Two c.args.first c.args.first_value c.args.second c.args.second_value) _ _ _ _ _ _ (λ i x here. inr here) (stores_within these (Within (journal c.args.cpu) 4096) _ _ _ _ (λ i x here. inl here) c.begin.ensures.wrote) c.store_both.ensures.wrote)
     c.commit.ensures.wrote
 
 pub returns-clause-done : goal.returns-clause-done
-returns-clause-done g c =
-    on_ok_weaker c.commit.result
-    (λ done. changed (g.P.Pmem.region c.args.memory.now) (g.P.Pmem.region c.begin.new.memory) _ c.args.cpu c.args.first c.args.first_value c.args.second c.args.second_value _ c.begin.ensures.reads
-    (done ∙ ap (λ (X : Region). put X (journal c.args.cpu) (enqueue X c.args.cpu)) c.in_ok-store_both.ensures.done)) c.commit.ensures.done
+returns-clause-done g c = on_ok_weaker c.commit.result (λ done. changed (g.P.Pmem.region c.args.memory.now) (g.P.Pmem.region c.begin.new.memory) _ c.args.cpu c.args.first c.args.first_value c.args.second c.args.second_value _ c.begin.ensures.reads (done ∙ ap (λ (X : Region). put X (journal c.args.cpu) (enqueue X c.args.cpu)) c.in_ok-store_both.ensures.done)) c.commit.ensures.done
 
 pub returns-clause-empty : goal.returns-clause-empty
-returns-clause-empty g c =
-    on_ok_weaker c.commit.result
-    (λ empty. empty (still_small (g.P.Pmem.region c.begin.new.memory) (g.P.Pmem.region c.store_both.new.memory) c.args.cpu c.args.first c.args.first_value c.args.second c.args.second_value _ c.in_ok-begin.ensures.pending c.requires.behind c.in_ok-store_both.ensures.done))
-    c.commit.ensures.empty
+returns-clause-empty g c = on_ok_weaker c.commit.result (λ empty. empty (still_small (g.P.Pmem.region c.begin.new.memory) (g.P.Pmem.region c.store_both.new.memory) c.args.cpu c.args.first c.args.first_value c.args.second c.args.second_value _ c.in_ok-begin.ensures.pending c.requires.behind c.in_ok-store_both.ensures.done)) c.commit.ensures.empty
 
 pub returns-clause-keeps_fuse : goal.returns-clause-keeps_fuse
 returns-clause-keeps_fuse g c =

@@ -1,7 +1,6 @@
 use Rattle.std.proofs.Common.{inl, inr}
 use Rattle.nv_region.specs.Stops.{One}
-use Rattle.nv_region.proofs.Stops.{fence_none}
-use Rattle.nv_region.proofs.Wordwise.{put_stores, same_stores, stores_more, stores_within}
+use Rattle.nv_region.proofs.Wordwise.{fenced_stores, put_stores, same_stores, stores_more, stores_within}
 use Rattle.nv_journal.specs.Recorded.{Two}
 use Rattle.nv_journal.proofs.committing.store_both.Goals as goal
 
@@ -18,8 +17,8 @@ returns-in_err-store-2-clause-wrote g c =
 pub returns-clause-wrote : goal.returns-clause-wrote
 returns-clause-wrote g c =
     let these = Two c.args.first c.args.first_value c.args.second c.args.second_value in
-    stores_more these these _ _ _ _ _ _ (λ i x one. one)
+    fenced_stores c.fence.result these _ _ _ _ _ _
     (stores_more these (One c.args.second c.args.second_value) _ _ _ _ _ _ (λ i x one. inr one)
     (stores_within these (One c.args.first c.args.first_value) _ _ _ _ (λ i x one. inl one) (put_stores _ _ _ _ _ _ c.in_ok-store.ensures.stored c.in_ok-store.ensures.may_keep))
     (put_stores _ _ _ _ _ _ c.in_ok-store-2.ensures.stored c.in_ok-store-2.ensures.may_keep))
-    (same_stores _ _ _ _ _ c.fence.ensures.same (fence_none c.fence.result _ _ _ _ c.fence.ensures.same c.fence.ensures.fenced c.fence.ensures.refused_keep (g.met.P.Pmem.holds_now _)))
+    c.fence.ensures.same c.fence.ensures.fenced c.fence.ensures.refused_keep (g.met.P.Pmem.holds_now _)

@@ -1,5 +1,5 @@
 use Rattle.std.proofs.Common.{◌≡◌, [], false, IsTrue}
-use Rattle.nv_report.proofs.Results.{on_err}
+use Rattle.std.proofs.lemmas.Result.{on_err_weaker}
 use Rattle.nv_report.proofs.Unstopped.{never_stopped, want_of_memory}
 use Rattle.nv_report.proofs.recovering.recover_region.Goals as goal
 
@@ -12,4 +12,4 @@ returns-in-Err-clause-err g c =
     let said = c.in-Err.ensures in
     let unstopped = never_stopped R (g.P.Pmem.region is) c.args.workers [] c.in-Err.error said.err (g.P.Pmem.fuse was) c.requires.taken
     (λ steady same. let burnt : IsTrue (g.P.Pmem.fuse is).has_burnt = said.stopped same in let still : IsTrue (g.P.Pmem.fuse is).is_steady = said.keeps_fuse.steady steady in let unburnt : (g.P.Pmem.fuse is).has_burnt ≡ false = laws.unburnt is still in cc) said.unstopped in
-    on_err c.refused.result _ _ (want_of_memory R (g.P.Pmem.region is) c.args.workers [] c.in-Err.error said.err unstopped) c.refused.ensures.err
+    on_err_weaker c.refused.result (want_of_memory R (g.P.Pmem.region is) c.args.workers [] c.in-Err.error said.err unstopped) c.refused.ensures.err
