@@ -94,14 +94,14 @@ fn store_log(memory: &mut MemRegion, blocks: u64, entries: u64) -> Result<(), St
 fn read_whole(
     alloc: Global,
     memory: &MemRegion,
-    numbers: &Super,
+    sup: &Super,
     tail: u64,
 ) -> Result<Counts, AllocError>
-    requires areas { HasAreas numbers.now }
-    requires blocks { HasBlocks memory.now.region numbers.now.blocks }
-    requires head { IsTrue (is_page_start numbers.now 12288) }
+    requires areas { HasAreas sup.now }
+    requires blocks { HasBlocks memory.now.region sup.now.blocks }
+    requires head { IsTrue (is_page_start sup.now 12288) }
 {
-    let read = walk(alloc, memory, numbers, HEAD, tail)?;
+    let read = walk(alloc, memory, sup, HEAD, tail)?;
     Ok(Counts {
         pages: read.pages.len(),
         entries: read.entries.len(),
@@ -112,14 +112,14 @@ fn read_whole(
 fn read_by_findings(
     alloc: Global,
     memory: &MemRegion,
-    numbers: &Super,
+    sup: &Super,
     tail: u64,
 ) -> Result<Counts, AllocError>
-    requires areas { HasAreas numbers.now }
-    requires blocks { HasBlocks memory.now.region numbers.now.blocks }
-    requires head { IsTrue (is_page_start numbers.now 12288) }
+    requires areas { HasAreas sup.now }
+    requires blocks { HasBlocks memory.now.region sup.now.blocks }
+    requires head { IsTrue (is_page_start sup.now 12288) }
 {
-    let mut reader = LogReader::new(alloc, numbers, HEAD, tail)?;
+    let mut reader = LogReader::new(alloc, sup, HEAD, tail)?;
     let mut entries: usize = 0;
     'reading: loop {
         match reader.next(memory)? {
@@ -145,21 +145,21 @@ fn measure<R: AllocGlobal + Print + Eprint + Clock>(
     requires most { pages ≤ 200000 }
     requires entries { entries ≤ 126 }
 {
-    let numbers = numbers_of(pages);
-    let Ok(mut memory) = MemRegion::new(rt.alloc(), numbers.blocks) else {
+    let sup = numbers_of(pages);
+    let Ok(mut memory) = MemRegion::new(rt.alloc(), sup.blocks) else {
         return eprintln!(rt; "no memory");
     };
-    if store_log(&mut memory, numbers.blocks, entries).is_err() {
+    if store_log(&mut memory, sup.blocks, entries).is_err() {
         return eprintln!(rt; "stopped");
     }
-    let tail = (numbers.blocks - 1) * 4096 + 32 * entries;
+    let tail = (sup.blocks - 1) * 4096 + 32 * entries;
 
     let start = Instant::now(rt)?;
-    let whole = read_whole(rt.alloc(), &memory, &numbers, tail)?;
+    let whole = read_whole(rt.alloc(), &memory, &sup, tail)?;
     eprintln!(rt; "walk     {:.3}", start.elapsed(rt)?.as_secs_f64())?;
 
     let start = Instant::now(rt)?;
-    let found = read_by_findings(rt.alloc(), &memory, &numbers, tail)?;
+    let found = read_by_findings(rt.alloc(), &memory, &sup, tail)?;
     eprintln!(rt; "findings {:.3}", start.elapsed(rt)?.as_secs_f64())?;
 
     println!(rt;

@@ -6,15 +6,12 @@ ghost use Rattle.nv_stream.specs.Streams.{AppendsFront};
 
 use crate::reason::Reason;
 use nv_cli::{ScriptError, check_region};
-use nv_report::{BadLength, is_region_length};
+use nv_report::{BadLength, LONGEST_REGION, is_region_length};
 use nv_stream::{Contents, Unread, contents_at, write_text};
 use std::io::Write;
 use std::rt::Files;
 use std::thread::Threads;
 use std::{fmt, io};
-
-// The number of bytes of the longest region: 65,536 blocks of 4096 bytes.
-const LONGEST_REGION: usize = 65_536 * 4096;
 
 // The status of an image that is refused.
 const REFUSED_STATUS: u8 = 2;

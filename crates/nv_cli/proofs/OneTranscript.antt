@@ -5,7 +5,7 @@ use Rattle.nv_line.specs.Request.{Request}
 use Rattle.nv_line.specs.Spelling.{Says}
 use Rattle.nv_line.specs.Lines.{IsSkipped, IsBad}
 use Rattle.nv_line.proofs.Grammar.{one_request, skipped_says}
-use Rattle.nv_stream.specs.Lines.{line_limit}
+use Rattle.nv_line.specs.Lines.{line_limit}
 use Rattle.nv_session.specs.Machine.{State, Step}
 use Rattle.nv_session.proofs.OneStep.{IsOne, step_one}
 use Rattle.nv_cli.specs.Script.{Runs, Shows}

@@ -11,15 +11,15 @@ ghost use Rattle.nv_report.specs.Workers.{is_worker_count};
 ghost use Rattle.nv_cli.specs.Checking.{IsCheck, IsRefusal, WritesCheck, EndsCheck, FailsCheck};
 
 use nv_region::{ImageRegion, Pmem, RegionRefusal};
-use nv_report::{Answer, Last, Part, how_it_went, part_text, recover_region, refused_text};
+use nv_report::{
+    Answer, Last, MOST_WORKERS, Part, how_it_went, part_text, recover_region, refused_text,
+};
 use nv_stream::{ScriptError, write_text};
 use nv_super::{SuperFault, read_super};
 use nv_text::Refusal;
 use std::alloc::{AllocError, Global};
 use std::io::Write;
 use std::thread::Threads;
-
-const MOST_WORKERS: u64 = 64;
 
 /// What a check prints, and its exit status.
 #[derive(Drop)]

@@ -6,6 +6,7 @@ use Rattle.nv_region.specs.Stored.{Within, StoresOnly}
 use Rattle.nv_region.proofs.Wordwise.{stores_more}
 use Rattle.nv_super.specs.declared.superblock.Super.{Super}
 use Rattle.nv_super.specs.Layout.{IsLayout, slot_address, inode_limit}
+use Rattle.nv_inode.specs.Slot.{nth_slot}
 use Rattle.nv_format.specs.Format.{AnyAt, IsPointer, IsValidWord, IsSystemWord, IsEmptySystem}
 use Rattle.nv_format.proofs.Kept.{zero_stays, kept_at}
 use Rattle.nv_region.proofs.Puts.{put_here}
@@ -28,7 +29,7 @@ pub clears_more : (places : ℕ → Type 0) (at value : ℕ) (R Q S : Region) (o
 clears_more places at value R Q S old mid new whole here first then = stores_more (AnyAt places) (One at value) R Q S old mid new (one_at places at value whole here) first then
 
 -- the valid words of all slots, by inodes
-pub by_inode : (s : Super) (R : Region) → IsLayout s → ((k : ℕ) → k < inode_limit s → word R ((1 + s.cpus) * 4096 + 128 * k) ≡ 0) → (i : ℕ) → i < inode_limit s → word R (slot_address s i) ≡ 0
+pub by_inode : (s : Super) (R : Region) → IsLayout s → ((k : ℕ) → k < inode_limit s → word R (nth_slot s k) ≡ 0) → (i : ℕ) → i < inode_limit s → word R (slot_address s i) ≡ 0
 by_inode s R layout zeros i below = subst (λ (a : ℕ). word R a ≡ 0) (sym (slot_place s i)) (zeros (place s i) (place_below s i layout below))
 
 -- the superblock's numbers are in their words

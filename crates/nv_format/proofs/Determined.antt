@@ -9,7 +9,7 @@ use Rattle.nv_super.specs.Layout.{slot_address, inode_limit}
 use Rattle.nv_super.specs.Super.{IsSuper, magic}
 use Rattle.nv_inode.specs.declared.slot.Slot.{Slot}
 use Rattle.nv_format.specs.Format.{IsPointer, IsValidWord, IsSystemWord, IsRootWord, IsFormatWord, IsFormatted, FormatIsDetermined, root_page}
-use Rattle.nv_format.proofs.Tables.{slot_whole}
+use Rattle.nv_inode.proofs.Places.{slot_aligned}
 
 -- whether some number below n has a property that can be told
 some_below : (P : ℕ → Type 0) → ((k : ℕ) → P k ⊎ (P k → ⊥)) → (n : ℕ) → ((k : ℕ) × (k < n) × P k) ⊎ ((k : ℕ) → k < n → P k → ⊥)
@@ -128,7 +128,7 @@ module _ (old new other : Region) (s : Super) (time : ℕ) (one : IsFormatted ol
 
   root : (a : ℕ) → a % 8 ≡ 0 → IsRootWord s a → Same a
   root a whole found = elim found [
-    | inl range ↦ slot a (one_of (slot_address s 1) a (slot_whole s 1) whole range.0 range.1)
+    | inl range ↦ slot a (one_of (slot_address s 1) a (slot_aligned s 1) whole range.0 range.1)
     | inr range ↦ (let to = range.1 in entry a to (one_of (root_page s) a (omega arith) whole range.0 (omega (arith, to))))
   ]
 

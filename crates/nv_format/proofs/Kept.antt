@@ -1,5 +1,5 @@
 -- What stays where only some words were stored.
-use Rattle.std.proofs.Common.{◌≡◌, ◌≢◌, inl, inr, ℕ, ◌+◌, ◌*◌, ◌/◌, ◌%◌, ◌<◌, ◌≤◌, length, get_or, ap, ◌∙◌, subst, arith, length-set}
+use Rattle.std.proofs.Common.{◌≡◌, ◌≢◌, inl, inr, ℕ, ◌+◌, ◌*◌, ◌/◌, ◌%◌, ◌<◌, ◌≤◌, length, get_or, ◌∙◌, subst, arith, length-set}
 use Rattle.std.proofs.lemmas.List.{get_or_past}
 use Rattle.std.proofs.lemmas.Bool.{cases_lt}
 use Rattle.nv_region.specs.Region.{Region, HasBlocks, word, put}
@@ -7,9 +7,6 @@ use Rattle.nv_region.specs.Stops.{Choices, IsMixed, One}
 use Rattle.nv_region.specs.Stored.{Within}
 use Rattle.nv_region.proofs.Wordwise.{mixed_word}
 use Rattle.nv_format.specs.Format.{AnyAt}
-
-pub blocks_stay : (R S : Region) (these : Choices) (n : ℕ) → IsMixed R these S → HasBlocks R n → HasBlocks S n
-blocks_stay R S these n mixed blocks = (mixed.as_long ∙ blocks.0, ap length mixed.same_rest ∙ blocks.1)
 
 pub put_blocks : (R : Region) (at value n : ℕ) → HasBlocks R n → HasBlocks (put R at value) n
 put_blocks R at value n blocks = (length-set R.words (at / 8) value ∙ blocks.0, blocks.1)

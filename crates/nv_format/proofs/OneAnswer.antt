@@ -1,9 +1,9 @@
 -- Format has one answer: a region that was formatted isn't refused, and a refusal is the only one.
-use Rattle.std.proofs.Common.{◌≡◌, ◌≢◌, ◌⊎◌, inl, inr, ℕ, ◌*◌, ◌+◌, ◌/◌, ◌%◌, ◌<◌, length, refl, ap, sym, ◌∙◌, subst, arith}
+use Rattle.std.proofs.Common.{◌≡◌, ◌≢◌, ◌⊎◌, inl, inr, ℕ, ◌*◌, ◌+◌, ◌/◌, ◌%◌, ◌<◌, length, refl, sym, subst, arith}
 use Rattle.std.specs.Prelude.{◌==◌, if◌then◌else◌}
-use Rattle.std.proofs.lemmas.Bool.{cases_lt}
 use Rattle.nv_region.specs.Region.{Region, size}
 use Rattle.nv_super.specs.Layout.{most_blocks}
+use Rattle.nv_super.proofs.First.{one_first}
 use Rattle.nv_super.specs.declared.superblock.SuperFault.TheVariants as faults
 use Rattle.nv_format.specs.Format.{Prevents, rank, IsFormatRefusal, IsFormatted, fresh_super}
 use Rattle.nv_format.specs.declared.formatting.FormatRefusal.{FormatRefusal}
@@ -20,13 +20,7 @@ refusal_back Stopped = refl
 
 -- the first refusal that applies is one
 pub one_refusal : (R : Region) (cpus tables : ℕ) (a b : FormatRefusal) → IsFormatRefusal R cpus tables a → IsFormatRefusal R cpus tables b → a ≡ b
-one_refusal R cpus tables a b p q = elim (cases_lt (rank a) (rank b)) [
-  | inl less ↦ absurd (q.first a less p.applies)
-  | inr more ↦ elim (cases_lt (rank b) (rank a)) [
-    | inl less ↦ absurd (p.first b less q.applies)
-    | inr other ↦ (let same : rank a ≡ rank b = omega (arith, more, other) in sym (refusal_back a) ∙ ap refusal_at same ∙ refusal_back b)
-  ]
-]
+one_refusal R cpus tables a b p q = one_first rank refusal_at refusal_back (Prevents R cpus tables) a b p.applies p.first q.applies q.first
 
 module _ {old new : Region} {cpus tables time : ℕ} (is : IsFormatted old new (fresh_super old cpus tables) time) where
   as_large : size old ≡ size new

@@ -22,8 +22,8 @@ module _ (s : Super) (time : ℕ) (layout : IsLayout s) where
   to_page : slot_address s 1 + 128 ≤ root_page s
   to_page = slot_to s 1 layout (root_below s layout)
 
-  slot_aligned : slot_address s 1 % 8 ≡ 0
-  slot_aligned = slot_whole s 1
+  root_aligned : slot_address s 1 % 8 ≡ 0
+  root_aligned = slot_aligned s 1
 
   pub page_inside : root_page s + 32 ≤ 4096 * s.blocks
   page_inside = let room = layout.areas.room in omega arith
@@ -48,12 +48,12 @@ module _ (s : Super) (time : ℕ) (layout : IsLayout s) where
           (put_here Q (slot_address s 1) 1 (let size = blocks.0 in let page = page_inside in let to = to_page in omega (arith, size, page, to)))
 
       later : (k : ℕ) → k % 8 ≡ 0 → 0 < k → word S (slot_address s 1 + k) ≡ word Q (slot_address s 1 + k)
-      later k whole above = let at = slot_aligned in kept_other Q S (slot_address s 1) 1 (slot_address s 1 + k) slot_aligned (omega (arith, at, whole)) (λ e. omega (arith, e, above)) then
+      later k whole above = let at = root_aligned in kept_other Q S (slot_address s 1) 1 (slot_address s 1 + k) root_aligned (omega (arith, at, whole)) (λ e. omega (arith, e, above)) then
 
       behind : (a : ℕ) → a % 8 ≡ 0 → root_page s ≤ a → word S a ≡ word R a
       behind a whole from =
           let to = to_page in
-          kept_other Q S (slot_address s 1) 1 a slot_aligned whole (λ e. omega (arith, e, from, to)) then
+          kept_other Q S (slot_address s 1) 1 a root_aligned whole (λ e. omega (arith, e, from, to)) then
           ∙ kept_behind R Q (slot_address s 1 + 8) 32 a whole (omega (arith, from, to)) first
 
   -- the same, as the stores come
@@ -85,7 +85,7 @@ module _ (s : Super) (time : ℕ) (layout : IsLayout s) where
   slot_words i x within = let from = within.0 in let to = within.1 in inl (omega (arith, from), omega (arith, to))
 
   pub valid_word : (at i x : ℕ) → at ≡ slot_address s 1 → One at 1 i x → AnyAt (IsRootWord s) i x
-  valid_word at i x same one = let whole = slot_aligned in let is = one.0 in inl (omega (arith, whole, is, same), omega (arith, whole, is, same))
+  valid_word at i x same one = let whole = root_aligned in let is = one.0 in inl (omega (arith, whole, is, same), omega (arith, whole, is, same))
 
   -- the root over a system without inodes
   pub laid_out : (R S : Region) → IsEmptySystem R s → IsMixed R (AnyAt (IsRootWord s)) S → HasRoot S s time → IsLaidOut S s time
@@ -99,7 +99,7 @@ module _ (s : Super) (time : ℕ) (layout : IsLayout s) where
       journal (4096 * (1 + cpu)) (omega arith) (omega arith) ∙ (system.journals cpu below).0,
       journal (4096 * (1 + cpu) + 8) (omega arith) (omega arith) ∙ (system.journals cpu below).1,
     );
-    unused = λ i below differ. kept_at R S (IsRootWord s) (slot_address s i) (slot_whole s i) (other_slot s i layout below differ) mixed ∙ system.unused i below;
+    unused = λ i below differ. kept_at R S (IsRootWord s) (slot_address s i) (slot_aligned s i) (other_slot s i layout below differ) mixed ∙ system.unused i below;
     root = root;
   }
     where

@@ -9,10 +9,9 @@ ghost use Rattle.nv_region.specs.Stored.{StoresOnly};
 ghost use Rattle.nv_super.specs.Layout.{IsLayout, inode_limit, slot_address, system_blocks};
 ghost use Rattle.nv_format.specs.Format.{AnyAt, IsPointer, IsValidWord, IsSystemWord, IsEmptySystem};
 
+use nv_inode::nth_slot;
 use nv_region::{Pmem, Stopped, store_word};
 use nv_super::{BLOCK_SIZE, Super, write_super};
-
-const SLOT_SIZE: u64 = 128;
 
 /// Stores the superblock's numbers but not the magic, empties the journals, and puts no slot in use. Nothing is fenced.
 pub fn clear_system<P: Pmem>(memory: &mut P, sup: &Super) -> Result<(), Stopped>
@@ -47,8 +46,7 @@ fn clear_journals<P: Pmem>(memory: &mut P, sup: &Super) -> Result<(), Stopped>
     Ok(())
 }
 
-/// Stores 0 in the valid word of each slot, that of number 0 too, which no inode has. The tables of all CPUs are one
-/// area behind the journals.
+/// Stores 0 in the valid word of each slot, that of number 0 too, which no inode has.
 fn clear_tables<P: Pmem>(memory: &mut P, sup: &Super) -> Result<(), Stopped>
     requires layout { IsLayout sup.now }
     requires blocks { HasBlocks (P.region memory.old) sup.now.blocks }
@@ -58,10 +56,8 @@ fn clear_tables<P: Pmem>(memory: &mut P, sup: &Super) -> Result<(), Stopped>
     ensures stopped { OnErr result (IsTrue (P.fuse memory.new).has_burnt) }
     ensures keeps_fuse { KeepsFuse (λ limit. 4096 * system_blocks sup.now ≤ limit) (P.fuse memory.old) (P.fuse memory.new) }
 {
-    let tables = (1 + sup.cpus) * BLOCK_SIZE;
-    let slots = 32 * sup.cpus * sup.table_blocks;
-    for place in 0..slots {
-        clear_word(memory, tables + SLOT_SIZE * place)?;
+    for place in 0..sup.inode_limit() {
+        clear_word(memory, nth_slot(sup, place))?;
     }
     Ok(())
 }

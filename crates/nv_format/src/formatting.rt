@@ -12,9 +12,11 @@ ghost use Rattle.nv_super.specs.Layout.{IsLayout, slot_address};
 ghost use Rattle.nv_format.specs.Format.{IsFormatRefusal, CanFormat, IsFormatted, IsLaidOut, HasRoot, AnyAt, IsSystemWord, IsRootWord, fresh_super, root_page, refusal_name, FormatIsDetermined, FormatLeaves};
 
 use crate::clearing::clear_system;
-use nv_inode::{Slot, put_slot, set_word};
+use nv_inode::{Slot, put_slot, set_word, slot_start};
 use nv_region::{Pmem, Stopped, commit_word};
-use nv_super::{BLOCK_SIZE, Kind, LEAST_BLOCKS, MAGIC, MOST_BLOCKS, Super};
+use nv_super::{
+    BLOCK_SIZE, Kind, LEAST_BLOCKS, MAGIC, MOST_BLOCKS, MOST_CPUS, MOST_TABLE_BLOCKS, Super,
+};
 use std::fmt;
 
 const ROOT: u64 = 1;
@@ -108,10 +110,10 @@ fn numbers<P: Pmem>(memory: &P, cpus: u64, table_blocks: u64) -> Result<Super, F
     if length % BLOCK_SIZE != 0 || blocks < LEAST_BLOCKS || blocks > MOST_BLOCKS {
         return Err(FormatRefusal::Length);
     }
-    if cpus < 1 || cpus > 64 {
+    if cpus < 1 || cpus > MOST_CPUS {
         return Err(FormatRefusal::Cpus);
     }
-    if table_blocks < 1 || table_blocks > 64 {
+    if table_blocks < 1 || table_blocks > MOST_TABLE_BLOCKS {
         return Err(FormatRefusal::Tables);
     }
     if 1 + cpus + cpus * table_blocks >= blocks {
@@ -179,7 +181,7 @@ fn write_root<P: Pmem>(memory: &mut P, sup: &Super, time: u64) -> Result<(), Sto
     };
     write_root_entry(memory, page, time)?;
     put_slot(memory, sup, ROOT, &slot)?;
-    set_word(memory, sup.slot_address(ROOT), slot.valid)
+    set_word(memory, slot_start(sup, ROOT), slot.valid)
 }
 
 /// Stores the attributes entry of an empty directory: mode 493, size 0, the time, owner 0 and group 0.

@@ -1,5 +1,5 @@
 -- What a slot says of an inode.
-use Rattle.std.specs.Prelude.{ℕ, ◌+◌, ◌%◌, ◌&&◌, ◌==◌, nat_le, Bool, if◌then◌else◌, Option, Some, None}
+use Rattle.std.specs.Prelude.{ℕ, ◌+◌, ◌*◌, ◌%◌, ◌&&◌, ◌==◌, nat_le, Bool, if◌then◌else◌, Option, Some, None}
 use Rattle.nv_region.specs.Region.{Region, word, put}
 use Rattle.nv_super.specs.declared.superblock.Super.{Super}
 use Rattle.nv_super.specs.Layout.{is_data_address, is_page_start}
@@ -8,6 +8,10 @@ use Rattle.nv_super.specs.declared.kind.Kind.TheVariants.{File, Directory}
 use Rattle.nv_inode.specs.declared.slot.Slot.{Slot}
 use Rattle.nv_inode.specs.declared.slot.SlotState.{SlotState}
 use Rattle.nv_inode.specs.declared.slot.SlotState.TheVariants.{Unused, BadValid, BadKind, InUse}
+
+-- the address of a slot by its place in the tables, which are one area behind the journals
+abbrev pub nth_slot : Super → ℕ → ℕ
+nth_slot s place = (1 + s.cpus) * 4096 + 128 * place
 
 -- the slot at an address, as its words stand
 abbrev pub slot_at : Region → ℕ → Slot

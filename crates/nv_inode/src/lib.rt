@@ -3,8 +3,10 @@
 
 mod permitted;
 mod slot;
+mod tables;
 mod words;
 
 pub use permitted::is_journal_word;
-pub use slot::{Slot, SlotState};
+pub use slot::{LINK, Slot, SlotState};
+pub use tables::{nth_slot, slot_start};
 pub use words::{put_slot, read_slot, set_word};

@@ -8,9 +8,21 @@ ghost use Rattle.nv_inode.specs.Slot.{state_of, kind_of, kind_in, is_right_log};
 
 use nv_super::{BLOCK_SIZE, Kind, Super};
 
+/// The offset of a log page's link, where the room for its entries ends.
+pub const LINK: u64 = 4064;
+
 const FIRST_TAIL: u64 = 8;
 
-const LAST_TAIL: u64 = 4064;
+// The offsets of a slot's words.
+pub(crate) const VALID: u64 = 0;
+
+pub(crate) const KIND: u64 = 8;
+
+pub(crate) const HEAD: u64 = 16;
+
+pub(crate) const TAIL: u64 = 24;
+
+pub(crate) const CREATED: u64 = 32;
 
 /// The words of a slot: valid, kind, head and tail of the log (byte addresses), creation time.
 #[derive(Clone, Copy, Debug, PartialEq, Eq)]
@@ -64,6 +76,6 @@ impl Slot {
             && block < sup.blocks
             && self.tail % 8 == 0
             && FIRST_TAIL <= offset
-            && offset <= LAST_TAIL
+            && offset <= LINK
     }
 }

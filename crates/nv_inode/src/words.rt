@@ -1,6 +1,6 @@
 //! Slots read and stored.
 
-ghost use Rattle.std.specs.Prelude.{◌≡◌, ◌≤◌, ◌+◌, ◌*◌, ◌%◌, IsTrue, OnOk, is_err};
+ghost use Rattle.std.specs.Prelude.{◌≡◌, ◌≤◌, ◌+◌, ◌%◌, IsTrue, OnOk, is_err};
 ghost use Rattle.nv_region.specs.Region.{HasBlocks, size, put};
 ghost use Rattle.nv_region.specs.Stops.{One};
 ghost use Rattle.nv_region.specs.Fuses.{KeepsFuse};
@@ -8,43 +8,49 @@ ghost use Rattle.nv_region.specs.Stored.{StoresOnly, Within};
 ghost use Rattle.nv_super.specs.Layout.{IsLayout, is_number, slot_address};
 ghost use Rattle.nv_inode.specs.Slot.{slot_at, with_slot};
 
-use crate::slot::Slot;
+use crate::slot::{CREATED, HEAD, KIND, Slot, TAIL, VALID};
+use crate::tables::slot_start;
 use nv_region::{Pmem, Stopped};
 use nv_super::Super;
 
 /// Reads the slot of an inode, in use or not.
-pub fn read_slot<P: Pmem>(memory: &P, sup: &Super, ino: u64) -> Slot
+pub fn read_slot<P: Pmem>(memory: &P, sup: &Super, inode: u64) -> Slot
     requires layout { IsLayout sup.now }
     requires blocks { HasBlocks (P.region memory.now) sup.now.blocks }
-    requires number { IsTrue (is_number sup.now ino) }
-    ensures { result ≡ slot_at (P.region memory.now) (slot_address sup.now ino) }
+    requires number { IsTrue (is_number sup.now inode) }
+    ensures { result ≡ slot_at (P.region memory.now) (slot_address sup.now inode) }
 {
-    let at = slot_start(sup, ino);
+    let at = slot_start(sup, inode);
     Slot {
-        valid: memory.load(at),
-        kind: memory.load(at + 8),
-        head: memory.load(at + 16),
-        tail: memory.load(at + 24),
-        created: memory.load(at + 32),
+        valid: memory.load(at + VALID),
+        kind: memory.load(at + KIND),
+        head: memory.load(at + HEAD),
+        tail: memory.load(at + TAIL),
+        created: memory.load(at + CREATED),
     }
 }
 
 /// Stores the kind, head, tail and creation time of a slot, in this order. The valid word stays:
 /// it is what puts an inode in use, so it is stored by itself, after the rest is fenced.
-pub fn put_slot<P: Pmem>(memory: &mut P, sup: &Super, ino: u64, slot: &Slot) -> Result<(), Stopped>
+pub fn put_slot<P: Pmem>(
+    memory: &mut P,
+    sup: &Super,
+    inode: u64,
+    slot: &Slot,
+) -> Result<(), Stopped>
     requires layout { IsLayout sup.now }
     requires blocks { HasBlocks (P.region memory.old) sup.now.blocks }
-    requires number { IsTrue (is_number sup.now ino) }
-    ensures done { OnOk result (P.region memory.new ≡ with_slot (P.region memory.old) (slot_address sup.now ino) slot.now) }
-    ensures wrote { StoresOnly (Within (slot_address sup.now ino + 8) 32) (P.region memory.old) (P.region memory.new) (P.may_hold memory.old) (P.may_hold memory.new) }
+    requires number { IsTrue (is_number sup.now inode) }
+    ensures done { OnOk result (P.region memory.new ≡ with_slot (P.region memory.old) (slot_address sup.now inode) slot.now) }
+    ensures wrote { StoresOnly (Within (slot_address sup.now inode + 8) 32) (P.region memory.old) (P.region memory.new) (P.may_hold memory.old) (P.may_hold memory.new) }
     ensures stopped { is_err result ≡ (P.fuse memory.new).has_burnt }
-    ensures keeps_fuse { KeepsFuse (λ limit. slot_address sup.now ino + 40 ≤ limit) (P.fuse memory.old) (P.fuse memory.new) }
+    ensures keeps_fuse { KeepsFuse (λ limit. slot_address sup.now inode + 40 ≤ limit) (P.fuse memory.old) (P.fuse memory.new) }
 {
-    let at = slot_start(sup, ino);
-    memory.store(at + 8, slot.kind)?;
-    memory.store(at + 16, slot.head)?;
-    memory.store(at + 24, slot.tail)?;
-    memory.store(at + 32, slot.created)
+    let at = slot_start(sup, inode);
+    memory.store(at + KIND, slot.kind)?;
+    memory.store(at + HEAD, slot.head)?;
+    memory.store(at + TAIL, slot.tail)?;
+    memory.store(at + CREATED, slot.created)
 }
 
 /// Stores one word.
@@ -57,15 +63,4 @@ pub fn set_word<P: Pmem>(memory: &mut P, at: u64, value: u64) -> Result<(), Stop
     ensures keeps_fuse { KeepsFuse (λ limit. at + 8 ≤ limit) (P.fuse memory.old) (P.fuse memory.new) }
 {
     memory.store(at, value)
-}
-
-// The address of a slot, which stands whole before the data blocks.
-fn slot_start(sup: &Super, ino: u64) -> u64
-    requires layout { IsLayout sup.now }
-    requires number { IsTrue (is_number sup.now ino) }
-    ensures value { result ≡ slot_address sup.now ino }
-    ensures whole { result % 128 ≡ 0 }
-    ensures inside { result + 128 ≤ 4096 * sup.now.blocks }
-{
-    sup.slot_address(ino)
 }

@@ -5,7 +5,7 @@ use Rattle.std.specs.Char.{is_ascii_digit}
 use Rattle.std.specs.Str.{IsUtf8}
 use Rattle.std.specs.Str.Parse.{ParsesUnsigned, digits_value}
 use Rattle.std.specs.Result.{OkIff, result_ok}
-use Rattle.std.proofs.lemmas.Bool.{lt-ltb, ltb-true, ne_eqb, cases_lt, cases_eq}
+use Rattle.std.proofs.lemmas.Bool.{and_parts, lt-ltb, ltb-true, ne_eqb, cases_lt, cases_eq}
 use Rattle.std.proofs.lemmas.Bool.Decides.{nat_tests}
 use Rattle.std.proofs.lemmas.Str.Parse.{IsNumeralModel, numerals_by_value, parse_digits}
 use Rattle.std.proofs.lemmas.Fmt.{IsAscii-from_digits, decimal-digits_value, decimal_is_IsNumeral, first_decimal, decimal_digit}
@@ -14,7 +14,7 @@ use Rattle.std.specs.Prelude.{MatchResult, IfSome}
 use Rattle.std.specs.Borrow.{Bor}
 use Rattle.nv_line.specs.Spelling.{IsSmall, Writes}
 use Rattle.nv_line.specs.Reading.{is_numeral, number_of}
-use Rattle.nv_line.proofs.Choice.{chosen, and_true}
+use Rattle.nv_line.proofs.Choice.{chosen}
 
 pub own : IsNumeralModel (λ ds. list_all is_ascii_digit ds ≡ true) (digits_value 10)
 own = numerals_by_value _ (search rules)
@@ -69,7 +69,7 @@ some_number word v n e same small found =
 pub number_says : (word : List ℕ) (n : ℕ) → number_of word ≡ Some n → Writes word n
 unfolding number_of
 number_says word n e = elim (chosen (is_numeral word && ltb (digits_value 10 word) (2 ^ 64)) (Some (digits_value 10 word)) None (Some n) e) [
-  | inl h ↦ let both = and_true _ _ h.0 in some_number word (digits_value 10 word) n both.0 refl (ltb-true _ _ both.1) (let same : digits_value 10 word ≡ n = cc in same)
+  | inl h ↦ let both = and_parts _ _ h.0 in some_number word (digits_value 10 word) n both.0 refl (ltb-true _ _ both.1) (let same : digits_value 10 word ≡ n = cc in same)
   | inr h ↦ (let bad : None ≡ Some n = h.1 in cc)
 ]
 

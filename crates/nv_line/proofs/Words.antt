@@ -3,13 +3,12 @@ use Rattle.std.proofs.Common.{◌≡◌, ◌≢◌, ℕ, Bool, true, false, cond
 use Rattle.std.specs.List.{list_all, AllByRecursion, slice_split, join_with_byte, onto_first}
 use Rattle.std.specs.Int.{IsInRange}
 use Rattle.std.specs.Str.Parse.{AllDigits}
-use Rattle.std.proofs.lemmas.Bool.{ne_eqb, eqb-false}
+use Rattle.std.proofs.lemmas.Bool.{and_parts, ne_eqb, eqb-false}
 use Rattle.std.proofs.lemmas.Fmt.{decimal_is_IsNumeral}
 use Rattle.std.proofs.lemmas.List.Elements.{All-from_recursion}
 use Rattle.std.proofs.lemmas.List.Splits.{slice_split_at, slice_split_none}
 use Rattle.std.proofs.lemmas.Str.Parse.{digit_from_value}
 use Rattle.nv_line.specs.Spelling.{IsSmall}
-use Rattle.nv_line.proofs.Choice.{and_true}
 
 -- no byte of the word is a space
 abbrev pub IsUnspaced : List ℕ → Type 0
@@ -60,4 +59,4 @@ decimals_unspaced (n ∷ ns) small = (decimal_unspaced n small.0, decimals_unspa
 -- of a text that is written out, the test computes
 pub text_unspaced : (word : List ℕ) → list_all (λ b. not (eqb b 32)) word ≡ true → IsUnspaced word
 text_unspaced [] e = tt
-text_unspaced (b ∷ bs) e = let both : (not (eqb b 32) ≡ true) × (list_all (λ b. not (eqb b 32)) bs ≡ true) = and_true _ _ e in ((λ same. let bad : not (eqb b 32) ≡ false = rw same refl in cc), text_unspaced bs both.1)
+text_unspaced (b ∷ bs) e = let both : (not (eqb b 32) ≡ true) × (list_all (λ b. not (eqb b 32)) bs ≡ true) = and_parts _ _ e in ((λ same. let bad : not (eqb b 32) ≡ false = rw same refl in cc), text_unspaced bs both.1)

@@ -18,8 +18,8 @@ ghost use Rattle.nv_logpage.specs.Reads.{Reads};
 ghost use Rattle.nv_logpage.specs.Append.{AllDiffer, AppendWords, CanAppend, CanBePages, EndBy, EntryWords, FreshFor, Laid, Linked, appended, end_of, needed};
 ghost use Rattle.nv_logpage.specs.Writing.{FitPages, FromOrIn, LinkWords, PageFrom, Settled};
 
-use crate::looking::LINK;
 use nv_entry::{Entry, length, write_entry};
+use nv_inode::LINK;
 use nv_region::{Pmem, Stopped, store_word};
 use nv_super::BLOCK_SIZE;
 

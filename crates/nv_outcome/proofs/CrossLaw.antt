@@ -1,6 +1,7 @@
 -- What is wrong between the rows is what is wrong between the inodes.
-use Rattle.std.proofs.Common.{◌≡◌, ℕ, Option, Some, None, List, ◌∷◌, refl, sym, ◌∙◌, subst}
+use Rattle.std.proofs.Common.{◌≡◌, ℕ, Some, List, ◌∷◌, refl, sym, ◌∙◌, subst}
 use Rattle.std.specs.List.{Contains}
+use Rattle.std.proofs.lemmas.Option.{none-some}
 use Rattle.nv_region.specs.Region.{Region}
 use Rattle.nv_super.specs.Layout.{Layout}
 use Rattle.nv_super.specs.declared.kind.Kind.{Kind}
@@ -19,9 +20,6 @@ use Rattle.nv_check.specs.Cross.{HasNameIn, IsUnusedIn, AreNamesIn, IsReachedIn,
 use Rattle.nv_outcome.specs.Outcome as reg
 use Rattle.nv_outcome.specs.Outcome.{AreRows, HasName, AreNamesOf, IsReached, IsCrossFault}
 
-some_none : {A : Type 0} (o : Option A) (x : A) → o ≡ None → o ≡ Some x → ⊥
-some_none o x e f = let z : None ≡ Some x = sym e ∙ f in cc
-
 -- a log that says names is a directory's
 names_directory : (l : Layout) (log : Log) (name : List ℕ) (x : ℕ × ℕ) → named (good_of l log) name ≡ Some x → log.kind ≡ Directory
 names_directory l log name x e = test log.kind refl where
@@ -32,7 +30,7 @@ names_directory l log name x e = test log.kind refl where
   test Directory h = h
   test File h = absurd (
       let P : Kind → Type 0 = λ k. named (good_of l (of_kind k)) name ≡ Some x in
-      some_none (named (good_of l (of_kind File)) name) x (file_names l.sup log.entries name) (subst P h e))
+      none-some x (sym (file_names l.sup log.entries name) ∙ subst P h e))
 
 module _ {R : Region} {l : Layout} {rows : List Row} (are : AreRows R l rows) where
   -- a row of an inode, with what stands behind it

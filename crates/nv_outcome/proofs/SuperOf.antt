@@ -1,10 +1,11 @@
 -- What an accepted superblock is.
-use Rattle.std.proofs.Common.{◌≡◌, ◌≢◌, ℕ, ◌+◌, ◌*◌, ◌/◌, ◌<◌, ◌≤◌, inl, inr, refl, ap, sym, ◌∙◌, arith}
+use Rattle.std.proofs.Common.{◌≡◌, ◌≢◌, ℕ, ◌+◌, ◌*◌, ◌/◌, ◌<◌, ◌≤◌, inl, inr, refl, sym, ◌∙◌, arith}
 use Rattle.std.specs.Prelude.{◌==◌, if◌then◌else◌}
 use Rattle.std.proofs.lemmas.Bool.{cases_eq, cases_lt}
 use Rattle.nv_region.specs.Region.{Region, word, size}
 use Rattle.nv_super.specs.Layout.{most_blocks, IsLayout}
-use Rattle.nv_super.specs.Super.{IsSuper, IsRefused, rank}
+use Rattle.nv_super.specs.Super.{Applies, IsSuper, IsRefused, rank}
+use Rattle.nv_super.proofs.First.{one_first}
 use Rattle.nv_super.specs.declared.superblock.Super.{Super}
 use Rattle.nv_super.specs.declared.superblock.SuperFault.{SuperFault}
 use Rattle.nv_super.specs.declared.superblock.SuperFault.TheVariants.{Length, Magic, Version, Cpus, Blocks, Tables, State}
@@ -33,13 +34,7 @@ fault_back State = refl
 
 -- a region is refused for one fault
 pub one_fault : (R : Region) (a b : SuperFault) → IsRefused R a → IsRefused R b → a ≡ b
-one_fault R a b p q = elim (cases_lt (rank a) (rank b)) [
-  | inl less ↦ absurd (q.first a less p.applies)
-  | inr more ↦ elim (cases_lt (rank b) (rank a)) [
-    | inl less ↦ absurd (p.first b less q.applies)
-    | inr other ↦ (let same : rank a ≡ rank b = omega (arith, more, other) in sym (fault_back a) ∙ ap fault_at same ∙ fault_back b)
-  ]
-]
+one_fault R a b p q = one_first rank fault_at fault_back (Applies R) a b p.applies p.first q.applies q.first
 
 is_equal : (a b : ℕ) → (a ≢ b → ⊥) → a ≡ b
 is_equal a b h = elim (cases_eq a b) [ inl e ↦ e | inr ne ↦ absurd (h ne) ]

@@ -17,5 +17,5 @@ mod workers;
 
 pub use one::recover_one;
 pub use parallel::recover;
-pub use recovered::{RecoverError, Recovered};
+pub use recovered::{MOST_WORKERS, RecoverError, Recovered};
 pub use replaying::recover_replay;

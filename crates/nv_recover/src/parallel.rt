@@ -16,8 +16,7 @@ ghost use Rattle.nv_recover.specs.Behind.{BehindSystem};
 ghost use Rattle.nv_recover.specs.Scanned.{IsScanned};
 
 use crate::finishing::finish;
-use crate::opening::open;
-use crate::recovered::{RecoverError, Recovered};
+use crate::recovered::{MOST_WORKERS, RecoverError, Recovered};
 use crate::scanned::Scanned;
 use crate::workers::scan_by_workers;
 use nv_check::cross_faults;
@@ -56,7 +55,7 @@ pub fn recover<P: Pmem + Sync, G: Gate + Sync, H: Threads + Sync>(
     // A memory that takes stores up to the first data block isn't stopped.
     ensures unstopped { (s : SuperValue) → IsSuper (P.region memory.old) s → IsTrue ((P.fuse memory.old).is_open (4096 * system_blocks s)) → IfErr result (λ e. e ≢ errors.Stopped) }
 {
-    if !(1..=64).contains(&workers) {
+    if !(1..=MOST_WORKERS).contains(&workers) {
         return Err(RecoverError::Workers);
     }
     let opened = open(alloc, memory)?;

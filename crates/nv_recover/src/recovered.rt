@@ -9,6 +9,9 @@ use nv_super::{Fault, Owner, Super, SuperFault};
 use std::alloc::{AllocError, AllocFailed};
 use thiserror::Error;
 
+/// The most workers of a recovery.
+pub const MOST_WORKERS: u64 = 64;
+
 /// What a region holds, read from its bytes once its journals were rolled back.
 #[derive(Drop)]
 pub struct Recovered {

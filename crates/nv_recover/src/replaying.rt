@@ -18,8 +18,7 @@ ghost use Rattle.nv_recover.specs.Behind.{BehindSystem};
 ghost use Rattle.nv_recover.specs.Scanned.{AreInodes, IsScanned, AreClaimedSets, claims_of_piece, all_claims};
 
 use crate::finishing::finish;
-use crate::opening::open;
-use crate::recovered::{RecoverError, Recovered};
+use crate::recovered::{MOST_WORKERS, RecoverError, Recovered};
 use crate::scanned::{Inodes, Scanned};
 use crate::scanning::scan_next;
 use nv_check::cross_faults_one;
@@ -58,7 +57,7 @@ pub fn recover_replay<P: Pmem>(
     // A memory that takes stores up to the first data block isn't stopped.
     ensures unstopped { (s : SuperValue) → IsSuper (P.region memory.old) s → IsTrue ((P.fuse memory.old).is_open (4096 * system_blocks s)) → IfErr result (λ e. e ≢ errors.Stopped) }
 {
-    if !(1..=64).contains(&workers) {
+    if !(1..=MOST_WORKERS).contains(&workers) {
         return Err(RecoverError::Workers);
     }
     if let Some(place) = first_stranger(schedule, workers as u32) {

@@ -9,6 +9,9 @@ ghost use Rattle.nv_report.specs.Lengths.{length_text};
 use nv_super::{BLOCK_SIZE, LEAST_BLOCKS, MOST_BLOCKS};
 use std::fmt;
 
+/// The bytes of the longest region.
+pub const LONGEST_REGION: usize = (MOST_BLOCKS * BLOCK_SIZE) as usize;
+
 /// A length that no region has.
 #[derive(Clone, Copy, Debug, PartialEq, Eq)]
 pub enum BadLength {

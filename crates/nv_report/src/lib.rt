@@ -16,7 +16,8 @@ mod texts;
 
 pub use last::{Last, how_it_went};
 pub use laws::{one_report, one_row_text};
-pub use lengths::{BadLength, is_region_length};
+pub use lengths::{BadLength, LONGEST_REGION, is_region_length};
+pub use nv_recover::MOST_WORKERS;
 pub use part::Part;
 pub use recovering::{recover_region, replay_region};
 pub use recovery::Answer;

@@ -8,11 +8,8 @@ ghost use Rattle.nv_session.specs.Made.{MayMake};
 
 use nv_format::{FormatRefusal, format};
 use nv_region::{MemRegion, RegionRefusal};
+use nv_super::{LEAST_BLOCKS, MOST_BLOCKS};
 use std::alloc::{AllocError, Global};
-
-const LEAST_BLOCKS: u64 = 8;
-
-const MOST_BLOCKS: u64 = 65_536;
 
 /// What came of making a region.
 #[derive(Drop)]

@@ -12,5 +12,5 @@ mod writing;
 
 pub use contents::{Contents, Unread, contents_at, read_whole};
 pub use fault::ScriptError;
-pub use reading::{LINE_LIMIT, Next, read_line};
+pub use reading::{Next, read_line};
 pub use writing::write_text;

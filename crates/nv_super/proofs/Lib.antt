@@ -7,3 +7,4 @@ pub mod Sorted
 pub mod Pools
 pub mod Slots
 pub mod Accepted
+pub mod First

@@ -12,7 +12,7 @@ pool_start s cpu = system_blocks s + cpu * (s.blocks - system_blocks s) / s.cpus
 
 -- the address of an inode's slot in the fixed tables
 abbrev pub slot_address : Super → ℕ → ℕ
-slot_address s ino = (1 + s.cpus + ino % s.cpus * s.table_blocks) * 4096 + ino / s.cpus * 128
+slot_address s inode = (1 + s.cpus + inode % s.cpus * s.table_blocks) * 4096 + inode / s.cpus * 128
 
 -- the address is in a data block
 abbrev pub is_data_address : Super → ℕ → Bool

@@ -16,5 +16,6 @@ pub use laws::{pools_cover_the_data_blocks, slots_stand_apart};
 pub use owners::{Owner, Run};
 pub use sorting::{sort_claims, sort_faults};
 pub use superblock::{
-    BLOCK_SIZE, LEAST_BLOCKS, MAGIC, MOST_BLOCKS, Super, SuperFault, read_super, write_super,
+    BLOCK_SIZE, LEAST_BLOCKS, MAGIC, MOST_BLOCKS, MOST_CPUS, MOST_TABLE_BLOCKS, SLOT_SIZE, Super,
+    SuperFault, read_super, write_super,
 };

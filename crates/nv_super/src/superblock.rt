@@ -7,7 +7,7 @@ ghost use Rattle.std.specs.Prelude.{◌≡◌, ◌≤◌, ◌<◌, ◌+◌, ◌-
 ghost use Rattle.nv_region.specs.Region.{HasBlocks, size};
 ghost use Rattle.nv_region.specs.Fuses.{KeepsFuse};
 ghost use Rattle.nv_region.specs.Stored.{StoresOnly, Within};
-ghost use Rattle.nv_super.specs.Layout.{system_blocks, pool_start, slot_address, is_page_start, is_number, HasAreas, IsLayout};
+ghost use Rattle.nv_super.specs.Layout.{system_blocks, pool_start, slot_address, is_page_start, inode_limit, is_number, HasAreas, IsLayout};
 ghost use Rattle.nv_super.specs.Super.{IsSuper, IsRefused, with_numbers};
 
 use nv_region::{Pmem, Stopped};
@@ -23,6 +23,15 @@ pub const LEAST_BLOCKS: u64 = 8;
 
 /// The most blocks of a region.
 pub const MOST_BLOCKS: u64 = 65_536;
+
+/// The most CPUs of a region.
+pub const MOST_CPUS: u64 = 64;
+
+/// The most table blocks of a CPU.
+pub const MOST_TABLE_BLOCKS: u64 = 64;
+
+/// The bytes of an inode's slot.
+pub const SLOT_SIZE: u64 = 128;
 
 /// The numbers of a superblock: the layout's version, CPUs, blocks of the region, table blocks for each CPU, and the
 /// state, which is shown and never used.
@@ -79,13 +88,13 @@ pub fn read_super<P: Pmem>(memory: &P) -> Result<Super, SuperFault>
     if found.version != 1 {
         return Err(SuperFault::Version);
     }
-    if found.cpus < 1 || found.cpus > 64 {
+    if found.cpus < 1 || found.cpus > MOST_CPUS {
         return Err(SuperFault::Cpus);
     }
     if found.blocks != blocks {
         return Err(SuperFault::Blocks);
     }
-    if found.table_blocks < 1 || found.table_blocks > 64 {
+    if found.table_blocks < 1 || found.table_blocks > MOST_TABLE_BLOCKS {
         return Err(SuperFault::Tables);
     }
     if 1 + found.cpus + found.cpus * found.table_blocks >= found.blocks {
@@ -100,18 +109,18 @@ pub fn read_super<P: Pmem>(memory: &P) -> Result<Super, SuperFault>
 /// Stores all words of the superblock but the magic, in rising order and without a fence.
 ///
 /// Answers `Stopped` exactly where the fuse has burnt; only words of the superblock's numbers may have changed then.
-pub fn write_super<P: Pmem>(memory: &mut P, numbers: &Super) -> Result<(), Stopped>
+pub fn write_super<P: Pmem>(memory: &mut P, sup: &Super) -> Result<(), Stopped>
     requires { 4096 ≤ size (P.region memory.old) }
-    ensures done { OnOk result (P.region memory.new ≡ with_numbers (P.region memory.old) numbers.now) }
+    ensures done { OnOk result (P.region memory.new ≡ with_numbers (P.region memory.old) sup.now) }
     ensures wrote { StoresOnly (Within 8 40) (P.region memory.old) (P.region memory.new) (P.may_hold memory.old) (P.may_hold memory.new) }
     ensures stopped { is_err result ≡ (P.fuse memory.new).has_burnt }
     ensures keeps_fuse { KeepsFuse (λ limit. 48 ≤ limit) (P.fuse memory.old) (P.fuse memory.new) }
 {
-    memory.store(8, numbers.version)?;
-    memory.store(16, numbers.cpus)?;
-    memory.store(24, numbers.blocks)?;
-    memory.store(32, numbers.table_blocks)?;
-    memory.store(40, numbers.state)
+    memory.store(8, sup.version)?;
+    memory.store(16, sup.cpus)?;
+    memory.store(24, sup.blocks)?;
+    memory.store(32, sup.table_blocks)?;
+    memory.store(40, sup.state)
 }
 
 impl Super {
@@ -134,12 +143,20 @@ impl Super {
             && address % BLOCK_SIZE == 0
     }
 
-    /// Whether an inode can have this number.
-    pub fn is_number(&self, ino: u64) -> bool
+    /// The numbers of inodes are below this: it is the number of all slots.
+    pub fn inode_limit(&self) -> u64
         requires { HasAreas self.now }
-        ensures { result ≡ is_number self.now ino }
+        ensures { result ≡ inode_limit self.now }
     {
-        ino > 0 && ino < 32 * self.cpus * self.table_blocks
+        BLOCK_SIZE / SLOT_SIZE * self.cpus * self.table_blocks
+    }
+
+    /// Whether an inode can have this number.
+    pub fn is_number(&self, inode: u64) -> bool
+        requires { HasAreas self.now }
+        ensures { result ≡ is_number self.now inode }
+    {
+        inode > 0 && inode < self.inode_limit()
     }
 
     /// The first block of the pool of a CPU, and the block behind its last. A pool may be empty.
@@ -159,12 +176,13 @@ impl Super {
 
     /// The byte address of the slot of an inode: inode `i` is slot `i / cpus` of the table of CPU `i % cpus`, and a
     /// slot has 128 bytes.
-    pub fn slot_address(&self, ino: u64) -> u64
+    pub fn slot_address(&self, inode: u64) -> u64
         requires layout { IsLayout self.now }
-        requires ino { ino < 32 * self.now.cpus * self.now.table_blocks }
-        ensures { result ≡ slot_address self.now ino }
+        requires inode { inode < 32 * self.now.cpus * self.now.table_blocks }
+        ensures { result ≡ slot_address self.now inode }
     {
-        (1 + self.cpus + ino % self.cpus * self.table_blocks) * BLOCK_SIZE + ino / self.cpus * 128
+        let table = 1 + self.cpus + inode % self.cpus * self.table_blocks;
+        table * BLOCK_SIZE + inode / self.cpus * SLOT_SIZE
     }
 
     /// The greatest inode number.
@@ -172,6 +190,6 @@ impl Super {
         requires { IsLayout self.now }
         ensures { result ≡ 32 * self.now.cpus * self.now.table_blocks - 1 }
     {
-        32 * self.cpus * self.table_blocks - 1
+        self.inode_limit() - 1
     }
 }

@@ -4,7 +4,9 @@ ghost use Rattle.std.specs.Prelude.{◌<◌};
 ghost use Rattle.nv_region.specs.Region.{HasBlocks};
 
 use crate::small::{SMALL, Word, assert_words, small_region, word_at};
-use nv_inode::{Slot, SlotState, is_journal_word, put_slot, read_slot, set_word};
+use nv_inode::{
+    Slot, SlotState, is_journal_word, nth_slot, put_slot, read_slot, set_word, slot_start,
+};
 use nv_region::{Fuse, MemRegion, RegionRefusal, Stopped};
 use nv_super::{Kind, Super};
 
@@ -70,6 +72,15 @@ fn put_in_two(memory: &mut MemRegion, inode: u64) -> Result<(), Stopped>
 }
 
 const TAILS_IN_TWO: [Word; 2] = [(12416 + 24, 12320), (20608 + 24, 12320)];
+
+#[test]
+fn slots_lie_one_behind_the_other(rt: HostRuntime) {
+    assert_eq!(rt; (slot_start(&TWO, 1), slot_start(&TWO, 2)), (20480, 12416));
+    assert_eq!(rt;
+        (nth_slot(&TWO, 0), nth_slot(&TWO, 1), nth_slot(&TWO, 64)),
+        (12288, 12416, 20480)
+    );
+}
 
 #[test]
 fn slots_alternate_between_the_tables_of_the_cpus(rt: HostRuntime) -> Result<(), RegionRefusal> {

@@ -69,14 +69,14 @@ fn assert_undone(
     rt: &impl Abort,
     alloc: Global,
     memory: &mut MemRegion,
-    numbers: &Super,
+    sup: &Super,
     told: &[Fault],
 ) -> Result<(), UndoError>
-    requires layout { IsLayout numbers.now }
-    requires blocks { HasBlocks memory.old.region numbers.now.blocks }
-    ensures { HasBlocks memory.new.region numbers.now.blocks }
+    requires layout { IsLayout sup.now }
+    requires blocks { HasBlocks memory.old.region sup.now.blocks }
+    ensures { HasBlocks memory.new.region sup.now.blocks }
 {
-    let faults = undo(alloc, memory, numbers)?;
+    let faults = undo(alloc, memory, sup)?;
     assert!(rt; faults.as_slice() == told);
     Ok(())
 }

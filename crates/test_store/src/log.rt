@@ -331,8 +331,8 @@ fn finds(
     memory: &MemRegion,
     all: &[Finding],
 ) -> Result<(), Fail>
-    requires { HasBlocks memory.now.region reader.old.numbers.blocks }
-    ensures { reader.new.numbers ≡ reader.old.numbers }
+    requires { HasBlocks memory.now.region reader.old.sup.blocks }
+    ensures { reader.new.sup ≡ reader.old.sup }
 {
     for wanted in all {
         let found = reader.next(memory)?;

@@ -75,20 +75,13 @@ fn a_region_that_is_too_short_is_told(rt: HostRuntime) -> Result<(), Fail> {
 
 #[test]
 fn areas_lie_where_the_layout_says(rt: HostRuntime) {
-    let numbers = TWO_CPUS;
-    assert_eq!(rt; numbers.system_blocks(), 5);
-    assert_eq!(rt; (numbers.pool(0), numbers.pool(1)), ((5, 34), (34, 64)));
-    assert_eq!(rt;
-        (numbers.slot_address(1), numbers.slot_address(2)),
-        (16384, 12416)
-    );
-    assert_eq!(rt; numbers.max_inode(), 63);
-    assert!(rt; numbers.is_number(63) && !numbers.is_number(64) && !numbers.is_number(0));
-    assert!(rt;
-        numbers.is_page_start(20480)
-            && !numbers.is_page_start(16384)
-            && !numbers.is_page_start(20488)
-    );
+    let sup = TWO_CPUS;
+    assert_eq!(rt; sup.system_blocks(), 5);
+    assert_eq!(rt; (sup.pool(0), sup.pool(1)), ((5, 34), (34, 64)));
+    assert_eq!(rt; (sup.slot_address(1), sup.slot_address(2)), (16384, 12416));
+    assert_eq!(rt; (sup.inode_limit(), sup.max_inode()), (64, 63));
+    assert!(rt; sup.is_number(63) && !sup.is_number(64) && !sup.is_number(0));
+    assert!(rt; sup.is_page_start(20480) && !sup.is_page_start(16384) && !sup.is_page_start(20488));
     assert!(rt; Run { start: 7, count: 0 }.is_empty());
 }
 

@@ -4,7 +4,6 @@ use Rattle.nv_region.specs.Region.{word}
 use Rattle.nv_region.specs.Stops.{One}
 use Rattle.nv_region.proofs.Fuses.{keeps_more}
 use Rattle.nv_format.specs.Format.{IsPointer}
-use Rattle.nv_format.proofs.Kept.{blocks_stay}
 use Rattle.nv_format.proofs.Cleared.{zero_more, clears_more}
 use Rattle.nv_format.proofs.clearing.clear_journals.Goals as goal
 
