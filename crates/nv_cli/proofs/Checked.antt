@@ -5,7 +5,7 @@ use Rattle.nv_region.specs.Region.{region_of}
 use Rattle.nv_super.specs.Super.{IsRefused, rank}
 use Rattle.nv_super.specs.declared.superblock.SuperFault.{SuperFault}
 use Rattle.nv_super.specs.declared.superblock.SuperFault.TheVariants.{Length, Magic, Version, Cpus, Blocks, Tables, State}
-use Rattle.nv_text.specs.Refusals.{super_fault_name}
+use Rattle.nv_super.specs.FaultText.{super_fault_name}
 use Rattle.nv_cli.specs.Checking.{IsRefusal, IsCheck}
 use Rattle.nv_report.specs.Workers.{is_worker_count}
 

@@ -6,7 +6,7 @@ use Rattle.nv_super.specs.declared.faults.Fault.{Fault}
 use Rattle.nv_super.specs.declared.superblock.SuperFault.{SuperFault}
 use Rattle.nv_outcome.proofs.OnlyOne.{same_outcome}
 use Rattle.nv_outcome.proofs.SuperOf.{one_fault}
-use Rattle.nv_text.specs.Refusals.{super_fault_name}
+use Rattle.nv_super.specs.FaultText.{super_fault_name}
 use Rattle.nv_text.specs.Answers.{refused_line}
 use Rattle.nv_report.specs.Last.{status_of, how_it_went}
 use Rattle.nv_report.specs.Workers.{is_worker_count}

@@ -6,7 +6,7 @@ use Rattle.nv_super.specs.declared.superblock.SuperFault.{SuperFault}
 use Rattle.nv_super.specs.Super.{IsRefused}
 use Rattle.nv_outcome.specs.Outcome.{Outcome, IsOutcome}
 use Rattle.nv_text.specs.Answers.{refused_line}
-use Rattle.nv_text.specs.Refusals.{super_fault_name}
+use Rattle.nv_super.specs.FaultText.{super_fault_name}
 use Rattle.nv_stream.specs.declared.fault.ScriptError.{ScriptError}
 use Rattle.nv_stream.specs.declared.fault.ScriptError.TheVariants.{Read, Write, Memory}
 use Rattle.nv_report.specs.Last.{status_of}

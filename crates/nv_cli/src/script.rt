@@ -5,7 +5,7 @@
 ghost use Rattle.std.specs.Prelude.{◌≡◌, ◌↔◌, IfOk, IfErr, OnErr, IsErrOf, IsTrue, string_bytes};
 ghost use Rattle.nv_super.specs.declared.superblock.SuperFault.TheVariants as SuperFault;
 ghost use Rattle.nv_text.specs.Answers.{bad_line, refused_line};
-ghost use Rattle.nv_text.specs.Refusals.{super_fault_name};
+ghost use Rattle.nv_super.specs.FaultText.{super_fault_name};
 ghost use Rattle.nv_cli.specs.Script.{ShowsScript};
 ghost use Rattle.nv_cli.specs.Replies.{KnownReplies, RepliesTo};
 ghost use Rattle.nv_session.specs.Sessions.{Leads};

@@ -13,7 +13,7 @@ use Rattle.nv_outcome.specs.Outcome.{Outcome}
 use Rattle.nv_outcome.specs.Same.{SameOutcome}
 use Rattle.nv_outcome.proofs.OnlyOne.{same_outcome}
 use Rattle.nv_outcome.proofs.SuperOf.{one_fault}
-use Rattle.nv_text.specs.Refusals.{super_fault_name}
+use Rattle.nv_super.specs.FaultText.{super_fault_name}
 use Rattle.nv_text.specs.Answers.{refused_line}
 use Rattle.nv_report.specs.Last.{how_it_went}
 use Rattle.nv_report.specs.declared.part.Part.{Part}

@@ -10,7 +10,7 @@ use Rattle.nv_format.specs.Format as formats
 use Rattle.nv_format.specs.declared.formatting.FormatRefusal.{FormatRefusal}
 use Rattle.nv_format.specs.declared.formatting.FormatRefusal.TheVariants.{Stopped}
 use Rattle.nv_line.specs.Request.{Request, Format, Time, Poke, Cut, Recover, Replay, Tree, Free, Faults, Report, Peek}
-use Rattle.nv_text.specs.Refusals.{super_fault_name}
+use Rattle.nv_super.specs.FaultText.{super_fault_name}
 use Rattle.nv_text.specs.Answers.{ok_line, refused_line, word_line}
 use Rattle.nv_report.specs.Texts.{recovered_text, IsPartText}
 use Rattle.nv_report.specs.Workers.{is_worker_count, names_stranger}

@@ -2,6 +2,8 @@
 use Rattle.std.specs.Prelude.{ℕ, List, ◌++◌, codes, decimal}
 use Rattle.nv_super.specs.declared.owners.Owner.{Owner}
 use Rattle.nv_super.specs.declared.owners.Owner.TheVariants.{Log, Data}
+use Rattle.nv_super.specs.declared.superblock.SuperFault.{SuperFault}
+use Rattle.nv_super.specs.declared.superblock.SuperFault.TheVariants as super_faults
 use Rattle.nv_super.specs.declared.faults.Fault.{Fault}
 use Rattle.nv_super.specs.declared.faults.Fault.TheVariants.{J1, J2, I1, I2, I3, L1, L2, L3, L4, E1, E2, E3, E4, C1, C2, C3, C4, C5, B1}
 
@@ -31,3 +33,13 @@ fault_text (C3 i) = codes "C3 inode " ++ decimal i
 fault_text (C4 i) = codes "C4 inode " ++ decimal i
 fault_text C5 = codes "C5"
 fault_text (B1 b o) = codes "B1 block " ++ decimal b ++ codes " " ++ owner_text o
+
+-- the faults of a superblock, in the order of their tests
+abbrev pub super_fault_name : SuperFault → List ℕ
+super_fault_name super_faults.Length = codes "S1"
+super_fault_name super_faults.Magic = codes "S2"
+super_fault_name super_faults.Version = codes "S3"
+super_fault_name super_faults.Cpus = codes "S4"
+super_fault_name super_faults.Blocks = codes "S5"
+super_fault_name super_faults.Tables = codes "S6"
+super_fault_name super_faults.State = codes "S7"

@@ -1,9 +1,11 @@
-//! What can be wrong with a region: one table of the fault classes, with their fields, their order and their texts.
+//! What can be wrong with a region: one table of the fault classes, with their fields, their order and their texts, and
+//! the names of a superblock's faults.
 
 ghost use Rattle.std.specs.Prelude.{◌≡◌};
 
 use crate::order::{FaultKey, short_key};
 use crate::owners::Owner;
+use crate::superblock::SuperFault;
 use std::fmt;
 
 /// A fault. Faults rise by class as the classes stand here, and then by their fields from left to right.
@@ -119,6 +121,25 @@ impl fmt::Display for Fault {
             Fault::C4 { inode } => write!(f, "C4 inode {inode}"),
             Fault::C5 => f.write_str("C5"),
             Fault::B1 { block, owner } => write!(f, "B1 block {block} {owner}"),
+        }
+    }
+}
+
+impl SuperFault {
+    ghost use Rattle.nv_super.specs.FaultText.{super_fault_name};
+
+    /// Its name, from S1 to S7 in the order of the tests.
+    pub fn name(self) -> &'static str
+        ensures { result.now ≡ super_fault_name self }
+    {
+        match self {
+            SuperFault::Length => "S1",
+            SuperFault::Magic => "S2",
+            SuperFault::Version => "S3",
+            SuperFault::Cpus => "S4",
+            SuperFault::Blocks => "S5",
+            SuperFault::Tables => "S6",
+            SuperFault::State => "S7",
         }
     }
 }

@@ -1,19 +1,8 @@
 -- The names under which refusals are printed.
 use Rattle.std.specs.Prelude.{ℕ, List, codes}
-use Rattle.nv_super.specs.declared.superblock.SuperFault.{SuperFault}
-use Rattle.nv_super.specs.declared.superblock.SuperFault.TheVariants as super_faults
+use Rattle.nv_super.specs.FaultText.{super_fault_name}
 use Rattle.nv_text.specs.declared.refusals.Refusal.{Refusal}
 use Rattle.nv_text.specs.declared.refusals.Refusal.TheVariants as refusals
-
--- the faults of a superblock, in the order of their tests
-abbrev pub super_fault_name : SuperFault → List ℕ
-super_fault_name super_faults.Length = codes "S1"
-super_fault_name super_faults.Magic = codes "S2"
-super_fault_name super_faults.Version = codes "S3"
-super_fault_name super_faults.Cpus = codes "S4"
-super_fault_name super_faults.Blocks = codes "S5"
-super_fault_name super_faults.Tables = codes "S6"
-super_fault_name super_faults.State = codes "S7"
 
 -- a refusal's name
 abbrev pub refusal_name : Refusal → List ℕ

@@ -18,5 +18,5 @@ pub use faults::{push_fault_line, push_faults};
 pub use free::{push_free_line, push_free_lines};
 pub use inodes::{Attributes, push_inode_line, push_log_line, push_page_line, push_stat_line};
 pub use names::{push_data_line, push_list_line, push_name_line};
-pub use refusals::{Refusal, super_fault_name};
+pub use refusals::Refusal;
 pub use region::push_region_line;

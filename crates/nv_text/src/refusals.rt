@@ -1,7 +1,7 @@
 //! Why a command is refused, and the names under which a script prints it.
 
 ghost use Rattle.std.specs.Prelude.{◌≡◌, Some};
-ghost use Rattle.nv_text.specs.Refusals.{super_fault_name, refusal_name};
+ghost use Rattle.nv_text.specs.Refusals.{refusal_name};
 
 use nv_super::SuperFault;
 use std::fmt;
@@ -42,21 +42,6 @@ pub enum Refusal {
     BadCpu,
 }
 
-/// The name of the first fault of a superblock, from S1 to S7 in the order of their tests.
-pub fn super_fault_name(fault: SuperFault) -> &'static str
-    ensures { result.now ≡ super_fault_name fault }
-{
-    match fault {
-        SuperFault::Length => "S1",
-        SuperFault::Magic => "S2",
-        SuperFault::Version => "S3",
-        SuperFault::Cpus => "S4",
-        SuperFault::Blocks => "S5",
-        SuperFault::Tables => "S6",
-        SuperFault::State => "S7",
-    }
-}
-
 impl Refusal {
     /// The name that a script prints.
     pub fn name(self) -> &'static str
@@ -71,7 +56,7 @@ impl Refusal {
             Refusal::Tables => "Tables",
             Refusal::Workers => "Workers",
             Refusal::Schedule => "Schedule",
-            Refusal::Super(fault) => super_fault_name(fault),
+            Refusal::Super(fault) => fault.name(),
             Refusal::NotFound => "NotFound",
             Refusal::Exists => "Exists",
             Refusal::NotDirectory => "NotDirectory",
