@@ -9,6 +9,7 @@
 mod claiming;
 mod claims;
 mod fold;
+mod in_use;
 mod laws;
 mod names;
 mod numbers;

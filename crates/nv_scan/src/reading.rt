@@ -7,10 +7,10 @@ ghost use Rattle.nv_logpage.specs.Progress.{at_head};
 ghost use Rattle.nv_scan.specs.Reading.{IsRead};
 
 use crate::fold::Fold;
-use nv_inode::Slot;
+use crate::in_use::InUse;
 use nv_logpage::{Finding, LogEnd, LogReader};
 use nv_region::Pmem;
-use nv_super::{Kind, Super};
+use nv_super::Super;
 use std::alloc::{AllocError, Global};
 
 /// What a log gave: its pages, the fault that ended it, unless it ended at its tail, and what its entries say.
@@ -21,26 +21,24 @@ pub(crate) struct Read {
     pub fold: Fold,
 }
 
-/// Reads the log of an inode's slot by a reader at its head. No entry is kept.
+/// Reads the log of an inode in use by a reader at its head. No entry is kept.
 pub(crate) fn read_log<P: Pmem>(
     alloc: Global,
     memory: &P,
     sup: &Super,
     reader: &mut LogReader,
-    inode: u64,
-    kind: Kind,
-    slot: &Slot,
+    used: &InUse,
 ) -> Result<Read, AllocError>
     requires areas { HasAreas sup.now }
     requires blocks { HasBlocks (P.region memory.now) sup.now.blocks }
-    requires start { reader.old ≡ at_head sup.now slot.now.head slot.now.tail }
-    ensures reader { reader.new.numbers ≡ sup.now }
-    ensures read { IfOk result (λ read. IsRead (P.region memory.now) sup.now inode kind slot.now read) }
+    requires start { reader.old ≡ at_head sup.now used.now.slot.head used.now.slot.tail }
+    ensures reader { reader.new.sup ≡ sup.now }
+    ensures read { IfOk result (λ read. IsRead (P.region memory.now) sup.now used.now.inode used.now.kind used.now.slot read) }
 {
-    let mut fold = Fold::new(alloc, slot.created);
+    let mut fold = Fold::new(alloc, used.slot.created);
     'reading: loop {
         match reader.next(memory)? {
-            Finding::Entry(placed) => fold.take(sup, kind, inode, &placed)?,
+            Finding::Entry(placed) => fold.take(sup, used.kind, used.inode, &placed)?,
             Finding::Page(_) => {}
             Finding::End(fault) => {
                 return Ok(Read {

@@ -12,12 +12,13 @@ ghost use Rattle.nv_scan.specs.Scanned.{IsPieceOf, IsEmptyPiece, fault_of_end};
 
 use crate::claims::claims_of;
 use crate::fold::Fold;
+use crate::in_use::InUse;
 use crate::piece::{Piece, Row};
 use crate::reading::{Read, read_log};
 use nv_inode::{Slot, SlotState, read_slot};
 use nv_logpage::{LogEnd, LogFault, LogReader};
 use nv_region::Pmem;
-use nv_super::{Fault, Kind, Super};
+use nv_super::{Fault, Super};
 use std::alloc::{AllocError, Global};
 use std::marker::Model;
 
@@ -76,9 +77,7 @@ impl Scanner {
                 memory,
                 &self.sup,
                 &mut self.reader,
-                inode,
-                kind,
-                &slot,
+                &InUse { inode, kind, slot },
             ),
         }
     }
@@ -109,46 +108,29 @@ fn scan_log<P: Pmem>(
     memory: &P,
     sup: &Super,
     reader: &mut Option<LogReader>,
-    inode: u64,
-    kind: Kind,
-    slot: &Slot,
+    used: &InUse,
 ) -> Result<Piece, AllocError>
     requires layout { IsLayout sup.now }
     requires blocks { HasBlocks (P.region memory.now) sup.now.blocks }
-    requires number { IsTrue (is_number sup.now inode) }
-    requires slot { slot.now ≡ slot_at (P.region memory.now) (slot_address sup.now inode) }
-    requires kind { kind_of slot.now ≡ Some kind }
-    requires reader { IfSome reader.old (λ r. r.numbers ≡ sup.now) }
-    ensures reader { IfSome reader.new (λ r. r.numbers ≡ sup.now) }
-    ensures number { IfOk result (λ piece. piece.inode ≡ inode) }
+    requires number { IsTrue (is_number sup.now used.now.inode) }
+    requires slot { used.now.slot ≡ slot_at (P.region memory.now) (slot_address sup.now used.now.inode) }
+    requires kind { kind_of used.now.slot ≡ Some used.now.kind }
+    requires reader { IfSome reader.old (λ r. r.sup ≡ sup.now) }
+    ensures reader { IfSome reader.new (λ r. r.sup ≡ sup.now) }
+    ensures number { IfOk result (λ piece. piece.inode ≡ used.now.inode) }
     ensures piece { IfOk result (λ piece. IsPiece (P.region memory.now) (fixed_layout sup.now) piece) }
 {
-    if slot.has_right_log(sup) {
-        let mut at_head = reader_at(alloc, sup, reader.take(), slot)?;
-        let read = read_log(alloc, memory, sup, &mut at_head, inode, kind, slot);
+    let inode = used.inode;
+    if used.slot.has_right_log(sup) {
+        let mut at_head = reader_at(alloc, sup, reader.take(), &used.slot)?;
+        let read = read_log(alloc, memory, sup, &mut at_head, used);
         *reader = Some(at_head);
         let Read { pages, fault, fold } = read?;
-        piece_of(
-            alloc,
-            inode,
-            kind,
-            slot,
-            pages,
-            fold,
-            fault_of_end(inode, fault),
-        )
+        piece_of(alloc, used, pages, fold, fault_of_end(inode, fault))
     } else {
-        let fold = Fold::new(alloc, slot.created);
+        let fold = Fold::new(alloc, used.slot.created);
         let pages = Vec::new(alloc);
-        piece_of(
-            alloc,
-            inode,
-            kind,
-            slot,
-            pages,
-            fold,
-            Some(Fault::I3 { inode }),
-        )
+        piece_of(alloc, used, pages, fold, Some(Fault::I3 { inode }))
     }
 }
 
@@ -189,16 +171,15 @@ fn fault_of_end(inode: u64, end: Option<LogEnd>) -> Option<Fault>
 /// The piece of an inode in use, with one fault more, if there is one.
 fn piece_of(
     alloc: Global,
-    inode: u64,
-    kind: Kind,
-    slot: &Slot,
+    used: &InUse,
     pages: Vec<u64>,
     fold: Fold,
     fault: Option<Fault>,
 ) -> Result<Piece, AllocError>
     requires { AreSmall fold.index }
-    ensures { IfOk result (λ piece. IsPieceOf inode kind slot.now pages.items fold fault piece) }
+    ensures { IfOk result (λ piece. IsPieceOf used.now.inode used.now.kind used.now.slot pages.items fold fault piece) }
 {
+    let InUse { inode, kind, slot } = *used;
     let claims = claims_of(alloc, inode, &pages, &fold.index)?;
     let Fold {
         numbers,

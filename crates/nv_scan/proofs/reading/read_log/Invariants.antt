@@ -5,9 +5,9 @@ use Rattle.nv_scan.proofs.reading.read_log.Given as goal
 
 abbrev pub invariant-reading : goal.invariant-reading
 invariant-reading g l = record {
-  numbers : l.reader.numbers ≡ l.sup;
-  tail : l.reader.tail ≡ l.slot.tail;
-  so_far : IsReadSoFar (g.P.Pmem.region l.memory) l.slot.head l.kind l.inode l.slot.created l.reader l.fold;
+  sup : l.reader.sup ≡ l.sup;
+  tail : l.reader.tail ≡ l.used.slot.tail;
+  so_far : IsReadSoFar (g.P.Pmem.region l.memory) l.used.slot.head l.used.kind l.used.inode l.used.slot.created l.reader l.fold;
 }
 
 abbrev pub decreases-reading : goal.decreases-reading

@@ -8,6 +8,6 @@ pub returns : goal.returns
 returns c = record {
   inode = refl;
   row = (_, refl, (refl, refl, refl, refl, refl, refl, refl, refl));
-  claims = subst (λ (pages : List ℕ). Lists (λ (x : ℕ × Owner). owner_key x.1) (IsClaim c.args.inode pages c.args.fold.index) c.in_ok-claims.claims.items) c.deref.ensures.value c.in_ok-claims.ensures;
+  claims = subst (λ (pages : List ℕ). Lists (λ (x : ℕ × Owner). owner_key x.1) (IsClaim c.args.used.now.inode pages c.args.fold.index) c.in_ok-claims.claims.items) c.deref.ensures.value c.in_ok-claims.ensures;
   faults = c.in_ok-push_fault.ensures;
 }
