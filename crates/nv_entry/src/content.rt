@@ -28,14 +28,14 @@ pub enum ContentFault {
 }
 
 /// The fault in what an entry says, or `None` where the entry is good. The wrong kind is tested first.
-pub fn check_content(numbers: &Super, kind: Kind, entry: &Entry) -> Option<ContentFault>
-    requires { HasAreas numbers.now }
-    ensures fault { result ≡ content_fault numbers.now kind entry.now }
-    ensures good { is_none result ≡ is_good numbers.now kind entry.now }
+pub fn check_content(sup: &Super, kind: Kind, entry: &Entry) -> Option<ContentFault>
+    requires { HasAreas sup.now }
+    ensures fault { result ≡ content_fault sup.now kind entry.now }
+    ensures good { is_none result ≡ is_good sup.now kind entry.now }
 {
     if is_wrong_kind(entry, kind) {
         Some(ContentFault::WrongKind)
-    } else if is_out_of_range(numbers, kind, entry) {
+    } else if is_out_of_range(sup, kind, entry) {
         Some(ContentFault::OutOfRange)
     } else {
         None
@@ -55,31 +55,31 @@ pub fn is_wrong_kind(entry: &Entry, kind: Kind) -> bool
 }
 
 /// Whether a number or the name that it says can't be in an inode of this kind.
-pub fn is_out_of_range(numbers: &Super, kind: Kind, entry: &Entry) -> bool
-    requires { HasAreas numbers.now }
-    ensures { result ≡ is_out_of_range numbers.now kind entry.now }
+pub fn is_out_of_range(sup: &Super, kind: Kind, entry: &Entry) -> bool
+    requires { HasAreas sup.now }
+    ensures { result ≡ is_out_of_range sup.now kind entry.now }
 {
     match entry {
         Entry::NextPage => false,
-        Entry::Write(e) => is_write_out_of_range(numbers, e),
+        Entry::Write(e) => is_write_out_of_range(sup, e),
         Entry::Attr(e) => is_attr_out_of_range(kind, e),
-        Entry::Name(e) => is_name_out_of_range(numbers, e),
+        Entry::Name(e) => is_name_out_of_range(sup, e),
         Entry::Links(e) => is_links_out_of_range(e),
     }
 }
 
-fn is_write_out_of_range(numbers: &Super, e: &WriteEntry) -> bool
-    requires { HasAreas numbers.now }
-    ensures { result ≡ is_write_out_of_range numbers.now e.now }
+fn is_write_out_of_range(sup: &Super, e: &WriteEntry) -> bool
+    requires { HasAreas sup.now }
+    ensures { result ≡ is_write_out_of_range sup.now e.now }
 {
     let count = e.count as u64;
     // Each sum is made where both its parts are small, so none wraps.
     count == 0
         || e.offset > MOST_PAGES
         || e.offset + count > MOST_PAGES
-        || e.block < numbers.system_blocks()
-        || e.block > numbers.blocks
-        || e.block + count > numbers.blocks
+        || e.block < sup.system_blocks()
+        || e.block > sup.blocks
+        || e.block + count > sup.blocks
         || e.size > MOST_SIZE
         || (e.offset + count - 1) * BLOCK_SIZE >= e.size
 }
@@ -94,12 +94,12 @@ fn is_attr_out_of_range(kind: Kind, e: &AttrEntry) -> bool
         }
 }
 
-fn is_name_out_of_range(numbers: &Super, e: &NameEntry) -> bool
-    requires { HasAreas numbers.now }
-    ensures { result ≡ is_name_out_of_range numbers.now e.now }
+fn is_name_out_of_range(sup: &Super, e: &NameEntry) -> bool
+    requires { HasAreas sup.now }
+    ensures { result ≡ is_name_out_of_range sup.now e.now }
 {
     let name = e.name.as_slice();
-    has_bad_byte(name) || is_dots(name) || !numbers.is_number(e.inode)
+    has_bad_byte(name) || is_dots(name) || !sup.is_number(e.inode)
 }
 
 /// Whether it has a byte 0 or a `/`.

@@ -18,7 +18,7 @@ read_none R s head tail kind i created fold h = record { entries = []; leads = l
 
 pub read_more : (R : Region) (head : ℕ) (s : Super) (kind : Kind) (i created : ℕ) (r r' : Progress) (old new : Fold) (found : Finding) (x : Placed)
     → IsReadSoFar R head kind i created r old → ((h : ℕ) (es : List Placed) → Leads R h r es → Continues R h r' es found) → found ≡ Entry x
-    → r.numbers ≡ s → r'.numbers ≡ s → Takes s kind i x old new → IsReadSoFar R head kind i created r' new
+    → r.sup ≡ s → r'.sup ≡ s → Takes s kind i x old new → IsReadSoFar R head kind i created r' new
 read_more R head s kind i created r r' old new found x so_far goes is p q t = record {
   entries = so_far.entries ++ x ∷ [];
   leads = subst (λ (f : Finding). Continues R head r' so_far.entries f) is (goes head so_far.entries so_far.leads);

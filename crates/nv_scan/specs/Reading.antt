@@ -21,4 +21,4 @@ pub record IsRead (R : Region) (s : Super) (i : ℕ) (kind : Kind) (slot : Slot)
 pub record IsReadSoFar (R : Region) (head : ℕ) (kind : Kind) (i created : ℕ) (reader : Progress) (fold : Fold) : Type 0 where
   pub entries : List Placed
   pub leads : Leads R head reader entries
-  pub holds : Holds reader.numbers kind i created entries fold
+  pub holds : Holds reader.sup kind i created entries fold

@@ -142,7 +142,7 @@ fn reader_at(
     slot: &Slot,
 ) -> Result<LogReader, AllocError>
     requires areas { HasAreas sup.now }
-    requires last { IfSome last (λ r. r.numbers ≡ sup.now) }
+    requires last { IfSome last (λ r. r.sup ≡ sup.now) }
     requires right { is_right_log sup.now slot.now.head slot.now.tail ≡ true }
     ensures { IfOk result (λ r. r ≡ at_head sup.now slot.now.head slot.now.tail) }
 {

@@ -8,8 +8,8 @@ use std::alloc::AllocError;
 use std::fmt::Write;
 
 /// `region version V cpus C blocks N tables T state X`.
-pub fn push_region_line(out: &mut String, numbers: &Super) -> Result<(), AllocError>
-    ensures { OnOk result (string_bytes out.new ≡ string_bytes out.old ++ region_line numbers.now) }
+pub fn push_region_line(out: &mut String, sup: &Super) -> Result<(), AllocError>
+    ensures { OnOk result (string_bytes out.new ≡ string_bytes out.old ++ region_line sup.now) }
 {
     let Super {
         version,
@@ -17,7 +17,7 @@ pub fn push_region_line(out: &mut String, numbers: &Super) -> Result<(), AllocEr
         blocks,
         table_blocks,
         state,
-    } = *numbers;
+    } = *sup;
     writeln!(
         out,
         "region version {version} cpus {cpus} blocks {blocks} tables {table_blocks} state {state}"

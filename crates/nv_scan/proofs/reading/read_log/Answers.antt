@@ -6,7 +6,7 @@ use Rattle.nv_scan.proofs.reading.read_log.Goals as goal
 
 pub reading-init : goal.reading-init
 reading-init g c = record {
-  numbers = rw c.requires.start refl;
+  sup = rw c.requires.start refl;
   tail = rw c.requires.start refl;
   so_far = rw c.requires.start (read_none _ _ _ _ _ _ _ _ (c.new-fold.ensures _ _ _));
 }
@@ -14,9 +14,9 @@ reading-init g c = record {
 pub reading-preserved-in_ok-take-in-Entry : goal.reading-preserved-in_ok-take-in-Entry
 reading-preserved-in_ok-take-in-Entry g c =
     let moved : c.next.new.self ≡ after c.reading.reader (Entry c.in-Entry.placed) = c.in_ok-placed.ensures.moves ∙ ap (after c.reading.reader) c.in-Entry.is in
-    let numbers : c.next.new.self.numbers ≡ c.args.sup.now = ap (λ (r : Progress). r.numbers) moved ∙ c.reading.invariant.numbers in
+    let sup : c.next.new.self.sup ≡ c.args.sup.now = ap (λ (r : Progress). r.sup) moved ∙ c.reading.invariant.sup in
     record {
-      numbers = numbers;
+      sup = sup;
       tail = ap (λ (r : Progress). r.tail) moved ∙ c.reading.invariant.tail;
-      so_far = read_more _ _ c.args.sup.now _ _ _ c.reading.reader _ c.reading.fold _ _ c.in-Entry.placed c.reading.invariant.so_far c.in_ok-placed.ensures.leads c.in-Entry.is c.reading.invariant.numbers numbers c.in_ok-take-in-Entry.ensures;
+      so_far = read_more _ _ c.args.sup.now _ _ _ c.reading.reader _ c.reading.fold _ _ c.in-Entry.placed c.reading.invariant.so_far c.in_ok-placed.ensures.leads c.in-Entry.is c.reading.invariant.sup sup c.in_ok-take-in-Entry.ensures;
     }
