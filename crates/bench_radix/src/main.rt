@@ -85,15 +85,15 @@ fn overwrite(index: &mut FileIndex, pages: u64) -> Result<(), AllocError>
 
 /// Makes an index of one page and drops it, many times.
 fn make_small(alloc: Global, files: u64) -> Result<usize, AllocError> {
-    let mut pieces = 0;
+    let mut extents = 0;
     for file in 0..files {
         let mut index = FileIndex::new(alloc);
         index.reserve(0, 1)?;
         index.cut(1);
         index.set_run(0, file, 1);
-        pieces = index.runs()?.len();
+        extents = index.runs()?.len();
     }
-    Ok(pieces)
+    Ok(extents)
 }
 
 /// Makes indexes of one page and keeps them all until the end.
@@ -149,9 +149,9 @@ fn measure_overwrites<R: Eprint + Clock>(
 
 fn measure_listing<R: Print + Eprint + Clock>(rt: &R, index: &FileIndex) -> io::Result<()> {
     let start = Instant::now(rt)?;
-    let pieces = index.runs()?.len();
+    let extents = index.runs()?.len();
     print_time(rt, "listed", start)?;
-    println!(rt; "{pieces} pieces")
+    println!(rt; "{extents} extents")
 }
 
 fn measure_rising<R: AllocGlobal + Print + Eprint + Clock>(rt: &R, pages: u64) -> io::Result<()>
@@ -193,13 +193,13 @@ fn measure_at_once<R: AllocGlobal + Print + Eprint + Clock>(rt: &R, pages: u64) 
 
 fn measure_small<R: AllocGlobal + Print + Eprint + Clock>(rt: &R) -> io::Result<()> {
     let start = Instant::now(rt)?;
-    let pieces = make_small(rt.alloc(), SMALL_FILES)?;
+    let extents = make_small(rt.alloc(), SMALL_FILES)?;
     print_time(rt, "small, dropped", start)?;
 
     let start = Instant::now(rt)?;
     let kept = keep_small(rt.alloc(), SMALL_FILES)?.len();
     print_time(rt, "small, kept", start)?;
-    println!(rt; "{kept} small files of {pieces} piece")
+    println!(rt; "{kept} small files of {extents} extent")
 }
 
 fn main(rt: HostRuntime) -> io::Result<()> {

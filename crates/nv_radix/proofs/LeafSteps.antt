@@ -8,13 +8,13 @@ use Rattle.std.proofs.lemmas.List.{take_more, length-take-le, take-append-drop}
 use Rattle.std.proofs.lemmas.Nat.{pow-add}
 use Rattle.std.proofs.lemmas.Nat.Bits.{bit_at-zero, bit_at-lt, bit_at_and, bit_at_ones, bit_at_ones_above}
 use Rattle.std.proofs.Math.Nat.{div-div-eq-div-mul}
-use Rattle.nv_radix.specs.declared.piece.Piece.{Piece}
+use Rattle.nv_radix.specs.declared.extent.Extent.{Extent}
 use Rattle.nv_radix.specs.Pages.{Pages, block_at, is_ready, in_run}
-use Rattle.nv_radix.specs.Pieces.{ArePieces}
+use Rattle.nv_radix.specs.Extents.{AreExtents}
 use Rattle.nv_radix.specs.Rising.{Rises}
 use Rattle.nv_radix.specs.Nodes.{leaf_pages, raised}
 use Rattle.nv_radix.proofs.Leaves.{leaf_block, block_at-leaf, block_at-past_leaf, block_at-unset, is_ready-leaf, leaf_pages-append, Rises-leaf_pages}
-use Rattle.nv_radix.proofs.PieceLemmas.{ArePieces-same, ArePieces-skip}
+use Rattle.nv_radix.proofs.ExtentLemmas.{AreExtents-same, AreExtents-skip}
 use Rattle.nv_radix.proofs.Rising.{Rises-append, block_at-none}
 use Rattle.nv_radix.proofs.Rows.{Rises-raised, raised-append, block_at-raised_none}
 
@@ -112,14 +112,14 @@ no_more_bits n k q e l =
     ∙ ap (λ (m : ℕ). bit_at m (q - k)) e
     ∙ bit_at-zero (q - k)
 
--- the pieces of a leaf whose pages from a place on have no block
-pub ArePieces-rest : (base i mapped : ℕ) (blocks : List ℕ) (m : Pages) (pieces : List Piece) → i ≤ length blocks → mapped / 2 ^ i ≡ 0 → ArePieces (m ++ raised base (leaf_pages mapped (take i blocks) 0)) pieces → ArePieces (m ++ raised base (leaf_pages mapped blocks 0)) pieces
-ArePieces-rest base i mapped blocks m pieces l e a =
+-- the extents of a leaf whose pages from a place on have no block
+pub AreExtents-rest : (base i mapped : ℕ) (blocks : List ℕ) (m : Pages) (extents : List Extent) → i ≤ length blocks → mapped / 2 ^ i ≡ 0 → AreExtents (m ++ raised base (leaf_pages mapped (take i blocks) 0)) extents → AreExtents (m ++ raised base (leaf_pages mapped blocks 0)) extents
+AreExtents-rest base i mapped blocks m extents l e a =
     let tail = leaf_pages mapped (drop i blocks) i in
     let size : 0 + length (take i blocks) ≡ i = (let n = length-take-le i blocks l in omega (arith, n)) in
     let parts : leaf_pages mapped blocks 0 ≡ leaf_pages mapped (take i blocks) 0 ++ tail = ap (λ (bs : List ℕ). leaf_pages mapped bs 0) (sym (take-append-drop i blocks)) ∙ leaf_pages-append mapped (take i blocks) (drop i blocks) 0 ∙ ap (λ (k : ℕ). leaf_pages mapped (take i blocks) 0 ++ leaf_pages mapped (drop i blocks) k) size in
     let whole : m ++ raised base (leaf_pages mapped blocks 0) ≡ (m ++ raised base (leaf_pages mapped (take i blocks) 0)) ++ raised base tail = ap (λ (n : Pages). m ++ raised base n) parts ∙ ap (λ (n : Pages). m ++ n) (raised-append base (leaf_pages mapped (take i blocks) 0) tail) ∙ sym (append_assoc m (raised base (leaf_pages mapped (take i blocks) 0)) (raised base tail)) in
-    subst (λ (n : Pages). ArePieces n pieces) (sym whole) (ArePieces-same _ _ pieces (λ p. sym (block_at-none _ (raised base tail) p (λ q. block_at-raised_none base tail q (λ r. block_at-unset mapped (drop i blocks) i r (λ s k. no_more_bits mapped i s e k))))) a)
+    subst (λ (n : Pages). AreExtents n extents) (sym whole) (AreExtents-same _ _ extents (λ p. sym (block_at-none _ (raised base tail) p (λ q. block_at-raised_none base tail q (λ r. block_at-unset mapped (drop i blocks) i r (λ s k. no_more_bits mapped i s e k))))) a)
 
 -- one page more of a leaf
 leaf_more : (mapped : ℕ) (blocks : List ℕ) (i : ℕ) → i < length blocks → leaf_pages mapped (take (i + 1) blocks) 0 ≡ leaf_pages mapped (take i blocks) 0 ++ (i, leaf_block mapped blocks i i) ∷ []
@@ -140,15 +140,15 @@ Rises-so_far base mapped blocks i m l h =
     Rises-append 0 base (base + i) m _ h (subst (λ k. Rises base k (raised base (leaf_pages mapped (take i blocks) 0))) high (subst (λ k. Rises k (base + (0 + length (take i blocks))) (raised base (leaf_pages mapped (take i blocks) 0))) low rises))
 
 -- the step of a walk at a mapped page
-pub ArePieces-set : (base mapped block : ℕ) (blocks : List ℕ) (i : ℕ) (m : Pages) (old new : List Piece) → i < length blocks → bit_at mapped i ≡ 1 → block ≡ get_or blocks i 0 → Rises 0 base m → ((n : Pages) → Rises 0 (base + i) n → ArePieces n old → ArePieces (n ++ (base + i, Some block) ∷ []) new) → ArePieces (m ++ raised base (leaf_pages mapped (take i blocks) 0)) old → ArePieces (m ++ raised base (leaf_pages mapped (take (i + 1) blocks) 0)) new
-ArePieces-set base mapped block blocks i m old new l set is h step a =
+pub AreExtents-set : (base mapped block : ℕ) (blocks : List ℕ) (i : ℕ) (m : Pages) (old new : List Extent) → i < length blocks → bit_at mapped i ≡ 1 → block ≡ get_or blocks i 0 → Rises 0 base m → ((n : Pages) → Rises 0 (base + i) n → AreExtents n old → AreExtents (n ++ (base + i, Some block) ∷ []) new) → AreExtents (m ++ raised base (leaf_pages mapped (take i blocks) 0)) old → AreExtents (m ++ raised base (leaf_pages mapped (take (i + 1) blocks) 0)) new
+AreExtents-set base mapped block blocks i m old new l set is h step a =
     let entry : Some block ≡ leaf_block mapped blocks i i = rw set (ap (λ (b : ℕ). Some b) is) in
     let more : (m ++ raised base (leaf_pages mapped (take i blocks) 0)) ++ (base + i, Some block) ∷ [] ≡ m ++ raised base (leaf_pages mapped (take (i + 1) blocks) 0) = ap (λ (o : Option ℕ). (m ++ raised base (leaf_pages mapped (take i blocks) 0)) ++ (base + i, o) ∷ []) entry ∙ sym (raised_more base mapped blocks i m l) in
-    subst (λ (n : Pages). ArePieces n new) more (step _ (Rises-so_far base mapped blocks i m (omega (arith, l)) h) a)
+    subst (λ (n : Pages). AreExtents n new) more (step _ (Rises-so_far base mapped blocks i m (omega (arith, l)) h) a)
 
 -- and at a page with no block
-pub ArePieces-unset : (base mapped : ℕ) (blocks : List ℕ) (i : ℕ) (m : Pages) (pieces : List Piece) → i < length blocks → (bit_at mapped i ≡ 1 → ⊥) → ArePieces (m ++ raised base (leaf_pages mapped (take i blocks) 0)) pieces → ArePieces (m ++ raised base (leaf_pages mapped (take (i + 1) blocks) 0)) pieces
-ArePieces-unset base mapped blocks i m pieces l unset a =
+pub AreExtents-unset : (base mapped : ℕ) (blocks : List ℕ) (i : ℕ) (m : Pages) (extents : List Extent) → i < length blocks → (bit_at mapped i ≡ 1 → ⊥) → AreExtents (m ++ raised base (leaf_pages mapped (take i blocks) 0)) extents → AreExtents (m ++ raised base (leaf_pages mapped (take (i + 1) blocks) 0)) extents
+AreExtents-unset base mapped blocks i m extents l unset a =
     let entry : None ≡ leaf_block mapped blocks i i = elim (eqb_tells (bit_at mapped i) 1) [ inl w ↦ absurd (unset w.1) | inr w ↦ rw w.0 refl ] in
     let more : (m ++ raised base (leaf_pages mapped (take i blocks) 0)) ++ (base + i, None) ∷ [] ≡ m ++ raised base (leaf_pages mapped (take (i + 1) blocks) 0) = ap (λ (o : Option ℕ). (m ++ raised base (leaf_pages mapped (take i blocks) 0)) ++ (base + i, o) ∷ []) entry ∙ sym (raised_more base mapped blocks i m l) in
-    subst (λ (n : Pages). ArePieces n pieces) more (ArePieces-skip _ (base + i) pieces a)
+    subst (λ (n : Pages). AreExtents n extents) more (AreExtents-skip _ (base + i) extents a)

@@ -2,8 +2,8 @@ pub mod Halves
 pub mod LeafSteps
 pub mod Leaves
 pub mod Mapped
-pub mod OnlyPieces
-pub mod PieceLemmas
+pub mod OnlyExtents
+pub mod ExtentLemmas
 pub mod Rising
 pub mod RowSteps
 pub mod Rows

@@ -7,9 +7,9 @@ use Rattle.std.proofs.lemmas.Bool.{cases_lt, cases_eq}
 use Rattle.std.proofs.lemmas.Bool.Decides.{leb_tells, eqb_tells}
 use Rattle.std.proofs.lemmas.List.{get_or-set_same, get_or-set_other, get_or-take, get_or_past, length-take, length-take-le, take_more}
 use Rattle.std.proofs.lemmas.List.Elements.{All-take, All-push}
-use Rattle.nv_radix.specs.declared.piece.Piece.{Piece}
+use Rattle.nv_radix.specs.declared.extent.Extent.{Extent}
 use Rattle.nv_radix.specs.Pages.{Pages, block_at, is_ready, in_run}
-use Rattle.nv_radix.specs.Pieces.{ArePieces}
+use Rattle.nv_radix.specs.Extents.{AreExtents}
 use Rattle.nv_radix.specs.Rising.{Rises}
 use Rattle.nv_radix.specs.Nodes.{in_row, raised, IsNode}
 use Rattle.nv_radix.proofs.Rising.{Rises-append, Rises-higher}
@@ -162,8 +162,8 @@ IsNode-branches xs h few = record {
     page p = (let whole : p ≡ p / 4096 * 4096 + p % 4096 = omega arith in ap (is_ready (in_row 4096 xs)) whole ∙ is_ready-in_row 4096 xs (p / 4096) (p % 4096) h (omega arith))
 
 -- one node more of a walk over a row
-pub ArePieces-node : (span base : ℕ) (xs : List Pages) (i : ℕ) (m : Pages) (old new : List Piece) → All (IsNode span) xs → i < length xs → Rises 0 base m → ((n : Pages) → Rises 0 (base + i * span) n → ArePieces n old → ArePieces (n ++ raised (base + i * span) (get_or xs i [])) new) → ArePieces (m ++ raised base (in_row span (take i xs))) old → ArePieces (m ++ raised base (in_row span (take (i + 1) xs))) new
-ArePieces-node span base xs i m old new h l rises step a =
+pub AreExtents-node : (span base : ℕ) (xs : List Pages) (i : ℕ) (m : Pages) (old new : List Extent) → All (IsNode span) xs → i < length xs → Rises 0 base m → ((n : Pages) → Rises 0 (base + i * span) n → AreExtents n old → AreExtents (n ++ raised (base + i * span) (get_or xs i [])) new) → AreExtents (m ++ raised base (in_row span (take i xs))) old → AreExtents (m ++ raised base (in_row span (take (i + 1) xs))) new
+AreExtents-node span base xs i m old new h l rises step a =
     let size : length (take i xs) ≡ i = length-take-le i xs (omega (arith, l)) in
     let front : Pages = m ++ raised base (in_row span (take i xs)) in
     let row : in_row span (take (i + 1) xs) ≡ in_row span (take i xs) ++ raised (i * span) (get_or xs i []) = ap (in_row span) (take_more xs i [] l) ∙ in_row-append span (take i xs) (get_or xs i [] ∷ []) ∙ ap (λ (k : ℕ). in_row span (take i xs) ++ raised (k * span) (get_or xs i [] ++ [])) size ∙ ap (λ (n : Pages). in_row span (take i xs) ++ raised (i * span) n) (append-nil (get_or xs i [])) in
@@ -171,7 +171,7 @@ ArePieces-node span base xs i m old new h l rises step a =
     let taken = Rises-in_row span (take i xs) (All-take (IsNode span) i xs h) in
     let low : base + 0 ≡ base = omega arith in
     let lifted : Rises base (base + i * span) (raised base (in_row span (take i xs))) = subst (λ k. Rises base (base + k * span) (raised base (in_row span (take i xs)))) size (subst (λ k. Rises k (base + length (take i xs) * span) (raised base (in_row span (take i xs)))) low (Rises-raised base 0 (length (take i xs) * span) (in_row span (take i xs)) taken)) in
-    subst (λ n. ArePieces n new) (sym more) (step front (Rises-append 0 base (base + i * span) m _ rises lifted) a)
+    subst (λ n. AreExtents n new) (sym more) (step front (Rises-append 0 base (base + i * span) m _ rises lifted) a)
 
 -- a page of a row, by its node
 pub block_at-page : (span : ℕ) (xs : List Pages) (p : ℕ) → 0 < span → All (IsNode span) xs → block_at (in_row span xs) p ≡ block_at (get_or xs (p / span) []) (p % span)

@@ -1,4 +1,4 @@
 pub mod Nodes
 pub mod Pages
-pub mod Pieces
+pub mod Extents
 pub mod Rising

@@ -4,11 +4,11 @@ ghost use Rattle.std.specs.Prelude.{◌≡◌, ℕ, ◌+◌, ◌-◌, ◌/◌, �
 ghost use Rattle.std.specs.List.{All};
 ghost use Rattle.nv_radix.specs.Nodes.{raised, IsNode};
 ghost use Rattle.nv_radix.specs.Pages.{Pages, block_at, is_ready, in_run};
-ghost use Rattle.nv_radix.specs.Pieces.{ArePieces};
+ghost use Rattle.nv_radix.specs.Extents.{AreExtents};
 ghost use Rattle.nv_radix.specs.Rising.{Rises};
 
+use crate::extent::Extent;
 use crate::leaf::Leaf;
-use crate::piece::Piece;
 use std::alloc::{AllocError, Global};
 use std::marker::Model;
 
@@ -102,13 +102,13 @@ impl Branch {
         self.leaves[place].cut(within);
     }
 
-    /// Adds the mapped pages, each raised by `base`, to pieces of lower pages.
-    pub fn add_pages(&self, pieces: &mut Vec<Piece>, base: u64) -> Result<(), AllocError>
+    /// Adds the mapped pages, each raised by `base`, to extents of lower pages.
+    pub fn add_pages(&self, extents: &mut Vec<Extent>, base: u64) -> Result<(), AllocError>
         requires { base < 2 ^ 31 }
-        ensures { OnOk result ((m : Pages) → Rises 0 base m → ArePieces m pieces.old.items → ArePieces (m ++ raised base self.now) pieces.new.items) }
+        ensures { OnOk result ((m : Pages) → Rises 0 base m → AreExtents m extents.old.items → AreExtents (m ++ raised base self.now) extents.new.items) }
     {
         for (place, leaf) in self.leaves.iter().enumerate() {
-            leaf.add_pages(pieces, base + place as u64 * 64)?;
+            leaf.add_pages(extents, base + place as u64 * 64)?;
         }
         Ok(())
     }

@@ -2,11 +2,11 @@
 
 ghost use Rattle.std.specs.Prelude.{◌≡◌, ℕ, ◌+◌, ◌-◌, ◌/◌, ◌%◌, ◌^◌, ◌<◌, ◌≤◌, ◌||◌, ◌==◌, List, if◌then◌else◌, nat_le, Some, None, true, false, OnOk, OnErr, IfOk};
 ghost use Rattle.nv_radix.specs.Pages.{block_at, is_ready, in_run, AreReady, AreFilePages};
-ghost use Rattle.nv_radix.specs.Pieces.{ArePieces};
+ghost use Rattle.nv_radix.specs.Extents.{AreExtents};
 
 use crate::MAX_FILE_PAGES;
+use crate::extent::Extent;
 use crate::leaf::Leaf;
-use crate::piece::Piece;
 use crate::root::Root;
 use std::alloc::{AllocError, Global};
 use std::marker::Model;
@@ -151,14 +151,14 @@ impl FileIndex {
         }
     }
 
-    /// The longest pieces of the map, rising. It costs a walk over the tree.
-    pub fn runs(&self) -> Result<Vec<Piece>, AllocError>
-        ensures pieces { IfOk result (λ v. ArePieces self.now v.items) }
-        ensures only { IfOk result (λ v. (others : List Piece) → ArePieces self.now others → others ≡ v.items) }
+    /// The longest extents of the map, rising. It costs a walk over the tree.
+    pub fn runs(&self) -> Result<Vec<Extent>, AllocError>
+        ensures extents { IfOk result (λ v. AreExtents self.now v.items) }
+        ensures only { IfOk result (λ v. (others : List Extent) → AreExtents self.now others → others ≡ v.items) }
     {
-        let mut pieces = Vec::new(self.alloc);
-        self.front.add_pages(&mut pieces, 0)?;
-        self.rest.add_pages(&mut pieces, 64)?;
-        Ok(pieces)
+        let mut extents = Vec::new(self.alloc);
+        self.front.add_pages(&mut extents, 0)?;
+        self.rest.add_pages(&mut extents, 64)?;
+        Ok(extents)
     }
 }

@@ -4,11 +4,11 @@ ghost use Rattle.std.specs.Prelude.{◌≡◌, ℕ, ◌+◌, ◌-◌, ◌^◌, �
 ghost use Rattle.std.specs.Int.{bit_at};
 ghost use Rattle.nv_radix.specs.Nodes.{raised, IsNode};
 ghost use Rattle.nv_radix.specs.Pages.{Pages, block_at, is_ready, in_run};
-ghost use Rattle.nv_radix.specs.Pieces.{ArePieces};
+ghost use Rattle.nv_radix.specs.Extents.{AreExtents};
 ghost use Rattle.nv_radix.specs.Rising.{Rises};
 
-use crate::piece::Piece;
-use crate::pieces::add_page;
+use crate::extent::Extent;
+use crate::extents::add_page;
 use std::alloc::{AllocError, Global};
 use std::marker::Model;
 
@@ -100,10 +100,10 @@ impl Leaf {
         self.mapped &= (1 << first_page) - 1;
     }
 
-    /// Adds the mapped pages, each raised by `base`, to pieces of lower pages.
-    pub fn add_pages(&self, pieces: &mut Vec<Piece>, base: u64) -> Result<(), AllocError>
+    /// Adds the mapped pages, each raised by `base`, to extents of lower pages.
+    pub fn add_pages(&self, extents: &mut Vec<Extent>, base: u64) -> Result<(), AllocError>
         requires { base < 2 ^ 32 }
-        ensures { OnOk result ((m : Pages) → Rises 0 base m → ArePieces m pieces.old.items → ArePieces (m ++ raised base self.now) pieces.new.items) }
+        ensures { OnOk result ((m : Pages) → Rises 0 base m → AreExtents m extents.old.items → AreExtents (m ++ raised base self.now) extents.new.items) }
     {
         for (place, block) in self.blocks.iter().enumerate() {
             let rest = self.mapped >> place;
@@ -111,7 +111,7 @@ impl Leaf {
                 return Ok(());
             }
             if rest & 1 == 1 {
-                add_page(pieces, base + place as u64, *block)?;
+                add_page(extents, base + place as u64, *block)?;
             }
         }
         Ok(())

@@ -4,14 +4,14 @@
 #![tactic(auto)]
 
 mod branch;
+mod extent;
+mod extents;
 mod index;
 mod leaf;
-mod piece;
-mod pieces;
 mod root;
 
+pub use extent::Extent;
 pub use index::FileIndex;
-pub use piece::Piece;
 
 /// The number of pages that a file may have: page numbers are below it.
 pub const MAX_FILE_PAGES: u64 = 262_144;

@@ -5,10 +5,10 @@ use Rattle.nv_super.proofs.Rising.{Lists-only}
 use Rattle.nv_super.specs.Order.{Lists}
 use Rattle.nv_super.specs.declared.kind.Kind.{Kind}
 use Rattle.nv_super.specs.declared.kind.Kind.TheVariants.{File, Directory}
-use Rattle.nv_radix.proofs.OnlyPieces.{ArePieces-only}
+use Rattle.nv_radix.proofs.OnlyExtents.{AreExtents-only}
 use Rattle.nv_radix.specs.Pages.{Pages, block_at}
-use Rattle.nv_radix.specs.Pieces.{ArePieces, IsMapped}
-use Rattle.nv_radix.specs.declared.piece.Piece.{Piece}
+use Rattle.nv_radix.specs.Extents.{AreExtents, IsMapped}
+use Rattle.nv_radix.specs.declared.extent.Extent.{Extent}
 use Rattle.nv_names.specs.Names.{Names, name_at, ListsNames}
 use Rattle.nv_scan.proofs.NamesListed.{names_listed}
 use Rattle.nv_scan.specs.declared.piece.Row.{Row}
@@ -19,7 +19,7 @@ use Rattle.nv_text.specs.Free.{free_lines}
 use Rattle.nv_text.specs.Faults.{faults_text}
 use Rattle.nv_outcome.specs.Outcome.{Outcome}
 use Rattle.nv_outcome.specs.Same.{SameRow, SameRows, SameOutcome}
-use Rattle.nv_report.specs.Texts.{row_head, names_text, pieces_text, IsContentText, IsRowText, IsTreeText, IsReportText, IsPartText, recovered_text}
+use Rattle.nv_report.specs.Texts.{row_head, names_text, extents_text, IsContentText, IsRowText, IsTreeText, IsReportText, IsPartText, recovered_text}
 use Rattle.nv_report.specs.declared.part.Part.{Part}
 use Rattle.nv_report.specs.declared.part.Part.TheVariants as parts
 
@@ -32,9 +32,9 @@ names_again a b listed same l = let all = names_listed b listed l in record {
   all = λ x e. all.all x (same x.0 ∙ e);
 }
 
--- pieces of another map to the same blocks
-pieces_again : (a b : Pages) (pieces : List Piece) → ((p : ℕ) → block_at b p ≡ block_at a p) → ArePieces b pieces → ArePieces a pieces
-pieces_again a b pieces same are = record {
+-- extents of another map to the same blocks
+extents_again : (a b : Pages) (extents : List Extent) → ((p : ℕ) → block_at b p ≡ block_at a p) → AreExtents b extents → AreExtents an extents
+extents_again a b extents same are = record {
   some = are.some;
   mapped = All-weaker (IsMapped b) (IsMapped a) (λ (x : Extent) m. λ j inside. sym (same (x.page + j)) ∙ m j inside) extents are.mapped;
   whole = λ p some. are.whole p (rw (same p) some);
@@ -45,7 +45,7 @@ content_only : (kind : Kind) (a b : Row) (s t : List ℕ) → SameRow a b → Is
 content_only Directory a b s t same p q =
     let listed = Lists-only (λ (x : List ℕ × ℕ × ℕ). x.0) (λ x. name_at a.names x.0 ≡ Some (x.1, x.2)) p.0 q.0 (names_listed a.names p.0 p.1) (names_again a.names b.names q.0 same.names q.1) in
     p.2 ∙ ap names_text listed ∙ sym q.2
-content_only File a b s t same p q = p.2 ∙ ap pieces_text (ArePieces-only a.index p.0 q.0 p.1 (pieces_again a.index b.index q.0 same.index q.1)) ∙ sym q.2
+content_only File a b s t same p q = p.2 ∙ ap extents_text (AreExtents-only a.index p.0 q.0 p.1 (extents_again a.index b.index q.0 same.index q.1)) ∙ sym q.2
 
 head_only : (a b : Row) → SameRow a b → row_head b ≡ row_head a
 head_only a b same = λ i. inode_line (record {

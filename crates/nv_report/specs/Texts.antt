@@ -4,8 +4,8 @@ use Rattle.nv_super.specs.declared.kind.Kind.{Kind}
 use Rattle.nv_super.specs.declared.kind.Kind.TheVariants.{File, Directory}
 use Rattle.nv_alloc.specs.Taking.{all_blocks}
 use Rattle.nv_radix.specs.Pages.{Pages}
-use Rattle.nv_radix.specs.Pieces.{ArePieces}
-use Rattle.nv_radix.specs.declared.piece.Piece.{Piece}
+use Rattle.nv_radix.specs.Extents.{AreExtents}
+use Rattle.nv_radix.specs.declared.extent.Extent.{Extent}
 use Rattle.nv_names.specs.Names.{Names, ListsNames}
 use Rattle.nv_scan.specs.declared.piece.Row.{Row}
 use Rattle.nv_text.specs.Answers.{recovered_line}
@@ -43,14 +43,14 @@ row_head row = inode_line (attributes_of row) ++ log_line row.pages.items row.ta
 abbrev pub names_text : List (List ℕ × ℕ × ℕ) → List ℕ
 names_text listed = flat_map (λ (e : List ℕ × ℕ × ℕ). name_line e.0 e.1) listed
 
--- a line for each piece
-abbrev pub pieces_text : List Piece → List ℕ
-pieces_text pieces = flat_map (λ (x : Piece). page_line x.page x.count x.block) pieces
+-- a line for each extent
+abbrev pub extents_text : List Extent → List ℕ
+extents_text extents = flat_map (λ (x : Extent). page_line x.page x.count x.block) extents
 
--- what an inode holds: the names of a directory, each once and rising by bytes, or the longest pieces of a file
+-- what an inode holds: the names of a directory, each once and rising by bytes, or the longest extents of a file
 abbrev pub IsContentText : Kind → Pages → Names → List ℕ → Type 0
 IsContentText Directory index names text = (listed : List (List ℕ × ℕ × ℕ)) × ListsNames names listed × (text ≡ names_text listed)
-IsContentText File index names text = (pieces : List Piece) × ArePieces index pieces × (text ≡ pieces_text pieces)
+IsContentText File index names text = (extents : List Extent) × AreExtents index extents × (text ≡ extents_text extents)
 
 -- the text of an inode
 abbrev pub IsRowText : Row → List ℕ → Type 0

@@ -13,8 +13,8 @@ use Rattle.nv_super.proofs.Rising.{Contains-cons, Contains-head, Contains-tail, 
 use Rattle.nv_super.proofs.Members.{from_flat, into_flat}
 use Rattle.nv_super.proofs.Options.{some_is}
 use Rattle.nv_radix.specs.Pages.{Pages, block_at}
-use Rattle.nv_radix.specs.Pieces.{IsMapped, HasPage, AreApart, ArePieces}
-use Rattle.nv_radix.specs.declared.piece.Piece.{Piece as Run}
+use Rattle.nv_radix.specs.Extents.{IsMapped, HasPage, AreApart, AreExtents}
+use Rattle.nv_radix.specs.declared.extent.Extent.{Extent}
 use Rattle.nv_scan.specs.Claims.{IsClaim, of_log, of_page, log_claims, run_claims, data_claims, IsSmall, AreSmall}
 
 abbrev key : ℕ × Owner → List ℕ
@@ -104,19 +104,19 @@ run_rises i p b (suc n) = rises_append key (pairs b (owners.Data i p) n) ((b + n
       | inr w ↦ absurd (omega (arith, w.1))
     ])
 
-apart_tail : (x : Run) (xs : List Run) → AreApart (x ∷ xs) → AreApart xs
+apart_tail : (x : Extent) (xs : List Extent) → AreApart (x ∷ xs) → AreApart xs
 apart_tail x [] a = tt
 apart_tail x (y ∷ xs) a = a.1
 
--- a piece lies before all that follow it
-apart_all : (x : Run) (xs : List Run) (y : Run) → AreApart (x ∷ xs) → Contains xs y → x.page + x.count ≤ y.page
+-- an extent lies before all that follow it
+apart_all : (x : Extent) (xs : List Extent) (y : Extent) → AreApart (x ∷ xs) → Contains xs y → x.page + x.count ≤ y.page
 apart_all x [] y a c = absurd (omega (arith, c.1))
 apart_all x (z ∷ xs) y a c = elim (Contains-cons z xs y c) [
-  | inl w ↦ subst (λ (v : Run). x.page + x.count ≤ v.page) (sym w) a.0.rises
+  | inl w ↦ subst (λ (v : Extent). x.page + x.count ≤ v.page) (sym w) a.0.rises
   | inr w ↦ (let r = apart_all z xs y a.1 w in let s = a.0.rises in omega (arith, r, s))
 ]
 
-data_rises : (i : ℕ) (xs : List Run) → AreApart xs → Rises key (data_claims i xs)
+data_rises : (i : ℕ) (xs : List Extent) → AreApart xs → Rises key (data_claims i xs)
 data_rises i [] a = tt
 data_rises i (x ∷ xs) a = rises_append key (run_claims i x) (data_claims i xs) (run_rises i x.page x.block x.count) (data_rises i xs (apart_tail x xs a))
     (λ u v c d. (
@@ -126,9 +126,9 @@ data_rises i (x ∷ xs) a = rises_append key (run_claims i x) (data_claims i xs)
     let gap = apart_all x xs f.0 a f.1 in
     rw (r.is, q.is) (data_below i (x.page + r.j) (f.0.page + q.j) (omega (arith, r.within, gap)))))
 
--- a page of a piece, by how far it stands behind its first
-page_of_piece : (m : Pages) (i : ℕ) (x : Run) (p b : ℕ) → IsMapped m x → HasPage x p → block_at m p ≡ Some b → Contains (run_claims i x) (b, owners.Data i p)
-page_of_piece m i x p b mapped has h =
+-- a page of an extent, by how far it stands behind its first
+page_of_extent : (m : Pages) (i : ℕ) (x : Extent) (p b : ℕ) → IsMapped m x → HasPage x p → block_at m p ≡ Some b → Contains (run_claims i x) (b, owners.Data i p)
+page_of_extent m i x p b mapped has h =
     let e : x.page + (p - x.page) ≡ p = omega (arith, has.0) in
     let f : block_at m p ≡ Some (x.block + (p - x.page)) = subst (λ (q : ℕ). block_at m q ≡ Some (x.block + (p - x.page))) e (mapped (p - x.page) (omega (arith, has.0, has.1))) in
     let g : x.block + (p - x.page) ≡ b = some_is (x.block + (p - x.page)) b (block_at m p) f h in
@@ -141,7 +141,7 @@ claim_from_log i pages m x r =
     subst (λ (y : ℕ × Owner). IsClaim i pages m y) (λ k. (x.0, o k)) (of_log r.j x.0 r.here)
 
 -- the claims are just the owners, in their order
-pub are_claims : (i : ℕ) (pages : List ℕ) (m : Pages) (runs : List Run) → ArePieces m runs → Lists key (IsClaim i pages m) (log_claims i 0 pages ++ data_claims i runs)
+pub are_claims : (i : ℕ) (pages : List ℕ) (m : Pages) (runs : List Extent) → AreExtents m runs → Lists key (IsClaim i pages m) (log_claims i 0 pages ++ data_claims i runs)
 are_claims i pages m runs are = record {
   rising = rises_append key (log_claims i 0 pages) (data_claims i runs) (log_rises i 0 pages) (data_rises i runs are.apart)
       (λ u v c d. (
@@ -167,22 +167,22 @@ are_claims i pages m runs are = record {
     claimed _ (of_page p b h) =
         let w = are.whole p (subst (λ (o : Option ℕ). IsSome o) (sym h) refl) in
         Contains-append_right (log_claims i 0 pages) (data_claims i runs) (b, owners.Data i p)
-        (into_flat (run_claims i) runs w.0 (b, owners.Data i p) w.1 (page_of_piece m i w.0 p b (All-contains (IsMapped m) runs w.0 are.mapped w.1) w.2 h))
+        (into_flat (run_claims i) runs w.0 (b, owners.Data i p) w.1 (page_of_extent m i w.0 p b (All-contains (IsMapped m) runs w.0 are.mapped w.1) w.2 h))
 
 -- one block of a run more
 pub run_claims-more : (i p b n : ℕ) → pairs b (owners.Data i p) (n + 1) ≡ pairs b (owners.Data i p) n ++ (b + n, owners.Data i (p + n)) ∷ []
 run_claims-more i p b n = let e : n + 1 ≡ suc n = omega arith in ap (pairs b (owners.Data i p)) e
 
 -- one run more
-pub data_claims-more : (i : ℕ) (runs : List Run) (n : ℕ) (x : Run) → n < length runs → x ≡ get_or runs n x → data_claims i (take (n + 1) runs) ≡ data_claims i (take n runs) ++ run_claims i x
+pub data_claims-more : (i : ℕ) (runs : List Extent) (n : ℕ) (x : Extent) → n < length runs → x ≡ get_or runs n x → data_claims i (take (n + 1) runs) ≡ data_claims i (take n runs) ++ run_claims i x
 data_claims-more i runs n x h e =
-    ap (data_claims i) (take_more runs n x h ∙ ap (λ (y : Run). take n runs ++ y ∷ []) (sym e)) ∙ flat_map-append (run_claims i) (take n runs) (x ∷ []) ∙ ap (λ (ys : List (ℕ × Owner)). data_claims i (take n runs) ++ ys) (append-nil (run_claims i x))
+    ap (data_claims i) (take_more runs n x h ∙ ap (λ (y : Extent). take n runs ++ y ∷ []) (sym e)) ∙ flat_map-append (run_claims i) (take n runs) (x ∷ []) ∙ ap (λ (ys : List (ℕ × Owner)). data_claims i (take n runs) ++ ys) (append-nil (run_claims i x))
 
-small_run : (m : Pages) (x : Run) → AreSmall m → 0 < x.count → IsMapped m x → IsSmall x
+small_run : (m : Pages) (x : Extent) → AreSmall m → 0 < x.count → IsMapped m x → IsSmall x
 small_run m x small some mapped =
     let s = small (x.page + (x.count - 1)) (x.block + (x.count - 1)) (mapped (x.count - 1) (omega arith)) in
     (omega (arith, s.0, s.1), omega (arith, s.0, s.1))
 
--- pieces of small pages and blocks are small
-pub small_runs : (m : Pages) (runs : List Run) → AreSmall m → ArePieces m runs → All IsSmall runs
+-- extents of small pages and blocks are small
+pub small_runs : (m : Pages) (runs : List Extent) → AreSmall m → AreExtents m runs → All IsSmall runs
 small_runs m runs small are = λ k d h. small_run m (slice_index_or runs k d) small (are.some k d h) (are.mapped k d h)

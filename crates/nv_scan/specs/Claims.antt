@@ -5,7 +5,7 @@ use Rattle.nv_super.specs.Owners.{pairs}
 use Rattle.nv_super.specs.declared.owners.Owner.{Owner}
 use Rattle.nv_super.specs.declared.owners.Owner.TheVariants as owners
 use Rattle.nv_radix.specs.Pages.{Pages, block_at}
-use Rattle.nv_radix.specs.declared.piece.Piece.{Piece as Run}
+use Rattle.nv_radix.specs.declared.extent.Extent.{Extent}
 
 -- a block with its owner: a page of the log, or the block of a page of the file
 pub data IsClaim (i : ℕ) (pages : List ℕ) (m : Pages) : ℕ × Owner → Type 0 where
@@ -17,16 +17,16 @@ abbrev pub log_claims : ℕ → ℕ → List ℕ → List (ℕ × Owner)
 log_claims i k [] = []
 log_claims i k (b ∷ bs) = (b, owners.Log i k) ∷ log_claims i (k + 1) bs
 
--- the blocks of a piece of the file
-abbrev pub run_claims : ℕ → Run → List (ℕ × Owner)
+-- the blocks of an extent of the file
+abbrev pub run_claims : ℕ → Extent → List (ℕ × Owner)
 run_claims i x = pairs x.block (owners.Data i x.page) x.count
 
--- the blocks of all pieces
-abbrev pub data_claims : ℕ → List Run → List (ℕ × Owner)
+-- the blocks of all extents
+abbrev pub data_claims : ℕ → List Extent → List (ℕ × Owner)
 data_claims i runs = flat_map (run_claims i) runs
 
--- the pages and the blocks of a piece have numbers of 64 bits
-abbrev pub IsSmall : Run → Type 0
+-- the pages and the blocks of an extent have numbers of 64 bits
+abbrev pub IsSmall : Extent → Type 0
 IsSmall x = (x.block + x.count ≤ 2 ^ 64) × (x.page + x.count ≤ 2 ^ 64)
 
 -- pages and their blocks have small numbers

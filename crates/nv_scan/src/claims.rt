@@ -4,10 +4,9 @@ ghost use Rattle.std.specs.Prelude.{◌≡◌, ◌+◌, ◌≤◌, ◌<◌, ◌^
 ghost use Rattle.std.specs.List.{All};
 ghost use Rattle.nv_super.specs.Order.{Lists, owner_key};
 ghost use Rattle.nv_super.specs.Owners.{pairs};
-ghost use Rattle.nv_radix.specs.declared.piece.Piece.{Piece as RunValue};
 ghost use Rattle.nv_scan.specs.Claims.{IsClaim, log_claims, run_claims, data_claims, IsSmall, AreSmall};
 
-use nv_radix::{FileIndex, Piece as Run};
+use nv_radix::{Extent, FileIndex};
 use nv_super::Owner;
 use std::alloc::{AllocError, Global};
 
@@ -39,7 +38,7 @@ fn push_pages(claims: &mut Vec<(u64, Owner)>, inode: u64, pages: &[u64]) -> Resu
     Ok(())
 }
 
-fn push_runs(claims: &mut Vec<(u64, Owner)>, inode: u64, runs: &[Run]) -> Result<(), AllocError>
+fn push_runs(claims: &mut Vec<(u64, Owner)>, inode: u64, runs: &[Extent]) -> Result<(), AllocError>
     requires { All IsSmall runs.now }
     ensures { OnOk result (claims.new.items ≡ claims.old.items ++ data_claims inode runs.now) }
 {
@@ -49,7 +48,7 @@ fn push_runs(claims: &mut Vec<(u64, Owner)>, inode: u64, runs: &[Run]) -> Result
     Ok(())
 }
 
-fn push_run(claims: &mut Vec<(u64, Owner)>, inode: u64, run: &Run) -> Result<(), AllocError>
+fn push_run(claims: &mut Vec<(u64, Owner)>, inode: u64, run: &Extent) -> Result<(), AllocError>
     requires { IsSmall run.now }
     ensures { OnOk result (claims.new.items ≡ claims.old.items ++ run_claims inode run.now) }
 {

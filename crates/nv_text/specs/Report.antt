@@ -29,6 +29,6 @@ stat_line a = codes "stat " ++ inode_line a
 abbrev pub log_line : List ℕ → ℕ → List ℕ
 log_line pages tail = codes "  log" ++ flat_map (λ page. codes " " ++ decimal page) pages ++ line (codes " tail " ++ decimal tail)
 
--- a piece of a file: its first page, the number of its pages, and the block of the first
+-- an extent of a file: its first page, the number of its pages, and the block of the first
 abbrev pub page_line : ℕ → ℕ → ℕ → List ℕ
 page_line page count block = line (codes "  page " ++ decimal page ++ codes " " ++ decimal count ++ codes " " ++ decimal block)

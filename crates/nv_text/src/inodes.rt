@@ -1,4 +1,4 @@
-//! The lines of an inode: its attributes, its log, and the pieces of a file.
+//! The lines of an inode: its attributes, its log, and the extents of a file.
 
 ghost use Rattle.std.specs.Prelude.{◌≡◌, ◌++◌, OnOk, string_bytes, flat_map, codes, decimal};
 ghost use Rattle.nv_text.specs.Report.{inode_head, inode_tail, inode_line, stat_line, log_line, page_line};

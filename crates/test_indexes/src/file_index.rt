@@ -1,9 +1,9 @@
-//! Each call once with ample memory, and the pieces of small maps.
+//! Each call once with ample memory, and the extents of small maps.
 
 ghost use Rattle.std.specs.Prelude.{◌+◌, ◌^◌, ◌<◌, ◌≤◌};
 ghost use Rattle.nv_radix.specs.Pages.{AreFilePages};
 
-use nv_radix::{FileIndex, Piece};
+use nv_radix::{Extent, FileIndex};
 use std::alloc::AllocError;
 use std::process::Abort;
 use std::test::Fail;
@@ -18,14 +18,14 @@ fn map_run(index: &mut FileIndex, page: u64, block: u64, count: u64) -> Result<(
     Ok(())
 }
 
-fn piece(page: u64, count: u64, block: u64) -> Piece {
-    Piece { page, count, block }
+fn extent(page: u64, count: u64, block: u64) -> Extent {
+    Extent { page, count, block }
 }
 
-/// The map has these pieces.
-fn assert_pieces(rt: &impl Abort, index: &FileIndex, wanted: &[Piece]) -> Result<(), AllocError> {
-    let pieces = index.runs()?;
-    assert_eq!(rt; pieces.as_slice(), wanted);
+/// The map has these extents.
+fn assert_extents(rt: &impl Abort, index: &FileIndex, wanted: &[Extent]) -> Result<(), AllocError> {
+    let extents = index.runs()?;
+    assert_eq!(rt; extents.as_slice(), wanted);
     Ok(())
 }
 
@@ -40,7 +40,7 @@ fn assert_blocks(rt: &impl Abort, index: &FileIndex, wanted: &[(u64, Option<u64>
 fn a_new_index_maps_no_page(rt: HostRuntime) -> Result<(), Fail> {
     let index = FileIndex::new(rt.alloc());
     assert_blocks(&rt, &index, &[(0, None), (u64::MAX, None)]);
-    assert_pieces(&rt, &index, &[])?;
+    assert_extents(&rt, &index, &[])?;
     Ok(())
 }
 
@@ -49,7 +49,7 @@ fn a_ready_page_has_no_block(rt: HostRuntime) -> Result<(), Fail> {
     let mut index = FileIndex::new(rt.alloc());
     index.reserve(3, 2)?;
     assert_blocks(&rt, &index, &[(3, None)]);
-    assert_pieces(&rt, &index, &[])?;
+    assert_extents(&rt, &index, &[])?;
     Ok(())
 }
 
@@ -70,7 +70,7 @@ fn the_last_page_and_the_last_block_are_mapped(rt: HostRuntime) -> Result<(), Fa
     let mut index = FileIndex::new(rt.alloc());
     map_run(&mut index, 262_143, u64::MAX, 1)?;
     assert_blocks(&rt, &index, &[(262_143, Some(u64::MAX))]);
-    assert_pieces(&rt, &index, &[piece(262_143, 1, u64::MAX)])?;
+    assert_extents(&rt, &index, &[extent(262_143, 1, u64::MAX)])?;
     Ok(())
 }
 
@@ -90,39 +90,39 @@ fn pages_that_are_ready_keep_their_blocks_between_new_ones(rt: HostRuntime) -> R
 }
 
 #[test]
-fn runs_that_follow_on_in_pages_and_blocks_are_one_piece(rt: HostRuntime) -> Result<(), Fail> {
+fn runs_that_follow_on_in_pages_and_blocks_are_one_extent(rt: HostRuntime) -> Result<(), Fail> {
     let mut index = FileIndex::new(rt.alloc());
     map_run(&mut index, 2, 12, 2)?;
     map_run(&mut index, 0, 10, 2)?;
-    assert_pieces(&rt, &index, &[piece(0, 4, 10)])?;
+    assert_extents(&rt, &index, &[extent(0, 4, 10)])?;
     Ok(())
 }
 
 #[test]
-fn runs_that_touch_in_pages_alone_are_two_pieces(rt: HostRuntime) -> Result<(), Fail> {
+fn runs_that_touch_in_pages_alone_are_two_extents(rt: HostRuntime) -> Result<(), Fail> {
     let mut index = FileIndex::new(rt.alloc());
     map_run(&mut index, 0, 10, 2)?;
     map_run(&mut index, 2, 20, 2)?;
-    assert_pieces(&rt, &index, &[piece(0, 2, 10), piece(2, 2, 20)])?;
+    assert_extents(&rt, &index, &[extent(0, 2, 10), extent(2, 2, 20)])?;
     Ok(())
 }
 
 #[test]
-fn runs_that_touch_in_blocks_alone_are_two_pieces(rt: HostRuntime) -> Result<(), Fail> {
+fn runs_that_touch_in_blocks_alone_are_two_extents(rt: HostRuntime) -> Result<(), Fail> {
     let mut index = FileIndex::new(rt.alloc());
     map_run(&mut index, 0, 10, 2)?;
     map_run(&mut index, 3, 12, 2)?;
-    assert_pieces(&rt, &index, &[piece(0, 2, 10), piece(3, 2, 12)])?;
+    assert_extents(&rt, &index, &[extent(0, 2, 10), extent(3, 2, 12)])?;
     Ok(())
 }
 
 #[test]
-fn a_ready_page_with_no_block_parts_two_pieces(rt: HostRuntime) -> Result<(), Fail> {
+fn a_ready_page_with_no_block_parts_two_extents(rt: HostRuntime) -> Result<(), Fail> {
     let mut index = FileIndex::new(rt.alloc());
     index.reserve(0, 3)?;
     map_run(&mut index, 0, 10, 1)?;
     map_run(&mut index, 2, 12, 1)?;
-    assert_pieces(&rt, &index, &[piece(0, 1, 10), piece(2, 1, 12)])?;
+    assert_extents(&rt, &index, &[extent(0, 1, 10), extent(2, 1, 12)])?;
     Ok(())
 }
 
@@ -132,7 +132,7 @@ fn a_cut_in_the_middle_of_a_run_keeps_its_front(rt: HostRuntime) -> Result<(), F
     map_run(&mut index, 4, 100, 6)?;
     index.cut(7);
     assert_blocks(&rt, &index, &[(6, Some(102)), (7, None)]);
-    assert_pieces(&rt, &index, &[piece(4, 3, 100)])?;
+    assert_extents(&rt, &index, &[extent(4, 3, 100)])?;
     Ok(())
 }
 
@@ -159,10 +159,10 @@ fn a_run_replaces_older_blocks(rt: HostRuntime) -> Result<(), Fail> {
     let mut index = FileIndex::new(rt.alloc());
     map_run(&mut index, 0, 10, 6)?;
     map_run(&mut index, 2, 40, 2)?;
-    assert_pieces(
+    assert_extents(
         &rt,
         &index,
-        &[piece(0, 2, 10), piece(2, 2, 40), piece(4, 2, 14)],
+        &[extent(0, 2, 10), extent(2, 2, 40), extent(4, 2, 14)],
     )?;
     Ok(())
 }
@@ -174,21 +174,21 @@ fn shuffled_pages_give_the_map_of_rising_ones(rt: HostRuntime) -> Result<(), Fai
         let page = step * 37 % 64;
         map_run(&mut index, page, 1000 + page, 1)?;
     }
-    assert_pieces(&rt, &index, &[piece(0, 64, 1000)])?;
+    assert_extents(&rt, &index, &[extent(0, 64, 1000)])?;
     Ok(())
 }
 
 #[test]
-fn a_run_over_two_leaves_is_one_piece_and_makes_both_ready(rt: HostRuntime) -> Result<(), Fail> {
+fn a_run_over_two_leaves_is_one_extent_and_makes_both_ready(rt: HostRuntime) -> Result<(), Fail> {
     let mut index = FileIndex::new(rt.alloc());
     map_run(&mut index, 4090, 100, 10)?;
-    assert_pieces(&rt, &index, &[piece(4090, 10, 100)])?;
+    assert_extents(&rt, &index, &[extent(4090, 10, 100)])?;
     assert!(rt; !index.ready(4031));
     assert!(rt; index.ready(4032));
     assert!(rt; index.ready(4159));
     assert!(rt; !index.ready(4160));
     index.cut(4096);
-    assert_pieces(&rt, &index, &[piece(4090, 6, 100)])?;
+    assert_extents(&rt, &index, &[extent(4090, 6, 100)])?;
     Ok(())
 }
 

@@ -98,7 +98,7 @@ const FILE: Attributes = Attributes {
 };
 
 #[test]
-fn an_inode_shows_its_attributes_its_log_and_its_pieces(rt: HostRuntime) -> Result<(), Fail> {
+fn an_inode_shows_its_attributes_its_log_and_its_extents(rt: HostRuntime) -> Result<(), Fail> {
     let mut out = String::new(rt.alloc());
     push_inode_line(&mut out, &ROOT)?;
     push_log_line(&mut out, &[3, 4], 20488)?;
