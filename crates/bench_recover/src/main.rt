@@ -12,7 +12,7 @@ use entries::count_entries;
 use nv_format::format;
 use nv_recover::{RecoverError, Recovered, recover, recover_one};
 use nv_region::{MemRegion, RegionRefusal};
-use nv_scan::OpenGate;
+use nv_scan::NoGate;
 use std::alloc::Global;
 use std::rt::{Clock, Files};
 use std::thread::Threads;
@@ -75,7 +75,7 @@ fn recovered_so<R: AllocGlobal + Threads + Sync>(
 ) -> Result<Recovered, RecoverError> {
     match way {
         Threading::One => recover_one(rt.alloc(), memory),
-        Threading::Workers(workers) => recover(rt, rt.alloc(), memory, workers, &OpenGate),
+        Threading::Workers(workers) => recover(rt, rt.alloc(), memory, workers, &NoGate),
     }
 }
 

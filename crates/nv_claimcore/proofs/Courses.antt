@@ -19,10 +19,10 @@ use Rattle.nv_claimcore.specs.declared.view.View.{View}
 use Rattle.nv_claimcore.specs.declared.event.Event.{Event}
 use Rattle.nv_claimcore.specs.declared.schedule.Pace.{Pace}
 use Rattle.nv_claimcore.specs.declared.schedule.Progress.{Progress}
-use Rattle.nv_claimcore.specs.Claims.{State, Legal, past, is_open, claim_of, with_number, with_record, with_mark, nothing}
+use Rattle.nv_claimcore.specs.Claims.{State, Legal, past, is_unmarked, claim_of, with_number, with_record, with_mark, nothing}
 use Rattle.nv_claimcore.specs.Events.{view_of, start, is_allowed, after, all_allowed, after_all}
 use Rattle.nv_claimcore.specs.Finished.{pair_of, pairs_of, pair_times, Finished}
-use Rattle.nv_claimcore.specs.Replay.{open_blocks, claims_left, next_event, turn, chosen, RunsToEnd, RunInOrder, first_stranger, Replayed}
+use Rattle.nv_claimcore.specs.Replay.{unmarked_blocks, claims_left, next_event, turn, chosen, RunsToEnd, RunInOrder, first_stranger, Replayed}
 use Rattle.nv_claimcore.specs.Pace.{left_at, Running, pace_of, effort}
 use Rattle.nv_claimcore.specs.Turns.{TookTurn, TookTurns, RanToEnd, RanInOrder}
 use Rattle.nv_claimcore.proofs.Counting.{sum_part}
@@ -99,10 +99,10 @@ module _ (work : List (List (ℕ × Owner))) where
   turns_others : (n : ℕ) (s : State) (w k : ℕ) → k ≢ w → view_of (after_all s (chosen work s (replicate n w))) k ≡ view_of s k
   turns_others zero s w k other = refl
   turns_others (suc n) s w k other = ap (λ (x : State). view_of x k) (after_both s (turn work s w) (chosen work (after_all s (turn work s w)) (replicate n w)))
-      ∙ (turns_others n (after_all s (turn work s w)) w k other ∙ event_others s w k (open_blocks (view_of s w).records) (claims_left work (view_of s w)) (ltb 0 (past (length work) (view_of s w).numbers)) other)
+      ∙ (turns_others n (after_all s (turn work s w)) w k other ∙ event_others s w k (unmarked_blocks (view_of s w).records) (claims_left work (view_of s w)) (ltb 0 (past (length work) (view_of s w).numbers)) other)
 
   same_turn : (s t : State) (k : ℕ) → view_of s k ≡ view_of t k → turn work s k ≡ turn work t k
-  same_turn s t k e = ap (λ (v : View). next_event k (open_blocks v.records) (claims_left work v) (ltb 0 (past (length work) v.numbers))) e
+  same_turn s t k e = ap (λ (v : View). next_event k (unmarked_blocks v.records) (claims_left work v) (ltb 0 (past (length work) v.numbers))) e
 
   -- ---- one worker's end
 
@@ -147,12 +147,12 @@ no_event w [] (p ∷ ps) t e = cc
 no_event w [] [] true e = (refl, refl, refl)
 no_event w [] [] false e = cc
 
-none_open : (b : ℕ) (rs : List Record) → open_blocks rs ≡ [] → count_by (is_open b) rs ≡ 0
-none_open b [] e = refl
-none_open b (r ∷ rs) e = go (not r.won && not r.marked) refl e (none_open b rs) where
-  go : (t : Bool) → (not r.won && not r.marked) ≡ t → cond t (r.block ∷ open_blocks rs) (open_blocks rs) ≡ [] → (open_blocks rs ≡ [] → count_by (is_open b) rs ≡ 0) → count_by (is_open b) (r ∷ rs) ≡ 0
+none_unmarked : (b : ℕ) (rs : List Record) → unmarked_blocks rs ≡ [] → count_by (is_unmarked b) rs ≡ 0
+none_unmarked b [] e = refl
+none_unmarked b (r ∷ rs) e = go (not r.won && not r.marked) refl e (none_unmarked b rs) where
+  go : (t : Bool) → (not r.won && not r.marked) ≡ t → cond t (r.block ∷ unmarked_blocks rs) (unmarked_blocks rs) ≡ [] → (unmarked_blocks rs ≡ [] → count_by (is_unmarked b) rs ≡ 0) → count_by (is_unmarked b) (r ∷ rs) ≡ 0
   go true is e rest = cc
-  go false is e rest = let sum = sum_by-cons (λ q. cond (is_open b q) 1 0) r rs in let none : ◌≡◌ {A = ℕ} (cond (is_open b r) 1 0) 0 = ap (λ t. cond (t && (r.block == b)) 1 0) is in let rest' = rest e in omega arith
+  go false is e rest = let sum = sum_by-cons (λ q. cond (is_unmarked b q) 1 0) r rs in let none : ◌≡◌ {A = ℕ} (cond (is_unmarked b r) 1 0) 0 = ap (λ t. cond (t && (r.block == b)) 1 0) is in let rest' = rest e in omega arith
 
 inside_at : {A : Type 0} (l : List A) (k : ℕ) (a : A) → get_elem? l k ≡ some a → k < length l
 inside_at [] k a e = absurd (some-ne-none a (sym e))
@@ -160,8 +160,8 @@ inside_at (x ∷ xs) zero a e = omega arith
 inside_at (x ∷ xs) (suc k) a e = let rest = inside_at xs k a e in omega arith
 
 module _ (z : Sizes) (work : List (List (ℕ × Owner))) (s : State) (paces : List Pace) (running : Running z work s paces) (legal : Legal z s) (some_worker : 0 < z.workers) (ended : (k : ℕ) → k < z.workers → turn work s k ≡ []) where
-  ended_view : (k : ℕ) → k < z.workers → (open_blocks (view_of s k).records ≡ []) × (claims_left work (view_of s k) ≡ []) × (ltb 0 (past (length work) (view_of s k).numbers) ≡ true)
-  ended_view k l = no_event k (open_blocks (view_of s k).records) (claims_left work (view_of s k)) (ltb 0 (past (length work) (view_of s k).numbers)) (ended k l)
+  ended_view : (k : ℕ) → k < z.workers → (unmarked_blocks (view_of s k).records ≡ []) × (claims_left work (view_of s k) ≡ []) × (ltb 0 (past (length work) (view_of s k).numbers) ≡ true)
+  ended_view k l = no_event k (unmarked_blocks (view_of s k).records) (claims_left work (view_of s k)) (ltb 0 (past (length work) (view_of s k).numbers)) (ended k l)
 
   view_at : (k : ℕ) (v : View) → get_elem? s.views k ≡ some v → (k < z.workers) × (view_of s k ≡ v)
   view_at k v e = let l = inside_at s.views k v e in (rw (← running.workers) l, some-injective (view_of s k) v (sym (at_view s.views k (nothing 0) l) ∙ e))
@@ -181,7 +181,7 @@ module _ (z : Sizes) (work : List (List (ℕ × Owner))) (s : State) (paces : Li
   finished = record {
     drawn = λ t l. let numbers = legal.numbers t in let more = past_end in omega arith;
     records = λ k v e p. let at = view_at k v e in ap (pair_times p) (ap (λ (u : View). map pair_of u.records) (sym at.1) ∙ (all_made k at.0 ∙ ap (λ (u : View). pairs_of work u.numbers) at.1));
-    marked = λ k v e b. let at = view_at k v e in ap (λ (u : View). count_by (is_open b) u.records) (sym at.1) ∙ none_open b (view_of s k).records (ended_view k at.0).0;
+    marked = λ k v e b. let at = view_at k v e in ap (λ (u : View). count_by (is_unmarked b) u.records) (sym at.1) ∙ none_unmarked b (view_of s k).records (ended_view k at.0).0;
   }
 
 -- ---- the whole replay

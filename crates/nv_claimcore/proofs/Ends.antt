@@ -13,7 +13,7 @@ use Rattle.nv_super.specs.Owners.{claims_of}
 use Rattle.nv_claimcore.specs.declared.view.Sizes.{Sizes}
 use Rattle.nv_claimcore.specs.declared.view.Record.{Record}
 use Rattle.nv_claimcore.specs.declared.view.View.{View}
-use Rattle.nv_claimcore.specs.Claims.{State, Legal, won, lost, marked, is_lost, is_marked, is_open}
+use Rattle.nv_claimcore.specs.Claims.{State, Legal, won, lost, marked, is_lost, is_marked, is_unmarked}
 use Rattle.nv_claimcore.specs.Finished.{pair_of, Finished, pairs_at, pairs_of, works_of}
 use Rattle.nv_claimcore.proofs.Counting.{sum_le}
 use Rattle.nv_claimcore.proofs.Once.{sum_once, sum_places}
@@ -41,11 +41,11 @@ claims_of_tickets : (b : ℕ) (work : List (List (ℕ × Owner))) (ts : List ℕ
 claims_of_tickets b work [] = refl
 claims_of_tickets b work (t ∷ ts) = let rest = claims_of_tickets b work ts in let cut = sum_by-append (λ (p : ℕ × Owner). cond (p.0 == b) 1 0) (pairs_at work t) (pairs_of work ts) in let all = sum_by-cons (λ u. claims_of b (pairs_at work u)) t ts in omega arith
 
--- a lost record is marked or open
-lost_parts : (b : ℕ) (rs : List Record) → count_by (is_lost b) rs ≡ count_by (is_marked b) rs + count_by (is_open b) rs
+-- a lost record is marked or unmarked
+lost_parts : (b : ℕ) (rs : List Record) → count_by (is_lost b) rs ≡ count_by (is_marked b) rs + count_by (is_unmarked b) rs
 lost_parts b [] = refl
 lost_parts b (r ∷ rs) = let rest = lost_parts b rs in let one = one_record r.won r.marked (r.block == b) in
-    let x = sum_by-cons (λ q. cond (is_lost b q) 1 0) r rs in let y = sum_by-cons (λ q. cond (is_marked b q) 1 0) r rs in let w = sum_by-cons (λ q. cond (is_open b q) 1 0) r rs in omega arith where
+    let x = sum_by-cons (λ q. cond (is_lost b q) 1 0) r rs in let y = sum_by-cons (λ q. cond (is_marked b q) 1 0) r rs in let w = sum_by-cons (λ q. cond (is_unmarked b q) 1 0) r rs in omega arith where
       one_record : (w m t : Bool) → ◌≡◌ {A = ℕ} (cond (not w && t) 1 0) (cond ((not w && m) && t) 1 0 + cond ((not w && not m) && t) 1 0)
       one_record true m t = refl
       one_record false true true = refl

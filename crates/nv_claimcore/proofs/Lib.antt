@@ -9,7 +9,7 @@ pub mod SamePairs
 pub mod Ends
 pub mod Lists
 pub mod WordRuns
-pub mod OpenAt
+pub mod UnmarkedAt
 pub mod Parts
 pub mod Turns
 pub mod Courses

@@ -7,7 +7,7 @@ use Rattle.std.proofs.lemmas.List.Sums.{sum_by-cons}
 use Rattle.std.proofs.lemmas.List.{length-replicate, get_or_past}
 use Rattle.std.proofs.lemmas.Nat.Bits.{bit_at-zero}
 use Rattle.std.proofs.lemmas.Bool.{cases_lt, false≢true}
-use Rattle.std.proofs.Math.Bool.{and_assoc}
+use Rattle.std.proofs.Math.Bool.{and_assoc, and-true}
 use mathlib.Core.Bool.{Bool, not, ◌&&◌}
 use mathlib.Core.Option.{some, some-injective, some-ne-none}
 use lib.ListN.{get_elem?}
@@ -18,7 +18,7 @@ use Rattle.nv_claimcore.specs.declared.view.Record.{Record}
 use Rattle.nv_claimcore.specs.declared.view.View.{View}
 use Rattle.nv_claimcore.specs.declared.event.Event.{Event}
 use Rattle.nv_claimcore.specs.declared.event.Event.TheVariants.{Draw, Claim, Mark}
-use Rattle.nv_claimcore.specs.Claims.{State, Sound, Legal, past, times, won, lost, marked, is_lost, is_open, nothing, with_number, with_record, with_mark, claim_of}
+use Rattle.nv_claimcore.specs.Claims.{State, Sound, Legal, past, times, won, lost, marked, is_lost, is_unmarked, nothing, with_number, with_record, with_mark, claim_of}
 use Rattle.nv_claimcore.specs.Events.{view_of, start, is_allowed, after, all_allowed, after_all}
 use Rattle.nv_claimcore.proofs.Counting.{at_set, sum_part, sum_le}
 use Rattle.nv_claimcore.proofs.Keeps.{draw_keeps, claim_keeps, mark_keeps}
@@ -46,20 +46,20 @@ is_less a b e = ⊎_elim (λ l. l) (λ l. let no : ltb a b ≡ false = grind (ar
 is_zero : (a : ℕ) → (a == 0) ≡ true → a ≡ 0
 is_zero a e = grind (arith, e)
 
--- an open record is a lost one, so its block lies in the words
-open_lost : (b : ℕ) (rs : List Record) → count_by (is_open b) rs ≤ count_by (is_lost b) rs
-open_lost b [] = omega arith
-open_lost b (r ∷ rs) = let rest = open_lost b rs in let x = sum_by-cons (λ q. cond (is_open b q) 1 0) r rs in let y = sum_by-cons (λ q. cond (is_lost b q) 1 0) r rs in let one = one_open r.won r.marked (r.block == b) in omega arith where
-  one_open : (w m t : Bool) → cond ((not w && not m) && t) 1 0 ≤ cond (not w && t) 1 0
-  one_open true m t = omega arith
-  one_open false true t = omega arith
-  one_open false false t = omega arith
+-- an unmarked record is a lost one, so its block lies in the words
+unmarked_lost : (b : ℕ) (rs : List Record) → count_by (is_unmarked b) rs ≤ count_by (is_lost b) rs
+unmarked_lost b [] = omega arith
+unmarked_lost b (r ∷ rs) = let rest = unmarked_lost b rs in let x = sum_by-cons (λ q. cond (is_unmarked b q) 1 0) r rs in let y = sum_by-cons (λ q. cond (is_lost b q) 1 0) r rs in let one = one_unmarked r.won r.marked (r.block == b) in omega arith where
+  one_unmarked : (w m t : Bool) → cond ((not w && not m) && t) 1 0 ≤ cond (not w && t) 1 0
+  one_unmarked true m t = omega arith
+  one_unmarked false true t = omega arith
+  one_unmarked false false t = omega arith
 
 module _ (z : Sizes) where
-  mark_word : (s : State) → Legal z s → (w b : ℕ) (v : View) → get_elem? s.views w ≡ some v → 0 < count_by (is_open b) v.records → b / 64 < words_for z.blocks
-  mark_word s legal w b v at some_open = ⊎_elim (λ l. l) (λ l.
+  mark_word : (s : State) → Legal z s → (w b : ℕ) (v : View) → get_elem? s.views w ≡ some v → 0 < count_by (is_unmarked b) v.records → b / 64 < words_for z.blocks
+  mark_word s legal w b v at some_unmarked = ⊎_elim (λ l. l) (λ l.
       let out : has s.first b ≡ 0 = ap (λ x. bit_at x (b % 64)) (get_or_past s.first (b / 64) 0 (rw legal.first_words l)) ∙ bit_at-zero (b % 64) in
-      let none = legal.lost b out in let part = sum_part (lost b) s.views w v at in let fewer = open_lost b v.records in absurd (omega arith)) (cases_lt (b / 64) (words_for z.blocks))
+      let none = legal.lost b out in let part = sum_part (lost b) s.views w v at in let fewer = unmarked_lost b v.records in absurd (omega arith)) (cases_lt (b / 64) (words_for z.blocks))
 
   ones_still : (s : State) → Ones s → (w : ℕ) (v : View) → v.seats ≡ 1 → (k : ℕ) (u : View) → get_elem? (set s.views w v) k ≡ some u → u.seats ≡ 1
   unfolding Ones
@@ -73,9 +73,9 @@ module _ (z : Sizes) where
   step_keeps s (Claim w b o) legal ones ok = let here = is_less w (length s.views) (and_left (ltb w (length s.views)) (ltb b z.blocks) ok) in let at = at_view s.views w (nothing 0) here in let one = ones w (view_of s w) at in
       let inside = is_less b z.blocks (and_right (ltb w (length s.views)) (ltb b z.blocks) ok) in
       (claim_keeps z s legal w (view_of s w) at b o inside (omega arith), ones_still s ones w (with_record (view_of s w) (claim_of b o (has s.first b == 0))) one)
-  step_keeps s (Mark w b) legal ones ok = let here = is_less w (length s.views) (and_left (ltb w (length s.views)) (ltb 0 (count_by (is_open b) (view_of s w).records)) ok) in let at = at_view s.views w (nothing 0) here in let one = ones w (view_of s w) at in
-      let some_open = is_less 0 (count_by (is_open b) (view_of s w).records) (and_right (ltb w (length s.views)) (ltb 0 (count_by (is_open b) (view_of s w).records)) ok) in
-      (mark_keeps z s legal w (view_of s w) at b (mark_word s legal w b (view_of s w) at some_open) some_open, ones_still s ones w (with_mark (view_of s w) b) one)
+  step_keeps s (Mark w b) legal ones ok = let here = is_less w (length s.views) (and_left (ltb w (length s.views)) (ltb 0 (count_by (is_unmarked b) (view_of s w).records)) ok) in let at = at_view s.views w (nothing 0) here in let one = ones w (view_of s w) at in
+      let some_unmarked = is_less 0 (count_by (is_unmarked b) (view_of s w).records) (and_right (ltb w (length s.views)) (ltb 0 (count_by (is_unmarked b) (view_of s w).records)) ok) in
+      (mark_keeps z s legal w (view_of s w) at b (mark_word s legal w b (view_of s w) at some_unmarked) some_unmarked, ones_still s ones w (with_mark (view_of s w) b) one)
 
   all_keep : (es : List Event) (s : State) → Legal z s → Ones s → all_allowed z s es ≡ true → Legal z (after_all s es) × Ones (after_all s es)
   all_keep [] s legal ones ok = (legal, ones)
@@ -123,16 +123,13 @@ every_seat z es ok = (all_keep z es (start z) (start_legal z) (start_ones z) ok)
 
 -- where an allowed mark writes
 pub mark_place : (z : Sizes) (s : State) → Legal z s → (w b : ℕ) → is_allowed z s (Mark w b) ≡ true → (w < length s.views) × (b / 64 < length s.second)
-mark_place z s legal w b ok = let here = is_less w (length s.views) (and_left (ltb w (length s.views)) (ltb 0 (count_by (is_open b) (view_of s w).records)) ok) in let at = at_view s.views w (nothing 0) here in
-    let some_open = is_less 0 (count_by (is_open b) (view_of s w).records) (and_right (ltb w (length s.views)) (ltb 0 (count_by (is_open b) (view_of s w).records)) ok) in
-    (here, rw legal.second_words (mark_word z s legal w b (view_of s w) at some_open))
+mark_place z s legal w b ok = let here = is_less w (length s.views) (and_left (ltb w (length s.views)) (ltb 0 (count_by (is_unmarked b) (view_of s w).records)) ok) in let at = at_view s.views w (nothing 0) here in
+    let some_unmarked = is_less 0 (count_by (is_unmarked b) (view_of s w).records) (and_right (ltb w (length s.views)) (ltb 0 (count_by (is_unmarked b) (view_of s w).records)) ok) in
+    (here, rw legal.second_words (mark_word z s legal w b (view_of s w) at some_unmarked))
 
 -- one event more
 pub allowed_more : (z : Sizes) (s : State) (es : List Event) (e : Event) → all_allowed z s (es ++ e ∷ []) ≡ (all_allowed z s es && is_allowed z (after_all s es) e)
-allowed_more z s [] e = and_true (is_allowed z s e) where
-  and_true : (a : Bool) → (a && true) ≡ a
-  and_true true = refl
-  and_true false = refl
+allowed_more z s [] e = and-true (is_allowed z s e)
 allowed_more z s (d ∷ es) e = ap (λ t. is_allowed z s d && t) (allowed_more z (after s d) es e) ∙ sym (and_assoc (is_allowed z s d) (all_allowed z (after s d) es) (is_allowed z (after_all (after s d) es) e))
 
 pub after_more : (s : State) (es : List Event) (e : Event) → after_all s (es ++ e ∷ []) ≡ after (after_all s es) e

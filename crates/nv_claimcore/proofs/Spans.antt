@@ -13,7 +13,7 @@ use Rattle.nv_super.specs.declared.owners.Owner.{Owner}
 use Rattle.nv_claimcore.specs.declared.view.Sizes.{Sizes}
 use Rattle.nv_claimcore.specs.declared.view.View.{View}
 use Rattle.nv_claimcore.specs.Claims.{State, Legal, claim_of, with_record, with_mark}
-use Rattle.nv_claimcore.specs.Spans.{mask_all, claim_all, mark_all, Rises, AreOpen}
+use Rattle.nv_claimcore.specs.Spans.{mask_all, claim_all, mark_all, Rises, AreUnmarked}
 use Rattle.nv_claimcore.proofs.Keeps.{claim_keeps, mark_keeps}
 
 max_assoc : (a b c : ℕ) → max (max a b) c ≡ max a (max b c)
@@ -62,22 +62,22 @@ claims_keep z s legal w k lo hi v (p ∷ ps) at some_seat low high inside rises 
     set-set s.views w v1 (claim_all (get_or first1 k 0) ps v1) ∙ ap (set s.views w) (ap (λ (x : ℕ). claim_all x ps v1) now ∙ same_wins n p.0 k (p.0 + 1) hi ps v1 in_word (omega arith) (omega arith) high rises.2) in
     subst (λ (x : List ℕ × List View). Legal z record { first = x.0; second = s.second; cursor = s.cursor; views = x.1 }) (λ i. (words i, views i)) rest
 
-pub marks_keep : (z : Sizes) (s : State) (legal : Legal z s) (w k lo hi : ℕ) (v : View) (ps : List (ℕ × Owner)) → get_elem? s.views w ≡ some v → k * 64 ≤ lo → hi ≤ k * 64 + 64 → hi ≤ z.blocks → Rises lo hi ps → AreOpen ps v
+pub marks_keep : (z : Sizes) (s : State) (legal : Legal z s) (w k lo hi : ℕ) (v : View) (ps : List (ℕ × Owner)) → get_elem? s.views w ≡ some v → k * 64 ≤ lo → hi ≤ k * 64 + 64 → hi ≤ z.blocks → Rises lo hi ps → AreUnmarked ps v
     → Legal z record { first = s.first; second = set s.second k (bit_or (get_or s.second k 0) (mask_all ps)); cursor = s.cursor; views = set s.views w (mark_all ps v) }
-marks_keep z s legal w k lo hi v [] at low high inside rises opened = subst (λ (x : List ℕ × List View). Legal z record { first = s.first; second = x.0; cursor = s.cursor; views = x.1 })
+marks_keep z s legal w k lo hi v [] at low high inside rises unmarked = subst (λ (x : List ℕ × List View). Legal z record { first = s.first; second = x.0; cursor = s.cursor; views = x.1 })
     (λ i. (sym (ap (set s.second k) (or_zero_r (get_or s.second k 0)) ∙ set-get_or s.second k 0) i, sym (set_again s.views w v at) i)) legal
-marks_keep z s legal w k lo hi v (p ∷ ps) at low high inside rises opened =
+marks_keep z s legal w k lo hi v (p ∷ ps) at low high inside rises unmarked =
     let r0 = rises.0 in let r1 = rises.1 in
     let in_word : p.0 / 64 ≡ k = omega arith in
     let n : ℕ = get_or s.second k 0 in
     let v1 : View = with_mark v p.0 in
     let second1 : List ℕ = set s.second k (bit_or (get_or s.second k 0) (mask_of p.0)) in
-    let one = mark_keeps z s legal w v at p.0 (word_inside p.0 z.blocks (omega arith)) opened.0 in
+    let one = mark_keeps z s legal w v at p.0 (word_inside p.0 z.blocks (omega arith)) unmarked.0 in
     let one' : Legal z record { first = s.first; second = set s.second k (bit_or (get_or s.second k 0) (mask_of p.0)); cursor = s.cursor; views = set s.views w (with_mark v p.0) } =
     subst (λ (j : ℕ). Legal z record { first = s.first; second = set s.second j (bit_or (get_or s.second j 0) (mask_of p.0)); cursor = s.cursor; views = set s.views w (with_mark v p.0) }) in_word one in
     let k_inside : k < length s.second = subst (λ (j : ℕ). j < length s.second) in_word (rw legal.second_words (word_inside p.0 z.blocks (omega arith))) in
     let now : get_or (set s.second k (bit_or (get_or s.second k 0) (mask_of p.0))) k 0 ≡ bit_or (get_or s.second k 0) (mask_of p.0) = get_or-set_same s.second k (bit_or (get_or s.second k 0) (mask_of p.0)) 0 k_inside in
-    let rest = marks_keep z record { first = s.first; second = set s.second k (bit_or (get_or s.second k 0) (mask_of p.0)); cursor = s.cursor; views = set s.views w v1 } one' w k (p.0 + 1) hi v1 ps (set_here s.views w v1 v at) (omega arith) high inside rises.2 opened.1 in
+    let rest = marks_keep z record { first = s.first; second = set s.second k (bit_or (get_or s.second k 0) (mask_of p.0)); cursor = s.cursor; views = set s.views w v1 } one' w k (p.0 + 1) hi v1 ps (set_here s.views w v1 v at) (omega arith) high inside rises.2 unmarked.1 in
     let words : set second1 k (bit_or (get_or second1 k 0) (mask_all ps)) ≡ set s.second k (bit_or n (bit_or (mask_of p.0) (mask_all ps))) =
     set-set s.second k (bit_or n (mask_of p.0)) (bit_or (get_or second1 k 0) (mask_all ps)) ∙ ap (set s.second k) (ap (λ (x : ℕ). bit_or x (mask_all ps)) now ∙ or_assoc n (mask_of p.0) (mask_all ps)) in
     subst (λ (x : List ℕ × List View). Legal z record { first = s.first; second = x.0; cursor = s.cursor; views = x.1 }) (λ i. (words i, set-set s.views w v1 (mark_all ps v1) i)) rest

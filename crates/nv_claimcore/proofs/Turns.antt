@@ -22,38 +22,38 @@ use Rattle.nv_claimcore.specs.declared.view.View.{View}
 use Rattle.nv_claimcore.specs.declared.event.Event.{Event}
 use Rattle.nv_claimcore.specs.declared.event.Event.TheVariants.{Draw, Claim, Mark}
 use Rattle.nv_claimcore.specs.declared.schedule.Pace.{Pace}
-use Rattle.nv_claimcore.specs.Claims.{State, Legal, past, is_open, claim_of, mark, mark_first, with_number, with_record, with_mark, nothing, Settled, Owes}
+use Rattle.nv_claimcore.specs.Claims.{State, Legal, past, is_unmarked, claim_of, mark, mark_first, with_number, with_record, with_mark, nothing, Settled, Owes}
 use Rattle.nv_claimcore.specs.Events.{view_of, start, is_allowed, after}
 use Rattle.nv_claimcore.specs.Finished.{pair_of, pairs_at, pairs_of}
-use Rattle.nv_claimcore.specs.Replay.{open_blocks, next_event, turn}
+use Rattle.nv_claimcore.specs.Replay.{unmarked_blocks, next_event, turn}
 use Rattle.nv_claimcore.specs.Pace.{left_at, Keeps, Running, no_pace, pace_of, marked_pace, owed, undrawn, effort}
 use Rattle.nv_claimcore.proofs.Keeps.{draw_small}
 use Rattle.nv_claimcore.proofs.Lists.{at_view, every_list, every_seat, allowed_more, after_more, mark_place}
-use Rattle.nv_claimcore.proofs.Marks.{marks_last, open_last}
+use Rattle.nv_claimcore.proofs.Marks.{marks_last, unmarked_last}
 
 -- ---- a turn, told by what is kept of the worker
 
-settled_open : (w m : Bool) → m ≡ not w → (not w && not m) ≡ false
-settled_open true m e = refl
-settled_open false true e = refl
-settled_open false false e = absurd (false≢true e)
+settled_unmarked : (w m : Bool) → m ≡ not w → (not w && not m) ≡ false
+settled_unmarked true m e = refl
+settled_unmarked false true e = refl
+settled_unmarked false false e = absurd (false≢true e)
 
-open_after : (before rest : List Record) → All Settled before → open_blocks (before ++ rest) ≡ open_blocks rest
-open_after [] rest all = refl
-open_after (r ∷ rs) rest all = ap (λ t. cond t (r.block ∷ open_blocks (rs ++ rest)) (open_blocks (rs ++ rest))) (settled_open r.won r.marked (All-head Settled r rs all)) ∙ open_after rs rest (All-tail Settled r rs all)
+unmarked_after : (before rest : List Record) → All Settled before → unmarked_blocks (before ++ rest) ≡ unmarked_blocks rest
+unmarked_after [] rest all = refl
+unmarked_after (r ∷ rs) rest all = ap (λ t. cond t (r.block ∷ unmarked_blocks (rs ++ rest)) (unmarked_blocks (rs ++ rest))) (settled_unmarked r.won r.marked (All-head Settled r rs all)) ∙ unmarked_after rs rest (All-tail Settled r rs all)
 
-open_none : (rs : List Record) → All Settled rs → open_blocks rs ≡ []
-open_none rs all = ap open_blocks (sym (append-nil rs)) ∙ open_after rs [] all
+unmarked_none : (rs : List Record) → All Settled rs → unmarked_blocks rs ≡ []
+unmarked_none rs all = ap unmarked_blocks (sym (append-nil rs)) ∙ unmarked_after rs [] all
 
-open_is : (lost : Option ℕ) (rs : List Record) → MatchOption lost (All Settled rs) (λ b. Owes b rs) → open_blocks rs ≡ owed lost
-open_is None rs all = open_none rs all
-open_is (Some b) rs owes = ap open_blocks owes.2 ∙ open_after owes.0 (claim_of b owes.1 false ∷ []) owes.3
+unmarked_is : (lost : Option ℕ) (rs : List Record) → MatchOption lost (All Settled rs) (λ b. Owes b rs) → unmarked_blocks rs ≡ owed lost
+unmarked_is None rs all = unmarked_none rs all
+unmarked_is (Some b) rs owes = ap unmarked_blocks owes.2 ∙ unmarked_after owes.0 (claim_of b owes.1 false ∷ []) owes.3
 
 pub left_is : (rs : List Record) (left ps : List (ℕ × Owner)) → map pair_of rs ++ left ≡ ps → drop (length rs) ps ≡ left
 left_is rs left ps e = ap (drop (length rs)) (sym e) ∙ (ap (λ n. drop n (map pair_of rs ++ left)) (sym (length-map rs pair_of)) ∙ drop-append_seam (map pair_of rs) left)
 
 pub turn_is : (work : List (List (ℕ × Owner))) (s : State) (w : ℕ) (p : Pace) → Keeps work (view_of s w) p → turn work s w ≡ next_event w (owed p.lost) (left_at work p) p.ended
-turn_is work s w p keeps = λ i. next_event w (open_is p.lost (view_of s w).records keeps.lost i) (left_is (view_of s w).records (left_at work p) (pairs_of work (view_of s w).numbers) keeps.pairs i) (sym keeps.ended i)
+turn_is work s w p keeps = λ i. next_event w (unmarked_is p.lost (view_of s w).records keeps.lost i) (left_is (view_of s w).records (left_at work p) (pairs_of work (view_of s w).numbers) keeps.pairs i) (sym keeps.ended i)
 
 -- ---- what a claim and a draw find
 
@@ -111,11 +111,11 @@ module _ (z : Sizes) (work : List (List (ℕ × Owner))) (s : State) (paces : Li
     pub owes_here : Owes b (view_of s w).records
     owes_here = subst (λ (o : Option ℕ). MatchOption o (All Settled (view_of s w).records) (λ c. Owes c (view_of s w).records)) lost keeps_here.lost
 
-    some_open : 0 < count_by (is_open b) (view_of s w).records
-    some_open = rw owes_here.2 (open_last b owes_here.1 owes_here.0)
+    some_unmarked : 0 < count_by (is_unmarked b) (view_of s w).records
+    some_unmarked = rw owes_here.2 (unmarked_last b owes_here.1 owes_here.0)
 
     pub mark_allowed : is_allowed z s (Mark w b) ≡ true
-    mark_allowed = let h = some_open in let more : ltb 0 (count_by (is_open b) (view_of s w).records) ≡ true = grind (arith, h) in λ i. is_here i && more i
+    mark_allowed = let h = some_unmarked in let more : ltb 0 (count_by (is_unmarked b) (view_of s w).records) ≡ true = grind (arith, h) in λ i. is_here i && more i
 
     pub mark_turn : turn work s w ≡ Mark w b ∷ []
     mark_turn = turn_is work s w (pace_of paces w) keeps_here ∙ ap (λ (o : Option ℕ). next_event w (owed o) (left_at work (pace_of paces w)) (pace_of paces w).ended) lost

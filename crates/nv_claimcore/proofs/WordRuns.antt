@@ -20,8 +20,8 @@ use Rattle.nv_super.specs.Owners.{raised, pairs}
 use Rattle.nv_claimcore.proofs.Marks.{eq_same}
 use Rattle.nv_claimcore.specs.declared.view.Record.{Record}
 use Rattle.nv_claimcore.specs.declared.view.View.{View}
-use Rattle.nv_claimcore.specs.Spans.{mask_all, claim_all, mark_all, is_free, lost_in, settle, Rises, AreOpen}
-use Rattle.nv_claimcore.specs.Claims.{claim_of, mark, mark_first, is_open, Settled, with_record}
+use Rattle.nv_claimcore.specs.Spans.{mask_all, claim_all, mark_all, is_free, lost_in, settle, Rises, AreUnmarked}
+use Rattle.nv_claimcore.specs.Claims.{claim_of, mark, mark_first, is_unmarked, Settled, with_record}
 use Rattle.nv_claimcore.proofs.Spans.{or_assoc}
 
 mask_snoc : (ps : List (ℕ × Owner)) (p : ℕ × Owner) → mask_all (ps ++ p ∷ []) ≡ bit_or (mask_all ps) (mask_of p.0)
@@ -84,8 +84,8 @@ closed true m t e = refl
 closed false true t e = refl
 closed false false t e = absurd (subst (λ (x : Bool). cond x (Unit {0}) ⊥) (sym e) tt)
 
--- behind settled records, an open one of the block is the first
-mark_behind : (b : ℕ) (xs : List Record) (r : Record) (ys : List Record) → All Settled xs → is_open b r ≡ true → mark_first b (xs ++ r ∷ ys) ≡ xs ++ mark r ∷ ys
+-- behind settled records, an unmarked one of the block is the first
+mark_behind : (b : ℕ) (xs : List Record) (r : Record) (ys : List Record) → All Settled xs → is_unmarked b r ≡ true → mark_first b (xs ++ r ∷ ys) ≡ xs ++ mark r ∷ ys
 mark_behind b [] r ys all e = ap (λ t. cond t (mark r ∷ ys) (r ∷ mark_first b ys)) e
 mark_behind b (x ∷ xs) r ys all e = ap (λ t. cond t (mark x ∷ (xs ++ r ∷ ys)) (x ∷ mark_first b (xs ++ r ∷ ys))) (closed x.won x.marked (x.block == b) (All-head Settled x xs all))
     ∙ ap (λ zs. x ∷ zs) (mark_behind b xs r ys (All-tail Settled x xs all) e)
@@ -102,7 +102,7 @@ unfolding with_records raw
 claimed_records n [] v = ap (λ rs. record { seats = v.seats; numbers = v.numbers; records = rs }) (sym (append-nil v.records))
 claimed_records n (p ∷ ps) v = claimed_records n ps (with_record v (claim_of p.0 p.1 (is_free n p))) ∙ ap (λ rs. record { seats = v.seats; numbers = v.numbers; records = rs }) (append_assoc v.records (claim_of p.0 p.1 (is_free n p) ∷ []) (raw n ps))
 
--- the open records are marked one after the other
+-- the unmarked records are marked one after the other
 marked_records : (n : ℕ) (ps : List (ℕ × Owner)) (v : View) (xs : List Record) → All Settled xs → mark_all (lost_in n ps) (with_records v (xs ++ raw n ps)) ≡ with_records v (xs ++ settle n ps)
 unfolding with_records raw
 marked_records n [] v xs all = refl
@@ -118,23 +118,23 @@ pub both_steps : (n : ℕ) (ps : List (ℕ × Owner)) (v : View) → All Settled
 unfolding with_records
 both_steps n ps v all = ap (mark_all (lost_in n ps)) (claimed_records n ps v) ∙ marked_records n ps v v.records all
 
-open_lost : (n : ℕ) (ps : List (ℕ × Owner)) (v : View) (xs : List Record) → All Settled xs → AreOpen (lost_in n ps) (with_records v (xs ++ raw n ps))
+unmarked_lost : (n : ℕ) (ps : List (ℕ × Owner)) (v : View) (xs : List Record) → All Settled xs → AreUnmarked (lost_in n ps) (with_records v (xs ++ raw n ps))
 unfolding with_records raw
-open_lost n [] v xs all = tt
-open_lost n (p ∷ ps) v xs all = go (is_free n p) (λ r settled. open_lost n ps v (xs ++ r ∷ []) (All-push Settled xs r all settled)) where
-  go : (t : Bool) → ((r : Record) → Settled r → AreOpen (lost_in n ps) (with_records v ((xs ++ r ∷ []) ++ raw n ps))) → AreOpen (cond t (lost_in n ps) (p ∷ lost_in n ps)) (with_records v (xs ++ claim_of p.0 p.1 t ∷ raw n ps))
-  go true again = subst (λ rs. AreOpen (lost_in n ps) (with_records v rs)) (append_assoc xs (claim_of p.0 p.1 true ∷ []) (raw n ps)) (again (claim_of p.0 p.1 true) refl)
+unmarked_lost n [] v xs all = tt
+unmarked_lost n (p ∷ ps) v xs all = go (is_free n p) (λ r settled. unmarked_lost n ps v (xs ++ r ∷ []) (All-push Settled xs r all settled)) where
+  go : (t : Bool) → ((r : Record) → Settled r → AreUnmarked (lost_in n ps) (with_records v ((xs ++ r ∷ []) ++ raw n ps))) → AreUnmarked (cond t (lost_in n ps) (p ∷ lost_in n ps)) (with_records v (xs ++ claim_of p.0 p.1 t ∷ raw n ps))
+  go true again = subst (λ rs. AreUnmarked (lost_in n ps) (with_records v rs)) (append_assoc xs (claim_of p.0 p.1 true ∷ []) (raw n ps)) (again (claim_of p.0 p.1 true) refl)
   go false again = (
-    (let cut : count_by (is_open p.0) (xs ++ claim_of p.0 p.1 false ∷ raw n ps) ≡ count_by (is_open p.0) xs + count_by (is_open p.0) (claim_of p.0 p.1 false ∷ raw n ps) = sum_by-append (λ r. cond (is_open p.0 r) 1 0) xs (claim_of p.0 p.1 false ∷ raw n ps) in
-        let one = sum_by-cons (λ r. cond (is_open p.0 r) 1 0) (claim_of p.0 p.1 false) (raw n ps) in let hit : ◌≡◌ {A = ℕ} (cond (is_open p.0 (claim_of p.0 p.1 false)) 1 0) 1 = ap (λ t. cond t 1 0) (eq_same p.0) in omega arith),
-    subst (λ rs. AreOpen (lost_in n ps) (with_records v rs)) (sym (mark_behind p.0 xs (claim_of p.0 p.1 false) (raw n ps) all (eq_same p.0) ∙ sym (append_assoc xs (mark (claim_of p.0 p.1 false) ∷ []) (raw n ps))))
+    (let cut : count_by (is_unmarked p.0) (xs ++ claim_of p.0 p.1 false ∷ raw n ps) ≡ count_by (is_unmarked p.0) xs + count_by (is_unmarked p.0) (claim_of p.0 p.1 false ∷ raw n ps) = sum_by-append (λ r. cond (is_unmarked p.0 r) 1 0) xs (claim_of p.0 p.1 false ∷ raw n ps) in
+        let one = sum_by-cons (λ r. cond (is_unmarked p.0 r) 1 0) (claim_of p.0 p.1 false) (raw n ps) in let hit : ◌≡◌ {A = ℕ} (cond (is_unmarked p.0 (claim_of p.0 p.1 false)) 1 0) 1 = ap (λ t. cond t 1 0) (eq_same p.0) in omega arith),
+    subst (λ rs. AreUnmarked (lost_in n ps) (with_records v rs)) (sym (mark_behind p.0 xs (claim_of p.0 p.1 false) (raw n ps) all (eq_same p.0) ∙ sym (append_assoc xs (mark (claim_of p.0 p.1 false) ∷ []) (raw n ps))))
         (again (mark (claim_of p.0 p.1 false)) refl),
   )
 
 -- each lost claim can be marked
-pub lost_open : (n : ℕ) (ps : List (ℕ × Owner)) (v : View) → All Settled v.records → AreOpen (lost_in n ps) (claim_all n ps v)
+pub lost_unmarked : (n : ℕ) (ps : List (ℕ × Owner)) (v : View) → All Settled v.records → AreUnmarked (lost_in n ps) (claim_all n ps v)
 unfolding with_records
-lost_open n ps v all = subst (AreOpen (lost_in n ps)) (sym (claimed_records n ps v)) (open_lost n ps v v.records all)
+lost_unmarked n ps v all = subst (AreUnmarked (lost_in n ps)) (sym (claimed_records n ps v)) (unmarked_lost n ps v v.records all)
 
 pub lost_rises : (n lo hi : ℕ) (ps : List (ℕ × Owner)) → Rises lo hi ps → Rises lo hi (lost_in n ps)
 lost_rises n lo hi [] r = tt

@@ -101,8 +101,8 @@ abbrev pub after_claim : State → ℕ → View → ℕ → Owner → State
 after_claim s w v b o = record { first = with_block s.first b; second = s.second; cursor = s.cursor; views = slice_set s.views w (with_record v (claim_of b o (has s.first b == 0))) }
 
 -- a lost claim of b that is not marked yet
-abbrev pub is_open : ℕ → Record → Bool
-is_open b r = (not r.won && not r.marked) && (r.block == b)
+abbrev pub is_unmarked : ℕ → Record → Bool
+is_unmarked b r = (not r.won && not r.marked) && (r.block == b)
 
 -- the record, marked
 abbrev pub mark : Record → Record
@@ -111,20 +111,20 @@ mark r = record { block = r.block; owner = r.owner; won = r.won; marked = true }
 -- the oldest lost claim of b that is not marked becomes marked
 abbrev pub mark_first : ℕ → List Record → List Record
 mark_first b [] = []
-mark_first b (r ∷ rs) = if is_open b r then mark r ∷ rs else r ∷ mark_first b rs
+mark_first b (r ∷ rs) = if is_unmarked b r then mark r ∷ rs else r ∷ mark_first b rs
 
 -- the view with that claim marked
 abbrev pub with_mark : View → ℕ → View
 with_mark v b = record { seats = v.seats; numbers = v.numbers; records = mark_first b v.records }
 
--- the worker marks its oldest open claim of b, and then b is in the second set
+-- the worker marks its oldest unmarked claim of b, and then b is in the second set
 abbrev pub after_mark : State → ℕ → View → ℕ → State
 after_mark s w v b = record { first = s.first; second = with_block s.second b; cursor = s.cursor; views = slice_set s.views w (with_mark v b) }
 
--- where the oldest open claim of a block stands, or else the end
+-- where the oldest unmarked claim of a block stands, or else the end
 abbrev pub place_of : ℕ → List Record → ℕ
 place_of b [] = 0
-place_of b (r ∷ rs) = if is_open b r then 0 else 1 + place_of b rs
+place_of b (r ∷ rs) = if is_unmarked b r then 0 else 1 + place_of b rs
 
 -- a lost record is marked, a won one isn't
 abbrev pub Settled : Record → Type 0

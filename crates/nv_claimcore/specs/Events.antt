@@ -6,7 +6,7 @@ use Rattle.nv_claimcore.specs.declared.view.Sizes.{Sizes}
 use Rattle.nv_claimcore.specs.declared.view.View.{View}
 use Rattle.nv_claimcore.specs.declared.event.Event.{Event}
 use Rattle.nv_claimcore.specs.declared.event.Event.TheVariants.{Draw, Claim, Mark}
-use Rattle.nv_claimcore.specs.Claims.{State, past, is_open, nothing, after_draw, after_claim, after_mark}
+use Rattle.nv_claimcore.specs.Claims.{State, past, is_unmarked, nothing, after_draw, after_claim, after_mark}
 
 -- what a worker knows
 abbrev pub view_of : State → ℕ → View
@@ -20,7 +20,7 @@ start z = record { first = replicate (words_for z.blocks) 0; second = replicate 
 abbrev pub is_allowed : Sizes → State → Event → Bool
 is_allowed z s (Draw w) = nat_lt w (length s.views) && (past z.tickets (view_of s w).numbers == 0)
 is_allowed z s (Claim w b o) = nat_lt w (length s.views) && nat_lt b z.blocks
-is_allowed z s (Mark w b) = nat_lt w (length s.views) && nat_lt 0 (count_by (is_open b) (view_of s w).records)
+is_allowed z s (Mark w b) = nat_lt w (length s.views) && nat_lt 0 (count_by (is_unmarked b) (view_of s w).records)
 
 -- the state after an event
 abbrev pub after : State → Event → State

@@ -9,7 +9,7 @@ use Rattle.nv_super.specs.Order.{claim_key}
 use Rattle.nv_super.specs.Owners.{claims_of}
 use Rattle.nv_claimcore.specs.declared.view.Record.{Record}
 use Rattle.nv_claimcore.specs.declared.view.View.{View}
-use Rattle.nv_claimcore.specs.Claims.{State, times, is_open}
+use Rattle.nv_claimcore.specs.Claims.{State, times, is_unmarked}
 
 -- what a record claims: a block, for an owner
 abbrev pub pair_of : Record → ℕ × Owner
@@ -42,4 +42,4 @@ works_of b work = sum_by (claims_of b) work
 pub record Finished (s : State) (work : List (List (ℕ × Owner))) : Type 0 where
   pub drawn : (t : ℕ) → t < length work → 0 < sum_by (λ (v : View). times t v.numbers) s.views
   pub records : (k : ℕ) (v : View) → get_elem? s.views k ≡ some v → (p : ℕ × Owner) → pair_times p (map pair_of v.records) ≡ pair_times p (pairs_of work v.numbers)
-  pub marked : (k : ℕ) (v : View) → get_elem? s.views k ≡ some v → (b : ℕ) → count_by (is_open b) v.records ≡ 0
+  pub marked : (k : ℕ) (v : View) → get_elem? s.views k ≡ some v → (b : ℕ) → count_by (is_unmarked b) v.records ≡ 0

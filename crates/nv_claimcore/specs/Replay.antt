@@ -15,9 +15,9 @@ use Rattle.nv_claimcore.specs.Events.{view_of, start, all_allowed, after_all}
 use Rattle.nv_claimcore.specs.Finished.{pairs_of}
 
 -- the blocks of the lost claims that are not marked yet, the oldest first
-abbrev pub open_blocks : List Record → List ℕ
-open_blocks [] = []
-open_blocks (r ∷ rs) = if not r.won && not r.marked then r.block ∷ open_blocks rs else open_blocks rs
+abbrev pub unmarked_blocks : List Record → List ℕ
+unmarked_blocks [] = []
+unmarked_blocks (r ∷ rs) = if not r.won && not r.marked then r.block ∷ unmarked_blocks rs else unmarked_blocks rs
 
 -- The claims of a worker's tickets that it has not made yet, in order.
 -- A worker draws only where none is left, so they are all of its last ticket.
@@ -34,7 +34,7 @@ next_event w [] [] false = Draw w ∷ []
 
 -- a worker's turn in a state
 abbrev pub turn : List (List (ℕ × Owner)) → State → ℕ → List Event
-turn work s w = next_event w (open_blocks (view_of s w).records) (claims_left work (view_of s w)) (nat_lt 0 (past (length work) (view_of s w).numbers))
+turn work s w = next_event w (unmarked_blocks (view_of s w).records) (claims_left work (view_of s w)) (nat_lt 0 (past (length work) (view_of s w).numbers))
 
 -- the events of a schedule: each of its numbers gives that worker one turn
 abbrev pub chosen : List (List (ℕ × Owner)) → State → List ℕ → List Event

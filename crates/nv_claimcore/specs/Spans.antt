@@ -6,7 +6,7 @@ use Rattle.nv_blockset.specs.BlockSet.{mask_of}
 use Rattle.nv_super.specs.declared.owners.Owner.{Owner}
 use Rattle.nv_claimcore.specs.declared.view.Record.{Record}
 use Rattle.nv_claimcore.specs.declared.view.View.{View}
-use Rattle.nv_claimcore.specs.Claims.{with_record, with_mark, claim_of, is_open, Settled}
+use Rattle.nv_claimcore.specs.Claims.{with_record, with_mark, claim_of, is_unmarked, Settled}
 use Rattle.nv_claimcore.specs.Finished.{pair_of}
 
 -- the mask of the blocks
@@ -30,9 +30,9 @@ Rises lo hi [] = Unit {0}
 Rises lo hi (p ∷ ps) = (lo ≤ p.0) × (p.0 < hi) × Rises (p.0 + 1) hi ps
 
 -- each block has a lost claim that is not marked, when its turn comes
-abbrev pub AreOpen : List (ℕ × Owner) → View → Type 0
-AreOpen [] v = Unit {0}
-AreOpen (p ∷ ps) v = (0 < count_by (is_open p.0) v.records) × AreOpen ps (with_mark v p.0)
+abbrev pub AreUnmarked : List (ℕ × Owner) → View → Type 0
+AreUnmarked [] v = Unit {0}
+AreUnmarked (p ∷ ps) v = (0 < count_by (is_unmarked p.0) v.records) × AreUnmarked ps (with_mark v p.0)
 
 -- whether the claim wins, where the word found is n
 abbrev pub is_free : ℕ → ℕ × Owner → Bool

@@ -145,7 +145,8 @@ impl ClaimState {
             Event::Claim { worker, block, .. } => (worker as usize) < self.views.len()
                 && block < sizes.blocks,
             Event::Mark { worker, block } => {
-                (worker as usize) < self.views.len() && self.views[worker as usize].has_open(block)
+                (worker as usize) < self.views.len()
+                    && self.views[worker as usize].has_unmarked(block)
             }
         }
     }

@@ -3,7 +3,7 @@
 ghost use Rattle.std.specs.Prelude.{◌≡◌, ℕ, ◌<◌, nat_lt, length, OnOk, OnErr};
 ghost use Rattle.std.specs.List.{count_by};
 ghost use Rattle.nv_claimcore.specs.declared.view.View.{View};
-ghost use Rattle.nv_claimcore.specs.Claims.{Owes, nothing, past, is_open, place_of, with_number, with_record, with_mark};
+ghost use Rattle.nv_claimcore.specs.Claims.{Owes, nothing, past, is_unmarked, place_of, with_number, with_record, with_mark};
 
 use crate::view::Record;
 use std::alloc::{AllocError, Global};
@@ -66,7 +66,7 @@ impl Worker {
     pub(crate) fn mark(&mut self, block: u64)
         ensures { self.new ≡ with_mark self.old block }
     {
-        let place = first_open(self.records.as_slice(), block);
+        let place = first_unmarked(self.records.as_slice(), block);
         if place < self.records.len() {
             self.records[place].marked = true;
         }
@@ -82,10 +82,10 @@ impl Worker {
     }
 
     // Whether a lost claim of the block is not marked.
-    pub(crate) fn has_open(&self, block: u64) -> bool
-        ensures { result ≡ nat_lt 0 (count_by (is_open block) self.now.records) }
+    pub(crate) fn has_unmarked(&self, block: u64) -> bool
+        ensures { result ≡ nat_lt 0 (count_by (is_unmarked block) self.now.records) }
     {
-        first_open(self.records.as_slice(), block) < self.records.len()
+        first_unmarked(self.records.as_slice(), block) < self.records.len()
     }
 
     // How many numbers are at or past the end of the tickets.
@@ -100,7 +100,7 @@ impl Worker {
 }
 
 // The place of the oldest lost claim of the block that is not marked, or else the end.
-fn first_open(records: &[Record], block: u64) -> usize
+fn first_unmarked(records: &[Record], block: u64) -> usize
     ensures { result ≡ place_of block records.now }
 {
     let mut place = 0;

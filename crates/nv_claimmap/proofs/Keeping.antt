@@ -8,7 +8,7 @@ use Rattle.nv_claimcore.specs.declared.view.Sizes.{Sizes}
 use Rattle.nv_claimcore.specs.declared.view.View.{View}
 use Rattle.nv_claimcore.specs.Claims as C
 use Rattle.nv_claimcore.specs.Claims.{Legal, past, times, above, won, with_number, nothing, both_views}
-use Rattle.nv_claimcore.specs.Spans.{mask_all, claim_all, mark_all, Rises, AreOpen}
+use Rattle.nv_claimcore.specs.Spans.{mask_all, claim_all, mark_all, Rises, AreUnmarked}
 use Rattle.nv_claimmap.specs.Rule.{Kept, table_of, drawn, claimed, marked, looked, one_less}
 use Rattle.nv_claimmap.proofs.TableWords.{first_get, first_set, second_get, second_set, zeros}
 use Rattle.nv_claimcore.proofs.Keeps.{draw_new, draw_above, draw_small, draw_keeps, split_keeps, join_keeps, opening_legal}
@@ -89,9 +89,9 @@ module _ (z : Sizes) (slots id : ℕ) (me : Me ℕ View) (word k mask lo hi : �
         ap (λ n. (claim_all n ps me.0, me.1)) (sym found),
       )
 
-  -- a seat may mark its open claims of rising blocks of one word of the second set in one step
-  pub marks_allowed : word ≡ (words_for z.blocks + 31) + k → AreOpen ps me.0 → Allows (Kept z) slots id me word (λ n. bit_or n mask) (marked ps (step slots word mask 0 none) me)
-  marks_allowed here opened s kept sized at bound =
+  -- a seat may mark its unmarked claims of rising blocks of one word of the second set in one step
+  pub marks_allowed : word ≡ (words_for z.blocks + 31) + k → AreUnmarked ps me.0 → Allows (Kept z) slots id me word (λ n. bit_or n mask) (marked ps (step slots word mask 0 none) me)
+  marks_allowed here unmarked s kept sized at bound =
       let here' : word ≡ (length kept.first + 31) + k = rw kept.legal.first_words here in
       let long : k < length kept.second = rw kept.legal.second_words inside in
       let found : get_or s.words word 0 ≡ get_or kept.second k 0 = second_get s.words kept.first kept.second kept.cursor kept.words word k here' long in
@@ -106,7 +106,7 @@ module _ (z : Sizes) (slots id : ℕ) (me : Me ℕ View) (word k mask lo hi : �
           second = set kept.second k (bit_or (get_or kept.second k 0) (mask_all ps));
           cursor = kept.cursor;
           words = now;
-          legal = marks_keep z record { first = kept.first; second = kept.second; cursor = kept.cursor; views = s.views } kept.legal id k lo hi me.0 ps at low high below rises opened;
+          legal = marks_keep z record { first = kept.first; second = kept.second; cursor = kept.cursor; views = s.views } kept.legal id k lo hi me.0 ps at low high below rises unmarked;
         },
         refl,
       )

@@ -8,7 +8,7 @@ ghost use Rattle.std.specs.Vec.{vec_len, vec_capacity};
 ghost use Rattle.nv_blockset.specs.BlockSet.{words_for};
 ghost use Rattle.nv_super.specs.Owners.{MayOwn, pairs};
 ghost use Rattle.nv_claimcore.specs.Claims.{Settled};
-ghost use Rattle.nv_claimcore.specs.Spans.{claim_all, mark_all, lost_in, settle, AreOpen, Adds};
+ghost use Rattle.nv_claimcore.specs.Spans.{claim_all, mark_all, lost_in, settle, AreUnmarked, Adds};
 ghost use Rattle.nv_claimmap.specs.Inside.{HasSets, InWord};
 
 use crate::places::{FIRST, second_from};
@@ -59,7 +59,7 @@ fn mark_step<I: Intent>(
     requires word { (word ≡ _start / 64) × (0 < _count) }
     requires run { InWord _start _count shared.now.key.blocks }
     requires lost { lost ≡ bit_and _found (2 ^ (_start % 64 + _count) - 2 ^ (_start % 64)) }
-    requires opened { AreOpen (lost_in _found (pairs _start _owner _count)) seat.old.me.0 }
+    requires unmarked { AreUnmarked (lost_in _found (pairs _start _owner _count)) seat.old.me.0 }
     ensures same { (seat.new.table_id ≡ seat.old.table_id) × (seat.new.id ≡ seat.old.id) }
     ensures me { seat.new.me ≡ (mark_all (lost_in _found (pairs _start _owner _count)) seat.old.me.0, seat.old.me.1) }
 {

@@ -18,11 +18,11 @@ use Rattle.nv_outcome.specs.Parts.{ArePieces, AreParts, faults_in, double_fault}
 use Rattle.nv_outcome.specs.Shared.{SharesAll}
 use Rattle.nv_outcome.proofs.Whole.{parts_outcome}
 use Rattle.nv_outcome.proofs.Shared.{shares_all}
-use Rattle.nv_recover.specs.declared.opening.Opened.{Opened}
+use Rattle.nv_recover.specs.declared.starting.Started.{Started}
 use Rattle.nv_recover.specs.declared.scanned.Scanned.{Scanned}
 use Rattle.nv_recover.specs.declared.recovered.Recovered.{Recovered}
 use Rattle.nv_recover.specs.Answer.{outcome_of, IsAnswer}
-use Rattle.nv_recover.specs.Opened.{IsOpened}
+use Rattle.nv_recover.specs.Started.{IsStarted}
 use Rattle.nv_recover.specs.Scanned.{IsScanned, all_told}
 
 -- faults that are told in another order are the same in order
@@ -43,32 +43,32 @@ pub told_same : (journal : List Fault) {own own' cross cross' faults : List Faul
 told_same journal {faults = faults} one two three are = subst (λ (told : List Fault). SortedOf fault_key told faults) (λ i. all_told journal (one i) (two i) (three i)) are
 
 -- What is made of what was scanned: the blocks outside the first set, the claims of the second set, and all faults in order.
-pub record IsMade (o : Opened) (x : Scanned) (r : Recovered) : Type 0 where
+pub record IsMade (o : Started) (x : Scanned) (r : Recovered) : Type 0 where
   pub sup : r.sup ≡ o.sup
   pub rows : r.rows.items ≡ x.inodes.rows.items
   pub outside : AreOutside x.claimed.first.items o.sup r.free
   pub owned_twice : AreDoubled x.claimed.claims.items x.claimed.second.items r.doubled.items
   pub all : SortedOf fault_key (all_told o.journal.items x.inodes.faults.items x.cross.items r.doubled.items) r.faults.items
 
-module _ {old new : Region} {o : Opened} {x : Scanned} {r : Recovered} (opened : IsOpened old new o) (scanned : IsScanned new o.sup x) (made : IsMade o x r) where
+module _ {old new : Region} {o : Started} {x : Scanned} {r : Recovered} (started : IsStarted old new o) (scanned : IsScanned new o.sup x) (made : IsMade o x r) where
   parts : AreParts old o.sup scanned.pieces x.claimed.claims.items x.claimed.first.items x.claimed.second.items r.free r.doubled.items o.journal.items x.cross.items r.faults.items
   parts = record {
-    scanned = subst (λ (R : Region). ArePieces R (fixed_layout o.sup) scanned.pieces) opened.rolled_back scanned.inodes.pieces_are;
+    scanned = subst (λ (R : Region). ArePieces R (fixed_layout o.sup) scanned.pieces) started.rolled_back scanned.inodes.pieces_are;
     claimed = scanned.claimed.claimed;
     maps = scanned.claimed.maps;
     outside = made.outside;
     owned_twice = made.owned_twice;
-    in_journals = opened.in_journals;
+    in_journals = started.in_journals;
     between = subst (λ (rows : List Row). Lists fault_key (IsCrossFaultIn rows) x.cross.items) scanned.inodes.rows scanned.cross;
     all = told_otherwise o.journal.items x.inodes.faults.items (faults_in scanned.pieces) x.cross.items r.doubled.items r.faults.items scanned.inodes.faults made.all;
   }
 
   outcome : IsOutcome old (outcome_of r)
   outcome = subst (λ (s : Super). IsOutcome old (record { sup = s; rows = r.rows.items; free = r.free.pools; doubled = r.doubled.items; faults = r.faults.items })) (sym made.sup)
-      (subst (λ (rows : List Row). IsOutcome old (record { sup = o.sup; rows = rows; free = r.free.pools; doubled = r.doubled.items; faults = r.faults.items })) (sym (made.rows ∙ scanned.inodes.rows)) (parts_outcome opened.sup parts))
+      (subst (λ (rows : List Row). IsOutcome old (record { sup = o.sup; rows = rows; free = r.free.pools; doubled = r.doubled.items; faults = r.faults.items })) (sym (made.rows ∙ scanned.inodes.rows)) (parts_outcome started.sup parts))
 
   rolled_back : new ≡ undone r.sup old
-  rolled_back = opened.rolled_back ∙ ap (λ (s : Super). undone s old) (sym made.sup)
+  rolled_back = started.rolled_back ∙ ap (λ (s : Super). undone s old) (sym made.sup)
 
   pub answer_of : IsAnswer old new r
   answer_of = record {

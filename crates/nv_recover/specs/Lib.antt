@@ -1,6 +1,6 @@
 pub mod Answer
 pub mod Errors
-pub mod Opened
+pub mod Started
 pub mod Scanned
 pub mod Workers
 pub mod Behind

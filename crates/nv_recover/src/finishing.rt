@@ -6,12 +6,12 @@ ghost use Rattle.nv_super.specs.Layout.{IsLayout};
 ghost use Rattle.nv_super.specs.Order.{fault_key, SortedOf};
 ghost use Rattle.nv_outcome.specs.Parts.{double_fault};
 ghost use Rattle.nv_recover.specs.Answer.{IsAnswer};
-ghost use Rattle.nv_recover.specs.Opened.{IsOpened};
+ghost use Rattle.nv_recover.specs.Started.{IsStarted};
 ghost use Rattle.nv_recover.specs.Scanned.{IsScanned, all_told};
 
-use crate::opening::Opened;
 use crate::recovered::Recovered;
 use crate::scanned::Scanned;
+use crate::starting::Started;
 use nv_alloc::Allocators;
 use nv_check::doubled;
 use nv_super::{Fault, Owner, sort_faults};
@@ -21,14 +21,14 @@ use std::alloc::{AllocError, Global};
 /// put in order.
 pub(crate) fn finish(
     alloc: Global,
-    opened: Opened,
+    started: Started,
     scanned: Scanned,
 ) -> Result<Recovered, AllocError>
-    requires layout { IsLayout opened.sup }
-    requires scanned { (R : Region) × IsScanned R opened.sup scanned }
-    ensures { IfOk result (λ r. (old new : Region) → IsOpened old new opened → IsScanned new opened.sup scanned → IsAnswer old new r) }
+    requires layout { IsLayout started.sup }
+    requires scanned { (R : Region) × IsScanned R started.sup scanned }
+    ensures { IfOk result (λ r. (old new : Region) → IsStarted old new started → IsScanned new started.sup scanned → IsAnswer old new r) }
 {
-    let Opened { sup, journal } = opened;
+    let Started { sup, journal } = started;
     let Scanned {
         inodes,
         claimed,

@@ -7,12 +7,12 @@
 mod finishing;
 mod maps;
 mod one;
-mod opening;
 mod parallel;
 mod recovered;
 mod replaying;
 mod scanned;
 mod scanning;
+mod starting;
 mod workers;
 
 pub use one::recover_one;

@@ -19,10 +19,10 @@ ghost use Rattle.nv_recover.specs.Scanned.{AreInodes, IsScanned};
 
 use crate::finishing::finish;
 use crate::maps::claimed_of;
-use crate::opening::open;
 use crate::recovered::{RecoverError, Recovered};
 use crate::scanned::{Inodes, Scanned};
 use crate::scanning::scan_next;
+use crate::starting::start;
 use nv_check::cross_faults_one;
 use nv_region::Pmem;
 use nv_scan::Scanner;
@@ -49,9 +49,9 @@ pub fn recover_one<P: Pmem>(alloc: Global, memory: &mut P) -> Result<Recovered, 
     // A memory that takes stores up to the first data block isn't stopped.
     ensures unstopped { (s : SuperValue) → IsSuper (P.region memory.old) s → IsTrue ((P.fuse memory.old).is_open (4096 * system_blocks s)) → IfErr result (λ e. e ≢ errors.Stopped) }
 {
-    let opened = open(alloc, memory)?;
-    let scanned = scan_all(alloc, &*memory, &opened.sup)?;
-    Ok(finish(alloc, opened, scanned)?)
+    let started = start(alloc, memory)?;
+    let scanned = scan_all(alloc, &*memory, &started.sup)?;
+    Ok(finish(alloc, started, scanned)?)
 }
 
 // Scans all inodes. The sets of their claims are made at the end.

@@ -18,6 +18,7 @@ ghost use Rattle.nv_recover.specs.Scanned.{IsScanned};
 use crate::finishing::finish;
 use crate::recovered::{MOST_WORKERS, RecoverError, Recovered};
 use crate::scanned::Scanned;
+use crate::starting::start;
 use crate::workers::scan_by_workers;
 use nv_check::cross_faults;
 use nv_region::Pmem;
@@ -58,9 +59,9 @@ pub fn recover<P: Pmem + Sync, G: Gate + Sync, H: Threads + Sync>(
     if !(1..=MOST_WORKERS).contains(&workers) {
         return Err(RecoverError::Workers);
     }
-    let opened = open(alloc, memory)?;
-    let scanned = scan_on_threads(rt, alloc, &*memory, &opened.sup, workers, gate)?;
-    Ok(finish(alloc, opened, scanned)?)
+    let started = start(alloc, memory)?;
+    let scanned = scan_on_threads(rt, alloc, &*memory, &started.sup, workers, gate)?;
+    Ok(finish(alloc, started, scanned)?)
 }
 
 // Scans all inodes by workers, and shares the work between inodes among threads too.

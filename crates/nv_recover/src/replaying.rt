@@ -21,6 +21,7 @@ use crate::finishing::finish;
 use crate::recovered::{MOST_WORKERS, RecoverError, Recovered};
 use crate::scanned::{Inodes, Scanned};
 use crate::scanning::scan_next;
+use crate::starting::start;
 use nv_check::cross_faults_one;
 use nv_claimcore::{ClaimState, CoreRefusal, replay};
 use nv_claimmap::Claimed;
@@ -63,9 +64,9 @@ pub fn recover_replay<P: Pmem>(
     if let Some(place) = first_stranger(schedule, workers as u32) {
         return Err(RecoverError::Schedule(place));
     }
-    let opened = open(alloc, memory)?;
-    let scanned = scan_by_schedule(alloc, &*memory, &opened.sup, workers as u32, schedule)?;
-    Ok(finish(alloc, opened, scanned)?)
+    let started = start(alloc, memory)?;
+    let scanned = scan_by_schedule(alloc, &*memory, &started.sup, workers as u32, schedule)?;
+    Ok(finish(alloc, started, scanned)?)
 }
 
 // Scans all inodes, and makes their claims in the order of the schedule.

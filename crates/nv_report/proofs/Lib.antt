@@ -1,4 +1,3 @@
-pub mod Results
 pub mod TextLemmas
 pub mod OneText
 pub mod Answered

@@ -1,17 +1,17 @@
 //! A recovery as a script and a check tell it: what it answered, its texts, and the exit status that it leaves.
 //!
 //! `recovering` recovers a region, and answers what was found or why it is refused (`recovery`); `last` has how it went.
-//! `texts` shows a part of what was found (`part`), for which `contents` writes the inodes. `lengths` says for a user why a
+//! `texts` shows a part of what was found (`part`), for which `rows` writes the inodes. `lengths` says for a user why a
 //! region's length is refused.
 #![tactic(auto)]
 
-mod contents;
 mod last;
 mod laws;
 mod lengths;
 mod part;
 mod recovering;
 mod recovery;
+mod rows;
 mod texts;
 
 pub use last::{Last, how_it_went};

@@ -9,7 +9,7 @@ ghost use Rattle.nv_report.specs.Answering.{TakesRecovery, MayAnswer, IsToldAs, 
 use crate::recovery::Answer;
 use nv_recover::{RecoverError, recover, recover_replay};
 use nv_region::Pmem;
-use nv_scan::OpenGate;
+use nv_scan::NoGate;
 use nv_text::Refusal;
 use std::alloc::{AllocError, Global};
 use std::thread::Threads;
@@ -27,7 +27,7 @@ pub fn recover_region<P: Pmem + Sync, H: Threads + Sync>(
     ensures err { OnErr result (AsBeforeOrUndone (P.region memory.old) (P.region memory.new)) }
     ensures keeps_fuse { KeepsFuse (BehindSystem (P.region memory.old)) (P.fuse memory.old) (P.fuse memory.new) }
 {
-    match recover(rt, alloc, memory, workers, &OpenGate) {
+    match recover(rt, alloc, memory, workers, &NoGate) {
         Ok(recovered) => Ok(Answer::Recovered(recovered)),
         Err(error) => refused(error),
     }

@@ -7,8 +7,8 @@ ghost use Rattle.nv_text.specs.Free.{free_lines};
 ghost use Rattle.nv_recover.specs.Answer.{outcome_of};
 ghost use Rattle.nv_report.specs.Texts.{recovered_text, IsPartText, IsReportText, AddsText};
 
-use crate::contents::push_rows;
 use crate::part::Part;
+use crate::rows::push_rows;
 use nv_alloc::Allocators;
 use nv_recover::Recovered;
 use nv_text::{

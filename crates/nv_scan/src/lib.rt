@@ -27,4 +27,4 @@ pub use laws::{
 pub use numbers::Numbers;
 pub use piece::{Piece, Row};
 pub use scan::{Scanner, scan_slot};
-pub use working::{Gate, OpenGate, WorkerResult, worker};
+pub use working::{Gate, NoGate, WorkerResult, worker};

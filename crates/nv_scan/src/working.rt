@@ -22,9 +22,9 @@ pub trait Gate {
 
 /// A gate that holds nobody.
 #[derive(Clone, Copy, Debug)]
-pub struct OpenGate;
+pub struct NoGate;
 
-impl Gate for OpenGate {
+impl Gate for NoGate {
     fn enter(&self, _worker: u32, _ticket: u64) {}
 }
 

@@ -12,7 +12,7 @@ mod region;
 use findings::{Counts, Left, counts_of, is_want_of_memory, left_of};
 use nv_recover::{RecoverError, Recovered, recover, recover_one, recover_replay};
 use nv_region::MemRegion;
-use nv_scan::OpenGate;
+use nv_scan::NoGate;
 use region::{rolled_back_region, stopped_region};
 use std::alloc::{AllocError, Global};
 use std::env;
@@ -64,7 +64,7 @@ fn recovered_so<R: AllocGlobal + Threads + Sync>(
     match way {
         Way::OneThread => recover_one(rt.alloc(), memory),
         Way::Schedule => recover_replay(rt.alloc(), memory, 2, &[1, 0, 1, 1, 0]),
-        Way::TwoWorkers => recover(rt, rt.alloc(), memory, 2, &OpenGate),
+        Way::TwoWorkers => recover(rt, rt.alloc(), memory, 2, &NoGate),
     }
 }
 

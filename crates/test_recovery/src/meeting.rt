@@ -4,7 +4,7 @@ use crate::small::{DIRECTORY_MODE, Word};
 use crate::watched::{Watch, WatchedRegion};
 use nv_recover::{RecoverError, recover};
 use nv_region::{MemRegion, Pmem, RegionRefusal};
-use nv_scan::{Gate, OpenGate};
+use nv_scan::{Gate, NoGate};
 use nv_super::MAGIC;
 use std::sync::atomic::{AtomicBool, Ordering};
 
@@ -150,7 +150,7 @@ fn two_inodes_are_read_at_once(rt: HostRuntime) -> Result<(), Failure> {
             meeting: Meeting::new(),
         },
     };
-    let recovered = recover(&rt, rt.alloc(), &mut memory, 2, &OpenGate)?;
+    let recovered = recover(&rt, rt.alloc(), &mut memory, 2, &NoGate)?;
     assert_eq!(rt; recovered.faults.len(), 0);
     assert!(rt; memory.watch.meeting.both_met());
     Ok(())

@@ -3,7 +3,7 @@
 use crate::small::{DIRECTORY_MODE, SMALL, Word, small_region};
 use nv_recover::{RecoverError, Recovered, recover, recover_one, recover_replay};
 use nv_region::MemRegion;
-use nv_scan::{OpenGate, Row};
+use nv_scan::{NoGate, Row};
 use nv_super::{Fault, Kind, MAGIC, Owner, Run, SuperFault};
 use std::alloc::Global;
 use std::process::Abort;
@@ -85,7 +85,7 @@ fn root_by_workers<R: Threads + Abort + Sync>(
     workers: u64,
 ) -> Result<(), Fail> {
     let mut memory = small_region(alloc, &ROOT)?;
-    let answer = recover(rt, alloc, &mut memory, workers, &OpenGate)?;
+    let answer = recover(rt, alloc, &mut memory, workers, &NoGate)?;
     assert_root_alone(rt, &answer)
 }
 
@@ -145,7 +145,7 @@ fn shared_log_by_workers<R: Threads + Abort + Sync>(
     alloc: Global,
     memory: &mut MemRegion,
 ) -> Result<(), Fail> {
-    let answer = recover(rt, alloc, memory, 8, &OpenGate)?;
+    let answer = recover(rt, alloc, memory, 8, &NoGate)?;
     assert_shared_log(rt, &answer);
     Ok(())
 }
@@ -174,7 +174,7 @@ fn refusal_by_workers<R: Threads + Sync>(
     memory: &mut MemRegion,
     workers: u64,
 ) -> Option<RecoverError> {
-    recover(rt, alloc, memory, workers, &OpenGate).err()
+    recover(rt, alloc, memory, workers, &NoGate).err()
 }
 
 fn refusal_by_a_schedule(

@@ -4,7 +4,7 @@ use crate::small::{DIRECTORY_MODE, SMALL, opened_for_one, small_region};
 use nv_claimmap::Claimed;
 use nv_names::Target;
 use nv_scan::{
-    Numbers, OpenGate, Piece, Row, Scanner, directories_have_no_pages, files_have_no_names,
+    NoGate, Numbers, Piece, Row, Scanner, directories_have_no_pages, files_have_no_names,
     in_use_by_the_slot, inode_alone, mapped_pages_begin_below_the_size, names_are_listed,
     one_block, one_inode, owned_blocks_are_data_blocks, scan_slot, worker,
 };
@@ -262,7 +262,7 @@ fn a_scanner_reads_a_log_again(rt: HostRuntime) -> Result<(), Fail> {
 fn worked(alloc: Global) -> Result<(Vec<Piece>, Claimed), Fail> {
     let memory = small_region(alloc, &TWO_INODES)?;
     let (map, seat) = opened_for_one(alloc)?;
-    let done = worker(alloc, &memory, &SMALL, &map, seat, &OpenGate);
+    let done = worker(alloc, &memory, &SMALL, &map, seat, &NoGate);
     if done.refused {
         return Err(AllocError)?;
     }

@@ -4,8 +4,8 @@ use Rattle.atomic_table.specs.Table.{Me}
 use Rattle.nv_super.specs.declared.owners.Owner.{Owner}
 use Rattle.nv_super.specs.Owners.{pairs}
 use Rattle.nv_claimcore.specs.declared.view.View.{View}
-use Rattle.nv_claimcore.specs.Spans.{claim_all, mark_all, lost_in, AreOpen}
-use Rattle.nv_claimcore.proofs.WordRuns.{run_mask, run_bits, lost_mask, lost_open, both_steps, none_lost}
+use Rattle.nv_claimcore.specs.Spans.{claim_all, mark_all, lost_in, AreUnmarked}
+use Rattle.nv_claimcore.proofs.WordRuns.{run_mask, run_bits, lost_mask, lost_unmarked, both_steps, none_lost}
 use Rattle.nv_claimmap.proofs.steps.claim_part.Goals as goal
 
 pub claim_step-found-requires-clause-mask : goal.claim_step-found-requires-clause-mask
@@ -14,9 +14,9 @@ claim_step-found-requires-clause-mask c = run_bits (c.args.start % 64) c.args.co
 pub mark_step-requires-clause-lost : goal.mark_step-requires-clause-lost
 mark_step-requires-clause-lost c = ap (bit_and c.claim_step-found.result) (run_bits (c.args.start % 64) c.args.count c.requires.run.0)
 
-pub mark_step-requires-clause-opened : goal.mark_step-requires-clause-opened
-mark_step-requires-clause-opened c = let ps = pairs c.args.start c.args.owner c.args.count in
-    subst (AreOpen (lost_in c.claim_step-found.result ps)) (sym (ap (λ (m : Me ℕ View). m.0) c.claim_step-found.ensures.me)) (lost_open c.claim_step-found.result ps c.args.seat.now.me.0 c.requires.seat.1)
+pub mark_step-requires-clause-unmarked : goal.mark_step-requires-clause-unmarked
+mark_step-requires-clause-unmarked c = let ps = pairs c.args.start c.args.owner c.args.count in
+    subst (AreUnmarked (lost_in c.claim_step-found.result ps)) (sym (ap (λ (m : Me ℕ View). m.0) c.claim_step-found.ensures.me)) (lost_unmarked c.claim_step-found.result ps c.args.seat.now.me.0 c.requires.seat.1)
 
 pub returns-then-lost-ne0-clause-me : goal.returns-then-lost-ne0-clause-me
 returns-then-lost-ne0-clause-me c = let ps = pairs c.args.start c.args.owner c.args.count in let n = c.claim_step-found.result in (

@@ -6,13 +6,13 @@ use Rattle.nv_recover.proofs.finishing.finish.Goals as goal
 
 pub doubled-requires : goal.doubled-requires
 doubled-requires c = let s = c.requires.scanned.1 in
-    record { covers = claims_covered c.args.opened.sup s.pieces c.args.scanned.claimed s.inodes.pieces_are s.claimed c.deref-2.ensures.value c.deref-3.ensures.value }
+    record { covers = claims_covered c.args.started.sup s.pieces c.args.scanned.claimed s.inodes.pieces_are s.claimed c.deref-2.ensures.value c.deref-3.ensures.value }
 
 pub returns : goal.returns
-returns c = λ old new opened scanned. answer_of opened scanned record {
+returns c = λ old new started scanned. answer_of started scanned record {
   sup = refl;
   rows = refl;
-  outside = subst (λ (first : List ℕ). AreOutside first c.args.opened.sup c.in_ok-free.free) c.deref.ensures.value c.in_ok-free.ensures.outside;
+  outside = subst (λ (first : List ℕ). AreOutside first c.args.started.sup c.in_ok-free.free) c.deref.ensures.value c.in_ok-free.ensures.outside;
   owned_twice = doubled_same c.deref-2.ensures.value c.deref-3.ensures.value c.in_ok-doubled.ensures;
-  all = told_same c.args.opened.journal.items c.deref-4.ensures.value c.deref-5.ensures.value c.deref-6.ensures.value c.in_ok-faults.ensures;
+  all = told_same c.args.started.journal.items c.deref-4.ensures.value c.deref-5.ensures.value c.deref-6.ensures.value c.in_ok-faults.ensures;
 }

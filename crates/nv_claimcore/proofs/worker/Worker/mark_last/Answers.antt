@@ -2,7 +2,7 @@ use Rattle.std.proofs.Common.{◌≡◌, ℕ, ◌-◌, List, length, get_or, set
 use Rattle.nv_claimcore.specs.declared.view.Record.{Record}
 use Rattle.nv_claimcore.specs.declared.view.View.{View}
 use Rattle.nv_claimcore.specs.Claims.{mark, with_mark, Owes}
-use Rattle.nv_claimcore.proofs.OpenAt.{mark_end}
+use Rattle.nv_claimcore.proofs.UnmarkedAt.{mark_end}
 use Rattle.nv_claimcore.proofs.worker.Worker.mark_last.Goals as goal
 
 pub returns : goal.returns

@@ -2,7 +2,7 @@ use Rattle.std.proofs.Common.{take, subst, sym, ap, ◌∙◌, ◌++◌, [], ◌
 use Rattle.std.proofs.lemmas.List.{take_more}
 use Rattle.nv_report.specs.Texts.{IsTreeText, AddsText}
 use Rattle.nv_report.proofs.TextLemmas.{adds_tree}
-use Rattle.nv_report.proofs.contents.push_rows.Goals as goal
+use Rattle.nv_report.proofs.rows.push_rows.Goals as goal
 
 pub loop-row-preserved : goal.loop-row-preserved
 loop-row-preserved c =

@@ -1,12 +1,12 @@
-//! The texts of the inodes in use: for each its attributes, its log, and its names or the pieces of its pages.
+//! The texts of the inodes in use: for each its attributes, its log, and its names or the extents of its pages.
 
 ghost use Rattle.std.specs.Prelude.{◌≡◌, ◌++◌, OnOk, map, string_bytes};
 ghost use Rattle.nv_names.specs.Names.{line_of};
 ghost use Rattle.nv_super.specs.declared.kind.Kind.TheVariants as kinds;
-ghost use Rattle.nv_report.specs.Texts.{attributes_of, row_head, names_text, pieces_text, IsContentText, IsRowText, IsTreeText, AddsText};
+ghost use Rattle.nv_report.specs.Texts.{attributes_of, row_head, names_text, extents_text, IsContentText, IsRowText, IsTreeText, AddsText};
 
 use nv_names::Named;
-use nv_radix::Piece;
+use nv_radix::Extent;
 use nv_scan::Row;
 use nv_super::Kind;
 use nv_text::{Attributes, push_inode_line, push_log_line, push_name_line, push_page_line};
@@ -61,8 +61,8 @@ fn push_content(out: &mut String, row: &Row) -> Result<(), AllocError>
             push_names(out, &listed)
         }
         Kind::File => {
-            let pieces = row.index.runs()?;
-            push_pieces(out, &pieces)
+            let extents = row.index.runs()?;
+            push_extents(out, &extents)
         }
     }
 }
@@ -76,11 +76,11 @@ fn push_names(out: &mut String, listed: &[Named<'_>]) -> Result<(), AllocError>
     Ok(())
 }
 
-fn push_pieces(out: &mut String, pieces: &[Piece]) -> Result<(), AllocError>
-    ensures { OnOk result (string_bytes out.new ≡ string_bytes out.old ++ pieces_text pieces.now) }
+fn push_extents(out: &mut String, extents: &[Extent]) -> Result<(), AllocError>
+    ensures { OnOk result (string_bytes out.new ≡ string_bytes out.old ++ extents_text extents.now) }
 {
-    for piece in pieces {
-        push_page_line(out, piece.page, piece.count, piece.block)?;
+    for extent in extents {
+        push_page_line(out, extent.page, extent.count, extent.block)?;
     }
     Ok(())
 }

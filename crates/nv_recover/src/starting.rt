@@ -9,7 +9,7 @@ ghost use Rattle.nv_journal.specs.Undone.{AllQuiet};
 ghost use Rattle.nv_recover.specs.declared.recovered.RecoverError.TheVariants as errors;
 ghost use Rattle.nv_recover.specs.Errors.{Fails, comes_first};
 ghost use Rattle.nv_recover.specs.Behind.{BehindSystem};
-ghost use Rattle.nv_recover.specs.Opened.{IsOpened};
+ghost use Rattle.nv_recover.specs.Started.{IsStarted};
 
 use crate::recovered::RecoverError;
 use nv_journal::undo;
@@ -19,14 +19,14 @@ use std::alloc::Global;
 
 /// The superblock's numbers, and what is wrong with the journals as the region came.
 #[derive(Drop)]
-pub(crate) struct Opened {
+pub(crate) struct Started {
     pub sup: Super,
     pub journal: Vec<Fault>,
 }
 
 /// Reads the superblock and rolls the journals back. What comes after it only reads.
-pub(crate) fn open<P: Pmem>(alloc: Global, memory: &mut P) -> Result<Opened, RecoverError>
-    ensures ok { IfOk result (λ opened. IsOpened (P.region memory.old) (P.region memory.new) opened) }
+pub(crate) fn start<P: Pmem>(alloc: Global, memory: &mut P) -> Result<Started, RecoverError>
+    ensures ok { IfOk result (λ started. IsStarted (P.region memory.old) (P.region memory.new) started) }
     // With nothing to roll back, nothing is stored or fenced, and it isn't stopped.
     ensures quiet { (s : SuperValue) → IsSuper (P.region memory.old) s → AllQuiet s.cpus (P.region memory.old) → memory.new ≡ memory.old }
     ensures quiet_done { (s : SuperValue) → IsSuper (P.region memory.old) s → AllQuiet s.cpus (P.region memory.old) → IfErr result (λ e. e ≢ errors.Stopped) }
@@ -39,5 +39,5 @@ pub(crate) fn open<P: Pmem>(alloc: Global, memory: &mut P) -> Result<Opened, Rec
 {
     let sup = read_super(memory)?;
     let journal = undo(alloc, memory, &sup)?;
-    Ok(Opened { sup, journal })
+    Ok(Started { sup, journal })
 }

@@ -6,10 +6,10 @@ use Rattle.nv_super.specs.Order.{fault_key, Lists}
 use Rattle.nv_super.specs.Super.{IsSuper}
 use Rattle.nv_journal.specs.Undo.{undone}
 use Rattle.nv_journal.specs.Faults.{HasFault}
-use Rattle.nv_recover.specs.declared.opening.Opened.{Opened}
+use Rattle.nv_recover.specs.declared.starting.Started.{Started}
 
 -- The superblock of the old region and the faults of its journals; the new one is the old with its journals rolled back.
-pub record IsOpened (old new : Region) (o : Opened) : Type 0 where
+pub record IsStarted (old new : Region) (o : Started) : Type 0 where
   pub sup : IsSuper old o.sup
   pub layout : IsLayout o.sup
   pub rolled_back : new ≡ undone o.sup old
