@@ -13,7 +13,7 @@ use Rattle.nv_format.proofs.clearing.clear_tables.Goals as goal
 pub returns-in_err-clear_word-clause-wrote : goal.returns-in_err-clear_word-clause-wrote
 returns-in_err-clear_word-clause-wrote g c =
     let s = c.args.sup.now in
-    let below : c.loop-place.place < inode_limit s = omega (arith, c.loop-place-test.true, c.inode_limit.ensures) in
+    let below : c.loop-place.place < inode_limit s = omega (arith, c.loop-place-test.true, c.inode_limit-place-end.ensures) in
     clears_more (IsValidWord s) c.nth_slot.result 0 _ _ _ _ _ _ (omega (arith, c.nth_slot.ensures)) (valid_at s c.loop-place.place c.nth_slot.result c.requires.layout below c.nth_slot.ensures) c.loop-place.invariant.wrote c.clear_word.ensures.wrote
 
 pub loop-place-preserved : goal.loop-place-preserved
@@ -23,7 +23,7 @@ loop-place-preserved g c =
     let before = g.P.Pmem.region c.loop-place.memory in
     let after = g.P.Pmem.region c.clear_word.new.memory in
     let wrote = c.clear_word.ensures.wrote in
-    let below : c.loop-place.place < inode_limit s = omega (arith, c.loop-place-test.true, c.inode_limit.ensures) in
+    let below : c.loop-place.place < inode_limit s = omega (arith, c.loop-place-test.true, c.inode_limit-place-end.ensures) in
     record {
       blocks = blocks_stay before after (One at 0) s.blocks wrote.mixed c.loop-place.invariant.blocks;
       unused = below_more (λ (k : ℕ). word after (nth_slot s k) ≡ 0) c.loop-place.place
@@ -33,4 +33,4 @@ loop-place-preserved g c =
     }
 
 pub returns-clause-unused : goal.returns-clause-unused
-returns-clause-unused g c = by_inode c.args.sup.now (g.P.Pmem.region c.loop-place.memory) c.requires.layout (λ k below. c.loop-place.invariant.unused k (let end = c.loop-place-test.false in omega (arith, end, c.inode_limit.ensures, below)))
+returns-clause-unused g c = by_inode c.args.sup.now (g.P.Pmem.region c.loop-place.memory) c.requires.layout (λ k below. c.loop-place.invariant.unused k (let end = c.loop-place-test.false in omega (arith, end, c.inode_limit-place-end.ensures, below)))
