@@ -82,8 +82,8 @@ kept_may_be_left keep m words rest fenced left is was same made = record {
 }
 
 -- only words that differed can differ then
-pub kept_differ : (keep : Keep) (pages words fenced left : List ℕ) → length fenced ≡ length words → left ≡ kept keep words fenced → DifferOnlyIn pages words fenced → DifferOnlyIn pages left fenced
-kept_differ keep pages words fenced left same made differ i other = elim (cases_lt i (length words)) [
+pub kept_differ : (keep : Keep) (lines words fenced left : List ℕ) → length fenced ≡ length words → left ≡ kept keep words fenced → DifferOnlyIn lines words fenced → DifferOnlyIn lines left fenced
+kept_differ keep lines words fenced left same made differ i other = elim (cases_lt i (length words)) [
   | inl inside ↦ elim (kept_word keep words fenced i same inside) [
     | inl last ↦ differ i (λ e. other (ap (λ (l : List ℕ). get_or l i 0) made ∙ last ∙ e))
     | inr before ↦ absurd (other (ap (λ (l : List ℕ). get_or l i 0) made ∙ before))
