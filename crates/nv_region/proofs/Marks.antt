@@ -1,10 +1,12 @@
 -- The lines that were stored to: each has its mark, and the list of them has room for all.
 use Rattle.std.proofs.Common.{◌≡◌, ◌≢◌, ◌<◌, ◌≤◌, ◌||◌, ◌⊎◌, inl, inr, ℕ, Bool, true, false, zero, suc, List, [], ◌∷◌, ◌++◌, length, get_or, set, eqb, vec_len, vec_capacity, refl, sym, ap, ◌∙◌, subst, arith, length-append, length-set, replicate, get_or-set_same, get_or-set_other}
 use Rattle.std.specs.List.{list_any, IsDistinct}
+use Rattle.std.specs.List.Sorted.{IsNonDecreasing, IsPermutation, IsStrictlyIncreasing}
 use Rattle.std.proofs.lemmas.Bool.{cases_eq, cases_lt, eqb-true, ne_eqb, eq-eqb}
 use Rattle.std.proofs.lemmas.List.{get_or_past, length-replicate, places}
 use Rattle.std.proofs.lemmas.List.Folds.{list_any-append}
-use Rattle.std.proofs.lemmas.Map.Keys.{IsDistinct-push}
+use Rattle.std.proofs.lemmas.List.Sorted.{list_any-IsPermutation}
+use Rattle.std.proofs.lemmas.Map.Keys.{IsDistinct-IsPermutation, IsDistinct-push, IsStrictlyIncreasing-from_distinct}
 use Rattle.std.proofs.lemmas.Map.Steps.{length-le_from_distinct_below}
 use Rattle.std.proofs.lemmas.Cmp.{nat_eq_equiv}
 use Rattle.nv_region.specs.Marks.{AreMarked}
@@ -86,3 +88,19 @@ no_mark n p = elim (cases_lt p n) [
   | inl within ↦ grind (arith, places)
   | inr past ↦ get_or_past (replicate n false) p false (omega (arith, past, length-replicate n false))
 ]
+
+same_test : (x y : ℕ) → eqb x y ≡ eqb y x
+same_test x y = grind arith
+
+-- the list may be put into another order
+pub permuted_marked : (s t : Inside) → AreMarked s → t.marks.items ≡ s.marks.items → IsPermutation s.lines.items t.lines.items → vec_capacity t.lines ≡ vec_capacity s.lines → AreMarked t
+permuted_marked s t marked marks moved room = record {
+  room = rw (room, marks) marked.room;
+  once = IsDistinct-IsPermutation eqb same_test s.lines.items t.lines.items moved marked.once;
+  below = λ p h. rw marks (marked.below p (list_any-IsPermutation (eqb p) s.lines.items t.lines.items moved ∙ h));
+  marked = λ p h. rw marks (marked.marked p (rw marks at h)) ∙ list_any-IsPermutation (eqb p) s.lines.items t.lines.items moved;
+}
+
+-- in rising order no line stands twice
+pub permuted_rises : (s : Inside) (lines : List ℕ) → AreMarked s → IsPermutation s.lines.items lines → IsNonDecreasing lines → IsStrictlyIncreasing lines
+permuted_rises s lines marked moved up = IsStrictlyIncreasing-from_distinct lines up (IsDistinct-IsPermutation eqb same_test s.lines.items lines moved marked.once)

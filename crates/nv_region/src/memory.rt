@@ -3,15 +3,17 @@
 //! It holds its words twice: as they read, and as they were at the last fence. A fence copies the lines of 64 bytes that
 //! were stored to since the last one, so it costs what was stored and never the size of the region.
 
-ghost use Rattle.std.specs.Prelude.{◌≡◌, ◌≢◌, ◌⊎◌, ◌≤◌, ◌<◌, ◌+◌, ◌*◌, ◌/◌, ◌%◌, ◌||◌, ◌↔◌, ◌^◌, ◌==◌, ℕ, Bool, true, false, IsTrue, IfOk, OnOk, OnErr, IsErrOf, is_err, get_or, eqb, length, drop, replicate, List, [], ◌∷◌, refl};
+ghost use Rattle.std.specs.Prelude.{◌≡◌, ◌≢◌, ◌⊎◌, ◌≤◌, ◌<◌, ◌+◌, ◌*◌, ◌/◌, ◌%◌, ◌||◌, ◌↔◌, ◌^◌, ◌==◌, ℕ, Bool, true, false, IsTrue, IfOk, OnOk, OnErr, IsErrOf, is_err, get_or, eqb, length, drop, min, replicate, List, [], ◌∷◌, refl};
 ghost use Rattle.std.proofs.Common.{inl, inr};
 ghost use Rattle.std.specs.List.{list_any};
+ghost use Rattle.std.specs.List.Sorted.{IsStrictlyIncreasing};
 ghost use Rattle.byteorder.specs.Endian.{little_number};
 ghost use Rattle.nv_region.specs.Region.{size, word, put, region_of, bytes_of};
 ghost use Rattle.nv_region.specs.Stops.{MayBeLeft, NothingPending, NoneAdded, Adds, One};
 ghost use Rattle.nv_region.specs.Fuses.{KeepsFuse};
 ghost use Rattle.nv_region.specs.RegionState.{RegionState, fenced_or_last, burns_at_store, burns_at_fence, one_passed, fuse_state, steady_unburnt};
-ghost use Rattle.nv_region.specs.Kept.{alternate, kept};
+ghost use Rattle.nv_region.specs.Kept.{alternate, kept, so_far};
+ghost use Rattle.nv_region.specs.StoredLines.{is_stored};
 ghost use Rattle.nv_region.specs.Fenced.{DifferOnlyIn};
 
 use crate::stored::StoredLines;
@@ -174,7 +176,7 @@ impl MemRegion {
     /// The region that a stop at this moment leaves, where it keeps these words. Nothing is pending in it, and it has no
     /// fuse.
     ///
-    /// It takes no memory. `None` and `All` cost what was stored since the last fence, `Alternate` a pass over the region.
+    /// It takes no memory, and costs what was stored since the last fence.
     pub fn after_stop(self, keep: Keep) -> MemRegion
         ensures left { MayBeLeft self.region (fenced_or_last self) result.region }
         ensures words { result.region.words ≡ kept keep self.region.words self.fenced }
@@ -189,7 +191,7 @@ impl MemRegion {
             rest,
             ..
         } = self;
-        keep_words(&mut words, &fenced, stored.lines(), keep);
+        keep_words(&mut words, &fenced, &mut stored, keep);
         copy_lines(&mut fenced, &words, stored.lines());
         stored.clear();
         MemRegion {
@@ -352,30 +354,56 @@ fn copy_line(fenced: &mut [u64], words: &[u64], line: usize)
     fenced[start..end].copy_from_slice(&words[start..end]);
 }
 
-// Leaves the words that a stop keeps: only these lines can differ from those at the last fence.
-fn keep_words(words: &mut [u64], fenced: &[u64], lines: &[usize], keep: Keep)
+// Leaves the words that a stop keeps: only in the lines that were stored to can they differ from those at the last fence.
+fn keep_words(words: &mut [u64], fenced: &[u64], stored: &mut StoredLines, keep: Keep)
     requires as_long { length fenced.now ≡ length words.old }
     requires small { length words.old ≤ 2 ^ 27 }
-    requires below { (p : ℕ) → list_any (eqb p) lines.now ≡ true → 8 * p < length words.old }
-    requires differ { DifferOnlyIn lines.now words.old fenced.now }
+    requires below { (p : ℕ) → is_stored stored.old p ≡ true → 8 * p < length words.old }
+    requires differ { DifferOnlyIn stored.old.lines words.old fenced.now }
     ensures words { words.new ≡ kept keep words.old fenced.now }
     ensures as_long { length words.new ≡ length words.old }
+    ensures count { stored.new.count ≡ stored.old.count }
+    ensures lines { (p : ℕ) → is_stored stored.new p ≡ is_stored stored.old p }
 {
     match keep {
-        Keep::None => copy_lines(words, fenced, lines),
+        Keep::None => copy_lines(words, fenced, stored.lines()),
         Keep::All => {}
-        Keep::Alternate => keep_alternate(words, fenced),
+        Keep::Alternate => {
+            stored.sort();
+            keep_alternate(words, fenced, stored.lines());
+        }
     }
 }
 
-// Keeps the first, third and so on of the words that differ, and takes the others back.
-fn keep_alternate(words: &mut [u64], fenced: &[u64])
-    requires { length fenced.now ≡ length words.old }
+// Keeps the first, third and so on of the words that differ, and takes the others back: only these lines can differ.
+fn keep_alternate(words: &mut [u64], fenced: &[u64], lines: &[usize])
+    requires as_long { length fenced.now ≡ length words.old }
+    requires small { length words.old ≤ 2 ^ 27 }
+    requires rising { IsStrictlyIncreasing lines.now }
+    requires below { (p : ℕ) → list_any (eqb p) lines.now ≡ true → 8 * p < length words.old }
+    requires differ { DifferOnlyIn lines.now words.old fenced.now }
     ensures words { words.new ≡ alternate true words.old fenced.now }
     ensures as_long { length words.new ≡ length words.old }
 {
     let mut turn = true;
-    for i in 0..words.len() {
+    for line in lines {
+        turn = alternate_line(words, fenced, *line, turn);
+    }
+}
+
+// Does so in one line, from this turn on. Answers whose turn comes next.
+fn alternate_line(words: &mut [u64], fenced: &[u64], line: usize, turn: bool) -> bool
+    requires as_long { length fenced.now ≡ length words.old }
+    requires small { length words.old ≤ 2 ^ 27 }
+    requires within { 8 * line < length words.old }
+    ensures goes_on { so_far result (min (8 * line + 8) (length words.old)) words.new fenced.now ≡ so_far turn (8 * line) words.old fenced.now }
+    ensures behind { (i : ℕ) → min (8 * line + 8) (length words.old) ≤ i → get_or words.new i 0 ≡ get_or words.old i 0 }
+    ensures as_long { length words.new ≡ length words.old }
+{
+    let start = line * WORDS_IN_LINE;
+    let end = (start + WORDS_IN_LINE).min(words.len());
+    let mut turn = turn;
+    for i in start..end {
         if words[i] != fenced[i] {
             if !turn {
                 words[i] = fenced[i];
@@ -383,4 +411,5 @@ fn keep_alternate(words: &mut [u64], fenced: &[u64])
             turn = !turn;
         }
     }
+    turn
 }

@@ -4,6 +4,7 @@
 
 ghost use Rattle.std.specs.Prelude.{◌≡◌, ◌==◌, ◌<◌, ◌||◌, ℕ, IfOk, [], length, get_or, slice_index_or, eqb, true, false, replicate};
 ghost use Rattle.std.specs.List.{list_any};
+ghost use Rattle.std.specs.List.Sorted.{IsStrictlyIncreasing};
 ghost use Rattle.nv_region.specs.StoredLines.{is_stored};
 
 use std::alloc::{AllocError, Global};
@@ -57,6 +58,15 @@ impl StoredLines {
         ensures { result.now ≡ self.now.lines }
     {
         self.lines.as_slice()
+    }
+
+    /// Puts the noted lines in rising order.
+    pub(crate) fn sort(&mut self)
+        ensures count { self.new.count ≡ self.old.count }
+        ensures lines { (p : ℕ) → is_stored self.new p ≡ is_stored self.old p }
+        ensures rising { IsStrictlyIncreasing self.new.lines }
+    {
+        self.lines.sort_unstable();
     }
 
     /// Forgets all lines.
