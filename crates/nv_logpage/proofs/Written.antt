@@ -1,5 +1,5 @@
 -- What was written stays while more is written behind it.
-use Rattle.std.proofs.Common.{◌≡◌, ◌≢◌, ℕ, zero, suc, ◌+◌, ◌*◌, ◌/◌, ◌%◌, ◌<◌, ◌≤◌, Bool, true, false, nat_le, inl, inr, List, ◌∷◌, length, get_or, drop, refl, ap, sym, ◌∙◌, subst, arith, add-one, cond}
+use Rattle.std.proofs.Common.{◌≡◌, ◌≢◌, ℕ, zero, suc, ◌+◌, ◌*◌, ◌/◌, ◌%◌, ◌<◌, ◌≤◌, Bool, true, false, nat_le, inl, inr, List, [], ◌∷◌, ◌++◌, length, get_or, drop, refl, ap, sym, ◌∙◌, subst, arith, add-one, cond}
 use Rattle.std.proofs.lemmas.Bool.{cases_lt}
 use Rattle.std.proofs.lemmas.Bool.Decides.{nat_tests}
 use Rattle.nv_region.specs.Region.{Region, word}
@@ -105,6 +105,11 @@ from_page tail p (suc k) fresh i x page inside low same h = inr (k, omega arith,
 -- the entry may be given, and so may the rest
 pub given_rest : (i : ℕ) (es : List Entry) (e : Entry) → i < length es → e ≡ get_or es i e → AreGiven (drop i es) → (is_next_page e ≡ false) × AreGiven (drop (i + 1) es)
 given_rest i es e h is given = rw (entries_from es i e h is) at given
+
+-- and so may entries to which another is added
+pub given_push : (es : List Entry) (e : Entry) → AreGiven es → is_next_page e ≡ false → AreGiven (es ++ e ∷ [])
+given_push [] e given one = (one, tt)
+given_push (x ∷ es) e given one = (given.0, given_push es e given.1 one)
 
 -- where the entry fits in a page, and so does the rest, so do those from it on
 pub fit_more : (i : ℕ) (es : List Entry) (e : Entry) → i < length es → e ≡ get_or es i e → is_next_page e ≡ false → entry_length e ≤ 4064 → FitPages (drop (i + 1) es) → FitPages (drop i es)

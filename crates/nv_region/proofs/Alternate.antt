@@ -1,5 +1,5 @@
 -- The words that a stop keeps are each as last stored or as at the last fence.
-use Rattle.std.proofs.Common.{◌≡◌, ◌≢◌, ◌⊎◌, inl, inr, ◌<◌, ℕ, zero, suc, Bool, true, false, List, [], ◌∷◌, ◌++◌, length, take, drop, get_or, refl, sym, ap, ◌∙◌, subst, arith}
+use Rattle.std.proofs.Common.{◌≡◌, ◌≢◌, ◌⊎◌, inl, inr, ◌<◌, ℕ, zero, suc, Bool, true, false, List, [], ◌∷◌, length, get_or, refl, sym, ap, ◌∙◌, subst, arith}
 use Rattle.std.proofs.lemmas.Bool.{cases_eq, cases_lt}
 use Rattle.std.proofs.lemmas.List.{get_or_past}
 use Rattle.std.proofs.lemmas.Bool.Decides.{nat_tests}
@@ -11,11 +11,7 @@ use Rattle.nv_region.specs.Fenced.{DifferOnlyIn}
 use Rattle.nv_region.specs.declared.memory.Keep.{Keep}
 use Rattle.nv_region.specs.declared.memory.Keep.TheVariants.{None as NoWord, All as AllWords, Alternate}
 
--- what has been done, and what is still to do
-abbrev pub so_far : Bool → ℕ → List ℕ → List ℕ → List ℕ
-so_far turn i ws fs = take i ws ++ alternate turn (drop i ws) (drop i fs)
-
-same_head : (turn : Bool) (w f : ℕ) (ws fs : List ℕ) → w ≡ f → alternate turn (w ∷ ws) (f ∷ fs) ≡ w ∷ alternate turn ws fs
+pub same_head : (turn : Bool) (w f : ℕ) (ws fs : List ℕ) → w ≡ f → alternate turn (w ∷ ws) (f ∷ fs) ≡ w ∷ alternate turn ws fs
 same_head turn w f ws fs same = grind (arith, nat_tests)
 
 kept_head : (w f : ℕ) (ws fs : List ℕ) → w ≢ f → alternate true (w ∷ ws) (f ∷ fs) ≡ w ∷ alternate false ws fs
@@ -82,8 +78,8 @@ kept_may_be_left keep m words rest fenced left is was same made = record {
 }
 
 -- only words that differed can differ then
-pub kept_differ : (keep : Keep) (pages words fenced left : List ℕ) → length fenced ≡ length words → left ≡ kept keep words fenced → DifferOnlyIn pages words fenced → DifferOnlyIn pages left fenced
-kept_differ keep pages words fenced left same made differ i other = elim (cases_lt i (length words)) [
+pub kept_differ : (keep : Keep) (lines words fenced left : List ℕ) → length fenced ≡ length words → left ≡ kept keep words fenced → DifferOnlyIn lines words fenced → DifferOnlyIn lines left fenced
+kept_differ keep lines words fenced left same made differ i other = elim (cases_lt i (length words)) [
   | inl inside ↦ elim (kept_word keep words fenced i same inside) [
     | inl last ↦ differ i (λ e. other (ap (λ (l : List ℕ). get_or l i 0) made ∙ last ∙ e))
     | inr before ↦ absurd (other (ap (λ (l : List ℕ). get_or l i 0) made ∙ before))

@@ -7,3 +7,4 @@ pub mod Marks
 pub mod Fences
 pub mod Fronted
 pub mod Alternate
+pub mod Alternating

@@ -1,28 +1,30 @@
--- The pages that were stored to: each has its mark, and the list of them has room for all.
+-- The lines that were stored to: each has its mark, and the list of them has room for all.
 use Rattle.std.proofs.Common.{◌≡◌, ◌≢◌, ◌<◌, ◌≤◌, ◌||◌, ◌⊎◌, inl, inr, ℕ, Bool, true, false, zero, suc, List, [], ◌∷◌, ◌++◌, length, get_or, set, eqb, vec_len, vec_capacity, refl, sym, ap, ◌∙◌, subst, arith, length-append, length-set, replicate, get_or-set_same, get_or-set_other}
 use Rattle.std.specs.List.{list_any, IsDistinct}
+use Rattle.std.specs.List.Sorted.{IsNonDecreasing, IsPermutation, IsStrictlyIncreasing}
 use Rattle.std.proofs.lemmas.Bool.{cases_eq, cases_lt, eqb-true, ne_eqb, eq-eqb}
 use Rattle.std.proofs.lemmas.List.{get_or_past, length-replicate, places}
 use Rattle.std.proofs.lemmas.List.Folds.{list_any-append}
-use Rattle.std.proofs.lemmas.Map.Keys.{IsDistinct-push}
+use Rattle.std.proofs.lemmas.List.Sorted.{list_any-IsPermutation}
+use Rattle.std.proofs.lemmas.Map.Keys.{IsDistinct-IsPermutation, IsDistinct-push, IsStrictlyIncreasing-from_distinct}
 use Rattle.std.proofs.lemmas.Map.Steps.{length-le_from_distinct_below}
 use Rattle.std.proofs.lemmas.Cmp.{nat_eq_equiv}
 use Rattle.nv_region.specs.Marks.{AreMarked}
-use Rattle.nv_region.specs.declared.stored.StoredPages.TheInside.{Inside}
+use Rattle.nv_region.specs.declared.stored.StoredLines.TheInside.{Inside}
 
--- no page is marked
-pub none_marked : (s : Inside) → s.pages.items ≡ [] → length s.marks.items ≤ vec_capacity s.pages → ((p : ℕ) → get_or s.marks.items p false ≡ false) → AreMarked s
+-- no line is marked
+pub none_marked : (s : Inside) → s.lines.items ≡ [] → length s.marks.items ≤ vec_capacity s.lines → ((p : ℕ) → get_or s.marks.items p false ≡ false) → AreMarked s
 unfolding IsDistinct
 none_marked s none room off = record {
   room = room;
   once = subst (λ (xs : List ℕ). IsDistinct eqb xs) (sym none) tt;
-  below = λ p h. (let e : list_any (eqb p) s.pages.items ≡ false = ap (λ (xs : List ℕ). list_any (eqb p) xs) none in cc);
+  below = λ p h. (let e : list_any (eqb p) s.lines.items ≡ false = ap (λ (xs : List ℕ). list_any (eqb p) xs) none in cc);
   marked = λ p _. off p ∙ sym (ap (λ (xs : List ℕ). list_any (eqb p) xs) none);
 }
 
--- the page joins the pages
-pub noted_is : (xs : List ℕ) (page p : ℕ) → list_any (eqb p) (xs ++ page ∷ []) ≡ (eqb p page || list_any (eqb p) xs)
-noted_is xs page p = list_any-append (eqb p) xs (page ∷ []) ∙ swapped (list_any (eqb p) xs) (eqb p page)
+-- the line joins the lines
+pub noted_is : (xs : List ℕ) (line p : ℕ) → list_any (eqb p) (xs ++ line ∷ []) ≡ (eqb p line || list_any (eqb p) xs)
+noted_is xs line p = list_any-append (eqb p) xs (line ∷ []) ∙ swapped (list_any (eqb p) xs) (eqb p line)
   where
     swapped : (a b : Bool) → (a || (b || false)) ≡ (b || a)
     swapped true true = refl
@@ -30,39 +32,39 @@ noted_is xs page p = list_any-append (eqb p) xs (page ∷ []) ∙ swapped (list_
     swapped false true = refl
     swapped false false = refl
 
--- a page without a mark isn't in the list
-absent : (s : Inside) (page : ℕ) → AreMarked s → page < length s.marks.items → get_or s.marks.items page false ≡ false → list_any (eqb page) s.pages.items ≡ false
-absent s page marked within off = sym (marked.marked page within) ∙ off
+-- a line without a mark isn't in the list
+absent : (s : Inside) (line : ℕ) → AreMarked s → line < length s.marks.items → get_or s.marks.items line false ≡ false → list_any (eqb line) s.lines.items ≡ false
+absent s line marked within off = sym (marked.marked line within) ∙ off
 
-below_more : (s : Inside) (page : ℕ) → AreMarked s → page < length s.marks.items → (p : ℕ) → list_any (eqb p) (s.pages.items ++ page ∷ []) ≡ true → p < length s.marks.items
-below_more s page marked within p h = by (eqb p page) refl (sym (noted_is s.pages.items page p) ∙ h) where
-  by : (b : Bool) → eqb p page ≡ b → (b || list_any (eqb p) s.pages.items) ≡ true → p < length s.marks.items
-  by true e _ = (let is = eqb-true p page e in omega (arith, is, within))
+below_more : (s : Inside) (line : ℕ) → AreMarked s → line < length s.marks.items → (p : ℕ) → list_any (eqb p) (s.lines.items ++ line ∷ []) ≡ true → p < length s.marks.items
+below_more s line marked within p h = by (eqb p line) refl (sym (noted_is s.lines.items line p) ∙ h) where
+  by : (b : Bool) → eqb p line ≡ b → (b || list_any (eqb p) s.lines.items) ≡ true → p < length s.marks.items
+  by true e _ = (let is = eqb-true p line e in omega (arith, is, within))
   by false e k = marked.below p k
 
 -- so the list has room for it
-pub room_left : (s : Inside) (page : ℕ) → AreMarked s → page < length s.marks.items → get_or s.marks.items page false ≡ false → vec_len s.pages < vec_capacity s.pages
-room_left s page marked within off =
-    let distinct = IsDistinct-push nat_eq_equiv s.pages.items page marked.once (absent s page marked within off) in
-    let most : length (s.pages.items ++ page ∷ []) ≤ length s.marks.items = length-le_from_distinct_below _ _ distinct (below_more s page marked within) in
-    omega (arith, most, marked.room, s.pages.ok, length-append s.pages.items (page ∷ []))
+pub room_left : (s : Inside) (line : ℕ) → AreMarked s → line < length s.marks.items → get_or s.marks.items line false ≡ false → vec_len s.lines < vec_capacity s.lines
+room_left s line marked within off =
+    let distinct = IsDistinct-push nat_eq_equiv s.lines.items line marked.once (absent s line marked within off) in
+    let most : length (s.lines.items ++ line ∷ []) ≤ length s.marks.items = length-le_from_distinct_below _ _ distinct (below_more s line marked within) in
+    omega (arith, most, marked.room, s.lines.ok, length-append s.lines.items (line ∷ []))
 
--- the page is marked and joins the list
-pub noted_marked : (s t : Inside) (page : ℕ) → AreMarked s → page < length s.marks.items → get_or s.marks.items page false ≡ false
-    → t.marks.items ≡ set s.marks.items page true → t.pages.items ≡ s.pages.items ++ page ∷ [] → vec_capacity t.pages ≡ vec_capacity s.pages → AreMarked t
-noted_marked s t page marked within off marks pages room = record {
+-- the line is marked and joins the list
+pub noted_marked : (s t : Inside) (line : ℕ) → AreMarked s → line < length s.marks.items → get_or s.marks.items line false ≡ false
+    → t.marks.items ≡ set s.marks.items line true → t.lines.items ≡ s.lines.items ++ line ∷ [] → vec_capacity t.lines ≡ vec_capacity s.lines → AreMarked t
+noted_marked s t line marked within off marks lines room = record {
   room = rw room (rw as_long marked.room);
-  once = rw pages (IsDistinct-push nat_eq_equiv s.pages.items page marked.once (absent s page marked within off));
-  below = λ p h. rw as_long (below_more s page marked within p (rw pages at h));
-  marked = λ p h. rw (marks, pages, noted_is s.pages.items page p) (by p (rw as_long at h) (cases_eq p page));
+  once = rw lines (IsDistinct-push nat_eq_equiv s.lines.items line marked.once (absent s line marked within off));
+  below = λ p h. rw as_long (below_more s line marked within p (rw lines at h));
+  marked = λ p h. rw (marks, lines, noted_is s.lines.items line p) (by p (rw as_long at h) (cases_eq p line));
 }
   where
     as_long : length t.marks.items ≡ length s.marks.items
     as_long = simp marks (simp length-set)
 
-    by : (p : ℕ) → p < length s.marks.items → (p ≡ page) ⊎ (p ≢ page) → get_or (set s.marks.items page true) p false ≡ (eqb p page || list_any (eqb p) s.pages.items)
-    by p h (inl is) = rw is (get_or-set_same s.marks.items page true false within ∙ sym (ap (λ (b : Bool). b || list_any (eqb page) s.pages.items) (eq-eqb page page refl)))
-    by p h (inr differ) = get_or-set_other s.marks.items page p true false differ ∙ marked.marked p h ∙ sym (ap (λ (b : Bool). b || list_any (eqb p) s.pages.items) (ne_eqb p page differ))
+    by : (p : ℕ) → p < length s.marks.items → (p ≡ line) ⊎ (p ≢ line) → get_or (set s.marks.items line true) p false ≡ (eqb p line || list_any (eqb p) s.lines.items)
+    by p h (inl is) = rw is (get_or-set_same s.marks.items line true false within ∙ sym (ap (λ (b : Bool). b || list_any (eqb line) s.lines.items) (eq-eqb line line refl)))
+    by p h (inr differ) = get_or-set_other s.marks.items line p true false differ ∙ marked.marked p h ∙ sym (ap (λ (b : Bool). b || list_any (eqb p) s.lines.items) (ne_eqb p line differ))
 
 -- an element is in its list
 pub member_at : (xs : List ℕ) (k : ℕ) → k < length xs → list_any (eqb (get_or xs k 0)) xs ≡ true
@@ -74,8 +76,8 @@ member_at (x ∷ xs) (suc k) h = ap (λ (b : Bool). eqb (get_or xs k 0) x || b) 
     or_true true = refl
     or_true false = refl
 
--- a mark stands for a page of the list
-pub marked_in : (s : Inside) → AreMarked s → (p : ℕ) → get_or s.marks.items p false ≡ true → list_any (eqb p) s.pages.items ≡ true
+-- a mark stands for a line of the list
+pub marked_in : (s : Inside) → AreMarked s → (p : ℕ) → get_or s.marks.items p false ≡ true → list_any (eqb p) s.lines.items ≡ true
 marked_in s marked p on = elim (cases_lt p (length s.marks.items)) [
   | inl within ↦ sym (marked.marked p within) ∙ on
   | inr past ↦ (let off = get_or_past s.marks.items p false past in cc)
@@ -86,3 +88,19 @@ no_mark n p = elim (cases_lt p n) [
   | inl within ↦ grind (arith, places)
   | inr past ↦ get_or_past (replicate n false) p false (omega (arith, past, length-replicate n false))
 ]
+
+same_test : (x y : ℕ) → eqb x y ≡ eqb y x
+same_test x y = grind arith
+
+-- the list may be put into another order
+pub permuted_marked : (s t : Inside) → AreMarked s → t.marks.items ≡ s.marks.items → IsPermutation s.lines.items t.lines.items → vec_capacity t.lines ≡ vec_capacity s.lines → AreMarked t
+permuted_marked s t marked marks moved room = record {
+  room = rw (room, marks) marked.room;
+  once = IsDistinct-IsPermutation eqb same_test s.lines.items t.lines.items moved marked.once;
+  below = λ p h. rw marks (marked.below p (list_any-IsPermutation (eqb p) s.lines.items t.lines.items moved ∙ h));
+  marked = λ p h. rw marks (marked.marked p (rw marks at h)) ∙ list_any-IsPermutation (eqb p) s.lines.items t.lines.items moved;
+}
+
+-- in rising order no line stands twice
+pub permuted_rises : (s : Inside) (lines : List ℕ) → AreMarked s → IsPermutation s.lines.items lines → IsNonDecreasing lines → IsStrictlyIncreasing lines
+permuted_rises s lines marked moved up = IsStrictlyIncreasing-from_distinct lines up (IsDistinct-IsPermutation eqb same_test s.lines.items lines moved marked.once)

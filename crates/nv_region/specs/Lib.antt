@@ -3,7 +3,7 @@ pub mod Region
 pub mod Fuses
 pub mod Stops
 pub mod Stored
-pub mod StoredPages
+pub mod StoredLines
 pub mod Marks
 pub mod Fenced
 pub mod Kept

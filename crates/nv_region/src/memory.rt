@@ -1,26 +1,30 @@
 //! A region in ordinary memory, which a fuse can stop.
 //!
-//! It holds its words twice: as they read, and as they were at the last fence. A fence copies the pages that were
-//! stored to since the last one, so it costs what was stored and never the size of the region.
+//! It holds its words twice: as they read, and as they were at the last fence. A fence copies the lines of 64 bytes that
+//! were stored to since the last one, so it costs what was stored and never the size of the region.
 
-ghost use Rattle.std.specs.Prelude.{◌≡◌, ◌≢◌, ◌⊎◌, ◌≤◌, ◌<◌, ◌+◌, ◌*◌, ◌/◌, ◌%◌, ◌||◌, ◌↔◌, ◌^◌, ◌==◌, ℕ, Bool, true, false, IsTrue, IfOk, OnOk, OnErr, IsErrOf, is_err, get_or, eqb, length, drop, replicate, List, [], ◌∷◌, refl};
+ghost use Rattle.std.specs.Prelude.{◌≡◌, ◌≢◌, ◌⊎◌, ◌≤◌, ◌<◌, ◌+◌, ◌*◌, ◌/◌, ◌%◌, ◌||◌, ◌↔◌, ◌^◌, ◌==◌, ℕ, Bool, true, false, IsTrue, IfOk, OnOk, OnErr, IsErrOf, is_err, get_or, eqb, length, drop, min, replicate, List, [], ◌∷◌, refl};
 ghost use Rattle.std.proofs.Common.{inl, inr};
 ghost use Rattle.std.specs.List.{list_any};
+ghost use Rattle.std.specs.List.Sorted.{IsStrictlyIncreasing};
 ghost use Rattle.byteorder.specs.Endian.{little_number};
 ghost use Rattle.nv_region.specs.Region.{size, word, put, region_of, bytes_of};
 ghost use Rattle.nv_region.specs.Stops.{MayBeLeft, NothingPending, NoneAdded, Adds, One};
 ghost use Rattle.nv_region.specs.Fuses.{KeepsFuse};
 ghost use Rattle.nv_region.specs.RegionState.{RegionState, fenced_or_last, burns_at_store, burns_at_fence, one_passed, fuse_state, steady_unburnt};
-ghost use Rattle.nv_region.specs.Kept.{alternate, kept};
+ghost use Rattle.nv_region.specs.Kept.{alternate, kept, so_far};
+ghost use Rattle.nv_region.specs.StoredLines.{is_stored};
 ghost use Rattle.nv_region.specs.Fenced.{DifferOnlyIn};
 
-use crate::stored::StoredPages;
+use crate::stored::StoredLines;
 use crate::{Pmem, Stopped};
 use byteorder::{ByteOrder, LittleEndian};
 use std::alloc::{AllocError, Global};
 use std::marker::Model;
 
-const WORDS_IN_PAGE: usize = 512;
+const WORDS_IN_BLOCK: usize = 512;
+
+const WORDS_IN_LINE: usize = 8;
 
 const MOST_BLOCKS: u64 = 262_144;
 
@@ -74,7 +78,7 @@ pub struct MemRegion {
     alloc: Global,
     words: Vec<u64>,
     fenced: Vec<u64>,
-    stored: StoredPages,
+    stored: StoredLines,
     rest: Vec<u8>,
     fuse: Fuse,
     burnt: bool,
@@ -105,12 +109,12 @@ impl MemRegion {
         if blocks == 0 || blocks > MOST_BLOCKS {
             return Err(RegionRefusal::Length);
         }
-        let count = blocks as usize * WORDS_IN_PAGE;
+        let count = blocks as usize * WORDS_IN_BLOCK;
         Ok(MemRegion {
             alloc,
             words: vec![in alloc; 0; count]?,
             fenced: vec![in alloc; 0; count]?,
-            stored: StoredPages::new(alloc, pages_of(count))?,
+            stored: StoredLines::new(alloc, lines_of(count))?,
             rest: Vec::new(alloc),
             fuse: Fuse::Off,
             burnt: false,
@@ -135,7 +139,7 @@ impl MemRegion {
         }
         let (words, rest) = read_words(alloc, bytes)?;
         let fenced = words.as_slice().to_vec(alloc)?;
-        let stored = StoredPages::new(alloc, pages_of(words.len()))?;
+        let stored = StoredLines::new(alloc, lines_of(words.len()))?;
         Ok(MemRegion {
             alloc,
             words,
@@ -172,7 +176,7 @@ impl MemRegion {
     /// The region that a stop at this moment leaves, where it keeps these words. Nothing is pending in it, and it has no
     /// fuse.
     ///
-    /// It takes no memory. `None` and `All` cost what was stored since the last fence, `Alternate` a pass over the region.
+    /// It takes no memory, and costs what was stored since the last fence.
     pub fn after_stop(self, keep: Keep) -> MemRegion
         ensures left { MayBeLeft self.region (fenced_or_last self) result.region }
         ensures words { result.region.words ≡ kept keep self.region.words self.fenced }
@@ -187,8 +191,8 @@ impl MemRegion {
             rest,
             ..
         } = self;
-        keep_words(&mut words, &fenced, stored.pages(), keep);
-        copy_pages(&mut fenced, &words, stored.pages());
+        keep_words(&mut words, &fenced, &mut stored, keep);
+        copy_lines(&mut fenced, &words, stored.lines());
         stored.clear();
         MemRegion {
             alloc,
@@ -289,7 +293,7 @@ impl Pmem for MemRegion {
             return Err(Stopped);
         }
         self.count_down();
-        copy_pages(&mut self.fenced, &self.words, self.stored.pages());
+        copy_lines(&mut self.fenced, &self.words, self.stored.lines());
         self.stored.clear();
         Ok(())
     }
@@ -305,75 +309,101 @@ impl MemRegion {
         }
     }
 
-    // Changes the word of this number, and notes its page.
+    // Changes the word of this number, and notes its line.
     fn put(&mut self, number: usize, value: u64)
         requires { number < length self.old.region.words }
         ensures { self.new ≡ record self.old { region = put self.old.region (8 * number) value } }
     {
-        self.stored.note(number / WORDS_IN_PAGE);
+        self.stored.note(number / WORDS_IN_LINE);
         self.words[number] = value;
     }
 }
 
-// How many pages have words, of which there are so many.
-fn pages_of(words: usize) -> usize
+// How many lines have words, of which there are so many.
+fn lines_of(words: usize) -> usize
     requires { words ≤ 2 ^ 27 }
-    ensures { result ≡ (words + 511) / 512 }
+    ensures { result ≡ (words + 7) / 8 }
 {
-    words.div_ceil(WORDS_IN_PAGE)
+    words.div_ceil(WORDS_IN_LINE)
 }
 
-// Makes the words at the last fence those of now: only these pages can differ.
-fn copy_pages(fenced: &mut [u64], words: &[u64], pages: &[usize])
+// Makes the words at the last fence those of now: only these lines can differ.
+fn copy_lines(fenced: &mut [u64], words: &[u64], lines: &[usize])
     requires as_long { length fenced.old ≡ length words.now }
     requires small { length words.now ≤ 2 ^ 27 }
-    requires below { (p : ℕ) → list_any (eqb p) pages.now ≡ true → 512 * p < length words.now }
-    requires differ { DifferOnlyIn pages.now words.now fenced.old }
+    requires below { (p : ℕ) → list_any (eqb p) lines.now ≡ true → 8 * p < length words.now }
+    requires differ { DifferOnlyIn lines.now words.now fenced.old }
     ensures { fenced.new ≡ words.now }
 {
-    for page in pages {
-        copy_page(fenced, words, *page);
+    for line in lines {
+        copy_line(fenced, words, *line);
     }
 }
 
-// Copies one page, whose last words may lie past the end.
-fn copy_page(fenced: &mut [u64], words: &[u64], page: usize)
+// Copies one line, whose last words may lie past the end.
+fn copy_line(fenced: &mut [u64], words: &[u64], line: usize)
     requires as_long { length fenced.old ≡ length words.now }
     requires small { length words.now ≤ 2 ^ 27 }
-    requires within { 512 * page < length words.now }
+    requires within { 8 * line < length words.now }
     ensures as_long { length fenced.new ≡ length fenced.old }
-    ensures here { (i : ℕ) → i / 512 ≡ page → get_or fenced.new i 0 ≡ get_or words.now i 0 }
-    ensures others { (i : ℕ) → i / 512 ≢ page → get_or fenced.new i 0 ≡ get_or fenced.old i 0 }
+    ensures here { (i : ℕ) → i / 8 ≡ line → get_or fenced.new i 0 ≡ get_or words.now i 0 }
+    ensures others { (i : ℕ) → i / 8 ≢ line → get_or fenced.new i 0 ≡ get_or fenced.old i 0 }
 {
-    let start = page * WORDS_IN_PAGE;
-    let end = (start + WORDS_IN_PAGE).min(words.len());
+    let start = line * WORDS_IN_LINE;
+    let end = (start + WORDS_IN_LINE).min(words.len());
     fenced[start..end].copy_from_slice(&words[start..end]);
 }
 
-// Leaves the words that a stop keeps: only these pages can differ from those at the last fence.
-fn keep_words(words: &mut [u64], fenced: &[u64], pages: &[usize], keep: Keep)
+// Leaves the words that a stop keeps: only in the lines that were stored to can they differ from those at the last fence.
+fn keep_words(words: &mut [u64], fenced: &[u64], stored: &mut StoredLines, keep: Keep)
     requires as_long { length fenced.now ≡ length words.old }
     requires small { length words.old ≤ 2 ^ 27 }
-    requires below { (p : ℕ) → list_any (eqb p) pages.now ≡ true → 512 * p < length words.old }
-    requires differ { DifferOnlyIn pages.now words.old fenced.now }
+    requires below { (p : ℕ) → is_stored stored.old p ≡ true → 8 * p < length words.old }
+    requires differ { DifferOnlyIn stored.old.lines words.old fenced.now }
     ensures words { words.new ≡ kept keep words.old fenced.now }
     ensures as_long { length words.new ≡ length words.old }
+    ensures count { stored.new.count ≡ stored.old.count }
+    ensures lines { (p : ℕ) → is_stored stored.new p ≡ is_stored stored.old p }
 {
     match keep {
-        Keep::None => copy_pages(words, fenced, pages),
+        Keep::None => copy_lines(words, fenced, stored.lines()),
         Keep::All => {}
-        Keep::Alternate => keep_alternate(words, fenced),
+        Keep::Alternate => {
+            stored.sort();
+            keep_alternate(words, fenced, stored.lines());
+        }
     }
 }
 
-// Keeps the first, third and so on of the words that differ, and takes the others back.
-fn keep_alternate(words: &mut [u64], fenced: &[u64])
-    requires { length fenced.now ≡ length words.old }
+// Keeps the first, third and so on of the words that differ, and takes the others back: only these lines can differ.
+fn keep_alternate(words: &mut [u64], fenced: &[u64], lines: &[usize])
+    requires as_long { length fenced.now ≡ length words.old }
+    requires small { length words.old ≤ 2 ^ 27 }
+    requires rising { IsStrictlyIncreasing lines.now }
+    requires below { (p : ℕ) → list_any (eqb p) lines.now ≡ true → 8 * p < length words.old }
+    requires differ { DifferOnlyIn lines.now words.old fenced.now }
     ensures words { words.new ≡ alternate true words.old fenced.now }
     ensures as_long { length words.new ≡ length words.old }
 {
     let mut turn = true;
-    for i in 0..words.len() {
+    for line in lines {
+        turn = alternate_line(words, fenced, *line, turn);
+    }
+}
+
+// Does so in one line, from this turn on. Answers whose turn comes next.
+fn alternate_line(words: &mut [u64], fenced: &[u64], line: usize, turn: bool) -> bool
+    requires as_long { length fenced.now ≡ length words.old }
+    requires small { length words.old ≤ 2 ^ 27 }
+    requires within { 8 * line < length words.old }
+    ensures goes_on { so_far result (min (8 * line + 8) (length words.old)) words.new fenced.now ≡ so_far turn (8 * line) words.old fenced.now }
+    ensures behind { (i : ℕ) → min (8 * line + 8) (length words.old) ≤ i → get_or words.new i 0 ≡ get_or words.old i 0 }
+    ensures as_long { length words.new ≡ length words.old }
+{
+    let start = line * WORDS_IN_LINE;
+    let end = (start + WORDS_IN_LINE).min(words.len());
+    let mut turn = turn;
+    for i in start..end {
         if words[i] != fenced[i] {
             if !turn {
                 words[i] = fenced[i];
@@ -381,4 +411,5 @@ fn keep_alternate(words: &mut [u64], fenced: &[u64])
             turn = !turn;
         }
     }
+    turn
 }

@@ -3,6 +3,6 @@ use Rattle.std.specs.Prelude.{slice_index_or, false}
 use Rattle.std.specs.List.{list_any}
 use Rattle.nv_region.proofs.stored.unmark.Given as goal
 
-abbrev pub invariant-loop-page : goal.invariant-loop-page
-invariant-loop-page l =
-    (length l.marks ≡ length l.initial.marks) × ((p : ℕ) → slice_index_or l.marks p false ≡ true → list_any (eqb p) (drop l.page-index l.pages) ≡ true)
+abbrev pub invariant-loop-line : goal.invariant-loop-line
+invariant-loop-line l =
+    (length l.marks ≡ length l.initial.marks) × ((p : ℕ) → slice_index_or l.marks p false ≡ true → list_any (eqb p) (drop l.line-index l.lines) ≡ true)

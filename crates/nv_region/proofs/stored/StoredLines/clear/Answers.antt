@@ -2,11 +2,11 @@ use Rattle.std.proofs.Common.{arith, ap, ◌≡◌, ◌∙◌, length, false, ge
 use Rattle.std.specs.Vec.{with_items}
 use Rattle.std.proofs.lemmas.List.{take_at}
 use Rattle.nv_region.proofs.Marks.{none_marked, member_at, marked_in}
-use Rattle.nv_region.proofs.stored.StoredPages.clear.Goals as goal
+use Rattle.nv_region.proofs.stored.StoredLines.clear.Goals as goal
 
 pub unmark-requires-clause-below : goal.unmark-requires-clause-below
 unmark-requires-clause-below c k within =
-    rw (c.deref.ensures.value, c.deref_mut.ensures.value) (c.self.invariant.below _ (member_at c.self.inside.pages.items k (rw c.deref.ensures.value at within)))
+    rw (c.deref.ensures.value, c.deref_mut.ensures.value) (c.self.invariant.below _ (member_at c.self.inside.lines.items k (rw c.deref.ensures.value at within)))
 
 pub unmark-requires-clause-all : goal.unmark-requires-clause-all
 unmark-requires-clause-all c p on = rw c.deref.ensures.value (marked_in c.self.inside c.self.invariant p (rw c.deref_mut.ensures.value at on))

@@ -1,7 +1,7 @@
 use Rattle.std.proofs.Common.{arith, ap, ◌∙◌, List, Bool, get_or, false, length}
 use Rattle.std.proofs.lemmas.List.{length-replicate}
 use Rattle.nv_region.proofs.Marks.{none_marked, no_mark}
-use Rattle.nv_region.proofs.stored.StoredPages.new.Goals as goal
+use Rattle.nv_region.proofs.stored.StoredLines.new.Goals as goal
 
 pub invariant_of-result : goal.invariant_of-result
 invariant_of-result c =

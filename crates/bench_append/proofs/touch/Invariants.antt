@@ -1,0 +1,6 @@
+use Rattle.std.proofs.Common.{◌≡◌, ◌*◌}
+use Rattle.nv_region.specs.Region.{size}
+use Rattle.bench_append.proofs.touch.Given as goal
+
+abbrev pub invariant-loop-word : goal.invariant-loop-word
+invariant-loop-word l = size l.memory.region ≡ 4096 * l.blocks

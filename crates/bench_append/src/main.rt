@@ -1,0 +1,232 @@
+//! Measures what a file call stores: entries that are appended to a log one at a time and fifty at a time, each time
+//! with the new tail, and commits of one word and of two. The argument says how many entries and commits. The
+//! nanoseconds that each takes go to standard error, and what was stored to standard output.
+#![tactic(auto)]
+
+ghost use Rattle.std.specs.Prelude.{◌≡◌, ◌≤◌, ◌<◌, ◌*◌, IfOk, OnOk, true};
+ghost use Rattle.nv_region.specs.Region.{size};
+ghost use Rattle.nv_journal.specs.Pending.{IsEmpty};
+ghost use Rattle.nv_logpage.specs.Append.{AreGiven};
+
+use nv_entry::{AttrEntry, Entry};
+use nv_journal::change_two;
+use nv_logpage::{append, pages_needed};
+use nv_region::{MemRegion, Pmem, Stopped, commit_word};
+use std::alloc::{AllocError, Global};
+use std::rt::Clock;
+use std::time::{Duration, Instant};
+use std::{env, io};
+
+/// The log begins behind the superblock, one journal and one block of the table.
+const HEAD: u64 = 12288;
+
+const SECOND_PAGE: u64 = 4;
+
+/// The words of the table that are committed.
+const TAIL_WORD: u64 = 8208;
+
+const OTHER_WORD: u64 = 8336;
+
+/// A page takes so many of the entries.
+const ENTRIES_IN_PAGE: u64 = 127;
+
+const MOST: u64 = 10_000_000;
+
+/// Where a log ends, and the block that it goes on to.
+#[derive(Clone, Copy)]
+struct Log {
+    tail: u64,
+    next: u64,
+}
+
+/// Entries of one call.
+fn batch(alloc: Global, count: u64) -> Result<Vec<Entry>, AllocError>
+    ensures { IfOk result (λ entries. AreGiven entries.items) }
+{
+    let mut entries = Vec::new(alloc);
+    for time in 0..count {
+        entries.push(Entry::Attr(AttrEntry {
+            mode: 493,
+            size: 5,
+            time,
+            owner: 7,
+            group: 8,
+        }))?;
+    }
+    Ok(entries)
+}
+
+/// Stores to each word, so that the system has given all memory before anything is measured.
+fn touch(memory: &mut MemRegion, blocks: u64) -> Result<(), Stopped>
+    requires blocks { blocks ≤ 262144 }
+    requires size { size memory.old.region ≡ 4096 * blocks }
+    ensures { size memory.new.region ≡ 4096 * blocks }
+{
+    for word in 0..blocks * 512 {
+        memory.store(8 * word, 0)?;
+    }
+    memory.fence()
+}
+
+/// Appends entries and stores the new tail. `None` where the log cannot go on.
+fn append_more(memory: &mut MemRegion, blocks: u64, log: Log, entries: &[Entry]) -> Option<Log>
+    requires given { AreGiven entries.now }
+    requires blocks { (3 ≤ blocks) × (blocks ≤ 262144) }
+    requires size { size memory.old.region ≡ 4096 * blocks }
+    ensures { size memory.new.region ≡ 4096 * blocks }
+{
+    let Log { tail, next } = log;
+    let pages = pages_needed(tail, entries);
+    if tail % 8 != 0 || tail % 4096 > 4064 || tail / 4096 >= next || next >= blocks || pages > 1 {
+        return None;
+    }
+    let tail = append(memory, tail, entries, &[next]).ok()?;
+    memory.fence().ok()?;
+    commit_word(memory, TAIL_WORD, tail).ok()?;
+    Some(Log {
+        tail,
+        next: next + pages,
+    })
+}
+
+/// Appends the entries so many times to a new log, and answers its tail.
+fn append_all(memory: &mut MemRegion, blocks: u64, entries: &[Entry], times: u64) -> Option<u64>
+    requires given { AreGiven entries.now }
+    requires blocks { (3 ≤ blocks) × (blocks ≤ 262144) }
+    requires size { size memory.old.region ≡ 4096 * blocks }
+    ensures { size memory.new.region ≡ 4096 * blocks }
+{
+    let mut log = Log {
+        tail: HEAD,
+        next: SECOND_PAGE,
+    };
+    for _ in 0..times {
+        log = append_more(memory, blocks, log, entries)?;
+    }
+    Some(log.tail)
+}
+
+/// Commits a word so many times.
+fn commit_all(memory: &mut MemRegion, times: u64) -> Result<(), Stopped>
+    requires { size memory.old.region ≡ 65536 }
+    ensures { size memory.new.region ≡ 65536 }
+{
+    for value in 0..times {
+        commit_word(memory, TAIL_WORD, value)?;
+    }
+    Ok(())
+}
+
+/// Whether nothing is pending in the first journal.
+fn is_empty(memory: &MemRegion) -> bool
+    requires { size memory.now.region ≡ 65536 }
+    ensures { result ≡ true → IsEmpty memory.now.region 0 }
+{
+    let enqueue = memory.load(4104);
+    memory.load(4096) == enqueue && enqueue < 252
+}
+
+/// Changes two words so many times.
+fn change_all(memory: &mut MemRegion, times: u64) -> Result<(), Stopped>
+    requires size { size memory.old.region ≡ 65536 }
+    requires empty { IsEmpty memory.old.region 0 }
+    ensures { OnOk result (size memory.new.region ≡ 65536) }
+{
+    for value in 0..times {
+        change_two(memory, 0, TAIL_WORD, value, OTHER_WORD, value + 1)?;
+    }
+    Ok(())
+}
+
+/// Prints how long each took.
+fn report<R: Eprint>(rt: &R, what: &str, count: u64, time: Duration) -> io::Result<()> {
+    let tenths = time.as_nanos() / u128::from((count / 10).max(1));
+    eprintln!(rt; "{what}: {}.{} ns", tenths / 10, tenths % 10)
+}
+
+fn measure_appends<R: AllocGlobal + Print + Eprint + Clock>(
+    rt: &R,
+    what: &str,
+    count: u64,
+    at_once: u64,
+) -> io::Result<()>
+    requires count { count ≤ 10000000 }
+    requires some { 0 < at_once }
+{
+    let blocks = count / ENTRIES_IN_PAGE + 6;
+    let entries = batch(rt.alloc(), at_once)?;
+    let Ok(mut memory) = MemRegion::new(rt.alloc(), blocks) else {
+        return eprintln!(rt; "no memory");
+    };
+    if touch(&mut memory, blocks).is_err() {
+        return eprintln!(rt; "stopped");
+    }
+    let start = Instant::now(rt)?;
+    let Some(tail) = append_all(&mut memory, blocks, &entries, count / at_once) else {
+        return eprintln!(rt; "the log has no room");
+    };
+    report(rt, what, count, start.elapsed(rt)?)?;
+    println!(rt; "{what}: the tail is {tail}")
+}
+
+fn measure_words<R: Print + Eprint + Clock>(
+    rt: &R,
+    memory: &mut MemRegion,
+    count: u64,
+) -> io::Result<()>
+    requires { size memory.old.region ≡ 65536 }
+    ensures { size memory.new.region ≡ 65536 }
+{
+    let start = Instant::now(rt)?;
+    if commit_all(memory, count).is_err() {
+        return eprintln!(rt; "stopped");
+    }
+    report(rt, "one word", count, start.elapsed(rt)?)?;
+    println!(rt; "one word: {}", memory.load(TAIL_WORD))
+}
+
+fn measure_pairs<R: Print + Eprint + Clock>(
+    rt: &R,
+    memory: &mut MemRegion,
+    count: u64,
+) -> io::Result<()>
+    requires { size memory.old.region ≡ 65536 }
+{
+    if !is_empty(memory) {
+        return eprintln!(rt; "the journal has records");
+    }
+    let start = Instant::now(rt)?;
+    let Ok(()) = change_all(memory, count) else {
+        return eprintln!(rt; "stopped");
+    };
+    report(rt, "two words", count, start.elapsed(rt)?)?;
+    println!(rt;
+        "two words: {} {}",
+        memory.load(TAIL_WORD),
+        memory.load(OTHER_WORD)
+    )
+}
+
+fn measure<R: AllocGlobal + Print + Eprint + Clock>(rt: &R, count: u64) -> io::Result<()>
+    requires { count ≤ 10000000 }
+{
+    measure_appends(rt, "one at a time", count, 1)?;
+    measure_appends(rt, "fifty at a time", count, 50)?;
+    let Ok(mut memory) = MemRegion::new(rt.alloc(), 16) else {
+        return eprintln!(rt; "no memory");
+    };
+    measure_words(rt, &mut memory, count)?;
+    measure_pairs(rt, &mut memory, count)
+}
+
+fn number_of(text: Option<String>) -> Option<u64> {
+    text.and_then(|text| text.as_str().parse::<u64>().ok())
+}
+
+fn main(rt: HostRuntime) -> io::Result<()> {
+    let mut words = env::args(&rt)?.skip(1);
+    match number_of(words.next()) {
+        Some(count) if count <= MOST => measure(&rt, count),
+        _ => eprintln!(rt; "usage: bench_append COUNT"),
+    }
+}
