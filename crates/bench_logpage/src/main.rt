@@ -3,7 +3,7 @@
 //! time. It prints the seconds on standard error, and what it counted on standard output.
 #![tactic(auto)]
 
-ghost use Rattle.std.specs.Prelude.{◌≡◌, ◌≤◌, ◌<◌, ◌+◌, ◌*◌, ◌%◌, IsTrue};
+ghost use Rattle.std.specs.Prelude.{◌≡◌, ◌≤◌, ◌<◌, ◌+◌, ◌*◌, ◌%◌, IfSome, IsTrue};
 ghost use Rattle.nv_region.specs.Region.{HasBlocks};
 ghost use Rattle.nv_super.specs.Layout.{HasAreas, is_page_start};
 
@@ -136,6 +136,74 @@ fn read_by_findings(
     }
 }
 
+/// The log in a region of so many blocks; `None` where memory is refused.
+fn log_of(alloc: Global, blocks: u64, entries: u64) -> Option<MemRegion>
+    requires few { blocks ≤ 262144 }
+    requires entries { entries ≤ 126 }
+    ensures { IfSome result (λ memory. HasBlocks memory.region blocks) }
+{
+    let mut memory = MemRegion::new(alloc, blocks).ok()?;
+    store_log(&mut memory, blocks, entries).ok()?;
+    Some(memory)
+}
+
+fn print_time<R: Eprint + Clock>(rt: &R, what: &str, start: Instant) -> io::Result<()> {
+    eprintln!(rt; "{what:8} {:.3}", start.elapsed(rt)?.as_secs_f64())
+}
+
+fn print_counts<R: Print>(rt: &R, what: &str, counts: Counts) -> io::Result<()> {
+    println!(rt;
+        "{what}: {} pages {} entries at the tail {}",
+        counts.pages, counts.entries, counts.ended
+    )
+}
+
+fn measure_walk<R: AllocGlobal + Print + Eprint + Clock>(
+    rt: &R,
+    memory: &MemRegion,
+    sup: &Super,
+    tail: u64,
+) -> io::Result<()>
+    requires areas { HasAreas sup.now }
+    requires blocks { HasBlocks memory.now.region sup.now.blocks }
+    requires head { IsTrue (is_page_start sup.now 12288) }
+{
+    let start = Instant::now(rt)?;
+    let counts = read_whole(rt.alloc(), memory, sup, tail)?;
+    print_time(rt, "walk", start)?;
+    print_counts(rt, "walk", counts)
+}
+
+fn measure_findings<R: AllocGlobal + Print + Eprint + Clock>(
+    rt: &R,
+    memory: &MemRegion,
+    sup: &Super,
+    tail: u64,
+) -> io::Result<()>
+    requires areas { HasAreas sup.now }
+    requires blocks { HasBlocks memory.now.region sup.now.blocks }
+    requires head { IsTrue (is_page_start sup.now 12288) }
+{
+    let start = Instant::now(rt)?;
+    let counts = read_by_findings(rt.alloc(), memory, sup, tail)?;
+    print_time(rt, "findings", start)?;
+    print_counts(rt, "findings", counts)
+}
+
+fn measure_reading<R: AllocGlobal + Print + Eprint + Clock>(
+    rt: &R,
+    memory: &MemRegion,
+    sup: &Super,
+    tail: u64,
+) -> io::Result<()>
+    requires areas { HasAreas sup.now }
+    requires blocks { HasBlocks memory.now.region sup.now.blocks }
+    requires head { IsTrue (is_page_start sup.now 12288) }
+{
+    measure_walk(rt, memory, sup, tail)?;
+    measure_findings(rt, memory, sup, tail)
+}
+
 fn measure<R: AllocGlobal + Print + Eprint + Clock>(
     rt: &R,
     pages: u64,
@@ -146,30 +214,11 @@ fn measure<R: AllocGlobal + Print + Eprint + Clock>(
     requires entries { entries ≤ 126 }
 {
     let sup = numbers_of(pages);
-    let Ok(mut memory) = MemRegion::new(rt.alloc(), sup.blocks) else {
-        return eprintln!(rt; "no memory");
-    };
-    if store_log(&mut memory, sup.blocks, entries).is_err() {
-        return eprintln!(rt; "stopped");
-    }
     let tail = (sup.blocks - 1) * 4096 + 32 * entries;
-
-    let start = Instant::now(rt)?;
-    let whole = read_whole(rt.alloc(), &memory, &sup, tail)?;
-    eprintln!(rt; "walk     {:.3}", start.elapsed(rt)?.as_secs_f64())?;
-
-    let start = Instant::now(rt)?;
-    let found = read_by_findings(rt.alloc(), &memory, &sup, tail)?;
-    eprintln!(rt; "findings {:.3}", start.elapsed(rt)?.as_secs_f64())?;
-
-    println!(rt;
-        "walk: {} pages {} entries at the tail {}",
-        whole.pages, whole.entries, whole.ended
-    )?;
-    println!(rt;
-        "findings: {} pages {} entries at the tail {}",
-        found.pages, found.entries, found.ended
-    )
+    match log_of(rt.alloc(), sup.blocks, entries) {
+        Some(memory) => measure_reading(rt, &memory, &sup, tail),
+        None => eprintln!(rt; "no memory"),
+    }
 }
 
 fn number_of(text: Option<String>) -> Option<u64> {

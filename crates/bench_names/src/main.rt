@@ -93,21 +93,30 @@ fn measure_removals<R: Eprint + Clock>(
     print_time(rt, "remove", start)
 }
 
-fn measure<R: AllocGlobal + Print + Eprint + Clock>(rt: &R, count: u32) -> io::Result<()> {
+fn measure_index<R: Print + Eprint + Clock>(
+    rt: &R,
+    index: &mut NameIndex,
+    names: &mut [Name],
+) -> io::Result<()> {
     let mut rng = Pcg32::new(1, 1);
-    let mut names = names(rt.alloc(), count)?;
-    let mut index = NameIndex::new(rt.alloc());
-    names.as_mut_slice().shuffle(&mut rng);
-    measure_adds(rt, &mut index, names.as_slice())?;
-    names.as_mut_slice().shuffle(&mut rng);
-    let found = measure_lookups(rt, &index, names.as_slice())?;
-    let listed = measure_listing(rt, &index)?;
-    names.as_mut_slice().shuffle(&mut rng);
-    measure_removals(rt, &mut index, names.as_slice())?;
+    names.shuffle(&mut rng);
+    measure_adds(rt, index, names)?;
+    names.shuffle(&mut rng);
+    let found = measure_lookups(rt, index, names)?;
+    let listed = measure_listing(rt, index)?;
+    names.shuffle(&mut rng);
+    measure_removals(rt, index, names)?;
     println!(rt;
-        "{count} names: {found} found, {listed} listed, {} left",
+        "{} names: {found} found, {listed} listed, {} left",
+        names.len(),
         index.len()
     )
+}
+
+fn measure<R: AllocGlobal + Print + Eprint + Clock>(rt: &R, count: u32) -> io::Result<()> {
+    let mut names = names(rt.alloc(), count)?;
+    let mut index = NameIndex::new(rt.alloc());
+    measure_index(rt, &mut index, names.as_mut_slice())
 }
 
 fn main(rt: HostRuntime) -> io::Result<()> {

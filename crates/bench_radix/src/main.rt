@@ -83,14 +83,20 @@ fn overwrite(index: &mut FileIndex, pages: u64) -> Result<(), AllocError>
     Ok(())
 }
 
+/// An index of one page.
+fn small_index(alloc: Global, block: u64) -> Result<FileIndex, AllocError> {
+    let mut index = FileIndex::new(alloc);
+    index.reserve(0, 1)?;
+    index.cut(1);
+    index.set_run(0, block, 1);
+    Ok(index)
+}
+
 /// Makes an index of one page and drops it, many times.
 fn make_small(alloc: Global, files: u64) -> Result<usize, AllocError> {
     let mut extents = 0;
     for file in 0..files {
-        let mut index = FileIndex::new(alloc);
-        index.reserve(0, 1)?;
-        index.cut(1);
-        index.set_run(0, file, 1);
+        let index = small_index(alloc, file)?;
         extents = index.runs()?.len();
     }
     Ok(extents)
@@ -100,11 +106,7 @@ fn make_small(alloc: Global, files: u64) -> Result<usize, AllocError> {
 fn keep_small(alloc: Global, files: u64) -> Result<Vec<FileIndex>, AllocError> {
     let mut kept = Vec::new(alloc);
     for file in 0..files {
-        let mut index = FileIndex::new(alloc);
-        index.reserve(0, 1)?;
-        index.cut(1);
-        index.set_run(0, file, 1);
-        kept.push(index)?;
+        kept.push(small_index(alloc, file)?)?;
     }
     Ok(kept)
 }
@@ -154,13 +156,47 @@ fn measure_listing<R: Print + Eprint + Clock>(rt: &R, index: &FileIndex) -> io::
     println!(rt; "{extents} extents")
 }
 
+fn tell_rising<R: Print + Eprint + Clock>(
+    rt: &R,
+    start: Instant,
+    index: &FileIndex,
+    pages: u64,
+) -> io::Result<()>
+    requires { pages ≤ MAX_FILE_PAGES }
+{
+    print_time(rt, "rising", start)?;
+    measure_lookups(rt, index, pages)
+}
+
+fn tell_listed<R: Print + Eprint + Clock>(
+    rt: &R,
+    what: &str,
+    start: Instant,
+    index: &FileIndex,
+) -> io::Result<()> {
+    print_time(rt, what, start)?;
+    measure_listing(rt, index)
+}
+
+fn tell_shuffled<R: Print + Eprint + Clock>(
+    rt: &R,
+    start: Instant,
+    index: &mut FileIndex,
+    pages: u64,
+) -> io::Result<()>
+    requires { pages ≤ MAX_FILE_PAGES }
+{
+    print_time(rt, "shuffled", start)?;
+    measure_overwrites(rt, index, pages)?;
+    measure_listing(rt, index)
+}
+
 fn measure_rising<R: AllocGlobal + Print + Eprint + Clock>(rt: &R, pages: u64) -> io::Result<()>
     requires { pages ≤ MAX_FILE_PAGES }
 {
     let start = Instant::now(rt)?;
     let index = set_rising(rt.alloc(), pages)?;
-    print_time(rt, "rising", start)?;
-    measure_lookups(rt, &index, pages)
+    tell_rising(rt, start, &index, pages)
 }
 
 fn measure_falling<R: AllocGlobal + Print + Eprint + Clock>(rt: &R, pages: u64) -> io::Result<()>
@@ -168,8 +204,7 @@ fn measure_falling<R: AllocGlobal + Print + Eprint + Clock>(rt: &R, pages: u64) 
 {
     let start = Instant::now(rt)?;
     let index = set_falling(rt.alloc(), pages)?;
-    print_time(rt, "falling", start)?;
-    measure_listing(rt, &index)
+    tell_listed(rt, "falling", start, &index)
 }
 
 fn measure_shuffled<R: AllocGlobal + Print + Eprint + Clock>(rt: &R, pages: u64) -> io::Result<()>
@@ -177,9 +212,7 @@ fn measure_shuffled<R: AllocGlobal + Print + Eprint + Clock>(rt: &R, pages: u64)
 {
     let start = Instant::now(rt)?;
     let mut index = set_shuffled(rt.alloc(), pages)?;
-    print_time(rt, "shuffled", start)?;
-    measure_overwrites(rt, &mut index, pages)?;
-    measure_listing(rt, &index)
+    tell_shuffled(rt, start, &mut index, pages)
 }
 
 fn measure_at_once<R: AllocGlobal + Print + Eprint + Clock>(rt: &R, pages: u64) -> io::Result<()>
@@ -187,8 +220,7 @@ fn measure_at_once<R: AllocGlobal + Print + Eprint + Clock>(rt: &R, pages: u64) 
 {
     let start = Instant::now(rt)?;
     let index = set_at_once(rt.alloc(), pages)?;
-    print_time(rt, "reserved at once", start)?;
-    measure_listing(rt, &index)
+    tell_listed(rt, "reserved at once", start, &index)
 }
 
 fn measure_small<R: AllocGlobal + Print + Eprint + Clock>(rt: &R) -> io::Result<()> {

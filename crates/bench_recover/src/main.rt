@@ -79,6 +79,30 @@ fn recovered_so<R: AllocGlobal + Threads + Sync>(
     }
 }
 
+/// The milliseconds since the start, and what was found.
+fn told<R: Clock>(
+    rt: &R,
+    start: Instant,
+    answer: &Result<Recovered, RecoverError>,
+) -> io::Result<(f64, Option<Counts>)> {
+    let milliseconds = start.elapsed(rt)?.as_secs_f64() * 1000.0;
+    match answer {
+        Ok(recovered) => Ok((milliseconds, Some(counts_of(recovered)))),
+        Err(_) => Ok((milliseconds, None)),
+    }
+}
+
+/// The milliseconds of a recovery, without those in which its answer is dropped, and what it found.
+fn timed<R: AllocGlobal + Clock + Threads + Sync>(
+    rt: &R,
+    memory: &mut MemRegion,
+    way: Threading,
+) -> io::Result<(f64, Option<Counts>)> {
+    let start = Instant::now(rt)?;
+    let answer = recovered_so(rt, memory, way);
+    told(rt, start, &answer)
+}
+
 /// The best milliseconds of so many recoveries, and what the last of them found.
 fn best<R: AllocGlobal + Clock + Threads + Sync>(
     rt: &R,
@@ -89,13 +113,9 @@ fn best<R: AllocGlobal + Clock + Threads + Sync>(
     let mut least = f64::INFINITY;
     let mut found = None;
     for _ in 0..runs {
-        let start = Instant::now(rt)?;
-        let answer = recovered_so(rt, memory, way);
-        least = least.min(start.elapsed(rt)?.as_secs_f64() * 1000.0);
-        found = match &answer {
-            Ok(recovered) => Some(counts_of(recovered)),
-            Err(_) => None,
-        };
+        let (milliseconds, counts) = timed(rt, memory, way)?;
+        least = least.min(milliseconds);
+        found = counts;
     }
     Ok((least, found))
 }

@@ -10,6 +10,7 @@ use nv_format::{FormatRefusal, format};
 use nv_recover::{RecoverError, Recovered, recover_one};
 use nv_region::{MemRegion, RegionRefusal};
 use nv_scan::Row;
+use nv_super::Run;
 use std::alloc::{AllocError, Global};
 use std::io;
 use thiserror::Error;
@@ -52,14 +53,19 @@ fn list_rows<R: Print>(rt: &R, rows: &[Row]) -> io::Result<()> {
     Ok(())
 }
 
-fn list_free<R: Print>(rt: &R, found: &Recovered) -> io::Result<()> {
-    for (cpu, runs) in found.free.lists()?.iter().enumerate() {
-        for run in runs {
-            println!(rt;
-                "CPU {cpu} has {} free blocks from {} on",
-                run.count, run.start
-            )?;
-        }
+fn list_runs<R: Print>(rt: &R, cpu: usize, runs: &[Run]) -> io::Result<()> {
+    for run in runs {
+        println!(rt;
+            "CPU {cpu} has {} free blocks from {} on",
+            run.count, run.start
+        )?;
+    }
+    Ok(())
+}
+
+fn list_free<R: Print>(rt: &R, lists: &[Vec<Run>]) -> io::Result<()> {
+    for (cpu, runs) in lists.iter().enumerate() {
+        list_runs(rt, cpu, runs)?;
     }
     Ok(())
 }
@@ -68,7 +74,7 @@ fn main(rt: HostRuntime) -> io::Result<()> {
     match mount(rt.alloc()) {
         Ok(found) => {
             list_rows(&rt, &found.rows)?;
-            list_free(&rt, &found)
+            list_free(&rt, &found.free.lists()?)
         }
         Err(error) => eprintln!(rt; "{error}"),
     }
