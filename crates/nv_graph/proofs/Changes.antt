@@ -5,7 +5,7 @@ use Rattle.std.proofs.lemmas.Option.{none-some, same_Some}
 use Rattle.nv_super.specs.declared.kind.Kind.{Kind}
 use Rattle.nv_super.specs.declared.kind.Kind.TheVariants.{File, Directory}
 use Rattle.nv_super.proofs.Options.{some_is}
-use Rattle.nv_graph.specs.Graph.{Node, Graph, IsOfKind, HasNames, IsReached, IsReachedPast}
+use Rattle.nv_graph.specs.Graph.{Node, Graph, IsOfKind, HasNames, IsReached}
 use Rattle.nv_graph.specs.Graph as graph
 use Rattle.nv_graph.specs.Calls.{made, linked, unlinked, removed}
 use Rattle.nv_graph.proofs.Names.{node_here, node_other, that_or, Renames, renames_beside, not_none, some_name, some_count, count_is, names_more, names_less, names_same}
