@@ -8,6 +8,7 @@ use Rattle.nv_super.specs.declared.faults.Fault.{Fault}
 use Rattle.nv_super.specs.declared.faults.Fault.TheVariants as faults
 use Rattle.nv_super.proofs.Rising.{Contains-cons, Contains-head, Contains-tail, Lists-only}
 use Rattle.nv_super.proofs.Sorted.{same_keys}
+use Rattle.nv_super.proofs.OneMore.{pair_only, TakenOut, take_out}
 use Rattle.nv_names.specs.Names.{found_in, name_at, names_of}
 use Rattle.nv_scan.specs.declared.piece.Row.{Row}
 use Rattle.nv_check.specs.Cross.{HasNameIn, IsUnusedIn, AreNamesIn, IsReachedIn, root, step, IsCrossFaultIn, c1, c2, c2_root, c3, c4, c5}
@@ -26,47 +27,11 @@ found_listed (e ∷ es) name v h = test (pointwise nat_eq name e.0) refl (found_
 abbrev Link : Type 0
 Link = ℕ × List ℕ × ℕ × ℕ
 
-name_key_only : (x y : ℕ × List ℕ) → x.0 ∷ x.1 ≡ y.0 ∷ y.1 → x ≡ y
-name_key_only x y e = let first : x.0 ≡ y.0 = cc in let rest : x.1 ≡ y.1 = cc in λ i. (first i, rest i)
-
 kind_is : (a b : Kind) → Decided (a ≡ b)
 kind_is File File = inl refl
 kind_is File Directory = inr (λ e. cc)
 kind_is Directory File = inr (λ e. cc)
 kind_is Directory Directory = inl refl
-
--- an element that is taken out, and the others
-record TakenOut (xs : List Row) (x : Row) : Type 0 where
-  others : List Row
-  fewer : length xs ≡ suc (length others)
-  each : (y : Row) → Contains others y → Contains xs y
-  all : (y : Row) → Contains xs y → (y ≡ x) ⊎ Contains others y
-
-take_out : (xs : List Row) (x : Row) → Contains xs x → TakenOut xs x
-take_out [] x c = absurd (omega (arith, c.1))
-take_out (z ∷ xs) x c = at (Contains-cons z xs x c) (take_out xs x) where
-  later : TakenOut xs x → TakenOut (z ∷ xs) x
-  later t = record {
-    others = z ∷ t.others;
-    fewer = ap suc t.fewer;
-    each = λ y d. elim (Contains-cons z t.others y d) [
-      | inl e ↦ subst (Contains (z ∷ xs)) (sym e) (Contains-head z xs)
-      | inr w ↦ Contains-tail z xs y (t.each y w)
-    ];
-    all = λ y d. elim (Contains-cons z xs y d) [
-      | inl e ↦ inr (subst (Contains (z ∷ t.others)) (sym e) (Contains-head z t.others))
-      | inr w ↦ elim (t.all y w) [ inl e ↦ inl e | inr v ↦ inr (Contains-tail z t.others y v) ]
-    ];
-  }
-
-  at : (x ≡ z) ⊎ Contains xs x → (Contains xs x → TakenOut xs x) → TakenOut (z ∷ xs) x
-  at (inl same) rest = record {
-    others = xs;
-    fewer = refl;
-    each = λ y d. Contains-tail z xs y d;
-    all = λ y d. elim (Contains-cons z xs y d) [ inl e ↦ inl (e ∙ sym same) | inr w ↦ inr w ];
-  }
-  at (inr w) rest = later (rest w)
 
 module _ (rows : List Row) where
   links : Finite (λ (x : Link). HasNameIn rows x.0 x.1 x.2 x.3)
@@ -86,8 +51,9 @@ module _ (rows : List Row) where
   unused_or_not : (i : ℕ) → Decided (IsUnusedIn rows i)
   unused_or_not i = told_as (λ n r c e. n (r, (c, e))) (λ n w. n w.0 w.1.0 w.1.1) (not_so (used_or_not i))
 
-  names_in : (i : ℕ) → (names : List (ℕ × List ℕ)) × AreNamesIn rows i names
-  names_in i = in_order (λ (x : ℕ × List ℕ). x.0 ∷ x.1) name_key_only (by_name there back (over (those (λ (x : Link). x.2 ≡ i) links (λ x. number_is x.2 i)) (λ (x : Link). only (x.0, x.1)))) where
+  -- an inode's names can be listed
+  pub names_in : (i : ℕ) → (names : List (ℕ × List ℕ)) × AreNamesIn rows i names
+  names_in i = in_order (λ (x : ℕ × List ℕ). x.0 ∷ x.1) pair_only (by_name there back (over (those (λ (x : Link). x.2 ≡ i) links (λ x. number_is x.2 i)) (λ (x : Link). only (x.0, x.1)))) where
     Named : ℕ × List ℕ → Type 0
     Named y = (x : Link) × (HasNameIn rows x.0 x.1 x.2 x.3 × (x.2 ≡ i)) × (y ≡ (x.0, x.1))
 

@@ -21,7 +21,7 @@ use Rattle.nv_outcome.specs.Outcome as reg
 use Rattle.nv_outcome.specs.Outcome.{AreRows, HasName, AreNamesOf, IsReached, IsCrossFault}
 
 -- a log that says names is a directory's
-names_directory : (l : Layout) (log : Log) (name : List ℕ) (x : ℕ × ℕ) → named (good_of l log) name ≡ Some x → log.kind ≡ Directory
+pub names_directory : (l : Layout) (log : Log) (name : List ℕ) (x : ℕ × ℕ) → named (good_of l log) name ≡ Some x → log.kind ≡ Directory
 names_directory l log name x e = test log.kind refl where
   of_kind : Kind → Log
   of_kind k = record { kind = k; entries = log.entries; pages = log.pages; fault = log.fault }
@@ -70,7 +70,7 @@ module _ {R : Region} {l : Layout} {rows : List Row} (are : AreRows R l rows) wh
   named_in : (d : ℕ) (name : List ℕ) (i at : ℕ) → HasName R l d name i at → HasNameIn rows d name i at
   named_in d name i at h = let s = stands d h.0 h.1 h.2 in (s.row, s.here, s.inode, s.is.names name ∙ h.4)
 
-  names_are : (i : ℕ) (names : List (ℕ × List ℕ)) → AreNamesIn rows i names → AreNamesOf R l i names
+  pub names_are : (i : ℕ) (names : List (ℕ × List ℕ)) → AreNamesIn rows i names → AreNamesOf R l i names
   names_are i names h = Lists-same (λ (x : ℕ × List ℕ). x.0 ∷ x.1) _ _ names (λ x w. (w.0, has_name x.0 x.1 i w.0 w.1)) (λ x w. (w.0, named_in x.0 x.1 i w.0 w.1)) h
 
   are_names : (i : ℕ) (names : List (ℕ × List ℕ)) → AreNamesOf R l i names → AreNamesIn rows i names

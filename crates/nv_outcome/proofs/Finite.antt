@@ -1,16 +1,12 @@
 -- What holds of finitely many things, all of which a list has: how such lists are decided about, put together and sorted.
-use Rattle.std.proofs.Common.{◌≡◌, ◌⊎◌, inl, inr, ℕ, zero, suc, ◌<◌, List, [], ◌∷◌, ◌++◌, Option, Some, None, refl, sym, ap, ◌∙◌, subst, arith}
+use Rattle.std.proofs.Common.{◌≡◌, ◌⊎◌, inl, inr, ℕ, zero, suc, ◌<◌, List, [], ◌∷◌, ◌++◌, Option, Some, None, refl, sym, ap, subst, arith}
 use Rattle.std.specs.List.{Contains, flat_map}
 use Rattle.std.proofs.lemmas.Bool.{cases_eq, cases_lt}
-use Rattle.std.specs.Cmp.Lexicographic.{slice_cmp, texts_ties, nat_list_cmp_total}
-use Rattle.std.specs.Ordering.{nat_cmp, is_eq, ordering_reverse}
-use Rattle.std.specs.declared.cmp.Ordering.{Ordering}
-use Rattle.std.specs.declared.cmp.Ordering.TheVariants.{Less, Equal, Greater}
 use Rattle.std.proofs.lemmas.List.Elements.{Contains-append_left, Contains-append_right, Contains-append_cases}
-use Rattle.nv_super.specs.Order.{Rises, Lists, SortedOf}
-use Rattle.nv_super.proofs.Rising.{Contains-cons, Contains-head, Contains-tail, Below, head_least, rises_cons, tail_rises}
-use Rattle.nv_super.proofs.Sorted.{same_keys}
+use Rattle.nv_super.specs.Order.{Lists, SortedOf}
+use Rattle.nv_super.proofs.Rising.{Contains-cons, Contains-head, Contains-tail}
 use Rattle.nv_super.proofs.Members.{none_in, into_flat, from_flat}
+use Rattle.nv_super.proofs.OneMore.{put_in}
 use Rattle.nv_scan.specs.Faults.{Has}
 
 -- it holds or it doesn't
@@ -163,60 +159,11 @@ holds {A} {P} f x same = told_as (λ w. subst P w.1.1 w.1.0) (λ p. (x, (p, refl
 -- ---- in order
 
 module _ {A : Type 0} (key : A → List ℕ) (key_only : (x y : A) → key x ≡ key y → x ≡ y) where
-  -- an element put into its place
-  record PutIn (x : A) (xs : List A) : Type 0 where
-    list : List A
-    rising : Rises key list
-    from : (y : A) → Contains list y → (y ≡ x) ⊎ Contains xs y
-    here : Contains list x
-    kept : (y : A) → Contains xs y → Contains list y
-
-  put_in : (x : A) (xs : List A) → Rises key xs → PutIn x xs
-  put_in x [] r = record {
-    list = x ∷ [];
-    rising = tt;
-    from = λ y c. Contains-cons x [] y c;
-    here = Contains-head x [];
-    kept = λ y c. absurd (none_in y c);
-  }
-  put_in x (z ∷ xs) r = by_order (slice_cmp nat_cmp (key x) (key z)) refl (put_in x xs (tail_rises key z xs r)) where
-    by_order : (o : Ordering) → slice_cmp nat_cmp (key x) (key z) ≡ o → PutIn x xs → PutIn x (z ∷ xs)
-    by_order Less e rest = record {
-      list = x ∷ z ∷ xs;
-      rising = (e, r);
-      from = λ y c. Contains-cons x (z ∷ xs) y c;
-      here = Contains-head x (z ∷ xs);
-      kept = λ y c. Contains-tail x (z ∷ xs) y c;
-    }
-    by_order Equal e rest = record {
-      list = z ∷ xs;
-      rising = r;
-      from = λ y c. inr c;
-      here = (let same : x ≡ z = key_only x z (same_keys (key x) (key z) (texts_ties (key x) (key z) ∙ ap is_eq e)) in subst (Contains (z ∷ xs)) (sym same) (Contains-head z xs));
-      kept = λ y c. c;
-    }
-    by_order Greater e rest = record {
-      list = z ∷ rest.list;
-      rising = rises_cons key z rest.list (λ y c. elim (rest.from y c) [
-        | inl same ↦ subst (λ (w : A). Below (key z) (key w)) (sym same) (nat_list_cmp_total.antisymm (key z) (key x) ∙ ap ordering_reverse e)
-        | inr w ↦ head_least key z xs r y w
-      ]) rest.rising;
-      from = λ y c. elim (Contains-cons z rest.list y c) [
-        | inl same ↦ inr (subst (Contains (z ∷ xs)) (sym same) (Contains-head z xs))
-        | inr w ↦ elim (rest.from y w) [ inl same ↦ inl same | inr v ↦ inr (Contains-tail z xs y v) ]
-      ];
-      here = Contains-tail z rest.list x rest.here;
-      kept = λ y c. elim (Contains-cons z xs y c) [
-        | inl same ↦ subst (Contains (z ∷ rest.list)) (sym same) (Contains-head z rest.list)
-        | inr w ↦ Contains-tail z rest.list y (rest.kept y w)
-      ];
-    }
-
   sorted : (xs : List A) → (ys : List A) × SortedOf key xs ys
   sorted [] = ([], record { rising = tt; from = λ y c. c; kept = λ y c. c })
   sorted (x ∷ xs) = one_more (sorted xs) where
     one_more : (ys : List A) × SortedOf key xs ys → (ys : List A) × SortedOf key (x ∷ xs) ys
-    one_more s = let p = put_in x s.0 s.1.rising in (
+    one_more s = let p = put_in key key_only x s.0 s.1.rising in (
       p.list,
       record {
         rising = p.rising;

@@ -1,6 +1,7 @@
 pub mod Rising
 pub mod Members
 pub mod Filters
+pub mod OneMore
 pub mod Options
 pub mod Runs
 pub mod Sorted
