@@ -33,7 +33,7 @@ names_again a b listed same l = let all = names_listed b listed l in record {
 }
 
 -- extents of another map to the same blocks
-extents_again : (a b : Pages) (extents : List Extent) → ((p : ℕ) → block_at b p ≡ block_at a p) → AreExtents b extents → AreExtents an extents
+extents_again : (a b : Pages) (extents : List Extent) → ((p : ℕ) → block_at b p ≡ block_at a p) → AreExtents b extents → AreExtents a extents
 extents_again a b extents same are = record {
   some = are.some;
   mapped = All-weaker (IsMapped b) (IsMapped a) (λ (x : Extent) m. λ j inside. sym (same (x.page + j)) ∙ m j inside) extents are.mapped;

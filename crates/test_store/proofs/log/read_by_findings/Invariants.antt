@@ -2,4 +2,4 @@ use Rattle.std.proofs.Common.{◌≡◌}
 use Rattle.test_store.proofs.log.read_by_findings.Given as goal
 
 abbrev pub invariant-loop : goal.invariant-loop
-invariant-loop l = l.reader.numbers.blocks ≡ 16
+invariant-loop l = l.reader.sup.blocks ≡ 16
