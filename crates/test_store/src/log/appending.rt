@@ -1,13 +1,16 @@
 //! Entries behind the tail of a log, in pages that other words filled before.
 //!
-//! Page 3 ends its entries at 16352, where the word is that links it to page 4, which begins at 16384.
+//! Block 3 ends its entries at 16352, where the word is that links it to the next page. Block 4 begins at 16384 and links
+//! at 20448; block 5 begins at 20480 and links at 24544.
 
-ghost use Rattle.std.specs.Prelude.{◌≡◌, IfOk};
+ghost use Rattle.std.specs.Prelude.{◌≡◌, IfOk, OnOk, false};
 ghost use Rattle.nv_region.specs.Region.{HasBlocks};
+ghost use Rattle.nv_logpage.specs.Append.{AreGiven};
+ghost use Rattle.nv_logpage.specs.Reads.{is_next_page};
 
 use super::{HEAD, NEXT_PAGE};
 use crate::small::{SMALL, Word};
-use nv_entry::{AttrEntry, Entry};
+use nv_entry::{AttrEntry, Entry, WriteEntry};
 use nv_logpage::{append, pages_needed, walk};
 use nv_region::{Fuse, MemRegion, Pmem, Stopped};
 use std::alloc::Global;
@@ -26,16 +29,25 @@ const SET: AttrEntry = AttrEntry {
     group: 8,
 };
 
+/// An entry of 40 bytes.
+const WRITTEN: WriteEntry = WriteEntry {
+    count: 2,
+    offset: 3,
+    block: 9,
+    size: 20480,
+    time: 6,
+};
+
 const FIRST: u64 = 493 * 4294967296 + 32 * 65536 + 2;
 
 const OWNERS: u64 = 8 * 4294967296 + 7;
 
-/// A region whose blocks 3 and 4 hold `USED` in each word.
+/// A region whose blocks 3, 4 and 5 hold `USED` in each word.
 fn used_region(alloc: Global) -> Result<MemRegion, Fail>
     ensures { IfOk result (λ m. HasBlocks m.region 16) }
 {
     let mut memory = MemRegion::new(alloc, 16)?;
-    for k in 0..1024 {
+    for k in 0..1536 {
         memory.store(HEAD + 8 * k, USED)?;
     }
     Ok(memory)
@@ -160,5 +172,96 @@ fn a_new_log_has_the_entries_that_were_appended(rt: HostRuntime) -> Result<(), F
         assert!(rt; placed.entry == Entry::Attr(SET), "the entry at {at}");
     }
     assert!(rt; read.fault == None);
+    Ok(())
+}
+
+/// One more entry.
+fn add(entries: &mut Vec<Entry>, entry: Entry) -> Result<(), Fail>
+    requires given { AreGiven entries.old.items }
+    requires inner { is_next_page entry ≡ false }
+    ensures { OnOk result (AreGiven entries.new.items) }
+{
+    entries.push(entry)?;
+    Ok(())
+}
+
+/// So many more attributes entries.
+fn add_sets(entries: &mut Vec<Entry>, count: u64) -> Result<(), Fail>
+    requires { AreGiven entries.old.items }
+    ensures { OnOk result (AreGiven entries.new.items) }
+{
+    for _ in 0..count {
+        add(entries, Entry::Attr(SET))?;
+    }
+    Ok(())
+}
+
+/// Pages 3, 5 and 4 of a log take 126, 126 and one of these entries. At the end of the first two 32 and 24 bytes are
+/// left, too few for what comes next.
+fn entries_of_three_pages(alloc: Global) -> Result<Vec<Entry>, Fail>
+    ensures { IfOk result (λ entries. AreGiven entries.items) }
+{
+    let mut entries = Vec::new(alloc);
+    add_sets(&mut entries, 126)?;
+    add(&mut entries, Entry::Write(WRITTEN))?;
+    add_sets(&mut entries, 126)?;
+    Ok(entries)
+}
+
+/// Where each of these entries goes.
+fn places_in_three_pages(alloc: Global) -> Result<Vec<u64>, Fail> {
+    let mut places = Vec::new(alloc);
+    for k in 0..126 {
+        places.push(12288 + 32 * k)?;
+    }
+    places.push(20480)?;
+    for k in 0..125 {
+        places.push(20520 + 32 * k)?;
+    }
+    places.push(16384)?;
+    Ok(places)
+}
+
+#[test]
+fn an_append_that_turns_twice_takes_the_fresh_pages_in_turn(rt: HostRuntime) -> Result<(), Fail> {
+    let mut memory = used_region(rt.alloc())?;
+    let entries = entries_of_three_pages(rt.alloc())?;
+    assert!(rt; pages_needed(HEAD, &entries) == 2);
+    let tail = append(&mut memory, HEAD, &entries, &[5, 4])?;
+    assert!(rt; tail == 16416);
+    let words = [
+        (16288, FIRST),
+        (16312, OWNERS),
+        (16320, NEXT_PAGE),
+        (16328, USED),
+        (16344, USED),
+        (16352, 20480),
+        (20480, 2 * 4294967296 + 40 * 65536 + 1),
+        (20488, 3),
+        (20496, 9),
+        (20504, 20480),
+        (20512, 6),
+        (20520, FIRST),
+        (24512, OWNERS),
+        (24520, NEXT_PAGE),
+        (24528, USED),
+        (24536, USED),
+        (24544, 16384),
+        (24552, USED),
+        (16384, FIRST),
+        (16408, OWNERS),
+        (16416, USED),
+        (20448, USED),
+    ];
+    holds(&rt, &memory, &words);
+    let places = places_in_three_pages(rt.alloc())?;
+    let read = walk(rt.alloc(), &memory, &SMALL, HEAD, tail)?;
+    assert!(rt; read.fault == None);
+    assert!(rt; read.pages.as_slice() == [3, 5, 4].as_slice());
+    assert!(rt; read.entries.len() == 253);
+    for ((placed, at), entry) in read.entries.iter().zip(&places).zip(&entries) {
+        assert!(rt; placed.at == *at);
+        assert!(rt; placed.entry == *entry, "the entry at {at}");
+    }
     Ok(())
 }
