@@ -6,6 +6,7 @@
 mod hold;
 
 ghost use Rattle.std.specs.Prelude.{◌≡◌, ◌≤◌, ◌<◌, IfSome};
+ghost use Rattle.bench_alloc.specs.Held.{IsHeld};
 ghost use Rattle.nv_super.specs.Layout.{IsLayout};
 
 use hold::{give_all, take_all};
@@ -33,24 +34,67 @@ fn layout(blocks: u64, cpus: u64) -> Option<Super>
     })
 }
 
+fn measure_takes<R: Eprint + Clock>(
+    rt: &R,
+    free: &mut Allocators,
+    cpus: u64,
+    blocks: u64,
+    held: &mut Vec<u64>,
+) -> io::Result<()>
+    requires cpus { cpus ≡ free.old.sup.cpus }
+    requires some { 0 < cpus }
+    requires held { IsHeld free.old held.old.items }
+    ensures held { IsHeld free.new held.new.items }
+    ensures cpus { free.new.sup ≡ free.old.sup }
+{
+    let start = Instant::now(rt)?;
+    take_all(free, cpus, blocks, held)?;
+    report(rt, "take", blocks, start.elapsed(rt)?)
+}
+
+fn measure_gives<R: Eprint + Clock>(
+    rt: &R,
+    free: &mut Allocators,
+    blocks: u64,
+    held: &mut Vec<u64>,
+) -> io::Result<()>
+    requires held { IsHeld free.old held.old.items }
+    ensures cpus { free.new.sup ≡ free.old.sup }
+{
+    let start = Instant::now(rt)?;
+    give_all(free, held)?;
+    report(rt, "give", blocks, start.elapsed(rt)?)
+}
+
+/// Takes all blocks and gives them back, in an order of chance: in the second round those with an even number first.
+fn measure_round<R: AllocGlobal + Eprint + Clock>(
+    rt: &R,
+    free: &mut Allocators,
+    cpus: u64,
+    rng: &mut Pcg32,
+    round: u64,
+) -> io::Result<()>
+    requires cpus { cpus ≡ free.old.sup.cpus }
+    requires some { 0 < cpus }
+    ensures cpus { free.new.sup ≡ free.old.sup }
+{
+    let blocks = free.free_blocks();
+    let mut held = Vec::new(rt.alloc());
+    measure_takes(rt, free, cpus, blocks, &mut held)?;
+    held.as_mut_slice().shuffle(rng);
+    held.sort_by_key(|block| *block & round)?;
+    measure_gives(rt, free, blocks, &mut held)
+}
+
 fn measure<R: AllocGlobal + Print + Eprint + Clock>(rt: &R, sup: &Super) -> io::Result<()>
     requires layout { IsLayout sup.now }
     requires blocks { sup.now.blocks ≤ 65536 }
 {
-    let words = [0; 1024];
     let mut rng = Pcg32::new(1, 1);
-    let mut free = Allocators::from_words(rt.alloc(), &words, sup)?;
+    let mut free = Allocators::from_words(rt.alloc(), &[0; 1024], sup)?;
     let blocks = free.free_blocks();
     for round in 0..2 {
-        let mut held = Vec::new(rt.alloc());
-        let start = Instant::now(rt)?;
-        take_all(&mut free, sup.cpus, blocks, &mut held)?;
-        report(rt, "take", blocks, start.elapsed(rt)?)?;
-        held.as_mut_slice().shuffle(&mut rng);
-        held.sort_by_key(|block| *block & round)?;
-        let start = Instant::now(rt)?;
-        give_all(&mut free, &mut held)?;
-        report(rt, "give", blocks, start.elapsed(rt)?)?;
+        measure_round(rt, &mut free, sup.cpus, &mut rng, round)?;
     }
     println!(rt; "{blocks} blocks, {} free", free.free_blocks())
 }

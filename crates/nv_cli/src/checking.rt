@@ -7,6 +7,7 @@ ghost use Rattle.nv_region.specs.Region.{region_of};
 ghost use Rattle.nv_region.specs.ImageState.{is_open_to};
 ghost use Rattle.nv_text.specs.Refusals.{refusal_name};
 ghost use Rattle.nv_report.specs.Answering.{IsOpenInFront};
+ghost use Rattle.nv_report.specs.Last.{how_it_went, status_of};
 ghost use Rattle.nv_report.specs.Workers.{is_worker_count};
 ghost use Rattle.nv_cli.specs.Checking.{IsCheck, IsRefusal, WritesCheck, EndsCheck, FailsCheck};
 
@@ -15,7 +16,7 @@ use nv_report::{
     Answer, Last, MOST_WORKERS, Part, how_it_went, part_text, recover_region, refused_text,
 };
 use nv_stream::{ScriptError, write_text};
-use nv_super::{SuperFault, read_super};
+use nv_super::{Fault, SuperFault, read_super};
 use nv_text::Refusal;
 use std::alloc::{AllocError, Global};
 use std::io::Write;
@@ -98,10 +99,17 @@ fn check_memory<P: Pmem + Sync, H: Threads + Sync>(
     match recover_region(rt, alloc, memory, workers)? {
         Answer::Recovered(recovered) => Ok(Checked {
             text: part_text(alloc, &recovered, Part::Report)?,
-            status: how_it_went(&recovered.faults).status(),
+            status: status_of(&recovered.faults),
         }),
         Answer::Refused(refusal) => refused(alloc, refusal),
     }
+}
+
+// The exit status of a check whose report has these faults.
+fn status_of(faults: &[Fault]) -> u8
+    ensures { result ≡ status_of (how_it_went faults.now) }
+{
+    how_it_went(faults).status()
 }
 
 fn refused(alloc: Global, refusal: Refusal) -> Result<Checked, AllocError>

@@ -8,7 +8,8 @@ ghost use Rattle.nv_text.specs.Answers.{bad_line, refused_line};
 ghost use Rattle.nv_super.specs.FaultText.{super_fault_name};
 ghost use Rattle.nv_cli.specs.Script.{ShowsScript};
 ghost use Rattle.nv_cli.specs.Replies.{KnownReplies, RepliesTo};
-ghost use Rattle.nv_session.specs.Sessions.{Leads};
+ghost use Rattle.nv_session.specs.Machine.{first_state};
+ghost use Rattle.nv_session.specs.Sessions.{Leads, StandsFor};
 ghost use Rattle.nv_cli.specs.Transcript.{WritesAll, WritesFront, WritesWhole};
 
 use crate::hinting::{Hint, Hints, NoHints};
@@ -75,34 +76,46 @@ pub fn run_script_with_hints<H: Threads + Sync, R: Read + Drop, W: Write, N: Hin
     let Ok(mut reader) = BufReader::with_capacity(alloc, BUFFER_SIZE, reader) else {
         return Err(ScriptError::Memory);
     };
-    run_lines(rt, alloc, &mut reader, writer, hints)
+    let mut session = Session::new();
+    let mut line = Vec::new(alloc);
+    run_lines(
+        rt,
+        alloc,
+        &mut session,
+        &mut line,
+        &mut reader,
+        writer,
+        hints,
+    )
 }
 
+// Runs the lines of a script in a session that has done nothing yet. The line is for the bytes of one after another.
 fn run_lines<H: Threads + Sync, R: Read, W: Write, N: Hints>(
     rt: &H,
     alloc: Global,
+    session: &mut Session,
+    line: &mut Vec<u8>,
     reader: &mut R,
     writer: &mut W,
     hints: &mut N,
 ) -> Result<u8, ScriptError>
+    requires { StandsFor session.old first_state }
     ensures ok { IfOk result (λ status. WritesAll ShowsScript (R.remaining reader.old) (W.contents writer.old) (W.contents writer.new) status) }
     ensures err { OnErr result (WritesFront ShowsScript (R.remaining reader.old) (W.contents writer.old) (W.contents writer.new)) }
     ensures memory { IsErrOf result ScriptError.Memory → WritesWhole ShowsScript (R.remaining reader.old) (W.contents writer.old) (W.contents writer.new) }
 {
-    let mut session = Session::new();
-    let mut line = Vec::new(alloc);
     'lines: for number in 1..u64::MAX {
-        match next_reply(rt, alloc, &mut session, &mut line, reader)? {
+        match next_reply(rt, alloc, session, line, reader)? {
             Reply::End => return Ok(session.status()),
             Reply::Skipped => {}
             Reply::Text(text) => {
                 write_text(writer, text.as_bytes())?;
-                hint_length(&session, &text, hints);
+                hint_length(session, &text, hints);
             }
             Reply::Bad => {
                 let text = bad_line_text(alloc, number)?;
                 write_text(writer, text.as_bytes())?;
-                hint_bad_line(alloc, number, &line, hints);
+                hint_bad_line(alloc, number, line, hints);
                 return Ok(BAD_LINE_STATUS);
             }
         }

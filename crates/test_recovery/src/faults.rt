@@ -41,18 +41,26 @@ fn one_name(alloc: Global, inode: u64, place: u64) -> Result<NameIndex, Fail> {
     Ok(names)
 }
 
-/// The root names inode 2, a file of two links, and inode 9, which has no row. Inodes 3 and 4 name each other.
+/// The names of the root: inode 2, and inode 9, which has no row.
+fn root_names(alloc: Global) -> Result<NameIndex, Fail> {
+    let mut names = one_name(alloc, 2, 12288)?;
+    names.reserve(1)?;
+    names.add(b"b", 9, 12352);
+    Ok(names)
+}
+
+/// Inode 2 is a file of two links. Inodes 3 and 4 name each other.
 #[test]
 fn faults_between_four_rows(rt: HostRuntime) -> Result<(), Fail> {
     let alloc = rt.alloc();
-    let mut root = one_name(alloc, 2, 12288)?;
-    root.reserve(1)?;
-    root.add(b"b", 9, 12352);
+    let names = root_names(alloc)?;
+    let names_of_3 = one_name(alloc, 4, 16384)?;
+    let names_of_4 = one_name(alloc, 3, 20480)?;
     let rows = [
-        row(alloc, 1, Kind::Directory, 1, root),
+        row(alloc, 1, Kind::Directory, 1, names),
         row(alloc, 2, Kind::File, 2, NameIndex::new(alloc)),
-        row(alloc, 3, Kind::Directory, 1, one_name(alloc, 4, 16384)?),
-        row(alloc, 4, Kind::Directory, 1, one_name(alloc, 3, 20480)?),
+        row(alloc, 3, Kind::Directory, 1, names_of_3),
+        row(alloc, 4, Kind::Directory, 1, names_of_4),
     ];
     let found = [
         Fault::C1 {

@@ -8,7 +8,7 @@ use Rattle.nv_cli.proofs.script.run_lines.Goals as goal
 use Rattle.nv_cli.proofs.script.run_lines.Goals.{in-Skipped, in-Text+in_ok-write_text-in-Text}
 
 pub lines-init : goal.lines-init
-lines-init g c = (first_state, c.new-session.ensures, known_begins ShowsScript _ _)
+lines-init g c = (first_state, c.requires, known_begins ShowsScript _ _)
 
 pub returns-in_err-next_reply-clause-err : goal.returns-in_err-next_reply-clause-err
 returns-in_err-next_reply-clause-err g c = on_err _ _ (front_from_whole ShowsScript _ _ _ (known_whole ShowsScript _ (Shows c.lines.number c.lines.invariant.0) _ _ _ _ c.lines.invariant.2 (refl, refl)))
