@@ -1,6 +1,7 @@
 //! Measures the name index: adds as many names as the first argument says, in a shuffled order, and looks
-//! them up, lists and removes them, each in another order. It prints the seconds on standard error, and what
-//! it counted on standard output.
+//! them up, lists and removes them, each in another order; then inserts them into another index. It does so with
+//! names that differ at their ends, and with names that differ at their starts and have one hash in the kit's
+//! `HashMap`. It prints the seconds on standard error, and what it counted on standard output.
 #![tactic(auto)]
 
 use nv_names::NameIndex;
@@ -25,8 +26,19 @@ fn name_of(number: u32) -> Name {
     name
 }
 
-fn names(alloc: Global, count: u32) -> Result<Vec<Name>, AllocError> {
-    (0..count).map(name_of).collect(alloc)
+/// What the kit's `HashMap` multiplies by: all names that end in these bytes have one hash.
+const MULTIPLIER: [u8; 8] = [0x15, 0x7c, 0x4a, 0x7f, 0xb9, 0x79, 0x37, 0x9e];
+
+/// A number of eight digits, and the multiplier.
+fn name_of_one_hash(number: u32) -> Name {
+    let mut name = [b'0'; 16];
+    let mut rest = number;
+    for at in 0..8 {
+        name[at] = b'0' + (rest % 10) as u8;
+        name[8 + at] = MULTIPLIER[at];
+        rest /= 10;
+    }
+    name
 }
 
 /// Adds each name, with room made for one at a time.
@@ -34,6 +46,14 @@ fn add_all(index: &mut NameIndex, names: &[Name]) -> Result<(), AllocError> {
     for (number, name) in names.iter().enumerate() {
         index.reserve(1)?;
         index.add(name, number as u64, 4096);
+    }
+    Ok(())
+}
+
+/// Inserts each name, where no room was made.
+fn insert_all(index: &mut NameIndex, names: &[Name]) -> Result<(), AllocError> {
+    for (number, name) in names.iter().enumerate() {
+        index.insert(name, number as u64, 4096)?;
     }
     Ok(())
 }
@@ -65,6 +85,14 @@ fn measure_adds<R: Eprint + Clock>(
     print_time(rt, "add", start)
 }
 
+fn measure_inserts<R: AllocGlobal + Eprint + Clock>(rt: &R, names: &[Name]) -> io::Result<usize> {
+    let mut index = NameIndex::new(rt.alloc());
+    let start = Instant::now(rt)?;
+    insert_all(&mut index, names)?;
+    print_time(rt, "insert", start)?;
+    Ok(index.len())
+}
+
 fn measure_lookups<R: Eprint + Clock>(
     rt: &R,
     index: &NameIndex,
@@ -93,7 +121,7 @@ fn measure_removals<R: Eprint + Clock>(
     print_time(rt, "remove", start)
 }
 
-fn measure_index<R: Print + Eprint + Clock>(
+fn measure_index<R: AllocGlobal + Print + Eprint + Clock>(
     rt: &R,
     index: &mut NameIndex,
     names: &mut [Name],
@@ -106,15 +134,17 @@ fn measure_index<R: Print + Eprint + Clock>(
     let listed = measure_listing(rt, index)?;
     names.shuffle(&mut rng);
     measure_removals(rt, index, names)?;
+    let inserted = measure_inserts(rt, names)?;
     println!(rt;
-        "{} names: {found} found, {listed} listed, {} left",
-        names.len(),
+        "{found} found, {listed} listed, {} left, {inserted} inserted",
         index.len()
     )
 }
 
-fn measure<R: AllocGlobal + Print + Eprint + Clock>(rt: &R, count: u32) -> io::Result<()> {
-    let mut names = names(rt.alloc(), count)?;
+fn measure<R: AllocGlobal + Print + Eprint + Clock>(
+    rt: &R,
+    mut names: Vec<Name>,
+) -> io::Result<()> {
     let mut index = NameIndex::new(rt.alloc());
     measure_index(rt, &mut index, names.as_mut_slice())
 }
@@ -124,7 +154,10 @@ fn main(rt: HostRuntime) -> io::Result<()> {
         .nth(1)
         .and_then(|text| text.as_str().parse::<u32>().ok());
     match count {
-        Some(count) => measure(&rt, count),
+        Some(count) => {
+            measure(&rt, (0..count).map(name_of).collect(rt.alloc())?)?;
+            measure(&rt, (0..count).map(name_of_one_hash).collect(rt.alloc())?)
+        }
         None => eprintln!(rt; "usage: bench_names COUNT"),
     }
 }

@@ -1,3 +1,4 @@
+pub mod Beside
+pub mod Calls
 pub mod Entries
 pub mod Listing
-pub mod Split

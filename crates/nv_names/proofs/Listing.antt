@@ -5,19 +5,16 @@ use Rattle.std.specs.List.Sorted.{IsSorted, IsSortedByKey, IsStrictlySortedBy, I
 use Rattle.std.specs.Ordering.{nat_cmp, is_lt, is_eq, ordering_reverse}
 use Rattle.std.specs.declared.cmp.Ordering.{Ordering}
 use Rattle.std.specs.declared.cmp.Ordering.TheVariants.{Less, Equal, Greater}
-use Rattle.std.specs.Map.{lookup, keys_of}
 use Rattle.std.specs.declared.alloc.Global.{Global}
 use Rattle.std.specs.Cmp.Lexicographic.{pointwise, slice_cmp, nat_list_eq_equiv, nat_list_cmp_total, texts_ties, bytes_decides}
 use Rattle.std.proofs.lemmas.List.{map-append, length-map, get_or-map}
 use Rattle.std.proofs.lemmas.List.Elements.{All-from_recursion, Contains-get_or, Contains-append_right}
 use Rattle.std.proofs.lemmas.List.Sorted.{IsPermutation-map, All-permutation, Contains-permutation}
-use Rattle.std.proofs.lemmas.Map.{none_passes_from_lookup}
 use Rattle.std.proofs.lemmas.Map.Keys.{IsDistinct-head, IsDistinct-tail, IsDistinct-cons, IsDistinct-IsPermutation, apart_from_distinct, sorted_from_all_adjacent}
 use Rattle.nv_names.specs.declared.target.Target.{Target}
 use Rattle.nv_names.specs.declared.named.Named.{Named}
 use Rattle.nv_names.specs.Names.{Names, found_in, names_of, EachOnce, ListsNames, line_of}
-use Rattle.nv_names.specs.Tables.{entry_of, names_held, IsSplit}
-use Rattle.nv_names.proofs.Entries.{other_length}
+use Rattle.nv_names.specs.Table.{names_held}
 
 -- no value is none
 some_is_none : {X : Type 0} {x : X} → Some x ≡ None → ⊥
@@ -26,56 +23,6 @@ some_is_none e = cc
 -- true is not false
 true_is_false : {b : Bool} → b ≡ true → b ≡ false → ⊥
 true_is_false t f = cc
-
--- all of two lists
-pub AllByRecursion-append : {X : Type 0} (P : X → Type 0) (xs ys : List X) → AllByRecursion P xs → AllByRecursion P ys → AllByRecursion P (xs ++ ys)
-AllByRecursion-append P [] ys p q = q
-AllByRecursion-append P (x ∷ xs) ys p q = (p.0, AllByRecursion-append P xs ys p.1 q)
-
--- what holds of each entry's key holds of each key
-AllByRecursion-keys : {K X : Type 0} (P : K → Type 0) (es : List (K × X)) → AllByRecursion (λ e. P e.0) es → AllByRecursion P (keys_of es)
-AllByRecursion-keys P [] p = tt
-AllByRecursion-keys P (e ∷ es) p = (p.0, AllByRecursion-keys P es p.1)
-
--- a table that finds no long name has none
-short_keys : (n : ℕ) (es : List (List ℕ × Target)) → ((q : List ℕ) → n < length q → lookup (pointwise nat_eq q) es ≡ None) → AllByRecursion (λ e. length e.0 ≤ n) es
-short_keys n [] none = tt
-short_keys n (e ∷ es) none = (head, short_keys n es tail)
-  where
-    found : lookup (pointwise nat_eq e.0) (e ∷ es) ≡ Some e.1
-    found = ap (λ b. cond b (Some e.1) (lookup (pointwise nat_eq e.0) es)) (nat_list_eq_equiv.refl e.0)
-
-    apart : n < length e.0 → ⊥
-    apart long = some_is_none (sym found ∙ none e.0 long)
-
-    head : length e.0 ≤ n
-    head = omega (arith, apart)
-
-    tail : (q : List ℕ) → n < length q → lookup (pointwise nat_eq q) es ≡ None
-    tail q long = sym (ap (λ b. cond b (Some e.1) (lookup (pointwise nat_eq q) es)) (other_length q e.0 (λ s. omega (arith, head)))) ∙ none q long
-
--- keys of two tables differ where the first has only short ones and the second none of these
-distinct-append : (n : ℕ) (xs ys : List (List ℕ × Target)) → AllByRecursion (λ e. length e.0 ≤ n) xs
-    → ((q : List ℕ) → length q ≤ n → lookup (pointwise nat_eq q) ys ≡ None)
-    → IsDistinct (pointwise nat_eq) (keys_of xs) → IsDistinct (pointwise nat_eq) (keys_of ys) → IsDistinct (pointwise nat_eq) (keys_of (xs ++ ys))
-distinct-append n [] ys short none first second = second
-distinct-append n (x ∷ xs) ys short none first second =
-    IsDistinct-cons (pointwise nat_eq) x.0 (keys_of (xs ++ ys)) (rw (map-append (λ e. e.0) xs ys) (AllByRecursion-append _ (keys_of xs) (keys_of ys) (IsDistinct-head _ _ _ first) others))
-    (distinct-append n xs ys short.1 none (IsDistinct-tail _ _ _ first) second)
-  where
-    others : AllByRecursion (λ y. pointwise nat_eq x.0 y ≡ false) (keys_of ys)
-    others = AllByRecursion-keys (λ y. pointwise nat_eq x.0 y ≡ false) ys (none_passes_from_lookup (pointwise nat_eq x.0) ys (none x.0 short.0))
-
--- the names that an index shows are the keys of its tables
-names_of-entries : (es : List (List ℕ × Target)) → names_of (map entry_of es) ≡ keys_of es
-names_of-entries [] = refl
-names_of-entries (e ∷ es) = ap (λ ks. e.0 ∷ ks) (names_of-entries es)
-
--- no name is in both tables, nor twice in one
-pub distinct_names : (xs ys : List (List ℕ × Target)) → IsSplit xs ys → IsDistinct (pointwise nat_eq) (keys_of xs) → IsDistinct (pointwise nat_eq) (keys_of ys)
-    → IsDistinct (pointwise nat_eq) (names_of (map entry_of (xs ++ ys)))
-distinct_names xs ys split first second =
-    rw names_of-entries (distinct-append 40 xs ys (short_keys 40 xs split.short) split.long first second)
 
 -- a list of no names finds none
 pub found_in-empty : (es : List (List ℕ × ℕ × ℕ)) → length es ≡ 0 → (q : List ℕ) → found_in es q ≡ None
@@ -105,7 +52,7 @@ AllByRecursion-zip P R Q join [] p q = tt
 AllByRecursion-zip P R Q join (e ∷ es) p q = (join e p.0 q.0, AllByRecursion-zip P R Q join es p.1 q.1)
 
 -- each name of a list without repeats is found with its inode and place
-each_found : (es : List (List ℕ × ℕ × ℕ)) → IsDistinct (pointwise nat_eq) (names_of es) → AllByRecursion (λ e. found_in es e.0 ≡ Some (e.1, e.2)) es
+pub each_found : (es : List (List ℕ × ℕ × ℕ)) → IsDistinct (pointwise nat_eq) (names_of es) → AllByRecursion (λ e. found_in es e.0 ≡ Some (e.1, e.2)) es
 each_found [] distinct = tt
 each_found (x ∷ xs) distinct = (
   ap (λ b. cond b (Some (x.1, x.2)) (found_in xs x.0)) (nat_list_eq_equiv.refl x.0),
@@ -148,7 +95,7 @@ lists_names index us vs distinct lines moved sorted = record {
     renamed : IsPermutation (names_of index.names) (names_of (map line_of vs))
     renamed = IsPermutation-map (λ e. e.0) index.names (map line_of vs) entries
 
--- where there are no tables, no name is there twice
-pub held_once : (tables : Option (Box Names Global)) → tables ≡ None → EachOnce (names_held tables)
+-- where there is no table, no name is there twice
+pub held_once : (table : Option (Box Names Global)) → table ≡ None → EachOnce (names_held table)
 unfolding IsDistinct
-held_once tables none = subst (λ t. EachOnce (names_held t)) (sym none) tt
+held_once table none = subst (λ t. EachOnce (names_held t)) (sym none) tt

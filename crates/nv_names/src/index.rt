@@ -6,30 +6,28 @@ ghost use Rattle.std.specs.Option.{option_map};
 ghost use Rattle.std.specs.Cmp.Lexicographic.{pointwise};
 ghost use Rattle.nv_names.specs.Names.{IsName, name_at, EachOnce, ListsNames, inode_and_place, line_of};
 
-use crate::tables::Tables;
+use crate::table::Table;
 use crate::{Named, Target};
 use std::alloc::{AllocError, Global};
 use std::marker::Model;
 
 /// A map from names to the inodes that they stand for and the places of their entries.
 ///
-/// It is two hash tables, of short names and of long ones, which are made for the first name, so that an index that
-/// never had one stays small. Their hasher has a fixed seed, so the order and the speed of an index are the same in
-/// each run, and whoever picks the names of a directory can make them collide: then each call on it may look at every
-/// name.
+/// It is a table, which is made for the first name, so that an index that never had one stays small. The table keeps the
+/// names in order, so no choice of names makes a call look at every name.
 #[derive(Drop)]
 pub struct NameIndex {
-    tables: Option<Box<Tables>>,
+    table: Option<Box<Table>>,
     alloc: Global,
 }
 
 impl Model for NameIndex {
     ghost use Rattle.nv_names.specs.Names.{Names};
-    ghost use Rattle.nv_names.specs.Tables.{names_held};
+    ghost use Rattle.nv_names.specs.Table.{names_held};
 
     ghost Value = { Names };
 
-    ghost view = { λ a. names_held a.tables };
+    ghost view = { λ a. names_held a.table };
 }
 
 impl NameIndex {
@@ -37,41 +35,37 @@ impl NameIndex {
     pub fn new(alloc: Global) -> NameIndex
         ensures empty { (q : List ℕ) → name_at result q ≡ None }
     {
-        NameIndex {
-            tables: None,
-            alloc,
-        }
+        NameIndex { table: None, alloc }
     }
 
     /// What a name stands for, if the directory has it.
     ///
-    /// Its cost does not grow with the number of names.
+    /// Its cost grows with the logarithm of the number of names, and with the names added since the last `reserve`.
     pub fn get(&self, name: &[u8]) -> Option<Target>
         ensures { option_map inode_and_place result ≡ name_at self.now name.now }
     {
-        match &self.tables {
-            Some(tables) => tables.get(name),
+        match &self.table {
+            Some(table) => table.get(name),
             None => None,
         }
     }
 
     /// Makes room for `more` calls of `add`, or leaves the names as they are.
     ///
-    /// Where there is room already, it does nothing. Otherwise each table that lacks it grows to at least twice its
-    /// size, so that a call before each `add`, with `more` of 1, adds a constant to its cost. Since each of the
-    /// names to come may be long, it takes some 300 bytes for each: ask for the names at hand, and not for all
-    /// that may follow.
+    /// It first gives the names that were added since the last call their places in the table. Until then each call on
+    /// the index goes through them, and each takes some 300 bytes: ask for the names at hand, and not for all that may
+    /// follow.
     pub fn reserve(&mut self, more: usize) -> Result<(), AllocError>
         ensures names { (q : List ℕ) → name_at self.new q ≡ name_at self.old q }
         ensures ready { OnOk result (more ≤ self.new.room) }
         ensures room { self.old.room ≤ self.new.room }
     {
-        match &mut self.tables {
-            Some(tables) => tables.reserve(more),
+        match &mut self.table {
+            Some(table) => table.reserve(more),
             None => {
-                let mut tables = Tables::new(self.alloc);
-                tables.reserve(more)?;
-                self.tables = Some(Box::new(self.alloc, tables)?);
+                let mut table = Table::new(self.alloc);
+                table.reserve(more)?;
+                self.table = Some(Box::new(self.alloc, table)?);
                 Ok(())
             }
         }
@@ -79,8 +73,7 @@ impl NameIndex {
 
     /// Gives a name of 1 to 255 bytes its inode and the place of its entry, in place of those that it had.
     ///
-    /// It takes no memory, and at most one call's worth of the room. Its cost does not grow with the number of
-    /// names.
+    /// It takes no memory, and at most one call's worth of the room. Its cost is that of `get`.
     pub fn add(&mut self, name: &[u8], inode: u64, place: u64)
         requires name { IsName name.now }
         requires room { 0 < self.old.room }
@@ -88,14 +81,13 @@ impl NameIndex {
             ≡ (if pointwise nat_eq q name.now then Some (inode, place) else name_at self.old q) }
         ensures room { self.old.room ≤ self.new.room + 1 }
     {
-        match &mut self.tables {
-            Some(tables) => tables.add(name, inode, place),
+        match &mut self.table {
+            Some(table) => table.add(name, inode, place),
             None => unreachable!(),
         }
     }
 
-    /// As `add`, where no room need have been made: the table of names of this length grows where it is full, and so
-    /// that a call adds a constant to its cost. An error leaves the names. Where room was made it succeeds.
+    /// As `add`, where no room need have been made. An error leaves the names. Where room was made it succeeds.
     pub fn insert(&mut self, name: &[u8], inode: u64, place: u64) -> Result<(), AllocError>
         requires name { IsName name.now }
         ensures ok { OnOk result ((q : List ℕ) → name_at self.new q
@@ -104,12 +96,12 @@ impl NameIndex {
         ensures succeeds { 0 < self.old.room → IsOk result }
         ensures room { self.old.room ≤ self.new.room + 1 }
     {
-        match &mut self.tables {
-            Some(tables) => tables.insert(name, inode, place),
+        match &mut self.table {
+            Some(table) => table.insert(name, inode, place),
             None => {
-                let mut tables = Tables::new(self.alloc);
-                tables.insert(name, inode, place)?;
-                self.tables = Some(Box::new(self.alloc, tables)?);
+                let mut table = Table::new(self.alloc);
+                table.insert(name, inode, place)?;
+                self.table = Some(Box::new(self.alloc, table)?);
                 Ok(())
             }
         }
@@ -117,14 +109,14 @@ impl NameIndex {
 
     /// Takes a name out, if the directory has it.
     ///
-    /// It takes no memory, and its cost does not grow with the number of names.
+    /// It takes no memory, and its cost is that of `get`.
     pub fn remove(&mut self, name: &[u8])
         ensures names { (q : List ℕ) → name_at self.new q
             ≡ (if pointwise nat_eq q name.now then None else name_at self.old q) }
         ensures room { self.old.room ≤ self.new.room }
     {
-        if let Some(tables) = &mut self.tables {
-            tables.remove(name);
+        if let Some(table) = &mut self.table {
+            table.remove(name);
         }
     }
 
@@ -133,8 +125,8 @@ impl NameIndex {
         ensures exact { result ≡ length self.now.names }
         ensures each_once { EachOnce self.now }
     {
-        match &self.tables {
-            Some(tables) => tables.len(),
+        match &self.table {
+            Some(table) => table.len(),
             None => 0,
         }
     }
@@ -157,13 +149,13 @@ impl NameIndex {
         Ok(listed)
     }
 
-    /// Each name once, in the order of the tables.
+    /// Each name once, in the order of the table.
     fn unsorted(&self) -> Result<Vec<Named<'_>>, AllocError>
         ensures names { IfOk result (λ listed. map line_of listed.items ≡ self.now.names) }
         ensures each_once { EachOnce self.now }
     {
-        match &self.tables {
-            Some(tables) => tables.unsorted(),
+        match &self.table {
+            Some(table) => table.unsorted(),
             None => Ok(Vec::new(self.alloc)),
         }
     }

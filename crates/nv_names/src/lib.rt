@@ -1,11 +1,13 @@
 //! The names of a directory, as a map from a name's bytes to its inode and the place of its entry.
 #![tactic(auto)]
 
+mod fresh;
 mod index;
 mod name;
 mod named;
-mod tables;
+mod table;
 mod target;
+mod tree;
 
 pub use index::NameIndex;
 pub use named::Named;

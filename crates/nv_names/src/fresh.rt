@@ -1,0 +1,61 @@
+//! The names beside the tree: a list of the few that were added since room was last made.
+
+ghost use Rattle.std.specs.Prelude.{◌≡◌, ◌≤◌, ◌++◌, map, not, OnOk, nat_eq};
+ghost use Rattle.std.specs.List.{filter};
+ghost use Rattle.std.specs.Option.{option_map};
+ghost use Rattle.std.specs.Cmp.Lexicographic.{pointwise};
+ghost use Rattle.std.specs.Vec.{vec_len, vec_capacity};
+ghost use Rattle.nv_names.specs.Names.{found_in, inode_and_place, line_of};
+ghost use Rattle.nv_names.specs.Table.{fresh_line};
+
+use crate::name::Name;
+use crate::{Named, Target};
+use std::alloc::AllocError;
+
+/// A name, and what it stands for.
+pub(crate) type Fresh = (Name, Target);
+
+/// What a name of a list stands for, if it is there.
+pub(crate) fn target_of(list: &[Fresh], name: &[u8]) -> Option<Target>
+    ensures { option_map inode_and_place result ≡ found_in (map fresh_line list.now) name.now }
+{
+    for (held, target) in list {
+        if name == held.as_bytes() {
+            return Some(*target);
+        }
+    }
+    None
+}
+
+/// Takes a name out of a list, if it is there.
+pub(crate) fn forget(list: &mut Vec<Fresh>, name: &[u8])
+    ensures others { list.new.items ≡ filter (λ e. not (pointwise nat_eq e.0 name.now)) list.old.items }
+    ensures len { vec_len list.new ≤ vec_len list.old }
+    ensures capacity { vec_capacity list.new ≡ vec_capacity list.old }
+{
+    list.retain(|entry| is_other(entry, name));
+}
+
+/// Whether an entry is of another name.
+fn is_other(entry: &Fresh, name: &[u8]) -> bool
+    ensures { result ≡ not (pointwise nat_eq entry.now.0 name.now) }
+{
+    entry.0.as_bytes() != name
+}
+
+/// Puts a line for each name of a list at the end of a listing.
+pub(crate) fn push_fresh<'a>(
+    listed: &mut Vec<Named<'a>>,
+    list: &'a [Fresh],
+) -> Result<(), AllocError>
+    ensures { OnOk result (map line_of listed.new.items ≡ map line_of listed.old.items ++ map fresh_line list.now) }
+{
+    for (name, target) in list {
+        listed.push(Named {
+            name: name.as_bytes(),
+            inode: target.inode,
+            place: target.place,
+        })?;
+    }
+    Ok(())
+}

@@ -1,0 +1,133 @@
+//! The table of a name index that has, or had, a name: an ordered tree of names, and beside it a list of the few that
+//! were added since room was last made. Only `reserve`, `insert` and `unsorted` take memory.
+
+ghost use Rattle.std.specs.Prelude.{◌≡◌, ◌+◌, ◌<◌, ◌≤◌, ◌++◌, if◌then◌else◌, List, ℕ, length, map, IfOk, IsOk, OnOk, OnErr, Some, None, nat_eq};
+ghost use Rattle.std.specs.Option.{option_map};
+ghost use Rattle.std.specs.Cmp.Lexicographic.{pointwise};
+ghost use Rattle.nv_names.specs.Names.{IsName, name_at, EachOnce, inode_and_place, line_of};
+ghost use Rattle.nv_names.specs.Table.{PutsAt};
+
+use crate::fresh::{Fresh, forget, push_fresh, target_of};
+use crate::name::Name;
+use crate::tree::{Tree, push_tree, put, settle};
+use crate::{Named, Target};
+use std::alloc::{AllocError, Global};
+use std::collections::BTreeMap;
+use std::marker::Model;
+
+/// A map from names to the inodes that they stand for and the places of their entries.
+///
+/// The tree takes memory for each name, so a name that must take none goes into `fresh`, where there is room for it. It
+/// moves into the tree when room is next made.
+#[derive(Drop)]
+pub(crate) struct Table {
+    tree: Tree,
+    fresh: Vec<Fresh>,
+    alloc: Global,
+}
+
+impl Model for Table {
+    ghost use Rattle.std.specs.Prelude.{map, ◌++◌, ◌-◌};
+    ghost use Rattle.std.specs.Vec.{vec_len, vec_capacity};
+    ghost use Rattle.nv_names.specs.Names.{Names};
+    ghost use Rattle.nv_names.specs.Table.{tree_line, fresh_line, AreBeside};
+
+    ghost Value = { Names };
+
+    ghost view = { λ a. record {
+      names = map tree_line a.tree.entries ++ map fresh_line a.fresh.items;
+      room = vec_capacity a.fresh - vec_len a.fresh;
+    } };
+
+    ghost invariant = { λ a. AreBeside (map tree_line a.tree.entries) (map fresh_line a.fresh.items) };
+}
+
+impl Table {
+    /// A table with no name. It takes no memory.
+    pub(crate) fn new(alloc: Global) -> Table
+        ensures empty { (q : List ℕ) → name_at result q ≡ None }
+    {
+        Table {
+            tree: BTreeMap::new(alloc),
+            fresh: Vec::new(alloc),
+            alloc,
+        }
+    }
+
+    /// What a name stands for, if it is there.
+    pub(crate) fn get(&self, name: &[u8]) -> Option<Target>
+        ensures { option_map inode_and_place result ≡ name_at self.now name.now }
+    {
+        match self.tree.get(name) {
+            Some(target) => Some(*target),
+            None => target_of(self.fresh.as_slice(), name),
+        }
+    }
+
+    /// Makes room for `more` calls of `add`, or leaves the names as they are.
+    pub(crate) fn reserve(&mut self, more: usize) -> Result<(), AllocError>
+        ensures names { (q : List ℕ) → name_at self.new q ≡ name_at self.old q }
+        ensures ready { OnOk result (more ≤ self.new.room) }
+        ensures room { self.old.room ≤ self.new.room }
+    {
+        settle(self.alloc, &mut self.tree, &mut self.fresh)?;
+        self.fresh.reserve(more)
+    }
+
+    /// Gives a name its inode and the place of its entry. It takes no memory.
+    pub(crate) fn add(&mut self, name: &[u8], inode: u64, place: u64)
+        requires name { IsName name.now }
+        requires room { 0 < self.old.room }
+        ensures names { PutsAt self.old.names self.new.names name.now (Some (inode, place)) }
+        ensures room { self.old.room ≤ self.new.room + 1 }
+    {
+        let _before = self.tree.remove(name);
+        forget(&mut self.fresh, name);
+        let target = Target { inode, place };
+        self.fresh.push_reserved((Name::new(name), target));
+    }
+
+    /// As `add`, and where there is no room the name goes into the tree.
+    pub(crate) fn insert(&mut self, name: &[u8], inode: u64, place: u64) -> Result<(), AllocError>
+        requires name { IsName name.now }
+        ensures ok { OnOk result (PutsAt self.old.names self.new.names name.now (Some (inode, place))) }
+        ensures err { OnErr result ((q : List ℕ) → name_at self.new q ≡ name_at self.old q) }
+        ensures succeeds { 0 < self.old.room → IsOk result }
+        ensures room { self.old.room ≤ self.new.room + 1 }
+    {
+        if self.fresh.len() < self.fresh.capacity() {
+            self.add(name, inode, place);
+            return Ok(());
+        }
+        settle(self.alloc, &mut self.tree, &mut self.fresh)?;
+        put(self.alloc, &mut self.tree, name, Target { inode, place })
+    }
+
+    /// Takes a name out, if it is there. It takes no memory.
+    pub(crate) fn remove(&mut self, name: &[u8])
+        ensures names { PutsAt self.old.names self.new.names name.now None }
+        ensures room { self.old.room ≤ self.new.room }
+    {
+        let _had = self.tree.remove(name);
+        forget(&mut self.fresh, name);
+    }
+
+    /// How many names there are.
+    pub(crate) fn len(&self) -> usize
+        ensures exact { result ≡ length self.now.names }
+        ensures each_once { EachOnce self.now }
+    {
+        self.tree.len() + self.fresh.len()
+    }
+
+    /// Each name once: those of the tree, and then those beside it.
+    pub(crate) fn unsorted(&self) -> Result<Vec<Named<'_>>, AllocError>
+        ensures names { IfOk result (λ listed. map line_of listed.items ≡ self.now.names) }
+        ensures each_once { EachOnce self.now }
+    {
+        let mut listed = Vec::with_capacity(self.alloc, self.len())?;
+        push_tree(&mut listed, &self.tree)?;
+        push_fresh(&mut listed, self.fresh.as_slice())?;
+        Ok(listed)
+    }
+}
