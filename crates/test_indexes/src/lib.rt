@@ -1,5 +1,5 @@
-//! Tests of the indexes of names and of pages, of the allocator, and of the claims of recovery's workers. They stand here
-//! since a crate that has tests is proved twice, once with them and once without.
+//! Tests of the indexes of names and of pages, of values by number, of the allocator, and of the claims of recovery's
+//! workers. They stand here since a crate that has tests is proved twice, once with them and once without.
 #![tactic(auto)]
 
 #[cfg(test)]
@@ -12,5 +12,7 @@ mod claim_map;
 mod file_index;
 #[cfg(test)]
 mod name_index;
+#[cfg(test)]
+mod numbered;
 #[cfg(test)]
 mod word_runs;

@@ -1,0 +1,94 @@
+-- Lemmas on the values with their numbers, for this crate and its callers.
+use Rattle.std.proofs.Common.{◌≡◌, ◌⊎◌, ◌↔◌, ℕ, zero, suc, ◌+◌, ◌<◌, List, [], ◌∷◌, length, get_or, Option, Some, None, is_some, cond, count_by, IsTrue, ◌==◌, refl, sym, ap, ◌∙◌, inl, inr, add-zero, zero-add, arith, Contains}
+use Rattle.std.specs.declared.cmp.Ordering.TheVariants.{Less}
+use Rattle.std.specs.Ordering.{nat_cmp}
+use Rattle.std.specs.List.{AllByRecursion}
+use Rattle.std.specs.List.Sorted.{IsStrictlySortedBy}
+use Rattle.std.specs.Map.{keys_of}
+use Rattle.std.proofs.lemmas.Bool.Decides.{nat_tests}
+use Rattle.std.proofs.lemmas.List.Sums.{sum_by-cons}
+use Rattle.nv_numbered.specs.Values.{entries_from}
+
+-- what the test of the order answers at a lower number
+below_is_less : (a b : ℕ) → a < b → nat_cmp a b ≡ Less
+below_is_less a b below = grind arith
+
+Contains-cons : {X : Type 0} (head x : X) (rest : List X) → Contains rest x → Contains (head ∷ rest) x
+Contains-cons head x rest p = (suc p.0, omega (arith, p.1), p.2)
+
+Contains-cons_cases : {X : Type 0} (head x : X) (rest : List X) → Contains (head ∷ rest) x → (head ≡ x) ⊎ Contains rest x
+Contains-cons_cases {X} head x rest p = by_index p.0 p.1 p.2
+  where
+    by_index : (k : ℕ) → k < suc (length rest) → get_or (head ∷ rest) k x ≡ x → (head ≡ x) ⊎ Contains rest x
+    by_index zero within found = inl found
+    by_index (suc k) within found = inr (k, omega arith, found)
+
+module _ {T : Type 0} where
+  -- there is one entry for each slot with a value
+  pub length-entries_from : (first : ℕ) (slots : List (Option T)) → length (entries_from first slots) ≡ count_by is_some slots
+  length-entries_from first [] = refl
+  length-entries_from first (None ∷ rest) =
+      omega (arith, length-entries_from (first + 1) rest, sum_by-cons (λ o. cond (is_some o) 1 0) None rest)
+  length-entries_from first (Some value ∷ rest) =
+      omega (arith, length-entries_from (first + 1) rest, sum_by-cons (λ o. cond (is_some o) 1 0) (Some value) rest)
+
+  all_above : (below first : ℕ) (slots : List (Option T)) → below < first → AllByRecursion (λ k. nat_cmp below k ≡ Less) (keys_of (entries_from first slots))
+  all_above below first [] above = tt
+  all_above below first (None ∷ rest) above = all_above below (first + 1) rest (omega arith)
+  all_above below first (Some value ∷ rest) above = (below_is_less below first above, all_above below (first + 1) rest (omega arith))
+
+  -- the entries rise strictly by number
+  pub entries_from_rise : (first : ℕ) (slots : List (Option T)) → IsStrictlySortedBy nat_cmp (keys_of (entries_from first slots))
+  unfolding IsStrictlySortedBy
+  entries_from_rise first [] = tt
+  entries_from_rise first (None ∷ rest) = entries_from_rise (first + 1) rest
+  entries_from_rise first (Some value ∷ rest) = (all_above first (first + 1) rest (omega arith), entries_from_rise (first + 1) rest)
+
+  listed_from_slot : (first : ℕ) (slots : List (Option T)) (k : ℕ) (value : T) → get_or slots k None ≡ Some value → Contains (entries_from first slots) (first + k, value)
+  listed_from_slot first [] k value found = absurd (cc)
+  listed_from_slot first (slot ∷ rest) zero value found = rw (found, add-zero) (0, omega arith, refl)
+  listed_from_slot first (None ∷ rest) (suc k) value found =
+      let shift : first + suc k ≡ first + 1 + k = omega arith in
+      rw shift (listed_from_slot (first + 1) rest k value found)
+  listed_from_slot first (Some other ∷ rest) (suc k) value found =
+      let shift : first + suc k ≡ first + 1 + k = omega arith in
+      rw shift (Contains-cons _ _ _ (listed_from_slot (first + 1) rest k value found))
+
+  slot_from_listed : (first : ℕ) (slots : List (Option T)) (number : ℕ) (value : T) → Contains (entries_from first slots) (number, value) → (k : ℕ) × (number ≡ first + k) × (get_or slots k None ≡ Some value)
+  slot_from_listed first [] number value listed = absurd (omega (arith, listed.1))
+  slot_from_listed first (None ∷ rest) number value listed =
+      let later = slot_from_listed (first + 1) rest number value listed in
+      (suc later.0, omega (arith, later.1), later.2)
+  slot_from_listed first (Some other ∷ rest) number value listed =
+      elim (Contains-cons_cases _ _ _ listed) [
+        | inl here ↦ (0, omega (arith, ap (λ p. p.0) here), ap (λ p. Some p.1) here)
+        | inr there ↦
+            let later = slot_from_listed (first + 1) rest number value there in
+            (suc later.0, omega (arith, later.1), later.2)
+      ]
+
+  -- the entries have a number with a value just where the number's slot has that value
+  pub Contains-entries : (slots : List (Option T)) (number : ℕ) (value : T) → Contains (entries_from 0 slots) (number, value) ↔ (get_or slots number None ≡ Some value)
+  Contains-entries slots number value = (
+    λ listed.
+        let found = slot_from_listed 0 slots number value listed in
+        ap (λ k. get_or slots k None) (found.1 ∙ zero-add found.0) ∙ found.2,
+    λ found. rw zero-add at (listed_from_slot 0 slots number value found),
+  )
+
+  no_entries : (es : List (ℕ × T)) → length es ≡ 0 → es ≡ []
+  no_entries [] none = refl
+  no_entries (e ∷ es) none = absurd (omega arith)
+
+  -- there are no entries just where no slot has a value
+  pub is_empty-entries_from : (first : ℕ) (slots : List (Option T)) → IsTrue (count_by is_some slots == 0) ↔ (entries_from first slots ≡ [])
+  is_empty-entries_from first slots = (
+    λ none. no_entries _ (length-entries_from first slots ∙ zero_count none),
+    λ empty. none_test (sym (length-entries_from first slots) ∙ ap length empty),
+  )
+    where
+      zero_count : IsTrue (count_by is_some slots == 0) → count_by is_some slots ≡ 0
+      zero_count none = grind (arith, nat_tests)
+
+      none_test : count_by is_some slots ≡ 0 → IsTrue (count_by is_some slots == 0)
+      none_test none = grind (arith, nat_tests)

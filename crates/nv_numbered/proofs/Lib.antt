@@ -1,0 +1,5 @@
+pub mod EntryLemmas
+pub mod ListingLemmas
+pub mod PairLemmas
+pub mod SlotLemmas
+pub mod SoundLemmas

@@ -1,0 +1,12 @@
+use Rattle.std.proofs.Common.{arith}
+use Rattle.nv_numbered.specs.Table.{slots_of}
+use Rattle.nv_numbered.proofs.EntryLemmas.{entries_from_rise, Contains-entries}
+use Rattle.nv_numbered.proofs.table.Numbered.iter.Goals as goal
+
+pub returns-clause-rising : goal.returns-clause-rising
+returns-clause-rising g c = entries_from_rise 0 (slots_of c.deref.result.now c.deref-2.result.now)
+
+pub returns-clause-each : goal.returns-clause-each
+returns-clause-each g c = λ number value.
+    rw (c.deref.ensures.value, c.deref-2.ensures.value, ← c.self.view_is)
+    (Contains-entries (slots_of c.self.inside.places.items c.self.inside.values.items) number value)

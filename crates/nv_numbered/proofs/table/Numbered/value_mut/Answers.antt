@@ -1,0 +1,27 @@
+use Rattle.std.proofs.Common.{◌-◌, refl, arith}
+use Rattle.nv_numbered.proofs.SlotLemmas.{slots_of-write}
+use Rattle.nv_numbered.proofs.SoundLemmas.{index_read, index_inside, slot_is, IsSound-write}
+use Rattle.nv_numbered.proofs.table.Numbered.value_mut.Goals as goal
+
+pub index_mut-requires : goal.index_mut-requires
+index_mut-requires g c =
+    let t = c.self.inside in
+    let place = index_read t.places.items t.numbers.items t.values.items c.self.invariant c.args.number c.index-place.result.now (rw (← c.self.view_is) at c.requires) c.index-place.ensures in
+    omega (arith, index_inside t.places.items t.numbers.items t.values.items c.self.invariant c.args.number _ place, t.values.ok.0)
+
+pub invariant_of-self-lent : goal.invariant_of-self-lent
+invariant_of-self-lent g c w =
+    let t = c.self.inside in
+    let place = index_read t.places.items t.numbers.items t.values.items c.self.invariant c.args.number c.index-place.result.now (rw (← c.self.view_is) at c.requires) c.index-place.ensures in
+    IsSound-write t.places.items t.numbers.items t.values.items c.self.invariant c.args.number _ place w
+
+pub returns : goal.returns
+returns g c =
+    let t = c.self.inside in
+    let place = index_read t.places.items t.numbers.items t.values.items c.self.invariant c.args.number c.index-place.result.now (rw (← c.self.view_is) at c.requires) c.index-place.ensures in (
+      (refl, λ w. rw (← c.self.view_is, slots_of-write t.places.items t.numbers.items t.values.items c.self.invariant.paired c.self.invariant.as_many c.args.number (c.index-place.result.now - 1) place w)),
+      record {
+        writes_back = tt;
+        value = rw (← c.self.view_is) (slot_is t.places.items t.numbers.items t.values.items c.self.invariant c.args.number _ place c.index_mut.result.now c.index_mut.ensures.value);
+      },
+    )

@@ -1,0 +1,206 @@
+//! Values by number: a place for each number that may have one, and the values side by side, each with its number.
+//! Only `new`, `reserve` and `push` take memory.
+
+ghost use Rattle.std.specs.Prelude.{◌≡◌, ◌+◌, ◌<◌, ◌≤◌, ◌^◌, ◌↔◌, [], ℕ, length, IsTrue, IsOk, IsSome, IfOk, IfErr, OnOk, OnErr, OnSome, Some, None, MatchOption, Contains, option_copied, slice_index, slice_set};
+ghost use Rattle.std.specs.Option.{option_copied_mut};
+ghost use Rattle.std.specs.Ordering.{nat_cmp};
+ghost use Rattle.std.specs.List.Sorted.{IsStrictlySortedBy};
+ghost use Rattle.std.specs.Map.{keys_of};
+ghost use Rattle.std.specs.Borrow.{sem};
+ghost use Rattle.nv_numbered.specs.Values.{value_at, limit_of, entries};
+ghost use Rattle.nv_numbered.specs.Table.{slot_of};
+
+use crate::Iter;
+use std::alloc::{AllocError, AllocFailed, Global};
+use std::marker::Model;
+
+/// Values, each under a number below a limit.
+///
+/// A number that may have a value takes four bytes, and each value four bytes more than its own. Removing a value moves
+/// the last one into its place, so the values lie in no order.
+#[derive(Drop)]
+pub struct Numbered<T> {
+    // Of each number, one more than the index of its value, and 0 where it has none.
+    places: Vec<u32>,
+    // The number of each value.
+    numbers: Vec<u32>,
+    values: Vec<T>,
+}
+
+impl<T> Model for Numbered<T> {
+    ghost use Rattle.std.specs.Prelude.{◌-◌, min, vec_len, vec_capacity};
+    ghost use Rattle.nv_numbered.specs.Values.{Values, values_code};
+
+    ghost Value = { Values T };
+
+    ghost coded = { values_code T.code };
+
+    ghost use Rattle.nv_numbered.specs.Table.{slots_of, IsSound};
+
+    ghost view = { λ t. record {
+      slots = slots_of t.places.items t.values.items;
+      room = min (vec_capacity t.numbers - vec_len t.numbers) (vec_capacity t.values - vec_len t.values);
+    } };
+
+    ghost invariant = { λ t. IsSound t.places.items t.numbers.items t.values.items };
+}
+
+// The value that a place stands for.
+pub(crate) fn value_of<T>(values: &[T], place: u32) -> Option<&T>
+    ensures { option_copied result ≡ slot_of values.now place }
+{
+    if place == 0 {
+        return None;
+    }
+    values.get(place as usize - 1)
+}
+
+// The index of a number's value, by the places.
+fn index_of(places: &[u32], number: u64) -> Option<usize>
+    ensures { let place = slice_index places.now number in
+        MatchOption result (place ≡ 0) (λ index. place ≡ index + 1) }
+{
+    match places.get(number as usize) {
+        Some(place) if *place > 0 => Some(*place as usize - 1),
+        _ => None,
+    }
+}
+
+impl<T> Numbered<T> {
+    ghost use Rattle.nv_numbered.specs.Lends.{lends_value, lends_get};
+
+    /// No values, with a place for each number below the limit.
+    pub fn new(alloc: Global, limit: u64) -> Result<Numbered<T>, AllocError>
+        requires { limit < 2 ^ 32 }
+        ensures empty { IfOk result (λ v. (number : ℕ) → value_at v number ≡ None) }
+        ensures limit { IfOk result (λ v. limit_of v ≡ limit) }
+    {
+        Ok(Numbered {
+            places: vec![in alloc; 0; limit as usize]?,
+            numbers: Vec::new(alloc),
+            values: Vec::new(alloc),
+        })
+    }
+
+    /// The value of a number, if it has one.
+    pub fn get(&self, number: u64) -> Option<&T>
+        ensures { option_copied result ≡ value_at self.now number }
+    {
+        match self.places.get(number as usize) {
+            Some(place) => value_of(&self.values, *place),
+            None => None,
+        }
+    }
+
+    /// The value of a number for writing, if it has one.
+    pub fn get_mut(&mut self, number: u64) -> Option<&mut T>
+        ensures* writes_back { sem 𝓛 (lends_get T.row self.entry number result) }
+        ensures value { option_copied_mut result ≡ value_at self.old number }
+    {
+        if self.get(number).is_some() {
+            Some(self.value_mut(number))
+        } else {
+            None
+        }
+    }
+
+    fn value_mut(&mut self, number: u64) -> &mut T
+        requires { IsSome (value_at self.old number) }
+        ensures* writes_back { sem 𝓛 (lends_value T.row self.entry number result) }
+        ensures value { value_at self.old number ≡ Some result.now }
+    {
+        let place = self.places[number as usize];
+        &mut self.values[place as usize - 1]
+    }
+
+    /// How many numbers have a value.
+    pub fn len(&self) -> usize
+        ensures { result ≡ length (entries self.now) }
+    {
+        self.values.len()
+    }
+
+    /// Whether no number has a value.
+    pub fn is_empty(&self) -> bool
+        ensures { IsTrue result ↔ (entries self.now ≡ []) }
+    {
+        self.values.is_empty()
+    }
+
+    /// The values with their numbers, rising by number. It looks at every number below the limit.
+    pub fn iter(&self) -> Iter<'_, T>
+        ensures listed { result ≡ entries self.now }
+        ensures rising { IsStrictlySortedBy nat_cmp (keys_of result) }
+        ensures each { (number : ℕ) (value : T) →
+            Contains result (number, value) ↔ (value_at self.now number ≡ Some value) }
+    {
+        Iter {
+            places: &self.places,
+            number: 0,
+            values: &self.values,
+        }
+    }
+
+    /// Makes room for `more` calls of `insert`, or leaves the values as they are.
+    ///
+    /// Where there is room already, it does nothing.
+    pub fn reserve(&mut self, more: usize) -> Result<(), AllocError>
+        ensures values { self.new.slots ≡ self.old.slots }
+        ensures ready { OnOk result (more ≤ self.new.room) }
+        ensures succeeds { more ≤ self.old.room → IsOk result }
+        ensures room { self.old.room ≤ self.new.room }
+    {
+        self.numbers.reserve(more)?;
+        self.values.reserve(more)
+    }
+
+    /// Gives a value to a number that has none. It takes no memory.
+    pub fn insert(&mut self, number: u64, value: T)
+        requires within { number < limit_of self.old }
+        requires vacant { value_at self.old number ≡ None }
+        requires room { 0 < self.old.room }
+        ensures values { self.new.slots ≡ slice_set self.old.slots number (Some value) }
+        ensures room { self.old.room ≡ self.new.room + 1 }
+    {
+        self.numbers.push_reserved(number as u32);
+        self.values.push_reserved(value);
+        self.places[number as usize] = self.values.len() as u32;
+    }
+
+    /// As `insert`, where no room need have been made. Where there is no memory the value comes back, and all stays as
+    /// it was.
+    pub fn push(&mut self, number: u64, value: T) -> Result<(), AllocFailed<T>>
+        requires within { number < limit_of self.old }
+        requires vacant { value_at self.old number ≡ None }
+        ensures ok { OnOk result (self.new.slots ≡ slice_set self.old.slots number (Some value)) }
+        ensures err { OnErr result (self.new.slots ≡ self.old.slots) }
+        ensures value_returned { IfErr result (λ failed. failed.value ≡ value) }
+        ensures succeeds { 0 < self.old.room → IsOk result }
+        ensures room { self.old.room ≤ self.new.room + 1 }
+    {
+        if self.reserve(1).is_err() {
+            return Err(AllocFailed { value });
+        }
+        self.insert(number, value);
+        Ok(())
+    }
+
+    /// Takes the value of a number out, if it has one. It takes no memory.
+    pub fn remove(&mut self, number: u64) -> Option<T>
+        ensures value { result ≡ value_at self.old number }
+        ensures values { self.new.slots ≡ slice_set self.old.slots number None }
+        ensures room { self.old.room ≤ self.new.room }
+        ensures freed { OnSome result (self.new.room ≡ self.old.room + 1) }
+    {
+        let index = match index_of(&self.places, number) {
+            Some(index) => index,
+            None => return None,
+        };
+        let moved = self.numbers[self.numbers.len() - 1];
+        // The last value comes to this index. Where it is the one that goes, the second write has the last word.
+        self.places[moved as usize] = index as u32 + 1;
+        self.places[number as usize] = 0;
+        let _number = self.numbers.swap_remove(index);
+        Some(self.values.swap_remove(index))
+    }
+}

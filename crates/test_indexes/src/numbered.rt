@@ -1,0 +1,150 @@
+//! Each call on its happy path with ample memory, numbers at the edges, and values that own memory.
+
+ghost use Rattle.std.specs.Prelude.{◌≡◌, ◌<◌};
+ghost use Rattle.nv_numbered.specs.Values.{limit_of};
+
+use nv_numbered::Numbered;
+use std::alloc::{AllocError, Global};
+use std::process::Abort;
+use std::test::Fail;
+
+/// Gives a number ten times itself, if it has no value.
+fn add(values: &mut Numbered<u64>, number: u64) -> Result<(), AllocError>
+    requires { number < limit_of values.old }
+    ensures { limit_of values.new ≡ limit_of values.old }
+{
+    if values.get(number).is_none() {
+        values.push(number, number.wrapping_mul(10))?;
+    }
+    Ok(())
+}
+
+/// Numbers below 8, each with ten times itself.
+fn filled(alloc: Global, numbers: &[u64]) -> Result<Numbered<u64>, AllocError> {
+    let mut values = Numbered::new(alloc, 8)?;
+    for number in numbers {
+        if *number < 8 {
+            add(&mut values, *number)?;
+        }
+    }
+    Ok(values)
+}
+
+/// These numbers have these values, or none.
+fn assert_values(rt: &impl Abort, values: &Numbered<u64>, wanted: &[(u64, Option<u64>)]) {
+    for (number, value) in wanted {
+        assert!(rt;
+            values.get(*number).copied() == *value,
+            "at number {number}"
+        );
+    }
+}
+
+#[test]
+fn a_new_table_has_no_value(rt: HostRuntime) -> Result<(), Fail> {
+    let values = Numbered::<u64>::new(rt.alloc(), 8)?;
+    assert!(rt; values.is_empty());
+    assert!(rt; values.len() == 0);
+    assert_values(
+        &rt,
+        &values,
+        &[(0, None), (7, None), (8, None), (u64::MAX, None)],
+    );
+    Ok(())
+}
+
+#[test]
+fn a_table_of_no_numbers_has_no_value(rt: HostRuntime) -> Result<(), Fail> {
+    let mut values = Numbered::<u64>::new(rt.alloc(), 0)?;
+    assert!(rt; values.get(0).is_none());
+    assert!(rt; values.get_mut(0).is_none());
+    assert!(rt; values.remove(0).is_none());
+    assert!(rt; values.iter().next().is_none());
+    Ok(())
+}
+
+#[test]
+fn a_value_is_inserted_found_and_removed(rt: HostRuntime) -> Result<(), Fail> {
+    let mut values = Numbered::<u64>::new(rt.alloc(), 8)?;
+    values.reserve(2)?;
+    values.insert(3, 30);
+    values.insert(7, 70);
+    assert!(rt; values.len() == 2);
+    assert!(rt; !values.is_empty());
+    assert_values(
+        &rt,
+        &values,
+        &[(2, None), (3, Some(30)), (7, Some(70)), (8, None)],
+    );
+    assert!(rt; values.remove(3) == Some(30));
+    assert!(rt; values.remove(3) == None);
+    assert_values(&rt, &values, &[(3, None), (7, Some(70))]);
+    assert!(rt; values.len() == 1);
+    Ok(())
+}
+
+#[test]
+fn a_write_changes_one_value(rt: HostRuntime) -> Result<(), Fail> {
+    let mut values = filled(rt.alloc(), &[5, 0, 7])?;
+    if let Some(value) = values.get_mut(0) {
+        *value = 1;
+    }
+    assert!(rt; values.get_mut(1).is_none());
+    assert!(rt; values.get_mut(8).is_none());
+    assert_values(
+        &rt,
+        &values,
+        &[(0, Some(1)), (1, None), (5, Some(50)), (7, Some(70))],
+    );
+    Ok(())
+}
+
+#[test]
+fn a_listing_rises_by_number(rt: HostRuntime) -> Result<(), Fail> {
+    let mut values = filled(rt.alloc(), &[5, 1, 7, 0, 6])?;
+    assert!(rt; values.remove(5) == Some(50));
+    let listed: Vec<u64> = values.iter().map(|entry| entry.0).collect(rt.alloc())?;
+    assert_eq!(rt; listed.as_slice(), &[0, 1, 6, 7]);
+    let listed: Vec<u64> = values.iter().map(|entry| *entry.1).collect(rt.alloc())?;
+    assert_eq!(rt; listed.as_slice(), &[0, 10, 60, 70]);
+    Ok(())
+}
+
+#[test]
+fn values_are_removed_in_any_order(rt: HostRuntime) -> Result<(), Fail> {
+    let mut values = filled(rt.alloc(), &[0, 1, 2, 3, 4, 5, 6, 7])?;
+    for number in [7, 0, 3, 4, 1, 6, 2] {
+        assert!(rt;
+            values.remove(number) == Some(number * 10),
+            "at number {number}"
+        );
+        assert_values(&rt, &values, &[(number, None), (5, Some(50))]);
+    }
+    assert!(rt; values.len() == 1);
+    Ok(())
+}
+
+#[test]
+fn a_refused_growth_leaves_the_values(rt: HostRuntime) -> Result<(), Fail> {
+    let mut values = filled(rt.alloc(), &[1, 4])?;
+    assert!(rt; values.reserve(usize::MAX) == Err(AllocError));
+    assert!(rt; values.len() == 2);
+    assert_values(&rt, &values, &[(1, Some(10)), (4, Some(40))]);
+    Ok(())
+}
+
+#[test]
+fn values_that_own_memory_come_back(rt: HostRuntime) -> Result<(), Fail> {
+    let mut values = Numbered::<Vec<u8>>::new(rt.alloc(), 8)?;
+    values.reserve(2)?;
+    values.insert(6, b"six".to_vec(rt.alloc())?);
+    values.insert(1, b"one".to_vec(rt.alloc())?);
+    if let Some(value) = values.get_mut(6) {
+        value.push(b'!')?;
+    }
+    let six = values.remove(6).ok_or("six")?;
+    assert_eq!(rt; six.as_slice(), b"six!");
+    let one = values.get(1).ok_or("one")?;
+    assert_eq!(rt; one.as_slice(), b"one");
+    Ok(())
+}
