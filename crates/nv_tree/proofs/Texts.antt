@@ -1,5 +1,5 @@
 -- Each text says one path, or that it is none.
-use Rattle.std.proofs.Common.{◌≡◌, ℕ, zero, suc, ◌<◌, ◌≤◌, ◌⊎◌, Bool, true, false, eqb, All, List, [], ◌∷◌, length, drop, slice_index, Some, None, refl, sym, ◌∙◌, ap, inl, inr, arith, length-drop}
+use Rattle.std.proofs.Common.{◌≡◌, ℕ, zero, suc, ◌<◌, ◌≤◌, ◌⊎◌, Bool, true, false, eqb, List, [], ◌∷◌, length, slice_index, Some, None, refl, sym, ◌∙◌, ap, inl, inr, arith, length-drop}
 use Rattle.std.specs.Cmp.Lexicographic.{pointwise, bytes_decides}
 use Rattle.std.specs.List.{position_or_len}
 use Rattle.std.proofs.lemmas.Bool.{cases_eq, cases_lt, cases_Bool, both_ways}
