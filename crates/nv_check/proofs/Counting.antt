@@ -4,7 +4,7 @@ use Rattle.std.proofs.Math.ListN.{set, length-set}
 use Rattle.std.specs.List.{count_by, filter_map, cons_option}
 use Rattle.std.proofs.lemmas.List.Elements.{filter_map-append}
 use Rattle.std.proofs.lemmas.List.Sums.{count_by_more_yes, count_by_more_no, count_by-le-length}
-use Rattle.std.proofs.lemmas.List.{length-take-le, take_more}
+use Rattle.std.proofs.lemmas.List.{length-take-le, take_more, append_assoc}
 use Rattle.std.proofs.lemmas.Bool.{ne_eqb}
 use Rattle.nv_super.proofs.Options.{some_only}
 use Rattle.nv_check.specs.Steps.{place_of, IsTable, AreCounts}
@@ -52,3 +52,8 @@ filter_step {A} {B} f xs i r lt is = ap (filter_map f) (take_more xs i r lt) ∙
 pub skips : {A B : Type 0} (f : A → Option B) (xs : List A) (i : ℕ) (r : A) (old now new : List B) → i < length xs → r ≡ get_or xs i r → f r ≡ None → new ≡ now → now ≡ old ++ filter_map f (take i xs) → new ≡ old ++ filter_map f (take (i + 1) xs)
 skips {A} {B} f xs i r old now new lt is none e h =
     e ∙ h ∙ ap (λ (ys : List B). old ++ ys) (sym (filter_step f xs i r lt is ∙ ap (λ (o : Option B). filter_map f (take i xs) ++ cons_option o []) none ∙ append-nil (filter_map f (take i xs))))
+
+pub takes : {A B : Type 0} (f : A → Option B) (xs : List A) (i : ℕ) (r : A) (b : B) (old now new : List B) → i < length xs → r ≡ get_or xs i r → f r ≡ Some b → new ≡ now ++ b ∷ [] → now ≡ old ++ filter_map f (take i xs) → new ≡ old ++ filter_map f (take (i + 1) xs)
+takes {A} {B} f xs i r b old now new lt is some e h =
+    e ∙ ap (λ (ys : List B). ys ++ b ∷ []) h ∙ append_assoc old (filter_map f (take i xs)) (b ∷ [])
+    ∙ ap (λ (ys : List B). old ++ ys) (sym (filter_step f xs i r lt is ∙ ap (λ (o : Option B). filter_map f (take i xs) ++ cons_option o []) some))

@@ -1,7 +1,8 @@
 //! What can be wrong with a region: one table of the fault classes, with their fields, their order and their texts, and
 //! the names of a superblock's faults.
 
-ghost use Rattle.std.specs.Prelude.{◌≡◌};
+ghost use Rattle.std.specs.Prelude.{◌≡◌, ◌++◌, codes, decimal};
+ghost use Rattle.std.specs.Fmt.{WritesOnOk};
 
 use crate::order::{FaultKey, short_key};
 use crate::owners::Owner;
@@ -104,21 +105,21 @@ impl fmt::Display for Fault {
         match *self {
             Fault::J1 { cpu } => write!(f, "J1 cpu {cpu}"),
             Fault::J2 { cpu, record } => write!(f, "J2 cpu {cpu} record {record}"),
-            Fault::I1 { inode } => write!(f, "I1 inode {inode}"),
-            Fault::I2 { inode } => write!(f, "I2 inode {inode}"),
-            Fault::I3 { inode } => write!(f, "I3 inode {inode}"),
-            Fault::L1 { inode, at } => write!(f, "L1 inode {inode} at {at}"),
-            Fault::L2 { inode, at } => write!(f, "L2 inode {inode} at {at}"),
-            Fault::L3 { inode, at } => write!(f, "L3 inode {inode} at {at}"),
-            Fault::L4 { inode, at } => write!(f, "L4 inode {inode} at {at}"),
-            Fault::E1 { inode, at } => write!(f, "E1 inode {inode} at {at}"),
-            Fault::E2 { inode, at } => write!(f, "E2 inode {inode} at {at}"),
-            Fault::E3 { inode, at } => write!(f, "E3 inode {inode} at {at}"),
-            Fault::E4 { inode, at } => write!(f, "E4 inode {inode} at {at}"),
-            Fault::C1 { directory, at } => write!(f, "C1 inode {directory} at {at}"),
-            Fault::C2 { inode } => write!(f, "C2 inode {inode}"),
-            Fault::C3 { inode } => write!(f, "C3 inode {inode}"),
-            Fault::C4 { inode } => write!(f, "C4 inode {inode}"),
+            Fault::I1 { inode } => write_inode(f, "I1", inode),
+            Fault::I2 { inode } => write_inode(f, "I2", inode),
+            Fault::I3 { inode } => write_inode(f, "I3", inode),
+            Fault::L1 { inode, at } => write_place(f, "L1", inode, at),
+            Fault::L2 { inode, at } => write_place(f, "L2", inode, at),
+            Fault::L3 { inode, at } => write_place(f, "L3", inode, at),
+            Fault::L4 { inode, at } => write_place(f, "L4", inode, at),
+            Fault::E1 { inode, at } => write_place(f, "E1", inode, at),
+            Fault::E2 { inode, at } => write_place(f, "E2", inode, at),
+            Fault::E3 { inode, at } => write_place(f, "E3", inode, at),
+            Fault::E4 { inode, at } => write_place(f, "E4", inode, at),
+            Fault::C1 { directory, at } => write_place(f, "C1", directory, at),
+            Fault::C2 { inode } => write_inode(f, "C2", inode),
+            Fault::C3 { inode } => write_inode(f, "C3", inode),
+            Fault::C4 { inode } => write_inode(f, "C4", inode),
             Fault::C5 => f.write_str("C5"),
             Fault::B1 { block, owner } => write!(f, "B1 block {block} {owner}"),
         }
@@ -142,4 +143,23 @@ impl SuperFault {
             SuperFault::State => "S7",
         }
     }
+}
+
+// A class, and the inode that it is of.
+fn write_inode<W: fmt::Write>(f: &mut fmt::Formatter<W>, class: &str, inode: u64) -> fmt::Result
+    ensures { WritesOnOk W.write_str_gives f.old result (class.now ++ codes " inode " ++ decimal inode) f.new }
+{
+    write!(f, "{class} inode {inode}")
+}
+
+// A class, the inode that it is of, and where in its log.
+fn write_place<W: fmt::Write>(
+    f: &mut fmt::Formatter<W>,
+    class: &str,
+    inode: u64,
+    at: u64,
+) -> fmt::Result
+    ensures { WritesOnOk W.write_str_gives f.old result (class.now ++ codes " inode " ++ decimal inode ++ codes " at " ++ decimal at) f.new }
+{
+    write!(f, "{class} inode {inode} at {at}")
 }

@@ -16,7 +16,7 @@ pub(crate) enum Left {
 }
 
 /// What a recovery found.
-#[derive(Clone, Copy, Debug, PartialEq, Eq)]
+#[derive(Clone, Copy)]
 pub(crate) struct Counts {
     pub(crate) inodes: usize,
     pub(crate) free: u64,

@@ -20,7 +20,7 @@ use std::process::ExitCode;
 use std::thread::Threads;
 
 /// Which recovery.
-#[derive(Clone, Copy, Debug, PartialEq, Eq)]
+#[derive(Clone, Copy, Debug)]
 enum Way {
     OneThread,
     Schedule,
@@ -31,7 +31,7 @@ enum Way {
 const WAYS: [Way; 3] = [Way::OneThread, Way::Schedule, Way::TwoWorkers];
 
 /// How a recovery ended.
-#[derive(Clone, Copy, Debug, PartialEq, Eq)]
+#[derive(Clone, Copy)]
 enum Ending {
     /// With an outcome, and the journals are rolled back.
     Whole(Counts),
@@ -42,7 +42,7 @@ enum Ending {
 }
 
 /// Where memory was refused.
-#[derive(Clone, Copy, Debug, PartialEq, Eq)]
+#[derive(Clone, Copy, Debug)]
 enum Place {
     Before,
     Within(Way, Left),

@@ -1,8 +1,6 @@
-use Rattle.std.proofs.Common.{◌≡◌, arith, sym, ap, ◌∙◌}
-use Rattle.std.proofs.lemmas.Grind.{common_steps}
-use Rattle.std.proofs.lemmas.List.Elements.{filter_map-append}
+use Rattle.std.proofs.Common.{◌≡◌, sym, ap, ◌∙◌}
 use Rattle.nv_check.specs.Steps.{count_fault, count_fault_of}
-use Rattle.nv_check.proofs.Counting.{skips}
+use Rattle.nv_check.proofs.Counting.{skips, takes}
 use Rattle.nv_check.proofs.counts.push_counts.Goals as goal
 use Rattle.nv_check.proofs.counts.push_counts.Goals.{in-Some+in_ok-push, in_default}
 
@@ -12,6 +10,6 @@ loop-place-preserved c =
     let count = c.requires.each c.loop-place.place l c.loop-place-test.true (sym c.index-listings-place.is) in
     let is : c.fault_of.result ≡ count_fault c.args.listings.now l = c.fault_of.ensures ∙ ap (count_fault_of l.kind l.inode l.links) count in
     elim c.match-fault_of.branch [
-      | in-Some+in_ok-push w ↦ grind (arith, common_steps, filter_map-append, is)
+      | in-Some+in_ok-push w ↦ takes (count_fault c.args.listings.now) _ _ l _ _ _ _ c.loop-place-test.true c.index-listings-place.is (sym is ∙ w.in-Some.is) (ap (λ v. v.items) w.faults-is ∙ w.in_ok-push.ensures.items) c.loop-place.invariant
       | in_default w ↦ skips (count_fault c.args.listings.now) _ _ l _ _ _ c.loop-place-test.true c.index-listings-place.is (sym is ∙ w.in_default.is) (ap (λ v. v.items) w.faults-is) c.loop-place.invariant
     ]
