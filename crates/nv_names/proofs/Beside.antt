@@ -11,7 +11,7 @@ use Rattle.std.specs.Cmp.Lexicographic.{pointwise, nat_list_eq_equiv, texts_ties
 use Rattle.std.proofs.lemmas.Map.Keys.{IsDistinct-head, IsDistinct-tail, IsDistinct-cons, sorted_head, sorted_tail}
 use Rattle.std.proofs.lemmas.Map.Made.{IsDistinct-keys_filter}
 use Rattle.nv_names.specs.declared.target.Target.{Target}
-use Rattle.nv_names.specs.Names.{found_in, names_of, inode_and_place}
+use Rattle.nv_names.specs.Names.{found_in, names_of}
 use Rattle.nv_names.specs.Table.{tree_line, fresh_line, PutsAt, FindSame, AreBeside}
 use Rattle.nv_names.proofs.Entries.{by_bytes, found_in-append}
 use Rattle.nv_names.proofs.Listing.{each_found}

@@ -1,5 +1,5 @@
 -- What the calls of a table make of its tree and of the list beside it.
-use Rattle.std.proofs.Common.{◌≡◌, ℕ, cond, not, nat_eq, List, [], ◌∷◌, ◌++◌, map, Option, Some, None, Vec, refl, sym, ap, subst, ◌∙◌}
+use Rattle.std.proofs.Common.{◌≡◌, ℕ, cond, not, nat_eq, List, [], ◌∷◌, ◌++◌, map, Option, Some, None, Vec, sym, ap, subst, ◌∙◌}
 use Rattle.std.specs.declared.alloc.Global.{Global}
 use Rattle.std.specs.BTreeMap.{insert_entry}
 use Rattle.std.specs.List.{IsDistinct, filter}

@@ -1,5 +1,5 @@
 -- The names of an index: each once, and in order.
-use Rattle.std.proofs.Common.{Option, None, Box, ◌≡◌, ◌<◌, ◌≤◌, ◌+◌, ℕ, Bool, true, false, cond, nat_eq, List, [], ◌∷◌, ◌++◌, map, length, get_or, Some, IsSome, is_some, refl, sym, ap, subst, ◌∙◌, arith}
+use Rattle.std.proofs.Common.{Option, None, Box, ◌≡◌, ◌<◌, ◌+◌, ℕ, Bool, true, false, cond, nat_eq, List, [], ◌∷◌, map, length, get_or, Some, IsSome, is_some, refl, sym, ap, subst, ◌∙◌, arith}
 use Rattle.std.specs.List.{IsDistinct, AllByRecursion, Contains}
 use Rattle.std.specs.List.Sorted.{IsSorted, IsSortedByKey, IsStrictlySortedBy, IsPermutation}
 use Rattle.std.specs.Ordering.{nat_cmp, is_lt, is_eq, ordering_reverse}
@@ -7,11 +7,10 @@ use Rattle.std.specs.declared.cmp.Ordering.{Ordering}
 use Rattle.std.specs.declared.cmp.Ordering.TheVariants.{Less, Equal, Greater}
 use Rattle.std.specs.declared.alloc.Global.{Global}
 use Rattle.std.specs.Cmp.Lexicographic.{pointwise, slice_cmp, nat_list_eq_equiv, nat_list_cmp_total, texts_ties, bytes_decides}
-use Rattle.std.proofs.lemmas.List.{map-append, length-map, get_or-map}
+use Rattle.std.proofs.lemmas.List.{length-map, get_or-map}
 use Rattle.std.proofs.lemmas.List.Elements.{All-from_recursion, Contains-get_or, Contains-append_right}
 use Rattle.std.proofs.lemmas.List.Sorted.{IsPermutation-map, All-permutation, Contains-permutation}
-use Rattle.std.proofs.lemmas.Map.Keys.{IsDistinct-head, IsDistinct-tail, IsDistinct-cons, IsDistinct-IsPermutation, apart_from_distinct, sorted_from_all_adjacent}
-use Rattle.nv_names.specs.declared.target.Target.{Target}
+use Rattle.std.proofs.lemmas.Map.Keys.{IsDistinct-head, IsDistinct-tail, IsDistinct-IsPermutation, apart_from_distinct, sorted_from_all_adjacent}
 use Rattle.nv_names.specs.declared.named.Named.{Named}
 use Rattle.nv_names.specs.Names.{Names, found_in, names_of, EachOnce, ListsNames, line_of}
 use Rattle.nv_names.specs.Table.{names_held}

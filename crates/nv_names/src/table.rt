@@ -1,9 +1,8 @@
 //! The table of a name index that has, or had, a name: an ordered tree of names, and beside it a list of the few that
 //! were added since room was last made. Only `reserve`, `insert` and `unsorted` take memory.
 
-ghost use Rattle.std.specs.Prelude.{◌≡◌, ◌+◌, ◌<◌, ◌≤◌, ◌++◌, if◌then◌else◌, List, ℕ, length, map, IfOk, IsOk, OnOk, OnErr, Some, None, nat_eq};
+ghost use Rattle.std.specs.Prelude.{◌≡◌, ◌+◌, ◌<◌, ◌≤◌, ◌++◌, List, ℕ, length, map, IfOk, IsOk, OnOk, OnErr, Some, None};
 ghost use Rattle.std.specs.Option.{option_map};
-ghost use Rattle.std.specs.Cmp.Lexicographic.{pointwise};
 ghost use Rattle.nv_names.specs.Names.{IsName, name_at, EachOnce, inode_and_place, line_of};
 ghost use Rattle.nv_names.specs.Table.{PutsAt};
 
