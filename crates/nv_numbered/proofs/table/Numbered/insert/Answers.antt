@@ -1,5 +1,4 @@
-use Rattle.std.proofs.Common.{◌≡◌, ◌+◌, ◌<◌, None, length, get_or, arith}
-use Rattle.nv_numbered.specs.Table.{slots_of}
+use Rattle.std.proofs.Common.{◌≡◌, ◌+◌, ◌<◌, length, arith}
 use Rattle.nv_numbered.proofs.SlotLemmas.{slots_of-insert}
 use Rattle.nv_numbered.proofs.SoundLemmas.{length-slots_of, one_is_free, IsSound-insert}
 use Rattle.nv_numbered.proofs.table.Numbered.insert.Goals as goal

@@ -1,6 +1,4 @@
-use Rattle.std.proofs.Common.{◌≡◌, [], length, ap, refl, ◌∙◌, arith}
 use Rattle.nv_numbered.specs.Table.{slots_of}
-use Rattle.nv_numbered.specs.Values.{entries_from}
 use Rattle.nv_numbered.proofs.EntryLemmas.{is_empty-entries_from}
 use Rattle.nv_numbered.proofs.table.Numbered.is_empty.Goals as goal
 

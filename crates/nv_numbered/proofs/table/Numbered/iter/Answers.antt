@@ -1,4 +1,3 @@
-use Rattle.std.proofs.Common.{arith}
 use Rattle.nv_numbered.specs.Table.{slots_of}
 use Rattle.nv_numbered.proofs.EntryLemmas.{entries_from_rise, Contains-entries}
 use Rattle.nv_numbered.proofs.table.Numbered.iter.Goals as goal

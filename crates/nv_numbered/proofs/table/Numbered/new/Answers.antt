@@ -1,4 +1,3 @@
-use Rattle.std.proofs.Common.{[], replicate}
 use Rattle.nv_numbered.proofs.PairLemmas.{no_place}
 use Rattle.nv_numbered.proofs.SlotLemmas.{slot_at_none}
 use Rattle.nv_numbered.proofs.SoundLemmas.{IsSound-empty}
