@@ -1,6 +1,6 @@
 -- The pages of a file begin below its size.
 use Rattle.std.proofs.Common.{◌≡◌, ℕ, ◌+◌, ◌-◌, ◌*◌, ◌<◌, Bool, true, false, nat_le, cond, List, [], ◌∷◌, refl, sym, ◌∙◌, subst, arith, Option, Some, None, unwrap_or}
-use Rattle.std.specs.List.{Contains, filter_map, cons_option}
+use Rattle.std.specs.List.{Contains}
 use Rattle.std.proofs.lemmas.Bool.Decides.{nat_tests}
 use Rattle.nv_super.specs.declared.superblock.Super.{Super}
 use Rattle.nv_super.specs.declared.kind.Kind.{Kind}
@@ -12,9 +12,10 @@ use Rattle.nv_entry.specs.Content.{is_good, is_write_out_of_range}
 use Rattle.nv_logpage.specs.declared.found.Placed.{Placed}
 use Rattle.nv_logpage.specs.Good.{good_entries}
 use Rattle.nv_radix.specs.Pages.{in_run}
-use Rattle.nv_scan.specs.LastWord.{last_or, last_word}
+use Rattle.nv_scan.specs.LastWord.{last_word}
 use Rattle.nv_scan.specs.State.{cuts, block_in, size_in, says_size, says_block, size_of, block_of}
 use Rattle.nv_scan.proofs.Blocks.{in_range, good_is_good}
+use Rattle.nv_scan.proofs.Words.{last_word-cons}
 
 -- a page that is said to have a block begins below this size
 abbrev IsBelow : ℕ → Option ℕ → ℕ → Type 0
@@ -26,7 +27,8 @@ cut_below p size m = test (nat_le size (p * 4096)) refl where
   test true e b h = absurd (cc)
   test false e b h = grind (arith, nat_tests)
 
-write_below : (s : Super) (p : ℕ) (e : WriteEntry) → is_write_out_of_range s e ≡ false → in_run e.offset e.count p ≡ true → p * 4096 < e.size
+-- a write entry's pages begin below its size
+pub write_below : (s : Super) (p : ℕ) (e : WriteEntry) → is_write_out_of_range s e ≡ false → in_run e.offset e.count p ≡ true → p * 4096 < e.size
 write_below s p e good run =
     let some : 0 < e.count = grind (arith, nat_tests) in
     let last : (e.offset + e.count - 1) * 4096 < e.size = grind (arith, nat_tests) in
@@ -43,15 +45,12 @@ entry_below s k p NextPage m z good below = below
 entry_below s k p (Name e) m z good below = below
 entry_below s k p (Links e) m z good below = below
 
-last_step : {A V : Type 0} (says : A → Option V) (d : V) (x : A) (xs : List A) → last_word says d (x ∷ xs) ≡ last_word says (unwrap_or (says x) d) xs
-last_step {A} {V} says d x xs = elim (says x) as (λ (o : Option V). last_or d (cons_option o (filter_map says xs)) ≡ last_word says (unwrap_or o d) xs) [ None ↦ refl | Some u ↦ refl ]
-
 all_below : (s : Super) (k : Kind) (p : ℕ) (xs : List Placed) (m : Option ℕ) (z : ℕ) → ((x : Placed) → Contains xs x → is_good s k x.entry ≡ true) → IsBelow p m z → IsBelow p (last_word (says_block p) m xs) (last_word says_size z xs)
 all_below s k p [] m z good below = below
 all_below s k p (x ∷ xs) m z good below = λ b h.
     let rest = all_below s k p xs (unwrap_or (says_block p x) m) (unwrap_or (says_size x) z) (λ y c. good y (Contains-tail x xs y c)) (entry_below s k p x.entry m z (good x (Contains-head x xs)) below) in
-    let less = rest b (sym (last_step (says_block p) m x xs) ∙ h) in
-    subst (λ (n : ℕ). p * 4096 < n) (sym (last_step says_size z x xs)) less
+    let less = rest b (sym (last_word-cons (says_block p) m x xs) ∙ h) in
+    subst (λ (n : ℕ). p * 4096 < n) (sym (last_word-cons says_size z x xs)) less
 
 -- each page of a file that maps to a block begins below the file's size
 pub page_below : (s : Super) (k : Kind) (es : List Placed) (p b : ℕ) → block_of (good_entries s k es) p ≡ Some b → p * 4096 < size_of (good_entries s k es)
