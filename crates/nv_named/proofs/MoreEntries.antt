@@ -30,7 +30,8 @@ use Rattle.nv_named.proofs.GoodEntries.{good_name, good_links}
 
 -- ---- entries that say nothing
 
-quiet_entry : {V : Type 0} (says : Placed → Option V) (d : V) (s : Super) (k : Kind) (es : List Placed) (x : Placed) → says x ≡ None → last_word says d (good_entries s k (es ++ x ∷ [])) ≡ last_word says d (good_entries s k es)
+-- an entry that says nothing leaves the last word
+pub quiet_entry : {V : Type 0} (says : Placed → Option V) (d : V) (s : Super) (k : Kind) (es : List Placed) (x : Placed) → says x ≡ None → last_word says d (good_entries s k (es ++ x ∷ [])) ≡ last_word says d (good_entries s k es)
 quiet_entry {V} says d s k es x none =
     word-more says d s k es x (is_good s k x.entry) refl
     ∙ ap (λ (o : Option V). word_after (is_good s k x.entry) o (last_word says d (good_entries s k es))) none
@@ -39,7 +40,8 @@ quiet_entry {V} says d s k es x none =
       stays true = refl
       stays false = refl
 
-quiet_entries : {V : Type 0} (says : Placed → Option V) (d : V) (s : Super) (k : Kind) (es more : List Placed) → ((x : Placed) → Contains more x → says x ≡ None)
+-- so it is with several
+pub quiet_entries : {V : Type 0} (says : Placed → Option V) (d : V) (s : Super) (k : Kind) (es more : List Placed) → ((x : Placed) → Contains more x → says x ≡ None)
     → last_word says d (good_entries s k (es ++ more)) ≡ last_word says d (good_entries s k es)
 quiet_entries says d s k es [] none = ap (λ (xs : List Placed). last_word says d (good_entries s k xs)) (append-nil es)
 quiet_entries says d s k es (x ∷ more) none =
@@ -54,7 +56,8 @@ abbrev pub target : Operation → ℕ → Option ℕ
 target Add i = Some i
 target Remove i = None
 
-name_more : (s : Super) (es : List Placed) (at : ℕ) (operation : Operation) (i : ℕ) (name : List ℕ) (time : ℕ) → IsGoodName s i name → (q : List ℕ)
+-- what one name entry more makes of the names
+pub name_more : (s : Super) (es : List Placed) (at : ℕ) (operation : Operation) (i : ℕ) (name : List ℕ) (time : ℕ) → IsGoodName s i name → (q : List ℕ)
     → names_by (good_entries s Directory (es ++ name_entry at operation i name time ∷ [])) q ≡ cond (pointwise nat_eq q name) (target operation i) (names_by (good_entries s Directory es) q)
 name_more s es at operation i name time good q =
     ap (option_map inode_of) (word-more (says_name q) None s Directory es (name_entry at operation i name time) true (good_name s at operation i name time good))
@@ -66,7 +69,7 @@ name_more s es at operation i name time good q =
       said false operation = refl
 
 -- it says nothing of links
-links_kept : (s : Super) (k : Kind) (es : List Placed) (at : ℕ) (operation : Operation) (i : ℕ) (name : List ℕ) (time : ℕ) → links_of (good_entries s k (es ++ name_entry at operation i name time ∷ [])) ≡ links_of (good_entries s k es)
+pub links_kept : (s : Super) (k : Kind) (es : List Placed) (at : ℕ) (operation : Operation) (i : ℕ) (name : List ℕ) (time : ℕ) → links_of (good_entries s k (es ++ name_entry at operation i name time ∷ [])) ≡ links_of (good_entries s k es)
 links_kept s k es at operation i name time = quiet_entry says_links 1 s k es (name_entry at operation i name time) refl
 
 module _ {R S : Region} {l : Layout} {d : ℕ} {o : Option Node} {names : List ℕ → Option ℕ} (s : ShowsAt R l d o names) where

@@ -1,0 +1,66 @@
+-- What stores leave of the bytes of files.
+use Rattle.std.proofs.Common.{◌≡◌, ◌≢◌, ℕ, ◌+◌, ◌*◌, ◌/◌, ◌%◌, ◌^◌, ◌<◌, ◌≤◌, inl, inr, refl, ap, sym, ◌∙◌, subst, arith, Option, Some, None}
+use Rattle.std.proofs.lemmas.Bool.{cases_lt}
+use Rattle.nv_region.specs.Region.{Region, word}
+use Rattle.nv_region.specs.Stops.{IsMixed}
+use Rattle.nv_region.specs.Stored.{SameOutside}
+use Rattle.nv_region.proofs.Wordwise.{mixed_word}
+use Rattle.nv_super.specs.declared.owners.Owner.TheVariants as owners
+use Rattle.nv_super.specs.Layout.{Layout, slot_of}
+use Rattle.nv_scan.specs.State.{block_of}
+use Rattle.nv_scan.proofs.Blocks.{data_pages}
+use Rattle.nv_held.specs.Held.{Held, Store, Shows, good_in}
+use Rattle.nv_held.specs.Blocks.{by_page, NoneDoubled}
+use Rattle.nv_held.specs.Slots.{SlotsClear}
+use Rattle.nv_held.specs.Loose.{Loose}
+use Rattle.nv_held.specs.Front.{SameBehind}
+use Rattle.nv_held.specs.Bytes.{byte_in, byte_of}
+use Rattle.nv_held.proofs.Shown.{stands_at}
+use Rattle.nv_held.proofs.Kept.{page_owner, tail_there}
+
+-- a byte is read from one word of its page's block
+same_byte : (R S : Region) (o : Option ℕ) (x : ℕ) → ((b : ℕ) → o ≡ Some b → word S (b * 4096 + x % 4096 / 8 * 8) ≡ word R (b * 4096 + x % 4096 / 8 * 8)) → byte_in S o x ≡ byte_in R o x
+same_byte R S None x same = refl
+same_byte R S (Some b) x same = ap (λ (w : ℕ). w / 256 ^ (x % 8) % 256) (same b refl)
+
+-- Loose words are no file's.
+pub loose_data : (l : Layout) (held : Store) (R left : Region) (i : ℕ) (h : Held) → SlotsClear l held → NoneDoubled l held → Shows R l held → IsMixed R (Loose l held) left → held i ≡ Some h → (x : ℕ) → byte_of left l h x ≡ byte_of R l h x
+loose_data l held R left i h slots undoubled shows mixed is x = same_byte R left (block_of (good_in l h) (x / 4096)) x of_block where
+  of_block : (b : ℕ) → block_of (good_in l h) (x / 4096) ≡ Some b → word left (b * 4096 + x % 4096 / 8 * 8) ≡ word R (b * 4096 + x % 4096 / 8 * 8)
+  of_block b maps = mixed_word R left (Loose l held) (b * 4096 + x % 4096 / 8 * 8) (omega arith) mixed away where
+    here : 8 * ((b * 4096 + x % 4096 / 8 * 8) / 8) ≡ b * 4096 + x % 4096 / 8 * 8
+    here = omega arith
+
+    block : 8 * ((b * 4096 + x % 4096 / 8 * 8) / 8) / 4096 ≡ b
+    block = omega arith
+
+    away : (v : ℕ) → Loose l held ((b * 4096 + x % 4096 / 8 * 8) / 8) v → ⊥
+    away v (inl free) = free.unowned (owners.Data i (x / 4096)) (by_page is (maps ∙ ap Some (sym block)))
+    away v (inr (inl w)) =
+        let at = stands_at shows w.0 w.1 w.2 in
+        let page : w.1.tail / 4096 ≡ b = sym w.3 ∙ block in
+        let o = page_owner l held w.0 (w.1.tail / 4096) w.1 w.2 (tail_there at.is.right at.is.reads) in
+        let clash : owners.Log w.0 o.0 ≡ owners.Data i (x / 4096) = undoubled (w.1.tail / 4096) (owners.Log w.0 o.0) (owners.Data i (x / 4096)) o.1 (by_page is (maps ∙ ap Some (sym page))) in
+        cc
+    away v (inr (inr w)) =
+        let same : w.1 / 4096 ≡ b = omega (arith, block, w.4, w.5, slots.whole w.0 w.1 w.2) in
+        slots.unmapped i (x / 4096) b h is maps w.0 w.1 w.2 same
+
+-- No slot is.
+pub slot_data : (l : Layout) (held : Store) (R S : Region) (j a i : ℕ) (h : Held) → SlotsClear l held → slot_of l j ≡ Some a → SameOutside R a 128 S → held i ≡ Some h → (x : ℕ) → byte_of S l h x ≡ byte_of R l h x
+slot_data l held R S j a i h slots at same is x = same_byte R S (block_of (good_in l h) (x / 4096)) x of_block where
+  of_block : (b : ℕ) → block_of (good_in l h) (x / 4096) ≡ Some b → word S (b * 4096 + x % 4096 / 8 * 8) ≡ word R (b * 4096 + x % 4096 / 8 * 8)
+  of_block b maps =
+      let other : a / 4096 ≢ b = slots.unmapped i (x / 4096) b h is maps j a at in
+      elim (cases_lt (b * 4096 + x % 4096 / 8 * 8) a) [
+        | inl low ↦ same.before (b * 4096 + x % 4096 / 8 * 8) (omega arith) low
+        | inr high ↦ same.behind (b * 4096 + x % 4096 / 8 * 8) (omega arith) (omega (arith, high, other, slots.whole j a at))
+      ]
+
+-- Files lie behind the journals.
+pub data_behind : (l : Layout) (R S : Region) (h : Held) → SameBehind l.sup.cpus R S → (x : ℕ) → byte_of S l h x ≡ byte_of R l h x
+data_behind l R S h same x = same_byte R S (block_of (good_in l h) (x / 4096)) x of_block where
+  of_block : (b : ℕ) → block_of (good_in l h) (x / 4096) ≡ Some b → word S (b * 4096 + x % 4096 / 8 * 8) ≡ word R (b * 4096 + x % 4096 / 8 * 8)
+  of_block b maps =
+      let from = (data_pages l.sup h.kind h.entries (x / 4096) b maps).1 in
+      same (b * 4096 + x % 4096 / 8 * 8) (omega arith) (omega (arith, from))

@@ -1,0 +1,61 @@
+-- Who owns what after one inode changed.
+use Rattle.std.proofs.Common.{◌≡◌, ◌≢◌, ℕ, inl, inr, refl, ap, sym, ◌∙◌, Option, None}
+use Rattle.std.proofs.lemmas.Bool.{cases_eq}
+use Rattle.std.proofs.lemmas.Bool.Decides.{eqb_tells}
+use Rattle.nv_super.specs.Layout.{Layout}
+use Rattle.nv_super.specs.declared.owners.Owner.{Owner}
+use Rattle.nv_scan.specs.Owners.{inode_of}
+use Rattle.nv_held.specs.Held.{Held, Store, with_inode}
+use Rattle.nv_held.specs.Blocks.{OwnsIn, by_log, by_page, IsFreeIn, NoneDoubled}
+use Rattle.nv_held.specs.Loose.{OwnsNew}
+
+pub other_held : (held : Store) (i j : ℕ) (o : Option Held) → j ≢ i → with_inode held i o j ≡ held j
+other_held held i j o n = elim (eqb_tells j i) [ inl w ↦ absurd (n w.1) | inr w ↦ rw w.0 refl ]
+
+pub same_held : (held : Store) (i : ℕ) (o : Option Held) → with_inode held i o i ≡ o
+same_held held i o = elim (eqb_tells i i) [ inl w ↦ rw w.0 refl | inr w ↦ absurd (w.1 refl) ]
+
+module _ (l : Layout) (held : Store) (i : ℕ) (new : Option Held) where
+  -- owners of other inodes are as before
+  pub owned_before : (b : ℕ) (o : Owner) → OwnsIn l (with_inode held i new) b o → inode_of o ≢ i → OwnsIn l held b o
+  owned_before b o (by_log {i = j} is page) n = by_log (sym (other_held held i j new n) ∙ is) page
+  owned_before b o (by_page {i = j} is maps) n = by_page (sym (other_held held i j new n) ∙ is) maps
+
+  pub owned_after : (b : ℕ) (o : Owner) → OwnsIn l held b o → inode_of o ≢ i → OwnsIn l (with_inode held i new) b o
+  owned_after b o (by_log {i = j} is page) n = by_log (other_held held i j new n ∙ is) page
+  owned_after b o (by_page {i = j} is maps) n = by_page (other_held held i j new n ∙ is) maps
+
+  -- what is free and isn't owned by the changed inode now is free
+  pub free_still : (b : ℕ) → IsFreeIn l held b → ((o : Owner) → OwnsIn l (with_inode held i new) b o → inode_of o ≡ i → ⊥) → IsFreeIn l (with_inode held i new) b
+  free_still b free none = record { from = free.from; below = free.below; unowned = λ o owns. elim (cases_eq (inode_of o) i) [ inl mine ↦ none o owns mine | inr n ↦ free.unowned o (owned_before b o owns n) ] }
+
+  -- what is free now was free, or was owned by the changed inode
+  pub free_before : (b : ℕ) → IsFreeIn l (with_inode held i new) b → ((o : Owner) → OwnsIn l held b o → inode_of o ≡ i → ⊥) → IsFreeIn l held b
+  free_before b free none = record { from = free.from; below = free.below; unowned = λ o owns. elim (cases_eq (inode_of o) i) [ inl mine ↦ none o owns mine | inr n ↦ free.unowned o (owned_after b o owns n) ] }
+
+  -- what the changed inode has let go is free
+  pub let_go : NoneDoubled l held → (b : ℕ) (o : Owner) → OwnsIn l held b o → inode_of o ≡ i → IsFreeIn l (λ _. None) b → ((mine : Owner) → OwnsIn l (with_inode held i new) b mine → inode_of mine ≡ i → ⊥) → IsFreeIn l (with_inode held i new) b
+  let_go undoubled b o owns mine inside none = record {
+    from = inside.from;
+    below = inside.below;
+    unowned = λ other owns'. elim (cases_eq (inode_of other) i) [ inl m ↦ none other owns' m | inr n ↦ n (sym (ap inode_of (undoubled b o other owns (owned_before b other owns' n))) ∙ mine) ];
+  }
+
+  module _ (own : OwnsNew l held i new) (undoubled : NoneDoubled l held) where
+    not_both : (b : ℕ) (o other : Owner) → OwnsIn l (with_inode held i new) b o → inode_of o ≡ i → OwnsIn l held b other → inode_of other ≢ i → ⊥
+    not_both b o other owns mine theirs n = elim (own.each b o owns mine) [
+      | inl w ↦ n (sym (ap inode_of (undoubled b w.0 other w.1 theirs)) ∙ w.2)
+      | inr free ↦ free.unowned other theirs
+    ]
+
+    pub still_undoubled : NoneDoubled l (with_inode held i new)
+    still_undoubled b o other owns owns' = elim (cases_eq (inode_of o) i) [
+      | inl mine ↦ elim (cases_eq (inode_of other) i) [
+        | inl mine' ↦ own.once b o other owns owns' mine mine'
+        | inr n' ↦ absurd (not_both b o other owns mine (owned_before b other owns' n') n')
+      ]
+      | inr n ↦ elim (cases_eq (inode_of other) i) [
+        | inl mine' ↦ absurd (not_both b other o owns' mine' (owned_before b o owns n) n)
+        | inr n' ↦ undoubled b o other (owned_before b o owns n) (owned_before b other owns' n')
+      ]
+    ]

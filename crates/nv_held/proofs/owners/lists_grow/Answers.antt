@@ -1,0 +1,5 @@
+use Rattle.nv_held.proofs.ListsKept as made
+use Rattle.nv_held.proofs.owners.lists_grow.Goals as goal
+
+pub returns : goal.returns
+returns c = made.lists_grow

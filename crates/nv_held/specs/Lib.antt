@@ -1,0 +1,12 @@
+pub mod Held
+pub mod Blocks
+pub mod Slots
+pub mod Graph
+pub mod Mounted
+pub mod Loose
+pub mod Front
+pub mod Grows
+pub mod Lists
+pub mod Writes
+pub mod Bytes
+pub mod Appended

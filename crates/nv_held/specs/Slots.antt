@@ -1,0 +1,29 @@
+-- Where slots stand beside what is held.
+use Rattle.std.specs.Prelude.{◌≡◌, ◌≢◌, ◌⊎◌, ℕ, ◌+◌, ◌*◌, ◌/◌, ◌%◌, ◌≤◌, List, Some}
+use Rattle.std.specs.List.{Contains}
+use Rattle.nv_super.specs.Layout.{Layout, slot_of}
+use Rattle.nv_scan.specs.State.{block_of}
+use Rattle.nv_held.specs.Held.{Held, Store, good_in}
+use Rattle.nv_held.specs.Blocks.{IsFreeIn}
+
+-- no slot stands in the block
+abbrev pub HasNoSlot : Layout → ℕ → Type 0
+HasNoSlot l b = (i a : ℕ) → slot_of l i ≡ Some a → a / 4096 ≢ b
+
+-- no slot stands in one of these blocks
+abbrev pub HaveNoSlots : Layout → List ℕ → Type 0
+HaveNoSlots l blocks = (b : ℕ) → Contains blocks b → HasNoSlot l b
+
+-- Slots are whole, stand behind the journals, and no two overlap.
+pub record SlotsStand (l : Layout) : Type 0 where
+  pub whole : (i a : ℕ) → slot_of l i ≡ Some a → a % 128 ≡ 0
+  pub behind : (i a : ℕ) → slot_of l i ≡ Some a → (1 + l.sup.cpus) * 4096 ≤ a
+  pub apart : (i j a b : ℕ) → slot_of l i ≡ Some a → slot_of l j ≡ Some b → i ≢ j → (a + 128 ≤ b) ⊎ (b + 128 ≤ a)
+
+-- And no free block, no page of a log and no block of a file holds one.
+pub record SlotsClear (l : Layout) (held : Store) : Type 0 where
+  pub stand : SlotsStand l
+  pub open stand use *
+  pub unfree : (b : ℕ) → IsFreeIn l held b → HasNoSlot l b
+  pub unpaged : (i : ℕ) (h : Held) → held i ≡ Some h → HaveNoSlots l h.pages
+  pub unmapped : (i p b : ℕ) (h : Held) → held i ≡ Some h → block_of (good_in l h) p ≡ Some b → HasNoSlot l b
