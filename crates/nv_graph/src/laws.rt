@@ -1,16 +1,22 @@
 //! Where no fault stands between inodes, no call makes one.
 
-ghost use Rattle.std.specs.Prelude.{◌≡◌, ℕ, ◌<◌, ◌≤◌, List, Some, None};
+ghost use Rattle.std.specs.Prelude.{◌≡◌, ℕ, ◌<◌, ◌≤◌, List, Option, Some, None};
 ghost use Rattle.std.specs.List.{Contains};
 ghost use Rattle.nv_super.specs.declared.kind.Kind.{Kind};
 ghost use Rattle.nv_super.specs.declared.kind.Kind.TheVariants.{File, Directory};
 ghost use Rattle.nv_graph.specs.Graph.{Node, Graph, IsOfKind, IsReachedPast, NoCrossFaults, walked, passed};
-ghost use Rattle.nv_graph.specs.Calls.{made, linked, unlinked, removed, renamed, SameGraph, root_alone};
+ghost use Rattle.nv_graph.specs.Calls.{made, linked, unlinked, removed, renamed, with_name, with_node, SameGraph, root_alone};
 
 /// A root without names has no faults, and graphs that show the same have the same faults.
 pub fn root_has_none()
     ensures root { NoCrossFaults root_alone }
     ensures same { (g h : Graph) → SameGraph g h → NoCrossFaults g → NoCrossFaults h }
+{}
+
+/// Graphs that show the same do so after one change more.
+pub fn changes_follow()
+    ensures name { (f g h : Graph) (d : ℕ) (name : List ℕ) (o : Option ℕ) → SameGraph f g → SameGraph (with_name g d name o) h → SameGraph (with_name f d name o) h }
+    ensures node { (f g h : Graph) (i : ℕ) (o : Option Node) → SameGraph f g → SameGraph (with_node g i o) h → SameGraph (with_node f i o) h }
 {}
 
 /// `create` and `mkdir` make no fault: a directory gets a new name for a number that isn't in use.

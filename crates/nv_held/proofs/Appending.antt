@@ -1,11 +1,11 @@
 -- Entries written behind the tail of an inode's log.
-use Rattle.std.proofs.Common.{◌≡◌, ◌≢◌, ℕ, zero, suc, ◌+◌, ◌*◌, ◌/◌, ◌%◌, ◌<◌, ◌≤◌, inl, inr, IsTrue, true, List, [], ◌∷◌, ◌++◌, length, get_or, take, sym, subst, arith, Some}
+use Rattle.std.proofs.Common.{◌≡◌, ℕ, zero, suc, ◌+◌, ◌*◌, ◌/◌, ◌%◌, ◌<◌, ◌≤◌, inl, inr, IsTrue, true, List, [], ◌∷◌, ◌++◌, length, get_or, take, sym, subst, arith, Some}
 use Rattle.std.specs.List.{Contains}
 use Rattle.std.proofs.lemmas.Bool.Decides.{nat_tests}
 use Rattle.std.proofs.lemmas.List.{get_or_default}
 use Rattle.std.proofs.lemmas.List.Elements.{Contains-append_cases}
 use Rattle.nv_region.specs.Region.{Region, size}
-use Rattle.nv_region.specs.Stops.{Choices, IsMixed}
+use Rattle.nv_region.specs.Stops.{IsMixed}
 use Rattle.nv_region.specs.Stored.{Stored}
 use Rattle.nv_super.specs.declared.superblock.Super.{Super}
 use Rattle.nv_super.specs.declared.owners.Owner.TheVariants as owners
@@ -19,7 +19,7 @@ use Rattle.nv_logpage.proofs.RightLogs.{head_starts, tail_whole, tail_low}
 use Rattle.nv_outcome.proofs.SuperOf.{blocks_of_super}
 use Rattle.nv_held.specs.Held.{Held, Store, Shows, with_inode}
 use Rattle.nv_held.specs.Blocks.{IsFreeIn, NoneDoubled}
-use Rattle.nv_held.specs.Slots.{HaveNoSlots, SlotsClear}
+use Rattle.nv_held.specs.Slots.{SlotsClear}
 use Rattle.nv_held.specs.Loose.{Loose}
 use Rattle.nv_held.specs.Grows.{grown, AreFree}
 use Rattle.nv_held.specs.Mounted.{ShowsSound}

@@ -1,15 +1,14 @@
 -- In the fixed layout no slot stands in a data block.
-use Rattle.std.proofs.Common.{◌≡◌, ◌≢◌, ℕ, ◌+◌, ◌*◌, ◌/◌, ◌%◌, ◌≤◌, true, List, arith, Some, None}
-use Rattle.std.specs.List.{Contains}
+use Rattle.std.proofs.Common.{◌≡◌, ℕ, ◌≤◌, true, List, arith, None}
 use Rattle.nv_region.specs.Region.{Region}
 use Rattle.nv_super.specs.declared.superblock.Super.{Super}
-use Rattle.nv_super.specs.Layout.{IsLayout, SlotsApart, fixed_layout, slot_of, system_blocks}
+use Rattle.nv_super.specs.Layout.{IsLayout, SlotsApart, fixed_layout, system_blocks}
 use Rattle.nv_super.proofs.Slots.{slots_apart}
 use Rattle.nv_inode.specs.Slot.{is_right_log}
 use Rattle.nv_logpage.specs.declared.found.Placed.{Placed}
 use Rattle.nv_logpage.specs.Reads.{Reads}
 use Rattle.nv_scan.proofs.Blocks.{data_pages}
-use Rattle.nv_held.specs.Held.{Held, Store, Shows}
+use Rattle.nv_held.specs.Held.{Store, Shows}
 use Rattle.nv_held.specs.Slots.{HasNoSlot, HaveNoSlots, SlotsClear}
 use Rattle.nv_held.proofs.Shown.{stands_at}
 use Rattle.nv_held.proofs.Kept.{pages_data}

@@ -12,7 +12,7 @@ use Rattle.nv_graph.proofs.Root.{same_faultless}
 use Rattle.nv_held.specs.Held.{Held, Store, with_inode}
 use Rattle.nv_held.specs.Graph.{graph_in}
 use Rattle.nv_held.specs.Mounted.{AreClean, IsFaultless}
-use Rattle.nv_held.specs.Loose.{OwnsNew}
+use Rattle.nv_held.specs.Blocks.{OwnsNew}
 use Rattle.nv_held.specs.Grows.{NoEntryFault, FitsBehind, SameNames}
 use Rattle.nv_held.proofs.Owning.{other_held, same_held, still_undoubled}
 use Rattle.nv_held.proofs.Graphs.{touched}

@@ -1,6 +1,6 @@
 -- Regions with the same superblock and the same journals, and those with the same words behind them.
-use Rattle.std.proofs.Common.{◌≡◌, ℕ, ◌+◌, ◌*◌, ◌/◌, ◌%◌, ◌<◌, ◌≤◌, ◌&&◌, nat_lt, true, inl, inr, length, refl, sym, ◌∙◌, arith, Option, Some, None}
-use Rattle.nv_region.specs.Region.{Region, word, size}
+use Rattle.std.proofs.Common.{◌≡◌, ℕ, ◌+◌, ◌*◌, ◌/◌, ◌%◌, ◌≤◌, ◌&&◌, nat_lt, inl, inr, length, refl, sym, ◌∙◌, arith, Option, Some, None}
+use Rattle.nv_region.specs.Region.{Region, word}
 use Rattle.nv_region.specs.Stops.{IsMixed}
 use Rattle.nv_region.specs.Stored.{SameOutside}
 use Rattle.nv_region.proofs.Wordwise.{mixed_word}

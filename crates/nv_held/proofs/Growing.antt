@@ -15,8 +15,7 @@ use Rattle.nv_scan.specs.Owners.{inode_of}
 use Rattle.nv_scan.proofs.Blocks.{data_pages}
 use Rattle.nv_outcome.proofs.Finite.{Decided, number_is, numbers, those, some, told_as}
 use Rattle.nv_held.specs.Held.{Held, Store, with_inode, good_in}
-use Rattle.nv_held.specs.Blocks.{OwnsIn, by_log, by_page, IsFreeIn, NoneDoubled}
-use Rattle.nv_held.specs.Loose.{OwnsNew}
+use Rattle.nv_held.specs.Blocks.{OwnsIn, by_log, by_page, IsFreeIn, NoneDoubled, OwnsNew}
 use Rattle.nv_held.specs.Grows.{AreFree, SameFile, Maps, LetsGo, GrowsByData}
 use Rattle.nv_held.proofs.Owning.{same_held, owned_before, owned_after}
 use Rattle.nv_held.proofs.Kept.{page_owner}

@@ -6,8 +6,7 @@ use Rattle.nv_super.specs.Layout.{Layout}
 use Rattle.nv_super.specs.declared.owners.Owner.{Owner}
 use Rattle.nv_scan.specs.Owners.{inode_of}
 use Rattle.nv_held.specs.Held.{Held, Store, with_inode}
-use Rattle.nv_held.specs.Blocks.{OwnsIn, by_log, by_page, IsFreeIn, NoneDoubled}
-use Rattle.nv_held.specs.Loose.{OwnsNew}
+use Rattle.nv_held.specs.Blocks.{OwnsIn, by_log, by_page, IsFreeIn, NoneDoubled, OwnsNew}
 
 pub other_held : (held : Store) (i j : ℕ) (o : Option Held) → j ≢ i → with_inode held i o j ≡ held j
 other_held held i j o n = elim (eqb_tells j i) [ inl w ↦ absurd (n w.1) | inr w ↦ rw w.0 refl ]

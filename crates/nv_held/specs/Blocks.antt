@@ -1,5 +1,5 @@
 -- The owners of blocks and the free blocks, by what is held.
-use Rattle.std.specs.Prelude.{◌≡◌, ℕ, ◌<◌, ◌≤◌, List, length, Some, slice_get}
+use Rattle.std.specs.Prelude.{◌≡◌, ◌⊎◌, ℕ, ◌<◌, ◌≤◌, List, length, Option, Some, slice_get}
 use Rattle.nv_super.specs.declared.owners.Owner.{Owner}
 use Rattle.nv_super.specs.declared.owners.Owner.TheVariants as owners
 use Rattle.nv_super.specs.declared.owners.Run.{Run}
@@ -7,7 +7,8 @@ use Rattle.nv_super.specs.Layout.{Layout, system_blocks, InPool}
 use Rattle.nv_super.specs.Runs.{AreRuns}
 use Rattle.nv_alloc.specs.Taking.{pool_at}
 use Rattle.nv_scan.specs.State.{block_of}
-use Rattle.nv_held.specs.Held.{Held, Store, good_in}
+use Rattle.nv_scan.specs.Owners.{inode_of}
+use Rattle.nv_held.specs.Held.{Held, Store, good_in, with_inode}
 
 -- the owner has this block
 pub data OwnsIn (l : Layout) (held : Store) : ℕ → Owner → Type 0 where
@@ -23,6 +24,11 @@ pub record IsFreeIn (l : Layout) (held : Store) (b : ℕ) : Type 0 where
 -- no block has two owners
 abbrev pub NoneDoubled : Layout → Store → Type 0
 NoneDoubled l held = (b : ℕ) (o other : Owner) → OwnsIn l held b o → OwnsIn l held b other → o ≡ other
+
+-- With this in its place, each block that the inode owns was its own or free, and it owns none twice.
+pub record OwnsNew (l : Layout) (held : Store) (i : ℕ) (new : Option Held) : Type 0 where
+  pub each : (b : ℕ) (o : Owner) → OwnsIn l (with_inode held i new) b o → inode_of o ≡ i → ((before : Owner) × OwnsIn l held b before × (inode_of before ≡ i)) ⊎ IsFreeIn l held b
+  pub once : (b : ℕ) (o other : Owner) → OwnsIn l (with_inode held i new) b o → OwnsIn l (with_inode held i new) b other → inode_of o ≡ i → inode_of other ≡ i → o ≡ other
 
 -- For each pool the rising runs, none touching another, of its blocks of which P holds.
 pub record ArePoolRuns (l : Layout) (P : ℕ → Type 0) (free : List (List Run)) : Type 0 where

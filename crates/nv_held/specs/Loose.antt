@@ -1,15 +1,13 @@
 -- The words that nothing shown is read from, and slots that are ready but for their valid word.
-use Rattle.std.specs.Prelude.{◌≡◌, ◌⊎◌, ℕ, ◌+◌, ◌*◌, ◌/◌, ◌<◌, ◌≤◌, true, Option, Some, None}
-use Rattle.nv_super.specs.declared.owners.Owner.{Owner}
-use Rattle.nv_scan.specs.Owners.{inode_of}
+use Rattle.std.specs.Prelude.{◌≡◌, ◌⊎◌, ℕ, ◌+◌, ◌*◌, ◌/◌, ◌<◌, ◌≤◌, true, Some, None}
 use Rattle.nv_region.specs.Region.{Region, word}
 use Rattle.nv_region.specs.Stops.{Choices}
 use Rattle.nv_super.specs.Kind.{kind_number}
 use Rattle.nv_super.specs.Layout.{Layout, slot_of}
 use Rattle.nv_inode.specs.Slot.{is_right_log}
 use Rattle.nv_logpage.specs.Reads.{Reads}
-use Rattle.nv_held.specs.Held.{Held, Store, with_inode}
-use Rattle.nv_held.specs.Blocks.{OwnsIn, IsFreeIn}
+use Rattle.nv_held.specs.Held.{Held, Store}
+use Rattle.nv_held.specs.Blocks.{IsFreeIn}
 
 -- the word stands behind the tail of a log, in the tail's page
 abbrev pub IsBehindTail : Layout → Store → ℕ → Type 0
@@ -31,8 +29,3 @@ pub record IsReady (R : Region) (l : Layout) (a : ℕ) (h : Held) : Type 0 where
   pub created : word R (a + 32) ≡ h.created
   pub right : is_right_log l.sup h.head h.tail ≡ true
   pub reads : Reads R l.sup h.head h.tail h.entries h.pages None
-
--- With this in its place, each block that the inode owns was its own or free, and it owns none twice.
-pub record OwnsNew (l : Layout) (held : Store) (i : ℕ) (new : Option Held) : Type 0 where
-  pub each : (b : ℕ) (o : Owner) → OwnsIn l (with_inode held i new) b o → inode_of o ≡ i → ((before : Owner) × OwnsIn l held b before × (inode_of before ≡ i)) ⊎ IsFreeIn l held b
-  pub once : (b : ℕ) (o other : Owner) → OwnsIn l (with_inode held i new) b o → OwnsIn l (with_inode held i new) b other → inode_of o ≡ i → inode_of other ≡ i → o ≡ other

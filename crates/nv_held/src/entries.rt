@@ -7,7 +7,7 @@ ghost use Rattle.nv_super.specs.Layout.{Layout};
 ghost use Rattle.nv_logpage.specs.declared.found.Placed.{Placed};
 ghost use Rattle.nv_held.specs.Held.{Held, Store, with_inode};
 ghost use Rattle.nv_held.specs.Mounted.{AreClean, IsFaultless};
-ghost use Rattle.nv_held.specs.Loose.{OwnsNew};
+ghost use Rattle.nv_held.specs.Blocks.{OwnsNew};
 ghost use Rattle.nv_held.specs.Grows.{FitsBehind, NoEntryFault, SameNames};
 
 /// An entry that fits behind others brings no fault.

@@ -8,8 +8,7 @@ ghost use Rattle.nv_alloc.specs.FreeValue.{FreeLists};
 ghost use Rattle.nv_alloc.specs.FreeLists.{IsSound, JoinAll, Leave};
 ghost use Rattle.nv_alloc.specs.Taking.{HasBlock};
 ghost use Rattle.nv_held.specs.Held.{Held, Store, with_inode};
-ghost use Rattle.nv_held.specs.Blocks.{IsFreeIn, KeepsFree, NoneDoubled};
-ghost use Rattle.nv_held.specs.Loose.{OwnsNew};
+ghost use Rattle.nv_held.specs.Blocks.{IsFreeIn, KeepsFree, NoneDoubled, OwnsNew};
 ghost use Rattle.nv_held.specs.Lists.{TakeAll, WasTaken};
 ghost use Rattle.nv_held.specs.Grows.{AreFree, GrowsByData, LetsGo, Maps, SameFile};
 
