@@ -26,15 +26,15 @@ pub record IsUnplaced (old new : List ℕ) (n m j : ℕ) : Type 0 where
   pub taken : (number : ℕ) → number ≢ n → number ≡ m → get_or new number 0 ≡ j + 1
   pub kept : (number : ℕ) → number ≢ n → number ≢ m → get_or new number 0 ≡ get_or old number 0
 
-pub IsUnplaced-set : (places : List ℕ) (n m j : ℕ) → n < length places → m < length places → IsUnplaced places (set (set places m (j + 1)) n 0) n m j
-IsUnplaced-set places n m j n_inside m_inside =
+pub IsUnplaced-set : (places : List ℕ) (n m j place : ℕ) → place ≡ j + 1 → n < length places → m < length places → IsUnplaced places (set (set places m place) n 0) n m j
+IsUnplaced-set places n m j place is n_inside m_inside =
     record {
-      as_long = length-set (set places m (j + 1)) n 0 ∙ length-set places m (j + 1);
-      gone = get_or-set_at (set places m (j + 1)) n n 0 0 refl (omega (arith, length-set places m (j + 1)));
+      as_long = length-set (set places m place) n 0 ∙ length-set places m place;
+      gone = get_or-set_at (set places m place) n n 0 0 refl (omega (arith, length-set places m place));
       taken = λ number not_n same.
-          get_or-set_other (set places m (j + 1)) n number 0 0 not_n ∙ get_or-set_at places m number (j + 1) 0 same m_inside;
+          get_or-set_other (set places m place) n number 0 0 not_n ∙ get_or-set_at places m number place 0 same m_inside ∙ is;
       kept = λ number not_n not_m.
-          get_or-set_other (set places m (j + 1)) n number 0 0 not_n ∙ get_or-set_other places m number (j + 1) 0 not_m;
+          get_or-set_other (set places m place) n number 0 0 not_n ∙ get_or-set_other places m number place 0 not_m;
     }
 
 -- a place that leads to an index is one of the places

@@ -1,10 +1,10 @@
 -- A table stays sound as values come, are written and go.
-use Rattle.std.proofs.Common.{◌≡◌, ℕ, zero, suc, ◌+◌, ◌-◌, ◌^◌, ◌<◌, ◌≤◌, List, [], ◌∷◌, ◌++◌, length, get_or, set, replicate, Option, Some, None, is_some, IsSome, cond, count_by, refl, sym, ap, subst, ◌∙◌, inl, inr, arith, length-set, true≢false}
+use Rattle.std.proofs.Common.{◌≡◌, ◌≢◌, ℕ, zero, suc, ◌+◌, ◌-◌, ◌^◌, ◌<◌, List, [], ◌∷◌, ◌++◌, length, get_or, set, replicate, Option, Some, None, is_some, IsSome, cond, count_by, refl, sym, ap, subst, ◌∙◌, inl, inr, arith, length-set, true≢false}
 use Rattle.std.proofs.lemmas.List.{length-map, length_push, length-replicate, get_or_read}
 use Rattle.std.proofs.lemmas.List.Sums.{sum_by-set, sum_by-cons, count_by-le-length}
 use Rattle.std.proofs.lemmas.Option.{slice_get-get_or, slice_get_read}
 use Rattle.nv_numbered.specs.Table.{slot_of, slots_of, IsSound}
-use Rattle.nv_numbered.proofs.PairLemmas.{IsSwapRemoved, IsUnplaced, place_within, IsPaired-empty, IsPaired-insert, IsPaired-remove}
+use Rattle.nv_numbered.proofs.PairLemmas.{IsSwapRemoved, IsUnplaced, IsUnplaced-set, last_within, place_within, IsPaired-empty, IsPaired-insert, IsPaired-remove}
 use Rattle.nv_numbered.proofs.SlotLemmas.{slot_at_none, slot_at_index, place_cases, slots_of-insert, slots_of-write, slots_of-remove}
 
 -- there is a slot for each place
@@ -85,9 +85,9 @@ module _ {T : Type 0} where
         let within = place_within places n found.0 found.1 in
         omega (arith, found.1, get_or_read places n place within read 0)
 
-    pub no_more_than_places : length values ≤ length places
-    no_more_than_places =
-        omega (arith, sound.counted, count_by-le-length is_some (slots_of places values), length-slots_of places values)
+    -- the place that was read leads to the index before it
+    pub before_place : (place : ℕ) → place ≡ get_or places n 0 → place ≢ 0 → get_or places n 0 ≡ place - 1 + 1
+    before_place place read some = omega arith
 
     module _ (j : ℕ) (place : get_or places n 0 ≡ j + 1) where
       pub index_inside : j < length values
@@ -98,6 +98,11 @@ module _ {T : Type 0} where
       last_read len m len_is read =
           let at_end : m ≡ get_or numbers (length numbers - 1) m = read ∙ ap (λ k. get_or numbers (k - 1) m) len_is in
           sym (get_or_read numbers (length numbers - 1) m (omega (arith, (sound.paired.numbered n j place).0)) at_end 0)
+
+      -- the places that a removal leaves
+      pub unplaced : (p m : ℕ) → p ≡ j + 1 → get_or numbers (length numbers - 1) 0 ≡ m → IsUnplaced places (set (set places m p) n 0) n m j
+      unplaced p m is last =
+          IsUnplaced-set places n m j p is (place_within places n j place) (last_within places numbers sound.paired n j m place last)
 
       pub slot_is : (x : T) → x ≡ get_or values j x → get_or (slots_of places values) n None ≡ Some x
       slot_is x read =

@@ -1,7 +1,7 @@
 //! Values by number: a place for each number that may have one, and the values side by side, each with its number.
 //! Only `new`, `reserve` and `push` take memory.
 
-ghost use Rattle.std.specs.Prelude.{◌≡◌, ◌+◌, ◌<◌, ◌≤◌, ◌^◌, ◌↔◌, [], ℕ, length, IsTrue, IsOk, IsSome, IfOk, IfErr, OnOk, OnErr, OnSome, Some, None, MatchOption, Contains, option_copied, slice_index, slice_set};
+ghost use Rattle.std.specs.Prelude.{◌≡◌, ◌+◌, ◌<◌, ◌≤◌, ◌^◌, ◌↔◌, [], ℕ, length, IsTrue, IsOk, IsSome, IfOk, IfErr, OnOk, OnErr, OnSome, Some, None, Contains, option_copied, slice_index, slice_set};
 ghost use Rattle.std.specs.Option.{option_copied_mut};
 ghost use Rattle.std.specs.Ordering.{nat_cmp};
 ghost use Rattle.std.specs.List.Sorted.{IsStrictlySortedBy};
@@ -55,14 +55,13 @@ pub(crate) fn value_of<T>(values: &[T], place: u32) -> Option<&T>
     values.get(place as usize - 1)
 }
 
-// The index of a number's value, by the places.
-fn index_of(places: &[u32], number: u64) -> Option<usize>
-    ensures { let place = slice_index places.now number in
-        MatchOption result (place ≡ 0) (λ index. place ≡ index + 1) }
+// The place of a number, which is 0 past the limit.
+fn place_of(places: &[u32], number: u64) -> u32
+    ensures { result ≡ slice_index places.now number }
 {
     match places.get(number as usize) {
-        Some(place) if *place > 0 => Some(*place as usize - 1),
-        _ => None,
+        Some(place) => *place,
+        None => 0,
     }
 }
 
@@ -86,10 +85,7 @@ impl<T> Numbered<T> {
     pub fn get(&self, number: u64) -> Option<&T>
         ensures { option_copied result ≡ value_at self.now number }
     {
-        match self.places.get(number as usize) {
-            Some(place) => value_of(&self.values, *place),
-            None => None,
-        }
+        value_of(&self.values, place_of(&self.places, number))
     }
 
     /// The value of a number for writing, if it has one.
@@ -192,14 +188,15 @@ impl<T> Numbered<T> {
         ensures room { self.old.room ≤ self.new.room }
         ensures freed { OnSome result (self.new.room ≡ self.old.room + 1) }
     {
-        let index = match index_of(&self.places, number) {
-            Some(index) => index,
-            None => return None,
-        };
+        let place = place_of(&self.places, number);
+        if place == 0 {
+            return None;
+        }
         let moved = self.numbers[self.numbers.len() - 1];
-        // The last value comes to this index. Where it is the one that goes, the second write has the last word.
-        self.places[moved as usize] = index as u32 + 1;
+        // The last value comes to this place. Where it is the one that goes, the second write has the last word.
+        self.places[moved as usize] = place;
         self.places[number as usize] = 0;
+        let index = place as usize - 1;
         let _number = self.numbers.swap_remove(index);
         Some(self.values.swap_remove(index))
     }

@@ -1,72 +1,63 @@
-use Rattle.std.proofs.Common.{sym, ◌∙◌, arith}
+use Rattle.std.proofs.Common.{◌-◌, sym, ◌∙◌, arith}
 use Rattle.nv_numbered.specs.Table.{slots_of}
-use Rattle.nv_numbered.proofs.PairLemmas.{IsSwapRemoved-from_lens, IsUnplaced-set, place_within, last_within}
+use Rattle.nv_numbered.proofs.PairLemmas.{IsSwapRemoved-from_lens, last_within}
 use Rattle.nv_numbered.proofs.SlotLemmas.{slot_at_none, set_none, slots_of-remove}
-use Rattle.nv_numbered.proofs.SoundLemmas.{index_inside, no_more_than_places, last_read, slot_is, IsSound-remove}
+use Rattle.nv_numbered.proofs.SoundLemmas.{before_place, index_inside, last_read, unplaced, slot_is, IsSound-remove}
 use Rattle.nv_numbered.proofs.table.Numbered.remove.Goals as goal
 
-pub returns-in-None-clause-values : goal.returns-in-None-clause-values
-returns-in-None-clause-values g c =
+pub returns-then-place-eq0-clause-values : goal.returns-then-place-eq0-clause-values
+returns-then-place-eq0-clause-values g c =
     let t = c.self.inside in
-    rw (← c.self.view_is) (set_none (slots_of t.places.items t.values.items) c.args.number
-    (slot_at_none t.places.items t.values.items c.args.number (rw c.deref.ensures.value at c.in-None.ensures)))
+    let vacant = rw c.deref.ensures.value at (sym c.place_of-place.ensures ∙ c.if-place-eq0.true) in
+    rw (← c.self.view_is) (set_none (slots_of t.places.items t.values.items) c.args.number (slot_at_none t.places.items t.values.items c.args.number vacant))
 
 pub overflow_sub-len : goal.overflow_sub-len
 overflow_sub-len g c =
-    let place = rw c.deref.ensures.value at c.in-Some.ensures in
-    omega (arith, (c.self.invariant.paired.numbered c.args.number c.in-Some.index place).0, c.self.inside.numbers.ok.0)
+    let place = before_place _ _ _ c.self.invariant c.args.number c.place_of-place.result (rw c.deref.ensures.value at c.place_of-place.ensures) c.if-place-eq0.false in
+    omega (arith, index_inside _ _ _ c.self.invariant c.args.number _ place, c.self.invariant.as_many, c.self.inside.numbers.ok.0)
 
 pub index-moved-requires : goal.index-moved-requires
 index-moved-requires g c =
-    let place = rw c.deref.ensures.value at c.in-Some.ensures in
-    omega (arith, (c.self.invariant.paired.numbered c.args.number c.in-Some.index place).0, c.self.inside.numbers.ok.0)
-
-pub overflow_cast-index : goal.overflow_cast-index
-overflow_cast-index g c =
-    let t = c.self.inside in
-    let place = rw c.deref.ensures.value at c.in-Some.ensures in
-    omega (arith, index_inside _ _ _ c.self.invariant c.args.number _ place, no_more_than_places _ _ _ c.self.invariant c.args.number, c.self.invariant.few)
-
-pub overflow_add-index : goal.overflow_add-index
-overflow_add-index g c =
-    let place = rw c.deref.ensures.value at c.in-Some.ensures in
-    omega (arith, index_inside _ _ _ c.self.invariant c.args.number _ place, no_more_than_places _ _ _ c.self.invariant c.args.number, c.self.invariant.few)
+    let place = before_place _ _ _ c.self.invariant c.args.number c.place_of-place.result (rw c.deref.ensures.value at c.place_of-place.ensures) c.if-place-eq0.false in
+    omega (arith, index_inside _ _ _ c.self.invariant c.args.number _ place, c.self.invariant.as_many, c.self.inside.numbers.ok.0)
 
 pub index_mut-requires : goal.index_mut-requires
 index_mut-requires g c =
     let t = c.self.inside in
-    let place = rw c.deref.ensures.value at c.in-Some.ensures in
+    let place = before_place _ _ _ c.self.invariant c.args.number c.place_of-place.result (rw c.deref.ensures.value at c.place_of-place.ensures) c.if-place-eq0.false in
     let last = last_read _ _ _ c.self.invariant c.args.number _ place c.len.result c.index-moved.result.now (c.len.ensures ∙ t.numbers.ok.0) c.index-moved.ensures in
     omega (arith, last_within _ _ c.self.invariant.paired c.args.number _ _ place last, t.places.ok.0)
 
 pub swap_remove-number-requires : goal.swap_remove-number-requires
 swap_remove-number-requires g c =
-    let place = rw c.deref.ensures.value at c.in-Some.ensures in
-    omega (arith, (c.self.invariant.paired.numbered c.args.number c.in-Some.index place).0, c.self.inside.numbers.ok.0)
+    let place = before_place _ _ _ c.self.invariant c.args.number c.place_of-place.result (rw c.deref.ensures.value at c.place_of-place.ensures) c.if-place-eq0.false in
+    omega (arith, index_inside _ _ _ c.self.invariant c.args.number _ place, c.self.invariant.as_many, c.self.inside.numbers.ok.0)
 
 pub invariant_of-self : goal.invariant_of-self
 invariant_of-self g c =
     let t = c.self.inside in
-    let place = rw c.deref.ensures.value at c.in-Some.ensures in
+    let index = c.place_of-place.result - 1 in
+    let place = before_place _ _ _ c.self.invariant c.args.number c.place_of-place.result (rw c.deref.ensures.value at c.place_of-place.ensures) c.if-place-eq0.false in
     let last = last_read _ _ _ c.self.invariant c.args.number _ place c.len.result c.index-moved.result.now (c.len.ensures ∙ t.numbers.ok.0) c.index-moved.ensures in
-    let renumbered = IsSwapRemoved-from_lens t.numbers.items c.swap_remove-number.new.self.items c.in-Some.index _ _ t.numbers.ok.0 c.swap_remove-number.new.self.ok.0 c.swap_remove-number.ensures.len c.swap_remove-number.ensures.by_index in
-    let swapped = IsSwapRemoved-from_lens t.values.items c.swap_remove.new.self.items c.in-Some.index _ _ t.values.ok.0 c.swap_remove.new.self.ok.0 c.swap_remove.ensures.len c.swap_remove.ensures.by_index in
-    IsSound-remove _ _ _ c.self.invariant c.args.number _ place c.swap_remove.result c.index-moved.result.now last _ _ _
-    (IsUnplaced-set _ c.args.number c.index-moved.result.now c.in-Some.index (place_within _ c.args.number _ place) (last_within _ _ c.self.invariant.paired c.args.number _ _ place last))
+    let renumbered = IsSwapRemoved-from_lens t.numbers.items c.swap_remove-number.new.self.items index _ _ t.numbers.ok.0 c.swap_remove-number.new.self.ok.0 c.swap_remove-number.ensures.len c.swap_remove-number.ensures.by_index in
+    let swapped = IsSwapRemoved-from_lens t.values.items c.swap_remove.new.self.items index _ _ t.values.ok.0 c.swap_remove.new.self.ok.0 c.swap_remove.ensures.len c.swap_remove.ensures.by_index in
+    IsSound-remove _ _ _ c.self.invariant c.args.number index place c.swap_remove.result c.index-moved.result.now last _ _ _
+    (unplaced _ _ _ c.self.invariant c.args.number index place c.place_of-place.result c.index-moved.result.now (omega arith) last)
     renumbered swapped
 
 pub returns-clause-value : goal.returns-clause-value
 returns-clause-value g c =
-    let place = rw c.deref.ensures.value at c.in-Some.ensures in
+    let place = before_place _ _ _ c.self.invariant c.args.number c.place_of-place.result (rw c.deref.ensures.value at c.place_of-place.ensures) c.if-place-eq0.false in
     rw (← c.self.view_is) (sym (slot_is _ _ _ c.self.invariant c.args.number _ place c.swap_remove.result c.swap_remove.ensures.value))
 
 pub returns-clause-values : goal.returns-clause-values
 returns-clause-values g c =
     let t = c.self.inside in
-    let place = rw c.deref.ensures.value at c.in-Some.ensures in
+    let index = c.place_of-place.result - 1 in
+    let place = before_place _ _ _ c.self.invariant c.args.number c.place_of-place.result (rw c.deref.ensures.value at c.place_of-place.ensures) c.if-place-eq0.false in
     let last = last_read _ _ _ c.self.invariant c.args.number _ place c.len.result c.index-moved.result.now (c.len.ensures ∙ t.numbers.ok.0) c.index-moved.ensures in
-    let swapped = IsSwapRemoved-from_lens t.values.items c.swap_remove.new.self.items c.in-Some.index _ _ t.values.ok.0 c.swap_remove.new.self.ok.0 c.swap_remove.ensures.len c.swap_remove.ensures.by_index in
+    let swapped = IsSwapRemoved-from_lens t.values.items c.swap_remove.new.self.items index _ _ t.values.ok.0 c.swap_remove.new.self.ok.0 c.swap_remove.ensures.len c.swap_remove.ensures.by_index in
     rw (← c.self.view_is)
-    (slots_of-remove _ _ _ c.self.invariant.paired c.self.invariant.as_many c.args.number _ place c.index-moved.result.now last _ _
-    (IsUnplaced-set _ c.args.number c.index-moved.result.now c.in-Some.index (place_within _ c.args.number _ place) (last_within _ _ c.self.invariant.paired c.args.number _ _ place last))
+    (slots_of-remove _ _ _ c.self.invariant.paired c.self.invariant.as_many c.args.number index place c.index-moved.result.now last _ _
+    (unplaced _ _ _ c.self.invariant c.args.number index place c.place_of-place.result c.index-moved.result.now (omega arith) last)
     swapped c.swap_remove.result)
