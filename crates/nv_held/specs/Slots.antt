@@ -20,7 +20,7 @@ pub record SlotsStand (l : Layout) : Type 0 where
   pub behind : (i a : ℕ) → slot_of l i ≡ Some a → (1 + l.sup.cpus) * 4096 ≤ a
   pub apart : (i j a b : ℕ) → slot_of l i ≡ Some a → slot_of l j ≡ Some b → i ≢ j → (a + 128 ≤ b) ⊎ (b + 128 ≤ a)
 
--- And no free block, no page of a log and no block of a file holds one.
+-- They stand so, and no free block, no page of a log and no block of a file holds one.
 pub record SlotsClear (l : Layout) (held : Store) : Type 0 where
   pub stand : SlotsStand l
   pub open stand use *
