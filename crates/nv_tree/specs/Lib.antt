@@ -1,0 +1,4 @@
+pub mod Path
+pub mod Tree
+pub mod Calls
+pub mod Refusals
