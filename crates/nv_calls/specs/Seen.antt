@@ -1,0 +1,37 @@
+-- The tree that a mounted file system shows.
+use Rattle.std.specs.Prelude.{ℕ, ◌+◌, ◌*◌, ◌/◌, ◌%◌, ◌^◌, List, length, Option, Some, None}
+use Rattle.std.specs.Option.{option_map}
+use Rattle.nv_region.specs.Region.{Region, word}
+use Rattle.nv_radix.specs.Pages.{block_at}
+use Rattle.nv_names.specs.Names.{name_at}
+use Rattle.nv_scan.specs.declared.piece.Row.{Row}
+use Rattle.nv_tree.specs.Tree.{Node, Tree}
+use Rattle.nv_calls.specs.Mount.{row_of}
+
+-- a byte of a region, by its address
+abbrev pub byte : Region → ℕ → ℕ
+byte R at = word R (at / 8 * 8) / 256 ^ (at % 8) % 256
+
+-- byte x of a page that maps to this block, or to none
+abbrev pub byte_in : Region → Option ℕ → ℕ → ℕ
+byte_in R None x = 0
+byte_in R (Some b) x = byte R (b * 4096 + x)
+
+-- what a row shows
+abbrev pub node_of : Region → Row → Node
+node_of R row = record {
+  kind = row.kind;
+  mode = row.numbers.mode;
+  owner = row.numbers.owner;
+  group = row.numbers.group;
+  size = row.numbers.size;
+  links = row.numbers.links;
+  time = row.numbers.time;
+  count = length row.names.names;
+  names = λ q. option_map (λ (x : ℕ × ℕ). x.0) (name_at row.names q);
+  bytes = λ x. byte_in R (block_at row.index (x / 4096)) (x % 4096);
+}
+
+-- the tree of rows
+abbrev pub tree_of : Region → List Row → Tree
+tree_of R rows i = option_map (node_of R) (row_of rows i)

@@ -1,0 +1,8 @@
+//! A mounted file system, and its calls.
+#![tactic(auto)]
+
+mod fs;
+mod looking;
+
+pub use fs::Fs;
+pub use nv_format::{FormatRefusal, format};

@@ -1,0 +1,75 @@
+//! Where paths lead, among the rows of the inodes in use.
+
+ghost use Rattle.std.specs.Prelude.{◌≡◌, ◌<◌, ℕ, List, length, IfOk, Option, Result};
+ghost use Rattle.std.specs.Option.{option_map};
+ghost use Rattle.std.specs.Result.{result_map};
+ghost use Rattle.nv_region.specs.Region.{Region};
+ghost use Rattle.nv_super.specs.Order.{Rises};
+ghost use Rattle.nv_check.specs.Cross.{row_key};
+ghost use Rattle.nv_scan.specs.declared.piece.Row.{Row as RowValue};
+ghost use Rattle.nv_tree.specs.Path.{IsPath, last_name};
+ghost use Rattle.nv_tree.specs.Names.{Spells};
+ghost use Rattle.nv_tree.specs.Tree.{walk, found, as_directory};
+ghost use Rattle.nv_calls.specs.Mount.{row_of};
+ghost use Rattle.nv_calls.specs.Seen.{tree_of};
+
+use crate::looking::place_of;
+use nv_scan::Row;
+use nv_super::Kind;
+use nv_tree::{Refusal, split_name};
+
+const ROOT: u64 = 1;
+
+/// The row of a directory in use. `NotFound` where the inode isn't in use, `NotDirectory` where it is a file.
+fn directory_at(rows: &[Row], inode: u64) -> Result<&Row, Refusal>
+    requires { Rises row_key rows.now }
+    ensures row { IfOk result (λ r. row_of rows.now inode ≡ Option.Some r.now) }
+    ensures reply { (region : Region) → result_map (λ _. inode) result ≡ as_directory inode (tree_of region rows.now inode) }
+{
+    let place = place_of(rows, inode).ok_or(Refusal::NotFound)?;
+    let row = &rows[place];
+    match row.kind {
+        Kind::Directory => Ok(row),
+        Kind::File => Err(Refusal::NotDirectory),
+    }
+}
+
+/// The directory in which the last name of a path below the root stands, and that name.
+///
+/// `NotFound` where a name on the way stands for no inode in use, `NotDirectory` where it stands for a file.
+pub(crate) fn walk<'a>(rows: &[Row], path: &'a [u8]) -> Result<(u64, &'a [u8]), Refusal>
+    requires rising { Rises row_key rows.now }
+    requires some { 0 < length path.now }
+    ensures reply { (region : Region) (names : List (List ℕ)) → Spells path.now names → result_map (λ r. r.0) result ≡ walk (tree_of region rows.now) 1 names }
+    ensures name { (names : List (List ℕ)) → Spells path.now names → IfOk result (λ r. r.1.now ≡ last_name names) }
+{
+    let mut directory = ROOT;
+    let mut rest = path;
+    loop {
+        let row = directory_at(rows, directory)?;
+        let (name, others) = split_name(rest);
+        if others.is_empty() {
+            return Ok((directory, name));
+        }
+        directory = row.names.get(name).ok_or(Refusal::NotFound)?.inode;
+        rest = others;
+    }
+}
+
+/// The place of the row of the inode that a path leads to.
+///
+/// `NotFound` and `NotDirectory` as `walk` answers them, and nothing where the last name stands for no inode in use.
+pub(crate) fn found(rows: &[Row], path: &[u8]) -> Result<Option<usize>, Refusal>
+    requires rising { Rises row_key rows.now }
+    requires some { 0 < length path.now }
+{
+    if path == b"/" {
+        return Ok(place_of(rows, ROOT));
+    }
+    let (directory, name) = walk(rows, path)?;
+    let row = directory_at(rows, directory)?;
+    match row.names.get(name) {
+        Some(target) => Ok(place_of(rows, target.inode)),
+        None => Ok(None),
+    }
+}
