@@ -3,6 +3,7 @@
 
 mod fs;
 mod looking;
+mod walking;
 
 pub use fs::Fs;
 pub use nv_format::{FormatRefusal, format};

@@ -103,14 +103,14 @@ fn is_name_out_of_range(numbers: &Super, e: &NameEntry) -> bool
 }
 
 /// Whether it has a byte 0 or a `/`.
-fn has_bad_byte(name: &[u8]) -> bool
+pub fn has_bad_byte(name: &[u8]) -> bool
     ensures { result ≡ has_bad_byte name.now }
 {
     name.iter().any(|byte| *byte == 0 || *byte == b'/')
 }
 
 /// Whether it is `.` or `..`.
-fn is_dots(name: &[u8]) -> bool
+pub fn is_dots(name: &[u8]) -> bool
     ensures { result ≡ is_dots name.now }
 {
     match name {

@@ -12,7 +12,9 @@ mod name;
 mod reading;
 mod writing;
 
-pub use content::{ContentFault, check_content, is_out_of_range, is_wrong_kind};
+pub use content::{
+    ContentFault, check_content, has_bad_byte, is_dots, is_out_of_range, is_wrong_kind,
+};
 pub use entry::{AttrEntry, Entry, LinksEntry, NameEntry, Operation, WriteEntry};
 pub use laws::{
     an_entry_or_none_at_a_place, no_spelling_begins_another, one_entry_at_a_place, one_spelling,

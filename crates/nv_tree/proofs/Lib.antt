@@ -1,0 +1,11 @@
+pub mod Spelled
+pub mod Texts
+pub mod Same
+pub mod Alike
+pub mod Tested
+pub mod Kept
+pub mod Contents
+pub mod First
+pub mod Named
+pub mod Leads
+pub mod Effects

@@ -1,4 +1,6 @@
 pub mod Path
+pub mod Names
 pub mod Tree
 pub mod Calls
 pub mod Refusals
+pub mod Laws

@@ -1,6 +1,6 @@
 -- Paths as byte texts.
-use Rattle.std.specs.Prelude.{◌≡◌, ℕ, ◌≤◌, false, All, List, [], ◌∷◌, length, Option, Some, None}
-use Rattle.std.specs.List.{flat_map}
+use Rattle.std.specs.Prelude.{◌≡◌, ℕ, ◌≤◌, Bool, ◌==◌, false, All, List, [], ◌∷◌, drop, length, Option, Some, None}
+use Rattle.std.specs.List.{flat_map, before_first, position_or_len}
 use Rattle.nv_entry.specs.Content.{has_bad_byte, is_dots}
 use Rattle.nv_entry.specs.Name.{IsName}
 
@@ -35,3 +35,17 @@ abbrev pub last_name : List (List ℕ) → List ℕ
 last_name [] = []
 last_name (name ∷ []) = name
 last_name (name ∷ next ∷ names) = last_name (next ∷ names)
+
+-- ---- a text cut behind its first name
+
+-- the byte is a `/`
+abbrev pub is_slash : ℕ → Bool
+is_slash b = b == 47
+
+-- what stands behind the first byte, up to the next `/`
+abbrev pub first_name : List ℕ → List ℕ
+first_name text = before_first is_slash (drop 1 text)
+
+-- what stands from that next `/` on
+abbrev pub behind_name : List ℕ → List ℕ
+behind_name text = drop (position_or_len is_slash (drop 1 text)) (drop 1 text)

@@ -5,6 +5,14 @@
 //! is no block, log or slot in it.
 #![tactic(auto)]
 
+mod laws;
+mod path;
 mod refusal;
 
+pub use laws::{
+    calls_keep_sameness, each_text_says_one, first_refusal_is_first, names_after_create,
+    names_after_link, names_after_removal, names_after_rename, paths_lead_alike, read_back,
+    refusals_are_alike, same_tree,
+};
+pub use path::{is_path, is_path_name, split_name};
 pub use refusal::Refusal;

@@ -1,0 +1,17 @@
+use Rattle.nv_tree.proofs.Tested.{create_alike, write_alike, set_size_alike, set_attr_alike, link_alike, unlink_alike, rmdir_alike, rename_alike, read_tests_alike, list_alike, stat_alike}
+use Rattle.nv_tree.proofs.laws.refusals_are_alike.Goals as goal
+
+pub returns : goal.returns
+returns c = record {
+  create = create_alike;
+  write = write_alike;
+  set_size = set_size_alike;
+  set_attr = set_attr_alike;
+  link = link_alike;
+  unlink = unlink_alike;
+  rmdir = rmdir_alike;
+  rename = rename_alike;
+  read = read_tests_alike;
+  list = list_alike;
+  stat = stat_alike;
+}
