@@ -1,1 +1,2 @@
 pub mod RowOf
+pub mod Walks

@@ -1,2 +1,3 @@
 pub mod Mount
 pub mod Seen
+pub mod Stat

@@ -1,11 +1,11 @@
 -- The tree that a mounted file system shows.
-use Rattle.std.specs.Prelude.{ℕ, ◌+◌, ◌*◌, ◌/◌, ◌%◌, ◌^◌, List, length, Option, Some, None}
+use Rattle.std.specs.Prelude.{◌≡◌, ℕ, ◌+◌, ◌*◌, ◌/◌, ◌%◌, ◌^◌, List, length, Option, Some, None}
 use Rattle.std.specs.Option.{option_map}
 use Rattle.nv_region.specs.Region.{Region, word}
 use Rattle.nv_radix.specs.Pages.{block_at}
 use Rattle.nv_names.specs.Names.{name_at}
 use Rattle.nv_scan.specs.declared.piece.Row.{Row}
-use Rattle.nv_tree.specs.Tree.{Node, Tree}
+use Rattle.nv_tree.specs.Tree.{Node, Tree, found}
 use Rattle.nv_calls.specs.Mount.{row_of}
 
 -- a byte of a region, by its address
@@ -35,3 +35,8 @@ node_of R row = record {
 -- the tree of rows
 abbrev pub tree_of : Region → List Row → Tree
 tree_of R rows i = option_map (node_of R) (row_of rows i)
+
+-- The path leads to this inode, which shows this.
+pub record LeadsTo (t : Tree) (names : List (List ℕ)) (i : ℕ) (node : Node) : Type 0 where
+  pub leads : found t names ≡ Some i
+  pub shows : t i ≡ Some node

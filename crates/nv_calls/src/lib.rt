@@ -3,7 +3,9 @@
 
 mod fs;
 mod looking;
+mod stating;
 mod walking;
 
 pub use fs::Fs;
 pub use nv_format::{FormatRefusal, format};
+pub use stating::Stat;
