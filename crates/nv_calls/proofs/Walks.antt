@@ -1,6 +1,7 @@
 -- Where paths lead among rows: a step of a walk, where it is refused, and its end.
 use Rattle.std.proofs.Common.{◌≡◌, ℕ, zero, suc, ◌<◌, Bool, eqb, true, false, is_some, cond, All, List, [], ◌∷◌, length, refl, sym, ◌∙◌, ap, subst, arith, Option, Some, None, Result, Ok, Err}
 use Rattle.std.specs.Option.{option_map, option_and_then}
+use Rattle.std.specs.Result.{result_map_both}
 use Rattle.std.proofs.lemmas.List.Elements.{All-head, All-tail}
 use Rattle.nv_region.specs.Region.{Region}
 use Rattle.nv_names.specs.Names.{name_at}
@@ -44,6 +45,10 @@ some_names rest [] some s = let e = ap length s.spells in absurd (omega (arith, 
 some_names rest (next ∷ others) some s = (next, others, refl)
 
 -- ---- one step of a walk
+
+-- a refusal handed on
+pub told_refused : {A : Type 0} (r : Result A Refusal) (f : A → ℕ) (e x : Refusal) (w : Result ℕ Refusal) → r ≡ Err x → x ≡ e → w ≡ Err e → result_map_both f (λ y. y) r ≡ w
+told_refused r f e x w is same refused = rw (is, same) (sym refused)
 
 pub walk_refused : (t : Tree) (d : ℕ) (name : List ℕ) (names : List (List ℕ)) (e : Refusal) → as_directory d (t d) ≡ Err e → walk t d (name ∷ names) ≡ Err e
 walk_refused t d name [] e refused = refused

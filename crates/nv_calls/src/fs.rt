@@ -9,7 +9,7 @@ ghost use Rattle.nv_calls.specs.Mount.{has_faults};
 
 use nv_alloc::Allocators;
 use nv_recover::Recovered;
-use nv_region::Pmem;
+use nv_region::{Fuse, MemRegion, Pmem};
 use nv_scan::Row;
 use nv_super::{Fault, Super};
 use std::alloc::Global;
@@ -106,5 +106,14 @@ impl<P: Pmem + Drop> Fs<P> {
         ensures { result.now ≡ self.now.faults }
     {
         self.faults.as_slice()
+    }
+}
+
+impl Fs<MemRegion> {
+    /// Sets the memory's fuse, and nothing else.
+    pub fn set_fuse(&mut self, fuse: Fuse)
+        ensures { self.new ≡ record self.old { memory = record self.old.memory { fuse = fuse; burnt = false } } }
+    {
+        self.memory.set_fuse(fuse);
     }
 }

@@ -2,6 +2,7 @@
 #![tactic(auto)]
 
 mod fs;
+mod listing;
 mod looking;
 mod stating;
 mod walking;

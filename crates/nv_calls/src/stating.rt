@@ -9,7 +9,6 @@ ghost use Rattle.nv_calls.specs.Seen.{node_of, tree_of};
 ghost use Rattle.nv_calls.specs.Stat.{stat_of, IsStat};
 
 use crate::Fs;
-use crate::walking::row_at;
 use nv_region::Pmem;
 use nv_scan::Row;
 use nv_super::Kind;
@@ -54,9 +53,6 @@ impl<P: Pmem + Drop> Fs<P> {
         ensures refused { self.now.stopped ≡ false → (p : Path) → Says path.now p
             → IfErr result (λ e. first_refusal (stat_tests (tree_of (P.region self.now.memory) self.now.rows) p) ≡ Option.Some e) }
     {
-        if self.stopped {
-            return Err(Refusal::Stopped);
-        }
-        Ok(Stat::of(row_at(&self.rows, path)?))
+        Ok(Stat::of(self.target(path)?))
     }
 }

@@ -1,6 +1,6 @@
 //! Where paths lead, among the rows of the inodes in use.
 
-ghost use Rattle.std.specs.Prelude.{◌≡◌, ◌<◌, ℕ, List, length, slice_get, IfOk, IfErr, IfSome, Option, Result};
+ghost use Rattle.std.specs.Prelude.{◌≡◌, ◌<◌, ℕ, List, length, slice_get, IsTrue, false, IfOk, IfErr, IfSome, Option, Result};
 ghost use Rattle.std.specs.Option.{option_and_then};
 ghost use Rattle.std.specs.Result.{result_map_both, result_err};
 ghost use Rattle.std.specs.List.{Contains};
@@ -12,10 +12,13 @@ ghost use Rattle.nv_tree.specs.Path.{IsPath, Says, last_name};
 ghost use Rattle.nv_tree.specs.Names.{Spells};
 ghost use Rattle.nv_tree.specs.Tree.{walk, found, as_directory};
 ghost use Rattle.nv_tree.specs.Refusals.{Path, first_refusal, stat_tests};
+ghost use Rattle.nv_tree.specs.declared.refusal.Refusal.{Refusal as RefusalValue};
 ghost use Rattle.nv_calls.specs.Mount.{row_of};
 ghost use Rattle.nv_calls.specs.Seen.{node_of, tree_of, LeadsTo};
 
+use crate::Fs;
 use crate::looking::place_of;
+use nv_region::Pmem;
 use nv_scan::Row;
 use nv_super::Kind;
 use nv_tree::{Refusal, is_path, split_name};
@@ -98,5 +101,20 @@ pub(crate) fn row_at<'a>(rows: &'a [Row], path: &[u8]) -> Result<&'a Row, Refusa
     match found(rows, path)? {
         Some(place) => Ok(&rows[place]),
         None => Err(Refusal::NotFound),
+    }
+}
+
+impl<P: Pmem + Drop> Fs<P> {
+    /// The row of the inode in use that a path leads to, or the refusal that `stat` has.
+    pub(crate) fn target(&self, path: &[u8]) -> Result<&Row, Refusal>
+        ensures stopped { IsTrue self.now.stopped → result ≡ Result.Err RefusalValue.Stopped }
+        ensures row { (names : List (List ℕ)) → IsPath path.now names → IfOk result (λ r. LeadsTo (tree_of (P.region self.now.memory) self.now.rows) names r.now.inode (node_of (P.region self.now.memory) r.now)) }
+        ensures held { IfOk result (λ r. Contains self.now.rows r.now) }
+        ensures refused { self.now.stopped ≡ false → (p : Path) → Says path.now p → first_refusal (stat_tests (tree_of (P.region self.now.memory) self.now.rows) p) ≡ result_err result }
+    {
+        if self.stopped {
+            return Err(Refusal::Stopped);
+        }
+        row_at(&self.rows, path)
     }
 }
