@@ -11,7 +11,7 @@ use Rattle.nv_scan.specs.declared.piece.Row.{Row}
 use Rattle.nv_scan.proofs.NamesListed.{names_listed}
 use Rattle.nv_tree.specs.declared.refusal.Refusal.{Refusal}
 use Rattle.nv_tree.specs.declared.refusal.Refusal.TheVariants.{NotFound, NotDirectory}
-use Rattle.nv_tree.specs.Tree.{Node, Tree, walk, found, name_in}
+use Rattle.nv_tree.specs.Tree.{Node, Tree, walk, found}
 use Rattle.nv_tree.specs.Refusals.{Path, first_refusal, refused_walk, is_no_dir, stat_tests, list_tests}
 use Rattle.nv_calls.specs.Seen.{node_of, tree_of, LeadsTo}
 use Rattle.nv_calls.specs.Listing.{name_and_inode, ListsNamesIn}

@@ -5,13 +5,12 @@ use Rattle.std.specs.Option.{option_and_then}
 use Rattle.std.specs.Result.{result_ok}
 use Rattle.std.specs.List.Sorted.{IsBinarySearchResult, IsSearchInRange}
 use Rattle.std.specs.Ordering.{ordering_index}
-use Rattle.std.specs.Cmp.Lexicographic.{slice_cmp}
 use Rattle.std.specs.declared.cmp.Ordering.TheVariants.{Less, Equal, Greater}
-use Rattle.std.proofs.lemmas.Bool.{cases_lt, cases_eq}
+use Rattle.std.proofs.lemmas.Bool.{cases_lt}
 use Rattle.std.proofs.lemmas.Bool.Decides.{nat_tests}
-use Rattle.std.proofs.lemmas.Option.{slice_get_within, get_or_from_slice_get, slice_get-get_or, slice_get_past}
+use Rattle.std.proofs.lemmas.Option.{slice_get_within, get_or_from_slice_get, slice_get-get_or}
 use Rattle.nv_super.specs.Order.{Rises}
-use Rattle.nv_super.proofs.Rising.{Below, head_least, tail_rises, Contains-cons, Contains-head, Contains-tail}
+use Rattle.nv_super.proofs.Rising.{head_least, tail_rises, Contains-head, Contains-tail}
 use Rattle.nv_check.specs.Cross.{row_key}
 use Rattle.nv_check.proofs.Rows.{key_less}
 use Rattle.nv_scan.specs.declared.piece.Row.{Row}

@@ -1,5 +1,5 @@
 -- What `list` answers.
-use Rattle.std.specs.Prelude.{◌≡◌, ℕ, List, map, Some}
+use Rattle.std.specs.Prelude.{◌≡◌, ℕ, List, Some}
 use Rattle.nv_super.specs.Order.{Lists}
 use Rattle.nv_names.specs.declared.named.Named.{Named}
 use Rattle.nv_tree.specs.Tree.{Tree, found, name_in}

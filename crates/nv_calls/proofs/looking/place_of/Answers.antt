@@ -1,4 +1,4 @@
-use Rattle.std.proofs.Common.{rules, refl}
+use Rattle.std.proofs.Common.{rules}
 use Rattle.std.proofs.lemmas.List.Sorted.{answers_always}
 use Rattle.nv_scan.specs.declared.piece.Row.{Row}
 use Rattle.nv_calls.proofs.RowOf.{searched_row}

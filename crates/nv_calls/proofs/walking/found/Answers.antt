@@ -1,4 +1,4 @@
-use Rattle.std.proofs.Common.{◌≡◌, ℕ, ◌<◌, ap, sym, ◌∙◌, refl, Some, None, Result, Ok, Err, arith, length, zero, suc}
+use Rattle.std.proofs.Common.{◌≡◌, ap, sym, ◌∙◌, refl, Some, None}
 use Rattle.std.specs.Option.{option_map}
 use Rattle.nv_names.specs.Names.{name_at, inode_and_place}
 use Rattle.nv_tree.specs.Tree.{walk}

@@ -1,5 +1,4 @@
 use Rattle.std.proofs.Common.{◌≡◌, Some, None}
-use Rattle.std.specs.Result.{result_err}
 use Rattle.nv_tree.specs.declared.refusal.Refusal.TheVariants.{NotFound}
 use Rattle.nv_tree.specs.Refusals.{Path, first_refusal, stat_tests}
 use Rattle.nv_calls.specs.Seen.{tree_of}
