@@ -8,14 +8,13 @@ use Rattle.std.specs.declared.cmp.Ordering.TheVariants.{Less}
 use Rattle.std.specs.Ordering.{is_eq}
 use Rattle.std.specs.Map.{keys_of}
 use Rattle.std.specs.Cmp.Lexicographic.{pointwise, nat_list_eq_equiv, texts_ties, bytes_decides}
-use Rattle.std.proofs.lemmas.List.{map-append}
 use Rattle.std.proofs.lemmas.Map.Keys.{IsDistinct-head, IsDistinct-tail, IsDistinct-cons, sorted_head, sorted_tail}
 use Rattle.std.proofs.lemmas.Map.Made.{IsDistinct-keys_filter}
 use Rattle.nv_names.specs.declared.target.Target.{Target}
 use Rattle.nv_names.specs.Names.{found_in, names_of}
 use Rattle.nv_names.specs.Table.{tree_line, fresh_line, PutsAt, FindSame, AreBeside}
 use Rattle.nv_names.proofs.Entries.{by_bytes, found_in-append}
-use Rattle.nv_names.proofs.Listing.{AllByRecursion-append, each_found}
+use Rattle.nv_names.proofs.Listing.{each_found}
 
 -- no value is none
 some_is_none : {X P : Type 0} {x : X} → Some x ≡ None → P
@@ -81,7 +80,8 @@ AreBeside-removed a b fs name beside first second = record {
 
 -- all names of two lists
 all_both : (P : List ℕ → Type 0) (xs ys : List (List ℕ × ℕ × ℕ)) → AllByRecursion P (names_of xs) → AllByRecursion P (names_of ys) → AllByRecursion P (names_of (xs ++ ys))
-all_both P xs ys first second = rw (map-append (λ e. e.0) xs ys) (AllByRecursion-append P (names_of xs) (names_of ys) first second)
+all_both P [] ys first second = second
+all_both P (x ∷ xs) ys first second = (first.0, all_both P xs ys first.1 second)
 
 -- all names of a list's front, and the last
 all_front : (P : List ℕ → Type 0) (xs : List (List ℕ × ℕ × ℕ)) (y : List ℕ × ℕ × ℕ) → AllByRecursion P (names_of (xs ++ y ∷ [])) → AllByRecursion P (names_of xs) × P y.0

@@ -1,5 +1,5 @@
 -- The names of an index: each once, and in order.
-use Rattle.std.proofs.Common.{Option, None, Box, ◌≡◌, ◌<◌, ◌+◌, ℕ, Bool, true, false, cond, nat_eq, List, [], ◌∷◌, ◌++◌, map, length, get_or, Some, IsSome, is_some, refl, sym, ap, subst, ◌∙◌, arith}
+use Rattle.std.proofs.Common.{Option, None, Box, ◌≡◌, ◌<◌, ◌+◌, ℕ, Bool, true, false, cond, nat_eq, List, [], ◌∷◌, map, length, get_or, Some, IsSome, is_some, refl, sym, ap, subst, ◌∙◌, arith}
 use Rattle.std.specs.List.{IsDistinct, AllByRecursion, Contains}
 use Rattle.std.specs.List.Sorted.{IsSorted, IsSortedByKey, IsStrictlySortedBy, IsPermutation}
 use Rattle.std.specs.Ordering.{nat_cmp, is_lt, is_eq, ordering_reverse}
@@ -22,11 +22,6 @@ some_is_none e = cc
 -- true is not false
 true_is_false : {b : Bool} → b ≡ true → b ≡ false → ⊥
 true_is_false t f = cc
-
--- all of two lists
-pub AllByRecursion-append : {X : Type 0} (P : X → Type 0) (xs ys : List X) → AllByRecursion P xs → AllByRecursion P ys → AllByRecursion P (xs ++ ys)
-AllByRecursion-append P [] ys p q = q
-AllByRecursion-append P (x ∷ xs) ys p q = (p.0, AllByRecursion-append P xs ys p.1 q)
 
 -- a list of no names finds none
 pub found_in-empty : (es : List (List ℕ × ℕ × ℕ)) → length es ≡ 0 → (q : List ℕ) → found_in es q ≡ None

@@ -19,7 +19,6 @@ use Rattle.nv_super.specs.Order.{Rises}
 use Rattle.nv_super.proofs.Rising.{Contains-cons, Contains-head, Contains-tail, below_first}
 use Rattle.nv_super.specs.Owners.{claims_of}
 use Rattle.nv_super.proofs.Members.{none_in, into_map, from_map}
-use Rattle.nv_names.proofs.Listing.{AllByRecursion-append}
 use Rattle.nv_claimcore.specs.declared.view.View.{View}
 use Rattle.nv_claimcore.specs.Claims.{times, below, nothing, both_views}
 use Rattle.nv_claimcore.specs.Finished.{pair_of, works_of}
@@ -28,6 +27,11 @@ use Rattle.nv_scan.specs.Work.{ticket_count, tickets_among, claims_in, IsWork}
 use Rattle.nv_scan.specs.declared.piece.Piece.{Piece}
 use Rattle.nv_outcome.specs.Parts.{ArePieces, piece_key}
 use Rattle.nv_outcome.proofs.Reordered.{flat_map_permutation}
+
+-- what holds of two lists holds of both together
+AllByRecursion-append : {X : Type 0} (P : X → Type 0) (xs ys : List X) → AllByRecursion P xs → AllByRecursion P ys → AllByRecursion P (xs ++ ys)
+AllByRecursion-append P [] ys p q = q
+AllByRecursion-append P (x ∷ xs) ys p q = (p.0, AllByRecursion-append P xs ys p.1 q)
 
 -- ---- inodes that have slots
 

@@ -1,0 +1,5 @@
+pub mod RowOf
+pub mod Walks
+pub mod Targets
+pub mod Kept
+pub mod Listed

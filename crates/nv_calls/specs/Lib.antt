@@ -1,0 +1,4 @@
+pub mod Mount
+pub mod Seen
+pub mod Stat
+pub mod Listing

@@ -1,0 +1,119 @@
+//! A mounted file system: the memory, and what recovery found in its region.
+
+ghost use Rattle.std.specs.Prelude.{◌≡◌, false};
+ghost use Rattle.nv_journal.specs.Undo.{undone};
+ghost use Rattle.nv_outcome.specs.Outcome.{IsOutcome};
+ghost use Rattle.nv_outcome.specs.Same.{lasting_outcome};
+ghost use Rattle.nv_recover.specs.Answer.{outcome_of};
+ghost use Rattle.nv_calls.specs.Mount.{has_faults};
+
+use nv_alloc::Allocators;
+use nv_recover::Recovered;
+use nv_region::{Fuse, MemRegion, Pmem};
+use nv_scan::Row;
+use nv_super::{Fault, Super};
+use std::alloc::Global;
+use std::marker::Model;
+
+/// A mounted file system.
+///
+/// Until a call answers `Stopped`, its rows, free lists and faults are what recovery would find in its region.
+#[derive(Drop)]
+pub struct Fs<P: Pmem + Drop> {
+    pub(crate) alloc: Global,
+    pub(crate) memory: P,
+    pub(crate) sup: Super,
+    pub(crate) rows: Vec<Row>,
+    pub(crate) free: Allocators,
+    faults: Vec<Fault>,
+    pub(crate) read_only: bool,
+    pub(crate) stopped: bool,
+}
+
+impl<P: Pmem + Drop> Model for Fs<P> {
+    ghost use Rattle.nv_calls.specs.Mount.{Mount, IsKept};
+
+    ghost Value = { Mount P };
+
+    ghost view = { λ a. record { memory = a.memory; sup = a.sup; rows = a.rows.items; free = a.free; faults = a.faults.items; read_only = a.read_only; stopped = a.stopped } };
+
+    ghost invariant = { λ a. IsKept (P.region a.memory) a.sup a.rows.items a.free a.faults.items a.read_only a.stopped };
+}
+
+impl<P: Pmem + Drop> Fs<P> {
+    /// Mounts a region that was recovered: read-only where faults were found. It takes no memory.
+    pub fn open(alloc: Global, memory: P, recovered: Recovered) -> Fs<P>
+        requires outcome { IsOutcome (P.region memory) (lasting_outcome (outcome_of recovered)) }
+        requires own { undone recovered.sup (P.region memory) ≡ P.region memory }
+        ensures memory { result.memory ≡ memory }
+        ensures sup { result.sup ≡ recovered.sup }
+        ensures rows { result.rows ≡ recovered.rows.items }
+        ensures free { result.free ≡ recovered.free }
+        ensures faults { result.faults ≡ recovered.faults.items }
+        ensures read_only { result.read_only ≡ has_faults recovered.faults.items }
+        ensures stopped { result.stopped ≡ false }
+    {
+        let Recovered {
+            sup,
+            rows,
+            free,
+            doubled: _,
+            faults,
+        } = recovered;
+        let read_only = !faults.is_empty();
+        Fs {
+            alloc,
+            memory,
+            sup,
+            rows,
+            free,
+            faults,
+            read_only,
+            stopped: false,
+        }
+    }
+
+    /// The memory again.
+    pub fn into_region(self) -> P
+        ensures { result ≡ self.memory }
+    {
+        self.memory
+    }
+
+    /// The memory.
+    pub fn region(&self) -> &P
+        ensures { result.now ≡ self.now.memory }
+    {
+        &self.memory
+    }
+
+    /// The rows of the inodes in use, rising by number.
+    pub fn rows(&self) -> &[Row]
+        ensures { result.now ≡ self.now.rows }
+    {
+        self.rows.as_slice()
+    }
+
+    /// The free blocks of each CPU's pool.
+    pub fn free(&self) -> &Allocators
+        ensures { result.now ≡ self.now.free }
+    {
+        &self.free
+    }
+
+    /// The faults that were found when it was recovered.
+    pub fn faults(&self) -> &[Fault]
+        ensures { result.now ≡ self.now.faults }
+    {
+        self.faults.as_slice()
+    }
+}
+
+impl Fs<MemRegion> {
+    /// Sets the memory's fuse, and nothing else.
+    pub fn set_fuse(&mut self, fuse: Fuse)
+        ensures { self.new ≡ record self.old { memory = record self.old.memory { fuse = fuse; burnt = false } } }
+    {
+        self.memory.set_fuse(fuse);
+    }
+}

@@ -1,0 +1,58 @@
+//! `stat`: the numbers of an inode.
+
+ghost use Rattle.std.specs.Prelude.{◌≡◌, ℕ, List, IsTrue, IfOk, IfErr, OnOk, Option, Result, false};
+ghost use Rattle.nv_region.specs.Region.{Region};
+ghost use Rattle.nv_tree.specs.Path.{IsPath, Says};
+ghost use Rattle.nv_tree.specs.Refusals.{Path, first_refusal, stat_tests};
+ghost use Rattle.nv_tree.specs.declared.refusal.Refusal.{Refusal};
+ghost use Rattle.nv_calls.specs.Seen.{node_of, tree_of};
+ghost use Rattle.nv_calls.specs.Stat.{stat_of, IsStat};
+
+use crate::Fs;
+use nv_region::Pmem;
+use nv_scan::Row;
+use nv_super::Kind;
+use nv_tree::Refusal;
+
+/// An inode's number, kind, mode, owner, group, size in bytes, link count and time.
+#[derive(Clone, Copy, Debug, PartialEq, Eq)]
+pub struct Stat {
+    pub inode: u64,
+    pub kind: Kind,
+    pub mode: u32,
+    pub owner: u32,
+    pub group: u32,
+    pub size: u64,
+    pub links: u32,
+    pub time: u64,
+}
+
+impl Stat {
+    fn of(row: &Row) -> Stat
+        ensures { (region : Region) → result ≡ stat_of row.now.inode (node_of region row.now) }
+    {
+        Stat {
+            inode: row.inode,
+            kind: row.kind,
+            mode: row.numbers.mode,
+            owner: row.numbers.owner,
+            group: row.numbers.group,
+            size: row.numbers.size,
+            links: row.numbers.links,
+            time: row.numbers.time,
+        }
+    }
+}
+
+impl<P: Pmem + Drop> Fs<P> {
+    /// The numbers of the inode that a path leads to. It takes no memory.
+    pub fn stat(&self, path: &[u8]) -> Result<Stat, Refusal>
+        ensures stopped { IsTrue self.now.stopped → result ≡ Result.Err Refusal.Stopped }
+        ensures ok { (names : List (List ℕ)) → IsPath path.now names → IfOk result (λ s. IsStat (tree_of (P.region self.now.memory) self.now.rows) names s) }
+        ensures allowed { (p : Path) → Says path.now p → OnOk result (first_refusal (stat_tests (tree_of (P.region self.now.memory) self.now.rows) p) ≡ Option.None) }
+        ensures refused { self.now.stopped ≡ false → (p : Path) → Says path.now p
+            → IfErr result (λ e. first_refusal (stat_tests (tree_of (P.region self.now.memory) self.now.rows) p) ≡ Option.Some e) }
+    {
+        Ok(Stat::of(self.target(path)?))
+    }
+}
