@@ -16,17 +16,19 @@ use Rattle.nv_entry.specs.declared.entry.Entry.{Entry}
 use Rattle.nv_logpage.specs.declared.found.Placed.{Placed}
 use Rattle.nv_logpage.specs.Append.{AllDiffer, AppendWords, AreGiven, CanAppend, CanBePages, EndBy, FreshFor, appended, needed}
 use Rattle.nv_logpage.proofs.RightLogs.{head_starts, tail_whole, tail_low}
-use Rattle.nv_outcome.proofs.SuperOf.{blocks_of_super}
+use Rattle.nv_outcome.proofs.SuperOf.{blocks_of_super, layout_of_super}
 use Rattle.nv_held.specs.Held.{Held, Store, Shows, with_inode}
 use Rattle.nv_held.specs.Blocks.{IsFreeIn, NoneDoubled}
 use Rattle.nv_held.specs.Slots.{SlotsClear}
 use Rattle.nv_held.specs.Loose.{Loose}
 use Rattle.nv_held.specs.Grows.{grown, AreFree}
-use Rattle.nv_held.specs.Mounted.{ShowsSound}
+use Rattle.nv_held.specs.Mounted.{IsFaultless, ShowsSound}
 use Rattle.nv_held.specs.Appended.{Appends, HasBehind}
 use Rattle.nv_held.proofs.Shown.{stands_at}
 use Rattle.nv_held.proofs.Kept.{loose_shown, page_owner, tail_there}
-use Rattle.nv_held.proofs.Commits.{tail_committed}
+use Rattle.nv_held.proofs.Clear.{slots_clear}
+use Rattle.nv_held.proofs.Fronts.{slot_front, sound_moves}
+use Rattle.nv_held.proofs.Commits.{stored_outside, tail_committed}
 
 -- ---- lists of pages
 
@@ -137,3 +139,12 @@ pub tail_follows : (l : Layout) (held : Store) (S T : Region) (i a new : ℕ) (h
     → Shows T l (with_inode held i (Some (grown h new more fresh)))
 tail_follows l held S T i a new h more fresh slots at is behind stored =
     tail_committed l held S T i a new h (h.entries ++ more) (h.pages ++ fresh) slots at is behind.right behind.reads behind.clear stored behind.shows
+
+-- And the region is sound, where nothing is wrong.
+pub sound_follows : (S T : Region) (s : Super) (held : Store) (i a new : ℕ) (h : Held) (more : List Placed) (fresh : List ℕ) → ShowsSound S s held → slot_of (fixed_layout s) i ≡ Some a → held i ≡ Some h → HasBehind S (fixed_layout s) held h new more fresh
+    → IsFaultless (fixed_layout s) (with_inode held i (Some (grown h new more fresh))) → Stored S (a + 24) new T → ShowsSound T s (with_inode held i (Some (grown h new more fresh)))
+sound_follows S T s held i a new h more fresh m at is behind faultless stored =
+    let slots : SlotsClear (fixed_layout s) held = slots_clear S s held (layout_of_super S s m.sup) m.shows in
+    let same = stored_outside S T a 24 new (slots.whole i a at) (omega arith) (omega arith) stored in
+    sound_moves S T s held (with_inode held i (Some (grown h new more fresh))) m (slot_front (fixed_layout s) S T i a slots.stand at same)
+    (tail_follows (fixed_layout s) held S T i a new h more fresh slots at is behind stored) faultless

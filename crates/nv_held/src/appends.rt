@@ -11,7 +11,7 @@ ghost use Rattle.nv_logpage.specs.Append.{AllDiffer, AppendWords, AreGiven, CanA
 ghost use Rattle.nv_held.specs.Held.{Held, Store, Shows, with_inode};
 ghost use Rattle.nv_held.specs.Blocks.{NoneDoubled};
 ghost use Rattle.nv_held.specs.Slots.{SlotsClear};
-ghost use Rattle.nv_held.specs.Mounted.{ShowsSound};
+ghost use Rattle.nv_held.specs.Mounted.{IsFaultless, ShowsSound};
 ghost use Rattle.nv_held.specs.Loose.{Loose};
 ghost use Rattle.nv_held.specs.Grows.{AreFree, grown};
 ghost use Rattle.nv_held.specs.Appended.{Appends, HasBehind};
@@ -29,4 +29,10 @@ pub fn appended_log_grows()
         → HasBehind S l held h new (appended fresh 0 h.tail entries) (take (needed (h.tail % 4096) entries) fresh) }
     ensures grown { (l : Layout) (held : Store) (S T : Region) (i a new : ℕ) (h : Held) (more : List Placed) (fresh : List ℕ) → SlotsClear l held → slot_of l i ≡ Some a → held i ≡ Some h → HasBehind S l held h new more fresh
         → Stored S (a + 24) new T → Shows T l (with_inode held i (Some (grown h new more fresh))) }
+{}
+
+/// The region is sound then, where nothing is wrong with what is held.
+pub fn appended_log_is_sound()
+    ensures { (S T : Region) (s : Super) (held : Store) (i a new : ℕ) (h : Held) (more : List Placed) (fresh : List ℕ) → ShowsSound S s held → slot_of (fixed_layout s) i ≡ Some a → held i ≡ Some h → HasBehind S (fixed_layout s) held h new more fresh
+        → IsFaultless (fixed_layout s) (with_inode held i (Some (grown h new more fresh))) → Stored S (a + 24) new T → ShowsSound T s (with_inode held i (Some (grown h new more fresh))) }
 {}

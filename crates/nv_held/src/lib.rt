@@ -14,7 +14,7 @@ mod owners;
 mod rows;
 mod stores;
 
-pub use appends::{appended_log_grows, free_blocks_can_become_pages};
+pub use appends::{appended_log_grows, appended_log_is_sound, free_blocks_can_become_pages};
 pub use bytes::{blocks_after_writes, data_beside, loose_data, pages_after_writes};
 pub use entries::{clean_more, still_clean, still_faultless};
 pub use names::{
