@@ -1,5 +1,5 @@
 -- Two logs that grow together: what is shown once both tails have moved, and what a stop leaves.
-use Rattle.std.proofs.Common.{◌≡◌, ◌≢◌, ℕ, zero, suc, ◌+◌, ◌*◌, ◌/◌, ◌%◌, ◌<◌, ◌≤◌, ◌&&◌, ◌⊎◌, nat_lt, true, inl, inr, List, ◌∷◌, ◌++◌, length, get_or, take, refl, ap, sym, ◌∙◌, subst, arith, Some}
+use Rattle.std.proofs.Common.{◌≡◌, ◌≢◌, ℕ, suc, ◌+◌, ◌*◌, ◌/◌, ◌%◌, ◌<◌, ◌≤◌, ◌&&◌, nat_lt, true, inl, inr, List, ◌∷◌, ◌++◌, length, get_or, take, refl, sym, ◌∙◌, subst, arith, Some}
 use Rattle.std.specs.List.{All, Contains}
 use Rattle.std.proofs.lemmas.Bool.{cases_eq, cases_lt}
 use Rattle.std.proofs.lemmas.List.{get_or_default}
@@ -15,11 +15,10 @@ use Rattle.nv_super.specs.Layout.{IsLayout, fixed_layout}
 use Rattle.nv_super.specs.Super.{IsSuper}
 use Rattle.nv_super.proofs.Accepted.{super_stays}
 use Rattle.nv_inode.specs.Permitted.{is_permitted}
-use Rattle.nv_journal.specs.Undo.{dequeue, enqueue, is_sound, journal, pending_of, undo, undone}
+use Rattle.nv_journal.specs.Undo.{dequeue, enqueue, is_sound, journal, pending_of, undone}
 use Rattle.nv_journal.specs.Pending.{BeforeOrAfter, CanUndo, IsEmpty}
 use Rattle.nv_journal.proofs.Partly.{low_rule, sound_of}
-use Rattle.nv_logpage.specs.Append.{AppendWords, appended, end_of, needed}
-use Rattle.nv_logpage.specs.Reads.{Reads}
+use Rattle.nv_logpage.specs.Append.{AppendWords, appended, needed}
 use Rattle.nv_logpage.proofs.Local.{ReadsOn-same}
 use Rattle.nv_outcome.proofs.SuperOf.{blocks_of_super, layout_of_super}
 use Rattle.nv_held.specs.Held.{Held, Store, Shows, with_inode}
@@ -28,7 +27,7 @@ use Rattle.nv_held.specs.Loose.{Loose}
 use Rattle.nv_held.specs.Front.{SameFront}
 use Rattle.nv_held.specs.Grows.{grown}
 use Rattle.nv_held.specs.Mounted.{ShowsSound}
-use Rattle.nv_held.specs.Appended.{Appends, HasBehind}
+use Rattle.nv_held.specs.Appended.{HasBehind}
 use Rattle.nv_held.proofs.Appending.{tail_follows}
 use Rattle.nv_held.proofs.Clear.{slots_clear}
 use Rattle.nv_held.proofs.Commits.{log_stays, stored_outside}

@@ -1,5 +1,5 @@
 -- A log that grows by entries, and its tail that moves.
-use Rattle.std.proofs.Common.{◌≡◌, ℕ, ◌+◌, ◌*◌, ◌%◌, ◌≤◌, ◌<◌, ◌⊎◌, Bool, true, false, inl, inr, List, length, take, refl, sym, ◌∙◌, subst, arith, Some}
+use Rattle.std.proofs.Common.{◌≡◌, ℕ, ◌+◌, ◌*◌, ◌%◌, ◌≤◌, ◌<◌, ◌⊎◌, Bool, true, false, inl, inr, List, length, take, sym, ◌∙◌, subst, arith, Some}
 use Rattle.std.proofs.lemmas.Bool.{cases_lt, true≢false}
 use Rattle.nv_region.specs.Region.{Region, size, put}
 use Rattle.nv_region.specs.Stops.{Choices, IsMixed, LeavesOnly, NothingPending}
