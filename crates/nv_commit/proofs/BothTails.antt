@@ -41,6 +41,7 @@ use Rattle.nv_commit.specs.Extends.{CanExtend, extended, with_log}
 use Rattle.nv_commit.specs.Together.{AppendsBoth, BeforeOrBoth, BeginFrom, BothWords, CanCommit, CanExtendTwo, ShowsIdle, UndoneShows, with_logs}
 use Rattle.nv_commit.proofs.Extends.{ends, front_more, loose_there, slots, sound_before, stands_behind}
 use Rattle.nv_commit.proofs.Permitted.{tail_permitted}
+use Rattle.nv_commit.proofs.TwoWords.{words_idle, words_undone}
 
 -- ---- the journal in front of the pages
 
@@ -246,42 +247,9 @@ module _ {R : Region} {s : Super} {held : Store} {cpu i : ℕ} {h : Held} {x : E
       both_front : SameFront s.cpus R both
       both_front = front_more front (front_more (slot_front (fixed_layout s) S moved i x.slot clear.stand can.first.at first_outside) (slot_front (fixed_layout s) moved both j y.slot clear.stand can.second.at second_outside))
 
-      both_sup : IsSuper both s
-      both_sup = front_super R both s s.cpus both_front can.first.sound.sup
+      -- after the change of both words, and while they change
+      pub both_idle : (N : Region) → SameOutside both (journal cpu) 4096 N → IsEmpty N cpu → ShowsIdle N s (with_logs held i h x j g y)
+      both_idle N outside empty = words_idle can.first.sound clear.stand can.journals front second_there.shows both_front both_show N outside empty
 
-      -- after the change of both words
-      module _ (N : Region) (outside : SameOutside both (journal cpu) 4096 N) (empty : IsEmpty N cpu) where
-        other_word : (c : ℕ) → c ≢ cpu → (at : ℕ) → at % 8 ≡ 0 → journal c ≤ at → at < journal c + 4096 → word N at ≡ word both at
-        other_word c differs at whole low high = elim (cases_lt c cpu) [ inl less ↦ outside.before at whole (omega (arith, less, high)) | inr more ↦ outside.behind at whole (omega (arith, more, differs, low)) ]
-
-        other_idle : (c : ℕ) → c ≢ cpu → c < s.cpus → (is_sound N c ≡ true) × (dequeue N c ≡ enqueue N c)
-        other_idle c differs below =
-            let d : dequeue N c ≡ dequeue both c = other_word c differs (journal c) (omega arith) (omega arith) (omega arith) in
-            let e : enqueue N c ≡ enqueue both c = other_word c differs (journal c + 8) (omega arith) (omega arith) (omega arith) in
-            let same : is_sound N c ≡ is_sound both c = λ k. nat_lt (d k) 252 && nat_lt (e k) 252 in
-            let w = front_idle R both s.cpus both_front can.first.sound.idle c below in
-            (same ∙ w.0, d ∙ w.1 ∙ sym e)
-
-        idle_there : (c : ℕ) → c < s.cpus → (is_sound N c ≡ true) × (dequeue N c ≡ enqueue N c)
-        idle_there c below = elim (cases_eq c cpu) [
-          | inl same ↦ subst (λ (k : ℕ). (is_sound N k ≡ true) × (dequeue N k ≡ enqueue N k)) (sym same) (sound_of (pending_of N cpu) (omega (arith, empty.0, empty.1), empty.1), empty.0)
-          | inr differs ↦ other_idle c differs below
-        ]
-
-        pub both_idle : ShowsIdle N s (with_logs held i h x j g y)
-        both_idle = record {
-          sup = super_stays both N outside.len (λ at whole low. outside.before at whole (omega (arith, low))) s both_sup;
-          idle = idle_there;
-          shows = shown_same (fixed_layout s) (with_logs held i h x j g y) both N clear.stand (λ at whole high. outside.behind at whole (omega (arith, high, can.journals))) both_show;
-        }
-
-      -- the undone region while they change
       pub undone_either : (left : Region) → BeforeOrAfter (is_permitted s) s.cpus S (x.slot + 24) new (y.slot + 24) last left → BeforeOrBoth s held i h x j g y left
-      undone_either left (inl before) = inl (record {
-        sup = super_stays S (undone s left) (λ k. 8 * before.as_long k + length (before.same_rest k)) (λ at whole low. before.words at whole (inl (omega (arith, low)))) s sup;
-        shows = shown_same (fixed_layout s) held S (undone s left) clear.stand (λ at whole high. before.words at whole (inr high)) second_there.shows;
-      })
-      undone_either left (inr after) = inr (record {
-        sup = super_stays both (undone s left) (λ k. 8 * after.as_long k + length (after.same_rest k)) (λ at whole low. after.words at whole (inl (omega (arith, low)))) s both_sup;
-        shows = shown_same (fixed_layout s) (with_logs held i h x j g y) both (undone s left) clear.stand (λ at whole high. after.words at whole (inr high)) both_show;
-      })
+      undone_either left either = words_undone can.first.sound clear.stand can.journals front second_there.shows both_front both_show left either

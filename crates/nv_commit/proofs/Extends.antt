@@ -38,7 +38,7 @@ module _ {R : Region} {s : Super} {held : Store} {i : ℕ} {h : Held} {slot tail
   pub loose_there : (k x : ℕ) → AppendWords tail fresh k x → Loose (fixed_layout s) held k x
   loose_there k x w = append_loose (fixed_layout s) held i h can.holds fresh can.free k x (subst (λ (t : ℕ). AppendWords t fresh k x) (sym can.tail_is) w)
 
-  all_loose : (left : Region) → IsMixed R (AppendWords tail fresh) left → IsMixed R (Loose (fixed_layout s) held) left
+  pub all_loose : (left : Region) → IsMixed R (AppendWords tail fresh) left → IsMixed R (Loose (fixed_layout s) held) left
   all_loose left mixed = mixed_more (Loose (fixed_layout s) held) (AppendWords tail fresh) R R left loose_there (mixed_same R (Loose (fixed_layout s) held)) mixed
 
   -- before the tail is moved

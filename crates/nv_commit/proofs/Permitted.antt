@@ -1,12 +1,12 @@
--- A journal may name the tail word of each slot.
-use Rattle.std.proofs.Common.{◌≡◌, ℕ, ◌+◌, ◌*◌, ◌/◌, ◌%◌, ◌<◌, ◌≤◌, suc, inr, IsTrue, ap, subst, arith, Some}
+-- A journal may name the valid word and the tail word of each slot.
+use Rattle.std.proofs.Common.{◌≡◌, ℕ, ◌+◌, ◌*◌, ◌/◌, ◌%◌, ◌<◌, ◌≤◌, suc, inl, inr, IsTrue, refl, subst, arith, Some}
 use Rattle.std.proofs.Math.Nat.{mul-le-mul_right}
 use Rattle.std.proofs.lemmas.Nat.{div-add-mod', mod_below}
 use Rattle.std.proofs.lemmas.Bool.Decides.{nat_tests}
 use Rattle.nv_super.specs.declared.superblock.Super.{Super}
 use Rattle.nv_super.specs.Layout.{IsLayout, fixed_layout, is_number, slot_of}
 use Rattle.nv_super.proofs.Slots.{slot_is}
-use Rattle.nv_inode.specs.Permitted.{is_permitted}
+use Rattle.nv_inode.specs.Permitted.{IsKeyWord, is_permitted}
 use Rattle.nv_inode.proofs.KeyWords.{named_permitted}
 
 no_zero : (s : Super) (i a : ℕ) → slot_of (fixed_layout s) i ≡ Some a → i ≡ 0 → ⊥
@@ -22,8 +22,14 @@ number_below C T i some row =
 number_holds : (s : Super) (i : ℕ) → 0 < i → i < 32 * s.cpus * s.table_blocks → IsTrue (is_number s i)
 number_holds s i above below = grind (arith, nat_tests)
 
+key_permitted : (s : Super) (i a at : ℕ) → IsLayout s → slot_of (fixed_layout s) i ≡ Some a → IsKeyWord a at → IsTrue (is_permitted s at)
+key_permitted s i a at layout slot key =
+    let stands = slot_is s i a slot in
+    let positive : 0 < i = omega (arith, no_zero s i a slot) in
+    named_permitted s at layout (i, number_holds s i positive (number_below s.cpus s.table_blocks i (omega (arith, layout.cpus_from)) stands.low), subst (λ (n : ℕ). IsKeyWord n at) stands.is key)
+
 pub tail_permitted : (s : Super) (i a : ℕ) → IsLayout s → slot_of (fixed_layout s) i ≡ Some a → IsTrue (is_permitted s (a + 24))
-tail_permitted s i a layout at =
-    let slot = slot_is s i a at in
-    let positive : 0 < i = omega (arith, no_zero s i a at) in
-    named_permitted s (a + 24) layout (i, number_holds s i positive (number_below s.cpus s.table_blocks i (omega (arith, layout.cpus_from)) slot.low), inr (inr (ap (λ (n : ℕ). n + 24) slot.is)))
+tail_permitted s i a layout slot = key_permitted s i a (a + 24) layout slot (inr (inr refl))
+
+pub valid_permitted : (s : Super) (i a : ℕ) → IsLayout s → slot_of (fixed_layout s) i ≡ Some a → IsTrue (is_permitted s a)
+valid_permitted s i a layout slot = key_permitted s i a a layout slot (inl refl)

@@ -11,9 +11,6 @@ use Rattle.nv_commit.specs.Extends.{BeforeOrExtended, ExtendWords, ShowsMoved, w
 use Rattle.nv_commit.proofs.Extends.{burnt_append, left_before, once_committed, put_after, sound_before}
 use Rattle.nv_commit.proofs.extending.extend_log.Goals as goal
 
-pub commit_word-requires : goal.commit_word-requires
-commit_word-requires g c = record { aligned = omega (arith, c.requires.whole); within = omega (arith, c.requires.inside, c.append.ensures.len, ap size c.in_ok-fence.ensures.same) }
-
 pub returns-in_err-end-clause-reads : goal.returns-in_err-end-clause-reads
 returns-in_err-end-clause-reads g c s held i h can =
     inl (sound_before can _ c.append.ensures.wrote.mixed)
