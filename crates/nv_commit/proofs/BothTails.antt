@@ -1,10 +1,9 @@
 -- Two logs that grow together: what is shown once both tails have moved, and what a stop leaves.
-use Rattle.std.proofs.Common.{◌≡◌, ◌≢◌, ℕ, suc, ◌+◌, ◌*◌, ◌/◌, ◌%◌, ◌<◌, ◌≤◌, ◌&&◌, nat_lt, true, inl, inr, List, ◌∷◌, ◌++◌, length, get_or, take, refl, sym, ◌∙◌, subst, arith, Some}
+use Rattle.std.proofs.Common.{◌≡◌, ℕ, suc, ◌+◌, ◌*◌, ◌/◌, ◌%◌, ◌<◌, ◌≤◌, inl, inr, List, ◌∷◌, ◌++◌, length, get_or, take, refl, sym, ◌∙◌, subst, arith, Some}
 use Rattle.std.specs.List.{All, Contains}
-use Rattle.std.proofs.lemmas.Bool.{cases_eq, cases_lt}
 use Rattle.std.proofs.lemmas.List.{get_or_default}
 use Rattle.std.proofs.lemmas.List.Elements.{All-take, Contains-append_cases}
-use Rattle.nv_region.specs.Region.{Region, size, word, put}
+use Rattle.nv_region.specs.Region.{Region, size, put}
 use Rattle.nv_region.specs.Stops.{Choices, IsMixed, LeavesOnly, NothingPending}
 use Rattle.nv_region.specs.Stored.{SameOutside, Stored, StoresOnly}
 use Rattle.nv_region.proofs.Stops.{mixed_left, mixed_same}
@@ -13,11 +12,10 @@ use Rattle.nv_super.specs.declared.superblock.Super.{Super}
 use Rattle.nv_super.specs.declared.owners.Owner.TheVariants as owners
 use Rattle.nv_super.specs.Layout.{IsLayout, fixed_layout}
 use Rattle.nv_super.specs.Super.{IsSuper}
-use Rattle.nv_super.proofs.Accepted.{super_stays}
 use Rattle.nv_inode.specs.Permitted.{is_permitted}
-use Rattle.nv_journal.specs.Undo.{dequeue, enqueue, is_sound, journal, pending_of, undone}
+use Rattle.nv_journal.specs.Undo.{dequeue, enqueue, journal, undone}
 use Rattle.nv_journal.specs.Pending.{BeforeOrAfter, CanUndo, IsEmpty}
-use Rattle.nv_journal.proofs.Partly.{low_rule, sound_of}
+use Rattle.nv_journal.proofs.Partly.{low_rule}
 use Rattle.nv_logpage.specs.Append.{AppendWords, appended, needed}
 use Rattle.nv_logpage.proofs.Local.{ReadsOn-same}
 use Rattle.nv_outcome.proofs.SuperOf.{blocks_of_super, layout_of_super}
@@ -31,7 +29,7 @@ use Rattle.nv_held.specs.Appended.{HasBehind}
 use Rattle.nv_held.proofs.Appending.{tail_follows}
 use Rattle.nv_held.proofs.Clear.{slots_clear}
 use Rattle.nv_held.proofs.Commits.{log_stays, stored_outside}
-use Rattle.nv_held.proofs.Fronts.{front_idle, front_super, loose_front, loose_sound, shown_same, slot_front}
+use Rattle.nv_held.proofs.Fronts.{front_idle, front_super, loose_front, loose_sound, slot_front}
 use Rattle.nv_held.proofs.Idle.{idle_undone}
 use Rattle.nv_held.proofs.Kept.{head_whole, page_owner, tail_there}
 use Rattle.nv_held.proofs.Owning.{other_held}

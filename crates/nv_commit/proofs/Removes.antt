@@ -1,5 +1,5 @@
 -- An inode that goes together with the entries that say so.
-use Rattle.std.proofs.Common.{◌≡◌, ℕ, ◌+◌, ◌*◌, ◌/◌, ◌%◌, ◌<◌, ◌≤◌, ◌⊎◌, inl, List, length, take, refl, sym, subst, arith, Some}
+use Rattle.std.proofs.Common.{◌≡◌, ℕ, ◌+◌, ◌*◌, ◌%◌, ◌<◌, ◌≤◌, inl, List, length, take, refl, sym, subst, arith, Some}
 use Rattle.nv_region.specs.Region.{Region, size, put}
 use Rattle.nv_region.specs.Stops.{Choices, IsMixed, LeavesOnly, NothingPending}
 use Rattle.nv_region.specs.Stored.{SameOutside, Stored, StoresOnly}

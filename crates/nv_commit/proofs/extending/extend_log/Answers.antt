@@ -1,6 +1,6 @@
 use Rattle.std.proofs.Common.{ℕ, ◌+◌, ◌∙◌, ap, inl, inr, is_err, length, sym, subst, arith}
 use Rattle.std.proofs.lemmas.Result.{err_from_is_err_and}
-use Rattle.nv_region.specs.Region.{Region, size}
+use Rattle.nv_region.specs.Region.{Region}
 use Rattle.nv_region.specs.Stops.{One}
 use Rattle.nv_region.proofs.Fuses.{keeps_more, keeps_within}
 use Rattle.nv_region.proofs.Stops.{refused_leaves}
