@@ -1,0 +1,82 @@
+-- A log that grows by entries, and its tail that moves.
+use Rattle.std.proofs.Common.{◌≡◌, ℕ, ◌+◌, ◌*◌, ◌%◌, ◌≤◌, ◌<◌, ◌⊎◌, Bool, true, false, inl, inr, List, length, take, sym, ◌∙◌, subst, arith, Some}
+use Rattle.std.proofs.lemmas.Bool.{cases_lt, true≢false}
+use Rattle.nv_region.specs.Region.{Region, size, put}
+use Rattle.nv_region.specs.Stops.{Choices, IsMixed, LeavesOnly, NothingPending}
+use Rattle.nv_region.specs.Stored.{Stored, StoresOnly}
+use Rattle.nv_region.proofs.Stops.{mixed_left, mixed_same}
+use Rattle.nv_region.proofs.Wordwise.{mixed_more, put_stored}
+use Rattle.nv_super.specs.declared.superblock.Super.{Super}
+use Rattle.nv_super.specs.Layout.{fixed_layout}
+use Rattle.nv_entry.specs.declared.entry.Entry.{Entry}
+use Rattle.nv_logpage.specs.Append.{AppendWords, appended, end_of, needed}
+use Rattle.nv_outcome.proofs.SuperOf.{layout_of_super}
+use Rattle.nv_held.specs.Held.{Held, Store, Shows, with_inode}
+use Rattle.nv_held.specs.Slots.{SlotsClear}
+use Rattle.nv_held.specs.Loose.{Loose}
+use Rattle.nv_held.specs.Front.{SameFront}
+use Rattle.nv_held.specs.Grows.{grown}
+use Rattle.nv_held.specs.Mounted.{ShowsSound}
+use Rattle.nv_held.specs.Appended.{Appends, HasBehind}
+use Rattle.nv_held.proofs.Clear.{slots_clear}
+use Rattle.nv_held.proofs.Fronts.{loose_front, loose_sound, slot_front}
+use Rattle.nv_held.proofs.Commits.{stored_outside}
+use Rattle.nv_held.proofs.Appending.{append_loose, has_behind, tail_follows}
+use Rattle.nv_commit.specs.Extends.{BeforeOrExtended, CanExtend, ShowsMoved, with_log}
+
+-- an append that was refused: there was an entry, and the fuse has burnt
+pub burnt_append : (count : ℕ) (burnt : Bool) → (0 < count → true ≡ burnt) → (count ≡ 0 → true ≡ false) → true ≡ burnt
+burnt_append count burnt some none = elim (cases_lt 0 count) [ inl more ↦ some more | inr least ↦ absurd (true≢false (none (omega (arith, least)))) ]
+
+pub front_more : {cpus : ℕ} {R Q S : Region} → SameFront cpus R Q → SameFront cpus Q S → SameFront cpus R S
+front_more first then = record { len = then.len ∙ first.len; words = λ at whole low. then.words at whole low ∙ first.words at whole low }
+
+module _ {R : Region} {s : Super} {held : Store} {i : ℕ} {h : Held} {slot tail : ℕ} {entries : List Entry} {fresh : List ℕ} (can : CanExtend R s held i h slot tail entries fresh) where
+  pub slots : SlotsClear (fixed_layout s) held
+  slots = slots_clear R s held (layout_of_super R s can.sound.sup) can.sound.shows
+
+  pub loose_there : (k x : ℕ) → AppendWords tail fresh k x → Loose (fixed_layout s) held k x
+  loose_there k x w = append_loose (fixed_layout s) held i h can.holds fresh can.free k x (subst (λ (t : ℕ). AppendWords t fresh k x) (sym can.tail_is) w)
+
+  pub all_loose : (left : Region) → IsMixed R (AppendWords tail fresh) left → IsMixed R (Loose (fixed_layout s) held) left
+  all_loose left mixed = mixed_more (Loose (fixed_layout s) held) (AppendWords tail fresh) R R left loose_there (mixed_same R (Loose (fixed_layout s) held)) mixed
+
+  -- before the tail is moved
+  pub sound_before : (left : Region) → IsMixed R (AppendWords tail fresh) left → ShowsSound left s held
+  sound_before left mixed = loose_sound R left s held can.sound (all_loose left mixed)
+
+  pub left_before : (now : Region) (old new : Choices) → StoresOnly (AppendWords tail fresh) R now old new → NothingPending R old → LeavesOnly now new (BeforeOrExtended R s held i h entries fresh)
+  left_before now old new wrote settled left may = inl (sound_before left (mixed_left R now (AppendWords tail fresh) old new wrote.mixed.as_long wrote.mixed.same_rest settled wrote.adds left may))
+
+  module _ (Q : Region) (new : ℕ) (is : new ≡ end_of fresh 0 tail entries) (appends : Appends R Q tail new entries fresh) where
+    here : Appends R Q h.tail new entries fresh
+    here = subst (λ (t : ℕ). Appends R Q t new entries fresh) (sym can.tail_is) appends
+
+    -- what stands behind the tail
+    pub stands_behind : HasBehind Q (fixed_layout s) held h new (appended fresh 0 h.tail entries) (take (needed (h.tail % 4096) entries) fresh)
+    stands_behind = has_behind (fixed_layout s) held i h can.holds fresh can.free can.sound.shows Q new entries slots can.sound.faultless.undoubled here
+
+    pub ends : new ≡ end_of fresh 0 h.tail entries
+    ends = subst (λ (t : ℕ). new ≡ end_of fresh 0 t entries) (sym can.tail_is) is
+
+    -- once it is moved
+    pub shows_after : (S : Region) → Stored Q (slot + 24) new S → ShowsMoved R s (with_log held i h entries fresh) S
+    shows_after S stored =
+        let shows = tail_follows (fixed_layout s) held Q S i slot new h (appended fresh 0 h.tail entries) (take (needed (h.tail % 4096) entries) fresh) slots can.at can.holds stands_behind stored in
+        record {
+          front = front_more (loose_front (fixed_layout s) held R Q slots.stand can.sound.shows (all_loose Q appends.wrote))
+              (slot_front (fixed_layout s) Q S i slot slots.stand can.at (stored_outside Q S slot 24 new (slots.whole i slot can.at) (omega arith) (omega arith) stored));
+          shows = subst (λ (n : ℕ). Shows S (fixed_layout s) (with_inode held i (Some (grown h n (appended fresh 0 h.tail entries) (take (needed (h.tail % 4096) entries) fresh))))) ends shows;
+        }
+
+    -- the same by a put
+    pub put_after : slot % 8 ≡ 0 → slot + 32 ≤ size R → length R.rest < 8 → ShowsMoved R s (with_log held i h entries fresh) (put Q (slot + 24) new)
+    put_after whole inside short =
+        let len : size Q ≡ size R = λ k. 8 * appends.wrote.as_long k + length (appends.wrote.same_rest k) in
+        shows_after (put Q (slot + 24) new) (put_stored Q (slot + 24) new (omega (arith, whole)) (omega (arith, inside, len))
+        (subst (λ (r : List ℕ). length r < 8) (sym appends.wrote.same_rest) short))
+
+    -- a commit of the tail's word, done or not
+    pub once_committed : slot % 8 ≡ 0 → slot + 32 ≤ size R → length R.rest < 8 → (left : Region) → (left ≡ Q) ⊎ (left ≡ put Q (slot + 24) new) → BeforeOrExtended R s held i h entries fresh left
+    once_committed whole inside short left (inl same) = inl (subst (λ (X : Region). ShowsSound X s held) (sym same) (sound_before Q appends.wrote))
+    once_committed whole inside short left (inr moved) = inr (subst (λ (X : Region). ShowsMoved R s (with_log held i h entries fresh) X) (sym moved) (put_after whole inside short))

@@ -1,0 +1,5 @@
+pub mod Extends
+pub mod Permitted
+pub mod TwoWords
+pub mod BothTails
+pub mod Removes

@@ -1,0 +1,64 @@
+use Rattle.std.proofs.Common.{◌≡◌, inl, arith}
+use Rattle.nv_region.specs.Region.{size}
+use Rattle.nv_region.proofs.Fuses.{keeps_more, keeps_within}
+use Rattle.nv_inode.specs.Permitted.{is_permitted}
+use Rattle.nv_commit.proofs.BothTails.{both_before, both_idle, both_left, can_undo, mixed_size, sound_undone, still_empty, undone_either}
+use Rattle.nv_commit.proofs.together.extend_two.Goals as goal
+
+pub append_both-requires : goal.append_both-requires
+append_both-requires g c = record { first = c.requires.first.append; second = c.requires.second.append }
+
+pub change_two-requires : goal.change_two-requires
+change_two-requires g c =
+    let first = c.requires.first in
+    let second = c.requires.second in
+    let same : size (g.P.Pmem.region c.append_both.new.memory) ≡ size (g.P.Pmem.region c.args.memory.now) = mixed_size c.append_both.ensures.wrote.mixed in
+    record {
+      inside = omega (arith, first.slot_behind, first.inside, same);
+      empty = still_empty first second c.append_both.ensures.wrote.mixed c.requires.empty;
+      first = (omega (arith, first.whole), omega (arith, first.inside, same));
+      second = (omega (arith, second.whole), omega (arith, second.inside, same));
+      behind = (omega (arith, first.slot_behind), omega (arith, second.slot_behind));
+    }
+
+pub returns-in_err-ends-clause-reads : goal.returns-in_err-ends-clause-reads
+returns-in_err-ends-clause-reads g c s held i j h k can = inl (sound_undone (both_before can _ c.append_both.ensures.wrote.mixed))
+
+pub returns-in_err-ends-clause-any_stop : goal.returns-in_err-ends-clause-any_stop
+returns-in_err-ends-clause-any_stop g c s held i j h k can settled = both_left can _ _ _ c.append_both.ensures.wrote settled
+
+pub returns-in_err-ends-clause-keeps_fuse : goal.returns-in_err-ends-clause-keeps_fuse
+returns-in_err-ends-clause-keeps_fuse g c = keeps_within (λ limit past. (past.0, past.1)) c.append_both.ensures.keeps_fuse
+
+pub returns-in_err-change_two-clause-reads : goal.returns-in_err-change_two-clause-reads
+returns-in_err-change_two-clause-reads g c s held i j h k can =
+    undone_either can c.in_ok-ends.ensures.appended c.requires.first.inside c.requires.second.inside c.len-length.ensures.short _ (c.change_two.ensures.reads (is_permitted s) s.cpus (can_undo can c.in_ok-ends.ensures.appended c.len-length.ensures.short))
+
+pub returns-in_err-change_two-clause-any_stop : goal.returns-in_err-change_two-clause-any_stop
+returns-in_err-change_two-clause-any_stop g c s held i j h k can settled left may =
+    undone_either can c.in_ok-ends.ensures.appended c.requires.first.inside c.requires.second.inside c.len-length.ensures.short left (c.change_two.ensures.any_stop (is_permitted s) s.cpus (can_undo can c.in_ok-ends.ensures.appended c.len-length.ensures.short) c.in_ok-ends.ensures.settled left may)
+
+pub returns-in_err-change_two-clause-keeps_fuse : goal.returns-in_err-change_two-clause-keeps_fuse
+returns-in_err-change_two-clause-keeps_fuse g c =
+    let behind = c.requires.first.slot_behind in
+    keeps_more (λ limit past. (let first = past.2 in let second = past.3 in (omega (arith, behind, first), omega (arith, first), omega (arith, second)))) (keeps_within (λ limit past. (past.0, past.1)) c.append_both.ensures.keeps_fuse) c.change_two.ensures.keeps_fuse
+
+pub returns-clause-reads : goal.returns-clause-reads
+returns-clause-reads g c s held i j h k can =
+    undone_either can c.in_ok-ends.ensures.appended c.requires.first.inside c.requires.second.inside c.len-length.ensures.short _ (c.change_two.ensures.reads (is_permitted s) s.cpus (can_undo can c.in_ok-ends.ensures.appended c.len-length.ensures.short))
+
+pub returns-clause-any_stop : goal.returns-clause-any_stop
+returns-clause-any_stop g c s held i j h k can settled left may =
+    undone_either can c.in_ok-ends.ensures.appended c.requires.first.inside c.requires.second.inside c.len-length.ensures.short left (c.change_two.ensures.any_stop (is_permitted s) s.cpus (can_undo can c.in_ok-ends.ensures.appended c.len-length.ensures.short) c.in_ok-ends.ensures.settled left may)
+
+pub returns-clause-keeps_fuse : goal.returns-clause-keeps_fuse
+returns-clause-keeps_fuse g c =
+    let behind = c.requires.first.slot_behind in
+    keeps_more (λ limit past. (let first = past.2 in let second = past.3 in (omega (arith, behind, first), omega (arith, first), omega (arith, second)))) (keeps_within (λ limit past. (past.0, past.1)) c.append_both.ensures.keeps_fuse) c.change_two.ensures.keeps_fuse
+
+pub returns-clause-ends : goal.returns-clause-ends
+returns-clause-ends g c = (c.in_ok-ends.ensures.appended.first_end, c.in_ok-ends.ensures.appended.second_end)
+
+pub returns-clause-shows : goal.returns-clause-shows
+returns-clause-shows g c s held i j h k can =
+    both_idle can c.in_ok-ends.ensures.appended c.requires.first.inside c.requires.second.inside c.len-length.ensures.short _ c.in_ok-change_two.ensures.done c.in_ok-change_two.ensures.empty

@@ -1,0 +1,55 @@
+//! Entries written behind the tail of a log, and the tail moved behind them by one store.
+
+ghost use Rattle.std.specs.Prelude.{◌≡◌, ◌+◌, ◌/◌, ◌%◌, ◌≤◌, ◌∷◌, ℕ, IfOk, OnOk, is_err};
+ghost use Rattle.nv_region.specs.Region.{size};
+ghost use Rattle.nv_region.specs.Stops.{LeavesOnly, NothingPending};
+ghost use Rattle.nv_region.specs.Fuses.{KeepsFuse};
+ghost use Rattle.nv_region.specs.Stored.{StoresOnly};
+ghost use Rattle.nv_super.specs.declared.superblock.Super.{Super};
+ghost use Rattle.nv_logpage.specs.Append.{CanAppend, EndBy, end_of};
+ghost use Rattle.nv_held.specs.Held.{Held, Store};
+ghost use Rattle.nv_commit.specs.Extends.{BeforeOrExtended, CanExtend, ExtendWords, ShowsMoved, with_log};
+
+use nv_entry::Entry;
+use nv_logpage::append;
+use nv_region::{Pmem, Stopped, commit_word};
+
+/// The tail word, by its place in a slot.
+pub(crate) const TAIL: u64 = 24;
+
+/// Writes the entries behind the tail of the inode whose slot is at this address, over these fresh pages, and moves the
+/// tail behind them. Answers the new tail.
+///
+/// A stop at any moment of the call leaves the log as it was or with all of the entries. It costs two fences and takes no
+/// memory. Answers `Stopped` exactly where the fuse has burnt by the end of the call.
+pub fn extend_log<P: Pmem>(
+    memory: &mut P,
+    slot: u64,
+    tail: u64,
+    entries: &[Entry],
+    fresh: &[u64],
+) -> Result<u64, Stopped>
+    requires can { CanAppend (P.region memory.old) tail entries.now fresh.now }
+    requires whole { slot % 8 ≡ 0 }
+    requires inside { slot + 32 ≤ size (P.region memory.old) }
+    ensures end { IfOk result (λ new. new ≡ end_of fresh.now 0 tail entries.now) }
+    // The region shows the inode with the grown log. Where nothing is wrong with that, nothing is wrong with the region.
+    ensures shows { (s : Super) (held : Store) (i : ℕ) (h : Held) → CanExtend (P.region memory.old) s held i h slot tail entries.now fresh.now
+        → OnOk result (ShowsMoved (P.region memory.old) s (with_log held i h entries.now fresh.now) (P.region memory.new)) }
+    ensures settled { OnOk result (NothingPending (P.region memory.new) (P.may_hold memory.new)) }
+    ensures wrote { StoresOnly (ExtendWords slot tail entries.now fresh.now) (P.region memory.old) (P.region memory.new) (P.may_hold memory.old) (P.may_hold memory.new) }
+    ensures stopped { is_err result ≡ (P.fuse memory.new).has_burnt }
+    ensures keeps_fuse { KeepsFuse (λ limit. EndBy (tail / 4096 ∷ fresh.now) limit × (slot + 32 ≤ limit)) (P.fuse memory.old) (P.fuse memory.new) }
+    // The region as it reads, also after a stop, and each that a stop leaves.
+    ensures reads { (s : Super) (held : Store) (i : ℕ) (h : Held) → CanExtend (P.region memory.old) s held i h slot tail entries.now fresh.now
+        → BeforeOrExtended (P.region memory.old) s held i h entries.now fresh.now (P.region memory.new) }
+    ensures any_stop { (s : Super) (held : Store) (i : ℕ) (h : Held) → CanExtend (P.region memory.old) s held i h slot tail entries.now fresh.now → NothingPending (P.region memory.old) (P.may_hold memory.old)
+        → LeavesOnly (P.region memory.new) (P.may_hold memory.new) (BeforeOrExtended (P.region memory.old) s held i h entries.now fresh.now) }
+{
+    // The region's length is a u64, and fewer than eight bytes stand behind the last word.
+    let _length = memory.len();
+    let end = append(memory, tail, entries, fresh)?;
+    memory.fence()?;
+    commit_word(memory, slot + TAIL, end)?;
+    Ok(end)
+}

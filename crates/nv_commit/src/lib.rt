@@ -1,0 +1,16 @@
+//! The commits of file calls: what leads from what is held to what is held next, each with what a stop may leave of it.
+//!
+//! Entries are written behind a log's tail, over free blocks, where nothing is read from. One store of the tail's word
+//! then makes them part of the log. So a stop leaves the log as it was or with all of them. Where a second word has to
+//! change with the tail, the journal of a CPU holds both old values meanwhile.
+#![tactic(auto)]
+
+mod extending;
+mod laws;
+mod removing;
+mod together;
+
+pub use extending::extend_log;
+pub use laws::shown_is_sound;
+pub use removing::remove_inode;
+pub use together::{Extension, extend_two};

@@ -1,0 +1,56 @@
+//! An inode that goes: the entries behind the tail of its directory's log, and its valid word, by the journal of a CPU.
+
+ghost use Rattle.std.specs.Prelude.{◌≡◌, ◌+◌, ◌/◌, ◌%◌, ◌≤◌, ◌∷◌, ℕ, IfOk, OnOk, is_err};
+ghost use Rattle.nv_region.specs.Region.{size};
+ghost use Rattle.nv_region.specs.Stops.{LeavesOnly, NothingPending};
+ghost use Rattle.nv_region.specs.Fuses.{KeepsFuse};
+ghost use Rattle.nv_super.specs.declared.superblock.Super.{Super};
+ghost use Rattle.nv_journal.specs.Pending.{IsEmpty};
+ghost use Rattle.nv_journal.specs.Undo.{journal};
+ghost use Rattle.nv_logpage.specs.Append.{EndBy, end_of};
+ghost use Rattle.nv_held.specs.Held.{Held, Store};
+ghost use Rattle.nv_commit.specs.Together.{CanCommit, ShowsIdle};
+ghost use Rattle.nv_commit.specs.Removes.{BeforeOrRemoved, CanRemove, with_removed};
+
+use crate::extending::TAIL;
+use crate::together::Extension;
+use nv_journal::change_two;
+use nv_logpage::append;
+use nv_region::{Pmem, Stopped};
+
+/// Writes entries behind the tail of a directory's log, and then, by the empty journal of a CPU, moves the tail behind them
+/// and clears the valid word of the inode whose slot is at `slot`. Answers the new tail.
+///
+/// After a stop at any moment of the call, the undone region has the log as it was and the inode, or the log with all of
+/// the entries and no such inode. It costs five fences and takes no memory. Answers `Stopped` exactly where the fuse has
+/// burnt by the end of the call.
+pub fn remove_inode<P: Pmem>(
+    memory: &mut P,
+    cpu: u64,
+    directory: &Extension<'_>,
+    slot: u64,
+) -> Result<u64, Stopped>
+    requires empty { IsEmpty (P.region memory.old) cpu }
+    requires directory { CanCommit (P.region memory.old) cpu directory.now }
+    requires whole { slot % 8 ≡ 0 }
+    requires inside { slot + 8 ≤ size (P.region memory.old) }
+    requires behind { journal cpu + 4096 ≤ slot }
+    ensures end { IfOk result (λ new. new ≡ end_of directory.now.fresh.now 0 directory.now.tail directory.now.entries.now) }
+    ensures shows { (s : Super) (held : Store) (i j : ℕ) (h : Held) → CanRemove (P.region memory.old) s held cpu i h directory.now j slot
+        → OnOk result (ShowsIdle (P.region memory.new) s (with_removed held i h directory.now j)) }
+    ensures settled { OnOk result (NothingPending (P.region memory.new) (P.may_hold memory.new)) }
+    ensures stopped { is_err result ≡ (P.fuse memory.new).has_burnt }
+    ensures keeps_fuse { KeepsFuse (λ limit. EndBy (directory.now.tail / 4096 ∷ directory.now.fresh.now) limit × (directory.now.slot + 32 ≤ limit) × (slot + 8 ≤ limit)) (P.fuse memory.old) (P.fuse memory.new) }
+    // The region as it reads, also after a stop, and each that a stop leaves.
+    ensures reads { (s : Super) (held : Store) (i j : ℕ) (h : Held) → CanRemove (P.region memory.old) s held cpu i h directory.now j slot
+        → BeforeOrRemoved s held i h directory.now j (P.region memory.new) }
+    ensures any_stop { (s : Super) (held : Store) (i j : ℕ) (h : Held) → CanRemove (P.region memory.old) s held cpu i h directory.now j slot → NothingPending (P.region memory.old) (P.may_hold memory.old)
+        → LeavesOnly (P.region memory.new) (P.may_hold memory.new) (BeforeOrRemoved s held i h directory.now j) }
+{
+    // The region's length is a u64, and fewer than eight bytes stand behind the last word.
+    let _length = memory.len();
+    let end = append(memory, directory.tail, directory.entries, directory.fresh)?;
+    memory.fence()?;
+    change_two(memory, cpu, directory.slot + TAIL, end, slot, 0)?;
+    Ok(end)
+}
