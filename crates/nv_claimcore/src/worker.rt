@@ -1,6 +1,6 @@
 //! One worker of the core: the numbers that it drew, and the records of its claims.
 
-ghost use Rattle.std.specs.Prelude.{◌≡◌, ℕ, ◌+◌, ◌^◌, ◌<◌, ◌≤◌, ◌++◌, nat_lt, length, OnOk, OnErr};
+ghost use Rattle.std.specs.Prelude.{◌≡◌, ℕ, ◌+◌, ◌%◌, ◌<◌, ◌≤◌, ◌++◌, nat_lt, length, OnOk, OnErr};
 ghost use Rattle.std.specs.List.{count_by};
 ghost use Rattle.std.specs.Vec.{vec_len, vec_capacity};
 ghost use Rattle.nv_super.specs.Owners.{MayOwn, pairs};
@@ -68,7 +68,8 @@ impl Worker {
 
     // A record more for each block of a run within one word, won where its bit is 0 in the word found.
     pub(crate) fn claim_run(&mut self, found: u64, run: Run, owner: Owner) -> Result<(), AllocError>
-        requires { (run.start + run.count < 2 ^ 64 + 1) × (run.count ≤ 64) × MayOwn owner run.count }
+        requires word { run.start % 64 + run.count ≤ 64 }
+        requires owner { MayOwn owner run.count }
         ensures ok { OnOk result (self.new ≡ claim_all found (pairs run.start owner run.count) self.old) }
         ensures err { OnErr result (self.new ≡ self.old) }
     {
@@ -116,7 +117,8 @@ impl Worker {
 
 // Adds a record for each block of a run, won where its bit is 0 in the word found. The room is there.
 fn push_claims(records: &mut Vec<Record>, found: u64, run: Run, owner: Owner)
-    requires run { (run.start + run.count < 2 ^ 64 + 1) × MayOwn owner run.count }
+    requires word { run.start % 64 + run.count ≤ 64 }
+    requires owner { MayOwn owner run.count }
     requires room { vec_len records.old + run.count ≤ vec_capacity records.old }
     ensures { records.new.items ≡ records.old.items ++ claims_in found (pairs run.start owner run.count) }
 {
