@@ -14,3 +14,5 @@ pub mod Parts
 pub mod Turns
 pub mod Courses
 pub mod Single
+pub mod SpanSteps
+pub mod MarkSteps

@@ -32,15 +32,15 @@ at_view [] i d l = absurd (omega arith)
 at_view (x ∷ xs) zero d l = refl
 at_view (x ∷ xs) (suc i) d l = at_view xs i d (omega arith)
 
-and_left : (a b : Bool) → (a && b) ≡ true → a ≡ true
+pub and_left : (a b : Bool) → (a && b) ≡ true → a ≡ true
 and_left true b e = refl
 and_left false b e = e
 
-and_right : (a b : Bool) → (a && b) ≡ true → b ≡ true
+pub and_right : (a b : Bool) → (a && b) ≡ true → b ≡ true
 and_right true b e = e
 and_right false b e = absurd (false≢true e)
 
-is_less : (a b : ℕ) → ltb a b ≡ true → a < b
+pub is_less : (a b : ℕ) → ltb a b ≡ true → a < b
 is_less a b e = ⊎_elim (λ l. l) (λ l. let no : ltb a b ≡ false = grind (arith, l) in absurd (false≢true (sym no ∙ e))) (cases_lt a b)
 
 is_zero : (a : ℕ) → (a == 0) ≡ true → a ≡ 0

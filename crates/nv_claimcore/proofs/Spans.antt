@@ -33,7 +33,7 @@ set_again (x ∷ xs) zero a e = λ k. sym (some-injective x a e) k ∷ xs
 set_again (x ∷ xs) (suc i) a e = λ k. x ∷ set_again xs i a e k
 
 -- a block that was just claimed does not change what the others of its word win
-same_wins : (n b k lo hi : ℕ) (ps : List (ℕ × Owner)) (v : View) → b / 64 ≡ k → b < lo → k * 64 ≤ b → hi ≤ k * 64 + 64 → Rises lo hi ps → claim_all (bit_or n (mask_of b)) ps v ≡ claim_all n ps v
+pub same_wins : (n b k lo hi : ℕ) (ps : List (ℕ × Owner)) (v : View) → b / 64 ≡ k → b < lo → k * 64 ≤ b → hi ≤ k * 64 + 64 → Rises lo hi ps → claim_all (bit_or n (mask_of b)) ps v ≡ claim_all n ps v
 same_wins n b k lo hi [] v in_word before low high rises = refl
 same_wins n b k lo hi (p ∷ ps) v in_word before low high rises = let r0 = rises.0 in let r1 = rises.1 in let apart : p.0 % 64 ≢ b % 64 = λ e. omega arith in
     let bit : bit_at (bit_or n (mask_of b)) (p.0 % 64) ≡ bit_at n (p.0 % 64) = or_other n (b % 64) (p.0 % 64) apart in

@@ -6,3 +6,4 @@ pub mod Replay
 pub mod Pace
 pub mod Turns
 pub mod Refused
+pub mod SpanEvents

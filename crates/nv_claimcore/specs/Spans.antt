@@ -38,6 +38,10 @@ AreUnmarked (p ∷ ps) v = (0 < count_by (is_unmarked p.0) v.records) × AreUnma
 abbrev pub is_free : ℕ → ℕ × Owner → Bool
 is_free n p = bit_at n (p.0 % 64) == 0
 
+-- the records of the claims, where the word found is n
+abbrev pub claims_in : ℕ → List (ℕ × Owner) → List Record
+claims_in n ps = map (λ p. claim_of p.0 p.1 (is_free n p)) ps
+
 -- the claims that lose, where the word found is n
 abbrev pub lost_in : ℕ → List (ℕ × Owner) → List (ℕ × Owner)
 lost_in n [] = []

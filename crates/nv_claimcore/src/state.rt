@@ -1,15 +1,22 @@
 //! The core's state, and one event after the other.
 
-ghost use Rattle.std.specs.Prelude.{◌≡◌, ℕ, ◌+◌, ◌/◌, ◌<◌, ◌^◌, ◌==◌, true, length, IfOk, OnOk, OnErr};
+ghost use Rattle.std.specs.Prelude.{◌≡◌, ℕ, ◌+◌, ◌*◌, ◌/◌, ◌%◌, ◌<◌, ◌≤◌, ◌^◌, ◌==◌, true, length, MatchOption, IfOk, IfErr, OnOk, OnErr};
+ghost use Rattle.std.specs.Int.{bit_at};
 ghost use Rattle.nv_blockset.specs.BlockSet.{has, words_for};
+ghost use Rattle.nv_super.specs.Owners.{MayOwn};
+ghost use Rattle.nv_claimcore.specs.declared.event.Event.TheVariants.{Mark};
+ghost use Rattle.nv_claimcore.specs.declared.refusal.CoreRefusal.TheVariants.{NotAllowed};
 ghost use Rattle.nv_claimcore.specs.Claims.{State, Legal, Owes, after_draw, after_claim, after_mark};
-ghost use Rattle.nv_claimcore.specs.Events.{start, view_of, is_allowed, after};
+ghost use Rattle.nv_claimcore.specs.Events.{start, view_of, is_allowed, after, all_allowed, after_all};
+ghost use Rattle.nv_claimcore.specs.Refused.{RefusesFrom};
+ghost use Rattle.nv_claimcore.specs.SpanEvents.{sizes_of, span_events, mark_events, IsLost};
 
 use crate::event::Event;
+use crate::refusal::CoreRefusal;
 use crate::view::{Record, Sizes};
 use crate::worker::Worker;
 use nv_blockset::{contains, insert, words_for};
-use nv_super::Owner;
+use nv_super::{Owner, Run};
 use std::alloc::{AllocError, Global};
 use std::marker::Model;
 
@@ -56,6 +63,52 @@ impl ClaimState {
         ensures { result.now ≡ self.now.views }
     {
         &self.views
+    }
+
+    /// The worker claims the blocks of a run within one word, in rising order, for an owner whose page is raised by one
+    /// from block to block. The answer is the mask of the blocks whose claims were lost. A refusal changes nothing.
+    ///
+    /// It takes the time of one step for each block of the run.
+    pub fn claim_span(&mut self, worker: u32, run: Run, owner: Owner) -> Result<u64, CoreRefusal>
+        requires word { run.start % 64 + run.count ≤ 64 }
+        requires blocks { 0 < run.count → run.start + run.count ≤ 64 * length self.old.first }
+        requires owner { 0 < run.count → MayOwn owner run.count }
+        ensures allowed { IfOk result (λ _. all_allowed (sizes_of self.old) self.old (span_events worker run owner) ≡ true) }
+        ensures state { OnOk result (self.new ≡ after_all self.old (span_events worker run owner)) }
+        ensures lost { IfOk result (IsLost self.old.first run) }
+        ensures refused { IfErr result (RefusesFrom (sizes_of self.old) self.old (span_events worker run owner)) }
+        ensures unchanged { OnErr result (self.new ≡ self.old) }
+    {
+        if run.is_empty() {
+            return Ok(0);
+        }
+        if worker as usize >= self.views.len() {
+            return Err(CoreRefusal::NotAllowed { place: 0 });
+        }
+        let word = (run.start / 64) as usize;
+        let mask = (u64::MAX >> (64 - run.count)) << (run.start % 64);
+        let found = self.first[word];
+        self.views[worker as usize].claim_run(found, run, owner)?;
+        self.first[word] = found | mask;
+        Ok(found & mask)
+    }
+
+    /// The worker marks the blocks that the mask has in a word of the second set, in rising order: of each its oldest
+    /// lost claim that is not marked. A refusal changes nothing.
+    ///
+    /// For each block of the mask it looks through the worker's records.
+    pub fn mark_span(&mut self, worker: u32, word: usize, mask: u64) -> Result<(), CoreRefusal>
+        requires word { (word < length self.old.second) × (word < 2 ^ 58) }
+        ensures allowed { OnOk result (all_allowed (sizes_of self.old) self.old (mark_events worker word mask) ≡ true) }
+        ensures state { OnOk result (self.new ≡ after_all self.old (mark_events worker word mask)) }
+        ensures refused { IfErr result (RefusesFrom (sizes_of self.old) self.old (mark_events worker word mask)) }
+        ensures unchanged { OnErr result (self.new ≡ self.old) }
+    {
+        if let Some(place) = self.refused_mark(worker, word, mask) {
+            return Err(CoreRefusal::NotAllowed { place });
+        }
+        self.mark_all(worker, word, mask);
+        Ok(())
     }
 
     // Nothing is drawn or claimed.
@@ -132,6 +185,43 @@ impl ClaimState {
         insert(&mut self.second, block);
     }
 
+    // The place, among the mask's blocks, of the first one that the worker may not mark.
+    fn refused_mark(&self, worker: u32, word: usize, mask: u64) -> Option<usize>
+        requires { word < 2 ^ 58 }
+        ensures { MatchOption result (all_allowed (sizes_of self.now) self.now (mark_events worker word mask) ≡ true) (λ place. RefusesFrom (sizes_of self.now) self.now (mark_events worker word mask) (NotAllowed place)) }
+    {
+        let mut place = 0;
+        for bit in 0..64 {
+            if has_bit(mask, bit) {
+                if !self.may_mark(worker, word as u64 * 64 + bit) {
+                    return Some(place);
+                }
+                place += 1;
+            }
+        }
+        None
+    }
+
+    // Marks all blocks of the mask.
+    fn mark_all(&mut self, worker: u32, word: usize, mask: u64)
+        requires word { (word < length self.old.second) × (word < 2 ^ 58) }
+        requires allowed { all_allowed (sizes_of self.old) self.old (mark_events worker word mask) ≡ true }
+        ensures { self.new ≡ after_all self.old (mark_events worker word mask) }
+    {
+        for bit in 0..64 {
+            if has_bit(mask, bit) {
+                self.mark(worker as usize, word as u64 * 64 + bit);
+            }
+        }
+    }
+
+    // Whether the worker has a lost claim of the block that is not marked.
+    fn may_mark(&self, worker: u32, block: u64) -> bool
+        ensures { result ≡ is_allowed (sizes_of self.now) self.now (Mark worker block) }
+    {
+        (worker as usize) < self.views.len() && self.views[worker as usize].has_unmarked(block)
+    }
+
     // Whether the event is allowed.
     pub(crate) fn allows(&self, sizes: Sizes, event: Event) -> bool
         requires { length self.now.first ≡ words_for sizes.blocks }
@@ -144,10 +234,7 @@ impl ClaimState {
             }
             Event::Claim { worker, block, .. } => (worker as usize) < self.views.len()
                 && block < sizes.blocks,
-            Event::Mark { worker, block } => {
-                (worker as usize) < self.views.len()
-                    && self.views[worker as usize].has_unmarked(block)
-            }
+            Event::Mark { worker, block } => self.may_mark(worker, block),
         }
     }
 
@@ -172,4 +259,12 @@ impl ClaimState {
         }
         Ok(())
     }
+}
+
+// Whether the mask has the bit.
+fn has_bit(mask: u64, bit: u64) -> bool
+    requires { bit < 64 }
+    ensures { result ≡ (bit_at mask bit == 1) }
+{
+    mask >> bit & 1 == 1
 }

@@ -1,11 +1,15 @@
 //! One worker of the core: the numbers that it drew, and the records of its claims.
 
-ghost use Rattle.std.specs.Prelude.{◌≡◌, ℕ, ◌<◌, nat_lt, length, OnOk, OnErr};
+ghost use Rattle.std.specs.Prelude.{◌≡◌, ℕ, ◌+◌, ◌%◌, ◌<◌, ◌≤◌, ◌++◌, nat_lt, length, OnOk, OnErr};
 ghost use Rattle.std.specs.List.{count_by};
+ghost use Rattle.std.specs.Vec.{vec_len, vec_capacity};
+ghost use Rattle.nv_super.specs.Owners.{MayOwn, pairs};
 ghost use Rattle.nv_claimcore.specs.declared.view.View.{View};
 ghost use Rattle.nv_claimcore.specs.Claims.{Owes, nothing, past, is_unmarked, place_of, with_number, with_record, with_mark};
+ghost use Rattle.nv_claimcore.specs.Spans.{claim_all, claims_in};
 
 use crate::view::Record;
+use nv_super::{Owner, Run};
 use std::alloc::{AllocError, Global};
 use std::marker::Model;
 
@@ -62,6 +66,18 @@ impl Worker {
         Ok(())
     }
 
+    // A record more for each block of a run within one word, won where its bit is 0 in the word found.
+    pub(crate) fn claim_run(&mut self, found: u64, run: Run, owner: Owner) -> Result<(), AllocError>
+        requires word { run.start % 64 + run.count ≤ 64 }
+        requires owner { MayOwn owner run.count }
+        ensures ok { OnOk result (self.new ≡ claim_all found (pairs run.start owner run.count) self.old) }
+        ensures err { OnErr result (self.new ≡ self.old) }
+    {
+        self.records.reserve(run.count as usize)?;
+        push_claims(&mut self.records, found, run, owner);
+        Ok(())
+    }
+
     // Marks the oldest lost claim of the block that is not marked, if there is one.
     pub(crate) fn mark(&mut self, block: u64)
         ensures { self.new ≡ with_mark self.old block }
@@ -96,6 +112,24 @@ impl Worker {
             .iter()
             .filter(|number| **number >= tickets)
             .count()
+    }
+}
+
+// Adds a record for each block of a run, won where its bit is 0 in the word found. The room is there.
+fn push_claims(records: &mut Vec<Record>, found: u64, run: Run, owner: Owner)
+    requires word { run.start % 64 + run.count ≤ 64 }
+    requires owner { MayOwn owner run.count }
+    requires room { vec_len records.old + run.count ≤ vec_capacity records.old }
+    ensures { records.new.items ≡ records.old.items ++ claims_in found (pairs run.start owner run.count) }
+{
+    for place in 0..run.count {
+        let block = run.start + place;
+        records.push_reserved(Record {
+            block,
+            owner: owner.raised(place),
+            won: found >> (block % 64) & 1 == 0,
+            marked: false,
+        });
     }
 }
 

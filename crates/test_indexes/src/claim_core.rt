@@ -1,11 +1,11 @@
 //! Worked lists of events and schedules. In each, two workers claim block 3 of four blocks, once as a page of inode 1's
 //! log and once as a page of inode 2's file.
 
-ghost use Rattle.std.specs.Prelude.{IfOk};
+ghost use Rattle.std.specs.Prelude.{IfOk, ◌+◌, ◌≤◌};
 ghost use Rattle.nv_claimcore.specs.Replay.{lists, Inside};
 
 use nv_claimcore::{ClaimState, CoreRefusal, Event, Record, Sizes, Worker, replay, run};
-use nv_super::Owner;
+use nv_super::{Owner, Run};
 use std::alloc::{AllocError, Global};
 use std::process::Abort;
 
@@ -186,5 +186,111 @@ fn a_worker_past_the_end_has_no_step(rt: HostRuntime) -> Result<(), CoreRefusal>
     let nothing = Vec::new(rt.alloc());
     let state = replay(rt.alloc(), &[0, 0, 0], 0, 1, &nothing)?;
     assert_eq!(rt; state.cursor(), 1);
+    Ok(())
+}
+
+// One word of 64 blocks, and two workers.
+const ONE_WORD: Sizes = Sizes {
+    blocks: 64,
+    tickets: 0,
+    workers: 2,
+};
+
+// A worker claims a run of the word for a file, from its page 0 on.
+fn claim_of_file(
+    state: &mut ClaimState,
+    worker: u32,
+    run: Run,
+    inode: u64,
+) -> Result<u64, CoreRefusal>
+    requires { run.start + run.count ≤ 64 }
+{
+    if state.first().len() != 1 {
+        return Err(CoreRefusal::Memory);
+    }
+    state.claim_span(worker, run, Owner::Data { inode, page: 0 })
+}
+
+fn mark_in_word(state: &mut ClaimState, worker: u32, mask: u64) -> Result<(), CoreRefusal> {
+    if state.second().len() != 1 {
+        return Err(CoreRefusal::Memory);
+    }
+    state.mark_span(worker, 0, mask)
+}
+
+const LAST_FOUR: Run = Run {
+    start: 60,
+    count: 4,
+};
+
+const LAST: Run = Run {
+    start: 63,
+    count: 1,
+};
+
+const LAST_BIT: u64 = 9223372036854775808;
+
+// Worker 0 claims blocks 60 to 63 for a file, and then worker 1 block 63 for another.
+fn both_claims(rt: &impl Abort, alloc: Global) -> Result<ClaimState, CoreRefusal> {
+    let mut state = run(alloc, ONE_WORD, &[])?;
+    let lost = claim_of_file(&mut state, 0, LAST_FOUR, 2)?;
+    assert_eq!(rt; lost, 0);
+    let lost = claim_of_file(&mut state, 1, LAST, 4)?;
+    assert_eq!(rt; lost, LAST_BIT);
+    Ok(state)
+}
+
+fn assert_sets(rt: &impl Abort, state: &ClaimState, first: u64, second: u64) {
+    assert_eq!(rt; state.first(), [first].as_slice());
+    assert_eq!(rt; state.second(), [second].as_slice());
+}
+
+// The bits 60 to 63.
+const LAST_FOUR_BITS: u64 = 17293822569102704640;
+
+#[test]
+fn a_span_gives_the_mask_of_its_lost_claims(rt: HostRuntime) -> Result<(), CoreRefusal> {
+    let mut state = both_claims(&rt, rt.alloc())?;
+    assert_sets(&rt, &state, LAST_FOUR_BITS, 0);
+    mark_in_word(&mut state, 1, LAST_BIT)?;
+    assert_sets(&rt, &state, LAST_FOUR_BITS, LAST_BIT);
+    Ok(())
+}
+
+const NOT_ALLOWED: CoreRefusal = CoreRefusal::NotAllowed { place: 0 };
+
+#[test]
+fn a_refused_span_changes_nothing(rt: HostRuntime) -> Result<(), CoreRefusal> {
+    let mut state = both_claims(&rt, rt.alloc())?;
+    let refusal = claim_of_file(&mut state, 2, LAST, 4).err();
+    assert!(rt; refusal == Some(NOT_ALLOWED));
+    let refusal = mark_in_word(&mut state, 0, LAST_BIT).err();
+    assert!(rt; refusal == Some(NOT_ALLOWED));
+    assert_sets(&rt, &state, LAST_FOUR_BITS, 0);
+    mark_in_word(&mut state, 1, LAST_BIT)?;
+    // The one lost claim of block 63 is marked, so a second mark is not allowed.
+    let refusal = mark_in_word(&mut state, 1, LAST_BIT).err();
+    assert!(rt; refusal == Some(NOT_ALLOWED));
+    assert_sets(&rt, &state, LAST_FOUR_BITS, LAST_BIT);
+    Ok(())
+}
+
+#[test]
+fn a_mark_is_refused_at_its_place_in_the_mask(rt: HostRuntime) -> Result<(), CoreRefusal> {
+    let mut state = run(rt.alloc(), ONE_WORD, &[])?;
+    claim_of_file(&mut state, 0, LAST_FOUR, 2)?;
+    // Worker 1 loses block 62, and not block 63, which it does not claim.
+    claim_of_file(
+        &mut state,
+        1,
+        Run {
+            start: 62,
+            count: 1,
+        },
+        4,
+    )?;
+    let refusal = mark_in_word(&mut state, 1, 13835058055282163712).err();
+    assert!(rt; refusal == Some(CoreRefusal::NotAllowed { place: 1 }));
+    assert_sets(&rt, &state, LAST_FOUR_BITS, 0);
     Ok(())
 }
