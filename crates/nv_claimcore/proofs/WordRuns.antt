@@ -5,7 +5,7 @@ use Rattle.std.specs.Int.{bit_at}
 use Rattle.std.specs.Int.Bits.{or_zero_r}
 use Rattle.std.specs.List.{All, count_by}
 use Rattle.std.proofs.lemmas.Bool.{cases_lt}
-use Rattle.std.proofs.lemmas.List.{append_assoc, append-nil}
+use Rattle.std.proofs.lemmas.List.{append_assoc}
 use Rattle.std.proofs.lemmas.List.Sums.{sum_by-append, sum_by-cons}
 use Rattle.std.proofs.lemmas.List.Elements.{All-push, All-head, All-tail}
 use Rattle.std.proofs.lemmas.Nat.Bits.{bit_at_or, bit_at_and, bit_at-lt, and_pow, same_from_bits, bit_at-zero, bit_at-pow_same, bit_at-pow_other, bit_at_mask_inside, bit_at_mask_below, bit_at_mask_above, ones_shr}
@@ -20,9 +20,10 @@ use Rattle.nv_super.specs.Owners.{raised, pairs}
 use Rattle.nv_claimcore.proofs.Marks.{eq_same}
 use Rattle.nv_claimcore.specs.declared.view.Record.{Record}
 use Rattle.nv_claimcore.specs.declared.view.View.{View}
-use Rattle.nv_claimcore.specs.Spans.{mask_all, claim_all, mark_all, is_free, lost_in, settle, Rises, AreUnmarked}
-use Rattle.nv_claimcore.specs.Claims.{claim_of, mark, mark_first, is_unmarked, Settled, with_record}
+use Rattle.nv_claimcore.specs.Spans.{mask_all, claim_all, mark_all, is_free, claims_in, lost_in, settle, Rises, AreUnmarked}
+use Rattle.nv_claimcore.specs.Claims.{claim_of, mark, mark_first, is_unmarked, Settled}
 use Rattle.nv_claimcore.proofs.Spans.{or_assoc}
+use Rattle.nv_claimcore.proofs.SpanSteps.{claim_all_adds}
 
 mask_snoc : (ps : List (ℕ × Owner)) (p : ℕ × Owner) → mask_all (ps ++ p ∷ []) ≡ bit_or (mask_all ps) (mask_of p.0)
 mask_snoc [] p = or_zero_r (mask_of p.0) ∙ (let e : mask_of p.0 ≡ bit_or 0 (mask_of p.0) = refl in e)
@@ -93,48 +94,39 @@ mark_behind b (x ∷ xs) r ys all e = ap (λ t. cond t (mark x ∷ (xs ++ r ∷ 
 with_records : View → List Record → View
 with_records v rs = record { seats = v.seats; numbers = v.numbers; records = rs }
 
-raw : ℕ → List (ℕ × Owner) → List Record
-raw n [] = []
-raw n (p ∷ ps) = claim_of p.0 p.1 (is_free n p) ∷ raw n ps
-
-claimed_records : (n : ℕ) (ps : List (ℕ × Owner)) (v : View) → claim_all n ps v ≡ with_records v (v.records ++ raw n ps)
-unfolding with_records raw
-claimed_records n [] v = ap (λ rs. record { seats = v.seats; numbers = v.numbers; records = rs }) (sym (append-nil v.records))
-claimed_records n (p ∷ ps) v = claimed_records n ps (with_record v (claim_of p.0 p.1 (is_free n p))) ∙ ap (λ rs. record { seats = v.seats; numbers = v.numbers; records = rs }) (append_assoc v.records (claim_of p.0 p.1 (is_free n p) ∷ []) (raw n ps))
-
 -- the unmarked records are marked one after the other
-marked_records : (n : ℕ) (ps : List (ℕ × Owner)) (v : View) (xs : List Record) → All Settled xs → mark_all (lost_in n ps) (with_records v (xs ++ raw n ps)) ≡ with_records v (xs ++ settle n ps)
-unfolding with_records raw
+marked_records : (n : ℕ) (ps : List (ℕ × Owner)) (v : View) (xs : List Record) → All Settled xs → mark_all (lost_in n ps) (with_records v (xs ++ claims_in n ps)) ≡ with_records v (xs ++ settle n ps)
+unfolding with_records
 marked_records n [] v xs all = refl
 marked_records n (p ∷ ps) v xs all = go (is_free n p) (λ r settled. marked_records n ps v (xs ++ r ∷ []) (All-push Settled xs r all settled)) where
-  go : (t : Bool) → ((r : Record) → Settled r → mark_all (lost_in n ps) (with_records v ((xs ++ r ∷ []) ++ raw n ps)) ≡ with_records v ((xs ++ r ∷ []) ++ settle n ps))
-      → mark_all (cond t (lost_in n ps) (p ∷ lost_in n ps)) (with_records v (xs ++ claim_of p.0 p.1 t ∷ raw n ps)) ≡ with_records v (xs ++ record { block = p.0; owner = p.1; won = t; marked = not t } ∷ settle n ps)
-  go true again = ap (λ rs. mark_all (lost_in n ps) (with_records v rs)) (sym (append_assoc xs (claim_of p.0 p.1 true ∷ []) (raw n ps))) ∙ (again (claim_of p.0 p.1 true) refl ∙ ap (with_records v) (append_assoc xs (claim_of p.0 p.1 true ∷ []) (settle n ps)))
-  go false again = ap (λ rs. mark_all (lost_in n ps) (with_records v rs)) (mark_behind p.0 xs (claim_of p.0 p.1 false) (raw n ps) all (eq_same p.0) ∙ sym (append_assoc xs (mark (claim_of p.0 p.1 false) ∷ []) (raw n ps)))
+  go : (t : Bool) → ((r : Record) → Settled r → mark_all (lost_in n ps) (with_records v ((xs ++ r ∷ []) ++ claims_in n ps)) ≡ with_records v ((xs ++ r ∷ []) ++ settle n ps))
+      → mark_all (cond t (lost_in n ps) (p ∷ lost_in n ps)) (with_records v (xs ++ claim_of p.0 p.1 t ∷ claims_in n ps)) ≡ with_records v (xs ++ record { block = p.0; owner = p.1; won = t; marked = not t } ∷ settle n ps)
+  go true again = ap (λ rs. mark_all (lost_in n ps) (with_records v rs)) (sym (append_assoc xs (claim_of p.0 p.1 true ∷ []) (claims_in n ps))) ∙ (again (claim_of p.0 p.1 true) refl ∙ ap (with_records v) (append_assoc xs (claim_of p.0 p.1 true ∷ []) (settle n ps)))
+  go false again = ap (λ rs. mark_all (lost_in n ps) (with_records v rs)) (mark_behind p.0 xs (claim_of p.0 p.1 false) (claims_in n ps) all (eq_same p.0) ∙ sym (append_assoc xs (mark (claim_of p.0 p.1 false) ∷ []) (claims_in n ps)))
       ∙ (again (mark (claim_of p.0 p.1 false)) refl ∙ ap (with_records v) (append_assoc xs (mark (claim_of p.0 p.1 false) ∷ []) (settle n ps)))
 
 -- a claim of the blocks, and then a mark of the lost ones, adds the settled records
 pub both_steps : (n : ℕ) (ps : List (ℕ × Owner)) (v : View) → All Settled v.records → mark_all (lost_in n ps) (claim_all n ps v) ≡ record { seats = v.seats; numbers = v.numbers; records = v.records ++ settle n ps }
 unfolding with_records
-both_steps n ps v all = ap (mark_all (lost_in n ps)) (claimed_records n ps v) ∙ marked_records n ps v v.records all
+both_steps n ps v all = ap (mark_all (lost_in n ps)) (claim_all_adds n ps v) ∙ marked_records n ps v v.records all
 
-unmarked_lost : (n : ℕ) (ps : List (ℕ × Owner)) (v : View) (xs : List Record) → All Settled xs → AreUnmarked (lost_in n ps) (with_records v (xs ++ raw n ps))
-unfolding with_records raw
+unmarked_lost : (n : ℕ) (ps : List (ℕ × Owner)) (v : View) (xs : List Record) → All Settled xs → AreUnmarked (lost_in n ps) (with_records v (xs ++ claims_in n ps))
+unfolding with_records
 unmarked_lost n [] v xs all = tt
 unmarked_lost n (p ∷ ps) v xs all = go (is_free n p) (λ r settled. unmarked_lost n ps v (xs ++ r ∷ []) (All-push Settled xs r all settled)) where
-  go : (t : Bool) → ((r : Record) → Settled r → AreUnmarked (lost_in n ps) (with_records v ((xs ++ r ∷ []) ++ raw n ps))) → AreUnmarked (cond t (lost_in n ps) (p ∷ lost_in n ps)) (with_records v (xs ++ claim_of p.0 p.1 t ∷ raw n ps))
-  go true again = subst (λ rs. AreUnmarked (lost_in n ps) (with_records v rs)) (append_assoc xs (claim_of p.0 p.1 true ∷ []) (raw n ps)) (again (claim_of p.0 p.1 true) refl)
+  go : (t : Bool) → ((r : Record) → Settled r → AreUnmarked (lost_in n ps) (with_records v ((xs ++ r ∷ []) ++ claims_in n ps))) → AreUnmarked (cond t (lost_in n ps) (p ∷ lost_in n ps)) (with_records v (xs ++ claim_of p.0 p.1 t ∷ claims_in n ps))
+  go true again = subst (λ rs. AreUnmarked (lost_in n ps) (with_records v rs)) (append_assoc xs (claim_of p.0 p.1 true ∷ []) (claims_in n ps)) (again (claim_of p.0 p.1 true) refl)
   go false again = (
-    (let cut : count_by (is_unmarked p.0) (xs ++ claim_of p.0 p.1 false ∷ raw n ps) ≡ count_by (is_unmarked p.0) xs + count_by (is_unmarked p.0) (claim_of p.0 p.1 false ∷ raw n ps) = sum_by-append (λ r. cond (is_unmarked p.0 r) 1 0) xs (claim_of p.0 p.1 false ∷ raw n ps) in
-        let one = sum_by-cons (λ r. cond (is_unmarked p.0 r) 1 0) (claim_of p.0 p.1 false) (raw n ps) in let hit : ◌≡◌ {A = ℕ} (cond (is_unmarked p.0 (claim_of p.0 p.1 false)) 1 0) 1 = ap (λ t. cond t 1 0) (eq_same p.0) in omega arith),
-    subst (λ rs. AreUnmarked (lost_in n ps) (with_records v rs)) (sym (mark_behind p.0 xs (claim_of p.0 p.1 false) (raw n ps) all (eq_same p.0) ∙ sym (append_assoc xs (mark (claim_of p.0 p.1 false) ∷ []) (raw n ps))))
+    (let cut : count_by (is_unmarked p.0) (xs ++ claim_of p.0 p.1 false ∷ claims_in n ps) ≡ count_by (is_unmarked p.0) xs + count_by (is_unmarked p.0) (claim_of p.0 p.1 false ∷ claims_in n ps) = sum_by-append (λ r. cond (is_unmarked p.0 r) 1 0) xs (claim_of p.0 p.1 false ∷ claims_in n ps) in
+        let one = sum_by-cons (λ r. cond (is_unmarked p.0 r) 1 0) (claim_of p.0 p.1 false) (claims_in n ps) in let hit : ◌≡◌ {A = ℕ} (cond (is_unmarked p.0 (claim_of p.0 p.1 false)) 1 0) 1 = ap (λ t. cond t 1 0) (eq_same p.0) in omega arith),
+    subst (λ rs. AreUnmarked (lost_in n ps) (with_records v rs)) (sym (mark_behind p.0 xs (claim_of p.0 p.1 false) (claims_in n ps) all (eq_same p.0) ∙ sym (append_assoc xs (mark (claim_of p.0 p.1 false) ∷ []) (claims_in n ps))))
         (again (mark (claim_of p.0 p.1 false)) refl),
   )
 
 -- each lost claim can be marked
 pub lost_unmarked : (n : ℕ) (ps : List (ℕ × Owner)) (v : View) → All Settled v.records → AreUnmarked (lost_in n ps) (claim_all n ps v)
 unfolding with_records
-lost_unmarked n ps v all = subst (AreUnmarked (lost_in n ps)) (sym (claimed_records n ps v)) (unmarked_lost n ps v v.records all)
+lost_unmarked n ps v all = subst (AreUnmarked (lost_in n ps)) (sym (claim_all_adds n ps v)) (unmarked_lost n ps v v.records all)
 
 pub lost_rises : (n lo hi : ℕ) (ps : List (ℕ × Owner)) → Rises lo hi ps → Rises lo hi (lost_in n ps)
 lost_rises n lo hi [] r = tt
