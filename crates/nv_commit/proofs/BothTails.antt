@@ -68,17 +68,12 @@ both_mixed {R} {S} {x} {y} done =
     mixed_more (BothWords x y) (AppendWords y.tail y.fresh.now) R done.between S (λ k v w. inr w)
     (mixed_more (BothWords x y) (AppendWords x.tail x.fresh.now) R R done.between (λ k v w. inl w) (mixed_same R (BothWords x y)) done.first.wrote) done.second.wrote
 
--- ---- regions that are their own undo
+-- ---- a region that is its own undo
 
 pub sound_undone : {Q : Region} {s : Super} {held : Store} → ShowsSound Q s held → UndoneShows s held Q
 sound_undone {Q} {s} {held} sound =
     let own : Q ≡ undone s Q = sym (idle_undone s Q (layout_of_super Q s sound.sup) sound.idle) in
     record { sup = subst (λ (U : Region). IsSuper U s) own sound.sup; shows = subst (λ (U : Region). Shows U (fixed_layout s) held) own sound.shows }
-
-pub idle_shown : {Q : Region} {s : Super} {held : Store} → ShowsIdle Q s held → UndoneShows s held Q
-idle_shown {Q} {s} {held} idle =
-    let own : Q ≡ undone s Q = sym (idle_undone s Q (layout_of_super Q s idle.sup) idle.idle) in
-    record { sup = subst (λ (U : Region). IsSuper U s) own idle.sup; shows = subst (λ (U : Region). Shows U (fixed_layout s) held) own idle.shows }
 
 one_inode : (i j k m : ℕ) → owners.Log i k ≡ owners.Log j m → i ≡ j
 one_inode i j k m e = cc

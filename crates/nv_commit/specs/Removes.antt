@@ -1,8 +1,11 @@
 -- An inode that goes together with the entries that say so.
-use Rattle.std.specs.Prelude.{◌≡◌, ◌≢◌, ◌⊎◌, ℕ, ◌<◌, Some, None}
+use Rattle.std.specs.Prelude.{◌≡◌, ◌≢◌, ◌⊎◌, ℕ, ◌+◌, ◌<◌, Some, None}
 use Rattle.nv_region.specs.Region.{Region}
+use Rattle.nv_region.specs.Stops.{Choices}
 use Rattle.nv_super.specs.declared.superblock.Super.{Super}
 use Rattle.nv_super.specs.Layout.{fixed_layout, slot_of}
+use Rattle.nv_journal.specs.Recorded.{Changes}
+use Rattle.nv_logpage.specs.Append.{AppendWords, end_of}
 use Rattle.nv_held.specs.Held.{Held, Store, with_inode}
 use Rattle.nv_commit.specs.declared.together.Extension.{Extension}
 use Rattle.nv_commit.specs.Extends.{CanExtend, with_log}
@@ -23,3 +26,7 @@ with_removed held i h x j = with_inode (with_log held i h x.entries.now x.fresh.
 -- rolled back, the region shows what was held, or that with the log grown and without the other inode
 abbrev pub BeforeOrRemoved : Super → Store → ℕ → Held → Extension → ℕ → Region → Type 0
 BeforeOrRemoved s held i h x j left = UndoneShows s held left ⊎ UndoneShows s (with_removed held i h x j) left
+
+-- what an append may store, any word of the journal, the new tail in its word, and 0 in the valid word
+abbrev pub RemoveWords : ℕ → Extension → ℕ → Choices
+RemoveWords cpu x slot k v = AppendWords x.tail x.fresh.now k v ⊎ Changes cpu (x.slot + 24) (end_of x.fresh.now 0 x.tail x.entries.now) slot 0 k v

@@ -7,6 +7,7 @@ use Rattle.nv_super.specs.declared.superblock.Super.{Super}
 use Rattle.nv_super.specs.Layout.{fixed_layout}
 use Rattle.nv_super.specs.Super.{IsSuper}
 use Rattle.nv_journal.specs.Undo.{journal, undone}
+use Rattle.nv_journal.specs.Recorded.{Changes}
 use Rattle.nv_logpage.specs.Append.{AppendWords, CanAppend, end_of}
 use Rattle.nv_held.specs.Held.{Held, Store, Shows}
 use Rattle.nv_held.specs.Mounted.{AreIdle}
@@ -58,6 +59,10 @@ BeforeOrBoth s held i h x j g y left = UndoneShows s held left ⊎ UndoneShows s
 -- what two appends may store
 abbrev pub BothWords : Extension → Extension → Choices
 BothWords x y k v = AppendWords x.tail x.fresh.now k v ⊎ AppendWords y.tail y.fresh.now k v
+
+-- and with both tails moved: any word of the journal, and the new tails in their words
+abbrev pub TogetherWords : ℕ → Extension → Extension → Choices
+TogetherWords cpu x y k v = BothWords x y k v ⊎ Changes cpu (x.slot + 24) (end_of x.fresh.now 0 x.tail x.entries.now) (y.slot + 24) (end_of y.fresh.now 0 y.tail y.entries.now) k v
 
 -- From one region to the other the entries were written behind the first tail, and then those behind the second.
 pub record AppendsBoth (R S : Region) (x y : Extension) (new last : ℕ) : Type 0 where

@@ -4,13 +4,14 @@ ghost use Rattle.std.specs.Prelude.{◌≡◌, ◌+◌, ◌/◌, ◌%◌, ◌≤
 ghost use Rattle.nv_region.specs.Region.{size};
 ghost use Rattle.nv_region.specs.Stops.{LeavesOnly, NothingPending};
 ghost use Rattle.nv_region.specs.Fuses.{KeepsFuse};
+ghost use Rattle.nv_region.specs.Stored.{StoresOnly};
 ghost use Rattle.nv_super.specs.declared.superblock.Super.{Super};
 ghost use Rattle.nv_journal.specs.Pending.{IsEmpty};
 ghost use Rattle.nv_journal.specs.Undo.{journal};
 ghost use Rattle.nv_logpage.specs.Append.{EndBy, end_of};
 ghost use Rattle.nv_held.specs.Held.{Held, Store};
 ghost use Rattle.nv_commit.specs.Together.{CanCommit, ShowsIdle};
-ghost use Rattle.nv_commit.specs.Removes.{BeforeOrRemoved, CanRemove, with_removed};
+ghost use Rattle.nv_commit.specs.Removes.{BeforeOrRemoved, CanRemove, RemoveWords, with_removed};
 
 use crate::extending::TAIL;
 use crate::together::Extension;
@@ -39,6 +40,7 @@ pub fn remove_inode<P: Pmem>(
     ensures shows { (s : Super) (held : Store) (i j : ℕ) (h : Held) → CanRemove (P.region memory.old) s held cpu i h directory.now j slot
         → OnOk result (ShowsIdle (P.region memory.new) s (with_removed held i h directory.now j)) }
     ensures settled { OnOk result (NothingPending (P.region memory.new) (P.may_hold memory.new)) }
+    ensures wrote { StoresOnly (RemoveWords cpu directory.now slot) (P.region memory.old) (P.region memory.new) (P.may_hold memory.old) (P.may_hold memory.new) }
     ensures stopped { is_err result ≡ (P.fuse memory.new).has_burnt }
     ensures keeps_fuse { KeepsFuse (λ limit. EndBy (directory.now.tail / 4096 ∷ directory.now.fresh.now) limit × (directory.now.slot + 32 ≤ limit) × (slot + 8 ≤ limit)) (P.fuse memory.old) (P.fuse memory.new) }
     // The region as it reads, also after a stop, and each that a stop leaves.

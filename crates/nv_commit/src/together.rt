@@ -8,7 +8,7 @@ ghost use Rattle.nv_super.specs.declared.superblock.Super.{Super};
 ghost use Rattle.nv_journal.specs.Pending.{IsEmpty};
 ghost use Rattle.nv_logpage.specs.Append.{CanAppend, EndBy, end_of};
 ghost use Rattle.nv_held.specs.Held.{Held, Store};
-ghost use Rattle.nv_commit.specs.Together.{AppendsBoth, BeforeOrBoth, BothWords, CanCommit, CanExtendTwo, ShowsIdle, with_logs};
+ghost use Rattle.nv_commit.specs.Together.{AppendsBoth, BeforeOrBoth, BothWords, CanCommit, CanExtendTwo, ShowsIdle, TogetherWords, with_logs};
 
 use crate::extending::TAIL;
 use nv_entry::Entry;
@@ -48,6 +48,7 @@ pub fn extend_two<P: Pmem>(
     ensures shows { (s : Super) (held : Store) (i j : ℕ) (h g : Held) → CanExtendTwo (P.region memory.old) s held cpu i h first.now j g second.now
         → OnOk result (ShowsIdle (P.region memory.new) s (with_logs held i h first.now j g second.now)) }
     ensures settled { OnOk result (NothingPending (P.region memory.new) (P.may_hold memory.new)) }
+    ensures wrote { StoresOnly (TogetherWords cpu first.now second.now) (P.region memory.old) (P.region memory.new) (P.may_hold memory.old) (P.may_hold memory.new) }
     ensures stopped { is_err result ≡ (P.fuse memory.new).has_burnt }
     ensures keeps_fuse { KeepsFuse (λ limit. EndBy (first.now.tail / 4096 ∷ first.now.fresh.now) limit × EndBy (second.now.tail / 4096 ∷ second.now.fresh.now) limit × (first.now.slot + 32 ≤ limit) × (second.now.slot + 32 ≤ limit)) (P.fuse memory.old) (P.fuse memory.new) }
     // The region as it reads, also after a stop, and each that a stop leaves: rolled back, it shows what was held, or that

@@ -1,12 +1,15 @@
-use Rattle.std.proofs.Common.{◌≡◌, ◌∙◌, ap, inl, is_err, length, sym, subst, arith}
+use Rattle.std.proofs.Common.{ℕ, ◌+◌, inr, ◌≡◌, ◌∙◌, ap, inl, is_err, length, sym, subst, arith}
 use Rattle.std.proofs.lemmas.Result.{err_from_is_err_and}
 use Rattle.nv_region.specs.Region.{Region, size}
 use Rattle.nv_region.proofs.Fuses.{keeps_more, keeps_within}
 use Rattle.nv_region.proofs.Stops.{refused_leaves}
+use Rattle.nv_region.proofs.Wordwise.{fenced_stores, stores_more, stores_within}
 use Rattle.nv_inode.specs.Permitted.{is_permitted}
 use Rattle.nv_journal.specs.Pending.{IsEmpty}
+use Rattle.nv_journal.specs.Recorded.{Changes}
+use Rattle.nv_logpage.specs.Append.{AppendWords}
 use Rattle.nv_held.specs.Appended.{Appends}
-use Rattle.nv_commit.specs.Removes.{BeforeOrRemoved}
+use Rattle.nv_commit.specs.Removes.{BeforeOrRemoved, RemoveWords}
 use Rattle.nv_commit.proofs.BothTails.{sound_undone}
 use Rattle.nv_commit.proofs.Extends.{burnt_append, sound_before}
 use Rattle.nv_commit.proofs.Removes.{can_undo, empty_there, left_undone, removed_idle, removed_undone}
@@ -95,3 +98,19 @@ returns-clause-shows g c s held i j h can =
     let appends : Appends (g.P.Pmem.region c.args.memory.now) (g.P.Pmem.region c.fence.new.self) c.args.directory.now.tail c.in_ok-end.end c.args.directory.now.entries.now c.args.directory.now.fresh.now = subst (λ (S : Region). Appends (g.P.Pmem.region c.args.memory.now) S c.args.directory.now.tail c.in_ok-end.end c.args.directory.now.entries.now c.args.directory.now.fresh.now) (sym c.in_ok-fence.ensures.same)
     (record { reads = λ s head es all start free read. c.in_ok-end.ensures.reads s head es all start free read; right = λ s head start tail_in pages either. c.in_ok-end.ensures.right s head start tail_in pages either; wrote = c.append.ensures.wrote.mixed }) in
     removed_idle can (g.P.Pmem.region c.fence.new.self) c.in_ok-end.end c.in_ok-end.ensures.end appends c.requires.directory.inside c.requires.inside c.len-length.ensures.short (g.P.Pmem.region c.change_two.new.memory) c.in_ok-change_two.ensures.done c.in_ok-change_two.ensures.empty
+
+pub returns-in_err-end-clause-wrote : goal.returns-in_err-end-clause-wrote
+returns-in_err-end-clause-wrote g c = stores_within (RemoveWords c.args.cpu c.args.directory.now c.args.slot) (AppendWords c.args.directory.now.tail c.args.directory.now.fresh.now) _ _ _ _ (λ k v w. inl w) c.append.ensures.wrote
+
+pub returns-in_err-fence-clause-wrote : goal.returns-in_err-fence-clause-wrote
+returns-in_err-fence-clause-wrote g c = fenced_stores c.fence.result _ _ _ _ _ _ _ (stores_within (RemoveWords c.args.cpu c.args.directory.now c.args.slot) (AppendWords c.args.directory.now.tail c.args.directory.now.fresh.now) _ _ _ _ (λ k v w. inl w) c.append.ensures.wrote) c.fence.ensures.same c.fence.ensures.fenced c.fence.ensures.refused_keep (g.met.P.Pmem.holds_now _)
+
+pub returns-in_err-change_two-clause-wrote : goal.returns-in_err-change_two-clause-wrote
+returns-in_err-change_two-clause-wrote g c =
+    stores_more (RemoveWords c.args.cpu c.args.directory.now c.args.slot) (Changes c.args.cpu (c.args.directory.now.slot + 24) c.in_ok-end.end c.args.slot 0) _ _ _ _ _ _
+    (λ k v w. inr (subst (λ (n : ℕ). Changes c.args.cpu (c.args.directory.now.slot + 24) n c.args.slot 0 k v) c.in_ok-end.ensures.end w)) (fenced_stores c.fence.result _ _ _ _ _ _ _ (stores_within (RemoveWords c.args.cpu c.args.directory.now c.args.slot) (AppendWords c.args.directory.now.tail c.args.directory.now.fresh.now) _ _ _ _ (λ k v w. inl w) c.append.ensures.wrote) c.fence.ensures.same c.fence.ensures.fenced c.fence.ensures.refused_keep (g.met.P.Pmem.holds_now _)) c.change_two.ensures.wrote
+
+pub returns-clause-wrote : goal.returns-clause-wrote
+returns-clause-wrote g c =
+    stores_more (RemoveWords c.args.cpu c.args.directory.now c.args.slot) (Changes c.args.cpu (c.args.directory.now.slot + 24) c.in_ok-end.end c.args.slot 0) _ _ _ _ _ _
+    (λ k v w. inr (subst (λ (n : ℕ). Changes c.args.cpu (c.args.directory.now.slot + 24) n c.args.slot 0 k v) c.in_ok-end.ensures.end w)) (fenced_stores c.fence.result _ _ _ _ _ _ _ (stores_within (RemoveWords c.args.cpu c.args.directory.now c.args.slot) (AppendWords c.args.directory.now.tail c.args.directory.now.fresh.now) _ _ _ _ (λ k v w. inl w) c.append.ensures.wrote) c.fence.ensures.same c.fence.ensures.fenced c.fence.ensures.refused_keep (g.met.P.Pmem.holds_now _)) c.change_two.ensures.wrote

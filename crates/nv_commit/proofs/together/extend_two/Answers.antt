@@ -1,7 +1,11 @@
-use Rattle.std.proofs.Common.{◌≡◌, inl, arith}
+use Rattle.std.proofs.Common.{ℕ, ◌+◌, inr, subst, ◌≡◌, inl, arith}
 use Rattle.nv_region.specs.Region.{size}
 use Rattle.nv_region.proofs.Fuses.{keeps_more, keeps_within}
+use Rattle.nv_region.proofs.Wordwise.{stores_more, stores_within}
 use Rattle.nv_inode.specs.Permitted.{is_permitted}
+use Rattle.nv_journal.specs.Recorded.{Changes}
+use Rattle.nv_logpage.specs.Append.{end_of}
+use Rattle.nv_commit.specs.Together.{BothWords, TogetherWords}
 use Rattle.nv_commit.proofs.BothTails.{both_before, both_idle, both_left, can_undo, mixed_size, sound_undone, still_empty, undone_either}
 use Rattle.nv_commit.proofs.together.extend_two.Goals as goal
 
@@ -62,3 +66,18 @@ returns-clause-ends g c = (c.in_ok-ends.ensures.appended.first_end, c.in_ok-ends
 pub returns-clause-shows : goal.returns-clause-shows
 returns-clause-shows g c s held i j h k can =
     both_idle can c.in_ok-ends.ensures.appended c.requires.first.inside c.requires.second.inside c.len-length.ensures.short _ c.in_ok-change_two.ensures.done c.in_ok-change_two.ensures.empty
+
+pub returns-in_err-ends-clause-wrote : goal.returns-in_err-ends-clause-wrote
+returns-in_err-ends-clause-wrote g c = stores_within (TogetherWords c.args.cpu c.args.first.now c.args.second.now) (BothWords c.args.first.now c.args.second.now) _ _ _ _ (λ k v w. inl w) c.append_both.ensures.wrote
+
+pub returns-in_err-change_two-clause-wrote : goal.returns-in_err-change_two-clause-wrote
+returns-in_err-change_two-clause-wrote g c =
+    stores_more (TogetherWords c.args.cpu c.args.first.now c.args.second.now) (Changes c.args.cpu (c.args.first.now.slot + 24) c.in_ok-ends.ends.0 (c.args.second.now.slot + 24) c.in_ok-ends.ends.1) _ _ _ _ _ _
+    (λ k v w. inr (subst (λ (n : ℕ). Changes c.args.cpu (c.args.first.now.slot + 24) n (c.args.second.now.slot + 24) (end_of c.args.second.now.fresh.now 0 c.args.second.now.tail c.args.second.now.entries.now) k v) c.in_ok-ends.ensures.appended.first_end (subst (λ (n : ℕ). Changes c.args.cpu (c.args.first.now.slot + 24) c.in_ok-ends.ends.0 (c.args.second.now.slot + 24) n k v) c.in_ok-ends.ensures.appended.second_end w)))
+    (stores_within (TogetherWords c.args.cpu c.args.first.now c.args.second.now) (BothWords c.args.first.now c.args.second.now) _ _ _ _ (λ k v w. inl w) c.append_both.ensures.wrote) c.change_two.ensures.wrote
+
+pub returns-clause-wrote : goal.returns-clause-wrote
+returns-clause-wrote g c =
+    stores_more (TogetherWords c.args.cpu c.args.first.now c.args.second.now) (Changes c.args.cpu (c.args.first.now.slot + 24) c.in_ok-ends.ends.0 (c.args.second.now.slot + 24) c.in_ok-ends.ends.1) _ _ _ _ _ _
+    (λ k v w. inr (subst (λ (n : ℕ). Changes c.args.cpu (c.args.first.now.slot + 24) n (c.args.second.now.slot + 24) (end_of c.args.second.now.fresh.now 0 c.args.second.now.tail c.args.second.now.entries.now) k v) c.in_ok-ends.ensures.appended.first_end (subst (λ (n : ℕ). Changes c.args.cpu (c.args.first.now.slot + 24) c.in_ok-ends.ends.0 (c.args.second.now.slot + 24) n k v) c.in_ok-ends.ensures.appended.second_end w)))
+    (stores_within (TogetherWords c.args.cpu c.args.first.now c.args.second.now) (BothWords c.args.first.now c.args.second.now) _ _ _ _ (λ k v w. inl w) c.append_both.ensures.wrote) c.change_two.ensures.wrote
