@@ -36,4 +36,3 @@ pub record IsKept (R : Region) (s : Super) (rows : List Row) (free : FreeLists) 
   pub writes : read_only ≡ has_faults faults
   pub own : stopped ≡ false → undone s R ≡ R
   pub shown : stopped ≡ false → ∥ ((doubled : List (ℕ × Owner)) × IsOutcome R (lasting_outcome (told s rows free doubled faults))) ∥₁
-
