@@ -17,7 +17,8 @@ use std::marker::Model;
 
 /// A mounted file system.
 ///
-/// Until a call answers `Stopped`, its rows, free lists and faults are what recovery would find in its region.
+/// Until a call answers `Stopped`, its rows, free lists and faults are what recovery would find in its region, but for the
+/// faults of pending records, which the recovery that it was opened with has rolled back.
 #[derive(Drop)]
 pub struct Fs<P: Pmem + Drop> {
     pub(crate) alloc: Global,

@@ -15,6 +15,10 @@ use nv_tree::Refusal;
 
 impl<P: Pmem + Drop> Fs<P> {
     /// The names of the directory that a path leads to, rising by bytes.
+    ///
+    /// Errors, the first that applies: `Stopped` after a stop, `BadName` where the text is no path, `NotFound` or
+    /// `NotDirectory` for an inode on the way, `NotFound` for the last name, `NotDirectory` for a file. `Memory` where a
+    /// growth was refused.
     pub fn list(&self, path: &[u8]) -> Result<Vec<Named<'_>>, Refusal>
         ensures stopped { IsTrue self.now.stopped → result ≡ Result.Err Refusal.Stopped }
         ensures ok { (names : List (List ℕ)) → IsPath path.now names

@@ -46,6 +46,9 @@ impl Stat {
 
 impl<P: Pmem + Drop> Fs<P> {
     /// The numbers of the inode that a path leads to. It takes no memory.
+    ///
+    /// Errors, the first that applies: `Stopped` after a stop, `BadName` where the text is no path, `NotFound` or
+    /// `NotDirectory` for an inode on the way, `NotFound` for the last name.
     pub fn stat(&self, path: &[u8]) -> Result<Stat, Refusal>
         ensures stopped { IsTrue self.now.stopped → result ≡ Result.Err Refusal.Stopped }
         ensures ok { (names : List (List ℕ)) → IsPath path.now names → IfOk result (λ s. IsStat (tree_of (P.region self.now.memory) self.now.rows) names s) }
