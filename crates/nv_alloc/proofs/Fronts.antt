@@ -1,12 +1,13 @@
 -- Taking blocks off the front of runs.
-use Rattle.std.proofs.Common.{◌≡◌, ℕ, ◌+◌, ◌-◌, ◌<◌, ◌≤◌, inl, inr, List, [], ◌∷◌, ◌++◌, length, get_or, take, drop, refl, ap, sym, ◌∙◌, subst, arith, append-nil}
+use Rattle.std.proofs.Common.{◌≡◌, ℕ, ◌+◌, ◌-◌, ◌<◌, ◌≤◌, ◌⊎◌, inl, inr, List, [], ◌∷◌, ◌++◌, length, get_or, take, drop, refl, ap, sym, ◌∙◌, subst, arith, append-nil}
 use Rattle.std.proofs.lemmas.Bool.{cases_lt}
 use Rattle.std.proofs.lemmas.List.{drop_more, drop_at, take_at}
 use Rattle.std.proofs.lemmas.List.Sums.{sum_by-cons}
 use Rattle.nv_super.specs.declared.owners.Run.{Run}
 use Rattle.nv_super.specs.Runs.{Apart}
 use Rattle.nv_alloc.specs.Taking.{blocks_in, taken, left}
-use Rattle.nv_alloc.specs.Inside.{TakesSome}
+use Rattle.nv_alloc.specs.PoolValue.{PoolState}
+use Rattle.nv_alloc.specs.Inside.{TakesSome, TakesFrom}
 use Rattle.nv_super.proofs.Runs.{tail_apart, some_blocks}
 
 pub blocks_cons : (r : Run) (rs : List Run) → blocks_in (r ∷ rs) ≡ r.count + blocks_in rs
@@ -69,32 +70,24 @@ left_over n (r ∷ rs) a h =
     let b = blocks_cons r rs in let pos = some_blocks r rs a in let some : 0 < n = omega (arith, b, pos, h) in let le : r.count ≤ n = omega (arith, b, h) in
     left_whole n r rs some le ∙ left_over (n - r.count) rs (tail_apart r rs a) (omega (arith, b, h))
 
-pub front_done : (need : ℕ) (runs had : List Run) (rest : ℕ) (runs' has' : List Run) → TakesSome need runs had rest runs' has' → rest ≤ 0 → (has' ≡ had ++ taken need runs) × (runs' ≡ left need runs)
-front_done need runs had rest runs' has' h z =
-    let zero_rest : rest ≡ 0 = omega (arith, z) in
-    let none : taken rest runs' ≡ [] = ap (λ (m : ℕ). taken m runs') zero_rest ∙ taken_none runs' in
-    let all : left rest runs' ≡ runs' = ap (λ (m : ℕ). left m runs') zero_rest ∙ left_none runs' in
-    (sym (append-nil has') ∙ ap (λ (xs : List Run). has' ++ xs) (sym none) ∙ h.out, sym all ∙ h.stays)
+-- runs without blocks are none
+pub no_runs_of : (rs : List Run) → Apart rs → blocks_in rs ≤ 0 → rs ≡ []
+no_runs_of [] a few = refl
+no_runs_of (r ∷ rs) a few = absurd (let b = blocks_cons r rs in let pos = some_blocks r rs a in omega (arith, b, pos, few))
 
--- one run more is counted
-count_head : (rest : ℕ) (r : Run) (rs : List Run) → 0 < rest → length (taken rest (r ∷ rs)) ≡ 1 + length (taken (rest - r.count) rs)
-count_head rest r rs pos = elim (cases_lt rest r.count) [
-  | inl w ↦ (let z : 0 ≡ rest - r.count = omega (arith, w) in let t = ap (λ (xs : List Run). length xs) (taken_part rest r rs pos w) in
-      let n : length (taken (rest - r.count) rs) ≡ 0 = ap (λ (m : ℕ). length (taken m rs)) (sym z) ∙ ap (λ (xs : List Run). length xs) (taken_none rs) in omega (arith, t, n))
-  | inr w ↦ (let t = ap (λ (xs : List Run). length xs) (taken_whole rest r rs pos w) in omega (arith, t))
-]
-
-pub count_more : (runs : List Run) (i rest n : ℕ) (r : Run) → i < length runs → 0 < rest → r ≡ get_or runs i r → i + length (taken rest (drop i runs)) ≡ n → i + 1 + length (taken (rest - r.count) (drop (i + 1) runs)) ≡ n
-count_more runs i rest n r lt pos is e =
-    let d : drop i runs ≡ r ∷ drop (i + 1) runs = drop_more runs i r lt ∙ ap (λ (x : Run). x ∷ drop (i + 1) runs) (sym is) in
-    let h = ap (λ (xs : List Run). length (taken rest xs)) d ∙ count_head rest r (drop (i + 1) runs) pos in omega (arith, h, e)
-
-pub count_none : (rest : ℕ) (runs : List Run) → rest ≤ 0 → length (taken rest runs) ≡ 0
-count_none rest runs z = let e : 0 ≡ rest = omega (arith, z) in let P : ℕ → Type 0 = λ m. length (taken m runs) ≡ 0 in subst P e (ap (λ (xs : List Run). length xs) (taken_none runs))
-
--- what stands behind the first runs, and these
-pub parts_at : (xs ys zs : List Run) (k : ℕ) → xs ++ ys ≡ zs → length xs ≡ k → (ys ≡ drop k zs) × (xs ≡ take k zs)
-parts_at xs ys zs k e l = (sym (ap (λ (ws : List Run). drop k ws) (sym e) ∙ drop_at xs ys k l), sym (ap (λ (ws : List Run). take k ws) (sym e) ∙ take_at xs ys k l))
+-- nothing more is needed, or nothing is left
+pub front_done : (need : ℕ) (old : PoolState) (had : List Run) (rest : ℕ) (new : PoolState) (has' : List Run) → TakesSome need old.runs had rest new.runs has' → Apart old.runs → Apart new.runs → (rest ≤ 0) ⊎ (blocks_in new.runs ≤ 0) → TakesFrom need old had rest new has'
+front_done need old had rest new has' h apart after none = record {
+  apart = apart;
+  out = sym (append-nil has') ∙ ap (λ (xs : List Run). has' ++ xs) (sym nothing.0) ∙ h.out;
+  stays = sym nothing.1 ∙ h.stays;
+  still = elim none [ inl z ↦ (let s = h.still in omega (arith, z, s)) | inr z ↦ (let s = h.still in omega (arith, z, s)) ];
+} where
+  nothing : (taken rest new.runs ≡ []) × (left rest new.runs ≡ new.runs)
+  nothing = elim none [
+    | inl z ↦ (let zero_rest : rest ≡ 0 = omega (arith, z) in (ap (λ (m : ℕ). taken m new.runs) zero_rest ∙ taken_none new.runs, ap (λ (m : ℕ). left m new.runs) zero_rest ∙ left_none new.runs))
+    | inr z ↦ (let empty = no_runs_of new.runs after z in (ap (taken rest) empty, ap (left rest) empty ∙ sym empty))
+  ]
 
 -- as many blocks are taken as there are
 pub taken_blocks : (n : ℕ) (rs : List Run) → n ≤ blocks_in rs → blocks_in (taken n rs) ≡ n

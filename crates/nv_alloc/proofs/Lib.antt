@@ -1,11 +1,11 @@
-pub mod Places
 pub mod Fronts
-pub mod Cuts
-pub mod Replaced
 pub mod WordBits
-pub mod Bounds
 pub mod Pools
 pub mod Leaving
 pub mod Changed
 pub mod Sound
 pub mod GivenBack
+pub mod RunsWhere
+pub mod SetParts
+pub mod RunParts
+pub mod PoolMarks

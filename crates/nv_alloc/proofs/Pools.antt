@@ -7,9 +7,9 @@ use Rattle.std.proofs.lemmas.List.{map-set, get_or-map, length-map, set-set, set
 use Rattle.std.proofs.lemmas.List.Sums.{sum_by-cons, sum_by-set}
 use Rattle.nv_super.specs.declared.owners.Run.{Run}
 use Rattle.nv_super.specs.Runs.{Apart}
-use Rattle.nv_alloc.specs.PoolValue.{PoolState}
+use Rattle.nv_alloc.specs.PoolValue.{PoolState, SamePlace}
 use Rattle.nv_alloc.specs.Taking.{blocks_in, taken, left, all_blocks, pool_at, IsFullest, Takes, ends, goes_on}
-use Rattle.nv_alloc.specs.Inside.{lists_of, spare_at, TakesFrom, TakesOnto}
+use Rattle.nv_alloc.specs.Inside.{lists_of, bounds_of, TakesFrom, TakesOnto}
 use Rattle.nv_alloc.proofs.Fronts.{taken_over, left_over, left_blocks}
 
 pub blocks_all : (p : List Run) (ps : List (List Run)) → all_blocks (p ∷ ps) ≡ blocks_in p + all_blocks ps
@@ -100,25 +100,14 @@ lists_set ps c q = map-set (λ (p : PoolState). p.runs) ps c q
 pub lists_length : (ps : List PoolState) → length (lists_of ps) ≡ length ps
 lists_length ps = length-map ps (λ (p : PoolState). p.runs)
 
--- a pool that has no less room than before
-pub spare_set : (ps : List PoolState) (c : ℕ) (p q : PoolState) → c < length ps → p ≡ get_or ps c p → p.spare ≤ q.spare → (d : ℕ) → spare_at ps d ≤ spare_at (set ps c q) d
-spare_set ps c p q lt is le d = elim (cases_lt d c) [
-  | inl w ↦ other (omega (arith, w))
-  | inr w ↦ elim (cases_lt c d) [
-    | inl v ↦ other (omega (arith, v))
-    | inr v ↦ (let same : c ≡ d = omega (arith, v, w) in let P : ℕ → Type 0 = λ k. spare_at ps k ≤ spare_at (set ps c q) k in subst P same here)
-  ]
-] where
-  none : PoolState
-  none = record { runs = []; spare = 0 }
-
-  other : d ≢ c → spare_at ps d ≤ spare_at (set ps c q) d
-  other ne = let e = ap (λ (x : PoolState). x.spare) (get_or-set_other ps c d q (record { runs = []; spare = 0 }) ne) in omega (arith, e)
-
-  here : spare_at ps c ≤ spare_at (set ps c q) c
-  here =
-      let new = ap (λ (x : PoolState). x.spare) (get_or-set_same ps c q (record { runs = []; spare = 0 }) lt) in
-      let old = ap (λ (x : PoolState). x.spare) (is ∙ get_or_default ps c p (record { runs = []; spare = 0 }) lt) in omega (arith, new, old, le)
+-- pools of which one is another that lies where it lay
+pub bounds_set : (ps : List PoolState) (c : ℕ) (p q : PoolState) → c < length ps → p ≡ get_or ps c p → SamePlace p q → bounds_of (set ps c q) ≡ bounds_of ps
+bounds_set ps c p q lt is same =
+    map-set (λ (x : PoolState). (x.from, x.to)) ps c q
+    ∙ ap (λ (x : ℕ × ℕ). set (bounds_of ps) c x) (pair ∙ ap (λ (x : PoolState). (x.from, x.to)) is ∙ sym (get_or-map (λ (x : PoolState). (x.from, x.to)) ps c p (0, 0) lt))
+    ∙ set-get_or (bounds_of ps) c (0, 0) where
+      pair : ◌≡◌ {A = ℕ × ℕ} (q.from, q.to) (p.from, p.to)
+      pair = λ i. (same.from i, same.to i)
 
 -- One of the pools was asked for n blocks.
 module _ (ps : List PoolState) (c n : ℕ) (had half : List Run) (p q : PoolState) (rest : ℕ) (lt : c < length ps) (is : p ≡ get_or ps c p) (t : TakesFrom n p had rest q half) where
@@ -145,62 +134,3 @@ module _ (ps : List PoolState) (c n : ℕ) (had half : List Run) (p q : PoolStat
       let F : List (List Run) → Type 0 = λ x. IsFullest x d in
       let P : List (List Run) → Type 0 = λ x. 2 * rest + cond (eqb (blocks_in (pool_at x d)) 0) 1 0 < 2 * n + cond (eqb (blocks_in (pool_at (lists_of ps) c)) 0) 1 0 in
       subst P (sym (lists_set ps c q)) (asked_less as_asked d pos enough (subst F (lists_set ps c q) f))
-
-  -- all that the pool had was taken
-  few : 0 < rest → blocks_in p.runs ≤ n
-  few pos = let s = t.still in omega (arith, s, pos)
-
-  pub emptied : 0 < rest → q.runs ≡ []
-  emptied pos = t.stays ∙ left_over n p.runs t.apart (few pos)
-
-  pub came : 0 < rest → half ≡ had ++ p.runs
-  came pos = t.out ∙ ap (λ (xs : List Run). had ++ xs) (taken_over n p.runs t.apart (few pos))
-
-  pub behind : 0 < rest → drop (length had) half ≡ p.runs
-  behind pos = ap (λ (xs : List Run). drop (length had) xs) (came pos) ∙ drop_at had p.runs (length had) refl
-
-  pub given_back : (after : List PoolState) (back : PoolState) → lists_of after ≡ lists_of (set ps c q) → back.runs ≡ p.runs → lists_of (set after c back) ≡ lists_of ps
-  given_back after back same e =
-      lists_set after c back ∙ ap (λ (x : List (List Run)). set x c back.runs) (same ∙ lists_set ps c q) ∙ set-set (lists_of ps) c q.runs back.runs
-      ∙ ap (λ (x : List Run). set (lists_of ps) c x) (e ∙ runs_are) ∙ set-get_or (lists_of ps) c []
-
-  -- the pool once taking on has failed, and what was taken is there as it was
-  module _ (after : List PoolState) (pos : 0 < rest) (same : lists_of after ≡ lists_of (set ps c q)) where
-    same_length : length after ≡ length ps
-    same_length =
-        let a = lists_length after in let b = lists_length (set ps c q) in let e = ap (λ (x : List (List Run)). length x) same in let s = length-set ps c q in omega (arith, a, b, e, s)
-
-    pub within_after : c < length after
-    within_after = let l = same_length in omega (arith, l, lt)
-
-    pub empty_after : (d : PoolState) → (get_or after c d).runs ≡ []
-    empty_after d =
-        let l : c < length (lists_of ps) = (let n = lists_length ps in omega (arith, n, lt)) in
-        sym (lists_at after c d within_after) ∙ ap (λ (x : List (List Run)). pool_at x c) (same ∙ lists_set ps c q) ∙ get_or-set_same (lists_of ps) c q.runs [] l ∙ emptied pos
-
-    -- its room holds what it had
-    pub room_after : spare_at (set ps c q) c ≤ spare_at after c → (d : PoolState) → length p.runs + p.spare ≤ (get_or after c d).spare
-    room_after more d =
-        let none = ap (λ (x : List Run). length x) (emptied pos) in
-        let here = ap (λ (x : PoolState). x.spare) (get_or-set_same ps c q (record { runs = []; spare = 0 }) lt) in
-        let read = ap (λ (x : PoolState). x.spare) (get_or_default after c d (record { runs = []; spare = 0 }) within_after) in
-        let s = t.spare in omega (arith, none, here, read, s, more)
-
-    pub spare_after : ((d : ℕ) → spare_at (set ps c q) d ≤ spare_at after d) → (back d : PoolState) → back.runs ≡ p.runs → length back.runs + back.spare ≡ (get_or after c d).spare → (e : ℕ) → spare_at ps e ≤ spare_at (set after c back) e
-    spare_after more back d runs_is spare_is e = elim (cases_lt e c) [
-      | inl w ↦ other (λ s. omega (arith, s, w))
-      | inr w ↦ elim (cases_lt c e) [
-        | inl v ↦ other (λ s. omega (arith, s, v))
-        | inr v ↦ (let is_c : c ≡ e = omega (arith, v, w) in let P : ℕ → Type 0 = λ k. spare_at ps k ≤ spare_at (set after c back) k in subst P is_c here)
-      ]
-    ] where
-      other : e ≢ c → spare_at ps e ≤ spare_at (set after c back) e
-      other ne =
-          let f = ap (λ (x : PoolState). x.spare) (get_or-set_other after c e back (record { runs = []; spare = 0 }) ne) in
-          let g = ap (λ (x : PoolState). x.spare) (get_or-set_other ps c e q (record { runs = []; spare = 0 }) ne) in let m = more e in omega (arith, f, g, m)
-
-      here : spare_at ps c ≤ spare_at (set after c back) c
-      here =
-          let new = ap (λ (x : PoolState). x.spare) (get_or-set_same after c back (record { runs = []; spare = 0 }) within_after) in
-          let old = ap (λ (x : PoolState). x.spare) (is ∙ get_or_default ps c p (record { runs = []; spare = 0 }) lt) in
-          let n = ap (λ (x : List Run). length x) runs_is in let r = room_after (more c) d in omega (arith, new, old, n, r, spare_is)

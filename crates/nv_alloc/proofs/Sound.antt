@@ -13,7 +13,7 @@ use Rattle.nv_alloc.specs.PoolValue.{PoolState}
 use Rattle.nv_alloc.specs.FreeValue.{FreeLists}
 use Rattle.nv_alloc.specs.Taking.{HasBlock, blocks_in, all_blocks, pool_at, Takes}
 use Rattle.nv_alloc.specs.FreeLists.{IsFreeIn, IsSound, AreOutside, Leave, Joins, Refuses}
-use Rattle.nv_alloc.specs.Inside.{lists_of, spare_at, JoinedUpTo, ArePools}
+use Rattle.nv_alloc.specs.Inside.{lists_of, bounds_of, AreBounds, JoinedUpTo, ArePools}
 use Rattle.nv_alloc.specs.Whole.{view_of, IsWhole}
 use Rattle.nv_alloc.proofs.Pools.{lists_length}
 use Rattle.nv_alloc.proofs.Leaving.{Pooled, LeavesFrom, leaves, took_blocks}
@@ -86,22 +86,22 @@ module _ (s : Super) (ps : List PoolState) (room : ℕ) (h : IsWhole s ps room) 
   pub whole_count : length ps ≡ s.cpus
   whole_count = sym (lists_length ps) ∙ h.sound.count
 
-  pub whole_same : (new : List PoolState) (more : ℕ) → lists_of new ≡ lists_of ps → ((c : ℕ) → c < length ps → more ≤ spare_at new c) → IsWhole s new more
-  whole_same new more e f = record {
-    sound = sound_same (view_of s ps room) h.sound (view_of s new more) refl e;
-    spare = λ c lt. f c (let a = lists_length new in let b = lists_length ps in let l = ap (λ (x : List (List Run)). length x) e in omega (arith, lt, a, b, l));
-  }
+  same_bounds : (new : List PoolState) → bounds_of new ≡ bounds_of ps → AreBounds s s.cpus (bounds_of new)
+  same_bounds new e = let B : List (ℕ × ℕ) → Type 0 = λ x. AreBounds s s.cpus x in subst B (sym e) h.bounds
+
+  pub whole_room : (more : ℕ) → IsWhole s ps more
+  whole_room more = record { sound = sound_same (view_of s ps room) h.sound (view_of s ps more) refl refl; bounds = h.bounds }
 
   pub took_all : (new : List PoolState) (cpu n : ℕ) (runs : List Run) → cpu < s.cpus → Takes (lists_of ps) cpu n runs (lists_of new) → LeavesFrom (lists_of ps) runs (lists_of new)
   took_all new cpu n runs lt t = leaves (lists_of ps) cpu n runs (lists_of new) (pooled (view_of s ps room) h.sound) (let c = h.sound.count in omega (arith, c, lt)) t
 
-  pub took_whole : (new : List PoolState) (cpu n : ℕ) → cpu < s.cpus → ((c : ℕ) → spare_at ps c ≤ spare_at new c) → (r : Result (Vec Run Global) AllocRefusal)
+  pub took_whole : (new : List PoolState) (cpu n : ℕ) → cpu < s.cpus → bounds_of new ≡ bounds_of ps → (r : Result (Vec Run Global) AllocRefusal)
       → IfOk r (λ runs. (n ≤ all_blocks (lists_of ps)) × Takes (lists_of ps) cpu n runs.items (lists_of new)) → IfErr r (λ refusal. Refuses refusal n (lists_of ps) × (lists_of new ≡ lists_of ps)) → IsWhole s new room
-  took_whole new cpu n lt more (Ok runs) t e = record {
+  took_whole new cpu n lt place (Ok runs) t e = record {
     sound = sound_after (view_of s ps room) h.sound (view_of s new room) runs.items refl (took_all new cpu n runs.items lt t.1);
-    spare = λ c w. (let m = more c in let o = h.spare c (let a = lists_length new in let b = lists_length ps in let l = (took_all new cpu n runs.items lt t.1).count in omega (arith, w, a, b, l)) in omega (arith, m, o));
+    bounds = same_bounds new place;
   }
-  took_whole new cpu n lt more (Err refusal) t e = whole_same new room e.1 (λ c w. (let m = more c in let o = h.spare c w in omega (arith, m, o)))
+  took_whole new cpu n lt place (Err refusal) t e = record { sound = sound_same (view_of s ps room) h.sound (view_of s new room) refl e.1; bounds = same_bounds new place }
 
   pub took_leave : (new : List PoolState) (cpu n : ℕ) → cpu < s.cpus → (r : Result (Vec Run Global) AllocRefusal)
       → IfOk r (λ runs. (n ≤ all_blocks (lists_of ps)) × Takes (lists_of ps) cpu n runs.items (lists_of new)) → IfOk r (λ runs. Leave (view_of s ps room) n runs.items (view_of s new room))
@@ -118,7 +118,7 @@ module _ (s : Super) (ps : List PoolState) (room : ℕ) (h : IsWhole s ps room) 
   pub joined_whole : (new : List PoolState) (run : Run) → length new ≡ length ps → JoinedUpTo s run (length ps) ps new → IsWhole s new (room - 1)
   joined_whole new run l j = record {
     sound = sound_joins (view_of s ps room) h.sound (view_of s new (room - 1)) run (joins_all new run (room - 1) l j);
-    spare = λ c lt. (let o = h.spare c (omega (arith, lt, l)) in let m = j.spare c in omega (arith, o, m));
+    bounds = same_bounds new j.bounds;
   }
 
 -- what the words make
@@ -138,8 +138,8 @@ outside_sound words s a l o = record {
       let P : Super → Type 0 = λ x. InPool x c b in subst P (sym o.sup) ((o.each c lt).each h.0 b h.1 h.2 h.3).0);
 }
 
-pub made_whole : (words : List ℕ) (s : Super) (n : ℕ) (ps : List PoolState) → IsLayout s → n ≡ s.cpus → ArePools words s n (lists_of ps) → IsWhole s ps 0
-made_whole words s n ps l e a = record { sound = outside_sound words s (view_of s ps 0) l (made_outside words s n 0 ps e a); spare = λ c lt. omega arith }
+pub made_whole : (words : List ℕ) (s : Super) (n : ℕ) (ps : List PoolState) → IsLayout s → n ≡ s.cpus → ArePools words s n (lists_of ps) → AreBounds s n (bounds_of ps) → IsWhole s ps 0
+made_whole words s n ps l e a b = record { sound = outside_sound words s (view_of s ps 0) l (made_outside words s n 0 ps e a); bounds = λ c lt. b c (omega (arith, lt, e)) }
 
 -- what giving a run makes of the fields
 pub gave : (s : Super) (ps : List PoolState) (room : ℕ) (now new x : List PoolState) (run : Run) → IsWhole s ps room → x ≡ new → now ≡ ps → length new ≡ length now → JoinedUpTo s run (length now) now new
@@ -151,21 +151,15 @@ gave s ps room now new x run h e f l j =
     subst P (sym e) (joined_whole s ps room h new run len (subst J f j), joins_all s ps room h new run (room - 1) len (subst J f j))
 
 -- what a take makes of the fields
-pub took : (s : Super) (ps : List PoolState) (room : ℕ) (now new x : List PoolState) (cpu n : ℕ) (r : Result (Vec Run Global) AllocRefusal) → IsWhole s ps room → x ≡ new → now ≡ ps → cpu < s.cpus → ((c : ℕ) → spare_at now c ≤ spare_at new c)
+pub took : (s : Super) (ps : List PoolState) (room : ℕ) (now new x : List PoolState) (cpu n : ℕ) (r : Result (Vec Run Global) AllocRefusal) → IsWhole s ps room → x ≡ new → now ≡ ps → cpu < s.cpus → bounds_of new ≡ bounds_of now
     → IfOk r (λ runs. (n ≤ all_blocks (lists_of now)) × Takes (lists_of now) cpu n runs.items (lists_of new)) → IfErr r (λ refusal. Refuses refusal n (lists_of now) × (lists_of new ≡ lists_of now))
     → IsWhole s x room × IfOk r (λ runs. Leave (view_of s ps room) n runs.items (view_of s x room))
-took s ps room now new x cpu n r h e f lt more ok err =
+took s ps room now new x cpu n r h e f lt place ok err =
     let P : List PoolState → Type 0 = λ y. IsWhole s y room × IfOk r (λ runs. Leave (view_of s ps room) n runs.items (view_of s y room)) in
-    let S : List PoolState → Type 0 = λ y. (c : ℕ) → spare_at y c ≤ spare_at new c in
+    let S : List PoolState → Type 0 = λ y. bounds_of new ≡ bounds_of y in
     let O : List PoolState → Type 0 = λ y. IfOk r (λ runs. (n ≤ all_blocks (lists_of y)) × Takes (lists_of y) cpu n runs.items (lists_of new)) in
     let E : List PoolState → Type 0 = λ y. IfErr r (λ refusal. Refuses refusal n (lists_of y) × (lists_of new ≡ lists_of y)) in
-    subst P (sym e) (took_whole s ps room h new cpu n lt (subst S f more) r (subst O f ok) (subst E f err), took_leave s ps room h new cpu n lt r (subst O f ok))
-
--- what making room makes of the fields
-pub roomy : (s : Super) (ps : List PoolState) (room : ℕ) (now new x : List PoolState) (k : ℕ) → IsWhole s ps room → x ≡ new → now ≡ ps → lists_of new ≡ lists_of now → ((c : ℕ) → c < length now → k ≤ spare_at new c) → IsWhole s x k
-roomy s ps room now new x k h e f same more =
-    let P : List PoolState → Type 0 = λ y. IsWhole s y k in let M : List PoolState → Type 0 = λ y. (c : ℕ) → c < length y → k ≤ spare_at new c in
-    subst P (sym e) (whole_same s ps room h new k (same ∙ ap lists_of f) (subst M f more))
+    subst P (sym e) (took_whole s ps room h new cpu n lt (subst S f place) r (subst O f ok) (subst E f err), took_leave s ps room h new cpu n lt r (subst O f ok))
 
 -- what is free once a run is joined was free or is of the run
 pub joins_from : (a b : FreeLists) (run : Run) → Joins a run b → (c k : ℕ) → IsFreeIn b c k → IsFreeIn a c k ⊎ InRun run k

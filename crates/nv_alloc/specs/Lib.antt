@@ -6,3 +6,5 @@ pub mod WordRuns
 pub mod Inside
 pub mod Whole
 pub mod Names
+pub mod SetTo
+pub mod FreeRuns

@@ -1,14 +1,14 @@
 //! The free blocks of all pools.
 //!
-//! Each pool keeps the runs of its free blocks in rising order in a ring. So taking is constant work a run taken, and giving a
-//! binary search and a move of the runs on the shorter side of the place.
+//! Each pool keeps a bit for each of its blocks, and a bit for each word of these that is full. So a take goes over a word for each 4096
+//! blocks of the pool and over the words of the run taken, and a give over the words of the run, however many runs there are.
 
-ghost use Rattle.std.specs.Prelude.{◌≡◌, ◌⊎◌, ◌<◌, ◌≤◌, ◌+◌, ◌*◌, ◌^◌, ℕ, length, IfOk, OnOk, OnErr, IfErr};
+ghost use Rattle.std.specs.Prelude.{◌≡◌, ◌<◌, ◌≤◌, ◌+◌, ◌*◌, ℕ, length, IfOk, OnOk, OnErr, IfErr, vec_len, vec_capacity};
 ghost use Rattle.nv_super.specs.Layout.{IsLayout, InPool, system_blocks};
-ghost use Rattle.nv_super.specs.Runs.{InRun, Apart, AreRuns};
+ghost use Rattle.nv_super.specs.Runs.{InRun, Apart};
 ghost use Rattle.nv_alloc.specs.Taking.{HasBlock, all_blocks, pool_at, IsFullest, Takes};
 ghost use Rattle.nv_alloc.specs.FreeLists.{IsSound, AreOutside, SameLists, Took, Leave, Refuses, CanJoin, Joins, runs_in};
-ghost use Rattle.nv_alloc.specs.Inside.{lists_of, spare_at, TakesOnto, JoinedUpTo};
+ghost use Rattle.nv_alloc.specs.Inside.{lists_of, bounds_of, AreBounds, TakesOnto, JoinedUpTo};
 
 use crate::pool::Pool;
 use nv_super::{Run, Super};
@@ -84,7 +84,7 @@ impl Allocators {
     /// (of several, that of the lowest CPU), which is used until it is empty or nothing more is needed. Runs of two pools aren't joined.
     ///
     /// `NoSpace` where all pools together have fewer blocks, and `Memory` where the answer's runs found none; both change nothing.
-    /// The time goes with the runs that are taken.
+    /// The time goes with the runs that are taken, each by a word for 4096 blocks of its pool. The room for them is that of n runs.
     pub fn take(&mut self, cpu: u64, n: u64) -> Result<Vec<Run>, AllocRefusal>
         requires cpu { cpu < self.old.sup.cpus }
         ensures ok { IfOk result (λ runs. Took self.old cpu n runs.items self.new) }
@@ -98,25 +98,21 @@ impl Allocators {
         take_from(self.alloc, self.pools.as_mut_slice(), cpu as usize, n)
     }
 
-    /// Makes room: the next k calls of `give` take no memory, also with calls of `take` between.
+    /// Makes room: the next k calls of `give` take no memory, also with calls of `take` between. It takes none itself.
     pub fn reserve(&mut self, k: usize) -> Result<(), AllocError>
         ensures same { SameLists self.old self.new }
         ensures room { OnOk result (k ≤ self.new.room) }
         ensures sound_before { IsSound self.old }
         ensures sound { IsSound self.new }
     {
-        if self.room < k {
-            reserve_each(self.pools.as_mut_slice(), k)?;
-            self.room = k;
-        }
+        self.room = self.room.max(k);
         Ok(())
     }
 
     /// Adds a run of data blocks, none of which is free, to the pools in which they lie, joined with the runs that they touch. A run
     /// of no blocks changes nothing. It takes no memory.
     ///
-    /// The first pool is found by a binary search, and in each pool that the run touches another finds the place; the runs on the
-    /// shorter side of the place may move.
+    /// The first pool is found by a binary search. The time goes with the words of the run's blocks.
     pub fn give(&mut self, run: Run)
         requires can_join { CanJoin self.old run }
         requires room { 0 < run.count → 0 < self.old.room }
@@ -177,38 +173,30 @@ fn take_from(
     requires few { length pools.old ≤ 64 }
     ensures ok { IfOk result (λ runs. (n ≤ all_blocks (lists_of pools.old)) × Takes (lists_of pools.old) cpu n runs.items (lists_of pools.new)) }
     ensures err { IfErr result (λ refusal. Refuses refusal n (lists_of pools.old) × (lists_of pools.new ≡ lists_of pools.old)) }
-    ensures spare { (c : ℕ) → spare_at pools.old c ≤ spare_at pools.new c }
+    ensures bounds { bounds_of pools.new ≡ bounds_of pools.old }
 {
     if count_free(pools) < n {
         return Err(AllocRefusal::NoSpace);
     }
-    let mut taken = Vec::new(alloc);
-    match take_on(pools, cpu, n, &mut taken) {
-        Ok(()) => Ok(taken),
-        Err(AllocError) => Err(AllocRefusal::Memory),
-    }
+    let Ok(mut taken) = Vec::with_capacity(alloc, n as usize) else {
+        return Err(AllocRefusal::Memory);
+    };
+    take_on(pools, cpu, n, &mut taken);
+    Ok(taken)
 }
 
 /// Takes what is needed, of which there is enough, from the pool of a CPU on.
-fn take_on(pools: &mut [Pool], cpu: usize, need: u64, out: &mut Vec<Run>) -> Result<(), AllocError>
+fn take_on(pools: &mut [Pool], cpu: usize, need: u64, out: &mut Vec<Run>)
     requires cpu { cpu < length pools.old }
     requires enough { need ≤ all_blocks (lists_of pools.old) }
-    ensures ok { OnOk result (TakesOnto (lists_of pools.old) cpu need out.old.items out.new.items (lists_of pools.new)) }
-    ensures err { OnErr result ((lists_of pools.new ≡ lists_of pools.old) × (out.new.items ≡ out.old.items)) }
-    ensures spare { (c : ℕ) → spare_at pools.old c ≤ spare_at pools.new c }
+    requires room { vec_len out.old + need ≤ vec_capacity out.old }
+    ensures takes { TakesOnto (lists_of pools.old) cpu need out.old.items out.new.items (lists_of pools.new) }
+    ensures bounds { bounds_of pools.new ≡ bounds_of pools.old }
 {
-    let kept = out.len();
-    let rest = pools[cpu].take(need, out)?;
-    if rest == 0 {
-        return Ok(());
-    }
-    let next = fullest(pools);
-    match take_on(pools, next, rest, out) {
-        Ok(()) => Ok(()),
-        Err(refusal) => {
-            pools[cpu].take_back(out, kept);
-            Err(refusal)
-        }
+    let rest = pools[cpu].take(need, out);
+    if rest > 0 {
+        let next = fullest(pools);
+        take_on(pools, next, rest, out);
     }
 }
 
@@ -227,18 +215,6 @@ fn fullest(pools: &[Pool]) -> usize
     best
 }
 
-/// Makes room for k more runs in each pool.
-fn reserve_each(pools: &mut [Pool], k: usize) -> Result<(), AllocError>
-    ensures same { lists_of pools.new ≡ lists_of pools.old }
-    ensures kept { (c : ℕ) → spare_at pools.old c ≤ spare_at pools.new c }
-    ensures room { OnOk result ((c : ℕ) → c < length pools.old → k ≤ spare_at pools.new c) }
-{
-    for cpu in 0..pools.len() {
-        pools[cpu].reserve(k)?;
-    }
-    Ok(())
-}
-
 /// Adds to each pool those blocks of the run that lie in it: from the pool of its first block up to that of its last.
 fn join_all(pools: &mut [Pool], sup: &Super, run: Run)
     requires layout { IsLayout sup.now }
@@ -247,15 +223,14 @@ fn join_all(pools: &mut [Pool], sup: &Super, run: Run)
     requires some { 0 < run.count }
     requires used { (c b : ℕ) → InRun run b → HasBlock (pool_at (lists_of pools.old) c) b → ⊥ }
     requires apart { (c : ℕ) → Apart (pool_at (lists_of pools.old) c) }
-    requires room { (c : ℕ) → c < length pools.old → 0 < spare_at pools.old c }
+    requires bounds { AreBounds sup.now sup.now.cpus (bounds_of pools.old) }
     ensures joined { JoinedUpTo sup.now run (length pools.old) pools.old pools.new }
 {
     let end = run.start + run.count;
     let home = pool_of(sup, run.start) as usize;
     for cpu in home..pools.len() {
-        let (first, behind) = sup.pool(cpu as u64);
-        join_part(&mut pools[cpu], first, behind, run);
-        if end <= behind {
+        pools[cpu].join(run);
+        if end <= pools[cpu].end() {
             return;
         }
     }
@@ -280,21 +255,4 @@ fn pool_of(sup: &Super, block: u64) -> u64
         }
     }
     low
-}
-
-/// Adds to a pool, whose blocks go from `first` up to `end`, those of the run's blocks that lie in it.
-fn join_part(pool: &mut Pool, first: u64, end: u64, run: Run)
-    requires used { (b : ℕ) → InRun run b → HasBlock pool.old.runs b → ⊥ }
-    requires apart { Apart pool.old.runs }
-    requires bounds { (end ≤ 2 ^ 32) × (run.start + run.count ≤ 2 ^ 32) }
-    requires room { 0 < pool.old.spare }
-    ensures joined { AreRuns (λ b. HasBlock pool.old.runs b ⊎ (((first ≤ b) × (b < end)) × InRun run b)) pool.new.runs }
-    ensures room { pool.old.spare ≤ pool.new.spare + 1 }
-{
-    let from = run.start.max(first);
-    let to = (run.start + run.count).min(end);
-    if from >= to {
-        return;
-    }
-    pool.join(from, to);
 }

@@ -4,10 +4,9 @@
 mod allocators;
 mod bits;
 mod cutting;
-mod joining;
 mod laws;
+mod marks;
 mod pool;
-mod taking;
 
 pub use allocators::{AllocRefusal, Allocators};
 pub use bits::word_run;

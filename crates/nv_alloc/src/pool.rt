@@ -1,39 +1,36 @@
-//! One pool: the runs of its free blocks, lowest first, and how many blocks they have.
+//! One pool: which of its blocks are in use, and how many are free.
 
-ghost use Rattle.std.specs.Prelude.{◌≡◌, ◌⊎◌, ◌<◌, ◌≤◌, ◌+◌, ◌-◌, ◌*◌, ◌^◌, ◌++◌, [], ℕ, length, IfOk, OnOk, OnErr, vec_len, take, drop};
-ghost use Rattle.nv_super.specs.Runs.{Apart, AreRuns};
+ghost use Rattle.std.specs.Prelude.{◌≡◌, ◌⊎◌, ◌<◌, ◌≤◌, ◌+◌, ◌*◌, ◌^◌, ℕ, length, IfOk, vec_len, vec_capacity};
+ghost use Rattle.nv_super.specs.Runs.{InRun, Apart, AreRuns};
 ghost use Rattle.nv_alloc.specs.Taking.{HasBlock, blocks_in};
-ghost use Rattle.nv_alloc.specs.Inside.{AllFit, IsClear, TakesFrom};
+ghost use Rattle.nv_alloc.specs.PoolValue.{SamePlace};
+ghost use Rattle.nv_alloc.specs.Inside.{IsClear, TakesFrom, TakesSome};
 
-use crate::cutting::runs_between;
-use crate::joining::join;
-use crate::taking::{count_blocks, count_taken, move_back, take_front};
+use crate::cutting::{count_blocks, list_runs, next_free, next_used, word_start};
+use crate::marks::Marks;
 use nv_super::Run;
 use std::alloc::{AllocError, Global};
-use std::collections::VecDeque;
 use std::marker::Model;
 
-/// The free runs of a pool, and how many blocks they have.
+/// The blocks from one up to another, with marks at those in use. The first mark is that of the first block whose bit is in the word
+/// of the block `from`.
 #[derive(Drop)]
 pub struct Pool {
-    runs: VecDeque<Run>,
+    from: u64,
+    to: u64,
+    marks: Marks,
     free: u64,
 }
 
 impl Model for Pool {
-    ghost use Rattle.std.specs.Prelude.{◌≡◌, ◌-◌};
-    ghost use Rattle.std.specs.VecDeque.{deque_len, deque_capacity};
-    ghost use Rattle.nv_super.specs.Runs.{Apart};
     ghost use Rattle.nv_alloc.specs.PoolValue.{PoolState};
+    ghost use Rattle.nv_alloc.specs.FreeRuns.{free_runs, IsPool};
 
     ghost Value = { PoolState };
 
-    ghost use Rattle.nv_alloc.specs.Taking.{blocks_in};
-    ghost use Rattle.nv_alloc.specs.Inside.{AllFit};
+    ghost view = { λ p. record { from = p.from; to = p.to; runs = free_runs p.marks p.from p.to } };
 
-    ghost view = { λ p. record { runs = p.runs.items; spare = deque_capacity p.runs - deque_len p.runs } };
-
-    ghost invariant = { λ p. (p.free ≡ blocks_in p.runs.items) × Apart p.runs.items × AllFit p.runs.items };
+    ghost invariant = { λ p. IsPool p.marks p.from p.to p.free };
 }
 
 impl Pool {
@@ -42,75 +39,92 @@ impl Pool {
         requires order { from ≤ to }
         requires within { to ≤ 64 * length words.now }
         requires small { to ≤ 2 ^ 32 }
-        ensures { IfOk result (λ pool. AreRuns (IsClear words.now from to) pool.runs) }
+        ensures runs { IfOk result (λ pool. AreRuns (IsClear words.now from to) pool.runs) }
+        ensures place { IfOk result (λ pool. (pool.from ≡ from) × (pool.to ≡ to)) }
     {
-        let runs = runs_between(alloc, words, from, to)?;
-        let free = count_blocks(&runs);
-        Ok(Pool { runs, free })
+        let own = &words[(from / 64) as usize..to.div_ceil(64) as usize];
+        let marks = Marks::new(alloc, Vec::from_slice(alloc, own)?)?;
+        let free = count_blocks(&marks, from, to);
+        Ok(Pool {
+            from,
+            to,
+            marks,
+            free,
+        })
     }
 
     /// How many blocks are free.
     pub fn free(&self) -> u64
         ensures value { result ≡ blocks_in self.now.runs }
+        ensures few { result ≤ 2 ^ 32 }
         ensures apart { Apart self.now.runs }
-        ensures fits { AllFit self.now.runs }
     {
         self.free
     }
 
+    /// The block behind the last.
+    pub fn end(&self) -> u64
+        ensures { result ≡ self.now.to }
+    {
+        self.to
+    }
+
     /// Takes up to `need` blocks, lowest first, and says how many are still needed.
-    pub fn take(&mut self, need: u64, out: &mut Vec<Run>) -> Result<u64, AllocError>
-        ensures ok { IfOk result (λ rest. TakesFrom need self.old out.old.items rest self.new out.new.items) }
-        ensures err { OnErr result ((self.new ≡ self.old) × (out.new.items ≡ out.old.items)) }
+    pub fn take(&mut self, need: u64, out: &mut Vec<Run>) -> u64
+        requires { vec_len out.old + need ≤ vec_capacity out.old }
+        ensures taken { TakesFrom need self.old out.old.items result self.new out.new.items }
+        ensures room { vec_len out.new + result ≤ vec_capacity out.new }
+        ensures place { SamePlace self.old self.new }
     {
-        let count = count_taken(&self.runs, need);
-        out.reserve(count)?;
-        let rest = take_front(&mut self.runs, need, out);
-        self.free -= need - rest;
-        Ok(rest)
+        let mut rest = need;
+        while rest > 0 && self.free > 0 {
+            rest = self.take_first(rest, out);
+        }
+        rest
     }
 
-    /// Takes the runs behind the first `kept` back into the empty pool that they came from.
-    pub fn take_back(&mut self, out: &mut Vec<Run>, kept: usize)
-        requires empty { self.old.runs ≡ [] }
-        requires within { kept ≤ vec_len out.old }
-        requires room { vec_len out.old ≤ kept + self.old.spare }
-        requires apart { Apart (drop kept out.old.items) }
-        requires fits { AllFit (drop kept out.old.items) }
-        ensures runs { self.new.runs ≡ drop kept out.old.items }
-        ensures kept { out.new.items ≡ take kept out.old.items }
-        ensures spare { length self.new.runs + self.new.spare ≡ self.old.spare }
+    /// Takes what is needed of the first run, and says how many blocks are still needed.
+    fn take_first(&mut self, need: u64, out: &mut Vec<Run>) -> u64
+        requires some { 0 < need }
+        requires free { 0 < blocks_in self.old.runs }
+        requires room { vec_len out.old + need ≤ vec_capacity out.old }
+        ensures less { result < need }
+        ensures apart { Apart self.old.runs }
+        ensures steps { TakesSome need self.old.runs out.old.items result self.new.runs out.new.items }
+        ensures room { vec_len out.new + result ≤ vec_capacity out.new }
+        ensures place { SamePlace self.old self.new }
     {
-        move_back(out, kept, &mut self.runs);
-        self.free = count_blocks(&self.runs);
+        let base = word_start(self.from);
+        let start = next_free(&self.marks, self.from, self.from, self.to);
+        let most = need.min(self.to - start);
+        let end = next_used(&self.marks, self.from, start, start + most);
+        let count = end - start;
+        self.marks.set(start - base, end - base);
+        self.free -= count;
+        out.push_reserved(Run { start, count });
+        need - count
     }
 
-    /// Adds the blocks from one up to another, none of which is free.
-    pub fn join(&mut self, from: u64, to: u64)
-        requires some { from < to }
-        requires bound { to ≤ 2 ^ 32 }
-        requires clear { (b : ℕ) → from ≤ b → b < to → HasBlock self.old.runs b → ⊥ }
-        requires room { 0 < self.old.spare }
-        ensures joined { AreRuns (λ b. HasBlock self.old.runs b ⊎ ((from ≤ b) × (b < to))) self.new.runs }
-        ensures room { self.old.spare ≤ self.new.spare + 1 }
+    /// Adds those blocks of the run that lie in the pool, none of which is free.
+    pub fn join(&mut self, run: Run)
+        requires bound { run.start + run.count ≤ 2 ^ 32 }
+        requires used { (b : ℕ) → InRun run b → HasBlock self.old.runs b → ⊥ }
+        ensures joined { AreRuns (λ b. HasBlock self.old.runs b ⊎ (((self.old.from ≤ b) × (b < self.old.to)) × InRun run b)) self.new.runs }
+        ensures place { SamePlace self.old self.new }
     {
-        join(&mut self.runs, from, to);
-        self.free += to - from;
-    }
-
-    /// Makes room for more runs.
-    pub fn reserve(&mut self, more: usize) -> Result<(), AllocError>
-        ensures runs { self.new.runs ≡ self.old.runs }
-        ensures room { OnOk result (more ≤ self.new.spare) }
-        ensures kept { self.old.spare ≤ self.new.spare }
-    {
-        self.runs.reserve(more)
+        let from = run.start.max(self.from);
+        let to = (run.start + run.count).min(self.to);
+        if from < to {
+            let base = word_start(self.from);
+            self.marks.clear(from - base, to - base);
+            self.free += to - from;
+        }
     }
 
     /// The runs.
     pub fn list(&self, alloc: Global) -> Result<Vec<Run>, AllocError>
         ensures { IfOk result (λ runs. runs.items ≡ self.now.runs) }
     {
-        self.runs.iter().copied().collect(alloc)
+        list_runs(alloc, &self.marks, self.from, self.to)
     }
 }

@@ -12,7 +12,7 @@ invariant_of-self c =
     let len : length c.take_from.new.pools ≡ c.self.inside.pools.len = omega arith in
     let cpus = ap (λ (v : FreeLists). v.sup.cpus) c.self.view_is in
     (took _ c.self.inside.pools.items c.self.inside.room _ c.take_from.new.pools _ c.args.cpu c.args.n c.take_from.result c.self.invariant (with_items_is c.self.inside.pools c.take_from.new.pools len) c.as_mut_slice.ensures.value (omega (arith, cpus))
-    c.take_from.ensures.spare c.take_from.ensures.ok c.take_from.ensures.err).0
+    c.take_from.ensures.bounds c.take_from.ensures.ok c.take_from.ensures.err).0
 
 pub returns-clause-leave : goal.returns-clause-leave
 returns-clause-leave c =
@@ -20,7 +20,7 @@ returns-clause-leave c =
     let cpus = ap (λ (v : FreeLists). v.sup.cpus) c.self.view_is in
     let P : FreeLists → Type 0 = λ v. IfOk c.take_from.result (λ runs. Leave v c.args.n runs.items (view_of c.self.inside.sup (with_items c.self.inside.pools c.take_from.new.pools).items c.self.inside.room)) in
     subst P c.self.view_is (took _ c.self.inside.pools.items c.self.inside.room _ c.take_from.new.pools _ c.args.cpu c.args.n c.take_from.result c.self.invariant (with_items_is c.self.inside.pools c.take_from.new.pools len) c.as_mut_slice.ensures.value (omega (arith, cpus))
-    c.take_from.ensures.spare c.take_from.ensures.ok c.take_from.ensures.err).1
+    c.take_from.ensures.bounds c.take_from.ensures.ok c.take_from.ensures.err).1
 
 pub returns-clause-sound_before : goal.returns-clause-sound_before
 returns-clause-sound_before c =
@@ -32,4 +32,4 @@ returns-clause-sound c =
     let len : length c.take_from.new.pools ≡ c.self.inside.pools.len = omega arith in
     let cpus = ap (λ (v : FreeLists). v.sup.cpus) c.self.view_is in
     (took _ c.self.inside.pools.items c.self.inside.room _ c.take_from.new.pools _ c.args.cpu c.args.n c.take_from.result c.self.invariant (with_items_is c.self.inside.pools c.take_from.new.pools len) c.as_mut_slice.ensures.value (omega (arith, cpus))
-    c.take_from.ensures.spare c.take_from.ensures.ok c.take_from.ensures.err).0.sound
+    c.take_from.ensures.bounds c.take_from.ensures.ok c.take_from.ensures.err).0.sound
