@@ -5,8 +5,8 @@
 #     JOBS=2 tests/wrong-bodies.sh         two crates at a time; without JOBS as many as there are processors, at most 4
 #
 # They are tried by `rt must-fail` in a copy of the repository, where they stand in the place of the gate's own edits.
-# What earlier checks kept in out/ is copied too. Prints a line for each, and closes with 'N refused, M accepted'; one
-# that could not be tried counts as accepted. The status is 1 where one was accepted.
+# The libraries that are built are linked into it, or copied where that can't be. Prints a line for each, and closes with
+# 'N refused, M accepted'; one that could not be tried counts as accepted. The status is 1 where one was accepted.
 set -u
 here=$(cd "$(dirname "${BASH_SOURCE[0]}")/.." && pwd)
 cores=$(nproc)
@@ -28,11 +28,16 @@ done
 copy=$(mktemp -d)
 trap 'rm -rf "$copy"' EXIT
 cp "$here/crates.txt" "$here/HANDLES" "$copy/"
-cp -a --reflink=auto "$here/crates" "$copy/"
-for folder in "$copy"/crates/*/; do
-    rm -rf "$folder/must-fail"
-    if [ -d "$folder/wrong-bodies" ]; then
-        mv "$folder/wrong-bodies" "$folder/must-fail"
+for folder in "$here"/crates/*; do
+    to=$copy/crates/$(basename "$folder")
+    mkdir -p "$to"
+    for part in src specs proofs; do
+        [ ! -d "$folder/$part" ] || cp -a "$folder/$part" "$to/"
+    done
+    [ ! -d "$folder/wrong-bodies" ] || cp -a "$folder/wrong-bodies" "$to/must-fail"
+    if [ -d "$folder/out/rlib" ]; then
+        mkdir "$to/out"
+        cp -al "$folder/out/rlib" "$to/out/" 2>/dev/null || cp -a --reflink=auto "$folder/out/rlib" "$to/out/"
     fi
 done
 

@@ -1,5 +1,5 @@
 -- The areas before the data blocks, cleared word by word.
-use Rattle.std.proofs.Common.{◌≡◌, inl, inr, ℕ, ◌+◌, ◌*◌, ◌/◌, ◌%◌, ◌<◌, ◌≤◌, length, refl, sym, ◌∙◌, subst, arith, lit<}
+use Rattle.std.proofs.Common.{◌≡◌, inl, inr, ℕ, ◌+◌, ◌*◌, ◌/◌, ◌%◌, ◌<◌, ◌≤◌, length, refl, sym, ◌∙◌, subst, arith}
 use Rattle.nv_region.specs.Region.{Region, HasBlocks, word, put}
 use Rattle.nv_region.specs.Stops.{Choices, IsMixed, One}
 use Rattle.nv_region.specs.Stored.{Within, StoresOnly}
@@ -7,8 +7,8 @@ use Rattle.nv_region.proofs.Wordwise.{stores_more}
 use Rattle.nv_super.specs.declared.superblock.Super.{Super}
 use Rattle.nv_super.specs.Layout.{IsLayout, slot_address, inode_limit}
 use Rattle.nv_inode.specs.Slot.{nth_slot}
-use Rattle.nv_format.specs.Format.{AnyAt, IsPointer, IsValidWord, IsSystemWord, IsEmptySystem}
-use Rattle.nv_format.proofs.Kept.{zero_stays, kept_at}
+use Rattle.nv_format.specs.Format.{AnyAt, IsPointer, IsValidWord, IsSystemWord, HasNumbers, HasEmptyJournals, IsEmptySystem}
+use Rattle.nv_format.proofs.Kept.{zero_stays, kept_at, journals_kept, numbers_kept}
 use Rattle.nv_region.proofs.Puts.{put_here}
 use Rattle.nv_format.proofs.Puts.{AreWords, four_words, fifth_word, four_long}
 use Rattle.nv_inode.proofs.Places.{slot_place, place, place_below}
@@ -32,14 +32,6 @@ clears_more places at value R Q S old mid new whole here first then = stores_mor
 pub by_inode : (s : Super) (R : Region) → IsLayout s → ((k : ℕ) → k < inode_limit s → word R (nth_slot s k) ≡ 0) → (i : ℕ) → i < inode_limit s → word R (slot_address s i) ≡ 0
 by_inode s R layout zeros i below = subst (λ (a : ℕ). word R a ≡ 0) (sym (slot_place s i)) (zeros (place s i) (place_below s i layout below))
 
--- the superblock's numbers are in their words
-pub record HasNumbers (R : Region) (s : Super) : Type 0 where
-  pub version : word R 8 ≡ s.version
-  pub cpus : word R 16 ≡ s.cpus
-  pub blocks : word R 24 ≡ s.blocks
-  pub table_blocks : word R 32 ≡ s.table_blocks
-  pub state : word R 40 ≡ s.state
-
 pub numbers_put : (s : Super) (R Q : Region) (n : ℕ) → 1 ≤ n → HasBlocks R n → Q ≡ put (put (put (put (put R 8 s.version) 16 s.cpus) 24 s.blocks) 32 s.table_blocks) 40 s.state → HasNumbers Q s
 numbers_put s R Q n some blocks is = subst (λ (r : Region). HasNumbers r s) (sym is) (record {
   version = five.first;
@@ -59,17 +51,10 @@ numbers_put s R Q n some blocks is = subst (λ (r : Region). HasNumbers r s) (sy
 
 -- numbers, journals and tables, each stored behind the one before
 pub system_cleared : (s : Super) (R Q S : Region) → IsLayout s → HasNumbers R s → IsMixed R (AnyAt (IsPointer s)) Q → IsMixed Q (AnyAt (IsValidWord s)) S
-    → ((cpu : ℕ) → cpu < s.cpus → (word Q (4096 * (1 + cpu)) ≡ 0) × (word Q (4096 * (1 + cpu) + 8) ≡ 0)) → ((i : ℕ) → i < inode_limit s → word S (slot_address s i) ≡ 0) → IsEmptySystem S s
+    → HasEmptyJournals Q s → ((i : ℕ) → i < inode_limit s → word S (slot_address s i) ≡ 0) → IsEmptySystem S s
 system_cleared s R Q S layout numbers pointers valid journals unused = record {
-  version = number 8 refl (lit< tt) ∙ numbers.version;
-  cpus = number 16 refl (lit< tt) ∙ numbers.cpus;
-  blocks = number 24 refl (lit< tt) ∙ numbers.blocks;
-  table_blocks = number 32 refl (lit< tt) ∙ numbers.table_blocks;
-  state = number 40 refl (lit< tt) ∙ numbers.state;
-  journals = λ cpu below. (
-    journal (4096 * (1 + cpu)) (omega arith) (omega arith) ∙ (journals cpu below).0,
-    journal (4096 * (1 + cpu) + 8) (omega arith) (omega arith) ∙ (journals cpu below).1,
-  );
+  numbers = numbers_kept s R S (λ a whole above low. number a whole low) numbers;
+  journals = journals_kept s Q S (λ a whole above low. journal a whole low) journals;
   unused = unused;
 }
   where

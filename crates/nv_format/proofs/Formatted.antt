@@ -1,5 +1,5 @@
 -- The formatted region: the magic over a region that is laid out.
-use Rattle.std.proofs.Common.{◌≡◌, ◌≢◌, ◌⊎◌, inl, inr, ℕ, ◌+◌, ◌*◌, ◌%◌, ◌≤◌, ap, sym, ◌∙◌, arith, length-set, lit≤}
+use Rattle.std.proofs.Common.{◌≡◌, ◌≢◌, ◌⊎◌, inl, inr, ℕ, ◌+◌, ◌*◌, ◌%◌, ◌≤◌, ap, sym, ◌∙◌, arith, length-set}
 use Rattle.nv_region.specs.Region.{Region, HasBlocks, size, word, put}
 use Rattle.nv_region.specs.Stops.{IsMixed}
 use Rattle.nv_super.specs.declared.superblock.Super.{Super}
@@ -8,21 +8,21 @@ use Rattle.nv_super.specs.declared.superblock.SuperFault.TheVariants.{Length, Ma
 use Rattle.nv_super.specs.Layout.{IsLayout, slot_address}
 use Rattle.nv_super.specs.Super.{IsSuper, Applies, magic}
 use Rattle.nv_inode.specs.Slot.{slot_at}
-use Rattle.nv_format.specs.Format.{AnyAt, IsSystemWord, IsRootWord, HasRoot, IsRootEntry, IsLaidOut, IsFormatted, root_page, root_slot}
-use Rattle.nv_format.proofs.Kept.{kept_at, put_blocks}
+use Rattle.nv_format.specs.Format.{AnyAt, IsSystemWord, IsRootWord, HasNumbers, HasRoot, IsRootEntry, IsLaidOut, IsFormatted, root_page, root_slot}
+use Rattle.nv_format.proofs.Kept.{journals_kept, kept_at, numbers_kept, put_blocks}
 use Rattle.nv_region.proofs.Puts.{put_here, put_other}
 use Rattle.nv_inode.proofs.Places.{slot_from}
 use Rattle.nv_format.proofs.Tables.{slot_to, root_below}
 
 -- the words of a laid-out superblock and the magic are accepted
-accepted : (s : Super) (R : Region) → IsLayout s → HasBlocks R s.blocks → word R 0 ≡ magic → word R 8 ≡ s.version → word R 16 ≡ s.cpus → word R 24 ≡ s.blocks → word R 32 ≡ s.table_blocks → word R 40 ≡ s.state → IsSuper R s
-accepted s R layout blocks first version cpus count tables state = record {
+accepted : (s : Super) (R : Region) → IsLayout s → HasBlocks R s.blocks → word R 0 ≡ magic → HasNumbers R s → IsSuper R s
+accepted s R layout blocks first numbers = record {
   sound = sound;
-  version = sym version;
-  cpus = sym cpus;
-  blocks = sym count;
-  table_blocks = sym tables;
-  state = sym state;
+  version = sym numbers.version;
+  cpus = sym numbers.cpus;
+  blocks = sym numbers.blocks;
+  table_blocks = sym numbers.table_blocks;
+  state = sym numbers.state;
 }
   where
     long : size R ≡ 4096 * s.blocks
@@ -39,14 +39,14 @@ accepted s R layout blocks first version cpus count tables state = record {
       | inr other ↦ elim other [ inl few ↦ omega (arith, e, few, from) | inr many ↦ omega (arith, e, many, to) ]
     ]
     sound Magic applies = applies first
-    sound Version applies = applies (version ∙ layout.version)
-    sound Cpus applies = let from = layout.cpus_from in let to = layout.areas.cpus_to in elim applies [ inl few ↦ omega (arith, few, cpus, from) | inr many ↦ omega (arith, many, cpus, to) ]
-    sound Blocks applies = let e = long in applies (omega (arith, e, count))
-    sound Tables applies = let from = layout.tables_from in let to = layout.areas.tables_to in elim applies [
+    sound Version applies = applies (numbers.version ∙ layout.version)
+    sound Cpus applies = let cpus = numbers.cpus in let from = layout.cpus_from in let to = layout.areas.cpus_to in elim applies [ inl few ↦ omega (arith, few, cpus, from) | inr many ↦ omega (arith, many, cpus, to) ]
+    sound Blocks applies = let e = long in let count = numbers.blocks in applies (omega (arith, e, count))
+    sound Tables applies = let tables = numbers.table_blocks in let from = layout.tables_from in let to = layout.areas.tables_to in elim applies [
       | inl number ↦ elim number [ inl few ↦ omega (arith, few, tables, from) | inr many ↦ omega (arith, many, tables, to) ]
-      | inr full ↦ crowded (word R 16) (word R 24) (word R 32) cpus count tables full
+      | inr full ↦ crowded (word R 16) (word R 24) (word R 32) numbers.cpus numbers.blocks tables full
     ]
-    sound State applies = let to = layout.state in omega (arith, applies, state, to)
+    sound State applies = let state = numbers.state in let to = layout.state in omega (arith, applies, state, to)
 
 module _ (s : Super) (time : ℕ) (layout : IsLayout s) (R Q : Region) where
   -- a word but the first stays when the magic is stored
@@ -85,13 +85,10 @@ module _ (s : Super) (time : ℕ) (layout : IsLayout s) (R Q : Region) where
     as_long = length-set Q.words 0 magic ∙ mixed.as_long ∙ length-set R.words 0 0;
     same_rest = mixed.same_rest;
     super = accepted s (put Q 0 magic) layout (put_blocks Q 0 magic s.blocks blocks) (first_word blocks)
-        (stays 8 (lit≤ tt) ∙ laid.version) (stays 16 (lit≤ tt) ∙ laid.cpus) (stays 24 (lit≤ tt) ∙ laid.blocks) (stays 32 (lit≤ tt) ∙ laid.table_blocks) (stays 40 (lit≤ tt) ∙ laid.state);
+        (numbers_kept s Q (put Q 0 magic) (λ a whole above low. stays a above) laid.numbers);
     layout = layout;
     blocks = put_blocks Q 0 magic s.blocks blocks;
-    journals = λ cpu below. (
-      stays (4096 * (1 + cpu)) (omega arith) ∙ (laid.journals cpu below).0,
-      stays (4096 * (1 + cpu) + 8) (omega arith) ∙ (laid.journals cpu below).1,
-    );
+    journals = journals_kept s Q (put Q 0 magic) (λ a whole above low. stays a above) laid.journals;
     unused = λ i below differ. stays (slot_address s i) (let from = slot_from s i in omega (arith, from)) ∙ laid.unused i below differ;
     root = root_stays laid.root;
     entry = entry_stays laid.root;

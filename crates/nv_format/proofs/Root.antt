@@ -6,7 +6,7 @@ use Rattle.nv_region.specs.Stored.{Within}
 use Rattle.nv_super.specs.declared.superblock.Super.{Super}
 use Rattle.nv_super.specs.Layout.{IsLayout, slot_address}
 use Rattle.nv_format.specs.Format.{AnyAt, IsRootWord, IsEmptySystem, HasRoot, IsLaidOut, root_page, attributes_word}
-use Rattle.nv_format.proofs.Kept.{kept_at, kept_behind, kept_other}
+use Rattle.nv_format.proofs.Kept.{journals_kept, kept_at, kept_behind, kept_other, numbers_kept}
 use Rattle.nv_region.proofs.Puts.{blocks_stay, put_here}
 use Rattle.nv_format.proofs.Puts.{AreWords, four_words}
 use Rattle.nv_inode.proofs.Places.{slot_aligned}
@@ -90,21 +90,11 @@ module _ (s : Super) (time : ℕ) (layout : IsLayout s) where
   -- the root over a system without inodes
   pub laid_out : (R S : Region) → IsEmptySystem R s → IsMixed R (AnyAt (IsRootWord s)) S → HasRoot S s time → IsLaidOut S s time
   laid_out R S system mixed root = record {
-    version = low 8 refl (lit< tt) ∙ system.version;
-    cpus = low 16 refl (lit< tt) ∙ system.cpus;
-    blocks = low 24 refl (lit< tt) ∙ system.blocks;
-    table_blocks = low 32 refl (lit< tt) ∙ system.table_blocks;
-    state = low 40 refl (lit< tt) ∙ system.state;
-    journals = λ cpu below. (
-      journal (4096 * (1 + cpu)) (omega arith) (omega arith) ∙ (system.journals cpu below).0,
-      journal (4096 * (1 + cpu) + 8) (omega arith) (omega arith) ∙ (system.journals cpu below).1,
-    );
+    numbers = numbers_kept s R S (λ a whole above low. journal a whole (omega arith)) system.numbers;
+    journals = journals_kept s R S (λ a whole above low. journal a whole low) system.journals;
     unused = λ i below differ. kept_at R S (IsRootWord s) (slot_address s i) (slot_aligned s i) (other_slot s i layout below differ) mixed ∙ system.unused i below;
     root = root;
   }
     where
       journal : (a : ℕ) → a % 8 ≡ 0 → a < (1 + s.cpus) * 4096 → word S a ≡ word R a
       journal a whole below = kept_at R S (IsRootWord s) a whole (no_root_word s a layout below) mixed
-
-      low : (a : ℕ) → a % 8 ≡ 0 → a < 4096 → word S a ≡ word R a
-      low a whole below = journal a whole (omega arith)

@@ -88,14 +88,22 @@ IsFormatWord s a = (a ≡ 0) ⊎ (IsSystemWord s a ⊎ IsRootWord s a)
 abbrev pub AnyAt : (ℕ → Type 0) → Choices
 AnyAt places i x = places (8 * i)
 
--- the superblock has its numbers, the journals are empty, and no slot is in use
-pub record IsEmptySystem (R : Region) (s : Super) : Type 0 where
+-- the superblock's numbers are in their words
+pub record HasNumbers (R : Region) (s : Super) : Type 0 where
   pub version : word R 8 ≡ s.version
   pub cpus : word R 16 ≡ s.cpus
   pub blocks : word R 24 ≡ s.blocks
   pub table_blocks : word R 32 ≡ s.table_blocks
   pub state : word R 40 ≡ s.state
-  pub journals : (cpu : ℕ) → cpu < s.cpus → (word R (4096 * (1 + cpu)) ≡ 0) × (word R (4096 * (1 + cpu) + 8) ≡ 0)
+
+-- both pointers of each journal are 0
+abbrev pub HasEmptyJournals : Region → Super → Type 0
+HasEmptyJournals R s = (cpu : ℕ) → cpu < s.cpus → (word R (4096 * (1 + cpu)) ≡ 0) × (word R (4096 * (1 + cpu) + 8) ≡ 0)
+
+-- the superblock has its numbers, the journals are empty, and no slot is in use
+pub record IsEmptySystem (R : Region) (s : Super) : Type 0 where
+  pub numbers : HasNumbers R s
+  pub journals : HasEmptyJournals R s
   pub unused : (i : ℕ) → i < inode_limit s → word R (slot_address s i) ≡ 0
 
 -- the root is in use, with its entry
@@ -105,12 +113,8 @@ pub record HasRoot (R : Region) (s : Super) (time : ℕ) : Type 0 where
 
 -- the region is formatted, but for the magic
 pub record IsLaidOut (R : Region) (s : Super) (time : ℕ) : Type 0 where
-  pub version : word R 8 ≡ s.version
-  pub cpus : word R 16 ≡ s.cpus
-  pub blocks : word R 24 ≡ s.blocks
-  pub table_blocks : word R 32 ≡ s.table_blocks
-  pub state : word R 40 ≡ s.state
-  pub journals : (cpu : ℕ) → cpu < s.cpus → (word R (4096 * (1 + cpu)) ≡ 0) × (word R (4096 * (1 + cpu) + 8) ≡ 0)
+  pub numbers : HasNumbers R s
+  pub journals : HasEmptyJournals R s
   pub unused : (i : ℕ) → i < inode_limit s → i ≢ 1 → word R (slot_address s i) ≡ 0
   pub root : HasRoot R s time
 
@@ -122,7 +126,7 @@ pub record IsFormatted (old new : Region) (s : Super) (time : ℕ) : Type 0 wher
   pub super : IsSuper new s
   pub layout : IsLayout s
   pub blocks : HasBlocks new s.blocks
-  pub journals : (cpu : ℕ) → cpu < s.cpus → (word new (4096 * (1 + cpu)) ≡ 0) × (word new (4096 * (1 + cpu) + 8) ≡ 0)
+  pub journals : HasEmptyJournals new s
   pub unused : (i : ℕ) → i < inode_limit s → i ≢ 1 → word new (slot_address s i) ≡ 0
   pub root : slot_at new (slot_address s 1) ≡ root_slot s time
   pub entry : IsRootEntry new (root_page s) time
