@@ -13,3 +13,4 @@ pub mod Begins
 pub mod OneJournal
 pub mod Both
 pub mod Emptied
+pub mod Faultless

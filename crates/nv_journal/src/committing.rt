@@ -12,6 +12,7 @@ ghost use Rattle.nv_region.specs.Stored.{SameOutside, StoresOnly, Within};
 ghost use Rattle.nv_journal.specs.Undo.{journal, enqueue};
 ghost use Rattle.nv_journal.specs.Pending.{BeforeOrAfter, Begun, CanUndo, HasRecords, IsEmpty};
 ghost use Rattle.nv_journal.specs.Recorded.{Recorded, Changes, Two};
+ghost use Rattle.nv_journal.specs.Faults.{NoJournalFault};
 
 use crate::pending::{Pending, dequeue_word, enqueue_word};
 use nv_region::{Pmem, Stopped, commit_word, store_word};
@@ -118,6 +119,12 @@ pub fn change_two<P: Pmem>(
         → BeforeOrAfter permits cpus (P.region memory.old) first first_value second second_value (P.region memory.new) }
     ensures any_stop { (permits : ℕ → Bool) (cpus : ℕ) → CanUndo permits cpus (P.region memory.old) cpu first second → NothingPending (P.region memory.old) (P.may_hold memory.old)
         → LeavesOnly (P.region memory.new) (P.may_hold memory.new) (BeforeOrAfter permits cpus (P.region memory.old) first first_value second second_value) }
+    // Where nothing is wrong with a journal, nothing is wrong with one in these regions: its numbers are those of
+    // records, and each pending record names a permitted word.
+    ensures faultless { (permits : ℕ → Bool) (cpus : ℕ) → CanUndo permits cpus (P.region memory.old) cpu first second → NoJournalFault permits cpus (P.region memory.old)
+        → NoJournalFault permits cpus (P.region memory.new) }
+    ensures stop_is_faultless { (permits : ℕ → Bool) (cpus : ℕ) → CanUndo permits cpus (P.region memory.old) cpu first second → NoJournalFault permits cpus (P.region memory.old) → NothingPending (P.region memory.old) (P.may_hold memory.old)
+        → LeavesOnly (P.region memory.new) (P.may_hold memory.new) (NoJournalFault permits cpus) }
 {
     // Fewer than eight bytes stand behind the last word, so each of these addresses is a word's.
     let _end = memory.len();

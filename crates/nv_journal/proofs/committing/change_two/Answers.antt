@@ -9,6 +9,7 @@ use Rattle.nv_region.proofs.Wordwise.{stores_more, stores_within, within_one}
 use Rattle.nv_journal.specs.Undo.{journal, enqueue}
 use Rattle.nv_journal.specs.Recorded.{Changes, Two}
 use Rattle.nv_journal.proofs.Both.{while_begun, while_pending, once_stored, still_small, changed}
+use Rattle.nv_journal.proofs.Faultless.{begun_faultless, pending_faultless, emptied_faultless}
 use Rattle.nv_journal.proofs.committing.change_two.Goals as goal
 
 pub returns-in_err-begin-clause-reads : goal.returns-in_err-begin-clause-reads
@@ -54,3 +55,23 @@ returns-clause-empty g c = on_ok_weaker c.commit.result (λ empty. empty (still_
 pub returns-clause-keeps_fuse : goal.returns-clause-keeps_fuse
 returns-clause-keeps_fuse g c =
     keeps_more (λ limit past. let journal = past.0 in omega arith) (keeps_more (λ limit past. (past.1, past.2)) (keeps_within (λ limit past. past.0) c.begin.ensures.keeps_fuse) c.store_both.ensures.keeps_fuse) c.commit.ensures.keeps_fuse
+
+pub returns-in_err-begin-clause-faultless : goal.returns-in_err-begin-clause-faultless
+returns-in_err-begin-clause-faultless g c permits cpus can none = begun_faultless permits cpus _ c.args.cpu c.args.first c.args.first_value c.args.second c.args.second_value _ _ can none _ c.begin.ensures.reads
+
+pub returns-in_err-begin-clause-stop_is_faultless : goal.returns-in_err-begin-clause-stop_is_faultless
+returns-in_err-begin-clause-stop_is_faultless g c permits cpus can none settled left may = begun_faultless permits cpus _ c.args.cpu c.args.first c.args.first_value c.args.second c.args.second_value _ _ can none left (c.begin.ensures.any_stop settled left may)
+
+pub returns-in_err-store_both-clause-faultless : goal.returns-in_err-store_both-clause-faultless
+returns-in_err-store_both-clause-faultless g c permits cpus can none = pending_faultless permits cpus _ c.args.cpu c.args.first c.args.first_value c.args.second c.args.second_value _ _ can none _ c.begin.ensures.reads _ c.store_both.ensures.wrote.mixed
+
+pub returns-in_err-store_both-clause-stop_is_faultless : goal.returns-in_err-store_both-clause-stop_is_faultless
+returns-in_err-store_both-clause-stop_is_faultless g c permits cpus can none settled left may =
+    pending_faultless permits cpus _ c.args.cpu c.args.first c.args.first_value c.args.second c.args.second_value _ _ can none _ c.begin.ensures.reads left
+    (mixed_left _ _ (Two c.args.first c.args.first_value c.args.second c.args.second_value) _ _ c.store_both.ensures.wrote.mixed.as_long c.store_both.ensures.wrote.mixed.same_rest c.in_ok-begin.ensures.settled c.store_both.ensures.wrote.adds left may)
+
+pub returns-clause-faultless : goal.returns-clause-faultless
+returns-clause-faultless g c permits cpus can none = emptied_faultless permits cpus _ c.args.cpu c.args.first c.args.first_value c.args.second c.args.second_value _ _ can none _ c.begin.ensures.reads _ c.store_both.ensures.wrote.mixed c.in_ok-begin.ensures.pending _ c.commit.ensures.reads
+
+pub returns-clause-stop_is_faultless : goal.returns-clause-stop_is_faultless
+returns-clause-stop_is_faultless g c permits cpus can none settled left may = emptied_faultless permits cpus _ c.args.cpu c.args.first c.args.first_value c.args.second c.args.second_value _ _ can none _ c.begin.ensures.reads _ c.store_both.ensures.wrote.mixed c.in_ok-begin.ensures.pending left (c.commit.ensures.any_stop c.in_ok-store_both.ensures.settled left may)
