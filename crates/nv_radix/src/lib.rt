@@ -5,12 +5,15 @@
 
 mod branch;
 mod extent;
+mod extent_map;
 mod extents;
 mod index;
 mod leaf;
 mod root;
+mod runs;
 
 pub use extent::Extent;
+pub use extent_map::ExtentMap;
 pub use index::FileIndex;
 
 /// The number of pages that a file may have: page numbers are below it.
