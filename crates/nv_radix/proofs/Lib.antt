@@ -4,6 +4,9 @@ pub mod Leaves
 pub mod Mapped
 pub mod OnlyExtents
 pub mod ExtentLemmas
+pub mod RunLemmas
+pub mod Clearing
+pub mod Indexing
 pub mod Rising
 pub mod RowSteps
 pub mod Rows

@@ -11,7 +11,7 @@ cons_at : {A : Type 0} (y : A) (xs : List A) (z : A) (k : ℕ) → k < length (y
 cons_at y xs z zero l e = inl (sym e)
 cons_at y xs z (suc k) l e = inr (k, omega (arith, l), e)
 
-Contains-cons : {A : Type 0} (y : A) (xs : List A) (z : A) → Contains (y ∷ xs) z → (z ≡ y) ⊎ Contains xs z
+pub Contains-cons : {A : Type 0} (y : A) (xs : List A) (z : A) → Contains (y ∷ xs) z → (z ≡ y) ⊎ Contains xs z
 Contains-cons y xs z c = cons_at y xs z c.0 c.1 c.2
 
 Contains-head : {A : Type 0} (y : A) (xs : List A) → Contains (y ∷ xs) y

@@ -178,11 +178,11 @@ pub data_claims-more : (i : ℕ) (runs : List Extent) (n : ℕ) (x : Extent) →
 data_claims-more i runs n x h e =
     ap (data_claims i) (take_more runs n x h ∙ ap (λ (y : Extent). take n runs ++ y ∷ []) (sym e)) ∙ flat_map-append (run_claims i) (take n runs) (x ∷ []) ∙ ap (λ (ys : List (ℕ × Owner)). data_claims i (take n runs) ++ ys) (append-nil (run_claims i x))
 
-small_run : (m : Pages) (x : Extent) → AreSmall m → 0 < x.count → IsMapped m x → IsSmall x
+small_run : (m : Pages) (x : Extent) → AreSmall (block_at m) → 0 < x.count → IsMapped m x → IsSmall x
 small_run m x small some mapped =
     let s = small (x.page + (x.count - 1)) (x.block + (x.count - 1)) (mapped (x.count - 1) (omega arith)) in
     (omega (arith, s.0, s.1), omega (arith, s.0, s.1))
 
 -- extents of small pages and blocks are small
-pub small_runs : (m : Pages) (runs : List Extent) → AreSmall m → AreExtents m runs → All IsSmall runs
+pub small_runs : (m : Pages) (runs : List Extent) → AreSmall (block_at m) → AreExtents m runs → All IsSmall runs
 small_runs m runs small are = λ k d h. small_run m (slice_index_or runs k d) small (are.some k d h) (are.mapped k d h)

@@ -119,8 +119,9 @@ module _ {R : Region} {l : Layout} {i a : ℕ} {log : Log} (is : IsInode R l i a
       → Holds l.sup kind i slot.created log.entries fold → FaultBy fault → IsPieceOf i kind slot pages fold fault p → IsPiece R l p
   piece_is kind slot pages fold fault p words same_kind same_pages h by of =
       let holds : Holds l.sup log.kind i slot.created log.entries fold = subst (λ (k : Kind). Holds l.sup k i slot.created log.entries fold) (sym same_kind) h in
-      let r = of.row.0 in
-      let row = of.row.2 in
+      let r = of.row in
+      let row = of.is_row in
+      let index : (q : ℕ) → block_at r.index q ≡ block_of (good_of l log) q = λ q. row.6 q ∙ holds.extents q in
       let is_row : IsRow R l a log r = record {
         inode = subst (λ (n : ℕ). IsInode R l n a log) (sym row.0) is;
         kind = row.1 ∙ sym same_kind;
@@ -128,12 +129,12 @@ module _ {R : Region} {l : Layout} {i a : ℕ} {log : Log} (is : IsInode R l i a
         head = row.3 ∙ ap (λ (t : Slot). t.head) words;
         tail = row.4 ∙ ap (λ (t : Slot). t.tail) words;
         pages = row.5 ∙ same_pages;
-        index = λ q. ap (λ (m : Pages). block_at m q) row.6 ∙ holds.index q;
+        index = index;
         names = λ q. ap (λ (n : Names). name_at n q) row.7 ∙ holds.names q;
       } in
       record {
-        row = subst (λ (o : Option Row). MatchOption o (IsInUse R l p.inode → ⊥) (λ r. (r.inode ≡ p.inode) × (a : ℕ) × (log : Log) × IsRow R l a log r)) (sym of.row.1) (row.0 ∙ sym of.inode, a, log, is_row);
-        claims = subst (λ (n : ℕ). AreClaims R l n p.claims.items) (sym of.inode) (claims_are pages fold.index p.claims.items same_pages holds.index of.claims);
+        row = subst (λ (o : Option Row). MatchOption o (IsInUse R l p.inode → ⊥) (λ r. (r.inode ≡ p.inode) × (a : ℕ) × (log : Log) × IsRow R l a log r)) (sym of.has_row) (row.0 ∙ sym of.inode, a, log, is_row);
+        claims = subst (λ (n : ℕ). AreClaims R l n p.claims.items) (sym of.inode) (claims_are pages r.index p.claims.items same_pages index of.claims);
         faults = subst (λ (n : ℕ). HasOnce (IsFaultOf R l n) p.faults.items) (sym of.inode)
             (subst (λ (fs : List Fault). HasOnce (IsFaultOf R l i) fs) (sym of.faults) (faults_once fold.faults.items fault by holds.found (holds.once (inode_apart is))));
       }

@@ -11,6 +11,7 @@ use Rattle.nv_super.specs.Layout.{IsLayout, HasAreas, is_number, slot_address, f
 use Rattle.nv_inode.specs.declared.slot.Slot.{Slot}
 use Rattle.nv_inode.specs.Slot.{slot_at, kind_of, is_right_log}
 use Rattle.nv_logpage.specs.declared.found.Placed.{Placed}
+use Rattle.nv_radix.specs.Runs.{block_by}
 use Rattle.nv_scan.specs.Claims.{AreSmall}
 use Rattle.nv_scan.specs.Faults.{IsFaultOf, i1, i2}
 use Rattle.nv_scan.specs.Fold.{Holds}
@@ -24,9 +25,9 @@ use Rattle.nv_scan.proofs.Blocks.{data_pages}
 use Rattle.nv_scan.proofs.Pieces.{slot_is, right_piece, wrong_piece, empty_piece}
 
 -- the pages and blocks of a file are small
-pub holds_small : (s : Super) (kind : Kind) (i created : ℕ) (entries : List Placed) (f : Fold) → HasAreas s → Holds s kind i created entries f → AreSmall f.index
+pub holds_small : (s : Super) (kind : Kind) (i created : ℕ) (entries : List Placed) (f : Fold) → HasAreas s → Holds s kind i created entries f → AreSmall (block_by f.extents)
 holds_small s kind i created entries f areas h = λ p b e.
-    let d = data_pages s kind entries p b (sym (h.index p) ∙ e) in
+    let d = data_pages s kind entries p b (sym (h.extents p) ∙ e) in
     let most = areas.blocks_to in
     (omega (arith, d.0), omega (arith, d.2, most))
 

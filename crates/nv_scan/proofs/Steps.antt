@@ -38,7 +38,7 @@ pub Holds-more : {s : Super} {kind : Kind} {i created : ℕ} {entries : List Pla
     → Holds s kind i created entries old → Takes s kind i x old new → Holds s kind i created (entries ++ x ∷ []) new
 Holds-more {s} {kind} {i} {created} {entries} {x} {old} {new} h t = record {
   numbers = numbers-more s kind created entries x old.numbers new.numbers h.numbers t.numbers;
-  index = λ p. t.index p ∙ ap (word_after (is_good s kind x.entry) (says_block p x)) (h.index p) ∙ sym (word-more (says_block p) None s kind entries x (is_good s kind x.entry) refl);
+  extents = λ p. t.extents p ∙ ap (word_after (is_good s kind x.entry) (says_block p x)) (h.extents p) ∙ sym (word-more (says_block p) None s kind entries x (is_good s kind x.entry) refl);
   names = λ q. t.names q ∙ ap (word_after (is_good s kind x.entry) (says_name q x)) (h.names q) ∙ sym (word-more (says_name q) None s kind entries x (is_good s kind x.entry) refl);
   found = subst (Has (IsEntryFault s kind i (entries ++ x ∷ []))) (sym t.found) (found-more s kind i entries x old.faults.items _ (sym same) h.found);
   once = λ apart. subst IsOnce (sym (t.found ∙ ap (λ (o : Option Fault). old.faults.items ++ cons_option o []) same)) (once-more s kind i entries x old.faults.items h.found h.once apart);

@@ -1,5 +1,5 @@
 -- The claims of an inode, by the pages of its log and its file index.
-use Rattle.std.specs.Prelude.{◌≡◌, ℕ, ◌+◌, ◌<◌, ◌≤◌, ◌^◌, List, [], ◌∷◌, Some, slice_get}
+use Rattle.std.specs.Prelude.{◌≡◌, ℕ, ◌+◌, ◌<◌, ◌≤◌, ◌^◌, List, [], ◌∷◌, Option, Some, slice_get}
 use Rattle.std.specs.List.{flat_map}
 use Rattle.nv_super.specs.Owners.{pairs}
 use Rattle.nv_super.specs.declared.owners.Owner.{Owner}
@@ -30,5 +30,5 @@ abbrev pub IsSmall : Extent → Type 0
 IsSmall x = (x.block + x.count ≤ 2 ^ 64) × (x.page + x.count ≤ 2 ^ 64)
 
 -- pages and their blocks have small numbers
-abbrev pub AreSmall : Pages → Type 0
-AreSmall m = (p b : ℕ) → block_at m p ≡ Some b → (p < 262144) × (b < 262144)
+abbrev pub AreSmall : (ℕ → Option ℕ) → Type 0
+AreSmall block = (p b : ℕ) → block p ≡ Some b → (p < 262144) × (b < 262144)

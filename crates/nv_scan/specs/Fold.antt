@@ -15,7 +15,7 @@ use Rattle.nv_entry.specs.Content.{content_fault, is_good}
 use Rattle.nv_logpage.specs.declared.found.Placed.{Placed}
 use Rattle.nv_logpage.specs.Reads.{places_of}
 use Rattle.nv_logpage.specs.Good.{good_entries}
-use Rattle.nv_radix.specs.Pages.{block_at}
+use Rattle.nv_radix.specs.Runs.{block_by}
 use Rattle.nv_names.specs.Names.{name_at}
 use Rattle.nv_scan.specs.State.{says_size, says_mode, says_owner, says_group, says_links, says_time, says_block, says_name, block_of, named}
 use Rattle.nv_scan.specs.Faults.{Has, IsOnce, IsEntryFault}
@@ -68,14 +68,14 @@ pub record Counts (good : Bool) (x : Placed) (old new : Numbers) : Type 0 where
 -- what one entry makes of all that is kept
 pub record Takes (s : Super) (kind : Kind) (i : ℕ) (x : Placed) (old new : Fold) : Type 0 where
   pub numbers : Counts (is_good s kind x.entry) x old.numbers new.numbers
-  pub index : (p : ℕ) → block_at new.index p ≡ word_after (is_good s kind x.entry) (says_block p x) (block_at old.index p)
+  pub extents : (p : ℕ) → block_by new.extents p ≡ word_after (is_good s kind x.entry) (says_block p x) (block_by old.extents p)
   pub names : (q : List ℕ) → name_at new.names q ≡ word_after (is_good s kind x.entry) (says_name q x) (name_at old.names q)
   pub found : new.faults.items ≡ old.faults.items ++ cons_option (entry_fault s kind i (name_at old.names) x) []
 
 -- What is kept is what these entries say, and what is wrong with them, once each where no two stand at one place.
 pub record Holds (s : Super) (kind : Kind) (i created : ℕ) (entries : List Placed) (f : Fold) : Type 0 where
   pub numbers : AreNumbers created (good_entries s kind entries) f.numbers
-  pub index : (p : ℕ) → block_at f.index p ≡ block_of (good_entries s kind entries) p
+  pub extents : (p : ℕ) → block_by f.extents p ≡ block_of (good_entries s kind entries) p
   pub names : (q : List ℕ) → name_at f.names q ≡ named (good_entries s kind entries) q
   pub found : Has (IsEntryFault s kind i entries) f.faults.items
   pub once : IsDistinct eqb (places_of entries) → IsOnce f.faults.items

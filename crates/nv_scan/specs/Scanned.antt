@@ -11,6 +11,8 @@ use Rattle.nv_inode.specs.declared.slot.Slot.{Slot}
 use Rattle.nv_logpage.specs.declared.found.LogEnd.{LogEnd}
 use Rattle.nv_logpage.specs.declared.found.LogFault.{LogFault}
 use Rattle.nv_logpage.specs.declared.found.LogFault.TheVariants as logs
+use Rattle.nv_radix.specs.Pages.{block_at}
+use Rattle.nv_radix.specs.Runs.{block_by}
 use Rattle.nv_scan.specs.Claims.{IsClaim}
 use Rattle.nv_scan.specs.declared.fold.Fold.{Fold}
 use Rattle.nv_scan.specs.declared.piece.Row.{Row}
@@ -31,13 +33,15 @@ fault_of_end i (Some e) = Some (fault_by i e.fault e.at)
 abbrev pub row_of : ℕ → Kind → Slot → List ℕ → Fold → Row → Type 0
 row_of i kind slot pages fold row =
     (row.inode ≡ i) × (row.kind ≡ kind) × (row.numbers ≡ fold.numbers) × (row.head ≡ slot.head) × (row.tail ≡ slot.tail)
-    × (row.pages.items ≡ pages) × (row.index ≡ fold.index) × (row.names ≡ fold.names)
+    × (row.pages.items ≡ pages) × ((p : ℕ) → block_at row.index p ≡ block_by fold.extents p) × (row.names ≡ fold.names)
 
 -- a piece of a slot in use: what its log says, and one fault more, if there is one
 pub record IsPieceOf (i : ℕ) (kind : Kind) (slot : Slot) (pages : List ℕ) (fold : Fold) (fault : Option Fault) (p : Piece) : Type 0 where
   pub inode : p.inode ≡ i
-  pub row : (r : Row) × (p.row ≡ Some r) × row_of i kind slot pages fold r
-  pub claims : Lists (λ (x : ℕ × Owner). owner_key x.1) (IsClaim i pages fold.index) p.claims.items
+  pub row : Row
+  pub has_row : p.row ≡ Some row
+  pub is_row : row_of i kind slot pages fold row
+  pub claims : Lists (λ (x : ℕ × Owner). owner_key x.1) (IsClaim i pages row.index) p.claims.items
   pub faults : p.faults.items ≡ fold.faults.items ++ cons_option fault []
 
 -- a piece of a slot that isn't in use

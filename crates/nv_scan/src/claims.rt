@@ -4,6 +4,7 @@ ghost use Rattle.std.specs.Prelude.{◌≡◌, ◌+◌, ◌≤◌, ◌<◌, ◌^
 ghost use Rattle.std.specs.List.{All};
 ghost use Rattle.nv_super.specs.Order.{Lists, owner_key};
 ghost use Rattle.nv_super.specs.Owners.{pairs};
+ghost use Rattle.nv_radix.specs.Pages.{block_at};
 ghost use Rattle.nv_scan.specs.Claims.{IsClaim, log_claims, run_claims, data_claims, IsSmall, AreSmall};
 
 use nv_radix::{Extent, FileIndex};
@@ -17,7 +18,7 @@ pub(crate) fn claims_of(
     pages: &[u64],
     index: &FileIndex,
 ) -> Result<Vec<(u64, Owner)>, AllocError>
-    requires { AreSmall index.now }
+    requires { AreSmall (block_at index.now) }
     ensures { IfOk result (λ claims. Lists (λ x. owner_key x.1) (IsClaim inode pages.now index.now) claims.items) }
 {
     let mut claims = Vec::new(alloc);

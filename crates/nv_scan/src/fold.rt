@@ -13,7 +13,7 @@ use crate::pages::apply_pages;
 use nv_entry::check_content;
 use nv_logpage::Placed;
 use nv_names::NameIndex;
-use nv_radix::FileIndex;
+use nv_radix::ExtentMap;
 use nv_super::{Fault, Kind, Super};
 use std::alloc::{AllocError, Global};
 
@@ -21,7 +21,7 @@ use std::alloc::{AllocError, Global};
 #[derive(Drop)]
 pub(crate) struct Fold {
     pub numbers: Numbers,
-    pub index: FileIndex,
+    pub extents: ExtentMap,
     pub names: NameIndex,
     pub faults: Vec<Fault>,
 }
@@ -33,7 +33,7 @@ impl Fold {
     {
         Fold {
             numbers: Numbers::new(created),
-            index: FileIndex::new(alloc),
+            extents: ExtentMap::new(alloc),
             names: NameIndex::new(alloc),
             faults: Vec::new(alloc),
         }
@@ -75,7 +75,7 @@ impl Fold {
             self.faults.push(fault)?;
         }
         self.numbers.apply(placed);
-        apply_pages(&mut self.index, sup, kind, placed)?;
+        apply_pages(&mut self.extents, sup, kind, placed)?;
         apply_names(&mut self.names, placed)
     }
 }

@@ -5,48 +5,45 @@ ghost use Rattle.nv_super.specs.Layout.{HasAreas};
 ghost use Rattle.nv_super.specs.declared.superblock.Super.{Super as SuperValue};
 ghost use Rattle.nv_super.specs.declared.kind.Kind.{Kind as KindValue};
 ghost use Rattle.nv_entry.specs.Content.{is_out_of_range, is_write_out_of_range};
-ghost use Rattle.nv_radix.specs.Pages.{block_at};
+ghost use Rattle.nv_radix.specs.Runs.{block_by};
 ghost use Rattle.nv_scan.specs.State.{says_block, block_in};
 
 use nv_entry::{Entry, WriteEntry};
 use nv_logpage::Placed;
-use nv_radix::FileIndex;
+use nv_radix::ExtentMap;
 use nv_super::{BLOCK_SIZE, Kind, Super};
 use std::alloc::AllocError;
 
 /// Takes what a good entry says of pages: it may cut pages, and maps those that it writes.
 pub(crate) fn apply_pages(
-    index: &mut FileIndex,
+    extents: &mut ExtentMap,
     sup: &Super,
     kind: Kind,
     placed: &Placed,
 ) -> Result<(), AllocError>
     requires areas { HasAreas sup.now }
     requires good { is_out_of_range sup.now kind placed.now.entry ≡ false }
-    ensures { OnOk result ((p : ℕ) → block_at index.new p ≡ unwrap_or (says_block p placed.now) (block_at index.old p)) }
+    ensures { OnOk result ((p : ℕ) → block_by extents.new p ≡ unwrap_or (says_block p placed.now) (block_by extents.old p)) }
 {
     match &placed.entry {
-        Entry::Write(e) => write_pages(index, sup, e),
-        Entry::Attr(e) => {
-            index.cut(first_page_past(e.size));
-            Ok(())
-        }
+        Entry::Write(e) => write_pages(extents, sup, e),
+        Entry::Attr(e) => extents.cut(first_page_past(e.size)),
         Entry::NextPage | Entry::Name(_) | Entry::Links(_) => Ok(()),
     }
 }
 
-/// Cuts the pages from the entry's size on, and maps its own. What they need is made ready before the cut, which
-/// leaves it: each of them begins below the size.
-fn write_pages(index: &mut FileIndex, sup: &Super, e: &WriteEntry) -> Result<(), AllocError>
+/// Cuts the pages from the entry's size on, and maps its own, each of which begins below the size.
+fn write_pages(
+    extents: &mut ExtentMap,
+    sup: &Super,
+    e: &WriteEntry,
+) -> Result<(), AllocError>
     requires areas { HasAreas sup.now }
     requires good { is_write_out_of_range sup.now e.now ≡ false }
-    ensures { OnOk result ((p : ℕ) → block_at index.new p ≡ unwrap_or (block_in p (Entry.Write e.now)) (block_at index.old p)) }
+    ensures { OnOk result ((p : ℕ) → block_by extents.new p ≡ unwrap_or (block_in p (Entry.Write e.now)) (block_by extents.old p)) }
 {
-    let count = e.count as u64;
-    index.reserve(e.offset, count)?;
-    index.cut(first_page_past(e.size));
-    index.set_run(e.offset, e.block, count);
-    Ok(())
+    extents.cut(first_page_past(e.size))?;
+    extents.set_run(e.offset, e.block, e.count as u64)
 }
 
 /// The first page that begins at the size or later.

@@ -6,6 +6,7 @@ ghost use Rattle.nv_region.specs.Region.{HasBlocks};
 ghost use Rattle.nv_super.specs.Layout.{IsLayout, HasAreas, is_number, slot_address, fixed_layout};
 ghost use Rattle.nv_inode.specs.Slot.{slot_at, kind_of, is_right_log};
 ghost use Rattle.nv_logpage.specs.Progress.{at_head};
+ghost use Rattle.nv_radix.specs.Runs.{block_by};
 ghost use Rattle.nv_scan.specs.Claims.{AreSmall};
 ghost use Rattle.nv_scan.specs.Rows.{IsPiece};
 ghost use Rattle.nv_scan.specs.Scanned.{IsPieceOf, IsEmptyPiece, fault_of_end};
@@ -168,7 +169,8 @@ fn fault_of_end(inode: u64, end: Option<LogEnd>) -> Option<Fault>
     })
 }
 
-/// The piece of an inode in use, with one fault more, if there is one.
+/// The piece of an inode in use, with one fault more, if there is one. The index is made here, once, of the pages that
+/// are left.
 fn piece_of(
     alloc: Global,
     used: &InUse,
@@ -176,17 +178,18 @@ fn piece_of(
     fold: Fold,
     fault: Option<Fault>,
 ) -> Result<Piece, AllocError>
-    requires { AreSmall fold.index }
+    requires { AreSmall (block_by fold.extents) }
     ensures { IfOk result (λ piece. IsPieceOf used.now.inode used.now.kind used.now.slot pages.items fold fault piece) }
 {
     let InUse { inode, kind, slot } = *used;
-    let claims = claims_of(alloc, inode, &pages, &fold.index)?;
     let Fold {
         numbers,
-        index,
+        extents,
         names,
         mut faults,
     } = fold;
+    let index = extents.to_index(alloc)?;
+    let claims = claims_of(alloc, inode, &pages, &index)?;
     push_fault(&mut faults, fault)?;
     let row = Row {
         inode,

@@ -9,6 +9,8 @@ mod claim_core;
 #[cfg(test)]
 mod claim_map;
 #[cfg(test)]
+mod extent_map;
+#[cfg(test)]
 mod file_index;
 #[cfg(test)]
 mod name_index;

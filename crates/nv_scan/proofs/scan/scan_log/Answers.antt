@@ -6,7 +6,7 @@ pub piece_of-requires : goal.piece_of-requires
 piece_of-requires g c = holds_small c.args.sup.now c.args.used.now.kind c.args.used.now.inode c.args.used.now.slot.created c.in_ok-pages.ensures.read.entries c.in_ok-pages.field-0.fold c.requires.layout.areas c.in_ok-pages.ensures.read.holds
 
 pub piece_of-requires-else-has_right_log : goal.piece_of-requires-else-has_right_log
-piece_of-requires-else-has_right_log g c = λ p b e. absurd (let h = c.new-fold.ensures c.args.sup.now c.args.used.now.kind c.args.used.now.inode in let none : None ≡ Some b = sym (h.index p) ∙ e in cc)
+piece_of-requires-else-has_right_log g c = λ p b e. absurd (let h = c.new-fold.ensures c.args.sup.now c.args.used.now.kind c.args.used.now.inode in let none : None ≡ Some b = sym (h.extents p) ∙ e in cc)
 
 pub returns-in_ok-pages-clause-number : goal.returns-in_ok-pages-clause-number
 returns-in_ok-pages-clause-number g c = piece_number c.args.used.now.inode c.args.used.now.kind c.args.used.now.slot c.in_ok-pages.field-0.pages.items c.in_ok-pages.field-0.fold c.fault_of_end.result c.piece_of.result c.piece_of.ensures

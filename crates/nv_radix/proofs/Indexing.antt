@@ -1,0 +1,64 @@
+-- The index that is made of the runs of a map.
+use Rattle.std.proofs.Common.{◌≡◌, ℕ, ◌+◌, ◌-◌, Bool, true, false, cond, if◌then◌else◌, List, [], ◌∷◌, ◌++◌, Option, Some, None, refl, ap, sym, ◌∙◌, subst, arith, append_assoc}
+use Rattle.std.specs.List.{Contains}
+use Rattle.std.specs.Ordering.{nat_cmp}
+use Rattle.std.proofs.lemmas.Cmp.{nat_cmp_total, eq_by_cmp_equiv}
+use Rattle.std.proofs.lemmas.List.Elements.{Contains-append_right}
+use Rattle.std.proofs.lemmas.Map.Keys.{IsDistinct-from_sorted}
+use Rattle.std.proofs.lemmas.Map.Views.{lookup-from_Contains}
+use Rattle.nv_radix.specs.declared.runs.Blocks.{Blocks}
+use Rattle.nv_radix.specs.Pages.{Pages, block_at, in_run}
+use Rattle.nv_radix.specs.Runs.{Runs, block_by, run_at, IsRun, AreRuns}
+use Rattle.nv_radix.proofs.RunLemmas.{mapped}
+
+-- What is so while the runs are put into the index one by one: the pages of the index are right, and the others wait among the rest.
+pub record IsIndexed (all rest : Runs) (index : Pages) : Type 0 where
+  pub done : Runs
+  pub is : all ≡ done ++ rest
+  pub right : (p b : ℕ) → block_at index p ≡ Some b → block_by all p ≡ Some b
+  pub waits : (p : ℕ) → block_at index p ≡ None → block_by all p ≡ block_by rest p
+
+pub none_indexed : (all rest : Runs) (index : Pages) → rest ≡ all → ((p : ℕ) → block_at index p ≡ None) → IsIndexed all rest index
+none_indexed all rest index same none = record {
+  done = [];
+  is = sym same;
+  right = λ p b h. absurd (let no = none p in cc);
+  waits = λ p h. ap (λ (r : Runs). block_by r p) (sym same);
+}
+
+-- the next run
+pub next_at : (all rest more : Runs) (index : Pages) (x : ℕ × Blocks) → AreRuns all → IsIndexed all rest index → rest ≡ x ∷ more → run_at all x.0 ≡ Some x.1
+next_at all rest more index x are so_far is = lookup-from_Contains (eq_by_cmp_equiv nat_cmp_total) x.0 x.1 all (IsDistinct-from_sorted nat_cmp _ are.rising)
+    (subst (λ (r : Runs). Contains r x) (sym so_far.is) (Contains-append_right so_far.done rest x (subst (λ (r : Runs). Contains r x) (sym is) (0, omega arith, refl))))
+
+pub next_is : (all rest more : Runs) (index : Pages) (x : ℕ × Blocks) → AreRuns all → IsIndexed all rest index → rest ≡ x ∷ more → IsRun x.0 x.1
+next_is all rest more index x are so_far is = are.each x.0 x.1 (next_at all rest more index x are so_far is)
+
+-- it is put into the index
+pub more_indexed : (all rest more : Runs) (index new : Pages) (x : ℕ × Blocks) → AreRuns all → IsIndexed all rest index → rest ≡ x ∷ more
+    → ((p : ℕ) → block_at new p ≡ (if in_run x.0 x.1.count p then Some (x.1.start + (p - x.0)) else block_at index p)) → IsIndexed all more new
+more_indexed all rest more index new x are so_far is set = record {
+  done = so_far.done ++ x ∷ [];
+  is = so_far.is ∙ ap (λ (r : Runs). so_far.done ++ r) is ∙ sym (let same : (so_far.done ++ x ∷ []) ++ more ≡ so_far.done ++ x ∷ more = rw append_assoc refl in same);
+  right = right;
+  waits = waits;
+}
+  where
+    right : (p b : ℕ) → block_at new p ≡ Some b → block_by all p ≡ Some b
+    right p b h = elim (in_run x.0 x.1.count p) as (λ (t : Bool). in_run x.0 x.1.count p ≡ t → cond t (Some (x.1.start + (p - x.0))) (block_at index p) ≡ Some b → block_by all p ≡ Some b) [
+      | true ↦ λ e g. mapped all p x.0 x.1 are (next_at all rest more index x are so_far is) e ∙ g
+      | false ↦ λ e g. so_far.right p b g
+    ] refl (sym (set p) ∙ h)
+
+    waits : (p : ℕ) → block_at new p ≡ None → block_by all p ≡ block_by more p
+    waits p h = elim (in_run x.0 x.1.count p) as (λ (t : Bool). in_run x.0 x.1.count p ≡ t → cond t (Some (x.1.start + (p - x.0))) (block_at index p) ≡ None → block_by all p ≡ block_by more p) [
+      | true ↦ λ e g. absurd (cc)
+      | false ↦ λ e g. so_far.waits p g ∙ ap (λ (r : Runs). block_by r p) is ∙ ap (λ (t : Bool). cond t (Some (x.1.start + (p - x.0))) (block_by more p)) e
+    ] refl (sym (set p) ∙ h)
+
+-- all of them are
+pub all_indexed : (all rest : Runs) (index : Pages) → IsIndexed all rest index → rest ≡ [] → (p : ℕ) → block_at index p ≡ block_by all p
+all_indexed all rest index so_far none p = elim (block_at index p) as (λ (o : Option ℕ). block_at index p ≡ o → o ≡ block_by all p) [
+  | Some b ↦ λ h. sym (so_far.right p b h)
+  | None ↦ λ h. sym (so_far.waits p h ∙ ap (λ (r : Runs). block_by r p) none)
+] refl

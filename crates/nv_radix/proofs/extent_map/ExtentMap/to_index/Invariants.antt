@@ -1,0 +1,9 @@
+use Rattle.nv_radix.proofs.Indexing.{IsIndexed}
+use Rattle.nv_radix.proofs.extent_map.ExtentMap.to_index.Given as goal
+
+abbrev pub invariant-loop-page : goal.invariant-loop-page
+invariant-loop-page l = record {
+  can_next : (goal.iterator-loop-page).can_next l.page-iterator;
+  ends : (goal.iterator-loop-page).is_finite l.page-iterator;
+  indexed : IsIndexed l.self l.page-iterator l.index;
+}
