@@ -15,6 +15,8 @@ use Rattle.nv_super.specs.Super.{IsSuper}
 use Rattle.nv_inode.specs.Permitted.{is_permitted}
 use Rattle.nv_journal.specs.Undo.{dequeue, enqueue, journal, undone}
 use Rattle.nv_journal.specs.Pending.{BeforeOrAfter, CanUndo, IsEmpty}
+use Rattle.nv_journal.specs.Faults.{NoFault}
+use Rattle.nv_journal.proofs.Faultless.{idle_faultless}
 use Rattle.nv_journal.proofs.Partly.{low_rule}
 use Rattle.nv_logpage.specs.Append.{AppendWords, appended, needed}
 use Rattle.nv_logpage.proofs.Local.{ReadsOn-same}
@@ -39,11 +41,11 @@ use Rattle.nv_commit.specs.Extends.{CanExtend, extended, with_log}
 use Rattle.nv_commit.specs.Together.{AppendsBoth, BeforeOrBoth, BeginFrom, BothWords, CanCommit, CanExtendTwo, ShowsIdle, UndoneShows, with_logs}
 use Rattle.nv_commit.proofs.Extends.{ends, front_more, loose_there, slots, sound_before, stands_behind}
 use Rattle.nv_commit.proofs.Permitted.{tail_permitted}
-use Rattle.nv_commit.proofs.TwoWords.{words_idle, words_undone}
+use Rattle.nv_commit.proofs.TwoWords.{no_fault, words_idle, words_undone}
 
 -- ---- the journal in front of the pages
 
-low_words : (low tail : ℕ) (fresh : List ℕ) → BeginFrom (tail / 4096 ∷ fresh) low → (at : ℕ) → at % 8 ≡ 0 → at < low → (v : ℕ) → AppendWords tail fresh (at / 8) v → ⊥
+pub low_words : (low tail : ℕ) (fresh : List ℕ) → BeginFrom (tail / 4096 ∷ fresh) low → (at : ℕ) → at % 8 ≡ 0 → at < low → (v : ℕ) → AppendWords tail fresh (at / 8) v → ⊥
 low_words low tail fresh from at whole less v (inl w) = let first : low ≤ 4096 * (tail / 4096) = from 0 (omega arith) in let page = w.0 in omega (arith, first, page, whole, less)
 low_words low tail fresh from at whole less v (inr w) = let one : low ≤ 4096 * get_or fresh w.0 0 = from (suc w.0) (omega (arith, w.1)) in let page = w.2 in omega (arith, one, page, whole, less)
 
@@ -73,7 +75,7 @@ both_mixed {R} {S} {x} {y} done =
 pub sound_undone : {Q : Region} {s : Super} {held : Store} → ShowsSound Q s held → UndoneShows s held Q
 sound_undone {Q} {s} {held} sound =
     let own : Q ≡ undone s Q = sym (idle_undone s Q (layout_of_super Q s sound.sup) sound.idle) in
-    record { sup = subst (λ (U : Region). IsSuper U s) own sound.sup; shows = subst (λ (U : Region). Shows U (fixed_layout s) held) own sound.shows }
+    record { sup = subst (λ (U : Region). IsSuper U s) own sound.sup; shows = subst (λ (U : Region). Shows U (fixed_layout s) held) own sound.shows; journals = idle_faultless (is_permitted s) s.cpus Q sound.idle }
 
 one_inode : (i j k m : ℕ) → owners.Log i k ≡ owners.Log j m → i ≡ j
 one_inode i j k m e = cc
@@ -188,6 +190,9 @@ module _ {R : Region} {s : Super} {held : Store} {cpu i : ℕ} {h : Held} {x : E
       quiet = λ c below sound. (front_idle R S s.cpus front can.first.sound.idle c below).1;
     }
 
+    pub faultless : NoFault s S
+    faultless = no_fault can.first.sound front
+
     -- both tails moved, by puts of these numbers
     module _ (first_inside : x.slot + 32 ≤ size R) (second_inside : y.slot + 32 ≤ size R) (short : length R.rest < 8) where
       abbrev moved : Region
@@ -244,5 +249,5 @@ module _ {R : Region} {s : Super} {held : Store} {cpu i : ℕ} {h : Held} {x : E
       pub both_idle : (N : Region) → SameOutside both (journal cpu) 4096 N → IsEmpty N cpu → ShowsIdle N s (with_logs held i h x j g y)
       both_idle N outside empty = words_idle can.first.sound clear.stand can.journals front second_there.shows both_front both_show N outside empty
 
-      pub undone_either : (left : Region) → BeforeOrAfter (is_permitted s) s.cpus S (x.slot + 24) new (y.slot + 24) last left → BeforeOrBoth s held i h x j g y left
-      undone_either left either = words_undone can.first.sound clear.stand can.journals front second_there.shows both_front both_show left either
+      pub undone_either : (left : Region) → BeforeOrAfter (is_permitted s) s.cpus S (x.slot + 24) new (y.slot + 24) last left → NoFault s left → BeforeOrBoth s held i h x j g y left
+      undone_either left either none = words_undone can.first.sound clear.stand can.journals front second_there.shows both_front both_show left either none

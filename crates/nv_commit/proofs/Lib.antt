@@ -3,3 +3,5 @@ pub mod Permitted
 pub mod TwoWords
 pub mod BothTails
 pub mod Removes
+pub mod Makes
+pub mod Called

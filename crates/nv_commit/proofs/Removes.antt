@@ -10,6 +10,7 @@ use Rattle.nv_super.specs.Layout.{IsLayout, fixed_layout}
 use Rattle.nv_inode.specs.Permitted.{is_permitted}
 use Rattle.nv_journal.specs.Undo.{journal}
 use Rattle.nv_journal.specs.Pending.{BeforeOrAfter, CanUndo, IsEmpty}
+use Rattle.nv_journal.specs.Faults.{NoFault}
 use Rattle.nv_journal.proofs.Partly.{low_rule}
 use Rattle.nv_logpage.specs.Append.{AppendWords, appended, end_of, needed}
 use Rattle.nv_outcome.proofs.SuperOf.{blocks_of_super, layout_of_super}
@@ -29,7 +30,7 @@ use Rattle.nv_commit.specs.Removes.{BeforeOrRemoved, CanRemove, with_removed}
 use Rattle.nv_commit.proofs.BothTails.{mixed_size, sound_undone, still_empty}
 use Rattle.nv_commit.proofs.Extends.{all_loose, ends, front_more, slots, sound_before, stands_behind}
 use Rattle.nv_commit.proofs.Permitted.{tail_permitted, valid_permitted}
-use Rattle.nv_commit.proofs.TwoWords.{words_idle, words_undone}
+use Rattle.nv_commit.proofs.TwoWords.{no_fault, words_idle, words_undone}
 
 -- the journal stays empty while one log is written to
 pub empty_there : {R S : Region} {cpu : ℕ} {x : Extension} → CanCommit R cpu x → IsMixed R (AppendWords x.tail x.fresh.now) S → IsEmpty R cpu → IsEmpty S cpu
@@ -65,6 +66,9 @@ module _ {R : Region} {s : Super} {held : Store} {cpu i : ℕ} {h : Held} {x : E
       permits_second = valid_permitted s j slot layout can.at;
       quiet = λ c below sound. (front_idle R S s.cpus front can.parent.sound.idle c below).1;
     }
+
+    pub faultless : NoFault s S
+    faultless = no_fault can.parent.sound front
 
     module _ (first_inside : x.slot + 32 ≤ size R) (second_inside : slot + 8 ≤ size R) (short : length R.rest < 8) where
       abbrev moved : Region
@@ -108,5 +112,5 @@ module _ {R : Region} {s : Super} {held : Store} {cpu i : ℕ} {h : Held} {x : E
       pub removed_idle : (N : Region) → SameOutside both (journal cpu) 4096 N → IsEmpty N cpu → ShowsIdle N s (with_removed held i h x j)
       removed_idle N outside empty = words_idle can.parent.sound clear.stand can.journals front behind.shows both_front both_show N outside empty
 
-      pub removed_undone : (left : Region) → BeforeOrAfter (is_permitted s) s.cpus S (x.slot + 24) new slot 0 left → BeforeOrRemoved s held i h x j left
-      removed_undone left either = words_undone can.parent.sound clear.stand can.journals front behind.shows both_front both_show left either
+      pub removed_undone : (left : Region) → BeforeOrAfter (is_permitted s) s.cpus S (x.slot + 24) new slot 0 left → NoFault s left → BeforeOrRemoved s held i h x j left
+      removed_undone left either none = words_undone can.parent.sound clear.stand can.journals front behind.shows both_front both_show left either none

@@ -7,8 +7,11 @@ use Rattle.nv_super.specs.declared.superblock.Super.{Super}
 use Rattle.nv_super.specs.Layout.{fixed_layout}
 use Rattle.nv_super.specs.Super.{IsSuper}
 use Rattle.nv_super.proofs.Accepted.{super_stays}
+use Rattle.nv_inode.specs.Permitted.{is_permitted}
 use Rattle.nv_journal.specs.Undo.{dequeue, enqueue, is_sound, journal, pending_of, undone}
 use Rattle.nv_journal.specs.Pending.{IsEmpty, SameButJournals}
+use Rattle.nv_journal.specs.Faults.{NoFault}
+use Rattle.nv_journal.proofs.Faultless.{idle_faultless}
 use Rattle.nv_journal.proofs.Partly.{sound_of}
 use Rattle.nv_held.specs.Held.{Store, Shows}
 use Rattle.nv_held.specs.Slots.{SlotsStand}
@@ -16,6 +19,10 @@ use Rattle.nv_held.specs.Front.{SameFront}
 use Rattle.nv_held.specs.Mounted.{ShowsSound}
 use Rattle.nv_held.proofs.Fronts.{front_idle, front_super, shown_same}
 use Rattle.nv_commit.specs.Together.{ShowsIdle, UndoneShows}
+
+-- nothing is wrong with the journals of a region whose front is that of a sound one
+pub no_fault : {R S : Region} {s : Super} {held : Store} → ShowsSound R s held → SameFront s.cpus R S → NoFault s S
+no_fault {R} {S} {s} sound front = idle_faultless (is_permitted s) s.cpus S (front_idle R S s.cpus front sound.idle)
 
 module _ {R S both : Region} {s : Super} {held after : Store} {cpu : ℕ} (sound : ShowsSound R s held) (stand : SlotsStand (fixed_layout s)) (journals : cpu < s.cpus)
     (front : SameFront s.cpus R S) (shows : Shows S (fixed_layout s) held) (both_front : SameFront s.cpus R both) (both_show : Shows both (fixed_layout s) after) where
@@ -49,12 +56,14 @@ module _ {R S both : Region} {s : Super} {held after : Store} {cpu : ℕ} (sound
     }
 
   -- the undone region while they change
-  pub words_undone : (left : Region) → SameButJournals s.cpus S (undone s left) ⊎ SameButJournals s.cpus both (undone s left) → UndoneShows s held left ⊎ UndoneShows s after left
-  words_undone left (inl was) = inl (record {
+  pub words_undone : (left : Region) → SameButJournals s.cpus S (undone s left) ⊎ SameButJournals s.cpus both (undone s left) → NoFault s left → UndoneShows s held left ⊎ UndoneShows s after left
+  words_undone left (inl was) none = inl (record {
     sup = super_stays S (undone s left) (λ k. 8 * was.as_long k + length (was.same_rest k)) (λ at whole low. was.words at whole (inl (omega (arith, low)))) s (front_super R S s s.cpus front sound.sup);
     shows = shown_same (fixed_layout s) held S (undone s left) stand (λ at whole high. was.words at whole (inr high)) shows;
+    journals = none;
   })
-  words_undone left (inr now) = inr (record {
+  words_undone left (inr now) none = inr (record {
     sup = super_stays both (undone s left) (λ k. 8 * now.as_long k + length (now.same_rest k)) (λ at whole low. now.words at whole (inl (omega (arith, low)))) s both_sup;
     shows = shown_same (fixed_layout s) after both (undone s left) stand (λ at whole high. now.words at whole (inr high)) both_show;
+    journals = none;
   })

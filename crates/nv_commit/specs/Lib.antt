@@ -1,3 +1,4 @@
 pub mod Extends
 pub mod Together
 pub mod Removes
+pub mod Makes

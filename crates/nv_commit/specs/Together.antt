@@ -8,6 +8,7 @@ use Rattle.nv_super.specs.Layout.{fixed_layout}
 use Rattle.nv_super.specs.Super.{IsSuper}
 use Rattle.nv_journal.specs.Undo.{journal, undone}
 use Rattle.nv_journal.specs.Recorded.{Changes}
+use Rattle.nv_journal.specs.Faults.{NoFault}
 use Rattle.nv_logpage.specs.Append.{AppendWords, CanAppend, end_of}
 use Rattle.nv_held.specs.Held.{Held, Store, Shows}
 use Rattle.nv_held.specs.Mounted.{AreIdle}
@@ -47,10 +48,11 @@ pub record ShowsIdle (R : Region) (s : Super) (held : Store) : Type 0 where
   pub idle : AreIdle s.cpus R
   pub shows : Shows R (fixed_layout s) held
 
--- The region, rolled back, has this superblock and shows this.
+-- Nothing is wrong with the region's journals. Rolled back, it has this superblock and shows this.
 pub record UndoneShows (s : Super) (held : Store) (left : Region) : Type 0 where
   pub sup : IsSuper (undone s left) s
   pub shows : Shows (undone s left) (fixed_layout s) held
+  pub journals : NoFault s left
 
 -- rolled back, it shows what was held, or that with both logs grown
 abbrev pub BeforeOrBoth : Super → Store → ℕ → Held → Extension → ℕ → Held → Extension → Region → Type 0

@@ -6,11 +6,18 @@
 #![tactic(auto)]
 
 mod extending;
+mod faultless;
 mod laws;
+mod making;
 mod removing;
 mod together;
 
 pub use extending::extend_log;
+pub use faultless::{
+    created_is_faultless, linked_is_faultless, removed_is_faultless, renamed_is_faultless,
+    unlinked_is_faultless,
+};
 pub use laws::shown_is_sound;
+pub use making::{NewInode, make_inode};
 pub use removing::remove_inode;
 pub use together::{Extension, extend_two};

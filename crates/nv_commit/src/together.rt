@@ -33,7 +33,7 @@ pub struct Extension<'a> {
 /// new tails.
 ///
 /// After a stop at any moment of the call, the undone region has both logs as they were, or both with all of their
-/// entries. It costs five fences and takes no memory. Answers `Stopped` exactly where the fuse has burnt by the end of the
+/// entries, and nothing is wrong with the journals. It costs five fences and takes no memory. Answers `Stopped` exactly where the fuse has burnt by the end of the
 /// call.
 pub fn extend_two<P: Pmem>(
     memory: &mut P,
@@ -52,7 +52,7 @@ pub fn extend_two<P: Pmem>(
     ensures stopped { is_err result ≡ (P.fuse memory.new).has_burnt }
     ensures keeps_fuse { KeepsFuse (λ limit. EndBy (first.now.tail / 4096 ∷ first.now.fresh.now) limit × EndBy (second.now.tail / 4096 ∷ second.now.fresh.now) limit × (first.now.slot + 32 ≤ limit) × (second.now.slot + 32 ≤ limit)) (P.fuse memory.old) (P.fuse memory.new) }
     // The region as it reads, also after a stop, and each that a stop leaves: rolled back, it shows what was held, or that
-    // with both logs grown.
+    // with both logs grown. Its journals have no faults.
     ensures reads { (s : Super) (held : Store) (i j : ℕ) (h g : Held) → CanExtendTwo (P.region memory.old) s held cpu i h first.now j g second.now
         → BeforeOrBoth s held i h first.now j g second.now (P.region memory.new) }
     ensures any_stop { (s : Super) (held : Store) (i j : ℕ) (h g : Held) → CanExtendTwo (P.region memory.old) s held cpu i h first.now j g second.now → NothingPending (P.region memory.old) (P.may_hold memory.old)

@@ -52,7 +52,7 @@ end_more x xs limit first rest (suc j) below = rest j (omega (arith, below))
 
 -- ---- a right log
 
-page_start : (s : Super) (b : ℕ) → system_blocks s ≤ b → b < s.blocks → IsTrue (is_page_start s (4096 * b))
+pub page_start : (s : Super) (b : ℕ) → system_blocks s ≤ b → b < s.blocks → IsTrue (is_page_start s (4096 * b))
 page_start s b from below =
     let block : 4096 * b / 4096 ≡ b = omega arith in
     let start : 4096 * b % 4096 ≡ 0 = omega arith in

@@ -12,7 +12,7 @@ use Rattle.nv_held.specs.Appended.{Appends}
 use Rattle.nv_commit.specs.Removes.{BeforeOrRemoved, RemoveWords}
 use Rattle.nv_commit.proofs.BothTails.{sound_undone}
 use Rattle.nv_commit.proofs.Extends.{burnt_append, sound_before}
-use Rattle.nv_commit.proofs.Removes.{can_undo, empty_there, left_undone, removed_idle, removed_undone}
+use Rattle.nv_commit.proofs.Removes.{can_undo, empty_there, faultless, left_undone, removed_idle, removed_undone}
 use Rattle.nv_commit.proofs.removing.remove_inode.Goals as goal
 
 pub append-requires : goal.append-requires
@@ -64,12 +64,14 @@ returns-in_err-change_two-clause-reads g c s held i j h can =
     let appends : Appends (g.P.Pmem.region c.args.memory.now) (g.P.Pmem.region c.fence.new.self) c.args.directory.now.tail c.in_ok-end.end c.args.directory.now.entries.now c.args.directory.now.fresh.now = subst (λ (S : Region). Appends (g.P.Pmem.region c.args.memory.now) S c.args.directory.now.tail c.in_ok-end.end c.args.directory.now.entries.now c.args.directory.now.fresh.now) (sym c.in_ok-fence.ensures.same)
     (record { reads = λ s head es all start free read. c.in_ok-end.ensures.reads s head es all start free read; right = λ s head start tail_in pages either. c.in_ok-end.ensures.right s head start tail_in pages either; wrote = c.append.ensures.wrote.mixed }) in
     removed_undone can (g.P.Pmem.region c.fence.new.self) c.in_ok-end.end c.in_ok-end.ensures.end appends c.requires.directory.inside c.requires.inside c.len-length.ensures.short (g.P.Pmem.region c.change_two.new.memory) (c.change_two.ensures.reads (is_permitted s) s.cpus (can_undo can (g.P.Pmem.region c.fence.new.self) c.in_ok-end.end c.in_ok-end.ensures.end appends c.len-length.ensures.short))
+    (c.change_two.ensures.faultless (is_permitted s) s.cpus (can_undo can (g.P.Pmem.region c.fence.new.self) c.in_ok-end.end c.in_ok-end.ensures.end appends c.len-length.ensures.short) (faultless can (g.P.Pmem.region c.fence.new.self) c.in_ok-end.end c.in_ok-end.ensures.end appends))
 
 pub returns-in_err-change_two-clause-any_stop : goal.returns-in_err-change_two-clause-any_stop
 returns-in_err-change_two-clause-any_stop g c s held i j h can settled left may =
     let appends : Appends (g.P.Pmem.region c.args.memory.now) (g.P.Pmem.region c.fence.new.self) c.args.directory.now.tail c.in_ok-end.end c.args.directory.now.entries.now c.args.directory.now.fresh.now = subst (λ (S : Region). Appends (g.P.Pmem.region c.args.memory.now) S c.args.directory.now.tail c.in_ok-end.end c.args.directory.now.entries.now c.args.directory.now.fresh.now) (sym c.in_ok-fence.ensures.same)
     (record { reads = λ s head es all start free read. c.in_ok-end.ensures.reads s head es all start free read; right = λ s head start tail_in pages either. c.in_ok-end.ensures.right s head start tail_in pages either; wrote = c.append.ensures.wrote.mixed }) in
     removed_undone can (g.P.Pmem.region c.fence.new.self) c.in_ok-end.end c.in_ok-end.ensures.end appends c.requires.directory.inside c.requires.inside c.len-length.ensures.short left (c.change_two.ensures.any_stop (is_permitted s) s.cpus (can_undo can (g.P.Pmem.region c.fence.new.self) c.in_ok-end.end c.in_ok-end.ensures.end appends c.len-length.ensures.short) c.in_ok-fence.ensures.fenced left may)
+    (c.change_two.ensures.stop_is_faultless (is_permitted s) s.cpus (can_undo can (g.P.Pmem.region c.fence.new.self) c.in_ok-end.end c.in_ok-end.ensures.end appends c.len-length.ensures.short) (faultless can (g.P.Pmem.region c.fence.new.self) c.in_ok-end.end c.in_ok-end.ensures.end appends) c.in_ok-fence.ensures.fenced left may)
 
 pub returns-in_err-change_two-clause-keeps_fuse : goal.returns-in_err-change_two-clause-keeps_fuse
 returns-in_err-change_two-clause-keeps_fuse g c =
@@ -81,12 +83,14 @@ returns-clause-reads g c s held i j h can =
     let appends : Appends (g.P.Pmem.region c.args.memory.now) (g.P.Pmem.region c.fence.new.self) c.args.directory.now.tail c.in_ok-end.end c.args.directory.now.entries.now c.args.directory.now.fresh.now = subst (λ (S : Region). Appends (g.P.Pmem.region c.args.memory.now) S c.args.directory.now.tail c.in_ok-end.end c.args.directory.now.entries.now c.args.directory.now.fresh.now) (sym c.in_ok-fence.ensures.same)
     (record { reads = λ s head es all start free read. c.in_ok-end.ensures.reads s head es all start free read; right = λ s head start tail_in pages either. c.in_ok-end.ensures.right s head start tail_in pages either; wrote = c.append.ensures.wrote.mixed }) in
     removed_undone can (g.P.Pmem.region c.fence.new.self) c.in_ok-end.end c.in_ok-end.ensures.end appends c.requires.directory.inside c.requires.inside c.len-length.ensures.short (g.P.Pmem.region c.change_two.new.memory) (c.change_two.ensures.reads (is_permitted s) s.cpus (can_undo can (g.P.Pmem.region c.fence.new.self) c.in_ok-end.end c.in_ok-end.ensures.end appends c.len-length.ensures.short))
+    (c.change_two.ensures.faultless (is_permitted s) s.cpus (can_undo can (g.P.Pmem.region c.fence.new.self) c.in_ok-end.end c.in_ok-end.ensures.end appends c.len-length.ensures.short) (faultless can (g.P.Pmem.region c.fence.new.self) c.in_ok-end.end c.in_ok-end.ensures.end appends))
 
 pub returns-clause-any_stop : goal.returns-clause-any_stop
 returns-clause-any_stop g c s held i j h can settled left may =
     let appends : Appends (g.P.Pmem.region c.args.memory.now) (g.P.Pmem.region c.fence.new.self) c.args.directory.now.tail c.in_ok-end.end c.args.directory.now.entries.now c.args.directory.now.fresh.now = subst (λ (S : Region). Appends (g.P.Pmem.region c.args.memory.now) S c.args.directory.now.tail c.in_ok-end.end c.args.directory.now.entries.now c.args.directory.now.fresh.now) (sym c.in_ok-fence.ensures.same)
     (record { reads = λ s head es all start free read. c.in_ok-end.ensures.reads s head es all start free read; right = λ s head start tail_in pages either. c.in_ok-end.ensures.right s head start tail_in pages either; wrote = c.append.ensures.wrote.mixed }) in
     removed_undone can (g.P.Pmem.region c.fence.new.self) c.in_ok-end.end c.in_ok-end.ensures.end appends c.requires.directory.inside c.requires.inside c.len-length.ensures.short left (c.change_two.ensures.any_stop (is_permitted s) s.cpus (can_undo can (g.P.Pmem.region c.fence.new.self) c.in_ok-end.end c.in_ok-end.ensures.end appends c.len-length.ensures.short) c.in_ok-fence.ensures.fenced left may)
+    (c.change_two.ensures.stop_is_faultless (is_permitted s) s.cpus (can_undo can (g.P.Pmem.region c.fence.new.self) c.in_ok-end.end c.in_ok-end.ensures.end appends c.len-length.ensures.short) (faultless can (g.P.Pmem.region c.fence.new.self) c.in_ok-end.end c.in_ok-end.ensures.end appends) c.in_ok-fence.ensures.fenced left may)
 
 pub returns-clause-keeps_fuse : goal.returns-clause-keeps_fuse
 returns-clause-keeps_fuse g c =

@@ -6,7 +6,7 @@ use Rattle.nv_inode.specs.Permitted.{is_permitted}
 use Rattle.nv_journal.specs.Recorded.{Changes}
 use Rattle.nv_logpage.specs.Append.{end_of}
 use Rattle.nv_commit.specs.Together.{BothWords, TogetherWords}
-use Rattle.nv_commit.proofs.BothTails.{both_before, both_idle, both_left, can_undo, mixed_size, sound_undone, still_empty, undone_either}
+use Rattle.nv_commit.proofs.BothTails.{both_before, both_idle, both_left, can_undo, faultless, mixed_size, sound_undone, still_empty, undone_either}
 use Rattle.nv_commit.proofs.together.extend_two.Goals as goal
 
 pub append_both-requires : goal.append_both-requires
@@ -37,10 +37,12 @@ returns-in_err-ends-clause-keeps_fuse g c = keeps_within (λ limit past. (past.0
 pub returns-in_err-change_two-clause-reads : goal.returns-in_err-change_two-clause-reads
 returns-in_err-change_two-clause-reads g c s held i j h k can =
     undone_either can c.in_ok-ends.ensures.appended c.requires.first.inside c.requires.second.inside c.len-length.ensures.short _ (c.change_two.ensures.reads (is_permitted s) s.cpus (can_undo can c.in_ok-ends.ensures.appended c.len-length.ensures.short))
+    (c.change_two.ensures.faultless (is_permitted s) s.cpus (can_undo can c.in_ok-ends.ensures.appended c.len-length.ensures.short) (faultless can c.in_ok-ends.ensures.appended))
 
 pub returns-in_err-change_two-clause-any_stop : goal.returns-in_err-change_two-clause-any_stop
 returns-in_err-change_two-clause-any_stop g c s held i j h k can settled left may =
     undone_either can c.in_ok-ends.ensures.appended c.requires.first.inside c.requires.second.inside c.len-length.ensures.short left (c.change_two.ensures.any_stop (is_permitted s) s.cpus (can_undo can c.in_ok-ends.ensures.appended c.len-length.ensures.short) c.in_ok-ends.ensures.settled left may)
+    (c.change_two.ensures.stop_is_faultless (is_permitted s) s.cpus (can_undo can c.in_ok-ends.ensures.appended c.len-length.ensures.short) (faultless can c.in_ok-ends.ensures.appended) c.in_ok-ends.ensures.settled left may)
 
 pub returns-in_err-change_two-clause-keeps_fuse : goal.returns-in_err-change_two-clause-keeps_fuse
 returns-in_err-change_two-clause-keeps_fuse g c =
@@ -50,10 +52,12 @@ returns-in_err-change_two-clause-keeps_fuse g c =
 pub returns-clause-reads : goal.returns-clause-reads
 returns-clause-reads g c s held i j h k can =
     undone_either can c.in_ok-ends.ensures.appended c.requires.first.inside c.requires.second.inside c.len-length.ensures.short _ (c.change_two.ensures.reads (is_permitted s) s.cpus (can_undo can c.in_ok-ends.ensures.appended c.len-length.ensures.short))
+    (c.change_two.ensures.faultless (is_permitted s) s.cpus (can_undo can c.in_ok-ends.ensures.appended c.len-length.ensures.short) (faultless can c.in_ok-ends.ensures.appended))
 
 pub returns-clause-any_stop : goal.returns-clause-any_stop
 returns-clause-any_stop g c s held i j h k can settled left may =
     undone_either can c.in_ok-ends.ensures.appended c.requires.first.inside c.requires.second.inside c.len-length.ensures.short left (c.change_two.ensures.any_stop (is_permitted s) s.cpus (can_undo can c.in_ok-ends.ensures.appended c.len-length.ensures.short) c.in_ok-ends.ensures.settled left may)
+    (c.change_two.ensures.stop_is_faultless (is_permitted s) s.cpus (can_undo can c.in_ok-ends.ensures.appended c.len-length.ensures.short) (faultless can c.in_ok-ends.ensures.appended) c.in_ok-ends.ensures.settled left may)
 
 pub returns-clause-keeps_fuse : goal.returns-clause-keeps_fuse
 returns-clause-keeps_fuse g c =
