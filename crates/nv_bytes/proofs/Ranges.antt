@@ -1,0 +1,35 @@
+-- What a function gives for numbers in a row.
+use Rattle.std.proofs.Common.{◌≡◌, ℕ, zero, suc, ◌+◌, ◌-◌, ◌<◌, ◌≤◌, List, [], ◌∷◌, ◌++◌, length, map, refl, sym, ap, ◌∙◌, arith, append_assoc, Result, Ok, Err, OnOk, is_ok, if◌then◌else◌}
+use Rattle.std.specs.List.{range_with_len}
+
+range_more : (f : ℕ → ℕ) (a m n : ℕ) → map f (range_with_len a m) ++ map f (range_with_len (a + m) n) ≡ map f (range_with_len a (m + n))
+range_more f a zero n = ap (λ (b : ℕ). map f (range_with_len b n)) (let e : a + 0 ≡ a = omega arith in e) ∙ ap (λ (k : ℕ). map f (range_with_len a k)) (let e : n ≡ 0 + n = omega arith in e)
+range_more f a (suc m) n =
+    ap (λ (b : ℕ). f a ∷ (map f (range_with_len (a + 1) m) ++ map f (range_with_len b n))) (let e : a + suc m ≡ (a + 1) + m = omega arith in e)
+    ∙ ap (λ (l : List ℕ). f a ∷ l) (range_more f (a + 1) m n)
+    ∙ ap (λ (k : ℕ). map f (range_with_len a k)) (let e : suc (m + n) ≡ suc m + n = omega arith in e)
+
+-- what is told up to one place, and from there up to another
+pub range_seam : (f : ℕ → ℕ) (a b c : ℕ) → a ≤ b → b ≤ c → map f (range_with_len a (b - a)) ++ map f (range_with_len b (c - b)) ≡ map f (range_with_len a (c - a))
+range_seam f a b c low high =
+    ap (λ (d : ℕ). map f (range_with_len a (b - a)) ++ map f (range_with_len d (c - b))) (let e : b ≡ a + (b - a) = omega arith in e)
+    ∙ range_more f a (b - a) (c - b)
+    ∙ ap (λ (k : ℕ). map f (range_with_len a k)) (let e : (b - a) + (c - b) ≡ c - a = omega arith in e)
+
+-- one piece more behind those so far
+pub piece_more : (f : ℕ → ℕ) (old now new piece : List ℕ) (a b c : ℕ) → a ≤ b → b ≤ c → now ≡ old ++ map f (range_with_len a (b - a)) → new ≡ now ++ piece → piece ≡ map f (range_with_len b (c - b)) → new ≡ old ++ map f (range_with_len a (c - a))
+piece_more f old now new piece a b c low high so_far more is =
+    more ∙ ap (λ (l : List ℕ). l ++ piece) so_far ∙ append_assoc old (map f (range_with_len a (b - a))) piece
+    ∙ ap (λ (l : List ℕ). old ++ l) (ap (λ (l : List ℕ). map f (range_with_len a (b - a)) ++ l) is ∙ range_seam f a b c low high)
+
+-- two functions that agree on the numbers
+pub same_range : (f g : ℕ → ℕ) (a n : ℕ) → ((x : ℕ) → a ≤ x → x < a + n → f x ≡ g x) → map f (range_with_len a n) ≡ map g (range_with_len a n)
+same_range f g a zero same = refl
+same_range f g a (suc n) same =
+    ap (λ (x : ℕ). x ∷ map f (range_with_len (a + 1) n)) (same a (omega arith) (omega arith))
+    ∙ ap (λ (l : List ℕ). g a ∷ l) (same_range f g (a + 1) n (λ x low high. same x (omega arith) (omega arith)))
+
+-- what a call adds where it succeeds
+pub added : {T E : Type 0} (result : Result T E) (old new piece other : List ℕ) → new ≡ (if is_ok result then old ++ piece else old) → piece ≡ other → OnOk result (new ≡ old ++ other)
+added (Ok done) old new piece other is same = is ∙ ap (λ (l : List ℕ). old ++ l) same
+added (Err refused) old new piece other is same = tt

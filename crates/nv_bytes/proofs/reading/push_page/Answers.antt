@@ -1,0 +1,14 @@
+use Rattle.std.proofs.Common.{refl, arith, map, ◌-◌, ◌≤◌}
+use Rattle.std.specs.List.{range_with_len}
+use Rattle.nv_held.specs.Bytes.{byte_in}
+use Rattle.nv_bytes.proofs.Ranges.{piece_more}
+use Rattle.nv_bytes.proofs.reading.push_page.Goals as goal
+
+pub loop-at-preserved : goal.loop-at-preserved
+loop-at-preserved g c =
+    let on : c.loop-at.at ≤ c.min-stop.result = omega (arith, c.min-stop.ensures) in
+    record {
+      low = omega (arith, c.loop-at.invariant.low, on);
+      high = omega (arith, c.min-stop.ensures);
+      items = piece_more (byte_in (g.P.Pmem.region c.args.memory.now) c.args.block) _ _ _ _ c.args.start c.loop-at.at c.min-stop.result c.loop-at.invariant.low on c.loop-at.invariant.items c.in_ok-push_part.ensures (refl {a = map (byte_in (g.P.Pmem.region c.args.memory.now) c.args.block) (range_with_len c.loop-at.at (c.min-stop.result - c.loop-at.at))});
+    }

@@ -1,0 +1,86 @@
+//! New bytes of a file, as they fall into its words.
+
+ghost use Rattle.std.specs.Prelude.{◌≡◌, ◌+◌, ◌<◌, ◌≤◌, ◌%◌, ◌^◌, ℕ, length, get_or, IsTrue};
+ghost use Rattle.nv_bytes.specs.Bytes.{byte_of_word, byte_after};
+
+use byteorder::{ByteOrder, LittleEndian};
+
+/// New bytes of a file from an offset on, and the size of the file before.
+///
+/// What stood past the size counts as zeros.
+pub struct NewBytes<'a> {
+    pub offset: u64,
+    pub bytes: &'a [u8],
+    pub size: u64,
+}
+
+impl NewBytes<'_> {
+    /// The end of the new bytes.
+    fn end(&self) -> u64
+        requires { self.now.offset + length self.now.bytes.now ≤ 2 ^ 62 }
+        ensures { result ≡ self.now.offset + length self.now.bytes.now }
+    {
+        self.offset + self.bytes.len() as u64
+    }
+
+    /// Whether the word from byte `x` on is all of new bytes.
+    pub(crate) fn covers(&self, x: u64) -> bool
+        requires place { x + 8 ≤ 2 ^ 62 }
+        requires small { self.now.offset + length self.now.bytes.now ≤ 2 ^ 62 }
+        ensures from { IsTrue result → self.now.offset ≤ x }
+        ensures to { IsTrue result → x + 8 ≤ self.now.offset + length self.now.bytes.now }
+    {
+        self.offset <= x && x + 8 <= self.end()
+    }
+
+    /// Whether the word from byte `x` on stays: it lies below the size, and has no new byte.
+    pub(crate) fn leaves(&self, x: u64) -> bool
+        requires place { x + 8 ≤ 2 ^ 62 }
+        requires small { self.now.offset + length self.now.bytes.now ≤ 2 ^ 62 }
+        ensures { IsTrue result → (k : ℕ) (old : ℕ → ℕ) → k < 8 → byte_after self.now.offset self.now.bytes.now self.now.size old (x + k) ≡ old (x + k) }
+    {
+        x + 8 <= self.size && (x + 8 <= self.offset || self.end() <= x)
+    }
+
+    /// The word of the new bytes from byte `x` on.
+    pub(crate) fn whole(&self, x: u64) -> u64
+        requires from { self.now.offset ≤ x }
+        requires to { x + 8 ≤ self.now.offset + length self.now.bytes.now }
+        ensures { (k : ℕ) (old : ℕ → ℕ) → k < 8 → byte_of_word result k ≡ byte_after self.now.offset self.now.bytes.now self.now.size old (x + k) }
+    {
+        first_word(&self.bytes[(x - self.offset) as usize..])
+    }
+
+    /// The word from byte `x` on, of the word that stood there, byte by byte.
+    pub(crate) fn patched(&self, x: u64, old: u64) -> u64
+        requires { x + 8 ≤ 2 ^ 62 }
+        ensures { (k : ℕ) → k < 8 → byte_of_word result k ≡ byte_after self.now.offset self.now.bytes.now self.now.size (λ _. byte_of_word old k) (x + k) }
+    {
+        let mut bytes = old.to_le_bytes();
+        for k in 0..8 {
+            bytes[k] = self.byte(x + k as u64, bytes[k]);
+        }
+        u64::from_le_bytes(bytes)
+    }
+
+    /// Byte `x`, of the byte that stood there.
+    fn byte(&self, x: u64, old: u8) -> u8
+        ensures { result ≡ byte_after self.now.offset self.now.bytes.now self.now.size (λ _. old) x }
+    {
+        if self.offset <= x && x - self.offset < self.bytes.len() as u64 {
+            self.bytes[(x - self.offset) as usize]
+        } else if x < self.size {
+            old
+        } else {
+            0
+        }
+    }
+}
+
+/// The word of the first eight bytes.
+fn first_word(bytes: &[u8]) -> u64
+    requires { 8 ≤ length bytes.now }
+    ensures { (k : ℕ) → k < 8 → byte_of_word result k ≡ get_or bytes.now k 0 }
+{
+    LittleEndian::read_u64(bytes)
+}

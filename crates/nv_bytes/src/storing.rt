@@ -1,0 +1,122 @@
+//! Storing a file's pages anew, into fresh blocks.
+//!
+//! Nothing is fenced: what is stored counts only once an entry names the blocks.
+
+ghost use Rattle.std.specs.Prelude.{◌≡◌, ◌≢◌, ◌+◌, ◌*◌, ◌%◌, ◌<◌, ◌≤◌, ◌^◌, ℕ, length, IfSome, IsTrue, OnOk, OnErr, is_err, false, Some};
+ghost use Rattle.nv_region.specs.Region.{size};
+ghost use Rattle.nv_region.specs.Stored.{StoresOnly};
+ghost use Rattle.nv_region.specs.Fuses.{KeepsFuse};
+ghost use Rattle.nv_super.specs.Runs.{InRun};
+ghost use Rattle.nv_radix.specs.Pages.{block_at};
+ghost use Rattle.nv_alloc.specs.Taking.{HasBlock, blocks_in};
+ghost use Rattle.nv_held.specs.Bytes.{byte_in};
+ghost use Rattle.nv_bytes.specs.Bytes.{byte_after, byte_of_word, file_byte, LieInside};
+ghost use Rattle.nv_bytes.specs.Storing.{AreFresh, HoldPages, HoldsPage, InBlocks};
+
+use crate::change::NewBytes;
+use crate::reading::word_at;
+use nv_radix::FileIndex;
+use nv_region::{Pmem, Stopped, store_word};
+use nv_super::{BLOCK_SIZE, Run};
+
+const WORDS_IN_PAGE: u64 = 512;
+
+/// Stores the pages of a file from one on, as they are with the new bytes, into the blocks of runs, in their order.
+///
+/// `Stopped` where the fuse has burnt. Some of the words may be stored then.
+pub fn store_pages<P: Pmem>(
+    memory: &mut P,
+    index: &FileIndex,
+    first: u64,
+    runs: &[Run],
+    change: &NewBytes,
+) -> Result<(), Stopped>
+    requires mapped { LieInside (P.region memory.old) index.now }
+    requires fresh { AreFresh (P.region memory.old) index.now runs.now }
+    requires pages { first + blocks_in runs.now ≤ 2 ^ 32 }
+    requires small { change.now.offset + length change.now.bytes.now ≤ 2 ^ 62 }
+    ensures stored { OnOk result (HoldPages (P.region memory.new) (byte_after change.now.offset change.now.bytes.now change.now.size (file_byte (P.region memory.old) index.now)) first runs.now) }
+    ensures wrote { StoresOnly (InBlocks (HasBlock runs.now)) (P.region memory.old) (P.region memory.new) (P.may_hold memory.old) (P.may_hold memory.new) }
+    ensures stopped { (P.fuse memory.old).has_burnt ≡ false → is_err result ≡ (P.fuse memory.new).has_burnt }
+    ensures keeps_fuse { KeepsFuse (λ limit. size (P.region memory.old) ≤ limit) (P.fuse memory.old) (P.fuse memory.new) }
+{
+    let mut page = first;
+    for run in runs {
+        store_run(memory, index, page, *run, change)?;
+        page += run.count;
+    }
+    Ok(())
+}
+
+/// Stores the pages of a file from one on into the blocks of a run.
+fn store_run<P: Pmem>(
+    memory: &mut P,
+    index: &FileIndex,
+    page: u64,
+    run: Run,
+    change: &NewBytes,
+) -> Result<(), Stopped>
+    requires mapped { LieInside (P.region memory.old) index.now }
+    requires inside { (b : ℕ) → InRun run b → b * 4096 + 4096 ≤ size (P.region memory.old) }
+    requires apart { (p b : ℕ) → block_at index.now p ≡ Some b → InRun run b → ⊥ }
+    requires pages { page + run.count ≤ 2 ^ 32 }
+    requires small { change.now.offset + length change.now.bytes.now ≤ 2 ^ 62 }
+    ensures stored { OnOk result ((k : ℕ) → k < run.count → HoldsPage (P.region memory.new) (byte_after change.now.offset change.now.bytes.now change.now.size (file_byte (P.region memory.old) index.now)) (run.start + k) (page + k)) }
+    ensures wrote { StoresOnly (InBlocks (InRun run)) (P.region memory.old) (P.region memory.new) (P.may_hold memory.old) (P.may_hold memory.new) }
+    ensures stopped { (P.fuse memory.old).has_burnt ≡ false → is_err result ≡ (P.fuse memory.new).has_burnt }
+    ensures keeps_fuse { KeepsFuse (λ limit. size (P.region memory.old) ≤ limit) (P.fuse memory.old) (P.fuse memory.new) }
+{
+    let _length = memory.len();
+    for k in 0..run.count {
+        store_page(memory, index.get(page + k), run.start + k, page + k, change)?;
+    }
+    Ok(())
+}
+
+/// Stores a page of a file into a block: what stands in the page's block, with the new bytes.
+///
+/// With no new bytes it is a copy, zeros past the size. `Stopped` exactly where the fuse has burnt; some of the words may
+/// be stored then.
+pub fn store_page<P: Pmem>(
+    memory: &mut P,
+    from: Option<u64>,
+    to: u64,
+    page: u64,
+    change: &NewBytes,
+) -> Result<(), Stopped>
+    requires from { IfSome from (λ b. b * 4096 + 4096 ≤ size (P.region memory.old)) }
+    requires apart { IfSome from (λ b. b ≢ to) }
+    requires to { to * 4096 + 4096 ≤ size (P.region memory.old) }
+    requires page { page < 2 ^ 32 }
+    requires small { change.now.offset + length change.now.bytes.now ≤ 2 ^ 62 }
+    ensures stored { OnOk result (HoldsPage (P.region memory.new) (byte_after change.now.offset change.now.bytes.now change.now.size (byte_in (P.region memory.old) from)) to page) }
+    ensures wrote { StoresOnly (InBlocks (λ b. b ≡ to)) (P.region memory.old) (P.region memory.new) (P.may_hold memory.old) (P.may_hold memory.new) }
+    ensures stopped { is_err result ≡ (P.fuse memory.new).has_burnt }
+    ensures keeps_fuse { KeepsFuse (λ limit. to * 4096 + 4096 ≤ limit) (P.fuse memory.old) (P.fuse memory.new) }
+{
+    let _length = memory.len();
+    for k in 0..WORDS_IN_PAGE {
+        let word = next_word(memory, from, page * BLOCK_SIZE + 8 * k, change);
+        store_word(memory, to * BLOCK_SIZE + 8 * k, word)?;
+    }
+    Ok(())
+}
+
+/// The word that a file has from byte `x` on with the new bytes.
+fn next_word<P: Pmem>(memory: &P, block: Option<u64>, x: u64, change: &NewBytes) -> u64
+    requires inside { IfSome block (λ b. b * 4096 + 4096 ≤ size (P.region memory.now)) }
+    requires whole { x % 8 ≡ 0 }
+    requires place { x + 8 ≤ 2 ^ 62 }
+    requires small { change.now.offset + length change.now.bytes.now ≤ 2 ^ 62 }
+    ensures { (k : ℕ) → k < 8 → byte_of_word result k ≡ byte_after change.now.offset change.now.bytes.now change.now.size (byte_in (P.region memory.now) block) (x + k) }
+{
+    if change.covers(x) {
+        return change.whole(x);
+    }
+    let old = word_at(memory, block, x);
+    if change.leaves(x) {
+        old
+    } else {
+        change.patched(x, old)
+    }
+}
