@@ -1,4 +1,4 @@
-use Rattle.std.proofs.Common.{◌<◌, ℕ, length, get_or, arith, ◌∙◌}
+use Rattle.std.proofs.Common.{get_or, arith, ◌∙◌}
 use Rattle.std.proofs.Math.ListN.{set}
 use Rattle.nv_alloc.proofs.Pools.{bounds_set, took_ends, took_goes, took_enough, took_less, lists_length}
 use Rattle.nv_alloc.proofs.Changed.{own_default}

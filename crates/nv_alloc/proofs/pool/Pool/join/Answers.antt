@@ -1,5 +1,5 @@
 use Rattle.std.proofs.Common.{◌⊎◌, ◌≤◌, ◌<◌, ◌+◌, ◌-◌, ℕ, arith, subst, sym}
-use Rattle.nv_super.specs.Runs.{Apart, AreRuns, InRun}
+use Rattle.nv_super.specs.Runs.{AreRuns, InRun}
 use Rattle.nv_alloc.specs.Taking.{HasBlock}
 use Rattle.nv_alloc.specs.PoolValue.{PoolState}
 use Rattle.nv_alloc.specs.FreeRuns.{free_runs, IsPool}

@@ -1,4 +1,4 @@
-use Rattle.std.proofs.Common.{◌≡◌, ◌<◌, ◌-◌, ◌++◌, ◌∷◌, [], List, ap, sym, arith, subst}
+use Rattle.std.proofs.Common.{◌-◌, List, ap, sym, arith, subst}
 use Rattle.nv_super.specs.declared.owners.Run.{Run}
 use Rattle.nv_super.specs.Runs.{Apart}
 use Rattle.nv_alloc.specs.Taking.{blocks_in}
