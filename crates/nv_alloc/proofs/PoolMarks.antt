@@ -1,5 +1,5 @@
 -- What the marks of a pool say of its blocks.
-use Rattle.std.proofs.Common.{◌≡◌, ◌⊎◌, inl, inr, ℕ, Bool, true, false, ◌+◌, ◌-◌, ◌*◌, ◌%◌, ◌/◌, ◌^◌, ◌<◌, ◌≤◌, List, [], ◌∷◌, ◌++◌, length, get_or, drop, take, eqb, refl, sym, ap, ◌∙◌, subst, arith, min, append_assoc}
+use Rattle.std.proofs.Common.{◌≡◌, ◌⊎◌, inl, inr, ℕ, Bool, true, false, ◌+◌, ◌-◌, ◌%◌, ◌/◌, ◌^◌, ◌<◌, ◌≤◌, List, [], ◌∷◌, ◌++◌, get_or, drop, eqb, refl, sym, ap, ◌∙◌, subst, arith, min, append_assoc}
 use Rattle.std.specs.List.{slice_range}
 use Rattle.std.specs.Int.{bit_at}
 use Rattle.std.proofs.lemmas.Bool.{cases_lt}
@@ -42,9 +42,9 @@ own_has words from to b low high =
     let bit : (b - word_start from) % 64 ≡ b % 64 = omega (arith, low) in
     ap (λ (k : ℕ). bit_at (get_or (slice_range words (from / 64) ((to + 63) / 64)) ((b - word_start from) / 64) 0) k) bit
     ∙ ap (λ (x : ℕ). bit_at x (b % 64)) (
-      get_or-take ((to + 63) / 64 - from / 64) (drop (from / 64) words) ((b - word_start from) / 64) 0 (omega (arith, place, low, high))
-      ∙ get_or-drop (from / 64) words ((b - word_start from) / 64) 0
-      ∙ ap (λ (k : ℕ). get_or words k 0) (omega (arith, place, low)))
+    get_or-take ((to + 63) / 64 - from / 64) (drop (from / 64) words) ((b - word_start from) / 64) 0 (omega (arith, place, low, high))
+    ∙ get_or-drop (from / 64) words ((b - word_start from) / 64) 0
+    ∙ ap (λ (k : ℕ). get_or words k 0) (omega (arith, place, low)))
 
 -- the runs of a pool that was made
 pub made_runs : (words : List ℕ) (from to : ℕ) → from ≤ to → AreRuns (IsClear words from to) (free_runs (slice_range words (from / 64) ((to + 63) / 64)) from to)
@@ -132,7 +132,7 @@ module _ (test test' : ℕ → Bool) (from to s e need : ℕ) (low : from ≤ s)
   new_runs : runs_where test' from (to - from) ≡ runs_where test e (to - e)
   new_runs =
       skip_to test' from e to (let m = more in omega (arith, low, m)) upto
-          (λ b above below. elim (cases_lt b s) [ inl w ↦ same b above (omega (arith, w, within)) (inl w) ∙ before b above w | inr w ↦ gone b w below ])
+      (λ b above below. elim (cases_lt b s) [ inl w ↦ same b above (omega (arith, w, within)) (inl w) ∙ before b above w | inr w ↦ gone b w below ])
       ∙ runs_same test' test (to - e) e (λ b above below. (let m = more in same b (omega (arith, above, m, low)) (omega (arith, below, above)) (inr above)))
 
   touch : (r : Run) (tail : List Run) → runs_where test e (to - e) ≡ r ∷ tail → s + (e - s) ≡ r.start → need ≡ e - s
@@ -181,10 +181,14 @@ module _ (test test' : ℕ → Bool) (from to low high : ℕ) (above : from ≤ 
       old = runs_where-are test (to - from) from
 
       was : (b : ℕ) → (from ≤ b) × (b < from + (to - from)) × (test b ≡ true) → (from ≤ b) × (b < from + (to - from)) × (test' b ≡ true)
-      was b h = (h.0, h.1, elim (cases_lt b low) [
-        | inl w ↦ same b h.0 (let lt = h.1 in omega (arith, lt, above, order, below)) (inl w) ∙ h.2
-        | inr w ↦ elim (cases_lt b high) [ inl v ↦ on b w v | inr v ↦ same b h.0 (let lt = h.1 in omega (arith, lt, above, order, below)) (inr v) ∙ h.2 ]
-      ])
+      was b h = (
+        h.0,
+        h.1,
+        elim (cases_lt b low) [
+          | inl w ↦ same b h.0 (let lt = h.1 in omega (arith, lt, above, order, below)) (inl w) ∙ h.2
+          | inr w ↦ elim (cases_lt b high) [ inl v ↦ on b w v | inr v ↦ same b h.0 (let lt = h.1 in omega (arith, lt, above, order, below)) (inr v) ∙ h.2 ]
+        ],
+      )
 
   pub joined_blocks : ((b : ℕ) → low ≤ b → b < high → HasBlock (runs_where test from (to - from)) b → ⊥) → blocks_in (runs_where test' from (to - from)) ≡ blocks_in (runs_where test from (to - from)) + (high - low)
   joined_blocks used = more_blocks test test' from to low high above (omega (arith, order)) below (λ b lo hi. off b lo hi (test b) refl) on all_same
@@ -221,18 +225,25 @@ pub record FirstTaken (words new : List ℕ) (from to free s e need : ℕ) (had 
   pub some : s < e
   pub few : e - s ≤ need
   pub enough : e - s ≤ free
-  pub pool : IsPool new from to (free - (e - s))
+  pub pool : IsPool new from to (free - (e - s)) e
   pub steps : TakesSome need (free_runs words from to) had (need - (e - s)) (free_runs new from to) (had ++ record { start = s; count = e - s } ∷ [])
 
-pub first_taken : (words new : List ℕ) (from to free base s most e need : ℕ) (had : List Run) → IsPool words from to free → 0 < need → 0 < blocks_in (free_runs words from to) → base ≡ word_start from
-    → (from ≤ s) × (s ≤ to) → ((b : ℕ) → from ≤ b → b < s → is_free words from b ≡ false) → (s < to → is_free words from s ≡ true) → most ≡ min need (to - s)
+pub first_taken : (words new : List ℕ) (from to free first base s most e need : ℕ) (had : List Run) → IsPool words from to free first → 0 < need → 0 < blocks_in (free_runs words from to) → base ≡ word_start from
+    → (first ≤ s) × (s ≤ to) → ((b : ℕ) → first ≤ b → b < s → is_free words from b ≡ false) → (s < to → is_free words from s ≡ true) → most ≡ min need (to - s)
     → (s ≤ e) × (e ≤ s + most) → ((b : ℕ) → s ≤ b → b < e → is_free words from b ≡ true) → (e < s + most → is_free words from e ≡ false) → (s - base ≤ e - base → SetTo words (s - base) (e - base) 1 new)
     → FirstTaken words new from to free s e need had
-first_taken words new from to free base s most e need had pool some blocks begins order before found is behind on stops set = record {
+first_taken words new from to free first base s most e need had pool some blocks begins bounds behind_first found is behind on stops set = record {
   some = longer;
   few = omega (arith, is, behind);
   enough = omega (arith, pool.counted, count);
-  pool = record { order = pool.order; within = omega (arith, pool.within, changes.long); small = pool.small; counted = omega (arith, pool.counted, count) };
+  pool = record {
+    order = pool.order;
+    within = omega (arith, pool.within, changes.long);
+    small = pool.small;
+    counted = omega (arith, pool.counted, count);
+    first_place = (omega (arith, order, behind), omega (arith, behind, is, within));
+    passed = λ b low high. elim (cases_lt b s) [ inl w ↦ same b low (omega (arith, w, within)) (inl w) ∙ before b low w | inr w ↦ gone b w high ];
+  };
   steps = takes_first test test' from to s e need order.0 within some before (found within) reach on stop gone same had;
 } where
   test : ℕ → Bool
@@ -240,6 +251,12 @@ first_taken words new from to free base s most e need had pool some blocks begin
 
   test' : ℕ → Bool
   test' b = is_free new from b
+
+  order : (from ≤ s) × (s ≤ to)
+  order = (omega (arith, pool.first_place, bounds), bounds.1)
+
+  before : (b : ℕ) → from ≤ b → b < s → is_free words from b ≡ false
+  before b low high = elim (cases_lt b first) [ inl w ↦ pool.passed b low w | inr w ↦ behind_first b w high ]
 
   within : s < to
   within = some_free test from to s blocks order.0 order.1 before
@@ -266,14 +283,21 @@ first_taken words new from to free base s most e need had pool some blocks begin
   count = takes_blocks test test' from to s e need order.0 within some before (found within) reach on stop gone same
 
 -- What is known of a pool once blocks were added.
-pub record Added (words new : List ℕ) (from to free low high : ℕ) : Type 0 where
-  pub pool : IsPool new from to (free + (high - low))
+pub record Added (words new : List ℕ) (from to free first low high : ℕ) : Type 0 where
+  pub pool : IsPool new from to (free + (high - low)) (min first low)
   pub runs : AreRuns (λ b. HasBlock (free_runs words from to) b ⊎ ((low ≤ b) × (b < high))) (free_runs new from to)
 
-pub added : (words new : List ℕ) (from to free base low high : ℕ) → IsPool words from to free → base ≡ word_start from → from ≤ low → low < high → high ≤ to → ((b : ℕ) → low ≤ b → b < high → HasBlock (free_runs words from to) b → ⊥)
-    → (low - base ≤ high - base → SetTo words (low - base) (high - base) 0 new) → Added words new from to free low high
-added words new from to free base low high pool begins above order below used set = record {
-  pool = record { order = pool.order; within = omega (arith, pool.within, changes.long); small = pool.small; counted = omega (arith, pool.counted, count) };
+pub added : (words new : List ℕ) (from to free first base low high : ℕ) → IsPool words from to free first → base ≡ word_start from → from ≤ low → low < high → high ≤ to → ((b : ℕ) → low ≤ b → b < high → HasBlock (free_runs words from to) b → ⊥)
+    → (low - base ≤ high - base → SetTo words (low - base) (high - base) 0 new) → Added words new from to free first low high
+added words new from to free first base low high pool begins above order below used set = record {
+  pool = record {
+    order = pool.order;
+    within = omega (arith, pool.within, changes.long);
+    small = pool.small;
+    counted = omega (arith, pool.counted, count);
+    first_place = (omega (arith, pool.first_place, above), omega (arith, pool.first_place));
+    passed = λ b lo hi. same b lo (omega (arith, hi, pool.first_place)) (inl (omega (arith, hi))) ∙ pool.passed b lo (omega (arith, hi));
+  };
   runs = joined_runs test test' from to low high above order below on same;
 } where
   test : ℕ → Bool
@@ -298,5 +322,5 @@ added words new from to free base low high pool begins above order below used se
 pub pool_apart : (words : List ℕ) (from to : ℕ) → Apart (free_runs words from to)
 pool_apart words from to = (runs_where-are (is_free words from) (to - from) from).apart
 
-pub pool_few : (words : List ℕ) (from to free : ℕ) → IsPool words from to free → free ≤ 2 ^ 32
-pool_few words from to free pool = let few = few_blocks (is_free words from) (to - from) from in omega (arith, pool.counted, few, pool.small)
+pub pool_few : (words : List ℕ) (from to free first : ℕ) → IsPool words from to free first → free ≤ 2 ^ 32
+pool_few words from to free first pool = let few = few_blocks (is_free words from) (to - from) from in omega (arith, pool.counted, few, pool.small)

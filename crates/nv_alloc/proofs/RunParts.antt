@@ -1,7 +1,6 @@
 -- The runs of the blocks of which a test holds, in parts.
-use Rattle.std.proofs.Common.{◌≡◌, ◌≢◌, ◌⊎◌, inl, inr, ℕ, zero, suc, Bool, true, false, ◌+◌, ◌-◌, ◌<◌, ◌≤◌, List, [], ◌∷◌, eqb, refl, sym, ap, ◌∙◌, subst, arith}
+use Rattle.std.proofs.Common.{◌≡◌, ◌≢◌, ◌⊎◌, inl, inr, ℕ, zero, suc, Bool, true, false, ◌+◌, ◌-◌, ◌<◌, ◌≤◌, List, [], ◌∷◌, eqb, refl, sym, ap, ◌∙◌, arith}
 use Rattle.std.specs.Prelude.{if◌then◌else◌}
-use Rattle.std.proofs.lemmas.Bool.{cases_lt}
 use Rattle.std.proofs.lemmas.Bool.Decides.{eqb_tells}
 use Rattle.nv_super.proofs.Rising.{Contains-head}
 use Rattle.nv_super.proofs.Runs.{some_blocks}
@@ -114,8 +113,8 @@ module _ (test : ℕ → Bool) (here last next to : ℕ) (some : here < last) (w
       ∙ ap (with_front here (last - here)) (moved test (here + (last - here)) last (to - here - (last - here)) (to - last) (omega (arith, some)) (omega (arith, some)))
       ∙ alone_before test here (last - here) last (to - last) (runs_where test last (to - last)) (runs_where-are test (to - last) last) (omega (arith, some)) (λ lt. stops (omega (arith, lt)))
       ∙ ap (λ (x : List Run). record { start = here; count = last - here } ∷ x)
-          (runs_skip test (next - last) (to - last) last (omega (arith, ends)) (λ b low high. off b low (omega (arith, high, order)))
-          ∙ moved test (last + (next - last)) next (to - last - (next - last)) (to - next) (omega (arith, order)) (omega (arith, order)))
+      (runs_skip test (next - last) (to - last) last (omega (arith, ends)) (λ b low high. off b low (omega (arith, high, order)))
+      ∙ moved test (last + (next - last)) next (to - last - (next - last)) (to - next) (omega (arith, order)) (omega (arith, order)))
 
 -- the same up to another bound
 pub skip_to : (test : ℕ → Bool) (here next to : ℕ) → here ≤ next → next ≤ to → ((b : ℕ) → here ≤ b → b < next → test b ≡ false) → runs_where test here (to - here) ≡ runs_where test next (to - next)

@@ -1,5 +1,5 @@
 -- The runs of the blocks that words leave free.
-use Rattle.std.specs.Prelude.{◌≡◌, ℕ, zero, suc, Bool, ◌+◌, ◌-◌, ◌*◌, ◌%◌, ◌^◌, ◌≤◌, ◌==◌, if◌then◌else◌, List, [], ◌∷◌, length}
+use Rattle.std.specs.Prelude.{◌≡◌, ℕ, zero, suc, Bool, false, ◌+◌, ◌-◌, ◌*◌, ◌%◌, ◌^◌, ◌<◌, ◌≤◌, ◌==◌, if◌then◌else◌, List, [], ◌∷◌, length}
 use Rattle.nv_blockset.specs.BlockSet.{has}
 use Rattle.nv_super.specs.declared.owners.Run.{Run}
 use Rattle.nv_alloc.specs.Taking.{blocks_in}
@@ -26,9 +26,11 @@ is_free words first b = has words (b - word_start first) == 0
 abbrev pub free_runs : List ℕ → ℕ → ℕ → List Run
 free_runs words from to = runs_where (is_free words from) from (to - from)
 
--- What a pool keeps: words that reach up to its end, and how many of its blocks they leave free.
-pub record IsPool (words : List ℕ) (from to free : ℕ) : Type 0 where
+-- What a pool keeps: words that reach up to its end, how many of its blocks they leave free, and a block before which none is.
+pub record IsPool (words : List ℕ) (from to free first : ℕ) : Type 0 where
   pub order : from ≤ to
   pub within : to ≤ word_start from + 64 * length words
   pub small : to ≤ 2 ^ 32
   pub counted : free ≡ blocks_in (free_runs words from to)
+  pub first_place : (from ≤ first) × (first ≤ to)
+  pub passed : (b : ℕ) → from ≤ b → b < first → is_free words from b ≡ false

@@ -1,5 +1,5 @@
 -- What the crate's own functions say to each other.
-use Rattle.std.specs.Prelude.{◌≡◌, ◌⊎◌, ℕ, ◌+◌, ◌-◌, ◌^◌, ◌<◌, ◌≤◌, List, [], ◌++◌, length, map, take, drop}
+use Rattle.std.specs.Prelude.{◌≡◌, ◌⊎◌, ℕ, ◌+◌, ◌-◌, ◌<◌, ◌≤◌, List, ◌++◌, length, map}
 use Rattle.std.specs.List.{slice_index_or}
 use Rattle.nv_blockset.specs.BlockSet.{has}
 use Rattle.nv_super.specs.declared.owners.Run.{Run}

@@ -13,13 +13,14 @@ use std::alloc::{AllocError, Global};
 use std::marker::Model;
 
 /// The blocks from one up to another, with marks at those in use. The first mark is that of the first block whose bit is in the word
-/// of the block `from`.
+/// of the block `from`. No block before `first` is free: a take looks no further back.
 #[derive(Drop)]
 pub struct Pool {
     from: u64,
     to: u64,
     marks: Marks,
     free: u64,
+    first: u64,
 }
 
 impl Model for Pool {
@@ -30,7 +31,7 @@ impl Model for Pool {
 
     ghost view = { λ p. record { from = p.from; to = p.to; runs = free_runs p.marks p.from p.to } };
 
-    ghost invariant = { λ p. IsPool p.marks p.from p.to p.free };
+    ghost invariant = { λ p. IsPool p.marks p.from p.to p.free p.first };
 }
 
 impl Pool {
@@ -50,6 +51,7 @@ impl Pool {
             to,
             marks,
             free,
+            first: from,
         })
     }
 
@@ -95,12 +97,13 @@ impl Pool {
         ensures place { SamePlace self.old self.new }
     {
         let base = word_start(self.from);
-        let start = next_free(&self.marks, self.from, self.from, self.to);
+        let start = next_free(&self.marks, self.from, self.first, self.to);
         let most = need.min(self.to - start);
         let end = next_used(&self.marks, self.from, start, start + most);
         let count = end - start;
         self.marks.set(start - base, end - base);
         self.free -= count;
+        self.first = end;
         out.push_reserved(Run { start, count });
         need - count
     }
@@ -118,6 +121,7 @@ impl Pool {
             let base = word_start(self.from);
             self.marks.clear(from - base, to - base);
             self.free += to - from;
+            self.first = self.first.min(from);
         }
     }
 

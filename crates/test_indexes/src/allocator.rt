@@ -34,6 +34,15 @@ const THREE_POOLS: Super = Super {
     state: 0,
 };
 
+/// One pool, from block 3 on, of more words than a word tells whether they are full.
+const WIDE_POOL: Super = Super {
+    version: 1,
+    cpus: 1,
+    blocks: 8192,
+    table_blocks: 1,
+    state: 0,
+};
+
 fn run(start: u64, count: u64) -> Run
     ensures { (result.start ≡ start) × (result.count ≡ count) }
 {
@@ -180,6 +189,31 @@ fn an_empty_pool_takes_from_another(rt: HostRuntime) -> Result<(), Fail> {
     let taken = free.take(0, 1)?;
     assert_runs(&rt, &taken, &ONLY_7);
     Ok(())
+}
+
+const BEHIND_FULL_WORDS: [&[Pair]; 1] = [&[(5000, 1), (8190, 2)]];
+
+const THE_LAST: [&[Pair]; 1] = [&[(8191, 1)]];
+
+const FIRST_TWO: [Pair; 2] = [(5000, 1), (8190, 1)];
+
+#[test]
+fn blocks_behind_full_words_are_found(rt: HostRuntime) -> Result<(), Fail> {
+    let mut words = [u64::MAX; 128];
+    words[78] = !(1 << 8);
+    words[127] = u64::MAX >> 2;
+    let mut free = wide_pool(rt.alloc(), &words)?;
+    assert_free(&rt, &free, &BEHIND_FULL_WORDS)?;
+    let taken = free.take(0, 2)?;
+    assert_runs(&rt, &taken, &FIRST_TWO);
+    assert_free(&rt, &free, &THE_LAST)?;
+    Ok(())
+}
+
+fn wide_pool(alloc: Global, words: &[u64; 128]) -> Result<Allocators, AllocError>
+    ensures { IfOk result (λ a. a.sup.cpus ≡ 1) }
+{
+    Allocators::from_words(alloc, words, &WIDE_POOL)
 }
 
 fn three_pools(alloc: Global) -> Result<Allocators, AllocError>

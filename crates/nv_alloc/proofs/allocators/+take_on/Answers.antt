@@ -1,4 +1,4 @@
-use Rattle.std.proofs.Common.{◌<◌, ℕ, length, get_or, arith, ◌∙◌}
+use Rattle.std.proofs.Common.{get_or, arith, ◌∙◌}
 use Rattle.std.proofs.Math.ListN.{set}
 use Rattle.nv_alloc.proofs.Pools.{bounds_set, took_ends, took_goes, took_enough, took_less, lists_length}
 use Rattle.nv_alloc.proofs.Changed.{own_default}
@@ -9,8 +9,7 @@ take_on-requires t c =
     let pos = c.if-rest-gt0.true in
     let is = own_default c.args.pools.now c.args.cpu c.index-pools-cpu.result c.requires.cpu in
     let less = took_less _ _ _ _ _ (get_or c.args.pools.now c.args.cpu c.index-pools-cpu.result) _ _ c.requires.cpu is c.take-rest.ensures.taken c.fullest-next.result pos c.requires.enough c.fullest-next.ensures in
-    let enough = took_enough _ _ _ _ _ (get_or c.args.pools.now c.args.cpu c.index-pools-cpu.result) _ _ c.requires.cpu is c.take-rest.ensures.taken c.requires.enough in
-    (
+    let enough = took_enough _ _ _ _ _ (get_or c.args.pools.now c.args.cpu c.index-pools-cpu.result) _ _ c.requires.cpu is c.take-rest.ensures.taken c.requires.enough in (
       omega (arith, less, c.decreases),
       ((let w = c.fullest-next.ensures.within in let l = lists_length (set c.args.pools.now c.args.cpu c.take-rest.new.self) in omega (arith, w, l)), (enough, c.take-rest.ensures.room)),
     )

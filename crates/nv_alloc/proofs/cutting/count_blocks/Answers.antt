@@ -1,8 +1,8 @@
-use Rattle.std.proofs.Common.{ap, arith, sym}
+use Rattle.std.proofs.Common.{ap, arith}
 use Rattle.nv_alloc.specs.Taking.{blocks_in}
 use Rattle.nv_alloc.specs.FreeRuns.{is_free}
 use Rattle.nv_alloc.proofs.RunParts.{skip_to, no_runs}
-use Rattle.nv_alloc.proofs.PoolMarks.{some_cut, blocks_cut}
+use Rattle.nv_alloc.proofs.PoolMarks.{blocks_cut}
 use Rattle.nv_alloc.proofs.cutting.count_blocks.Goals as goal
 
 pub loop-here-init : goal.loop-here-init

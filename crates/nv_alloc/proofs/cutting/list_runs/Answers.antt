@@ -1,4 +1,4 @@
-use Rattle.std.proofs.Common.{◌≡◌, ◌++◌, ◌∷◌, ◌-◌, List, ap, arith, sym, ◌∙◌, append-nil, append_assoc}
+use Rattle.std.proofs.Common.{◌++◌, ◌-◌, List, ap, arith, sym, ◌∙◌, append-nil, append_assoc}
 use Rattle.nv_super.specs.declared.owners.Run.{Run}
 use Rattle.nv_alloc.specs.FreeRuns.{is_free, runs_where}
 use Rattle.nv_alloc.proofs.RunParts.{skip_to, no_runs}

@@ -1,4 +1,4 @@
-use Rattle.std.proofs.Common.{◌≡◌, ◌+◌, ◌-◌, arith, sym, ap, ◌∙◌}
+use Rattle.std.proofs.Common.{◌≡◌, ◌+◌, ◌-◌, arith, ap, ◌∙◌}
 use Rattle.nv_blockset.specs.BlockSet.{has}
 use Rattle.nv_alloc.specs.FreeRuns.{word_start}
 use Rattle.nv_alloc.proofs.PoolMarks.{free_at, used_at}

@@ -1,4 +1,4 @@
-use Rattle.std.proofs.Common.{◌≡◌, ◌<◌, ◌-◌, ◌++◌, ◌∷◌, [], List, ap, sym, arith, subst}
+use Rattle.std.proofs.Common.{◌-◌, List, ap, sym, arith, subst}
 use Rattle.nv_super.specs.declared.owners.Run.{Run}
 use Rattle.nv_super.specs.Runs.{Apart}
 use Rattle.nv_alloc.specs.Taking.{blocks_in}
@@ -11,13 +11,13 @@ use Rattle.nv_alloc.proofs.pool.Pool.take_first.Goals as goal
 all_taken : (c : goal.After-push_reserved) → FirstTaken c.self.inside.marks c.set.new.self c.self.inside.from c.self.inside.to c.self.inside.free c.next_free-start.result c.next_used-end.result c.args.need c.args.out.now.items
 all_taken c =
     let blocks = ap (λ (v : PoolState). blocks_in v.runs) c.self.view_is in let start = c.next_free-start.ensures in let end = c.next_used-end.ensures in
-    first_taken c.self.inside.marks c.set.new.self c.self.inside.from c.self.inside.to c.self.inside.free c.word_start-base.result c.next_free-start.result c.min-most.result c.next_used-end.result c.args.need c.args.out.now.items
+    first_taken c.self.inside.marks c.set.new.self c.self.inside.from c.self.inside.to c.self.inside.free c.self.inside.first c.word_start-base.result c.next_free-start.result c.min-most.result c.next_used-end.result c.args.need c.args.out.now.items
     c.self.invariant c.requires.some (omega (arith, blocks, c.requires.free)) c.word_start-base.ensures start.order start.passed start.found c.min-most.ensures end.order end.passed end.found c.set.ensures
 
 pub overflow_sub-self : goal.overflow_sub-self
 overflow_sub-self c =
     let blocks = ap (λ (v : PoolState). blocks_in v.runs) c.self.view_is in let start = c.next_free-start.ensures in let end = c.next_used-end.ensures in
-    (first_taken c.self.inside.marks c.set.new.self c.self.inside.from c.self.inside.to c.self.inside.free c.word_start-base.result c.next_free-start.result c.min-most.result c.next_used-end.result c.args.need c.args.out.now.items
+    (first_taken c.self.inside.marks c.set.new.self c.self.inside.from c.self.inside.to c.self.inside.free c.self.inside.first c.word_start-base.result c.next_free-start.result c.min-most.result c.next_used-end.result c.args.need c.args.out.now.items
     c.self.invariant c.requires.some (omega (arith, blocks, c.requires.free)) c.word_start-base.ensures start.order start.passed start.found c.min-most.ensures end.order end.passed end.found c.set.ensures).enough
 
 pub invariant_of-self : goal.invariant_of-self
