@@ -1,11 +1,14 @@
 //! Measures a file index: pages mapped one by one in rising, falling and shuffled order, looked up and listed; overwrites
-//! of one page each in a fragmented file; and many small files' indexes, made and dropped. The number of pages is the
-//! argument; the seconds go to standard error.
+//! of one page each in a fragmented file; and many small files' indexes, made and dropped. Then a map of extents under the
+//! entries of a log, four for each page. The number of pages is the argument; the seconds go to standard error.
 #![tactic(auto)]
 
 ghost use Rattle.std.specs.Prelude.{◌≤◌, ◌<◌};
 ghost use Rattle.nv_radix.specs.declared.TheConstants.{MAX_FILE_PAGES};
 
+mod extents;
+
+use extents::measure_extents;
 use nv_radix::{FileIndex, MAX_FILE_PAGES};
 use std::alloc::{AllocError, Global};
 use std::rt::Clock;
@@ -243,5 +246,6 @@ fn main(rt: HostRuntime) -> io::Result<()> {
     measure_falling(&rt, pages)?;
     measure_shuffled(&rt, pages)?;
     measure_at_once(&rt, pages)?;
-    measure_small(&rt)
+    measure_small(&rt)?;
+    measure_extents(&rt, 4 * pages)
 }

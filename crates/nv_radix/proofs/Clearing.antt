@@ -51,15 +51,15 @@ module _ (old mid new : Runs) (k first end : ℕ) (b : Blocks) (before : AreRuns
   pub cut_middle : AreRuns new → Puts mid new end (Some tail) → (p : ℕ) → block_by new p ≡ (if in_run k b.count p && is_between first end p then None else block_by old p)
   cut_middle after back p = elim (in_run end (k + b.count - end) p) as (λ (t : Bool). in_run end (k + b.count - end) p ≡ t → block_by new p ≡ cond (in_run k b.count p && is_between first end p) None (block_by old p)) [
     | true ↦ λ e.
-      let no : (in_run k b.count p && is_between first end p) ≡ false = grind (arith, nat_tests) in
-      let yes : in_run k b.count p ≡ true = grind (arith, nat_tests) in
-      let over : end ≤ p = grind (arith, nat_tests) in
-      after_put mid new end tail between after tail_is.some tail_free back p ∙ ap (λ (t : Bool). cond t (Some (b.start + (end - k) + (p - end))) (block_by mid p)) e
-      ∙ ap Some (omega (arith, over, begins)) ∙ sym (ap (λ (t : Bool). cond t None (block_by old p)) no ∙ mapped old p k b before at yes)
+        let no : (in_run k b.count p && is_between first end p) ≡ false = grind (arith, nat_tests) in
+        let yes : in_run k b.count p ≡ true = grind (arith, nat_tests) in
+        let over : end ≤ p = grind (arith, nat_tests) in
+        after_put mid new end tail between after tail_is.some tail_free back p ∙ ap (λ (t : Bool). cond t (Some (b.start + (end - k) + (p - end))) (block_by mid p)) e
+        ∙ ap Some (omega (arith, over, begins)) ∙ sym (ap (λ (t : Bool). cond t None (block_by old p)) no ∙ mapped old p k b before at yes)
     | false ↦ λ e.
-      after_put mid new end tail between after tail_is.some tail_free back p ∙ ap (λ (t : Bool). cond t (Some (b.start + (end - k) + (p - end))) (block_by mid p)) e
-      ∙ after_front old mid k (first - k) b before between at few front p
-      ∙ ap (λ (t : Bool). cond t None (block_by old p)) (same_test (in_run (k + (first - k)) (b.count - (first - k)) p) (in_run k b.count p && is_between first end p) (λ f. grind (arith, nat_tests)) (λ f. grind (arith, nat_tests)))
+        after_put mid new end tail between after tail_is.some tail_free back p ∙ ap (λ (t : Bool). cond t (Some (b.start + (end - k) + (p - end))) (block_by mid p)) e
+        ∙ after_front old mid k (first - k) b before between at few front p
+        ∙ ap (λ (t : Bool). cond t None (block_by old p)) (same_test (in_run (k + (first - k)) (b.count - (first - k)) p) (in_run k b.count p && is_between first end p) (λ f. grind (arith, nat_tests)) (λ f. grind (arith, nat_tests)))
   ] refl
 
 -- pages behind the last run that begins before them map to nothing
@@ -67,19 +67,19 @@ pub behind_last : (runs : Runs) (page p : ℕ) (x : ℕ × Blocks) → AreRuns r
 behind_last runs page p x are last below over = elim (block_by runs p) as (λ (o : Option ℕ). block_by runs p ≡ o → o ≡ None) [
   | None ↦ λ h. refl
   | Some c ↦ λ h. absurd (
-    let r = found runs p c are h in
-    let from : r.first ≤ p = (let w = r.within in grind (arith, nat_tests)) in
-    let to : p < r.first + r.blocks.count = (let w = r.within in grind (arith, nat_tests)) in
-    elim (cases_order r.first x.0) [
-      | inl e ↦ (let same : run_at runs x.0 ≡ Some r.blocks = subst (λ (q : ℕ). run_at runs q ≡ Some r.blocks) e r.at in
-        let blocks : Some r.blocks ≡ Some x.1 = sym same ∙ last.is in
-        let counts : r.blocks.count ≡ x.1.count = cc in
-        omega (arith, e, counts, to, over))
-      | inr w ↦ elim w [
-        | inl less ↦ (let end = are.apart r.first x.0 r.blocks x.1 r.at last.is less in omega (arith, end, to, over))
-        | inr more ↦ (let none = last.last r.first more (omega (arith, from, below)) in let h = r.at in absurd (cc))
-      ]
-    ])
+      let r = found runs p c are h in
+      let from : r.first ≤ p = (let w = r.within in grind (arith, nat_tests)) in
+      let to : p < r.first + r.blocks.count = (let w = r.within in grind (arith, nat_tests)) in
+      elim (cases_order r.first x.0) [
+        | inl e ↦ (let same : run_at runs x.0 ≡ Some r.blocks = subst (λ (q : ℕ). run_at runs q ≡ Some r.blocks) e r.at in
+            let blocks : Some r.blocks ≡ Some x.1 = sym same ∙ last.is in
+            let counts : r.blocks.count ≡ x.1.count = cc in
+            omega (arith, e, counts, to, over))
+        | inr w ↦ elim w [
+          | inl less ↦ (let end = are.apart r.first x.0 r.blocks x.1 r.at last.is less in omega (arith, end, to, over))
+          | inr more ↦ (let none = last.last r.first more (omega (arith, from, below)) in let h = r.at in absurd (cc))
+        ]
+      ])
 ] refl
 
 -- nor do they where no run begins before them
@@ -87,11 +87,11 @@ pub before_all : (runs : Runs) (page p : ℕ) → AreRuns runs → ((q : ℕ) �
 before_all runs page p are none below = elim (block_by runs p) as (λ (o : Option ℕ). block_by runs p ≡ o → o ≡ None) [
   | None ↦ λ h. refl
   | Some c ↦ λ h. absurd (
-    let r = found runs p c are h in
-    let from : r.first ≤ p = (let w = r.within in grind (arith, nat_tests)) in
-    let no = none r.first (omega (arith, from, below)) in
-    let yes = r.at in
-    cc)
+      let r = found runs p c are h in
+      let from : r.first ≤ p = (let w = r.within in grind (arith, nat_tests)) in
+      let no = none r.first (omega (arith, from, below)) in
+      let yes = r.at in
+      cc)
 ] refl
 
 -- What is so while pages are unmapped from the last one down: those outside are as before, and those from `rest` on map to nothing.
@@ -132,9 +132,9 @@ pub cleared : (old now : Runs) (first end rest : ℕ) → IsClearedTo old now fi
     → (p : ℕ) → block_by now p ≡ (if nat_le first p && nat_lt p end then None else block_by old p)
 cleared old now first end rest so_far below p = elim (is_between first end p) as (λ (t : Bool). is_between first end p ≡ t → block_by now p ≡ cond t None (block_by old p)) [
   | true ↦ λ e.
-    let from : first ≤ p = grind (arith, nat_tests) in
-    let to : p < end = grind (arith, nat_tests) in
-    elim (cases_lt p rest) [ inl under ↦ below p from under | inr over ↦ so_far.inside p from over to ]
+      let from : first ≤ p = grind (arith, nat_tests) in
+      let to : p < end = grind (arith, nat_tests) in
+      elim (cases_lt p rest) [ inl under ↦ below p from under | inr over ↦ so_far.inside p from over to ]
   | false ↦ λ e. so_far.outside p e
 ] refl
 

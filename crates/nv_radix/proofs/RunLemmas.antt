@@ -78,10 +78,10 @@ pub mapped : (runs : Runs) (p k : ℕ) (b : Blocks) → AreRuns runs → run_at 
 mapped runs p k b are at within = elim (block_by runs p) as (λ (o : Option ℕ). block_by runs p ≡ o → o ≡ Some (b.start + (p - k))) [
   | None ↦ λ h. absurd (let no = missed runs p k b h at in cc)
   | Some c ↦ λ h.
-    let w = found runs p c are h in
-    let same : w.first ≡ k = one_run runs p w.first k w.blocks b are w.at at w.within within in
-    let blocks : w.blocks ≡ b = some_is _ _ (run_at runs k) (subst (λ (q : ℕ). run_at runs q ≡ Some w.blocks) same w.at) at in
-    ap Some (sym w.is ∙ rw (same, blocks) refl)
+      let w = found runs p c are h in
+      let same : w.first ≡ k = one_run runs p w.first k w.blocks b are w.at at w.within within in
+      let blocks : w.blocks ≡ b = some_is _ _ (run_at runs k) (subst (λ (q : ℕ). run_at runs q ≡ Some w.blocks) same w.at) at in
+      ap Some (sym w.is ∙ rw (same, blocks) refl)
 ] refl
 
 -- the page is none of a run's, if there is one
@@ -100,9 +100,9 @@ module _ {old new : Runs} {k : ℕ} {w : Option Blocks} (before : AreRuns old) (
   kept : (p : ℕ) → Off k (run_at old k) p → Off k w p → block_by new p ≡ block_by old p
   kept p was off = elim (block_by old p) as (λ (o : Option ℕ). block_by old p ≡ o → block_by new p ≡ o) [
     | Some c ↦ λ h.
-      let r = found old p c before h in
-      let other : r.first ≢ k = λ e. absurd (let no = was r.blocks (subst (λ (q : ℕ). run_at old q ≡ Some r.blocks) e r.at) in let yes = subst (λ (q : ℕ). in_run q r.blocks.count p ≡ true) e r.within in cc) in
-      mapped new p r.first r.blocks after (puts.others r.first other ∙ r.at) r.within ∙ ap Some r.is
+        let r = found old p c before h in
+        let other : r.first ≢ k = λ e. absurd (let no = was r.blocks (subst (λ (q : ℕ). run_at old q ≡ Some r.blocks) e r.at) in let yes = subst (λ (q : ℕ). in_run q r.blocks.count p ≡ true) e r.within in cc) in
+        mapped new p r.first r.blocks after (puts.others r.first other ∙ r.at) r.within ∙ ap Some r.is
     | None ↦ λ h. elim (block_by new p) as (λ (o : Option ℕ). block_by new p ≡ o → o ≡ None) [
       | None ↦ λ g. refl
       | Some c ↦ λ g. absurd (let r = (stray p c off g).0 in let no = missed old p r.first r.blocks h r.at in let yes = r.within in cc)
@@ -183,9 +183,9 @@ after_put old new k b before after some free puts p = elim (in_run k b.count p) 
   where
     none : Off k (run_at old k) p
     none c h = absurd (
-      let no = missed old k k c (free k (grind (arith, nat_tests))) h in
-      let size : 0 < c.count = (before.each k c h).some in
-      grind (arith, nat_tests))
+        let no = missed old k k c (free k (grind (arith, nat_tests))) h in
+        let size : 0 < c.count = (before.each k c h).some in
+        grind (arith, nat_tests))
 
 -- the first pages of a run stand apart from the other runs as the run did
 pub front_runs : (old new : Runs) (k count : ℕ) (b : Blocks) → AreRuns old → run_at old k ≡ Some b → count ≤ b.count → Puts old new k (front_of b count) → AreRuns new
@@ -213,8 +213,8 @@ front_runs old new k count b before at few puts = record { rising = puts.rising;
     apart : (q l : ℕ) (c d : Blocks) → run_at new q ≡ Some c → run_at new l ≡ Some d → q < l → q + c.count ≤ l
     apart q l c d x y less = elim (cases_eq q k) [
       | inl e ↦ (let is = is_front c (subst (λ (n : ℕ). run_at new n ≡ Some c) e x) in
-        let end = before.apart k l b d at (old_run l d (λ f. omega (arith, e, f, less)) y) (omega (arith, e, less)) in
-        omega (arith, e, is.1, few, end))
+          let end = before.apart k l b d at (old_run l d (λ f. omega (arith, e, f, less)) y) (omega (arith, e, less)) in
+          omega (arith, e, is.1, few, end))
       | inr other ↦ elim (cases_eq l k) [
         | inl e ↦ rw e (before.apart q k c b (old_run q c other x) at (omega (arith, e, less)))
         | inr also ↦ before.apart q l c d (old_run q c other x) (old_run l d also y) less

@@ -64,7 +64,14 @@ impl ExtentMap {
         }
         let end = page + count;
         clear(&mut self.runs, page, end)?;
-        put(&mut self.runs, page, Blocks { start: block, count })?;
+        put(
+            &mut self.runs,
+            page,
+            Blocks {
+                start: block,
+                count,
+            },
+        )?;
         self.end = self.end.max(end);
         Ok(())
     }

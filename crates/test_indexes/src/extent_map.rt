@@ -20,7 +20,12 @@ fn ten_pages(alloc: Global) -> Result<ExtentMap, AllocError> {
 }
 
 /// The map has these extents.
-fn assert_extents(rt: &impl Abort, alloc: Global, map: &ExtentMap, wanted: &[Extent]) -> Result<(), AllocError> {
+fn assert_extents(
+    rt: &impl Abort,
+    alloc: Global,
+    map: &ExtentMap,
+    wanted: &[Extent],
+) -> Result<(), AllocError> {
     let index = map.to_index(alloc)?;
     let extents = index.runs()?;
     assert_eq!(rt; extents.as_slice(), wanted);

@@ -23,9 +23,9 @@ last_is runs page r t e range is = record {
   last = λ q more less. elim (run_at runs.entries q) as (λ (o : Option Blocks). run_at runs.entries q ≡ o → o ≡ None) [
     | None ↦ λ h. refl
     | Some b ↦ λ h. absurd (
-      let past : is_lt (nat_cmp e.0 q) ≡ false = range.4 e t is q (tt, sym (nat_cmp_is q page Less less)) (rw h refl) in
-      let over : Less ≡ nat_cmp e.0 q = nat_cmp_is e.0 q Less more in
-      false≢true (sym past ∙ ap is_lt (sym over)))
+        let past : is_lt (nat_cmp e.0 q) ≡ false = range.4 e t is q (tt, sym (nat_cmp_is q page Less less)) (rw h refl) in
+        let over : Less ≡ nat_cmp e.0 q = nat_cmp_is e.0 q Less more in
+        false≢true (sym past ∙ ap is_lt (sym over)))
   ] refl;
 }
 
