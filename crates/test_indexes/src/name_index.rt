@@ -3,7 +3,6 @@
 use nv_names::{NameIndex, Named, Target};
 use std::alloc::{AllocError, Global};
 use std::process::Abort;
-use std::test::Fail;
 
 /// Names of 1, 40, 41 and 255 bytes, names that begin one another, and bytes above 127, in no order.
 fn edge_names(alloc: Global) -> Result<Vec<Vec<u8>>, AllocError> {
@@ -68,16 +67,27 @@ fn assert_all_named(rt: &impl Abort, index: &NameIndex, names: &[Vec<u8>]) {
     }
 }
 
-#[test]
-fn names_at_the_edges_are_told_apart(rt: HostRuntime) -> Result<(), Fail> {
-    let names = edge_names(rt.alloc())?;
-    let index = filled(rt.alloc(), names.as_slice())?;
+/// The names at the edges are found, and no other.
+fn assert_edges(rt: &impl Abort, index: &NameIndex, names: &[Vec<u8>]) {
     assert!(rt; index.len() == 7);
-    assert_all_named(&rt, &index, &names);
+    assert_all_named(rt, index, names);
     assert!(rt; index.get(b"").is_none());
     assert!(rt; index.get(&[b'z'; 254]).is_none());
     assert!(rt; index.get(&[b'z'; 256]).is_none());
+}
+
+#[test]
+fn names_at_the_edges_are_told_apart(rt: HostRuntime) -> Result<(), AllocError> {
+    let names = edge_names(rt.alloc())?;
+    let index = filled(rt.alloc(), names.as_slice())?;
+    assert_edges(&rt, &index, &names);
     Ok(())
+}
+
+/// An index of the names at the edges.
+fn edge_index(alloc: Global) -> Result<NameIndex, AllocError> {
+    let names = edge_names(alloc)?;
+    filled(alloc, &names)
 }
 
 fn assert_places(rt: &impl Abort, listed: &[Named]) {
@@ -88,46 +98,56 @@ fn assert_places(rt: &impl Abort, listed: &[Named]) {
 }
 
 #[test]
-fn a_listing_rises_by_bytes(rt: HostRuntime) -> Result<(), Fail> {
-    let names = edge_names(rt.alloc())?;
-    let index = filled(rt.alloc(), names.as_slice())?;
-    let listed = index.list()?;
-    assert_places(&rt, &listed);
+fn a_listing_rises_by_bytes(rt: HostRuntime) -> Result<(), AllocError> {
+    let index = edge_index(rt.alloc())?;
+    assert_places(&rt, &index.list()?);
     Ok(())
 }
 
 #[test]
-fn a_refused_growth_leaves_the_names(rt: HostRuntime) -> Result<(), Fail> {
-    let names = edge_names(rt.alloc())?;
-    let mut index = filled(rt.alloc(), names.as_slice())?;
+fn a_refused_growth_leaves_the_names(rt: HostRuntime) -> Result<(), AllocError> {
+    let mut index = edge_index(rt.alloc())?;
     assert!(rt; index.reserve(usize::MAX) == Err(AllocError));
     assert!(rt; index.len() == 7);
     Ok(())
 }
 
-#[test]
-fn names_are_removed_once_and_again(rt: HostRuntime) -> Result<(), Fail> {
-    let names = edge_names(rt.alloc())?;
-    let mut index = filled(rt.alloc(), names.as_slice())?;
-    for name in names.iter() {
+fn remove_twice(index: &mut NameIndex, names: &[Vec<u8>]) {
+    for name in names {
         index.remove(name);
         index.remove(name);
     }
+}
+
+#[test]
+fn names_are_removed_once_and_again(rt: HostRuntime) -> Result<(), AllocError> {
+    let mut index = edge_index(rt.alloc())?;
+    remove_twice(&mut index, &edge_names(rt.alloc())?);
     assert!(rt; index.is_empty());
     Ok(())
 }
 
 const LENGTHS: [usize; 4] = [1, 40, 41, 255];
 
-#[test]
-fn names_are_inserted_where_no_room_was_made(rt: HostRuntime) -> Result<(), Fail> {
-    let mut index = NameIndex::new(rt.alloc());
+/// A name of each length, which stands for inode 7 at this length.
+fn insert_lengths(index: &mut NameIndex) -> Result<(), AllocError> {
     for length in LENGTHS {
         index.insert(&[b'n'; 255][..length], 7, length as u64)?;
     }
+    Ok(())
+}
+
+fn assert_lengths(rt: &impl Abort, index: &NameIndex) {
     assert!(rt; index.len() == 4);
     for length in LENGTHS {
-        assert_named(&rt, &index, &[b'n'; 255][..length], 7, length as u64);
+        assert_named(rt, index, &[b'n'; 255][..length], 7, length as u64);
     }
+}
+
+#[test]
+fn names_are_inserted_where_no_room_was_made(rt: HostRuntime) -> Result<(), AllocError> {
+    let mut index = NameIndex::new(rt.alloc());
+    insert_lengths(&mut index)?;
+    assert_lengths(&rt, &index);
     Ok(())
 }

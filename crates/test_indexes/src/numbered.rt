@@ -6,7 +6,6 @@ ghost use Rattle.nv_numbered.specs.Values.{limit_of};
 use nv_numbered::Numbered;
 use std::alloc::{AllocError, Global};
 use std::process::Abort;
-use std::test::Fail;
 
 /// Gives a number ten times itself, if it has no value.
 fn add(values: &mut Numbered<u64>, number: u64) -> Result<(), AllocError>
@@ -53,7 +52,7 @@ fn assert_values(rt: &impl Abort, values: &Numbered<u64>, wanted: &[(u64, Option
 }
 
 #[test]
-fn a_new_table_has_no_value(rt: HostRuntime) -> Result<(), Fail> {
+fn a_new_table_has_no_value(rt: HostRuntime) -> Result<(), AllocError> {
     let values = Numbered::<u64>::new(rt.alloc(), 8)?;
     assert!(rt; values.is_empty());
     assert!(rt; values.len() == 0);
@@ -66,7 +65,7 @@ fn a_new_table_has_no_value(rt: HostRuntime) -> Result<(), Fail> {
 }
 
 #[test]
-fn a_table_of_no_numbers_has_no_value(rt: HostRuntime) -> Result<(), Fail> {
+fn a_table_of_no_numbers_has_no_value(rt: HostRuntime) -> Result<(), AllocError> {
     let mut values = Numbered::<u64>::new(rt.alloc(), 0)?;
     assert!(rt; values.get(0).is_none());
     assert!(rt; values.get_mut(0).is_none());
@@ -76,7 +75,7 @@ fn a_table_of_no_numbers_has_no_value(rt: HostRuntime) -> Result<(), Fail> {
 }
 
 #[test]
-fn a_value_is_inserted_found_and_removed(rt: HostRuntime) -> Result<(), Fail> {
+fn a_value_is_inserted_found_and_removed(rt: HostRuntime) -> Result<(), AllocError> {
     let mut values = Numbered::<u64>::new(rt.alloc(), 8)?;
     insert_new(&mut values, 3, 30)?;
     insert_new(&mut values, 7, 70)?;
@@ -94,14 +93,19 @@ fn a_value_is_inserted_found_and_removed(rt: HostRuntime) -> Result<(), Fail> {
     Ok(())
 }
 
-#[test]
-fn a_write_changes_one_value(rt: HostRuntime) -> Result<(), Fail> {
-    let mut values = filled(rt.alloc(), &[5, 0, 7])?;
+/// Writes where a number has a value, and finds none where it has none.
+fn write_one(rt: &impl Abort, values: &mut Numbered<u64>) {
     if let Some(value) = values.get_mut(0) {
         *value = 1;
     }
     assert!(rt; values.get_mut(1).is_none());
     assert!(rt; values.get_mut(8).is_none());
+}
+
+#[test]
+fn a_write_changes_one_value(rt: HostRuntime) -> Result<(), AllocError> {
+    let mut values = filled(rt.alloc(), &[5, 0, 7])?;
+    write_one(&rt, &mut values);
     assert_values(
         &rt,
         &values,
@@ -111,7 +115,7 @@ fn a_write_changes_one_value(rt: HostRuntime) -> Result<(), Fail> {
 }
 
 #[test]
-fn a_listing_rises_by_number(rt: HostRuntime) -> Result<(), Fail> {
+fn a_listing_rises_by_number(rt: HostRuntime) -> Result<(), AllocError> {
     let mut values = filled(rt.alloc(), &[5, 1, 7, 0, 6])?;
     assert!(rt; values.remove(5) == Some(50));
     let listed: Vec<u64> = values.iter().map(|entry| entry.0).collect(rt.alloc())?;
@@ -122,7 +126,7 @@ fn a_listing_rises_by_number(rt: HostRuntime) -> Result<(), Fail> {
 }
 
 #[test]
-fn values_are_removed_in_any_order(rt: HostRuntime) -> Result<(), Fail> {
+fn values_are_removed_in_any_order(rt: HostRuntime) -> Result<(), AllocError> {
     let mut values = filled(rt.alloc(), &[0, 1, 2, 3, 4, 5, 6, 7])?;
     for number in [7, 0, 3, 4, 1, 6, 2] {
         assert!(rt;
@@ -136,7 +140,7 @@ fn values_are_removed_in_any_order(rt: HostRuntime) -> Result<(), Fail> {
 }
 
 #[test]
-fn a_refused_growth_leaves_the_values(rt: HostRuntime) -> Result<(), Fail> {
+fn a_refused_growth_leaves_the_values(rt: HostRuntime) -> Result<(), AllocError> {
     let mut values = filled(rt.alloc(), &[1, 4])?;
     assert!(rt; values.reserve(usize::MAX) == Err(AllocError));
     assert!(rt; values.len() == 2);
@@ -144,17 +148,29 @@ fn a_refused_growth_leaves_the_values(rt: HostRuntime) -> Result<(), Fail> {
     Ok(())
 }
 
-#[test]
-fn values_that_own_memory_come_back(rt: HostRuntime) -> Result<(), Fail> {
-    let mut values = Numbered::<Vec<u8>>::new(rt.alloc(), 8)?;
-    insert_new(&mut values, 6, b"six".to_vec(rt.alloc())?)?;
-    insert_new(&mut values, 1, b"one".to_vec(rt.alloc())?)?;
-    if let Some(value) = values.get_mut(6) {
-        value.push(b'!')?;
+fn insert_texts(alloc: Global, values: &mut Numbered<Vec<u8>>) -> Result<(), AllocError>
+    requires { limit_of values.old ≡ 8 }
+{
+    insert_new(values, 6, b"six".to_vec(alloc)?)?;
+    insert_new(values, 1, b"one".to_vec(alloc)?)?;
+    match values.get_mut(6) {
+        Some(value) => Ok(value.push(b'!')?),
+        None => Ok(()),
     }
-    let six = values.remove(6).ok_or("six")?;
-    assert_eq!(rt; six.as_slice(), b"six!".as_slice());
-    let one = values.get(1).ok_or("one")?;
-    assert_eq!(rt; one.as_slice(), b"one".as_slice());
+}
+
+fn is_text(value: Option<&Vec<u8>>, text: &[u8]) -> bool {
+    match value {
+        Some(bytes) => bytes.as_slice() == text,
+        None => false,
+    }
+}
+
+#[test]
+fn values_that_own_memory_come_back(rt: HostRuntime) -> Result<(), AllocError> {
+    let mut values = Numbered::<Vec<u8>>::new(rt.alloc(), 8)?;
+    insert_texts(rt.alloc(), &mut values)?;
+    assert!(rt; is_text(values.remove(6).as_ref(), b"six!"));
+    assert!(rt; is_text(values.get(1), b"one"));
     Ok(())
 }

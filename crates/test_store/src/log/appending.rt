@@ -3,15 +3,15 @@
 //! Block 3 ends its entries at 16352, where the word is that links it to the next page. Block 4 begins at 16384 and links
 //! at 20448; block 5 begins at 20480 and links at 24544.
 
-ghost use Rattle.std.specs.Prelude.{◌≡◌, IfOk, OnOk, false};
+ghost use Rattle.std.specs.Prelude.{◌≡◌, ◌≤◌, ◌∷◌, [], IfOk, OnOk, false};
 ghost use Rattle.nv_region.specs.Region.{HasBlocks};
-ghost use Rattle.nv_logpage.specs.Append.{AreGiven};
+ghost use Rattle.nv_logpage.specs.Append.{AreGiven, CanAppend, needed};
 ghost use Rattle.nv_logpage.specs.Reads.{is_next_page};
 
 use super::{HEAD, NEXT_PAGE};
 use crate::small::{SMALL, Word};
 use nv_entry::{AttrEntry, Entry, WriteEntry};
-use nv_logpage::{append, pages_needed, walk};
+use nv_logpage::{Walk, append, pages_needed, walk};
 use nv_region::{Fuse, MemRegion, Pmem, Stopped};
 use std::alloc::Global;
 use std::process::Abort;
@@ -64,115 +64,154 @@ fn holds(rt: &impl Abort, memory: &MemRegion, words: &[Word])
     }
 }
 
+/// Appends the entry of 32 bytes, and answers the new tail.
+fn append_set(memory: &mut MemRegion, tail: u64, fresh: &[u64]) -> Result<u64, Stopped>
+    requires blocks { HasBlocks memory.old.region 16 }
+    requires room { CanAppend memory.old.region tail (Entry.Attr SET ∷ []) fresh.now }
+    ensures { HasBlocks memory.new.region 16 }
+{
+    append(memory, tail, &[Entry::Attr(SET)], fresh)
+}
+
+fn pages_for_set(tail: u64) -> u64 {
+    pages_needed(tail, &[Entry::Attr(SET)])
+}
+
+const EXACT: [Word; 7] = [
+    (16312, USED),
+    (16320, FIRST),
+    (16328, 5),
+    (16336, 6),
+    (16344, OWNERS),
+    (16352, USED),
+    (16384, USED),
+];
+
 #[test]
 fn an_entry_that_fits_exactly_stays_in_its_page(rt: HostRuntime) -> Result<(), Fail> {
     let mut memory = used_region(rt.alloc())?;
-    let entries = [Entry::Attr(SET)];
-    assert!(rt; pages_needed(16320, &entries) == 0);
-    let tail = append(&mut memory, 16320, &entries, &[])?;
-    assert!(rt; tail == 16352);
-    let words = [
-        (16312, USED),
-        (16320, FIRST),
-        (16328, 5),
-        (16336, 6),
-        (16344, OWNERS),
-        (16352, USED),
-        (16384, USED),
-    ];
-    holds(&rt, &memory, &words);
+    assert!(rt; pages_for_set(16320) == 0);
+    assert!(rt; append_set(&mut memory, 16320, &[]) == Ok(16352));
+    holds(&rt, &memory, &EXACT);
     Ok(())
 }
+
+const IN_A_FRESH_PAGE: [Word; 11] = [
+    (16320, USED),
+    (16328, NEXT_PAGE),
+    (16336, USED),
+    (16344, USED),
+    (16352, 16384),
+    (16384, FIRST),
+    (16392, 5),
+    (16400, 6),
+    (16408, OWNERS),
+    (16416, USED),
+    (20448, USED),
+];
 
 #[test]
 fn an_entry_that_does_not_fit_goes_to_a_fresh_page(rt: HostRuntime) -> Result<(), Fail> {
     let mut memory = used_region(rt.alloc())?;
-    let entries = [Entry::Attr(SET)];
-    assert!(rt; pages_needed(16328, &entries) == 1);
-    let tail = append(&mut memory, 16328, &entries, &[4])?;
-    assert!(rt; tail == 16416);
-    let words = [
-        (16320, USED),
-        (16328, NEXT_PAGE),
-        (16336, USED),
-        (16344, USED),
-        (16352, 16384),
-        (16384, FIRST),
-        (16392, 5),
-        (16400, 6),
-        (16408, OWNERS),
-        (16416, USED),
-        (20448, USED),
-    ];
-    holds(&rt, &memory, &words);
+    assert!(rt; pages_for_set(16328) == 1);
+    assert!(rt; append_set(&mut memory, 16328, &[4]) == Ok(16416));
+    holds(&rt, &memory, &IN_A_FRESH_PAGE);
     Ok(())
 }
+
+const BEHIND_THE_LAST_WORD: [Word; 4] = [
+    (16336, USED),
+    (16344, NEXT_PAGE),
+    (16352, 16384),
+    (16384, FIRST),
+];
 
 #[test]
 fn the_last_word_of_a_page_takes_a_next_page_entry(rt: HostRuntime) -> Result<(), Fail> {
     let mut memory = used_region(rt.alloc())?;
-    let entries = [Entry::Attr(SET)];
-    assert!(rt; pages_needed(16344, &entries) == 1);
-    let tail = append(&mut memory, 16344, &entries, &[4])?;
-    assert!(rt; tail == 16416);
-    let words = [
-        (16336, USED),
-        (16344, NEXT_PAGE),
-        (16352, 16384),
-        (16384, FIRST),
-    ];
-    holds(&rt, &memory, &words);
+    assert!(rt; pages_for_set(16344) == 1);
+    assert!(rt; append_set(&mut memory, 16344, &[4]) == Ok(16416));
+    holds(&rt, &memory, &BEHIND_THE_LAST_WORD);
     Ok(())
 }
+
+const BEHIND_A_FULL_PAGE: [Word; 4] = [
+    (16344, USED),
+    (16352, 16384),
+    (16384, FIRST),
+    (16416, USED),
+];
 
 #[test]
 fn a_full_page_takes_no_next_page_entry(rt: HostRuntime) -> Result<(), Fail> {
     let mut memory = used_region(rt.alloc())?;
-    let entries = [Entry::Attr(SET)];
-    assert!(rt; pages_needed(16352, &entries) == 1);
-    let tail = append(&mut memory, 16352, &entries, &[4])?;
-    assert!(rt; tail == 16416);
-    let words = [(16344, USED), (16352, 16384), (16384, FIRST), (16416, USED)];
-    holds(&rt, &memory, &words);
+    assert!(rt; pages_for_set(16352) == 1);
+    assert!(rt; append_set(&mut memory, 16352, &[4]) == Ok(16416));
+    holds(&rt, &memory, &BEHIND_A_FULL_PAGE);
     Ok(())
+}
+
+/// An append of six stores, a next-page entry, four words of the entry, and the link, where so many are taken.
+fn stopped_after(memory: &mut MemRegion, passed: u64) -> Result<u64, Stopped>
+    requires { HasBlocks memory.old.region 16 }
+    ensures { HasBlocks memory.new.region 16 }
+{
+    memory.set_fuse(Fuse::After(passed));
+    append_set(memory, 16328, &[4])
 }
 
 #[test]
 fn each_word_is_stored_once(rt: HostRuntime) -> Result<(), Fail> {
-    let entries = [Entry::Attr(SET)];
     let mut memory = used_region(rt.alloc())?;
-    // A next-page entry, four words of the entry, and the link.
-    memory.set_fuse(Fuse::After(6));
-    assert!(rt; append(&mut memory, 16328, &entries, &[4]) == Ok(16416));
+    assert!(rt; stopped_after(&mut memory, 6) == Ok(16416));
+    Ok(())
+}
+
+const NOT_LINKED: [Word; 3] = [(16384, FIRST), (16408, OWNERS), (16352, USED)];
+
+#[test]
+fn the_link_is_stored_last(rt: HostRuntime) -> Result<(), Fail> {
     let mut memory = used_region(rt.alloc())?;
-    memory.set_fuse(Fuse::After(5));
-    assert!(rt; append(&mut memory, 16328, &entries, &[4]) == Err(Stopped));
-    holds(
-        &rt,
-        &memory,
-        &[(16384, FIRST), (16408, OWNERS), (16352, USED)],
-    );
+    assert!(rt; stopped_after(&mut memory, 5) == Err(Stopped));
+    holds(&rt, &memory, &NOT_LINKED);
+    Ok(())
+}
+
+/// What was read are these entries at these places, in these pages.
+fn is_listed(rt: &impl Abort, read: &Walk, pages: &[u64], places: &[u64], entries: &[Entry]) {
+    assert!(rt; read.fault == None);
+    assert!(rt; read.pages.as_slice() == pages);
+    assert!(rt; read.entries.len() == places.len());
+    for ((placed, at), entry) in read.entries.iter().zip(places).zip(entries) {
+        assert!(rt; placed.at == *at);
+        assert!(rt; placed.entry == *entry, "the entry at {at}");
+    }
+}
+
+/// Two entries, one appended behind the other.
+fn append_two(memory: &mut MemRegion) -> Result<u64, Stopped>
+    requires { HasBlocks memory.old.region 16 }
+    ensures { HasBlocks memory.new.region 16 }
+{
+    append_set(memory, HEAD, &[])?;
+    append_set(memory, HEAD + 32, &[])
+}
+
+const TWO_SETS: [Entry; 2] = [Entry::Attr(SET), Entry::Attr(SET)];
+
+fn reads_two(rt: &impl Abort, alloc: Global, memory: &MemRegion) -> Result<(), Fail>
+    requires { HasBlocks memory.now.region 16 }
+{
+    let read = walk(alloc, memory, &SMALL, HEAD, HEAD + 64)?;
+    is_listed(rt, &read, &[3], &[HEAD, HEAD + 32], &TWO_SETS);
     Ok(())
 }
 
 #[test]
 fn a_new_log_has_the_entries_that_were_appended(rt: HostRuntime) -> Result<(), Fail> {
     let mut memory = used_region(rt.alloc())?;
-    let first = [Entry::Attr(SET)];
-    let tail = append(&mut memory, HEAD, &first, &[])?;
-    assert!(rt; tail == HEAD + 32);
-    let more = [Entry::Attr(SET)];
-    let tail = append(&mut memory, HEAD + 32, &more, &[])?;
-    assert!(rt; tail == HEAD + 64);
-    let read = walk(rt.alloc(), &memory, &SMALL, HEAD, tail)?;
-    assert!(rt; read.pages.as_slice() == [3].as_slice());
-    assert!(rt; read.entries.len() == 2);
-    for (placed, at) in read.entries.iter().zip(&[HEAD, HEAD + 32]) {
-        assert!(rt; placed.at == *at);
-        assert!(rt; placed.entry == Entry::Attr(SET), "the entry at {at}");
-    }
-    assert!(rt; read.fault == None);
-    Ok(())
+    assert!(rt; append_two(&mut memory) == Ok(HEAD + 64));
+    reads_two(&rt, rt.alloc(), &memory)
 }
 
 /// One more entry.
@@ -222,46 +261,72 @@ fn places_in_three_pages(alloc: Global) -> Result<Vec<u64>, Fail> {
     Ok(places)
 }
 
+const TURNED_TWICE: [Word; 22] = [
+    (16288, FIRST),
+    (16312, OWNERS),
+    (16320, NEXT_PAGE),
+    (16328, USED),
+    (16344, USED),
+    (16352, 20480),
+    (20480, 2 * 4294967296 + 40 * 65536 + 1),
+    (20488, 3),
+    (20496, 9),
+    (20504, 20480),
+    (20512, 6),
+    (20520, FIRST),
+    (24512, OWNERS),
+    (24520, NEXT_PAGE),
+    (24528, USED),
+    (24536, USED),
+    (24544, 16384),
+    (24552, USED),
+    (16384, FIRST),
+    (16408, OWNERS),
+    (16416, USED),
+    (20448, USED),
+];
+
+/// Appends these entries to a new log, with two fresh pages.
+fn append_over_three(memory: &mut MemRegion, entries: &[Entry]) -> Result<u64, Stopped>
+    requires blocks { HasBlocks memory.old.region 16 }
+    requires given { AreGiven entries.now }
+    requires room { needed 0 entries.now ≤ 2 }
+    ensures { HasBlocks memory.new.region 16 }
+{
+    append(memory, HEAD, entries, &[5, 4])
+}
+
+fn turns_twice(rt: &impl Abort, memory: &mut MemRegion, entries: &[Entry])
+    requires blocks { HasBlocks memory.old.region 16 }
+    requires given { AreGiven entries.now }
+    ensures { HasBlocks memory.new.region 16 }
+{
+    let is_enough = pages_needed(HEAD, entries) == 2;
+    assert!(rt; is_enough);
+    if is_enough {
+        assert!(rt; append_over_three(memory, entries) == Ok(16416));
+    }
+    holds(rt, memory, &TURNED_TWICE);
+}
+
+fn reads_three_pages(
+    rt: &impl Abort,
+    alloc: Global,
+    memory: &MemRegion,
+    entries: &[Entry],
+) -> Result<(), Fail>
+    requires { HasBlocks memory.now.region 16 }
+{
+    let places = places_in_three_pages(alloc)?;
+    let read = walk(alloc, memory, &SMALL, HEAD, 16416)?;
+    is_listed(rt, &read, &[3, 5, 4], &places, entries);
+    Ok(())
+}
+
 #[test]
 fn an_append_that_turns_twice_takes_the_fresh_pages_in_turn(rt: HostRuntime) -> Result<(), Fail> {
     let mut memory = used_region(rt.alloc())?;
     let entries = entries_of_three_pages(rt.alloc())?;
-    assert!(rt; pages_needed(HEAD, &entries) == 2);
-    let tail = append(&mut memory, HEAD, &entries, &[5, 4])?;
-    assert!(rt; tail == 16416);
-    let words = [
-        (16288, FIRST),
-        (16312, OWNERS),
-        (16320, NEXT_PAGE),
-        (16328, USED),
-        (16344, USED),
-        (16352, 20480),
-        (20480, 2 * 4294967296 + 40 * 65536 + 1),
-        (20488, 3),
-        (20496, 9),
-        (20504, 20480),
-        (20512, 6),
-        (20520, FIRST),
-        (24512, OWNERS),
-        (24520, NEXT_PAGE),
-        (24528, USED),
-        (24536, USED),
-        (24544, 16384),
-        (24552, USED),
-        (16384, FIRST),
-        (16408, OWNERS),
-        (16416, USED),
-        (20448, USED),
-    ];
-    holds(&rt, &memory, &words);
-    let places = places_in_three_pages(rt.alloc())?;
-    let read = walk(rt.alloc(), &memory, &SMALL, HEAD, tail)?;
-    assert!(rt; read.fault == None);
-    assert!(rt; read.pages.as_slice() == [3, 5, 4].as_slice());
-    assert!(rt; read.entries.len() == 253);
-    for ((placed, at), entry) in read.entries.iter().zip(&places).zip(&entries) {
-        assert!(rt; placed.at == *at);
-        assert!(rt; placed.entry == *entry, "the entry at {at}");
-    }
-    Ok(())
+    turns_twice(&rt, &mut memory, &entries);
+    reads_three_pages(&rt, rt.alloc(), &memory, &entries)
 }
