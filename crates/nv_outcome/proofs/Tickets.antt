@@ -18,12 +18,13 @@ use Rattle.nv_super.proofs.Members.{none_in, into_map, from_map}
 use Rattle.nv_claimcore.specs.Claims.{times, below}
 use Rattle.nv_scan.specs.Rows.{IsPiece}
 use Rattle.nv_scan.specs.Tickets.{ticket_count, is_told, told_of}
-use Rattle.nv_scan.specs.Work.{numbers_in, ArePiecesOf}
+use Rattle.nv_scan.specs.Work.{numbers_in, claims_in, ArePiecesOf}
 use Rattle.nv_scan.specs.declared.piece.Row.{Row}
 use Rattle.nv_scan.specs.declared.piece.Piece.{Piece}
 use Rattle.nv_scan.proofs.Drawn.{count_cons, once, stands}
 use Rattle.nv_scan.proofs.Work.{AllByRecursion-append}
 use Rattle.nv_outcome.specs.Parts.{ArePieces, piece_key, rows_in, faults_in}
+use Rattle.nv_outcome.proofs.Reordered.{flat_map_permutation}
 
 -- ---- inodes that have slots
 
@@ -181,14 +182,14 @@ no_faults b (f ∷ fs) e = absurd (let some : nat_lt 0 (length (f ∷ fs)) ≡ t
 -- The pieces that tell nothing have no row and no fault.
 pub rows_told : (ps : List Piece) → rows_in (told_of ps) ≡ rows_in ps
 rows_told [] = refl
-rows_told (p ∷ ps) = test (is_told p) refl where
-  test : (b : Bool) → is_told p ≡ b → rows_in (cond b (p ∷ told_of ps) (told_of ps)) ≡ rows_in (p ∷ ps)
-  test true e = ap (cons_option p.row) (rows_told ps)
-  test false e = rows_told ps ∙ ap (λ (o : Option Row). cons_option o (rows_in ps)) (sym (no_row p.row (nat_lt 0 (length p.faults.items)) e))
+rows_told (p ∷ ps) = test (is_told p) refl (rows_told ps) where
+  test : (b : Bool) → is_told p ≡ b → rows_in (told_of ps) ≡ rows_in ps → rows_in (cond b (p ∷ told_of ps) (told_of ps)) ≡ rows_in (p ∷ ps)
+  test true e rest = ap (cons_option p.row) rest
+  test false e rest = rest ∙ ap (λ (o : Option Row). cons_option o (rows_in ps)) (sym (no_row p.row (nat_lt 0 (length p.faults.items)) e))
 
 pub faults_told : (ps : List Piece) → faults_in (told_of ps) ≡ faults_in ps
 faults_told [] = refl
-faults_told (p ∷ ps) = test (is_told p) refl where
-  test : (b : Bool) → is_told p ≡ b → faults_in (cond b (p ∷ told_of ps) (told_of ps)) ≡ faults_in (p ∷ ps)
-  test true e = ap (λ (fs : List Fault). p.faults.items ++ fs) (faults_told ps)
-  test false e = faults_told ps ∙ ap (λ (fs : List Fault). fs ++ faults_in ps) (sym (no_faults (is_some p.row) p.faults.items e))
+faults_told (p ∷ ps) = test (is_told p) refl (faults_told ps) where
+  test : (b : Bool) → is_told p ≡ b → faults_in (told_of ps) ≡ faults_in ps → faults_in (cond b (p ∷ told_of ps) (told_of ps)) ≡ faults_in (p ∷ ps)
+  test true e rest = ap (λ (fs : List Fault). p.faults.items ++ fs) rest
+  test false e rest = rest ∙ ap (λ (fs : List Fault). fs ++ faults_in ps) (sym (no_faults (is_some p.row) p.faults.items e))

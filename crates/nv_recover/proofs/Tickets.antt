@@ -1,5 +1,5 @@
 -- The tickets of a replay, one after another.
-use Rattle.std.proofs.Common.{◌≡◌, ℕ, ◌+◌, ◌*◌, List, [], ◌∷◌, ◌++◌, length, Option, Some, None, refl, ap, sym, ◌∙◌, subst, append-nil, append_assoc, arith}
+use Rattle.std.proofs.Common.{◌≡◌, ℕ, ◌+◌, List, [], ◌∷◌, ◌++◌, length, Option, ap, sym, ◌∙◌, subst, append-nil, append_assoc, arith}
 use Rattle.std.specs.Prelude.{Vec}
 use Rattle.std.specs.declared.alloc.Global.{Global}
 use Rattle.std.specs.List.{cons_option, range_with_len}
@@ -59,8 +59,8 @@ module _ {R : Region} {s : Super} where
     are = subst (λ (ns : List ℕ). ArePiecesOf R s ns (first.pieces ++ next.pieces)) (sym inodes) (pieces_join first.are next.are);
     rows = behind [] (rows_in first.pieces) (rows_in next.pieces) first.rows next.rows (filter_map-append (λ (p : Piece). p.row) first.pieces next.pieces);
     faults = behind [] (faults_in first.pieces) (faults_in next.pieces) first.faults next.faults (flat_map-append (λ (p : Piece). p.faults.items) first.pieces next.pieces);
-    lists_are = ap length is ∙ length-append work (list ∷ []) ∙ ap (λ (n : ℕ). n + 1) first.lists_are ∙ sym (length-append (range_with_len 0 t) (0 + t ∷ []));
+    lists_are = ap length is ∙ length-append work (list ∷ []) ∙ ap (λ (n : ℕ). n + 1) first.lists_are ∙ sym (length-append (range_with_len 0 t) ((0 + t) ∷ []));
     claims_are = ap all_claims is ∙ flat_map-append (λ (v : Vec (ℕ × Owner) Global). v.items) work (list ∷ []) ∙ (λ i. first.claims_are i ++ append-nil (next.claims_are i) i) ∙ sym (claims_join first.pieces next.pieces);
   } where
-    inodes : numbers_in s (range_with_len 0 t ++ 0 + t ∷ []) ≡ numbers_in s (range_with_len 0 t) ++ numbers_of s t
-    inodes = flat_map-append (numbers_of s) (range_with_len 0 t) (0 + t ∷ []) ∙ ap (λ (ns : List ℕ). numbers_in s (range_with_len 0 t) ++ ns) (append-nil (numbers_of s (0 + t)) ∙ ap (numbers_of s) (omega arith))
+    inodes : numbers_in s (range_with_len 0 t ++ (0 + t) ∷ []) ≡ numbers_in s (range_with_len 0 t) ++ numbers_of s t
+    inodes = flat_map-append (numbers_of s) (range_with_len 0 t) ((0 + t) ∷ []) ∙ ap (λ (ns : List ℕ). numbers_in s (range_with_len 0 t) ++ ns) (append-nil (numbers_of s (0 + t)) ∙ ap (numbers_of s) (omega arith))

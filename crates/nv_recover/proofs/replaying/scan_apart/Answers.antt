@@ -1,4 +1,4 @@
-use Rattle.std.proofs.Common.{◌≡◌, ◌∙◌, ℕ, List, length, sym, ap, subst, arith}
+use Rattle.std.proofs.Common.{◌≡◌, ◌∙◌, ℕ, List, sym, ap, subst, arith}
 use Rattle.std.specs.List.{range_with_len}
 use Rattle.std.specs.List.Sorted.{IsPermutation}
 use Rattle.std.proofs.lemmas.List.FromFn.{length-range_with_len}
@@ -31,7 +31,25 @@ loop-ticket-preserved g c =
     }
 
 pub returns-clause-inodes : goal.returns-clause-inodes
-returns-clause-inodes g c = ?
+returns-clause-inodes g c =
+    let R = g.P.Pmem.region c.args.memory.now in
+    let s = c.args.sup.now in
+    let l = c.loop-ticket in
+    let past = c.loop-ticket-test.false in
+    let last : l.ticket ≡ ticket_count s = omega (arith, c.ticket_count-ticket-end.ensures, past, l.auto.ticket-end) in
+    let all = subst (λ (n : ℕ). AreOfTickets R s (range_with_len 0 n) l.inodes l.work.items) last l.invariant.first in
+    let rows = c.sort_rows.new.self.rows.items in
+    let moved = subst (λ (old : List Row). IsPermutation old rows) all.rows c.in_ok-sort_rows.ensures.same in
+    let order = tickets_in_order R s (range_with_len 0 (ticket_count s)) all.pieces rows c.requires.layout all.are (all_times (ticket_count s)) moved c.in_ok-sort_rows.ensures.sorted in
+    let kept : c.sort_rows.new.self.faults.items ≡ faults_in all.pieces = ap (λ fs. fs.items) c.in_ok-sort_rows.ensures.faults ∙ all.faults in (
+      order.sorted,
+      record { pieces_are = order.pieces_are; rows = order.rows_are; faults = subst (IsPermutation (faults_in order.sorted)) (sym kept) order.faults },
+      subst (IsPermutation (claims_in order.sorted)) (sym all.claims_are) order.claims,
+    )
 
 pub returns-clause-tickets : goal.returns-clause-tickets
-returns-clause-tickets g c = ?
+returns-clause-tickets g c =
+    let l = c.loop-ticket in
+    let past = c.loop-ticket-test.false in
+    let count = l.invariant.first.lists_are ∙ length-range_with_len 0 l.ticket in
+    omega (arith, count, c.ticket_count-ticket-end.ensures, past, l.auto.ticket-end)
