@@ -137,22 +137,36 @@ after_front old new k count b before after at few puts p = elim (in_run (k + cou
     some_front : 0 < count → front_of b count ≡ Some (record { start = b.start; count = count })
     some_front some = let no : (count == 0) ≡ false = grind (arith, nat_tests) in rw no refl
 
--- a run over pages that map to nothing stands apart from the others
-pub put_free : (old new : Runs) (k : ℕ) (b : Blocks) → AreRuns old → IsRun k b → ((p : ℕ) → in_run k b.count p ≡ true → block_by old p ≡ None) → Puts old new k (Some b) → AreRuns new
-put_free old new k b before is free puts = record { rising = puts.rising; each = each; apart = apart }
+-- A run is put between those that end before it and those that begin behind it.
+put_between : (old new : Runs) (k : ℕ) (b : Blocks) → AreRuns old → IsRun k b → ((q : ℕ) (c : Blocks) → q < k → run_at old q ≡ Some c → q + c.count ≤ k) → ((q : ℕ) (c : Blocks) → k < q → run_at old q ≡ Some c → k + b.count ≤ q)
+    → Puts old new k (Some b) → AreRuns new
+put_between old new k b before is ends_before begins_behind puts = record { rising = puts.rising; each = each; apart = apart }
   where
     old_run : (q : ℕ) (c : Blocks) → q ≢ k → run_at new q ≡ Some c → run_at old q ≡ Some c
     old_run q c other h = sym (puts.others q other) ∙ h
 
-    new_run : (c : Blocks) → run_at new k ≡ Some c → c ≡ b
-    new_run c h = some_is c b _ h puts.here
+    new_run : (q : ℕ) (c : Blocks) → q ≡ k → run_at new q ≡ Some c → c ≡ b
+    new_run q c e h = some_is c b _ (subst (λ (n : ℕ). run_at new n ≡ Some c) e h) puts.here
 
     each : (q : ℕ) (c : Blocks) → run_at new q ≡ Some c → IsRun q c
     each q c h = elim (cases_eq q k) [
-      | inl e ↦ rw (e, new_run c (subst (λ (n : ℕ). run_at new n ≡ Some c) e h)) is
+      | inl e ↦ rw (e, new_run q c e h) is
       | inr other ↦ before.each q c (old_run q c other h)
     ]
 
+    apart : (q l : ℕ) (c d : Blocks) → run_at new q ≡ Some c → run_at new l ≡ Some d → q < l → q + c.count ≤ l
+    apart q l c d x y less = elim (cases_eq q k) [
+      | inl e ↦ rw (e, new_run q c e x) (begins_behind l d (omega (arith, e, less)) (old_run l d (λ f. omega (arith, e, f, less)) y))
+      | inr other ↦ elim (cases_eq l k) [
+        | inl e ↦ rw e (ends_before q c (omega (arith, e, less)) (old_run q c other x))
+        | inr also ↦ before.apart q l c d (old_run q c other x) (old_run l d also y) less
+      ]
+    ]
+
+-- a run over pages that map to nothing stands apart from the others
+pub put_free : (old new : Runs) (k : ℕ) (b : Blocks) → AreRuns old → IsRun k b → ((p : ℕ) → in_run k b.count p ≡ true → block_by old p ≡ None) → Puts old new k (Some b) → AreRuns new
+put_free old new k b before is free puts = put_between old new k b before is ends_before begins_behind puts
+  where
     ends_before : (q : ℕ) (c : Blocks) → q < k → run_at old q ≡ Some c → q + c.count ≤ k
     ends_before q c less h =
         let no = missed old k q c (free k (let some = is.some in grind (arith, nat_tests))) h in
@@ -162,15 +176,6 @@ put_free old new k b before is free puts = record { rising = puts.rising; each =
     begins_behind q c more h = elim (cases_lt q (k + b.count)) [
       | inr over ↦ over
       | inl under ↦ absurd (let no = missed old q q c (free q (grind (arith, nat_tests))) h in let some = (before.each q c h).some in grind (arith, nat_tests))
-    ]
-
-    apart : (q l : ℕ) (c d : Blocks) → run_at new q ≡ Some c → run_at new l ≡ Some d → q < l → q + c.count ≤ l
-    apart q l c d x y less = elim (cases_eq q k) [
-      | inl e ↦ rw (e, new_run c (subst (λ (n : ℕ). run_at new n ≡ Some c) e x)) (begins_behind l d (omega (arith, e, less)) (old_run l d (λ f. omega (arith, e, f, less)) y))
-      | inr other ↦ elim (cases_eq l k) [
-        | inl e ↦ rw e (ends_before q c (omega (arith, e, less)) (old_run q c other x))
-        | inr also ↦ before.apart q l c d (old_run q c other x) (old_run l d also y) less
-      ]
     ]
 
 -- and its pages map to its blocks
@@ -220,3 +225,17 @@ front_runs old new k count b before at few puts = record { rising = puts.rising;
         | inr also ↦ before.apart q l c d (old_run q c other x) (old_run l d also y) less
       ]
     ]
+
+-- A run that takes the place of one of the very same pages.
+module _ (old new : Runs) (k : ℕ) (b c : Blocks) (before : AreRuns old) (is : IsRun k b) (at : run_at old k ≡ Some c) (same : c.count ≡ b.count) (puts : Puts old new k (Some b)) where
+  pub replaced_runs : AreRuns new
+  replaced_runs = put_between old new k b before is
+      (λ q d less h. before.apart q k d c h at less)
+      (λ q d more h. (let end = before.apart k q c d at h more in omega (arith, end, same)))
+      puts
+
+  pub replaced : (p : ℕ) → block_by new p ≡ (if in_run k b.count p then Some (b.start + (p - k)) else block_by old p)
+  replaced p = elim (in_run k b.count p) as (λ (t : Bool). in_run k b.count p ≡ t → block_by new p ≡ cond t (Some (b.start + (p - k))) (block_by old p)) [
+    | true ↦ λ e. mapped new p k b replaced_runs puts.here e
+    | false ↦ λ e. kept before replaced_runs puts p (λ d h. rw (some_is d c _ h at, same) e) (λ d h. rw (some_only d b (sym h)) e)
+  ] refl

@@ -43,6 +43,10 @@ pub record Puts (old new : Runs) (k : ℕ) (w : Option Blocks) : Type 0 where
   pub others : (q : ℕ) → q ≢ k → run_at new q ≡ run_at old q
   pub rising : IsStrictlySortedBy nat_cmp (keys_of new)
 
+-- a run of this many pages begins at a page
+abbrev pub HasRunOf : Runs → ℕ → ℕ → Type 0
+HasRunOf runs k count = (b : Blocks) × (run_at runs k ≡ Some b) × (b.count ≡ count)
+
 -- the last run that begins before a page
 pub record IsLastBefore (runs : Runs) (page : ℕ) (x : ℕ × Blocks) : Type 0 where
   pub before : x.0 < page

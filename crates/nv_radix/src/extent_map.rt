@@ -5,7 +5,7 @@ ghost use Rattle.nv_radix.specs.Pages.{block_at, in_run, AreFilePages};
 ghost use Rattle.nv_radix.specs.Runs.{block_by};
 
 use crate::index::FileIndex;
-use crate::runs::{Blocks, Runs, clear, put};
+use crate::runs::{Blocks, Runs, clear, set};
 use std::alloc::{AllocError, Global};
 use std::collections::BTreeMap;
 use std::marker::Model;
@@ -62,9 +62,7 @@ impl ExtentMap {
         if count == 0 {
             return Ok(());
         }
-        let end = page + count;
-        clear(&mut self.runs, page, end)?;
-        put(
+        set(
             &mut self.runs,
             page,
             Blocks {
@@ -72,7 +70,7 @@ impl ExtentMap {
                 count,
             },
         )?;
-        self.end = self.end.max(end);
+        self.end = self.end.max(page + count);
         Ok(())
     }
 

@@ -1,8 +1,8 @@
 //! Runs of pages in the order of their first pages, of which no two have a page in common.
 
-ghost use Rattle.std.specs.Prelude.{◌≡◌, ℕ, ◌+◌, ◌<◌, ◌≤◌, ◌^◌, ◌&&◌, if◌then◌else◌, nat_le, nat_lt, Some, None, IfSome, IfNone, OnOk, OnErr};
+ghost use Rattle.std.specs.Prelude.{◌≡◌, ℕ, ◌+◌, ◌-◌, ◌<◌, ◌≤◌, ◌^◌, ◌&&◌, if◌then◌else◌, nat_le, nat_lt, Some, None, IfSome, IfNone, IsTrue, OnOk, OnErr};
 ghost use Rattle.nv_radix.specs.Pages.{in_run};
-ghost use Rattle.nv_radix.specs.Runs.{block_by, run_at, front_of, AreRuns, IsRun, IsLastBefore, Puts};
+ghost use Rattle.nv_radix.specs.Runs.{block_by, run_at, front_of, AreRuns, HasRunOf, IsRun, IsLastBefore, Puts};
 
 use std::alloc::AllocError;
 use std::collections::BTreeMap;
@@ -18,6 +18,32 @@ pub struct Blocks {
 
 /// The blocks of each run, by its first page.
 pub(crate) type Runs = BTreeMap<u64, Blocks>;
+
+/// Maps the pages of a run to its blocks. Where a run of the very same pages stands, it is replaced at its place. An error
+/// may leave some of the pages unmapped, and some behind them.
+pub(crate) fn set(runs: &mut Runs, page: u64, blocks: Blocks) -> Result<(), AllocError>
+    requires runs { AreRuns runs.old.entries }
+    requires run { IsRun page blocks }
+    ensures runs { AreRuns runs.new.entries }
+    ensures fewer { OnErr result ((p : ℕ) → block_by runs.old.entries p ≡ None → block_by runs.new.entries p ≡ None) }
+    ensures ok { OnOk result ((p : ℕ) → block_by runs.new.entries p ≡ (if in_run page blocks.count p then Some (blocks.start + (p - page)) else block_by runs.old.entries p)) }
+{
+    if has_run(runs, page, blocks.count) {
+        return put(runs, page, blocks);
+    }
+    clear(runs, page, page + blocks.count)?;
+    put(runs, page, blocks)
+}
+
+/// Whether a run of this many pages begins at a page.
+fn has_run(runs: &Runs, page: u64, count: u64) -> bool
+    ensures { IsTrue result → HasRunOf runs.now.entries page count }
+{
+    match runs.get(&page) {
+        Some(blocks) => blocks.count == count,
+        None => false,
+    }
+}
 
 /// Unmaps the pages from `first` up to `end`. An error may leave some of them unmapped, and some behind them.
 pub(crate) fn clear(runs: &mut Runs, first: u64, end: u64) -> Result<(), AllocError>
@@ -89,7 +115,7 @@ fn last_before(runs: &Runs, page: u64) -> Option<(u64, Blocks)>
 }
 
 /// Gives the run that begins at a page these blocks, in place of those that it had.
-pub(crate) fn put(runs: &mut Runs, page: u64, blocks: Blocks) -> Result<(), AllocError>
+fn put(runs: &mut Runs, page: u64, blocks: Blocks) -> Result<(), AllocError>
     ensures ok { OnOk result (Puts runs.old.entries runs.new.entries page (Some blocks)) }
     ensures err { OnErr result (runs.new.entries ≡ runs.old.entries) }
 {
