@@ -1,11 +1,11 @@
 -- The claims of all inodes.
-use Rattle.std.proofs.Common.{◌≡◌, ℕ, ◌-◌, ◌<◌, ◌*◌, min, List, [], ◌∷◌, ◌++◌, map, length, get_or, refl, ap, sym, ◌∙◌, subst, arith, append-nil}
+use Rattle.std.proofs.Common.{◌≡◌, ℕ, ◌+◌, ◌-◌, ◌<◌, ◌*◌, ◌==◌, cond, min, List, [], ◌∷◌, ◌++◌, length, get_or, refl, ap, sym, ◌∙◌, subst, arith, append-nil}
 use Rattle.std.specs.Prelude.{Vec}
 use Rattle.std.specs.declared.alloc.Global.{Global}
 use Rattle.std.specs.List.{All, Contains}
 use Rattle.std.specs.List.Sorted.{IsPermutation}
 use Rattle.std.proofs.lemmas.Grind.{flat_map-append}
-use Rattle.std.proofs.lemmas.List.{map-append}
+use Rattle.std.proofs.lemmas.List.Sums.{sum_by-cons, sum_by-append}
 use Rattle.std.proofs.lemmas.List.Elements.{All-contains_itself}
 use Rattle.std.proofs.lemmas.List.Sorted.{Contains-permutation, IsPermutation-refl, IsPermutation-sym}
 use Rattle.nv_region.specs.Region.{Region}
@@ -20,10 +20,9 @@ use Rattle.nv_scan.specs.Work.{claims_in}
 use Rattle.nv_scan.specs.declared.piece.Piece.{Piece}
 use Rattle.nv_scan.proofs.Owned.{owned_block}
 use Rattle.nv_outcome.specs.Parts.{ArePieces, AreMaps}
-use Rattle.nv_super.proofs.Members.{from_map}
+use Rattle.nv_super.proofs.Members.{from_map, into_flat}
 use Rattle.nv_outcome.proofs.Pieces.{claimed_owned}
-use Rattle.nv_outcome.proofs.Tickets.{maps_of_work}
-use Rattle.nv_recover.specs.Scanned.{AreWithin, Cover, AreClaimed, AreClaimedSets, claims_of_piece, all_claims}
+use Rattle.nv_recover.specs.Scanned.{AreWithin, Cover, AreClaimed, AreClaimedSets, all_claims}
 
 -- the claims of one piece more
 pub claims_more : (ps : List Piece) (p : Piece) → claims_in (ps ++ p ∷ []) ≡ claims_in ps ++ p.claims.items
@@ -34,21 +33,8 @@ claims_one_more ps p {list = list} before are same is =
     let its : list ≡ p.claims.items = same ∙ ap (λ (v : Vec (ℕ × Owner) Global). v.items) (sym are) in
     is ∙ ((λ i. before i ++ its i) ∙ sym (claims_more ps p))
 
-pub lists_one_more : (ps : List Piece) (p : Piece) {now new : List (Vec (ℕ × Owner) Global)} {claims : Vec (ℕ × Owner) Global} → now ≡ map claims_of_piece ps → p.claims ≡ claims → new ≡ now ++ claims ∷ [] → new ≡ map claims_of_piece (ps ++ p ∷ [])
-lists_one_more ps p before are is = is ∙ ((λ i. before i ++ sym are i ∷ []) ∙ sym (map-append claims_of_piece ps (p ∷ [])))
-
 pub same_claims : (xs ys : List (ℕ × Owner)) → ys ≡ xs → IsPermutation xs ys
 same_claims xs ys same = subst (IsPermutation xs) (sym same) (IsPermutation-refl xs)
-
--- the claims of the lists are those of the pieces
-pub claims_apart : (ps : List Piece) → all_claims (map claims_of_piece ps) ≡ claims_in ps
-claims_apart [] = refl
-claims_apart (p ∷ ps) = ap (λ (xs : List (ℕ × Owner)). p.claims.items ++ xs) (claims_apart ps)
-
--- their lists as plain lists
-pub lists_apart : (ps : List Piece) → lists (map claims_of_piece ps) ≡ map (λ (p : Piece). p.claims.items) ps
-lists_apart [] = refl
-lists_apart (p ∷ ps) = ap (λ (l : List (List (ℕ × Owner))). p.claims.items ∷ l) (lists_apart ps)
 
 module _ {R : Region} (s : Super) (pieces : List Piece) (scanned : ArePieces R (fixed_layout s) pieces) where
   pub claims_within : (claims : List (ℕ × Owner)) → IsPermutation (claims_in pieces) claims → AreWithin s claims
@@ -57,29 +43,19 @@ module _ {R : Region} (s : Super) (pieces : List Piece) (scanned : ArePieces R (
       let c = Contains-permutation claims (claims_in pieces) x (IsPermutation-sym (claims_in pieces) claims moved) (All-contains_itself claims k d less) in
       (owned_block R (fixed_layout s) x.0 x.1 (claimed_owned pieces scanned x.0 x.1 c)).1
 
-  -- a list of claims for each piece is work within the region
-  pub work_inside : (work : List (List (ℕ × Owner))) → work ≡ map (λ (p : Piece). p.claims.items) pieces → Inside s.blocks work
-  work_inside work is = subst (Inside s.blocks) (sym is) (λ k d less i e below. (
-      let claims = get_or (map (λ (p : Piece). p.claims.items) pieces) k d in
-      let w = from_map (λ (p : Piece). p.claims.items) pieces claims (All-contains_itself (map (λ (p : Piece). p.claims.items) pieces) k d less) in
-      let x = get_or claims i e in
-      let c = subst (λ (xs : List (ℕ × Owner)). Contains xs x) w.2 (All-contains_itself claims i e below) in
-      (owned_block R (fixed_layout s) x.0 x.1 ((scanned.each w.0 w.1).claims.each x c).0).1))
+  -- lists of them are work within the region
+  pub work_inside : (work : List (Vec (ℕ × Owner) Global)) → IsPermutation (claims_in pieces) (all_claims work) → Inside s.blocks (lists work)
+  work_inside work moved k d less i e below =
+      let list = get_or (lists work) k d in
+      let x = get_or list i e in
+      let w = from_map (λ (v : Vec (ℕ × Owner) Global). v.items) work list (All-contains_itself (lists work) k d less) in
+      let c = into_flat (λ (v : Vec (ℕ × Owner) Global). v.items) work w.0 x w.1 (subst (λ (xs : List (ℕ × Owner)). Contains xs x) w.2 (All-contains_itself list i e below)) in
+      (owned_block R (fixed_layout s) x.0 x.1 (claimed_owned pieces scanned x.0 x.1 (Contains-permutation (all_claims work) (claims_in pieces) x (IsPermutation-sym (claims_in pieces) (all_claims work) moved) c))).1
 
 -- the second set has a bit for each claim's block
 pub claims_covered : {R : Region} (s : Super) (pieces : List Piece) (c : Claimed) {claims : List (ℕ × Owner)} {second : List ℕ} → ArePieces R (fixed_layout s) pieces → AreClaimed s pieces c → claims ≡ c.claims.items → second ≡ c.second.items
     → All (λ (x : ℕ × Owner). x.0 < 64 * length second) claims
 claims_covered s pieces c scanned claimed same covers = rw (same, covers) (λ k d less. (let within = claims_within s pieces scanned c.claims.items claimed.claimed k d less in let cover = claimed.cover.1 in omega (arith, within, cover)))
-
--- the sets of a work are those of its claims
-pub maps_of_sets : (s : Super) (pieces : List Piece) (work : List (List (ℕ × Owner))) (claims : List (ℕ × Owner)) (first second : List ℕ) → work ≡ map (λ (p : Piece). p.claims.items) pieces → claims ≡ claims_in pieces
-    → AreClaimedSets s work first second → AreMaps claims first second
-maps_of_sets s pieces work claims first second is same sets = record {
-  once = λ b. sets.once b ∙ ap (min 1) (count b);
-  twice = λ b. sets.twice b ∙ ap (λ (n : ℕ). min 1 (n - 1)) (count b);
-} where
-  count : (b : ℕ) → works_of b work ≡ claims_of b claims
-  count b = maps_of_work work pieces is b ∙ ap (claims_of b) (sym same)
 
 -- claims in the order of the pieces, with their sets
 pub claimed_all : (s : Super) (pieces : List Piece) (c : Claimed) {claims : Vec (ℕ × Owner) Global} → claims.items ≡ claims_in pieces → c.claims ≡ claims → AreMaps claims.items c.first.items c.second.items → Cover s c.first.items c.second.items → AreClaimed s pieces c
@@ -90,11 +66,19 @@ claimed_all s pieces c are is maps cover =
       cover = cover;
     }
 
+-- a block stands in the lists of a work as often as in all of them together
+works_joined : (work : List (Vec (ℕ × Owner) Global)) (b : ℕ) → works_of b (lists work) ≡ claims_of b (all_claims work)
+works_joined [] b = refl
+works_joined (v ∷ work) b =
+    sum_by-cons (claims_of b) v.items (lists work) ∙ ap (λ (n : ℕ). claims_of b v.items + n) (works_joined work b) ∙ sym (sum_by-append (λ (x : ℕ × Owner). cond (x.0 == b) 1 0) v.items (all_claims work))
+
 -- the claims of a work, with the sets that its workers leave
-pub claimed_by_sets : (s : Super) (pieces : List Piece) (work : List (Vec (ℕ × Owner) Global)) (c : Claimed) → work ≡ map claims_of_piece pieces → c.claims.items ≡ all_claims work → AreClaimedSets s (lists work) c.first.items c.second.items → AreClaimed s pieces c
-claimed_by_sets s pieces work c is joined sets =
-    let all : c.claims.items ≡ claims_in pieces = joined ∙ (ap all_claims is ∙ claims_apart pieces) in record {
-      claimed = same_claims (claims_in pieces) c.claims.items all;
-      maps = maps_of_sets s pieces (lists work) c.claims.items c.first.items c.second.items (ap lists is ∙ lists_apart pieces) all sets;
-      cover = sets.cover;
-    }
+pub claimed_by_sets : (s : Super) (pieces : List Piece) (work : List (Vec (ℕ × Owner) Global)) (c : Claimed) → IsPermutation (claims_in pieces) (all_claims work) → c.claims.items ≡ all_claims work → AreClaimedSets s (lists work) c.first.items c.second.items → AreClaimed s pieces c
+claimed_by_sets s pieces work c moved joined sets = record {
+  claimed = subst (IsPermutation (claims_in pieces)) (sym joined) moved;
+  maps = subst (λ (claims : List (ℕ × Owner)). AreMaps claims c.first.items c.second.items) (sym joined) record {
+    once = λ b. sets.once b ∙ ap (min 1) (works_joined work b);
+    twice = λ b. sets.twice b ∙ ap (λ (n : ℕ). min 1 (n - 1)) (works_joined work b);
+  };
+  cover = sets.cover;
+}

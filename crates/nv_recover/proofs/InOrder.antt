@@ -12,16 +12,16 @@ use Rattle.nv_super.specs.declared.superblock.Super.{Super}
 use Rattle.nv_super.specs.Layout.{IsLayout, fixed_layout}
 use Rattle.nv_super.specs.Order.{Rises}
 use Rattle.nv_super.proofs.Rising.{Contains-head, Contains-tail, Lists-only}
-use Rattle.nv_claimcore.specs.declared.view.View.{View}
 use Rattle.nv_claimcore.specs.Claims.{times, below}
-use Rattle.nv_scan.specs.Work.{ticket_count, claims_in, IsWork}
+use Rattle.nv_scan.specs.Tickets.{ticket_count}
+use Rattle.nv_scan.specs.Work.{numbers_in, claims_in, ArePiecesOf}
 use Rattle.nv_scan.specs.declared.piece.Row.{Row}
 use Rattle.nv_scan.specs.declared.piece.Piece.{Piece}
 use Rattle.nv_outcome.specs.Parts.{ArePieces, rows_in, faults_in}
 use Rattle.nv_super.proofs.Rising.{Below, head_least, tail_rises}
 use Rattle.nv_outcome.proofs.Reordered.{flat_map_permutation}
 use Rattle.nv_outcome.proofs.RowsOf.{rows_are}
-use Rattle.nv_outcome.proofs.Tickets.{rises_once, work_covers}
+use Rattle.nv_outcome.proofs.Tickets.{rises_once, claims_permute, tickets_cover}
 
 module _ {A : Type 0} (n : A → ℕ) where
   -- ---- a list put in order
@@ -133,7 +133,7 @@ rows_permute ps qs moved = rw (rows_flat ps, rows_flat qs) (flat_map_permutation
 faults_permute : (ps qs : List Piece) → IsPermutation ps qs → IsPermutation (faults_in ps) (faults_in qs)
 faults_permute ps qs moved = flat_map_permutation (λ (p : Piece). p.faults.items) ps qs moved
 
--- The pieces of a work in the order of inodes: all inodes have one, the rows that were sorted are theirs, and so are the claims and the faults.
+-- Pieces in the order of inodes: all inodes have one, the rows that were sorted are theirs, and so are the claims and the faults.
 pub record AreInOrder (R : Region) (s : Super) (pieces : List Piece) (rows : List Row) : Type 0 where
   pub sorted : List Piece
   pub pieces_are : ArePieces R (fixed_layout s) sorted
@@ -141,18 +141,18 @@ pub record AreInOrder (R : Region) (s : Super) (pieces : List Piece) (rows : Lis
   pub faults : IsPermutation (faults_in sorted) (faults_in pieces)
   pub rows_are : rows ≡ rows_in sorted
 
--- Where each number below n was drawn once, and n is no less than the tickets.
-pub work_in_order : (R : Region) (s : Super) (v : View) (pieces : List Piece) (rows : List Row) (n : ℕ) → IsLayout s → IsWork R s v pieces → ((x : ℕ) → times x v.numbers ≡ below x n) → ticket_count s ≤ n
+-- Where each ticket stands once.
+pub tickets_in_order : (R : Region) (s : Super) (tickets : List ℕ) (pieces : List Piece) (rows : List Row) → IsLayout s → ArePiecesOf R s (numbers_in s tickets) pieces → ((t : ℕ) → times t tickets ≡ below t (ticket_count s))
     → IsPermutation (rows_in pieces) rows → IsSortedByKey (λ (r : Row). r.inode) nat_cmp rows → AreInOrder R s pieces rows
-work_in_order R s v pieces rows n layout work drawn enough moved sorted =
+tickets_in_order R s tickets pieces rows layout are drawn moved sorted =
     let ps = in_order (λ (p : Piece). p.inode) pieces in
     let put : IsPermutation pieces ps = in_order_moves (λ (p : Piece). p.inode) pieces in
     let back : IsPermutation ps pieces = IsPermutation-sym pieces ps put in
-    let covers = work_covers R s v pieces ps n layout work drawn enough put (up_sorted (λ (p : Piece). p.inode) ps (in_order_up (λ (p : Piece). p.inode) pieces)) in
+    let covers = tickets_cover R s tickets pieces ps layout are drawn put (up_sorted (λ (p : Piece). p.inode) ps (in_order_up (λ (p : Piece). p.inode) pieces)) in
     record {
       sorted = ps;
-      pieces_are = covers.0;
-      claims = covers.1;
+      pieces_are = covers;
+      claims = claims_permute pieces ps put;
       faults = faults_permute ps pieces back;
-      rows_are = same_order (λ (r : Row). r.inode) (rows_in ps) rows ((rows_are ps covers.0).rising) (IsPermutation-trans (rows_in ps) (rows_in pieces) rows (rows_permute ps pieces back) moved) sorted;
+      rows_are = same_order (λ (r : Row). r.inode) (rows_in ps) rows ((rows_are ps covers).rising) (IsPermutation-trans (rows_in ps) (rows_in pieces) rows (rows_permute ps pieces back) moved) sorted;
     }

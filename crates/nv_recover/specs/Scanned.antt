@@ -13,7 +13,7 @@ use Rattle.nv_super.specs.Order.{fault_key, Lists, Rises}
 use Rattle.nv_claimcore.specs.Finished.{works_of}
 use Rattle.nv_claimmap.specs.declared.map.Claimed.{Claimed}
 use Rattle.nv_scan.specs.Rows.{IsPiece}
-use Rattle.nv_scan.specs.Work.{claims_in}
+use Rattle.nv_scan.specs.Work.{numbers_in, claims_in, ArePiecesOf}
 use Rattle.nv_scan.specs.declared.piece.Row.{Row}
 use Rattle.nv_scan.specs.declared.piece.Piece.{Piece}
 use Rattle.nv_check.specs.Cross.{row_key, IsCrossFaultIn}
@@ -37,6 +37,27 @@ pub record IsNext (R : Region) (s : Super) (inode : ℕ) (old new : Inodes) (cla
   pub rows : new.rows.items ≡ old.rows.items ++ cons_option piece.row []
   pub faults : new.faults.items ≡ old.faults.items ++ piece.faults.items
   pub claims_are : piece.claims ≡ claims
+
+-- the claims in these lists, one list after the other
+abbrev pub all_claims : List (Vec (ℕ × Owner) Global) → List (ℕ × Owner)
+all_claims lists = flat_map (λ (v : Vec (ℕ × Owner) Global). v.items) lists
+
+-- Pieces of the inodes with these numbers: their rows and faults were put behind the others, and these are their claims.
+pub record AreNext (R : Region) (s : Super) (numbers : List ℕ) (old new : Inodes) (claims : List (ℕ × Owner)) : Type 0 where
+  pub pieces : List Piece
+  pub are : ArePiecesOf R s numbers pieces
+  pub rows : new.rows.items ≡ old.rows.items ++ rows_in pieces
+  pub faults : new.faults.items ≡ old.faults.items ++ faults_in pieces
+  pub claims_are : claims ≡ claims_in pieces
+
+-- Pieces of the inodes of these tickets: kept are their rows and their faults, and a list of claims for each ticket.
+pub record AreOfTickets (R : Region) (s : Super) (tickets : List ℕ) (x : Inodes) (work : List (Vec (ℕ × Owner) Global)) : Type 0 where
+  pub pieces : List Piece
+  pub are : ArePiecesOf R s (numbers_in s tickets) pieces
+  pub rows : x.rows.items ≡ rows_in pieces
+  pub faults : x.faults.items ≡ faults_in pieces
+  pub lists_are : length work ≡ length tickets
+  pub claims_are : all_claims work ≡ claims_in pieces
 
 -- The pieces are those of the inodes 1, 2, and so on up to this number, without it; kept are their rows and their faults.
 pub record AreFirst (R : Region) (s : Super) (number : ℕ) (pieces : List Piece) (x : Inodes) : Type 0 where
@@ -65,14 +86,6 @@ pub record AreClaimed (s : Super) (pieces : List Piece) (c : Claimed) : Type 0 w
   pub claimed : IsPermutation (claims_in pieces) c.claims.items
   pub maps : AreMaps c.claims.items c.first.items c.second.items
   pub cover : Cover s c.first.items c.second.items
-
--- the claims of a piece
-abbrev pub claims_of_piece : Piece → Vec (ℕ × Owner) Global
-claims_of_piece p = p.claims
-
--- the claims in these lists, one list after the other
-abbrev pub all_claims : List (Vec (ℕ × Owner) Global) → List (ℕ × Owner)
-all_claims lists = flat_map (λ (v : Vec (ℕ × Owner) Global). v.items) lists
 
 -- The sets have a bit for each block: in the first are the blocks of this work, in the second those that stand in it twice or more.
 pub record AreClaimedSets (s : Super) (work : List (List (ℕ × Owner))) (first second : List ℕ) : Type 0 where

@@ -1,32 +1,34 @@
 //! Recovery whose claims are made in a written order, with no thread.
 
-ghost use Rattle.std.specs.Prelude.{◌≡◌, ◌*◌, ◌≢◌, ◌<◌, ℕ, List, Some, None, [], IfOk, IfErr, IsTrue, map};
+ghost use Rattle.std.specs.Prelude.{◌≡◌, ◌*◌, ◌≢◌, ◌<◌, ℕ, List, Some, None, [], IfOk, IfErr, IsTrue, length};
+ghost use Rattle.std.specs.List.Sorted.{IsPermutation};
 ghost use Rattle.nv_region.specs.Region.{HasBlocks};
 ghost use Rattle.nv_region.specs.Fuses.{KeepsFuse};
-ghost use Rattle.nv_super.specs.Layout.{IsLayout, system_blocks};
+ghost use Rattle.nv_super.specs.Layout.{IsLayout, HasAreas, system_blocks};
 ghost use Rattle.nv_super.specs.Super.{IsSuper};
 ghost use Rattle.nv_super.specs.declared.superblock.Super.{Super as SuperValue};
 ghost use Rattle.nv_journal.specs.Undo.{undone};
 ghost use Rattle.nv_journal.specs.Undone.{AllQuiet};
 ghost use Rattle.nv_claimcore.specs.Replay.{lists, Inside, first_stranger};
-ghost use Rattle.nv_scan.specs.declared.piece.Piece.{Piece};
+ghost use Rattle.nv_scan.specs.declared.piece.Piece.{Piece as PieceValue};
+ghost use Rattle.nv_scan.specs.Tickets.{ticket_count, numbers_of};
+ghost use Rattle.nv_scan.specs.Work.{claims_in};
 ghost use Rattle.nv_outcome.specs.Outcome.{IsOutcome};
 ghost use Rattle.nv_recover.specs.declared.recovered.RecoverError.TheVariants as errors;
 ghost use Rattle.nv_recover.specs.Answer.{outcome_of, SharesBlocks};
 ghost use Rattle.nv_recover.specs.Errors.{Fails, comes_first, IsBadCount};
 ghost use Rattle.nv_recover.specs.Behind.{BehindSystem};
-ghost use Rattle.nv_recover.specs.Scanned.{AreInodes, IsScanned, AreClaimedSets, claims_of_piece, all_claims};
+ghost use Rattle.nv_recover.specs.Scanned.{AreInodes, IsScanned, AreClaimedSets, AreNext, all_claims};
 
 use crate::finishing::finish;
 use crate::recovered::{MOST_WORKERS, RecoverError, Recovered};
 use crate::scanned::{Inodes, Scanned};
-use crate::scanning::scan_next;
 use crate::starting::start;
 use nv_check::cross_faults_one;
 use nv_claimcore::{ClaimState, CoreRefusal, replay};
 use nv_claimmap::Claimed;
 use nv_region::Pmem;
-use nv_scan::Scanner;
+use nv_scan::{Piece, SLOTS, Scanner, ticket_count};
 use nv_super::{Owner, Super};
 use std::alloc::{AllocError, Global};
 
@@ -93,7 +95,7 @@ fn scan_by_schedule<P: Pmem>(
     })
 }
 
-// Scans each inode number, in rising order, and keeps a list of claims for each.
+// Scans the inodes of each ticket, and keeps a list of claims for each. The rows are put in order then.
 fn scan_apart<P: Pmem>(
     alloc: Global,
     memory: &P,
@@ -101,16 +103,48 @@ fn scan_apart<P: Pmem>(
 ) -> Result<(Inodes, Vec<Vec<(u64, Owner)>>), AllocError>
     requires layout { IsLayout sup.now }
     requires blocks { HasBlocks (P.region memory.now) sup.now.blocks }
-    ensures { IfOk result (λ r. (pieces : List Piece) × AreInodes (P.region memory.now) sup.now pieces r.0 × (r.1.items ≡ map claims_of_piece pieces)) }
+    ensures inodes { IfOk result (λ r. (pieces : List PieceValue) × AreInodes (P.region memory.now) sup.now pieces r.0 × IsPermutation (claims_in pieces) (all_claims r.1.items)) }
+    ensures tickets { IfOk result (λ r. length r.1.items ≡ ticket_count sup.now) }
 {
     let mut scanner = Scanner::new(alloc, sup);
     let mut inodes = Inodes::new(alloc);
     let mut work = Vec::new(alloc);
-    for inode in 1..sup.max_inode() + 1 {
-        let list = scan_next(memory, &mut scanner, &mut inodes, inode)?;
+    for ticket in 0..ticket_count(sup) {
+        let list = scan_ticket(alloc, memory, &mut scanner, &mut inodes, ticket)?;
         work.push(list)?;
     }
+    inodes.sort_rows()?;
     Ok((inodes, work))
+}
+
+// Scans the inodes of a ticket's table block: what each is by itself is kept, and what they claim is handed on.
+fn scan_ticket<P: Pmem>(
+    alloc: Global,
+    memory: &P,
+    scanner: &mut Scanner,
+    inodes: &mut Inodes,
+    ticket: u64,
+) -> Result<Vec<(u64, Owner)>, AllocError>
+    requires blocks { HasBlocks (P.region memory.now) scanner.old.blocks }
+    requires areas { HasAreas scanner.old }
+    requires ticket { ticket < ticket_count scanner.old }
+    ensures same { scanner.new ≡ scanner.old }
+    ensures next { IfOk result (λ list. AreNext (P.region memory.now) scanner.old (numbers_of scanner.old ticket) inodes.old inodes.new list.items) }
+{
+    let mut list = Vec::new(alloc);
+    for slot in 0..SLOTS {
+        if let Some(piece) = scanner.scan_place(memory, SLOTS * ticket + slot)? {
+            let Piece {
+                inode: _,
+                row,
+                claims,
+                faults,
+            } = piece;
+            inodes.push(row, &faults)?;
+            list.extend_from_slice(&claims)?;
+        }
+    }
+    Ok(list)
 }
 
 // The claims of this work, made in the order of the schedule.

@@ -5,7 +5,8 @@ ghost use Rattle.std.specs.List.{All};
 ghost use Rattle.nv_region.specs.Region.{HasBlocks};
 ghost use Rattle.nv_super.specs.Layout.{IsLayout};
 ghost use Rattle.nv_claimcore.specs.Claims.{nothing};
-ghost use Rattle.nv_scan.specs.Work.{ticket_count, Returned};
+ghost use Rattle.nv_scan.specs.Tickets.{ticket_count};
+ghost use Rattle.nv_scan.specs.Work.{Returned};
 ghost use Rattle.nv_scan.specs.declared.piece.Piece.{Piece as PieceValue};
 ghost use Rattle.nv_outcome.specs.Parts.{rows_in, faults_in};
 ghost use Rattle.nv_recover.specs.Scanned.{AreInodes, AreClaimed};
@@ -15,7 +16,7 @@ use crate::scanned::Inodes;
 use nv_claimcore::Sizes;
 use nv_claimmap::{ClaimMap, ClaimSeat, Claimed};
 use nv_region::Pmem;
-use nv_scan::{Gate, Piece, WorkerResult, worker};
+use nv_scan::{Gate, Piece, WorkerResult, ticket_count, worker};
 use nv_super::Super;
 use std::alloc::{AllocError, Global};
 use std::thread;
@@ -37,7 +38,7 @@ pub(crate) fn scan_by_workers<P: Pmem + Sync, G: Gate + Sync, H: Threads + Sync>
 {
     let sizes = Sizes {
         blocks: sup.blocks,
-        tickets: sup.max_inode(),
+        tickets: ticket_count(sup),
         workers,
     };
     let (map, seats) = ClaimMap::open(alloc, sizes)?;
@@ -50,8 +51,7 @@ pub(crate) fn scan_by_workers<P: Pmem + Sync, G: Gate + Sync, H: Threads + Sync>
         { worker(alloc, memory, sup, &map, seat, gate) },
     )?;
     let mut brought = join_all(alloc, memory, sup, &map, results)?;
-    // Each worker's rows rise, and a stable sort merges what rises already.
-    brought.inodes.rows.sort_by_key(|row| row.inode)?;
+    brought.inodes.sort_rows()?;
     Ok((brought.inodes, map.close(brought.seat)))
 }
 

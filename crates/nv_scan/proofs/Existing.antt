@@ -46,10 +46,10 @@ a_heap : Global
 a_heap = record { memory = record { seal = tt } }
 
 -- a vector of these elements
-vec_of : {A : Type 0} (xs : List A) → length xs < 2 ^ 63 → Vec A Global
+pub vec_of : {A : Type 0} (xs : List A) → length xs < 2 ^ 63 → Vec A Global
 vec_of xs small = record { ptr = null_ptr; len = length xs; cap = length xs; alloc = a_heap; items = xs; ok = (refl, omega arith); small = small }
 
-vec_items : {A : Type 0} (xs : List A) (small : length xs < 2 ^ 63) → (vec_of xs small).items ≡ xs
+pub vec_items : {A : Type 0} (xs : List A) (small : length xs < 2 ^ 63) → (vec_of xs small).items ≡ xs
 unfolding vec_of
 vec_items xs small = refl
 

@@ -15,5 +15,8 @@ pub mod NamesListed
 pub mod Owned
 pub mod KindsApart
 pub mod Runs
-pub mod Work
 pub mod Existing
+pub mod Places
+pub mod Told
+pub mod Drawn
+pub mod Work

@@ -1,33 +1,133 @@
 -- The work of a worker, ticket by ticket.
-use Rattle.std.proofs.Common.{◌≡◌, ℕ, ◌+◌, ◌-◌, ◌*◌, ◌^◌, ◌<◌, ◌≤◌, nat_lt, Bool, true, false, cond, List, [], ◌∷◌, ◌++◌, map, refl, ap, sym, ◌∙◌, subst, append-nil, arith}
-use Rattle.std.specs.List.{AllByRecursion}
-use Rattle.std.proofs.Math.Nat.{mul-le-mul_right}
+use Rattle.std.proofs.Common.{◌≡◌, ℕ, ◌+◌, ◌-◌, ◌*◌, ◌<◌, ◌≤◌, nat_lt, Bool, true, false, cond, Some, None, List, [], ◌∷◌, ◌++◌, map, Option, refl, ap, sym, ◌∙◌, subst, append-nil, append_assoc, arith}
+use Rattle.std.specs.List.{AllByRecursion, cons_option}
 use Rattle.std.proofs.lemmas.Bool.Decides.{nat_tests}
 use Rattle.std.proofs.lemmas.Grind.{flat_map-append}
 use Rattle.std.proofs.lemmas.List.{map-append}
 use Rattle.std.proofs.lemmas.List.Elements.{filter-append}
+use Rattle.std.proofs.lemmas.List.FromFn.{filter_of_map_range_with_len_more}
 use Rattle.nv_region.specs.Region.{Region}
 use Rattle.nv_super.specs.declared.superblock.Super.{Super}
 use Rattle.nv_super.specs.declared.owners.Owner.{Owner}
-use Rattle.nv_super.specs.Layout.{HasAreas, fixed_layout}
+use Rattle.nv_super.specs.Layout.{fixed_layout}
 use Rattle.nv_claimcore.specs.declared.view.View.{View}
-use Rattle.nv_claimcore.specs.Claims.{above, with_number, nothing}
+use Rattle.nv_claimcore.specs.Claims.{above, with_number, nothing, both_views}
 use Rattle.nv_claimcore.specs.Finished.{pair_of}
+use Rattle.nv_claimcore.specs.Spans.{Adds}
+use Rattle.nv_claimcore.proofs.Runs.{adds_none}
 use Rattle.nv_claimmap.proofs.Seats.{fewer_left}
+use Rattle.nv_inode.proofs.Slots.{number_above}
 use Rattle.nv_scan.specs.Rows.{IsPiece}
-use Rattle.nv_scan.specs.Work.{ticket_count, tickets_among, claims_in, IsWork, IsDone}
+use Rattle.nv_scan.specs.Tickets.{ticket_count, number_at, numbers_to, numbers_of, is_told, told_of, IsFound}
+use Rattle.nv_scan.specs.Work.{tickets_among, numbers_in, claims_in, ArePiecesOf, IsWork, IsDone}
 use Rattle.nv_scan.specs.declared.piece.Piece.{Piece}
+use Rattle.nv_scan.proofs.Runs.{adds_both}
+use Rattle.nv_scan.proofs.Told.{blank_piece}
 
--- an inode's number is small
-pub number_fits : (s : Super) (t : ℕ) → HasAreas s → t < ticket_count s → t + 1 < 2 ^ 64
-number_fits s t areas h =
-    let most : 32 * s.cpus * s.table_blocks ≤ 2048 * s.table_blocks = mul-le-mul_right s.table_blocks (omega (arith, areas.cpus_to)) in
-    omega (arith, most, areas.tables_to)
+-- what holds of two lists holds of both together
+pub AllByRecursion-append : {X : Type 0} (P : X → Type 0) (xs ys : List X) → AllByRecursion P xs → AllByRecursion P ys → AllByRecursion P (xs ++ ys)
+AllByRecursion-append P [] ys p q = q
+AllByRecursion-append P (x ∷ xs) ys p q = (p.0, AllByRecursion-append P xs ys p.1 q)
 
--- one element more, of which P holds too
-each_more : {A : Type 0} (P : A → Type 0) (xs : List A) (x : A) → AllByRecursion P xs → P x → AllByRecursion P (xs ++ x ∷ [])
-each_more P [] x all one = (one, tt)
-each_more P (y ∷ xs) x all one = (all.0, each_more P xs x all.1 one)
+pub claims_join : (ps qs : List Piece) → claims_in (ps ++ qs) ≡ claims_in ps ++ claims_in qs
+claims_join ps qs = flat_map-append (λ (p : Piece). p.claims.items) ps qs
+
+-- of one piece
+told_one : (p : Piece) (b : Bool) → is_told p ≡ b → told_of (p ∷ []) ≡ cond b (p ∷ []) []
+told_one p true e = ap (λ (b : Bool). cond b (p ∷ []) []) e
+told_one p false e = ap (λ (b : Bool). cond b (p ∷ []) []) e
+
+-- the numbers of one slot more
+numbers_more : (s : Super) (t k m : ℕ) (b : Bool) → 32 * t + k ≡ m → nat_lt 0 (number_at s m) ≡ b → numbers_to s t (k + 1) ≡ numbers_to s t k ++ cond b (number_at s m ∷ []) []
+numbers_more s t k m b here e = filter_of_map_range_with_len_more (λ i. nat_lt 0 i) (number_at s) (32 * t) k m here ∙ ap (λ (b : Bool). numbers_to s t k ++ cond b (number_at s m ∷ []) []) e
+
+-- What one slot more adds: the number of its inode, but for number 0, with a piece, of which that is kept which is found.
+pub record AtSlot (R : Region) (s : Super) (t k : ℕ) (o : Option Piece) : Type 0 where
+  pub numbers : List ℕ
+  pub more : numbers_to s t (k + 1) ≡ numbers_to s t k ++ numbers
+  pub pieces : List Piece
+  pub are : ArePiecesOf R s numbers pieces
+  pub told : told_of pieces ≡ cons_option o []
+  pub claims : claims_in pieces ≡ claims_in (cons_option o [])
+
+module _ {R : Region} {s : Super} where
+  -- ---- pieces of some inodes
+
+  pub pieces_none : ArePiecesOf R s [] []
+  pieces_none = record { each = tt; order = refl }
+
+  pub pieces_join : {ns ms : List ℕ} {ps qs : List Piece} → ArePiecesOf R s ns ps → ArePiecesOf R s ms qs → ArePiecesOf R s (ns ++ ms) (ps ++ qs)
+  pieces_join {ps = ps} {qs = qs} p q = record {
+    each = AllByRecursion-append (IsPiece R (fixed_layout s)) ps qs p.each q.each;
+    order = map-append (λ (x : Piece). x.inode) ps qs ∙ (λ i. p.order i ++ q.order i);
+  }
+
+  one_piece : {i : ℕ} (p : Piece) → p.inode ≡ i → IsPiece R (fixed_layout s) p → ArePiecesOf R s (i ∷ []) (p ∷ [])
+  one_piece p same is = record { each = (is, tt); order = ap (λ j. j ∷ []) same }
+
+  -- ---- some inodes are done
+
+  pub done_none : {v : View} {old : List Piece} → IsDone R s [] v v old old
+  done_none {v} {old} = record { pieces = []; are = pieces_none; claims = adds_none v; told = sym (append-nil old) }
+
+  -- those, and then the others
+  done_join : {ns ms : List ℕ} {v u w : View} {old mid new : List Piece} → IsDone R s ns v u old mid → IsDone R s ms u w mid new → IsDone R s (ns ++ ms) v w old new
+  done_join {v = v} {u = u} {w = w} {old = old} p q = record {
+    pieces = p.pieces ++ q.pieces;
+    are = pieces_join p.are q.are;
+    claims = subst (λ (cs : List (ℕ × Owner)). Adds cs v w) (sym (claims_join p.pieces q.pieces)) (adds_both (claims_in p.pieces) (claims_in q.pieces) v u w p.claims q.claims);
+    told = q.told ∙ ap (λ (xs : List Piece). xs ++ told_of q.pieces) p.told ∙ append_assoc old (told_of p.pieces) (told_of q.pieces) ∙ ap (λ (xs : List Piece). old ++ xs) (sym (filter-append is_told p.pieces q.pieces));
+  }
+
+  -- ---- the slots of a ticket, one after another
+
+  pub at_slot : (t k m : ℕ) (o : Option Piece) → 32 * t + k ≡ m → IsFound R s (number_at s m) o → AtSlot R s t k o
+  at_slot t k m (Some p) here found = let above : 0 < number_at s m = number_above s (number_at s m) found.1 in record {
+    numbers = number_at s m ∷ [];
+    more = numbers_more s t k m true here (grind (arith, nat_tests));
+    pieces = p ∷ [];
+    are = one_piece p found.0 found.2;
+    told = told_one p true found.3;
+    claims = refl;
+  }
+  at_slot t k m None here found = test (nat_lt 0 (number_at s m)) refl where
+    test : (b : Bool) → nat_lt 0 (number_at s m) ≡ b → AtSlot R s t k None
+    test true e = let p = blank_piece R (fixed_layout s) (number_at s m) found in record {
+      numbers = number_at s m ∷ [];
+      more = numbers_more s t k m true here e;
+      pieces = p.0 ∷ [];
+      are = one_piece p.0 p.1 p.2;
+      told = told_one p.0 false p.4;
+      claims = append-nil p.0.claims.items ∙ p.3;
+    }
+    test false e = record { numbers = []; more = numbers_more s t k m false here e; pieces = []; are = pieces_none; told = refl; claims = refl }
+
+  slot_done : {t k : ℕ} {o : Option Piece} {v u w : View} {old mid new : List Piece} → AtSlot R s t k o → IsDone R s (numbers_to s t k) v u old mid → Adds (claims_in (cons_option o [])) u w → new ≡ mid ++ cons_option o []
+      → IsDone R s (numbers_to s t (k + 1)) v w old new
+  slot_done {v = v} {u = u} {w = w} {old = old} {mid = mid} {new = new} at done adds kept = subst (λ (ns : List ℕ). IsDone R s ns v w old new) (sym at.more) (done_join done record {
+    pieces = at.pieces;
+    are = at.are;
+    claims = subst (λ (cs : List (ℕ × Owner)). Adds cs u w) (sym at.claims) adds;
+    told = kept ∙ ap (λ (xs : List Piece). mid ++ xs) (sym at.told);
+  })
+
+  -- a slot whose inode's piece is kept
+  pub slot_kept : (t k m : ℕ) {v u w : View} {old mid new : List Piece} (p : Piece) → 32 * t + k ≡ m → IsFound R s (number_at s m) (Some p)
+      → IsDone R s (numbers_to s t k) v u old mid → Adds p.claims.items u w → new ≡ mid ++ p ∷ [] → IsDone R s (numbers_to s t (k + 1)) v w old new
+  slot_kept t k m {u = u} {w = w} p here found done adds kept =
+      slot_done (at_slot t k m (Some p) here found) done (subst (λ (cs : List (ℕ × Owner)). Adds cs u w) (sym (append-nil p.claims.items)) adds) kept
+
+  -- a slot of which nothing is told
+  pub slot_blank : (t k m : ℕ) {v u : View} {old mid : List Piece} → 32 * t + k ≡ m → IsFound R s (number_at s m) None
+      → IsDone R s (numbers_to s t k) v u old mid → IsDone R s (numbers_to s t (k + 1)) v u old mid
+  slot_blank t k m {u = u} {mid = mid} here found done = slot_done (at_slot t k m None here found) done (adds_none u) (sym (append-nil mid))
+
+  -- all slots of its table block
+  pub all_slots : (t k : ℕ) {v w : View} {old new : List Piece} → k ≡ 32 → IsDone R s (numbers_to s t k) v w old new → IsDone R s (numbers_of s t) v w old new
+  unfolding numbers_of
+  all_slots t k {v} {w} {old} {new} all done = subst (λ (n : ℕ). IsDone R s (numbers_to s t n) v w old new) all done
+
+-- ---- the tickets, one after another
 
 among_one : (tickets n : ℕ) (b : Bool) → nat_lt n tickets ≡ b → tickets_among tickets (n ∷ []) ≡ cond b (n ∷ []) []
 among_one tickets n true h = rw h refl
@@ -38,38 +138,52 @@ among_more : (tickets : ℕ) (ns : List ℕ) (n : ℕ) (b : Bool) → nat_lt n t
 among_more tickets ns n b h = filter-append (λ (m : ℕ). nat_lt m tickets) ns (n ∷ []) ∙ ap (λ (ms : List ℕ). tickets_among tickets ns ++ ms) (among_one tickets n b h)
 
 -- no work was done
-pub work_none : (R : Region) (s : Super) (v : View) (pieces : List Piece) → v ≡ nothing 1 → pieces ≡ [] → IsWork R s v pieces
-work_none R s v pieces is none = rw (is, none) record { each = tt; tickets = refl; claims = refl }
+pub work_none : (R : Region) (s : Super) (v : View) (kept : List Piece) → v ≡ nothing 1 → kept ≡ [] → IsWork R s v kept
+work_none R s v kept is none = rw (is, none) record { pieces = []; are = pieces_none; claims = refl; told = refl }
 
 -- a number past the end is no work
-pub work_past : (R : Region) (s : Super) (v w : View) (pieces : List Piece) (n : ℕ) → IsWork R s v pieces → ticket_count s ≤ n → w ≡ with_number v n → IsWork R s w pieces
-work_past R s v w pieces n work past is =
+pub work_past : (R : Region) (s : Super) (v w : View) (kept : List Piece) (n : ℕ) → IsWork R s v kept → ticket_count s ≤ n → w ≡ with_number v n → IsWork R s w kept
+work_past R s v w kept n work past is =
     let not_below : nat_lt n (ticket_count s) ≡ false = grind (arith, nat_tests, past) in
-    subst (λ (u : View). IsWork R s u pieces) (sym is) record {
-      each = work.each;
-      tickets = work.tickets ∙ ap (map (λ t. t + 1)) (sym (append-nil (tickets_among (ticket_count s) v.numbers)) ∙ sym (among_more (ticket_count s) v.numbers n false not_below));
+    subst (λ (u : View). IsWork R s u kept) (sym is) record {
+      pieces = work.pieces;
+      are = subst (λ (ts : List ℕ). ArePiecesOf R s (numbers_in s ts) work.pieces) (sym (append-nil (tickets_among (ticket_count s) v.numbers)) ∙ sym (among_more (ticket_count s) v.numbers n false not_below)) work.are;
       claims = work.claims;
+      told = work.told;
     }
 
-claims_more : (pieces : List Piece) (piece : Piece) → claims_in (pieces ++ piece ∷ []) ≡ claims_in pieces ++ piece.claims.items
-claims_more pieces piece = flat_map-append (λ (p : Piece). p.claims.items) pieces (piece ∷ []) ∙ ap (λ (ps : List (ℕ × Owner)). claims_in pieces ++ ps) (append-nil piece.claims.items)
-
 -- the work of one ticket more
-pub work_more : (R : Region) (s : Super) (v u w : View) (old new : List Piece) (t : ℕ) → IsWork R s v old → t < ticket_count s → u ≡ with_number v t → IsDone R s t u w old new → IsWork R s w new
+pub work_more : (R : Region) (s : Super) (v u w : View) (old new : List Piece) (t : ℕ) → IsWork R s v old → t < ticket_count s → u ≡ with_number v t → IsDone R s (numbers_of s t) u w old new → IsWork R s w new
 work_more R s v u w old new t work low is done =
     let below : nat_lt t (ticket_count s) ≡ true = grind (arith, nat_tests, low) in
     let added = done.claims.2 in
     let numbers : w.numbers ≡ v.numbers ++ t ∷ [] = done.claims.1 ∙ ap (λ (x : View). x.numbers) is in
     let records : w.records ≡ v.records ++ added.0 = added.1 ∙ ap (λ (x : View). x.records ++ added.0) is in
-    subst (IsWork R s w) (sym done.kept) record {
-      each = each_more (IsPiece R (fixed_layout s)) old done.piece work.each done.is;
-      tickets = map-append (λ (p : Piece). p.inode) old (done.piece ∷ []) ∙ (λ i. work.tickets i ++ done.inode i ∷ [])
-          ∙ sym (map-append (λ k. k + 1) (tickets_among (ticket_count s) v.numbers) (t ∷ []))
-          ∙ ap (map (λ k. k + 1)) (sym (among_more (ticket_count s) v.numbers t true below) ∙ ap (tickets_among (ticket_count s)) (sym numbers));
-      claims = ap (map pair_of) records ∙ map-append pair_of v.records added.0 ∙ (λ i. work.claims i ++ added.2 i) ∙ sym (claims_more old done.piece);
+    let tickets : tickets_among (ticket_count s) w.numbers ≡ tickets_among (ticket_count s) v.numbers ++ t ∷ [] = ap (tickets_among (ticket_count s)) numbers ∙ among_more (ticket_count s) v.numbers t true below in
+    let inodes : numbers_in s (tickets_among (ticket_count s) w.numbers) ≡ numbers_in s (tickets_among (ticket_count s) v.numbers) ++ numbers_of s t =
+    ap (numbers_in s) tickets ∙ flat_map-append (numbers_of s) (tickets_among (ticket_count s) v.numbers) (t ∷ [])
+    ∙ ap (λ (ns : List ℕ). numbers_in s (tickets_among (ticket_count s) v.numbers) ++ ns) (append-nil (numbers_of s t)) in
+    record {
+      pieces = work.pieces ++ done.pieces;
+      are = subst (λ (ns : List ℕ). ArePiecesOf R s ns (work.pieces ++ done.pieces)) (sym inodes) (pieces_join work.are done.are);
+      claims = ap (map pair_of) records ∙ map-append pair_of v.records added.0 ∙ (λ i. work.claims i ++ added.2 i) ∙ sym (claims_join work.pieces done.pieces);
+      told = done.told ∙ ap (λ (xs : List Piece). xs ++ told_of done.pieces) work.told ∙ sym (filter-append is_told work.pieces done.pieces);
     }
 
 -- what is left to draw gets less with each ticket
-pub nearer : (R : Region) (s : Super) (tickets t : ℕ) (v u w : View) (old new : List Piece) → above v.numbers ≤ t → t < tickets → u ≡ with_number v t → IsDone R s t u w old new
+pub nearer : (R : Region) (s : Super) (tickets t : ℕ) (ns : List ℕ) (v u w : View) (old new : List Piece) → above v.numbers ≤ t → t < tickets → u ≡ with_number v t → IsDone R s ns u w old new
     → tickets - above w.numbers < tickets - above v.numbers
-nearer R s tickets t v u w old new low l is done = subst (λ (ns : List ℕ). tickets - above ns < tickets - above v.numbers) (sym done.claims.1) (fewer_left tickets t v u low l is)
+nearer R s tickets t ns v u w old new low l is done = subst (λ (ns : List ℕ). tickets - above ns < tickets - above v.numbers) (sym done.claims.1) (fewer_left tickets t v u low l is)
+
+-- ---- works that are brought together
+
+-- The work of two views together.
+pub work_joins : (R : Region) (s : Super) (v u : View) (old new : List Piece) → IsWork R s v old → IsWork R s u new → IsWork R s (both_views v u) (old ++ new)
+work_joins R s v u old new p q = record {
+  pieces = p.pieces ++ q.pieces;
+  are = subst (λ (ns : List ℕ). ArePiecesOf R s ns (p.pieces ++ q.pieces))
+      (sym (ap (numbers_in s) (filter-append (λ n. nat_lt n (ticket_count s)) v.numbers u.numbers) ∙ flat_map-append (numbers_of s) (tickets_among (ticket_count s) v.numbers) (tickets_among (ticket_count s) u.numbers)))
+      (pieces_join p.are q.are);
+  claims = map-append pair_of v.records u.records ∙ (λ i. p.claims i ++ q.claims i) ∙ sym (claims_join p.pieces q.pieces);
+  told = (λ i. p.told i ++ q.told i) ∙ sym (filter-append is_told p.pieces q.pieces);
+}

@@ -8,6 +8,7 @@ pub mod Fold
 pub mod Reading
 pub mod Claims
 pub mod Scanned
+pub mod Tickets
 pub mod Work
 pub mod Scanner
 pub mod Claiming

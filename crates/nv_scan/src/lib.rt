@@ -17,14 +17,16 @@ mod pages;
 mod piece;
 mod reading;
 mod scan;
+mod tickets;
 mod working;
 
 pub use laws::{
     directories_have_no_pages, files_have_no_names, in_use_by_the_slot, inode_alone,
     mapped_pages_begin_below_the_size, names_are_listed, one_block, one_inode,
-    owned_blocks_are_data_blocks,
+    owned_blocks_are_data_blocks, tickets_are_table_blocks,
 };
 pub use numbers::Numbers;
 pub use piece::{Piece, Row};
 pub use scan::{Scanner, scan_slot};
+pub use tickets::{SLOTS, ticket_count};
 pub use working::{Gate, NoGate, WorkerResult, worker};

@@ -1,21 +1,23 @@
 //! One inode: its slot and its log become its row, the blocks that it claims and its faults.
 
-ghost use Rattle.std.specs.Prelude.{◌≡◌, ◌++◌, [], IfOk, IfSome, OnOk, IsTrue, Some, true};
+ghost use Rattle.std.specs.Prelude.{◌≡◌, ◌++◌, ◌<◌, [], IfOk, IfSome, OnOk, IsTrue, Some, true};
 ghost use Rattle.std.specs.List.{cons_option};
 ghost use Rattle.nv_region.specs.Region.{HasBlocks};
-ghost use Rattle.nv_super.specs.Layout.{IsLayout, HasAreas, is_number, slot_address, fixed_layout};
+ghost use Rattle.nv_super.specs.Layout.{IsLayout, HasAreas, inode_limit, is_number, slot_address, fixed_layout};
 ghost use Rattle.nv_inode.specs.Slot.{slot_at, kind_of, is_right_log};
 ghost use Rattle.nv_logpage.specs.Progress.{at_head};
 ghost use Rattle.nv_scan.specs.Claims.{AreSmall};
 ghost use Rattle.nv_scan.specs.Rows.{IsPiece};
 ghost use Rattle.nv_scan.specs.Scanned.{IsPieceOf, IsEmptyPiece, fault_of_end};
+ghost use Rattle.nv_scan.specs.Tickets.{IsFound, number_at};
 
 use crate::claims::claims_of;
 use crate::fold::Fold;
 use crate::in_use::InUse;
 use crate::piece::{Piece, Row};
 use crate::reading::{Read, read_log};
-use nv_inode::{Slot, SlotState, read_slot};
+use crate::tickets::number_at;
+use nv_inode::{Slot, SlotState, nth_slot, read_slot};
 use nv_logpage::{LogEnd, LogFault, LogReader};
 use nv_region::Pmem;
 use nv_super::{Fault, Super};
@@ -80,6 +82,25 @@ impl Scanner {
                 &InUse { inode, kind, slot },
             ),
         }
+    }
+
+    /// Scans the inode whose slot has this place in the tables. None where nothing is to be told of it: at the place of
+    /// number 0, which isn't read, and where the valid word is 0, which is all that is loaded then.
+    pub fn scan_place<P: Pmem>(
+        &mut self,
+        memory: &P,
+        place: u64,
+    ) -> Result<Option<Piece>, AllocError>
+        requires blocks { HasBlocks (P.region memory.now) self.old.blocks }
+        requires place { place < inode_limit self.old }
+        ensures same { self.new ≡ self.old }
+        ensures found { IfOk result (IsFound (P.region memory.now) self.old (number_at self.old place)) }
+    {
+        if place == 0 || memory.load(nth_slot(&self.sup, place)) == 0 {
+            return Ok(None);
+        }
+        let inode = number_at(&self.sup, place);
+        Ok(Some(self.scan(memory, inode)?))
     }
 }
 

@@ -1,14 +1,16 @@
-//! A worker of a recovery: it draws tickets until none is left, scans the inode of each and claims what it owns.
+//! A worker of a recovery: it draws tickets until none is left, scans the inodes of each and claims what they own.
 
 ghost use Rattle.std.specs.Prelude.{◌≡◌, ◌<◌, IsTrue, [], OnOk};
 ghost use Rattle.nv_region.specs.Region.{HasBlocks};
 ghost use Rattle.nv_super.specs.Layout.{IsLayout};
 ghost use Rattle.nv_claimcore.specs.Claims.{nothing};
-ghost use Rattle.nv_scan.specs.Work.{ticket_count, IsDone, Returned};
+ghost use Rattle.nv_scan.specs.Tickets.{ticket_count, numbers_of};
+ghost use Rattle.nv_scan.specs.Work.{IsDone, Returned};
 
 use crate::claiming::claim_all;
 use crate::piece::Piece;
 use crate::scan::Scanner;
+use crate::tickets::SLOTS;
 use nv_claimmap::{ClaimMap, ClaimSeat};
 use nv_region::Pmem;
 use nv_super::Super;
@@ -33,14 +35,16 @@ impl Gate for NoGate {
 pub struct WorkerResult {
     /// The seat that it worked by, in every case.
     pub seat: ClaimSeat,
-    /// A piece for each ticket that it drew, in that order; none where it was refused memory.
+    /// The pieces of its tickets' inodes, in the order of the draws, but for those that tell nothing; none where it was
+    /// refused memory.
     pub pieces: Vec<Piece>,
     /// Memory was refused, so the work isn't whole.
     pub refused: bool,
 }
 
-/// Draws tickets until none is left; a ticket is an inode's number less one. After each draw the gate is entered; then
-/// the inode is scanned, and the blocks that it owns are claimed for their owners.
+/// Draws tickets until none is left; a ticket is a table block. After each draw the gate is entered; then the inodes of
+/// the block's slots are scanned one after another, and the blocks that they own are claimed for their owners. A block
+/// of unused slots costs one load for each.
 ///
 /// It stops early only where a growth is refused: then `refused` is true, and there are no pieces.
 pub fn worker<P: Pmem, G: Gate>(
@@ -81,7 +85,8 @@ pub fn worker<P: Pmem, G: Gate>(
     }
 }
 
-/// Does the work of one ticket: its inode is scanned, what the inode owns is claimed, and its piece is kept.
+/// Does the work of one ticket: the inodes of its table block are scanned, what each owns is claimed, and its piece is
+/// kept, if it tells anything.
 fn scan_ticket<P: Pmem>(
     memory: &P,
     scanner: &mut Scanner,
@@ -97,10 +102,13 @@ fn scan_ticket<P: Pmem>(
     requires ticket { ticket < ticket_count scanner.old }
     ensures scanner { scanner.new ≡ scanner.old }
     ensures seat { (seat.new.map ≡ seat.old.map) × (seat.new.number ≡ seat.old.number) × (seat.new.view.seats ≡ seat.old.view.seats) }
-    ensures done { OnOk result (IsDone (P.region memory.now) scanner.old ticket seat.old.view seat.new.view pieces.old.items pieces.new.items) }
+    ensures done { OnOk result (IsDone (P.region memory.now) scanner.old (numbers_of scanner.old ticket) seat.old.view seat.new.view pieces.old.items pieces.new.items) }
 {
-    let piece = scanner.scan(memory, ticket + 1)?;
-    claim_all(map, seat, &piece.claims)?;
-    pieces.push(piece)?;
+    for slot in 0..SLOTS {
+        if let Some(piece) = scanner.scan_place(memory, SLOTS * ticket + slot)? {
+            claim_all(map, seat, &piece.claims)?;
+            pieces.push(piece)?;
+        }
+    }
     Ok(())
 }

@@ -6,7 +6,8 @@ use nv_names::Target;
 use nv_scan::{
     NoGate, Numbers, Piece, Row, Scanner, directories_have_no_pages, files_have_no_names,
     in_use_by_the_slot, inode_alone, mapped_pages_begin_below_the_size, names_are_listed,
-    one_block, one_inode, owned_blocks_are_data_blocks, scan_slot, worker,
+    one_block, one_inode, owned_blocks_are_data_blocks, scan_slot, ticket_count,
+    tickets_are_table_blocks, worker,
 };
 use nv_super::{Fault, Kind, Owner};
 use std::alloc::{AllocError, Global};
@@ -258,6 +259,24 @@ fn a_scanner_reads_a_log_again(rt: HostRuntime) -> Result<(), Fail> {
     Ok(())
 }
 
+/// The inode that is told by the slot at a place, if any is.
+fn told_at(alloc: Global, place: u64) -> Result<Option<u64>, Fail>
+    requires { place < 32 }
+{
+    let memory = small_region(alloc, &TWO_INODES)?;
+    let found = Scanner::new(alloc, &SMALL).scan_place(&memory, place)?;
+    Ok(found.map(|piece| piece.inode))
+}
+
+#[test]
+fn slots_in_use_are_told_alone(rt: HostRuntime) -> Result<(), Fail> {
+    assert_eq!(rt; ticket_count(&SMALL), 1);
+    assert_eq!(rt; told_at(rt.alloc(), 0)?, None);
+    assert_eq!(rt; told_at(rt.alloc(), 2)?, Some(2));
+    assert_eq!(rt; told_at(rt.alloc(), 31)?, None);
+    Ok(())
+}
+
 /// What a worker finds in the region of two inodes, and the map closed after it.
 fn worked(alloc: Global) -> Result<(Vec<Piece>, Claimed), Fail> {
     let memory = small_region(alloc, &TWO_INODES)?;
@@ -271,7 +290,7 @@ fn worked(alloc: Global) -> Result<(Vec<Piece>, Claimed), Fail> {
 }
 
 fn assert_pieces(rt: &impl Abort, pieces: &[Piece]) {
-    assert!(rt; pieces.len() == 31);
+    assert!(rt; pieces.len() == 2);
     assert_claims(rt, &pieces[1], &OWNED_BY_FILE);
 }
 
@@ -301,5 +320,6 @@ fn the_laws_can_be_called(rt: HostRuntime) {
     files_have_no_names();
     directories_have_no_pages();
     mapped_pages_begin_below_the_size();
+    tickets_are_table_blocks();
     assert!(rt; true);
 }

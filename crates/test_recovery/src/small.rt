@@ -19,6 +19,15 @@ pub const SMALL: Super = Super {
     state: 0,
 };
 
+/// The same with two table blocks. The slot of inode `i` begins there too, and the data blocks are 4 to 15.
+pub const TWO_TABLES: Super = Super {
+    version: 1,
+    cpus: 1,
+    blocks: 16,
+    table_blocks: 2,
+    state: 0,
+};
+
 /// A word at its address.
 pub type Word = (u64, u64);
 
@@ -40,11 +49,11 @@ pub fn small_region(alloc: Global, words: &[Word]) -> Result<MemRegion, RegionRe
 
 /// A claim map of the small region for one worker, with its seat.
 pub fn opened_for_one(alloc: Global) -> Result<(ClaimMap, ClaimSeat), AllocError>
-    ensures { IfOk result (λ r. (r.1.map ≡ r.0) × (r.1.view ≡ nothing 1) × (r.0.sizes ≡ record { blocks = 16; tickets = 31; workers = 1 })) }
+    ensures { IfOk result (λ r. (r.1.map ≡ r.0) × (r.1.view ≡ nothing 1) × (r.0.sizes ≡ record { blocks = 16; tickets = 1; workers = 1 })) }
 {
     let sizes = Sizes {
         blocks: 16,
-        tickets: 31,
+        tickets: 1,
         workers: 1,
     };
     let (map, mut seats) = ClaimMap::open(alloc, sizes)?;
@@ -54,13 +63,13 @@ pub fn opened_for_one(alloc: Global) -> Result<(ClaimMap, ClaimSeat), AllocError
     Ok((map, seat))
 }
 
-/// A claim map of the small region for two workers, with the seat of the second.
+/// A claim map of the region of two table blocks for two workers, with the seat of the second.
 pub fn opened_for_two(alloc: Global) -> Result<(ClaimMap, ClaimSeat), AllocError>
-    ensures { IfOk result (λ r. (r.1.map ≡ r.0) × (r.1.view ≡ nothing 1) × (r.0.sizes ≡ record { blocks = 16; tickets = 31; workers = 2 })) }
+    ensures { IfOk result (λ r. (r.1.map ≡ r.0) × (r.1.view ≡ nothing 1) × (r.0.sizes ≡ record { blocks = 16; tickets = 2; workers = 2 })) }
 {
     let sizes = Sizes {
         blocks: 16,
-        tickets: 31,
+        tickets: 2,
         workers: 2,
     };
     let (map, mut seats) = ClaimMap::open(alloc, sizes)?;

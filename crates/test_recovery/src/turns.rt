@@ -1,25 +1,28 @@
-//! A worker enters its gate once for each ticket, by its number, and before it loads the slot of the ticket's inode.
+//! A worker enters its gate once for each ticket, by its number, and before it loads a slot of the ticket's block.
 
-use crate::small::{SMALL, opened_for_two, small_region};
+use crate::small::{TWO_TABLES, opened_for_two, small_region};
 use crate::watched::{Watch, WatchedRegion};
-use nv_scan::{Gate, worker};
+use nv_scan::{Gate, SLOTS, worker};
 use std::sync::atomic::{AtomicBool, AtomicU64, Ordering};
 use std::test::Fail;
 
-/// The valid words of inodes 1 to 31, whose tickets are 0 to 30.
-const FIRST_SLOT: u64 = 8320;
+/// The valid words of inodes 0 to 63, in the blocks of tickets 0 and 1.
+const FIRST_SLOT: u64 = 8192;
 
-const LAST_SLOT: u64 = 12160;
+const LAST_SLOT: u64 = 16256;
 
 const SLOT_SIZE: u64 = 128;
 
-/// Tickets 0 to 30, each as a bit.
-const ALL_TICKETS: u64 = 0x7fff_ffff;
+/// Tickets 0 and 1, each as a bit.
+const ALL_TICKETS: u64 = 3;
+
+/// Inodes 1 to 63, each as a bit: number 0 isn't read.
+const ALL_INODES: u64 = 0xffff_ffff_ffff_fffe;
 
 /// The number of the worker under test, which is the second of two.
 const WORKER: u32 = 1;
 
-/// What a worker's gate and its region saw. Ticket `t` is bit `t`.
+/// What a worker's gate and its region saw. Ticket `t` and inode `i` are bits `t` and `i`.
 #[derive(Drop)]
 struct Seen {
     entered: AtomicU64,
@@ -44,24 +47,23 @@ impl Seen {
         }
     }
 
-    /// The slot of a ticket is loaded once the ticket was entered.
-    fn load_slot(&self, ticket: u64) {
-        let bit = bit_of(ticket);
-        self.loaded.fetch_or(bit, Ordering::SeqCst);
-        if self.entered.load(Ordering::SeqCst) & bit == 0 {
+    /// The slot of an inode is loaded once its ticket was entered.
+    fn load_slot(&self, inode: u64) {
+        self.loaded.fetch_or(bit_of(inode), Ordering::SeqCst);
+        if self.entered.load(Ordering::SeqCst) & bit_of(inode / SLOTS) == 0 {
             self.out_of_turn.store(true, Ordering::SeqCst);
         }
     }
 
     fn all_in_turn(&self) -> bool {
         self.entered.load(Ordering::SeqCst) == ALL_TICKETS
-            && self.loaded.load(Ordering::SeqCst) == ALL_TICKETS
+            && self.loaded.load(Ordering::SeqCst) == ALL_INODES
             && !self.out_of_turn.load(Ordering::SeqCst)
     }
 }
 
-fn bit_of(ticket: u64) -> u64 {
-    if ticket < 64 { 1 << ticket } else { 0 }
+fn bit_of(number: u64) -> u64 {
+    if number < 64 { 1 << number } else { 0 }
 }
 
 impl Gate for Seen {
@@ -79,7 +81,7 @@ impl Watch for Seen {
 }
 
 #[test]
-fn the_gate_is_entered_once_for_each_ticket_before_its_slot_is_loaded(
+fn the_gate_is_entered_once_for_each_ticket_before_its_slots_are_loaded(
     rt: HostRuntime,
 ) -> Result<(), Fail> {
     let region = WatchedRegion {
@@ -87,7 +89,7 @@ fn the_gate_is_entered_once_for_each_ticket_before_its_slot_is_loaded(
         watch: Seen::new(),
     };
     let (map, seat) = opened_for_two(rt.alloc())?;
-    let done = worker(rt.alloc(), &region, &SMALL, &map, seat, &region.watch);
+    let done = worker(rt.alloc(), &region, &TWO_TABLES, &map, seat, &region.watch);
     assert!(rt; !done.refused);
     assert!(rt; region.watch.all_in_turn());
     Ok(())

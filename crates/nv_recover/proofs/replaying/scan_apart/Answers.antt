@@ -1,35 +1,55 @@
-use Rattle.std.proofs.Common.{◌≡◌, ◌+◌, ◌-◌, ◌++◌, ◌∷◌, [], ◌∙◌, arith, subst}
+use Rattle.std.proofs.Common.{◌≡◌, ◌∙◌, ℕ, List, sym, ap, subst, arith}
+use Rattle.std.specs.List.{range_with_len}
+use Rattle.std.specs.List.Sorted.{IsPermutation}
+use Rattle.std.proofs.lemmas.List.FromFn.{length-range_with_len}
 use Rattle.nv_super.specs.declared.superblock.Super.{Super}
-use Rattle.nv_super.specs.Layout.{inode_limit}
-use Rattle.nv_recover.specs.Scanned.{IsNext}
-use Rattle.nv_recover.proofs.Claims.{lists_one_more}
-use Rattle.nv_recover.proofs.Inodes.{first_none, first_more, all_first}
+use Rattle.nv_scan.specs.Tickets.{ticket_count, numbers_of}
+use Rattle.nv_scan.specs.Work.{claims_in}
+use Rattle.nv_scan.specs.declared.piece.Row.{Row}
+use Rattle.nv_scan.proofs.Drawn.{all_times}
+use Rattle.nv_outcome.specs.Parts.{faults_in}
+use Rattle.nv_recover.specs.Scanned.{AreNext, AreOfTickets}
+use Rattle.nv_recover.proofs.InOrder.{tickets_in_order}
+use Rattle.nv_recover.proofs.Tickets.{tickets_none, tickets_more}
 use Rattle.nv_recover.proofs.replaying.scan_apart.Goals as goal
 
-pub loop-inode-init : goal.loop-inode-init
-loop-inode-init g c = record {
+pub loop-ticket-init : goal.loop-ticket-init
+loop-ticket-init g c = record {
   same = c.new-scanner.ensures;
-  first = ([], first_none c.new-inodes.ensures.rows c.new-inodes.ensures.faults, c.new-work.ensures.items);
+  first = tickets_none c.new-inodes.ensures.rows c.new-inodes.ensures.faults c.new-work.ensures.items;
 }
 
-pub loop-inode-preserved : goal.loop-inode-preserved
-loop-inode-preserved g c =
+pub loop-ticket-preserved : goal.loop-ticket-preserved
+loop-ticket-preserved g c =
     let R = g.P.Pmem.region c.args.memory.now in
-    let l = c.loop-inode in
-    let next = subst (λ (s : Super). IsNext R s l.inode l.inodes c.scan_next.new.inodes c.in_ok-list.list) l.invariant.same c.in_ok-list.ensures.next in
-    let pieces = l.invariant.first.0 in record {
-      same = c.scan_next.ensures.same ∙ l.invariant.same;
-      first = (
-        pieces ++ next.piece ∷ [],
-        first_more (omega (arith, l.auto.inode)) l.invariant.first.1 next,
-        lists_one_more pieces next.piece l.invariant.first.2 next.claims_are c.in_ok-push.ensures.items,
-      );
+    let l = c.loop-ticket in
+    let t = l.ticket in
+    record {
+      same = c.scan_ticket.ensures.same ∙ l.invariant.same;
+      first = tickets_more t c.in_ok-list.list l.invariant.first
+          (subst (λ (s : Super). AreNext R s (numbers_of s t) l.inodes c.scan_ticket.new.inodes c.in_ok-list.list.items) l.invariant.same c.in_ok-list.ensures.next) c.in_ok-push.ensures.items;
     }
 
-pub returns : goal.returns
-returns g c =
+pub returns-clause-inodes : goal.returns-clause-inodes
+returns-clause-inodes g c =
+    let R = g.P.Pmem.region c.args.memory.now in
     let s = c.args.sup.now in
-    let l = c.loop-inode in
-    let end = c.loop-inode-test.false in
-    let limit : inode_limit s - 1 + 1 ≡ l.inode = omega (arith, c.max_inode-inode-end.ensures, end, l.auto.inode) in
-    (l.invariant.first.0, all_first c.requires.layout (omega (arith, limit)) l.invariant.first.1, l.invariant.first.2)
+    let l = c.loop-ticket in
+    let past = c.loop-ticket-test.false in
+    let last : l.ticket ≡ ticket_count s = omega (arith, c.ticket_count-ticket-end.ensures, past, l.auto.ticket-end) in
+    let all = subst (λ (n : ℕ). AreOfTickets R s (range_with_len 0 n) l.inodes l.work.items) last l.invariant.first in
+    let rows = c.sort_rows.new.self.rows.items in
+    let moved = subst (λ (old : List Row). IsPermutation old rows) all.rows c.in_ok-sort_rows.ensures.same in
+    let order = tickets_in_order R s (range_with_len 0 (ticket_count s)) all.pieces rows c.requires.layout all.are (all_times (ticket_count s)) moved c.in_ok-sort_rows.ensures.sorted in
+    let kept : c.sort_rows.new.self.faults.items ≡ faults_in all.pieces = ap (λ fs. fs.items) c.in_ok-sort_rows.ensures.faults ∙ all.faults in (
+      order.sorted,
+      record { pieces_are = order.pieces_are; rows = order.rows_are; faults = subst (IsPermutation (faults_in order.sorted)) (sym kept) order.faults },
+      subst (IsPermutation (claims_in order.sorted)) (sym all.claims_are) order.claims,
+    )
+
+pub returns-clause-tickets : goal.returns-clause-tickets
+returns-clause-tickets g c =
+    let l = c.loop-ticket in
+    let past = c.loop-ticket-test.false in
+    let count = l.invariant.first.lists_are ∙ length-range_with_len 0 l.ticket in
+    omega (arith, count, c.ticket_count-ticket-end.ensures, past, l.auto.ticket-end)

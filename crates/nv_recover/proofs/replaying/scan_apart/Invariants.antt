@@ -1,10 +1,10 @@
-use Rattle.std.proofs.Common.{◌≡◌, List, map}
-use Rattle.nv_scan.specs.declared.piece.Piece.{Piece}
-use Rattle.nv_recover.specs.Scanned.{AreFirst, claims_of_piece}
+use Rattle.std.proofs.Common.{◌≡◌}
+use Rattle.std.specs.List.{range_with_len}
+use Rattle.nv_recover.specs.Scanned.{AreOfTickets}
 use Rattle.nv_recover.proofs.replaying.scan_apart.Given as goal
 
-abbrev pub invariant-loop-inode : goal.invariant-loop-inode
-invariant-loop-inode g l = record {
+abbrev pub invariant-loop-ticket : goal.invariant-loop-ticket
+invariant-loop-ticket g l = record {
   same : l.scanner ≡ l.sup;
-  first : (pieces : List Piece) × AreFirst (g.P.Pmem.region l.memory) l.sup l.inode pieces l.inodes × (l.work.items ≡ map claims_of_piece pieces);
+  first : AreOfTickets (g.P.Pmem.region l.memory) l.sup (range_with_len 0 l.ticket) l.inodes l.work.items;
 }

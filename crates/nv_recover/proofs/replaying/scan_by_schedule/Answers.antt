@@ -1,21 +1,19 @@
-use Rattle.std.proofs.Common.{ap, ◌∙◌}
-use Rattle.nv_claimcore.specs.Replay.{lists}
-use Rattle.nv_recover.proofs.Claims.{work_inside, lists_apart, claimed_by_sets}
+use Rattle.nv_recover.proofs.Claims.{work_inside, claimed_by_sets}
 use Rattle.nv_recover.proofs.Inodes.{rows_ordered, cross_same}
 use Rattle.nv_recover.proofs.replaying.scan_by_schedule.Goals as goal
 
 pub claim_all-requires-clause-inside : goal.claim_all-requires-clause-inside
-claim_all-requires-clause-inside g c = let is = c.in_ok-inodes.ensures in
-    work_inside c.args.sup.now is.0 is.1.pieces_are (lists c.in_ok-inodes.work.items) (ap lists is.2 ∙ lists_apart is.0)
+claim_all-requires-clause-inside g c = let is = c.in_ok-inodes.ensures.inodes in
+    work_inside c.args.sup.now is.0 is.1.pieces_are c.in_ok-inodes.work.items is.2
 
 pub cross_faults_one-requires-clause-rising : goal.cross_faults_one-requires-clause-rising
-cross_faults_one-requires-clause-rising g c = (rows_ordered c.requires.layout c.in_ok-inodes.ensures.1 c.deref.result.now c.deref.ensures.value).rising
+cross_faults_one-requires-clause-rising g c = (rows_ordered c.requires.layout c.in_ok-inodes.ensures.inodes.1 c.deref.result.now c.deref.ensures.value).rising
 
 pub cross_faults_one-requires-clause-numbers : goal.cross_faults_one-requires-clause-numbers
-cross_faults_one-requires-clause-numbers g c = (rows_ordered c.requires.layout c.in_ok-inodes.ensures.1 c.deref.result.now c.deref.ensures.value).numbers
+cross_faults_one-requires-clause-numbers g c = (rows_ordered c.requires.layout c.in_ok-inodes.ensures.inodes.1 c.deref.result.now c.deref.ensures.value).numbers
 
 pub returns : goal.returns
-returns g c = let is = c.in_ok-inodes.ensures in record {
+returns g c = let is = c.in_ok-inodes.ensures.inodes in record {
   pieces = is.0;
   inodes = is.1;
   claimed = claimed_by_sets c.args.sup.now is.0 c.in_ok-inodes.work.items c.in_ok-claimed.claimed is.2 c.in_ok-claimed.ensures.claims c.in_ok-claimed.ensures.sets;

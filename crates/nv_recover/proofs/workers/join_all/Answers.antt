@@ -4,11 +4,12 @@ use Rattle.nv_claimcore.specs.declared.view.View.{View}
 use Rattle.nv_claimcore.specs.Claims.{past}
 use Rattle.nv_claimcore.proofs.Runs.{past_both}
 use Rattle.nv_claimmap.specs.Held.{Held}
-use Rattle.nv_scan.specs.Work.{ticket_count, Returned, IsWork}
+use Rattle.nv_scan.specs.Tickets.{ticket_count}
+use Rattle.nv_scan.specs.Work.{Returned, IsWork}
 use Rattle.nv_super.specs.declared.faults.Fault.{Fault}
 use Rattle.nv_scan.specs.declared.piece.Row.{Row}
+use Rattle.nv_scan.proofs.Work.{work_joins}
 use Rattle.nv_outcome.specs.Parts.{rows_in, faults_in}
-use Rattle.nv_outcome.proofs.Tickets.{work_joins}
 use Rattle.nv_recover.proofs.Inodes.{rows_joined, faults_joined}
 use Rattle.nv_recover.proofs.workers.join_all.Goals as goal
 
@@ -18,7 +19,7 @@ loop-next-init g c =
     let s = c.args._sup.now in
     let split = All-pop (Returned R s c.args.map.now) c.args.results.items c.pop.new.self.items (Some c.in-Some.first) c.in-Some.ensures.items c.requires.each in
     let first = split.1 in
-    let pieces = c.in-Some.first.pieces.items in
+    let kept = c.in-Some.first.pieces.items in
     let whole = c.in_ok-seat.ensures.whole in
     let same = c.in_ok-seat.ensures.seat in
     let one : c.in_ok-seat.seat.view.seats ≡ 1 = ap (λ (h : Held). h.view.seats) same ∙ first.seats in
@@ -27,10 +28,10 @@ loop-next-init g c =
       seats = omega (arith, one, len);
       rest = split.0;
       ended = subst (λ (h : Held). 0 < past (ticket_count s) h.view.numbers) (sym same) (first.ended whole);
-      pieces = pieces;
-      work = subst (λ (h : Held). IsWork R s h.view pieces) (sym same) (first.work whole);
-      rows = c.in_ok-seat.ensures.rows ∙ ap (λ (rows : List Row). rows ++ rows_in pieces) c.new-inodes.ensures.rows;
-      faults = c.in_ok-seat.ensures.faults ∙ ap (λ (fs : List Fault). fs ++ faults_in pieces) c.new-inodes.ensures.faults;
+      kept = kept;
+      work = subst (λ (h : Held). IsWork R s h.view kept) (sym same) (first.work whole);
+      rows = c.in_ok-seat.ensures.rows ∙ ap (λ (rows : List Row). rows ++ rows_in kept) c.new-inodes.ensures.rows;
+      faults = c.in_ok-seat.ensures.faults ∙ ap (λ (fs : List Fault). fs ++ faults_in kept) c.new-inodes.ensures.faults;
     }
 
 pub join-requires-clause-other : goal.join-requires-clause-other
@@ -56,10 +57,10 @@ loop-next-preserved g c =
       seats = omega (arith, seats, one, len, l.invariant.seats);
       rest = split.0;
       ended = subst (λ (v : View). 0 < past (ticket_count s) v.numbers) (sym ok.view) (let sum = past_both (ticket_count s) l.seat.view.numbers c.in_ok-other.other.view.numbers in omega (arith, sum, l.invariant.ended));
-      pieces = l.invariant.pieces ++ c.in-Some-pop.next.pieces.items;
-      work = subst (λ (v : View). IsWork R s v (l.invariant.pieces ++ c.in-Some-pop.next.pieces.items)) (sym ok.view)
-          (work_joins R s l.seat.view c.in_ok-other.other.view l.invariant.pieces c.in-Some-pop.next.pieces.items l.invariant.work
+      kept = l.invariant.kept ++ c.in-Some-pop.next.pieces.items;
+      work = subst (λ (v : View). IsWork R s v (l.invariant.kept ++ c.in-Some-pop.next.pieces.items)) (sym ok.view)
+          (work_joins R s l.seat.view c.in_ok-other.other.view l.invariant.kept c.in-Some-pop.next.pieces.items l.invariant.work
           (subst (λ (h : Held). IsWork R s h.view c.in-Some-pop.next.pieces.items) (sym c.in_ok-other.ensures.seat) (next.work c.in_ok-other.ensures.whole)));
-      rows = rows_joined l.invariant.pieces c.in-Some-pop.next.pieces.items l.invariant.rows c.in_ok-other.ensures.rows;
-      faults = faults_joined l.invariant.pieces c.in-Some-pop.next.pieces.items l.invariant.faults c.in_ok-other.ensures.faults;
+      rows = rows_joined l.invariant.kept c.in-Some-pop.next.pieces.items l.invariant.rows c.in_ok-other.ensures.rows;
+      faults = faults_joined l.invariant.kept c.in-Some-pop.next.pieces.items l.invariant.faults c.in_ok-other.ensures.faults;
     }

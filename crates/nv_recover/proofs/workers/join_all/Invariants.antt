@@ -1,7 +1,8 @@
 use Rattle.std.proofs.Common.{◌≡◌, ◌+◌, ◌<◌, List, vec_len}
 use Rattle.std.specs.List.{All}
 use Rattle.nv_claimcore.specs.Claims.{past}
-use Rattle.nv_scan.specs.Work.{ticket_count, Returned, IsWork}
+use Rattle.nv_scan.specs.Tickets.{ticket_count}
+use Rattle.nv_scan.specs.Work.{Returned, IsWork}
 use Rattle.nv_scan.specs.declared.piece.Piece.{Piece}
 use Rattle.nv_outcome.specs.Parts.{rows_in, faults_in}
 use Rattle.nv_recover.proofs.workers.join_all.Given as goal
@@ -12,10 +13,10 @@ invariant-loop-next g l = record {
   seats : l.seat.view.seats + vec_len l.results ≡ vec_len l.fn.results;
   rest : All (Returned (g.P.Pmem.region l._memory) l._sup l.map) l.results.items;
   ended : 0 < past (ticket_count l._sup) l.seat.view.numbers;
-  pieces : List Piece;
-  work : IsWork (g.P.Pmem.region l._memory) l._sup l.seat.view pieces;
-  rows : l.inodes.rows.items ≡ rows_in pieces;
-  faults : l.inodes.faults.items ≡ faults_in pieces;
+  kept : List Piece;
+  work : IsWork (g.P.Pmem.region l._memory) l._sup l.seat.view kept;
+  rows : l.inodes.rows.items ≡ rows_in kept;
+  faults : l.inodes.faults.items ≡ faults_in kept;
 }
 
 abbrev pub decreases-loop-next : goal.decreases-loop-next

@@ -1,15 +1,17 @@
-use Rattle.std.proofs.Common.{◌≡◌, ◌<◌, List, nat_cmp, ap, sym, ◌∙◌, subst, arith, rules}
+use Rattle.std.proofs.Common.{◌≡◌, ◌<◌, List, ap, sym, ◌∙◌, subst, arith}
 use Rattle.std.specs.List.{All}
-use Rattle.std.specs.List.Sorted.{IsPermutation, IsSortedByKey}
-use Rattle.std.proofs.lemmas.List.Sorted.{answers_always}
+use Rattle.std.specs.List.Sorted.{IsPermutation}
 use Rattle.nv_claimcore.specs.Claims.{nothing}
 use Rattle.nv_claimcore.specs.declared.view.Sizes.{Sizes}
 use Rattle.nv_claimcore.proofs.Runs.{all_drawn}
 use Rattle.nv_claimmap.specs.Held.{Held}
-use Rattle.nv_scan.specs.Work.{ticket_count, claims_in}
+use Rattle.nv_scan.specs.Tickets.{ticket_count}
+use Rattle.nv_scan.specs.Work.{tickets_among, claims_in}
 use Rattle.nv_scan.specs.declared.piece.Row.{Row}
-use Rattle.nv_outcome.specs.Parts.{faults_in}
-use Rattle.nv_recover.proofs.InOrder.{work_in_order}
+use Rattle.nv_scan.proofs.Drawn.{among_times}
+use Rattle.nv_outcome.specs.Parts.{rows_in, faults_in}
+use Rattle.nv_outcome.proofs.Tickets.{rows_told, faults_told}
+use Rattle.nv_recover.proofs.InOrder.{tickets_in_order}
 use Rattle.nv_claimmap.proofs.Seats.{fresh_all}
 use Rattle.nv_recover.proofs.workers.scan_by_workers.Goals as goal
 
@@ -20,7 +22,7 @@ map_vec-requires-after_bounds g c κs within = λ i x l is.
       ap (λ (h : Held). h.map) is ∙ here.0,
       ap (λ (h : Held). h.view) is ∙ here.1,
       ap (λ (z : Sizes). z.blocks) c.in_ok-map.ensures.sizes,
-      ap (λ (z : Sizes). z.tickets) c.in_ok-map.ensures.sizes ∙ c.max_inode.ensures,
+      ap (λ (z : Sizes). z.tickets) c.in_ok-map.ensures.sizes ∙ c.ticket_count.ensures,
       c.requires.layout,
       c.requires.blocks,
     )
@@ -30,21 +32,23 @@ returns g c =
     let s = c.args.sup.now in
     let brought = c.in_ok-brought.brought in
     let is = c.in_ok-brought.ensures in
-    let blocks : c.in_ok-map.map.sizes.blocks ≡ c.args.sup.now.blocks = ap (λ (z : Sizes). z.blocks) c.in_ok-map.ensures.sizes in
+    let work = is.work in
+    let blocks : c.in_ok-map.map.sizes.blocks ≡ s.blocks = ap (λ (z : Sizes). z.blocks) c.in_ok-map.ensures.sizes in
     let numbers = c.close.ensures.numbers in
     let past_end : ticket_count s < numbers.0 = all_drawn (ticket_count s) numbers.0 brought.seat.view.numbers numbers.1 is.ended in
-    let rows = c.sort_by_key.new.self.items in
-    let sorted : IsSortedByKey (λ (r : Row). r.inode) nat_cmp c.sort_by_key.new.self.items = c.in_ok-sort_by_key.ensures.sorted (λ (r : Row). r.inode) (answers_always _ _ _ (λ f a r g h. search rules)) in
-    let moved = subst (λ (old : List Row). IsPermutation old c.sort_by_key.new.self.items) is.rows c.in_ok-sort_by_key.ensures.permutation in
-    let order = work_in_order (g.P.Pmem.region c.args.memory.now) s brought.seat.view is.pieces rows numbers.0 c.requires.layout is.work numbers.1 (omega (arith, past_end)) moved sorted in (
+    let drawn = among_times (ticket_count s) numbers.0 brought.seat.view.numbers numbers.1 (omega (arith, past_end)) in
+    let rows = c.sort_rows.new.self.rows.items in
+    let moved = subst (λ (old : List Row). IsPermutation old rows) (is.rows ∙ ap rows_in work.told ∙ rows_told work.pieces) c.in_ok-sort_rows.ensures.same in
+    let order = tickets_in_order (g.P.Pmem.region c.args.memory.now) s (tickets_among (ticket_count s) brought.seat.view.numbers) work.pieces rows c.requires.layout work.are drawn moved c.in_ok-sort_rows.ensures.sorted in
+    let kept : c.sort_rows.new.self.faults.items ≡ faults_in work.pieces = ap (λ fs. fs.items) c.in_ok-sort_rows.ensures.faults ∙ is.faults ∙ ap faults_in work.told ∙ faults_told work.pieces in (
       order.sorted,
       record {
         pieces_are = order.pieces_are;
         rows = order.rows_are;
-        faults = subst (IsPermutation (faults_in order.sorted)) (sym is.faults) order.faults;
+        faults = subst (IsPermutation (faults_in order.sorted)) (sym kept) order.faults;
       },
       record {
-        claimed = subst (IsPermutation (claims_in order.sorted)) (sym (c.close.ensures.claims ∙ is.work.claims)) order.claims;
+        claimed = subst (IsPermutation (claims_in order.sorted)) (sym (c.close.ensures.claims ∙ work.claims)) order.claims;
         maps = record { once = c.close.ensures.first; twice = c.close.ensures.second };
         cover = (omega (arith, c.close.ensures.first_words, blocks), omega (arith, c.close.ensures.second_words, blocks));
       },

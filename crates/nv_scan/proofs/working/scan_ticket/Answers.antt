@@ -1,27 +1,62 @@
-use Rattle.std.proofs.Common.{ℕ, List, sym, subst, arith}
+use Rattle.std.proofs.Common.{◌∙◌, ◌+◌, ◌*◌, ℕ, List, Option, sym, ap, subst, arith, refl}
 use Rattle.std.specs.List.{All}
 use Rattle.nv_super.specs.Layout.{fixed_layout}
+use Rattle.nv_super.specs.declared.superblock.Super.{Super}
 use Rattle.nv_super.specs.declared.owners.Owner.{Owner}
 use Rattle.nv_claimcore.specs.Spans.{Adds}
+use Rattle.nv_claimmap.specs.Held.{Held}
 use Rattle.nv_scan.specs.Claiming.{IsClaimable}
+use Rattle.nv_scan.specs.Tickets.{number_at, numbers_to, IsFound}
+use Rattle.nv_scan.specs.Work.{IsDone}
+use Rattle.nv_scan.specs.declared.piece.Piece.{Piece}
 use Rattle.nv_scan.proofs.Runs.{claims_fit}
-use Rattle.nv_scan.proofs.Work.{number_fits}
+use Rattle.nv_scan.proofs.Work.{all_slots, slot_kept, slot_blank}
 use Rattle.nv_scan.proofs.working.scan_ticket.Goals as goal
-
-pub overflow_add-ticket : goal.overflow_add-ticket
-overflow_add-ticket g c = let small = number_fits c.args.scanner.now c.args.ticket c.requires.layout.areas c.requires.ticket in omega arith
+use Rattle.nv_scan.proofs.working.scan_ticket.Goals.{in-Some+in_ok-claim_all+in_ok-push, in_default}
 
 pub claim_all-requires-clause-each : goal.claim_all-requires-clause-each
 claim_all-requires-clause-each g c =
-    let piece = c.in_ok-piece.piece in
-    let each = claims_fit (g.P.Pmem.region c.args.memory.now) (fixed_layout c.args.scanner.now) piece.inode piece.claims.items c.in_ok-piece.ensures.piece.claims in
+    let R = g.P.Pmem.region c.args.memory.now in
+    let s = c.args.scanner.now in
+    let m = 32 * c.args.ticket + c.loop-slot.slot in
+    let piece = c.in-Some.piece in
+    let found = subst (λ (o : Option Piece). IsFound R s (number_at s m) o) c.in-Some.is (subst (λ (x : Super). IsFound R x (number_at x m) c.in_ok-piece.field-0) c.loop-slot.invariant.scanner c.in_ok-piece.ensures.found) in
+    let each = claims_fit R (fixed_layout s) piece.inode piece.claims.items found.2.claims in
     subst (λ (n : ℕ). All (IsClaimable n) c.deref.result.now) (sym c.requires.sizes) (subst (All (IsClaimable _)) (sym c.deref.ensures.value) each)
 
+pub loop-slot-preserved : goal.loop-slot-preserved
+loop-slot-preserved g c =
+    let R = g.P.Pmem.region c.args.memory.now in
+    let l = c.loop-slot.invariant in
+    let s = c.args.scanner.now in
+    let t = c.args.ticket in
+    let k = c.loop-slot.slot in
+    let v = c.args.seat.now.view in
+    let old = c.args.pieces.now.items in
+    let found = subst (λ (x : Super). IsFound R x (number_at x (32 * t + k)) c.in_ok-piece.field-0) l.scanner c.in_ok-piece.ensures.found in
+    elim c.match-branch-2.branch [
+      | in-Some+in_ok-claim_all+in_ok-push w ↦ (
+          let adds = subst (λ (ps : List (ℕ × Owner)). Adds ps c.loop-slot.seat.view w.claim_all.new.seat.view) w.deref.ensures.value w.in_ok-claim_all.ensures.ok in
+          let done = slot_kept t k (32 * t + k) w.in-Some.piece refl (subst (λ (o : Option Piece). IsFound R s (number_at s (32 * t + k)) o) w.in-Some.is found) l.done adds w.in_ok-push.ensures.items in
+          record {
+            scanner = c.scan_place.ensures.same ∙ l.scanner;
+            map = ap (λ (h : Held). h.map) w.seat-is ∙ w.claim_all.ensures.same.0 ∙ l.map;
+            number = ap (λ (h : Held). h.number) w.seat-is ∙ w.claim_all.ensures.same.1 ∙ l.number;
+            seats = ap (λ (h : Held). h.view.seats) w.seat-is ∙ w.claim_all.ensures.same.2 ∙ l.seats;
+            done = subst (λ (h : Held). IsDone R s (numbers_to s t (k + 1)) v h.view old c.match-branch-2.pieces.items) (sym w.seat-is)
+                (subst (λ (ps : List Piece). IsDone R s (numbers_to s t (k + 1)) v w.claim_all.new.seat.view old ps) (sym (ap (λ ps. ps.items) w.pieces-is)) done);
+          })
+      | in_default w ↦ (
+          let done = slot_blank t k (32 * t + k) refl (subst (λ (o : Option Piece). IsFound R s (number_at s (32 * t + k)) o) w.in_default.is found) l.done in
+          record {
+            scanner = c.scan_place.ensures.same ∙ l.scanner;
+            map = ap (λ (h : Held). h.map) w.seat-is ∙ l.map;
+            number = ap (λ (h : Held). h.number) w.seat-is ∙ l.number;
+            seats = ap (λ (h : Held). h.view.seats) w.seat-is ∙ l.seats;
+            done = subst (λ (h : Held). IsDone R s (numbers_to s t (k + 1)) v h.view old c.match-branch-2.pieces.items) (sym w.seat-is)
+                (subst (λ (ps : List Piece). IsDone R s (numbers_to s t (k + 1)) v c.loop-slot.seat.view old ps) (sym (ap (λ ps. ps.items) w.pieces-is)) done);
+          })
+    ]
+
 pub returns-clause-done : goal.returns-clause-done
-returns-clause-done g c = record {
-  piece = c.in_ok-piece.piece;
-  is = c.in_ok-piece.ensures.piece;
-  inode = c.in_ok-piece.ensures.number;
-  kept = c.in_ok-push.ensures.items;
-  claims = subst (λ (ps : List (ℕ × Owner)). Adds ps c.args.seat.now.view c.claim_all.new.seat.view) c.deref.ensures.value c.in_ok-claim_all.ensures.ok;
-}
+returns-clause-done g c = all_slots c.args.ticket c.loop-slot.slot (let e = c.loop-slot-test.false in let r = c.loop-slot.auto.slot-end in omega (arith, e, r)) c.loop-slot.invariant.done

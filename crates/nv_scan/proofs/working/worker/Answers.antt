@@ -2,6 +2,7 @@ use Rattle.std.proofs.Common.{◌<◌, ◌≤◌, ◌∙◌, ℕ, sym, ap, subst
 use Rattle.nv_super.specs.declared.superblock.Super.{Super}
 use Rattle.nv_claimcore.specs.declared.view.View.{View}
 use Rattle.nv_claimcore.specs.Claims.{past}
+use Rattle.nv_scan.specs.Tickets.{numbers_of}
 use Rattle.nv_scan.specs.Work.{IsWork, IsDone}
 use Rattle.nv_scan.proofs.Work.{work_none, work_past, work_more, nearer}
 use Rattle.nv_scan.proofs.working.worker.Goals as goal
@@ -17,7 +18,7 @@ loop-ticket-init g c = record {
 
 pub loop-ticket-smaller : goal.loop-ticket-smaller
 loop-ticket-smaller g c = let d = c.in-Some.ensures in
-    nearer (g.P.Pmem.region c.args.memory.now) c.loop-ticket.scanner c.args.map.now.sizes.tickets c.in-Some.ticket c.loop-ticket.seat.view c.draw.new.seat.view c.scan_ticket.new.seat.view c.loop-ticket.pieces.items c.scan_ticket.new.pieces.items
+    nearer (g.P.Pmem.region c.args.memory.now) c.loop-ticket.scanner c.args.map.now.sizes.tickets c.in-Some.ticket (numbers_of c.loop-ticket.scanner c.in-Some.ticket) c.loop-ticket.seat.view c.draw.new.seat.view c.scan_ticket.new.seat.view c.loop-ticket.pieces.items c.scan_ticket.new.pieces.items
     d.rises d.some d.joins c.in-Ok.ensures.done
 
 pub loop-ticket-preserved : goal.loop-ticket-preserved
@@ -31,7 +32,7 @@ loop-ticket-preserved g c =
       map = c.scan_ticket.ensures.seat.0 ∙ d.map ∙ l.map;
       number = c.scan_ticket.ensures.seat.1 ∙ d.number ∙ l.number;
       seats = c.scan_ticket.ensures.seat.2 ∙ ap (λ (x : View). x.seats) d.joins ∙ l.seats;
-      work = work_more R s v u w old new t l.work (subst (λ (n : ℕ). t < n) c.requires.sizes.1 d.some) d.joins (subst (λ (x : Super). IsDone R x t u w old new) l.scanner c.in-Ok.ensures.done);
+      work = work_more R s v u w old new t l.work (subst (λ (n : ℕ). t < n) c.requires.sizes.1 d.some) d.joins (subst (λ (x : Super). IsDone R x (numbers_of x t) u w old new) l.scanner c.in-Ok.ensures.done);
     }
 
 pub returns-clause-returned : goal.returns-clause-returned

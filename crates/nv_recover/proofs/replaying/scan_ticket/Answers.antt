@@ -1,0 +1,49 @@
+use Rattle.std.proofs.Common.{◌∙◌, ◌+◌, ◌*◌, ◌++◌, ℕ, List, Some, None, Option, sym, ap, subst, arith, refl, append-nil}
+use Rattle.nv_super.specs.declared.superblock.Super.{Super}
+use Rattle.nv_super.specs.declared.owners.Owner.{Owner}
+use Rattle.nv_super.specs.declared.faults.Fault.{Fault}
+use Rattle.nv_scan.specs.Tickets.{number_at, numbers_to, IsFound}
+use Rattle.nv_scan.specs.declared.piece.Piece.{Piece}
+use Rattle.nv_scan.proofs.Work.{at_slot}
+use Rattle.nv_recover.specs.declared.scanned.Inodes.{Inodes}
+use Rattle.nv_recover.specs.Scanned.{AreNext}
+use Rattle.nv_recover.proofs.Tickets.{next_none, next_slot, next_all}
+use Rattle.nv_recover.proofs.replaying.scan_ticket.Goals as goal
+use Rattle.nv_recover.proofs.replaying.scan_ticket.Goals.{in-Some+in_ok-push+in_ok-extend_from_slice, in_default}
+
+pub loop-slot-init : goal.loop-slot-init
+loop-slot-init g c = record { same = refl; next = next_none c.new-list.ensures.items }
+
+pub loop-slot-preserved : goal.loop-slot-preserved
+loop-slot-preserved g c =
+    let R = g.P.Pmem.region c.args.memory.now in
+    let l = c.loop-slot.invariant in
+    let s = c.args.scanner.now in
+    let t = c.args.ticket in
+    let k = c.loop-slot.slot in
+    let old = c.args.inodes.now in
+    let found = subst (λ (x : Super). IsFound R x (number_at x (32 * t + k)) c.in_ok-piece.field-0) l.same c.in_ok-piece.ensures.found in
+    elim c.match-branch-2.branch [
+      | in-Some+in_ok-push+in_ok-extend_from_slice w ↦ (
+          let p = w.in-Some.piece in
+          let at = at_slot t k (32 * t + k) (Some p) refl (subst (λ (o : Option Piece). IsFound R s (number_at s (32 * t + k)) o) w.in-Some.is found) in
+          let faults = w.in_ok-push.ensures.faults ∙ ap (λ (fs : List Fault). c.loop-slot.inodes.faults.items ++ fs) (w.deref.ensures.value ∙ sym (append-nil p.faults.items)) in
+          let claims = w.in_ok-extend_from_slice.ensures.items ∙ ap (λ (cs : List (ℕ × Owner)). c.loop-slot.list.items ++ cs) (w.deref-in-Some.ensures.value ∙ sym (append-nil p.claims.items)) in
+          let next = next_slot at l.next w.in_ok-push.ensures.rows faults claims in
+          record {
+            same = c.scan_place.ensures.same ∙ l.same;
+            next = subst (λ (x : Inodes). AreNext R s (numbers_to s t (k + 1)) old x c.match-branch-2.list.items) (sym w.inodes-is)
+                (subst (λ (cs : List (ℕ × Owner)). AreNext R s (numbers_to s t (k + 1)) old w.push.new.self cs) (sym (ap (λ v. v.items) w.list-is)) next);
+          })
+      | in_default w ↦ (
+          let at = at_slot t k (32 * t + k) None refl (subst (λ (o : Option Piece). IsFound R s (number_at s (32 * t + k)) o) w.in_default.is found) in
+          let next = next_slot at l.next (sym (append-nil c.loop-slot.inodes.rows.items)) (sym (append-nil c.loop-slot.inodes.faults.items)) (sym (append-nil c.loop-slot.list.items)) in
+          record {
+            same = c.scan_place.ensures.same ∙ l.same;
+            next = subst (λ (x : Inodes). AreNext R s (numbers_to s t (k + 1)) old x c.match-branch-2.list.items) (sym w.inodes-is)
+                (subst (λ (cs : List (ℕ × Owner)). AreNext R s (numbers_to s t (k + 1)) old c.loop-slot.inodes cs) (sym (ap (λ v. v.items) w.list-is)) next);
+          })
+    ]
+
+pub returns-clause-next : goal.returns-clause-next
+returns-clause-next g c = next_all c.args.ticket c.loop-slot.slot (let e = c.loop-slot-test.false in let r = c.loop-slot.auto.slot-end in omega (arith, e, r)) c.loop-slot.invariant.next
