@@ -5,7 +5,7 @@ use Rattle.std.proofs.lemmas.Bool.Decides.{nat_tests}
 use Rattle.std.proofs.lemmas.Bool.{cases_eq}
 use Rattle.std.proofs.lemmas.Nat.{div_below, mod_below, div-add-mod', div-mul-add, mod-mul-add, mul-add-lt}
 use Rattle.nv_super.specs.declared.superblock.Super.{Super}
-use Rattle.nv_super.specs.Layout.{IsLayout, HasAreas, inode_limit, is_number, slot_address}
+use Rattle.nv_super.specs.Layout.{IsLayout, inode_limit, is_number, slot_address}
 use Rattle.nv_inode.specs.Slot.{nth_slot}
 use Rattle.nv_inode.proofs.Places.{place, slot_place}
 use Rattle.nv_inode.proofs.Slots.{row_below}
@@ -16,22 +16,12 @@ use Rattle.nv_scan.specs.Tickets.{ticket_count, number_at}
 pub places_fit : (s : Super) (ticket slot : ℕ) → ticket < ticket_count s → slot < 32 → 32 * ticket + slot < inode_limit s
 places_fit s ticket slot low less = omega (arith, low, less)
 
-pub limit_fits : (s : Super) → HasAreas s → inode_limit s ≤ 131072
-limit_fits s areas =
-    let most : 32 * s.cpus * s.table_blocks ≤ 2048 * s.table_blocks = mul-le-mul_right s.table_blocks (omega (arith, areas.cpus_to)) in
-    omega (arith, most, areas.tables_to)
-
 module _ (s : Super) (layout : IsLayout s) where
   rows_some : 0 < 32 * s.table_blocks
   rows_some = let from = layout.tables_from in omega arith
 
   cpus_some : 0 < s.cpus
   cpus_some = let from = layout.cpus_from in omega arith
-
-  -- ---- the slot at a place
-
-  pub slot_fits : (m : ℕ) → m < inode_limit s → nth_slot s m + 128 ≤ 4096 * s.blocks
-  slot_fits m low = let room = layout.areas.room in omega (arith, low, room)
 
   -- ---- there and back
 

@@ -161,8 +161,8 @@ work_more R s v u w old new t work low is done =
     let records : w.records ≡ v.records ++ added.0 = added.1 ∙ ap (λ (x : View). x.records ++ added.0) is in
     let tickets : tickets_among (ticket_count s) w.numbers ≡ tickets_among (ticket_count s) v.numbers ++ t ∷ [] = ap (tickets_among (ticket_count s)) numbers ∙ among_more (ticket_count s) v.numbers t true below in
     let inodes : numbers_in s (tickets_among (ticket_count s) w.numbers) ≡ numbers_in s (tickets_among (ticket_count s) v.numbers) ++ numbers_of s t =
-        ap (numbers_in s) tickets ∙ flat_map-append (numbers_of s) (tickets_among (ticket_count s) v.numbers) (t ∷ [])
-        ∙ ap (λ (ns : List ℕ). numbers_in s (tickets_among (ticket_count s) v.numbers) ++ ns) (append-nil (numbers_of s t)) in
+    ap (numbers_in s) tickets ∙ flat_map-append (numbers_of s) (tickets_among (ticket_count s) v.numbers) (t ∷ [])
+    ∙ ap (λ (ns : List ℕ). numbers_in s (tickets_among (ticket_count s) v.numbers) ++ ns) (append-nil (numbers_of s t)) in
     record {
       pieces = work.pieces ++ done.pieces;
       are = subst (λ (ns : List ℕ). ArePiecesOf R s ns (work.pieces ++ done.pieces)) (sym inodes) (pieces_join work.are done.are);

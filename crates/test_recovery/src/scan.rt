@@ -1,5 +1,7 @@
 //! Inodes of small regions, written word by word, and their pieces.
 
+ghost use Rattle.std.specs.Prelude.{◌<◌};
+
 use crate::small::{DIRECTORY_MODE, SMALL, opened_for_one, small_region};
 use nv_claimmap::Claimed;
 use nv_names::Target;

@@ -42,8 +42,7 @@ returns-clause-found g c =
     let number = number_there s layout m some c.requires.place in
     let same : c.in_ok-scan.field-0.inode ≡ number_at s m = c.in_ok-scan.ensures.number ∙ c.number_at-inode.ensures ∙ ap (λ (x : Super). number_at x m) c.self.view_is in
     let loaded : c.load.result ≡ word R (slot_address s (number_at s m)) =
-        c.load.ensures ∙ ap (word R) (c.nth_slot.ensures ∙ ap (λ (x : Super). nth_slot x m) c.self.view_is ∙ sym (slot_there s layout m some c.requires.place)) in
-    (
+    c.load.ensures ∙ ap (word R) (c.nth_slot.ensures ∙ ap (λ (x : Super). nth_slot x m) c.self.view_is ∙ sym (slot_there s layout m some c.requires.place)) in (
       same,
       number,
       c.in_ok-scan.ensures.piece,
