@@ -3,3 +3,6 @@ pub mod Walks
 pub mod Targets
 pub mod Kept
 pub mod Listed
+mod Numbers
+mod Spots
+mod Passes

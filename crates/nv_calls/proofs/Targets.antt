@@ -15,7 +15,7 @@ use Rattle.nv_calls.specs.declared.stating.Stat.{Stat}
 use Rattle.nv_calls.specs.Stat.{stat_of, IsStat}
 
 -- the row of a number has it
-numbered : (rows : List Row) (i : ℕ) (row : Row) → row_of rows i ≡ Some row → row.inode ≡ i
+pub numbered : (rows : List Row) (i : ℕ) (row : Row) → row_of rows i ≡ Some row → row.inode ≡ i
 numbered [] i row e = absurd (cc)
 numbered (x ∷ rows) i row e = by (nat_eq x.inode i) refl (λ rest. numbered rows i row rest) e where
   by : (b : Bool) → nat_eq x.inode i ≡ b → (row_of rows i ≡ Some row → row.inode ≡ i) → cond b (Some x) (row_of rows i) ≡ Some row → row.inode ≡ i

@@ -4,6 +4,9 @@
 mod fs;
 mod listing;
 mod looking;
+mod naming;
+mod numbering;
+mod passing;
 mod stating;
 mod walking;
 

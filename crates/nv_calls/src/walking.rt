@@ -23,7 +23,7 @@ use nv_scan::Row;
 use nv_super::Kind;
 use nv_tree::{Refusal, is_path, split_name};
 
-const ROOT: u64 = 1;
+pub(crate) const ROOT: u64 = 1;
 
 /// The row of a directory in use. `NotFound` where the inode isn't in use, `NotDirectory` where it is a file.
 fn directory_at(rows: &[Row], inode: u64) -> Result<&Row, Refusal>
