@@ -2,3 +2,4 @@ pub mod Mount
 pub mod Seen
 pub mod Stat
 pub mod Listing
+pub mod Reading

@@ -4,6 +4,7 @@
 mod fs;
 mod listing;
 mod looking;
+mod reading;
 mod stating;
 mod walking;
 
