@@ -111,11 +111,11 @@ pub storing_goes_on : (R0 : Region) (m : Pages) (bytes : ℕ → ℕ) (first : �
     → IsMixed R (InBlocks (InRun r)) Q → ((k : ℕ) → k < r.count → HoldsPage Q bytes (r.start + k) (page + k)) → Storing R0 m bytes first runs Q (page + r.count) rest
 storing_goes_on R0 m bytes first runs R Q page r rest s mixed here = record {
   told = λ S then holds.
-    s.told S
+      s.told S
       (mixed_more (InBlocks (HasBlock (r ∷ rest))) (InBlocks (HasBlock rest)) R Q S (λ i v h. later_block r rest (8 * i / 4096) h)
-        (mixed_more (InBlocks (HasBlock (r ∷ rest))) (InBlocks (InRun r)) R R Q (λ i v h. first_block r rest (8 * i / 4096) h) (mixed_same R (InBlocks (HasBlock (r ∷ rest)))) mixed) then)
+      (mixed_more (InBlocks (HasBlock (r ∷ rest))) (InBlocks (InRun r)) R R Q (λ i v h. first_block r rest (8 * i / 4096) h) (mixed_same R (InBlocks (HasBlock (r ∷ rest)))) mixed) then)
       (both_hold S bytes page r rest
-        (λ k low. page_stays Q S (InBlocks (HasBlock rest)) bytes (r.start + k) (page + k) then (λ i v at h. s.fresh.once.0 (8 * i / 4096) (omega (arith, at), omega (arith, at, low)) h) (here k low)) holds);
+      (λ k low. page_stays Q S (InBlocks (HasBlock rest)) bytes (r.start + k) (page + k) then (λ i v at h. s.fresh.once.0 (8 * i / 4096) (omega (arith, at), omega (arith, at, low)) h) (here k low)) holds);
   fresh = record {
     inside = λ b h. s.fresh.inside b (later_block r rest b h);
     once = s.fresh.once.1;

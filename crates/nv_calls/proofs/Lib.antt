@@ -6,3 +6,5 @@ pub mod Listed
 mod Numbers
 mod Spots
 mod Passes
+pub mod FileBytes
+pub mod FreshBlocks

@@ -3,3 +3,4 @@ pub mod Seen
 pub mod Stat
 pub mod Listing
 pub mod World
+pub mod Reading

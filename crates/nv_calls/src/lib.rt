@@ -7,6 +7,7 @@ mod looking;
 mod naming;
 mod numbering;
 mod passing;
+mod reading;
 mod stating;
 mod walking;
 

@@ -13,6 +13,6 @@ loop-at-preserved g c =
       low = omega (arith, c.loop-at.invariant.low, on);
       high = omega (arith, c.min-stop.ensures);
       items =
-        piece_more (file_byte (g.P.Pmem.region c.args.memory.now) c.args.index.now) [] _ _ _ c.args.offset c.loop-at.at c.min-stop.result c.loop-at.invariant.low on c.loop-at.invariant.items c.in_ok-push_page.ensures
-        (same_range _ _ c.loop-at.at (c.min-stop.result - c.loop-at.at) (λ x low high. ap (λ (o : Option ℕ). byte_in (g.P.Pmem.region c.args.memory.now) o x) (c.get.ensures ∙ ap (block_at c.args.index.now) (let e : c.loop-at.at / 4096 ≡ x / 4096 = omega (arith, c.min-stop.ensures, low, high) in e))));
+          piece_more (file_byte (g.P.Pmem.region c.args.memory.now) c.args.index.now) [] _ _ _ c.args.offset c.loop-at.at c.min-stop.result c.loop-at.invariant.low on c.loop-at.invariant.items c.in_ok-push_page.ensures
+          (same_range _ _ c.loop-at.at (c.min-stop.result - c.loop-at.at) (λ x low high. ap (λ (o : Option ℕ). byte_in (g.P.Pmem.region c.args.memory.now) o x) (c.get.ensures ∙ ap (block_at c.args.index.now) (let e : c.loop-at.at / 4096 ≡ x / 4096 = omega (arith, c.min-stop.ensures, low, high) in e))));
     }

@@ -31,10 +31,10 @@ loop-run-preserved g c =
     let large = as_large c.loop-run.invariant.wrote.mixed in
     record {
       storing =
-        storing_goes_on R0 c.args.index.now bytes c.args.first runs R S c.loop-run.page (get_or runs i none) (drop (i + 1) runs)
-        (subst (Storing R0 c.args.index.now bytes c.args.first runs R c.loop-run.page) (runs_from runs i none c.loop-run-test.true) c.loop-run.invariant.storing)
-        c.store_run.ensures.wrote.mixed
-        (λ k low. same_pages R0 R S c.args.index.now (InBlocks (HasBlock runs)) n.offset n.size n.bytes.now ((get_or runs i none).start + k) (c.loop-run.page + k) c.loop-run.invariant.wrote.mixed
+          storing_goes_on R0 c.args.index.now bytes c.args.first runs R S c.loop-run.page (get_or runs i none) (drop (i + 1) runs)
+          (subst (Storing R0 c.args.index.now bytes c.args.first runs R c.loop-run.page) (runs_from runs i none c.loop-run-test.true) c.loop-run.invariant.storing)
+          c.store_run.ensures.wrote.mixed
+          (λ k low. same_pages R0 R S c.args.index.now (InBlocks (HasBlock runs)) n.offset n.size n.bytes.now ((get_or runs i none).start + k) (c.loop-run.page + k) c.loop-run.invariant.wrote.mixed
           (λ p b at j v w h. c.requires.fresh.apart p b at (subst (HasBlock runs) w h)) (c.in_ok-store_run.ensures.stored k low));
       pages = pages_from runs i c.loop-run.page _ none c.loop-run-test.true c.loop-run.invariant.pages;
       wrote = stores_more _ _ _ _ _ _ _ _ (λ j v of. run_held runs i (8 * j / 4096) none c.loop-run-test.true of) c.loop-run.invariant.wrote c.store_run.ensures.wrote;

@@ -16,7 +16,7 @@ loop-k-preserved g c =
     let in_run : InRun c.args.run (c.args.run.start + c.loop-k.k) = (omega arith, omega (arith, c.loop-k-test.true)) in
     record {
       stored = page_next R S (byte_after n.offset n.bytes.now n.size (file_byte R0 c.args.index.now)) c.args.run.start c.args.page c.loop-k.k c.loop-k.invariant.stored c.store_page.ensures.wrote.mixed
-        (same_pages R0 R S c.args.index.now (InBlocks (InRun c.args.run)) n.offset n.size n.bytes.now (c.args.run.start + c.loop-k.k) (c.args.page + c.loop-k.k) c.loop-k.invariant.wrote.mixed
+          (same_pages R0 R S c.args.index.now (InBlocks (InRun c.args.run)) n.offset n.size n.bytes.now (c.args.run.start + c.loop-k.k) (c.args.page + c.loop-k.k) c.loop-k.invariant.wrote.mixed
           (λ p b at i v w h. c.requires.apart p b at (subst (InRun c.args.run) w h))
           (of_file R S c.args.index.now c.get.result n.offset n.size n.bytes.now (c.args.run.start + c.loop-k.k) (c.args.page + c.loop-k.k) c.get.ensures c.in_ok-store_page.ensures.stored));
       wrote = stores_more _ _ _ _ _ _ _ _ (λ i v t. (omega (arith, t, in_run.0), omega (arith, t, in_run.1))) c.loop-k.invariant.wrote c.store_page.ensures.wrote;

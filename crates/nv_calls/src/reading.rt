@@ -1,0 +1,60 @@
+//! `read`: the bytes of a file.
+
+ghost use Rattle.std.specs.Prelude.{◌≡◌, ℕ, List, ◌⊎◌, IsTrue, IfOk, IfErr, OnOk, Option, Result, false};
+ghost use Rattle.std.specs.List.{Contains};
+ghost use Rattle.nv_tree.specs.Path.{IsPath, Says};
+ghost use Rattle.nv_tree.specs.Calls.{bytes_read};
+ghost use Rattle.nv_tree.specs.Refusals.{Path, first_refusal, read_tests};
+ghost use Rattle.nv_tree.specs.declared.refusal.Refusal.{Refusal};
+ghost use Rattle.nv_calls.specs.Seen.{node_of, tree_of};
+ghost use Rattle.nv_calls.specs.Reading.{IsRead};
+
+use crate::Fs;
+use nv_bytes::read_bytes;
+use nv_region::Pmem;
+use nv_scan::Row;
+use nv_super::Kind;
+use nv_tree::Refusal;
+use std::alloc::AllocError;
+
+impl<P: Pmem + Drop> Fs<P> {
+    /// The bytes of the file that a path leads to, from an offset on up to its size, at most so many.
+    ///
+    /// Errors, the first that applies: `Stopped` after a stop, `BadName` where the text is no path, `NotFound` or
+    /// `NotDirectory` for an inode on the way, `NotFound` for the last name, `IsDirectory` for a directory. `Memory` where
+    /// a growth was refused.
+    pub fn read(&self, path: &[u8], offset: u64, count: u64) -> Result<Vec<u8>, Refusal>
+        ensures stopped { IsTrue self.now.stopped → result ≡ Result.Err Refusal.Stopped }
+        ensures ok { (names : List (List ℕ)) → IsPath path.now names
+            → IfOk result (λ bytes. IsRead (tree_of (P.region self.now.memory) self.now.rows) names offset count bytes.items) }
+        ensures allowed { (p : Path) → Says path.now p → OnOk result (first_refusal (read_tests (tree_of (P.region self.now.memory) self.now.rows) p) ≡ Option.None) }
+        ensures refused { self.now.stopped ≡ false → (p : Path) → Says path.now p
+            → IfErr result (λ e. (e ≡ Refusal.Memory) ⊎ (first_refusal (read_tests (tree_of (P.region self.now.memory) self.now.rows) p) ≡ Option.Some e)) }
+    {
+        let row = self.target(path)?;
+        if row.kind == Kind::Directory {
+            return Err(Refusal::IsDirectory);
+        }
+        match self.bytes_of(row, offset, count) {
+            Ok(bytes) => Ok(bytes),
+            Err(_) => Err(Refusal::Memory),
+        }
+    }
+
+    /// The bytes of an inode, by its row.
+    fn bytes_of(&self, row: &Row, offset: u64, count: u64) -> Result<Vec<u8>, AllocError>
+        requires held { Contains self.now.rows row.now }
+        requires runs { self.now.stopped ≡ false }
+        ensures { IfOk result (λ bytes. bytes.items ≡ bytes_read offset count (node_of (P.region self.now.memory) row.now)) }
+    {
+        let size = row.numbers.size;
+        let count = count.min(size.saturating_sub(offset));
+        read_bytes(
+            self.alloc,
+            &self.memory,
+            &row.index,
+            offset.min(size),
+            count,
+        )
+    }
+}
