@@ -3,3 +3,12 @@ pub mod Walks
 pub mod Targets
 pub mod Kept
 pub mod Listed
+pub mod Singles
+pub mod TakenBlocks
+pub mod Mounts
+pub mod LogGrows
+pub mod AttrEntries
+pub mod OneRow
+pub mod RowChange
+pub mod Attributed
+pub mod Tests

@@ -1,11 +1,16 @@
 //! A mounted file system, and its calls.
 #![tactic(auto)]
 
+mod appending;
+mod blocks;
 mod fs;
 mod listing;
 mod looking;
+mod preparing;
+mod settling;
 mod stating;
 mod walking;
+mod writing;
 
 pub use fs::Fs;
 pub use nv_format::{FormatRefusal, format};
