@@ -8,3 +8,12 @@ mod Spots
 mod Passes
 pub mod FileBytes
 pub mod FreshBlocks
+pub mod Singles
+pub mod TakenBlocks
+pub mod Mounts
+pub mod LogGrows
+pub mod AttrEntries
+pub mod OneRow
+pub mod RowChange
+pub mod Attributed
+pub mod Tests

@@ -61,7 +61,7 @@ less_is_not a i e same = grind (arith, nat_tests)
 greater_is_not : (a i : ℕ) → nat_cmp a i ≡ Greater → a ≡ i → ⊥
 greater_is_not a i e same = grind (arith, nat_tests)
 
-none_within : (rows : List Row) (k : ℕ) → k < length rows → slice_get rows k ≡ None → ⊥
+pub none_within : (rows : List Row) (k : ℕ) → k < length rows → slice_get rows k ≡ None → ⊥
 none_within [] k lt e = omega (arith, lt)
 none_within (x ∷ rows) zero lt e = cc
 none_within (x ∷ rows) (suc k) lt e = none_within rows k (omega (arith, lt)) e

@@ -1,7 +1,7 @@
 -- The row that a path leads to, and why there is none.
 use Rattle.std.proofs.Common.{◌≡◌, ℕ, ◌<◌, Bool, true, false, is_some, cond, nat_eq, List, [], ◌∷◌, length, get_or, slice_get, refl, sym, ◌∙◌, ap, subst, arith, Option, Some, None, Ok, IfSome}
 use Rattle.std.specs.Option.{option_map, option_and_then}
-use Rattle.std.proofs.lemmas.Option.{slice_get-get_or}
+use Rattle.std.proofs.lemmas.Option.{slice_get-get_or, get_or_from_slice_get}
 use Rattle.std.proofs.lemmas.Bool.Decides.{nat_tests}
 use Rattle.nv_region.specs.Region.{Region}
 use Rattle.nv_scan.specs.declared.piece.Row.{Row}
@@ -10,6 +10,7 @@ use Rattle.nv_tree.specs.Path.{IsPath, Says}
 use Rattle.nv_tree.specs.Tree.{Node, Tree, walk, found, in_use, last_in}
 use Rattle.nv_tree.specs.Refusals.{Path, first_refusal, stat_tests}
 use Rattle.nv_named.specs.Read.{row_of}
+use Rattle.nv_calls.proofs.RowOf.{none_within}
 use Rattle.nv_calls.specs.Seen.{node_of, tree_of, LeadsTo}
 use Rattle.nv_calls.specs.declared.stating.Stat.{Stat}
 use Rattle.nv_calls.specs.Stat.{stat_of, IsStat}
@@ -70,6 +71,15 @@ allowed_by t names d i walked leads = rw (walked, leads) refl
 
 pub missing_by : (t : Tree) (names : List (List ℕ)) (d : ℕ) → walk t 1 names ≡ Ok d → found t names ≡ None → first_refusal (stat_tests t (Some names)) ≡ Some NotFound
 missing_by t names d walked none = rw (walked, none) refl
+
+-- what a place says of why it isn't refused
+pub place_allowed : (R : Region) (rows : List Row) (names : List (List ℕ)) (o : Option ℕ) (place d : ℕ) → o ≡ Some place → IfSome o (λ k. k < length rows)
+    → option_and_then (λ k. slice_get rows k) o ≡ option_and_then (row_of rows) (found (tree_of R rows) names) → walk (tree_of R rows) 1 names ≡ Ok d → first_refusal (stat_tests (tree_of R rows) (Some names)) ≡ None
+place_allowed R rows names None place d is within e walked = absurd (cc)
+place_allowed R rows names (Some k) place d is within e walked = by (slice_get rows k) refl where
+  by : (o : Option Row) → slice_get rows k ≡ o → first_refusal (stat_tests (tree_of R rows) (Some names)) ≡ None
+  by None none = absurd (none_within rows k within none)
+  by (Some r) here = (let led = row_found R rows names (Some k) k r refl within (sym (get_or_from_slice_get rows k r r here)) e in allowed_by (tree_of R rows) names d r.inode walked led.leads)
 
 -- ---- what is answered
 

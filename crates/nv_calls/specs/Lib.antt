@@ -1,6 +1,11 @@
 pub mod Mount
 pub mod Seen
+pub mod World
+pub mod Taken
+pub mod Same
+pub mod Grown
+pub mod Steps
+pub mod Attributes
 pub mod Stat
 pub mod Listing
-pub mod World
 pub mod Reading

@@ -29,9 +29,10 @@ told s rows free doubled faults = record { sup = s; rows = rows; free = free.poo
 abbrev pub has_faults : List Fault → Bool
 has_faults faults = nat_lt 0 (length faults)
 
--- Until it is stopped, the region is its own undone region, and rows, free lists and lasting faults are its outcome's.
+-- The free lists are those of the superblock. Until it is stopped, the region is its own undone region, and rows, free lists and lasting faults are its outcome's.
 -- It is written only where no fault was found.
 pub record IsKept (R : Region) (s : Super) (rows : List Row) (free : FreeLists) (faults : List Fault) (read_only stopped : Bool) : Type 0 where
   pub writes : read_only ≡ has_faults faults
+  pub lists : free.sup ≡ s
   pub own : stopped ≡ false → undone s R ≡ R
   pub shown : stopped ≡ false → ∥ ((doubled : List (ℕ × Owner)) × IsOutcome R (lasting_outcome (told s rows free doubled faults))) ∥₁

@@ -45,6 +45,7 @@ impl<P: Pmem + Drop> Fs<P> {
     /// Mounts a region that was recovered: read-only where faults were found. It takes no memory.
     pub fn open(alloc: Global, memory: P, recovered: Recovered) -> Fs<P>
         requires outcome { IsOutcome (P.region memory) (lasting_outcome (outcome_of recovered)) }
+        requires lists { recovered.free.sup ≡ recovered.sup }
         requires own { undone recovered.sup (P.region memory) ≡ P.region memory }
         ensures memory { result.memory ≡ memory }
         ensures sup { result.sup ≡ recovered.sup }

@@ -88,6 +88,22 @@ pub(crate) fn found(rows: &[Row], path: &[u8]) -> Result<Option<usize>, Refusal>
     }
 }
 
+/// The place of the row of the inode in use that a path leads to, or the refusal that `stat` has.
+pub(crate) fn place_at(rows: &[Row], path: &[u8]) -> Result<usize, Refusal>
+    requires { Rises row_key rows.now }
+    ensures within { IfOk result (λ k. k < length rows.now) }
+    ensures leads { (region : Region) (names : List (List ℕ)) → IsPath path.now names → IfOk result (λ k. (row : RowValue) → slice_get rows.now k ≡ Option.Some row → LeadsTo (tree_of region rows.now) names row.inode (node_of region row)) }
+    ensures refused { (region : Region) (p : Path) → Says path.now p → first_refusal (stat_tests (tree_of region rows.now) p) ≡ result_err result }
+{
+    if !is_path(path) {
+        return Err(Refusal::BadName);
+    }
+    match found(rows, path)? {
+        Some(place) => Ok(place),
+        None => Err(Refusal::NotFound),
+    }
+}
+
 /// The row of the inode in use that a path leads to, or the refusal that `stat` has.
 pub(crate) fn row_at<'a>(rows: &'a [Row], path: &[u8]) -> Result<&'a Row, Refusal>
     requires { Rises row_key rows.now }
@@ -95,13 +111,8 @@ pub(crate) fn row_at<'a>(rows: &'a [Row], path: &[u8]) -> Result<&'a Row, Refusa
     ensures held { IfOk result (λ r. Contains rows.now r.now) }
     ensures refused { (region : Region) (p : Path) → Says path.now p → first_refusal (stat_tests (tree_of region rows.now) p) ≡ result_err result }
 {
-    if !is_path(path) {
-        return Err(Refusal::BadName);
-    }
-    match found(rows, path)? {
-        Some(place) => Ok(&rows[place]),
-        None => Err(Refusal::NotFound),
-    }
+    let place = place_at(rows, path)?;
+    Ok(&rows[place])
 }
 
 impl<P: Pmem + Drop> Fs<P> {

@@ -1,0 +1,70 @@
+-- From what a mounted file system keeps to what is held, and back, where it can be written.
+use Rattle.std.proofs.Common.{◌≡◌, ℕ, nat_lt, Bool, true, false, List, [], ◌∷◌, length, refl, ap, sym, ◌∙◌, subst, arith}
+use Rattle.std.specs.List.{filter}
+use Rattle.std.proofs.Math.Logic.{∥∥₁_elim, ∥∥₁_map}
+use Rattle.std.proofs.Math.Nat.{ℕ_set}
+use Rattle.std.proofs.Props.{props}
+use Rattle.std.proofs.lemmas.Bool.Decides.{nat_tests}
+use Rattle.nv_region.specs.Region.{Region}
+use Rattle.nv_super.specs.declared.superblock.Super.{Super}
+use Rattle.nv_super.specs.declared.faults.Fault.{Fault}
+use Rattle.nv_super.specs.declared.owners.Owner.{Owner}
+use Rattle.nv_super.specs.Layout.{fixed_layout}
+use Rattle.nv_journal.specs.Undo.{undone}
+use Rattle.nv_alloc.specs.FreeValue.{FreeLists}
+use Rattle.nv_scan.specs.declared.piece.Row.{Row}
+use Rattle.nv_outcome.specs.Outcome.{Outcome, IsOutcome}
+use Rattle.nv_outcome.specs.Same.{is_lasting, lasting_outcome}
+use Rattle.nv_held.specs.Held.{Store}
+use Rattle.nv_held.specs.Mounted.{IsMounted, ShowsSound}
+use Rattle.nv_held.proofs.Opens as opens
+use Rattle.nv_held.proofs.Closes as closes
+use Rattle.nv_calls.specs.Mount.{IsKept, has_faults, told}
+
+-- no fault was found
+none_found : (faults : List Fault) → has_faults faults ≡ false → faults ≡ []
+none_found [] e = refl
+none_found (f ∷ faults) e = absurd (grind (arith, nat_tests))
+
+none_lasts : (faults : List Fault) → faults ≡ [] → filter is_lasting faults ≡ []
+none_lasts faults none = ap (λ (fs : List Fault). filter is_lasting fs) none
+
+module _ {R : Region} {s : Super} {rows : List Row} {free : FreeLists} {faults : List Fault} {read_only stopped : Bool} where
+  -- no fault was found where it can be written
+  pub faultless : IsKept R s rows free faults read_only stopped → read_only ≡ false → faults ≡ []
+  faultless kept writes = none_found faults (sym kept.writes ∙ writes)
+
+  -- Something is held that the region shows, with nothing wrong, and the rows and free lists are those of it.
+  pub mounted_of_kept : IsKept R s rows free faults read_only stopped → stopped ≡ false → read_only ≡ false → ∥ ((held : Store) × IsMounted R s held rows free.pools) ∥₁
+  mounted_of_kept kept runs writes = ∥∥₁_map (kept.shown runs) (λ w. opens.opening R (lasting_outcome (told s rows free w.0 faults)) w.1 (none_lasts faults (faultless kept writes)) (kept.own runs))
+
+  -- What is held of a region that is kept so is what the rows and free lists say.
+  pub mounted_with : IsKept R s rows free faults read_only stopped → stopped ≡ false → (held : Store) → ShowsSound R s held → ∥ (IsMounted R s held rows free.pools) ∥₁
+  mounted_with kept runs held sound = ∥∥₁_map (kept.shown runs) (λ w. record { sound = sound; keeps = closes.outcome_kept sound (lasting_outcome (told s rows free w.0 faults)) w.1 })
+
+own_prop : (s : Super) (R : Region) → IsProp (undone s R ≡ R)
+own_prop s R = hlevel (props, ℕ_set)
+
+-- And back: the rows and free lists of what is held are kept.
+pub kept_of_mounted : (R : Region) (s : Super) (rows : List Row) (free : FreeLists) (faults : List Fault) (read_only stopped : Bool) → read_only ≡ has_faults faults → read_only ≡ false → free.sup ≡ s → ∥ ((held : Store) × IsMounted R s held rows free.pools) ∥₁
+    → IsKept R s rows free faults read_only stopped
+kept_of_mounted R s rows free faults read_only stopped is writes lists known = record {
+  writes = is;
+  lists = lists;
+  own = λ _. ∥∥₁_elim known (own_prop s R) (λ w. closes.own_undo w.1.sound);
+  shown = λ _. ∥∥₁_map known (λ w. ([], shown w.0 w.1));
+} where
+  none : filter is_lasting faults ≡ []
+  none = none_lasts faults (none_found faults (sym is ∙ writes))
+
+  shown : (held : Store) → IsMounted R s held rows free.pools → IsOutcome R (lasting_outcome (told s rows free [] faults))
+  shown held m = subst (λ (fs : List Fault). IsOutcome R (record { sup = s; rows = rows; free = free.pools; doubled = []; faults = fs })) (sym none) (closes.closing m.sound rows free.pools m.keeps)
+
+-- Of one that was stopped nothing more is kept.
+pub kept_when_stopped : (R : Region) (s : Super) (rows : List Row) (free : FreeLists) (faults : List Fault) (read_only stopped : Bool) → read_only ≡ has_faults faults → free.sup ≡ s → stopped ≡ true → IsKept R s rows free faults read_only stopped
+kept_when_stopped R s rows free faults read_only stopped is lists stops = record {
+  writes = is;
+  lists = lists;
+  own = λ runs. absurd (let e : true ≡ false = sym stops ∙ runs in cc);
+  shown = λ runs. absurd (let e : true ≡ false = sym stops ∙ runs in cc);
+}

@@ -1,0 +1,240 @@
+-- A mounted file system once one row was replaced: what it keeps, and the tree that it shows.
+use Rattle.std.proofs.Common.{◌≡◌, ◌≢◌, ℕ, zero, suc, ◌+◌, ◌*◌, ◌/◌, ◌%◌, ◌<◌, ◌≤◌, ◌⊎◌, inl, inr, nat_eq, Bool, true, false, cond, List, [], ◌∷◌, length, get_or, set, slice_get, refl, ap, sym, ◌∙◌, subst, arith, Option, Some, None}
+use Rattle.std.specs.List.{Contains}
+use Rattle.std.specs.Option.{option_map}
+use Rattle.std.proofs.Math.Logic.{∥∥₁_elim, ∥∥₁_map}
+use Rattle.std.proofs.Math.Nat.{ℕ_set, div-lt_iff_lt-mul}
+use Rattle.std.proofs.Math.Seq.{map-set_same}
+use Rattle.std.proofs.Props.{props}
+use Rattle.std.proofs.lemmas.Bool.{cases_eq}
+use Rattle.std.proofs.lemmas.Bool.Decides.{nat_tests}
+use Rattle.std.proofs.lemmas.List.{get_or_default}
+use Rattle.std.proofs.lemmas.Option.{slice_get_within, get_or_from_slice_get, slice_get-get_or}
+use Rattle.nv_region.specs.Region.{Region, size}
+use Rattle.nv_super.specs.declared.superblock.Super.{Super}
+use Rattle.nv_super.specs.declared.owners.Run.{Run}
+use Rattle.nv_super.specs.declared.faults.Fault.{Fault}
+use Rattle.nv_super.specs.declared.owners.Owner.TheVariants as owners
+use Rattle.nv_super.specs.Layout.{IsLayout, fixed_layout, inode_limit, slot_address}
+use Rattle.nv_super.specs.Order.{Rises}
+use Rattle.nv_super.proofs.RisingPlaces.{rises_keys}
+use Rattle.nv_super.proofs.Slots.{slot_is, slots_apart}
+use Rattle.nv_alloc.specs.FreeValue.{FreeLists}
+use Rattle.nv_alloc.specs.FreeLists.{IsFreeIn}
+use Rattle.nv_alloc.proofs.Sound.{free_within}
+use Rattle.nv_entry.specs.declared.entry.Entry.{Entry}
+use Rattle.nv_inode.specs.Slot.{is_right_log}
+use Rattle.nv_radix.specs.Pages.{block_at}
+use Rattle.nv_outcome.specs.Same.{SameRow, SameRows}
+use Rattle.nv_outcome.proofs.SuperOf.{blocks_of_super, layout_of_super}
+use Rattle.nv_scan.specs.declared.piece.Row.{Row}
+use Rattle.nv_check.specs.Cross.{row_key}
+use Rattle.nv_named.specs.Read.{row_of}
+use Rattle.nv_held.specs.Held.{Held, Store, with_inode}
+use Rattle.nv_held.specs.Bytes.{byte_in}
+use Rattle.nv_held.specs.Mounted.{IsMounted, Keeps, KeepsRow, KeepsRows, ShowsSound}
+use Rattle.nv_held.specs.Slots.{SlotsClear}
+use Rattle.nv_held.proofs.Clear.{slots_clear}
+use Rattle.nv_held.proofs.Kept.{page_owner, tail_there}
+use Rattle.nv_held.proofs.RowsKept.{rows_follow}
+use Rattle.nv_held.proofs.Shown.{stands_at}
+use Rattle.nv_commit.specs.Extends.{extended, with_log}
+use Rattle.nv_tree.specs.Tree.{Node, Tree, SameNode, SameNodes, SameTree}
+use Rattle.nv_tree.specs.Calls.{edit, put_node}
+use Rattle.nv_calls.specs.Grown.{StandsRight}
+use Rattle.nv_calls.specs.Mount.{IsKept, Mount}
+use Rattle.nv_calls.specs.Same.{SameMount}
+use Rattle.nv_calls.specs.Seen.{node_of, tree_of}
+use Rattle.nv_calls.specs.Steps.{LogFollows, ShowsRow}
+use Rattle.nv_calls.specs.Taken.{SamePools}
+use Rattle.nv_calls.proofs.RowOf.{row_at}
+use Rattle.nv_calls.proofs.Mounts.{kept_of_mounted, mounted_of_kept}
+use Rattle.nv_super.proofs.Rising.{Contains-head, Contains-tail}
+use Rattle.nv_scan.specs.Rows.{AreNumbers}
+use Rattle.nv_held.specs.Held.{good_in}
+use Rattle.nv_held.specs.Blocks.{KeepsFree}
+use Rattle.nv_held.proofs.Owning.{same_held, other_held}
+use Rattle.nv_calls.specs.Grown.{LogGrew}
+use Rattle.nv_calls.proofs.Kept.{rows_rise}
+use Rattle.nv_calls.proofs.Mounts.{mounted_with}
+use Rattle.nv_calls.proofs.OneRow.{shows_row, stands}
+
+-- ---- one row replaced
+
+-- the row of another number
+row_of_other : (rows : List Row) (place : ℕ) (row new : Row) (j : ℕ) → slice_get rows place ≡ Some row → j ≢ row.inode → j ≢ new.inode → row_of (set rows place new) j ≡ row_of rows j
+row_of_other [] place row new j at differs apart = absurd (cc)
+row_of_other (x ∷ rows) zero row new j at differs apart =
+    let same : x ≡ row = cc in
+    let off : nat_eq new.inode j ≡ false = grind (arith, nat_tests) in
+    let number : x.inode ≡ row.inode = ap (λ (r : Row). r.inode) same in
+    let out : nat_eq x.inode j ≡ false = other_number x.inode row.inode j number differs in
+    ap (λ (b : Bool). cond b (Some new) (row_of rows j)) off ∙ ap (λ (b : Bool). cond b (Some x) (row_of rows j)) (sym out) where
+      other_number : (a i k : ℕ) → a ≡ i → k ≢ i → nat_eq a k ≡ false
+      other_number a i k same differs = grind (arith, nat_tests)
+row_of_other (x ∷ rows) (suc place) row new j at differs apart = ap (λ (o : Option Row). cond (nat_eq x.inode j) (Some x) o) (row_of_other rows place row new j at differs apart)
+
+-- a row of a number is one of the rows
+row_there : (rows : List Row) (j : ℕ) (r : Row) → row_of rows j ≡ Some r → Contains rows r
+row_there [] j r e = absurd (cc)
+row_there (x ∷ rows) j r e = by (nat_eq x.inode j) (row_there rows j r) e where
+  by : (b : Bool) → (row_of rows j ≡ Some r → Contains rows r) → cond b (Some x) (row_of rows j) ≡ Some r → Contains (x ∷ rows) r
+  by true rest e = (let same : x ≡ r = cc in subst (λ (q : Row). Contains (x ∷ rows) q) same (Contains-head x rows))
+  by false rest e = Contains-tail x rows r (rest e)
+
+at_set : (rows : List Row) (place : ℕ) (new : Row) → place < length rows → slice_get (set rows place new) place ≡ Some new
+at_set [] place new inside = absurd (omega (arith, inside))
+at_set (x ∷ rows) zero new inside = refl
+at_set (x ∷ rows) (suc place) new inside = at_set rows place new (omega (arith, inside))
+
+same_row : (r : Row) → SameRow r r
+same_row r = record { inode = refl; kind = refl; numbers = refl; head = refl; tail = refl; pages = refl; index = λ p. refl; names = λ q. refl }
+
+pub same_rows : (rows : List Row) → SameRows rows rows
+same_rows [] = tt
+same_rows (x ∷ rows) = (same_row x, same_rows rows)
+
+-- the rows are the same where one was replaced by the same
+pub set_same_rows : (rows : List Row) (place : ℕ) (row new : Row) → slice_get rows place ≡ Some row → SameRow row new → SameRows rows (set rows place new)
+set_same_rows [] place row new at same = absurd (cc)
+set_same_rows (x ∷ rows) zero row new at same = (let is : x ≡ row = cc in subst (λ (r : Row). SameRow r new) (sym is) same, same_rows rows)
+set_same_rows (x ∷ rows) (suc place) row new at same = (same_row x, set_same_rows rows place row new at same)
+
+-- a row that is the same is of the same
+keeps_same : (s : Super) (h : Held) (row new : Row) → SameRow row new → KeepsRow (fixed_layout s) h row → KeepsRow (fixed_layout s) h new
+keeps_same s h row new same told = record {
+  kind = same.kind ∙ told.kind;
+  numbers = subst (λ n. AreNumbers h.created (good_in (fixed_layout s) h) n) (sym same.numbers) told.numbers;
+  head = same.head ∙ told.head;
+  tail = same.tail ∙ told.tail;
+  pages = same.pages ∙ told.pages;
+  index = λ p. same.index p ∙ told.index p;
+  names = λ q. same.names q ∙ told.names q;
+}
+
+-- what is held stays where an inode is held as it was
+same_store : (held : Store) (i : ℕ) (h : Held) → held i ≡ Some h → with_inode held i (Some h) ≡ held
+same_store held i h is = λ t j. (each j) t where
+  each : (j : ℕ) → with_inode held i (Some h) j ≡ held j
+  each j = elim (cases_eq j i) [
+    | inl same ↦ ap (with_inode held i (Some h)) same ∙ same_held held i (Some h) ∙ sym is ∙ ap held (sym same)
+    | inr differs ↦ other_held held i j (Some h) differs
+  ]
+
+number_at : (rows : List Row) (place : ℕ) (row new : Row) → slice_get rows place ≡ Some row → (get_or rows place new).inode ≡ row.inode
+number_at rows place row new at = ap (λ (r : Row). r.inode) (get_or_from_slice_get rows place row new at)
+
+module _ {R : Region} {s : Super} {rows : List Row} {free after : FreeLists} {faults : List Fault} {read_only stopped : Bool} (kept : IsKept R s rows free faults read_only stopped) (runs : stopped ≡ false) (writes : read_only ≡ false)
+    (place : ℕ) (row new : Row) (at : slice_get rows place ≡ Some row) where
+  -- What is kept stays where nothing has changed but room.
+  pub kept_same : SameRow row new → SamePools free after → (now : Bool) → IsKept R s (set rows place new) after faults read_only now
+  kept_same same pools now = kept_of_mounted R s (set rows place new) after faults read_only now kept.writes writes (pools.sup ∙ kept.lists) (∥∥₁_map (mounted_of_kept kept runs writes) (λ w. (w.0, mounted_same w.0 w.1))) where
+    mounted_same : (held : Store) → IsMounted R s held rows free.pools → IsMounted R s held (set rows place new) after.pools
+    mounted_same held m =
+        let keeps = m.keeps in
+        let in_rows = keeps.in_rows in
+        let w = in_rows.each row (stands rows place row at) in
+        let follow = rows_follow (fixed_layout s) held row.inode w.0 rows in_rows place (slice_get_within rows place row at) new (number_at rows place row new at) same.inode (keeps_same s w.0 row new same w.2) in
+        record {
+          sound = m.sound;
+          keeps = record {
+            in_rows = subst (λ (st : Store). KeepsRows (fixed_layout s) st (set rows place new)) (same_store held row.inode w.0 w.1) follow;
+            in_lists = subst (λ (lists : List (List Run)). KeepsFree (fixed_layout s) held lists) (sym pools.pools) keeps.in_lists;
+          };
+        }
+
+  module _ {S : Region} (entries : List Entry) (follows : (held : Store) (h : Held) → ShowsRow R s held h row free → LogFollows R S s held h entries row new after) where
+    mounted_after : (held : Store) → IsMounted R s held rows free.pools → (then : Store) × IsMounted S s then (set rows place new) after.pools
+    mounted_after held m =
+        let keeps = m.keeps in
+        let w = shows_row m kept.lists row (stands rows place row at) in
+        let f = follows held w.0 w.1 in (
+          with_log held row.inode w.0 entries f.fresh,
+          record {
+            sound = f.sound;
+            keeps = record {
+              in_rows = rows_follow (fixed_layout s) held row.inode (extended w.0 entries f.fresh) rows keeps.in_rows place (slice_get_within rows place row at) new (number_at rows place row new at) f.inode f.told;
+              in_lists = f.lists;
+            };
+          },
+        )
+
+    -- What is kept once the log of the row has grown.
+    pub kept_after : after.sup ≡ free.sup → (now : Bool) → IsKept S s (set rows place new) after faults read_only now
+    kept_after lists now = kept_of_mounted S s (set rows place new) after faults read_only now kept.writes writes (lists ∙ kept.lists) (∥∥₁_map (mounted_of_kept kept runs writes) (λ w. mounted_after w.0 w.1))
+
+    -- Each byte that a row's file had is where it was.
+    pub row_bytes : (r : Row) → Contains rows r → (x : ℕ) → byte_in S (block_at r.index (x / 4096)) x ≡ byte_in R (block_at r.index (x / 4096)) x
+    row_bytes r c x = ∥∥₁_elim (mounted_of_kept kept runs writes) prop (λ w. same w.0 w.1) where
+      prop : IsProp (byte_in S (block_at r.index (x / 4096)) x ≡ byte_in R (block_at r.index (x / 4096)) x)
+      prop = hlevel (props, ℕ_set)
+
+      same : (held : Store) → IsMounted R s held rows free.pools → byte_in S (block_at r.index (x / 4096)) x ≡ byte_in R (block_at r.index (x / 4096)) x
+      same held m =
+          let keeps = m.keeps in
+          let w = shows_row m kept.lists row (stands rows place row at) in
+          let f = follows held w.0 w.1 in
+          let in_rows = keeps.in_rows in
+          let k = in_rows.each r c in
+          let told = k.2 in
+          ap (λ (o : Option ℕ). byte_in S o x) (told.index (x / 4096)) ∙ f.bytes r.inode k.0 k.1 x ∙ ap (λ (o : Option ℕ). byte_in R o x) (sym (told.index (x / 4096)))
+
+    rising : Rises row_key rows
+    rising = rows_rise R s rows free faults read_only stopped kept runs
+
+    -- The log of its inode, for whatever is held of the region.
+    pub log_grew : (held : Store) (h : Held) → ShowsSound R s held → held row.inode ≡ Some h → ∥ (LogGrew S s held row.inode h entries) ∥₁
+    log_grew held h sound is = ∥∥₁_map (mounted_with kept runs held sound) (λ m.
+        let w = shows_row m kept.lists row (stands rows place row at) in
+        let shown = w.1 in
+        let both : Some w.0 ≡ Some h = sym shown.holds ∙ is in
+        let same : w.0 ≡ h = cc in
+        let f = follows held h (subst (λ (g : Held). ShowsRow R s held g row free) same shown) in
+        record { fresh = f.fresh; free = f.blocks; count = f.count; sound = f.sound })
+
+    -- The tree is as before, with the node of the row changed.
+    pub tree_after : (change : Node → Node) → new.inode ≡ row.inode → SameNode (node_of S new) (change (node_of R row)) → SameTree (tree_of S (set rows place new)) (edit row.inode change (tree_of R rows))
+    tree_after change number here j = elim (cases_eq j row.inode) [ inl same ↦ changed same | inr differs ↦ other differs ] where
+      up : Rises row_key (set rows place new)
+      up = rises_keys row_key rows (set rows place new) (sym (map-set_same row_key rows place new new (ap (λ (n : ℕ). n ∷ []) (number ∙ sym (number_at rows place row new at))))) rising
+
+      now : tree_of S (set rows place new) row.inode ≡ Some (node_of S new)
+      now = ap (option_map (node_of S)) (ap (row_of (set rows place new)) (sym number) ∙ row_at (set rows place new) place new up (at_set rows place new (slice_get_within rows place row at)))
+
+      before : tree_of R rows row.inode ≡ Some (node_of R row)
+      before = ap (option_map (node_of R)) (row_at rows place row rising at)
+
+      changed : j ≡ row.inode → SameNodes (tree_of S (set rows place new) j) (edit row.inode change (tree_of R rows) j)
+      changed same =
+          let test : nat_eq j row.inode ≡ true = grind (arith, nat_tests) in
+          let left : tree_of S (set rows place new) j ≡ Some (node_of S new) = ap (tree_of S (set rows place new)) same ∙ now in
+          let right : edit row.inode change (tree_of R rows) j ≡ Some (change (node_of R row)) = ap (λ (b : Bool). cond b (option_map change (tree_of R rows row.inode)) (tree_of R rows j)) test ∙ ap (option_map change) before in
+          subst (λ (o : Option Node). SameNodes o (edit row.inode change (tree_of R rows) j)) (sym left) (subst (λ (o : Option Node). SameNodes (Some (node_of S new)) o) (sym right) here)
+
+      unchanged : (o : Option Row) → row_of rows j ≡ o → SameNodes (option_map (node_of S) o) (option_map (node_of R) o)
+      unchanged None e = tt
+      unchanged (Some r) e = record {
+        kind = refl;
+        mode = refl;
+        owner = refl;
+        group = refl;
+        size = refl;
+        links = refl;
+        time = refl;
+        count = refl;
+        names = λ name. refl;
+        bytes = λ x below. row_bytes r (row_there rows j r e) x;
+      }
+
+      other : j ≢ row.inode → SameNodes (tree_of S (set rows place new) j) (edit row.inode change (tree_of R rows) j)
+      other differs =
+          let test : nat_eq j row.inode ≡ false = grind (arith, nat_tests) in
+          let left : row_of (set rows place new) j ≡ row_of rows j = row_of_other rows place row new j at differs (λ e. differs (e ∙ number)) in
+          let right : edit row.inode change (tree_of R rows) j ≡ tree_of R rows j = ap (λ (b : Bool). cond b (option_map change (tree_of R rows row.inode)) (tree_of R rows j)) test in
+          subst (λ (o : Option Row). SameNodes (option_map (node_of S) o) (edit row.inode change (tree_of R rows) j)) (sym left)
+          (subst (λ (o : Option Node). SameNodes (option_map (node_of S) (row_of rows j)) o) (sym right) (unchanged (row_of rows j) refl))
+
+-- ---- a mount that is as it was
+
+pub same_mount : {P : Type 0} (m : Mount P) → SameMount m m
+same_mount m = record { memory = refl; sup = refl; rows = same_rows m.rows; free = record { sup = refl; pools = refl }; faults = refl; read_only = refl; stopped = refl }

@@ -1,0 +1,113 @@
+-- The tests of writing calls on one path, by those of `stat` and by what is needed.
+use Rattle.std.proofs.Common.{◌≡◌, ℕ, ◌%◌, ◌<◌, ◌≤◌, nat_lt, Bool, true, false, cond, List, [], ◌∷◌, ◌++◌, append_assoc, refl, ap, sym, ◌∙◌, arith, Option, Some, None, Result, Ok, Err, IfErr, IsTrue, is_none, not}
+use Rattle.std.specs.Option.{option_and_then, option_map_or}
+use Rattle.std.proofs.lemmas.Bool.Decides.{nat_tests}
+use Rattle.nv_entry.specs.declared.entry.Entry.{Entry}
+use Rattle.nv_logpage.specs.Append.{needed}
+use Rattle.nv_scan.specs.declared.piece.Row.{Row}
+use Rattle.nv_named.specs.Read.{row_of}
+use Rattle.nv_tree.specs.declared.refusal.Refusal.{Refusal}
+use Rattle.nv_tree.specs.declared.refusal.Refusal.TheVariants.{BadCpu, NoSpace, NotDirectory, NotFound, ReadOnly, Stopped}
+use Rattle.nv_tree.specs.Path.{IsPath, Says}
+use Rattle.nv_tree.specs.Tree.{Node, Tree, and_then, as_directory, found, is_directory, name_in, or_not_found, walk}
+use Rattle.nv_tree.specs.Refusals.{Path, Tests, World, first_refusal, has_no_space, is_bad, is_missing, refused_walk, stat_tests, target, walk_tests, writing}
+use Rattle.nv_calls.specs.Grown.{log_blocks}
+use Rattle.nv_calls.specs.Seen.{LeadsTo}
+
+-- ---- tests behind others
+
+pub refused_before : (a b : Tests) (e : Refusal) → first_refusal a ≡ Some e → first_refusal (a ++ b) ≡ Some e
+refused_before [] b e h = absurd (cc)
+refused_before (x ∷ a) b e h = by x.0 (refused_before a b e) h where
+  by : (t : Bool) → (first_refusal a ≡ Some e → first_refusal (a ++ b) ≡ Some e) → cond t (Some x.1) (first_refusal a) ≡ Some e → cond t (Some x.1) (first_refusal (a ++ b)) ≡ Some e
+  by true rest h = h
+  by false rest h = rest h
+
+pub passed_before : (a b : Tests) → first_refusal a ≡ None → first_refusal (a ++ b) ≡ first_refusal b
+passed_before [] b h = refl
+passed_before (x ∷ a) b h = by x.0 (passed_before a b) h where
+  by : (t : Bool) → (first_refusal a ≡ None → first_refusal (a ++ b) ≡ first_refusal b) → cond t (Some x.1) (first_refusal a) ≡ None → cond t (Some x.1) (first_refusal (a ++ b)) ≡ first_refusal b
+  by true rest h = absurd (cc)
+  by false rest h = rest h
+
+-- the tests of `stat` come first
+stat_first : (t : Tree) (p : Path) (more : Tests) → is_bad p ∷ walk_tests t p ++ is_missing t p ∷ more ≡ stat_tests t p ++ more
+stat_first t p more = ap (λ (tests : Tests). is_bad p ∷ tests) (sym (append_assoc (walk_tests t p) (is_missing t p ∷ []) more))
+
+module _ (w : World) (t : Tree) (cpu : ℕ) (passed : (tests : Tests) → first_refusal (writing w cpu tests) ≡ first_refusal tests) (p : Path) where
+  -- What refuses `stat` refuses a call that writes.
+  pub stat_refuses : (more : Tests) (e : Refusal) → first_refusal (stat_tests t p) ≡ Some e → first_refusal (writing w cpu (is_bad p ∷ walk_tests t p ++ is_missing t p ∷ more)) ≡ Some e
+  stat_refuses more e h = passed (is_bad p ∷ walk_tests t p ++ is_missing t p ∷ more) ∙ ap first_refusal (stat_first t p more) ∙ refused_before (stat_tests t p) more e h
+
+  pub stat_allows : (more : Tests) → first_refusal (stat_tests t p) ≡ None → first_refusal (writing w cpu (is_bad p ∷ walk_tests t p ++ is_missing t p ∷ more)) ≡ first_refusal more
+  stat_allows more h = passed (is_bad p ∷ walk_tests t p ++ is_missing t p ∷ more) ∙ ap first_refusal (stat_first t p more) ∙ passed_before (stat_tests t p) more h
+
+pub enough_space : (w : World) (count : ℕ) → count ≤ w.free → first_refusal (has_no_space w count ∷ []) ≡ None
+enough_space w count enough = ap (λ (b : Bool). cond b (Some NoSpace) None) off where
+  off : nat_lt w.free count ≡ false
+  off = grind (arith, nat_tests)
+
+pub too_few : (w : World) (count : ℕ) → w.free < count → first_refusal (has_no_space w count ∷ []) ≡ Some NoSpace
+too_few w count few = ap (λ (b : Bool). cond b (Some NoSpace) None) on where
+  on : nat_lt w.free count ≡ true
+  on = grind (arith, nat_tests)
+
+-- What a log needs of the row that a path leads to.
+pub blocks_there : (rows : List Row) (t : Tree) (entries : Row → List Entry) (row : Row) (node : Node) (text : List ℕ) → row_of rows row.inode ≡ Some row → ((names : List (List ℕ)) → IsPath text names → LeadsTo t names row.inode node)
+    → (p : Path) → Says text p → first_refusal (stat_tests t p) ≡ None → log_blocks rows t p entries ≡ needed (row.tail % 4096) (entries row)
+blocks_there rows t entries row node text is leads None says none = absurd (cc)
+blocks_there rows t entries row node text is leads (Some names) says none =
+    let led = leads names says in
+    ap (λ (o : Option ℕ). option_map_or (λ (r : Row). needed (r.tail % 4096) (entries r)) (option_and_then (row_of rows) o) 0) led.leads ∙ ap (λ (o : Option Row). option_map_or (λ (r : Row). needed (r.tail % 4096) (entries r)) o 0) is
+
+-- ---- no test answers `Stopped`
+
+walk_goes_on : (t : Tree) (d : ℕ) (names : List (List ℕ)) → walk t d names ≡ Err Stopped → ⊥
+walk_goes_on t d [] e = absurd (cc)
+walk_goes_on t d (name ∷ []) e = here (t d) e where
+  here : (o : Option Node) → as_directory d o ≡ Err Stopped → ⊥
+  here None e = absurd (cc)
+  here (Some node) e = by (is_directory node.kind) e where
+    by : (b : Bool) → cond b (Ok d) (Err NotDirectory) ≡ Err Stopped → ⊥
+    by true e = absurd (cc)
+    by false e = absurd (cc)
+walk_goes_on t d (name ∷ next ∷ names) e = here (t d) (λ i. walk_goes_on t i (next ∷ names)) e where
+  named : (o : Option ℕ) → ((i : ℕ) → walk t i (next ∷ names) ≡ Err Stopped → ⊥) → and_then (or_not_found o) (λ i. walk t i (next ∷ names)) ≡ Err Stopped → ⊥
+  named None on e = absurd (cc)
+  named (Some i) on e = on i e
+
+  here : (o : Option Node) → ((i : ℕ) → walk t i (next ∷ names) ≡ Err Stopped → ⊥) → and_then (as_directory d o) (λ j. and_then (or_not_found (name_in t j name)) (λ i. walk t i (next ∷ names))) ≡ Err Stopped → ⊥
+  here None on e = absurd (cc)
+  here (Some node) on e = by (is_directory node.kind) e where
+    by : (b : Bool) → and_then (cond b (Ok d) (Err NotDirectory)) (λ j. and_then (or_not_found (name_in t j name)) (λ i. walk t i (next ∷ names))) ≡ Err Stopped → ⊥
+    by true e = named (name_in t d name) on e
+    by false e = absurd (cc)
+
+pub stat_goes_on : (t : Tree) (p : Path) → first_refusal (stat_tests t p) ≡ Some Stopped → ⊥
+stat_goes_on t None e = absurd (cc)
+stat_goes_on t (Some names) e = by (walk t 1 names) (walk_goes_on t 1 names) (is_none (found t names)) e where
+  by : (w : Result ℕ Refusal) → (w ≡ Err Stopped → ⊥) → (b : Bool) → first_refusal (refused_walk w ++ (b, NotFound) ∷ []) ≡ Some Stopped → ⊥
+  by (Err r) off b e = off (cc)
+  by (Ok d) off true e = absurd (cc)
+  by (Ok d) off false e = absurd (cc)
+
+pub writing_goes_on : (w : World) (cpu : ℕ) → first_refusal (writing w cpu []) ≡ Some Stopped → ⊥
+writing_goes_on w cpu e = by (nat_lt cpu w.cpus) w.read_only e where
+  by : (a b : Bool) → first_refusal ((not a, BadCpu) ∷ (b, ReadOnly) ∷ []) ≡ Some Stopped → ⊥
+  by true true e = absurd (cc)
+  by true false e = absurd (cc)
+  by false b e = absurd (cc)
+
+-- ---- replies
+
+-- what holds of each error
+pub if_err : {A E : Type 0} (r : Result A E) (Q : E → Type 0) → ((e : E) → Q e) → IfErr r Q
+if_err (Ok a) Q each = tt
+if_err (Err e) Q each = each e
+
+-- a call that was refused before anything was stored isn't stopped
+pub early_reply : {A : Type 0} {C : Type 0} (b : Bool) (r : Result A Refusal) (e x : Refusal) → r ≡ Err x → x ≡ e → (e ≡ Stopped → ⊥) → b ≡ false → (IsTrue b → C) × (r ≡ Err Stopped → IsTrue b)
+early_reply b r e x is same off runs = (
+  (λ on. absurd (let clash : true ≡ false = sym on ∙ runs in cc)),
+  (λ stops. absurd (off (let both : Err x ≡ Err Stopped = sym is ∙ stops in let one : x ≡ Stopped = cc in sym same ∙ one))),
+)

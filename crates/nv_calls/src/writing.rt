@@ -1,0 +1,47 @@
+//! The tests that every writing call begins with.
+
+ghost use Rattle.std.specs.Prelude.{◌≡◌, ◌<◌, IsTrue, IfErr, OnOk, Option, Result, false};
+ghost use Rattle.nv_alloc.specs.declared.allocators.AllocRefusal.{AllocRefusal as AllocRefusalValue};
+ghost use Rattle.nv_tree.specs.Refusals.{Tests, first_refusal, writing};
+ghost use Rattle.nv_tree.specs.declared.refusal.Refusal.{Refusal as RefusalValue};
+ghost use Rattle.nv_calls.specs.World.{world_of};
+
+use crate::Fs;
+use nv_alloc::AllocRefusal;
+use nv_region::Pmem;
+use nv_tree::Refusal;
+
+/// The refusal of a call that found no blocks.
+pub(crate) fn refusal_of(refusal: AllocRefusal) -> Refusal
+    ensures space { refusal ≡ AllocRefusalValue.NoSpace → result ≡ RefusalValue.NoSpace }
+    ensures memory { refusal ≡ AllocRefusalValue.Memory → result ≡ RefusalValue.Memory }
+{
+    match refusal {
+        AllocRefusal::NoSpace => Refusal::NoSpace,
+        AllocRefusal::Memory => Refusal::Memory,
+    }
+}
+
+impl<P: Pmem + Drop> Fs<P> {
+    /// Whether a call that names this CPU may write: `Stopped`, `BadCpu` and `ReadOnly` come in this order, before all
+    /// other tests.
+    pub(crate) fn writable(&self, cpu: u64) -> Result<(), Refusal>
+        ensures stopped { IsTrue self.now.stopped → result ≡ Result.Err RefusalValue.Stopped }
+        ensures runs { OnOk result (self.now.stopped ≡ false) }
+        ensures cpu { OnOk result (cpu < self.now.sup.cpus) }
+        ensures writes { OnOk result (self.now.read_only ≡ false) }
+        ensures passed { (tests : Tests) → OnOk result (first_refusal (writing (world_of self.now) cpu tests) ≡ first_refusal tests) }
+        ensures refused { self.now.stopped ≡ false → (tests : Tests) → IfErr result (λ e. first_refusal (writing (world_of self.now) cpu tests) ≡ Option.Some e) }
+    {
+        if self.stopped {
+            return Err(Refusal::Stopped);
+        }
+        if cpu >= self.sup.cpus {
+            return Err(Refusal::BadCpu);
+        }
+        if self.read_only {
+            return Err(Refusal::ReadOnly);
+        }
+        Ok(())
+    }
+}
