@@ -137,35 +137,40 @@ after_front old new k count b before after at few puts p = elim (in_run (k + cou
     some_front : 0 < count → front_of b count ≡ Some (record { start = b.start; count = count })
     some_front some = let no : (count == 0) ≡ false = grind (arith, nat_tests) in rw no refl
 
--- A run is put between those that end before it and those that begin behind it.
-put_between : (old new : Runs) (k : ℕ) (b : Blocks) → AreRuns old → IsRun k b → ((q : ℕ) (c : Blocks) → q < k → run_at old q ≡ Some c → q + c.count ≤ k) → ((q : ℕ) (c : Blocks) → k < q → run_at old q ≡ Some c → k + b.count ≤ q)
-    → Puts old new k (Some b) → AreRuns new
-put_between old new k b before is ends_before begins_behind puts = record { rising = puts.rising; each = each; apart = apart }
+-- a run that would stand between those that end before it and those that begin behind it
+record IsBetween (runs : Runs) (k : ℕ) (b : Blocks) : Type 0 where
+  pub is : IsRun k b
+  pub before : (q : ℕ) (c : Blocks) → q < k → run_at runs q ≡ Some c → q + c.count ≤ k
+  pub behind : (q : ℕ) (c : Blocks) → k < q → run_at runs q ≡ Some c → k + b.count ≤ q
+
+-- such a run is put, or none
+put_between : (old new : Runs) (k : ℕ) (w : Option Blocks) → AreRuns old → ((b : Blocks) → w ≡ Some b → IsBetween old k b) → Puts old new k w → AreRuns new
+put_between old new k w before fits puts = record { rising = puts.rising; each = each; apart = apart }
   where
     old_run : (q : ℕ) (c : Blocks) → q ≢ k → run_at new q ≡ Some c → run_at old q ≡ Some c
     old_run q c other h = sym (puts.others q other) ∙ h
 
-    new_run : (q : ℕ) (c : Blocks) → q ≡ k → run_at new q ≡ Some c → c ≡ b
-    new_run q c e h = some_is c b _ (subst (λ (n : ℕ). run_at new n ≡ Some c) e h) puts.here
+    new_run : (q : ℕ) (c : Blocks) → q ≡ k → run_at new q ≡ Some c → IsBetween old k c
+    new_run q c e h = fits c (sym puts.here ∙ subst (λ (n : ℕ). run_at new n ≡ Some c) e h)
 
     each : (q : ℕ) (c : Blocks) → run_at new q ≡ Some c → IsRun q c
     each q c h = elim (cases_eq q k) [
-      | inl e ↦ rw (e, new_run q c e h) is
+      | inl e ↦ rw e (new_run q c e h).is
       | inr other ↦ before.each q c (old_run q c other h)
     ]
 
     apart : (q l : ℕ) (c d : Blocks) → run_at new q ≡ Some c → run_at new l ≡ Some d → q < l → q + c.count ≤ l
     apart q l c d x y less = elim (cases_eq q k) [
-      | inl e ↦ rw (e, new_run q c e x) (begins_behind l d (omega (arith, e, less)) (old_run l d (λ f. omega (arith, e, f, less)) y))
+      | inl e ↦ rw e ((new_run q c e x).behind l d (omega (arith, e, less)) (old_run l d (λ f. omega (arith, e, f, less)) y))
       | inr other ↦ elim (cases_eq l k) [
-        | inl e ↦ rw e (ends_before q c (omega (arith, e, less)) (old_run q c other x))
+        | inl e ↦ rw e ((new_run l d e y).before q c (omega (arith, e, less)) (old_run q c other x))
         | inr also ↦ before.apart q l c d (old_run q c other x) (old_run l d also y) less
       ]
     ]
 
 -- a run over pages that map to nothing stands apart from the others
 pub put_free : (old new : Runs) (k : ℕ) (b : Blocks) → AreRuns old → IsRun k b → ((p : ℕ) → in_run k b.count p ≡ true → block_by old p ≡ None) → Puts old new k (Some b) → AreRuns new
-put_free old new k b before is free puts = put_between old new k b before is ends_before begins_behind puts
+put_free old new k b before is free puts = put_between old new k (Some b) before (λ c e. rw (some_only c b (sym e)) (record { is = is; before = ends_before; behind = begins_behind })) puts
   where
     ends_before : (q : ℕ) (c : Blocks) → q < k → run_at old q ≡ Some c → q + c.count ≤ k
     ends_before q c less h =
@@ -194,45 +199,26 @@ after_put old new k b before after some free puts p = elim (in_run k b.count p) 
 
 -- the first pages of a run stand apart from the other runs as the run did
 pub front_runs : (old new : Runs) (k count : ℕ) (b : Blocks) → AreRuns old → run_at old k ≡ Some b → count ≤ b.count → Puts old new k (front_of b count) → AreRuns new
-front_runs old new k count b before at few puts = record { rising = puts.rising; each = each; apart = apart }
+front_runs old new k count b before at few puts = put_between old new k (front_of b count) before fits puts
   where
-    old_run : (q : ℕ) (c : Blocks) → q ≢ k → run_at new q ≡ Some c → run_at old q ≡ Some c
-    old_run q c other h = sym (puts.others q other) ∙ h
+    some : (c : Blocks) → front_of b count ≡ Some c → 0 < count
+    some c h = elim (cases_eq count 0) [ inl e ↦ absurd (let none : front_of b count ≡ None = rw e refl in cc) | inr more ↦ omega (arith, more) ]
 
-    is_front : (c : Blocks) → run_at new k ≡ Some c → (c.start ≡ b.start) × (c.count ≡ count) × (0 < count)
-    is_front c h = let front : front_of b count ≡ Some c = sym puts.here ∙ h in let is = front_is b c count front in (is.0, is.1, some c front)
-      where
-        some : (c : Blocks) → front_of b count ≡ Some c → 0 < count
-        some c h = elim (cases_eq count 0) [ inl e ↦ absurd (let none : front_of b count ≡ None = rw e refl in cc) | inr more ↦ omega (arith, more) ]
-
-    each : (q : ℕ) (c : Blocks) → run_at new q ≡ Some c → IsRun q c
-    each q c h = elim (cases_eq q k) [
-      | inl e ↦ (let is = is_front c (subst (λ (n : ℕ). run_at new n ≡ Some c) e h) in let old_is = before.each k b at in record {
-        some = omega (arith, is.1, is.2);
-        pages = omega (arith, e, is.1, few, old_is.pages);
-        blocks = omega (arith, is.0, is.1, few, old_is.blocks);
-      })
-      | inr other ↦ before.each q c (old_run q c other h)
-    ]
-
-    apart : (q l : ℕ) (c d : Blocks) → run_at new q ≡ Some c → run_at new l ≡ Some d → q < l → q + c.count ≤ l
-    apart q l c d x y less = elim (cases_eq q k) [
-      | inl e ↦ (let is = is_front c (subst (λ (n : ℕ). run_at new n ≡ Some c) e x) in
-          let end = before.apart k l b d at (old_run l d (λ f. omega (arith, e, f, less)) y) (omega (arith, e, less)) in
-          omega (arith, e, is.1, few, end))
-      | inr other ↦ elim (cases_eq l k) [
-        | inl e ↦ rw e (before.apart q k c b (old_run q c other x) at (omega (arith, e, less)))
-        | inr also ↦ before.apart q l c d (old_run q c other x) (old_run l d also y) less
-      ]
-    ]
+    fits : (c : Blocks) → front_of b count ≡ Some c → IsBetween old k c
+    fits c h = let front = front_is b c count h in let more = some c h in let is = before.each k b at in record {
+      is = record { some = omega (arith, front.1, more); pages = omega (arith, front.1, few, is.pages); blocks = omega (arith, front.0, front.1, few, is.blocks) };
+      before = λ q d less x. before.apart q k d b x at less;
+      behind = λ q d more x. (let end = before.apart k q b d at x more in omega (arith, end, front.1, few));
+    }
 
 -- A run that takes the place of one of the very same pages.
 module _ (old new : Runs) (k : ℕ) (b c : Blocks) (before : AreRuns old) (is : IsRun k b) (at : run_at old k ≡ Some c) (same : c.count ≡ b.count) (puts : Puts old new k (Some b)) where
   pub replaced_runs : AreRuns new
-  replaced_runs = put_between old new k b before is
-      (λ q d less h. before.apart q k d c h at less)
-      (λ q d more h. (let end = before.apart k q c d at h more in omega (arith, end, same)))
-      puts
+  replaced_runs = put_between old new k (Some b) before (λ d e. rw (some_only d b (sym e)) (record {
+    is = is;
+    before = λ q f less h. before.apart q k f c h at less;
+    behind = λ q f more h. (let end = before.apart k q c f at h more in omega (arith, end, same));
+  })) puts
 
   pub replaced : (p : ℕ) → block_by new p ≡ (if in_run k b.count p then Some (b.start + (p - k)) else block_by old p)
   replaced p = elim (in_run k b.count p) as (λ (t : Bool). in_run k b.count p ≡ t → block_by new p ≡ cond t (Some (b.start + (p - k))) (block_by old p)) [
