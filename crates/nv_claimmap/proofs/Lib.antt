@@ -1,4 +1,5 @@
 pub mod TableWords
 pub mod Keeping
+pub mod Marking
 pub mod Closing
 pub mod Seats

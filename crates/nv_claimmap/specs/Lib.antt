@@ -1,3 +1,4 @@
 pub mod Held
 pub mod Inside
 pub mod Rule
+pub mod Events

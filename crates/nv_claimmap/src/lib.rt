@@ -8,11 +8,13 @@
 //! that were claimed twice or more, whichever worker came first.
 #![tactic(auto)]
 
+mod laws;
 mod map;
 mod places;
 mod rule;
 mod seat;
 mod steps;
 
+pub use laws::steps_are_events;
 pub use map::{ClaimMap, Claimed};
 pub use seat::ClaimSeat;

@@ -5,7 +5,7 @@ ghost use Rattle.nv_super.specs.Owners.{MayOwn};
 ghost use Rattle.nv_claimcore.specs.Claims.{nothing, both_views};
 
 use nv_claimcore::Sizes;
-use nv_claimmap::{ClaimMap, ClaimSeat, Claimed};
+use nv_claimmap::{ClaimMap, ClaimSeat, Claimed, steps_are_events};
 use nv_super::{Owner, Run};
 use std::alloc::{AllocError, Global};
 use std::process::Abort;
@@ -348,4 +348,10 @@ fn two_threads_that_claim_overlapping_runs_agree_with_a_plain_count(
     count_overlapping(&mut counts, 53);
     assert_counted(&rt, &closed, &counts);
     Ok(())
+}
+
+#[test]
+fn the_law_of_steps_can_be_called(rt: HostRuntime) {
+    steps_are_events();
+    assert!(rt; true);
 }
