@@ -4,3 +4,4 @@ pub mod Progress
 pub mod KnownProgress
 pub mod LineReplies
 pub mod OneTranscript
+pub mod HintReplies

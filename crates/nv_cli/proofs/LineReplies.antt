@@ -1,6 +1,6 @@
 -- What the answer to a line says of the lines that are reached: `number` is the line's number, and `state` and `mid` are
 -- the states before and after it.
-use Rattle.std.proofs.Common.{◌≡◌, ◌≤◌, ℕ, ◌+◌, List, [], length, Option, refl, inl, inr, subst, ap, sym, ◌∙◌, append-nil, string_bytes}
+use Rattle.std.proofs.Common.{◌≡◌, ◌<◌, ◌≤◌, ℕ, ◌+◌, nat_lt, true, List, [], length, Option, refl, inl, inr, subst, ap, sym, ◌∙◌, append-nil, arith, string_bytes}
 use Rattle.std.specs.Prelude.{String}
 use Rattle.std.specs.declared.alloc.Global.{Global}
 use Rattle.std.specs.Io.KnownBytes.{Appends}
@@ -12,14 +12,19 @@ use Rattle.nv_line.specs.Lines.{line_limit}
 use Rattle.nv_line.specs.Spelling.{Says}
 use Rattle.nv_line.specs.View.{view}
 use Rattle.nv_line.specs.declared.commands.Command.{Command}
+use Rattle.nv_line.specs.Reasons.{reason_of}
+use Rattle.nv_line.specs.declared.reasons.Reason.{Reason}
+use Rattle.nv_line.specs.declared.reasons.Reason.TheVariants as reasons
+use Rattle.nv_stream.specs.declared.reading.Next.TheVariants as nexts
 use Rattle.nv_session.specs.Sessions.{Moves, Leads}
 use Rattle.nv_session.specs.declared.session.Session.{Session}
 use Rattle.nv_session.specs.Machine.{State, Step}
 use Rattle.nv_cli.specs.Script.{Shows}
 use Rattle.nv_cli.specs.Replies.{Replies, KnownReplies, RepliesTo}
-use Rattle.nv_stream.specs.Streams.{AppendsFront}
+use Rattle.nv_stream.specs.Streams.{AppendsFront, TakesKnownLine, TakesLine}
 use Rattle.nv_cli.specs.declared.script.Reply.TheVariants.{End, Skipped, Text, Bad}
 use Rattle.nv_cli.proofs.KnownProgress.{GoesOn, Ends, EndsInside}
+use Rattle.std.proofs.lemmas.Bool.Decides.{nat_tests}
 use Rattle.nv_stream.proofs.KnownFacts.{known_map}
 use Rattle.nv_stream.proofs.StreamLemmas.{appends_none}
 
@@ -39,15 +44,15 @@ module _ (left after now then : Option (List ℕ)) (number : ℕ) (state mid : S
       let last : status ≡ status_of state.last = is ∙ ap (λ (s : State). status_of s.last) r.1 in
       record { text = []; added = appends_none now; shown = rw none (refl, last) }) replies
 
-  pub bad_ends : KnownReplies left after state Bad mid → Appends now then (bad_line number) → IfKnown left after (λ input rest. Ends (Shows number state) now then input 2)
-  bad_ends replies added = known_map left after _ _ (λ input rest (r : Replies input rest state Bad mid). record {
+  pub bad_ends : (reason : Reason) → KnownReplies left after state (Bad reason) mid → Appends now then (bad_line number) → IfKnown left after (λ input rest. Ends (Shows number state) now then input 2)
+  bad_ends reason replies added = known_map left after _ _ (λ input rest (r : Replies input rest state (Bad reason) mid). record {
     text = bad_line number;
     added = added;
     shown = rw r.2 (inr (inr (r.3, refl, refl)));
   }) replies
 
-  pub bad_ends_inside : KnownReplies left after state Bad mid → AppendsFront now then (bad_line number) → IfKnown left after (λ input rest. EndsInside (Shows number state) now then input)
-  bad_ends_inside replies added = known_map left after _ _ (λ input rest (r : Replies input rest state Bad mid). record {
+  pub bad_ends_inside : (reason : Reason) → KnownReplies left after state (Bad reason) mid → AppendsFront now then (bad_line number) → IfKnown left after (λ input rest. EndsInside (Shows number state) now then input)
+  bad_ends_inside reason replies added = known_map left after _ _ (λ input rest (r : Replies input rest state (Bad reason) mid). record {
     line = r.0;
     behind = r.1;
     text = bad_line number;
@@ -82,3 +87,11 @@ module _ (left after now then : Option (List ℕ)) (number : ℕ) (state mid : S
 pub executed : (line : List ℕ) (command : Command) (old new : Session) (text : String Global) → (length line ≤ line_limit) × Says line (view command)
     → Moves (λ from said to. Step from (view command) said to) old (string_bytes text) new → Leads (λ from to. RepliesTo line from (Text text) to) old new
 executed line command old new text says moves = λ state stands. let next = moves state stands in (next.0, (says.0, (view command, says.1, next.1)), next.2)
+
+-- a line that is too long says so
+too_long : (line : List ℕ) → line_limit < length line → reasons.TooLong ≡ reason_of line
+unfolding reason_of
+too_long line long = let over : nat_lt line_limit (length line) ≡ true = grind (arith, nat_tests, long) in rw over refl
+
+pub long_replies : (left after : Option (List ℕ)) (line : List ℕ) (state : State) → TakesKnownLine left after nexts.TooLong line → KnownReplies left after state (Bad reasons.TooLong) state
+long_replies left after line state taken = known_map left after _ _ (λ input rest (t : TakesLine input rest nexts.TooLong line). (t.0, t.1, t.2, inl t.3, too_long t.0 t.3)) taken

@@ -1,4 +1,4 @@
--- A script has one transcript.
+-- A script has one transcript, and one list of hints.
 use Rattle.std.proofs.Common.{◌≡◌, ◌+◌, inl, inr, ℕ, List, [], ◌∷◌, ◌++◌, length, sym, ◌∙◌, subst, arith}
 use Rattle.std.specs.Prelude.{◌≤◌}
 use Rattle.nv_line.specs.Request.{Request}
@@ -8,6 +8,7 @@ use Rattle.nv_line.proofs.Grammar.{one_request, skipped_says}
 use Rattle.nv_line.specs.Lines.{line_limit}
 use Rattle.nv_session.specs.Machine.{State, Step}
 use Rattle.nv_session.proofs.OneStep.{IsOne, step_one}
+use Rattle.nv_cli.specs.Hints.{Hinted, answer_hint}
 use Rattle.nv_cli.specs.Script.{Runs, Shows}
 
 -- what a line's command prints and leaves
@@ -41,3 +42,19 @@ shows_one number old (line ∷ lines) s t x y (inr (inl p)) (inr (inr q)) = absu
 shows_one number old (line ∷ lines) s t x y (inr (inr p)) (inl q) = absurd (bad_skipped line q.0 q.1 p.0)
 shows_one number old (line ∷ lines) s t x y (inr (inr p)) (inr (inl q)) = absurd (bad_says line q.4.0 q.0 q.4.1 p.0)
 shows_one number old (line ∷ lines) s t x y (inr (inr p)) (inr (inr q)) = (p.1 ∙ sym q.1, p.2 ∙ sym q.2)
+
+-- the hints behind its lines
+pub hinted_one : (number : ℕ) (old : State) (lines : List (List ℕ)) (s t : List ℕ) → Hinted number old lines s → Hinted number old lines t → s ≡ t
+hinted_one number old [] s t p q = p ∙ sym q
+hinted_one number old (line ∷ lines) s t (inl p) (inl q) = hinted_one (number + 1) old lines s t p.2 q.2
+hinted_one number old (line ∷ lines) s t (inl p) (inr (inl q)) = absurd (skipped_says line q.4.0 p.1 q.4.1)
+hinted_one number old (line ∷ lines) s t (inl p) (inr (inr q)) = absurd (bad_skipped line p.0 p.1 q.0)
+hinted_one number old (line ∷ lines) s t (inr (inl p)) (inl q) = absurd (skipped_says line p.4.0 q.1 p.4.1)
+hinted_one number old (line ∷ lines) s t (inr (inl p)) (inr (inl q)) =
+    let one = runs_one line old p.1 q.1 p.3 q.3 p.4 q.4 in
+    let rest = hinted_one (number + 1) p.3 lines p.2 q.2 p.5 (subst (λ (m : State). Hinted (number + 1) m lines q.2) (sym one.1) q.5) in
+    p.6 ∙ (λ i. answer_hint (one.0 i) (one.1 i) ++ rest i) ∙ sym q.6
+hinted_one number old (line ∷ lines) s t (inr (inl p)) (inr (inr q)) = absurd (bad_says line p.4.0 p.0 p.4.1 q.0)
+hinted_one number old (line ∷ lines) s t (inr (inr p)) (inl q) = absurd (bad_skipped line q.0 q.1 p.0)
+hinted_one number old (line ∷ lines) s t (inr (inr p)) (inr (inl q)) = absurd (bad_says line q.4.0 q.0 q.4.1 p.0)
+hinted_one number old (line ∷ lines) s t (inr (inr p)) (inr (inr q)) = p.1 ∙ sym q.1

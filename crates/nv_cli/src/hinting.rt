@@ -1,11 +1,15 @@
 //! What a user may want to know behind a line that a script prints.
 
-ghost use Rattle.std.specs.Prelude.{Some};
-ghost use Rattle.nv_cli.specs.Hints.{hint_text};
+ghost use Rattle.std.specs.Prelude.{ℕ, List, Option, None, Some};
+ghost use Rattle.std.specs.Io.KnownBytes.{Appends};
+ghost use Rattle.nv_cli.specs.Hints.{hint_text, hint_line};
 
 use nv_line::Reason;
 use nv_report::BadLength;
 use std::fmt;
+
+/// The line that refuses a region for its length.
+pub const LENGTH_REFUSED: &str = "refused S1\n";
 
 /// What stands behind a line of the output.
 #[derive(Clone, Copy, Debug, PartialEq, Eq)]
@@ -29,7 +33,11 @@ impl fmt::Display for Hint {
 
 /// Takes hints, each right after the line of the output that it stands behind was written.
 pub trait Hints {
-    fn give(&mut self, hint: Hint);
+    /// The hints that were taken, a line each, where that is known.
+    ghost told: { Self → Option (List ℕ) } = { λ _. None };
+
+    fn give(&mut self, hint: Hint)
+        ensures { Appends (told self.old) (told self.new) (hint_line hint) };
 }
 
 /// Leaves all hints out.

@@ -9,7 +9,7 @@ mod laws;
 mod script;
 
 pub use checking::check_region;
-pub use hinting::{Hint, Hints};
+pub use hinting::{Hint, Hints, LENGTH_REFUSED};
 pub use laws::{one_check, one_transcript};
 pub use nv_stream::ScriptError;
 pub use script::{run_script, run_script_with_hints};

@@ -2,18 +2,20 @@
 //!
 //! Each line's whole text is made before a byte of it is written, so a line for which memory is wanted prints nothing.
 
-ghost use Rattle.std.specs.Prelude.{◌≡◌, ◌↔◌, IfOk, IfErr, OnErr, IsErrOf, IsTrue, string_bytes};
+ghost use Rattle.std.specs.Prelude.{◌≡◌, IfOk, IfErr, OnErr, IsErrOf, bytes_eq, string_bytes};
+ghost use Rattle.std.specs.Io.KnownBytes.{Appends};
 ghost use Rattle.nv_super.specs.declared.superblock.SuperFault.TheVariants as SuperFault;
 ghost use Rattle.nv_text.specs.Answers.{bad_line, refused_line};
 ghost use Rattle.nv_super.specs.FaultText.{super_fault_name};
 ghost use Rattle.nv_cli.specs.Script.{ShowsScript};
+ghost use Rattle.nv_cli.specs.Hints.{HintsScript, answer_hint};
 ghost use Rattle.nv_cli.specs.Replies.{KnownReplies, RepliesTo};
-ghost use Rattle.nv_session.specs.Machine.{first_state};
+ghost use Rattle.nv_session.specs.Machine.{State, first_state};
 ghost use Rattle.nv_session.specs.Sessions.{Leads, StandsFor};
 ghost use Rattle.nv_cli.specs.Transcript.{WritesAll, WritesFront, WritesWhole};
 
-use crate::hinting::{Hint, Hints, NoHints};
-use nv_line::{Line, classify, why_bad};
+use crate::hinting::{Hint, Hints, LENGTH_REFUSED, NoHints};
+use nv_line::{Line, Reason, classify, why_bad};
 use nv_report::BadLength;
 use nv_session::Session;
 use nv_stream::{Next, ScriptError, read_line, write_text};
@@ -35,8 +37,8 @@ enum Reply {
     Skipped,
     /// It is a command, which prints this.
     Text(String),
-    /// It is no command, and the last line.
-    Bad,
+    /// It is no command, for this reason, and the last line.
+    Bad(Reason),
 }
 
 /// Runs a script, and answers its exit status: 2 after a bad line, and where the last recovery was refused; else 1 where
@@ -72,6 +74,9 @@ pub fn run_script_with_hints<H: Threads + Sync, R: Read + Drop, W: Write, N: Hin
     ensures ok { IfOk result (λ status. WritesAll ShowsScript (R.remaining reader) (W.contents writer.old) (W.contents writer.new) status) }
     ensures err { OnErr result (WritesFront ShowsScript (R.remaining reader) (W.contents writer.old) (W.contents writer.new)) }
     ensures memory { IsErrOf result ScriptError.Memory → WritesWhole ShowsScript (R.remaining reader) (W.contents writer.old) (W.contents writer.new) }
+    // What was given is the hints of these lines, or after an error those of the first lines.
+    ensures hints { IfOk result (λ status. WritesAll HintsScript (R.remaining reader) (N.told hints.old) (N.told hints.new) status) }
+    ensures first_hints { OnErr result (WritesWhole HintsScript (R.remaining reader) (N.told hints.old) (N.told hints.new)) }
 {
     let Ok(mut reader) = BufReader::with_capacity(alloc, BUFFER_SIZE, reader) else {
         return Err(ScriptError::Memory);
@@ -103,6 +108,8 @@ fn run_lines<H: Threads + Sync, R: Read, W: Write, N: Hints>(
     ensures ok { IfOk result (λ status. WritesAll ShowsScript (R.remaining reader.old) (W.contents writer.old) (W.contents writer.new) status) }
     ensures err { OnErr result (WritesFront ShowsScript (R.remaining reader.old) (W.contents writer.old) (W.contents writer.new)) }
     ensures memory { IsErrOf result ScriptError.Memory → WritesWhole ShowsScript (R.remaining reader.old) (W.contents writer.old) (W.contents writer.new) }
+    ensures hints { IfOk result (λ status. WritesAll HintsScript (R.remaining reader.old) (N.told hints.old) (N.told hints.new) status) }
+    ensures first_hints { OnErr result (WritesWhole HintsScript (R.remaining reader.old) (N.told hints.old) (N.told hints.new)) }
 {
     'lines: for number in 1..u64::MAX {
         match next_reply(rt, alloc, session, line, reader)? {
@@ -112,10 +119,10 @@ fn run_lines<H: Threads + Sync, R: Read, W: Write, N: Hints>(
                 write_text(writer, text.as_bytes())?;
                 hint_length(session, &text, hints);
             }
-            Reply::Bad => {
+            Reply::Bad(reason) => {
                 let text = bad_line_text(alloc, number)?;
                 write_text(writer, text.as_bytes())?;
-                hint_bad_line(alloc, number, line, hints);
+                hints.give(Hint::BadLine(number, reason));
                 return Ok(BAD_LINE_STATUS);
             }
         }
@@ -134,7 +141,7 @@ fn next_reply<H: Threads + Sync, R: Read>(
 {
     match read_line(reader, line)? {
         Next::End => Ok(Reply::End),
-        Next::TooLong => Ok(Reply::Bad),
+        Next::TooLong => Ok(Reply::Bad(Reason::TooLong)),
         Next::Line => answer_line(rt, alloc, session, line),
     }
 }
@@ -152,7 +159,7 @@ fn answer_line<H: Threads + Sync>(
     match classify(alloc, line)? {
         Line::Skipped => Ok(Reply::Skipped),
         Line::Command(command) => Ok(Reply::Text(session.execute(rt, alloc, command)?)),
-        Line::Bad => Ok(Reply::Bad),
+        Line::Bad => Ok(Reply::Bad(why_bad(alloc, line)?)),
     }
 }
 
@@ -164,15 +171,10 @@ fn bad_line_text(alloc: Global, number: u64) -> Result<String, AllocError>
     Ok(text)
 }
 
-// Tells why a line is bad, unless memory is wanted for that.
-fn hint_bad_line<N: Hints>(alloc: Global, number: u64, line: &[u8], hints: &mut N) {
-    if let Ok(reason) = why_bad(alloc, line) {
-        hints.give(Hint::BadLine(number, reason));
-    }
-}
-
 // Tells the region's length behind a refusal for it.
-fn hint_length<N: Hints>(session: &Session, text: &str, hints: &mut N) {
+fn hint_length<N: Hints>(session: &Session, text: &str, hints: &mut N)
+    ensures { (state : State) → StandsFor session.now state → Appends (N.told hints.old) (N.told hints.new) (answer_hint text.now state) }
+{
     if !is_length_refusal(text) {
         return;
     }
@@ -182,7 +184,7 @@ fn hint_length<N: Hints>(session: &Session, text: &str, hints: &mut N) {
 }
 
 fn is_length_refusal(text: &str) -> bool
-    ensures { IsTrue result ↔ text.now ≡ refused_line (super_fault_name SuperFault.Length) }
+    ensures { result ≡ bytes_eq text.now (refused_line (super_fault_name SuperFault.Length)) }
 {
-    text == "refused S1\n"
+    text == LENGTH_REFUSED
 }

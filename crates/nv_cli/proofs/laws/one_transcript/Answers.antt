@@ -1,5 +1,5 @@
 use Rattle.nv_session.specs.Machine.{first_state}
-use Rattle.nv_cli.proofs.OneTranscript.{shows_one}
+use Rattle.nv_cli.proofs.OneTranscript.{hinted_one, shows_one}
 use Rattle.nv_cli.proofs.laws.one_transcript.Goals as goal
 
 pub returns-clause-text : goal.returns-clause-text
@@ -7,3 +7,6 @@ returns-clause-text c = λ lines text other status another p q. (shows_one 1 fir
 
 pub returns-clause-status : goal.returns-clause-status
 returns-clause-status c = λ lines text other status another p q. (shows_one 1 first_state lines text other status another p q).1
+
+pub returns-clause-hints : goal.returns-clause-hints
+returns-clause-hints c = λ lines hints other status another p q. hinted_one 1 first_state lines hints other p q
