@@ -5,3 +5,4 @@ pub mod BothTails
 pub mod Removes
 pub mod Makes
 pub mod Called
+pub mod BlocksOf

@@ -2,3 +2,4 @@ pub mod Extends
 pub mod Together
 pub mod Removes
 pub mod Makes
+pub mod Pages

@@ -9,6 +9,7 @@ mod extending;
 mod faultless;
 mod laws;
 mod making;
+mod owning;
 mod removing;
 mod together;
 
@@ -19,5 +20,6 @@ pub use faultless::{
 };
 pub use laws::shown_is_sound;
 pub use making::{NewInode, make_inode};
+pub use owning::{begun_log_owns, gone_blocks_are_free, no_page_is_said};
 pub use removing::remove_inode;
 pub use together::{Extension, extend_two};
