@@ -70,10 +70,10 @@ module _ {R S : Region} {s : Super} {held : Store} {h : Held} {row mid : Row} {f
       let right = sound.faultless in
       let grown = a.row in
       log_follows (Attr x ∷ []) shows lists a.taken a.count (refl, tt) (omega arith) (a.moved held h (can_extend (Attr x ∷ []) shows lists a.taken a.count (refl, tt) (omega arith))) a.mixed
-          (attr_names (fixed_layout s) h x mode size_held (end_of a.fresh 0 h.tail (Attr x ∷ [])) at pages)
-          (attr_file (fixed_layout s) h x mode size_held (end_of a.fresh 0 h.tail (Attr x ∷ [])) at pages)
-          (attr_clean (fixed_layout s) h x mode size_held (end_of a.fresh 0 h.tail (Attr x ∷ [])) at pages row.inode (λ f fault. right.clean row.inode h f shows.holds fault))
-          new grown.inode kept
+      (attr_names (fixed_layout s) h x mode size_held (end_of a.fresh 0 h.tail (Attr x ∷ [])) at pages)
+      (attr_file (fixed_layout s) h x mode size_held (end_of a.fresh 0 h.tail (Attr x ∷ [])) at pages)
+      (attr_clean (fixed_layout s) h x mode size_held (end_of a.fresh 0 h.tail (Attr x ∷ [])) at pages row.inode (λ f fault. right.clean row.inode h f shows.holds fault))
+      new grown.inode kept
 
 -- The node has the attributes.
 pub attributed_node : (R S : Region) {row new : Row} (mode owner group time size : ℕ) → HasAttributes row (record { mode = mode % 4096; size = size; time = time; owner = owner; group = group }) new

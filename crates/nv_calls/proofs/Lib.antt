@@ -17,3 +17,4 @@ pub mod OneRow
 pub mod RowChange
 pub mod Attributed
 pub mod Tests
+pub mod SetAttr

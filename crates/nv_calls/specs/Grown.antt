@@ -28,6 +28,10 @@ pub record LogGrew (S : Region) (s : Super) (held : Store) (i : ℕ) (h : Held) 
   pub count : length fresh ≡ needed (h.tail % 4096) entries
   pub sound : ShowsSound S s (with_log held i h entries fresh)
 
+-- there are free blocks over which it has grown so
+abbrev pub ShowsGrownLog : Region → Super → Store → ℕ → Held → List Entry → Type 0
+ShowsGrownLog S s held i h entries = ∥ (LogGrew S s held i h entries) ∥₁
+
 -- What is known of a row where something is to be written behind its log: where its slot and its tail stand, and that the
 -- tail's page isn't free.
 pub record StandsRight (R : Region) (s : Super) (free : FreeLists) (row : Row) : Type 0 where

@@ -2,6 +2,7 @@
 #![tactic(auto)]
 
 mod appending;
+mod attributes;
 mod blocks;
 mod fs;
 mod listing;

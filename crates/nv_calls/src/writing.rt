@@ -1,25 +1,20 @@
 //! The tests that every writing call begins with.
 
 ghost use Rattle.std.specs.Prelude.{◌≡◌, ◌<◌, IsTrue, IfErr, OnOk, Option, Result, false};
-ghost use Rattle.nv_alloc.specs.declared.allocators.AllocRefusal.{AllocRefusal as AllocRefusalValue};
 ghost use Rattle.nv_tree.specs.Refusals.{Tests, first_refusal, writing};
 ghost use Rattle.nv_tree.specs.declared.refusal.Refusal.{Refusal as RefusalValue};
 ghost use Rattle.nv_calls.specs.World.{world_of};
 
 use crate::Fs;
-use nv_alloc::AllocRefusal;
 use nv_region::Pmem;
 use nv_tree::Refusal;
 
-/// The refusal of a call that found no blocks.
-pub(crate) fn refusal_of(refusal: AllocRefusal) -> Refusal
-    ensures space { refusal ≡ AllocRefusalValue.NoSpace → result ≡ RefusalValue.NoSpace }
-    ensures memory { refusal ≡ AllocRefusalValue.Memory → result ≡ RefusalValue.Memory }
+/// Whether a refusal says that the memory's fuse has burnt.
+pub(crate) fn is_stop(refusal: Refusal) -> bool
+    ensures yes { IsTrue result → refusal ≡ RefusalValue.Stopped }
+    ensures no { result ≡ false → refusal ≡ RefusalValue.Stopped → ⊥ }
 {
-    match refusal {
-        AllocRefusal::NoSpace => Refusal::NoSpace,
-        AllocRefusal::Memory => Refusal::Memory,
-    }
+    matches!(refusal, Refusal::Stopped)
 }
 
 impl<P: Pmem + Drop> Fs<P> {

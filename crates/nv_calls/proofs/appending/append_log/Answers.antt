@@ -11,17 +11,17 @@ pub returns-in-Ok-extend_log-clause-appended : goal.returns-in-Ok-extend_log-cla
 returns-in-Ok-extend_log-clause-appended g c =
     let settled = c.settle_log.ensures in
     appends_log c.args.entries.now c.in-Ok.fresh.items c.deref.result.now c.slot_address-slot.result c.in-Ok-extend_log.end c.deref.ensures.value c.slot_address-slot.ensures c.in-Ok.ensures.taken c.in-Ok.ensures.count c.in-Ok-extend_log.ensures.end
-        (record {
-          inode = settled.inode;
-          kind = settled.kind;
-          numbers = settled.numbers;
-          head = settled.head;
-          tail = settled.tail;
-          pages = settled.pages ∙ ap (λ (pages : List ℕ). pages ++ c.deref-in-Ok-extend_log.result.now) c.in-Ok.ensures.pages ∙ ap (λ (more : List ℕ). c.args.row.now.pages.items ++ more) c.deref-in-Ok-extend_log.ensures.value;
-          index = settled.index;
-          names = settled.names;
-        })
-        (λ held h can. c.in-Ok-extend_log.ensures.shows c.args.sup.now held c.args.row.now.inode h can) c.in-Ok-extend_log.ensures.wrote.mixed
+    (record {
+      inode = settled.inode;
+      kind = settled.kind;
+      numbers = settled.numbers;
+      head = settled.head;
+      tail = settled.tail;
+      pages = settled.pages ∙ ap (λ (pages : List ℕ). pages ++ c.deref-in-Ok-extend_log.result.now) c.in-Ok.ensures.pages ∙ ap (λ (more : List ℕ). c.args.row.now.pages.items ++ more) c.deref-in-Ok-extend_log.ensures.value;
+      index = settled.index;
+      names = settled.names;
+    })
+    (λ held h can. c.in-Ok-extend_log.ensures.shows c.args.sup.now held c.args.row.now.inode h can) c.in-Ok-extend_log.ensures.wrote.mixed
 
 pub returns-in-Ok-extend_log-clause-lists : goal.returns-in-Ok-extend_log-clause-lists
 returns-in-Ok-extend_log-clause-lists g c = taken_sup c.in-Ok.ensures.taken

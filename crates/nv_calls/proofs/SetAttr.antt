@@ -1,0 +1,120 @@
+-- What `set_attr` answers, and what it leaves.
+use Rattle.std.proofs.Common.{◌≡◌, ℕ, ◌%◌, ◌<◌, ◌≤◌, ◌⊎◌, inl, inr, Bool, true, false, IsTrue, List, [], ◌∷◌, refl, ap, sym, ◌∙◌, subst, arith, Option, Some, None, Result, Ok, Err, slice_get, set}
+use Rattle.nv_region.specs.Region.{Region}
+use Rattle.nv_super.specs.declared.superblock.Super.{Super}
+use Rattle.nv_super.specs.declared.faults.Fault.{Fault}
+use Rattle.nv_alloc.specs.FreeValue.{FreeLists}
+use Rattle.nv_alloc.specs.Taking.{all_blocks}
+use Rattle.nv_logpage.specs.Append.{needed}
+use Rattle.nv_scan.specs.declared.piece.Row.{Row}
+use Rattle.nv_named.specs.Read.{row_of}
+use Rattle.nv_held.specs.Held.{Held, Store}
+use Rattle.nv_held.specs.Mounted.{ShowsSound}
+use Rattle.nv_tree.specs.declared.refusal.Refusal.{Refusal}
+use Rattle.nv_tree.specs.declared.refusal.Refusal.TheVariants.{Memory, NoSpace, Stopped}
+use Rattle.nv_tree.specs.Path.{IsPath, Says}
+use Rattle.nv_tree.specs.Tree.{Node, SameTree, Tree, found}
+use Rattle.nv_tree.specs.Calls.{attributed, edit, on_some, with_attributes}
+use Rattle.nv_tree.specs.Refusals.{Path, Tests, first_refusal, has_no_space, set_attr_tests, stat_tests, writing}
+use Rattle.nv_calls.specs.Attributes.{attributes, attributes_blocks}
+use Rattle.nv_calls.specs.Grown.{LogGrew, ShowsGrownLog}
+use Rattle.nv_calls.specs.Mount.{IsKept, Mount}
+use Rattle.nv_calls.specs.Same.{SameMount}
+use Rattle.nv_calls.specs.Seen.{LeadsTo, node_of, tree_of}
+use Rattle.nv_calls.specs.Steps.{LeavesStep, RefusesStep}
+use Rattle.nv_calls.specs.World.{world_of}
+use Rattle.nv_calls.proofs.Mounts.{kept_when_stopped}
+use Rattle.nv_calls.proofs.RowChange.{kept_same, set_same_rows}
+use Rattle.nv_calls.proofs.Tests.{blocks_there, enough_space, stat_allows, too_few}
+
+-- ---- why it is refused
+
+module _ {P : Type 0} (region : P → Region) {n m : Mount P} (same : n ≡ m) (cpu : ℕ) (passed : (tests : Tests) → first_refusal (writing (world_of m) cpu tests) ≡ first_refusal tests) (text : List ℕ) (row : Row) (node : Node)
+    (is : row_of n.rows row.inode ≡ Some row) (leads : (names : List (List ℕ)) → IsPath text names → LeadsTo (tree_of (region n.memory) n.rows) names row.inode node) (p : Path) (says : Says text p)
+    (none : first_refusal (stat_tests (tree_of (region n.memory) n.rows) p) ≡ None) where
+  abbrev tests : Mount P → Option Refusal
+  tests k = first_refusal (set_attr_tests (world_of k) (tree_of (region k.memory) k.rows) cpu p (attributes_blocks k.rows (tree_of (region k.memory) k.rows) p))
+
+  at_last : tests n ≡ first_refusal (has_no_space (world_of n) (needed (row.tail % 4096) (attributes row.numbers.size 0 0 0 0)) ∷ [])
+  at_last =
+      let passed_here : (ts : Tests) → first_refusal (writing (world_of n) cpu ts) ≡ first_refusal ts = λ ts. subst (λ (k : Mount P). first_refusal (writing (world_of k) cpu ts) ≡ first_refusal ts) (sym same) (passed ts) in
+      stat_allows (world_of n) (tree_of (region n.memory) n.rows) cpu passed_here p (has_no_space (world_of n) (attributes_blocks n.rows (tree_of (region n.memory) n.rows) p) ∷ []) none
+      ∙ ap (λ (count : ℕ). first_refusal (has_no_space (world_of n) count ∷ [])) (blocks_there n.rows (tree_of (region n.memory) n.rows) (λ r. attributes r.numbers.size 0 0 0 0) row node text is leads p says none)
+
+  -- No test refuses it where there are enough blocks.
+  pub attr_allowed : needed (row.tail % 4096) (attributes row.numbers.size 0 0 0 0) ≤ all_blocks n.free.pools → tests m ≡ None
+  attr_allowed enough = subst (λ (k : Mount P). tests k ≡ None) same (at_last ∙ enough_space (world_of n) (needed (row.tail % 4096) (attributes row.numbers.size 0 0 0 0)) enough)
+
+  -- Where its step was refused, so is the call.
+  pub attr_refused : (e : Refusal) → RefusesStep e (needed (row.tail % 4096) (attributes row.numbers.size 0 0 0 0)) n.free → (e ≡ Memory) ⊎ ((e ≡ Stopped) ⊎ (tests m ≡ Some e))
+  attr_refused e (inl memory) = inl memory
+  attr_refused e (inr (inl stopped)) = inr (inl stopped)
+  attr_refused e (inr (inr w)) = inr (inr (subst (λ (k : Mount P). tests k ≡ Some e) same (at_last ∙ too_few (world_of n) (needed (row.tail % 4096) (attributes row.numbers.size 0 0 0 0)) w.1 ∙ ap (λ (r : Refusal). Some r) (sym w.0))))
+
+-- ---- what it leaves
+
+-- The tree with the inode changed is what the call makes of it.
+pub attr_changed : {P : Type 0} (region : P → Region) {n m : Mount P} → n ≡ m → (names : List (List ℕ)) (i mode owner group time : ℕ) (u : Tree) → found (tree_of (region n.memory) n.rows) names ≡ Some i
+    → SameTree u (edit i (with_attributes mode owner group time) (tree_of (region n.memory) n.rows)) → SameTree u (attributed names mode owner group time (tree_of (region m.memory) m.rows))
+attr_changed {P} region {n} {m} same names i mode owner group time u leads is =
+    let t = tree_of (region n.memory) n.rows in
+    let made : attributed names mode owner group time t ≡ edit i (with_attributes mode owner group time) t = ap (λ (o : Option ℕ). on_some o (λ j. edit j (with_attributes mode owner group time) t) t) leads in
+    subst (λ (k : Mount P). SameTree u (attributed names mode owner group time (tree_of (region k.memory) k.rows))) same (subst (λ (v : Tree). SameTree u v) (sym made) is)
+
+some_number : {i j : ℕ} → Some i ≡ Some j → i ≡ j
+some_number e = cc
+
+some_node : {a b : Node} → Some a ≡ Some b → a ≡ b
+some_node e = cc
+
+-- The log of the inode that the path leads to has grown.
+pub attr_logged : {P : Type 0} (region : P → Region) {n m : Mount P} → n ≡ m → (S : Region) (names : List (List ℕ)) (row : Row) (mode owner group time i : ℕ) (node : Node) (held : Store) (h : Held)
+    → LeadsTo (tree_of (region n.memory) n.rows) names row.inode (node_of (region n.memory) row) → ((st : Store) (g : Held) → ShowsSound (region n.memory) n.sup st → st row.inode ≡ Some g → ShowsGrownLog S n.sup st row.inode g (attributes row.numbers.size mode owner group time))
+    → LeadsTo (tree_of (region m.memory) m.rows) names i node → ShowsSound (region m.memory) m.sup held → held i ≡ Some h → ShowsGrownLog S m.sup held i h (attributes node.size mode owner group time)
+attr_logged {P} region {n} {m} same S names row mode owner group time i node held h own grew led sound is =
+    subst (λ (k : Mount P). LeadsTo (tree_of (region k.memory) k.rows) names i node → ShowsSound (region k.memory) k.sup held → ShowsGrownLog S k.sup held i h (attributes node.size mode owner group time)) same here led sound
+  where
+    here : LeadsTo (tree_of (region n.memory) n.rows) names i node → ShowsSound (region n.memory) n.sup held → ShowsGrownLog S n.sup held i h (attributes node.size mode owner group time)
+    here led sound =
+        let number : row.inode ≡ i = some_number (sym own.leads ∙ led.leads) in
+        let node_is : node_of (region n.memory) row ≡ node = some_node (sym own.shows ∙ ap (tree_of (region n.memory) n.rows) number ∙ led.shows) in
+        subst (λ (k : ℕ). ShowsGrownLog S n.sup held k h (attributes node.size mode owner group time)) number
+        (subst (λ (nd : Node). ShowsGrownLog S n.sup held row.inode h (attributes nd.size mode owner group time)) node_is (grew held h sound (subst (λ (k : ℕ). held k ≡ Some h) (sym number) is)))
+
+-- ---- a step that was refused
+
+-- What is kept then.
+pub kept_or_stopped : {P : Type 0} (region : P → Region) {old now : P} {s : Super} {rows : List Row} {free after : FreeLists} {faults : List Fault} {read_only stopped : Bool} → IsKept (region old) s rows free faults read_only stopped → stopped ≡ false → read_only ≡ false
+    → (place : ℕ) (row new : Row) → slice_get rows place ≡ Some row → (e : Refusal) (stops : Bool) → (IsTrue stops → e ≡ Stopped) → (stops ≡ false → e ≡ Stopped → ⊥) → after.sup ≡ free.sup → ((e ≡ Stopped → ⊥) → LeavesStep old now free after row new)
+    → IsKept (region now) s (set rows place new) after faults read_only stops
+kept_or_stopped region {old} {now} {s} {rows} {free} {after} {faults} {read_only} kept runs writes place row new at e true stopped_by goes_by lists leaves = kept_when_stopped (region now) s (set rows place new) after faults read_only true kept.writes (lists ∙ kept.lists) refl
+kept_or_stopped {P} region {old} {now} {s} {rows} {free} {after} {faults} {read_only} kept runs writes place row new at e false stopped_by goes_by lists leaves =
+    let left = leaves (goes_by refl) in
+    subst (λ (q : P). IsKept (region q) s (set rows place new) after faults read_only false) (sym left.memory) (kept_same kept runs writes place row new at left.row left.free false)
+
+-- And all is as before.
+pub unchanged_step : {P : Type 0} {n m : Mount P} → n ≡ m → (now : P) (after : FreeLists) (place : ℕ) (row new : Row) (stops : Bool) → slice_get n.rows place ≡ Some row → n.stopped ≡ false → stops ≡ false → LeavesStep n.memory now n.free after row new
+    → SameMount m (record { memory = now; sup = n.sup; rows = set n.rows place new; free = after; faults = n.faults; read_only = n.read_only; stopped = stops })
+unchanged_step {P} {n} {m} same now after place row new stops at runs off left =
+    subst (λ (k : Mount P). SameMount k (record { memory = now; sup = n.sup; rows = set n.rows place new; free = after; faults = n.faults; read_only = n.read_only; stopped = stops })) same (record {
+      memory = left.memory;
+      sup = refl;
+      rows = set_same_rows n.rows place row new at left.row;
+      free = left.free;
+      faults = refl;
+      read_only = refl;
+      stopped = off ∙ sym runs;
+    })
+
+abbrev err : {A : Type 0} → Refusal → Result A Refusal
+err e = Err e
+
+-- It says that it was stopped where it was.
+pub late_reply : {A : Type 0} {C : Type 0} (e : Refusal) (stops : Bool) → (IsTrue stops → e ≡ Stopped) → (stops ≡ false → e ≡ Stopped → ⊥) → (e ≡ Stopped → C) → (IsTrue stops → (err {A = A} e ≡ err {A = A} Stopped) × C) × (err {A = A} e ≡ err {A = A} Stopped → IsTrue stops)
+late_reply {A} e true stopped_by goes_by burnt = ((λ on. (ap (λ (r : Refusal). err {A = A} r) (stopped_by on), burnt (stopped_by on))), (λ is. refl))
+late_reply {A} e false stopped_by goes_by burnt = ((λ on. absurd (let clash : false ≡ true = on in cc)), (λ is. absurd (goes_by refl (let one : e ≡ Stopped = cc in one))))
+
+-- a refusal that isn't a stop
+pub not_stop : (e : Refusal) (stops : Bool) → (IsTrue stops → e ≡ Stopped) → (e ≡ Stopped → ⊥) → stops ≡ false
+not_stop e true stopped_by off = absurd (off (stopped_by refl))
+not_stop e false stopped_by off = refl

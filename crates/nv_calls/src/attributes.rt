@@ -1,0 +1,134 @@
+//! `set_attr`: the mode, owner, group and time of an inode.
+
+ghost use Rattle.std.specs.Prelude.{◌≡◌, ◌⊎◌, ◌<◌, ◌≤◌, ◌%◌, ◌∷◌, [], ℕ, List, Option, Result, IsTrue, IfErr, OnOk, false, true, is_err};
+ghost use Rattle.nv_region.specs.Region.{size};
+ghost use Rattle.nv_region.specs.Stops.{NothingPending};
+ghost use Rattle.nv_region.specs.Fuses.{KeepsFuse};
+ghost use Rattle.nv_alloc.specs.Taking.{all_blocks};
+ghost use Rattle.nv_entry.specs.declared.entry.Entry.TheVariants.{Attr};
+ghost use Rattle.nv_logpage.specs.Append.{needed};
+ghost use Rattle.nv_held.specs.Held.{Held, Store};
+ghost use Rattle.nv_held.specs.Mounted.{ShowsSound};
+ghost use Rattle.nv_tree.specs.Path.{IsPath, Says};
+ghost use Rattle.nv_tree.specs.Tree.{Node, SameTree};
+ghost use Rattle.nv_tree.specs.Calls.{attributed};
+ghost use Rattle.nv_tree.specs.Refusals.{Path, first_refusal, set_attr_tests};
+ghost use Rattle.nv_tree.specs.declared.refusal.Refusal.{Refusal as RefusalValue};
+ghost use Rattle.nv_calls.specs.Attributes.{HasAttributes, attributes, attributes_blocks};
+ghost use Rattle.nv_calls.specs.Grown.{ShowsGrownLog, StandsRight};
+ghost use Rattle.nv_calls.specs.Same.{KeepsMount, SameMount};
+ghost use Rattle.nv_calls.specs.Seen.{LeadsTo, tree_of};
+ghost use Rattle.nv_calls.specs.Steps.{LeavesStep, LogFollows, RefusesStep, ShowsRow};
+ghost use Rattle.nv_calls.specs.World.{world_of};
+
+use crate::Fs;
+use crate::appending::append_log;
+use crate::walking::place_at;
+use crate::writing::is_stop;
+use nv_alloc::Allocators;
+use nv_entry::{AttrEntry, Entry};
+use nv_region::Pmem;
+use nv_scan::{Numbers, Row};
+use nv_super::Super;
+use nv_tree::Refusal;
+use std::alloc::Global;
+
+/// Writes an attributes entry behind the log of a row, with the size as it is, and puts what it says into the row. It is
+/// refused as `append_log` is.
+fn change_attributes<P: Pmem>(
+    alloc: Global,
+    memory: &mut P,
+    sup: &Super,
+    free: &mut Allocators,
+    cpu: u64,
+    row: &mut Row,
+    attributes: AttrEntry,
+) -> Result<(), Refusal>
+    requires cpu { cpu < free.old.sup.cpus }
+    requires stands { StandsRight (P.region memory.old) sup.now free.old row.old }
+    requires mode { attributes.mode ≤ 4095 }
+    requires size { attributes.size ≡ row.old.numbers.size }
+    ensures log { (held : Store) (h : Held) → ShowsRow (P.region memory.old) sup.now held h row.old free.old
+        → OnOk result (LogFollows (P.region memory.old) (P.region memory.new) sup.now held h (Attr attributes ∷ []) row.old row.new free.new) }
+    ensures row { OnOk result (HasAttributes row.old attributes row.new) }
+    ensures enough { OnOk result (needed (row.old.tail % 4096) (Attr attributes ∷ []) ≤ all_blocks free.old.pools) }
+    ensures settled { OnOk result (NothingPending (P.region memory.new) (P.may_hold memory.new)) }
+    ensures refused { IfErr result (λ e. RefusesStep e (needed (row.old.tail % 4096) (Attr attributes ∷ [])) free.old) }
+    ensures unchanged { IfErr result (λ e. (e ≡ RefusalValue.Stopped → ⊥) → LeavesStep memory.old memory.new free.old free.new row.old row.new) }
+    ensures stopped { IfErr result (λ e. e ≡ RefusalValue.Stopped → IsTrue (P.fuse memory.new).has_burnt) }
+    ensures lists { free.new.sup ≡ free.old.sup }
+    ensures keeps_fuse { KeepsFuse (λ limit. size (P.region memory.old) ≤ limit) (P.fuse memory.old) (P.fuse memory.new) }
+{
+    let entries = [Entry::Attr(attributes)];
+    append_log(alloc, memory, sup, free, cpu, row, &entries)?;
+    row.numbers = Numbers {
+        size: attributes.size,
+        mode: attributes.mode,
+        owner: attributes.owner,
+        group: attributes.group,
+        links: row.numbers.links,
+        time: attributes.time,
+    };
+    Ok(())
+}
+
+impl<P: Pmem + Drop> Fs<P> {
+    /// Sets the mode, of which the low 12 bits are kept, and the owner, group and time of the inode that a path leads to.
+    ///
+    /// Errors, the first that applies: `Stopped` after a stop, `BadCpu` where there is no CPU of that number, `ReadOnly`
+    /// where the region was mounted with faults, `BadName` where the text is no path, `NotFound` or `NotDirectory` for an
+    /// inode on the way, `NotFound` for the last name, `NoSpace` where fewer blocks are free than the log needs. `Memory`
+    /// where a growth was refused, `Stopped` where the fuse burns. All but `Stopped` leave everything as it was.
+    pub fn set_attr(
+        &mut self,
+        cpu: u64,
+        path: &[u8],
+        mode: u32,
+        owner: u32,
+        group: u32,
+        time: u64,
+    ) -> Result<(), Refusal>
+        ensures stopped_before { IsTrue self.old.stopped → (result ≡ Result.Err RefusalValue.Stopped) × (self.new ≡ self.old) }
+        ensures allowed { (p : Path) → Says path.now p
+            → OnOk result (first_refusal (set_attr_tests (world_of self.old) (tree_of (P.region self.old.memory) self.old.rows) cpu p (attributes_blocks self.old.rows (tree_of (P.region self.old.memory) self.old.rows) p)) ≡ Option.None) }
+        ensures refused { self.old.stopped ≡ false → (p : Path) → Says path.now p
+            → IfErr result (λ e. (e ≡ RefusalValue.Memory) ⊎ ((e ≡ RefusalValue.Stopped)
+            ⊎ (first_refusal (set_attr_tests (world_of self.old) (tree_of (P.region self.old.memory) self.old.rows) cpu p (attributes_blocks self.old.rows (tree_of (P.region self.old.memory) self.old.rows) p)) ≡ Option.Some e))) }
+        ensures changed { (names : List (List ℕ)) → IsPath path.now names
+            → OnOk result (SameTree (tree_of (P.region self.new.memory) self.new.rows) (attributed names mode owner group time (tree_of (P.region self.old.memory) self.old.rows))) }
+        // The log of the inode has one entry more, and no other log has changed.
+        ensures log { (names : List (List ℕ)) (i : ℕ) (node : Node) (held : Store) (h : Held) → IsPath path.now names → LeadsTo (tree_of (P.region self.old.memory) self.old.rows) names i node
+            → ShowsSound (P.region self.old.memory) self.old.sup held → held i ≡ Option.Some h → OnOk result (ShowsGrownLog (P.region self.new.memory) self.old.sup held i h (attributes node.size mode owner group time)) }
+        ensures unchanged { IfErr result (λ e. (e ≡ RefusalValue.Stopped → ⊥) → SameMount self.old self.new) }
+        ensures stopped { self.old.stopped ≡ false → (IsTrue self.new.stopped → (result ≡ Result.Err RefusalValue.Stopped) × IsTrue (P.fuse self.new.memory).has_burnt) × (result ≡ Result.Err RefusalValue.Stopped → IsTrue self.new.stopped) }
+        ensures keeps { KeepsMount self.old self.new }
+        ensures settled { OnOk result (NothingPending (P.region self.new.memory) (P.may_hold self.new.memory)) }
+        ensures keeps_fuse { KeepsFuse (λ limit. size (P.region self.old.memory) ≤ limit) (P.fuse self.old.memory) (P.fuse self.new.memory) }
+    {
+        self.writable(cpu)?;
+        let place = place_at(&self.rows, path)?;
+        let row = &mut self.rows[place];
+        let attributes = AttrEntry {
+            mode: mode % 4096,
+            size: row.numbers.size,
+            time,
+            owner,
+            group,
+        };
+        match change_attributes(
+            self.alloc,
+            &mut self.memory,
+            &self.sup,
+            &mut self.free,
+            cpu,
+            row,
+            attributes,
+        ) {
+            Ok(()) => Ok(()),
+            Err(refusal) => {
+                self.stopped = is_stop(refusal);
+                Err(refusal)
+            }
+        }
+    }
+}
