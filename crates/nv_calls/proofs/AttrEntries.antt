@@ -1,5 +1,5 @@
 -- An attributes entry behind a log: with the size as it is it changes neither names nor pages.
-use Rattle.std.proofs.Common.{◌≡◌, ℕ, ◌+◌, ◌-◌, ◌*◌, ◌<◌, ◌≤◌, Bool, true, false, not, ◌&&◌, nat_le, cond, List, [], ◌∷◌, ◌++◌, refl, ap, sym, ◌∙◌, subst, arith, Option, Some, None, unwrap_or}
+use Rattle.std.proofs.Common.{◌≡◌, ℕ, ◌*◌, ◌<◌, ◌≤◌, Bool, true, false, nat_le, cond, List, [], ◌∷◌, ◌++◌, refl, ap, sym, ◌∙◌, subst, arith, Option, Some, None, unwrap_or}
 use Rattle.std.proofs.lemmas.Bool.Decides.{nat_tests}
 use Rattle.nv_super.specs.declared.superblock.Super.{Super}
 use Rattle.nv_super.specs.declared.kind.Kind.{Kind}
@@ -9,12 +9,11 @@ use Rattle.nv_entry.specs.declared.entry.AttrEntry.{AttrEntry}
 use Rattle.nv_entry.specs.declared.entry.WriteEntry.{WriteEntry}
 use Rattle.nv_entry.specs.declared.entry.Entry.{Entry}
 use Rattle.nv_entry.specs.declared.entry.Entry.TheVariants.{NextPage, Write, Attr, Name, Links}
-use Rattle.nv_entry.specs.Content.{is_good, is_wrong_kind, is_out_of_range, is_write_out_of_range, is_attr_out_of_range, most_size, content_fault}
+use Rattle.nv_entry.specs.Content.{is_good, is_out_of_range, is_write_out_of_range, is_attr_out_of_range, most_size, content_fault}
 use Rattle.nv_logpage.specs.declared.found.Placed.{Placed}
 use Rattle.nv_logpage.specs.Reads.{placed}
 use Rattle.nv_logpage.specs.Good.{good_entries}
-use Rattle.nv_scan.specs.LastWord.{last_word}
-use Rattle.nv_scan.specs.State.{cuts, block_in, size_in, says_size, says_block, says_name, says_links, size_of, block_of, named, links_of}
+use Rattle.nv_scan.specs.State.{cuts, size_in, says_size, says_block, says_name, says_links, size_of, block_of, named, links_of}
 use Rattle.nv_scan.specs.declared.numbers.Numbers.{Numbers}
 use Rattle.nv_scan.specs.Rows.{AreNumbers}
 use Rattle.nv_scan.proofs.Blocks.{last_word-all, good_is_good, in_range}

@@ -1,12 +1,11 @@
 -- What `set_attr` makes of a row and of the tree.
-use Rattle.std.proofs.Common.{◌≡◌, ℕ, ◌+◌, ◌*◌, ◌/◌, ◌%◌, ◌<◌, ◌≤◌, List, [], ◌∷◌, ◌++◌, length, take, refl, ap, sym, ◌∙◌, subst, arith, Option, Some, None}
+use Rattle.std.proofs.Common.{◌≡◌, ℕ, ◌/◌, ◌%◌, ◌≤◌, List, [], ◌∷◌, ◌++◌, length, take, refl, ap, sym, ◌∙◌, arith, Option}
 use Rattle.std.specs.Option.{option_map}
 use Rattle.nv_region.specs.Region.{Region}
 use Rattle.nv_super.specs.declared.superblock.Super.{Super}
-use Rattle.nv_super.specs.Layout.{Layout, fixed_layout, slot_address}
+use Rattle.nv_super.specs.Layout.{fixed_layout}
 use Rattle.nv_alloc.specs.FreeValue.{FreeLists}
 use Rattle.nv_entry.specs.declared.entry.AttrEntry.{AttrEntry}
-use Rattle.nv_entry.specs.declared.entry.Entry.{Entry}
 use Rattle.nv_entry.specs.declared.entry.Entry.TheVariants.{Attr}
 use Rattle.nv_logpage.specs.Append.{end_of, needed, place_of}
 use Rattle.nv_radix.specs.Pages.{block_at}
@@ -17,7 +16,7 @@ use Rattle.nv_scan.specs.declared.numbers.Numbers.{Numbers}
 use Rattle.nv_held.specs.Held.{Held, Store, good_in}
 use Rattle.nv_held.specs.Bytes.{byte_in}
 use Rattle.nv_held.specs.Mounted.{KeepsRow}
-use Rattle.nv_commit.specs.Extends.{CanExtend, extended}
+use Rattle.nv_commit.specs.Extends.{extended}
 use Rattle.nv_tree.specs.Tree.{SameNode}
 use Rattle.nv_tree.specs.Calls.{with_attributes}
 use Rattle.nv_calls.specs.Attributes.{HasAttributes}

@@ -1,26 +1,23 @@
 -- A log that grows by entries, told of its row: what is owed before, and what follows where names and blocks stay.
-use Rattle.std.proofs.Common.{◌≡◌, ℕ, ◌+◌, ◌*◌, ◌/◌, ◌%◌, ◌^◌, ◌<◌, ◌≤◌, ◌⊎◌, inl, inr, Option, true, List, [], ◌∷◌, ◌++◌, eqb, length, get_or, take, take_all, refl, ap, sym, ◌∙◌, subst, arith, Some, None, zero, suc}
-use Rattle.std.specs.List.{Contains, IsDistinct}
+use Rattle.std.proofs.Common.{◌≡◌, ℕ, ◌+◌, ◌*◌, ◌/◌, ◌%◌, ◌^◌, ◌<◌, ◌≤◌, ◌⊎◌, inl, inr, Option, List, ◌∷◌, ◌++◌, eqb, length, get_or, take, take_all, refl, ap, sym, ◌∙◌, subst, arith, Some, None, zero, suc}
+use Rattle.std.specs.List.{IsDistinct}
 use Rattle.std.proofs.lemmas.List.{get_or_default}
-use Rattle.nv_region.specs.Region.{Region, word, size}
+use Rattle.nv_region.specs.Region.{Region, size}
 use Rattle.nv_region.specs.Stops.{Choices, IsMixed, One}
 use Rattle.nv_region.proofs.Wordwise.{mixed_word}
 use Rattle.nv_super.specs.declared.superblock.Super.{Super}
 use Rattle.nv_super.specs.declared.owners.Owner.TheVariants as owners
-use Rattle.nv_super.specs.Layout.{IsLayout, Layout, fixed_layout, inode_limit, slot_of, slot_address}
+use Rattle.nv_super.specs.Layout.{Layout, fixed_layout, slot_of, slot_address}
 use Rattle.nv_super.proofs.Slots.{slot_is}
 use Rattle.nv_alloc.specs.FreeValue.{FreeLists}
 use Rattle.nv_entry.specs.declared.entry.Entry.{Entry}
-use Rattle.nv_logpage.specs.declared.found.Placed.{Placed}
-use Rattle.nv_logpage.specs.Append.{AppendWords, AllDiffer, AreGiven, CanAppend, EndBy, appended, end_of, needed}
-use Rattle.nv_logpage.specs.Reads.{Reads}
+use Rattle.nv_logpage.specs.Append.{AreGiven, CanAppend, EndBy, appended, end_of, needed}
 use Rattle.nv_logpage.proofs.DataBlocks.{one_page, pages_are}
 use Rattle.nv_logpage.proofs.RightLogs.{head_starts}
-use Rattle.nv_outcome.proofs.SuperOf.{layout_of_super}
 use Rattle.nv_scan.specs.State.{block_of}
 use Rattle.nv_scan.specs.declared.piece.Row.{Row}
-use Rattle.nv_held.specs.Held.{Held, Store, Shows, good_in, with_inode}
-use Rattle.nv_held.specs.Blocks.{by_page, NoneDoubled, OwnsNew}
+use Rattle.nv_held.specs.Held.{Held, Store, Shows, good_in}
+use Rattle.nv_held.specs.Blocks.{by_page, NoneDoubled}
 use Rattle.nv_held.specs.Bytes.{byte_in, byte_of}
 use Rattle.nv_held.specs.Grows.{AreFree, NoEntryFault, SameFile, SameNames}
 use Rattle.nv_held.specs.Loose.{Loose}
@@ -37,7 +34,7 @@ use Rattle.nv_commit.proofs.Extends.{loose_there, slots}
 use Rattle.nv_calls.specs.Grown.{HasGrown, StandsRight}
 use Rattle.nv_calls.specs.Steps.{AppendsLog, LogFollows, ShowsRow}
 use Rattle.nv_calls.specs.Taken.{TakesEach}
-use Rattle.nv_calls.proofs.TakenBlocks.{all_differ, are_free, differ_with, each_in_data, each_was_free, lists_without, taken_sup}
+use Rattle.nv_calls.proofs.TakenBlocks.{all_differ, are_free, differ_with, each_in_data, lists_without}
 
 -- ---- what is owed
 

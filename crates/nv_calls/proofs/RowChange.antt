@@ -1,47 +1,35 @@
 -- A mounted file system once one row was replaced: what it keeps, and the tree that it shows.
-use Rattle.std.proofs.Common.{◌≡◌, ◌≢◌, ℕ, zero, suc, ◌+◌, ◌*◌, ◌/◌, ◌%◌, ◌<◌, ◌≤◌, ◌⊎◌, inl, inr, nat_eq, Bool, true, false, cond, List, [], ◌∷◌, length, get_or, set, slice_get, refl, ap, sym, ◌∙◌, subst, arith, Option, Some, None}
+use Rattle.std.proofs.Common.{◌≡◌, ◌≢◌, ℕ, zero, suc, ◌/◌, ◌<◌, inl, inr, nat_eq, Bool, true, false, cond, List, [], ◌∷◌, length, get_or, set, slice_get, refl, ap, sym, ◌∙◌, subst, arith, Option, Some, None}
 use Rattle.std.specs.List.{Contains}
 use Rattle.std.specs.Option.{option_map}
 use Rattle.std.proofs.Math.Logic.{∥∥₁_elim, ∥∥₁_map}
-use Rattle.std.proofs.Math.Nat.{ℕ_set, div-lt_iff_lt-mul}
+use Rattle.std.proofs.Math.Nat.{ℕ_set}
 use Rattle.std.proofs.Math.Seq.{map-set_same}
 use Rattle.std.proofs.Props.{props}
 use Rattle.std.proofs.lemmas.Bool.{cases_eq}
 use Rattle.std.proofs.lemmas.Bool.Decides.{nat_tests}
-use Rattle.std.proofs.lemmas.List.{get_or_default}
-use Rattle.std.proofs.lemmas.Option.{slice_get_within, get_or_from_slice_get, slice_get-get_or}
-use Rattle.nv_region.specs.Region.{Region, size}
+use Rattle.std.proofs.lemmas.Option.{slice_get_within, get_or_from_slice_get}
+use Rattle.nv_region.specs.Region.{Region}
 use Rattle.nv_super.specs.declared.superblock.Super.{Super}
 use Rattle.nv_super.specs.declared.owners.Run.{Run}
 use Rattle.nv_super.specs.declared.faults.Fault.{Fault}
-use Rattle.nv_super.specs.declared.owners.Owner.TheVariants as owners
-use Rattle.nv_super.specs.Layout.{IsLayout, fixed_layout, inode_limit, slot_address}
+use Rattle.nv_super.specs.Layout.{fixed_layout}
 use Rattle.nv_super.specs.Order.{Rises}
 use Rattle.nv_super.proofs.RisingPlaces.{rises_keys}
-use Rattle.nv_super.proofs.Slots.{slot_is, slots_apart}
 use Rattle.nv_alloc.specs.FreeValue.{FreeLists}
-use Rattle.nv_alloc.specs.FreeLists.{IsFreeIn}
-use Rattle.nv_alloc.proofs.Sound.{free_within}
 use Rattle.nv_entry.specs.declared.entry.Entry.{Entry}
-use Rattle.nv_inode.specs.Slot.{is_right_log}
 use Rattle.nv_radix.specs.Pages.{block_at}
 use Rattle.nv_outcome.specs.Same.{SameRow, SameRows}
-use Rattle.nv_outcome.proofs.SuperOf.{blocks_of_super, layout_of_super}
 use Rattle.nv_scan.specs.declared.piece.Row.{Row}
 use Rattle.nv_check.specs.Cross.{row_key}
 use Rattle.nv_named.specs.Read.{row_of}
 use Rattle.nv_held.specs.Held.{Held, Store, with_inode}
 use Rattle.nv_held.specs.Bytes.{byte_in}
-use Rattle.nv_held.specs.Mounted.{IsMounted, Keeps, KeepsRow, KeepsRows, ShowsSound}
-use Rattle.nv_held.specs.Slots.{SlotsClear}
-use Rattle.nv_held.proofs.Clear.{slots_clear}
-use Rattle.nv_held.proofs.Kept.{page_owner, tail_there}
+use Rattle.nv_held.specs.Mounted.{IsMounted, KeepsRow, KeepsRows, ShowsSound}
 use Rattle.nv_held.proofs.RowsKept.{rows_follow}
-use Rattle.nv_held.proofs.Shown.{stands_at}
 use Rattle.nv_commit.specs.Extends.{extended, with_log}
-use Rattle.nv_tree.specs.Tree.{Node, Tree, SameNode, SameNodes, SameTree}
-use Rattle.nv_tree.specs.Calls.{edit, put_node}
-use Rattle.nv_calls.specs.Grown.{StandsRight}
+use Rattle.nv_tree.specs.Tree.{Node, SameNode, SameNodes, SameTree}
+use Rattle.nv_tree.specs.Calls.{edit}
 use Rattle.nv_calls.specs.Mount.{IsKept, Mount}
 use Rattle.nv_calls.specs.Same.{SameMount}
 use Rattle.nv_calls.specs.Seen.{node_of, tree_of}

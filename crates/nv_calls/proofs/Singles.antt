@@ -1,15 +1,15 @@
 -- Takes of one block.
-use Rattle.std.proofs.Common.{◌≡◌, ◌≢◌, ℕ, ◌+◌, ◌-◌, ◌<◌, ◌≤◌, inl, inr, List, [], ◌∷◌, ◌++◌, length, get_or, refl, ap, sym, ◌∙◌, subst, arith}
+use Rattle.std.proofs.Common.{◌≡◌, ℕ, ◌-◌, ◌<◌, ◌≤◌, inl, inr, List, [], ◌∷◌, ◌++◌, length, get_or, refl, ap, sym, ◌∙◌, subst, arith}
 use Rattle.std.proofs.Math.ListN.{set}
 use Rattle.std.proofs.lemmas.Bool.{cases_lt}
 use Rattle.std.proofs.lemmas.List.{get_or-set_same, get_or-set_other}
 use Rattle.nv_super.specs.declared.owners.Run.{Run}
 use Rattle.nv_super.specs.declared.superblock.Super.{Super}
 use Rattle.nv_super.specs.Runs.{Apart, InRun}
-use Rattle.nv_super.specs.Layout.{InPool, system_blocks}
+use Rattle.nv_super.specs.Layout.{system_blocks}
 use Rattle.nv_super.proofs.Rising.{Contains-head}
 use Rattle.nv_alloc.specs.Taking.{HasBlock, blocks_in, taken, pool_at, Takes, ends, goes_on}
-use Rattle.nv_alloc.proofs.Fronts.{taken_none, taken_whole, taken_part, taken_over, blocks_cons}
+use Rattle.nv_alloc.proofs.Fronts.{taken_none, taken_whole, taken_part, taken_over}
 use Rattle.nv_alloc.proofs.GivenBack.{restores}
 use Rattle.nv_alloc.proofs.Leaving.{one_of}
 use Rattle.nv_alloc.proofs.Sound.{data_block}

@@ -1,14 +1,14 @@
 -- Blocks that were taken one by one: they were free, they differ, and the free lists are those of before without them.
-use Rattle.std.proofs.Common.{◌≡◌, ◌≢◌, ◌↔◌, ℕ, zero, suc, ◌+◌, ◌*◌, ◌<◌, ◌≤◌, ◌⊎◌, inl, inr, List, [], ◌∷◌, length, get_or, refl, ap, sym, ◌∙◌, subst, arith}
+use Rattle.std.proofs.Common.{◌≡◌, ◌↔◌, ℕ, zero, suc, ◌+◌, ◌<◌, ◌≤◌, inl, inr, List, [], ◌∷◌, ap, sym, ◌∙◌, subst, arith}
 use Rattle.std.specs.List.{Contains}
 use Rattle.std.proofs.lemmas.List.{get_or_default}
 use Rattle.nv_super.specs.declared.superblock.Super.{Super}
 use Rattle.nv_super.specs.declared.owners.Run.{Run}
-use Rattle.nv_super.specs.Layout.{Layout, InPool, system_blocks}
+use Rattle.nv_super.specs.Layout.{Layout, system_blocks}
 use Rattle.nv_super.proofs.Members.{none_in}
 use Rattle.nv_super.proofs.Rising.{Contains-cons, Contains-head, Contains-tail}
 use Rattle.nv_alloc.specs.FreeValue.{FreeLists}
-use Rattle.nv_alloc.specs.FreeLists.{IsFreeIn, IsSound}
+use Rattle.nv_alloc.specs.FreeLists.{IsFreeIn}
 use Rattle.nv_alloc.specs.Taking.{HasBlock, pool_at}
 use Rattle.nv_alloc.proofs.Sound.{data_block, free_within}
 use Rattle.nv_logpage.specs.Append.{AllDiffer}
@@ -18,7 +18,7 @@ use Rattle.nv_held.specs.Blocks as blocks
 use Rattle.nv_held.specs.Grows.{AreFree}
 use Rattle.nv_held.specs.Lists.{TakeAll, WasTaken}
 use Rattle.nv_held.proofs.ListsKept.{pools_all_taken, pools_same}
-use Rattle.nv_calls.specs.Taken.{SamePools, TakesEach, block_run, single_takes}
+use Rattle.nv_calls.specs.Taken.{TakesEach, block_run, single_takes}
 
 in_single : (b : ℕ) → HasBlock (block_run b ∷ []) b
 in_single b = (block_run b, Contains-head (block_run b) [], omega arith, omega arith)

@@ -1,7 +1,4 @@
-use Rattle.std.proofs.Common.{◌≡◌, ◌∙◌, ℕ, List, ap, sym, subst, arith}
-use Rattle.nv_super.specs.declared.owners.Run.{Run}
-use Rattle.nv_calls.specs.Taken.{TakesOne}
-use Rattle.nv_calls.proofs.Singles.{one_run, takes_one}
+use Rattle.nv_calls.proofs.Singles.{takes_one}
 use Rattle.nv_calls.proofs.blocks.take_one.Goals as goal
 
 pub returns-in-Ok-clause-took : goal.returns-in-Ok-clause-took
