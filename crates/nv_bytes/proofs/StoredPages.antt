@@ -1,7 +1,7 @@
 -- Pages stored anew: word by word, block by block, and run by run.
-use Rattle.std.proofs.Common.{◌≡◌, ◌≢◌, inl, inr, ℕ, ◌+◌, ◌-◌, ◌*◌, ◌/◌, ◌%◌, ◌^◌, ◌<◌, ◌≤◌, Bool, true, false, nat_lt, cond, List, [], ◌∷◌, length, get_or, drop, Option, Some, None, IfSome, refl, sym, ap, ◌∙◌, subst, arith, suc, add-one}
+use Rattle.std.proofs.Common.{◌≡◌, inl, inr, ℕ, ◌+◌, ◌-◌, ◌*◌, ◌/◌, ◌%◌, ◌^◌, ◌<◌, ◌≤◌, Bool, true, false, nat_lt, cond, List, [], ◌∷◌, length, get_or, drop, Option, Some, None, IfSome, refl, sym, ap, ◌∙◌, subst, arith, add-one}
 use Rattle.std.proofs.Math.Seq.{drop-cons}
-use Rattle.std.proofs.lemmas.Bool.{cases_lt, cases_eq}
+use Rattle.std.proofs.lemmas.Bool.{cases_eq}
 use Rattle.std.proofs.lemmas.Bool.Decides.{nat_tests}
 use Rattle.std.proofs.lemmas.Option.{same_Some}
 use Rattle.std.proofs.lemmas.List.Elements.{Contains-get_or}
@@ -13,7 +13,7 @@ use Rattle.nv_region.proofs.Wordwise.{mixed_more, mixed_word}
 use Rattle.nv_super.specs.declared.owners.Run.{Run}
 use Rattle.nv_super.specs.Runs.{InRun}
 use Rattle.nv_radix.specs.Pages.{Pages, block_at}
-use Rattle.nv_alloc.specs.Taking.{HasBlock, Disjoint, blocks_in}
+use Rattle.nv_alloc.specs.Taking.{HasBlock, blocks_in}
 use Rattle.nv_alloc.proofs.Fronts.{blocks_cons}
 use Rattle.nv_alloc.proofs.Leaving.{first_block, later_block}
 use Rattle.nv_held.specs.Bytes.{byte_in}

@@ -1,12 +1,12 @@
 -- What `read` stands on: where the blocks of a file lie, and why it is refused.
-use Rattle.std.proofs.Common.{◌≡◌, ℕ, ◌+◌, ◌*◌, ◌/◌, ◌<◌, ◌≤◌, Bool, true, false, not, ◌||◌, ◌==◌, nat_lt, is_none, List, [], ◌∷◌, ◌++◌, refl, sym, ◌∙◌, ap, subst, arith, Option, Some, None, Result, Ok, Err}
+use Rattle.std.proofs.Common.{◌≡◌, ℕ, ◌≤◌, Bool, true, false, not, ◌||◌, ◌==◌, nat_lt, is_none, List, [], ◌∷◌, ◌++◌, refl, sym, ◌∙◌, ap, subst, arith, Option, Some, None, Result, Ok, Err}
 use Rattle.std.specs.List.{Contains}
 use Rattle.std.proofs.Math.Logic.{∥∥₁_elim}
 use Rattle.std.proofs.Math.Nat.{ℕ_set}
 use Rattle.std.proofs.Props.{props}
 use Rattle.std.proofs.lemmas.Option.{same_Some}
 use Rattle.std.proofs.lemmas.Bool.Decides.{nat_tests}
-use Rattle.nv_region.specs.Region.{Region, size}
+use Rattle.nv_region.specs.Region.{Region}
 use Rattle.nv_super.specs.declared.superblock.Super.{Super}
 use Rattle.nv_super.specs.declared.faults.Fault.{Fault}
 use Rattle.nv_super.specs.declared.kind.Kind.{Kind}
@@ -26,9 +26,9 @@ use Rattle.nv_outcome.proofs.SuperOf.{blocks_of_super}
 use Rattle.nv_bytes.specs.Bytes.{LieInside}
 use Rattle.nv_tree.specs.declared.refusal.Refusal.{Refusal}
 use Rattle.nv_tree.specs.declared.refusal.Refusal.TheVariants.{NotFound, IsDirectory}
-use Rattle.nv_tree.specs.Tree.{Node, Tree, walk, found}
+use Rattle.nv_tree.specs.Tree.{Tree, walk, found}
 use Rattle.nv_tree.specs.Refusals.{Path, first_refusal, refused_walk, is_dir, stat_tests, read_tests}
-use Rattle.nv_calls.specs.Mount.{Mount, IsKept, told}
+use Rattle.nv_calls.specs.Mount.{Mount, IsKept}
 
 -- ---- where the blocks of a file lie
 

@@ -1,4 +1,4 @@
-use Rattle.std.proofs.Common.{◌≡◌, ℕ, refl, arith, ◌≤◌, ◌+◌, ◌-◌, ◌/◌, ap, [], Option, subst, ◌∙◌}
+use Rattle.std.proofs.Common.{◌≡◌, ℕ, arith, ◌≤◌, ◌-◌, ◌/◌, ap, [], Option, ◌∙◌}
 use Rattle.nv_radix.specs.Pages.{block_at}
 use Rattle.nv_held.specs.Bytes.{byte_in}
 use Rattle.nv_bytes.specs.Bytes.{file_byte}

@@ -1,7 +1,5 @@
-use Rattle.std.proofs.Common.{◌≡◌, ◌-◌, ◌/◌, ◌≤◌, ◌++◌, map}
+use Rattle.std.proofs.Common.{◌≡◌, ◌-◌, ◌≤◌, map}
 use Rattle.std.specs.List.{range_with_len}
-use Rattle.nv_radix.specs.Pages.{block_at}
-use Rattle.nv_held.specs.Bytes.{byte_in}
 use Rattle.nv_bytes.specs.Bytes.{file_byte}
 use Rattle.nv_bytes.proofs.reading.read_bytes.Given as goal
 

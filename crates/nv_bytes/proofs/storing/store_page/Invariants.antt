@@ -1,4 +1,4 @@
-use Rattle.std.proofs.Common.{◌≡◌, ◌+◌, ◌*◌, ◌<◌, ◌≤◌, ℕ, false}
+use Rattle.std.proofs.Common.{◌≡◌, ◌+◌, ◌*◌, ◌<◌, ◌≤◌, false}
 use Rattle.nv_region.specs.Region.{size}
 use Rattle.nv_region.specs.Fuses.{KeepsFuse}
 use Rattle.nv_region.specs.Stored.{StoresOnly}

@@ -1,11 +1,11 @@
-use Rattle.std.proofs.Common.{◌≡◌, ℕ, ◌+◌, ◌*◌, ◌/◌, ◌<◌, ◌≤◌, arith, ap, sym, ◌∙◌, subst, drop, get_or, is_err}
+use Rattle.std.proofs.Common.{ℕ, ◌+◌, ◌*◌, ◌/◌, arith, ap, sym, ◌∙◌, subst, drop, get_or, is_err}
 use Rattle.nv_region.proofs.Fuses.{keeps_more}
 use Rattle.nv_region.proofs.Wordwise.{stores_more}
 use Rattle.nv_super.specs.declared.owners.Run.{Run}
 use Rattle.nv_alloc.specs.Taking.{HasBlock}
 use Rattle.nv_bytes.specs.Bytes.{byte_after, file_byte}
 use Rattle.nv_bytes.specs.Storing.{InBlocks}
-use Rattle.nv_bytes.proofs.StoredPages.{as_large, same_pages, Storing, storing_goes_on, storing_ends, runs_from, run_inside, pages_from, run_held}
+use Rattle.nv_bytes.proofs.StoredPages.{as_large, same_pages, Storing, storing_goes_on, runs_from, run_inside, pages_from, run_held}
 use Rattle.nv_bytes.proofs.storing.store_pages.Goals as goal
 
 abbrev none : Run

@@ -1,4 +1,4 @@
-use Rattle.std.proofs.Common.{◌≡◌, ℕ, ◌+◌, ◌*◌, arith, ap, sym, ◌∙◌, subst, is_err}
+use Rattle.std.proofs.Common.{◌+◌, arith, ap, sym, ◌∙◌, subst, is_err}
 use Rattle.nv_region.proofs.Fuses.{keeps_more}
 use Rattle.nv_region.proofs.Wordwise.{stores_more}
 use Rattle.nv_super.specs.Runs.{InRun}

@@ -1,4 +1,4 @@
-use Rattle.std.proofs.Common.{ℕ, ◌+◌}
+use Rattle.std.proofs.Common.{◌+◌}
 use Rattle.nv_bytes.specs.Bytes.{byte_of_word, byte_after}
 use Rattle.nv_bytes.proofs.Words.{AreMade}
 use Rattle.nv_bytes.proofs.change.NewBytes.patched.Given as goal

@@ -1,4 +1,4 @@
-use Rattle.std.proofs.Common.{ℕ, ◌-◌, ◌∙◌, length, drop, arith}
+use Rattle.std.proofs.Common.{◌-◌, ◌∙◌, length, drop, arith}
 use Rattle.std.proofs.lemmas.List.{get_or-drop, get_or-take}
 use Rattle.nv_bytes.proofs.Changes.{new_byte}
 use Rattle.nv_bytes.proofs.change.NewBytes.whole.Goals as goal
