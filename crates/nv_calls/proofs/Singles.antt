@@ -8,12 +8,12 @@ use Rattle.nv_super.specs.declared.superblock.Super.{Super}
 use Rattle.nv_super.specs.Runs.{Apart, InRun}
 use Rattle.nv_super.specs.Layout.{system_blocks}
 use Rattle.nv_super.proofs.Rising.{Contains-head}
+use Rattle.nv_super.proofs.Runs.{some_blocks}
 use Rattle.nv_alloc.specs.Taking.{HasBlock, blocks_in, taken, pool_at, Takes, ends, goes_on}
 use Rattle.nv_alloc.proofs.Fronts.{taken_none, taken_whole, taken_part, taken_over}
 use Rattle.nv_alloc.proofs.GivenBack.{restores}
 use Rattle.nv_alloc.proofs.Leaving.{one_of}
 use Rattle.nv_alloc.proofs.Sound.{data_block}
-use Rattle.nv_alloc.proofs.Places.{has_blocks}
 use Rattle.nv_alloc.specs.FreeValue.{FreeLists}
 use Rattle.nv_alloc.specs.FreeLists.{IsSound, Took, Leave, CanJoin, Joins}
 use Rattle.nv_held.specs.Lists.{TakeAll}
@@ -23,7 +23,7 @@ use Rattle.nv_calls.specs.Taken.{block_run, single_takes, SamePools, TakesOne, T
 one_taken : (rs : List Run) → Apart rs → 1 ≤ blocks_in rs → (b : ℕ) × (taken 1 rs ≡ block_run b ∷ [])
 one_taken [] apart some = absurd (omega (arith, some))
 one_taken (r ∷ rs) apart some =
-    let has : 0 < r.count = has_blocks (r ∷ rs) r apart (Contains-head r rs) in
+    let has : 0 < r.count = some_blocks r rs apart in
     elim (cases_lt 1 r.count) [
       | inl more ↦ (r.start, taken_part 1 r rs (omega arith) more)
       | inr last ↦
