@@ -2,6 +2,5 @@ pub mod Choice
 pub mod Numbers
 pub mod NumberLists
 pub mod Words
-pub mod ShapedWords
-pub mod Rows
+pub mod Requests
 pub mod Grammar

@@ -1,6 +1,4 @@
 pub mod Request
-pub mod Shapes
-pub mod Table
 pub mod Spelling
 pub mod View
 pub mod Lines

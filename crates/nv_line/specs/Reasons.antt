@@ -1,35 +1,60 @@
--- Why a line is bad, as the text that says so.
+-- Why a line is bad, and the text that says so.
 use Rattle.std.specs.Prelude.{◌==◌, ℕ, List, [], ◌∷◌, ◌++◌, length, nat_lt, if◌then◌else◌, Option, Some, None, bytes_eq, codes}
 use Rattle.std.specs.List.{slice_split, ends_with}
 use Rattle.nv_line.specs.Lines.{line_limit}
-use Rattle.nv_line.specs.Table.{Row, rows}
+use Rattle.nv_line.specs.declared.reasons.Form.{Form}
+use Rattle.nv_line.specs.declared.reasons.Form.TheVariants as forms
 use Rattle.nv_line.specs.declared.reasons.Reason.{Reason}
 use Rattle.nv_line.specs.declared.reasons.Reason.TheVariants as reasons
 
--- how the command of this name is written, if there is one
-unfoldable pub usage_in : List Row → List ℕ → Option (List ℕ)
-usage_in [] name = None
-usage_in (row ∷ rows) name = if bytes_eq name row.name then Some row.usage else usage_in rows name
+-- a command's name and its numbers
+abbrev pub form_text : Form → List ℕ
+form_text forms.Format = codes "format CPUS BLOCKS TABLES"
+form_text forms.Time = codes "time T"
+form_text forms.Poke = codes "poke AT VALUE"
+form_text forms.Cut = codes "cut LENGTH"
+form_text forms.Recover = codes "recover WORKERS"
+form_text forms.Replay = codes "replay WORKERS w w .."
+form_text forms.Tree = codes "tree"
+form_text forms.Free = codes "free"
+form_text forms.Faults = codes "faults"
+form_text forms.Report = codes "report"
+form_text forms.Peek = codes "peek AT"
 
--- what was expected of the words of a command, or of the first word
-abbrev pub expected_text : Option (List ℕ) → List ℕ
-expected_text (Some usage) = codes "expected " ++ usage ++ codes ", with one space between two words, and numbers in decimal up to 18446744073709551615"
-expected_text None = codes "expected time, format, recover, replay, poke, cut, tree, free, faults, report or peek"
+-- the form of the command of this name
+unfoldable pub form_named : List ℕ → Option Form
+form_named name = if bytes_eq name (codes "format") then Some forms.Format
+    else if bytes_eq name (codes "time") then Some forms.Time
+    else if bytes_eq name (codes "poke") then Some forms.Poke
+    else if bytes_eq name (codes "cut") then Some forms.Cut
+    else if bytes_eq name (codes "recover") then Some forms.Recover
+    else if bytes_eq name (codes "replay") then Some forms.Replay
+    else if bytes_eq name (codes "tree") then Some forms.Tree
+    else if bytes_eq name (codes "free") then Some forms.Free
+    else if bytes_eq name (codes "faults") then Some forms.Faults
+    else if bytes_eq name (codes "report") then Some forms.Report
+    else if bytes_eq name (codes "peek") then Some forms.Peek
+    else None
 
--- what was expected, by the first of a line's words
-unfoldable pub expected_of_words : List (List ℕ) → List ℕ
-expected_of_words [] = expected_text None
-expected_of_words (name ∷ words) = expected_text (usage_in rows name)
+-- the line isn't spelled as the command of this form, if it has one
+abbrev pub by_form : Option Form → Reason
+by_form (Some form) = reasons.Form form
+by_form None = reasons.NoCommand
+
+-- the reason that the first of a line's words gives
+unfoldable pub reason_of_words : List (List ℕ) → Reason
+reason_of_words [] = reasons.NoCommand
+reason_of_words (name ∷ words) = by_form (form_named name)
 
 -- why a bad line is bad: it is too long, or ends with a carriage return, or else its words are no command
-unfoldable pub reason_of : List ℕ → List ℕ
-reason_of line = if nat_lt line_limit (length line) then codes "it has more than 4096 bytes"
-    else if ends_with (λ a b. a == b) line (codes "\r") then codes "it ends with a carriage return, byte 13; byte 10 alone ends a line"
-    else expected_of_words (slice_split (λ b. b == 32) line)
+unfoldable pub reason_of : List ℕ → Reason
+reason_of line = if nat_lt line_limit (length line) then reasons.TooLong
+    else if ends_with (λ a b. a == b) line (codes "\r") then reasons.CarriageReturn
+    else reason_of_words (slice_split (λ b. b == 32) line)
 
--- what the user reads of a reason
+-- what the user reads of it
 abbrev pub reason_text : Reason → List ℕ
 reason_text reasons.TooLong = codes "it has more than 4096 bytes"
 reason_text reasons.CarriageReturn = codes "it ends with a carriage return, byte 13; byte 10 alone ends a line"
-reason_text reasons.NoCommand = expected_text None
-reason_text (reasons.Usage usage) = expected_text (Some usage.now)
+reason_text reasons.NoCommand = codes "expected time, format, recover, replay, poke, cut, tree, free, faults, report or peek"
+reason_text (reasons.Form form) = codes "expected " ++ form_text form ++ codes ", with one space between two words, and numbers in decimal up to 18446744073709551615"

@@ -1,13 +1,28 @@
 //! Why a line is bad, for the user: what was expected in its place.
 
 ghost use Rattle.std.specs.Prelude.{◌≡◌, Some, IfOk, map};
-ghost use Rattle.nv_line.specs.Reasons.{expected_of_words, reason_of, reason_text};
+ghost use Rattle.nv_line.specs.Reasons.{form_text, form_named, reason_of_words, reason_of, reason_text};
 
 use crate::lines::LINE_LIMIT;
 use crate::parsing::words;
-use crate::table::row_named;
 use std::alloc::{AllocError, Global};
 use std::fmt;
+
+/// How the words of a command stand.
+#[derive(Clone, Copy, Debug, PartialEq, Eq)]
+pub enum Form {
+    Format,
+    Time,
+    Poke,
+    Cut,
+    Recover,
+    Replay,
+    Tree,
+    Free,
+    Faults,
+    Report,
+    Peek,
+}
 
 /// Why a line is bad.
 #[derive(Clone, Copy, Debug, PartialEq, Eq)]
@@ -18,28 +33,79 @@ pub enum Reason {
     CarriageReturn,
     /// Its first word is no command.
     NoCommand,
-    /// Its first word is the name of a command that is written like this, and its other words aren't.
-    Usage(&'static str),
+    /// Its first word is a command's, and its other words aren't.
+    Form(Form),
 }
 
-// By the words of a line.
-#[tactic(auto, unfolding(crate::specs::Reasons::expected_of_words), using(crate::proofs::Rows::usage_so, crate::proofs::Rows::usage_none))]
-fn reason_of_words(alloc: Global, words: &[&[u8]]) -> Result<Reason, AllocError>
-    ensures { IfOk result (λ reason. reason_text reason ≡ expected_of_words (map (λ word. word.now) words.now)) }
-{
-    let [name, words @ ..] = words else {
-        return Ok(Reason::NoCommand);
-    };
-    match row_named(alloc, name, words)? {
-        Some(row) => Ok(Reason::Usage(row.usage)),
-        None => Ok(Reason::NoCommand),
+impl Form {
+    /// The name of the command, and its numbers.
+    pub fn text(self) -> &'static str
+        ensures { result.now ≡ form_text self }
+    {
+        match self {
+            Form::Format => "format CPUS BLOCKS TABLES",
+            Form::Time => "time T",
+            Form::Poke => "poke AT VALUE",
+            Form::Cut => "cut LENGTH",
+            Form::Recover => "recover WORKERS",
+            Form::Replay => "replay WORKERS w w ..",
+            Form::Tree => "tree",
+            Form::Free => "free",
+            Form::Faults => "faults",
+            Form::Report => "report",
+            Form::Peek => "peek AT",
+        }
     }
 }
 
-/// Why a bad line is bad. The error is a refused growth of the list of the line's words, or of a schedule.
+#[tactic(auto, unfolding(crate::specs::Reasons::form_named))]
+fn form_named(name: &[u8]) -> Option<Form>
+    ensures { result ≡ form_named name.now }
+{
+    if name == b"format".as_slice() {
+        Some(Form::Format)
+    } else if name == b"time".as_slice() {
+        Some(Form::Time)
+    } else if name == b"poke".as_slice() {
+        Some(Form::Poke)
+    } else if name == b"cut".as_slice() {
+        Some(Form::Cut)
+    } else if name == b"recover".as_slice() {
+        Some(Form::Recover)
+    } else if name == b"replay".as_slice() {
+        Some(Form::Replay)
+    } else if name == b"tree".as_slice() {
+        Some(Form::Tree)
+    } else if name == b"free".as_slice() {
+        Some(Form::Free)
+    } else if name == b"faults".as_slice() {
+        Some(Form::Faults)
+    } else if name == b"report".as_slice() {
+        Some(Form::Report)
+    } else if name == b"peek".as_slice() {
+        Some(Form::Peek)
+    } else {
+        None
+    }
+}
+
+#[tactic(auto, unfolding(crate::specs::Reasons::reason_of_words))]
+fn reason_of_words(words: &[&[u8]]) -> Reason
+    ensures { result ≡ reason_of_words (map (λ word. word.now) words.now) }
+{
+    let [name, ..] = words else {
+        return Reason::NoCommand;
+    };
+    match form_named(name) {
+        Some(form) => Reason::Form(form),
+        None => Reason::NoCommand,
+    }
+}
+
+/// Why a bad line is bad. The error is a refused growth of the list of the line's words.
 #[tactic(auto, unfolding(crate::specs::Reasons::reason_of))]
 pub fn why_bad(alloc: Global, line: &[u8]) -> Result<Reason, AllocError>
-    ensures { IfOk result (λ reason. reason_text reason ≡ reason_of line.now) }
+    ensures { IfOk result (λ reason. reason ≡ reason_of line.now) }
 {
     if line.len() > LINE_LIMIT {
         return Ok(Reason::TooLong);
@@ -48,7 +114,7 @@ pub fn why_bad(alloc: Global, line: &[u8]) -> Result<Reason, AllocError>
         return Ok(Reason::CarriageReturn);
     }
     let words = words(alloc, line)?;
-    reason_of_words(alloc, words.as_slice())
+    Ok(reason_of_words(words.as_slice()))
 }
 
 impl fmt::Display for Reason {
@@ -63,9 +129,10 @@ impl fmt::Display for Reason {
             Reason::NoCommand => f.write_str(
                 "expected time, format, recover, replay, poke, cut, tree, free, faults, report or peek",
             ),
-            Reason::Usage(usage) => write!(
+            Reason::Form(form) => write!(
                 f,
-                "expected {usage}, with one space between two words, and numbers in decimal up to 18446744073709551615"
+                "expected {}, with one space between two words, and numbers in decimal up to 18446744073709551615",
+                form.text()
             ),
         }
     }
