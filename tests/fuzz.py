@@ -1,0 +1,225 @@
+#!/usr/bin/env python3
+"""Tries `nova check` on damaged images and `nova run` on scripts that are made at random, and says what went wrong.
+
+usage: tests/fuzz.py PROGRAM MINUTES [--judge JUDGE] [--seed N] [--keep FOLDER]
+
+An image has 8 to 64 blocks: logs of random entries, and then some words of it are changed. A script formats, pokes, cuts
+and recovers regions. Each is run by one worker and by several. It is wrong where a run ends by a signal or with a
+status other than 0, 1 and 2, where it takes over a second, where the number of workers changes what is printed, and
+where JUDGE, a program that takes the same words, prints another text or ends with another status. What was wrong is kept in FOLDER, and the
+last line counts the cases. The exit status is 1 where one was wrong.
+
+The cases of a seed are always the same ones.
+"""
+
+import argparse
+import random
+import struct
+import subprocess
+import sys
+import tempfile
+import time
+from pathlib import Path
+
+BLOCK = 4096
+LINK = 4064
+SLOT = 128
+SLOTS = BLOCK // SLOT
+RECORDS = 16
+MOST_SECONDS = 1.0
+WORKERS = [2, 3, 8, 64]
+
+
+class Wrong(Exception):
+    """What a case showed."""
+
+
+class Image:
+    """A region that is formatted, with logs of random entries."""
+
+    def __init__(self, rng):
+        self.rng = rng
+        self.cpus, self.tables = rng.choice([1, 1, 2, 3]), rng.choice([1, 1, 2])
+        self.first = 1 + self.cpus + self.cpus * self.tables
+        self.blocks = rng.randint(max(8, self.first + 1), 64)
+        self.bytes = bytearray(BLOCK * self.blocks)
+        self.bytes[:48] = b"NOVAPM01" + struct.pack("<QQQQQ", 1, self.cpus, self.blocks, self.tables, rng.choice([0, 0, 1]))
+        self.next = self.first
+        numbers = rng.sample(range(2, SLOTS * self.cpus * self.tables), rng.randint(0, 8))
+        self.put_inode(1, 2, numbers)
+        for inode in numbers:
+            self.put_inode(inode, rng.choice([1, 1, 2]), numbers)
+        self.put_records()
+
+    def put_records(self):
+        """Records of words that were changed, pending or not."""
+        for cpu in range(self.cpus):
+            start = BLOCK * (1 + cpu)
+            low, count = self.rng.choice([0, 0, 1, 250]), self.rng.choice([0, 0, 0, 1, 2])
+            struct.pack_into("<QQ", self.bytes, start, low + count, low)
+            for place in range(RECORDS):
+                struct.pack_into("<QQ", self.bytes, start + 64 + 16 * place, self.an_address(), self.rng.randint(0, 3))
+
+    def an_address(self):
+        return 8 * self.rng.randrange(BLOCK * self.blocks // 8)
+
+    def put_inode(self, inode, kind, numbers):
+        if self.next == self.blocks:
+            return
+        head = BLOCK * self.next
+        tail = self.put_log([self.an_entry(kind, numbers) for _ in range(self.rng.choice([0, 1, 3, 10, 60]))])
+        at = BLOCK * (1 + self.cpus + inode % self.cpus * self.tables) + inode // self.cpus * SLOT
+        struct.pack_into("<QQQQQ", self.bytes, at, 1, kind, head, tail, self.rng.randint(0, 9))
+
+    def put_log(self, entries):
+        """Writes the entries on pages one behind the other, as far as there are blocks, and answers the tail."""
+        at = BLOCK * self.next
+        self.next += 1
+        for entry in entries:
+            if at % BLOCK + len(entry) > LINK:
+                if self.next == self.blocks:
+                    break
+                if at % BLOCK < LINK:
+                    struct.pack_into("<Q", self.bytes, at, 8 << 16)
+                struct.pack_into("<Q", self.bytes, at // BLOCK * BLOCK + LINK, BLOCK * self.next)
+                at = BLOCK * self.next
+                self.next += 1
+            self.bytes[at : at + len(entry)] = entry
+            at += len(entry)
+        return at
+
+    def an_entry(self, kind, numbers):
+        rng = self.rng
+        what = rng.choice(["attr", "name", "name", "remove"] if kind == 2 else ["attr", "write", "write", "links"])
+        if what == "attr":
+            size = 0 if kind == 2 else rng.choice([0, 1, 5000, 20480])
+            return struct.pack("<BBHIQQII", 2, 0, 32, rng.randrange(4096), size, rng.randint(0, 9), 0, 0)
+        if what == "write":
+            count = rng.randint(1, 4)
+            block = rng.randint(self.first, self.blocks)
+            return struct.pack("<BBHIQQQQ", 1, 0, 40, count, rng.randint(0, 6), block, rng.choice([1, 5000, 20480]), 0)
+        if what == "links":
+            return struct.pack("<BBHIQQ", 4, 0, 24, rng.randint(1, 3), 0, 0)[:24]
+        name = rng.choice([b"a", b"b", b"eight by", b"nine byte", b"n" * 255, b"\xff"])
+        length = 24 + -(-len(name) // 8) * 8
+        inode = rng.choice([*numbers, 1, 5])
+        return struct.pack("<BBHIQQ", 3, 1 + (what == "remove"), length, len(name), inode, 0) + name.ljust(length - 24, b"\0")
+
+    def change_words(self):
+        """Changes some words, most of them among those that are read."""
+        used = BLOCK * self.next // 8
+        for _ in range(self.rng.choice([0, 1, 1, 2, 5, 40])):
+            at = 8 * self.rng.choice([self.rng.randrange(used), self.rng.randrange(len(self.bytes) // 8), self.rng.randrange(6)])
+            old, = struct.unpack_from("<Q", self.bytes, at)
+            struct.pack_into("<Q", self.bytes, at, self.another(old))
+        # The judge takes version 2 of the layout, which isn't here yet.
+        if self.bytes[8:16] == struct.pack("<Q", 2):
+            self.bytes[8] = 3
+        if self.rng.random() < 0.03:
+            del self.bytes[self.rng.randrange(len(self.bytes)) :]
+
+    def another(self, word):
+        rng = self.rng
+        return rng.choice([
+            0, 1, 2, 2**64 - 1, word ^ (1 << rng.randrange(64)), (word + 8) % 2**64, (word - 8) % 2**64, word ^ 0xFF,
+            BLOCK * rng.randrange(self.blocks + 2), self.an_address(), rng.getrandbits(64),
+        ])  # fmt: skip
+
+
+def a_script(rng):
+    """Lines that are commands, and now and then something else."""
+    blocks = rng.choice([8, 12, 64])
+    lines = [f"format {rng.choice([1, 1, 2, 3])} {blocks} {rng.choice([1, 1, 2])}"]
+    for _ in range(rng.randint(1, 30)):
+        at = 8 * rng.randrange(BLOCK * blocks // 8) if rng.random() < 0.3 else 8 * rng.randrange(BLOCK * 6 // 8)
+        value = rng.choice([0, 1, 2, 8, 8 << 16, BLOCK * rng.randrange(blocks + 1), at, 2**64 - 1, rng.getrandbits(64)])
+        # The judge takes version 2 of the layout, which isn't here yet.
+        value = 3 if (at, value) == (8, 2) else value
+        lines.append(rng.choice([
+            f"poke {at} {value}", f"poke {at} {value}", f"poke {at + rng.choice([0, 4])} {value}", f"peek {at}",
+            f"recover {rng.choice([0, 1, 2, 8, 65])}", "recover 1", "report", "tree", "free", "faults", f"time {rng.randint(0, 9)}",
+            f"poke 8 {rng.choice([0, 1, 3])}", f"replay 3 {' '.join(str(rng.randrange(4)) for _ in range(rng.randint(0, 9)))}".strip(),
+            f"cut {rng.choice([at, BLOCK * blocks])}", f"format 1 {rng.choice([7, 8, 64])} {rng.choice([0, 1, 64])}", "# a comment", "",
+        ]))  # fmt: skip
+    if rng.random() < 0.1:
+        lines.insert(rng.randrange(len(lines)), rng.choice(["peek", "recover x", "tree ", "poke 1", "no such command", "time 18446744073709551616"]))
+    return "\n".join(lines).encode() + rng.choice([b"\n", b""])
+
+
+def run(words, given=b""):
+    begun = time.monotonic()
+    try:
+        done = subprocess.run(words, input=given, capture_output=True, timeout=20 * MOST_SECONDS)
+    except subprocess.TimeoutExpired:
+        raise Wrong(f"{words} didn't end") from None
+    return done.stdout, done.returncode, time.monotonic() - begun
+
+
+def run_well(words, given=b""):
+    """What a run printed and its status."""
+    printed, status, seconds = run(words, given)
+    if status not in (0, 1, 2):
+        raise Wrong(f"{words} ended with the status {status}")
+    if seconds > MOST_SECONDS:
+        # A machine that is busy is slow now and then, and not three times.
+        seconds = min(seconds, *(run(words, given)[2] for _ in range(2)))
+        if seconds > MOST_SECONDS:
+            raise Wrong(f"{words} took {seconds:.2f} s")
+    return printed, status
+
+
+def compare(what, one, other):
+    if one != other:
+        raise Wrong(f"{what}: status {one[1]} and {other[1]}, {len(one[0])} and {len(other[0])} bytes are printed")
+
+
+def try_image(program, judge, rng, path):
+    image = Image(rng)
+    image.change_words()
+    path.write_bytes(image.bytes)
+    by_one = run_well([program, "check", str(path)])
+    workers = rng.choice(WORKERS)
+    compare(f"{workers} workers", by_one, run_well([program, "check", str(path), "--workers", str(workers)]))
+    if judge:
+        compare("the judge", by_one, run([judge, "check", str(path)])[:2])
+
+
+def try_script(program, judge, rng, path):
+    script = a_script(rng)
+    path.write_bytes(script)
+    ours = run_well([program, "run"], script)
+    if judge:
+        compare("the judge", ours, run([judge, "run"], script)[:2])
+
+
+def main():
+    words = argparse.ArgumentParser()
+    words.add_argument("program")
+    words.add_argument("minutes", type=float)
+    words.add_argument("--judge")
+    words.add_argument("--seed", type=int, default=1)
+    words.add_argument("--keep", type=Path)
+    told = words.parse_args()
+    keep = told.keep or Path(tempfile.mkdtemp(prefix="fuzz-"))
+    keep.mkdir(parents=True, exist_ok=True)
+    end = time.monotonic() + 60 * told.minutes
+    tried, wrong = 0, 0
+    while time.monotonic() < end:
+        number = told.seed * 10_000_000 + tried
+        rng = random.Random(number)
+        way = rng.choice([try_image, try_image, try_script])
+        path = keep / f"{way.__name__[4:]}_{number}"
+        tried += 1
+        try:
+            way(told.program, told.judge, rng, path)
+        except Wrong as what:
+            wrong += 1
+            print(f"{path}: {what}", flush=True)
+            continue
+        path.unlink()
+    print(f"{tried} cases, {wrong} wrong")
+    sys.exit(1 if wrong else 0)
+
+
+if __name__ == "__main__":
+    main()
