@@ -1,5 +1,6 @@
 //! Measures what a file call stores: entries that are appended to a log one at a time and fifty at a time, each time
-//! with the new tail, and commits of one word and of two. The argument says how many entries and commits. The
+//! with the new tail, and commits of one word and of two. All is measured in two kinds of memory: one that keeps what a
+//! stop may leave, and one in which a store is there at once. The argument says how many entries and commits. The
 //! nanoseconds that each takes go to standard error, and what was stored to standard output.
 #![tactic(auto)]
 
@@ -11,7 +12,7 @@ ghost use Rattle.nv_logpage.specs.Append.{AreGiven};
 use nv_entry::{AttrEntry, Entry};
 use nv_journal::change_two;
 use nv_logpage::{append, pages_needed};
-use nv_region::{MemRegion, Pmem, Stopped, commit_word};
+use nv_region::{ImageRegion, MemRegion, Pmem, Stopped, commit_word};
 use std::alloc::{AllocError, Global};
 use std::rt::Clock;
 use std::time::{Duration, Instant};
@@ -57,10 +58,10 @@ fn batch(alloc: Global, count: u64) -> Result<Vec<Entry>, AllocError>
 }
 
 /// Stores to each word, so that the system has given all memory before anything is measured.
-fn touch(memory: &mut MemRegion, blocks: u64) -> Result<(), Stopped>
+fn touch<P: Pmem>(memory: &mut P, blocks: u64) -> Result<(), Stopped>
     requires blocks { blocks ≤ 262144 }
-    requires size { size memory.old.region ≡ 4096 * blocks }
-    ensures { size memory.new.region ≡ 4096 * blocks }
+    requires size { size (P.region memory.old) ≡ 4096 * blocks }
+    ensures { size (P.region memory.new) ≡ 4096 * blocks }
 {
     for word in 0..blocks * 512 {
         memory.store(8 * word, 0)?;
@@ -69,11 +70,11 @@ fn touch(memory: &mut MemRegion, blocks: u64) -> Result<(), Stopped>
 }
 
 /// Appends entries and stores the new tail. `None` where the log cannot go on.
-fn append_more(memory: &mut MemRegion, blocks: u64, log: Log, entries: &[Entry]) -> Option<Log>
+fn append_more<P: Pmem>(memory: &mut P, blocks: u64, log: Log, entries: &[Entry]) -> Option<Log>
     requires given { AreGiven entries.now }
     requires blocks { (3 ≤ blocks) × (blocks ≤ 262144) }
-    requires size { size memory.old.region ≡ 4096 * blocks }
-    ensures { size memory.new.region ≡ 4096 * blocks }
+    requires size { size (P.region memory.old) ≡ 4096 * blocks }
+    ensures { size (P.region memory.new) ≡ 4096 * blocks }
 {
     let Log { tail, next } = log;
     let pages = pages_needed(tail, entries);
@@ -90,11 +91,11 @@ fn append_more(memory: &mut MemRegion, blocks: u64, log: Log, entries: &[Entry])
 }
 
 /// Appends the entries so many times to a new log, and answers its tail.
-fn append_all(memory: &mut MemRegion, blocks: u64, entries: &[Entry], times: u64) -> Option<u64>
+fn append_all<P: Pmem>(memory: &mut P, blocks: u64, entries: &[Entry], times: u64) -> Option<u64>
     requires given { AreGiven entries.now }
     requires blocks { (3 ≤ blocks) × (blocks ≤ 262144) }
-    requires size { size memory.old.region ≡ 4096 * blocks }
-    ensures { size memory.new.region ≡ 4096 * blocks }
+    requires size { size (P.region memory.old) ≡ 4096 * blocks }
+    ensures { size (P.region memory.new) ≡ 4096 * blocks }
 {
     let mut log = Log {
         tail: HEAD,
@@ -107,9 +108,9 @@ fn append_all(memory: &mut MemRegion, blocks: u64, entries: &[Entry], times: u64
 }
 
 /// Commits a word so many times.
-fn commit_all(memory: &mut MemRegion, times: u64) -> Result<(), Stopped>
-    requires { size memory.old.region ≡ 65536 }
-    ensures { size memory.new.region ≡ 65536 }
+fn commit_all<P: Pmem>(memory: &mut P, times: u64) -> Result<(), Stopped>
+    requires { 65536 ≤ size (P.region memory.old) }
+    ensures { size (P.region memory.new) ≡ size (P.region memory.old) }
 {
     for value in 0..times {
         commit_word(memory, TAIL_WORD, value)?;
@@ -118,19 +119,19 @@ fn commit_all(memory: &mut MemRegion, times: u64) -> Result<(), Stopped>
 }
 
 /// Whether nothing is pending in the first journal.
-fn is_empty(memory: &MemRegion) -> bool
-    requires { size memory.now.region ≡ 65536 }
-    ensures { result ≡ true → IsEmpty memory.now.region 0 }
+fn is_empty<P: Pmem>(memory: &P) -> bool
+    requires { 65536 ≤ size (P.region memory.now) }
+    ensures { result ≡ true → IsEmpty (P.region memory.now) 0 }
 {
     let enqueue = memory.load(4104);
     memory.load(4096) == enqueue && enqueue < 252
 }
 
 /// Changes two words so many times.
-fn change_all(memory: &mut MemRegion, times: u64) -> Result<(), Stopped>
-    requires size { size memory.old.region ≡ 65536 }
-    requires empty { IsEmpty memory.old.region 0 }
-    ensures { OnOk result (size memory.new.region ≡ 65536) }
+fn change_all<P: Pmem>(memory: &mut P, times: u64) -> Result<(), Stopped>
+    requires size { 65536 ≤ size (P.region memory.old) }
+    requires empty { IsEmpty (P.region memory.old) 0 }
+    ensures { OnOk result (size (P.region memory.new) ≡ size (P.region memory.old)) }
 {
     for value in 0..times {
         change_two(memory, 0, TAIL_WORD, value, OTHER_WORD, value + 1)?;
@@ -144,38 +145,38 @@ fn report<R: Eprint>(rt: &R, what: &str, count: u64, time: Duration) -> io::Resu
     eprintln!(rt; "{what}: {}.{} ns", tenths / 10, tenths % 10)
 }
 
-fn measure_appends<R: AllocGlobal + Print + Eprint + Clock>(
+/// Measures entries that are appended to a log, so many at a time.
+fn measure_appends<R: AllocGlobal + Print + Eprint + Clock, P: Pmem>(
     rt: &R,
-    what: &str,
+    memory: &mut P,
+    blocks: u64,
     count: u64,
     at_once: u64,
 ) -> io::Result<()>
-    requires count { count ≤ 10000000 }
     requires some { 0 < at_once }
+    requires blocks { (3 ≤ blocks) × (blocks ≤ 262144) }
+    requires size { size (P.region memory.old) ≡ 4096 * blocks }
+    ensures { size (P.region memory.new) ≡ 4096 * blocks }
 {
-    let blocks = count / ENTRIES_IN_PAGE + 6;
     let entries = batch(rt.alloc(), at_once)?;
-    let Ok(mut memory) = MemRegion::new(rt.alloc(), blocks) else {
-        return eprintln!(rt; "no memory");
-    };
-    if touch(&mut memory, blocks).is_err() {
+    if touch(memory, blocks).is_err() {
         return eprintln!(rt; "stopped");
     }
     let start = Instant::now(rt)?;
-    let Some(tail) = append_all(&mut memory, blocks, &entries, count / at_once) else {
+    let Some(tail) = append_all(memory, blocks, &entries, count / at_once) else {
         return eprintln!(rt; "the log has no room");
     };
-    report(rt, what, count, start.elapsed(rt)?)?;
-    println!(rt; "{what}: the tail is {tail}")
+    report(rt, "an entry", count, start.elapsed(rt)?)?;
+    println!(rt; "{at_once} at a time: the tail is {tail}")
 }
 
-fn measure_words<R: Print + Eprint + Clock>(
+fn measure_words<R: Print + Eprint + Clock, P: Pmem>(
     rt: &R,
-    memory: &mut MemRegion,
+    memory: &mut P,
     count: u64,
 ) -> io::Result<()>
-    requires { size memory.old.region ≡ 65536 }
-    ensures { size memory.new.region ≡ 65536 }
+    requires { 65536 ≤ size (P.region memory.old) }
+    ensures { size (P.region memory.new) ≡ size (P.region memory.old) }
 {
     let start = Instant::now(rt)?;
     if commit_all(memory, count).is_err() {
@@ -185,12 +186,12 @@ fn measure_words<R: Print + Eprint + Clock>(
     println!(rt; "one word: {}", memory.load(TAIL_WORD))
 }
 
-fn measure_pairs<R: Print + Eprint + Clock>(
+fn measure_pairs<R: Print + Eprint + Clock, P: Pmem>(
     rt: &R,
-    memory: &mut MemRegion,
+    memory: &mut P,
     count: u64,
 ) -> io::Result<()>
-    requires { size memory.old.region ≡ 65536 }
+    requires { 65536 ≤ size (P.region memory.old) }
 {
     if !is_empty(memory) {
         return eprintln!(rt; "the journal has records");
@@ -207,16 +208,60 @@ fn measure_pairs<R: Print + Eprint + Clock>(
     )
 }
 
+/// Measures all in one memory.
+fn measure_in<R: AllocGlobal + Print + Eprint + Clock, P: Pmem>(
+    rt: &R,
+    memory: &mut P,
+    blocks: u64,
+    count: u64,
+) -> io::Result<()>
+    requires blocks { (16 ≤ blocks) × (blocks ≤ 262144) }
+    requires size { size (P.region memory.old) ≡ 4096 * blocks }
+{
+    measure_appends(rt, memory, blocks, count, 1)?;
+    measure_appends(rt, memory, blocks, count, 50)?;
+    measure_words(rt, memory, count)?;
+    measure_pairs(rt, memory, count)
+}
+
+/// Memory that keeps what a stop may leave.
+fn measure_stoppable<R: AllocGlobal + Print + Eprint + Clock>(
+    rt: &R,
+    blocks: u64,
+    count: u64,
+) -> io::Result<()>
+    requires { (16 ≤ blocks) × (blocks ≤ 262144) }
+{
+    let Ok(mut memory) = MemRegion::new(rt.alloc(), blocks) else {
+        return eprintln!(rt; "no memory");
+    };
+    eprintln!(rt; "memory that keeps what a stop may leave")?;
+    measure_in(rt, &mut memory, blocks, count)
+}
+
+/// Memory in which a store is there at once.
+fn measure_plain<R: AllocGlobal + Print + Eprint + Clock>(
+    rt: &R,
+    blocks: u64,
+    count: u64,
+) -> io::Result<()>
+    requires { (16 ≤ blocks) × (blocks ≤ 262144) }
+{
+    let bytes = vec![in rt.alloc(); 0; (blocks * 4096) as usize]?;
+    let Ok(mut memory) = ImageRegion::from_bytes(rt.alloc(), bytes.as_slice()) else {
+        return eprintln!(rt; "no memory");
+    };
+    memory.open_front(blocks)?;
+    eprintln!(rt; "memory in which a store is there at once")?;
+    measure_in(rt, &mut memory, blocks, count)
+}
+
 fn measure<R: AllocGlobal + Print + Eprint + Clock>(rt: &R, count: u64) -> io::Result<()>
     requires { count ≤ 10000000 }
 {
-    measure_appends(rt, "one at a time", count, 1)?;
-    measure_appends(rt, "fifty at a time", count, 50)?;
-    let Ok(mut memory) = MemRegion::new(rt.alloc(), 16) else {
-        return eprintln!(rt; "no memory");
-    };
-    measure_words(rt, &mut memory, count)?;
-    measure_pairs(rt, &mut memory, count)
+    let blocks = count / ENTRIES_IN_PAGE + 16;
+    measure_stoppable(rt, blocks, count)?;
+    measure_plain(rt, blocks, count)
 }
 
 fn number_of(text: Option<String>) -> Option<u64> {

@@ -4,4 +4,4 @@ use Rattle.nv_journal.specs.Pending.{IsEmpty}
 use Rattle.bench_append.proofs.change_all.Given as goal
 
 abbrev pub invariant-loop-value : goal.invariant-loop-value
-invariant-loop-value l = (size l.memory.region ≡ 65536) × IsEmpty l.memory.region 0
+invariant-loop-value g l = (size (g.P.Pmem.region l.memory) ≡ size (g.P.Pmem.region l.fn.memory)) × IsEmpty (g.P.Pmem.region l.memory) 0

@@ -1,0 +1,60 @@
+//! Regions, made and mounted.
+
+ghost use Rattle.std.specs.Prelude.{◌≡◌};
+ghost use Rattle.nv_region.specs.Region.{size};
+
+use crate::regions::{EMPTY_FILE, TWO_PAGES, Word};
+use nv_calls::{Fs, format};
+use nv_outcome::rolled_back_outcome;
+use nv_recover::{RecoverError, recover_one};
+use nv_region::{MemRegion, Pmem};
+use std::alloc::Global;
+use std::test::Fail;
+
+/// Recovers a region and mounts it.
+pub fn mount(alloc: Global, mut memory: MemRegion) -> Result<Fs<MemRegion>, RecoverError> {
+    let recovered = recover_one(alloc, &mut memory)?;
+    rolled_back_outcome();
+    Ok(Fs::open(alloc, memory, recovered))
+}
+
+/// Stores words into a region of sixteen blocks, and fences them.
+fn store_words(memory: &mut MemRegion, words: &[Word])
+    requires { size memory.old.region ≡ 65536 }
+    ensures { size memory.new.region ≡ 65536 }
+{
+    for (at, word) in words {
+        if *at % 8 == 0 && *at < 65536 {
+            let _unstopped = memory.store(*at, *word);
+        }
+    }
+    let _unstopped = memory.fence();
+}
+
+/// A file of two pages, with further words stored over it, mounted.
+pub fn two_pages_but(alloc: Global, words: &[Word]) -> Result<Fs<MemRegion>, Fail> {
+    let mut memory = MemRegion::new(alloc, 16)?;
+    store_words(&mut memory, &EMPTY_FILE);
+    store_words(&mut memory, &TWO_PAGES);
+    store_words(&mut memory, words);
+    Ok(mount(alloc, memory)?)
+}
+
+/// A file of two pages, mounted.
+pub fn two_pages(alloc: Global) -> Result<Fs<MemRegion>, Fail> {
+    two_pages_but(alloc, &[])
+}
+
+/// An empty file, mounted.
+pub fn empty_file(alloc: Global) -> Result<Fs<MemRegion>, Fail> {
+    let mut memory = MemRegion::new(alloc, 16)?;
+    store_words(&mut memory, &EMPTY_FILE);
+    Ok(mount(alloc, memory)?)
+}
+
+/// A region of so many blocks, formatted for so many CPUs with one table block each, mounted.
+pub fn formatted(alloc: Global, blocks: u64, cpus: u64, time: u64) -> Result<Fs<MemRegion>, Fail> {
+    let mut memory = MemRegion::new(alloc, blocks)?;
+    format(&mut memory, cpus, 1, time)?;
+    Ok(mount(alloc, memory)?)
+}

@@ -1,0 +1,66 @@
+//! What is mounted is what recovery finds in the region's bytes.
+
+use nv_calls::Fs;
+use nv_recover::{Recovered, recover_one};
+use nv_region::MemRegion;
+use nv_scan::Row;
+use nv_super::Run;
+use std::alloc::{AllocError, Global};
+use std::process::Abort;
+use std::test::Fail;
+
+/// What recovery finds in the bytes of the region.
+fn recover_bytes(alloc: Global, fs: &Fs<MemRegion>) -> Result<Recovered, Fail> {
+    let bytes = fs.region().to_bytes()?;
+    let mut memory = MemRegion::from_bytes(alloc, &bytes)?;
+    Ok(recover_one(alloc, &mut memory)?)
+}
+
+fn has_same_log(mounted: &Row, recovered: &Row) -> bool {
+    mounted.head == recovered.head
+        && mounted.tail == recovered.tail
+        && mounted.pages.as_slice() == recovered.pages.as_slice()
+}
+
+fn has_same_numbers(mounted: &Row, recovered: &Row) -> bool {
+    mounted.inode == recovered.inode
+        && mounted.kind == recovered.kind
+        && mounted.numbers == recovered.numbers
+}
+
+fn has_same_pages(mounted: &Row, recovered: &Row) -> Result<bool, AllocError> {
+    Ok(mounted.index.runs()?.as_slice() == recovered.index.runs()?.as_slice())
+}
+
+fn has_same_names(mounted: &Row, recovered: &Row) -> Result<bool, AllocError> {
+    Ok(mounted.names.list()?.as_slice() == recovered.names.list()?.as_slice())
+}
+
+fn assert_same_rows(rt: &impl Abort, mounted: &[Row], recovered: &[Row]) -> Result<(), AllocError> {
+    assert!(rt; mounted.len() == recovered.len());
+    for (row, other) in mounted.iter().zip(recovered) {
+        assert!(rt; has_same_numbers(row, other));
+        assert!(rt; has_same_log(row, other));
+        assert!(rt; has_same_pages(row, other)?);
+        assert!(rt; has_same_names(row, other)?);
+    }
+    Ok(())
+}
+
+fn assert_same_lists(rt: &impl Abort, mounted: &[Vec<Run>], recovered: &[Vec<Run>]) {
+    assert!(rt; mounted.len() == recovered.len());
+    for (runs, others) in mounted.iter().zip(recovered) {
+        assert!(rt; runs.as_slice() == others.as_slice());
+    }
+}
+
+/// Recovery of the region's bytes finds the rows, the free lists and the faults that are mounted.
+pub fn assert_recovered(rt: &impl Abort, alloc: Global, fs: &Fs<MemRegion>) -> Result<(), Fail> {
+    let recovered = recover_bytes(alloc, fs)?;
+    assert!(rt; fs.faults() == recovered.faults.as_slice());
+    assert_same_rows(rt, fs.rows(), &recovered.rows)?;
+    let mounted = fs.free().lists()?;
+    let others = recovered.free.lists()?;
+    assert_same_lists(rt, &mounted, &others);
+    Ok(())
+}
