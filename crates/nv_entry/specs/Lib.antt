@@ -4,3 +4,4 @@ pub mod Spelling
 pub mod Content
 pub mod Digits
 pub mod Written
+pub mod Light

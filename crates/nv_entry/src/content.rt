@@ -3,11 +3,13 @@
 //! Tests an entry by itself, against its inode's kind and the superblock's numbers. What it says together with other
 //! entries, as two adds of one name, is no matter of this file.
 
-ghost use Rattle.std.specs.Prelude.{◌≡◌, ℕ, ◌+◌, ◌*◌, ◌^◌, ◌<◌, ◌≤◌, is_none};
+ghost use Rattle.std.specs.Prelude.{◌≡◌, ℕ, ◌+◌, ◌*◌, ◌^◌, ◌<◌, ◌≤◌, is_none, if◌then◌else◌, Some, None};
 ghost use Rattle.nv_super.specs.Layout.{HasAreas};
+ghost use Rattle.nv_entry.specs.Light.{bare};
 ghost use Rattle.nv_entry.specs.Content.{is_wrong_kind, is_out_of_range, is_write_out_of_range, is_attr_out_of_range, is_name_out_of_range, is_links_out_of_range, is_dots, has_bad_byte, content_fault, is_good};
 
 use crate::entry::{AttrEntry, Entry, LinksEntry, NameEntry, WriteEntry};
+use crate::light::LightEntry;
 use nv_super::{BLOCK_SIZE, Kind, Super};
 
 const MOST_PAGES: u64 = 262_144;
@@ -40,6 +42,41 @@ pub fn check_content(sup: &Super, kind: Kind, entry: &Entry) -> Option<ContentFa
     } else {
         None
     }
+}
+
+/// The fault in what a name entry says, or `None` where it is good.
+pub fn check_name(sup: &Super, kind: Kind, e: &NameEntry) -> Option<ContentFault>
+    requires { HasAreas sup.now }
+    ensures fault { result ≡ content_fault sup.now kind (Entry.Name e.now) }
+    ensures good { is_none result ≡ is_good sup.now kind (Entry.Name e.now) }
+{
+    match kind {
+        Kind::File => Some(ContentFault::WrongKind),
+        Kind::Directory => out_of_range_if(is_name_out_of_range(sup, e)),
+    }
+}
+
+/// The fault in what a light entry says by itself, or `None` where it is good. A name is not looked at.
+pub fn check_bare(sup: &Super, kind: Kind, entry: &LightEntry) -> Option<ContentFault>
+    requires { HasAreas sup.now }
+    ensures fault { result ≡ content_fault sup.now kind (bare entry.now) }
+    ensures good { is_none result ≡ is_good sup.now kind (bare entry.now) }
+{
+    match (entry, kind) {
+        (LightEntry::Write(_), Kind::Directory) => Some(ContentFault::WrongKind),
+        (LightEntry::Links(_), Kind::Directory) => Some(ContentFault::WrongKind),
+        (LightEntry::Write(e), Kind::File) => out_of_range_if(is_write_out_of_range(sup, e)),
+        (LightEntry::Links(e), Kind::File) => out_of_range_if(is_links_out_of_range(e)),
+        (LightEntry::Attr(e), _) => out_of_range_if(is_attr_out_of_range(kind, e)),
+        (LightEntry::NextPage, _) => None,
+        (LightEntry::Name(_), _) => None,
+    }
+}
+
+fn out_of_range_if(holds: bool) -> Option<ContentFault>
+    ensures { result ≡ if holds then Some ContentFault.OutOfRange else None }
+{
+    holds.then_some(ContentFault::OutOfRange)
 }
 
 /// Whether it is a write or links entry of a directory, or a name entry of a file.

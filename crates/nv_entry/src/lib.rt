@@ -8,17 +8,20 @@ mod content;
 mod entry;
 mod first;
 mod laws;
+mod light;
 mod name;
 mod reading;
 mod writing;
 
 pub use content::{
-    ContentFault, check_content, has_bad_byte, is_dots, is_out_of_range, is_wrong_kind,
+    ContentFault, check_bare, check_content, check_name, has_bad_byte, is_dots, is_out_of_range,
+    is_wrong_kind,
 };
 pub use entry::{AttrEntry, Entry, LinksEntry, NameEntry, Operation, WriteEntry};
 pub use laws::{
     an_entry_or_none_at_a_place, no_spelling_begins_another, one_entry_at_a_place, one_spelling,
 };
+pub use light::{LightEntry, LightName};
 pub use name::FileName;
-pub use reading::{Framing, read_entry};
+pub use reading::{Framing, read_entry, read_light};
 pub use writing::{length, write_entry};

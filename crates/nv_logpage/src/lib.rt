@@ -10,6 +10,7 @@
 mod appending;
 mod found;
 mod laws;
+mod light;
 mod looking;
 mod reader;
 mod walking;
@@ -21,5 +22,6 @@ pub use laws::{
     reads_its_pages_alone, reads_on_from_the_tail, reads_once, right_logs_can_be_read,
     right_logs_have_a_reading, words_behind_the_tail_are_unread,
 };
+pub use light::{LightFinding, LightPlaced};
 pub use reader::LogReader;
 pub use walking::walk;

@@ -12,3 +12,4 @@ pub mod Tickets
 pub mod Work
 pub mod Scanner
 pub mod Claiming
+pub mod Light

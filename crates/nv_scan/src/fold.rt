@@ -2,18 +2,23 @@
 
 ghost use Rattle.std.specs.Prelude.{◌≡◌, ℕ, OnOk, [], true, is_none};
 ghost use Rattle.nv_entry.specs.Content.{content_fault};
+ghost use Rattle.nv_entry.specs.Light.{bare, name_in, CanBeRead, HasName};
+ghost use Rattle.nv_logpage.specs.Reads.{placed};
+ghost use Rattle.nv_logpage.specs.Light.{placed_in};
 ghost use Rattle.nv_super.specs.Layout.{HasAreas};
 ghost use Rattle.nv_super.specs.declared.superblock.Super.{Super as SuperValue};
 ghost use Rattle.nv_super.specs.declared.kind.Kind.{Kind as KindValue};
 ghost use Rattle.nv_scan.specs.Fold.{Takes, Holds};
+ghost use Rattle.nv_scan.specs.Light.{bare_placed};
 
-use crate::names::{apply_names, name_fault, told};
+use crate::names::{apply_name, clash, told};
 use crate::numbers::Numbers;
 use crate::pages::apply_pages;
-use nv_entry::check_content;
-use nv_logpage::Placed;
+use nv_entry::{Entry, LightEntry, LightName, NameEntry, check_bare, check_name};
+use nv_logpage::LightPlaced;
 use nv_names::NameIndex;
 use nv_radix::ExtentMap;
+use nv_region::Pmem;
 use nv_super::{Fault, Kind, Super};
 use std::alloc::{AllocError, Global};
 
@@ -39,18 +44,41 @@ impl Fold {
         }
     }
 
-    /// Takes one entry more. An entry that says what can't be is told as a fault, and changes nothing else.
-    pub(crate) fn take(
+    /// Takes one entry more, and reads its name, if it has one. An entry that says what can't be is told as a fault, and
+    /// changes nothing else.
+    pub(crate) fn take<P: Pmem>(
+        &mut self,
+        memory: &P,
+        sup: &Super,
+        kind: Kind,
+        inode: u64,
+        placed: &LightPlaced,
+    ) -> Result<(), AllocError>
+        requires areas { HasAreas sup.now }
+        requires name { CanBeRead (P.region memory.now) placed.now.entry }
+        ensures { OnOk result (Takes sup.now kind inode (placed_in (P.region memory.now) placed.now) self.old self.new) }
+    {
+        match &placed.entry {
+            LightEntry::Name(e) => self.take_name(memory, sup, kind, inode, placed.at, e),
+            LightEntry::NextPage
+            | LightEntry::Write(_)
+            | LightEntry::Attr(_)
+            | LightEntry::Links(_) => self.take_bare(sup, kind, inode, placed),
+        }
+    }
+
+    /// Takes an entry without a name.
+    fn take_bare(
         &mut self,
         sup: &Super,
         kind: Kind,
         inode: u64,
-        placed: &Placed,
+        placed: &LightPlaced,
     ) -> Result<(), AllocError>
         requires { HasAreas sup.now }
-        ensures { OnOk result (Takes sup.now kind inode placed.now self.old self.new) }
+        ensures { OnOk result (Takes sup.now kind inode (bare_placed placed.now) self.old self.new) }
     {
-        match check_content(sup, kind, &placed.entry) {
+        match check_bare(sup, kind, &placed.entry) {
             Some(fault) => {
                 self.faults.push(told(fault, inode, placed.at))?;
                 Ok(())
@@ -59,23 +87,63 @@ impl Fold {
         }
     }
 
-    /// Takes a good entry.
+    /// Takes a good entry without a name.
     fn take_good(
         &mut self,
         sup: &Super,
         kind: Kind,
-        inode: u64,
-        placed: &Placed,
+        _inode: u64,
+        placed: &LightPlaced,
     ) -> Result<(), AllocError>
         requires areas { HasAreas sup.now }
-        requires good { is_none (content_fault sup.now kind placed.now.entry) ≡ true }
-        ensures { OnOk result (Takes sup.now kind inode placed.now self.old self.new) }
+        requires good { is_none (content_fault sup.now kind (bare placed.now.entry)) ≡ true }
+        ensures { OnOk result (Takes sup.now kind _inode (bare_placed placed.now) self.old self.new) }
     {
-        if let Some(fault) = name_fault(&self.names, inode, placed) {
+        self.numbers.apply(placed);
+        apply_pages(&mut self.extents, sup, kind, placed)
+    }
+
+    /// Takes a name entry at a place, and reads its name. Room for a name is taken here alone, so that other entries
+    /// don't pay for it.
+    fn take_name<P: Pmem>(
+        &mut self,
+        memory: &P,
+        sup: &Super,
+        kind: Kind,
+        inode: u64,
+        at: u64,
+        light: &LightName,
+    ) -> Result<(), AllocError>
+        requires areas { HasAreas sup.now }
+        requires name { HasName (P.region memory.now) light.now }
+        ensures { OnOk result (Takes sup.now kind inode (placed at (Entry.Name (name_in (P.region memory.now) light.now))) self.old self.new) }
+    {
+        let e = light.read(memory);
+        match check_name(sup, kind, &e) {
+            Some(fault) => {
+                self.faults.push(told(fault, inode, at))?;
+                Ok(())
+            }
+            None => self.take_good_name(sup, kind, inode, at, &e),
+        }
+    }
+
+    /// Takes a good name entry.
+    fn take_good_name(
+        &mut self,
+        _sup: &Super,
+        _kind: Kind,
+        inode: u64,
+        at: u64,
+        e: &NameEntry,
+    ) -> Result<(), AllocError>
+        requires { is_none (content_fault _sup.now _kind (Entry.Name e.now)) ≡ true }
+        ensures { OnOk result (Takes _sup.now _kind inode (placed at (Entry.Name e.now)) self.old self.new) }
+    {
+        if let Some(fault) = clash(&self.names, inode, at, e) {
             self.faults.push(fault)?;
         }
-        self.numbers.apply(placed);
-        apply_pages(&mut self.extents, sup, kind, placed)?;
-        apply_names(&mut self.names, placed)
+        self.numbers.time = e.time;
+        apply_name(&mut self.names, at, e)
     }
 }

@@ -2,27 +2,16 @@
 
 ghost use Rattle.std.specs.Prelude.{◌≡◌, ℕ, List, unwrap_or, OnOk};
 ghost use Rattle.nv_names.specs.Names.{name_at};
-ghost use Rattle.nv_scan.specs.State.{says_name, name_in};
+ghost use Rattle.nv_scan.specs.State.{name_in};
 ghost use Rattle.nv_scan.specs.Fold.{name_fault, told};
 
 use nv_entry::{ContentFault, Entry, NameEntry, Operation};
-use nv_logpage::Placed;
 use nv_names::NameIndex;
 use nv_super::Fault;
 use std::alloc::AllocError;
 
-/// Takes what a good entry says of a name.
-pub(crate) fn apply_names(names: &mut NameIndex, placed: &Placed) -> Result<(), AllocError>
-    ensures { OnOk result ((q : List ℕ) → name_at names.new q ≡ unwrap_or (says_name q placed.now) (name_at names.old q)) }
-{
-    match &placed.entry {
-        Entry::Name(e) => apply_name(names, placed.at, e),
-        Entry::NextPage | Entry::Write(_) | Entry::Attr(_) | Entry::Links(_) => Ok(()),
-    }
-}
-
-/// Adds the name of an entry at a place, or takes it out.
-fn apply_name(names: &mut NameIndex, at: u64, e: &NameEntry) -> Result<(), AllocError>
+/// Adds the name of a good entry at a place, or takes it out.
+pub(crate) fn apply_name(names: &mut NameIndex, at: u64, e: &NameEntry) -> Result<(), AllocError>
     ensures { OnOk result ((q : List ℕ) → name_at names.new q ≡ unwrap_or (name_in q at (Entry.Name e.now)) (name_at names.old q)) }
 {
     match e.operation {
@@ -34,18 +23,9 @@ fn apply_name(names: &mut NameIndex, at: u64, e: &NameEntry) -> Result<(), Alloc
     }
 }
 
-/// The fault of a good entry of an inode beside the names before it: an add of a name that is there, or a removal of
-/// one that isn't.
-pub(crate) fn name_fault(names: &NameIndex, inode: u64, placed: &Placed) -> Option<Fault>
-    ensures { result ≡ name_fault inode (name_at names.now) placed.now.at placed.now.entry }
-{
-    match &placed.entry {
-        Entry::Name(e) => clash(names, inode, placed.at, e),
-        Entry::NextPage | Entry::Write(_) | Entry::Attr(_) | Entry::Links(_) => None,
-    }
-}
-
-fn clash(names: &NameIndex, inode: u64, at: u64, e: &NameEntry) -> Option<Fault>
+/// The fault of a good name entry of an inode beside the names before it: an add of a name that is there, or a removal
+/// of one that isn't.
+pub(crate) fn clash(names: &NameIndex, inode: u64, at: u64, e: &NameEntry) -> Option<Fault>
     ensures { result ≡ name_fault inode (name_at names.now) at (Entry.Name e.now) }
 {
     match (e.operation, names.get(e.name.as_slice())) {

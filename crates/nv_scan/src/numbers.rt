@@ -2,9 +2,10 @@
 
 ghost use Rattle.std.specs.Prelude.{◌≡◌, unwrap_or};
 ghost use Rattle.nv_scan.specs.State.{says_size, says_mode, says_owner, says_group, says_links, says_time};
+ghost use Rattle.nv_scan.specs.Light.{bare_placed};
 
-use nv_entry::Entry;
-use nv_logpage::Placed;
+use nv_entry::LightEntry;
+use nv_logpage::LightPlaced;
 
 /// An inode's size in bytes, mode, owner, group, link count and time.
 #[derive(Clone, Copy, Debug, PartialEq, Eq)]
@@ -32,30 +33,29 @@ impl Numbers {
         }
     }
 
-    /// Takes what an entry says.
-    pub fn apply(&mut self, placed: &Placed)
-        ensures size { self.new.size ≡ unwrap_or (says_size placed.now) self.old.size }
-        ensures mode { self.new.mode ≡ unwrap_or (says_mode placed.now) self.old.mode }
-        ensures owner { self.new.owner ≡ unwrap_or (says_owner placed.now) self.old.owner }
-        ensures group { self.new.group ≡ unwrap_or (says_group placed.now) self.old.group }
-        ensures links { self.new.links ≡ unwrap_or (says_links placed.now) self.old.links }
-        ensures time { self.new.time ≡ unwrap_or (says_time placed.now) self.old.time }
+    /// Takes what an entry says by itself. One with a name changes nothing.
+    pub fn apply(&mut self, placed: &LightPlaced)
+        ensures size { self.new.size ≡ unwrap_or (says_size (bare_placed placed.now)) self.old.size }
+        ensures mode { self.new.mode ≡ unwrap_or (says_mode (bare_placed placed.now)) self.old.mode }
+        ensures owner { self.new.owner ≡ unwrap_or (says_owner (bare_placed placed.now)) self.old.owner }
+        ensures group { self.new.group ≡ unwrap_or (says_group (bare_placed placed.now)) self.old.group }
+        ensures links { self.new.links ≡ unwrap_or (says_links (bare_placed placed.now)) self.old.links }
+        ensures time { self.new.time ≡ unwrap_or (says_time (bare_placed placed.now)) self.old.time }
     {
         match &placed.entry {
-            Entry::NextPage => {}
-            Entry::Write(e) => {
+            LightEntry::NextPage | LightEntry::Name(_) => {}
+            LightEntry::Write(e) => {
                 self.size = e.size;
                 self.time = e.time;
             }
-            Entry::Attr(e) => {
+            LightEntry::Attr(e) => {
                 self.size = e.size;
                 self.mode = e.mode;
                 self.owner = e.owner;
                 self.group = e.group;
                 self.time = e.time;
             }
-            Entry::Name(e) => self.time = e.time,
-            Entry::Links(e) => {
+            LightEntry::Links(e) => {
                 self.links = e.count;
                 self.time = e.time;
             }

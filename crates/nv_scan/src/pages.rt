@@ -4,31 +4,33 @@ ghost use Rattle.std.specs.Prelude.{◌≡◌, ◌*◌, ℕ, unwrap_or, nat_le, 
 ghost use Rattle.nv_super.specs.Layout.{HasAreas};
 ghost use Rattle.nv_super.specs.declared.superblock.Super.{Super as SuperValue};
 ghost use Rattle.nv_super.specs.declared.kind.Kind.{Kind as KindValue};
+ghost use Rattle.nv_entry.specs.Light.{bare};
 ghost use Rattle.nv_entry.specs.Content.{is_out_of_range, is_write_out_of_range};
 ghost use Rattle.nv_radix.specs.Runs.{block_by};
 ghost use Rattle.nv_scan.specs.State.{says_block, block_in};
+ghost use Rattle.nv_scan.specs.Light.{bare_placed};
 
-use nv_entry::{Entry, WriteEntry};
-use nv_logpage::Placed;
+use nv_entry::{Entry, LightEntry, WriteEntry};
+use nv_logpage::LightPlaced;
 use nv_radix::ExtentMap;
 use nv_super::{BLOCK_SIZE, Kind, Super};
 use std::alloc::AllocError;
 
-/// Takes what a good entry says of pages: it may cut pages, and maps those that it writes.
+/// Takes what an entry that is good by itself says of pages: it may cut pages, and maps those that it writes.
 pub(crate) fn apply_pages(
     extents: &mut ExtentMap,
     sup: &Super,
     kind: Kind,
-    placed: &Placed,
+    placed: &LightPlaced,
 ) -> Result<(), AllocError>
     requires areas { HasAreas sup.now }
-    requires good { is_out_of_range sup.now kind placed.now.entry ≡ false }
-    ensures { OnOk result ((p : ℕ) → block_by extents.new p ≡ unwrap_or (says_block p placed.now) (block_by extents.old p)) }
+    requires good { is_out_of_range sup.now kind (bare placed.now.entry) ≡ false }
+    ensures { OnOk result ((p : ℕ) → block_by extents.new p ≡ unwrap_or (says_block p (bare_placed placed.now)) (block_by extents.old p)) }
 {
     match &placed.entry {
-        Entry::Write(e) => write_pages(extents, sup, e),
-        Entry::Attr(e) => extents.cut(first_page_past(e.size)),
-        Entry::NextPage | Entry::Name(_) | Entry::Links(_) => Ok(()),
+        LightEntry::Write(e) => write_pages(extents, sup, e),
+        LightEntry::Attr(e) => extents.cut(first_page_past(e.size)),
+        LightEntry::NextPage | LightEntry::Name(_) | LightEntry::Links(_) => Ok(()),
     }
 }
 

@@ -8,7 +8,7 @@ ghost use Rattle.nv_scan.specs.Reading.{IsRead};
 
 use crate::fold::Fold;
 use crate::in_use::InUse;
-use nv_logpage::{Finding, LogEnd, LogReader};
+use nv_logpage::{LightFinding, LogEnd, LogReader};
 use nv_region::Pmem;
 use nv_super::Super;
 use std::alloc::{AllocError, Global};
@@ -37,10 +37,10 @@ pub(crate) fn read_log<P: Pmem>(
 {
     let mut fold = Fold::new(alloc, used.slot.created);
     'reading: loop {
-        match reader.next(memory)? {
-            Finding::Entry(placed) => fold.take(sup, used.kind, used.inode, &placed)?,
-            Finding::Page(_) => {}
-            Finding::End(fault) => {
+        match reader.next_light(memory)? {
+            LightFinding::Entry(placed) => fold.take(memory, sup, used.kind, used.inode, &placed)?,
+            LightFinding::Page(_) => {}
+            LightFinding::End(fault) => {
                 return Ok(Read {
                     pages: reader.pages().to_vec(alloc)?,
                     fault,

@@ -1,4 +1,4 @@
-use Rattle.std.proofs.Common.{◌≡◌, ◌∙◌, refl, sym, subst, ℕ, List}
+use Rattle.std.proofs.Common.{◌∙◌, refl, sym, subst, ℕ, List}
 use Rattle.nv_super.specs.declared.owners.Owner.{Owner}
 use Rattle.nv_super.specs.Order.{Lists, owner_key}
 use Rattle.nv_scan.specs.Claims.{IsClaim}

@@ -2,7 +2,7 @@ use Rattle.std.proofs.Common.{arith, ◌≡◌, ◌%◌}
 use Rattle.std.proofs.lemmas.Result.{on_err_weaker}
 use Rattle.nv_region.specs.Region.{word}
 use Rattle.nv_entry.proofs.ByKind.{no_write, no_attr, no_links}
-use Rattle.nv_entry.proofs.reading.read_entry.Goals as goal
+use Rattle.nv_entry.proofs.reading.read_light.Goals as goal
 
 pub returns-in-1-clause-none : goal.returns-in-1-clause-none
 returns-in-1-clause-none g c =
