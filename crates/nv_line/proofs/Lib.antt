@@ -2,5 +2,6 @@ pub mod Choice
 pub mod Numbers
 pub mod NumberLists
 pub mod Words
-pub mod Requests
+pub mod ShapedWords
+pub mod Rows
 pub mod Grammar

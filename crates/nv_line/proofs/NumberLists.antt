@@ -4,7 +4,7 @@ use Rattle.std.specs.Prelude.{option_and_then}
 use Rattle.std.specs.List.{AllByRecursion}
 use Rattle.std.specs.Borrow.{Bor}
 use Rattle.std.proofs.lemmas.List.{drop_all}
-use Rattle.nv_line.specs.Spelling.{IsSmall}
+use Rattle.nv_line.specs.Shapes.{IsSmall}
 use Rattle.nv_line.specs.Reading.{number_of, numbers_of}
 use Rattle.nv_line.proofs.Numbers.{number_says, number_again}
 

@@ -12,7 +12,8 @@ use Rattle.std.proofs.lemmas.Fmt.{IsAscii-from_digits, decimal-digits_value, dec
 use Rattle.std.proofs.lemmas.Str.{IsUtf8-from_ascii}
 use Rattle.std.specs.Prelude.{MatchResult, IfSome}
 use Rattle.std.specs.Borrow.{Bor}
-use Rattle.nv_line.specs.Spelling.{IsSmall, Writes}
+use Rattle.nv_line.specs.Shapes.{IsSmall}
+use Rattle.nv_line.specs.Spelling.{Writes}
 use Rattle.nv_line.specs.Reading.{is_numeral, number_of}
 use Rattle.nv_line.proofs.Choice.{chosen}
 

@@ -8,7 +8,7 @@ use Rattle.std.proofs.lemmas.Fmt.{decimal_is_IsNumeral}
 use Rattle.std.proofs.lemmas.List.Elements.{All-from_recursion}
 use Rattle.std.proofs.lemmas.List.Splits.{slice_split_at, slice_split_none}
 use Rattle.std.proofs.lemmas.Str.Parse.{digit_from_value}
-use Rattle.nv_line.specs.Spelling.{IsSmall}
+use Rattle.nv_line.specs.Shapes.{IsSmall}
 
 -- no byte of the word is a space
 abbrev pub IsUnspaced : List ℕ → Type 0

@@ -1,4 +1,6 @@
 pub mod Request
+pub mod Shapes
+pub mod Table
 pub mod Spelling
 pub mod View
 pub mod Lines

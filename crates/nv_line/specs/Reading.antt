@@ -1,10 +1,13 @@
 -- What the words of a line ask for, computed. The parser's private functions answer by it, and it is proved
 -- to agree with the spelling; no public contract cites it.
-use Rattle.std.specs.Prelude.{ℕ, ◌^◌, Bool, ◌&&◌, ◌||◌, not, List, [], ◌∷◌, length, slice_index, nat_lt, ◌==◌, if◌then◌else◌, Option, Some, None, option_map, option_and_then, bytes_eq, codes}
+use Rattle.std.specs.Prelude.{ℕ, ◌^◌, Bool, ◌&&◌, ◌||◌, not, List, [], ◌∷◌, length, slice_index, nat_lt, nat_le, ◌==◌, if◌then◌else◌, Option, Some, None, option_map, option_and_then, bytes_eq}
 use Rattle.std.specs.List.{slice_split, list_all}
 use Rattle.std.specs.Char.{is_ascii_digit}
 use Rattle.std.specs.Str.Parse.{digits_value}
-use Rattle.nv_line.specs.Request.{Request, Format, Time, Poke, Cut, Recover, Replay, Tree, Free, Faults, Report, Peek}
+use Rattle.nv_line.specs.Request.{Request}
+use Rattle.nv_line.specs.declared.reasons.Form.{Form}
+use Rattle.nv_line.specs.Shapes.{Slot, Number, UpTo, Path, Shape, End, Numbers, Then, ValueOf, Values, Makes, made_of}
+use Rattle.nv_line.specs.Table.{Row, rows}
 
 -- digits with no zero in front, or a zero alone
 unfoldable pub is_numeral : List ℕ → Bool
@@ -14,61 +17,38 @@ is_numeral word = list_all is_ascii_digit word && ((length word == 1) || (nat_lt
 unfoldable pub number_of : List ℕ → Option ℕ
 number_of word = if is_numeral word && nat_lt (digits_value 10 word) (2 ^ 64) then Some (digits_value 10 word) else None
 
--- the request, if no word is left
-unfoldable pub alone : Request → List (List ℕ) → Option Request
-alone request [] = Some request
-alone request (word ∷ more) = None
-
--- the number of the only word
-unfoldable pub only_number : List (List ℕ) → Option ℕ
-only_number [] = None
-only_number (word ∷ []) = number_of word
-only_number (word ∷ other ∷ more) = None
+-- the value that a word writes
+abbrev pub value_of : (slot : Slot) → List ℕ → Option (ValueOf slot)
+value_of Number word = number_of word
+value_of (UpTo most) word = option_and_then (λ n. if nat_le n most then Some n else None) (number_of word)
+value_of Path word = if nat_lt 0 (length word) then Some word else None
 
 -- the numbers of the words, if each writes one
 unfoldable pub numbers_of : List (List ℕ) → Option (List ℕ)
 numbers_of [] = Some []
 numbers_of (word ∷ words) = option_and_then (λ n. option_map (λ ns. n ∷ ns) (numbers_of words)) (number_of word)
 
--- a format by its three numbers
-unfoldable pub format_of : List (List ℕ) → Option Request
-format_of [] = None
-format_of (cpus ∷ []) = None
-format_of (cpus ∷ blocks ∷ []) = None
-format_of (cpus ∷ blocks ∷ tables ∷ []) = option_and_then (λ c. option_and_then (λ n. option_map (λ t. Format c n t) (number_of tables)) (number_of blocks)) (number_of cpus)
-format_of (cpus ∷ blocks ∷ tables ∷ other ∷ more) = None
+-- the values that words of a shape write
+abbrev pub values_of : (shape : Shape) → List (List ℕ) → Option (Values shape)
+values_of End [] = Some tt
+values_of End (word ∷ words) = None
+values_of Numbers words = numbers_of words
+values_of (Then slot shape) [] = None
+values_of (Then slot shape) (word ∷ words) = option_and_then (λ v. option_map (λ vs. (v, vs)) (values_of shape words)) (value_of slot word)
 
--- a poke by its two numbers
-unfoldable pub poke_of : List (List ℕ) → Option Request
-poke_of [] = None
-poke_of (at ∷ []) = None
-poke_of (at ∷ value ∷ []) = option_and_then (λ a. option_map (λ v. Poke a v) (number_of value)) (number_of at)
-poke_of (at ∷ value ∷ other ∷ more) = None
+-- the request that words make, if they have the shape
+unfoldable pub request_by : (shape : Shape) → Makes shape → List (List ℕ) → Option Request
+request_by shape make words = option_map (made_of shape make) (values_of shape words)
 
--- a replay by its number of workers and its schedule
-unfoldable pub replay_of : List (List ℕ) → Option Request
-replay_of [] = None
-replay_of (workers ∷ schedule) = option_and_then (λ n. option_map (λ ns. Replay n ns) (numbers_of schedule)) (number_of workers)
-
--- a request by its name and the words after it
-unfoldable pub named : List ℕ → List (List ℕ) → Option Request
-named name words = if bytes_eq name (codes "format") then format_of words
-    else if bytes_eq name (codes "time") then option_map Time (only_number words)
-    else if bytes_eq name (codes "poke") then poke_of words
-    else if bytes_eq name (codes "cut") then option_map Cut (only_number words)
-    else if bytes_eq name (codes "recover") then option_map Recover (only_number words)
-    else if bytes_eq name (codes "replay") then replay_of words
-    else if bytes_eq name (codes "tree") then alone Tree words
-    else if bytes_eq name (codes "free") then alone Free words
-    else if bytes_eq name (codes "faults") then alone Faults words
-    else if bytes_eq name (codes "report") then alone Report words
-    else if bytes_eq name (codes "peek") then option_map Peek (only_number words)
-    else None
+-- The form of the command of this name, and the request that the words after it make of it, if there is one.
+unfoldable pub read_by : List Row → List ℕ → List (List ℕ) → Option (Form × Option Request)
+read_by [] name words = None
+read_by (row ∷ rows) name words = if bytes_eq name row.name then Some (row.form, request_by row.shape row.make words) else read_by rows name words
 
 -- a request by all its words
 unfoldable pub request_of_words : List (List ℕ) → Option Request
 request_of_words [] = None
-request_of_words (name ∷ words) = named name words
+request_of_words (name ∷ words) = option_and_then (λ (read : Form × Option Request). read.1) (read_by rows name words)
 
 -- what the line asks for, if it is a command
 unfoldable pub request_of : List ℕ → Option Request

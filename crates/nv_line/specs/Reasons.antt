@@ -2,6 +2,7 @@
 use Rattle.std.specs.Prelude.{◌==◌, ℕ, List, [], ◌∷◌, ◌++◌, length, nat_lt, if◌then◌else◌, Option, Some, None, bytes_eq, codes}
 use Rattle.std.specs.List.{slice_split, ends_with}
 use Rattle.nv_line.specs.Lines.{line_limit}
+use Rattle.nv_line.specs.Table.{Row, rows}
 use Rattle.nv_line.specs.declared.reasons.Form.{Form}
 use Rattle.nv_line.specs.declared.reasons.Form.TheVariants as forms
 use Rattle.nv_line.specs.declared.reasons.Reason.{Reason}
@@ -21,20 +22,10 @@ form_text forms.Faults = codes "faults"
 form_text forms.Report = codes "report"
 form_text forms.Peek = codes "peek AT"
 
--- the form of the command of this name
-unfoldable pub form_named : List ℕ → Option Form
-form_named name = if bytes_eq name (codes "format") then Some forms.Format
-    else if bytes_eq name (codes "time") then Some forms.Time
-    else if bytes_eq name (codes "poke") then Some forms.Poke
-    else if bytes_eq name (codes "cut") then Some forms.Cut
-    else if bytes_eq name (codes "recover") then Some forms.Recover
-    else if bytes_eq name (codes "replay") then Some forms.Replay
-    else if bytes_eq name (codes "tree") then Some forms.Tree
-    else if bytes_eq name (codes "free") then Some forms.Free
-    else if bytes_eq name (codes "faults") then Some forms.Faults
-    else if bytes_eq name (codes "report") then Some forms.Report
-    else if bytes_eq name (codes "peek") then Some forms.Peek
-    else None
+-- the form of the command of this name, if there is one
+unfoldable pub form_in : List Row → List ℕ → Option Form
+form_in [] name = None
+form_in (row ∷ rows) name = if bytes_eq name row.name then Some row.form else form_in rows name
 
 -- the line isn't spelled as the command of this form, if it has one
 abbrev pub by_form : Option Form → Reason
@@ -44,7 +35,7 @@ by_form None = reasons.NoCommand
 -- the reason that the first of a line's words gives
 unfoldable pub reason_of_words : List (List ℕ) → Reason
 reason_of_words [] = reasons.NoCommand
-reason_of_words (name ∷ words) = by_form (form_named name)
+reason_of_words (name ∷ words) = by_form (form_in rows name)
 
 -- why a bad line is bad: it is too long, or ends with a carriage return, or else its words are no command
 unfoldable pub reason_of : List ℕ → Reason

@@ -2,8 +2,8 @@
 //!
 //! A line that begins with `#`, or has no byte, is skipped. Any other is a command, or it is bad:
 //! the words of a command stand with one space between two, its numbers in decimal without leading
-//! zeros and below 2^64. The grammar is the spelling of a request; the parser is proved to find
-//! what a line spells, and nothing else. `reasons` says for a user why a line is bad.
+//! zeros and below 2^64. The grammar is a table with a row for each command; the parser is proved to find what a line spells by
+//! it, and nothing else. `table` has the same rows in code. `reasons` says for a user why a line is bad.
 #![tactic(auto)]
 
 mod commands;
@@ -11,6 +11,8 @@ mod lines;
 mod numeral;
 mod parsing;
 mod reasons;
+mod shapes;
+mod table;
 
 pub use commands::{Command, Line};
 pub use lines::{LINE_LIMIT, classify, no_skipped_command};

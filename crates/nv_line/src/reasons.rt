@@ -1,10 +1,12 @@
 //! Why a line is bad, for the user: what was expected in its place.
 
 ghost use Rattle.std.specs.Prelude.{◌≡◌, Some, IfOk, map};
-ghost use Rattle.nv_line.specs.Reasons.{form_text, form_named, reason_of_words, reason_of, reason_text};
+ghost use Rattle.nv_line.specs.Reasons.{form_in, form_text, reason_of_words, reason_of, reason_text};
+ghost use Rattle.nv_line.specs.Table.{rows};
 
 use crate::lines::LINE_LIMIT;
 use crate::parsing::words;
+use crate::table::row_named;
 use std::alloc::{AllocError, Global};
 use std::fmt;
 
@@ -58,51 +60,28 @@ impl Form {
     }
 }
 
-#[tactic(auto, unfolding(crate::specs::Reasons::form_named))]
-fn form_named(name: &[u8]) -> Option<Form>
-    ensures { result ≡ form_named name.now }
+// The form of the command of this name, whatever the words behind it are.
+fn form_named(alloc: Global, name: &[u8], words: &[&[u8]]) -> Result<Option<Form>, AllocError>
+    ensures { IfOk result (λ form. form ≡ form_in rows name.now) }
 {
-    if name == b"format".as_slice() {
-        Some(Form::Format)
-    } else if name == b"time".as_slice() {
-        Some(Form::Time)
-    } else if name == b"poke".as_slice() {
-        Some(Form::Poke)
-    } else if name == b"cut".as_slice() {
-        Some(Form::Cut)
-    } else if name == b"recover".as_slice() {
-        Some(Form::Recover)
-    } else if name == b"replay".as_slice() {
-        Some(Form::Replay)
-    } else if name == b"tree".as_slice() {
-        Some(Form::Tree)
-    } else if name == b"free".as_slice() {
-        Some(Form::Free)
-    } else if name == b"faults".as_slice() {
-        Some(Form::Faults)
-    } else if name == b"report".as_slice() {
-        Some(Form::Report)
-    } else if name == b"peek".as_slice() {
-        Some(Form::Peek)
-    } else {
-        None
-    }
+    Ok(row_named(alloc, name, words)?.map(|row| row.form))
 }
 
+// By the words of a line.
 #[tactic(auto, unfolding(crate::specs::Reasons::reason_of_words))]
-fn reason_of_words(words: &[&[u8]]) -> Reason
-    ensures { result ≡ reason_of_words (map (λ word. word.now) words.now) }
+fn reason_of_words(alloc: Global, words: &[&[u8]]) -> Result<Reason, AllocError>
+    ensures { IfOk result (λ reason. reason ≡ reason_of_words (map (λ word. word.now) words.now)) }
 {
-    let [name, ..] = words else {
-        return Reason::NoCommand;
+    let [name, words @ ..] = words else {
+        return Ok(Reason::NoCommand);
     };
-    match form_named(name) {
-        Some(form) => Reason::Form(form),
-        None => Reason::NoCommand,
+    match form_named(alloc, name, words)? {
+        Some(form) => Ok(Reason::Form(form)),
+        None => Ok(Reason::NoCommand),
     }
 }
 
-/// Why a bad line is bad. The error is a refused growth of the list of the line's words.
+/// Why a bad line is bad. The error is a refused growth of the list of the line's words, or of a schedule.
 #[tactic(auto, unfolding(crate::specs::Reasons::reason_of))]
 pub fn why_bad(alloc: Global, line: &[u8]) -> Result<Reason, AllocError>
     ensures { IfOk result (λ reason. reason ≡ reason_of line.now) }
@@ -114,7 +93,7 @@ pub fn why_bad(alloc: Global, line: &[u8]) -> Result<Reason, AllocError>
         return Ok(Reason::CarriageReturn);
     }
     let words = words(alloc, line)?;
-    Ok(reason_of_words(words.as_slice()))
+    reason_of_words(alloc, words.as_slice())
 }
 
 impl fmt::Display for Reason {

@@ -1,0 +1,108 @@
+//! The commands of a script, a row for each: its name, its form, and the command that the words behind it make.
+
+ghost use Rattle.std.specs.Prelude.{◌≡◌, map, IfOk, option_map};
+ghost use Rattle.nv_line.specs.Reading.{read_by};
+ghost use Rattle.nv_line.specs.Table.{rows};
+ghost use Rattle.nv_line.specs.View.{view};
+
+use crate::commands::Command;
+use crate::reasons::Form;
+use crate::shapes::{no_words, number_and_more, one_number, three_numbers, two_numbers};
+use std::alloc::{AllocError, Global};
+
+/// What a name and the words behind it are read as.
+#[derive(Drop)]
+pub(crate) struct Row {
+    /// The form in which a user reads of the command.
+    pub(crate) form: Form,
+    /// The command, if the words are written so.
+    pub(crate) command: Option<Command>,
+}
+
+/// The row of the command with this name, if there is one, read by the words behind the name. The error is a refused growth of
+/// a schedule.
+#[tactic(auto, unfolding(crate::specs::Reading::read_by, crate::specs::Table::rows))]
+pub(crate) fn row_named(
+    alloc: Global,
+    name: &[u8],
+    words: &[&[u8]],
+) -> Result<Option<Row>, AllocError>
+    ensures { IfOk result (λ found. option_map (λ row. (row.form, option_map view row.command)) found ≡ read_by rows name.now (map (λ word. word.now) words.now)) }
+{
+    if name == b"format".as_slice() {
+        let command = three_numbers(words).map(|(cpus, blocks, table_blocks)| Command::Format {
+            cpus,
+            blocks,
+            table_blocks,
+        });
+        Ok(Some(Row {
+            form: Form::Format,
+            command,
+        }))
+    } else if name == b"time".as_slice() {
+        let command = one_number(words).map(|time| Command::Time { time });
+        Ok(Some(Row {
+            form: Form::Time,
+            command,
+        }))
+    } else if name == b"poke".as_slice() {
+        let command = two_numbers(words).map(|(at, value)| Command::Poke { at, value });
+        Ok(Some(Row {
+            form: Form::Poke,
+            command,
+        }))
+    } else if name == b"cut".as_slice() {
+        let command = one_number(words).map(|length| Command::Cut { length });
+        Ok(Some(Row {
+            form: Form::Cut,
+            command,
+        }))
+    } else if name == b"recover".as_slice() {
+        let command = one_number(words).map(|workers| Command::Recover { workers });
+        Ok(Some(Row {
+            form: Form::Recover,
+            command,
+        }))
+    } else if name == b"replay".as_slice() {
+        let command = number_and_more(alloc, words)?.map(|(workers, schedule)| Command::Replay {
+            workers,
+            schedule,
+        });
+        Ok(Some(Row {
+            form: Form::Replay,
+            command,
+        }))
+    } else if name == b"tree".as_slice() {
+        let command = no_words(words).map(|()| Command::Tree);
+        Ok(Some(Row {
+            form: Form::Tree,
+            command,
+        }))
+    } else if name == b"free".as_slice() {
+        let command = no_words(words).map(|()| Command::Free);
+        Ok(Some(Row {
+            form: Form::Free,
+            command,
+        }))
+    } else if name == b"faults".as_slice() {
+        let command = no_words(words).map(|()| Command::Faults);
+        Ok(Some(Row {
+            form: Form::Faults,
+            command,
+        }))
+    } else if name == b"report".as_slice() {
+        let command = no_words(words).map(|()| Command::Report);
+        Ok(Some(Row {
+            form: Form::Report,
+            command,
+        }))
+    } else if name == b"peek".as_slice() {
+        let command = one_number(words).map(|at| Command::Peek { at });
+        Ok(Some(Row {
+            form: Form::Peek,
+            command,
+        }))
+    } else {
+        Ok(None)
+    }
+}
