@@ -51,10 +51,10 @@ use Rattle.nv_calls.specs.Sizes.{CanResize, CopiesEnd, Resizes, SameBytes, end_b
 use Rattle.nv_calls.specs.Steps.{LogFollows, ShowsRow}
 use Rattle.nv_calls.specs.Taken.{TakesEach, block_run, single_takes}
 use Rattle.nv_calls.proofs.CutFile.{Settled, file_held, lt_off, lt_on, maps_below, mode_held, since}
-use Rattle.nv_calls.proofs.SizedEntries.{data_names}
+use Rattle.nv_calls.proofs.SizedEntries.{data_names, data_numbers}
 use Rattle.nv_calls.proofs.DataFollows.{data_follows, data_lists}
 use Rattle.nv_calls.proofs.LogGrows.{slot_there}
-use Rattle.nv_calls.proofs.ResizeEntries.{block_one, copy_writes, resized_numbers, two_end}
+use Rattle.nv_calls.proofs.ResizeEntries.{block_one, copy_writes, two_end}
 use Rattle.nv_calls.proofs.TakenBlocks.{all_differ, are_free, is_taken, taken_apart, was_taken}
 
 -- What a file that ends in a page with a block, and gets longer, has there.
@@ -196,7 +196,7 @@ module _ {R S : Region} {s : Super} {free mid after : FreeLists} {row grown new 
         let stays_named = data_names (fixed_layout s) held h tail_now more pages x.size writes in
         record {
           kind = has.kind ∙ has_grown.kind ∙ told.kind;
-          numbers = resized_numbers (fixed_layout s) held h tail_now more pages x.size writes x (two_end at then w x) row new told.numbers (since has_grown has);
+          numbers = (let sized = since has_grown has in data_numbers (fixed_layout s) held h tail_now more pages x.size writes x (two_end at then w x) row.numbers new.numbers told.numbers sized.size sized.mode sized.owner sized.group sized.links sized.time);
           head = settled.head ∙ has_grown.head ∙ told.head;
           tail = settled.tail ∙ has_grown.tail ∙ ending ∙ ap (λ (t : ℕ). end_of fresh 0 t entries) tails;
           pages = settled.pages ∙ has_grown.pages ∙ ap (λ (ps : List ℕ). ps ++ fresh) told.pages ∙ ap (λ (ps : List ℕ). h.pages ++ ps) (sym whole);

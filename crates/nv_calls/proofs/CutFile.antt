@@ -40,11 +40,12 @@ use Rattle.nv_calls.specs.Grown.{HasGrown, StandsRight}
 use Rattle.nv_calls.specs.Sizes.{CanResize, HasSize, Resizes, SameBytes, end_block}
 use Rattle.nv_calls.specs.Steps.{AppendsLog, LogFollows, ShowsRow}
 use Rattle.nv_calls.specs.Taken.{SamePools, single_takes}
-use Rattle.nv_calls.proofs.SizedEntries.{data_names}
+use Rattle.nv_calls.proofs.AttrEntries.{attr_writes, one_ends}
+use Rattle.nv_calls.proofs.SizedEntries.{data_names, data_numbers}
 use Rattle.nv_calls.proofs.DataFollows.{data_follows, data_lists}
 use Rattle.nv_calls.proofs.GivenPages.{own_taken}
 use Rattle.nv_calls.proofs.LogGrows.{can_extend, count_held, pages_now}
-use Rattle.nv_calls.proofs.ResizeEntries.{attr_writes, one_ends, resized_numbers, small_mode}
+use Rattle.nv_calls.proofs.ResizeEntries.{file_attr, small_mode}
 use Rattle.nv_calls.proofs.TakenBlocks.{is_taken, was_taken}
 
 -- ---- tests
@@ -165,7 +166,7 @@ module _ {R S : Region} {s : Super} {free reserved mid after : FreeLists} {row g
     end = end_of a.fresh 0 h.tail (Attr x ∷ [])
 
     writes : WritesData (fixed_layout s) held h (placed at (Attr x) ∷ []) pages x.size
-    writes = attr_writes (fixed_layout s) held h x (file_held x can shows) (mode_held x can shows) can.most pages at
+    writes = attr_writes (fixed_layout s) held h x (file_attr s h.kind x (file_held x can shows) (mode_held x can shows) can.most) pages at
 
     same_index : (p : ℕ) → block_at grown.index p ≡ block_of (good_in (fixed_layout s) h) p
     same_index p = let told = shows.told in let row_grown = a.row in ap (λ (m : Pages). block_at m p) row_grown.index ∙ told.index p
@@ -190,7 +191,7 @@ module _ {R S : Region} {s : Super} {free reserved mid after : FreeLists} {row g
         let tails : row.tail ≡ h.tail = told.tail in
         record {
           kind = has.kind ∙ row_grown.kind ∙ told.kind;
-          numbers = resized_numbers (fixed_layout s) held h end (placed at (Attr x) ∷ []) pages x.size writes x (one_ends at x) row new told.numbers (since row_grown has);
+          numbers = (let sized = since row_grown has in data_numbers (fixed_layout s) held h end (placed at (Attr x) ∷ []) pages x.size writes x (one_ends at x) row.numbers new.numbers told.numbers sized.size sized.mode sized.owner sized.group sized.links sized.time);
           head = settled.head ∙ row_grown.head ∙ told.head;
           tail = settled.tail ∙ row_grown.tail ∙ ap (λ (t : ℕ). end_of a.fresh 0 t (Attr x ∷ [])) tails;
           pages = settled.pages ∙ row_grown.pages ∙ ap (λ (ps : List ℕ). ps ++ a.fresh) told.pages ∙ sym (pages_now (Attr x ∷ []) with_room lists a.taken a.count (refl, tt) (omega arith));

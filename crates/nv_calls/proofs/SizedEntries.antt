@@ -8,6 +8,7 @@ use Rattle.nv_super.specs.declared.kind.Kind.{Kind}
 use Rattle.nv_super.specs.Layout.{Layout}
 use Rattle.nv_super.proofs.Rising.{Contains-head, Contains-tail}
 use Rattle.nv_entry.specs.declared.content.ContentFault.TheVariants.{OutOfRange, WrongKind}
+use Rattle.nv_entry.specs.declared.entry.AttrEntry.{AttrEntry}
 use Rattle.nv_entry.specs.declared.entry.Entry.{Entry}
 use Rattle.nv_entry.specs.declared.entry.Entry.TheVariants.{NextPage, Write, Attr, Name, Links}
 use Rattle.nv_entry.specs.Content.{content_fault, is_good, is_out_of_range, is_wrong_kind}
@@ -15,7 +16,9 @@ use Rattle.nv_logpage.specs.declared.found.Placed.{Placed}
 use Rattle.nv_logpage.specs.Good.{good_entries}
 use Rattle.nv_scan.specs.Fold.{entry_fault, fault_with, name_fault}
 use Rattle.nv_scan.specs.LastWord.{last_word}
-use Rattle.nv_scan.specs.State.{says_links, says_name, says_size, size_in, links_of, named}
+use Rattle.nv_scan.specs.State.{group_of, links_of, mode_of, named, owner_of, says_group, says_links, says_mode, says_name, says_owner, says_size, says_time, size_in, size_of, time_of}
+use Rattle.nv_scan.specs.Rows.{AreNumbers}
+use Rattle.nv_scan.specs.declared.numbers.Numbers.{Numbers}
 use Rattle.nv_scan.proofs.Words.{good_entries-more, last_word-append, last_word-cons}
 use Rattle.nv_held.specs.Held.{Held, Store, good_in}
 use Rattle.nv_held.specs.Grows.{NoEntryFault, SameNames, grown}
@@ -80,6 +83,15 @@ clean_all s k i size es (x ∷ more) clean good sized =
     (clean_all s k i size (es ++ x ∷ []) more (clean_more s k i es x clean (fits s k i (named (good_entries s k es)) x size (good x (Contains-head x more)) (sized x (Contains-head x more))))
     (λ y c. good y (Contains-tail x more y c)) (λ y c. sized y (Contains-tail x more y c)))
 
+-- the last word of each subject is the attributes'
+pub record EndsWith (more : List Placed) (x : AttrEntry) : Type 0 where
+  pub size : (d : ℕ) → last_word says_size d more ≡ x.size
+  pub mode : (d : ℕ) → last_word says_mode d more ≡ x.mode
+  pub owner : (d : ℕ) → last_word says_owner d more ≡ x.owner
+  pub group : (d : ℕ) → last_word says_group d more ≡ x.group
+  pub links : (d : ℕ) → last_word says_links d more ≡ d
+  pub time : (d : ℕ) → last_word says_time d more ≡ x.time
+
 -- ---- a log that grew by them
 
 module _ (l : Layout) (held : Store) (h : Held) (tail : ℕ) (more : List Placed) (fresh : List ℕ) (size : ℕ) (w : WritesData l held h more fresh size) where
@@ -96,3 +108,15 @@ module _ (l : Layout) (held : Store) (h : Held) (tail : ℕ) (more : List Placed
 
   pub data_clean : (i : ℕ) → NoEntryFault l.sup h.kind i h.entries → NoEntryFault l.sup h.kind i (h.entries ++ more)
   data_clean i clean = clean_all l.sup h.kind i size h.entries more clean w.good w.sized
+
+  -- The numbers after them, where the last words are an attributes entry's.
+  pub data_numbers : (x : AttrEntry) → EndsWith more x → (old now : Numbers) → AreNumbers h.created (good_in l h) old → now.size ≡ x.size → now.mode ≡ x.mode → now.owner ≡ x.owner → now.group ≡ x.group → now.links ≡ old.links → now.time ≡ x.time
+      → AreNumbers h.created (good_in l (grown h tail more fresh)) now
+  data_numbers x ends old now are size_is mode owner group links time = subst (λ (es : List Placed). AreNumbers h.created es now) (sym good_now) (record {
+    size = size_is ∙ sym (last_word-append says_size 0 (good_in l h) more ∙ ends.size (size_of (good_in l h)));
+    mode = mode ∙ sym (last_word-append says_mode 0 (good_in l h) more ∙ ends.mode (mode_of (good_in l h)));
+    owner = owner ∙ sym (last_word-append says_owner 0 (good_in l h) more ∙ ends.owner (owner_of (good_in l h)));
+    group = group ∙ sym (last_word-append says_group 0 (good_in l h) more ∙ ends.group (group_of (good_in l h)));
+    links = links ∙ are.links ∙ sym (last_word-append says_links 1 (good_in l h) more ∙ ends.links (links_of (good_in l h)));
+    time = time ∙ sym (last_word-append says_time h.created (good_in l h) more ∙ ends.time (time_of h.created (good_in l h)));
+  })
