@@ -18,3 +18,12 @@ pub mod RowChange
 pub mod Attributed
 pub mod Tests
 pub mod SetAttr
+pub mod SizedEntries
+pub mod DataFollows
+pub mod GivenPages
+pub mod ResizeEntries
+pub mod CutFile
+pub mod CopiedEnd
+pub mod CopyOwed
+pub mod SetSize
+pub mod SizeKept
