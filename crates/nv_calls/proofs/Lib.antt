@@ -18,3 +18,16 @@ pub mod RowChange
 pub mod Attributed
 pub mod Tests
 pub mod SetAttr
+pub mod Inserted
+pub mod NamesCounted
+pub mod NewLogs
+pub mod CreatedBytes
+pub mod NameEntries
+pub mod CreatedHeld
+pub mod CreatedRows
+pub mod CreatedTree
+pub mod CreateTests
+pub mod MadeNamed
+pub mod NewNumbers
+pub mod CreateCall
+pub mod PutRow

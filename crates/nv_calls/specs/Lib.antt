@@ -9,3 +9,5 @@ pub mod Attributes
 pub mod Stat
 pub mod Listing
 pub mod Reading
+pub mod NameCalls
+pub mod NewNames
