@@ -104,13 +104,7 @@ pub(crate) fn make_named<P: Pmem>(
     let Ok((tail, end)) = make_inode(memory, cpu, &inode, &parent) else {
         return Err(Refusal::Stopped);
     };
-    settle_name(
-        directory,
-        &blocks[1..],
-        end,
-        end - length(&entries[0]),
-        &new,
-    );
+    settle_name(directory, &blocks[1..], end, end - length(&entries[0]), new);
     blocks.truncate(1);
     Ok(new_row(alloc, new, blocks, tail))
 }
