@@ -27,3 +27,16 @@ pub mod CopiedEnd
 pub mod CopyOwed
 pub mod SetSize
 pub mod SizeKept
+pub mod Inserted
+pub mod NamesCounted
+pub mod NewLogs
+pub mod CreatedBytes
+pub mod NameEntries
+pub mod CreatedHeld
+pub mod CreatedRows
+pub mod CreatedTree
+pub mod CreateTests
+pub mod MadeNamed
+pub mod NewNumbers
+pub mod CreateCall
+pub mod PutRow

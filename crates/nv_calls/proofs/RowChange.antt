@@ -50,7 +50,7 @@ use Rattle.nv_calls.proofs.OneRow.{shows_row, stands}
 -- ---- one row replaced
 
 -- the row of another number
-row_of_other : (rows : List Row) (place : ℕ) (row new : Row) (j : ℕ) → slice_get rows place ≡ Some row → j ≢ row.inode → j ≢ new.inode → row_of (set rows place new) j ≡ row_of rows j
+pub row_of_other : (rows : List Row) (place : ℕ) (row new : Row) (j : ℕ) → slice_get rows place ≡ Some row → j ≢ row.inode → j ≢ new.inode → row_of (set rows place new) j ≡ row_of rows j
 row_of_other [] place row new j at differs apart = absurd (cc)
 row_of_other (x ∷ rows) zero row new j at differs apart =
     let same : x ≡ row = cc in
@@ -63,14 +63,14 @@ row_of_other (x ∷ rows) zero row new j at differs apart =
 row_of_other (x ∷ rows) (suc place) row new j at differs apart = ap (λ (o : Option Row). cond (nat_eq x.inode j) (Some x) o) (row_of_other rows place row new j at differs apart)
 
 -- a row of a number is one of the rows
-row_there : (rows : List Row) (j : ℕ) (r : Row) → row_of rows j ≡ Some r → Contains rows r
+pub row_there : (rows : List Row) (j : ℕ) (r : Row) → row_of rows j ≡ Some r → Contains rows r
 row_there [] j r e = absurd (cc)
 row_there (x ∷ rows) j r e = by (nat_eq x.inode j) (row_there rows j r) e where
   by : (b : Bool) → (row_of rows j ≡ Some r → Contains rows r) → cond b (Some x) (row_of rows j) ≡ Some r → Contains (x ∷ rows) r
   by true rest e = (let same : x ≡ r = cc in subst (λ (q : Row). Contains (x ∷ rows) q) same (Contains-head x rows))
   by false rest e = Contains-tail x rows r (rest e)
 
-at_set : (rows : List Row) (place : ℕ) (new : Row) → place < length rows → slice_get (set rows place new) place ≡ Some new
+pub at_set : (rows : List Row) (place : ℕ) (new : Row) → place < length rows → slice_get (set rows place new) place ≡ Some new
 at_set [] place new inside = absurd (omega (arith, inside))
 at_set (x ∷ rows) zero new inside = refl
 at_set (x ∷ rows) (suc place) new inside = at_set rows place new (omega (arith, inside))
@@ -109,7 +109,7 @@ same_store held i h is = λ t j. (each j) t where
     | inr differs ↦ other_held held i j (Some h) differs
   ]
 
-number_at : (rows : List Row) (place : ℕ) (row new : Row) → slice_get rows place ≡ Some row → (get_or rows place new).inode ≡ row.inode
+pub number_at : (rows : List Row) (place : ℕ) (row new : Row) → slice_get rows place ≡ Some row → (get_or rows place new).inode ≡ row.inode
 number_at rows place row new at = ap (λ (r : Row). r.inode) (get_or_from_slice_get rows place row new at)
 
 module _ {R : Region} {s : Super} {rows : List Row} {free after : FreeLists} {faults : List Fault} {read_only stopped : Bool} (kept : IsKept R s rows free faults read_only stopped) (runs : stopped ≡ false) (writes : read_only ≡ false)

@@ -40,7 +40,7 @@ no_row (x ∷ rows) i none =
     rw test (no_row rows i (λ r c. none r (Contains-tail x rows r c)))
 
 -- numbers of places that rise
-inodes_rise : (rows : List Row) (j k : ℕ) (d : Row) → Rises row_key rows → j ≤ k → k < length rows → (get_or rows j d).inode ≤ (get_or rows k d).inode
+pub inodes_rise : (rows : List Row) (j k : ℕ) (d : Row) → Rises row_key rows → j ≤ k → k < length rows → (get_or rows j d).inode ≤ (get_or rows k d).inode
 inodes_rise [] j k d up le lt = absurd (omega (arith, lt))
 inodes_rise (x ∷ rows) zero zero d up le lt = omega arith
 inodes_rise (x ∷ rows) zero (suc k) d up le lt =
@@ -49,7 +49,7 @@ inodes_rise (x ∷ rows) zero (suc k) d up le lt =
 inodes_rise (x ∷ rows) (suc j) zero d up le lt = absurd (omega (arith, le))
 inodes_rise (x ∷ rows) (suc j) (suc k) d up le lt = inodes_rise rows j k d (tail_rises row_key x rows up) (omega (arith, le)) (omega (arith, lt))
 
-index_rises : (a b i : ℕ) → a ≤ b → ordering_index (nat_cmp a i) ≤ ordering_index (nat_cmp b i)
+pub index_rises : (a b i : ℕ) → a ≤ b → ordering_index (nat_cmp a i) ≤ ordering_index (nat_cmp b i)
 index_rises a b i le = grind (arith, nat_tests)
 
 equal_is : (a i : ℕ) → nat_cmp a i ≡ Equal → a ≡ i

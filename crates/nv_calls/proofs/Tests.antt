@@ -62,7 +62,7 @@ blocks_there rows t entries row node text is leads (Some names) says none =
 
 -- ---- no test answers `Stopped`
 
-walk_goes_on : (t : Tree) (d : ℕ) (names : List (List ℕ)) → walk t d names ≡ Err Stopped → ⊥
+pub walk_goes_on : (t : Tree) (d : ℕ) (names : List (List ℕ)) → walk t d names ≡ Err Stopped → ⊥
 walk_goes_on t d [] e = absurd (cc)
 walk_goes_on t d (name ∷ []) e = here (t d) e where
   here : (o : Option Node) → as_directory d o ≡ Err Stopped → ⊥

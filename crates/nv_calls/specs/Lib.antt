@@ -11,3 +11,5 @@ pub mod Listing
 pub mod Reading
 pub mod Given
 pub mod Sizes
+pub mod NameCalls
+pub mod NewNames

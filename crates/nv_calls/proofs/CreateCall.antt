@@ -1,0 +1,217 @@
+-- What `create` and `mkdir` answer, and what they leave.
+use Rattle.std.proofs.Common.{◌≡◌, ℕ, ◌+◌, ◌%◌, ◌<◌, ◌≤◌, ◌⊎◌, inl, inr, Bool, true, false, IsTrue, List, [], ◌∷◌, refl, ap, sym, ◌∙◌, subst, map, Option, Some, None, Result, Ok, slice_get}
+use Rattle.std.specs.List.{Contains}
+use Rattle.std.proofs.Math.Logic.{∥∥₁_map}
+use Rattle.nv_region.specs.Region.{Region}
+use Rattle.nv_super.specs.declared.superblock.Super.{Super}
+use Rattle.nv_super.specs.declared.faults.Fault.{Fault}
+use Rattle.nv_super.specs.declared.kind.Kind.{Kind}
+use Rattle.nv_super.specs.declared.kind.Kind.TheVariants.{Directory}
+use Rattle.nv_super.specs.declared.owners.Run.{Run}
+use Rattle.nv_super.specs.Layout.{Layout, fixed_layout, is_number}
+use Rattle.nv_super.proofs.Members.{none_in}
+use Rattle.nv_super.proofs.Rising.{Contains-cons, Contains-head, Contains-tail}
+use Rattle.nv_super.proofs.RisingPlaces.{rises_keys}
+use Rattle.nv_alloc.specs.FreeValue.{FreeLists}
+use Rattle.nv_alloc.specs.Taking.{all_blocks}
+use Rattle.nv_entry.specs.declared.entry.Operation.TheVariants.{Add}
+use Rattle.nv_logpage.specs.Append.{needed}
+use Rattle.nv_scan.specs.declared.piece.Row.{Row}
+use Rattle.nv_scan.specs.Rows.{AreNumbers}
+use Rattle.nv_check.specs.Cross.{row_key}
+use Rattle.nv_outcome.specs.Same.{SameRow, SameRows}
+use Rattle.nv_named.specs.Read.{row_of}
+use Rattle.nv_named.specs.Step.{IsGoodName}
+use Rattle.nv_held.specs.Held.{Held, Store, good_in}
+use Rattle.nv_held.specs.Blocks.{KeepsFree}
+use Rattle.nv_held.specs.Mounted.{IsMounted, KeepsRow, ShowsSound}
+use Rattle.nv_tree.specs.declared.refusal.Refusal.{Refusal}
+use Rattle.nv_tree.specs.declared.refusal.Refusal.TheVariants.{Memory, Stopped}
+use Rattle.nv_tree.specs.Path.{IsPath, IsPathName, Says, last_name}
+use Rattle.nv_tree.specs.Tree.{SameNode, SameTree, Tree, walk}
+use Rattle.nv_tree.specs.Calls.{created, with_name}
+use Rattle.nv_tree.specs.Refusals.{Path, Tests, create_tests, first_refusal, has_no_space, writing}
+use Rattle.nv_calls.specs.Mount.{IsKept, Mount}
+use Rattle.nv_calls.specs.NameCalls.{ShowsCreated, create_blocks, ended_row, name_entries, row_blocks}
+use Rattle.nv_calls.specs.NewNames.{CreatesAt, IsNoneNamed, IsSpot, LeavesRows, spot_tests}
+use Rattle.nv_calls.specs.Same.{SameMount}
+use Rattle.nv_calls.specs.Seen.{node_of, tree_of}
+use Rattle.nv_calls.specs.Steps.{RefusesStep}
+use Rattle.nv_calls.specs.World.{unused_number, world_of}
+use Rattle.nv_calls.proofs.CreatedRows.{bytes_kept, kept_then, name_absent, was_created}
+use Rattle.nv_calls.proofs.CreatedTree.{created_by, made_tree, named_node, new_node_is, tree_then}
+use Rattle.nv_calls.proofs.CreateTests.{good_name, spot_allows}
+use Rattle.nv_calls.proofs.Kept.{rows_rise}
+use Rattle.nv_calls.proofs.Mounts.{kept_of_mounted, kept_when_stopped, mounted_of_kept}
+use Rattle.nv_calls.proofs.NewNumbers.{unused_is}
+use Rattle.nv_calls.proofs.OneRow.{stands}
+use Rattle.nv_calls.proofs.Tests.{enough_space, too_few}
+
+module _ {R S : Region} {s : Super} {rows news : List Row} {free after : FreeLists} {faults : List Fault} {read_only stopped : Bool} (kept : IsKept R s rows free faults read_only stopped) (runs : stopped ≡ false) (writes : read_only ≡ false)
+    {place : ℕ} {kind : Kind} {mode time j : ℕ} {name : List ℕ} (step : CreatesAt R S s free after rows news place kind mode time j name) (cpu : ℕ) (low : cpu < s.cpus) (spelled : IsPathName name) (names : List (List ℕ)) (spot : IsSpot (tree_of R rows) rows s cpu names place name j) where
+  directory : step.row.kind ≡ Directory
+  directory = (spot.directory step.row step.at).1
+
+  walked : walk (tree_of R rows) 1 names ≡ Ok step.row.inode
+  walked = (spot.directory step.row step.at).0
+
+  number : IsTrue (is_number s j)
+  number = (unused_is s rows cpu j low spot.unused).1
+
+  unused : row_of rows j ≡ None
+  unused = (unused_is s rows cpu j low spot.unused).0
+
+  good : IsGoodName s j name
+  good = good_name s j name spelled number
+
+  absent : IsNoneNamed rows step.row name
+  absent = spot.absent step.row step.at
+
+  -- What is kept.
+  pub created_kept : (now : Bool) → IsKept S s news after faults read_only now
+  created_kept = kept_then kept runs writes step directory good unused absent
+
+  -- The tree is what the call makes of that of before.
+  pub created_tree : SameTree (tree_of S news) (created kind (unused_number s rows cpu) names mode time (tree_of R rows))
+  created_tree =
+      let made = step.step in
+      let new = made.row in
+      let here = stands rows place step.row step.at in
+      let there : step.made.inode ≡ j = new.inode in
+      let same = subst (λ (i : ℕ). SameTree (tree_of S news) (made_tree R rows step.row i kind mode time name)) there
+      (tree_then R S rows news place step.row step.now step.made kind mode time name (rows_rise R s rows free faults read_only stopped kept runs) step.at number_stays step.put (ap (row_of rows) there ∙ unused)
+      (subst (λ (i : ℕ). SameNode (node_of S step.now) (with_name name i time (node_of R step.row))) (sym there)
+      (named_node R S made.fresh _ name j _ time made.directory made.once made.once_now (name_absent kept runs writes step directory good unused absent) (bytes_kept kept runs writes step directory good unused absent step.row here)))
+      (new_node_is S j kind mode time made.page _ new) (bytes_kept kept runs writes step directory good unused absent)) in
+      subst (λ (t : Tree). SameTree (tree_of S news) t) (sym (created_by kind (unused_number s rows cpu) names mode time (tree_of R rows) j step.row.inode name spot.unused walked spot.name_is)) same
+    where
+      number_stays : step.now.inode ≡ step.row.inode
+      number_stays = let made = step.step in let dir = made.directory in dir.inode
+
+  -- The logs, for whatever is held of the region.
+  pub created_log : (d i : ℕ) (held : Store) (h : Held) → walk (tree_of R rows) 1 names ≡ Ok d → unused_number s rows cpu ≡ Some i → ShowsSound R s held → held d ≡ Some h → ShowsCreated S s held kind mode time i d h (last_name names)
+  created_log d i held h ended free_number sound is =
+      let both : Ok step.row.inode ≡ Ok d = sym walked ∙ ended in
+      let same : step.row.inode ≡ d = cc in
+      let numbers : Some j ≡ Some i = sym spot.unused ∙ free_number in
+      let one : j ≡ i = cc in
+      subst (λ (k : ℕ). ShowsCreated S s held kind mode time k d h (last_name names)) one
+      (subst (λ (q : List ℕ). ShowsCreated S s held kind mode time j d h q) spot.name_is
+      (subst (λ (k : ℕ). ShowsCreated S s held kind mode time j k h name) same
+      (was_created kept runs writes step directory good unused absent held h sound (ap held same ∙ is))))
+
+-- ---- why it is refused
+
+-- what a path with a name needs, by where it goes
+blocks_by : (rows : List Row) (t : Tree) (row : Row) (names : List (List ℕ)) (j time : ℕ) (name : List ℕ) → walk t 1 names ≡ Ok row.inode → row_of rows row.inode ≡ Some row → name ≡ last_name names
+    → create_blocks rows t (Some names) ≡ 1 + needed (row.tail % 4096) (name_entries Add j name time)
+blocks_by rows t row names j time name walked is last =
+    ap (λ (w : Result ℕ Refusal). 1 + row_blocks (ended_row rows w) (name_entries Add 0 (last_name names) 0)) walked
+    ∙ ap (λ (o : Option Row). 1 + row_blocks o (name_entries Add 0 (last_name names) 0)) is
+    ∙ ap (λ (q : List ℕ). 1 + needed (row.tail % 4096) (name_entries Add 0 q 0)) (sym last)
+
+module _ {P : Type 0} (region : P → Region) {n m : Mount P} (same : n ≡ m) (cpu : ℕ) (passed : (tests : Tests) → first_refusal (writing (world_of m) cpu tests) ≡ first_refusal tests) (place : ℕ) (row : Row) (at : slice_get n.rows place ≡ Some row) (is : row_of n.rows row.inode ≡ Some row)
+    (name : List ℕ) (j time : ℕ) (text : List ℕ) (spot : (names : List (List ℕ)) → IsPath text names → IsSpot (tree_of (region n.memory) n.rows) n.rows n.sup cpu names place name j) (p : Path) (says : Says text p)
+    (none : first_refusal (spot_tests (tree_of (region n.memory) n.rows) (unused_number n.sup n.rows cpu) p) ≡ None) where
+  abbrev tests : Mount P → Option Refusal
+  tests k = first_refusal (create_tests (world_of k) (tree_of (region k.memory) k.rows) cpu p (create_blocks k.rows (tree_of (region k.memory) k.rows) p))
+
+  abbrev count : ℕ
+  count = 1 + needed (row.tail % 4096) (name_entries Add j name time)
+
+  blocks_there : (q : Path) → Says text q → first_refusal (spot_tests (tree_of (region n.memory) n.rows) (unused_number n.sup n.rows cpu) q) ≡ None → create_blocks n.rows (tree_of (region n.memory) n.rows) q ≡ count
+  blocks_there None says none = absurd (cc)
+  blocks_there (Some names) says none = let there = spot names says in blocks_by n.rows (tree_of (region n.memory) n.rows) row names j time name (there.directory row at).0 is there.name_is
+
+  at_last : tests n ≡ first_refusal (has_no_space (world_of n) count ∷ [])
+  at_last =
+      let passed_here : (ts : Tests) → first_refusal (writing (world_of n) cpu ts) ≡ first_refusal ts = λ ts. subst (λ (k : Mount P). first_refusal (writing (world_of k) cpu ts) ≡ first_refusal ts) (sym same) (passed ts) in
+      spot_allows (world_of n) (tree_of (region n.memory) n.rows) cpu passed_here p (create_blocks n.rows (tree_of (region n.memory) n.rows) p) none ∙ ap (λ (k : ℕ). first_refusal (has_no_space (world_of n) k ∷ [])) (blocks_there p says none)
+
+  -- No test refuses it where there are enough blocks.
+  pub create_allowed : count ≤ all_blocks n.free.pools → tests m ≡ None
+  create_allowed enough = subst (λ (k : Mount P). tests k ≡ None) same (at_last ∙ enough_space (world_of n) count enough)
+
+  -- Where its step was refused, so is the call.
+  pub create_refused : (e : Refusal) → RefusesStep e count n.free → (e ≡ Memory) ⊎ ((e ≡ Stopped) ⊎ (tests m ≡ Some e))
+  create_refused e (inl memory) = inl memory
+  create_refused e (inr (inl stopped)) = inr (inl stopped)
+  create_refused e (inr (inr w)) = inr (inr (subst (λ (k : Mount P). tests k ≡ Some e) same (at_last ∙ too_few (world_of n) count w.1 ∙ ap (λ (r : Refusal). Some r) (sym w.0))))
+
+-- ---- a step that was refused
+
+-- rows that are the same are of the same
+keeps_same : (l : Layout) (h : Held) (row new : Row) → SameRow row new → KeepsRow l h row → KeepsRow l h new
+keeps_same l h row new same told = record {
+  kind = same.kind ∙ told.kind;
+  numbers = subst (λ n. AreNumbers h.created (good_in l h) n) (sym same.numbers) told.numbers;
+  head = same.head ∙ told.head;
+  tail = same.tail ∙ told.tail;
+  pages = same.pages ∙ told.pages;
+  index = λ p. same.index p ∙ told.index p;
+  names = λ q. same.names q ∙ told.names q;
+}
+
+-- each row has its like
+like : (old new : List Row) → SameRows old new → (r : Row) → Contains new r → (q : Row) × Contains old q × SameRow q r
+like [] [] same r c = absurd (none_in r c)
+like [] (y ∷ ys) same r c = absurd same
+like (x ∷ xs) [] same r c = absurd same
+like (x ∷ xs) (y ∷ ys) same r c = elim (Contains-cons y ys r c) [
+  | inl e ↦ (x, Contains-head x xs, subst (λ (z : Row). SameRow x z) (sym e) same.0)
+  | inr rest ↦ (let w = like xs ys same.1 r rest in (w.0, Contains-tail x xs w.0 w.1, w.2))
+]
+
+unlike : (old new : List Row) → SameRows old new → (q : Row) → Contains old q → (r : Row) × Contains new r × SameRow q r
+unlike [] [] same q c = absurd (none_in q c)
+unlike [] (y ∷ ys) same q c = absurd same
+unlike (x ∷ xs) [] same q c = absurd same
+unlike (x ∷ xs) (y ∷ ys) same q c = elim (Contains-cons x xs q c) [
+  | inl e ↦ (y, Contains-head y ys, subst (λ (z : Row). SameRow z y) (sym e) same.0)
+  | inr rest ↦ (let w = unlike xs ys same.1 q rest in (w.0, Contains-tail y ys w.0 w.1, w.2))
+]
+
+keys_same : (old new : List Row) → SameRows old new → map row_key old ≡ map row_key new
+keys_same [] [] same = refl
+keys_same [] (y ∷ ys) same = absurd same
+keys_same (x ∷ xs) [] same = absurd same
+keys_same (x ∷ xs) (y ∷ ys) same = let first = same.0 in λ t. ((sym first.inode) t ∷ []) ∷ keys_same xs ys same.1 t
+
+mounted_same : {R : Region} {s : Super} {rows news : List Row} {pools lists : List (List Run)} (held : Store) → IsMounted R s held rows pools → SameRows rows news → lists ≡ pools → IsMounted R s held news lists
+mounted_same {R} {s} {rows} {news} {pools} {lists} held m same free =
+    let keeps = m.keeps in
+    let in_rows = keeps.in_rows in
+    record {
+      sound = m.sound;
+      keeps = record {
+        in_rows = record {
+          rising = rises_keys row_key rows news (keys_same rows news same) in_rows.rising;
+          each = λ r c. (let w = like rows news same r c in let k = in_rows.each w.0 w.1 in let one = w.2 in (k.0, ap held one.inode ∙ k.1, keeps_same (fixed_layout s) k.0 w.0 r one k.2));
+          all = λ i h is. (let k = in_rows.all i h is in let w = unlike rows news same k.0 k.1 in let one = w.2 in (w.0, w.1, one.inode ∙ k.2));
+        };
+        in_lists = subst (λ (l : List (List Run)). KeepsFree (fixed_layout s) held l) (sym free) keeps.in_lists;
+      };
+    }
+
+-- what is kept where rows are the same
+pub kept_or_stopped : {P : Type 0} (region : P → Region) {old now : P} {s : Super} {rows news : List Row} {free after : FreeLists} {faults : List Fault} {read_only stopped : Bool} → IsKept (region old) s rows free faults read_only stopped → stopped ≡ false → read_only ≡ false
+    → (e : Refusal) (stops : Bool) → (IsTrue stops → e ≡ Stopped) → (stops ≡ false → e ≡ Stopped → ⊥) → after.sup ≡ free.sup → ((e ≡ Stopped → ⊥) → LeavesRows old now free after rows news) → IsKept (region now) s news after faults read_only stops
+kept_or_stopped region {old} {now} {s} {rows} {news} {free} {after} {faults} {read_only} kept runs writes e true stopped_by goes_by lists leaves = kept_when_stopped (region now) s news after faults read_only true kept.writes (lists ∙ kept.lists) refl
+kept_or_stopped {P} region {old} {now} {s} {rows} {news} {free} {after} {faults} {read_only} kept runs writes e false stopped_by goes_by lists leaves =
+    let left = leaves (goes_by refl) in
+    subst (λ (q : P). IsKept (region q) s news after faults read_only false) (sym left.memory)
+    (kept_of_mounted (region old) s news after faults read_only false kept.writes writes (lists ∙ kept.lists) (∥∥₁_map (mounted_of_kept kept runs writes) (λ w. (w.0, mounted_same w.0 w.1 left.rows left.free.pools))))
+
+-- And all is as before.
+pub unchanged_rows : {P : Type 0} {n m : Mount P} → n ≡ m → (now : P) (news : List Row) (after : FreeLists) (stops : Bool) → n.stopped ≡ false → stops ≡ false → LeavesRows n.memory now n.free after n.rows news
+    → SameMount m (record { memory = now; sup = n.sup; rows = news; free = after; faults = n.faults; read_only = n.read_only; stopped = stops })
+unchanged_rows {P} {n} {m} same now news after stops runs off left =
+    subst (λ (k : Mount P). SameMount k (record { memory = now; sup = n.sup; rows = news; free = after; faults = n.faults; read_only = n.read_only; stopped = stops })) same (record {
+      memory = left.memory;
+      sup = refl;
+      rows = left.rows;
+      free = left.free;
+      faults = refl;
+      read_only = refl;
+      stopped = off ∙ sym runs;
+    })

@@ -1,0 +1,158 @@
+-- Why `create` and `mkdir` are refused.
+use Rattle.std.proofs.Common.{◌≡◌, ℕ, ◌<◌, true, false, List, [], ◌∷◌, ◌++◌, append_assoc, length, slice_get, refl, ap, sym, ◌∙◌, subst, arith, Option, Some, None, Result, Ok, Err, IfSome, IsTrue, is_none, is_some, All, Bool}
+use Rattle.std.specs.Option.{option_and_then, option_map}
+use Rattle.std.proofs.lemmas.List.Elements.{All-head, All-tail}
+use Rattle.std.proofs.lemmas.Option.{get_or_from_slice_get}
+use Rattle.nv_region.specs.Region.{Region}
+use Rattle.nv_super.specs.declared.superblock.Super.{Super}
+use Rattle.nv_super.specs.Layout.{is_number}
+use Rattle.nv_super.specs.declared.kind.Kind.TheVariants.{Directory}
+use Rattle.nv_super.specs.Order.{Rises}
+use Rattle.nv_names.specs.Names.{name_at}
+use Rattle.nv_names.specs.Names as index
+use Rattle.nv_scan.specs.declared.piece.Row.{Row}
+use Rattle.nv_check.specs.Cross.{row_key}
+use Rattle.nv_named.specs.Read.{row_of}
+use Rattle.nv_named.specs.Step.{IsGoodName}
+use Rattle.nv_tree.specs.declared.refusal.Refusal.{Refusal}
+use Rattle.nv_tree.specs.declared.refusal.Refusal.TheVariants.{BadName, Exists, NoInodes, Stopped}
+use Rattle.nv_tree.specs.Path.{IsPath, IsPathName, Says, last_name}
+use Rattle.nv_tree.specs.Names.{Spells}
+use Rattle.nv_tree.specs.Tree.{Tree, found, walk}
+use Rattle.nv_tree.specs.Refusals.{Path, Tests, World, create_tests, first_refusal, has_no_slot, has_no_space, is_bad_name, is_there, refused_walk, walk_tests, writing}
+use Rattle.nv_calls.specs.NewNames.{spot_tests}
+use Rattle.nv_calls.specs.Seen.{tree_of}
+use Rattle.nv_calls.proofs.RowOf.{none_within, row_at}
+use Rattle.nv_calls.proofs.Targets.{none_found, row_found, said}
+use Rattle.nv_calls.proofs.Tests.{passed_before, refused_before, walk_goes_on}
+use Rattle.nv_calls.proofs.Walks.{found_below, one_byte}
+
+-- ---- the tests before that for space
+
+spot_first : (w : World) (t : Tree) (cpu : ℕ) (p : Path) (more : Tests) → is_bad_name p ∷ walk_tests t p ++ is_there t p ∷ has_no_slot w cpu ∷ more ≡ spot_tests t (w.unused cpu) p ++ more
+spot_first w t cpu p more = ap (λ (tests : Tests). is_bad_name p ∷ tests) (sym (append_assoc (walk_tests t p) (is_there t p ∷ has_no_slot w cpu ∷ []) more))
+
+module _ (w : World) (t : Tree) (cpu : ℕ) (passed : (tests : Tests) → first_refusal (writing w cpu tests) ≡ first_refusal tests) (p : Path) (needed : ℕ) where
+  all_tests : first_refusal (create_tests w t cpu p needed) ≡ first_refusal (spot_tests t (w.unused cpu) p ++ has_no_space w needed ∷ [])
+  all_tests = passed (is_bad_name p ∷ walk_tests t p ++ is_there t p ∷ has_no_slot w cpu ∷ has_no_space w needed ∷ []) ∙ ap first_refusal (spot_first w t cpu p (has_no_space w needed ∷ []))
+
+  -- What refuses where it goes refuses the call.
+  pub spot_refuses : (e : Refusal) → first_refusal (spot_tests t (w.unused cpu) p) ≡ Some e → first_refusal (create_tests w t cpu p needed) ≡ Some e
+  spot_refuses e h = all_tests ∙ refused_before (spot_tests t (w.unused cpu) p) (has_no_space w needed ∷ []) e h
+
+  pub spot_allows : first_refusal (spot_tests t (w.unused cpu) p) ≡ None → first_refusal (create_tests w t cpu p needed) ≡ first_refusal (has_no_space w needed ∷ [])
+  spot_allows h = all_tests ∙ passed_before (spot_tests t (w.unused cpu) p) (has_no_space w needed ∷ []) h
+
+-- ---- where a new inode goes
+
+pub some_bytes : (text : List ℕ) → (name : List ℕ) × (names : List (List ℕ)) × IsPath text (name ∷ names) → 0 < length text
+some_bytes text w = let path = w.2 in let e = ap length path.spells in omega (arith, e)
+
+pub spells_names : (text name : List ℕ) (names : List (List ℕ)) → IsPath text (name ∷ names) → Spells text (name ∷ names)
+spells_names text name names path = record { spells = path.spells; good = path.good }
+
+pub a_row : (rows : List Row) (k : ℕ) → k < length rows → (row : Row) × (slice_get rows k ≡ Some row)
+a_row rows k inside = by (slice_get rows k) refl where
+  by : (o : Option Row) → slice_get rows k ≡ o → (row : Row) × (slice_get rows k ≡ Some row)
+  by None e = absurd (none_within rows k inside e)
+  by (Some row) e = (row, e)
+
+-- what is said of each path with names, where the text is one
+pub said_names : (text : List ℕ) (Q : Path → Type 0) → (name : List ℕ) × (names : List (List ℕ)) × IsPath text (name ∷ names) → (length text ≡ 1 → ⊥) → ((name : List ℕ) (names : List (List ℕ)) → IsPath text (name ∷ names) → Q (Some (name ∷ names))) → (p : Path) → Says text p → Q p
+said_names text Q some long each = said text Q (some.0 ∷ some.1, some.2) by where
+  by : (names : List (List ℕ)) → IsPath text names → Q (Some names)
+  by [] path = absurd (long (ap length path.spells))
+  by (name ∷ names) path = each name names path
+
+pub bad_spot : (t : Tree) (unused : Option ℕ) (p : Path) → is_bad_name p ≡ (true, BadName) → first_refusal (spot_tests t unused p) ≡ Some BadName
+bad_spot t unused p bad = rw bad refl
+
+pub lost_spot : (t : Tree) (unused : Option ℕ) (name : List ℕ) (names : List (List ℕ)) (e : Refusal) → walk t 1 (name ∷ names) ≡ Err e → first_refusal (spot_tests t unused (Some (name ∷ names))) ≡ Some e
+lost_spot t unused name names e walked = rw walked refl
+
+-- the tests by what a walk, a path and the CPU's table give
+abbrev tests_at : Result ℕ Refusal → Option ℕ → Option ℕ → Option Refusal
+tests_at w o unused = first_refusal ((false, BadName) ∷ refused_walk w ++ (is_some o, Exists) ∷ (is_none unused, NoInodes) ∷ [])
+
+there_spot : (t : Tree) (unused : Option ℕ) (name : List ℕ) (names : List (List ℕ)) (d i : ℕ) → walk t 1 (name ∷ names) ≡ Ok d → found t (name ∷ names) ≡ Some i → first_refusal (spot_tests t unused (Some (name ∷ names))) ≡ Some Exists
+there_spot t unused name names d i walked leads = ap (λ (w : Result ℕ Refusal). tests_at w (found t (name ∷ names)) unused) walked ∙ ap (λ (o : Option ℕ). tests_at (Ok d) o unused) leads
+
+full_spot : (t : Tree) (unused : Option ℕ) (name : List ℕ) (names : List (List ℕ)) (d : ℕ) → walk t 1 (name ∷ names) ≡ Ok d → found t (name ∷ names) ≡ None → unused ≡ None → first_refusal (spot_tests t unused (Some (name ∷ names))) ≡ Some NoInodes
+full_spot t unused name names d walked none out = ap (λ (w : Result ℕ Refusal). tests_at w (found t (name ∷ names)) unused) walked ∙ ap (λ (o : Option ℕ). tests_at (Ok d) o unused) none ∙ ap (tests_at (Ok d) None) out
+
+free_spot : (t : Tree) (unused : Option ℕ) (name : List ℕ) (names : List (List ℕ)) (d i : ℕ) → walk t 1 (name ∷ names) ≡ Ok d → found t (name ∷ names) ≡ None → unused ≡ Some i → first_refusal (spot_tests t unused (Some (name ∷ names))) ≡ None
+free_spot t unused name names d i walked none is = ap (λ (w : Result ℕ Refusal). tests_at w (found t (name ∷ names)) unused) walked ∙ ap (λ (o : Option ℕ). tests_at (Ok d) o unused) none ∙ ap (tests_at (Ok d) None) is
+
+-- no test answers `Stopped`
+pub spot_goes_on : (t : Tree) (unused : Option ℕ) (p : Path) → first_refusal (spot_tests t unused p) ≡ Some Stopped → ⊥
+spot_goes_on t unused None e = absurd (cc)
+spot_goes_on t unused (Some []) e = absurd (cc)
+spot_goes_on t unused (Some (name ∷ names)) e = by (walk t 1 (name ∷ names)) (walk_goes_on t 1 (name ∷ names)) (is_some (found t (name ∷ names))) (is_none unused) e where
+  by : (w : Result ℕ Refusal) → (w ≡ Err Stopped → ⊥) → (b full : Bool) → first_refusal ((false, BadName) ∷ refused_walk w ++ (b, Exists) ∷ (full, NoInodes) ∷ []) ≡ Some Stopped → ⊥
+  by (Err r) off b full e = off (let same : r ≡ Stopped = cc in ap (λ (x : Refusal). Err x) same)
+  by (Ok d) off true full e = absurd (cc)
+  by (Ok d) off false true e = absurd (cc)
+  by (Ok d) off false false e = absurd (cc)
+
+some_of : (o : Option ℕ) → is_some o ≡ true → (k : ℕ) × (o ≡ Some k)
+some_of None e = absurd (cc)
+some_of (Some k) e = (k, refl)
+
+pub none_of : (o : Option ℕ) → is_some o ≡ false → o ≡ None
+none_of None e = refl
+none_of (Some k) e = absurd (cc)
+
+-- a path with a name has more than one byte
+pub long_text : (text : List ℕ) → (name : List ℕ) × (names : List (List ℕ)) × IsPath text (name ∷ names) → length text ≡ 1 → ⊥
+long_text text w one = let none = one_byte text (w.0 ∷ w.1) w.2 one in cc
+
+-- the last name of a path is one that a path can say
+pub last_is_name : (name : List ℕ) (names : List (List ℕ)) → All IsPathName (name ∷ names) → IsPathName (last_name (name ∷ names))
+last_is_name name [] good = All-head IsPathName name [] good
+last_is_name name (next ∷ names) good = last_is_name next names (All-tail IsPathName name (next ∷ names) good)
+
+pub short_name : (name : List ℕ) → IsPathName name → index.IsName name
+short_name name good = let fits = good.fits in record { some = fits.some; short = fits.fits }
+
+pub good_name : (s : Super) (j : ℕ) (name : List ℕ) → IsPathName name → IsTrue (is_number s j) → IsGoodName s j name
+good_name s j name good number = rw (good.bytes, good.no_dots, number) refl
+
+module _ (R : Region) (rows : List Row) (rising : Rises row_key rows) (text name : List ℕ) (place : ℕ) (within : place < length rows) (o : Option ℕ) (inside : IfSome o (λ k. k < length rows)) (long : length text ≡ 1 → ⊥)
+    (directory : (names : List (List ℕ)) → Spells text names → (row : Row) → slice_get rows place ≡ Some row → (walk (tree_of R rows) 1 names ≡ Ok row.inode) × (row.kind ≡ Directory)) (last : (names : List (List ℕ)) → Spells text names → name ≡ last_name names)
+    (to : (row : Row) → slice_get rows place ≡ Some row → option_and_then (λ k. slice_get rows k) o ≡ option_and_then (row_of rows) (option_map (λ (x : ℕ × ℕ). x.0) (name_at row.names name))) where
+  abbrev row : Row
+  row = (a_row rows place within).0
+
+  at : slice_get rows place ≡ Some row
+  at = (a_row rows place within).1
+
+  module _ (first : List ℕ) (names : List (List ℕ)) (path : IsPath text (first ∷ names)) where
+    spells : Spells text (first ∷ names)
+    spells = spells_names text first names path
+
+    walked : walk (tree_of R rows) 1 (first ∷ names) ≡ Ok row.inode
+    walked = (directory (first ∷ names) spells row at).0
+
+    leads : option_and_then (λ k. slice_get rows k) o ≡ option_and_then (row_of rows) (found (tree_of R rows) (first ∷ names))
+    leads = to row at ∙ sym (found_below R rows text name (first ∷ names) row.inode row (name_at row.names name) path long walked (row_at rows place row rising at) (last (first ∷ names) spells) refl)
+
+    -- an inode is there
+    pub spot_taken : (unused : Option ℕ) → is_some o ≡ true → first_refusal (spot_tests (tree_of R rows) unused (Some (first ∷ names))) ≡ Some Exists
+    spot_taken unused some =
+        let w = some_of o some in
+        let k = w.0 in
+        let is = w.1 in
+        let below : k < length rows = subst (λ (q : Option ℕ). IfSome q (λ n. n < length rows)) is inside in
+        let r = a_row rows k below in
+        let led = row_found R rows (first ∷ names) o k r.0 is inside (sym (get_or_from_slice_get rows k r.0 r.0 r.1)) leads in
+        there_spot (tree_of R rows) unused first names row.inode r.0.inode walked led.leads
+
+    none : o ≡ None → found (tree_of R rows) (first ∷ names) ≡ None
+    none is = none_found R rows (first ∷ names) o is leads
+
+    -- no number is left
+    pub spot_full : (unused : Option ℕ) → is_some o ≡ false → unused ≡ None → first_refusal (spot_tests (tree_of R rows) unused (Some (first ∷ names))) ≡ Some NoInodes
+    spot_full unused is out = full_spot (tree_of R rows) unused first names row.inode walked (none (none_of o is)) out
+
+    pub spot_free : (unused : Option ℕ) (i : ℕ) → is_some o ≡ false → unused ≡ Some i → first_refusal (spot_tests (tree_of R rows) unused (Some (first ∷ names))) ≡ None
+    spot_free unused i is number = free_spot (tree_of R rows) unused first names row.inode i walked (none (none_of o is)) number

@@ -1,0 +1,135 @@
+-- A new inode and its name, by the rows that stand for them.
+use Rattle.std.specs.Prelude.{◌≡◌, ℕ, ◌*◌, ◌/◌, ◌%◌, ◌<◌, ◌≤◌, nat_eq, if◌then◌else◌, List, [], ◌∷◌, ◌++◌, length, get_or, set, slice_get, Option, Some, None, Ok, is_none, IsTrue}
+use Rattle.std.specs.Cmp.Lexicographic.{pointwise}
+use Rattle.std.specs.List.{insert}
+use Rattle.std.specs.Option.{option_and_then, option_map}
+use Rattle.nv_region.specs.Region.{Region}
+use Rattle.nv_super.specs.declared.superblock.Super.{Super}
+use Rattle.nv_super.specs.declared.kind.Kind.{Kind}
+use Rattle.nv_super.specs.declared.kind.Kind.TheVariants.{Directory}
+use Rattle.nv_super.specs.Layout.{fixed_layout, is_number, system_blocks}
+use Rattle.nv_super.specs.Order.{Rises}
+use Rattle.nv_journal.specs.Pending.{IsEmpty}
+use Rattle.nv_alloc.specs.FreeValue.{FreeLists}
+use Rattle.nv_entry.specs.declared.entry.Operation.TheVariants.{Add}
+use Rattle.nv_entry.specs.declared.entry.Entry.TheVariants.{Name}
+use Rattle.nv_logpage.specs.Append.{end_of, needed, place_of}
+use Rattle.nv_radix.specs.Pages.{block_at}
+use Rattle.nv_names.specs.Names.{EachOnce, name_at}
+use Rattle.nv_scan.specs.declared.piece.Row.{Row}
+use Rattle.nv_check.specs.Cross.{row_key}
+use Rattle.nv_held.specs.Bytes.{byte_of}
+use Rattle.nv_held.specs.Held.{Held, Store}
+use Rattle.nv_commit.specs.Together.{ShowsIdle}
+use Rattle.nv_outcome.specs.Same.{SameRows}
+use Rattle.nv_named.specs.Read.{row_of}
+use Rattle.nv_tree.specs.declared.refusal.Refusal.TheVariants.{NoInodes}
+use Rattle.nv_tree.specs.Path.{last_name}
+use Rattle.nv_tree.specs.Tree.{Tree, walk}
+use Rattle.nv_tree.specs.Refusals.{Path, Tests, is_bad_name, is_there, walk_tests}
+use Rattle.nv_calls.specs.NameCalls.{first_entries, name_entries, with_named}
+use Rattle.nv_calls.specs.Steps.{ShowsRow}
+use Rattle.nv_calls.specs.Taken.{SamePools, TakesEach}
+use Rattle.nv_calls.specs.World.{unused_number}
+
+-- ---- where a new inode goes
+
+-- the tests of `create` and `mkdir` between those of every writing call and that for space
+abbrev pub spot_tests : Tree → Option ℕ → Path → Tests
+spot_tests t unused p = is_bad_name p ∷ walk_tests t p ++ is_there t p ∷ (is_none unused, NoInodes) ∷ []
+
+-- the name of a directory's row stands for no inode in use
+abbrev pub IsNoneNamed : List Row → Row → List ℕ → Type 0
+IsNoneNamed rows row name = option_and_then (row_of rows) (option_map (λ (x : ℕ × ℕ). x.0) (name_at row.names name)) ≡ None
+
+-- The names' last stands for no inode in use in the directory whose row is at this place, and the number is the lowest
+-- unused one of the CPU's table.
+pub record IsSpot (t : Tree) (rows : List Row) (s : Super) (cpu : ℕ) (names : List (List ℕ)) (place : ℕ) (name : List ℕ) (number : ℕ) : Type 0 where
+  pub directory : (row : Row) → slice_get rows place ≡ Some row → (walk t 1 names ≡ Ok row.inode) × (row.kind ≡ Directory)
+  pub name_is : name ≡ last_name names
+  pub absent : (row : Row) → slice_get rows place ≡ Some row → IsNoneNamed rows row name
+  pub unused : unused_number s rows cpu ≡ Some number
+
+-- What is known where a new inode of this number gets a name in a row's directory, by a CPU's journal: nothing waits in the
+-- journal, the number is one, and the tail's page of the directory's log is a data block.
+pub record CanName (R : Region) (s : Super) (cpu j : ℕ) (row : Row) : Type 0 where
+  pub cpu_below : cpu < s.cpus
+  pub journal_empty : IsEmpty R cpu
+  pub number : IsTrue (is_number s j)
+  pub in_data : system_blocks s ≤ row.tail / 4096
+
+-- ---- rows
+
+-- The row has a name more, for this inode, by the entry at this place; its log goes on over these pages up to a new tail.
+pub record HasNamed (old : Row) (fresh : List ℕ) (end : ℕ) (name : List ℕ) (j place time : ℕ) (new : Row) : Type 0 where
+  pub inode : new.inode ≡ old.inode
+  pub kind : new.kind ≡ old.kind
+  pub numbers : new.numbers ≡ record old.numbers { time = time }
+  pub head : new.head ≡ old.head
+  pub tail : new.tail ≡ end
+  pub pages : new.pages.items ≡ old.pages.items ++ fresh
+  pub index : (p : ℕ) → block_at new.index p ≡ block_at old.index p
+  pub names : (q : List ℕ) → name_at new.names q ≡ (if pointwise nat_eq q name then Some (j, place) else name_at old.names q)
+
+-- The row of a new inode whose log begins on a page: one link, no bytes and no names.
+pub record IsNewRow (j : ℕ) (kind : Kind) (mode time page tail : ℕ) (row : Row) : Type 0 where
+  pub inode : row.inode ≡ j
+  pub is_of_kind : row.kind ≡ kind
+  pub numbers : row.numbers ≡ record { size = 0; mode = mode % 4096; owner = 0; group = 0; links = 1; time = time }
+  pub head : row.head ≡ 4096 * page
+  pub tail_is : row.tail ≡ tail
+  pub pages : row.pages.items ≡ page ∷ []
+  pub index : (p : ℕ) → block_at row.index p ≡ None
+  pub names : (q : List ℕ) → name_at row.names q ≡ None
+
+-- Here a row of this number goes: those in front have a lesser one, and those behind a greater.
+pub record IsPlaceFor (rows : List Row) (i place : ℕ) : Type 0 where
+  pub inside : place ≤ length rows
+  pub front : (c : ℕ) (d : Row) → c < place → c < length rows → (get_or rows c d).inode < i
+  pub behind : (c : ℕ) (d : Row) → place ≤ c → c < length rows → i < (get_or rows c d).inode
+
+-- A row was put in at its place among rows that rise.
+pub record HasInserted (old new : List Row) (row : Row) : Type 0 where
+  pub place : ℕ
+  pub inside : place ≤ length old
+  pub all : new ≡ insert old place row
+  pub rising : Rises row_key new
+
+-- ---- the step
+
+-- The region shows this, with nothing in its journals, and each byte that a file had is where it was.
+pub record ShowsNamed (R S : Region) (s : Super) (held after : Store) : Type 0 where
+  pub idle : ShowsIdle S s after
+  pub bytes : (i : ℕ) (g : Held) → held i ≡ Some g → (x : ℕ) → byte_of S (fixed_layout s) g x ≡ byte_of R (fixed_layout s) g x
+
+-- where the entry of a new name goes
+abbrev pub place_named : List ℕ → ℕ → ℕ → List ℕ → ℕ → ℕ
+place_named fresh tail j name time = place_of fresh 0 tail (Name (record { operation = Add; inode = j; time = time; name = name }))
+
+-- A new inode was made over one block, and its name was put behind the log of its directory's row, over further ones that
+-- were taken one by one.
+pub record MakesNamed (R S : Region) (s : Super) (free after : FreeLists) (old new : Row) (kind : Kind) (mode time j : ℕ) (name : List ℕ) (made : Row) : Type 0 where
+  pub page : ℕ
+  pub fresh : List ℕ
+  pub taken : TakesEach free (page ∷ fresh) after
+  pub count : length fresh ≡ needed (old.tail % 4096) (name_entries Add j name time)
+  pub directory : HasNamed old fresh (end_of fresh 0 old.tail (name_entries Add j name time)) name j (place_named fresh old.tail j name time) time new
+  pub once : EachOnce old.names
+  pub once_now : EachOnce new.names
+  pub row : IsNewRow j kind mode time page (end_of [] 0 (4096 * page) (first_entries mode time)) made
+  pub shows : (held : Store) (h : Held) → ShowsRow R s held h old free → held j ≡ None → ShowsNamed R S s held (with_named held kind mode time j old.inode h name page fresh)
+
+-- That was done in the directory whose row is at this place, and the new inode's row was put in.
+pub record CreatesAt (R S : Region) (s : Super) (free after : FreeLists) (rows news : List Row) (place : ℕ) (kind : Kind) (mode time j : ℕ) (name : List ℕ) : Type 0 where
+  pub row : Row
+  pub now : Row
+  pub made : Row
+  pub at : slice_get rows place ≡ Some row
+  pub step : MakesNamed R S s free after row now kind mode time j name made
+  pub put : HasInserted (set rows place now) news made
+
+-- a step on rows that was refused has changed nothing
+pub record LeavesRows {P : Type 0} (old new : P) (before after : FreeLists) (had has' : List Row) : Type 0 where
+  pub memory : new ≡ old
+  pub free : SamePools before after
+  pub rows : SameRows had has'

@@ -1,0 +1,189 @@
+//! `create` and `mkdir`: a new inode and its name.
+
+ghost use Rattle.std.specs.Prelude.{◌≡◌, ◌⊎◌, ◌+◌, ◌<◌, ◌≤◌, ◌%◌, ℕ, List, length, slice_get, Option, Result, IsTrue, IfErr, OnOk, false};
+ghost use Rattle.nv_region.specs.Region.{size};
+ghost use Rattle.nv_region.specs.Stops.{NothingPending};
+ghost use Rattle.nv_region.specs.Fuses.{KeepsFuse};
+ghost use Rattle.nv_super.specs.declared.kind.Kind.TheVariants.{File, Directory};
+ghost use Rattle.nv_super.specs.Order.{Rises};
+ghost use Rattle.nv_alloc.specs.Taking.{all_blocks};
+ghost use Rattle.nv_entry.specs.declared.entry.Operation.{Operation as OperationValue};
+ghost use Rattle.nv_logpage.specs.Append.{needed};
+ghost use Rattle.nv_names.specs.Names.{IsName};
+ghost use Rattle.nv_scan.specs.declared.piece.Row.{Row as RowValue};
+ghost use Rattle.nv_check.specs.Cross.{row_key};
+ghost use Rattle.nv_named.specs.Read.{row_of};
+ghost use Rattle.nv_held.specs.Held.{Held, Store};
+ghost use Rattle.nv_held.specs.Mounted.{ShowsSound};
+ghost use Rattle.nv_tree.specs.Path.{IsPath, Says, last_name};
+ghost use Rattle.nv_tree.specs.Tree.{SameTree, walk};
+ghost use Rattle.nv_tree.specs.Calls.{created};
+ghost use Rattle.nv_tree.specs.Refusals.{Path, create_tests, first_refusal};
+ghost use Rattle.nv_tree.specs.declared.refusal.Refusal.{Refusal as RefusalValue};
+ghost use Rattle.nv_calls.specs.Grown.{StandsRight};
+ghost use Rattle.nv_calls.specs.NameCalls.{ShowsCreated, create_blocks, name_entries};
+ghost use Rattle.nv_calls.specs.NewNames.{CanName, CreatesAt, LeavesRows};
+ghost use Rattle.nv_calls.specs.Same.{KeepsMount, SameMount};
+ghost use Rattle.nv_calls.specs.Seen.{tree_of};
+ghost use Rattle.nv_calls.specs.Steps.{RefusesStep};
+ghost use Rattle.nv_calls.specs.World.{unused_number, world_of};
+
+use crate::Fs;
+use crate::inserting::insert_row;
+use crate::making::{NewName, make_named, name_entry};
+use crate::spotting::spot_for;
+use crate::writing::is_stop;
+use nv_alloc::Allocators;
+use nv_entry::Operation;
+use nv_logpage::pages_needed;
+use nv_region::Pmem;
+use nv_scan::Row;
+use nv_super::{Kind, Super};
+use nv_tree::Refusal;
+use std::alloc::Global;
+
+/// Makes a new inode with its name in the directory whose row is at a place, and puts the new row in.
+///
+/// `NoSpace` where all pools together have too few blocks, `Memory` where a growth was refused; both change nothing.
+/// `Stopped` where the fuse has burnt.
+fn create_at<P: Pmem>(
+    alloc: Global,
+    memory: &mut P,
+    sup: &Super,
+    free: &mut Allocators,
+    cpu: u64,
+    rows: &mut Vec<Row>,
+    place: usize,
+    new: &NewName<'_>,
+) -> Result<(), Refusal>
+    requires within { place < length rows.old.items }
+    requires rising { Rises row_key rows.old.items }
+    requires unused { row_of rows.old.items new.now.inode ≡ Option.None }
+    requires stands { (row : RowValue) → slice_get rows.old.items place ≡ Option.Some row → StandsRight (P.region memory.old) sup.now free.old row }
+    requires can { (row : RowValue) → slice_get rows.old.items place ≡ Option.Some row → CanName (P.region memory.old) sup.now cpu new.now.inode row }
+    requires name { IsName new.now.name.now }
+    ensures created { OnOk result (CreatesAt (P.region memory.old) (P.region memory.new) sup.now free.old free.new rows.old.items rows.new.items place new.now.kind new.now.mode new.now.time new.now.inode new.now.name.now) }
+    ensures enough { (row : RowValue) → slice_get rows.old.items place ≡ Option.Some row → OnOk result (1 + needed (row.tail % 4096) (name_entries OperationValue.Add new.now.inode new.now.name.now new.now.time) ≤ all_blocks free.old.pools) }
+    ensures settled { OnOk result (NothingPending (P.region memory.new) (P.may_hold memory.new)) }
+    ensures refused { (row : RowValue) → slice_get rows.old.items place ≡ Option.Some row → IfErr result (λ e. RefusesStep e (1 + needed (row.tail % 4096) (name_entries OperationValue.Add new.now.inode new.now.name.now new.now.time)) free.old) }
+    ensures unchanged { IfErr result (λ e. (e ≡ RefusalValue.Stopped → ⊥) → LeavesRows memory.old memory.new free.old free.new rows.old.items rows.new.items) }
+    ensures stopped { IfErr result (λ e. e ≡ RefusalValue.Stopped → IsTrue (P.fuse memory.new).has_burnt) }
+    ensures lists { free.new.sup ≡ free.old.sup }
+    ensures keeps_fuse { KeepsFuse (λ limit. size (P.region memory.old) ≤ limit) (P.fuse memory.old) (P.fuse memory.new) }
+{
+    let entries = [name_entry(Operation::Add, new.inode, new.name, new.time)];
+    if free.free_blocks() < 1 + pages_needed(rows[place].tail, &entries) {
+        return Err(Refusal::NoSpace);
+    }
+    if rows.reserve(1).is_err() {
+        return Err(Refusal::Memory);
+    }
+    let made = make_named(alloc, memory, sup, free, cpu, &mut rows[place], new)?;
+    insert_row(rows, made);
+    Ok(())
+}
+
+impl<P: Pmem + Drop> Fs<P> {
+    /// Makes a file of this mode, of which the low 12 bits are kept, with one name.
+    ///
+    /// Errors, the first that applies: `Stopped` after a stop, `BadCpu` where there is no CPU of that number, `ReadOnly`
+    /// where the region was mounted with faults, `BadName` where the text is no path or `/`, `NotFound` or `NotDirectory`
+    /// for an inode on the way, `Exists` where the path leads to an inode, `NoInodes` where the CPU's table has no unused
+    /// slot, `NoSpace` where fewer blocks are free than both logs need. `Memory` where a growth was refused, `Stopped`
+    /// where the fuse burns. All but `Stopped` leave everything as it was.
+    pub fn create(&mut self, cpu: u64, path: &[u8], mode: u32, time: u64) -> Result<(), Refusal>
+        ensures stopped_before { IsTrue self.old.stopped → (result ≡ Result.Err RefusalValue.Stopped) × (self.new ≡ self.old) }
+        ensures allowed { (p : Path) → Says path.now p
+            → OnOk result (first_refusal (create_tests (world_of self.old) (tree_of (P.region self.old.memory) self.old.rows) cpu p (create_blocks self.old.rows (tree_of (P.region self.old.memory) self.old.rows) p)) ≡ Option.None) }
+        ensures refused { self.old.stopped ≡ false → (p : Path) → Says path.now p
+            → IfErr result (λ e. (e ≡ RefusalValue.Memory) ⊎ ((e ≡ RefusalValue.Stopped)
+            ⊎ (first_refusal (create_tests (world_of self.old) (tree_of (P.region self.old.memory) self.old.rows) cpu p (create_blocks self.old.rows (tree_of (P.region self.old.memory) self.old.rows) p)) ≡ Option.Some e))) }
+        ensures changed { (names : List (List ℕ)) → IsPath path.now names
+            → OnOk result (SameTree (tree_of (P.region self.new.memory) self.new.rows) (created File (unused_number self.old.sup self.old.rows cpu) names mode time (tree_of (P.region self.old.memory) self.old.rows))) }
+        // The log of the directory has one entry more, the new inode's log is one entry, and no other log has changed.
+        ensures log { (names : List (List ℕ)) (d j : ℕ) (held : Store) (h : Held) → IsPath path.now names → walk (tree_of (P.region self.old.memory) self.old.rows) 1 names ≡ Result.Ok d → unused_number self.old.sup self.old.rows cpu ≡ Option.Some j
+            → ShowsSound (P.region self.old.memory) self.old.sup held → held d ≡ Option.Some h → OnOk result (ShowsCreated (P.region self.new.memory) self.old.sup held File mode time j d h (last_name names)) }
+        ensures unchanged { IfErr result (λ e. (e ≡ RefusalValue.Stopped → ⊥) → SameMount self.old self.new) }
+        ensures stopped { self.old.stopped ≡ false → (IsTrue self.new.stopped → (result ≡ Result.Err RefusalValue.Stopped) × IsTrue (P.fuse self.new.memory).has_burnt) × (result ≡ Result.Err RefusalValue.Stopped → IsTrue self.new.stopped) }
+        ensures keeps { KeepsMount self.old self.new }
+        ensures settled { OnOk result (NothingPending (P.region self.new.memory) (P.may_hold self.new.memory)) }
+        ensures keeps_fuse { KeepsFuse (λ limit. size (P.region self.old.memory) ≤ limit) (P.fuse self.old.memory) (P.fuse self.new.memory) }
+    {
+        self.make(cpu, path, Kind::File, mode, time)
+    }
+
+    /// Makes a directory of this mode, of which the low 12 bits are kept, with one name. Errors as `create` has them.
+    pub fn mkdir(&mut self, cpu: u64, path: &[u8], mode: u32, time: u64) -> Result<(), Refusal>
+        ensures stopped_before { IsTrue self.old.stopped → (result ≡ Result.Err RefusalValue.Stopped) × (self.new ≡ self.old) }
+        ensures allowed { (p : Path) → Says path.now p
+            → OnOk result (first_refusal (create_tests (world_of self.old) (tree_of (P.region self.old.memory) self.old.rows) cpu p (create_blocks self.old.rows (tree_of (P.region self.old.memory) self.old.rows) p)) ≡ Option.None) }
+        ensures refused { self.old.stopped ≡ false → (p : Path) → Says path.now p
+            → IfErr result (λ e. (e ≡ RefusalValue.Memory) ⊎ ((e ≡ RefusalValue.Stopped)
+            ⊎ (first_refusal (create_tests (world_of self.old) (tree_of (P.region self.old.memory) self.old.rows) cpu p (create_blocks self.old.rows (tree_of (P.region self.old.memory) self.old.rows) p)) ≡ Option.Some e))) }
+        ensures changed { (names : List (List ℕ)) → IsPath path.now names
+            → OnOk result (SameTree (tree_of (P.region self.new.memory) self.new.rows) (created Directory (unused_number self.old.sup self.old.rows cpu) names mode time (tree_of (P.region self.old.memory) self.old.rows))) }
+        // The log of the directory has one entry more, the new inode's log is one entry, and no other log has changed.
+        ensures log { (names : List (List ℕ)) (d j : ℕ) (held : Store) (h : Held) → IsPath path.now names → walk (tree_of (P.region self.old.memory) self.old.rows) 1 names ≡ Result.Ok d → unused_number self.old.sup self.old.rows cpu ≡ Option.Some j
+            → ShowsSound (P.region self.old.memory) self.old.sup held → held d ≡ Option.Some h → OnOk result (ShowsCreated (P.region self.new.memory) self.old.sup held Directory mode time j d h (last_name names)) }
+        ensures unchanged { IfErr result (λ e. (e ≡ RefusalValue.Stopped → ⊥) → SameMount self.old self.new) }
+        ensures stopped { self.old.stopped ≡ false → (IsTrue self.new.stopped → (result ≡ Result.Err RefusalValue.Stopped) × IsTrue (P.fuse self.new.memory).has_burnt) × (result ≡ Result.Err RefusalValue.Stopped → IsTrue self.new.stopped) }
+        ensures keeps { KeepsMount self.old self.new }
+        ensures settled { OnOk result (NothingPending (P.region self.new.memory) (P.may_hold self.new.memory)) }
+        ensures keeps_fuse { KeepsFuse (λ limit. size (P.region self.old.memory) ≤ limit) (P.fuse self.old.memory) (P.fuse self.new.memory) }
+    {
+        self.make(cpu, path, Kind::Directory, mode, time)
+    }
+
+    /// Makes an inode of a kind: what `create` and `mkdir` do.
+    fn make(
+        &mut self,
+        cpu: u64,
+        path: &[u8],
+        kind: Kind,
+        mode: u32,
+        time: u64,
+    ) -> Result<(), Refusal>
+        ensures stopped_before { IsTrue self.old.stopped → (result ≡ Result.Err RefusalValue.Stopped) × (self.new ≡ self.old) }
+        ensures allowed { (p : Path) → Says path.now p
+            → OnOk result (first_refusal (create_tests (world_of self.old) (tree_of (P.region self.old.memory) self.old.rows) cpu p (create_blocks self.old.rows (tree_of (P.region self.old.memory) self.old.rows) p)) ≡ Option.None) }
+        ensures refused { self.old.stopped ≡ false → (p : Path) → Says path.now p
+            → IfErr result (λ e. (e ≡ RefusalValue.Memory) ⊎ ((e ≡ RefusalValue.Stopped)
+            ⊎ (first_refusal (create_tests (world_of self.old) (tree_of (P.region self.old.memory) self.old.rows) cpu p (create_blocks self.old.rows (tree_of (P.region self.old.memory) self.old.rows) p)) ≡ Option.Some e))) }
+        ensures changed { (names : List (List ℕ)) → IsPath path.now names
+            → OnOk result (SameTree (tree_of (P.region self.new.memory) self.new.rows) (created kind (unused_number self.old.sup self.old.rows cpu) names mode time (tree_of (P.region self.old.memory) self.old.rows))) }
+        // The log of the directory has one entry more, the new inode's log is one entry, and no other log has changed.
+        ensures log { (names : List (List ℕ)) (d j : ℕ) (held : Store) (h : Held) → IsPath path.now names → walk (tree_of (P.region self.old.memory) self.old.rows) 1 names ≡ Result.Ok d → unused_number self.old.sup self.old.rows cpu ≡ Option.Some j
+            → ShowsSound (P.region self.old.memory) self.old.sup held → held d ≡ Option.Some h → OnOk result (ShowsCreated (P.region self.new.memory) self.old.sup held kind mode time j d h (last_name names)) }
+        ensures unchanged { IfErr result (λ e. (e ≡ RefusalValue.Stopped → ⊥) → SameMount self.old self.new) }
+        ensures stopped { self.old.stopped ≡ false → (IsTrue self.new.stopped → (result ≡ Result.Err RefusalValue.Stopped) × IsTrue (P.fuse self.new.memory).has_burnt) × (result ≡ Result.Err RefusalValue.Stopped → IsTrue self.new.stopped) }
+        ensures keeps { KeepsMount self.old self.new }
+        ensures settled { OnOk result (NothingPending (P.region self.new.memory) (P.may_hold self.new.memory)) }
+        ensures keeps_fuse { KeepsFuse (λ limit. size (P.region self.old.memory) ≤ limit) (P.fuse self.old.memory) (P.fuse self.new.memory) }
+    {
+        self.writable(cpu)?;
+        let spot = spot_for(&self.rows, &self.sup, cpu, path)?;
+        let new = NewName {
+            inode: spot.inode,
+            kind,
+            mode,
+            time,
+            name: spot.name,
+        };
+        match create_at(
+            self.alloc,
+            &mut self.memory,
+            &self.sup,
+            &mut self.free,
+            cpu,
+            &mut self.rows,
+            spot.place,
+            &new,
+        ) {
+            Ok(()) => Ok(()),
+            Err(refusal) => {
+                self.stopped = is_stop(refusal);
+                Err(refusal)
+            }
+        }
+    }
+}
