@@ -1,5 +1,5 @@
 -- Pages stored anew: word by word, block by block, and run by run.
-use Rattle.std.proofs.Common.{◌≡◌, inl, inr, ℕ, ◌+◌, ◌-◌, ◌*◌, ◌/◌, ◌%◌, ◌^◌, ◌<◌, ◌≤◌, Bool, true, false, nat_lt, cond, List, [], ◌∷◌, length, get_or, drop, Option, Some, None, IfSome, refl, sym, ap, ◌∙◌, subst, arith, add-one}
+use Rattle.std.proofs.Common.{◌≡◌, inl, inr, ℕ, ◌+◌, ◌-◌, ◌*◌, ◌/◌, ◌%◌, ◌^◌, ◌<◌, ◌≤◌, Bool, true, false, nat_lt, cond, List, ◌∷◌, length, get_or, drop, Option, Some, None, IfSome, refl, sym, ap, ◌∙◌, subst, arith, add-one}
 use Rattle.std.proofs.Math.Seq.{drop-cons}
 use Rattle.std.proofs.lemmas.Bool.{cases_eq}
 use Rattle.std.proofs.lemmas.Bool.Decides.{nat_tests}
@@ -88,12 +88,6 @@ of_file R S m o offset old_size new to page is holds x at =
 pub record Storing (R0 : Region) (m : Pages) (bytes : ℕ → ℕ) (first : ℕ) (runs : List Run) (R : Region) (page : ℕ) (left : List Run) : Type 0 where
   pub told : (S : Region) → IsMixed R (InBlocks (HasBlock left)) S → HoldPages S bytes page left → HoldPages S bytes first runs
   pub fresh : AreFresh R0 m left
-
-pub storing_starts : (R : Region) (m : Pages) (bytes : ℕ → ℕ) (first : ℕ) (runs : List Run) → AreFresh R m runs → Storing R m bytes first runs R first runs
-storing_starts R m bytes first runs fresh = record { told = λ S mixed holds. holds; fresh = fresh }
-
-pub storing_ends : (R0 : Region) (m : Pages) (bytes : ℕ → ℕ) (first : ℕ) (runs : List Run) (R : Region) (page : ℕ) (left : List Run) → left ≡ [] → Storing R0 m bytes first runs R page left → HoldPages R bytes first runs
-storing_ends R0 m bytes first runs R page left none s = s.told R (mixed_same R (InBlocks (HasBlock left))) (subst (λ (l : List Run). HoldPages R bytes page l) (sym none) (λ k b given. absurd (cc)))
 
 -- the blocks of the first run hold its pages, and those of the others theirs
 both_hold : (S : Region) (bytes : ℕ → ℕ) (page : ℕ) (r : Run) (rest : List Run) → ((k : ℕ) → k < r.count → HoldsPage S bytes (r.start + k) (page + k)) → HoldPages S bytes (page + r.count) rest → HoldPages S bytes page (r ∷ rest)

@@ -7,11 +7,8 @@ ghost use Rattle.nv_check.specs.Cross.{row_key};
 ghost use Rattle.nv_calls.specs.World.{is_unused, unused_number};
 
 use crate::looking::place_of;
-use nv_scan::Row;
+use nv_scan::{Row, SLOTS};
 use nv_super::Super;
-
-/// How many slots a block of a table has.
-const SLOTS: u64 = 32;
 
 /// The lowest number of a CPU's table that no inode in use has, 0 left out.
 ///

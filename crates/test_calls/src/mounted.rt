@@ -4,7 +4,7 @@ ghost use Rattle.std.specs.Prelude.{◌≡◌};
 ghost use Rattle.nv_region.specs.Region.{size};
 
 use crate::regions::{EMPTY_FILE, TWO_PAGES, Word};
-use nv_calls::{Fs, format};
+use nv_calls::Fs;
 use nv_outcome::rolled_back_outcome;
 use nv_recover::{RecoverError, recover_one};
 use nv_region::{MemRegion, Pmem};
@@ -49,12 +49,5 @@ pub fn two_pages(alloc: Global) -> Result<Fs<MemRegion>, Fail> {
 pub fn empty_file(alloc: Global) -> Result<Fs<MemRegion>, Fail> {
     let mut memory = MemRegion::new(alloc, 16)?;
     store_words(&mut memory, &EMPTY_FILE);
-    Ok(mount(alloc, memory)?)
-}
-
-/// A region of so many blocks, formatted for so many CPUs with one table block each, mounted.
-pub fn formatted(alloc: Global, blocks: u64, cpus: u64, time: u64) -> Result<Fs<MemRegion>, Fail> {
-    let mut memory = MemRegion::new(alloc, blocks)?;
-    format(&mut memory, cpus, 1, time)?;
     Ok(mount(alloc, memory)?)
 }

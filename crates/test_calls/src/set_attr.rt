@@ -1,18 +1,18 @@
 //! `set_attr`. After each call recovery of the region's bytes finds what is mounted.
 
-use crate::mounted::{empty_file, formatted, two_pages, two_pages_but};
+use crate::mounted::{empty_file, two_pages, two_pages_but};
+use crate::reading::stat;
 use crate::recovered::assert_recovered;
 use crate::regions::ALL_PAGES;
-use crate::stat::stat;
 use nv_calls::{Fs, Stat};
 use nv_region::MemRegion;
 use nv_super::Kind;
 use nv_tree::Refusal;
 use std::test::Fail;
 
-/// What `set_attr` answers on the first CPU, with the mode 644 and more bits, which aren't kept.
-pub fn set_attr(fs: &mut Fs<MemRegion>, path: &[u8], time: u64) -> Result<(), Refusal> {
-    fs.set_attr(0, path, 33188, 7, 8, time)
+/// What `set_attr` answers, with the mode 644 and more bits, which aren't kept.
+pub fn set_attr(fs: &mut Fs<MemRegion>, cpu: u64, path: &[u8], time: u64) -> Result<(), Refusal> {
+    fs.set_attr(cpu, path, 33188, 7, 8, time)
 }
 
 const FILE: Stat = Stat {
@@ -26,29 +26,23 @@ const FILE: Stat = Stat {
     time: 12,
 };
 
-#[test]
-fn the_attributes_of_a_file_are_set(rt: HostRuntime) -> Result<(), Fail> {
-    let mut fs = two_pages(rt.alloc())?;
-    set_attr(&mut fs, b"/a", 12)?;
-    assert!(rt; stat(&fs, b"/a") == Ok(FILE));
-    assert_recovered(&rt, rt.alloc(), &fs)
-}
-
 const ROOT: Stat = Stat {
     inode: 1,
     kind: Kind::Directory,
-    mode: 448,
-    owner: 1,
-    group: 2,
+    mode: 420,
+    owner: 7,
+    group: 8,
     size: 0,
     links: 1,
-    time: 0,
+    time: 13,
 };
 
 #[test]
-fn the_attributes_of_the_root_are_set(rt: HostRuntime) -> Result<(), Fail> {
-    let mut fs = formatted(rt.alloc(), 16, 1, 5)?;
-    fs.set_attr(0, b"/", 448, 1, 2, 0)?;
+fn attributes_are_set(rt: HostRuntime) -> Result<(), Fail> {
+    let mut fs = two_pages(rt.alloc())?;
+    set_attr(&mut fs, 0, b"/a", 12)?;
+    set_attr(&mut fs, 0, b"/", 13)?;
+    assert!(rt; stat(&fs, b"/a") == Ok(FILE));
     assert!(rt; stat(&fs, b"/") == Ok(ROOT));
     assert_recovered(&rt, rt.alloc(), &fs)
 }
@@ -56,7 +50,7 @@ fn the_attributes_of_the_root_are_set(rt: HostRuntime) -> Result<(), Fail> {
 /// Sets the attributes of the file so many times.
 fn set_often(fs: &mut Fs<MemRegion>, times: u64) -> Result<(), Refusal> {
     for time in 0..times {
-        set_attr(fs, b"/a", time)?;
+        set_attr(fs, 0, b"/a", time)?;
     }
     Ok(())
 }
@@ -72,20 +66,12 @@ fn a_log_whose_page_is_full_goes_on_in_the_next(rt: HostRuntime) -> Result<(), F
 }
 
 #[test]
-fn a_full_page_may_have_a_rest(rt: HostRuntime) -> Result<(), Fail> {
-    let mut fs = two_pages(rt.alloc())?;
-    // The page has room for 124 entries behind the first two, and 24 bytes are left.
-    set_often(&mut fs, 125)?;
-    assert!(rt; fs.free().free_blocks() == 8);
-    assert_recovered(&rt, rt.alloc(), &fs)
-}
-
-#[test]
-fn a_log_that_needs_a_block_may_have_none(rt: HostRuntime) -> Result<(), Fail> {
+fn a_log_may_find_no_block_to_go_on_in(rt: HostRuntime) -> Result<(), Fail> {
     let mut fs = two_pages_but(rt.alloc(), &ALL_PAGES)?;
+    // The page has room for 123 entries behind the first three, and 16 bytes are left.
     set_often(&mut fs, 123)?;
-    assert!(rt; set_attr(&mut fs, b"/a", 1) == Err(Refusal::NoSpace));
-    assert!(rt; set_attr(&mut fs, b"/", 1) == Ok(()));
+    assert!(rt; set_attr(&mut fs, 0, b"/a", 1) == Err(Refusal::NoSpace));
+    assert!(rt; set_attr(&mut fs, 0, b"/", 1) == Ok(()));
     assert_recovered(&rt, rt.alloc(), &fs)
 }
 
@@ -103,8 +89,10 @@ const REFUSED: [(u64, &[u8], Refusal); 6] = [
 fn the_first_refusal_is_told(rt: HostRuntime) -> Result<(), Fail> {
     let mut fs = two_pages(rt.alloc())?;
     for (cpu, path, refusal) in REFUSED {
-        let answer = fs.set_attr(cpu, path, 4095, 1, 2, 3);
-        assert!(rt; answer == Err(refusal), "at {refusal}");
+        assert!(rt;
+            set_attr(&mut fs, cpu, path, 1) == Err(refusal),
+            "at {refusal}"
+        );
     }
     assert_recovered(&rt, rt.alloc(), &fs)
 }

@@ -1,11 +1,9 @@
 //! Calls on a memory that stops. What a stop leaves shows what was there before the call or what it makes.
 
-use crate::list::list_refusal;
 use crate::mounted::{mount, two_pages};
-use crate::read::read_refusal;
+use crate::reading::{refusals, stat};
 use crate::recovered::assert_recovered;
 use crate::set_attr::set_attr;
-use crate::stat::stat;
 use nv_calls::Fs;
 use nv_region::{Fuse, Keep, MemRegion};
 use nv_tree::Refusal;
@@ -23,12 +21,10 @@ fn stopping(alloc: Global, passed: u64) -> Result<Fs<MemRegion>, Fail> {
 #[test]
 fn after_a_stop_each_call_is_refused(rt: HostRuntime) -> Result<(), Fail> {
     let mut fs = stopping(rt.alloc(), 0)?;
-    assert!(rt; set_attr(&mut fs, b"/a", 1) == Err(Refusal::Stopped));
+    assert!(rt; set_attr(&mut fs, 0, b"/a", 1) == Err(Refusal::Stopped));
     fs.set_fuse(Fuse::Off);
-    assert!(rt; stat(&fs, b"a") == Err(Refusal::Stopped));
-    assert!(rt; list_refusal(&fs, b"a") == Some(Refusal::Stopped));
-    assert!(rt; read_refusal(&fs, b"a") == Some(Refusal::Stopped));
-    assert!(rt; set_attr(&mut fs, b"a", 1) == Err(Refusal::Stopped));
+    assert!(rt; refusals(&fs, b"a") == [Some(Refusal::Stopped); 3]);
+    assert!(rt; set_attr(&mut fs, 1, b"a", 1) == Err(Refusal::Stopped));
     Ok(())
 }
 
@@ -42,7 +38,7 @@ fn time_left(rt: &impl Abort, alloc: Global, fs: Fs<MemRegion>, keep: Keep) -> R
 /// Sets the time of the file to 12, where it was 9, in a memory that stops. Whether it was set.
 fn set_and_stop(rt: &impl Abort, alloc: Global, passed: u64, keep: Keep) -> Result<bool, Fail> {
     let mut fs = stopping(alloc, passed)?;
-    let answer = set_attr(&mut fs, b"/a", 12);
+    let answer = set_attr(&mut fs, 0, b"/a", 12);
     let time = time_left(rt, alloc, fs, keep)?;
     match answer {
         Ok(()) => assert!(rt; time == 12),
