@@ -1,5 +1,5 @@
 -- Words are read as values exactly where they write them.
-use Rattle.std.proofs.Common.{◌≡◌, ℕ, nat_le, nat_lt, cond, List, [], ◌∷◌, length, Some, None, Option, option_map, refl, inl, inr, true}
+use Rattle.std.proofs.Common.{◌≡◌, ℕ, nat_le, nat_lt, cond, List, [], ◌∷◌, length, Some, None, Option, option_map, refl, inl, inr}
 use Rattle.std.specs.Prelude.{option_and_then}
 use Rattle.std.specs.List.{AllByRecursion}
 use Rattle.std.proofs.lemmas.Bool.{le-leb, leb-true, lt-ltb, ltb-true}

@@ -1,6 +1,6 @@
 use Rattle.std.proofs.Common.{◌≡◌, [], false, IsTrue}
 use Rattle.std.proofs.lemmas.Result.{IfOk-weaker}
-use Rattle.nv_report.proofs.Answered.{tests_pass, ends, no_lists, no_stop}
+use Rattle.nv_report.proofs.Answered.{ends, no_lists, no_stop}
 use Rattle.nv_report.proofs.recovering.recover_or_stop.Goals as goal
 
 pub returns-in-Err-clause-ok : goal.returns-in-Err-clause-ok
