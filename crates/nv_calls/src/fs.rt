@@ -89,6 +89,13 @@ impl<P: Pmem + Drop> Fs<P> {
         &self.memory
     }
 
+    /// The superblock's numbers.
+    pub fn sup(&self) -> &Super
+        ensures { result.now ≡ self.now.sup }
+    {
+        &self.sup
+    }
+
     /// The rows of the inodes in use, rising by number.
     pub fn rows(&self) -> &[Row]
         ensures { result.now ≡ self.now.rows }

@@ -1,6 +1,9 @@
 -- What a script may print, and the exit status with which it may end.
 use Rattle.std.specs.Prelude.{◌≡◌, ◌⊎◌, ◌≤◌, ◌+◌, ℕ, List, [], ◌∷◌, ◌++◌, length}
-use Rattle.nv_line.specs.Request.{Request}
+use Rattle.std.specs.List.{AllByRecursion}
+use Rattle.nv_region.specs.declared.memory.Fuse.{Fuse}
+use Rattle.nv_region.specs.declared.memory.Keep.{Keep}
+use Rattle.nv_line.specs.Request.{Request, Stop}
 use Rattle.nv_line.specs.Spelling.{Says}
 use Rattle.nv_line.specs.Lines.{IsSkipped, IsBad}
 use Rattle.nv_text.specs.Answers.{bad_line}
@@ -21,6 +24,10 @@ Shows number old (line ∷ lines) text status =
     ⊎ ((length line ≤ line_limit) × (first : List ℕ) × (rest : List ℕ) × (mid : State)
     × Runs line old first mid × Shows (number + 1) mid lines rest status × (text ≡ first ++ rest))
     ⊎ (IsBad line × (text ≡ bad_line number) × (status ≡ 2))
+
+-- no line sets a stop
+abbrev pub SetsNoStop : List (List ℕ) → Type 0
+SetsNoStop lines = AllByRecursion (λ line. (fuse : Fuse) (keep : Keep) → Says line (Stop fuse keep) → ⊥) lines
 
 -- what a whole script may print, and its exit status
 abbrev pub ShowsScript : List (List ℕ) → List ℕ → ℕ → Type 0

@@ -12,11 +12,8 @@ use Rattle.nv_line.specs.Reading.{values_of, request_by, read_by}
 use Rattle.nv_line.specs.declared.table.Row as table
 use Rattle.nv_line.specs.View.{view}
 use Rattle.nv_line.specs.Reasons.{form_in}
-use Rattle.nv_line.proofs.Words.{IsUnspaced}
+use Rattle.nv_line.proofs.Words.{IsUnspaced, same_bytes}
 use Rattle.nv_line.proofs.ShapedWords.{values_say, values_again}
-
-same_bytes : (a b : List ℕ) → bytes_eq a b ≡ true → a ≡ b
-same_bytes a b e = (bytes_eq-Decides a b).0 e
 
 -- ---- rows by their names
 

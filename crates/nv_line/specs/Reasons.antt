@@ -16,11 +16,15 @@ form_text forms.Poke = codes "poke AT VALUE"
 form_text forms.Cut = codes "cut LENGTH"
 form_text forms.Recover = codes "recover WORKERS"
 form_text forms.Replay = codes "replay WORKERS w w .."
+form_text forms.ListNames = codes "list PATH"
+form_text forms.Stat = codes "stat PATH"
+form_text forms.Read = codes "read PATH OFFSET COUNT"
 form_text forms.Tree = codes "tree"
 form_text forms.Free = codes "free"
 form_text forms.Faults = codes "faults"
 form_text forms.Report = codes "report"
 form_text forms.Peek = codes "peek AT"
+form_text forms.Stop = codes "stop after|at N none|all|alternate"
 
 -- the form of the command of this name, if there is one
 unfoldable pub form_in : List Row → List ℕ → Option Form
@@ -47,5 +51,5 @@ reason_of line = if nat_lt line_limit (length line) then reasons.TooLong
 abbrev pub reason_text : Reason → List ℕ
 reason_text reasons.TooLong = codes "it has more than 4096 bytes"
 reason_text reasons.CarriageReturn = codes "it ends with a carriage return, byte 13; byte 10 alone ends a line"
-reason_text reasons.NoCommand = codes "expected time, format, recover, replay, poke, cut, tree, free, faults, report or peek"
+reason_text reasons.NoCommand = codes "expected time, format, recover, replay, poke, cut, list, stat, read, tree, free, faults, report, peek or stop"
 reason_text (reasons.Form form) = codes "expected " ++ form_text form ++ codes ", with one space between two words, and numbers in decimal up to 18446744073709551615"

@@ -1,5 +1,7 @@
 -- What a line of a script asks for, with no word on where its bytes lie in memory.
 use Rattle.std.specs.Prelude.{ℕ, List}
+use Rattle.nv_region.specs.declared.memory.Fuse.{Fuse}
+use Rattle.nv_region.specs.declared.memory.Keep.{Keep}
 
 -- a command of a script
 pub data Request : Type 0 where
@@ -9,8 +11,12 @@ pub data Request : Type 0 where
   Cut : (length : ℕ) → Request
   Recover : (workers : ℕ) → Request
   Replay : (workers : ℕ) (schedule : List ℕ) → Request
+  ListNames : (path : List ℕ) → Request
+  Stat : (path : List ℕ) → Request
+  Read : (path : List ℕ) (offset count : ℕ) → Request
   Tree : Request
   Free : Request
   Faults : Request
   Report : Request
   Peek : (at : ℕ) → Request
+  Stop : (fuse : Fuse) (keep : Keep) → Request

@@ -1,8 +1,10 @@
 //! What a line of a script asks for.
 
+use nv_region::{Fuse, Keep};
+
 /// A command of a script.
 #[derive(Debug, PartialEq, Eq, Drop)]
-pub enum Command {
+pub enum Command<'a> {
     /// Make a region of `blocks` blocks, with `cpus` CPUs and `table_blocks` table blocks for each.
     Format {
         cpus: u64,
@@ -32,6 +34,20 @@ pub enum Command {
         workers: u64,
         schedule: Vec<u64>,
     },
+    /// Print the names of a directory.
+    ListNames {
+        path: &'a [u8],
+    },
+    /// Print the numbers of an inode.
+    Stat {
+        path: &'a [u8],
+    },
+    /// Print the bytes of a file from an offset on, at most so many.
+    Read {
+        path: &'a [u8],
+        offset: u64,
+        count: u64,
+    },
     /// Print the inodes in use.
     Tree,
     /// Print the free blocks of each CPU.
@@ -44,15 +60,20 @@ pub enum Command {
     Peek {
         at: u64,
     },
+    /// Let this fuse stop the next command, which then leaves what is to be kept.
+    Stop {
+        fuse: Fuse,
+        keep: Keep,
+    },
 }
 
 /// What a line is to a script.
 #[derive(Debug, PartialEq, Eq, Drop)]
-pub enum Line {
+pub enum Line<'a> {
     /// Empty, or a comment.
     Skipped,
     /// A command.
-    Command(Command),
+    Command(Command<'a>),
     /// Neither, or longer than a line may be.
     Bad,
 }

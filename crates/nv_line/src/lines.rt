@@ -21,7 +21,7 @@ fn is_skipped(line: &[u8]) -> bool
 
 /// What a line is, given without the byte 10 that ends it. A comment that is too long is bad.
 /// The error is a refused growth of the list of the line's words, or of a schedule.
-pub fn classify(alloc: Global, line: &[u8]) -> Result<Line, AllocError>
+pub fn classify(alloc: Global, line: &[u8]) -> Result<Line<'_>, AllocError>
     // Skipped, the command that the line spells, or bad.
     ensures { IfOk result (ReadsAs line.now) }
 {

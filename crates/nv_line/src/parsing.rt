@@ -20,19 +20,22 @@ pub(crate) fn words(alloc: Global, line: &[u8]) -> Result<Vec<&[u8]>, AllocError
 }
 
 #[tactic(auto, unfolding(crate::specs::Reading::request_of, crate::specs::Reading::request_of_words))]
-fn parse_line(alloc: Global, line: &[u8]) -> Result<Option<Command>, AllocError>
+fn parse_line(alloc: Global, line: &[u8]) -> Result<Option<Command<'_>>, AllocError>
     ensures { IfOk result (λ found. option_map view found ≡ request_of line.now) }
 {
     let words = words(alloc, line)?;
     match words.as_slice() {
         [] => Ok(None),
-        [name, words @ ..] => Ok(row_named(alloc, name, words)?.and_then(|row| row.command)),
+        [name, words @ ..] => match row_named(alloc, name, words)? {
+            Some(row) => Ok(row.command),
+            None => Ok(None),
+        },
     }
 }
 
 /// The command that a line spells, if it spells one. The error is a refused growth of the list of
 /// the line's words, or of a schedule.
-pub fn parse(alloc: Global, line: &[u8]) -> Result<Option<Command>, AllocError>
+pub fn parse(alloc: Global, line: &[u8]) -> Result<Option<Command<'_>>, AllocError>
     // What is found is spelled so.
     ensures found { IfOk result (λ found. IfSome found (λ command. Says line.now (view command))) }
     // What is spelled so is found, and no other command.

@@ -19,11 +19,15 @@ pub enum Form {
     Cut,
     Recover,
     Replay,
+    ListNames,
+    Stat,
+    Read,
     Tree,
     Free,
     Faults,
     Report,
     Peek,
+    Stop,
 }
 
 /// Why a line is bad.
@@ -51,11 +55,15 @@ impl Form {
             Form::Cut => "cut LENGTH",
             Form::Recover => "recover WORKERS",
             Form::Replay => "replay WORKERS w w ..",
+            Form::ListNames => "list PATH",
+            Form::Stat => "stat PATH",
+            Form::Read => "read PATH OFFSET COUNT",
             Form::Tree => "tree",
             Form::Free => "free",
             Form::Faults => "faults",
             Form::Report => "report",
             Form::Peek => "peek AT",
+            Form::Stop => "stop after|at N none|all|alternate",
         }
     }
 }
@@ -64,7 +72,10 @@ impl Form {
 fn form_named(alloc: Global, name: &[u8], words: &[&[u8]]) -> Result<Option<Form>, AllocError>
     ensures { IfOk result (λ form. form ≡ form_in rows name.now) }
 {
-    Ok(row_named(alloc, name, words)?.map(|row| row.form))
+    match row_named(alloc, name, words)? {
+        Some(row) => Ok(Some(row.form)),
+        None => Ok(None),
+    }
 }
 
 // By the words of a line.
@@ -106,7 +117,7 @@ impl fmt::Display for Reason {
                 f.write_str("it ends with a carriage return, byte 13; byte 10 alone ends a line")
             }
             Reason::NoCommand => f.write_str(
-                "expected time, format, recover, replay, poke, cut, tree, free, faults, report or peek",
+                "expected time, format, recover, replay, poke, cut, list, stat, read, tree, free, faults, report, peek or stop",
             ),
             Reason::Form(form) => write!(
                 f,

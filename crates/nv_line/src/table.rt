@@ -2,31 +2,34 @@
 
 ghost use Rattle.std.specs.Prelude.{◌≡◌, map, IfOk, option_map};
 ghost use Rattle.nv_line.specs.Reading.{read_by};
-ghost use Rattle.nv_line.specs.Table.{rows};
+ghost use Rattle.nv_line.specs.Table.{rows, more_rows};
 ghost use Rattle.nv_line.specs.View.{view};
 
 use crate::commands::Command;
 use crate::reasons::Form;
-use crate::shapes::{no_words, number_and_more, one_number, three_numbers, two_numbers};
+use crate::shapes::{
+    no_words, number_and_more, one_number, one_path, path_and_two_numbers, stop_words,
+    three_numbers, two_numbers,
+};
 use std::alloc::{AllocError, Global};
 
 /// What a name and the words behind it are read as.
 #[derive(Drop)]
-pub(crate) struct Row {
+pub(crate) struct Row<'a> {
     /// The form in which a user reads of the command.
     pub(crate) form: Form,
     /// The command, if the words are written so.
-    pub(crate) command: Option<Command>,
+    pub(crate) command: Option<Command<'a>>,
 }
 
 /// The row of the command with this name, if there is one, read by the words behind the name. The error is a refused growth of
 /// a schedule.
 #[tactic(auto, unfolding(crate::specs::Reading::read_by, crate::specs::Table::rows))]
-pub(crate) fn row_named(
+pub(crate) fn row_named<'a>(
     alloc: Global,
     name: &[u8],
-    words: &[&[u8]],
-) -> Result<Option<Row>, AllocError>
+    words: &[&'a [u8]],
+) -> Result<Option<Row<'a>>, AllocError>
     ensures { IfOk result (λ found. option_map (λ row. (row.form, option_map view row.command)) found ≡ read_by rows name.now (map (λ word. word.now) words.now)) }
 {
     if name == b"format".as_slice() {
@@ -103,6 +106,44 @@ pub(crate) fn row_named(
             command,
         }))
     } else {
-        Ok(None)
+        Ok(more_row_named(name, words))
+    }
+}
+
+// The same of stops and of the file calls.
+#[tactic(auto, unfolding(crate::specs::Reading::read_by, crate::specs::Table::more_rows))]
+fn more_row_named<'a>(name: &[u8], words: &[&'a [u8]]) -> Option<Row<'a>>
+    ensures { option_map (λ row. (row.form, option_map view row.command)) result ≡ read_by more_rows name.now (map (λ word. word.now) words.now) }
+{
+    if name == b"stop".as_slice() {
+        let command = stop_words(words).map(|(fuse, keep)| Command::Stop { fuse, keep });
+        Some(Row {
+            form: Form::Stop,
+            command,
+        })
+    } else if name == b"list".as_slice() {
+        let command = one_path(words).map(|path| Command::ListNames { path });
+        Some(Row {
+            form: Form::ListNames,
+            command,
+        })
+    } else if name == b"stat".as_slice() {
+        let command = one_path(words).map(|path| Command::Stat { path });
+        Some(Row {
+            form: Form::Stat,
+            command,
+        })
+    } else if name == b"read".as_slice() {
+        let command = path_and_two_numbers(words).map(|(path, offset, count)| Command::Read {
+            path,
+            offset,
+            count,
+        });
+        Some(Row {
+            form: Form::Read,
+            command,
+        })
+    } else {
+        None
     }
 }

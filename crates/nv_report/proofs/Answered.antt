@@ -1,5 +1,5 @@
 -- What a recovery's clauses say as an answer, and the numbers of a schedule in 32 bits, which name the same workers.
-use Rattle.std.proofs.Common.{◌≡◌, ℕ, ◌≤◌, ◌-◌, ◌^◌, Bool, true, false, nat_le, nat_lt, min, List, [], ◌∷◌, length, map, Some, None, refl, sym, subst, ◌∙◌, arith}
+use Rattle.std.proofs.Common.{◌≡◌, ℕ, ◌≤◌, ◌-◌, ◌^◌, Bool, true, false, nat_le, nat_lt, min, List, [], ◌∷◌, length, map, Option, Some, None, ◌≢◌, refl, sym, subst, ◌∙◌, arith}
 use Rattle.std.specs.List.{list_any, position_or_len}
 use Rattle.nv_region.specs.Region.{Region}
 use Rattle.nv_claimcore.specs.Replay.{first_stranger}
@@ -13,7 +13,7 @@ use Rattle.nv_recover.specs.declared.recovered.RecoverError.TheVariants as error
 use Rattle.nv_text.specs.declared.refusals.Refusal.{Refusal}
 use Rattle.nv_text.specs.declared.refusals.Refusal.TheVariants as refusals
 use Rattle.nv_report.specs.Workers.{is_worker_count, names_stranger}
-use Rattle.nv_report.specs.Answering.{refusal_of, IsToldAs, RefusesRecovery, MayAnswer, worker_number}
+use Rattle.nv_report.specs.Answering.{refusal_of, IsToldAs, EndsAs, RefusesRecovery, MayAnswer, MayEnd, ListsItsPools, worker_number}
 use Rattle.nv_report.specs.declared.recovery.Answer.{Answer}
 use Rattle.nv_report.specs.declared.recovery.Answer.TheVariants as answers
 
@@ -79,6 +79,14 @@ module _ (R R' : Region) (workers : ℕ) (schedule : List ℕ) where
   told_answers e bad stranger fails (answers.Recovered r) told = absurd told
   told_answers e bad stranger fails (answers.Refused refusal) told = refuses e bad stranger fails refusal told
 
+  -- an error as an answer, or a stop as none
+  pub ends : (e : RecoverError) → (IsBadCount workers → e ≡ errors.Workers) → ((place : ℕ) → (IsBadCount workers → ⊥) → first_stranger workers schedule ≡ Some place → e ≡ errors.Schedule place)
+      → Fails workers schedule e R R' → (answer : Option Answer) → EndsAs e answer → MayEnd R workers schedule answer R'
+  ends e bad stranger fails (Some answer) told = told_answers e bad stranger fails answer told
+  ends e bad stranger fails None stopped =
+      let good : IsBadCount workers → ⊥ = λ b. let w : errors.Stopped ≡ errors.Workers = sym stopped ∙ bad b in cc in
+      (good_count workers good, none_named workers schedule (λ place some. let w : errors.Stopped ≡ errors.Schedule place = sym stopped ∙ stranger place good some in cc), subst (λ (x : RecoverError). Fails workers schedule x R R') stopped fails)
+
 -- no error, so neither the workers nor the schedule are refused
 pub tests_pass : (workers : ℕ) (schedule : List ℕ) → (IsBadCount workers → ⊥) → ((place : ℕ) → (IsBadCount workers → ⊥) → first_stranger workers schedule ≡ Some place → ⊥)
     → (is_worker_count workers ≡ true) × (names_stranger workers schedule ≡ false)
@@ -115,6 +123,20 @@ module _ (R R' : Region) (workers : ℕ) (numbers schedule : List ℕ) (same : n
       → IsOutcome R (outcome_of r) → R' ≡ undone r.sup R → MayAnswer R workers schedule (answers.Recovered r) R'
   replayed r good none is rolled = let pass = tests_pass workers numbers good none in by_schedule (answers.Recovered r) (pass.0, pass.1, is, rolled)
 
-  pub replay_refused : (e : RecoverError) → (IsBadCount workers → e ≡ errors.Workers) → ((place : ℕ) → (IsBadCount workers → ⊥) → first_stranger workers numbers ≡ Some place → e ≡ errors.Schedule place)
-      → Fails workers numbers e R R' → (answer : Answer) → IsToldAs e answer → MayAnswer R workers schedule answer R'
-  replay_refused e bad stranger fails answer told = by_schedule answer (told_answers R R' workers numbers e bad stranger fails answer told)
+  pub replay_ends : (e : RecoverError) → (IsBadCount workers → e ≡ errors.Workers) → ((place : ℕ) → (IsBadCount workers → ⊥) → first_stranger workers numbers ≡ Some place → e ≡ errors.Schedule place)
+      → Fails workers numbers e R R' → (answer : Option Answer) → EndsAs e answer → MayEnd R workers schedule answer R'
+  replay_ends e bad stranger fails (Some answer) told = by_schedule answer (told_answers R R' workers numbers e bad stranger fails answer told)
+  replay_ends e bad stranger fails None stopped =
+      let h : MayEnd R workers (map worker_number schedule) None R' = subst (λ s. MayEnd R workers s None R') same (ends R R' workers numbers e bad stranger fails None stopped) in
+      (h.0, sym (same_strangers workers schedule (few workers h.0)) ∙ h.1, h.2)
+
+-- a memory without a fuse isn't stopped
+pub no_stop : (e : RecoverError) (answer : Option Answer) → (e ≡ errors.Stopped → ⊥) → EndsAs e answer → answer ≢ None
+no_stop e None unstopped stopped = λ _. unstopped stopped
+no_stop e (Some answer) unstopped told = λ none. (cc)
+
+-- an error has no lists
+pub no_lists : (e : RecoverError) (answer : Option Answer) → EndsAs e answer → ListsItsPools answer
+no_lists e None told = tt
+no_lists e (Some (answers.Recovered r)) told = absurd told
+no_lists e (Some (answers.Refused refusal)) told = tt

@@ -5,7 +5,10 @@ use Rattle.nv_outcome.specs.Outcome.{Outcome}
 use Rattle.nv_text.specs.Report.{region_line}
 use Rattle.nv_text.specs.Free.{free_lines}
 use Rattle.nv_text.specs.Faults.{faults_text}
-use Rattle.nv_report.specs.Texts.{row_head, IsContentText, IsRowText, IsTreeText, IsReportText, AddsText}
+use Rattle.nv_report.specs.Texts.{row_head, IsContentText, IsRowText, IsTreeText, IsReportText, IsPartText, AddsText}
+use Rattle.nv_super.specs.declared.owners.Owner.{Owner}
+use Rattle.nv_report.specs.declared.part.Part.{Part}
+use Rattle.nv_report.specs.declared.part.Part.TheVariants as parts
 
 -- the text of one inode more
 pub tree_snoc : (rows : List Row) (row : Row) (text more : List ℕ) → IsTreeText rows text → IsRowText row more → IsTreeText (rows ++ row ∷ []) (text ++ more)
@@ -37,3 +40,10 @@ adds_report o a b c d e head tree free faults =
     let t = tree.0 in
     let all : e ≡ (((a ++ r) ++ t) ++ f) ++ u = faults ∙ ap (λ x. x ++ u) (free ∙ ap (λ x. x ++ f) (tree.2 ∙ ap (λ x. x ++ t) head)) in
     (r ++ t ++ f ++ u, (t, tree.1, refl), all ∙ ap (λ x. x ++ f ++ u) (append_assoc a r t) ∙ ap (λ x. x ++ u) (append_assoc a (r ++ t) f) ∙ append_assoc a (r ++ t ++ f) u)
+
+-- no text tells of doubled blocks
+pub same_part : (part : Part) (o : Outcome) (doubled other : List (ℕ × Owner)) (text : List ℕ) → IsPartText part (record o { doubled = doubled }) text → IsPartText part (record o { doubled = other }) text
+same_part parts.Tree o doubled other text is = is
+same_part parts.Free o doubled other text is = is
+same_part parts.Faults o doubled other text is = is
+same_part parts.Report o doubled other text is = is

@@ -1,5 +1,5 @@
 -- What a recovery may answer, and what it leaves of the region.
-use Rattle.std.specs.Prelude.{◌≡◌, ◌⊎◌, ℕ, ◌*◌, ◌-◌, ◌^◌, min, Bool, true, false, IsTrue, List, Option, Some, None}
+use Rattle.std.specs.Prelude.{◌≡◌, ◌⊎◌, ℕ, ◌*◌, ◌-◌, ◌^◌, min, Bool, true, false, IsTrue, List, Option, Some, None, ⊤}
 use Rattle.nv_region.specs.Fuses.{FuseState}
 use Rattle.nv_region.specs.Region.{Region}
 use Rattle.nv_super.specs.declared.superblock.Super.{Super}
@@ -8,6 +8,7 @@ use Rattle.nv_super.specs.Super.{IsSuper, IsRefused}
 use Rattle.nv_journal.specs.Undo.{undone}
 use Rattle.nv_outcome.specs.Outcome.{IsOutcome}
 use Rattle.nv_recover.specs.Answer.{outcome_of}
+use Rattle.nv_recover.specs.Errors.{UndoesAsBefore}
 use Rattle.nv_recover.specs.declared.recovered.RecoverError.{RecoverError}
 use Rattle.nv_recover.specs.declared.recovered.RecoverError.TheVariants as errors
 use Rattle.nv_text.specs.declared.refusals.Refusal.{Refusal}
@@ -37,6 +38,11 @@ abbrev pub IsToldAs : RecoverError → Answer → Type 0
 IsToldAs error (answers.Recovered r) = ⊥
 IsToldAs error (answers.Refused refusal) = refusal_of error ≡ Some refusal
 
+-- the error is told as this answer, and a stop as none
+abbrev pub EndsAs : RecoverError → Option Answer → Type 0
+EndsAs error None = error ≡ errors.Stopped
+EndsAs error (Some answer) = IsToldAs error answer
+
 -- Why a recovery by so many workers and a schedule is refused: for the workers, else for the schedule, else for the
 -- superblock's first fault.
 abbrev pub RefusesRecovery : Region → ℕ → List ℕ → Refusal → Type 0
@@ -50,6 +56,17 @@ abbrev pub MayAnswer : Region → ℕ → List ℕ → Answer → Region → Typ
 MayAnswer old workers schedule (answers.Recovered r) new = (is_worker_count workers ≡ true) × (names_stranger workers schedule ≡ false)
     × IsOutcome old (outcome_of r) × (new ≡ undone r.sup old)
 MayAnswer old workers schedule (answers.Refused refusal) new = RefusesRecovery old workers schedule refusal × (new ≡ old)
+
+-- the same, or no answer: after a stop the region's journals are rolled back to what they would have been before
+abbrev pub MayEnd : Region → ℕ → List ℕ → Option Answer → Region → Type 0
+MayEnd old workers schedule (Some answer) new = MayAnswer old workers schedule answer new
+MayEnd old workers schedule None new = (is_worker_count workers ≡ true) × (names_stranger workers schedule ≡ false) × UndoesAsBefore old new
+
+-- the free lists that were found are those of the superblock that was found
+abbrev pub ListsItsPools : Option Answer → Type 0
+ListsItsPools (Some (answers.Recovered r)) = r.free.sup ≡ r.sup
+ListsItsPools (Some (answers.Refused refusal)) = ⊤
+ListsItsPools None = ⊤
 
 -- a number of a schedule in 32 bits: too large a one becomes the largest, which is no worker's either
 abbrev pub worker_number : ℕ → ℕ

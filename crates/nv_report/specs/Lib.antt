@@ -3,3 +3,4 @@ pub mod Workers
 pub mod Texts
 pub mod Answering
 pub mod Lengths
+pub mod Shown

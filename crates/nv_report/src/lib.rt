@@ -1,7 +1,7 @@
 //! A recovery as a script and a check tell it: what it answered, its texts, and the exit status that it leaves.
 //!
 //! `recovering` recovers a region, and answers what was found or why it is refused (`recovery`); `last` has how it went.
-//! `texts` shows a part of what was found (`part`), for which `rows` writes the inodes. `lengths` says for a user why a
+//! `texts` shows a part of what was found (`part`, `shown`), for which `rows` writes the inodes. `lengths` says for a user why a
 //! region's length is refused.
 #![tactic(auto)]
 
@@ -12,6 +12,7 @@ mod part;
 mod recovering;
 mod recovery;
 mod rows;
+mod shown;
 mod texts;
 
 pub use last::{Last, how_it_went};
@@ -19,6 +20,7 @@ pub use laws::{one_report, one_row_text};
 pub use lengths::{BadLength, LONGEST_REGION, is_region_length};
 pub use nv_recover::MOST_WORKERS;
 pub use part::Part;
-pub use recovering::{recover_region, replay_region};
+pub use recovering::{recover_or_stop, recover_region, replay_or_stop};
 pub use recovery::Answer;
-pub use texts::{part_text, recovered_text, refused_text};
+pub use shown::Shown;
+pub use texts::{part_text, recovered_text, refused_text, shown_text};

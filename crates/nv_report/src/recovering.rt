@@ -1,10 +1,10 @@
-//! Recoveries of a region in a memory that stops none, as the commands see them: nothing but want of memory prevents an answer.
+//! Recoveries of a region, as the commands see them: nothing but want of memory, or the memory's fuse, prevents an answer.
 
-ghost use Rattle.std.specs.Prelude.{◌≡◌, [], None, IfOk, OnErr, IsTrue, map};
+ghost use Rattle.std.specs.Prelude.{◌≡◌, ◌≢◌, [], None, IfOk, OnErr, IsTrue, map};
 ghost use Rattle.nv_region.specs.Fuses.{KeepsFuse};
 ghost use Rattle.nv_recover.specs.Behind.{BehindSystem};
 ghost use Rattle.nv_recover.specs.Errors.{AsBeforeOrUndone};
-ghost use Rattle.nv_report.specs.Answering.{TakesRecovery, MayAnswer, IsToldAs, refusal_of, worker_number};
+ghost use Rattle.nv_report.specs.Answering.{TakesRecovery, MayAnswer, MayEnd, ListsItsPools, IsToldAs, EndsAs, refusal_of, worker_number};
 
 use crate::recovery::Answer;
 use nv_recover::{RecoverError, recover, recover_replay};
@@ -33,21 +33,48 @@ pub fn recover_region<P: Pmem + Sync, H: Threads + Sync>(
     }
 }
 
-/// Recovers on this thread, the claims of so many workers made in the order of the schedule.
-pub fn replay_region<P: Pmem>(
+/// Recovers by so many workers on threads of their own. Nothing is answered where the memory's fuse burnt.
+pub fn recover_or_stop<P: Pmem + Sync, H: Threads + Sync>(
+    rt: &H,
+    alloc: Global,
+    memory: &mut P,
+    workers: u64,
+) -> Result<Option<Answer>, AllocError>
+    ensures ok { IfOk result (λ answer. MayEnd (P.region memory.old) workers [] answer (P.region memory.new)) }
+    ensures lists { IfOk result ListsItsPools }
+    ensures unstopped { IsTrue (P.fuse memory.old).is_steady → IfOk result (λ answer. answer ≢ None) }
+{
+    match recover(rt, alloc, memory, workers, &NoGate) {
+        Ok(recovered) => Ok(Some(Answer::Recovered(recovered))),
+        Err(error) => stopped_or_refused(error),
+    }
+}
+
+/// Recovers on this thread, the claims of so many workers made in the order of the schedule. Nothing is answered where the
+/// memory's fuse burnt.
+pub fn replay_or_stop<P: Pmem>(
     alloc: Global,
     memory: &mut P,
     workers: u64,
     schedule: &[u64],
-) -> Result<Answer, AllocError>
-    requires steady { IsTrue (P.fuse memory.old).is_steady }
-    ensures ok { IfOk result (λ answer. MayAnswer (P.region memory.old) workers schedule.now answer (P.region memory.new)) }
-    ensures steady { IsTrue (P.fuse memory.new).is_steady }
+) -> Result<Option<Answer>, AllocError>
+    ensures ok { IfOk result (λ answer. MayEnd (P.region memory.old) workers schedule.now answer (P.region memory.new)) }
+    ensures lists { IfOk result ListsItsPools }
+    ensures unstopped { IsTrue (P.fuse memory.old).is_steady → IfOk result (λ answer. answer ≢ None) }
 {
     let numbers = worker_numbers(alloc, schedule)?;
     match recover_replay(alloc, memory, workers, &numbers) {
-        Ok(recovered) => Ok(Answer::Recovered(recovered)),
-        Err(error) => refused(error),
+        Ok(recovered) => Ok(Some(Answer::Recovered(recovered))),
+        Err(error) => stopped_or_refused(error),
+    }
+}
+
+fn stopped_or_refused(error: RecoverError) -> Result<Option<Answer>, AllocError>
+    ensures { IfOk result (EndsAs error) }
+{
+    match error {
+        RecoverError::Stopped => Ok(None),
+        error => Ok(Some(refused(error)?)),
     }
 }
 

@@ -5,10 +5,12 @@ ghost use Rattle.nv_text.specs.Answers.{refused_line};
 ghost use Rattle.nv_text.specs.Refusals.{refusal_name};
 ghost use Rattle.nv_text.specs.Free.{free_lines};
 ghost use Rattle.nv_recover.specs.Answer.{outcome_of};
+ghost use Rattle.nv_report.specs.Shown.{shown_of};
 ghost use Rattle.nv_report.specs.Texts.{recovered_text, IsPartText, IsReportText, AddsText};
 
 use crate::part::Part;
 use crate::rows::push_rows;
+use crate::shown::Shown;
 use nv_alloc::Allocators;
 use nv_recover::Recovered;
 use nv_text::{
@@ -41,29 +43,36 @@ pub fn recovered_text(alloc: Global, recovered: &Recovered) -> Result<String, Al
 pub fn part_text(alloc: Global, recovered: &Recovered, part: Part) -> Result<String, AllocError>
     ensures { IfOk result (λ text. IsPartText part (outcome_of recovered.now) (string_bytes text)) }
 {
+    shown_text(alloc, &Shown::of(recovered), part)
+}
+
+/// A part of what is told of a region, or all of it.
+pub fn shown_text(alloc: Global, shown: &Shown<'_>, part: Part) -> Result<String, AllocError>
+    ensures { IfOk result (λ text. IsPartText part (shown_of shown.now) (string_bytes text)) }
+{
     let mut text = String::new(alloc);
-    push_part(&mut text, recovered, part)?;
+    push_part(&mut text, shown, part)?;
     Ok(text)
 }
 
-fn push_part(out: &mut String, recovered: &Recovered, part: Part) -> Result<(), AllocError>
-    ensures { OnOk result (AddsText (IsPartText part (outcome_of recovered.now)) (string_bytes out.old) (string_bytes out.new)) }
+fn push_part(out: &mut String, shown: &Shown<'_>, part: Part) -> Result<(), AllocError>
+    ensures { OnOk result (AddsText (IsPartText part (shown_of shown.now)) (string_bytes out.old) (string_bytes out.new)) }
 {
     match part {
-        Part::Tree => push_rows(out, &recovered.rows),
-        Part::Free => push_free(out, &recovered.free),
-        Part::Faults => push_faults(out, &recovered.faults),
-        Part::Report => push_report(out, recovered),
+        Part::Tree => push_rows(out, shown.rows),
+        Part::Free => push_free(out, shown.free),
+        Part::Faults => push_faults(out, shown.faults),
+        Part::Report => push_report(out, shown),
     }
 }
 
-fn push_report(out: &mut String, recovered: &Recovered) -> Result<(), AllocError>
-    ensures { OnOk result (AddsText (IsReportText (outcome_of recovered.now)) (string_bytes out.old) (string_bytes out.new)) }
+fn push_report(out: &mut String, shown: &Shown<'_>) -> Result<(), AllocError>
+    ensures { OnOk result (AddsText (IsReportText (shown_of shown.now)) (string_bytes out.old) (string_bytes out.new)) }
 {
-    push_region_line(out, &recovered.sup)?;
-    push_rows(out, &recovered.rows)?;
-    push_free(out, &recovered.free)?;
-    push_faults(out, &recovered.faults)
+    push_region_line(out, shown.sup)?;
+    push_rows(out, shown.rows)?;
+    push_free(out, shown.free)?;
+    push_faults(out, shown.faults)
 }
 
 fn push_free(out: &mut String, free: &Allocators) -> Result<(), AllocError>

@@ -1,2 +1,4 @@
 pub mod Moved
+pub mod Told
+pub mod Alike
 pub mod OneStep

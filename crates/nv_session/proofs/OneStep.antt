@@ -1,14 +1,22 @@
 -- Each command prints one text, and leaves one state.
-use Rattle.std.proofs.Common.{◌≡◌, ◌⊎◌, inl, inr, ℕ, Bool, true, false, Option, Some, None, List, [], ap, sym, ◌∙◌}
-use Rattle.std.specs.Prelude.{MatchBool}
-use Rattle.nv_region.specs.Region.{Region}
+use Rattle.std.proofs.Common.{◌≡◌, ◌⊎◌, inl, inr, ℕ, Bool, true, false, Option, Some, None, List, [], nat_le, refl, ap, sym, subst, ◌∙◌}
+use Rattle.nv_tree.specs.Tree as trees
+use Rattle.nv_tree.specs.Refusals.{Path}
+use Rattle.nv_tree.proofs.Texts.{says_one}
+use Rattle.nv_calls.specs.Seen.{tree_of}
+use Rattle.nv_session.proofs.Alike.{Alike, alike_rows, stat_one, names_one, bytes_one}
+use Rattle.std.specs.Prelude.{MatchBool, codes}
+use Rattle.nv_region.specs.Region.{Region, size, put}
+use Rattle.nv_region.specs.declared.memory.Fuse.{Fuse}
+use Rattle.nv_region.specs.declared.memory.Keep.{Keep}
+use Rattle.nv_report.specs.Workers.{is_worker_count, names_stranger}
 use Rattle.nv_super.specs.declared.superblock.SuperFault.{SuperFault}
 use Rattle.nv_journal.specs.Undo.{undone}
 use Rattle.nv_format.specs.Format as formats
 use Rattle.nv_format.specs.declared.formatting.FormatRefusal.{FormatRefusal}
 use Rattle.nv_format.proofs.OneAnswer.{one_refusal, not_prevented}
 use Rattle.nv_format.proofs.Determined.{formatted_only}
-use Rattle.nv_line.specs.Request.{Request, Format, Time, Poke, Cut, Recover, Replay, Tree, Free, Faults, Report, Peek}
+use Rattle.nv_line.specs.Request.{Request, Format, Time, Poke, Cut, Recover, Replay, ListNames, Stat, Read, Tree, Free, Faults, Report, Peek, Stop}
 use Rattle.nv_outcome.specs.Outcome.{Outcome}
 use Rattle.nv_outcome.specs.Same.{SameOutcome}
 use Rattle.nv_outcome.proofs.OnlyOne.{same_outcome}
@@ -19,7 +27,7 @@ use Rattle.nv_report.specs.Last.{how_it_went}
 use Rattle.nv_report.specs.declared.part.Part.{Part}
 use Rattle.nv_report.specs.declared.part.Part.TheVariants as parts
 use Rattle.nv_report.proofs.OneText.{recovered_one, part_one}
-use Rattle.nv_session.specs.Machine.{State, Step, RefusesSuper, Mounts, RecoversRegion, ShowsMounted, PokesRegion, CutsRegion, Formats}
+use Rattle.nv_session.specs.Machine.{State, Step, Does, IsRefusedAs, Replaces, Unmounts, front, MayStop, has_word, StopsRegion, StopsFormat, StopsRecovery, Recovers, Replays, ReadsMounted, TellsNames, TellsStat, TellsBytes, RefusesSuper, Mounts, RecoversRegion, ShowsMounted, PokesRegion, CutsRegion, Formats}
 
 -- one text and one state are told
 abbrev pub IsOne : (List ℕ → State → Type 0) → Type 0
@@ -82,16 +90,108 @@ mounted_one : (region : Option Region) (part : Part) (old : State) → IsOne (λ
 mounted_one None part old s t m n p q = given_one _ _ s t m n p q
 mounted_one (Some R) part old s t m n p q = (part_one part p.0 q.0 s t (same_outcome R p.0 q.0 p.1 q.1) p.2 q.2, p.3 ∙ sym q.3)
 
--- what a command prints and leaves
-pub step_one : (old : State) (request : Request) → IsOne (λ s m. Step old request s m)
-step_one old (Format cpus blocks tables) = format_one cpus blocks tables old
-step_one old (Time time) = given_one _ _
-step_one old (Poke at value) = poke_one old.region at value old
-step_one old (Cut length) = cut_one old.region length old
-step_one old (Recover workers) = recovery_one old.region workers [] old
-step_one old (Replay workers schedule) = recovery_one old.region workers schedule old
-step_one old Tree = mounted_one old.mounted parts.Tree old
-step_one old Free = mounted_one old.mounted parts.Free old
-step_one old Faults = mounted_one old.mounted parts.Faults old
-step_one old Report = mounted_one old.mounted parts.Report old
-step_one old (Peek at) = given_one _ _
+-- without a stop, a command that may be stopped
+may_one : (P Q : State → List ℕ → State → Type 0) (old : State) → IsOne (λ s m. P old s m) → IsOne (λ s m. MayStop false P Q old s m)
+may_one P Q old one s t m n (inl p) (inl q) = one s t m n p q
+may_one P Q old one s t m n (inl p) (inr q) = absurd (let never = q.0 in cc)
+may_one P Q old one s t m n (inr p) q = absurd (let never = p.0 in cc)
+
+-- a call that reads what is mounted
+reads_one : (Tells : trees.Tree → Path → List ℕ → Type 0) → ((t u : trees.Tree) → Alike t u → (p : Path) (text other : List ℕ) → Tells t p text → Tells u p other → text ≡ other)
+    → (mounted region : Option Region) (path : List ℕ) (old : State) → IsOne (λ s m. ReadsMounted Tells mounted region path old s m)
+reads_one Tells one None region path old s t m n p q = given_one _ _ s t m n p q
+reads_one Tells one (Some R) None path old s t m n p q = absurd p
+reads_one Tells one (Some R) (Some S) path old s t m n p q =
+    let alike = alike_rows S p.0.rows q.0.rows (same_outcome S p.0 q.0 p.1 q.1).rows in
+    let same = says_one path q.2 p.2 q.3 p.3 in
+    (one (tree_of S p.0.rows) (tree_of S q.0.rows) alike p.2 s t p.4 (subst (λ (x : Path). Tells (tree_of S q.0.rows) x t) same q.4), p.5 ∙ sym q.5)
+
+-- what a command prints and leaves that no stop was set for
+does_one : (old : State) (request : Request) → IsOne (λ s m. Does false request old s m)
+does_one old (Format cpus blocks tables) = may_one (Formats cpus blocks tables) (StopsFormat cpus blocks tables) old (format_one cpus blocks tables old)
+does_one old (Time time) = given_one _ _
+does_one old (Poke at value) = poke_one old.region at value old
+does_one old (Cut length) = cut_one old.region length old
+does_one old (Recover workers) = may_one (Recovers workers) (StopsRecovery workers []) old (recovery_one old.region workers [] old)
+does_one old (Replay workers schedule) = may_one (Replays workers schedule) (StopsRecovery workers schedule) old (recovery_one old.region workers schedule old)
+does_one old (ListNames path) = reads_one TellsNames names_one old.mounted old.region path old
+does_one old (Stat path) = reads_one TellsStat stat_one old.mounted old.region path old
+does_one old (Read path offset count) = reads_one (TellsBytes offset count) (λ t u alike. bytes_one t u alike offset count) old.mounted old.region path old
+does_one old Tree = mounted_one old.mounted parts.Tree old
+does_one old Free = mounted_one old.mounted parts.Free old
+does_one old Faults = mounted_one old.mounted parts.Faults old
+does_one old Report = mounted_one old.mounted parts.Report old
+does_one old (Peek at) = given_one _ _
+does_one old (Stop fuse keep) = given_one _ _
+
+-- the same of a state
+pub step_one : (old : State) (request : Request) → old.armed ≡ false → IsOne (λ s m. Step old request s m)
+step_one old request unarmed = subst (λ (b : Bool). IsOne (λ s m. Does b request (record old { armed = false }) s m)) (sym unarmed) (does_one (record old { armed = false }) request)
+
+-- ---- what is armed
+
+abbrev armed_of : State → Bool
+armed_of s = s.armed
+
+shown_unarmed : (mounted : Option Region) (part : Part) (old m : State) (s : List ℕ) → ShowsMounted mounted part old s m → m.armed ≡ old.armed
+shown_unarmed None part old m s h = ap armed_of h.1
+shown_unarmed (Some R) part old m s h = ap armed_of h.3
+
+read_unarmed : (Tells : trees.Tree → Path → List ℕ → Type 0) (mounted region : Option Region) (path : List ℕ) (old m : State) (s : List ℕ) → ReadsMounted Tells mounted region path old s m → m.armed ≡ old.armed
+read_unarmed Tells None region path old m s h = ap armed_of h.1
+read_unarmed Tells (Some R) None path old m s h = absurd h
+read_unarmed Tells (Some R) (Some S) path old m s h = ap armed_of h.5
+
+formatted_unarmed : (a : Bool) (cpus blocks tables : ℕ) (old m : State) (s : List ℕ) → MayStop a (Formats cpus blocks tables) (StopsFormat cpus blocks tables) old s m → m.armed ≡ old.armed
+formatted_unarmed a cpus blocks tables old m s (inl (inl h)) = ap armed_of h.3.1
+formatted_unarmed a cpus blocks tables old m s (inl (inr h)) = ap armed_of h.3
+formatted_unarmed a cpus blocks tables old m s (inr h) = ap armed_of h.1.5
+
+by_test : (b : Bool) (P Q : List ℕ → State → Type 0) (old m : State) (s : List ℕ) → (P s m → m.armed ≡ old.armed) → (Q s m → m.armed ≡ old.armed) → MatchBool b (P s m) (Q s m) → m.armed ≡ old.armed
+by_test true P Q old m s one other h = one h
+by_test false P Q old m s one other h = other h
+
+poked_unarmed : (region : Option Region) (at value : ℕ) (old m : State) (s : List ℕ) → PokesRegion region at value old s m → m.armed ≡ old.armed
+poked_unarmed None at value old m s h = ap armed_of h.1
+poked_unarmed (Some R) at value old m s h = by_test (has_word R at) (λ s m. Replaces (put R at value) old s m) (λ s m. IsRefusedAs (codes "Address") old s m) old m s (λ h. ap armed_of h.1) (λ h. ap armed_of h.1) h
+
+cut_unarmed : (region : Option Region) (length : ℕ) (old m : State) (s : List ℕ) → CutsRegion region length old s m → m.armed ≡ old.armed
+cut_unarmed None length old m s h = ap armed_of h.1
+cut_unarmed (Some R) length old m s h = by_test (nat_le length (size R)) (λ s m. Replaces (front R length) old s m) (λ s m. IsRefusedAs (codes "Length") old s m) old m s (λ h. ap armed_of h.1) (λ h. ap armed_of h.1) h
+
+told_unarmed : (R : Region) (old m : State) (s : List ℕ) → RefusesSuper R old s m ⊎ Mounts R old s m → m.armed ≡ old.armed
+told_unarmed R old m s (inl h) = ap armed_of h.2.1
+told_unarmed R old m s (inr h) = ap armed_of h.3
+
+recovered_unarmed : (region : Option Region) (workers : ℕ) (schedule : List ℕ) (old m : State) (s : List ℕ) → RecoversRegion region workers schedule old s m → m.armed ≡ old.armed
+recovered_unarmed None workers schedule old m s h = ap armed_of h.1
+recovered_unarmed (Some R) workers schedule old m s h =
+    let accepted : List ℕ → State → Type 0 = λ s m. MatchBool (names_stranger workers schedule) (Unmounts (codes "Schedule") old s m) (RefusesSuper R old s m ⊎ Mounts R old s m) in
+    by_test (is_worker_count workers) accepted (λ s m. Unmounts (codes "Workers") old s m) old m s
+    (λ h. by_test (names_stranger workers schedule) (λ s m. Unmounts (codes "Schedule") old s m) (λ s m. RefusesSuper R old s m ⊎ Mounts R old s m) old m s (λ h. ap armed_of h.1) (told_unarmed R old m s) h) (λ h. ap armed_of h.1) h
+
+stopped_unarmed : (region : Option Region) (workers : ℕ) (schedule : List ℕ) (old m : State) (s : List ℕ) → StopsRegion region workers schedule old s m → m.armed ≡ old.armed
+stopped_unarmed None workers schedule old m s h = absurd h
+stopped_unarmed (Some R) workers schedule old m s h = ap armed_of h.5
+
+recovery_unarmed : (a : Bool) (workers : ℕ) (schedule : List ℕ) (old m : State) (s : List ℕ) → MayStop a (Replays workers schedule) (StopsRecovery workers schedule) old s m → m.armed ≡ old.armed
+recovery_unarmed a workers schedule old m s (inl h) = recovered_unarmed old.region workers schedule old m s h
+recovery_unarmed a workers schedule old m s (inr h) = stopped_unarmed old.region workers schedule old m s h.1
+
+-- no other command than `stop` arms
+pub does_unarmed : (a : Bool) (request : Request) → ((fuse : Fuse) (keep : Keep) → request ≡ Stop fuse keep → ⊥) → (old m : State) (s : List ℕ) → Does a request old s m → m.armed ≡ old.armed
+does_unarmed a (Format cpus blocks tables) other old m s h = formatted_unarmed a cpus blocks tables old m s h
+does_unarmed a (Time time) other old m s h = ap armed_of h.1
+does_unarmed a (Poke at value) other old m s h = poked_unarmed old.region at value old m s h
+does_unarmed a (Cut length) other old m s h = cut_unarmed old.region length old m s h
+does_unarmed a (Recover workers) other old m s h = recovery_unarmed a workers [] old m s h
+does_unarmed a (Replay workers schedule) other old m s h = recovery_unarmed a workers schedule old m s h
+does_unarmed a (ListNames path) other old m s h = read_unarmed TellsNames old.mounted old.region path old m s h
+does_unarmed a (Stat path) other old m s h = read_unarmed TellsStat old.mounted old.region path old m s h
+does_unarmed a (Read path offset count) other old m s h = read_unarmed (TellsBytes offset count) old.mounted old.region path old m s h
+does_unarmed a Tree other old m s h = shown_unarmed old.mounted parts.Tree old m s h
+does_unarmed a Free other old m s h = shown_unarmed old.mounted parts.Free old m s h
+does_unarmed a Faults other old m s h = shown_unarmed old.mounted parts.Faults old m s h
+does_unarmed a Report other old m s h = shown_unarmed old.mounted parts.Report old m s h
+does_unarmed a (Peek at) other old m s h = ap armed_of h.1
+does_unarmed a (Stop fuse keep) other old m s h = absurd (other fuse keep refl)

@@ -1,17 +1,31 @@
 -- The machine that a script runs: its state, and what each command may print and leave.
-use Rattle.std.specs.Prelude.{◌≡◌, ◌≢◌, ◌⊎◌, ◌+◌, ◌*◌, ◌%◌, ℕ, Bool, ◌&&◌, ◌==◌, nat_le, MatchBool, if◌then◌else◌, List, [], replicate, take, Option, Some, None, codes}
+use Rattle.std.specs.Prelude.{IsTrue, true, false, not, flat_map, ◌≡◌, ◌≢◌, ◌⊎◌, ◌+◌, ◌*◌, ◌%◌, ℕ, Bool, ◌&&◌, ◌==◌, nat_le, MatchBool, if◌then◌else◌, List, [], replicate, take, Option, Some, None, codes}
 use Rattle.nv_region.specs.Region.{Region, size, word, put, region_of, bytes_of}
+use Rattle.nv_region.specs.RegionState.{is_off}
+use Rattle.nv_region.specs.declared.memory.Fuse.{Fuse}
 use Rattle.nv_super.specs.declared.superblock.SuperFault.{SuperFault}
 use Rattle.nv_super.specs.Super.{IsRefused}
 use Rattle.nv_journal.specs.Undo.{undone}
 use Rattle.nv_outcome.specs.Outcome.{Outcome, IsOutcome}
-use Rattle.nv_format.specs.Format.{IsFormatRefusal, IsFormatted, fresh_super}
+use Rattle.nv_format.specs.Format.{IsFormatRefusal, CanFormat, IsFormatted, FormatLeaves, fresh_super}
 use Rattle.nv_format.specs.Format as formats
 use Rattle.nv_format.specs.declared.formatting.FormatRefusal.{FormatRefusal}
 use Rattle.nv_format.specs.declared.formatting.FormatRefusal.TheVariants.{Stopped}
-use Rattle.nv_line.specs.Request.{Request, Format, Time, Poke, Cut, Recover, Replay, Tree, Free, Faults, Report, Peek}
+use Rattle.nv_line.specs.Request.{Request, Format, Time, Poke, Cut, Recover, Replay, ListNames, Stat, Read, Tree, Free, Faults, Report, Peek, Stop}
 use Rattle.nv_super.specs.FaultText.{super_fault_name}
-use Rattle.nv_text.specs.Answers.{ok_line, refused_line, word_line}
+use Rattle.nv_tree.specs.Path.{Says}
+use Rattle.nv_tree.specs.Tree as trees
+use Rattle.nv_tree.specs.Refusals.{Path, Tests, first_refusal, refusal_word, list_tests, stat_tests, read_tests}
+use Rattle.nv_tree.specs.declared.refusal.Refusal.{Refusal}
+use Rattle.nv_calls.specs.Seen.{tree_of}
+use Rattle.nv_calls.specs.Stat.{IsStat}
+use Rattle.nv_calls.specs.Reading.{IsRead}
+use Rattle.nv_calls.specs.Listing.{ListsNamesIn}
+use Rattle.nv_calls.specs.declared.stating.Stat as stats
+use Rattle.nv_text.specs.Answers.{ok_line, refused_line, stopped_line, word_line}
+use Rattle.nv_text.specs.Names.{list_line, data_line}
+use Rattle.nv_text.specs.Report.{stat_line}
+use Rattle.nv_text.specs.declared.inodes.Attributes.{Attributes}
 use Rattle.nv_report.specs.Texts.{recovered_text, IsPartText}
 use Rattle.nv_report.specs.Workers.{is_worker_count, names_stranger}
 use Rattle.nv_report.specs.Last.{how_it_went}
@@ -20,17 +34,19 @@ use Rattle.nv_report.specs.declared.part.Part.TheVariants as parts
 use Rattle.nv_report.specs.declared.last.Last.{Last}
 use Rattle.nv_report.specs.declared.last.Last.TheVariants.{Sound, Refused}
 
--- What a script has made so far: a region, the region whose outcome the mount shows, the current time, and how the last
--- recovery went.
+-- What a script has made so far: a region, the region whose outcome the mount shows, the current time, how the last recovery
+-- went, and whether the next command may be stopped.
 pub record State : Type 0 where
   pub region : Option Region
   pub mounted : Option Region
   pub time : ℕ
   pub last : Last
+  -- the next command may be stopped
+  pub armed : Bool
 
 -- before the first line
 abbrev pub first_state : State
-first_state = record { region = None; mounted = None; time = 0; last = Sound }
+first_state = record { region = None; mounted = None; time = 0; last = Sound; armed = false }
 
 -- the command prints this, and leaves all as it was
 abbrev pub Answers : List ℕ → State → List ℕ → State → Type 0
@@ -140,16 +156,92 @@ CutsRegion (Some R) length old text new = MatchBool (nat_le length (size R)) (Re
 abbrev pub Cuts : ℕ → State → List ℕ → State → Type 0
 Cuts length old text new = CutsRegion old.region length old text new
 
--- What a command may print and leave.
+-- ---- stops
+
+-- the command is done, or it is stopped, where it may be
+abbrev pub MayStop : Bool → (State → List ℕ → State → Type 0) → (State → List ℕ → State → Type 0) → State → List ℕ → State → Type 0
+MayStop armed Done Ends old text new = Done old text new ⊎ (IsTrue armed × Ends old text new)
+
+-- `stop` lets the next command be stopped by a fuse
+abbrev pub Arms : Fuse → State → List ℕ → State → Type 0
+Arms fuse old text new = (text ≡ ok_line) × (new ≡ record old { armed = not (is_off fuse) })
+
+-- A format that isn't refused is stopped: what it leaves of the zeros is the region, of which nothing is mounted.
+abbrev pub StopsFormat : ℕ → ℕ → ℕ → State → List ℕ → State → Type 0
+StopsFormat cpus blocks tables old text new = CanFormat (zeros blocks) cpus tables × (R : Region) × (size R ≡ size (zeros blocks))
+    × FormatLeaves (zeros blocks) (fresh_super (zeros blocks) cpus tables) old.time R
+    × (text ≡ stopped_line) × (new ≡ record old { region = Some R; mounted = None })
+
+-- A recovery of the region that there is, which isn't refused for its workers or its schedule, is stopped: it leaves a region
+-- of the same length, and nothing is mounted.
+abbrev pub StopsRegion : Option Region → ℕ → List ℕ → State → List ℕ → State → Type 0
+StopsRegion None workers schedule old text new = ⊥
+StopsRegion (Some R) workers schedule old text new = (is_worker_count workers ≡ true) × (names_stranger workers schedule ≡ false)
+    × (S : Region) × (size S ≡ size R) × (text ≡ stopped_line) × (new ≡ record old { region = Some S; mounted = None; last = Refused })
+
+-- the same of the region of a state
+abbrev pub StopsRecovery : ℕ → List ℕ → State → List ℕ → State → Type 0
+StopsRecovery workers schedule old text new = StopsRegion old.region workers schedule old text new
+
+-- ---- file calls
+
+-- the call is refused by the first test that holds
+abbrev pub TellsRefusal : Tests → List ℕ → Type 0
+TellsRefusal tests text = (refusal : Refusal) × (first_refusal tests ≡ Some refusal) × (text ≡ refused_line (refusal_word refusal))
+
+-- the numbers of an inode, as they are printed
+abbrev pub attributes_of : stats.Stat → Attributes
+attributes_of s = record { inode = s.inode; kind = s.kind; mode = s.mode; owner = s.owner; group = s.group; size = s.size; links = s.links; time = s.time }
+
+-- `stat` is refused, or tells the numbers of the inode that the path leads to
+abbrev pub TellsStat : trees.Tree → Path → List ℕ → Type 0
+TellsStat t p text = TellsRefusal (stat_tests t p) text
+    ⊎ ((names : List (List ℕ)) × (p ≡ Some names) × (first_refusal (stat_tests t p) ≡ None) × (s : stats.Stat) × IsStat t names s × (text ≡ stat_line (attributes_of s)))
+
+-- a line for each name
+abbrev pub list_lines : List (List ℕ × ℕ) → List ℕ
+list_lines lines = flat_map (λ (x : List ℕ × ℕ). list_line x.0 x.1) lines
+
+-- `list` is refused, or tells the names of the directory that the path leads to
+abbrev pub TellsNames : trees.Tree → Path → List ℕ → Type 0
+TellsNames t p text = TellsRefusal (list_tests t p) text
+    ⊎ ((names : List (List ℕ)) × (p ≡ Some names) × (first_refusal (list_tests t p) ≡ None) × (lines : List (List ℕ × ℕ)) × ListsNamesIn t names lines × (text ≡ list_lines lines))
+
+-- `read` is refused, or tells the bytes of the file that the path leads to
+abbrev pub TellsBytes : ℕ → ℕ → trees.Tree → Path → List ℕ → Type 0
+TellsBytes offset count t p text = TellsRefusal (read_tests t p) text
+    ⊎ ((names : List (List ℕ)) × (p ≡ Some names) × (first_refusal (read_tests t p) ≡ None) × (bytes : List ℕ) × IsRead t names offset count bytes × (text ≡ data_line bytes))
+
+-- A call that only reads: of a region that is mounted it tells what the tree of the rows of its outcome shows.
+abbrev pub ReadsMounted : (trees.Tree → Path → List ℕ → Type 0) → Option Region → Option Region → List ℕ → State → List ℕ → State → Type 0
+ReadsMounted Tells None region path old text new = IsRefusedAs (codes "NotMounted") old text new
+ReadsMounted Tells (Some R) None path old text new = ⊥
+ReadsMounted Tells (Some R) (Some S) path old text new = (o : Outcome) × IsOutcome S o × (p : Path) × Says path p × Tells (tree_of S o.rows) p text × (new ≡ old)
+
+-- the same of the region of a state
+abbrev pub Reads : (trees.Tree → Path → List ℕ → Type 0) → List ℕ → State → List ℕ → State → Type 0
+Reads Tells path old text new = ReadsMounted Tells old.mounted old.region path old text new
+
+-- ---- commands
+
+-- What a command may print and leave, where it may be stopped or not.
+abbrev pub Does : Bool → Request → State → List ℕ → State → Type 0
+Does armed (Format cpus blocks tables) old text new = MayStop armed (Formats cpus blocks tables) (StopsFormat cpus blocks tables) old text new
+Does armed (Time time) old text new = SetsTime time old text new
+Does armed (Poke at value) old text new = Pokes at value old text new
+Does armed (Cut length) old text new = Cuts length old text new
+Does armed (Recover workers) old text new = MayStop armed (Recovers workers) (StopsRecovery workers []) old text new
+Does armed (Replay workers schedule) old text new = MayStop armed (Replays workers schedule) (StopsRecovery workers schedule) old text new
+Does armed (ListNames path) old text new = Reads TellsNames path old text new
+Does armed (Stat path) old text new = Reads TellsStat path old text new
+Does armed (Read path offset count) old text new = Reads (TellsBytes offset count) path old text new
+Does armed Tree old text new = ShowsPart parts.Tree old text new
+Does armed Free old text new = ShowsPart parts.Free old text new
+Does armed Faults old text new = ShowsPart parts.Faults old text new
+Does armed Report old text new = ShowsPart parts.Report old text new
+Does armed (Peek at) old text new = Peeks at old text new
+Does armed (Stop fuse keep) old text new = Arms fuse old text new
+
+-- What a command may print and leave. It may be stopped only right after a `stop`.
 abbrev pub Step : State → Request → List ℕ → State → Type 0
-Step old (Format cpus blocks tables) text new = Formats cpus blocks tables old text new
-Step old (Time time) text new = SetsTime time old text new
-Step old (Poke at value) text new = Pokes at value old text new
-Step old (Cut length) text new = Cuts length old text new
-Step old (Recover workers) text new = Recovers workers old text new
-Step old (Replay workers schedule) text new = Replays workers schedule old text new
-Step old Tree text new = ShowsPart parts.Tree old text new
-Step old Free text new = ShowsPart parts.Free old text new
-Step old Faults text new = ShowsPart parts.Faults old text new
-Step old Report text new = ShowsPart parts.Report old text new
-Step old (Peek at) text new = Peeks at old text new
+Step old request text new = Does old.armed request (record old { armed = false }) text new

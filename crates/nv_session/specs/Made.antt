@@ -1,13 +1,15 @@
 -- What making a region may answer.
-use Rattle.std.specs.Prelude.{◌≢◌, IsTrue, ℕ}
-use Rattle.nv_region.specs.RegionState.{is_steady}
-use Rattle.nv_format.specs.Format.{IsFormatRefusal, IsFormatted, fresh_super}
+use Rattle.std.specs.Prelude.{◌≡◌, ◌≢◌, IsTrue, ℕ, Bool}
+use Rattle.nv_region.specs.Region.{size}
+use Rattle.nv_format.specs.Format.{IsFormatRefusal, CanFormat, IsFormatted, FormatLeaves, fresh_super}
 use Rattle.nv_format.specs.declared.formatting.FormatRefusal.TheVariants.{Stopped}
 use Rattle.nv_session.specs.Machine.{zeros}
 use Rattle.nv_session.specs.declared.making.Made as making
 use Rattle.nv_session.specs.declared.making.Made.TheVariants as made
 
--- a formatted region without a fuse, or the first refusal that applies, which is no stop
-abbrev pub MayMake : ℕ → ℕ → ℕ → ℕ → making.Made → Type 0
-MayMake cpus blocks tables time (made.Region memory) = IsFormatted (zeros blocks) memory.region (fresh_super (zeros blocks) cpus tables) time × IsTrue (is_steady memory)
-MayMake cpus blocks tables time (made.Refused refusal) = IsFormatRefusal (zeros blocks) cpus tables refusal × (refusal ≢ Stopped)
+-- a formatted region, or the first refusal that applies, which is no stop, or what a stop left, where it may come
+abbrev pub MayMake : Bool → ℕ → ℕ → ℕ → ℕ → making.Made → Type 0
+MayMake armed cpus blocks tables time (made.Region memory) = IsFormatted (zeros blocks) memory.region (fresh_super (zeros blocks) cpus tables) time
+MayMake armed cpus blocks tables time (made.Refused refusal) = IsFormatRefusal (zeros blocks) cpus tables refusal × (refusal ≢ Stopped)
+MayMake armed cpus blocks tables time (made.Stopped memory) = IsTrue armed × CanFormat (zeros blocks) cpus tables × (size memory.region ≡ size (zeros blocks))
+    × FormatLeaves (zeros blocks) (fresh_super (zeros blocks) cpus tables) time memory.region

@@ -1,43 +1,69 @@
 -- The states that a session may stand for, and how a command leads from one to the next.
-use Rattle.std.specs.Prelude.{◌≡◌, ℕ, List, Option, Some, None, ⊤, option_map, option_and_then}
-use Rattle.nv_region.specs.Region.{Region}
+use Rattle.std.specs.Prelude.{◌≡◌, ℕ, Bool, not, false, List, Option, Some, None, ⊤}
+use Rattle.nv_region.specs.Region.{Region, size}
+use Rattle.nv_region.specs.RegionState.{RegionState, is_off}
+use Rattle.nv_super.specs.declared.owners.Owner.{Owner}
+use Rattle.nv_journal.specs.Undo.{undone}
 use Rattle.nv_outcome.specs.Outcome.{IsOutcome}
+use Rattle.nv_outcome.specs.Same.{lasting_outcome}
 use Rattle.nv_recover.specs.Answer.{outcome_of}
 use Rattle.nv_recover.specs.declared.recovered.Recovered.{Recovered}
-use Rattle.nv_text.specs.Answers.{refused_line}
+use Rattle.nv_text.specs.Answers.{refused_line, stopped_line}
 use Rattle.nv_text.specs.Refusals.{refusal_name}
 use Rattle.nv_report.specs.Last.{how_it_went}
-use Rattle.nv_session.specs.Machine.{State}
 use Rattle.nv_report.specs.Texts.{recovered_text}
 use Rattle.nv_report.specs.declared.recovery.Answer.{Answer}
 use Rattle.nv_report.specs.declared.recovery.Answer.TheVariants as answers
-use Rattle.nv_report.specs.declared.last.Last.{Last}
 use Rattle.nv_report.specs.declared.last.Last.TheVariants as lasts
+use Rattle.nv_calls.specs.Mount.{Mount, told}
+use Rattle.nv_session.specs.Machine.{State}
 use Rattle.nv_session.specs.declared.store.Store.{Store}
+use Rattle.nv_session.specs.declared.store.Store.TheVariants as stores
+use Rattle.nv_session.specs.declared.stop.Stop as stops
 use Rattle.nv_session.specs.declared.session.Session.{Session}
+
+-- the memory of a region, alone or mounted
+abbrev pub memory_in : Store → RegionState
+memory_in (stores.Alone memory) = memory
+memory_in (stores.Mounted mount) = mount.memory
 
 -- the region that there is
 abbrev pub region_in : Option Store → Option Region
-region_in store = option_map (λ (s : Store). s.memory.region) store
+region_in None = None
+region_in (Some store) = Some (memory_in store).region
 
--- what the mount shows
-abbrev pub shown_in : Option Store → Option Recovered
-shown_in store = option_and_then (λ (s : Store). s.shown) store
+-- what is mounted
+abbrev pub mount_in : Option Store → Option (Mount RegionState)
+mount_in None = None
+mount_in (Some (stores.Alone memory)) = None
+mount_in (Some (stores.Mounted mount)) = Some mount
 
--- nothing is mounted, or what is shown is the outcome of the mounted region
-abbrev pub IsMountOf : Option Region → Option Recovered → Type 0
+-- it may come
+abbrev pub is_armed : stops.Stop → Bool
+is_armed stop = not (is_off stop.fuse)
+
+-- What a mount shows is the outcome of the first region. Its own region has the same outcome, but for pending records.
+pub record ShowsOutcome (R : Region) (m : Mount RegionState) : Type 0 where
+  pub doubled : List (ℕ × Owner)
+  pub shown : IsOutcome R (told m.sup m.rows m.free doubled m.faults)
+  pub here : IsOutcome m.memory.region (lasting_outcome (told m.sup m.rows m.free doubled m.faults))
+  pub runs : m.stopped ≡ false
+
+-- nothing is mounted, or what is mounted shows the outcome of the mounted region
+abbrev pub IsMountOf : Option Region → Option (Mount RegionState) → Type 0
 IsMountOf None None = ⊤
-IsMountOf None (Some recovered) = ⊥
+IsMountOf None (Some m) = ⊥
 IsMountOf (Some R) None = ⊥
-IsMountOf (Some R) (Some recovered) = IsOutcome R (outcome_of recovered)
+IsMountOf (Some R) (Some m) = ShowsOutcome R m
 
--- The session has the state's region, time and last recovery, and shows the outcome of the region that is mounted. That
+-- The session has the state's region, time, last recovery and stop, and shows the outcome of the region that is mounted. That
 -- region itself isn't kept: the session stands for each state whose mounted region has the outcome that is shown.
 pub record StandsFor (s : Session) (state : State) : Type 0 where
   pub region : state.region ≡ region_in s.store
-  pub mounted : IsMountOf state.mounted (shown_in s.store)
+  pub mounted : IsMountOf state.mounted (mount_in s.store)
   pub time : state.time ≡ s.time
   pub last : state.last ≡ s.last
+  pub armed : state.armed ≡ is_armed s.stop
 
 -- from each state that the first session stands for, such a step leads to one that the second stands for
 abbrev pub Leads : (State → State → Type 0) → Session → Session → Type 0
@@ -47,25 +73,29 @@ Leads step old new = (state : State) → StandsFor old state → (next : State) 
 abbrev pub Moves : (State → List ℕ → State → Type 0) → Session → List ℕ → Session → Type 0
 Moves step old text new = Leads (λ state next. step state text next) old new
 
--- what is printed of a recovery's answer
-abbrev pub answer_text : Answer → List ℕ
-answer_text (answers.Recovered r) = recovered_text (outcome_of r)
-answer_text (answers.Refused refusal) = refused_line (refusal_name refusal)
+-- a region that was recovered can be mounted
+abbrev pub CanMount : Region → Option Answer → Type 0
+CanMount R None = ⊤
+CanMount R (Some (answers.Refused refusal)) = ⊤
+CanMount R (Some (answers.Recovered r)) = IsOutcome R (lasting_outcome (outcome_of r)) × (undone r.sup R ≡ R) × (r.free.sup ≡ r.sup)
 
--- what is mounted by it
-abbrev pub shown_by : Answer → Option Recovered
-shown_by (answers.Recovered r) = Some r
-shown_by (answers.Refused refusal) = None
-
--- how it went
-abbrev pub last_by : Answer → Last
-last_by (answers.Recovered r) = how_it_went r.faults.items
-last_by (answers.Refused refusal) = lasts.Refused
-
--- the region is put back, and the answer is mounted and printed
-pub record Settles (R : Region) (answer : Answer) (old : Session) (said : List ℕ) (new : Session) : Type 0 where
-  pub text : said ≡ answer_text answer
-  pub region : region_in new.store ≡ Some R
-  pub shown : shown_in new.store ≡ shown_by answer
+-- A region is mounted with what a recovery found in it.
+pub record Mounts (R : Region) (r : Recovered) (old new : Session) : Type 0 where
+  pub mount : Mount RegionState
+  pub store : new.store ≡ Some (stores.Mounted mount)
+  pub region : mount.memory.region ≡ R
+  pub told : told mount.sup mount.rows mount.free r.doubled.items mount.faults ≡ outcome_of r
+  pub runs : mount.stopped ≡ false
   pub time : new.time ≡ old.time
-  pub last : new.last ≡ last_by answer
+  pub last : new.last ≡ how_it_went r.faults.items
+  pub stop : new.stop ≡ old.stop
+
+-- a memory is put in, of which nothing is mounted, since the recovery failed
+abbrev pub Fails : RegionState → Session → Session → Type 0
+Fails memory old new = new ≡ record old { store = Some (stores.Alone memory); last = lasts.Refused }
+
+-- The region is put back behind a recovery, and the answer is mounted and printed. After a stop another of its length is.
+abbrev pub Settles : Region → Option Answer → Session → List ℕ → Session → Type 0
+Settles R (Some (answers.Recovered r)) old said new = (said ≡ recovered_text (outcome_of r)) × Mounts R r old new
+Settles R (Some (answers.Refused refusal)) old said new = (said ≡ refused_line (refusal_name refusal)) × (memory : RegionState) × (memory.region ≡ R) × Fails memory old new
+Settles R None old said new = (said ≡ stopped_line) × (memory : RegionState) × (size memory.region ≡ size R) × Fails memory old new

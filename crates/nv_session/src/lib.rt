@@ -1,12 +1,15 @@
 //! Sessions: what the commands of a script have made so far.
 //!
 //! `session` has a method for each command, which answers the text that the command prints. `making` makes a region, `store`
-//! keeps it with what the mount shows, and `texts` has the answers that tell of no recovery.
+//! keeps it, alone or mounted, and `stop` is a stop that is set for the next command. `files` has what the file calls print, and
+//! `texts` the answers that tell of no recovery.
 #![tactic(auto)]
 
+mod files;
 mod laws;
 mod making;
 mod session;
+mod stop;
 mod store;
 mod texts;
 

@@ -3,18 +3,22 @@
 //! A method answers the text that its command prints, whole, and leaves what the command leaves. After want of memory the
 //! script ends, and what the session holds is of no use.
 
-ghost use Rattle.std.specs.Prelude.{◌≡◌, IfOk, IfSome, IsTrue, None, Some, [], option_map};
-ghost use Rattle.nv_region.specs.RegionState.{is_steady};
+ghost use Rattle.std.specs.Prelude.{◌≡◌, IfOk, IsTrue, None, Some, [], option_map, false};
+ghost use Rattle.nv_calls.specs.Mount.{told};
+ghost use Rattle.nv_report.specs.Shown.{shown_of};
 
+use crate::files::{list_text, read_text, stat_text};
 use crate::making::{Made, front_region, new_region};
-use crate::store::Store;
-use crate::texts::{ok_text, refused_format_text, word_text};
+use crate::stop::Stop;
+use crate::store::{Store, has_word, poked};
+use crate::texts::{ok_text, refused_format_text, stopped_text, word_text};
+use nv_calls::Fs;
 use nv_line::Command;
 use nv_recover::Recovered;
-use nv_region::{MemRegion, Pmem};
+use nv_region::{Fuse, Keep, MemRegion, Pmem};
 use nv_report::{
-    Answer, Last, Part, how_it_went, part_text, recover_region, recovered_text, refused_text,
-    replay_region,
+    Answer, Last, Part, Shown, how_it_went, recover_or_stop, recovered_text, refused_text,
+    replay_or_stop, shown_text,
 };
 use nv_text::Refusal;
 use std::alloc::{AllocError, Global};
@@ -26,13 +30,17 @@ pub struct Session {
     store: Option<Store>,
     time: u64,
     last: Last,
+    // What may come of the next command.
+    stop: Stop,
 }
 
 impl Session {
     ghost use Rattle.std.specs.Prelude.{string_bytes};
-    ghost use Rattle.nv_session.specs.Sessions.{StandsFor, Moves, Settles, region_in, shown_in};
-    ghost use Rattle.nv_report.specs.Answering.{MayAnswer};
-    ghost use Rattle.nv_session.specs.Machine.{State, first_state, SetsTime, Formats, Recovers, Replays, Pokes, Cuts, ShowsPart, Peeks, RecoversRegion, Step};
+    ghost use Rattle.nv_session.specs.Sessions.{StandsFor, Moves, CanMount, Mounts, Fails, Settles, region_in, mount_in, is_armed};
+    ghost use Rattle.nv_session.specs.declared.store.Store.TheVariants as stores;
+    ghost use Rattle.nv_session.specs.Machine.{first_state, SetsTime, Formats, Recovers, Replays, Pokes, Cuts, ShowsPart, Peeks, MayStop, StopsFormat, StopsRecovery, Arms, Reads, TellsNames, TellsStat, TellsBytes, Does, Step};
+    ghost use Rattle.nv_session.specs.Machine.{State};
+    ghost use Rattle.nv_report.specs.declared.recovery.Answer.TheVariants as answers;
     ghost use Rattle.nv_report.specs.Last.{status_of};
     ghost use Rattle.nv_line.specs.View.{view};
     ghost use Rattle.nv_region.specs.Region.{size};
@@ -45,6 +53,7 @@ impl Session {
             store: None,
             time: 0,
             last: Last::Sound,
+            stop: Stop::none(),
         }
     }
 
@@ -60,26 +69,59 @@ impl Session {
         &mut self,
         rt: &H,
         alloc: Global,
-        command: Command,
+        command: Command<'_>,
     ) -> Result<String, AllocError>
-        ensures { IfOk result (λ text. Moves (λ old said new. Step old (view command) said new) self.old (string_bytes text) self.new) }
+        ensures { IfOk result (λ text. Moves (λ old said new. Step old (view command.entry) said new) self.old (string_bytes text) self.new) }
+    {
+        let stop = self.disarm();
+        self.run(rt, alloc, command, stop)
+    }
+
+    // Takes the stop that was set, if one was.
+    fn disarm(&mut self) -> Stop
+        ensures stop { result ≡ self.old.stop }
+        ensures rest { self.new ≡ record self.old { stop = self.new.stop } }
+        ensures none { is_armed self.new.stop ≡ false }
+    {
+        let stop = self.stop;
+        self.stop = Stop::none();
+        stop
+    }
+
+    // Runs one command, which may be stopped by this.
+    fn run<H: Threads + Sync>(
+        &mut self,
+        rt: &H,
+        alloc: Global,
+        command: Command<'_>,
+        stop: Stop,
+    ) -> Result<String, AllocError>
+        ensures { IfOk result (λ text. Moves (Does (is_armed stop) (view command.entry)) self.old (string_bytes text) self.new) }
     {
         match command {
             Command::Format {
                 cpus,
                 blocks,
                 table_blocks,
-            } => self.format(alloc, cpus, blocks, table_blocks),
+            } => self.format(alloc, cpus, blocks, table_blocks, stop),
             Command::Time { time } => self.set_time(alloc, time),
             Command::Poke { at, value } => self.poke(alloc, at, value),
             Command::Cut { length } => self.cut(alloc, length),
-            Command::Recover { workers } => self.recover(rt, alloc, workers),
-            Command::Replay { workers, schedule } => self.replay(alloc, workers, &schedule),
+            Command::Recover { workers } => self.recover(rt, alloc, workers, stop),
+            Command::Replay { workers, schedule } => self.replay(alloc, workers, &schedule, stop),
+            Command::ListNames { path } => self.list(alloc, path),
+            Command::Stat { path } => self.stat(alloc, path),
+            Command::Read {
+                path,
+                offset,
+                count,
+            } => self.read(alloc, path, offset, count),
             Command::Tree => self.show(alloc, Part::Tree),
             Command::Free => self.show(alloc, Part::Free),
             Command::Faults => self.show(alloc, Part::Faults),
             Command::Report => self.show(alloc, Part::Report),
             Command::Peek { at } => self.peek(alloc, at),
+            Command::Stop { fuse, keep } => self.arm(alloc, Stop { fuse, keep }),
         }
     }
 
@@ -90,34 +132,47 @@ impl Session {
         ok_text(alloc)
     }
 
+    fn arm(&mut self, alloc: Global, stop: Stop) -> Result<String, AllocError>
+        ensures { IfOk result (λ text. Moves (Arms stop.fuse) self.old (string_bytes text) self.new) }
+    {
+        self.stop = stop;
+        ok_text(alloc)
+    }
+
     fn format(
         &mut self,
         alloc: Global,
         cpus: u64,
         blocks: u64,
         table_blocks: u64,
+        stop: Stop,
     ) -> Result<String, AllocError>
-        ensures { IfOk result (λ text. Moves (Formats cpus blocks table_blocks) self.old (string_bytes text) self.new) }
+        ensures { IfOk result (λ text. Moves (MayStop (is_armed stop) (Formats cpus blocks table_blocks) (StopsFormat cpus blocks table_blocks)) self.old (string_bytes text) self.new) }
     {
-        match new_region(alloc, cpus, blocks, table_blocks, self.time)? {
+        match new_region(alloc, cpus, blocks, table_blocks, self.time, stop)? {
             Made::Region(memory) => {
-                self.put(memory, None);
+                self.put(memory);
                 ok_text(alloc)
             }
             Made::Refused(refusal) => refused_format_text(alloc, refusal),
+            Made::Stopped(memory) => {
+                self.put(memory);
+                stopped_text(alloc)
+            }
         }
     }
 
     fn poke(&mut self, alloc: Global, at: u64, value: u64) -> Result<String, AllocError>
         ensures { IfOk result (λ text. Moves (Pokes at value) self.old (string_bytes text) self.new) }
     {
-        let Some(store) = &mut self.store else {
+        let Some(store) = self.store.take() else {
             return refused_text(alloc, Refusal::NoRegion);
         };
-        if !store.has_word(at) {
+        if !has_word(store.memory(), at) {
+            self.store = Some(store);
             return refused_text(alloc, Refusal::Address);
         }
-        store.poke(at, value);
+        self.put(poked(store.into_memory(), at, value));
         ok_text(alloc)
     }
 
@@ -127,12 +182,12 @@ impl Session {
         let Some(store) = self.store.take() else {
             return refused_text(alloc, Refusal::NoRegion);
         };
-        if length > store.memory.len() {
+        if length > store.memory().len() {
             self.store = Some(store);
             return refused_text(alloc, Refusal::Length);
         }
-        let front = front_region(alloc, store.memory, length)?;
-        self.put(front, None);
+        let front = front_region(alloc, store.into_memory(), length)?;
+        self.put(front);
         ok_text(alloc)
     }
 
@@ -141,15 +196,18 @@ impl Session {
         rt: &H,
         alloc: Global,
         workers: u64,
+        stop: Stop,
     ) -> Result<String, AllocError>
-        ensures { IfOk result (λ text. Moves (Recovers workers) self.old (string_bytes text) self.new) }
+        ensures { IfOk result (λ text. Moves (MayStop (is_armed stop) (Recovers workers) (StopsRecovery workers [])) self.old (string_bytes text) self.new) }
     {
-        let Some(mut memory) = self.take_region() else {
+        let Some(store) = self.store.take() else {
             self.last = Last::Refused;
             return refused_text(alloc, Refusal::NoRegion);
         };
-        let answer = recover_region(rt, alloc, &mut memory, workers)?;
-        self.settle(alloc, memory, answer)
+        let mut memory = store.into_memory();
+        memory.set_fuse(stop.fuse);
+        let answer = recover_or_stop(rt, alloc, &mut memory, workers)?;
+        self.settle(alloc, memory, answer, stop.keep)
     }
 
     fn replay(
@@ -157,22 +215,58 @@ impl Session {
         alloc: Global,
         workers: u64,
         schedule: &[u64],
+        stop: Stop,
     ) -> Result<String, AllocError>
-        ensures { IfOk result (λ text. Moves (Replays workers schedule.now) self.old (string_bytes text) self.new) }
+        ensures { IfOk result (λ text. Moves (MayStop (is_armed stop) (Replays workers schedule.now) (StopsRecovery workers schedule.now)) self.old (string_bytes text) self.new) }
     {
-        let Some(mut memory) = self.take_region() else {
+        let Some(store) = self.store.take() else {
             self.last = Last::Refused;
             return refused_text(alloc, Refusal::NoRegion);
         };
-        let answer = replay_region(alloc, &mut memory, workers, schedule)?;
-        self.settle(alloc, memory, answer)
+        let mut memory = store.into_memory();
+        memory.set_fuse(stop.fuse);
+        let answer = replay_or_stop(alloc, &mut memory, workers, schedule)?;
+        self.settle(alloc, memory, answer, stop.keep)
+    }
+
+    fn list(&self, alloc: Global, path: &[u8]) -> Result<String, AllocError>
+        ensures { IfOk result (λ text. Moves (Reads TellsNames path.now) self.now (string_bytes text) self.now) }
+    {
+        match self.mount() {
+            Some(mount) => list_text(alloc, mount, path),
+            None => refused_text(alloc, Refusal::NotMounted),
+        }
+    }
+
+    fn stat(&self, alloc: Global, path: &[u8]) -> Result<String, AllocError>
+        ensures { IfOk result (λ text. Moves (Reads TellsStat path.now) self.now (string_bytes text) self.now) }
+    {
+        match self.mount() {
+            Some(mount) => stat_text(alloc, mount, path),
+            None => refused_text(alloc, Refusal::NotMounted),
+        }
+    }
+
+    fn read(
+        &self,
+        alloc: Global,
+        path: &[u8],
+        offset: u64,
+        count: u64,
+    ) -> Result<String, AllocError>
+        ensures { IfOk result (λ text. Moves (Reads (TellsBytes offset count) path.now) self.now (string_bytes text) self.now) }
+    {
+        match self.mount() {
+            Some(mount) => read_text(alloc, mount, path, offset, count),
+            None => refused_text(alloc, Refusal::NotMounted),
+        }
     }
 
     fn show(&self, alloc: Global, part: Part) -> Result<String, AllocError>
         ensures { IfOk result (λ text. Moves (ShowsPart part) self.now (string_bytes text) self.now) }
     {
-        match self.shown() {
-            Some(recovered) => part_text(alloc, recovered, part),
+        match self.mount() {
+            Some(mount) => shown_text(alloc, &shown(mount), part),
             None => refused_text(alloc, Refusal::NotMounted),
         }
     }
@@ -181,7 +275,9 @@ impl Session {
         ensures { IfOk result (λ text. Moves (Peeks at) self.now (string_bytes text) self.now) }
     {
         match &self.store {
-            Some(store) if store.has_word(at) => word_text(alloc, store.memory.load(at)),
+            Some(store) if has_word(store.memory(), at) => {
+                word_text(alloc, store.memory().load(at))
+            }
             Some(_) => refused_text(alloc, Refusal::Address),
             None => refused_text(alloc, Refusal::NoRegion),
         }
@@ -191,62 +287,85 @@ impl Session {
     pub fn region_length(&self) -> Option<u64>
         ensures { result ≡ option_map size (region_in self.now.store) }
     {
-        self.store.as_ref().map(|store| store.memory.len())
-    }
-
-    // What the mount shows.
-    fn shown(&self) -> Option<&Recovered>
-        ensures { option_map (λ recovered. recovered.now) result ≡ shown_in self.now.store }
-    {
         match &self.store {
-            Some(store) => store.shown.as_ref(),
+            Some(store) => Some(store.memory().len()),
             None => None,
         }
     }
 
-    // Puts back the region that a recovery was tried on, mounted where it was recovered, and answers what is printed.
+    // What is mounted.
+    fn mount(&self) -> Option<&Fs<MemRegion>>
+        ensures { option_map (λ mount. mount.now) result ≡ mount_in self.now.store }
+    {
+        match &self.store {
+            Some(Store::Mounted(mount)) => Some(mount),
+            _ => None,
+        }
+    }
+
+    // Puts back the region that a recovery was tried on, mounted where it was recovered, or what is kept of it after a stop.
+    // Answers what is printed.
     fn settle(
         &mut self,
         alloc: Global,
         memory: MemRegion,
-        answer: Answer,
+        answer: Option<Answer>,
+        keep: Keep,
     ) -> Result<String, AllocError>
-        requires { IsTrue (is_steady memory) }
+        requires { CanMount memory.region answer }
         ensures { IfOk result (λ text. Settles memory.region answer self.old (string_bytes text) self.new) }
     {
         match answer {
-            Answer::Recovered(recovered) => {
+            Some(Answer::Recovered(recovered)) => {
                 let text = recovered_text(alloc, &recovered)?;
-                self.last = how_it_went(&recovered.faults);
-                self.put(memory, Some(recovered));
+                self.mount_region(alloc, memory, recovered);
                 Ok(text)
             }
-            Answer::Refused(refusal) => {
-                self.last = Last::Refused;
-                self.put(memory, None);
+            Some(Answer::Refused(refusal)) => {
+                self.fail(memory);
                 refused_text(alloc, refusal)
+            }
+            None => {
+                self.fail(memory.after_stop(keep));
+                stopped_text(alloc)
             }
         }
     }
 
-    // Hands out the region, where there is one.
-    fn take_region(&mut self) -> Option<MemRegion>
-        ensures region { option_map (λ memory. memory.region) result ≡ region_in self.old.store }
-        ensures steady { IfSome result (λ memory. IsTrue (is_steady memory)) }
-        ensures rest { self.new ≡ record self.old { store = None } }
+    // Mounts a region with what a recovery found in it.
+    fn mount_region(&mut self, alloc: Global, mut memory: MemRegion, recovered: Recovered)
+        requires { CanMount memory.region (Some (answers.Recovered recovered)) }
+        ensures { Mounts memory.region recovered self.old self.new }
     {
-        let store = self.store.take()?;
-        Some(store.memory)
+        memory.set_fuse(Fuse::Off);
+        self.last = how_it_went(&recovered.faults);
+        self.store = Some(Store::Mounted(Fs::open(alloc, memory, recovered)));
     }
 
-    // Puts a region in, with what is shown.
-    fn put(&mut self, memory: MemRegion, shown: Option<Recovered>)
-        requires { IsTrue (is_steady memory) }
-        ensures region { region_in self.new.store ≡ Some memory.region }
-        ensures shown { shown_in self.new.store ≡ shown }
-        ensures time { self.new.time ≡ self.old.time }
-        ensures last { self.new.last ≡ self.old.last }
+    // Puts a region in that wasn't recovered.
+    fn fail(&mut self, memory: MemRegion)
+        ensures { Fails memory self.old self.new }
     {
-        self.store = Some(Store { memory, shown });
+        self.last = Last::Refused;
+        self.store = Some(Store::Alone(memory));
+    }
+
+    // Puts a region in, of which nothing is mounted.
+    fn put(&mut self, memory: MemRegion)
+        ensures { self.new ≡ record self.old { store = Some (stores.Alone memory) } }
+    {
+        self.store = Some(Store::Alone(memory));
+    }
+}
+
+// What is told of a mounted region.
+fn shown(mount: &Fs<MemRegion>) -> Shown<'_>
+    ensures { shown_of result ≡ told mount.now.sup mount.now.rows mount.now.free [] mount.now.faults }
+{
+    Shown {
+        sup: mount.sup(),
+        rows: mount.rows(),
+        free: mount.free(),
+        faults: mount.faults(),
     }
 }

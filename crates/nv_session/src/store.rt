@@ -1,42 +1,61 @@
-//! The region that a script has made, and what its last recovery shows.
+//! The region that a script has made: alone, or mounted as a file system.
 
-ghost use Rattle.std.specs.Prelude.{IsTrue};
-ghost use Rattle.nv_region.specs.RegionState.{is_steady};
+ghost use Rattle.std.specs.Prelude.{◌≡◌, true};
+ghost use Rattle.nv_region.specs.Region.{put};
+ghost use Rattle.nv_session.specs.Machine.{has_word};
 
-use nv_recover::Recovered;
-use nv_region::{MemRegion, Pmem, commit_word};
+use nv_calls::Fs;
+use nv_region::{Fuse, MemRegion, Pmem, commit_word};
 
-/// A region without a fuse, and what is shown of it where it is mounted: the outcome of the region that came to the last
-/// recovery.
+/// A region in memory. A command that stores something sets the memory's fuse first.
 #[derive(Drop)]
-pub struct Store {
-    pub memory: MemRegion,
-    pub shown: Option<Recovered>,
-    pub ghost steady: { IsTrue (is_steady memory) },
+pub enum Store {
+    /// Of which nothing is mounted.
+    Alone(MemRegion),
+    /// In a mounted file system.
+    Mounted(Fs<MemRegion>),
 }
 
 impl Store {
-    ghost use Rattle.std.specs.Prelude.{◌≡◌, None, true};
-    ghost use Rattle.nv_region.specs.Region.{put};
-    ghost use Rattle.nv_session.specs.Machine.{has_word};
+    ghost use Rattle.nv_session.specs.Sessions.{memory_in};
 
-    /// Whether a word begins at the address, and is in the region.
-    pub fn has_word(&self, at: u64) -> bool
-        ensures { result ≡ has_word self.now.memory.region at }
+    /// The memory.
+    pub fn memory(&self) -> &MemRegion
+        ensures { result.now ≡ memory_in self.now }
     {
-        at % 8 == 0 && self.memory.len().saturating_sub(at) >= 8
-    }
-
-    /// Stores a word and fences it. Nothing is shown any more.
-    pub fn poke(&mut self, at: u64, value: u64)
-        requires { has_word self.old.memory.region at ≡ true }
-        ensures region { self.new.memory.region ≡ put self.old.memory.region at value }
-        ensures shown { self.new.shown ≡ None }
-    {
-        self.shown = None;
-        if commit_word(&mut self.memory, at, value).is_err() {
-            // A memory without a fuse doesn't stop.
-            unreachable!()
+        match self {
+            Store::Alone(memory) => memory,
+            Store::Mounted(mount) => mount.region(),
         }
     }
+
+    /// The memory again, of which nothing is mounted any more.
+    pub fn into_memory(self) -> MemRegion
+        ensures { result ≡ memory_in self }
+    {
+        match self {
+            Store::Alone(memory) => memory,
+            Store::Mounted(mount) => mount.into_region(),
+        }
+    }
+}
+
+/// Whether a word begins at the address, and is in the region.
+pub fn has_word(memory: &MemRegion, at: u64) -> bool
+    ensures { result ≡ has_word memory.now.region at }
+{
+    at % 8 == 0 && memory.len().saturating_sub(at) >= 8
+}
+
+/// The memory with a word stored and fenced.
+pub fn poked(mut memory: MemRegion, at: u64, value: u64) -> MemRegion
+    requires { has_word memory.region at ≡ true }
+    ensures { result.region ≡ put memory.region at value }
+{
+    memory.set_fuse(Fuse::Off);
+    if commit_word(&mut memory, at, value).is_err() {
+        // A memory without a fuse doesn't stop.
+        unreachable!()
+    }
+    memory
 }

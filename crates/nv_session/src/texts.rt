@@ -1,11 +1,11 @@
 //! The texts of the commands that tell of no recovery.
 
 ghost use Rattle.std.specs.Prelude.{◌≡◌, IfOk, string_bytes};
-ghost use Rattle.nv_text.specs.Answers.{ok_line, refused_line, word_line};
+ghost use Rattle.nv_text.specs.Answers.{ok_line, refused_line, stopped_line, word_line};
 ghost use Rattle.nv_format.specs.Format as formats;
 
-use nv_format::FormatRefusal;
-use nv_text::{push_ok, push_word};
+use nv_calls::FormatRefusal;
+use nv_text::{push_ok, push_stopped, push_word};
 use std::alloc::{AllocError, Global};
 use std::fmt::Write;
 
@@ -14,6 +14,14 @@ pub fn ok_text(alloc: Global) -> Result<String, AllocError>
 {
     let mut text = String::new(alloc);
     push_ok(&mut text)?;
+    Ok(text)
+}
+
+pub fn stopped_text(alloc: Global) -> Result<String, AllocError>
+    ensures { IfOk result (λ text. string_bytes text ≡ stopped_line) }
+{
+    let mut text = String::new(alloc);
+    push_stopped(&mut text)?;
     Ok(text)
 }
 

@@ -3,6 +3,7 @@
 use nv_line::{
     Command, LINE_LIMIT, Line, classify, no_skipped_command, number, one_reading, parse,
 };
+use nv_region::{Fuse, Keep};
 use std::alloc::AllocError;
 use std::process::Abort;
 use std::test::Fail;
@@ -11,7 +12,7 @@ use std::test::Fail;
 fn assert_command<H: AllocGlobal + Abort>(
     rt: &H,
     line: &str,
-    command: Command,
+    command: Command<'_>,
 ) -> Result<(), AllocError> {
     assert!(rt; parse(rt.alloc(), line.as_bytes())?.is_some(), "{line}");
     let read = classify(rt.alloc(), line.as_bytes())?;
@@ -92,18 +93,59 @@ fn a_command_with_no_number_is_read(rt: HostRuntime) -> Result<(), Fail> {
     Ok(())
 }
 
+#[test]
+fn a_file_call_is_read_with_its_path(rt: HostRuntime) -> Result<(), Fail> {
+    let path = b"/d/a\tb".as_slice();
+    assert_command(&rt, "list /d/a\tb", Command::ListNames { path })?;
+    assert_command(&rt, "stat /d/a\tb", Command::Stat { path })?;
+    let read = Command::Read {
+        path,
+        offset: 7,
+        count: 0,
+    };
+    assert_command(&rt, "read /d/a\tb 7 0", read)?;
+    let path = b"no".as_slice();
+    assert_command(&rt, "stat no", Command::Stat { path })?;
+    Ok(())
+}
+
+#[test]
+fn a_stop_is_read_with_what_it_keeps(rt: HostRuntime) -> Result<(), Fail> {
+    let rows = [
+        ("stop after 0 none", Fuse::After(0), Keep::None),
+        ("stop at 12568 all", Fuse::At(12568), Keep::All),
+        ("stop after 7 alternate", Fuse::After(7), Keep::Alternate),
+    ];
+    for (line, fuse, keep) in rows {
+        assert_command(&rt, line, Command::Stop { fuse, keep })?;
+    }
+    Ok(())
+}
+
 /// A line is this, and no command.
 fn assert_no_command<H: AllocGlobal + Abort>(
     rt: &H,
     line: &str,
-    wanted: &Line,
+    wanted: &Line<'_>,
 ) -> Result<(), AllocError> {
     assert!(rt; parse(rt.alloc(), line.as_bytes())?.is_none(), "{line}");
     assert!(rt; classify(rt.alloc(), line.as_bytes())? == *wanted, "{line}");
     Ok(())
 }
 
-const BAD_LINES: [&str; 62] = [
+const BAD_LINES: [&str; 73] = [
+    // paths and stops
+    "list",
+    "stat /a /b",
+    "list ",
+    "read /a 0",
+    "read /a 0 1 2",
+    "read  0 1",
+    "stop after 1",
+    "stop 1 none",
+    "stop At 1 none",
+    "stop after 1 some",
+    "stop after -1 none",
     // words
     "format",
     "format 1 16",

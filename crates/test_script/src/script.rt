@@ -274,6 +274,90 @@ const MOUNTS: [(&str, &str, u8); 5] = [
     ),
 ];
 
+// Calls that read a mounted region.
+const FILES: [(&str, &str, u8); 4] = [
+    (
+        "stat /\nlist /\nread / 0 1\n",
+        "refused NotMounted\nrefused NotMounted\nrefused NotMounted\n",
+        0,
+    ),
+    (
+        "time 9\nformat 1 16 1\nrecover 1\nstat /\nlist /\ntree\n",
+        "ok\nok\nrecovered inodes 1 free 12 faults 0\n\
+             stat inode 1 dir mode 493 owner 0 group 0 size 0 links 1 time 9\n\
+             inode 1 dir mode 493 owner 0 group 0 size 0 links 1 time 9\n  log 3 tail 12320\n",
+        0,
+    ),
+    (
+        "format 1 16 1\nrecover 1\nstat /a\nlist /a\nstat /a/b\nstat a\nlist //\nstat /..\n",
+        "ok\nrecovered inodes 1 free 12 faults 0\nrefused NotFound\nrefused NotFound\n\
+             refused NotFound\nrefused BadName\nrefused BadName\nrefused BadName\n",
+        0,
+    ),
+    // A file of six bytes, whose block goes on behind them.
+    (
+        "format 1 16 1\npoke 12320 4297064707\npoke 12328 2\npoke 12344 97\npoke 8344 12352\n\
+             poke 16384 1803888361474\npoke 16416 4297588737\npoke 16432 5\npoke 16440 6\n\
+             poke 16448 4\npoke 20480 9423910034499944\npoke 8456 1\npoke 8464 16384\npoke 8472 16456\n\
+             poke 8448 1\nrecover 1\nlist /\nstat /a\nread /a 0 99\nread /a 4 1\nread /a 6 1\n\
+             read /a 5 18446744073709551615\nread /a 0 0\nread / 0 1\nread /b 0 1\nlist /a\nread /a/b 0 1\n",
+        "ok\nok\nok\nok\nok\nok\nok\nok\nok\nok\nok\nok\nok\nok\nok\n\
+             recovered inodes 2 free 10 faults 0\na 2\n\
+             stat inode 2 file mode 420 owner 0 group 0 size 6 links 1 time 4\n\
+             data 6869000aff7a\ndata ff\ndata\ndata 7a\ndata\nrefused IsDirectory\n\
+             refused NotFound\nrefused NotDirectory\nrefused NotDirectory\n",
+        0,
+    ),
+];
+
+// A format of so few blocks stores and fences 53 times; the magic is the last store before the last fence.
+const STOPS: [(&str, &str, u8); 8] = [
+    (
+        "stop after 0 all\nformat 1 16 1\npeek 0\npeek 8\nrecover 1\n",
+        "ok\nstopped\nword 0\nword 0\nrefused S2\n",
+        2,
+    ),
+    (
+        "stop after 52 none\nformat 1 16 1\nrecover 1\npeek 8\n",
+        "ok\nstopped\nrefused S2\nword 1\n",
+        2,
+    ),
+    (
+        "stop after 52 all\nformat 1 16 1\nrecover 1\n",
+        "ok\nstopped\nrecovered inodes 1 free 12 faults 0\n",
+        0,
+    ),
+    (
+        "stop after 53 none\nformat 1 16 1\nstop at 24 none\nrecover 1\n",
+        "ok\nok\nok\nrecovered inodes 1 free 12 faults 0\n",
+        0,
+    ),
+    (
+        "stop after 0 none\ntime 1\nformat 1 16 1\nstop after 0 none\nformat 1 7 1\nformat 1 16 1\n",
+        "ok\nok\nok\nok\nrefused Length\nok\n",
+        0,
+    ),
+    (
+        "format 1 16 1\nrecover 1\nstop at 24 none\nformat 1 32 1\nstat /\npeek 65536\n",
+        "ok\nrecovered inodes 1 free 12 faults 0\nok\nstopped\nrefused NotMounted\nword 0\n",
+        0,
+    ),
+    // A record of a journal is pending: the root's tail is to be rolled back.
+    (
+        "format 1 16 1\npoke 4160 8344\npoke 4168 12320\npoke 8344 12352\npoke 4104 1\n\
+             stop after 0 all\nrecover 1\npeek 8344\nstop after 1 all\nreplay 1 0\npeek 8344\ntree\n\
+             recover 1\n",
+        "ok\nok\nok\nok\nok\nok\nstopped\nword 12352\nok\nstopped\nword 12320\nrefused NotMounted\n\
+             recovered inodes 1 free 12 faults 0\n",
+        0,
+    ),
+    (
+        "format 1 16 1\npoke 4160 8344\npoke 4168 12320\npoke 4104 1\nstop at 8344 none\nrecover 2\n",
+        "ok\nok\nok\nok\nok\nstopped\n",
+        2,
+    ),
+];
+
 fn check_rows<H: AllocGlobal + Abort + Threads + Sync>(
     rt: &H,
     rows: &[(&str, &str, u8)],
@@ -315,6 +399,16 @@ fn a_region_is_changed_by_words_and_by_length(rt: HostRuntime) -> Result<(), Fai
 #[test]
 fn a_mount_ends_where_the_region_changes(rt: HostRuntime) -> Result<(), Fail> {
     check_rows(&rt, &MOUNTS)
+}
+
+#[test]
+fn a_mounted_region_is_read_by_paths(rt: HostRuntime) -> Result<(), Fail> {
+    check_rows(&rt, &FILES)
+}
+
+#[test]
+fn a_command_is_stopped_only_behind_a_stop(rt: HostRuntime) -> Result<(), Fail> {
+    check_rows(&rt, &STOPS)
 }
 
 #[test]

@@ -1,0 +1,8 @@
+-- What is told of a region, as an outcome without its doubled blocks, of which no text tells.
+use Rattle.std.specs.Prelude.{[]}
+use Rattle.nv_outcome.specs.Outcome.{Outcome}
+use Rattle.nv_report.specs.declared.shown.Shown.{Shown}
+
+-- as an outcome
+abbrev pub shown_of : Shown → Outcome
+shown_of shown = record { sup = shown.sup.now; rows = shown.rows.now; free = shown.free.now.pools; doubled = []; faults = shown.faults.now }

@@ -1,0 +1,36 @@
+-- What a file call that reads answers, as its text.
+use Rattle.std.proofs.Common.{◌≡◌, ◌≢◌, ◌⊎◌, inl, inr, ℕ, List, Some, None, refl}
+use Rattle.nv_tree.specs.Path.{IsPath, Says}
+use Rattle.nv_tree.specs.Tree.{Tree}
+use Rattle.nv_tree.specs.Refusals.{Path, Tests, first_refusal, refusal_word, list_tests, stat_tests, read_tests}
+use Rattle.nv_tree.specs.declared.refusal.Refusal.{Refusal}
+use Rattle.nv_tree.specs.declared.refusal.Refusal.TheVariants.{BadName, Memory}
+use Rattle.nv_text.specs.Answers.{refused_line}
+use Rattle.nv_text.specs.Report.{stat_line}
+use Rattle.nv_text.specs.Names.{data_line}
+use Rattle.nv_calls.specs.Stat.{IsStat}
+use Rattle.nv_calls.specs.Listing.{ListsNamesIn}
+use Rattle.nv_calls.specs.Reading.{IsRead}
+use Rattle.nv_calls.specs.declared.stating.Stat.{Stat}
+use Rattle.nv_session.specs.Machine.{attributes_of, list_lines, TellsRefusal, TellsNames, TellsStat, TellsBytes}
+
+-- a refusal that isn't want of memory
+pub refusal_told : (tests : Tests) (e : Refusal) (text : List ℕ) → e ≢ Memory → (e ≡ Memory) ⊎ (first_refusal tests ≡ Some e) → text ≡ refused_line (refusal_word e) → TellsRefusal tests text
+refusal_told tests e text other (inl want) said = absurd (other want)
+refusal_told tests e text other (inr first) said = (e, first, said)
+
+module _ (t : Tree) (path : List ℕ) (text : List ℕ) where
+  pub names_told : (lines : List (List ℕ × ℕ)) → ((names : List (List ℕ)) → IsPath path names → ListsNamesIn t names lines) → ((p : Path) → Says path p → first_refusal (list_tests t p) ≡ None)
+      → text ≡ list_lines lines → (p : Path) → Says path p → TellsNames t p text
+  names_told lines lists allowed said None says = absurd (let bad : Some BadName ≡ None = allowed None says in cc)
+  names_told lines lists allowed said (Some names) says = inr (names, refl, allowed (Some names) says, lines, lists names says, said)
+
+  pub stat_told : (s : Stat) → ((names : List (List ℕ)) → IsPath path names → IsStat t names s) → ((p : Path) → Says path p → first_refusal (stat_tests t p) ≡ None)
+      → text ≡ stat_line (attributes_of s) → (p : Path) → Says path p → TellsStat t p text
+  stat_told s shows allowed said None says = absurd (let bad : Some BadName ≡ None = allowed None says in cc)
+  stat_told s shows allowed said (Some names) says = inr (names, refl, allowed (Some names) says, s, shows names says, said)
+
+  pub bytes_told : (offset count : ℕ) (bytes : List ℕ) → ((names : List (List ℕ)) → IsPath path names → IsRead t names offset count bytes) → ((p : Path) → Says path p → first_refusal (read_tests t p) ≡ None)
+      → text ≡ data_line bytes → (p : Path) → Says path p → TellsBytes offset count t p text
+  bytes_told offset count bytes reads allowed said None says = absurd (let bad : Some BadName ≡ None = allowed None says in cc)
+  bytes_told offset count bytes reads allowed said (Some names) says = inr (names, refl, allowed (Some names) says, bytes, reads names says, said)

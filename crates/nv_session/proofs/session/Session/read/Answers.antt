@@ -1,0 +1,12 @@
+use Rattle.std.proofs.Common.{◌∙◌, sym, ap}
+use Rattle.std.specs.Option.{option_map}
+use Rattle.std.proofs.lemmas.Result.{IfOk-weaker}
+use Rattle.nv_session.specs.Machine.{TellsBytes}
+use Rattle.nv_session.proofs.Moved.{read_moves, unread_moves}
+use Rattle.nv_session.proofs.session.Session.read.Goals as goal
+
+pub returns-in-Some : goal.returns-in-Some
+returns-in-Some c = IfOk-weaker c.read_text.result _ _ (λ text told. read_moves (TellsBytes c.args.offset c.args.count) c.args.path.now c.args.self.now c.in-Some.mount.now _ (sym c.mount.ensures ∙ ap (option_map (λ mount. mount.now)) c.in-Some.is) told) c.read_text.ensures
+
+pub returns-in-None : goal.returns-in-None
+returns-in-None c = IfOk-weaker c.refused_text.result _ _ (λ text said. unread_moves (TellsBytes c.args.offset c.args.count) c.args.path.now c.args.self.now _ (sym c.mount.ensures ∙ ap (option_map (λ mount. mount.now)) c.in-None.is) said) c.refused_text.ensures

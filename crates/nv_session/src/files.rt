@@ -1,0 +1,111 @@
+//! What the file calls that read a mounted region print.
+
+ghost use Rattle.std.specs.Prelude.{◌≡◌, ◌≢◌, ◌++◌, false, IfOk, OnOk, string_bytes, map};
+ghost use Rattle.nv_text.specs.Answers.{refused_line};
+ghost use Rattle.nv_text.specs.Names.{data_line};
+ghost use Rattle.nv_text.specs.Report.{stat_line};
+ghost use Rattle.nv_tree.specs.Path.{Says};
+ghost use Rattle.nv_tree.specs.Refusals.{Path, refusal_word};
+ghost use Rattle.nv_tree.specs.declared.refusal.Refusal.TheVariants as refusals;
+ghost use Rattle.nv_calls.specs.Seen.{tree_of};
+ghost use Rattle.nv_calls.specs.Listing.{name_and_inode};
+ghost use Rattle.nv_session.specs.Machine.{attributes_of, list_lines, TellsNames, TellsStat, TellsBytes};
+
+use nv_calls::{Fs, Stat};
+use nv_names::Named;
+use nv_region::MemRegion;
+use nv_text::{Attributes, push_data_line, push_list_line, push_stat_line};
+use nv_tree::Refusal;
+use std::alloc::{AllocError, Global};
+use std::fmt::Write;
+
+/// The names of a directory, a line for each.
+pub fn list_text(alloc: Global, mount: &Fs<MemRegion>, path: &[u8]) -> Result<String, AllocError>
+    ensures { IfOk result (λ text. mount.now.stopped ≡ false → (p : Path) → Says path.now p → TellsNames (tree_of mount.now.memory.region mount.now.rows) p (string_bytes text)) }
+{
+    match mount.list(path) {
+        Ok(listed) => lines_text(alloc, &listed),
+        Err(refusal) => refused_call_text(alloc, refusal),
+    }
+}
+
+/// The numbers of an inode.
+pub fn stat_text(alloc: Global, mount: &Fs<MemRegion>, path: &[u8]) -> Result<String, AllocError>
+    ensures { IfOk result (λ text. mount.now.stopped ≡ false → (p : Path) → Says path.now p → TellsStat (tree_of mount.now.memory.region mount.now.rows) p (string_bytes text)) }
+{
+    match mount.stat(path) {
+        Ok(stat) => numbers_text(alloc, stat),
+        Err(refusal) => refused_call_text(alloc, refusal),
+    }
+}
+
+/// The bytes of a file, from an offset on, at most so many.
+pub fn read_text(
+    alloc: Global,
+    mount: &Fs<MemRegion>,
+    path: &[u8],
+    offset: u64,
+    count: u64,
+) -> Result<String, AllocError>
+    ensures { IfOk result (λ text. mount.now.stopped ≡ false → (p : Path) → Says path.now p → TellsBytes offset count (tree_of mount.now.memory.region mount.now.rows) p (string_bytes text)) }
+{
+    match mount.read(path, offset, count) {
+        Ok(bytes) => data_text(alloc, &bytes),
+        Err(refusal) => refused_call_text(alloc, refusal),
+    }
+}
+
+// Want of memory is told as no refusal.
+fn refused_call_text(alloc: Global, refusal: Refusal) -> Result<String, AllocError>
+    ensures { IfOk result (λ text. (refusal ≢ refusals.Memory) × (string_bytes text ≡ refused_line (refusal_word refusal))) }
+{
+    if refusal == Refusal::Memory {
+        return Err(AllocError);
+    }
+    let mut text = String::new(alloc);
+    writeln!(text, "refused {refusal}")?;
+    Ok(text)
+}
+
+fn data_text(alloc: Global, bytes: &[u8]) -> Result<String, AllocError>
+    ensures { IfOk result (λ text. string_bytes text ≡ data_line bytes.now) }
+{
+    let mut text = String::new(alloc);
+    push_data_line(&mut text, bytes)?;
+    Ok(text)
+}
+
+fn lines_text(alloc: Global, listed: &[Named<'_>]) -> Result<String, AllocError>
+    ensures { IfOk result (λ text. string_bytes text ≡ list_lines (map name_and_inode listed.now)) }
+{
+    let mut text = String::new(alloc);
+    push_lines(&mut text, listed)?;
+    Ok(text)
+}
+
+fn push_lines(out: &mut String, listed: &[Named<'_>]) -> Result<(), AllocError>
+    ensures { OnOk result (string_bytes out.new ≡ string_bytes out.old ++ list_lines (map name_and_inode listed.now)) }
+{
+    for named in listed {
+        push_list_line(out, named.name, named.inode)?;
+    }
+    Ok(())
+}
+
+fn numbers_text(alloc: Global, stat: Stat) -> Result<String, AllocError>
+    ensures { IfOk result (λ text. string_bytes text ≡ stat_line (attributes_of stat)) }
+{
+    let attributes = Attributes {
+        inode: stat.inode,
+        kind: stat.kind,
+        mode: stat.mode,
+        owner: stat.owner,
+        group: stat.group,
+        size: stat.size,
+        links: stat.links,
+        time: stat.time,
+    };
+    let mut text = String::new(alloc);
+    push_stat_line(&mut text, &attributes)?;
+    Ok(text)
+}
