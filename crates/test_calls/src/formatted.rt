@@ -10,7 +10,7 @@ use std::alloc::Global;
 use std::test::Fail;
 
 /// A region of so many blocks, formatted for so many CPUs with one table block each, mounted.
-fn formatted(alloc: Global, blocks: u64, cpus: u64) -> Result<Fs<MemRegion>, Fail> {
+pub fn formatted(alloc: Global, blocks: u64, cpus: u64) -> Result<Fs<MemRegion>, Fail> {
     let mut memory = MemRegion::new(alloc, blocks)?;
     format(&mut memory, cpus, 1, 1000)?;
     Ok(mount(alloc, memory)?)

@@ -3,6 +3,8 @@
 #![tactic(auto)]
 
 #[cfg(test)]
+mod create;
+#[cfg(test)]
 mod formatted;
 #[cfg(test)]
 mod mounted;
@@ -18,5 +20,7 @@ mod recovered;
 mod regions;
 #[cfg(test)]
 mod set_attr;
+#[cfg(test)]
+mod set_size;
 #[cfg(test)]
 mod stops;
