@@ -9,6 +9,7 @@ ghost use Rattle.nv_check.specs.Cross.{row_key, IsCrossFaultIn};
 ghost use Rattle.nv_check.specs.Steps.{named_by, all_of, AreNear};
 
 use crate::counts::fault_of;
+use crate::cross::cross_faults_one;
 use crate::listing::Listing;
 use crate::names::push_unused_of;
 use crate::places::find;
@@ -20,8 +21,11 @@ use rayon::prelude::*;
 use std::alloc::{AllocError, Global};
 use std::thread::Threads;
 
-/// The faults between the rows of all inodes in use, as `cross_faults_one` gives them: each row's names are looked up,
-/// and its names counted out, in threads.
+// From so many rows on, threads are worth their start: a row takes some nanoseconds, and they some milliseconds.
+const MANY_ROWS: usize = 400_000;
+
+/// The faults between the rows of all inodes in use, as `cross_faults_one` gives them: where there are many rows, each
+/// row's names are looked up, and its names counted out, in threads.
 pub fn cross_faults<H: Threads + Sync>(
     rt: &H,
     alloc: Global,
@@ -33,6 +37,9 @@ pub fn cross_faults<H: Threads + Sync>(
     requires numbers { All (λ (r : RowValue). IsTrue (is_number sup.now r.inode)) rows.now }
     ensures { IfOk result (λ found. Lists fault_key (IsCrossFaultIn rows.now) found.items) }
 {
+    if rows.len() < MANY_ROWS {
+        return cross_faults_one(alloc, sup, rows);
+    }
     let tables = tables_of(alloc, sup, rows)?;
     let near = near_by_row(rt, alloc, &tables.places, &tables.counts, &tables.listings)?;
     let mut faults = Vec::new(alloc);

@@ -1,11 +1,11 @@
 -- What is left of the runs where some pages are unmapped.
-use Rattle.std.proofs.Common.{◌≡◌, ◌≢◌, ℕ, ◌+◌, ◌-◌, ◌<◌, ◌≤◌, Bool, true, false, cond, ◌&&◌, if◌then◌else◌, nat_le, nat_lt, Option, Some, None, refl, ap, sym, ◌∙◌, subst, arith, inl, inr, ◌⊎◌}
+use Rattle.std.proofs.Common.{◌≡◌, ℕ, ◌+◌, ◌-◌, ◌<◌, ◌≤◌, Bool, true, false, cond, ◌&&◌, if◌then◌else◌, nat_le, nat_lt, Option, Some, None, refl, ap, sym, ◌∙◌, subst, arith, inl, inr}
 use Rattle.std.proofs.lemmas.Bool.{cases_lt, cases_order}
 use Rattle.std.proofs.lemmas.Bool.Decides.{nat_tests}
 use Rattle.nv_radix.specs.declared.runs.Blocks.{Blocks}
 use Rattle.nv_radix.specs.Pages.{in_run}
 use Rattle.nv_radix.specs.Runs.{Runs, block_by, run_at, front_of, IsRun, AreRuns, Puts, IsLastBefore}
-use Rattle.nv_radix.proofs.RunLemmas.{missed, mapped, found, after_front, front_runs, after_put, put_free}
+use Rattle.nv_radix.proofs.RunLemmas.{mapped, found, after_front, front_runs, after_put, put_free}
 
 same_test : (s t : Bool) → (s ≡ true → t ≡ true) → (t ≡ true → s ≡ true) → s ≡ t
 same_test true t h k = sym (h refl)

@@ -1,22 +1,26 @@
 -- What a change of one run makes of the blocks that pages map to.
-use Rattle.std.proofs.Common.{◌≡◌, ◌≢◌, ℕ, ◌+◌, ◌-◌, ◌<◌, ◌≤◌, Bool, true, false, cond, ◌==◌, ◌&&◌, if◌then◌else◌, nat_le, nat_lt, List, [], ◌∷◌, Option, Some, None, IfSome, refl, ap, sym, ◌∙◌, subst, arith, suc, inl, inr, ◌⊎◌}
+use Rattle.std.proofs.Common.{◌≡◌, ◌≢◌, ℕ, ◌+◌, ◌-◌, ◌<◌, ◌≤◌, Bool, true, false, cond, ◌==◌, if◌then◌else◌, [], ◌∷◌, Option, Some, None, Result, Ok, Err, refl, ap, sym, ◌∙◌, subst, arith, suc, inl, inr}
+use Rattle.std.specs.Result.{OnOk, OnErr}
 use Rattle.std.specs.List.{Contains}
 use Rattle.std.specs.Ordering.{nat_cmp, eq_by_cmp}
 use Rattle.std.specs.Cmp.{unsigned_tied}
-use Rattle.std.specs.Map.{keys_of}
 use Rattle.std.proofs.lemmas.Bool.{cases_eq, cases_lt, cases_order, eqb-true}
 use Rattle.std.proofs.lemmas.Bool.Decides.{nat_tests}
 use Rattle.std.proofs.lemmas.Cmp.{nat_cmp_total, eq_by_cmp_equiv}
 use Rattle.std.proofs.lemmas.Map.Keys.{IsDistinct-from_sorted}
-use Rattle.std.proofs.lemmas.Map.Lookups.{exact_unsigned}
 use Rattle.std.proofs.lemmas.Map.Views.{lookup-from_Contains, Contains-from_lookup}
 use Rattle.nv_radix.specs.declared.runs.Blocks.{Blocks}
 use Rattle.nv_radix.specs.Pages.{in_run}
-use Rattle.nv_radix.specs.Runs.{Runs, block_by, run_at, front_of, IsRun, AreRuns, Puts, IsLastBefore}
+use Rattle.nv_radix.specs.Runs.{Runs, block_by, run_at, front_of, IsRun, AreRuns, Puts}
 use Rattle.nv_radix.proofs.OnlyExtents.{Contains-cons}
 
 some_only : {A : Type 0} (a b : A) → Some a ≡ Some b → a ≡ b
 some_only a b e = cc
+
+-- what holds after a success, and after an error
+pub either_way : {A E : Type 0} (r : Result A E) (P Q R : Type 0) → OnOk r P → OnErr r Q → (P → R) → (Q → R) → R
+either_way (Ok a) P Q R p q f g = f p
+either_way (Err e) P Q R p q f g = g q
 
 some_is : {A : Type 0} (a b : A) (o : Option A) → o ≡ Some a → o ≡ Some b → a ≡ b
 some_is a b o h k = some_only a b (sym h ∙ k)
@@ -225,3 +229,42 @@ module _ (old new : Runs) (k : ℕ) (b c : Blocks) (before : AreRuns old) (is : 
     | true ↦ λ e. mapped new p k b replaced_runs puts.here e
     | false ↦ λ e. kept before replaced_runs puts p (λ d h. rw (some_is d c _ h at, same) e) (λ d h. rw (some_only d b (sym h)) e)
   ] refl
+
+-- The last run is made longer by one that it goes on with.
+module _ (old new : Runs) (k page : ℕ) (b c : Blocks) (before : AreRuns old) (is : IsRun page c) (at : run_at old k ≡ Some b) (ends : k + b.count ≡ page) (follows : b.start + b.count ≡ c.start)
+    (end : (p : ℕ) → page ≤ p → block_by old p ≡ None) (puts : Puts old new k (Some (record { start = b.start; count = b.count + c.count }))) where
+  abbrev joined : Blocks
+  joined = record { start = b.start; count = b.count + c.count }
+
+  pub longer_runs : AreRuns new
+  longer_runs = put_between old new k (Some joined) before (λ d e. rw (some_only d joined (sym e)) (record {
+    is = record { some = omega (arith, is.some); pages = omega (arith, is.pages, ends); blocks = omega (arith, is.blocks, follows) };
+    before = λ q f less h. before.apart q k f b h at less;
+    behind = λ q f more h. absurd (
+        let past = before.apart k q b f at h more in
+        let no = missed old q q f (end q (omega (arith, past, ends))) h in
+        let some = (before.each q f h).some in
+        grind (arith, nat_tests));
+  })) puts
+
+  pub longer : (p : ℕ) → block_by new p ≡ (if in_run page c.count p then Some (c.start + (p - page)) else block_by old p)
+  longer p = elim (in_run page c.count p) as (λ (t : Bool). in_run page c.count p ≡ t → block_by new p ≡ cond t (Some (c.start + (p - page))) (block_by old p)) [
+    | true ↦ λ e.
+        let from : page ≤ p = grind (arith, nat_tests) in
+        mapped new p k joined longer_runs puts.here (grind (arith, nat_tests)) ∙ ap Some (omega (arith, from, ends, follows))
+    | false ↦ λ e. elim (in_run k b.count p) as (λ (t : Bool). in_run k b.count p ≡ t → block_by new p ≡ block_by old p) [
+      | true ↦ λ f. mapped new p k joined longer_runs puts.here (grind (arith, nat_tests)) ∙ sym (mapped old p k b before at f)
+      | false ↦ λ f. kept before longer_runs puts p (λ d h. rw (some_is d b _ h at) f) (λ d h. rw (some_only d joined (sym h)) (grind (arith, nat_tests)))
+    ] refl
+  ] refl
+
+-- A run is put behind all others.
+module _ (old new : Runs) (page : ℕ) (c : Blocks) (before : AreRuns old) (is : IsRun page c) (end : (p : ℕ) → page ≤ p → block_by old p ≡ None) (puts : Puts old new page (Some c)) where
+  free : (p : ℕ) → in_run page c.count p ≡ true → block_by old p ≡ None
+  free p h = end p (grind (arith, nat_tests))
+
+  pub behind_runs : AreRuns new
+  behind_runs = put_free old new page c before is free puts
+
+  pub behind : (p : ℕ) → block_by new p ≡ (if in_run page c.count p then Some (c.start + (p - page)) else block_by old p)
+  behind = after_put old new page c before behind_runs is.some free puts

@@ -5,7 +5,7 @@ ghost use Rattle.nv_radix.specs.Pages.{block_at, in_run, AreFilePages};
 ghost use Rattle.nv_radix.specs.Runs.{block_by};
 
 use crate::index::FileIndex;
-use crate::runs::{Blocks, Runs, clear, set};
+use crate::runs::{Blocks, Runs, clear, set_up_to};
 use std::alloc::{AllocError, Global};
 use std::collections::BTreeMap;
 use std::marker::Model;
@@ -62,14 +62,8 @@ impl ExtentMap {
         if count == 0 {
             return Ok(());
         }
-        set(
-            &mut self.runs,
-            page,
-            Blocks {
-                start: block,
-                count,
-            },
-        )?;
+        let start = block;
+        set_up_to(&mut self.runs, self.end, page, Blocks { start, count })?;
         self.end = self.end.max(page + count);
         Ok(())
     }

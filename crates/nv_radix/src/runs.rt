@@ -35,6 +35,55 @@ pub(crate) fn set(runs: &mut Runs, page: u64, blocks: Blocks) -> Result<(), Allo
     put(runs, page, blocks)
 }
 
+/// Maps the pages of a run to its blocks, where no page from `end` on is mapped: most runs of a log stand behind all that
+/// were before, and then none of these is looked for. An error may leave some of the pages unmapped, and some behind them.
+pub(crate) fn set_up_to(
+    runs: &mut Runs,
+    end: u64,
+    page: u64,
+    blocks: Blocks,
+) -> Result<(), AllocError>
+    requires runs { AreRuns runs.old.entries }
+    requires run { IsRun page blocks }
+    requires end { (p : ℕ) → end ≤ p → block_by runs.old.entries p ≡ None }
+    ensures runs { AreRuns runs.new.entries }
+    ensures fewer { OnErr result ((p : ℕ) → block_by runs.old.entries p ≡ None → block_by runs.new.entries p ≡ None) }
+    ensures ok { OnOk result ((p : ℕ) → block_by runs.new.entries p ≡ (if in_run page blocks.count p then Some (blocks.start + (p - page)) else block_by runs.old.entries p)) }
+{
+    if end <= page {
+        append(runs, page, blocks)
+    } else {
+        set(runs, page, blocks)
+    }
+}
+
+/// Maps the pages of a run behind all others to its blocks. Where the last run goes on with it, that one becomes longer.
+fn append(runs: &mut Runs, page: u64, blocks: Blocks) -> Result<(), AllocError>
+    requires runs { AreRuns runs.old.entries }
+    requires run { IsRun page blocks }
+    requires end { (p : ℕ) → page ≤ p → block_by runs.old.entries p ≡ None }
+    ensures runs { AreRuns runs.new.entries }
+    ensures err { OnErr result (runs.new.entries ≡ runs.old.entries) }
+    ensures ok { OnOk result ((p : ℕ) → block_by runs.new.entries p ≡ (if in_run page blocks.count p then Some (blocks.start + (p - page)) else block_by runs.old.entries p)) }
+{
+    match last_before(runs, page) {
+        Some((first, front)) if goes_on(first, front, page, blocks.start) => {
+            let count = front.count + blocks.count;
+            put(runs, first, Blocks { count, ..front })
+        }
+        _ => put(runs, page, blocks),
+    }
+}
+
+/// Whether a run goes on with this page and this block.
+fn goes_on(first: u64, blocks: Blocks, page: u64, start: u64) -> bool
+    ensures page { IsTrue result → first + blocks.count ≡ page }
+    ensures block { IsTrue result → blocks.start + blocks.count ≡ start }
+{
+    page.checked_sub(first) == Some(blocks.count)
+        && start.checked_sub(blocks.start) == Some(blocks.count)
+}
+
 /// Whether a run of this many pages begins at a page.
 fn has_run(runs: &Runs, page: u64, count: u64) -> bool
     ensures { IsTrue result → HasRunOf runs.now.entries page count }

@@ -18,6 +18,7 @@ mod piece;
 mod reading;
 mod scan;
 mod tickets;
+mod touching;
 mod working;
 
 pub use laws::{

@@ -18,6 +18,7 @@ use crate::in_use::InUse;
 use crate::piece::{Piece, Row};
 use crate::reading::{Read, read_log};
 use crate::tickets::number_at;
+use crate::touching::{touch_block, touch_numbers};
 use nv_inode::{Slot, SlotState, nth_slot, read_slot};
 use nv_logpage::{LogEnd, LogFault, LogReader};
 use nv_region::Pmem;
@@ -32,6 +33,8 @@ pub struct Scanner {
     alloc: Global,
     sup: Super,
     reader: Option<LogReader>,
+    // What was touched last, which says nothing: it stands here so that it is loaded.
+    touched: u64,
 }
 
 impl Model for Scanner {
@@ -56,13 +59,26 @@ impl Scanner {
             alloc,
             sup: *sup,
             reader: None,
+            touched: 0,
         }
     }
 
     /// Scans one inode: the words of its slot, and each page of its log once. Memory is taken for the pages, the
     /// indexes, the claims and the faults, and not for the entries; and, at the first log, for the reader. After a
-    /// refusal the scanner can be used on.
+    /// refusal the scanner can be used on. It is quickest where the numbers rise.
     pub fn scan<P: Pmem>(&mut self, memory: &P, inode: u64) -> Result<Piece, AllocError>
+        requires blocks { HasBlocks (P.region memory.now) self.old.blocks }
+        requires number { IsTrue (is_number self.old inode) }
+        ensures same { self.new ≡ self.old }
+        ensures number { IfOk result (λ piece. piece.inode ≡ inode) }
+        ensures piece { IfOk result (λ piece. IsPiece (P.region memory.now) (fixed_layout self.old) piece) }
+    {
+        self.touched = touch_numbers(memory, &self.sup, inode);
+        self.scan_one(memory, inode)
+    }
+
+    /// The same, where the inodes come in any order.
+    fn scan_one<P: Pmem>(&mut self, memory: &P, inode: u64) -> Result<Piece, AllocError>
         requires blocks { HasBlocks (P.region memory.now) self.old.blocks }
         requires number { IsTrue (is_number self.old inode) }
         ensures same { self.new ≡ self.old }
@@ -86,7 +102,8 @@ impl Scanner {
     }
 
     /// Scans the inode whose slot has this place in the tables. None where nothing is to be told of it: at the place of
-    /// number 0, which isn't read, and where the valid word is 0, which is all that is loaded then.
+    /// number 0, and where the valid word is 0, which is all that is read of it then. At the first place of a table block
+    /// the logs of its inodes are touched.
     pub fn scan_place<P: Pmem>(
         &mut self,
         memory: &P,
@@ -97,11 +114,12 @@ impl Scanner {
         ensures same { self.new ≡ self.old }
         ensures found { IfOk result (IsFound (P.region memory.now) self.old (number_at self.old place)) }
     {
+        self.touched = touch_block(memory, &self.sup, place);
         if place == 0 || memory.load(nth_slot(&self.sup, place)) == 0 {
             return Ok(None);
         }
         let inode = number_at(&self.sup, place);
-        Ok(Some(self.scan(memory, inode)?))
+        Ok(Some(self.scan_one(memory, inode)?))
     }
 }
 
@@ -120,7 +138,7 @@ pub fn scan_slot<P: Pmem>(
     ensures number { IfOk result (λ piece. piece.inode ≡ inode) }
     ensures piece { IfOk result (λ piece. IsPiece (P.region memory.now) (fixed_layout sup.now) piece) }
 {
-    Scanner::new(alloc, sup).scan(memory, inode)
+    Scanner::new(alloc, sup).scan_one(memory, inode)
 }
 
 /// Scans an inode in use, by the reader of the last log, if there is one. Where its head or tail isn't right, no log is

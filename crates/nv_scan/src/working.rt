@@ -44,7 +44,7 @@ pub struct WorkerResult {
 
 /// Draws tickets until none is left; a ticket is a table block. After each draw the gate is entered; then the inodes of
 /// the block's slots are scanned one after another, and the blocks that they own are claimed for their owners. A block
-/// of unused slots costs one load for each.
+/// of unused slots costs a few loads for each, and no log.
 ///
 /// It stops early only where a growth is refused: then `refused` is true, and there are no pieces.
 pub fn worker<P: Pmem, G: Gate>(

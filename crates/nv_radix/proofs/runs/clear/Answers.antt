@@ -1,4 +1,4 @@
-use Rattle.std.proofs.Common.{rules, ◌≡◌, ℕ, ◌+◌, ◌≤◌, arith}
+use Rattle.std.proofs.Common.{rules, arith}
 use Rattle.nv_radix.proofs.Clearing.{cleared, cleared_more, behind_last, before_all}
 use Rattle.nv_radix.proofs.runs.clear.Goals as goal
 

@@ -1,4 +1,4 @@
-use Rattle.std.proofs.Common.{◌≡◌, ℕ, Option, None, ap, sym, ◌∙◌, subst, arith}
+use Rattle.std.proofs.Common.{ap, ◌∙◌}
 use Rattle.nv_radix.specs.Runs.{Runs, block_by}
 use Rattle.nv_radix.proofs.Clearing.{stays_none, cut_run, cut_run_fewer, cut_run_twice}
 use Rattle.nv_radix.proofs.runs.cut_out.Goals as goal

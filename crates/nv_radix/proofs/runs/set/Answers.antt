@@ -1,14 +1,9 @@
-use Rattle.std.proofs.Common.{◌≡◌, ℕ, Result, Ok, Err, subst, sym}
-use Rattle.std.specs.Result.{OnOk, OnErr}
+use Rattle.std.proofs.Common.{subst, sym}
 use Rattle.std.proofs.lemmas.Result.{on_ok_weaker}
-use Rattle.nv_radix.specs.Runs.{Runs, AreRuns}
+use Rattle.nv_radix.specs.Runs.{AreRuns}
 use Rattle.nv_radix.proofs.Clearing.{run_put_runs, run_put}
-use Rattle.nv_radix.proofs.RunLemmas.{replaced}
+use Rattle.nv_radix.proofs.RunLemmas.{either_way, replaced}
 use Rattle.nv_radix.proofs.runs.set.Goals as goal
-
-either_way : {A E : Type 0} (r : Result A E) (P Q R : Type 0) → OnOk r P → OnErr r Q → (P → R) → (Q → R) → R
-either_way (Ok a) P Q R p q f g = f p
-either_way (Err e) P Q R p q f g = g q
 
 pub returns-then-has_run-clause-ok : goal.returns-then-has_run-clause-ok
 returns-then-has_run-clause-ok c = let has = c.has_run.ensures c.if-has_run.true in

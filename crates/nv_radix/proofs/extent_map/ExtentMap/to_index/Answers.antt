@@ -1,6 +1,6 @@
-use Rattle.std.proofs.Common.{◌≡◌, ℕ, ◌+◌, ◌-◌, cond, Option, Some, ap, ◌∙◌, subst}
+use Rattle.std.proofs.Common.{ℕ, ◌+◌, ◌-◌, cond, Option, Some, ap, ◌∙◌, subst}
 use Rattle.nv_radix.specs.Pages.{in_run}
-use Rattle.nv_radix.specs.Runs.{Runs, AreRuns}
+use Rattle.nv_radix.specs.Runs.{AreRuns}
 use Rattle.nv_radix.proofs.Indexing.{next_is, more_indexed}
 use Rattle.nv_radix.proofs.extent_map.ExtentMap.to_index.Goals as goal
 

@@ -6,7 +6,7 @@ use Rattle.nv_inode.specs.Slot.{kind_in, kind_of}
 use Rattle.nv_inode.specs.declared.slot.Slot.{Slot}
 use Rattle.nv_scan.specs.Rows.{IsPiece}
 use Rattle.nv_scan.proofs.Scanning.{unused_result, bad_valid_result, bad_kind_result}
-use Rattle.nv_scan.proofs.scan.Scanner.scan.Goals as goal
+use Rattle.nv_scan.proofs.scan.Scanner.scan_one.Goals as goal
 
 pub returns-in-Unused-clause-piece : goal.returns-in-Unused-clause-piece
 returns-in-Unused-clause-piece g c = let s = c.self.inside.sup in
