@@ -23,12 +23,13 @@ ghost use Rattle.nv_calls.specs.World.{world_of};
 
 use crate::Fs;
 use crate::appending::append_log;
+use crate::settling::numbers_with;
 use crate::walking::place_at;
 use crate::writing::is_stop;
 use nv_alloc::Allocators;
 use nv_entry::{AttrEntry, Entry};
 use nv_region::Pmem;
-use nv_scan::{Numbers, Row};
+use nv_scan::Row;
 use nv_super::Super;
 use nv_tree::Refusal;
 use std::alloc::Global;
@@ -61,14 +62,7 @@ fn change_attributes<P: Pmem>(
 {
     let entries = [Entry::Attr(attributes)];
     append_log(alloc, memory, sup, free, cpu, row, &entries)?;
-    row.numbers = Numbers {
-        size: attributes.size,
-        mode: attributes.mode,
-        owner: attributes.owner,
-        group: attributes.group,
-        links: row.numbers.links,
-        time: attributes.time,
-    };
+    row.numbers = numbers_with(row.numbers, attributes);
     Ok(())
 }
 

@@ -19,8 +19,7 @@ ghost use Rattle.nv_calls.specs.Taken.{SamePools, TakesEach};
 
 use crate::blocks::take_blocks;
 use crate::letting_go::give_block;
-use crate::resizing::numbers_with;
-use crate::settling::settle_log;
+use crate::settling::{numbers_with, settle_log};
 use nv_alloc::{AllocRefusal, Allocators};
 use nv_bytes::{NewBytes, store_page};
 use nv_commit::{Extension, extend_log};

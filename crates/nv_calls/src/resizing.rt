@@ -13,10 +13,11 @@ ghost use Rattle.nv_calls.specs.Steps.{LeavesStep, RefusesStep};
 use crate::appending::append_log;
 use crate::copying::resize_with_copy;
 use crate::letting_go::give_pages;
+use crate::settling::numbers_with;
 use nv_alloc::Allocators;
 use nv_entry::{AttrEntry, Entry};
 use nv_region::Pmem;
-use nv_scan::{Numbers, Row};
+use nv_scan::Row;
 use nv_super::{BLOCK_SIZE, Super};
 use nv_tree::Refusal;
 use std::alloc::Global;
@@ -98,18 +99,4 @@ fn resize_in_place<P: Pmem>(
     row.index.cut(first);
     row.numbers = numbers_with(row.numbers, attributes);
     Ok(())
-}
-
-/// The numbers with what an attributes entry says.
-pub(crate) fn numbers_with(numbers: Numbers, attributes: AttrEntry) -> Numbers
-    ensures { result ≡ record { size = attributes.size; mode = attributes.mode; owner = attributes.owner; group = attributes.group; links = numbers.links; time = attributes.time } }
-{
-    Numbers {
-        size: attributes.size,
-        mode: attributes.mode,
-        owner: attributes.owner,
-        group: attributes.group,
-        links: numbers.links,
-        time: attributes.time,
-    }
 }

@@ -3,7 +3,8 @@
 ghost use Rattle.std.specs.Prelude.{◌≡◌, ◌+◌, ◌≤◌, ◌++◌, length, vec_len, vec_capacity};
 ghost use Rattle.nv_calls.specs.Grown.{HasGrown};
 
-use nv_scan::Row;
+use nv_entry::AttrEntry;
+use nv_scan::{Numbers, Row};
 
 /// Puts the new pages and the new tail of its log into a row, which has room for them.
 pub(crate) fn settle_log(row: &mut Row, fresh: &[u64], end: u64)
@@ -21,5 +22,19 @@ fn push_all(numbers: &mut Vec<u64>, more: &[u64])
 {
     for number in more {
         numbers.push_reserved(*number);
+    }
+}
+
+/// The numbers with what an attributes entry says.
+pub(crate) fn numbers_with(numbers: Numbers, attributes: AttrEntry) -> Numbers
+    ensures { result ≡ record { size = attributes.size; mode = attributes.mode; owner = attributes.owner; group = attributes.group; links = numbers.links; time = attributes.time } }
+{
+    Numbers {
+        size: attributes.size,
+        mode: attributes.mode,
+        owner: attributes.owner,
+        group: attributes.group,
+        links: numbers.links,
+        time: attributes.time,
     }
 }
