@@ -28,8 +28,8 @@ log_owned (by_log {h = h} is page) = (h, is, page)
 pub page_owned : {l : Layout} {held : Store} {i p b : ℕ} → OwnsIn l held b (owners.Data i p) → (h : Held) × (held i ≡ Some h) × (block_of (good_in l h) p ≡ Some b)
 page_owned (by_page {h = h} is maps) = (h, is, maps)
 
-stands : (xs : List ℕ) (k b : ℕ) → slice_get xs k ≡ Some b → Contains xs b
-stands xs k b h = (k, slice_get_within xs k b h, get_or_from_slice_get xs k b b h)
+pub stands : {A : Type 0} (xs : List A) (k : ℕ) (x : A) → slice_get xs k ≡ Some x → Contains xs x
+stands xs k x at = (k, slice_get_within xs k x at, get_or_from_slice_get xs k x x at)
 
 -- a place of a list of numbers that differ
 one_place : (xs : List ℕ) (j k b : ℕ) → IsDistinct eqb xs → slice_get xs j ≡ Some b → slice_get xs k ≡ Some b → j ≡ k
