@@ -1,12 +1,12 @@
 -- A log that grows by entries, told of its row: what is owed before, and what follows where names and blocks stay.
-use Rattle.std.proofs.Common.{◌≡◌, ℕ, ◌+◌, ◌*◌, ◌/◌, ◌%◌, ◌^◌, ◌<◌, ◌≤◌, ◌⊎◌, inl, inr, Option, List, ◌∷◌, ◌++◌, eqb, length, get_or, take, take_all, refl, ap, sym, ◌∙◌, subst, arith, Some, None, zero, suc}
+use Rattle.std.proofs.Common.{◌≡◌, ℕ, ◌+◌, ◌*◌, ◌/◌, ◌%◌, ◌<◌, ◌≤◌, ◌⊎◌, inl, inr, List, ◌∷◌, ◌++◌, eqb, length, get_or, take, take_all, ap, sym, ◌∙◌, subst, arith, Some, zero, suc}
 use Rattle.std.specs.List.{IsDistinct}
 use Rattle.std.proofs.lemmas.List.{get_or_default}
 use Rattle.nv_region.specs.Region.{Region, size}
-use Rattle.nv_region.specs.Stops.{Choices, IsMixed, One}
-use Rattle.nv_region.proofs.Wordwise.{mixed_word}
+use Rattle.nv_region.specs.Stops.{IsMixed, One}
+use Rattle.nv_region.proofs.Stops.{mixed_same}
+use Rattle.nv_region.proofs.Wordwise.{mixed_more}
 use Rattle.nv_super.specs.declared.superblock.Super.{Super}
-use Rattle.nv_super.specs.declared.owners.Owner.TheVariants as owners
 use Rattle.nv_super.specs.Layout.{Layout, fixed_layout, slot_of, slot_address}
 use Rattle.nv_super.proofs.Slots.{slot_is}
 use Rattle.nv_alloc.specs.FreeValue.{FreeLists}
@@ -17,16 +17,16 @@ use Rattle.nv_logpage.proofs.RightLogs.{head_starts}
 use Rattle.nv_scan.specs.State.{block_of}
 use Rattle.nv_scan.specs.declared.piece.Row.{Row}
 use Rattle.nv_held.specs.Held.{Held, Store, Shows, good_in}
-use Rattle.nv_held.specs.Blocks.{by_page, NoneDoubled}
-use Rattle.nv_held.specs.Bytes.{byte_in, byte_of}
+use Rattle.nv_held.specs.Blocks.{NoneDoubled}
+use Rattle.nv_held.specs.Bytes.{byte_of}
 use Rattle.nv_held.specs.Grows.{AreFree, NoEntryFault, SameFile, SameNames}
 use Rattle.nv_held.specs.Loose.{Loose}
 use Rattle.nv_held.specs.Mounted.{IsFaultless, KeepsRow, ShowsSound}
 use Rattle.nv_held.specs.Slots.{SlotsClear}
+use Rattle.nv_held.proofs.BytesKept.{data_stays, no_loose_data}
 use Rattle.nv_held.proofs.Faultless.{still_faultless}
 use Rattle.nv_held.proofs.Fronts.{sound_moves}
 use Rattle.nv_held.proofs.Growing.{grown_owns, free_but}
-use Rattle.nv_held.proofs.Kept.{page_owner, tail_there}
 use Rattle.nv_held.proofs.Owning.{same_held}
 use Rattle.nv_held.proofs.Shown.{stands_at}
 use Rattle.nv_commit.specs.Extends.{CanExtend, ExtendWords, ShowsMoved, extended, with_log}
@@ -97,21 +97,10 @@ module _ {R : Region} {s : Super} {held : Store} {h : Held} {row : Row} {free af
 
 -- ---- the bytes of files
 
--- a loose word or a slot's tail is in no block of a file
-no_data : (l : Layout) (held : Store) (R : Region) (j slot new : ℕ) → SlotsClear l held → NoneDoubled l held → Shows R l held → slot_of l j ≡ Some slot → (i p b : ℕ) (h : Held) → held i ≡ Some h → block_of (good_in l h) p ≡ Some b
-    → (k v : ℕ) → 8 * k / 4096 ≡ b → Loose l held k v ⊎ One (slot + 24) new k v → ⊥
-no_data l held R j slot new slots undoubled shows at i p b h is maps k v block (inl (inl free)) = free.unowned (owners.Data i p) (by_page is (maps ∙ ap (λ (n : ℕ). Some n) (sym block)))
-no_data l held R j slot new slots undoubled shows at i p b h is maps k v block (inl (inr (inl w))) =
-    let there = stands_at shows w.0 w.1 w.2 in
-    let page : w.1.tail / 4096 ≡ b = sym w.3 ∙ block in
-    let o = page_owner l held w.0 (w.1.tail / 4096) w.1 w.2 (tail_there there.is.right there.is.reads) in
-    let clash : owners.Log w.0 o.0 ≡ owners.Data i p = undoubled (w.1.tail / 4096) (owners.Log w.0 o.0) (owners.Data i p) o.1 (by_page is (maps ∙ ap (λ (n : ℕ). Some n) (sym page))) in
-    absurd (cc)
-no_data l held R j slot new slots undoubled shows at i p b h is maps k v block (inl (inr (inr w))) =
-    let whole = slots.whole w.0 w.1 w.2 in
-    let same : w.1 / 4096 ≡ b = omega (arith, block, w.4, w.5, whole) in
-    slots.unmapped i p b h is maps w.0 w.1 w.2 same
-no_data l held R j slot new slots undoubled shows at i p b h is maps k v block (inr one) =
+-- a slot's word is in no block of a file
+no_slot_data : (l : Layout) (held : Store) (j slot new : ℕ) → SlotsClear l held → slot_of l j ≡ Some slot → (i p b : ℕ) (h : Held) → held i ≡ Some h → block_of (good_in l h) p ≡ Some b
+    → (k v : ℕ) → 8 * k / 4096 ≡ b → One (slot + 24) new k v → ⊥
+no_slot_data l held j slot new slots at i p b h is maps k v block one =
     let whole = slots.whole j slot at in
     let word_is : k ≡ (slot + 24) / 8 = one.0 in
     let same : slot / 4096 ≡ b = omega (arith, block, word_is, whole) in
@@ -120,24 +109,17 @@ no_data l held R j slot new slots undoubled shows at i p b h is maps k v block (
 -- Where nothing else was stored, each byte of each file is where it was.
 pub bytes_stay : (l : Layout) (held : Store) (R S : Region) (j slot new : ℕ) → SlotsClear l held → NoneDoubled l held → Shows R l held → slot_of l j ≡ Some slot → IsMixed R (λ k v. Loose l held k v ⊎ One (slot + 24) new k v) S
     → (i : ℕ) (h : Held) → held i ≡ Some h → (x : ℕ) → byte_of S l h x ≡ byte_of R l h x
-bytes_stay l held R S j slot new slots undoubled shows at mixed i h is x = by_block (block_of (good_in l h) (x / 4096)) refl where
-  by_block : (o : Option ℕ) → block_of (good_in l h) (x / 4096) ≡ o → byte_in S o x ≡ byte_in R o x
-  by_block None e = refl
-  by_block (Some b) e = ap (λ (w : ℕ). w / 256 ^ (x % 8) % 256)
-      (mixed_word R S (λ k v. Loose l held k v ⊎ One (slot + 24) new k v) (b * 4096 + x % 4096 / 8 * 8) (omega arith) mixed (λ v w. no_data l held R j slot new slots undoubled shows at i (x / 4096) b h is e ((b * 4096 + x % 4096 / 8 * 8) / 8) v (omega arith) w))
-
-mixed_within : (these those : Choices) (R S : Region) → ((k v : ℕ) → those k v → these k v) → IsMixed R those S → IsMixed R these S
-mixed_within these those R S within m = record {
-  as_long = m.as_long;
-  same_rest = m.same_rest;
-  each_word = λ k below. elim (m.each_word k below) [ inl same ↦ inl same | inr one ↦ inr (within k (get_or S.words k 0) one) ];
-}
+bytes_stay l held R S j slot new slots undoubled shows at mixed i h is = data_stays l (λ k v. Loose l held k v ⊎ One (slot + 24) new k v) R S h mixed (λ p b k v maps block w. elim w [
+  | inl loose ↦ no_loose_data l held R i h slots undoubled shows is p b k v maps block loose
+  | inr one ↦ no_slot_data l held j slot new slots at i p b h is maps k v block one
+])
 
 module _ {R S : Region} {s : Super} {held : Store} {i : ℕ} {h : Held} {slot tail : ℕ} {entries : List Entry} {fresh : List ℕ} (can : CanExtend R s held i h slot tail entries fresh) where
   -- The words that an extension stores.
   pub extend_mixed : IsMixed R (ExtendWords slot tail entries fresh) S → IsMixed R (λ k v. Loose (fixed_layout s) held k v ⊎ One (slot + 24) (end_of fresh 0 tail entries) k v) S
-  extend_mixed mixed = mixed_within (λ k v. Loose (fixed_layout s) held k v ⊎ One (slot + 24) (end_of fresh 0 tail entries) k v) (ExtendWords slot tail entries fresh) R S
-      (λ k v w. elim w [ inl appended ↦ inl (loose_there can k v appended) | inr moved ↦ inr moved ]) mixed
+  extend_mixed mixed = mixed_more (λ k v. Loose (fixed_layout s) held k v ⊎ One (slot + 24) (end_of fresh 0 tail entries) k v) (ExtendWords slot tail entries fresh) R R S
+      (λ k v w. elim w [ inl appended ↦ inl (loose_there can k v appended) | inr moved ↦ inr moved ])
+      (mixed_same R (λ k v. Loose (fixed_layout s) held k v ⊎ One (slot + 24) (end_of fresh 0 tail entries) k v)) mixed
 
   pub extended_bytes : IsMixed R (ExtendWords slot tail entries fresh) S → (j : ℕ) (g : Held) → held j ≡ Some g → (x : ℕ) → byte_of S (fixed_layout s) g x ≡ byte_of R (fixed_layout s) g x
   extended_bytes mixed = let sound = can.sound in let faultless = sound.faultless in bytes_stay (fixed_layout s) held R S i slot (end_of fresh 0 tail entries) (slots can) faultless.undoubled sound.shows can.at (extend_mixed mixed)

@@ -8,16 +8,14 @@ use Rattle.std.specs.Ordering.{ordering_index}
 use Rattle.std.specs.declared.cmp.Ordering.TheVariants.{Less, Equal, Greater}
 use Rattle.std.proofs.lemmas.Bool.{cases_lt}
 use Rattle.std.proofs.lemmas.Bool.Decides.{nat_tests}
-use Rattle.std.proofs.lemmas.Option.{slice_get_within, get_or_from_slice_get, slice_get-get_or}
+use Rattle.std.proofs.lemmas.Option.{get_or_from_slice_get, slice_get-get_or}
 use Rattle.nv_super.specs.Order.{Rises}
 use Rattle.nv_super.proofs.Rising.{head_least, tail_rises, Contains-head, Contains-tail}
 use Rattle.nv_check.specs.Cross.{row_key}
 use Rattle.nv_check.proofs.Rows.{key_less}
 use Rattle.nv_scan.specs.declared.piece.Row.{Row}
 use Rattle.nv_named.specs.Read.{row_of}
-
-stands : (rows : List Row) (k : ℕ) (r : Row) → slice_get rows k ≡ Some r → Contains rows r
-stands rows k r e = (k, slice_get_within rows k r e, get_or_from_slice_get rows k r r e)
+use Rattle.nv_held.proofs.Growing.{stands}
 
 -- a row at a place is the row of its number
 pub row_at : (rows : List Row) (k : ℕ) (r : Row) → Rises row_key rows → slice_get rows k ≡ Some r → row_of rows r.inode ≡ Some r

@@ -98,8 +98,8 @@ module _ {old new : FreeLists} {fresh : List ℕ} (taken : TakesEach old fresh n
         ((kept.each f.0 below).each run.0 b run.1 run.2 run.3).1
 
     -- The free lists are those of the free blocks without them.
-    pub lists_without : (after : Store) → ((b : ℕ) → blocks.IsFreeIn l after b ↔ (blocks.IsFreeIn l held b × (Contains fresh b → ⊥))) → KeepsFree l after new.pools
+    pub lists_without : (after : Store) → ((b : ℕ) → blocks.IsUnowned l after b ↔ (blocks.IsUnowned l held b × (Contains fresh b → ⊥))) → KeepsFree l after new.pools
     lists_without after free =
-        let w = pools_all_taken l (blocks.IsFreeIn l held) taken.from new (single_takes fresh) from_kept (taken.same.sup ∙ sup) taken.takes in
-        pools_same l (λ b. blocks.IsFreeIn l held b × (WasTaken (single_takes fresh) b → ⊥)) (blocks.IsFreeIn l after) new.pools
+        let w = pools_all_taken l (blocks.IsUnowned l held) taken.from new (single_takes fresh) from_kept (taken.same.sup ∙ sup) taken.takes in
+        pools_same l (λ b. blocks.IsUnowned l held b × (WasTaken (single_takes fresh) b → ⊥)) (blocks.IsUnowned l after) new.pools
         (λ b. ((λ v. (free b).1 (v.0, λ c. v.1 (was_taken fresh b c))), (λ v. (let u = (free b).0 v in (u.0, λ t. u.1 (is_taken fresh b t)))))) w.0

@@ -23,7 +23,7 @@ use Rattle.nv_scan.proofs.Words.{word-more}
 use Rattle.nv_outcome.proofs.Finite.{Decided, number_is}
 use Rattle.nv_named.proofs.MoreEntries.{quiet_entries}
 use Rattle.nv_held.specs.Held.{Held, Store, good_in, with_inode}
-use Rattle.nv_held.specs.Blocks.{IsFreeIn, NoneDoubled, OwnsIn, OwnsNew, by_log, by_page}
+use Rattle.nv_held.specs.Blocks.{IsUnowned, NoneDoubled, OwnsIn, OwnsNew, by_log, by_page}
 use Rattle.nv_held.specs.Grows.{Maps, SameFile, grown}
 use Rattle.nv_held.proofs.Growing.{has_block, log_owned, page_owned}
 use Rattle.nv_held.proofs.Kept.{page_owner}
@@ -50,7 +50,7 @@ one_place : (page k b : ℕ) → slice_get (page ∷ []) k ≡ Some b → (b ≡
 one_place page zero b e = (sym (get_or_from_slice_get (page ∷ []) 0 b 0 e), refl)
 one_place page (suc k) b e = absurd (let below = slice_get_within (page ∷ []) (suc k) b e in omega (arith, below))
 
-module _ (l : Layout) (held : Store) (i : ℕ) (new : Held) (page : ℕ) (out : held i ≡ None) (pages : new.pages ≡ page ∷ []) (free : IsFreeIn l held page) (none : MapsNothing l new) where
+module _ (l : Layout) (held : Store) (i : ℕ) (new : Held) (page : ℕ) (out : held i ≡ None) (pages : new.pages ≡ page ∷ []) (free : IsUnowned l held page) (none : MapsNothing l new) where
   abbrev after : Store
   after = with_inode held i (Some new)
 
@@ -70,8 +70,8 @@ module _ (l : Layout) (held : Store) (i : ℕ) (new : Held) (page : ℕ) (out : 
       let clash : None ≡ Some b = sym (none p) ∙ ap (λ (h : Held). block_of (good_in l h) p) (sym same) ∙ w.2 in
       cc
 
-  each_was : (b : ℕ) (o : Owner) → OwnsIn l after b o → inode_of o ≡ i → ((before : Owner) × OwnsIn l held b before × (inode_of before ≡ i)) ⊎ IsFreeIn l held b
-  each_was b (owners.Log j k) owns mine = inr (subst (IsFreeIn l held) (sym (of_log b j k mine owns).0) free)
+  each_was : (b : ℕ) (o : Owner) → OwnsIn l after b o → inode_of o ≡ i → ((before : Owner) × OwnsIn l held b before × (inode_of before ≡ i)) ⊎ IsUnowned l held b
+  each_was b (owners.Log j k) owns mine = inr (subst (IsUnowned l held) (sym (of_log b j k mine owns).0) free)
   each_was b (owners.Data j p) owns mine = absurd (of_page b j p mine owns)
 
   once : (b : ℕ) (o other : Owner) → OwnsIn l after b o → OwnsIn l after b other → inode_of o ≡ i → inode_of other ≡ i → o ≡ other
@@ -94,9 +94,9 @@ module _ (l : Layout) (held : Store) (i : ℕ) (new : Held) (page : ℕ) (out : 
   taken = by_log now (subst (λ (xs : List ℕ). slice_get xs 0 ≡ Some page) (sym pages) refl)
 
   -- The free blocks are those of before but for its page.
-  pub begun_free : (b : ℕ) → IsFreeIn l after b ↔ (IsFreeIn l held b × (b ≢ page))
+  pub begun_free : (b : ℕ) → IsUnowned l after b ↔ (IsUnowned l held b × (b ≢ page))
   begun_free b = (
-    (λ is. (free_before l held i (Some new) b is (not_before b), λ same. (subst (IsFreeIn l after) same is).unowned (owners.Log i 0) taken)),
+    (λ is. (free_before l held i (Some new) b is (not_before b), λ same. (subst (IsUnowned l after) same is).unowned (owners.Log i 0) taken)),
     (λ was. free_still l held i (Some new) b was.0 (not_now b was.1)),
   )
 
@@ -125,7 +125,7 @@ module _ (l : Layout) (held : Store) (i : ℕ) (f : Held) (is : held i ≡ Some 
   owned_page : (b : ℕ) → Contains f.pages b → (k : ℕ) × OwnsIn l held b (owners.Log i k)
   owned_page b c = page_owner l held i b f is c
 
-  page_free : (b : ℕ) → Contains f.pages b → IsFreeIn l left b
+  page_free : (b : ℕ) → Contains f.pages b → IsUnowned l left b
   page_free b c = let o = owned_page b c in let d = inside b c in
       let_go l held i None undoubled b (owners.Log i o.0) o.1 refl (record { from = d.0; below = d.1; unowned = nobody b }) (gone b)
     where
@@ -133,7 +133,7 @@ module _ (l : Layout) (held : Store) (i : ℕ) (f : Held) (is : held i ≡ Some 
       nobody b (owners.Log j k) owns = let w = log_owned owns in let e = w.1 in cc
       nobody b (owners.Data j p) owns = let w = page_owned owns in let e = w.1 in cc
 
-  data_free : (b : ℕ) → Maps l f b → IsFreeIn l left b
+  data_free : (b : ℕ) → Maps l f b → IsUnowned l left b
   data_free b w = let d = data_pages l.sup f.kind f.entries w.0 b w.1 in
       let_go l held i None undoubled b (owners.Data i w.0) (by_page is w.1) refl (record { from = d.1; below = d.2; unowned = nobody b }) (gone b)
     where
@@ -152,7 +152,7 @@ module _ (l : Layout) (held : Store) (i : ℕ) (f : Held) (is : held i ≡ Some 
       let same : w.0 ≡ f = some_is w.0 f (held i) (ap held (sym mine) ∙ w.1) is in
       no_data (p, subst (λ (h : Held). block_of (good_in l h) p ≡ Some b) same w.2)
 
-  back : (b : ℕ) → IsFreeIn l left b → IsFreeIn l held b ⊎ (Contains f.pages b ⊎ Maps l f b)
+  back : (b : ℕ) → IsUnowned l left b → IsUnowned l held b ⊎ (Contains f.pages b ⊎ Maps l f b)
   back b free = elim (there_or_not f.pages b) [
     | inl page ↦ inr (inl page)
     | inr no_page ↦ elim (has_block l f b) [
@@ -162,5 +162,5 @@ module _ (l : Layout) (held : Store) (i : ℕ) (f : Held) (is : held i ≡ Some 
   ]
 
   -- The free blocks are those of before and those that it owned.
-  pub gone_free : (b : ℕ) → IsFreeIn l left b ↔ (IsFreeIn l held b ⊎ (Contains f.pages b ⊎ Maps l f b))
+  pub gone_free : (b : ℕ) → IsUnowned l left b ↔ (IsUnowned l held b ⊎ (Contains f.pages b ⊎ Maps l f b))
   gone_free b = (back b, λ either. elim either [ inl was ↦ free_still l held i None b was (gone b) | inr own ↦ elim own [ inl page ↦ page_free b page | inr mapped ↦ data_free b mapped ] ])

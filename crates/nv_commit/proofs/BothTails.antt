@@ -33,7 +33,7 @@ use Rattle.nv_held.proofs.Clear.{slots_clear}
 use Rattle.nv_held.proofs.Commits.{log_stays, stored_outside}
 use Rattle.nv_held.proofs.Fronts.{front_idle, front_super, loose_front, loose_sound, slot_front}
 use Rattle.nv_held.proofs.Idle.{idle_undone}
-use Rattle.nv_held.proofs.Kept.{head_whole, page_owner, tail_there}
+use Rattle.nv_held.proofs.Kept.{head_whole, page_owner, same_inode, tail_there}
 use Rattle.nv_held.proofs.Owning.{other_held}
 use Rattle.nv_held.proofs.Shown.{stands_at}
 use Rattle.nv_commit.specs.declared.together.Extension.{Extension}
@@ -77,9 +77,6 @@ sound_undone {Q} {s} {held} sound =
     let own : Q ≡ undone s Q = sym (idle_undone s Q (layout_of_super Q s sound.sup) sound.idle) in
     record { sup = subst (λ (U : Region). IsSuper U s) own sound.sup; shows = subst (λ (U : Region). Shows U (fixed_layout s) held) own sound.shows; journals = idle_faultless (is_permitted s) s.cpus Q sound.idle }
 
-one_inode : (i j k m : ℕ) → owners.Log i k ≡ owners.Log j m → i ≡ j
-one_inode i j k m e = cc
-
 -- ---- two logs
 
 module _ {R : Region} {s : Super} {held : Store} {cpu i : ℕ} {h : Held} {x : Extension} {j : ℕ} {g : Held} {y : Extension} (can : CanExtendTwo R s held cpu i h x j g y) where
@@ -106,7 +103,7 @@ module _ {R : Region} {s : Super} {held : Store} {cpu i : ℕ} {h : Held} {x : E
   not_both b one two =
       let mine = page_owner (fixed_layout s) held i b h can.first.holds one in
       let theirs = page_owner (fixed_layout s) held j b g can.second.holds two in
-      can.differ (one_inode i j mine.0 theirs.0 (can.first.sound.faultless.undoubled b (owners.Log i mine.0) (owners.Log j theirs.0) mine.1 theirs.1))
+      can.differ (same_inode i j mine.0 theirs.0 (can.first.sound.faultless.undoubled b (owners.Log i mine.0) (owners.Log j theirs.0) mine.1 theirs.1))
 
   in_tail : (b : ℕ) → Contains (h.pages ++ take (needed (h.tail % 4096) x.entries.now) x.fresh.now) b → Contains g.pages b → ⊥
   in_tail b c two = elim (Contains-append_cases h.pages (take (needed (h.tail % 4096) x.entries.now) x.fresh.now) b c) [

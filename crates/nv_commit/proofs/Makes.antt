@@ -25,7 +25,7 @@ use Rattle.nv_logpage.specs.Reads.{Reads, ends}
 use Rattle.nv_logpage.proofs.Local.{ReadsOn-same}
 use Rattle.nv_outcome.proofs.SuperOf.{blocks_of_super, layout_of_super}
 use Rattle.nv_held.specs.Held.{Held, Store, Shows, with_inode}
-use Rattle.nv_held.specs.Blocks.{IsFreeIn, OwnsIn}
+use Rattle.nv_held.specs.Blocks.{IsUnowned, OwnsIn}
 use Rattle.nv_held.specs.Slots.{HaveNoSlots, SlotsClear}
 use Rattle.nv_held.specs.Loose.{IsReady, Loose}
 use Rattle.nv_held.specs.Front.{SameFront}
@@ -105,7 +105,7 @@ journal_waits {R} {S} {cpu} {n} {x} begin can mixed empty = (deq ∙ empty.0 ∙
 
 module _ {R : Region} {s : Super} {held : Store} {cpu j : ℕ} {n : NewInode} {i : ℕ} {h : Held} {x : Extension} (can : CanMake R s held cpu j n i h x) where
   prepared_loose : (k v : ℕ) → PrepareWords n x k v → Loose (fixed_layout s) held k v
-  prepared_loose k v (inl (inl (inl w))) = let here = w.0 in let page : n.page ≡ 8 * k / 4096 = omega (arith, here) in inl (subst (IsFreeIn (fixed_layout s) held) page can.page)
+  prepared_loose k v (inl (inl (inl w))) = let here = w.0 in let page : n.page ≡ 8 * k / 4096 = omega (arith, here) in inl (subst (IsUnowned (fixed_layout s) held) page can.page)
   prepared_loose k v (inl (inl (inr w))) = absurd (let none = w.1 in omega (arith, none))
   prepared_loose k v (inl (inr w)) = let from = w.0 in let below = w.1 in inr (inr (j, n.slot, can.at, can.unused, omega (arith, from), omega (arith, below)))
   prepared_loose k v (inr w) = loose_there can.parent k v w
@@ -223,7 +223,7 @@ module _ {R : Region} {s : Super} {held : Store} {cpu j : ℕ} {n : NewInode} {i
     read_there = ReadsOn-same S (λ b c a whole page. page_word a whole (page ∙ one_only b c)) (0, omega arith, refl) (omega arith) (omega arith) read_logged
 
     no_slots : HaveNoSlots (fixed_layout s) (n.page ∷ [])
-    no_slots b c = clear.unfree b (subst (IsFreeIn (fixed_layout s) held) (sym (one_only b c)) can.page)
+    no_slots b c = clear.unfree b (subst (IsUnowned (fixed_layout s) held) (sym (one_only b c)) can.page)
 
     -- no word of the slot changes with the directory's log
     off_slot : (m : ℕ) → m % 8 ≡ 0 → m < 128 → (v : ℕ) → AppendWords x.tail x.fresh.now ((n.slot + m) / 8) v → ⊥

@@ -13,7 +13,7 @@ use Rattle.nv_journal.specs.Undo.{journal}
 use Rattle.nv_journal.specs.Recorded.{Changes}
 use Rattle.nv_logpage.specs.Append.{AppendWords, CanAppend, appended, end_of, needed}
 use Rattle.nv_held.specs.Held.{Held, Store, with_inode}
-use Rattle.nv_held.specs.Blocks.{IsFreeIn}
+use Rattle.nv_held.specs.Blocks.{IsUnowned}
 use Rattle.nv_held.specs.Appended.{Appends}
 use Rattle.nv_commit.specs.declared.together.Extension.{Extension}
 use Rattle.nv_commit.specs.declared.making.NewInode.{NewInode}
@@ -52,7 +52,7 @@ pub record CanMake (R : Region) (s : Super) (held : Store) (cpu j : ℕ) (n : Ne
   pub parent : CanExtend R s held i h x.slot x.tail x.entries.now x.fresh.now
   pub at : slot_of (fixed_layout s) j ≡ Some n.slot
   pub unused : held j ≡ None
-  pub page : IsFreeIn (fixed_layout s) held n.page
+  pub page : IsUnowned (fixed_layout s) held n.page
   pub apart : Contains x.fresh.now n.page → ⊥
   pub fits : needed 0 n.entries.now ≡ 0
   pub some : 0 < length n.entries.now

@@ -8,7 +8,7 @@ ghost use Rattle.nv_entry.specs.declared.entry.Entry.TheVariants.{Attr};
 ghost use Rattle.nv_logpage.specs.declared.found.Placed.{Placed};
 ghost use Rattle.nv_logpage.specs.Reads.{placed};
 ghost use Rattle.nv_held.specs.Held.{Held, Store, with_inode};
-ghost use Rattle.nv_held.specs.Blocks.{IsFreeIn, NoneDoubled, OwnsNew};
+ghost use Rattle.nv_held.specs.Blocks.{IsUnowned, NoneDoubled, OwnsNew};
 ghost use Rattle.nv_held.specs.Grows.{Maps, SameFile, grown};
 ghost use Rattle.nv_commit.specs.Pages.{MapsNothing, SaysNoPage};
 
@@ -20,14 +20,14 @@ pub fn no_page_is_said()
 
 /// A new inode whose log is one free page owns that page and nothing else. The free blocks are those of before but for it.
 pub fn begun_log_owns()
-    ensures owns { (l : Layout) (held : Store) (i : ℕ) (new : Held) (page : ℕ) → held i ≡ None → new.pages ≡ page ∷ [] → IsFreeIn l held page → MapsNothing l new → OwnsNew l held i (Some new) }
-    ensures free { (l : Layout) (held : Store) (i : ℕ) (new : Held) (page : ℕ) → held i ≡ None → new.pages ≡ page ∷ [] → IsFreeIn l held page → MapsNothing l new
-        → (b : ℕ) → IsFreeIn l (with_inode held i (Some new)) b ↔ (IsFreeIn l held b × (b ≢ page)) }
+    ensures owns { (l : Layout) (held : Store) (i : ℕ) (new : Held) (page : ℕ) → held i ≡ None → new.pages ≡ page ∷ [] → IsUnowned l held page → MapsNothing l new → OwnsNew l held i (Some new) }
+    ensures free { (l : Layout) (held : Store) (i : ℕ) (new : Held) (page : ℕ) → held i ≡ None → new.pages ≡ page ∷ [] → IsUnowned l held page → MapsNothing l new
+        → (b : ℕ) → IsUnowned l (with_inode held i (Some new)) b ↔ (IsUnowned l held b × (b ≢ page)) }
 {}
 
 /// Once an inode is gone, the free blocks are those of before, the pages of its log, which are data blocks, and the blocks of
 /// its file.
 pub fn gone_blocks_are_free()
     ensures { (l : Layout) (held : Store) (i : ℕ) (f : Held) → held i ≡ Some f → NoneDoubled l held → ((b : ℕ) → Contains f.pages b → (system_blocks l.sup ≤ b) × (b < l.sup.blocks))
-        → (b : ℕ) → IsFreeIn l (with_inode held i None) b ↔ (IsFreeIn l held b ⊎ (Contains f.pages b ⊎ Maps l f b)) }
+        → (b : ℕ) → IsUnowned l (with_inode held i None) b ↔ (IsUnowned l held b ⊎ (Contains f.pages b ⊎ Maps l f b)) }
 {}

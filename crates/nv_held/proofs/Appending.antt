@@ -18,7 +18,7 @@ use Rattle.nv_logpage.specs.Append.{AllDiffer, AppendWords, AreGiven, CanAppend,
 use Rattle.nv_logpage.proofs.RightLogs.{head_starts, tail_whole, tail_low}
 use Rattle.nv_outcome.proofs.SuperOf.{blocks_of_super, layout_of_super}
 use Rattle.nv_held.specs.Held.{Held, Store, Shows, with_inode}
-use Rattle.nv_held.specs.Blocks.{IsFreeIn, NoneDoubled}
+use Rattle.nv_held.specs.Blocks.{IsUnowned, NoneDoubled}
 use Rattle.nv_held.specs.Slots.{SlotsClear}
 use Rattle.nv_held.specs.Loose.{Loose}
 use Rattle.nv_held.specs.Grows.{grown, AreFree}
@@ -83,7 +83,7 @@ module _ (l : Layout) (held : Store) (i : ℕ) (h : Held) (is : held i ≡ Some 
   -- The words that an append may store are loose.
   pub append_loose : (k x : ℕ) → AppendWords h.tail fresh k x → Loose l held k x
   append_loose k x (inl w) = inr (inl (i, h, is, w.0, w.1))
-  append_loose k x (inr w) = inl (subst (IsFreeIn l held) (sym w.2) (free (get_or fresh w.0 0) (each_there fresh w.0 w.1)))
+  append_loose k x (inr w) = inl (subst (IsUnowned l held) (sym w.2) (free (get_or fresh w.0 0) (each_there fresh w.0 w.1)))
 
   module _ {R : Region} (shows : Shows R l held) where
     is_right : is_right_log l.sup h.head h.tail ≡ true

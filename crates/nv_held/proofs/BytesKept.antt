@@ -2,7 +2,7 @@
 use Rattle.std.proofs.Common.{◌≡◌, ◌≢◌, ℕ, ◌+◌, ◌*◌, ◌/◌, ◌%◌, ◌^◌, inl, inr, refl, ap, sym, ◌∙◌, arith, Option, Some, None}
 use Rattle.std.proofs.lemmas.Bool.{cases_lt}
 use Rattle.nv_region.specs.Region.{Region, word}
-use Rattle.nv_region.specs.Stops.{IsMixed}
+use Rattle.nv_region.specs.Stops.{Choices, IsMixed}
 use Rattle.nv_region.specs.Stored.{SameOutside}
 use Rattle.nv_region.proofs.Wordwise.{mixed_word}
 use Rattle.nv_super.specs.declared.owners.Owner.TheVariants as owners
@@ -23,28 +23,28 @@ same_byte : (R S : Region) (o : Option ℕ) (x : ℕ) → ((b : ℕ) → o ≡ S
 same_byte R S None x same = refl
 same_byte R S (Some b) x same = ap (λ (w : ℕ). w / 256 ^ (x % 8) % 256) (same b refl)
 
+-- Where no word of a file's blocks was stored, each of its bytes is where it was.
+pub data_stays : (l : Layout) (these : Choices) (R S : Region) (h : Held) → IsMixed R these S
+    → ((p b k v : ℕ) → block_of (good_in l h) p ≡ Some b → 8 * k / 4096 ≡ b → these k v → ⊥) → (x : ℕ) → byte_of S l h x ≡ byte_of R l h x
+data_stays l these R S h mixed away x = same_byte R S (block_of (good_in l h) (x / 4096)) x (λ b maps.
+    mixed_word R S these (b * 4096 + x % 4096 / 8 * 8) (omega arith) mixed (λ v w. away (x / 4096) b ((b * 4096 + x % 4096 / 8 * 8) / 8) v maps (omega arith) w))
+
 -- Loose words are no file's.
+pub no_loose_data : (l : Layout) (held : Store) (R : Region) (i : ℕ) (h : Held) → SlotsClear l held → NoneDoubled l held → Shows R l held → held i ≡ Some h
+    → (p b k v : ℕ) → block_of (good_in l h) p ≡ Some b → 8 * k / 4096 ≡ b → Loose l held k v → ⊥
+no_loose_data l held R i h slots undoubled shows is p b k v maps block (inl free) = free.unowned (owners.Data i p) (by_page is (maps ∙ ap Some (sym block)))
+no_loose_data l held R i h slots undoubled shows is p b k v maps block (inr (inl w)) =
+    let at = stands_at shows w.0 w.1 w.2 in
+    let page : w.1.tail / 4096 ≡ b = sym w.3 ∙ block in
+    let o = page_owner l held w.0 (w.1.tail / 4096) w.1 w.2 (tail_there at.is.right at.is.reads) in
+    let clash : owners.Log w.0 o.0 ≡ owners.Data i p = undoubled (w.1.tail / 4096) (owners.Log w.0 o.0) (owners.Data i p) o.1 (by_page is (maps ∙ ap Some (sym page))) in
+    absurd (cc)
+no_loose_data l held R i h slots undoubled shows is p b k v maps block (inr (inr w)) =
+    let same : w.1 / 4096 ≡ b = omega (arith, block, w.4, w.5, slots.whole w.0 w.1 w.2) in
+    slots.unmapped i p b h is maps w.0 w.1 w.2 same
+
 pub loose_data : (l : Layout) (held : Store) (R left : Region) (i : ℕ) (h : Held) → SlotsClear l held → NoneDoubled l held → Shows R l held → IsMixed R (Loose l held) left → held i ≡ Some h → (x : ℕ) → byte_of left l h x ≡ byte_of R l h x
-loose_data l held R left i h slots undoubled shows mixed is x = same_byte R left (block_of (good_in l h) (x / 4096)) x of_block where
-  of_block : (b : ℕ) → block_of (good_in l h) (x / 4096) ≡ Some b → word left (b * 4096 + x % 4096 / 8 * 8) ≡ word R (b * 4096 + x % 4096 / 8 * 8)
-  of_block b maps = mixed_word R left (Loose l held) (b * 4096 + x % 4096 / 8 * 8) (omega arith) mixed away where
-    here : 8 * ((b * 4096 + x % 4096 / 8 * 8) / 8) ≡ b * 4096 + x % 4096 / 8 * 8
-    here = omega arith
-
-    block : 8 * ((b * 4096 + x % 4096 / 8 * 8) / 8) / 4096 ≡ b
-    block = omega arith
-
-    away : (v : ℕ) → Loose l held ((b * 4096 + x % 4096 / 8 * 8) / 8) v → ⊥
-    away v (inl free) = free.unowned (owners.Data i (x / 4096)) (by_page is (maps ∙ ap Some (sym block)))
-    away v (inr (inl w)) =
-        let at = stands_at shows w.0 w.1 w.2 in
-        let page : w.1.tail / 4096 ≡ b = sym w.3 ∙ block in
-        let o = page_owner l held w.0 (w.1.tail / 4096) w.1 w.2 (tail_there at.is.right at.is.reads) in
-        let clash : owners.Log w.0 o.0 ≡ owners.Data i (x / 4096) = undoubled (w.1.tail / 4096) (owners.Log w.0 o.0) (owners.Data i (x / 4096)) o.1 (by_page is (maps ∙ ap Some (sym page))) in
-        cc
-    away v (inr (inr w)) =
-        let same : w.1 / 4096 ≡ b = omega (arith, block, w.4, w.5, slots.whole w.0 w.1 w.2) in
-        slots.unmapped i (x / 4096) b h is maps w.0 w.1 w.2 same
+loose_data l held R left i h slots undoubled shows mixed is = data_stays l (Loose l held) R left h mixed (no_loose_data l held R i h slots undoubled shows is)
 
 -- No slot is.
 pub slot_data : (l : Layout) (held : Store) (R S : Region) (j a i : ℕ) (h : Held) → SlotsClear l held → slot_of l j ≡ Some a → SameOutside R a 128 S → held i ≡ Some h → (x : ℕ) → byte_of S l h x ≡ byte_of R l h x

@@ -21,7 +21,7 @@ use Rattle.nv_scan.specs.LastWord.{last_word}
 use Rattle.nv_scan.specs.State.{block_of, says_block}
 use Rattle.nv_scan.proofs.Words.{words-more}
 use Rattle.nv_held.specs.Held.{Held, Store, with_inode, good_in}
-use Rattle.nv_held.specs.Blocks.{by_page, IsFreeIn, NoneDoubled}
+use Rattle.nv_held.specs.Blocks.{by_page, IsUnowned, NoneDoubled}
 use Rattle.nv_held.specs.Grows.{grown, AreFree, Maps, LetsGo, GrowsByData}
 use Rattle.nv_held.specs.Writes.{written_blocks, written_pages, WritesData, IsReplaced}
 use Rattle.nv_held.proofs.Growing.{free_with_data}
@@ -77,7 +77,7 @@ module _ (l : Layout) (held : Store) (h : Held) (tail : ℕ) (more : List Placed
 
   module _ (i : ℕ) (is : held i ≡ Some h) where
     -- a free block is no page's
-    unmapped : (p b : ℕ) → IsFreeIn l held b → block_of (good_in l h) p ≡ Some b → ⊥
+    unmapped : (p b : ℕ) → IsUnowned l held b → block_of (good_in l h) p ≡ Some b → ⊥
     unmapped p b free old = free.unowned (owners.Data i p) (by_page is old)
 
     pub grows : AreFree l held fresh → GrowsByData l held h new fresh
@@ -92,12 +92,12 @@ module _ (l : Layout) (held : Store) (h : Held) (tail : ℕ) (more : List Placed
     }
 
     -- no other block that was free is mapped
-    mapped_from : (b : ℕ) → IsFreeIn l held b → Maps l new b → HasBlock (written_blocks more) b
+    mapped_from : (b : ℕ) → IsUnowned l held b → Maps l new b → HasBlock (written_blocks more) b
     mapped_from b free m = elim (maps_from more m.0 b (block_of (good_in l h) m.0) (sym (block_now m.0) ∙ m.1)) [ inl old ↦ absurd (unmapped m.0 b free old) | inr here ↦ maps_written more m.0 b here ]
 
     module _ (undoubled : NoneDoubled l held) (free : AreFree l held fresh) where
       -- The free blocks are those of before that weren't taken, and those that the file let go.
-      pub free_then : (b : ℕ) → IsFreeIn l (with_inode held i (Some new)) b ↔ ((IsFreeIn l held b × (Contains fresh b → ⊥) × (HasBlock (written_blocks more) b → ⊥)) ⊎ LetsGo l h new b)
+      pub free_then : (b : ℕ) → IsUnowned l (with_inode held i (Some new)) b ↔ ((IsUnowned l held b × (Contains fresh b → ⊥) × (HasBlock (written_blocks more) b → ⊥)) ⊎ LetsGo l h new b)
       free_then b =
           let both = free_with_data l held i h new is fresh (grows free) undoubled b in (
             (λ now. elim (both.0 now) [ inl v ↦ inl (v.0, v.1, λ here. v.2 (mapped b here)) | inr gone ↦ inr gone ]),
@@ -108,7 +108,7 @@ module _ (l : Layout) (held : Store) (h : Held) (tail : ℕ) (more : List Placed
       not_written : (p b : ℕ) → block_of (good_in l h) p ≡ Some b → HasBlock (written_pages more) p → block_of (good_in l new) p ≡ Some b → ⊥
       not_written p b old here now =
           let v = page_block p here in
-          unmapped p b (subst (IsFreeIn l held) (some_is v.0 b (block_of (good_in l new) p) v.1 now) (w.free v.0 v.2)) old
+          unmapped p b (subst (IsUnowned l held) (some_is v.0 b (block_of (good_in l new) p) v.1 now) (w.free v.0 v.2)) old
 
       -- or cut
       is_gone : 0 < length more → (p b : ℕ) → block_of (good_in l h) p ≡ Some b → HasBlock (written_pages more) p ⊎ (size ≤ p * 4096) → block_of (good_in l new) p ≡ Some b → ⊥

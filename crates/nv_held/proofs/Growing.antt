@@ -15,7 +15,7 @@ use Rattle.nv_scan.specs.Owners.{inode_of}
 use Rattle.nv_scan.proofs.Blocks.{data_pages}
 use Rattle.nv_outcome.proofs.Finite.{Decided, number_is, numbers, those, some, told_as}
 use Rattle.nv_held.specs.Held.{Held, Store, with_inode, good_in}
-use Rattle.nv_held.specs.Blocks.{OwnsIn, by_log, by_page, IsFreeIn, NoneDoubled, OwnsNew}
+use Rattle.nv_held.specs.Blocks.{OwnsIn, by_log, by_page, IsUnowned, NoneDoubled, OwnsNew}
 use Rattle.nv_held.specs.Grows.{AreFree, SameFile, Maps, LetsGo, GrowsByData}
 use Rattle.nv_held.proofs.Owning.{same_held, owned_before, owned_after}
 use Rattle.nv_held.proofs.Kept.{page_owner}
@@ -28,8 +28,8 @@ log_owned (by_log {h = h} is page) = (h, is, page)
 pub page_owned : {l : Layout} {held : Store} {i p b : ℕ} → OwnsIn l held b (owners.Data i p) → (h : Held) × (held i ≡ Some h) × (block_of (good_in l h) p ≡ Some b)
 page_owned (by_page {h = h} is maps) = (h, is, maps)
 
-stands : (xs : List ℕ) (k b : ℕ) → slice_get xs k ≡ Some b → Contains xs b
-stands xs k b h = (k, slice_get_within xs k b h, get_or_from_slice_get xs k b b h)
+pub stands : {A : Type 0} (xs : List A) (k : ℕ) (x : A) → slice_get xs k ≡ Some x → Contains xs x
+stands xs k x at = (k, slice_get_within xs k x at, get_or_from_slice_get xs k x x at)
 
 -- a place of a list of numbers that differ
 one_place : (xs : List ℕ) (j k b : ℕ) → IsDistinct eqb xs → slice_get xs j ≡ Some b → slice_get xs k ≡ Some b → j ≡ k
@@ -91,17 +91,17 @@ module _ (l : Layout) (held : Store) (i : ℕ) (h new : Held) (is : held i ≡ S
   log_now b c = page_owner l after i b new now (subst (λ (xs : List ℕ). Contains xs b) (sym by.pages) c)
 
   -- each block that the inode owns was its own or free
-  each_was : (b : ℕ) (o : Owner) → OwnsIn l after b o → inode_of o ≡ i → ((before : Owner) × OwnsIn l held b before × (inode_of before ≡ i)) ⊎ IsFreeIn l held b
+  each_was : (b : ℕ) (o : Owner) → OwnsIn l after b o → inode_of o ≡ i → ((before : Owner) × OwnsIn l held b before × (inode_of before ≡ i)) ⊎ IsUnowned l held b
   each_was b (owners.Log j k) owns mine = elim (log_was b k (of_log b j k mine owns)) [ inl w ↦ inl (owners.Log i w.0, w.1, refl) | inr w ↦ inr (by.free b w) ]
   each_was b (owners.Data j p) owns mine = elim (by.from p b (of_page b j p mine owns)) [ inl old ↦ inl (owners.Data i p, by_page is old, refl) | inr w ↦ inr w.0 ]
 
   -- what is free now
-  unowned_now : (b : ℕ) → IsFreeIn l held b → (Contains fresh b → ⊥) → (Maps l new b → ⊥) → (o : Owner) → OwnsIn l after b o → inode_of o ≡ i → ⊥
+  unowned_now : (b : ℕ) → IsUnowned l held b → (Contains fresh b → ⊥) → (Maps l new b → ⊥) → (o : Owner) → OwnsIn l after b o → inode_of o ≡ i → ⊥
   unowned_now b free out away (owners.Log j k) owns mine = elim (log_was b k (of_log b j k mine owns)) [ inl w ↦ free.unowned (owners.Log i w.0) w.1 | inr one ↦ out one ]
   unowned_now b free out away (owners.Data j p) owns mine = away (p, of_page b j p mine owns)
 
   -- a free block that wasn't taken is free
-  still_free : (b : ℕ) → IsFreeIn l held b → (Contains fresh b → ⊥) → (Maps l new b → ⊥) → IsFreeIn l after b
+  still_free : (b : ℕ) → IsUnowned l held b → (Contains fresh b → ⊥) → (Maps l new b → ⊥) → IsUnowned l after b
   still_free b free out away = record {
     from = free.from;
     below = free.below;
@@ -109,11 +109,11 @@ module _ (l : Layout) (held : Store) (i : ℕ) (h new : Held) (is : held i ≡ S
   }
 
   -- what was free
-  was_free : (b : ℕ) → IsFreeIn l after b → (Maps l h b → ⊥) → (o : Owner) → OwnsIn l held b o → inode_of o ≡ i → ⊥
+  was_free : (b : ℕ) → IsUnowned l after b → (Maps l h b → ⊥) → (o : Owner) → OwnsIn l held b o → inode_of o ≡ i → ⊥
   was_free b free none (owners.Log j k) owns mine = let w = log_now b (Contains-append_left h.pages fresh b (stands h.pages k b (of_old_log b j k mine owns))) in free.unowned (owners.Log i w.0) w.1
   was_free b free none (owners.Data j p) owns mine = none (p, of_old_page b j p mine owns)
 
-  data_free : (b : ℕ) → IsFreeIn l after b → (IsFreeIn l held b × (Contains fresh b → ⊥) × (Maps l new b → ⊥)) ⊎ LetsGo l h new b
+  data_free : (b : ℕ) → IsUnowned l after b → (IsUnowned l held b × (Contains fresh b → ⊥) × (Maps l new b → ⊥)) ⊎ LetsGo l h new b
   data_free b free = elim (has_block l h b) [
     | inl had ↦ inr (had, away)
     | inr none ↦ inl (
@@ -174,7 +174,7 @@ module _ (l : Layout) (held : Store) (i : ℕ) (h new : Held) (is : held i ≡ S
     ]
     gone_now b p old away (owners.Data j q) owns mine = away (q, of_page b j q mine owns)
 
-    let_go : (b : ℕ) → LetsGo l h new b → IsFreeIn l after b
+    let_go : (b : ℕ) → LetsGo l h new b → IsUnowned l after b
     let_go b w =
         let inside = data_pages l.sup h.kind h.entries w.0.0 b w.0.1 in
         record {
@@ -187,7 +187,7 @@ module _ (l : Layout) (held : Store) (i : ℕ) (h new : Held) (is : held i ≡ S
         }
 
     -- The free blocks are those of before that it didn't take, and those that it let go.
-    pub free_with_data : (b : ℕ) → IsFreeIn l after b ↔ ((IsFreeIn l held b × (Contains fresh b → ⊥) × (Maps l new b → ⊥)) ⊎ LetsGo l h new b)
+    pub free_with_data : (b : ℕ) → IsUnowned l after b ↔ ((IsUnowned l held b × (Contains fresh b → ⊥) × (Maps l new b → ⊥)) ⊎ LetsGo l h new b)
     free_with_data b = (data_free b, λ either. elim either [ inl w ↦ still_free b w.0 w.1 w.2 | inr w ↦ let_go b w ])
 
 -- ---- a file that stays
@@ -206,7 +206,7 @@ module _ (l : Layout) (held : Store) (i : ℕ) (h new : Held) (is : held i ≡ S
   grown_owns = data_owns l held i h new is fresh by
 
   -- The free blocks are those of before but for its pages.
-  pub free_but : (b : ℕ) → IsFreeIn l (with_inode held i (Some new)) b ↔ (IsFreeIn l held b × (Contains fresh b → ⊥))
+  pub free_but : (b : ℕ) → IsUnowned l (with_inode held i (Some new)) b ↔ (IsUnowned l held b × (Contains fresh b → ⊥))
   free_but b = (
     (λ now. elim (data_free l held i h new is fresh by b now) [ inl w ↦ (w.0, w.1) | inr gone ↦ absurd (gone.1 (gone.0.0, file gone.0.0 ∙ gone.0.1)) ]),
     (λ was. still_free l held i h new is fresh by b was.0 was.1 (λ w. was.0.unowned (owners.Data i w.0) (by_page is (sym (file w.0) ∙ w.1)))),

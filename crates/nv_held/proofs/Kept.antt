@@ -41,7 +41,7 @@ tail_there {R} {s} {head} {tail} right r = tail_page (head_starts s head tail ri
 pub page_owner : (l : Layout) (held : Store) (i b : ℕ) (h : Held) → held i ≡ Some h → Contains h.pages b → (k : ℕ) × OwnsIn l held b (owners.Log i k)
 page_owner l held i b h is c = (c.0, by_log is (slice_get-get_or h.pages c.0 b c.1 ∙ ap Some c.2))
 
-same_inode : (i j k m : ℕ) → owners.Log i k ≡ owners.Log j m → i ≡ j
+pub same_inode : (i j k m : ℕ) → owners.Log i k ≡ owners.Log j m → i ≡ j
 same_inode i j k m e = cc
 
 module _ (l : Layout) (held : Store) (R left : Region) (slots : SlotsClear l held) (undoubled : NoneDoubled l held) (shows : Shows R l held) (mixed : IsMixed R (Loose l held) left) where

@@ -11,7 +11,7 @@ use Rattle.nv_alloc.specs.FreeLists.{IsSound, Leave, Joins, JoinAll}
 use Rattle.nv_alloc.specs.Taking.{HasBlock, pool_at}
 use Rattle.nv_alloc.proofs.Changed.{AreRuns-same}
 use Rattle.nv_held.specs.Held.{Store}
-use Rattle.nv_held.specs.Blocks.{IsFreeIn, ArePoolRuns, KeepsFree}
+use Rattle.nv_held.specs.Blocks.{IsUnowned, ArePoolRuns, KeepsFree}
 use Rattle.nv_held.specs.Lists.{TakeAll, WasTaken}
 
 -- the same blocks, told in another way
@@ -89,20 +89,20 @@ pools_all_taken l P old new (runs ∷ takes) kept same w =
 
 -- The free lists are those of what is held, once the blocks were taken that aren't free any more.
 pub lists_follow : (l : Layout) (held after : Store) (old new : FreeLists) (n : ℕ) (runs : List Run) → KeepsFree l held old.pools → IsSound new → new.sup ≡ l.sup → Leave old n runs new
-    → ((b : ℕ) → IsFreeIn l after b ↔ (IsFreeIn l held b × (HasBlock runs b → ⊥))) → KeepsFree l after new.pools
+    → ((b : ℕ) → IsUnowned l after b ↔ (IsUnowned l held b × (HasBlock runs b → ⊥))) → KeepsFree l after new.pools
 lists_follow l held after old new n runs kept sound same leave free =
-    pools_same l (λ b. IsFreeIn l held b × (HasBlock runs b → ⊥)) (IsFreeIn l after) new.pools (λ b. ((free b).1, (free b).0)) (pools_taken l (IsFreeIn l held) old new n runs kept sound same leave)
+    pools_same l (λ b. IsUnowned l held b × (HasBlock runs b → ⊥)) (IsUnowned l after) new.pools (λ b. ((free b).1, (free b).0)) (pools_taken l (IsUnowned l held) old new n runs kept sound same leave)
 
 -- And once blocks were given back that are free now.
 pub lists_grow : (l : Layout) (held after : Store) (old new : FreeLists) (runs : List Run) → KeepsFree l held old.pools → old.sup ≡ l.sup → JoinAll old runs new
-    → ((b : ℕ) → IsFreeIn l after b ↔ (IsFreeIn l held b ⊎ HasBlock runs b)) → KeepsFree l after new.pools
+    → ((b : ℕ) → IsUnowned l after b ↔ (IsUnowned l held b ⊎ HasBlock runs b)) → KeepsFree l after new.pools
 lists_grow l held after old new runs kept same joins free =
-    pools_same l (λ b. IsFreeIn l held b ⊎ HasBlock runs b) (IsFreeIn l after) new.pools (λ b. ((free b).1, (free b).0)) (pools_all_given l (IsFreeIn l held) old new runs kept same joins)
+    pools_same l (λ b. IsUnowned l held b ⊎ HasBlock runs b) (IsUnowned l after) new.pools (λ b. ((free b).1, (free b).0)) (pools_all_given l (IsUnowned l held) old new runs kept same joins)
 
 -- And once some were taken and others given back.
 pub lists_change : (l : Layout) (held after : Store) (old mid new : FreeLists) (takes : List (List Run)) (runs : List Run) → KeepsFree l held old.pools → old.sup ≡ l.sup → TakeAll old takes mid → JoinAll mid runs new
-    → ((b : ℕ) → IsFreeIn l after b ↔ ((IsFreeIn l held b × (WasTaken takes b → ⊥)) ⊎ HasBlock runs b)) → KeepsFree l after new.pools
+    → ((b : ℕ) → IsUnowned l after b ↔ ((IsUnowned l held b × (WasTaken takes b → ⊥)) ⊎ HasBlock runs b)) → KeepsFree l after new.pools
 lists_change l held after old mid new takes runs kept same taken joins free =
-    let w = pools_all_taken l (IsFreeIn l held) old mid takes kept same taken in
-    pools_same l (λ b. (IsFreeIn l held b × (WasTaken takes b → ⊥)) ⊎ HasBlock runs b) (IsFreeIn l after) new.pools (λ b. ((free b).1, (free b).0))
-    (pools_all_given l (λ b. IsFreeIn l held b × (WasTaken takes b → ⊥)) mid new runs w.0 w.1 joins)
+    let w = pools_all_taken l (IsUnowned l held) old mid takes kept same taken in
+    pools_same l (λ b. (IsUnowned l held b × (WasTaken takes b → ⊥)) ⊎ HasBlock runs b) (IsUnowned l after) new.pools (λ b. ((free b).1, (free b).0))
+    (pools_all_given l (λ b. IsUnowned l held b × (WasTaken takes b → ⊥)) mid new runs w.0 w.1 joins)

@@ -6,7 +6,7 @@ use Rattle.nv_super.specs.Layout.{Layout}
 use Rattle.nv_super.specs.declared.owners.Owner.{Owner}
 use Rattle.nv_scan.specs.Owners.{inode_of}
 use Rattle.nv_held.specs.Held.{Held, Store, with_inode}
-use Rattle.nv_held.specs.Blocks.{OwnsIn, by_log, by_page, IsFreeIn, NoneDoubled, OwnsNew}
+use Rattle.nv_held.specs.Blocks.{OwnsIn, by_log, by_page, IsUnowned, NoneDoubled, OwnsNew}
 
 pub other_held : (held : Store) (i j : ℕ) (o : Option Held) → j ≢ i → with_inode held i o j ≡ held j
 other_held held i j o n = elim (eqb_tells j i) [ inl w ↦ absurd (n w.1) | inr w ↦ rw w.0 refl ]
@@ -25,15 +25,15 @@ module _ (l : Layout) (held : Store) (i : ℕ) (new : Option Held) where
   owned_after b o (by_page {i = j} is maps) n = by_page (other_held held i j new n ∙ is) maps
 
   -- what is free and isn't owned by the changed inode now is free
-  pub free_still : (b : ℕ) → IsFreeIn l held b → ((o : Owner) → OwnsIn l (with_inode held i new) b o → inode_of o ≡ i → ⊥) → IsFreeIn l (with_inode held i new) b
+  pub free_still : (b : ℕ) → IsUnowned l held b → ((o : Owner) → OwnsIn l (with_inode held i new) b o → inode_of o ≡ i → ⊥) → IsUnowned l (with_inode held i new) b
   free_still b free none = record { from = free.from; below = free.below; unowned = λ o owns. elim (cases_eq (inode_of o) i) [ inl mine ↦ none o owns mine | inr n ↦ free.unowned o (owned_before b o owns n) ] }
 
   -- what is free now was free, or was owned by the changed inode
-  pub free_before : (b : ℕ) → IsFreeIn l (with_inode held i new) b → ((o : Owner) → OwnsIn l held b o → inode_of o ≡ i → ⊥) → IsFreeIn l held b
+  pub free_before : (b : ℕ) → IsUnowned l (with_inode held i new) b → ((o : Owner) → OwnsIn l held b o → inode_of o ≡ i → ⊥) → IsUnowned l held b
   free_before b free none = record { from = free.from; below = free.below; unowned = λ o owns. elim (cases_eq (inode_of o) i) [ inl mine ↦ none o owns mine | inr n ↦ free.unowned o (owned_after b o owns n) ] }
 
   -- what the changed inode has let go is free
-  pub let_go : NoneDoubled l held → (b : ℕ) (o : Owner) → OwnsIn l held b o → inode_of o ≡ i → IsFreeIn l (λ _. None) b → ((mine : Owner) → OwnsIn l (with_inode held i new) b mine → inode_of mine ≡ i → ⊥) → IsFreeIn l (with_inode held i new) b
+  pub let_go : NoneDoubled l held → (b : ℕ) (o : Owner) → OwnsIn l held b o → inode_of o ≡ i → IsUnowned l (λ _. None) b → ((mine : Owner) → OwnsIn l (with_inode held i new) b mine → inode_of mine ≡ i → ⊥) → IsUnowned l (with_inode held i new) b
   let_go undoubled b o owns mine inside none = record {
     from = inside.from;
     below = inside.below;

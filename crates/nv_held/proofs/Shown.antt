@@ -14,7 +14,7 @@ use Rattle.nv_scan.proofs.Only.{IsInode-only, slot_in_use, kind_in_use, owned_lo
 use Rattle.nv_scan.proofs.Pieces.{valid_one}
 use Rattle.nv_outcome.specs.Outcome.{IsFree}
 use Rattle.nv_held.specs.Held.{Held, Store, HoldsInode, ShowsSlot, Shows, log_of}
-use Rattle.nv_held.specs.Blocks.{OwnsIn, by_log, by_page, IsFreeIn}
+use Rattle.nv_held.specs.Blocks.{OwnsIn, by_log, by_page, IsUnowned}
 
 -- an inode that is held is in use
 pub held_inode : (R : Region) (l : Layout) (i a : ℕ) (h : Held) → slot_of l i ≡ Some a → HoldsInode R l a h → IsInode R l i a (log_of h)
@@ -65,8 +65,8 @@ module _ {R : Region} {l : Layout} {held : Store} (shows : Shows R l held) where
   owns_back b (owners.Data i p) h = let u = owned_page h in let w = is_held i u.a u.log u.is in
       by_page w.held_is (subst (λ (x : Log). block_of (good_of l x) p ≡ Some b) w.same u.maps)
 
-  pub free_there : (b : ℕ) → IsFreeIn l held b → IsFree R l b
+  pub free_there : (b : ℕ) → IsUnowned l held b → IsFree R l b
   free_there b f = record { from = f.from; below = f.below; unowned = λ o h. f.unowned o (owns_back b o h) }
 
-  pub free_back : (b : ℕ) → IsFree R l b → IsFreeIn l held b
+  pub free_back : (b : ℕ) → IsFree R l b → IsUnowned l held b
   free_back b f = record { from = f.from; below = f.below; unowned = λ o h. f.unowned o (owns_there b o h) }

@@ -12,6 +12,7 @@ use Rattle.nv_super.proofs.Members.{none_in}
 use Rattle.nv_super.proofs.Options.{some_only}
 use Rattle.nv_super.proofs.Rising.{Contains-cons, Contains-head, Contains-tail}
 use Rattle.nv_alloc.specs.Taking.{Disjoint, HasBlock}
+use Rattle.nv_alloc.proofs.Leaving.{block_cases}
 use Rattle.nv_entry.specs.declared.entry.WriteEntry.{WriteEntry}
 use Rattle.nv_entry.specs.declared.entry.Entry.{Entry}
 use Rattle.nv_entry.specs.declared.entry.Entry.TheVariants.{NextPage, Write, Attr, Name, Links}
@@ -35,9 +36,6 @@ run_there (Some r) runs b w = (w.0, Contains-tail r runs w.0 w.1, w.2, w.3)
 run_here : (r : Run) (o : Option Run) (runs : List Run) (b : ℕ) → o ≡ Some r → InRun r b → HasBlock (cons_option o runs) b
 run_here r o runs b same w = subst (λ (p : Option Run). HasBlock (cons_option p runs) b) (sym same) (r, Contains-head r runs, w.0, w.1)
 
-from_runs : (r : Run) (runs : List Run) (b : ℕ) → HasBlock (r ∷ runs) b → InRun r b ⊎ HasBlock runs b
-from_runs r runs b w = elim (Contains-cons r runs w.0 w.1) [ inl e ↦ inl (subst (λ (x : Run). InRun x b) e (w.2, w.3)) | inr c ↦ inr (w.0, c, w.2, w.3) ]
-
 rest_disjoint : (o : Option Run) (runs : List Run) → Disjoint (cons_option o runs) → Disjoint runs
 rest_disjoint None runs d = d
 rest_disjoint (Some r) runs d = d.1
@@ -51,10 +49,10 @@ in_runs [] b = inr (λ w. none_in w.0 w.1)
 in_runs (r ∷ runs) b = elim (in_runs runs b) [
   | inl w ↦ inl (w.0, Contains-tail r runs w.0 w.1, w.2, w.3)
   | inr none ↦ elim (cases_lt b r.start) [
-    | inl low ↦ inr (λ w. elim (from_runs r runs b w) [ inl here ↦ (let from = here.0 in omega (arith, from, low)) | inr there ↦ none there ])
+    | inl low ↦ inr (λ w. elim (block_cases r runs b w) [ inl here ↦ (let from = here.0 in omega (arith, from, low)) | inr there ↦ none there ])
     | inr from ↦ elim (cases_lt b (r.start + r.count)) [
       | inl to ↦ inl (r, Contains-head r runs, from, to)
-      | inr high ↦ inr (λ w. elim (from_runs r runs b w) [ inl here ↦ (let to = here.1 in omega (arith, to, high)) | inr there ↦ none there ])
+      | inr high ↦ inr (λ w. elim (block_cases r runs b w) [ inl here ↦ (let to = here.1 in omega (arith, to, high)) | inr there ↦ none there ])
     ]
   ]
 ]
@@ -260,7 +258,7 @@ pub block_entry : (xs : List Placed) (b : ℕ) → HasBlock (written_blocks xs) 
 block_entry [] b w = absurd (none_in w.0 w.1)
 block_entry (y ∷ xs) b w = by_entry (block_entry xs b) y.entry refl w where
   by_entry : (HasBlock (written_blocks xs) b → EntryOf xs (λ e. record { start = e.block; count = e.count }) b) → (e : Entry) → y.entry ≡ e → HasBlock (cons_option (blocks_in_entry e) (written_blocks xs)) b → EntryOf (y ∷ xs) (λ e. record { start = e.block; count = e.count }) b
-  by_entry behind (Write e) is v = elim (from_runs (record { start = e.block; count = e.count }) (written_blocks xs) b v) [
+  by_entry behind (Write e) is v = elim (block_cases (record { start = e.block; count = e.count }) (written_blocks xs) b v) [
     | inl here ↦ record { x = y; here = Contains-head y xs; e = e; is = is; in_it = here }
     | inr rest ↦ further y xs (λ e. record { start = e.block; count = e.count }) b (behind rest)
   ]
@@ -273,7 +271,7 @@ pub page_entry : (xs : List Placed) (p : ℕ) → HasBlock (written_pages xs) p 
 page_entry [] p w = absurd (none_in w.0 w.1)
 page_entry (y ∷ xs) p w = by_entry (page_entry xs p) y.entry refl w where
   by_entry : (HasBlock (written_pages xs) p → EntryOf xs (λ e. record { start = e.offset; count = e.count }) p) → (e : Entry) → y.entry ≡ e → HasBlock (cons_option (pages_in_entry e) (written_pages xs)) p → EntryOf (y ∷ xs) (λ e. record { start = e.offset; count = e.count }) p
-  by_entry behind (Write e) is v = elim (from_runs (record { start = e.offset; count = e.count }) (written_pages xs) p v) [
+  by_entry behind (Write e) is v = elim (block_cases (record { start = e.offset; count = e.count }) (written_pages xs) p v) [
     | inl here ↦ record { x = y; here = Contains-head y xs; e = e; is = is; in_it = here }
     | inr rest ↦ further y xs (λ e. record { start = e.offset; count = e.count }) p (behind rest)
   ]

@@ -16,7 +16,7 @@ pub data OwnsIn (l : Layout) (held : Store) : ℕ → Owner → Type 0 where
   by_page : {i p b : ℕ} {h : Held} → held i ≡ Some h → block_of (good_in l h) p ≡ Some b → OwnsIn l held b (owners.Data i p)
 
 -- a data block without an owner
-pub record IsFreeIn (l : Layout) (held : Store) (b : ℕ) : Type 0 where
+pub record IsUnowned (l : Layout) (held : Store) (b : ℕ) : Type 0 where
   pub from : system_blocks l.sup ≤ b
   pub below : b < l.sup.blocks
   pub unowned : (o : Owner) → OwnsIn l held b o → ⊥
@@ -27,7 +27,7 @@ NoneDoubled l held = (b : ℕ) (o other : Owner) → OwnsIn l held b o → OwnsI
 
 -- With this in its place, each block that the inode owns was its own or free, and it owns none twice.
 pub record OwnsNew (l : Layout) (held : Store) (i : ℕ) (new : Option Held) : Type 0 where
-  pub each : (b : ℕ) (o : Owner) → OwnsIn l (with_inode held i new) b o → inode_of o ≡ i → ((before : Owner) × OwnsIn l held b before × (inode_of before ≡ i)) ⊎ IsFreeIn l held b
+  pub each : (b : ℕ) (o : Owner) → OwnsIn l (with_inode held i new) b o → inode_of o ≡ i → ((before : Owner) × OwnsIn l held b before × (inode_of before ≡ i)) ⊎ IsUnowned l held b
   pub once : (b : ℕ) (o other : Owner) → OwnsIn l (with_inode held i new) b o → OwnsIn l (with_inode held i new) b other → inode_of o ≡ i → inode_of other ≡ i → o ≡ other
 
 -- For each pool the rising runs, none touching another, of its blocks of which P holds.
@@ -37,4 +37,4 @@ pub record ArePoolRuns (l : Layout) (P : ℕ → Type 0) (free : List (List Run)
 
 -- the free lists are those of the free blocks
 abbrev pub KeepsFree : Layout → Store → List (List Run) → Type 0
-KeepsFree l held free = ArePoolRuns l (IsFreeIn l held) free
+KeepsFree l held free = ArePoolRuns l (IsUnowned l held) free

@@ -11,7 +11,7 @@ use Rattle.nv_scan.specs.State.{block_of, named, links_of}
 use Rattle.nv_scan.specs.Faults.{IsEntryFault}
 use Rattle.nv_scan.specs.Fold.{entry_fault}
 use Rattle.nv_held.specs.Held.{Held, Store, good_in}
-use Rattle.nv_held.specs.Blocks.{IsFreeIn}
+use Rattle.nv_held.specs.Blocks.{IsUnowned}
 
 -- what is held of an inode whose log grew up to a new tail, by these entries and these pages
 abbrev pub grown : Held → ℕ → List Placed → List ℕ → Held
@@ -19,7 +19,7 @@ grown h new more fresh = record h { tail = new; entries = h.entries ++ more; pag
 
 -- the pages are free blocks
 abbrev pub AreFree : Layout → Store → List ℕ → Type 0
-AreFree l held fresh = (b : ℕ) → Contains fresh b → IsFreeIn l held b
+AreFree l held fresh = (b : ℕ) → Contains fresh b → IsUnowned l held b
 
 -- nothing is wrong with these entries of an inode
 abbrev pub NoEntryFault : Super → Kind → ℕ → List Placed → Type 0
@@ -54,5 +54,5 @@ LetsGo l h new b = Maps l h b × (Maps l new b → ⊥)
 pub record GrowsByData (l : Layout) (held : Store) (h new : Held) (fresh : List ℕ) : Type 0 where
   pub pages : new.pages ≡ h.pages ++ fresh
   pub free : AreFree l held fresh
-  pub from : (p b : ℕ) → block_of (good_in l new) p ≡ Some b → (block_of (good_in l h) p ≡ Some b) ⊎ (IsFreeIn l held b × (Contains fresh b → ⊥))
-  pub once : (p q b : ℕ) → IsFreeIn l held b → block_of (good_in l new) p ≡ Some b → block_of (good_in l new) q ≡ Some b → p ≡ q
+  pub from : (p b : ℕ) → block_of (good_in l new) p ≡ Some b → (block_of (good_in l h) p ≡ Some b) ⊎ (IsUnowned l held b × (Contains fresh b → ⊥))
+  pub once : (p q b : ℕ) → IsUnowned l held b → block_of (good_in l new) p ≡ Some b → block_of (good_in l new) q ≡ Some b → p ≡ q

@@ -7,7 +7,7 @@ use Rattle.nv_super.specs.Layout.{Layout, slot_of}
 use Rattle.nv_inode.specs.Slot.{is_right_log}
 use Rattle.nv_logpage.specs.Reads.{Reads}
 use Rattle.nv_held.specs.Held.{Held, Store}
-use Rattle.nv_held.specs.Blocks.{IsFreeIn}
+use Rattle.nv_held.specs.Blocks.{IsUnowned}
 
 -- the word stands behind the tail of a log, in the tail's page
 abbrev pub IsBehindTail : Layout → Store → ℕ → Type 0
@@ -19,7 +19,7 @@ IsInUnused l held at = (j : ℕ) × (a : ℕ) × (slot_of l j ≡ Some a) × (he
 
 -- Any value in a word of a free block, behind a tail in its page, or of an unused slot but for its valid word.
 abbrev pub Loose : Layout → Store → Choices
-Loose l held i x = IsFreeIn l held (8 * i / 4096) ⊎ (IsBehindTail l held (8 * i) ⊎ IsInUnused l held (8 * i))
+Loose l held i x = IsUnowned l held (8 * i / 4096) ⊎ (IsBehindTail l held (8 * i) ⊎ IsInUnused l held (8 * i))
 
 -- A slot that is ready but for its valid word.
 pub record IsReady (R : Region) (l : Layout) (a : ℕ) (h : Held) : Type 0 where

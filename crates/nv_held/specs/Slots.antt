@@ -4,7 +4,7 @@ use Rattle.std.specs.List.{Contains}
 use Rattle.nv_super.specs.Layout.{Layout, slot_of}
 use Rattle.nv_scan.specs.State.{block_of}
 use Rattle.nv_held.specs.Held.{Held, Store, good_in}
-use Rattle.nv_held.specs.Blocks.{IsFreeIn}
+use Rattle.nv_held.specs.Blocks.{IsUnowned}
 
 -- no slot stands in the block
 abbrev pub HasNoSlot : Layout → ℕ → Type 0
@@ -24,6 +24,6 @@ pub record SlotsStand (l : Layout) : Type 0 where
 pub record SlotsClear (l : Layout) (held : Store) : Type 0 where
   pub stand : SlotsStand l
   pub open stand use *
-  pub unfree : (b : ℕ) → IsFreeIn l held b → HasNoSlot l b
+  pub unfree : (b : ℕ) → IsUnowned l held b → HasNoSlot l b
   pub unpaged : (i : ℕ) (h : Held) → held i ≡ Some h → HaveNoSlots l h.pages
   pub unmapped : (i p b : ℕ) (h : Held) → held i ≡ Some h → block_of (good_in l h) p ≡ Some b → HasNoSlot l b

@@ -10,7 +10,7 @@ use Rattle.nv_entry.specs.Content.{is_good}
 use Rattle.nv_logpage.specs.declared.found.Placed.{Placed}
 use Rattle.nv_scan.specs.State.{block_of, says_size}
 use Rattle.nv_held.specs.Held.{Held, Store, good_in}
-use Rattle.nv_held.specs.Blocks.{IsFreeIn}
+use Rattle.nv_held.specs.Blocks.{IsUnowned}
 
 -- the blocks of a write entry
 abbrev pub blocks_in_entry : Entry → Option Run
@@ -41,7 +41,7 @@ written_pages more = filter_map (λ (x : Placed). pages_in_entry x.entry) more
 pub record WritesData (l : Layout) (held : Store) (h : Held) (more : List Placed) (fresh : List ℕ) (size : ℕ) : Type 0 where
   pub good : (x : Placed) → Contains more x → is_good l.sup h.kind x.entry ≡ true
   pub sized : (x : Placed) → Contains more x → says_size x ≡ Some size
-  pub free : (b : ℕ) → HasBlock (written_blocks more) b → IsFreeIn l held b
+  pub free : (b : ℕ) → HasBlock (written_blocks more) b → IsUnowned l held b
   pub apart : (b : ℕ) → HasBlock (written_blocks more) b → Contains fresh b → ⊥
   pub blocks_once : Disjoint (written_blocks more)
   pub pages_once : Disjoint (written_pages more)

@@ -13,7 +13,7 @@ ghost use Rattle.nv_logpage.specs.declared.found.Placed.{Placed};
 ghost use Rattle.nv_radix.specs.Pages.{in_run};
 ghost use Rattle.nv_scan.specs.State.{block_of};
 ghost use Rattle.nv_held.specs.Held.{Held, Store, Shows, good_in, with_inode};
-ghost use Rattle.nv_held.specs.Blocks.{IsFreeIn, NoneDoubled};
+ghost use Rattle.nv_held.specs.Blocks.{IsUnowned, NoneDoubled};
 ghost use Rattle.nv_held.specs.Slots.{SlotsClear};
 ghost use Rattle.nv_held.specs.Loose.{Loose};
 ghost use Rattle.nv_held.specs.Front.{SameBehind};
@@ -48,7 +48,7 @@ pub fn pages_after_writes()
 pub fn blocks_after_writes()
     ensures grows { (l : Layout) (held : Store) (i : ℕ) (h : Held) (tail : ℕ) (more : List Placed) (fresh : List ℕ) (size : ℕ) → held i ≡ Some h → WritesData l held h more fresh size → AreFree l held fresh → GrowsByData l held h (grown h tail more fresh) fresh }
     ensures free { (l : Layout) (held : Store) (i : ℕ) (h : Held) (tail : ℕ) (more : List Placed) (fresh : List ℕ) (size : ℕ) → held i ≡ Some h → WritesData l held h more fresh size → AreFree l held fresh → NoneDoubled l held
-        → (b : ℕ) → IsFreeIn l (with_inode held i (Some (grown h tail more fresh))) b ↔ ((IsFreeIn l held b × (Contains fresh b → ⊥) × (HasBlock (written_blocks more) b → ⊥)) ⊎ LetsGo l h (grown h tail more fresh) b) }
+        → (b : ℕ) → IsUnowned l (with_inode held i (Some (grown h tail more fresh))) b ↔ ((IsUnowned l held b × (Contains fresh b → ⊥) × (HasBlock (written_blocks more) b → ⊥)) ⊎ LetsGo l h (grown h tail more fresh) b) }
     ensures gone { (l : Layout) (held : Store) (i : ℕ) (h : Held) (tail : ℕ) (more : List Placed) (fresh : List ℕ) (size : ℕ) → held i ≡ Some h → WritesData l held h more fresh size → AreFree l held fresh → NoneDoubled l held → 0 < length more
         → (b : ℕ) → LetsGo l h (grown h tail more fresh) b ↔ IsReplaced l h more size b }
 {}
