@@ -30,7 +30,7 @@ use Rattle.nv_names.specs.Names.{Names, name_at}
 use Rattle.nv_scan.specs.State.{block_of}
 use Rattle.nv_scan.specs.declared.piece.Row.{Row}
 use Rattle.nv_held.specs.Held.{Held, Store, good_in}
-use Rattle.nv_held.specs.Blocks.{IsFreeIn, KeepsFree}
+use Rattle.nv_held.specs.Blocks.{IsUnowned, KeepsFree}
 use Rattle.nv_held.specs.Bytes.{byte_in}
 use Rattle.nv_held.specs.Grows.{AreFree}
 use Rattle.nv_held.specs.Lists.{WasTaken}
@@ -103,7 +103,7 @@ module _ {R S : Region} {s : Super} {free mid after : FreeLists} {row grown new 
     all_free : AreFree (fixed_layout s) held (to ∷ fresh)
     all_free = are_free taken (fixed_layout s) held shows.lists lists
 
-    pub to_free : IsFreeIn (fixed_layout s) held to
+    pub to_free : IsUnowned (fixed_layout s) held to
     to_free = all_free to (Contains-head to fresh)
 
     to_apart : Contains fresh to → ⊥
@@ -116,7 +116,7 @@ module _ {R S : Region} {s : Super} {free mid after : FreeLists} {row grown new 
     count = enough ∙ ap (λ (t : ℕ). needed (t % 4096) entries) tails
 
     stored : IsMixed R (Loose (fixed_layout s) held) copies.mid
-    stored = mixed_more (Loose (fixed_layout s) held) (InBlocks (λ b. b ≡ to)) R R copies.mid (λ k v here. inl (subst (IsFreeIn (fixed_layout s) held) (sym here) to_free)) (mixed_same R (Loose (fixed_layout s) held)) copies.wrote
+    stored = mixed_more (Loose (fixed_layout s) held) (InBlocks (λ b. b ≡ to)) R R copies.mid (λ k v here. inl (subst (IsUnowned (fixed_layout s) held) (sym here) to_free)) (mixed_same R (Loose (fixed_layout s) held)) copies.wrote
 
     sound_mid : ShowsSound copies.mid s held
     sound_mid = loose_sound R copies.mid s held shows.sound stored
@@ -295,7 +295,7 @@ module _ {R S : Region} {s : Super} {free mid after : FreeLists} {row grown new 
     to = Some to;
     copied = ap is_some (sym ends);
     numbers = since has_grown settled.has;
-    fresh = λ held h shows b at. subst (IsFreeIn (fixed_layout s) held) (some_only to b at) (to_free shows);
+    fresh = λ held h shows b at. subst (IsUnowned (fixed_layout s) held) (some_only to b at) (to_free shows);
     follows = λ held h shows. copy_follows shows;
     bytes = λ held h shows. copy_bytes shows;
   }

@@ -19,7 +19,7 @@ use Rattle.nv_scan.specs.Rows.{AreNumbers}
 use Rattle.nv_scan.specs.declared.numbers.Numbers.{Numbers}
 use Rattle.nv_scan.specs.declared.piece.Row.{Row}
 use Rattle.nv_held.specs.Held.{Held, Store, good_in, with_inode}
-use Rattle.nv_held.specs.Blocks.{IsFreeIn, KeepsFree, NoneDoubled, OwnsNew}
+use Rattle.nv_held.specs.Blocks.{IsUnowned, KeepsFree, NoneDoubled, OwnsNew}
 use Rattle.nv_held.specs.Graph.{graph_in}
 use Rattle.nv_held.specs.Grows.{AreFree}
 use Rattle.nv_held.specs.Mounted.{IsFaultless, KeepsRow, ShowsSound}
@@ -75,7 +75,7 @@ module _ {R : Region} {s : Super} {held : Store} {h : Held} {row : Row} {free af
   pub all_free : AreFree l held (page ∷ fresh)
   all_free = are_free taken l held shows.lists lists
 
-  page_free : IsFreeIn l held page
+  page_free : IsUnowned l held page
   page_free = all_free page (Contains-head page fresh)
 
   none : MapsNothing l new
@@ -84,7 +84,7 @@ module _ {R : Region} {s : Super} {held : Store} {h : Held} {row : Row} {free af
   owns_page : OwnsNew l held j (Some new)
   owns_page = begun_owns l held j new page unused refl page_free none
 
-  free_now : (b : ℕ) → IsFreeIn l mid b ↔ (IsFreeIn l held b × (b ≢ page))
+  free_now : (b : ℕ) → IsUnowned l mid b ↔ (IsUnowned l held b × (b ≢ page))
   free_now = begun_free l held j new page unused refl page_free none
 
   fresh_free : AreFree l mid fresh
@@ -102,16 +102,16 @@ module _ {R : Region} {s : Super} {held : Store} {h : Held} {row : Row} {free af
   -- The free lists are those of the free blocks without the ones that were taken.
   pub made_lists : KeepsFree l (with_named held kind mode time j row.inode h name page fresh) after.pools
   made_lists = lists_without taken l held shows.lists lists (with_named held kind mode time j row.inode h name page fresh) (λ b. (to b, from b)) where
-    but : (b : ℕ) → IsFreeIn l (with_inode mid row.inode (Some grown_log)) b ↔ (IsFreeIn l mid b × (Contains fresh b → ⊥))
+    but : (b : ℕ) → IsUnowned l (with_inode mid row.inode (Some grown_log)) b ↔ (IsUnowned l mid b × (Contains fresh b → ⊥))
     but = free_but l mid row.inode h grown_log there fresh pages_now fresh_free (name_file l h directory j name good at time end pages)
 
-    to : (b : ℕ) → IsFreeIn l (with_named held kind mode time j row.inode h name page fresh) b → IsFreeIn l held b × (Contains (page ∷ fresh) b → ⊥)
+    to : (b : ℕ) → IsUnowned l (with_named held kind mode time j row.inode h name page fresh) b → IsUnowned l held b × (Contains (page ∷ fresh) b → ⊥)
     to b now =
         let w = (but b).0 now in
         let v = (free_now b).0 w.0 in
         (v.0, λ c. elim (Contains-cons page fresh b c) [ inl same ↦ v.1 same | inr one ↦ w.1 one ])
 
-    from : (b : ℕ) → IsFreeIn l held b × (Contains (page ∷ fresh) b → ⊥) → IsFreeIn l (with_named held kind mode time j row.inode h name page fresh) b
+    from : (b : ℕ) → IsUnowned l held b × (Contains (page ∷ fresh) b → ⊥) → IsUnowned l (with_named held kind mode time j row.inode h name page fresh) b
     from b w = (but b).1 ((free_now b).1 (w.0, λ same. w.1 (subst (λ (k : ℕ). Contains (page ∷ fresh) k) (sym same) (Contains-head page fresh))), λ c. w.1 (Contains-tail page fresh b c))
 
   -- ---- nothing is wrong

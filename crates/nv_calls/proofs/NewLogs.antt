@@ -14,7 +14,7 @@ use Rattle.nv_entry.specs.declared.entry.Entry.{Entry}
 use Rattle.nv_logpage.specs.Append.{AllDiffer, AreGiven, CanAppend, EndBy, needed}
 use Rattle.nv_scan.specs.declared.piece.Row.{Row}
 use Rattle.nv_held.specs.Held.{Held, Store}
-use Rattle.nv_held.specs.Blocks.{IsFreeIn}
+use Rattle.nv_held.specs.Blocks.{IsUnowned}
 use Rattle.nv_commit.specs.declared.together.Extension.{Extension}
 use Rattle.nv_commit.specs.declared.making.NewInode.{NewInode}
 use Rattle.nv_commit.specs.Together.{BeginFrom, CanCommit}
@@ -148,7 +148,7 @@ module _ {R : Region} {s : Super} {free after : FreeLists} {row : Row} {cpu j pa
     tails : h.tail ≡ row.tail
     tails = (let kept = shows.told in sym kept.tail)
 
-    all_free : (b : ℕ) → Contains (page ∷ fresh) b → IsFreeIn (fixed_layout s) held b
+    all_free : (b : ℕ) → Contains (page ∷ fresh) b → IsUnowned (fixed_layout s) held b
     all_free = are_free taken (fixed_layout s) held shows.lists lists
 
     extend : CanExtend R s held row.inode h (slot_address s row.inode) row.tail entries fresh
@@ -175,7 +175,7 @@ module _ {R : Region} {s : Super} {free after : FreeLists} {row : Row} {cpu j pa
             (subst (λ (bs : List ℕ). CanExtend R s held row.inode h (slot_address s row.inode) row.tail entries bs) (sym blocks) extend)));
         at = new_slot ∙ ap (λ (a : ℕ). Some a) (sym new_slot_is);
         unused = unused;
-        page = subst (λ (b : ℕ). IsFreeIn (fixed_layout s) held b) (sym page_is) (all_free page (Contains-head page fresh));
+        page = subst (λ (b : ℕ). IsUnowned (fixed_layout s) held b) (sym page_is) (all_free page (Contains-head page fresh));
         apart = λ c. fresh_apart (subst (λ (b : ℕ). Contains fresh b) page_is (subst (λ (bs : List ℕ). Contains bs n.page) blocks c));
         fits = ap (λ (es : List Entry). needed 0 es) first ∙ fits_alone mode time;
         some = subst (λ (es : List Entry). 0 < length es) (sym first) (omega arith);

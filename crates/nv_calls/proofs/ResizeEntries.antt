@@ -21,7 +21,7 @@ use Rattle.nv_logpage.specs.Good.{good_entries}
 use Rattle.nv_scan.specs.State.{mode_in, mode_of, says_mode, says_size}
 use Rattle.nv_scan.proofs.Blocks.{good_is_good, in_range, last_word-all}
 use Rattle.nv_held.specs.Held.{Held, Store}
-use Rattle.nv_held.specs.Blocks.{IsFreeIn}
+use Rattle.nv_held.specs.Blocks.{IsUnowned}
 use Rattle.nv_held.specs.Writes.{WritesData}
 use Rattle.nv_calls.specs.Taken.{block_run}
 use Rattle.nv_calls.proofs.AttrEntries.{Allows, attr_allowed, one_there}
@@ -70,12 +70,12 @@ two_there P {x} {z} first second y c = elim (Contains-cons x (z ∷ []) y c) [ i
 
 module _ (l : Layout) (held : Store) (h : Held) (x : AttrEntry) (file : h.kind ≡ File) (mode : x.mode ≤ 4095) (most : x.size ≤ most_size) (fresh : List ℕ) where
   -- with the page that was copied, attributes write its block
-  pub copy_writes : (old b at then : ℕ) → old < x.size → IsFreeIn l held b → (Contains fresh b → ⊥)
+  pub copy_writes : (old b at then : ℕ) → old < x.size → IsUnowned l held b → (Contains fresh b → ⊥)
       → WritesData l held h (placed at (Write (record { offset = old / 4096; count = 1; block = b; size = x.size; time = x.time })) ∷ placed then (Attr x) ∷ []) fresh x.size
   copy_writes old b at then more free away = record {
     good = two_there (λ z. is_good l.sup h.kind z.entry ≡ true) (file_write l.sup h.kind old b x.size x.time file free.from free.below more most) (file_attr l.sup h.kind x file mode most);
     sized = two_there (λ z. says_size z ≡ Some x.size) refl refl;
-    free = λ c w. subst (IsFreeIn l held) (sym (block_one b c w)) free;
+    free = λ c w. subst (IsUnowned l held) (sym (block_one b c w)) free;
     apart = λ c w there. away (subst (Contains fresh) (block_one b c w) there);
     blocks_once = ((λ c here none. none_in none.0 none.1), tt);
     pages_once = ((λ c here none. none_in none.0 none.1), tt);

@@ -16,7 +16,7 @@ use Rattle.nv_radix.specs.Pages.{block_at}
 use Rattle.nv_scan.specs.State.{block_of}
 use Rattle.nv_scan.specs.declared.piece.Row.{Row}
 use Rattle.nv_held.specs.Held.{Held, Store, good_in}
-use Rattle.nv_held.specs.Blocks.{IsFreeIn}
+use Rattle.nv_held.specs.Blocks.{IsUnowned}
 use Rattle.nv_held.specs.Bytes.{byte_in}
 use Rattle.nv_commit.specs.Extends.{CanExtend, ExtendWords, ShowsMoved, with_log}
 use Rattle.nv_bytes.specs.Bytes.{byte_after}
@@ -87,7 +87,7 @@ pub record Resizes (R S : Region) (s : Super) (free : FreeLists) (old : Row) (x 
   pub to : Option ℕ
   pub copied : is_some to ≡ is_some (end_block (block_at old.index) old.numbers.size x.size)
   pub numbers : HasSize old x new
-  pub fresh : (held : Store) (h : Held) → ShowsRow R s held h old free → (b : ℕ) → to ≡ Some b → IsFreeIn (fixed_layout s) held b
+  pub fresh : (held : Store) (h : Held) → ShowsRow R s held h old free → (b : ℕ) → to ≡ Some b → IsUnowned (fixed_layout s) held b
   pub follows : (held : Store) (h : Held) → ShowsRow R s held h old free → LogFollows R S s held h (resizing old.numbers.size x to) old new after
   pub bytes : (held : Store) (h : Held) → ShowsRow R s held h old free → SameBytes R S old new x.size
 
@@ -95,7 +95,7 @@ pub record Resizes (R S : Region) (s : Super) (free : FreeLists) (old : Row) (x 
 pub record LogResized (S : Region) (s : Super) (held : Store) (i : ℕ) (h : Held) (node : Node) (size time : ℕ) : Type 0 where
   pub to : Option ℕ
   pub copied : is_some to ≡ is_some (end_block (block_of (good_in (fixed_layout s) h)) node.size size)
-  pub free : (b : ℕ) → to ≡ Some b → IsFreeIn (fixed_layout s) held b
+  pub free : (b : ℕ) → to ≡ Some b → IsUnowned (fixed_layout s) held b
   pub grew : LogGrew S s held i h (resizing node.size (sized node size time) to)
 
 -- there is such a block, or none is wanted
