@@ -59,7 +59,7 @@ can_append {R} {s} {free} {after} {row} {fresh} entries stands taken count given
       omega (arith, under, blocks, lists)
 
 -- the slot of a row's inode
-slot_there : {R : Region} {s : Super} {held : Store} (i : ℕ) (h : Held) → Shows R (fixed_layout s) held → held i ≡ Some h → slot_of (fixed_layout s) i ≡ Some (slot_address s i)
+pub slot_there : {R : Region} {s : Super} {held : Store} (i : ℕ) (h : Held) → Shows R (fixed_layout s) held → held i ≡ Some h → slot_of (fixed_layout s) i ≡ Some (slot_address s i)
 slot_there {R} {s} {held} i h shows is = let v = stands_at shows i h is in v.at ∙ ap (λ (a : ℕ). Some a) (slot_is s i v.a v.at).is
 
 module _ {R : Region} {s : Super} {held : Store} {h : Held} {row : Row} {free after : FreeLists} {fresh : List ℕ} (entries : List Entry)

@@ -9,3 +9,6 @@ pub mod Attributes
 pub mod Stat
 pub mod Listing
 pub mod Reading
+pub mod Writes
+pub mod Written
+pub mod WriteCall
