@@ -34,3 +34,12 @@ pub mod FileStanding
 pub mod WrittenBytes
 pub mod WriteSteps
 pub mod WritesFile
+pub mod SizedEntries
+pub mod DataFollows
+pub mod GivenPages
+pub mod ResizeEntries
+pub mod CutFile
+pub mod CopiedEnd
+pub mod CopyOwed
+pub mod SetSize
+pub mod SizeKept

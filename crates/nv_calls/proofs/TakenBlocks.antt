@@ -48,7 +48,7 @@ taken_free old new (a ∷ blocks) w b c = elim (Contains-cons a blocks b c) [
 ]
 
 -- and no two are the same
-taken_apart : (old new : FreeLists) (a : ℕ) (blocks : List ℕ) → TakeAll old (single_takes (a ∷ blocks)) new → Contains blocks a → ⊥
+pub taken_apart : (old new : FreeLists) (a : ℕ) (blocks : List ℕ) → TakeAll old (single_takes (a ∷ blocks)) new → Contains blocks a → ⊥
 taken_apart old new a blocks w c = let f = taken_free w.0 new blocks w.2 a c in w.1.leave.gone f.0 a f.1 (in_single a)
 
 taken_differ : (old new : FreeLists) (blocks : List ℕ) → TakeAll old (single_takes blocks) new → AllDiffer blocks

@@ -31,7 +31,7 @@ passed_before (x ∷ a) b h = by x.0 (passed_before a b) h where
   by false rest h = rest h
 
 -- the tests of `stat` come first
-stat_first : (t : Tree) (p : Path) (more : Tests) → is_bad p ∷ walk_tests t p ++ is_missing t p ∷ more ≡ stat_tests t p ++ more
+pub stat_first : (t : Tree) (p : Path) (more : Tests) → is_bad p ∷ walk_tests t p ++ is_missing t p ∷ more ≡ stat_tests t p ++ more
 stat_first t p more = ap (λ (tests : Tests). is_bad p ∷ tests) (sym (append_assoc (walk_tests t p) (is_missing t p ∷ []) more))
 
 module _ (w : World) (t : Tree) (cpu : ℕ) (passed : (tests : Tests) → first_refusal (writing w cpu tests) ≡ first_refusal tests) (p : Path) where

@@ -12,3 +12,5 @@ pub mod Reading
 pub mod Writes
 pub mod Written
 pub mod WriteCall
+pub mod Given
+pub mod Sizes

@@ -1,0 +1,156 @@
+-- What `set_size` answers, and what it leaves.
+use Rattle.std.proofs.Common.{◌≡◌, ℕ, ◌<◌, ◌≤◌, ◌⊎◌, inl, inr, Bool, true, false, cond, nat_lt, List, [], ◌∷◌, ◌++◌, append_assoc, length, refl, ap, sym, ◌∙◌, subst, Option, Some, None}
+use Rattle.std.specs.Option.{option_and_then, option_map, option_map_or}
+use Rattle.nv_region.specs.Region.{Region}
+use Rattle.nv_super.specs.declared.kind.Kind.{Kind}
+use Rattle.nv_super.specs.declared.kind.Kind.TheVariants.{File, Directory}
+use Rattle.nv_alloc.specs.Taking.{all_blocks}
+use Rattle.nv_names.specs.Names.{Names, name_at}
+use Rattle.nv_scan.specs.declared.piece.Row.{Row}
+use Rattle.nv_named.specs.Read.{row_of}
+use Rattle.nv_held.specs.Held.{Held, Store}
+use Rattle.nv_held.specs.Mounted.{ShowsSound}
+use Rattle.nv_tree.specs.declared.refusal.Refusal.{Refusal}
+use Rattle.nv_tree.specs.declared.refusal.Refusal.TheVariants.{IsDirectory, Memory, Stopped, TooLarge}
+use Rattle.nv_tree.specs.Path.{IsPath, Says}
+use Rattle.nv_tree.specs.Tree.{Node, SameNode, SameTree, Tree, found, is_directory}
+use Rattle.nv_tree.specs.Calls.{edit, on_some, resized, with_size}
+use Rattle.nv_tree.specs.Refusals.{Path, Tests, first_refusal, has_no_space, is_bad, is_dir, is_directory_at, is_missing, is_too_large, set_size_tests, stat_tests, walk_tests, writing}
+use Rattle.nv_calls.specs.Mount.{Mount}
+use Rattle.nv_calls.specs.Seen.{LeadsTo, node_of, tree_of}
+use Rattle.nv_calls.specs.Sizes.{HasSize, SameBytes, ShowsResizedLog, resized_blocks, size_blocks, sized}
+use Rattle.nv_calls.specs.Steps.{RefusesStep}
+use Rattle.nv_calls.specs.World.{world_of}
+use Rattle.nv_calls.proofs.Tests.{enough_space, passed_before, refused_before, stat_first, stat_goes_on, too_few}
+
+-- ---- the tests before that of the space
+
+-- those of `stat`, and then of the kind and of the size
+abbrev pub front_tests : Tree → Path → ℕ → Tests
+front_tests t p size = stat_tests t p ++ is_dir t p ∷ is_too_large size ∷ []
+
+-- with that of the space
+abbrev set_tests : Tree → Path → ℕ → Bool × Refusal → Tests
+set_tests t p size space = is_bad p ∷ walk_tests t p ++ is_missing t p ∷ is_dir t p ∷ is_too_large size ∷ space ∷ []
+
+all_tests : (t : Tree) (p : Path) (size : ℕ) (space : Bool × Refusal) → set_tests t p size space ≡ front_tests t p size ++ space ∷ []
+all_tests t p size space = stat_first t p (is_dir t p ∷ is_too_large size ∷ space ∷ []) ∙ sym (append_assoc (stat_tests t p) (is_dir t p ∷ is_too_large size ∷ []) (space ∷ []))
+
+-- whether the inode is a directory, by its row
+dir_there : (t : Tree) (names : List (List ℕ)) (i : ℕ) (node : Node) → LeadsTo t names i node → is_dir t (Some names) ≡ (is_directory node.kind, IsDirectory)
+dir_there t names i node led = ap (λ (b : Bool). (b, IsDirectory)) (
+    ap (λ (o : Option ℕ). option_map_or (is_directory_at t) o false) led.leads ∙ ap (λ (o : Option Node). option_map_or (λ (n : Node). is_directory n.kind) o false) led.shows)
+
+-- What refuses a file a size, where `stat` isn't refused.
+pub front_is : (t : Tree) (p : Path) (text : List ℕ) (i : ℕ) (node : Node) (size : ℕ) → Says text p → ((names : List (List ℕ)) → IsPath text names → LeadsTo t names i node) → first_refusal (stat_tests t p) ≡ None
+    → first_refusal (front_tests t p size) ≡ first_refusal ((is_directory node.kind, IsDirectory) ∷ is_too_large size ∷ [])
+front_is t None text i node size says leads none = absurd (cc)
+front_is t (Some names) text i node size says leads none =
+    passed_before (stat_tests t (Some names)) (is_dir t (Some names) ∷ is_too_large size ∷ []) none ∙ ap (λ (test : Bool × Refusal). first_refusal (test ∷ is_too_large size ∷ [])) (dir_there t names i node (leads names says))
+
+-- what isn't refused a size is a file
+pub file_by : (k : Kind) (size : ℕ) → first_refusal ((is_directory k, IsDirectory) ∷ is_too_large size ∷ []) ≡ None → k ≡ File
+file_by File size none = refl
+file_by Directory size none = absurd (cc)
+
+pub front_refused : (t : Tree) (p : Path) (size : ℕ) (e : Refusal) → first_refusal (stat_tests t p) ≡ Some e → first_refusal (front_tests t p size) ≡ Some e
+front_refused t p size e h = refused_before (stat_tests t p) (is_dir t p ∷ is_too_large size ∷ []) e h
+
+-- None of them answers `Stopped`.
+pub front_goes_on : (t : Tree) (p : Path) (size : ℕ) → first_refusal (front_tests t p size) ≡ Some Stopped → ⊥
+front_goes_on t p size e = by (first_refusal (stat_tests t p)) refl where
+  two : (a b : Bool) → cond a (Some IsDirectory) (cond b (Some TooLarge) None) ≡ Some Stopped → ⊥
+  two true b h = absurd (cc)
+  two false true h = absurd (cc)
+  two false false h = absurd (cc)
+
+  by : (o : Option Refusal) → first_refusal (stat_tests t p) ≡ o → ⊥
+  by None is = two (is_dir t p).0 (nat_lt 1073741824 size) (sym (passed_before (stat_tests t p) (is_dir t p ∷ is_too_large size ∷ []) is) ∙ e)
+  by (Some r) is = stat_goes_on t p (is ∙ (let both : Some r ≡ Some Stopped = sym (front_refused t p size r is) ∙ e in both))
+
+-- ---- why it is refused
+
+module _ {P : Type 0} (region : P → Region) {n m : Mount P} (same : n ≡ m) (cpu size : ℕ) (passed : (tests : Tests) → first_refusal (writing (world_of m) cpu tests) ≡ first_refusal tests) (p : Path) where
+  abbrev tests : Mount P → Option Refusal
+  tests k = first_refusal (set_size_tests (world_of k) (tree_of (region k.memory) k.rows) cpu p size (resized_blocks k.rows (tree_of (region k.memory) k.rows) p size))
+
+  passed_here : (ts : Tests) → first_refusal (writing (world_of n) cpu ts) ≡ first_refusal ts
+  passed_here ts = subst (λ (k : Mount P). first_refusal (writing (world_of k) cpu ts) ≡ first_refusal ts) (sym same) (passed ts)
+
+  abbrev space : Bool × Refusal
+  space = has_no_space (world_of n) (resized_blocks n.rows (tree_of (region n.memory) n.rows) p size)
+
+  by_front : tests n ≡ first_refusal (front_tests (tree_of (region n.memory) n.rows) p size ++ space ∷ [])
+  by_front = passed_here (set_tests (tree_of (region n.memory) n.rows) p size space) ∙ ap first_refusal (all_tests (tree_of (region n.memory) n.rows) p size space)
+
+  -- What refuses the file refuses the call.
+  pub size_front : (e : Refusal) → first_refusal (front_tests (tree_of (region n.memory) n.rows) p size) ≡ Some e → tests m ≡ Some e
+  size_front e h = subst (λ (k : Mount P). tests k ≡ Some e) same (by_front ∙ refused_before (front_tests (tree_of (region n.memory) n.rows) p size) (space ∷ []) e h)
+
+  module _ (text : List ℕ) (row : Row) (node : Node) (is : row_of n.rows row.inode ≡ Some row) (leads : (names : List (List ℕ)) → IsPath text names → LeadsTo (tree_of (region n.memory) n.rows) names row.inode node) (says : Says text p)
+      (none : first_refusal (front_tests (tree_of (region n.memory) n.rows) p size) ≡ None) where
+    count_is : resized_blocks n.rows (tree_of (region n.memory) n.rows) p size ≡ size_blocks row size
+    count_is = by p says none where
+      by : (q : Path) → Says text q → first_refusal (front_tests (tree_of (region n.memory) n.rows) q size) ≡ None → resized_blocks n.rows (tree_of (region n.memory) n.rows) q size ≡ size_blocks row size
+      by None says none = absurd (cc)
+      by (Some names) says none = (let led = leads names says in
+          ap (λ (o : Option ℕ). option_map_or (λ (r : Row). size_blocks r size) (option_and_then (row_of n.rows) o) 0) led.leads ∙ ap (λ (o : Option Row). option_map_or (λ (r : Row). size_blocks r size) o 0) is)
+
+    at_last : tests n ≡ first_refusal (has_no_space (world_of n) (size_blocks row size) ∷ [])
+    at_last = by_front ∙ passed_before (front_tests (tree_of (region n.memory) n.rows) p size) (space ∷ []) none ∙ ap (λ (count : ℕ). first_refusal (has_no_space (world_of n) count ∷ [])) count_is
+
+    -- No test refuses it where there are enough blocks.
+    pub size_allowed : size_blocks row size ≤ all_blocks n.free.pools → tests m ≡ None
+    size_allowed enough = subst (λ (k : Mount P). tests k ≡ None) same (at_last ∙ enough_space (world_of n) (size_blocks row size) enough)
+
+    -- Where its step was refused, so is the call.
+    pub size_refused : (e : Refusal) → RefusesStep e (size_blocks row size) n.free → (e ≡ Memory) ⊎ ((e ≡ Stopped) ⊎ (tests m ≡ Some e))
+    size_refused e (inl memory) = inl memory
+    size_refused e (inr (inl stopped)) = inr (inl stopped)
+    size_refused e (inr (inr w)) = inr (inr (subst (λ (k : Mount P). tests k ≡ Some e) same (at_last ∙ too_few (world_of n) (size_blocks row size) w.1 ∙ ap (λ (r : Refusal). Some r) (sym w.0))))
+
+-- ---- what it leaves
+
+-- The tree with the file changed is what the call makes of it.
+pub size_changed : {P : Type 0} (region : P → Region) {n m : Mount P} → n ≡ m → (names : List (List ℕ)) (i size time : ℕ) (u : Tree) → found (tree_of (region n.memory) n.rows) names ≡ Some i
+    → SameTree u (edit i (with_size size time) (tree_of (region n.memory) n.rows)) → SameTree u (resized names size time (tree_of (region m.memory) m.rows))
+size_changed {P} region {n} {m} same names i size time u leads is =
+    let t = tree_of (region n.memory) n.rows in
+    let made : resized names size time t ≡ edit i (with_size size time) t = ap (λ (o : Option ℕ). on_some o (λ j. edit j (with_size size time) t) t) leads in
+    subst (λ (k : Mount P). SameTree u (resized names size time (tree_of (region k.memory) k.rows))) same (subst (λ (v : Tree). SameTree u v) (sym made) is)
+
+-- The node has the size, and the bytes of before up to it.
+pub resized_node : (R S : Region) {row new : Row} (size time : ℕ) → HasSize row (sized (node_of R row) size time) new → SameBytes R S row new size → SameNode (node_of S new) (with_size size time (node_of R row))
+resized_node R S {row} {new} size time has bytes = record {
+  kind = has.kind;
+  mode = has.mode;
+  owner = has.owner;
+  group = has.group;
+  size = has.size;
+  links = has.links;
+  time = has.time;
+  count = ap (λ (n : Names). length n.names) has.names;
+  names = λ q. ap (λ (n : Names). option_map (λ (y : ℕ × ℕ). y.0) (name_at n q)) has.names;
+  bytes = λ x below. bytes x (subst (λ (z : ℕ). x < z) has.size below);
+}
+
+some_number : {i j : ℕ} → Some i ≡ Some j → i ≡ j
+some_number e = cc
+
+some_node : {a b : Node} → Some a ≡ Some b → a ≡ b
+some_node e = cc
+
+-- The log of the inode that the path leads to has grown.
+pub size_logged : {P : Type 0} (region : P → Region) {n m : Mount P} → n ≡ m → (S : Region) (names : List (List ℕ)) (row : Row) (size time i : ℕ) (node : Node) (held : Store) (h : Held)
+    → LeadsTo (tree_of (region n.memory) n.rows) names row.inode (node_of (region n.memory) row)
+    → ((st : Store) (g : Held) → ShowsSound (region n.memory) n.sup st → st row.inode ≡ Some g → ShowsResizedLog S n.sup st row.inode g (node_of (region n.memory) row) size time)
+    → LeadsTo (tree_of (region m.memory) m.rows) names i node → ShowsSound (region m.memory) m.sup held → held i ≡ Some h → ShowsResizedLog S m.sup held i h node size time
+size_logged {P} region {n} {m} same S names row size time i node held h own grew led sound is =
+    subst (λ (k : Mount P). LeadsTo (tree_of (region k.memory) k.rows) names i node → ShowsSound (region k.memory) k.sup held → ShowsResizedLog S k.sup held i h node size time) same here led sound
+  where
+    here : LeadsTo (tree_of (region n.memory) n.rows) names i node → ShowsSound (region n.memory) n.sup held → ShowsResizedLog S n.sup held i h node size time
+    here led sound =
+        let number : row.inode ≡ i = some_number (sym own.leads ∙ led.leads) in
+        let node_is : node_of (region n.memory) row ≡ node = some_node (sym own.shows ∙ ap (tree_of (region n.memory) n.rows) number ∙ led.shows) in
+        subst (λ (k : ℕ). ShowsResizedLog S n.sup held k h node size time) number
+        (subst (λ (nd : Node). ShowsResizedLog S n.sup held row.inode h nd size time) node_is (grew held h sound (subst (λ (k : ℕ). held k ≡ Some h) (sym number) is)))

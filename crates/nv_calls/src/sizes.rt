@@ -1,0 +1,118 @@
+//! `set_size`: the size of a file.
+
+ghost use Rattle.std.specs.Prelude.{◌≡◌, ◌⊎◌, ◌<◌, ◌≤◌, ◌∷◌, ◌++◌, [], ℕ, List, length, slice_get, Option, Result, IsTrue, IfOk, IfErr, OnOk, false};
+ghost use Rattle.std.specs.Result.{result_err};
+ghost use Rattle.nv_region.specs.Region.{Region, size as bytes_in};
+ghost use Rattle.nv_region.specs.Stops.{NothingPending};
+ghost use Rattle.nv_region.specs.Fuses.{KeepsFuse};
+ghost use Rattle.nv_super.specs.Order.{Rises};
+ghost use Rattle.nv_super.specs.declared.kind.Kind.TheVariants.{File};
+ghost use Rattle.nv_entry.specs.Content.{most_size};
+ghost use Rattle.nv_check.specs.Cross.{row_key};
+ghost use Rattle.nv_scan.specs.declared.piece.Row.{Row as RowValue};
+ghost use Rattle.nv_held.specs.Held.{Held, Store};
+ghost use Rattle.nv_held.specs.Mounted.{ShowsSound};
+ghost use Rattle.nv_tree.specs.Path.{IsPath, Says};
+ghost use Rattle.nv_tree.specs.Tree.{Node, SameTree, is_directory};
+ghost use Rattle.nv_tree.specs.Calls.{resized};
+ghost use Rattle.nv_tree.specs.Refusals.{Path, first_refusal, is_dir, is_too_large, set_size_tests, stat_tests};
+ghost use Rattle.nv_tree.specs.declared.refusal.Refusal.{Refusal as RefusalValue};
+ghost use Rattle.nv_calls.specs.Same.{KeepsMount, SameMount};
+ghost use Rattle.nv_calls.specs.Seen.{LeadsTo, node_of, tree_of};
+ghost use Rattle.nv_calls.specs.Sizes.{ShowsResizedLog, resized_blocks};
+ghost use Rattle.nv_calls.specs.World.{world_of};
+
+use crate::Fs;
+use crate::resizing::resize;
+use crate::walking::place_at;
+use crate::writing::is_stop;
+use nv_entry::AttrEntry;
+use nv_region::Pmem;
+use nv_scan::Row;
+use nv_super::Kind;
+use nv_tree::Refusal;
+
+/// The most bytes that a file can have.
+const MOST_BYTES: u64 = 1_073_741_824;
+
+impl<P: Pmem + Drop> Fs<P> {
+    /// Sets the size and the time of the file that a path leads to: it is cut, or lengthened by zeros.
+    ///
+    /// Errors, the first that applies: `Stopped` after a stop, `BadCpu` where there is no CPU of that number, `ReadOnly`
+    /// where the region was mounted with faults, `BadName` where the text is no path, `NotFound` or `NotDirectory` for an
+    /// inode on the way, `NotFound` for the last name, `IsDirectory` for a directory, `TooLarge` for more bytes than a file
+    /// can have, `NoSpace` where fewer blocks are free than it needs. `Memory` where a growth was refused, `Stopped` where
+    /// the fuse burns. All but `Stopped` leave everything as it was.
+    pub fn set_size(&mut self, cpu: u64, path: &[u8], size: u64, time: u64) -> Result<(), Refusal>
+        ensures stopped_before { IsTrue self.old.stopped → (result ≡ Result.Err RefusalValue.Stopped) × (self.new ≡ self.old) }
+        ensures allowed { (p : Path) → Says path.now p
+            → OnOk result (first_refusal (set_size_tests (world_of self.old) (tree_of (P.region self.old.memory) self.old.rows) cpu p size (resized_blocks self.old.rows (tree_of (P.region self.old.memory) self.old.rows) p size)) ≡ Option.None) }
+        ensures refused { self.old.stopped ≡ false → (p : Path) → Says path.now p
+            → IfErr result (λ e. (e ≡ RefusalValue.Memory) ⊎ ((e ≡ RefusalValue.Stopped)
+            ⊎ (first_refusal (set_size_tests (world_of self.old) (tree_of (P.region self.old.memory) self.old.rows) cpu p size (resized_blocks self.old.rows (tree_of (P.region self.old.memory) self.old.rows) p size)) ≡ Option.Some e))) }
+        ensures changed { (names : List (List ℕ)) → IsPath path.now names
+            → OnOk result (SameTree (tree_of (P.region self.new.memory) self.new.rows) (resized names size time (tree_of (P.region self.old.memory) self.old.rows))) }
+        // The log of the file has the entries for its size, and no other log has changed.
+        ensures log { (names : List (List ℕ)) (i : ℕ) (node : Node) (held : Store) (h : Held) → IsPath path.now names → LeadsTo (tree_of (P.region self.old.memory) self.old.rows) names i node
+            → ShowsSound (P.region self.old.memory) self.old.sup held → held i ≡ Option.Some h → OnOk result (ShowsResizedLog (P.region self.new.memory) self.old.sup held i h node size time) }
+        ensures unchanged { IfErr result (λ e. (e ≡ RefusalValue.Stopped → ⊥) → SameMount self.old self.new) }
+        ensures stopped { self.old.stopped ≡ false → (IsTrue self.new.stopped → (result ≡ Result.Err RefusalValue.Stopped) × IsTrue (P.fuse self.new.memory).has_burnt) × (result ≡ Result.Err RefusalValue.Stopped → IsTrue self.new.stopped) }
+        ensures keeps { KeepsMount self.old self.new }
+        ensures settled { OnOk result (NothingPending (P.region self.new.memory) (P.may_hold self.new.memory)) }
+        ensures keeps_fuse { KeepsFuse (λ limit. bytes_in (P.region self.old.memory) ≤ limit) (P.fuse self.old.memory) (P.fuse self.new.memory) }
+    {
+        self.writable(cpu)?;
+        let place = resizable_at(&self.rows, path, size)?;
+        let row = &mut self.rows[place];
+        let attributes = AttrEntry {
+            mode: row.numbers.mode,
+            size,
+            time,
+            owner: row.numbers.owner,
+            group: row.numbers.group,
+        };
+        match resize(
+            self.alloc,
+            &mut self.memory,
+            &self.sup,
+            &mut self.free,
+            cpu,
+            row,
+            attributes,
+        ) {
+            Ok(()) => Ok(()),
+            Err(refusal) => {
+                self.stopped = is_stop(refusal);
+                Err(refusal)
+            }
+        }
+    }
+}
+
+/// The place of the row of the file that a path leads to, where it can get a size. The refusals are those of `stat`, and then
+/// those of `can_have_size`.
+fn resizable_at(rows: &[Row], path: &[u8], size: u64) -> Result<usize, Refusal>
+    requires { Rises row_key rows.now }
+    ensures within { IfOk result (λ k. k < length rows.now) }
+    ensures leads { (region : Region) (names : List (List ℕ)) → IsPath path.now names → IfOk result (λ k. (row : RowValue) → slice_get rows.now k ≡ Option.Some row → LeadsTo (tree_of region rows.now) names row.inode (node_of region row)) }
+    ensures file { IfOk result (λ k. (row : RowValue) → slice_get rows.now k ≡ Option.Some row → row.kind ≡ File) }
+    ensures most { OnOk result (size ≤ most_size) }
+    ensures refused { (region : Region) (p : Path) → Says path.now p → first_refusal (stat_tests (tree_of region rows.now) p ++ is_dir (tree_of region rows.now) p ∷ is_too_large size ∷ []) ≡ result_err result }
+{
+    let place = place_at(rows, path)?;
+    can_have_size(&rows[place], size)?;
+    Ok(place)
+}
+
+/// Whether an inode can get a size: `IsDirectory` for a directory, `TooLarge` for more bytes than a file can have.
+fn can_have_size(row: &Row, size: u64) -> Result<(), Refusal>
+    ensures { first_refusal ((is_directory row.now.kind, RefusalValue.IsDirectory) ∷ is_too_large size ∷ []) ≡ result_err result }
+{
+    if row.kind == Kind::Directory {
+        return Err(Refusal::IsDirectory);
+    }
+    if size > MOST_BYTES {
+        return Err(Refusal::TooLarge);
+    }
+    Ok(())
+}
