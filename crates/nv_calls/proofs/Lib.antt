@@ -43,3 +43,4 @@ pub mod CopiedEnd
 pub mod CopyOwed
 pub mod SetSize
 pub mod SizeKept
+pub mod WriteReply

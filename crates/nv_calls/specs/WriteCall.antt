@@ -27,3 +27,7 @@ pub record LogsWrite {P : Type 0} (S : Region) (m : Mount P) (cpu : ℕ) (held :
   pub rest : List (List Run)
   pub taken : Takes m.free.pools cpu (data_blocks plan) runs rest
   pub grew : ShowsGrownLog S m.sup held i h (data_entries plan runs)
+
+-- there are such runs
+abbrev pub ShowsLogWrite : {P : Type 0} → Region → Mount P → ℕ → Store → ℕ → Held → Plan → Type 0
+ShowsLogWrite S m cpu held i h plan = ∥ (LogsWrite S m cpu held i h plan) ∥₁
