@@ -8,6 +8,7 @@ use byteorder::{ByteOrder, LittleEndian};
 /// New bytes of a file from an offset on, and the size of the file before.
 ///
 /// What stood past the size counts as zeros.
+#[derive(Clone, Copy)]
 pub struct NewBytes<'a> {
     pub offset: u64,
     pub bytes: &'a [u8],

@@ -18,6 +18,22 @@ pub mod RowChange
 pub mod Attributed
 pub mod Tests
 pub mod SetAttr
+pub mod RunEntries
+pub mod DataEntries
+pub mod Takes
+pub mod PreparedBlocks
+pub mod WriteGood
+pub mod StoredEntries
+pub mod EntrySteps
+pub mod Replaced
+pub mod NeededBlocks
+pub mod Committed
+pub mod WriteFollows
+pub mod WrittenRow
+pub mod FileStanding
+pub mod WrittenBytes
+pub mod WriteSteps
+pub mod WritesFile
 pub mod SizedEntries
 pub mod DataFollows
 pub mod GivenPages
@@ -40,3 +56,4 @@ pub mod MadeNamed
 pub mod NewNumbers
 pub mod CreateCall
 pub mod PutRow
+pub mod WriteReply

@@ -37,7 +37,7 @@ one_taken (r ∷ rs) apart some =
 no_runs : (rs : List Run) → Apart rs → blocks_in rs < 1 → rs ≡ []
 no_runs rs apart few = sym (taken_over 0 rs apart (omega (arith, few))) ∙ taken_none rs
 
-emptied_apart : (pools : List (List Run)) (c : ℕ) → c < length pools → ((e : ℕ) → Apart (pool_at pools e)) → (e : ℕ) → Apart (pool_at (set pools c []) e)
+pub emptied_apart : (pools : List (List Run)) (c : ℕ) → c < length pools → ((e : ℕ) → Apart (pool_at pools e)) → (e : ℕ) → Apart (pool_at (set pools c []) e)
 emptied_apart pools c inside apart e = elim (one_of e c) [
   | inl differ ↦ subst Apart (sym (get_or-set_other pools c e [] [] differ)) (apart e)
   | inr same ↦ subst (λ (k : ℕ). Apart (pool_at (set pools c []) k)) same (subst Apart (sym (get_or-set_same pools c [] [] inside)) tt)

@@ -9,6 +9,9 @@ pub mod Attributes
 pub mod Stat
 pub mod Listing
 pub mod Reading
+pub mod Writes
+pub mod Written
+pub mod WriteCall
 pub mod Given
 pub mod Sizes
 pub mod NameCalls

@@ -25,6 +25,7 @@ pub(crate) fn take_blocks(
     ensures room { OnOk result (free.old.room ≤ free.new.room) }
     ensures err { IfErr result (λ refusal. Refuses refusal count free.old.pools) }
     ensures unchanged { OnErr result (SamePools free.old free.new) }
+    ensures room_left { OnErr result (free.old.room ≤ free.new.room + count) }
 {
     if free.free_blocks() < count {
         return Err(AllocRefusal::NoSpace);
@@ -47,6 +48,7 @@ fn take_enough(
     ensures count { IfOk result (λ blocks. length blocks.items ≡ count) }
     ensures room { OnOk result (free.old.room ≤ free.new.room) }
     ensures unchanged { OnErr result (SamePools free.old free.new) }
+    ensures room_left { OnErr result (free.old.room ≤ free.new.room + count) }
 {
     let mut blocks = Vec::with_capacity(alloc, count as usize)?;
     // Room to give back what was taken before a refusal.

@@ -31,6 +31,7 @@ pub(crate) fn prepare_log(
     ensures enough { OnOk result (needed (tail % 4096) entries.now ≤ all_blocks free.old.pools) }
     ensures err { IfErr result (λ refusal. Refuses refusal (needed (tail % 4096) entries.now) free.old.pools) }
     ensures unchanged { OnErr result (SamePools free.old free.new) }
+    ensures room_left { OnErr result (free.old.room ≤ free.new.room + needed (tail % 4096) entries.now) }
     ensures pages { pages.new.items ≡ pages.old.items }
 {
     let count = pages_needed(tail, entries);

@@ -91,7 +91,7 @@ impl<P: Pmem + Drop> Fs<P> {
 
 /// The place of the row of the file that a path leads to, where it can get a size. The refusals are those of `stat`, and then
 /// those of `can_have_size`.
-fn resizable_at(rows: &[Row], path: &[u8], size: u64) -> Result<usize, Refusal>
+pub(crate) fn resizable_at(rows: &[Row], path: &[u8], size: u64) -> Result<usize, Refusal>
     requires { Rises row_key rows.now }
     ensures within { IfOk result (λ k. k < length rows.now) }
     ensures leads { (region : Region) (names : List (List ℕ)) → IsPath path.now names → IfOk result (λ k. (row : RowValue) → slice_get rows.now k ≡ Option.Some row → LeadsTo (tree_of region rows.now) names row.inode (node_of region row)) }

@@ -1,0 +1,201 @@
+-- What `write` answers, and what it leaves.
+use Rattle.std.proofs.Common.{◌≡◌, ℕ, ◌+◌, ◌/◌, ◌<◌, ◌≤◌, ◌⊎◌, inl, inr, min, Bool, true, false, nat_lt, List, [], ◌∷◌, ◌++◌, append_assoc, length, refl, ap, sym, ◌∙◌, subst, arith, Option, Some, None, slice_get}
+use Rattle.std.specs.List.{Contains}
+use Rattle.std.specs.Option.{option_and_then, option_map}
+use Rattle.std.proofs.Math.Logic.{∥∥₁_elim, ∥∥₁_map}
+use Rattle.std.proofs.Math.Nat.{ℕ_set}
+use Rattle.std.proofs.Props.{props}
+use Rattle.std.proofs.lemmas.Bool.{cases_lt}
+use Rattle.std.proofs.lemmas.Bool.Decides.{nat_tests}
+use Rattle.nv_region.specs.Region.{Region}
+use Rattle.nv_super.specs.declared.superblock.Super.{Super}
+use Rattle.nv_super.specs.declared.faults.Fault.{Fault}
+use Rattle.nv_super.specs.Layout.{fixed_layout}
+use Rattle.nv_alloc.specs.FreeValue.{FreeLists}
+use Rattle.nv_alloc.specs.Taking.{Takes, all_blocks}
+use Rattle.nv_bytes.specs.Bytes.{byte_after, file_byte}
+use Rattle.nv_names.specs.Names.{Names, name_at}
+use Rattle.nv_radix.specs.Pages.{block_at}
+use Rattle.nv_scan.specs.State.{block_of}
+use Rattle.nv_scan.specs.declared.numbers.Numbers.{Numbers}
+use Rattle.nv_scan.specs.declared.piece.Row.{Row}
+use Rattle.nv_named.specs.Read.{row_of}
+use Rattle.nv_held.specs.Held.{Held, Store, good_in}
+use Rattle.nv_held.specs.Mounted.{ShowsSound}
+use Rattle.nv_tree.specs.declared.refusal.Refusal.{Refusal}
+use Rattle.nv_tree.specs.declared.refusal.Refusal.TheVariants.{Memory, Stopped}
+use Rattle.nv_tree.specs.Path.{IsPath, Says}
+use Rattle.nv_tree.specs.Tree.{Node, SameNode, SameNodes, SameTree, Tree, found}
+use Rattle.nv_tree.specs.Calls.{edit, on_some, with_bytes, written}
+use Rattle.nv_tree.specs.Refusals.{Path, Tests, first_refusal, has_no_space, is_bad, is_dir, is_missing, is_too_large, stat_tests, target, walk_tests, write_tests, writing}
+use Rattle.nv_calls.specs.Grown.{LogGrew}
+use Rattle.nv_calls.specs.Mount.{IsKept, Mount}
+use Rattle.nv_calls.specs.Seen.{LeadsTo, node_of, tree_of}
+use Rattle.nv_calls.specs.World.{world_of}
+use Rattle.nv_calls.specs.Writes.{NeedsBlocks, data_blocks, data_entries, plan_of}
+use Rattle.nv_calls.specs.Written.{RefusesWrite, WritesFile}
+use Rattle.nv_calls.specs.WriteCall.{ShowsLogWrite, WriteNeeds}
+use Rattle.nv_calls.specs.declared.planning.Plan.{Plan}
+use Rattle.nv_calls.proofs.Mounts.{mounted_of_kept, mounted_with}
+use Rattle.nv_calls.proofs.OneRow.{shows_row, stands}
+use Rattle.nv_calls.proofs.RowChange.{log_grew}
+use Rattle.nv_calls.proofs.SetSize.{front_tests}
+use Rattle.nv_calls.proofs.Tests.{enough_space, passed_before, refused_before, stat_first, too_few}
+
+-- ---- the tests
+
+-- a sum that doesn't fit is too large too
+large_test : (sum given : ℕ) → given ≡ min sum 18446744073709551615 → nat_lt 1073741824 sum ≡ nat_lt 1073741824 given
+large_test sum given is = elim (cases_lt 1073741824 sum) [
+  | inl large ↦ is_large sum large ∙ sym (is_large given (omega (arith, is, large)))
+  | inr small ↦ is_small sum small ∙ sym (is_small given (omega (arith, is, small)))
+] where
+  is_large : (n : ℕ) → 1073741824 < n → nat_lt 1073741824 n ≡ true
+  is_large n large = grind (arith, nat_tests)
+
+  is_small : (n : ℕ) → n ≤ 1073741824 → nat_lt 1073741824 n ≡ false
+  is_small n small = grind (arith, nat_tests)
+
+pub large_same : (offset count given : ℕ) → given ≡ min (offset + count) 18446744073709551615 → (t : Tree) (p : Path) → first_refusal (front_tests t p (offset + count)) ≡ first_refusal (front_tests t p given)
+large_same offset count given is t p = ap (λ (b : Bool). first_refusal (stat_tests t p ++ is_dir t p ∷ (b, (is_too_large 0).1) ∷ [])) (large_test (offset + count) given is)
+
+module _ {P : Type 0} (region : P → Region) {n m : Mount P} (same : n ≡ m) (cpu end count : ℕ) (passed : (tests : Tests) → first_refusal (writing (world_of m) cpu tests) ≡ first_refusal tests) (p : Path) where
+  abbrev tests : Mount P → Option Refusal
+  tests k = first_refusal (write_tests (world_of k) (tree_of (region k.memory) k.rows) cpu p end count)
+
+  abbrev tree : Tree
+  tree = tree_of (region n.memory) n.rows
+
+  by_front : tests n ≡ first_refusal (front_tests tree p end ++ has_no_space (world_of n) count ∷ [])
+  by_front =
+      subst (λ (k : Mount P). first_refusal (writing (world_of k) cpu (is_bad p ∷ walk_tests tree p ++ is_missing tree p ∷ is_dir tree p ∷ is_too_large end ∷ has_no_space (world_of n) count ∷ [])) ≡ first_refusal (is_bad p ∷ walk_tests tree p ++ is_missing tree p ∷ is_dir tree p ∷ is_too_large end ∷ has_no_space (world_of n) count ∷ [])) (sym same) (passed (is_bad p ∷ walk_tests tree p ++ is_missing tree p ∷ is_dir tree p ∷ is_too_large end ∷ has_no_space (world_of n) count ∷ []))
+      ∙ ap first_refusal (stat_first tree p (is_dir tree p ∷ is_too_large end ∷ has_no_space (world_of n) count ∷ []) ∙ sym (append_assoc (stat_tests tree p) (is_dir tree p ∷ is_too_large end ∷ []) (has_no_space (world_of n) count ∷ [])))
+
+  -- What refuses the file refuses the call.
+  pub write_front : (e : Refusal) → first_refusal (front_tests tree p end) ≡ Some e → tests m ≡ Some e
+  write_front e h = subst (λ (k : Mount P). tests k ≡ Some e) same (by_front ∙ refused_before (front_tests tree p end) (has_no_space (world_of n) count ∷ []) e h)
+
+  module _ (none : first_refusal (front_tests tree p end) ≡ None) where
+    at_last : tests n ≡ first_refusal (has_no_space (world_of n) count ∷ [])
+    at_last = by_front ∙ passed_before (front_tests tree p end) (has_no_space (world_of n) count ∷ []) none
+
+    -- Where nothing is needed no test refuses it.
+    pub write_none : count ≡ 0 → tests m ≡ None
+    write_none nothing = subst (λ (k : Mount P). tests k ≡ None) same (at_last ∙ enough_space (world_of n) count (omega (arith, nothing)))
+
+    module _ (text : List ℕ) (row : Row) (node : Node) (is : row_of n.rows row.inode ≡ Some row) (leads : (names : List (List ℕ)) → IsPath text names → LeadsTo tree names row.inode node) (says : Says text p) (offset bytes time : ℕ) (some : 0 < bytes)
+        (needs : WriteNeeds (region m.memory) m cpu p offset bytes time count) where
+      abbrev plan : Plan
+      plan = plan_of (block_at row.index) row.numbers.size offset bytes time
+
+      needed_here : NeedsBlocks n.free.pools cpu row.tail plan count
+      needed_here = (subst (λ (k : Mount P). WriteNeeds (region k.memory) k cpu p offset bytes time count) (sym same) needs).some some row (by p says none) where
+        by : (q : Path) → Says text q → first_refusal (front_tests tree q end) ≡ None → option_and_then (row_of n.rows) (target tree q) ≡ Some row
+        by None says none = absurd (cc)
+        by (Some names) says none = (let led = leads names says in ap (option_and_then (row_of n.rows)) led.leads ∙ is)
+
+      -- No test refuses it where there are enough blocks.
+      pub write_allowed : ((k : ℕ) → NeedsBlocks n.free.pools cpu row.tail plan k → k ≤ all_blocks n.free.pools) → tests m ≡ None
+      write_allowed enough = subst (λ (k : Mount P). tests k ≡ None) same (at_last ∙ enough_space (world_of n) count (enough count needed_here))
+
+      -- Where its step was refused, so is the call.
+      pub write_refused : (e : Refusal) → RefusesWrite e n.free cpu row.tail plan → (e ≡ Memory) ⊎ ((e ≡ Stopped) ⊎ (tests m ≡ Some e))
+      write_refused e (inl memory) = inl memory
+      write_refused e (inr (inl stopped)) = inr (inl stopped)
+      write_refused e (inr (inr w)) = inr (inr (subst (λ (k : Mount P). tests k ≡ Some e) same (at_last ∙ too_few (world_of n) count (w.1 count needed_here) ∙ ap (λ (r : Refusal). Some r) (sym w.0))))
+
+-- ---- what it leaves
+
+same_node : (node : Node) → SameNode node node
+same_node node = record { kind = refl; mode = refl; owner = refl; group = refl; size = refl; links = refl; time = refl; count = refl; names = λ q. refl; bytes = λ x below. refl }
+
+same_nodes : (o : Option Node) → SameNodes o o
+same_nodes None = tt
+same_nodes (Some node) = same_node node
+
+-- no bytes change nothing
+pub none_written : (names : List (List ℕ)) (offset : ℕ) (new : List ℕ) (time : ℕ) (t : Tree) → length new ≡ 0 → SameTree t (written names offset new time t)
+none_written names offset [] time t none = λ i. same_nodes (t i)
+none_written names offset (b ∷ new) time t none = absurd (omega (arith, none))
+
+-- The tree with the file changed is what the call makes of it.
+pub write_changed : {P : Type 0} (region : P → Region) {n m : Mount P} → n ≡ m → (names : List (List ℕ)) (i offset : ℕ) (new : List ℕ) (time : ℕ) → 0 < length new → (u : Tree) → found (tree_of (region n.memory) n.rows) names ≡ Some i
+    → SameTree u (edit i (with_bytes offset new time) (tree_of (region n.memory) n.rows)) → SameTree u (written names offset new time (tree_of (region m.memory) m.rows))
+write_changed {P} region {n} {m} same names i offset [] time some u leads is = absurd (omega (arith, some))
+write_changed {P} region {n} {m} same names i offset (b ∷ new) time some u leads is =
+    let t = tree_of (region n.memory) n.rows in
+    let made : written names offset (b ∷ new) time t ≡ edit i (with_bytes offset (b ∷ new) time) t = ap (λ (o : Option ℕ). on_some o (λ j. edit j (with_bytes offset (b ∷ new) time) t) t) leads in
+    subst (λ (k : Mount P). SameTree u (written names offset (b ∷ new) time (tree_of (region k.memory) k.rows))) same (subst (λ (v : Tree). SameTree u v) (sym made) is)
+
+module _ {R S : Region} {s : Super} {rows : List Row} {free after : FreeLists} {faults : List Fault} {read_only stopped : Bool} (kept : IsKept R s rows free faults read_only stopped) (runs : stopped ≡ false) (writes : read_only ≡ false)
+    (place : ℕ) (row : Row) (at : slice_get rows place ≡ Some row) {cpu : ℕ} {plan : Plan} {offset : ℕ} {new : List ℕ} {now : Row} (w : WritesFile R S s free after cpu plan offset new row now) where
+  -- Each byte is the new one, or what it was, or zero.
+  pub write_bytes : (x : ℕ) → x < plan.size → file_byte S now.index x ≡ byte_after offset new row.numbers.size (file_byte R row.index) x
+  write_bytes x inside = ∥∥₁_elim (mounted_of_kept kept runs writes) prop (λ v. (let shown = shows_row v.1 kept.lists row (stands rows place row at) in w.bytes v.0 shown.0 shown.1 x inside)) where
+    prop : IsProp (file_byte S now.index x ≡ byte_after offset new row.numbers.size (file_byte R row.index) x)
+    prop = hlevel (props, ℕ_set)
+
+  -- The log of its inode, for whatever is held of the region.
+  pub write_log : (held : Store) (h : Held) → ShowsSound R s held → held row.inode ≡ Some h → ∥ (LogGrew S s held row.inode h (data_entries plan w.runs)) ∥₁
+  write_log held h sound is = log_grew kept runs writes place row now at (data_entries plan w.runs) (λ st g shows. w.follows st g shows) held h sound is
+
+-- The node has the new bytes.
+pub written_node : (R S : Region) {s : Super} {free after : FreeLists} {cpu : ℕ} {plan : Plan} {offset : ℕ} {new : List ℕ} {row now : Row} (time : ℕ) → WritesFile R S s free after cpu plan offset new row now
+    → plan ≡ plan_of (block_at row.index) row.numbers.size offset (length new) time → ((x : ℕ) → x < plan.size → file_byte S now.index x ≡ byte_after offset new row.numbers.size (file_byte R row.index) x)
+    → SameNode (node_of S now) (with_bytes offset new time (node_of R row))
+written_node R S time w planned bytes = record {
+  kind = w.kind;
+  mode = ap (λ (n : Numbers). n.mode) w.numbers;
+  owner = ap (λ (n : Numbers). n.owner) w.numbers;
+  group = ap (λ (n : Numbers). n.group) w.numbers;
+  size = ap (λ (n : Numbers). n.size) w.numbers ∙ ap (λ (q : Plan). q.size) planned;
+  links = ap (λ (n : Numbers). n.links) w.numbers;
+  time = ap (λ (n : Numbers). n.time) w.numbers ∙ ap (λ (q : Plan). q.time) planned;
+  count = ap (λ (n : Names). length n.names) w.names;
+  names = λ q. ap (λ (n : Names). option_map (λ (y : ℕ × ℕ). y.0) (name_at n q)) w.names;
+  bytes = λ x below. bytes x (subst (λ (z : ℕ). x < z) (ap (λ (n : Numbers). n.size) w.numbers) below);
+}
+
+some_number : {i j : ℕ} → Some i ≡ Some j → i ≡ j
+some_number e = cc
+
+some_node : {a b : Node} → Some a ≡ Some b → a ≡ b
+some_node e = cc
+
+some_held : {a b : Held} → Some a ≡ Some b → a ≡ b
+some_held e = cc
+
+plan_same : (f g : ℕ → Option ℕ) (size offset count time : ℕ) → f (size / 4096) ≡ g (size / 4096) → plan_of f size offset count time ≡ plan_of g size offset count time
+plan_same f g size offset count time same = ap (λ (o : Option ℕ). plan_of (λ q. o) size offset count time) same
+
+-- The log of the inode that the path leads to has grown.
+pub write_logged : {P : Type 0} (region : P → Region) {n m : Mount P} → n ≡ m → {S : Region} {after : FreeLists} {cpu : ℕ} {plan : Plan} {offset : ℕ} {new : List ℕ} {row now : Row} (names : List (List ℕ)) (time i : ℕ) (node : Node) (held : Store) (h : Held)
+    → IsKept (region n.memory) n.sup n.rows n.free n.faults n.read_only n.stopped → n.stopped ≡ false → Contains n.rows row → LeadsTo (tree_of (region n.memory) n.rows) names row.inode (node_of (region n.memory) row)
+    → (w : WritesFile (region n.memory) S n.sup n.free after cpu plan offset new row now) → plan ≡ plan_of (block_at row.index) row.numbers.size offset (length new) time
+    → ((st : Store) (g : Held) → ShowsSound (region n.memory) n.sup st → st row.inode ≡ Some g → ∥ (LogGrew S n.sup st row.inode g (data_entries plan w.runs)) ∥₁)
+    → LeadsTo (tree_of (region m.memory) m.rows) names i node → ShowsSound (region m.memory) m.sup held → held i ≡ Some h
+    → ShowsLogWrite S m cpu held i h (plan_of (block_of (good_in (fixed_layout m.sup) h)) node.size offset (length new) time)
+write_logged {P} region {n} {m} same {S} {after} {cpu} {plan} {offset} {new} {row} {now} names time i node held h kept runs there own w planned grew led sound is =
+    subst (λ (k : Mount P). LeadsTo (tree_of (region k.memory) k.rows) names i node → ShowsSound (region k.memory) k.sup held → ShowsLogWrite S k cpu held i h (plan_of (block_of (good_in (fixed_layout k.sup) h)) node.size offset (length new) time)) same here led sound
+  where
+    here : LeadsTo (tree_of (region n.memory) n.rows) names i node → ShowsSound (region n.memory) n.sup held → ShowsLogWrite S n cpu held i h (plan_of (block_of (good_in (fixed_layout n.sup) h)) node.size offset (length new) time)
+    here led sound =
+        let number : row.inode ≡ i = some_number (sym own.leads ∙ led.leads) in
+        let node_is : node_of (region n.memory) row ≡ node = some_node (sym own.shows ∙ ap (tree_of (region n.memory) n.rows) number ∙ led.shows) in
+        let size_is : row.numbers.size ≡ node.size = ap (λ (x : Node). x.size) node_is in
+        ∥∥₁_map (mounted_with kept runs held sound) (λ mounted. (
+        let shown = shows_row {free = n.free} mounted kept.lists row there in
+        let v = shown.1 in
+        let both : Some shown.0 ≡ Some h = sym v.holds ∙ ap held number ∙ is in
+        let one : shown.0 ≡ h = some_held both in
+        let told = v.told in
+        let index : block_at row.index (row.numbers.size / 4096) ≡ block_of (good_in (fixed_layout n.sup) h) (row.numbers.size / 4096) = subst (λ (g : Held). block_at row.index (row.numbers.size / 4096) ≡ block_of (good_in (fixed_layout n.sup) g) (row.numbers.size / 4096)) one (told.index (row.numbers.size / 4096)) in
+        let equal : plan ≡ plan_of (block_of (good_in (fixed_layout n.sup) h)) node.size offset (length new) time =
+        planned ∙ plan_same (block_at row.index) (block_of (good_in (fixed_layout n.sup) h)) row.numbers.size offset (length new) time index ∙ ap (λ (z : ℕ). plan_of (block_of (good_in (fixed_layout n.sup) h)) z offset (length new) time) size_is in
+        record {
+          runs = w.runs;
+          rest = w.rest;
+          taken = subst (λ (q : Plan). Takes n.free.pools cpu (data_blocks q) w.runs w.rest) equal w.taken;
+          grew = subst (λ (k : ℕ). ∥ (LogGrew S n.sup held k h (data_entries (plan_of (block_of (good_in (fixed_layout n.sup) h)) node.size offset (length new) time) w.runs)) ∥₁) number
+              (subst (λ (q : Plan). ∥ (LogGrew S n.sup held row.inode h (data_entries q w.runs)) ∥₁) equal (grew held h sound (ap held number ∙ is)));
+        }))
