@@ -24,3 +24,5 @@ mod set_attr;
 mod set_size;
 #[cfg(test)]
 mod stops;
+#[cfg(test)]
+mod write;
