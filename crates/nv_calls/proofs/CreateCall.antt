@@ -8,7 +8,7 @@ use Rattle.nv_super.specs.declared.faults.Fault.{Fault}
 use Rattle.nv_super.specs.declared.kind.Kind.{Kind}
 use Rattle.nv_super.specs.declared.kind.Kind.TheVariants.{Directory}
 use Rattle.nv_super.specs.declared.owners.Run.{Run}
-use Rattle.nv_super.specs.Layout.{Layout, fixed_layout, is_number}
+use Rattle.nv_super.specs.Layout.{fixed_layout, is_number}
 use Rattle.nv_super.proofs.Members.{none_in}
 use Rattle.nv_super.proofs.Rising.{Contains-cons, Contains-head, Contains-tail}
 use Rattle.nv_super.proofs.RisingPlaces.{rises_keys}
@@ -17,14 +17,13 @@ use Rattle.nv_alloc.specs.Taking.{all_blocks}
 use Rattle.nv_entry.specs.declared.entry.Operation.TheVariants.{Add}
 use Rattle.nv_logpage.specs.Append.{needed}
 use Rattle.nv_scan.specs.declared.piece.Row.{Row}
-use Rattle.nv_scan.specs.Rows.{AreNumbers}
 use Rattle.nv_check.specs.Cross.{row_key}
 use Rattle.nv_outcome.specs.Same.{SameRow, SameRows}
 use Rattle.nv_named.specs.Read.{row_of}
 use Rattle.nv_named.specs.Step.{IsGoodName}
-use Rattle.nv_held.specs.Held.{Held, Store, good_in}
+use Rattle.nv_held.specs.Held.{Held, Store}
 use Rattle.nv_held.specs.Blocks.{KeepsFree}
-use Rattle.nv_held.specs.Mounted.{IsMounted, KeepsRow, ShowsSound}
+use Rattle.nv_held.specs.Mounted.{IsMounted, ShowsSound}
 use Rattle.nv_tree.specs.declared.refusal.Refusal.{Refusal}
 use Rattle.nv_tree.specs.declared.refusal.Refusal.TheVariants.{Memory, Stopped}
 use Rattle.nv_tree.specs.Path.{IsPath, IsPathName, Says, last_name}
@@ -45,6 +44,7 @@ use Rattle.nv_calls.proofs.Kept.{rows_rise}
 use Rattle.nv_calls.proofs.Mounts.{kept_of_mounted, kept_when_stopped, mounted_of_kept}
 use Rattle.nv_calls.proofs.NewNumbers.{unused_is}
 use Rattle.nv_calls.proofs.OneRow.{stands}
+use Rattle.nv_calls.proofs.RowChange.{keeps_same}
 use Rattle.nv_calls.proofs.Tests.{enough_space, too_few}
 
 module _ {R S : Region} {s : Super} {rows news : List Row} {free after : FreeLists} {faults : List Fault} {read_only stopped : Bool} (kept : IsKept R s rows free faults read_only stopped) (runs : stopped ≡ false) (writes : read_only ≡ false)
@@ -140,18 +140,6 @@ module _ {P : Type 0} (region : P → Region) {n m : Mount P} (same : n ≡ m) (
 
 -- ---- a step that was refused
 
--- rows that are the same are of the same
-keeps_same : (l : Layout) (h : Held) (row new : Row) → SameRow row new → KeepsRow l h row → KeepsRow l h new
-keeps_same l h row new same told = record {
-  kind = same.kind ∙ told.kind;
-  numbers = subst (λ n. AreNumbers h.created (good_in l h) n) (sym same.numbers) told.numbers;
-  head = same.head ∙ told.head;
-  tail = same.tail ∙ told.tail;
-  pages = same.pages ∙ told.pages;
-  index = λ p. same.index p ∙ told.index p;
-  names = λ q. same.names q ∙ told.names q;
-}
-
 -- each row has its like
 like : (old new : List Row) → SameRows old new → (r : Row) → Contains new r → (q : Row) × Contains old q × SameRow q r
 like [] [] same r c = absurd (none_in r c)
@@ -186,7 +174,7 @@ mounted_same {R} {s} {rows} {news} {pools} {lists} held m same free =
       keeps = record {
         in_rows = record {
           rising = rises_keys row_key rows news (keys_same rows news same) in_rows.rising;
-          each = λ r c. (let w = like rows news same r c in let k = in_rows.each w.0 w.1 in let one = w.2 in (k.0, ap held one.inode ∙ k.1, keeps_same (fixed_layout s) k.0 w.0 r one k.2));
+          each = λ r c. (let w = like rows news same r c in let k = in_rows.each w.0 w.1 in let one = w.2 in (k.0, ap held one.inode ∙ k.1, keeps_same s k.0 w.0 r one k.2));
           all = λ i h is. (let k = in_rows.all i h is in let w = unlike rows news same k.0 k.1 in let one = w.2 in (w.0, w.1, one.inode ∙ k.2));
         };
         in_lists = subst (λ (l : List (List Run)). KeepsFree (fixed_layout s) held l) (sym free) keeps.in_lists;

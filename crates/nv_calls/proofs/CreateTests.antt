@@ -1,5 +1,5 @@
 -- Why `create` and `mkdir` are refused.
-use Rattle.std.proofs.Common.{◌≡◌, ℕ, ◌<◌, true, false, List, [], ◌∷◌, ◌++◌, append_assoc, length, slice_get, refl, ap, sym, ◌∙◌, subst, arith, Option, Some, None, Result, Ok, Err, IfSome, IsTrue, is_none, is_some, All, Bool}
+use Rattle.std.proofs.Common.{◌≡◌, ℕ, ◌<◌, true, false, List, [], ◌∷◌, ◌++◌, append_assoc, length, slice_get, refl, ap, sym, ◌∙◌, subst, Option, Some, None, Result, Ok, Err, IfSome, IsTrue, is_none, is_some, All, Bool}
 use Rattle.std.specs.Option.{option_and_then, option_map}
 use Rattle.std.proofs.lemmas.List.Elements.{All-head, All-tail}
 use Rattle.std.proofs.lemmas.Option.{get_or_from_slice_get}
@@ -9,7 +9,6 @@ use Rattle.nv_super.specs.Layout.{is_number}
 use Rattle.nv_super.specs.declared.kind.Kind.TheVariants.{Directory}
 use Rattle.nv_super.specs.Order.{Rises}
 use Rattle.nv_names.specs.Names.{name_at}
-use Rattle.nv_names.specs.Names as index
 use Rattle.nv_scan.specs.declared.piece.Row.{Row}
 use Rattle.nv_check.specs.Cross.{row_key}
 use Rattle.nv_named.specs.Read.{row_of}
@@ -45,9 +44,6 @@ module _ (w : World) (t : Tree) (cpu : ℕ) (passed : (tests : Tests) → first_
 
 -- ---- where a new inode goes
 
-pub some_bytes : (text : List ℕ) → (name : List ℕ) × (names : List (List ℕ)) × IsPath text (name ∷ names) → 0 < length text
-some_bytes text w = let path = w.2 in let e = ap length path.spells in omega (arith, e)
-
 pub spells_names : (text name : List ℕ) (names : List (List ℕ)) → IsPath text (name ∷ names) → Spells text (name ∷ names)
 spells_names text name names path = record { spells = path.spells; good = path.good }
 
@@ -63,12 +59,6 @@ said_names text Q some long each = said text Q (some.0 ∷ some.1, some.2) by wh
   by : (names : List (List ℕ)) → IsPath text names → Q (Some names)
   by [] path = absurd (long (ap length path.spells))
   by (name ∷ names) path = each name names path
-
-pub bad_spot : (t : Tree) (unused : Option ℕ) (p : Path) → is_bad_name p ≡ (true, BadName) → first_refusal (spot_tests t unused p) ≡ Some BadName
-bad_spot t unused p bad = rw bad refl
-
-pub lost_spot : (t : Tree) (unused : Option ℕ) (name : List ℕ) (names : List (List ℕ)) (e : Refusal) → walk t 1 (name ∷ names) ≡ Err e → first_refusal (spot_tests t unused (Some (name ∷ names))) ≡ Some e
-lost_spot t unused name names e walked = rw walked refl
 
 -- the tests by what a walk, a path and the CPU's table give
 abbrev tests_at : Result ℕ Refusal → Option ℕ → Option ℕ → Option Refusal
@@ -110,9 +100,6 @@ long_text text w one = let none = one_byte text (w.0 ∷ w.1) w.2 one in cc
 pub last_is_name : (name : List ℕ) (names : List (List ℕ)) → All IsPathName (name ∷ names) → IsPathName (last_name (name ∷ names))
 last_is_name name [] good = All-head IsPathName name [] good
 last_is_name name (next ∷ names) good = last_is_name next names (All-tail IsPathName name (next ∷ names) good)
-
-pub short_name : (name : List ℕ) → IsPathName name → index.IsName name
-short_name name good = let fits = good.fits in record { some = fits.some; short = fits.fits }
 
 pub good_name : (s : Super) (j : ℕ) (name : List ℕ) → IsPathName name → IsTrue (is_number s j) → IsGoodName s j name
 good_name s j name good number = rw (good.bytes, good.no_dots, number) refl

@@ -1,5 +1,5 @@
 -- A new inode and its name, once they are committed and the rows settled.
-use Rattle.std.proofs.Common.{◌≡◌, ℕ, zero, suc, ◌+◌, ◌-◌, ◌*◌, ◌/◌, ◌%◌, ◌<◌, ◌≤◌, cond, nat_eq, nat_le, Bool, true, false, List, [], ◌∷◌, ◌++◌, drop, take, take_all, length, get_or, refl, ap, sym, ◌∙◌, subst, arith, Some, None}
+use Rattle.std.proofs.Common.{◌≡◌, ℕ, zero, suc, ◌+◌, ◌-◌, ◌*◌, ◌/◌, ◌%◌, ◌<◌, ◌≤◌, cond, nat_eq, List, [], ◌∷◌, ◌++◌, drop, take, take_all, length, get_or, refl, ap, sym, ◌∙◌, subst, arith, Some, None}
 use Rattle.std.specs.Cmp.Lexicographic.{pointwise}
 use Rattle.nv_region.specs.Region.{Region, size}
 use Rattle.nv_region.specs.Stops.{IsMixed}
@@ -54,13 +54,6 @@ first_is (x ∷ xs) n v count is = is
 -- where a name's entry begins, by where it ends
 pub place_is : (end len : ℕ) (fresh : List ℕ) (tail j : ℕ) (name : List ℕ) (time : ℕ) → end ≡ end_of fresh 0 tail (name_entries Add j name time) → len ≡ entry_length (Name (record { operation = Add; inode = j; time = time; name = name })) → end - len ≡ place_named fresh tail j name time
 place_is end len fresh tail j name time ends is = omega (arith, ends, is)
-
--- a name's entry takes one page at most
-pub one_page : (offset j : ℕ) (name : List ℕ) (time : ℕ) → needed offset (name_entries Add j name time) ≤ 1
-one_page offset j name time = by (nat_le (offset + entry_length (Name (record { operation = Add; inode = j; time = time; name = name }))) 4064) where
-  by : (b : Bool) → cond b 0 1 ≤ 1
-  by true = omega arith
-  by false = omega arith
 
 -- the store by the names of a call
 made_store : (held : Store) (n : NewInode) (x : Extension) (kind : Kind) (mode time j d : ℕ) (h : Held) (name : List ℕ) (page : ℕ) (fresh : List ℕ) → n.kind ≡ kind → n.created ≡ time → n.page ≡ page → n.entries.now ≡ first_entries mode time → x.entries.now ≡ name_entries Add j name time → x.fresh.now ≡ fresh

@@ -89,7 +89,7 @@ set_same_rows (x ∷ rows) zero row new at same = (let is : x ≡ row = cc in su
 set_same_rows (x ∷ rows) (suc place) row new at same = (same_row x, set_same_rows rows place row new at same)
 
 -- a row that is the same is of the same
-keeps_same : (s : Super) (h : Held) (row new : Row) → SameRow row new → KeepsRow (fixed_layout s) h row → KeepsRow (fixed_layout s) h new
+pub keeps_same : (s : Super) (h : Held) (row new : Row) → SameRow row new → KeepsRow (fixed_layout s) h row → KeepsRow (fixed_layout s) h new
 keeps_same s h row new same told = record {
   kind = same.kind ∙ told.kind;
   numbers = subst (λ n. AreNumbers h.created (good_in (fixed_layout s) h) n) (sym same.numbers) told.numbers;
