@@ -27,7 +27,7 @@ stays_free old new [] same cpu b free = subst (λ (a : FreeLists). IsFreeIn a cp
 stays_free old new (a ∷ fresh) w cpu b free = w.1.leave.stays cpu b (stays_free w.0 new fresh w.2 cpu b free)
 
 -- a free block of what is held
-pub free_held : (l : Layout) (held : Store) (old : FreeLists) → KeepsFree l held old.pools → (cpu b : ℕ) → IsFreeIn old cpu b → blocks.IsFreeIn l held b
+pub free_held : (l : Layout) (held : Store) (old : FreeLists) → KeepsFree l held old.pools → (cpu b : ℕ) → IsFreeIn old cpu b → blocks.IsUnowned l held b
 free_held l held old kept cpu b free =
     let below : cpu < l.sup.cpus = (let inside = free_within old.pools cpu b free in let n = kept.pools in omega (arith, inside, n)) in
     ((kept.each cpu below).each free.0 b free.1 free.2 free.3).1
