@@ -1,7 +1,6 @@
 //! `create` and `mkdir`. After each call recovery of the region's bytes finds what is mounted.
 
 use crate::formatted::formatted;
-use crate::mounted::two_pages;
 use crate::recovered::assert_recovered;
 use nv_calls::Fs;
 use nv_region::MemRegion;
@@ -51,50 +50,5 @@ fn two_directories_and_a_file(rt: HostRuntime) -> Result<(), Fail> {
     assert_made(&rt, &fs, &MADE);
     assert!(rt; fs.stat(b"/d/x")?.inode == 6);
     assert!(rt; fs.list(b"/")?.len() == 2);
-    assert_recovered(&rt, rt.alloc(), &fs)
-}
-
-/// Makes files of names of one byte, from `from` up to, not including, `to`.
-fn create_each(fs: &mut Fs<MemRegion>, from: u8, to: u8) -> Result<(), Refusal> {
-    for byte in from..to {
-        create(fs, 0, &[b'/', byte])?;
-    }
-    Ok(())
-}
-
-#[test]
-fn a_table_has_thirty_numbers_for_files(rt: HostRuntime) -> Result<(), Fail> {
-    let mut fs = formatted(rt.alloc(), 64, 1)?;
-    create_each(&mut fs, 65, 95)?;
-    assert!(rt; create(&mut fs, 0, b"/a") == Err(Refusal::NoInodes));
-    assert_recovered(&rt, rt.alloc(), &fs)
-}
-
-#[test]
-fn a_device_may_be_full(rt: HostRuntime) -> Result<(), Fail> {
-    let mut fs = formatted(rt.alloc(), 8, 1)?;
-    create_each(&mut fs, 65, 69)?;
-    assert!(rt; mkdir(&mut fs, 0, b"/a") == Err(Refusal::NoSpace));
-    assert!(rt; fs.rows().len() == 5);
-    assert_recovered(&rt, rt.alloc(), &fs)
-}
-
-/// CPUs, texts, and why `create` and `mkdir` are refused: the first that applies.
-const REFUSED: [(u64, &[u8], Refusal); 6] = [
-    (1, b"a", Refusal::BadCpu),
-    (0, b"a", Refusal::BadName),
-    (0, b"/", Refusal::BadName),
-    (0, b"/b/c", Refusal::NotFound),
-    (0, b"/a/c", Refusal::NotDirectory),
-    (0, b"/a", Refusal::Exists),
-];
-
-#[test]
-fn the_first_refusal_is_told(rt: HostRuntime) -> Result<(), Fail> {
-    let mut fs = two_pages(rt.alloc())?;
-    for (cpu, path, refusal) in REFUSED {
-        assert!(rt; create(&mut fs, cpu, path) == Err(refusal), "at {refusal}");
-        assert!(rt; mkdir(&mut fs, cpu, path) == Err(refusal), "at {refusal}");
-    }
     assert_recovered(&rt, rt.alloc(), &fs)
 }

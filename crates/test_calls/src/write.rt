@@ -1,8 +1,9 @@
 //! `write`. After each call recovery of the region's bytes finds what is mounted.
 
+ghost use Rattle.std.specs.Prelude.{◌≤◌};
+
 use crate::create::create;
 use crate::formatted::formatted;
-use crate::mounted::two_pages;
 use crate::recovered::assert_recovered;
 use nv_calls::Fs;
 use nv_region::MemRegion;
@@ -17,7 +18,9 @@ fn fill(
     offset: u64,
     count: usize,
     byte: u8,
-) -> Result<(), Refusal> {
+) -> Result<(), Refusal>
+    requires { count ≤ 8192 }
+{
     let bytes = [byte; 8192];
     fs.write(0, path, offset, &bytes[..count], 0)
 }
@@ -62,48 +65,5 @@ fn a_device_may_be_full(rt: HostRuntime) -> Result<(), Fail> {
     assert!(rt; fs.free().free_blocks() == 0);
     assert!(rt; fill(&mut fs, b"/a", 0, 1, 67) == Err(Refusal::NoSpace));
     assert_extents(&rt, &fs, 16496, &[(0, 3, 5)])?;
-    assert_recovered(&rt, rt.alloc(), &fs)
-}
-
-#[test]
-fn a_gap_is_zeros(rt: HostRuntime) -> Result<(), Fail> {
-    let mut fs = formatted(rt.alloc(), 16, 1)?;
-    create(&mut fs, 0, b"/a")?;
-    fill(&mut fs, b"/a", 0, 6, 65)?;
-    fs.set_size(0, b"/a", 3, 0)?;
-    fill(&mut fs, b"/a", 8190, 3, 66)?;
-    assert!(rt; fs.read(b"/a", 0, 6)?.as_slice() == b"AAA\0\0\0".as_slice());
-    assert!(rt; fs.read(b"/a", 8188, 9)?.as_slice() == b"\0\0BBB".as_slice());
-    assert_recovered(&rt, rt.alloc(), &fs)
-}
-
-#[test]
-fn no_bytes_change_nothing(rt: HostRuntime) -> Result<(), Fail> {
-    let mut fs = two_pages(rt.alloc())?;
-    fs.write(0, b"/a", 9999, &[], 12)?;
-    assert!(rt; fs.stat(b"/a")?.size == 9000);
-    assert!(rt; fs.stat(b"/a")?.time == 9);
-    assert_recovered(&rt, rt.alloc(), &fs)
-}
-
-/// CPUs, texts, offsets, and why `write` of one byte is refused: the first that applies.
-const REFUSED: [(u64, &[u8], u64, Refusal); 6] = [
-    (1, b"a", 0, Refusal::BadCpu),
-    (0, b"a", 0, Refusal::BadName),
-    (0, b"/b", 0, Refusal::NotFound),
-    (0, b"/a/c", 0, Refusal::NotDirectory),
-    (0, b"/", 1_073_741_824, Refusal::IsDirectory),
-    (0, b"/a", 1_073_741_824, Refusal::TooLarge),
-];
-
-#[test]
-fn the_first_refusal_is_told(rt: HostRuntime) -> Result<(), Fail> {
-    let mut fs = two_pages(rt.alloc())?;
-    for (cpu, path, offset, refusal) in REFUSED {
-        assert!(rt;
-            fs.write(cpu, path, offset, b"x", 1) == Err(refusal),
-            "at {refusal}"
-        );
-    }
     assert_recovered(&rt, rt.alloc(), &fs)
 }
