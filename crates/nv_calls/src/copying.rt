@@ -53,6 +53,7 @@ pub(crate) fn resize_with_copy<P: Pmem>(
     ensures unchanged { IfErr result (λ e. (e ≡ RefusalValue.Stopped → ⊥) → LeavesStep memory.old memory.new free.old free.new row.old row.new) }
     ensures stopped { IfErr result (λ e. e ≡ RefusalValue.Stopped → IsTrue (P.fuse memory.new).has_burnt) }
     ensures lists { free.new.sup ≡ free.old.sup }
+    ensures length { size (P.region memory.new) ≡ size (P.region memory.old) }
     ensures keeps_fuse { KeepsFuse (λ limit. size (P.region memory.old) ≤ limit) (P.fuse memory.old) (P.fuse memory.new) }
 {
     let bytes = row.numbers.size;
@@ -151,6 +152,7 @@ fn copy_end<P: Pmem>(
     ensures copies { OnOk result (CopiesEnd (P.region memory.old) (P.region memory.new) from to bytes log.now.slot log.now.tail log.now.entries.now log.now.fresh.now) }
     ensures settled { OnOk result (NothingPending (P.region memory.new) (P.may_hold memory.new)) }
     ensures stopped { is_err result ≡ (P.fuse memory.new).has_burnt }
+    ensures length { size (P.region memory.new) ≡ size (P.region memory.old) }
     ensures keeps_fuse { KeepsFuse (λ limit. size (P.region memory.old) ≤ limit) (P.fuse memory.old) (P.fuse memory.new) }
 {
     copy_page(memory, from, to, bytes)?;

@@ -5,7 +5,7 @@ ghost use Rattle.nv_journal.specs.Undo.{undone};
 ghost use Rattle.nv_outcome.specs.Outcome.{IsOutcome};
 ghost use Rattle.nv_outcome.specs.Same.{lasting_outcome};
 ghost use Rattle.nv_recover.specs.Answer.{outcome_of};
-ghost use Rattle.nv_calls.specs.Mount.{has_faults};
+ghost use Rattle.nv_calls.specs.Mount.{IsKept, has_faults};
 
 use nv_alloc::Allocators;
 use nv_recover::Recovered;
@@ -115,6 +115,14 @@ impl<P: Pmem + Drop> Fs<P> {
         ensures { result.now ≡ self.now.faults }
     {
         self.faults.as_slice()
+    }
+
+    /// What a mounted file system always keeps, for those who see only its parts. It does nothing.
+    pub fn keeps(&self)
+        ensures { IsKept (P.region self.now.memory) self.now.sup self.now.rows self.now.free self.now.faults self.now.read_only self.now.stopped }
+    {
+        // Its type's promise is known where a field is used.
+        let _ = &self.sup;
     }
 }
 

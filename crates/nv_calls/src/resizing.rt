@@ -44,6 +44,7 @@ pub(crate) fn resize<P: Pmem>(
     ensures unchanged { IfErr result (λ e. (e ≡ RefusalValue.Stopped → ⊥) → LeavesStep memory.old memory.new free.old free.new row.old row.new) }
     ensures stopped { IfErr result (λ e. e ≡ RefusalValue.Stopped → IsTrue (P.fuse memory.new).has_burnt) }
     ensures lists { free.new.sup ≡ free.old.sup }
+    ensures length { size (P.region memory.new) ≡ size (P.region memory.old) }
     ensures keeps_fuse { KeepsFuse (λ limit. size (P.region memory.old) ≤ limit) (P.fuse memory.old) (P.fuse memory.new) }
 {
     match end_block(row, attributes.size) {
@@ -85,6 +86,7 @@ fn resize_in_place<P: Pmem>(
     ensures unchanged { IfErr result (λ e. (e ≡ RefusalValue.Stopped → ⊥) → LeavesStep memory.old memory.new free.old free.new row.old row.new) }
     ensures stopped { IfErr result (λ e. e ≡ RefusalValue.Stopped → IsTrue (P.fuse memory.new).has_burnt) }
     ensures lists { free.new.sup ≡ free.old.sup }
+    ensures length { size (P.region memory.new) ≡ size (P.region memory.old) }
     ensures keeps_fuse { KeepsFuse (λ limit. size (P.region memory.old) ≤ limit) (P.fuse memory.old) (P.fuse memory.new) }
 {
     let first = attributes.size.div_ceil(BLOCK_SIZE);

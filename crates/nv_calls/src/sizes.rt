@@ -59,6 +59,7 @@ impl<P: Pmem + Drop> Fs<P> {
         ensures stopped { self.old.stopped ≡ false → (IsTrue self.new.stopped → (result ≡ Result.Err RefusalValue.Stopped) × IsTrue (P.fuse self.new.memory).has_burnt) × (result ≡ Result.Err RefusalValue.Stopped → IsTrue self.new.stopped) }
         ensures keeps { KeepsMount self.old self.new }
         ensures settled { OnOk result (NothingPending (P.region self.new.memory) (P.may_hold self.new.memory)) }
+        ensures length { bytes_in (P.region self.new.memory) ≡ bytes_in (P.region self.old.memory) }
         ensures keeps_fuse { KeepsFuse (λ limit. bytes_in (P.region self.old.memory) ≤ limit) (P.fuse self.old.memory) (P.fuse self.new.memory) }
     {
         self.writable(cpu)?;

@@ -74,6 +74,7 @@ pub(crate) fn commit_data<P: Pmem>(
         → OnOk result (Commits (P.region memory.old) (P.region memory.new) s inode slot tail (byte_after change.now.offset change.now.bytes.now change.now.size (file_byte (P.region memory.old) index.now)) log.now.entries.items log.now.fresh.items) }
     ensures settled { OnOk result (NothingPending (P.region memory.new) (P.may_hold memory.new)) }
     ensures stopped { (P.fuse memory.old).has_burnt ≡ false → is_err result ≡ (P.fuse memory.new).has_burnt }
+    ensures length { size (P.region memory.new) ≡ size (P.region memory.old) }
     ensures keeps_fuse { KeepsFuse (λ limit. size (P.region memory.old) ≤ limit) (P.fuse memory.old) (P.fuse memory.new) }
 {
     store_data(memory, index, &log.entries, change)?;

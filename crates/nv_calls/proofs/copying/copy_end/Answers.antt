@@ -1,5 +1,6 @@
-use Rattle.std.proofs.Common.{arith}
+use Rattle.std.proofs.Common.{◌∙◌, arith}
 use Rattle.nv_region.proofs.Fuses.{keeps_more, keeps_within}
+use Rattle.nv_bytes.proofs.StoredPages.{as_large}
 use Rattle.nv_calls.proofs.CopiedEnd.{copies_end}
 use Rattle.nv_calls.proofs.copying.copy_end.Goals as goal
 
@@ -9,3 +10,6 @@ returns-clause-copies g c = copies_end c.args.from c.args.to c.args.bytes c.exte
 pub returns-clause-keeps_fuse : goal.returns-clause-keeps_fuse
 returns-clause-keeps_fuse g c = keeps_more (λ limit past. ((λ j below. (let inside = c.requires.can.inside j below in omega (arith, past, inside))), omega (arith, past, c.requires.inside)))
     (keeps_within (λ limit past. omega (arith, past, c.requires.to)) c.copy_page.ensures.keeps_fuse) c.extend_log.ensures.keeps_fuse
+
+pub returns-clause-length : goal.returns-clause-length
+returns-clause-length g c = as_large c.extend_log.ensures.wrote.mixed ∙ as_large c.copy_page.ensures.wrote.mixed

@@ -4,6 +4,7 @@ use Rattle.nv_entry.specs.declared.entry.Entry.{Entry}
 use Rattle.nv_entry.specs.declared.entry.Operation.TheVariants.{Add}
 use Rattle.nv_entry.specs.Spelling.{entry_length}
 use Rattle.nv_logpage.specs.Append.{end_of, needed}
+use Rattle.nv_bytes.proofs.StoredPages.{as_large}
 use Rattle.nv_calls.specs.NameCalls.{name_entries}
 use Rattle.nv_calls.proofs.MadeNamed.{all_others, begins, commits, first_is, first_taken, makes_named, makes_within, place_is}
 use Rattle.nv_calls.proofs.making.make_named.Goals as goal
@@ -43,3 +44,9 @@ returns-clause-made g c =
     (ends.1 ∙ (λ t. end_of (blocks t) 0 (same.tail t) (c.name_entry.ensures t ∷ []))) (c.length.ensures.value ∙ ap entry_length c.name_entry.ensures))
     c.in_ok-blocks.ensures.once c.settle_name.ensures.once (ap (λ (xs : List ℕ). get_or xs 0 0) c.truncate.ensures.items ∙ first_taken c.in_ok-blocks.blocks.items _ 0 count) c.new_row.ensures
     (λ held h can. c.in-Ok.ensures.shows c.args.sup.now held c.args.new.now.inode c.prepare_name.new.directory.inode h can) c.make_inode.ensures.wrote.mixed
+
+pub returns-in_default-clause-length : goal.returns-in_default-clause-length
+returns-in_default-clause-length g c = as_large c.make_inode.ensures.wrote.mixed
+
+pub returns-clause-length : goal.returns-clause-length
+returns-clause-length g c = as_large c.make_inode.ensures.wrote.mixed

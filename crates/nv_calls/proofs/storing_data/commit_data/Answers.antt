@@ -1,5 +1,6 @@
-use Rattle.std.proofs.Common.{ℕ, sym, subst}
+use Rattle.std.proofs.Common.{◌∙◌, ℕ, sym, subst}
 use Rattle.nv_bytes.specs.Bytes.{byte_after, file_byte}
+use Rattle.nv_bytes.proofs.StoredPages.{as_large}
 use Rattle.nv_calls.specs.Written.{AreSmall}
 use Rattle.nv_calls.proofs.Committed.{commits}
 use Rattle.nv_calls.proofs.storing_data.commit_data.Goals as goal
@@ -12,3 +13,6 @@ returns-clause-commits g c s inode =
     let bytes : ℕ → ℕ = byte_after c.args.change.now.offset c.args.change.now.bytes.now c.args.change.now.size (file_byte (g.P.Pmem.region c.args.memory.now) c.args.index.now) in
     commits (g.P.Pmem.region c.args.memory.now) (g.P.Pmem.region c.store_data.new.memory) (g.P.Pmem.region c.extend_log.new.memory) s inode c.args.slot c.args.tail bytes c.args.log.now.entries.items c.args.log.now.fresh.items c.deref.result.now c.deref-2.result.now c.deref-3.result.now
     c.deref.ensures.value c.deref-2.ensures.value c.deref-3.ensures.value c.extend_log.result c.store_data.ensures.wrote.mixed c.in_ok-store_data.ensures.stored c.extend_log.ensures.wrote.mixed (λ held h can. c.extend_log.ensures.shows s held inode h can)
+
+pub returns-clause-length : goal.returns-clause-length
+returns-clause-length g c = as_large c.extend_log.ensures.wrote.mixed ∙ as_large c.store_data.ensures.wrote.mixed
