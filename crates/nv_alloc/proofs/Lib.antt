@@ -2,6 +2,7 @@ pub mod Fronts
 pub mod WordBits
 pub mod Pools
 pub mod Leaving
+pub mod TakeExists
 pub mod Changed
 pub mod Sound
 pub mod GivenBack

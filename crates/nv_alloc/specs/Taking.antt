@@ -47,3 +47,7 @@ pub data Takes : List (List Run) → ℕ → ℕ → List Run → List (List Run
   ends : {pools : List (List Run)} {cpu n : ℕ} → n ≤ blocks_in (pool_at pools cpu) → Takes pools cpu n (taken n (pool_at pools cpu)) (slice_set pools cpu (left n (pool_at pools cpu)))
   goes_on : {pools : List (List Run)} {cpu n : ℕ} (d : ℕ) (more : List Run) (after : List (List Run)) → blocks_in (pool_at pools cpu) < n → IsFullest (slice_set pools cpu []) d
       → Takes (slice_set pools cpu []) d (n - blocks_in (pool_at pools cpu)) more after → Takes pools cpu n (pool_at pools cpu ++ more) after
+
+-- There is something that a take gives, where all pools together have as many blocks.
+abbrev pub TakeExists : Type 0
+TakeExists = (pools : List (List Run)) (cpu n : ℕ) → n ≤ all_blocks pools → (runs : List Run) × (after : List (List Run)) × Takes pools cpu n runs after

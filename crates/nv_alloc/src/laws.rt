@@ -5,7 +5,12 @@ ghost use Rattle.nv_super.specs.Layout.{system_blocks};
 ghost use Rattle.nv_super.specs.declared.owners.Run.{Run as RunValue};
 ghost use Rattle.nv_alloc.specs.FreeValue.{FreeLists};
 ghost use Rattle.nv_alloc.specs.FreeLists.{IsFreeIn, IsSound, Leave, TakeThenGiveRestores, TakenCanJoin, SetsDetermineLists};
-ghost use Rattle.nv_alloc.specs.Taking.{HasBlock};
+ghost use Rattle.nv_alloc.specs.Taking.{HasBlock, TakeExists};
+
+/// Where all pools together have n blocks there is something that a take of n gives, from whichever pool on.
+pub fn a_take_exists()
+    ensures { TakeExists }
+{}
 
 /// Giving back all that a take gave restores the lists.
 pub fn take_then_give_restores()

@@ -11,5 +11,6 @@ mod pool;
 pub use allocators::{AllocRefusal, Allocators};
 pub use bits::word_run;
 pub use laws::{
-    sets_determine_lists, take_then_give_restores, taken_blocks_are_data_blocks, taken_can_join,
+    a_take_exists, sets_determine_lists, take_then_give_restores, taken_blocks_are_data_blocks,
+    taken_can_join,
 };
