@@ -1,5 +1,6 @@
 -- Light entries, whose names stand in the region: what each says there.
-use Rattle.std.specs.Prelude.{◌≡◌, ℕ, zero, suc, ◌+◌, ◌-◌, ◌*◌, ◌%◌, ◌<◌, ◌≤◌, List, [], ◌++◌, min}
+use Rattle.std.specs.Prelude.{◌≡◌, ℕ, ◌+◌, ◌*◌, ◌%◌, ◌<◌, ◌≤◌, List, take}
+use Rattle.std.specs.List.{flat_map, range_with_len}
 use Rattle.nv_region.specs.Region.{Region, size, word}
 use Rattle.nv_entry.specs.Digits.{low_bytes}
 use Rattle.nv_entry.specs.Spelling.{words_for}
@@ -10,14 +11,9 @@ use Rattle.nv_entry.specs.declared.light.LightName.{LightName}
 use Rattle.nv_entry.specs.declared.light.LightEntry.{LightEntry}
 use Rattle.nv_entry.specs.declared.light.LightEntry.TheVariants as light
 
--- of n bytes from the address a on, those in the first k words
-abbrev pub text_below : Region → ℕ → ℕ → ℕ → List ℕ
-text_below region a n zero = []
-text_below region a n (suc k) = text_below region a n k ++ low_bytes (min (n - 8 * k) 8) (word region (a + 8 * k))
-
--- the n bytes from the address a on
+-- the first n bytes of the words from the address a on
 unfoldable pub text_at : Region → ℕ → ℕ → List ℕ
-text_at region a n = text_below region a n (words_for n)
+text_at region a n = take n (flat_map (λ k. low_bytes 8 (word region (a + 8 * k))) (range_with_len 0 (words_for n)))
 
 -- the name entry that a light one stands for
 abbrev pub name_in : Region → LightName → NameEntry

@@ -1,6 +1,6 @@
 use Rattle.std.proofs.Common.{rules, arith, ◌≡◌, ◌*◌, ◌-◌, ◌<◌, length, min}
 use Rattle.nv_entry.proofs.Words.{name_refused}
-use Rattle.nv_entry.proofs.Texts.{text_below_stands, text_stands}
+use Rattle.nv_entry.proofs.Texts.{text_next_stands, text_stands}
 use Rattle.nv_entry.proofs.reading.is_padded.Goals as goal
 
 pub returns-then-has_high_part-clause-none : goal.returns-then-has_high_part-clause-none
@@ -14,7 +14,7 @@ returns-then-has_high_part-clause-none g c =
 pub loop-k-preserved : goal.loop-k-preserved
 loop-k-preserved g c =
     let e : c.min-part.result ≡ min (c.args.count - 8 * c.loop-k.k) 8 = search rules in
-    text_below_stands (g.P.Pmem.region c.args.memory.now) c.args.at c.args.count c.loop-k.k c.min-part.result c.load.result (omega arith) e c.load.ensures (c.has_high_part.ensures.none c.if-has_high_part.false) c.loop-k.invariant
+    text_next_stands (g.P.Pmem.region c.args.memory.now) c.args.at c.args.count c.loop-k.k c.min-part.result c.load.result (omega arith) e c.load.ensures (c.has_high_part.ensures.none c.if-has_high_part.false) c.loop-k.invariant
 
 pub returns-clause-text : goal.returns-clause-text
 returns-clause-text g c = λ _. text_stands (g.P.Pmem.region c.args.memory.now) c.args.at c.args.count c.loop-k.k (omega arith) c.loop-k.invariant
