@@ -57,3 +57,4 @@ pub mod NewNumbers
 pub mod CreateCall
 pub mod PutRow
 pub mod WriteReply
+mod NeedsExist

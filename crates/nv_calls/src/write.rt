@@ -91,6 +91,12 @@ pub(crate) fn change_bytes<P: Pmem>(
 }
 
 impl<P: Pmem + Drop> Fs<P> {
+    /// Each write needs some number of blocks, so that what `write` says of that number is said of every write. It does
+    /// nothing.
+    pub fn write_needs(&self)
+        ensures { (cpu : ℕ) (p : Path) (offset bytes time : ℕ) → (count : ℕ) × WriteNeeds (P.region self.now.memory) self.now cpu p offset bytes time count }
+    {}
+
     /// Writes bytes into the file that a path leads to, from an offset on. A gap between the old end and the offset is
     /// zeros. No bytes change nothing.
     ///
