@@ -4,6 +4,7 @@ pub mod Targets
 pub mod Kept
 pub mod Listed
 mod Numbers
+mod InTurn
 mod Spots
 mod Passes
 pub mod FileBytes

@@ -1,6 +1,8 @@
--- The lowest unused number of a table, found number by number.
-use Rattle.std.proofs.Common.{◌≡◌, ℕ, suc, ◌+◌, ◌-◌, ◌<◌, Bool, true, false, cond, map, ap, ◌∙◌, arith, Option, Some, None}
+-- The lowest unused number of a table, behind numbers that are used.
+use Rattle.std.proofs.Common.{◌≡◌, ℕ, zero, suc, ◌+◌, ◌-◌, ◌*◌, ◌/◌, ◌<◌, ◌≤◌, inl, inr, Bool, true, false, cond, map, ap, ◌∙◌, sym, arith, Option, Some, None}
 use Rattle.std.specs.List.{find, range_with_len}
+use Rattle.std.proofs.Math.Nat.{mul-le-mul_left}
+use Rattle.std.proofs.lemmas.Bool.{cases_lt}
 
 module _ (p : ℕ → Bool) (f : ℕ → ℕ) (n : ℕ) where
   -- what is found from the k-th number on
@@ -16,5 +18,29 @@ module _ (p : ℕ → Bool) (f : ℕ → ℕ) (n : ℕ) where
   pub goes_on : (k : ℕ) → k < n → p (f k) ≡ false → from k ≡ from (k + 1)
   goes_on k below this = step k below ∙ ap (λ (b : Bool). cond b (Some (f k)) (from (k + 1))) this
 
-  pub none_left : from n ≡ None
-  none_left = let none : n - n ≡ 0 = omega arith in ap (λ (m : ℕ). find p (map f (range_with_len n m))) none
+  none_at : (k : ℕ) → n ≤ k → from k ≡ None
+  none_at k past = let none : n - k ≡ 0 = omega (arith, past) in ap (λ (m : ℕ). find p (map f (range_with_len k m))) none
+
+  -- What is found is found behind those of which none passes.
+  pub from_behind : (k : ℕ) → ((j : ℕ) → j < k → p (f j) ≡ false) → find p (map f (range_with_len 0 n)) ≡ from k
+  from_behind zero none = ap (λ (m : ℕ). find p (map f (range_with_len 0 m))) (omega arith)
+  from_behind (suc k) none = from_behind k (λ j below. none j (omega (arith, below))) ∙ elim (cases_lt k n) [
+    | inl below ↦ goes_on k below (none k (omega arith)) ∙ ap from (omega arith)
+    | inr past ↦ none_at k past ∙ sym (none_at (suc k) (omega (arith, past)))
+  ]
+
+  pub none_left : (k : ℕ) → n ≤ k → ((j : ℕ) → j < k → p (f j) ≡ false) → find p (map f (range_with_len 0 n)) ≡ None
+  none_left k past none = from_behind k none ∙ none_at k past
+
+-- ---- the slots of a CPU
+
+-- the slots up to that of a number
+pub slots_to : (last cpu cpus j : ℕ) → 0 < cpus → cpu ≤ last → j ≤ (last - cpu) / cpus → j * cpus + cpu ≤ last
+slots_to last cpu cpus j some inside le = let below = mul-le-mul_left cpus le in omega (arith, some, inside, below)
+
+-- the slot of a number is among them
+pub slot_passed : (last cpu cpus slot : ℕ) → 0 < cpus → slot * cpus + cpu ≤ last → slot ≤ (last - cpu) / cpus
+slot_passed last cpu cpus slot some inside = elim (cases_lt ((last - cpu) / cpus) slot) [
+  | inl less ↦ absurd (let below = mul-le-mul_left cpus less in omega (arith, some, inside, below))
+  | inr le ↦ le
+]
