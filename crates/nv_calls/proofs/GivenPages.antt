@@ -34,7 +34,7 @@ use Rattle.nv_calls.proofs.TakenBlocks.{taken_sup}
 -- ---- runs given back
 
 -- what is free once they were joined was free, or is theirs
-joined_from : (old new : FreeLists) (runs : List Run) → JoinAll old runs new → (cpu b : ℕ) → IsFreeIn new cpu b → IsFreeIn old cpu b ⊎ HasBlock runs b
+pub joined_from : (old new : FreeLists) (runs : List Run) → JoinAll old runs new → (cpu b : ℕ) → IsFreeIn new cpu b → IsFreeIn old cpu b ⊎ HasBlock runs b
 joined_from old new [] same cpu b free = inl (subst (λ (a : FreeLists). IsFreeIn a cpu b) (sym same) free)
 joined_from old new (run ∷ runs) w cpu b free = elim (joined_from w.0 new runs w.2 cpu b free) [
   | inl next ↦ elim (first next) [ inl was ↦ inl was | inr here ↦ inr (run, Contains-head run runs, here.0, here.1) ]
@@ -51,13 +51,13 @@ pub joined_sup : (old new : FreeLists) (runs : List Run) → JoinAll old runs ne
 joined_sup old new [] same = ap (λ (a : FreeLists). a.sup) (sym same)
 joined_sup old new (run ∷ runs) w = joined_sup w.0 new runs w.2 ∙ w.1.sup
 
-joined_more : (old mid new : FreeLists) (runs : List Run) (run : Run) → JoinAll old runs mid → Joins mid run new → JoinAll old (runs ++ run ∷ []) new
+pub joined_more : (old mid new : FreeLists) (runs : List Run) (run : Run) → JoinAll old runs mid → Joins mid run new → JoinAll old (runs ++ run ∷ []) new
 joined_more old mid new [] run same joins = (new, subst (λ (a : FreeLists). Joins a run new) (sym same) joins, refl)
 joined_more old mid new (r ∷ runs) run w joins = (w.0, w.1, joined_more w.0 mid new runs run w.2 joins)
 
 -- ---- one page more
 
-block_is : (b c : ℕ) → InRun (block_run b) c → c ≡ b
+pub block_is : (b c : ℕ) → InRun (block_run b) c → c ≡ b
 block_is b c here = let from = here.0 in let to = here.1 in omega (arith, from, to)
 
 with_run : (runs : List Run) (run : Run) (b : ℕ) → HasBlock (runs ++ run ∷ []) b ↔ (HasBlock runs b ⊎ InRun run b)
@@ -141,7 +141,7 @@ gives_end {old} {now} {m} {first} {page} {end} given past (inr none) = record {
 -- ---- the index of a row
 
 module _ {R : Region} {s : Super} {held : Store} {rows : List Row} {free : FreeLists} (m : IsMounted R s held rows free.pools) (lists : free.sup ≡ s) where
-  own_row : (row : Row) → Contains rows row → MapsOwn free row.index
+  pub own_row : (row : Row) → Contains rows row → MapsOwn free row.index
   own_row row c =
       let keeps = m.keeps in
       let in_rows = keeps.in_rows in
@@ -173,7 +173,7 @@ still_free : (old new : FreeLists) (blocks : List ℕ) → TakeAll old (single_t
 still_free old new [] same cpu b free = subst (λ (a : FreeLists). IsFreeIn a cpu b) (sym same) free
 still_free old new (a ∷ blocks) w cpu b free = w.1.leave.stays cpu b (still_free w.0 new blocks w.2 cpu b free)
 
-was_free : {old new : FreeLists} {fresh : List ℕ} → TakesEach old fresh new → (cpu b : ℕ) → IsFreeIn new cpu b → IsFreeIn old cpu b
+pub was_free : {old new : FreeLists} {fresh : List ℕ} → TakesEach old fresh new → (cpu b : ℕ) → IsFreeIn new cpu b → IsFreeIn old cpu b
 was_free {old} {new} {fresh} taken cpu b there = subst (λ (pools : List (List Run)). HasBlock (pool_at pools cpu) b) taken.same.pools (still_free taken.from new fresh taken.takes cpu b there)
 
 -- The blocks of an index are in use also once others were taken.

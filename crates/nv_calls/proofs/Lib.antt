@@ -54,8 +54,21 @@ pub mod CreatedRows
 pub mod CreatedTree
 pub mod CreateTests
 pub mod MadeNamed
+pub mod TwoLogs
 pub mod NewNumbers
 pub mod CreateCall
 pub mod PutRow
 pub mod WriteReply
 mod NeedsExist
+pub mod NamedAt
+pub mod RemoveTests
+pub mod LostNames
+pub mod TakenOut
+pub mod GivenBlocks
+pub mod OwnedRow
+pub mod RemovedBytes
+pub mod CutNames
+pub mod RemovedHeld
+pub mod RemovedRows
+pub mod RemovedTree
+pub mod RemoveCall

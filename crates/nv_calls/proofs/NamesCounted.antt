@@ -1,11 +1,13 @@
 -- How many names an index has, by what each stands for.
-use Rattle.std.proofs.Common.{◌≡◌, ℕ, ◌+◌, Bool, true, false, cond, ◌||◌, nat_eq, List, [], ◌∷◌, length, is_some, refl, ap, sym, ◌∙◌, arith, Option, Some, None}
+use Rattle.std.proofs.Common.{◌≡◌, ℕ, ◌+◌, ◌-◌, Bool, true, false, cond, ◌||◌, nat_eq, List, [], ◌∷◌, length, is_some, refl, ap, sym, ◌∙◌, arith, Option, Some, None}
 use Rattle.std.specs.Cmp.Lexicographic.{pointwise, nat_list_eq_equiv}
 use Rattle.std.specs.List.{IsDistinct, AllByRecursion}
+use Rattle.std.specs.Option.{option_map}
 use Rattle.std.specs.Set.{is_member}
 use Rattle.std.proofs.lemmas.List.{length-map}
 use Rattle.std.proofs.lemmas.Map.Keys.{IsDistinct-cons}
 use Rattle.std.proofs.lemmas.Map.Made.{length-from_same_keys}
+use Rattle.nv_super.proofs.Sorted.{same_keys}
 use Rattle.nv_names.specs.Names.{EachOnce, Names, found_in, name_at, names_of}
 
 -- a name is found where it is one of the names
@@ -39,3 +41,23 @@ one_more old new name x once once_now none names =
     let there : length (names_of new.names) ≡ length new.names = length-map new.names (λ e. e.0) in
     let before : length (names_of old.names) ≡ length old.names = length-map old.names (λ e. e.0) in
     omega (arith, counted, there, before)
+
+-- where a name stands for something
+some_there : (o : Option (ℕ × ℕ)) (j : ℕ) → option_map (λ (x : ℕ × ℕ). x.0) o ≡ Some j → (x : ℕ × ℕ) × (o ≡ Some x)
+some_there None j e = absurd (cc)
+some_there (Some x) j e = (x, refl)
+
+-- a name is the one that it is equal to
+same_name : (o old : Option (ℕ × ℕ)) (b : Bool) (x : ℕ × ℕ) → (b ≡ true → old ≡ Some x) → o ≡ cond b None old → old ≡ cond b (Some x) o
+same_name o old true x is now = is refl
+same_name o old false x is now = sym now
+
+-- An index that has one name less has one less.
+pub one_less : (old new : Names) (name : List ℕ) (j : ℕ) → EachOnce old → EachOnce new → option_map (λ (x : ℕ × ℕ). x.0) (name_at old name) ≡ Some j → ((q : List ℕ) → name_at new q ≡ cond (pointwise nat_eq q name) None (name_at old q)) → length new.names ≡ length old.names - 1
+one_less old new name j once once_now there names =
+    let x = some_there (name_at old name) j there in
+    let same : (q : List ℕ) → pointwise nat_eq q name ≡ true → q ≡ name = λ q e. same_keys q name e in
+    let none : name_at new name ≡ None = names name ∙ ap (λ (b : Bool). cond b None (name_at old name)) (nat_list_eq_equiv.refl name) in
+    let back : (q : List ℕ) → name_at old q ≡ cond (pointwise nat_eq q name) (Some x.0) (name_at new q) = λ q. same_name (name_at new q) (name_at old q) (pointwise nat_eq q name) x.0 (λ e. ap (name_at old) (same q e) ∙ x.1) (names q) in
+    let more = one_more new old name x.0 once_now once none back in
+    omega (arith, more)

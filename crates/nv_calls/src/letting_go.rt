@@ -1,13 +1,27 @@
-//! Blocks of a file's pages, given back to the free lists. It takes no memory.
+//! Blocks of a file's pages and of its log, given back to the free lists. It takes no memory.
 
-ghost use Rattle.std.specs.Prelude.{◌≡◌, ◌<◌, ◌≤◌, ◌+◌, ◌-◌, IfSome};
+ghost use Rattle.std.specs.Prelude.{◌≡◌, ◌<◌, ◌≤◌, ◌+◌, ◌-◌, length, IfSome};
+ghost use Rattle.std.specs.Int.{div_ceil};
 ghost use Rattle.nv_alloc.specs.FreeLists.{CanJoin};
 ghost use Rattle.nv_calls.specs.Given.{GivesBlock, GivesPages, MapsOwn};
+ghost use Rattle.nv_calls.specs.LessNames.{AreOwn, GivesBlocks, GivesRow, OwnsBlocks};
 ghost use Rattle.nv_calls.specs.Taken.{block_run};
 
 use nv_alloc::Allocators;
 use nv_radix::FileIndex;
-use nv_super::Run;
+use nv_scan::Row;
+use nv_super::{BLOCK_SIZE, Run};
+
+/// Gives back the blocks of a row's log and of its pages, for which there is room.
+pub(crate) fn give_row(free: &mut Allocators, row: &Row)
+    requires own { OwnsBlocks free.old row.now }
+    requires room { length row.now.pages.items + div_ceil row.now.numbers.size 4096 ≤ free.old.room }
+    ensures given { GivesRow free.old row.now free.new }
+    ensures lists { free.new.sup ≡ free.old.sup }
+{
+    give_blocks(free, &row.pages);
+    give_pages(free, &row.index, 0, row.numbers.size.div_ceil(BLOCK_SIZE));
+}
 
 /// Gives back the blocks that an index has for the pages from one up to another, for which there is room.
 pub(crate) fn give_pages(free: &mut Allocators, index: &FileIndex, first: u64, end: u64)
@@ -18,6 +32,19 @@ pub(crate) fn give_pages(free: &mut Allocators, index: &FileIndex, first: u64, e
 {
     for page in first..end {
         give_block(free, index.get(page));
+    }
+}
+
+/// Gives back blocks, each by itself, for which there is room.
+fn give_blocks(free: &mut Allocators, blocks: &[u64])
+    requires own { AreOwn free.old blocks.now }
+    requires room { length blocks.now ≤ free.old.room }
+    ensures given { GivesBlocks free.old blocks.now free.new }
+    ensures lists { free.new.sup ≡ free.old.sup }
+    ensures room { free.old.room ≤ free.new.room + length blocks.now }
+{
+    for block in blocks {
+        give_block(free, Some(*block));
     }
 }
 

@@ -1,0 +1,183 @@
+-- What is held once a name and its inode are gone: nothing is wrong with it, and the free lists and the directory's row are of it.
+use Rattle.std.proofs.Common.{◌≡◌, ◌≢◌, ◌↔◌, ℕ, ◌%◌, ◌<◌, ◌≤◌, ◌⊎◌, inl, inr, cond, nat_eq, eqb, List, ◌++◌, length, take, take_all, ap, sym, ◌∙◌, subst, arith, Option, Some, None}
+use Rattle.std.specs.Cmp.Lexicographic.{pointwise}
+use Rattle.std.specs.List.{Contains, IsDistinct}
+use Rattle.std.specs.Option.{option_and_then, option_map}
+use Rattle.nv_region.specs.Region.{Region}
+use Rattle.nv_super.specs.declared.superblock.Super.{Super}
+use Rattle.nv_super.specs.declared.kind.Kind.TheVariants.{File, Directory}
+use Rattle.nv_super.specs.declared.owners.Run.{Run}
+use Rattle.nv_super.specs.Layout.{Layout, fixed_layout, system_blocks}
+use Rattle.nv_super.proofs.Options.{some_is}
+use Rattle.nv_alloc.specs.FreeValue.{FreeLists}
+use Rattle.nv_alloc.specs.Taking.{HasBlock}
+use Rattle.nv_entry.specs.declared.entry.Entry.{Entry}
+use Rattle.nv_entry.specs.declared.entry.Entry.TheVariants.{Name}
+use Rattle.nv_entry.specs.declared.entry.Operation.TheVariants.{Remove}
+use Rattle.nv_logpage.specs.Append.{end_of, needed, place_of}
+use Rattle.nv_logpage.proofs.DataBlocks.{one_page, pages_are}
+use Rattle.nv_logpage.proofs.RightLogs.{head_starts}
+use Rattle.nv_names.specs.Names.{name_at}
+use Rattle.nv_scan.specs.declared.piece.Row.{Row}
+use Rattle.nv_held.specs.Held.{Held, Store}
+use Rattle.nv_held.specs.Blocks.{IsUnowned, KeepsFree, NoneDoubled, OwnsNew}
+use Rattle.nv_held.specs.Graph.{graph_in, target_in}
+use Rattle.nv_held.specs.Grows.{AreFree, Maps, SameFile}
+use Rattle.nv_held.specs.Lists.{WasTaken}
+use Rattle.nv_held.specs.Mounted.{IsFaultless, KeepsRow, ShowsSound}
+use Rattle.nv_held.proofs.Growing.{free_but, grown_owns}
+use Rattle.nv_held.proofs.ListsKept.{lists_change}
+use Rattle.nv_held.proofs.Owning.{other_held, same_held, still_undoubled}
+use Rattle.nv_held.proofs.Shown.{stands_at}
+use Rattle.nv_named.specs.Step.{IsGoodName}
+use Rattle.nv_commit.specs.Extends.{extended, with_log}
+use Rattle.nv_commit.specs.Together.{ShowsIdle}
+use Rattle.nv_commit.proofs.BlocksOf.{gone_free}
+use Rattle.nv_commit.proofs.Called.{directory_gone_faultless, file_gone_faultless}
+use Rattle.nv_calls.specs.LessNames.{CanGo, GivesRow, HasLost}
+use Rattle.nv_calls.specs.NameCalls.{name_entries}
+use Rattle.nv_calls.specs.RemoveCalls.{with_gone}
+use Rattle.nv_calls.specs.Steps.{ShowsRow}
+use Rattle.nv_calls.specs.Taken.{TakesEach, single_takes}
+use Rattle.nv_calls.proofs.LostNames.{lost_file, lost_name, lost_numbers}
+use Rattle.nv_calls.proofs.TakenBlocks.{are_free, is_taken, was_taken}
+
+module _ {R : Region} {s : Super} {held : Store} {h f : Held} {row gone : Row} {free mid after : FreeLists} (time : ℕ) (name : List ℕ) (fresh : List ℕ) (shows : ShowsRow R s held h row free) (shows_gone : ShowsRow R s held f gone free)
+    (directory : h.kind ≡ Directory) (good : IsGoodName s gone.inode name) (named : (graph_in (fixed_layout s) held).name row.inode name ≡ Some gone.inode) (can_go : CanGo gone)
+    (lists : free.sup ≡ s) (taken : TakesEach free fresh mid) (given : GivesRow mid gone after) (count : length fresh ≡ needed (h.tail % 4096) (name_entries Remove gone.inode name time)) where
+  abbrev l : Layout
+  l = fixed_layout s
+
+  abbrev i : ℕ
+  i = gone.inode
+
+  abbrev entries : List Entry
+  entries = name_entries Remove i name time
+
+  abbrev grown_log : Held
+  grown_log = extended h entries fresh
+
+  abbrev less : Store
+  less = with_log held row.inode h entries fresh
+
+  abbrev then : Store
+  then = with_gone held row.inode h entries fresh i
+
+  abbrev at : ℕ
+  at = place_of fresh 0 h.tail (Name (record { operation = Remove; inode = i; time = time; name = name }))
+
+  abbrev end : ℕ
+  end = end_of fresh 0 h.tail entries
+
+  abbrev pages : List ℕ
+  pages = take (needed (h.tail % 4096) entries) fresh
+
+  was : IsFaultless l held
+  was = let sound = shows.sound in sound.faultless
+
+  empty_there : ((q : List ℕ) → name_at gone.names q ≡ None) → (q : List ℕ) → (graph_in l held).name i q ≡ None
+  empty_there none q =
+      let told = shows_gone.told in
+      ap (λ (o : Option Held). option_and_then (target_in l q) o) shows_gone.holds ∙ ap (λ (o : Option (ℕ × ℕ)). option_map (λ (y : ℕ × ℕ). y.0) o) (sym (told.names q) ∙ none q)
+
+  -- the directory isn't what goes
+  pub differ : row.inode ≢ i
+  differ same = by can_go where
+    by : CanGo gone → ⊥
+    by (inl w) = let clash : None ≡ Some i = sym (empty_there w.1 name) ∙ ap (λ (d : ℕ). (graph_in l held).name d name) (sym same) ∙ named in cc
+    by (inr w) =
+        let one : h ≡ f = some_is h f (held row.inode) shows.holds (ap held same ∙ shows_gone.holds) in
+        let told = shows_gone.told in
+        let clash : Directory ≡ File = sym directory ∙ ap (λ (x : Held). x.kind) one ∙ sym told.kind ∙ w.0 in
+        cc
+
+  there : less i ≡ Some f
+  there = other_held held row.inode i (Some grown_log) (λ e. differ (sym e)) ∙ shows_gone.holds
+
+  -- ---- blocks
+
+  pub fresh_free : AreFree l held fresh
+  fresh_free = are_free taken l held shows.lists lists
+
+  pages_now : grown_log.pages ≡ h.pages ++ fresh
+  pages_now = ap (λ (ps : List ℕ). h.pages ++ ps) (take_all (needed (h.tail % 4096) entries) fresh (omega (arith, count)))
+
+  file_stays : SameFile l h grown_log
+  file_stays = lost_file l h directory i name good at time end pages
+
+  but : (b : ℕ) → IsUnowned l less b ↔ (IsUnowned l held b × (Contains fresh b → ⊥))
+  but = free_but l held row.inode h grown_log shows.holds fresh pages_now fresh_free file_stays
+
+  -- the blocks of what goes, by its row
+  gone_has : (b : ℕ) → HasBlock given.runs b → Contains f.pages b ⊎ Maps l f b
+  gone_has b w =
+      let told = shows_gone.told in
+      elim ((given.blocks b).0 w) [ inl log ↦ inl (subst (λ (ps : List ℕ). Contains ps b) told.pages log) | inr mapped ↦ inr (mapped.0, sym (told.index mapped.0) ∙ mapped.1) ]
+
+  has_gone : (b : ℕ) → Contains f.pages b ⊎ Maps l f b → HasBlock given.runs b
+  has_gone b w =
+      let told = shows_gone.told in
+      (given.blocks b).1 (elim w [ inl log ↦ inl (subst (λ (ps : List ℕ). Contains ps b) (sym told.pages) log) | inr mapped ↦ inr (mapped.0, told.index mapped.0 ∙ mapped.1) ])
+
+  pages_inside : (b : ℕ) → Contains f.pages b → (system_blocks s ≤ b) × (b < s.blocks)
+  pages_inside b c =
+      let sound = shows_gone.sound in
+      let v = stands_at sound.shows i f shows_gone.holds in
+      let all = pages_are (one_page s f.head (head_starts s f.head f.tail v.is.right)) v.is.reads in
+      (all.behind b c, all.within b c)
+
+  module _ {S : Region} (idle : ShowsIdle S s then) where
+    once : IsDistinct eqb grown_log.pages
+    once =
+        let v = stands_at idle.shows row.inode grown_log (other_held less i row.inode None differ ∙ same_held held row.inode (Some grown_log)) in
+        let all = pages_are (one_page s h.head (head_starts s h.head grown_log.tail v.is.right)) v.is.reads in
+        all.once
+
+    own : OwnsNew l held row.inode (Some grown_log)
+    own = grown_owns l held row.inode h grown_log shows.holds fresh pages_now fresh_free file_stays was.undoubled once
+
+    less_undoubled : NoneDoubled l less
+    less_undoubled = still_undoubled l held row.inode (Some grown_log) own was.undoubled
+
+    -- The free lists are those of the free blocks: without the ones that were taken, and with those that were given back.
+    pub removed_lists : KeepsFree l then after.pools
+    removed_lists =
+        let same = taken.same in
+        lists_change l held then taken.from mid after (single_takes fresh) given.runs (subst (λ (pools : List (List Run)). KeepsFree l held pools) (sym same.pools) shows.lists) (same.sup ∙ lists) taken.takes given.joined (λ b. (to b, from b))
+      where
+        left : (b : ℕ) → IsUnowned l then b ↔ (IsUnowned l less b ⊎ (Contains f.pages b ⊎ Maps l f b))
+        left = gone_free l less i f there less_undoubled pages_inside
+
+        to : (b : ℕ) → IsUnowned l then b → (IsUnowned l held b × (WasTaken (single_takes fresh) b → ⊥)) ⊎ HasBlock given.runs b
+        to b now = elim ((left b).0 now) [ inl stays ↦ (let w = (but b).0 stays in inl (w.0, λ t. w.1 (is_taken fresh b t))) | inr went ↦ inr (has_gone b went) ]
+
+        from : (b : ℕ) → (IsUnowned l held b × (WasTaken (single_takes fresh) b → ⊥)) ⊎ HasBlock given.runs b → IsUnowned l then b
+        from b (inl w) = (left b).1 (inl ((but b).1 (w.0, λ c. w.1 (was_taken fresh b c))))
+        from b (inr w) = (left b).1 (inr (gone_has b w))
+
+    -- The region is sound.
+    pub removed_sound : ShowsSound S s then
+    removed_sound = record { sup = idle.sup; idle = idle.idle; shows = idle.shows; faultless = by can_go } where
+      by : CanGo gone → IsFaultless l then
+      by (inl w) =
+          let told = shows_gone.told in
+          directory_gone_faultless l held was row.inode h shows.holds directory i name good at time end pages f shows_gone.holds named own (sym told.kind ∙ w.0) (empty_there w.1)
+      by (inr w) =
+          let told = shows_gone.told in
+          let numbers = told.numbers in
+          file_gone_faultless l held was row.inode h shows.holds directory i name good at time end pages f shows_gone.holds named own (sym told.kind ∙ w.0) (subst (λ (n : ℕ). n ≤ 1) numbers.links w.1)
+
+  -- ---- the directory's row
+
+  pub lost_told : {now : Row} → HasLost row fresh (end_of fresh 0 row.tail entries) name time now → KeepsRow l grown_log now
+  lost_told {now} lost =
+      let told = shows.told in
+      record {
+        kind = lost.kind ∙ told.kind;
+        numbers = lost_numbers l h directory i name good at time end pages row.numbers now.numbers told.numbers lost.numbers;
+        head = lost.head ∙ told.head;
+        tail = lost.tail ∙ ap (λ (t : ℕ). end_of fresh 0 t entries) told.tail;
+        pages = lost.pages ∙ ap (λ (ps : List ℕ). ps ++ fresh) told.pages ∙ sym pages_now;
+        index = λ p. lost.index p ∙ told.index p ∙ sym (file_stays p);
+        names = λ q. lost.names q ∙ ap (λ (o : Option (ℕ × ℕ)). cond (pointwise nat_eq q name) None o) (told.names q) ∙ sym (lost_name l h directory i name good at time end pages q);
+      }

@@ -1,0 +1,75 @@
+//! `rmdir`: a directory without names goes, and its name.
+
+ghost use Rattle.std.specs.Prelude.{◌≡◌, ◌⊎◌, ◌≤◌, ℕ, List, Option, Result, IsTrue, IfErr, OnOk, false};
+ghost use Rattle.nv_region.specs.Region.{size};
+ghost use Rattle.nv_region.specs.Stops.{NothingPending};
+ghost use Rattle.nv_region.specs.Fuses.{KeepsFuse};
+ghost use Rattle.nv_entry.specs.declared.entry.Operation.TheVariants.{Remove};
+ghost use Rattle.nv_held.specs.Held.{Held, Store};
+ghost use Rattle.nv_held.specs.Mounted.{ShowsSound};
+ghost use Rattle.nv_tree.specs.Path.{IsPath, Says, last_name};
+ghost use Rattle.nv_tree.specs.Tree.{Node, SameTree, walk};
+ghost use Rattle.nv_tree.specs.Calls.{removed};
+ghost use Rattle.nv_tree.specs.Refusals.{Path, first_refusal, rmdir_tests};
+ghost use Rattle.nv_tree.specs.declared.refusal.Refusal.{Refusal as RefusalValue};
+ghost use Rattle.nv_calls.specs.NameCalls.{name_blocks, name_entries};
+ghost use Rattle.nv_calls.specs.RemoveCalls.{ShowsRemoved};
+ghost use Rattle.nv_calls.specs.Same.{KeepsMount, SameMount};
+ghost use Rattle.nv_calls.specs.Seen.{LeadsTo, tree_of};
+ghost use Rattle.nv_calls.specs.World.{world_of};
+
+use crate::Fs;
+use crate::named::rmdir_for;
+use crate::removing::remove_named;
+use crate::writing::is_stop;
+use nv_region::Pmem;
+use nv_tree::Refusal;
+
+impl<P: Pmem + Drop> Fs<P> {
+    /// Takes a directory without names away, and its name.
+    ///
+    /// Errors, the first that applies: `Stopped` after a stop, `BadCpu` where there is no CPU of that number, `ReadOnly`
+    /// where the region was mounted with faults, `BadName` where the text is no path or `/`, `NotFound` or `NotDirectory`
+    /// for an inode on the way, `NotFound` for the last name, `NotDirectory` for a file, `NotEmpty` where names are in it,
+    /// `NoSpace` where fewer blocks are free than the log needs. `Memory` where a growth was refused, `Stopped` where the
+    /// fuse burns. All but `Stopped` leave everything as it was.
+    pub fn rmdir(&mut self, cpu: u64, path: &[u8], time: u64) -> Result<(), Refusal>
+        ensures stopped_before { IsTrue self.old.stopped → (result ≡ Result.Err RefusalValue.Stopped) × (self.new ≡ self.old) }
+        ensures allowed { (p : Path) → Says path.now p
+            → OnOk result (first_refusal (rmdir_tests (world_of self.old) (tree_of (P.region self.old.memory) self.old.rows) cpu p (name_blocks self.old.rows (tree_of (P.region self.old.memory) self.old.rows) p)) ≡ Option.None) }
+        ensures refused { self.old.stopped ≡ false → (p : Path) → Says path.now p
+            → IfErr result (λ e. (e ≡ RefusalValue.Memory) ⊎ ((e ≡ RefusalValue.Stopped)
+            ⊎ (first_refusal (rmdir_tests (world_of self.old) (tree_of (P.region self.old.memory) self.old.rows) cpu p (name_blocks self.old.rows (tree_of (P.region self.old.memory) self.old.rows) p)) ≡ Option.Some e))) }
+        ensures changed { (names : List (List ℕ)) → IsPath path.now names
+            → OnOk result (SameTree (tree_of (P.region self.new.memory) self.new.rows) (removed names time (tree_of (P.region self.old.memory) self.old.rows))) }
+        // The log of the directory in which it stood has one entry more, and no other log has changed.
+        ensures log { (names : List (List ℕ)) (i d : ℕ) (node : Node) (held : Store) (h : Held) → IsPath path.now names → LeadsTo (tree_of (P.region self.old.memory) self.old.rows) names i node → walk (tree_of (P.region self.old.memory) self.old.rows) 1 names ≡ Result.Ok d
+            → ShowsSound (P.region self.old.memory) self.old.sup held → held d ≡ Option.Some h
+            → OnOk result (ShowsRemoved (P.region self.new.memory) self.old.sup held d h (name_entries Remove i (last_name names) time) i) }
+        ensures unchanged { IfErr result (λ e. (e ≡ RefusalValue.Stopped → ⊥) → SameMount self.old self.new) }
+        ensures stopped { self.old.stopped ≡ false → (IsTrue self.new.stopped → (result ≡ Result.Err RefusalValue.Stopped) × IsTrue (P.fuse self.new.memory).has_burnt) × (result ≡ Result.Err RefusalValue.Stopped → IsTrue self.new.stopped) }
+        ensures keeps { KeepsMount self.old self.new }
+        ensures settled { OnOk result (NothingPending (P.region self.new.memory) (P.may_hold self.new.memory)) }
+        ensures length { size (P.region self.new.memory) ≡ size (P.region self.old.memory) }
+        ensures keeps_fuse { KeepsFuse (λ limit. size (P.region self.old.memory) ≤ limit) (P.fuse self.old.memory) (P.fuse self.new.memory) }
+    {
+        self.writable(cpu)?;
+        let named = rmdir_for(&self.rows, path)?;
+        match remove_named(
+            self.alloc,
+            &mut self.memory,
+            &self.sup,
+            &mut self.free,
+            cpu,
+            &mut self.rows,
+            &named,
+            time,
+        ) {
+            Ok(()) => Ok(()),
+            Err(refusal) => {
+                self.stopped = is_stop(refusal);
+                Err(refusal)
+            }
+        }
+    }
+}
