@@ -52,3 +52,10 @@ pub record IsLastBefore (runs : Runs) (page : ℕ) (x : ℕ × Blocks) : Type 0 
   pub before : x.0 < page
   pub is : run_at runs x.0 ≡ Some x.1
   pub last : (q : ℕ) → x.0 < q → q < page → run_at runs q ≡ None
+
+-- the runs, and beside them the last one, which stands behind all of them where it has pages; no page from `end` on is mapped
+pub record IsOpen (runs : Runs) (page : ℕ) (last : Blocks) (end : ℕ) : Type 0 where
+  pub are : AreRuns runs
+  pub is : 0 < last.count → IsRun page last
+  pub behind : 0 < last.count → (p : ℕ) → page ≤ p → block_by runs p ≡ None
+  pub past : (p : ℕ) → end ≤ p → block_by ((page, last) ∷ runs) p ≡ None

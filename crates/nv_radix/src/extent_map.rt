@@ -1,34 +1,40 @@
 //! A map from the pages of a file to blocks, kept as runs, so that a change costs what it changes and no page of it.
 
-ghost use Rattle.std.specs.Prelude.{◌≡◌, ℕ, ◌+◌, ◌-◌, ◌^◌, ◌<◌, ◌≤◌, if◌then◌else◌, nat_le, Some, None, OnOk, IfOk};
+ghost use Rattle.std.specs.Prelude.{◌≡◌, ℕ, ◌+◌, ◌-◌, ◌^◌, ◌<◌, ◌≤◌, if◌then◌else◌, nat_le, Some, None, OnOk, IfOk, IsTrue};
 ghost use Rattle.nv_radix.specs.Pages.{block_at, in_run, AreFilePages};
 ghost use Rattle.nv_radix.specs.Runs.{block_by};
 
 use crate::index::FileIndex;
-use crate::runs::{Blocks, Runs, clear, set_up_to};
+use crate::runs::{Blocks, Runs, clear, goes_on, set, settle};
 use std::alloc::{AllocError, Global};
 use std::collections::BTreeMap;
 use std::marker::Model;
 
 /// A map from the pages of a file to blocks that is still being made: each call costs the logarithm of the number of
 /// runs, and that for each run that it takes out, however long the runs are.
+///
+/// The run that was mapped last stands beside the others while it is behind them: most logs make it longer again and
+/// again, and most files have no other.
 #[derive(Drop)]
 pub struct ExtentMap {
     runs: Runs,
+    /// The first page of the last run, and its blocks, of which there are none where it stands among the others.
+    page: u64,
+    last: Blocks,
     /// No page from here on is mapped.
     end: u64,
 }
 
 impl Model for ExtentMap {
-    ghost use Rattle.std.specs.Prelude.{◌≡◌, ℕ, ◌≤◌, List, None};
+    ghost use Rattle.std.specs.Prelude.{ℕ, ◌∷◌, List};
     ghost use Rattle.nv_radix.specs.declared.runs.Blocks.{Blocks as BlocksValue};
-    ghost use Rattle.nv_radix.specs.Runs.{block_by, AreRuns};
+    ghost use Rattle.nv_radix.specs.Runs.{IsOpen};
 
     ghost Value = { List (ℕ × BlocksValue) };
 
-    ghost view = { λ a. a.runs.entries };
+    ghost view = { λ a. (a.page, a.last) ∷ a.runs.entries };
 
-    ghost invariant = { λ a. AreRuns a.runs.entries × ((p : ℕ) → a.end ≤ p → block_by a.runs.entries p ≡ None) };
+    ghost invariant = { λ a. IsOpen a.runs.entries a.page a.last a.end };
 }
 
 impl ExtentMap {
@@ -38,6 +44,8 @@ impl ExtentMap {
     {
         ExtentMap {
             runs: BTreeMap::new(alloc),
+            page: 0,
+            last: Blocks { start: 0, count: 0 },
             end: 0,
         }
     }
@@ -46,10 +54,16 @@ impl ExtentMap {
     pub fn cut(&mut self, first_page: u64) -> Result<(), AllocError>
         ensures { OnOk result ((p : ℕ) → block_by self.new p ≡ (if nat_le first_page p then None else block_by self.old p)) }
     {
-        if first_page < self.end {
-            clear(&mut self.runs, first_page, self.end)?;
-            self.end = first_page;
+        if first_page >= self.end {
+            return Ok(());
         }
+        if self.last.count > 0 && self.page < first_page {
+            self.last.count = self.last.count.min(first_page - self.page);
+        } else {
+            self.last.count = 0;
+            clear(&mut self.runs, first_page, self.end)?;
+        }
+        self.end = first_page;
         Ok(())
     }
 
@@ -63,7 +77,18 @@ impl ExtentMap {
             return Ok(());
         }
         let start = block;
-        set_up_to(&mut self.runs, self.end, page, Blocks { start, count })?;
+        if self.last.count > 0 && goes_on(self.page, self.last, page, start) {
+            self.last.count += count;
+            self.end = self.end.max(page + count);
+            return Ok(());
+        }
+        settle(&mut self.runs, self.page, &mut self.last)?;
+        if self.end <= page {
+            self.page = page;
+            self.last = Blocks { start, count };
+        } else {
+            set(&mut self.runs, page, Blocks { start, count })?;
+        }
         self.end = self.end.max(page + count);
         Ok(())
     }
@@ -77,6 +102,8 @@ impl ExtentMap {
             index.reserve(*page, blocks.count)?;
             index.set_run(*page, blocks.start, blocks.count);
         }
+        index.reserve(self.page, self.last.count)?;
+        index.set_run(self.page, self.last.start, self.last.count);
         Ok(index)
     }
 }

@@ -1,6 +1,6 @@
 //! Runs of pages in the order of their first pages, of which no two have a page in common.
 
-ghost use Rattle.std.specs.Prelude.{◌≡◌, ℕ, ◌+◌, ◌-◌, ◌<◌, ◌≤◌, ◌^◌, ◌&&◌, if◌then◌else◌, nat_le, nat_lt, Some, None, IfSome, IfNone, IsTrue, OnOk, OnErr};
+ghost use Rattle.std.specs.Prelude.{◌≡◌, ℕ, ◌+◌, ◌-◌, ◌<◌, ◌≤◌, ◌^◌, ◌&&◌, ◌∷◌, if◌then◌else◌, nat_le, nat_lt, Some, None, IfSome, IfNone, IsTrue, OnOk, OnErr};
 ghost use Rattle.nv_radix.specs.Pages.{in_run};
 ghost use Rattle.nv_radix.specs.Runs.{block_by, run_at, front_of, AreRuns, HasRunOf, IsRun, IsLastBefore, Puts};
 
@@ -35,26 +35,21 @@ pub(crate) fn set(runs: &mut Runs, page: u64, blocks: Blocks) -> Result<(), Allo
     put(runs, page, blocks)
 }
 
-/// Maps the pages of a run to its blocks, where no page from `end` on is mapped: most runs of a log stand behind all that
-/// were before, and then none of these is looked for. An error may leave some of the pages unmapped, and some behind them.
-pub(crate) fn set_up_to(
-    runs: &mut Runs,
-    end: u64,
-    page: u64,
-    blocks: Blocks,
-) -> Result<(), AllocError>
+/// Puts the last run, if it has pages, to the others, which all stand before it. An error changes nothing.
+pub(crate) fn settle(runs: &mut Runs, page: u64, last: &mut Blocks) -> Result<(), AllocError>
     requires runs { AreRuns runs.old.entries }
-    requires run { IsRun page blocks }
-    requires end { (p : ℕ) → end ≤ p → block_by runs.old.entries p ≡ None }
+    requires run { 0 < last.old.count → IsRun page last.old }
+    requires behind { 0 < last.old.count → (p : ℕ) → page ≤ p → block_by runs.old.entries p ≡ None }
     ensures runs { AreRuns runs.new.entries }
-    ensures fewer { OnErr result ((p : ℕ) → block_by runs.old.entries p ≡ None → block_by runs.new.entries p ≡ None) }
-    ensures ok { OnOk result ((p : ℕ) → block_by runs.new.entries p ≡ (if in_run page blocks.count p then Some (blocks.start + (p - page)) else block_by runs.old.entries p)) }
+    ensures err { OnErr result ((runs.new.entries ≡ runs.old.entries) × (last.new ≡ last.old)) }
+    ensures none { OnOk result (last.new.count ≡ 0) }
+    ensures ok { OnOk result ((p : ℕ) → block_by runs.new.entries p ≡ block_by ((page, last.old) ∷ runs.old.entries) p) }
 {
-    if end <= page {
-        append(runs, page, blocks)
-    } else {
-        set(runs, page, blocks)
+    if last.count > 0 {
+        append(runs, page, *last)?;
+        last.count = 0;
     }
+    Ok(())
 }
 
 /// Maps the pages of a run behind all others to its blocks. Where the last run goes on with it, that one becomes longer.
@@ -76,7 +71,7 @@ fn append(runs: &mut Runs, page: u64, blocks: Blocks) -> Result<(), AllocError>
 }
 
 /// Whether a run goes on with this page and this block.
-fn goes_on(first: u64, blocks: Blocks, page: u64, start: u64) -> bool
+pub(crate) fn goes_on(first: u64, blocks: Blocks, page: u64, start: u64) -> bool
     ensures page { IsTrue result → first + blocks.count ≡ page }
     ensures block { IsTrue result → blocks.start + blocks.count ≡ start }
 {

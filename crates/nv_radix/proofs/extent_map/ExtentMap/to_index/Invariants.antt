@@ -5,5 +5,5 @@ abbrev pub invariant-loop-page : goal.invariant-loop-page
 invariant-loop-page l = record {
   can_next : (goal.iterator-loop-page).can_next l.page-iterator;
   ends : (goal.iterator-loop-page).is_finite l.page-iterator;
-  indexed : IsIndexed l.self l.page-iterator l.index;
+  indexed : IsIndexed l.self-inside.runs.entries l.page-iterator l.index;
 }
