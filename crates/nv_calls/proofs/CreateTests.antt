@@ -117,10 +117,10 @@ module _ (R : Region) (rows : List Row) (rising : Rises row_key rows) (text name
     spells : Spells text (first ∷ names)
     spells = spells_names text first names path
 
-    walked : walk (tree_of R rows) 1 (first ∷ names) ≡ Ok row.inode
+    pub walked : walk (tree_of R rows) 1 (first ∷ names) ≡ Ok row.inode
     walked = (directory (first ∷ names) spells row at).0
 
-    leads : option_and_then (λ k. slice_get rows k) o ≡ option_and_then (row_of rows) (found (tree_of R rows) (first ∷ names))
+    pub leads : option_and_then (λ k. slice_get rows k) o ≡ option_and_then (row_of rows) (found (tree_of R rows) (first ∷ names))
     leads = to row at ∙ sym (found_below R rows text name (first ∷ names) row.inode row (name_at row.names name) path long walked (row_at rows place row rising at) (last (first ∷ names) spells) refl)
 
     -- an inode is there
@@ -134,7 +134,7 @@ module _ (R : Region) (rows : List Row) (rising : Rises row_key rows) (text name
         let led = row_found R rows (first ∷ names) o k r.0 is inside (sym (get_or_from_slice_get rows k r.0 r.0 r.1)) leads in
         there_spot (tree_of R rows) unused first names row.inode r.0.inode walked led.leads
 
-    none : o ≡ None → found (tree_of R rows) (first ∷ names) ≡ None
+    pub none : o ≡ None → found (tree_of R rows) (first ∷ names) ≡ None
     none is = none_found R rows (first ∷ names) o is leads
 
     -- no number is left

@@ -22,7 +22,7 @@ use Rattle.nv_calls.proofs.TakenBlocks.{each_was_free, taken_sup}
 use Rattle.nv_calls.proofs.Takes.{takes_some}
 
 -- no block is free that wasn't
-stays_free : (old new : FreeLists) (fresh : List ℕ) → TakeAll old (single_takes fresh) new → (cpu b : ℕ) → IsFreeIn new cpu b → IsFreeIn old cpu b
+pub stays_free : (old new : FreeLists) (fresh : List ℕ) → TakeAll old (single_takes fresh) new → (cpu b : ℕ) → IsFreeIn new cpu b → IsFreeIn old cpu b
 stays_free old new [] same cpu b free = subst (λ (a : FreeLists). IsFreeIn a cpu b) (sym same) free
 stays_free old new (a ∷ fresh) w cpu b free = w.1.leave.stays cpu b (stays_free w.0 new fresh w.2 cpu b free)
 

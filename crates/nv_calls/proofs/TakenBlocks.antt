@@ -20,7 +20,7 @@ use Rattle.nv_held.specs.Lists.{TakeAll, WasTaken}
 use Rattle.nv_held.proofs.ListsKept.{pools_all_taken, pools_same}
 use Rattle.nv_calls.specs.Taken.{TakesEach, block_run, single_takes}
 
-in_single : (b : ℕ) → HasBlock (block_run b ∷ []) b
+pub in_single : (b : ℕ) → HasBlock (block_run b ∷ []) b
 in_single b = (block_run b, Contains-head (block_run b) [], omega arith, omega arith)
 
 single_is : (b c : ℕ) → HasBlock (block_run b ∷ []) c → c ≡ b

@@ -16,3 +16,6 @@ pub mod Given
 pub mod Sizes
 pub mod NameCalls
 pub mod NewNames
+pub mod LinkCalls
+pub mod MoreNames
+pub mod Places
