@@ -1,11 +1,11 @@
 -- Two logs that were grown and whose rows were settled: what is owed before the commit, and what was done.
-use Rattle.std.proofs.Common.{◌≡◌, ◌≢◌, ℕ, ◌+◌, ◌*◌, ◌/◌, ◌%◌, ◌<◌, ◌≤◌, List, [], ◌∷◌, ◌++◌, length, take, drop, get_or, set, slice_get, ap, sym, ◌∙◌, subst, arith, Some, Bool, true, false, cond, vec_len, vec_capacity, length-set}
+use Rattle.std.proofs.Common.{◌≡◌, ◌≢◌, ℕ, ◌+◌, ◌/◌, ◌%◌, ◌<◌, ◌≤◌, List, [], ◌∷◌, ◌++◌, length, take, drop, set, slice_get, ap, sym, ◌∙◌, subst, arith, Some, Bool, true, false, cond, vec_len, vec_capacity, length-set}
 use Rattle.std.proofs.lemmas.List.{length-drop, length-take-le, take-append-drop}
 use Rattle.std.proofs.lemmas.Option.{get_or_from_slice_get, slice_get_within}
 use Rattle.nv_region.specs.Region.{Region, size}
 use Rattle.nv_region.specs.Stops.{IsMixed}
 use Rattle.nv_super.specs.declared.superblock.Super.{Super}
-use Rattle.nv_super.specs.Layout.{fixed_layout, slot_address}
+use Rattle.nv_super.specs.Layout.{slot_address}
 use Rattle.nv_super.specs.Order.{Rises}
 use Rattle.nv_super.proofs.RisingPlaces.{one_place}
 use Rattle.nv_alloc.specs.FreeValue.{FreeLists}
@@ -22,12 +22,13 @@ use Rattle.nv_commit.specs.Extends.{with_log}
 use Rattle.nv_commit.specs.Together.{CanCommit, CanExtendTwo, ShowsIdle, TogetherWords, with_logs}
 use Rattle.nv_calls.specs.Grown.{HasGrown, StandsRight}
 use Rattle.nv_calls.specs.MoreNames.{AppendsLogs, GrowsSame, NamesOnce, ReadiesRows}
-use Rattle.nv_calls.specs.NewNames.{CanName, ShowsNamed}
+use Rattle.nv_calls.specs.NewNames.{CanName}
 use Rattle.nv_calls.specs.Steps.{ShowsRow}
 use Rattle.nv_calls.specs.Taken.{TakesEach}
 use Rattle.nv_calls.proofs.PutRow.{one_row}
 use Rattle.nv_calls.proofs.RowChange.{at_set}
-use Rattle.nv_calls.proofs.SetRows.{both_twice, first_set, other_set, second_set}
+use Rattle.nv_calls.proofs.SetRows.{both_twice, first_set, second_set}
+use Rattle.nv_calls.proofs.TakenOut.{other_set}
 use Rattle.nv_calls.proofs.TogetherBytes.{together_bytes}
 use Rattle.nv_calls.proofs.TwoLogs.{as_extension, can_extend_two, cut_each, row_commits, stands_after}
 

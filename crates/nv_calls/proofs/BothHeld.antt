@@ -1,6 +1,6 @@
 -- What is held once two logs have grown whose entries leave the files' blocks: what both inodes own, the free lists, and the
 -- rows.
-use Rattle.std.proofs.Common.{◌≡◌, ◌≢◌, ◌↔◌, ℕ, ◌%◌, ◌≤◌, inl, inr, eqb, List, ◌++◌, length, set, slice_get, take, take_all, ap, sym, ◌∙◌, arith, Some}
+use Rattle.std.proofs.Common.{◌≡◌, ◌≢◌, ◌↔◌, ℕ, ◌%◌, inl, inr, eqb, List, ◌++◌, length, set, slice_get, take_all, ap, sym, ◌∙◌, arith, Some}
 use Rattle.std.specs.List.{Contains, IsDistinct}
 use Rattle.std.proofs.lemmas.List.Elements.{Contains-append_cases, Contains-append_left, Contains-append_right}
 use Rattle.std.proofs.lemmas.Option.{slice_get_within}
@@ -26,7 +26,7 @@ use Rattle.nv_commit.specs.Together.{ShowsIdle}
 use Rattle.nv_calls.specs.Steps.{ShowsRow}
 use Rattle.nv_calls.specs.Taken.{TakesEach}
 use Rattle.nv_calls.proofs.RowChange.{number_at}
-use Rattle.nv_calls.proofs.SetRows.{other_set}
+use Rattle.nv_calls.proofs.TakenOut.{other_set}
 use Rattle.nv_calls.proofs.TakenBlocks.{are_free, lists_without}
 use Rattle.nv_calls.proofs.TwoLogs.{cut_each, taken_apart}
 

@@ -27,7 +27,7 @@ use Rattle.nv_calls.proofs.BothHeld.{apart, both_lists, both_rows, both_sound, f
 use Rattle.nv_calls.proofs.CreatedRows.{in_rows}
 use Rattle.nv_calls.proofs.Mounts.{kept_of_mounted, mounted_of_kept, mounted_with}
 use Rattle.nv_calls.proofs.OneRow.{shows_row, stands}
-use Rattle.nv_calls.proofs.SetRows.{places_differ}
+use Rattle.nv_calls.proofs.TakenOut.{places_differ}
 use Rattle.nv_calls.proofs.TakenBlocks.{taken_sup}
 
 -- What is owed of a call on two logs: its entries leave the files' blocks, both rows are of the new logs, and nothing is wrong

@@ -54,8 +54,8 @@ pub mod CreatedRows
 pub mod CreatedTree
 pub mod CreateTests
 pub mod MadeNamed
-pub mod TwoLogs
 pub mod SetRows
+pub mod TwoLogs
 pub mod TogetherBytes
 pub mod AppendedLogs
 pub mod BothHeld

@@ -31,7 +31,7 @@ use Rattle.nv_calls.specs.Mount.{IsKept, Mount}
 use Rattle.nv_calls.specs.NameCalls.{ended_row, name_entries, row_blocks}
 use Rattle.nv_calls.specs.NewNames.{IsNoneNamed}
 use Rattle.nv_calls.specs.Places.{IsLinkSpot, link_spot_tests}
-use Rattle.nv_calls.specs.Seen.{LeadsTo, node_of, tree_of}
+use Rattle.nv_calls.specs.Seen.{LeadsTo, tree_of}
 use Rattle.nv_calls.specs.Steps.{RefusesStep}
 use Rattle.nv_calls.specs.World.{world_of}
 use Rattle.nv_calls.proofs.BothMounted.{both_bytes, both_kept, both_logs}

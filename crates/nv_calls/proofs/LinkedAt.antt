@@ -1,5 +1,5 @@
 -- A link count and a name, once both logs have grown and the rows are settled.
-use Rattle.std.proofs.Common.{◌≡◌, ◌≢◌, ℕ, ◌+◌, ◌-◌, ◌<◌, cond, nat_eq, List, [], ◌∷◌, ◌++◌, length, set, slice_get, ap, sym, ◌∙◌, subst, arith, Some, length-set}
+use Rattle.std.proofs.Common.{◌≡◌, ◌≢◌, ℕ, ◌+◌, ◌-◌, ◌<◌, cond, nat_eq, List, length, set, slice_get, ap, sym, ◌∙◌, subst, arith, Some, length-set}
 use Rattle.std.specs.Cmp.Lexicographic.{pointwise}
 use Rattle.nv_region.specs.Region.{Region}
 use Rattle.nv_super.specs.declared.superblock.Super.{Super}
@@ -19,7 +19,8 @@ use Rattle.nv_calls.specs.NameCalls.{name_entries}
 use Rattle.nv_calls.specs.NewNames.{HasNamed}
 use Rattle.nv_calls.proofs.MadeNamed.{place_is}
 use Rattle.nv_calls.proofs.PutRow.{one_row}
-use Rattle.nv_calls.proofs.SetRows.{both_twice, first_set, other_set, second_set}
+use Rattle.nv_calls.proofs.SetRows.{both_twice, first_set, second_set}
+use Rattle.nv_calls.proofs.TakenOut.{other_set}
 
 -- a row that grew and then counts
 pub counted_after : {old mid new : Row} {fresh : List ℕ} {end : ℕ} (links time : ℕ) → GrowsSame old fresh end mid → CountsLinks mid links time new → HasCounted old fresh end links time new

@@ -1,5 +1,5 @@
 -- The tree once a file has a name more: the tree machine's.
-use Rattle.std.proofs.Common.{◌≡◌, ℕ, ◌+◌, ◌/◌, ◌<◌, List, length, ap, sym, ◌∙◌, Option, Some, Result, Ok}
+use Rattle.std.proofs.Common.{◌≡◌, ℕ, ◌+◌, ◌/◌, List, length, ap, sym, ◌∙◌, Option, Some, Result, Ok}
 use Rattle.std.specs.Option.{option_map, option_map_or}
 use Rattle.nv_region.specs.Region.{Region}
 use Rattle.nv_radix.specs.Pages.{block_at}

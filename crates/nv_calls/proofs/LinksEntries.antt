@@ -1,5 +1,5 @@
 -- A links entry behind a file's log: what it makes of a row.
-use Rattle.std.proofs.Common.{◌≡◌, ℕ, ◌<◌, ◌≤◌, true, List, [], ◌∷◌, ◌++◌, refl, ap, sym, ◌∙◌, subst, Option, None}
+use Rattle.std.proofs.Common.{◌≡◌, ℕ, ◌<◌, ◌≤◌, true, List, [], ◌∷◌, ◌++◌, refl, ap, sym, ◌∙◌, subst, None}
 use Rattle.std.proofs.lemmas.List.Elements.{All-cons, All-nil}
 use Rattle.nv_super.specs.declared.kind.Kind.{Kind}
 use Rattle.nv_super.specs.declared.kind.Kind.TheVariants.{File}

@@ -42,6 +42,14 @@ one_more old new name x once once_now none names =
     let before : length (names_of old.names) ≡ length old.names = length-map old.names (λ e. e.0) in
     omega (arith, counted, there, before)
 
+-- An index with the same names has as many.
+pub as_many : (old new : Names) → EachOnce old → EachOnce new → ((q : List ℕ) → name_at new q ≡ name_at old q) → length new.names ≡ length old.names
+as_many old new once once_now names =
+    let same : (q : List ℕ) → is_member (pointwise nat_eq) (names_of new.names) q ≡ is_member (pointwise nat_eq) (names_of old.names) q =
+    λ q. found_member new.names q ∙ ap (λ (o : Option (ℕ × ℕ)). is_some o) (names q) ∙ sym (found_member old.names q) in
+    let counted : length (names_of new.names) ≡ length (names_of old.names) = length-from_same_keys nat_list_eq_equiv (names_of new.names) (names_of old.names) once_now once same in
+    sym (length-map new.names (λ e. e.0)) ∙ counted ∙ length-map old.names (λ e. e.0)
+
 -- where a name stands for something
 some_there : (o : Option (ℕ × ℕ)) (j : ℕ) → option_map (λ (x : ℕ × ℕ). x.0) o ≡ Some j → (x : ℕ × ℕ) × (o ≡ Some x)
 some_there None j e = absurd (cc)

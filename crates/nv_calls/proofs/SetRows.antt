@@ -5,17 +5,10 @@ use Rattle.std.proofs.lemmas.Option.{slice_get_within}
 use Rattle.nv_super.specs.Order.{Rises}
 use Rattle.nv_super.proofs.RisingPlaces.{rises_keys}
 use Rattle.nv_scan.specs.declared.piece.Row.{Row}
-use Rattle.nv_check.specs.Cross.{row_key}
 use Rattle.nv_outcome.specs.Same.{SameRow, SameRows}
+use Rattle.nv_check.specs.Cross.{row_key}
 use Rattle.nv_calls.proofs.RowChange.{at_set, number_at, same_rows, set_same_rows}
-
--- the rows at other places stay
-pub other_set : (rows : List Row) (i j : ℕ) (new : Row) → i ≢ j → slice_get (set rows i new) j ≡ slice_get rows j
-other_set [] i j new differ = refl
-other_set (x ∷ rows) zero zero new differ = absurd (differ refl)
-other_set (x ∷ rows) zero (suc j) new differ = refl
-other_set (x ∷ rows) (suc i) zero new differ = refl
-other_set (x ∷ rows) (suc i) (suc j) new differ = other_set rows i j new (λ e. differ (ap suc e))
+use Rattle.nv_calls.proofs.TakenOut.{other_set}
 
 -- a row that keeps its number leaves them rising
 pub set_rising : (rows : List Row) (place : ℕ) (row now : Row) → Rises row_key rows → slice_get rows place ≡ Some row → now.inode ≡ row.inode → Rises row_key (set rows place now)
@@ -51,10 +44,6 @@ module _ (rows : List Row) (i j : ℕ) (a b c d : Row) (at : slice_get rows i �
 
   pub both_rise : Rises row_key rows → c.inode ≡ a.inode → d.inode ≡ b.inode → Rises row_key (set (set rows i c) j d)
   both_rise rising number other_number = set_rising (set rows i c) j b d (set_rising rows i a c rising at number) still other_number
-
--- rows of different numbers stand at different places
-pub places_differ : (rows : List Row) (i j : ℕ) (a b : Row) → slice_get rows i ≡ Some a → slice_get rows j ≡ Some b → a.inode ≢ b.inode → i ≢ j
-places_differ rows i j a b at other_at differ same = let both : Some a ≡ Some b = sym at ∙ ap (slice_get rows) same ∙ other_at in let one : a ≡ b = cc in differ (ap (λ (r : Row). r.inode) one)
 
 -- rows are the same where two were replaced by the same
 pub both_same : (rows : List Row) (i j : ℕ) (a c b d : Row) → slice_get rows i ≡ Some a → slice_get rows j ≡ Some b → i ≢ j → SameRow a c → SameRow b d → SameRows rows (set (set rows i c) j d)

@@ -16,6 +16,9 @@ pub mod Given
 pub mod Sizes
 pub mod NameCalls
 pub mod NewNames
+pub mod LinkCalls
+pub mod MoreNames
+pub mod Places
 pub mod RemoveCalls
 pub mod NamedAt
 pub mod LessNames

@@ -17,7 +17,7 @@ use nv_scan::Row;
 use nv_super::Kind;
 use nv_tree::Refusal;
 
-/// A name in a directory, and the inode in use that it stands for.
+/// A name in a directory, and the inode in use that it stands for or shall stand for.
 #[derive(Clone, Copy)]
 pub(crate) struct Named<'a> {
     /// The place of the directory's row.

@@ -1,4 +1,4 @@
-//! What the calls on names are about: the inode that a name stands for, and the directories that lose or get a name.
+//! What `link` is about: the file that gets a link, and the directory that gets its name.
 
 ghost use Rattle.std.specs.Prelude.{◌≡◌, ◌<◌, ℕ, nat_le, List, length, slice_get, IfOk, IfErr, OnOk, Option};
 ghost use Rattle.nv_region.specs.Region.{Region};
@@ -10,6 +10,7 @@ ghost use Rattle.nv_tree.specs.Refusals.{Path, first_refusal};
 ghost use Rattle.nv_calls.specs.Places.{IsLinkSpot, link_spot_tests};
 ghost use Rattle.nv_calls.specs.Seen.{tree_of};
 
+use crate::named::Named;
 use crate::naming::{has_name, spot_of, target_at};
 use crate::walking::found;
 use nv_scan::Row;
@@ -18,16 +19,6 @@ use nv_tree::{Refusal, is_path};
 
 /// The most links that a file can have.
 const MOST_LINKS: u32 = 1000;
-
-/// A name in a directory, and the inode in use that it stands for or shall stand for.
-#[derive(Clone, Copy)]
-pub(crate) struct Named<'a> {
-    /// The place of the directory's row.
-    pub directory: usize,
-    pub name: &'a [u8],
-    /// The place of the inode's row.
-    pub target: usize,
-}
 
 /// The file to which a path leads, and the directory and the name of its new link.
 ///

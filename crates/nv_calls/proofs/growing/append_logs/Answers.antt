@@ -1,11 +1,12 @@
-use Rattle.std.proofs.Common.{◌≡◌, ◌∙◌, ◌+◌, ◌<◌, ◌≤◌, ℕ, List, Some, ap, drop, length, refl, set, slice_get, subst, sym, take, vec_capacity, vec_len}
+use Rattle.std.proofs.Common.{◌≡◌, ◌∙◌, ◌+◌, ◌<◌, ◌≤◌, ℕ, List, Some, ap, drop, length, set, slice_get, subst, sym, take, vec_capacity, vec_len}
 use Rattle.nv_region.proofs.Fuses.{keeps_within}
 use Rattle.nv_super.specs.declared.superblock.Super.{Super}
 use Rattle.nv_scan.specs.declared.piece.Row.{Row}
 use Rattle.nv_calls.proofs.AppendedLogs.{appends_logs, both_within, count_is, first_commits, first_room, ready_within, room_after, second_commits, second_room}
 use Rattle.nv_calls.proofs.CreateTests.{a_row}
 use Rattle.nv_calls.proofs.OneRow.{placed_row}
-use Rattle.nv_calls.proofs.SetRows.{other_set, still_within}
+use Rattle.nv_calls.proofs.SetRows.{still_within}
+use Rattle.nv_calls.proofs.TakenOut.{other_set}
 use Rattle.nv_calls.proofs.TakenBlocks.{taken_sup}
 use Rattle.nv_calls.proofs.growing.append_logs.Goals as goal
 

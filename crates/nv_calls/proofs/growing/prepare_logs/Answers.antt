@@ -1,11 +1,11 @@
-use Rattle.std.proofs.Common.{◌≡◌, ◌∙◌, ◌<◌, ◌≤◌, ◌%◌, List, Some, refl, arith, ap, length, length-set, set, slice_get, subst, sym}
-use Rattle.nv_logpage.specs.Append.{needed}
+use Rattle.std.proofs.Common.{◌≡◌, ◌∙◌, ◌<◌, ◌%◌, List, Some, refl, arith, ap, length, length-set, set, slice_get, sym}
 use Rattle.nv_scan.specs.declared.piece.Row.{Row}
 use Rattle.nv_calls.proofs.AppendedLogs.{needed_one}
 use Rattle.nv_calls.proofs.CreateTests.{a_row}
 use Rattle.nv_calls.proofs.OneRow.{placed_row}
 use Rattle.nv_calls.proofs.RowChange.{same_rows, set_same_rows}
-use Rattle.nv_calls.proofs.SetRows.{both_same, other_set}
+use Rattle.nv_calls.proofs.SetRows.{both_same}
+use Rattle.nv_calls.proofs.TakenOut.{other_set}
 use Rattle.nv_calls.proofs.growing.prepare_logs.Goals as goal
 
 pub overflow_add-count : goal.overflow_add-count

@@ -12,7 +12,8 @@ use Rattle.nv_calls.specs.Steps.{RefusesStep}
 use Rattle.nv_calls.proofs.LinkedAt.{grown_within, links_at_places}
 use Rattle.nv_calls.proofs.Listed.{refused_by}
 use Rattle.nv_calls.proofs.OneRow.{placed_row}
-use Rattle.nv_calls.proofs.SetRows.{other_set, still_within}
+use Rattle.nv_calls.proofs.SetRows.{still_within}
+use Rattle.nv_calls.proofs.TakenOut.{other_set}
 use Rattle.nv_calls.proofs.linking.link_at.Goals as goal
 
 pub returns-in_err-append_logs-clause-refused : goal.returns-in_err-append_logs-clause-refused
