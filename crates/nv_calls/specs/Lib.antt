@@ -22,6 +22,3 @@ pub mod Places
 pub mod RemoveCalls
 pub mod NamedAt
 pub mod LessNames
-pub mod LinkCalls
-pub mod MoreNames
-pub mod Places
