@@ -46,7 +46,7 @@ use Rattle.nv_calls.proofs.TakenBlocks.{all_differ, taken_sup}
 -- ---- what is held of rows
 
 module _ {R : Region} {s : Super} {held : Store} {rows : List Row} {pools : List (List Run)} (m : IsMounted R s held rows pools) where
-  in_rows : KeepsRows (fixed_layout s) held rows
+  pub in_rows : KeepsRows (fixed_layout s) held rows
   in_rows = let keeps = m.keeps in keeps.in_rows
 
   has_row : (j : ℕ) (g : Held) → held j ≡ Some g → row_of rows j ≡ None → ⊥

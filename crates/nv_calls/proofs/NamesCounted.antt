@@ -61,3 +61,11 @@ one_less old new name j once once_now there names =
     let back : (q : List ℕ) → name_at old q ≡ cond (pointwise nat_eq q name) (Some x.0) (name_at new q) = λ q. same_name (name_at new q) (name_at old q) (pointwise nat_eq q name) x.0 (λ e. ap (name_at old) (same q e) ∙ x.1) (names q) in
     let more = one_more new old name x.0 once_now once none back in
     omega (arith, more)
+
+-- An index with the same names has as many.
+pub as_many : (old new : Names) → EachOnce old → EachOnce new → ((q : List ℕ) → name_at new q ≡ name_at old q) → length new.names ≡ length old.names
+as_many old new once once_now names =
+    let same : (q : List ℕ) → is_member (pointwise nat_eq) (names_of new.names) q ≡ is_member (pointwise nat_eq) (names_of old.names) q =
+    λ q. found_member new.names q ∙ ap (λ (o : Option (ℕ × ℕ)). is_some o) (names q) ∙ sym (found_member old.names q) in
+    let counted : length (names_of new.names) ≡ length (names_of old.names) = length-from_same_keys nat_list_eq_equiv (names_of new.names) (names_of old.names) once_now once same in
+    sym (length-map new.names (λ e. e.0)) ∙ counted ∙ length-map old.names (λ e. e.0)

@@ -19,3 +19,6 @@ pub mod NewNames
 pub mod RemoveCalls
 pub mod NamedAt
 pub mod LessNames
+pub mod LinkCalls
+pub mod MoreNames
+pub mod Places

@@ -1,0 +1,172 @@
+//! Two logs that grow together, and the rows that stand for them: all growths first, then the commit, then the rows.
+
+ghost use Rattle.std.specs.Prelude.{◌≡◌, ◌≢◌, ◌+◌, ◌%◌, ◌<◌, ◌≤◌, length, slice_get, Option, IsTrue, IfOk, IfErr, OnOk, OnErr, vec_len, vec_capacity};
+ghost use Rattle.nv_region.specs.Region.{size};
+ghost use Rattle.nv_region.specs.Stops.{NothingPending};
+ghost use Rattle.nv_region.specs.Fuses.{KeepsFuse};
+ghost use Rattle.nv_super.specs.Layout.{IsLayout, inode_limit, slot_address};
+ghost use Rattle.nv_super.specs.Order.{Rises};
+ghost use Rattle.nv_alloc.specs.Taking.{all_blocks};
+ghost use Rattle.nv_logpage.specs.Append.{AreGiven, needed};
+ghost use Rattle.nv_check.specs.Cross.{row_key};
+ghost use Rattle.nv_outcome.specs.Same.{SameRow, SameRows};
+ghost use Rattle.nv_scan.specs.declared.piece.Row.{Row as RowValue};
+ghost use Rattle.nv_tree.specs.declared.refusal.Refusal.{Refusal as RefusalValue};
+ghost use Rattle.nv_calls.specs.Grown.{StandsRight};
+ghost use Rattle.nv_calls.specs.MoreNames.{AppendsLogs, NamesOnce, ReadiesRows};
+ghost use Rattle.nv_calls.specs.NewNames.{CanName, LeavesRows};
+ghost use Rattle.nv_calls.specs.Steps.{RefusesStep};
+ghost use Rattle.nv_calls.specs.Taken.{SamePools, TakesEach};
+
+use crate::blocks::take_blocks;
+use crate::settling::settle_log;
+use nv_alloc::{AllocRefusal, Allocators};
+use nv_commit::{Extension, extend_two};
+use nv_entry::Entry;
+use nv_logpage::pages_needed;
+use nv_region::Pmem;
+use nv_scan::Row;
+use nv_super::Super;
+use nv_tree::Refusal;
+use std::alloc::{AllocError, Global};
+
+/// What goes behind the log of a row.
+#[derive(Clone, Copy)]
+pub(crate) struct Growth<'a> {
+    /// The place of the row.
+    pub place: usize,
+    pub entries: &'a [Entry],
+    /// How many names the row gets.
+    pub names: usize,
+}
+
+/// Writes an entry behind each of the logs of two rows, over blocks that it takes, the first log's first. Both rows get the new tails
+/// and the new pages, and there is room for the names.
+///
+/// `NoSpace` where all pools together have too few blocks, `Memory` where a growth was refused; both change nothing.
+/// `Stopped` where the fuse has burnt.
+pub(crate) fn append_logs<P: Pmem>(
+    alloc: Global,
+    memory: &mut P,
+    sup: &Super,
+    free: &mut Allocators,
+    cpu: u64,
+    rows: &mut Vec<Row>,
+    first: &Growth<'_>,
+    second: &Growth<'_>,
+) -> Result<(), Refusal>
+    requires first { first.now.place < length rows.old.items }
+    requires second { second.now.place < length rows.old.items }
+    requires apart { first.now.place ≢ second.now.place }
+    requires rising { Rises row_key rows.old.items }
+    requires stands { (row : RowValue) → slice_get rows.old.items first.now.place ≡ Option.Some row → StandsRight (P.region memory.old) sup.now free.old row × CanName (P.region memory.old) sup.now cpu row.inode row }
+    requires other_stands { (other : RowValue) → slice_get rows.old.items second.now.place ≡ Option.Some other → StandsRight (P.region memory.old) sup.now free.old other × CanName (P.region memory.old) sup.now cpu other.inode other }
+    requires given { AreGiven first.now.entries.now × (length first.now.entries.now ≡ 1) }
+    requires more_given { AreGiven second.now.entries.now × (length second.now.entries.now ≡ 1) }
+    ensures appended { OnOk result (AppendsLogs (P.region memory.old) (P.region memory.new) sup.now free.old free.new rows.old.items rows.new.items first.now.place first.now.entries.now second.now.place second.now.entries.now) }
+    ensures room { (row : RowValue) → slice_get rows.new.items second.now.place ≡ Option.Some row → OnOk result (second.now.names ≤ row.names.room) }
+    ensures enough { (row other : RowValue) → slice_get rows.old.items first.now.place ≡ Option.Some row → slice_get rows.old.items second.now.place ≡ Option.Some other → OnOk result (needed (row.tail % 4096) first.now.entries.now + needed (other.tail % 4096) second.now.entries.now ≤ all_blocks free.old.pools) }
+    ensures settled { OnOk result (NothingPending (P.region memory.new) (P.may_hold memory.new)) }
+    ensures refused { (row other : RowValue) → slice_get rows.old.items first.now.place ≡ Option.Some row → slice_get rows.old.items second.now.place ≡ Option.Some other → IfErr result (λ e. RefusesStep e (needed (row.tail % 4096) first.now.entries.now + needed (other.tail % 4096) second.now.entries.now) free.old) }
+    ensures unchanged { IfErr result (λ e. (e ≡ RefusalValue.Stopped → ⊥) → LeavesRows memory.old memory.new free.old free.new rows.old.items rows.new.items) }
+    ensures stopped { IfErr result (λ e. e ≡ RefusalValue.Stopped → IsTrue (P.fuse memory.new).has_burnt) }
+    ensures lists { free.new.sup ≡ free.old.sup }
+    ensures length { size (P.region memory.new) ≡ size (P.region memory.old) }
+    ensures keeps_fuse { KeepsFuse (λ limit. size (P.region memory.old) ≤ limit) (P.fuse memory.old) (P.fuse memory.new) }
+{
+    let blocks = prepare_logs(alloc, free, cpu, rows, first, second)?;
+    let count = blocks_for(rows, first) as usize;
+    let (fresh, more) = blocks.split_at(count);
+    let one = extension(sup, &rows[first.place], first.entries, fresh);
+    let two = extension(sup, &rows[second.place], second.entries, more);
+    let Ok((end, last)) = extend_two(memory, cpu, &one, &two) else {
+        return Err(Refusal::Stopped);
+    };
+    settle_log(&mut rows[first.place], fresh, end);
+    settle_log(&mut rows[second.place], more, last);
+    Ok(())
+}
+
+/// How many blocks the log of a row takes.
+fn blocks_for(rows: &[Row], growth: &Growth<'_>) -> u64
+    requires within { growth.now.place < length rows.now }
+    ensures { (row : RowValue) → slice_get rows.now growth.now.place ≡ Option.Some row → result ≡ needed (row.tail % 4096) growth.now.entries.now }
+{
+    pages_needed(rows[growth.place].tail, growth.entries)
+}
+
+/// Entries for the log of a row, over these blocks.
+fn extension<'a>(sup: &Super, row: &Row, entries: &'a [Entry], fresh: &'a [u64]) -> Extension<'a>
+    requires layout { IsLayout sup.now }
+    requires number { row.now.inode < inode_limit sup.now }
+    ensures slot { result.slot ≡ slot_address sup.now row.now.inode }
+    ensures tail { result.tail ≡ row.now.tail }
+    ensures entries { result.entries.now ≡ entries.now }
+    ensures fresh { result.fresh.now ≡ fresh.now }
+{
+    Extension {
+        slot: sup.slot_address(row.inode),
+        tail: row.tail,
+        entries,
+        fresh,
+    }
+}
+
+/// Takes the blocks that both logs need, each by itself, and makes room for them in both rows.
+///
+/// `NoSpace` where all pools together have fewer blocks, `Memory` where a growth was refused. Both leave the free lists.
+fn prepare_logs(
+    alloc: Global,
+    free: &mut Allocators,
+    cpu: u64,
+    rows: &mut Vec<Row>,
+    first: &Growth<'_>,
+    second: &Growth<'_>,
+) -> Result<Vec<u64>, Refusal>
+    requires cpu { cpu < free.old.sup.cpus }
+    requires first { first.now.place < length rows.old.items }
+    requires second { second.now.place < length rows.old.items }
+    requires one { length first.now.entries.now ≡ 1 }
+    requires other_one { length second.now.entries.now ≡ 1 }
+    requires apart { first.now.place ≢ second.now.place }
+    ensures taken { IfOk result (λ blocks. TakesEach free.old blocks.items free.new) }
+    ensures count { (row other : RowValue) → slice_get rows.old.items first.now.place ≡ Option.Some row → slice_get rows.old.items second.now.place ≡ Option.Some other → IfOk result (λ blocks. length blocks.items ≡ needed (row.tail % 4096) first.now.entries.now + needed (other.tail % 4096) second.now.entries.now) }
+    ensures enough { (row other : RowValue) → slice_get rows.old.items first.now.place ≡ Option.Some row → slice_get rows.old.items second.now.place ≡ Option.Some other → OnOk result (needed (row.tail % 4096) first.now.entries.now + needed (other.tail % 4096) second.now.entries.now ≤ all_blocks free.old.pools) }
+    ensures refused { (row other : RowValue) → slice_get rows.old.items first.now.place ≡ Option.Some row → slice_get rows.old.items second.now.place ≡ Option.Some other → IfErr result (λ e. RefusesStep e (needed (row.tail % 4096) first.now.entries.now + needed (other.tail % 4096) second.now.entries.now) free.old) }
+    ensures goes_on { IfErr result (λ e. e ≡ RefusalValue.Stopped → ⊥) }
+    ensures unchanged { OnErr result (SamePools free.old free.new) }
+    ensures rows { SameRows rows.old.items rows.new.items }
+    ensures ready { OnOk result (ReadiesRows rows.old.items rows.new.items first.now.place first.now.entries.now first.now.names second.now.place second.now.entries.now second.now.names) }
+{
+    let count = blocks_for(rows, first);
+    let more = blocks_for(rows, second);
+    if free.free_blocks() < count + more {
+        return Err(Refusal::NoSpace);
+    }
+    let Ok(()) = make_room(&mut rows[first.place], count as usize, first.names) else {
+        return Err(Refusal::Memory);
+    };
+    let Ok(()) = make_room(&mut rows[second.place], more as usize, second.names) else {
+        return Err(Refusal::Memory);
+    };
+    match take_blocks(alloc, free, cpu, count + more) {
+        Ok(blocks) => Ok(blocks),
+        Err(AllocRefusal::NoSpace) => Err(Refusal::NoSpace),
+        Err(AllocRefusal::Memory) => Err(Refusal::Memory),
+    }
+}
+
+/// Makes room in a row for so many pages and so many names.
+fn make_room(row: &mut Row, pages: usize, names: usize) -> Result<(), AllocError>
+    ensures row { SameRow row.old row.new }
+    ensures pages { OnOk result (vec_len row.new.pages + pages ≤ vec_capacity row.new.pages) }
+    ensures names { OnOk result (names ≤ row.new.names.room) }
+    ensures once { OnOk result (NamesOnce row.old row.new) }
+{
+    // A name index says of itself that it has no name twice.
+    let _names = row.names.len();
+    row.pages.reserve(pages)?;
+    row.names.reserve(names)?;
+    let _names = row.names.len();
+    Ok(())
+}

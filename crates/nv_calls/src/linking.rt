@@ -1,0 +1,147 @@
+//! `link`: one more name of a file.
+
+ghost use Rattle.std.specs.Prelude.{◌≡◌, ◌≢◌, ◌⊎◌, ◌+◌, ◌%◌, ◌<◌, ◌≤◌, ℕ, List, length, slice_get, Option, Result, IsTrue, IfErr, OnOk, false};
+ghost use Rattle.nv_region.specs.Region.{size};
+ghost use Rattle.nv_region.specs.Stops.{NothingPending};
+ghost use Rattle.nv_region.specs.Fuses.{KeepsFuse};
+ghost use Rattle.nv_super.specs.Order.{Rises};
+ghost use Rattle.nv_alloc.specs.Taking.{all_blocks};
+ghost use Rattle.nv_entry.specs.declared.entry.Operation.TheVariants.{Add};
+ghost use Rattle.nv_logpage.specs.Append.{needed};
+ghost use Rattle.nv_names.specs.Names.{IsName};
+ghost use Rattle.nv_scan.specs.declared.piece.Row.{Row as RowValue};
+ghost use Rattle.nv_check.specs.Cross.{row_key};
+ghost use Rattle.nv_held.specs.Held.{Held, Store};
+ghost use Rattle.nv_held.specs.Mounted.{ShowsSound};
+ghost use Rattle.nv_tree.specs.Path.{IsPath, Says, last_name};
+ghost use Rattle.nv_tree.specs.Tree.{Node, SameTree, walk};
+ghost use Rattle.nv_tree.specs.Calls.{linked};
+ghost use Rattle.nv_tree.specs.Refusals.{Path, first_refusal, link_tests};
+ghost use Rattle.nv_tree.specs.declared.refusal.Refusal.{Refusal as RefusalValue};
+ghost use Rattle.nv_calls.specs.Grown.{StandsRight};
+ghost use Rattle.nv_calls.specs.LinkCalls.{ShowsBothGrew, link_blocks, links_entries};
+ghost use Rattle.nv_calls.specs.MoreNames.{LinksAt};
+ghost use Rattle.nv_calls.specs.NameCalls.{name_entries};
+ghost use Rattle.nv_calls.specs.NewNames.{CanName, LeavesRows};
+ghost use Rattle.nv_calls.specs.Same.{KeepsMount, SameMount};
+ghost use Rattle.nv_calls.specs.Seen.{LeadsTo, tree_of};
+ghost use Rattle.nv_calls.specs.Steps.{RefusesStep};
+ghost use Rattle.nv_calls.specs.World.{world_of};
+
+use crate::Fs;
+use crate::growing::{Growth, append_logs};
+use crate::making::name_entry;
+use crate::settling_names::{add_name, set_links};
+use crate::targeting::{Named, link_for};
+use crate::writing::is_stop;
+use nv_alloc::Allocators;
+use nv_entry::{Entry, LinksEntry, Operation, length};
+use nv_region::Pmem;
+use nv_scan::Row;
+use nv_super::Super;
+use nv_tree::Refusal;
+use std::alloc::Global;
+
+/// Gives a file a name in a directory: its log says one link more, and the directory's log says the name.
+///
+/// `NoSpace` where all pools together have too few blocks, `Memory` where a growth was refused; both change nothing.
+/// `Stopped` where the fuse has burnt.
+fn link_at<P: Pmem>(
+    alloc: Global,
+    memory: &mut P,
+    sup: &Super,
+    free: &mut Allocators,
+    cpu: u64,
+    rows: &mut Vec<Row>,
+    named: &Named<'_>,
+    time: u64,
+) -> Result<(), Refusal>
+    requires target { named.now.target < length rows.old.items }
+    requires directory { named.now.directory < length rows.old.items }
+    requires apart { named.now.target ≢ named.now.directory }
+    requires rising { Rises row_key rows.old.items }
+    requires few { (row : RowValue) → slice_get rows.old.items named.now.target ≡ Option.Some row → row.numbers.links < 1000 }
+    requires stands { (row : RowValue) → slice_get rows.old.items named.now.target ≡ Option.Some row → StandsRight (P.region memory.old) sup.now free.old row × CanName (P.region memory.old) sup.now cpu row.inode row }
+    requires directory_stands { (directory : RowValue) → slice_get rows.old.items named.now.directory ≡ Option.Some directory → StandsRight (P.region memory.old) sup.now free.old directory × CanName (P.region memory.old) sup.now cpu directory.inode directory }
+    requires name { IsName named.now.name.now }
+    ensures linked { OnOk result (LinksAt (P.region memory.old) (P.region memory.new) sup.now free.old free.new rows.old.items rows.new.items named.now.target named.now.directory named.now.name.now time) }
+    ensures enough { (row directory : RowValue) → slice_get rows.old.items named.now.target ≡ Option.Some row → slice_get rows.old.items named.now.directory ≡ Option.Some directory → OnOk result (needed (row.tail % 4096) (links_entries (row.numbers.links + 1) time) + needed (directory.tail % 4096) (name_entries Add row.inode named.now.name.now time) ≤ all_blocks free.old.pools) }
+    ensures settled { OnOk result (NothingPending (P.region memory.new) (P.may_hold memory.new)) }
+    ensures refused { (row directory : RowValue) → slice_get rows.old.items named.now.target ≡ Option.Some row → slice_get rows.old.items named.now.directory ≡ Option.Some directory → IfErr result (λ e. RefusesStep e (needed (row.tail % 4096) (links_entries (row.numbers.links + 1) time) + needed (directory.tail % 4096) (name_entries Add row.inode named.now.name.now time)) free.old) }
+    ensures unchanged { IfErr result (λ e. (e ≡ RefusalValue.Stopped → ⊥) → LeavesRows memory.old memory.new free.old free.new rows.old.items rows.new.items) }
+    ensures stopped { IfErr result (λ e. e ≡ RefusalValue.Stopped → IsTrue (P.fuse memory.new).has_burnt) }
+    ensures lists { free.new.sup ≡ free.old.sup }
+    ensures length { size (P.region memory.new) ≡ size (P.region memory.old) }
+    ensures keeps_fuse { KeepsFuse (λ limit. size (P.region memory.old) ≤ limit) (P.fuse memory.old) (P.fuse memory.new) }
+{
+    let file = &rows[named.target];
+    let inode = file.inode;
+    let count = file.numbers.links + 1;
+    let links = [Entry::Links(LinksEntry { count, time })];
+    let names = [name_entry(Operation::Add, inode, named.name, time)];
+    let first = Growth {
+        place: named.target,
+        entries: &links,
+        names: 0,
+    };
+    let second = Growth {
+        place: named.directory,
+        entries: &names,
+        names: 1,
+    };
+    append_logs(alloc, memory, sup, free, cpu, rows, &first, &second)?;
+    set_links(&mut rows[named.target], count, time);
+    let place = rows[named.directory].tail - length(&names[0]);
+    add_name(&mut rows[named.directory], named.name, inode, place, time);
+    Ok(())
+}
+
+impl<P: Pmem + Drop> Fs<P> {
+    /// Gives the file that the first path leads to one name more, which the second path says.
+    ///
+    /// Errors, the first that applies: `Stopped` after a stop, `BadCpu` where there is no CPU of that number, `ReadOnly`
+    /// where the region was mounted with faults, `BadName` where the first text is no path or the second no path or `/`,
+    /// `NotFound` or `NotDirectory` for an inode on the first way and then on the second, `NotFound` where the first path
+    /// leads to no inode, `IsDirectory` where to a directory, `Exists` where the second leads to an inode, `LinkLimit` where
+    /// the file has 1,000 links, `NoSpace` where fewer blocks are free than both logs need. `Memory` where a growth was
+    /// refused, `Stopped` where the fuse burns. All but `Stopped` leave everything as it was.
+    pub fn link(&mut self, cpu: u64, old: &[u8], new: &[u8], time: u64) -> Result<(), Refusal>
+        ensures stopped_before { IsTrue self.old.stopped → (result ≡ Result.Err RefusalValue.Stopped) × (self.new ≡ self.old) }
+        ensures allowed { (p q : Path) → Says old.now p → Says new.now q
+            → OnOk result (first_refusal (link_tests (world_of self.old) (tree_of (P.region self.old.memory) self.old.rows) cpu p q (link_blocks self.old.rows (tree_of (P.region self.old.memory) self.old.rows) p q)) ≡ Option.None) }
+        ensures refused { self.old.stopped ≡ false → (p q : Path) → Says old.now p → Says new.now q
+            → IfErr result (λ e. (e ≡ RefusalValue.Memory) ⊎ ((e ≡ RefusalValue.Stopped)
+            ⊎ (first_refusal (link_tests (world_of self.old) (tree_of (P.region self.old.memory) self.old.rows) cpu p q (link_blocks self.old.rows (tree_of (P.region self.old.memory) self.old.rows) p q)) ≡ Option.Some e))) }
+        ensures changed { (names others : List (List ℕ)) → IsPath old.now names → IsPath new.now others
+            → OnOk result (SameTree (tree_of (P.region self.new.memory) self.new.rows) (linked names others time (tree_of (P.region self.old.memory) self.old.rows))) }
+        // The log of the file and that of the directory have one entry more, and no other log has changed.
+        ensures log { (names others : List (List ℕ)) (i d : ℕ) (node : Node) (held : Store) (f h : Held) → IsPath old.now names → IsPath new.now others → LeadsTo (tree_of (P.region self.old.memory) self.old.rows) names i node → walk (tree_of (P.region self.old.memory) self.old.rows) 1 others ≡ Result.Ok d
+            → ShowsSound (P.region self.old.memory) self.old.sup held → held i ≡ Option.Some f → held d ≡ Option.Some h
+            → OnOk result (ShowsBothGrew (P.region self.new.memory) self.old.sup held i f (links_entries (node.links + 1) time) d h (name_entries Add i (last_name others) time)) }
+        ensures unchanged { IfErr result (λ e. (e ≡ RefusalValue.Stopped → ⊥) → SameMount self.old self.new) }
+        ensures stopped { self.old.stopped ≡ false → (IsTrue self.new.stopped → (result ≡ Result.Err RefusalValue.Stopped) × IsTrue (P.fuse self.new.memory).has_burnt) × (result ≡ Result.Err RefusalValue.Stopped → IsTrue self.new.stopped) }
+        ensures keeps { KeepsMount self.old self.new }
+        ensures settled { OnOk result (NothingPending (P.region self.new.memory) (P.may_hold self.new.memory)) }
+        ensures length { size (P.region self.new.memory) ≡ size (P.region self.old.memory) }
+        ensures keeps_fuse { KeepsFuse (λ limit. size (P.region self.old.memory) ≤ limit) (P.fuse self.old.memory) (P.fuse self.new.memory) }
+    {
+        self.writable(cpu)?;
+        let named = link_for(&self.rows, old, new)?;
+        match link_at(
+            self.alloc,
+            &mut self.memory,
+            &self.sup,
+            &mut self.free,
+            cpu,
+            &mut self.rows,
+            &named,
+            time,
+        ) {
+            Ok(()) => Ok(()),
+            Err(refusal) => {
+                self.stopped = is_stop(refusal);
+                Err(refusal)
+            }
+        }
+    }
+}
