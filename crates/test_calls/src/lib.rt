@@ -19,6 +19,8 @@ mod recovered;
 #[cfg(test)]
 mod regions;
 #[cfg(test)]
+mod removal;
+#[cfg(test)]
 mod set_attr;
 #[cfg(test)]
 mod set_size;
