@@ -1,5 +1,5 @@
 -- What a script may print, and the exit status with which it may end.
-use Rattle.std.specs.Prelude.{◌≡◌, ◌⊎◌, ◌≤◌, ◌+◌, ℕ, List, [], ◌∷◌, ◌++◌, length}
+use Rattle.std.specs.Prelude.{◌≡◌, ◌⊎◌, ◌≤◌, ◌+◌, false, ℕ, List, [], ◌∷◌, ◌++◌, length}
 use Rattle.std.specs.List.{AllByRecursion}
 use Rattle.nv_region.specs.declared.memory.Fuse.{Fuse}
 use Rattle.nv_region.specs.declared.memory.Keep.{Keep}
@@ -9,7 +9,7 @@ use Rattle.nv_line.specs.Lines.{IsSkipped, IsBad}
 use Rattle.nv_text.specs.Answers.{bad_line}
 use Rattle.nv_line.specs.Lines.{line_limit}
 use Rattle.nv_report.specs.Last.{status_of}
-use Rattle.nv_session.specs.Machine.{State, first_state, Step}
+use Rattle.nv_session.specs.Machine.{State, first_state, Step, writes}
 
 -- what a line asks for was run
 abbrev pub Runs : List ℕ → State → List ℕ → State → Type 0
@@ -28,6 +28,10 @@ Shows number old (line ∷ lines) text status =
 -- no line sets a stop
 abbrev pub SetsNoStop : List (List ℕ) → Type 0
 SetsNoStop lines = AllByRecursion (λ line. (fuse : Fuse) (keep : Keep) → Says line (Stop fuse keep) → ⊥) lines
+
+-- no line is a file call that writes
+abbrev pub WritesNothing : List (List ℕ) → Type 0
+WritesNothing lines = AllByRecursion (λ line. (request : Request) → Says line request → writes request ≡ false) lines
 
 -- what a whole script may print, and its exit status
 abbrev pub ShowsScript : List (List ℕ) → List ℕ → ℕ → Type 0

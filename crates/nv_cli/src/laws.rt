@@ -4,13 +4,14 @@ ghost use Rattle.std.specs.Prelude.{◌≡◌, ℕ, List};
 ghost use Rattle.nv_region.specs.Region.{Region};
 ghost use Rattle.nv_cli.specs.Checking.{IsCheck};
 ghost use Rattle.nv_cli.specs.Hints.{HintsScript};
-ghost use Rattle.nv_cli.specs.Script.{SetsNoStop, ShowsScript};
+ghost use Rattle.nv_cli.specs.Script.{SetsNoStop, ShowsScript, WritesNothing};
 
-/// A script that sets no stop has one output, one exit status, and one list of hints.
+/// A script that sets no stop and calls nothing that writes a file or a directory has one output, one exit status, and one list
+/// of hints. Behind such a call a report shows blocks of which only the rules of taking say which they are.
 pub fn one_transcript()
-    ensures text { (lines : List (List ℕ)) (text other : List ℕ) (status another : ℕ) → SetsNoStop lines → ShowsScript lines text status → ShowsScript lines other another → text ≡ other }
-    ensures status { (lines : List (List ℕ)) (text other : List ℕ) (status another : ℕ) → SetsNoStop lines → ShowsScript lines text status → ShowsScript lines other another → status ≡ another }
-    ensures hints { (lines : List (List ℕ)) (hints other : List ℕ) (status another : ℕ) → SetsNoStop lines → HintsScript lines hints status → HintsScript lines other another → hints ≡ other }
+    ensures text { (lines : List (List ℕ)) (text other : List ℕ) (status another : ℕ) → SetsNoStop lines → WritesNothing lines → ShowsScript lines text status → ShowsScript lines other another → text ≡ other }
+    ensures status { (lines : List (List ℕ)) (text other : List ℕ) (status another : ℕ) → SetsNoStop lines → WritesNothing lines → ShowsScript lines text status → ShowsScript lines other another → status ≡ another }
+    ensures hints { (lines : List (List ℕ)) (hints other : List ℕ) (status another : ℕ) → SetsNoStop lines → WritesNothing lines → HintsScript lines hints status → HintsScript lines other another → hints ≡ other }
 {}
 
 /// A check of a region by so many workers has one output and one exit status.

@@ -14,6 +14,11 @@ pub data Request : Type 0 where
   ListNames : (path : List ℕ) → Request
   Stat : (path : List ℕ) → Request
   Read : (path : List ℕ) (offset count : ℕ) → Request
+  Create : (cpu : ℕ) (path : List ℕ) → Request
+  MakeDirectory : (cpu : ℕ) (path : List ℕ) → Request
+  Write : (cpu : ℕ) (path : List ℕ) (offset count byte : ℕ) → Request
+  SetSize : (cpu : ℕ) (path : List ℕ) (size : ℕ) → Request
+  SetAttributes : (cpu : ℕ) (path : List ℕ) (mode owner group : ℕ) → Request
   Tree : Request
   Free : Request
   Faults : Request

@@ -1,10 +1,10 @@
 -- The commands of a script, a row for each.
 use Rattle.std.specs.Prelude.{ℕ, List, [], ◌∷◌, codes}
 use Rattle.nv_region.specs.declared.memory.Keep.{Keep}
-use Rattle.nv_line.specs.Request.{Request, Format, Time, Poke, Cut, Recover, Replay, ListNames, Stat, Read, Tree, Free, Faults, Report, Peek, Stop}
+use Rattle.nv_line.specs.Request.{Request, Format, Time, Poke, Cut, Recover, Replay, ListNames, Stat, Read, Create, MakeDirectory, Write, SetSize, SetAttributes, Tree, Free, Faults, Report, Peek, Stop}
 use Rattle.nv_line.specs.declared.reasons.Form.{Form}
 use Rattle.nv_line.specs.declared.reasons.Form.TheVariants as forms
-use Rattle.nv_line.specs.Shapes.{Moment, Shape, End, Numbers, Then, Number, Path, When, Keeping, Makes, fuse_by}
+use Rattle.nv_line.specs.Shapes.{Moment, Shape, End, Numbers, Then, Number, UpTo, Path, When, Keeping, Makes, fuse_by}
 
 -- A command: its name, the form in which a user reads of it, the words behind its name, and the request that they make.
 pub record Row : Type 0 where
@@ -35,6 +35,26 @@ one_path = Then Path End
 abbrev pub path_and_two_numbers : Shape
 path_and_two_numbers = Then Path two_numbers
 
+-- the CPU whose pool gives blocks, and a path
+abbrev pub cpu_and_path : Shape
+cpu_and_path = Then Number one_path
+
+-- the same, and the size of a file
+abbrev pub cpu_path_and_number : Shape
+cpu_path_and_number = Then Number (Then Path one_number)
+
+-- the most of 32 bits
+abbrev pub most_32 : ℕ
+most_32 = 4294967295
+
+-- the same, and a mode, an owner and a group
+abbrev pub attribute_words : Shape
+attribute_words = Then Number (Then Path (Then (UpTo most_32) (Then (UpTo most_32) (Then (UpTo most_32) End))))
+
+-- the same, and an offset, a count of at most the bytes that a file can have, and a byte
+abbrev pub write_words : Shape
+write_words = Then Number (Then Path (Then Number (Then (UpTo 1073741824) (Then (UpTo 255) End))))
+
 -- when a stop comes, and what it keeps
 abbrev pub stop_words : Shape
 stop_words = Then When (Then Number (Then Keeping End))
@@ -43,13 +63,22 @@ stop_words = Then When (Then Number (Then Keeping End))
 abbrev pub stop_of : Moment → ℕ → Keep → Request
 stop_of moment n keep = Stop (fuse_by moment n) keep
 
+-- the rows of the file calls that write
+unfoldable pub writing_rows : List Row
+writing_rows = row (codes "create") forms.Create cpu_and_path Create
+    ∷ row (codes "mkdir") forms.MakeDirectory cpu_and_path MakeDirectory
+    ∷ row (codes "write") forms.Write write_words Write
+    ∷ row (codes "size") forms.SetSize cpu_path_and_number SetSize
+    ∷ row (codes "attr") forms.SetAttributes attribute_words SetAttributes
+    ∷ []
+
 -- the rows of stops and of the file calls
 unfoldable pub more_rows : List Row
 more_rows = row (codes "stop") forms.Stop stop_words stop_of
     ∷ row (codes "list") forms.ListNames one_path ListNames
     ∷ row (codes "stat") forms.Stat one_path Stat
     ∷ row (codes "read") forms.Read path_and_two_numbers Read
-    ∷ []
+    ∷ writing_rows
 
 -- the rows of all commands
 unfoldable pub rows : List Row

@@ -48,6 +48,38 @@ pub enum Command<'a> {
         offset: u64,
         count: u64,
     },
+    /// Make a file, with blocks of this CPU's pool first.
+    Create {
+        cpu: u64,
+        path: &'a [u8],
+    },
+    /// Make a directory.
+    MakeDirectory {
+        cpu: u64,
+        path: &'a [u8],
+    },
+    /// Write so many copies of a byte into a file, from an offset on.
+    Write {
+        cpu: u64,
+        path: &'a [u8],
+        offset: u64,
+        count: u64,
+        byte: u8,
+    },
+    /// Cut a file, or lengthen it by zeros.
+    SetSize {
+        cpu: u64,
+        path: &'a [u8],
+        size: u64,
+    },
+    /// Set the mode, owner and group of an inode.
+    SetAttributes {
+        cpu: u64,
+        path: &'a [u8],
+        mode: u32,
+        owner: u32,
+        group: u32,
+    },
     /// Print the inodes in use.
     Tree,
     /// Print the free blocks of each CPU.

@@ -22,6 +22,11 @@ pub enum Form {
     ListNames,
     Stat,
     Read,
+    Create,
+    MakeDirectory,
+    Write,
+    SetSize,
+    SetAttributes,
     Tree,
     Free,
     Faults,
@@ -58,6 +63,11 @@ impl Form {
             Form::ListNames => "list PATH",
             Form::Stat => "stat PATH",
             Form::Read => "read PATH OFFSET COUNT",
+            Form::Create => "create CPU PATH",
+            Form::MakeDirectory => "mkdir CPU PATH",
+            Form::Write => "write CPU PATH OFFSET COUNT BYTE",
+            Form::SetSize => "size CPU PATH N",
+            Form::SetAttributes => "attr CPU PATH MODE OWNER GROUP",
             Form::Tree => "tree",
             Form::Free => "free",
             Form::Faults => "faults",
@@ -117,7 +127,7 @@ impl fmt::Display for Reason {
                 f.write_str("it ends with a carriage return, byte 13; byte 10 alone ends a line")
             }
             Reason::NoCommand => f.write_str(
-                "expected time, format, recover, replay, poke, cut, list, stat, read, tree, free, faults, report, peek or stop",
+                "expected time, format, recover, replay, poke, cut, list, stat, read, create, mkdir, write, size, attr, tree, free, faults, report, peek or stop",
             ),
             Reason::Form(form) => write!(
                 f,

@@ -3,9 +3,9 @@
 ghost use Rattle.std.specs.Prelude.{◌≡◌, ℕ, List, map, IfOk, option_map};
 ghost use Rattle.nv_line.specs.Request as request;
 ghost use Rattle.nv_line.specs.Request.{Request};
-ghost use Rattle.nv_line.specs.Reading.{numbers_of, moment_of, keep_of, request_by};
-ghost use Rattle.nv_line.specs.Shapes.{End, Then, Number, Numbers, fuse_by};
-ghost use Rattle.nv_line.specs.Table.{one_number, two_numbers, three_numbers, one_path, path_and_two_numbers, stop_words, stop_of};
+ghost use Rattle.nv_line.specs.Reading.{numbers_of, value_of, moment_of, keep_of, request_by};
+ghost use Rattle.nv_line.specs.Shapes.{End, Then, Number, UpTo, Path, Numbers, fuse_by};
+ghost use Rattle.nv_line.specs.Table.{one_number, two_numbers, three_numbers, one_path, path_and_two_numbers, cpu_and_path, cpu_path_and_number, most_32, attribute_words, write_words, stop_words, stop_of};
 
 use crate::numeral::read_number;
 use nv_region::{Fuse, Keep};
@@ -73,6 +73,101 @@ pub(crate) fn path_and_two_numbers<'a>(words: &[&'a [u8]]) -> Option<(&'a [u8], 
         return None;
     }
     Some((path, read_number(first)?, read_number(second)?))
+}
+
+/// A number of at most this.
+fn number_up_to(most: u64, word: &[u8]) -> Option<u64>
+    ensures { result ≡ value_of (UpTo most) word.now }
+{
+    let number = read_number(word)?;
+    if number <= most { Some(number) } else { None }
+}
+
+/// A number of 32 bits.
+fn small_number(word: &[u8]) -> Option<u32>
+    ensures { result ≡ value_of (UpTo most_32) word.now }
+{
+    let number = number_up_to(4294967295, word)?;
+    Some(number as u32)
+}
+
+/// The bytes of a path.
+fn path<'a>(word: &'a [u8]) -> Option<&'a [u8]>
+    ensures { option_map (λ path. path.now) result ≡ value_of Path word.now }
+{
+    if word.is_empty() { None } else { Some(word) }
+}
+
+#[tactic(auto, unfolding(crate::specs::Reading::request_by))]
+pub(crate) fn cpu_and_path<'a>(words: &[&'a [u8]]) -> Option<(u64, &'a [u8])>
+    ensures { (make : ℕ → List ℕ → Request) → option_map (λ v. make v.0 v.1.now) result ≡ request_by cpu_and_path make (map (λ word. word.now) words.now) }
+{
+    let [cpu, name] = words else {
+        return None;
+    };
+    Some((read_number(cpu)?, path(name)?))
+}
+
+#[tactic(auto, unfolding(crate::specs::Reading::request_by))]
+pub(crate) fn cpu_path_and_number<'a>(words: &[&'a [u8]]) -> Option<(u64, &'a [u8], u64)>
+    ensures { (make : ℕ → List ℕ → ℕ → Request) → option_map (λ v. make v.0 v.1.now v.2) result ≡ request_by cpu_path_and_number make (map (λ word. word.now) words.now) }
+{
+    let [cpu, name, number] = words else {
+        return None;
+    };
+    Some((read_number(cpu)?, path(name)?, read_number(number)?))
+}
+
+/// What `attr` sets.
+#[derive(Drop)]
+pub(crate) struct AttributeWords<'a> {
+    pub(crate) cpu: u64,
+    pub(crate) path: &'a [u8],
+    pub(crate) mode: u32,
+    pub(crate) owner: u32,
+    pub(crate) group: u32,
+}
+
+#[tactic(auto, unfolding(crate::specs::Reading::request_by))]
+pub(crate) fn attribute_words<'a>(words: &[&'a [u8]]) -> Option<AttributeWords<'a>>
+    ensures { (make : ℕ → List ℕ → ℕ → ℕ → ℕ → Request) → option_map (λ v. make v.cpu v.path.now v.mode v.owner v.group) result ≡ request_by attribute_words make (map (λ word. word.now) words.now) }
+{
+    let [cpu, name, mode, owner, group] = words else {
+        return None;
+    };
+    Some(AttributeWords {
+        cpu: read_number(cpu)?,
+        path: path(name)?,
+        mode: small_number(mode)?,
+        owner: small_number(owner)?,
+        group: small_number(group)?,
+    })
+}
+
+/// What `write` writes, and where.
+#[derive(Drop)]
+pub(crate) struct WriteWords<'a> {
+    pub(crate) cpu: u64,
+    pub(crate) path: &'a [u8],
+    pub(crate) offset: u64,
+    pub(crate) count: u64,
+    pub(crate) byte: u8,
+}
+
+#[tactic(auto, unfolding(crate::specs::Reading::request_by))]
+pub(crate) fn write_words<'a>(words: &[&'a [u8]]) -> Option<WriteWords<'a>>
+    ensures { (make : ℕ → List ℕ → ℕ → ℕ → ℕ → Request) → option_map (λ v. make v.cpu v.path.now v.offset v.count v.byte) result ≡ request_by write_words make (map (λ word. word.now) words.now) }
+{
+    let [cpu, name, offset, count, byte] = words else {
+        return None;
+    };
+    Some(WriteWords {
+        cpu: read_number(cpu)?,
+        path: path(name)?,
+        offset: read_number(offset)?,
+        count: number_up_to(1073741824, count)?,
+        byte: number_up_to(255, byte)? as u8,
+    })
 }
 
 #[tactic(auto, unfolding(crate::specs::Reading::moment_of))]

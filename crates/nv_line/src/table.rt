@@ -2,14 +2,14 @@
 
 ghost use Rattle.std.specs.Prelude.{◌≡◌, map, IfOk, option_map};
 ghost use Rattle.nv_line.specs.Reading.{read_by};
-ghost use Rattle.nv_line.specs.Table.{rows, more_rows};
+ghost use Rattle.nv_line.specs.Table.{rows, more_rows, writing_rows};
 ghost use Rattle.nv_line.specs.View.{view};
 
 use crate::commands::Command;
 use crate::reasons::Form;
 use crate::shapes::{
-    no_words, number_and_more, one_number, one_path, path_and_two_numbers, stop_words,
-    three_numbers, two_numbers,
+    attribute_words, cpu_and_path, cpu_path_and_number, no_words, number_and_more, one_number,
+    one_path, path_and_two_numbers, stop_words, three_numbers, two_numbers, write_words,
 };
 use std::alloc::{AllocError, Global};
 
@@ -141,6 +141,62 @@ fn more_row_named<'a>(name: &[u8], words: &[&'a [u8]]) -> Option<Row<'a>>
         });
         Some(Row {
             form: Form::Read,
+            command,
+        })
+    } else {
+        writing_row_named(name, words)
+    }
+}
+
+// The same of the file calls that write.
+#[tactic(auto, unfolding(crate::specs::Reading::read_by, crate::specs::Table::writing_rows))]
+fn writing_row_named<'a>(name: &[u8], words: &[&'a [u8]]) -> Option<Row<'a>>
+    ensures { option_map (λ row. (row.form, option_map view row.command)) result ≡ read_by writing_rows name.now (map (λ word. word.now) words.now) }
+{
+    if name == b"create".as_slice() {
+        let command = cpu_and_path(words).map(|(cpu, path)| Command::Create { cpu, path });
+        Some(Row {
+            form: Form::Create,
+            command,
+        })
+    } else if name == b"mkdir".as_slice() {
+        let command = cpu_and_path(words).map(|(cpu, path)| Command::MakeDirectory { cpu, path });
+        Some(Row {
+            form: Form::MakeDirectory,
+            command,
+        })
+    } else if name == b"write".as_slice() {
+        let command = write_words(words).map(|found| Command::Write {
+            cpu: found.cpu,
+            path: found.path,
+            offset: found.offset,
+            count: found.count,
+            byte: found.byte,
+        });
+        Some(Row {
+            form: Form::Write,
+            command,
+        })
+    } else if name == b"size".as_slice() {
+        let command = cpu_path_and_number(words).map(|(cpu, path, size)| Command::SetSize {
+            cpu,
+            path,
+            size,
+        });
+        Some(Row {
+            form: Form::SetSize,
+            command,
+        })
+    } else if name == b"attr".as_slice() {
+        let command = attribute_words(words).map(|found| Command::SetAttributes {
+            cpu: found.cpu,
+            path: found.path,
+            mode: found.mode,
+            owner: found.owner,
+            group: found.group,
+        });
+        Some(Row {
+            form: Form::SetAttributes,
             command,
         })
     } else {

@@ -36,13 +36,13 @@ pub record Alike (t u : Tree) : Type 0 where
 
 -- ---- rows
 
-abbrev AreSame : Option Row → Option Row → Type 0
+abbrev pub AreSame : Option Row → Option Row → Type 0
 AreSame None None = Unit {0}
 AreSame None (Some b) = ⊥
 AreSame (Some a) None = ⊥
 AreSame (Some a) (Some b) = SameRow a b
 
-rows_at : (xs ys : List Row) → SameRows xs ys → (i : ℕ) → AreSame (row_of xs i) (row_of ys i)
+pub rows_at : (xs ys : List Row) → SameRows xs ys → (i : ℕ) → AreSame (row_of xs i) (row_of ys i)
 rows_at [] [] same i = tt
 rows_at [] (y ∷ ys) same i = absurd same
 rows_at (x ∷ xs) [] same i = absurd same
@@ -122,7 +122,7 @@ module _ (t u : Tree) (alike : Alike t u) where
     by None = refl
     by (Some i) = on i
 
-  walk_alike : (names : List (List ℕ)) (d : ℕ) → walk u d names ≡ walk t d names
+  pub walk_alike : (names : List (List ℕ)) (d : ℕ) → walk u d names ≡ walk t d names
   walk_alike [] d = refl
   walk_alike (name ∷ []) d = alike.dirs d
   walk_alike (name ∷ next ∷ rest) d = ap (λ r. and_then r (λ e. and_then (or_not_found (name_in u e name)) (λ i. walk u i (next ∷ rest)))) (alike.dirs d) ∙ step_alike name next rest (walk_alike (next ∷ rest)) (as_directory d (t d))
@@ -135,7 +135,7 @@ module _ (t u : Tree) (alike : Alike t u) where
   last_alike names (Err e) = refl
   last_alike names (Ok d) = alike.names d (last_name names)
 
-  found_alike : (names : List (List ℕ)) → found u names ≡ found t names
+  pub found_alike : (names : List (List ℕ)) → found u names ≡ found t names
   found_alike [] = in_use_alike (Some 1)
   found_alike (name ∷ names) = ap (in_use u) (ap (λ r. last_in u r (name ∷ names)) (walk_alike (name ∷ names) 1) ∙ last_alike (name ∷ names) (walk t 1 (name ∷ names))) ∙ in_use_alike (last_in t (walk t 1 (name ∷ names)) (name ∷ names))
 
@@ -143,7 +143,7 @@ module _ (t u : Tree) (alike : Alike t u) where
   stat_tests_alike None = refl
   stat_tests_alike (Some names) = rw (walk_alike names 1, found_alike names) refl
 
-  directory_alike : (o : Option ℕ) → option_map_or (is_directory_at u) o false ≡ option_map_or (is_directory_at t) o false
+  pub directory_alike : (o : Option ℕ) → option_map_or (is_directory_at u) o false ≡ option_map_or (is_directory_at t) o false
   directory_alike None = refl
   directory_alike (Some i) = alike.kinds i
 

@@ -2,3 +2,9 @@ pub mod Moved
 pub mod Told
 pub mod Alike
 pub mod OneStep
+mod SameShown
+mod Settled
+mod AlwaysTakes
+mod Calling
+mod Asking
+mod OneCall

@@ -2,10 +2,12 @@
 use Rattle.std.proofs.Common.{◌≡◌, ◌⊎◌, inl, inr, ℕ, Bool, true, false, Option, Some, None, List, [], nat_le, refl, ap, sym, subst, ◌∙◌}
 use Rattle.nv_tree.specs.Tree as trees
 use Rattle.nv_tree.specs.Refusals.{Path}
+use Rattle.nv_super.specs.declared.kind.Kind.TheVariants.{File, Directory}
 use Rattle.nv_tree.proofs.Texts.{says_one}
 use Rattle.nv_calls.specs.Seen.{tree_of}
 use Rattle.nv_session.proofs.Alike.{Alike, alike_rows, stat_one, names_one, bytes_one}
-use Rattle.std.specs.Prelude.{MatchBool, codes}
+use Rattle.nv_session.proofs.OneCall.{AskedOnce, called_text, create_one, write_one, size_one, attributes_one}
+use Rattle.std.specs.Prelude.{MatchBool, codes, replicate}
 use Rattle.nv_region.specs.Region.{Region, size, put}
 use Rattle.nv_region.specs.declared.memory.Fuse.{Fuse}
 use Rattle.nv_region.specs.declared.memory.Keep.{Keep}
@@ -16,7 +18,7 @@ use Rattle.nv_format.specs.Format as formats
 use Rattle.nv_format.specs.declared.formatting.FormatRefusal.{FormatRefusal}
 use Rattle.nv_format.proofs.OneAnswer.{one_refusal, not_prevented}
 use Rattle.nv_format.proofs.Determined.{formatted_only}
-use Rattle.nv_line.specs.Request.{Request, Format, Time, Poke, Cut, Recover, Replay, ListNames, Stat, Read, Tree, Free, Faults, Report, Peek, Stop}
+use Rattle.nv_line.specs.Request.{Request, Format, Time, Poke, Cut, Recover, Replay, ListNames, Stat, Read, Create, MakeDirectory, Write, SetSize, SetAttributes, Tree, Free, Faults, Report, Peek, Stop}
 use Rattle.nv_outcome.specs.Outcome.{Outcome}
 use Rattle.nv_outcome.specs.Same.{SameOutcome}
 use Rattle.nv_outcome.proofs.OnlyOne.{same_outcome}
@@ -27,7 +29,8 @@ use Rattle.nv_report.specs.Last.{how_it_went}
 use Rattle.nv_report.specs.declared.part.Part.{Part}
 use Rattle.nv_report.specs.declared.part.Part.TheVariants as parts
 use Rattle.nv_report.proofs.OneText.{recovered_one, part_one}
-use Rattle.nv_session.specs.Machine.{State, Step, Does, IsRefusedAs, Replaces, Unmounts, front, MayStop, has_word, StopsRegion, StopsFormat, StopsRecovery, Recovers, Replays, ReadsMounted, TellsNames, TellsStat, TellsBytes, RefusesSuper, Mounts, RecoversRegion, ShowsMounted, PokesRegion, CutsRegion, Formats}
+use Rattle.nv_session.specs.Machine.{State, Step, Does, IsRefusedAs, Replaces, Unmounts, front, MayStop, has_word, StopsRegion, StopsFormat, StopsRecovery, Recovers, Replays, ReadsMounted, TellsNames, TellsStat, TellsBytes, RefusesSuper, Mounts, RecoversRegion, ShowsMounted, PokesRegion, CutsRegion, Formats, Calls, CallsMounted, StopsMounted, file_mode, directory_mode, writes}
+use Rattle.nv_session.specs.Calls.{Asks, Makes, Logs, LogsBytes, asks_create, asks_write, asks_size, asks_attributes, makes_inode, makes_bytes, makes_size, makes_attributes, logs_inode, logs_size, logs_attributes}
 
 -- one text and one state are told
 abbrev pub IsOne : (List ℕ → State → Type 0) → Type 0
@@ -106,27 +109,67 @@ reads_one Tells one (Some R) (Some S) path old s t m n p q =
     let same = says_one path q.2 p.2 q.3 p.3 in
     (one (tree_of S p.0.rows) (tree_of S q.0.rows) alike p.2 s t p.4 (subst (λ (x : Path). Tells (tree_of S q.0.rows) x t) same q.4), p.5 ∙ sym q.5)
 
--- what a command prints and leaves that no stop was set for
-does_one : (old : State) (request : Request) → IsOne (λ s m. Does false request old s m)
-does_one old (Format cpus blocks tables) = may_one (Formats cpus blocks tables) (StopsFormat cpus blocks tables) old (format_one cpus blocks tables old)
-does_one old (Time time) = given_one _ _
-does_one old (Poke at value) = poke_one old.region at value old
-does_one old (Cut length) = cut_one old.region length old
-does_one old (Recover workers) = may_one (Recovers workers) (StopsRecovery workers []) old (recovery_one old.region workers [] old)
-does_one old (Replay workers schedule) = may_one (Replays workers schedule) (StopsRecovery workers schedule) old (recovery_one old.region workers schedule old)
-does_one old (ListNames path) = reads_one TellsNames names_one old.mounted old.region path old
-does_one old (Stat path) = reads_one TellsStat stat_one old.mounted old.region path old
-does_one old (Read path offset count) = reads_one (TellsBytes offset count) (λ t u alike. bytes_one t u alike offset count) old.mounted old.region path old
-does_one old Tree = mounted_one old.mounted parts.Tree old
-does_one old Free = mounted_one old.mounted parts.Free old
-does_one old Faults = mounted_one old.mounted parts.Faults old
-does_one old Report = mounted_one old.mounted parts.Report old
-does_one old (Peek at) = given_one _ _
-does_one old (Stop fuse keep) = given_one _ _
+-- what a command prints and leaves that no stop was set for, and that is no call which writes
+does_one : (old : State) (request : Request) → writes request ≡ false → IsOne (λ s m. Does false request old s m)
+does_one old (Format cpus blocks tables) reads = may_one (Formats cpus blocks tables) (StopsFormat cpus blocks tables) old (format_one cpus blocks tables old)
+does_one old (Time time) reads = given_one _ _
+does_one old (Poke at value) reads = poke_one old.region at value old
+does_one old (Cut length) reads = cut_one old.region length old
+does_one old (Recover workers) reads = may_one (Recovers workers) (StopsRecovery workers []) old (recovery_one old.region workers [] old)
+does_one old (Replay workers schedule) reads = may_one (Replays workers schedule) (StopsRecovery workers schedule) old (recovery_one old.region workers schedule old)
+does_one old (ListNames path) reads = reads_one TellsNames names_one old.mounted old.region path old
+does_one old (Stat path) reads = reads_one TellsStat stat_one old.mounted old.region path old
+does_one old (Read path offset count) reads = reads_one (TellsBytes offset count) (λ t u alike. bytes_one t u alike offset count) old.mounted old.region path old
+does_one old (Create cpu path) reads = absurd (cc)
+does_one old (MakeDirectory cpu path) reads = absurd (cc)
+does_one old (Write cpu path offset count byte) reads = absurd (cc)
+does_one old (SetSize cpu path bytes) reads = absurd (cc)
+does_one old (SetAttributes cpu path mode owner group) reads = absurd (cc)
+does_one old Tree reads = mounted_one old.mounted parts.Tree old
+does_one old Free reads = mounted_one old.mounted parts.Free old
+does_one old Faults reads = mounted_one old.mounted parts.Faults old
+does_one old Report reads = mounted_one old.mounted parts.Report old
+does_one old (Peek at) reads = given_one _ _
+does_one old (Stop fuse keep) reads = given_one _ _
 
 -- the same of a state
-pub step_one : (old : State) (request : Request) → old.armed ≡ false → IsOne (λ s m. Step old request s m)
-step_one old request unarmed = subst (λ (b : Bool). IsOne (λ s m. Does b request (record old { armed = false }) s m)) (sym unarmed) (does_one (record old { armed = false }) request)
+pub step_one : (old : State) (request : Request) → old.armed ≡ false → writes request ≡ false → IsOne (λ s m. Step old request s m)
+step_one old request unarmed reads = subst (λ (b : Bool). IsOne (λ s m. Does b request (record old { armed = false }) s m)) (sym unarmed) (does_one (record old { armed = false }) request reads)
+
+-- ---- the text of any command
+
+-- without a stop, a call prints one text
+call_text : (asks : Asks) (makes : Makes) (logs : Logs) (path : List ℕ) → AskedOnce asks → (old m n : State) (s t : List ℕ) → Calls false asks makes logs path old s m → Calls false asks makes logs path old t n → s ≡ t
+call_text asks makes logs path one old m n s t (inl p) (inl q) = called_text asks makes logs path one old.mounted old.region old m n s t p q
+call_text asks makes logs path one old m n s t (inl p) (inr q) = absurd (let never = q.0 in cc)
+call_text asks makes logs path one old m n s t (inr p) q = absurd (let never = p.0 in cc)
+
+does_text : (old : State) (request : Request) (m n : State) (s t : List ℕ) → Does false request old s m → Does false request old t n → s ≡ t
+does_text old (Create cpu path) m n s t p q = call_text (asks_create cpu) (makes_inode File cpu file_mode old.time) (logs_inode File cpu file_mode old.time) path (λ S m k same count. create_one S m k same cpu) old m n s t p q
+does_text old (MakeDirectory cpu path) m n s t p q = call_text (asks_create cpu) (makes_inode Directory cpu directory_mode old.time) (logs_inode Directory cpu directory_mode old.time) path (λ S m k same count. create_one S m k same cpu) old m n s t p q
+does_text old (Write cpu path offset count byte) m n s t p q = call_text (asks_write cpu offset count old.time) (makes_bytes offset (replicate count byte) old.time) (LogsBytes cpu offset count old.time) path (λ S m k same counts. write_one S m k same counts cpu offset count old.time) old m n s t p q
+does_text old (SetSize cpu path bytes) m n s t p q = call_text (asks_size cpu bytes) (makes_size bytes old.time) (logs_size bytes old.time) path (λ S m k same count. size_one S m k same cpu bytes) old m n s t p q
+does_text old (SetAttributes cpu path mode owner group) m n s t p q = call_text (asks_attributes cpu) (makes_attributes mode owner group old.time) (logs_attributes mode owner group old.time) path (λ S m k same count. attributes_one S m k same cpu) old m n s t p q
+does_text old (Format cpus blocks tables) m n s t p q = (does_one old (Format cpus blocks tables) refl s t m n p q).0
+does_text old (Time time) m n s t p q = (does_one old (Time time) refl s t m n p q).0
+does_text old (Poke at value) m n s t p q = (does_one old (Poke at value) refl s t m n p q).0
+does_text old (Cut length) m n s t p q = (does_one old (Cut length) refl s t m n p q).0
+does_text old (Recover workers) m n s t p q = (does_one old (Recover workers) refl s t m n p q).0
+does_text old (Replay workers schedule) m n s t p q = (does_one old (Replay workers schedule) refl s t m n p q).0
+does_text old (ListNames path) m n s t p q = (does_one old (ListNames path) refl s t m n p q).0
+does_text old (Stat path) m n s t p q = (does_one old (Stat path) refl s t m n p q).0
+does_text old (Read path offset count) m n s t p q = (does_one old (Read path offset count) refl s t m n p q).0
+does_text old Tree m n s t p q = (does_one old Tree refl s t m n p q).0
+does_text old Free m n s t p q = (does_one old Free refl s t m n p q).0
+does_text old Faults m n s t p q = (does_one old Faults refl s t m n p q).0
+does_text old Report m n s t p q = (does_one old Report refl s t m n p q).0
+does_text old (Peek at) m n s t p q = (does_one old (Peek at) refl s t m n p q).0
+does_text old (Stop fuse keep) m n s t p q = (does_one old (Stop fuse keep) refl s t m n p q).0
+
+pub step_text : (old : State) (request : Request) → old.armed ≡ false → (m n : State) (s t : List ℕ) → Step old request s m → Step old request t n → s ≡ t
+step_text old request unarmed m n s t p q =
+    let now : State = record old { armed = false } in
+    does_text now request m n s t (subst (λ (b : Bool). Does b request now s m) unarmed p) (subst (λ (b : Bool). Does b request now t n) unarmed q)
 
 -- ---- what is armed
 
@@ -141,6 +184,21 @@ read_unarmed : (Tells : trees.Tree → Path → List ℕ → Type 0) (mounted re
 read_unarmed Tells None region path old m s h = ap armed_of h.1
 read_unarmed Tells (Some R) None path old m s h = absurd h
 read_unarmed Tells (Some R) (Some S) path old m s h = ap armed_of h.5
+
+called_unarmed : (asks : Asks) (makes : Makes) (logs : Logs) (path : List ℕ) (mounted region : Option Region) (old m : State) (s : List ℕ) → CallsMounted asks makes logs path mounted region old s m → m.armed ≡ old.armed
+called_unarmed asks makes logs path None region old m s h = ap armed_of h.1
+called_unarmed asks makes logs path (Some R) None old m s h = absurd h
+called_unarmed asks makes logs path (Some R) (Some S) old m s (inl h) = ap armed_of h.2
+called_unarmed asks makes logs path (Some R) (Some S) old m s (inr h) = ap armed_of h.8
+
+ended_unarmed : (mounted region : Option Region) (old m : State) (s : List ℕ) → StopsMounted mounted region old s m → m.armed ≡ old.armed
+ended_unarmed None region old m s h = absurd h
+ended_unarmed (Some R) None old m s h = absurd h
+ended_unarmed (Some R) (Some S) old m s h = ap armed_of h.3
+
+call_unarmed : (a : Bool) (asks : Asks) (makes : Makes) (logs : Logs) (path : List ℕ) (old m : State) (s : List ℕ) → Calls a asks makes logs path old s m → m.armed ≡ old.armed
+call_unarmed a asks makes logs path old m s (inl h) = called_unarmed asks makes logs path old.mounted old.region old m s h
+call_unarmed a asks makes logs path old m s (inr h) = ended_unarmed old.mounted old.region old m s h.1
 
 formatted_unarmed : (a : Bool) (cpus blocks tables : ℕ) (old m : State) (s : List ℕ) → MayStop a (Formats cpus blocks tables) (StopsFormat cpus blocks tables) old s m → m.armed ≡ old.armed
 formatted_unarmed a cpus blocks tables old m s (inl (inl h)) = ap armed_of h.3.1
@@ -189,6 +247,11 @@ does_unarmed a (Replay workers schedule) other old m s h = recovery_unarmed a wo
 does_unarmed a (ListNames path) other old m s h = read_unarmed TellsNames old.mounted old.region path old m s h
 does_unarmed a (Stat path) other old m s h = read_unarmed TellsStat old.mounted old.region path old m s h
 does_unarmed a (Read path offset count) other old m s h = read_unarmed (TellsBytes offset count) old.mounted old.region path old m s h
+does_unarmed a (Create cpu path) other old m s h = call_unarmed a (asks_create cpu) (makes_inode File cpu file_mode old.time) (logs_inode File cpu file_mode old.time) path old m s h
+does_unarmed a (MakeDirectory cpu path) other old m s h = call_unarmed a (asks_create cpu) (makes_inode Directory cpu directory_mode old.time) (logs_inode Directory cpu directory_mode old.time) path old m s h
+does_unarmed a (Write cpu path offset count byte) other old m s h = call_unarmed a (asks_write cpu offset count old.time) (makes_bytes offset (replicate count byte) old.time) (LogsBytes cpu offset count old.time) path old m s h
+does_unarmed a (SetSize cpu path bytes) other old m s h = call_unarmed a (asks_size cpu bytes) (makes_size bytes old.time) (logs_size bytes old.time) path old m s h
+does_unarmed a (SetAttributes cpu path mode owner group) other old m s h = call_unarmed a (asks_attributes cpu) (makes_attributes mode owner group old.time) (logs_attributes mode owner group old.time) path old m s h
 does_unarmed a Tree other old m s h = shown_unarmed old.mounted parts.Tree old m s h
 does_unarmed a Free other old m s h = shown_unarmed old.mounted parts.Free old m s h
 does_unarmed a Faults other old m s h = shown_unarmed old.mounted parts.Faults old m s h

@@ -11,7 +11,9 @@ use Rattle.nv_format.specs.Format.{IsFormatRefusal, CanFormat, IsFormatted, Form
 use Rattle.nv_format.specs.Format as formats
 use Rattle.nv_format.specs.declared.formatting.FormatRefusal.{FormatRefusal}
 use Rattle.nv_format.specs.declared.formatting.FormatRefusal.TheVariants.{Stopped}
-use Rattle.nv_line.specs.Request.{Request, Format, Time, Poke, Cut, Recover, Replay, ListNames, Stat, Read, Tree, Free, Faults, Report, Peek, Stop}
+use Rattle.nv_line.specs.Request.{Request, Format, Time, Poke, Cut, Recover, Replay, ListNames, Stat, Read, Create, MakeDirectory, Write, SetSize, SetAttributes, Tree, Free, Faults, Report, Peek, Stop}
+use Rattle.nv_super.specs.declared.kind.Kind.TheVariants.{File, Directory}
+use Rattle.nv_session.specs.Calls.{Asks, Makes, Logs, Asked, LeavesTree, LogsBytes, seen_in, asks_create, asks_write, asks_size, asks_attributes, makes_inode, makes_bytes, makes_size, makes_attributes, logs_inode, logs_size, logs_attributes}
 use Rattle.nv_super.specs.FaultText.{super_fault_name}
 use Rattle.nv_tree.specs.Path.{Says}
 use Rattle.nv_tree.specs.Tree as trees
@@ -222,6 +224,62 @@ ReadsMounted Tells (Some R) (Some S) path old text new = (o : Outcome) × IsOutc
 abbrev pub Reads : (trees.Tree → Path → List ℕ → Type 0) → List ℕ → State → List ℕ → State → Type 0
 Reads Tells path old text new = ReadsMounted Tells old.mounted old.region path old text new
 
+-- ---- file calls that write
+
+-- the call is refused by the first of its tests that holds, and leaves all as it was
+abbrev pub RefusesCall : Asks → Region → Region → List ℕ → State → List ℕ → State → Type 0
+RefusesCall asks R S path old text new = (a : Asked asks R S path) × TellsRefusal a.tests text × (new ≡ old)
+
+-- No test holds: the call is done, and the region that it leaves is mounted.
+abbrev pub DoesCall : Asks → Makes → Logs → Region → Region → List ℕ → State → List ℕ → State → Type 0
+DoesCall asks makes logs R S path old text new = (a : Asked asks R S path) × (first_refusal a.tests ≡ None) × (names : List (List ℕ)) × (a.path_is ≡ Some names)
+    × (T : Region) × LeavesTree S T (seen_in a) (makes S (seen_in a) names) × logs S (seen_in a) names T × (text ≡ ok_line) × (new ≡ record old { region = Some T; mounted = Some T })
+
+-- a call on what is mounted, if something is: the region that came to the recovery, and the one that there is
+abbrev pub CallsMounted : Asks → Makes → Logs → List ℕ → Option Region → Option Region → State → List ℕ → State → Type 0
+CallsMounted asks makes logs path None region old text new = IsRefusedAs (codes "NotMounted") old text new
+CallsMounted asks makes logs path (Some R) None old text new = ⊥
+CallsMounted asks makes logs path (Some R) (Some S) old text new = RefusesCall asks R S path old text new ⊎ DoesCall asks makes logs R S path old text new
+
+-- A call on a mounted region is stopped: it leaves a region of the same length, and nothing is mounted.
+abbrev pub StopsMounted : Option Region → Option Region → State → List ℕ → State → Type 0
+StopsMounted None region old text new = ⊥
+StopsMounted (Some R) None old text new = ⊥
+StopsMounted (Some R) (Some S) old text new = (T : Region) × (size T ≡ size S) × (text ≡ stopped_line) × (new ≡ record old { region = Some T; mounted = None })
+
+-- a call that writes, which is done or refused, or stopped where it may be
+abbrev pub Calls : Bool → Asks → Makes → Logs → List ℕ → State → List ℕ → State → Type 0
+Calls armed asks makes logs path old text new = MayStop armed
+    (λ old text new. CallsMounted asks makes logs path old.mounted old.region old text new)
+    (λ old text new. StopsMounted old.mounted old.region old text new) old text new
+
+-- the modes of what `create` and `mkdir` make
+abbrev pub file_mode : ℕ
+file_mode = 420
+
+abbrev pub directory_mode : ℕ
+directory_mode = 493
+
+-- `create` makes a file
+abbrev pub Creates : Bool → ℕ → List ℕ → State → List ℕ → State → Type 0
+Creates armed cpu path old text new = Calls armed (asks_create cpu) (makes_inode File cpu file_mode old.time) (logs_inode File cpu file_mode old.time) path old text new
+
+-- `mkdir` makes a directory
+abbrev pub MakesDirectory : Bool → ℕ → List ℕ → State → List ℕ → State → Type 0
+MakesDirectory armed cpu path old text new = Calls armed (asks_create cpu) (makes_inode Directory cpu directory_mode old.time) (logs_inode Directory cpu directory_mode old.time) path old text new
+
+-- `write` writes so many copies of a byte
+abbrev pub Writes : Bool → ℕ → List ℕ → ℕ → ℕ → ℕ → State → List ℕ → State → Type 0
+Writes armed cpu path offset count byte old text new = Calls armed (asks_write cpu offset count old.time) (makes_bytes offset (replicate count byte) old.time) (LogsBytes cpu offset count old.time) path old text new
+
+-- `size` cuts a file, or lengthens it
+abbrev pub SetsSize : Bool → ℕ → List ℕ → ℕ → State → List ℕ → State → Type 0
+SetsSize armed cpu path bytes old text new = Calls armed (asks_size cpu bytes) (makes_size bytes old.time) (logs_size bytes old.time) path old text new
+
+-- `attr` sets mode, owner and group
+abbrev pub SetsAttributes : Bool → ℕ → List ℕ → ℕ → ℕ → ℕ → State → List ℕ → State → Type 0
+SetsAttributes armed cpu path mode owner group old text new = Calls armed (asks_attributes cpu) (makes_attributes mode owner group old.time) (logs_attributes mode owner group old.time) path old text new
+
 -- ---- commands
 
 -- What a command may print and leave, where it may be stopped or not.
@@ -235,6 +293,11 @@ Does armed (Replay workers schedule) old text new = MayStop armed (Replays worke
 Does armed (ListNames path) old text new = Reads TellsNames path old text new
 Does armed (Stat path) old text new = Reads TellsStat path old text new
 Does armed (Read path offset count) old text new = Reads (TellsBytes offset count) path old text new
+Does armed (Create cpu path) old text new = Creates armed cpu path old text new
+Does armed (MakeDirectory cpu path) old text new = MakesDirectory armed cpu path old text new
+Does armed (Write cpu path offset count byte) old text new = Writes armed cpu path offset count byte old text new
+Does armed (SetSize cpu path bytes) old text new = SetsSize armed cpu path bytes old text new
+Does armed (SetAttributes cpu path mode owner group) old text new = SetsAttributes armed cpu path mode owner group old text new
 Does armed Tree old text new = ShowsPart parts.Tree old text new
 Does armed Free old text new = ShowsPart parts.Free old text new
 Does armed Faults old text new = ShowsPart parts.Faults old text new
@@ -245,3 +308,12 @@ Does armed (Stop fuse keep) old text new = Arms fuse old text new
 -- What a command may print and leave. It may be stopped only right after a `stop`.
 abbrev pub Step : State → Request → List ℕ → State → Type 0
 Step old request text new = Does old.armed request (record old { armed = false }) text new
+
+-- whether the command is a call that writes
+abbrev pub writes : Request → Bool
+writes (Create cpu path) = true
+writes (MakeDirectory cpu path) = true
+writes (Write cpu path offset count byte) = true
+writes (SetSize cpu path bytes) = true
+writes (SetAttributes cpu path mode owner group) = true
+writes _ = false

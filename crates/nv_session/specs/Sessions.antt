@@ -1,14 +1,19 @@
 -- The states that a session may stand for, and how a command leads from one to the next.
-use Rattle.std.specs.Prelude.{◌≡◌, ℕ, Bool, not, false, List, Option, Some, None, ⊤}
+use Rattle.std.specs.Prelude.{◌≡◌, ◌≢◌, ◌⊎◌, ℕ, Bool, not, false, List, Option, Some, None, Result, Ok, Err, ⊤}
 use Rattle.nv_region.specs.Region.{Region, size}
 use Rattle.nv_region.specs.RegionState.{RegionState, is_off}
+use Rattle.nv_region.specs.declared.memory.Fuse.{Fuse}
+use Rattle.nv_region.specs.declared.memory.Fuse.TheVariants as fuses
 use Rattle.nv_super.specs.declared.owners.Owner.{Owner}
 use Rattle.nv_journal.specs.Undo.{undone}
 use Rattle.nv_outcome.specs.Outcome.{IsOutcome}
 use Rattle.nv_outcome.specs.Same.{lasting_outcome}
 use Rattle.nv_recover.specs.Answer.{outcome_of}
 use Rattle.nv_recover.specs.declared.recovered.Recovered.{Recovered}
-use Rattle.nv_text.specs.Answers.{refused_line, stopped_line}
+use Rattle.nv_tree.specs.Refusals.{refusal_word}
+use Rattle.nv_tree.specs.declared.refusal.Refusal.{Refusal as CallRefusal}
+use Rattle.nv_tree.specs.declared.refusal.Refusal.TheVariants as refusals
+use Rattle.nv_text.specs.Answers.{ok_line, refused_line, stopped_line}
 use Rattle.nv_text.specs.Refusals.{refusal_name}
 use Rattle.nv_report.specs.Last.{how_it_went}
 use Rattle.nv_report.specs.Texts.{recovered_text}
@@ -78,6 +83,29 @@ abbrev pub CanMount : Region → Option Answer → Type 0
 CanMount R None = ⊤
 CanMount R (Some (answers.Refused refusal)) = ⊤
 CanMount R (Some (answers.Recovered r)) = IsOutcome R (lasting_outcome (outcome_of r)) × (undone r.sup R ≡ R) × (r.free.sup ≡ r.sup)
+
+-- ---- calls that write
+
+-- this memory, with a fuse that hasn't burnt
+abbrev pub with_fuse : Fuse → Mount RegionState → Mount RegionState
+with_fuse fuse m = record m { memory = record m.memory { fuse = fuse; burnt = false } }
+
+-- What is mounted is taken out, with this fuse; where nothing is, nothing changes.
+abbrev pub TakesMount : Fuse → Session → Option (Mount RegionState) → Session → Type 0
+TakesMount fuse old None new = (mount_in old.store ≡ None) × (new ≡ old)
+TakesMount fuse old (Some m) new = (there : Mount RegionState) × (mount_in old.store ≡ Some there) × (m ≡ with_fuse fuse there) × (new ≡ record old { store = None })
+
+-- the mount is put in, without a fuse
+abbrev pub PutsMount : Mount RegionState → Session → Session → Type 0
+PutsMount m old new = new ≡ record old { store = Some (stores.Mounted (with_fuse fuses.Off m)) }
+
+-- What a call answered is told, and the mount is put in. After a stop a region of its length is, of which nothing is mounted.
+abbrev pub SettlesCall : {A : Type 0} → Mount RegionState → Result A CallRefusal → Session → List ℕ → Session → Type 0
+SettlesCall m (Ok done) old said new = (said ≡ ok_line) × PutsMount m old new
+SettlesCall m (Err refusal) old said new = ((refusal ≡ refusals.Stopped) × (said ≡ stopped_line) × (memory : RegionState) × (size memory.region ≡ size m.memory.region) × (new ≡ record old { store = Some (stores.Alone memory) }))
+    ⊎ ((refusal ≢ refusals.Stopped) × (refusal ≢ refusals.Memory) × (said ≡ refused_line (refusal_word refusal)) × PutsMount m old new)
+
+-- ---- recoveries
 
 -- A region is mounted with what a recovery found in it.
 pub record Mounts (R : Region) (r : Recovered) (old new : Session) : Type 0 where

@@ -56,7 +56,7 @@ pub fn read_text(
 }
 
 // Want of memory is told as no refusal.
-fn refused_call_text(alloc: Global, refusal: Refusal) -> Result<String, AllocError>
+pub fn refused_call_text(alloc: Global, refusal: Refusal) -> Result<String, AllocError>
     ensures { IfOk result (λ text. (refusal ≢ refusals.Memory) × (string_bytes text ≡ refused_line (refusal_word refusal))) }
 {
     if refusal == Refusal::Memory {

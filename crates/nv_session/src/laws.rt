@@ -2,10 +2,11 @@
 
 ghost use Rattle.std.specs.Prelude.{◌≡◌, ℕ, List, false};
 ghost use Rattle.nv_line.specs.Request.{Request};
-ghost use Rattle.nv_session.specs.Machine.{State, Step};
+ghost use Rattle.nv_session.specs.Machine.{State, Step, writes};
 
-/// From one state a command prints one text, and leaves one state, unless a stop was set for it.
+/// From one state a command prints one text, unless a stop was set for it. It leaves one state too, unless it is a file call
+/// that writes: which free blocks a log goes on over isn't said.
 pub fn one_step()
     ensures text { (old new next : State) (request : Request) (text other : List ℕ) → old.armed ≡ false → Step old request text new → Step old request other next → text ≡ other }
-    ensures left { (old new next : State) (request : Request) (text other : List ℕ) → old.armed ≡ false → Step old request text new → Step old request other next → new ≡ next }
+    ensures left { (old new next : State) (request : Request) (text other : List ℕ) → old.armed ≡ false → writes request ≡ false → Step old request text new → Step old request other next → new ≡ next }
 {}

@@ -1,10 +1,11 @@
 //! Sessions: what the commands of a script have made so far.
 //!
-//! `session` has a method for each command, which answers the text that the command prints. `making` makes a region, `store`
-//! keeps it, alone or mounted, and `stop` is a stop that is set for the next command. `files` has what the file calls print, and
-//! `texts` the answers that tell of no recovery.
+//! `session` has a method for each command, which answers the text that the command prints; those of the file calls that write
+//! stand in `calls`. `making` makes a region, `store` keeps it, alone or mounted, and `stop` is a stop that is set for the next
+//! command. `files` has what the file calls that read print, and `texts` the answers that tell of no recovery.
 #![tactic(auto)]
 
+mod calls;
 mod files;
 mod laws;
 mod making;

@@ -27,8 +27,8 @@ use std::thread::Threads;
 /// What a script has made so far.
 #[derive(Drop)]
 pub struct Session {
-    store: Option<Store>,
-    time: u64,
+    pub(crate) store: Option<Store>,
+    pub(crate) time: u64,
     last: Last,
     // What may come of the next command.
     stop: Stop,
@@ -116,6 +116,23 @@ impl Session {
                 offset,
                 count,
             } => self.read(alloc, path, offset, count),
+            Command::Create { cpu, path } => self.create(alloc, cpu, path, stop),
+            Command::MakeDirectory { cpu, path } => self.make_directory(alloc, cpu, path, stop),
+            Command::Write {
+                cpu,
+                path,
+                offset,
+                count,
+                byte,
+            } => self.write(alloc, cpu, path, offset, count, byte, stop),
+            Command::SetSize { cpu, path, size } => self.set_size(alloc, cpu, path, size, stop),
+            Command::SetAttributes {
+                cpu,
+                path,
+                mode,
+                owner,
+                group,
+            } => self.set_attributes(alloc, cpu, path, mode, owner, group, stop),
             Command::Tree => self.show(alloc, Part::Tree),
             Command::Free => self.show(alloc, Part::Free),
             Command::Faults => self.show(alloc, Part::Faults),
@@ -351,7 +368,7 @@ impl Session {
     }
 
     // Puts a region in, of which nothing is mounted.
-    fn put(&mut self, memory: MemRegion)
+    pub(crate) fn put(&mut self, memory: MemRegion)
         ensures { self.new ≡ record self.old { store = Some (stores.Alone memory) } }
     {
         self.store = Some(Store::Alone(memory));

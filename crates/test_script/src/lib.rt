@@ -21,3 +21,5 @@ mod stream;
 mod text;
 #[cfg(test)]
 mod words;
+#[cfg(test)]
+mod written;

@@ -2,6 +2,7 @@
 
 use crate::broken_streams::{Closing, Failing};
 use crate::damage::{JOURNALS, LOGS, NAMES, REPLAYED};
+use crate::written::{REFUSED, STOPPED, WRITTEN};
 use nv_cli::{ScriptError, run_script};
 use std::process::Abort;
 use std::test::Fail;
@@ -75,7 +76,7 @@ const FIRST_PATH: [(&str, &str, u8); 7] = [
 ];
 
 // Lines that are skipped, and lines that are no command.
-const LINES: [(&str, &str, u8); 16] = [
+const LINES: [(&str, &str, u8); 21] = [
     ("", "", 0),
     ("# a\n\ntime 7", "ok\n", 0),
     ("time 18446744073709551615\n", "ok\n", 0),
@@ -90,7 +91,12 @@ const LINES: [(&str, &str, u8); 16] = [
     ("peek +1\n", "bad line 1\n", 2),
     ("format 1 16\n", "bad line 1\n", 2),
     ("format 1 16 1 1\n", "bad line 1\n", 2),
-    ("create 0 /a\n", "bad line 1\n", 2),
+    ("link 0 /a /b\n", "bad line 1\n", 2),
+    ("create 0\n", "bad line 1\n", 2),
+    ("attr 0 / 4294967296 0 0\n", "bad line 1\n", 2),
+    ("attr 0 / 0 0 4294967296\n", "bad line 1\n", 2),
+    ("write 0 /a 0 1073741825 0\n", "bad line 1\n", 2),
+    ("write 0 /a 0 1 256\n", "bad line 1\n", 2),
     (
         "format 1 16 1\nrecover 1\n\t\nreport\n",
         "ok\nrecovered inodes 1 free 12 faults 0\nbad line 3\n",
@@ -404,6 +410,21 @@ fn a_mount_ends_where_the_region_changes(rt: HostRuntime) -> Result<(), Fail> {
 #[test]
 fn a_mounted_region_is_read_by_paths(rt: HostRuntime) -> Result<(), Fail> {
     check_rows(&rt, &FILES)
+}
+
+#[test]
+fn a_mounted_region_is_written_by_paths(rt: HostRuntime) -> Result<(), Fail> {
+    check_rows(&rt, &WRITTEN)
+}
+
+#[test]
+fn a_call_that_writes_is_stopped(rt: HostRuntime) -> Result<(), Fail> {
+    check_rows(&rt, &STOPPED)
+}
+
+#[test]
+fn a_call_that_writes_is_refused(rt: HostRuntime) -> Result<(), Fail> {
+    check_rows(&rt, &REFUSED)
 }
 
 #[test]

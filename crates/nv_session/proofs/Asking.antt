@@ -1,0 +1,164 @@
+-- The tests of each file call that writes, and what it leaves of the logs, by what the contract of the call says of them.
+use Rattle.std.proofs.Common.{◌≡◌, ◌⊎◌, inl, inr, ℕ, ◌+◌, ◌<◌, Bool, true, false, not, nat_lt, List, ◌∷◌, Option, Some, None, Result, Ok, Err, IfErr, OnOk, refl, sym, ap, subst, ◌∙◌, arith}
+use Rattle.std.proofs.Math.Logic.{∥∥₁_map}
+use Rattle.std.specs.Prelude.{⊤}
+use Rattle.std.specs.Option.{option_and_then}
+use Rattle.std.proofs.lemmas.Bool.{cases_lt}
+use Rattle.nv_region.specs.Region.{Region}
+use Rattle.nv_region.specs.RegionState.{RegionState}
+use Rattle.nv_super.specs.declared.owners.Run.{Run}
+use Rattle.nv_super.specs.declared.kind.Kind.{Kind}
+use Rattle.nv_super.specs.Layout.{fixed_layout}
+use Rattle.nv_alloc.specs.Taking.{all_blocks}
+use Rattle.nv_radix.specs.Pages.{block_at}
+use Rattle.nv_scan.specs.declared.piece.Row.{Row}
+use Rattle.nv_scan.specs.State.{block_of}
+use Rattle.nv_held.specs.Held.{Held, Store, good_in}
+use Rattle.nv_held.specs.Mounted.{ShowsSound}
+use Rattle.nv_named.specs.Read.{row_of}
+use Rattle.nv_tree.specs.Path.{last_name}
+use Rattle.nv_tree.specs.Tree.{Node, walk}
+use Rattle.nv_tree.specs.Refusals.{Path, Tests, World, first_refusal, target, writing, create_tests, write_tests, set_size_tests, set_attr_tests}
+use Rattle.nv_tree.specs.declared.refusal.Refusal.{Refusal}
+use Rattle.nv_tree.specs.declared.refusal.Refusal.TheVariants.{BadCpu, ReadOnly, Memory, Stopped}
+use Rattle.nv_calls.specs.Attributes.{attributes, attributes_blocks}
+use Rattle.nv_calls.specs.Grown.{ShowsGrownLog}
+use Rattle.nv_calls.specs.Mount.{Mount}
+use Rattle.nv_calls.specs.NameCalls.{ShowsCreated, create_blocks}
+use Rattle.nv_calls.specs.Seen.{LeadsTo, tree_of}
+use Rattle.nv_calls.specs.Sizes.{ShowsResizedLog, resized_blocks}
+use Rattle.nv_calls.specs.World.{unused_number, world_of}
+use Rattle.nv_calls.specs.WriteCall.{ShowsLogWrite, WriteNeeds}
+use Rattle.nv_calls.specs.Writes.{NeedsBlocks, data_blocks, plan_of}
+use Rattle.nv_session.specs.Calls.{LogsBytes, asks_create, asks_write, asks_size, asks_attributes, logs_inode, logs_size, logs_attributes}
+use Rattle.nv_session.proofs.AlwaysTakes.{gives}
+use Rattle.nv_session.proofs.Calling.{Answers, can_write, seen}
+
+-- how many blocks a write needs is there
+needs_some : (pools : List (List Run)) (cpu tail : ℕ) (mapped : ℕ → Option ℕ) (size offset bytes time : ℕ) → (count : ℕ) × NeedsBlocks pools cpu tail (plan_of mapped size offset bytes time) count
+needs_some pools cpu tail mapped size offset bytes time = (let plan = plan_of mapped size offset bytes time in elim (cases_lt (all_blocks pools) (data_blocks plan)) [
+  | inl few ↦ (data_blocks plan, inl (few, refl))
+  | inr enough ↦ (let w = gives pools cpu (data_blocks plan) enough in (_, inr (w.0, w.1, w.2, refl)))
+])
+
+pub write_needs : (S : Region) (m : Mount ⊤) (cpu : ℕ) (p : Path) (offset bytes time : ℕ) → (count : ℕ) × WriteNeeds S m cpu p offset bytes time count
+write_needs S m cpu p offset bytes time = by (option_and_then (row_of m.rows) (target (tree_of S m.rows) p)) refl where
+  by : (o : Option Row) → option_and_then (row_of m.rows) (target (tree_of S m.rows) p) ≡ o → (count : ℕ) × WriteNeeds S m cpu p offset bytes time count
+  by None at = (0, record { none = λ zero. refl; some = λ pos row is. absurd (let wrong : None ≡ Some row = sym at ∙ is in cc) })
+  by (Some row) at = elim (cases_lt 0 bytes) [
+    | inl pos ↦ (let w = needs_some m.free.pools cpu row.tail (block_at row.index) row.numbers.size offset bytes time in (
+      w.0,
+      record {
+        none = λ zero. absurd (omega (arith, zero, pos));
+        some = λ _ other is. (let same : row ≡ other = (let both : Some row ≡ Some other = sym at ∙ is in cc) in
+            subst (λ (r : Row). NeedsBlocks m.free.pools cpu r.tail (plan_of (block_at r.index) r.numbers.size offset bytes time) w.0) same w.1);
+      },
+    ))
+    | inr zero ↦ (0, record { none = λ _. refl; some = λ pos. absurd (omega (arith, zero, pos)) })
+  ]
+
+-- a text that is no path is refused
+no_path : (w : World) (cpu : ℕ) (e : Refusal) (tests all : Tests) → all ≡ writing w cpu ((true, e) ∷ tests) → first_refusal all ≡ None → ⊥
+no_path w cpu e tests all is none = by (not (nat_lt cpu w.cpus)) w.read_only (ap first_refusal (sym is) ∙ none) where
+  by : (bad read_only : Bool) → first_refusal ((bad, BadCpu) ∷ (read_only, ReadOnly) ∷ (true, e) ∷ tests) ≡ None → ⊥
+  by true read_only none = (cc)
+  by false true none = (cc)
+  by false false none = (cc)
+
+-- what a contract says of a call's tests
+abbrev pub Allows : Result (Unit {0}) Refusal → Tests → Type 0
+Allows answer tests = OnOk answer (first_refusal tests ≡ None)
+
+abbrev pub Refuses : Result (Unit {0}) Refusal → Tests → Type 0
+Refuses answer tests = IfErr answer (λ e. (e ≡ Memory) ⊎ ((e ≡ Stopped) ⊎ (first_refusal tests ≡ Some e)))
+
+module _ (m : Mount RegionState) (answer : Result (Unit {0}) Refusal) (cpu : ℕ) where
+  abbrev tests_of_create : Path → Tests
+  tests_of_create p = create_tests (world_of m) (tree_of m.memory.region m.rows) cpu p (create_blocks m.rows (tree_of m.memory.region m.rows) p)
+
+  pub create_answers : (p : Path) → Allows answer (tests_of_create p) → (m.stopped ≡ false → Refuses answer (tests_of_create p)) → Answers (asks_create cpu) m answer p
+  create_answers p allowed refused = record {
+    tests = tests_of_create p;
+    are = refl;
+    allowed = allowed;
+    refused = refused;
+    writes = λ none. can_write (world_of m) cpu _ (tests_of_create p) refl none;
+    named = λ none is. no_path (world_of m) cpu _ _ (tests_of_create None) refl (subst (λ (q : Path). first_refusal (tests_of_create q) ≡ None) is none);
+  }
+
+  abbrev tests_of_size : ℕ → Path → Tests
+  tests_of_size size p = set_size_tests (world_of m) (tree_of m.memory.region m.rows) cpu p size (resized_blocks m.rows (tree_of m.memory.region m.rows) p size)
+
+  pub size_answers : (size : ℕ) (p : Path) → Allows answer (tests_of_size size p) → (m.stopped ≡ false → Refuses answer (tests_of_size size p)) → Answers (asks_size cpu size) m answer p
+  size_answers size p allowed refused = record {
+    tests = tests_of_size size p;
+    are = refl;
+    allowed = allowed;
+    refused = refused;
+    writes = λ none. can_write (world_of m) cpu _ (tests_of_size size p) refl none;
+    named = λ none is. no_path (world_of m) cpu _ _ (tests_of_size size None) refl (subst (λ (q : Path). first_refusal (tests_of_size size q) ≡ None) is none);
+  }
+
+  abbrev tests_of_attributes : Path → Tests
+  tests_of_attributes p = set_attr_tests (world_of m) (tree_of m.memory.region m.rows) cpu p (attributes_blocks m.rows (tree_of m.memory.region m.rows) p)
+
+  pub attributes_answers : (p : Path) → Allows answer (tests_of_attributes p) → (m.stopped ≡ false → Refuses answer (tests_of_attributes p)) → Answers (asks_attributes cpu) m answer p
+  attributes_answers p allowed refused = record {
+    tests = tests_of_attributes p;
+    are = refl;
+    allowed = allowed;
+    refused = refused;
+    writes = λ none. can_write (world_of m) cpu _ (tests_of_attributes p) refl none;
+    named = λ none is. no_path (world_of m) cpu _ _ (tests_of_attributes None) refl (subst (λ (q : Path). first_refusal (tests_of_attributes q) ≡ None) is none);
+  }
+
+  abbrev tests_of_write : ℕ → ℕ → Path → Tests
+  tests_of_write end count p = write_tests (world_of m) (tree_of m.memory.region m.rows) cpu p end count
+
+  pub write_answers : (offset bytes time : ℕ) (p : Path)
+      → ((count : ℕ) → WriteNeeds m.memory.region m cpu p offset bytes time count → Allows answer (tests_of_write (offset + bytes) count p))
+      → ((count : ℕ) → WriteNeeds m.memory.region m cpu p offset bytes time count → m.stopped ≡ false → Refuses answer (tests_of_write (offset + bytes) count p))
+      → Answers (asks_write cpu offset bytes time) m answer p
+  write_answers offset bytes time p allowed refused =
+      let w = write_needs m.memory.region (seen m) cpu p offset bytes time in
+      let needs : WriteNeeds m.memory.region m cpu p offset bytes time w.0 = record { none = w.1.none; some = w.1.some } in
+      record {
+        tests = tests_of_write (offset + bytes) w.0 p;
+        are = (w.0, w.1, refl);
+        allowed = allowed w.0 needs;
+        refused = refused w.0 needs;
+        writes = λ none. can_write (world_of m) cpu _ (tests_of_write (offset + bytes) w.0 p) refl none;
+        named = λ none is. no_path (world_of m) cpu _ _ (tests_of_write (offset + bytes) w.0 None) refl (subst (λ (q : Path). first_refusal (tests_of_write (offset + bytes) w.0 q) ≡ None) is none);
+      }
+
+-- ---- logs: where a call was done, for all that is held
+
+module _ (S T : Region) (m : Mount ⊤) (names : List (List ℕ)) where
+  pub inode_logged : (kind : Kind) (cpu mode time : ℕ) (answer : Result (Unit {0}) Refusal)
+      → ((d j : ℕ) (held : Store) (h : Held) → walk (tree_of S m.rows) 1 names ≡ Ok d → unused_number m.sup m.rows cpu ≡ Some j → ShowsSound S m.sup held → held d ≡ Some h → OnOk answer (ShowsCreated T m.sup held kind mode time j d h (last_name names)))
+      → OnOk answer (logs_inode kind cpu mode time S m names T)
+  inode_logged kind cpu mode time (Ok done) log = log
+  inode_logged kind cpu mode time (Err e) log = tt
+
+  pub size_logged : (bytes time : ℕ) (answer : Result (Unit {0}) Refusal)
+      → ((i : ℕ) (node : Node) (held : Store) (h : Held) → LeadsTo (tree_of S m.rows) names i node → ShowsSound S m.sup held → held i ≡ Some h → OnOk answer (ShowsResizedLog T m.sup held i h node bytes time))
+      → OnOk answer (logs_size bytes time S m names T)
+  size_logged bytes time (Ok done) log = log
+  size_logged bytes time (Err e) log = tt
+
+  pub attributes_logged : (mode owner group time : ℕ) (answer : Result (Unit {0}) Refusal)
+      → ((i : ℕ) (node : Node) (held : Store) (h : Held) → LeadsTo (tree_of S m.rows) names i node → ShowsSound S m.sup held → held i ≡ Some h → OnOk answer (ShowsGrownLog T m.sup held i h (attributes node.size mode owner group time)))
+      → OnOk answer (logs_attributes mode owner group time S m names T)
+  attributes_logged mode owner group time (Ok done) log = log
+  attributes_logged mode owner group time (Err e) log = tt
+
+-- A write, by the mount with its memory.
+pub bytes_logged : (m n : Mount RegionState) (names : List (List ℕ)) (cpu offset bytes time : ℕ) (answer : Result (Unit {0}) Refusal)
+    → ((i : ℕ) (node : Node) (held : Store) (h : Held) → LeadsTo (tree_of m.memory.region m.rows) names i node → ShowsSound m.memory.region m.sup held → held i ≡ Some h → 0 < bytes
+    → OnOk answer (ShowsLogWrite n.memory.region m cpu held i h (plan_of (block_of (good_in (fixed_layout m.sup) h)) node.size offset bytes time)))
+    → (bytes ≡ 0 → OnOk answer (n ≡ m)) → OnOk answer (LogsBytes cpu offset bytes time m.memory.region (seen m) names n.memory.region)
+bytes_logged m n names cpu offset bytes time (Err e) log nothing = tt
+bytes_logged m n names cpu offset bytes time (Ok done) log nothing = record {
+  some = λ i node held h leads sound at pos. ∥∥₁_map (log i node held h leads sound at pos) (λ w. record { runs = w.runs; rest = w.rest; taken = w.taken; grew = w.grew });
+  none = λ zero. ap (λ (k : Mount RegionState). k.memory.region) (nothing zero);
+}

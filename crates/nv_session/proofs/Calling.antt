@@ -1,0 +1,299 @@
+-- What a file call that writes leaves, for each state that the session stands for.
+use Rattle.std.proofs.Common.{◌≡◌, ◌⊎◌, inl, inr, ℕ, Bool, true, false, not, ◌&&◌, nat_lt, IsTrue, List, [], ◌∷◌, Option, Some, None, Result, Ok, Err, IfErr, OnOk, refl, sym, ap, subst, ◌∙◌}
+use Rattle.std.specs.Prelude.{⊤, codes}
+use Rattle.std.specs.List.{filter}
+use Rattle.std.proofs.Math.Logic.{∥∥₁_map}
+use Rattle.nv_region.specs.Region.{Region, size}
+use Rattle.nv_region.specs.RegionState.{RegionState, is_off, is_steady, steady_unburnt}
+use Rattle.nv_region.specs.declared.memory.Fuse.{Fuse}
+use Rattle.nv_region.specs.declared.memory.Fuse.TheVariants as fuses
+use Rattle.nv_super.specs.declared.superblock.Super.{Super}
+use Rattle.nv_super.specs.declared.owners.Owner.{Owner}
+use Rattle.nv_super.specs.declared.owners.Run.{Run}
+use Rattle.nv_super.specs.declared.faults.Fault.{Fault}
+use Rattle.nv_scan.specs.declared.piece.Row.{Row}
+use Rattle.nv_outcome.specs.Outcome.{IsOutcome}
+use Rattle.nv_outcome.specs.Same.{is_lasting, lasting_outcome}
+use Rattle.nv_tree.specs.Path.{IsPath, Says}
+use Rattle.nv_tree.specs.Tree.{SameTree}
+use Rattle.nv_tree.specs.Refusals.{Path, Tests, World, first_refusal, refusal_word, writing}
+use Rattle.nv_tree.specs.declared.refusal.Refusal.{Refusal}
+use Rattle.nv_tree.specs.declared.refusal.Refusal.TheVariants.{BadCpu, ReadOnly, Memory, Stopped}
+use Rattle.nv_tree.proofs.Texts.{text_says}
+use Rattle.nv_text.specs.Answers.{ok_line, refused_line, stopped_line}
+use Rattle.nv_calls.specs.Mount.{IsKept, Mount, has_faults, told}
+use Rattle.nv_calls.specs.Same.{KeepsMount, SameMount}
+use Rattle.nv_calls.specs.Seen.{tree_of}
+use Rattle.nv_calls.proofs.Mounts.{faultless}
+use Rattle.nv_session.specs.Calls.{Asks, Makes, Logs, Asked, LeavesTree}
+use Rattle.nv_session.specs.Machine.{State, Calls, CallsMounted, DoesCall, StopsMounted}
+use Rattle.nv_session.specs.Sessions.{StandsFor, Moves, ShowsOutcome, IsMountOf, SettlesCall, TakesMount, PutsMount, region_in, mount_in, memory_in, with_fuse}
+use Rattle.nv_session.specs.declared.store.Store.{Store}
+use Rattle.nv_session.specs.declared.store.Store.TheVariants as stores
+use Rattle.nv_session.specs.declared.session.Session.{Session}
+use Rattle.nv_session.proofs.Moved.{can_burn}
+use Rattle.nv_session.proofs.SameShown.{with_rows}
+use Rattle.nv_session.proofs.Settled.{settled}
+
+-- a mount as calls see it
+abbrev pub seen : Mount RegionState → Mount ⊤
+seen m = record { memory = tt; sup = m.sup; rows = m.rows; free = record { sup = m.sup; pools = m.free.pools; room = 0 }; faults = filter is_lasting m.faults; read_only = m.read_only; stopped = false }
+
+-- What a call answers, by its tests of a path.
+pub record Answers (asks : Asks) (m : Mount RegionState) (answer : Result (Unit {0}) Refusal) (p : Path) : Type 0 where
+  pub tests : Tests
+  pub are : asks m.memory.region (seen m) p tests
+  pub allowed : OnOk answer (first_refusal tests ≡ None)
+  pub refused : m.stopped ≡ false → IfErr answer (λ e. (e ≡ Memory) ⊎ ((e ≡ Stopped) ⊎ (first_refusal tests ≡ Some e)))
+  -- it writes only where that is allowed
+  pub writes : first_refusal tests ≡ None → m.read_only ≡ false
+  -- and only by a path
+  pub named : first_refusal tests ≡ None → p ≡ None → ⊥
+
+-- What the contract of a call says of the mount before and after it.
+pub record Called (asks : Asks) (makes : Makes) (logs : Logs) (path : List ℕ) (m n : Mount RegionState) (answer : Result (Unit {0}) Refusal) : Type 0 where
+  pub answers : (p : Path) → Says path p → Answers asks m answer p
+  pub changed : (names : List (List ℕ)) → IsPath path names → OnOk answer (SameTree (tree_of n.memory.region n.rows) (makes m.memory.region (seen m) names))
+  pub logged : (names : List (List ℕ)) → IsPath path names → OnOk answer (logs m.memory.region (seen m) names n.memory.region)
+  pub unchanged : IfErr answer (λ e. (e ≡ Stopped → ⊥) → SameMount m n)
+  pub stopped : m.stopped ≡ false → (IsTrue n.stopped → (answer ≡ Err Stopped) × IsTrue n.memory.burnt) × (answer ≡ Err Stopped → IsTrue n.stopped)
+  pub keeps : KeepsMount m n
+  pub as_long : size n.memory.region ≡ size m.memory.region
+  pub steady : IsTrue (is_steady m.memory) → IsTrue (is_steady n.memory)
+  pub kept : IsKept n.memory.region n.sup n.rows n.free n.faults n.read_only n.stopped
+
+-- ---- the mount before and after a call
+
+-- the first test of a writing call
+pub can_write : (w : World) (cpu : ℕ) (tests all : Tests) → all ≡ writing w cpu tests → first_refusal all ≡ None → w.read_only ≡ false
+can_write w cpu tests all is none = by (not (nat_lt cpu w.cpus)) w.read_only (ap first_refusal (sym is) ∙ none) where
+  by : (bad read_only : Bool) → first_refusal ((bad, BadCpu) ∷ (read_only, ReadOnly) ∷ tests) ≡ None → read_only ≡ false
+  by true read_only none = absurd (cc)
+  by false true none = absurd (cc)
+  by false false none = refl
+
+not_true : (b : Bool) → (IsTrue b → ⊥) → b ≡ false
+not_true true never = absurd (never refl)
+not_true false never = refl
+
+-- A mount without a fault shows the outcome of its own region.
+shows_own : (n : Mount RegionState) → IsKept n.memory.region n.sup n.rows n.free n.faults n.read_only n.stopped → n.stopped ≡ false → n.faults ≡ [] → ShowsOutcome n.memory.region n
+shows_own n kept runs none =
+    let lasting : filter is_lasting n.faults ≡ [] = ap (filter is_lasting) none in
+    let w = settled n.memory.region n.sup n.rows n.free.pools
+    (∥∥₁_map (kept.shown runs) (λ w. (w.0, subst (λ (fs : List Fault). IsOutcome n.memory.region (record { sup = n.sup; rows = n.rows; free = n.free.pools; doubled = w.0; faults = fs })) lasting w.1))) in
+    record {
+      doubled = w.0;
+      shown = subst (λ (fs : List Fault). IsOutcome n.memory.region (record { sup = n.sup; rows = n.rows; free = n.free.pools; doubled = w.0; faults = fs })) (sym none) w.1;
+      here = subst (λ (fs : List Fault). IsOutcome n.memory.region (record { sup = n.sup; rows = n.rows; free = n.free.pools; doubled = w.0; faults = fs })) (sym lasting) w.1;
+      runs = runs;
+    }
+
+-- what shows the same as an outcome, by its parts
+by_parts : (R : Region) (s t : Super) (rows : List Row) (pools others : List (List Run)) (doubled : List (ℕ × Owner)) (faults more : List Fault) → t ≡ s → others ≡ pools → more ≡ faults
+    → IsOutcome R (record { sup = s; rows = rows; free = pools; doubled = doubled; faults = faults }) → IsOutcome R (record { sup = t; rows = rows; free = others; doubled = doubled; faults = more })
+by_parts R s t rows pools others doubled faults more a b c is =
+    subst (λ (x : Super). IsOutcome R (record { sup = x; rows = rows; free = others; doubled = doubled; faults = more })) (sym a)
+    (subst (λ (x : List (List Run)). IsOutcome R (record { sup = s; rows = rows; free = x; doubled = doubled; faults = more })) (sym b)
+    (subst (λ (x : List Fault). IsOutcome R (record { sup = s; rows = rows; free = pools; doubled = doubled; faults = x })) (sym c) is))
+
+-- A mount that a refused call left shows what it did.
+shows_still : (R : Region) (m n : Mount RegionState) → SameMount m n → ShowsOutcome R m → ShowsOutcome R n
+shows_still R m n same shows = record {
+  doubled = shows.doubled;
+  shown = by_parts R m.sup n.sup n.rows m.free.pools n.free.pools shows.doubled m.faults n.faults same.sup same.free.pools same.faults (with_rows R (told m.sup m.rows m.free shows.doubled m.faults) n.rows same.rows shows.shown);
+  here = subst (λ (x : RegionState). IsOutcome x.region (lasting_outcome (told n.sup n.rows n.free shows.doubled n.faults))) (sym same.memory)
+      (by_parts m.memory.region m.sup n.sup n.rows m.free.pools n.free.pools shows.doubled (filter is_lasting m.faults) (filter is_lasting n.faults) same.sup same.free.pools (ap (filter is_lasting) same.faults)
+      (with_rows m.memory.region (lasting_outcome (told m.sup m.rows m.free shows.doubled m.faults)) n.rows same.rows shows.here));
+  runs = same.stopped ∙ shows.runs;
+}
+
+-- the fuse of a mount is no part of what it shows
+fused : (fuse : Fuse) (R : Region) (m : Mount RegionState) → ShowsOutcome R m → ShowsOutcome R (with_fuse fuse m)
+fused fuse R m shows = record { doubled = shows.doubled; shown = shows.shown; here = shows.here; runs = shows.runs }
+
+-- ---- the session before and after a call
+
+region_of_mount : (store : Option Store) (m : Mount RegionState) → mount_in store ≡ Some m → region_in store ≡ Some m.memory.region
+region_of_mount None m at = absurd (cc)
+region_of_mount (Some (stores.Alone memory)) m at = absurd (cc)
+region_of_mount (Some (stores.Mounted n)) m at = (let same : n ≡ m = cc in ap (λ (k : Mount RegionState). Some k.memory.region) same)
+
+module _ (asks : ℕ → Asks) (makes : ℕ → Makes) (logs : ℕ → Logs) (path : List ℕ) where
+  -- the call in a state
+  abbrev CallsNow : Bool → State → List ℕ → State → Type 0
+  CallsNow armed state text next = Calls armed (asks state.time) (makes state.time) (logs state.time) path state text next
+
+  pub uncalled_moves : (armed : Bool) (fuse : Fuse) (old new : Session) (text : List ℕ) → TakesMount fuse old None new → text ≡ refused_line (codes "NotMounted") → Moves (CallsNow armed) old text new
+  uncalled_moves armed fuse old new text takes said = λ state stands.
+      let none : IsMountOf state.mounted None = subst (λ (o : Option (Mount RegionState)). IsMountOf state.mounted o) takes.0 stands.mounted in
+      (state, inl (by state.mounted none state.region state), subst (λ (s : Session). StandsFor s state) (sym takes.1) stands) where
+        by : (mounted : Option Region) → IsMountOf mounted None → (region : Option Region) (state : State) → CallsMounted (asks state.time) (makes state.time) (logs state.time) path mounted region state text state
+        by None is region state = (said, refl)
+        by (Some R) is region state = absurd is
+
+  module _ (fuse : Fuse) (old mid new : Session) (m n : Mount RegionState) (takes : TakesMount fuse old (Some m) mid) (state : State) (stands : StandsFor old state) where
+    here : state.region ≡ Some m.memory.region
+    here = stands.region ∙ region_of_mount old.store takes.0 takes.1 ∙ ap (λ (k : Mount RegionState). Some k.memory.region) (sym takes.2)
+
+    at_time : mid.time ≡ state.time
+    at_time = ap (λ (s : Session). s.time) takes.3 ∙ sym stands.time
+
+    is_mounted : IsMountOf state.mounted (Some m)
+    is_mounted = subst (λ (k : Mount RegionState). IsMountOf state.mounted (Some k)) (sym takes.2) (by state.mounted (subst (λ (o : Option (Mount RegionState)). IsMountOf state.mounted o) takes.1 stands.mounted)) where
+      by : (mounted : Option Region) → IsMountOf mounted (Some takes.0) → IsMountOf mounted (Some (with_fuse fuse takes.0))
+      by None is = is
+      by (Some R) is = fused fuse R takes.0 is
+
+    -- the session that is left stands for a state, by what it has in store
+    stands_with : (store : Store) (next : State) → new ≡ record mid { store = Some store } → next.region ≡ Some (memory_in store).region → IsMountOf next.mounted (mount_in (Some store)) → next.time ≡ state.time → next.last ≡ state.last → next.armed ≡ state.armed → StandsFor new next
+    stands_with store next is region mounted time last armed =
+        subst (λ (s : Session). StandsFor s next) (sym (is ∙ ap (λ (s : Session). record s { store = Some store }) takes.3)) (record {
+          region = region;
+          mounted = mounted;
+          time = time ∙ stands.time;
+          last = last ∙ stands.last;
+          armed = armed ∙ stands.armed;
+        })
+
+    stopped_here : (memory : RegionState) (text : List ℕ) → size memory.region ≡ size m.memory.region → text ≡ stopped_line → (next : State) → next ≡ record state { region = Some memory.region; mounted = None } → StopsMounted state.mounted state.region state text next
+    stopped_here memory text long said next is = by state.mounted is_mounted state.region here where
+      by : (mounted : Option Region) → IsMountOf mounted (Some m) → (region : Option Region) → region ≡ Some m.memory.region → StopsMounted mounted region state text next
+      by None is region at = absurd is
+      by (Some R) shows None at = absurd (cc)
+      by (Some R) shows (Some S) at = (let same : S ≡ m.memory.region = cc in (memory.region, long ∙ ap size (sym same), said, is))
+
+    module _ (answer : Result (Unit {0}) Refusal) (called : Called (asks state.time) (makes state.time) (logs state.time) path m n answer) where
+      read_only : m.read_only ≡ has_faults m.faults
+      read_only = sym called.keeps.read_only ∙ called.kept.writes ∙ ap has_faults called.keeps.faults
+
+      -- what the call is asked
+      asked : (R : Region) → ShowsOutcome R m → (p : Path) → Says path p → Asked (asks state.time) R m.memory.region path
+      asked R shows p says = (let answers = called.answers p says in record {
+        came = told m.sup m.rows m.free shows.doubled m.faults;
+        of_came = shows.shown;
+        here = lasting_outcome (told m.sup m.rows m.free shows.doubled m.faults);
+        of_here = shows.here;
+        path_is = p;
+        says = says;
+        tests = answers.tests;
+        are = subst (λ (b : Bool). asks state.time m.memory.region (record (seen m) { read_only = b }) p answers.tests) read_only answers.are;
+      })
+
+      abbrev seen_here : Mount ⊤
+      seen_here = record (seen m) { read_only = has_faults m.faults }
+
+      same_seen : seen m ≡ seen_here
+      same_seen = λ i. record (seen m) { read_only = read_only i }
+
+      -- what the call leaves, where it was done
+      leaves : answer ≡ Ok tt → n.stopped ≡ false → n.faults ≡ [] → (names : List (List ℕ)) → IsPath path names → LeavesTree m.memory.region n.memory.region seen_here (makes state.time m.memory.region seen_here names)
+      leaves is runs clear names says = (let own = shows_own n called.kept runs clear in record {
+        as_long = called.as_long;
+        after = told n.sup n.rows n.free own.doubled n.faults;
+        shown = own.shown;
+        own = called.kept.own runs;
+        sup = called.keeps.sup;
+        faultless = clear;
+        tree = subst (λ (k : Mount ⊤). SameTree (tree_of n.memory.region n.rows) (makes state.time m.memory.region k names)) same_seen
+            (subst (λ r. OnOk r (SameTree (tree_of n.memory.region n.rows) (makes state.time m.memory.region (seen m) names))) is (called.changed names says));
+      })
+
+      does : (R : Region) (shows : ShowsOutcome R m) → answer ≡ Ok tt → n.stopped ≡ false → n.faults ≡ [] → (p : Path) (says : Says path p) → (p ≡ None → ⊥) → first_refusal (called.answers p says).tests ≡ None → (next : State) (text : List ℕ) → text ≡ ok_line
+          → next ≡ record state { region = Some n.memory.region; mounted = Some n.memory.region } → DoesCall (asks state.time) (makes state.time) (logs state.time) R m.memory.region path state text next
+      unfolding asked
+      does R shows is runs clear None says named none next text said left = absurd (named refl)
+      does R shows is runs clear (Some names) says named none next text said left = (
+        asked R shows (Some names) says,
+        none,
+        names,
+        refl,
+        n.memory.region,
+        leaves is runs clear names says,
+        subst (λ (k : Mount ⊤). logs state.time m.memory.region k names n.memory.region) same_seen
+            (subst (λ r. OnOk r (logs state.time m.memory.region (seen m) names n.memory.region)) is (called.logged names says)),
+        said,
+        left,
+      )
+
+      runs_before : m.stopped ≡ false
+      runs_before = by state.mounted is_mounted where
+        by : (mounted : Option Region) → IsMountOf mounted (Some m) → m.stopped ≡ false
+        by None is = absurd is
+        by (Some R) shows = shows.runs
+
+      -- a call that was done leaves a mount that runs, without a fault
+      clear_after : answer ≡ Ok tt → (p : Path) (says : Says path p) → (first_refusal (called.answers p says).tests ≡ None) × (n.stopped ≡ false) × (n.faults ≡ [])
+      clear_after is p says =
+          let answers = called.answers p says in
+          let none : first_refusal answers.tests ≡ None = subst (λ r. OnOk r (first_refusal answers.tests ≡ None)) is answers.allowed in
+          let runs : n.stopped ≡ false = not_true n.stopped (λ stops. (let wrong : Ok tt ≡ Err Stopped = sym is ∙ ((called.stopped runs_before).0 stops).0 in cc)) in
+          (none, runs, faultless called.kept (called.keeps.read_only ∙ answers.writes none))
+
+      -- the call on what is mounted
+      by_mount : (text : List ℕ) (next : State) → ((R : Region) → ShowsOutcome R m → CallsMounted (asks state.time) (makes state.time) (logs state.time) path (Some R) (Some m.memory.region) state text next)
+          → CallsMounted (asks state.time) (makes state.time) (logs state.time) path state.mounted state.region state text next
+      by_mount text next call = subst (λ (x : Option Region). CallsMounted (asks state.time) (makes state.time) (logs state.time) path state.mounted x state text next) (sym here) (by state.mounted is_mounted) where
+        by : (mounted : Option Region) → IsMountOf mounted (Some m) → CallsMounted (asks state.time) (makes state.time) (logs state.time) path mounted (Some m.memory.region) state text next
+        by None is = absurd is
+        by (Some R) shows = call R shows
+
+      abbrev Moved : Bool → List ℕ → Type 0
+      Moved armed text = (next : State) × Calls armed (asks state.time) (makes state.time) (logs state.time) path state text next × StandsFor new next
+
+      done_moves : (armed : Bool) (text : List ℕ) → answer ≡ Ok tt → text ≡ ok_line → PutsMount n mid new → Moved armed text
+      done_moves armed text is said puts =
+          let w = text_says path in
+          let clear = clear_after is w.0 w.1 in
+          let next : State = record state { region = Some n.memory.region; mounted = Some n.memory.region } in (
+            next,
+            inl (by_mount text next (λ R shows. inr (does R shows is clear.1 clear.2 w.0 w.1 ((called.answers w.0 w.1).named clear.0) clear.0 next text said refl))),
+            stands_with (stores.Mounted (with_fuse fuses.Off n)) next puts refl (fused fuses.Off n.memory.region n (shows_own n called.kept clear.1 clear.2)) refl refl refl,
+          )
+
+      refused_moves : (armed : Bool) (text : List ℕ) (e : Refusal) → answer ≡ Err e → (e ≡ Stopped → ⊥) → (e ≡ Memory → ⊥) → text ≡ refused_line (refusal_word e) → PutsMount n mid new → Moved armed text
+      unfolding asked
+      refused_moves armed text e is running fits said puts =
+          let w = text_says path in
+          let answers = called.answers w.0 w.1 in
+          let same : SameMount m n = subst (λ r. IfErr r (λ e. (e ≡ Stopped → ⊥) → SameMount m n)) is called.unchanged running in (
+            state,
+            inl (by_mount text state (λ R shows. inl (asked R shows w.0 w.1, (e, first answers.tests (subst (λ r. IfErr r (λ e. (e ≡ Memory) ⊎ ((e ≡ Stopped) ⊎ (first_refusal answers.tests ≡ Some e)))) is (answers.refused shows.runs)), said), refl))),
+            stands_with (stores.Mounted (with_fuse fuses.Off n)) state puts (here ∙ ap (λ (x : RegionState). Some x.region) (sym same.memory)) (still same state.mounted is_mounted) refl refl refl,
+          ) where
+            first : (tests : Tests) → (e ≡ Memory) ⊎ ((e ≡ Stopped) ⊎ (first_refusal tests ≡ Some e)) → first_refusal tests ≡ Some e
+            first tests (inl memory) = absurd (fits memory)
+            first tests (inr (inl stopped)) = absurd (running stopped)
+            first tests (inr (inr refused)) = refused
+
+            still : SameMount m n → (mounted : Option Region) → IsMountOf mounted (Some m) → IsMountOf mounted (Some (with_fuse fuses.Off n))
+            still same None is = absurd is
+            still same (Some R) shows = fused fuses.Off R n (shows_still R m n same shows)
+
+      stopped_moves : (text : List ℕ) → answer ≡ Err Stopped → text ≡ stopped_line → (memory : RegionState) → size memory.region ≡ size n.memory.region → new ≡ record mid { store = Some (stores.Alone memory) } → Moved (not (is_off fuse)) text
+      stopped_moves text is said memory long puts =
+          let next : State = record state { region = Some memory.region; mounted = None } in (
+            next,
+            inr (armed, stopped_here memory text (long ∙ called.as_long) said next refl),
+            stands_with (stores.Alone memory) next puts refl tt refl refl refl,
+          ) where
+            burnt : n.memory.burnt ≡ true
+            burnt = (let stops = (called.stopped runs_before).1 is in ((called.stopped runs_before).0 stops).1)
+
+            armed : IsTrue (not (is_off fuse))
+            armed = can_burn (is_off fuse) (λ off. (
+                let before : is_steady m.memory ≡ true = subst (λ (k : Mount RegionState). is_steady k.memory ≡ true) (sym takes.2) (ap (λ b. b && true) off) in
+                let after = steady_unburnt n.memory (called.steady before) in
+                let wrong : true ≡ false = sym burnt ∙ after in cc))
+
+      by_answer : (r : Result (Unit {0}) Refusal) → answer ≡ r → (text : List ℕ) → SettlesCall n r mid text new → Moved (not (is_off fuse)) text
+      by_answer (Ok done) is text settles = done_moves (not (is_off fuse)) text is settles.0 settles.1
+      by_answer (Err e) is text (inl s) = stopped_moves text (is ∙ ap (λ (x : Refusal). Err x) s.0) s.1 s.2 s.3 s.4
+      by_answer (Err e) is text (inr s) = refused_moves (not (is_off fuse)) text e is s.0 s.1 s.2 s.3
+
+  -- A call on what is mounted, by what its contract says.
+  pub called_moves : (fuse : Fuse) (old mid new : Session) (m n : Mount RegionState) (answer : Result (Unit {0}) Refusal) (text : List ℕ) → TakesMount fuse old (Some m) mid → Called (asks mid.time) (makes mid.time) (logs mid.time) path m n answer
+      → SettlesCall n answer mid text new → Moves (CallsNow (not (is_off fuse))) old text new
+  called_moves fuse old mid new m n answer text takes called settles = λ state stands.
+      by_answer fuse old mid new m n takes state stands answer
+      (subst (λ (time : ℕ). Called (asks time) (makes time) (logs time) path m n answer) (at_time fuse old mid new m n takes state stands) called) answer refl text settles

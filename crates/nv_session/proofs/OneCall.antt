@@ -1,0 +1,287 @@
+-- A call that writes prints one text: its tests are those of the region and of what came to the recovery.
+use Rattle.std.proofs.Common.{◌≡◌, inl, inr, ℕ, ◌+◌, ◌%◌, ◌<◌, Bool, true, false, not, cond, nat_lt, nat_eq, ◌&&◌, is_none, is_some, List, [], ◌∷◌, ◌++◌, append_assoc, length, Option, Some, None, Result, Ok, Err, refl, sym, ap, subst, ◌∙◌, arith}
+use Rattle.std.specs.Prelude.{⊤}
+use Rattle.std.specs.List.{find}
+use Rattle.std.specs.Option.{option_and_then, option_map, option_map_or}
+use Rattle.std.proofs.lemmas.Bool.{cases_lt}
+use Rattle.std.proofs.lemmas.Bool.Decides.{nat_tests}
+use Rattle.nv_region.specs.Region.{Region}
+use Rattle.nv_super.specs.declared.superblock.Super.{Super}
+use Rattle.nv_super.specs.declared.owners.Run.{Run}
+use Rattle.nv_alloc.specs.Taking.{all_blocks}
+use Rattle.nv_entry.specs.declared.entry.Operation.TheVariants.{Add}
+use Rattle.nv_entry.specs.declared.entry.Entry.{Entry}
+use Rattle.nv_radix.specs.Pages.{block_at}
+use Rattle.nv_scan.specs.declared.piece.Row.{Row}
+use Rattle.nv_outcome.specs.Same.{SameRow, SameRows}
+use Rattle.nv_outcome.proofs.OnlyOne.{same_outcome}
+use Rattle.nv_named.specs.Read.{row_of}
+use Rattle.nv_tree.specs.Path.{last_name}
+use Rattle.nv_tree.specs.Tree.{Tree, found, in_use, last_in, walk}
+use Rattle.nv_tree.specs.Refusals.{Path, Tests, World, first_refusal, refusal_word, target, writing, is_bad, is_dir, is_missing, is_too_large, has_no_space, walk_tests, create_tests, write_tests, set_size_tests, set_attr_tests}
+use Rattle.nv_tree.specs.declared.refusal.Refusal.{Refusal}
+use Rattle.nv_tree.specs.declared.refusal.Refusal.TheVariants.{BadCpu, ReadOnly}
+use Rattle.nv_tree.proofs.Texts.{says_one}
+use Rattle.nv_text.specs.Answers.{refused_line}
+use Rattle.nv_calls.specs.Attributes.{attributes, attributes_blocks}
+use Rattle.nv_calls.specs.Mount.{Mount, has_faults}
+use Rattle.nv_calls.specs.NameCalls.{create_blocks, ended_row, name_entries, row_blocks}
+use Rattle.nv_calls.specs.Seen.{node_of, tree_of}
+use Rattle.nv_calls.specs.Sizes.{blocks_from, end_block, resized_blocks, size_blocks}
+use Rattle.nv_calls.specs.World.{numbers_in_table, unused_number, world_of}
+use Rattle.nv_calls.specs.WriteCall.{WriteNeeds}
+use Rattle.nv_calls.specs.Writes.{NeedsBlocks, data_blocks, data_entries, plan_of}
+use Rattle.nv_calls.proofs.Takes.{takes_less, takes_once}
+use Rattle.nv_logpage.specs.Append.{needed}
+use Rattle.nv_session.specs.Calls.{Asks, Makes, Logs, Asked, asks_create, asks_write, asks_size, asks_attributes, seen_in}
+use Rattle.nv_session.specs.Machine.{State, CallsMounted}
+use Rattle.nv_session.proofs.Alike.{Alike, AreSame, alike_rows, rows_at, walk_alike, found_alike, directory_alike}
+
+-- Two mounts that nobody can tell apart by what the tests of calls look at.
+pub record SameSeen (m k : Mount ⊤) : Type 0 where
+  pub sup : k.sup ≡ m.sup
+  pub rows : SameRows m.rows k.rows
+  pub pools : k.free.pools ≡ m.free.pools
+  pub read_only : k.read_only ≡ m.read_only
+
+-- what is asked of one region twice
+pub same_seen : (asks : Asks) (R S : Region) (path : List ℕ) (a b : Asked asks R S path) → SameSeen (seen_in a) (seen_in b)
+same_seen asks R S path a b =
+    let here = same_outcome S a.here b.here a.of_here b.of_here in
+    let came = same_outcome R a.came b.came a.of_came b.of_came in
+    record { sup = here.sup; rows = here.rows; pools = here.free; read_only = ap has_faults came.faults }
+
+module _ (S : Region) (m k : Mount ⊤) (same : SameSeen m k) where
+  alike : Alike (tree_of S m.rows) (tree_of S k.rows)
+  alike = alike_rows S m.rows k.rows same.rows
+
+  -- ---- what stands beside the tree
+
+  unused_same : (i : ℕ) → is_none (row_of k.rows i) ≡ is_none (row_of m.rows i)
+  unused_same i = by (row_of m.rows i) (row_of k.rows i) (rows_at m.rows k.rows same.rows i) where
+    by : (a b : Option Row) → AreSame a b → is_none b ≡ is_none a
+    by None None s = refl
+    by None (Some b) s = absurd s
+    by (Some a) None s = absurd s
+    by (Some a) (Some b) s = refl
+
+  number_same : (cpu : ℕ) → unused_number k.sup k.rows cpu ≡ unused_number m.sup m.rows cpu
+  number_same cpu = ap (λ (s : Super). unused_number s k.rows cpu) same.sup ∙ (λ i. find (λ x. not (nat_eq x 0) && unused_same x i) (numbers_in_table m.sup cpu))
+
+  world_same : world_of k ≡ world_of m
+  world_same = λ i. record { cpus = (same.sup i).cpus; read_only = same.read_only i; unused = λ cpu. number_same cpu i; free = all_blocks (same.pools i) }
+
+  -- ---- how many blocks are needed
+
+  by_rows : (f : Row → ℕ) → ((a b : Row) → SameRow a b → f b ≡ f a) → (o : Option ℕ) → option_map_or f (option_and_then (row_of k.rows) o) 0 ≡ option_map_or f (option_and_then (row_of m.rows) o) 0
+  by_rows f keeps None = refl
+  by_rows f keeps (Some i) = by (row_of m.rows i) (row_of k.rows i) (rows_at m.rows k.rows same.rows i) where
+    by : (a b : Option Row) → AreSame a b → option_map_or f b 0 ≡ option_map_or f a 0
+    by None None s = refl
+    by None (Some b) s = absurd s
+    by (Some a) None s = absurd s
+    by (Some a) (Some b) s = keeps a b s
+
+  target_same : (p : Path) → target (tree_of S k.rows) p ≡ target (tree_of S m.rows) p
+  target_same None = refl
+  target_same (Some names) = found_alike (tree_of S m.rows) (tree_of S k.rows) alike names
+
+  rows_needed : (a b : Option Row) → AreSame a b → (e : List Entry) → row_blocks b e ≡ row_blocks a e
+  rows_needed None None s e = refl
+  rows_needed None (Some b) s e = absurd s
+  rows_needed (Some a) None s e = absurd s
+  rows_needed (Some a) (Some b) s e = ap (λ (x : ℕ). row_blocks (Some (record b { tail = x })) e) s.tail
+
+  create_needs : (p : Path) → create_blocks k.rows (tree_of S k.rows) p ≡ create_blocks m.rows (tree_of S m.rows) p
+  create_needs None = refl
+  create_needs (Some names) = ap (λ (r : Result ℕ Refusal). 1 + row_blocks (ended_row k.rows r) (name_entries Add 0 (last_name names) 0)) (walk_alike (tree_of S m.rows) (tree_of S k.rows) alike names 1)
+      ∙ by (walk (tree_of S m.rows) 1 names) where
+        by : (r : Result ℕ Refusal) → 1 + row_blocks (ended_row k.rows r) (name_entries Add 0 (last_name names) 0) ≡ 1 + row_blocks (ended_row m.rows r) (name_entries Add 0 (last_name names) 0)
+        by (Err e) = refl
+        by (Ok d) = ap (λ (n : ℕ). 1 + n) (rows_needed (row_of m.rows d) (row_of k.rows d) (rows_at m.rows k.rows same.rows d) (name_entries Add 0 (last_name names) 0))
+
+  size_needs : (p : Path) (size : ℕ) → resized_blocks k.rows (tree_of S k.rows) p size ≡ resized_blocks m.rows (tree_of S m.rows) p size
+  size_needs p size = ap (λ (o : Option ℕ). option_map_or (λ (row : Row). size_blocks row size) (option_and_then (row_of k.rows) o) 0) (target_same p)
+      ∙ by_rows (λ (row : Row). size_blocks row size) (λ a b s i. blocks_from (s.tail i) (record { mode = 0; size = 0; time = 0; owner = 0; group = 0 }) (end_block (λ q. s.index q i) ((s.numbers i).size) size)) (target (tree_of S m.rows) p)
+
+  abbrev attributes_row : Row → ℕ
+  attributes_row row = row_blocks (Some row) (attributes row.numbers.size 0 0 0 0)
+
+  attributes_needs : (p : Path) → attributes_blocks k.rows (tree_of S k.rows) p ≡ attributes_blocks m.rows (tree_of S m.rows) p
+  attributes_needs p = ap (λ (o : Option ℕ). option_map_or attributes_row (option_and_then (row_of k.rows) o) 0) (target_same p)
+      ∙ by_rows attributes_row (λ a b s i. attributes_row (record b { tail = s.tail i; numbers = s.numbers i })) (target (tree_of S m.rows) p)
+
+  -- ---- the tests of a call
+
+  module _ (w : World) (cpu : ℕ) where
+    create_front : (p : Path) (n : ℕ) → first_refusal (create_tests w (tree_of S k.rows) cpu p n) ≡ first_refusal (create_tests w (tree_of S m.rows) cpu p n)
+    create_front None n = refl
+    create_front (Some names) n = rw (walk_alike (tree_of S m.rows) (tree_of S k.rows) alike names 1, found_alike (tree_of S m.rows) (tree_of S k.rows) alike names) refl
+
+    size_front : (p : Path) (size n : ℕ) → first_refusal (set_size_tests w (tree_of S k.rows) cpu p size n) ≡ first_refusal (set_size_tests w (tree_of S m.rows) cpu p size n)
+    size_front None size n = refl
+    size_front (Some names) size n = rw (walk_alike (tree_of S m.rows) (tree_of S k.rows) alike names 1, found_alike (tree_of S m.rows) (tree_of S k.rows) alike names, directory_alike (tree_of S m.rows) (tree_of S k.rows) alike (found (tree_of S m.rows) names)) refl
+
+    write_front : (p : Path) (end n : ℕ) → first_refusal (write_tests w (tree_of S k.rows) cpu p end n) ≡ first_refusal (write_tests w (tree_of S m.rows) cpu p end n)
+    write_front None end n = refl
+    write_front (Some names) end n = rw (walk_alike (tree_of S m.rows) (tree_of S k.rows) alike names 1, found_alike (tree_of S m.rows) (tree_of S k.rows) alike names, directory_alike (tree_of S m.rows) (tree_of S k.rows) alike (found (tree_of S m.rows) names)) refl
+
+    attributes_front : (p : Path) (n : ℕ) → first_refusal (set_attr_tests w (tree_of S k.rows) cpu p n) ≡ first_refusal (set_attr_tests w (tree_of S m.rows) cpu p n)
+    attributes_front None n = refl
+    attributes_front (Some names) n = rw (walk_alike (tree_of S m.rows) (tree_of S k.rows) alike names 1, found_alike (tree_of S m.rows) (tree_of S k.rows) alike names) refl
+
+  pub create_one : (cpu : ℕ) (p : Path) (tests others : Tests) → asks_create cpu S m p tests → asks_create cpu S k p others → first_refusal others ≡ first_refusal tests
+  create_one cpu p tests others is other = ap first_refusal other
+      ∙ ap (λ (w : World). first_refusal (create_tests w (tree_of S k.rows) cpu p (create_blocks k.rows (tree_of S k.rows) p))) world_same
+      ∙ ap (λ (n : ℕ). first_refusal (create_tests (world_of m) (tree_of S k.rows) cpu p n)) (create_needs p) ∙ create_front (world_of m) cpu p _ ∙ ap first_refusal (sym is)
+
+  pub size_one : (cpu size : ℕ) (p : Path) (tests others : Tests) → asks_size cpu size S m p tests → asks_size cpu size S k p others → first_refusal others ≡ first_refusal tests
+  size_one cpu size p tests others is other = ap first_refusal other
+      ∙ ap (λ (w : World). first_refusal (set_size_tests w (tree_of S k.rows) cpu p size (resized_blocks k.rows (tree_of S k.rows) p size))) world_same
+      ∙ ap (λ (n : ℕ). first_refusal (set_size_tests (world_of m) (tree_of S k.rows) cpu p size n)) (size_needs p size) ∙ size_front (world_of m) cpu p size _ ∙ ap first_refusal (sym is)
+
+  pub attributes_one : (cpu : ℕ) (p : Path) (tests others : Tests) → asks_attributes cpu S m p tests → asks_attributes cpu S k p others → first_refusal others ≡ first_refusal tests
+  attributes_one cpu p tests others is other = ap first_refusal other
+      ∙ ap (λ (w : World). first_refusal (set_attr_tests w (tree_of S k.rows) cpu p (attributes_blocks k.rows (tree_of S k.rows) p))) world_same
+      ∙ ap (λ (n : ℕ). first_refusal (set_attr_tests (world_of m) (tree_of S k.rows) cpu p n)) (attributes_needs p) ∙ attributes_front (world_of m) cpu p _ ∙ ap first_refusal (sym is)
+
+  -- ---- a write
+
+  -- what a write needs of the one it needs of the other
+  needs_too : (cpu : ℕ) (p : Path) (offset bytes time count : ℕ) → WriteNeeds S k cpu p offset bytes time count → WriteNeeds S m cpu p offset bytes time count
+  needs_too cpu p offset bytes time count needs = record {
+    none = needs.none;
+    some = λ pos row is. by pos row is (target (tree_of S m.rows) p) refl;
+  } where
+    moved : (a b : Row) → SameRow a b → NeedsBlocks k.free.pools cpu b.tail (plan_of (block_at b.index) b.numbers.size offset bytes time) count → NeedsBlocks m.free.pools cpu a.tail (plan_of (block_at a.index) a.numbers.size offset bytes time) count
+    moved a b s n =
+        let index : block_at b.index ≡ block_at a.index = λ i q. s.index q i in
+        let size : b.numbers.size ≡ a.numbers.size = λ i. (s.numbers i).size in
+        subst (λ (pools : List (List Run)). NeedsBlocks pools cpu a.tail (plan_of (block_at a.index) a.numbers.size offset bytes time) count) same.pools
+        (subst (λ (tail : ℕ). NeedsBlocks k.free.pools cpu tail (plan_of (block_at a.index) a.numbers.size offset bytes time) count) s.tail
+        (subst (λ (z : ℕ). NeedsBlocks k.free.pools cpu b.tail (plan_of (block_at a.index) z offset bytes time) count) size
+        (subst (λ (f : ℕ → Option ℕ). NeedsBlocks k.free.pools cpu b.tail (plan_of f b.numbers.size offset bytes time) count) index n)))
+
+    by : 0 < bytes → (row : Row) → option_and_then (row_of m.rows) (target (tree_of S m.rows) p) ≡ Some row → (o : Option ℕ) → target (tree_of S m.rows) p ≡ o → NeedsBlocks m.free.pools cpu row.tail (plan_of (block_at row.index) row.numbers.size offset bytes time) count
+    by pos row is None at = absurd (let none : None ≡ Some row = ap (option_and_then (row_of m.rows)) (sym at) ∙ is in cc)
+    by pos row is (Some i) at = there (row_of m.rows i) (row_of k.rows i) (rows_at m.rows k.rows same.rows i) refl (ap (option_and_then (row_of m.rows)) (sym at) ∙ is) where
+      there : (a b : Option Row) → AreSame a b → row_of k.rows i ≡ b → a ≡ Some row → NeedsBlocks m.free.pools cpu row.tail (plan_of (block_at row.index) row.numbers.size offset bytes time) count
+      there None None s e h = absurd (cc)
+      there None (Some b) s e h = absurd s
+      there (Some a) None s e h = absurd s
+      there (Some a) (Some b) s e h =
+          let one : a ≡ row = cc in
+          subst (λ (r : Row). NeedsBlocks m.free.pools cpu r.tail (plan_of (block_at r.index) r.numbers.size offset bytes time) count) one
+          (moved a b s (needs.some pos b (ap (option_and_then (row_of k.rows)) (target_same p ∙ at) ∙ e)))
+
+-- where the tests in front pass, those behind decide
+after_front : (a b c : Tests) → (first_refusal a ≡ None → first_refusal b ≡ first_refusal c) → first_refusal (a ++ b) ≡ first_refusal (a ++ c)
+after_front [] b c same = same refl
+after_front (x ∷ a) b c same = by x.0 same (after_front a b c) where
+  by : (t : Bool) → (cond t (Some x.1) (first_refusal a) ≡ None → first_refusal b ≡ first_refusal c) → ((first_refusal a ≡ None → first_refusal b ≡ first_refusal c) → first_refusal (a ++ b) ≡ first_refusal (a ++ c))
+      → cond t (Some x.1) (first_refusal (a ++ b)) ≡ cond t (Some x.1) (first_refusal (a ++ c))
+  by true same rest = refl
+  by false same rest = rest same
+
+-- a test that passes
+first_passes : (x : Bool × Refusal) (tests : Tests) → first_refusal (x ∷ tests) ≡ None → (x.0 ≡ false) × (first_refusal tests ≡ None)
+first_passes (true, e) tests none = absurd (cc)
+first_passes (false, e) tests none = (refl, none)
+
+later_passes : (a b : Tests) → first_refusal (a ++ b) ≡ None → first_refusal b ≡ None
+later_passes [] b none = none
+later_passes (x ∷ a) b none = later_passes a b (first_passes x (a ++ b) none).1
+
+needs_one : (pools : List (List Run)) (cpu tail : ℕ) (mapped : ℕ → Option ℕ) (size offset bytes time a b : ℕ) → cpu < length pools → NeedsBlocks pools cpu tail (plan_of mapped size offset bytes time) a → NeedsBlocks pools cpu tail (plan_of mapped size offset bytes time) b → a ≡ b
+needs_one pools cpu tail mapped size offset bytes time a b inside (inl p) (inl q) = p.1 ∙ sym q.1
+needs_one pools cpu tail mapped size offset bytes time a b inside (inl p) (inr q) = absurd (let less = takes_less pools cpu _ q.0 q.1 inside q.2 in let few = p.0 in omega (arith, less, few))
+needs_one pools cpu tail mapped size offset bytes time a b inside (inr p) (inl q) = absurd (let less = takes_less pools cpu _ p.0 p.1 inside p.2 in let few = q.0 in omega (arith, less, few))
+needs_one pools cpu tail mapped size offset bytes time a b inside (inr p) (inr q) =
+    let runs : p.0 ≡ q.0 = takes_once pools cpu _ p.0 q.0 p.1 q.1 p.2 q.2 in
+    p.3 ∙ ap (λ (r : List Run). data_blocks (plan_of mapped size offset bytes time) + needed (tail % 4096) (data_entries (plan_of mapped size offset bytes time) r)) runs ∙ sym q.3
+
+in_use_there : (t : Tree) (o : Option ℕ) (i : ℕ) → in_use t o ≡ Some i → is_some (t i) ≡ true
+in_use_there t None i is = absurd (cc)
+in_use_there t (Some j) i is = by (is_some (t j)) refl is where
+  by : (b : Bool) → is_some (t j) ≡ b → cond b (Some j) None ≡ Some i → is_some (t i) ≡ true
+  by true used is = (let same : j ≡ i = cc in subst (λ (n : ℕ). is_some (t n) ≡ true) same used)
+  by false used is = absurd (cc)
+
+target_there : (t : Tree) (p : Path) (i : ℕ) → target t p ≡ Some i → is_some (t i) ≡ true
+target_there t None i is = absurd (cc)
+target_there t (Some []) i is = in_use_there t (Some 1) i is
+target_there t (Some (name ∷ names)) i is = in_use_there t (last_in t (walk t 1 (name ∷ names)) (name ∷ names)) i is
+
+-- how many blocks a write needs is decided, where the tests in front pass
+write_counts : (S : Region) (m : Mount ⊤) (cpu : ℕ) (p : Path) (offset bytes time a b : ℕ) → cpu < length m.free.pools → is_none (target (tree_of S m.rows) p) ≡ false → WriteNeeds S m cpu p offset bytes time a → WriteNeeds S m cpu p offset bytes time b → a ≡ b
+write_counts S m cpu p offset bytes time a b inside there na nb = elim (cases_lt 0 bytes) [
+  | inl pos ↦ by pos (target (tree_of S m.rows) p) refl
+  | inr zero ↦ (let none : bytes ≡ 0 = omega (arith, zero) in na.none none ∙ sym (nb.none none))
+] where
+  by : 0 < bytes → (o : Option ℕ) → target (tree_of S m.rows) p ≡ o → a ≡ b
+  by pos None at = absurd (let no : true ≡ false = ap is_none (sym at) ∙ there in cc)
+  by pos (Some i) at = with_row (row_of m.rows i) refl where
+    with_row : (o : Option Row) → row_of m.rows i ≡ o → a ≡ b
+    with_row None e = absurd (let no : false ≡ true = ap (λ (o : Option Row). is_some (option_map (node_of S) o)) (sym e) ∙ target_there (tree_of S m.rows) p i at in cc)
+    with_row (Some row) e =
+        let is : option_and_then (row_of m.rows) (target (tree_of S m.rows) p) ≡ Some row = ap (option_and_then (row_of m.rows)) at ∙ e in
+        needs_one m.free.pools cpu row.tail (block_at row.index) row.numbers.size offset bytes time a b inside (na.some pos row is) (nb.some pos row is)
+
+below : (a b : ℕ) → not (nat_lt a b) ≡ false → a < b
+below a b e = elim (cases_lt a b) [ inl less ↦ less | inr more ↦ absurd (let off : nat_lt a b ≡ false = grind (arith, nat_tests) in let no : true ≡ false = sym (ap not off) ∙ e in cc) ]
+
+module _ (S : Region) (m : Mount ⊤) (cpu : ℕ) (p : Path) (end : ℕ) where
+  -- the tests of a write before that for space
+  abbrev behind_walk : Tests
+  behind_walk = is_missing (tree_of S m.rows) p ∷ is_dir (tree_of S m.rows) p ∷ is_too_large end ∷ []
+
+  abbrev front : Tests
+  front = writing (world_of m) cpu (is_bad p ∷ walk_tests (tree_of S m.rows) p ++ behind_walk)
+
+  whole : (n : ℕ) → write_tests (world_of m) (tree_of S m.rows) cpu p end n ≡ front ++ has_no_space (world_of m) n ∷ []
+  whole n = ap (λ (l : Tests). writing (world_of m) cpu (is_bad p ∷ l)) (sym (append_assoc (walk_tests (tree_of S m.rows) p) behind_walk (has_no_space (world_of m) n ∷ [])))
+
+  front_passes : first_refusal front ≡ None → (cpu < m.sup.cpus) × (is_none (target (tree_of S m.rows) p) ≡ false)
+  front_passes none =
+      let one = first_passes (not (nat_lt cpu m.sup.cpus), BadCpu) ((m.read_only, ReadOnly) ∷ is_bad p ∷ walk_tests (tree_of S m.rows) p ++ behind_walk) none in
+      let two = first_passes (m.read_only, ReadOnly) (is_bad p ∷ walk_tests (tree_of S m.rows) p ++ behind_walk) one.1 in
+      let three = first_passes (is_bad p) (walk_tests (tree_of S m.rows) p ++ behind_walk) two.1 in
+      let four = first_passes (is_missing (tree_of S m.rows) p) (is_dir (tree_of S m.rows) p ∷ is_too_large end ∷ []) (later_passes (walk_tests (tree_of S m.rows) p) behind_walk three.1) in
+      (below cpu m.sup.cpus one.0, four.0)
+
+pub write_one : (S : Region) (m k : Mount ⊤) → SameSeen m k → length m.free.pools ≡ m.sup.cpus → (cpu offset bytes time : ℕ) (p : Path) (tests others : Tests) → asks_write cpu offset bytes time S m p tests → asks_write cpu offset bytes time S k p others → first_refusal others ≡ first_refusal tests
+write_one S m k same count cpu offset bytes time p tests others (a, needs, is) (b, more, other) =
+    ap first_refusal other
+    ∙ ap (λ (w : World). first_refusal (write_tests w (tree_of S k.rows) cpu p (offset + bytes) b)) (world_same S m k same)
+    ∙ write_front S m k same (world_of m) cpu p (offset + bytes) b
+    ∙ ap first_refusal (whole S m cpu p (offset + bytes) b)
+    ∙ after_front (front S m cpu p (offset + bytes)) _ _ (λ none. ap (λ (n : ℕ). first_refusal (has_no_space (world_of m) n ∷ [])) (same_counts none))
+    ∙ sym (ap first_refusal (whole S m cpu p (offset + bytes) a))
+    ∙ ap first_refusal (sym is) where
+      same_counts : first_refusal (front S m cpu p (offset + bytes)) ≡ None → b ≡ a
+      same_counts none = (let passes = front_passes S m cpu p (offset + bytes) none in
+          write_counts S m cpu p offset bytes time b a (subst (λ (n : ℕ). cpu < n) (sym count) passes.0) passes.1 (needs_too S m k same cpu p offset bytes time b more) needs)
+
+-- ---- the text of a call
+
+-- the tests say one thing of mounts that nobody can tell apart
+abbrev pub AskedOnce : Asks → Type 0
+AskedOnce asks = (S : Region) (m k : Mount ⊤) → SameSeen m k → length m.free.pools ≡ m.sup.cpus → (p : Path) (tests others : Tests) → asks S m p tests → asks S k p others → first_refusal others ≡ first_refusal tests
+
+module _ (asks : Asks) (makes : Makes) (logs : Logs) (path : List ℕ) (one : AskedOnce asks) where
+  asked_one : (R S : Region) (a b : Asked asks R S path) → first_refusal b.tests ≡ first_refusal a.tests
+  asked_one R S a b = one S (seen_in a) (seen_in b) (same_seen asks R S path a b) a.of_here.free.pools a.path_is a.tests b.tests a.are
+      (subst (λ (p : Path). asks S (seen_in b) p b.tests) (says_one path b.path_is a.path_is b.says a.says) b.are)
+
+  pub called_text : (mounted region : Option Region) (old m n : State) (s t : List ℕ) → CallsMounted asks makes logs path mounted region old s m → CallsMounted asks makes logs path mounted region old t n → s ≡ t
+  called_text None region old m n s t p q = p.0 ∙ sym q.0
+  called_text (Some R) None old m n s t p q = absurd p
+  called_text (Some R) (Some S) old m n s t (inl p) (inl q) =
+      let tests = asked_one R S p.0 q.0 in
+      let first = p.1.1 in
+      let other = q.1.1 in
+      let same : p.1.0 ≡ q.1.0 = (let both : Some p.1.0 ≡ Some q.1.0 = sym first ∙ sym tests ∙ other in cc) in
+      p.1.2 ∙ ap (λ (r : Refusal). refused_line (refusal_word r)) same ∙ sym q.1.2
+  called_text (Some R) (Some S) old m n s t (inl p) (inr q) = absurd (let clash : Some p.1.0 ≡ None = sym p.1.1 ∙ sym (asked_one R S p.0 q.0) ∙ q.1 in cc)
+  called_text (Some R) (Some S) old m n s t (inr p) (inl q) = absurd (let clash : Some q.1.0 ≡ None = sym q.1.1 ∙ asked_one R S p.0 q.0 ∙ p.1 in cc)
+  called_text (Some R) (Some S) old m n s t (inr p) (inr q) = p.7 ∙ sym q.7

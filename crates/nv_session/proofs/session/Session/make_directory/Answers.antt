@@ -1,0 +1,22 @@
+use Rattle.std.proofs.Common.{string_bytes}
+use Rattle.std.proofs.lemmas.Result.{IfOk-weaker}
+use Rattle.nv_super.specs.declared.kind.Kind.TheVariants.{Directory}
+use Rattle.nv_session.specs.Calls.{asks_create, makes_inode, logs_inode}
+use Rattle.nv_session.specs.Machine.{directory_mode}
+use Rattle.nv_session.proofs.Calling.{called_moves, seen}
+use Rattle.nv_session.proofs.Asking.{create_answers, inode_logged}
+use Rattle.nv_session.proofs.session.Session.make_directory.Goals as goal
+
+pub returns : goal.returns
+returns c = IfOk-weaker c.settle_call.result _ _ (λ text settles. called_moves (λ time. asks_create c.args.cpu) (makes_inode Directory c.args.cpu directory_mode) (logs_inode Directory c.args.cpu directory_mode)
+    c.args.path.now c.args.stop.fuse c.args.self.now c.take_mount.new.self c.settle_call.new.self c.in-Some.mount c.mkdir-answer.new.self c.mkdir-answer.result (string_bytes text) (rw c.in-Some.is at c.take_mount.ensures) (record {
+      answers = λ p says. create_answers c.in-Some.mount c.mkdir-answer.result c.args.cpu p (c.mkdir-answer.ensures.allowed p says) (λ runs. c.mkdir-answer.ensures.refused runs p says);
+      changed = c.mkdir-answer.ensures.changed;
+      logged = λ names is. inode_logged c.in-Some.mount.memory.region c.mkdir-answer.new.self.memory.region (seen c.in-Some.mount) names Directory c.args.cpu directory_mode c.take_mount.new.self.time c.mkdir-answer.result (λ d j held h. c.mkdir-answer.ensures.log names d j held h is);
+      unchanged = c.mkdir-answer.ensures.unchanged;
+      stopped = c.mkdir-answer.ensures.stopped;
+      keeps = c.mkdir-answer.ensures.keeps;
+      as_long = c.mkdir-answer.ensures.length;
+      steady = c.mkdir-answer.ensures.keeps_fuse.steady;
+      kept = c.settle_call.ensures.keeps;
+    }) settles) c.settle_call.ensures.settles

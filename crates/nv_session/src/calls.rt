@@ -1,0 +1,170 @@
+//! The commands that are file calls which write. Each takes the mount out of the session, with the fuse that was set, makes its
+//! call, and puts back the mount, or what a stop has left.
+
+ghost use Rattle.std.specs.Prelude.{◌≡◌, IfOk, Some};
+ghost use Rattle.nv_calls.specs.Mount.{IsKept};
+
+use crate::files::refused_call_text;
+use crate::session::Session;
+use crate::stop::Stop;
+use crate::store::Store;
+use crate::texts::{ok_text, stopped_text};
+use nv_calls::Fs;
+use nv_region::{Fuse, Keep, MemRegion};
+use nv_report::refused_text;
+use nv_text::Refusal;
+use nv_tree::Refusal as CallRefusal;
+use std::alloc::{AllocError, Global};
+
+/// The mode of a file that `create` makes.
+const FILE_MODE: u32 = 420;
+
+/// The mode of a directory that `mkdir` makes.
+const DIRECTORY_MODE: u32 = 493;
+
+impl Session {
+    ghost use Rattle.std.specs.Prelude.{string_bytes};
+    ghost use Rattle.nv_session.specs.Sessions.{Moves, TakesMount, PutsMount, SettlesCall, is_armed};
+    ghost use Rattle.nv_session.specs.Machine.{Creates, MakesDirectory, Writes, SetsSize, SetsAttributes};
+
+    pub(crate) fn create(
+        &mut self,
+        alloc: Global,
+        cpu: u64,
+        path: &[u8],
+        stop: Stop,
+    ) -> Result<String, AllocError>
+        ensures { IfOk result (λ text. Moves (Creates (is_armed stop) cpu path.now) self.old (string_bytes text) self.new) }
+    {
+        let Some(mut mount) = self.take_mount(stop.fuse) else {
+            return refused_text(alloc, Refusal::NotMounted);
+        };
+        let answer = mount.create(cpu, path, FILE_MODE, self.time);
+        self.settle_call(alloc, mount, answer, stop.keep)
+    }
+
+    pub(crate) fn make_directory(
+        &mut self,
+        alloc: Global,
+        cpu: u64,
+        path: &[u8],
+        stop: Stop,
+    ) -> Result<String, AllocError>
+        ensures { IfOk result (λ text. Moves (MakesDirectory (is_armed stop) cpu path.now) self.old (string_bytes text) self.new) }
+    {
+        let Some(mut mount) = self.take_mount(stop.fuse) else {
+            return refused_text(alloc, Refusal::NotMounted);
+        };
+        let answer = mount.mkdir(cpu, path, DIRECTORY_MODE, self.time);
+        self.settle_call(alloc, mount, answer, stop.keep)
+    }
+
+    pub(crate) fn write(
+        &mut self,
+        alloc: Global,
+        cpu: u64,
+        path: &[u8],
+        offset: u64,
+        count: u64,
+        byte: u8,
+        stop: Stop,
+    ) -> Result<String, AllocError>
+        ensures { IfOk result (λ text. Moves (Writes (is_armed stop) cpu path.now offset count byte) self.old (string_bytes text) self.new) }
+    {
+        let Some(mut mount) = self.take_mount(stop.fuse) else {
+            return refused_text(alloc, Refusal::NotMounted);
+        };
+        let bytes = vec![in alloc; byte; count as usize]?;
+        let answer = mount.write(cpu, path, offset, &bytes, self.time);
+        self.settle_call(alloc, mount, answer, stop.keep)
+    }
+
+    pub(crate) fn set_size(
+        &mut self,
+        alloc: Global,
+        cpu: u64,
+        path: &[u8],
+        size: u64,
+        stop: Stop,
+    ) -> Result<String, AllocError>
+        ensures { IfOk result (λ text. Moves (SetsSize (is_armed stop) cpu path.now size) self.old (string_bytes text) self.new) }
+    {
+        let Some(mut mount) = self.take_mount(stop.fuse) else {
+            return refused_text(alloc, Refusal::NotMounted);
+        };
+        let answer = mount.set_size(cpu, path, size, self.time);
+        self.settle_call(alloc, mount, answer, stop.keep)
+    }
+
+    pub(crate) fn set_attributes(
+        &mut self,
+        alloc: Global,
+        cpu: u64,
+        path: &[u8],
+        mode: u32,
+        owner: u32,
+        group: u32,
+        stop: Stop,
+    ) -> Result<String, AllocError>
+        ensures { IfOk result (λ text. Moves (SetsAttributes (is_armed stop) cpu path.now mode owner group) self.old (string_bytes text) self.new) }
+    {
+        let Some(mut mount) = self.take_mount(stop.fuse) else {
+            return refused_text(alloc, Refusal::NotMounted);
+        };
+        let answer = mount.set_attr(cpu, path, mode, owner, group, self.time);
+        self.settle_call(alloc, mount, answer, stop.keep)
+    }
+
+    // Takes out what is mounted, with this fuse for what is stored next.
+    fn take_mount(&mut self, fuse: Fuse) -> Option<Fs<MemRegion>>
+        ensures { TakesMount fuse self.old result self.new }
+    {
+        match self.store.take() {
+            Some(Store::Mounted(mut mount)) => {
+                mount.set_fuse(fuse);
+                Some(mount)
+            }
+            other => {
+                self.store = other;
+                None
+            }
+        }
+    }
+
+    // Puts back a mount after a call, or what is kept of its region after a stop. Answers what is printed. Want of memory is
+    // told as no refusal.
+    fn settle_call(
+        &mut self,
+        alloc: Global,
+        mount: Fs<MemRegion>,
+        answer: Result<(), CallRefusal>,
+        keep: Keep,
+    ) -> Result<String, AllocError>
+        ensures settles { IfOk result (λ text. SettlesCall mount answer self.old (string_bytes text) self.new) }
+        ensures keeps { IsKept mount.memory.region mount.sup mount.rows mount.free mount.faults mount.read_only mount.stopped }
+    {
+        mount.keeps();
+        match answer {
+            Ok(()) => {
+                self.put_mount(mount);
+                ok_text(alloc)
+            }
+            Err(CallRefusal::Stopped) => {
+                self.put(mount.into_region().after_stop(keep));
+                stopped_text(alloc)
+            }
+            Err(refusal) => {
+                self.put_mount(mount);
+                refused_call_text(alloc, refusal)
+            }
+        }
+    }
+
+    // Puts a mount in, without a fuse.
+    fn put_mount(&mut self, mut mount: Fs<MemRegion>)
+        ensures { PutsMount mount self.old self.new }
+    {
+        mount.set_fuse(Fuse::Off);
+        self.store = Some(Store::Mounted(mount));
+    }
+}
