@@ -8,18 +8,18 @@ use Rattle.std.proofs.lemmas.List.{length-append}
 use Rattle.nv_super.specs.Order.{Lists, Rises, SortedOf, fault_key}
 use Rattle.nv_super.specs.declared.faults.Fault.{Fault}
 use Rattle.nv_super.specs.declared.faults.Fault.TheVariants as faults
-use Rattle.nv_super.proofs.Rising.{Contains-head, Contains-tail, Lists-only, below_rest, below_first, head_least, rises_cons, rises_append, tail_rises}
+use Rattle.nv_super.proofs.Rising.{Contains-head, Contains-tail, Lists-only, head_least, tail_rises}
 use Rattle.nv_super.proofs.Filters.{from_filter, into_filter}
 use Rattle.nv_super.proofs.Members.{from_flat, into_flat, from_map, into_map}
 use Rattle.nv_names.specs.Names.{name_at, line_of}
 use Rattle.nv_names.specs.declared.named.Named.{Named}
 use Rattle.nv_scan.specs.declared.piece.Row.{Row}
-use Rattle.nv_scan.proofs.NamesListed.{names_listed}
 use Rattle.nv_check.specs.declared.listing.Listing.{Listing}
 use Rattle.nv_check.specs.Cross as cross
 use Rattle.nv_check.specs.Cross.{row_key, HasNameIn, IsUnusedIn, AreNamesIn, IsReachedIn, IsCrossFaultIn}
 use Rattle.nv_check.specs.Listings as listed
 use Rattle.nv_check.specs.Listings.{IsListing, AreListings, target, targets, names_of, IsReached, IsUnused, IsFault}
+use Rattle.nv_check.proofs.Ordered.{Apart, apart_append, Walked, names_walked, InOrder, in_order}
 use Rattle.nv_check.proofs.Rows.{listing_of, row_of, key_less}
 
 abbrev Line : Type 0
@@ -51,13 +51,23 @@ pairs_in i listings = flat_map (pairs_of i) listings
 pair_from : (i d : ℕ) (ns : List Line) (y : ℕ × List ℕ) → Contains (pairs_among i d ns) y → (x : Line) × Contains ns x × (x.1 ≡ i) × (y ≡ (d, x.0))
 pair_from i d ns y c = let m = from_map (λ (x : Line). (d, x.0)) (filter (λ (x : Line). eqb x.1 i) ns) y c in let f = from_filter (λ (x : Line). eqb x.1 i) ns m.0 m.1 in (m.0, f.0, eqb-true m.0.1 i f.1, m.2)
 
-row_rises : (i d : ℕ) (ns : List Line) → Rises name_of ns → Rises pair_key (pairs_among i d ns)
-row_rises i d [] r = tt
-row_rises i d (x ∷ ns) r = test (eqb x.1 i) (row_rises i d ns (tail_rises name_of x ns r)) where
-  test : (t : Bool) → Rises pair_key (pairs_among i d ns) → Rises pair_key (map (λ (y : Line). (d, y.0)) (cond t (x ∷ filter (λ (y : Line). eqb y.1 i) ns) (filter (λ (y : Line). eqb y.1 i) ns)))
-  test true h = rises_cons pair_key (d, x.0) (pairs_among i d ns) (λ y c. (let w = pair_from i d ns y c in
-      let P : ℕ × List ℕ → Type 0 = λ z. slice_cmp nat_cmp (d ∷ x.0) (pair_key z) ≡ Less in
-      subst P (sym w.3) (below_rest d x.0 w.0.0 (head_least name_of x ns r w.0 w.1)))) h
+-- pairs that are one are of one directory and one name
+same_name : (d e : ℕ) (u v : List ℕ) → d ∷ u ≡ e ∷ v → u ≡ v
+same_name d e u v h = cc
+
+same_directory : (d e : ℕ) (u v : List ℕ) → d ∷ u ≡ e ∷ v → d ≡ e
+same_directory d e u v h = cc
+
+row_apart : (i d : ℕ) (ns : List Line) → Apart name_of ns → Apart pair_key (pairs_among i d ns)
+row_apart i d [] a = tt
+row_apart i d (x ∷ ns) a = test (eqb x.1 i) (row_apart i d ns a.1) where
+  test : (t : Bool) → Apart pair_key (pairs_among i d ns) → Apart pair_key (map (λ (y : Line). (d, y.0)) (cond t (x ∷ filter (λ (y : Line). eqb y.1 i) ns) (filter (λ (y : Line). eqb y.1 i) ns)))
+  test true h = (
+    λ y c same. (let w = pair_from i d ns y c in
+        let P : ℕ × List ℕ → Type 0 = λ z. d ∷ x.0 ≡ pair_key z in
+        a.0 w.0 w.1 (same_name d d x.0 w.0.0 (subst P w.3 same))),
+    h,
+  )
   test false h = h
 
 row_count : (i d : ℕ) (xs : List Named) → length {A = ℕ × List ℕ} (pairs_among i d (map line_of xs)) ≡ count_by (λ t. eqb t i) (map target xs)
@@ -89,8 +99,8 @@ rises_listed (x ∷ y ∷ rows) (l ∷ m ∷ listings) h r =
     (subst P (sym h.0.inode) (subst Q (sym h.1.0.inode) r.0), rises_listed (y ∷ rows) (m ∷ listings) h.1 r.1)
 
 module _ (rows : List Row) (listings : List Listing) (are : AreListings rows listings) (rising : Rises row_key rows) where
-  names_in : (r : Row) (l : Listing) → IsListing r l → Lists name_of (λ x. name_at r.names x.0 ≡ Some (x.1, x.2)) (lines l)
-  names_in r l h = names_listed r.names (lines l) h.names
+  names_in : (r : Row) (l : Listing) → IsListing r l → Walked r.names (lines l)
+  names_in r l h = names_walked r.names (lines l) h.names
 
   has_name : (r : Row) (l : Listing) (x : Named) → IsListing r l → Contains l.names.items x → name_at r.names x.name.now ≡ Some (x.inode, x.place)
   has_name r l x h c = (names_in r l h).each (line_of x) (into_map line_of l.names.items x c)
@@ -140,24 +150,36 @@ module _ (rows : List Row) (listings : List Listing) (are : AreListings rows lis
       let P : ℕ → Type 0 = λ j. IsReached listings j in
       subst P (w.2.inode ∙ e) (listed.step s.listing w.0 s.line (subst P (sym s.inode) (reached_back d rd)) s.here s.has w.1 (w.2.inode ∙ e ∙ ap (λ (z : Line). z.1) s.is))
 
-  pairs_rise : (i : ℕ) (some : List Listing) → Rises listing_key some → ((l : Listing) → Contains some l → Contains listings l) → Rises pair_key (pairs_in i some)
-  pairs_rise i [] r sub = tt
-  pairs_rise i (x ∷ some) r sub = rises_append pair_key (pairs_of i x) (pairs_in i some)
-      (let w = row x (sub x (Contains-head x some)) in row_rises i x.inode (lines x) (names_in w.0 x w.2).rising)
-      (pairs_rise i some (tail_rises listing_key x some r) (λ q c. sub q (Contains-tail x some q c)))
-      (λ u v c d. (
+  pairs_apart : (i : ℕ) (some : List Listing) → Rises listing_key some → ((l : Listing) → Contains some l → Contains listings l) → Apart pair_key (pairs_in i some)
+  pairs_apart i [] r sub = tt
+  pairs_apart i (x ∷ some) r sub = apart_append pair_key (pairs_of i x) (pairs_in i some)
+      (let w = row x (sub x (Contains-head x some)) in row_apart i x.inode (lines x) (names_in w.0 x w.2).apart)
+      (pairs_apart i some (tail_rises listing_key x some r) (λ q c. sub q (Contains-tail x some q c)))
+      (λ u v c d same. (
       let m = pair_from i x.inode (lines x) u c in
       let f = from_flat (pairs_of i) some v d in
       let n = pair_from i f.0.inode (lines f.0) v f.2 in
-      let P : ℕ × List ℕ → Type 0 = λ z. slice_cmp nat_cmp (pair_key z) (pair_key v) ≡ Less in
-      let Q : ℕ × List ℕ → Type 0 = λ z. slice_cmp nat_cmp (x.inode ∷ m.0.0) (pair_key z) ≡ Less in
-      subst P (sym m.3) (subst Q (sym n.3) (below_first x.inode f.0.inode m.0.0 n.0.0 (key_less x.inode f.0.inode (head_least listing_key x some r f.0 f.1))))))
+      let P : ℕ × List ℕ → Type 0 = λ z. pair_key z ≡ pair_key v in
+      let Q : ℕ × List ℕ → Type 0 = λ z. x.inode ∷ m.0.0 ≡ pair_key z in
+      let one : x.inode ≡ f.0.inode = same_directory x.inode f.0.inode m.0.0 n.0.0 (subst Q n.3 (subst P m.3 same)) in
+      let less : x.inode < f.0.inode = key_less x.inode f.0.inode (head_least listing_key x some r f.0 f.1) in
+      omega (arith, one, less)))
 
-  names_are : (i : ℕ) → AreNamesIn rows i (pairs_in i listings)
+  -- the names of inode i, in order
+  sorted : (i : ℕ) → (ys : List (ℕ × List ℕ)) × InOrder pair_key (pairs_in i listings) ys
+  sorted i = in_order pair_key (pairs_in i listings) (pairs_apart i listings (rises_listed rows listings are rising) (λ l c. c))
+
+  abbrev ordered : ℕ → List (ℕ × List ℕ)
+  ordered i = (sorted i).0
+
+  count : (i : ℕ) → length (ordered i) ≡ names_of listings i
+  count i = (sorted i).1.count ∙ pairs_count i listings
+
+  names_are : (i : ℕ) → AreNamesIn rows i (ordered i)
   names_are i = record {
-    rising = pairs_rise i listings (rises_listed rows listings are rising) (λ l c. c);
+    rising = (sorted i).1.sorted.rising;
     each = λ y c. (
-        let f = from_flat (pairs_of i) listings y c in let m = pair_from i f.0.inode (lines f.0) y f.2 in
+        let f = from_flat (pairs_of i) listings y ((sorted i).1.sorted.from y c) in let m = pair_from i f.0.inode (lines f.0) y f.2 in
         let x = from_map line_of f.0.names.items m.0 m.1 in
         let P : ℕ × List ℕ → Type 0 = λ z. (at : ℕ) × HasNameIn rows z.0 z.1 i at in
         let N : List ℕ → Type 0 = λ q. HasNameIn rows f.0.inode q i x.0.place in
@@ -168,24 +190,24 @@ module _ (rows : List Row) (listings : List Listing) (are : AreListings rows lis
         let P : ℕ × List ℕ → Type 0 = λ z. Contains (pairs_in i listings) z in
         let L : Line → Type 0 = λ z. Contains (lines s.listing) z in
         let line : Contains (lines s.listing) (y.1, i, h.0) = subst L (sym s.is) (into_map line_of s.listing.names.items s.line s.has) in
-        subst P e (into_flat (pairs_of i) listings s.listing (s.listing.inode, y.1) s.here
-        (into_map (λ (x : Line). (s.listing.inode, x.0)) (filter (λ (x : Line). eqb x.1 i) (lines s.listing)) (y.1, i, h.0) (into_filter (λ (x : Line). eqb x.1 i) (lines s.listing) (y.1, i, h.0) line (eq-eqb i i refl)))));
+        (sorted i).1.sorted.kept y (subst P e (into_flat (pairs_of i) listings s.listing (s.listing.inode, y.1) s.here
+        (into_map (λ (x : Line). (s.listing.inode, x.0)) (filter (λ (x : Line). eqb x.1 i) (lines s.listing)) (y.1, i, h.0) (into_filter (λ (x : Line). eqb x.1 i) (lines s.listing) (y.1, i, h.0) line (eq-eqb i i refl))))));
   }
 
   names_count : (i : ℕ) (names : List (ℕ × List ℕ)) → AreNamesIn rows i names → length names ≡ names_of listings i
-  names_count i names h = ap length (Lists-only pair_key (λ x. (at : ℕ) × HasNameIn rows x.0 x.1 i at) names (pairs_in i listings) h (names_are i)) ∙ pairs_count i listings
+  names_count i names h = ap length (Lists-only pair_key (λ x. (at : ℕ) × HasNameIn rows x.0 x.1 i at) names (ordered i) h (names_are i)) ∙ count i
 
   pub cross_there : (f : Fault) → IsFault listings f → IsCrossFaultIn rows f
   cross_there f (listed.c1 d x dc xc un) = cross.c1 x.name.now x.inode (says d x x.inode dc xc refl) (unused_there x.inode un)
   cross_there f (listed.c2 l c dir other ne) = let w = row l c in
       let P : ℕ → Type 0 = λ j. IsCrossFaultIn rows (faults.C2 j) in
-      subst P (sym w.2.inode) (cross.c2 w.0 (pairs_in w.0.inode listings) w.1 (sym w.2.kind ∙ dir) (λ e. other (w.2.inode ∙ e)) (names_are w.0.inode) (λ e. ne (ap (names_of listings) w.2.inode ∙ sym (pairs_count w.0.inode listings) ∙ e)))
+      subst P (sym w.2.inode) (cross.c2 w.0 (ordered w.0.inode) w.1 (sym w.2.kind ∙ dir) (λ e. other (w.2.inode ∙ e)) (names_are w.0.inode) (λ e. ne (ap (names_of listings) w.2.inode ∙ sym (count w.0.inode) ∙ e)))
   cross_there f (listed.c2_root l c dir one some) = let w = row l c in
       let P : ℕ → Type 0 = λ j. IsCrossFaultIn rows (faults.C2 j) in let N : ℕ → Type 0 = λ j. 0 < names_of listings j in
-      subst P (sym one) (cross.c2_root w.0 (pairs_in 1 listings) w.1 (sym w.2.kind ∙ dir) (sym w.2.inode ∙ one) (names_are 1) (let n = pairs_count 1 listings in let g = subst N one some in omega (arith, n, g)))
+      subst P (sym one) (cross.c2_root w.0 (ordered 1) w.1 (sym w.2.kind ∙ dir) (sym w.2.inode ∙ one) (names_are 1) (let n = count 1 in let g = subst N one some in omega (arith, n, g)))
   cross_there f (listed.c3 l c file ne) = let w = row l c in
       let P : ℕ → Type 0 = λ j. IsCrossFaultIn rows (faults.C3 j) in
-      subst P (sym w.2.inode) (cross.c3 w.0 (pairs_in w.0.inode listings) w.1 (sym w.2.kind ∙ file) (names_are w.0.inode) (λ e. ne (w.2.links ∙ e ∙ pairs_count w.0.inode listings ∙ ap (names_of listings) (sym w.2.inode))))
+      subst P (sym w.2.inode) (cross.c3 w.0 (ordered w.0.inode) w.1 (sym w.2.kind ∙ file) (names_are w.0.inode) (λ e. ne (w.2.links ∙ e ∙ count w.0.inode ∙ ap (names_of listings) (sym w.2.inode))))
   cross_there f (listed.c4 l c out) = let w = row l c in
       let P : ℕ → Type 0 = λ j. IsCrossFaultIn rows (faults.C4 j) in let Q : ℕ → Type 0 = λ j. IsReached listings j in
       subst P (sym w.2.inode) (cross.c4 w.0 w.1 (λ u. out (subst Q (sym w.2.inode) (reached_back w.0.inode u))))

@@ -7,3 +7,4 @@ pub mod Rows
 pub mod Together
 pub mod CrossRows
 pub mod Near
+pub mod Ordered

@@ -4,17 +4,17 @@ use Rattle.std.specs.List.{Contains, flat_map, AllZip}
 use Rattle.nv_super.specs.declared.kind.Kind.TheVariants.{File, Directory}
 use Rattle.nv_super.specs.declared.faults.Fault.{Fault}
 use Rattle.nv_super.specs.declared.faults.Fault.TheVariants as faults
-use Rattle.nv_names.specs.Names.{line_of, ListsNames}
+use Rattle.nv_names.specs.Names.{line_of, HasNames}
 use Rattle.nv_names.specs.declared.named.Named.{Named}
 use Rattle.nv_scan.specs.declared.piece.Row.{Row}
 use Rattle.nv_check.specs.declared.listing.Listing.{Listing}
 
--- the row's inode, kind and link count, with its names, each once and rising
+-- the row's inode, kind and link count, with its names, each once, in whatever order
 pub record IsListing (r : Row) (l : Listing) : Type 0 where
   pub inode : l.inode ≡ r.inode
   pub kind : l.kind ≡ r.kind
   pub links : l.links ≡ r.numbers.links
-  pub names : ListsNames r.names (map line_of l.names.items)
+  pub names : HasNames r.names (map line_of l.names.items)
 
 -- the rows one by one
 abbrev pub AreListings : List Row → List Listing → Type 0

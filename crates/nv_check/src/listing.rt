@@ -8,7 +8,7 @@ use nv_scan::Row;
 use nv_super::Kind;
 use std::alloc::{AllocError, Global};
 
-/// What the checks read of a row, with each name once, rising.
+/// What the checks read of a row, with each name once, in no order.
 #[derive(Drop)]
 pub(crate) struct Listing<'a> {
     pub(crate) inode: u64,
@@ -24,13 +24,13 @@ pub(crate) fn listings_of<'a>(
 ) -> Result<Vec<Listing<'a>>, AllocError>
     ensures { IfOk result (λ listings. AreListings rows.now listings.items) }
 {
-    let mut listings = Vec::new(alloc);
+    let mut listings = Vec::with_capacity(alloc, rows.len())?;
     for row in rows {
         listings.push(Listing {
             inode: row.inode,
             kind: row.kind,
             links: row.numbers.links,
-            names: row.names.list()?,
+            names: row.names.walk()?,
         })?;
     }
     Ok(listings)

@@ -12,7 +12,7 @@ use Rattle.std.proofs.lemmas.List.Elements.{All-from_recursion, Contains-get_or,
 use Rattle.std.proofs.lemmas.List.Sorted.{IsPermutation-map, All-permutation, Contains-permutation}
 use Rattle.std.proofs.lemmas.Map.Keys.{IsDistinct-head, IsDistinct-tail, IsDistinct-IsPermutation, apart_from_distinct, sorted_from_all_adjacent}
 use Rattle.nv_names.specs.declared.named.Named.{Named}
-use Rattle.nv_names.specs.Names.{Names, found_in, names_of, EachOnce, ListsNames, line_of}
+use Rattle.nv_names.specs.Names.{Names, found_in, names_of, EachOnce, HasNames, ListsNames, line_of}
 use Rattle.nv_names.specs.Table.{names_held}
 
 -- no value is none
@@ -93,6 +93,14 @@ lists_names index us vs distinct lines moved sorted = record {
 
     renamed : IsPermutation (names_of index.names) (names_of (map line_of vs))
     renamed = IsPermutation-map (λ e. e.0) index.names (map line_of vs) entries
+
+-- lines that are those of an index have its names
+pub has_names : (index : Names) (us : List Named) → EachOnce index → map line_of us ≡ index.names → HasNames index (map line_of us)
+has_names index us distinct lines = rw lines record {
+  once = distinct;
+  each = All-from_recursion _ _ (each_found index.names distinct);
+  all = λ q some. found_contained index.names q some;
+}
 
 -- where there is no table, no name is there twice
 pub held_once : (table : Option (Box Names Global)) → table ≡ None → EachOnce (names_held table)

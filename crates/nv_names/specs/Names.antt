@@ -47,3 +47,9 @@ pub record ListsNames (index : Names) (listed : List (List ℕ × ℕ × ℕ)) :
   pub rising : IsStrictlySortedBy (slice_cmp nat_cmp) (names_of listed)
   pub each : All (λ e. name_at index e.0 ≡ Some (e.1, e.2)) listed
   pub all : (q : List ℕ) → IsSome (name_at index q) → Contains (names_of listed) q
+
+-- the names of an index, each once, in whatever order, with its inode and place
+pub record HasNames (index : Names) (listed : List (List ℕ × ℕ × ℕ)) : Type 0 where
+  pub once : IsDistinct (pointwise nat_eq) (names_of listed)
+  pub each : All (λ e. name_at index e.0 ≡ Some (e.1, e.2)) listed
+  pub all : (q : List ℕ) → IsSome (name_at index q) → Contains (names_of listed) q

@@ -4,7 +4,7 @@
 ghost use Rattle.std.specs.Prelude.{◌≡◌, ◌+◌, ◌<◌, ◌≤◌, ◌↔◌, IsTrue, if◌then◌else◌, List, ℕ, length, map, IfOk, IsOk, OnOk, OnErr, Some, None, nat_eq};
 ghost use Rattle.std.specs.Option.{option_map};
 ghost use Rattle.std.specs.Cmp.Lexicographic.{pointwise};
-ghost use Rattle.nv_names.specs.Names.{IsName, name_at, EachOnce, ListsNames, inode_and_place, line_of};
+ghost use Rattle.nv_names.specs.Names.{IsName, name_at, EachOnce, HasNames, ListsNames, inode_and_place, line_of};
 
 use crate::table::Table;
 use crate::{Named, Target};
@@ -96,13 +96,27 @@ impl NameIndex {
         ensures succeeds { 0 < self.old.room → IsOk result }
         ensures room { self.old.room ≤ self.new.room + 1 }
     {
+        let _had = self.put(name, inode, place)?;
+        Ok(())
+    }
+
+    /// As `insert`, and answers what the name stood for before, for the cost of one call.
+    pub fn put(&mut self, name: &[u8], inode: u64, place: u64) -> Result<Option<Target>, AllocError>
+        requires name { IsName name.now }
+        ensures ok { OnOk result ((q : List ℕ) → name_at self.new q
+            ≡ (if pointwise nat_eq q name.now then Some (inode, place) else name_at self.old q)) }
+        ensures had { IfOk result (λ had. option_map inode_and_place had ≡ name_at self.old name.now) }
+        ensures err { OnErr result ((q : List ℕ) → name_at self.new q ≡ name_at self.old q) }
+        ensures succeeds { 0 < self.old.room → IsOk result }
+        ensures room { self.old.room ≤ self.new.room + 1 }
+    {
         match &mut self.table {
-            Some(table) => table.insert(name, inode, place),
+            Some(table) => table.put(name, inode, place),
             None => {
                 let mut table = Table::new(self.alloc);
-                table.insert(name, inode, place)?;
+                let had = table.put(name, inode, place)?;
                 self.table = Some(Box::new(self.alloc, table)?);
-                Ok(())
+                Ok(had)
             }
         }
     }
@@ -147,6 +161,15 @@ impl NameIndex {
         let mut listed = self.unsorted()?;
         listed.sort_unstable_by_key(|line| line.name);
         Ok(listed)
+    }
+
+    /// Each name once, in no order that a caller can rest on. It costs less than `list`.
+    ///
+    /// It takes memory for one `Named` a name. The names stay in the index.
+    pub fn walk(&self) -> Result<Vec<Named<'_>>, AllocError>
+        ensures { IfOk result (λ listed. HasNames self.now (map line_of listed.items)) }
+    {
+        self.unsorted()
     }
 
     /// Each name once, in the order of the table.

@@ -86,17 +86,24 @@ impl Table {
         self.fresh.push_reserved((Name::new(name), target));
     }
 
-    /// As `add`, and where there is no room the name goes into the tree.
-    pub(crate) fn insert(&mut self, name: &[u8], inode: u64, place: u64) -> Result<(), AllocError>
+    /// As `add`, and where there is no room the name goes into the tree. Answers what the name stood for before.
+    pub(crate) fn put(
+        &mut self,
+        name: &[u8],
+        inode: u64,
+        place: u64,
+    ) -> Result<Option<Target>, AllocError>
         requires name { IsName name.now }
         ensures ok { OnOk result (PutsAt self.old.names self.new.names name.now (Some (inode, place))) }
+        ensures had { IfOk result (λ had. option_map inode_and_place had ≡ name_at self.old name.now) }
         ensures err { OnErr result ((q : List ℕ) → name_at self.new q ≡ name_at self.old q) }
         ensures succeeds { 0 < self.old.room → IsOk result }
         ensures room { self.old.room ≤ self.new.room + 1 }
     {
         if self.fresh.len() < self.fresh.capacity() {
+            let had = self.get(name);
             self.add(name, inode, place);
-            return Ok(());
+            return Ok(had);
         }
         settle(self.alloc, &mut self.tree, &mut self.fresh)?;
         put(self.alloc, &mut self.tree, name, Target { inode, place })

@@ -1,8 +1,9 @@
 //! The tree of names, in the order of their bytes. It takes memory for each name that it is given.
 
-ghost use Rattle.std.specs.Prelude.{◌≡◌, ◌+◌, ◌<◌, ◌≤◌, ◌++◌, ◌∷◌, [], map, OnOk, OnErr, Some};
+ghost use Rattle.std.specs.Prelude.{◌≡◌, ◌+◌, ◌<◌, ◌≤◌, ◌++◌, ◌∷◌, [], map, IfOk, OnOk, OnErr, Some};
+ghost use Rattle.std.specs.Option.{option_map};
 ghost use Rattle.std.specs.Vec.{vec_len, vec_capacity};
-ghost use Rattle.nv_names.specs.Names.{line_of, inode_and_place};
+ghost use Rattle.nv_names.specs.Names.{found_in, line_of, inode_and_place};
 ghost use Rattle.nv_names.specs.Table.{tree_line, fresh_line, PutsAt, FindSame, AreBeside};
 
 use crate::fresh::Fresh;
@@ -14,19 +15,19 @@ use std::collections::BTreeMap;
 /// What names stand for, by their bytes.
 pub(crate) type Tree = BTreeMap<Vec<u8>, Target>;
 
-/// Puts a name into a tree, in place of what it stood for.
+/// Puts a name into a tree, in place of what it stood for, which it answers.
 pub(crate) fn put(
     alloc: Global,
     tree: &mut Tree,
     name: &[u8],
     target: Target,
-) -> Result<(), AllocError>
+) -> Result<Option<Target>, AllocError>
+    ensures had { IfOk result (λ had. option_map inode_and_place had ≡ found_in (map tree_line tree.old.entries) name.now) }
     ensures ok { OnOk result (PutsAt (map tree_line tree.old.entries) (map tree_line tree.new.entries) name.now (Some (inode_and_place target))) }
     ensures err { OnErr result (tree.new.entries ≡ tree.old.entries) }
 {
     let key = Vec::from_slice(alloc, name)?;
-    let _had = tree.insert(key, target)?;
-    Ok(())
+    Ok(tree.insert(key, target)?)
 }
 
 /// Moves the names of a list into the tree that it stands beside. An error leaves the names that both have together.

@@ -1,6 +1,7 @@
 //! The state of an inode as its log is read: one entry at a time, of which none is kept.
 
-ghost use Rattle.std.specs.Prelude.{◌≡◌, ℕ, OnOk, [], true, is_none};
+ghost use Rattle.std.specs.Prelude.{◌≡◌, ◌++◌, ℕ, OnOk, [], true, is_none};
+ghost use Rattle.std.specs.List.{cons_option};
 ghost use Rattle.nv_entry.specs.Content.{content_fault};
 ghost use Rattle.nv_entry.specs.Light.{bare, name_in, CanBeRead, HasName};
 ghost use Rattle.nv_logpage.specs.Reads.{placed};
@@ -11,7 +12,7 @@ ghost use Rattle.nv_super.specs.declared.kind.Kind.{Kind as KindValue};
 ghost use Rattle.nv_scan.specs.Fold.{Takes, Holds};
 ghost use Rattle.nv_scan.specs.Light.{bare_placed};
 
-use crate::names::{apply_name, clash, told};
+use crate::names::{apply_name, told};
 use crate::numbers::Numbers;
 use crate::pages::apply_pages;
 use nv_entry::{Entry, LightEntry, LightName, NameEntry, check_bare, check_name};
@@ -140,10 +141,18 @@ impl Fold {
         requires { is_none (content_fault _sup.now _kind (Entry.Name e.now)) ≡ true }
         ensures { OnOk result (Takes _sup.now _kind inode (placed at (Entry.Name e.now)) self.old self.new) }
     {
-        if let Some(fault) = clash(&self.names, inode, at, e) {
-            self.faults.push(fault)?;
-        }
+        let fault = apply_name(&mut self.names, inode, at, e)?;
         self.numbers.time = e.time;
-        apply_name(&mut self.names, at, e)
+        push_fault(&mut self.faults, fault)
     }
+}
+
+/// Puts a fault behind the others, if there is one.
+pub(crate) fn push_fault(faults: &mut Vec<Fault>, fault: Option<Fault>) -> Result<(), AllocError>
+    ensures { OnOk result (faults.new.items ≡ faults.old.items ++ cons_option fault []) }
+{
+    if let Some(fault) = fault {
+        faults.push(fault)?;
+    }
+    Ok(())
 }

@@ -1,7 +1,6 @@
 //! One inode: its slot and its log become its row, the blocks that it claims and its faults.
 
-ghost use Rattle.std.specs.Prelude.{◌≡◌, ◌++◌, ◌<◌, [], IfOk, IfSome, OnOk, IsTrue, Some, true};
-ghost use Rattle.std.specs.List.{cons_option};
+ghost use Rattle.std.specs.Prelude.{◌≡◌, ◌<◌, IfOk, IfSome, IsTrue, Some, true};
 ghost use Rattle.nv_region.specs.Region.{HasBlocks};
 ghost use Rattle.nv_super.specs.Layout.{IsLayout, HasAreas, inode_limit, is_number, slot_address, fixed_layout};
 ghost use Rattle.nv_inode.specs.Slot.{slot_at, kind_of, is_right_log};
@@ -13,7 +12,7 @@ ghost use Rattle.nv_scan.specs.Scanned.{IsPieceOf, IsEmptyPiece, fault_of_end};
 ghost use Rattle.nv_scan.specs.Tickets.{IsFound, number_at};
 
 use crate::claims::claims_of;
-use crate::fold::Fold;
+use crate::fold::{Fold, push_fault};
 use crate::in_use::InUse;
 use crate::piece::{Piece, Row};
 use crate::reading::{Read, read_log};
@@ -260,13 +259,4 @@ fn without_row(alloc: Global, inode: u64, fault: Option<Fault>) -> Result<Piece,
         claims: Vec::new(alloc),
         faults,
     })
-}
-
-fn push_fault(faults: &mut Vec<Fault>, fault: Option<Fault>) -> Result<(), AllocError>
-    ensures { OnOk result (faults.new.items ≡ faults.old.items ++ cons_option fault []) }
-{
-    if let Some(fault) = fault {
-        faults.push(fault)?;
-    }
-    Ok(())
 }

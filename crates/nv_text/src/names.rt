@@ -1,7 +1,7 @@
 //! Bytes as text: names with their escapes, and the content of files in hexadecimal digits.
 
-ghost use Rattle.std.specs.Prelude.{◌≡◌, ◌++◌, OnOk, string_bytes, flat_map};
-ghost use Rattle.nv_text.specs.Names.{hex_byte, escaped_byte, escaped, list_line, name_line, data_text, data_line};
+ghost use Rattle.std.specs.Prelude.{◌≡◌, ◌++◌, IfSome, OnOk, string_bytes, flat_map};
+ghost use Rattle.nv_text.specs.Names.{hex_byte, is_plain, escaped_byte, escaped, list_line, name_line, data_text, data_line};
 
 use std::alloc::AllocError;
 use std::fmt::Write;
@@ -19,7 +19,7 @@ fn push_hex_byte(out: &mut String, byte: u8) -> Result<(), AllocError>
 fn push_escaped_byte(out: &mut String, byte: u8) -> Result<(), AllocError>
     ensures { OnOk result (string_bytes out.new ≡ string_bytes out.old ++ escaped_byte byte) }
 {
-    if byte.is_ascii_graphic() && byte != b'\\' {
+    if is_plain(byte) {
         out.push(char::from(byte))
     } else {
         out.push_str("\\x")?;
@@ -27,13 +27,43 @@ fn push_escaped_byte(out: &mut String, byte: u8) -> Result<(), AllocError>
     }
 }
 
-fn push_escaped(out: &mut String, name: &[u8]) -> Result<(), AllocError>
+fn push_escapes(out: &mut String, name: &[u8]) -> Result<(), AllocError>
     ensures { OnOk result (string_bytes out.new ≡ string_bytes out.old ++ escaped name.now) }
 {
     for byte in name {
         push_escaped_byte(out, *byte)?;
     }
     Ok(())
+}
+
+/// Whether a byte of a name is printed as it is.
+fn is_plain(byte: u8) -> bool
+    ensures { result ≡ is_plain byte }
+{
+    byte.is_ascii_graphic() && byte != b'\\'
+}
+
+/// A name as text, where each of its bytes is printed as it is.
+#[tactic(auto, unfolding(crate::specs::Names::escaped_byte))]
+fn plain_text(name: &[u8]) -> Option<&str>
+    ensures { IfSome result (λ text. text.now ≡ escaped name.now) }
+{
+    for byte in name {
+        if !is_plain(*byte) {
+            return None;
+        }
+    }
+    std::str::from_utf8(name).ok()
+}
+
+// Most names need no escape, and then go out at once.
+fn push_escaped(out: &mut String, name: &[u8]) -> Result<(), AllocError>
+    ensures { OnOk result (string_bytes out.new ≡ string_bytes out.old ++ escaped name.now) }
+{
+    match plain_text(name) {
+        Some(text) => out.push_str(text),
+        None => push_escapes(out, name),
+    }
 }
 
 /// A name and its inode, as a directory's list shows them.
