@@ -129,7 +129,7 @@ const NUMBERS: [(u64, u64, u64, Result<(), FormatRefusal>); 9] = [
 
 #[test]
 fn numbers_are_refused_in_their_order(rt: HostRuntime) -> Result<(), RegionRefusal> {
-    for (blocks, cpus, table_blocks, answer) in NUMBERS {
+    for &(blocks, cpus, table_blocks, answer) in NUMBERS.iter() {
         let mut memory = MemRegion::new(rt.alloc(), blocks)?;
         assert!(rt;
             format(&mut memory, cpus, table_blocks, 0) == answer,

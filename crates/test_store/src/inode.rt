@@ -75,10 +75,9 @@ const TAILS_IN_TWO: [Word; 2] = [(12416 + 24, 12320), (20608 + 24, 12320)];
 
 #[test]
 fn slots_lie_one_behind_the_other(rt: HostRuntime) {
-    assert_eq!(rt; (slot_start(&TWO, 1), slot_start(&TWO, 2)), (20480, 12416));
-    assert_eq!(rt;
-        (nth_slot(&TWO, 0), nth_slot(&TWO, 1), nth_slot(&TWO, 64)),
-        (12288, 12416, 20480)
+    assert!(rt; (slot_start(&TWO, 1), slot_start(&TWO, 2)) == (20480, 12416));
+    assert!(rt;
+        (nth_slot(&TWO, 0), nth_slot(&TWO, 1), nth_slot(&TWO, 64)) == (12288, 12416, 20480)
     );
 }
 
@@ -122,9 +121,9 @@ const STATES: [(u64, u64, SlotState); 7] = [
 
 #[test]
 fn a_slot_is_in_use_where_it_is_valid_and_of_a_kind(rt: HostRuntime) {
-    assert_eq!(rt; Kind::File.number(), 1);
-    assert_eq!(rt; Kind::Directory.number(), 2);
-    for (valid, kind, state) in STATES {
+    assert!(rt; Kind::File.number() == 1);
+    assert!(rt; Kind::Directory.number() == 2);
+    for &(valid, kind, state) in STATES.iter() {
         let slot = Slot {
             valid,
             kind,
@@ -150,7 +149,7 @@ const LOGS: [(u64, u64, bool); 11] = [
 
 #[test]
 fn a_log_is_right_within_the_data_blocks(rt: HostRuntime) {
-    for (head, tail, right) in LOGS {
+    for &(head, tail, right) in LOGS.iter() {
         let slot = Slot { head, tail, ..ROOT };
         assert!(rt; slot.has_right_log(&SMALL) == right, "at {head} {tail}");
     }
@@ -176,7 +175,7 @@ const NAMED: [(u64, bool); 15] = [
 
 #[test]
 fn a_journal_may_name_valid_word_head_and_tail(rt: HostRuntime) {
-    for (at, named) in NAMED {
+    for &(at, named) in NAMED.iter() {
         assert!(rt; is_journal_word(&SMALL, at) == named, "at {at}");
     }
 }

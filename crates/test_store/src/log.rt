@@ -336,7 +336,7 @@ fn finds(
 {
     for wanted in all {
         let found = reader.next(memory)?;
-        assert!(rt; found == *wanted, "{found:?} is found");
+        assert!(rt; found == *wanted);
     }
     Ok(())
 }

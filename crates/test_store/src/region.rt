@@ -32,7 +32,7 @@ fn gives_back(rt: &impl Abort, alloc: Global, count: u64) -> Result<(), Fail> {
 
 #[test]
 fn bytes_of_any_length_are_given_back(rt: HostRuntime) -> Result<(), Fail> {
-    for count in [0, 1, 7, 8, 4095, 4096] {
+    for &count in [0, 1, 7, 8, 4095, 4096].iter() {
         gives_back(&rt, rt.alloc(), count)?;
     }
     Ok(())

@@ -51,7 +51,7 @@ fn store(memory: &mut MemRegion, at: u64, word: u64) -> Result<(), Fail>
 fn faults_are_told(rt: &impl Abort, memory: &mut MemRegion) -> Result<(), Fail>
     requires { HasBlocks memory.old.region 64 }
 {
-    for (at, word, fault) in FIRST_FAULTS {
+    for &(at, word, fault) in FIRST_FAULTS.iter() {
         store(memory, at, word)?;
         assert!(rt; read_super(memory) == Err(fault), "after word {at}");
     }
@@ -76,10 +76,10 @@ fn a_region_that_is_too_short_is_told(rt: HostRuntime) -> Result<(), Fail> {
 #[test]
 fn areas_lie_where_the_layout_says(rt: HostRuntime) {
     let sup = TWO_CPUS;
-    assert_eq!(rt; sup.system_blocks(), 5);
-    assert_eq!(rt; (sup.pool(0), sup.pool(1)), ((5, 34), (34, 64)));
-    assert_eq!(rt; (sup.slot_address(1), sup.slot_address(2)), (16384, 12416));
-    assert_eq!(rt; (sup.inode_limit(), sup.max_inode()), (64, 63));
+    assert!(rt; sup.system_blocks() == 5);
+    assert!(rt; (sup.pool(0), sup.pool(1)) == ((5, 34), (34, 64)));
+    assert!(rt; (sup.slot_address(1), sup.slot_address(2)) == (16384, 12416));
+    assert!(rt; (sup.inode_limit(), sup.max_inode()) == (64, 63));
     assert!(rt; sup.is_number(63) && !sup.is_number(64) && !sup.is_number(0));
     assert!(rt; sup.is_page_start(20480) && !sup.is_page_start(16384) && !sup.is_page_start(20488));
     assert!(rt; Run { start: 7, count: 0 }.is_empty());
@@ -90,7 +90,7 @@ fn faults_rise_by_class_and_fields(rt: HostRuntime) -> Result<(), Fail> {
     let log = Owner::Log { inode: 2, page: 0 };
     let data = Owner::Data { inode: 2, page: 0 };
     let mut faults = Vec::new(rt.alloc());
-    for fault in [
+    for &fault in [
         Fault::B1 {
             block: 8,
             owner: data,
@@ -106,7 +106,9 @@ fn faults_rise_by_class_and_fields(rt: HostRuntime) -> Result<(), Fail> {
         },
         Fault::C5,
         Fault::J2 { cpu: 0, record: 0 },
-    ] {
+    ]
+    .iter()
+    {
         faults.push(fault)?;
     }
     sort_faults(&mut faults);

@@ -86,10 +86,10 @@ fn an_empty_journal_causes_no_store_beside_a_pending_one(rt: HostRuntime) -> Res
     };
     let faults = undo(rt.alloc(), &mut memory, &TWO)?;
     assert!(rt; faults.len() == 0);
-    assert_eq!(rt; memory.stores, 3);
+    assert!(rt; memory.stores == 3);
     assert!(rt; memory.addresses == [12416, 12440, 8192, 0, 0, 0, 0, 0]);
-    assert_eq!(rt; memory.fences, 2);
-    assert_eq!(rt; memory.load(12440), 20488);
+    assert!(rt; memory.fences == 2);
+    assert!(rt; memory.load(12440) == 20488);
     Ok(())
 }
 
@@ -106,8 +106,8 @@ fn a_change_of_two_words_costs_eight_stores_and_four_fences(
     if memory.load(4096) == 0 && memory.load(4104) == 0 {
         change_two(&mut memory, 0, 8336, 16384, 8344, 16416)?;
     }
-    assert_eq!(rt; memory.stores, 8);
+    assert!(rt; memory.stores == 8);
     assert!(rt; memory.addresses == [4160, 4168, 4176, 4184, 4104, 8336, 8344, 4096]);
-    assert_eq!(rt; memory.fences, 4);
+    assert!(rt; memory.fences == 4);
     Ok(())
 }

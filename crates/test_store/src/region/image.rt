@@ -41,7 +41,7 @@ fn a_store_behind_the_front_is_refused(rt: HostRuntime) -> Result<(), Fail> {
 
 #[test]
 fn bytes_of_any_length_are_a_region(rt: HostRuntime) -> Result<(), Fail> {
-    for count in [0, 7, 100, 4096] {
+    for &count in [0, 7, 100, 4096].iter() {
         let bytes = counted(rt.alloc(), count)?;
         let mut region = ImageRegion::from_bytes(rt.alloc(), &bytes)?;
         region.open_front(2)?;
