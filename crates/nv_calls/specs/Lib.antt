@@ -22,3 +22,5 @@ pub mod LessNames
 pub mod LinkCalls
 pub mod MoreNames
 pub mod Places
+pub mod UnlinkCalls
+pub mod Unlinks

@@ -13,19 +13,10 @@ ghost use Rattle.nv_calls.specs.NamedAt.{IsNamedAt, named_tests, rmdir_spot_test
 ghost use Rattle.nv_calls.specs.Seen.{tree_of};
 
 use crate::naming::{has_name, spot_of, target_at};
+use crate::targeting::Named;
 use nv_scan::Row;
 use nv_super::Kind;
 use nv_tree::Refusal;
-
-/// A name in a directory, and the inode in use that it stands for.
-#[derive(Clone, Copy)]
-pub(crate) struct Named<'a> {
-    /// The place of the directory's row.
-    pub directory: usize,
-    pub name: &'a [u8],
-    /// The place of the inode's row.
-    pub target: usize,
-}
 
 /// The inode in use for which the last name of a path stands, and where it stands.
 ///

@@ -21,9 +21,9 @@ ghost use Rattle.nv_calls.specs.Taken.{SamePools, TakesEach};
 
 use crate::letting_go::give_row;
 use crate::making::name_entry;
-use crate::named::Named;
 use crate::preparing::prepare_log;
 use crate::settling::settle_log;
+use crate::targeting::Named;
 use nv_alloc::{AllocRefusal, Allocators};
 use nv_commit::{Extension, remove_inode};
 use nv_entry::{Entry, Operation};
