@@ -86,3 +86,8 @@ pub mod RemovedHeld
 pub mod RemovedRows
 pub mod RemovedTree
 pub mod RemoveCall
+pub mod UnlinkedAt
+pub mod UnlinkedHeld
+pub mod UnlinkedTree
+pub mod Released
+pub mod UnlinkCall

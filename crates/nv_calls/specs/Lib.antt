@@ -22,3 +22,5 @@ pub mod Places
 pub mod RemoveCalls
 pub mod NamedAt
 pub mod LessNames
+pub mod UnlinkCalls
+pub mod Unlinks

@@ -34,6 +34,7 @@ mod spotting;
 mod stating;
 mod storing_data;
 mod targeting;
+mod unlinking;
 mod walking;
 mod write;
 mod writing;

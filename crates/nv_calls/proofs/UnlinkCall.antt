@@ -1,0 +1,202 @@
+-- What `unlink` answers, and what it leaves.
+use Rattle.std.proofs.Common.{◌≡◌, ◌≢◌, ℕ, ◌+◌, ◌-◌, ◌%◌, ◌/◌, ◌<◌, ◌≤◌, nat_lt, inl, inr, Bool, false, cond, List, [], ◌∷◌, slice_get, ap, sym, ◌∙◌, subst, arith, Option, Some, None, Result, Ok}
+use Rattle.std.specs.List.{Contains}
+use Rattle.std.specs.Option.{option_map, option_map_or}
+use Rattle.nv_region.specs.Region.{Region}
+use Rattle.nv_super.specs.declared.superblock.Super.{Super}
+use Rattle.nv_super.specs.declared.faults.Fault.{Fault}
+use Rattle.nv_super.specs.declared.kind.Kind.TheVariants.{File, Directory}
+use Rattle.nv_super.specs.Order.{Rises}
+use Rattle.nv_alloc.specs.FreeValue.{FreeLists}
+use Rattle.nv_entry.specs.declared.entry.Operation.TheVariants.{Remove}
+use Rattle.nv_logpage.specs.Append.{needed}
+use Rattle.nv_names.specs.Names.{name_at}
+use Rattle.nv_radix.specs.Pages.{block_at}
+use Rattle.nv_scan.specs.declared.piece.Row.{Row}
+use Rattle.nv_check.specs.Cross.{row_key}
+use Rattle.nv_named.specs.Read.{row_of}
+use Rattle.nv_named.specs.Step.{IsGoodName}
+use Rattle.nv_held.specs.Held.{Held, Store}
+use Rattle.nv_held.specs.Bytes.{byte_in}
+use Rattle.nv_held.specs.Mounted.{ShowsSound}
+use Rattle.nv_tree.specs.declared.refusal.Refusal.{Refusal}
+use Rattle.nv_tree.specs.Path.{IsPath, IsPathName, Says, last_name}
+use Rattle.nv_tree.specs.Tree.{Node, SameTree, Tree, found, walk}
+use Rattle.nv_tree.specs.Calls.{edit, links_at, unlinked, with_links, without_name}
+use Rattle.nv_tree.specs.Refusals.{Path, Tests, first_refusal, has_no_space, unlink_tests, writing}
+use Rattle.nv_calls.specs.LessNames.{CanGo, RemovesAt}
+use Rattle.nv_calls.specs.LinkCalls.{ShowsBothGrew, links_blocks, links_entries}
+use Rattle.nv_calls.specs.Mount.{IsKept, Mount}
+use Rattle.nv_calls.specs.NameCalls.{name_blocks, name_entries, row_blocks}
+use Rattle.nv_calls.specs.NamedAt.{IsNamedAt, unlink_spot_tests}
+use Rattle.nv_calls.specs.RemoveCalls.{ShowsRemoved}
+use Rattle.nv_calls.specs.Seen.{LeadsTo, tree_of}
+use Rattle.nv_calls.specs.UnlinkCalls.{has_more_links, unlink_blocks}
+use Rattle.nv_calls.specs.Unlinks.{Releases, UnlinksAt, release_blocks}
+use Rattle.nv_calls.specs.World.{world_of}
+use Rattle.nv_calls.proofs.BothMounted.{both_bytes, both_kept, both_logs}
+use Rattle.nv_calls.proofs.BothTree.{both_tree}
+use Rattle.nv_calls.proofs.CreateTests.{good_name}
+use Rattle.nv_calls.proofs.Kept.{rows_rise}
+use Rattle.nv_calls.proofs.LinkedHeld.{kinds_differ}
+use Rattle.nv_calls.proofs.LinkedTree.{counted_node, links_told}
+use Rattle.nv_calls.proofs.NamesCounted.{as_many}
+use Rattle.nv_calls.proofs.OneRow.{stands}
+use Rattle.nv_calls.proofs.PutRow.{one_row}
+use Rattle.nv_calls.proofs.RemoveCall.{removal_blocks, removed_kept, removed_log, tree_is}
+use Rattle.nv_calls.proofs.RemovedTree.{lost_node, removed_tree}
+use Rattle.nv_calls.proofs.RemoveTests.{unlink_allows}
+use Rattle.nv_calls.proofs.RowNumbers.{row_number}
+use Rattle.nv_calls.proofs.RowOf.{row_at}
+use Rattle.nv_calls.proofs.UnlinkedHeld.{unlink_right}
+use Rattle.nv_calls.proofs.UnlinkedTree.{swapped, unlinked_last, unlinked_more}
+
+-- ---- where the file has other names
+
+module _ {R S : Region} {s : Super} {rows news : List Row} {free after : FreeLists} {faults : List Fault} {read_only stopped : Bool} (kept : IsKept R s rows free faults read_only stopped) (runs : stopped ≡ false) (writes : read_only ≡ false)
+    {place target : ℕ} {name : List ℕ} {time : ℕ} (step : UnlinksAt R S s free after rows news place target name time) (spelled : IsPathName name) (is_file : step.file.kind ≡ File) (some : 1 < step.file.numbers.links) (names : List (List ℕ)) (spot : IsNamedAt (tree_of R rows) rows names place name target) where
+  abbrev file : Row
+  file = step.file
+
+  abbrev directory : Row
+  directory = step.directory
+
+  at : slice_get rows place ≡ Some directory
+  at = let both = step.step in both.at
+
+  file_at : slice_get rows target ≡ Some file
+  file_at = let both = step.step in both.other_at
+
+  good : IsGoodName s file.inode name
+  good = good_name s file.inode name spelled (row_number kept runs writes file (stands rows target file file_at))
+
+  is_directory : directory.kind ≡ Directory
+  is_directory = (spot.directory directory at).1
+
+  walked : walk (tree_of R rows) 1 names ≡ Ok directory.inode
+  walked = (spot.directory directory at).0
+
+  named : option_map (λ (x : ℕ × ℕ). x.0) (name_at directory.names name) ≡ Some file.inode
+  named = spot.named directory file at file_at
+
+  rising : Rises row_key rows
+  rising = rows_rise R s rows free faults read_only stopped kept runs
+
+  differ : directory.inode ≢ file.inode
+  differ same = kinds_differ rows target place file directory rising file_at at is_file is_directory (sym same)
+
+  counted : links_at (tree_of R rows) file.inode ≡ file.numbers.links
+  counted = links_told R rows file (row_at rows target file rising file_at)
+
+  more_kept : (now : Bool) → IsKept S s news after faults read_only now
+  more_kept = both_kept kept runs writes step.step differ (unlink_right step is_directory is_file some good named)
+
+  bytes : (r : Row) → Contains rows r → (x : ℕ) → byte_in S (block_at r.index (x / 4096)) x ≡ byte_in R (block_at r.index (x / 4096)) x
+  bytes = both_bytes kept runs writes step.step differ (unlink_right step is_directory is_file some good named)
+
+  more_tree : SameTree (tree_of S news) (unlinked names time (tree_of R rows))
+  more_tree =
+      let both = step.step in
+      let lost = both.is in
+      let counts = both.other_is in
+      let changed = lost_node R S both.fresh _ name file.inode time lost both.once.0 both.once.1 named (bytes directory (stands rows place directory at)) in
+      let other_changed = counted_node R S both.more _ (file.numbers.links - 1) time counts (as_many file.names both.second_now.names both.other_once.0 both.other_once.1 counts.names) (bytes file (stands rows target file file_at)) in
+      let same = both_tree R S rows place target directory both.first_now file both.second_now rising at file_at lost.inode counts.inode differ (without_name name time) (with_links (file.numbers.links - 1) time) changed other_changed bytes in
+      let here = subst (λ (rs : List Row). SameTree (tree_of S rs) (edit file.inode (with_links (file.numbers.links - 1) time) (edit directory.inode (without_name name time) (tree_of R rows)))) (sym both.put) same in
+      subst (λ (t : Tree). SameTree (tree_of S news) t) (sym (unlinked_more names time (tree_of R rows) file.inode directory.inode name (spot.leads file file_at) walked spot.name_is file.numbers.links counted some))
+      (swapped (tree_of S news) (tree_of R rows) directory.inode file.inode (without_name name time) (with_links (file.numbers.links - 1) time) differ here)
+
+  more_logs : (i d : ℕ) (node : Node) (held : Store) (h f : Held) → LeadsTo (tree_of R rows) names i node → walk (tree_of R rows) 1 names ≡ Ok d → ShowsSound R s held → held d ≡ Some h → held i ≡ Some f
+      → ShowsBothGrew S s held d h (name_entries Remove i (last_name names) time) i f (links_entries (node.links - 1) time)
+  more_logs i d node held h f led ended sound is other_is =
+      let both : Ok directory.inode ≡ Ok d = sym walked ∙ ended in
+      let same : directory.inode ≡ d = cc in
+      let numbers : Some file.inode ≡ Some i = sym (spot.leads file file_at) ∙ led.leads in
+      let one : file.inode ≡ i = cc in
+      let links : file.numbers.links ≡ node.links = sym counted ∙ ap (λ (k : ℕ). links_at (tree_of R rows) k) one ∙ ap (λ (o : Option Node). option_map_or (λ (n : Node). n.links) o 0) led.shows in
+      let grew = both_logs kept runs writes step.step differ (unlink_right step is_directory is_file some good named) held h f sound (ap held same ∙ is) (ap held one ∙ other_is) in
+      subst (λ (k : ℕ). ShowsBothGrew S s held d h (name_entries Remove k (last_name names) time) k f (links_entries (node.links - 1) time)) one
+      (subst (λ (n : ℕ). ShowsBothGrew S s held d h (name_entries Remove file.inode (last_name names) time) file.inode f (links_entries (n - 1) time)) links
+      (subst (λ (q : List ℕ). ShowsBothGrew S s held d h (name_entries Remove file.inode q time) file.inode f (links_entries (file.numbers.links - 1) time)) spot.name_is
+      (subst (λ (k : ℕ). ShowsBothGrew S s held k h (name_entries Remove file.inode name time) file.inode f (links_entries (file.numbers.links - 1) time)) same grew)))
+
+-- ---- in both cases
+
+module _ {R S : Region} {s : Super} {rows news : List Row} {free after : FreeLists} {faults : List Fault} {read_only stopped : Bool} (kept : IsKept R s rows free faults read_only stopped) (runs : stopped ≡ false) (writes : read_only ≡ false)
+    {place target : ℕ} {name : List ℕ} {time : ℕ} (done : Releases R S s free after rows news place target name time) (spelled : IsPathName name) (files : (row : Row) → slice_get rows target ≡ Some row → row.kind ≡ File) (names : List (List ℕ)) (spot : IsNamedAt (tree_of R rows) rows names place name target) where
+  rises : Rises row_key rows
+  rises = rows_rise R s rows free faults read_only stopped kept runs
+
+  at_file : (step : UnlinksAt R S s free after rows news place target name time) → slice_get rows target ≡ Some step.file
+  at_file step = let both = step.step in both.other_at
+
+  -- What is kept.
+  pub unlink_kept : (now : Bool) → IsKept S s news after faults read_only now
+  unlink_kept now = by done where
+    by : Releases R S s free after rows news place target name time → IsKept S s news after faults read_only now
+    by (inl w) = more_kept kept runs writes w.1 spelled (files w.1.file (at_file w.1)) (w.0 w.1.file (at_file w.1)) names spot now
+    by (inr w) = removed_kept kept runs writes w.1 spelled (inr (files w.1.gone w.1.gone_at, w.0 w.1.gone w.1.gone_at)) names spot now
+
+  -- The tree is what the call makes of that of before.
+  pub unlink_tree : SameTree (tree_of S news) (unlinked names time (tree_of R rows))
+  unlink_tree = by done where
+    by : Releases R S s free after rows news place target name time → SameTree (tree_of S news) (unlinked names time (tree_of R rows))
+    by (inl w) = more_tree kept runs writes w.1 spelled (files w.1.file (at_file w.1)) (w.0 w.1.file (at_file w.1)) names spot
+    by (inr w) =
+        let step = w.1 in
+        let few = w.0 step.gone step.gone_at in
+        let count = links_told R rows step.gone (row_at rows target step.gone rises step.gone_at) in
+        subst (λ (t : Tree). SameTree (tree_of S news) t)
+        (sym (unlinked_last names time (tree_of R rows) step.gone.inode step.row.inode name (spot.leads step.gone step.gone_at) (spot.directory step.row step.at).0 spot.name_is step.gone.numbers.links count few))
+        (tree_is kept runs writes step spelled (inr (files step.gone step.gone_at, few)) names spot)
+
+  -- how many links the file had
+  links_are : (i : ℕ) (node : Node) (row : Row) → LeadsTo (tree_of R rows) names i node → slice_get rows target ≡ Some row → row.numbers.links ≡ node.links
+  links_are i node row led at =
+      let numbers : Some row.inode ≡ Some i = sym (spot.leads row at) ∙ led.leads in
+      let one : row.inode ≡ i = cc in
+      sym (links_told R rows row (row_at rows target row rises at)) ∙ ap (λ (k : ℕ). links_at (tree_of R rows) k) one ∙ ap (λ (o : Option Node). option_map_or (λ (n : Node). n.links) o 0) led.shows
+
+  -- Both logs, where it had others.
+  pub unlink_logs : (i d : ℕ) (node : Node) (held : Store) (h f : Held) → LeadsTo (tree_of R rows) names i node → walk (tree_of R rows) 1 names ≡ Ok d → ShowsSound R s held → held d ≡ Some h → held i ≡ Some f → 1 < node.links
+      → ShowsBothGrew S s held d h (name_entries Remove i (last_name names) time) i f (links_entries (node.links - 1) time)
+  unlink_logs i d node held h f led ended sound is other_is some = by done where
+    by : Releases R S s free after rows news place target name time → ShowsBothGrew S s held d h (name_entries Remove i (last_name names) time) i f (links_entries (node.links - 1) time)
+    by (inl w) = more_logs kept runs writes w.1 spelled (files w.1.file (at_file w.1)) (w.0 w.1.file (at_file w.1)) names spot i d node held h f led ended sound is other_is
+    by (inr w) = absurd (let few = w.0 w.1.gone w.1.gone_at in let count = links_are i node w.1.gone led w.1.gone_at in omega (arith, some, few, count))
+
+  -- The directory's log, where it went.
+  pub unlink_last : (i d : ℕ) (node : Node) (held : Store) (h : Held) → LeadsTo (tree_of R rows) names i node → walk (tree_of R rows) 1 names ≡ Ok d → ShowsSound R s held → held d ≡ Some h → node.links ≤ 1 → ShowsRemoved S s held d h (name_entries Remove i (last_name names) time) i
+  unlink_last i d node held h led ended sound is few = by done where
+    by : Releases R S s free after rows news place target name time → ShowsRemoved S s held d h (name_entries Remove i (last_name names) time) i
+    by (inl w) = absurd (let some = w.0 w.1.file (at_file w.1) in let count = links_are i node w.1.file led (at_file w.1) in omega (arith, some, few, count))
+    by (inr w) = removed_log kept runs writes w.1 spelled (inr (files w.1.gone w.1.gone_at, w.0 w.1.gone w.1.gone_at)) names spot i d node held h led ended sound is
+
+-- ---- why it is refused
+
+-- what the logs need, by where they are
+blocks_by : (rows : List Row) (R : Region) (row file : Row) (names : List (List ℕ)) (time : ℕ) (name : List ℕ) → found (tree_of R rows) names ≡ Some file.inode → row_of rows file.inode ≡ Some file → walk (tree_of R rows) 1 names ≡ Ok row.inode → row_of rows row.inode ≡ Some row → name ≡ last_name names
+    → unlink_blocks rows (tree_of R rows) (Some names) ≡ release_blocks row file name time
+blocks_by rows R row file names time name leads is walked row_is last =
+    ap (λ (n : ℕ). n + cond (has_more_links (tree_of R rows) (Some names)) (links_blocks rows (tree_of R rows) (Some names)) 0) (removal_blocks rows (tree_of R rows) row names file.inode time name walked row_is last)
+    ∙ ap (λ (b : Bool). needed (row.tail % 4096) (name_entries Remove file.inode name time) + cond b (links_blocks rows (tree_of R rows) (Some names)) 0)
+    (ap (λ (o : Option ℕ). option_map_or (λ i. nat_lt 1 (links_at (tree_of R rows) i)) o false) leads ∙ ap (λ (n : ℕ). nat_lt 1 n) (links_told R rows file is))
+    ∙ ap (λ (n : ℕ). needed (row.tail % 4096) (name_entries Remove file.inode name time) + cond (nat_lt 1 file.numbers.links) n 0)
+    (ap (λ (o : Option ℕ). option_map_or (λ i. row_blocks (row_of rows i) (links_entries 0 0)) o 0) leads ∙ ap (λ (o : Option Row). row_blocks o (links_entries 0 0)) is)
+
+module _ {P : Type 0} (region : P → Region) {n m : Mount P} (same : n ≡ m) (cpu : ℕ) (passed : (tests : Tests) → first_refusal (writing (world_of m) cpu tests) ≡ first_refusal tests) (place goal : ℕ) (row file : Row) (at : slice_get n.rows place ≡ Some row) (file_at : slice_get n.rows goal ≡ Some file) (rises : Rises row_key n.rows)
+    (name : List ℕ) (time : ℕ) (text : List ℕ) (spot : (names : List (List ℕ)) → IsPath text names → IsNamedAt (tree_of (region n.memory) n.rows) n.rows names place name goal) (p : Path) (says : Says text p)
+    (none : first_refusal (unlink_spot_tests (tree_of (region n.memory) n.rows) p) ≡ None) where
+  abbrev pub unlink_refusal : Mount P → Option Refusal
+  unlink_refusal k = first_refusal (unlink_tests (world_of k) (tree_of (region k.memory) k.rows) cpu p (unlink_blocks k.rows (tree_of (region k.memory) k.rows) p))
+
+  blocks_there : (q : Path) → Says text q → first_refusal (unlink_spot_tests (tree_of (region n.memory) n.rows) q) ≡ None → unlink_blocks n.rows (tree_of (region n.memory) n.rows) q ≡ release_blocks row file name time
+  blocks_there None says none = absurd (cc)
+  blocks_there (Some names) says none =
+      let there = spot names says in
+      blocks_by n.rows (region n.memory) row file names time name (there.leads file file_at) (row_at n.rows goal file rises file_at) (there.directory row at).0 (row_at n.rows place row rises at) there.name_is
+
+  pub unlink_last_test : unlink_refusal n ≡ first_refusal (has_no_space (world_of n) (release_blocks row file name time) ∷ [])
+  unlink_last_test =
+      let passed_here : (ts : Tests) → first_refusal (writing (world_of n) cpu ts) ≡ first_refusal ts = λ ts. subst (λ (k : Mount P). first_refusal (writing (world_of k) cpu ts) ≡ first_refusal ts) (sym same) (passed ts) in
+      unlink_allows (tree_of (region n.memory) n.rows) p (world_of n) cpu passed_here (unlink_blocks n.rows (tree_of (region n.memory) n.rows) p) none ∙ ap (λ (k : ℕ). first_refusal (has_no_space (world_of n) k ∷ [])) (blocks_there p says none)

@@ -1,0 +1,210 @@
+//! `unlink`: a name of a file less, and with the last one the file.
+
+ghost use Rattle.std.specs.Prelude.{◌≡◌, ◌≢◌, ◌⊎◌, ◌+◌, ◌-◌, ◌%◌, ◌<◌, ◌≤◌, nat_lt, ℕ, List, length, slice_get, Option, Result, IsTrue, IfErr, OnOk, false};
+ghost use Rattle.nv_region.specs.Region.{size};
+ghost use Rattle.nv_region.specs.Stops.{NothingPending};
+ghost use Rattle.nv_region.specs.Fuses.{KeepsFuse};
+ghost use Rattle.nv_super.specs.Order.{Rises};
+ghost use Rattle.nv_alloc.specs.Taking.{all_blocks};
+ghost use Rattle.nv_entry.specs.declared.entry.Operation.TheVariants.{Remove};
+ghost use Rattle.nv_logpage.specs.Append.{needed};
+ghost use Rattle.nv_names.specs.Names.{EachOnce, IsName};
+ghost use Rattle.nv_scan.specs.declared.piece.Row.{Row as RowValue};
+ghost use Rattle.nv_check.specs.Cross.{row_key};
+ghost use Rattle.nv_held.specs.Held.{Held, Store};
+ghost use Rattle.nv_held.specs.Mounted.{ShowsSound};
+ghost use Rattle.nv_tree.specs.Path.{IsPath, Says, last_name};
+ghost use Rattle.nv_tree.specs.Tree.{Node, SameTree, walk};
+ghost use Rattle.nv_tree.specs.Calls.{unlinked};
+ghost use Rattle.nv_tree.specs.Refusals.{Path, first_refusal, unlink_tests};
+ghost use Rattle.nv_tree.specs.declared.refusal.Refusal.{Refusal as RefusalValue};
+ghost use Rattle.nv_calls.specs.Grown.{StandsRight};
+ghost use Rattle.nv_calls.specs.LessNames.{OwnsBlocks};
+ghost use Rattle.nv_calls.specs.LinkCalls.{ShowsBothGrew, links_entries};
+ghost use Rattle.nv_calls.specs.NameCalls.{name_entries};
+ghost use Rattle.nv_calls.specs.NewNames.{CanName, LeavesRows};
+ghost use Rattle.nv_calls.specs.RemoveCalls.{ShowsRemoved};
+ghost use Rattle.nv_calls.specs.Same.{KeepsMount, SameMount};
+ghost use Rattle.nv_calls.specs.Seen.{LeadsTo, tree_of};
+ghost use Rattle.nv_calls.specs.Steps.{RefusesStep};
+ghost use Rattle.nv_calls.specs.UnlinkCalls.{unlink_blocks};
+ghost use Rattle.nv_calls.specs.Unlinks.{DropsName, Releases, UnlinksAt, release_blocks};
+ghost use Rattle.nv_calls.specs.World.{world_of};
+
+use crate::Fs;
+use crate::growing::{Growth, append_logs};
+use crate::making::name_entry;
+use crate::named::{Named, unlink_for};
+use crate::removing::remove_named;
+use crate::settling_names::set_links;
+use crate::writing::is_stop;
+use nv_alloc::Allocators;
+use nv_entry::{Entry, LinksEntry, Operation};
+use nv_region::Pmem;
+use nv_scan::Row;
+use nv_super::Super;
+use nv_tree::Refusal;
+use std::alloc::Global;
+
+/// Takes a name of a file that has others out of a directory: the directory's log says so, and the file's log says one link
+/// less.
+///
+/// `NoSpace` where all pools together have too few blocks, `Memory` where a growth was refused; both change nothing.
+/// `Stopped` where the fuse has burnt.
+fn unlink_at<P: Pmem>(
+    alloc: Global,
+    memory: &mut P,
+    sup: &Super,
+    free: &mut Allocators,
+    cpu: u64,
+    rows: &mut Vec<Row>,
+    named: &Named<'_>,
+    time: u64,
+) -> Result<(), Refusal>
+    requires directory { named.now.directory < length rows.old.items }
+    requires target { named.now.target < length rows.old.items }
+    requires apart { named.now.directory ≢ named.now.target }
+    requires rising { Rises row_key rows.old.items }
+    requires more { (file : RowValue) → slice_get rows.old.items named.now.target ≡ Option.Some file → 1 < file.numbers.links }
+    requires stands { (row : RowValue) → slice_get rows.old.items named.now.directory ≡ Option.Some row → StandsRight (P.region memory.old) sup.now free.old row × CanName (P.region memory.old) sup.now cpu row.inode row }
+    requires file_stands { (file : RowValue) → slice_get rows.old.items named.now.target ≡ Option.Some file → StandsRight (P.region memory.old) sup.now free.old file × CanName (P.region memory.old) sup.now cpu file.inode file }
+    requires name { IsName named.now.name.now }
+    ensures unlinked { OnOk result (UnlinksAt (P.region memory.old) (P.region memory.new) sup.now free.old free.new rows.old.items rows.new.items named.now.directory named.now.target named.now.name.now time) }
+    ensures enough { (row file : RowValue) → slice_get rows.old.items named.now.directory ≡ Option.Some row → slice_get rows.old.items named.now.target ≡ Option.Some file → OnOk result (needed (row.tail % 4096) (name_entries Remove file.inode named.now.name.now time) + needed (file.tail % 4096) (links_entries (file.numbers.links - 1) time) ≤ all_blocks free.old.pools) }
+    ensures settled { OnOk result (NothingPending (P.region memory.new) (P.may_hold memory.new)) }
+    ensures refused { (row file : RowValue) → slice_get rows.old.items named.now.directory ≡ Option.Some row → slice_get rows.old.items named.now.target ≡ Option.Some file → IfErr result (λ e. RefusesStep e (needed (row.tail % 4096) (name_entries Remove file.inode named.now.name.now time) + needed (file.tail % 4096) (links_entries (file.numbers.links - 1) time)) free.old) }
+    ensures unchanged { IfErr result (λ e. (e ≡ RefusalValue.Stopped → ⊥) → LeavesRows memory.old memory.new free.old free.new rows.old.items rows.new.items) }
+    ensures stopped { IfErr result (λ e. e ≡ RefusalValue.Stopped → IsTrue (P.fuse memory.new).has_burnt) }
+    ensures lists { free.new.sup ≡ free.old.sup }
+    ensures length { size (P.region memory.new) ≡ size (P.region memory.old) }
+    ensures keeps_fuse { KeepsFuse (λ limit. size (P.region memory.old) ≤ limit) (P.fuse memory.old) (P.fuse memory.new) }
+{
+    let file = &rows[named.target];
+    let inode = file.inode;
+    let count = file.numbers.links - 1;
+    let names = [name_entry(Operation::Remove, inode, named.name, time)];
+    let links = [Entry::Links(LinksEntry { count, time })];
+    let first = Growth {
+        place: named.directory,
+        entries: &names,
+        names: 0,
+    };
+    let second = Growth {
+        place: named.target,
+        entries: &links,
+        names: 0,
+    };
+    append_logs(alloc, memory, sup, free, cpu, rows, &first, &second)?;
+    drop_name(&mut rows[named.directory], named.name, time);
+    set_links(&mut rows[named.target], count, time);
+    Ok(())
+}
+
+/// Takes a name out of a directory's row, and puts the time in.
+fn drop_name(directory: &mut Row, name: &[u8], time: u64)
+    ensures row { DropsName directory.old name.now time directory.new }
+    ensures once { EachOnce directory.new.names }
+{
+    directory.names.remove(name);
+    directory.numbers.time = time;
+    // A name index says of itself that it has no name twice.
+    let _names = directory.names.len();
+}
+
+/// Whether a file has more links than one.
+fn has_more_links(file: &Row) -> bool
+    ensures { result ≡ nat_lt 1 file.now.numbers.links }
+{
+    file.numbers.links > 1
+}
+
+/// Takes a name of a file out of a directory, and the file with it where that was its last one. It is refused as `unlink_at`
+/// and `remove_named` are.
+fn release_at<P: Pmem>(
+    alloc: Global,
+    memory: &mut P,
+    sup: &Super,
+    free: &mut Allocators,
+    cpu: u64,
+    rows: &mut Vec<Row>,
+    named: &Named<'_>,
+    time: u64,
+) -> Result<(), Refusal>
+    requires directory { named.now.directory < length rows.old.items }
+    requires target { named.now.target < length rows.old.items }
+    requires apart { named.now.directory ≢ named.now.target }
+    requires rising { Rises row_key rows.old.items }
+    requires stands { (row : RowValue) → slice_get rows.old.items named.now.directory ≡ Option.Some row → StandsRight (P.region memory.old) sup.now free.old row × CanName (P.region memory.old) sup.now cpu row.inode row }
+    requires file_stands { (file : RowValue) → slice_get rows.old.items named.now.target ≡ Option.Some file → StandsRight (P.region memory.old) sup.now free.old file × CanName (P.region memory.old) sup.now cpu file.inode file }
+    requires can { (row file : RowValue) → slice_get rows.old.items named.now.directory ≡ Option.Some row → slice_get rows.old.items named.now.target ≡ Option.Some file → CanName (P.region memory.old) sup.now cpu file.inode row × (row.inode ≢ file.inode) }
+    requires owns { (file : RowValue) → slice_get rows.old.items named.now.target ≡ Option.Some file → OwnsBlocks free.old file }
+    requires name { IsName named.now.name.now }
+    ensures released { OnOk result (Releases (P.region memory.old) (P.region memory.new) sup.now free.old free.new rows.old.items rows.new.items named.now.directory named.now.target named.now.name.now time) }
+    ensures enough { (row file : RowValue) → slice_get rows.old.items named.now.directory ≡ Option.Some row → slice_get rows.old.items named.now.target ≡ Option.Some file → OnOk result (release_blocks row file named.now.name.now time ≤ all_blocks free.old.pools) }
+    ensures settled { OnOk result (NothingPending (P.region memory.new) (P.may_hold memory.new)) }
+    ensures refused { (row file : RowValue) → slice_get rows.old.items named.now.directory ≡ Option.Some row → slice_get rows.old.items named.now.target ≡ Option.Some file → IfErr result (λ e. RefusesStep e (release_blocks row file named.now.name.now time) free.old) }
+    ensures unchanged { IfErr result (λ e. (e ≡ RefusalValue.Stopped → ⊥) → LeavesRows memory.old memory.new free.old free.new rows.old.items rows.new.items) }
+    ensures stopped { IfErr result (λ e. e ≡ RefusalValue.Stopped → IsTrue (P.fuse memory.new).has_burnt) }
+    ensures lists { free.new.sup ≡ free.old.sup }
+    ensures length { size (P.region memory.new) ≡ size (P.region memory.old) }
+    ensures keeps_fuse { KeepsFuse (λ limit. size (P.region memory.old) ≤ limit) (P.fuse memory.old) (P.fuse memory.new) }
+{
+    if has_more_links(&rows[named.target]) {
+        unlink_at(alloc, memory, sup, free, cpu, rows, named, time)
+    } else {
+        remove_named(alloc, memory, sup, free, cpu, rows, named, time)
+    }
+}
+
+impl<P: Pmem + Drop> Fs<P> {
+    /// Takes a name of a file away, and with the last one the file.
+    ///
+    /// Errors, the first that applies: `Stopped` after a stop, `BadCpu` where there is no CPU of that number, `ReadOnly`
+    /// where the region was mounted with faults, `BadName` where the text is no path or `/`, `NotFound` or `NotDirectory`
+    /// for an inode on the way, `NotFound` for the last name, `IsDirectory` for a directory, `NoSpace` where fewer blocks
+    /// are free than the logs need. `Memory` where a growth was refused, `Stopped` where the fuse burns. All but `Stopped`
+    /// leave everything as it was.
+    pub fn unlink(&mut self, cpu: u64, path: &[u8], time: u64) -> Result<(), Refusal>
+        ensures stopped_before { IsTrue self.old.stopped → (result ≡ Result.Err RefusalValue.Stopped) × (self.new ≡ self.old) }
+        ensures allowed { (p : Path) → Says path.now p
+            → OnOk result (first_refusal (unlink_tests (world_of self.old) (tree_of (P.region self.old.memory) self.old.rows) cpu p (unlink_blocks self.old.rows (tree_of (P.region self.old.memory) self.old.rows) p)) ≡ Option.None) }
+        ensures refused { self.old.stopped ≡ false → (p : Path) → Says path.now p
+            → IfErr result (λ e. (e ≡ RefusalValue.Memory) ⊎ ((e ≡ RefusalValue.Stopped)
+            ⊎ (first_refusal (unlink_tests (world_of self.old) (tree_of (P.region self.old.memory) self.old.rows) cpu p (unlink_blocks self.old.rows (tree_of (P.region self.old.memory) self.old.rows) p)) ≡ Option.Some e))) }
+        ensures changed { (names : List (List ℕ)) → IsPath path.now names
+            → OnOk result (SameTree (tree_of (P.region self.new.memory) self.new.rows) (unlinked names time (tree_of (P.region self.old.memory) self.old.rows))) }
+        // Where there are more links, the log of the directory and that of the file have one entry more.
+        ensures log { (names : List (List ℕ)) (i d : ℕ) (node : Node) (held : Store) (h f : Held) → IsPath path.now names → LeadsTo (tree_of (P.region self.old.memory) self.old.rows) names i node → walk (tree_of (P.region self.old.memory) self.old.rows) 1 names ≡ Result.Ok d
+            → ShowsSound (P.region self.old.memory) self.old.sup held → held d ≡ Option.Some h → held i ≡ Option.Some f → 1 < node.links
+            → OnOk result (ShowsBothGrew (P.region self.new.memory) self.old.sup held d h (name_entries Remove i (last_name names) time) i f (links_entries (node.links - 1) time)) }
+        // With its last name the file goes too. In both cases no other log has changed.
+        ensures last { (names : List (List ℕ)) (i d : ℕ) (node : Node) (held : Store) (h : Held) → IsPath path.now names → LeadsTo (tree_of (P.region self.old.memory) self.old.rows) names i node → walk (tree_of (P.region self.old.memory) self.old.rows) 1 names ≡ Result.Ok d
+            → ShowsSound (P.region self.old.memory) self.old.sup held → held d ≡ Option.Some h → node.links ≤ 1
+            → OnOk result (ShowsRemoved (P.region self.new.memory) self.old.sup held d h (name_entries Remove i (last_name names) time) i) }
+        ensures unchanged { IfErr result (λ e. (e ≡ RefusalValue.Stopped → ⊥) → SameMount self.old self.new) }
+        ensures stopped { self.old.stopped ≡ false → (IsTrue self.new.stopped → (result ≡ Result.Err RefusalValue.Stopped) × IsTrue (P.fuse self.new.memory).has_burnt) × (result ≡ Result.Err RefusalValue.Stopped → IsTrue self.new.stopped) }
+        ensures keeps { KeepsMount self.old self.new }
+        ensures settled { OnOk result (NothingPending (P.region self.new.memory) (P.may_hold self.new.memory)) }
+        ensures length { size (P.region self.new.memory) ≡ size (P.region self.old.memory) }
+        ensures keeps_fuse { KeepsFuse (λ limit. size (P.region self.old.memory) ≤ limit) (P.fuse self.old.memory) (P.fuse self.new.memory) }
+    {
+        self.writable(cpu)?;
+        let named = unlink_for(&self.rows, path)?;
+        match release_at(
+            self.alloc,
+            &mut self.memory,
+            &self.sup,
+            &mut self.free,
+            cpu,
+            &mut self.rows,
+            &named,
+            time,
+        ) {
+            Ok(()) => Ok(()),
+            Err(refusal) => {
+                self.stopped = is_stop(refusal);
+                Err(refusal)
+            }
+        }
+    }
+}
