@@ -29,7 +29,7 @@ const ROOT: Stat = Stat {
 
 #[test]
 fn there_is_the_root_alone(rt: HostRuntime) -> Result<(), Fail> {
-    for (blocks, cpus) in [(39, 7), (31, 2), (8, 2)] {
+    for &(blocks, cpus) in [(39, 7), (31, 2), (8, 2)].iter() {
         let fs = formatted(rt.alloc(), blocks, cpus)?;
         assert!(rt; stat(&fs, b"/") == Ok(ROOT));
         assert!(rt; refusals(&fs, b"/") == [None, None, Some(Refusal::IsDirectory)]);

@@ -9,10 +9,14 @@ use std::alloc::{AllocError, Global};
 use std::process::Abort;
 use std::test::Fail;
 
-/// What recovery finds in the bytes of the region.
-fn recover_bytes(alloc: Global, fs: &Fs<MemRegion>) -> Result<Recovered, Fail> {
-    let bytes = fs.region().to_bytes()?;
-    let mut memory = MemRegion::from_bytes(alloc, &bytes)?;
+/// The bytes of the region.
+pub fn bytes_of(fs: &Fs<MemRegion>) -> Result<Vec<u8>, AllocError> {
+    fs.region().to_bytes()
+}
+
+/// What recovery finds in the bytes of a region.
+fn recover_bytes(alloc: Global, bytes: &[u8]) -> Result<Recovered, Fail> {
+    let mut memory = MemRegion::from_bytes(alloc, bytes)?;
     Ok(recover_one(alloc, &mut memory)?)
 }
 
@@ -56,7 +60,7 @@ fn assert_same_lists(rt: &impl Abort, mounted: &[Vec<Run>], recovered: &[Vec<Run
 
 /// Recovery of the region's bytes finds the rows, the free lists and the faults that are mounted.
 pub fn assert_recovered(rt: &impl Abort, alloc: Global, fs: &Fs<MemRegion>) -> Result<(), Fail> {
-    let recovered = recover_bytes(alloc, fs)?;
+    let recovered = recover_bytes(alloc, &bytes_of(fs)?)?;
     assert!(rt; fs.faults() == recovered.faults.as_slice());
     assert_same_rows(rt, fs.rows(), &recovered.rows)?;
     let mounted = fs.free().lists()?;

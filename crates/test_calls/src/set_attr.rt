@@ -88,7 +88,7 @@ const REFUSED: [(u64, &[u8], Refusal); 6] = [
 #[test]
 fn the_first_refusal_is_told(rt: HostRuntime) -> Result<(), Fail> {
     let mut fs = two_pages(rt.alloc())?;
-    for (cpu, path, refusal) in REFUSED {
+    for &(cpu, path, refusal) in REFUSED.iter() {
         assert!(rt;
             set_attr(&mut fs, cpu, path, 1) == Err(refusal),
             "at {refusal}"

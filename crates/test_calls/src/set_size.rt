@@ -1,6 +1,7 @@
 //! `set_size`. After each call recovery of the region's bytes finds what is mounted.
 
 use crate::mounted::two_pages;
+use crate::reading::{assert_read, stat};
 use crate::recovered::assert_recovered;
 use nv_calls::Fs;
 use nv_region::MemRegion;
@@ -38,7 +39,7 @@ fn a_file_is_cut_and_lengthened_by_zeros(rt: HostRuntime) -> Result<(), Fail> {
     assert_recovered(&rt, rt.alloc(), &fs)?;
     set_size(&mut fs, 0, b"/a", 6)?;
     assert_free(&rt, &fs, &LENGTHENED)?;
-    assert!(rt; fs.read(b"/a", 0, 9)?.as_slice() == b"ABC\0\0\0".as_slice());
-    assert!(rt; fs.stat(b"/a")?.time == 12);
+    assert_read(&rt, &fs, 0, 9, b"ABC\0\0\0")?;
+    assert!(rt; stat(&fs, b"/a")?.time == 12);
     assert_recovered(&rt, rt.alloc(), &fs)
 }

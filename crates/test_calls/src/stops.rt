@@ -28,9 +28,14 @@ fn after_a_stop_each_call_is_refused(rt: HostRuntime) -> Result<(), Fail> {
     Ok(())
 }
 
+/// What a stop leaves of the region.
+fn stopped(fs: Fs<MemRegion>, keep: Keep) -> MemRegion {
+    fs.into_region().after_stop(keep)
+}
+
 /// The time that the file shows in what a stop leaves.
 fn time_left(rt: &impl Abort, alloc: Global, fs: Fs<MemRegion>, keep: Keep) -> Result<u64, Fail> {
-    let left = mount(alloc, fs.into_region().after_stop(keep))?;
+    let left = mount(alloc, stopped(fs, keep))?;
     assert_recovered(rt, alloc, &left)?;
     Ok(stat(&left, b"/a")?.time)
 }
@@ -49,7 +54,7 @@ fn set_and_stop(rt: &impl Abort, alloc: Global, passed: u64, keep: Keep) -> Resu
 
 #[test]
 fn a_stop_at_each_store_leaves_the_old_or_the_new(rt: HostRuntime) -> Result<(), Fail> {
-    for keep in [Keep::None, Keep::All, Keep::Alternate] {
+    for &keep in [Keep::None, Keep::All, Keep::Alternate].iter() {
         // Four stores of the entry, a fence, the tail and a fence.
         for passed in 0..7 {
             assert!(rt; !set_and_stop(&rt, rt.alloc(), passed, keep)?);

@@ -75,12 +75,9 @@ fn lists_after(alloc: Global, low: Run, high: Run, middle: Run) -> Result<Vec<Ve
 type Pair = (u64, u64);
 
 fn assert_runs(rt: &impl Abort, runs: &[Run], wanted: &[Pair]) {
-    assert!(rt; runs.len() == wanted.len(), "{runs:?} are the runs");
+    assert!(rt; runs.len() == wanted.len());
     for (run, (start, count)) in runs.iter().zip(wanted) {
-        assert!(rt;
-            run.start == *start && run.count == *count,
-            "{run:?} is a run"
-        );
+        assert!(rt; (run.start, run.count) == (*start, *count));
     }
 }
 

@@ -63,14 +63,14 @@ const WON_DATA: Record = Record {
 };
 
 fn assert_worker(rt: &impl Abort, worker: &Worker, wanted: &Wanted) {
-    assert_eq!(rt; worker.numbers(), wanted.numbers.as_slice());
+    assert!(rt; worker.numbers() == wanted.numbers.as_slice());
     assert!(rt; worker.records() == [wanted.record].as_slice());
 }
 
 fn assert_state(rt: &impl Abort, state: &ClaimState, first: &Wanted, second: &Wanted) {
-    assert_eq!(rt; state.first(), [8u64].as_slice());
-    assert_eq!(rt; state.second(), [8u64].as_slice());
-    assert_eq!(rt; state.cursor(), 4);
+    assert!(rt; state.first() == [8u64].as_slice());
+    assert!(rt; state.second() == [8u64].as_slice());
+    assert!(rt; state.cursor() == 4);
     let workers = state.views();
     assert!(rt; workers.len() == 2);
     if workers.len() == 2 {
@@ -177,7 +177,7 @@ fn a_schedule_says_which_worker_wins(rt: HostRuntime) -> Result<(), CoreRefusal>
 fn a_number_that_names_no_worker_is_refused(rt: HostRuntime) -> Result<(), CoreRefusal> {
     let work = work(rt.alloc())?;
     let refusal = replay(rt.alloc(), &[2], 4, 2, &work).err();
-    assert_eq!(rt; refusal, Some(CoreRefusal::NotAllowed { place: 0 }));
+    assert!(rt; refusal == Some(CoreRefusal::NotAllowed { place: 0 }));
     Ok(())
 }
 
@@ -185,7 +185,7 @@ fn a_number_that_names_no_worker_is_refused(rt: HostRuntime) -> Result<(), CoreR
 fn a_worker_past_the_end_has_no_step(rt: HostRuntime) -> Result<(), CoreRefusal> {
     let nothing = Vec::new(rt.alloc());
     let state = replay(rt.alloc(), &[0, 0, 0], 0, 1, &nothing)?;
-    assert_eq!(rt; state.cursor(), 1);
+    assert!(rt; state.cursor() == 1);
     Ok(())
 }
 
@@ -234,15 +234,15 @@ const LAST_BIT: u64 = 9223372036854775808;
 fn both_claims(rt: &impl Abort, alloc: Global) -> Result<ClaimState, CoreRefusal> {
     let mut state = run(alloc, ONE_WORD, &[])?;
     let lost = claim_of_file(&mut state, 0, LAST_FOUR, 2)?;
-    assert_eq!(rt; lost, 0);
+    assert!(rt; lost == 0);
     let lost = claim_of_file(&mut state, 1, LAST, 4)?;
-    assert_eq!(rt; lost, LAST_BIT);
+    assert!(rt; lost == LAST_BIT);
     Ok(state)
 }
 
 fn assert_sets(rt: &impl Abort, state: &ClaimState, first: u64, second: u64) {
-    assert_eq!(rt; state.first(), [first].as_slice());
-    assert_eq!(rt; state.second(), [second].as_slice());
+    assert!(rt; state.first() == [first].as_slice());
+    assert!(rt; state.second() == [second].as_slice());
 }
 
 // The bits 60 to 63.

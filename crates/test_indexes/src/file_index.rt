@@ -1,330 +1,160 @@
-//! Each call once with ample memory, and the extents of small maps.
+//! Each call once with ample memory, and what steps on a new file index leave.
 
 ghost use Rattle.std.specs.Prelude.{◌+◌, ◌^◌, ◌<◌, ◌≤◌};
 ghost use Rattle.nv_radix.specs.Pages.{AreFilePages};
 
-use nv_radix::FileIndex;
+use nv_radix::{FileIndex, MAX_FILE_PAGES};
 use std::alloc::{AllocError, Global};
 use std::process::Abort;
 use std::test::Fail;
 
-/// Makes a run ready and maps it.
+/// A row is a name, steps on a new index, and what they leave: extents, pages with their blocks, pages without a block,
+/// pages that are ready, and pages that aren't.
+///
+/// A step or an extent is its first page, the number of its pages, and its first block. A step with block 0 only makes
+/// its pages ready, and one of no pages cuts the map at its page. What the last row leaves was found by a plain list.
+pub const ROWS: &str = "\
+a new index | | | | 0 18446744073709551615 | | 0 64 18446744073709551615
+ready pages | 3 2 0 | | | 3 | 3 |
+a ready page parts extents | 0 3 0 0 1 10 2 1 12 | 0 1 10 2 1 12 | | 1 | |
+the pages of a run | 4 3 100 | 4 3 100 | 4 100 6 102 | 3 7 | |
+the last page | 262143 1 18446744073709551615 | 262143 1 18446744073709551615 | 262143 18446744073709551615 | 262142 | | 262144
+ready pages keep blocks | 5 1 50 9 1 90 20 1 200 3 8 0 | 5 1 50 9 1 90 20 1 200 | 5 50 9 90 20 200 | 4 | |
+runs that follow on | 2 2 12 0 2 10 | 0 4 10 | | | |
+runs that touch in pages alone | 0 2 10 2 2 20 | 0 2 10 2 2 20 | | | |
+runs that touch in blocks alone | 0 2 10 3 2 12 | 0 2 10 3 2 12 | | | |
+a cut within a run | 4 6 100 7 0 0 | 4 3 100 | 6 102 | 7 | |
+a cut behind all pages | 4 6 100 18446744073709551615 0 0 | 4 6 100 | 9 105 | | |
+a run over an older one | 0 6 10 2 2 40 | 0 2 10 2 2 40 4 2 14 | | | |
+a run over two leaves | 4090 10 100 | 4090 10 100 | | | 4032 4159 | 4031 4160
+a cut between two leaves | 4090 10 100 4096 0 0 | 4090 6 100 | | | |
+a cut at a leaf | 0 300 1000 128 0 0 | 0 128 1000 | | | 127 | 128
+a cut at the start | 0 300 1000 128 0 0 0 0 0 | | | | | 0
+pages of a ready leaf | 70 1 0 127 1 9 | 127 1 9 | 127 9 | 70 | 64 |
+pages in any order | 3 1 13 0 1 10 2 1 12 1 1 11 | 0 4 10 | | | |
+the last word on a page | 0 10 100 4 2 200 | 0 4 100 4 2 200 6 4 106 | | | |
+a run over many | 6 2 60 4 1 40 2 1 20 0 2 10 1 6 500 | 0 1 10 1 6 500 7 1 61 | | | |
+pages that were cut | 0 10 100 4 0 0 7 0 0 8 1 300 | 0 4 100 8 1 300 | | | |
+a cut of the last page | 0 10 100 262143 1 18446744073709551615 0 0 0 | | | | |
+all levels | 60 10 500 0 1 7 4150 20 900 8190 2 40 63 2 1 200 0 0 4159 3 77 66 1 506 65 0 0 64 70 300 130 0 0 8191 130 2000 | 0 1 7 60 3 500 63 1 1 64 66 300 8191 130 2000 | 129 365 | 130 4160 | |";
+
+/// The numbers in a text.
+pub fn numbers(alloc: Global, text: &str) -> Result<Vec<u64>, Fail> {
+    let mut numbers = Vec::new(alloc);
+    for word in text.split_whitespace() {
+        let number: u64 = word.parse().ok().ok_or("a number")?;
+        numbers.push(number)?;
+    }
+    Ok(numbers)
+}
+
+/// Makes a run ready, and maps it.
 fn map_run(index: &mut FileIndex, page: u64, block: u64, count: u64) -> Result<(), AllocError>
     requires pages { AreFilePages page count }
     requires blocks { 0 < count → block + count ≤ 2 ^ 64 }
 {
     index.reserve(page, count)?;
-    index.set_run(page, block, count);
+    if block > 0 {
+        index.set_run(page, block, count);
+    }
     Ok(())
 }
 
-/// The first page, the number of pages, and the first block of a run that is mapped, or a page where the map is cut,
-/// with a count of 0.
-type Step = (u64, u64, u64);
-
-fn step_index(index: &mut FileIndex, step: &Step) -> Result<(), AllocError> {
-    let (first, count, block) = *step;
-    if first > 261_000 || count > 300 || block > 3000 {
+fn take_step(index: &mut FileIndex, step: &[u64]) -> Result<(), AllocError> {
+    let [page, count, block] = *step else {
         return Ok(());
-    }
+    };
     if count == 0 {
-        index.cut(first);
-        return Ok(());
-    }
-    map_run(index, first, block, count)
-}
-
-fn take_steps(index: &mut FileIndex, steps: &[Step]) -> Result<(), AllocError> {
-    for step in steps {
-        step_index(index, step)?;
+        index.cut(page);
+    } else if page < MAX_FILE_PAGES
+        && count <= MAX_FILE_PAGES - page
+        && block <= u64::MAX - (count - 1)
+    {
+        map_run(index, page, block, count)?;
     }
     Ok(())
 }
 
 /// A new index behind these steps.
-fn stepped(alloc: Global, steps: &[Step]) -> Result<FileIndex, AllocError> {
+fn stepped(alloc: Global, steps: &str) -> Result<FileIndex, Fail> {
     let mut index = FileIndex::new(alloc);
-    take_steps(&mut index, steps)?;
+    for step in numbers(alloc, steps)?.chunks_exact(3) {
+        take_step(&mut index, step)?;
+    }
     Ok(index)
 }
 
-/// The map has these extents: the first page of each, the number of pages, and the first block.
-fn assert_extents(rt: &impl Abort, index: &FileIndex, wanted: &[Step]) -> Result<(), AllocError> {
+pub fn assert_extents(
+    rt: &impl Abort,
+    alloc: Global,
+    index: &FileIndex,
+    wanted: &str,
+) -> Result<(), Fail> {
+    let numbers = numbers(alloc, wanted)?;
     let extents = index.runs()?;
-    assert!(rt; extents.len() == wanted.len());
-    for (extent, (page, count, block)) in extents.iter().zip(wanted) {
-        assert!(rt;
-            extent.page == *page && extent.count == *count && extent.block == *block,
-            "{extent:?} is an extent"
-        );
+    assert!(rt; extents.len() == numbers.len() / 3, "the extents {wanted}");
+    for (extent, wanted) in extents.iter().zip(numbers.chunks_exact(3)) {
+        assert!(rt; wanted == [extent.page, extent.count, extent.block].as_slice());
     }
     Ok(())
 }
 
-/// These steps leave these extents.
-fn assert_steps(
-    rt: &impl Abort,
-    alloc: Global,
-    steps: &[Step],
-    wanted: &[Step],
-) -> Result<(), AllocError> {
-    let index = stepped(alloc, steps)?;
-    assert_extents(rt, &index, wanted)
-}
-
-/// A page and its block, or none.
-type Place = (u64, Option<u64>);
-
-fn assert_blocks(rt: &impl Abort, index: &FileIndex, wanted: &[Place]) {
-    for (page, block) in wanted {
-        assert_eq!(rt; index.get(*page), *block, "at page {page}");
-    }
-}
-
-/// These steps leave these blocks.
 fn assert_mapped(
     rt: &impl Abort,
     alloc: Global,
-    steps: &[Step],
-    wanted: &[Place],
-) -> Result<(), AllocError> {
-    let index = stepped(alloc, steps)?;
-    assert_blocks(rt, &index, wanted);
+    index: &FileIndex,
+    mapped: &str,
+    unmapped: &str,
+) -> Result<(), Fail> {
+    for place in numbers(alloc, mapped)?.chunks_exact(2) {
+        if let [page, block] = *place {
+            assert!(rt; index.get(page) == Some(block), "the blocks {mapped}");
+        }
+    }
+    for page in numbers(alloc, unmapped)?.iter() {
+        assert!(rt; index.get(*page) == None, "no block at {unmapped}");
+    }
     Ok(())
 }
 
-fn assert_ready(rt: &impl Abort, index: &FileIndex, wanted: &[(u64, bool)]) {
-    for (page, is_ready) in wanted {
-        assert!(rt; index.ready(*page) == *is_ready, "at page {page}");
-    }
-}
-
-/// These steps leave these pages ready, and these not.
-fn assert_leaves_ready(
+fn assert_ready(
     rt: &impl Abort,
     alloc: Global,
-    steps: &[Step],
-    wanted: &[(u64, bool)],
-) -> Result<(), AllocError> {
+    index: &FileIndex,
+    pages: &str,
+    is_ready: bool,
+) -> Result<(), Fail> {
+    for page in numbers(alloc, pages)?.iter() {
+        assert!(rt; index.ready(*page) == is_ready, "ready {pages}");
+    }
+    Ok(())
+}
+
+fn assert_row(rt: &impl Abort, alloc: Global, row: &str) -> Result<(), Fail> {
+    let fields: Vec<&str> = row.split('|').collect(alloc)?;
+    let [_, steps, extents, mapped, unmapped, ready, unready] = *fields.as_slice() else {
+        return Err("a row has seven fields".into());
+    };
     let index = stepped(alloc, steps)?;
-    assert_ready(rt, &index, wanted);
+    assert_extents(rt, alloc, &index, extents)?;
+    assert_mapped(rt, alloc, &index, mapped, unmapped)?;
+    assert_ready(rt, alloc, &index, ready, true)?;
+    assert_ready(rt, alloc, &index, unready, false)
+}
+
+#[test]
+fn steps_leave_their_maps(rt: HostRuntime) -> Result<(), Fail> {
+    for row in ROWS.lines() {
+        assert_row(&rt, rt.alloc(), row)?;
+    }
     Ok(())
 }
 
 #[test]
-fn a_new_index_maps_no_page(rt: HostRuntime) -> Result<(), AllocError> {
-    assert_mapped(&rt, rt.alloc(), &[], &[(0, None), (u64::MAX, None)])
-}
-
-#[test]
-fn a_new_index_has_no_extent(rt: HostRuntime) -> Result<(), AllocError> {
-    assert_steps(&rt, rt.alloc(), &[], &[])
-}
-
-#[test]
-fn no_page_of_a_new_index_is_ready(rt: HostRuntime) -> Result<(), AllocError> {
-    let wanted = [(0, false), (64, false), (u64::MAX, false)];
-    assert_leaves_ready(&rt, rt.alloc(), &[], &wanted)
-}
-
-/// A new index in which these pages are ready.
-fn reserved(alloc: Global, first: u64, count: u64) -> Result<FileIndex, AllocError>
-    requires { AreFilePages first count }
-{
-    let mut index = FileIndex::new(alloc);
-    index.reserve(first, count)?;
-    Ok(index)
-}
-
-#[test]
-fn a_ready_page_has_no_block(rt: HostRuntime) -> Result<(), AllocError> {
-    let index = reserved(rt.alloc(), 3, 2)?;
-    assert_blocks(&rt, &index, &[(3, None)]);
-    assert_extents(&rt, &index, &[])
-}
-
-#[test]
-fn a_ready_page_with_no_block_parts_two_extents(rt: HostRuntime) -> Result<(), AllocError> {
-    let mut index = reserved(rt.alloc(), 0, 3)?;
-    take_steps(&mut index, &[(0, 1, 10), (2, 1, 12)])?;
-    assert_extents(&rt, &index, &[(0, 1, 10), (2, 1, 12)])
-}
-
-#[test]
-fn the_pages_of_a_run_go_to_its_blocks(rt: HostRuntime) -> Result<(), AllocError> {
-    let wanted = [(3, None), (4, Some(100)), (6, Some(102)), (7, None)];
-    assert_mapped(&rt, rt.alloc(), &[(4, 3, 100)], &wanted)
-}
-
-#[test]
-fn the_last_page_and_the_last_block_are_mapped(rt: HostRuntime) -> Result<(), AllocError> {
-    let mut index = FileIndex::new(rt.alloc());
-    map_run(&mut index, 262_143, u64::MAX, 1)?;
-    assert_blocks(&rt, &index, &[(262_143, Some(u64::MAX)), (262_142, None)]);
-    assert_ready(&rt, &index, &[(262_144, false)]);
-    assert_extents(&rt, &index, &[(262_143, 1, u64::MAX)])
-}
-
-#[test]
-fn pages_that_are_ready_keep_their_blocks_between_new_ones(
-    rt: HostRuntime,
-) -> Result<(), AllocError> {
-    let mut index = stepped(rt.alloc(), &[(5, 1, 50), (9, 1, 90), (20, 1, 200)])?;
-    index.reserve(3, 8)?;
-    let wanted = [(4, None), (5, Some(50)), (9, Some(90)), (20, Some(200))];
-    assert_blocks(&rt, &index, &wanted);
-    Ok(())
-}
-
-#[test]
-fn runs_that_follow_on_in_pages_and_blocks_are_one_extent(
-    rt: HostRuntime,
-) -> Result<(), AllocError> {
-    assert_steps(&rt, rt.alloc(), &[(2, 2, 12), (0, 2, 10)], &[(0, 4, 10)])
-}
-
-#[test]
-fn runs_that_touch_in_pages_alone_are_two_extents(rt: HostRuntime) -> Result<(), AllocError> {
-    let runs = [(0, 2, 10), (2, 2, 20)];
-    assert_steps(&rt, rt.alloc(), &runs, &runs)
-}
-
-#[test]
-fn runs_that_touch_in_blocks_alone_are_two_extents(rt: HostRuntime) -> Result<(), AllocError> {
-    let runs = [(0, 2, 10), (3, 2, 12)];
-    assert_steps(&rt, rt.alloc(), &runs, &runs)
-}
-
-#[test]
-fn a_cut_in_the_middle_of_a_run_keeps_its_front(rt: HostRuntime) -> Result<(), AllocError> {
-    let index = stepped(rt.alloc(), &[(4, 6, 100), (7, 0, 0)])?;
-    assert_blocks(&rt, &index, &[(6, Some(102)), (7, None)]);
-    assert_extents(&rt, &index, &[(4, 3, 100)])
-}
-
-#[test]
-fn a_cut_may_lie_behind_all_pages(rt: HostRuntime) -> Result<(), AllocError> {
-    let mut index = stepped(rt.alloc(), &[(4, 6, 100)])?;
-    index.cut(u64::MAX);
-    assert_blocks(&rt, &index, &[(9, Some(105))]);
-    Ok(())
-}
-
-#[test]
-fn an_empty_run_changes_nothing(rt: HostRuntime) -> Result<(), AllocError> {
+fn a_run_of_no_page_changes_nothing(rt: HostRuntime) -> Result<(), AllocError> {
     let mut index = FileIndex::new(rt.alloc());
     index.reserve(u64::MAX, 0)?;
     index.set_run(u64::MAX, u64::MAX, 0);
-    assert_blocks(&rt, &index, &[(u64::MAX, None)]);
-    Ok(())
-}
-
-#[test]
-fn a_run_replaces_older_blocks(rt: HostRuntime) -> Result<(), AllocError> {
-    let wanted = [(0, 2, 10), (2, 2, 40), (4, 2, 14)];
-    assert_steps(&rt, rt.alloc(), &[(0, 6, 10), (2, 2, 40)], &wanted)
-}
-
-fn map_shuffled(index: &mut FileIndex) -> Result<(), AllocError> {
-    for step in 0..64u64 {
-        let page = step * 37 % 64;
-        map_run(index, page, 1000 + page, 1)?;
-    }
-    Ok(())
-}
-
-#[test]
-fn shuffled_pages_give_the_map_of_rising_ones(rt: HostRuntime) -> Result<(), AllocError> {
-    let mut index = FileIndex::new(rt.alloc());
-    map_shuffled(&mut index)?;
-    assert_extents(&rt, &index, &[(0, 64, 1000)])
-}
-
-#[test]
-fn a_run_over_two_leaves_is_one_extent_and_makes_both_ready(
-    rt: HostRuntime,
-) -> Result<(), AllocError> {
-    let index = stepped(rt.alloc(), &[(4090, 10, 100)])?;
-    let wanted = [(4031, false), (4032, true), (4159, true), (4160, false)];
-    assert_ready(&rt, &index, &wanted);
-    assert_extents(&rt, &index, &[(4090, 10, 100)])
-}
-
-#[test]
-fn a_cut_between_two_leaves_shortens_an_extent(rt: HostRuntime) -> Result<(), AllocError> {
-    let steps = [(4090, 10, 100), (4096, 0, 0)];
-    assert_steps(&rt, rt.alloc(), &steps, &[(4090, 6, 100)])
-}
-
-const LONG: Step = (0, 300, 1000);
-
-#[test]
-fn a_cut_at_a_leaf_frees_it(rt: HostRuntime) -> Result<(), AllocError> {
-    let wanted = [(127, true), (128, false)];
-    assert_leaves_ready(&rt, rt.alloc(), &[LONG, (128, 0, 0)], &wanted)
-}
-
-#[test]
-fn a_cut_at_the_start_frees_all(rt: HostRuntime) -> Result<(), AllocError> {
-    assert_leaves_ready(
-        &rt,
-        rt.alloc(),
-        &[LONG, (128, 0, 0), (0, 0, 0)],
-        &[(0, false)],
-    )
-}
-
-#[test]
-fn pages_of_a_leaf_are_mapped_without_another_reserve(rt: HostRuntime) -> Result<(), AllocError> {
-    let mut index = reserved(rt.alloc(), 70, 1)?;
-    if index.ready(127) {
-        index.set_run(127, 9, 1);
-    }
-    assert_blocks(&rt, &index, &[(127, Some(9)), (70, None)]);
-    Ok(())
-}
-
-/// Steps over all levels of the tree.
-const STEPS: [Step; 12] = [
-    (60, 10, 500),
-    (0, 1, 7),
-    (4150, 20, 900),
-    (8190, 2, 40),
-    (63, 2, 1),
-    (200, 0, 0),
-    (4159, 3, 77),
-    (66, 1, 506),
-    (65, 0, 0),
-    (64, 70, 300),
-    (130, 0, 0),
-    (8191, 130, 2000),
-];
-
-fn step_list(plain: &mut [Option<u64>], step: &Step) {
-    let (first, count, block) = *step;
-    for (page, slot) in (0..8400u64).zip(plain.iter_mut()) {
-        if count == 0 && page >= first {
-            *slot = None;
-        } else if page >= first && page - first < count {
-            *slot = Some(block.wrapping_add(page - first));
-        }
-    }
-}
-
-fn assert_alike(rt: &impl Abort, index: &FileIndex, plain: &[Option<u64>]) {
-    for (page, slot) in plain.iter().enumerate() {
-        assert!(rt; index.get(page as u64) == *slot, "at page {page}");
-    }
-}
-
-#[test]
-fn many_steps_give_the_map_of_a_plain_list(rt: HostRuntime) -> Result<(), Fail> {
-    let mut index = FileIndex::new(rt.alloc());
-    let mut plain = Vec::from_elem(rt.alloc(), None, 8400)?;
-    for step in &STEPS {
-        step_index(&mut index, step)?;
-        step_list(&mut plain, step);
-        assert_alike(&rt, &index, &plain);
-    }
+    assert!(rt; index.get(u64::MAX) == None);
     Ok(())
 }

@@ -119,16 +119,16 @@ fn a_listing_rises_by_number(rt: HostRuntime) -> Result<(), AllocError> {
     let mut values = filled(rt.alloc(), &[5, 1, 7, 0, 6])?;
     assert!(rt; values.remove(5) == Some(50));
     let listed: Vec<u64> = values.iter().map(|entry| entry.0).collect(rt.alloc())?;
-    assert_eq!(rt; listed.as_slice(), [0, 1, 6, 7].as_slice());
+    assert!(rt; listed.as_slice() == [0, 1, 6, 7].as_slice());
     let listed: Vec<u64> = values.iter().map(|entry| *entry.1).collect(rt.alloc())?;
-    assert_eq!(rt; listed.as_slice(), [0, 10, 60, 70].as_slice());
+    assert!(rt; listed.as_slice() == [0, 10, 60, 70].as_slice());
     Ok(())
 }
 
 #[test]
 fn values_are_removed_in_any_order(rt: HostRuntime) -> Result<(), AllocError> {
     let mut values = filled(rt.alloc(), &[0, 1, 2, 3, 4, 5, 6, 7])?;
-    for number in [7, 0, 3, 4, 1, 6, 2] {
+    for &number in [7, 0, 3, 4, 1, 6, 2].iter() {
         assert!(rt;
             values.remove(number) == Some(number.wrapping_mul(10)),
             "at number {number}"
