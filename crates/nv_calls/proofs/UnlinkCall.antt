@@ -1,5 +1,5 @@
 -- What `unlink` answers, and what it leaves.
-use Rattle.std.proofs.Common.{◌≡◌, ◌≢◌, ℕ, ◌+◌, ◌-◌, ◌%◌, ◌/◌, ◌<◌, ◌≤◌, nat_lt, inl, inr, Bool, false, cond, List, [], ◌∷◌, slice_get, ap, sym, ◌∙◌, subst, arith, Option, Some, None, Result, Ok}
+use Rattle.std.proofs.Common.{◌≡◌, ◌≢◌, ℕ, ◌+◌, ◌-◌, ◌%◌, ◌/◌, ◌<◌, ◌≤◌, nat_lt, inl, inr, Bool, false, cond, List, [], ◌∷◌, slice_get, ap, sym, ◌∙◌, subst, arith, Option, Some, None, Ok}
 use Rattle.std.specs.List.{Contains}
 use Rattle.std.specs.Option.{option_map, option_map_or}
 use Rattle.nv_region.specs.Region.{Region}
@@ -24,10 +24,9 @@ use Rattle.nv_tree.specs.Path.{IsPath, IsPathName, Says, last_name}
 use Rattle.nv_tree.specs.Tree.{Node, SameTree, Tree, found, walk}
 use Rattle.nv_tree.specs.Calls.{edit, links_at, unlinked, with_links, without_name}
 use Rattle.nv_tree.specs.Refusals.{Path, Tests, first_refusal, has_no_space, unlink_tests, writing}
-use Rattle.nv_calls.specs.LessNames.{CanGo, RemovesAt}
 use Rattle.nv_calls.specs.LinkCalls.{ShowsBothGrew, links_blocks, links_entries}
 use Rattle.nv_calls.specs.Mount.{IsKept, Mount}
-use Rattle.nv_calls.specs.NameCalls.{name_blocks, name_entries, row_blocks}
+use Rattle.nv_calls.specs.NameCalls.{name_entries, row_blocks}
 use Rattle.nv_calls.specs.NamedAt.{IsNamedAt, unlink_spot_tests}
 use Rattle.nv_calls.specs.RemoveCalls.{ShowsRemoved}
 use Rattle.nv_calls.specs.Seen.{LeadsTo, tree_of}
@@ -42,9 +41,8 @@ use Rattle.nv_calls.proofs.LinkedHeld.{kinds_differ}
 use Rattle.nv_calls.proofs.LinkedTree.{counted_node, links_told}
 use Rattle.nv_calls.proofs.NamesCounted.{as_many}
 use Rattle.nv_calls.proofs.OneRow.{stands}
-use Rattle.nv_calls.proofs.PutRow.{one_row}
 use Rattle.nv_calls.proofs.RemoveCall.{removal_blocks, removed_kept, removed_log, tree_is}
-use Rattle.nv_calls.proofs.RemovedTree.{lost_node, removed_tree}
+use Rattle.nv_calls.proofs.RemovedTree.{lost_node}
 use Rattle.nv_calls.proofs.RemoveTests.{unlink_allows}
 use Rattle.nv_calls.proofs.RowNumbers.{row_number}
 use Rattle.nv_calls.proofs.RowOf.{row_at}

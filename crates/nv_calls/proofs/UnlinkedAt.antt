@@ -1,5 +1,5 @@
 -- A name less and a link less, once both logs have grown and the rows are settled.
-use Rattle.std.proofs.Common.{◌≡◌, ◌≢◌, ℕ, ◌-◌, cond, nat_eq, List, ◌++◌, set, slice_get, ap, sym, ◌∙◌, subst, Some, None}
+use Rattle.std.proofs.Common.{◌≡◌, ◌≢◌, ℕ, ◌-◌, cond, nat_eq, List, set, slice_get, ap, sym, ◌∙◌, subst, Some, None}
 use Rattle.std.specs.Cmp.Lexicographic.{pointwise}
 use Rattle.nv_region.specs.Region.{Region}
 use Rattle.nv_super.specs.declared.superblock.Super.{Super}
@@ -7,7 +7,7 @@ use Rattle.nv_alloc.specs.FreeValue.{FreeLists}
 use Rattle.nv_entry.specs.declared.entry.Entry.{Entry}
 use Rattle.nv_entry.specs.declared.entry.Operation.TheVariants.{Remove}
 use Rattle.nv_logpage.specs.Append.{end_of}
-use Rattle.nv_names.specs.Names.{EachOnce, name_at}
+use Rattle.nv_names.specs.Names.{EachOnce}
 use Rattle.nv_radix.specs.Pages.{block_at}
 use Rattle.nv_scan.specs.declared.numbers.Numbers.{Numbers}
 use Rattle.nv_scan.specs.declared.piece.Row.{Row}
@@ -18,7 +18,8 @@ use Rattle.nv_calls.specs.NameCalls.{name_entries}
 use Rattle.nv_calls.specs.Unlinks.{DropsName, UnlinksAt}
 use Rattle.nv_calls.proofs.LinkedAt.{counted_after}
 use Rattle.nv_calls.proofs.PutRow.{one_row}
-use Rattle.nv_calls.proofs.SetRows.{both_twice, first_set, other_set, second_set}
+use Rattle.nv_calls.proofs.SetRows.{both_twice, first_set, second_set}
+use Rattle.nv_calls.proofs.TakenOut.{other_set}
 
 -- a row that grew and then has a name less
 drops_after : {old mid new : Row} {fresh : List ℕ} {end : ℕ} (name : List ℕ) (time : ℕ) → GrowsSame old fresh end mid → DropsName mid name time new → HasLost old fresh end name time new

@@ -17,7 +17,7 @@ use Rattle.nv_held.specs.Held.{Held, Store}
 use Rattle.nv_held.specs.Blocks.{OwnsNew}
 use Rattle.nv_held.specs.Graph.{graph_in, node_in, target_in}
 use Rattle.nv_held.specs.Grows.{SameFile}
-use Rattle.nv_held.specs.Mounted.{IsFaultless, IsMounted, KeepsRow}
+use Rattle.nv_held.specs.Mounted.{IsFaultless, KeepsRow}
 use Rattle.nv_named.specs.Step.{IsGoodName}
 use Rattle.nv_named.proofs.GoodEntries.{links_small}
 use Rattle.nv_commit.specs.Extends.{extended, with_log}

@@ -1,11 +1,8 @@
-use Rattle.std.proofs.Common.{◌≡◌, ◌∙◌, ◌<◌, ◌-◌, ◌⊎◌, ◌++◌, ◌∷◌, [], List, ℕ, Some, None, Ok, false, inl, inr, length, ap, slice_get, subst, sym}
+use Rattle.std.proofs.Common.{◌≡◌, ◌∙◌, ◌<◌, ◌-◌, ◌⊎◌, ◌++◌, ◌∷◌, [], List, ℕ, Some, None, Ok, false, inr, length, ap, slice_get, subst, sym}
 use Rattle.std.proofs.lemmas.Result.{err_from_is_err_and}
 use Rattle.nv_super.specs.declared.kind.Kind.TheVariants.{File}
 use Rattle.nv_entry.specs.declared.entry.Operation.TheVariants.{Remove}
-use Rattle.nv_logpage.specs.Append.{needed}
-use Rattle.nv_names.specs.Names.{name_at}
 use Rattle.nv_scan.specs.declared.piece.Row.{Row}
-use Rattle.nv_named.specs.Read.{row_of}
 use Rattle.nv_tree.specs.declared.refusal.Refusal.{Refusal}
 use Rattle.nv_tree.specs.declared.refusal.Refusal.TheVariants.{Memory, Stopped}
 use Rattle.nv_held.specs.Mounted.{ShowsSound}
@@ -27,7 +24,7 @@ use Rattle.nv_calls.proofs.CreateCall.{kept_or_stopped, unchanged_rows}
 use Rattle.nv_calls.proofs.CreateTests.{a_row}
 use Rattle.nv_calls.proofs.Kept.{rows_rise}
 use Rattle.nv_calls.proofs.Listed.{refused_by}
-use Rattle.nv_calls.proofs.OneRow.{stands, stands_right}
+use Rattle.nv_calls.proofs.OneRow.{stands}
 use Rattle.nv_calls.proofs.OwnedRow.{owns_blocks}
 use Rattle.nv_calls.proofs.LinkedHeld.{kinds_apart, kinds_differ}
 use Rattle.nv_calls.proofs.NewNumbers.{can_name}
@@ -36,7 +33,6 @@ use Rattle.nv_calls.proofs.RowNumbers.{row_commits, row_number}
 use Rattle.nv_calls.proofs.UnlinkCall.{unlink_kept, unlink_last, unlink_last_test, unlink_logs, unlink_refusal, unlink_tree}
 use Rattle.nv_calls.proofs.RemoveTests.{unlink_goes_on, unlink_refuses}
 use Rattle.nv_calls.proofs.RowChange.{same_mount}
-use Rattle.nv_calls.proofs.RowOf.{row_at}
 use Rattle.nv_calls.proofs.SetAttr.{late_reply, not_stop}
 use Rattle.nv_calls.proofs.Tests.{early_reply, if_err, writing_goes_on}
 use Rattle.nv_calls.proofs.fs.Fs.unlink.Goals as goal
