@@ -3,7 +3,7 @@
 #![tactic(auto)]
 
 ghost use Rattle.std.specs.Prelude.{IfOk};
-ghost use Rattle.nv_recover.specs.Answer.{outcome_of};
+ghost use Rattle.nv_outcome.specs.Answer.{outcome_of};
 ghost use Rattle.mount_and_list.specs.Mounted.{IsFreshOutcome};
 
 use nv_format::{FormatRefusal, format};

@@ -5,8 +5,7 @@ ghost use Rattle.std.specs.Io.KnownBytes.{Appends};
 ghost use Rattle.nv_stream.specs.Streams.{AppendsFront};
 
 use crate::reason::Reason;
-use nv_cli::{ScriptError, check_region};
-use nv_report::{BadLength, LONGEST_REGION, is_region_length};
+use nv_cli::{BadLength, LONGEST_REGION, ScriptError, check_region, is_region_length};
 use nv_stream::{Contents, Unread, contents_at, write_text};
 use std::io::Write;
 use std::rt::Files;

@@ -12,10 +12,10 @@ use Rattle.nv_alloc.specs.FreeValue.{FreeLists}
 use Rattle.nv_entry.specs.declared.entry.Entry.{Entry}
 use Rattle.nv_logpage.specs.Append.{AreGiven, EndBy, end_of, needed}
 use Rattle.nv_names.specs.Names.{EachOnce, Names, name_at}
-use Rattle.nv_outcome.specs.Same.{SameRow}
+use Rattle.nv_held.specs.nv_outcome.Same.{SameRow}
 use Rattle.nv_radix.specs.Pages.{Pages, block_at}
 use Rattle.nv_scan.specs.declared.piece.Row.{Row}
-use Rattle.nv_check.specs.Cross.{row_key}
+use Rattle.nv_held.specs.nv_check.Cross.{row_key}
 use Rattle.nv_held.specs.Held.{Held, Store}
 use Rattle.nv_commit.specs.declared.together.Extension.{Extension}
 use Rattle.nv_commit.specs.Extends.{with_log}

@@ -42,7 +42,7 @@ use Rattle.nv_held.proofs.DataGrows.{cut, kept, written}
 use Rattle.nv_held.proofs.Fronts.{loose_sound}
 use Rattle.nv_held.proofs.Kept.{page_owner, tail_there}
 use Rattle.nv_held.proofs.Shown.{stands_at}
-use Rattle.nv_outcome.proofs.SuperOf.{layout_of_super}
+use Rattle.nv_held.proofs.nv_outcome.SuperOf.{layout_of_super}
 use Rattle.nv_commit.specs.Extends.{CanExtend, ExtendWords, ShowsMoved, extended, with_log}
 use Rattle.nv_bytes.specs.Bytes.{byte_after}
 use Rattle.nv_bytes.specs.Storing.{HoldsPage, InBlocks}

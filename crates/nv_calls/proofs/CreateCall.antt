@@ -17,10 +17,10 @@ use Rattle.nv_alloc.specs.Taking.{all_blocks}
 use Rattle.nv_entry.specs.declared.entry.Operation.TheVariants.{Add}
 use Rattle.nv_logpage.specs.Append.{needed}
 use Rattle.nv_scan.specs.declared.piece.Row.{Row}
-use Rattle.nv_check.specs.Cross.{row_key}
-use Rattle.nv_outcome.specs.Same.{SameRow, SameRows}
-use Rattle.nv_named.specs.Read.{row_of}
-use Rattle.nv_named.specs.Step.{IsGoodName}
+use Rattle.nv_held.specs.nv_check.Cross.{row_key}
+use Rattle.nv_held.specs.nv_outcome.Same.{SameRow, SameRows}
+use Rattle.nv_held.specs.nv_named.Read.{row_of}
+use Rattle.nv_held.specs.nv_named.Step.{IsGoodName}
 use Rattle.nv_held.specs.Held.{Held, Store}
 use Rattle.nv_held.specs.Blocks.{KeepsFree}
 use Rattle.nv_held.specs.Mounted.{IsMounted, ShowsSound}

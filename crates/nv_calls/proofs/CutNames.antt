@@ -15,7 +15,7 @@ use Rattle.nv_logpage.specs.Append.{EndBy, end_of, needed}
 use Rattle.nv_names.specs.Names.{EachOnce}
 use Rattle.nv_scan.specs.declared.numbers.Numbers.{Numbers}
 use Rattle.nv_scan.specs.declared.piece.Row.{Row}
-use Rattle.nv_outcome.specs.Same.{SameRow}
+use Rattle.nv_held.specs.nv_outcome.Same.{SameRow}
 use Rattle.nv_held.specs.Held.{Held, Store, with_inode}
 use Rattle.nv_commit.specs.declared.together.Extension.{Extension}
 use Rattle.nv_commit.specs.Extends.{with_log}

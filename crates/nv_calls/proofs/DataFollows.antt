@@ -12,7 +12,7 @@ use Rattle.nv_alloc.specs.Taking.{HasBlock}
 use Rattle.nv_entry.specs.declared.entry.Entry.{Entry}
 use Rattle.nv_logpage.specs.declared.found.Placed.{Placed}
 use Rattle.nv_logpage.specs.Append.{appended, end_of, needed}
-use Rattle.nv_outcome.proofs.SuperOf.{layout_of_super}
+use Rattle.nv_held.proofs.nv_outcome.SuperOf.{layout_of_super}
 use Rattle.nv_scan.specs.declared.piece.Row.{Row}
 use Rattle.nv_held.specs.Held.{Held, Store}
 use Rattle.nv_held.specs.Blocks.{KeepsFree}

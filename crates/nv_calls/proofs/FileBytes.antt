@@ -22,7 +22,7 @@ use Rattle.nv_alloc.specs.FreeValue.{FreeLists}
 use Rattle.nv_scan.specs.declared.piece.Row.{Row}
 use Rattle.nv_scan.specs.State.{size_in, says_size, size_of}
 use Rattle.nv_scan.proofs.Blocks.{data_pages, good_is_good, in_range, last_word-all}
-use Rattle.nv_outcome.proofs.SuperOf.{blocks_of_super}
+use Rattle.nv_held.proofs.nv_outcome.SuperOf.{blocks_of_super}
 use Rattle.nv_bytes.specs.Bytes.{LieInside}
 use Rattle.nv_tree.specs.declared.refusal.Refusal.{Refusal}
 use Rattle.nv_tree.specs.declared.refusal.Refusal.TheVariants.{NotFound, IsDirectory}

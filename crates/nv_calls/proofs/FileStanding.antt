@@ -11,7 +11,7 @@ use Rattle.nv_super.specs.declared.faults.Fault.{Fault}
 use Rattle.nv_super.specs.declared.owners.Owner.TheVariants as owners
 use Rattle.nv_super.specs.Layout.{fixed_layout}
 use Rattle.nv_alloc.specs.FreeValue.{FreeLists}
-use Rattle.nv_outcome.proofs.SuperOf.{blocks_of_super}
+use Rattle.nv_held.proofs.nv_outcome.SuperOf.{blocks_of_super}
 use Rattle.nv_scan.specs.declared.piece.Row.{Row}
 use Rattle.nv_scan.proofs.Blocks.{data_pages}
 use Rattle.nv_scan.proofs.Sizes.{page_below}

@@ -18,8 +18,8 @@ use Rattle.nv_alloc.specs.FreeLists.{Leave}
 use Rattle.nv_scan.specs.declared.piece.Row.{Row}
 use Rattle.nv_scan.specs.Owners.{by_page}
 use Rattle.nv_journal.specs.Undo.{undone}
-use Rattle.nv_outcome.specs.Outcome.{IsFree, AreFreeLists}
-use Rattle.nv_outcome.proofs.SuperOf.{blocks_of_super}
+use Rattle.nv_held.specs.nv_outcome.Outcome.{IsFree, AreFreeLists}
+use Rattle.nv_held.proofs.nv_outcome.SuperOf.{blocks_of_super}
 use Rattle.nv_bytes.specs.Storing.{AreFresh}
 use Rattle.nv_calls.specs.Mount.{IsKept}
 

@@ -8,8 +8,8 @@ use Rattle.nv_super.specs.Order.{Rises}
 use Rattle.nv_super.proofs.Rising.{Below, Contains-cons, Contains-head, Contains-tail, below_first, head_least, rises_cons, tail_rises}
 use Rattle.nv_super.proofs.Members.{none_in}
 use Rattle.nv_scan.specs.declared.piece.Row.{Row}
-use Rattle.nv_check.specs.Cross.{row_key}
-use Rattle.nv_named.specs.Read.{row_of}
+use Rattle.nv_held.specs.nv_check.Cross.{row_key}
+use Rattle.nv_held.specs.nv_named.Read.{row_of}
 use Rattle.nv_calls.specs.NewNames.{HasInserted, IsPlaceFor}
 use Rattle.nv_calls.proofs.RowOf.{index_rises, inodes_rise, none_within, searched_row}
 

@@ -8,7 +8,7 @@ use Rattle.nv_super.specs.declared.faults.Fault.{Fault}
 use Rattle.nv_super.specs.Order.{Rises}
 use Rattle.nv_alloc.specs.FreeValue.{FreeLists}
 use Rattle.nv_scan.specs.declared.piece.Row.{Row}
-use Rattle.nv_check.specs.Cross.{row_key}
+use Rattle.nv_held.specs.nv_check.Cross.{row_key}
 use Rattle.nv_tree.specs.declared.refusal.Refusal.{Refusal}
 use Rattle.nv_tree.specs.Refusals.{Path, first_refusal, stat_tests}
 use Rattle.nv_calls.specs.Mount.{Mount, IsKept}

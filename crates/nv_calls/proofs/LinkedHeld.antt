@@ -19,14 +19,14 @@ use Rattle.nv_entry.specs.declared.entry.Operation.TheVariants.{Add}
 use Rattle.nv_logpage.specs.Append.{end_of, needed, place_of}
 use Rattle.nv_names.specs.Names.{name_at}
 use Rattle.nv_scan.specs.declared.piece.Row.{Row}
-use Rattle.nv_check.specs.Cross.{row_key}
+use Rattle.nv_held.specs.nv_check.Cross.{row_key}
 use Rattle.nv_held.specs.Held.{Held, Store}
 use Rattle.nv_held.specs.Blocks.{OwnsNew}
 use Rattle.nv_held.specs.Graph.{graph_in, node_in, target_in}
 use Rattle.nv_held.specs.Grows.{SameFile}
 use Rattle.nv_held.specs.Mounted.{IsFaultless, IsMounted, KeepsRow}
-use Rattle.nv_named.specs.Read.{row_of}
-use Rattle.nv_named.specs.Step.{IsGoodName}
+use Rattle.nv_held.specs.nv_named.Read.{row_of}
+use Rattle.nv_held.specs.nv_named.Step.{IsGoodName}
 use Rattle.nv_commit.specs.Extends.{extended, with_log}
 use Rattle.nv_commit.proofs.Called.{linked_faultless}
 use Rattle.nv_calls.specs.LinkCalls.{links_entries}

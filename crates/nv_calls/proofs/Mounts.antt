@@ -11,8 +11,8 @@ use Rattle.nv_super.specs.declared.faults.Fault.{Fault}
 use Rattle.nv_journal.specs.Undo.{undone}
 use Rattle.nv_alloc.specs.FreeValue.{FreeLists}
 use Rattle.nv_scan.specs.declared.piece.Row.{Row}
-use Rattle.nv_outcome.specs.Outcome.{IsOutcome}
-use Rattle.nv_outcome.specs.Same.{is_lasting, lasting_outcome}
+use Rattle.nv_held.specs.nv_outcome.Outcome.{IsOutcome}
+use Rattle.nv_held.specs.nv_outcome.Same.{is_lasting, lasting_outcome}
 use Rattle.nv_held.specs.Held.{Store}
 use Rattle.nv_held.specs.Mounted.{IsMounted, ShowsSound}
 use Rattle.nv_held.proofs.Opens as opens

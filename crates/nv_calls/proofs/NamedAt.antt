@@ -7,8 +7,8 @@ use Rattle.nv_super.specs.declared.kind.Kind.TheVariants.{Directory}
 use Rattle.nv_super.specs.Order.{Rises}
 use Rattle.nv_names.specs.Names.{name_at}
 use Rattle.nv_scan.specs.declared.piece.Row.{Row}
-use Rattle.nv_check.specs.Cross.{row_key}
-use Rattle.nv_named.specs.Read.{row_of}
+use Rattle.nv_held.specs.nv_check.Cross.{row_key}
+use Rattle.nv_held.specs.nv_named.Read.{row_of}
 use Rattle.nv_tree.specs.declared.refusal.Refusal.{Refusal}
 use Rattle.nv_tree.specs.declared.refusal.Refusal.TheVariants.{BadName, NotFound}
 use Rattle.nv_tree.specs.Path.{IsPath, last_name}

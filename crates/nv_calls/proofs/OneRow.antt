@@ -15,7 +15,7 @@ use Rattle.nv_super.proofs.Slots.{slot_is, slots_apart}
 use Rattle.nv_alloc.specs.FreeValue.{FreeLists}
 use Rattle.nv_alloc.proofs.Sound.{free_within}
 use Rattle.nv_inode.specs.Slot.{is_right_log}
-use Rattle.nv_outcome.proofs.SuperOf.{blocks_of_super, layout_of_super}
+use Rattle.nv_held.proofs.nv_outcome.SuperOf.{blocks_of_super, layout_of_super}
 use Rattle.nv_scan.specs.declared.piece.Row.{Row}
 use Rattle.nv_held.specs.Held.{Held, Store}
 use Rattle.nv_held.specs.Mounted.{IsMounted}

@@ -5,9 +5,9 @@ use Rattle.nv_super.specs.Order.{Rises}
 use Rattle.nv_super.proofs.RisingPlaces.{rises_keys}
 use Rattle.nv_alloc.specs.FreeValue.{FreeLists}
 use Rattle.nv_scan.specs.declared.piece.Row.{Row}
-use Rattle.nv_check.specs.Cross.{row_key}
-use Rattle.nv_outcome.specs.Same.{SameRows}
-use Rattle.nv_named.specs.Read.{row_of}
+use Rattle.nv_held.specs.nv_check.Cross.{row_key}
+use Rattle.nv_held.specs.nv_outcome.Same.{SameRows}
+use Rattle.nv_held.specs.nv_named.Read.{row_of}
 use Rattle.nv_calls.specs.NewNames.{LeavesRows}
 use Rattle.nv_calls.specs.Steps.{LeavesStep}
 use Rattle.nv_calls.proofs.RowChange.{number_at, row_of_other, same_rows, set_same_rows}

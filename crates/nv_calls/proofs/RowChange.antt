@@ -19,10 +19,10 @@ use Rattle.nv_super.proofs.RisingPlaces.{rises_keys}
 use Rattle.nv_alloc.specs.FreeValue.{FreeLists}
 use Rattle.nv_entry.specs.declared.entry.Entry.{Entry}
 use Rattle.nv_radix.specs.Pages.{block_at}
-use Rattle.nv_outcome.specs.Same.{SameRow, SameRows}
+use Rattle.nv_held.specs.nv_outcome.Same.{SameRow, SameRows}
 use Rattle.nv_scan.specs.declared.piece.Row.{Row}
-use Rattle.nv_check.specs.Cross.{row_key}
-use Rattle.nv_named.specs.Read.{row_of}
+use Rattle.nv_held.specs.nv_check.Cross.{row_key}
+use Rattle.nv_held.specs.nv_named.Read.{row_of}
 use Rattle.nv_held.specs.Held.{Held, Store, with_inode}
 use Rattle.nv_held.specs.Bytes.{byte_in}
 use Rattle.nv_held.specs.Mounted.{IsMounted, KeepsRow, KeepsRows, ShowsSound}

@@ -11,10 +11,10 @@ use Rattle.std.proofs.lemmas.Bool.Decides.{nat_tests}
 use Rattle.std.proofs.lemmas.Option.{get_or_from_slice_get, slice_get-get_or}
 use Rattle.nv_super.specs.Order.{Rises}
 use Rattle.nv_super.proofs.Rising.{head_least, tail_rises, Contains-head, Contains-tail}
-use Rattle.nv_check.specs.Cross.{row_key}
-use Rattle.nv_check.proofs.Rows.{key_less}
+use Rattle.nv_held.specs.nv_check.Cross.{row_key}
+use Rattle.nv_held.proofs.nv_check.Rows.{key_less}
 use Rattle.nv_scan.specs.declared.piece.Row.{Row}
-use Rattle.nv_named.specs.Read.{row_of}
+use Rattle.nv_held.specs.nv_named.Read.{row_of}
 use Rattle.nv_held.proofs.Growing.{stands}
 
 -- a row at a place is the row of its number

@@ -5,8 +5,8 @@ use Rattle.std.proofs.lemmas.Option.{slice_get_within}
 use Rattle.nv_super.specs.Order.{Rises}
 use Rattle.nv_super.proofs.RisingPlaces.{rises_keys}
 use Rattle.nv_scan.specs.declared.piece.Row.{Row}
-use Rattle.nv_outcome.specs.Same.{SameRow, SameRows}
-use Rattle.nv_check.specs.Cross.{row_key}
+use Rattle.nv_held.specs.nv_outcome.Same.{SameRow, SameRows}
+use Rattle.nv_held.specs.nv_check.Cross.{row_key}
 use Rattle.nv_calls.proofs.RowChange.{at_set, number_at, same_rows, set_same_rows}
 use Rattle.nv_calls.proofs.TakenOut.{other_set}
 

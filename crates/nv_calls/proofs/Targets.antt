@@ -9,7 +9,7 @@ use Rattle.nv_tree.specs.declared.refusal.Refusal.TheVariants.{NotFound}
 use Rattle.nv_tree.specs.Path.{IsPath, Says}
 use Rattle.nv_tree.specs.Tree.{Node, Tree, walk, found, in_use, last_in}
 use Rattle.nv_tree.specs.Refusals.{Path, first_refusal, stat_tests}
-use Rattle.nv_named.specs.Read.{row_of}
+use Rattle.nv_held.specs.nv_named.Read.{row_of}
 use Rattle.nv_calls.proofs.RowOf.{none_within}
 use Rattle.nv_calls.specs.Seen.{node_of, tree_of, LeadsTo}
 use Rattle.nv_calls.specs.declared.stating.Stat.{Stat}

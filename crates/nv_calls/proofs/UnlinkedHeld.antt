@@ -18,8 +18,8 @@ use Rattle.nv_held.specs.Blocks.{OwnsNew}
 use Rattle.nv_held.specs.Graph.{graph_in, node_in, target_in}
 use Rattle.nv_held.specs.Grows.{SameFile}
 use Rattle.nv_held.specs.Mounted.{IsFaultless, KeepsRow}
-use Rattle.nv_named.specs.Step.{IsGoodName}
-use Rattle.nv_named.proofs.GoodEntries.{links_small}
+use Rattle.nv_held.specs.nv_named.Step.{IsGoodName}
+use Rattle.nv_held.proofs.nv_named.GoodEntries.{links_small}
 use Rattle.nv_commit.specs.Extends.{extended, with_log}
 use Rattle.nv_commit.proofs.Called.{unlinked_faultless}
 use Rattle.nv_calls.specs.LessNames.{HasLost}

@@ -41,7 +41,7 @@ use Rattle.nv_held.proofs.Graphs.{quiet_grown}
 use Rattle.nv_held.proofs.Growing.{data_owns}
 use Rattle.nv_held.proofs.ListsKept.{lists_change}
 use Rattle.nv_commit.specs.Extends.{CanExtend, ShowsMoved, extended, with_log}
-use Rattle.nv_outcome.proofs.SuperOf.{layout_of_super}
+use Rattle.nv_held.proofs.nv_outcome.SuperOf.{layout_of_super}
 use Rattle.nv_calls.specs.Steps.{ShowsRow}
 use Rattle.nv_calls.specs.Taken.{single_takes}
 use Rattle.nv_calls.specs.Writes.{replaced_blocks}

@@ -14,7 +14,7 @@ use Rattle.nv_entry.specs.declared.entry.Entry.{Entry}
 use Rattle.nv_entry.specs.declared.entry.Entry.TheVariants.{Write}
 use Rattle.nv_logpage.specs.Append.{appended, end_of, needed}
 use Rattle.nv_bytes.specs.Bytes.{LieInside, byte_after, file_byte}
-use Rattle.nv_outcome.specs.Same.{SameRow}
+use Rattle.nv_held.specs.nv_outcome.Same.{SameRow}
 use Rattle.nv_bytes.proofs.StoredPages.{byte_stays}
 use Rattle.nv_names.specs.Names.{Names, name_at}
 use Rattle.nv_radix.specs.Pages.{Pages, block_at}

@@ -24,3 +24,5 @@ pub mod NamedAt
 pub mod LessNames
 pub mod UnlinkCalls
 pub mod Unlinks
+pub use Rattle.nv_held.specs as nv_held
+pub use Rattle.nv_held.specs.nv_named

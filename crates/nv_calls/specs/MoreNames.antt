@@ -8,7 +8,7 @@ use Rattle.nv_entry.specs.declared.entry.Operation.TheVariants.{Add}
 use Rattle.nv_entry.specs.declared.entry.Entry.{Entry}
 use Rattle.nv_logpage.specs.Append.{end_of, needed}
 use Rattle.nv_names.specs.Names.{EachOnce, name_at}
-use Rattle.nv_outcome.specs.Same.{SameRow}
+use Rattle.nv_held.specs.nv_outcome.Same.{SameRow}
 use Rattle.nv_radix.specs.Pages.{block_at}
 use Rattle.nv_scan.specs.declared.piece.Row.{Row}
 use Rattle.nv_held.specs.Held.{Held, Store}

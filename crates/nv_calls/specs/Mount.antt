@@ -7,8 +7,8 @@ use Rattle.nv_super.specs.declared.owners.Owner.{Owner}
 use Rattle.nv_journal.specs.Undo.{undone}
 use Rattle.nv_alloc.specs.FreeValue.{FreeLists}
 use Rattle.nv_scan.specs.declared.piece.Row.{Row}
-use Rattle.nv_outcome.specs.Outcome.{Outcome, IsOutcome}
-use Rattle.nv_outcome.specs.Same.{lasting_outcome}
+use Rattle.nv_held.specs.nv_outcome.Outcome.{Outcome, IsOutcome}
+use Rattle.nv_held.specs.nv_outcome.Same.{lasting_outcome}
 
 -- The memory, and what stands for its region: the superblock's numbers, the rows of the inodes in use, rising, the free
 -- lists and the faults. Whether nothing may be written, and whether the memory was stopped.

@@ -16,7 +16,7 @@ use Rattle.nv_held.specs.Held.{Held, Store, with_inode}
 use Rattle.nv_held.specs.Grows.{AreFree}
 use Rattle.nv_held.specs.Mounted.{ShowsSound}
 use Rattle.nv_commit.specs.Extends.{with_log}
-use Rattle.nv_named.specs.Read.{row_of}
+use Rattle.nv_held.specs.nv_named.Read.{row_of}
 use Rattle.nv_tree.specs.declared.refusal.Refusal.{Refusal}
 use Rattle.nv_tree.specs.Path.{last_name}
 use Rattle.nv_tree.specs.Tree.{Tree, walk}

@@ -17,12 +17,12 @@ use Rattle.nv_logpage.specs.Append.{end_of, needed, place_of}
 use Rattle.nv_radix.specs.Pages.{block_at}
 use Rattle.nv_names.specs.Names.{EachOnce, name_at}
 use Rattle.nv_scan.specs.declared.piece.Row.{Row}
-use Rattle.nv_check.specs.Cross.{row_key}
+use Rattle.nv_held.specs.nv_check.Cross.{row_key}
 use Rattle.nv_held.specs.Bytes.{byte_of}
 use Rattle.nv_held.specs.Held.{Held, Store}
 use Rattle.nv_commit.specs.Together.{ShowsIdle}
-use Rattle.nv_outcome.specs.Same.{SameRows}
-use Rattle.nv_named.specs.Read.{row_of}
+use Rattle.nv_held.specs.nv_outcome.Same.{SameRows}
+use Rattle.nv_held.specs.nv_named.Read.{row_of}
 use Rattle.nv_tree.specs.declared.refusal.Refusal.TheVariants.{NoInodes}
 use Rattle.nv_tree.specs.Path.{last_name}
 use Rattle.nv_tree.specs.Tree.{Tree, walk}

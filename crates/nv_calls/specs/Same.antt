@@ -1,6 +1,6 @@
 -- What a call leaves of a mounted file system: all of it, or what no call changes.
 use Rattle.std.specs.Prelude.{◌≡◌}
-use Rattle.nv_outcome.specs.Same.{SameRows}
+use Rattle.nv_held.specs.nv_outcome.Same.{SameRows}
 use Rattle.nv_calls.specs.Mount.{Mount}
 use Rattle.nv_calls.specs.Taken.{SamePools}
 

@@ -21,7 +21,7 @@ use Rattle.nv_held.specs.Bytes.{byte_in}
 use Rattle.nv_commit.specs.Extends.{CanExtend, ExtendWords, ShowsMoved, with_log}
 use Rattle.nv_bytes.specs.Bytes.{byte_after}
 use Rattle.nv_bytes.specs.Storing.{HoldsPage, InBlocks}
-use Rattle.nv_named.specs.Read.{row_of}
+use Rattle.nv_held.specs.nv_named.Read.{row_of}
 use Rattle.nv_tree.specs.Tree.{Node, Tree}
 use Rattle.nv_tree.specs.Refusals.{Path, target}
 use Rattle.nv_calls.specs.Given.{MapsOwn}

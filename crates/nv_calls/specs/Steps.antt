@@ -14,7 +14,7 @@ use Rattle.nv_held.specs.Blocks.{KeepsFree}
 use Rattle.nv_held.specs.Bytes.{byte_of}
 use Rattle.nv_held.specs.Grows.{AreFree}
 use Rattle.nv_held.specs.Mounted.{KeepsRow, ShowsSound}
-use Rattle.nv_outcome.specs.Same.{SameRow}
+use Rattle.nv_held.specs.nv_outcome.Same.{SameRow}
 use Rattle.nv_commit.specs.Extends.{CanExtend, ExtendWords, ShowsMoved, extended, with_log}
 use Rattle.nv_tree.specs.declared.refusal.Refusal.{Refusal}
 use Rattle.nv_tree.specs.declared.refusal.Refusal.TheVariants.{Memory, NoSpace, Stopped}

@@ -4,7 +4,7 @@ use Rattle.std.specs.List.{find, range_with_len}
 use Rattle.nv_super.specs.declared.superblock.Super.{Super}
 use Rattle.nv_alloc.specs.Taking.{all_blocks}
 use Rattle.nv_scan.specs.declared.piece.Row.{Row}
-use Rattle.nv_named.specs.Read.{row_of}
+use Rattle.nv_held.specs.nv_named.Read.{row_of}
 use Rattle.nv_tree.specs.Refusals.{World}
 use Rattle.nv_calls.specs.Mount.{Mount}
 

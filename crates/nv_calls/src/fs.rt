@@ -2,13 +2,13 @@
 
 ghost use Rattle.std.specs.Prelude.{◌≡◌, false};
 ghost use Rattle.nv_journal.specs.Undo.{undone};
-ghost use Rattle.nv_outcome.specs.Outcome.{IsOutcome};
-ghost use Rattle.nv_outcome.specs.Same.{lasting_outcome};
-ghost use Rattle.nv_recover.specs.Answer.{outcome_of};
+ghost use Rattle.nv_held.specs.nv_outcome.Outcome.{IsOutcome};
+ghost use Rattle.nv_held.specs.nv_outcome.Same.{lasting_outcome};
+ghost use Rattle.nv_held.specs.nv_outcome.Answer.{outcome_of};
 ghost use Rattle.nv_calls.specs.Mount.{IsKept, has_faults};
 
 use nv_alloc::Allocators;
-use nv_recover::Recovered;
+use nv_held::Recovered;
 use nv_region::{Fuse, MemRegion, Pmem};
 use nv_scan::Row;
 use nv_super::{Fault, Super};

@@ -2,8 +2,8 @@
 
 ghost use Rattle.std.specs.Prelude.{◌≡◌, ◌<◌, None, vec_len, vec_capacity};
 ghost use Rattle.nv_super.specs.Order.{Rises};
-ghost use Rattle.nv_check.specs.Cross.{row_key};
-ghost use Rattle.nv_named.specs.Read.{row_of};
+ghost use Rattle.nv_held.specs.nv_check.Cross.{row_key};
+ghost use Rattle.nv_held.specs.nv_named.Read.{row_of};
 ghost use Rattle.nv_calls.specs.NewNames.{HasInserted, IsPlaceFor};
 
 use nv_scan::Row;

@@ -3,8 +3,8 @@
 ghost use Rattle.std.specs.Prelude.{◌≡◌, ◌<◌, slice_get, length, IfSome};
 ghost use Rattle.std.specs.Option.{option_and_then};
 ghost use Rattle.nv_super.specs.Order.{Rises};
-ghost use Rattle.nv_check.specs.Cross.{row_key};
-ghost use Rattle.nv_named.specs.Read.{row_of};
+ghost use Rattle.nv_held.specs.nv_check.Cross.{row_key};
+ghost use Rattle.nv_held.specs.nv_named.Read.{row_of};
 
 use nv_scan::Row;
 

@@ -9,7 +9,7 @@ ghost use Rattle.nv_entry.specs.declared.entry.Operation.{Operation as Operation
 ghost use Rattle.nv_entry.specs.declared.entry.Entry.TheVariants.{Attr, Name};
 ghost use Rattle.nv_logpage.specs.Append.{needed};
 ghost use Rattle.nv_names.specs.Names.{EachOnce, IsName};
-ghost use Rattle.nv_outcome.specs.Same.{SameRow};
+ghost use Rattle.nv_held.specs.nv_outcome.Same.{SameRow};
 ghost use Rattle.nv_tree.specs.declared.refusal.Refusal.{Refusal as RefusalValue};
 ghost use Rattle.nv_calls.specs.Grown.{StandsRight};
 ghost use Rattle.nv_calls.specs.NameCalls.{first_entries, name_entries};

@@ -5,7 +5,7 @@ ghost use Rattle.std.specs.Option.{option_and_then, option_map};
 ghost use Rattle.nv_region.specs.Region.{Region};
 ghost use Rattle.nv_super.specs.declared.kind.Kind.TheVariants.{Directory};
 ghost use Rattle.nv_super.specs.Order.{Rises};
-ghost use Rattle.nv_check.specs.Cross.{row_key};
+ghost use Rattle.nv_held.specs.nv_check.Cross.{row_key};
 ghost use Rattle.nv_names.specs.Names.{name_at};
 ghost use Rattle.nv_scan.specs.declared.piece.Row.{Row as RowValue};
 ghost use Rattle.nv_tree.specs.Path.{IsPath, Says, last_name};
@@ -13,7 +13,7 @@ ghost use Rattle.nv_tree.specs.Names.{Spells};
 ghost use Rattle.nv_tree.specs.Tree.{walk};
 ghost use Rattle.nv_tree.specs.Refusals.{Path, is_bad_name};
 ghost use Rattle.nv_tree.specs.declared.refusal.Refusal.{Refusal as RefusalValue};
-ghost use Rattle.nv_named.specs.Read.{row_of};
+ghost use Rattle.nv_held.specs.nv_named.Read.{row_of};
 ghost use Rattle.nv_calls.specs.Seen.{tree_of};
 
 use crate::looking::place_of;

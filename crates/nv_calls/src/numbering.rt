@@ -3,7 +3,7 @@
 ghost use Rattle.std.specs.Prelude.{◌≡◌, ◌<◌, ◌≤◌, ℕ, length, slice_get, false, Some};
 ghost use Rattle.nv_super.specs.Layout.{HasAreas};
 ghost use Rattle.nv_super.specs.Order.{Rises};
-ghost use Rattle.nv_check.specs.Cross.{row_key};
+ghost use Rattle.nv_held.specs.nv_check.Cross.{row_key};
 ghost use Rattle.nv_scan.specs.declared.piece.Row.{Row as RowValue};
 ghost use Rattle.nv_calls.specs.World.{is_unused, unused_number};
 

@@ -4,7 +4,7 @@ ghost use Rattle.std.specs.Prelude.{◌≡◌, ◌<◌, ℕ, List, length, eqb};
 ghost use Rattle.std.specs.List.{list_any};
 ghost use Rattle.nv_region.specs.Region.{Region};
 ghost use Rattle.nv_super.specs.Order.{Rises};
-ghost use Rattle.nv_check.specs.Cross.{row_key};
+ghost use Rattle.nv_held.specs.nv_check.Cross.{row_key};
 ghost use Rattle.nv_tree.specs.Names.{Spells};
 ghost use Rattle.nv_tree.specs.Tree.{name_in, passed};
 ghost use Rattle.nv_calls.specs.Seen.{tree_of};

@@ -6,7 +6,7 @@ ghost use Rattle.nv_super.specs.declared.owners.Run.{Run as RunValue};
 ghost use Rattle.nv_alloc.specs.FreeLists.{SameLists};
 ghost use Rattle.nv_alloc.specs.Taking.{all_blocks, blocks_in};
 ghost use Rattle.nv_logpage.specs.Append.{needed};
-ghost use Rattle.nv_outcome.specs.Same.{SameRow};
+ghost use Rattle.nv_held.specs.nv_outcome.Same.{SameRow};
 ghost use Rattle.nv_radix.specs.Pages.{AreReady, block_at};
 ghost use Rattle.nv_alloc.specs.declared.allocators.AllocRefusal.TheVariants.{NoSpace};
 ghost use Rattle.nv_calls.specs.Taken.{SamePools, TakesEach};

@@ -9,7 +9,7 @@ ghost use Rattle.nv_alloc.specs.Taking.{all_blocks};
 ghost use Rattle.nv_entry.specs.declared.entry.Operation.{Operation as OperationValue};
 ghost use Rattle.nv_logpage.specs.Append.{needed};
 ghost use Rattle.nv_names.specs.Names.{EachOnce, IsName};
-ghost use Rattle.nv_outcome.specs.Same.{SameRow};
+ghost use Rattle.nv_held.specs.nv_outcome.Same.{SameRow};
 ghost use Rattle.nv_scan.specs.declared.piece.Row.{Row as RowValue};
 ghost use Rattle.nv_tree.specs.declared.refusal.Refusal.{Refusal as RefusalValue};
 ghost use Rattle.nv_calls.specs.Grown.{StandsRight};

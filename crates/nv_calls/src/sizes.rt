@@ -8,7 +8,7 @@ ghost use Rattle.nv_region.specs.Fuses.{KeepsFuse};
 ghost use Rattle.nv_super.specs.Order.{Rises};
 ghost use Rattle.nv_super.specs.declared.kind.Kind.TheVariants.{File};
 ghost use Rattle.nv_entry.specs.Content.{most_size};
-ghost use Rattle.nv_check.specs.Cross.{row_key};
+ghost use Rattle.nv_held.specs.nv_check.Cross.{row_key};
 ghost use Rattle.nv_scan.specs.declared.piece.Row.{Row as RowValue};
 ghost use Rattle.nv_held.specs.Held.{Held, Store};
 ghost use Rattle.nv_held.specs.Mounted.{ShowsSound};

@@ -4,7 +4,7 @@ ghost use Rattle.std.specs.Prelude.{◌≡◌, ◌<◌, ◌≤◌, ℕ, List, le
 ghost use Rattle.nv_region.specs.Region.{Region};
 ghost use Rattle.nv_super.specs.Layout.{HasAreas};
 ghost use Rattle.nv_super.specs.Order.{Rises};
-ghost use Rattle.nv_check.specs.Cross.{row_key};
+ghost use Rattle.nv_held.specs.nv_check.Cross.{row_key};
 ghost use Rattle.nv_tree.specs.Path.{IsPath, IsPathName, Says};
 ghost use Rattle.nv_tree.specs.Refusals.{Path, first_refusal};
 ghost use Rattle.nv_calls.specs.NewNames.{IsSpot, spot_tests};

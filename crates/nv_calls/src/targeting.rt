@@ -3,7 +3,7 @@
 ghost use Rattle.std.specs.Prelude.{◌≡◌, ◌<◌, ℕ, nat_le, List, length, slice_get, IfOk, IfErr, OnOk, Option};
 ghost use Rattle.nv_region.specs.Region.{Region};
 ghost use Rattle.nv_super.specs.Order.{Rises};
-ghost use Rattle.nv_check.specs.Cross.{row_key};
+ghost use Rattle.nv_held.specs.nv_check.Cross.{row_key};
 ghost use Rattle.nv_tree.specs.Path.{IsPath, IsPathName, Says};
 ghost use Rattle.nv_tree.specs.Tree.{is_directory};
 ghost use Rattle.nv_tree.specs.Refusals.{Path, first_refusal};

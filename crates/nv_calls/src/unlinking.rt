@@ -10,7 +10,7 @@ ghost use Rattle.nv_entry.specs.declared.entry.Operation.TheVariants.{Remove};
 ghost use Rattle.nv_logpage.specs.Append.{needed};
 ghost use Rattle.nv_names.specs.Names.{EachOnce, IsName};
 ghost use Rattle.nv_scan.specs.declared.piece.Row.{Row as RowValue};
-ghost use Rattle.nv_check.specs.Cross.{row_key};
+ghost use Rattle.nv_held.specs.nv_check.Cross.{row_key};
 ghost use Rattle.nv_held.specs.Held.{Held, Store};
 ghost use Rattle.nv_held.specs.Mounted.{ShowsSound};
 ghost use Rattle.nv_tree.specs.Path.{IsPath, Says, last_name};

@@ -6,14 +6,14 @@ ghost use Rattle.std.specs.Result.{result_map_both, result_err};
 ghost use Rattle.std.specs.List.{Contains};
 ghost use Rattle.nv_region.specs.Region.{Region};
 ghost use Rattle.nv_super.specs.Order.{Rises};
-ghost use Rattle.nv_check.specs.Cross.{row_key};
+ghost use Rattle.nv_held.specs.nv_check.Cross.{row_key};
 ghost use Rattle.nv_scan.specs.declared.piece.Row.{Row as RowValue};
 ghost use Rattle.nv_tree.specs.Path.{IsPath, Says, last_name};
 ghost use Rattle.nv_tree.specs.Names.{Spells};
 ghost use Rattle.nv_tree.specs.Tree.{walk, found, as_directory};
 ghost use Rattle.nv_tree.specs.Refusals.{Path, first_refusal, stat_tests};
 ghost use Rattle.nv_tree.specs.declared.refusal.Refusal.{Refusal as RefusalValue};
-ghost use Rattle.nv_named.specs.Read.{row_of};
+ghost use Rattle.nv_held.specs.nv_named.Read.{row_of};
 ghost use Rattle.nv_calls.specs.Seen.{node_of, tree_of, LeadsTo};
 
 use crate::Fs;

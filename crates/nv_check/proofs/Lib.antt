@@ -8,3 +8,4 @@ pub mod Together
 pub mod CrossRows
 pub mod Near
 pub mod Ordered
+pub use Rattle.nv_scan.proofs as nv_scan

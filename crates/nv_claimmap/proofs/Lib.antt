@@ -3,3 +3,4 @@ pub mod Keeping
 pub mod Marking
 pub mod Closing
 pub mod Seats
+pub use Rattle.nv_claimcore.proofs as nv_claimcore

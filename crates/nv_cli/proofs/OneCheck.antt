@@ -4,8 +4,8 @@ use Rattle.std.specs.Prelude.{MatchBool, codes}
 use Rattle.nv_region.specs.Region.{Region}
 use Rattle.nv_super.specs.declared.faults.Fault.{Fault}
 use Rattle.nv_super.specs.declared.superblock.SuperFault.{SuperFault}
-use Rattle.nv_outcome.proofs.OnlyOne.{same_outcome}
-use Rattle.nv_outcome.proofs.SuperOf.{one_fault}
+use Rattle.nv_report.proofs.nv_outcome.OnlyOne.{same_outcome}
+use Rattle.nv_report.proofs.nv_outcome.SuperOf.{one_fault}
 use Rattle.nv_super.specs.FaultText.{super_fault_name}
 use Rattle.nv_text.specs.Answers.{refused_line}
 use Rattle.nv_report.specs.Last.{status_of, how_it_went}

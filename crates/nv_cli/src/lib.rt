@@ -11,5 +11,6 @@ mod script;
 pub use checking::check_region;
 pub use hinting::{Hint, Hints, LENGTH_REFUSED};
 pub use laws::{one_check, one_transcript};
+pub use nv_report::{BadLength, LONGEST_REGION, is_region_length};
 pub use nv_stream::ScriptError;
 pub use script::{run_script, run_script_with_hints};

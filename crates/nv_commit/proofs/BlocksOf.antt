@@ -15,13 +15,13 @@ use Rattle.nv_entry.specs.Content.{is_good}
 use Rattle.nv_logpage.specs.declared.found.Placed.{Placed}
 use Rattle.nv_logpage.specs.Good.{good_entries}
 use Rattle.nv_logpage.specs.Reads.{placed}
-use Rattle.nv_scan.specs.State.{block_of, says_block}
-use Rattle.nv_scan.specs.Fold.{word_after}
-use Rattle.nv_scan.specs.Owners.{inode_of}
-use Rattle.nv_scan.proofs.Blocks.{data_pages}
-use Rattle.nv_scan.proofs.Words.{word-more}
-use Rattle.nv_outcome.proofs.Finite.{Decided, number_is}
-use Rattle.nv_named.proofs.MoreEntries.{quiet_entries}
+use Rattle.nv_held.specs.nv_scan.State.{block_of, says_block}
+use Rattle.nv_held.specs.nv_scan.Fold.{word_after}
+use Rattle.nv_held.specs.nv_scan.Owners.{inode_of}
+use Rattle.nv_held.proofs.nv_scan.Blocks.{data_pages}
+use Rattle.nv_held.proofs.nv_scan.Words.{word-more}
+use Rattle.nv_held.proofs.nv_outcome.Finite.{Decided, number_is}
+use Rattle.nv_held.proofs.nv_named.MoreEntries.{quiet_entries}
 use Rattle.nv_held.specs.Held.{Held, Store, good_in, with_inode}
 use Rattle.nv_held.specs.Blocks.{IsUnowned, NoneDoubled, OwnsIn, OwnsNew, by_log, by_page}
 use Rattle.nv_held.specs.Grows.{Maps, SameFile, grown}

@@ -20,7 +20,7 @@ use Rattle.nv_journal.proofs.Faultless.{idle_faultless}
 use Rattle.nv_journal.proofs.Partly.{low_rule}
 use Rattle.nv_logpage.specs.Append.{AppendWords, appended, needed}
 use Rattle.nv_logpage.proofs.Local.{ReadsOn-same}
-use Rattle.nv_outcome.proofs.SuperOf.{blocks_of_super, layout_of_super}
+use Rattle.nv_held.proofs.nv_outcome.SuperOf.{blocks_of_super, layout_of_super}
 use Rattle.nv_held.specs.Held.{Held, Store, Shows, with_inode}
 use Rattle.nv_held.specs.Slots.{SlotsClear}
 use Rattle.nv_held.specs.Loose.{Loose}

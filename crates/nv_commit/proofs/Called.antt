@@ -17,19 +17,19 @@ use Rattle.nv_entry.specs.declared.entry.Entry.TheVariants as entries
 use Rattle.nv_logpage.specs.declared.found.Placed.{Placed}
 use Rattle.nv_logpage.specs.Reads.{placed}
 use Rattle.nv_logpage.specs.Good.{good_entries}
-use Rattle.nv_scan.specs.State.{named}
-use Rattle.nv_scan.specs.Owners.{inode_of}
-use Rattle.nv_scan.specs.Fold.{clash, entry_fault, fault_with}
-use Rattle.nv_scan.proofs.Blocks.{in_range}
-use Rattle.nv_scan.proofs.EntryFaults.{found-none}
-use Rattle.nv_graph.specs.Graph.{Graph, IsOfKind, NoCrossFaults, passed, walked}
-use Rattle.nv_graph.specs.Calls.{SameGraph, linked, made, removed, renamed, unlinked, with_name, with_node}
-use Rattle.nv_graph.proofs.Changes.{directory_removed_sound, last_removed_sound, linked_sound, made_sound, unlinked_sound}
-use Rattle.nv_graph.proofs.Renamed.{renamed_by_path}
-use Rattle.nv_graph.proofs.Sound.{faultless, sound}
-use Rattle.nv_graph.proofs.Root.{name_follows, node_follows, same_faultless}
-use Rattle.nv_named.specs.Step.{IsGoodName, links_entry, name_entry}
-use Rattle.nv_named.proofs.GoodEntries.{good_links}
+use Rattle.nv_held.specs.nv_scan.State.{named}
+use Rattle.nv_held.specs.nv_scan.Owners.{inode_of}
+use Rattle.nv_held.specs.nv_scan.Fold.{clash, entry_fault, fault_with}
+use Rattle.nv_held.proofs.nv_scan.Blocks.{in_range}
+use Rattle.nv_held.proofs.nv_scan.EntryFaults.{found-none}
+use Rattle.nv_held.specs.nv_graph.Graph.{Graph, IsOfKind, NoCrossFaults, passed, walked}
+use Rattle.nv_held.specs.nv_graph.Calls.{SameGraph, linked, made, removed, renamed, unlinked, with_name, with_node}
+use Rattle.nv_held.proofs.nv_graph.Changes.{directory_removed_sound, last_removed_sound, linked_sound, made_sound, unlinked_sound}
+use Rattle.nv_held.proofs.nv_graph.Renamed.{renamed_by_path}
+use Rattle.nv_held.proofs.nv_graph.Sound.{faultless, sound}
+use Rattle.nv_held.proofs.nv_graph.Root.{name_follows, node_follows, same_faultless}
+use Rattle.nv_held.specs.nv_named.Step.{IsGoodName, links_entry, name_entry}
+use Rattle.nv_held.proofs.nv_named.GoodEntries.{good_links}
 use Rattle.nv_held.specs.Held.{Held, Store, good_in, with_inode}
 use Rattle.nv_held.specs.Blocks.{OwnsIn, OwnsNew, by_log, by_page}
 use Rattle.nv_held.specs.Graph.{graph_in, node_in}

@@ -10,7 +10,7 @@ use Rattle.nv_super.specs.declared.superblock.Super.{Super}
 use Rattle.nv_super.specs.Layout.{fixed_layout}
 use Rattle.nv_entry.specs.declared.entry.Entry.{Entry}
 use Rattle.nv_logpage.specs.Append.{AppendWords, appended, end_of, needed}
-use Rattle.nv_outcome.proofs.SuperOf.{layout_of_super}
+use Rattle.nv_held.proofs.nv_outcome.SuperOf.{layout_of_super}
 use Rattle.nv_held.specs.Held.{Held, Store, Shows, with_inode}
 use Rattle.nv_held.specs.Slots.{SlotsClear}
 use Rattle.nv_held.specs.Loose.{Loose}

@@ -13,7 +13,7 @@ use Rattle.nv_journal.specs.Pending.{BeforeOrAfter, CanUndo, IsEmpty}
 use Rattle.nv_journal.specs.Faults.{NoFault}
 use Rattle.nv_journal.proofs.Partly.{low_rule}
 use Rattle.nv_logpage.specs.Append.{AppendWords, appended, end_of, needed}
-use Rattle.nv_outcome.proofs.SuperOf.{blocks_of_super, layout_of_super}
+use Rattle.nv_held.proofs.nv_outcome.SuperOf.{blocks_of_super, layout_of_super}
 use Rattle.nv_held.specs.Held.{Held, Store, Shows, with_inode}
 use Rattle.nv_held.specs.Slots.{SlotsClear}
 use Rattle.nv_held.specs.Front.{SameFront}

@@ -4,7 +4,7 @@ use Rattle.std.proofs.Math.Nat.{pow-succ', mul-le-mul_left, pow-le-pow_right}
 use Rattle.std.proofs.lemmas.List.{take-append-le, drop-append-le, take_all}
 use Rattle.std.proofs.Math.Seq.{drop-append_seam}
 use Rattle.nv_entry.specs.Digits.{low_bytes, high_part}
-use Rattle.nv_region.specs.Region.{Region, word}
+use Rattle.nv_super.specs.nv_region.Region.{Region, word}
 use Rattle.nv_entry.specs.Text.{number_of, text_word}
 use Rattle.nv_entry.specs.Spelling.{IsTextAt}
 use Rattle.nv_entry.specs.Name.{IsName}

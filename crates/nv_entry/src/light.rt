@@ -5,7 +5,7 @@
 
 ghost use Rattle.std.specs.Prelude.{◌≡◌, ◌+◌, ◌*◌, ◌^◌, ◌<◌, ◌≤◌, ◌%◌, ◌++◌, [], ℕ};
 ghost use Rattle.arrayvec.specs.ArrayVec.{array_vec_len};
-ghost use Rattle.nv_region.specs.Region.{Region, size};
+ghost use Rattle.nv_super.specs.nv_region.Region.{Region, size};
 ghost use Rattle.nv_entry.specs.Spelling.{entry_length, words_for};
 ghost use Rattle.nv_entry.specs.Digits.{low_bytes};
 ghost use Rattle.nv_entry.specs.Light.{text_at, name_in, entry_in, HasName, CanBeRead};
@@ -13,7 +13,7 @@ ghost use Rattle.nv_entry.specs.Light.{text_at, name_in, entry_in, HasName, CanB
 use crate::entry::{AttrEntry, Entry, LinksEntry, NameEntry, Operation, WriteEntry};
 use crate::name::FileName;
 use arrayvec::ArrayVec;
-use nv_region::Pmem;
+use nv_super::Pmem;
 
 /// A name was added to a directory, or removed from it. The name stands in the region.
 #[derive(Clone, Copy, Debug, PartialEq, Eq)]

@@ -1,17 +1,17 @@
 //! Writing an entry: its words, stored one after the other.
 
 ghost use Rattle.std.specs.Prelude.{◌≡◌, ◌+◌, ◌*◌, ◌/◌, ◌%◌, ◌^◌, ◌<◌, ◌≤◌, length, OnOk, is_err};
-ghost use Rattle.nv_region.specs.Region.{size};
-ghost use Rattle.nv_region.specs.Stops.{Adds};
-ghost use Rattle.nv_region.specs.Fuses.{KeepsFuse};
-ghost use Rattle.nv_region.specs.Stored.{SameOutside, StoresOnly, Within};
+ghost use Rattle.nv_super.specs.nv_region.Region.{size};
+ghost use Rattle.nv_super.specs.nv_region.Stops.{Adds};
+ghost use Rattle.nv_super.specs.nv_region.Fuses.{KeepsFuse};
+ghost use Rattle.nv_super.specs.nv_region.Stored.{SameOutside, StoresOnly, Within};
 ghost use Rattle.nv_entry.specs.Text.{number_of, text_word};
 ghost use Rattle.nv_entry.specs.Spelling.{Stands, entry_length, operation_code, words_for, IsTextAt, IsNameAt, first_word};
 ghost use Rattle.nv_entry.specs.Written.{HoldsWords};
 
 use crate::entry::{Entry, NameEntry, Operation};
 use crate::first::First;
-use nv_region::{Pmem, Stopped, store_word};
+use nv_super::{Pmem, Stopped, store_word};
 
 /// How many bytes the entry takes: whole words, from 8 to 280 bytes.
 pub fn length(entry: &Entry) -> u64

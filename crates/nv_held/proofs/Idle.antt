@@ -8,10 +8,10 @@ use Rattle.nv_super.specs.declared.faults.Fault.{Fault}
 use Rattle.nv_super.specs.declared.faults.Fault.TheVariants as faults
 use Rattle.nv_super.specs.Layout.{IsLayout}
 use Rattle.nv_inode.specs.Permitted.{is_permitted}
-use Rattle.nv_journal.specs.Undo.{dequeue, enqueue, is_sound, pending_count, undone}
-use Rattle.nv_journal.specs.Faults.{HasFault}
-use Rattle.nv_journal.proofs.AnyLength.{dequeue_settled, quiet_same}
-use Rattle.nv_journal.proofs.Partly.{low_rule}
+use Rattle.nv_named.specs.nv_journal.Undo.{dequeue, enqueue, is_sound, pending_count, undone}
+use Rattle.nv_named.specs.nv_journal.Faults.{HasFault}
+use Rattle.nv_named.proofs.nv_journal.AnyLength.{dequeue_settled, quiet_same}
+use Rattle.nv_named.proofs.nv_journal.Partly.{low_rule}
 use Rattle.nv_held.specs.Mounted.{AreIdle}
 
 -- an idle region is its own undo

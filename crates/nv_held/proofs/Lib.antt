@@ -17,3 +17,8 @@ pub mod ListsKept
 pub mod ShownGraph
 pub mod Opens
 pub mod Closes
+pub use Rattle.nv_named.proofs as nv_named
+pub use Rattle.nv_named.proofs.nv_outcome
+pub use Rattle.nv_named.proofs.nv_check
+pub use Rattle.nv_named.proofs.nv_scan
+pub use Rattle.nv_named.proofs.nv_graph

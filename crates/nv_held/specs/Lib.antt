@@ -10,3 +10,8 @@ pub mod Lists
 pub mod Writes
 pub mod Bytes
 pub mod Appended
+pub use Rattle.nv_named.specs as nv_named
+pub use Rattle.nv_named.specs.nv_outcome
+pub use Rattle.nv_named.specs.nv_check
+pub use Rattle.nv_named.specs.nv_scan
+pub use Rattle.nv_named.specs.nv_graph

@@ -1,6 +1,6 @@
 -- What a slot says of an inode.
 use Rattle.std.specs.Prelude.{ℕ, ◌+◌, ◌*◌, ◌%◌, ◌&&◌, ◌==◌, nat_le, Bool, if◌then◌else◌, Option, Some, None}
-use Rattle.nv_region.specs.Region.{Region, word, put}
+use Rattle.nv_super.specs.nv_region.Region.{Region, word, put}
 use Rattle.nv_super.specs.declared.superblock.Super.{Super}
 use Rattle.nv_super.specs.Layout.{is_data_address, is_page_start}
 use Rattle.nv_super.specs.declared.kind.Kind.{Kind}

@@ -1,17 +1,16 @@
 //! Slots read and stored.
 
 ghost use Rattle.std.specs.Prelude.{◌≡◌, ◌≤◌, ◌+◌, ◌%◌, IsTrue, OnOk, is_err};
-ghost use Rattle.nv_region.specs.Region.{HasBlocks, size, put};
-ghost use Rattle.nv_region.specs.Stops.{One};
-ghost use Rattle.nv_region.specs.Fuses.{KeepsFuse};
-ghost use Rattle.nv_region.specs.Stored.{StoresOnly, Within};
+ghost use Rattle.nv_super.specs.nv_region.Region.{HasBlocks, size, put};
+ghost use Rattle.nv_super.specs.nv_region.Stops.{One};
+ghost use Rattle.nv_super.specs.nv_region.Fuses.{KeepsFuse};
+ghost use Rattle.nv_super.specs.nv_region.Stored.{StoresOnly, Within};
 ghost use Rattle.nv_super.specs.Layout.{IsLayout, is_number, slot_address};
 ghost use Rattle.nv_inode.specs.Slot.{slot_at, with_slot};
 
 use crate::slot::{CREATED, HEAD, KIND, Slot, TAIL, VALID};
 use crate::tables::slot_start;
-use nv_region::{Pmem, Stopped};
-use nv_super::Super;
+use nv_super::{Pmem, Stopped, Super};
 
 /// Reads the slot of an inode, in use or not.
 pub fn read_slot<P: Pmem>(memory: &P, sup: &Super, inode: u64) -> Slot

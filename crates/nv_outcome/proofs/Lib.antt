@@ -15,3 +15,6 @@ pub mod Again
 pub mod Reordered
 pub mod Tickets
 pub mod Exists
+pub use Rattle.nv_check.proofs as nv_check
+pub use Rattle.nv_check.proofs.nv_scan
+pub use Rattle.nv_journal.proofs as nv_journal

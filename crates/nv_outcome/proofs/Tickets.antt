@@ -15,14 +15,14 @@ use Rattle.nv_super.specs.Layout.{IsLayout, fixed_layout, inode_limit, slot_of, 
 use Rattle.nv_super.specs.Order.{Rises}
 use Rattle.nv_super.proofs.Rising.{Contains-cons, Contains-head, Contains-tail, below_first}
 use Rattle.nv_super.proofs.Members.{none_in, into_map, from_map}
-use Rattle.nv_claimcore.specs.Claims.{times, below}
-use Rattle.nv_scan.specs.Rows.{IsPiece}
-use Rattle.nv_scan.specs.Tickets.{ticket_count, is_told, told_of}
-use Rattle.nv_scan.specs.Work.{numbers_in, claims_in, ArePiecesOf}
-use Rattle.nv_scan.specs.declared.piece.Row.{Row}
-use Rattle.nv_scan.specs.declared.piece.Piece.{Piece}
-use Rattle.nv_scan.proofs.Drawn.{count_cons, once, stands}
-use Rattle.nv_scan.proofs.Work.{AllByRecursion-append}
+use Rattle.nv_check.specs.nv_claimcore.Claims.{times, below}
+use Rattle.nv_check.specs.nv_scan.Rows.{IsPiece}
+use Rattle.nv_check.specs.nv_scan.Tickets.{ticket_count, is_told, told_of}
+use Rattle.nv_check.specs.nv_scan.Work.{numbers_in, claims_in, ArePiecesOf}
+use Rattle.nv_check.specs.nv_scan.declared.piece.Row.{Row}
+use Rattle.nv_check.specs.nv_scan.declared.piece.Piece.{Piece}
+use Rattle.nv_check.proofs.nv_scan.Drawn.{count_cons, once, stands}
+use Rattle.nv_check.proofs.nv_scan.Work.{AllByRecursion-append}
 use Rattle.nv_outcome.specs.Parts.{ArePieces, piece_key, rows_in, faults_in}
 use Rattle.nv_outcome.proofs.Reordered.{flat_map_permutation}
 

@@ -1,4 +1,9 @@
 pub mod Outcome
 pub mod Same
 pub mod Shared
+pub mod Answer
 pub mod Parts
+pub use Rattle.nv_check.specs as nv_check
+pub use Rattle.nv_check.specs.nv_scan
+pub use Rattle.nv_journal.specs as nv_journal
+pub use Rattle.nv_check.specs.nv_logpage

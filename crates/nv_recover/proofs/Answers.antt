@@ -11,8 +11,8 @@ use Rattle.nv_super.specs.Order.{fault_key, Lists, SortedOf}
 use Rattle.nv_journal.specs.Undo.{undone}
 use Rattle.nv_alloc.specs.FreeLists.{AreOutside}
 use Rattle.nv_scan.specs.declared.piece.Row.{Row}
-use Rattle.nv_check.specs.Cross.{IsCrossFaultIn}
-use Rattle.nv_check.specs.Doubled.{AreDoubled}
+use Rattle.nv_outcome.specs.nv_check.Cross.{IsCrossFaultIn}
+use Rattle.nv_outcome.specs.nv_check.Doubled.{AreDoubled}
 use Rattle.nv_outcome.specs.Outcome.{IsOutcome}
 use Rattle.nv_outcome.specs.Parts.{ArePieces, AreParts, faults_in, double_fault}
 use Rattle.nv_outcome.specs.Shared.{SharesAll}
@@ -20,8 +20,8 @@ use Rattle.nv_outcome.proofs.Whole.{parts_outcome}
 use Rattle.nv_outcome.proofs.Shared.{shares_all}
 use Rattle.nv_recover.specs.declared.starting.Started.{Started}
 use Rattle.nv_recover.specs.declared.scanned.Scanned.{Scanned}
-use Rattle.nv_recover.specs.declared.recovered.Recovered.{Recovered}
-use Rattle.nv_recover.specs.Answer.{outcome_of, IsAnswer}
+use Rattle.nv_outcome.specs.declared.recovered.Recovered.{Recovered}
+use Rattle.nv_outcome.specs.Answer.{outcome_of, IsAnswer}
 use Rattle.nv_recover.specs.Started.{IsStarted}
 use Rattle.nv_recover.specs.Scanned.{IsScanned, all_told}
 

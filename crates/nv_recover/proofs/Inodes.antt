@@ -18,7 +18,7 @@ use Rattle.nv_super.specs.Order.{fault_key, Lists}
 use Rattle.nv_scan.specs.declared.piece.Row.{Row}
 use Rattle.nv_scan.specs.declared.piece.Piece.{Piece}
 use Rattle.nv_scan.proofs.Only.{slot_in_use}
-use Rattle.nv_check.specs.Cross.{IsCrossFaultIn}
+use Rattle.nv_outcome.specs.nv_check.Cross.{IsCrossFaultIn}
 use Rattle.nv_outcome.specs.Parts.{rows_in, faults_in}
 use Rattle.nv_outcome.proofs.RowsOf.{rows_are}
 use Rattle.nv_outcome.proofs.Tickets.{pieces_in_order, one_more_in_order, slot_number}

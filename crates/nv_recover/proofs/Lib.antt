@@ -4,3 +4,5 @@ pub mod Tickets
 pub mod InOrder
 pub mod Claims
 pub mod Answers
+pub use Rattle.nv_outcome.proofs as nv_outcome
+pub use Rattle.nv_scan.proofs as nv_scan

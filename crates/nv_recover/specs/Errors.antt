@@ -7,8 +7,8 @@ use Rattle.nv_journal.specs.Undo.{undone}
 use Rattle.nv_journal.specs.declared.undoing.UndoError.{UndoError}
 use Rattle.nv_journal.specs.declared.undoing.UndoError.TheVariants as undo
 use Rattle.nv_claimcore.specs.Replay.{first_stranger}
-use Rattle.nv_recover.specs.declared.recovered.RecoverError.{RecoverError}
-use Rattle.nv_recover.specs.declared.recovered.RecoverError.TheVariants.{Super as Refused, Memory, Stopped, Workers, Schedule}
+use Rattle.nv_recover.specs.declared.errors.RecoverError.{RecoverError}
+use Rattle.nv_recover.specs.declared.errors.RecoverError.TheVariants.{Super as Refused, Memory, Stopped, Workers, Schedule}
 
 -- the region is as before, or its journals are rolled back
 abbrev pub AsBeforeOrUndone : Region → Region → Type 0

@@ -1,6 +1,8 @@
-pub mod Answer
+pub use Rattle.nv_outcome.specs.Answer
 pub mod Errors
 pub mod Started
 pub mod Scanned
 pub mod Workers
 pub mod Behind
+pub use Rattle.nv_outcome.specs as nv_outcome
+pub use Rattle.nv_scan.specs as nv_scan

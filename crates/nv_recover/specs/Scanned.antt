@@ -16,7 +16,7 @@ use Rattle.nv_scan.specs.Rows.{IsPiece}
 use Rattle.nv_scan.specs.Work.{numbers_in, claims_in, ArePiecesOf}
 use Rattle.nv_scan.specs.declared.piece.Row.{Row}
 use Rattle.nv_scan.specs.declared.piece.Piece.{Piece}
-use Rattle.nv_check.specs.Cross.{row_key, IsCrossFaultIn}
+use Rattle.nv_outcome.specs.nv_check.Cross.{row_key, IsCrossFaultIn}
 use Rattle.nv_outcome.specs.Parts.{ArePieces, AreMaps, rows_in, faults_in, double_fault}
 use Rattle.nv_recover.specs.declared.scanned.Inodes.{Inodes}
 use Rattle.nv_recover.specs.declared.scanned.Scanned.{Scanned}

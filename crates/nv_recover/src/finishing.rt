@@ -5,15 +5,14 @@ ghost use Rattle.nv_region.specs.Region.{Region};
 ghost use Rattle.nv_super.specs.Layout.{IsLayout};
 ghost use Rattle.nv_super.specs.Order.{fault_key, SortedOf};
 ghost use Rattle.nv_outcome.specs.Parts.{double_fault};
-ghost use Rattle.nv_recover.specs.Answer.{IsAnswer};
+ghost use Rattle.nv_outcome.specs.Answer.{IsAnswer};
 ghost use Rattle.nv_recover.specs.Started.{IsStarted};
 ghost use Rattle.nv_recover.specs.Scanned.{IsScanned, all_told};
 
-use crate::recovered::Recovered;
 use crate::scanned::Scanned;
 use crate::starting::Started;
 use nv_alloc::Allocators;
-use nv_check::doubled;
+use nv_outcome::{Recovered, doubled};
 use nv_super::{Fault, Owner, sort_faults};
 use std::alloc::{AllocError, Global};
 

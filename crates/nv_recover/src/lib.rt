@@ -4,18 +4,20 @@
 //! On one thread, on many, or by a written schedule, the answer is the same outcome, which is defined without any of them.
 #![tactic(auto)]
 
+mod errors;
 mod finishing;
 mod maps;
 mod one;
 mod parallel;
-mod recovered;
 mod replaying;
 mod scanned;
 mod scanning;
 mod starting;
 mod workers;
 
+pub use errors::{MOST_WORKERS, RecoverError};
+pub use nv_outcome::Recovered;
+pub use nv_scan::{NoGate, Row};
 pub use one::recover_one;
 pub use parallel::recover;
-pub use recovered::{MOST_WORKERS, RecoverError, Recovered};
 pub use replaying::recover_replay;

@@ -6,12 +6,12 @@ ghost use Rattle.nv_super.specs.Layout.{system_blocks};
 ghost use Rattle.nv_super.specs.Super.{IsSuper};
 ghost use Rattle.nv_super.specs.declared.superblock.Super.{Super as SuperValue};
 ghost use Rattle.nv_journal.specs.Undone.{AllQuiet};
-ghost use Rattle.nv_recover.specs.declared.recovered.RecoverError.TheVariants as errors;
+ghost use Rattle.nv_recover.specs.declared.errors.RecoverError.TheVariants as errors;
 ghost use Rattle.nv_recover.specs.Errors.{Fails, comes_first};
 ghost use Rattle.nv_recover.specs.Behind.{BehindSystem};
 ghost use Rattle.nv_recover.specs.Started.{IsStarted};
 
-use crate::recovered::RecoverError;
+use crate::errors::RecoverError;
 use nv_journal::undo;
 use nv_region::Pmem;
 use nv_super::{Fault, Super, read_super};

@@ -4,12 +4,12 @@ use Rattle.std.specs.List.{list_any, position_or_len}
 use Rattle.nv_region.specs.Region.{Region}
 use Rattle.nv_claimcore.specs.Replay.{first_stranger}
 use Rattle.nv_journal.specs.Undo.{undone}
-use Rattle.nv_outcome.specs.Outcome.{IsOutcome}
-use Rattle.nv_recover.specs.Answer.{outcome_of}
-use Rattle.nv_recover.specs.declared.recovered.Recovered.{Recovered}
+use Rattle.nv_recover.specs.nv_outcome.Outcome.{IsOutcome}
+use Rattle.nv_recover.specs.nv_outcome.Answer.{outcome_of}
+use Rattle.nv_recover.specs.nv_outcome.declared.recovered.Recovered.{Recovered}
 use Rattle.nv_recover.specs.Errors.{Fails, IsBadCount}
-use Rattle.nv_recover.specs.declared.recovered.RecoverError.{RecoverError}
-use Rattle.nv_recover.specs.declared.recovered.RecoverError.TheVariants as errors
+use Rattle.nv_recover.specs.declared.errors.RecoverError.{RecoverError}
+use Rattle.nv_recover.specs.declared.errors.RecoverError.TheVariants as errors
 use Rattle.nv_text.specs.declared.refusals.Refusal.{Refusal}
 use Rattle.nv_text.specs.declared.refusals.Refusal.TheVariants as refusals
 use Rattle.nv_report.specs.Workers.{is_worker_count, names_stranger}

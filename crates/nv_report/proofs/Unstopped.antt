@@ -6,8 +6,8 @@ use Rattle.nv_super.specs.declared.superblock.Super.{Super}
 use Rattle.nv_super.specs.Layout.{system_blocks}
 use Rattle.nv_super.specs.Super.{IsSuper}
 use Rattle.nv_recover.specs.Errors.{Fails, UndoesAsBefore, AsBeforeOrUndone}
-use Rattle.nv_recover.specs.declared.recovered.RecoverError.{RecoverError}
-use Rattle.nv_recover.specs.declared.recovered.RecoverError.TheVariants as errors
+use Rattle.nv_recover.specs.declared.errors.RecoverError.{RecoverError}
+use Rattle.nv_recover.specs.declared.errors.RecoverError.TheVariants as errors
 use Rattle.nv_report.specs.Answering.{refusal_of, TakesRecovery}
 
 -- without a fuse, and where the stores in front of the data blocks are taken, there is no stop

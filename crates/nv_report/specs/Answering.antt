@@ -6,11 +6,11 @@ use Rattle.nv_super.specs.declared.superblock.Super.{Super}
 use Rattle.nv_super.specs.Layout.{system_blocks}
 use Rattle.nv_super.specs.Super.{IsSuper, IsRefused}
 use Rattle.nv_journal.specs.Undo.{undone}
-use Rattle.nv_outcome.specs.Outcome.{IsOutcome}
-use Rattle.nv_recover.specs.Answer.{outcome_of}
+use Rattle.nv_recover.specs.nv_outcome.Outcome.{IsOutcome}
+use Rattle.nv_recover.specs.nv_outcome.Answer.{outcome_of}
 use Rattle.nv_recover.specs.Errors.{UndoesAsBefore}
-use Rattle.nv_recover.specs.declared.recovered.RecoverError.{RecoverError}
-use Rattle.nv_recover.specs.declared.recovered.RecoverError.TheVariants as errors
+use Rattle.nv_recover.specs.declared.errors.RecoverError.{RecoverError}
+use Rattle.nv_recover.specs.declared.errors.RecoverError.TheVariants as errors
 use Rattle.nv_text.specs.declared.refusals.Refusal.{Refusal}
 use Rattle.nv_text.specs.declared.refusals.Refusal.TheVariants as refusals
 use Rattle.nv_report.specs.Workers.{is_worker_count, names_stranger}

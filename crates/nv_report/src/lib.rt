@@ -18,7 +18,7 @@ mod texts;
 pub use last::{Last, how_it_went};
 pub use laws::{one_report, one_row_text};
 pub use lengths::{BadLength, LONGEST_REGION, is_region_length};
-pub use nv_recover::MOST_WORKERS;
+pub use nv_recover::{MOST_WORKERS, Recovered};
 pub use part::Part;
 pub use recovering::{recover_or_stop, recover_region, replay_or_stop};
 pub use recovery::Answer;

@@ -7,9 +7,8 @@ ghost use Rattle.nv_recover.specs.Errors.{AsBeforeOrUndone};
 ghost use Rattle.nv_report.specs.Answering.{TakesRecovery, MayAnswer, MayEnd, ListsItsPools, IsToldAs, EndsAs, refusal_of, worker_number};
 
 use crate::recovery::Answer;
-use nv_recover::{RecoverError, recover, recover_replay};
+use nv_recover::{NoGate, RecoverError, recover, recover_replay};
 use nv_region::Pmem;
-use nv_scan::NoGate;
 use nv_text::Refusal;
 use std::alloc::{AllocError, Global};
 use std::thread::Threads;

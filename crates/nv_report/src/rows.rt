@@ -7,7 +7,7 @@ ghost use Rattle.nv_report.specs.Texts.{attributes_of, row_head, names_text, ext
 
 use nv_names::Named;
 use nv_radix::Extent;
-use nv_scan::Row;
+use nv_recover::Row;
 use nv_super::Kind;
 use nv_text::{Attributes, push_inode_line, push_log_line, push_name_line, push_page_line};
 use std::alloc::AllocError;

@@ -4,7 +4,7 @@ ghost use Rattle.std.specs.Prelude.{◌≡◌, ◌++◌, IfOk, OnOk, string_byte
 ghost use Rattle.nv_text.specs.Answers.{refused_line};
 ghost use Rattle.nv_text.specs.Refusals.{refusal_name};
 ghost use Rattle.nv_text.specs.Free.{free_lines};
-ghost use Rattle.nv_recover.specs.Answer.{outcome_of};
+ghost use Rattle.nv_recover.specs.nv_outcome.Answer.{outcome_of};
 ghost use Rattle.nv_report.specs.Shown.{shown_of};
 ghost use Rattle.nv_report.specs.Texts.{recovered_text, IsPartText, IsReportText, AddsText};
 

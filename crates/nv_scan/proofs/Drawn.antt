@@ -10,7 +10,7 @@ use Rattle.nv_super.proofs.Members.{none_in, into_map, into_flat}
 use Rattle.nv_super.proofs.Rising.{Contains-cons, Contains-head, Contains-tail}
 use Rattle.nv_inode.proofs.Places.{place, place_below}
 use Rattle.nv_inode.proofs.Slots.{number_above, number_below}
-use Rattle.nv_claimcore.specs.Claims.{times, below}
+use Rattle.nv_claimmap.specs.nv_claimcore.Claims.{times, below}
 use Rattle.nv_scan.specs.Tickets.{ticket_count, number_at, numbers_of}
 use Rattle.nv_scan.specs.Work.{tickets_among, numbers_in}
 use Rattle.nv_scan.proofs.Places.{place_number, number_place}

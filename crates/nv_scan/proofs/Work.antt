@@ -10,11 +10,11 @@ use Rattle.nv_region.specs.Region.{Region}
 use Rattle.nv_super.specs.declared.superblock.Super.{Super}
 use Rattle.nv_super.specs.declared.owners.Owner.{Owner}
 use Rattle.nv_super.specs.Layout.{fixed_layout}
-use Rattle.nv_claimcore.specs.declared.view.View.{View}
-use Rattle.nv_claimcore.specs.Claims.{above, with_number, nothing, both_views}
-use Rattle.nv_claimcore.specs.Finished.{pair_of}
-use Rattle.nv_claimcore.specs.Spans.{Adds}
-use Rattle.nv_claimcore.proofs.Runs.{adds_none}
+use Rattle.nv_claimmap.specs.nv_claimcore.declared.view.View.{View}
+use Rattle.nv_claimmap.specs.nv_claimcore.Claims.{above, with_number, nothing, both_views}
+use Rattle.nv_claimmap.specs.nv_claimcore.Finished.{pair_of}
+use Rattle.nv_claimmap.specs.nv_claimcore.Spans.{Adds}
+use Rattle.nv_claimmap.proofs.nv_claimcore.Runs.{adds_none}
 use Rattle.nv_claimmap.proofs.Seats.{fewer_left}
 use Rattle.nv_inode.proofs.Slots.{number_above}
 use Rattle.nv_scan.specs.Rows.{IsPiece}

@@ -13,3 +13,5 @@ pub mod Work
 pub mod Scanner
 pub mod Claiming
 pub mod Light
+pub use Rattle.nv_logpage.specs as nv_logpage
+pub use Rattle.nv_claimmap.specs.nv_claimcore

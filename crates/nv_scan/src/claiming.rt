@@ -3,7 +3,7 @@
 ghost use Rattle.std.specs.Prelude.{◌≡◌, ◌+◌, [], IfSome, IfNone, OnOk, IsTrue};
 ghost use Rattle.std.specs.List.{All};
 ghost use Rattle.nv_super.specs.Owners.{raised};
-ghost use Rattle.nv_claimcore.specs.Spans.{Adds};
+ghost use Rattle.nv_claimmap.specs.nv_claimcore.Spans.{Adds};
 ghost use Rattle.nv_scan.specs.Claiming.{IsClaimable, BeginWith, StandsAlone};
 
 use nv_claimmap::{ClaimMap, ClaimSeat};

@@ -3,7 +3,7 @@
 ghost use Rattle.std.specs.Prelude.{◌≡◌, ◌<◌, IsTrue, [], OnOk};
 ghost use Rattle.nv_region.specs.Region.{HasBlocks};
 ghost use Rattle.nv_super.specs.Layout.{IsLayout};
-ghost use Rattle.nv_claimcore.specs.Claims.{nothing};
+ghost use Rattle.nv_claimmap.specs.nv_claimcore.Claims.{nothing};
 ghost use Rattle.nv_scan.specs.Tickets.{ticket_count, numbers_of};
 ghost use Rattle.nv_scan.specs.Work.{IsDone, Returned};
 

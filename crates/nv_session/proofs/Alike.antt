@@ -5,9 +5,9 @@ use Rattle.std.specs.Option.{option_map, option_and_then, option_map_or}
 use Rattle.nv_region.specs.Region.{Region}
 use Rattle.nv_super.specs.Order.{Lists}
 use Rattle.nv_super.proofs.Rising.{Lists-only}
-use Rattle.nv_scan.specs.declared.piece.Row.{Row}
-use Rattle.nv_outcome.specs.Same.{SameRow, SameRows}
-use Rattle.nv_named.specs.Read.{row_of}
+use Rattle.nv_report.specs.nv_scan.declared.piece.Row.{Row}
+use Rattle.nv_report.specs.nv_outcome.Same.{SameRow, SameRows}
+use Rattle.nv_calls.specs.nv_named.Read.{row_of}
 use Rattle.nv_tree.specs.Path.{last_name}
 use Rattle.nv_tree.specs.Tree.{Node, Tree, walk, found, as_directory, and_then, or_not_found, name_in, in_use, last_in, is_directory}
 use Rattle.nv_tree.specs.Refusals.{Path, Tests, first_refusal, refusal_word, is_directory_at, list_tests, stat_tests, read_tests}
@@ -17,7 +17,7 @@ use Rattle.nv_text.specs.Answers.{refused_line}
 use Rattle.nv_text.specs.Report.{stat_line}
 use Rattle.nv_text.specs.Names.{data_line}
 use Rattle.nv_tree.specs.Calls.{bytes_read}
-use Rattle.nv_held.specs.Bytes.{byte_in}
+use Rattle.nv_calls.specs.nv_held.Bytes.{byte_in}
 use Rattle.nv_calls.specs.Seen.{node_of, tree_of}
 use Rattle.nv_calls.specs.Stat.{stat_of, IsStat}
 use Rattle.nv_calls.specs.Listing.{ListsNamesIn}

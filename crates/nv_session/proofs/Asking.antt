@@ -11,11 +11,11 @@ use Rattle.nv_super.specs.declared.kind.Kind.{Kind}
 use Rattle.nv_super.specs.Layout.{fixed_layout}
 use Rattle.nv_alloc.specs.Taking.{all_blocks}
 use Rattle.nv_radix.specs.Pages.{block_at}
-use Rattle.nv_scan.specs.declared.piece.Row.{Row}
-use Rattle.nv_scan.specs.State.{block_of}
-use Rattle.nv_held.specs.Held.{Held, Store, good_in}
-use Rattle.nv_held.specs.Mounted.{ShowsSound}
-use Rattle.nv_named.specs.Read.{row_of}
+use Rattle.nv_report.specs.nv_scan.declared.piece.Row.{Row}
+use Rattle.nv_report.specs.nv_scan.State.{block_of}
+use Rattle.nv_calls.specs.nv_held.Held.{Held, Store, good_in}
+use Rattle.nv_calls.specs.nv_held.Mounted.{ShowsSound}
+use Rattle.nv_calls.specs.nv_named.Read.{row_of}
 use Rattle.nv_tree.specs.Path.{last_name}
 use Rattle.nv_tree.specs.Tree.{Node, walk}
 use Rattle.nv_tree.specs.Refusals.{Path, Tests, World, first_refusal, target, writing, create_tests, write_tests, set_size_tests, set_attr_tests}

@@ -11,9 +11,9 @@ use Rattle.nv_super.specs.declared.superblock.Super.{Super}
 use Rattle.nv_super.specs.declared.owners.Owner.{Owner}
 use Rattle.nv_super.specs.declared.owners.Run.{Run}
 use Rattle.nv_super.specs.declared.faults.Fault.{Fault}
-use Rattle.nv_scan.specs.declared.piece.Row.{Row}
-use Rattle.nv_outcome.specs.Outcome.{IsOutcome}
-use Rattle.nv_outcome.specs.Same.{is_lasting, lasting_outcome}
+use Rattle.nv_report.specs.nv_scan.declared.piece.Row.{Row}
+use Rattle.nv_report.specs.nv_outcome.Outcome.{IsOutcome}
+use Rattle.nv_report.specs.nv_outcome.Same.{is_lasting, lasting_outcome}
 use Rattle.nv_tree.specs.Path.{IsPath, Says}
 use Rattle.nv_tree.specs.Tree.{SameTree}
 use Rattle.nv_tree.specs.Refusals.{Path, Tests, World, first_refusal, refusal_word, writing}

@@ -13,14 +13,14 @@ use Rattle.nv_format.specs.Format.{IsFormatRefusal, CanFormat, IsFormatted, Form
 use Rattle.nv_format.specs.Format as formats
 use Rattle.nv_format.specs.declared.formatting.FormatRefusal.{FormatRefusal}
 use Rattle.nv_format.specs.declared.formatting.FormatRefusal.TheVariants.{Stopped}
-use Rattle.nv_outcome.specs.Outcome.{Outcome, IsOutcome}
-use Rattle.nv_outcome.specs.Same.{lasting_outcome}
-use Rattle.nv_outcome.proofs.Again.{rolled_back, stays}
-use Rattle.nv_outcome.proofs.SuperOf.{blocks_of_super}
+use Rattle.nv_report.specs.nv_outcome.Outcome.{Outcome, IsOutcome}
+use Rattle.nv_report.specs.nv_outcome.Same.{lasting_outcome}
+use Rattle.nv_report.proofs.nv_outcome.Again.{rolled_back, stays}
+use Rattle.nv_report.proofs.nv_outcome.SuperOf.{blocks_of_super}
 use Rattle.std.proofs.lemmas.Bool.{cases_eq}
-use Rattle.nv_recover.specs.Answer.{outcome_of}
-use Rattle.nv_recover.specs.Errors.{UndoesAsBefore}
-use Rattle.nv_recover.specs.declared.recovered.Recovered.{Recovered}
+use Rattle.nv_report.specs.nv_outcome.Answer.{outcome_of}
+use Rattle.nv_report.specs.nv_recover.Errors.{UndoesAsBefore}
+use Rattle.nv_report.specs.nv_outcome.declared.recovered.Recovered.{Recovered}
 use Rattle.nv_text.specs.Answers.{ok_line, refused_line, stopped_line}
 use Rattle.nv_text.specs.declared.refusals.Refusal.{Refusal}
 use Rattle.nv_text.specs.declared.refusals.Refusal.TheVariants as refusals

@@ -12,10 +12,10 @@ use Rattle.nv_alloc.specs.Taking.{all_blocks}
 use Rattle.nv_entry.specs.declared.entry.Operation.TheVariants.{Add}
 use Rattle.nv_entry.specs.declared.entry.Entry.{Entry}
 use Rattle.nv_radix.specs.Pages.{block_at}
-use Rattle.nv_scan.specs.declared.piece.Row.{Row}
-use Rattle.nv_outcome.specs.Same.{SameRow, SameRows}
-use Rattle.nv_outcome.proofs.OnlyOne.{same_outcome}
-use Rattle.nv_named.specs.Read.{row_of}
+use Rattle.nv_report.specs.nv_scan.declared.piece.Row.{Row}
+use Rattle.nv_report.specs.nv_outcome.Same.{SameRow, SameRows}
+use Rattle.nv_report.proofs.nv_outcome.OnlyOne.{same_outcome}
+use Rattle.nv_calls.specs.nv_named.Read.{row_of}
 use Rattle.nv_tree.specs.Path.{last_name}
 use Rattle.nv_tree.specs.Tree.{Tree, found, in_use, last_in, walk}
 use Rattle.nv_tree.specs.Refusals.{Path, Tests, World, first_refusal, refusal_word, target, writing, is_bad, is_dir, is_missing, is_too_large, has_no_space, walk_tests, create_tests, write_tests, set_size_tests, set_attr_tests}

@@ -19,10 +19,10 @@ use Rattle.nv_format.specs.declared.formatting.FormatRefusal.{FormatRefusal}
 use Rattle.nv_format.proofs.OneAnswer.{one_refusal, not_prevented}
 use Rattle.nv_format.proofs.Determined.{formatted_only}
 use Rattle.nv_line.specs.Request.{Request, Format, Time, Poke, Cut, Recover, Replay, ListNames, Stat, Read, Create, MakeDirectory, Write, SetSize, SetAttributes, Tree, Free, Faults, Report, Peek, Stop}
-use Rattle.nv_outcome.specs.Outcome.{Outcome}
-use Rattle.nv_outcome.specs.Same.{SameOutcome}
-use Rattle.nv_outcome.proofs.OnlyOne.{same_outcome}
-use Rattle.nv_outcome.proofs.SuperOf.{one_fault}
+use Rattle.nv_report.specs.nv_outcome.Outcome.{Outcome}
+use Rattle.nv_report.specs.nv_outcome.Same.{SameOutcome}
+use Rattle.nv_report.proofs.nv_outcome.OnlyOne.{same_outcome}
+use Rattle.nv_report.proofs.nv_outcome.SuperOf.{one_fault}
 use Rattle.nv_super.specs.FaultText.{super_fault_name}
 use Rattle.nv_text.specs.Answers.{refused_line}
 use Rattle.nv_report.specs.Last.{how_it_went}

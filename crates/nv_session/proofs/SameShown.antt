@@ -8,11 +8,11 @@ use Rattle.nv_region.specs.Region.{Region, word}
 use Rattle.nv_super.specs.Layout.{Layout}
 use Rattle.nv_super.specs.Order.{Rises}
 use Rattle.nv_super.proofs.Rising.{Contains-head, Contains-tail}
-use Rattle.nv_scan.specs.Inode.{Log, IsInode, good_of}
-use Rattle.nv_scan.specs.Rows.{AreNumbers, IsRow}
-use Rattle.nv_scan.specs.declared.piece.Row.{Row}
-use Rattle.nv_outcome.specs.Outcome.{AreRows, Outcome, IsOutcome}
-use Rattle.nv_outcome.specs.Same.{SameRow, SameRows}
+use Rattle.nv_report.specs.nv_scan.Inode.{Log, IsInode, good_of}
+use Rattle.nv_report.specs.nv_scan.Rows.{AreNumbers, IsRow}
+use Rattle.nv_report.specs.nv_scan.declared.piece.Row.{Row}
+use Rattle.nv_report.specs.nv_outcome.Outcome.{AreRows, Outcome, IsOutcome}
+use Rattle.nv_report.specs.nv_outcome.Same.{SameRow, SameRows}
 
 -- a row of the second list, and the one that it is the same as
 from_second : (xs ys : List Row) → SameRows xs ys → (y : Row) → Contains ys y → (x : Row) × Contains xs x × SameRow x y

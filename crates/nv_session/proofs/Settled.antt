@@ -11,11 +11,11 @@ use Rattle.nv_super.specs.declared.kind.Kind.{Kind}
 use Rattle.nv_super.specs.declared.kind.Kind.TheVariants.{File, Directory}
 use Rattle.nv_super.specs.declared.faults.Fault.{Fault}
 use Rattle.nv_super.specs.Super.{IsSuper}
-use Rattle.nv_scan.specs.declared.piece.Row.{Row}
-use Rattle.nv_outcome.specs.Outcome.{Outcome, IsOutcome}
-use Rattle.nv_outcome.specs.Same.{SameRow, SameRows, SameOutcome}
-use Rattle.nv_outcome.proofs.Exists.{has_outcome}
-use Rattle.nv_outcome.proofs.OnlyOne.{same_outcome}
+use Rattle.nv_report.specs.nv_scan.declared.piece.Row.{Row}
+use Rattle.nv_report.specs.nv_outcome.Outcome.{Outcome, IsOutcome}
+use Rattle.nv_report.specs.nv_outcome.Same.{SameRow, SameRows, SameOutcome}
+use Rattle.nv_report.proofs.nv_outcome.Exists.{has_outcome}
+use Rattle.nv_report.proofs.nv_outcome.OnlyOne.{same_outcome}
 use Rattle.nv_session.proofs.SameShown.{with_rows}
 
 never_prop : IsProp ⊥

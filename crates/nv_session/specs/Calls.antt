@@ -5,10 +5,10 @@ use Rattle.nv_region.specs.Region.{Region, size}
 use Rattle.nv_super.specs.declared.kind.Kind.{Kind}
 use Rattle.nv_super.specs.Layout.{fixed_layout}
 use Rattle.nv_journal.specs.Undo.{undone}
-use Rattle.nv_scan.specs.State.{block_of}
-use Rattle.nv_held.specs.Held.{Held, Store, good_in}
-use Rattle.nv_held.specs.Mounted.{ShowsSound}
-use Rattle.nv_outcome.specs.Outcome.{Outcome, IsOutcome}
+use Rattle.nv_report.specs.nv_scan.State.{block_of}
+use Rattle.nv_calls.specs.nv_held.Held.{Held, Store, good_in}
+use Rattle.nv_calls.specs.nv_held.Mounted.{ShowsSound}
+use Rattle.nv_report.specs.nv_outcome.Outcome.{Outcome, IsOutcome}
 use Rattle.nv_tree.specs.Path.{Says, last_name}
 use Rattle.nv_tree.specs.Tree.{Node, Tree, SameTree, walk}
 use Rattle.nv_tree.specs.Calls.{attributed, created, resized, written}

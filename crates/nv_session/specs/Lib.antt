@@ -5,4 +5,4 @@ pub mod Made
 pub use Rattle.nv_region.specs.Region
 pub use Rattle.nv_super.specs.Super
 pub use Rattle.nv_format.specs.Format
-pub use Rattle.nv_outcome.specs.Outcome
+pub use Rattle.nv_report.specs.nv_outcome.Outcome

@@ -6,10 +6,10 @@ use Rattle.nv_region.specs.declared.memory.Fuse.{Fuse}
 use Rattle.nv_region.specs.declared.memory.Fuse.TheVariants as fuses
 use Rattle.nv_super.specs.declared.owners.Owner.{Owner}
 use Rattle.nv_journal.specs.Undo.{undone}
-use Rattle.nv_outcome.specs.Outcome.{IsOutcome}
-use Rattle.nv_outcome.specs.Same.{lasting_outcome}
-use Rattle.nv_recover.specs.Answer.{outcome_of}
-use Rattle.nv_recover.specs.declared.recovered.Recovered.{Recovered}
+use Rattle.nv_report.specs.nv_outcome.Outcome.{IsOutcome}
+use Rattle.nv_report.specs.nv_outcome.Same.{lasting_outcome}
+use Rattle.nv_report.specs.nv_outcome.Answer.{outcome_of}
+use Rattle.nv_report.specs.nv_outcome.declared.recovered.Recovered.{Recovered}
 use Rattle.nv_tree.specs.Refusals.{refusal_word}
 use Rattle.nv_tree.specs.declared.refusal.Refusal.{Refusal as CallRefusal}
 use Rattle.nv_tree.specs.declared.refusal.Refusal.TheVariants as refusals

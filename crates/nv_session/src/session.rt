@@ -14,11 +14,10 @@ use crate::store::{Store, has_word, poked};
 use crate::texts::{ok_text, refused_format_text, stopped_text, word_text};
 use nv_calls::Fs;
 use nv_line::Command;
-use nv_recover::Recovered;
 use nv_region::{Fuse, Keep, MemRegion, Pmem};
 use nv_report::{
-    Answer, Last, Part, Shown, how_it_went, recover_or_stop, recovered_text, refused_text,
-    replay_or_stop, shown_text,
+    Answer, Last, Part, Recovered, Shown, how_it_went, recover_or_stop, recovered_text,
+    refused_text, replay_or_stop, shown_text,
 };
 use nv_text::Refusal;
 use std::alloc::{AllocError, Global};

@@ -10,3 +10,4 @@ pub mod Pools
 pub mod Slots
 pub mod Accepted
 pub mod First
+pub use Rattle.nv_region.proofs as nv_region

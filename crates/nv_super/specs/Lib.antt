@@ -9,3 +9,4 @@ pub mod Runs
 pub use Rattle.nv_region.specs.Region
 pub use Rattle.nv_region.specs.Stops
 pub use Rattle.nv_region.specs.Stored
+pub use Rattle.nv_region.specs as nv_region

@@ -13,6 +13,7 @@ mod superblock;
 pub use faults::Fault;
 pub use kind::Kind;
 pub use laws::{pools_cover_the_data_blocks, slots_stand_apart};
+pub use nv_region::{Pmem, Stopped, store_word};
 pub use owners::{Owner, Run};
 pub use sorting::{sort_claims, sort_faults};
 pub use superblock::{

@@ -2,7 +2,7 @@
 
 ghost use Rattle.std.specs.Prelude.{◌≡◌, ◌≢◌, ◌↔◌, length, IsTrue};
 ghost use Rattle.nv_alloc.specs.Taking.{all_blocks};
-ghost use Rattle.nv_recover.specs.declared.recovered.RecoverError.TheVariants.{Memory};
+ghost use Rattle.nv_recover.specs.declared.errors.RecoverError.TheVariants.{Memory};
 ghost use Rattle.refusal_recover.specs.declared.findings.Left.TheVariants.{AsBefore, RolledBack, Otherwise};
 
 use nv_recover::{RecoverError, Recovered};

@@ -1,10 +1,10 @@
 use Rattle.std.proofs.Common.{rules, ℕ, [], ◌∷◌, ◌+◌, ◌*◌, ◌≡◌, ◌%◌, ◌∙◌, ap, arith, length}
 use Rattle.std.proofs.lemmas.Result.{on_ok_weaker}
-use Rattle.nv_region.specs.Region.{Region, word}
+use Rattle.nv_super.specs.nv_region.Region.{Region, word}
 use Rattle.nv_entry.specs.Name.{IsName}
 use Rattle.nv_entry.specs.Spelling.{IsNameAt, IsTextAt, first_word, operation_code, words_for}
 use Rattle.nv_entry.specs.Written.{HoldsWords}
-use Rattle.nv_region.specs.Stored.{SameOutside}
+use Rattle.nv_super.specs.nv_region.Stored.{SameOutside}
 use Rattle.nv_entry.specs.declared.entry.NameEntry.{NameEntry}
 use Rattle.nv_entry.proofs.writing.store_name_entry.Goals as goal
 

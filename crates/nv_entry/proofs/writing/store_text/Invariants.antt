@@ -1,8 +1,8 @@
 use Rattle.std.proofs.Common.{◌≡◌, ◌+◌, ◌*◌, ℕ, ◌<◌, ◌≤◌, length, false}
-use Rattle.nv_region.specs.Region.{word}
-use Rattle.nv_region.specs.Stops.{Adds}
-use Rattle.nv_region.specs.Fuses.{KeepsFuse}
-use Rattle.nv_region.specs.Stored.{SameOutside, Within}
+use Rattle.nv_super.specs.nv_region.Region.{word}
+use Rattle.nv_super.specs.nv_region.Stops.{Adds}
+use Rattle.nv_super.specs.nv_region.Fuses.{KeepsFuse}
+use Rattle.nv_super.specs.nv_region.Stored.{SameOutside, Within}
 use Rattle.nv_entry.specs.Text.{text_word}
 use Rattle.nv_entry.specs.Spelling.{words_for}
 use Rattle.nv_entry.proofs.writing.store_text.Given as goal

@@ -1,8 +1,8 @@
 use Rattle.std.proofs.Common.{◌≡◌, ◌+◌, ◌*◌, ℕ, ◌<◌, ◌≤◌, length, get_or, false}
-use Rattle.nv_region.specs.Region.{word}
-use Rattle.nv_region.specs.Stops.{Adds}
-use Rattle.nv_region.specs.Fuses.{KeepsFuse}
-use Rattle.nv_region.specs.Stored.{SameOutside, Within}
+use Rattle.nv_super.specs.nv_region.Region.{word}
+use Rattle.nv_super.specs.nv_region.Stops.{Adds}
+use Rattle.nv_super.specs.nv_region.Fuses.{KeepsFuse}
+use Rattle.nv_super.specs.nv_region.Stored.{SameOutside, Within}
 use Rattle.nv_entry.proofs.writing.store_words.Given as goal
 
 abbrev pub invariant-loop-k : goal.invariant-loop-k

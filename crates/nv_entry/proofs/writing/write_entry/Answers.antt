@@ -1,4 +1,4 @@
-use Rattle.nv_region.proofs.Wordwise.{outside_stores}
+use Rattle.nv_super.proofs.nv_region.Wordwise.{outside_stores}
 use Rattle.nv_entry.proofs.writing.write_entry.Goals as goal
 
 pub returns-clause-wrote : goal.returns-clause-wrote

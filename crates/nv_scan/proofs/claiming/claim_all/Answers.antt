@@ -3,7 +3,7 @@ use Rattle.std.proofs.lemmas.List.{take_rest, take-append-drop}
 use Rattle.std.proofs.lemmas.List.Elements.{All-drop}
 use Rattle.std.specs.List.{All}
 use Rattle.nv_super.specs.declared.owners.Owner.{Owner}
-use Rattle.nv_claimcore.specs.Spans.{Adds}
+use Rattle.nv_claimmap.specs.nv_claimcore.Spans.{Adds}
 use Rattle.nv_scan.specs.Claiming.{IsClaimable}
 use Rattle.nv_scan.proofs.Runs.{begin_fits, adds_both}
 use Rattle.nv_scan.proofs.claiming.claim_all.Goals as goal

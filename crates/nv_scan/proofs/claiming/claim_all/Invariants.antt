@@ -1,6 +1,6 @@
 use Rattle.std.proofs.Common.{◌≡◌, ◌++◌, ℕ, List, length}
 use Rattle.std.specs.List.{All}
-use Rattle.nv_claimcore.specs.Spans.{Adds}
+use Rattle.nv_claimmap.specs.nv_claimcore.Spans.{Adds}
 use Rattle.nv_super.specs.declared.owners.Owner.{Owner}
 use Rattle.nv_scan.specs.Claiming.{IsClaimable}
 use Rattle.nv_scan.proofs.claiming.claim_all.Given as goal

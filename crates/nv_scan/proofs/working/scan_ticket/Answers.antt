@@ -3,7 +3,7 @@ use Rattle.std.specs.List.{All}
 use Rattle.nv_super.specs.Layout.{fixed_layout}
 use Rattle.nv_super.specs.declared.superblock.Super.{Super}
 use Rattle.nv_super.specs.declared.owners.Owner.{Owner}
-use Rattle.nv_claimcore.specs.Spans.{Adds}
+use Rattle.nv_claimmap.specs.nv_claimcore.Spans.{Adds}
 use Rattle.nv_claimmap.specs.Held.{Held}
 use Rattle.nv_scan.specs.Claiming.{IsClaimable}
 use Rattle.nv_scan.specs.Tickets.{number_at, numbers_to, IsFound}

@@ -1,7 +1,7 @@
 use Rattle.std.proofs.Common.{◌<◌, ◌≤◌, ◌∙◌, ℕ, sym, ap, subst, ⊎_elim, refl}
 use Rattle.nv_super.specs.declared.superblock.Super.{Super}
-use Rattle.nv_claimcore.specs.declared.view.View.{View}
-use Rattle.nv_claimcore.specs.Claims.{past}
+use Rattle.nv_claimmap.specs.nv_claimcore.declared.view.View.{View}
+use Rattle.nv_claimmap.specs.nv_claimcore.Claims.{past}
 use Rattle.nv_scan.specs.Tickets.{numbers_of}
 use Rattle.nv_scan.specs.Work.{IsWork, IsDone}
 use Rattle.nv_scan.proofs.Work.{work_none, work_past, work_more, nearer}

@@ -1,5 +1,5 @@
 use Rattle.std.proofs.Common.{◌≡◌, ◌-◌}
-use Rattle.nv_claimcore.specs.Claims.{above}
+use Rattle.nv_claimmap.specs.nv_claimcore.Claims.{above}
 use Rattle.nv_scan.specs.Work.{IsWork}
 use Rattle.nv_scan.proofs.working.worker.Given as goal
 

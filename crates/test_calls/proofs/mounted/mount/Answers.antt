@@ -3,7 +3,7 @@ use Rattle.nv_region.specs.Region.{Region}
 use Rattle.nv_journal.specs.Undo.{undone}
 use Rattle.nv_outcome.specs.Outcome.{IsOutcome}
 use Rattle.nv_outcome.specs.Same.{lasting_outcome}
-use Rattle.nv_recover.specs.Answer.{outcome_of}
+use Rattle.nv_outcome.specs.Answer.{outcome_of}
 use Rattle.test_calls.proofs.mounted.mount.Goals as goal
 
 pub open-requires-clause-outcome : goal.open-requires-clause-outcome

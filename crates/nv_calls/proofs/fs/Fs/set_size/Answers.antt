@@ -3,7 +3,7 @@ use Rattle.std.proofs.lemmas.Result.{err_from_is_err_and}
 use Rattle.nv_alloc.specs.Taking.{all_blocks}
 use Rattle.nv_radix.specs.Pages.{block_at}
 use Rattle.nv_held.specs.Held.{Held, Store}
-use Rattle.nv_named.specs.Read.{row_of}
+use Rattle.nv_held.specs.nv_named.Read.{row_of}
 use Rattle.nv_scan.specs.declared.piece.Row.{Row}
 use Rattle.nv_super.specs.declared.kind.Kind.TheVariants.{File}
 use Rattle.nv_tree.specs.declared.refusal.Refusal.{Refusal}

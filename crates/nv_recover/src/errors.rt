@@ -1,30 +1,14 @@
-//! What a recovery answers.
+//! Why a region was not recovered.
 
 ghost use Rattle.std.specs.Prelude.{◌≡◌};
 
-use nv_alloc::Allocators;
 use nv_journal::UndoError;
-use nv_scan::Row;
-use nv_super::{Fault, Owner, Super, SuperFault};
+use nv_super::SuperFault;
 use std::alloc::{AllocError, AllocFailed};
 use thiserror::Error;
 
 /// The most workers of a recovery.
 pub const MOST_WORKERS: u64 = 64;
-
-/// What a region holds, read from its bytes once its journals were rolled back.
-#[derive(Drop)]
-pub struct Recovered {
-    pub sup: Super,
-    /// The inodes in use, rising by number.
-    pub rows: Vec<Row>,
-    /// The free blocks of each CPU's pool.
-    pub free: Allocators,
-    /// The blocks with two owners or more, each with all its owners, rising by block and owner.
-    pub doubled: Vec<(u64, Owner)>,
-    /// All that is wrong, in the order of the classes, each once.
-    pub faults: Vec<Fault>,
-}
 
 /// Why a region was not recovered.
 #[derive(Clone, Copy, Debug, PartialEq, Eq, Error)]
@@ -47,7 +31,7 @@ pub enum RecoverError {
 }
 
 impl From<SuperFault> for RecoverError {
-    ghost use Rattle.nv_recover.specs.declared.recovered.RecoverError.TheVariants.{Super as Refused};
+    ghost use Rattle.nv_recover.specs.declared.errors.RecoverError.TheVariants.{Super as Refused};
 
     ghost from_gives = { λ fault e. e ≡ Refused fault };
 
@@ -70,7 +54,7 @@ impl From<UndoError> for RecoverError {
 }
 
 impl From<AllocError> for RecoverError {
-    ghost use Rattle.nv_recover.specs.declared.recovered.RecoverError.TheVariants.{Memory};
+    ghost use Rattle.nv_recover.specs.declared.errors.RecoverError.TheVariants.{Memory};
 
     ghost from_gives = { λ _ e. e ≡ Memory };
 
@@ -80,7 +64,7 @@ impl From<AllocError> for RecoverError {
 }
 
 impl<T: Drop> From<AllocFailed<T>> for RecoverError {
-    ghost use Rattle.nv_recover.specs.declared.recovered.RecoverError.TheVariants.{Memory};
+    ghost use Rattle.nv_recover.specs.declared.errors.RecoverError.TheVariants.{Memory};
 
     ghost from_gives = { λ _ e. e ≡ Memory };
 

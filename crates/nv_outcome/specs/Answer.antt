@@ -5,7 +5,7 @@ use Rattle.nv_super.specs.Layout.{fixed_layout}
 use Rattle.nv_journal.specs.Undo.{undone}
 use Rattle.nv_outcome.specs.Outcome.{Outcome, IsOutcome}
 use Rattle.nv_outcome.specs.Shared.{SharesAll}
-use Rattle.nv_recover.specs.declared.recovered.Recovered.{Recovered}
+use Rattle.nv_outcome.specs.declared.recovered.Recovered.{Recovered}
 
 -- the answer as an outcome
 abbrev pub outcome_of : Recovered → Outcome
