@@ -84,3 +84,13 @@ pub mod RemovedHeld
 pub mod RemovedRows
 pub mod RemovedTree
 pub mod RemoveCall
+pub mod GraphPaths
+pub mod MovedEntries
+pub mod MovedAcross
+pub mod MovedWithin
+pub mod MovedAt
+pub mod MoveSpots
+pub mod MovedRow
+pub mod MoveTests
+pub mod MoveCall
+pub mod MoveAt

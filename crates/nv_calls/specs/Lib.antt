@@ -22,3 +22,4 @@ pub mod Places
 pub mod RemoveCalls
 pub mod NamedAt
 pub mod LessNames
+pub mod MoveCalls
