@@ -91,3 +91,13 @@ pub mod UnlinkedHeld
 pub mod UnlinkedTree
 pub mod Released
 pub mod UnlinkCall
+pub mod GraphPaths
+pub mod MovedEntries
+pub mod MovedAcross
+pub mod MovedWithin
+pub mod MovedAt
+pub mod MoveSpots
+pub mod MovedRow
+pub mod MoveTests
+pub mod MoveCall
+pub mod MoveAt

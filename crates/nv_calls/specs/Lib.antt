@@ -26,3 +26,4 @@ pub mod UnlinkCalls
 pub mod Unlinks
 pub use Rattle.nv_held.specs as nv_held
 pub use Rattle.nv_held.specs.nv_named
+pub mod MoveCalls

@@ -1,9 +1,10 @@
 //! What a row says once a name came or went, or its inode counts another number of links. Nothing is stored here, and no
 //! memory is taken.
 
-ghost use Rattle.std.specs.Prelude.{◌<◌};
+ghost use Rattle.std.specs.Prelude.{◌<◌, ◌≤◌};
 ghost use Rattle.nv_names.specs.Names.{EachOnce, IsName};
 ghost use Rattle.nv_calls.specs.MoreNames.{AddsName, CountsLinks};
+ghost use Rattle.nv_calls.specs.Unlinks.{DropsName};
 
 use nv_scan::Row;
 
@@ -15,6 +16,18 @@ pub(crate) fn add_name(directory: &mut Row, name: &[u8], inode: u64, place: u64,
     ensures once { EachOnce directory.new.names }
 {
     directory.names.add(name, inode, place);
+    directory.numbers.time = time;
+    // A name index says of itself that it has no name twice.
+    let _names = directory.names.len();
+}
+
+/// Takes a name out of a directory's row, and puts the time in.
+pub(crate) fn remove_name(directory: &mut Row, name: &[u8], time: u64)
+    ensures row { DropsName directory.old name.now time directory.new }
+    ensures room { directory.old.names.room ≤ directory.new.names.room }
+    ensures once { EachOnce directory.new.names }
+{
+    directory.names.remove(name);
     directory.numbers.time = time;
     // A name index says of itself that it has no name twice.
     let _names = directory.names.len();

@@ -61,7 +61,7 @@ pub(crate) fn link_for<'a>(rows: &[Row], old: &[u8], new: &'a [u8]) -> Result<Na
 }
 
 /// Whether the inode of a row is a directory.
-fn is_directory(row: &Row) -> bool
+pub(crate) fn is_directory(row: &Row) -> bool
     ensures { result ≡ is_directory row.now.kind }
 {
     row.kind == Kind::Directory

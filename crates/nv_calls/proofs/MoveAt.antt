@@ -1,0 +1,45 @@
+-- The choice between one directory and two.
+use Rattle.std.proofs.Common.{◌≡◌, ◌≢◌, ℕ, ◌+◌, ◌%◌, cond, nat_eq, Bool, true, false, List, set, slice_get, refl, ap, sym, ◌∙◌, subst, arith, inl, Some, Result, Ok, Err, IfErr, OnOk}
+use Rattle.std.proofs.lemmas.Bool.Decides.{nat_tests}
+use Rattle.nv_region.specs.Region.{Region}
+use Rattle.nv_super.specs.declared.superblock.Super.{Super}
+use Rattle.nv_alloc.specs.FreeValue.{FreeLists}
+use Rattle.nv_entry.specs.declared.entry.Operation.TheVariants.{Add, Remove}
+use Rattle.nv_logpage.specs.Append.{needed}
+use Rattle.nv_scan.specs.declared.piece.Row.{Row}
+use Rattle.nv_calls.specs.MoveCalls.{MovesAt, MovesWithin, move_blocks, move_entries}
+use Rattle.nv_calls.specs.NameCalls.{name_entries}
+
+pub on_ok : {A E : Type 0} (r : Result A E) {P Q : Type 0} → (P → Q) → OnOk r P → OnOk r Q
+on_ok (Ok a) to p = to p
+on_ok (Err e) to p = tt
+
+pub on_err : {A E : Type 0} (r : Result A E) {P Q : E → Type 0} → ((e : E) → P e → Q e) → IfErr r P → IfErr r Q
+on_err (Ok a) to p = tt
+on_err (Err e) to p = to e p
+
+pub across_count : (place end : ℕ) (from to : Row) (i : ℕ) (name other : List ℕ) (time : ℕ) → place ≢ end → move_blocks place end from to i name other time ≡ needed (from.tail % 4096) (name_entries Remove i name time) + needed (to.tail % 4096) (name_entries Add i other time)
+across_count place end from to i name other time differ =
+    let off : nat_eq place end ≡ false = grind (arith, nat_tests) in
+    ap (λ (b : Bool). cond b (needed (from.tail % 4096) (move_entries i name other time)) (needed (from.tail % 4096) (name_entries Remove i name time) + needed (to.tail % 4096) (name_entries Add i other time))) off
+
+pub within_count : (place end : ℕ) (from to : Row) (i : ℕ) (name other : List ℕ) (time : ℕ) → place ≡ end → move_blocks place end from to i name other time ≡ needed (from.tail % 4096) (move_entries i name other time)
+within_count place end from to i name other time same =
+    let on : nat_eq place end ≡ true = grind (arith, nat_tests) in
+    ap (λ (b : Bool). cond b (needed (from.tail % 4096) (move_entries i name other time)) (needed (from.tail % 4096) (name_entries Remove i name time) + needed (to.tail % 4096) (name_entries Add i other time))) on
+
+-- In one directory.
+pub moves_here : {R S : Region} {s : Super} {free after : FreeLists} (rows : List Row) {place end target time : ℕ} {name other : List ℕ} (row now moved : Row) → place ≡ end → slice_get rows end ≡ Some row → slice_get rows target ≡ Some moved → MovesWithin R S s free after row now moved.inode name other time
+    → MovesAt R S s free after rows (set rows end now) place target end name other time
+moves_here rows row now moved same at moved_at step = inl (
+  same,
+  record {
+    row = row;
+    now = now;
+    moved = moved;
+    at = ap (slice_get rows) same ∙ at;
+    moved_at = moved_at;
+    step = step;
+    put = ap (λ (k : ℕ). set rows k now) (sym same);
+  },
+)

@@ -1,0 +1,26 @@
+-- Why `rename` is refused.
+use Rattle.std.proofs.Common.{◌≡◌, ℕ, List, [], ◌∷◌, ◌++◌, append_assoc, ap, sym, ◌∙◌, Some, None}
+use Rattle.nv_tree.specs.declared.refusal.Refusal.{Refusal}
+use Rattle.nv_tree.specs.Tree.{Tree}
+use Rattle.nv_tree.specs.Refusals.{Path, Tests, World, first_refusal, has_no_space, is_bad_name, is_into_itself, is_missing, is_there, rename_tests, walk_tests, writing}
+use Rattle.nv_calls.specs.MoveCalls.{rename_spot_tests}
+use Rattle.nv_calls.proofs.Tests.{passed_before, refused_before}
+
+abbrev last_tests : Tree → Path → Path → Tests
+last_tests t p q = is_missing t p ∷ is_into_itself t p q ∷ is_there t q ∷ []
+
+abbrev front_tests : Tree → Path → Path → Tests
+front_tests t p q = is_bad_name p ∷ is_bad_name q ∷ walk_tests t p ++ walk_tests t q
+
+spot_first : (t : Tree) (p q : Path) (more : Tests) → front_tests t p q ++ (last_tests t p q ++ more) ≡ rename_spot_tests t p q ++ more
+spot_first t p q more = sym (append_assoc (front_tests t p q) (last_tests t p q) more)
+
+module _ (w : World) (t : Tree) (cpu : ℕ) (passed : (tests : Tests) → first_refusal (writing w cpu tests) ≡ first_refusal tests) (p q : Path) (needed : ℕ) where
+  all_tests : first_refusal (rename_tests w t cpu p q needed) ≡ first_refusal (rename_spot_tests t p q ++ has_no_space w needed ∷ [])
+  all_tests = passed (front_tests t p q ++ (last_tests t p q ++ has_no_space w needed ∷ [])) ∙ ap first_refusal (spot_first t p q (has_no_space w needed ∷ []))
+
+  pub rename_refuses : (e : Refusal) → first_refusal (rename_spot_tests t p q) ≡ Some e → first_refusal (rename_tests w t cpu p q needed) ≡ Some e
+  rename_refuses e h = all_tests ∙ refused_before (rename_spot_tests t p q) (has_no_space w needed ∷ []) e h
+
+  pub rename_allows : first_refusal (rename_spot_tests t p q) ≡ None → first_refusal (rename_tests w t cpu p q needed) ≡ first_refusal (has_no_space w needed ∷ [])
+  rename_allows h = all_tests ∙ passed_before (rename_spot_tests t p q) (has_no_space w needed ∷ []) h

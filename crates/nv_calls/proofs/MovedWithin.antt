@@ -1,0 +1,240 @@
+-- A name that became another in its directory: what is held, what is kept, the tree, and the log.
+use Rattle.std.proofs.Common.{◌≡◌, ◌≢◌, ℕ, ◌+◌, ◌-◌, ◌%◌, ◌/◌, ◌<◌, ◌≤◌, cond, inl, inr, nat_eq, Bool, true, false, List, [], ◌∷◌, ◌++◌, length, set, slice_get, take, ap, sym, ◌∙◌, subst, arith, refl, Option, Some, None, Result, Ok}
+use Rattle.std.specs.Cmp.Lexicographic.{pointwise}
+use Rattle.std.specs.List.{Contains}
+use Rattle.std.specs.Option.{option_and_then, option_map}
+use Rattle.std.proofs.Math.Logic.{∥∥₁_elim}
+use Rattle.std.proofs.Math.Nat.{ℕ_set}
+use Rattle.std.proofs.Props.{props}
+use Rattle.std.proofs.lemmas.Bool.{cases_eq}
+use Rattle.std.proofs.lemmas.Bool.Decides.{nat_tests}
+use Rattle.nv_region.specs.Region.{Region}
+use Rattle.nv_super.specs.declared.superblock.Super.{Super}
+use Rattle.nv_super.specs.declared.faults.Fault.{Fault}
+use Rattle.nv_super.specs.declared.kind.Kind.TheVariants.{Directory}
+use Rattle.nv_super.specs.Layout.{Layout, fixed_layout, slot_address}
+use Rattle.nv_super.proofs.Options.{some_is}
+use Rattle.nv_alloc.specs.FreeValue.{FreeLists}
+use Rattle.nv_entry.specs.declared.entry.Entry.{Entry}
+use Rattle.nv_entry.specs.declared.entry.Entry.TheVariants.{Name}
+use Rattle.nv_entry.specs.declared.entry.Operation.TheVariants.{Add, Remove}
+use Rattle.nv_logpage.specs.Append.{AreGiven, end_of, needed, place_of}
+use Rattle.nv_names.specs.Names.{name_at}
+use Rattle.nv_radix.specs.Pages.{block_at}
+use Rattle.nv_scan.specs.declared.numbers.Numbers.{Numbers}
+use Rattle.nv_scan.specs.declared.piece.Row.{Row}
+use Rattle.nv_held.specs.nv_graph.Graph.{IsOfKind, Node}
+use Rattle.nv_held.specs.nv_graph.Graph as graph
+use Rattle.nv_held.specs.Held.{Held, Store}
+use Rattle.nv_held.specs.Bytes.{byte_in}
+use Rattle.nv_held.specs.Graph.{graph_in, node_in, target_in}
+use Rattle.nv_held.specs.Mounted.{IsFaultless, IsMounted, KeepsRow, ShowsSound}
+use Rattle.nv_held.proofs.Fronts.{sound_moves}
+use Rattle.nv_held.proofs.Growing.{free_but, grown_owns}
+use Rattle.nv_held.specs.nv_named.Step.{IsGoodName}
+use Rattle.nv_commit.specs.Extends.{CanExtend, extended, with_log}
+use Rattle.nv_commit.proofs.Called.{moved_here_faultless}
+use Rattle.nv_tree.specs.Tree.{SameNode, SameTree, Tree, found, walk}
+use Rattle.nv_tree.specs.Tree as tree
+use Rattle.nv_tree.specs.Calls.{edit, renamed, with_name, without_name}
+use Rattle.nv_calls.specs.Grown.{ShowsGrownLog}
+use Rattle.nv_calls.specs.MoveCalls.{HasMoved, IsMoveSpot, MovesWithin, move_entries, move_place}
+use Rattle.nv_calls.specs.Mount.{IsKept}
+use Rattle.nv_calls.specs.NewNames.{IsNoneNamed}
+use Rattle.nv_calls.specs.Seen.{node_of, tree_of}
+use Rattle.nv_calls.specs.Steps.{LogFollows, ShowsRow}
+use Rattle.nv_calls.proofs.CreatedRows.{in_rows}
+use Rattle.nv_calls.proofs.GraphPaths.{graph_agrees, passed_there, walked_there, way_to}
+use Rattle.nv_calls.proofs.LinkedHeld.{absent_in, name_absent}
+use Rattle.nv_calls.proofs.LogGrows.{all_fresh, can_extend, count_held, extended_bytes, fresh_free, pages_now, pages_once}
+use Rattle.nv_calls.proofs.MovedAcross.{renamed_by}
+use Rattle.nv_calls.proofs.MovedEntries.{moved_file, moved_names, moved_numbers}
+use Rattle.nv_calls.proofs.Mounts.{mounted_with}
+use Rattle.nv_calls.proofs.NamesCounted.{one_less, one_more}
+use Rattle.nv_calls.proofs.OneRow.{stands}
+use Rattle.nv_calls.proofs.RowChange.{kept_after, log_grew, row_bytes, tree_after}
+use Rattle.nv_calls.proofs.TakenBlocks.{lists_without, taken_sup}
+
+module _ {R S : Region} {s : Super} {rows : List Row} {free after : FreeLists} {faults : List Fault} {read_only stopped : Bool} (kept : IsKept R s rows free faults read_only stopped) (runs : stopped ≡ false) (writes : read_only ≡ false)
+    {place target : ℕ} {name other : List ℕ} {time : ℕ} {row new : Row} (moved : Row) (at : slice_get rows place ≡ Some row) (moved_at : slice_get rows target ≡ Some moved) (step : MovesWithin R S s free after row new moved.inode name other time) (names : List (List ℕ)) (first : List ℕ) (rest : List (List ℕ))
+    (spot : IsMoveSpot (tree_of R rows) rows names (first ∷ rest) place name target place other) (good : IsGoodName s moved.inode name) (good_other : IsGoodName s moved.inode other) where
+  abbrev i : ℕ
+  i = moved.inode
+
+  abbrev l : Layout
+  l = fixed_layout s
+
+  abbrev entries : List Entry
+  entries = move_entries i name other time
+
+  abbrev fresh : List ℕ
+  fresh = step.fresh
+
+  is_directory : row.kind ≡ Directory
+  is_directory = let there = spot.from in (there.directory row at).1
+
+  walked : walk (tree_of R rows) 1 (first ∷ rest) ≡ Ok row.inode
+  walked = let free_name = spot.spot in let in_directory = free_name.directory in (in_directory.row row at).0
+
+  named : option_map (λ (x : ℕ × ℕ). x.0) (name_at row.names name) ≡ Some i
+  named = let there = spot.from in there.named row moved at moved_at
+
+  absent : IsNoneNamed rows row other
+  absent = let free_name = spot.spot in free_name.absent row at
+
+  given : AreGiven entries
+  given = (refl, (refl, tt))
+
+  module _ (held : Store) (h : Held) (shows : ShowsRow R s held h row free) where
+    of_kind : h.kind ≡ Directory
+    of_kind = let told = shows.told in sym told.kind ∙ is_directory
+
+    abbrev removal_place : ℕ
+    removal_place = place_of fresh 0 h.tail (Name (record { operation = Remove; inode = i; time = time; name = name }))
+
+    abbrev addition_place : ℕ
+    addition_place = move_place fresh h.tail i name other time
+
+    abbrev end : ℕ
+    end = end_of fresh 0 h.tail entries
+
+    abbrev pages : List ℕ
+    pages = take (needed (h.tail % 4096) entries) fresh
+
+    can : CanExtend R s held row.inode h (slot_address s row.inode) row.tail entries fresh
+    can = can_extend entries shows kept.lists step.taken step.count given (omega arith)
+
+    is_named : (graph_in l held).name row.inode name ≡ Some i
+    is_named =
+        let told = shows.told in
+        ap (λ (o : Option Held). option_and_then (target_in l name) o) shows.holds ∙ ap (λ (o : Option (ℕ × ℕ)). option_map (λ (y : ℕ × ℕ). y.0) o) (sym (told.names name)) ∙ named
+
+    known : ∥ (IsMounted R s held rows free.pools) ∥₁
+    known = mounted_with kept runs held shows.sound
+
+    leads : graph.walked (graph_in l held) 1 (way_to (first ∷ rest)) ≡ Some row.inode
+    leads = ∥∥₁_elim known (hlevel (props, ℕ_set)) (λ m. walked_there (graph_in l held) (tree_of R rows) (graph_agrees m) 1 row.inode first rest walked)
+
+    not_there : (graph_in l held).name row.inode other ≡ None
+    not_there = ∥∥₁_elim known (hlevel (props, ℕ_set)) (λ m. absent_in {free = free} other m shows (stands rows place row at) absent)
+
+    outside : IsOfKind (graph_in l held) i Directory → Contains (graph.passed (graph_in l held) 1 (way_to (first ∷ rest))) i → ⊥
+    outside of_node c = ∥∥₁_elim known (hlevel (props, ℕ_set)) (λ m.
+        let w = (in_rows m).each moved (stands rows target moved moved_at) in
+        let told = w.2 in
+        let same : node_in l w.0 ≡ of_node.0 = some_is (node_in l w.0) of_node.0 (option_map (node_in l) (held i)) (ap (λ (o : Option Held). option_map (node_in l) o) w.1) of_node.1 in
+        spot.apart moved moved_at (told.kind ∙ ap (λ (n : Node). n.kind) same ∙ of_node.2)
+        (subst (λ (xs : List ℕ). Contains xs i) (passed_there (graph_in l held) (tree_of R rows) (graph_agrees m) 1 first rest) c))
+
+    faultless : IsFaultless l (with_log held row.inode h entries fresh)
+    faultless =
+        let sound = shows.sound in
+        let right = sound.faultless in
+        moved_here_faultless l held right row.inode h shows.holds of_kind i name good removal_place time end pages row.inode other good_other (way_to (first ∷ rest)) is_named leads not_there outside refl addition_place
+        (grown_owns l held row.inode h (extended h entries fresh) shows.holds fresh (pages_now entries shows kept.lists step.taken step.count given (omega arith)) (fresh_free entries shows kept.lists step.taken step.count given (omega arith))
+        (moved_file l h of_kind i name other good good_other removal_place addition_place time end pages) right.undoubled (pages_once {S = S} can (step.moved held h can)))
+
+    -- The row is of its log.
+    told_now : KeepsRow l (extended h entries fresh) new
+    told_now =
+        let told = shows.told in
+        let has = step.row in
+        record {
+          kind = has.kind ∙ told.kind;
+          numbers = moved_numbers l h of_kind i name other good good_other removal_place addition_place time end pages row.numbers new.numbers told.numbers has.numbers;
+          head = has.head ∙ told.head;
+          tail = has.tail ∙ ap (λ (t : ℕ). end_of fresh 0 t entries) told.tail;
+          pages = has.pages ∙ ap (λ (ps : List ℕ). ps ++ fresh) told.pages ∙ sym (pages_now entries shows kept.lists step.taken step.count given (omega arith));
+          index = λ p. has.index p ∙ told.index p ∙ sym (moved_file l h of_kind i name other good good_other removal_place addition_place time end pages p);
+          names = λ q. has.names q ∙ ap (λ (t : ℕ). cond (pointwise nat_eq q other) (Some (i, move_place fresh t i name other time)) (name_at has.between q)) told.tail
+              ∙ ap (λ (o : Option (ℕ × ℕ)). cond (pointwise nat_eq q other) (Some (i, addition_place)) o) (has.lost q ∙ ap (λ (o : Option (ℕ × ℕ)). cond (pointwise nat_eq q name) None o) (told.names q))
+              ∙ sym (moved_names l h of_kind i name other good good_other removal_place addition_place time end pages q);
+        }
+
+    -- The log has grown by both entries.
+    follows : LogFollows R S s held h entries row new after
+    follows =
+        let shown = step.moved held h can in
+        let has = step.row in
+        record {
+          fresh = fresh;
+          blocks = fresh_free entries shows kept.lists step.taken step.count given (omega arith);
+          count = count_held entries shows kept.lists step.taken step.count given (omega arith);
+          sound = sound_moves R S s held (with_log held row.inode h entries fresh) shows.sound shown.front shown.shows faultless;
+          told = told_now;
+          inode = has.inode;
+          lists = lists_without step.taken l held shows.lists kept.lists (with_log held row.inode h entries fresh)
+              (free_but l held row.inode h (extended h entries fresh) shows.holds fresh (pages_now entries shows kept.lists step.taken step.count given (omega arith)) (fresh_free entries shows kept.lists step.taken step.count given (omega arith))
+              (moved_file l h of_kind i name other good good_other removal_place addition_place time end pages));
+          bytes = extended_bytes can step.mixed;
+        }
+
+  -- What is kept.
+  pub within_kept : (now : Bool) → IsKept S s (set rows place new) after faults read_only now
+  within_kept = kept_after kept runs writes place row new at entries follows (taken_sup step.taken)
+
+  -- The log, for whatever is held of the region.
+  pub within_log : (held : Store) (h : Held) → ShowsSound R s held → held row.inode ≡ Some h → ShowsGrownLog S s held row.inode h entries
+  within_log = log_grew kept runs writes place row new at entries follows
+
+  bytes : (r : Row) → Contains rows r → (x : ℕ) → byte_in S (block_at r.index (x / 4096)) x ≡ byte_in R (block_at r.index (x / 4096)) x
+  bytes = row_bytes kept runs writes place row new at entries follows
+
+  first_of : (b : Bool) (x : ℕ × ℕ) (o : Option (ℕ × ℕ)) → option_map (λ (y : ℕ × ℕ). y.0) (cond b (Some x) o) ≡ cond b (Some x.0) (option_map (λ (y : ℕ × ℕ). y.0) o)
+  first_of true x o = refl
+  first_of false x o = refl
+
+  none_of : (b : Bool) (o : Option (ℕ × ℕ)) → option_map (λ (y : ℕ × ℕ). y.0) (cond b None o) ≡ cond b None (option_map (λ (y : ℕ × ℕ). y.0) o)
+  none_of true o = refl
+  none_of false o = refl
+
+  either_none : (b : Bool) (o : Option (ℕ × ℕ)) → o ≡ None → cond b None o ≡ None
+  either_none true o e = refl
+  either_none false o e = e
+
+  -- The directory shows the other name in place of the name.
+  moved_node : SameNode (node_of S new) (with_name other i time (without_name name time (node_of R row)))
+  moved_node =
+      let has = step.row in
+      let less = one_less row.names has.between name i has.once has.once_between named has.lost in
+      let gone : name_at has.between other ≡ None = has.lost other ∙ either_none (pointwise nat_eq other name) (name_at row.names other) (name_absent kept runs writes row (stands rows place row at) other absent) in
+      let more = one_more has.between new.names other (i, _) has.once_between has.once_now gone has.names in
+      record {
+        kind = has.kind;
+        mode = ap (λ (n : Numbers). n.mode) has.numbers;
+        owner = ap (λ (n : Numbers). n.owner) has.numbers;
+        group = ap (λ (n : Numbers). n.group) has.numbers;
+        size = ap (λ (n : Numbers). n.size) has.numbers;
+        links = ap (λ (n : Numbers). n.links) has.numbers;
+        time = ap (λ (n : Numbers). n.time) has.numbers;
+        count = more ∙ ap (λ (n : ℕ). n + 1) less;
+        names = λ q. ap (λ (o : Option (ℕ × ℕ)). option_map (λ (y : ℕ × ℕ). y.0) o) (has.names q) ∙ first_of (pointwise nat_eq q other) (i, _) (name_at has.between q)
+            ∙ ap (λ (o : Option ℕ). cond (pointwise nat_eq q other) (Some i) o) (ap (λ (o : Option (ℕ × ℕ)). option_map (λ (y : ℕ × ℕ). y.0) o) (has.lost q) ∙ none_of (pointwise nat_eq q name) (name_at row.names q));
+        bytes = λ x below. ap (λ (o : Option ℕ). byte_in S o x) (has.index (x / 4096)) ∙ bytes row (stands rows place row at) x;
+      }
+
+  -- one inode changed twice
+  edit_twice : (t : Tree) (d : ℕ) (f g : tree.Node → tree.Node) (j : ℕ) → edit d (λ n. f (g n)) t j ≡ edit d f (edit d g t) j
+  edit_twice t d f g j = elim (cases_eq j d) [
+    | inl same ↦ (
+        let on : nat_eq j d ≡ true = grind (arith, nat_tests) in
+        let own : nat_eq d d ≡ true = grind (arith, nat_tests) in
+        ap (λ (b : Bool). cond b (option_map (λ n. f (g n)) (t d)) (t j)) on ∙ twice (t d) ∙ sym (ap (λ (b : Bool). cond b (option_map f (cond (nat_eq d d) (option_map g (t d)) (t d))) (cond (nat_eq j d) (option_map g (t d)) (t j))) on ∙ ap (λ (b : Bool). option_map f (cond b (option_map g (t d)) (t d))) own))
+    | inr apart ↦ (
+        let off : nat_eq j d ≡ false = grind (arith, nat_tests) in
+        ap (λ (b : Bool). cond b (option_map (λ n. f (g n)) (t d)) (t j)) off ∙ sym (ap (λ (b : Bool). cond b (option_map f (cond (nat_eq d d) (option_map g (t d)) (t d))) (cond b (option_map g (t d)) (t j))) off))
+  ] where
+    twice : (o : Option tree.Node) → option_map (λ n. f (g n)) o ≡ option_map f (option_map g o)
+    twice None = refl
+    twice (Some n) = refl
+
+  -- The tree is what the call makes of that of before.
+  pub within_tree : tree.SameTree (tree_of S (set rows place new)) (renamed names (first ∷ rest) time (tree_of R rows))
+  within_tree =
+      let has = step.row in
+      let there = spot.from in
+      let free_name = spot.spot in
+      let in_directory = free_name.directory in
+      let same = tree_after kept runs writes place row new at entries follows (λ n. with_name other i time (without_name name time n)) has.inode moved_node in
+      let made = renamed_by names (first ∷ rest) time (tree_of R rows) i row.inode row.inode name other (there.leads moved moved_at) (there.directory row at).0 walked there.name_is in_directory.name_is in
+      subst (λ (t : Tree). SameTree (tree_of S (set rows place new)) t) (sym made) (λ j. subst (λ (o : Option tree.Node). tree.SameNodes (tree_of S (set rows place new) j) o) (edit_twice (tree_of R rows) row.inode (with_name other i time) (without_name name time) j) (same j))

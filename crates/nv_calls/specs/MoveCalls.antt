@@ -1,0 +1,124 @@
+-- What `rename` is about, what it writes, and what it makes of the rows.
+use Rattle.std.specs.Prelude.{◌≡◌, ◌≢◌, ◌⊎◌, ℕ, ◌+◌, ◌%◌, nat_eq, Bool, false, if◌then◌else◌, List, [], ◌∷◌, ◌++◌, length, set, slice_get, Some, None, Result, Ok, Err}
+use Rattle.std.specs.Cmp.Lexicographic.{pointwise}
+use Rattle.std.specs.List.{Contains}
+use Rattle.nv_region.specs.Region.{Region}
+use Rattle.nv_region.specs.Stops.{IsMixed}
+use Rattle.nv_super.specs.declared.superblock.Super.{Super}
+use Rattle.nv_super.specs.Layout.{slot_address}
+use Rattle.nv_super.specs.declared.kind.Kind.TheVariants.{Directory}
+use Rattle.nv_alloc.specs.FreeValue.{FreeLists}
+use Rattle.nv_entry.specs.declared.entry.Operation.TheVariants.{Add, Remove}
+use Rattle.nv_entry.specs.declared.entry.Entry.{Entry}
+use Rattle.nv_entry.specs.declared.entry.Entry.TheVariants.{Name}
+use Rattle.nv_entry.specs.Spelling.{entry_length}
+use Rattle.nv_logpage.specs.Append.{end_of, needed, pages_after, place_of}
+use Rattle.nv_names.specs.Names.{EachOnce, Names, name_at}
+use Rattle.nv_radix.specs.Pages.{block_at}
+use Rattle.nv_scan.specs.declared.piece.Row.{Row}
+use Rattle.nv_held.specs.Held.{Held, Store}
+use Rattle.nv_commit.specs.Extends.{CanExtend, ExtendWords, ShowsMoved, with_log}
+use Rattle.nv_tree.specs.declared.refusal.Refusal.{Refusal}
+use Rattle.nv_tree.specs.Path.{last_name}
+use Rattle.nv_tree.specs.Tree.{Tree, passed, walk}
+use Rattle.nv_tree.specs.Refusals.{Path, Tests, is_bad_name, is_into_itself, is_missing, is_there, walk_tests}
+use Rattle.nv_calls.specs.MoreNames.{GetsName, GrowsTwo}
+use Rattle.nv_calls.specs.NameCalls.{ended_row, name_blocks, name_entries, row_blocks}
+use Rattle.nv_calls.specs.NamedAt.{IsNamedAt}
+use Rattle.nv_calls.specs.Places.{IsFreeName}
+use Rattle.nv_calls.specs.Taken.{TakesEach}
+use Rattle.nv_calls.specs.Unlinks.{LosesName}
+
+-- ---- entries
+
+-- the entries of an inode that gets another name in its directory
+abbrev pub move_entries : ℕ → List ℕ → List ℕ → ℕ → List Entry
+move_entries i name other time = Name (record { operation = Remove; inode = i; time = time; name = name }) ∷ Name (record { operation = Add; inode = i; time = time; name = other }) ∷ []
+
+-- ---- blocks
+
+-- two walks end in the same directory
+abbrev pub end_together : Result ℕ Refusal → Result ℕ Refusal → Bool
+end_together (Ok d) (Ok e) = nat_eq d e
+end_together (Ok d) (Err r) = false
+end_together (Err r) (Ok e) = false
+end_together (Err r) (Err o) = false
+
+-- `rename` takes those of one log for both entries, or those of each of two directories for its own
+abbrev pub rename_blocks : List Row → Tree → Path → Path → ℕ
+rename_blocks rows t None q = 0
+rename_blocks rows t (Some names) None = 0
+rename_blocks rows t (Some names) (Some others) = if end_together (walk t 1 names) (walk t 1 others) then row_blocks (ended_row rows (walk t 1 names)) (move_entries 0 (last_name names) (last_name others) 0) else name_blocks rows t (Some names) + name_blocks rows t (Some others)
+
+-- ---- what it is about
+
+-- the tests of `rename` between those of every writing call and that for space
+abbrev pub rename_spot_tests : Tree → Path → Path → Tests
+rename_spot_tests t p q = is_bad_name p ∷ is_bad_name q ∷ walk_tests t p ++ walk_tests t q ++ is_missing t p ∷ is_into_itself t p q ∷ is_there t q ∷ []
+
+-- The first path's name stands for the inode whose row is at a place, the second ends in a free name, and the way to that
+-- doesn't pass the inode where it is a directory.
+pub record IsMoveSpot (t : Tree) (rows : List Row) (names others : List (List ℕ)) (place : ℕ) (name : List ℕ) (target end : ℕ) (other : List ℕ) : Type 0 where
+  pub from : IsNamedAt t rows names place name target
+  pub spot : IsFreeName t rows others end other
+  pub apart : (row : Row) → slice_get rows target ≡ Some row → row.kind ≡ Directory → Contains (passed t 1 others) row.inode → ⊥
+
+-- ---- rows
+
+-- The first directory's row has a name less, and another's has one more for the same inode.
+pub record MovesAcross (R S : Region) (s : Super) (free after : FreeLists) (rows news : List Row) (place target end : ℕ) (name other : List ℕ) (time : ℕ) : Type 0 where
+  pub from : Row
+  pub to : Row
+  pub moved : Row
+  pub moved_at : slice_get rows target ≡ Some moved
+  pub step : GrowsTwo R S s free after rows news place from (name_entries Remove moved.inode name time) end to (name_entries Add moved.inode other time) (λ fresh now. LosesName from name moved.inode time fresh now) (λ more now. GetsName to other moved.inode time more now)
+
+-- where the second of these entries goes
+abbrev pub move_place : List ℕ → ℕ → ℕ → List ℕ → List ℕ → ℕ → ℕ
+move_place fresh tail i name other time =
+    let removal = Name (record { operation = Remove; inode = i; time = time; name = name }) in
+    place_of fresh (pages_after 0 tail removal) (place_of fresh 0 tail removal + entry_length removal) (Name (record { operation = Add; inode = i; time = time; name = other }))
+
+-- The row has another name for an inode in place of one, and a time; its log goes on over these pages up to a new tail. Between
+-- them the index has neither.
+pub record HasMoved (old : Row) (fresh : List ℕ) (end : ℕ) (name other : List ℕ) (i spot time : ℕ) (new : Row) : Type 0 where
+  pub inode : new.inode ≡ old.inode
+  pub kind : new.kind ≡ old.kind
+  pub numbers : new.numbers ≡ record old.numbers { time = time }
+  pub head : new.head ≡ old.head
+  pub tail : new.tail ≡ end
+  pub pages : new.pages.items ≡ old.pages.items ++ fresh
+  pub index : (p : ℕ) → block_at new.index p ≡ block_at old.index p
+  pub between : Names
+  pub lost : (q : List ℕ) → name_at between q ≡ (if pointwise nat_eq q name then None else name_at old.names q)
+  pub names : (q : List ℕ) → name_at new.names q ≡ (if pointwise nat_eq q other then Some (i, spot) else name_at between q)
+  pub once : EachOnce old.names
+  pub once_between : EachOnce between
+  pub once_now : EachOnce new.names
+
+-- Both entries were written behind the log of a directory's row, over blocks that were taken for them one by one.
+pub record MovesWithin (R S : Region) (s : Super) (free after : FreeLists) (old new : Row) (i : ℕ) (name other : List ℕ) (time : ℕ) : Type 0 where
+  pub fresh : List ℕ
+  pub taken : TakesEach free fresh after
+  pub count : length fresh ≡ needed (old.tail % 4096) (move_entries i name other time)
+  pub row : HasMoved old fresh (end_of fresh 0 old.tail (move_entries i name other time)) name other i (move_place fresh old.tail i name other time) time new
+  pub moved : (held : Store) (h : Held) → CanExtend R s held old.inode h (slot_address s old.inode) old.tail (move_entries i name other time) fresh → ShowsMoved R s (with_log held old.inode h (move_entries i name other time) fresh) S
+  pub mixed : IsMixed R (ExtendWords (slot_address s old.inode) old.tail (move_entries i name other time) fresh) S
+
+-- That was done in the directory whose row is at this place.
+pub record MovesHere (R S : Region) (s : Super) (free after : FreeLists) (rows news : List Row) (place target : ℕ) (name other : List ℕ) (time : ℕ) : Type 0 where
+  pub row : Row
+  pub now : Row
+  pub moved : Row
+  pub at : slice_get rows place ≡ Some row
+  pub moved_at : slice_get rows target ≡ Some moved
+  pub step : MovesWithin R S s free after row now moved.inode name other time
+  pub put : news ≡ set rows place now
+
+-- within one directory, or from one to another
+abbrev pub MovesAt : Region → Region → Super → FreeLists → FreeLists → List Row → List Row → ℕ → ℕ → ℕ → List ℕ → List ℕ → ℕ → Type 0
+MovesAt R S s free after rows news place target end name other time = ((place ≡ end) × MovesHere R S s free after rows news place target name other time) ⊎ ((place ≢ end) × MovesAcross R S s free after rows news place target end name other time)
+
+-- how many blocks are needed by a directory's row, and another's, for an inode's other name
+abbrev pub move_blocks : ℕ → ℕ → Row → Row → ℕ → List ℕ → List ℕ → ℕ → ℕ
+move_blocks place end from to i name other time = if nat_eq place end then needed (from.tail % 4096) (move_entries i name other time) else needed (from.tail % 4096) (name_entries Remove i name time) + needed (to.tail % 4096) (name_entries Add i other time)
