@@ -42,6 +42,13 @@ unused_number_of rows i none some =
     let test : nat_eq i 0 ≡ false = grind (arith, nat_tests) in
     ap (λ (b : Bool). not b && is_none (row_of rows i)) test ∙ ap (λ (o : Option Row). not false && is_none o) (sym none)
 
+-- where there is no CPU, the only number is 0
+pub used_without : (rows : List Row) (cpus cpu k : ℕ) → cpus ≡ 0 → cpu ≤ cpus → is_unused rows (k * cpus + cpu) ≡ false
+used_without rows cpus cpu k none le =
+    let product : k * cpus ≡ k * 0 = ap (λ (n : ℕ). k * n) none in
+    let zero_is : k * cpus + cpu ≡ 0 = omega (arith, product, none, le) in
+    ap (is_unused rows) zero_is
+
 -- a number with a row is used
 pub used_number : (rows : List Row) (i : ℕ) (r : Row) → row_of rows i ≡ Some r → is_unused rows i ≡ false
 used_number rows i r is = ap (λ (o : Option Row). not (nat_eq i 0) && is_none o) is ∙ never (not (nat_eq i 0)) where

@@ -1,5 +1,5 @@
 -- The choice between one directory and two.
-use Rattle.std.proofs.Common.{◌≡◌, ◌≢◌, ℕ, ◌+◌, ◌%◌, cond, nat_eq, Bool, true, false, List, set, slice_get, refl, ap, sym, ◌∙◌, subst, arith, inl, Some, Result, Ok, Err, IfErr, OnOk}
+use Rattle.std.proofs.Common.{◌≡◌, ◌≢◌, ℕ, ◌+◌, ◌%◌, cond, nat_eq, Bool, true, false, List, set, slice_get, ap, sym, ◌∙◌, arith, inl, Some, Result, Ok, Err, IfErr, OnOk}
 use Rattle.std.proofs.lemmas.Bool.Decides.{nat_tests}
 use Rattle.nv_region.specs.Region.{Region}
 use Rattle.nv_super.specs.declared.superblock.Super.{Super}

@@ -1,5 +1,5 @@
 -- What `rename` answers, and what it leaves.
-use Rattle.std.proofs.Common.{◌≡◌, ◌≢◌, ℕ, ◌+◌, ◌%◌, ◌<◌, ◌≤◌, ◌⊎◌, cond, inl, inr, nat_eq, Bool, true, false, List, [], ◌∷◌, get_or, length, set, slice_get, ap, sym, ◌∙◌, subst, arith, refl, Option, Some, None, Result, Ok}
+use Rattle.std.proofs.Common.{◌≡◌, ◌≢◌, ℕ, ◌+◌, ◌%◌, ◌≤◌, ◌⊎◌, cond, inl, inr, nat_eq, Bool, true, false, List, [], ◌∷◌, slice_get, ap, sym, ◌∙◌, subst, arith, refl, Option, Some, None, Ok}
 use Rattle.std.proofs.lemmas.Bool.Decides.{nat_tests}
 use Rattle.std.proofs.lemmas.Option.{get_or_from_slice_get, slice_get_within}
 use Rattle.nv_region.specs.Region.{Region}
@@ -25,9 +25,9 @@ use Rattle.nv_tree.specs.Calls.{renamed}
 use Rattle.nv_tree.specs.Refusals.{Path, Tests, first_refusal, has_no_space, rename_tests, writing}
 use Rattle.nv_calls.specs.Grown.{ShowsGrownLog}
 use Rattle.nv_calls.specs.LinkCalls.{ShowsBothGrew}
-use Rattle.nv_calls.specs.MoveCalls.{IsMoveSpot, MovesAcross, MovesAt, MovesHere, end_together, move_blocks, move_entries, rename_blocks, rename_spot_tests}
+use Rattle.nv_calls.specs.MoveCalls.{IsMoveSpot, MovesAcross, MovesAt, end_together, move_blocks, move_entries, rename_blocks, rename_spot_tests}
 use Rattle.nv_calls.specs.Mount.{IsKept, Mount}
-use Rattle.nv_calls.specs.NameCalls.{ended_row, name_blocks, name_entries, row_blocks}
+use Rattle.nv_calls.specs.NameCalls.{ended_row, name_entries, row_blocks}
 use Rattle.nv_calls.specs.Seen.{LeadsTo, tree_of}
 use Rattle.nv_calls.specs.Steps.{RefusesStep}
 use Rattle.nv_calls.specs.World.{world_of}

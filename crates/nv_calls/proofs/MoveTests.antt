@@ -1,5 +1,5 @@
 -- Why `rename` is refused.
-use Rattle.std.proofs.Common.{◌≡◌, ℕ, List, [], ◌∷◌, ◌++◌, append_assoc, ap, sym, ◌∙◌, Some, None}
+use Rattle.std.proofs.Common.{◌≡◌, ℕ, [], ◌∷◌, ◌++◌, append_assoc, ap, sym, ◌∙◌, Some, None}
 use Rattle.nv_tree.specs.declared.refusal.Refusal.{Refusal}
 use Rattle.nv_tree.specs.Tree.{Tree}
 use Rattle.nv_tree.specs.Refusals.{Path, Tests, World, first_refusal, has_no_space, is_bad_name, is_into_itself, is_missing, is_there, rename_tests, walk_tests, writing}

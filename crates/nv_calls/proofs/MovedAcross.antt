@@ -1,5 +1,5 @@
 -- A name that went from one directory to another: what is kept, the tree, and the logs.
-use Rattle.std.proofs.Common.{◌≡◌, ◌≢◌, ℕ, ◌%◌, ◌/◌, ◌≤◌, cond, nat_eq, Bool, false, List, ◌∷◌, ◌++◌, length, slice_get, take, take_all, ap, sym, ◌∙◌, subst, arith, Option, Some, None, Result, Ok}
+use Rattle.std.proofs.Common.{◌≡◌, ◌≢◌, ℕ, ◌%◌, ◌/◌, cond, nat_eq, Bool, false, List, ◌∷◌, ◌++◌, length, slice_get, take, take_all, ap, sym, ◌∙◌, subst, arith, Option, Some, None, Result, Ok}
 use Rattle.std.specs.Cmp.Lexicographic.{pointwise}
 use Rattle.std.specs.List.{Contains}
 use Rattle.std.specs.Option.{option_and_then, option_map}
@@ -8,7 +8,6 @@ use Rattle.nv_super.specs.declared.superblock.Super.{Super}
 use Rattle.nv_super.specs.declared.faults.Fault.{Fault}
 use Rattle.nv_super.specs.declared.kind.Kind.TheVariants.{Directory}
 use Rattle.nv_super.specs.Layout.{Layout, fixed_layout}
-use Rattle.nv_super.specs.Order.{Rises}
 use Rattle.nv_super.proofs.Options.{some_is}
 use Rattle.nv_alloc.specs.FreeValue.{FreeLists}
 use Rattle.nv_entry.specs.declared.entry.Entry.{Entry}
@@ -18,7 +17,6 @@ use Rattle.nv_logpage.specs.Append.{end_of, needed, place_of}
 use Rattle.nv_names.specs.Names.{name_at}
 use Rattle.nv_radix.specs.Pages.{block_at}
 use Rattle.nv_scan.specs.declared.piece.Row.{Row}
-use Rattle.nv_held.specs.nv_check.Cross.{row_key}
 use Rattle.nv_held.specs.nv_graph.Graph.{IsOfKind, Node}
 use Rattle.nv_held.specs.nv_graph.Graph as graph
 use Rattle.nv_held.specs.Held.{Held, Store}

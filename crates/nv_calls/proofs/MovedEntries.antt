@@ -1,5 +1,5 @@
 -- The removal of a name and another name for the same inode, both behind one directory's log: what they make of a row.
-use Rattle.std.proofs.Common.{◌≡◌, ℕ, cond, nat_eq, List, [], ◌∷◌, ◌++◌, append_assoc, refl, ap, sym, ◌∙◌, subst, Option, Some, None}
+use Rattle.std.proofs.Common.{◌≡◌, ℕ, cond, nat_eq, List, [], ◌∷◌, append_assoc, refl, ap, sym, ◌∙◌, subst, Option, Some, None}
 use Rattle.std.specs.Cmp.Lexicographic.{pointwise}
 use Rattle.std.proofs.lemmas.List.Elements.{All-cons, All-nil}
 use Rattle.nv_super.specs.declared.kind.Kind.TheVariants.{Directory}

@@ -1,5 +1,5 @@
 -- A name that became another in its directory, once its log has grown and its row is settled.
-use Rattle.std.proofs.Common.{◌≡◌, ℕ, ◌+◌, ◌-◌, ◌/◌, ◌%◌, ◌<◌, ◌≤◌, cond, nat_eq, List, ◌++◌, length, ap, sym, ◌∙◌, subst, arith, Some, None}
+use Rattle.std.proofs.Common.{◌≡◌, ℕ, ◌+◌, ◌-◌, ◌/◌, ◌%◌, ◌≤◌, cond, nat_eq, List, ◌++◌, ap, sym, ◌∙◌, subst, arith, Some, None}
 use Rattle.std.specs.Cmp.Lexicographic.{pointwise}
 use Rattle.nv_region.specs.Region.{Region, size}
 use Rattle.nv_region.specs.Stops.{IsMixed}
@@ -20,7 +20,7 @@ use Rattle.nv_scan.specs.declared.piece.Row.{Row}
 use Rattle.nv_commit.specs.Extends.{CanExtend, ExtendWords, ShowsMoved, with_log}
 use Rattle.nv_calls.specs.Grown.{StandsRight}
 use Rattle.nv_calls.specs.MoreNames.{AddsName}
-use Rattle.nv_calls.specs.MoveCalls.{HasMoved, MovesWithin, move_entries, move_place}
+use Rattle.nv_calls.specs.MoveCalls.{MovesWithin, move_entries, move_place}
 use Rattle.nv_calls.specs.Steps.{AppendsLog, LeavesStep}
 use Rattle.nv_calls.specs.Unlinks.{DropsName}
 

@@ -1,5 +1,5 @@
 -- A name that became another in its directory: what is held, what is kept, the tree, and the log.
-use Rattle.std.proofs.Common.{◌≡◌, ◌≢◌, ℕ, ◌+◌, ◌-◌, ◌%◌, ◌/◌, ◌<◌, ◌≤◌, cond, inl, inr, nat_eq, Bool, true, false, List, [], ◌∷◌, ◌++◌, length, set, slice_get, take, ap, sym, ◌∙◌, subst, arith, refl, Option, Some, None, Result, Ok}
+use Rattle.std.proofs.Common.{◌≡◌, ℕ, ◌+◌, ◌%◌, ◌/◌, cond, inl, inr, nat_eq, Bool, true, false, List, ◌∷◌, ◌++◌, set, slice_get, take, ap, sym, ◌∙◌, subst, arith, refl, Option, Some, None, Ok}
 use Rattle.std.specs.Cmp.Lexicographic.{pointwise}
 use Rattle.std.specs.List.{Contains}
 use Rattle.std.specs.Option.{option_and_then, option_map}
@@ -17,7 +17,7 @@ use Rattle.nv_super.proofs.Options.{some_is}
 use Rattle.nv_alloc.specs.FreeValue.{FreeLists}
 use Rattle.nv_entry.specs.declared.entry.Entry.{Entry}
 use Rattle.nv_entry.specs.declared.entry.Entry.TheVariants.{Name}
-use Rattle.nv_entry.specs.declared.entry.Operation.TheVariants.{Add, Remove}
+use Rattle.nv_entry.specs.declared.entry.Operation.TheVariants.{Remove}
 use Rattle.nv_logpage.specs.Append.{AreGiven, end_of, needed, place_of}
 use Rattle.nv_names.specs.Names.{name_at}
 use Rattle.nv_radix.specs.Pages.{block_at}
@@ -38,7 +38,7 @@ use Rattle.nv_tree.specs.Tree.{SameNode, SameTree, Tree, found, walk}
 use Rattle.nv_tree.specs.Tree as tree
 use Rattle.nv_tree.specs.Calls.{edit, renamed, with_name, without_name}
 use Rattle.nv_calls.specs.Grown.{ShowsGrownLog}
-use Rattle.nv_calls.specs.MoveCalls.{HasMoved, IsMoveSpot, MovesWithin, move_entries, move_place}
+use Rattle.nv_calls.specs.MoveCalls.{IsMoveSpot, MovesWithin, move_entries, move_place}
 use Rattle.nv_calls.specs.Mount.{IsKept}
 use Rattle.nv_calls.specs.NewNames.{IsNoneNamed}
 use Rattle.nv_calls.specs.Seen.{node_of, tree_of}
@@ -46,7 +46,7 @@ use Rattle.nv_calls.specs.Steps.{LogFollows, ShowsRow}
 use Rattle.nv_calls.proofs.CreatedRows.{in_rows}
 use Rattle.nv_calls.proofs.GraphPaths.{graph_agrees, passed_there, walked_there, way_to}
 use Rattle.nv_calls.proofs.LinkedHeld.{absent_in, name_absent}
-use Rattle.nv_calls.proofs.LogGrows.{all_fresh, can_extend, count_held, extended_bytes, fresh_free, pages_now, pages_once}
+use Rattle.nv_calls.proofs.LogGrows.{can_extend, count_held, extended_bytes, fresh_free, pages_now, pages_once}
 use Rattle.nv_calls.proofs.MovedAcross.{renamed_by}
 use Rattle.nv_calls.proofs.MovedEntries.{moved_file, moved_names, moved_numbers}
 use Rattle.nv_calls.proofs.Mounts.{mounted_with}

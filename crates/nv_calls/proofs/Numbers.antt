@@ -32,6 +32,10 @@ module _ (p : ℕ → Bool) (f : ℕ → ℕ) (n : ℕ) where
   pub none_left : (k : ℕ) → n ≤ k → ((j : ℕ) → j < k → p (f j) ≡ false) → find p (map f (range_with_len 0 n)) ≡ None
   none_left k past none = from_behind k none ∙ none_at k past
 
+-- where no number passes, none is found
+pub none_passes : (p : ℕ → Bool) (f : ℕ → ℕ) (n : ℕ) → ((j : ℕ) → p (f j) ≡ false) → find p (map f (range_with_len 0 n)) ≡ None
+none_passes p f n none = none_left p f n n (omega arith) (λ j below. none j)
+
 -- ---- the slots of a CPU
 
 -- the slots up to that of a number

@@ -17,9 +17,13 @@ use nv_super::Super;
 pub(crate) fn unused_number(rows: &[Row], sup: &Super, cpu: u64) -> Option<u64>
     requires rising { Rises row_key rows.now }
     requires areas { HasAreas sup.now }
-    requires cpu { cpu < sup.now.cpus }
+    requires cpu { cpu ≤ sup.now.cpus }
     ensures { result ≡ unused_number sup.now rows.now cpu }
 {
+    // Without a CPU there is no number but 0.
+    if sup.cpus == 0 {
+        return None;
+    }
     let slots = SLOTS * sup.table_blocks;
     // Number 0 is no inode's.
     let mut slot = if cpu == 0 { 1 } else { 0 };

@@ -3,7 +3,6 @@ use Rattle.nv_alloc.specs.Taking.{all_blocks}
 use Rattle.nv_logpage.specs.Append.{needed}
 use Rattle.nv_scan.specs.declared.piece.Row.{Row}
 use Rattle.nv_tree.specs.declared.refusal.Refusal.{Refusal}
-use Rattle.nv_calls.specs.Grown.{StandsRight}
 use Rattle.nv_calls.specs.MoveCalls.{move_entries}
 use Rattle.nv_calls.specs.Steps.{RefusesStep}
 use Rattle.nv_calls.proofs.MoveAt.{across_count, moves_here, on_err, on_ok, within_count}
