@@ -4,7 +4,8 @@
 usage: tests/fuzz.py PROGRAM MINUTES [--judge JUDGE] [--seed N] [--keep FOLDER]
 
 An image has 8 to 64 blocks: logs of random entries, and then some words of it are changed. A script formats, pokes, cuts
-and recovers regions. Each is run by one worker and by several. It is wrong where a run ends by a signal or with a
+and recovers regions, or makes calls on the files of one, with stops and now and then damage; commands that PROGRAM
+doesn't have yet are left out. Images and calls are run by one worker and by several. It is wrong where a run ends by a signal or with a
 status other than 0, 1 and 2, where it takes over a second, where the number of workers changes what is printed, and
 where JUDGE, a program that takes the same words, prints another text or ends with another status. What was wrong is kept in FOLDER, and the
 last line counts the cases. The exit status is 1 where one was wrong.
@@ -13,13 +14,19 @@ The cases of a seed are always the same ones.
 """
 
 import argparse
+import functools
 import random
+import re
 import struct
 import subprocess
 import sys
 import tempfile
 import time
+from collections import Counter
 from pathlib import Path
+
+from driver import Runner
+from random_calls import WORKERS, Calls
 
 BLOCK = 4096
 LINK = 4064
@@ -27,7 +34,6 @@ SLOT = 128
 SLOTS = BLOCK // SLOT
 RECORDS = 16
 MOST_SECONDS = 1.0
-WORKERS = [2, 3, 8, 64]
 
 
 class Wrong(Exception):
@@ -192,6 +198,22 @@ def try_script(program, judge, rng, path):
         compare("the judge", ours, run([judge, "run"], script)[:2])
 
 
+def try_calls(program, judge, rng, path):
+    script = Calls(rng, missing_in(program)).script()
+    path.write_bytes(script)
+    ours = run_well([program, "run"], script)
+    workers = rng.choice(WORKERS)
+    others = re.sub(rb"(?m)^recover [0-9]+$", b"recover %d" % workers, script)
+    compare(f"{workers} workers", ours, run_well([program, "run"], others))
+    if judge:
+        compare("the judge", ours, run([judge, "run"], script)[:2])
+
+
+@functools.cache
+def missing_in(program):
+    return Runner(program, None).missing()
+
+
 def main():
     words = argparse.ArgumentParser()
     words.add_argument("program")
@@ -203,13 +225,13 @@ def main():
     keep = told.keep or Path(tempfile.mkdtemp(prefix="fuzz-"))
     keep.mkdir(parents=True, exist_ok=True)
     end = time.monotonic() + 60 * told.minutes
-    tried, wrong = 0, 0
+    tried, wrong = Counter(), 0
     while time.monotonic() < end:
-        number = told.seed * 10_000_000 + tried
+        number = told.seed * 10_000_000 + tried.total()
         rng = random.Random(number)
-        way = rng.choice([try_image, try_image, try_script])
+        way = rng.choice([try_image, try_script, try_calls, try_calls])
         path = keep / f"{way.__name__[4:]}_{number}"
-        tried += 1
+        tried[path.name.split("_")[0]] += 1
         try:
             way(told.program, told.judge, rng, path)
         except Wrong as what:
@@ -217,7 +239,8 @@ def main():
             print(f"{path}: {what}", flush=True)
             continue
         path.unlink()
-    print(f"{tried} cases, {wrong} wrong")
+    kinds = ", ".join(f"{count} of {kind}" for kind, count in sorted(tried.items()))
+    print(f"{tried.total()} cases ({kinds}), {wrong} wrong")
     sys.exit(1 if wrong else 0)
 
 

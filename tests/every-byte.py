@@ -1,0 +1,137 @@
+#!/usr/bin/env python3
+"""Changes each byte of a small region's superblock, journal, table and logs, and compares what the recoveries make of it.
+
+usage: tests/every-byte.py [PROGRAM] [--judge JUDGE]
+
+The region has 8 blocks, a file and its root. Each byte of the blocks 0 to 4 is changed by exclusive or with 1 and with 255.
+The recovery on one thread and that by a schedule of three workers print the same report and leave the same words, and so
+do 2 and 8 workers where the byte is a word's first. JUDGE, a program that takes the same scripts, prints the same too. Then
+come regions that were cut, and scripts whose output is known. JOBS=2 processes are run at a time; it takes minutes. The last
+line counts the cases, and the status is 1 where one was wrong.
+"""
+
+import re
+import sys
+import time
+from collections import Counter
+
+from driver import BLOCK, Case, Runner, Wrong, each, first_difference, lines, peeks, told, words_of
+
+BLOCKS = 8
+CHANGED_BLOCKS = 5
+MASKS = [1, 255]
+BUILD = lines(f"format 1 {BLOCKS} 1", "recover 1", "create 0 /a", "write 0 /a 0 5000 65")
+WAYS = [b"recover 1\n", b"replay 3 2 1 0 2 1 0\n"]
+# These are tried too where the byte is the first of its word.
+WAYS_OF_WORDS = [*WAYS, b"recover 2\n", b"recover 8\n"]
+SEEN = b"report\n" + peeks(0, BLOCKS)
+# The bytes that one process is run for.
+BATCH = 16
+
+BASE2 = ["format 2 64 1", "recover 1"]
+RING = ["format 1 16 1", "poke 12320 524288", "poke 16352 16384", "poke 16384 524288", "poke 20448 12288", "poke 8344 20488"]
+RING_SAYS = """recovered inodes 1 free 11 faults 1
+region version 1 cpus 1 blocks 16 tables 1 state 0
+inode 1 dir mode 493 owner 0 group 0 size 0 links 1 time 0
+  log 3 4 tail 20488
+free 0 5-15
+fault L2 inode 1 at 20448
+"""
+# Scripts, and how what they print ends.
+KNOWN = [
+    (["format 1 16 1", "cut 32768", "recover 1"], "refused S5\n"),
+    (
+        [*BASE2, "create 0 /a", "create 0 /b", "poke 12560 24576", "poke 12568 24608", "recover 8", "free", "faults"],
+        """recovered inodes 3 free 57 faults 2
+free 0 7-33
+free 1 34-63
+fault B1 block 6 log 2 0
+fault B1 block 6 log 4 0
+""",
+    ),
+    *(([*RING, way, "report"], RING_SAYS) for way in ["recover 1", "recover 2", "recover 8", "replay 2 1 1 0 0"]),
+]
+
+
+def kind_of(text):
+    """In a word or some, what a recovery made of a region."""
+    refused = re.search(rb"refused (S[0-9]|Workers|Schedule)", text)
+    if refused:
+        return refused[1].decode()
+    classes = sorted({found.decode() for found in re.findall(rb"\nfault ([A-Z][0-9])", text)})
+    return "+".join(classes) or "no faults"
+
+
+class Bytes:
+    """The cases of a batch of bytes: each with its recoveries, all of which print one text."""
+
+    def __init__(self, runner, words):
+        self.runner, self.words = runner, words
+
+    def __call__(self, start):
+        kinds, wrong, ran = Counter(), [], 0
+        for at in range(start, start + BATCH, 8):
+            try:
+                texts = self.texts_of(at)
+            except Wrong as found:
+                wrong.append(str(found))
+                continue
+            for case, ways in texts:
+                ran += len(ways)
+                kinds[kind_of(ways[0])] += 1
+                wrong += [str(Wrong(case, f"another recovery prints another text: {first_difference(ways[0], text)}")) for text in ways if text != ways[0]]
+        return kinds, wrong, ran
+
+    def texts_of(self, at):
+        """What is printed for each change of a word's bytes by each recovery that is tried of it, beside its first case."""
+        groups = []
+        for byte in range(at, at + 8):
+            for mask in MASKS:
+                build = BUILD + b"poke %d %d\n" % (at, self.words[at // 8] ^ mask << 8 * (byte - at))
+                groups.append([Case(build, way + SEEN) for way in (WAYS_OF_WORDS if byte == at else WAYS)])
+        texts = iter(self.runner.answers([case for cases in groups for case in cases]))
+        return [(cases[0], [next(texts) for _ in cases]) for cases in groups]
+
+
+def cut(runner, words):
+    """The findings on regions that were cut: each is refused, and has the words that it had."""
+    for length in range(0, BLOCKS * BLOCK, 512):
+        seen = b"".join(b"peek %d\n" % at for at in range(0, length, 8))
+        wanted = b"refused S1\n" + b"".join(b"word %d\n" % word for word in words[: length // 8])
+        cases = [Case(BUILD + b"cut %d\n" % length, way + seen) for way in WAYS_OF_WORDS]
+        for case, text in zip(cases, runner.answers(cases)):
+            if text != wanted:
+                yield str(Wrong(case, f"a region of {length} bytes isn't refused S1, or was changed"))
+
+
+def known(runner):
+    for commands, ending in KNOWN:
+        case = Case(lines(*commands[:1]), lines(*commands[1:]))
+        text = runner.answer(*case)
+        if not text.endswith(ending.encode()):
+            yield str(Wrong(case, f"it prints {text.decode()}"))
+
+
+def main():
+    words = told(__doc__)
+    runner = Runner(words.program, words.judge)
+    began = time.monotonic()
+    base = words_of(runner.answer(BUILD, peeks(0, BLOCKS)))
+    kinds, wrong, ran = Counter(), [], 0
+    for counted, found, number in each(Bytes(runner, base), range(0, CHANGED_BLOCKS * BLOCK, BATCH)):
+        kinds += counted
+        ran += number
+        wrong += found
+        print("\n".join(found), end="\n" if found else "", flush=True)
+    for found in [*cut(runner, base), *known(runner)]:
+        print(found, flush=True)
+        wrong.append(found)
+    for kind, count in sorted(kinds.items()):
+        print(f"{count:6} {kind}")
+    minutes = (time.monotonic() - began) / 60
+    print(f"{kinds.total()} bytes changed, {ran} recoveries of them, 64 cuts, {len(KNOWN)} known scripts, {len(wrong)} wrong; {minutes:.1f} min")
+    sys.exit(1 if wrong else 0)
+
+
+if __name__ == "__main__":
+    main()
