@@ -127,5 +127,18 @@ while IFS='|' read -r crate clauses files; do
 done < <(awk -F'|' '/^## / { crate = $0; sub(/^## /, "", crate); sub(/[ :,].*/, "", crate) }
     /^\| / && !/^\| promise/ { print crate "|" $3 "|" $4 }' docs/PROVED.md)
 
+# In the picture of the crates each stands above those that its line of crates.txt names.
+declare -A height=()
+while read -r at name; do
+    height[$name]=$at
+done < <(sed -n 's/.* y="\([0-9]*\)" .*font-weight="bold">\([a-z_]*\)<.*/\1 \2/p' docs/crates.svg)
+while IFS=: read -r name lower; do
+    [ -n "${height[$name]-}" ] || continue
+    for other in $lower; do
+        [ -z "${height[$other]-}" ] || [ "${height[$name]}" -lt "${height[$other]}" ]
+        same "docs/crates.svg: $name above $other" 0 $?
+    done
+done < <(grep -E '^[a-z_]+:' crates.txt)
+
 echo "$passed passed, $failed failed"
 [ "$failed" -eq 0 ]
