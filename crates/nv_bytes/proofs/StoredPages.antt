@@ -1,5 +1,5 @@
 -- Pages stored anew: word by word, block by block, and run by run.
-use Rattle.std.proofs.Common.{◌≡◌, inl, inr, ℕ, ◌+◌, ◌-◌, ◌*◌, ◌/◌, ◌%◌, ◌^◌, ◌<◌, ◌≤◌, Bool, true, false, nat_lt, cond, List, ◌∷◌, length, get_or, drop, Option, Some, None, IfSome, refl, sym, ap, ◌∙◌, subst, arith, add-one}
+use Rattle.std.proofs.Common.{◌≡◌, inl, inr, ℕ, ◌+◌, ◌-◌, ◌*◌, ◌/◌, ◌%◌, ◌<◌, ◌≤◌, Bool, true, false, nat_lt, cond, List, ◌∷◌, length, get_or, drop, Option, Some, None, IfSome, refl, sym, ap, ◌∙◌, subst, arith, add-one}
 use Rattle.std.proofs.Math.Seq.{drop-cons}
 use Rattle.std.proofs.lemmas.Bool.{cases_eq}
 use Rattle.std.proofs.lemmas.Bool.Decides.{nat_tests}
@@ -9,7 +9,7 @@ use Rattle.nv_region.specs.Region.{Region, size, word}
 use Rattle.nv_region.specs.Stops.{Choices, IsMixed}
 use Rattle.nv_region.specs.Stored.{Stored}
 use Rattle.nv_region.proofs.Stops.{mixed_same}
-use Rattle.nv_region.proofs.Wordwise.{mixed_more, mixed_word}
+use Rattle.nv_region.proofs.Wordwise.{mixed_more}
 use Rattle.nv_super.specs.declared.owners.Run.{Run}
 use Rattle.nv_super.specs.Runs.{InRun}
 use Rattle.nv_radix.specs.Pages.{Pages, block_at}
@@ -17,6 +17,7 @@ use Rattle.nv_alloc.specs.Taking.{HasBlock, blocks_in}
 use Rattle.nv_alloc.proofs.Fronts.{blocks_cons}
 use Rattle.nv_alloc.proofs.Leaving.{first_block, later_block}
 use Rattle.nv_held.specs.Bytes.{byte_in}
+use Rattle.nv_held.proofs.BytesKept.{byte_stays}
 use Rattle.nv_bytes.specs.Bytes.{byte_of_word, byte_after, file_byte}
 use Rattle.nv_bytes.specs.Storing.{HoldsPage, block_given, HoldPages, InBlocks, AreFresh}
 
@@ -25,18 +26,7 @@ pub at_some : {X : Type 0} (P : X → Type 0) (o : Option X) (x : X) → IfSome 
 at_some P (Some y) x h e = subst P (same_Some y x e) h
 at_some P None x h e = absurd (cc)
 
--- only words change, so it is as long
-pub as_large : {R S : Region} {these : Choices} → IsMixed R these S → size S ≡ size R
-as_large mixed k = 8 * mixed.as_long k + length (mixed.same_rest k)
-
 -- ---- what stays
-
--- a byte whose block isn't stored to
-pub byte_stays : (R S : Region) (these : Choices) (o : Option ℕ) (x : ℕ) → IsMixed R these S → ((b : ℕ) → o ≡ Some b → (i v : ℕ) → 8 * i / 4096 ≡ b → these i v → ⊥) → byte_in S o x ≡ byte_in R o x
-byte_stays R S these None x mixed away = refl
-byte_stays R S these (Some b) x mixed away =
-    let a = b * 4096 + x % 4096 / 8 * 8 in
-    ap (λ (w : ℕ). w / 256 ^ (x % 8) % 256) (mixed_word R S these a (omega arith) mixed (λ v. away b refl (a / 8) v (omega arith)))
 
 -- a page whose block isn't stored to
 pub page_stays : (R S : Region) (these : Choices) (bytes : ℕ → ℕ) (b page : ℕ) → IsMixed R these S → ((i v : ℕ) → 8 * i / 4096 ≡ b → these i v → ⊥) → HoldsPage R bytes b page → HoldsPage S bytes b page

@@ -20,6 +20,7 @@ use Rattle.nv_held.specs.Held.{Held, Store}
 use Rattle.nv_commit.specs.declared.together.Extension.{Extension}
 use Rattle.nv_commit.specs.Extends.{with_log}
 use Rattle.nv_commit.specs.Together.{CanCommit, CanExtendTwo, ShowsIdle, TogetherWords, with_logs}
+use Rattle.nv_commit.proofs.BytesStay.{together_bytes}
 use Rattle.nv_calls.specs.Grown.{HasGrown, StandsRight}
 use Rattle.nv_calls.specs.MoreNames.{AppendsLogs, GrowsSame, NamesOnce, ReadiesRows}
 use Rattle.nv_calls.specs.NewNames.{CanName}
@@ -29,7 +30,6 @@ use Rattle.nv_calls.proofs.PutRow.{one_row}
 use Rattle.nv_calls.proofs.RowChange.{at_set}
 use Rattle.nv_calls.proofs.SetRows.{both_twice, first_set, second_set}
 use Rattle.nv_calls.proofs.TakenOut.{other_set}
-use Rattle.nv_calls.proofs.TogetherBytes.{together_bytes}
 use Rattle.nv_calls.proofs.TwoLogs.{as_extension, can_extend_two, cut_each, row_commits, stands_after}
 
 -- a place of the rows is one of those made ready

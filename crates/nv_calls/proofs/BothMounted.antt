@@ -1,9 +1,7 @@
 -- A mounted file system once two logs have grown, and their rows were replaced: what it keeps, its bytes and its logs.
-use Rattle.std.proofs.Common.{◌≡◌, ◌≢◌, ℕ, ◌%◌, ◌/◌, Bool, false, List, length, ap, sym, ◌∙◌, subst, Option, Some}
+use Rattle.std.proofs.Common.{◌≡◌, ◌≢◌, ℕ, ◌%◌, ◌/◌, Bool, false, List, length, ap, sym, ◌∙◌, subst, Some}
 use Rattle.std.specs.List.{Contains}
-use Rattle.std.proofs.Math.Logic.{∥∥₁_elim, ∥∥₁_map}
-use Rattle.std.proofs.Math.Nat.{ℕ_set}
-use Rattle.std.proofs.Props.{props}
+use Rattle.std.proofs.Math.Logic.{∥∥₁_map}
 use Rattle.nv_region.specs.Region.{Region}
 use Rattle.nv_super.specs.declared.superblock.Super.{Super}
 use Rattle.nv_super.specs.declared.faults.Fault.{Fault}
@@ -25,7 +23,7 @@ use Rattle.nv_calls.specs.Mount.{IsKept}
 use Rattle.nv_calls.specs.Steps.{ShowsRow}
 use Rattle.nv_calls.proofs.BothHeld.{apart, both_lists, both_rows, both_sound, fresh_free, more_free, own_first, own_second}
 use Rattle.nv_calls.proofs.CreatedRows.{in_rows}
-use Rattle.nv_calls.proofs.Mounts.{kept_of_mounted, mounted_of_kept, mounted_with}
+use Rattle.nv_calls.proofs.Mounts.{bytes_stay, kept_of_mounted, mounted_of_kept, mounted_with}
 use Rattle.nv_calls.proofs.OneRow.{shows_row, stands}
 use Rattle.nv_calls.proofs.TakenOut.{places_differ}
 use Rattle.nv_calls.proofs.TakenBlocks.{taken_sup}
@@ -93,16 +91,7 @@ module _ {R S : Region} {s : Super} {rows news : List Row} {free after : FreeLis
 
   -- Each byte that a row's file had is where it was.
   pub both_bytes : (r : Row) → Contains rows r → (x : ℕ) → byte_in S (block_at r.index (x / 4096)) x ≡ byte_in R (block_at r.index (x / 4096)) x
-  both_bytes r c x = ∥∥₁_elim (mounted_of_kept kept runs writes) prop (λ w. same w.0 w.1) where
-    prop : IsProp (byte_in S (block_at r.index (x / 4096)) x ≡ byte_in R (block_at r.index (x / 4096)) x)
-    prop = hlevel (props, ℕ_set)
-
-    same : (held : Store) → IsMounted R s held rows free.pools → byte_in S (block_at r.index (x / 4096)) x ≡ byte_in R (block_at r.index (x / 4096)) x
-    same held m =
-        let k = (in_rows m).each r c in
-        let told = k.2 in
-        let seen = step.shows held (f held m) (h held m) (shows held m) (shows_other held m) in
-        ap (λ (o : Option ℕ). byte_in S o x) (told.index (x / 4096)) ∙ seen.bytes r.inode k.0 k.1 x ∙ ap (λ (o : Option ℕ). byte_in R o x) (sym (told.index (x / 4096)))
+  both_bytes = bytes_stay kept runs writes S (λ held m. (let seen = step.shows held (f held m) (h held m) (shows held m) (shows_other held m) in seen.bytes))
 
   -- Both logs, for whatever is held of the region.
   pub both_logs : (held : Store) (a b : Held) → ShowsSound R s held → held first.inode ≡ Some a → held second.inode ≡ Some b → ShowsBothGrew S s held first.inode a entries second.inode b others

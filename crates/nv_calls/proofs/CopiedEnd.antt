@@ -54,8 +54,8 @@ use Rattle.nv_calls.proofs.CutFile.{Settled, file_held, lt_off, lt_on, maps_belo
 use Rattle.nv_calls.proofs.SizedEntries.{data_names, data_numbers}
 use Rattle.nv_calls.proofs.DataFollows.{data_follows, data_lists}
 use Rattle.nv_calls.proofs.LogGrows.{slot_there}
-use Rattle.nv_calls.proofs.ResizeEntries.{block_one, copy_writes, two_end}
-use Rattle.nv_calls.proofs.TakenBlocks.{all_differ, are_free, is_taken, taken_apart, was_taken}
+use Rattle.nv_calls.proofs.ResizeEntries.{copy_writes, two_end}
+use Rattle.nv_calls.proofs.TakenBlocks.{all_differ, are_free, is_taken, single_is, taken_apart, was_taken}
 
 -- What a file that ends in a page with a block, and gets longer, has there.
 pub record EndsIn (m : Pages) (old new from : ℕ) : Type 0 where
@@ -166,7 +166,7 @@ module _ {R S : Region} {s : Super} {free mid after : FreeLists} {row grown new 
 
     -- the page that was copied, and no other, is written
     page_is : (p : ℕ) → HasBlock (record { start = row.numbers.size / 4096; count = 1 } ∷ []) p → p ≡ row.numbers.size / 4096
-    page_is p here = block_one (row.numbers.size / 4096) p here
+    page_is p here = single_is (row.numbers.size / 4096) p here
 
     page_in : HasBlock (record { start = row.numbers.size / 4096; count = 1 } ∷ []) (row.numbers.size / 4096)
     page_in = (record { start = row.numbers.size / 4096; count = 1 }, Contains-head (record { start = row.numbers.size / 4096; count = 1 }) [], omega arith, omega arith)
@@ -207,7 +207,7 @@ module _ {R S : Region} {s : Super} {free mid after : FreeLists} {row grown new 
     -- the block that is given back is that of the page that was copied
     gave : (b : ℕ) → HasBlock (block_run from ∷ []) b ↔ IsReplaced (fixed_layout s) h more x.size b
     gave b = (
-      (λ has. (row.numbers.size / 4096, (let told = shows.told in let e = ending_in in sym (told.index (row.numbers.size / 4096)) ∙ e.maps ∙ ap Some (sym (block_one from b has))), inl page_in)),
+      (λ has. (row.numbers.size / 4096, (let told = shows.told in let e = ending_in in sym (told.index (row.numbers.size / 4096)) ∙ e.maps ∙ ap Some (sym (single_is from b has))), inl page_in)),
       (λ v. elim v.2 [
         | inl here ↦ (
             let told = shows.told in
@@ -221,7 +221,7 @@ module _ {R S : Region} {s : Super} {free mid after : FreeLists} {row grown new 
     took : (b : ℕ) → WasTaken (single_takes (to ∷ fresh)) b ↔ (Contains fresh b ⊎ HasBlock (block_run to ∷ []) b)
     took b = (
       (λ t. elim (Contains-cons to fresh b (is_taken (to ∷ fresh) b t)) [ inl same ↦ inr (block_run to, Contains-head (block_run to) [], omega (arith, same), omega (arith, same)) | inr c ↦ inl c ]),
-      (λ either. was_taken (to ∷ fresh) b (elim either [ inl c ↦ Contains-tail to fresh b c | inr here ↦ subst (λ (n : ℕ). Contains (to ∷ fresh) n) (sym (block_one to b here)) (Contains-head to fresh) ])),
+      (λ either. was_taken (to ∷ fresh) b (elim either [ inl c ↦ Contains-tail to fresh b c | inr here ↦ subst (λ (n : ℕ). Contains (to ∷ fresh) n) (sym (single_is to b here)) (Contains-head to fresh) ])),
     )
 
     lists_now : KeepsFree (fixed_layout s) (with_log held row.inode h entries fresh) after.pools

@@ -10,7 +10,7 @@ use Rattle.nv_alloc.specs.FreeValue.{FreeLists}
 use Rattle.nv_alloc.specs.FreeLists.{CanJoin}
 use Rattle.nv_entry.specs.declared.entry.AttrEntry.{AttrEntry}
 use Rattle.nv_entry.specs.declared.entry.Entry.{Entry}
-use Rattle.nv_logpage.specs.Append.{AllDiffer, AreGiven, CanAppend, EndBy, end_of, needed}
+use Rattle.nv_logpage.specs.Append.{AreGiven, CanAppend, EndBy, end_of, needed}
 use Rattle.nv_radix.specs.Pages.{Pages, block_at, is_ready}
 use Rattle.nv_scan.specs.declared.numbers.Numbers.{Numbers}
 use Rattle.nv_scan.specs.declared.piece.Row.{Row}
@@ -18,7 +18,7 @@ use Rattle.nv_calls.specs.Sizes.{CanResize, CopiesEnd, HasSize, end_block}
 use Rattle.nv_calls.specs.Taken.{TakesEach, block_run}
 use Rattle.nv_calls.proofs.CopiedEnd.{ends_in}
 use Rattle.nv_calls.proofs.GivenPages.{gives_none, next_joins, own_taken}
-use Rattle.nv_calls.proofs.TakenBlocks.{differ_with, each_in_data, each_was_free}
+use Rattle.nv_calls.proofs.TakenBlocks.{differ_rest, differ_with, each_in_data, each_was_free}
 
 -- a page that maps to a block is ready
 pub mapped_ready : (m : Pages) (p b : ℕ) → block_at m p ≡ Some b → is_ready m p ≡ true
@@ -27,13 +27,6 @@ mapped_ready (y ∷ m) p b at = by (y.0 == p) (mapped_ready m p b) at where
   by : (t : Bool) → (block_at m p ≡ Some b → is_ready m p ≡ true) → cond t y.1 (block_at m p) ≡ Some b → (t || is_ready m p) ≡ true
   by true rest at = refl
   by false rest at = rest at
-
--- without the second of them they differ too
-without_second : (a b : ℕ) (fresh : List ℕ) → AllDiffer (a ∷ b ∷ fresh) → AllDiffer (a ∷ fresh)
-without_second a b fresh differ zero zero less inside = absurd (omega (arith, less))
-without_second a b fresh differ zero (suc j) less inside = differ zero (suc (suc j)) (omega arith) (omega (arith, inside))
-without_second a b fresh differ (suc i) zero less inside = absurd (omega (arith, less))
-without_second a b fresh differ (suc i) (suc j) less inside = differ (suc (suc i)) (suc (suc j)) (omega (arith, less)) (omega (arith, inside))
 
 module _ {R : Region} {s : Super} {free mid : FreeLists} {row : Row} {x : AttrEntry} {to : ℕ} {fresh : List ℕ} (can : CanResize R s free row x) (taken : TakesEach free (to ∷ fresh) mid) where
   data_end : (b : ℕ) → Contains (to ∷ fresh) b → b * 4096 + 4096 ≤ size R
@@ -52,7 +45,7 @@ module _ {R : Region} {s : Super} {free mid : FreeLists} {row : Row} {x : AttrEn
         offset = stands.offset;
         given = given;
         enough = omega (arith, count);
-        differ = without_second (row.tail / 4096) to fresh (differ_with taken (row.tail / 4096) stands.used);
+        differ = differ_rest (row.tail / 4096) to fresh (differ_with taken (row.tail / 4096) stands.used);
         inside = inside;
       }
     where

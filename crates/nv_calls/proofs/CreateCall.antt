@@ -81,7 +81,7 @@ module _ {R S : Region} {s : Super} {rows news : List Row} {free after : FreeLis
       let same = subst (λ (i : ℕ). SameTree (tree_of S news) (made_tree R rows step.row i kind mode time name)) there
       (tree_then R S rows news place step.row step.now step.made kind mode time name (rows_rise R s rows free faults read_only stopped kept runs) step.at number_stays step.put (ap (row_of rows) there ∙ unused)
       (subst (λ (i : ℕ). SameNode (node_of S step.now) (with_name name i time (node_of R step.row))) (sym there)
-      (named_node R S made.fresh _ name j _ time made.directory made.once made.once_now (name_absent kept runs writes step directory good unused absent) (bytes_kept kept runs writes step directory good unused absent step.row here)))
+      (named_node R S made.fresh _ name j _ time made.directory made.once made.once_now (name_absent kept runs writes step.row here name absent) (bytes_kept kept runs writes step directory good unused absent step.row here)))
       (new_node_is S j kind mode time made.page _ new) (bytes_kept kept runs writes step directory good unused absent)) in
       subst (λ (t : Tree). SameTree (tree_of S news) t) (sym (created_by kind (unused_number s rows cpu) names mode time (tree_of R rows) j step.row.inode name spot.unused walked spot.name_is)) same
     where

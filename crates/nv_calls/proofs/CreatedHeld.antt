@@ -1,6 +1,5 @@
 -- What is held once an inode was made: nothing is wrong with it, and the free lists and both rows are of it.
-use Rattle.std.proofs.Common.{◌≡◌, ◌≢◌, ◌↔◌, ℕ, ◌*◌, ◌%◌, inl, inr, cond, nat_eq, eqb, List, [], ◌∷◌, ◌++◌, length, take, take_all, refl, ap, sym, ◌∙◌, subst, arith, Option, Some, None}
-use Rattle.std.specs.Cmp.Lexicographic.{pointwise}
+use Rattle.std.proofs.Common.{◌≡◌, ◌≢◌, ◌↔◌, ℕ, ◌*◌, ◌%◌, inl, inr, eqb, List, [], ◌∷◌, ◌++◌, length, take, take_all, refl, ap, sym, ◌∙◌, subst, arith, Some, None}
 use Rattle.std.specs.List.{Contains, IsDistinct}
 use Rattle.nv_region.specs.Region.{Region}
 use Rattle.nv_super.specs.declared.superblock.Super.{Super}
@@ -14,7 +13,6 @@ use Rattle.nv_entry.specs.declared.entry.Operation.TheVariants.{Add}
 use Rattle.nv_logpage.specs.Append.{end_of, needed}
 use Rattle.nv_logpage.proofs.DataBlocks.{one_page, pages_are}
 use Rattle.nv_logpage.proofs.RightLogs.{head_starts}
-use Rattle.nv_names.specs.Names.{name_at}
 use Rattle.nv_scan.specs.Rows.{AreNumbers}
 use Rattle.nv_scan.specs.declared.numbers.Numbers.{Numbers}
 use Rattle.nv_scan.specs.declared.piece.Row.{Row}
@@ -33,10 +31,10 @@ use Rattle.nv_commit.specs.Together.{ShowsIdle}
 use Rattle.nv_commit.proofs.BlocksOf.{begun_free, begun_owns}
 use Rattle.nv_commit.proofs.Called.{created_faultless}
 use Rattle.nv_calls.specs.NameCalls.{first_entries, name_entries, new_held, with_named}
-use Rattle.nv_calls.specs.NewNames.{HasNamed, IsNewRow, place_named}
+use Rattle.nv_calls.specs.NewNames.{IsNewRow, place_named}
 use Rattle.nv_calls.specs.Steps.{ShowsRow}
 use Rattle.nv_calls.specs.Taken.{TakesEach}
-use Rattle.nv_calls.proofs.NameEntries.{first, first_in_range, at_page, name_added, name_file, name_numbers, new_maps_nothing, new_names, new_numbers}
+use Rattle.nv_calls.proofs.NameEntries.{first, first_in_range, at_page, name_file, new_maps_nothing, new_names, new_numbers}
 use Rattle.nv_calls.proofs.TakenBlocks.{are_free, lists_without}
 
 module _ {R : Region} {s : Super} {held : Store} {h : Held} {row : Row} {free after : FreeLists} (kind : Kind) (mode time j : ℕ) (name : List ℕ) (page : ℕ) (fresh : List ℕ)
@@ -103,7 +101,7 @@ module _ {R : Region} {s : Super} {held : Store} {h : Held} {row : Row} {free af
   pub made_lists : KeepsFree l (with_named held kind mode time j row.inode h name page fresh) after.pools
   made_lists = lists_without taken l held shows.lists lists (with_named held kind mode time j row.inode h name page fresh) (λ b. (to b, from b)) where
     but : (b : ℕ) → IsUnowned l (with_inode mid row.inode (Some grown_log)) b ↔ (IsUnowned l mid b × (Contains fresh b → ⊥))
-    but = free_but l mid row.inode h grown_log there fresh pages_now fresh_free (name_file l h directory j name good at time end pages)
+    but = free_but l mid row.inode h grown_log there fresh pages_now fresh_free (name_file l h directory Add j name good at time end pages)
 
     to : (b : ℕ) → IsUnowned l (with_named held kind mode time j row.inode h name page fresh) b → IsUnowned l held b × (Contains (page ∷ fresh) b → ⊥)
     to b now =
@@ -124,7 +122,7 @@ module _ {R : Region} {s : Super} {held : Store} {h : Held} {row : Row} {free af
         all.once
 
     owns_more : OwnsNew l mid row.inode (Some grown_log)
-    owns_more = grown_owns l mid row.inode h grown_log there fresh pages_now fresh_free (name_file l h directory j name good at time end pages) mid_undoubled once
+    owns_more = grown_owns l mid row.inode h grown_log there fresh pages_now fresh_free (name_file l h directory Add j name good at time end pages) mid_undoubled once
 
     -- The region is sound.
     pub made_sound : ShowsSound S s (with_named held kind mode time j row.inode h name page fresh)
@@ -135,26 +133,7 @@ module _ {R : Region} {s : Super} {held : Store} {h : Held} {row : Row} {free af
       faultless = created_faultless l held was row.inode h shows.holds directory j name good at time end pages new (at_page l kind mode time page) (first mode time) unused refl (first_in_range s kind mode time) absent owns_page owns_more;
     }
 
-  -- ---- both rows
-
-  tails : row.tail ≡ h.tail
-  tails = let told = shows.told in told.tail
-
-  module _ {now : Row} (named : HasNamed row fresh (end_of fresh 0 row.tail entries) name j (place_named fresh row.tail j name time) time now) where
-    -- The directory's row is of its log.
-    pub directory_told : KeepsRow l grown_log now
-    directory_told =
-        let told = shows.told in
-        record {
-          kind = named.kind ∙ told.kind;
-          numbers = name_numbers l h directory j name good at time end pages row.numbers now.numbers told.numbers named.numbers;
-          head = named.head ∙ told.head;
-          tail = named.tail ∙ ap (λ (t : ℕ). end_of fresh 0 t entries) tails;
-          pages = named.pages ∙ ap (λ (ps : List ℕ). ps ++ fresh) told.pages ∙ sym pages_now;
-          index = λ p. named.index p ∙ told.index p ∙ sym (name_file l h directory j name good at time end pages p);
-          names = λ q. named.names q ∙ ap (λ (t : ℕ). cond (pointwise nat_eq q name) (Some (j, place_named fresh t j name time)) (name_at row.names q)) tails
-              ∙ ap (λ (o : Option (ℕ × ℕ)). cond (pointwise nat_eq q name) (Some (j, at)) o) (told.names q) ∙ sym (name_added l h directory j name good at time end pages q);
-        }
+  -- ---- the new row
 
   -- The new row is of the new log.
   pub new_told : {made : Row} → IsNewRow j kind mode time page (end_of [] 0 (4096 * page) (first_entries mode time)) made → KeepsRow l new made

@@ -35,9 +35,10 @@ use Rattle.nv_calls.specs.Mount.{IsKept}
 use Rattle.nv_calls.specs.NameCalls.{ShowsCreated, WasCreated, name_entries, new_held, with_named}
 use Rattle.nv_calls.specs.NewNames.{CreatesAt, HasNamed, IsNoneNamed, place_named}
 use Rattle.nv_calls.specs.Steps.{ShowsRow}
-use Rattle.nv_calls.proofs.CreatedHeld.{all_free, directory_told, made_lists, made_sound, new_told}
+use Rattle.nv_calls.proofs.CreatedHeld.{all_free, made_lists, made_sound, new_told}
 use Rattle.nv_calls.proofs.Inserted.{from_inserted, is_inserted, stays_inserted}
-use Rattle.nv_calls.proofs.Mounts.{kept_of_mounted, mounted_of_kept, mounted_with}
+use Rattle.nv_calls.proofs.Mounts.{bytes_stay, kept_of_mounted, mounted_of_kept, mounted_with}
+use Rattle.nv_calls.proofs.NamedLogs.{named_told}
 use Rattle.nv_calls.proofs.OneRow.{shows_row, stands}
 use Rattle.nv_calls.proofs.RowChange.{number_at}
 use Rattle.nv_calls.proofs.RowOf.{row_at}
@@ -84,6 +85,12 @@ module _ {R : Region} {s : Super} {held : Store} {rows : List Row} {pools : List
         let gone : option_map (node_in (fixed_layout s)) (held x.0) ≡ None = ap (λ (o : Option Held). option_map (node_in (fixed_layout s)) o) (not_held x.0 none) in
         let clash : None ≡ Some used.0 = sym gone ∙ used.1 in
         absurd (cc)
+
+-- Nor is it where the file system can be written.
+pub name_absent : {R : Region} {s : Super} {rows : List Row} {free : FreeLists} {faults : List Fault} {read_only stopped : Bool} → IsKept R s rows free faults read_only stopped → stopped ≡ false → read_only ≡ false → (row : Row) → Contains rows row → (name : List ℕ) → IsNoneNamed rows row name → name_at row.names name ≡ None
+name_absent {R} {s} {rows} kept runs writes row here name none = ∥∥₁_elim (mounted_of_kept kept runs writes) prop (λ w. not_named w.1 row here name none) where
+  prop : IsProp (name_at row.names name ≡ None)
+  prop = hlevel (props, ℕ_set)
 
 -- two inodes changed, in either order
 two_changes : (held : Store) (i j : ℕ) (a b : Option Held) → i ≢ j → with_inode (with_inode held i a) j b ≡ with_inode (with_inode held j b) i a
@@ -174,7 +181,7 @@ module _ {R S : Region} {s : Super} {rows news : List Row} {free after : FreeLis
         dir = let made = step.step in made.directory
 
         dir_told : KeepsRow (fixed_layout s) (extended h (name_entries Add j name time) makes_fresh) step.now
-        dir_told = let made = step.step in directory_told kind mode time j name made.page made.fresh shows out of_kind good not_there kept.lists made.taken apart count made.directory
+        dir_told = let made = step.step in named_told s j name time made.fresh shows.told directory good made.count made.directory
 
     -- The rows and the free lists are those of what is held.
     pub mounted_then : IsMounted S s then news after.pools
@@ -196,21 +203,7 @@ module _ {R S : Region} {s : Super} {rows news : List Row} {free after : FreeLis
 
   -- Each byte that a row's file had is where it was.
   pub bytes_kept : (r : Row) → Contains rows r → (x : ℕ) → byte_in S (block_at r.index (x / 4096)) x ≡ byte_in R (block_at r.index (x / 4096)) x
-  bytes_kept r c x = ∥∥₁_elim (mounted_of_kept kept runs writes) prop (λ w. same w.0 w.1) where
-    prop : IsProp (byte_in S (block_at r.index (x / 4096)) x ≡ byte_in R (block_at r.index (x / 4096)) x)
-    prop = hlevel (props, ℕ_set)
-
-    same : (held : Store) → IsMounted R s held rows free.pools → byte_in S (block_at r.index (x / 4096)) x ≡ byte_in R (block_at r.index (x / 4096)) x
-    same held m =
-        let k = (in_rows m).each r c in
-        let told = k.2 in
-        ap (λ (o : Option ℕ). byte_in S o x) (told.index (x / 4096)) ∙ bytes_then held m r.inode k.0 k.1 x ∙ ap (λ (o : Option ℕ). byte_in R o x) (sym (told.index (x / 4096)))
-
-  -- The name wasn't there.
-  pub name_absent : name_at row.names name ≡ None
-  name_absent = ∥∥₁_elim (mounted_of_kept kept runs writes) prop (λ w. not_named w.1 row here name absent) where
-    prop : IsProp (name_at row.names name ≡ None)
-    prop = hlevel (props, ℕ_set)
+  bytes_kept = bytes_stay kept runs writes S bytes_then
 
   -- The new inode and its name, for whatever is held of the region.
   pub was_created : (held : Store) (g : Held) → ShowsSound R s held → held row.inode ≡ Some g → ShowsCreated S s held kind mode time j row.inode g name

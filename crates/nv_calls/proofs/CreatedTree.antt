@@ -35,7 +35,8 @@ eq_on i j same = grind (arith, nat_tests)
 eq_off : (i j : ℕ) → i ≢ j → nat_eq i j ≡ false
 eq_off i j other = grind (arith, nat_tests)
 
-first_of : (b : Bool) (x : ℕ × ℕ) (o : Option (ℕ × ℕ)) → option_map (λ (y : ℕ × ℕ). y.0) (cond b (Some x) o) ≡ cond b (Some x.0) (option_map (λ (y : ℕ × ℕ). y.0) o)
+-- a condition over names, where they lead
+pub first_of : (b : Bool) (x : ℕ × ℕ) (o : Option (ℕ × ℕ)) → option_map (λ (y : ℕ × ℕ). y.0) (cond b (Some x) o) ≡ cond b (Some x.0) (option_map (λ (y : ℕ × ℕ). y.0) o)
 first_of true x o = refl
 first_of false x o = refl
 

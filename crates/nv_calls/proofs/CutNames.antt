@@ -21,6 +21,7 @@ use Rattle.nv_commit.specs.declared.together.Extension.{Extension}
 use Rattle.nv_commit.specs.Extends.{with_log}
 use Rattle.nv_commit.specs.Together.{CanCommit, ShowsIdle}
 use Rattle.nv_commit.specs.Removes.{CanRemove, RemoveWords, with_removed}
+use Rattle.nv_commit.proofs.BytesStay.{removed_bytes}
 use Rattle.nv_calls.specs.Grown.{StandsRight}
 use Rattle.nv_calls.specs.LessNames.{CutsName, HasLost}
 use Rattle.nv_calls.specs.NameCalls.{name_entries}
@@ -29,7 +30,6 @@ use Rattle.nv_calls.specs.RemoveCalls.{with_gone}
 use Rattle.nv_calls.specs.Steps.{ShowsRow}
 use Rattle.nv_calls.specs.Taken.{TakesEach}
 use Rattle.nv_calls.proofs.LogGrows.{can_extend, stores_within_region}
-use Rattle.nv_calls.proofs.RemovedBytes.{removed_bytes}
 use Rattle.nv_calls.proofs.TwoLogs.{as_extension, row_commits}
 
 -- a row that was made ready and then settled

@@ -3,6 +3,7 @@ use Rattle.std.proofs.Common.{◌≡◌, ◌↔◌, ℕ, ◌+◌, ◌-◌, ◌<�
 use Rattle.std.specs.List.{Contains}
 use Rattle.std.proofs.lemmas.Bool.{cases_eq}
 use Rattle.std.proofs.lemmas.List.Elements.{Contains-append_cases, filter_map-append}
+use Rattle.std.proofs.lemmas.Option.{same_Some}
 use Rattle.nv_super.specs.declared.owners.Run.{Run}
 use Rattle.nv_super.specs.Runs.{InRun}
 use Rattle.nv_super.proofs.Rising.{Contains-cons, Contains-head, Contains-tail}
@@ -186,12 +187,10 @@ module _ (plan : Plan) (q : ℕ) (r : Run) (runs : List Run) (fits : Fits plan (
       | inr v ↦ inr (let u = pages_from plan plan.first p rest v in (u.0, omega (arith, u.1, total)))
     ]),
     (λ w. elim w [
-      | inl at ↦ (let same : q ≡ p = some_number (sym ends ∙ at) in block_left (entry_pages here) (entry_pages later) p (subst (λ (n : ℕ). HasBlock (entry_pages here) n) same here_page))
+      | inl at ↦ (let same : q ≡ p = same_Some _ _ (sym ends ∙ at) in block_left (entry_pages here) (entry_pages later) p (subst (λ (n : ℕ). HasBlock (entry_pages here) n) same here_page))
       | inr v ↦ block_right (entry_pages here) (entry_pages later) p (page_there plan plan.first p rest v.0 (omega (arith, v.1, total)))
     ]),
-  ) where
-    some_number : {i j : ℕ} → Some i ≡ Some j → i ≡ j
-    some_number e = cc
+  )
 
   one_entry : (e : Entry) → Contains here e → (w : WriteEntry) × (e ≡ Write w) × IsEntryOf plan q (q + 1) front w
   one_entry e c = entry_of plan q (q + 1) front (omega arith) e c

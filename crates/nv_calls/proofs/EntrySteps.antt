@@ -18,6 +18,7 @@ use Rattle.nv_entry.specs.declared.entry.WriteEntry.{WriteEntry}
 use Rattle.nv_entry.specs.declared.entry.Entry.{Entry}
 use Rattle.nv_entry.specs.declared.entry.Entry.TheVariants.{Write}
 use Rattle.nv_radix.specs.Pages.{Pages, block_at, in_run, is_ready}
+use Rattle.nv_held.proofs.DataGrows.{in_run_from}
 use Rattle.nv_calls.specs.Taken.{block_run}
 use Rattle.nv_calls.specs.Writes.{CanGive, page_blocks}
 use Rattle.nv_calls.specs.Written.{AreSettled, MapsEntries, entry_pages}
@@ -42,9 +43,7 @@ abbrev pub pages_of : WriteEntry → Run
 pages_of w = record { start = w.offset; count = w.count }
 
 in_it : (first count p : ℕ) → InRun (record { start = first; count = count }) p → in_run first count p ≡ true
-in_it first count p w = (let low = w.0 in let high = w.1 in in_both first count p low high) where
-  in_both : (first count p : ℕ) → first ≤ p → p < first + count → in_run first count p ≡ true
-  in_both first count p low high = grind (arith, nat_tests)
+in_it first count p w = in_run_from first count p w.0 w.1
 
 out_of_it : (first count p : ℕ) → (InRun (record { start = first; count = count }) p → ⊥) → in_run first count p ≡ false
 out_of_it first count p away = by (in_run first count p) refl where

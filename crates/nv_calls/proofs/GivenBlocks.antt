@@ -13,13 +13,15 @@ use Rattle.nv_super.proofs.Rising.{Contains-cons, Contains-head, Contains-tail}
 use Rattle.nv_alloc.specs.FreeValue.{FreeLists}
 use Rattle.nv_alloc.specs.FreeLists.{CanJoin, JoinAll, Joins}
 use Rattle.nv_alloc.specs.Taking.{HasBlock}
+use Rattle.nv_alloc.proofs.Leaving.{block_left, block_right, block_sides}
 use Rattle.nv_radix.specs.Pages.{block_at}
 use Rattle.nv_scan.specs.declared.piece.Row.{Row}
 use Rattle.nv_calls.specs.Given.{GivesPages, MapsOwn}
 use Rattle.nv_calls.specs.LessNames.{AreOwn, GivesBlocks, GivesRow, OwnsBlocks}
 use Rattle.nv_calls.specs.Taken.{block_run}
 use Rattle.nv_calls.proofs.CutFile.{before_end}
-use Rattle.nv_calls.proofs.GivenPages.{block_is, joined_from, joined_more, joined_sup}
+use Rattle.nv_calls.proofs.GivenPages.{joined_from, joined_more, joined_sup}
+use Rattle.nv_calls.proofs.TakenBlocks.{block_is}
 
 -- ---- blocks as runs
 
@@ -84,24 +86,6 @@ joined_both : (old mid new : FreeLists) (runs more : List Run) → JoinAll old r
 joined_both old mid new [] more same w = subst (λ (a : FreeLists). JoinAll a more new) (sym same) w
 joined_both old mid new (run ∷ runs) more v w = (v.0, v.1, joined_both v.0 mid new runs more v.2 w)
 
-either_has : (runs more : List Run) (b : ℕ) → HasBlock (runs ++ more) b → HasBlock runs b ⊎ HasBlock more b
-either_has [] more b w = inr w
-either_has (r ∷ runs) more b w = elim (Contains-cons r (runs ++ more) w.0 w.1) [
-  | inl e ↦ (let inside = subst (λ (x : Run). InRun x b) e (w.2, w.3) in inl (r, Contains-head r runs, inside.0, inside.1))
-  | inr c ↦ elim (either_has runs more b (w.0, c, w.2, w.3)) [ inl had ↦ inl (had.0, Contains-tail r runs had.0 had.1, had.2, had.3) | inr later ↦ inr later ]
-]
-
-first_has : (runs more : List Run) (b : ℕ) → HasBlock runs b → HasBlock (runs ++ more) b
-first_has [] more b w = absurd (none_in w.0 w.1)
-first_has (r ∷ runs) more b w = elim (Contains-cons r runs w.0 w.1) [
-  | inl e ↦ (let inside = subst (λ (x : Run). InRun x b) e (w.2, w.3) in (r, Contains-head r (runs ++ more), inside.0, inside.1))
-  | inr c ↦ (let v = first_has runs more b (w.0, c, w.2, w.3) in (v.0, Contains-tail r (runs ++ more) v.0 v.1, v.2, v.3))
-]
-
-later_has : (runs more : List Run) (b : ℕ) → HasBlock more b → HasBlock (runs ++ more) b
-later_has [] more b w = w
-later_has (r ∷ runs) more b w = let v = later_has runs more b w in (v.0, Contains-tail r (runs ++ more) v.0 v.1, v.2, v.3)
-
 module _ {old mid : FreeLists} {row : Row} (own : OwnsBlocks old row) (given : GivesBlocks old row.pages.items mid) where
   -- The blocks of the file are in use once those of the log are free.
   pub maps_still : MapsOwn mid row.index
@@ -124,13 +108,13 @@ module _ {old mid : FreeLists} {row : Row} (own : OwnsBlocks old row) (given : G
     blocks = λ b. (to b, from b);
   } where
     to : (b : ℕ) → HasBlock (map block_run row.pages.items ++ pages.runs) b → Contains row.pages.items b ⊎ ((p : ℕ) × (block_at row.index p ≡ Some b))
-    to b w = elim (either_has (map block_run row.pages.items) pages.runs b w) [
+    to b w = elim (block_sides (map block_run row.pages.items) pages.runs b w) [
       | inl log ↦ inl (in_runs row.pages.items b log)
       | inr later ↦ inr (let v = (pages.blocks b).0 later in (v.0, v.3))
     ]
 
     from : (b : ℕ) → Contains row.pages.items b ⊎ ((p : ℕ) × (block_at row.index p ≡ Some b)) → HasBlock (map block_run row.pages.items ++ pages.runs) b
-    from b (inl log) = first_has (map block_run row.pages.items) pages.runs b (as_runs row.pages.items b log)
+    from b (inl log) = block_left (map block_run row.pages.items) pages.runs b (as_runs row.pages.items b log)
     from b (inr w) =
         let low : w.0 < end = subst (λ (n : ℕ). w.0 < n) (sym ends) (before_end row.numbers.size w.0 (own.below w.0 b w.1)) in
-        later_has (map block_run row.pages.items) pages.runs b ((pages.blocks b).1 (w.0, omega arith, low, w.1))
+        block_right (map block_run row.pages.items) pages.runs b ((pages.blocks b).1 (w.0, omega arith, low, w.1))

@@ -29,7 +29,7 @@ use Rattle.nv_calls.specs.Given.{GivesBlock, GivesPages, MapsOwn}
 use Rattle.nv_calls.specs.Mount.{IsKept}
 use Rattle.nv_calls.specs.Taken.{TakesEach, block_run, single_takes}
 use Rattle.nv_calls.proofs.Mounts.{mounted_of_kept}
-use Rattle.nv_calls.proofs.TakenBlocks.{taken_sup}
+use Rattle.nv_calls.proofs.TakenBlocks.{block_is, stays_free, taken_sup}
 
 -- ---- runs given back
 
@@ -56,9 +56,6 @@ joined_more old mid new [] run same joins = (new, subst (λ (a : FreeLists). Joi
 joined_more old mid new (r ∷ runs) run w joins = (w.0, w.1, joined_more w.0 mid new runs run w.2 joins)
 
 -- ---- one page more
-
-pub block_is : (b c : ℕ) → InRun (block_run b) c → c ≡ b
-block_is b c here = let from = here.0 in let to = here.1 in omega (arith, from, to)
 
 with_run : (runs : List Run) (run : Run) (b : ℕ) → HasBlock (runs ++ run ∷ []) b ↔ (HasBlock runs b ⊎ InRun run b)
 with_run [] run b = (
@@ -168,13 +165,9 @@ maps_own {R} {s} {rows} {free} kept runs writes row c =
     let prop : IsProp (MapsOwn free row.index) = hlevel (props, ℕ_set) in
     ∥∥₁_elim (mounted_of_kept kept runs writes) prop (λ w. own_row w.1 kept.lists row c)
 
--- what is free once blocks were taken was free, and isn't one of them
-still_free : (old new : FreeLists) (blocks : List ℕ) → TakeAll old (single_takes blocks) new → (cpu b : ℕ) → IsFreeIn new cpu b → IsFreeIn old cpu b
-still_free old new [] same cpu b free = subst (λ (a : FreeLists). IsFreeIn a cpu b) (sym same) free
-still_free old new (a ∷ blocks) w cpu b free = w.1.leave.stays cpu b (still_free w.0 new blocks w.2 cpu b free)
-
+-- what is free once blocks were taken was free
 pub was_free : {old new : FreeLists} {fresh : List ℕ} → TakesEach old fresh new → (cpu b : ℕ) → IsFreeIn new cpu b → IsFreeIn old cpu b
-was_free {old} {new} {fresh} taken cpu b there = subst (λ (pools : List (List Run)). HasBlock (pool_at pools cpu) b) taken.same.pools (still_free taken.from new fresh taken.takes cpu b there)
+was_free {old} {new} {fresh} taken cpu b there = subst (λ (pools : List (List Run)). HasBlock (pool_at pools cpu) b) taken.same.pools (stays_free taken.from new fresh taken.takes cpu b there)
 
 -- The blocks of an index are in use also once others were taken.
 pub own_taken : {old new : FreeLists} {fresh : List ℕ} {m : Pages} → TakesEach old fresh new → MapsOwn old m → MapsOwn new m

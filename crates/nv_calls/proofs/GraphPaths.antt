@@ -1,5 +1,5 @@
 -- The way to a name, in the tree of rows and in the graph of what is held.
-use Rattle.std.proofs.Common.{◌≡◌, ℕ, Bool, true, false, cond, List, [], ◌∷◌, refl, ap, sym, ◌∙◌, Option, Some, None, Result, Ok, Err}
+use Rattle.std.proofs.Common.{◌≡◌, ℕ, List, [], ◌∷◌, refl, ap, sym, ◌∙◌, Option, Some, None, Result, Ok, Err}
 use Rattle.std.specs.Option.{option_and_then, option_map, option_map_or}
 use Rattle.nv_region.specs.Region.{Region}
 use Rattle.nv_super.specs.declared.superblock.Super.{Super}
@@ -13,12 +13,12 @@ use Rattle.nv_held.specs.Graph.{graph_in, target_in}
 use Rattle.nv_held.specs.Mounted.{IsMounted}
 use Rattle.nv_held.specs.nv_named.Read.{row_of}
 use Rattle.nv_tree.specs.declared.refusal.Refusal.{Refusal}
-use Rattle.nv_tree.specs.declared.refusal.Refusal.TheVariants.{NotDirectory}
-use Rattle.nv_tree.specs.Tree.{Node, Tree, and_then, as_directory, is_directory, name_in, or_not_found, passed, walk}
+use Rattle.nv_tree.specs.Tree.{Node, Tree, and_then, as_directory, name_in, or_not_found, passed, walk}
 use Rattle.nv_calls.specs.Seen.{node_of, tree_of}
 use Rattle.nv_calls.proofs.CreatedRows.{in_rows, not_held}
 use Rattle.nv_calls.proofs.RowChange.{row_there}
 use Rattle.nv_calls.proofs.Targets.{numbered}
+use Rattle.nv_calls.proofs.Walks.{same_number}
 
 -- all names but the last
 abbrev pub way_to : List (List ℕ) → List (List ℕ)
@@ -26,17 +26,10 @@ way_to [] = []
 way_to (name ∷ []) = []
 way_to (name ∷ next ∷ names) = name ∷ way_to (next ∷ names)
 
-as_there : (d e : ℕ) (o : Option Node) → as_directory d o ≡ Ok e → d ≡ e
-as_there d e None h = absurd (cc)
-as_there d e (Some node) h = by (is_directory node.kind) h where
-  by : (b : Bool) → cond b (Ok d) (Err NotDirectory) ≡ Ok e → d ≡ e
-  by true h = cc
-  by false h = absurd (cc)
-
 module _ (g : Graph) (t : Tree) (agree : (d : ℕ) (q : List ℕ) → g.name d q ≡ name_in t d q) where
   -- Where the walk ends, the graph's path does.
   pub walked_there : (d e : ℕ) (name : List ℕ) (names : List (List ℕ)) → walk t d (name ∷ names) ≡ Ok e → graph.walked g d (way_to (name ∷ names)) ≡ Some e
-  walked_there d e name [] h = ap (λ (i : ℕ). Some i) (as_there d e (t d) h)
+  walked_there d e name [] h = ap (λ (i : ℕ). Some i) (same_number d e (t d) h)
   walked_there d e name (next ∷ names) h = step (as_directory d (t d)) refl (λ i. walked_there i e next names) h where
     on : (o : Option ℕ) → name_in t d name ≡ o → ((i : ℕ) → walk t i (next ∷ names) ≡ Ok e → graph.walked g i (way_to (next ∷ names)) ≡ Some e) → and_then (or_not_found o) (λ i. walk t i (next ∷ names)) ≡ Ok e
         → option_and_then (λ j. graph.walked g j (way_to (next ∷ names))) (g.name d name) ≡ Some e
@@ -46,7 +39,7 @@ module _ (g : Graph) (t : Tree) (agree : (d : ℕ) (q : List ℕ) → g.name d q
     step : (r : Result ℕ Refusal) → as_directory d (t d) ≡ r → ((i : ℕ) → walk t i (next ∷ names) ≡ Ok e → graph.walked g i (way_to (next ∷ names)) ≡ Some e) → and_then r (λ k. and_then (or_not_found (name_in t k name)) (λ i. walk t i (next ∷ names))) ≡ Ok e
         → option_and_then (λ j. graph.walked g j (way_to (next ∷ names))) (g.name d name) ≡ Some e
     step (Err x) is rest h = absurd (cc)
-    step (Ok k) is rest h = on (name_in t k name) (ap (λ (n : ℕ). name_in t n name) (as_there d k (t d) is)) rest h
+    step (Ok k) is rest h = on (name_in t k name) (ap (λ (n : ℕ). name_in t n name) (same_number d k (t d) is)) rest h
 
   -- And both pass the same numbers.
   pub passed_there : (d : ℕ) (name : List ℕ) (names : List (List ℕ)) → graph.passed g d (way_to (name ∷ names)) ≡ passed t d (name ∷ names)

@@ -47,8 +47,8 @@ pub mod SizeKept
 pub mod Inserted
 pub mod NamesCounted
 pub mod NewLogs
-pub mod CreatedBytes
 pub mod NameEntries
+pub mod NamedLogs
 pub mod CreatedHeld
 pub mod CreatedRows
 pub mod CreatedTree
@@ -56,7 +56,6 @@ pub mod CreateTests
 pub mod MadeNamed
 pub mod SetRows
 pub mod TwoLogs
-pub mod TogetherBytes
 pub mod AppendedLogs
 pub mod BothHeld
 pub mod BothMounted
@@ -76,11 +75,9 @@ pub mod WriteReply
 mod NeedsExist
 pub mod NamedAt
 pub mod RemoveTests
-pub mod LostNames
 pub mod TakenOut
 pub mod GivenBlocks
 pub mod OwnedRow
-pub mod RemovedBytes
 pub mod CutNames
 pub mod RemovedHeld
 pub mod RemovedRows

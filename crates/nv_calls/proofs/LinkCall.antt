@@ -37,10 +37,11 @@ use Rattle.nv_calls.specs.World.{world_of}
 use Rattle.nv_calls.proofs.BothMounted.{both_bytes, both_kept, both_logs}
 use Rattle.nv_calls.proofs.BothTree.{both_tree}
 use Rattle.nv_calls.proofs.CreateTests.{good_name}
+use Rattle.nv_calls.proofs.CreatedRows.{name_absent}
 use Rattle.nv_calls.proofs.CreatedTree.{named_node}
 use Rattle.nv_calls.proofs.Kept.{rows_rise}
 use Rattle.nv_calls.proofs.LinkTests.{link_allows}
-use Rattle.nv_calls.proofs.LinkedHeld.{kinds_differ, link_right, name_absent}
+use Rattle.nv_calls.proofs.LinkedHeld.{kinds_differ, link_right}
 use Rattle.nv_calls.proofs.LinkedTree.{counted_node, linked_by, links_told}
 use Rattle.nv_calls.proofs.NamesCounted.{as_many}
 use Rattle.nv_calls.proofs.OneRow.{stands}

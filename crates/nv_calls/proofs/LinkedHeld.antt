@@ -1,14 +1,9 @@
 -- What is held once a file has a name more: both rows are of it, and nothing is wrong with it.
-use Rattle.std.proofs.Common.{◌≡◌, ◌≢◌, ℕ, ◌+◌, ◌%◌, ◌<◌, ◌≤◌, cond, nat_eq, Bool, false, List, ◌++◌, length, slice_get, take, take_all, ap, sym, ◌∙◌, subst, arith, Option, Some, None}
-use Rattle.std.specs.Cmp.Lexicographic.{pointwise}
+use Rattle.std.proofs.Common.{◌≡◌, ◌≢◌, ℕ, ◌+◌, ◌%◌, ◌<◌, ◌≤◌, List, ◌++◌, length, slice_get, take, take_all, ap, sym, ◌∙◌, subst, arith, Option, Some, None}
 use Rattle.std.specs.List.{Contains}
 use Rattle.std.specs.Option.{option_and_then, option_map}
-use Rattle.std.proofs.Math.Logic.{∥∥₁_elim}
-use Rattle.std.proofs.Math.Nat.{ℕ_set}
-use Rattle.std.proofs.Props.{props}
 use Rattle.nv_region.specs.Region.{Region}
 use Rattle.nv_super.specs.declared.superblock.Super.{Super}
-use Rattle.nv_super.specs.declared.faults.Fault.{Fault}
 use Rattle.nv_super.specs.declared.kind.Kind.TheVariants.{File, Directory}
 use Rattle.nv_super.specs.Layout.{Layout, fixed_layout}
 use Rattle.nv_super.specs.Order.{Rises}
@@ -17,7 +12,6 @@ use Rattle.nv_entry.specs.declared.entry.Entry.{Entry}
 use Rattle.nv_entry.specs.declared.entry.Entry.TheVariants.{Links}
 use Rattle.nv_entry.specs.declared.entry.Operation.TheVariants.{Add}
 use Rattle.nv_logpage.specs.Append.{end_of, needed, place_of}
-use Rattle.nv_names.specs.Names.{name_at}
 use Rattle.nv_scan.specs.declared.piece.Row.{Row}
 use Rattle.nv_held.specs.nv_check.Cross.{row_key}
 use Rattle.nv_held.specs.Held.{Held, Store}
@@ -31,15 +25,13 @@ use Rattle.nv_commit.specs.Extends.{extended, with_log}
 use Rattle.nv_commit.proofs.Called.{linked_faultless}
 use Rattle.nv_calls.specs.LinkCalls.{links_entries}
 use Rattle.nv_calls.specs.MoreNames.{HasCounted, LinksAt}
-use Rattle.nv_calls.specs.Mount.{IsKept}
 use Rattle.nv_calls.specs.NameCalls.{name_entries}
-use Rattle.nv_calls.specs.NewNames.{HasNamed, IsNoneNamed, place_named}
+use Rattle.nv_calls.specs.NewNames.{IsNoneNamed, place_named}
 use Rattle.nv_calls.specs.Steps.{ShowsRow}
 use Rattle.nv_calls.proofs.BothMounted.{IsRight}
 use Rattle.nv_calls.proofs.CreatedRows.{not_named}
 use Rattle.nv_calls.proofs.LinksEntries.{links_file, links_names, links_numbers}
-use Rattle.nv_calls.proofs.Mounts.{mounted_of_kept}
-use Rattle.nv_calls.proofs.NameEntries.{name_added, name_file, name_numbers}
+use Rattle.nv_calls.proofs.NamedLogs.{named_file, named_told}
 use Rattle.nv_calls.proofs.OneRow.{stands}
 use Rattle.nv_calls.proofs.RowOf.{row_at}
 
@@ -77,36 +69,7 @@ module _ {R : Region} {s : Super} {held : Store} {f : Held} {file : Row} {free :
         names = λ q. has.names q ∙ told.names q ∙ sym (links_names l f of_kind at n time end pages some few q);
       }
 
--- ---- a directory that has a name more
-
-module _ {R : Region} {s : Super} {held : Store} {h : Held} {row : Row} {free : FreeLists} (i : ℕ) (name : List ℕ) (time : ℕ) (more : List ℕ) (shows : ShowsRow R s held h row free) (is_directory : row.kind ≡ Directory) (good : IsGoodName s i name) where
-  abbrev others : List Entry
-  others = name_entries Add i name time
-
-  dir_kind : h.kind ≡ Directory
-  dir_kind = let told = shows.told in sym told.kind ∙ is_directory
-
-  pub named_file : SameFile (fixed_layout s) h (extended h others more)
-  named_file = name_file (fixed_layout s) h dir_kind i name good (place_named more h.tail i name time) time (end_of more 0 h.tail others) (take (needed (h.tail % 4096) others) more)
-
-  pub named_told : {now : Row} → length more ≡ needed (row.tail % 4096) others → HasNamed row more (end_of more 0 row.tail others) name i (place_named more row.tail i name time) time now → KeepsRow (fixed_layout s) (extended h others more) now
-  named_told {now} count named =
-      let told = shows.told in
-      let at = place_named more h.tail i name time in
-      let end = end_of more 0 h.tail others in
-      let pages = take (needed (h.tail % 4096) others) more in
-      let counted : length more ≡ needed (h.tail % 4096) others = count ∙ ap (λ (t : ℕ). needed (t % 4096) others) told.tail in
-      let all : pages ≡ more = take_all (needed (h.tail % 4096) others) more (omega (arith, counted)) in
-      record {
-        kind = named.kind ∙ told.kind;
-        numbers = name_numbers (fixed_layout s) h dir_kind i name good at time end pages row.numbers now.numbers told.numbers named.numbers;
-        head = named.head ∙ told.head;
-        tail = named.tail ∙ ap (λ (t : ℕ). end_of more 0 t others) told.tail;
-        pages = named.pages ∙ ap (λ (ps : List ℕ). ps ++ more) told.pages ∙ ap (λ (ps : List ℕ). h.pages ++ ps) (sym all);
-        index = λ p. named.index p ∙ told.index p ∙ sym (named_file p);
-        names = λ q. named.names q ∙ ap (λ (t : ℕ). cond (pointwise nat_eq q name) (Some (i, place_named more t i name time)) (name_at row.names q)) told.tail
-            ∙ ap (λ (o : Option (ℕ × ℕ)). cond (pointwise nat_eq q name) (Some (i, at)) o) (told.names q) ∙ sym (name_added (fixed_layout s) h dir_kind i name good at time end pages q);
-      }
+-- ---- the directory
 
 -- a name that no row's inode has isn't in the graph
 pub absent_in : {R : Region} {s : Super} {held : Store} {h : Held} {row : Row} {rows : List Row} {free : FreeLists} (name : List ℕ) → IsMounted R s held rows free.pools → ShowsRow R s held h row free → Contains rows row → IsNoneNamed rows row name
@@ -183,14 +146,8 @@ module _ {R S : Region} {s : Super} {rows news : List Row} {free after : FreeLis
     number = (let both = step.step in let counted = both.is in counted.inode);
     other_number = (let both = step.step in let named = both.other_is in named.inode);
     stays = λ held f shows. counted_file (links + 1) time fresh_blocks shows is_file (omega arith) (omega (arith, few));
-    other_stays = λ held h shows. named_file i name time more_blocks shows is_directory good;
+    other_stays = λ held h shows. named_file s i name time more_blocks shows.told is_directory good Add;
     told = λ held f shows. (let both = step.step in counted_told (links + 1) time fresh_blocks shows is_file (omega arith) (omega (arith, few)) both.count both.is);
-    other_told = λ held h shows. (let both = step.step in named_told i name time more_blocks shows is_directory good both.more_count both.other_is);
+    other_told = λ held h shows. (let both = step.step in named_told s i name time more_blocks shows.told is_directory good both.more_count both.other_is);
     faultless = λ held f h m shows shows_directory. linked_right held f h m shows shows_directory few;
   }
-
--- the name wasn't in the directory's row
-pub name_absent : {R : Region} {s : Super} {rows : List Row} {free : FreeLists} {faults : List Fault} {read_only stopped : Bool} → IsKept R s rows free faults read_only stopped → stopped ≡ false → read_only ≡ false → (row : Row) → Contains rows row → (name : List ℕ) → IsNoneNamed rows row name → name_at row.names name ≡ None
-name_absent {R} {s} {rows} kept runs writes row here name none = ∥∥₁_elim (mounted_of_kept kept runs writes) prop (λ w. not_named w.1 row here name none) where
-  prop : IsProp (name_at row.names name ≡ None)
-  prop = hlevel (props, ℕ_set)

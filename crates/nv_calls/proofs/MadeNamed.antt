@@ -22,12 +22,12 @@ use Rattle.nv_commit.specs.declared.making.NewInode.{NewInode}
 use Rattle.nv_commit.specs.Extends.{with_log}
 use Rattle.nv_commit.specs.Together.{CanCommit, ShowsIdle}
 use Rattle.nv_commit.specs.Makes.{CanBegin, CanMake, MakeWords, begun, tail_of, with_made}
+use Rattle.nv_commit.proofs.BytesStay.{made_bytes}
 use Rattle.nv_calls.specs.Grown.{StandsRight}
 use Rattle.nv_calls.specs.NameCalls.{first_entries, name_entries, new_held, with_named}
 use Rattle.nv_calls.specs.NewNames.{CanName, HasNamed, IsNewRow, MakesNamed, place_named}
 use Rattle.nv_calls.specs.Steps.{ShowsRow}
 use Rattle.nv_calls.specs.Taken.{TakesEach}
-use Rattle.nv_calls.proofs.CreatedBytes.{made_bytes}
 use Rattle.nv_calls.proofs.NewLogs.{can_begin, can_commit, can_make, first_append, second_append, slot_inside}
 
 -- blocks as the first and the others

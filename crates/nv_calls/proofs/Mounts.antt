@@ -1,6 +1,6 @@
 -- From what a mounted file system keeps to what is held, and back, where it can be written.
-use Rattle.std.proofs.Common.{◌≡◌, Bool, true, false, List, [], ◌∷◌, refl, ap, sym, ◌∙◌, subst, arith}
-use Rattle.std.specs.List.{filter}
+use Rattle.std.proofs.Common.{◌≡◌, ℕ, ◌/◌, Bool, true, false, List, [], ◌∷◌, refl, ap, sym, ◌∙◌, subst, arith, Option, Some}
+use Rattle.std.specs.List.{Contains, filter}
 use Rattle.std.proofs.Math.Logic.{∥∥₁_elim, ∥∥₁_map}
 use Rattle.std.proofs.Math.Nat.{ℕ_set}
 use Rattle.std.proofs.Props.{props}
@@ -8,12 +8,15 @@ use Rattle.std.proofs.lemmas.Bool.Decides.{nat_tests}
 use Rattle.nv_region.specs.Region.{Region}
 use Rattle.nv_super.specs.declared.superblock.Super.{Super}
 use Rattle.nv_super.specs.declared.faults.Fault.{Fault}
+use Rattle.nv_super.specs.Layout.{fixed_layout}
 use Rattle.nv_journal.specs.Undo.{undone}
 use Rattle.nv_alloc.specs.FreeValue.{FreeLists}
+use Rattle.nv_radix.specs.Pages.{block_at}
 use Rattle.nv_scan.specs.declared.piece.Row.{Row}
 use Rattle.nv_held.specs.nv_outcome.Outcome.{IsOutcome}
 use Rattle.nv_held.specs.nv_outcome.Same.{is_lasting, lasting_outcome}
-use Rattle.nv_held.specs.Held.{Store}
+use Rattle.nv_held.specs.Held.{Held, Store}
+use Rattle.nv_held.specs.Bytes.{byte_in, byte_of}
 use Rattle.nv_held.specs.Mounted.{IsMounted, ShowsSound}
 use Rattle.nv_held.proofs.Opens as opens
 use Rattle.nv_held.proofs.Closes as closes
@@ -39,6 +42,22 @@ module _ {R : Region} {s : Super} {rows : List Row} {free : FreeLists} {faults :
   -- What is held of a region that is kept so is what the rows and free lists say.
   pub mounted_with : IsKept R s rows free faults read_only stopped → stopped ≡ false → (held : Store) → ShowsSound R s held → ∥ (IsMounted R s held rows free.pools) ∥₁
   mounted_with kept runs held sound = ∥∥₁_map (kept.shown runs) (λ w. record { sound = sound; keeps = closes.outcome_kept sound (lasting_outcome (told s rows free w.0 faults)) w.1 })
+
+-- Where each byte of what is held stays, so does each of a row's file.
+pub bytes_stay : {R : Region} {s : Super} {rows : List Row} {free : FreeLists} {faults : List Fault} {read_only stopped : Bool} → IsKept R s rows free faults read_only stopped → stopped ≡ false → read_only ≡ false → (S : Region)
+    → ((held : Store) → IsMounted R s held rows free.pools → (i : ℕ) (h : Held) → held i ≡ Some h → (x : ℕ) → byte_of S (fixed_layout s) h x ≡ byte_of R (fixed_layout s) h x)
+    → (r : Row) → Contains rows r → (x : ℕ) → byte_in S (block_at r.index (x / 4096)) x ≡ byte_in R (block_at r.index (x / 4096)) x
+bytes_stay {R} {s} {rows} {free} kept runs writes S stay r c x = ∥∥₁_elim (mounted_of_kept kept runs writes) prop (λ w. same w.0 w.1) where
+  prop : IsProp (byte_in S (block_at r.index (x / 4096)) x ≡ byte_in R (block_at r.index (x / 4096)) x)
+  prop = hlevel (props, ℕ_set)
+
+  same : (held : Store) → IsMounted R s held rows free.pools → byte_in S (block_at r.index (x / 4096)) x ≡ byte_in R (block_at r.index (x / 4096)) x
+  same held m =
+      let keeps = m.keeps in
+      let in_rows = keeps.in_rows in
+      let k = in_rows.each r c in
+      let told = k.2 in
+      ap (λ (o : Option ℕ). byte_in S o x) (told.index (x / 4096)) ∙ stay held m r.inode k.0 k.1 x ∙ ap (λ (o : Option ℕ). byte_in R o x) (sym (told.index (x / 4096)))
 
 own_prop : (s : Super) (R : Region) → IsProp (undone s R ≡ R)
 own_prop s R = hlevel (props, ℕ_set)

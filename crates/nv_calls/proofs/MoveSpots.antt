@@ -1,13 +1,13 @@
 -- Why `rename` is refused where it looks for its inode and its directories.
-use Rattle.std.proofs.Common.{◌≡◌, ℕ, Bool, true, false, ◌&&◌, ◌||◌, List, [], ◌∷◌, ◌++◌, length, refl, ap, sym, ◌∙◌, Option, Some, None, Result, Ok, Err, eqb, inl, inr, is_none, is_some}
+use Rattle.std.proofs.Common.{◌≡◌, ℕ, Bool, true, false, ◌&&◌, List, [], ◌∷◌, ◌++◌, length, refl, ap, sym, ◌∙◌, Option, Some, None, Result, Ok, Err, eqb, is_none, is_some}
 use Rattle.std.specs.List.{Contains, list_any}
 use Rattle.std.specs.Option.{option_map_or}
-use Rattle.std.proofs.lemmas.Bool.Decides.{eqb_tells}
+use Rattle.std.proofs.lemmas.Bool.{true≢false}
+use Rattle.std.proofs.lemmas.Cmp.{nat_eq_equiv}
+use Rattle.std.proofs.lemmas.Map.Views.{list_any-from_Contains}
 use Rattle.nv_region.specs.Region.{Region}
 use Rattle.nv_super.specs.declared.kind.Kind.{Kind}
 use Rattle.nv_super.specs.declared.kind.Kind.TheVariants.{Directory}
-use Rattle.nv_super.proofs.Members.{none_in}
-use Rattle.nv_super.proofs.Rising.{Contains-cons}
 use Rattle.nv_scan.specs.declared.piece.Row.{Row}
 use Rattle.nv_tree.specs.declared.refusal.Refusal.{Refusal}
 use Rattle.nv_tree.specs.declared.refusal.Refusal.TheVariants.{BadName, Exists, IntoItself, NotFound, Stopped}
@@ -90,11 +90,7 @@ said_two old new Q some long some_new long_new each p q says says_new =
 
 -- a number that no member is equal to is no member
 no_member : (xs : List ℕ) (i : ℕ) → list_any (eqb i) xs ≡ false → Contains xs i → ⊥
-no_member [] i none c = none_in i c
-no_member (x ∷ xs) i none c = elim (eqb_tells i x) [
-  | inl w ↦ (let clash : true ≡ false = sym (ap (λ (b : Bool). b || list_any (eqb i) xs) w.0) ∙ none in cc)
-  | inr w ↦ elim (Contains-cons x xs i c) [ inl same ↦ w.1 same | inr rest ↦ no_member xs i (sym (ap (λ (b : Bool). b || list_any (eqb i) xs) w.0) ∙ none) rest ]
-]
+no_member xs i none c = true≢false (sym (list_any-from_Contains nat_eq_equiv i xs c) ∙ none)
 
 -- A directory that the way doesn't pass isn't on it.
 pub not_passed : (t : Tree) (names : List (List ℕ)) (row : Row) → passes_row t names row ≡ false → row.kind ≡ Directory → Contains (passed t 1 names) row.inode → ⊥

@@ -1,13 +1,12 @@
 -- A name that went from one directory to another: what is kept, the tree, and the logs.
-use Rattle.std.proofs.Common.{◌≡◌, ◌≢◌, ℕ, ◌%◌, ◌/◌, cond, nat_eq, Bool, false, List, ◌∷◌, ◌++◌, length, slice_get, take, take_all, ap, sym, ◌∙◌, subst, arith, Option, Some, None, Result, Ok}
-use Rattle.std.specs.Cmp.Lexicographic.{pointwise}
+use Rattle.std.proofs.Common.{◌≡◌, ◌≢◌, ℕ, ◌%◌, ◌/◌, Bool, false, List, ◌∷◌, slice_get, take, ap, sym, ◌∙◌, subst, Option, Some, Result, Ok}
 use Rattle.std.specs.List.{Contains}
 use Rattle.std.specs.Option.{option_and_then, option_map}
 use Rattle.nv_region.specs.Region.{Region}
 use Rattle.nv_super.specs.declared.superblock.Super.{Super}
 use Rattle.nv_super.specs.declared.faults.Fault.{Fault}
 use Rattle.nv_super.specs.declared.kind.Kind.TheVariants.{Directory}
-use Rattle.nv_super.specs.Layout.{Layout, fixed_layout}
+use Rattle.nv_super.specs.Layout.{fixed_layout}
 use Rattle.nv_super.proofs.Options.{some_is}
 use Rattle.nv_alloc.specs.FreeValue.{FreeLists}
 use Rattle.nv_entry.specs.declared.entry.Entry.{Entry}
@@ -23,8 +22,7 @@ use Rattle.nv_held.specs.Held.{Held, Store}
 use Rattle.nv_held.specs.Blocks.{OwnsNew}
 use Rattle.nv_held.specs.Bytes.{byte_in}
 use Rattle.nv_held.specs.Graph.{graph_in, node_in, target_in}
-use Rattle.nv_held.specs.Grows.{SameFile}
-use Rattle.nv_held.specs.Mounted.{IsFaultless, IsMounted, KeepsRow, ShowsSound}
+use Rattle.nv_held.specs.Mounted.{IsFaultless, IsMounted, ShowsSound}
 use Rattle.nv_held.specs.nv_named.Step.{IsGoodName}
 use Rattle.nv_commit.specs.Extends.{extended, with_log}
 use Rattle.nv_commit.proofs.Called.{moved_faultless}
@@ -32,7 +30,6 @@ use Rattle.nv_tree.specs.declared.refusal.Refusal.{Refusal}
 use Rattle.nv_tree.specs.Path.{last_name}
 use Rattle.nv_tree.specs.Tree.{SameTree, Tree, found, walk}
 use Rattle.nv_tree.specs.Calls.{edit, on_ok, on_some, renamed, with_name, without_name}
-use Rattle.nv_calls.specs.LessNames.{HasLost}
 use Rattle.nv_calls.specs.LinkCalls.{ShowsBothGrew}
 use Rattle.nv_calls.specs.Mount.{IsKept}
 use Rattle.nv_calls.specs.MoveCalls.{IsMoveSpot, MovesAcross}
@@ -42,51 +39,14 @@ use Rattle.nv_calls.specs.Seen.{tree_of}
 use Rattle.nv_calls.specs.Steps.{ShowsRow}
 use Rattle.nv_calls.proofs.BothMounted.{IsRight, both_bytes, both_kept, both_logs}
 use Rattle.nv_calls.proofs.BothTree.{both_tree}
-use Rattle.nv_calls.proofs.CreatedRows.{in_rows}
+use Rattle.nv_calls.proofs.CreatedRows.{in_rows, name_absent}
 use Rattle.nv_calls.proofs.CreatedTree.{named_node}
 use Rattle.nv_calls.proofs.GraphPaths.{graph_agrees, passed_there, walked_there, way_to}
 use Rattle.nv_calls.proofs.Kept.{rows_rise}
-use Rattle.nv_calls.proofs.LinkedHeld.{absent_in, name_absent, named_file, named_told}
-use Rattle.nv_calls.proofs.LostNames.{lost_file, lost_name, lost_numbers}
+use Rattle.nv_calls.proofs.LinkedHeld.{absent_in}
+use Rattle.nv_calls.proofs.NamedLogs.{lost_told, named_file, named_told}
 use Rattle.nv_calls.proofs.OneRow.{stands}
 use Rattle.nv_calls.proofs.RemovedTree.{lost_node}
-
--- ---- a directory that has a name less
-
-module _ {R : Region} {s : Super} {held : Store} {h : Held} {row : Row} {free : FreeLists} (i : ℕ) (name : List ℕ) (time : ℕ) (fresh : List ℕ) (shows : ShowsRow R s held h row free) (is_directory : row.kind ≡ Directory) (good : IsGoodName s i name) where
-  abbrev l : Layout
-  l = fixed_layout s
-
-  abbrev entries : List Entry
-  entries = name_entries Remove i name time
-
-  abbrev at : ℕ
-  at = place_of fresh 0 h.tail (Name (record { operation = Remove; inode = i; time = time; name = name }))
-
-  of_kind : h.kind ≡ Directory
-  of_kind = let told = shows.told in sym told.kind ∙ is_directory
-
-  pub cut_file : SameFile l h (extended h entries fresh)
-  cut_file = lost_file l h of_kind i name good at time (end_of fresh 0 h.tail entries) (take (needed (h.tail % 4096) entries) fresh)
-
-  pub cut_told : {now : Row} → length fresh ≡ needed (row.tail % 4096) entries → HasLost row fresh (end_of fresh 0 row.tail entries) name time now → KeepsRow l (extended h entries fresh) now
-  cut_told {now} count lost =
-      let told = shows.told in
-      let end = end_of fresh 0 h.tail entries in
-      let pages = take (needed (h.tail % 4096) entries) fresh in
-      let counted : length fresh ≡ needed (h.tail % 4096) entries = count ∙ ap (λ (t : ℕ). needed (t % 4096) entries) told.tail in
-      let all : pages ≡ fresh = take_all (needed (h.tail % 4096) entries) fresh (omega (arith, counted)) in
-      record {
-        kind = lost.kind ∙ told.kind;
-        numbers = lost_numbers l h of_kind i name good at time end pages row.numbers now.numbers told.numbers lost.numbers;
-        head = lost.head ∙ told.head;
-        tail = lost.tail ∙ ap (λ (t : ℕ). end_of fresh 0 t entries) told.tail;
-        pages = lost.pages ∙ ap (λ (ps : List ℕ). ps ++ fresh) told.pages ∙ ap (λ (ps : List ℕ). h.pages ++ ps) (sym all);
-        index = λ p. lost.index p ∙ told.index p ∙ sym (cut_file p);
-        names = λ q. lost.names q ∙ ap (λ (o : Option (ℕ × ℕ)). cond (pointwise nat_eq q name) None o) (told.names q) ∙ sym (lost_name l h of_kind i name good at time end pages q);
-      }
-
--- ---- what is owed
 
 module _ {R S : Region} {s : Super} {rows news : List Row} {free after : FreeLists} {place target end : ℕ} {name other : List ℕ} {time : ℕ} (step : MovesAcross R S s free after rows news place target end name other time) (names : List (List ℕ)) (first : List ℕ) (rest : List (List ℕ))
     (spot : IsMoveSpot (tree_of R rows) rows names (first ∷ rest) place name target end other) (good : IsGoodName s step.moved.inode name) (good_other : IsGoodName s step.moved.inode other) (differ : step.from.inode ≢ step.to.inode) where
@@ -160,10 +120,10 @@ module _ {R S : Region} {s : Super} {rows news : List Row} {free after : FreeLis
   moved_right = record {
     number = (let both = step.step in let lost = both.is in lost.inode);
     other_number = (let both = step.step in let got = both.other_is in got.inode);
-    stays = λ held h shows. cut_file i name time fresh_blocks shows from_directory good;
-    other_stays = λ held k shows. named_file i other time more_blocks shows to_directory good_other;
-    told = λ held h shows. (let both = step.step in cut_told i name time fresh_blocks shows from_directory good both.count both.is);
-    other_told = λ held k shows. (let both = step.step in named_told i other time more_blocks shows to_directory good_other both.more_count both.other_is);
+    stays = λ held h shows. named_file s i name time fresh_blocks shows.told from_directory good Remove;
+    other_stays = λ held k shows. named_file s i other time more_blocks shows.told to_directory good_other Add;
+    told = λ held h shows. (let both = step.step in lost_told s i name time fresh_blocks shows.told from_directory good both.count both.is);
+    other_told = λ held k shows. (let both = step.step in named_told s i other time more_blocks shows.told to_directory good_other both.more_count both.other_is);
     faultless = λ held h k m shows shows_to. faultless_then held h k m shows shows_to;
   }
 

@@ -1,6 +1,5 @@
 -- A name that went from one directory to another, once both logs have grown and the rows are settled.
-use Rattle.std.proofs.Common.{◌≡◌, ◌≢◌, ℕ, ◌-◌, cond, nat_eq, List, set, slice_get, ap, sym, ◌∙◌, subst, Some, None}
-use Rattle.std.specs.Cmp.Lexicographic.{pointwise}
+use Rattle.std.proofs.Common.{◌≡◌, ◌≢◌, ℕ, ◌-◌, List, set, slice_get, ap, sym, ◌∙◌, subst, Some}
 use Rattle.nv_region.specs.Region.{Region}
 use Rattle.nv_super.specs.declared.superblock.Super.{Super}
 use Rattle.nv_alloc.specs.FreeValue.{FreeLists}
@@ -9,11 +8,8 @@ use Rattle.nv_entry.specs.declared.entry.Operation.TheVariants.{Add, Remove}
 use Rattle.nv_entry.specs.Spelling.{entry_length}
 use Rattle.nv_logpage.specs.Append.{end_of}
 use Rattle.nv_names.specs.Names.{EachOnce}
-use Rattle.nv_radix.specs.Pages.{block_at}
-use Rattle.nv_scan.specs.declared.numbers.Numbers.{Numbers}
 use Rattle.nv_scan.specs.declared.piece.Row.{Row}
-use Rattle.nv_calls.specs.LessNames.{HasLost}
-use Rattle.nv_calls.specs.MoreNames.{AddsName, AppendsLogs, GrowsSame}
+use Rattle.nv_calls.specs.MoreNames.{AddsName, AppendsLogs}
 use Rattle.nv_calls.specs.MoveCalls.{MovesAcross}
 use Rattle.nv_calls.specs.NameCalls.{name_entries}
 use Rattle.nv_calls.specs.Unlinks.{DropsName}
@@ -22,20 +18,7 @@ use Rattle.nv_calls.proofs.MadeNamed.{place_is}
 use Rattle.nv_calls.proofs.PutRow.{one_row}
 use Rattle.nv_calls.proofs.SetRows.{both_twice, first_set, second_set}
 use Rattle.nv_calls.proofs.TakenOut.{other_set}
-
--- a row that grew and then has a name less
-pub drops_after : {old mid new : Row} {fresh : List ℕ} {end : ℕ} (name : List ℕ) (time : ℕ) → GrowsSame old fresh end mid → DropsName mid name time new → HasLost old fresh end name time new
-drops_after {old} {mid} {new} {fresh} {end} name time grew drops =
-    let rest = drops.rest in record {
-      inode = rest.inode ∙ grew.inode;
-      kind = rest.kind ∙ grew.kind;
-      numbers = drops.numbers ∙ ap (λ (n : Numbers). record n { time = time }) grew.numbers;
-      head = rest.head ∙ grew.head;
-      tail = rest.tail ∙ grew.tail;
-      pages = (λ t. (rest.pages t).items) ∙ grew.pages;
-      index = λ p. (λ t. block_at (rest.index t) p) ∙ grew.index p;
-      names = λ q. drops.names q ∙ (λ t. cond (pointwise nat_eq q name) None (grew.names q t));
-    }
+use Rattle.nv_calls.proofs.UnlinkedAt.{drops_after}
 
 module _ {R S : Region} {s : Super} {free after : FreeLists} {rows mid : List Row} {place end time : ℕ} {name other : List ℕ} (target : ℕ) (moved : Row) (moved_at : slice_get rows target ≡ Some moved)
     (grew : AppendsLogs R S s free after rows mid place (name_entries Remove moved.inode name time) end (name_entries Add moved.inode other time)) (differ : place ≢ end) where

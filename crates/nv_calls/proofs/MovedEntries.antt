@@ -15,8 +15,7 @@ use Rattle.nv_held.specs.Grows.{SameFile, grown}
 use Rattle.nv_held.specs.nv_named.Step.{IsGoodName, name_entry}
 use Rattle.nv_commit.specs.Pages.{SaysNoPage}
 use Rattle.nv_commit.proofs.BlocksOf.{same_file}
-use Rattle.nv_calls.proofs.LostNames.{lost_name, lost_numbers}
-use Rattle.nv_calls.proofs.NameEntries.{name_added, name_numbers}
+use Rattle.nv_calls.proofs.NameEntries.{name_added, name_lost, name_numbers}
 
 module _ (l : Layout) (h : Held) (directory : h.kind ≡ Directory) (j : ℕ) (name other : List ℕ) (good : IsGoodName l.sup j name) (good_other : IsGoodName l.sup j other) (at next time tail : ℕ) (fresh : List ℕ) where
   abbrev x : Placed
@@ -41,11 +40,11 @@ module _ (l : Layout) (h : Held) (directory : h.kind ≡ Directory) (j : ℕ) (n
   -- the time is that of both
   pub moved_numbers : (old now : Numbers) → AreNumbers h.created (good_in l h) old → now ≡ record old { time = time } → AreNumbers h.created (good_in l both) now
   moved_numbers old now are is =
-      let first = lost_numbers l h directory j name good at time tail fresh old (record old { time = time }) are refl in
-      subst (λ (es : List Placed). AreNumbers h.created es now) (sym good_same) (name_numbers l once directory j other good_other next time tail [] (record old { time = time }) now first is)
+      let first = name_numbers l h directory Remove j name good at time tail fresh old (record old { time = time }) are refl in
+      subst (λ (es : List Placed). AreNumbers h.created es now) (sym good_same) (name_numbers l once directory Add j other good_other next time tail [] (record old { time = time }) now first is)
 
   -- the other name is there, the name isn't, and the rest is as before
   pub moved_names : (q : List ℕ) → named (good_in l both) q ≡ cond (pointwise nat_eq q other) (Some (j, next)) (cond (pointwise nat_eq q name) None (named (good_in l h) q))
   moved_names q =
       ap (λ (es : List Placed). named es q) good_same ∙ name_added l once directory j other good_other next time tail [] q
-      ∙ ap (λ (o : Option (ℕ × ℕ)). cond (pointwise nat_eq q other) (Some (j, next)) o) (lost_name l h directory j name good at time tail fresh q)
+      ∙ ap (λ (o : Option (ℕ × ℕ)). cond (pointwise nat_eq q other) (Some (j, next)) o) (name_lost l h directory j name good at time tail fresh q)

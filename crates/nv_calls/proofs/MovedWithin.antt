@@ -33,7 +33,7 @@ use Rattle.nv_held.proofs.Fronts.{sound_moves}
 use Rattle.nv_held.proofs.Growing.{free_but, grown_owns}
 use Rattle.nv_held.specs.nv_named.Step.{IsGoodName}
 use Rattle.nv_commit.specs.Extends.{CanExtend, extended, with_log}
-use Rattle.nv_commit.proofs.Called.{moved_here_faultless}
+use Rattle.nv_commit.proofs.Called.{either_none, moved_here_faultless}
 use Rattle.nv_tree.specs.Tree.{SameNode, SameTree, Tree, found, walk}
 use Rattle.nv_tree.specs.Tree as tree
 use Rattle.nv_tree.specs.Calls.{edit, renamed, with_name, without_name}
@@ -43,15 +43,17 @@ use Rattle.nv_calls.specs.Mount.{IsKept}
 use Rattle.nv_calls.specs.NewNames.{IsNoneNamed}
 use Rattle.nv_calls.specs.Seen.{node_of, tree_of}
 use Rattle.nv_calls.specs.Steps.{LogFollows, ShowsRow}
-use Rattle.nv_calls.proofs.CreatedRows.{in_rows}
+use Rattle.nv_calls.proofs.CreatedRows.{in_rows, name_absent}
+use Rattle.nv_calls.proofs.CreatedTree.{first_of}
 use Rattle.nv_calls.proofs.GraphPaths.{graph_agrees, passed_there, walked_there, way_to}
-use Rattle.nv_calls.proofs.LinkedHeld.{absent_in, name_absent}
+use Rattle.nv_calls.proofs.LinkedHeld.{absent_in}
 use Rattle.nv_calls.proofs.LogGrows.{can_extend, count_held, extended_bytes, fresh_free, pages_now, pages_once}
 use Rattle.nv_calls.proofs.MovedAcross.{renamed_by}
 use Rattle.nv_calls.proofs.MovedEntries.{moved_file, moved_names, moved_numbers}
 use Rattle.nv_calls.proofs.Mounts.{mounted_with}
 use Rattle.nv_calls.proofs.NamesCounted.{one_less, one_more}
 use Rattle.nv_calls.proofs.OneRow.{stands}
+use Rattle.nv_calls.proofs.RemovedTree.{none_of}
 use Rattle.nv_calls.proofs.RowChange.{kept_after, log_grew, row_bytes, tree_after}
 use Rattle.nv_calls.proofs.TakenBlocks.{lists_without, taken_sup}
 
@@ -179,18 +181,6 @@ module _ {R S : Region} {s : Super} {rows : List Row} {free after : FreeLists} {
 
   bytes : (r : Row) → Contains rows r → (x : ℕ) → byte_in S (block_at r.index (x / 4096)) x ≡ byte_in R (block_at r.index (x / 4096)) x
   bytes = row_bytes kept runs writes place row new at entries follows
-
-  first_of : (b : Bool) (x : ℕ × ℕ) (o : Option (ℕ × ℕ)) → option_map (λ (y : ℕ × ℕ). y.0) (cond b (Some x) o) ≡ cond b (Some x.0) (option_map (λ (y : ℕ × ℕ). y.0) o)
-  first_of true x o = refl
-  first_of false x o = refl
-
-  none_of : (b : Bool) (o : Option (ℕ × ℕ)) → option_map (λ (y : ℕ × ℕ). y.0) (cond b None o) ≡ cond b None (option_map (λ (y : ℕ × ℕ). y.0) o)
-  none_of true o = refl
-  none_of false o = refl
-
-  either_none : (b : Bool) (o : Option (ℕ × ℕ)) → o ≡ None → cond b None o ≡ None
-  either_none true o e = refl
-  either_none false o e = e
 
   -- The directory shows the other name in place of the name.
   moved_node : SameNode (node_of S new) (with_name other i time (without_name name time (node_of R row)))

@@ -7,7 +7,8 @@ use Rattle.nv_super.specs.declared.kind.Kind.{Kind}
 use Rattle.nv_super.specs.declared.kind.Kind.TheVariants.{Directory}
 use Rattle.nv_super.specs.Layout.{Layout}
 use Rattle.nv_entry.specs.declared.entry.AttrEntry.{AttrEntry}
-use Rattle.nv_entry.specs.declared.entry.Operation.TheVariants.{Add}
+use Rattle.nv_entry.specs.declared.entry.Operation.{Operation}
+use Rattle.nv_entry.specs.declared.entry.Operation.TheVariants.{Add, Remove}
 use Rattle.nv_entry.specs.declared.entry.Entry.TheVariants.{Attr}
 use Rattle.nv_entry.specs.Content.{is_attr_out_of_range, is_good}
 use Rattle.nv_logpage.specs.declared.found.Placed.{Placed}
@@ -26,20 +27,20 @@ use Rattle.nv_commit.proofs.BlocksOf.{attributes_map_nothing, same_file}
 use Rattle.nv_calls.specs.NameCalls.{new_held}
 use Rattle.nv_calls.proofs.AttrEntries.{attr_good}
 
--- ---- a name more
+-- ---- an entry of a name
 
-name_good : (s : Super) (kind : Kind) (j : ℕ) (name : List ℕ) (time at : ℕ) → kind ≡ Directory → IsGoodName s j name → (let x = name_entry at Add j name time in is_good s kind x.entry ≡ true)
-name_good s kind j name time at directory good = subst (λ (k : Kind). is_good s k (name_entry at Add j name time).entry ≡ true) (sym directory) (ap not good)
+entry_good : (s : Super) (kind : Kind) (o : Operation) (j : ℕ) (name : List ℕ) (time at : ℕ) → kind ≡ Directory → IsGoodName s j name → (let x = name_entry at o j name time in is_good s kind x.entry ≡ true)
+entry_good s kind o j name time at directory good = subst (λ (k : Kind). is_good s k (name_entry at o j name time).entry ≡ true) (sym directory) (ap not good)
 
-module _ (l : Layout) (h : Held) (directory : h.kind ≡ Directory) (j : ℕ) (name : List ℕ) (good : IsGoodName l.sup j name) (at time tail : ℕ) (fresh : List ℕ) where
+module _ (l : Layout) (h : Held) (directory : h.kind ≡ Directory) (o : Operation) (j : ℕ) (name : List ℕ) (good : IsGoodName l.sup j name) (at time tail : ℕ) (fresh : List ℕ) where
   abbrev x : Placed
-  x = name_entry at Add j name time
+  x = name_entry at o j name time
 
   abbrev new : Held
   new = grown h tail (x ∷ []) fresh
 
-  grown_good : good_in l new ≡ good_in l h ++ x ∷ []
-  grown_good = good_entries-more l.sup h.kind h.entries x (name_good l.sup h.kind j name time at directory good)
+  pub grown_good : good_in l new ≡ good_in l h ++ x ∷ []
+  grown_good = good_entries-more l.sup h.kind h.entries x (entry_good l.sup h.kind o j name time at directory good)
 
   -- the file's blocks stay
   pub name_file : SameFile l h new
@@ -56,12 +57,26 @@ module _ (l : Layout) (h : Held) (directory : h.kind ≡ Directory) (j : ℕ) (n
     time = sym (last_word-more says_time h.created (good_in l h) x);
   }))
 
-  -- the name is there, and the others are as before
-  pub name_added : (q : List ℕ) → named (good_in l new) q ≡ cond (pointwise nat_eq q name) (Some (j, at)) (named (good_in l h) q)
-  name_added q = ap (λ (es : List Placed). named es q) grown_good ∙ last_word-more (says_name q) None (good_in l h) x ∙ by (pointwise nat_eq q name) (named (good_in l h) q) where
-    by : (b : Bool) (o : Option (ℕ × ℕ)) → unwrap_or (cond {A = Option (Option (ℕ × ℕ))} b (Some (Some (j, at))) None) o ≡ cond b (Some (j, at)) o
-    by true o = refl
-    by false o = refl
+module _ (l : Layout) (h : Held) (directory : h.kind ≡ Directory) (j : ℕ) (name : List ℕ) (good : IsGoodName l.sup j name) (at time tail : ℕ) (fresh : List ℕ) where
+  -- a name that is added is there, and the others are as before
+  pub name_added : (q : List ℕ) → named (good_in l (grown h tail (name_entry at Add j name time ∷ []) fresh)) q ≡ cond (pointwise nat_eq q name) (Some (j, at)) (named (good_in l h) q)
+  name_added q =
+      ap (λ (es : List Placed). named es q) (grown_good l h directory Add j name good at time tail fresh)
+      ∙ last_word-more (says_name q) None (good_in l h) (name_entry at Add j name time) ∙ by (pointwise nat_eq q name) (named (good_in l h) q)
+    where
+      by : (b : Bool) (o : Option (ℕ × ℕ)) → unwrap_or (cond {A = Option (Option (ℕ × ℕ))} b (Some (Some (j, at))) None) o ≡ cond b (Some (j, at)) o
+      by true o = refl
+      by false o = refl
+
+  -- one that is removed isn't, and the others are as before
+  pub name_lost : (q : List ℕ) → named (good_in l (grown h tail (name_entry at Remove j name time ∷ []) fresh)) q ≡ cond (pointwise nat_eq q name) None (named (good_in l h) q)
+  name_lost q =
+      ap (λ (es : List Placed). named es q) (grown_good l h directory Remove j name good at time tail fresh)
+      ∙ last_word-more (says_name q) None (good_in l h) (name_entry at Remove j name time) ∙ by (pointwise nat_eq q name) (named (good_in l h) q)
+    where
+      by : (b : Bool) (o : Option (ℕ × ℕ)) → unwrap_or (cond {A = Option (Option (ℕ × ℕ))} b (Some None) None) o ≡ cond b None o
+      by true o = refl
+      by false o = refl
 
 -- ---- a new log
 

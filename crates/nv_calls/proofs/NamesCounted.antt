@@ -9,6 +9,7 @@ use Rattle.std.proofs.lemmas.Map.Keys.{IsDistinct-cons}
 use Rattle.std.proofs.lemmas.Map.Made.{length-from_same_keys}
 use Rattle.nv_super.proofs.Sorted.{same_keys}
 use Rattle.nv_names.specs.Names.{EachOnce, Names, found_in, name_at, names_of}
+use Rattle.nv_commit.proofs.Called.{first_some}
 
 -- a name is found where it is one of the names
 found_member : (es : List (List ℕ × ℕ × ℕ)) (q : List ℕ) → is_member (pointwise nat_eq) (names_of es) q ≡ is_some (found_in es q)
@@ -50,11 +51,6 @@ as_many old new once once_now names =
     let counted : length (names_of new.names) ≡ length (names_of old.names) = length-from_same_keys nat_list_eq_equiv (names_of new.names) (names_of old.names) once_now once same in
     sym (length-map new.names (λ e. e.0)) ∙ counted ∙ length-map old.names (λ e. e.0)
 
--- where a name stands for something
-some_there : (o : Option (ℕ × ℕ)) (j : ℕ) → option_map (λ (x : ℕ × ℕ). x.0) o ≡ Some j → (x : ℕ × ℕ) × (o ≡ Some x)
-some_there None j e = absurd (cc)
-some_there (Some x) j e = (x, refl)
-
 -- a name is the one that it is equal to
 same_name : (o old : Option (ℕ × ℕ)) (b : Bool) (x : ℕ × ℕ) → (b ≡ true → old ≡ Some x) → o ≡ cond b None old → old ≡ cond b (Some x) o
 same_name o old true x is now = is refl
@@ -63,7 +59,7 @@ same_name o old false x is now = sym now
 -- An index that has one name less has one less.
 pub one_less : (old new : Names) (name : List ℕ) (j : ℕ) → EachOnce old → EachOnce new → option_map (λ (x : ℕ × ℕ). x.0) (name_at old name) ≡ Some j → ((q : List ℕ) → name_at new q ≡ cond (pointwise nat_eq q name) None (name_at old q)) → length new.names ≡ length old.names - 1
 one_less old new name j once once_now there names =
-    let x = some_there (name_at old name) j there in
+    let x = first_some (name_at old name) j there in
     let same : (q : List ℕ) → pointwise nat_eq q name ≡ true → q ≡ name = λ q e. same_keys q name e in
     let none : name_at new name ≡ None = names name ∙ ap (λ (b : Bool). cond b None (name_at old name)) (nat_list_eq_equiv.refl name) in
     let back : (q : List ℕ) → name_at old q ≡ cond (pointwise nat_eq q name) (Some x.0) (name_at new q) = λ q. same_name (name_at new q) (name_at old q) (pointwise nat_eq q name) x.0 (λ e. ap (name_at old) (same q e) ∙ x.1) (names q) in

@@ -26,14 +26,7 @@ use Rattle.nv_calls.specs.NewNames.{CanName}
 use Rattle.nv_calls.specs.Steps.{ShowsRow}
 use Rattle.nv_calls.specs.Taken.{TakesEach}
 use Rattle.nv_calls.proofs.LogGrows.{slot_there}
-use Rattle.nv_calls.proofs.TakenBlocks.{all_differ, are_free, differ_with, each_in_data}
-
--- the second of three is left out
-differ_rest : (a b : ℕ) (xs : List ℕ) → AllDiffer (a ∷ b ∷ xs) → AllDiffer (a ∷ xs)
-differ_rest a b xs differ zero zero less inside = absurd (omega (arith, less))
-differ_rest a b xs differ zero (suc j) less inside = differ zero (suc (suc j)) (omega arith) (omega (arith, inside))
-differ_rest a b xs differ (suc i) zero less inside = absurd (omega (arith, less))
-differ_rest a b xs differ (suc i) (suc j) less inside = differ (suc (suc i)) (suc (suc j)) (omega (arith, less)) (omega (arith, inside))
+use Rattle.nv_calls.proofs.TakenBlocks.{all_differ, are_free, differ_rest, differ_with, each_in_data}
 
 differ_tail : (a : ℕ) (xs : List ℕ) → AllDiffer (a ∷ xs) → AllDiffer xs
 differ_tail a xs differ i j less inside = differ (suc i) (suc j) (omega (arith, less)) (omega (arith, inside))

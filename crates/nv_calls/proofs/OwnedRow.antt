@@ -1,16 +1,15 @@
--- What is known of a row whose inode goes: its number, and that its blocks are its own.
-use Rattle.std.proofs.Common.{◌≡◌, ◌≢◌, ℕ, zero, suc, ◌*◌, ◌<◌, ◌≤◌, Bool, false, IsTrue, List, length, get_or, set, slice_get, ap, sym, ◌∙◌, subst, arith, Some}
+-- What is known of a row whose inode goes: its blocks are its own.
+use Rattle.std.proofs.Common.{◌≡◌, ◌≢◌, ℕ, ◌*◌, ◌<◌, ◌≤◌, Bool, false, List, length, get_or, set, slice_get, ap, sym, ◌∙◌, subst, arith, Some}
 use Rattle.std.specs.List.{Contains}
 use Rattle.std.proofs.Math.Logic.{∥∥₁_elim}
 use Rattle.std.proofs.Math.Nat.{ℕ_set}
 use Rattle.std.proofs.Props.{props}
-use Rattle.std.proofs.lemmas.Bool.Decides.{nat_tests}
 use Rattle.std.proofs.lemmas.Option.{get_or_from_slice_get, slice_get-get_or}
 use Rattle.nv_region.specs.Region.{Region}
 use Rattle.nv_super.specs.declared.superblock.Super.{Super}
 use Rattle.nv_super.specs.declared.owners.Owner.TheVariants as owners
 use Rattle.nv_super.specs.declared.faults.Fault.{Fault}
-use Rattle.nv_super.specs.Layout.{fixed_layout, inode_limit, is_number, slot_of, system_blocks}
+use Rattle.nv_super.specs.Layout.{fixed_layout, system_blocks}
 use Rattle.nv_alloc.specs.FreeValue.{FreeLists}
 use Rattle.nv_alloc.proofs.Sound.{free_within}
 use Rattle.nv_logpage.specs.Append.{AllDiffer}
@@ -30,18 +29,9 @@ use Rattle.nv_calls.specs.Steps.{ShowsRow}
 use Rattle.nv_calls.specs.Taken.{TakesEach}
 use Rattle.nv_calls.proofs.GivenPages.{own_row, own_taken, was_free}
 use Rattle.nv_calls.proofs.Mounts.{mounted_of_kept}
-use Rattle.nv_calls.proofs.OneRow.{row_stands, shows_row}
+use Rattle.nv_calls.proofs.OneRow.{shows_row}
 use Rattle.nv_calls.proofs.TakenBlocks.{taken_sup}
 use Rattle.nv_calls.proofs.TakenOut.{other_set, places_differ}
-
--- ---- its number
-
-some_slot : (s : Super) (i a : ℕ) → slot_of (fixed_layout s) i ≡ Some a → 0 < i
-some_slot s zero a e = absurd (cc)
-some_slot s (suc i) a e = omega arith
-
-number_by : (s : Super) (i : ℕ) → 0 < i → i < inode_limit s → IsTrue (is_number s i)
-number_by s i some below = grind (arith, nat_tests)
 
 -- ---- its blocks
 
@@ -52,15 +42,6 @@ log_no_data : (i k j p : ℕ) → owners.Log i k ≡ owners.Data j p → ⊥
 log_no_data i k j p e = cc
 
 module _ {R : Region} {s : Super} {held : Store} {rows : List Row} (free : FreeLists) (m : IsMounted R s held rows free.pools) (lists : free.sup ≡ s) where
-  pub row_number : (row : Row) → Contains rows row → IsTrue (is_number s row.inode)
-  row_number row c =
-      let w = shows_row {free = free} m lists row c in
-      let shown = w.1 in
-      let sound = m.sound in
-      let v = stands_at sound.shows row.inode w.0 shown.holds in
-      let right = row_stands {free = free} m lists row c in
-      number_by s row.inode (some_slot s row.inode v.a v.at) right.number
-
   module _ (row : Row) (c : Contains rows row) where
     abbrev h : Held
     h = (shows_row {free = free} m lists row c).0
@@ -121,9 +102,6 @@ module _ {R : Region} {s : Super} {rows : List Row} {free : FreeLists} {faults :
   owns_blocks = ∥∥₁_elim (mounted_of_kept kept runs writes) prop (λ w. row_owns free w.1 kept.lists row c) where
     prop : IsProp (OwnsBlocks free row)
     prop = hlevel (props, ℕ_set)
-
-  pub kept_number : IsTrue (is_number s row.inode)
-  kept_number = ∥∥₁_elim (mounted_of_kept kept runs writes) (hlevel (props, ℕ_set)) (λ w. row_number free w.1 kept.lists row c)
 
 -- ---- once blocks were taken
 

@@ -1,5 +1,5 @@
 -- What was taken for a write: blocks that were free, each once.
-use Rattle.std.proofs.Common.{◌≡◌, ℕ, ◌<◌, ◌≤◌, List, [], ◌∷◌, ap, sym, ◌∙◌, subst, arith, Some}
+use Rattle.std.proofs.Common.{◌≡◌, ℕ, ◌<◌, ◌≤◌, List, ◌∷◌, ap, sym, ◌∙◌, subst, arith, Some}
 use Rattle.std.specs.List.{Contains}
 use Rattle.nv_super.specs.declared.owners.Run.{Run}
 use Rattle.nv_super.specs.declared.superblock.Super.{Super}
@@ -18,13 +18,8 @@ use Rattle.nv_calls.specs.Writes.{data_blocks}
 use Rattle.nv_calls.specs.Written.{Prepared}
 use Rattle.nv_calls.specs.declared.planning.Plan.{Plan}
 use Rattle.nv_calls.proofs.DataEntries.{Fits}
-use Rattle.nv_calls.proofs.TakenBlocks.{each_was_free, taken_sup}
+use Rattle.nv_calls.proofs.TakenBlocks.{each_was_free, stays_free, taken_sup}
 use Rattle.nv_calls.proofs.Takes.{takes_some}
-
--- no block is free that wasn't
-pub stays_free : (old new : FreeLists) (fresh : List ℕ) → TakeAll old (single_takes fresh) new → (cpu b : ℕ) → IsFreeIn new cpu b → IsFreeIn old cpu b
-stays_free old new [] same cpu b free = subst (λ (a : FreeLists). IsFreeIn a cpu b) (sym same) free
-stays_free old new (a ∷ fresh) w cpu b free = w.1.leave.stays cpu b (stays_free w.0 new fresh w.2 cpu b free)
 
 -- a free block of what is held
 pub free_held : (l : Layout) (held : Store) (old : FreeLists) → KeepsFree l held old.pools → (cpu b : ℕ) → IsFreeIn old cpu b → blocks.IsUnowned l held b

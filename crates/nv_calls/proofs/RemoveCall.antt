@@ -34,7 +34,7 @@ use Rattle.nv_calls.proofs.CreateTests.{good_name}
 use Rattle.nv_calls.proofs.Kept.{rows_rise}
 use Rattle.nv_calls.proofs.NewNumbers.{can_name}
 use Rattle.nv_calls.proofs.OneRow.{stands}
-use Rattle.nv_calls.proofs.OwnedRow.{kept_number}
+use Rattle.nv_calls.proofs.RowNumbers.{row_number}
 use Rattle.nv_calls.proofs.RemovedRows.{bytes_kept, kept_then, numbers_differ, was_removed}
 use Rattle.nv_calls.proofs.RemovedTree.{lost_node, removed_by, removed_tree, tree_less}
 use Rattle.nv_calls.proofs.RemoveTests.{rmdir_allows}
@@ -50,7 +50,7 @@ module _ {R S : Region} {s : Super} {rows news : List Row} {free after : FreeLis
   walked = (spot.directory step.row step.at).0
 
   good : IsGoodName s step.gone.inode name
-  good = good_name s step.gone.inode name spelled (kept_number kept runs writes step.gone (stands rows target step.gone step.gone_at))
+  good = good_name s step.gone.inode name spelled (row_number kept runs writes step.gone (stands rows target step.gone step.gone_at))
 
   named : option_map (λ (x : ℕ × ℕ). x.0) (name_at step.row.names name) ≡ Some step.gone.inode
   named = spot.named step.row step.gone step.at step.gone_at
@@ -99,7 +99,7 @@ other_number row gone name directory named (inr w) one same = let clash : Direct
 pub can_cut : {R : Region} {s : Super} {rows : List Row} {free : FreeLists} {faults : List Fault} {read_only stopped : Bool} → IsKept R s rows free faults read_only stopped → stopped ≡ false → read_only ≡ false → (cpu : ℕ) → cpu < s.cpus → (place target : ℕ) (name : List ℕ) (names : List (List ℕ)) → IsNamedAt (tree_of R rows) rows names place name target
     → (row gone : Row) → slice_get rows place ≡ Some row → slice_get rows target ≡ Some gone → CanGo gone → CanName R s cpu gone.inode row × (row.inode ≢ gone.inode)
 can_cut {R} {s} {rows} {free} {faults} {read_only} {stopped} kept runs writes cpu low place target name names spot row gone at gone_at can_go = (
-  can_name kept runs writes cpu gone.inode low (kept_number kept runs writes gone (stands rows target gone gone_at)) row (stands rows place row at),
+  can_name kept runs writes cpu gone.inode low (row_number kept runs writes gone (stands rows target gone gone_at)) row (stands rows place row at),
   other_number row gone name (spot.directory row at).1 (spot.named row gone at gone_at) can_go (λ same. (
       let up = rows_rise R s rows free faults read_only stopped kept runs in
       let both : Some row ≡ Some gone = sym (row_at rows place row up at) ∙ ap (row_of rows) same ∙ row_at rows target gone up gone_at in

@@ -1,6 +1,5 @@
 -- What is held once a name and its inode are gone: nothing is wrong with it, and the free lists and the directory's row are of it.
-use Rattle.std.proofs.Common.{◌≡◌, ◌≢◌, ◌↔◌, ℕ, ◌%◌, ◌<◌, ◌≤◌, ◌⊎◌, inl, inr, cond, nat_eq, eqb, List, ◌++◌, length, take, take_all, ap, sym, ◌∙◌, subst, arith, Option, Some, None}
-use Rattle.std.specs.Cmp.Lexicographic.{pointwise}
+use Rattle.std.proofs.Common.{◌≡◌, ◌≢◌, ◌↔◌, ℕ, ◌%◌, ◌<◌, ◌≤◌, ◌⊎◌, inl, inr, eqb, List, ◌++◌, length, take, take_all, ap, sym, ◌∙◌, subst, arith, Option, Some, None}
 use Rattle.std.specs.List.{Contains, IsDistinct}
 use Rattle.std.specs.Option.{option_and_then, option_map}
 use Rattle.nv_region.specs.Region.{Region}
@@ -24,7 +23,7 @@ use Rattle.nv_held.specs.Blocks.{IsUnowned, KeepsFree, NoneDoubled, OwnsNew}
 use Rattle.nv_held.specs.Graph.{graph_in, target_in}
 use Rattle.nv_held.specs.Grows.{AreFree, Maps, SameFile}
 use Rattle.nv_held.specs.Lists.{WasTaken}
-use Rattle.nv_held.specs.Mounted.{IsFaultless, KeepsRow, ShowsSound}
+use Rattle.nv_held.specs.Mounted.{IsFaultless, ShowsSound}
 use Rattle.nv_held.proofs.Growing.{free_but, grown_owns}
 use Rattle.nv_held.proofs.ListsKept.{lists_change}
 use Rattle.nv_held.proofs.Owning.{other_held, same_held, still_undoubled}
@@ -34,12 +33,12 @@ use Rattle.nv_commit.specs.Extends.{extended, with_log}
 use Rattle.nv_commit.specs.Together.{ShowsIdle}
 use Rattle.nv_commit.proofs.BlocksOf.{gone_free}
 use Rattle.nv_commit.proofs.Called.{directory_gone_faultless, file_gone_faultless}
-use Rattle.nv_calls.specs.LessNames.{CanGo, GivesRow, HasLost}
+use Rattle.nv_calls.specs.LessNames.{CanGo, GivesRow}
 use Rattle.nv_calls.specs.NameCalls.{name_entries}
 use Rattle.nv_calls.specs.RemoveCalls.{with_gone}
 use Rattle.nv_calls.specs.Steps.{ShowsRow}
 use Rattle.nv_calls.specs.Taken.{TakesEach, single_takes}
-use Rattle.nv_calls.proofs.LostNames.{lost_file, lost_name, lost_numbers}
+use Rattle.nv_calls.proofs.NameEntries.{name_file}
 use Rattle.nv_calls.proofs.TakenBlocks.{are_free, is_taken, was_taken}
 
 module _ {R : Region} {s : Super} {held : Store} {h f : Held} {row gone : Row} {free mid after : FreeLists} (time : ℕ) (name : List ℕ) (fresh : List ℕ) (shows : ShowsRow R s held h row free) (shows_gone : ShowsRow R s held f gone free)
@@ -103,7 +102,7 @@ module _ {R : Region} {s : Super} {held : Store} {h f : Held} {row gone : Row} {
   pages_now = ap (λ (ps : List ℕ). h.pages ++ ps) (take_all (needed (h.tail % 4096) entries) fresh (omega (arith, count)))
 
   file_stays : SameFile l h grown_log
-  file_stays = lost_file l h directory i name good at time end pages
+  file_stays = name_file l h directory Remove i name good at time end pages
 
   but : (b : ℕ) → IsUnowned l less b ↔ (IsUnowned l held b × (Contains fresh b → ⊥))
   but = free_but l held row.inode h grown_log shows.holds fresh pages_now fresh_free file_stays
@@ -166,18 +165,3 @@ module _ {R : Region} {s : Super} {held : Store} {h f : Held} {row gone : Row} {
           let told = shows_gone.told in
           let numbers = told.numbers in
           file_gone_faultless l held was row.inode h shows.holds directory i name good at time end pages f shows_gone.holds named own (sym told.kind ∙ w.0) (subst (λ (n : ℕ). n ≤ 1) numbers.links w.1)
-
-  -- ---- the directory's row
-
-  pub lost_told : {now : Row} → HasLost row fresh (end_of fresh 0 row.tail entries) name time now → KeepsRow l grown_log now
-  lost_told {now} lost =
-      let told = shows.told in
-      record {
-        kind = lost.kind ∙ told.kind;
-        numbers = lost_numbers l h directory i name good at time end pages row.numbers now.numbers told.numbers lost.numbers;
-        head = lost.head ∙ told.head;
-        tail = lost.tail ∙ ap (λ (t : ℕ). end_of fresh 0 t entries) told.tail;
-        pages = lost.pages ∙ ap (λ (ps : List ℕ). ps ++ fresh) told.pages ∙ sym pages_now;
-        index = λ p. lost.index p ∙ told.index p ∙ sym (file_stays p);
-        names = λ q. lost.names q ∙ ap (λ (o : Option (ℕ × ℕ)). cond (pointwise nat_eq q name) None o) (told.names q) ∙ sym (lost_name l h directory i name good at time end pages q);
-      }

@@ -30,9 +30,10 @@ use Rattle.nv_calls.specs.NameCalls.{name_entries}
 use Rattle.nv_calls.specs.RemoveCalls.{ShowsRemoved, WasRemoved, with_gone}
 use Rattle.nv_calls.specs.Steps.{ShowsRow}
 use Rattle.nv_calls.proofs.GivenPages.{joined_sup}
-use Rattle.nv_calls.proofs.Mounts.{kept_of_mounted, mounted_of_kept, mounted_with}
+use Rattle.nv_calls.proofs.Mounts.{bytes_stay, kept_of_mounted, mounted_of_kept, mounted_with}
+use Rattle.nv_calls.proofs.NamedLogs.{lost_told}
 use Rattle.nv_calls.proofs.OneRow.{shows_row, stands}
-use Rattle.nv_calls.proofs.RemovedHeld.{differ, fresh_free, lost_told, removed_lists, removed_sound}
+use Rattle.nv_calls.proofs.RemovedHeld.{differ, fresh_free, removed_lists, removed_sound}
 use Rattle.nv_calls.proofs.RowChange.{number_at}
 use Rattle.nv_calls.proofs.TakenBlocks.{taken_sup}
 use Rattle.nv_calls.proofs.TakenOut.{another, other_set, places_differ, stays_there, still_rise, was_there}
@@ -98,7 +99,7 @@ module _ {R S : Region} {s : Super} {rows news : List Row} {free after : FreeLis
         let cuts = step.step in
         let lost = cuts.directory in
         let inside = slice_get_within rows place row step.at in
-        let told = lost_told time name cuts.fresh shows shows_gone of_kind good is_named can_go kept.lists cuts.taken step.given count lost in
+        let told = lost_told s gone.inode name time cuts.fresh shows.told directory good cuts.count lost in
         let follow = rows_follow (fixed_layout s) held row.inode (extended h (name_entries Remove gone.inode name time) cuts.fresh) rows keeps.in_rows place inside step.now (number_at rows place row step.now step.at) lost.inode told in
         let there : slice_get (set rows place step.now) target ≡ Some gone = other_set rows place target step.now (places_differ rows place target row gone step.at step.gone_at apart) ∙ step.gone_at in
         let left = rows_less (fixed_layout s) (with_log held row.inode h (name_entries Remove gone.inode name time) cuts.fresh) gone.inode (set rows place step.now) (remove (set rows place step.now) target) follow (still_rise (set rows place step.now) target follow.rising)
@@ -127,17 +128,7 @@ module _ {R S : Region} {s : Super} {rows news : List Row} {free after : FreeLis
 
   -- Each byte that a row's file had is where it was.
   pub bytes_kept : (r : Row) → Contains rows r → (x : ℕ) → byte_in S (block_at r.index (x / 4096)) x ≡ byte_in R (block_at r.index (x / 4096)) x
-  bytes_kept r c x = ∥∥₁_elim (mounted_of_kept kept runs writes) prop (λ w. same w.0 w.1) where
-    prop : IsProp (byte_in S (block_at r.index (x / 4096)) x ≡ byte_in R (block_at r.index (x / 4096)) x)
-    prop = hlevel (props, ℕ_set)
-
-    same : (held : Store) → IsMounted R s held rows free.pools → byte_in S (block_at r.index (x / 4096)) x ≡ byte_in R (block_at r.index (x / 4096)) x
-    same held m =
-        let keeps = m.keeps in
-        let in_rows = keeps.in_rows in
-        let k = in_rows.each r c in
-        let told = k.2 in
-        ap (λ (o : Option ℕ). byte_in S o x) (told.index (x / 4096)) ∙ bytes_then held m r.inode k.0 k.1 x ∙ ap (λ (o : Option ℕ). byte_in R o x) (sym (told.index (x / 4096)))
+  bytes_kept = bytes_stay kept runs writes S bytes_then
 
   -- The directory isn't what goes.
   pub numbers_differ : row.inode ≢ gone.inode

@@ -27,9 +27,9 @@ use Rattle.nv_calls.proofs.RowOf.{row_at}
 use Rattle.nv_calls.proofs.PutRow.{set_rises}
 use Rattle.nv_calls.proofs.TakenOut.{none_there, other_set, other_there, places_differ}
 
-first_of : (b : Bool) (o : Option (ℕ × ℕ)) → option_map (λ (y : ℕ × ℕ). y.0) (cond b None o) ≡ cond b None (option_map (λ (y : ℕ × ℕ). y.0) o)
-first_of true o = refl
-first_of false o = refl
+pub none_of : (b : Bool) (o : Option (ℕ × ℕ)) → option_map (λ (y : ℕ × ℕ). y.0) (cond b None o) ≡ cond b None (option_map (λ (y : ℕ × ℕ). y.0) o)
+none_of true o = refl
+none_of false o = refl
 
 -- The directory shows one name less.
 pub lost_node : (R S : Region) {row now : Row} (fresh : List ℕ) (end : ℕ) (name : List ℕ) (j time : ℕ) → HasLost row fresh end name time now → EachOnce row.names → EachOnce now.names → option_map (λ (x : ℕ × ℕ). x.0) (name_at row.names name) ≡ Some j
@@ -43,7 +43,7 @@ lost_node R S {row} {now} fresh end name j time lost once once_now there bytes =
   links = ap (λ (n : Numbers). n.links) lost.numbers;
   time = ap (λ (n : Numbers). n.time) lost.numbers;
   count = one_less row.names now.names name j once once_now there lost.names;
-  names = λ q. ap (λ (o : Option (ℕ × ℕ)). option_map (λ (y : ℕ × ℕ). y.0) o) (lost.names q) ∙ first_of (pointwise nat_eq q name) (name_at row.names q);
+  names = λ q. ap (λ (o : Option (ℕ × ℕ)). option_map (λ (y : ℕ × ℕ). y.0) o) (lost.names q) ∙ none_of (pointwise nat_eq q name) (name_at row.names q);
   bytes = λ x below. ap (λ (o : Option ℕ). byte_in S o x) (lost.index (x / 4096)) ∙ bytes x;
 }
 

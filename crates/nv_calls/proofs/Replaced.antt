@@ -3,8 +3,8 @@ use Rattle.std.proofs.Common.{◌≡◌, ℕ, zero, suc, ◌+◌, ◌<◌, ◌�
 use Rattle.std.specs.List.{cons_option}
 use Rattle.std.specs.Option.{option_map}
 use Rattle.std.proofs.lemmas.Bool.{cases_eq}
+use Rattle.std.proofs.lemmas.Option.{same_Some}
 use Rattle.nv_super.specs.declared.owners.Run.{Run}
-use Rattle.nv_super.specs.Runs.{InRun}
 use Rattle.nv_super.proofs.Members.{none_in}
 use Rattle.nv_alloc.specs.Taking.{Disjoint, HasBlock}
 use Rattle.nv_alloc.proofs.Leaving.{block_cases, block_left, block_right, block_sides, disjoint_append, first_block, later_block}
@@ -13,6 +13,7 @@ use Rattle.nv_calls.specs.Taken.{block_run}
 use Rattle.nv_calls.specs.Writes.{ended_blocks, page_blocks, replaced_blocks}
 use Rattle.nv_calls.specs.declared.planning.Plan.{Plan}
 use Rattle.nv_calls.proofs.DataEntries.{IsWritten}
+use Rattle.nv_calls.proofs.TakenBlocks.{block_is}
 
 -- a page from one on, of so many, with this block
 pub record IsPageBlock (m : Pages) (first count b : ℕ) : Type 0 where
@@ -20,9 +21,6 @@ pub record IsPageBlock (m : Pages) (first count b : ℕ) : Type 0 where
   pub from : first ≤ page
   pub below : page < first + count
   pub at : block_at m page ≡ Some b
-
-in_block : (a b : ℕ) → InRun (block_run a) b → b ≡ a
-in_block a b w = (let low = w.0 in let high = w.1 in omega (arith, low, high))
 
 -- each of the blocks is a page's
 pub page_of : (m : Pages) (first count b : ℕ) → HasBlock (page_blocks m first count) b → IsPageBlock m first count b
@@ -34,7 +32,7 @@ page_of m first (suc count) b w = by (block_at m first) refl w (λ v. page_of m 
   by : (o : Option ℕ) → block_at m first ≡ o → HasBlock (cons_option (option_map block_run o) (page_blocks m (first + 1) count)) b → (HasBlock (page_blocks m (first + 1) count) b → IsPageBlock m (first + 1) count b) → IsPageBlock m first (suc count) b
   by None at w rest = later (rest w)
   by (Some a) at w rest = elim (block_cases (block_run a) (page_blocks m (first + 1) count) b w) [
-    | inl here ↦ record { page = first; from = omega arith; below = omega arith; at = at ∙ ap (λ (n : ℕ). Some n) (sym (in_block a b here)) }
+    | inl here ↦ record { page = first; from = omega arith; below = omega arith; at = at ∙ ap (λ (n : ℕ). Some n) (sym (block_is a b here)) }
     | inr v ↦ later (rest v)
   ]
 
@@ -64,7 +62,7 @@ page_blocks_once m first (suc count) once = by (block_at m first) refl (page_blo
   by (Some a) at rest = (
     (λ b here w. (
         let v = page_of m (first + 1) count b w in
-        let same : first ≡ v.page = once first v.page b (at ∙ ap (λ (n : ℕ). Some n) (sym (in_block a b here))) v.at in
+        let same : first ≡ v.page = once first v.page b (at ∙ ap (λ (n : ℕ). Some n) (sym (block_is a b here))) v.at in
         let low = v.from in
         omega (arith, same, low))),
     rest,
@@ -78,9 +76,6 @@ pub record AreReplaced (m : Pages) (plan : Plan) (runs : List Run) : Type 0 wher
   pub all : (p b : ℕ) → block_at m p ≡ Some b → IsWritten plan p → HasBlock runs b
   pub once : IsOnce m → ((q : ℕ) → plan.ending ≡ Some q → q < plan.first) → Disjoint runs
 
-some_number : {i j : ℕ} → Some i ≡ Some j → i ≡ j
-some_number e = cc
-
 by_ending : (m : Pages) (plan : Plan) (o : Option ℕ) → plan.ending ≡ o → AreReplaced m plan (ended_blocks m o ++ page_blocks m plan.first plan.pages)
 by_ending m plan None none = record {
   each = λ b w. (let v = page_of m plan.first plan.pages b w in (v.page, v.at, inr (v.from, v.below)));
@@ -93,7 +88,7 @@ by_ending m plan (Some q) ends = record {
     | inr rest ↦ (let v = page_of m plan.first plan.pages b rest in (v.page, v.at, inr (v.from, v.below)))
   ];
   all = λ p b at w. elim w [
-    | inl is ↦ (let same : q ≡ p = some_number (sym ends ∙ is) in block_left (page_blocks m q 1) (page_blocks m plan.first plan.pages) b (block_of_page m q 1 p b (omega (arith, same)) (omega (arith, same)) at))
+    | inl is ↦ (let same : q ≡ p = same_Some _ _ (sym ends ∙ is) in block_left (page_blocks m q 1) (page_blocks m plan.first plan.pages) b (block_of_page m q 1 p b (omega (arith, same)) (omega (arith, same)) at))
     | inr v ↦ block_right (page_blocks m q 1) (page_blocks m plan.first plan.pages) b (block_of_page m plan.first plan.pages p b v.0 v.1 at)
   ];
   once = λ once before. disjoint_append (page_blocks m q 1) (page_blocks m plan.first plan.pages) (page_blocks_once m q 1 once) (page_blocks_once m plan.first plan.pages once)

@@ -2,14 +2,13 @@
 use Rattle.std.proofs.Common.{◌≡◌, ℕ, ◌+◌, ◌*◌, ◌/◌, ◌<◌, ◌≤◌, true, false, List, [], ◌∷◌, refl, sym, subst, arith, Some, inl, inr}
 use Rattle.std.specs.List.{Contains}
 use Rattle.std.proofs.lemmas.Bool.Decides.{nat_tests}
+use Rattle.std.proofs.lemmas.Option.{same_Some}
 use Rattle.nv_super.specs.declared.superblock.Super.{Super}
-use Rattle.nv_super.specs.declared.owners.Run.{Run}
 use Rattle.nv_super.specs.declared.kind.Kind.{Kind}
 use Rattle.nv_super.specs.declared.kind.Kind.TheVariants.{File, Directory}
 use Rattle.nv_super.specs.Layout.{Layout, system_blocks}
 use Rattle.nv_super.proofs.Members.{none_in}
 use Rattle.nv_super.proofs.Rising.{Contains-cons}
-use Rattle.nv_alloc.specs.Taking.{HasBlock}
 use Rattle.nv_entry.specs.declared.entry.AttrEntry.{AttrEntry}
 use Rattle.nv_entry.specs.declared.entry.WriteEntry.{WriteEntry}
 use Rattle.nv_entry.specs.declared.entry.Entry.{Entry}
@@ -23,9 +22,9 @@ use Rattle.nv_scan.proofs.Blocks.{good_is_good, in_range, last_word-all}
 use Rattle.nv_held.specs.Held.{Held, Store}
 use Rattle.nv_held.specs.Blocks.{IsUnowned}
 use Rattle.nv_held.specs.Writes.{WritesData}
-use Rattle.nv_calls.specs.Taken.{block_run}
 use Rattle.nv_calls.proofs.AttrEntries.{Allows, attr_allowed, one_there}
 use Rattle.nv_calls.proofs.SizedEntries.{EndsWith}
+use Rattle.nv_calls.proofs.TakenBlocks.{single_is}
 
 -- ---- entries that count
 
@@ -33,11 +32,8 @@ attr_mode : (k : Kind) (e : AttrEntry) → is_attr_out_of_range k e ≡ false �
 attr_mode File e good = grind (arith, nat_tests)
 attr_mode Directory e good = grind (arith, nat_tests)
 
-some_one : {x y : ℕ} → Some x ≡ Some y → x ≡ y
-some_one e = cc
-
 mode_says : (s : Super) (k : Kind) (e : Entry) (v : ℕ) → is_good s k e ≡ true → mode_in e ≡ Some v → v ≤ 4095
-mode_says s k (Attr e) v good h = subst (λ (n : ℕ). n ≤ 4095) (some_one h) (attr_mode k e (in_range s k (Attr e) good))
+mode_says s k (Attr e) v good h = subst (λ (n : ℕ). n ≤ 4095) (same_Some _ _ h) (attr_mode k e (in_range s k (Attr e) good))
 mode_says s k (Write e) v good h = absurd (cc)
 mode_says s k NextPage v good h = absurd (cc)
 mode_says s k (Name e) v good h = absurd (cc)
@@ -59,12 +55,6 @@ file_write s k old b size time file from below more small = subst (λ (kind : Ki
 
 -- ---- lists of one and of two
 
-pub block_one : (b c : ℕ) → HasBlock (block_run b ∷ []) c → c ≡ b
-block_one b c w = elim (Contains-cons (block_run b) [] w.0 w.1) [
-  | inl same ↦ (let inside = subst (λ (r : Run). (r.start ≤ c) × (c < r.start + r.count)) same (w.2, w.3) in let from = inside.0 in let to = inside.1 in omega (arith, from, to))
-  | inr none ↦ absurd (none_in w.0 none)
-]
-
 pub two_there : (P : Placed → Type 0) {x z : Placed} → P x → P z → (y : Placed) → Contains (x ∷ z ∷ []) y → P y
 two_there P {x} {z} first second y c = elim (Contains-cons x (z ∷ []) y c) [ inl same ↦ subst P (sym same) first | inr rest ↦ subst P (sym (one_there rest)) second ]
 
@@ -75,8 +65,8 @@ module _ (l : Layout) (held : Store) (h : Held) (x : AttrEntry) (file : h.kind �
   copy_writes old b at then more free away = record {
     good = two_there (λ z. is_good l.sup h.kind z.entry ≡ true) (file_write l.sup h.kind old b x.size x.time file free.from free.below more most) (file_attr l.sup h.kind x file mode most);
     sized = two_there (λ z. says_size z ≡ Some x.size) refl refl;
-    free = λ c w. subst (IsUnowned l held) (sym (block_one b c w)) free;
-    apart = λ c w there. away (subst (Contains fresh) (block_one b c w) there);
+    free = λ c w. subst (IsUnowned l held) (sym (single_is b c w)) free;
+    apart = λ c w there. away (subst (Contains fresh) (single_is b c w) there);
     blocks_once = ((λ c here none. none_in none.0 none.1), tt);
     pages_once = ((λ c here none. none_in none.0 none.1), tt);
   }

@@ -2,10 +2,8 @@
 use Rattle.std.proofs.Common.{◌≡◌, ◌≢◌, ℕ, zero, suc, ◌/◌, ◌<◌, inl, inr, nat_eq, Bool, true, false, cond, List, [], ◌∷◌, length, get_or, set, slice_get, refl, ap, sym, ◌∙◌, subst, arith, Option, Some, None}
 use Rattle.std.specs.List.{Contains}
 use Rattle.std.specs.Option.{option_map}
-use Rattle.std.proofs.Math.Logic.{∥∥₁_elim, ∥∥₁_map}
-use Rattle.std.proofs.Math.Nat.{ℕ_set}
+use Rattle.std.proofs.Math.Logic.{∥∥₁_map}
 use Rattle.std.proofs.Math.Seq.{map-set_same}
-use Rattle.std.proofs.Props.{props}
 use Rattle.std.proofs.lemmas.Bool.{cases_eq}
 use Rattle.std.proofs.lemmas.Bool.Decides.{nat_tests}
 use Rattle.std.proofs.lemmas.Option.{slice_get_within, get_or_from_slice_get}
@@ -36,7 +34,7 @@ use Rattle.nv_calls.specs.Seen.{node_of, tree_of}
 use Rattle.nv_calls.specs.Steps.{LogFollows, ShowsRow}
 use Rattle.nv_calls.specs.Taken.{SamePools}
 use Rattle.nv_calls.proofs.RowOf.{row_at}
-use Rattle.nv_calls.proofs.Mounts.{kept_of_mounted, mounted_of_kept}
+use Rattle.nv_calls.proofs.Mounts.{bytes_stay, kept_of_mounted, mounted_of_kept}
 use Rattle.nv_super.proofs.Rising.{Contains-head, Contains-tail}
 use Rattle.nv_scan.specs.Rows.{AreNumbers}
 use Rattle.nv_held.specs.Held.{good_in}
@@ -153,19 +151,7 @@ module _ {R : Region} {s : Super} {rows : List Row} {free after : FreeLists} {fa
 
     -- Each byte that a row's file had is where it was.
     pub row_bytes : (r : Row) → Contains rows r → (x : ℕ) → byte_in S (block_at r.index (x / 4096)) x ≡ byte_in R (block_at r.index (x / 4096)) x
-    row_bytes r c x = ∥∥₁_elim (mounted_of_kept kept runs writes) prop (λ w. same w.0 w.1) where
-      prop : IsProp (byte_in S (block_at r.index (x / 4096)) x ≡ byte_in R (block_at r.index (x / 4096)) x)
-      prop = hlevel (props, ℕ_set)
-
-      same : (held : Store) → IsMounted R s held rows free.pools → byte_in S (block_at r.index (x / 4096)) x ≡ byte_in R (block_at r.index (x / 4096)) x
-      same held m =
-          let keeps = m.keeps in
-          let w = shows_row m kept.lists row (stands rows place row at) in
-          let f = follows held w.0 w.1 in
-          let in_rows = keeps.in_rows in
-          let k = in_rows.each r c in
-          let told = k.2 in
-          ap (λ (o : Option ℕ). byte_in S o x) (told.index (x / 4096)) ∙ f.bytes r.inode k.0 k.1 x ∙ ap (λ (o : Option ℕ). byte_in R o x) (sym (told.index (x / 4096)))
+    row_bytes = bytes_stay kept runs writes S (λ held m. (let w = shows_row m kept.lists row (stands rows place row at) in let f = follows held w.0 w.1 in f.bytes))
 
     rising : Rises row_key rows
     rising = rows_rise R s rows free faults read_only stopped kept runs

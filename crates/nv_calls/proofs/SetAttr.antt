@@ -1,5 +1,6 @@
 -- What `set_attr` answers, and what it leaves.
 use Rattle.std.proofs.Common.{◌≡◌, ℕ, ◌%◌, ◌≤◌, ◌⊎◌, inl, inr, Bool, true, false, IsTrue, List, [], ◌∷◌, refl, ap, sym, ◌∙◌, subst, Option, Some, None, Result, Err, slice_get, set}
+use Rattle.std.proofs.lemmas.Option.{same_Some}
 use Rattle.nv_region.specs.Region.{Region}
 use Rattle.nv_super.specs.declared.superblock.Super.{Super}
 use Rattle.nv_super.specs.declared.faults.Fault.{Fault}
@@ -61,12 +62,6 @@ attr_changed {P} region {n} {m} same names i mode owner group time u leads is =
     let made : attributed names mode owner group time t ≡ edit i (with_attributes mode owner group time) t = ap (λ (o : Option ℕ). on_some o (λ j. edit j (with_attributes mode owner group time) t) t) leads in
     subst (λ (k : Mount P). SameTree u (attributed names mode owner group time (tree_of (region k.memory) k.rows))) same (subst (λ (v : Tree). SameTree u v) (sym made) is)
 
-some_number : {i j : ℕ} → Some i ≡ Some j → i ≡ j
-some_number e = cc
-
-some_node : {a b : Node} → Some a ≡ Some b → a ≡ b
-some_node e = cc
-
 -- The log of the inode that the path leads to has grown.
 pub attr_logged : {P : Type 0} (region : P → Region) {n m : Mount P} → n ≡ m → (S : Region) (names : List (List ℕ)) (row : Row) (mode owner group time i : ℕ) (node : Node) (held : Store) (h : Held)
     → LeadsTo (tree_of (region n.memory) n.rows) names row.inode (node_of (region n.memory) row) → ((st : Store) (g : Held) → ShowsSound (region n.memory) n.sup st → st row.inode ≡ Some g → ShowsGrownLog S n.sup st row.inode g (attributes row.numbers.size mode owner group time))
@@ -76,8 +71,8 @@ attr_logged {P} region {n} {m} same S names row mode owner group time i node hel
   where
     here : LeadsTo (tree_of (region n.memory) n.rows) names i node → ShowsSound (region n.memory) n.sup held → ShowsGrownLog S n.sup held i h (attributes node.size mode owner group time)
     here led sound =
-        let number : row.inode ≡ i = some_number (sym own.leads ∙ led.leads) in
-        let node_is : node_of (region n.memory) row ≡ node = some_node (sym own.shows ∙ ap (tree_of (region n.memory) n.rows) number ∙ led.shows) in
+        let number : row.inode ≡ i = same_Some _ _ (sym own.leads ∙ led.leads) in
+        let node_is : node_of (region n.memory) row ≡ node = same_Some _ _ (sym own.shows ∙ ap (tree_of (region n.memory) n.rows) number ∙ led.shows) in
         subst (λ (k : ℕ). ShowsGrownLog S n.sup held k h (attributes node.size mode owner group time)) number
         (subst (λ (nd : Node). ShowsGrownLog S n.sup held row.inode h (attributes nd.size mode owner group time)) node_is (grew held h sound (subst (λ (k : ℕ). held k ≡ Some h) (sym number) is)))
 

@@ -1,6 +1,7 @@
 -- What `set_size` answers, and what it leaves.
 use Rattle.std.proofs.Common.{◌≡◌, ℕ, ◌<◌, ◌≤◌, ◌⊎◌, inl, inr, Bool, true, false, cond, nat_lt, List, [], ◌∷◌, ◌++◌, append_assoc, length, refl, ap, sym, ◌∙◌, subst, Option, Some, None}
 use Rattle.std.specs.Option.{option_and_then, option_map, option_map_or}
+use Rattle.std.proofs.lemmas.Option.{same_Some}
 use Rattle.nv_region.specs.Region.{Region}
 use Rattle.nv_super.specs.declared.kind.Kind.{Kind}
 use Rattle.nv_super.specs.declared.kind.Kind.TheVariants.{File, Directory}
@@ -134,12 +135,6 @@ resized_node R S {row} {new} size time has bytes = record {
   bytes = λ x below. bytes x (subst (λ (z : ℕ). x < z) has.size below);
 }
 
-some_number : {i j : ℕ} → Some i ≡ Some j → i ≡ j
-some_number e = cc
-
-some_node : {a b : Node} → Some a ≡ Some b → a ≡ b
-some_node e = cc
-
 -- The log of the inode that the path leads to has grown.
 pub size_logged : {P : Type 0} (region : P → Region) {n m : Mount P} → n ≡ m → (S : Region) (names : List (List ℕ)) (row : Row) (size time i : ℕ) (node : Node) (held : Store) (h : Held)
     → LeadsTo (tree_of (region n.memory) n.rows) names row.inode (node_of (region n.memory) row)
@@ -150,7 +145,7 @@ size_logged {P} region {n} {m} same S names row size time i node held h own grew
   where
     here : LeadsTo (tree_of (region n.memory) n.rows) names i node → ShowsSound (region n.memory) n.sup held → ShowsResizedLog S n.sup held i h node size time
     here led sound =
-        let number : row.inode ≡ i = some_number (sym own.leads ∙ led.leads) in
-        let node_is : node_of (region n.memory) row ≡ node = some_node (sym own.shows ∙ ap (tree_of (region n.memory) n.rows) number ∙ led.shows) in
+        let number : row.inode ≡ i = same_Some _ _ (sym own.leads ∙ led.leads) in
+        let node_is : node_of (region n.memory) row ≡ node = same_Some _ _ (sym own.shows ∙ ap (tree_of (region n.memory) n.rows) number ∙ led.shows) in
         subst (λ (k : ℕ). ShowsResizedLog S n.sup held k h node size time) number
         (subst (λ (nd : Node). ShowsResizedLog S n.sup held row.inode h nd size time) node_is (grew held h sound (subst (λ (k : ℕ). held k ≡ Some h) (sym number) is)))

@@ -67,9 +67,6 @@ takes_one old new cpu runs first before after below took leave here =
 
 -- ---- one block given back
 
-one_in : (b c : ℕ) → InRun (block_run b) c → c ≡ b
-one_in b c inside = omega (arith, inside.0, inside.1)
-
 -- A block that was taken can be given back.
 pub one_can_join : (old mid now : FreeLists) (cpu b : ℕ) → TakesOne old cpu b mid → SamePools mid now → CanJoin now (block_run b)
 one_can_join old mid now cpu b one same =

@@ -1,7 +1,6 @@
 -- The pages of write entries, stored one entry after the other.
-use Rattle.std.proofs.Common.{◌≡◌, ℕ, ◌+◌, ◌*◌, ◌/◌, ◌<◌, inl, inr, List, [], ◌∷◌, length, get_or, drop, refl, ap, sym, ◌∙◌, subst, arith, add-one, Option, Some, None}
+use Rattle.std.proofs.Common.{◌≡◌, ℕ, ◌+◌, ◌*◌, ◌/◌, ◌<◌, inl, inr, List, [], ◌∷◌, length, get_or, drop, refl, ap, sym, ◌∙◌, subst, arith, Option, Some, None}
 use Rattle.std.specs.List.{Contains, cons_option}
-use Rattle.std.proofs.Math.Seq.{drop-cons}
 use Rattle.std.proofs.lemmas.Bool.Decides.{nat_tests}
 use Rattle.nv_region.specs.Region.{Region, size}
 use Rattle.nv_region.specs.Stops.{IsMixed}
@@ -10,6 +9,7 @@ use Rattle.nv_region.proofs.Wordwise.{mixed_more}
 use Rattle.nv_super.specs.declared.owners.Run.{Run}
 use Rattle.nv_super.proofs.Members.{none_in}
 use Rattle.nv_super.proofs.Rising.{Contains-cons, Contains-tail}
+use Rattle.nv_logpage.proofs.Placing.{entries_from}
 use Rattle.nv_alloc.specs.Taking.{HasBlock}
 use Rattle.nv_alloc.proofs.Leaving.{block_cases, first_block, later_block}
 use Rattle.nv_entry.specs.declared.entry.WriteEntry.{WriteEntry}
@@ -20,10 +20,6 @@ use Rattle.nv_bytes.specs.Storing.{AreFresh, HoldPages, HoldsPage, InBlocks, blo
 use Rattle.nv_bytes.proofs.StoredPages.{page_stays}
 use Rattle.nv_held.specs.Writes.{blocks_in_entry, pages_in_entry}
 use Rattle.nv_calls.specs.Written.{HoldEntries, entry_blocks}
-
--- the entries that are left, one less
-pub entries_from : (entries : List Entry) (i : ℕ) (e : Entry) → i < length entries → e ≡ get_or entries i e → drop i entries ≡ e ∷ drop (i + 1) entries
-entries_from entries i e inside is = drop-cons entries i e inside ∙ ap (λ (n : ℕ). get_or entries i e ∷ drop n entries) (sym (add-one i)) ∙ ap (λ (x : Entry). x ∷ drop (i + 1) entries) (sym is)
 
 -- the first of them is a write entry
 pub writes_from : (entries : List Entry) (i : ℕ) (e : Entry) (w : WriteEntry) → i < length entries → e ≡ get_or entries i e → e ≡ Write w → drop i entries ≡ Write w ∷ drop (i + 1) entries

@@ -7,6 +7,7 @@ use Rattle.nv_super.specs.declared.owners.Run.{Run}
 use Rattle.nv_super.specs.Layout.{Layout, system_blocks}
 use Rattle.nv_super.proofs.Members.{none_in}
 use Rattle.nv_super.proofs.Rising.{Contains-cons, Contains-head, Contains-tail}
+use Rattle.nv_super.specs.Runs.{InRun}
 use Rattle.nv_alloc.specs.FreeValue.{FreeLists}
 use Rattle.nv_alloc.specs.FreeLists.{IsFreeIn}
 use Rattle.nv_alloc.specs.Taking.{HasBlock, pool_at}
@@ -23,7 +24,11 @@ use Rattle.nv_calls.specs.Taken.{TakesEach, block_run, single_takes}
 pub in_single : (b : ℕ) → HasBlock (block_run b ∷ []) b
 in_single b = (block_run b, Contains-head (block_run b) [], omega arith, omega arith)
 
-single_is : (b c : ℕ) → HasBlock (block_run b ∷ []) c → c ≡ b
+-- a block of one block's run is that block
+pub block_is : (b c : ℕ) → InRun (block_run b) c → c ≡ b
+block_is b c here = let from = here.0 in let to = here.1 in omega (arith, from, to)
+
+pub single_is : (b c : ℕ) → HasBlock (block_run b ∷ []) c → c ≡ b
 single_is b c w = elim (Contains-cons (block_run b) [] w.0 w.1) [
   | inl same ↦ (let P : Run → Type 0 = λ r. (r.start ≤ c) × (c < r.start + r.count) in let inside = subst P same (w.2, w.3) in omega (arith, inside.0, inside.1))
   | inr none ↦ absurd (none_in w.0 none)
@@ -57,6 +62,18 @@ taken_differ old new (a ∷ blocks) w zero zero less inside = absurd (omega (ari
 taken_differ old new (a ∷ blocks) w zero (suc j) less inside = λ same. taken_apart old new a blocks w (j, omega (arith, inside), get_or_default blocks j a 0 (omega (arith, inside)) ∙ sym same)
 taken_differ old new (a ∷ blocks) w (suc i) zero less inside = absurd (omega (arith, less))
 taken_differ old new (a ∷ blocks) w (suc i) (suc j) less inside = taken_differ w.0 new blocks w.2 i j (omega (arith, less)) (omega (arith, inside))
+
+-- without the second of them they differ too
+pub differ_rest : (a b : ℕ) (xs : List ℕ) → AllDiffer (a ∷ b ∷ xs) → AllDiffer (a ∷ xs)
+differ_rest a b xs differ zero zero less inside = absurd (omega (arith, less))
+differ_rest a b xs differ zero (suc j) less inside = differ zero (suc (suc j)) (omega arith) (omega (arith, inside))
+differ_rest a b xs differ (suc i) zero less inside = absurd (omega (arith, less))
+differ_rest a b xs differ (suc i) (suc j) less inside = differ (suc (suc i)) (suc (suc j)) (omega (arith, less)) (omega (arith, inside))
+
+-- no block is free that wasn't
+pub stays_free : (old new : FreeLists) (fresh : List ℕ) → TakeAll old (single_takes fresh) new → (cpu b : ℕ) → IsFreeIn new cpu b → IsFreeIn old cpu b
+stays_free old new [] same cpu b free = subst (λ (a : FreeLists). IsFreeIn a cpu b) (sym same) free
+stays_free old new (a ∷ fresh) w cpu b free = w.1.leave.stays cpu b (stays_free w.0 new fresh w.2 cpu b free)
 
 same_sup : (old new : FreeLists) (blocks : List ℕ) → TakeAll old (single_takes blocks) new → new.sup ≡ old.sup
 same_sup old new [] e = ap (λ (a : FreeLists). a.sup) (sym e)

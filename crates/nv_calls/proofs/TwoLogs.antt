@@ -27,8 +27,7 @@ use Rattle.nv_calls.specs.NewNames.{CanName}
 use Rattle.nv_calls.specs.Steps.{ShowsRow}
 use Rattle.nv_calls.specs.Taken.{TakesEach, block_run, single_takes}
 use Rattle.nv_calls.proofs.LogGrows.{can_append, can_extend, slot_there}
-use Rattle.nv_calls.proofs.PreparedBlocks.{stays_free}
-use Rattle.nv_calls.proofs.TakenBlocks.{all_differ, are_free, each_in_data, each_was_free, in_single, taken_sup}
+use Rattle.nv_calls.proofs.TakenBlocks.{all_differ, are_free, each_in_data, each_was_free, in_single, stays_free, taken_sup}
 
 -- ---- blocks that were taken for one log, and then for another
 

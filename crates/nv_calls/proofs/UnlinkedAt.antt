@@ -22,7 +22,7 @@ use Rattle.nv_calls.proofs.SetRows.{both_twice, first_set, second_set}
 use Rattle.nv_calls.proofs.TakenOut.{other_set}
 
 -- a row that grew and then has a name less
-drops_after : {old mid new : Row} {fresh : List ℕ} {end : ℕ} (name : List ℕ) (time : ℕ) → GrowsSame old fresh end mid → DropsName mid name time new → HasLost old fresh end name time new
+pub drops_after : {old mid new : Row} {fresh : List ℕ} {end : ℕ} (name : List ℕ) (time : ℕ) → GrowsSame old fresh end mid → DropsName mid name time new → HasLost old fresh end name time new
 drops_after {old} {mid} {new} {fresh} {end} name time grew drops =
     let rest = drops.rest in record {
       inode = rest.inode ∙ grew.inode;

@@ -1,13 +1,11 @@
 -- What is held once a file that has others has a name less: nothing is wrong with it, and both rows are of it.
-use Rattle.std.proofs.Common.{◌≡◌, ℕ, ◌-◌, ◌%◌, ◌<◌, ◌≤◌, cond, nat_eq, List, ◌++◌, length, take, take_all, ap, sym, ◌∙◌, subst, arith, Option, Some, None}
-use Rattle.std.specs.Cmp.Lexicographic.{pointwise}
+use Rattle.std.proofs.Common.{◌≡◌, ℕ, ◌-◌, ◌%◌, ◌<◌, ◌≤◌, List, take, ap, sym, ◌∙◌, subst, arith, Option, Some}
 use Rattle.std.specs.Option.{option_and_then, option_map}
 use Rattle.nv_region.specs.Region.{Region}
 use Rattle.nv_super.specs.declared.superblock.Super.{Super}
 use Rattle.nv_super.specs.declared.kind.Kind.TheVariants.{File, Directory}
 use Rattle.nv_super.specs.Layout.{fixed_layout}
 use Rattle.nv_alloc.specs.FreeValue.{FreeLists}
-use Rattle.nv_entry.specs.declared.entry.Entry.{Entry}
 use Rattle.nv_entry.specs.declared.entry.Entry.TheVariants.{Links, Name}
 use Rattle.nv_entry.specs.declared.entry.Operation.TheVariants.{Remove}
 use Rattle.nv_logpage.specs.Append.{end_of, needed, place_of}
@@ -16,52 +14,18 @@ use Rattle.nv_scan.specs.declared.piece.Row.{Row}
 use Rattle.nv_held.specs.Held.{Held, Store}
 use Rattle.nv_held.specs.Blocks.{OwnsNew}
 use Rattle.nv_held.specs.Graph.{graph_in, node_in, target_in}
-use Rattle.nv_held.specs.Grows.{SameFile}
-use Rattle.nv_held.specs.Mounted.{IsFaultless, KeepsRow}
+use Rattle.nv_held.specs.Mounted.{IsFaultless}
 use Rattle.nv_held.specs.nv_named.Step.{IsGoodName}
 use Rattle.nv_held.proofs.nv_named.GoodEntries.{links_small}
 use Rattle.nv_commit.specs.Extends.{extended, with_log}
 use Rattle.nv_commit.proofs.Called.{unlinked_faultless}
-use Rattle.nv_calls.specs.LessNames.{HasLost}
 use Rattle.nv_calls.specs.LinkCalls.{links_entries}
 use Rattle.nv_calls.specs.NameCalls.{name_entries}
 use Rattle.nv_calls.specs.Steps.{ShowsRow}
 use Rattle.nv_calls.specs.Unlinks.{UnlinksAt}
 use Rattle.nv_calls.proofs.BothMounted.{IsRight}
 use Rattle.nv_calls.proofs.LinkedHeld.{counted_file, counted_told}
-use Rattle.nv_calls.proofs.LostNames.{lost_file, lost_name, lost_numbers}
-
--- ---- a directory that has a name less
-
-module _ {R : Region} {s : Super} {held : Store} {h : Held} {row : Row} {free : FreeLists} (i : ℕ) (name : List ℕ) (time : ℕ) (fresh : List ℕ) (shows : ShowsRow R s held h row free) (is_directory : row.kind ≡ Directory) (good : IsGoodName s i name) where
-  abbrev entries : List Entry
-  entries = name_entries Remove i name time
-
-  abbrev at : ℕ
-  at = place_of fresh 0 h.tail (Name (record { operation = Remove; inode = i; time = time; name = name }))
-
-  dir_kind : h.kind ≡ Directory
-  dir_kind = let told = shows.told in sym told.kind ∙ is_directory
-
-  pub less_file : SameFile (fixed_layout s) h (extended h entries fresh)
-  less_file = lost_file (fixed_layout s) h dir_kind i name good at time (end_of fresh 0 h.tail entries) (take (needed (h.tail % 4096) entries) fresh)
-
-  pub less_told : {now : Row} → length fresh ≡ needed (row.tail % 4096) entries → HasLost row fresh (end_of fresh 0 row.tail entries) name time now → KeepsRow (fixed_layout s) (extended h entries fresh) now
-  less_told {now} count lost =
-      let told = shows.told in
-      let end = end_of fresh 0 h.tail entries in
-      let pages = take (needed (h.tail % 4096) entries) fresh in
-      let counted : length fresh ≡ needed (h.tail % 4096) entries = count ∙ ap (λ (t : ℕ). needed (t % 4096) entries) told.tail in
-      let all : pages ≡ fresh = take_all (needed (h.tail % 4096) entries) fresh (omega (arith, counted)) in
-      record {
-        kind = lost.kind ∙ told.kind;
-        numbers = lost_numbers (fixed_layout s) h dir_kind i name good at time end pages row.numbers now.numbers told.numbers lost.numbers;
-        head = lost.head ∙ told.head;
-        tail = lost.tail ∙ ap (λ (t : ℕ). end_of fresh 0 t entries) told.tail;
-        pages = lost.pages ∙ ap (λ (ps : List ℕ). ps ++ fresh) told.pages ∙ ap (λ (ps : List ℕ). h.pages ++ ps) (sym all);
-        index = λ p. lost.index p ∙ told.index p ∙ sym (less_file p);
-        names = λ q. lost.names q ∙ ap (λ (o : Option (ℕ × ℕ)). cond (pointwise nat_eq q name) None o) (told.names q) ∙ sym (lost_name (fixed_layout s) h dir_kind i name good at time end pages q);
-      }
+use Rattle.nv_calls.proofs.NamedLogs.{lost_told, named_file}
 
 -- no file has more than a thousand links
 few_links : {R : Region} {s : Super} {held : Store} {f : Held} {file : Row} {free : FreeLists} → ShowsRow R s held f file free → file.numbers.links ≤ 1000
@@ -120,9 +84,9 @@ module _ {R S : Region} {s : Super} {rows news : List Row} {free after : FreeLis
   unlink_right = record {
     number = (let both = step.step in let lost = both.is in lost.inode);
     other_number = (let both = step.step in let counted = both.other_is in counted.inode);
-    stays = λ held h shows. less_file i name time fresh_blocks shows is_directory good;
+    stays = λ held h shows. named_file s i name time fresh_blocks shows.told is_directory good Remove;
     other_stays = λ held f shows. (let few = few_links shows in counted_file (links - 1) time more_blocks shows is_file (omega (arith, some)) (omega (arith, few)));
-    told = λ held h shows. (let both = step.step in less_told i name time fresh_blocks shows is_directory good both.count both.is);
+    told = λ held h shows. (let both = step.step in lost_told s i name time fresh_blocks shows.told is_directory good both.count both.is);
     other_told = λ held f shows. (let few = few_links shows in let both = step.step in counted_told (links - 1) time more_blocks shows is_file (omega (arith, some)) (omega (arith, few)) both.more_count both.other_is);
     faultless = λ held h f m shows shows_file. unlinked_right held h f shows shows_file some (few_links shows_file);
   }

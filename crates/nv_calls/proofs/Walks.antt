@@ -72,7 +72,7 @@ pub same_last : (left : List (List ℕ)) (name : List ℕ) (names : List (List �
 same_last left name names next others is more = rw (is, more) refl
 
 -- a number that is a directory is that number
-same_number : (d e : ℕ) (o : Option Node) → as_directory d o ≡ Ok e → d ≡ e
+pub same_number : (d e : ℕ) (o : Option Node) → as_directory d o ≡ Ok e → d ≡ e
 same_number d e None ok = absurd (cc)
 same_number d e (Some node) ok = by (is_directory node.kind) ok where
   by : (b : Bool) → or_no_directory d b ≡ Ok e → d ≡ e

@@ -51,6 +51,7 @@ use Rattle.nv_calls.proofs.DataEntries.{Describes, describes}
 use Rattle.nv_calls.proofs.LogGrows.{extended_bytes, pages_once, slot_there}
 use Rattle.nv_calls.proofs.PreparedBlocks.{all_taken, fits, free_held, fresh_apart, fresh_was_free, runs_were_free}
 use Rattle.nv_calls.proofs.Replaced.{are_replaced}
+use Rattle.nv_calls.proofs.StoredEntries.{some_write}
 use Rattle.nv_calls.proofs.TakenBlocks.{all_differ, is_taken, was_taken}
 use Rattle.nv_calls.proofs.WriteGood.{all_clean, all_quiet, good_writes, placed_blocks, placed_count, placed_pages, timed, writes_data}
 use Rattle.nv_calls.proofs.WrittenRow.{written_index, written_numbers}
@@ -193,13 +194,10 @@ module _ {R S : Region} {s : Super} {held : Store} {h : Held} {row : Row} {free 
   pub entry_block_taken : (e : WriteEntry) → Contains entries (Write e) → (k : ℕ) → k < e.count → HasBlock p.runs (e.block + k)
   entry_block_taken e there k low =
       let v = described.each (Write e) there in
-      let same : e ≡ v.0 = one_write e v.0 v.1 in
+      let same : e ≡ v.0 = some_write e v.0 v.1 in
       let block : e.block ≡ v.0.block = ap (λ (x : WriteEntry). x.block) same in
       let count : e.count ≡ v.0.count = ap (λ (x : WriteEntry). x.count) same in
       v.6 (e.block + k) (omega (arith, block)) (omega (arith, block, count, low))
-    where
-      one_write : (w v : WriteEntry) → Write w ≡ Write v → w ≡ v
-      one_write w v e = cc
 
   -- ---- the bytes of all files
 

@@ -7,6 +7,7 @@ use Rattle.std.proofs.Math.Nat.{ℕ_set}
 use Rattle.std.proofs.Props.{props}
 use Rattle.std.proofs.lemmas.Bool.{cases_lt}
 use Rattle.std.proofs.lemmas.Bool.Decides.{nat_tests}
+use Rattle.std.proofs.lemmas.Option.{same_Some}
 use Rattle.nv_region.specs.Region.{Region}
 use Rattle.nv_super.specs.declared.superblock.Super.{Super}
 use Rattle.nv_super.specs.declared.faults.Fault.{Fault}
@@ -156,12 +157,6 @@ written_node R S time w planned bytes = record {
   bytes = λ x below. bytes x (subst (λ (z : ℕ). x < z) (ap (λ (n : Numbers). n.size) w.numbers) below);
 }
 
-some_number : {i j : ℕ} → Some i ≡ Some j → i ≡ j
-some_number e = cc
-
-some_node : {a b : Node} → Some a ≡ Some b → a ≡ b
-some_node e = cc
-
 some_held : {a b : Held} → Some a ≡ Some b → a ≡ b
 some_held e = cc
 
@@ -180,8 +175,8 @@ write_logged {P} region {n} {m} same {S} {after} {cpu} {plan} {offset} {new} {ro
   where
     here : LeadsTo (tree_of (region n.memory) n.rows) names i node → ShowsSound (region n.memory) n.sup held → ShowsLogWrite S n cpu held i h (plan_of (block_of (good_in (fixed_layout n.sup) h)) node.size offset (length new) time)
     here led sound =
-        let number : row.inode ≡ i = some_number (sym own.leads ∙ led.leads) in
-        let node_is : node_of (region n.memory) row ≡ node = some_node (sym own.shows ∙ ap (tree_of (region n.memory) n.rows) number ∙ led.shows) in
+        let number : row.inode ≡ i = same_Some _ _ (sym own.leads ∙ led.leads) in
+        let node_is : node_of (region n.memory) row ≡ node = same_Some _ _ (sym own.shows ∙ ap (tree_of (region n.memory) n.rows) number ∙ led.shows) in
         let size_is : row.numbers.size ≡ node.size = ap (λ (x : Node). x.size) node_is in
         ∥∥₁_map (mounted_with kept runs held sound) (λ mounted. (
         let shown = shows_row {free = n.free} mounted kept.lists row there in

@@ -27,6 +27,7 @@ use Rattle.nv_calls.proofs.EntrySteps.{pages_of}
 use Rattle.nv_calls.proofs.LogGrows.{can_append}
 use Rattle.nv_calls.proofs.PreparedBlocks.{fits, free_before, from_before, prepared_sup, runs_in_data, runs_were_free}
 use Rattle.nv_calls.proofs.Replaced.{are_replaced}
+use Rattle.nv_calls.proofs.StoredEntries.{some_write}
 use Rattle.nv_calls.proofs.WriteFollows.{IsRight}
 
 -- a page of one of the entries is written
@@ -63,15 +64,12 @@ module _ {R : Region} {s : Super} {free after : FreeLists} {row : Row} {cpu : �
   pub entries_small : AreSmall entries
   entries_small w c =
       let v = told.each (Write w) c in
-      let same : w ≡ v.0 = one_write w v.0 v.1 in
+      let same : w ≡ v.0 = some_write w v.0 v.1 in
       let page : w.offset ≡ v.0.offset = ap (λ (x : WriteEntry). x.offset) same in
       let count : w.count ≡ v.0.count = ap (λ (x : WriteEntry). x.count) same in
       let top = right.top in
       let high = v.3 in
       omega (arith, page, count, top, high)
-    where
-      one_write : (w v : WriteEntry) → Write w ≡ Write v → w ≡ v
-      one_write w v e = cc
 
   stands_between : StandsRight R s p.mid row
   stands_between = record {
@@ -97,7 +95,7 @@ module _ {R : Region} {s : Super} {free after : FreeLists} {row : Row} {cpu : �
   pub pages_settled : (index : Pages) → AreReady index plan.first plan.pages → IfSome plan.ending (λ q. AreReady index q 1) → AreSettled index entries
   pages_settled index first last w c =
       let v = told.each (Write w) c in
-      let same : w ≡ v.0 = one_write w v.0 v.1 in
+      let same : w ≡ v.0 = some_write w v.0 v.1 in
       let block : w.block ≡ v.0.block = ap (λ (x : WriteEntry). x.block) same in
       let count : w.count ≡ v.0.count = ap (λ (x : WriteEntry). x.count) same in
       let some = v.2 in
@@ -106,9 +104,6 @@ module _ {R : Region} {s : Super} {free after : FreeLists} {row : Row} {cpu : �
       let blocks : free.sup.blocks ≡ s.blocks = ap (λ (t : Super). t.blocks) stands.lists in
       (λ q low high. ready_page q ((told.pages q).0 (page_among entries w q c (low, high))), omega (arith, block, count, place.1, few, blocks))
     where
-      one_write : (w v : WriteEntry) → Write w ≡ Write v → w ≡ v
-      one_write w v e = cc
-
       ready_ending : (o : Option ℕ) (q : ℕ) → o ≡ Some q → IfSome o (λ k. AreReady index k 1) → is_ready index q ≡ true
       ready_ending None q is ready = absurd (cc)
       ready_ending (Some k) q is ready = (let same : k ≡ q = cc in ready q (omega (arith, same)) (omega (arith, same)))

@@ -2,6 +2,7 @@
 use Rattle.std.proofs.Common.{◌≡◌, ℕ, ◌+◌, ◌-◌, ◌*◌, ◌/◌, ◌%◌, ◌<◌, inl, inr, max, List, ◌++◌, length, ap, sym, ◌∙◌, subst, arith, Option, Some}
 use Rattle.std.specs.List.{Contains}
 use Rattle.std.proofs.lemmas.List.{get_or_default}
+use Rattle.std.proofs.lemmas.Option.{same_Some}
 use Rattle.nv_region.specs.Region.{Region}
 use Rattle.nv_super.specs.declared.superblock.Super.{Super}
 use Rattle.nv_super.specs.declared.owners.Run.{Run}
@@ -15,7 +16,6 @@ use Rattle.nv_entry.specs.declared.entry.Entry.TheVariants.{Write}
 use Rattle.nv_logpage.specs.Append.{appended, end_of, needed}
 use Rattle.nv_bytes.specs.Bytes.{LieInside, byte_after, file_byte}
 use Rattle.nv_held.specs.nv_outcome.Same.{SameRow}
-use Rattle.nv_bytes.proofs.StoredPages.{byte_stays}
 use Rattle.nv_names.specs.Names.{Names, name_at}
 use Rattle.nv_radix.specs.Pages.{Pages, block_at}
 use Rattle.nv_scan.specs.declared.numbers.Numbers.{Numbers}
@@ -25,6 +25,7 @@ use Rattle.nv_held.specs.Held.{Held, Store, good_in}
 use Rattle.nv_held.specs.Bytes.{byte_in}
 use Rattle.nv_held.specs.Mounted.{KeepsRow}
 use Rattle.nv_held.proofs.Written.{EntryOf, in_runs, page_entry}
+use Rattle.nv_held.proofs.BytesKept.{byte_stays}
 use Rattle.nv_commit.specs.Extends.{ExtendWords, extended}
 use Rattle.nv_commit.proofs.Extends.{slots}
 use Rattle.nv_calls.specs.Grown.{StandsRight}
@@ -100,11 +101,8 @@ module _ {R S : Region} {s : Super} {row now : Row} {free after : FreeLists} {cp
         let d = told.each (Write e) there in
         let taken = made.entry_block_taken shows stands.lists is_file below right p c e there k low in
         ap (λ (o : Option ℕ). byte_in S o x) maps
-        ∙ byte_stays c.mid S (ExtendWords (slot_address s row.inode) row.tail entries fresh) (Some (e.block + k)) x c.mixed (λ b is i v at w. untouched (e.block + k) taken i v (at ∙ sym (some_number is)) w)
+        ∙ byte_stays c.mid S (ExtendWords (slot_address s row.inode) row.tail entries fresh) (Some (e.block + k)) x c.mixed (λ b is i v at w. untouched (e.block + k) taken i v (at ∙ sym (same_Some _ _ is)) w)
         ∙ c.holds e there k low x (sym page)
-      where
-        some_number : {a b : ℕ} → Some a ≡ Some b → a ≡ b
-        some_number e = cc
 
     -- any other byte
     other_byte : (x : ℕ) → (HasBlock (entry_pages entries) (x / 4096) → ⊥) → file_byte S now.index x ≡ file_byte R row.index x

@@ -1,21 +1,16 @@
 -- The row of a file that was written: it is what is held then, and its bytes are the new ones.
-use Rattle.std.proofs.Common.{◌≡◌, ℕ, ◌+◌, ◌-◌, ◌*◌, ◌<◌, ◌≤◌, inl, inr, cond, Bool, true, List, [], ◌∷◌, length, refl, ap, sym, ◌∙◌, subst, arith, Option, Some, None, unwrap_or}
+use Rattle.std.proofs.Common.{◌≡◌, ℕ, ◌+◌, ◌-◌, ◌*◌, ◌<◌, ◌≤◌, inl, inr, true, List, [], ◌∷◌, length, refl, ap, sym, ◌∙◌, subst, arith, Option, Some, None, unwrap_or}
 use Rattle.std.specs.List.{Contains}
 use Rattle.std.proofs.lemmas.Bool.{cases_lt}
-use Rattle.std.proofs.lemmas.Bool.Decides.{nat_tests}
-use Rattle.nv_super.specs.declared.superblock.Super.{Super}
 use Rattle.nv_super.specs.declared.owners.Run.{Run}
-use Rattle.nv_super.specs.declared.kind.Kind.{Kind}
 use Rattle.nv_super.specs.Layout.{Layout}
 use Rattle.nv_super.proofs.Rising.{Contains-head, Contains-tail}
 use Rattle.nv_alloc.specs.Taking.{HasBlock}
 use Rattle.nv_entry.specs.declared.entry.WriteEntry.{WriteEntry}
 use Rattle.nv_entry.specs.declared.entry.Entry.{Entry}
 use Rattle.nv_entry.specs.declared.entry.Entry.TheVariants.{Write}
-use Rattle.nv_entry.specs.Content.{is_good}
 use Rattle.nv_logpage.specs.declared.found.Placed.{Placed}
 use Rattle.nv_logpage.specs.Append.{appended}
-use Rattle.nv_logpage.specs.Good.{good_entries}
 use Rattle.nv_logpage.specs.Reads.{placed}
 use Rattle.nv_radix.specs.Pages.{Pages, block_at, in_run}
 use Rattle.nv_scan.specs.LastWord.{last_word}
@@ -27,7 +22,7 @@ use Rattle.nv_held.proofs.nv_named.MoreEntries.{quiet_entries}
 use Rattle.nv_held.specs.Held.{Held, Store, good_in}
 use Rattle.nv_held.specs.Grows.{SameNames, grown}
 use Rattle.nv_held.specs.Writes.{WritesData, written_pages}
-use Rattle.nv_held.proofs.DataGrows.{cut, kept, written}
+use Rattle.nv_held.proofs.DataGrows.{all_count, cut, in_run_from, kept, written}
 use Rattle.nv_held.proofs.Written.{EntryOf, in_runs, page_entry}
 use Rattle.nv_calls.specs.Written.{MapsEntries}
 use Rattle.nv_calls.proofs.WriteGood.{placed_entry, placed_pages}
@@ -44,11 +39,6 @@ all_say says v d [] some each = absurd (omega (arith, some))
 all_say {A} {V} says v d (x ∷ xs) some each =
     last_word-cons says d x xs ∙ ap (λ (o : Option V). last_word says (unwrap_or o d) xs) (each x (Contains-head x xs)) ∙ stays says v xs (λ y c. each y (Contains-tail x xs y c))
 
-good_all : (s : Super) (k : Kind) (xs : List Placed) → ((x : Placed) → Contains xs x → is_good s k x.entry ≡ true) → good_entries s k xs ≡ xs
-good_all s k [] good = refl
-good_all s k (x ∷ xs) good =
-    ap (λ (t : Bool). cond t (x ∷ good_entries s k xs) (good_entries s k xs)) (good x (Contains-head x xs)) ∙ ap (λ (ys : List Placed). x ∷ ys) (good_all s k xs (λ y c. good y (Contains-tail x xs y c)))
-
 module _ (l : Layout) (held : Store) (h : Held) (end : ℕ) (more : List Placed) (others : List ℕ) (size time : ℕ) (writes : WritesData l held h more others size) (some : 0 < length more)
     (timed : (x : Placed) → Contains more x → says_time x ≡ Some time) (same : (x : Placed) → Contains more x → (w : WriteEntry) × (x.entry ≡ Write w)) where
   abbrev new : Held
@@ -56,7 +46,7 @@ module _ (l : Layout) (held : Store) (h : Held) (end : ℕ) (more : List Placed)
 
   said : {V : Type 0} (says : Placed → Option V) (v d : V) → ((x : Placed) → Contains more x → says x ≡ Some v) → last_word says d (good_in l new) ≡ v
   said says v d each =
-      words-more says d l.sup h.kind h.entries more ∙ ap (last_word says (last_word says d (good_in l h))) (good_all l.sup h.kind more writes.good) ∙ all_say says v (last_word says d (good_in l h)) more some each
+      words-more says d l.sup h.kind h.entries more ∙ ap (last_word says (last_word says d (good_in l h))) (all_count l.sup h.kind more writes.good) ∙ all_say says v (last_word says d (good_in l h)) more some each
 
   unsaid : {V : Type 0} (says : Placed → Option V) (d : V) → ((x : Placed) (w : WriteEntry) → x.entry ≡ Write w → says x ≡ None) → last_word says d (good_in l new) ≡ last_word says d (good_in l h)
   unsaid says d none = quiet_entries says d l.sup h.kind h.entries more (λ x c. (let w = same x c in none x w.0 w.1))
@@ -85,12 +75,9 @@ module _ (l : Layout) (held : Store) (h : Held) (end : ℕ) (fresh : List ℕ) (
       let k : ℕ = p - e.offset in
       let inside = v.in_it in
       let page : e.offset + k ≡ p = (let low = inside.0 in omega (arith, low)) in
-      let run : in_run e.offset e.count p ≡ true = in_both e.offset e.count p inside.0 inside.1 in
+      let run : in_run e.offset e.count p ≡ true = in_run_from e.offset e.count p inside.0 inside.1 in
       let there : Contains entries (Write e) = subst (λ (x : Entry). Contains entries x) v.is (placed_entry fresh 0 h.tail entries v.x v.here) in
       ap (block_at now) (sym page) ∙ maps.here e there k (let low = inside.0 in let high = inside.1 in omega (arith, low, high)) ∙ sym (written l held h end placed_there others size writes v.x e p v.here v.is run)
-    where
-      in_both : (first count p : ℕ) → first ≤ p → p < first + count → in_run first count p ≡ true
-      in_both first count p low high = grind (arith, nat_tests)
 
   elsewhere : (p : ℕ) → (HasBlock (written_pages placed_there) p → ⊥) → block_at now p ≡ block_of (good_in l (grown h end placed_there others)) p
   elsewhere p away =

@@ -18,7 +18,7 @@ ghost use Rattle.nv_calls.specs.Steps.{LeavesStep, RefusesStep};
 ghost use Rattle.nv_calls.specs.Taken.{SamePools, TakesEach};
 
 use crate::blocks::take_blocks;
-use crate::letting_go::give_block;
+use crate::giving::give_block;
 use crate::settling::{numbers_with, settle_log};
 use nv_alloc::{AllocRefusal, Allocators};
 use nv_bytes::{NewBytes, store_page};

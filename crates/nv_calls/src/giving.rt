@@ -1,14 +1,18 @@
-//! Blocks that are given back run by run, and the blocks that the pages of a file have.
+//! Blocks that are given back to the free lists: runs, blocks one by one, those of a file's pages, and all of a row. It takes no
+//! memory.
 
-ghost use Rattle.std.specs.Prelude.{◌≡◌, ◌+◌, ◌≤◌, ◌<◌, ◌^◌, ◌++◌, length, IfOk, IfSome, vec_len, vec_capacity};
-ghost use Rattle.nv_alloc.specs.FreeLists.{JoinAll};
-ghost use Rattle.nv_calls.specs.Writes.{CanGive, data_blocks, page_blocks, replaced_blocks};
+ghost use Rattle.std.specs.Prelude.{◌≡◌, ◌<◌, ◌≤◌, ◌+◌, ◌-◌, length, IfSome};
+ghost use Rattle.std.specs.Int.{div_ceil};
+ghost use Rattle.nv_alloc.specs.FreeLists.{CanJoin, JoinAll};
+ghost use Rattle.nv_calls.specs.Given.{GivesBlock, GivesPages, MapsOwn};
+ghost use Rattle.nv_calls.specs.LessNames.{AreOwn, GivesBlocks, GivesRow, OwnsBlocks};
+ghost use Rattle.nv_calls.specs.Taken.{block_run};
+ghost use Rattle.nv_calls.specs.Writes.{CanGive};
 
-use crate::planning::Plan;
 use nv_alloc::Allocators;
 use nv_radix::FileIndex;
-use nv_super::Run;
-use std::alloc::{AllocError, Global};
+use nv_scan::Row;
+use nv_super::{BLOCK_SIZE, Run};
 
 /// Gives blocks back, run by run.
 pub(crate) fn give_all(free: &mut Allocators, runs: &[Run])
@@ -23,39 +27,51 @@ pub(crate) fn give_all(free: &mut Allocators, runs: &[Run])
     }
 }
 
-/// The blocks that the pages of a write have, each as a run.
-pub(crate) fn replaced_blocks(
-    alloc: Global,
-    index: &FileIndex,
-    plan: &Plan,
-) -> Result<Vec<Run>, AllocError>
-    requires pages { plan.now.first + plan.now.pages < 2 ^ 31 }
-    requires ending { IfSome plan.now.ending (λ p. p < 2 ^ 31) }
-    ensures blocks { IfOk result (λ runs. runs.items ≡ replaced_blocks index.now plan.now) }
-    ensures count { IfOk result (λ runs. length runs.items ≤ data_blocks plan.now) }
+/// Gives back the blocks of a row's log and of its pages, for which there is room.
+pub(crate) fn give_row(free: &mut Allocators, row: &Row)
+    requires own { OwnsBlocks free.old row.now }
+    requires room { length row.now.pages.items + div_ceil row.now.numbers.size 4096 ≤ free.old.room }
+    ensures given { GivesRow free.old row.now free.new }
+    ensures lists { free.new.sup ≡ free.old.sup }
 {
-    let mut runs = Vec::with_capacity(alloc, plan.blocks() as usize)?;
-    if let Some(page) = plan.ending {
-        push_blocks(&mut runs, index, page, 1);
-    }
-    push_blocks(&mut runs, index, plan.first, plan.pages);
-    Ok(runs)
+    give_blocks(free, &row.pages);
+    give_pages(free, &row.index, 0, row.numbers.size.div_ceil(BLOCK_SIZE));
 }
 
-/// Adds the blocks of pages from one on, each as a run.
-fn push_blocks(runs: &mut Vec<Run>, index: &FileIndex, first: u64, count: u64)
-    requires pages { first + count < 2 ^ 32 }
-    requires room { vec_len runs.old + count ≤ vec_capacity runs.old }
-    ensures blocks { runs.new.items ≡ runs.old.items ++ page_blocks index.now first count }
-    ensures room { vec_capacity runs.new ≡ vec_capacity runs.old }
-    ensures count { vec_len runs.new ≤ vec_len runs.old + count }
+/// Gives back the blocks that an index has for the pages from one up to another, for which there is room.
+pub(crate) fn give_pages(free: &mut Allocators, index: &FileIndex, first: u64, end: u64)
+    requires own { MapsOwn free.old index.now }
+    requires room { end - first ≤ free.old.room }
+    ensures given { GivesPages free.old index.now first end free.new }
+    ensures lists { free.new.sup ≡ free.old.sup }
 {
-    for page in first..first + count {
-        if let Some(block) = index.get(page) {
-            runs.push_reserved(Run {
-                start: block,
-                count: 1,
-            });
-        }
+    for page in first..end {
+        give_block(free, index.get(page));
+    }
+}
+
+/// Gives back blocks, each by itself, for which there is room.
+fn give_blocks(free: &mut Allocators, blocks: &[u64])
+    requires own { AreOwn free.old blocks.now }
+    requires room { length blocks.now ≤ free.old.room }
+    ensures given { GivesBlocks free.old blocks.now free.new }
+    ensures lists { free.new.sup ≡ free.old.sup }
+    ensures room { free.old.room ≤ free.new.room + length blocks.now }
+{
+    for block in blocks {
+        give_block(free, Some(*block));
+    }
+}
+
+/// Gives back a block, if there is one.
+pub(crate) fn give_block(free: &mut Allocators, block: Option<u64>)
+    requires can { IfSome block (λ b. CanJoin free.old (block_run b)) }
+    requires room { 0 < free.old.room }
+    ensures given { GivesBlock free.old block free.new }
+    ensures lists { free.new.sup ≡ free.old.sup }
+    ensures room { free.old.room ≤ free.new.room + 1 }
+{
+    if let Some(start) = block {
+        free.give(Run { start, count: 1 });
     }
 }

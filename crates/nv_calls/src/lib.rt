@@ -10,7 +10,6 @@ mod fs;
 mod giving;
 mod growing;
 mod inserting;
-mod letting_go;
 mod linking;
 mod listing;
 mod looking;

@@ -1,11 +1,11 @@
-//! Which pages of a file get new blocks by a write, and the entries that say so.
+//! Which pages of a file get new blocks by a write, the entries that say so, and the blocks that these pages have.
 
 ghost use Rattle.std.specs.Prelude.{◌≡◌, ◌+◌, ◌<◌, ◌≤◌, ◌^◌, ◌++◌, length, IfOk, IfSome, vec_len, vec_capacity};
 ghost use Rattle.std.specs.List.{Contains};
 ghost use Rattle.nv_super.specs.declared.owners.Run.{Run as RunValue};
 ghost use Rattle.nv_alloc.specs.Taking.{blocks_in, left, taken};
 ghost use Rattle.nv_radix.specs.Pages.{block_at};
-ghost use Rattle.nv_calls.specs.Writes.{plan_of, data_blocks, run_entries, data_entries};
+ghost use Rattle.nv_calls.specs.Writes.{data_blocks, data_entries, page_blocks, plan_of, replaced_blocks, run_entries};
 
 use nv_entry::{Entry, WriteEntry};
 use nv_radix::FileIndex;
@@ -116,5 +116,42 @@ fn push_entries(entries: &mut Vec<Entry>, plan: &Plan, first: u64, runs: &[Run])
             time: plan.time,
         }));
         page += run.count;
+    }
+}
+
+/// The blocks that the pages of a write have, each as a run.
+pub(crate) fn replaced_blocks(
+    alloc: Global,
+    index: &FileIndex,
+    plan: &Plan,
+) -> Result<Vec<Run>, AllocError>
+    requires pages { plan.now.first + plan.now.pages < 2 ^ 31 }
+    requires ending { IfSome plan.now.ending (λ p. p < 2 ^ 31) }
+    ensures blocks { IfOk result (λ runs. runs.items ≡ replaced_blocks index.now plan.now) }
+    ensures count { IfOk result (λ runs. length runs.items ≤ data_blocks plan.now) }
+{
+    let mut runs = Vec::with_capacity(alloc, plan.blocks() as usize)?;
+    if let Some(page) = plan.ending {
+        push_blocks(&mut runs, index, page, 1);
+    }
+    push_blocks(&mut runs, index, plan.first, plan.pages);
+    Ok(runs)
+}
+
+/// Adds the blocks of pages from one on, each as a run.
+fn push_blocks(runs: &mut Vec<Run>, index: &FileIndex, first: u64, count: u64)
+    requires pages { first + count < 2 ^ 32 }
+    requires room { vec_len runs.old + count ≤ vec_capacity runs.old }
+    ensures blocks { runs.new.items ≡ runs.old.items ++ page_blocks index.now first count }
+    ensures room { vec_capacity runs.new ≡ vec_capacity runs.old }
+    ensures count { vec_len runs.new ≤ vec_len runs.old + count }
+{
+    for page in first..first + count {
+        if let Some(block) = index.get(page) {
+            runs.push_reserved(Run {
+                start: block,
+                count: 1,
+            });
+        }
     }
 }

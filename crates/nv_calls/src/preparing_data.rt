@@ -13,8 +13,8 @@ ghost use Rattle.nv_calls.specs.Taken.{SamePools, TakesEach};
 ghost use Rattle.nv_calls.specs.Writes.{NeedsBlocks, data_blocks, data_entries, replaced_blocks};
 ghost use Rattle.nv_calls.specs.Written.{Prepared};
 
-use crate::giving::{give_all, replaced_blocks};
-use crate::planning::{Plan, data_entries};
+use crate::giving::give_all;
+use crate::planning::{Plan, data_entries, replaced_blocks};
 use crate::preparing::prepare_log;
 use nv_alloc::{AllocRefusal, Allocators};
 use nv_entry::Entry;

@@ -19,7 +19,7 @@ ghost use Rattle.nv_calls.specs.NewNames.{CanName, LeavesRows};
 ghost use Rattle.nv_calls.specs.Steps.{LeavesStep, RefusesStep};
 ghost use Rattle.nv_calls.specs.Taken.{SamePools, TakesEach};
 
-use crate::letting_go::give_row;
+use crate::giving::give_row;
 use crate::making::name_entry;
 use crate::named::Named;
 use crate::preparing::prepare_log;

@@ -12,7 +12,7 @@ ghost use Rattle.nv_calls.specs.Steps.{LeavesStep, RefusesStep};
 
 use crate::appending::append_log;
 use crate::copying::resize_with_copy;
-use crate::letting_go::give_pages;
+use crate::giving::give_pages;
 use crate::settling::numbers_with;
 use nv_alloc::Allocators;
 use nv_entry::{AttrEntry, Entry};

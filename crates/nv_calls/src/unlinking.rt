@@ -8,7 +8,7 @@ ghost use Rattle.nv_super.specs.Order.{Rises};
 ghost use Rattle.nv_alloc.specs.Taking.{all_blocks};
 ghost use Rattle.nv_entry.specs.declared.entry.Operation.TheVariants.{Remove};
 ghost use Rattle.nv_logpage.specs.Append.{needed};
-ghost use Rattle.nv_names.specs.Names.{EachOnce, IsName};
+ghost use Rattle.nv_names.specs.Names.{IsName};
 ghost use Rattle.nv_scan.specs.declared.piece.Row.{Row as RowValue};
 ghost use Rattle.nv_held.specs.nv_check.Cross.{row_key};
 ghost use Rattle.nv_held.specs.Held.{Held, Store};
@@ -28,7 +28,7 @@ ghost use Rattle.nv_calls.specs.Same.{KeepsMount, SameMount};
 ghost use Rattle.nv_calls.specs.Seen.{LeadsTo, tree_of};
 ghost use Rattle.nv_calls.specs.Steps.{RefusesStep};
 ghost use Rattle.nv_calls.specs.UnlinkCalls.{unlink_blocks};
-ghost use Rattle.nv_calls.specs.Unlinks.{DropsName, Releases, UnlinksAt, release_blocks};
+ghost use Rattle.nv_calls.specs.Unlinks.{Releases, UnlinksAt, release_blocks};
 ghost use Rattle.nv_calls.specs.World.{world_of};
 
 use crate::Fs;
@@ -36,7 +36,7 @@ use crate::growing::{Growth, append_logs};
 use crate::making::name_entry;
 use crate::named::{Named, unlink_for};
 use crate::removing::remove_named;
-use crate::settling_names::set_links;
+use crate::settling_names::{remove_name, set_links};
 use crate::writing::is_stop;
 use nv_alloc::Allocators;
 use nv_entry::{Entry, LinksEntry, Operation};
@@ -95,20 +95,9 @@ fn unlink_at<P: Pmem>(
         names: 0,
     };
     append_logs(alloc, memory, sup, free, cpu, rows, &first, &second)?;
-    drop_name(&mut rows[named.directory], named.name, time);
+    remove_name(&mut rows[named.directory], named.name, time);
     set_links(&mut rows[named.target], count, time);
     Ok(())
-}
-
-/// Takes a name out of a directory's row, and puts the time in.
-fn drop_name(directory: &mut Row, name: &[u8], time: u64)
-    ensures row { DropsName directory.old name.now time directory.new }
-    ensures once { EachOnce directory.new.names }
-{
-    directory.names.remove(name);
-    directory.numbers.time = time;
-    // A name index says of itself that it has no name twice.
-    let _names = directory.names.len();
 }
 
 /// Whether a file has more links than one.

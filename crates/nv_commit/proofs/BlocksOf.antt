@@ -125,21 +125,18 @@ module _ (l : Layout) (held : Store) (i : ℕ) (f : Held) (is : held i ≡ Some 
   owned_page : (b : ℕ) → Contains f.pages b → (k : ℕ) × OwnsIn l held b (owners.Log i k)
   owned_page b c = page_owner l held i b f is c
 
+  -- where nothing is held nothing is owned
+  nobody : (b : ℕ) (o : Owner) → OwnsIn l (λ _. None) b o → ⊥
+  nobody b (owners.Log j k) owns = let w = log_owned owns in let e = w.1 in cc
+  nobody b (owners.Data j p) owns = let w = page_owned owns in let e = w.1 in cc
+
   page_free : (b : ℕ) → Contains f.pages b → IsUnowned l left b
   page_free b c = let o = owned_page b c in let d = inside b c in
       let_go l held i None undoubled b (owners.Log i o.0) o.1 refl (record { from = d.0; below = d.1; unowned = nobody b }) (gone b)
-    where
-      nobody : (b : ℕ) (o : Owner) → OwnsIn l (λ _. None) b o → ⊥
-      nobody b (owners.Log j k) owns = let w = log_owned owns in let e = w.1 in cc
-      nobody b (owners.Data j p) owns = let w = page_owned owns in let e = w.1 in cc
 
   data_free : (b : ℕ) → Maps l f b → IsUnowned l left b
   data_free b w = let d = data_pages l.sup f.kind f.entries w.0 b w.1 in
       let_go l held i None undoubled b (owners.Data i w.0) (by_page is w.1) refl (record { from = d.1; below = d.2; unowned = nobody b }) (gone b)
-    where
-      nobody : (b : ℕ) (o : Owner) → OwnsIn l (λ _. None) b o → ⊥
-      nobody b (owners.Log j k) owns = let w = log_owned owns in let e = w.1 in cc
-      nobody b (owners.Data j p) owns = let w = page_owned owns in let e = w.1 in cc
 
   -- its own owners
   mine_was : (b : ℕ) → (Contains f.pages b → ⊥) → (Maps l f b → ⊥) → (o : Owner) → OwnsIn l held b o → inode_of o ≡ i → ⊥

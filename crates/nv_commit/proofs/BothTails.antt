@@ -29,6 +29,7 @@ use Rattle.nv_held.specs.Grows.{grown}
 use Rattle.nv_held.specs.Mounted.{ShowsSound}
 use Rattle.nv_held.specs.Appended.{HasBehind}
 use Rattle.nv_held.proofs.Appending.{tail_follows}
+use Rattle.nv_held.proofs.BytesKept.{mixed_size}
 use Rattle.nv_held.proofs.Clear.{slots_clear}
 use Rattle.nv_held.proofs.Commits.{log_stays, stored_outside}
 use Rattle.nv_held.proofs.Fronts.{front_idle, front_super, loose_front, loose_sound, slot_front}
@@ -61,9 +62,6 @@ still_empty {R} {S} {cpu} {x} {y} one two mixed empty = (first ∙ empty.0 ∙ s
 
   second : enqueue S cpu ≡ enqueue R cpu
   second = mixed_word R S (BothWords x y) (journal cpu + 8) (omega arith) mixed (away (journal cpu + 8) (omega arith) (omega arith))
-
-pub mixed_size : {R S : Region} {these : Choices} → IsMixed R these S → size S ≡ size R
-mixed_size mixed k = 8 * mixed.as_long k + length (mixed.same_rest k)
 
 pub both_mixed : {R S : Region} {x y : Extension} {new last : ℕ} → AppendsBoth R S x y new last → IsMixed R (BothWords x y) S
 both_mixed {R} {S} {x} {y} done =

@@ -57,11 +57,17 @@ attr_fits s kind i es at e right = sound_entry s kind i (named (good_entries s k
 abbrev told_in : Layout → Held → List ℕ → Option (ℕ × ℕ)
 told_in l h name = named (good_in l h) name
 
+-- nothing, either way
+pub either_none : {A : Type 0} (b : Bool) (o : Option A) → o ≡ None → cond b None o ≡ None
+either_none true o e = refl
+either_none false o e = e
+
 first_none : (o : Option (ℕ × ℕ)) → option_map (λ (x : ℕ × ℕ). x.0) o ≡ None → o ≡ None
 first_none None e = refl
 first_none (Some x) e = absurd (cc)
 
-first_some : (o : Option (ℕ × ℕ)) (i : ℕ) → option_map (λ (x : ℕ × ℕ). x.0) o ≡ Some i → (x : ℕ × ℕ) × (o ≡ Some x)
+-- where there is a first part, there are both
+pub first_some : (o : Option (ℕ × ℕ)) (i : ℕ) → option_map (λ (x : ℕ × ℕ). x.0) o ≡ Some i → (x : ℕ × ℕ) × (o ≡ Some x)
 first_some None i e = absurd (cc)
 first_some (Some x) i e = (x, refl)
 
@@ -193,10 +199,6 @@ module _ (l : Layout) (held : Store) (was : IsFaultless l held) (d : ℕ) (h : H
         differs : i ≢ d
         differs same = let clash : None ≡ Some i = sym (empty name) ∙ ap (λ (k : ℕ). g.name k name) same ∙ named_there in cc
 
-        either_none : (b : Bool) (o : Option ℕ) → o ≡ None → cond b None o ≡ None
-        either_none true o e = refl
-        either_none false o e = e
-
         empty_still : (q : List ℕ) → (graph_in l less).name i q ≡ None
         empty_still q = less_graph.name i q ∙ either_none _ (g.name i q) (empty q)
 
@@ -259,17 +261,13 @@ module _ (l : Layout) (held : Store) (was : IsFaultless l held) (d : ℕ) (h : H
 
   module _ (e : ℕ) (other : List ℕ) (good_other : IsGoodName l.sup i other) (path : List (List ℕ)) (named_there : g.name d name ≡ Some i) (leads : walked g 1 path ≡ Some e) (absent : g.name e other ≡ None)
       (outside : IsOfKind g i Directory → Contains (passed g 1 path) i → ⊥) where
-    either_absent : (b : Bool) (o : Option ℕ) → o ≡ None → cond b None o ≡ None
-    either_absent true o z = refl
-    either_absent false o z = z
-
     -- to another directory
     pub moved_faultless : (k : Held) → held e ≡ Some k → k.kind ≡ Directory → e ≢ d → (next end : ℕ) (pages : List ℕ) → OwnsNew l held d (Some (grown h tail (name_entry at Remove i name time ∷ []) fresh))
         → OwnsNew l (with_inode held d (Some (grown h tail (name_entry at Remove i name time ∷ []) fresh))) e (Some (grown k end (name_entry next Add i other time ∷ []) pages))
         → IsFaultless l (with_inode (with_inode held d (Some (grown h tail (name_entry at Remove i name time ∷ []) fresh))) e (Some (grown k end (name_entry next Add i other time ∷ []) pages)))
     moved_faultless k to to_directory apart next end pages first then = record {
       clean = grown_clean l mid e k to_there (grown_clean l held d h is was.clean tail (name_entry at Remove i name time) fresh (removal_fits l held d h is directory at i name time good i named_there))
-          end (name_entry next Add i other time) pages (add_fits l mid e k to_there to_directory next i other time good_other (first_graph.name e other ∙ either_absent _ (g.name e other) absent));
+          end (name_entry next Add i other time) pages (add_fits l mid e k to_there to_directory next i other time good_other (first_graph.name e other ∙ either_none _ (g.name e other) absent));
       undoubled = still_undoubled l mid e (Some (grown k end (name_entry next Add i other time ∷ []) pages)) then (still_undoubled l held d (Some (grown h tail (name_entry at Remove i name time ∷ []) fresh)) first was.undoubled);
       named = same_faultless (renamed g d name e other i) (graph_in l (with_inode mid e (Some (grown k end (name_entry next Add i other time ∷ []) pages))))
           (name_follows (with_name g d name None) (graph_in l mid) _ e other (Some i) first_graph (one_name l mid e k to_there to_directory end pages next Add i other time good_other))
@@ -317,4 +315,4 @@ module _ (l : Layout) (held : Store) (was : IsFaultless l held) (d : ℕ) (h : H
       both_clean : NoEntryFault l.sup h.kind d both.entries
       both_clean = subst (λ (es : List Placed). NoEntryFault l.sup h.kind d es) (append_assoc h.entries (name_entry at Remove i name time ∷ []) (name_entry next Add i other time ∷ []))
           (clean_more l.sup h.kind d once.entries (name_entry next Add i other time) (λ fault wrong. first_clean d once fault there wrong)
-          (add_fits l mid d once there directory next i other time good_other (first_graph.name d other ∙ either_absent _ (g.name d other) absent_here)))
+          (add_fits l mid d once there directory next i other time good_other (first_graph.name d other ∙ either_none _ (g.name d other) absent_here)))

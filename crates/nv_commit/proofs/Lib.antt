@@ -6,3 +6,4 @@ pub mod Removes
 pub mod Makes
 pub mod Called
 pub mod BlocksOf
+pub mod BytesStay

@@ -33,6 +33,7 @@ use Rattle.nv_held.specs.Grows.{grown}
 use Rattle.nv_held.specs.Mounted.{ShowsSound}
 use Rattle.nv_held.specs.Appended.{HasBehind}
 use Rattle.nv_held.proofs.Appending.{page_start, tail_follows}
+use Rattle.nv_held.proofs.BytesKept.{mixed_size}
 use Rattle.nv_held.proofs.Clear.{slots_clear}
 use Rattle.nv_held.proofs.Commits.{log_stays, made, stored_outside}
 use Rattle.nv_held.proofs.Fronts.{front_idle, loose_front, loose_sound, slot_front}
@@ -44,7 +45,7 @@ use Rattle.nv_commit.specs.declared.making.NewInode.{NewInode}
 use Rattle.nv_commit.specs.Extends.{CanExtend}
 use Rattle.nv_commit.specs.Together.{CanCommit, ShowsIdle}
 use Rattle.nv_commit.specs.Makes.{BeforeOrMade, CanBegin, CanMake, PrepareWords, Prepares, begun, head_of, slot_with, with_made}
-use Rattle.nv_commit.proofs.BothTails.{low_words, mixed_size, sound_undone}
+use Rattle.nv_commit.proofs.BothTails.{low_words, sound_undone}
 use Rattle.nv_commit.proofs.Extends.{ends as parent_ends, front_more, loose_there, slots, stands_behind}
 use Rattle.nv_commit.proofs.Permitted.{tail_permitted, valid_permitted}
 use Rattle.nv_commit.proofs.TwoWords.{no_fault, words_idle, words_undone}
@@ -104,7 +105,8 @@ journal_waits {R} {S} {cpu} {n} {x} begin can mixed empty = (deq ∙ empty.0 ∙
 -- ---- what is loose, and what a stop leaves before the words change
 
 module _ {R : Region} {s : Super} {held : Store} {cpu j : ℕ} {n : NewInode} {i : ℕ} {h : Held} {x : Extension} (can : CanMake R s held cpu j n i h x) where
-  prepared_loose : (k v : ℕ) → PrepareWords n x k v → Loose (fixed_layout s) held k v
+  -- what is prepared is loose
+  pub prepared_loose : (k v : ℕ) → PrepareWords n x k v → Loose (fixed_layout s) held k v
   prepared_loose k v (inl (inl (inl w))) = let here = w.0 in let page : n.page ≡ 8 * k / 4096 = omega (arith, here) in inl (subst (IsUnowned (fixed_layout s) held) page can.page)
   prepared_loose k v (inl (inl (inr w))) = absurd (let none = w.1 in omega (arith, none))
   prepared_loose k v (inl (inr w)) = let from = w.0 in let below = w.1 in inr (inr (j, n.slot, can.at, can.unused, omega (arith, from), omega (arith, below)))

@@ -9,7 +9,8 @@ use Rattle.nv_super.proofs.Slots.{slot_is}
 use Rattle.nv_inode.specs.Permitted.{IsKeyWord, is_permitted}
 use Rattle.nv_inode.proofs.KeyWords.{named_permitted}
 
-no_zero : (s : Super) (i a : ℕ) → slot_of (fixed_layout s) i ≡ Some a → i ≡ 0 → ⊥
+-- number 0 has no slot
+pub no_zero : (s : Super) (i a : ℕ) → slot_of (fixed_layout s) i ≡ Some a → i ≡ 0 → ⊥
 no_zero s i a at zero = let e : slot_of (fixed_layout s) 0 ≡ Some a = subst (λ (k : ℕ). slot_of (fixed_layout s) k ≡ Some a) zero at in cc
 
 number_below : (C T i : ℕ) → 0 < C → i / C < 32 * T → i < 32 * C * T
@@ -19,7 +20,8 @@ number_below C T i some row =
     let rest : i % C < C = mod_below i C some in
     omega (arith, rows, split, rest)
 
-number_holds : (s : Super) (i : ℕ) → 0 < i → i < 32 * s.cpus * s.table_blocks → IsTrue (is_number s i)
+-- a number within the tables is one that an inode can have
+pub number_holds : (s : Super) (i : ℕ) → 0 < i → i < 32 * s.cpus * s.table_blocks → IsTrue (is_number s i)
 number_holds s i above below = grind (arith, nat_tests)
 
 key_permitted : (s : Super) (i a at : ℕ) → IsLayout s → slot_of (fixed_layout s) i ≡ Some a → IsKeyWord a at → IsTrue (is_permitted s at)

@@ -20,6 +20,7 @@ use Rattle.nv_held.specs.Front.{SameFront}
 use Rattle.nv_held.specs.Grows.{grown}
 use Rattle.nv_held.specs.Appended.{Appends, HasBehind}
 use Rattle.nv_held.proofs.Appending.{tail_follows}
+use Rattle.nv_held.proofs.BytesKept.{mixed_size}
 use Rattle.nv_held.proofs.Clear.{slots_clear}
 use Rattle.nv_held.proofs.Commits.{removed, stored_outside}
 use Rattle.nv_held.proofs.Fronts.{front_idle, loose_front, slot_front}
@@ -27,7 +28,7 @@ use Rattle.nv_commit.specs.declared.together.Extension.{Extension}
 use Rattle.nv_commit.specs.Extends.{with_log}
 use Rattle.nv_commit.specs.Together.{BothWords, CanCommit, ShowsIdle}
 use Rattle.nv_commit.specs.Removes.{BeforeOrRemoved, CanRemove, with_removed}
-use Rattle.nv_commit.proofs.BothTails.{mixed_size, sound_undone, still_empty}
+use Rattle.nv_commit.proofs.BothTails.{sound_undone, still_empty}
 use Rattle.nv_commit.proofs.Extends.{all_loose, ends, front_more, slots, sound_before, stands_behind}
 use Rattle.nv_commit.proofs.Permitted.{tail_permitted, valid_permitted}
 use Rattle.nv_commit.proofs.TwoWords.{no_fault, words_idle, words_undone}

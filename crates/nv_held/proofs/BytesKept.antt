@@ -1,7 +1,7 @@
--- What stores leave of the bytes of files.
-use Rattle.std.proofs.Common.{◌≡◌, ◌≢◌, ℕ, ◌+◌, ◌*◌, ◌/◌, ◌%◌, ◌^◌, inl, inr, refl, ap, sym, ◌∙◌, arith, Option, Some, None}
+-- What stores leave of a region's length, and of the bytes of files.
+use Rattle.std.proofs.Common.{◌≡◌, ◌≢◌, ℕ, ◌+◌, ◌*◌, ◌/◌, ◌%◌, ◌^◌, inl, inr, length, refl, ap, sym, ◌∙◌, arith, Option, Some, None}
 use Rattle.std.proofs.lemmas.Bool.{cases_lt}
-use Rattle.nv_region.specs.Region.{Region, word}
+use Rattle.nv_region.specs.Region.{Region, size, word}
 use Rattle.nv_region.specs.Stops.{Choices, IsMixed}
 use Rattle.nv_region.specs.Stored.{SameOutside}
 use Rattle.nv_region.proofs.Wordwise.{mixed_word}
@@ -18,16 +18,24 @@ use Rattle.nv_held.specs.Bytes.{byte_in, byte_of}
 use Rattle.nv_held.proofs.Shown.{stands_at}
 use Rattle.nv_held.proofs.Kept.{page_owner, tail_there}
 
+-- a region that is mixed from another is as long
+pub mixed_size : {R S : Region} {these : Choices} → IsMixed R these S → size S ≡ size R
+mixed_size mixed k = 8 * mixed.as_long k + length (mixed.same_rest k)
+
 -- a byte is read from one word of its page's block
 same_byte : (R S : Region) (o : Option ℕ) (x : ℕ) → ((b : ℕ) → o ≡ Some b → word S (b * 4096 + x % 4096 / 8 * 8) ≡ word R (b * 4096 + x % 4096 / 8 * 8)) → byte_in S o x ≡ byte_in R o x
 same_byte R S None x same = refl
 same_byte R S (Some b) x same = ap (λ (w : ℕ). w / 256 ^ (x % 8) % 256) (same b refl)
 
+-- a byte whose block isn't stored to
+pub byte_stays : (R S : Region) (these : Choices) (o : Option ℕ) (x : ℕ) → IsMixed R these S → ((b : ℕ) → o ≡ Some b → (k v : ℕ) → 8 * k / 4096 ≡ b → these k v → ⊥) → byte_in S o x ≡ byte_in R o x
+byte_stays R S these o x mixed away = same_byte R S o x (λ b is.
+    mixed_word R S these (b * 4096 + x % 4096 / 8 * 8) (omega arith) mixed (λ v w. away b is ((b * 4096 + x % 4096 / 8 * 8) / 8) v (omega arith) w))
+
 -- Where no word of a file's blocks was stored, each of its bytes is where it was.
 pub data_stays : (l : Layout) (these : Choices) (R S : Region) (h : Held) → IsMixed R these S
     → ((p b k v : ℕ) → block_of (good_in l h) p ≡ Some b → 8 * k / 4096 ≡ b → these k v → ⊥) → (x : ℕ) → byte_of S l h x ≡ byte_of R l h x
-data_stays l these R S h mixed away x = same_byte R S (block_of (good_in l h) (x / 4096)) x (λ b maps.
-    mixed_word R S these (b * 4096 + x % 4096 / 8 * 8) (omega arith) mixed (λ v w. away (x / 4096) b ((b * 4096 + x % 4096 / 8 * 8) / 8) v maps (omega arith) w))
+data_stays l these R S h mixed away x = byte_stays R S these (block_of (good_in l h) (x / 4096)) x mixed (λ b maps k v block w. away (x / 4096) b k v maps block w)
 
 -- Loose words are no file's.
 pub no_loose_data : (l : Layout) (held : Store) (R : Region) (i : ℕ) (h : Held) → SlotsClear l held → NoneDoubled l held → Shows R l held → held i ≡ Some h

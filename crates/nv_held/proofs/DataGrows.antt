@@ -28,12 +28,13 @@ use Rattle.nv_held.proofs.Growing.{free_with_data}
 use Rattle.nv_held.proofs.Written.{EntryOf, in_runs, maps_from, maps_written, maps_once, page_stays, page_cut, page_written, block_there, block_entry, page_entry}
 
 -- good entries all count
-all_count : (s : Super) (k : Kind) (xs : List Placed) → ((x : Placed) → Contains xs x → is_good s k x.entry ≡ true) → good_entries s k xs ≡ xs
+pub all_count : (s : Super) (k : Kind) (xs : List Placed) → ((x : Placed) → Contains xs x → is_good s k x.entry ≡ true) → good_entries s k xs ≡ xs
 all_count s k [] good = refl
 all_count s k (x ∷ xs) good =
     ap (λ (t : Bool). cond t (x ∷ good_entries s k xs) (good_entries s k xs)) (good x (Contains-head x xs)) ∙ ap (λ (ys : List Placed). x ∷ ys) (all_count s k xs (λ y c. good y (Contains-tail x xs y c)))
 
-in_run_from : (first count p : ℕ) → first ≤ p → p < first + count → in_run first count p ≡ true
+-- a page of a run is in it
+pub in_run_from : (first count p : ℕ) → first ≤ p → p < first + count → in_run first count p ≡ true
 in_run_from first count p low high = grind (arith, nat_tests)
 
 module _ (l : Layout) (held : Store) (h : Held) (tail : ℕ) (more : List Placed) (fresh : List ℕ) (size : ℕ) (w : WritesData l held h more fresh size) where

@@ -4,7 +4,8 @@ use Rattle.nv_region.proofs.Wordwise.{stores_more, stored_only}
 use Rattle.nv_held.specs.Bytes.{byte_in}
 use Rattle.nv_bytes.specs.Bytes.{byte_after}
 use Rattle.nv_bytes.specs.Storing.{InBlocks}
-use Rattle.nv_bytes.proofs.StoredPages.{at_some, byte_stays, words_more, words_hold}
+use Rattle.nv_held.proofs.BytesKept.{byte_stays}
+use Rattle.nv_bytes.proofs.StoredPages.{at_some, words_more, words_hold}
 use Rattle.nv_bytes.proofs.storing.store_page.Goals as goal
 
 pub loop-k-preserved : goal.loop-k-preserved

@@ -3,9 +3,10 @@ use Rattle.nv_region.proofs.Fuses.{keeps_more}
 use Rattle.nv_region.proofs.Wordwise.{stores_more}
 use Rattle.nv_super.specs.declared.owners.Run.{Run}
 use Rattle.nv_alloc.specs.Taking.{HasBlock}
+use Rattle.nv_held.proofs.BytesKept.{mixed_size}
 use Rattle.nv_bytes.specs.Bytes.{byte_after, file_byte}
 use Rattle.nv_bytes.specs.Storing.{InBlocks}
-use Rattle.nv_bytes.proofs.StoredPages.{as_large, same_pages, Storing, storing_goes_on, runs_from, run_inside, pages_from, run_held}
+use Rattle.nv_bytes.proofs.StoredPages.{same_pages, Storing, storing_goes_on, runs_from, run_inside, pages_from, run_held}
 use Rattle.nv_bytes.proofs.storing.store_pages.Goals as goal
 
 abbrev none : Run
@@ -13,7 +14,7 @@ none = record { start = 0; count = 0 }
 
 pub store_run-requires-clause-inside : goal.store_run-requires-clause-inside
 store_run-requires-clause-inside g c b of =
-    omega (arith, run_inside (g.P.Pmem.region c.args.memory.now) c.args.index.now c.args.runs.now c.loop-run.run-index none c.loop-run-test.true c.loop-run.invariant.storing.fresh b of, as_large c.loop-run.invariant.wrote.mixed)
+    omega (arith, run_inside (g.P.Pmem.region c.args.memory.now) c.args.index.now c.args.runs.now c.loop-run.run-index none c.loop-run-test.true c.loop-run.invariant.storing.fresh b of, mixed_size c.loop-run.invariant.wrote.mixed)
 
 pub returns-in_err-store_run-clause-wrote : goal.returns-in_err-store_run-clause-wrote
 returns-in_err-store_run-clause-wrote g c =
@@ -28,7 +29,7 @@ loop-run-preserved g c =
     let runs = c.args.runs.now in
     let i = c.loop-run.run-index in
     let bytes : ℕ → ℕ = byte_after n.offset n.bytes.now n.size (file_byte R0 c.args.index.now) in
-    let large = as_large c.loop-run.invariant.wrote.mixed in
+    let large = mixed_size c.loop-run.invariant.wrote.mixed in
     record {
       storing =
           storing_goes_on R0 c.args.index.now bytes c.args.first runs R S c.loop-run.page (get_or runs i none) (drop (i + 1) runs)

@@ -2,9 +2,10 @@ use Rattle.std.proofs.Common.{◌+◌, arith, ap, sym, ◌∙◌, subst, is_err}
 use Rattle.nv_region.proofs.Fuses.{keeps_more}
 use Rattle.nv_region.proofs.Wordwise.{stores_more}
 use Rattle.nv_super.specs.Runs.{InRun}
+use Rattle.nv_held.proofs.BytesKept.{mixed_size}
 use Rattle.nv_bytes.specs.Bytes.{byte_after, file_byte}
 use Rattle.nv_bytes.specs.Storing.{InBlocks}
-use Rattle.nv_bytes.proofs.StoredPages.{as_large, page_next, same_pages, of_file}
+use Rattle.nv_bytes.proofs.StoredPages.{page_next, same_pages, of_file}
 use Rattle.nv_bytes.proofs.storing.store_run.Goals as goal
 
 pub loop-k-preserved : goal.loop-k-preserved
@@ -20,7 +21,7 @@ loop-k-preserved g c =
           (λ p b at i v w h. c.requires.apart p b at (subst (InRun c.args.run) w h))
           (of_file R S c.args.index.now c.get.result n.offset n.size n.bytes.now (c.args.run.start + c.loop-k.k) (c.args.page + c.loop-k.k) c.get.ensures c.in_ok-store_page.ensures.stored));
       wrote = stores_more _ _ _ _ _ _ _ _ (λ i v t. (omega (arith, t, in_run.0), omega (arith, t, in_run.1))) c.loop-k.invariant.wrote c.store_page.ensures.wrote;
-      len = as_large c.store_page.ensures.wrote.mixed ∙ c.loop-k.invariant.len;
+      len = mixed_size c.store_page.ensures.wrote.mixed ∙ c.loop-k.invariant.len;
       quiet = λ was. sym c.store_page.ensures.stopped ∙ ap is_err c.in_ok-store_page.was;
       keeps_fuse = keeps_more (λ limit end. omega (arith, end, c.requires.inside (c.args.run.start + c.loop-k.k) in_run)) c.loop-k.invariant.keeps_fuse c.store_page.ensures.keeps_fuse;
     }

@@ -1,6 +1,6 @@
 use Rattle.std.proofs.Common.{◌++◌, ◌∙◌, List, ℕ, ap}
 use Rattle.nv_region.proofs.Fuses.{keeps_within}
-use Rattle.nv_bytes.proofs.StoredPages.{as_large}
+use Rattle.nv_held.proofs.BytesKept.{mixed_size}
 use Rattle.nv_calls.proofs.LogGrows.{appends_log, can_append, stores_within_region}
 use Rattle.nv_calls.proofs.TakenBlocks.{taken_sup}
 use Rattle.nv_calls.proofs.appending.append_log.Goals as goal
@@ -39,7 +39,7 @@ returns-clause-keeps_fuse g c =
     keeps_within (stores_within_region c.args.entries.now c.deref.result.now c.slot_address-slot.result c.requires.stands c.in-Ok.ensures.taken c.in-Ok.ensures.count c.requires.given c.deref.ensures.value c.slot_address-slot.ensures) c.extend_log.ensures.keeps_fuse
 
 pub returns-in-Ok-extend_log-clause-length : goal.returns-in-Ok-extend_log-clause-length
-returns-in-Ok-extend_log-clause-length g c = as_large c.extend_log.ensures.wrote.mixed
+returns-in-Ok-extend_log-clause-length g c = mixed_size c.extend_log.ensures.wrote.mixed
 
 pub returns-clause-length : goal.returns-clause-length
-returns-clause-length g c = as_large c.extend_log.ensures.wrote.mixed
+returns-clause-length g c = mixed_size c.extend_log.ensures.wrote.mixed

@@ -1,6 +1,6 @@
 use Rattle.std.proofs.Common.{◌∙◌, arith}
 use Rattle.nv_region.proofs.Fuses.{keeps_more, keeps_within}
-use Rattle.nv_bytes.proofs.StoredPages.{as_large}
+use Rattle.nv_held.proofs.BytesKept.{mixed_size}
 use Rattle.nv_calls.proofs.CopiedEnd.{copies_end}
 use Rattle.nv_calls.proofs.copying.copy_end.Goals as goal
 
@@ -12,4 +12,4 @@ returns-clause-keeps_fuse g c = keeps_more (λ limit past. ((λ j below. (let in
     (keeps_within (λ limit past. omega (arith, past, c.requires.to)) c.copy_page.ensures.keeps_fuse) c.extend_log.ensures.keeps_fuse
 
 pub returns-clause-length : goal.returns-clause-length
-returns-clause-length g c = as_large c.extend_log.ensures.wrote.mixed ∙ as_large c.copy_page.ensures.wrote.mixed
+returns-clause-length g c = mixed_size c.extend_log.ensures.wrote.mixed ∙ mixed_size c.copy_page.ensures.wrote.mixed

@@ -4,7 +4,7 @@ use Rattle.nv_entry.specs.declared.entry.Entry.{Entry}
 use Rattle.nv_entry.specs.declared.entry.Operation.TheVariants.{Add}
 use Rattle.nv_entry.specs.Spelling.{entry_length}
 use Rattle.nv_logpage.specs.Append.{end_of, needed}
-use Rattle.nv_bytes.proofs.StoredPages.{as_large}
+use Rattle.nv_held.proofs.BytesKept.{mixed_size}
 use Rattle.nv_calls.specs.NameCalls.{name_entries}
 use Rattle.nv_calls.proofs.MadeNamed.{all_others, begins, commits, first_is, first_taken, makes_named, makes_within, place_is}
 use Rattle.nv_calls.proofs.making.make_named.Goals as goal
@@ -46,7 +46,7 @@ returns-clause-made g c =
     (λ held h can. c.in-Ok.ensures.shows c.args.sup.now held c.args.new.now.inode c.prepare_name.new.directory.inode h can) c.make_inode.ensures.wrote.mixed
 
 pub returns-in_default-clause-length : goal.returns-in_default-clause-length
-returns-in_default-clause-length g c = as_large c.make_inode.ensures.wrote.mixed
+returns-in_default-clause-length g c = mixed_size c.make_inode.ensures.wrote.mixed
 
 pub returns-clause-length : goal.returns-clause-length
-returns-clause-length g c = as_large c.make_inode.ensures.wrote.mixed
+returns-clause-length g c = mixed_size c.make_inode.ensures.wrote.mixed

@@ -1,4 +1,5 @@
 use Rattle.std.proofs.Common.{◌≡◌, ◌+◌, ◌-◌, ℕ, List, cond, Some, drop, subst, sym, ap, ◌∙◌, arith}
+use Rattle.nv_logpage.proofs.Placing.{entries_from}
 use Rattle.nv_alloc.specs.Taking.{Disjoint}
 use Rattle.nv_entry.specs.declared.entry.Entry.{Entry}
 use Rattle.nv_entry.specs.declared.entry.Entry.TheVariants.{Write}
@@ -6,7 +7,7 @@ use Rattle.nv_radix.specs.Pages.{Pages, block_at, in_run}
 use Rattle.nv_super.proofs.Rising.{Contains-head, Contains-tail}
 use Rattle.nv_calls.specs.Written.{AreSettled, MapsEntries, entry_pages}
 use Rattle.nv_calls.proofs.EntrySteps.{maps_skip, maps_step, settled_step, skip_once}
-use Rattle.nv_calls.proofs.StoredEntries.{entries_from, writes_from}
+use Rattle.nv_calls.proofs.StoredEntries.{writes_from}
 use Rattle.nv_calls.proofs.settling_data.map_pages.Goals as goal
 use Rattle.nv_calls.proofs.settling_data.map_pages.Goals.{in-Write, in_default}
 

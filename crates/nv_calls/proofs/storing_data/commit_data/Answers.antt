@@ -1,6 +1,6 @@
 use Rattle.std.proofs.Common.{◌∙◌, ℕ, sym, subst}
+use Rattle.nv_held.proofs.BytesKept.{mixed_size}
 use Rattle.nv_bytes.specs.Bytes.{byte_after, file_byte}
-use Rattle.nv_bytes.proofs.StoredPages.{as_large}
 use Rattle.nv_calls.specs.Written.{AreSmall}
 use Rattle.nv_calls.proofs.Committed.{commits}
 use Rattle.nv_calls.proofs.storing_data.commit_data.Goals as goal
@@ -15,4 +15,4 @@ returns-clause-commits g c s inode =
     c.deref.ensures.value c.deref-2.ensures.value c.deref-3.ensures.value c.extend_log.result c.store_data.ensures.wrote.mixed c.in_ok-store_data.ensures.stored c.extend_log.ensures.wrote.mixed (λ held h can. c.extend_log.ensures.shows s held inode h can)
 
 pub returns-clause-length : goal.returns-clause-length
-returns-clause-length g c = as_large c.extend_log.ensures.wrote.mixed ∙ as_large c.store_data.ensures.wrote.mixed
+returns-clause-length g c = mixed_size c.extend_log.ensures.wrote.mixed ∙ mixed_size c.store_data.ensures.wrote.mixed

@@ -3,14 +3,16 @@ use Rattle.nv_region.specs.Stops.{IsMixed}
 use Rattle.nv_region.proofs.Fuses.{keeps_more}
 use Rattle.nv_region.proofs.Wordwise.{stores_more}
 use Rattle.nv_super.proofs.Rising.{Contains-head}
+use Rattle.nv_logpage.proofs.Placing.{entries_from}
 use Rattle.nv_alloc.specs.Taking.{HasBlock}
 use Rattle.nv_entry.specs.declared.entry.Entry.{Entry}
 use Rattle.nv_entry.specs.declared.entry.Entry.TheVariants.{Write}
+use Rattle.nv_held.proofs.BytesKept.{mixed_size}
 use Rattle.nv_bytes.specs.Bytes.{byte_after, file_byte}
 use Rattle.nv_bytes.specs.Storing.{AreFresh, HoldPages, InBlocks}
-use Rattle.nv_bytes.proofs.StoredPages.{as_large, same_pages}
+use Rattle.nv_bytes.proofs.StoredPages.{same_pages}
 use Rattle.nv_calls.specs.Written.{entry_blocks}
-use Rattle.nv_calls.proofs.StoredEntries.{Storing, blocks_of, entries_from, entry_block, entry_fresh, run_holds, storing_goes_on, storing_skips, writes_from}
+use Rattle.nv_calls.proofs.StoredEntries.{Storing, blocks_of, entry_block, entry_fresh, run_holds, storing_goes_on, storing_skips, writes_from}
 use Rattle.nv_calls.proofs.storing_data.store_data.Goals as goal
 use Rattle.nv_calls.proofs.storing_data.store_data.Goals.{in-Write+in_ok-store_pages, in_default}
 
@@ -21,7 +23,7 @@ store_pages-requires-clause-fresh g c =
     let e = c.in-Write.write in
     let left = writes_from entries i c.entry-item.result e c.loop-entry-test.true c.entry-item.is c.in-Write.is in
     subst (λ (n : ℕ). AreFresh (g.P.Pmem.region c.loop-entry.memory) c.args.index.now (record { start = e.block; count = n } ∷ [])) (sym c.from.ensures)
-    (entry_fresh (g.P.Pmem.region c.args.memory.now) (g.P.Pmem.region c.loop-entry.memory) c.args.index.now e (drop (i + 1) entries) (as_large c.loop-entry.invariant.wrote.mixed)
+    (entry_fresh (g.P.Pmem.region c.args.memory.now) (g.P.Pmem.region c.loop-entry.memory) c.args.index.now e (drop (i + 1) entries) (mixed_size c.loop-entry.invariant.wrote.mixed)
     (subst (λ (xs : List Entry). AreFresh (g.P.Pmem.region c.args.memory.now) c.args.index.now (entry_blocks xs)) left c.loop-entry.invariant.storing.fresh))
 
 pub store_pages-requires-clause-pages : goal.store_pages-requires-clause-pages
@@ -60,7 +62,7 @@ loop-entry-preserved g c =
           let e = w.in-Write.write in
           let left = writes_from entries i c.entry-item.result e c.loop-entry-test.true c.entry-item.is w.in-Write.is in
           let storing = subst (Storing R0 m bytes entries R) left kept.storing in
-          let large = as_large kept.wrote.mixed in
+          let large = mixed_size kept.wrote.mixed in
           let wrote = w.store_pages.ensures.wrote in
           let mixed : IsMixed R (InBlocks (HasBlock (blocks_of e ∷ []))) S = subst (λ (k : ℕ). IsMixed R (InBlocks (HasBlock (record { start = e.block; count = k } ∷ []))) S) w.from.ensures wrote.mixed in
           let held = subst (λ (k : ℕ). HoldPages S (byte_after n.offset n.bytes.now n.size (file_byte R m)) e.offset (record { start = e.block; count = k } ∷ [])) w.from.ensures w.in_ok-store_pages.ensures.stored in

@@ -26,7 +26,7 @@ pub returns-clause-unlinked : goal.returns-clause-unlinked
 returns-clause-unlinked g c =
     let grew = c.in_ok-append_logs.ensures.appended in
     let a_at : slice_get c.append_logs.new.rows.items c.args.named.now.directory ≡ Some c.index_mut.result.now = placed_row c.append_logs.new.rows.items c.args.named.now.directory c.index_mut.result.now (grown_within grew c.args.named.now.directory c.requires.directory) c.index_mut.ensures.value in
-    let b_at : slice_get (set c.append_logs.new.rows.items c.args.named.now.directory c.drop_name.new.directory) c.args.named.now.target ≡ Some c.index_mut-2.result.now = placed_row (set c.append_logs.new.rows.items c.args.named.now.directory c.drop_name.new.directory) c.args.named.now.target c.index_mut-2.result.now (still_within c.append_logs.new.rows.items c.args.named.now.directory c.drop_name.new.directory c.args.named.now.target (grown_within grew c.args.named.now.target c.requires.target)) c.index_mut-2.ensures.value in
+    let b_at : slice_get (set c.append_logs.new.rows.items c.args.named.now.directory c.remove_name.new.directory) c.args.named.now.target ≡ Some c.index_mut-2.result.now = placed_row (set c.append_logs.new.rows.items c.args.named.now.directory c.remove_name.new.directory) c.args.named.now.target c.index_mut-2.result.now (still_within c.append_logs.new.rows.items c.args.named.now.directory c.remove_name.new.directory c.args.named.now.target (grown_within grew c.args.named.now.target c.requires.target)) c.index_mut-2.ensures.value in
     let read_at : slice_get c.args.rows.now.items c.args.named.now.target ≡ Some c.index-file.result.now = placed_row c.args.rows.now.items c.args.named.now.target c.index-file.result.now c.requires.target c.index-file.ensures in
     let both = subst (λ (x : Entry). AppendsLogs (g.P.Pmem.region c.args.memory.now) (g.P.Pmem.region c.append_logs.new.memory) c.args.sup.now c.args.free.now c.append_logs.new.free c.args.rows.now.items c.append_logs.new.rows.items c.args.named.now.directory (x ∷ []) c.args.named.now.target (links_entries (c.index-file.result.now.numbers.links - 1) c.args.time)) c.name_entry.ensures grew in
-    unlinks_at_places c.index-file.result.now both read_at c.requires.apart c.index_mut.result.now c.index_mut-2.result.now a_at c.drop_name.ensures.row c.drop_name.ensures.once b_at c.set_links.ensures
+    unlinks_at_places c.index-file.result.now both read_at c.requires.apart c.index_mut.result.now c.index_mut-2.result.now a_at c.remove_name.ensures.row c.remove_name.ensures.once b_at c.set_links.ensures

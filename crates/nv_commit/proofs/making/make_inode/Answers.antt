@@ -5,7 +5,8 @@ use Rattle.nv_region.proofs.Wordwise.{stores_more, stores_within}
 use Rattle.nv_inode.specs.Permitted.{is_permitted}
 use Rattle.nv_journal.specs.Recorded.{Changes}
 use Rattle.nv_commit.specs.Makes.{MakeWords, PrepareWords}
-use Rattle.nv_commit.proofs.BothTails.{mixed_size, sound_undone}
+use Rattle.nv_held.proofs.BytesKept.{mixed_size}
+use Rattle.nv_commit.proofs.BothTails.{sound_undone}
 use Rattle.nv_commit.proofs.Makes.{can_undo, faultless, journal_waits, left_undone, made_idle, made_undone, sound_before}
 use Rattle.nv_commit.proofs.making.make_inode.Goals as goal
 

@@ -5,8 +5,9 @@ use Rattle.nv_region.proofs.Wordwise.{stores_more, stores_within}
 use Rattle.nv_inode.specs.Permitted.{is_permitted}
 use Rattle.nv_journal.specs.Recorded.{Changes}
 use Rattle.nv_logpage.specs.Append.{end_of}
+use Rattle.nv_held.proofs.BytesKept.{mixed_size}
 use Rattle.nv_commit.specs.Together.{BothWords, TogetherWords}
-use Rattle.nv_commit.proofs.BothTails.{both_before, both_idle, both_left, can_undo, faultless, mixed_size, sound_undone, still_empty, undone_either}
+use Rattle.nv_commit.proofs.BothTails.{both_before, both_idle, both_left, can_undo, faultless, sound_undone, still_empty, undone_either}
 use Rattle.nv_commit.proofs.together.extend_two.Goals as goal
 
 pub append_both-requires : goal.append_both-requires

@@ -2,7 +2,7 @@ use Rattle.std.proofs.Common.{arith, map, refl, take, slice_index_or}
 use Rattle.nv_calls.specs.Taken.{block_run}
 use Rattle.nv_calls.proofs.GivenBlocks.{gives_more, next_block}
 use Rattle.nv_calls.proofs.GivenPages.{joined_sup}
-use Rattle.nv_calls.proofs.letting_go.give_blocks.Goals as goal
+use Rattle.nv_calls.proofs.giving.give_blocks.Goals as goal
 
 pub give_block-requires-clause-can : goal.give_block-requires-clause-can
 give_block-requires-clause-can c = next_block c.args.free.now c.loop-block.free c.args.blocks.now c.loop-block.block-index (slice_index_or c.args.blocks.now c.loop-block.block-index 0) c.loop-block-test.true refl c.requires.own c.loop-block.invariant.0

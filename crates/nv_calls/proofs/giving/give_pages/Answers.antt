@@ -1,6 +1,6 @@
 use Rattle.std.proofs.Common.{arith, inl, inr}
 use Rattle.nv_calls.proofs.GivenPages.{gives_end, gives_next, gives_none, joined_sup, next_some}
-use Rattle.nv_calls.proofs.letting_go.give_pages.Goals as goal
+use Rattle.nv_calls.proofs.giving.give_pages.Goals as goal
 
 pub loop-page-init : goal.loop-page-init
 loop-page-init c = (omega arith, gives_none c.args.free.now c.args.index.now c.args.first, c.requires.room, inr (omega arith))

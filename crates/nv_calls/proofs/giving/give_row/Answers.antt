@@ -1,7 +1,7 @@
 use Rattle.std.proofs.Common.{List, ℕ, subst}
 use Rattle.nv_calls.specs.LessNames.{GivesBlocks}
 use Rattle.nv_calls.proofs.GivenBlocks.{gives_row, maps_still}
-use Rattle.nv_calls.proofs.letting_go.give_row.Goals as goal
+use Rattle.nv_calls.proofs.giving.give_row.Goals as goal
 
 pub give_pages-requires-clause-own : goal.give_pages-requires-clause-own
 give_pages-requires-clause-own c = maps_still c.requires.own (subst (λ (bs : List ℕ). GivesBlocks c.args.free.now bs c.give_blocks.new.free) c.deref.ensures.value c.give_blocks.ensures.given)

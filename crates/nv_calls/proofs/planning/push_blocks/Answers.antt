@@ -7,8 +7,8 @@ use Rattle.nv_radix.specs.Pages.{block_at}
 use Rattle.nv_calls.specs.Taken.{block_run}
 use Rattle.nv_calls.specs.Writes.{page_blocks}
 use Rattle.nv_calls.proofs.EntrySteps.{page_more}
-use Rattle.nv_calls.proofs.giving.push_blocks.Goals as goal
-use Rattle.nv_calls.proofs.giving.push_blocks.Goals.{in-Some, in_default}
+use Rattle.nv_calls.proofs.planning.push_blocks.Goals as goal
+use Rattle.nv_calls.proofs.planning.push_blocks.Goals.{in-Some, in_default}
 
 pub loop-page-preserved : goal.loop-page-preserved
 loop-page-preserved c =
