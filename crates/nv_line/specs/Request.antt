@@ -19,6 +19,10 @@ pub data Request : Type 0 where
   Write : (cpu : ℕ) (path : List ℕ) (offset count byte : ℕ) → Request
   SetSize : (cpu : ℕ) (path : List ℕ) (size : ℕ) → Request
   SetAttributes : (cpu : ℕ) (path : List ℕ) (mode owner group : ℕ) → Request
+  Link : (cpu : ℕ) (old new : List ℕ) → Request
+  Unlink : (cpu : ℕ) (path : List ℕ) → Request
+  RemoveDirectory : (cpu : ℕ) (path : List ℕ) → Request
+  Rename : (cpu : ℕ) (old new : List ℕ) → Request
   Tree : Request
   Free : Request
   Faults : Request

@@ -1,7 +1,7 @@
 -- The commands of a script, a row for each.
 use Rattle.std.specs.Prelude.{ℕ, List, [], ◌∷◌, codes}
 use Rattle.nv_region.specs.declared.memory.Keep.{Keep}
-use Rattle.nv_line.specs.Request.{Request, Format, Time, Poke, Cut, Recover, Replay, ListNames, Stat, Read, Create, MakeDirectory, Write, SetSize, SetAttributes, Tree, Free, Faults, Report, Peek, Stop}
+use Rattle.nv_line.specs.Request.{Request, Format, Time, Poke, Cut, Recover, Replay, ListNames, Stat, Read, Create, MakeDirectory, Write, SetSize, SetAttributes, Link, Unlink, RemoveDirectory, Rename, Tree, Free, Faults, Report, Peek, Stop}
 use Rattle.nv_line.specs.declared.reasons.Form.{Form}
 use Rattle.nv_line.specs.declared.reasons.Form.TheVariants as forms
 use Rattle.nv_line.specs.Shapes.{Moment, Shape, End, Numbers, Then, Number, UpTo, Path, When, Keeping, Makes, fuse_by}
@@ -39,7 +39,11 @@ path_and_two_numbers = Then Path two_numbers
 abbrev pub cpu_and_path : Shape
 cpu_and_path = Then Number one_path
 
--- the same, and the size of a file
+-- the same, and another path
+abbrev pub cpu_and_two_paths : Shape
+cpu_and_two_paths = Then Number (Then Path one_path)
+
+-- a CPU, a path and the size of a file
 abbrev pub cpu_path_and_number : Shape
 cpu_path_and_number = Then Number (Then Path one_number)
 
@@ -47,11 +51,11 @@ cpu_path_and_number = Then Number (Then Path one_number)
 abbrev pub most_32 : ℕ
 most_32 = 4294967295
 
--- the same, and a mode, an owner and a group
+-- a CPU, a path, a mode, an owner and a group
 abbrev pub attribute_words : Shape
 attribute_words = Then Number (Then Path (Then (UpTo most_32) (Then (UpTo most_32) (Then (UpTo most_32) End))))
 
--- the same, and an offset, a count of at most the bytes that a file can have, and a byte
+-- a CPU, a path, an offset, a count of at most the bytes that a file can have, and a byte
 abbrev pub write_words : Shape
 write_words = Then Number (Then Path (Then Number (Then (UpTo 1073741824) (Then (UpTo 255) End))))
 
@@ -63,14 +67,22 @@ stop_words = Then When (Then Number (Then Keeping End))
 abbrev pub stop_of : Moment → ℕ → Keep → Request
 stop_of moment n keep = Stop (fuse_by moment n) keep
 
--- the rows of the file calls that write
+-- the rows of the file calls that give and take names
+unfoldable pub naming_rows : List Row
+naming_rows = row (codes "link") forms.Link cpu_and_two_paths Link
+    ∷ row (codes "unlink") forms.Unlink cpu_and_path Unlink
+    ∷ row (codes "rmdir") forms.RemoveDirectory cpu_and_path RemoveDirectory
+    ∷ row (codes "rename") forms.Rename cpu_and_two_paths Rename
+    ∷ []
+
+-- the rows of all file calls that write
 unfoldable pub writing_rows : List Row
 writing_rows = row (codes "create") forms.Create cpu_and_path Create
     ∷ row (codes "mkdir") forms.MakeDirectory cpu_and_path MakeDirectory
     ∷ row (codes "write") forms.Write write_words Write
     ∷ row (codes "size") forms.SetSize cpu_path_and_number SetSize
     ∷ row (codes "attr") forms.SetAttributes attribute_words SetAttributes
-    ∷ []
+    ∷ naming_rows
 
 -- the rows of stops and of the file calls
 unfoldable pub more_rows : List Row

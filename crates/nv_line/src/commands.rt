@@ -80,6 +80,28 @@ pub enum Command<'a> {
         owner: u32,
         group: u32,
     },
+    /// Give a file one more name.
+    Link {
+        cpu: u64,
+        old: &'a [u8],
+        new: &'a [u8],
+    },
+    /// Take a name of a file away, and with the last one the file.
+    Unlink {
+        cpu: u64,
+        path: &'a [u8],
+    },
+    /// Take a directory without names away.
+    RemoveDirectory {
+        cpu: u64,
+        path: &'a [u8],
+    },
+    /// Give an inode another name in place of one.
+    Rename {
+        cpu: u64,
+        old: &'a [u8],
+        new: &'a [u8],
+    },
     /// Print the inodes in use.
     Tree,
     /// Print the free blocks of each CPU.

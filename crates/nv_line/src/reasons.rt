@@ -27,6 +27,10 @@ pub enum Form {
     Write,
     SetSize,
     SetAttributes,
+    Link,
+    Unlink,
+    RemoveDirectory,
+    Rename,
     Tree,
     Free,
     Faults,
@@ -68,6 +72,10 @@ impl Form {
             Form::Write => "write CPU PATH OFFSET COUNT BYTE",
             Form::SetSize => "size CPU PATH N",
             Form::SetAttributes => "attr CPU PATH MODE OWNER GROUP",
+            Form::Link => "link CPU OLD NEW",
+            Form::Unlink => "unlink CPU PATH",
+            Form::RemoveDirectory => "rmdir CPU PATH",
+            Form::Rename => "rename CPU OLD NEW",
             Form::Tree => "tree",
             Form::Free => "free",
             Form::Faults => "faults",
@@ -127,7 +135,7 @@ impl fmt::Display for Reason {
                 f.write_str("it ends with a carriage return, byte 13; byte 10 alone ends a line")
             }
             Reason::NoCommand => f.write_str(
-                "expected time, format, recover, replay, poke, cut, list, stat, read, create, mkdir, write, size, attr, tree, free, faults, report, peek or stop",
+                "expected time, format, recover, replay, poke, cut, list, stat, read, create, mkdir, write, size, attr, link, unlink, rmdir, rename, tree, free, faults, report, peek or stop",
             ),
             Reason::Form(form) => write!(
                 f,

@@ -5,7 +5,7 @@ ghost use Rattle.nv_line.specs.Request as request;
 ghost use Rattle.nv_line.specs.Request.{Request};
 ghost use Rattle.nv_line.specs.Reading.{numbers_of, value_of, moment_of, keep_of, request_by};
 ghost use Rattle.nv_line.specs.Shapes.{End, Then, Number, UpTo, Path, Numbers, fuse_by};
-ghost use Rattle.nv_line.specs.Table.{one_number, two_numbers, three_numbers, one_path, path_and_two_numbers, cpu_and_path, cpu_path_and_number, most_32, attribute_words, write_words, stop_words, stop_of};
+ghost use Rattle.nv_line.specs.Table.{one_number, two_numbers, three_numbers, one_path, path_and_two_numbers, cpu_and_path, cpu_and_two_paths, cpu_path_and_number, most_32, attribute_words, write_words, stop_words, stop_of};
 
 use crate::numeral::read_number;
 use nv_region::{Fuse, Keep};
@@ -106,6 +106,16 @@ pub(crate) fn cpu_and_path<'a>(words: &[&'a [u8]]) -> Option<(u64, &'a [u8])>
         return None;
     };
     Some((read_number(cpu)?, path(name)?))
+}
+
+#[tactic(auto, unfolding(crate::specs::Reading::request_by))]
+pub(crate) fn cpu_and_two_paths<'a>(words: &[&'a [u8]]) -> Option<(u64, &'a [u8], &'a [u8])>
+    ensures { (make : ℕ → List ℕ → List ℕ → Request) → option_map (λ v. make v.0 v.1.now v.2.now) result ≡ request_by cpu_and_two_paths make (map (λ word. word.now) words.now) }
+{
+    let [cpu, name, other] = words else {
+        return None;
+    };
+    Some((read_number(cpu)?, path(name)?, path(other)?))
 }
 
 #[tactic(auto, unfolding(crate::specs::Reading::request_by))]

@@ -2,14 +2,15 @@
 
 ghost use Rattle.std.specs.Prelude.{◌≡◌, map, IfOk, option_map};
 ghost use Rattle.nv_line.specs.Reading.{read_by};
-ghost use Rattle.nv_line.specs.Table.{rows, more_rows, writing_rows};
+ghost use Rattle.nv_line.specs.Table.{rows, more_rows, writing_rows, naming_rows};
 ghost use Rattle.nv_line.specs.View.{view};
 
 use crate::commands::Command;
 use crate::reasons::Form;
 use crate::shapes::{
-    attribute_words, cpu_and_path, cpu_path_and_number, no_words, number_and_more, one_number,
-    one_path, path_and_two_numbers, stop_words, three_numbers, two_numbers, write_words,
+    attribute_words, cpu_and_path, cpu_and_two_paths, cpu_path_and_number, no_words,
+    number_and_more, one_number, one_path, path_and_two_numbers, stop_words, three_numbers,
+    two_numbers, write_words,
 };
 use std::alloc::{AllocError, Global};
 
@@ -148,7 +149,7 @@ fn more_row_named<'a>(name: &[u8], words: &[&'a [u8]]) -> Option<Row<'a>>
     }
 }
 
-// The same of the file calls that write.
+// The same of all file calls that write.
 #[tactic(auto, unfolding(crate::specs::Reading::read_by, crate::specs::Table::writing_rows))]
 fn writing_row_named<'a>(name: &[u8], words: &[&'a [u8]]) -> Option<Row<'a>>
     ensures { option_map (λ row. (row.form, option_map view row.command)) result ≡ read_by writing_rows name.now (map (λ word. word.now) words.now) }
@@ -197,6 +198,48 @@ fn writing_row_named<'a>(name: &[u8], words: &[&'a [u8]]) -> Option<Row<'a>>
         });
         Some(Row {
             form: Form::SetAttributes,
+            command,
+        })
+    } else {
+        naming_row_named(name, words)
+    }
+}
+
+// The same of those that give and take names.
+#[tactic(auto, unfolding(crate::specs::Reading::read_by, crate::specs::Table::naming_rows))]
+fn naming_row_named<'a>(name: &[u8], words: &[&'a [u8]]) -> Option<Row<'a>>
+    ensures { option_map (λ row. (row.form, option_map view row.command)) result ≡ read_by naming_rows name.now (map (λ word. word.now) words.now) }
+{
+    if name == b"link".as_slice() {
+        let command = cpu_and_two_paths(words).map(|(cpu, old, new)| Command::Link {
+            cpu,
+            old,
+            new,
+        });
+        Some(Row {
+            form: Form::Link,
+            command,
+        })
+    } else if name == b"unlink".as_slice() {
+        let command = cpu_and_path(words).map(|(cpu, path)| Command::Unlink { cpu, path });
+        Some(Row {
+            form: Form::Unlink,
+            command,
+        })
+    } else if name == b"rmdir".as_slice() {
+        let command = cpu_and_path(words).map(|(cpu, path)| Command::RemoveDirectory { cpu, path });
+        Some(Row {
+            form: Form::RemoveDirectory,
+            command,
+        })
+    } else if name == b"rename".as_slice() {
+        let command = cpu_and_two_paths(words).map(|(cpu, old, new)| Command::Rename {
+            cpu,
+            old,
+            new,
+        });
+        Some(Row {
+            form: Form::Rename,
             command,
         })
     } else {

@@ -1,22 +1,25 @@
 -- Trees of rows that show the same: paths lead to the same, and the calls that read tell the same.
-use Rattle.std.proofs.Common.{◌≡◌, inl, inr, ℕ, ◌-◌, ◌/◌, min, Bool, true, false, is_some, cond, nat_eq, List, [], ◌∷◌, map, Option, Some, None, Result, Ok, Err, refl, sym, ap, subst, ◌∙◌}
+use Rattle.std.proofs.Common.{◌≡◌, inl, inr, ℕ, ◌<◌, ◌-◌, ◌/◌, min, Bool, true, false, is_some, cond, nat_eq, nat_lt, List, [], ◌∷◌, length, map, Option, Some, None, Result, Ok, Err, refl, sym, ap, subst, ◌∙◌, arith}
+use Rattle.std.proofs.lemmas.Bool.Decides.{nat_tests}
+use Rattle.std.specs.Cmp.Lexicographic.{bytes_decides}
 use Rattle.std.specs.List.{range_with_len}
 use Rattle.std.specs.Option.{option_map, option_and_then, option_map_or}
 use Rattle.nv_region.specs.Region.{Region}
 use Rattle.nv_super.specs.Order.{Lists}
 use Rattle.nv_super.proofs.Rising.{Lists-only}
+use Rattle.nv_names.specs.Names.{Names, found_in, name_at}
 use Rattle.nv_report.specs.nv_scan.declared.piece.Row.{Row}
 use Rattle.nv_report.specs.nv_outcome.Same.{SameRow, SameRows}
 use Rattle.nv_calls.specs.nv_named.Read.{row_of}
 use Rattle.nv_tree.specs.Path.{last_name}
-use Rattle.nv_tree.specs.Tree.{Node, Tree, walk, found, as_directory, and_then, or_not_found, name_in, in_use, last_in, is_directory}
-use Rattle.nv_tree.specs.Refusals.{Path, Tests, first_refusal, refusal_word, is_directory_at, list_tests, stat_tests, read_tests}
+use Rattle.nv_tree.specs.Tree.{Node, Tree, walk, found, passed, as_directory, and_then, or_not_found, name_in, in_use, last_in, is_directory}
+use Rattle.nv_tree.specs.Refusals.{Path, Tests, first_refusal, refusal_word, count_at, is_directory_at, list_tests, stat_tests, read_tests}
 use Rattle.nv_tree.specs.declared.refusal.Refusal.{Refusal}
 use Rattle.nv_tree.specs.declared.refusal.Refusal.TheVariants.{NotDirectory}
 use Rattle.nv_text.specs.Answers.{refused_line}
 use Rattle.nv_text.specs.Report.{stat_line}
 use Rattle.nv_text.specs.Names.{data_line}
-use Rattle.nv_tree.specs.Calls.{bytes_read}
+use Rattle.nv_tree.specs.Calls.{bytes_read, links_at}
 use Rattle.nv_calls.specs.nv_held.Bytes.{byte_in}
 use Rattle.nv_calls.specs.Seen.{node_of, tree_of}
 use Rattle.nv_calls.specs.Stat.{stat_of, IsStat}
@@ -25,7 +28,7 @@ use Rattle.nv_calls.specs.Reading.{IsRead}
 use Rattle.nv_calls.specs.declared.stating.Stat.{Stat}
 use Rattle.nv_session.specs.Machine.{attributes_of, list_lines, TellsRefusal, TellsStat, TellsNames, TellsBytes}
 
--- all that the calls that read see of a tree
+-- all that the calls that read, and the tests of those that write, see of a tree
 pub record Alike (t u : Tree) : Type 0 where
   pub dirs : (i : ℕ) → as_directory i (u i) ≡ as_directory i (t i)
   pub used : (i : ℕ) → is_some (u i) ≡ is_some (t i)
@@ -33,6 +36,8 @@ pub record Alike (t u : Tree) : Type 0 where
   pub kinds : (i : ℕ) → is_directory_at u i ≡ is_directory_at t i
   pub stats : (i : ℕ) → option_map (stat_of i) (u i) ≡ option_map (stat_of i) (t i)
   pub bytes : (i offset count : ℕ) → option_map (bytes_read offset count) (u i) ≡ option_map (bytes_read offset count) (t i)
+  pub links : (i : ℕ) → links_at u i ≡ links_at t i
+  pub named : (i : ℕ) → nat_lt 0 (count_at u i) ≡ nat_lt 0 (count_at t i)
 
 -- ---- rows
 
@@ -50,6 +55,21 @@ rows_at (x ∷ xs) (y ∷ ys) same i = subst (λ n. AreSame (cond (nat_eq x.inod
   at : (b : Bool) → AreSame (row_of xs i) (row_of ys i) → AreSame (cond b (Some x) (row_of xs i)) (cond b (Some y) (row_of ys i))
   at true rest = same.0
   at false rest = rest
+
+-- An index has a name where another has one, if each name stands for the same in both.
+has_some : (a b : Names) → ((q : List ℕ) → name_at b q ≡ name_at a q) → nat_lt 0 (length b.names) ≡ nat_lt 0 (length a.names)
+has_some a b same = by a.names b.names same where
+  first : (e : List ℕ × ℕ × ℕ) (es : List (List ℕ × ℕ × ℕ)) → found_in (e ∷ es) e.0 ≡ Some (e.1, e.2)
+  first e es = ap (λ (is : Bool). cond is (Some (e.1, e.2)) (found_in es e.0)) ((bytes_decides e.0 e.0).1 refl)
+
+  some : (n : ℕ) → 0 < n → nat_lt 0 n ≡ true
+  some n above = grind (arith, nat_tests)
+
+  by : (xs ys : List (List ℕ × ℕ × ℕ)) → ((q : List ℕ) → found_in ys q ≡ found_in xs q) → nat_lt 0 (length ys) ≡ nat_lt 0 (length xs)
+  by [] [] same = refl
+  by [] (y ∷ ys) same = absurd (let none : Some (y.1, y.2) ≡ None = sym (first y ys) ∙ same y.0 in cc)
+  by (x ∷ xs) [] same = absurd (let none : None ≡ Some (x.1, x.2) = same x.0 ∙ first x xs in cc)
+  by (x ∷ xs) (y ∷ ys) same = some (length (y ∷ ys)) (omega arith) ∙ sym (some (length (x ∷ xs)) (omega arith))
 
 module _ (R : Region) where
   abbrev seen : Option Row → Option Node
@@ -100,6 +120,18 @@ module _ (R : Region) where
   bytes_at offset count (Some a) None same = absurd same
   bytes_at offset count (Some a) (Some b) same = λ j. Some (map (λ x. byte_in R (same.index (x / 4096) j) x) (range_with_len offset (min count ((same.numbers j).size - offset))))
 
+  links_of_at : (a b : Option Row) → AreSame a b → option_map_or (λ (node : Node). node.links) (seen b) 0 ≡ option_map_or (λ (node : Node). node.links) (seen a) 0
+  links_of_at None None same = refl
+  links_of_at None (Some b) same = absurd same
+  links_of_at (Some a) None same = absurd same
+  links_of_at (Some a) (Some b) same = λ j. (same.numbers j).links
+
+  named_at : (a b : Option Row) → AreSame a b → nat_lt 0 (option_map_or (λ (node : Node). node.count) (seen b) 0) ≡ nat_lt 0 (option_map_or (λ (node : Node). node.count) (seen a) 0)
+  named_at None None same = refl
+  named_at None (Some b) same = absurd same
+  named_at (Some a) None same = absurd same
+  named_at (Some a) (Some b) same = has_some a.names b.names same.names
+
   -- rows that say the same show trees that are alike
   pub alike_rows : (xs ys : List Row) → SameRows xs ys → Alike (tree_of R xs) (tree_of R ys)
   alike_rows xs ys same = record {
@@ -109,6 +141,8 @@ module _ (R : Region) where
     kinds = λ i. kinds_at _ _ (rows_at xs ys same i);
     stats = λ i. stats_at i _ _ (rows_at xs ys same i);
     bytes = λ i offset count. bytes_at offset count _ _ (rows_at xs ys same i);
+    links = λ i. links_of_at _ _ (rows_at xs ys same i);
+    named = λ i. named_at _ _ (rows_at xs ys same i);
   }
 
 -- ---- paths
@@ -126,6 +160,14 @@ module _ (t u : Tree) (alike : Alike t u) where
   walk_alike [] d = refl
   walk_alike (name ∷ []) d = alike.dirs d
   walk_alike (name ∷ next ∷ rest) d = ap (λ r. and_then r (λ e. and_then (or_not_found (name_in u e name)) (λ i. walk u i (next ∷ rest)))) (alike.dirs d) ∙ step_alike name next rest (walk_alike (next ∷ rest)) (as_directory d (t d))
+
+  pub passed_alike : (names : List (List ℕ)) (d : ℕ) → passed u d names ≡ passed t d names
+  passed_alike [] d = refl
+  passed_alike (name ∷ []) d = refl
+  passed_alike (name ∷ next ∷ rest) d = ap (λ (o : Option ℕ). d ∷ option_map_or (λ i. passed u i (next ∷ rest)) o []) (alike.names d name) ∙ by (name_in t d name) (passed_alike (next ∷ rest)) where
+    by : (o : Option ℕ) → ((i : ℕ) → passed u i (next ∷ rest) ≡ passed t i (next ∷ rest)) → d ∷ option_map_or (λ i. passed u i (next ∷ rest)) o [] ≡ d ∷ option_map_or (λ i. passed t i (next ∷ rest)) o []
+    by None on = refl
+    by (Some i) on = ap (λ (l : List ℕ). d ∷ l) (on i)
 
   in_use_alike : (o : Option ℕ) → in_use u o ≡ in_use t o
   in_use_alike None = refl

@@ -1,5 +1,5 @@
 -- The tests of each file call that writes, and what it leaves of the logs, by what the contract of the call says of them.
-use Rattle.std.proofs.Common.{◌≡◌, ◌⊎◌, inl, inr, ℕ, ◌+◌, ◌<◌, Bool, true, false, not, nat_lt, List, ◌∷◌, Option, Some, None, Result, Ok, Err, IfErr, OnOk, refl, sym, ap, subst, ◌∙◌, arith}
+use Rattle.std.proofs.Common.{◌≡◌, ◌≢◌, ◌⊎◌, inl, inr, ℕ, ◌+◌, ◌-◌, ◌<◌, ◌≤◌, Bool, true, false, not, nat_lt, List, ◌∷◌, Option, Some, None, Result, Ok, Err, IfErr, OnOk, refl, sym, ap, subst, ◌∙◌, arith}
 use Rattle.std.proofs.Math.Logic.{∥∥₁_map}
 use Rattle.std.specs.Prelude.{⊤}
 use Rattle.std.specs.Option.{option_and_then}
@@ -16,21 +16,27 @@ use Rattle.nv_report.specs.nv_scan.State.{block_of}
 use Rattle.nv_calls.specs.nv_held.Held.{Held, Store, good_in}
 use Rattle.nv_calls.specs.nv_held.Mounted.{ShowsSound}
 use Rattle.nv_calls.specs.nv_named.Read.{row_of}
-use Rattle.nv_tree.specs.Path.{last_name}
-use Rattle.nv_tree.specs.Tree.{Node, walk}
-use Rattle.nv_tree.specs.Refusals.{Path, Tests, World, first_refusal, target, writing, create_tests, write_tests, set_size_tests, set_attr_tests}
+use Rattle.nv_entry.specs.declared.entry.Operation.TheVariants.{Add, Remove}
+use Rattle.nv_tree.specs.Path.{IsPath, Says, last_name}
+use Rattle.nv_tree.specs.Tree.{Node, SameTree, walk}
+use Rattle.nv_tree.specs.Calls.{linked, renamed}
+use Rattle.nv_tree.specs.Refusals.{Path, Tests, World, first_refusal, target, writing, create_tests, write_tests, set_size_tests, set_attr_tests, link_tests, unlink_tests, rmdir_tests, rename_tests}
 use Rattle.nv_tree.specs.declared.refusal.Refusal.{Refusal}
 use Rattle.nv_tree.specs.declared.refusal.Refusal.TheVariants.{BadCpu, ReadOnly, Memory, Stopped}
 use Rattle.nv_calls.specs.Attributes.{attributes, attributes_blocks}
 use Rattle.nv_calls.specs.Grown.{ShowsGrownLog}
+use Rattle.nv_calls.specs.LinkCalls.{ShowsBothGrew, link_blocks, links_entries}
 use Rattle.nv_calls.specs.Mount.{Mount}
-use Rattle.nv_calls.specs.NameCalls.{ShowsCreated, create_blocks}
+use Rattle.nv_calls.specs.MoveCalls.{move_entries, rename_blocks}
+use Rattle.nv_calls.specs.NameCalls.{ShowsCreated, create_blocks, name_blocks, name_entries}
+use Rattle.nv_calls.specs.RemoveCalls.{ShowsRemoved}
 use Rattle.nv_calls.specs.Seen.{LeadsTo, tree_of}
 use Rattle.nv_calls.specs.Sizes.{ShowsResizedLog, resized_blocks}
+use Rattle.nv_calls.specs.UnlinkCalls.{unlink_blocks}
 use Rattle.nv_calls.specs.World.{unused_number, world_of}
 use Rattle.nv_calls.specs.WriteCall.{ShowsLogWrite, WriteNeeds}
 use Rattle.nv_calls.specs.Writes.{NeedsBlocks, data_blocks, plan_of}
-use Rattle.nv_session.specs.Calls.{LogsBytes, asks_create, asks_write, asks_size, asks_attributes, logs_inode, logs_size, logs_attributes}
+use Rattle.nv_session.specs.Calls.{LogsBytes, LogsUnlink, asks_create, asks_write, asks_size, asks_attributes, asks_link, asks_unlink, asks_remove, asks_rename, makes_link, makes_rename, logs_inode, logs_size, logs_attributes, logs_link, logs_removal, logs_rename}
 use Rattle.nv_session.proofs.AlwaysTakes.{gives}
 use Rattle.nv_session.proofs.Calling.{Answers, can_write, seen}
 
@@ -64,6 +70,15 @@ no_path w cpu e tests all is none = by (not (nat_lt cpu w.cpus)) w.read_only (ap
   by true read_only none = (cc)
   by false true none = (cc)
   by false false none = (cc)
+
+-- so is a second one
+no_other : (w : World) (cpu : ℕ) (x : Bool × Refusal) (e : Refusal) (tests all : Tests) → all ≡ writing w cpu (x ∷ (true, e) ∷ tests) → first_refusal all ≡ None → ⊥
+no_other w cpu x e tests all is none = by (not (nat_lt cpu w.cpus)) w.read_only x.0 (ap first_refusal (sym is) ∙ none) where
+  by : (bad read_only first : Bool) → first_refusal ((bad, BadCpu) ∷ (read_only, ReadOnly) ∷ (first, x.1) ∷ (true, e) ∷ tests) ≡ None → ⊥
+  by true read_only first none = (cc)
+  by false true first none = (cc)
+  by false false true none = (cc)
+  by false false false none = (cc)
 
 -- what a contract says of a call's tests
 abbrev pub Allows : Result (Unit {0}) Refusal → Tests → Type 0
@@ -131,6 +146,58 @@ module _ (m : Mount RegionState) (answer : Result (Unit {0}) Refusal) (cpu : ℕ
         named = λ none is. no_path (world_of m) cpu _ _ (tests_of_write (offset + bytes) w.0 None) refl (subst (λ (q : Path). first_refusal (tests_of_write (offset + bytes) w.0 q) ≡ None) is none);
       }
 
+  abbrev tests_of_link : Path → Path → Tests
+  tests_of_link p q = link_tests (world_of m) (tree_of m.memory.region m.rows) cpu p q (link_blocks m.rows (tree_of m.memory.region m.rows) p q)
+
+  pub link_answers : (q p : Path) → Allows answer (tests_of_link p q) → (m.stopped ≡ false → Refuses answer (tests_of_link p q)) → Answers (asks_link cpu q) m answer p
+  link_answers q p allowed refused = record {
+    tests = tests_of_link p q;
+    are = refl;
+    allowed = allowed;
+    refused = refused;
+    writes = λ none. can_write (world_of m) cpu _ (tests_of_link p q) refl none;
+    named = λ none is. no_path (world_of m) cpu _ _ (tests_of_link None q) refl (subst (λ (r : Path). first_refusal (tests_of_link r q) ≡ None) is none);
+  }
+
+  abbrev tests_of_unlink : Path → Tests
+  tests_of_unlink p = unlink_tests (world_of m) (tree_of m.memory.region m.rows) cpu p (unlink_blocks m.rows (tree_of m.memory.region m.rows) p)
+
+  pub unlink_answers : (p : Path) → Allows answer (tests_of_unlink p) → (m.stopped ≡ false → Refuses answer (tests_of_unlink p)) → Answers (asks_unlink cpu) m answer p
+  unlink_answers p allowed refused = record {
+    tests = tests_of_unlink p;
+    are = refl;
+    allowed = allowed;
+    refused = refused;
+    writes = λ none. can_write (world_of m) cpu _ (tests_of_unlink p) refl none;
+    named = λ none is. no_path (world_of m) cpu _ _ (tests_of_unlink None) refl (subst (λ (q : Path). first_refusal (tests_of_unlink q) ≡ None) is none);
+  }
+
+  abbrev tests_of_removal : Path → Tests
+  tests_of_removal p = rmdir_tests (world_of m) (tree_of m.memory.region m.rows) cpu p (name_blocks m.rows (tree_of m.memory.region m.rows) p)
+
+  pub removal_answers : (p : Path) → Allows answer (tests_of_removal p) → (m.stopped ≡ false → Refuses answer (tests_of_removal p)) → Answers (asks_remove cpu) m answer p
+  removal_answers p allowed refused = record {
+    tests = tests_of_removal p;
+    are = refl;
+    allowed = allowed;
+    refused = refused;
+    writes = λ none. can_write (world_of m) cpu _ (tests_of_removal p) refl none;
+    named = λ none is. no_path (world_of m) cpu _ _ (tests_of_removal None) refl (subst (λ (q : Path). first_refusal (tests_of_removal q) ≡ None) is none);
+  }
+
+  abbrev tests_of_rename : Path → Path → Tests
+  tests_of_rename p q = rename_tests (world_of m) (tree_of m.memory.region m.rows) cpu p q (rename_blocks m.rows (tree_of m.memory.region m.rows) p q)
+
+  pub rename_answers : (q p : Path) → Allows answer (tests_of_rename p q) → (m.stopped ≡ false → Refuses answer (tests_of_rename p q)) → Answers (asks_rename cpu q) m answer p
+  rename_answers q p allowed refused = record {
+    tests = tests_of_rename p q;
+    are = refl;
+    allowed = allowed;
+    refused = refused;
+    writes = λ none. can_write (world_of m) cpu _ (tests_of_rename p q) refl none;
+    named = λ none is. no_path (world_of m) cpu _ _ (tests_of_rename None q) refl (subst (λ (r : Path). first_refusal (tests_of_rename r q) ≡ None) is none);
+  }
+
 -- ---- logs: where a call was done, for all that is held
 
 module _ (S T : Region) (m : Mount ⊤) (names : List (List ℕ)) where
@@ -152,6 +219,38 @@ module _ (S T : Region) (m : Mount ⊤) (names : List (List ℕ)) where
   attributes_logged mode owner group time (Ok done) log = log
   attributes_logged mode owner group time (Err e) log = tt
 
+  linked_logged : (time : ℕ) (others : List (List ℕ)) (answer : Result (Unit {0}) Refusal)
+      → ((i d : ℕ) (node : Node) (held : Store) (f h : Held) → LeadsTo (tree_of S m.rows) names i node → walk (tree_of S m.rows) 1 others ≡ Ok d → ShowsSound S m.sup held → held i ≡ Some f → held d ≡ Some h
+      → OnOk answer (ShowsBothGrew T m.sup held i f (links_entries (node.links + 1) time) d h (name_entries Add i (last_name others) time)))
+      → OnOk answer (logs_link time (Some others) S m names T)
+  linked_logged time others (Ok done) log = log
+  linked_logged time others (Err e) log = tt
+
+  pub unlink_logged : (time : ℕ) (answer : Result (Unit {0}) Refusal)
+      → ((i d : ℕ) (node : Node) (held : Store) (h f : Held) → LeadsTo (tree_of S m.rows) names i node → walk (tree_of S m.rows) 1 names ≡ Ok d → ShowsSound S m.sup held → held d ≡ Some h → held i ≡ Some f → 1 < node.links
+      → OnOk answer (ShowsBothGrew T m.sup held d h (name_entries Remove i (last_name names) time) i f (links_entries (node.links - 1) time)))
+      → ((i d : ℕ) (node : Node) (held : Store) (h : Held) → LeadsTo (tree_of S m.rows) names i node → walk (tree_of S m.rows) 1 names ≡ Ok d → ShowsSound S m.sup held → held d ≡ Some h → node.links ≤ 1
+      → OnOk answer (ShowsRemoved T m.sup held d h (name_entries Remove i (last_name names) time) i))
+      → OnOk answer (LogsUnlink time S m names T)
+  unlink_logged time (Ok done) more last = record { more = more; last = last }
+  unlink_logged time (Err e) more last = tt
+
+  pub removal_logged : (time : ℕ) (answer : Result (Unit {0}) Refusal)
+      → ((i d : ℕ) (node : Node) (held : Store) (h : Held) → LeadsTo (tree_of S m.rows) names i node → walk (tree_of S m.rows) 1 names ≡ Ok d → ShowsSound S m.sup held → held d ≡ Some h
+      → OnOk answer (ShowsRemoved T m.sup held d h (name_entries Remove i (last_name names) time) i))
+      → OnOk answer (logs_removal time S m names T)
+  removal_logged time (Ok done) log = log
+  removal_logged time (Err e) log = tt
+
+  moved_logged : (time : ℕ) (others : List (List ℕ)) (answer : Result (Unit {0}) Refusal)
+      → ((i d e : ℕ) (node : Node) (held : Store) (h k : Held) → LeadsTo (tree_of S m.rows) names i node → walk (tree_of S m.rows) 1 names ≡ Ok d → walk (tree_of S m.rows) 1 others ≡ Ok e → d ≢ e → ShowsSound S m.sup held → held d ≡ Some h → held e ≡ Some k
+      → OnOk answer (ShowsBothGrew T m.sup held d h (name_entries Remove i (last_name names) time) e k (name_entries Add i (last_name others) time)))
+      → ((i d : ℕ) (node : Node) (held : Store) (h : Held) → LeadsTo (tree_of S m.rows) names i node → walk (tree_of S m.rows) 1 names ≡ Ok d → walk (tree_of S m.rows) 1 others ≡ Ok d → ShowsSound S m.sup held → held d ≡ Some h
+      → OnOk answer (ShowsGrownLog T m.sup held d h (move_entries i (last_name names) (last_name others) time)))
+      → OnOk answer (logs_rename time (Some others) S m names T)
+  moved_logged time others (Ok done) across within = record { across = across; within = within }
+  moved_logged time others (Err e) across within = tt
+
 -- A write, by the mount with its memory.
 pub bytes_logged : (m n : Mount RegionState) (names : List (List ℕ)) (cpu offset bytes time : ℕ) (answer : Result (Unit {0}) Refusal)
     → ((i : ℕ) (node : Node) (held : Store) (h : Held) → LeadsTo (tree_of m.memory.region m.rows) names i node → ShowsSound m.memory.region m.sup held → held i ≡ Some h → 0 < bytes
@@ -162,3 +261,42 @@ bytes_logged m n names cpu offset bytes time (Ok done) log nothing = record {
   some = λ i node held h leads sound at pos. ∥∥₁_map (log i node held h leads sound at pos) (λ w. record { runs = w.runs; rest = w.rest; taken = w.taken; grew = w.grew });
   none = λ zero. ap (λ (k : Mount RegionState). k.memory.region) (nothing zero);
 }
+
+-- ---- a second path: what holds of each that is one holds of the text's, since by what is none nothing is done
+
+by_other : (answer : Result (Unit {0}) Refusal) (other : List ℕ) (tests : Path → Tests) (holds : Path → Type 0) → (first_refusal (tests None) ≡ None → ⊥) → ((others : List (List ℕ)) → IsPath other others → OnOk answer (holds (Some others)))
+    → (q : Path) → Says other q → Allows answer (tests q) → OnOk answer (holds q)
+by_other answer other tests holds never each (Some others) says allowed = each others says
+by_other (Ok done) other tests holds never each None says allowed = absurd (never allowed)
+by_other (Err e) other tests holds never each None says allowed = tt
+
+module _ (m n : Mount RegionState) (answer : Result (Unit {0}) Refusal) (cpu time : ℕ) (names : List (List ℕ)) (other : List ℕ) (q : Path) (says : Says other q) where
+  abbrev linking : Path → Tests
+  linking q = tests_of_link m answer cpu (Some names) q
+
+  pub link_changed : Allows answer (linking q) → ((others : List (List ℕ)) → IsPath other others → OnOk answer (SameTree (tree_of n.memory.region n.rows) (linked names others time (tree_of m.memory.region m.rows))))
+      → OnOk answer (SameTree (tree_of n.memory.region n.rows) (makes_link time q m.memory.region (seen m) names))
+  link_changed allowed changed = by_other answer other linking (λ q. SameTree (tree_of n.memory.region n.rows) (makes_link time q m.memory.region (seen m) names)) (no_other (world_of m) cpu _ _ _ (linking None) refl) changed q says allowed
+
+  pub link_logged : Allows answer (linking q)
+      → ((others : List (List ℕ)) (i d : ℕ) (node : Node) (held : Store) (f h : Held) → IsPath other others → LeadsTo (tree_of m.memory.region m.rows) names i node → walk (tree_of m.memory.region m.rows) 1 others ≡ Ok d → ShowsSound m.memory.region m.sup held → held i ≡ Some f → held d ≡ Some h
+      → OnOk answer (ShowsBothGrew n.memory.region m.sup held i f (links_entries (node.links + 1) time) d h (name_entries Add i (last_name others) time)))
+      → OnOk answer (logs_link time q m.memory.region (seen m) names n.memory.region)
+  link_logged allowed log = by_other answer other linking (λ q. logs_link time q m.memory.region (seen m) names n.memory.region) (no_other (world_of m) cpu _ _ _ (linking None) refl)
+      (λ others is. linked_logged m.memory.region n.memory.region (seen m) names time others answer (λ i d node held f h. log others i d node held f h is)) q says allowed
+
+  abbrev renaming : Path → Tests
+  renaming q = tests_of_rename m answer cpu (Some names) q
+
+  pub rename_changed : Allows answer (renaming q) → ((others : List (List ℕ)) → IsPath other others → OnOk answer (SameTree (tree_of n.memory.region n.rows) (renamed names others time (tree_of m.memory.region m.rows))))
+      → OnOk answer (SameTree (tree_of n.memory.region n.rows) (makes_rename time q m.memory.region (seen m) names))
+  rename_changed allowed changed = by_other answer other renaming (λ q. SameTree (tree_of n.memory.region n.rows) (makes_rename time q m.memory.region (seen m) names)) (no_other (world_of m) cpu _ _ _ (renaming None) refl) changed q says allowed
+
+  pub rename_logged : Allows answer (renaming q)
+      → ((others : List (List ℕ)) (i d e : ℕ) (node : Node) (held : Store) (h k : Held) → IsPath other others → LeadsTo (tree_of m.memory.region m.rows) names i node → walk (tree_of m.memory.region m.rows) 1 names ≡ Ok d → walk (tree_of m.memory.region m.rows) 1 others ≡ Ok e → d ≢ e → ShowsSound m.memory.region m.sup held → held d ≡ Some h → held e ≡ Some k
+      → OnOk answer (ShowsBothGrew n.memory.region m.sup held d h (name_entries Remove i (last_name names) time) e k (name_entries Add i (last_name others) time)))
+      → ((others : List (List ℕ)) (i d : ℕ) (node : Node) (held : Store) (h : Held) → IsPath other others → LeadsTo (tree_of m.memory.region m.rows) names i node → walk (tree_of m.memory.region m.rows) 1 names ≡ Ok d → walk (tree_of m.memory.region m.rows) 1 others ≡ Ok d → ShowsSound m.memory.region m.sup held → held d ≡ Some h
+      → OnOk answer (ShowsGrownLog n.memory.region m.sup held d h (move_entries i (last_name names) (last_name others) time)))
+      → OnOk answer (logs_rename time q m.memory.region (seen m) names n.memory.region)
+  rename_logged allowed across within = by_other answer other renaming (λ q. logs_rename time q m.memory.region (seen m) names n.memory.region) (no_other (world_of m) cpu _ _ _ (renaming None) refl)
+      (λ others is. moved_logged m.memory.region n.memory.region (seen m) names time others answer (λ i d e node held h k. across others i d e node held h k is) (λ i d node held h. within others i d node held h is)) q says allowed

@@ -26,7 +26,7 @@ use Rattle.nv_calls.specs.Same.{KeepsMount, SameMount}
 use Rattle.nv_calls.specs.Seen.{tree_of}
 use Rattle.nv_calls.proofs.Mounts.{faultless}
 use Rattle.nv_session.specs.Calls.{Asks, Makes, Logs, Asked, LeavesTree}
-use Rattle.nv_session.specs.Machine.{State, Calls, CallsMounted, DoesCall, StopsMounted}
+use Rattle.nv_session.specs.Machine.{State, Calls, CallsByTwo, CallsMounted, DoesCall, StopsMounted}
 use Rattle.nv_session.specs.Sessions.{StandsFor, Moves, ShowsOutcome, IsMountOf, SettlesCall, TakesMount, PutsMount, region_in, mount_in, memory_in, with_fuse}
 use Rattle.nv_session.specs.declared.store.Store.{Store}
 use Rattle.nv_session.specs.declared.store.Store.TheVariants as stores
@@ -297,3 +297,9 @@ module _ (asks : ℕ → Asks) (makes : ℕ → Makes) (logs : ℕ → Logs) (pa
   called_moves fuse old mid new m n answer text takes called settles = λ state stands.
       by_answer fuse old mid new m n takes state stands answer
       (subst (λ (time : ℕ). Called (asks time) (makes time) (logs time) path m n answer) (at_time fuse old mid new m n takes state stands) called) answer refl text settles
+
+-- A call by two paths, where it is one by the first for whatever the second says.
+pub two_moves : (asks : Path → Asks) (makes : ℕ → Path → Makes) (logs : ℕ → Path → Logs) (path other : List ℕ) (armed : Bool) (old new : Session) (text : List ℕ)
+    → ((q : Path) → Says other q → Moves (λ state said next. Calls armed (asks q) (makes state.time q) (logs state.time q) path state said next) old text new)
+    → Moves (λ state said next. CallsByTwo armed asks (makes state.time) (logs state.time) path other state said next) old text new
+two_moves asks makes logs path other armed old new text moves = λ state stands. (let w = text_says other in let moved = moves w.0 w.1 state stands in (moved.0, (w.0, w.1, moved.1), moved.2))

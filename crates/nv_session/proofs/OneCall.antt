@@ -1,7 +1,7 @@
 -- A call that writes prints one text: its tests are those of the region and of what came to the recovery.
-use Rattle.std.proofs.Common.{◌≡◌, inl, inr, ℕ, ◌+◌, ◌%◌, ◌<◌, Bool, true, false, not, cond, nat_lt, nat_eq, ◌&&◌, is_none, is_some, List, [], ◌∷◌, ◌++◌, append_assoc, length, Option, Some, None, Result, Ok, Err, refl, sym, ap, subst, ◌∙◌, arith}
-use Rattle.std.specs.Prelude.{⊤}
-use Rattle.std.specs.List.{find}
+use Rattle.std.proofs.Common.{◌≡◌, inl, inr, ℕ, ◌+◌, ◌%◌, ◌<◌, Bool, true, false, not, cond, nat_lt, nat_le, nat_eq, ◌&&◌, is_none, is_some, List, [], ◌∷◌, ◌++◌, append_assoc, length, Option, Some, None, Result, Ok, Err, refl, sym, ap, subst, ◌∙◌, arith}
+use Rattle.std.specs.Prelude.{⊤, eqb}
+use Rattle.std.specs.List.{find, list_any}
 use Rattle.std.specs.Option.{option_and_then, option_map, option_map_or}
 use Rattle.std.proofs.lemmas.Bool.{cases_lt}
 use Rattle.std.proofs.lemmas.Bool.Decides.{nat_tests}
@@ -17,25 +17,29 @@ use Rattle.nv_report.specs.nv_outcome.Same.{SameRow, SameRows}
 use Rattle.nv_report.proofs.nv_outcome.OnlyOne.{same_outcome}
 use Rattle.nv_calls.specs.nv_named.Read.{row_of}
 use Rattle.nv_tree.specs.Path.{last_name}
+use Rattle.nv_tree.specs.Calls.{links_at}
 use Rattle.nv_tree.specs.Tree.{Tree, found, in_use, last_in, walk}
-use Rattle.nv_tree.specs.Refusals.{Path, Tests, World, first_refusal, refusal_word, target, writing, is_bad, is_dir, is_missing, is_too_large, has_no_space, walk_tests, create_tests, write_tests, set_size_tests, set_attr_tests}
+use Rattle.nv_tree.specs.Refusals.{Path, Tests, World, first_refusal, refusal_word, target, writing, count_at, is_bad, is_dir, is_directory_at, is_missing, is_too_large, has_no_space, passes, walk_tests, create_tests, write_tests, set_size_tests, set_attr_tests, link_tests, unlink_tests, rmdir_tests, rename_tests}
 use Rattle.nv_tree.specs.declared.refusal.Refusal.{Refusal}
 use Rattle.nv_tree.specs.declared.refusal.Refusal.TheVariants.{BadCpu, ReadOnly}
 use Rattle.nv_tree.proofs.Texts.{says_one}
 use Rattle.nv_text.specs.Answers.{refused_line}
 use Rattle.nv_calls.specs.Attributes.{attributes, attributes_blocks}
+use Rattle.nv_calls.specs.LinkCalls.{link_blocks, links_blocks, links_entries}
 use Rattle.nv_calls.specs.Mount.{Mount, has_faults}
-use Rattle.nv_calls.specs.NameCalls.{create_blocks, ended_row, name_entries, row_blocks}
+use Rattle.nv_calls.specs.MoveCalls.{end_together, move_entries, rename_blocks}
+use Rattle.nv_calls.specs.NameCalls.{create_blocks, ended_row, name_blocks, name_entries, row_blocks}
 use Rattle.nv_calls.specs.Seen.{node_of, tree_of}
 use Rattle.nv_calls.specs.Sizes.{blocks_from, end_block, resized_blocks, size_blocks}
+use Rattle.nv_calls.specs.UnlinkCalls.{has_more_links, unlink_blocks}
 use Rattle.nv_calls.specs.World.{numbers_in_table, unused_number, world_of}
 use Rattle.nv_calls.specs.WriteCall.{WriteNeeds}
 use Rattle.nv_calls.specs.Writes.{NeedsBlocks, data_blocks, data_entries, plan_of}
 use Rattle.nv_calls.proofs.Takes.{takes_less, takes_once}
 use Rattle.nv_logpage.specs.Append.{needed}
-use Rattle.nv_session.specs.Calls.{Asks, Makes, Logs, Asked, asks_create, asks_write, asks_size, asks_attributes, seen_in}
+use Rattle.nv_session.specs.Calls.{Asks, Makes, Logs, Asked, asks_create, asks_write, asks_size, asks_attributes, asks_link, asks_unlink, asks_remove, asks_rename, seen_in}
 use Rattle.nv_session.specs.Machine.{State, CallsMounted}
-use Rattle.nv_session.proofs.Alike.{Alike, AreSame, alike_rows, rows_at, walk_alike, found_alike, directory_alike}
+use Rattle.nv_session.proofs.Alike.{Alike, AreSame, alike_rows, rows_at, walk_alike, found_alike, passed_alike, directory_alike}
 
 -- Two mounts that nobody can tell apart by what the tests of calls look at.
 pub record SameSeen (m k : Mount ⊤) : Type 0 where
@@ -50,6 +54,11 @@ same_seen asks R S path a b =
     let here = same_outcome S a.here b.here a.of_here b.of_here in
     let came = same_outcome R a.came b.came a.of_came b.of_came in
     record { sup = here.sup; rows = here.rows; pools = here.free; read_only = ap has_faults came.faults }
+
+-- two tests of the inode that a path leads to
+on_target : (f g : ℕ → Bool) → ((i : ℕ) → g i ≡ f i) → (o : Option ℕ) → option_map_or g o false ≡ option_map_or f o false
+on_target f g same None = refl
+on_target f g same (Some i) = same i
 
 module _ (S : Region) (m k : Mount ⊤) (same : SameSeen m k) where
   alike : Alike (tree_of S m.rows) (tree_of S k.rows)
@@ -92,13 +101,40 @@ module _ (S : Region) (m k : Mount ⊤) (same : SameSeen m k) where
   rows_needed (Some a) None s e = absurd s
   rows_needed (Some a) (Some b) s e = ap (λ (x : ℕ). row_blocks (Some (record b { tail = x })) e) s.tail
 
+  ended_needs : (names : List (List ℕ)) (e : List Entry) → row_blocks (ended_row k.rows (walk (tree_of S k.rows) 1 names)) e ≡ row_blocks (ended_row m.rows (walk (tree_of S m.rows) 1 names)) e
+  ended_needs names e = ap (λ (r : Result ℕ Refusal). row_blocks (ended_row k.rows r) e) (walk_alike (tree_of S m.rows) (tree_of S k.rows) alike names 1) ∙ by (walk (tree_of S m.rows) 1 names) where
+    by : (r : Result ℕ Refusal) → row_blocks (ended_row k.rows r) e ≡ row_blocks (ended_row m.rows r) e
+    by (Err r) = refl
+    by (Ok d) = rows_needed (row_of m.rows d) (row_of k.rows d) (rows_at m.rows k.rows same.rows d) e
+
+  name_needs : (p : Path) → name_blocks k.rows (tree_of S k.rows) p ≡ name_blocks m.rows (tree_of S m.rows) p
+  name_needs None = refl
+  name_needs (Some names) = ended_needs names (name_entries Add 0 (last_name names) 0)
+
   create_needs : (p : Path) → create_blocks k.rows (tree_of S k.rows) p ≡ create_blocks m.rows (tree_of S m.rows) p
-  create_needs None = refl
-  create_needs (Some names) = ap (λ (r : Result ℕ Refusal). 1 + row_blocks (ended_row k.rows r) (name_entries Add 0 (last_name names) 0)) (walk_alike (tree_of S m.rows) (tree_of S k.rows) alike names 1)
-      ∙ by (walk (tree_of S m.rows) 1 names) where
-        by : (r : Result ℕ Refusal) → 1 + row_blocks (ended_row k.rows r) (name_entries Add 0 (last_name names) 0) ≡ 1 + row_blocks (ended_row m.rows r) (name_entries Add 0 (last_name names) 0)
-        by (Err e) = refl
-        by (Ok d) = ap (λ (n : ℕ). 1 + n) (rows_needed (row_of m.rows d) (row_of k.rows d) (rows_at m.rows k.rows same.rows d) (name_entries Add 0 (last_name names) 0))
+  create_needs p = ap (λ (n : ℕ). 1 + n) (name_needs p)
+
+  links_needs : (p : Path) → links_blocks k.rows (tree_of S k.rows) p ≡ links_blocks m.rows (tree_of S m.rows) p
+  links_needs p = ap (λ (o : Option ℕ). option_map_or (λ i. row_blocks (row_of k.rows i) (links_entries 0 0)) o 0) (target_same p) ∙ by (target (tree_of S m.rows) p) where
+    by : (o : Option ℕ) → option_map_or (λ i. row_blocks (row_of k.rows i) (links_entries 0 0)) o 0 ≡ option_map_or (λ i. row_blocks (row_of m.rows i) (links_entries 0 0)) o 0
+    by None = refl
+    by (Some i) = rows_needed (row_of m.rows i) (row_of k.rows i) (rows_at m.rows k.rows same.rows i) (links_entries 0 0)
+
+  link_needs : (p q : Path) → link_blocks k.rows (tree_of S k.rows) p q ≡ link_blocks m.rows (tree_of S m.rows) p q
+  link_needs p q = λ i. links_needs p i + name_needs q i
+
+  more_links : (p : Path) → has_more_links (tree_of S k.rows) p ≡ has_more_links (tree_of S m.rows) p
+  more_links p = ap (λ (o : Option ℕ). option_map_or (λ i. nat_lt 1 (links_at (tree_of S k.rows) i)) o false) (target_same p)
+      ∙ on_target (λ i. nat_lt 1 (links_at (tree_of S m.rows) i)) (λ i. nat_lt 1 (links_at (tree_of S k.rows) i)) (λ i. ap (nat_lt 1) (alike.links i)) (target (tree_of S m.rows) p)
+
+  unlink_needs : (p : Path) → unlink_blocks k.rows (tree_of S k.rows) p ≡ unlink_blocks m.rows (tree_of S m.rows) p
+  unlink_needs p = λ i. name_needs p i + cond (more_links p i) (links_needs p i) 0
+
+  rename_needs : (p q : Path) → rename_blocks k.rows (tree_of S k.rows) p q ≡ rename_blocks m.rows (tree_of S m.rows) p q
+  rename_needs None q = refl
+  rename_needs (Some names) None = refl
+  rename_needs (Some names) (Some others) = λ i. cond (end_together (walk_alike (tree_of S m.rows) (tree_of S k.rows) alike names 1 i) (walk_alike (tree_of S m.rows) (tree_of S k.rows) alike others 1 i))
+      (ended_needs names (move_entries 0 (last_name names) (last_name others) 0) i) (name_needs (Some names) i + name_needs (Some others) i)
 
   size_needs : (p : Path) (size : ℕ) → resized_blocks k.rows (tree_of S k.rows) p size ≡ resized_blocks m.rows (tree_of S m.rows) p size
   size_needs p size = ap (λ (o : Option ℕ). option_map_or (λ (row : Row). size_blocks row size) (option_and_then (row_of k.rows) o) 0) (target_same p)
@@ -130,6 +166,40 @@ module _ (S : Region) (m k : Mount ⊤) (same : SameSeen m k) where
     attributes_front None n = refl
     attributes_front (Some names) n = rw (walk_alike (tree_of S m.rows) (tree_of S k.rows) alike names 1, found_alike (tree_of S m.rows) (tree_of S k.rows) alike names) refl
 
+    most_links : (o : Option ℕ) → option_map_or (λ i. nat_le 1000 (links_at (tree_of S k.rows) i)) o false ≡ option_map_or (λ i. nat_le 1000 (links_at (tree_of S m.rows) i)) o false
+    most_links = on_target (λ i. nat_le 1000 (links_at (tree_of S m.rows) i)) (λ i. nat_le 1000 (links_at (tree_of S k.rows) i)) (λ i. ap (nat_le 1000) (alike.links i))
+
+    some_names : (o : Option ℕ) → option_map_or (λ i. nat_lt 0 (count_at (tree_of S k.rows) i)) o false ≡ option_map_or (λ i. nat_lt 0 (count_at (tree_of S m.rows) i)) o false
+    some_names = on_target (λ i. nat_lt 0 (count_at (tree_of S m.rows) i)) (λ i. nat_lt 0 (count_at (tree_of S k.rows) i)) alike.named
+
+    passes_same : (q : Path) (i : ℕ) → passes (tree_of S k.rows) q i ≡ passes (tree_of S m.rows) q i
+    passes_same None i = refl
+    passes_same (Some names) i = ap (list_any (eqb i)) (passed_alike (tree_of S m.rows) (tree_of S k.rows) alike names 1)
+
+    into_itself : (q : Path) (o : Option ℕ) → option_map_or (λ i. is_directory_at (tree_of S k.rows) i && passes (tree_of S k.rows) q i) o false ≡ option_map_or (λ i. is_directory_at (tree_of S m.rows) i && passes (tree_of S m.rows) q i) o false
+    into_itself q = on_target (λ i. is_directory_at (tree_of S m.rows) i && passes (tree_of S m.rows) q i) (λ i. is_directory_at (tree_of S k.rows) i && passes (tree_of S k.rows) q i) (λ i j. alike.kinds i j && passes_same q i j)
+
+    link_front : (p q : Path) (n : ℕ) → first_refusal (link_tests w (tree_of S k.rows) cpu p q n) ≡ first_refusal (link_tests w (tree_of S m.rows) cpu p q n)
+    link_front None q n = refl
+    link_front (Some names) None n = refl
+    link_front (Some names) (Some []) n = refl
+    link_front (Some names) (Some (other ∷ others)) n = rw (found_alike (tree_of S m.rows) (tree_of S k.rows) alike names, found_alike (tree_of S m.rows) (tree_of S k.rows) alike (other ∷ others), walk_alike (tree_of S m.rows) (tree_of S k.rows) alike names 1, walk_alike (tree_of S m.rows) (tree_of S k.rows) alike (other ∷ others) 1, directory_alike (tree_of S m.rows) (tree_of S k.rows) alike (found (tree_of S m.rows) names), most_links (found (tree_of S m.rows) names)) refl
+
+    unlink_front : (p : Path) (n : ℕ) → first_refusal (unlink_tests w (tree_of S k.rows) cpu p n) ≡ first_refusal (unlink_tests w (tree_of S m.rows) cpu p n)
+    unlink_front None n = refl
+    unlink_front (Some names) n = rw (walk_alike (tree_of S m.rows) (tree_of S k.rows) alike names 1, found_alike (tree_of S m.rows) (tree_of S k.rows) alike names, directory_alike (tree_of S m.rows) (tree_of S k.rows) alike (found (tree_of S m.rows) names)) refl
+
+    remove_front : (p : Path) (n : ℕ) → first_refusal (rmdir_tests w (tree_of S k.rows) cpu p n) ≡ first_refusal (rmdir_tests w (tree_of S m.rows) cpu p n)
+    remove_front None n = refl
+    remove_front (Some names) n = rw (walk_alike (tree_of S m.rows) (tree_of S k.rows) alike names 1, found_alike (tree_of S m.rows) (tree_of S k.rows) alike names, directory_alike (tree_of S m.rows) (tree_of S k.rows) alike (found (tree_of S m.rows) names), some_names (found (tree_of S m.rows) names)) refl
+
+    rename_front : (p q : Path) (n : ℕ) → first_refusal (rename_tests w (tree_of S k.rows) cpu p q n) ≡ first_refusal (rename_tests w (tree_of S m.rows) cpu p q n)
+    rename_front None q n = refl
+    rename_front (Some []) q n = refl
+    rename_front (Some (name ∷ names)) None n = refl
+    rename_front (Some (name ∷ names)) (Some []) n = refl
+    rename_front (Some (name ∷ names)) (Some (other ∷ others)) n = rw (found_alike (tree_of S m.rows) (tree_of S k.rows) alike (name ∷ names), found_alike (tree_of S m.rows) (tree_of S k.rows) alike (other ∷ others), walk_alike (tree_of S m.rows) (tree_of S k.rows) alike (name ∷ names) 1, walk_alike (tree_of S m.rows) (tree_of S k.rows) alike (other ∷ others) 1, into_itself (Some (other ∷ others)) (found (tree_of S m.rows) (name ∷ names))) refl
+
   pub create_one : (cpu : ℕ) (p : Path) (tests others : Tests) → asks_create cpu S m p tests → asks_create cpu S k p others → first_refusal others ≡ first_refusal tests
   create_one cpu p tests others is other = ap first_refusal other
       ∙ ap (λ (w : World). first_refusal (create_tests w (tree_of S k.rows) cpu p (create_blocks k.rows (tree_of S k.rows) p))) world_same
@@ -144,6 +214,26 @@ module _ (S : Region) (m k : Mount ⊤) (same : SameSeen m k) where
   attributes_one cpu p tests others is other = ap first_refusal other
       ∙ ap (λ (w : World). first_refusal (set_attr_tests w (tree_of S k.rows) cpu p (attributes_blocks k.rows (tree_of S k.rows) p))) world_same
       ∙ ap (λ (n : ℕ). first_refusal (set_attr_tests (world_of m) (tree_of S k.rows) cpu p n)) (attributes_needs p) ∙ attributes_front (world_of m) cpu p _ ∙ ap first_refusal (sym is)
+
+  pub link_one : (cpu : ℕ) (q p : Path) (tests others : Tests) → asks_link cpu q S m p tests → asks_link cpu q S k p others → first_refusal others ≡ first_refusal tests
+  link_one cpu q p tests others is other = ap first_refusal other
+      ∙ ap (λ (w : World). first_refusal (link_tests w (tree_of S k.rows) cpu p q (link_blocks k.rows (tree_of S k.rows) p q))) world_same
+      ∙ ap (λ (n : ℕ). first_refusal (link_tests (world_of m) (tree_of S k.rows) cpu p q n)) (link_needs p q) ∙ link_front (world_of m) cpu p q _ ∙ ap first_refusal (sym is)
+
+  pub unlink_one : (cpu : ℕ) (p : Path) (tests others : Tests) → asks_unlink cpu S m p tests → asks_unlink cpu S k p others → first_refusal others ≡ first_refusal tests
+  unlink_one cpu p tests others is other = ap first_refusal other
+      ∙ ap (λ (w : World). first_refusal (unlink_tests w (tree_of S k.rows) cpu p (unlink_blocks k.rows (tree_of S k.rows) p))) world_same
+      ∙ ap (λ (n : ℕ). first_refusal (unlink_tests (world_of m) (tree_of S k.rows) cpu p n)) (unlink_needs p) ∙ unlink_front (world_of m) cpu p _ ∙ ap first_refusal (sym is)
+
+  pub remove_one : (cpu : ℕ) (p : Path) (tests others : Tests) → asks_remove cpu S m p tests → asks_remove cpu S k p others → first_refusal others ≡ first_refusal tests
+  remove_one cpu p tests others is other = ap first_refusal other
+      ∙ ap (λ (w : World). first_refusal (rmdir_tests w (tree_of S k.rows) cpu p (name_blocks k.rows (tree_of S k.rows) p))) world_same
+      ∙ ap (λ (n : ℕ). first_refusal (rmdir_tests (world_of m) (tree_of S k.rows) cpu p n)) (name_needs p) ∙ remove_front (world_of m) cpu p _ ∙ ap first_refusal (sym is)
+
+  pub rename_one : (cpu : ℕ) (q p : Path) (tests others : Tests) → asks_rename cpu q S m p tests → asks_rename cpu q S k p others → first_refusal others ≡ first_refusal tests
+  rename_one cpu q p tests others is other = ap first_refusal other
+      ∙ ap (λ (w : World). first_refusal (rename_tests w (tree_of S k.rows) cpu p q (rename_blocks k.rows (tree_of S k.rows) p q))) world_same
+      ∙ ap (λ (n : ℕ). first_refusal (rename_tests (world_of m) (tree_of S k.rows) cpu p q n)) (rename_needs p q) ∙ rename_front (world_of m) cpu p q _ ∙ ap first_refusal (sym is)
 
   -- ---- a write
 

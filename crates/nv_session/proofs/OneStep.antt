@@ -6,7 +6,7 @@ use Rattle.nv_super.specs.declared.kind.Kind.TheVariants.{File, Directory}
 use Rattle.nv_tree.proofs.Texts.{says_one}
 use Rattle.nv_calls.specs.Seen.{tree_of}
 use Rattle.nv_session.proofs.Alike.{Alike, alike_rows, stat_one, names_one, bytes_one}
-use Rattle.nv_session.proofs.OneCall.{AskedOnce, called_text, create_one, write_one, size_one, attributes_one}
+use Rattle.nv_session.proofs.OneCall.{AskedOnce, called_text, create_one, write_one, size_one, attributes_one, link_one, unlink_one, remove_one, rename_one}
 use Rattle.std.specs.Prelude.{MatchBool, codes, replicate}
 use Rattle.nv_region.specs.Region.{Region, size, put}
 use Rattle.nv_region.specs.declared.memory.Fuse.{Fuse}
@@ -18,7 +18,7 @@ use Rattle.nv_format.specs.Format as formats
 use Rattle.nv_format.specs.declared.formatting.FormatRefusal.{FormatRefusal}
 use Rattle.nv_format.proofs.OneAnswer.{one_refusal, not_prevented}
 use Rattle.nv_format.proofs.Determined.{formatted_only}
-use Rattle.nv_line.specs.Request.{Request, Format, Time, Poke, Cut, Recover, Replay, ListNames, Stat, Read, Create, MakeDirectory, Write, SetSize, SetAttributes, Tree, Free, Faults, Report, Peek, Stop}
+use Rattle.nv_line.specs.Request.{Request, Format, Time, Poke, Cut, Recover, Replay, ListNames, Stat, Read, Create, MakeDirectory, Write, SetSize, SetAttributes, Link, Unlink, RemoveDirectory, Rename, Tree, Free, Faults, Report, Peek, Stop}
 use Rattle.nv_report.specs.nv_outcome.Outcome.{Outcome}
 use Rattle.nv_report.specs.nv_outcome.Same.{SameOutcome}
 use Rattle.nv_report.proofs.nv_outcome.OnlyOne.{same_outcome}
@@ -29,8 +29,8 @@ use Rattle.nv_report.specs.Last.{how_it_went}
 use Rattle.nv_report.specs.declared.part.Part.{Part}
 use Rattle.nv_report.specs.declared.part.Part.TheVariants as parts
 use Rattle.nv_report.proofs.OneText.{recovered_one, part_one}
-use Rattle.nv_session.specs.Machine.{State, Step, Does, IsRefusedAs, Replaces, Unmounts, front, MayStop, has_word, StopsRegion, StopsFormat, StopsRecovery, Recovers, Replays, ReadsMounted, TellsNames, TellsStat, TellsBytes, RefusesSuper, Mounts, RecoversRegion, ShowsMounted, PokesRegion, CutsRegion, Formats, Calls, CallsMounted, StopsMounted, file_mode, directory_mode, writes}
-use Rattle.nv_session.specs.Calls.{Asks, Makes, Logs, LogsBytes, asks_create, asks_write, asks_size, asks_attributes, makes_inode, makes_bytes, makes_size, makes_attributes, logs_inode, logs_size, logs_attributes}
+use Rattle.nv_session.specs.Machine.{State, Step, Does, IsRefusedAs, Replaces, Unmounts, front, MayStop, has_word, StopsRegion, StopsFormat, StopsRecovery, Recovers, Replays, ReadsMounted, TellsNames, TellsStat, TellsBytes, RefusesSuper, Mounts, RecoversRegion, ShowsMounted, PokesRegion, CutsRegion, Formats, Calls, CallsByTwo, CallsMounted, StopsMounted, file_mode, directory_mode, writes}
+use Rattle.nv_session.specs.Calls.{Asks, Makes, Logs, LogsBytes, LogsUnlink, asks_create, asks_write, asks_size, asks_attributes, asks_link, asks_unlink, asks_remove, asks_rename, makes_inode, makes_bytes, makes_size, makes_attributes, makes_link, makes_unlink, makes_removal, makes_rename, logs_inode, logs_size, logs_attributes, logs_link, logs_removal, logs_rename}
 
 -- one text and one state are told
 abbrev pub IsOne : (List ℕ → State → Type 0) → Type 0
@@ -125,6 +125,10 @@ does_one old (MakeDirectory cpu path) reads = absurd (cc)
 does_one old (Write cpu path offset count byte) reads = absurd (cc)
 does_one old (SetSize cpu path bytes) reads = absurd (cc)
 does_one old (SetAttributes cpu path mode owner group) reads = absurd (cc)
+does_one old (Link cpu path other) reads = absurd (cc)
+does_one old (Unlink cpu path) reads = absurd (cc)
+does_one old (RemoveDirectory cpu path) reads = absurd (cc)
+does_one old (Rename cpu path other) reads = absurd (cc)
 does_one old Tree reads = mounted_one old.mounted parts.Tree old
 does_one old Free reads = mounted_one old.mounted parts.Free old
 does_one old Faults reads = mounted_one old.mounted parts.Faults old
@@ -144,12 +148,20 @@ call_text asks makes logs path one old m n s t (inl p) (inl q) = called_text ask
 call_text asks makes logs path one old m n s t (inl p) (inr q) = absurd (let never = q.0 in cc)
 call_text asks makes logs path one old m n s t (inr p) q = absurd (let never = p.0 in cc)
 
+call_text_by_two : (asks : Path → Asks) (makes : Path → Makes) (logs : Path → Logs) (path other : List ℕ) → ((q : Path) → AskedOnce (asks q)) → (old m n : State) (s t : List ℕ) → CallsByTwo false asks makes logs path other old s m → CallsByTwo false asks makes logs path other old t n → s ≡ t
+call_text_by_two asks makes logs path other one old m n s t p q =
+    call_text (asks p.0) (makes p.0) (logs p.0) path (one p.0) old m n s t p.2 (subst (λ (x : Path). Calls false (asks x) (makes x) (logs x) path old t n) (says_one other q.0 p.0 q.1 p.1) q.2)
+
 does_text : (old : State) (request : Request) (m n : State) (s t : List ℕ) → Does false request old s m → Does false request old t n → s ≡ t
 does_text old (Create cpu path) m n s t p q = call_text (asks_create cpu) (makes_inode File cpu file_mode old.time) (logs_inode File cpu file_mode old.time) path (λ S m k same count. create_one S m k same cpu) old m n s t p q
 does_text old (MakeDirectory cpu path) m n s t p q = call_text (asks_create cpu) (makes_inode Directory cpu directory_mode old.time) (logs_inode Directory cpu directory_mode old.time) path (λ S m k same count. create_one S m k same cpu) old m n s t p q
 does_text old (Write cpu path offset count byte) m n s t p q = call_text (asks_write cpu offset count old.time) (makes_bytes offset (replicate count byte) old.time) (LogsBytes cpu offset count old.time) path (λ S m k same counts. write_one S m k same counts cpu offset count old.time) old m n s t p q
 does_text old (SetSize cpu path bytes) m n s t p q = call_text (asks_size cpu bytes) (makes_size bytes old.time) (logs_size bytes old.time) path (λ S m k same count. size_one S m k same cpu bytes) old m n s t p q
 does_text old (SetAttributes cpu path mode owner group) m n s t p q = call_text (asks_attributes cpu) (makes_attributes mode owner group old.time) (logs_attributes mode owner group old.time) path (λ S m k same count. attributes_one S m k same cpu) old m n s t p q
+does_text old (Link cpu path other) m n s t p q = call_text_by_two (asks_link cpu) (makes_link old.time) (logs_link old.time) path other (λ r S m k same count. link_one S m k same cpu r) old m n s t p q
+does_text old (Unlink cpu path) m n s t p q = call_text (asks_unlink cpu) (makes_unlink old.time) (LogsUnlink old.time) path (λ S m k same count. unlink_one S m k same cpu) old m n s t p q
+does_text old (RemoveDirectory cpu path) m n s t p q = call_text (asks_remove cpu) (makes_removal old.time) (logs_removal old.time) path (λ S m k same count. remove_one S m k same cpu) old m n s t p q
+does_text old (Rename cpu path other) m n s t p q = call_text_by_two (asks_rename cpu) (makes_rename old.time) (logs_rename old.time) path other (λ r S m k same count. rename_one S m k same cpu r) old m n s t p q
 does_text old (Format cpus blocks tables) m n s t p q = (does_one old (Format cpus blocks tables) refl s t m n p q).0
 does_text old (Time time) m n s t p q = (does_one old (Time time) refl s t m n p q).0
 does_text old (Poke at value) m n s t p q = (does_one old (Poke at value) refl s t m n p q).0
@@ -252,6 +264,10 @@ does_unarmed a (MakeDirectory cpu path) other old m s h = call_unarmed a (asks_c
 does_unarmed a (Write cpu path offset count byte) other old m s h = call_unarmed a (asks_write cpu offset count old.time) (makes_bytes offset (replicate count byte) old.time) (LogsBytes cpu offset count old.time) path old m s h
 does_unarmed a (SetSize cpu path bytes) other old m s h = call_unarmed a (asks_size cpu bytes) (makes_size bytes old.time) (logs_size bytes old.time) path old m s h
 does_unarmed a (SetAttributes cpu path mode owner group) other old m s h = call_unarmed a (asks_attributes cpu) (makes_attributes mode owner group old.time) (logs_attributes mode owner group old.time) path old m s h
+does_unarmed a (Link cpu path new) other old m s h = call_unarmed a (asks_link cpu h.0) (makes_link old.time h.0) (logs_link old.time h.0) path old m s h.2
+does_unarmed a (Unlink cpu path) other old m s h = call_unarmed a (asks_unlink cpu) (makes_unlink old.time) (LogsUnlink old.time) path old m s h
+does_unarmed a (RemoveDirectory cpu path) other old m s h = call_unarmed a (asks_remove cpu) (makes_removal old.time) (logs_removal old.time) path old m s h
+does_unarmed a (Rename cpu path new) other old m s h = call_unarmed a (asks_rename cpu h.0) (makes_rename old.time h.0) (logs_rename old.time h.0) path old m s h.2
 does_unarmed a Tree other old m s h = shown_unarmed old.mounted parts.Tree old m s h
 does_unarmed a Free other old m s h = shown_unarmed old.mounted parts.Free old m s h
 does_unarmed a Faults other old m s h = shown_unarmed old.mounted parts.Faults old m s h

@@ -1,9 +1,10 @@
 -- What the file calls that write ask of a mounted region, and what they leave of it: the tree that the call makes, the entries
 -- that the logs get, and nothing wrong. Which free blocks a log goes on over isn't said.
-use Rattle.std.specs.Prelude.{◌≡◌, ℕ, ◌+◌, ◌<◌, Bool, false, ⊤, List, [], Some, Ok}
+use Rattle.std.specs.Prelude.{◌≡◌, ◌≢◌, ℕ, ◌+◌, ◌-◌, ◌<◌, ◌≤◌, Bool, false, ⊤, List, [], Some, None, Ok}
 use Rattle.nv_region.specs.Region.{Region, size}
 use Rattle.nv_super.specs.declared.kind.Kind.{Kind}
 use Rattle.nv_super.specs.Layout.{fixed_layout}
+use Rattle.nv_entry.specs.declared.entry.Operation.TheVariants.{Add, Remove}
 use Rattle.nv_journal.specs.Undo.{undone}
 use Rattle.nv_report.specs.nv_scan.State.{block_of}
 use Rattle.nv_calls.specs.nv_held.Held.{Held, Store, good_in}
@@ -11,14 +12,18 @@ use Rattle.nv_calls.specs.nv_held.Mounted.{ShowsSound}
 use Rattle.nv_report.specs.nv_outcome.Outcome.{Outcome, IsOutcome}
 use Rattle.nv_tree.specs.Path.{Says, last_name}
 use Rattle.nv_tree.specs.Tree.{Node, Tree, SameTree, walk}
-use Rattle.nv_tree.specs.Calls.{attributed, created, resized, written}
-use Rattle.nv_tree.specs.Refusals.{Path, Tests, create_tests, set_attr_tests, set_size_tests, write_tests}
+use Rattle.nv_tree.specs.Calls.{attributed, created, linked, removed, renamed, resized, unlinked, written}
+use Rattle.nv_tree.specs.Refusals.{Path, Tests, create_tests, link_tests, rename_tests, rmdir_tests, set_attr_tests, set_size_tests, unlink_tests, write_tests}
 use Rattle.nv_calls.specs.Attributes.{attributes, attributes_blocks}
 use Rattle.nv_calls.specs.Grown.{ShowsGrownLog}
+use Rattle.nv_calls.specs.LinkCalls.{ShowsBothGrew, link_blocks, links_entries}
 use Rattle.nv_calls.specs.Mount.{Mount, has_faults}
-use Rattle.nv_calls.specs.NameCalls.{ShowsCreated, create_blocks}
+use Rattle.nv_calls.specs.MoveCalls.{move_entries, rename_blocks}
+use Rattle.nv_calls.specs.NameCalls.{ShowsCreated, create_blocks, name_blocks, name_entries}
+use Rattle.nv_calls.specs.RemoveCalls.{ShowsRemoved}
 use Rattle.nv_calls.specs.Seen.{LeadsTo, tree_of}
 use Rattle.nv_calls.specs.Sizes.{ShowsResizedLog, resized_blocks}
+use Rattle.nv_calls.specs.UnlinkCalls.{unlink_blocks}
 use Rattle.nv_calls.specs.World.{unused_number, world_of}
 use Rattle.nv_calls.specs.WriteCall.{ShowsLogWrite, WriteNeeds}
 use Rattle.nv_calls.specs.Writes.{plan_of}
@@ -74,6 +79,22 @@ asks_size cpu bytes S m p tests = tests ≡ set_size_tests (world_of m) (tree_of
 abbrev pub asks_attributes : ℕ → Asks
 asks_attributes cpu S m p tests = tests ≡ set_attr_tests (world_of m) (tree_of S m.rows) cpu p (attributes_blocks m.rows (tree_of S m.rows) p)
 
+-- `link`, by what the new path says too
+abbrev pub asks_link : ℕ → Path → Asks
+asks_link cpu q S m p tests = tests ≡ link_tests (world_of m) (tree_of S m.rows) cpu p q (link_blocks m.rows (tree_of S m.rows) p q)
+
+-- `unlink`
+abbrev pub asks_unlink : ℕ → Asks
+asks_unlink cpu S m p tests = tests ≡ unlink_tests (world_of m) (tree_of S m.rows) cpu p (unlink_blocks m.rows (tree_of S m.rows) p)
+
+-- `rmdir`
+abbrev pub asks_remove : ℕ → Asks
+asks_remove cpu S m p tests = tests ≡ rmdir_tests (world_of m) (tree_of S m.rows) cpu p (name_blocks m.rows (tree_of S m.rows) p)
+
+-- `rename`, by what the new path says too
+abbrev pub asks_rename : ℕ → Path → Asks
+asks_rename cpu q S m p tests = tests ≡ rename_tests (world_of m) (tree_of S m.rows) cpu p q (rename_blocks m.rows (tree_of S m.rows) p q)
+
 -- ---- what is made
 
 -- A region that is as long and its own undone region, whose outcome has the same superblock and no fault, and shows this tree.
@@ -102,6 +123,24 @@ makes_size bytes time S m names = resized names bytes time (tree_of S m.rows)
 abbrev pub makes_attributes : ℕ → ℕ → ℕ → ℕ → Makes
 makes_attributes mode owner group time S m names = attributed names mode owner group time (tree_of S m.rows)
 
+-- `link`: one more name of a file, by the new path; by what is none, nothing
+abbrev pub makes_link : ℕ → Path → Makes
+makes_link time None S m names = tree_of S m.rows
+makes_link time (Some others) S m names = linked names others time (tree_of S m.rows)
+
+-- `unlink`: a name of a file less, and the file less where it was the last
+abbrev pub makes_unlink : ℕ → Makes
+makes_unlink time S m names = unlinked names time (tree_of S m.rows)
+
+-- `rmdir`: a directory and its name less
+abbrev pub makes_removal : ℕ → Makes
+makes_removal time S m names = removed names time (tree_of S m.rows)
+
+-- `rename`: the new path's name in place of the old one; by what is no path, nothing
+abbrev pub makes_rename : ℕ → Path → Makes
+makes_rename time None S m names = tree_of S m.rows
+makes_rename time (Some others) S m names = renamed names others time (tree_of S m.rows)
+
 -- ---- what is left of the logs
 
 -- `create` and `mkdir`: the directory's log has one entry more, the new inode's log is one entry, and no other log has changed.
@@ -125,3 +164,35 @@ logs_size bytes time S m names T = (i : ℕ) (node : Node) (held : Store) (h : H
 abbrev pub logs_attributes : ℕ → ℕ → ℕ → ℕ → Logs
 logs_attributes mode owner group time S m names T = (i : ℕ) (node : Node) (held : Store) (h : Held) → LeadsTo (tree_of S m.rows) names i node → ShowsSound S m.sup held → held i ≡ Some h
     → ShowsGrownLog T m.sup held i h (attributes node.size mode owner group time)
+
+-- `link`: the logs of the file and of the directory of its new name have one entry more, and no other log has changed. By what
+-- is no path it is never done.
+abbrev pub logs_link : ℕ → Path → Logs
+logs_link time None S m names T = ⊥
+logs_link time (Some others) S m names T = (i d : ℕ) (node : Node) (held : Store) (f h : Held) → LeadsTo (tree_of S m.rows) names i node → walk (tree_of S m.rows) 1 others ≡ Ok d → ShowsSound S m.sup held → held i ≡ Some f → held d ≡ Some h
+    → ShowsBothGrew T m.sup held i f (links_entries (node.links + 1) time) d h (name_entries Add i (last_name others) time)
+
+-- `unlink`: where the file has more links, its log and that of the directory have one entry more. Else the directory's has, and
+-- the file is gone. No other log has changed.
+pub record LogsUnlink (time : ℕ) (S : Region) (m : Mount ⊤) (names : List (List ℕ)) (T : Region) : Type 0 where
+  pub more : (i d : ℕ) (node : Node) (held : Store) (h f : Held) → LeadsTo (tree_of S m.rows) names i node → walk (tree_of S m.rows) 1 names ≡ Ok d → ShowsSound S m.sup held → held d ≡ Some h → held i ≡ Some f → 1 < node.links
+      → ShowsBothGrew T m.sup held d h (name_entries Remove i (last_name names) time) i f (links_entries (node.links - 1) time)
+  pub last : (i d : ℕ) (node : Node) (held : Store) (h : Held) → LeadsTo (tree_of S m.rows) names i node → walk (tree_of S m.rows) 1 names ≡ Ok d → ShowsSound S m.sup held → held d ≡ Some h → node.links ≤ 1
+      → ShowsRemoved T m.sup held d h (name_entries Remove i (last_name names) time) i
+
+-- `rmdir`: the log of the directory in which it stood has one entry more, it is gone, and no other log has changed.
+abbrev pub logs_removal : ℕ → Logs
+logs_removal time S m names T = (i d : ℕ) (node : Node) (held : Store) (h : Held) → LeadsTo (tree_of S m.rows) names i node → walk (tree_of S m.rows) 1 names ≡ Ok d → ShowsSound S m.sup held → held d ≡ Some h
+    → ShowsRemoved T m.sup held d h (name_entries Remove i (last_name names) time) i
+
+-- `rename`: the logs of two directories have one entry more, or that of the only one has both, and no other log has changed.
+pub record LogsMove (time : ℕ) (others : List (List ℕ)) (S : Region) (m : Mount ⊤) (names : List (List ℕ)) (T : Region) : Type 0 where
+  pub across : (i d e : ℕ) (node : Node) (held : Store) (h k : Held) → LeadsTo (tree_of S m.rows) names i node → walk (tree_of S m.rows) 1 names ≡ Ok d → walk (tree_of S m.rows) 1 others ≡ Ok e → d ≢ e → ShowsSound S m.sup held → held d ≡ Some h → held e ≡ Some k
+      → ShowsBothGrew T m.sup held d h (name_entries Remove i (last_name names) time) e k (name_entries Add i (last_name others) time)
+  pub within : (i d : ℕ) (node : Node) (held : Store) (h : Held) → LeadsTo (tree_of S m.rows) names i node → walk (tree_of S m.rows) 1 names ≡ Ok d → walk (tree_of S m.rows) 1 others ≡ Ok d → ShowsSound S m.sup held → held d ≡ Some h
+      → ShowsGrownLog T m.sup held d h (move_entries i (last_name names) (last_name others) time)
+
+-- the same by the new path; by what is none it is never done
+abbrev pub logs_rename : ℕ → Path → Logs
+logs_rename time None S m names T = ⊥
+logs_rename time (Some others) S m names T = LogsMove time others S m names T

@@ -11,9 +11,9 @@ use Rattle.nv_format.specs.Format.{IsFormatRefusal, CanFormat, IsFormatted, Form
 use Rattle.nv_format.specs.Format as formats
 use Rattle.nv_format.specs.declared.formatting.FormatRefusal.{FormatRefusal}
 use Rattle.nv_format.specs.declared.formatting.FormatRefusal.TheVariants.{Stopped}
-use Rattle.nv_line.specs.Request.{Request, Format, Time, Poke, Cut, Recover, Replay, ListNames, Stat, Read, Create, MakeDirectory, Write, SetSize, SetAttributes, Tree, Free, Faults, Report, Peek, Stop}
+use Rattle.nv_line.specs.Request.{Request, Format, Time, Poke, Cut, Recover, Replay, ListNames, Stat, Read, Create, MakeDirectory, Write, SetSize, SetAttributes, Link, Unlink, RemoveDirectory, Rename, Tree, Free, Faults, Report, Peek, Stop}
 use Rattle.nv_super.specs.declared.kind.Kind.TheVariants.{File, Directory}
-use Rattle.nv_session.specs.Calls.{Asks, Makes, Logs, Asked, LeavesTree, LogsBytes, seen_in, asks_create, asks_write, asks_size, asks_attributes, makes_inode, makes_bytes, makes_size, makes_attributes, logs_inode, logs_size, logs_attributes}
+use Rattle.nv_session.specs.Calls.{Asks, Makes, Logs, Asked, LeavesTree, LogsBytes, LogsUnlink, seen_in, asks_create, asks_write, asks_size, asks_attributes, asks_link, asks_unlink, asks_remove, asks_rename, makes_inode, makes_bytes, makes_size, makes_attributes, makes_link, makes_unlink, makes_removal, makes_rename, logs_inode, logs_size, logs_attributes, logs_link, logs_removal, logs_rename}
 use Rattle.nv_super.specs.FaultText.{super_fault_name}
 use Rattle.nv_tree.specs.Path.{Says}
 use Rattle.nv_tree.specs.Tree as trees
@@ -253,6 +253,10 @@ Calls armed asks makes logs path old text new = MayStop armed
     (λ old text new. CallsMounted asks makes logs path old.mounted old.region old text new)
     (λ old text new. StopsMounted old.mounted old.region old text new) old text new
 
+-- a call that writes by two paths: what the second says, and the call by the first
+abbrev pub CallsByTwo : Bool → (Path → Asks) → (Path → Makes) → (Path → Logs) → List ℕ → List ℕ → State → List ℕ → State → Type 0
+CallsByTwo armed asks makes logs path other old text new = (q : Path) × Says other q × Calls armed (asks q) (makes q) (logs q) path old text new
+
 -- the modes of what `create` and `mkdir` make
 abbrev pub file_mode : ℕ
 file_mode = 420
@@ -280,6 +284,22 @@ SetsSize armed cpu path bytes old text new = Calls armed (asks_size cpu bytes) (
 abbrev pub SetsAttributes : Bool → ℕ → List ℕ → ℕ → ℕ → ℕ → State → List ℕ → State → Type 0
 SetsAttributes armed cpu path mode owner group old text new = Calls armed (asks_attributes cpu) (makes_attributes mode owner group old.time) (logs_attributes mode owner group old.time) path old text new
 
+-- `link` gives a file one more name
+abbrev pub Links : Bool → ℕ → List ℕ → List ℕ → State → List ℕ → State → Type 0
+Links armed cpu path other old text new = CallsByTwo armed (asks_link cpu) (makes_link old.time) (logs_link old.time) path other old text new
+
+-- `unlink` takes a name of a file away, and the file with its last one
+abbrev pub Unlinks : Bool → ℕ → List ℕ → State → List ℕ → State → Type 0
+Unlinks armed cpu path old text new = Calls armed (asks_unlink cpu) (makes_unlink old.time) (LogsUnlink old.time) path old text new
+
+-- `rmdir` takes a directory without names away
+abbrev pub RemovesDirectory : Bool → ℕ → List ℕ → State → List ℕ → State → Type 0
+RemovesDirectory armed cpu path old text new = Calls armed (asks_remove cpu) (makes_removal old.time) (logs_removal old.time) path old text new
+
+-- `rename` gives an inode another name in place of one
+abbrev pub Renames : Bool → ℕ → List ℕ → List ℕ → State → List ℕ → State → Type 0
+Renames armed cpu path other old text new = CallsByTwo armed (asks_rename cpu) (makes_rename old.time) (logs_rename old.time) path other old text new
+
 -- ---- commands
 
 -- What a command may print and leave, where it may be stopped or not.
@@ -298,6 +318,10 @@ Does armed (MakeDirectory cpu path) old text new = MakesDirectory armed cpu path
 Does armed (Write cpu path offset count byte) old text new = Writes armed cpu path offset count byte old text new
 Does armed (SetSize cpu path bytes) old text new = SetsSize armed cpu path bytes old text new
 Does armed (SetAttributes cpu path mode owner group) old text new = SetsAttributes armed cpu path mode owner group old text new
+Does armed (Link cpu path other) old text new = Links armed cpu path other old text new
+Does armed (Unlink cpu path) old text new = Unlinks armed cpu path old text new
+Does armed (RemoveDirectory cpu path) old text new = RemovesDirectory armed cpu path old text new
+Does armed (Rename cpu path other) old text new = Renames armed cpu path other old text new
 Does armed Tree old text new = ShowsPart parts.Tree old text new
 Does armed Free old text new = ShowsPart parts.Free old text new
 Does armed Faults old text new = ShowsPart parts.Faults old text new
@@ -316,4 +340,8 @@ writes (MakeDirectory cpu path) = true
 writes (Write cpu path offset count byte) = true
 writes (SetSize cpu path bytes) = true
 writes (SetAttributes cpu path mode owner group) = true
+writes (Link cpu path other) = true
+writes (Unlink cpu path) = true
+writes (RemoveDirectory cpu path) = true
+writes (Rename cpu path other) = true
 writes _ = false

@@ -25,7 +25,7 @@ const DIRECTORY_MODE: u32 = 493;
 impl Session {
     ghost use Rattle.std.specs.Prelude.{string_bytes};
     ghost use Rattle.nv_session.specs.Sessions.{Moves, TakesMount, PutsMount, SettlesCall, is_armed};
-    ghost use Rattle.nv_session.specs.Machine.{Creates, MakesDirectory, Writes, SetsSize, SetsAttributes};
+    ghost use Rattle.nv_session.specs.Machine.{Creates, MakesDirectory, Writes, SetsSize, SetsAttributes, Links, Unlinks, RemovesDirectory, Renames};
 
     pub(crate) fn create(
         &mut self,
@@ -112,6 +112,72 @@ impl Session {
             return refused_text(alloc, Refusal::NotMounted);
         };
         let answer = mount.set_attr(cpu, path, mode, owner, group, self.time);
+        self.settle_call(alloc, mount, answer, stop.keep)
+    }
+
+    pub(crate) fn link(
+        &mut self,
+        alloc: Global,
+        cpu: u64,
+        old: &[u8],
+        new: &[u8],
+        stop: Stop,
+    ) -> Result<String, AllocError>
+        ensures { IfOk result (λ text. Moves (Links (is_armed stop) cpu old.now new.now) self.old (string_bytes text) self.new) }
+    {
+        let Some(mut mount) = self.take_mount(stop.fuse) else {
+            return refused_text(alloc, Refusal::NotMounted);
+        };
+        let answer = mount.link(cpu, old, new, self.time);
+        self.settle_call(alloc, mount, answer, stop.keep)
+    }
+
+    pub(crate) fn unlink(
+        &mut self,
+        alloc: Global,
+        cpu: u64,
+        path: &[u8],
+        stop: Stop,
+    ) -> Result<String, AllocError>
+        ensures { IfOk result (λ text. Moves (Unlinks (is_armed stop) cpu path.now) self.old (string_bytes text) self.new) }
+    {
+        let Some(mut mount) = self.take_mount(stop.fuse) else {
+            return refused_text(alloc, Refusal::NotMounted);
+        };
+        let answer = mount.unlink(cpu, path, self.time);
+        self.settle_call(alloc, mount, answer, stop.keep)
+    }
+
+    pub(crate) fn remove_directory(
+        &mut self,
+        alloc: Global,
+        cpu: u64,
+        path: &[u8],
+        stop: Stop,
+    ) -> Result<String, AllocError>
+        ensures { IfOk result (λ text. Moves (RemovesDirectory (is_armed stop) cpu path.now) self.old (string_bytes text) self.new) }
+    {
+        let Some(mut mount) = self.take_mount(stop.fuse) else {
+            return refused_text(alloc, Refusal::NotMounted);
+        };
+        let answer = mount.rmdir(cpu, path, self.time);
+        self.settle_call(alloc, mount, answer, stop.keep)
+    }
+
+    pub(crate) fn rename(
+        &mut self,
+        alloc: Global,
+        cpu: u64,
+        old: &[u8],
+        new: &[u8],
+        stop: Stop,
+    ) -> Result<String, AllocError>
+        ensures { IfOk result (λ text. Moves (Renames (is_armed stop) cpu old.now new.now) self.old (string_bytes text) self.new) }
+    {
+        let Some(mut mount) = self.take_mount(stop.fuse) else {
+            return refused_text(alloc, Refusal::NotMounted);
+        };
+        let answer = mount.rename(cpu, old, new, self.time);
         self.settle_call(alloc, mount, answer, stop.keep)
     }
 

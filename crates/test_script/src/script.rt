@@ -76,7 +76,7 @@ const FIRST_PATH: [(&str, &str, u8); 7] = [
 ];
 
 // Lines that are skipped, and lines that are no command.
-const LINES: [(&str, &str, u8); 21] = [
+const LINES: [(&str, &str, u8); 23] = [
     ("", "", 0),
     ("# a\n\ntime 7", "ok\n", 0),
     ("time 18446744073709551615\n", "ok\n", 0),
@@ -91,7 +91,9 @@ const LINES: [(&str, &str, u8); 21] = [
     ("peek +1\n", "bad line 1\n", 2),
     ("format 1 16\n", "bad line 1\n", 2),
     ("format 1 16 1 1\n", "bad line 1\n", 2),
-    ("link 0 /a /b\n", "bad line 1\n", 2),
+    ("move 0 /a /b\n", "bad line 1\n", 2),
+    ("link 0 /a\n", "bad line 1\n", 2),
+    ("rmdir 0 /a /b\n", "bad line 1\n", 2),
     ("create 0\n", "bad line 1\n", 2),
     ("attr 0 / 4294967296 0 0\n", "bad line 1\n", 2),
     ("attr 0 / 0 0 4294967296\n", "bad line 1\n", 2),

@@ -1,0 +1,28 @@
+use Rattle.std.proofs.Common.{string_bytes}
+use Rattle.std.specs.Prelude.{Some}
+use Rattle.std.proofs.lemmas.Result.{IfOk-weaker}
+use Rattle.nv_session.specs.Calls.{asks_link, makes_link, logs_link}
+use Rattle.nv_session.specs.Sessions.{is_armed}
+use Rattle.nv_session.proofs.Calling.{called_moves, two_moves, uncalled_moves}
+use Rattle.nv_session.proofs.Asking.{link_answers, link_changed, link_logged}
+use Rattle.nv_session.proofs.session.Session.link.Goals as goal
+
+pub returns : goal.returns
+returns c = IfOk-weaker c.settle_call.result _ _ (λ text settles. two_moves (asks_link c.args.cpu) makes_link logs_link c.args.old.now c.args.new.now (is_armed c.args.stop) c.args.self.now c.settle_call.new.self (string_bytes text)
+    (λ q says_q. called_moves (λ time. asks_link c.args.cpu q) (λ time. makes_link time q) (λ time. logs_link time q)
+    c.args.old.now c.args.stop.fuse c.args.self.now c.take_mount.new.self c.settle_call.new.self c.in-Some.mount c.link-answer.new.self c.link-answer.result (string_bytes text) (rw c.in-Some.is at c.take_mount.ensures) (record {
+      answers = λ p says. link_answers c.in-Some.mount c.link-answer.result c.args.cpu q p (c.link-answer.ensures.allowed p q says says_q) (λ runs. c.link-answer.ensures.refused runs p q says says_q);
+      changed = λ names is. link_changed c.in-Some.mount c.link-answer.new.self c.link-answer.result c.args.cpu c.take_mount.new.self.time names c.args.new.now q says_q (c.link-answer.ensures.allowed (Some names) q is says_q) (λ others is_other. c.link-answer.ensures.changed names others is is_other);
+      logged = λ names is. link_logged c.in-Some.mount c.link-answer.new.self c.link-answer.result c.args.cpu c.take_mount.new.self.time names c.args.new.now q says_q (c.link-answer.ensures.allowed (Some names) q is says_q) (λ others i d node held f h is_other. c.link-answer.ensures.log names others i d node held f h is is_other);
+      unchanged = c.link-answer.ensures.unchanged;
+      stopped = c.link-answer.ensures.stopped;
+      keeps = c.link-answer.ensures.keeps;
+      as_long = c.link-answer.ensures.length;
+      steady = c.link-answer.ensures.keeps_fuse.steady;
+      kept = c.settle_call.ensures.keeps;
+    }) settles)) c.settle_call.ensures.settles
+
+pub returns-in_default : goal.returns-in_default
+returns-in_default c = IfOk-weaker c.refused_text.result _ _ (λ text said. two_moves (asks_link c.args.cpu) makes_link logs_link c.args.old.now c.args.new.now (is_armed c.args.stop) c.args.self.now c.take_mount.new.self (string_bytes text)
+    (λ q says_q. uncalled_moves (λ time. asks_link c.args.cpu q) (λ time. makes_link time q) (λ time. logs_link time q)
+    c.args.old.now (is_armed c.args.stop) c.args.stop.fuse c.args.self.now c.take_mount.new.self (string_bytes text) (rw c.in_default.is at c.take_mount.ensures) said)) c.refused_text.ensures
