@@ -1,14 +1,14 @@
 -- A file that gets longer, whose last page was copied: its log, its row, its free blocks and its bytes.
-use Rattle.std.proofs.Common.{◌≡◌, ◌↔◌, ℕ, suc, ◌+◌, ◌-◌, ◌*◌, ◌/◌, ◌%◌, ◌^◌, ◌<◌, ◌≤◌, ◌⊎◌, inl, inr, Bool, true, false, cond, not, ◌&&◌, nat_lt, nat_le, nat_eq, is_some, List, [], ◌∷◌, ◌++◌, length, take, take_all, slice_index, refl, ap, sym, ◌∙◌, subst, arith, Option, Some, None, Result, Ok, Err, OnOk}
+use Rattle.std.proofs.Common.{◌≡◌, ◌↔◌, ℕ, suc, ◌+◌, ◌-◌, ◌*◌, ◌/◌, ◌%◌, ◌<◌, ◌≤◌, ◌⊎◌, inl, inr, Bool, true, false, cond, not, ◌&&◌, nat_lt, nat_le, nat_eq, is_some, List, [], ◌∷◌, ◌++◌, length, take, take_all, slice_index, refl, ap, sym, ◌∙◌, subst, arith, Option, Some, None, Result, Ok, Err, OnOk}
 use Rattle.std.specs.List.{Contains}
-use Rattle.std.proofs.lemmas.Bool.{cases_eq, cases_lt}
+use Rattle.std.proofs.lemmas.Bool.{cases_eq, cases_lt, le-ltb, lt-ltb}
 use Rattle.std.proofs.lemmas.Bool.Decides.{nat_tests}
 use Rattle.std.proofs.lemmas.List.{get_or_default}
-use Rattle.std.proofs.lemmas.Option.{none-some}
+use Rattle.std.proofs.lemmas.Option.{none-some, same_Some}
 use Rattle.nv_region.specs.Region.{Region}
 use Rattle.nv_region.specs.Stops.{IsMixed}
 use Rattle.nv_region.proofs.Stops.{mixed_same}
-use Rattle.nv_region.proofs.Wordwise.{mixed_more, mixed_word}
+use Rattle.nv_region.proofs.Wordwise.{mixed_more}
 use Rattle.nv_super.specs.declared.superblock.Super.{Super}
 use Rattle.nv_super.specs.declared.owners.Run.{Run}
 use Rattle.nv_super.specs.declared.owners.Owner.TheVariants as owners
@@ -43,6 +43,7 @@ use Rattle.nv_held.proofs.Fronts.{loose_sound}
 use Rattle.nv_held.proofs.Kept.{page_owner, tail_there}
 use Rattle.nv_held.proofs.Shown.{stands_at}
 use Rattle.nv_held.proofs.nv_outcome.SuperOf.{layout_of_super}
+use Rattle.nv_held.proofs.BytesKept.{byte_stays}
 use Rattle.nv_commit.specs.Extends.{CanExtend, ExtendWords, ShowsMoved, extended, with_log}
 use Rattle.nv_bytes.specs.Bytes.{byte_after}
 use Rattle.nv_bytes.specs.Storing.{HoldsPage, InBlocks}
@@ -50,7 +51,7 @@ use Rattle.nv_calls.specs.Grown.{HasGrown}
 use Rattle.nv_calls.specs.Sizes.{CanResize, CopiesEnd, Resizes, SameBytes, end_block, resizing}
 use Rattle.nv_calls.specs.Steps.{LogFollows, ShowsRow}
 use Rattle.nv_calls.specs.Taken.{TakesEach, block_run, single_takes}
-use Rattle.nv_calls.proofs.CutFile.{Settled, file_held, lt_off, lt_on, maps_below, mode_held, since}
+use Rattle.nv_calls.proofs.CutFile.{Settled, file_held, maps_below, mode_held, since}
 use Rattle.nv_calls.proofs.SizedEntries.{data_names, data_numbers}
 use Rattle.nv_calls.proofs.DataFollows.{data_follows, data_lists}
 use Rattle.nv_calls.proofs.LogGrows.{slot_there}
@@ -253,9 +254,8 @@ module _ {R S : Region} {s : Super} {free mid after : FreeLists} {row grown new 
         let word_is : k ≡ (slot_address s row.inode + 24) / 8 = one.0 in
         slots.unfree to to_free row.inode (slot_address s row.inode) at_slot (omega (arith, block, word_is, aligned))
 
-    byte_stays : (y : ℕ) → byte_in S (Some to) y ≡ byte_in copies.mid (Some to) y
-    byte_stays y = ap (λ (n : ℕ). n / 256 ^ (y % 8) % 256)
-        (mixed_word copies.mid S (ExtendWords (slot_address s row.inode) row.tail entries fresh) (to * 4096 + y % 4096 / 8 * 8) (omega arith) copies.extends (λ v here. away ((to * 4096 + y % 4096 / 8 * 8) / 8) v (omega arith) here))
+    page_stays : (y : ℕ) → byte_in S (Some to) y ≡ byte_in copies.mid (Some to) y
+    page_stays y = byte_stays copies.mid S (ExtendWords (slot_address s row.inode) row.tail entries fresh) (Some to) y copies.extends (λ b is k v at here. away k v (at ∙ sym (same_Some to b is)) here)
 
     pub copy_bytes : SameBytes R S row new x.size
     copy_bytes y below = elim (cases_eq (y / 4096) (row.numbers.size / 4096)) [
@@ -265,7 +265,7 @@ module _ {R S : Region} {s : Super} {free mid after : FreeLists} {row grown new 
           let none : to + (y / 4096 - row.numbers.size / 4096) ≡ to = omega (arith, same) in
           let here : block_at new.index (y / 4096) ≡ Some to = index (y / 4096) ∙ ap (λ (t : Bool). cond t (Some (to + (y / 4096 - row.numbers.size / 4096))) (block_at grown.index (y / 4096))) on ∙ ap Some none in
           let was : block_at row.index (y / 4096) ≡ Some from = ap (block_at row.index) same ∙ e.maps in
-          ap (λ (o : Option ℕ). byte_in S o y) here ∙ byte_stays y ∙ copies.page y same
+          ap (λ (o : Option ℕ). byte_in S o y) here ∙ page_stays y ∙ copies.page y same
           ∙ ap (λ (t : Bool). cond t (slice_index [] (y - 0)) (cond (nat_lt y row.numbers.size) (byte_in R (Some from) y) 0)) (no_new y)
           ∙ ap (λ (o : Option ℕ). cond (nat_lt y row.numbers.size) (byte_in R o y) 0) (sym was))
       | inr differs ↦ (
@@ -275,12 +275,12 @@ module _ {R S : Region} {s : Super} {free mid after : FreeLists} {row grown new 
           let here : block_at new.index (y / 4096) ≡ block_at row.index (y / 4096) = index (y / 4096) ∙ ap (λ (t : Bool). cond t (Some (to + (y / 4096 - row.numbers.size / 4096))) (block_at grown.index (y / 4096))) off ∙ ap (λ (m : Pages). block_at m (y / 4096)) has_grown.index in
           let same_bytes : byte_in S (block_at row.index (y / 4096)) y ≡ byte_in R (block_at row.index (y / 4096)) y = ap (λ (o : Option ℕ). byte_in S o y) (told.index (y / 4096)) ∙ f.bytes row.inode h shows.holds y ∙ ap (λ (o : Option ℕ). byte_in R o y) (sym (told.index (y / 4096))) in
           ap (λ (o : Option ℕ). byte_in S o y) here ∙ same_bytes ∙ (elim (cases_lt y row.numbers.size) [
-            | inl low ↦ (let less = lt_on y row.numbers.size low in sym (ap (λ (t : Bool). cond t (byte_in R (block_at row.index (y / 4096)) y) 0) less))
-            | inr high ↦ (let past = lt_off y row.numbers.size high in zeros y high differs (block_at row.index (y / 4096)) refl ∙ sym (ap (λ (t : Bool). cond t (byte_in R (block_at row.index (y / 4096)) y) 0) past))
+            | inl low ↦ (let less = lt-ltb y row.numbers.size low in sym (ap (λ (t : Bool). cond t (byte_in R (block_at row.index (y / 4096)) y) 0) less))
+            | inr high ↦ (let past = le-ltb y row.numbers.size high in zeros y high differs (block_at row.index (y / 4096)) refl ∙ sym (ap (λ (t : Bool). cond t (byte_in R (block_at row.index (y / 4096)) y) 0) past))
           ]))
     ] where
       no_new : (y : ℕ) → (nat_le 0 y && nat_lt y (0 + 0)) ≡ false
-      no_new y = by (nat_le 0 y) (nat_lt y 0) (lt_off y 0 (omega arith)) where
+      no_new y = by (nat_le 0 y) (nat_lt y 0) (le-ltb y 0 (omega arith)) where
         by : (a b : Bool) → b ≡ false → (a && b) ≡ false
         by true b off = off
         by false b off = refl

@@ -45,7 +45,7 @@ use Rattle.nv_calls.proofs.Mounts.{kept_of_mounted, kept_when_stopped, mounted_o
 use Rattle.nv_calls.proofs.NewNumbers.{unused_is}
 use Rattle.nv_calls.proofs.OneRow.{stands}
 use Rattle.nv_calls.proofs.RowChange.{keeps_same}
-use Rattle.nv_calls.proofs.Tests.{enough_space, too_few}
+use Rattle.nv_calls.proofs.Tests.{space_allows, space_refuses}
 
 module _ {R S : Region} {s : Super} {rows news : List Row} {free after : FreeLists} {faults : List Fault} {read_only stopped : Bool} (kept : IsKept R s rows free faults read_only stopped) (runs : stopped ≡ false) (writes : read_only ≡ false)
     {place : ℕ} {kind : Kind} {mode time j : ℕ} {name : List ℕ} (step : CreatesAt R S s free after rows news place kind mode time j name) (cpu : ℕ) (low : cpu < s.cpus) (spelled : IsPathName name) (names : List (List ℕ)) (spot : IsSpot (tree_of R rows) rows s cpu names place name j) where
@@ -130,13 +130,11 @@ module _ {P : Type 0} (region : P → Region) {n m : Mount P} (same : n ≡ m) (
 
   -- No test refuses it where there are enough blocks.
   pub create_allowed : count ≤ all_blocks n.free.pools → tests m ≡ None
-  create_allowed enough = subst (λ (k : Mount P). tests k ≡ None) same (at_last ∙ enough_space (world_of n) count enough)
+  create_allowed = space_allows same tests count at_last
 
   -- Where its step was refused, so is the call.
   pub create_refused : (e : Refusal) → RefusesStep e count n.free → (e ≡ Memory) ⊎ ((e ≡ Stopped) ⊎ (tests m ≡ Some e))
-  create_refused e (inl memory) = inl memory
-  create_refused e (inr (inl stopped)) = inr (inl stopped)
-  create_refused e (inr (inr w)) = inr (inr (subst (λ (k : Mount P). tests k ≡ Some e) same (at_last ∙ too_few (world_of n) count w.1 ∙ ap (λ (r : Refusal). Some r) (sym w.0))))
+  create_refused = space_refuses same tests count at_last
 
 -- ---- a step that was refused
 

@@ -4,8 +4,7 @@ use Rattle.std.specs.Cmp.Lexicographic.{pointwise}
 use Rattle.std.specs.List.{Contains}
 use Rattle.std.specs.Option.{option_map}
 use Rattle.std.proofs.Math.Seq.{map-set_same}
-use Rattle.std.proofs.lemmas.Bool.{cases_eq}
-use Rattle.std.proofs.lemmas.Bool.Decides.{nat_tests}
+use Rattle.std.proofs.lemmas.Bool.{cases_eq, eq-eqb, ne_eqb}
 use Rattle.std.proofs.lemmas.Option.{slice_get_within}
 use Rattle.nv_region.specs.Region.{Region}
 use Rattle.nv_super.specs.declared.kind.Kind.{Kind}
@@ -28,12 +27,6 @@ use Rattle.nv_calls.proofs.Inserted.{row_of_inserted, row_of_own}
 use Rattle.nv_calls.proofs.NamesCounted.{one_more}
 use Rattle.nv_calls.proofs.RowChange.{at_set, number_at, row_of_other, row_there}
 use Rattle.nv_calls.proofs.RowOf.{row_at}
-
-eq_on : (i j : ℕ) → i ≡ j → nat_eq i j ≡ true
-eq_on i j same = grind (arith, nat_tests)
-
-eq_off : (i j : ℕ) → i ≢ j → nat_eq i j ≡ false
-eq_off i j other = grind (arith, nat_tests)
 
 -- a condition over names, where they lead
 pub first_of : (b : Bool) (x : ℕ × ℕ) (o : Option (ℕ × ℕ)) → option_map (λ (y : ℕ × ℕ). y.0) (cond b (Some x) o) ≡ cond b (Some x.0) (option_map (λ (y : ℕ × ℕ). y.0) o)
@@ -75,13 +68,13 @@ new_node_is S j kind mode time page tail {made} is = record {
 
 module _ (t : Tree) (d j : ℕ) (change : Node → Node) (o : Option Node) (i : ℕ) where
   pub put_there : i ≡ j → d ≢ j → edit d change (put_node j o t) i ≡ o
-  put_there same differ = ap (λ (b : Bool). cond b (option_map change (put_node j o t d)) (put_node j o t i)) (eq_off i d (λ e. differ (sym e ∙ same))) ∙ ap (λ (b : Bool). cond b o (t i)) (eq_on i j same)
+  put_there same differ = ap (λ (b : Bool). cond b (option_map change (put_node j o t d)) (put_node j o t i)) (ne_eqb i d (λ e. differ (sym e ∙ same))) ∙ ap (λ (b : Bool). cond b o (t i)) (eq-eqb i j same)
 
   pub changed_there : i ≡ d → d ≢ j → edit d change (put_node j o t) i ≡ option_map change (t d)
-  changed_there same differ = ap (λ (b : Bool). cond b (option_map change (put_node j o t d)) (put_node j o t i)) (eq_on i d same) ∙ ap (λ (b : Bool). option_map change (cond b o (t d))) (eq_off d j differ)
+  changed_there same differ = ap (λ (b : Bool). cond b (option_map change (put_node j o t d)) (put_node j o t i)) (eq-eqb i d same) ∙ ap (λ (b : Bool). option_map change (cond b o (t d))) (ne_eqb d j differ)
 
   pub elsewhere : i ≢ j → i ≢ d → edit d change (put_node j o t) i ≡ t i
-  elsewhere other differs = ap (λ (b : Bool). cond b (option_map change (put_node j o t d)) (put_node j o t i)) (eq_off i d differs) ∙ ap (λ (b : Bool). cond b o (t i)) (eq_off i j other)
+  elsewhere other differs = ap (λ (b : Bool). cond b (option_map change (put_node j o t d)) (put_node j o t i)) (ne_eqb i d differs) ∙ ap (λ (b : Bool). cond b o (t i)) (ne_eqb i j other)
 
 -- what the call makes of the tree of rows
 abbrev pub made_tree : Region → List Row → Row → ℕ → Kind → ℕ → ℕ → List ℕ → Tree

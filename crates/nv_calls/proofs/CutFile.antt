@@ -1,8 +1,8 @@
 -- A file whose size is set with no page copied: its log, its row, its free blocks and its bytes.
-use Rattle.std.proofs.Common.{◌≡◌, ◌↔◌, ℕ, ◌+◌, ◌*◌, ◌/◌, ◌%◌, ◌<◌, ◌≤◌, ◌⊎◌, inl, inr, Bool, true, false, cond, nat_lt, nat_le, nat_eq, not, ◌&&◌, min, is_some, List, [], ◌∷◌, ◌++◌, length, take, refl, ap, sym, ◌∙◌, subst, arith, Option, Some, None}
+use Rattle.std.proofs.Common.{◌≡◌, ◌↔◌, ℕ, ◌+◌, ◌*◌, ◌/◌, ◌%◌, ◌<◌, ◌≤◌, ◌⊎◌, inl, inr, Bool, false, cond, nat_le, nat_eq, not, ◌&&◌, min, is_some, List, [], ◌∷◌, ◌++◌, length, take, refl, ap, sym, ◌∙◌, subst, arith, Option, Some, None}
 use Rattle.std.specs.Int.{div_ceil}
 use Rattle.std.specs.List.{Contains}
-use Rattle.std.proofs.lemmas.Bool.{cases_lt}
+use Rattle.std.proofs.lemmas.Bool.{cases_lt, le-leb, le-ltb, lt-leb, lt-ltb}
 use Rattle.std.proofs.lemmas.Bool.Decides.{nat_tests}
 use Rattle.std.proofs.lemmas.Option.{none-some}
 use Rattle.nv_region.specs.Region.{Region}
@@ -47,20 +47,6 @@ use Rattle.nv_calls.proofs.GivenPages.{own_taken}
 use Rattle.nv_calls.proofs.LogGrows.{can_extend, count_held, pages_now}
 use Rattle.nv_calls.proofs.ResizeEntries.{file_attr, small_mode}
 use Rattle.nv_calls.proofs.TakenBlocks.{is_taken, was_taken}
-
--- ---- tests
-
-pub lt_on : (a b : ℕ) → a < b → nat_lt a b ≡ true
-lt_on a b less = grind (arith, nat_tests)
-
-pub lt_off : (a b : ℕ) → b ≤ a → nat_lt a b ≡ false
-lt_off a b high = grind (arith, nat_tests)
-
-le_on : (a b : ℕ) → a ≤ b → nat_le a b ≡ true
-le_on a b low = grind (arith, nat_tests)
-
-le_off : (a b : ℕ) → b < a → nat_le a b ≡ false
-le_off a b less = grind (arith, nat_tests)
 
 -- ---- pages and sizes
 
@@ -175,10 +161,10 @@ module _ {R S : Region} {s : Super} {free reserved mid after : FreeLists} {row g
     page_now : (p : ℕ) → block_at new.index p ≡ block_of (good_in (fixed_layout s) (extended h (Attr x ∷ []) a.fresh)) p
     page_now p = index p ∙ (elim (cases_lt (p * 4096) x.size) [
       | inl below ↦ (
-          let off = le_off (div_ceil x.size 4096) p (before_end x.size p below) in
+          let off = lt-leb (div_ceil x.size 4096) p (before_end x.size p below) in
           ap (λ (t : Bool). cond t None (block_at grown.index p)) off ∙ same_index p ∙ sym (kept (fixed_layout s) held h end (placed at (Attr x) ∷ []) pages x.size writes p (λ w. none_in w.0 w.1) below))
       | inr past ↦ (
-          let on = le_on (div_ceil x.size 4096) p (from_end x.size p past) in
+          let on = le-leb (div_ceil x.size 4096) p (from_end x.size p past) in
           ap (λ (t : Bool). cond t None (block_at grown.index p)) on ∙ sym (cut (fixed_layout s) held h end (placed at (Attr x) ∷ []) pages x.size writes p (omega arith) (λ w. none_in w.0 w.1) past))
     ])
 
@@ -229,7 +215,7 @@ module _ {R S : Region} {s : Super} {free reserved mid after : FreeLists} {row g
     zeros y below past (Some b) at =
         let begins = maps_below x can shows (y / 4096) b at in
         let page : y / 4096 ≡ row.numbers.size / 4096 = omega (arith, begins, past) in
-        let longer = lt_on row.numbers.size x.size (omega (arith, below, past)) in
+        let longer = lt-ltb row.numbers.size x.size (omega (arith, below, past)) in
         let part : nat_eq (row.numbers.size % 4096) 0 ≡ false = (let rest : row.numbers.size % 4096 ≡ 0 → ⊥ = (λ none. omega (arith, none, begins, past)) in not_zero (row.numbers.size % 4096) rest) in
         let ends : end_block (block_at row.index) row.numbers.size x.size ≡ block_at row.index (row.numbers.size / 4096) = ap (λ (t : Bool). cond (t && not (nat_eq (row.numbers.size % 4096) 0)) (block_at row.index (row.numbers.size / 4096)) None) longer ∙ ap (λ (t : Bool). cond (not t) (block_at row.index (row.numbers.size / 4096)) None) part in
         absurd (none-some b (sym stays ∙ ends ∙ ap (block_at row.index) (sym page) ∙ at))
@@ -242,12 +228,12 @@ module _ {R S : Region} {s : Super} {free reserved mid after : FreeLists} {row g
         let told = shows.told in
         let f = cut_follows in
         let row_grown = a.row in
-        let off = le_off (div_ceil x.size 4096) (y / 4096) (before_end x.size (y / 4096) (omega (arith, below))) in
+        let off = lt-leb (div_ceil x.size 4096) (y / 4096) (before_end x.size (y / 4096) (omega (arith, below))) in
         let here : block_at new.index (y / 4096) ≡ block_at row.index (y / 4096) = index (y / 4096) ∙ ap (λ (t : Bool). cond t None (block_at grown.index (y / 4096))) off ∙ ap (λ (m : Pages). block_at m (y / 4096)) row_grown.index in
         let stored : byte_in S (block_at row.index (y / 4096)) y ≡ byte_in R (block_at row.index (y / 4096)) y = ap (λ (o : Option ℕ). byte_in S o y) (told.index (y / 4096)) ∙ f.bytes row.inode h shows.holds y ∙ ap (λ (o : Option ℕ). byte_in R o y) (sym (told.index (y / 4096))) in
         ap (λ (o : Option ℕ). byte_in S o y) here ∙ stored ∙ (elim (cases_lt y row.numbers.size) [
-          | inl low ↦ (let on = lt_on y row.numbers.size low in sym (ap (λ (t : Bool). cond t (byte_in R (block_at row.index (y / 4096)) y) 0) on))
-          | inr high ↦ (let none = lt_off y row.numbers.size high in zeros y below high (block_at row.index (y / 4096)) refl ∙ sym (ap (λ (t : Bool). cond t (byte_in R (block_at row.index (y / 4096)) y) 0) none))
+          | inl low ↦ (let on = lt-ltb y row.numbers.size low in sym (ap (λ (t : Bool). cond t (byte_in R (block_at row.index (y / 4096)) y) 0) on))
+          | inr high ↦ (let none = le-ltb y row.numbers.size high in zeros y below high (block_at row.index (y / 4096)) refl ∙ sym (ap (λ (t : Bool). cond t (byte_in R (block_at row.index (y / 4096)) y) 0) none))
         ])
 
   -- What the call makes of the file.

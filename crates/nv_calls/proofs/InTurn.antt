@@ -1,6 +1,7 @@
 -- Rows whose numbers follow one another.
 use Rattle.std.proofs.Common.{◌≡◌, ℕ, zero, suc, ◌+◌, ◌-◌, ◌<◌, ◌≤◌, Bool, true, false, not, nat_eq, ◌&&◌, is_none, List, [], ◌∷◌, ◌*◌, ◌/◌, length, get_or, slice_get, refl, ap, sym, ◌∙◌, arith, inl, inr, Option, Some, None}
 use Rattle.std.proofs.Math.Nat.{mul-le-mul_left}
+use Rattle.std.proofs.Math.Bool.{and-false}
 use Rattle.std.proofs.lemmas.Bool.{cases_lt}
 use Rattle.std.proofs.lemmas.Bool.Decides.{nat_tests}
 use Rattle.std.proofs.lemmas.Option.{get_or_from_slice_get, slice_get-get_or}
@@ -51,10 +52,7 @@ used_without rows cpus cpu k none le =
 
 -- a number with a row is used
 pub used_number : (rows : List Row) (i : ℕ) (r : Row) → row_of rows i ≡ Some r → is_unused rows i ≡ false
-used_number rows i r is = ap (λ (o : Option Row). not (nat_eq i 0) && is_none o) is ∙ never (not (nat_eq i 0)) where
-  never : (b : Bool) → (b && false) ≡ false
-  never true = refl
-  never false = refl
+used_number rows i r is = ap (λ (o : Option Row). not (nat_eq i 0) && is_none o) is ∙ and-false (not (nat_eq i 0))
 
 -- Where the last number is no further off than its place, each number between has a row.
 pub used_in_turn : (rows : List Row) (place low : ℕ) (d : Row) → Rises row_key rows → place ≤ low → low < length rows → (get_or rows low d).inode ≡ (get_or rows place d).inode + (low - place)

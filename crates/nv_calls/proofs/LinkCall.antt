@@ -1,5 +1,5 @@
 -- What `link` answers, and what it leaves.
-use Rattle.std.proofs.Common.{◌≡◌, ◌≢◌, ℕ, ◌+◌, ◌%◌, ◌<◌, ◌≤◌, ◌/◌, ◌⊎◌, inl, inr, Bool, false, List, [], ◌∷◌, ap, sym, ◌∙◌, subst, Option, Some, None, Result, Ok, slice_get}
+use Rattle.std.proofs.Common.{◌≡◌, ◌≢◌, ℕ, ◌+◌, ◌%◌, ◌<◌, ◌≤◌, ◌/◌, ◌⊎◌, Bool, false, List, [], ◌∷◌, ap, sym, ◌∙◌, subst, Option, Some, None, Result, Ok, slice_get}
 use Rattle.std.specs.List.{Contains}
 use Rattle.std.specs.Option.{option_map_or}
 use Rattle.nv_region.specs.Region.{Region}
@@ -47,7 +47,7 @@ use Rattle.nv_calls.proofs.NamesCounted.{as_many}
 use Rattle.nv_calls.proofs.OneRow.{stands}
 use Rattle.nv_calls.proofs.RowNumbers.{row_number}
 use Rattle.nv_calls.proofs.RowOf.{row_at}
-use Rattle.nv_calls.proofs.Tests.{enough_space, too_few}
+use Rattle.nv_calls.proofs.Tests.{space_allows, space_refuses}
 
 module _ {R S : Region} {s : Super} {rows news : List Row} {free after : FreeLists} {faults : List Fault} {read_only stopped : Bool} (kept : IsKept R s rows free faults read_only stopped) (runs : stopped ≡ false) (writes : read_only ≡ false)
     {target place : ℕ} {name : List ℕ} {time : ℕ} (step : LinksAt R S s free after rows news target place name time) (spelled : IsPathName name) (names others : List (List ℕ)) (spot : IsLinkSpot (tree_of R rows) rows names others place name target) where
@@ -163,10 +163,8 @@ module _ {P : Type 0} (region : P → Region) {n m : Mount P} (same : n ≡ m) (
 
   -- No test refuses it where there are enough blocks.
   pub link_allowed : count ≤ all_blocks n.free.pools → tests m ≡ None
-  link_allowed enough = subst (λ (k : Mount P). tests k ≡ None) same (at_last ∙ enough_space (world_of n) count enough)
+  link_allowed = space_allows same tests count at_last
 
   -- Where its step was refused, so is the call.
   pub link_refused : (e : Refusal) → RefusesStep e count n.free → (e ≡ Memory) ⊎ ((e ≡ Stopped) ⊎ (tests m ≡ Some e))
-  link_refused e (inl memory) = inl memory
-  link_refused e (inr (inl stopped)) = inr (inl stopped)
-  link_refused e (inr (inr w)) = inr (inr (subst (λ (k : Mount P). tests k ≡ Some e) same (at_last ∙ too_few (world_of n) count w.1 ∙ ap (λ (r : Refusal). Some r) (sym w.0))))
+  link_refused = space_refuses same tests count at_last

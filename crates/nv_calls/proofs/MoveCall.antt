@@ -38,7 +38,7 @@ use Rattle.nv_calls.proofs.MovedAcross.{across_kept, across_logs, across_tree}
 use Rattle.nv_calls.proofs.MovedWithin.{within_kept, within_log, within_tree}
 use Rattle.nv_calls.proofs.OneRow.{stands}
 use Rattle.nv_calls.proofs.RowNumbers.{row_number}
-use Rattle.nv_calls.proofs.Tests.{enough_space, too_few}
+use Rattle.nv_calls.proofs.Tests.{space_allows, space_refuses}
 
 -- rows at different places have different numbers
 pub places_numbers : (rows : List Row) (i j : ℕ) (a b : Row) → Rises row_key rows → slice_get rows i ≡ Some a → slice_get rows j ≡ Some b → i ≢ j → a.inode ≢ b.inode
@@ -187,10 +187,8 @@ module _ {P : Type 0} (region : P → Region) {n m : Mount P} (same : n ≡ m) (
 
   -- No test refuses it where there are enough blocks.
   pub rename_allowed : count ≤ all_blocks n.free.pools → tests m ≡ None
-  rename_allowed enough = subst (λ (k : Mount P). tests k ≡ None) same (at_last ∙ enough_space (world_of n) count enough)
+  rename_allowed = space_allows same tests count at_last
 
   -- Where its step was refused, so is the call.
   pub rename_refused : (e : Refusal) → RefusesStep e count n.free → (e ≡ Memory) ⊎ ((e ≡ Stopped) ⊎ (tests m ≡ Some e))
-  rename_refused e (inl memory) = inl memory
-  rename_refused e (inr (inl stopped)) = inr (inl stopped)
-  rename_refused e (inr (inr w)) = inr (inr (subst (λ (k : Mount P). tests k ≡ Some e) same (at_last ∙ too_few (world_of n) count w.1 ∙ ap (λ (r : Refusal). Some r) (sym w.0))))
+  rename_refused = space_refuses same tests count at_last

@@ -41,60 +41,59 @@ one_place i k m e = cc
 log_no_data : (i k j p : ℕ) → owners.Log i k ≡ owners.Data j p → ⊥
 log_no_data i k j p e = cc
 
-module _ {R : Region} {s : Super} {held : Store} {rows : List Row} (free : FreeLists) (m : IsMounted R s held rows free.pools) (lists : free.sup ≡ s) where
-  module _ (row : Row) (c : Contains rows row) where
-    abbrev h : Held
-    h = (shows_row {free = free} m lists row c).0
+module _ {R : Region} {s : Super} {held : Store} {rows : List Row} (free : FreeLists) (m : IsMounted R s held rows free.pools) (lists : free.sup ≡ s) (row : Row) (c : Contains rows row) where
+  abbrev h : Held
+  h = (shows_row {free = free} m lists row c).0
 
-    shown : ShowsRow R s held h row free
-    shown = (shows_row {free = free} m lists row c).1
+  shown : ShowsRow R s held h row free
+  shown = (shows_row {free = free} m lists row c).1
 
-    told : KeepsRow (fixed_layout s) h row
-    told = shown.told
+  told : KeepsRow (fixed_layout s) h row
+  told = shown.told
 
-    undoubled : NoneDoubled (fixed_layout s) held
-    undoubled = let sound = m.sound in let right = sound.faultless in right.undoubled
+  undoubled : NoneDoubled (fixed_layout s) held
+  undoubled = let sound = m.sound in let right = sound.faultless in right.undoubled
 
-    data_blocks : AreDataBlocks s h.pages
-    data_blocks = let sound = m.sound in let v = stands_at sound.shows row.inode h shown.holds in pages_are (one_page s h.head (head_starts s h.head h.tail v.is.right)) v.is.reads
+  data_blocks : AreDataBlocks s h.pages
+  data_blocks = let sound = m.sound in let v = stands_at sound.shows row.inode h shown.holds in pages_are (one_page s h.head (head_starts s h.head h.tail v.is.right)) v.is.reads
 
-    held_page : (b : ℕ) → Contains row.pages.items b → Contains h.pages b
-    held_page b at = subst (λ (ps : List ℕ). Contains ps b) told.pages at
+  held_page : (b : ℕ) → Contains row.pages.items b → Contains h.pages b
+  held_page b at = subst (λ (ps : List ℕ). Contains ps b) told.pages at
 
-    owner : (b : ℕ) → Contains row.pages.items b → (k : ℕ) × OwnsIn (fixed_layout s) held b (owners.Log row.inode k)
-    owner b at = page_owner (fixed_layout s) held row.inode b h shown.holds (held_page b at)
+  owner : (b : ℕ) → Contains row.pages.items b → (k : ℕ) × OwnsIn (fixed_layout s) held b (owners.Log row.inode k)
+  owner b at = page_owner (fixed_layout s) held row.inode b h shown.holds (held_page b at)
 
-    at_place : (k : ℕ) → k < length row.pages.items → slice_get h.pages k ≡ Some (get_or row.pages.items k 0)
-    at_place k inside = ap (λ (ps : List ℕ). slice_get ps k) (sym told.pages) ∙ slice_get-get_or row.pages.items k 0 inside
+  at_place : (k : ℕ) → k < length row.pages.items → slice_get h.pages k ≡ Some (get_or row.pages.items k 0)
+  at_place k inside = ap (λ (ps : List ℕ). slice_get ps k) (sym told.pages) ∙ slice_get-get_or row.pages.items k 0 inside
 
-    log_once : AllDiffer row.pages.items
-    log_once i j less inside same =
-        let first : slice_get h.pages i ≡ Some (get_or row.pages.items j 0) = at_place i (omega (arith, less, inside)) ∙ ap (λ (b : ℕ). Some b) same in
-        let e : i ≡ j = one_place row.inode i j (undoubled (get_or row.pages.items j 0) (owners.Log row.inode i) (owners.Log row.inode j) (by_log shown.holds first) (by_log shown.holds (at_place j inside))) in
-        omega (arith, less, e)
+  log_once : AllDiffer row.pages.items
+  log_once i j less inside same =
+      let first : slice_get h.pages i ≡ Some (get_or row.pages.items j 0) = at_place i (omega (arith, less, inside)) ∙ ap (λ (b : ℕ). Some b) same in
+      let e : i ≡ j = one_place row.inode i j (undoubled (get_or row.pages.items j 0) (owners.Log row.inode i) (owners.Log row.inode j) (by_log shown.holds first) (by_log shown.holds (at_place j inside))) in
+      omega (arith, less, e)
 
-    pub row_owns : OwnsBlocks free row
-    row_owns = record {
-      log = record {
-        in_data = λ b at. subst (λ (t : Super). (system_blocks t ≤ b) × (b < t.blocks)) (sym lists) (data_blocks.behind b (held_page b at), data_blocks.within b (held_page b at));
-        used = λ b cpu at there. (
-            let keeps = m.keeps in
-            let kept = keeps.in_lists in
-            let within : cpu < s.cpus = (let place = free_within free.pools cpu b there in let n = kept.pools in omega (arith, place, n)) in
-            let is_free = ((kept.each cpu within).each there.0 b there.1 there.2 there.3).1 in
-            let o = owner b at in
-            is_free.unowned (owners.Log row.inode o.0) o.1);
-        once = log_once;
-      };
-      maps = own_row {free = free} m lists row c;
-      apart = λ p b mapped at. (
+  pub row_owns : OwnsBlocks free row
+  row_owns = record {
+    log = record {
+      in_data = λ b at. subst (λ (t : Super). (system_blocks t ≤ b) × (b < t.blocks)) (sym lists) (data_blocks.behind b (held_page b at), data_blocks.within b (held_page b at));
+      used = λ b cpu at there. (
+          let keeps = m.keeps in
+          let kept = keeps.in_lists in
+          let within : cpu < s.cpus = (let place = free_within free.pools cpu b there in let n = kept.pools in omega (arith, place, n)) in
+          let is_free = ((kept.each cpu within).each there.0 b there.1 there.2 there.3).1 in
           let o = owner b at in
-          log_no_data row.inode o.0 row.inode p (undoubled b (owners.Log row.inode o.0) (owners.Data row.inode p) o.1 (by_page shown.holds (sym (told.index p) ∙ mapped))));
-      below = λ p b mapped. (
-          let numbers = told.numbers in
-          let low = page_below s h.kind h.entries p b (sym (told.index p) ∙ mapped) in
-          subst (λ (n : ℕ). p * 4096 < n) (sym numbers.size) low);
-    }
+          is_free.unowned (owners.Log row.inode o.0) o.1);
+      once = log_once;
+    };
+    maps = own_row {free = free} m lists row c;
+    apart = λ p b mapped at. (
+        let o = owner b at in
+        log_no_data row.inode o.0 row.inode p (undoubled b (owners.Log row.inode o.0) (owners.Data row.inode p) o.1 (by_page shown.holds (sym (told.index p) ∙ mapped))));
+    below = λ p b mapped. (
+        let numbers = told.numbers in
+        let low = page_below s h.kind h.entries p b (sym (told.index p) ∙ mapped) in
+        subst (λ (n : ℕ). p * 4096 < n) (sym numbers.size) low);
+  }
 
 module _ {R : Region} {s : Super} {rows : List Row} {free : FreeLists} {faults : List Fault} {read_only stopped : Bool} (kept : IsKept R s rows free faults read_only stopped) (runs : stopped ≡ false) (writes : read_only ≡ false) (row : Row) (c : Contains rows row) where
   -- What is known of a row that is kept.

@@ -1,12 +1,11 @@
 -- What `rmdir`, and `unlink` of the last name, answer, and what they leave.
-use Rattle.std.proofs.Common.{◌≡◌, ◌≢◌, ℕ, ◌%◌, ◌<◌, ◌≤◌, ◌⊎◌, inl, inr, Bool, false, List, [], ◌∷◌, slice_get, ap, sym, ◌∙◌, subst, Option, Some, None, Result, Ok}
+use Rattle.std.proofs.Common.{◌≡◌, ◌≢◌, ℕ, ◌%◌, ◌<◌, inl, inr, Bool, false, List, [], ◌∷◌, slice_get, ap, sym, ◌∙◌, subst, Option, Some, None, Result, Ok}
 use Rattle.std.specs.Option.{option_map}
 use Rattle.nv_region.specs.Region.{Region}
 use Rattle.nv_super.specs.declared.superblock.Super.{Super}
 use Rattle.nv_super.specs.declared.faults.Fault.{Fault}
 use Rattle.nv_super.specs.declared.kind.Kind.TheVariants.{File, Directory}
 use Rattle.nv_alloc.specs.FreeValue.{FreeLists}
-use Rattle.nv_alloc.specs.Taking.{all_blocks}
 use Rattle.nv_entry.specs.declared.entry.Operation.TheVariants.{Add, Remove}
 use Rattle.nv_logpage.specs.Append.{needed}
 use Rattle.nv_names.specs.Names.{name_at}
@@ -16,7 +15,6 @@ use Rattle.nv_held.specs.nv_named.Step.{IsGoodName}
 use Rattle.nv_held.specs.Held.{Held, Store}
 use Rattle.nv_held.specs.Mounted.{ShowsSound}
 use Rattle.nv_tree.specs.declared.refusal.Refusal.{Refusal}
-use Rattle.nv_tree.specs.declared.refusal.Refusal.TheVariants.{Memory, Stopped}
 use Rattle.nv_tree.specs.Path.{IsPath, IsPathName, Says, last_name}
 use Rattle.nv_tree.specs.Tree.{Node, SameTree, Tree, walk}
 use Rattle.nv_tree.specs.Calls.{removed}
@@ -28,7 +26,6 @@ use Rattle.nv_calls.specs.NamedAt.{IsNamedAt, rmdir_spot_tests}
 use Rattle.nv_calls.specs.NewNames.{CanName}
 use Rattle.nv_calls.specs.RemoveCalls.{ShowsRemoved}
 use Rattle.nv_calls.specs.Seen.{LeadsTo, tree_of}
-use Rattle.nv_calls.specs.Steps.{RefusesStep}
 use Rattle.nv_calls.specs.World.{world_of}
 use Rattle.nv_calls.proofs.CreateTests.{good_name}
 use Rattle.nv_calls.proofs.Kept.{rows_rise}
@@ -39,7 +36,6 @@ use Rattle.nv_calls.proofs.RemovedRows.{bytes_kept, kept_then, numbers_differ, w
 use Rattle.nv_calls.proofs.RemovedTree.{lost_node, removed_by, removed_tree, tree_less}
 use Rattle.nv_calls.proofs.RemoveTests.{rmdir_allows}
 use Rattle.nv_calls.proofs.RowOf.{row_at}
-use Rattle.nv_calls.proofs.Tests.{enough_space, too_few}
 
 module _ {R S : Region} {s : Super} {rows news : List Row} {free after : FreeLists} {faults : List Fault} {read_only stopped : Bool} (kept : IsKept R s rows free faults read_only stopped) (runs : stopped ≡ false) (writes : read_only ≡ false)
     {place target : ℕ} {name : List ℕ} {time : ℕ} (step : RemovesAt R S s free after rows news place target name time) (spelled : IsPathName name) (can_go : CanGo step.gone) (names : List (List ℕ)) (spot : IsNamedAt (tree_of R rows) rows names place name target) where
@@ -107,16 +103,6 @@ can_cut {R} {s} {rows} {free} {faults} {read_only} {stopped} kept runs writes cp
 )
 
 -- ---- why it is refused
-
--- A call whose last test is for space isn't refused where there are enough blocks, and where its step was, so is the call.
-module _ {P : Type 0} {n m : Mount P} (same : n ≡ m) (tests : Mount P → Option Refusal) (count : ℕ) (at_last : tests n ≡ first_refusal (has_no_space (world_of n) count ∷ [])) where
-  pub space_allows : count ≤ all_blocks n.free.pools → tests m ≡ None
-  space_allows enough = subst (λ (k : Mount P). tests k ≡ None) same (at_last ∙ enough_space (world_of n) count enough)
-
-  pub space_refuses : (e : Refusal) → RefusesStep e count n.free → (e ≡ Memory) ⊎ ((e ≡ Stopped) ⊎ (tests m ≡ Some e))
-  space_refuses e (inl memory) = inl memory
-  space_refuses e (inr (inl stopped)) = inr (inl stopped)
-  space_refuses e (inr (inr w)) = inr (inr (subst (λ (k : Mount P). tests k ≡ Some e) same (at_last ∙ too_few (world_of n) count w.1 ∙ ap (λ (r : Refusal). Some r) (sym w.0))))
 
 -- what the log of a name's directory needs for its removal, by where it stands
 pub removal_blocks : (rows : List Row) (t : Tree) (row : Row) (names : List (List ℕ)) (j time : ℕ) (name : List ℕ) → walk t 1 names ≡ Ok row.inode → row_of rows row.inode ≡ Some row → name ≡ last_name names

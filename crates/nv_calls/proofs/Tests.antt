@@ -1,18 +1,22 @@
 -- The tests of writing calls on one path, by those of `stat` and by what is needed.
-use Rattle.std.proofs.Common.{◌≡◌, ℕ, ◌%◌, ◌<◌, ◌≤◌, nat_lt, Bool, true, false, cond, List, [], ◌∷◌, ◌++◌, append_assoc, refl, ap, sym, ◌∙◌, arith, Option, Some, None, Result, Ok, Err, IfErr, IsTrue, is_none, not}
+use Rattle.std.proofs.Common.{◌≡◌, ◌⊎◌, inl, inr, ℕ, ◌%◌, ◌<◌, ◌≤◌, nat_lt, Bool, true, false, cond, List, [], ◌∷◌, ◌++◌, append_assoc, refl, ap, sym, ◌∙◌, subst, arith, Option, Some, None, Result, Ok, Err, IfErr, IsTrue, is_none, not}
 use Rattle.std.specs.Option.{option_and_then, option_map_or}
 use Rattle.std.proofs.lemmas.Bool.Decides.{nat_tests}
+use Rattle.nv_alloc.specs.Taking.{all_blocks}
 use Rattle.nv_entry.specs.declared.entry.Entry.{Entry}
 use Rattle.nv_logpage.specs.Append.{needed}
 use Rattle.nv_scan.specs.declared.piece.Row.{Row}
 use Rattle.nv_held.specs.nv_named.Read.{row_of}
 use Rattle.nv_tree.specs.declared.refusal.Refusal.{Refusal}
-use Rattle.nv_tree.specs.declared.refusal.Refusal.TheVariants.{BadCpu, NoSpace, NotDirectory, NotFound, ReadOnly, Stopped}
+use Rattle.nv_tree.specs.declared.refusal.Refusal.TheVariants.{BadCpu, Memory, NoSpace, NotDirectory, NotFound, ReadOnly, Stopped}
 use Rattle.nv_tree.specs.Path.{IsPath, Says}
 use Rattle.nv_tree.specs.Tree.{Node, Tree, and_then, as_directory, found, is_directory, name_in, or_not_found, walk}
 use Rattle.nv_tree.specs.Refusals.{Path, Tests, World, first_refusal, has_no_space, is_bad, is_missing, refused_walk, stat_tests, walk_tests, writing}
 use Rattle.nv_calls.specs.Grown.{log_blocks}
+use Rattle.nv_calls.specs.Mount.{Mount}
 use Rattle.nv_calls.specs.Seen.{LeadsTo}
+use Rattle.nv_calls.specs.Steps.{RefusesStep}
+use Rattle.nv_calls.specs.World.{world_of}
 
 -- ---- tests behind others
 
@@ -111,3 +115,15 @@ early_reply b r e x is same off runs = (
   (λ on. absurd (let clash : true ≡ false = sym on ∙ runs in cc)),
   (λ stops. absurd (off (let both : Err x ≡ Err Stopped = sym is ∙ stops in let one : x ≡ Stopped = cc in sym same ∙ one))),
 )
+
+-- ---- space
+
+-- A call whose last test is for space isn't refused where there are enough blocks, and where its step was, so is the call.
+module _ {P : Type 0} {n m : Mount P} (same : n ≡ m) (tests : Mount P → Option Refusal) (count : ℕ) (at_last : tests n ≡ first_refusal (has_no_space (world_of n) count ∷ [])) where
+  pub space_allows : count ≤ all_blocks n.free.pools → tests m ≡ None
+  space_allows enough = subst (λ (k : Mount P). tests k ≡ None) same (at_last ∙ enough_space (world_of n) count enough)
+
+  pub space_refuses : (e : Refusal) → RefusesStep e count n.free → (e ≡ Memory) ⊎ ((e ≡ Stopped) ⊎ (tests m ≡ Some e))
+  space_refuses e (inl memory) = inl memory
+  space_refuses e (inr (inl stopped)) = inr (inl stopped)
+  space_refuses e (inr (inr w)) = inr (inr (subst (λ (k : Mount P). tests k ≡ Some e) same (at_last ∙ too_few (world_of n) count w.1 ∙ ap (λ (r : Refusal). Some r) (sym w.0))))

@@ -1,8 +1,7 @@
 -- The tree once a file has a name less: the tree machine's.
-use Rattle.std.proofs.Common.{◌≡◌, ◌≢◌, ℕ, ◌-◌, ◌<◌, ◌≤◌, nat_le, inl, inr, Bool, true, false, cond, List, ap, sym, ◌∙◌, subst, arith, Option, Some, None, Result, Ok}
+use Rattle.std.proofs.Common.{◌≡◌, ◌≢◌, ℕ, ◌-◌, ◌<◌, ◌≤◌, nat_le, inl, inr, Bool, cond, List, ap, sym, ◌∙◌, subst, Option, Some, None, Result, Ok}
 use Rattle.std.specs.Option.{option_map}
-use Rattle.std.proofs.lemmas.Bool.{cases_eq}
-use Rattle.std.proofs.lemmas.Bool.Decides.{nat_tests}
+use Rattle.std.proofs.lemmas.Bool.{cases_eq, le-leb, lt-leb}
 use Rattle.nv_tree.specs.declared.refusal.Refusal.{Refusal}
 use Rattle.nv_tree.specs.Path.{last_name}
 use Rattle.nv_tree.specs.Tree.{Node, SameNodes, SameTree, Tree, found, walk}
@@ -23,12 +22,6 @@ edits_swap t d i change other differ k = elim (cases_eq k d) [
 pub swapped : (u t : Tree) (d i : ℕ) (change other : Node → Node) → d ≢ i → SameTree u (edit i other (edit d change t)) → SameTree u (edit d change (edit i other t))
 swapped u t d i change other differ same k = subst (λ (o : Option Node). SameNodes (u k) o) (edits_swap t d i change other differ k) (same k)
 
-at_most_one : (n : ℕ) → n ≤ 1 → nat_le n 1 ≡ true
-at_most_one n few = grind (arith, nat_tests)
-
-above_one : (n : ℕ) → 1 < n → nat_le n 1 ≡ false
-above_one n some = grind (arith, nat_tests)
-
 -- What `unlink` makes of a tree, by the directory and the file.
 unlinked_by : (names : List (List ℕ)) (time : ℕ) (t : Tree) (i d : ℕ) (name : List ℕ) → found t names ≡ Some i → walk t 1 names ≡ Ok d → name ≡ last_name names → unlinked names time t ≡ edit d (without_name name time) (released i time t)
 unlinked_by names time t i d name leads walked is =
@@ -40,10 +33,10 @@ module _ (names : List (List ℕ)) (time : ℕ) (t : Tree) (i d : ℕ) (name : L
   pub unlinked_more : 1 < n → unlinked names time t ≡ edit d (without_name name time) (edit i (with_links (n - 1) time) t)
   unlinked_more some =
       unlinked_by names time t i d name leads walked is
-      ∙ ap (λ (b : Bool). edit d (without_name name time) (cond b (put_node i None t) (edit i (with_links (links_at t i - 1) time) t))) (ap (λ (m : ℕ). nat_le m 1) count ∙ above_one n some)
+      ∙ ap (λ (b : Bool). edit d (without_name name time) (cond b (put_node i None t) (edit i (with_links (links_at t i - 1) time) t))) (ap (λ (m : ℕ). nat_le m 1) count ∙ lt-leb n 1 some)
       ∙ ap (λ (m : ℕ). edit d (without_name name time) (edit i (with_links (m - 1) time) t)) count
 
   pub unlinked_last : n ≤ 1 → unlinked names time t ≡ edit d (without_name name time) (put_node i None t)
   unlinked_last few =
       unlinked_by names time t i d name leads walked is
-      ∙ ap (λ (b : Bool). edit d (without_name name time) (cond b (put_node i None t) (edit i (with_links (links_at t i - 1) time) t))) (ap (λ (m : ℕ). nat_le m 1) count ∙ at_most_one n few)
+      ∙ ap (λ (b : Bool). edit d (without_name name time) (cond b (put_node i None t) (edit i (with_links (links_at t i - 1) time) t))) (ap (λ (m : ℕ). nat_le m 1) count ∙ le-leb n 1 few)

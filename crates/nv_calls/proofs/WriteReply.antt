@@ -1,5 +1,5 @@
 -- What `write` answers, and what it leaves.
-use Rattle.std.proofs.Common.{◌≡◌, ℕ, ◌+◌, ◌/◌, ◌<◌, ◌≤◌, ◌⊎◌, inl, inr, min, Bool, true, false, nat_lt, List, [], ◌∷◌, ◌++◌, append_assoc, length, refl, ap, sym, ◌∙◌, subst, arith, Option, Some, None, slice_get}
+use Rattle.std.proofs.Common.{◌≡◌, ℕ, ◌+◌, ◌/◌, ◌<◌, ◌≤◌, ◌⊎◌, inl, inr, min, Bool, true, false, nat_lt, List, [], ◌∷◌, ◌++◌, append_assoc, length, ap, sym, ◌∙◌, subst, arith, Option, Some, None, slice_get}
 use Rattle.std.specs.List.{Contains}
 use Rattle.std.specs.Option.{option_and_then, option_map}
 use Rattle.std.proofs.Math.Logic.{∥∥₁_elim, ∥∥₁_map}
@@ -26,9 +26,10 @@ use Rattle.nv_held.specs.Mounted.{ShowsSound}
 use Rattle.nv_tree.specs.declared.refusal.Refusal.{Refusal}
 use Rattle.nv_tree.specs.declared.refusal.Refusal.TheVariants.{Memory, Stopped}
 use Rattle.nv_tree.specs.Path.{IsPath, Says}
-use Rattle.nv_tree.specs.Tree.{Node, SameNode, SameNodes, SameTree, Tree, found}
+use Rattle.nv_tree.specs.Tree.{Node, SameNode, SameTree, Tree, found}
 use Rattle.nv_tree.specs.Calls.{edit, on_some, with_bytes, written}
 use Rattle.nv_tree.specs.Refusals.{Path, Tests, first_refusal, has_no_space, is_bad, is_dir, is_missing, is_too_large, stat_tests, target, walk_tests, write_tests, writing}
+use Rattle.nv_tree.proofs.Same.{same_itself}
 use Rattle.nv_calls.specs.Grown.{LogGrew}
 use Rattle.nv_calls.specs.Mount.{IsKept, Mount}
 use Rattle.nv_calls.specs.Seen.{LeadsTo, node_of, tree_of}
@@ -107,16 +108,9 @@ module _ {P : Type 0} (region : P → Region) {n m : Mount P} (same : n ≡ m) (
 
 -- ---- what it leaves
 
-same_node : (node : Node) → SameNode node node
-same_node node = record { kind = refl; mode = refl; owner = refl; group = refl; size = refl; links = refl; time = refl; count = refl; names = λ q. refl; bytes = λ x below. refl }
-
-same_nodes : (o : Option Node) → SameNodes o o
-same_nodes None = tt
-same_nodes (Some node) = same_node node
-
 -- no bytes change nothing
 pub none_written : (names : List (List ℕ)) (offset : ℕ) (new : List ℕ) (time : ℕ) (t : Tree) → length new ≡ 0 → SameTree t (written names offset new time t)
-none_written names offset [] time t none = λ i. same_nodes (t i)
+none_written names offset [] time t none = same_itself t
 none_written names offset (b ∷ new) time t none = absurd (omega (arith, none))
 
 -- The tree with the file changed is what the call makes of it.

@@ -1,6 +1,6 @@
 -- The bytes of a file once it was written.
 use Rattle.std.proofs.Common.{◌≡◌, ℕ, ◌+◌, ◌-◌, ◌*◌, ◌/◌, ◌%◌, ◌<◌, ◌≤◌, inl, inr, max, Bool, true, false, cond, nat_eq, nat_le, nat_lt, not, is_some, ◌&&◌, List, length, slice_index, refl, ap, sym, ◌∙◌, arith, Option, Some, None}
-use Rattle.std.proofs.lemmas.Bool.{cases_lt}
+use Rattle.std.proofs.lemmas.Bool.{cases_lt, le-ltb, lt-leb, lt-ltb}
 use Rattle.std.proofs.lemmas.Bool.Decides.{nat_tests}
 use Rattle.nv_region.specs.Region.{Region}
 use Rattle.nv_radix.specs.Pages.{Pages, block_at}
@@ -13,15 +13,12 @@ ends_there : (mapped : ℕ → Option ℕ) (size offset p b : ℕ) → mapped p 
 ends_there mapped size offset p b at low high before =
     let page : size / 4096 ≡ p = omega (arith, low, high) in
     let part : not (nat_eq (size % 4096) 0) ≡ true = not_whole (size % 4096) (omega (arith, low, high)) in
-    let less : nat_lt (size / 4096) (offset / 4096) ≡ true = is_less (size / 4096) (offset / 4096) (omega (arith, page, before)) in
+    let less : nat_lt (size / 4096) (offset / 4096) ≡ true = lt-ltb (size / 4096) (offset / 4096) (omega (arith, page, before)) in
     let there : is_some (mapped (size / 4096)) ≡ true = ap is_some (ap mapped page ∙ at) in
     all (not (nat_eq (size % 4096) 0)) (nat_lt (size / 4096) (offset / 4096)) (is_some (mapped (size / 4096))) part less there ∙ ap (λ (n : ℕ). Some n) page
   where
     not_whole : (n : ℕ) → 0 < n → not (nat_eq n 0) ≡ true
     not_whole n some = grind (arith, nat_tests)
-
-    is_less : (a c : ℕ) → a < c → nat_lt a c ≡ true
-    is_less a c less = grind (arith, nat_tests)
 
     all : (a c d : Bool) → a ≡ true → c ≡ true → d ≡ true → cond (a && c && d) (Some (size / 4096)) None ≡ Some (size / 4096)
     all true true true e f g = refl
@@ -34,26 +31,17 @@ pub unwritten_byte : (R : Region) (m : Pages) (size offset time x : ℕ) (new : 
     → (IsWritten (plan_of (block_at m) size offset (length new) time) (x / 4096) → ⊥) → byte_after offset new size (file_byte R m) x ≡ file_byte R m x
 unwritten_byte R m size offset time x new some below inside away = elim (cases_lt x offset) [
   | inl before ↦ elim (cases_lt x size) [
-    | inl low ↦ by_tests (nat_le offset x) (nat_lt x (offset + length new)) (nat_lt x size) (is_above offset x before) (is_below x size low)
-    | inr past ↦ past_size (nat_le offset x) (nat_lt x (offset + length new)) (nat_lt x size) (is_above offset x before) (is_past x size past) before past
+    | inl low ↦ by_tests (nat_le offset x) (nat_lt x (offset + length new)) (nat_lt x size) (lt-leb offset x before) (lt-ltb x size low)
+    | inr past ↦ past_size (nat_le offset x) (nat_lt x (offset + length new)) (nat_lt x size) (lt-leb offset x before) (le-ltb x size past) before past
   ]
   | inr from ↦ elim (cases_lt x (offset + length new)) [
     | inl within ↦ absurd (away (inr (omega (arith, from), omega (arith, from, within))))
     | inr behind ↦ elim (cases_lt x size) [
-      | inl low ↦ behind_tests (nat_le offset x) (nat_lt x (offset + length new)) (nat_lt x size) (is_past x (offset + length new) behind) (is_below x size low)
+      | inl low ↦ behind_tests (nat_le offset x) (nat_lt x (offset + length new)) (nat_lt x size) (le-ltb x (offset + length new) behind) (lt-ltb x size low)
       | inr past ↦ absurd (omega (arith, inside, behind, past))
     ]
   ]
 ] where
-  is_below : (a c : ℕ) → a < c → nat_lt a c ≡ true
-  is_below a c less = grind (arith, nat_tests)
-
-  is_past : (a c : ℕ) → c ≤ a → nat_lt a c ≡ false
-  is_past a c less = grind (arith, nat_tests)
-
-  is_above : (a c : ℕ) → c < a → nat_le a c ≡ false
-  is_above a c less = grind (arith, nat_tests)
-
   by_tests : (a b c : Bool) → a ≡ false → c ≡ true → cond (a && b) (slice_index new (x - offset)) (cond c (file_byte R m x) 0) ≡ file_byte R m x
   by_tests false b true e f = refl
   by_tests false b false e f = absurd (cc)

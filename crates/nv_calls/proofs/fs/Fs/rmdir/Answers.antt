@@ -27,12 +27,13 @@ use Rattle.nv_calls.proofs.Kept.{rows_rise}
 use Rattle.nv_calls.proofs.Listed.{refused_by}
 use Rattle.nv_calls.proofs.OneRow.{stands, stands_right}
 use Rattle.nv_calls.proofs.OwnedRow.{owns_blocks}
-use Rattle.nv_calls.proofs.RemoveCall.{can_cut, removed_kept, removed_log, rmdir_last, rmdir_refusal, rmdir_tree, space_allows, space_refuses}
+use Rattle.nv_calls.proofs.RemoveCall.{can_cut, removed_kept, removed_log, rmdir_last, rmdir_refusal, rmdir_tree}
 use Rattle.nv_calls.proofs.RemoveTests.{rmdir_goes_on, rmdir_refuses}
 use Rattle.nv_calls.proofs.RowChange.{same_mount}
 use Rattle.nv_calls.proofs.RowOf.{row_at}
 use Rattle.nv_calls.proofs.SetAttr.{late_reply, not_stop}
 use Rattle.nv_calls.proofs.Tests.{early_reply, if_err, writing_goes_on}
+use Rattle.nv_calls.proofs.Tests.{space_allows, space_refuses}
 use Rattle.nv_calls.proofs.fs.Fs.rmdir.Goals as goal
 
 pub returns-in_err-writable-clause-refused : goal.returns-in_err-writable-clause-refused

@@ -28,8 +28,8 @@ use Rattle.nv_calls.proofs.OneRow.{stands}
 use Rattle.nv_calls.proofs.OwnedRow.{owns_blocks}
 use Rattle.nv_calls.proofs.LinkedHeld.{kinds_apart, kinds_differ}
 use Rattle.nv_calls.proofs.NewNumbers.{can_name}
-use Rattle.nv_calls.proofs.RemoveCall.{space_allows, space_refuses}
 use Rattle.nv_calls.proofs.RowNumbers.{row_commits, row_number}
+use Rattle.nv_calls.proofs.Tests.{space_allows, space_refuses}
 use Rattle.nv_calls.proofs.UnlinkCall.{unlink_kept, unlink_last, unlink_last_test, unlink_logs, unlink_refusal, unlink_tree}
 use Rattle.nv_calls.proofs.RemoveTests.{unlink_goes_on, unlink_refuses}
 use Rattle.nv_calls.proofs.RowChange.{same_mount}
