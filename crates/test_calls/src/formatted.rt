@@ -1,11 +1,9 @@
 //! Formatted regions, mounted.
 
 use crate::mounted::mount;
-use crate::reading::{refusals, stat};
-use nv_calls::{Fs, Stat, format};
+use crate::story::follow;
+use nv_calls::{Fs, format};
 use nv_region::MemRegion;
-use nv_super::Kind;
-use nv_tree::Refusal;
 use std::alloc::Global;
 use std::test::Fail;
 
@@ -16,24 +14,25 @@ pub fn formatted(alloc: Global, blocks: u64, cpus: u64) -> Result<Fs<MemRegion>,
     Ok(mount(alloc, memory)?)
 }
 
-const ROOT: Stat = Stat {
-    inode: 1,
-    kind: Kind::Directory,
-    mode: 493,
-    owner: 0,
-    group: 0,
-    size: 0,
-    links: 1,
-    time: 1000,
-};
+const ROOT: &str = "
+    1            inodes
+    1            inode   - /
+    2            kind    - /
+    493          mode    - /
+    0            owner   - /
+    0            group   - /
+    0            length  - /
+    1            links   - /
+    1000         time    - /
+    0            names   - /
+    IsDirectory  read    - / 0 1
+    NotFound     inode   - /a
+    NotFound     names   - /a
+    NotFound     read    - /a 0 1";
 
 #[test]
 fn there_is_the_root_alone(rt: HostRuntime) -> Result<(), Fail> {
-    for &(blocks, cpus) in [(39, 7), (31, 2), (8, 2)].iter() {
-        let fs = formatted(rt.alloc(), blocks, cpus)?;
-        assert!(rt; stat(&fs, b"/") == Ok(ROOT));
-        assert!(rt; refusals(&fs, b"/") == [None, None, Some(Refusal::IsDirectory)]);
-        assert!(rt; refusals(&fs, b"/a") == [Some(Refusal::NotFound); 3]);
-    }
-    Ok(())
+    follow(&rt, rt.alloc(), 39, 7, ROOT)?;
+    follow(&rt, rt.alloc(), 31, 2, ROOT)?;
+    follow(&rt, rt.alloc(), 8, 2, ROOT)
 }

@@ -3,13 +3,23 @@
 #![tactic(auto)]
 
 #[cfg(test)]
-mod create;
+mod asking;
+#[cfg(test)]
+mod files;
 #[cfg(test)]
 mod formatted;
 #[cfg(test)]
+mod full;
+#[cfg(test)]
+mod limits;
+#[cfg(test)]
+mod lines;
+#[cfg(test)]
+mod looking;
+#[cfg(test)]
 mod mounted;
 #[cfg(test)]
-mod parts;
+mod names;
 #[cfg(test)]
 mod read_only;
 #[cfg(test)]
@@ -17,14 +27,10 @@ mod reading;
 #[cfg(test)]
 mod recovered;
 #[cfg(test)]
+mod refused;
+#[cfg(test)]
 mod regions;
-#[cfg(test)]
-mod removal;
-#[cfg(test)]
-mod set_attr;
-#[cfg(test)]
-mod set_size;
 #[cfg(test)]
 mod stops;
 #[cfg(test)]
-mod write;
+mod story;

@@ -39,15 +39,3 @@ pub fn two_pages_but(alloc: Global, words: &[Word]) -> Result<Fs<MemRegion>, Fai
     store_words(&mut memory, words);
     Ok(mount(alloc, memory)?)
 }
-
-/// A file of two pages, mounted.
-pub fn two_pages(alloc: Global) -> Result<Fs<MemRegion>, Fail> {
-    two_pages_but(alloc, &[])
-}
-
-/// An empty file, mounted.
-pub fn empty_file(alloc: Global) -> Result<Fs<MemRegion>, Fail> {
-    let mut memory = MemRegion::new(alloc, 16)?;
-    store_words(&mut memory, &EMPTY_FILE);
-    Ok(mount(alloc, memory)?)
-}

@@ -1,12 +1,9 @@
 //! A region with faults is mounted, and what is there can be read, but no call writes.
 
 use crate::mounted::two_pages_but;
-use crate::reading::refusals;
-use crate::recovered::assert_recovered;
 use crate::regions::DANGLING;
-use crate::set_attr::set_attr;
+use crate::story::follow_on;
 use nv_super::Fault;
-use nv_tree::Refusal;
 use std::test::Fail;
 
 /// The name stands for inode 3, which isn't in use, and inode 2 has none.
@@ -19,14 +16,28 @@ const FAULTS: [Fault; 3] = [
     Fault::C4 { inode: 2 },
 ];
 
+const READ_ONLY: &str = "
+    1           inode   - /
+    1           names   - /
+    IsDirectory read    - / 0 1
+    NotFound    inode   - /a
+    NotFound    names   - /a
+    NotFound    read    - /a 0 1
+    BadCpu      attr    1 a
+    ReadOnly    attr    0 a
+    ReadOnly    attr    0 /
+    ReadOnly    size    0 a 1
+    ReadOnly    write   0 a 0 0 65
+    ReadOnly    create  0 a
+    ReadOnly    mkdir   0 a
+    ReadOnly    link    0 a b
+    ReadOnly    unlink  0 a
+    ReadOnly    rmdir   0 a
+    ReadOnly    rename  0 a b";
+
 #[test]
 fn what_is_there_is_read_and_not_changed(rt: HostRuntime) -> Result<(), Fail> {
     let mut fs = two_pages_but(rt.alloc(), &DANGLING)?;
     assert!(rt; fs.faults() == FAULTS.as_slice());
-    assert!(rt; refusals(&fs, b"/") == [None, None, Some(Refusal::IsDirectory)]);
-    assert!(rt; refusals(&fs, b"/a") == [Some(Refusal::NotFound); 3]);
-    assert!(rt; set_attr(&mut fs, 1, b"a", 0) == Err(Refusal::BadCpu));
-    assert!(rt; set_attr(&mut fs, 0, b"a", 0) == Err(Refusal::ReadOnly));
-    assert!(rt; set_attr(&mut fs, 0, b"/", 0) == Err(Refusal::ReadOnly));
-    assert_recovered(&rt, rt.alloc(), &fs)
+    follow_on(&rt, rt.alloc(), &mut fs, READ_ONLY)
 }

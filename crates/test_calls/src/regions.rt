@@ -15,10 +15,8 @@ const FILE_MODE: u64 = 420 * 4294967296 + 32 * 65536 + 2;
 /// The first word of an add of a name of one byte.
 const ADD: u64 = 4294967296 + 32 * 65536 + 256 + 3;
 
-/// The first words of writes of two pages, and of nine.
+/// The first word of a write of two pages.
 const WRITE_TWO: u64 = 2 * 4294967296 + 40 * 65536 + 1;
-
-const WRITE_NINE: u64 = 9 * 4294967296 + 40 * 65536 + 1;
 
 /// The bytes `ABCDEFGH`, `QRSTUVWX` and `abcdefgh` as words.
 const FIRST_EIGHT: u64 = 0x4847_4645_4443_4241;
@@ -68,16 +66,6 @@ pub const TWO_PAGES: [Word; 15] = [
     (24568, LAST_EIGHT),
     (24576, NEXT_EIGHT),
     (24584, FIRST_EIGHT),
-];
-
-/// What it has more once each other block is one of its pages, from page 3 on.
-pub const ALL_PAGES: [Word; 6] = [
-    (8472, 16496),
-    (16456, WRITE_NINE),
-    (16464, 3),
-    (16472, 7),
-    (16480, 49152),
-    (16488, 9),
 ];
 
 /// The name stands for an inode that isn't in use.

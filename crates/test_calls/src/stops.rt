@@ -1,55 +1,58 @@
 //! Calls on a memory that stops. What a stop leaves shows what was there before the call or what it makes.
 
-use crate::mounted::{mount, two_pages};
-use crate::reading::{refusals, stat};
+use crate::mounted::{mount, two_pages_but};
 use crate::recovered::assert_recovered;
-use crate::set_attr::set_attr;
+use crate::story::follow_on;
 use nv_calls::Fs;
 use nv_region::{Fuse, Keep, MemRegion};
-use nv_tree::Refusal;
 use std::alloc::Global;
 use std::process::Abort;
 use std::test::Fail;
 
 /// A mounted file whose memory stops after so many stores and fences.
 fn stopping(alloc: Global, passed: u64) -> Result<Fs<MemRegion>, Fail> {
-    let mut fs = two_pages(alloc)?;
+    let mut fs = two_pages_but(alloc, &[])?;
     fs.set_fuse(Fuse::After(passed));
     Ok(fs)
 }
 
+const STOPPED: &str = "
+    Stopped     attr    0 /a
+    Stopped     attr    1 a
+    Stopped     size    1 a
+    Stopped     write   1 a
+    Stopped     create  1 a
+    Stopped     mkdir   1 a
+    Stopped     link    1 a
+    Stopped     unlink  1 a
+    Stopped     rmdir   1 a
+    Stopped     rename  1 a
+    Stopped     inode   - a
+    Stopped     names   - a
+    Stopped     read    - a";
+
 #[test]
 fn after_a_stop_each_call_is_refused(rt: HostRuntime) -> Result<(), Fail> {
     let mut fs = stopping(rt.alloc(), 0)?;
-    assert!(rt; set_attr(&mut fs, 0, b"/a", 1) == Err(Refusal::Stopped));
+    follow_on(&rt, rt.alloc(), &mut fs, STOPPED)?;
     fs.set_fuse(Fuse::Off);
-    assert!(rt; refusals(&fs, b"a") == [Some(Refusal::Stopped); 3]);
-    assert!(rt; set_attr(&mut fs, 1, b"a", 1) == Err(Refusal::Stopped));
-    Ok(())
+    follow_on(&rt, rt.alloc(), &mut fs, STOPPED)
 }
 
-/// What a stop leaves of the region.
-fn stopped(fs: Fs<MemRegion>, keep: Keep) -> MemRegion {
-    fs.into_region().after_stop(keep)
-}
-
-/// The time that the file shows in what a stop leaves.
-fn time_left(rt: &impl Abort, alloc: Global, fs: Fs<MemRegion>, keep: Keep) -> Result<u64, Fail> {
-    let left = mount(alloc, stopped(fs, keep))?;
-    assert_recovered(rt, alloc, &left)?;
-    Ok(stat(&left, b"/a")?.time)
+/// What a stop leaves of the region, mounted.
+fn after_stop(alloc: Global, fs: Fs<MemRegion>, keep: Keep) -> Result<Fs<MemRegion>, Fail> {
+    Ok(mount(alloc, fs.into_region().after_stop(keep))?)
 }
 
 /// Sets the time of the file to 12, where it was 9, in a memory that stops. Whether it was set.
 fn set_and_stop(rt: &impl Abort, alloc: Global, passed: u64, keep: Keep) -> Result<bool, Fail> {
     let mut fs = stopping(alloc, passed)?;
-    let answer = set_attr(&mut fs, 0, b"/a", 12);
-    let time = time_left(rt, alloc, fs, keep)?;
-    match answer {
-        Ok(()) => assert!(rt; time == 12),
-        Err(_) => assert!(rt; time == 9 || time == 12),
-    }
-    Ok(answer.is_ok())
+    let is_set = fs.set_attr(0, b"/a", 420, 7, 8, 12).is_ok();
+    let left = after_stop(alloc, fs, keep)?;
+    assert_recovered(rt, alloc, &left)?;
+    let time = left.stat(b"/a")?.time;
+    assert!(rt; time == 12 || time == 9 && !is_set);
+    Ok(is_set)
 }
 
 #[test]

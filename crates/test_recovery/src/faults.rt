@@ -72,9 +72,9 @@ fn faults_between_four_rows(rt: HostRuntime) -> Result<(), Fail> {
         Fault::C4 { inode: 4 },
     ];
     let one = cross_faults_one(alloc, &SMALL, &rows)?;
-    assert_eq!(rt; one.as_slice(), &found[..]);
+    assert!(rt; one.as_slice() == &found[..]);
     let threads = cross_faults(&rt, alloc, &SMALL, &rows)?;
-    assert_eq!(rt; threads.as_slice(), &found[..]);
+    assert!(rt; threads.as_slice() == &found[..]);
     Ok(())
 }
 
@@ -85,6 +85,6 @@ fn both_owners_of_a_block_are_told(rt: HostRuntime) -> Result<(), Fail> {
     let other = (6, Owner::Data { inode: 2, page: 0 });
     let second = (5, Owner::Data { inode: 3, page: 1 });
     let found = doubled(rt.alloc(), &[second, other, first], &[32])?;
-    assert_eq!(rt; found.as_slice(), &[first, second][..]);
+    assert!(rt; found.as_slice() == &[first, second][..]);
     Ok(())
 }

@@ -104,7 +104,7 @@ const WORDS: [Word; 10] = [
 
 fn region_of_two(rt: HostRuntime) -> Result<MemRegion, RegionRefusal> {
     let mut memory = MemRegion::new(rt.alloc(), 64)?;
-    for (at, word) in WORDS {
+    for &(at, word) in WORDS.iter() {
         if at % 8 == 0 && memory.len().saturating_sub(at) >= 8 {
             let _unstopped = memory.store(at, word);
         }
@@ -137,7 +137,7 @@ fn two_tickets_at_once(rt: HostRuntime) -> Result<(), Failure> {
         meeting: Meeting::new(),
     };
     let recovered = recover(&rt, rt.alloc(), &mut memory, 2, &gate)?;
-    assert_eq!(rt; recovered.rows.len(), 1);
+    assert!(rt; recovered.rows.len() == 1);
     assert!(rt; gate.meeting.both_met());
     Ok(())
 }
@@ -151,7 +151,7 @@ fn two_inodes_are_read_at_once(rt: HostRuntime) -> Result<(), Failure> {
         },
     };
     let recovered = recover(&rt, rt.alloc(), &mut memory, 2, &NoGate)?;
-    assert_eq!(rt; recovered.faults.len(), 0);
+    assert!(rt; recovered.faults.len() == 0);
     assert!(rt; memory.watch.meeting.both_met());
     Ok(())
 }

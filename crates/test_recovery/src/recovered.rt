@@ -91,7 +91,7 @@ fn root_by_workers<R: Threads + Abort + Sync>(
 
 #[test]
 fn the_root_alone_by_workers(rt: HostRuntime) -> Result<(), Fail> {
-    for workers in [1, 2, 8] {
+    for &workers in [1, 2, 8].iter() {
         root_by_workers(&rt, rt.alloc(), workers)?;
     }
     Ok(())
@@ -194,7 +194,7 @@ fn refusal_on_one_thread(alloc: Global, memory: &mut MemRegion) -> Option<Recove
 fn refusals_in_their_order(rt: HostRuntime) -> Result<(), Fail> {
     let alloc: Global = rt.alloc();
     let mut zeros = MemRegion::new(alloc, 16)?;
-    for workers in [0, 65] {
+    for &workers in [0, 65].iter() {
         let refusal = refusal_by_workers(&rt, alloc, &mut zeros, workers);
         assert!(rt; refusal == Some(RecoverError::Workers));
     }

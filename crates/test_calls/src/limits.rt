@@ -1,0 +1,85 @@
+//! As many names as a page of a log takes, as a file may have, and as there are inodes.
+
+use crate::formatted::formatted;
+use crate::story::follow_on;
+use nv_calls::Fs;
+use nv_region::Pmem;
+use std::alloc::Global;
+use std::test::Fail;
+
+/// Links the file `/n0` by the names of these numbers.
+fn link_each<P: Pmem + Drop>(
+    alloc: Global,
+    fs: &mut Fs<P>,
+    from: u64,
+    to: u64,
+) -> Result<(), Fail> {
+    for number in from..to {
+        let path = format!(in alloc; "/n{number}")?;
+        fs.link(0, b"/n0", path.as_bytes(), 7)?;
+    }
+    Ok(())
+}
+
+/// Makes files with the names of these numbers.
+fn create_each<P: Pmem + Drop>(
+    alloc: Global,
+    fs: &mut Fs<P>,
+    from: u64,
+    to: u64,
+) -> Result<(), Fail> {
+    for number in from..to {
+        let path = format!(in alloc; "/n{number}")?;
+        fs.create(0, path.as_bytes(), 420, 7)?;
+    }
+    Ok(())
+}
+
+/// The root's log ends at the end of its page, and the next name goes on the next.
+const FULL_PAGE: &str = "
+    24544       tail    - /
+    57          free
+    ok          link    0 /n0 /n126
+    28704       tail    - /
+    27632       tail    - /n0
+    127         links   - /n0
+    56          free";
+
+const ALL_LINKS: &str = "
+    1000        links   - /n0
+    1000        names   - /
+    45          free
+    LinkLimit   link    0 /n0 /n1000
+    Exists      link    0 /n0 /n1
+    ok          write   0 /n0 0 184320 65
+    0           free
+    LinkLimit   link    0 /n0 /n1000";
+
+#[test]
+fn a_file_has_a_thousand_links(rt: HostRuntime) -> Result<(), Fail> {
+    let mut fs = formatted(rt.alloc(), 64, 2)?;
+    create_each(rt.alloc(), &mut fs, 0, 1)?;
+    link_each(rt.alloc(), &mut fs, 1, 126)?;
+    follow_on(&rt, rt.alloc(), &mut fs, FULL_PAGE)?;
+    link_each(rt.alloc(), &mut fs, 127, 1000)?;
+    follow_on(&rt, rt.alloc(), &mut fs, ALL_LINKS)
+}
+
+const ALL_INODES: &str = "
+    31          inodes
+    30          free
+    NoInodes    create  0 /x
+    Exists      mkdir   0 /n2
+    ok          write   0 /n2 0 122880 65
+    0           free
+    NoInodes    mkdir   0 /x
+    ok          unlink  0 /n3
+    ok          create  0 /x
+    3           inode   - /x";
+
+#[test]
+fn a_table_is_full(rt: HostRuntime) -> Result<(), Fail> {
+    let mut fs = formatted(rt.alloc(), 64, 1)?;
+    create_each(rt.alloc(), &mut fs, 2, 32)?;
+    follow_on(&rt, rt.alloc(), &mut fs, ALL_INODES)
+}
