@@ -22,7 +22,8 @@ use std::alloc::{AllocError, Global};
 use std::thread;
 use std::thread::Threads;
 
-/// All inodes by themselves, and what was claimed for them.
+/// All inodes by themselves, and what was claimed for them. There are no more workers than tickets: the others would draw
+/// none, and start a thread for it.
 pub(crate) fn scan_by_workers<P: Pmem + Sync, G: Gate + Sync, H: Threads + Sync>(
     rt: &H,
     alloc: Global,
@@ -36,10 +37,11 @@ pub(crate) fn scan_by_workers<P: Pmem + Sync, G: Gate + Sync, H: Threads + Sync>
     requires workers { (0 < workers) × (workers ≤ 64) }
     ensures { IfOk result (λ r. (pieces : List PieceValue) × AreInodes (P.region memory.now) sup.now pieces r.0 × AreClaimed sup.now pieces r.1) }
 {
+    let tickets = ticket_count(sup);
     let sizes = Sizes {
         blocks: sup.blocks,
-        tickets: ticket_count(sup),
-        workers,
+        tickets,
+        workers: workers.min(tickets),
     };
     let (map, seats) = ClaimMap::open(alloc, sizes)?;
     let results = thread::map_vec(

@@ -17,12 +17,12 @@ use Rattle.nv_recover.proofs.workers.scan_by_workers.Goals as goal
 
 pub map_vec-requires-after_bounds : goal.map_vec-requires-after_bounds
 map_vec-requires-after_bounds g c κs within = λ i x l is.
-    let all = subst (All (λ (h : Held). (h.map ≡ c.in_ok-map.map) × (h.view ≡ nothing 1))) (sym c.in_ok-map.ensures.seats) (fresh_all c.in_ok-map.map c.args.workers) in
+    let all = subst (All (λ (h : Held). (h.map ≡ c.in_ok-map.map) × (h.view ≡ nothing 1))) (sym c.in_ok-map.ensures.seats) (fresh_all c.in_ok-map.map c.min.result) in
     let here = all i x l in (
       ap (λ (h : Held). h.map) is ∙ here.0,
       ap (λ (h : Held). h.view) is ∙ here.1,
       ap (λ (z : Sizes). z.blocks) c.in_ok-map.ensures.sizes,
-      ap (λ (z : Sizes). z.tickets) c.in_ok-map.ensures.sizes ∙ c.ticket_count.ensures,
+      ap (λ (z : Sizes). z.tickets) c.in_ok-map.ensures.sizes ∙ c.ticket_count-tickets.ensures,
       c.requires.layout,
       c.requires.blocks,
     )
