@@ -16,7 +16,10 @@ import sys
 import tempfile
 from pathlib import Path
 
-COMMANDS = "format time recover replay tree free faults report poke cut peek".split()
+COMMANDS = (
+    "format time recover replay tree free faults report poke cut peek stop list stat read"
+    " create mkdir write size attr link unlink rmdir rename"
+).split()
 BLOCK = 4096
 MOST_BLOCKS = 65536
 
