@@ -7,13 +7,15 @@ use Rattle.std.specs.Option.{option_or}
 use Rattle.std.specs.declared.cmp.Ordering.TheVariants.{Less}
 use Rattle.std.specs.Ordering.{is_eq}
 use Rattle.std.specs.Map.{keys_of}
-use Rattle.std.specs.Cmp.Lexicographic.{pointwise, nat_list_eq_equiv, texts_ties, bytes_decides}
+use Rattle.std.specs.Cmp.Lexicographic.{pointwise, nat_list_eq_equiv, bytes_decides}
 use Rattle.std.proofs.lemmas.Map.Keys.{IsDistinct-head, IsDistinct-tail, IsDistinct-cons, sorted_head, sorted_tail}
 use Rattle.std.proofs.lemmas.Map.Made.{IsDistinct-keys_filter}
 use Rattle.nv_names.specs.declared.target.Target.{Target}
+use Rattle.nv_names.specs.Keys.{name_in, IsKey}
 use Rattle.nv_names.specs.Names.{found_in, names_of}
 use Rattle.nv_names.specs.Table.{tree_line, fresh_line, PutsAt, FindSame, AreBeside}
-use Rattle.nv_names.proofs.Entries.{by_bytes, found_in-append}
+use Rattle.nv_names.proofs.Entries.{by_bytes, same_keys, found_in-append}
+use Rattle.nv_names.proofs.Keys.{Keyed}
 use Rattle.nv_names.proofs.Listing.{each_found}
 
 -- no value is none
@@ -187,23 +189,24 @@ moved a d b x beside puts = (
         ap (λ o. option_or o (found_in b q)) (at q false is)
         ∙ ap (option_or (found_in a q)) (sym (ap (λ c. option_or (found_in b q) (cond c (Some (x.1, x.2)) None)) is ∙ option_or-None (found_in b q)))
 
--- keys that rise are apart by their bytes
-all_apart : (k : Vec ℕ Global) (es : List (Vec ℕ Global × Target)) → AllByRecursion (λ y. by_bytes k y ≡ Less) (keys_of es) → AllByRecursion (λ y. pointwise nat_eq k.items y ≡ false) (names_of (map tree_line es))
-all_apart k [] all = tt
-all_apart k (e ∷ es) all = (texts_ties k.items e.0.items ∙ ap is_eq all.0, all_apart k es all.1)
+-- the names of keys that rise are apart
+all_apart : (k : Vec ℕ Global) (es : List (Vec ℕ Global × Target)) → IsKey k.items → Keyed es → AllByRecursion (λ y. by_bytes k y ≡ Less) (keys_of es)
+    → AllByRecursion (λ y. pointwise nat_eq (name_in k.items) y ≡ false) (names_of (map tree_line es))
+all_apart k [] key keyed all = tt
+all_apart k (e ∷ es) key keyed all = (same_keys k e.0 key keyed.0 ∙ ap is_eq all.0, all_apart k es key keyed.1 all.1)
 
 -- a tree's names are apart
-distinct-tree : (es : List (Vec ℕ Global × Target)) → IsStrictlySortedBy by_bytes (keys_of es) → IsDistinct (pointwise nat_eq) (names_of (map tree_line es))
+distinct-tree : (es : List (Vec ℕ Global × Target)) → Keyed es → IsStrictlySortedBy by_bytes (keys_of es) → IsDistinct (pointwise nat_eq) (names_of (map tree_line es))
 unfolding IsDistinct
-distinct-tree [] sorted = tt
-distinct-tree (e ∷ es) sorted =
-    IsDistinct-cons (pointwise nat_eq) e.0.items (names_of (map tree_line es)) (all_apart e.0 es (sorted_head by_bytes e.0 (keys_of es) sorted))
-    (distinct-tree es (sorted_tail by_bytes e.0 (keys_of es) sorted))
+distinct-tree [] keyed sorted = tt
+distinct-tree (e ∷ es) keyed sorted =
+    IsDistinct-cons (pointwise nat_eq) (name_in e.0.items) (names_of (map tree_line es)) (all_apart e.0 es keyed.0 keyed.1 (sorted_head by_bytes e.0 (keys_of es) sorted))
+    (distinct-tree es keyed.1 (sorted_tail by_bytes e.0 (keys_of es) sorted))
 
 -- no name is twice in both together
-pub distinct-both : (es : List (Vec ℕ Global × Target)) (b : List (List ℕ × ℕ × ℕ)) → AreBeside (map tree_line es) b → IsStrictlySortedBy by_bytes (keys_of es)
+pub distinct-both : (es : List (Vec ℕ Global × Target)) (b : List (List ℕ × ℕ × ℕ)) → Keyed es → AreBeside (map tree_line es) b → IsStrictlySortedBy by_bytes (keys_of es)
     → IsDistinct (pointwise nat_eq) (names_of (map tree_line es ++ b))
-distinct-both es b beside sorted = distinct-append (map tree_line es) b (without (map tree_line es) (each_found (map tree_line es) (distinct-tree es sorted))) (distinct-tree es sorted) beside.once
+distinct-both es b keyed beside sorted = distinct-append (map tree_line es) b (without (map tree_line es) (each_found (map tree_line es) (distinct-tree es keyed sorted))) (distinct-tree es keyed sorted) beside.once
   where
     lacks : (q : List ℕ) (v : ℕ × ℕ) → found_in (map tree_line es) q ≡ Some v → (o : Option (ℕ × ℕ)) → found_in b q ≡ o → o ≡ None
     lacks q v found None is = refl

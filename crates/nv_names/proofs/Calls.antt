@@ -3,15 +3,21 @@ use Rattle.std.proofs.Common.{◌≡◌, ℕ, cond, not, nat_eq, List, [], ◌�
 use Rattle.std.specs.declared.alloc.Global.{Global}
 use Rattle.std.specs.BTreeMap.{insert_entry}
 use Rattle.std.specs.List.{IsDistinct, filter}
-use Rattle.std.specs.Option.{option_map, option_or}
-use Rattle.std.specs.Map.{lookup, remove_entry}
+use Rattle.std.specs.Option.{option_or}
 use Rattle.std.specs.Cmp.Lexicographic.{pointwise}
 use Rattle.std.proofs.lemmas.List.{map-append}
+use Rattle.std.proofs.lemmas.List.Elements.{All-from_recursion}
 use Rattle.nv_names.specs.declared.target.Target.{Target}
+use Rattle.nv_names.specs.Keys.{name_in, IsKey, AreKeys}
 use Rattle.nv_names.specs.Names.{found_in, inode_and_place}
+use Rattle.nv_names.proofs.Keys.{Keyed}
 use Rattle.nv_names.specs.Table.{tree_line, fresh_line, PutsAt, FindSame, AreBeside}
-use Rattle.nv_names.proofs.Entries.{by_bytes, has_bytes, found_in-tree, found_in-append, tree-inserted, tree-removed, fresh-removed}
+use Rattle.nv_names.proofs.Entries.{by_bytes, found_in-append, tree-inserted, fresh-removed}
 use Rattle.nv_names.proofs.Beside.{option_or-None, PutsAt-twice, PutsAt-after, PutsAt-both, PutsAt-pushed, AreBeside-removed, AreBeside-pushed, found_here, moved}
+
+-- no key is in an empty tree
+pub no_keys : (es : List (Vec ℕ Global × Target)) → es ≡ [] → AreKeys es
+no_keys es none = subst AreKeys (sym none) (All-from_recursion (λ (e : Vec ℕ Global × Target). IsKey e.0.items) [] tt)
 
 -- no name is beside the tree
 pub none_beside : (tree : List (List ℕ × ℕ × ℕ)) (fs : List (List ℕ × Target)) → fs ≡ [] → AreBeside tree (map fresh_line fs)
@@ -19,23 +25,22 @@ unfolding IsDistinct
 none_beside tree fs none = subst (λ gs. AreBeside tree (map fresh_line gs)) (sym none) (record { once = tt; apart = λ q some. absurd (cc) })
 
 -- a name of the tree
-pub get_some : (es : List (Vec ℕ Global × Target)) (fs : List (List ℕ × Target)) (q : List ℕ) (t : Target) → lookup (has_bytes q) es ≡ Some t
+pub get_some : (es : List (Vec ℕ Global × Target)) (fs : List (List ℕ × Target)) (q : List ℕ) (t : Target) → Some (inode_and_place t) ≡ found_in (map tree_line es) q
     → Some (inode_and_place t) ≡ found_in (map tree_line es ++ map fresh_line fs) q
-get_some es fs q t is =
-    sym (found_in-append (map tree_line es) (map fresh_line fs) q ∙ ap (λ o. option_or o (found_in (map fresh_line fs) q)) (found_in-tree es q ∙ ap (option_map inode_and_place) is))
+get_some es fs q t is = sym (found_in-append (map tree_line es) (map fresh_line fs) q ∙ ap (λ o. option_or o (found_in (map fresh_line fs) q)) (sym is))
 
 -- a name that isn't in the tree
-pub get_none : (es : List (Vec ℕ Global × Target)) (fs : List (List ℕ × Target)) (q : List ℕ) (o : Option (ℕ × ℕ)) → lookup (has_bytes q) es ≡ None
+pub get_none : (es : List (Vec ℕ Global × Target)) (fs : List (List ℕ × Target)) (q : List ℕ) (o : Option (ℕ × ℕ)) → None ≡ found_in (map tree_line es) q
     → o ≡ found_in (map fresh_line fs) q → o ≡ found_in (map tree_line es ++ map fresh_line fs) q
 get_none es fs q o none is =
-    is ∙ sym (found_in-append (map tree_line es) (map fresh_line fs) q ∙ ap (λ o. option_or o (found_in (map fresh_line fs) q)) (found_in-tree es q ∙ ap (option_map inode_and_place) none))
+    is ∙ sym (found_in-append (map tree_line es) (map fresh_line fs) q ∙ ap (λ o. option_or o (found_in (map fresh_line fs) q)) (sym none))
 
 -- a name is put into the tree
-pub puts_in : (es en : List (Vec ℕ Global × Target)) (k : Vec ℕ Global) (t : Target) (name : List ℕ) → k.items ≡ name → en ≡ insert_entry by_bytes es k t
+pub puts_in : (es en : List (Vec ℕ Global × Target)) (k : Vec ℕ Global) (t : Target) (name : List ℕ) → Keyed es → IsKey k.items → name_in k.items ≡ name → en ≡ insert_entry by_bytes es k t
     → PutsAt (map tree_line es) (map tree_line en) name (Some (inode_and_place t))
-puts_in es en k t name is made q =
+puts_in es en k t name keyed key is made q =
     ap (λ ns. found_in (map tree_line ns) q) made
-    ∙ tree-inserted es k t q
+    ∙ tree-inserted es k t keyed key q
     ∙ ap (λ n. cond (pointwise nat_eq q n) (Some (inode_and_place t)) (found_in (map tree_line es) q)) is
 
 -- The name is taken out of the tree and of the list.
@@ -45,15 +50,12 @@ pub record Gone (es en : List (Vec ℕ Global × Target)) (fs fn : List (List �
   pub beside : AreBeside (map tree_line en) (map fresh_line fn)
 
 pub gone : (es en : List (Vec ℕ Global × Target)) (fs fn : List (List ℕ × Target)) (name : List ℕ) → AreBeside (map tree_line es) (map fresh_line fs)
-    → en ≡ remove_entry (has_bytes name) es → lookup (has_bytes name) en ≡ None → fn ≡ filter (λ e. not (pointwise nat_eq e.0 name)) fs → Gone es en fs fn name
-gone es en fs fn name beside removed none filtered = record {
+    → PutsAt (map tree_line es) (map tree_line en) name None → fn ≡ filter (λ e. not (pointwise nat_eq e.0 name)) fs → Gone es en fs fn name
+gone es en fs fn name beside tree filtered = record {
   tree = tree;
   fresh = rw filtered (fresh-removed fs name);
   beside = rw filtered (AreBeside-removed (map tree_line es) (map tree_line en) fs name beside tree (fresh-removed fs name));
 }
-  where
-    tree : PutsAt (map tree_line es) (map tree_line en) name None
-    tree = rw removed (tree-removed es name (rw removed at none))
 
 -- a name is taken out
 pub puts_none : (es en : List (Vec ℕ Global × Target)) (fs fn : List (List ℕ × Target)) (name : List ℕ) → Gone es en fs fn name

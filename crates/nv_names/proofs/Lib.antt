@@ -1,4 +1,5 @@
 pub mod Beside
 pub mod Calls
 pub mod Entries
+pub mod Keys
 pub mod Listing

@@ -4,11 +4,12 @@ use Rattle.std.specs.declared.alloc.Global.{Global}
 use Rattle.std.specs.Cmp.Lexicographic.{pointwise}
 use Rattle.std.specs.List.{IsDistinct}
 use Rattle.nv_names.specs.declared.target.Target.{Target}
+use Rattle.nv_names.specs.Keys.{name_in}
 use Rattle.nv_names.specs.Names.{Names, found_in, names_of}
 
 -- an entry of the tree as one of `Names`
 abbrev pub tree_line : Vec ℕ Global × Target → List ℕ × ℕ × ℕ
-tree_line e = (e.0.items, e.1.inode, e.1.place)
+tree_line e = (name_in e.0.items, e.1.inode, e.1.place)
 
 -- a name beside the tree as one of `Names`
 abbrev pub fresh_line : List ℕ × Target → List ℕ × ℕ × ℕ

@@ -3,6 +3,7 @@
 
 mod fresh;
 mod index;
+mod key;
 mod name;
 mod named;
 mod table;

@@ -2,11 +2,9 @@
 
 ghost use Rattle.std.specs.Prelude.{◌≡◌, ◌≤◌, length};
 
+use crate::key::LONGEST;
 use arrayvec::ArrayVec;
 use std::marker::Model;
-
-/// The most bytes of a name.
-const LONGEST: usize = 255;
 
 /// The bytes of a name.
 #[derive(Drop)]
@@ -34,7 +32,8 @@ impl Name {
     }
 
     pub(crate) fn as_bytes(&self) -> &[u8]
-        ensures { result.now ≡ self.now }
+        ensures bytes { result.now ≡ self.now }
+        ensures short { length result.now ≤ 255 }
     {
         self.bytes.as_slice()
     }

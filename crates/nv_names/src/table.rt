@@ -1,5 +1,5 @@
 //! The table of a name index that has, or had, a name: an ordered tree of names, and beside it a list of the few that
-//! were added since room was last made. Only `reserve`, `insert` and `unsorted` take memory.
+//! were added since room was last made. Only `reserve`, `put` and `unsorted` take memory.
 
 ghost use Rattle.std.specs.Prelude.{◌≡◌, ◌+◌, ◌<◌, ◌≤◌, ◌++◌, List, ℕ, length, map, IfOk, IsOk, OnOk, OnErr, Some, None};
 ghost use Rattle.std.specs.Option.{option_map};
@@ -8,7 +8,7 @@ ghost use Rattle.nv_names.specs.Table.{PutsAt};
 
 use crate::fresh::{Fresh, forget, push_fresh, target_of};
 use crate::name::Name;
-use crate::tree::{Tree, push_tree, put, settle};
+use crate::tree::{Tree, find, push_tree, put, settle, take_out};
 use crate::{Named, Target};
 use std::alloc::{AllocError, Global};
 use std::collections::BTreeMap;
@@ -28,6 +28,7 @@ pub(crate) struct Table {
 impl Model for Table {
     ghost use Rattle.std.specs.Prelude.{map, ◌++◌, ◌-◌};
     ghost use Rattle.std.specs.Vec.{vec_len, vec_capacity};
+    ghost use Rattle.nv_names.specs.Keys.{AreKeys};
     ghost use Rattle.nv_names.specs.Names.{Names};
     ghost use Rattle.nv_names.specs.Table.{tree_line, fresh_line, AreBeside};
 
@@ -38,7 +39,7 @@ impl Model for Table {
       room = vec_capacity a.fresh - vec_len a.fresh;
     } };
 
-    ghost invariant = { λ a. AreBeside (map tree_line a.tree.entries) (map fresh_line a.fresh.items) };
+    ghost invariant = { λ a. AreKeys a.tree.entries × AreBeside (map tree_line a.tree.entries) (map fresh_line a.fresh.items) };
 }
 
 impl Table {
@@ -57,8 +58,8 @@ impl Table {
     pub(crate) fn get(&self, name: &[u8]) -> Option<Target>
         ensures { option_map inode_and_place result ≡ name_at self.now name.now }
     {
-        match self.tree.get(name) {
-            Some(target) => Some(*target),
+        match find(&self.tree, name) {
+            Some(target) => Some(target),
             None => target_of(self.fresh.as_slice(), name),
         }
     }
@@ -80,9 +81,9 @@ impl Table {
         ensures names { PutsAt self.old.names self.new.names name.now (Some (inode, place)) }
         ensures room { self.old.room ≤ self.new.room + 1 }
     {
-        let _before = self.tree.remove(name);
-        forget(&mut self.fresh, name);
         let target = Target { inode, place };
+        take_out(&mut self.tree, name);
+        forget(&mut self.fresh, name);
         self.fresh.push_reserved((Name::new(name), target));
     }
 
@@ -114,7 +115,7 @@ impl Table {
         ensures names { PutsAt self.old.names self.new.names name.now None }
         ensures room { self.old.room ≤ self.new.room }
     {
-        let _had = self.tree.remove(name);
+        take_out(&mut self.tree, name);
         forget(&mut self.fresh, name);
     }
 

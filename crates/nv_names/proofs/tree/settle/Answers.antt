@@ -6,8 +6,12 @@ use Rattle.nv_names.proofs.tree.settle.Goals as goal
 pub move_in-requires-clause-beside : goal.move_in-requires-clause-beside
 move_in-requires-clause-beside c = rw c.in-Some.ensures.items at c.loop-name.invariant.beside
 
+pub move_in-requires-clause-keys : goal.move_in-requires-clause-keys
+move_in-requires-clause-keys c = c.loop-name.invariant.keys
+
 pub loop-name-preserved : goal.loop-name-preserved
 loop-name-preserved c = record {
+  keys = c.move_in.ensures.keys;
   beside = c.move_in.ensures.beside;
   same = λ q.
       c.move_in.ensures.names q
