@@ -14,6 +14,8 @@ from typing import NamedTuple
 PROGRAM = Path(__file__).resolve().parent.parent / "crates/nova/out/nova"
 BLOCK = 4096
 MOST_SECONDS = 300
+# A script is told with so many peeks in a row.
+MOST_PEEKS = 4
 # Behind each part stands a peek at no word, whose answer no other command gives, so that what is printed can be parted.
 MARK = b"peek 1\n"
 MARKED = b"refused Address\n"
@@ -36,8 +38,13 @@ class Wrong(Exception):
         self.case, self.what = case, what
 
     def __str__(self):
-        lines = b"".join(self.case).decode("latin-1").splitlines()
-        shown = lines if len(lines) <= 400 else [*lines[:200], f"# and {len(lines) - 400} more", *lines[-200:]]
+        shown, peeked = [], 0
+        for line in b"".join(self.case).decode("latin-1").splitlines():
+            peeked = peeked + 1 if line.startswith("peek ") else 0
+            if peeked <= MOST_PEEKS:
+                shown.append(line)
+            elif peeked == MOST_PEEKS + 1:
+                shown.append("# and so on, word by word")
         return "\n".join(["WRONG: " + self.what, *("    " + line for line in shown)])
 
 

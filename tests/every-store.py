@@ -9,12 +9,14 @@ in each run. What the recovery then shows (tree, free lists, faults, and the byt
 call or what is there after it, without faults. A recovery that stores is stopped at each of its stores in the same ways, and
 the one after it once more; what the last one shows is what the first would have shown.
 
-JUDGE, a program that takes the same scripts, prints the same. WORD leaves out the scripts whose names don't have it. Calls
-that the program doesn't have yet are left out, and counted. JOBS=2 processes are run at a time; it takes minutes. The last
-line counts the cases, and the status is 1 where one was wrong.
+JUDGE, a program that takes the same scripts, recovers the same of each region that is left. (Which words are stored first
+up to a fence isn't compared.) WORD leaves out the scripts whose names don't have it. Calls that the program doesn't have yet
+are left out, and counted. JOBS=2 processes are run at a time; it takes minutes. The last line counts the cases, and the
+status is 1 where one was wrong.
 """
 
 import random
+import re
 import sys
 import time
 from collections import Counter
@@ -25,8 +27,9 @@ KEEPS = ["none", "all", "alternate"]
 SUBSETS = 64
 # A stop in the call, one in the recovery behind it, and one in the recovery behind that.
 DEPTH = 3
-# The steps that one process stops at.
+# The steps that one process stops a call at, and a recovery.
 BATCH = 16
+BATCH_OF_RECOVERY = 6
 # No call of the scripts reaches a block behind these, and no recovery one behind the table.
 BLOCKS_OF_CALLS = 16
 BLOCKS_OF_RECOVERY = 5
@@ -44,7 +47,9 @@ SCRIPTS = {
     "a log that goes on": (BASE2, FULL_OF_NAMES),
     "a file cut and lengthened": (SMALL, ["create 0 /a", "write 0 /a 0 6 65", "size 0 /a 3", "size 0 /a 6"]),
     "names that go": (SMALL, ["mkdir 0 /d", "create 0 /a", "link 0 /a /d/b", "unlink 0 /a", "rename 0 /d/b /c", "unlink 0 /c", "rmdir 0 /d"]),
-    "overwritten pages": (SMALL, ["time 7", "create 0 /a", "write 0 /a 0 5000 65", "attr 0 /a 448 1 2", "write 0 /a 4000 200 66"]),
+    "a log with a dead page": (SMALL + lines("create 0 /a", *["attr 0 /a 420 0 0"] * 127), ["clean /a"]),
+    "a region of version 1, with words where links come": (lines("format 2 64 1", "poke 4112 7", "poke 8208 9", "recover 1", "create 0 /a"), ["upgrade"]),
+    "overwritten pages": (lines("time 7", "format 1 16 1", "recover 1"), ["create 0 /a", "write 0 /a 0 5000 65", "attr 0 /a 448 1 2", "write 0 /a 4000 200 66"]),
 }
 # The stores and fences of some calls.
 STEPS = {"a file of two pages: create 0 /a": 25, "a file cut and lengthened: write 0 /a 0 6 65": 520, "a format": 53}
@@ -72,9 +77,9 @@ def calls(missing, only):
     found, left_out = [], Counter()
     for name, (region, commands) in SCRIPTS.items():
         for place, command in enumerate(commands if only in name else []):
-            absent = [word for word in missing if any(before.startswith(word + " ") for before in commands[: place + 1])]
+            absent = [word for word in missing if any(before.split(" ")[0] == word for before in commands[: place + 1])]
             left_out.update(absent[:1])
-            if not absent and not command.startswith("time "):
+            if not absent:
                 found.append(Call(f"{name}: {command}", region + lines(*commands[:place]), command, reads_of(commands)))
     if only in "a format":
         found.append(Call("a format", lines("format 1 16 1", "poke 0 0", "poke 12288 5"), "format 1 16 1"))
@@ -85,7 +90,7 @@ def calls(missing, only):
 
 def blocks_of(build):
     """The blocks of the region that a script makes."""
-    return int(build.split(b" ", 3)[2])
+    return int(re.search(rb"format [0-9]+ ([0-9]+)", build)[1])
 
 
 def poked(words):
@@ -103,6 +108,7 @@ class Stops:
 
     def __init__(self, runner, call):
         self.runner, self.call = runner, call
+        self.alone = Runner(runner.program, None)
         self.cases, self.recovered, self.steps = Counter(), 0, 0
 
     def run(self):
@@ -147,11 +153,12 @@ class Stops:
         """For each number of steps after which the command is stopped: by KEEP, the words that differ from the base."""
         step, count = 0, len(base)
         look = command + peeks(0, 8 * count // BLOCK) + self.call.seen
+        batch = BATCH_OF_RECOVERY if command == RECOVER else BATCH
         while True:
-            stops = [(after, keep) for after in range(step, step + BATCH) for keep in KEEPS]
+            stops = [(after, keep) for after in range(step, step + batch) for keep in KEEPS]
             cases = [Case(build, lines(f"stop after {after} {keep}") + look) for after, keep in stops]
             left = {}
-            for case, (after, keep), text in zip(cases, stops, self.runner.answers(cases)):
+            for case, (after, keep), text in zip(cases, stops, self.alone.answers(cases)):
                 answer, *words = text.split(b"\n", count + 2)[1:]
                 if answer != b"stopped":
                     return
@@ -159,7 +166,7 @@ class Stops:
                 left[keep] = {8 * at: int(line[5:]) for at, (word, line) in enumerate(zip(base, words)) if line != b"word %d" % word}
                 if keep == KEEPS[-1]:
                     yield after, dict(left)
-            step += BATCH
+            step += batch
 
     def subsets(self, after, base, left):
         """The regions that a stop may leave, by the words that none keeps and those that all keeps: all of them, or some."""
