@@ -8,3 +8,4 @@ mod AlwaysTakes
 mod Calling
 mod Asking
 mod OneCall
+mod WriteTests

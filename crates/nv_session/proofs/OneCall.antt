@@ -274,11 +274,11 @@ after_front (x ∷ a) b c same = by x.0 same (after_front a b c) where
   by false same rest = rest same
 
 -- a test that passes
-first_passes : (x : Bool × Refusal) (tests : Tests) → first_refusal (x ∷ tests) ≡ None → (x.0 ≡ false) × (first_refusal tests ≡ None)
+pub first_passes : (x : Bool × Refusal) (tests : Tests) → first_refusal (x ∷ tests) ≡ None → (x.0 ≡ false) × (first_refusal tests ≡ None)
 first_passes (true, e) tests none = absurd (cc)
 first_passes (false, e) tests none = (refl, none)
 
-later_passes : (a b : Tests) → first_refusal (a ++ b) ≡ None → first_refusal b ≡ None
+pub later_passes : (a b : Tests) → first_refusal (a ++ b) ≡ None → first_refusal b ≡ None
 later_passes [] b none = none
 later_passes (x ∷ a) b none = later_passes a b (first_passes x (a ++ b) none).1
 
@@ -297,7 +297,7 @@ in_use_there t (Some j) i is = by (is_some (t j)) refl is where
   by true used is = (let same : j ≡ i = cc in subst (λ (n : ℕ). is_some (t n) ≡ true) same used)
   by false used is = absurd (cc)
 
-target_there : (t : Tree) (p : Path) (i : ℕ) → target t p ≡ Some i → is_some (t i) ≡ true
+pub target_there : (t : Tree) (p : Path) (i : ℕ) → target t p ≡ Some i → is_some (t i) ≡ true
 target_there t None i is = absurd (cc)
 target_there t (Some []) i is = in_use_there t (Some 1) i is
 target_there t (Some (name ∷ names)) i is = in_use_there t (last_in t (walk t 1 (name ∷ names)) (name ∷ names)) i is

@@ -1,8 +1,17 @@
 //! The commands that are file calls which write. Each takes the mount out of the session, with the fuse that was set, makes its
 //! call, and puts back the mount, or what a stop has left.
 
-ghost use Rattle.std.specs.Prelude.{◌≡◌, IfOk, Some};
+ghost use Rattle.std.specs.Prelude.{◌≡◌, ◌⊎◌, ◌+◌, ℕ, false, IsTrue, IfOk, IfErr, OnOk, Some, Err};
+ghost use Rattle.nv_region.specs.Region.{size};
+ghost use Rattle.nv_region.specs.RegionState.{is_steady};
+ghost use Rattle.nv_tree.specs.Path.{Says};
+ghost use Rattle.nv_tree.specs.Refusals.{Path, first_refusal, write_tests};
+ghost use Rattle.nv_tree.specs.declared.refusal.Refusal.TheVariants as refusals;
 ghost use Rattle.nv_calls.specs.Mount.{IsKept};
+ghost use Rattle.nv_calls.specs.Same.{KeepsMount, SameMount};
+ghost use Rattle.nv_calls.specs.Seen.{tree_of};
+ghost use Rattle.nv_calls.specs.World.{world_of};
+ghost use Rattle.nv_calls.specs.WriteCall.{WriteNeeds};
 
 use crate::files::refused_call_text;
 use crate::session::Session;
@@ -74,9 +83,14 @@ impl Session {
         let Some(mut mount) = self.take_mount(stop.fuse) else {
             return refused_text(alloc, Refusal::NotMounted);
         };
-        let bytes = vec![in alloc; byte; count as usize]?;
-        let answer = mount.write(cpu, path, offset, &bytes, self.time);
-        self.settle_call(alloc, mount, answer, stop.keep)
+        match test_write(&mut mount, cpu, path, offset, count, self.time) {
+            Ok(()) => {
+                let bytes = vec![in alloc; byte; count as usize]?;
+                let answer = mount.write(cpu, path, offset, &bytes, self.time);
+                self.settle_call(alloc, mount, answer, stop.keep)
+            }
+            Err(refusal) => self.settle_call(alloc, mount, Err(refusal), stop.keep),
+        }
     }
 
     pub(crate) fn set_size(
@@ -233,4 +247,31 @@ impl Session {
         mount.set_fuse(Fuse::Off);
         self.store = Some(Store::Mounted(mount));
     }
+}
+
+// Tests a write of so many bytes before they are made, and changes nothing. What passes is refused for the blocks of its log,
+// or for want of memory, or isn't.
+fn test_write(
+    mount: &mut Fs<MemRegion>,
+    cpu: u64,
+    path: &[u8],
+    offset: u64,
+    count: u64,
+    time: u64,
+) -> Result<(), CallRefusal>
+    ensures passed { OnOk result (mount.new ≡ mount.old) }
+    ensures refused { mount.old.stopped ≡ false → (p : Path) (blocks : ℕ) → Says path.now p → WriteNeeds mount.old.memory.region mount.old cpu p offset count time blocks
+        → IfErr result (λ e. (e ≡ refusals.Memory) ⊎ ((e ≡ refusals.Stopped) ⊎ (first_refusal (write_tests (world_of mount.old) (tree_of mount.old.memory.region mount.old.rows) cpu p (offset + count) blocks) ≡ Some e))) }
+    ensures unchanged { IfErr result (λ e. (e ≡ refusals.Stopped → ⊥) → SameMount mount.old mount.new) }
+    ensures stopped { mount.old.stopped ≡ false → (IsTrue mount.new.stopped → (result ≡ Err refusals.Stopped) × IsTrue mount.new.memory.burnt) × (result ≡ Err refusals.Stopped → IsTrue mount.new.stopped) }
+    ensures keeps { KeepsMount mount.old mount.new }
+    ensures length { size mount.new.memory.region ≡ size mount.old.memory.region }
+    ensures steady { IsTrue (is_steady mount.old.memory) → IsTrue (is_steady mount.new.memory) }
+{
+    // No bytes where these would end: the same tests but that for space.
+    mount.write(cpu, path, offset.saturating_add(count), &[], time)?;
+    if count / 4096 > mount.free().free_blocks() {
+        return Err(CallRefusal::NoSpace);
+    }
+    Ok(())
 }
