@@ -10,7 +10,7 @@ call or what is there after it, without faults. A recovery that stores is stoppe
 the one after it once more; what the last one shows is what the first would have shown.
 
 JUDGE, a program that takes the same scripts, recovers the same of each region that is left. (Which words are stored first
-up to a fence isn't compared.) WORD leaves out the scripts whose names don't have it. Calls that the program doesn't have yet
+up to a fence isn't compared.) WORD leaves out the calls that don't have it in their names. Calls that the program doesn't have yet
 are left out, and counted. JOBS=2 processes are run at a time; it takes minutes. The last line counts the cases, and the
 status is 1 where one was wrong.
 """
@@ -76,7 +76,9 @@ def calls(missing, only):
     """The calls that are to be stopped, and how many are left out."""
     found, left_out = [], Counter()
     for name, (region, commands) in SCRIPTS.items():
-        for place, command in enumerate(commands if only in name else []):
+        for place, command in enumerate(commands):
+            if only not in f"{name}: {command}":
+                continue
             absent = [word for word in missing if any(before.split(" ")[0] == word for before in commands[: place + 1])]
             left_out.update(absent[:1])
             if not absent:

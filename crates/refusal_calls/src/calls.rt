@@ -1,0 +1,87 @@
+//! The calls that are made, one behind the other.
+
+use nv_calls::Fs;
+use nv_region::MemRegion;
+use nv_tree::Refusal;
+
+/// A call, by what it is for.
+#[derive(Clone, Copy, Debug, PartialEq, Eq)]
+pub(crate) enum Call {
+    MakeDirectory,
+    MakeDirectoryInIt,
+    CreateDeep,
+    Create,
+    Link,
+    CreateAnother,
+    Write,
+    WriteBehindTheEnd,
+    Overwrite,
+    Shorten,
+    Lengthen,
+    SetAttributes,
+    RenameWithin,
+    RenameAcross,
+    List,
+    Read,
+    UnlinkOne,
+    UnlinkLast,
+    RemoveDirectory,
+}
+
+/// All calls, in their order: each can be done once those before it are.
+pub(crate) const CALLS: [Call; 19] = [
+    Call::MakeDirectory,
+    Call::MakeDirectoryInIt,
+    Call::CreateDeep,
+    Call::Create,
+    Call::Link,
+    Call::CreateAnother,
+    Call::Write,
+    Call::WriteBehindTheEnd,
+    Call::Overwrite,
+    Call::Shorten,
+    Call::Lengthen,
+    Call::SetAttributes,
+    Call::RenameWithin,
+    Call::RenameAcross,
+    Call::List,
+    Call::Read,
+    Call::UnlinkOne,
+    Call::UnlinkLast,
+    Call::RemoveDirectory,
+];
+
+/// Makes a call.
+pub(crate) fn make(fs: &mut Fs<MemRegion>, call: Call) -> Result<(), Refusal> {
+    match call {
+        Call::MakeDirectory => fs.mkdir(0, b"/d", 493, 1),
+        Call::MakeDirectoryInIt => fs.mkdir(0, b"/d/e", 493, 2),
+        Call::CreateDeep => fs.create(0, b"/d/e/y", 420, 3),
+        Call::Create => fs.create(0, b"/a", 420, 4),
+        Call::Link => fs.link(0, b"/a", b"/b", 5),
+        Call::CreateAnother => fs.create(0, b"/c", 420, 6),
+        Call::Write => fs.write(0, b"/a", 0, &[65; 5000], 7),
+        Call::WriteBehindTheEnd => fs.write(0, b"/a", 9000, &[66; 10], 8),
+        Call::Overwrite => fs.write(1, b"/b", 4000, &[67; 200], 9),
+        Call::Shorten => fs.set_size(0, b"/a", 4100, 10),
+        Call::Lengthen => fs.set_size(0, b"/a", 9000, 11),
+        Call::SetAttributes => fs.set_attr(0, b"/d", 448, 1, 2, 12),
+        Call::RenameWithin => fs.rename(0, b"/c", b"/f", 13),
+        Call::RenameAcross => fs.rename(0, b"/d/e", b"/e", 14),
+        Call::List => list(fs, b"/"),
+        Call::Read => read(fs, b"/b"),
+        Call::UnlinkOne => fs.unlink(0, b"/a", 15),
+        Call::UnlinkLast => fs.unlink(0, b"/b", 16),
+        Call::RemoveDirectory => fs.rmdir(0, b"/d", 17),
+    }
+}
+
+fn list(fs: &Fs<MemRegion>, path: &[u8]) -> Result<(), Refusal> {
+    let _names = fs.list(path)?;
+    Ok(())
+}
+
+fn read(fs: &Fs<MemRegion>, path: &[u8]) -> Result<(), Refusal> {
+    let _bytes = fs.read(path, 0, 9000)?;
+    Ok(())
+}
