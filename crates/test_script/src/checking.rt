@@ -41,7 +41,7 @@ fn check<H: AllocGlobal + Abort + Threads + Sync>(
     let mut out = Vec::new(rt.alloc());
     let answer = check_region(rt, rt.alloc(), bytes, workers, &mut out)?;
     assert!(rt; out.as_slice() == text.as_bytes());
-    assert_eq!(rt; answer, status);
+    assert!(rt; answer == status);
     Ok(())
 }
 
@@ -61,7 +61,7 @@ fn a_check_is_refused_by_name(rt: HostRuntime) -> Result<(), Fail> {
 #[test]
 fn a_check_reports_what_it_finds(rt: HostRuntime) -> Result<(), Fail> {
     let mut bytes = formatted(&rt)?;
-    for workers in [1, 2, 64] {
+    for &workers in [1, 2, 64].iter() {
         check(&rt, &bytes, workers, ROOT_ALONE, 0)?;
     }
     clear(&mut bytes, ROOT_IN_USE);

@@ -8,7 +8,7 @@ use std::test::Fail;
 fn lines_are_cut_at_byte_10(rt: HostRuntime) -> Result<(), Fail> {
     let mut reader = b"a\n\nb c".as_slice();
     let mut line = Vec::new(rt.alloc());
-    for text in [b"a".as_slice(), b"", b"b c"] {
+    for &text in [b"a".as_slice(), b"", b"b c"].iter() {
         assert!(rt; read_line(&mut reader, &mut line)? == Next::Line);
         assert!(rt; line.as_slice() == text);
     }
@@ -21,7 +21,7 @@ fn lines_are_cut_at_byte_10(rt: HostRuntime) -> Result<(), Fail> {
 fn a_line_of_4096_bytes_is_the_longest(rt: HostRuntime) -> Result<(), Fail> {
     let alloc = rt.alloc();
     let mut line = Vec::new(alloc);
-    for (count, next) in [(4096, Next::Line), (4097, Next::TooLong)] {
+    for &(count, next) in [(4096, Next::Line), (4097, Next::TooLong)].iter() {
         let mut input = vec![in alloc; b'#'; count]?;
         assert!(rt; read_line(&mut input.as_slice(), &mut line)? == next);
         input.push(b'\n')?;
@@ -57,11 +57,13 @@ fn a_closed_writer_has_the_front(rt: HostRuntime) -> Result<(), Fail> {
 
 #[test]
 fn an_error_has_its_text(rt: HostRuntime) -> Result<(), Fail> {
-    for (error, text) in [
+    for &(error, text) in [
         (ScriptError::Read, "failed Read"),
         (ScriptError::Write, "failed Write"),
         (ScriptError::Memory, "failed Memory"),
-    ] {
+    ]
+    .iter()
+    {
         let shown = format!(in rt.alloc(); "{error}")?;
         assert!(rt; shown.as_str() == text);
     }

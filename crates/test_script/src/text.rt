@@ -52,10 +52,10 @@ const REFUSALS: [(Refusal, &str); 28] = [
 
 #[test]
 fn each_refusal_has_its_name(rt: HostRuntime) -> Result<(), Fail> {
-    for (refusal, line) in REFUSALS {
+    for &(refusal, line) in REFUSALS.iter() {
         let mut out = String::new(rt.alloc());
         push_refused(&mut out, refusal)?;
-        assert!(rt; out.as_str() == line, "got {out:?}");
+        assert!(rt; out.as_str() == line, "{line}");
     }
     Ok(())
 }
@@ -126,10 +126,10 @@ const NAMES: [(&[u8], &str); 9] = [
 
 #[test]
 fn a_byte_that_could_be_mistaken_is_escaped(rt: HostRuntime) -> Result<(), Fail> {
-    for (name, line) in NAMES {
+    for &(name, line) in NAMES.iter() {
         let mut out = String::new(rt.alloc());
         push_name_line(&mut out, name, 3)?;
-        assert!(rt; out.as_str() == line, "got {out:?}");
+        assert!(rt; out.as_str() == line, "{line}");
     }
     Ok(())
 }
@@ -149,7 +149,7 @@ fn each_pool_shows_its_free_runs(rt: HostRuntime) -> Result<(), Fail> {
     let alloc = rt.alloc();
     let pieces = [(11, 1), (32, 1), (35, 19), (55, 9), (65, 1), (67, 3)];
     let mut runs = Vec::new(alloc);
-    for (start, count) in pieces {
+    for &(start, count) in pieces.iter() {
         runs.push(Run { start, count })?;
     }
     let mut pools = Vec::new(alloc);
@@ -266,10 +266,10 @@ const FAULTS: [(Fault, &str); 20] = [
 
 #[test]
 fn each_class_of_fault_has_its_line(rt: HostRuntime) -> Result<(), Fail> {
-    for (fault, line) in FAULTS {
+    for &(fault, line) in FAULTS.iter() {
         let mut out = String::new(rt.alloc());
         push_fault_line(&mut out, &fault)?;
-        assert!(rt; out.as_str() == line, "got {out:?}");
+        assert!(rt; out.as_str() == line, "{line}");
     }
     Ok(())
 }

@@ -31,7 +31,7 @@ const REFUSED: [&[&str]; 6] = [
 
 #[test]
 fn words_are_read(rt: HostRuntime) {
-    for (words, todo) in ASKED {
+    for &(words, todo) in ASKED.iter() {
         let answer = read_words(rt.alloc(), words);
         assert!(rt;
             matches!(answer, Ok(found) if found == todo),
@@ -42,7 +42,7 @@ fn words_are_read(rt: HostRuntime) {
 
 #[test]
 fn other_words_are_refused(rt: HostRuntime) {
-    for words in REFUSED {
+    for &words in REFUSED.iter() {
         assert!(rt; read_words(rt.alloc(), words).is_err(), "at {words:?}");
     }
 }
