@@ -1,17 +1,14 @@
 #!/usr/bin/env bash
-# Runs the program refusal_calls with each of its allocations refused in turn, and prints how often each of its calls met the
-# refusal. It ends with status 1, and says why, where a run faults, hangs, or ends in any way but these: all calls were done;
-# all were, one of them at its second try, since it was refused memory at the first and had changed nothing; or memory was
-# refused outside of a call.
-#
-# usage: tests/refuse-calls.sh [RUNS]
+# Runs the program refusal_calls with each of its allocations refused in turn, and prints how many of the runs ended in which
+# way: a line for each, its status and what it printed. It ends with status 1, and says why, where a run faults, hangs, or ends
+# in any way but these: all calls, claims and joins were done; all were, one of them at its second try, since the first was
+# refused memory and changed nothing; or memory was refused outside of them.
 #
 # One build of `rt try` refuses the allocation of the same number in all its runs. So run K takes K blocks of memory first:
-# run 0 meets the refusal of allocation RUNS, in the last the first allocation is refused. Without RUNS it is more than the
-# program makes, so that run 0 meets none.
+# run 0 meets no refusal, in the last the first allocation is refused.
 set -u
 here=$(cd "$(dirname "${BASH_SOURCE[0]}")/.." && pwd)
-runs=${1:-RUNS}
+runs=1500
 folder=$(mktemp -d)
 trap 'rm -rf "$folder"' EXIT
 
@@ -23,7 +20,13 @@ done
 cd "$here/crates/refusal_calls" || exit 1
 rt try --steps 1 --fail-alloc "$runs" --cases "$folder/cases" >"$folder/log" 2>&1
 
-whole=$(<stdout)
+mapfile -t whole <stdout
+wanted=(
+    "run=ended status=0: ${whole[0]}; ${whole[1]};"
+    "run=ended status=1: ${whole[0]}; refused elsewhere;"
+    "run=ended status=1: refused elsewhere;"
+)
+
 # Each run on one line.
 awk '/^== /          { text = ""; next }
      /^allocations:/ { next }
@@ -37,11 +40,15 @@ if [ "$(wc -l <"$folder/ends")" != "$runs" ]; then
     tail -n 5 "$folder/log"
     wrong=1
 fi
-if grep -vE "^run=ended status=(0:( refused once: [A-Za-z]+;)? $whole;|1:( refused once: [A-Za-z]+;)? refused elsewhere;)\$" "$folder/ends" | sort -u | sed 's/^/WRONG: /' | grep .; then
+# At most one call is refused in a run.
+if sed 's/ refused once: [A-Za-z]*;//' "$folder/ends" | grep -vxFf <(printf '%s\n' "${wanted[@]}") | sort -u | sed 's/^/WRONG: /' | grep .; then
     wrong=1
 fi
-if ! grep -q "refused once" "$folder/ends"; then
-    echo "WRONG: no call was refused memory"
-    wrong=1
-fi
+for way in "${wanted[@]}"; do
+    grep -qxF "$way" "$folder/ends" || { echo "WRONG: no run with $way" && wrong=1; }
+done
+for call in Claim Join Create Write RenameAcross; do
+    grep -q "refused once: $call;" "$folder/ends" || { echo "WRONG: no run in which $call was refused" && wrong=1; }
+done
+echo "$(wc -l <"$folder/ends") runs, in $(grep -c 'refused once' "$folder/ends") a call was refused, $wrong wrong"
 exit $wrong
