@@ -86,6 +86,16 @@ module _ (R : Region) (a : ℕ) (slot : Slot) (whole : a % 8 ≡ 0) (inside : a 
   pub created_there : word (with_slot R a slot) (a + 32) ≡ slot.created
   created_there = four.here
 
+-- what is stored in a slot behind its valid word leaves all words outside the slot
+mixed_outside : (R S : Region) (a : ℕ) → IsMixed R (Within (a + 8) 32) S → SameOutside R a 128 S
+mixed_outside R S a mixed = record {
+  len = mixed_size mixed;
+  as_long = mixed.as_long;
+  same_rest = mixed.same_rest;
+  before = λ b whole below. mixed_word R S (Within (a + 8) 32) b whole mixed (λ v w. let from = w.0 in omega (arith, from, whole, below));
+  behind = λ b whole above. mixed_word R S (Within (a + 8) 32) b whole mixed (λ v w. let under = w.1 in omega (arith, under, whole, above));
+}
+
 -- ---- the journal in front of the page and the slot
 
 pub journal_waits : {R S : Region} {cpu : ℕ} {n : NewInode} {x : Extension} → CanBegin R cpu n → CanCommit R cpu x → IsMixed R (PrepareWords n x) S → IsEmpty R cpu → IsEmpty S cpu
@@ -131,15 +141,18 @@ module _ {R : Region} {s : Super} {held : Store} {cpu j : ℕ} {n : NewInode} {i
     logged_mixed : IsMixed R (PrepareWords n x) done.logged
     logged_mixed = mixed_more (PrepareWords n x) (AppendWords (head_of n) []) R R done.logged (λ k v w. inl (inl w)) (mixed_same R (PrepareWords n x)) done.log.wrote
 
-    ready_mixed : IsMixed R (PrepareWords n x) done.ready
-    ready_mixed = mixed_more (PrepareWords n x) (Within (n.slot + 8) 32) R done.logged done.ready (λ k v w. inl (inr w)) logged_mixed done.slot_alone
+    named_mixed : IsMixed R (PrepareWords n x) done.named
+    named_mixed = mixed_more (PrepareWords n x) (AppendWords x.tail x.fresh.now) R done.logged done.named (λ k v w. inr w) logged_mixed done.parent.wrote
 
     mixed : IsMixed R (PrepareWords n x) S
-    mixed = mixed_more (PrepareWords n x) (AppendWords x.tail x.fresh.now) R done.ready S (λ k v w. inr w) ready_mixed done.parent.wrote
+    mixed = mixed_more (PrepareWords n x) (Within (n.slot + 8) 32) R done.named S (λ k v w. inl (inr w)) named_mixed done.slot_alone
 
-    between : CanExtend done.ready s held i h x.slot x.tail x.entries.now x.fresh.now
+    slot_outside : SameOutside done.named n.slot 128 S
+    slot_outside = mixed_outside done.named S n.slot done.slot_alone
+
+    between : CanExtend done.logged s held i h x.slot x.tail x.entries.now x.fresh.now
     between = record {
-      sound = sound_before done.ready ready_mixed;
+      sound = sound_before done.logged logged_mixed;
       at = can.parent.at;
       holds = can.parent.holds;
       tail_is = can.parent.tail_is;
@@ -150,8 +163,17 @@ module _ {R : Region} {s : Super} {held : Store} {cpu j : ℕ} {n : NewInode} {i
       some = can.parent.some;
     }
 
+    named_behind : HasBehind done.named (fixed_layout s) held h last (appended x.fresh.now 0 h.tail x.entries.now) (take (needed (h.tail % 4096) x.entries.now) x.fresh.now)
+    named_behind = stands_behind between done.named last done.last_end done.parent
+
     behind : HasBehind S (fixed_layout s) held h last (appended x.fresh.now 0 h.tail x.entries.now) (take (needed (h.tail % 4096) x.entries.now) x.fresh.now)
-    behind = stands_behind between S last done.last_end done.parent
+    behind = record {
+      shows = (sound_before S mixed).shows;
+      right = named_behind.right;
+      reads = log_stays (fixed_layout s) held done.named S clear j n.slot can.at slot_outside named_behind.shows h.head last
+          (h.entries ++ appended x.fresh.now 0 h.tail x.entries.now) (h.pages ++ take (needed (h.tail % 4096) x.entries.now) x.fresh.now) named_behind.right named_behind.clear named_behind.reads;
+      clear = named_behind.clear;
+    }
 
     same_size : size S ≡ size R
     same_size = mixed_size mixed
@@ -215,8 +237,8 @@ module _ {R : Region} {s : Super} {held : Store} {cpu j : ℕ} {n : NewInode} {i
 
     page_word : (a : ℕ) → a % 8 ≡ 0 → a / 4096 ≡ n.page → word S a ≡ word done.logged a
     page_word a whole page =
-        mixed_word done.ready S (AppendWords x.tail x.fresh.now) a whole done.parent.wrote (off_page a whole page)
-        ∙ mixed_word done.logged done.ready (Within (n.slot + 8) 32) a whole done.slot_alone (λ v w. (let from = w.0 in let below = w.1 in clear.unfree n.page can.page j n.slot can.at (omega (arith, from, below, whole, page, clear.whole j n.slot can.at))))
+        mixed_word done.named S (Within (n.slot + 8) 32) a whole done.slot_alone (λ v w. (let from = w.0 in let below = w.1 in clear.unfree n.page can.page j n.slot can.at (omega (arith, from, below, whole, page, clear.whole j n.slot can.at))))
+        ∙ mixed_word done.logged done.named (AppendWords x.tail x.fresh.now) a whole done.parent.wrote (off_page a whole page)
 
     one_only : (b : ℕ) → Contains (n.page ∷ []) b → b ≡ n.page
     one_only b c = elim (Contains-cons n.page [] b c) [ inl same ↦ same | inr rest ↦ absurd (let none = rest.1 in omega (arith, none)) ]
@@ -227,34 +249,29 @@ module _ {R : Region} {s : Super} {held : Store} {cpu j : ℕ} {n : NewInode} {i
     no_slots : HaveNoSlots (fixed_layout s) (n.page ∷ [])
     no_slots b c = clear.unfree b (subst (IsUnowned (fixed_layout s) held) (sym (one_only b c)) can.page)
 
-    -- no word of the slot changes with the directory's log
-    off_slot : (m : ℕ) → m % 8 ≡ 0 → m < 128 → (v : ℕ) → AppendWords x.tail x.fresh.now ((n.slot + m) / 8) v → ⊥
-    off_slot m whole few v (inl w) = let here = w.0 in clear.unpaged i h can.parent.holds (h.tail / 4096) tail_page j n.slot can.at (omega (arith, here, whole, few, can.parent.tail_is, clear.whole j n.slot can.at))
-    off_slot m whole few v (inr w) = let here = w.2 in clear.unfree (get_or x.fresh.now w.0 0) (can.parent.free (get_or x.fresh.now w.0 0) (fresh_there w.0 w.1)) j n.slot can.at (omega (arith, here, whole, few, clear.whole j n.slot can.at))
-
-    slot_word : (m : ℕ) → m % 8 ≡ 0 → m < 128 → word S (n.slot + m) ≡ word (with_slot done.logged n.slot (slot_with n new)) (n.slot + m)
-    slot_word m whole few = mixed_word done.ready S (AppendWords x.tail x.fresh.now) (n.slot + m) (omega (arith, whole, clear.whole j n.slot can.at)) done.parent.wrote (off_slot m whole few) ∙ ap (λ (Q : Region). word Q (n.slot + m)) done.slot
+    slot_word : (m : ℕ) → word S (n.slot + m) ≡ word (with_slot done.named n.slot (slot_with n new)) (n.slot + m)
+    slot_word m = ap (λ (Q : Region). word Q (n.slot + m)) done.slot
 
     -- both words changed, by puts of these numbers
     module _ (slot_inside : n.slot + 40 ≤ size R) (tail_inside : x.slot + 32 ≤ size R) (short : length R.rest < 8) where
-      logged_size : size done.logged ≡ size R
-      logged_size = mixed_size logged_mixed
+      named_size : size done.named ≡ size R
+      named_size = mixed_size named_mixed
 
-      logged_short : length done.logged.rest < 8
-      logged_short = subst (λ (r : List ℕ). length r < 8) (sym logged_mixed.same_rest) short
+      named_short : length done.named.rest < 8
+      named_short = subst (λ (r : List ℕ). length r < 8) (sym named_mixed.same_rest) short
 
       whole8 : n.slot % 8 ≡ 0
       whole8 = omega (arith, clear.whole j n.slot can.at)
 
-      inside8 : n.slot + 40 ≤ size done.logged
-      inside8 = omega (arith, slot_inside, logged_size)
+      inside8 : n.slot + 40 ≤ size done.named
+      inside8 = omega (arith, slot_inside, named_size)
 
       ready : IsReady S (fixed_layout s) n.slot (begun n)
       ready = record {
-        kind = slot_word 8 refl (omega arith) ∙ kind_there done.logged n.slot (slot_with n new) whole8 inside8 logged_short;
-        head = slot_word 16 refl (omega arith) ∙ head_there done.logged n.slot (slot_with n new) whole8 inside8 logged_short;
-        tail = slot_word 24 refl (omega arith) ∙ tail_stands done.logged n.slot (slot_with n new) whole8 inside8 logged_short ∙ done.first_end;
-        created = slot_word 32 refl (omega arith) ∙ created_there done.logged n.slot (slot_with n new) whole8 inside8 logged_short;
+        kind = slot_word 8 ∙ kind_there done.named n.slot (slot_with n new) whole8 inside8 named_short;
+        head = slot_word 16 ∙ head_there done.named n.slot (slot_with n new) whole8 inside8 named_short;
+        tail = slot_word 24 ∙ tail_stands done.named n.slot (slot_with n new) whole8 inside8 named_short ∙ done.first_end;
+        created = slot_word 32 ∙ created_there done.named n.slot (slot_with n new) whole8 inside8 named_short;
         right = subst (λ (t : ℕ). is_right_log s (head_of n) t ≡ true) done.first_end right;
         reads = subst (λ (t : ℕ). Reads S s (head_of n) t (appended [] 0 (head_of n) n.entries.now) (n.page ∷ []) None) done.first_end read_there;
       }
@@ -302,7 +319,7 @@ module _ {R : Region} {s : Super} {held : Store} {cpu j : ℕ} {n : NewInode} {i
 
       both_show : Shows both (fixed_layout s) (with_made held j n i h x)
       both_show =
-          subst (λ (m : ℕ). Shows both (fixed_layout s) (with_inode first_held i (Some (grown h m (appended x.fresh.now 0 h.tail x.entries.now) (take (needed (h.tail % 4096) x.entries.now) x.fresh.now))))) (parent_ends between S last done.last_end done.parent)
+          subst (λ (m : ℕ). Shows both (fixed_layout s) (with_inode first_held i (Some (grown h m (appended x.fresh.now 0 h.tail x.entries.now) (take (needed (h.tail % 4096) x.entries.now) x.fresh.now))))) (parent_ends between done.named last done.last_end done.parent)
           (tail_follows (fixed_layout s) first_held there both i x.slot last h (appended x.fresh.now 0 h.tail x.entries.now) (take (needed (h.tail % 4096) x.entries.now) x.fresh.now)
           (slots_clear there s first_held layout first_shows) can.parent.at parent_held parent_then second_stored)
 

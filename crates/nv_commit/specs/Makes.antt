@@ -77,14 +77,14 @@ PrepareWords n x k v = BeginWords n k v ⊎ AppendWords x.tail x.fresh.now k v
 abbrev pub MakeWords : ℕ → NewInode → Extension → Choices
 MakeWords cpu n x k v = PrepareWords n x k v ⊎ Changes cpu n.slot 1 (x.slot + 24) (end_of x.fresh.now 0 x.tail x.entries.now) k v
 
--- From one region to the other the new log was written, then the slot but for its valid word, and then the entries behind
--- the directory's tail.
+-- From one region to the other the new log was written, then the entries behind the directory's tail, and then the slot
+-- but for its valid word.
 pub record Prepares (R S : Region) (n : NewInode) (x : Extension) (first last : ℕ) : Type 0 where
   pub logged : Region
-  pub ready : Region
+  pub named : Region
   pub log : Appends R logged (head_of n) first n.entries.now []
-  pub slot : ready ≡ with_slot logged n.slot (slot_with n first)
-  pub slot_alone : IsMixed logged (Within (n.slot + 8) 32) ready
-  pub parent : Appends ready S x.tail last x.entries.now x.fresh.now
+  pub parent : Appends logged named x.tail last x.entries.now x.fresh.now
+  pub slot : S ≡ with_slot named n.slot (slot_with n first)
+  pub slot_alone : IsMixed named (Within (n.slot + 8) 32) S
   pub first_end : first ≡ tail_of n
   pub last_end : last ≡ end_of x.fresh.now 0 x.tail x.entries.now

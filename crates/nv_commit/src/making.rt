@@ -44,7 +44,7 @@ pub struct NewInode<'a> {
     pub entries: &'a [Entry],
 }
 
-/// Writes the log of a new inode and its slot, and entries behind the tail of a directory's log, and then, by the empty
+/// Writes the log of a new inode, entries behind the tail of a directory's log, and the inode's slot, and then, by the empty
 /// journal of a CPU, sets the slot's valid word and moves that tail behind them. Answers the tails of both logs.
 ///
 /// After a stop at any moment of the call, the undone region has the directory's log as it was and no such inode, or the log
@@ -79,7 +79,7 @@ pub fn make_inode<P: Pmem>(
     Ok(ends)
 }
 
-/// Writes the log and the slot of a new inode, and the entries behind the tail of its directory's log, and fences them.
+/// Writes the log of a new inode, the entries behind the tail of its directory's log, and then the inode's slot, and fences them.
 fn prepare<P: Pmem>(
     memory: &mut P,
     inode: &NewInode<'_>,
@@ -99,6 +99,7 @@ fn prepare<P: Pmem>(
     let _length = memory.len();
     let head = BLOCK_SIZE * inode.page;
     let tail = append(memory, head, inode.entries, &[])?;
+    let end = append(memory, directory.tail, directory.entries, directory.fresh)?;
     let slot = Slot {
         valid: 0,
         kind: inode.kind.number(),
@@ -107,7 +108,6 @@ fn prepare<P: Pmem>(
         created: inode.created,
     };
     store_slot(memory, inode.slot, &slot)?;
-    let end = append(memory, directory.tail, directory.entries, directory.fresh)?;
     memory.fence()?;
     Ok((tail, end))
 }

@@ -161,7 +161,7 @@ fn lay_out<P: Pmem>(memory: &mut P, sup: &Super, time: u64) -> Result<(), Stoppe
     write_root(memory, sup, time)
 }
 
-/// Stores the root's only entry and its slot, and last the slot's valid word.
+/// Stores the root's only entry and its slot.
 fn write_root<P: Pmem>(memory: &mut P, sup: &Super, time: u64) -> Result<(), Stopped>
     requires layout { IsLayout sup.now }
     requires blocks { HasBlocks (P.region memory.old) sup.now.blocks }
@@ -180,8 +180,8 @@ fn write_root<P: Pmem>(memory: &mut P, sup: &Super, time: u64) -> Result<(), Sto
         created: time,
     };
     write_root_entry(memory, page, time)?;
-    put_slot(memory, sup, ROOT, &slot)?;
-    set_word(memory, slot_start(sup, ROOT), slot.valid)
+    set_word(memory, slot_start(sup, ROOT), slot.valid)?;
+    put_slot(memory, sup, ROOT, &slot)
 }
 
 /// Stores the attributes entry of an empty directory: mode 493, size 0, the time, owner 0 and group 0.
