@@ -9,10 +9,9 @@ in each run. What the recovery then shows (tree, free lists, faults, and the byt
 call or what is there after it, without faults. A recovery that stores is stopped at each of its stores in the same ways, and
 the one after it once more; what the last one shows is what the first would have shown.
 
-JUDGE, a program that takes the same scripts, recovers the same of each region that is left. (Which words are stored first
-up to a fence isn't compared.) WORD leaves out the calls that don't have it in their names. Calls that the program doesn't have yet
-are left out, and counted. JOBS=2 processes are run at a time; it takes minutes. The last line counts the cases, and the
-status is 1 where one was wrong.
+JUDGE, a program that takes the same scripts, leaves the same words behind each stop, and recovers the same of them. WORD
+leaves out the calls that don't have it in their names. Calls that the program doesn't have yet are left out, and counted.
+JOBS=2 processes are run at a time; it takes minutes. The last line counts the cases, and the status is 1 where one was wrong.
 """
 
 import random
@@ -110,7 +109,6 @@ class Stops:
 
     def __init__(self, runner, call):
         self.runner, self.call = runner, call
-        self.alone = Runner(runner.program, None)
         self.cases, self.recovered, self.steps = Counter(), 0, 0
 
     def run(self):
@@ -160,7 +158,7 @@ class Stops:
             stops = [(after, keep) for after in range(step, step + batch) for keep in KEEPS]
             cases = [Case(build, lines(f"stop after {after} {keep}") + look) for after, keep in stops]
             left = {}
-            for case, (after, keep), text in zip(cases, stops, self.alone.answers(cases)):
+            for case, (after, keep), text in zip(cases, stops, self.runner.answers(cases)):
                 answer, *words = text.split(b"\n", count + 2)[1:]
                 if answer != b"stopped":
                     return
