@@ -72,7 +72,7 @@ pub mod NewNumbers
 pub mod CreateCall
 pub mod PutRow
 pub mod WriteReply
-mod NeedsExist
+pub mod NeedsExist
 pub mod NamedAt
 pub mod RemoveTests
 pub mod TakenOut

@@ -1,26 +1,19 @@
 -- The tests of each file call that writes, and what it leaves of the logs, by what the contract of the call says of them.
-use Rattle.std.proofs.Common.{◌≡◌, ◌≢◌, ◌⊎◌, inl, inr, ℕ, ◌+◌, ◌-◌, ◌<◌, ◌≤◌, Bool, true, false, not, nat_lt, List, ◌∷◌, Option, Some, None, Result, Ok, Err, IfErr, OnOk, refl, sym, ap, subst, ◌∙◌, arith}
+use Rattle.std.proofs.Common.{◌≡◌, ◌≢◌, ◌⊎◌, ℕ, ◌+◌, ◌-◌, ◌<◌, ◌≤◌, Bool, true, false, not, nat_lt, List, ◌∷◌, Some, None, Result, Ok, Err, IfErr, OnOk, refl, sym, ap, subst, ◌∙◌}
 use Rattle.std.proofs.Math.Logic.{∥∥₁_map}
 use Rattle.std.specs.Prelude.{⊤}
-use Rattle.std.specs.Option.{option_and_then}
-use Rattle.std.proofs.lemmas.Bool.{cases_lt}
 use Rattle.nv_region.specs.Region.{Region}
 use Rattle.nv_region.specs.RegionState.{RegionState}
-use Rattle.nv_super.specs.declared.owners.Run.{Run}
 use Rattle.nv_super.specs.declared.kind.Kind.{Kind}
 use Rattle.nv_super.specs.Layout.{fixed_layout}
-use Rattle.nv_alloc.specs.Taking.{all_blocks}
-use Rattle.nv_radix.specs.Pages.{block_at}
-use Rattle.nv_report.specs.nv_scan.declared.piece.Row.{Row}
 use Rattle.nv_report.specs.nv_scan.State.{block_of}
 use Rattle.nv_calls.specs.nv_held.Held.{Held, Store, good_in}
 use Rattle.nv_calls.specs.nv_held.Mounted.{ShowsSound}
-use Rattle.nv_calls.specs.nv_named.Read.{row_of}
 use Rattle.nv_entry.specs.declared.entry.Operation.TheVariants.{Add, Remove}
 use Rattle.nv_tree.specs.Path.{IsPath, Says, last_name}
 use Rattle.nv_tree.specs.Tree.{Node, SameTree, walk}
 use Rattle.nv_tree.specs.Calls.{linked, renamed}
-use Rattle.nv_tree.specs.Refusals.{Path, Tests, World, first_refusal, target, writing, create_tests, write_tests, set_size_tests, set_attr_tests, link_tests, unlink_tests, rmdir_tests, rename_tests}
+use Rattle.nv_tree.specs.Refusals.{Path, Tests, World, first_refusal, writing, create_tests, write_tests, set_size_tests, set_attr_tests, link_tests, unlink_tests, rmdir_tests, rename_tests}
 use Rattle.nv_tree.specs.declared.refusal.Refusal.{Refusal}
 use Rattle.nv_tree.specs.declared.refusal.Refusal.TheVariants.{BadCpu, ReadOnly, Memory, Stopped}
 use Rattle.nv_calls.specs.Attributes.{attributes, attributes_blocks}
@@ -35,33 +28,10 @@ use Rattle.nv_calls.specs.Sizes.{ShowsResizedLog, resized_blocks}
 use Rattle.nv_calls.specs.UnlinkCalls.{unlink_blocks}
 use Rattle.nv_calls.specs.World.{unused_number, world_of}
 use Rattle.nv_calls.specs.WriteCall.{ShowsLogWrite, WriteNeeds}
-use Rattle.nv_calls.specs.Writes.{NeedsBlocks, data_blocks, plan_of}
+use Rattle.nv_calls.proofs.NeedsExist.{write_needs}
+use Rattle.nv_calls.specs.Writes.{plan_of}
 use Rattle.nv_session.specs.Calls.{LogsBytes, LogsUnlink, asks_create, asks_write, asks_size, asks_attributes, asks_link, asks_unlink, asks_remove, asks_rename, makes_link, makes_rename, logs_inode, logs_size, logs_attributes, logs_link, logs_removal, logs_rename}
-use Rattle.nv_session.proofs.AlwaysTakes.{gives}
 use Rattle.nv_session.proofs.Calling.{Answers, can_write, seen}
-
--- how many blocks a write needs is there
-needs_some : (pools : List (List Run)) (cpu tail : ℕ) (mapped : ℕ → Option ℕ) (size offset bytes time : ℕ) → (count : ℕ) × NeedsBlocks pools cpu tail (plan_of mapped size offset bytes time) count
-needs_some pools cpu tail mapped size offset bytes time = (let plan = plan_of mapped size offset bytes time in elim (cases_lt (all_blocks pools) (data_blocks plan)) [
-  | inl few ↦ (data_blocks plan, inl (few, refl))
-  | inr enough ↦ (let w = gives pools cpu (data_blocks plan) enough in (_, inr (w.0, w.1, w.2, refl)))
-])
-
-pub write_needs : (S : Region) (m : Mount ⊤) (cpu : ℕ) (p : Path) (offset bytes time : ℕ) → (count : ℕ) × WriteNeeds S m cpu p offset bytes time count
-write_needs S m cpu p offset bytes time = by (option_and_then (row_of m.rows) (target (tree_of S m.rows) p)) refl where
-  by : (o : Option Row) → option_and_then (row_of m.rows) (target (tree_of S m.rows) p) ≡ o → (count : ℕ) × WriteNeeds S m cpu p offset bytes time count
-  by None at = (0, record { none = λ zero. refl; some = λ pos row is. absurd (let wrong : None ≡ Some row = sym at ∙ is in cc) })
-  by (Some row) at = elim (cases_lt 0 bytes) [
-    | inl pos ↦ (let w = needs_some m.free.pools cpu row.tail (block_at row.index) row.numbers.size offset bytes time in (
-      w.0,
-      record {
-        none = λ zero. absurd (omega (arith, zero, pos));
-        some = λ _ other is. (let same : row ≡ other = (let both : Some row ≡ Some other = sym at ∙ is in cc) in
-            subst (λ (r : Row). NeedsBlocks m.free.pools cpu r.tail (plan_of (block_at r.index) r.numbers.size offset bytes time) w.0) same w.1);
-      },
-    ))
-    | inr zero ↦ (0, record { none = λ _. refl; some = λ pos. absurd (omega (arith, zero, pos)) })
-  ]
 
 -- a text that is no path is refused
 no_path : (w : World) (cpu : ℕ) (e : Refusal) (tests all : Tests) → all ≡ writing w cpu ((true, e) ∷ tests) → first_refusal all ≡ None → ⊥

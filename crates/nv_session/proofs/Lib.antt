@@ -4,7 +4,6 @@ pub mod Alike
 pub mod OneStep
 mod SameShown
 mod Settled
-mod AlwaysTakes
 mod Calling
 mod Asking
 mod OneCall
