@@ -3,11 +3,11 @@ use Rattle.std.specs.Prelude.{◌≡◌, ℕ, ◌-◌, ◌/◌, ◌≤◌, ◌++
 use Rattle.std.specs.declared.alloc.Global.{Global}
 use Rattle.nv_names.specs.declared.target.Target.{Target}
 
--- the last bytes of a name, up to 8, each turned round
+-- the last bytes of a name, up to 8, each subtracted from 255
 abbrev pub front_of : List ℕ → List ℕ
 front_of name = map (λ b. 255 - b) (drop (length name - 8) name)
 
--- the key of a name: its last bytes, turned round, and then all its bytes
+-- the key of a name: its last bytes, each subtracted from 255, and then all its bytes
 abbrev pub key_of : List ℕ → List ℕ
 key_of name = front_of name ++ name
 

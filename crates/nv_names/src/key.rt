@@ -1,4 +1,4 @@
-//! The keys of the tree: each is a name with its last bytes in front of it, turned round.
+//! The keys of the tree: in front of each name stand its last bytes, each subtracted from 255.
 //!
 //! A search of a node compares with one key after another, from the lowest on. Most names of a directory are numbered:
 //! they come rising, and differ in their last bytes. Their keys come falling, each below all others, and differ in their
@@ -48,7 +48,7 @@ pub(crate) fn name_in(key: &[u8]) -> &[u8]
     &key[FRONT.min(key.len() / 2)..]
 }
 
-/// The last bytes of a name, each turned round.
+/// The last bytes of a name, each subtracted from 255, so that they sort the other way.
 fn front_of(name: &[u8]) -> ArrayVec<u8, FRONT>
     ensures { result.items ≡ front_of name.now }
 {

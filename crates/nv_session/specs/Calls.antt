@@ -123,7 +123,7 @@ makes_size bytes time S m names = resized names bytes time (tree_of S m.rows)
 abbrev pub makes_attributes : ℕ → ℕ → ℕ → ℕ → Makes
 makes_attributes mode owner group time S m names = attributed names mode owner group time (tree_of S m.rows)
 
--- `link`: one more name of a file, by the new path; by what is none, nothing
+-- `link`: one more name of a file, by the new path; by what is no path, nothing
 abbrev pub makes_link : ℕ → Path → Makes
 makes_link time None S m names = tree_of S m.rows
 makes_link time (Some others) S m names = linked names others time (tree_of S m.rows)
@@ -192,7 +192,7 @@ pub record LogsMove (time : ℕ) (others : List (List ℕ)) (S : Region) (m : Mo
   pub within : (i d : ℕ) (node : Node) (held : Store) (h : Held) → LeadsTo (tree_of S m.rows) names i node → walk (tree_of S m.rows) 1 names ≡ Ok d → walk (tree_of S m.rows) 1 others ≡ Ok d → ShowsSound S m.sup held → held d ≡ Some h
       → ShowsGrownLog T m.sup held d h (move_entries i (last_name names) (last_name others) time)
 
--- the same by the new path; by what is none it is never done
+-- the same by the new path; by what is no path it is never done
 abbrev pub logs_rename : ℕ → Path → Logs
 logs_rename time None S m names T = ⊥
 logs_rename time (Some others) S m names T = LogsMove time others S m names T

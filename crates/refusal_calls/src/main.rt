@@ -2,8 +2,8 @@
 //!
 //! It is run with each of its allocations refused in turn (`tests/refuse-calls.sh`). A call that answers want of memory
 //! leaves the region's bytes as they were, and what is mounted as a recovery finds it in them; it is then made once more,
-//! as is a claim or a join. So in the end all runs show the same. The first word is how many blocks of memory are taken, and given back, before
-//! anything else. Status 1 is for memory that was refused outside of a call.
+//! as is a claim or a join. So in the end all runs show the same. The first word is how many blocks of memory are
+//! taken, and given back, before anything else. Status 1 is for memory that was refused outside of a call.
 #![tactic(auto)]
 
 mod calls;
