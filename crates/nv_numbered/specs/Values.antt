@@ -1,5 +1,5 @@
 -- What a contract sees of a `Numbered`.
-use Rattle.std.specs.Prelude.{ℕ, ◌+◌, List, [], ◌∷◌, length, Option, Some, None, slice_index_or, slice_set, refl}
+use Rattle.std.specs.Prelude.{◌≢◌, ℕ, ◌+◌, ◌<◌, List, [], ◌∷◌, length, Option, Some, None, slice_index, slice_index_or, slice_set, refl}
 use Rattle.std.specs.Coded.{Coded, code_by, coded×, coded_ℕ, coded_list, coded_option}
 
 -- the value or nothing of each number, from 0 on, and how many more values take no memory
@@ -16,6 +16,11 @@ values_code {T} code =
     (λ v. (v.slots, v.room))
     (λ p. record { slots = p.0; room = p.1 })
     (λ _. refl)
+
+-- numbers below a limit, none of which stands twice
+pub record AreNumbersBelow (limit : ℕ) (numbers : List ℕ) : Type 0 where
+  pub below : (k : ℕ) → k < length numbers → slice_index numbers k < limit
+  pub once : (j k : ℕ) → j < k → k < length numbers → slice_index numbers j ≢ slice_index numbers k
 
 module _ {T : Type 0} where
   -- the numbers below it may have a value

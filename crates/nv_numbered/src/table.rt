@@ -1,13 +1,13 @@
 //! Values by number: a place for each number that may have one, and the values side by side, each with its number.
 //! Only `new`, `reserve` and `push` take memory.
 
-ghost use Rattle.std.specs.Prelude.{◌≡◌, ◌+◌, ◌<◌, ◌≤◌, ◌^◌, ◌↔◌, [], ℕ, length, IsTrue, IsOk, IsSome, IfOk, IfErr, OnOk, OnErr, OnSome, Some, None, Contains, option_copied, slice_index, slice_set};
+ghost use Rattle.std.specs.Prelude.{◌≡◌, ◌+◌, ◌<◌, ◌≤◌, ◌^◌, ◌↔◌, [], ℕ, length, IsTrue, IsOk, IsSome, IfOk, IfErr, OnOk, OnErr, OnSome, Some, None, Contains, option_copied, slice_get, slice_index, slice_set};
 ghost use Rattle.std.specs.Option.{option_copied_mut};
 ghost use Rattle.std.specs.Ordering.{nat_cmp};
 ghost use Rattle.std.specs.List.Sorted.{IsStrictlySortedBy};
 ghost use Rattle.std.specs.Map.{keys_of};
 ghost use Rattle.std.specs.Borrow.{sem};
-ghost use Rattle.nv_numbered.specs.Values.{value_at, limit_of, entries};
+ghost use Rattle.nv_numbered.specs.Values.{AreNumbersBelow, value_at, limit_of, entries};
 ghost use Rattle.nv_numbered.specs.Table.{slot_of};
 
 use crate::Iter;
@@ -78,6 +78,33 @@ impl<T> Numbered<T> {
             places: vec![in alloc; 0; limit as usize]?,
             numbers: Vec::new(alloc),
             values: Vec::new(alloc),
+        })
+    }
+
+    /// Values in any order, each under the number at its place among `numbers`. It moves no value.
+    pub fn from_values(
+        alloc: Global,
+        values: Vec<T>,
+        numbers: Vec<u32>,
+        limit: u64,
+    ) -> Result<Numbered<T>, AllocError>
+    where
+        T: Drop,
+        requires limit { limit < 2 ^ 32 }
+        requires as_many { length values.items ≡ length numbers.items }
+        requires numbers { AreNumbersBelow limit numbers.items }
+        ensures limit { IfOk result (λ v. limit_of v ≡ limit) }
+        ensures values { IfOk result (λ v. (number : ℕ) (value : T) →
+            (value_at v number ≡ Some value) ↔ ((k : ℕ) × (slice_index numbers.items k ≡ number) × (slice_get values.items k ≡ Some value))) }
+    {
+        let mut places = vec![in alloc; 0; limit as usize]?;
+        for (index, number) in numbers.iter().enumerate() {
+            places[*number as usize] = index as u32 + 1;
+        }
+        Ok(Numbered {
+            places,
+            numbers,
+            values,
         })
     }
 

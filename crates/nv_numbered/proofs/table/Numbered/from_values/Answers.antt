@@ -1,0 +1,41 @@
+use Rattle.std.proofs.Common.{◌≡◌, ◌+◌, ◌<◌, ℕ, length, ◌∙◌, arith, length-set, get_or}
+use Rattle.std.proofs.lemmas.List.{length-replicate, take_all}
+use Rattle.nv_numbered.proofs.SoundLemmas.{IsSound-empty}
+use Rattle.nv_numbered.proofs.MadeLemmas.{few_before, IsSound-next, value_by_place}
+use Rattle.nv_numbered.proofs.table.Numbered.from_values.Goals as goal
+
+pub loop-index-init : goal.loop-index-init
+loop-index-init g c =
+    rw (c.in_ok-places.ensures.items_if_clones_equal (λ y same. same))
+    (record {
+      inside = omega arith;
+      long = length-replicate {A = ℕ} c.args.limit 0;
+      sound = IsSound-empty c.args.limit c.requires.limit;
+    })
+
+pub overflow_add-index : goal.overflow_add-index
+overflow_add-index g c =
+    let numbers = c.args.numbers.items in
+    let inside : c.loop-index.index < length numbers = rw c.deref-number-items.ensures.value at c.loop-index-test.true in
+    let few = few_before c.loop-index.places.items numbers c.args.values.items c.args.limit c.loop-index.index c.requires.as_many c.requires.numbers c.loop-index.invariant.long inside c.loop-index.invariant.sound in
+    omega (arith, few, c.requires.limit)
+
+pub loop-index-preserved : goal.loop-index-preserved
+loop-index-preserved g c =
+    let numbers = c.args.numbers.items in
+    let inside : c.loop-index.index < length numbers = rw c.deref-number-items.ensures.value at c.loop-index-test.true in
+    rw c.deref-number-items.ensures.value
+    (record {
+      inside = omega (arith, inside);
+      long = length-set c.loop-index.places.items (get_or numbers c.loop-index.index 0) (c.loop-index.index + 1) ∙ c.loop-index.invariant.long;
+      sound = IsSound-next c.loop-index.places.items numbers c.args.values.items c.args.limit c.loop-index.index c.requires.as_many c.requires.numbers c.loop-index.invariant.long inside c.loop-index.invariant.sound;
+    })
+
+pub returns-clause-values : goal.returns-clause-values
+returns-clause-values g c number value =
+    let numbers = c.args.numbers.items in
+    let values = c.args.values.items in
+    let count : c.loop-index.index ≡ length numbers = omega (arith, c.loop-index.invariant.inside, rw c.deref-number-items.ensures.value at c.loop-index-test.false) in
+    let sound = c.loop-index.invariant.sound in
+    let whole = rw (take_all c.loop-index.index numbers (omega (arith, count)), take_all c.loop-index.index values (omega (arith, count, c.requires.as_many))) at sound in
+    value_by_place c.loop-index.places.items numbers values whole number value

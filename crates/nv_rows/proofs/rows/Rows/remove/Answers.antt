@@ -1,0 +1,63 @@
+use Rattle.std.proofs.Common.{◌<◌, length, is_some, sym, ◌∙◌, ap, arith, zero-add}
+use Rattle.nv_super.specs.Layout.{inode_limit}
+use Rattle.nv_numbered.proofs.SlotLemmas.{set_none}
+use Rattle.nv_rows.specs.InUse.{place_of}
+use Rattle.nv_rows.specs.Slots.{rows_in}
+use Rattle.nv_rows.proofs.SlotRows.{row_at_slot, slot_emptied, slot_within, stand-emptied, number_out, row_gone}
+use Rattle.nv_rows.proofs.TakenOut.{all_written, without_long}
+use Rattle.nv_rows.proofs.UsedPlaces.{TellsUsed-emptied}
+use Rattle.nv_rows.proofs.rows.Rows.remove.Goals as goal
+
+pub invariant_of-self : goal.invariant_of-self
+invariant_of-self c =
+    let t = c.self.inside in
+    let n = c.args.inode in
+    let inside = slot_within t.rows.slots n (ap is_some (sym c.remove-row.ensures.value) ∙ sym c.if-is_some.ensures) in
+    let below : n < inode_limit t.sup = omega (arith, inside, c.self.invariant.tells.long) in
+    let put = rw (c.deref_mut.ensures.value, c.place_of.ensures) at c.remove.ensures in
+    let long = ap length put ∙ without_long t.used.items (place_of t.sup n) in
+    rw (all_written t.used.len t.used.items c.remove.new.words t.used.ok.0 long, put, c.remove-row.ensures.values)
+    (record {
+      layout = c.self.invariant.layout;
+      stand = stand-emptied 0 t.rows.slots n c.self.invariant.stand;
+      tells = TellsUsed-emptied t.sup c.self.invariant.layout t.rows.slots t.used.items n below c.self.invariant.tells;
+    })
+
+pub returns-then-is_some-clause-row : goal.returns-then-is_some-clause-row
+returns-then-is_some-clause-row c = rw (← c.self.view_is) (c.remove-row.ensures.value ∙ sym (row_at_slot c.self.inside.rows.slots c.args.inode c.self.invariant.stand))
+
+pub returns-then-is_some-clause-rows : goal.returns-then-is_some-clause-rows
+returns-then-is_some-clause-rows c place at =
+    let slots = c.self.inside.rows.slots in
+    let there = rw (← c.self.view_is) at at in
+    rw (← c.self.view_is, c.remove-row.ensures.values)
+    (slot_emptied 0 slots c.args.inode place there.0 c.self.invariant.stand there.1 (there.2 ∙ sym (zero-add c.args.inode)))
+
+pub returns-then-is_some-clause-unchanged : goal.returns-then-is_some-clause-unchanged
+returns-then-is_some-clause-unchanged c none =
+    let slots = c.self.inside.rows.slots in
+    let vacant = sym (row_at_slot slots c.args.inode c.self.invariant.stand) ∙ rw (← c.self.view_is) at none in
+    rw (← c.self.view_is, c.remove-row.ensures.values) (ap rows_in (sym (set_none slots c.args.inode vacant)))
+
+pub returns-else-is_some-clause-row : goal.returns-else-is_some-clause-row
+returns-else-is_some-clause-row c = rw (← c.self.view_is) (c.remove-row.ensures.value ∙ sym (row_at_slot c.self.inside.rows.slots c.args.inode c.self.invariant.stand))
+
+pub returns-else-is_some-clause-rows : goal.returns-else-is_some-clause-rows
+returns-else-is_some-clause-rows c place at =
+    let slots = c.self.inside.rows.slots in
+    let there = rw (← c.self.view_is) at at in
+    rw (← c.self.view_is, c.remove-row.ensures.values)
+    (slot_emptied 0 slots c.args.inode place there.0 c.self.invariant.stand there.1 (there.2 ∙ sym (zero-add c.args.inode)))
+
+pub returns-then-is_some-clause-number : goal.returns-then-is_some-clause-number
+returns-then-is_some-clause-number c =
+    let t = c.self.inside in
+    number_out t.rows.slots c.args.inode (inode_limit t.sup) c.remove-row.result c.remove-row.ensures.value c.self.invariant.stand c.self.invariant.tells.long
+
+pub returns-then-is_some-clause-gone : goal.returns-then-is_some-clause-gone
+returns-then-is_some-clause-gone c =
+    rw c.remove-row.ensures.values (row_gone c.self.inside.rows.slots c.args.inode c.self.invariant.stand)
+
+pub returns-else-is_some-clause-gone : goal.returns-else-is_some-clause-gone
+returns-else-is_some-clause-gone c =
+    rw c.remove-row.ensures.values (row_gone c.self.inside.rows.slots c.args.inode c.self.invariant.stand)

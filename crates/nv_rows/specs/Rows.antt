@@ -1,0 +1,28 @@
+-- Rows by their numbers: which row an inode has, where it stands, and what a list is with a further row.
+use Rattle.std.specs.Prelude.{◌≡◌, ℕ, ◌≤◌, nat_eq, List, [], ◌∷◌, map, length, Option, Some, slice_get}
+use Rattle.std.specs.List.{find, insert}
+use Rattle.nv_super.specs.Order.{Rises}
+use Rattle.nv_scan.specs.declared.piece.Row.{Row}
+
+-- rows are ordered by inode
+abbrev pub row_key : Row → List ℕ
+row_key r = r.inode ∷ []
+
+-- the numbers of rows
+abbrev pub inodes_of : List Row → List ℕ
+inodes_of rows = map (λ (r : Row). r.inode) rows
+
+-- the row of a number
+abbrev pub row_of : List Row → ℕ → Option Row
+row_of rows i = find (λ (r : Row). nat_eq r.inode i) rows
+
+-- the row of a number stands here
+abbrev pub IsPlaceOf : List Row → ℕ → ℕ → Type 0
+IsPlaceOf rows i place = (row : Row) × (slice_get rows place ≡ Some row) × (row.inode ≡ i)
+
+-- A row was put in at its place among rows that rise.
+pub record HasInserted (old new : List Row) (row : Row) : Type 0 where
+  pub place : ℕ
+  pub inside : place ≤ length old
+  pub all : new ≡ insert old place row
+  pub rising : Rises row_key new

@@ -1,0 +1,177 @@
+//! Rows by the numbers of their inodes, over `Numbered`. Only `from_rows` and `reserve` take memory.
+
+ghost use Rattle.std.specs.Prelude.{◌≡◌, ◌+◌, ◌<◌, ◌≤◌, ◌^◌, ℕ, None, map, IfOk, IfSome, length, IsOk, OnOk, OnSome, option_copied};
+ghost use Rattle.std.specs.List.{All, remove as without};
+ghost use Rattle.nv_super.specs.Order.{Rises, SortedOf};
+ghost use Rattle.nv_super.specs.Layout.{inode_limit, IsLayout};
+ghost use Rattle.nv_rows.specs.InUse.{place_of, HasUsed};
+ghost use Rattle.nv_scan.specs.declared.piece.Row.{Row as RowValue};
+ghost use Rattle.nv_numbered.specs.Values.{AreNumbersBelow};
+ghost use Rattle.nv_rows.specs.Rows.{row_key, inodes_of, row_of, IsPlaceOf, HasInserted};
+ghost use Rattle.nv_rows.specs.Unused.{unused_number};
+
+use crate::bits::{first_clear, remove};
+use nv_blockset::{insert, words_for};
+use nv_numbered::{Iter, Numbered};
+use nv_scan::{Row, SLOTS};
+use nv_super::Super;
+use std::alloc::{AllocError, Global};
+use std::marker::Model;
+
+/// The rows of the inodes in use, seen as their list, which rises by number.
+#[derive(Drop)]
+pub struct Rows {
+    rows: Numbered<Row>,
+    // The numbers in use, by the places of their slots.
+    used: Vec<u64>,
+    sup: Super,
+}
+
+impl Model for Rows {
+    ghost use Rattle.nv_rows.specs.RowList.{RowList};
+
+    ghost Value = { RowList };
+
+    ghost use Rattle.nv_rows.specs.Slots.{rows_in};
+    ghost use Rattle.nv_rows.specs.InUse.{AreRows};
+
+    ghost view = { λ t. record {
+      items = rows_in t.rows.slots;
+      room = t.rows.room;
+      sup = t.sup;
+    } };
+
+    ghost invariant = { λ t. AreRows t.sup t.rows.slots t.used.items };
+}
+
+// The number of each row.
+fn numbers_of(alloc: Global, rows: &[Row]) -> Result<Vec<u32>, AllocError>
+    requires { All (λ (row : RowValue). row.inode < 2 ^ 32) rows.now }
+    ensures { IfOk result (λ numbers. numbers.items ≡ inodes_of rows.now) }
+{
+    let mut numbers = Vec::with_capacity(alloc, rows.len())?;
+    for row in rows {
+        numbers.push(row.inode as u32)?;
+    }
+    Ok(numbers)
+}
+
+// The place of an inode's slot among all slots of the tables, where those of one CPU stand side by side.
+fn place_of(sup: &Super, inode: u64) -> u64
+    requires layout { IsLayout sup.now }
+    requires inode { inode < inode_limit sup.now }
+    ensures { result ≡ place_of sup.now inode }
+{
+    inode % sup.cpus * (SLOTS * sup.table_blocks) + inode / sup.cpus
+}
+
+// The numbers of the rows, by the places of their slots.
+fn used_by(alloc: Global, sup: &Super, rows: &[Row]) -> Result<Vec<u64>, AllocError>
+    requires layout { IsLayout sup.now }
+    requires numbers { AreNumbersBelow (inode_limit sup.now) (inodes_of rows.now) }
+    ensures { IfOk result (λ used. HasUsed sup.now (inodes_of rows.now) used.items) }
+{
+    let mut used = vec![in alloc; 0; words_for(sup.inode_limit())]?;
+    for row in rows {
+        insert(&mut used, place_of(sup, row.inode));
+    }
+    Ok(used)
+}
+
+impl Rows {
+    /// Rows that came in any order, for the inodes of a file system. It moves none of them.
+    pub fn from_rows(alloc: Global, rows: Vec<Row>, sup: &Super) -> Result<Rows, AllocError>
+        requires layout { IsLayout sup.now }
+        requires numbers { AreNumbersBelow (inode_limit sup.now) (inodes_of rows.items) }
+        ensures rows { IfOk result (λ r. SortedOf row_key rows.items r.items) }
+        ensures sup { IfOk result (λ r. r.sup ≡ sup.now) }
+    {
+        let numbers = numbers_of(alloc, &rows)?;
+        let used = used_by(alloc, sup, &rows)?;
+        Ok(Rows {
+            rows: Numbered::from_values(alloc, rows, numbers, sup.inode_limit())?,
+            used,
+            sup: *sup,
+        })
+    }
+
+    /// The row of an inode, if it is in use.
+    pub fn get(&self, inode: u64) -> Option<&Row>
+        ensures { option_copied result ≡ row_of self.now.items inode }
+    {
+        self.rows.get(inode)
+    }
+
+    /// How many inodes are in use.
+    pub fn len(&self) -> usize
+        ensures count { result ≡ length self.now.items }
+        ensures rising { Rises row_key self.now.items }
+    {
+        self.rows.len()
+    }
+
+    /// The rows with their numbers, rising. It looks at every number that an inode can have.
+    pub fn iter(&self) -> Iter<'_, Row>
+        ensures rows { map (λ entry. entry.1) result ≡ self.now.items }
+        ensures rising { Rises row_key self.now.items }
+    {
+        self.rows.iter()
+    }
+
+    /// Makes room for `more` rows, or leaves the rows as they are.
+    pub fn reserve(&mut self, more: usize) -> Result<(), AllocError>
+        ensures rows { self.new.items ≡ self.old.items }
+        ensures sup { self.new.sup ≡ self.old.sup }
+        ensures ready { OnOk result (more ≤ self.new.room) }
+        ensures succeeds { more ≤ self.old.room → IsOk result }
+        ensures room { self.old.room ≤ self.new.room }
+    {
+        self.rows.reserve(more)
+    }
+
+    /// Puts in the row of an inode that has none, where there is room for it.
+    pub fn insert(&mut self, row: Row)
+        requires within { row.inode < inode_limit self.old.sup }
+        requires vacant { row_of self.old.items row.inode ≡ None }
+        requires room { 0 < self.old.room }
+        ensures rows { HasInserted self.old.items self.new.items row }
+        ensures sup { self.new.sup ≡ self.old.sup }
+        ensures room { self.old.room ≡ self.new.room + 1 }
+    {
+        insert(&mut self.used, place_of(&self.sup, row.inode));
+        self.rows.insert(row.inode, row);
+    }
+
+    /// Takes the row of an inode out, if it is in use. There is room to put it in again.
+    pub fn remove(&mut self, inode: u64) -> Option<Row>
+        ensures row { result ≡ row_of self.old.items inode }
+        ensures number { IfSome result (λ row. (row.inode ≡ inode) × (inode < inode_limit self.new.sup)) }
+        ensures gone { row_of self.new.items inode ≡ None }
+        ensures rows { (place : ℕ) → IsPlaceOf self.old.items inode place → self.new.items ≡ without self.old.items place }
+        ensures unchanged { row_of self.old.items inode ≡ None → self.new.items ≡ self.old.items }
+        ensures sup { self.new.sup ≡ self.old.sup }
+        ensures room { self.old.room ≤ self.new.room }
+        ensures freed { OnSome result (self.new.room ≡ self.old.room + 1) }
+    {
+        let row = self.rows.remove(inode);
+        if row.is_some() {
+            remove(&mut self.used, place_of(&self.sup, inode));
+        }
+        row
+    }
+
+    /// The lowest number of a CPU's table that no inode in use has, 0 left out. It looks at one word for 64 numbers.
+    pub fn lowest_unused(&self, cpu: u64) -> Option<u64>
+        requires { cpu < self.now.sup.cpus }
+        ensures { result ≡ unused_number self.now.sup self.now.items cpu }
+    {
+        let slots = SLOTS * self.sup.table_blocks;
+        let first = cpu * slots;
+        // Number 0 is no inode's.
+        let place = first_clear(&self.used, first.max(1), first + slots);
+        if place == first + slots {
+            return None;
+        }
+        Some((place - first) * self.sup.cpus + cpu)
+    }
+}
