@@ -7,9 +7,8 @@ ghost use Rattle.nv_outcome.specs.Answer.{outcome_of};
 ghost use Rattle.mount_and_list.specs.Mounted.{IsFreshOutcome};
 
 use nv_format::{FormatRefusal, format};
-use nv_recover::{RecoverError, Recovered, recover_one};
+use nv_recover::{RecoverError, Recovered, Rows, recover_one};
 use nv_region::{MemRegion, RegionRefusal};
-use nv_scan::Row;
 use nv_super::Run;
 use std::alloc::{AllocError, Global};
 use std::io;
@@ -43,8 +42,8 @@ fn mount(alloc: Global) -> Result<Recovered, MountError>
     Ok(recover_one(alloc, &mut memory)?)
 }
 
-fn list_rows<R: Print>(rt: &R, rows: &[Row]) -> io::Result<()> {
-    for row in rows {
+fn list_rows<R: Print>(rt: &R, rows: &Rows) -> io::Result<()> {
+    for (_, row) in rows.iter() {
         println!(rt;
             "inode {} is a {} with its log in the blocks {:?}, up to byte {}",
             row.inode, row.kind, row.pages, row.tail

@@ -1,5 +1,4 @@
 pub mod Fronts
-pub mod WordBits
 pub mod Pools
 pub mod Leaving
 pub mod TakeExists

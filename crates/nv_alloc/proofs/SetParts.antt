@@ -3,9 +3,10 @@ use Rattle.std.proofs.Common.{◌≡◌, ◌≢◌, ◌⊎◌, inl, inr, ℕ, �
 use Rattle.std.specs.Prelude.{bit_or, bit_and, slice_set, slice_index}
 use Rattle.std.specs.Int.{bit_at, bit_not}
 use Rattle.std.proofs.lemmas.Bool.{cases_lt, cases_eq}
-use Rattle.std.proofs.lemmas.Nat.Bits.{bit_at_or, bit_at_and, bit_at_not, bit_at-lt, bit_at_ones, bit_at_ones_above, ones_shl, ones_shr, bit_at_mask_inside, bit_at_mask_below, bit_at_clear_same, bit_at_clear_other}
+use Rattle.std.proofs.lemmas.Nat.Bits.{bit_at_or, bit_at_and, bit_at_not, bit_at-lt, bit_at_ones, bit_at_ones_above, ones_shl, ones_shr, bit_at_mask_inside, bit_at_mask_below}
 use Rattle.nv_blockset.specs.BlockSet.{has}
-use Rattle.nv_alloc.specs.SetTo.{SetTo, TellsFull, without_block}
+use Rattle.nv_blockset.proofs.TakenOut.{here, there}
+use Rattle.nv_alloc.specs.SetTo.{SetTo, TellsFull}
 
 -- nothing is set yet
 pub SetTo-none : (words : List ℕ) (from bit : ℕ) → SetTo words from from bit words
@@ -24,14 +25,6 @@ SetTo-more old now new from mid to bit low high first second = record {
     | inr w ↦ second.outside b (inr w) ∙ first.outside b (inr (omega (arith, w, high)))
   ];
 }
-
--- a word of other bits
-module _ (words : List ℕ) (w bits : ℕ) (within : w < length words) where
-  here : (b : ℕ) → b / 64 ≡ w → has (slice_set words w bits) b ≡ bit_at bits (b % 64)
-  here b is = ap (λ (k : ℕ). bit_at (slice_index (slice_set words w bits) k) (b % 64)) is ∙ ap (λ (x : ℕ). bit_at x (b % 64)) (get_or-set_same words w bits 0 within)
-
-  there : (b : ℕ) → (b / 64 ≡ w → ⊥) → has (slice_set words w bits) b ≡ has words b
-  there b ne = ap (λ (x : ℕ). bit_at x (b % 64)) (get_or-set_other words w (b / 64) bits 0 ne)
 
 -- the bit of a block in the word that it shares with another
 bit_of : (from b : ℕ) → from - from % 64 ≤ b → b < from - from % 64 + 64 → b / 64 ≡ from / 64
@@ -101,25 +94,6 @@ module _ (from to : ℕ) (some : from < to) (part : to ≤ from - from % 64 + 64
         | inl w ↦ (let a = lower i ∙ bit_at_mask_below (from % 64) 64 i w in omega (arith, e, a))
         | inr w ↦ (let b = upper i ∙ bit_at_ones_above (from % 64 + (to - from)) i w in omega (arith, e, b))
       ]
-
--- a bit of a word
-below_64 : (b : ℕ) → b % 64 < 64
-below_64 b = omega arith
-
--- a block that is taken out, and the others
-pub without_same : (words : List ℕ) (b : ℕ) → b / 64 < length words → has (without_block words b) b ≡ 0
-without_same words b within = here words (b / 64) (bit_and (slice_index words (b / 64)) (bit_not w64 (1 * 2 ^ (b % 64) % 2 ^ 64))) within b refl ∙ bit_at_clear_same w64 (slice_index words (b / 64)) (b % 64) (below_64 b)
-
-pub without_other : (words : List ℕ) (b c : ℕ) → b / 64 < length words → c ≢ b → has (without_block words b) c ≡ has words c
-without_other words b c within other = elim (cases_eq (c / 64) (b / 64)) [
-  | inl is ↦ here words (b / 64) (bit_and (slice_index words (b / 64)) (bit_not w64 (1 * 2 ^ (b % 64) % 2 ^ 64))) within c is
-      ∙ bit_at_clear_other w64 (slice_index words (b / 64)) (b % 64) (below_64 b) (c % 64) (below_64 c) (λ e. other (omega (arith, e, is)))
-      ∙ ap (λ (k : ℕ). bit_at (slice_index words k) (c % 64)) (sym is)
-  | inr ne ↦ there words (b / 64) (bit_and (slice_index words (b / 64)) (bit_not w64 (1 * 2 ^ (b % 64) % 2 ^ 64))) within c ne
-]
-
-pub without_long : (words : List ℕ) (b : ℕ) → length (without_block words b) ≡ length words
-without_long words b = length-set words (b / 64) (bit_and (slice_index words (b / 64)) (bit_not w64 (1 * 2 ^ (b % 64) % 2 ^ 64)))
 
 -- a word of other bits, of which it is told whether it is full
 pub tells_put : (words full told : List ℕ) (w bits : ℕ) → TellsFull words full → w < length words → length told ≡ length full → ((v : ℕ) → v ≢ w → has told v ≡ has full v) → (has told w ≡ 1 → bits ≡ 2 ^ 64 - 1)

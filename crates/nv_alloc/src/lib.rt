@@ -2,14 +2,12 @@
 #![tactic(auto)]
 
 mod allocators;
-mod bits;
 mod cutting;
 mod laws;
 mod marks;
 mod pool;
 
 pub use allocators::{AllocRefusal, Allocators};
-pub use bits::word_run;
 pub use laws::{
     a_take_exists, sets_determine_lists, take_then_give_restores, taken_blocks_are_data_blocks,
     taken_can_join,

@@ -4,10 +4,9 @@
 ghost use Rattle.std.specs.Prelude.{◌≡◌, ◌⊎◌, ◌<◌, ◌≤◌, ◌+◌, ◌-◌, ◌*◌, ◌/◌, ◌%◌, ◌^◌, ◌≢◌, ℕ, length, IfOk, slice_set};
 ghost use Rattle.std.specs.Int.{bit_at};
 ghost use Rattle.nv_blockset.specs.BlockSet.{has};
-ghost use Rattle.nv_alloc.specs.SetTo.{SetTo, TellsFull, without_block};
+ghost use Rattle.nv_alloc.specs.SetTo.{SetTo, TellsFull};
 
-use crate::bits::{first_clear, first_set};
-use nv_blockset::{insert, words_for};
+use nv_blockset::{first_clear, first_set, insert, remove, words_for};
 use std::alloc::{AllocError, Global};
 use std::marker::Model;
 
@@ -180,12 +179,4 @@ fn mask(from: u64, to: u64) -> u64
     let low = from % 64;
     let high = low + (to - from);
     (u64::MAX << low) & (u64::MAX >> (64 - high))
-}
-
-/// Takes the block out of the set, where it need not be.
-fn remove(words: &mut [u64], block: u64)
-    requires { block / 64 < length words.old }
-    ensures { words.new ≡ without_block words.old block }
-{
-    words[(block / 64) as usize] &= !(1u64 << (block % 64));
 }

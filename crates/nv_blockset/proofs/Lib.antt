@@ -1,2 +1,4 @@
 pub mod Sets
 pub mod Lists
+pub mod WordBits
+pub mod TakenOut

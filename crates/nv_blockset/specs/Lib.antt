@@ -1,2 +1,3 @@
 pub mod BlockSet
 pub mod Listed
+pub mod WordRuns

@@ -12,6 +12,7 @@ use Rattle.nv_super.specs.Layout.{is_number}
 use Rattle.nv_super.specs.declared.superblock.Super.{Super}
 use Rattle.nv_super.proofs.Rising.{Contains-cons, Contains-head, Contains-tail}
 use Rattle.nv_scan.specs.declared.piece.Row.{Row}
+pub use Rattle.nv_scan.proofs.RowKeys.{key_less}
 use Rattle.nv_check.specs.declared.listing.Listing.{Listing}
 use Rattle.nv_check.specs.Cross.{row_key}
 use Rattle.nv_check.specs.Listings.{IsListing, AreListings, inodes_of}
@@ -53,9 +54,6 @@ inodes_same [] [] h = refl
 inodes_same [] (l ∷ listings) h = absurd h
 inodes_same (r ∷ rows) [] h = absurd h
 inodes_same (r ∷ rows) (l ∷ listings) h = λ i. h.0.inode i ∷ inodes_same rows listings h.1 i
-
-pub key_less : (a b : ℕ) → slice_cmp nat_cmp (a ∷ []) (b ∷ []) ≡ Less → a < b
-key_less a b h = grind (arith, nat_tests)
 
 rising_rows : (rows : List Row) → Rises row_key rows → IsStrictlyIncreasing (map (λ (r : Row). r.inode) rows)
 rising_rows [] r k lt = absurd (omega (arith, lt))

@@ -6,11 +6,8 @@ use Rattle.nv_super.specs.declared.kind.Kind.TheVariants.{File, Directory}
 use Rattle.nv_super.specs.declared.faults.Fault.{Fault}
 use Rattle.nv_super.specs.declared.faults.Fault.TheVariants as faults
 use Rattle.nv_names.specs.Names.{name_at}
+pub use Rattle.nv_scan.specs.Rows.{row_key}
 use Rattle.nv_scan.specs.declared.piece.Row.{Row}
-
--- rows are ordered by inode
-abbrev pub row_key : Row → List ℕ
-row_key r = r.inode ∷ []
 
 -- the row of inode d has the name, for inode i, by an add at this place
 abbrev pub HasNameIn : List Row → ℕ → List ℕ → ℕ → ℕ → Type 0

@@ -22,3 +22,4 @@ pub use Rattle.nv_named.proofs.nv_outcome
 pub use Rattle.nv_named.proofs.nv_check
 pub use Rattle.nv_named.proofs.nv_scan
 pub use Rattle.nv_named.proofs.nv_graph
+pub use Rattle.nv_named.proofs.nv_rows

@@ -15,3 +15,4 @@ pub use Rattle.nv_named.specs.nv_outcome
 pub use Rattle.nv_named.specs.nv_check
 pub use Rattle.nv_named.specs.nv_scan
 pub use Rattle.nv_named.specs.nv_graph
+pub use Rattle.nv_named.specs.nv_rows

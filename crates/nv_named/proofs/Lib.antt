@@ -10,3 +10,4 @@ pub use Rattle.nv_outcome.proofs.nv_check
 pub use Rattle.nv_outcome.proofs.nv_scan
 pub use Rattle.nv_graph.proofs as nv_graph
 pub use Rattle.nv_outcome.proofs.nv_journal
+pub use Rattle.nv_outcome.proofs.nv_rows

@@ -5,3 +5,4 @@ pub use Rattle.nv_outcome.specs.nv_check
 pub use Rattle.nv_outcome.specs.nv_scan
 pub use Rattle.nv_graph.specs as nv_graph
 pub use Rattle.nv_outcome.specs.nv_journal
+pub use Rattle.nv_outcome.specs.nv_rows

@@ -1,6 +1,5 @@
 -- The graph that is read from a region, and the graph of its rows.
-use Rattle.std.specs.Prelude.{◌≡◌, ℕ, nat_eq, List, Option, Some}
-use Rattle.std.specs.List.{find}
+use Rattle.std.specs.Prelude.{◌≡◌, ℕ, List, Some}
 use Rattle.std.specs.Option.{option_map, option_and_then}
 use Rattle.nv_region.specs.Region.{Region}
 use Rattle.nv_super.specs.Layout.{Layout}
@@ -8,6 +7,7 @@ use Rattle.nv_names.specs.Names.{name_at}
 use Rattle.nv_outcome.specs.nv_scan.State.{links_of}
 use Rattle.nv_outcome.specs.nv_scan.Inode.{Log, IsInode, IsInUse, good_of}
 use Rattle.nv_outcome.specs.nv_scan.declared.piece.Row.{Row}
+pub use Rattle.nv_outcome.specs.nv_rows.Rows.{row_of}
 use Rattle.nv_outcome.specs.Outcome.{HasName, AreNamesOf}
 use Rattle.nv_graph.specs.Graph.{Node, Graph, NoCrossFaults}
 
@@ -26,10 +26,6 @@ pub record HasFaultlessGraph (R : Region) (l : Layout) (g : Graph) : Type 0 wher
 -- each number has a list of its names
 abbrev pub HasAllNames : Region → Layout → Type 0
 HasAllNames R l = (i : ℕ) → (names : List (ℕ × List ℕ)) × AreNamesOf R l i names
-
--- the row of a number
-abbrev pub row_of : List Row → ℕ → Option Row
-row_of rows i = find (λ (r : Row). nat_eq r.inode i) rows
 
 -- the graph of rows
 abbrev pub graph_of : List Row → Graph

@@ -18,3 +18,4 @@ pub mod Exists
 pub use Rattle.nv_check.proofs as nv_check
 pub use Rattle.nv_check.proofs.nv_scan
 pub use Rattle.nv_journal.proofs as nv_journal
+pub use Rattle.nv_rows.proofs as nv_rows

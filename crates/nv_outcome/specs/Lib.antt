@@ -7,3 +7,4 @@ pub use Rattle.nv_check.specs as nv_check
 pub use Rattle.nv_check.specs.nv_scan
 pub use Rattle.nv_journal.specs as nv_journal
 pub use Rattle.nv_check.specs.nv_logpage
+pub use Rattle.nv_rows.specs as nv_rows

@@ -13,4 +13,5 @@ pub use laws::{
     parts_make_the_outcome, recovered_again, rolled_back_outcome,
 };
 pub use nv_check::{cross_faults, cross_faults_one, doubled};
+pub use nv_rows::Rows;
 pub use recovered::Recovered;

@@ -1,15 +1,15 @@
 //! What a recovery answers, and a mounted file system is opened with.
 
 use nv_alloc::Allocators;
-use nv_check::Row;
+use nv_rows::Rows;
 use nv_super::{Fault, Owner, Super};
 
 /// What a region holds, read from its bytes once its journals were rolled back.
 #[derive(Drop)]
 pub struct Recovered {
     pub sup: Super,
-    /// The inodes in use, rising by number.
-    pub rows: Vec<Row>,
+    /// The inodes in use, each found by its number.
+    pub rows: Rows,
     /// The free blocks of each CPU's pool.
     pub free: Allocators,
     /// The blocks with two owners or more, each with all its owners, rising by block and owner.

@@ -18,9 +18,12 @@ use Rattle.nv_super.specs.Order.{fault_key, Lists}
 use Rattle.nv_scan.specs.declared.piece.Row.{Row}
 use Rattle.nv_scan.specs.declared.piece.Piece.{Piece}
 use Rattle.nv_scan.proofs.Only.{slot_in_use}
+use Rattle.nv_outcome.specs.nv_rows.nv_numbered.Values.{AreNumbersBelow}
 use Rattle.nv_outcome.specs.nv_check.Cross.{IsCrossFaultIn}
+use Rattle.nv_outcome.specs.nv_rows.Rows.{inodes_of}
 use Rattle.nv_outcome.specs.Parts.{rows_in, faults_in}
 use Rattle.nv_outcome.proofs.RowsOf.{rows_are}
+use Rattle.nv_outcome.proofs.nv_rows.InOrder.{rising_given}
 use Rattle.nv_outcome.proofs.Tickets.{pieces_in_order, one_more_in_order, slot_number}
 use Rattle.nv_recover.specs.declared.scanned.Inodes.{Inodes}
 use Rattle.nv_recover.specs.Scanned.{AreInodes, AreFirst, AreOrdered, IsNext}
@@ -81,6 +84,13 @@ rows_ordered {R} {s} {pieces} {x} layout inodes rows same = subst (AreOrdered s)
       let number = slot_number s row.inode w.0 layout (slot_in_use w.2.inode) in
       numbered s row.inode number.0 number.1);
 }
+
+-- their numbers are each below the limit, and none stands twice
+pub rows_numbered : {R : Region} {s : Super} {pieces : List Piece} {x : Inodes} → IsLayout s → AreInodes R s pieces x → AreNumbersBelow (inode_limit s) (inodes_of x.rows.items)
+rows_numbered {R} {s} {pieces} {x} layout inodes =
+    let are = rows_are pieces inodes.pieces_are in
+    subst (λ (rows : List Row). AreNumbersBelow (inode_limit s) (inodes_of rows)) (sym inodes.rows)
+    (rising_given (inode_limit s) (rows_in pieces) are.rising (λ row c. let w = are.each row c in (slot_number s row.inode w.0 layout (slot_in_use w.2.inode)).1))
 
 -- the faults between these rows, told of the same rows
 pub cross_same : (rows same : List Row) (cross : List Fault) → rows ≡ same → Lists fault_key (IsCrossFaultIn rows) cross → Lists fault_key (IsCrossFaultIn same) cross

@@ -12,12 +12,12 @@ ghost use Rattle.nv_recover.specs.Scanned.{IsScanned, all_told};
 use crate::scanned::Scanned;
 use crate::starting::Started;
 use nv_alloc::Allocators;
-use nv_outcome::{Recovered, doubled};
+use nv_outcome::{Recovered, Rows, doubled};
 use nv_super::{Fault, Owner, sort_faults};
 use std::alloc::{AllocError, Global};
 
-/// The answer: the free lists are made of the first set, the doubled blocks are found by the second, and all faults are
-/// put in order.
+/// The answer: the rows get places by their numbers, the free lists are made of the first set, the doubled blocks are
+/// found by the second, and all faults are put in order.
 pub(crate) fn finish(
     alloc: Global,
     started: Started,
@@ -36,9 +36,10 @@ pub(crate) fn finish(
     let free = Allocators::from_words(alloc, &claimed.first, &sup)?;
     let doubled = doubled(alloc, &claimed.claims, &claimed.second)?;
     let faults = all_faults(journal, &inodes.faults, &cross, &doubled)?;
+    let rows = Rows::from_rows(alloc, inodes.rows, &sup)?;
     Ok(Recovered {
         sup,
-        rows: inodes.rows,
+        rows,
         free,
         doubled,
         faults,

@@ -16,7 +16,7 @@ mod starting;
 mod workers;
 
 pub use errors::{MOST_WORKERS, RecoverError};
-pub use nv_outcome::Recovered;
+pub use nv_outcome::{Recovered, Rows};
 pub use nv_scan::{NoGate, Row};
 pub use one::recover_one;
 pub use parallel::recover;

@@ -5,4 +5,4 @@ use Rattle.nv_report.specs.declared.shown.Shown.{Shown}
 
 -- as an outcome
 abbrev pub shown_of : Shown → Outcome
-shown_of shown = record { sup = shown.sup.now; rows = shown.rows.now; free = shown.free.now.pools; doubled = []; faults = shown.faults.now }
+shown_of shown = record { sup = shown.sup.now; rows = shown.rows.now.items; free = shown.free.now.pools; doubled = []; faults = shown.faults.now }

@@ -7,16 +7,16 @@ ghost use Rattle.nv_report.specs.Texts.{attributes_of, row_head, names_text, ext
 
 use nv_names::Named;
 use nv_radix::Extent;
-use nv_recover::Row;
+use nv_recover::{Row, Rows};
 use nv_super::Kind;
 use nv_text::{Attributes, push_inode_line, push_log_line, push_name_line, push_page_line};
 use std::alloc::AllocError;
 
 /// The texts of the inodes, one after another.
-pub fn push_rows(out: &mut String, rows: &[Row]) -> Result<(), AllocError>
-    ensures { OnOk result (AddsText (IsTreeText rows.now) (string_bytes out.old) (string_bytes out.new)) }
+pub fn push_rows(out: &mut String, rows: &Rows) -> Result<(), AllocError>
+    ensures { OnOk result (AddsText (IsTreeText rows.now.items) (string_bytes out.old) (string_bytes out.new)) }
 {
-    for row in rows {
+    for (_, row) in rows.iter() {
         push_row(out, row)?;
     }
     Ok(())

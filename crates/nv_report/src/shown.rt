@@ -4,15 +4,15 @@ ghost use Rattle.std.specs.Prelude.{◌≡◌, []};
 ghost use Rattle.nv_recover.specs.nv_outcome.Answer.{outcome_of};
 
 use nv_alloc::Allocators;
-use nv_recover::{Recovered, Row};
+use nv_recover::{Recovered, Rows};
 use nv_super::{Fault, Super};
 
 /// What is told of a region.
 #[derive(Clone, Copy)]
 pub struct Shown<'a> {
     pub sup: &'a Super,
-    /// The inodes in use, rising by number.
-    pub rows: &'a [Row],
+    /// The inodes in use.
+    pub rows: &'a Rows,
     /// The free blocks of each CPU's pool.
     pub free: &'a Allocators,
     /// All that is wrong, in the order of the classes.

@@ -1,6 +1,6 @@
 -- Rows that came in any order, and stand in the slots of their numbers then.
-use Rattle.std.proofs.Common.{◌≡◌, ◌↔◌, ℕ, zero, suc, ◌*◌, ◌^◌, ◌<◌, ◌≤◌, List, [], ◌∷◌, ◌++◌, length, take, get_or, slice_get, Option, Some, None, refl, sym, ap, ◌∙◌, zero-add, inl, inr, arith, Contains, ◌+◌}
-use Rattle.std.proofs.lemmas.List.{length-map, map-append, take_more, length-take-le, get_or-take}
+use Rattle.std.proofs.Common.{◌≡◌, ◌↔◌, ℕ, zero, suc, ◌*◌, ◌^◌, ◌<◌, ◌≤◌, List, [], ◌∷◌, length, get_or, slice_get, Option, Some, None, refl, sym, ap, ◌∙◌, zero-add, inl, inr, arith, Contains}
+use Rattle.std.proofs.lemmas.List.{length-map}
 use Rattle.std.proofs.Math.Nat.{mul-le-mul}
 use Rattle.std.proofs.lemmas.Option.{slice_get-get_or}
 use Rattle.nv_super.specs.declared.superblock.Super.{Super}
@@ -79,20 +79,3 @@ given_sorted rows slots each =
 -- each given row has a number
 pub many_numbers : (rows : List Row) → length (inodes_of rows) ≡ length rows
 many_numbers rows = length-map rows (λ (r : Row). r.inode)
-
--- the numbers of one row more
-pub numbers_more : (rows : List Row) (n : ℕ) (row : Row) → n < length rows → row ≡ get_or rows n row → inodes_of (take (n + 1) rows) ≡ inodes_of (take n rows) ++ row.inode ∷ []
-numbers_more rows n row inside read =
-    ap inodes_of (take_more rows n row inside ∙ ap (λ (r : Row). take n rows ++ r ∷ []) (sym read)) ∙ map-append (λ (r : Row). r.inode) (take n rows) (row ∷ [])
-
--- the numbers of the first rows are below the limit too
-pub number_within : (limit : ℕ) (rows : List Row) (n : ℕ) → AreNumbersBelow limit (inodes_of rows) → n ≤ length rows → (k : ℕ) → k < length (inodes_of (take n rows)) → get_or (inodes_of (take n rows)) k 0 < limit
-number_within limit rows n given le k inside =
-    let short : k < n = omega (arith, inside, many_numbers (take n rows), length-take-le n rows le) in
-    let same : get_or (inodes_of (take n rows)) k 0 ≡ get_or (inodes_of rows) k 0 = ap (λ (ns : List ℕ). get_or ns k 0) (map-take n rows) ∙ get_or-take n (inodes_of rows) k 0 short in
-    omega (arith, same, given.below k (omega (arith, short, le, many_numbers rows)))
-  where
-    map-take : (m : ℕ) (rs : List Row) → inodes_of (take m rs) ≡ take m (inodes_of rs)
-    map-take zero rs = refl
-    map-take (suc m) [] = refl
-    map-take (suc m) (r ∷ rs) = ap (λ (ns : List ℕ). r.inode ∷ ns) (map-take m rs)

@@ -2,7 +2,6 @@ pub mod SlotRows
 pub mod GivenRows
 pub mod Numbers
 pub mod PutBack
-pub mod WordBits
-pub mod TakenOut
+pub mod InOrder
 pub mod UsedPlaces
 pub mod LowestPlace

@@ -1,19 +1,14 @@
 -- For callers: a row that was taken out, changed and put in again stands where it stood.
-use Rattle.std.proofs.Common.{◌≡◌, ℕ, zero, suc, ◌<◌, ◌≤◌, nat_cmp, List, [], ◌∷◌, length, set, slice_get, Some, refl, sym, ap, ◌∙◌, arith, Contains}
+use Rattle.std.proofs.Common.{◌≡◌, ℕ, zero, suc, ◌≤◌, List, [], ◌∷◌, length, set, slice_get, Some, refl, sym, ap, ◌∙◌, arith, Contains}
 use Rattle.std.specs.List.{insert, remove}
-use Rattle.std.specs.Cmp.Lexicographic.{slice_cmp}
-use Rattle.std.specs.declared.cmp.Ordering.TheVariants.{Less}
-use Rattle.std.proofs.lemmas.Bool.Decides.{nat_tests}
 use Rattle.nv_super.specs.Order.{Rises}
 use Rattle.nv_super.proofs.Rising.{Contains-head, Contains-tail, head_least, tail_rises}
 use Rattle.nv_scan.specs.declared.piece.Row.{Row}
+use Rattle.nv_scan.proofs.RowKeys.{key_less}
 use Rattle.nv_rows.specs.Rows.{row_key, IsPlaceOf, HasInserted}
 use Rattle.nv_rows.proofs.SlotRows.{listed_at}
 
-key_less : (a b : ℕ) → slice_cmp nat_cmp (a ∷ []) (b ∷ []) ≡ Less → a < b
-key_less a b h = grind (arith, nat_tests)
-
-is_inserted : (rows : List Row) (p : ℕ) (row : Row) → Contains (insert rows p row) row
+pub is_inserted : (rows : List Row) (p : ℕ) (row : Row) → Contains (insert rows p row) row
 is_inserted [] zero row = Contains-head row []
 is_inserted [] (suc p) row = Contains-head row []
 is_inserted (x ∷ rows) zero row = Contains-head row (x ∷ rows)

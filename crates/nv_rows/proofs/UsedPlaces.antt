@@ -1,23 +1,37 @@
 -- The set of the numbers in use as rows come and go.
-use Rattle.std.proofs.Common.{◌≡◌, ◌≢◌, ℕ, ◌+◌, ◌*◌, ◌/◌, ◌<◌, ◌≤◌, cond, is_some, List, [], ◌∷◌, ◌++◌, length, get_or, set, slice_get, replicate, Option, Some, None, refl, sym, ap, ◌∙◌, inl, inr, arith, length-set}
+use Rattle.std.proofs.Common.{◌≡◌, ◌≢◌, ℕ, ◌+◌, ◌*◌, ◌/◌, ◌<◌, ◌≤◌, cond, is_some, List, [], ◌∷◌, ◌++◌, length, get_or, set, slice_get, take, drop, replicate, Option, Some, None, refl, sym, ap, ◌∙◌, inl, inr, arith, length-set}
 use Rattle.std.proofs.lemmas.Bool.{cases_eq, cases_lt}
-use Rattle.std.proofs.lemmas.List.{get_or-set_other, get_or_push, get_or_append_left, length_push, length-replicate}
+use Rattle.std.proofs.lemmas.List.{append-nil, drop_all, take_all, get_or-take, length-take-le, get_or-set_other, get_or_push, get_or_append_left, length_push, length-replicate}
 use Rattle.std.proofs.lemmas.Grind.{get_or-set_at}
 use Rattle.std.proofs.lemmas.Nat.{div-mul-add, mod-mul-add, mul-add-lt}
 use Rattle.std.proofs.lemmas.Option.{slice_get_cases, slice_get_within}
 use Rattle.nv_blockset.specs.BlockSet.{has, with_block, words_for}
+use Rattle.nv_blockset.specs.WordRuns.{without_block}
 use Rattle.nv_blockset.proofs.Sets.{has_same, has_other, has_none, with_block_long}
+use Rattle.nv_blockset.proofs.TakenOut.{without_same, without_other, without_long}
 use Rattle.nv_inode.proofs.Places.{place_below}
 use Rattle.nv_super.specs.declared.superblock.Super.{Super}
 use Rattle.nv_super.specs.Layout.{IsLayout, inode_limit}
 use Rattle.nv_scan.specs.declared.piece.Row.{Row}
 use Rattle.nv_scan.specs.Tickets.{number_at}
 use Rattle.nv_scan.proofs.Places.{number_place}
+use Rattle.nv_numbered.specs.Values.{AreNumbersBelow}
 use Rattle.nv_rows.specs.InUse.{place_of, used_at, HasUsed, TellsUsed}
 use Rattle.nv_rows.specs.Rows.{inodes_of}
-use Rattle.nv_rows.specs.WordRuns.{without_number}
 use Rattle.nv_rows.proofs.GivenRows.{SlotsOf}
-use Rattle.nv_rows.proofs.TakenOut.{without_same, without_other, without_long}
+
+-- words that were all written
+pub all_written : (n : ℕ) (old new : List ℕ) → n ≡ length old → length new ≡ length old → take n (new ++ drop (length new) old) ≡ new
+all_written n old new count long =
+    ap (λ (rest : List ℕ). take n (new ++ rest)) (drop_all (length new) old (omega (arith, long)))
+    ∙ ap (take n) (append-nil new)
+    ∙ take_all n new (omega (arith, count, long))
+
+-- the first numbers are below the limit too
+pub below_front : (limit : ℕ) (numbers : List ℕ) (n : ℕ) → AreNumbersBelow limit numbers → n ≤ length numbers → (k : ℕ) → k < length (take n numbers) → get_or (take n numbers) k 0 < limit
+below_front limit numbers n given le k inside =
+    let short : k < n = omega (arith, inside, length-take-le n numbers le) in
+    omega (arith, get_or-take n numbers k 0 short, given.below k (omega (arith, short, le)))
 
 module _ (s : Super) (layout : IsLayout s) where
   -- numbers have places of their own
@@ -106,7 +120,7 @@ module _ (s : Super) (layout : IsLayout s) where
         ];
       }
 
-  pub TellsUsed-emptied : (slots : List (Option Row)) (used : List ℕ) (n : ℕ) → n < inode_limit s → TellsUsed s slots used → TellsUsed s (set slots n None) (without_number used (place_of s n))
+  pub TellsUsed-emptied : (slots : List (Option Row)) (used : List ℕ) (n : ℕ) → n < inode_limit s → TellsUsed s slots used → TellsUsed s (set slots n None) (without_block used (place_of s n))
   TellsUsed-emptied slots used n below tells =
       let there = word_there used n tells.room below in
       record {
@@ -114,7 +128,7 @@ module _ (s : Super) (layout : IsLayout s) where
         room = omega (arith, tells.room, without_long used (place_of s n));
         told = λ i i_below. elim (cases_eq i n) [
           | inl same ↦
-              ap (λ (j : ℕ). has (without_number used (place_of s n)) (place_of s j)) same ∙ without_same used (place_of s n) there
+              ap (λ (j : ℕ). has (without_block used (place_of s n)) (place_of s j)) same ∙ without_same used (place_of s n) there
               ∙ sym (ap (λ (o : Option Row). cond (is_some o) 1 0) (get_or-set_at slots n i None None same (omega (arith, below, tells.long))))
           | inr differs ↦
               without_other used (place_of s n) (place_of s i) there (apart i n i_below below differs) ∙ tells.told i i_below

@@ -2,5 +2,5 @@ pub mod RowList
 pub mod Rows
 pub mod Slots
 pub mod Unused
-pub mod WordRuns
 pub mod InUse
+pub use Rattle.nv_numbered.specs as nv_numbered

@@ -1,12 +1,9 @@
 -- Rows by their numbers: which row an inode has, where it stands, and what a list is with a further row.
-use Rattle.std.specs.Prelude.{◌≡◌, ℕ, ◌≤◌, nat_eq, List, [], ◌∷◌, map, length, Option, Some, slice_get}
+use Rattle.std.specs.Prelude.{◌≡◌, ℕ, ◌≤◌, nat_eq, List, map, length, Option, Some, slice_get}
 use Rattle.std.specs.List.{find, insert}
 use Rattle.nv_super.specs.Order.{Rises}
+pub use Rattle.nv_scan.specs.Rows.{row_key}
 use Rattle.nv_scan.specs.declared.piece.Row.{Row}
-
--- rows are ordered by inode
-abbrev pub row_key : Row → List ℕ
-row_key r = r.inode ∷ []
 
 -- the numbers of rows
 abbrev pub inodes_of : List Row → List ℕ

@@ -1,7 +1,6 @@
 //! The rows of the inodes in use, each found by its number in constant time; one is added or taken out with no other moved.
 #![tactic(auto)]
 
-mod bits;
 mod rows;
 
 pub use rows::Rows;

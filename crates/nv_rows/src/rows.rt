@@ -1,7 +1,7 @@
 //! Rows by the numbers of their inodes, over `Numbered`. Only `from_rows` and `reserve` take memory.
 
 ghost use Rattle.std.specs.Prelude.{◌≡◌, ◌+◌, ◌<◌, ◌≤◌, ◌^◌, ℕ, None, map, IfOk, IfSome, length, IsOk, OnOk, OnSome, option_copied};
-ghost use Rattle.std.specs.List.{All, remove as without};
+ghost use Rattle.std.specs.List.{All, remove};
 ghost use Rattle.nv_super.specs.Order.{Rises, SortedOf};
 ghost use Rattle.nv_super.specs.Layout.{inode_limit, IsLayout};
 ghost use Rattle.nv_rows.specs.InUse.{place_of, HasUsed};
@@ -10,8 +10,7 @@ ghost use Rattle.nv_numbered.specs.Values.{AreNumbersBelow};
 ghost use Rattle.nv_rows.specs.Rows.{row_key, inodes_of, row_of, IsPlaceOf, HasInserted};
 ghost use Rattle.nv_rows.specs.Unused.{unused_number};
 
-use crate::bits::{first_clear, remove};
-use nv_blockset::{insert, words_for};
+use nv_blockset::{first_clear, words_for};
 use nv_numbered::{Iter, Numbered};
 use nv_scan::{Row, SLOTS};
 use nv_super::Super;
@@ -65,15 +64,15 @@ fn place_of(sup: &Super, inode: u64) -> u64
     inode % sup.cpus * (SLOTS * sup.table_blocks) + inode / sup.cpus
 }
 
-// The numbers of the rows, by the places of their slots.
-fn used_by(alloc: Global, sup: &Super, rows: &[Row]) -> Result<Vec<u64>, AllocError>
+// The numbers as a set, by the places of their slots.
+fn used_by(alloc: Global, sup: &Super, numbers: &[u32]) -> Result<Vec<u64>, AllocError>
     requires layout { IsLayout sup.now }
-    requires numbers { AreNumbersBelow (inode_limit sup.now) (inodes_of rows.now) }
-    ensures { IfOk result (λ used. HasUsed sup.now (inodes_of rows.now) used.items) }
+    requires numbers { AreNumbersBelow (inode_limit sup.now) numbers.now }
+    ensures { IfOk result (λ used. HasUsed sup.now numbers.now used.items) }
 {
     let mut used = vec![in alloc; 0; words_for(sup.inode_limit())]?;
-    for row in rows {
-        insert(&mut used, place_of(sup, row.inode));
+    for number in numbers {
+        nv_blockset::insert(&mut used, place_of(sup, u64::from(*number)));
     }
     Ok(used)
 }
@@ -87,7 +86,7 @@ impl Rows {
         ensures sup { IfOk result (λ r. r.sup ≡ sup.now) }
     {
         let numbers = numbers_of(alloc, &rows)?;
-        let used = used_by(alloc, sup, &rows)?;
+        let used = used_by(alloc, sup, &numbers)?;
         Ok(Rows {
             rows: Numbered::from_values(alloc, rows, numbers, sup.inode_limit())?,
             used,
@@ -138,7 +137,7 @@ impl Rows {
         ensures sup { self.new.sup ≡ self.old.sup }
         ensures room { self.old.room ≡ self.new.room + 1 }
     {
-        insert(&mut self.used, place_of(&self.sup, row.inode));
+        nv_blockset::insert(&mut self.used, place_of(&self.sup, row.inode));
         self.rows.insert(row.inode, row);
     }
 
@@ -147,7 +146,7 @@ impl Rows {
         ensures row { result ≡ row_of self.old.items inode }
         ensures number { IfSome result (λ row. (row.inode ≡ inode) × (inode < inode_limit self.new.sup)) }
         ensures gone { row_of self.new.items inode ≡ None }
-        ensures rows { (place : ℕ) → IsPlaceOf self.old.items inode place → self.new.items ≡ without self.old.items place }
+        ensures rows { (place : ℕ) → IsPlaceOf self.old.items inode place → self.new.items ≡ remove self.old.items place }
         ensures unchanged { row_of self.old.items inode ≡ None → self.new.items ≡ self.old.items }
         ensures sup { self.new.sup ≡ self.old.sup }
         ensures room { self.old.room ≤ self.new.room }
@@ -155,7 +154,7 @@ impl Rows {
     {
         let row = self.rows.remove(inode);
         if row.is_some() {
-            remove(&mut self.used, place_of(&self.sup, inode));
+            nv_blockset::remove(&mut self.used, place_of(&self.sup, inode));
         }
         row
     }

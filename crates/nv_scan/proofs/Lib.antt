@@ -20,3 +20,4 @@ pub mod Places
 pub mod Told
 pub mod Drawn
 pub mod Work
+pub mod RowKeys

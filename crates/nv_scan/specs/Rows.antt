@@ -1,5 +1,5 @@
 -- The row of an inode in use, and all that is found of one inode.
-use Rattle.std.specs.Prelude.{◌≡◌, ℕ, ◌+◌, List}
+use Rattle.std.specs.Prelude.{◌≡◌, ℕ, ◌+◌, List, [], ◌∷◌}
 use Rattle.std.specs.Option.{MatchOption}
 use Rattle.nv_region.specs.Region.{Region, word}
 use Rattle.nv_super.specs.Layout.{Layout}
@@ -33,6 +33,10 @@ pub record IsRow (R : Region) (l : Layout) (a : ℕ) (log : Log) (row : Row) : T
   pub pages : row.pages.items ≡ log.pages
   pub index : (p : ℕ) → block_at row.index p ≡ block_of (good_of l log) p
   pub names : (q : List ℕ) → name_at row.names q ≡ named (good_of l log) q
+
+-- rows are ordered by inode
+abbrev pub row_key : Row → List ℕ
+row_key r = r.inode ∷ []
 
 -- The row of an inode in use, the blocks that it owns, and what is wrong with it alone.
 pub record IsPiece (R : Region) (l : Layout) (p : Piece) : Type 0 where

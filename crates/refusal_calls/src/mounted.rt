@@ -2,7 +2,7 @@
 
 use nv_calls::{Fs, format};
 use nv_outcome::rolled_back_outcome;
-use nv_recover::{RecoverError, Recovered, recover_one};
+use nv_recover::{RecoverError, Recovered, Rows, recover_one};
 use nv_region::MemRegion;
 use nv_scan::Row;
 use nv_super::Run;
@@ -42,8 +42,8 @@ fn has_same_parts(fs: &Fs<MemRegion>, found: &Recovered) -> Result<bool, AllocEr
     )
 }
 
-fn has_same_rows(mounted: &[Row], found: &[Row]) -> Result<bool, AllocError> {
-    for (row, other) in mounted.iter().zip(found) {
+fn has_same_rows(mounted: &Rows, found: &Rows) -> Result<bool, AllocError> {
+    for ((_, row), (_, other)) in mounted.iter().zip(found.iter()) {
         if !is_same_row(row, other)? {
             return Ok(false);
         }

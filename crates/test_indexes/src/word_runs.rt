@@ -2,7 +2,7 @@
 
 ghost use Rattle.std.specs.Prelude.{◌≤◌};
 
-use nv_alloc::word_run;
+use nv_blockset::word_run;
 use std::process::Abort;
 
 /// Bits 5 and 63 are 1.

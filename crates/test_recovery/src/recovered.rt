@@ -65,7 +65,7 @@ fn assert_free(rt: &impl Abort, lists: &[Vec<Run>]) {
 fn assert_root_alone(rt: &impl Abort, answer: &Recovered) -> Result<(), Fail> {
     assert!(rt; answer.sup == SMALL);
     assert!(rt; answer.rows.len() == 1);
-    assert_root_row(rt, answer.rows.first().expect(rt, "there is a row"));
+    assert_root_row(rt, answer.rows.get(1).expect(rt, "there is a row"));
     assert!(rt; answer.doubled.is_empty());
     assert!(rt; answer.faults.is_empty());
     assert_free(rt, &answer.free.lists()?);

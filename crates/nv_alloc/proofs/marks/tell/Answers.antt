@@ -1,7 +1,7 @@
 use Rattle.std.proofs.Common.{◌≡◌, ◌∙◌, sym, ap, arith}
 use Rattle.nv_blockset.specs.BlockSet.{has}
 use Rattle.nv_blockset.proofs.Sets.{has_other}
-use Rattle.nv_alloc.proofs.SetParts.{without_same, without_other}
+use Rattle.nv_blockset.proofs.TakenOut.{without_same, without_other}
 use Rattle.nv_alloc.proofs.marks.tell.Goals as goal
 
 pub returns-then-bits-eq18446744073709551615-clause-others : goal.returns-then-bits-eq18446744073709551615-clause-others

@@ -1,12 +1,24 @@
-use Rattle.std.proofs.Common.{take, subst, sym, ap, ◌∙◌, ◌++◌, [], ◌∷◌, string_bytes}
-use Rattle.std.proofs.lemmas.List.{take_more}
+use Rattle.std.proofs.Common.{List, [], ◌∷◌, ◌++◌, map, refl, ap, sym, ◌∙◌, subst, string_bytes, append-nil}
+use Rattle.std.proofs.lemmas.List.{append_assoc}
+use Rattle.nv_recover.specs.declared.Row.{Row}
 use Rattle.nv_report.specs.Texts.{IsTreeText, AddsText}
 use Rattle.nv_report.proofs.TextLemmas.{adds_tree}
 use Rattle.nv_report.proofs.rows.push_rows.Goals as goal
 
+pub loop-row-init : goal.loop-row-init
+loop-row-init c = ([], ap (map (λ entry. entry.1)) c.into_iter-row-iterator.ensures.into_iter_gives ∙ c.iter-row-items.ensures.rows, ([], refl, sym (append-nil (string_bytes c.args.out.now))))
+
 pub loop-row-preserved : goal.loop-row-preserved
 loop-row-preserved c =
-    let rows = take c.loop-row.row-index c.args.rows.now in
-    let more = take_more c.args.rows.now c.loop-row.row-index c.row-item.result c.loop-row-test.true ∙ ap (λ row. rows ++ row ∷ []) (sym c.row-item.is) in
-    subst (λ rows. AddsText (IsTreeText rows) (string_bytes c.args.out.now) (string_bytes c.push_row.new.out)) (sym more)
-    (adds_tree rows c.row-item.result _ _ _ c.loop-row.invariant c.in_ok-push_row.ensures)
+    let (done, left, added) = c.loop-row.invariant in
+    let row = c.in-Some.row.now in (
+      done ++ row ∷ [],
+      append_assoc done (row ∷ []) (map (λ entry. entry.1) c.next.new.self) ∙ ap (λ rest. done ++ map (λ entry. entry.1) rest) (sym c.in-Some.ensures.steps) ∙ left,
+      adds_tree done row _ _ _ added c.in_ok-push_row.ensures,
+    )
+
+pub returns : goal.returns
+returns c =
+    let (done, left, added) = c.loop-row.invariant in
+    let all = sym (append-nil done) ∙ ap (λ rest. done ++ map (λ entry. entry.1) rest) (sym c.in-None.ensures.steps.0) ∙ left in
+    subst (λ rows. AddsText (IsTreeText rows) (string_bytes c.args.out.now) (string_bytes c.loop-row.out)) all added

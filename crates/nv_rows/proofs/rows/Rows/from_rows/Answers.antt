@@ -21,7 +21,7 @@ invariant_of-result c =
       layout = c.requires.layout;
       stand = given_stand rows slots each;
       tells = TellsUsed-given s c.requires.layout rows slots c.in_ok-used.used.items
-          (c.in_ok-from_values.ensures.limit ∙ c.inode_limit.ensures) (many_numbers rows) each (rw c.deref-2.ensures.value at c.in_ok-used.ensures);
+          (c.in_ok-from_values.ensures.limit ∙ c.inode_limit.ensures) (many_numbers rows) each (rw (c.deref-2.ensures.value, rw c.deref.ensures.value at c.in_ok-numbers.ensures) at c.in_ok-used.ensures);
     }
 
 pub returns-clause-rows : goal.returns-clause-rows

@@ -2,8 +2,7 @@ use Rattle.std.proofs.Common.{length, sym, ap, ◌∙◌, arith}
 use Rattle.nv_blockset.proofs.Sets.{with_block_long}
 use Rattle.nv_rows.specs.InUse.{place_of}
 use Rattle.nv_rows.proofs.SlotRows.{row_at_slot, slot_filled, stand-filled}
-use Rattle.nv_rows.proofs.TakenOut.{all_written}
-use Rattle.nv_rows.proofs.UsedPlaces.{word_there, TellsUsed-filled}
+use Rattle.nv_rows.proofs.UsedPlaces.{all_written, word_there, TellsUsed-filled}
 use Rattle.nv_rows.proofs.rows.Rows.insert.Goals as goal
 
 pub insert-requires : goal.insert-requires

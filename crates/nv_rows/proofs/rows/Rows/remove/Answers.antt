@@ -1,11 +1,11 @@
 use Rattle.std.proofs.Common.{◌<◌, length, is_some, sym, ◌∙◌, ap, arith, zero-add}
 use Rattle.nv_super.specs.Layout.{inode_limit}
+use Rattle.nv_blockset.proofs.TakenOut.{without_long}
 use Rattle.nv_numbered.proofs.SlotLemmas.{set_none}
 use Rattle.nv_rows.specs.InUse.{place_of}
 use Rattle.nv_rows.specs.Slots.{rows_in}
 use Rattle.nv_rows.proofs.SlotRows.{row_at_slot, slot_emptied, slot_within, stand-emptied, number_out, row_gone}
-use Rattle.nv_rows.proofs.TakenOut.{all_written, without_long}
-use Rattle.nv_rows.proofs.UsedPlaces.{TellsUsed-emptied}
+use Rattle.nv_rows.proofs.UsedPlaces.{all_written, TellsUsed-emptied}
 use Rattle.nv_rows.proofs.rows.Rows.remove.Goals as goal
 
 pub invariant_of-self : goal.invariant_of-self

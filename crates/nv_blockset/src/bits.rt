@@ -1,12 +1,12 @@
-//! Sets of numbers as words, number b as bit `b % 64` of word `b / 64`: the first one outside, and one taken out.
+//! The first block from one on that is in a set or outside of it, a word at a time, and one block taken out.
 
 ghost use Rattle.std.specs.Prelude.{◌≡◌, ℕ, ◌<◌, ◌≤◌, ◌*◌, ◌/◌, ◌^◌, length, IfSome, IfNone};
 ghost use Rattle.std.specs.Int.{bit_at};
 ghost use Rattle.nv_blockset.specs.BlockSet.{has};
-ghost use Rattle.nv_rows.specs.WordRuns.{IsWordRun, AreZeros, without_number};
+ghost use Rattle.nv_blockset.specs.WordRuns.{IsWordRun, AreZeros, without_block};
 
 /// The first run of zero bits of a word, at bit `from` or later: its first bit, and how many bits it has.
-fn word_run(word: u64, from: u32) -> Option<(u32, u32)>
+pub fn word_run(word: u64, from: u32) -> Option<(u32, u32)>
     requires { from ≤ 64 }
     ensures some { IfSome result (λ run. IsWordRun word from run.0 run.1) }
     ensures none { IfNone result ((i : ℕ) → from ≤ i → i < 64 → bit_at word i ≡ 1) }
@@ -29,8 +29,8 @@ fn count_zeros(word: u64, from: u32) -> u32
     (word >> from).trailing_zeros().min(64 - from)
 }
 
-/// The first number from one on, and before another, that isn't in the set; if there is none, that other. A turn goes over a word.
-pub(crate) fn first_clear(words: &[u64], from: u64, to: u64) -> u64
+/// The first block from one on, and before another, that isn't in the set; if there is none, that other. A turn goes over a word.
+pub fn first_clear(words: &[u64], from: u64, to: u64) -> u64
     requires order { from ≤ to }
     requires within { to ≤ 64 * length words.now }
     requires small { to ≤ 2 ^ 32 }
@@ -48,10 +48,31 @@ pub(crate) fn first_clear(words: &[u64], from: u64, to: u64) -> u64
     to
 }
 
-/// Takes a number out of the set, where it need not be.
-pub(crate) fn remove(words: &mut [u64], number: u64)
-    requires { number / 64 < length words.old }
-    ensures { words.new ≡ without_number words.old number }
+/// The first block from one on, and before another, that is in the set; if there is none, that other. A turn goes over a word.
+pub fn first_set(words: &[u64], from: u64, to: u64) -> u64
+    requires order { from ≤ to }
+    requires within { to ≤ 64 * length words.now }
+    requires small { to ≤ 2 ^ 32 }
+    ensures order { (from ≤ result) × (result ≤ to) }
+    ensures clear { (b : ℕ) → from ≤ b → b < result → has words.now b ≡ 0 }
+    ensures set { result < to → has words.now result ≡ 1 }
 {
-    words[(number / 64) as usize] &= !(1u64 << (number % 64));
+    let mut here = from;
+    while here < to {
+        let bit = (here % 64) as u32;
+        let zeros = count_zeros(words[(here / 64) as usize], bit);
+        here += u64::from(zeros);
+        if bit + zeros < 64 {
+            return here.min(to);
+        }
+    }
+    to
+}
+
+/// Takes the block out of the set, where it need not be.
+pub fn remove(words: &mut [u64], block: u64)
+    requires { block / 64 < length words.old }
+    ensures { words.new ≡ without_block words.old block }
+{
+    words[(block / 64) as usize] &= !(1u64 << (block % 64));
 }

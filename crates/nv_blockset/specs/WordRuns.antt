@@ -1,4 +1,4 @@
--- Runs of zero bits in a word of 64 bits, and a set without a number.
+-- Runs of zero bits in a word of 64 bits, and a set without a block.
 use Rattle.std.specs.Prelude.{◌≡◌, ℕ, ◌+◌, ◌*◌, ◌/◌, ◌%◌, ◌^◌, ◌<◌, ◌≤◌, List, slice_index, slice_set, bit_and}
 use Rattle.std.specs.Int.{bit_at, bit_not, w64}
 
@@ -15,6 +15,6 @@ pub record IsWordRun (word from start count : ℕ) : Type 0 where
   pub before : (i : ℕ) → from ≤ i → i < start → bit_at word i ≡ 1
   pub run : AreZeros word start count
 
--- the set without a number
-abbrev pub without_number : List ℕ → ℕ → List ℕ
-without_number words b = slice_set words (b / 64) (bit_and (slice_index words (b / 64)) (bit_not w64 (1 * 2 ^ (b % 64) % 2 ^ 64)))
+-- the set without a block
+abbrev pub without_block : List ℕ → ℕ → List ℕ
+without_block words b = slice_set words (b / 64) (bit_and (slice_index words (b / 64)) (bit_not w64 (1 * 2 ^ (b % 64) % 2 ^ 64)))

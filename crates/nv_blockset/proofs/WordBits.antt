@@ -6,7 +6,7 @@ use Rattle.std.proofs.lemmas.Nat.Bits.{bit_at-zero, bit_at-lt, bit_at_not, bit_a
 use Rattle.std.proofs.Math.Nat.{div-div-eq-div-mul}
 use Rattle.std.proofs.lemmas.Nat.{pow-add}
 use lib.Count.{trailing_of_zero}
-use Rattle.nv_alloc.specs.WordRuns.{AreZeros, IsWordRun}
+use Rattle.nv_blockset.specs.WordRuns.{AreZeros, IsWordRun}
 
 -- the bits of a number that was shifted down
 shifted : (n k i : ℕ) → bit_at (n / 2 ^ k) i ≡ bit_at n (k + i)

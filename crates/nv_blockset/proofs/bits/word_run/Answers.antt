@@ -1,6 +1,6 @@
 use Rattle.std.proofs.Common.{arith}
-use Rattle.nv_alloc.proofs.WordBits.{all_ones, word_runs}
-use Rattle.nv_alloc.proofs.bits.word_run.Goals as goal
+use Rattle.nv_blockset.proofs.WordBits.{all_ones, word_runs}
+use Rattle.nv_blockset.proofs.bits.word_run.Goals as goal
 
 pub returns-then-start-eq64-clause-none : goal.returns-then-start-eq64-clause-none
 returns-then-start-eq64-clause-none c = all_ones c.args.word c.args.from _ c.ranges.word.fits c.count_zeros.ensures c.if-start-eq64.true
