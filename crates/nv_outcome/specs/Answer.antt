@@ -21,3 +21,4 @@ pub record IsAnswer (old new : Region) (r : Recovered) : Type 0 where
   pub rolled_back : new ≡ undone r.sup old
   pub once : r.faults.items ≡ [] → SharesBlocks new r
   pub lists : r.free.sup ≡ r.sup
+  pub numbers : r.rows.sup ≡ r.sup

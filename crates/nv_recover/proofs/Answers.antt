@@ -46,6 +46,7 @@ told_same journal {faults = faults} one two three are = subst (λ (told : List F
 pub record IsMade (o : Started) (x : Scanned) (r : Recovered) : Type 0 where
   pub sup : r.sup ≡ o.sup
   pub rows : r.rows.items ≡ x.inodes.rows.items
+  pub numbers : r.rows.sup ≡ o.sup
   pub outside : AreOutside x.claimed.first.items o.sup r.free
   pub owned_twice : AreDoubled x.claimed.claims.items x.claimed.second.items r.doubled.items
   pub all : SortedOf fault_key (all_told o.journal.items x.inodes.faults.items x.cross.items r.doubled.items) r.faults.items
@@ -76,4 +77,5 @@ module _ {old new : Region} {o : Started} {x : Scanned} {r : Recovered} (started
     rolled_back = rolled_back;
     once = λ none. subst (λ (R : Region). SharesAll R (fixed_layout r.sup) r.free.pools) (sym rolled_back) (shares_all outcome none);
     lists = made.outside.sup ∙ sym made.sup;
+    numbers = made.numbers ∙ sym made.sup;
   }

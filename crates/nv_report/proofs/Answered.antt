@@ -13,7 +13,7 @@ use Rattle.nv_recover.specs.declared.errors.RecoverError.TheVariants as errors
 use Rattle.nv_text.specs.declared.refusals.Refusal.{Refusal}
 use Rattle.nv_text.specs.declared.refusals.Refusal.TheVariants as refusals
 use Rattle.nv_report.specs.Workers.{is_worker_count, names_stranger}
-use Rattle.nv_report.specs.Answering.{refusal_of, IsToldAs, EndsAs, RefusesRecovery, MayAnswer, MayEnd, ListsItsPools, worker_number}
+use Rattle.nv_report.specs.Answering.{refusal_of, IsToldAs, EndsAs, RefusesRecovery, MayAnswer, MayEnd, IsOfItsSuper, worker_number}
 use Rattle.nv_report.specs.declared.recovery.Answer.{Answer}
 use Rattle.nv_report.specs.declared.recovery.Answer.TheVariants as answers
 
@@ -136,7 +136,7 @@ no_stop e None unstopped stopped = λ _. unstopped stopped
 no_stop e (Some answer) unstopped told = λ none. (cc)
 
 -- an error has no lists
-pub no_lists : (e : RecoverError) (answer : Option Answer) → EndsAs e answer → ListsItsPools answer
+pub no_lists : (e : RecoverError) (answer : Option Answer) → EndsAs e answer → IsOfItsSuper answer
 no_lists e None told = tt
 no_lists e (Some (answers.Recovered r)) told = absurd told
 no_lists e (Some (answers.Refused refusal)) told = tt

@@ -62,11 +62,11 @@ abbrev pub MayEnd : Region → ℕ → List ℕ → Option Answer → Region →
 MayEnd old workers schedule (Some answer) new = MayAnswer old workers schedule answer new
 MayEnd old workers schedule None new = (is_worker_count workers ≡ true) × (names_stranger workers schedule ≡ false) × UndoesAsBefore old new
 
--- the free lists that were found are those of the superblock that was found
-abbrev pub ListsItsPools : Option Answer → Type 0
-ListsItsPools (Some (answers.Recovered r)) = r.free.sup ≡ r.sup
-ListsItsPools (Some (answers.Refused refusal)) = ⊤
-ListsItsPools None = ⊤
+-- the free lists and the rows that were found are those of the superblock that was found
+abbrev pub IsOfItsSuper : Option Answer → Type 0
+IsOfItsSuper (Some (answers.Recovered r)) = (r.free.sup ≡ r.sup) × (r.rows.sup ≡ r.sup)
+IsOfItsSuper (Some (answers.Refused refusal)) = ⊤
+IsOfItsSuper None = ⊤
 
 -- a number of a schedule in 32 bits: too large a one becomes the largest, which is no worker's either
 abbrev pub worker_number : ℕ → ℕ

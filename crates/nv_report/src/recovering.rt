@@ -4,7 +4,7 @@ ghost use Rattle.std.specs.Prelude.{◌≡◌, ◌≢◌, [], None, IfOk, OnErr,
 ghost use Rattle.nv_region.specs.Fuses.{KeepsFuse};
 ghost use Rattle.nv_recover.specs.Behind.{BehindSystem};
 ghost use Rattle.nv_recover.specs.Errors.{AsBeforeOrUndone};
-ghost use Rattle.nv_report.specs.Answering.{TakesRecovery, MayAnswer, MayEnd, ListsItsPools, IsToldAs, EndsAs, refusal_of, worker_number};
+ghost use Rattle.nv_report.specs.Answering.{TakesRecovery, MayAnswer, MayEnd, IsOfItsSuper, IsToldAs, EndsAs, refusal_of, worker_number};
 
 use crate::recovery::Answer;
 use nv_recover::{NoGate, RecoverError, recover, recover_replay};
@@ -40,7 +40,7 @@ pub fn recover_or_stop<P: Pmem + Sync, H: Threads + Sync>(
     workers: u64,
 ) -> Result<Option<Answer>, AllocError>
     ensures ok { IfOk result (λ answer. MayEnd (P.region memory.old) workers [] answer (P.region memory.new)) }
-    ensures lists { IfOk result ListsItsPools }
+    ensures lists { IfOk result IsOfItsSuper }
     ensures unstopped { IsTrue (P.fuse memory.old).is_steady → IfOk result (λ answer. answer ≢ None) }
 {
     match recover(rt, alloc, memory, workers, &NoGate) {
@@ -58,7 +58,7 @@ pub fn replay_or_stop<P: Pmem>(
     schedule: &[u64],
 ) -> Result<Option<Answer>, AllocError>
     ensures ok { IfOk result (λ answer. MayEnd (P.region memory.old) workers schedule.now answer (P.region memory.new)) }
-    ensures lists { IfOk result ListsItsPools }
+    ensures lists { IfOk result IsOfItsSuper }
     ensures unstopped { IsTrue (P.fuse memory.old).is_steady → IfOk result (λ answer. answer ≢ None) }
 {
     let numbers = worker_numbers(alloc, schedule)?;

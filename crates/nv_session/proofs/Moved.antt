@@ -32,7 +32,7 @@ use Rattle.nv_tree.proofs.Texts.{text_says}
 use Rattle.nv_calls.specs.Mount.{Mount, told}
 use Rattle.nv_calls.specs.Seen.{tree_of}
 use Rattle.nv_report.specs.Workers.{is_worker_count, names_stranger}
-use Rattle.nv_report.specs.Answering.{RefusesRecovery, MayEnd, ListsItsPools}
+use Rattle.nv_report.specs.Answering.{RefusesRecovery, MayEnd, IsOfItsSuper}
 use Rattle.nv_report.specs.Last.{how_it_went}
 use Rattle.nv_report.specs.Texts.{IsPartText}
 use Rattle.nv_report.specs.declared.part.Part.{Part}
@@ -165,7 +165,7 @@ same_size R S undoes = size_of_super S undoes.0 undoes.2 ∙ sym (size_of_super 
 left_outcome : (R S : Region) (r : Recovered) → IsOutcome R (outcome_of r) → S ≡ undone r.sup R → IsOutcome S (lasting_outcome (outcome_of r))
 left_outcome R S r came left = subst (λ (T : Region). IsOutcome T (lasting_outcome (outcome_of r))) (sym left) (rolled_back R (outcome_of r) came)
 
-pub can_mount : (R S : Region) (workers : ℕ) (schedule : List ℕ) (answer : Option Answer) → MayEnd R workers schedule answer S → ListsItsPools answer → CanMount S answer
+pub can_mount : (R S : Region) (workers : ℕ) (schedule : List ℕ) (answer : Option Answer) → MayEnd R workers schedule answer S → IsOfItsSuper answer → CanMount S answer
 can_mount R S workers schedule None may lists = tt
 can_mount R S workers schedule (Some (answers.Refused refusal)) may lists = tt
 can_mount R S workers schedule (Some (answers.Recovered r)) may lists = (

@@ -17,6 +17,7 @@ pub returns : goal.returns
 returns c = λ old new started scanned. answer_of started scanned record {
   sup = refl;
   rows = rising_stay c.in_ok-rows.rows.items c.args.scanned.inodes.rows.items (rows_ordered c.requires.layout scanned.inodes c.args.scanned.inodes.rows.items refl).rising c.in_ok-rows.ensures.rows;
+  numbers = c.in_ok-rows.ensures.sup;
   outside = subst (λ (first : List ℕ). AreOutside first c.args.started.sup c.in_ok-free.free) c.deref.ensures.value c.in_ok-free.ensures.outside;
   owned_twice = doubled_same c.deref-2.ensures.value c.deref-3.ensures.value c.in_ok-doubled.ensures;
   all = told_same c.args.started.journal.items c.deref-4.ensures.value c.deref-5.ensures.value c.deref-6.ensures.value c.in_ok-faults.ensures;

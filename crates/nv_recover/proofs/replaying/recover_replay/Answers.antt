@@ -14,3 +14,6 @@ returns-clause-once g c = (c.in_ok-finish.ensures _ _ c.in_ok-started.ensures.ok
 
 pub returns-clause-lists : goal.returns-clause-lists
 returns-clause-lists g c = (c.in_ok-finish.ensures _ _ c.in_ok-started.ensures.ok c.in_ok-scanned.ensures).lists
+
+pub returns-clause-numbers : goal.returns-clause-numbers
+returns-clause-numbers g c = (c.in_ok-finish.ensures _ _ c.in_ok-started.ensures.ok c.in_ok-scanned.ensures).numbers
