@@ -6,3 +6,4 @@ pub mod WordBits
 pub mod TakenOut
 pub mod UsedPlaces
 pub mod LowestPlace
+pub mod Places

@@ -15,12 +15,7 @@ fn stat<P: Pmem + Drop>(fs: &Fs<P>, path: &[u8]) -> Result<Stat, Refusal> {
 /// The row of the inode at a path.
 fn row_at<'a, P: Pmem + Drop>(fs: &'a Fs<P>, path: &[u8]) -> Result<&'a Row, Refusal> {
     let inode = stat(fs, path)?.inode;
-    for row in fs.rows() {
-        if row.inode == inode {
-            return Ok(row);
-        }
-    }
-    Err(Refusal::NotFound)
+    fs.rows().get(inode).ok_or(Refusal::NotFound)
 }
 
 /// Whether the page in which a log ends has no room for an entry of attributes.

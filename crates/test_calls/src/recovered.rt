@@ -3,6 +3,7 @@
 use nv_calls::Fs;
 use nv_recover::{Recovered, recover_one};
 use nv_region::MemRegion;
+use nv_rows::Rows;
 use nv_scan::Row;
 use nv_super::Run;
 use std::alloc::{AllocError, Global};
@@ -40,9 +41,9 @@ fn has_same_names(mounted: &Row, recovered: &Row) -> Result<bool, AllocError> {
     Ok(mounted.names.list()?.as_slice() == recovered.names.list()?.as_slice())
 }
 
-fn assert_same_rows(rt: &impl Abort, mounted: &[Row], recovered: &[Row]) -> Result<(), AllocError> {
+fn assert_same_rows(rt: &impl Abort, mounted: &Rows, recovered: &[Row]) -> Result<(), AllocError> {
     assert!(rt; mounted.len() == recovered.len());
-    for (row, other) in mounted.iter().zip(recovered) {
+    for ((_, row), other) in mounted.iter().zip(recovered) {
         assert!(rt; has_same_numbers(row, other));
         assert!(rt; has_same_log(row, other));
         assert!(rt; has_same_pages(row, other)?);

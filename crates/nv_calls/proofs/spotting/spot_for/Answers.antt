@@ -5,7 +5,7 @@ use Rattle.nv_tree.specs.Path.{IsPathName}
 use Rattle.nv_tree.specs.Refusals.{Path, first_refusal}
 use Rattle.nv_calls.specs.NewNames.{spot_tests}
 use Rattle.nv_calls.specs.Seen.{tree_of}
-use Rattle.nv_calls.specs.World.{unused_number}
+use Rattle.nv_rows.specs.Unused.{unused_number}
 use Rattle.nv_calls.proofs.CreateTests.{last_is_name, long_text, none_of, said_names, spells_names, spot_free, spot_full, spot_taken}
 use Rattle.nv_calls.proofs.Walks.{longer}
 use Rattle.nv_calls.proofs.spotting.spot_for.Goals as goal
