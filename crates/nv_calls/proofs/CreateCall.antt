@@ -36,7 +36,8 @@ use Rattle.nv_calls.specs.NewNames.{CreatesAt, IsNoneNamed, IsSpot, LeavesRows, 
 use Rattle.nv_calls.specs.Same.{SameMount}
 use Rattle.nv_calls.specs.Seen.{node_of, tree_of}
 use Rattle.nv_calls.specs.Steps.{RefusesStep}
-use Rattle.nv_calls.specs.World.{unused_number, world_of}
+use Rattle.nv_rows.specs.Unused.{unused_number}
+use Rattle.nv_calls.specs.World.{world_of}
 use Rattle.nv_calls.proofs.CreatedRows.{bytes_kept, kept_then, name_absent, was_created}
 use Rattle.nv_calls.proofs.CreatedTree.{created_by, made_tree, named_node, new_node_is, tree_then}
 use Rattle.nv_calls.proofs.CreateTests.{good_name, spot_allows}

@@ -21,7 +21,8 @@ use Rattle.nv_held.specs.Bytes.{byte_in}
 use Rattle.nv_tree.specs.Path.{last_name}
 use Rattle.nv_tree.specs.Tree.{Node, SameNode, SameNodes, SameTree, Tree, walk}
 use Rattle.nv_tree.specs.Calls.{created, edit, new_node, on_ok, put_node, with_name}
-use Rattle.nv_calls.specs.NewNames.{HasInserted, HasNamed, IsNewRow}
+use Rattle.nv_rows.specs.Rows.{HasInserted}
+use Rattle.nv_calls.specs.NewNames.{HasNamed, IsNewRow}
 use Rattle.nv_calls.specs.Seen.{node_of, tree_of}
 use Rattle.nv_calls.proofs.Inserted.{row_of_inserted, row_of_own}
 use Rattle.nv_calls.proofs.NamesCounted.{one_more}

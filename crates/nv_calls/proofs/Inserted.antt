@@ -39,18 +39,6 @@ is_inserted [] (suc k) x = Contains-head x []
 is_inserted (y ∷ rows) zero x = Contains-head x (y ∷ rows)
 is_inserted (y ∷ rows) (suc k) x = Contains-tail y (insert rows k x) x (is_inserted rows k x)
 
--- The rows rise where all in front have a lesser number, and all behind a greater.
-pub inserted_rises : (rows : List Row) (k : ℕ) (x : Row) → Rises row_key rows → ((c : ℕ) (d : Row) → c < k → c < length rows → (get_or rows c d).inode < x.inode) → ((c : ℕ) (d : Row) → k ≤ c → c < length rows → x.inode < (get_or rows c d).inode) → Rises row_key (insert rows k x)
-inserted_rises [] zero x up front behind = tt
-inserted_rises [] (suc k) x up front behind = tt
-inserted_rises (y ∷ rows) zero x up front behind = rises_cons row_key x (y ∷ rows) (λ z c. below_first x.inode z.inode [] [] (subst (λ (r : Row). x.inode < r.inode) c.2 (behind c.0 z (omega arith) c.1))) up
-inserted_rises (y ∷ rows) (suc k) x up front behind =
-    rises_cons row_key y (insert rows k x) (λ z c. elim (from_inserted rows k x z c) [
-      | inl old ↦ head_least row_key y rows up z old
-      | inr e ↦ subst (λ (r : Row). Below (row_key y) (row_key r)) (sym e) (below_first y.inode x.inode [] [] (front 0 y (omega arith) (omega arith)))
-    ])
-    (inserted_rises rows k x (tail_rises row_key y rows up) (λ c d lt inside. front (suc c) d (omega (arith, lt)) (omega (arith, inside))) (λ c d ge inside. behind (suc c) d (omega (arith, ge)) (omega (arith, inside))))
-
 -- ---- rows by their numbers
 
 -- the row of another number
@@ -69,29 +57,3 @@ row_of_own (y ∷ rows) (suc k) x none = by (nat_eq y.inode x.inode) (row_of_own
   by : (b : Bool) → (row_of rows x.inode ≡ None → row_of (insert rows k x) x.inode ≡ Some x) → cond b (Some y) (row_of rows x.inode) ≡ None → cond b (Some y) (row_of (insert rows k x) x.inode) ≡ Some x
   by true rest none = absurd (cc)
   by false rest none = rest none
-
--- ---- where it goes
-
-less_by : (a i : ℕ) → nat_cmp a i ≡ Less → a < i
-less_by a i e = grind (arith, nat_tests)
-
-greater_by : (a i : ℕ) → nat_cmp a i ≡ Greater → i < a
-greater_by a i e = grind (arith, nat_tests)
-
--- what a search by a number that no row has answers
-pub searched_place : (rows : List Row) (i : ℕ) (r : Result ℕ ℕ) → Rises row_key rows → row_of rows i ≡ None → IsSearchInRange r (length rows) → IsBinarySearchResult (λ (y : Row). nat_cmp y.inode i) rows r → (k : ℕ) → (r ≡ Ok k) ⊎ (r ≡ Err k) → IsPlaceFor rows i k
-searched_place rows i (Ok k) up none inside h place is = absurd (none_within rows k inside (searched_row rows i (Ok k) up inside h ∙ none))
-searched_place rows i (Err k) up none inside h place (inl is) = absurd (cc)
-searched_place rows i (Err k) up none inside h place (inr is) =
-    let parted = h (λ a b d le lt. index_rises (get_or rows a d).inode (get_or rows b d).inode i (inodes_rise rows a b d up le lt)) in
-    let same : k ≡ place = cc in
-    subst (λ (p : ℕ). IsPlaceFor rows i p) same (record {
-      inside = inside;
-      front = λ c d lt below. less_by (get_or rows c d).inode i (parted.0 c d (omega arith) lt);
-      behind = λ c d ge below. greater_by (get_or rows c d).inode i (parted.1 c d ge below);
-    })
-
--- the rows with the new one
-pub has_inserted : (old new : List Row) (x : Row) (k : ℕ) (b : Bool) → Rises row_key old → IsPlaceFor old x.inode k → b ≡ true → new ≡ cond b (insert old k x) old → HasInserted old new x
-has_inserted old new x k false up place on items = absurd (cc)
-has_inserted old new x k true up place on all = record { place = k; inside = place.inside; all = all; rising = subst (λ (rows : List Row). Rises row_key rows) (sym all) (inserted_rises old k x up place.front place.behind) }

@@ -3,8 +3,6 @@ pub mod Walks
 pub mod Targets
 pub mod Kept
 pub mod Listed
-mod Numbers
-mod InTurn
 mod Spots
 mod Passes
 pub mod FileBytes

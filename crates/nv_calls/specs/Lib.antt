@@ -25,5 +25,6 @@ pub mod LessNames
 pub mod UnlinkCalls
 pub mod Unlinks
 pub use Rattle.nv_held.specs as nv_held
+pub use Rattle.nv_rows.specs as nv_rows
 pub use Rattle.nv_held.specs.nv_named
 pub mod MoveCalls

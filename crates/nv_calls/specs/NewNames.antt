@@ -1,14 +1,12 @@
 -- A new inode and its name, by the rows that stand for them.
 use Rattle.std.specs.Prelude.{◌≡◌, ℕ, ◌*◌, ◌/◌, ◌%◌, ◌<◌, ◌≤◌, nat_eq, if◌then◌else◌, List, [], ◌∷◌, ◌++◌, length, get_or, set, slice_get, Option, Some, None, Ok, is_none, IsTrue}
 use Rattle.std.specs.Cmp.Lexicographic.{pointwise}
-use Rattle.std.specs.List.{insert}
 use Rattle.std.specs.Option.{option_and_then, option_map}
 use Rattle.nv_region.specs.Region.{Region}
 use Rattle.nv_super.specs.declared.superblock.Super.{Super}
 use Rattle.nv_super.specs.declared.kind.Kind.{Kind}
 use Rattle.nv_super.specs.declared.kind.Kind.TheVariants.{Directory}
 use Rattle.nv_super.specs.Layout.{fixed_layout, is_number, system_blocks}
-use Rattle.nv_super.specs.Order.{Rises}
 use Rattle.nv_journal.specs.Pending.{IsEmpty}
 use Rattle.nv_alloc.specs.FreeValue.{FreeLists}
 use Rattle.nv_entry.specs.declared.entry.Operation.TheVariants.{Add}
@@ -17,7 +15,8 @@ use Rattle.nv_logpage.specs.Append.{end_of, needed, place_of}
 use Rattle.nv_radix.specs.Pages.{block_at}
 use Rattle.nv_names.specs.Names.{EachOnce, name_at}
 use Rattle.nv_scan.specs.declared.piece.Row.{Row}
-use Rattle.nv_held.specs.nv_check.Cross.{row_key}
+use Rattle.nv_rows.specs.Rows.{HasInserted}
+use Rattle.nv_rows.specs.Unused.{unused_number}
 use Rattle.nv_held.specs.Bytes.{byte_of}
 use Rattle.nv_held.specs.Held.{Held, Store}
 use Rattle.nv_commit.specs.Together.{ShowsIdle}
@@ -30,7 +29,6 @@ use Rattle.nv_tree.specs.Refusals.{Path, Tests, is_bad_name, is_there, walk_test
 use Rattle.nv_calls.specs.NameCalls.{first_entries, name_entries, with_named}
 use Rattle.nv_calls.specs.Steps.{ShowsRow}
 use Rattle.nv_calls.specs.Taken.{SamePools, TakesEach}
-use Rattle.nv_calls.specs.World.{unused_number}
 
 -- ---- where a new inode goes
 
@@ -81,19 +79,6 @@ pub record IsNewRow (j : ℕ) (kind : Kind) (mode time page tail : ℕ) (row : R
   pub pages : row.pages.items ≡ page ∷ []
   pub index : (p : ℕ) → block_at row.index p ≡ None
   pub names : (q : List ℕ) → name_at row.names q ≡ None
-
--- Here a row of this number goes: those in front have a lesser one, and those behind a greater.
-pub record IsPlaceFor (rows : List Row) (i place : ℕ) : Type 0 where
-  pub inside : place ≤ length rows
-  pub front : (c : ℕ) (d : Row) → c < place → c < length rows → (get_or rows c d).inode < i
-  pub behind : (c : ℕ) (d : Row) → place ≤ c → c < length rows → i < (get_or rows c d).inode
-
--- A row was put in at its place among rows that rise.
-pub record HasInserted (old new : List Row) (row : Row) : Type 0 where
-  pub place : ℕ
-  pub inside : place ≤ length old
-  pub all : new ≡ insert old place row
-  pub rising : Rises row_key new
 
 -- ---- the step
 

@@ -45,6 +45,7 @@ pub(crate) fn append_log<P: Pmem>(
     ensures refused { IfErr result (λ e. RefusesStep e (needed (row.old.tail % 4096) entries.now) free.old) }
     ensures unchanged { IfErr result (λ e. (e ≡ RefusalValue.Stopped → ⊥) → LeavesStep memory.old memory.new free.old free.new row.old row.new) }
     ensures stopped { IfErr result (λ e. e ≡ RefusalValue.Stopped → IsTrue (P.fuse memory.new).has_burnt) }
+    ensures inode { row.new.inode ≡ row.old.inode }
     ensures lists { free.new.sup ≡ free.old.sup }
     ensures length { size (P.region memory.new) ≡ size (P.region memory.old) }
     ensures keeps_fuse { KeepsFuse (λ limit. size (P.region memory.old) ≤ limit) (P.fuse memory.old) (P.fuse memory.new) }

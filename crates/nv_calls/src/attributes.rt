@@ -24,7 +24,7 @@ ghost use Rattle.nv_calls.specs.World.{world_of};
 use crate::Fs;
 use crate::appending::append_log;
 use crate::settling::numbers_with;
-use crate::walking::place_at;
+use crate::walking::row_at;
 use crate::writing::is_stop;
 use nv_alloc::Allocators;
 use nv_entry::{AttrEntry, Entry};
@@ -57,6 +57,7 @@ fn change_attributes<P: Pmem>(
     ensures refused { IfErr result (λ e. RefusesStep e (needed (row.old.tail % 4096) (Attr attributes ∷ [])) free.old) }
     ensures unchanged { IfErr result (λ e. (e ≡ RefusalValue.Stopped → ⊥) → LeavesStep memory.old memory.new free.old free.new row.old row.new) }
     ensures stopped { IfErr result (λ e. e ≡ RefusalValue.Stopped → IsTrue (P.fuse memory.new).has_burnt) }
+    ensures inode { row.new.inode ≡ row.old.inode }
     ensures lists { free.new.sup ≡ free.old.sup }
     ensures length { size (P.region memory.new) ≡ size (P.region memory.old) }
     ensures keeps_fuse { KeepsFuse (λ limit. size (P.region memory.old) ≤ limit) (P.fuse memory.old) (P.fuse memory.new) }
@@ -102,8 +103,8 @@ impl<P: Pmem + Drop> Fs<P> {
         ensures keeps_fuse { KeepsFuse (λ limit. size (P.region self.old.memory) ≤ limit) (P.fuse self.old.memory) (P.fuse self.new.memory) }
     {
         self.writable(cpu)?;
-        let place = place_at(&self.rows, path)?;
-        let row = &mut self.rows[place];
+        let inode = row_at(&self.rows, path)?.inode;
+        let mut row = self.rows.take(inode);
         let attributes = AttrEntry {
             mode: mode % 4096,
             size: row.numbers.size,
@@ -111,15 +112,17 @@ impl<P: Pmem + Drop> Fs<P> {
             owner,
             group,
         };
-        match change_attributes(
+        let changed = change_attributes(
             self.alloc,
             &mut self.memory,
             &self.sup,
             &mut self.free,
             cpu,
-            row,
+            &mut row,
             attributes,
-        ) {
+        );
+        self.rows.insert(row);
+        match changed {
             Ok(()) => Ok(()),
             Err(refusal) => {
                 self.stopped = is_stop(refusal);

@@ -1,18 +1,17 @@
 //! `create` and `mkdir`: a new inode and its name.
 
-ghost use Rattle.std.specs.Prelude.{◌≡◌, ◌⊎◌, ◌+◌, ◌<◌, ◌≤◌, ◌%◌, ℕ, List, length, slice_get, Option, Result, IsTrue, IfErr, OnOk, false};
+ghost use Rattle.std.specs.Prelude.{◌≡◌, ◌⊎◌, ◌+◌, ◌<◌, ◌≤◌, ◌%◌, ℕ, List, Option, Result, IsTrue, IfErr, OnOk, false};
 ghost use Rattle.nv_region.specs.Region.{size};
 ghost use Rattle.nv_region.specs.Stops.{NothingPending};
 ghost use Rattle.nv_region.specs.Fuses.{KeepsFuse};
+ghost use Rattle.nv_super.specs.Layout.{inode_limit};
 ghost use Rattle.nv_super.specs.declared.kind.Kind.TheVariants.{File, Directory};
-ghost use Rattle.nv_super.specs.Order.{Rises};
 ghost use Rattle.nv_alloc.specs.Taking.{all_blocks};
 ghost use Rattle.nv_entry.specs.declared.entry.Operation.{Operation as OperationValue};
 ghost use Rattle.nv_logpage.specs.Append.{needed};
 ghost use Rattle.nv_names.specs.Names.{IsName};
 ghost use Rattle.nv_scan.specs.declared.piece.Row.{Row as RowValue};
-ghost use Rattle.nv_held.specs.nv_check.Cross.{row_key};
-ghost use Rattle.nv_held.specs.nv_named.Read.{row_of};
+ghost use Rattle.nv_rows.specs.Rows.{IsInUse, place_in, row_of};
 ghost use Rattle.nv_held.specs.Held.{Held, Store};
 ghost use Rattle.nv_held.specs.Mounted.{ShowsSound};
 ghost use Rattle.nv_tree.specs.Path.{IsPath, Says, last_name};
@@ -26,10 +25,10 @@ ghost use Rattle.nv_calls.specs.NewNames.{CanName, CreatesAt, LeavesRows};
 ghost use Rattle.nv_calls.specs.Same.{KeepsMount, SameMount};
 ghost use Rattle.nv_calls.specs.Seen.{tree_of};
 ghost use Rattle.nv_calls.specs.Steps.{RefusesStep};
-ghost use Rattle.nv_calls.specs.World.{unused_number, world_of};
+ghost use Rattle.nv_rows.specs.Unused.{unused_number};
+ghost use Rattle.nv_calls.specs.World.{world_of};
 
 use crate::Fs;
-use crate::inserting::insert_row;
 use crate::making::{NewName, make_named, name_entry};
 use crate::spotting::spot_for;
 use crate::writing::is_stop;
@@ -37,12 +36,12 @@ use nv_alloc::Allocators;
 use nv_entry::Operation;
 use nv_logpage::pages_needed;
 use nv_region::Pmem;
-use nv_scan::Row;
+use nv_rows::Rows;
 use nv_super::{Kind, Super};
 use nv_tree::Refusal;
 use std::alloc::Global;
 
-/// Makes a new inode with its name in the directory whose row is at a place, and puts the new row in.
+/// Makes a new inode with its name in a directory, and puts the new row in.
 ///
 /// `NoSpace` where all pools together have too few blocks, `Memory` where a growth was refused; both change nothing.
 /// `Stopped` where the fuse has burnt.
@@ -52,35 +51,38 @@ fn create_at<P: Pmem>(
     sup: &Super,
     free: &mut Allocators,
     cpu: u64,
-    rows: &mut Vec<Row>,
-    place: usize,
+    rows: &mut Rows,
+    directory: u64,
     new: &NewName<'_>,
 ) -> Result<(), Refusal>
-    requires within { place < length rows.old.items }
-    requires rising { Rises row_key rows.old.items }
+    requires in_use { IsInUse rows.old.items directory }
+    requires limit { new.now.inode < inode_limit rows.old.sup }
     requires unused { row_of rows.old.items new.now.inode ≡ Option.None }
-    requires stands { (row : RowValue) → slice_get rows.old.items place ≡ Option.Some row → StandsRight (P.region memory.old) sup.now free.old row }
-    requires can { (row : RowValue) → slice_get rows.old.items place ≡ Option.Some row → CanName (P.region memory.old) sup.now cpu new.now.inode row }
+    requires stands { (row : RowValue) → row_of rows.old.items directory ≡ Option.Some row → StandsRight (P.region memory.old) sup.now free.old row }
+    requires can { (row : RowValue) → row_of rows.old.items directory ≡ Option.Some row → CanName (P.region memory.old) sup.now cpu new.now.inode row }
     requires name { IsName new.now.name.now }
-    ensures created { OnOk result (CreatesAt (P.region memory.old) (P.region memory.new) sup.now free.old free.new rows.old.items rows.new.items place new.now.kind new.now.mode new.now.time new.now.inode new.now.name.now) }
-    ensures enough { (row : RowValue) → slice_get rows.old.items place ≡ Option.Some row → OnOk result (1 + needed (row.tail % 4096) (name_entries OperationValue.Add new.now.inode new.now.name.now new.now.time) ≤ all_blocks free.old.pools) }
+    ensures created { OnOk result (CreatesAt (P.region memory.old) (P.region memory.new) sup.now free.old free.new rows.old.items rows.new.items (place_in rows.old.items directory) new.now.kind new.now.mode new.now.time new.now.inode new.now.name.now) }
+    ensures enough { (row : RowValue) → row_of rows.old.items directory ≡ Option.Some row → OnOk result (1 + needed (row.tail % 4096) (name_entries OperationValue.Add new.now.inode new.now.name.now new.now.time) ≤ all_blocks free.old.pools) }
     ensures settled { OnOk result (NothingPending (P.region memory.new) (P.may_hold memory.new)) }
-    ensures refused { (row : RowValue) → slice_get rows.old.items place ≡ Option.Some row → IfErr result (λ e. RefusesStep e (1 + needed (row.tail % 4096) (name_entries OperationValue.Add new.now.inode new.now.name.now new.now.time)) free.old) }
+    ensures refused { (row : RowValue) → row_of rows.old.items directory ≡ Option.Some row → IfErr result (λ e. RefusesStep e (1 + needed (row.tail % 4096) (name_entries OperationValue.Add new.now.inode new.now.name.now new.now.time)) free.old) }
     ensures unchanged { IfErr result (λ e. (e ≡ RefusalValue.Stopped → ⊥) → LeavesRows memory.old memory.new free.old free.new rows.old.items rows.new.items) }
     ensures stopped { IfErr result (λ e. e ≡ RefusalValue.Stopped → IsTrue (P.fuse memory.new).has_burnt) }
+    ensures limit { rows.new.sup ≡ rows.old.sup }
     ensures lists { free.new.sup ≡ free.old.sup }
     ensures length { size (P.region memory.new) ≡ size (P.region memory.old) }
     ensures keeps_fuse { KeepsFuse (λ limit. size (P.region memory.old) ≤ limit) (P.fuse memory.old) (P.fuse memory.new) }
 {
     let entries = [name_entry(Operation::Add, new.inode, new.name, new.time)];
-    if free.free_blocks() < 1 + pages_needed(rows[place].tail, &entries) {
+    if free.free_blocks() < 1 + pages_needed(rows.row(directory).tail, &entries) {
         return Err(Refusal::NoSpace);
     }
     if rows.reserve(1).is_err() {
         return Err(Refusal::Memory);
     }
-    let made = make_named(alloc, memory, sup, free, cpu, &mut rows[place], new)?;
-    insert_row(rows, made);
+    let mut row = rows.take(directory);
+    let made = make_named(alloc, memory, sup, free, cpu, &mut row, new);
+    rows.insert(row);
+    rows.insert(made?);
     Ok(())
 }
 
@@ -165,7 +167,7 @@ impl<P: Pmem + Drop> Fs<P> {
         ensures keeps_fuse { KeepsFuse (λ limit. size (P.region self.old.memory) ≤ limit) (P.fuse self.old.memory) (P.fuse self.new.memory) }
     {
         self.writable(cpu)?;
-        let spot = spot_for(&self.rows, &self.sup, cpu, path)?;
+        let spot = spot_for(&self.rows, cpu, path)?;
         let new = NewName {
             inode: spot.inode,
             kind,
@@ -180,7 +182,7 @@ impl<P: Pmem + Drop> Fs<P> {
             &mut self.free,
             cpu,
             &mut self.rows,
-            spot.place,
+            spot.directory,
             &new,
         ) {
             Ok(()) => Ok(()),

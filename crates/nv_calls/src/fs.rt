@@ -10,7 +10,7 @@ ghost use Rattle.nv_calls.specs.Mount.{IsKept, has_faults};
 use nv_alloc::Allocators;
 use nv_held::Recovered;
 use nv_region::{Fuse, MemRegion, Pmem};
-use nv_scan::Row;
+use nv_rows::Rows;
 use nv_super::{Fault, Super};
 use std::alloc::Global;
 use std::marker::Model;
@@ -24,7 +24,7 @@ pub struct Fs<P: Pmem + Drop> {
     pub(crate) alloc: Global,
     pub(crate) memory: P,
     pub(crate) sup: Super,
-    pub(crate) rows: Vec<Row>,
+    pub(crate) rows: Rows,
     pub(crate) free: Allocators,
     faults: Vec<Fault>,
     pub(crate) read_only: bool,
@@ -32,13 +32,14 @@ pub struct Fs<P: Pmem + Drop> {
 }
 
 impl<P: Pmem + Drop> Model for Fs<P> {
+    ghost use Rattle.std.specs.Prelude.{◌≡◌};
     ghost use Rattle.nv_calls.specs.Mount.{Mount, IsKept};
 
     ghost Value = { Mount P };
 
     ghost view = { λ a. record { memory = a.memory; sup = a.sup; rows = a.rows.items; free = a.free; faults = a.faults.items; read_only = a.read_only; stopped = a.stopped } };
 
-    ghost invariant = { λ a. IsKept (P.region a.memory) a.sup a.rows.items a.free a.faults.items a.read_only a.stopped };
+    ghost invariant = { λ a. IsKept (P.region a.memory) a.sup a.rows.items a.free a.faults.items a.read_only a.stopped × (a.rows.sup ≡ a.sup) };
 }
 
 impl<P: Pmem + Drop> Fs<P> {
@@ -46,6 +47,7 @@ impl<P: Pmem + Drop> Fs<P> {
     pub fn open(alloc: Global, memory: P, recovered: Recovered) -> Fs<P>
         requires outcome { IsOutcome (P.region memory) (lasting_outcome (outcome_of recovered)) }
         requires lists { recovered.free.sup ≡ recovered.sup }
+        requires numbers { recovered.rows.sup ≡ recovered.sup }
         requires own { undone recovered.sup (P.region memory) ≡ P.region memory }
         ensures memory { result.memory ≡ memory }
         ensures sup { result.sup ≡ recovered.sup }
@@ -97,10 +99,10 @@ impl<P: Pmem + Drop> Fs<P> {
     }
 
     /// The rows of the inodes in use, rising by number.
-    pub fn rows(&self) -> &[Row]
-        ensures { result.now ≡ self.now.rows }
+    pub fn rows(&self) -> &Rows
+        ensures { result.now.items ≡ self.now.rows }
     {
-        self.rows.as_slice()
+        &self.rows
     }
 
     /// The free blocks of each CPU's pool.

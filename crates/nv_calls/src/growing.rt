@@ -1,21 +1,18 @@
 //! Two logs that grow together, and the rows that stand for them: all growths first, then the commit, then the rows.
 
-ghost use Rattle.std.specs.Prelude.{◌≡◌, ◌≢◌, ◌+◌, ◌%◌, ◌<◌, ◌≤◌, length, slice_get, Option, IsTrue, IfOk, IfErr, OnOk, OnErr, vec_len, vec_capacity};
+ghost use Rattle.std.specs.Prelude.{◌≡◌, ◌≢◌, ◌+◌, ◌%◌, ◌<◌, ◌≤◌, [], ◌∷◌, length, IsTrue, IfOk, IfErr, OnOk, OnErr, vec_len, vec_capacity};
 ghost use Rattle.nv_region.specs.Region.{size};
 ghost use Rattle.nv_region.specs.Stops.{NothingPending};
 ghost use Rattle.nv_region.specs.Fuses.{KeepsFuse};
 ghost use Rattle.nv_super.specs.Layout.{IsLayout, inode_limit, slot_address};
-ghost use Rattle.nv_super.specs.Order.{Rises};
 ghost use Rattle.nv_alloc.specs.Taking.{all_blocks};
 ghost use Rattle.nv_logpage.specs.Append.{AreGiven, needed};
-ghost use Rattle.nv_held.specs.nv_check.Cross.{row_key};
-ghost use Rattle.nv_held.specs.nv_outcome.Same.{SameRow, SameRows};
-ghost use Rattle.nv_scan.specs.declared.piece.Row.{Row as RowValue};
+ghost use Rattle.nv_held.specs.nv_outcome.Same.{SameRow};
 ghost use Rattle.nv_tree.specs.declared.refusal.Refusal.{Refusal as RefusalValue};
 ghost use Rattle.nv_calls.specs.Grown.{StandsRight};
-ghost use Rattle.nv_calls.specs.MoreNames.{AppendsLogs, NamesOnce, ReadiesRows};
-ghost use Rattle.nv_calls.specs.NewNames.{CanName, LeavesRows};
-ghost use Rattle.nv_calls.specs.Steps.{RefusesStep};
+ghost use Rattle.nv_calls.specs.MoreNames.{AppendsLogs, NamesOnce, ReadiesRow};
+ghost use Rattle.nv_calls.specs.NewNames.{CanName};
+ghost use Rattle.nv_calls.specs.Steps.{LeavesStep, RefusesStep};
 ghost use Rattle.nv_calls.specs.Taken.{SamePools, TakesEach};
 
 use crate::blocks::take_blocks;
@@ -33,8 +30,6 @@ use std::alloc::{AllocError, Global};
 /// What goes behind the log of a row.
 #[derive(Clone, Copy)]
 pub(crate) struct Growth<'a> {
-    /// The place of the row.
-    pub place: usize,
     pub entries: &'a [Entry],
     /// How many names the row gets.
     pub names: usize,
@@ -51,48 +46,47 @@ pub(crate) fn append_logs<P: Pmem>(
     sup: &Super,
     free: &mut Allocators,
     cpu: u64,
-    rows: &mut Vec<Row>,
+    row: &mut Row,
     first: &Growth<'_>,
+    other: &mut Row,
     second: &Growth<'_>,
 ) -> Result<(), Refusal>
-    requires first { first.now.place < length rows.old.items }
-    requires second { second.now.place < length rows.old.items }
-    requires apart { first.now.place ≢ second.now.place }
-    requires rising { Rises row_key rows.old.items }
-    requires stands { (row : RowValue) → slice_get rows.old.items first.now.place ≡ Option.Some row → StandsRight (P.region memory.old) sup.now free.old row × CanName (P.region memory.old) sup.now cpu row.inode row }
-    requires other_stands { (other : RowValue) → slice_get rows.old.items second.now.place ≡ Option.Some other → StandsRight (P.region memory.old) sup.now free.old other × CanName (P.region memory.old) sup.now cpu other.inode other }
+    requires apart { row.old.inode ≢ other.old.inode }
+    requires stands { StandsRight (P.region memory.old) sup.now free.old row.old × CanName (P.region memory.old) sup.now cpu row.old.inode row.old }
+    requires other_stands { StandsRight (P.region memory.old) sup.now free.old other.old × CanName (P.region memory.old) sup.now cpu other.old.inode other.old }
     requires given { AreGiven first.now.entries.now × (length first.now.entries.now ≡ 1) }
     requires more_given { AreGiven second.now.entries.now × (length second.now.entries.now ≡ 1) }
-    ensures appended { OnOk result (AppendsLogs (P.region memory.old) (P.region memory.new) sup.now free.old free.new rows.old.items rows.new.items first.now.place first.now.entries.now second.now.place second.now.entries.now) }
-    ensures room { (row : RowValue) → slice_get rows.new.items second.now.place ≡ Option.Some row → OnOk result (second.now.names ≤ row.names.room) }
-    ensures enough { (row other : RowValue) → slice_get rows.old.items first.now.place ≡ Option.Some row → slice_get rows.old.items second.now.place ≡ Option.Some other → OnOk result (needed (row.tail % 4096) first.now.entries.now + needed (other.tail % 4096) second.now.entries.now ≤ all_blocks free.old.pools) }
+    ensures appended { OnOk result (AppendsLogs (P.region memory.old) (P.region memory.new) sup.now free.old free.new (row.old ∷ other.old ∷ []) (row.new ∷ other.new ∷ []) 0 first.now.entries.now 1 second.now.entries.now) }
+    ensures room { OnOk result (second.now.names ≤ other.new.names.room) }
+    ensures enough { OnOk result (needed (row.old.tail % 4096) first.now.entries.now + needed (other.old.tail % 4096) second.now.entries.now ≤ all_blocks free.old.pools) }
     ensures settled { OnOk result (NothingPending (P.region memory.new) (P.may_hold memory.new)) }
-    ensures refused { (row other : RowValue) → slice_get rows.old.items first.now.place ≡ Option.Some row → slice_get rows.old.items second.now.place ≡ Option.Some other → IfErr result (λ e. RefusesStep e (needed (row.tail % 4096) first.now.entries.now + needed (other.tail % 4096) second.now.entries.now) free.old) }
-    ensures unchanged { IfErr result (λ e. (e ≡ RefusalValue.Stopped → ⊥) → LeavesRows memory.old memory.new free.old free.new rows.old.items rows.new.items) }
+    ensures refused { IfErr result (λ e. RefusesStep e (needed (row.old.tail % 4096) first.now.entries.now + needed (other.old.tail % 4096) second.now.entries.now) free.old) }
+    ensures unchanged { IfErr result (λ e. (e ≡ RefusalValue.Stopped → ⊥) → LeavesStep memory.old memory.new free.old free.new row.old row.new × SameRow other.old other.new) }
     ensures stopped { IfErr result (λ e. e ≡ RefusalValue.Stopped → IsTrue (P.fuse memory.new).has_burnt) }
+    ensures inode { row.new.inode ≡ row.old.inode }
+    ensures other_inode { other.new.inode ≡ other.old.inode }
     ensures lists { free.new.sup ≡ free.old.sup }
     ensures length { size (P.region memory.new) ≡ size (P.region memory.old) }
     ensures keeps_fuse { KeepsFuse (λ limit. size (P.region memory.old) ≤ limit) (P.fuse memory.old) (P.fuse memory.new) }
 {
-    let blocks = prepare_logs(alloc, free, cpu, rows, first, second)?;
-    let count = blocks_for(rows, first) as usize;
+    let blocks = prepare_logs(alloc, free, cpu, row, first, other, second)?;
+    let count = blocks_for(row, first) as usize;
     let (fresh, more) = blocks.split_at(count);
-    let one = extension(sup, &rows[first.place], first.entries, fresh);
-    let two = extension(sup, &rows[second.place], second.entries, more);
+    let one = extension(sup, row, first.entries, fresh);
+    let two = extension(sup, other, second.entries, more);
     let Ok((end, last)) = extend_two(memory, cpu, &one, &two) else {
         return Err(Refusal::Stopped);
     };
-    settle_log(&mut rows[first.place], fresh, end);
-    settle_log(&mut rows[second.place], more, last);
+    settle_log(row, fresh, end);
+    settle_log(other, more, last);
     Ok(())
 }
 
 /// How many blocks the log of a row takes.
-fn blocks_for(rows: &[Row], growth: &Growth<'_>) -> u64
-    requires within { growth.now.place < length rows.now }
-    ensures { (row : RowValue) → slice_get rows.now growth.now.place ≡ Option.Some row → result ≡ needed (row.tail % 4096) growth.now.entries.now }
+fn blocks_for(row: &Row, growth: &Growth<'_>) -> u64
+    ensures { result ≡ needed (row.now.tail % 4096) growth.now.entries.now }
 {
-    pages_needed(rows[growth.place].tail, growth.entries)
+    pages_needed(row.tail, growth.entries)
 }
 
 /// Entries for the log of a row, over these blocks.
@@ -119,34 +113,34 @@ fn prepare_logs(
     alloc: Global,
     free: &mut Allocators,
     cpu: u64,
-    rows: &mut Vec<Row>,
+    row: &mut Row,
     first: &Growth<'_>,
+    other: &mut Row,
     second: &Growth<'_>,
 ) -> Result<Vec<u64>, Refusal>
     requires cpu { cpu < free.old.sup.cpus }
-    requires first { first.now.place < length rows.old.items }
-    requires second { second.now.place < length rows.old.items }
     requires one { length first.now.entries.now ≡ 1 }
     requires other_one { length second.now.entries.now ≡ 1 }
-    requires apart { first.now.place ≢ second.now.place }
     ensures taken { IfOk result (λ blocks. TakesEach free.old blocks.items free.new) }
-    ensures count { (row other : RowValue) → slice_get rows.old.items first.now.place ≡ Option.Some row → slice_get rows.old.items second.now.place ≡ Option.Some other → IfOk result (λ blocks. length blocks.items ≡ needed (row.tail % 4096) first.now.entries.now + needed (other.tail % 4096) second.now.entries.now) }
-    ensures enough { (row other : RowValue) → slice_get rows.old.items first.now.place ≡ Option.Some row → slice_get rows.old.items second.now.place ≡ Option.Some other → OnOk result (needed (row.tail % 4096) first.now.entries.now + needed (other.tail % 4096) second.now.entries.now ≤ all_blocks free.old.pools) }
-    ensures refused { (row other : RowValue) → slice_get rows.old.items first.now.place ≡ Option.Some row → slice_get rows.old.items second.now.place ≡ Option.Some other → IfErr result (λ e. RefusesStep e (needed (row.tail % 4096) first.now.entries.now + needed (other.tail % 4096) second.now.entries.now) free.old) }
+    ensures count { IfOk result (λ blocks. length blocks.items ≡ needed (row.old.tail % 4096) first.now.entries.now + needed (other.old.tail % 4096) second.now.entries.now) }
+    ensures enough { OnOk result (needed (row.old.tail % 4096) first.now.entries.now + needed (other.old.tail % 4096) second.now.entries.now ≤ all_blocks free.old.pools) }
+    ensures refused { IfErr result (λ e. RefusesStep e (needed (row.old.tail % 4096) first.now.entries.now + needed (other.old.tail % 4096) second.now.entries.now) free.old) }
     ensures goes_on { IfErr result (λ e. e ≡ RefusalValue.Stopped → ⊥) }
     ensures unchanged { OnErr result (SamePools free.old free.new) }
-    ensures rows { SameRows rows.old.items rows.new.items }
-    ensures ready { OnOk result (ReadiesRows rows.old.items rows.new.items first.now.place first.now.entries.now first.now.names second.now.place second.now.entries.now second.now.names) }
+    ensures row { SameRow row.old row.new }
+    ensures other { SameRow other.old other.new }
+    ensures ready { OnOk result (ReadiesRow row.old row.new first.now.entries.now first.now.names) }
+    ensures other_ready { OnOk result (ReadiesRow other.old other.new second.now.entries.now second.now.names) }
 {
-    let count = blocks_for(rows, first);
-    let more = blocks_for(rows, second);
+    let count = blocks_for(row, first);
+    let more = blocks_for(other, second);
     if free.free_blocks() < count + more {
         return Err(Refusal::NoSpace);
     }
-    let Ok(()) = make_room(&mut rows[first.place], count as usize, first.names) else {
+    let Ok(()) = make_room(row, count as usize, first.names) else {
         return Err(Refusal::Memory);
     };
-    let Ok(()) = make_room(&mut rows[second.place], more as usize, second.names) else {
+    let Ok(()) = make_room(other, more as usize, second.names) else {
         return Err(Refusal::Memory);
     };
     match take_blocks(alloc, free, cpu, count + more) {

@@ -1,16 +1,16 @@
 //! `link`: one more name of a file.
 
-ghost use Rattle.std.specs.Prelude.{◌≡◌, ◌≢◌, ◌⊎◌, ◌+◌, ◌%◌, ◌<◌, ◌≤◌, ℕ, List, length, slice_get, Option, Result, IsTrue, IfErr, OnOk, false};
+ghost use Rattle.std.specs.Prelude.{◌≡◌, ◌≢◌, ◌⊎◌, ◌+◌, ◌%◌, ◌<◌, ◌≤◌, ℕ, List, [], ◌∷◌, Option, Result, IsTrue, IfErr, OnOk, false};
 ghost use Rattle.nv_region.specs.Region.{size};
 ghost use Rattle.nv_region.specs.Stops.{NothingPending};
 ghost use Rattle.nv_region.specs.Fuses.{KeepsFuse};
-ghost use Rattle.nv_super.specs.Order.{Rises};
 ghost use Rattle.nv_alloc.specs.Taking.{all_blocks};
 ghost use Rattle.nv_entry.specs.declared.entry.Operation.TheVariants.{Add};
 ghost use Rattle.nv_logpage.specs.Append.{needed};
 ghost use Rattle.nv_names.specs.Names.{IsName};
 ghost use Rattle.nv_scan.specs.declared.piece.Row.{Row as RowValue};
-ghost use Rattle.nv_held.specs.nv_check.Cross.{row_key};
+ghost use Rattle.nv_rows.specs.Rows.{IsInUse, place_in, row_of};
+ghost use Rattle.nv_held.specs.nv_outcome.Same.{SameRow};
 ghost use Rattle.nv_held.specs.Held.{Held, Store};
 ghost use Rattle.nv_held.specs.Mounted.{ShowsSound};
 ghost use Rattle.nv_tree.specs.Path.{IsPath, Says, last_name};
@@ -25,7 +25,7 @@ ghost use Rattle.nv_calls.specs.NameCalls.{name_entries};
 ghost use Rattle.nv_calls.specs.NewNames.{CanName, LeavesRows};
 ghost use Rattle.nv_calls.specs.Same.{KeepsMount, SameMount};
 ghost use Rattle.nv_calls.specs.Seen.{LeadsTo, tree_of};
-ghost use Rattle.nv_calls.specs.Steps.{RefusesStep};
+ghost use Rattle.nv_calls.specs.Steps.{LeavesStep, RefusesStep};
 ghost use Rattle.nv_calls.specs.World.{world_of};
 
 use crate::Fs;
@@ -38,10 +38,64 @@ use crate::writing::is_stop;
 use nv_alloc::Allocators;
 use nv_entry::{Entry, LinksEntry, Operation, length};
 use nv_region::Pmem;
+use nv_rows::Rows;
 use nv_scan::Row;
 use nv_super::Super;
 use nv_tree::Refusal;
 use std::alloc::Global;
+
+/// Gives a file a name in a directory, by their rows: the file's log says one link more, and the directory's log says the name.
+///
+/// `NoSpace` where all pools together have too few blocks, `Memory` where a growth was refused; both change nothing.
+/// `Stopped` where the fuse has burnt.
+fn link_both<P: Pmem>(
+    alloc: Global,
+    memory: &mut P,
+    sup: &Super,
+    free: &mut Allocators,
+    cpu: u64,
+    file: &mut Row,
+    directory: &mut Row,
+    name: &[u8],
+    time: u64,
+) -> Result<(), Refusal>
+    requires apart { file.old.inode ≢ directory.old.inode }
+    requires stands { StandsRight (P.region memory.old) sup.now free.old file.old × CanName (P.region memory.old) sup.now cpu file.old.inode file.old }
+    requires directory_stands { StandsRight (P.region memory.old) sup.now free.old directory.old × CanName (P.region memory.old) sup.now cpu directory.old.inode directory.old }
+    requires few { file.old.numbers.links < 1000 }
+    requires name { IsName name.now }
+    ensures linked { OnOk result (LinksAt (P.region memory.old) (P.region memory.new) sup.now free.old free.new (file.old ∷ directory.old ∷ []) (file.new ∷ directory.new ∷ []) 0 1 name.now time) }
+    ensures enough { OnOk result (needed (file.old.tail % 4096) (links_entries (file.old.numbers.links + 1) time) + needed (directory.old.tail % 4096) (name_entries Add file.old.inode name.now time) ≤ all_blocks free.old.pools) }
+    ensures settled { OnOk result (NothingPending (P.region memory.new) (P.may_hold memory.new)) }
+    ensures refused { IfErr result (λ e. RefusesStep e (needed (file.old.tail % 4096) (links_entries (file.old.numbers.links + 1) time) + needed (directory.old.tail % 4096) (name_entries Add file.old.inode name.now time)) free.old) }
+    ensures unchanged { IfErr result (λ e. (e ≡ RefusalValue.Stopped → ⊥) → LeavesStep memory.old memory.new free.old free.new file.old file.new × SameRow directory.old directory.new) }
+    ensures stopped { IfErr result (λ e. e ≡ RefusalValue.Stopped → IsTrue (P.fuse memory.new).has_burnt) }
+    ensures inode { file.new.inode ≡ file.old.inode }
+    ensures directory_inode { directory.new.inode ≡ directory.old.inode }
+    ensures lists { free.new.sup ≡ free.old.sup }
+    ensures length { size (P.region memory.new) ≡ size (P.region memory.old) }
+    ensures keeps_fuse { KeepsFuse (λ limit. size (P.region memory.old) ≤ limit) (P.fuse memory.old) (P.fuse memory.new) }
+{
+    let inode = file.inode;
+    let count = file.numbers.links + 1;
+    let links = [Entry::Links(LinksEntry { count, time })];
+    let names = [name_entry(Operation::Add, inode, name, time)];
+    let first = Growth {
+        entries: &links,
+        names: 0,
+    };
+    let second = Growth {
+        entries: &names,
+        names: 1,
+    };
+    append_logs(
+        alloc, memory, sup, free, cpu, file, &first, directory, &second,
+    )?;
+    set_links(file, count, time);
+    let place = directory.tail - length(&names[0]);
+    add_name(directory, name, inode, place, time);
+    Ok(())
+}
 
 /// Gives a file a name in a directory: its log says one link more, and the directory's log says the name.
 ///
@@ -53,48 +107,44 @@ fn link_at<P: Pmem>(
     sup: &Super,
     free: &mut Allocators,
     cpu: u64,
-    rows: &mut Vec<Row>,
+    rows: &mut Rows,
     named: &Named<'_>,
     time: u64,
 ) -> Result<(), Refusal>
-    requires target { named.now.target < length rows.old.items }
-    requires directory { named.now.directory < length rows.old.items }
+    requires target { IsInUse rows.old.items named.now.target }
+    requires directory { IsInUse rows.old.items named.now.directory }
     requires apart { named.now.target ≢ named.now.directory }
-    requires rising { Rises row_key rows.old.items }
-    requires few { (row : RowValue) → slice_get rows.old.items named.now.target ≡ Option.Some row → row.numbers.links < 1000 }
-    requires stands { (row : RowValue) → slice_get rows.old.items named.now.target ≡ Option.Some row → StandsRight (P.region memory.old) sup.now free.old row × CanName (P.region memory.old) sup.now cpu row.inode row }
-    requires directory_stands { (directory : RowValue) → slice_get rows.old.items named.now.directory ≡ Option.Some directory → StandsRight (P.region memory.old) sup.now free.old directory × CanName (P.region memory.old) sup.now cpu directory.inode directory }
+    requires few { (row : RowValue) → row_of rows.old.items named.now.target ≡ Option.Some row → row.numbers.links < 1000 }
+    requires stands { (row : RowValue) → row_of rows.old.items named.now.target ≡ Option.Some row → StandsRight (P.region memory.old) sup.now free.old row × CanName (P.region memory.old) sup.now cpu row.inode row }
+    requires directory_stands { (directory : RowValue) → row_of rows.old.items named.now.directory ≡ Option.Some directory → StandsRight (P.region memory.old) sup.now free.old directory × CanName (P.region memory.old) sup.now cpu directory.inode directory }
     requires name { IsName named.now.name.now }
-    ensures linked { OnOk result (LinksAt (P.region memory.old) (P.region memory.new) sup.now free.old free.new rows.old.items rows.new.items named.now.target named.now.directory named.now.name.now time) }
-    ensures enough { (row directory : RowValue) → slice_get rows.old.items named.now.target ≡ Option.Some row → slice_get rows.old.items named.now.directory ≡ Option.Some directory → OnOk result (needed (row.tail % 4096) (links_entries (row.numbers.links + 1) time) + needed (directory.tail % 4096) (name_entries Add row.inode named.now.name.now time) ≤ all_blocks free.old.pools) }
+    ensures linked { OnOk result (LinksAt (P.region memory.old) (P.region memory.new) sup.now free.old free.new rows.old.items rows.new.items (place_in rows.old.items named.now.target) (place_in rows.old.items named.now.directory) named.now.name.now time) }
+    ensures enough { (row directory : RowValue) → row_of rows.old.items named.now.target ≡ Option.Some row → row_of rows.old.items named.now.directory ≡ Option.Some directory → OnOk result (needed (row.tail % 4096) (links_entries (row.numbers.links + 1) time) + needed (directory.tail % 4096) (name_entries Add row.inode named.now.name.now time) ≤ all_blocks free.old.pools) }
     ensures settled { OnOk result (NothingPending (P.region memory.new) (P.may_hold memory.new)) }
-    ensures refused { (row directory : RowValue) → slice_get rows.old.items named.now.target ≡ Option.Some row → slice_get rows.old.items named.now.directory ≡ Option.Some directory → IfErr result (λ e. RefusesStep e (needed (row.tail % 4096) (links_entries (row.numbers.links + 1) time) + needed (directory.tail % 4096) (name_entries Add row.inode named.now.name.now time)) free.old) }
+    ensures refused { (row directory : RowValue) → row_of rows.old.items named.now.target ≡ Option.Some row → row_of rows.old.items named.now.directory ≡ Option.Some directory → IfErr result (λ e. RefusesStep e (needed (row.tail % 4096) (links_entries (row.numbers.links + 1) time) + needed (directory.tail % 4096) (name_entries Add row.inode named.now.name.now time)) free.old) }
     ensures unchanged { IfErr result (λ e. (e ≡ RefusalValue.Stopped → ⊥) → LeavesRows memory.old memory.new free.old free.new rows.old.items rows.new.items) }
     ensures stopped { IfErr result (λ e. e ≡ RefusalValue.Stopped → IsTrue (P.fuse memory.new).has_burnt) }
+    ensures limit { rows.new.sup ≡ rows.old.sup }
     ensures lists { free.new.sup ≡ free.old.sup }
     ensures length { size (P.region memory.new) ≡ size (P.region memory.old) }
     ensures keeps_fuse { KeepsFuse (λ limit. size (P.region memory.old) ≤ limit) (P.fuse memory.old) (P.fuse memory.new) }
 {
-    let file = &rows[named.target];
-    let inode = file.inode;
-    let count = file.numbers.links + 1;
-    let links = [Entry::Links(LinksEntry { count, time })];
-    let names = [name_entry(Operation::Add, inode, named.name, time)];
-    let first = Growth {
-        place: named.target,
-        entries: &links,
-        names: 0,
-    };
-    let second = Growth {
-        place: named.directory,
-        entries: &names,
-        names: 1,
-    };
-    append_logs(alloc, memory, sup, free, cpu, rows, &first, &second)?;
-    set_links(&mut rows[named.target], count, time);
-    let place = rows[named.directory].tail - length(&names[0]);
-    add_name(&mut rows[named.directory], named.name, inode, place, time);
-    Ok(())
+    let mut file = rows.take(named.target);
+    let mut directory = rows.take(named.directory);
+    let done = link_both(
+        alloc,
+        memory,
+        sup,
+        free,
+        cpu,
+        &mut file,
+        &mut directory,
+        named.name,
+        time,
+    );
+    rows.insert(directory);
+    rows.insert(file);
+    done
 }
 
 impl<P: Pmem + Drop> Fs<P> {

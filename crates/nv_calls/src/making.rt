@@ -82,6 +82,7 @@ pub(crate) fn make_named<P: Pmem>(
     ensures refused { IfErr result (λ e. RefusesStep e (1 + needed (directory.old.tail % 4096) (name_entries OperationValue.Add new.now.inode new.now.name.now new.now.time)) free.old) }
     ensures unchanged { IfErr result (λ e. (e ≡ RefusalValue.Stopped → ⊥) → LeavesStep memory.old memory.new free.old free.new directory.old directory.new) }
     ensures stopped { IfErr result (λ e. e ≡ RefusalValue.Stopped → IsTrue (P.fuse memory.new).has_burnt) }
+    ensures inode { directory.new.inode ≡ directory.old.inode }
     ensures lists { free.new.sup ≡ free.old.sup }
     ensures length { size (P.region memory.new) ≡ size (P.region memory.old) }
     ensures keeps_fuse { KeepsFuse (λ limit. size (P.region memory.old) ≤ limit) (P.fuse memory.old) (P.fuse memory.new) }

@@ -1,18 +1,19 @@
 //! The inode in use that the last name of a path stands for.
 
-ghost use Rattle.std.specs.Prelude.{◌≡◌, ◌<◌, ℕ, List, length, slice_get, IsTrue, IsFalse, IfOk, IfErr, OnOk, Option};
+ghost use Rattle.std.specs.Prelude.{◌≡◌, ℕ, List, IsTrue, IsFalse, IfOk, IfErr, OnOk, Option};
 ghost use Rattle.nv_region.specs.Region.{Region};
 ghost use Rattle.nv_super.specs.declared.kind.Kind.TheVariants.{File, Directory};
-ghost use Rattle.nv_super.specs.Order.{Rises};
-ghost use Rattle.nv_held.specs.nv_check.Cross.{row_key};
 ghost use Rattle.nv_names.specs.Names.{name_at};
 ghost use Rattle.nv_scan.specs.declared.piece.Row.{Row as RowValue};
+ghost use Rattle.nv_rows.specs.Rows.{IsInUse, place_in, row_of};
 ghost use Rattle.nv_tree.specs.Path.{IsPath, IsPathName, Says};
 ghost use Rattle.nv_tree.specs.Refusals.{Path, first_refusal};
 ghost use Rattle.nv_calls.specs.NamedAt.{IsNamedAt, named_tests, rmdir_spot_tests, unlink_spot_tests};
 ghost use Rattle.nv_calls.specs.Seen.{tree_of};
 
-use crate::naming::{has_name, spot_of, target_at};
+use crate::naming::{has_name, target_at};
+use crate::walking::walk;
+use nv_rows::Rows;
 use nv_scan::Row;
 use nv_super::Kind;
 use nv_tree::Refusal;
@@ -20,55 +21,51 @@ use nv_tree::Refusal;
 /// A name in a directory, and the inode in use that it stands for or shall stand for.
 #[derive(Clone, Copy)]
 pub(crate) struct Named<'a> {
-    /// The place of the directory's row.
-    pub directory: usize,
+    pub directory: u64,
     pub name: &'a [u8],
-    /// The place of the inode's row.
-    pub target: usize,
+    pub target: u64,
 }
 
 /// The inode in use for which the last name of a path stands, and where it stands.
 ///
 /// Errors, the first that applies: `BadName` where the text is no path or `/`, `NotFound` or `NotDirectory` for an inode on
 /// the way, `NotFound` where the path leads to no inode in use.
-fn named_at<'a>(rows: &[Row], path: &'a [u8]) -> Result<Named<'a>, Refusal>
-    requires { Rises row_key rows.now }
-    ensures directory { IfOk result (λ named. named.directory < length rows.now) }
-    ensures target { IfOk result (λ named. named.target < length rows.now) }
+fn named_at<'a>(rows: &Rows, path: &'a [u8]) -> Result<Named<'a>, Refusal>
+    ensures directory { IfOk result (λ named. IsInUse rows.now.items named.directory) }
+    ensures target { IfOk result (λ named. IsInUse rows.now.items named.target) }
     ensures name { IfOk result (λ named. IsPathName named.name.now) }
     ensures path { OnOk result ((names : List (List ℕ)) × IsPath path.now names) }
-    ensures spot { (region : Region) (names : List (List ℕ)) → IsPath path.now names → IfOk result (λ named. IsNamedAt (tree_of region rows.now) rows.now names named.directory named.name.now named.target) }
-    ensures allowed { (region : Region) (p : Path) → Says path.now p → OnOk result (first_refusal (named_tests (tree_of region rows.now) p) ≡ Option.None) }
-    ensures refused { (region : Region) (p : Path) → Says path.now p → IfErr result (λ e. first_refusal (named_tests (tree_of region rows.now) p) ≡ Option.Some e) }
+    ensures spot { (region : Region) (names : List (List ℕ)) → IsPath path.now names → IfOk result (λ named. IsNamedAt (tree_of region rows.now.items) rows.now.items names (place_in rows.now.items named.directory) named.name.now (place_in rows.now.items named.target)) }
+    ensures allowed { (region : Region) (p : Path) → Says path.now p → OnOk result (first_refusal (named_tests (tree_of region rows.now.items) p) ≡ Option.None) }
+    ensures refused { (region : Region) (p : Path) → Says path.now p → IfErr result (λ e. first_refusal (named_tests (tree_of region rows.now.items) p) ≡ Option.Some e) }
 {
     if !has_name(path) {
         return Err(Refusal::BadName);
     }
-    let (directory, name) = spot_of(rows, path)?;
+    let (directory, name) = walk(rows, path)?;
     match target_at(rows, directory, name) {
         Some(target) => Ok(Named {
             directory,
             name,
-            target,
+            target: target.inode,
         }),
         None => Err(Refusal::NotFound),
     }
 }
 
 /// The file whose name goes. Refusals are those of `named_at`, and then `IsDirectory` for a directory.
-pub(crate) fn unlink_for<'a>(rows: &[Row], path: &'a [u8]) -> Result<Named<'a>, Refusal>
-    requires { Rises row_key rows.now }
-    ensures directory { IfOk result (λ named. named.directory < length rows.now) }
-    ensures target { IfOk result (λ named. named.target < length rows.now) }
+pub(crate) fn unlink_for<'a>(rows: &Rows, path: &'a [u8]) -> Result<Named<'a>, Refusal>
+    ensures directory { IfOk result (λ named. IsInUse rows.now.items named.directory) }
+    ensures target { IfOk result (λ named. IsInUse rows.now.items named.target) }
     ensures name { IfOk result (λ named. IsPathName named.name.now) }
     ensures path { OnOk result ((names : List (List ℕ)) × IsPath path.now names) }
-    ensures spot { (region : Region) (names : List (List ℕ)) → IsPath path.now names → IfOk result (λ named. IsNamedAt (tree_of region rows.now) rows.now names named.directory named.name.now named.target) }
-    ensures allowed { (region : Region) (p : Path) → Says path.now p → OnOk result (first_refusal (unlink_spot_tests (tree_of region rows.now) p) ≡ Option.None) }
-    ensures refused { (region : Region) (p : Path) → Says path.now p → IfErr result (λ e. first_refusal (unlink_spot_tests (tree_of region rows.now) p) ≡ Option.Some e) }
-    ensures file { IfOk result (λ named. (row : RowValue) → slice_get rows.now named.target ≡ Option.Some row → row.kind ≡ File) }
+    ensures spot { (region : Region) (names : List (List ℕ)) → IsPath path.now names → IfOk result (λ named. IsNamedAt (tree_of region rows.now.items) rows.now.items names (place_in rows.now.items named.directory) named.name.now (place_in rows.now.items named.target)) }
+    ensures allowed { (region : Region) (p : Path) → Says path.now p → OnOk result (first_refusal (unlink_spot_tests (tree_of region rows.now.items) p) ≡ Option.None) }
+    ensures refused { (region : Region) (p : Path) → Says path.now p → IfErr result (λ e. first_refusal (unlink_spot_tests (tree_of region rows.now.items) p) ≡ Option.Some e) }
+    ensures file { IfOk result (λ named. (row : RowValue) → row_of rows.now.items named.target ≡ Option.Some row → row.kind ≡ File) }
 {
     let named = named_at(rows, path)?;
-    if !is_file(&rows[named.target]) {
+    if !is_file(rows.row(named.target)) {
         return Err(Refusal::IsDirectory);
     }
     Ok(named)
@@ -76,19 +73,18 @@ pub(crate) fn unlink_for<'a>(rows: &[Row], path: &'a [u8]) -> Result<Named<'a>, 
 
 /// The directory that goes with its name. Refusals are those of `named_at`, and then `NotDirectory` for a file and
 /// `NotEmpty` where there are names in it.
-pub(crate) fn rmdir_for<'a>(rows: &[Row], path: &'a [u8]) -> Result<Named<'a>, Refusal>
-    requires { Rises row_key rows.now }
-    ensures directory { IfOk result (λ named. named.directory < length rows.now) }
-    ensures target { IfOk result (λ named. named.target < length rows.now) }
+pub(crate) fn rmdir_for<'a>(rows: &Rows, path: &'a [u8]) -> Result<Named<'a>, Refusal>
+    ensures directory { IfOk result (λ named. IsInUse rows.now.items named.directory) }
+    ensures target { IfOk result (λ named. IsInUse rows.now.items named.target) }
     ensures name { IfOk result (λ named. IsPathName named.name.now) }
     ensures path { OnOk result ((names : List (List ℕ)) × IsPath path.now names) }
-    ensures spot { (region : Region) (names : List (List ℕ)) → IsPath path.now names → IfOk result (λ named. IsNamedAt (tree_of region rows.now) rows.now names named.directory named.name.now named.target) }
-    ensures allowed { (region : Region) (p : Path) → Says path.now p → OnOk result (first_refusal (rmdir_spot_tests (tree_of region rows.now) p) ≡ Option.None) }
-    ensures refused { (region : Region) (p : Path) → Says path.now p → IfErr result (λ e. first_refusal (rmdir_spot_tests (tree_of region rows.now) p) ≡ Option.Some e) }
-    ensures empty { IfOk result (λ named. (row : RowValue) → slice_get rows.now named.target ≡ Option.Some row → (row.kind ≡ Directory) × ((q : List ℕ) → name_at row.names q ≡ Option.None)) }
+    ensures spot { (region : Region) (names : List (List ℕ)) → IsPath path.now names → IfOk result (λ named. IsNamedAt (tree_of region rows.now.items) rows.now.items names (place_in rows.now.items named.directory) named.name.now (place_in rows.now.items named.target)) }
+    ensures allowed { (region : Region) (p : Path) → Says path.now p → OnOk result (first_refusal (rmdir_spot_tests (tree_of region rows.now.items) p) ≡ Option.None) }
+    ensures refused { (region : Region) (p : Path) → Says path.now p → IfErr result (λ e. first_refusal (rmdir_spot_tests (tree_of region rows.now.items) p) ≡ Option.Some e) }
+    ensures empty { IfOk result (λ named. (row : RowValue) → row_of rows.now.items named.target ≡ Option.Some row → (row.kind ≡ Directory) × ((q : List ℕ) → name_at row.names q ≡ Option.None)) }
 {
     let named = named_at(rows, path)?;
-    let row = &rows[named.target];
+    let row = rows.row(named.target);
     if is_file(row) {
         return Err(Refusal::NotDirectory);
     }

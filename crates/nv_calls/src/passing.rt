@@ -3,23 +3,19 @@
 ghost use Rattle.std.specs.Prelude.{◌≡◌, ◌<◌, ℕ, List, length, eqb};
 ghost use Rattle.std.specs.List.{list_any};
 ghost use Rattle.nv_region.specs.Region.{Region};
-ghost use Rattle.nv_super.specs.Order.{Rises};
-ghost use Rattle.nv_held.specs.nv_check.Cross.{row_key};
 ghost use Rattle.nv_tree.specs.Names.{Spells};
 ghost use Rattle.nv_tree.specs.Tree.{name_in, passed};
 ghost use Rattle.nv_calls.specs.Seen.{tree_of};
 
-use crate::looking::place_of;
 use crate::walking::ROOT;
-use nv_scan::Row;
+use nv_rows::Rows;
 use nv_tree::split_name;
 
 /// Whether an inode is among the directories that the way to the last name of a path passes, the one in which that name
 /// stands included.
-pub(crate) fn passes(rows: &[Row], path: &[u8], inode: u64) -> bool
-    requires rising { Rises row_key rows.now }
+pub(crate) fn passes(rows: &Rows, path: &[u8], inode: u64) -> bool
     requires some { 0 < length path.now }
-    ensures { (region : Region) (names : List (List ℕ)) → Spells path.now names → result ≡ list_any (eqb inode) (passed (tree_of region rows.now) 1 names) }
+    ensures { (region : Region) (names : List (List ℕ)) → Spells path.now names → result ≡ list_any (eqb inode) (passed (tree_of region rows.now.items) 1 names) }
 {
     let mut directory = ROOT;
     let mut rest = path;
@@ -40,12 +36,10 @@ pub(crate) fn passes(rows: &[Row], path: &[u8], inode: u64) -> bool
 }
 
 /// The inode that a name of a directory in use stands for.
-fn inode_named(rows: &[Row], directory: u64, name: &[u8]) -> Option<u64>
-    requires { Rises row_key rows.now }
-    ensures { (region : Region) → result ≡ name_in (tree_of region rows.now) directory name.now }
+fn inode_named(rows: &Rows, directory: u64, name: &[u8]) -> Option<u64>
+    ensures { (region : Region) → result ≡ name_in (tree_of region rows.now.items) directory name.now }
 {
-    let place = place_of(rows, directory)?;
-    match rows[place].names.get(name) {
+    match rows.get(directory)?.names.get(name) {
         Some(target) => Some(target.inode),
         None => None,
     }

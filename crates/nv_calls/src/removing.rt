@@ -1,6 +1,6 @@
 //! An inode that goes with its name: all growths first, then the commit, then the rows and the free lists.
 
-ghost use Rattle.std.specs.Prelude.{◌≡◌, ◌≢◌, ◌+◌, ◌%◌, ◌<◌, ◌≤◌, length, slice_get, Option, IsTrue, IfOk, IfErr, OnOk, OnErr, vec_len, vec_capacity};
+ghost use Rattle.std.specs.Prelude.{◌≡◌, ◌≢◌, ◌+◌, ◌%◌, ◌<◌, ◌≤◌, length, Option, IsTrue, IfOk, IfErr, OnOk, OnErr, vec_len, vec_capacity};
 ghost use Rattle.std.specs.Int.{div_ceil};
 ghost use Rattle.nv_region.specs.Region.{size};
 ghost use Rattle.nv_region.specs.Stops.{NothingPending};
@@ -11,6 +11,7 @@ ghost use Rattle.nv_logpage.specs.Append.{needed};
 ghost use Rattle.nv_names.specs.Names.{EachOnce, IsName};
 ghost use Rattle.nv_held.specs.nv_outcome.Same.{SameRow};
 ghost use Rattle.nv_scan.specs.declared.piece.Row.{Row as RowValue};
+ghost use Rattle.nv_rows.specs.Rows.{IsInUse, place_in, row_of};
 ghost use Rattle.nv_tree.specs.declared.refusal.Refusal.{Refusal as RefusalValue};
 ghost use Rattle.nv_calls.specs.Grown.{StandsRight};
 ghost use Rattle.nv_calls.specs.LessNames.{CutsName, HasLost, OwnsBlocks, RemovesAt};
@@ -28,6 +29,7 @@ use nv_alloc::{AllocRefusal, Allocators};
 use nv_commit::{Extension, remove_inode};
 use nv_entry::{Entry, Operation};
 use nv_region::Pmem;
+use nv_rows::Rows;
 use nv_scan::Row;
 use nv_super::{BLOCK_SIZE, Super};
 use nv_tree::Refusal;
@@ -43,7 +45,7 @@ struct Gone<'a> {
     time: u64,
 }
 
-/// Takes a name out of the directory whose row is at a place, and the inode with it: its row, and the blocks of its log and its
+/// Takes a name out of a directory, and the inode with it: its row, and the blocks of its log and its
 /// pages, which are given back.
 ///
 /// `NoSpace` where all pools together have too few blocks, `Memory` where a growth was refused; both change nothing.
@@ -54,44 +56,38 @@ pub(crate) fn remove_named<P: Pmem>(
     sup: &Super,
     free: &mut Allocators,
     cpu: u64,
-    rows: &mut Vec<Row>,
+    rows: &mut Rows,
     named: &Named<'_>,
     time: u64,
 ) -> Result<(), Refusal>
-    requires directory { named.now.directory < length rows.old.items }
-    requires target { named.now.target < length rows.old.items }
-    requires stands { (row : RowValue) → slice_get rows.old.items named.now.directory ≡ Option.Some row → StandsRight (P.region memory.old) sup.now free.old row }
-    requires can { (row gone : RowValue) → slice_get rows.old.items named.now.directory ≡ Option.Some row → slice_get rows.old.items named.now.target ≡ Option.Some gone → CanName (P.region memory.old) sup.now cpu gone.inode row × (row.inode ≢ gone.inode) }
-    requires owns { (gone : RowValue) → slice_get rows.old.items named.now.target ≡ Option.Some gone → OwnsBlocks free.old gone }
+    requires directory { IsInUse rows.old.items named.now.directory }
+    requires target { IsInUse rows.old.items named.now.target }
+    requires stands { (row : RowValue) → row_of rows.old.items named.now.directory ≡ Option.Some row → StandsRight (P.region memory.old) sup.now free.old row }
+    requires can { (row gone : RowValue) → row_of rows.old.items named.now.directory ≡ Option.Some row → row_of rows.old.items named.now.target ≡ Option.Some gone → CanName (P.region memory.old) sup.now cpu gone.inode row × (row.inode ≢ gone.inode) }
+    requires owns { (gone : RowValue) → row_of rows.old.items named.now.target ≡ Option.Some gone → OwnsBlocks free.old gone }
     requires name { IsName named.now.name.now }
-    ensures removed { OnOk result (RemovesAt (P.region memory.old) (P.region memory.new) sup.now free.old free.new rows.old.items rows.new.items named.now.directory named.now.target named.now.name.now time) }
-    ensures enough { (row gone : RowValue) → slice_get rows.old.items named.now.directory ≡ Option.Some row → slice_get rows.old.items named.now.target ≡ Option.Some gone → OnOk result (needed (row.tail % 4096) (name_entries OperationValue.Remove gone.inode named.now.name.now time) ≤ all_blocks free.old.pools) }
+    ensures removed { OnOk result (RemovesAt (P.region memory.old) (P.region memory.new) sup.now free.old free.new rows.old.items rows.new.items (place_in rows.old.items named.now.directory) (place_in rows.old.items named.now.target) named.now.name.now time) }
+    ensures enough { (row gone : RowValue) → row_of rows.old.items named.now.directory ≡ Option.Some row → row_of rows.old.items named.now.target ≡ Option.Some gone → OnOk result (needed (row.tail % 4096) (name_entries OperationValue.Remove gone.inode named.now.name.now time) ≤ all_blocks free.old.pools) }
     ensures settled { OnOk result (NothingPending (P.region memory.new) (P.may_hold memory.new)) }
-    ensures refused { (row gone : RowValue) → slice_get rows.old.items named.now.directory ≡ Option.Some row → slice_get rows.old.items named.now.target ≡ Option.Some gone → IfErr result (λ e. RefusesStep e (needed (row.tail % 4096) (name_entries OperationValue.Remove gone.inode named.now.name.now time)) free.old) }
+    ensures refused { (row gone : RowValue) → row_of rows.old.items named.now.directory ≡ Option.Some row → row_of rows.old.items named.now.target ≡ Option.Some gone → IfErr result (λ e. RefusesStep e (needed (row.tail % 4096) (name_entries OperationValue.Remove gone.inode named.now.name.now time)) free.old) }
     ensures unchanged { IfErr result (λ e. (e ≡ RefusalValue.Stopped → ⊥) → LeavesRows memory.old memory.new free.old free.new rows.old.items rows.new.items) }
     ensures stopped { IfErr result (λ e. e ≡ RefusalValue.Stopped → IsTrue (P.fuse memory.new).has_burnt) }
+    ensures limit { rows.new.sup ≡ rows.old.sup }
     ensures lists { free.new.sup ≡ free.old.sup }
     ensures length { size (P.region memory.new) ≡ size (P.region memory.old) }
     ensures keeps_fuse { KeepsFuse (λ limit. size (P.region memory.old) ≤ limit) (P.fuse memory.old) (P.fuse memory.new) }
 {
-    let target = &rows[named.target];
     let gone = Gone {
-        inode: target.inode,
-        blocks: most_blocks(target),
+        inode: named.target,
+        blocks: most_blocks(rows.row(named.target)),
         name: named.name,
         time,
     };
-    cut_name(
-        alloc,
-        memory,
-        sup,
-        free,
-        cpu,
-        &mut rows[named.directory],
-        &gone,
-    )?;
-    let row = rows.remove(named.target);
-    give_row(free, &row);
+    let mut directory = rows.take(named.directory);
+    let cut = cut_name(alloc, memory, sup, free, cpu, &mut directory, &gone);
+    rows.insert(directory);
+    cut?;
+    give_row(free, &rows.take(named.target));
     Ok(())
 }
 
@@ -127,6 +123,7 @@ fn cut_name<P: Pmem>(
     ensures refused { IfErr result (λ e. RefusesStep e (needed (directory.old.tail % 4096) (name_entries OperationValue.Remove gone.now.inode gone.now.name.now gone.now.time)) free.old) }
     ensures unchanged { IfErr result (λ e. (e ≡ RefusalValue.Stopped → ⊥) → LeavesStep memory.old memory.new free.old free.new directory.old directory.new) }
     ensures stopped { IfErr result (λ e. e ≡ RefusalValue.Stopped → IsTrue (P.fuse memory.new).has_burnt) }
+    ensures inode { directory.new.inode ≡ directory.old.inode }
     ensures lists { free.new.sup ≡ free.old.sup }
     ensures length { size (P.region memory.new) ≡ size (P.region memory.old) }
     ensures keeps_fuse { KeepsFuse (λ limit. size (P.region memory.old) ≤ limit) (P.fuse memory.old) (P.fuse memory.new) }

@@ -1,16 +1,16 @@
 //! `rename`: another name for an inode.
 
-ghost use Rattle.std.specs.Prelude.{◌≡◌, ◌≢◌, ◌⊎◌, ◌+◌, ◌%◌, ◌<◌, ◌≤◌, ℕ, List, length, slice_get, Option, Result, IsTrue, IfErr, OnOk, false};
+ghost use Rattle.std.specs.Prelude.{◌≡◌, ◌≢◌, ◌⊎◌, ◌+◌, ◌%◌, ◌<◌, ◌≤◌, ℕ, List, [], ◌∷◌, Option, Result, IsTrue, IfErr, OnOk, false};
 ghost use Rattle.nv_region.specs.Region.{size};
 ghost use Rattle.nv_region.specs.Stops.{NothingPending};
 ghost use Rattle.nv_region.specs.Fuses.{KeepsFuse};
-ghost use Rattle.nv_super.specs.Order.{Rises};
 ghost use Rattle.nv_alloc.specs.Taking.{all_blocks};
 ghost use Rattle.nv_entry.specs.declared.entry.Operation.TheVariants.{Add, Remove};
 ghost use Rattle.nv_logpage.specs.Append.{needed};
 ghost use Rattle.nv_names.specs.Names.{IsName};
 ghost use Rattle.nv_scan.specs.declared.piece.Row.{Row as RowValue};
-ghost use Rattle.nv_held.specs.nv_check.Cross.{row_key};
+ghost use Rattle.nv_rows.specs.Rows.{IsInUse, place_in, row_of};
+ghost use Rattle.nv_held.specs.nv_outcome.Same.{SameRow};
 ghost use Rattle.nv_held.specs.Held.{Held, Store};
 ghost use Rattle.nv_held.specs.Mounted.{ShowsSound};
 ghost use Rattle.nv_tree.specs.Path.{IsPath, Says, last_name};
@@ -21,11 +21,13 @@ ghost use Rattle.nv_tree.specs.declared.refusal.Refusal.{Refusal as RefusalValue
 ghost use Rattle.nv_calls.specs.Grown.{ShowsGrownLog, StandsRight};
 ghost use Rattle.nv_calls.specs.LinkCalls.{ShowsBothGrew};
 ghost use Rattle.nv_calls.specs.MoveCalls.{MovesAcross, MovesAt, MovesWithin, move_blocks, move_entries, rename_blocks};
+ghost use Rattle.nv_calls.specs.MoreNames.{GetsName, GrowsTwo};
 ghost use Rattle.nv_calls.specs.NameCalls.{name_entries};
 ghost use Rattle.nv_calls.specs.NewNames.{CanName, LeavesRows};
 ghost use Rattle.nv_calls.specs.Same.{KeepsMount, SameMount};
 ghost use Rattle.nv_calls.specs.Seen.{LeadsTo, tree_of};
 ghost use Rattle.nv_calls.specs.Steps.{LeavesStep, RefusesStep};
+ghost use Rattle.nv_calls.specs.Unlinks.{LosesName};
 ghost use Rattle.nv_calls.specs.World.{world_of};
 
 use crate::Fs;
@@ -39,6 +41,7 @@ use nv_alloc::Allocators;
 use nv_entry::{Operation, length};
 use nv_logpage::pages_needed;
 use nv_region::Pmem;
+use nv_rows::Rows;
 use nv_scan::Row;
 use nv_super::Super;
 use nv_tree::Refusal;
@@ -76,6 +79,7 @@ fn move_within<P: Pmem>(
     ensures refused { IfErr result (λ e. RefusesStep e (needed (directory.old.tail % 4096) (move_entries moved.now.inode moved.now.name.now moved.now.other.now moved.now.time)) free.old) }
     ensures unchanged { IfErr result (λ e. (e ≡ RefusalValue.Stopped → ⊥) → LeavesStep memory.old memory.new free.old free.new directory.old directory.new) }
     ensures stopped { IfErr result (λ e. e ≡ RefusalValue.Stopped → IsTrue (P.fuse memory.new).has_burnt) }
+    ensures inode { directory.new.inode ≡ directory.old.inode }
     ensures lists { free.new.sup ≡ free.old.sup }
     ensures length { size (P.region memory.new) ≡ size (P.region memory.old) }
     ensures keeps_fuse { KeepsFuse (λ limit. size (P.region memory.old) ≤ limit) (P.fuse memory.old) (P.fuse memory.new) }
@@ -99,6 +103,54 @@ fn move_within<P: Pmem>(
     Ok(())
 }
 
+/// Takes a name out of one directory and puts one in another for the same inode, by their rows.
+///
+/// `NoSpace` where all pools together have too few blocks, `Memory` where a growth was refused; both change nothing.
+/// `Stopped` where the fuse has burnt.
+fn move_both<P: Pmem>(
+    alloc: Global,
+    memory: &mut P,
+    sup: &Super,
+    free: &mut Allocators,
+    cpu: u64,
+    from: &mut Row,
+    to: &mut Row,
+    moved: &OtherName<'_>,
+) -> Result<(), Refusal>
+    requires apart { from.old.inode ≢ to.old.inode }
+    requires stands { StandsRight (P.region memory.old) sup.now free.old from.old × CanName (P.region memory.old) sup.now cpu from.old.inode from.old }
+    requires to_stands { StandsRight (P.region memory.old) sup.now free.old to.old × CanName (P.region memory.old) sup.now cpu to.old.inode to.old }
+    requires name { IsName moved.now.name.now }
+    requires other { IsName moved.now.other.now }
+    ensures moved { OnOk result (GrowsTwo (P.region memory.old) (P.region memory.new) sup.now free.old free.new (from.old ∷ to.old ∷ []) (from.new ∷ to.new ∷ []) 0 from.old (name_entries Remove moved.now.inode moved.now.name.now moved.now.time) 1 to.old (name_entries Add moved.now.inode moved.now.other.now moved.now.time) (λ fresh now. LosesName from.old moved.now.name.now moved.now.inode moved.now.time fresh now) (λ more now. GetsName to.old moved.now.other.now moved.now.inode moved.now.time more now)) }
+    ensures enough { OnOk result (needed (from.old.tail % 4096) (name_entries Remove moved.now.inode moved.now.name.now moved.now.time) + needed (to.old.tail % 4096) (name_entries Add moved.now.inode moved.now.other.now moved.now.time) ≤ all_blocks free.old.pools) }
+    ensures settled { OnOk result (NothingPending (P.region memory.new) (P.may_hold memory.new)) }
+    ensures refused { IfErr result (λ e. RefusesStep e (needed (from.old.tail % 4096) (name_entries Remove moved.now.inode moved.now.name.now moved.now.time) + needed (to.old.tail % 4096) (name_entries Add moved.now.inode moved.now.other.now moved.now.time)) free.old) }
+    ensures unchanged { IfErr result (λ e. (e ≡ RefusalValue.Stopped → ⊥) → LeavesStep memory.old memory.new free.old free.new from.old from.new × SameRow to.old to.new) }
+    ensures stopped { IfErr result (λ e. e ≡ RefusalValue.Stopped → IsTrue (P.fuse memory.new).has_burnt) }
+    ensures inode { from.new.inode ≡ from.old.inode }
+    ensures to_inode { to.new.inode ≡ to.old.inode }
+    ensures lists { free.new.sup ≡ free.old.sup }
+    ensures length { size (P.region memory.new) ≡ size (P.region memory.old) }
+    ensures keeps_fuse { KeepsFuse (λ limit. size (P.region memory.old) ≤ limit) (P.fuse memory.old) (P.fuse memory.new) }
+{
+    let removal = [name_entry(Operation::Remove, moved.inode, moved.name, moved.time)];
+    let addition = [name_entry(Operation::Add, moved.inode, moved.other, moved.time)];
+    let first = Growth {
+        entries: &removal,
+        names: 0,
+    };
+    let second = Growth {
+        entries: &addition,
+        names: 1,
+    };
+    append_logs(alloc, memory, sup, free, cpu, from, &first, to, &second)?;
+    remove_name(from, moved.name, moved.time);
+    let place = to.tail - length(&addition[0]);
+    add_name(to, moved.other, moved.inode, place, moved.time);
+    Ok(())
+}
+
 /// Takes a name out of one directory and puts one in another for the same inode, by both logs together.
 ///
 /// `NoSpace` where all pools together have too few blocks, `Memory` where a growth was refused; both change nothing.
@@ -109,47 +161,51 @@ fn move_across<P: Pmem>(
     sup: &Super,
     free: &mut Allocators,
     cpu: u64,
-    rows: &mut Vec<Row>,
+    rows: &mut Rows,
     moved: &Move<'_>,
     time: u64,
 ) -> Result<(), Refusal>
-    requires target { moved.now.from.target < length rows.old.items }
-    requires from { moved.now.from.directory < length rows.old.items }
-    requires directory { moved.now.directory < length rows.old.items }
+    requires target { IsInUse rows.old.items moved.now.from.target }
+    requires from { IsInUse rows.old.items moved.now.from.directory }
+    requires directory { IsInUse rows.old.items moved.now.directory }
     requires apart { moved.now.from.directory ≢ moved.now.directory }
-    requires rising { Rises row_key rows.old.items }
-    requires stands { (row : RowValue) → slice_get rows.old.items moved.now.from.directory ≡ Option.Some row → StandsRight (P.region memory.old) sup.now free.old row × CanName (P.region memory.old) sup.now cpu row.inode row }
-    requires other_stands { (row : RowValue) → slice_get rows.old.items moved.now.directory ≡ Option.Some row → StandsRight (P.region memory.old) sup.now free.old row × CanName (P.region memory.old) sup.now cpu row.inode row }
+    requires stands { (row : RowValue) → row_of rows.old.items moved.now.from.directory ≡ Option.Some row → StandsRight (P.region memory.old) sup.now free.old row × CanName (P.region memory.old) sup.now cpu row.inode row }
+    requires other_stands { (row : RowValue) → row_of rows.old.items moved.now.directory ≡ Option.Some row → StandsRight (P.region memory.old) sup.now free.old row × CanName (P.region memory.old) sup.now cpu row.inode row }
     requires name { IsName moved.now.from.name.now }
     requires other { IsName moved.now.name.now }
-    ensures moved { OnOk result (MovesAcross (P.region memory.old) (P.region memory.new) sup.now free.old free.new rows.old.items rows.new.items moved.now.from.directory moved.now.from.target moved.now.directory moved.now.from.name.now moved.now.name.now time) }
-    ensures enough { (from to inode : RowValue) → slice_get rows.old.items moved.now.from.directory ≡ Option.Some from → slice_get rows.old.items moved.now.directory ≡ Option.Some to → slice_get rows.old.items moved.now.from.target ≡ Option.Some inode → OnOk result (needed (from.tail % 4096) (name_entries Remove inode.inode moved.now.from.name.now time) + needed (to.tail % 4096) (name_entries Add inode.inode moved.now.name.now time) ≤ all_blocks free.old.pools) }
+    ensures moved { OnOk result (MovesAcross (P.region memory.old) (P.region memory.new) sup.now free.old free.new rows.old.items rows.new.items (place_in rows.old.items moved.now.from.directory) (place_in rows.old.items moved.now.from.target) (place_in rows.old.items moved.now.directory) moved.now.from.name.now moved.now.name.now time) }
+    ensures enough { (from to inode : RowValue) → row_of rows.old.items moved.now.from.directory ≡ Option.Some from → row_of rows.old.items moved.now.directory ≡ Option.Some to → row_of rows.old.items moved.now.from.target ≡ Option.Some inode → OnOk result (needed (from.tail % 4096) (name_entries Remove inode.inode moved.now.from.name.now time) + needed (to.tail % 4096) (name_entries Add inode.inode moved.now.name.now time) ≤ all_blocks free.old.pools) }
     ensures settled { OnOk result (NothingPending (P.region memory.new) (P.may_hold memory.new)) }
-    ensures refused { (from to inode : RowValue) → slice_get rows.old.items moved.now.from.directory ≡ Option.Some from → slice_get rows.old.items moved.now.directory ≡ Option.Some to → slice_get rows.old.items moved.now.from.target ≡ Option.Some inode → IfErr result (λ e. RefusesStep e (needed (from.tail % 4096) (name_entries Remove inode.inode moved.now.from.name.now time) + needed (to.tail % 4096) (name_entries Add inode.inode moved.now.name.now time)) free.old) }
+    ensures refused { (from to inode : RowValue) → row_of rows.old.items moved.now.from.directory ≡ Option.Some from → row_of rows.old.items moved.now.directory ≡ Option.Some to → row_of rows.old.items moved.now.from.target ≡ Option.Some inode → IfErr result (λ e. RefusesStep e (needed (from.tail % 4096) (name_entries Remove inode.inode moved.now.from.name.now time) + needed (to.tail % 4096) (name_entries Add inode.inode moved.now.name.now time)) free.old) }
     ensures unchanged { IfErr result (λ e. (e ≡ RefusalValue.Stopped → ⊥) → LeavesRows memory.old memory.new free.old free.new rows.old.items rows.new.items) }
     ensures stopped { IfErr result (λ e. e ≡ RefusalValue.Stopped → IsTrue (P.fuse memory.new).has_burnt) }
+    ensures limit { rows.new.sup ≡ rows.old.sup }
     ensures lists { free.new.sup ≡ free.old.sup }
     ensures length { size (P.region memory.new) ≡ size (P.region memory.old) }
     ensures keeps_fuse { KeepsFuse (λ limit. size (P.region memory.old) ≤ limit) (P.fuse memory.old) (P.fuse memory.new) }
 {
-    let inode = rows[moved.from.target].inode;
-    let removal = [name_entry(Operation::Remove, inode, moved.from.name, time)];
-    let addition = [name_entry(Operation::Add, inode, moved.name, time)];
-    let first = Growth {
-        place: moved.from.directory,
-        entries: &removal,
-        names: 0,
-    };
-    let second = Growth {
-        place: moved.directory,
-        entries: &addition,
-        names: 1,
-    };
-    append_logs(alloc, memory, sup, free, cpu, rows, &first, &second)?;
-    remove_name(&mut rows[moved.from.directory], moved.from.name, time);
-    let place = rows[moved.directory].tail - length(&addition[0]);
-    add_name(&mut rows[moved.directory], moved.name, inode, place, time);
-    Ok(())
+    let mut from = rows.take(moved.from.directory);
+    let mut to = rows.take(moved.directory);
+    let other = other_name(moved, time);
+    let done = move_both(alloc, memory, sup, free, cpu, &mut from, &mut to, &other);
+    rows.insert(to);
+    rows.insert(from);
+    done
+}
+
+/// What `move_both` and `move_within` are told of a move.
+fn other_name<'a>(moved: &Move<'a>, time: u64) -> OtherName<'a>
+    ensures inode { result.inode ≡ moved.now.from.target }
+    ensures name { result.name.now ≡ moved.now.from.name.now }
+    ensures other { result.other.now ≡ moved.now.name.now }
+    ensures time { result.time ≡ time }
+{
+    OtherName {
+        inode: moved.from.target,
+        name: moved.from.name,
+        other: moved.name,
+        time,
+    }
 }
 
 /// Gives an inode its new name: within one directory by one log, and else by those of both.
@@ -162,25 +218,25 @@ fn move_at<P: Pmem>(
     sup: &Super,
     free: &mut Allocators,
     cpu: u64,
-    rows: &mut Vec<Row>,
+    rows: &mut Rows,
     moved: &Move<'_>,
     time: u64,
 ) -> Result<(), Refusal>
     requires cpu { cpu < free.old.sup.cpus }
-    requires target { moved.now.from.target < length rows.old.items }
-    requires from { moved.now.from.directory < length rows.old.items }
-    requires directory { moved.now.directory < length rows.old.items }
-    requires rising { Rises row_key rows.old.items }
-    requires stands { (row : RowValue) → slice_get rows.old.items moved.now.from.directory ≡ Option.Some row → StandsRight (P.region memory.old) sup.now free.old row × CanName (P.region memory.old) sup.now cpu row.inode row }
-    requires other_stands { (row : RowValue) → slice_get rows.old.items moved.now.directory ≡ Option.Some row → StandsRight (P.region memory.old) sup.now free.old row × CanName (P.region memory.old) sup.now cpu row.inode row }
+    requires target { IsInUse rows.old.items moved.now.from.target }
+    requires from { IsInUse rows.old.items moved.now.from.directory }
+    requires directory { IsInUse rows.old.items moved.now.directory }
+    requires stands { (row : RowValue) → row_of rows.old.items moved.now.from.directory ≡ Option.Some row → StandsRight (P.region memory.old) sup.now free.old row × CanName (P.region memory.old) sup.now cpu row.inode row }
+    requires other_stands { (row : RowValue) → row_of rows.old.items moved.now.directory ≡ Option.Some row → StandsRight (P.region memory.old) sup.now free.old row × CanName (P.region memory.old) sup.now cpu row.inode row }
     requires name { IsName moved.now.from.name.now }
     requires other { IsName moved.now.name.now }
-    ensures moved { OnOk result (MovesAt (P.region memory.old) (P.region memory.new) sup.now free.old free.new rows.old.items rows.new.items moved.now.from.directory moved.now.from.target moved.now.directory moved.now.from.name.now moved.now.name.now time) }
-    ensures enough { (from to inode : RowValue) → slice_get rows.old.items moved.now.from.directory ≡ Option.Some from → slice_get rows.old.items moved.now.directory ≡ Option.Some to → slice_get rows.old.items moved.now.from.target ≡ Option.Some inode → OnOk result (move_blocks moved.now.from.directory moved.now.directory from to inode.inode moved.now.from.name.now moved.now.name.now time ≤ all_blocks free.old.pools) }
+    ensures moved { OnOk result (MovesAt (P.region memory.old) (P.region memory.new) sup.now free.old free.new rows.old.items rows.new.items (place_in rows.old.items moved.now.from.directory) (place_in rows.old.items moved.now.from.target) (place_in rows.old.items moved.now.directory) moved.now.from.name.now moved.now.name.now time) }
+    ensures enough { (from to inode : RowValue) → row_of rows.old.items moved.now.from.directory ≡ Option.Some from → row_of rows.old.items moved.now.directory ≡ Option.Some to → row_of rows.old.items moved.now.from.target ≡ Option.Some inode → OnOk result (move_blocks (place_in rows.old.items moved.now.from.directory) (place_in rows.old.items moved.now.directory) from to inode.inode moved.now.from.name.now moved.now.name.now time ≤ all_blocks free.old.pools) }
     ensures settled { OnOk result (NothingPending (P.region memory.new) (P.may_hold memory.new)) }
-    ensures refused { (from to inode : RowValue) → slice_get rows.old.items moved.now.from.directory ≡ Option.Some from → slice_get rows.old.items moved.now.directory ≡ Option.Some to → slice_get rows.old.items moved.now.from.target ≡ Option.Some inode → IfErr result (λ e. RefusesStep e (move_blocks moved.now.from.directory moved.now.directory from to inode.inode moved.now.from.name.now moved.now.name.now time) free.old) }
+    ensures refused { (from to inode : RowValue) → row_of rows.old.items moved.now.from.directory ≡ Option.Some from → row_of rows.old.items moved.now.directory ≡ Option.Some to → row_of rows.old.items moved.now.from.target ≡ Option.Some inode → IfErr result (λ e. RefusesStep e (move_blocks (place_in rows.old.items moved.now.from.directory) (place_in rows.old.items moved.now.directory) from to inode.inode moved.now.from.name.now moved.now.name.now time) free.old) }
     ensures unchanged { IfErr result (λ e. (e ≡ RefusalValue.Stopped → ⊥) → LeavesRows memory.old memory.new free.old free.new rows.old.items rows.new.items) }
     ensures stopped { IfErr result (λ e. e ≡ RefusalValue.Stopped → IsTrue (P.fuse memory.new).has_burnt) }
+    ensures limit { rows.new.sup ≡ rows.old.sup }
     ensures lists { free.new.sup ≡ free.old.sup }
     ensures length { size (P.region memory.new) ≡ size (P.region memory.old) }
     ensures keeps_fuse { KeepsFuse (λ limit. size (P.region memory.old) ≤ limit) (P.fuse memory.old) (P.fuse memory.new) }
@@ -188,21 +244,11 @@ fn move_at<P: Pmem>(
     if moved.from.directory != moved.directory {
         return move_across(alloc, memory, sup, free, cpu, rows, moved, time);
     }
-    let other = OtherName {
-        inode: rows[moved.from.target].inode,
-        name: moved.from.name,
-        other: moved.name,
-        time,
-    };
-    move_within(
-        alloc,
-        memory,
-        sup,
-        free,
-        cpu,
-        &mut rows[moved.directory],
-        &other,
-    )
+    let mut directory = rows.take(moved.directory);
+    let other = other_name(moved, time);
+    let done = move_within(alloc, memory, sup, free, cpu, &mut directory, &other);
+    rows.insert(directory);
+    done
 }
 
 impl<P: Pmem + Drop> Fs<P> {

@@ -1,15 +1,13 @@
 //! `set_size`: the size of a file.
 
-ghost use Rattle.std.specs.Prelude.{◌≡◌, ◌⊎◌, ◌<◌, ◌≤◌, ◌∷◌, ◌++◌, [], ℕ, List, length, slice_get, Option, Result, IsTrue, IfOk, IfErr, OnOk, false};
+ghost use Rattle.std.specs.Prelude.{◌≡◌, ◌⊎◌, ◌<◌, ◌≤◌, ◌∷◌, ◌++◌, [], ℕ, List, Option, Result, IsTrue, IfOk, IfErr, OnOk, false};
 ghost use Rattle.std.specs.Result.{result_err};
 ghost use Rattle.nv_region.specs.Region.{Region, size as bytes_in};
 ghost use Rattle.nv_region.specs.Stops.{NothingPending};
 ghost use Rattle.nv_region.specs.Fuses.{KeepsFuse};
-ghost use Rattle.nv_super.specs.Order.{Rises};
 ghost use Rattle.nv_super.specs.declared.kind.Kind.TheVariants.{File};
 ghost use Rattle.nv_entry.specs.Content.{most_size};
-ghost use Rattle.nv_held.specs.nv_check.Cross.{row_key};
-ghost use Rattle.nv_scan.specs.declared.piece.Row.{Row as RowValue};
+ghost use Rattle.nv_rows.specs.Rows.{row_of};
 ghost use Rattle.nv_held.specs.Held.{Held, Store};
 ghost use Rattle.nv_held.specs.Mounted.{ShowsSound};
 ghost use Rattle.nv_tree.specs.Path.{IsPath, Says};
@@ -24,10 +22,11 @@ ghost use Rattle.nv_calls.specs.World.{world_of};
 
 use crate::Fs;
 use crate::resizing::resize;
-use crate::walking::place_at;
+use crate::walking::row_at;
 use crate::writing::is_stop;
 use nv_entry::AttrEntry;
 use nv_region::Pmem;
+use nv_rows::Rows;
 use nv_scan::Row;
 use nv_super::Kind;
 use nv_tree::Refusal;
@@ -63,8 +62,8 @@ impl<P: Pmem + Drop> Fs<P> {
         ensures keeps_fuse { KeepsFuse (λ limit. bytes_in (P.region self.old.memory) ≤ limit) (P.fuse self.old.memory) (P.fuse self.new.memory) }
     {
         self.writable(cpu)?;
-        let place = resizable_at(&self.rows, path, size)?;
-        let row = &mut self.rows[place];
+        let inode = resizable_at(&self.rows, path, size)?.inode;
+        let mut row = self.rows.take(inode);
         let attributes = AttrEntry {
             mode: row.numbers.mode,
             size,
@@ -72,15 +71,17 @@ impl<P: Pmem + Drop> Fs<P> {
             owner: row.numbers.owner,
             group: row.numbers.group,
         };
-        match resize(
+        let resized = resize(
             self.alloc,
             &mut self.memory,
             &self.sup,
             &mut self.free,
             cpu,
-            row,
+            &mut row,
             attributes,
-        ) {
+        );
+        self.rows.insert(row);
+        match resized {
             Ok(()) => Ok(()),
             Err(refusal) => {
                 self.stopped = is_stop(refusal);
@@ -90,19 +91,18 @@ impl<P: Pmem + Drop> Fs<P> {
     }
 }
 
-/// The place of the row of the file that a path leads to, where it can get a size. The refusals are those of `stat`, and then
+/// The row of the file that a path leads to, where it can get a size. The refusals are those of `stat`, and then
 /// those of `can_have_size`.
-pub(crate) fn resizable_at(rows: &[Row], path: &[u8], size: u64) -> Result<usize, Refusal>
-    requires { Rises row_key rows.now }
-    ensures within { IfOk result (λ k. k < length rows.now) }
-    ensures leads { (region : Region) (names : List (List ℕ)) → IsPath path.now names → IfOk result (λ k. (row : RowValue) → slice_get rows.now k ≡ Option.Some row → LeadsTo (tree_of region rows.now) names row.inode (node_of region row)) }
-    ensures file { IfOk result (λ k. (row : RowValue) → slice_get rows.now k ≡ Option.Some row → row.kind ≡ File) }
+pub(crate) fn resizable_at<'a>(rows: &'a Rows, path: &[u8], size: u64) -> Result<&'a Row, Refusal>
+    ensures row { (region : Region) (names : List (List ℕ)) → IsPath path.now names → IfOk result (λ r. LeadsTo (tree_of region rows.now.items) names r.now.inode (node_of region r.now)) }
+    ensures held { IfOk result (λ r. row_of rows.now.items r.now.inode ≡ Option.Some r.now) }
+    ensures file { IfOk result (λ r. r.now.kind ≡ File) }
     ensures most { OnOk result (size ≤ most_size) }
-    ensures refused { (region : Region) (p : Path) → Says path.now p → first_refusal (stat_tests (tree_of region rows.now) p ++ is_dir (tree_of region rows.now) p ∷ is_too_large size ∷ []) ≡ result_err result }
+    ensures refused { (region : Region) (p : Path) → Says path.now p → first_refusal (stat_tests (tree_of region rows.now.items) p ++ is_dir (tree_of region rows.now.items) p ∷ is_too_large size ∷ []) ≡ result_err result }
 {
-    let place = place_at(rows, path)?;
-    can_have_size(&rows[place], size)?;
-    Ok(place)
+    let row = row_at(rows, path)?;
+    can_have_size(row, size)?;
+    Ok(row)
 }
 
 /// Whether an inode can get a size: `IsDirectory` for a directory, `TooLarge` for more bytes than a file can have.

@@ -1,16 +1,16 @@
 //! `unlink`: a name of a file less, and with the last one the file.
 
-ghost use Rattle.std.specs.Prelude.{◌≡◌, ◌≢◌, ◌⊎◌, ◌+◌, ◌-◌, ◌%◌, ◌<◌, ◌≤◌, nat_lt, ℕ, List, length, slice_get, Option, Result, IsTrue, IfErr, OnOk, false};
+ghost use Rattle.std.specs.Prelude.{◌≡◌, ◌≢◌, ◌⊎◌, ◌+◌, ◌-◌, ◌%◌, ◌<◌, ◌≤◌, nat_lt, ℕ, List, [], ◌∷◌, Option, Result, IsTrue, IfErr, OnOk, false};
 ghost use Rattle.nv_region.specs.Region.{size};
 ghost use Rattle.nv_region.specs.Stops.{NothingPending};
 ghost use Rattle.nv_region.specs.Fuses.{KeepsFuse};
-ghost use Rattle.nv_super.specs.Order.{Rises};
 ghost use Rattle.nv_alloc.specs.Taking.{all_blocks};
 ghost use Rattle.nv_entry.specs.declared.entry.Operation.TheVariants.{Remove};
 ghost use Rattle.nv_logpage.specs.Append.{needed};
 ghost use Rattle.nv_names.specs.Names.{IsName};
 ghost use Rattle.nv_scan.specs.declared.piece.Row.{Row as RowValue};
-ghost use Rattle.nv_held.specs.nv_check.Cross.{row_key};
+ghost use Rattle.nv_rows.specs.Rows.{IsInUse, place_in, row_of};
+ghost use Rattle.nv_held.specs.nv_outcome.Same.{SameRow};
 ghost use Rattle.nv_held.specs.Held.{Held, Store};
 ghost use Rattle.nv_held.specs.Mounted.{ShowsSound};
 ghost use Rattle.nv_tree.specs.Path.{IsPath, Says, last_name};
@@ -26,7 +26,7 @@ ghost use Rattle.nv_calls.specs.NewNames.{CanName, LeavesRows};
 ghost use Rattle.nv_calls.specs.RemoveCalls.{ShowsRemoved};
 ghost use Rattle.nv_calls.specs.Same.{KeepsMount, SameMount};
 ghost use Rattle.nv_calls.specs.Seen.{LeadsTo, tree_of};
-ghost use Rattle.nv_calls.specs.Steps.{RefusesStep};
+ghost use Rattle.nv_calls.specs.Steps.{LeavesStep, RefusesStep};
 ghost use Rattle.nv_calls.specs.UnlinkCalls.{unlink_blocks};
 ghost use Rattle.nv_calls.specs.Unlinks.{Releases, UnlinksAt, release_blocks};
 ghost use Rattle.nv_calls.specs.World.{world_of};
@@ -41,10 +41,63 @@ use crate::writing::is_stop;
 use nv_alloc::Allocators;
 use nv_entry::{Entry, LinksEntry, Operation};
 use nv_region::Pmem;
+use nv_rows::Rows;
 use nv_scan::Row;
 use nv_super::Super;
 use nv_tree::Refusal;
 use std::alloc::Global;
+
+/// Takes a name of a file that has others out of a directory, by their rows: the directory's log says so, and the file's log
+/// says one link less.
+///
+/// `NoSpace` where all pools together have too few blocks, `Memory` where a growth was refused; both change nothing.
+/// `Stopped` where the fuse has burnt.
+fn unlink_both<P: Pmem>(
+    alloc: Global,
+    memory: &mut P,
+    sup: &Super,
+    free: &mut Allocators,
+    cpu: u64,
+    directory: &mut Row,
+    file: &mut Row,
+    name: &[u8],
+    time: u64,
+) -> Result<(), Refusal>
+    requires apart { directory.old.inode ≢ file.old.inode }
+    requires stands { StandsRight (P.region memory.old) sup.now free.old directory.old × CanName (P.region memory.old) sup.now cpu directory.old.inode directory.old }
+    requires file_stands { StandsRight (P.region memory.old) sup.now free.old file.old × CanName (P.region memory.old) sup.now cpu file.old.inode file.old }
+    requires more { 1 < file.old.numbers.links }
+    requires name { IsName name.now }
+    ensures unlinked { OnOk result (UnlinksAt (P.region memory.old) (P.region memory.new) sup.now free.old free.new (directory.old ∷ file.old ∷ []) (directory.new ∷ file.new ∷ []) 0 1 name.now time) }
+    ensures enough { OnOk result (needed (directory.old.tail % 4096) (name_entries Remove file.old.inode name.now time) + needed (file.old.tail % 4096) (links_entries (file.old.numbers.links - 1) time) ≤ all_blocks free.old.pools) }
+    ensures settled { OnOk result (NothingPending (P.region memory.new) (P.may_hold memory.new)) }
+    ensures refused { IfErr result (λ e. RefusesStep e (needed (directory.old.tail % 4096) (name_entries Remove file.old.inode name.now time) + needed (file.old.tail % 4096) (links_entries (file.old.numbers.links - 1) time)) free.old) }
+    ensures unchanged { IfErr result (λ e. (e ≡ RefusalValue.Stopped → ⊥) → LeavesStep memory.old memory.new free.old free.new directory.old directory.new × SameRow file.old file.new) }
+    ensures stopped { IfErr result (λ e. e ≡ RefusalValue.Stopped → IsTrue (P.fuse memory.new).has_burnt) }
+    ensures inode { directory.new.inode ≡ directory.old.inode }
+    ensures file_inode { file.new.inode ≡ file.old.inode }
+    ensures lists { free.new.sup ≡ free.old.sup }
+    ensures length { size (P.region memory.new) ≡ size (P.region memory.old) }
+    ensures keeps_fuse { KeepsFuse (λ limit. size (P.region memory.old) ≤ limit) (P.fuse memory.old) (P.fuse memory.new) }
+{
+    let count = file.numbers.links - 1;
+    let names = [name_entry(Operation::Remove, file.inode, name, time)];
+    let links = [Entry::Links(LinksEntry { count, time })];
+    let first = Growth {
+        entries: &names,
+        names: 0,
+    };
+    let second = Growth {
+        entries: &links,
+        names: 0,
+    };
+    append_logs(
+        alloc, memory, sup, free, cpu, directory, &first, file, &second,
+    )?;
+    remove_name(directory, name, time);
+    set_links(file, count, time);
+    Ok(())
+}
 
 /// Takes a name of a file that has others out of a directory: the directory's log says so, and the file's log says one link
 /// less.
@@ -57,47 +110,44 @@ fn unlink_at<P: Pmem>(
     sup: &Super,
     free: &mut Allocators,
     cpu: u64,
-    rows: &mut Vec<Row>,
+    rows: &mut Rows,
     named: &Named<'_>,
     time: u64,
 ) -> Result<(), Refusal>
-    requires directory { named.now.directory < length rows.old.items }
-    requires target { named.now.target < length rows.old.items }
+    requires directory { IsInUse rows.old.items named.now.directory }
+    requires target { IsInUse rows.old.items named.now.target }
     requires apart { named.now.directory ≢ named.now.target }
-    requires rising { Rises row_key rows.old.items }
-    requires more { (file : RowValue) → slice_get rows.old.items named.now.target ≡ Option.Some file → 1 < file.numbers.links }
-    requires stands { (row : RowValue) → slice_get rows.old.items named.now.directory ≡ Option.Some row → StandsRight (P.region memory.old) sup.now free.old row × CanName (P.region memory.old) sup.now cpu row.inode row }
-    requires file_stands { (file : RowValue) → slice_get rows.old.items named.now.target ≡ Option.Some file → StandsRight (P.region memory.old) sup.now free.old file × CanName (P.region memory.old) sup.now cpu file.inode file }
+    requires more { (file : RowValue) → row_of rows.old.items named.now.target ≡ Option.Some file → 1 < file.numbers.links }
+    requires stands { (row : RowValue) → row_of rows.old.items named.now.directory ≡ Option.Some row → StandsRight (P.region memory.old) sup.now free.old row × CanName (P.region memory.old) sup.now cpu row.inode row }
+    requires file_stands { (file : RowValue) → row_of rows.old.items named.now.target ≡ Option.Some file → StandsRight (P.region memory.old) sup.now free.old file × CanName (P.region memory.old) sup.now cpu file.inode file }
     requires name { IsName named.now.name.now }
-    ensures unlinked { OnOk result (UnlinksAt (P.region memory.old) (P.region memory.new) sup.now free.old free.new rows.old.items rows.new.items named.now.directory named.now.target named.now.name.now time) }
-    ensures enough { (row file : RowValue) → slice_get rows.old.items named.now.directory ≡ Option.Some row → slice_get rows.old.items named.now.target ≡ Option.Some file → OnOk result (needed (row.tail % 4096) (name_entries Remove file.inode named.now.name.now time) + needed (file.tail % 4096) (links_entries (file.numbers.links - 1) time) ≤ all_blocks free.old.pools) }
+    ensures unlinked { OnOk result (UnlinksAt (P.region memory.old) (P.region memory.new) sup.now free.old free.new rows.old.items rows.new.items (place_in rows.old.items named.now.directory) (place_in rows.old.items named.now.target) named.now.name.now time) }
+    ensures enough { (row file : RowValue) → row_of rows.old.items named.now.directory ≡ Option.Some row → row_of rows.old.items named.now.target ≡ Option.Some file → OnOk result (needed (row.tail % 4096) (name_entries Remove file.inode named.now.name.now time) + needed (file.tail % 4096) (links_entries (file.numbers.links - 1) time) ≤ all_blocks free.old.pools) }
     ensures settled { OnOk result (NothingPending (P.region memory.new) (P.may_hold memory.new)) }
-    ensures refused { (row file : RowValue) → slice_get rows.old.items named.now.directory ≡ Option.Some row → slice_get rows.old.items named.now.target ≡ Option.Some file → IfErr result (λ e. RefusesStep e (needed (row.tail % 4096) (name_entries Remove file.inode named.now.name.now time) + needed (file.tail % 4096) (links_entries (file.numbers.links - 1) time)) free.old) }
+    ensures refused { (row file : RowValue) → row_of rows.old.items named.now.directory ≡ Option.Some row → row_of rows.old.items named.now.target ≡ Option.Some file → IfErr result (λ e. RefusesStep e (needed (row.tail % 4096) (name_entries Remove file.inode named.now.name.now time) + needed (file.tail % 4096) (links_entries (file.numbers.links - 1) time)) free.old) }
     ensures unchanged { IfErr result (λ e. (e ≡ RefusalValue.Stopped → ⊥) → LeavesRows memory.old memory.new free.old free.new rows.old.items rows.new.items) }
     ensures stopped { IfErr result (λ e. e ≡ RefusalValue.Stopped → IsTrue (P.fuse memory.new).has_burnt) }
+    ensures limit { rows.new.sup ≡ rows.old.sup }
     ensures lists { free.new.sup ≡ free.old.sup }
     ensures length { size (P.region memory.new) ≡ size (P.region memory.old) }
     ensures keeps_fuse { KeepsFuse (λ limit. size (P.region memory.old) ≤ limit) (P.fuse memory.old) (P.fuse memory.new) }
 {
-    let file = &rows[named.target];
-    let inode = file.inode;
-    let count = file.numbers.links - 1;
-    let names = [name_entry(Operation::Remove, inode, named.name, time)];
-    let links = [Entry::Links(LinksEntry { count, time })];
-    let first = Growth {
-        place: named.directory,
-        entries: &names,
-        names: 0,
-    };
-    let second = Growth {
-        place: named.target,
-        entries: &links,
-        names: 0,
-    };
-    append_logs(alloc, memory, sup, free, cpu, rows, &first, &second)?;
-    remove_name(&mut rows[named.directory], named.name, time);
-    set_links(&mut rows[named.target], count, time);
-    Ok(())
+    let mut directory = rows.take(named.directory);
+    let mut file = rows.take(named.target);
+    let done = unlink_both(
+        alloc,
+        memory,
+        sup,
+        free,
+        cpu,
+        &mut directory,
+        &mut file,
+        named.name,
+        time,
+    );
+    rows.insert(file);
+    rows.insert(directory);
+    done
 }
 
 /// Whether a file has more links than one.
@@ -115,30 +165,30 @@ fn release_at<P: Pmem>(
     sup: &Super,
     free: &mut Allocators,
     cpu: u64,
-    rows: &mut Vec<Row>,
+    rows: &mut Rows,
     named: &Named<'_>,
     time: u64,
 ) -> Result<(), Refusal>
-    requires directory { named.now.directory < length rows.old.items }
-    requires target { named.now.target < length rows.old.items }
+    requires directory { IsInUse rows.old.items named.now.directory }
+    requires target { IsInUse rows.old.items named.now.target }
     requires apart { named.now.directory ≢ named.now.target }
-    requires rising { Rises row_key rows.old.items }
-    requires stands { (row : RowValue) → slice_get rows.old.items named.now.directory ≡ Option.Some row → StandsRight (P.region memory.old) sup.now free.old row × CanName (P.region memory.old) sup.now cpu row.inode row }
-    requires file_stands { (file : RowValue) → slice_get rows.old.items named.now.target ≡ Option.Some file → StandsRight (P.region memory.old) sup.now free.old file × CanName (P.region memory.old) sup.now cpu file.inode file }
-    requires can { (row file : RowValue) → slice_get rows.old.items named.now.directory ≡ Option.Some row → slice_get rows.old.items named.now.target ≡ Option.Some file → CanName (P.region memory.old) sup.now cpu file.inode row × (row.inode ≢ file.inode) }
-    requires owns { (file : RowValue) → slice_get rows.old.items named.now.target ≡ Option.Some file → OwnsBlocks free.old file }
+    requires stands { (row : RowValue) → row_of rows.old.items named.now.directory ≡ Option.Some row → StandsRight (P.region memory.old) sup.now free.old row × CanName (P.region memory.old) sup.now cpu row.inode row }
+    requires file_stands { (file : RowValue) → row_of rows.old.items named.now.target ≡ Option.Some file → StandsRight (P.region memory.old) sup.now free.old file × CanName (P.region memory.old) sup.now cpu file.inode file }
+    requires can { (row file : RowValue) → row_of rows.old.items named.now.directory ≡ Option.Some row → row_of rows.old.items named.now.target ≡ Option.Some file → CanName (P.region memory.old) sup.now cpu file.inode row × (row.inode ≢ file.inode) }
+    requires owns { (file : RowValue) → row_of rows.old.items named.now.target ≡ Option.Some file → OwnsBlocks free.old file }
     requires name { IsName named.now.name.now }
-    ensures released { OnOk result (Releases (P.region memory.old) (P.region memory.new) sup.now free.old free.new rows.old.items rows.new.items named.now.directory named.now.target named.now.name.now time) }
-    ensures enough { (row file : RowValue) → slice_get rows.old.items named.now.directory ≡ Option.Some row → slice_get rows.old.items named.now.target ≡ Option.Some file → OnOk result (release_blocks row file named.now.name.now time ≤ all_blocks free.old.pools) }
+    ensures released { OnOk result (Releases (P.region memory.old) (P.region memory.new) sup.now free.old free.new rows.old.items rows.new.items (place_in rows.old.items named.now.directory) (place_in rows.old.items named.now.target) named.now.name.now time) }
+    ensures enough { (row file : RowValue) → row_of rows.old.items named.now.directory ≡ Option.Some row → row_of rows.old.items named.now.target ≡ Option.Some file → OnOk result (release_blocks row file named.now.name.now time ≤ all_blocks free.old.pools) }
     ensures settled { OnOk result (NothingPending (P.region memory.new) (P.may_hold memory.new)) }
-    ensures refused { (row file : RowValue) → slice_get rows.old.items named.now.directory ≡ Option.Some row → slice_get rows.old.items named.now.target ≡ Option.Some file → IfErr result (λ e. RefusesStep e (release_blocks row file named.now.name.now time) free.old) }
+    ensures refused { (row file : RowValue) → row_of rows.old.items named.now.directory ≡ Option.Some row → row_of rows.old.items named.now.target ≡ Option.Some file → IfErr result (λ e. RefusesStep e (release_blocks row file named.now.name.now time) free.old) }
     ensures unchanged { IfErr result (λ e. (e ≡ RefusalValue.Stopped → ⊥) → LeavesRows memory.old memory.new free.old free.new rows.old.items rows.new.items) }
     ensures stopped { IfErr result (λ e. e ≡ RefusalValue.Stopped → IsTrue (P.fuse memory.new).has_burnt) }
+    ensures limit { rows.new.sup ≡ rows.old.sup }
     ensures lists { free.new.sup ≡ free.old.sup }
     ensures length { size (P.region memory.new) ≡ size (P.region memory.old) }
     ensures keeps_fuse { KeepsFuse (λ limit. size (P.region memory.old) ≤ limit) (P.fuse memory.old) (P.fuse memory.new) }
 {
-    if has_more_links(&rows[named.target]) {
+    if has_more_links(rows.row(named.target)) {
         unlink_at(alloc, memory, sup, free, cpu, rows, named, time)
     } else {
         remove_named(alloc, memory, sup, free, cpu, rows, named, time)

@@ -70,6 +70,7 @@ pub(crate) fn change_bytes<P: Pmem>(
     ensures refused { IfErr result (λ e. RefusesWrite e free.old cpu row.old.tail plan.now) }
     ensures unchanged { IfErr result (λ e. (e ≡ RefusalValue.Stopped → ⊥) → LeavesStep memory.old memory.new free.old free.new row.old row.new) }
     ensures stopped { IfErr result (λ e. e ≡ RefusalValue.Stopped → IsTrue (P.fuse memory.new).has_burnt) }
+    ensures inode { row.new.inode ≡ row.old.inode }
     ensures lists { free.new.sup ≡ free.old.sup }
     ensures length { size (P.region memory.new) ≡ size (P.region memory.old) }
     ensures keeps_fuse { KeepsFuse (λ limit. size (P.region memory.old) ≤ limit) (P.fuse memory.old) (P.fuse memory.new) }
@@ -135,11 +136,11 @@ impl<P: Pmem + Drop> Fs<P> {
     {
         self.writable(cpu)?;
         let count = bytes.len() as u64;
-        let place = resizable_at(&self.rows, path, offset.saturating_add(count))?;
+        let inode = resizable_at(&self.rows, path, offset.saturating_add(count))?.inode;
         if count == 0 {
             return Ok(());
         }
-        let row = &mut self.rows[place];
+        let mut row = self.rows.take(inode);
         let size = row.numbers.size;
         let plan = Plan::new(&row.index, size, offset, count, time);
         let change = NewBytes {
@@ -147,16 +148,18 @@ impl<P: Pmem + Drop> Fs<P> {
             bytes,
             size,
         };
-        match change_bytes(
+        let changed = change_bytes(
             self.alloc,
             &mut self.memory,
             &self.sup,
             &mut self.free,
             cpu,
-            row,
+            &mut row,
             &plan,
             &change,
-        ) {
+        );
+        self.rows.insert(row);
+        match changed {
             Ok(()) => Ok(()),
             Err(refusal) => {
                 self.stopped = is_stop(refusal);

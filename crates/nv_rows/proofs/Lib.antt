@@ -5,3 +5,4 @@ pub mod PutBack
 pub mod InOrder
 pub mod UsedPlaces
 pub mod LowestPlace
+pub mod Places

@@ -1,5 +1,5 @@
 -- Rows by their numbers: which row an inode has, where it stands, and what a list is with a further row.
-use Rattle.std.specs.Prelude.{◌≡◌, ℕ, ◌≤◌, nat_eq, List, map, length, Option, Some, slice_get}
+use Rattle.std.specs.Prelude.{◌≡◌, ℕ, zero, suc, ◌≤◌, cond, nat_eq, IsTrue, List, [], ◌∷◌, map, length, Option, Some, is_some, slice_get}
 use Rattle.std.specs.List.{find, insert}
 use Rattle.nv_super.specs.Order.{Rises}
 pub use Rattle.nv_scan.specs.Rows.{row_key}
@@ -12,6 +12,15 @@ inodes_of rows = map (λ (r : Row). r.inode) rows
 -- the row of a number
 abbrev pub row_of : List Row → ℕ → Option Row
 row_of rows i = find (λ (r : Row). nat_eq r.inode i) rows
+
+-- the inode is in use
+abbrev pub IsInUse : List Row → ℕ → Type 0
+IsInUse rows i = IsTrue (is_some (row_of rows i))
+
+-- where the row of an inode stands: so many rows are in front of it
+abbrev pub place_in : List Row → ℕ → ℕ
+place_in [] i = zero
+place_in (row ∷ rows) i = cond (nat_eq row.inode i) zero (suc (place_in rows i))
 
 -- the row of a number stands here
 abbrev pub IsPlaceOf : List Row → ℕ → ℕ → Type 0

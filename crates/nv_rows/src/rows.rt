@@ -1,13 +1,13 @@
 //! Rows by the numbers of their inodes, over `Numbered`. Only `from_rows` and `reserve` take memory.
 
-ghost use Rattle.std.specs.Prelude.{◌≡◌, ◌+◌, ◌<◌, ◌≤◌, ◌^◌, ℕ, None, map, IfOk, IfSome, length, IsOk, OnOk, OnSome, option_copied};
+ghost use Rattle.std.specs.Prelude.{◌≡◌, ◌+◌, ◌<◌, ◌≤◌, ◌^◌, ℕ, None, Some, map, IfOk, IfSome, length, IsOk, OnOk, OnSome, option_copied};
 ghost use Rattle.std.specs.List.{All, remove};
 ghost use Rattle.nv_super.specs.Order.{Rises, SortedOf};
 ghost use Rattle.nv_super.specs.Layout.{inode_limit, IsLayout};
 ghost use Rattle.nv_rows.specs.InUse.{place_of, HasUsed};
 ghost use Rattle.nv_scan.specs.declared.piece.Row.{Row as RowValue};
 ghost use Rattle.nv_numbered.specs.Values.{AreNumbersBelow};
-ghost use Rattle.nv_rows.specs.Rows.{row_key, inodes_of, row_of, IsPlaceOf, HasInserted};
+ghost use Rattle.nv_rows.specs.Rows.{row_key, inodes_of, row_of, place_in, IsInUse, IsPlaceOf, HasInserted};
 ghost use Rattle.nv_rows.specs.Unused.{unused_number};
 
 use nv_blockset::{first_clear, words_for};
@@ -101,6 +101,17 @@ impl Rows {
         self.rows.get(inode)
     }
 
+    /// The row of an inode in use.
+    pub fn row(&self, inode: u64) -> &Row
+        requires { IsInUse self.now.items inode }
+        ensures { row_of self.now.items inode ≡ Some result.now }
+    {
+        match self.get(inode) {
+            Some(row) => row,
+            None => unreachable!(),
+        }
+    }
+
     /// How many inodes are in use.
     pub fn len(&self) -> usize
         ensures count { result ≡ length self.now.items }
@@ -157,6 +168,26 @@ impl Rows {
             nv_blockset::remove(&mut self.used, place_of(&self.sup, inode));
         }
         row
+    }
+
+    /// Takes the row of an inode in use out. There is room to put it in again.
+    pub fn take(&mut self, inode: u64) -> Row
+        requires { IsInUse self.old.items inode }
+        ensures row { row_of self.old.items inode ≡ Some result }
+        ensures number { result.inode ≡ inode }
+        ensures within { inode < inode_limit self.new.sup }
+        ensures gone { row_of self.new.items inode ≡ None }
+        ensures rows { self.new.items ≡ remove self.old.items (place_in self.old.items inode) }
+        ensures rising { Rises row_key self.old.items }
+        ensures sup { self.new.sup ≡ self.old.sup }
+        ensures room { self.new.room ≡ self.old.room + 1 }
+    {
+        // Rows say of themselves that they rise.
+        let _rows = self.len();
+        match self.remove(inode) {
+            Some(row) => row,
+            None => unreachable!(),
+        }
     }
 
     /// The lowest number of a CPU's table that no inode in use has, 0 left out. It looks at one word for 64 numbers.

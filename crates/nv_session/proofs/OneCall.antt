@@ -32,7 +32,8 @@ use Rattle.nv_calls.specs.NameCalls.{create_blocks, ended_row, name_blocks, name
 use Rattle.nv_calls.specs.Seen.{node_of, tree_of}
 use Rattle.nv_calls.specs.Sizes.{blocks_from, end_block, resized_blocks, size_blocks}
 use Rattle.nv_calls.specs.UnlinkCalls.{has_more_links, unlink_blocks}
-use Rattle.nv_calls.specs.World.{numbers_in_table, unused_number, world_of}
+use Rattle.nv_calls.specs.nv_rows.Unused.{numbers_in_table, unused_number}
+use Rattle.nv_calls.specs.World.{world_of}
 use Rattle.nv_calls.specs.WriteCall.{WriteNeeds}
 use Rattle.nv_calls.specs.Writes.{NeedsBlocks, data_blocks, data_entries, plan_of}
 use Rattle.nv_calls.proofs.Takes.{takes_less, takes_once}

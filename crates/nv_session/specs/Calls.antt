@@ -24,7 +24,8 @@ use Rattle.nv_calls.specs.RemoveCalls.{ShowsRemoved}
 use Rattle.nv_calls.specs.Seen.{LeadsTo, tree_of}
 use Rattle.nv_calls.specs.Sizes.{ShowsResizedLog, resized_blocks}
 use Rattle.nv_calls.specs.UnlinkCalls.{unlink_blocks}
-use Rattle.nv_calls.specs.World.{unused_number, world_of}
+use Rattle.nv_calls.specs.nv_rows.Unused.{unused_number}
+use Rattle.nv_calls.specs.World.{world_of}
 use Rattle.nv_calls.specs.WriteCall.{ShowsLogWrite, WriteNeeds}
 use Rattle.nv_calls.specs.Writes.{plan_of}
 

@@ -14,7 +14,8 @@ use Rattle.nv_calls.specs.Mount.{Mount}
 use Rattle.nv_calls.specs.NameCalls.{ShowsCreated, create_blocks}
 use Rattle.nv_calls.specs.NewNames.{IsSpot, spot_tests}
 use Rattle.nv_calls.specs.Seen.{tree_of}
-use Rattle.nv_calls.specs.World.{unused_number, world_of}
+use Rattle.nv_rows.specs.Unused.{unused_number}
+use Rattle.nv_calls.specs.World.{world_of}
 use Rattle.nv_calls.proofs.CreateCall.{create_allowed, create_refused, created_kept, created_log, created_tree, kept_or_stopped, unchanged_rows}
 use Rattle.nv_calls.proofs.CreateTests.{a_row, spot_goes_on, spot_refuses}
 use Rattle.nv_calls.proofs.Kept.{rows_rise}

@@ -1,0 +1,134 @@
+-- For callers: where the row of an inode stands, and what the rows are once one or two were taken out, changed and put in again.
+use Rattle.std.proofs.Common.{◌≡◌, ◌≢◌, ℕ, zero, suc, ◌<◌, nat_eq, Bool, true, false, cond, is_some, List, [], ◌∷◌, length, remove, set, slice_get, Option, Some, None, refl, sym, ap, ◌∙◌, subst, arith}
+use Rattle.std.proofs.Math.Seq.{map-set_same}
+use Rattle.std.proofs.lemmas.List.{set_comm}
+use Rattle.std.proofs.lemmas.Option.{get_or_from_slice_get, slice_get_within}
+use Rattle.std.proofs.lemmas.Bool.Decides.{nat_tests}
+use Rattle.nv_super.specs.Order.{Rises}
+use Rattle.nv_super.proofs.RisingPlaces.{rises_keys}
+use Rattle.nv_scan.specs.declared.piece.Row.{Row}
+use Rattle.nv_rows.specs.Rows.{row_key, row_of, place_in, IsInUse, IsPlaceOf, HasInserted}
+use Rattle.nv_rows.proofs.PutBack.{put_back}
+
+differs : (a i j : ℕ) → a ≡ i → i ≢ j → nat_eq a j ≡ false
+differs a i j is apart = grind (arith, nat_tests)
+
+tested : (a i : ℕ) → nat_eq a i ≡ true → a ≡ i
+tested a i test = grind (arith, nat_tests)
+
+-- ---- the row of an inode
+
+-- the row of an inode has its number
+pub numbered : (rows : List Row) (i : ℕ) (row : Row) → row_of rows i ≡ Some row → row.inode ≡ i
+numbered [] i row e = absurd (cc)
+numbered (x ∷ rows) i row e = by (nat_eq x.inode i) refl (λ rest. numbered rows i row rest) e where
+  by : (b : Bool) → nat_eq x.inode i ≡ b → (row_of rows i ≡ Some row → row.inode ≡ i) → cond b (Some x) (row_of rows i) ≡ Some row → row.inode ≡ i
+  by true test rest e =
+      let same : x ≡ row = cc in
+      subst (λ (r : Row). r.inode ≡ i) same (tested x.inode i test)
+  by false test rest e = rest e
+
+pub own_row : (rows : List Row) (i : ℕ) (row : Row) → row_of rows i ≡ Some row → row_of rows row.inode ≡ Some row
+own_row rows i row e = ap (row_of rows) (numbered rows i row e) ∙ e
+
+-- it stands at the inode's place
+pub at_place : (rows : List Row) (i : ℕ) → slice_get rows (place_in rows i) ≡ row_of rows i
+at_place [] i = refl
+at_place (x ∷ rows) i = by (nat_eq x.inode i) (at_place rows i) where
+  by : (b : Bool) → slice_get rows (place_in rows i) ≡ row_of rows i → slice_get (x ∷ rows) (cond b zero (suc (place_in rows i))) ≡ cond b (Some x) (row_of rows i)
+  by true rest = refl
+  by false rest = rest
+
+-- an inode in use has a row
+pub row_in_use : (rows : List Row) (i : ℕ) → IsInUse rows i → (row : Row) × (row_of rows i ≡ Some row)
+row_in_use rows i used = by (row_of rows i) refl used where
+  by : (o : Option Row) → row_of rows i ≡ o → is_some o ≡ true → (row : Row) × (row_of rows i ≡ Some row)
+  by None e used = absurd (cc)
+  by (Some row) e used = (row, e)
+
+pub in_use : (rows : List Row) (i : ℕ) (row : Row) → row_of rows i ≡ Some row → IsInUse rows i
+in_use rows i row e = ap is_some e
+
+pub place_within : (rows : List Row) (i : ℕ) → IsInUse rows i → place_in rows i < length rows
+place_within rows i used = let r = row_in_use rows i used in slice_get_within rows (place_in rows i) r.0 (at_place rows i ∙ r.1)
+
+pub is_place : (rows : List Row) (i : ℕ) (row : Row) → row_of rows i ≡ Some row → IsPlaceOf rows i (place_in rows i)
+is_place rows i row e = (row, at_place rows i ∙ e, numbered rows i row e)
+
+-- two inodes have two places
+pub places_apart : (rows : List Row) (i j : ℕ) → IsInUse rows i → IsInUse rows j → i ≢ j → place_in rows i ≢ place_in rows j
+places_apart rows i j used other apart same =
+    let r = row_in_use rows i used in
+    let q = row_in_use rows j other in
+    let both : Some r.0 ≡ Some q.0 = sym r.1 ∙ sym (at_place rows i) ∙ ap (slice_get rows) same ∙ at_place rows j ∙ q.1 in
+    let one : r.0 ≡ q.0 = cc in
+    apart (sym (numbered rows i r.0 r.1) ∙ ap (λ (row : Row). row.inode) one ∙ numbered rows j q.0 q.1)
+
+-- ---- a row taken out
+
+-- the rows of the others stay
+pub others_stay : (rows : List Row) (i j : ℕ) → i ≢ j → row_of (remove rows (place_in rows i)) j ≡ row_of rows j
+others_stay [] i j apart = refl
+others_stay (x ∷ rows) i j apart = by (nat_eq x.inode i) refl (others_stay rows i j apart) where
+  by : (b : Bool) → nat_eq x.inode i ≡ b → row_of (remove rows (place_in rows i)) j ≡ row_of rows j → row_of (remove (x ∷ rows) (cond b zero (suc (place_in rows i)))) j ≡ cond (nat_eq x.inode j) (Some x) (row_of rows j)
+  by true test rest = sym (ap (λ (c : Bool). cond c (Some x) (row_of rows j)) (differs x.inode i j (tested x.inode i test) apart))
+  by false test rest = ap (λ (o : Option Row). cond (nat_eq x.inode j) (Some x) o) rest
+
+-- ---- a row written over
+
+-- each inode has the place that it had
+pub place_kept : (rows : List Row) (j i : ℕ) (now : Row) → now.inode ≡ j → place_in (set rows (place_in rows j) now) i ≡ place_in rows i
+place_kept [] j i now number = refl
+place_kept (x ∷ rows) j i now number = by (nat_eq x.inode j) refl (place_kept rows j i now number) where
+  by : (b : Bool) → nat_eq x.inode j ≡ b → place_in (set rows (place_in rows j) now) i ≡ place_in rows i → place_in (set (x ∷ rows) (cond b zero (suc (place_in rows j))) now) i ≡ cond (nat_eq x.inode i) zero (suc (place_in rows i))
+  by true test rest = ap (λ (n : ℕ). cond (nat_eq n i) zero (suc (place_in rows i))) (number ∙ sym (tested x.inode j test))
+  by false test rest = ap (λ (n : ℕ). cond (nat_eq x.inode i) zero (suc n)) rest
+
+-- the rows of the others stay
+pub others_kept : (rows : List Row) (j i : ℕ) (now : Row) → now.inode ≡ j → j ≢ i → row_of (set rows (place_in rows j) now) i ≡ row_of rows i
+others_kept [] j i now number apart = refl
+others_kept (x ∷ rows) j i now number apart = by (nat_eq x.inode j) refl (others_kept rows j i now number apart) where
+  by : (b : Bool) → nat_eq x.inode j ≡ b → row_of (set rows (place_in rows j) now) i ≡ row_of rows i → row_of (set (x ∷ rows) (cond b zero (suc (place_in rows j))) now) i ≡ cond (nat_eq x.inode i) (Some x) (row_of rows i)
+  by true test rest = ap (λ (c : Bool). cond c (Some now) (row_of rows i)) (differs now.inode j i number apart) ∙ sym (ap (λ (c : Bool). cond c (Some x) (row_of rows i)) (differs x.inode j i (tested x.inode j test) apart))
+  by false test rest = ap (λ (o : Option Row). cond (nat_eq x.inode i) (Some x) o) rest
+
+-- and its own is the new one
+pub own_kept : (rows : List Row) (i : ℕ) (now : Row) → IsInUse rows i → now.inode ≡ i → row_of (set rows (place_in rows i) now) i ≡ Some now
+own_kept [] i now used number = absurd (cc)
+own_kept (x ∷ rows) i now used number = by (nat_eq x.inode i) refl (λ u. own_kept rows i now u number) used where
+  by : (b : Bool) → nat_eq x.inode i ≡ b → (IsInUse rows i → row_of (set rows (place_in rows i) now) i ≡ Some now) → is_some (cond b (Some x) (row_of rows i)) ≡ true → row_of (set (x ∷ rows) (cond b zero (suc (place_in rows i))) now) i ≡ Some now
+  by true test rest used = let own : nat_eq now.inode i ≡ true = grind (arith, nat_tests, number) in ap (λ (c : Bool). cond c (Some now) (row_of rows i)) own
+  by false test rest used = ap (λ (c : Bool). cond c (Some x) (row_of (set rows (place_in rows i) now) i)) test ∙ rest used
+
+pub rises_kept : (rows : List Row) (i : ℕ) (was now : Row) → Rises row_key rows → row_of rows i ≡ Some was → now.inode ≡ i → Rises row_key (set rows (place_in rows i) now)
+rises_kept rows i was now up at number =
+    let here = get_or_from_slice_get rows (place_in rows i) was now (at_place rows i ∙ at) in
+    rises_keys row_key rows (set rows (place_in rows i) now) (sym (map-set_same row_key rows (place_in rows i) now now (ap (λ (n : ℕ). n ∷ []) (number ∙ sym (ap (λ (r : Row). r.inode) here ∙ numbered rows i was at))))) up
+
+-- ---- rows that were taken out and put in again
+
+-- one of them
+pub put_one : (old mid new : List Row) (i : ℕ) (was row : Row) → Rises row_key old → row_of old i ≡ Some was → mid ≡ remove old (place_in old i) → row.inode ≡ i → HasInserted mid new row → new ≡ set old (place_in old i) row
+put_one old mid new i was row up at taken number put = put_back old mid new i (place_in old i) row up (is_place old i was at) taken number put
+
+-- writing at one place and taking out at another go in any order
+set_removed : (rows : List Row) (i j : ℕ) (d : Row) → i ≢ j → set (remove rows (place_in rows i)) (place_in (remove rows (place_in rows i)) j) d ≡ remove (set rows (place_in rows j) d) (place_in rows i)
+set_removed [] i j d apart = refl
+set_removed (x ∷ rows) i j d apart = by (nat_eq x.inode i) (nat_eq x.inode j) refl refl (set_removed rows i j d apart) where
+  by : (b c : Bool) → nat_eq x.inode i ≡ b → nat_eq x.inode j ≡ c → set (remove rows (place_in rows i)) (place_in (remove rows (place_in rows i)) j) d ≡ remove (set rows (place_in rows j) d) (place_in rows i)
+      → set (remove (x ∷ rows) (cond b zero (suc (place_in rows i)))) (place_in (remove (x ∷ rows) (cond b zero (suc (place_in rows i)))) j) d ≡ remove (set (x ∷ rows) (cond c zero (suc (place_in rows j))) d) (cond b zero (suc (place_in rows i)))
+  by true true test other rest = absurd (apart (sym (tested x.inode i test) ∙ tested x.inode j other))
+  by true false test other rest = refl
+  by false true test other rest = ap (λ (c : Bool). set (x ∷ remove rows (place_in rows i)) (cond c zero (suc (place_in (remove rows (place_in rows i)) j))) d) other
+  by false false test other rest = ap (λ (c : Bool). set (x ∷ remove rows (place_in rows i)) (cond c zero (suc (place_in (remove rows (place_in rows i)) j))) d) other ∙ ap (λ (rs : List Row). x ∷ rs) rest
+
+-- two of them: the second was taken out last, and was put in first
+pub put_two : (old mid rest one new : List Row) (i j : ℕ) (first second row other : Row) → i ≢ j → Rises row_key old → row_of old i ≡ Some first → mid ≡ remove old (place_in old i) → Rises row_key mid → row_of mid j ≡ Some second → rest ≡ remove mid (place_in mid j)
+    → other.inode ≡ j → HasInserted rest one other → row.inode ≡ i → HasInserted one new row → new ≡ set (set old (place_in old i) row) (place_in old j) other
+put_two old mid rest one new i j first second row other apart up at taken mid_up other_at other_taken other_number other_put number put =
+    let there : row_of old j ≡ Some second = sym (others_stay old i j apart) ∙ ap (λ (rs : List Row). row_of rs j) (sym taken) ∙ other_at in
+    let kept : one ≡ remove (set old (place_in old j) other) (place_in old i) = put_one mid rest one j second other mid_up other_at other_taken other_number other_put ∙ ap (λ (rs : List Row). set rs (place_in rs j) other) taken ∙ set_removed old i j other apart in
+    let wrote = set old (place_in old j) other in
+    let place : place_in wrote i ≡ place_in old i = place_kept old j i other other_number in
+    let last : new ≡ set wrote (place_in wrote i) row = put_one wrote one new i first row (rises_kept old j second other up there other_number) (others_kept old j i other other_number (λ e. apart (sym e)) ∙ at) (kept ∙ ap (remove wrote) (sym place)) number put in
+    last ∙ ap (λ (k : ℕ). set wrote k row) place ∙ set_comm old (place_in old j) (place_in old i) other row (λ e. places_apart old i j (in_use old i first at) (in_use old j second there) apart (sym e))
