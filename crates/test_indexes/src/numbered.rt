@@ -51,6 +51,27 @@ fn assert_values(rt: &impl Abort, values: &Numbered<u64>, wanted: &[(u64, Option
     }
 }
 
+/// The numbers 5 and 1, each with ten times itself.
+fn given(alloc: Global) -> Result<Numbered<u64>, AllocError> {
+    let values = vec![in alloc; 50, 10]?;
+    let numbers = vec![in alloc; 5, 1]?;
+    Numbered::from_values(alloc, values, numbers, 8)
+}
+
+#[test]
+fn given_values_stand_under_their_numbers(rt: HostRuntime) -> Result<(), AllocError> {
+    let mut values = given(rt.alloc())?;
+    assert!(rt; values.len() == 2);
+    assert_values(
+        &rt,
+        &values,
+        &[(0, None), (1, Some(10)), (5, Some(50)), (7, None), (8, None)],
+    );
+    assert!(rt; values.remove(5) == Some(50));
+    assert_values(&rt, &values, &[(1, Some(10)), (5, None)]);
+    Ok(())
+}
+
 #[test]
 fn a_new_table_has_no_value(rt: HostRuntime) -> Result<(), AllocError> {
     let values = Numbered::<u64>::new(rt.alloc(), 8)?;

@@ -1,37 +1,12 @@
 //! Small rows, written by hand. Inodes have the numbers 1 to 31.
 
-ghost use Rattle.std.specs.Prelude.{◌≡◌};
-
+use crate::rows::row;
 use crate::small::SMALL;
 use nv_check::{cross_faults, cross_faults_one, doubled};
 use nv_names::NameIndex;
-use nv_radix::FileIndex;
-use nv_scan::{Numbers, Row};
 use nv_super::{Fault, Kind, Owner};
 use std::alloc::Global;
 use std::test::Fail;
-
-fn row(alloc: Global, inode: u64, kind: Kind, links: u32, names: NameIndex) -> Row
-    ensures { result.inode ≡ inode }
-{
-    Row {
-        inode,
-        kind,
-        numbers: Numbers {
-            size: 0,
-            mode: 0,
-            owner: 0,
-            group: 0,
-            links,
-            time: 0,
-        },
-        head: 0,
-        tail: 0,
-        pages: Vec::new(alloc),
-        index: FileIndex::new(alloc),
-        names,
-    }
-}
 
 /// One name, of this inode and at this place.
 fn one_name(alloc: Global, inode: u64, place: u64) -> Result<NameIndex, Fail> {

@@ -1,4 +1,4 @@
-//! Tests of the scan of inodes, of the faults between them, and of recovery. They stand here since a crate that has tests
+//! Tests of the scan of inodes, of rows by number, of the faults between inodes, and of recovery. They stand here since a crate that has tests
 //! is proved twice, once with them and once without.
 #![tactic(auto)]
 
@@ -8,6 +8,8 @@ mod faults;
 mod meeting;
 #[cfg(test)]
 mod recovered;
+#[cfg(test)]
+mod rows;
 #[cfg(test)]
 mod scan;
 #[cfg(test)]

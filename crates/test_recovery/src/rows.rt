@@ -1,0 +1,137 @@
+//! Rows by number, each call on its happy path with ample memory. Inodes have the numbers 1 to 31.
+
+ghost use Rattle.std.specs.Prelude.{◌≡◌, ◌<◌, IfOk};
+ghost use Rattle.nv_super.specs.Layout.{inode_limit};
+ghost use Rattle.test_recovery.specs.contracts.small.{SMALL};
+
+use crate::small::SMALL;
+use nv_names::NameIndex;
+use nv_radix::FileIndex;
+use nv_recover::Rows;
+use nv_scan::{Numbers, Row};
+use nv_super::Kind;
+use std::alloc::{AllocError, Global};
+use std::process::Abort;
+use std::test::Fail;
+
+/// The row of an inode with so many links and these names, and nothing else.
+pub fn row(alloc: Global, inode: u64, kind: Kind, links: u32, names: NameIndex) -> Row
+    ensures { result.inode ≡ inode }
+{
+    Row {
+        inode,
+        kind,
+        numbers: Numbers {
+            size: 0,
+            mode: 0,
+            owner: 0,
+            group: 0,
+            links,
+            time: 0,
+        },
+        head: 0,
+        tail: 0,
+        pages: Vec::new(alloc),
+        index: FileIndex::new(alloc),
+        names,
+    }
+}
+
+fn file(alloc: Global, inode: u64) -> Row
+    ensures { result.inode ≡ inode }
+{
+    row(alloc, inode, Kind::File, 1, NameIndex::new(alloc))
+}
+
+/// The inodes 4 and 2, given in this order.
+fn two_files(alloc: Global) -> Result<Rows, AllocError>
+    ensures { IfOk result (λ rows. rows.sup ≡ SMALL) }
+{
+    let rows = vec![in alloc; file(alloc, 4), file(alloc, 2)]?;
+    Rows::from_rows(alloc, rows, &SMALL)
+}
+
+/// Puts in the row of a file, where its number has none.
+fn insert_new(alloc: Global, rows: &mut Rows, inode: u64) -> Result<(), AllocError>
+    requires { inode < inode_limit rows.old.sup }
+    ensures { rows.new.sup ≡ rows.old.sup }
+{
+    rows.reserve(1)?;
+    if rows.get(inode).is_none() {
+        rows.insert(file(alloc, inode));
+    }
+    Ok(())
+}
+
+/// Just these numbers have a row, and they are listed so.
+fn assert_numbers(
+    rt: &impl Abort,
+    alloc: Global,
+    rows: &Rows,
+    numbers: &[u64],
+) -> Result<(), AllocError> {
+    let listed: Vec<u64> = rows.iter().map(|entry| entry.1.inode).collect(alloc)?;
+    assert!(rt; listed.as_slice() == numbers);
+    assert!(rt; rows.len() == numbers.len());
+    for number in 0..33 {
+        let found = rows.get(number).map(|row| row.inode);
+        assert!(rt; found.is_some() == numbers.contains(&number), "at {number}");
+        assert!(rt; found.unwrap_or(number) == number);
+    }
+    Ok(())
+}
+
+#[test]
+fn given_rows_are_found_by_their_numbers(rt: HostRuntime) -> Result<(), Fail> {
+    let rows = two_files(rt.alloc())?;
+    assert_numbers(&rt, rt.alloc(), &rows, &[2, 4])?;
+    assert!(rt; rows.get(u64::MAX).is_none());
+    assert!(rt; rows.lowest_unused(0) == Some(1));
+    Ok(())
+}
+
+#[test]
+fn rows_come_and_go(rt: HostRuntime) -> Result<(), Fail> {
+    let mut rows = two_files(rt.alloc())?;
+    insert_new(rt.alloc(), &mut rows, 1)?;
+    assert!(rt; rows.lowest_unused(0) == Some(3));
+    insert_new(rt.alloc(), &mut rows, 31)?;
+    assert_numbers(&rt, rt.alloc(), &rows, &[1, 2, 4, 31])?;
+    let gone = rows.remove(2).expect(&rt, "inode 2 has a row");
+    assert!(rt; gone.inode == 2);
+    assert!(rt; rows.remove(2).is_none());
+    assert!(rt; rows.lowest_unused(0) == Some(2));
+    assert_numbers(&rt, rt.alloc(), &rows, &[1, 4, 31])?;
+    Ok(())
+}
+
+/// Takes a row out, if there is one, and puts it in again with so many links.
+fn relink(rows: &mut Rows, inode: u64, links: u32) {
+    if rows.get(inode).is_some() {
+        let mut row = rows.take(inode);
+        row.numbers.links = links;
+        rows.insert(row);
+    }
+}
+
+#[test]
+fn a_row_is_changed(rt: HostRuntime) -> Result<(), Fail> {
+    let mut rows = two_files(rt.alloc())?;
+    relink(&mut rows, 2, 7);
+    relink(&mut rows, 3, 7);
+    assert_numbers(&rt, rt.alloc(), &rows, &[2, 4])?;
+    let links: Vec<u32> = rows.iter().map(|entry| entry.1.numbers.links).collect(rt.alloc())?;
+    assert!(rt; links.as_slice() == [7, 1].as_slice());
+    Ok(())
+}
+
+#[test]
+fn no_number_is_unused(rt: HostRuntime) -> Result<(), Fail> {
+    let mut rows = two_files(rt.alloc())?;
+    for number in 1..32 {
+        insert_new(rt.alloc(), &mut rows, number)?;
+    }
+    assert!(rt; rows.len() == 31);
+    assert!(rt; rows.lowest_unused(0).is_none());
+    Ok(())
+}
