@@ -8,3 +8,4 @@ pub mod Fences
 pub mod Fronted
 pub mod Alternate
 pub mod Alternating
+pub mod Cuts

@@ -3,11 +3,11 @@
 //! It holds its words twice: as they read, and as they were at the last fence. A fence copies the lines of 64 bytes that
 //! were stored to since the last one, so it costs what was stored and never the size of the region.
 
-ghost use Rattle.std.specs.Prelude.{◌≡◌, ◌≢◌, ◌⊎◌, ◌≤◌, ◌<◌, ◌+◌, ◌*◌, ◌/◌, ◌%◌, ◌||◌, ◌↔◌, ◌^◌, ◌==◌, ℕ, Bool, true, false, IsTrue, IfOk, OnOk, OnErr, IsErrOf, is_err, get_or, eqb, length, drop, min, replicate, List, [], ◌∷◌, refl};
+ghost use Rattle.std.specs.Prelude.{◌≡◌, ◌≢◌, ◌⊎◌, ◌≤◌, ◌<◌, ◌+◌, ◌*◌, ◌/◌, ◌%◌, ◌||◌, ◌↔◌, ◌^◌, ◌==◌, ℕ, Bool, true, false, IsTrue, IfOk, OnOk, OnErr, IsErrOf, is_err, get_or, eqb, length, take, drop, min, replicate, List, [], ◌∷◌, refl};
 ghost use Rattle.std.proofs.Common.{inl, inr};
 ghost use Rattle.std.specs.List.{list_any};
 ghost use Rattle.std.specs.List.Sorted.{IsStrictlyIncreasing};
-ghost use Rattle.byteorder.specs.Endian.{little_number};
+ghost use Rattle.byteorder.specs.Endian.{little_number, little_bytes};
 ghost use Rattle.nv_region.specs.Region.{size, word, put, region_of, bytes_of};
 ghost use Rattle.nv_region.specs.Stops.{MayBeLeft, NothingPending, NoneAdded, Adds, One};
 ghost use Rattle.nv_region.specs.Fuses.{KeepsFuse};
@@ -173,6 +173,41 @@ impl MemRegion {
         self.burnt = false;
     }
 
+    /// The region of its first bytes, in the memory that it has. Nothing is pending in it, and it has no fuse.
+    ///
+    /// It costs what was stored since the last fence, and takes memory only for the bytes behind the last whole word.
+    /// Where that is refused, the region is gone.
+    pub fn cut(self, length: u64) -> Result<MemRegion, AllocError>
+        requires { length ≤ size self.region }
+        ensures region { IfOk result (λ m. m.region ≡ region_of (take length (bytes_of self.region))) }
+        ensures settled { IfOk result (λ m. NothingPending m.region (fenced_or_last m)) }
+        ensures fuse { IfOk result (λ m. (m.fuse ≡ Fuse.Off) × (m.burnt ≡ false)) }
+    {
+        let MemRegion {
+            alloc,
+            mut words,
+            mut fenced,
+            mut stored,
+            rest,
+            ..
+        } = self;
+        let rest = bytes_behind(alloc, &words, &rest, length as usize)?;
+        let count = (length / 8) as usize;
+        copy_lines(&mut fenced, &words, stored.lines());
+        words.truncate(count);
+        fenced.truncate(count);
+        stored.cut(lines_of(count));
+        Ok(MemRegion {
+            alloc,
+            words,
+            fenced,
+            stored,
+            rest,
+            fuse: Fuse::Off,
+            burnt: false,
+        })
+    }
+
     /// The region that a stop at this moment leaves, where it keeps these words. Nothing is pending in it, and it has no
     /// fuse.
     ///
@@ -219,6 +254,36 @@ fn read_words(alloc: Global, bytes: &[u8]) -> Result<(Vec<u64>, Vec<u8>), AllocE
         left = &left[8..];
     }
     Ok((words, left.to_vec(alloc)?))
+}
+
+// Of a region's first bytes, those behind the last whole word.
+fn bytes_behind(
+    alloc: Global,
+    words: &[u64],
+    rest: &[u8],
+    count: usize,
+) -> Result<Vec<u8>, AllocError>
+    requires short { length rest.now < 8 }
+    requires within { count ≤ 8 * length words.now + length rest.now }
+    ensures short { IfOk result (λ bytes. length bytes.items < 8) }
+    ensures front { IfOk result (λ bytes. region_of (take count (bytes_of (record { words = words.now; rest = rest.now }))) ≡ record { words = take (count / 8) words.now; rest = bytes.items }) }
+{
+    let whole = count / 8;
+    if whole < words.len() {
+        word_front(alloc, words[whole], count % 8)
+    } else {
+        rest[..count % 8].to_vec(alloc)
+    }
+}
+
+// The first bytes of a word.
+fn word_front(alloc: Global, word: u64, count: usize) -> Result<Vec<u8>, AllocError>
+    requires { count < 8 }
+    ensures { IfOk result (λ bytes. bytes.items ≡ take count (little_bytes 8 word)) }
+{
+    let mut eight = [0; 8];
+    LittleEndian::write_u64(&mut eight, word);
+    eight[..count].to_vec(alloc)
 }
 
 impl Pmem for MemRegion {

@@ -2,7 +2,7 @@
 //!
 //! All room is made when the region is made: a mark for each line, and a list as long as there are lines.
 
-ghost use Rattle.std.specs.Prelude.{◌≡◌, ◌==◌, ◌<◌, ◌||◌, ℕ, IfOk, [], length, get_or, slice_index_or, eqb, true, false, replicate};
+ghost use Rattle.std.specs.Prelude.{◌≡◌, ◌==◌, ◌<◌, ◌≤◌, ◌||◌, ℕ, IfOk, [], length, get_or, slice_index_or, eqb, true, false, replicate};
 ghost use Rattle.std.specs.List.{list_any};
 ghost use Rattle.std.specs.List.Sorted.{IsStrictlyIncreasing};
 ghost use Rattle.nv_region.specs.StoredLines.{is_stored};
@@ -75,6 +75,15 @@ impl StoredLines {
     {
         unmark(&mut self.marks, &self.lines);
         self.lines.clear();
+    }
+
+    /// Forgets all lines, and from now on there are only so many.
+    pub(crate) fn cut(&mut self, count: usize)
+        requires { count ≤ self.old.count }
+        ensures { self.new ≡ record { count = count; lines = [] } }
+    {
+        self.clear();
+        self.marks.truncate(count);
     }
 }
 

@@ -1,8 +1,6 @@
-//! Making a region: of zeros that are formatted, or of the first bytes of another one.
+//! Making a region of zeros that are formatted.
 
-ghost use Rattle.std.specs.Prelude.{◌≡◌, ◌≤◌, IfOk, take};
-ghost use Rattle.nv_region.specs.Region.{size, bytes_of};
-ghost use Rattle.nv_session.specs.Machine.{front};
+ghost use Rattle.std.specs.Prelude.{IfOk};
 ghost use Rattle.nv_session.specs.Made.{MayMake};
 ghost use Rattle.nv_session.specs.Sessions.{is_armed};
 
@@ -46,26 +44,4 @@ pub fn new_region(
         Err(FormatRefusal::Stopped) => Ok(Made::Stopped(memory.after_stop(stop.keep))),
         Err(refusal) => Ok(Made::Refused(refusal)),
     }
-}
-
-/// A region of the first `length` bytes of another, which is let go before the new one is made.
-pub fn front_region(alloc: Global, memory: MemRegion, length: u64) -> Result<MemRegion, AllocError>
-    requires { length ≤ size memory.region }
-    ensures { IfOk result (λ cut. cut.region ≡ front memory.region length) }
-{
-    let bytes = front_bytes(memory, length as usize)?;
-    // No region has more bytes than one may have, so it is memory that is wanting.
-    match MemRegion::from_bytes(alloc, &bytes) {
-        Ok(cut) => Ok(cut),
-        Err(_) => Err(AllocError),
-    }
-}
-
-fn front_bytes(memory: MemRegion, length: usize) -> Result<Vec<u8>, AllocError>
-    requires { length ≤ size memory.region }
-    ensures { IfOk result (λ bytes. bytes.items ≡ take length (bytes_of memory.region)) }
-{
-    let mut bytes = memory.to_bytes()?;
-    bytes.truncate(length);
-    Ok(bytes)
 }

@@ -8,7 +8,7 @@ ghost use Rattle.nv_calls.specs.Mount.{told};
 ghost use Rattle.nv_report.specs.Shown.{shown_of};
 
 use crate::files::{list_text, read_text, stat_text};
-use crate::making::{Made, front_region, new_region};
+use crate::making::{Made, new_region};
 use crate::stop::Stop;
 use crate::store::{Store, has_word, poked};
 use crate::texts::{ok_text, refused_format_text, stopped_text, word_text};
@@ -206,7 +206,7 @@ impl Session {
             self.store = Some(store);
             return refused_text(alloc, Refusal::Length);
         }
-        let front = front_region(alloc, store.into_memory(), length)?;
+        let front = store.into_memory().cut(length)?;
         self.put(front);
         ok_text(alloc)
     }
