@@ -1,16 +1,13 @@
 -- Why `create` and `mkdir` are refused.
-use Rattle.std.proofs.Common.{◌≡◌, ℕ, ◌<◌, true, false, List, [], ◌∷◌, ◌++◌, append_assoc, length, slice_get, refl, ap, sym, ◌∙◌, subst, Option, Some, None, Result, Ok, Err, IfSome, IsTrue, is_none, is_some, All, Bool}
+use Rattle.std.proofs.Common.{◌≡◌, ℕ, ◌<◌, true, false, List, [], ◌∷◌, ◌++◌, append_assoc, length, slice_get, refl, ap, sym, ◌∙◌, subst, Option, Some, None, Result, Ok, Err, IsTrue, is_none, is_some, option_copied, Bor, All, Bool}
 use Rattle.std.specs.Option.{option_and_then, option_map}
 use Rattle.std.proofs.lemmas.List.Elements.{All-head, All-tail}
-use Rattle.std.proofs.lemmas.Option.{get_or_from_slice_get}
 use Rattle.nv_region.specs.Region.{Region}
 use Rattle.nv_super.specs.declared.superblock.Super.{Super}
 use Rattle.nv_super.specs.Layout.{is_number}
 use Rattle.nv_super.specs.declared.kind.Kind.TheVariants.{Directory}
-use Rattle.nv_super.specs.Order.{Rises}
 use Rattle.nv_names.specs.Names.{name_at}
 use Rattle.nv_scan.specs.declared.piece.Row.{Row}
-use Rattle.nv_held.specs.nv_check.Cross.{row_key}
 use Rattle.nv_held.specs.nv_named.Read.{row_of}
 use Rattle.nv_held.specs.nv_named.Step.{IsGoodName}
 use Rattle.nv_tree.specs.declared.refusal.Refusal.{Refusal}
@@ -20,9 +17,11 @@ use Rattle.nv_tree.specs.Names.{Spells}
 use Rattle.nv_tree.specs.Tree.{Tree, found, walk}
 use Rattle.nv_tree.specs.Refusals.{Path, Tests, World, create_tests, first_refusal, has_no_slot, has_no_space, is_bad_name, is_there, refused_walk, walk_tests, writing}
 use Rattle.nv_calls.specs.NewNames.{spot_tests}
-use Rattle.nv_calls.specs.Seen.{tree_of}
-use Rattle.nv_calls.proofs.RowOf.{none_within, row_at}
-use Rattle.nv_calls.proofs.Targets.{none_found, row_found, said}
+use Rattle.nv_calls.specs.Seen.{LeadsTo, node_of, tree_of}
+use Rattle.nv_rows.specs.Rows.{IsInUse}
+use Rattle.nv_rows.proofs.Places.{numbered, row_in_use}
+use Rattle.nv_calls.proofs.RowOf.{none_within}
+use Rattle.nv_calls.proofs.Targets.{leads_to, none_found, said}
 use Rattle.nv_calls.proofs.Tests.{passed_before, refused_before, walk_goes_on}
 use Rattle.nv_calls.proofs.Walks.{found_below, one_byte}
 
@@ -84,11 +83,11 @@ spot_goes_on t unused (Some (name ∷ names)) e = by (walk t 1 (name ∷ names))
   by (Ok d) off false true e = absurd (cc)
   by (Ok d) off false false e = absurd (cc)
 
-some_of : (o : Option ℕ) → is_some o ≡ true → (k : ℕ) × (o ≡ Some k)
+some_of : (o : Option (Bor Row)) → is_some o ≡ true → (k : Bor Row) × (o ≡ Some k)
 some_of None e = absurd (cc)
 some_of (Some k) e = (k, refl)
 
-pub none_of : (o : Option ℕ) → is_some o ≡ false → o ≡ None
+pub none_of : (o : Option (Bor Row)) → is_some o ≡ false → o ≡ None
 none_of None e = refl
 none_of (Some k) e = absurd (cc)
 
@@ -104,42 +103,42 @@ last_is_name name (next ∷ names) good = last_is_name next names (All-tail IsPa
 pub good_name : (s : Super) (j : ℕ) (name : List ℕ) → IsPathName name → IsTrue (is_number s j) → IsGoodName s j name
 good_name s j name good number = rw (good.bytes, good.no_dots, number) refl
 
-module _ (R : Region) (rows : List Row) (rising : Rises row_key rows) (text name : List ℕ) (place : ℕ) (within : place < length rows) (o : Option ℕ) (inside : IfSome o (λ k. k < length rows)) (long : length text ≡ 1 → ⊥)
-    (directory : (names : List (List ℕ)) → Spells text names → (row : Row) → slice_get rows place ≡ Some row → (walk (tree_of R rows) 1 names ≡ Ok row.inode) × (row.kind ≡ Directory)) (last : (names : List (List ℕ)) → Spells text names → name ≡ last_name names)
-    (to : (row : Row) → slice_get rows place ≡ Some row → option_and_then (λ k. slice_get rows k) o ≡ option_and_then (row_of rows) (option_map (λ (x : ℕ × ℕ). x.0) (name_at row.names name))) where
+module _ (R : Region) (rows : List Row) (text name : List ℕ) (d : ℕ) (used : IsInUse rows d) (o : Option (Bor Row)) (long : length text ≡ 1 → ⊥)
+    (directory : (names : List (List ℕ)) → Spells text names → (row : Row) → row_of rows d ≡ Some row → (walk (tree_of R rows) 1 names ≡ Ok row.inode) × (row.kind ≡ Directory)) (last : (names : List (List ℕ)) → Spells text names → name ≡ last_name names)
+    (to : (row : Row) → row_of rows d ≡ Some row → option_copied o ≡ option_and_then (row_of rows) (option_map (λ (x : ℕ × ℕ). x.0) (name_at row.names name))) where
   abbrev row : Row
-  row = (a_row rows place within).0
+  row = (row_in_use rows d used).0
 
-  at : slice_get rows place ≡ Some row
-  at = (a_row rows place within).1
+  at : row_of rows d ≡ Some row
+  at = (row_in_use rows d used).1
 
   module _ (first : List ℕ) (names : List (List ℕ)) (path : IsPath text (first ∷ names)) where
     spells : Spells text (first ∷ names)
     spells = spells_names text first names path
 
-    pub walked : walk (tree_of R rows) 1 (first ∷ names) ≡ Ok row.inode
-    walked = (directory (first ∷ names) spells row at).0
+    pub walked : walk (tree_of R rows) 1 (first ∷ names) ≡ Ok d
+    walked = (directory (first ∷ names) spells row at).0 ∙ ap (λ (i : ℕ). Ok i) (numbered rows d row at)
 
-    pub leads : option_and_then (λ k. slice_get rows k) o ≡ option_and_then (row_of rows) (found (tree_of R rows) (first ∷ names))
-    leads = to row at ∙ sym (found_below R rows text name (first ∷ names) row.inode row (name_at row.names name) path long walked (row_at rows place row rising at) (last (first ∷ names) spells) refl)
+    pub leads : option_copied o ≡ option_and_then (row_of rows) (found (tree_of R rows) (first ∷ names))
+    leads = to row at ∙ sym (found_below R rows text name (first ∷ names) d row (name_at row.names name) path long walked at (last (first ∷ names) spells) refl)
+
+    -- the row is that of the inode that is there
+    pub row_leads : (r : Bor Row) → o ≡ Some r → LeadsTo (tree_of R rows) (first ∷ names) r.now.inode (node_of R r.now)
+    row_leads r is = leads_to R rows (first ∷ names) r.now (sym leads ∙ ap option_copied is)
 
     -- an inode is there
     pub spot_taken : (unused : Option ℕ) → is_some o ≡ true → first_refusal (spot_tests (tree_of R rows) unused (Some (first ∷ names))) ≡ Some Exists
     spot_taken unused some =
         let w = some_of o some in
-        let k = w.0 in
-        let is = w.1 in
-        let below : k < length rows = subst (λ (q : Option ℕ). IfSome q (λ n. n < length rows)) is inside in
-        let r = a_row rows k below in
-        let led = row_found R rows (first ∷ names) o k r.0 is inside (sym (get_or_from_slice_get rows k r.0 r.0 r.1)) leads in
-        there_spot (tree_of R rows) unused first names row.inode r.0.inode walked led.leads
+        let led = row_leads w.0 w.1 in
+        there_spot (tree_of R rows) unused first names d w.0.now.inode walked led.leads
 
     pub none : o ≡ None → found (tree_of R rows) (first ∷ names) ≡ None
-    none is = none_found R rows (first ∷ names) o is leads
+    none is = none_found R rows (first ∷ names) (sym leads ∙ ap option_copied is)
 
     -- no number is left
     pub spot_full : (unused : Option ℕ) → is_some o ≡ false → unused ≡ None → first_refusal (spot_tests (tree_of R rows) unused (Some (first ∷ names))) ≡ Some NoInodes
-    spot_full unused is out = full_spot (tree_of R rows) unused first names row.inode walked (none (none_of o is)) out
+    spot_full unused is out = full_spot (tree_of R rows) unused first names d walked (none (none_of o is)) out
 
     pub spot_free : (unused : Option ℕ) (i : ℕ) → is_some o ≡ false → unused ≡ Some i → first_refusal (spot_tests (tree_of R rows) unused (Some (first ∷ names))) ≡ None
-    spot_free unused i is number = free_spot (tree_of R rows) unused first names row.inode i walked (none (none_of o is)) number
+    spot_free unused i is number = free_spot (tree_of R rows) unused first names d i walked (none (none_of o is)) number

@@ -17,7 +17,7 @@ use Rattle.nv_tree.specs.Tree.{Node, Tree, and_then, as_directory, name_in, or_n
 use Rattle.nv_calls.specs.Seen.{node_of, tree_of}
 use Rattle.nv_calls.proofs.CreatedRows.{in_rows, not_held}
 use Rattle.nv_calls.proofs.RowChange.{row_there}
-use Rattle.nv_calls.proofs.Targets.{numbered}
+use Rattle.nv_rows.proofs.Places.{numbered}
 use Rattle.nv_calls.proofs.Walks.{same_number}
 
 -- all names but the last

@@ -1,15 +1,13 @@
 -- Why `link` is refused where it looks for its file and its directory.
-use Rattle.std.proofs.Common.{◌≡◌, ℕ, ◌<◌, nat_le, Bool, true, false, List, [], ◌∷◌, ◌++◌, length, slice_get, refl, ap, sym, ◌∙◌, subst, arith, Option, Some, None, Result, Ok, Err, IfSome, get_or, is_none, is_some}
+use Rattle.std.proofs.Common.{◌≡◌, ℕ, ◌<◌, nat_le, Bool, true, false, List, [], ◌∷◌, ◌++◌, length, refl, ap, sym, ◌∙◌, arith, Option, Some, None, Result, Ok, Err, is_none, is_some, option_copied, Bor}
 use Rattle.std.specs.Option.{option_and_then, option_map, option_map_or}
 use Rattle.std.proofs.lemmas.Bool.Decides.{nat_tests}
-use Rattle.std.proofs.lemmas.Option.{get_or_from_slice_get}
 use Rattle.nv_region.specs.Region.{Region}
 use Rattle.nv_super.specs.declared.kind.Kind.{Kind}
 use Rattle.nv_super.specs.declared.kind.Kind.TheVariants.{File, Directory}
-use Rattle.nv_super.specs.Order.{Rises}
 use Rattle.nv_names.specs.Names.{name_at}
 use Rattle.nv_scan.specs.declared.piece.Row.{Row}
-use Rattle.nv_held.specs.nv_check.Cross.{row_key}
+use Rattle.nv_rows.specs.Rows.{IsInUse}
 use Rattle.nv_held.specs.nv_named.Read.{row_of}
 use Rattle.nv_tree.specs.declared.refusal.Refusal.{Refusal}
 use Rattle.nv_tree.specs.declared.refusal.Refusal.TheVariants.{BadName, Exists, IsDirectory, LinkLimit, NotFound, Stopped}
@@ -20,10 +18,8 @@ use Rattle.nv_tree.specs.Tree.{Node, Tree, found, is_directory, walk}
 use Rattle.nv_tree.specs.Refusals.{Path, first_refusal, has_most_links, is_dir, is_directory_at, refused_walk}
 use Rattle.nv_calls.specs.Places.{link_spot_tests}
 use Rattle.nv_calls.specs.Seen.{LeadsTo, node_of, tree_of}
-use Rattle.nv_calls.proofs.CreateTests.{a_row, leads, none, said_names}
-use Rattle.nv_calls.proofs.OneRow.{placed_row}
-use Rattle.nv_calls.proofs.PutRow.{one_row}
-use Rattle.nv_calls.proofs.Targets.{row_found, said}
+use Rattle.nv_calls.proofs.CreateTests.{none, row_leads, said_names}
+use Rattle.nv_calls.proofs.Targets.{said}
 use Rattle.nv_calls.proofs.Tests.{walk_goes_on}
 
 -- the tests by what both walks and both paths give
@@ -94,19 +90,15 @@ pub said_both : (old new : List ℕ) (Q : Path → Path → Type 0) → (names :
     → ((names : List (List ℕ)) (other : List ℕ) (others : List (List ℕ)) → IsPath old names → IsPath new (other ∷ others) → Q (Some names) (Some (other ∷ others))) → (p q : Path) → Says old p → Says new q → Q p q
 said_both old new Q some some_new long each p q says says_new = said old (λ r. Q r q) some (λ names path. said_names new (λ r. Q (Some names) r) some_new long (λ other others other_path. each names other others path other_path) q says_new) p says
 
--- a place of a row for a path's last name stands for its being found
-pub found_some : (R : Region) (rows : List Row) (rising : Rises row_key rows) (text name : List ℕ) (place : ℕ) (within : place < length rows) (o : Option ℕ) (inside : IfSome o (λ k. k < length rows)) (long : length text ≡ 1 → ⊥)
-    (directory : (names : List (List ℕ)) → Spells text names → (row : Row) → slice_get rows place ≡ Some row → (walk (tree_of R rows) 1 names ≡ Ok row.inode) × (row.kind ≡ Directory)) (last : (names : List (List ℕ)) → Spells text names → name ≡ last_name names)
-    (to : (row : Row) → slice_get rows place ≡ Some row → option_and_then (λ k. slice_get rows k) o ≡ option_and_then (row_of rows) (option_map (λ (x : ℕ × ℕ). x.0) (name_at row.names name)))
+-- a row for a path's last name stands for its being found
+pub found_some : (R : Region) (rows : List Row) (text name : List ℕ) (d : ℕ) (used : IsInUse rows d) (o : Option (Bor Row)) (long : length text ≡ 1 → ⊥)
+    (directory : (names : List (List ℕ)) → Spells text names → (row : Row) → row_of rows d ≡ Some row → (walk (tree_of R rows) 1 names ≡ Ok row.inode) × (row.kind ≡ Directory)) (last : (names : List (List ℕ)) → Spells text names → name ≡ last_name names)
+    (to : (row : Row) → row_of rows d ≡ Some row → option_copied o ≡ option_and_then (row_of rows) (option_map (λ (x : ℕ × ℕ). x.0) (name_at row.names name)))
     (first : List ℕ) (names : List (List ℕ)) (path : IsPath text (first ∷ names)) → is_some (found (tree_of R rows) (first ∷ names)) ≡ is_some o
-found_some R rows rising text name place within o inside long directory last to first names path = by o refl where
-  by : (k : Option ℕ) → o ≡ k → is_some (found (tree_of R rows) (first ∷ names)) ≡ is_some k
-  by None is = ap (λ (m : Option ℕ). is_some m) (none R rows rising text name place within o inside long directory last to first names path is)
-  by (Some k) is =
-      let below : k < length rows = subst (λ (q : Option ℕ). IfSome q (λ n. n < length rows)) is inside in
-      let r = a_row rows k below in
-      let led = row_found R rows (first ∷ names) o k r.0 is inside (sym (get_or_from_slice_get rows k r.0 r.0 r.1)) (leads R rows rising text name place within o inside long directory last to first names path) in
-      ap (λ (m : Option ℕ). is_some m) led.leads
+found_some R rows text name d used o long directory last to first names path = by o refl where
+  by : (k : Option (Bor Row)) → o ≡ k → is_some (found (tree_of R rows) (first ∷ names)) ≡ is_some k
+  by None is = ap (λ (m : Option ℕ). is_some m) (none R rows text name d used o long directory last to first names path is)
+  by (Some r) is = let led = row_leads R rows text name d used o long directory last to first names path r is in ap (λ (m : Option ℕ). is_some m) led.leads
 
 -- a row that is no directory's is a file's
 pub is_file : (kind : Kind) → is_directory kind ≡ false → kind ≡ File
@@ -115,7 +107,3 @@ is_file Directory no_directory = absurd (cc)
 
 pub few_links : (links : ℕ) → nat_le 1000 links ≡ false → links < 1000
 few_links links few = grind (arith, nat_tests)
-
--- what is read twice at a place is the same
-pub same_place : (rows : List Row) (k : ℕ) (a b : Row) → k < length rows → a ≡ get_or rows k a → b ≡ get_or rows k b → b ≡ a
-same_place rows k a b inside is other_is = one_row (sym (placed_row rows k b inside other_is) ∙ placed_row rows k a inside is)

@@ -5,11 +5,10 @@ use Rattle.std.proofs.lemmas.Bool.Decides.{nat_tests}
 use Rattle.nv_region.specs.Region.{Region}
 use Rattle.nv_super.specs.declared.kind.Kind.{Kind}
 use Rattle.nv_super.specs.declared.kind.Kind.TheVariants.{File, Directory}
-use Rattle.nv_super.specs.Order.{Rises}
 use Rattle.nv_names.specs.Names.{found_in, name_at}
 use Rattle.nv_names.proofs.Listing.{empty-found_in}
 use Rattle.nv_scan.specs.declared.piece.Row.{Row}
-use Rattle.nv_held.specs.nv_check.Cross.{row_key}
+use Rattle.nv_held.specs.nv_named.Read.{row_of}
 use Rattle.nv_tree.specs.declared.refusal.Refusal.{Refusal}
 use Rattle.nv_tree.specs.declared.refusal.Refusal.TheVariants.{BadName, IsDirectory, NotDirectory, NotEmpty, NotFound, Stopped}
 use Rattle.nv_tree.specs.Path.{IsPath, Says}
@@ -17,7 +16,6 @@ use Rattle.nv_tree.specs.Tree.{Node, Tree, found, is_directory, walk}
 use Rattle.nv_tree.specs.Refusals.{Path, Tests, World, count_at, first_refusal, has_names, has_no_space, is_bad_name, is_dir, is_directory_at, is_missing, is_no_dir, refused_walk, rmdir_tests, target, unlink_tests, walk_tests, writing}
 use Rattle.nv_calls.specs.NamedAt.{IsNamedAt, named_tests, rmdir_spot_tests, unlink_spot_tests}
 use Rattle.nv_calls.specs.Seen.{node_of, tree_of}
-use Rattle.nv_calls.proofs.RowOf.{row_at}
 use Rattle.nv_calls.proofs.Tests.{passed_before, refused_before, walk_goes_on}
 
 -- ---- the tests before that for space
@@ -89,7 +87,7 @@ full : (es : List (List ℕ × ℕ × ℕ)) → (((q : List ℕ) → found_in es
 full [] some = absurd (some (λ q. refl))
 full (x ∷ es) some = omega arith
 
-module _ (R : Region) (rows : List Row) (rising : Rises row_key rows) (text name : List ℕ) (place goal : ℕ) (row : Row) (at : slice_get rows goal ≡ Some row) (spot : (names : List (List ℕ)) → IsPath text names → IsNamedAt (tree_of R rows) rows names place name goal)
+module _ (R : Region) (rows : List Row) (text name : List ℕ) (place goal : ℕ) (row : Row) (held : row_of rows row.inode ≡ Some row) (at : slice_get rows goal ≡ Some row) (spot : (names : List (List ℕ)) → IsPath text names → IsNamedAt (tree_of R rows) rows names place name goal)
     (p : Path) (says : Says text p) (none : first_refusal (named_tests (tree_of R rows) p) ≡ None) where
   abbrev t : Tree
   t = tree_of R rows
@@ -101,7 +99,7 @@ module _ (R : Region) (rows : List Row) (rising : Rises row_key rows) (text name
     by (Some names) says none = (spot names says).leads row at
 
   shown : t row.inode ≡ Some (node_of R row)
-  shown = ap (λ (o : Option Row). option_map (node_of R) o) (row_at rows goal row rising at)
+  shown = ap (λ (o : Option Row). option_map (node_of R) o) held
 
   is_one : option_map_or (is_directory_at t) (target t p) false ≡ is_directory row.kind
   is_one = ap (λ (o : Option ℕ). option_map_or (is_directory_at t) o false) leads_to ∙ ap (λ (o : Option Node). option_map_or (λ (node : Node). is_directory node.kind) o false) shown

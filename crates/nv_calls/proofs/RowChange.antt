@@ -1,5 +1,5 @@
 -- A mounted file system once one row was replaced: what it keeps, and the tree that it shows.
-use Rattle.std.proofs.Common.{◌≡◌, ◌≢◌, ℕ, zero, suc, ◌/◌, ◌<◌, inl, inr, nat_eq, Bool, true, false, cond, List, [], ◌∷◌, length, get_or, set, slice_get, refl, ap, sym, ◌∙◌, subst, arith, Option, Some, None}
+use Rattle.std.proofs.Common.{◌≡◌, Result, Ok, Err, IfOk, Bor, ◌≢◌, ℕ, zero, suc, ◌/◌, ◌<◌, inl, inr, nat_eq, Bool, true, false, cond, List, [], ◌∷◌, length, get_or, set, slice_get, refl, ap, sym, ◌∙◌, subst, arith, Option, Some, None}
 use Rattle.std.specs.List.{Contains}
 use Rattle.std.specs.Option.{option_map}
 use Rattle.std.proofs.Math.Logic.{∥∥₁_map}
@@ -21,6 +21,7 @@ use Rattle.nv_held.specs.nv_outcome.Same.{SameRow, SameRows}
 use Rattle.nv_scan.specs.declared.piece.Row.{Row}
 use Rattle.nv_held.specs.nv_check.Cross.{row_key}
 use Rattle.nv_held.specs.nv_named.Read.{row_of}
+use Rattle.nv_tree.specs.declared.refusal.Refusal.{Refusal}
 use Rattle.nv_held.specs.Held.{Held, Store, with_inode}
 use Rattle.nv_held.specs.Bytes.{byte_in}
 use Rattle.nv_held.specs.Mounted.{IsMounted, KeepsRow, KeepsRows, ShowsSound}
@@ -67,6 +68,10 @@ row_there (x ∷ rows) j r e = by (nat_eq x.inode j) (row_there rows j r) e wher
   by : (b : Bool) → (row_of rows j ≡ Some r → Contains rows r) → cond b (Some x) (row_of rows j) ≡ Some r → Contains (x ∷ rows) r
   by true rest e = (let same : x ≡ r = cc in subst (λ (q : Row). Contains (x ∷ rows) q) same (Contains-head x rows))
   by false rest e = Contains-tail x rows r (rest e)
+
+pub each_there : (rows : List Row) (r : Result (Bor Row) Refusal) → IfOk r (λ x. row_of rows x.now.inode ≡ Some x.now) → IfOk r (λ x. Contains rows x.now)
+each_there rows (Ok x) held = row_there rows x.now.inode x.now held
+each_there rows (Err e) held = tt
 
 pub at_set : (rows : List Row) (place : ℕ) (new : Row) → place < length rows → slice_get (set rows place new) place ≡ Some new
 at_set [] place new inside = absurd (omega (arith, inside))

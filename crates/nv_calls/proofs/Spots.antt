@@ -12,7 +12,8 @@ use Rattle.nv_tree.specs.Tree.{as_directory, is_directory, walk}
 use Rattle.nv_tree.specs.Refusals.{Path, is_bad_name}
 use Rattle.nv_held.specs.nv_named.Read.{row_of}
 use Rattle.nv_calls.specs.Seen.{node_of, tree_of}
-use Rattle.nv_calls.proofs.Targets.{numbered, said}
+use Rattle.nv_rows.proofs.Places.{numbered}
+use Rattle.nv_calls.proofs.Targets.{said}
 use Rattle.nv_calls.proofs.Walks.{longer, one_byte, some_names, walk_ends}
 
 -- ---- paths with a name
@@ -45,13 +46,9 @@ module _ (R : Region) (rows : List Row) (text : List ℕ) (names : List (List �
   ended : as_directory d (tree_of R rows d) ≡ Ok d
   ended = let w = some_names text names some spells in walk_ends (tree_of R rows) 1 d w.0 w.1 (ap (walk (tree_of R rows) 1) (sym w.2) ∙ walked)
 
-  -- where a walk ended a directory has a row
-  pub spot_none : row_of rows d ≡ None → ⊥
-  spot_none none = let clash = sym (ap (λ (o : Option Row). as_directory d (option_map (node_of R) o)) none) ∙ ended in cc
-
-  pub spot_found : (place : ℕ) (row : Row) → slice_get rows place ≡ row_of rows d → slice_get rows place ≡ Some row → (walk (tree_of R rows) 1 names ≡ Ok row.inode) × (row.kind ≡ Directory)
-  spot_found place row here is =
-      let there : row_of rows d ≡ Some row = sym here ∙ is in (
-        walked ∙ ap (λ (i : ℕ). Ok i) (sym (numbered rows d row there)),
-        kind_told d row.kind (sym (ap (λ (o : Option Row). as_directory d (option_map (node_of R) o)) there) ∙ ended),
-      )
+  -- the row of the directory where it ended
+  pub spot_found : (row : Row) → row_of rows d ≡ Some row → (walk (tree_of R rows) 1 names ≡ Ok row.inode) × (row.kind ≡ Directory)
+  spot_found row there = (
+    walked ∙ ap (λ (i : ℕ). Ok i) (sym (numbered rows d row there)),
+    kind_told d row.kind (sym (ap (λ (o : Option Row). as_directory d (option_map (node_of R) o)) there) ∙ ended),
+  )

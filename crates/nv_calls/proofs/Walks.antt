@@ -1,5 +1,5 @@
 -- Where paths lead among rows: a step of a walk, where it is refused, and its end.
-use Rattle.std.proofs.Common.{◌≡◌, ℕ, ◌<◌, Bool, eqb, true, false, is_some, cond, All, List, [], ◌∷◌, length, refl, sym, ◌∙◌, ap, subst, arith, Option, Some, None, Result, Ok, Err}
+use Rattle.std.proofs.Common.{◌≡◌, ℕ, ◌<◌, Bool, eqb, true, false, is_some, cond, All, List, [], ◌∷◌, length, refl, sym, ◌∙◌, ap, subst, arith, Option, Some, None, Result, Ok, Err, IfErr}
 use Rattle.std.specs.Option.{option_map, option_and_then}
 use Rattle.std.specs.Result.{result_map_both}
 use Rattle.std.proofs.lemmas.List.Elements.{All-head, All-tail}
@@ -45,6 +45,11 @@ some_names rest [] some s = let e = ap length s.spells in absurd (omega (arith, 
 some_names rest (next ∷ others) some s = (next, others, refl)
 
 -- ---- one step of a walk
+
+-- a walk's refusal, by its answer
+pub refused_so : {A : Type 0} (r : Result A Refusal) (f : A → ℕ) (w : Result ℕ Refusal) → result_map_both f (λ y. y) r ≡ w → IfErr r (λ e. w ≡ Err e)
+refused_so (Ok a) f w told = tt
+refused_so (Err e) f w told = sym told
 
 -- a refusal handed on
 pub told_refused : {A : Type 0} (r : Result A Refusal) (f : A → ℕ) (e x : Refusal) (w : Result ℕ Refusal) → r ≡ Err x → x ≡ e → w ≡ Err e → result_map_both f (λ y. y) r ≡ w

@@ -68,25 +68,14 @@ pub record HasCounted (old : Row) (fresh : List ℕ) (end links time : ℕ) (new
 abbrev pub NamesOnce : Row → Row → Type 0
 NamesOnce old new = EachOnce old.names × EachOnce new.names
 
--- ---- two rows made ready
+-- ---- a row made ready
 
--- The rows at two places are as before but for room: for the pages that these entries take, and for so many names.
-pub record ReadiesRows (rows news : List Row) (i : ℕ) (entries : List Entry) (names j : ℕ) (others : List Entry) (more : ℕ) : Type 0 where
-  pub first : Row
-  pub second : Row
-  pub first_now : Row
-  pub second_now : Row
-  pub at : slice_get rows i ≡ Some first
-  pub other_at : slice_get rows j ≡ Some second
-  pub same : SameRow first first_now
-  pub other_same : SameRow second second_now
-  pub once : NamesOnce first first_now
-  pub other_once : NamesOnce second second_now
-  pub room : vec_len first_now.pages + needed (first.tail % 4096) entries ≤ vec_capacity first_now.pages
-  pub other_room : vec_len second_now.pages + needed (second.tail % 4096) others ≤ vec_capacity second_now.pages
-  pub names_room : names ≤ first_now.names.room
-  pub more_room : more ≤ second_now.names.room
-  pub put : news ≡ set (set rows i first_now) j second_now
+-- The row is as before but for room: for the pages that these entries take, and for so many names.
+pub record ReadiesRow (old new : Row) (entries : List Entry) (names : ℕ) : Type 0 where
+  pub same : SameRow old new
+  pub once : NamesOnce old new
+  pub room : vec_len new.pages + needed (old.tail % 4096) entries ≤ vec_capacity new.pages
+  pub names_room : names ≤ new.names.room
 
 -- ---- the step of two logs
 

@@ -10,7 +10,7 @@ ghost use Rattle.nv_logpage.specs.Append.{AreGiven, needed};
 ghost use Rattle.nv_held.specs.nv_outcome.Same.{SameRow};
 ghost use Rattle.nv_tree.specs.declared.refusal.Refusal.{Refusal as RefusalValue};
 ghost use Rattle.nv_calls.specs.Grown.{StandsRight};
-ghost use Rattle.nv_calls.specs.MoreNames.{AppendsLogs, NamesOnce, ReadiesRows};
+ghost use Rattle.nv_calls.specs.MoreNames.{AppendsLogs, NamesOnce, ReadiesRow};
 ghost use Rattle.nv_calls.specs.NewNames.{CanName};
 ghost use Rattle.nv_calls.specs.Steps.{LeavesStep, RefusesStep};
 ghost use Rattle.nv_calls.specs.Taken.{SamePools, TakesEach};
@@ -129,7 +129,8 @@ fn prepare_logs(
     ensures unchanged { OnErr result (SamePools free.old free.new) }
     ensures row { SameRow row.old row.new }
     ensures other { SameRow other.old other.new }
-    ensures ready { OnOk result (ReadiesRows (row.old ∷ other.old ∷ []) (row.new ∷ other.new ∷ []) 0 first.now.entries.now first.now.names 1 second.now.entries.now second.now.names) }
+    ensures ready { OnOk result (ReadiesRow row.old row.new first.now.entries.now first.now.names) }
+    ensures other_ready { OnOk result (ReadiesRow other.old other.new second.now.entries.now second.now.names) }
 {
     let count = blocks_for(row, first);
     let more = blocks_for(other, second);

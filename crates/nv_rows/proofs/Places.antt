@@ -28,6 +28,9 @@ numbered (x ∷ rows) i row e = by (nat_eq x.inode i) refl (λ rest. numbered ro
       subst (λ (r : Row). r.inode ≡ i) same (tested x.inode i test)
   by false test rest e = rest e
 
+pub own_row : (rows : List Row) (i : ℕ) (row : Row) → row_of rows i ≡ Some row → row_of rows row.inode ≡ Some row
+own_row rows i row e = ap (row_of rows) (numbered rows i row e) ∙ e
+
 -- it stands at the inode's place
 pub at_place : (rows : List Row) (i : ℕ) → slice_get rows (place_in rows i) ≡ row_of rows i
 at_place [] i = refl

@@ -9,7 +9,7 @@ use Rattle.nv_calls.proofs.passing.passes.Given as goal
 -- The whole way passes the inode where the rest of it does, from the directory on.
 abbrev pub invariant-loop-directory : goal.invariant-loop-directory
 invariant-loop-directory l = (0 < length l.rest) × ((names : List (List ℕ)) → Spells l.path names → (left : List (List ℕ)) × Spells l.rest left
-    × ((region : Region) → list_any (eqb l.inode) (passed (tree_of region l.rows) 1 names) ≡ list_any (eqb l.inode) (passed (tree_of region l.rows) l.directory left)))
+    × ((region : Region) → list_any (eqb l.inode) (passed (tree_of region l.rows.items) 1 names) ≡ list_any (eqb l.inode) (passed (tree_of region l.rows.items) l.directory left)))
 
 abbrev pub decreases-loop-directory : goal.decreases-loop-directory
 decreases-loop-directory l = length l.rest

@@ -9,7 +9,7 @@ use Rattle.nv_calls.proofs.walking.walk.Given as goal
 -- The rest of the path leads from the directory on to where the whole leads.
 abbrev pub invariant-loop-row : goal.invariant-loop-row
 invariant-loop-row l = (0 < length l.rest) × ((names : List (List ℕ)) → Spells l.path names → (left : List (List ℕ)) × Spells l.rest left × (last_name names ≡ last_name left)
-    × ((region : Region) → walk (tree_of region l.rows) 1 names ≡ walk (tree_of region l.rows) l.directory left))
+    × ((region : Region) → walk (tree_of region l.rows.items) 1 names ≡ walk (tree_of region l.rows.items) l.directory left))
 
 abbrev pub decreases-loop-row : goal.decreases-loop-row
 decreases-loop-row l = length l.rest
