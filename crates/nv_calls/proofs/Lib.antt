@@ -53,6 +53,7 @@ pub mod CreatedTree
 pub mod CreateTests
 pub mod MadeNamed
 pub mod SetRows
+pub mod TwoRows
 pub mod TwoLogs
 pub mod AppendedLogs
 pub mod BothHeld
