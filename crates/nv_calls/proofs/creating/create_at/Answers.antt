@@ -57,7 +57,7 @@ returns-in_err-made-clause-unchanged g c =
 pub insert-requires-2-clause-within : goal.insert-requires-2-clause-within
 insert-requires-2-clause-within g c =
     let sup : c.insert.new.self.sup ≡ c.args.rows.now.sup = c.insert.ensures.sup ∙ c.take-row.ensures.sup ∙ c.reserve.ensures.sup in
-    let number : c.in_ok-made.made.inode ≡ c.args.new.now.inode = c.in_ok-made.ensures.made.row.inode in
+    let number : c.in_ok-made.field-0.inode ≡ c.args.new.now.inode = c.in_ok-made.ensures.made.row.inode in
     subst (λ (i : ℕ). i < inode_limit c.insert.new.self.sup) (sym number) (subst (λ (s : Super). c.args.new.now.inode < inode_limit s) (sym sup) c.requires.limit)
 
 pub insert-requires-2-clause-vacant : goal.insert-requires-2-clause-vacant
@@ -77,10 +77,10 @@ returns-clause-created g c =
     record {
       row = c.take-row.result;
       now = c.make_named-made.new.directory;
-      made = c.in_ok-made.made;
+      made = c.in_ok-made.field-0;
       at = at_place c.args.rows.now.items c.args.directory ∙ at;
       step = c.in_ok-made.ensures.made;
-      put = subst (λ (rows : List Row). HasInserted rows c.insert-2.new.self.items c.in_ok-made.made) (back c.args.rows.now.items c.take-row.new.self.items c.insert.new.self.items c.args.directory c.take-row.result c.make_named-made.new.directory up at taken (c.make_named-made.ensures.inode ∙ c.take-row.ensures.number) c.insert.ensures.rows) c.insert-2.ensures.rows;
+      put = subst (λ (rows : List Row). HasInserted rows c.insert-2.new.self.items c.in_ok-made.field-0) (back c.args.rows.now.items c.take-row.new.self.items c.insert.new.self.items c.args.directory c.take-row.result c.make_named-made.new.directory up at taken (c.make_named-made.ensures.inode ∙ c.take-row.ensures.number) c.insert.ensures.rows) c.insert-2.ensures.rows;
     }
 
 pub returns-clause-enough : goal.returns-clause-enough
