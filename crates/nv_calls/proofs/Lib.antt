@@ -91,6 +91,7 @@ pub mod GraphPaths
 pub mod MovedEntries
 pub mod MovedAcross
 pub mod MovedWithin
+pub mod OneOut
 pub mod MovedAt
 pub mod MoveSpots
 pub mod MovedRow
