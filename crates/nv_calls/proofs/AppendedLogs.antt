@@ -1,5 +1,5 @@
 -- Two logs that were grown and whose rows were settled: what is owed before the commit, and what was done.
-use Rattle.std.proofs.Common.{◌≡◌, ◌≢◌, ℕ, ◌+◌, ◌/◌, ◌%◌, ◌<◌, ◌≤◌, List, [], ◌∷◌, ◌++◌, length, take, drop, set, slice_get, ap, sym, ◌∙◌, subst, arith, Some, Bool, true, false, cond, vec_len, vec_capacity, length-set}
+use Rattle.std.proofs.Common.{◌≡◌, refl, ◌≢◌, ℕ, ◌+◌, ◌/◌, ◌%◌, ◌<◌, ◌≤◌, List, [], ◌∷◌, ◌++◌, length, take, drop, set, slice_get, ap, sym, ◌∙◌, subst, arith, Some, Bool, true, false, cond, vec_len, vec_capacity, length-set}
 use Rattle.std.proofs.lemmas.List.{length-drop, length-take-le, take-append-drop}
 use Rattle.std.proofs.lemmas.Option.{get_or_from_slice_get, slice_get_within}
 use Rattle.nv_region.specs.Region.{Region, size}
@@ -22,7 +22,7 @@ use Rattle.nv_commit.specs.Extends.{with_log}
 use Rattle.nv_commit.specs.Together.{CanCommit, CanExtendTwo, ShowsIdle, TogetherWords, with_logs}
 use Rattle.nv_commit.proofs.BytesStay.{together_bytes}
 use Rattle.nv_calls.specs.Grown.{HasGrown, StandsRight}
-use Rattle.nv_calls.specs.MoreNames.{AppendsLogs, GrowsSame, NamesOnce, ReadiesRows}
+use Rattle.nv_calls.specs.MoreNames.{AppendsLogs, GrowsSame, NamesOnce, ReadiesRow}
 use Rattle.nv_calls.specs.NewNames.{CanName}
 use Rattle.nv_calls.specs.Steps.{ShowsRow}
 use Rattle.nv_calls.specs.Taken.{TakesEach}

@@ -1,17 +1,11 @@
 -- A row put in among others that rise by number.
-use Rattle.std.proofs.Common.{◌≡◌, ◌≢◌, ℕ, zero, suc, ◌⊎◌, inl, inr, ◌<◌, ◌≤◌, nat_cmp, nat_eq, Bool, true, false, cond, List, [], ◌∷◌, length, get_or, ap, sym, ◌∙◌, subst, arith, Option, Some, None, Result, Ok, Err}
+use Rattle.std.proofs.Common.{◌≡◌, ◌≢◌, ℕ, zero, suc, ◌⊎◌, inl, inr, nat_eq, Bool, true, false, cond, List, [], ◌∷◌, ap, sym, subst, arith, Option, Some, None}
 use Rattle.std.specs.List.{Contains, insert}
-use Rattle.std.specs.List.Sorted.{IsBinarySearchResult, IsSearchInRange}
-use Rattle.std.specs.declared.cmp.Ordering.TheVariants.{Less, Greater}
 use Rattle.std.proofs.lemmas.Bool.Decides.{nat_tests}
-use Rattle.nv_super.specs.Order.{Rises}
-use Rattle.nv_super.proofs.Rising.{Below, Contains-cons, Contains-head, Contains-tail, below_first, head_least, rises_cons, tail_rises}
+use Rattle.nv_super.proofs.Rising.{Contains-cons, Contains-head, Contains-tail}
 use Rattle.nv_super.proofs.Members.{none_in}
 use Rattle.nv_scan.specs.declared.piece.Row.{Row}
-use Rattle.nv_held.specs.nv_check.Cross.{row_key}
 use Rattle.nv_held.specs.nv_named.Read.{row_of}
-use Rattle.nv_calls.specs.NewNames.{HasInserted, IsPlaceFor}
-use Rattle.nv_calls.proofs.RowOf.{index_rises, inodes_rise, none_within, searched_row}
 
 -- each row is one of before or the new one
 pub from_inserted : (rows : List Row) (k : ℕ) (x r : Row) → Contains (insert rows k x) r → Contains rows r ⊎ (r ≡ x)

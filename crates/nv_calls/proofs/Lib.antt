@@ -53,6 +53,7 @@ pub mod CreatedTree
 pub mod CreateTests
 pub mod MadeNamed
 pub mod SetRows
+pub mod TwoRows
 pub mod TwoLogs
 pub mod AppendedLogs
 pub mod BothHeld
@@ -90,6 +91,7 @@ pub mod GraphPaths
 pub mod MovedEntries
 pub mod MovedAcross
 pub mod MovedWithin
+pub mod OneOut
 pub mod MovedAt
 pub mod MoveSpots
 pub mod MovedRow

@@ -1,5 +1,5 @@
 -- The choice between one directory and two.
-use Rattle.std.proofs.Common.{◌≡◌, ◌≢◌, ℕ, ◌+◌, ◌%◌, cond, nat_eq, Bool, true, false, List, set, slice_get, ap, sym, ◌∙◌, arith, inl, Some, Result, Ok, Err, IfErr, OnOk}
+use Rattle.std.proofs.Common.{◌≡◌, ◌≢◌, ℕ, ◌+◌, ◌%◌, cond, nat_eq, Bool, true, false, List, set, slice_get, ap, sym, ◌∙◌, subst, arith, inl, Some, Result, Ok, Err, IfErr, OnOk}
 use Rattle.std.proofs.lemmas.Bool.Decides.{nat_tests}
 use Rattle.nv_region.specs.Region.{Region}
 use Rattle.nv_super.specs.declared.superblock.Super.{Super}
@@ -28,10 +28,16 @@ within_count place end from to i name other time same =
     let on : nat_eq place end ≡ true = grind (arith, nat_tests) in
     ap (λ (b : Bool). cond b (needed (from.tail % 4096) (move_entries i name other time)) (needed (from.tail % 4096) (name_entries Remove i name time) + needed (to.tail % 4096) (name_entries Add i other time))) on
 
+-- how many blocks the entries take, by another's words for the same
+pub here_count : {a from : Row} {i j : ℕ} {n name o other : List ℕ} {t time : ℕ} → a ≡ from → i ≡ j → n ≡ name → o ≡ other → t ≡ time → needed (a.tail % 4096) (move_entries i n o t) ≡ needed (from.tail % 4096) (move_entries j name other time)
+here_count from_is number name_is other_is time_is = λ k. needed ((from_is k).tail % 4096) (move_entries (number k) (name_is k) (other_is k) (time_is k))
+
 -- In one directory.
-pub moves_here : {R S : Region} {s : Super} {free after : FreeLists} (rows : List Row) {place end target time : ℕ} {name other : List ℕ} (row now moved : Row) → place ≡ end → slice_get rows end ≡ Some row → slice_get rows target ≡ Some moved → MovesWithin R S s free after row now moved.inode name other time
-    → MovesAt R S s free after rows (set rows end now) place target end name other time
-moves_here rows row now moved same at moved_at step = inl (
+pub moves_here : {R S : Region} {s : Super} {free after : FreeLists} (rows : List Row) {place end target i : ℕ} {n name o other : List ℕ} {t time : ℕ} (row now moved : Row) → place ≡ end → slice_get rows end ≡ Some row → slice_get rows target ≡ Some moved → i ≡ moved.inode → n ≡ name → o ≡ other → t ≡ time
+    → MovesWithin R S s free after row now i n o t → MovesAt R S s free after rows (set rows end now) place target end name other time
+moves_here {R} {S} {s} {free} {after} rows {i = i} {n = n} {name = name} {o = o} {other = other} {t = t} {time = time} row now moved same at moved_at number name_is other_is time_is step =
+  let words : (i, n, o, t) ≡ (moved.inode, name, other, time) = λ k. (number k, name_is k, other_is k, time_is k) in
+  inl (
   same,
   record {
     row = row;
@@ -39,7 +45,7 @@ moves_here rows row now moved same at moved_at step = inl (
     moved = moved;
     at = ap (slice_get rows) same ∙ at;
     moved_at = moved_at;
-    step = step;
+    step = subst (λ (w : ℕ × List ℕ × List ℕ × ℕ). MovesWithin R S s free after row now w.0 w.1 w.2 w.3) words step;
     put = ap (λ (k : ℕ). set rows k now) (sym same);
   },
 )

@@ -1,65 +1,85 @@
 -- A name that went from one directory to another, once both logs have grown and the rows are settled.
-use Rattle.std.proofs.Common.{◌≡◌, ◌≢◌, ℕ, ◌-◌, List, set, slice_get, ap, sym, ◌∙◌, subst, Some}
+use Rattle.std.proofs.Common.{◌≡◌, ℕ, ◌+◌, ◌-◌, ◌%◌, List, [], ◌∷◌, slice_get, refl, sym, subst, Some}
 use Rattle.nv_region.specs.Region.{Region}
 use Rattle.nv_super.specs.declared.superblock.Super.{Super}
 use Rattle.nv_alloc.specs.FreeValue.{FreeLists}
+use Rattle.nv_entry.specs.declared.entry.Entry.{Entry}
 use Rattle.nv_entry.specs.declared.entry.Entry.TheVariants.{Name}
 use Rattle.nv_entry.specs.declared.entry.Operation.TheVariants.{Add, Remove}
 use Rattle.nv_entry.specs.Spelling.{entry_length}
-use Rattle.nv_logpage.specs.Append.{end_of}
+use Rattle.nv_logpage.specs.Append.{end_of, needed}
 use Rattle.nv_names.specs.Names.{EachOnce}
 use Rattle.nv_scan.specs.declared.piece.Row.{Row}
-use Rattle.nv_calls.specs.MoreNames.{AddsName, AppendsLogs}
+use Rattle.nv_calls.specs.MoreNames.{AddsName, AppendsLogs, GetsName, GrowsSame, GrowsTwo}
 use Rattle.nv_calls.specs.MoveCalls.{MovesAcross}
 use Rattle.nv_calls.specs.NameCalls.{name_entries}
-use Rattle.nv_calls.specs.Unlinks.{DropsName}
+use Rattle.nv_calls.specs.Unlinks.{DropsName, LosesName}
 use Rattle.nv_calls.proofs.LinkedAt.{adds_after}
 use Rattle.nv_calls.proofs.MadeNamed.{place_is}
 use Rattle.nv_calls.proofs.PutRow.{one_row}
-use Rattle.nv_calls.proofs.SetRows.{both_twice, first_set, second_set}
-use Rattle.nv_calls.proofs.TakenOut.{other_set}
 use Rattle.nv_calls.proofs.UnlinkedAt.{drops_after}
 
-module _ {R S : Region} {s : Super} {free after : FreeLists} {rows mid : List Row} {place end time : ℕ} {name other : List ℕ} (target : ℕ) (moved : Row) (moved_at : slice_get rows target ≡ Some moved)
-    (grew : AppendsLogs R S s free after rows mid place (name_entries Remove moved.inode name time) end (name_entries Add moved.inode other time)) (differ : place ≢ end) where
-  from_there : slice_get mid place ≡ Some grew.step.first_now
-  from_there = let step = grew.step in ap (λ (rs : List Row). slice_get rs place) step.put ∙ first_set rows place end grew.first grew.second step.first_now step.second_now step.at step.other_at differ
+module _ {R S : Region} {s : Super} {free after : FreeLists} {from to a b : Row} {i time : ℕ} {name other : List ℕ}
+    (grew : AppendsLogs R S s free after (from ∷ to ∷ []) (a ∷ b ∷ []) 0 (name_entries Remove i name time) 1 (name_entries Add i other time)) where
+  abbrev cut : List Entry
+  cut = name_entries Remove i name time
 
-  to_there : slice_get mid end ≡ Some grew.step.second_now
-  to_there = let step = grew.step in ap (λ (rs : List Row). slice_get rs end) step.put ∙ second_set rows place end grew.first grew.second step.first_now step.second_now step.at step.other_at differ
+  abbrev put : List Entry
+  put = name_entries Add i other time
+
+  -- by the rows that were there
+  grown : GrowsTwo R S s free after (from ∷ to ∷ []) (a ∷ b ∷ []) 0 from cut 1 to put (λ fresh now. GrowsSame from fresh (end_of fresh 0 from.tail cut) now) (λ more now. GrowsSame to more (end_of more 0 to.tail put) now)
+  grown =
+      let step = grew.step in
+      let first_is : from ≡ grew.first = one_row step.at in
+      let second_is : to ≡ grew.second = one_row step.other_at in
+      subst (λ (r : Row). GrowsTwo R S s free after (from ∷ to ∷ []) (a ∷ b ∷ []) 0 r cut 1 to put (λ fresh now. GrowsSame r fresh (end_of fresh 0 r.tail cut) now) (λ more now. GrowsSame to more (end_of more 0 to.tail put) now)) (sym first_is)
+      (subst (λ (r : Row). GrowsTwo R S s free after (from ∷ to ∷ []) (a ∷ b ∷ []) 0 grew.first cut 1 r put (λ fresh now. GrowsSame grew.first fresh (end_of fresh 0 grew.first.tail cut) now) (λ more now. GrowsSame r more (end_of more 0 r.tail put) now)) (sym second_is) grew.step)
 
   -- Both rows are settled.
-  pub moves_at_places : {c d : Row} (a b told : Row) (len : ℕ) → slice_get mid place ≡ Some a → DropsName a name time c → EachOnce c.names → slice_get (set mid place c) end ≡ Some told → len ≡ entry_length (Name (record { operation = Add; inode = moved.inode; time = time; name = other })) → slice_get (set mid place c) end ≡ Some b
-      → AddsName b other moved.inode (told.tail - len) time d → EachOnce d.names → MovesAcross R S s free after rows (set (set mid place c) end d) place target end name other time
-  moves_at_places {c} {d} a b told len a_at drops once_c told_at length_is b_at adds once_d =
-      let step = grew.step in
-      let first_is : a ≡ step.first_now = one_row (sym a_at ∙ from_there) in
-      let second_is : b ≡ step.second_now = one_row (sym b_at ∙ other_set mid place end c differ ∙ to_there) in
-      let told_is : told ≡ step.second_now = one_row (sym told_at ∙ other_set mid place end c differ ∙ to_there) in
-      let drops_now : DropsName step.first_now name time c = subst (λ (r : Row). DropsName r name time c) first_is drops in
-      let adds_now : AddsName step.second_now other moved.inode (told.tail - len) time d = subst (λ (r : Row). AddsName r other moved.inode (told.tail - len) time d) second_is adds in
-      let got = step.other_is in
-      let ends : told.tail ≡ end_of step.more 0 grew.second.tail (name_entries Add moved.inode other time) = ap (λ (r : Row). r.tail) told_is ∙ got.tail in
+  pub moves_both : {c d : Row} (len : ℕ) → DropsName a name time c → EachOnce c.names → len ≡ entry_length (Name (record { operation = Add; inode = i; time = time; name = other })) → AddsName b other i (b.tail - len) time d → EachOnce d.names
+      → GrowsTwo R S s free after (from ∷ to ∷ []) (c ∷ d ∷ []) 0 from cut 1 to put (λ fresh now. LosesName from name i time fresh now) (λ more now. GetsName to other i time more now)
+  moves_both {c} {d} len drops once_c length_is adds once_d =
+      let step = grown in
+      let first_is : a ≡ step.first_now = (let e = step.put in cc) in
+      let second_is : b ≡ step.second_now = (let e = step.put in cc) in
+      let lost = subst (λ (r : Row). GrowsSame from step.fresh (end_of step.fresh 0 from.tail cut) r) (sym first_is) step.is in
+      let got = subst (λ (r : Row). GrowsSame to step.more (end_of step.more 0 to.tail put) r) (sym second_is) step.other_is in
+      let ends : b.tail ≡ end_of step.more 0 to.tail put = got.tail in
       record {
-        from = grew.first;
-        to = grew.second;
-        moved = moved;
-        moved_at = moved_at;
-        step = record {
-          first_now = c;
-          second_now = d;
-          at = step.at;
-          other_at = step.other_at;
-          fresh = step.fresh;
-          more = step.more;
-          taken = step.taken;
-          count = step.count;
-          more_count = step.more_count;
-          is = drops_after name time step.is drops_now;
-          other_is = adds_after other moved.inode time step.other_is adds_now (place_is told.tail len step.more grew.second.tail moved.inode other time ends length_is);
-          once = (step.once.0, once_c);
-          other_once = (step.other_once.0, once_d);
-          put = ap (λ (rs : List Row). set (set rs place c) end d) step.put ∙ both_twice rows place end step.first_now step.second_now c d differ;
-          shows = step.shows;
-        };
+        first_now = c;
+        second_now = d;
+        at = refl;
+        other_at = refl;
+        fresh = step.fresh;
+        more = step.more;
+        taken = step.taken;
+        count = step.count;
+        more_count = step.more_count;
+        is = drops_after name time lost drops;
+        other_is = adds_after other i time got adds (place_is b.tail len step.more to.tail i other time ends length_is);
+        once = (step.once.0, once_c);
+        other_once = (step.other_once.0, once_d);
+        put = refl;
+        shows = step.shows;
       }
+
+-- ---- the words of the entries
+
+-- how many blocks they take
+pub both_count : {a from b to : Row} {i j : ℕ} {n name o other : List ℕ} {t time : ℕ} → a ≡ from → b ≡ to → i ≡ j → n ≡ name → o ≡ other → t ≡ time
+    → needed (a.tail % 4096) (name_entries Remove i n t) + needed (b.tail % 4096) (name_entries Add i o t) ≡ needed (from.tail % 4096) (name_entries Remove j name time) + needed (to.tail % 4096) (name_entries Add j other time)
+both_count from_is to_is number name_is other_is time_is = λ k. needed ((from_is k).tail % 4096) (name_entries Remove (number k) (name_is k) (time_is k)) + needed ((to_is k).tail % 4096) (name_entries Add (number k) (other_is k) (time_is k))
+
+pub moves_across : {R S : Region} {s : Super} {free after : FreeLists} {rows news : List Row} {place target end : ℕ} {from to : Row} {i : ℕ} {n name o other : List ℕ} {t time : ℕ} (moved : Row) → slice_get rows target ≡ Some moved → i ≡ moved.inode → n ≡ name → o ≡ other → t ≡ time
+    → GrowsTwo R S s free after rows news place from (name_entries Remove i n t) end to (name_entries Add i o t) (λ fresh now. LosesName from n i t fresh now) (λ more now. GetsName to o i t more now) → MovesAcross R S s free after rows news place target end name other time
+moves_across {R} {S} {s} {free} {after} {rows} {news} {place} {target} {end} {from} {to} {i} {n} {name} {o} {other} {t} {time} moved moved_at number name_is other_is time_is step =
+  let same : (i, n, o, t) ≡ (moved.inode, name, other, time) = λ k. (number k, name_is k, other_is k, time_is k) in
+  record {
+  from = from;
+  to = to;
+  moved = moved;
+  moved_at = moved_at;
+  step = subst (λ (w : ℕ × List ℕ × List ℕ × ℕ). GrowsTwo R S s free after rows news place from (name_entries Remove w.0 w.1 w.3) end to (name_entries Add w.0 w.2 w.3) (λ fresh now. LosesName from w.1 w.0 w.3 fresh now) (λ more now. GetsName to w.2 w.0 w.3 more now))
+      same step;
+}

@@ -8,7 +8,7 @@ use Rattle.std.proofs.lemmas.Bool.Decides.{nat_tests}
 use Rattle.nv_region.specs.Region.{Region}
 use Rattle.nv_super.specs.declared.superblock.Super.{Super}
 use Rattle.nv_super.specs.declared.faults.Fault.{Fault}
-use Rattle.nv_super.specs.Layout.{HasAreas, is_number, system_blocks}
+use Rattle.nv_super.specs.Layout.{HasAreas, inode_limit, is_number, system_blocks}
 use Rattle.nv_journal.specs.Undo.{enqueue, is_sound}
 use Rattle.nv_journal.specs.Pending.{IsEmpty}
 use Rattle.nv_alloc.specs.FreeValue.{FreeLists}
@@ -56,6 +56,9 @@ in_table m cpu cpus tables low below = let rows : suc m * cpus ≤ 32 * tables *
 
 number_by : (s : Super) (j : ℕ) → nat_eq j 0 ≡ false → j < 32 * s.cpus * s.table_blocks → IsTrue (is_number s j)
 number_by s j some below = grind (arith, nat_tests)
+
+pub number_below : (s : Super) (j : ℕ) → IsTrue (is_number s j) → j < inode_limit s
+number_below s j number = grind (arith, nat_tests)
 
 -- No row has it, and it is a number that an inode can have.
 pub unused_is : (s : Super) (rows : List Row) (cpu j : ℕ) → cpu < s.cpus → unused_number s rows cpu ≡ Some j → (row_of rows j ≡ None) × IsTrue (is_number s j)

@@ -1,65 +1,89 @@
-use Rattle.std.proofs.Common.{◌≡◌, ◌∙◌, ◌+◌, ◌%◌, ◌≤◌, List, Some, ap, get_or, refl, set, slice_get, subst, sym}
+use Rattle.std.proofs.Common.{◌≡◌, ◌≢◌, ◌∙◌, ◌+◌, ◌%◌, ◌<◌, ◌≤◌, List, ℕ, Some, None, ap, refl, remove, subst, sym}
 use Rattle.std.proofs.lemmas.Result.{err_from_is_err_and}
+use Rattle.nv_super.specs.Layout.{inode_limit}
+use Rattle.nv_super.specs.Order.{Rises}
+use Rattle.nv_super.specs.declared.superblock.Super.{Super}
 use Rattle.nv_alloc.specs.Taking.{all_blocks}
 use Rattle.nv_entry.specs.declared.entry.Operation.TheVariants.{Add}
 use Rattle.nv_logpage.specs.Append.{needed}
+use Rattle.nv_rows.specs.Rows.{HasInserted, place_in, row_key, row_of}
+use Rattle.nv_rows.proofs.Places.{at_place}
 use Rattle.nv_scan.specs.declared.piece.Row.{Row}
 use Rattle.nv_tree.specs.declared.refusal.Refusal.{Refusal}
 use Rattle.nv_tree.specs.declared.refusal.Refusal.TheVariants.{Stopped}
 use Rattle.nv_calls.specs.NameCalls.{name_entries}
-use Rattle.nv_calls.specs.NewNames.{HasInserted, LeavesRows}
+use Rattle.nv_calls.specs.NewNames.{LeavesRows}
+use Rattle.nv_calls.specs.Steps.{RefusesStep}
 use Rattle.nv_calls.proofs.Listed.{refused_by}
-use Rattle.nv_calls.proofs.OneRow.{placed_row}
-use Rattle.nv_calls.proofs.PutRow.{leaves_all, leaves_set, one_row, set_rises, set_unused}
+use Rattle.nv_calls.proofs.OneOut.{back, left_one, other_row}
+use Rattle.nv_calls.proofs.PutRow.{leaves_all, one_row}
 use Rattle.nv_calls.proofs.creating.create_at.Goals as goal
 
 pub returns-then-free_blocks-pages_needed-clause-unchanged : goal.returns-then-free_blocks-pages_needed-clause-unchanged
 returns-then-free_blocks-pages_needed-clause-unchanged g c off = leaves_all c.args.memory.now c.args.free.now c.args.rows.now.items c.args.rows.now.items refl
 
 pub returns-then-is_err-clause-unchanged : goal.returns-then-is_err-clause-unchanged
-returns-then-is_err-clause-unchanged g c off = leaves_all c.args.memory.now c.args.free.now c.args.rows.now.items c.reserve.new.self.items c.reserve.ensures.items
+returns-then-is_err-clause-unchanged g c off = leaves_all c.args.memory.now c.args.free.now c.args.rows.now.items c.reserve.new.self.items c.reserve.ensures.rows
 
-pub make_named-requires-clause-stands : goal.make_named-requires-clause-stands
-make_named-requires-clause-stands g c =
-    let at : slice_get c.args.rows.now.items c.args.place ≡ Some c.index_mut.result.now = placed_row c.args.rows.now.items c.args.place c.index_mut.result.now c.requires.within (c.index_mut.ensures.value ∙ ap (λ (rows : List Row). get_or rows c.args.place c.index_mut.result.now) c.reserve.ensures.items) in
-    c.requires.stands c.index_mut.result.now at
+pub make_named-made-requires-clause-stands : goal.make_named-made-requires-clause-stands
+make_named-made-requires-clause-stands g c =
+    let at : row_of c.args.rows.now.items c.args.directory ≡ Some c.take-row.result = ap (λ (rows : List Row). row_of rows c.args.directory) (sym c.reserve.ensures.rows) ∙ c.take-row.ensures.row in
+    c.requires.stands c.take-row.result at
 
-pub make_named-requires-clause-can : goal.make_named-requires-clause-can
-make_named-requires-clause-can g c =
-    let at : slice_get c.args.rows.now.items c.args.place ≡ Some c.index_mut.result.now = placed_row c.args.rows.now.items c.args.place c.index_mut.result.now c.requires.within (c.index_mut.ensures.value ∙ ap (λ (rows : List Row). get_or rows c.args.place c.index_mut.result.now) c.reserve.ensures.items) in
-    c.requires.can c.index_mut.result.now at
+pub make_named-made-requires-clause-can : goal.make_named-made-requires-clause-can
+make_named-made-requires-clause-can g c =
+    let at : row_of c.args.rows.now.items c.args.directory ≡ Some c.take-row.result = ap (λ (rows : List Row). row_of rows c.args.directory) (sym c.reserve.ensures.rows) ∙ c.take-row.ensures.row in
+    c.requires.can c.take-row.result at
+
+pub returns-in_err-made-clause-refused : goal.returns-in_err-made-clause-refused
+returns-in_err-made-clause-refused g c row is =
+    let at : row_of c.args.rows.now.items c.args.directory ≡ Some c.take-row.result = ap (λ (rows : List Row). row_of rows c.args.directory) (sym c.reserve.ensures.rows) ∙ c.take-row.ensures.row in
+    let w = err_from_is_err_and c.from_residual.result c.from_residual.ensures.1 in
+    refused_by c.from_residual.result c.in_err-made.field-0.0 w.0
+    (λ (e : Refusal). RefusesStep e (1 + needed (row.tail % 4096) (name_entries Add c.args.new.now.inode c.args.new.now.name.now c.args.new.now.time)) c.args.free.now) w.1 w.2
+    (subst (λ (r : Row). RefusesStep c.in_err-made.field-0.0 (1 + needed (r.tail % 4096) (name_entries Add c.args.new.now.inode c.args.new.now.name.now c.args.new.now.time)) c.args.free.now) (one_row (sym at ∙ is)) c.in_err-made.ensures.refused)
 
 pub returns-in_err-made-clause-unchanged : goal.returns-in_err-made-clause-unchanged
 returns-in_err-made-clause-unchanged g c =
-    let at : slice_get c.args.rows.now.items c.args.place ≡ Some c.index_mut.result.now = placed_row c.args.rows.now.items c.args.place c.index_mut.result.now c.requires.within (c.index_mut.ensures.value ∙ ap (λ (rows : List Row). get_or rows c.args.place c.index_mut.result.now) c.reserve.ensures.items) in
+    let at : row_of c.args.rows.now.items c.args.directory ≡ Some c.take-row.result = ap (λ (rows : List Row). row_of rows c.args.directory) (sym c.reserve.ensures.rows) ∙ c.take-row.ensures.row in
+    let up = subst (λ (rows : List Row). Rises row_key rows) c.reserve.ensures.rows c.take-row.ensures.rising in
+    let taken = c.take-row.ensures.rows ∙ ap (λ (rows : List Row). remove rows (place_in rows c.args.directory)) c.reserve.ensures.rows in
     let w = err_from_is_err_and c.from_residual.result c.from_residual.ensures.1 in
     refused_by c.from_residual.result c.in_err-made.field-0.0 w.0
-    (λ (e : Refusal). (e ≡ Stopped → ⊥) → LeavesRows c.args.memory.now c.make_named.new.memory c.args.free.now c.make_named.new.free c.args.rows.now.items (set c.reserve.new.self.items c.args.place c.make_named.new.directory)) w.1 w.2
-    (λ off. leaves_set c.args.rows.now.items c.reserve.new.self.items c.args.place c.index_mut.result.now c.make_named.new.directory c.reserve.ensures.items at c.args.memory.now c.make_named.new.memory c.args.free.now c.make_named.new.free (c.in_err-made.ensures.unchanged off))
+    (λ (e : Refusal). (e ≡ Stopped → ⊥) → LeavesRows c.args.memory.now c.make_named-made.new.memory c.args.free.now c.make_named-made.new.free c.args.rows.now.items c.insert.new.self.items) w.1 w.2
+    (λ off. left_one c.args.rows.now.items c.take-row.new.self.items c.insert.new.self.items c.args.directory c.take-row.result c.make_named-made.new.directory up at taken (c.make_named-made.ensures.inode ∙ c.take-row.ensures.number) c.insert.ensures.rows
+    c.args.memory.now c.make_named-made.new.memory c.args.free.now c.make_named-made.new.free (c.in_err-made.ensures.unchanged off))
 
-pub insert_row-requires-clause-rising : goal.insert_row-requires-clause-rising
-insert_row-requires-clause-rising g c =
-    let at : slice_get c.args.rows.now.items c.args.place ≡ Some c.index_mut.result.now = placed_row c.args.rows.now.items c.args.place c.index_mut.result.now c.requires.within (c.index_mut.ensures.value ∙ ap (λ (rows : List Row). get_or rows c.args.place c.index_mut.result.now) c.reserve.ensures.items) in
-    set_rises c.args.rows.now.items c.reserve.new.self.items c.args.place c.index_mut.result.now c.make_named.new.directory c.reserve.ensures.items at c.requires.rising c.in_ok-made.ensures.made.directory.inode
+pub insert-requires-2-clause-within : goal.insert-requires-2-clause-within
+insert-requires-2-clause-within g c =
+    let sup : c.insert.new.self.sup ≡ c.args.rows.now.sup = c.insert.ensures.sup ∙ c.take-row.ensures.sup ∙ c.reserve.ensures.sup in
+    let number : c.in_ok-made.field-0.inode ≡ c.args.new.now.inode = c.in_ok-made.ensures.made.row.inode in
+    subst (λ (i : ℕ). i < inode_limit c.insert.new.self.sup) (sym number) (subst (λ (s : Super). c.args.new.now.inode < inode_limit s) (sym sup) c.requires.limit)
 
-pub insert_row-requires-clause-new : goal.insert_row-requires-clause-new
-insert_row-requires-clause-new g c =
-    let at : slice_get c.args.rows.now.items c.args.place ≡ Some c.index_mut.result.now = placed_row c.args.rows.now.items c.args.place c.index_mut.result.now c.requires.within (c.index_mut.ensures.value ∙ ap (λ (rows : List Row). get_or rows c.args.place c.index_mut.result.now) c.reserve.ensures.items) in
-    set_unused c.args.rows.now.items c.reserve.new.self.items c.args.place c.index_mut.result.now c.make_named.new.directory c.reserve.ensures.items at c.requires.rising c.in_ok-made.ensures.made.directory.inode c.in_ok-made.made.inode c.args.new.now.inode c.in_ok-made.ensures.made.row.inode c.requires.unused
+pub insert-requires-2-clause-vacant : goal.insert-requires-2-clause-vacant
+insert-requires-2-clause-vacant g c =
+    let at : row_of c.args.rows.now.items c.args.directory ≡ Some c.take-row.result = ap (λ (rows : List Row). row_of rows c.args.directory) (sym c.reserve.ensures.rows) ∙ c.take-row.ensures.row in
+    let up = subst (λ (rows : List Row). Rises row_key rows) c.reserve.ensures.rows c.take-row.ensures.rising in
+    let taken = c.take-row.ensures.rows ∙ ap (λ (rows : List Row). remove rows (place_in rows c.args.directory)) c.reserve.ensures.rows in
+    let apart : c.args.directory ≢ c.args.new.now.inode = (λ same. (let clash : Some c.take-row.result ≡ None = sym at ∙ ap (row_of c.args.rows.now.items) same ∙ c.requires.unused in cc)) in
+    ap (row_of c.insert.new.self.items) c.in_ok-made.ensures.made.row.inode
+    ∙ other_row c.args.rows.now.items c.take-row.new.self.items c.insert.new.self.items c.args.directory c.take-row.result c.make_named-made.new.directory up at taken (c.make_named-made.ensures.inode ∙ c.take-row.ensures.number) c.insert.ensures.rows c.args.new.now.inode apart ∙ c.requires.unused
 
 pub returns-clause-created : goal.returns-clause-created
 returns-clause-created g c =
-    let at : slice_get c.args.rows.now.items c.args.place ≡ Some c.index_mut.result.now = placed_row c.args.rows.now.items c.args.place c.index_mut.result.now c.requires.within (c.index_mut.ensures.value ∙ ap (λ (rows : List Row). get_or rows c.args.place c.index_mut.result.now) c.reserve.ensures.items) in
+    let at : row_of c.args.rows.now.items c.args.directory ≡ Some c.take-row.result = ap (λ (rows : List Row). row_of rows c.args.directory) (sym c.reserve.ensures.rows) ∙ c.take-row.ensures.row in
+    let up = subst (λ (rows : List Row). Rises row_key rows) c.reserve.ensures.rows c.take-row.ensures.rising in
+    let taken = c.take-row.ensures.rows ∙ ap (λ (rows : List Row). remove rows (place_in rows c.args.directory)) c.reserve.ensures.rows in
     record {
-      row = c.index_mut.result.now;
-      now = c.make_named.new.directory;
-      made = c.in_ok-made.made;
-      at = at;
+      row = c.take-row.result;
+      now = c.make_named-made.new.directory;
+      made = c.in_ok-made.field-0;
+      at = at_place c.args.rows.now.items c.args.directory ∙ at;
       step = c.in_ok-made.ensures.made;
-      put = subst (λ (rows : List Row). HasInserted (set rows c.args.place c.make_named.new.directory) c.insert_row.new.rows.items c.in_ok-made.made) c.reserve.ensures.items c.insert_row.ensures;
+      put = subst (λ (rows : List Row). HasInserted rows c.insert-2.new.self.items c.in_ok-made.field-0) (back c.args.rows.now.items c.take-row.new.self.items c.insert.new.self.items c.args.directory c.take-row.result c.make_named-made.new.directory up at taken (c.make_named-made.ensures.inode ∙ c.take-row.ensures.number) c.insert.ensures.rows) c.insert-2.ensures.rows;
     }
 
 pub returns-clause-enough : goal.returns-clause-enough
 returns-clause-enough g c row is =
-    let at : slice_get c.args.rows.now.items c.args.place ≡ Some c.index_mut.result.now = placed_row c.args.rows.now.items c.args.place c.index_mut.result.now c.requires.within (c.index_mut.ensures.value ∙ ap (λ (rows : List Row). get_or rows c.args.place c.index_mut.result.now) c.reserve.ensures.items) in
+    let at : row_of c.args.rows.now.items c.args.directory ≡ Some c.take-row.result = ap (λ (rows : List Row). row_of rows c.args.directory) (sym c.reserve.ensures.rows) ∙ c.take-row.ensures.row in
     subst (λ (r : Row). 1 + needed (r.tail % 4096) (name_entries Add c.args.new.now.inode c.args.new.now.name.now c.args.new.now.time) ≤ all_blocks c.args.free.now.pools) (one_row (sym at ∙ is)) c.in_ok-made.ensures.enough

@@ -1,43 +1,68 @@
-use Rattle.std.proofs.Common.{◌≡◌, ◌∙◌, ◌+◌, ◌%◌, ◌∷◌, [], Some, ap, set, slice_get, subst, sym, arith}
-use Rattle.std.proofs.lemmas.Result.{err_from_is_err_and}
-use Rattle.nv_entry.specs.declared.entry.Entry.{Entry}
-use Rattle.nv_entry.specs.declared.entry.Operation.TheVariants.{Add, Remove}
-use Rattle.nv_entry.specs.Spelling.{entry_length}
-use Rattle.nv_logpage.specs.Append.{needed}
+use Rattle.std.proofs.Common.{◌≡◌, ◌∙◌, ◌+◌, ◌%◌, ◌≤◌, ◌∷◌, [], ℕ, ap, subst, sym}
+use Rattle.nv_alloc.specs.Taking.{all_blocks}
+use Rattle.nv_scan.specs.declared.piece.Row.{Row}
+use Rattle.nv_rows.specs.Rows.{place_in, row_of}
+use Rattle.nv_rows.proofs.Places.{at_place, numbered, put_two, row_in_use}
 use Rattle.nv_tree.specs.declared.refusal.Refusal.{Refusal}
-use Rattle.nv_calls.specs.MoreNames.{AppendsLogs}
-use Rattle.nv_calls.specs.NameCalls.{name_entries}
 use Rattle.nv_calls.specs.Steps.{RefusesStep}
-use Rattle.nv_calls.proofs.LinkedAt.{grown_within}
-use Rattle.nv_calls.proofs.Listed.{refused_by}
-use Rattle.nv_calls.proofs.MovedAt.{moves_at_places}
-use Rattle.nv_calls.proofs.OneRow.{placed_row}
-use Rattle.nv_calls.proofs.SetRows.{still_within}
-use Rattle.nv_calls.proofs.TakenOut.{other_set}
+use Rattle.nv_calls.proofs.MoveAt.{on_err, on_ok}
+use Rattle.nv_calls.proofs.MovedAt.{both_count, moves_across}
+use Rattle.nv_calls.proofs.PutRow.{one_row}
+use Rattle.nv_calls.proofs.TwoRows.{left_two, lifted, none_put, none_still, row_stays, used_still}
 use Rattle.nv_calls.proofs.renaming.move_across.Goals as goal
 
-pub returns-in_err-append_logs-clause-refused : goal.returns-in_err-append_logs-clause-refused
-returns-in_err-append_logs-clause-refused g c from to inode at other_at inode_at =
-    let w = err_from_is_err_and c.from_residual.result c.from_residual.ensures.1 in
-    refused_by c.from_residual.result c.in_err-append_logs.field-0.0 w.0
-    (λ (e : Refusal). RefusesStep e (needed (from.tail % 4096) (name_entries Remove inode.inode c.args.moved.now.from.name.now c.args.time) + needed (to.tail % 4096) (name_entries Add inode.inode c.args.moved.now.name.now c.args.time)) c.args.free.now) w.1 w.2
-    (subst (λ (x : Entry). RefusesStep c.in_err-append_logs.field-0.0 (needed (from.tail % 4096) (x ∷ []) + needed (to.tail % 4096) (name_entries Add inode.inode c.args.moved.now.name.now c.args.time)) c.args.free.now) c.name_entry.ensures
-    (subst (λ (x : Entry). RefusesStep c.in_err-append_logs.field-0.0 (needed (from.tail % 4096) (c.name_entry.result ∷ []) + needed (to.tail % 4096) (x ∷ [])) c.args.free.now) c.name_entry-2.ensures (c.in_err-append_logs.ensures.refused from to at other_at)))
+pub take-to-requires : goal.take-to-requires
+take-to-requires g c = used_still c.args.rows.now.items c.take-from.new.self.items c.args.moved.now.from.directory c.args.moved.now.directory c.requires.apart c.take-from.ensures.rows c.requires.directory
 
-pub add_name-requires-clause-room : goal.add_name-requires-clause-room
-add_name-requires-clause-room g c =
-    let grew = c.in_ok-append_logs.ensures.appended in
-    let b_at : slice_get (set c.append_logs.new.rows.items c.args.moved.now.from.directory c.remove_name.new.directory) c.args.moved.now.directory ≡ Some c.index_mut-2.result.now = placed_row (set c.append_logs.new.rows.items c.args.moved.now.from.directory c.remove_name.new.directory) c.args.moved.now.directory c.index_mut-2.result.now (still_within c.append_logs.new.rows.items c.args.moved.now.from.directory c.remove_name.new.directory c.args.moved.now.directory (grown_within grew c.args.moved.now.directory c.requires.directory)) c.index_mut-2.ensures.value in
-    let room = c.in_ok-append_logs.ensures.room c.index_mut-2.result.now (sym (other_set c.append_logs.new.rows.items c.args.moved.now.from.directory c.args.moved.now.directory c.remove_name.new.directory c.requires.apart) ∙ b_at) in
-    omega (arith, room)
+pub move_both-done-requires-clause-apart : goal.move_both-done-requires-clause-apart
+move_both-done-requires-clause-apart g c = λ same. c.requires.apart (sym c.take-from.ensures.number ∙ same ∙ c.take-to.ensures.number)
+
+pub move_both-done-requires-clause-stands : goal.move_both-done-requires-clause-stands
+move_both-done-requires-clause-stands g c = c.requires.stands c.take-from.result c.take-from.ensures.row
+
+pub move_both-done-requires-clause-to_stands : goal.move_both-done-requires-clause-to_stands
+move_both-done-requires-clause-to_stands g c =
+    let there = row_stays c.args.rows.now.items c.take-from.new.self.items c.args.moved.now.from.directory c.args.moved.now.directory c.requires.apart c.take-from.ensures.rows c.take-to.result c.take-to.ensures.row in
+    c.requires.other_stands c.take-to.result there
+
+pub insert-requires-2-clause-vacant : goal.insert-requires-2-clause-vacant
+insert-requires-2-clause-vacant g c =
+    let number = c.move_both-done.ensures.inode ∙ c.take-from.ensures.number in
+    let other_number = c.move_both-done.ensures.to_inode ∙ c.take-to.ensures.number in
+    let gone = none_still c.take-from.new.self.items c.take-to.new.self.items c.args.moved.now.directory c.args.moved.now.from.directory (λ e. c.requires.apart (sym e)) c.take-to.ensures.rows c.take-from.ensures.gone in
+    ap (row_of c.insert.new.self.items) number ∙ none_put c.take-to.new.self.items c.insert.new.self.items c.move_both-done.new.to c.args.moved.now.from.directory (λ e. c.requires.apart (e ∙ other_number)) c.insert.ensures.rows gone
 
 pub returns-clause-moved : goal.returns-clause-moved
 returns-clause-moved g c =
-    let grew = c.in_ok-append_logs.ensures.appended in
-    let b_at : slice_get (set c.append_logs.new.rows.items c.args.moved.now.from.directory c.remove_name.new.directory) c.args.moved.now.directory ≡ Some c.index_mut-2.result.now = placed_row (set c.append_logs.new.rows.items c.args.moved.now.from.directory c.remove_name.new.directory) c.args.moved.now.directory c.index_mut-2.result.now (still_within c.append_logs.new.rows.items c.args.moved.now.from.directory c.remove_name.new.directory c.args.moved.now.directory (grown_within grew c.args.moved.now.directory c.requires.directory)) c.index_mut-2.ensures.value in
-    let a_at : slice_get c.append_logs.new.rows.items c.args.moved.now.from.directory ≡ Some c.index_mut.result.now = placed_row c.append_logs.new.rows.items c.args.moved.now.from.directory c.index_mut.result.now (grown_within grew c.args.moved.now.from.directory c.requires.from) c.index_mut.ensures.value in
-    let told_at : slice_get (set c.append_logs.new.rows.items c.args.moved.now.from.directory c.remove_name.new.directory) c.args.moved.now.directory ≡ Some c.index-2.result.now = placed_row (set c.append_logs.new.rows.items c.args.moved.now.from.directory c.remove_name.new.directory) c.args.moved.now.directory c.index-2.result.now (still_within c.append_logs.new.rows.items c.args.moved.now.from.directory c.remove_name.new.directory c.args.moved.now.directory (grown_within grew c.args.moved.now.directory c.requires.directory)) c.index-2.ensures in
-    let inode_at : slice_get c.args.rows.now.items c.args.moved.now.from.target ≡ Some c.index.result.now = placed_row c.args.rows.now.items c.args.moved.now.from.target c.index.result.now c.requires.target c.index.ensures in
-    let one = subst (λ (x : Entry). AppendsLogs (g.P.Pmem.region c.args.memory.now) (g.P.Pmem.region c.append_logs.new.memory) c.args.sup.now c.args.free.now c.append_logs.new.free c.args.rows.now.items c.append_logs.new.rows.items c.args.moved.now.from.directory (x ∷ []) c.args.moved.now.directory (c.name_entry-2.result ∷ [])) c.name_entry.ensures grew in
-    let both = subst (λ (x : Entry). AppendsLogs (g.P.Pmem.region c.args.memory.now) (g.P.Pmem.region c.append_logs.new.memory) c.args.sup.now c.args.free.now c.append_logs.new.free c.args.rows.now.items c.append_logs.new.rows.items c.args.moved.now.from.directory (name_entries Remove c.index.result.now.inode c.args.moved.now.from.name.now c.args.time) c.args.moved.now.directory (x ∷ [])) c.name_entry-2.ensures one in
-    moves_at_places c.args.moved.now.from.target c.index.result.now inode_at both c.requires.apart c.index_mut.result.now c.index_mut-2.result.now c.index-2.result.now c.length.result a_at c.remove_name.ensures.row c.remove_name.ensures.once told_at (c.length.ensures.value ∙ ap entry_length c.name_entry-2.ensures) b_at c.add_name.ensures.row c.add_name.ensures.once
+    let rows = c.args.rows.now.items in
+    let there = row_stays rows c.take-from.new.self.items c.args.moved.now.from.directory c.args.moved.now.directory c.requires.apart c.take-from.ensures.rows c.take-to.result c.take-to.ensures.row in
+    let put = put_two rows c.take-from.new.self.items c.take-to.new.self.items c.insert.new.self.items c.insert-2.new.self.items c.args.moved.now.from.directory c.args.moved.now.directory c.take-from.result c.take-to.result c.move_both-done.new.from c.move_both-done.new.to c.requires.apart
+    c.take-from.ensures.rising c.take-from.ensures.row c.take-from.ensures.rows c.take-to.ensures.rising c.take-to.ensures.row c.take-to.ensures.rows (c.move_both-done.ensures.to_inode ∙ c.take-to.ensures.number) c.insert.ensures.rows (c.move_both-done.ensures.inode ∙ c.take-from.ensures.number) c.insert-2.ensures.rows in
+    let target = row_in_use rows c.args.moved.now.from.target c.requires.target in
+    let number = c.other_name-other.ensures.inode ∙ sym (numbered rows c.args.moved.now.from.target target.0 target.1) in
+    on_ok c.move_both-done.result (λ step. moves_across target.0 (at_place rows c.args.moved.now.from.target ∙ target.1) number c.other_name-other.ensures.name c.other_name-other.ensures.other c.other_name-other.ensures.time
+    (lifted rows c.insert-2.new.self.items c.args.moved.now.from.directory c.args.moved.now.directory c.take-from.result c.take-to.result c.move_both-done.new.from c.move_both-done.new.to c.requires.apart c.take-from.ensures.row there put step)) c.move_both-done.ensures.moved
+
+pub returns-clause-enough : goal.returns-clause-enough
+returns-clause-enough g c from to inode at other_at inode_at =
+    let rows = c.args.rows.now.items in
+    let there = row_stays rows c.take-from.new.self.items c.args.moved.now.from.directory c.args.moved.now.directory c.requires.apart c.take-from.ensures.rows c.take-to.result c.take-to.ensures.row in
+    let number = c.other_name-other.ensures.inode ∙ sym (numbered rows c.args.moved.now.from.target inode inode_at) in
+    let count = both_count (one_row (sym c.take-from.ensures.row ∙ at)) (one_row (sym there ∙ other_at)) number c.other_name-other.ensures.name c.other_name-other.ensures.other c.other_name-other.ensures.time in
+    on_ok c.move_both-done.result (subst (λ (n : ℕ). n ≤ all_blocks c.args.free.now.pools) count) c.move_both-done.ensures.enough
+
+pub returns-clause-refused : goal.returns-clause-refused
+returns-clause-refused g c from to inode at other_at inode_at =
+    let rows = c.args.rows.now.items in
+    let there = row_stays rows c.take-from.new.self.items c.args.moved.now.from.directory c.args.moved.now.directory c.requires.apart c.take-from.ensures.rows c.take-to.result c.take-to.ensures.row in
+    let number = c.other_name-other.ensures.inode ∙ sym (numbered rows c.args.moved.now.from.target inode inode_at) in
+    let count = both_count (one_row (sym c.take-from.ensures.row ∙ at)) (one_row (sym there ∙ other_at)) number c.other_name-other.ensures.name c.other_name-other.ensures.other c.other_name-other.ensures.time in
+    on_err c.move_both-done.result (λ (e : Refusal). subst (λ (n : ℕ). RefusesStep e n c.args.free.now) count) c.move_both-done.ensures.refused
+
+pub returns-clause-unchanged : goal.returns-clause-unchanged
+returns-clause-unchanged g c =
+    let rows = c.args.rows.now.items in
+    let there = row_stays rows c.take-from.new.self.items c.args.moved.now.from.directory c.args.moved.now.directory c.requires.apart c.take-from.ensures.rows c.take-to.result c.take-to.ensures.row in
+    let put = put_two rows c.take-from.new.self.items c.take-to.new.self.items c.insert.new.self.items c.insert-2.new.self.items c.args.moved.now.from.directory c.args.moved.now.directory c.take-from.result c.take-to.result c.move_both-done.new.from c.move_both-done.new.to c.requires.apart
+    c.take-from.ensures.rising c.take-from.ensures.row c.take-from.ensures.rows c.take-to.ensures.rising c.take-to.ensures.row c.take-to.ensures.rows (c.move_both-done.ensures.to_inode ∙ c.take-to.ensures.number) c.insert.ensures.rows (c.move_both-done.ensures.inode ∙ c.take-from.ensures.number) c.insert-2.ensures.rows in
+    on_err c.move_both-done.result (λ (e : Refusal) told off. (let left = told off in left_two rows c.insert-2.new.self.items c.args.moved.now.from.directory c.args.moved.now.directory c.take-from.result c.take-to.result c.move_both-done.new.from c.move_both-done.new.to c.requires.apart c.take-from.ensures.row there put c.args.memory.now c.move_both-done.new.memory c.args.free.now c.move_both-done.new.free left.0 left.1)) c.move_both-done.ensures.unchanged

@@ -1,32 +1,67 @@
-use Rattle.std.proofs.Common.{◌≡◌, ◌+◌, ◌-◌, ◌%◌, ◌∷◌, [], Some, set, slice_get, subst}
-use Rattle.std.proofs.lemmas.Result.{err_from_is_err_and}
-use Rattle.nv_entry.specs.declared.entry.Entry.{Entry}
+use Rattle.std.proofs.Common.{◌≡◌, ◌∙◌, ◌+◌, ◌-◌, ◌%◌, ◌≤◌, ◌∷◌, [], ℕ, ap, subst, sym}
+use Rattle.nv_alloc.specs.Taking.{all_blocks}
 use Rattle.nv_entry.specs.declared.entry.Operation.TheVariants.{Remove}
 use Rattle.nv_logpage.specs.Append.{needed}
+use Rattle.nv_scan.specs.declared.piece.Row.{Row}
+use Rattle.nv_rows.specs.Rows.{row_of}
+use Rattle.nv_rows.proofs.Places.{put_two}
 use Rattle.nv_tree.specs.declared.refusal.Refusal.{Refusal}
 use Rattle.nv_calls.specs.LinkCalls.{links_entries}
-use Rattle.nv_calls.specs.MoreNames.{AppendsLogs}
+use Rattle.nv_calls.specs.Unlinks.{UnlinksAt}
 use Rattle.nv_calls.specs.NameCalls.{name_entries}
 use Rattle.nv_calls.specs.Steps.{RefusesStep}
-use Rattle.nv_calls.proofs.LinkedAt.{grown_within}
-use Rattle.nv_calls.proofs.Listed.{refused_by}
-use Rattle.nv_calls.proofs.OneRow.{placed_row}
-use Rattle.nv_calls.proofs.SetRows.{still_within}
-use Rattle.nv_calls.proofs.UnlinkedAt.{unlinks_at_places}
+use Rattle.nv_calls.proofs.PutRow.{one_row}
+use Rattle.nv_calls.proofs.Released.{on_err, on_ok}
+use Rattle.nv_calls.proofs.TwoRows.{left_two, lifted, none_put, none_still, row_stays, used_still}
 use Rattle.nv_calls.proofs.unlinking.unlink_at.Goals as goal
 
-pub returns-in_err-append_logs-clause-refused : goal.returns-in_err-append_logs-clause-refused
-returns-in_err-append_logs-clause-refused g c row file at other_at =
-    let w = err_from_is_err_and c.from_residual.result c.from_residual.ensures.1 in
-    refused_by c.from_residual.result c.in_err-append_logs.field-0.0 w.0
-    (λ (e : Refusal). RefusesStep e (needed (row.tail % 4096) (name_entries Remove file.inode c.args.named.now.name.now c.args.time) + needed (file.tail % 4096) (links_entries (file.numbers.links - 1) c.args.time)) c.args.free.now) w.1 w.2
-    (subst (λ (x : Entry). RefusesStep c.in_err-append_logs.field-0.0 (needed (row.tail % 4096) (x ∷ []) + needed (file.tail % 4096) (links_entries (file.numbers.links - 1) c.args.time)) c.args.free.now) c.name_entry.ensures (c.in_err-append_logs.ensures.refused row file at other_at))
+pub take-file-requires : goal.take-file-requires
+take-file-requires g c = used_still c.args.rows.now.items c.take-directory.new.self.items c.args.named.now.directory c.args.named.now.target c.requires.apart c.take-directory.ensures.rows c.requires.target
+
+pub unlink_both-done-requires-clause-stands : goal.unlink_both-done-requires-clause-stands
+unlink_both-done-requires-clause-stands g c = c.requires.stands c.take-directory.result c.take-directory.ensures.row
+
+pub unlink_both-done-requires-clause-file_stands : goal.unlink_both-done-requires-clause-file_stands
+unlink_both-done-requires-clause-file_stands g c =
+    let there = row_stays c.args.rows.now.items c.take-directory.new.self.items c.args.named.now.directory c.args.named.now.target c.requires.apart c.take-directory.ensures.rows c.take-file.result c.take-file.ensures.row in
+    c.requires.file_stands c.take-file.result there
+
+pub unlink_both-done-requires-clause-more : goal.unlink_both-done-requires-clause-more
+unlink_both-done-requires-clause-more g c =
+    let there = row_stays c.args.rows.now.items c.take-directory.new.self.items c.args.named.now.directory c.args.named.now.target c.requires.apart c.take-directory.ensures.rows c.take-file.result c.take-file.ensures.row in
+    c.requires.more c.take-file.result there
+
+pub insert-requires-2-clause-vacant : goal.insert-requires-2-clause-vacant
+insert-requires-2-clause-vacant g c =
+    let number = c.unlink_both-done.ensures.inode ∙ c.take-directory.ensures.number in
+    let other_number = c.unlink_both-done.ensures.file_inode ∙ c.take-file.ensures.number in
+    let gone = none_still c.take-directory.new.self.items c.take-file.new.self.items c.args.named.now.target c.args.named.now.directory (λ e. c.requires.apart (sym e)) c.take-file.ensures.rows c.take-directory.ensures.gone in
+    ap (row_of c.insert.new.self.items) number ∙ none_put c.take-file.new.self.items c.insert.new.self.items c.unlink_both-done.new.file c.args.named.now.directory (λ e. c.requires.apart (e ∙ other_number)) c.insert.ensures.rows gone
 
 pub returns-clause-unlinked : goal.returns-clause-unlinked
 returns-clause-unlinked g c =
-    let grew = c.in_ok-append_logs.ensures.appended in
-    let a_at : slice_get c.append_logs.new.rows.items c.args.named.now.directory ≡ Some c.index_mut.result.now = placed_row c.append_logs.new.rows.items c.args.named.now.directory c.index_mut.result.now (grown_within grew c.args.named.now.directory c.requires.directory) c.index_mut.ensures.value in
-    let b_at : slice_get (set c.append_logs.new.rows.items c.args.named.now.directory c.remove_name.new.directory) c.args.named.now.target ≡ Some c.index_mut-2.result.now = placed_row (set c.append_logs.new.rows.items c.args.named.now.directory c.remove_name.new.directory) c.args.named.now.target c.index_mut-2.result.now (still_within c.append_logs.new.rows.items c.args.named.now.directory c.remove_name.new.directory c.args.named.now.target (grown_within grew c.args.named.now.target c.requires.target)) c.index_mut-2.ensures.value in
-    let read_at : slice_get c.args.rows.now.items c.args.named.now.target ≡ Some c.index-file.result.now = placed_row c.args.rows.now.items c.args.named.now.target c.index-file.result.now c.requires.target c.index-file.ensures in
-    let both = subst (λ (x : Entry). AppendsLogs (g.P.Pmem.region c.args.memory.now) (g.P.Pmem.region c.append_logs.new.memory) c.args.sup.now c.args.free.now c.append_logs.new.free c.args.rows.now.items c.append_logs.new.rows.items c.args.named.now.directory (x ∷ []) c.args.named.now.target (links_entries (c.index-file.result.now.numbers.links - 1) c.args.time)) c.name_entry.ensures grew in
-    unlinks_at_places c.index-file.result.now both read_at c.requires.apart c.index_mut.result.now c.index_mut-2.result.now a_at c.remove_name.ensures.row c.remove_name.ensures.once b_at c.set_links.ensures
+    let there = row_stays c.args.rows.now.items c.take-directory.new.self.items c.args.named.now.directory c.args.named.now.target c.requires.apart c.take-directory.ensures.rows c.take-file.result c.take-file.ensures.row in
+    let put = put_two c.args.rows.now.items c.take-directory.new.self.items c.take-file.new.self.items c.insert.new.self.items c.insert-2.new.self.items c.args.named.now.directory c.args.named.now.target c.take-directory.result c.take-file.result c.unlink_both-done.new.directory c.unlink_both-done.new.file c.requires.apart
+    c.take-directory.ensures.rising c.take-directory.ensures.row c.take-directory.ensures.rows c.take-file.ensures.rising c.take-file.ensures.row c.take-file.ensures.rows (c.unlink_both-done.ensures.file_inode ∙ c.take-file.ensures.number) c.insert.ensures.rows (c.unlink_both-done.ensures.inode ∙ c.take-directory.ensures.number) c.insert-2.ensures.rows in
+    on_ok c.unlink_both-done.result (λ (step : UnlinksAt (g.P.Pmem.region c.args.memory.now) (g.P.Pmem.region c.unlink_both-done.new.memory) c.args.sup.now c.args.free.now c.unlink_both-done.new.free (c.take-directory.result ∷ c.take-file.result ∷ []) (c.unlink_both-done.new.directory ∷ c.unlink_both-done.new.file ∷ []) 0 1 c.args.named.now.name.now c.args.time). record { directory = step.directory; file = step.file; step = lifted c.args.rows.now.items c.insert-2.new.self.items c.args.named.now.directory c.args.named.now.target c.take-directory.result c.take-file.result c.unlink_both-done.new.directory c.unlink_both-done.new.file c.requires.apart c.take-directory.ensures.row there put step.step }) c.unlink_both-done.ensures.unlinked
+
+pub returns-clause-enough : goal.returns-clause-enough
+returns-clause-enough g c row file at other_at =
+    let there = row_stays c.args.rows.now.items c.take-directory.new.self.items c.args.named.now.directory c.args.named.now.target c.requires.apart c.take-directory.ensures.rows c.take-file.result c.take-file.ensures.row in
+    let same : c.take-directory.result ≡ row = one_row (sym c.take-directory.ensures.row ∙ at) in
+    let other_same : c.take-file.result ≡ file = one_row (sym there ∙ other_at) in
+    on_ok c.unlink_both-done.result (λ enough. subst (λ (n : ℕ). n ≤ all_blocks c.args.free.now.pools) (ap (λ (r : Row). needed (r.tail % 4096) (name_entries Remove c.take-file.result.inode c.args.named.now.name.now c.args.time) + needed (c.take-file.result.tail % 4096) (links_entries (c.take-file.result.numbers.links - 1) c.args.time)) same ∙ ap (λ (r : Row). needed (row.tail % 4096) (name_entries Remove r.inode c.args.named.now.name.now c.args.time) + needed (r.tail % 4096) (links_entries (r.numbers.links - 1) c.args.time)) other_same) enough) c.unlink_both-done.ensures.enough
+
+pub returns-clause-refused : goal.returns-clause-refused
+returns-clause-refused g c row file at other_at =
+    let there = row_stays c.args.rows.now.items c.take-directory.new.self.items c.args.named.now.directory c.args.named.now.target c.requires.apart c.take-directory.ensures.rows c.take-file.result c.take-file.ensures.row in
+    let same : c.take-directory.result ≡ row = one_row (sym c.take-directory.ensures.row ∙ at) in
+    let other_same : c.take-file.result ≡ file = one_row (sym there ∙ other_at) in
+    on_err c.unlink_both-done.result (λ (e : Refusal) refused. subst (λ (n : ℕ). RefusesStep e n c.args.free.now) (ap (λ (r : Row). needed (r.tail % 4096) (name_entries Remove c.take-file.result.inode c.args.named.now.name.now c.args.time) + needed (c.take-file.result.tail % 4096) (links_entries (c.take-file.result.numbers.links - 1) c.args.time)) same ∙ ap (λ (r : Row). needed (row.tail % 4096) (name_entries Remove r.inode c.args.named.now.name.now c.args.time) + needed (r.tail % 4096) (links_entries (r.numbers.links - 1) c.args.time)) other_same) refused) c.unlink_both-done.ensures.refused
+
+pub returns-clause-unchanged : goal.returns-clause-unchanged
+returns-clause-unchanged g c =
+    let there = row_stays c.args.rows.now.items c.take-directory.new.self.items c.args.named.now.directory c.args.named.now.target c.requires.apart c.take-directory.ensures.rows c.take-file.result c.take-file.ensures.row in
+    let put = put_two c.args.rows.now.items c.take-directory.new.self.items c.take-file.new.self.items c.insert.new.self.items c.insert-2.new.self.items c.args.named.now.directory c.args.named.now.target c.take-directory.result c.take-file.result c.unlink_both-done.new.directory c.unlink_both-done.new.file c.requires.apart
+    c.take-directory.ensures.rising c.take-directory.ensures.row c.take-directory.ensures.rows c.take-file.ensures.rising c.take-file.ensures.row c.take-file.ensures.rows (c.unlink_both-done.ensures.file_inode ∙ c.take-file.ensures.number) c.insert.ensures.rows (c.unlink_both-done.ensures.inode ∙ c.take-directory.ensures.number) c.insert-2.ensures.rows in
+    on_err c.unlink_both-done.result (λ (e : Refusal) told off. (let left = told off in left_two c.args.rows.now.items c.insert-2.new.self.items c.args.named.now.directory c.args.named.now.target c.take-directory.result c.take-file.result c.unlink_both-done.new.directory c.unlink_both-done.new.file c.requires.apart c.take-directory.ensures.row there put c.args.memory.now c.unlink_both-done.new.memory c.args.free.now c.unlink_both-done.new.free left.0 left.1)) c.unlink_both-done.ensures.unchanged

@@ -1,6 +1,7 @@
-use Rattle.std.proofs.Common.{◌≡◌, ◌∙◌, ◌<◌, ◌⊎◌, ◌++◌, ◌+◌, ◌∷◌, [], List, ℕ, Some, None, Ok, false, inr, length, ap, subst, sym}
+use Rattle.std.proofs.Common.{◌≡◌, ◌∙◌, ◌<◌, ◌⊎◌, ◌++◌, ◌+◌, ◌∷◌, [], List, ℕ, Some, None, Ok, false, inr, ap, subst, sym}
 use Rattle.std.proofs.lemmas.Result.{err_from_is_err_and}
-use Rattle.nv_scan.specs.declared.piece.Row.{Row}
+use Rattle.nv_rows.specs.Rows.{place_in}
+use Rattle.nv_rows.proofs.Places.{at_place, own_row, row_in_use}
 use Rattle.nv_held.specs.nv_named.Read.{row_of}
 use Rattle.nv_tree.specs.declared.refusal.Refusal.{Refusal}
 use Rattle.nv_tree.specs.declared.refusal.Refusal.TheVariants.{Memory, Stopped}
@@ -18,8 +19,6 @@ use Rattle.nv_calls.specs.Places.{IsLinkSpot, link_spot_tests}
 use Rattle.nv_calls.specs.Seen.{LeadsTo, tree_of}
 use Rattle.nv_calls.specs.World.{world_of}
 use Rattle.nv_calls.proofs.CreateCall.{kept_or_stopped, unchanged_rows}
-use Rattle.nv_calls.proofs.CreateTests.{a_row}
-use Rattle.nv_calls.proofs.Kept.{rows_rise}
 use Rattle.nv_calls.proofs.LinkCall.{link_allowed, link_refused, linked_kept, linked_logs, linked_tree}
 use Rattle.nv_calls.proofs.LinkSpots.{link_goes_on}
 use Rattle.nv_calls.proofs.LinkTests.{link_refuses}
@@ -28,7 +27,6 @@ use Rattle.nv_calls.proofs.Listed.{refused_by}
 use Rattle.nv_calls.proofs.OneRow.{stands}
 use Rattle.nv_calls.proofs.RowChange.{same_mount}
 use Rattle.nv_calls.proofs.RowNumbers.{row_commits}
-use Rattle.nv_calls.proofs.RowOf.{row_at}
 use Rattle.nv_calls.proofs.SetAttr.{late_reply, not_stop}
 use Rattle.nv_calls.proofs.Tests.{early_reply, if_err, writing_goes_on}
 use Rattle.nv_calls.proofs.fs.Fs.link.Goals as goal
@@ -49,16 +47,11 @@ returns-in_err-writable-clause-stopped g c runs =
     early_reply c.args.self.now.stopped c.from_residual.result c.in_err-writable.field-0.0 w.0 w.1 w.2
     (λ is. writing_goes_on (world_of c.args.self.now) c.args.cpu (c.in_err-writable.ensures.refused runs [] ∙ ap (λ (e : Refusal). Some e) is)) runs
 
-pub link_for-requires : goal.link_for-requires
-link_for-requires g c =
-    let runs : c.self.inside.stopped ≡ false = ap (λ (m : Mount g.row.P.Denot). m.stopped) c.self.view_is ∙ c.in_ok-writable.ensures.runs in
-    rw c.deref.ensures.value (rows_rise (g.P.Pmem.region c.self.inside.memory) c.self.inside.sup c.self.inside.rows.items c.self.inside.free c.self.inside.faults.items c.self.inside.read_only c.self.inside.stopped c.self.invariant runs)
-
 pub returns-in_err-named-clause-refused : goal.returns-in_err-named-clause-refused
 returns-in_err-named-clause-refused g c still p q says says_new =
     let told : first_refusal (link_spot_tests (tree_of (g.P.Pmem.region c.args.self.now.memory) c.args.self.now.rows) p q) ≡ Some c.in_err-named.field-0.0 =
     subst (λ (m : Mount g.row.P.Denot). first_refusal (link_spot_tests (tree_of (g.P.Pmem.region m.memory) m.rows) p q) ≡ Some c.in_err-named.field-0.0) c.self.view_is
-    (subst (λ (rows : List Row). first_refusal (link_spot_tests (tree_of (g.P.Pmem.region c.self.inside.memory) rows) p q) ≡ Some c.in_err-named.field-0.0) c.deref.ensures.value (c.in_err-named.ensures.refused (g.P.Pmem.region c.self.inside.memory) p q says says_new)) in
+    (c.in_err-named.ensures.refused (g.P.Pmem.region c.self.inside.memory) p q says says_new) in
     let w = err_from_is_err_and c.from_residual-in_err-named.result c.from_residual-in_err-named.ensures.1 in
     refused_by c.from_residual-in_err-named.result c.in_err-named.field-0.0 w.0 (λ (e : Refusal). (e ≡ Memory) ⊎ ((e ≡ Stopped) ⊎ (first_refusal (link_tests (world_of c.args.self.now) (tree_of (g.P.Pmem.region c.args.self.now.memory) c.args.self.now.rows) c.args.cpu p q (link_blocks c.args.self.now.rows (tree_of (g.P.Pmem.region c.args.self.now.memory) c.args.self.now.rows) p q)) ≡ Some e))) w.1 w.2
     (inr (inr (link_refuses (world_of c.args.self.now) (tree_of (g.P.Pmem.region c.args.self.now.memory) c.args.self.now.rows) c.args.cpu c.in_ok-writable.ensures.passed p q (link_blocks c.args.self.now.rows (tree_of (g.P.Pmem.region c.args.self.now.memory) c.args.self.now.rows) p q) c.in_err-named.field-0.0 told)))
@@ -74,114 +67,101 @@ returns-in_err-named-clause-stopped g c runs =
     let said_new = text_says c.args.new.now in
     let told = c.in_err-named.ensures.refused (g.P.Pmem.region c.self.inside.memory) said.0 said_new.0 said.1 said_new.1 in
     early_reply c.args.self.now.stopped c.from_residual-in_err-named.result c.in_err-named.field-0.0 w.0 w.1 w.2
-    (λ is. link_goes_on (tree_of (g.P.Pmem.region c.self.inside.memory) c.deref.result.now) said.0 said_new.0 (told ∙ ap (λ (e : Refusal). Some e) is)) runs
+    (λ is. link_goes_on (tree_of (g.P.Pmem.region c.self.inside.memory) c.self.inside.rows.items) said.0 said_new.0 (told ∙ ap (λ (e : Refusal). Some e) is)) runs
 
 pub link_at-requires-clause-apart : goal.link_at-requires-clause-apart
 link_at-requires-clause-apart g c =
-    let spot : (names others : List (List ℕ)) → IsPath c.args.old.now names → IsPath c.args.new.now others → IsLinkSpot (tree_of (g.P.Pmem.region c.self.inside.memory) c.self.inside.rows.items) c.self.inside.rows.items names others c.in_ok-named.named.directory c.in_ok-named.named.name.now c.in_ok-named.named.target =
-    λ names others path other_path. subst (λ (rows : List Row). IsLinkSpot (tree_of (g.P.Pmem.region c.self.inside.memory) rows) rows names others c.in_ok-named.named.directory c.in_ok-named.named.name.now c.in_ok-named.named.target) c.deref.ensures.value (c.in_ok-named.ensures.spot (g.P.Pmem.region c.self.inside.memory) names others path other_path) in
+    let spot : (names others : List (List ℕ)) → IsPath c.args.old.now names → IsPath c.args.new.now others → IsLinkSpot (tree_of (g.P.Pmem.region c.self.inside.memory) c.self.inside.rows.items) c.self.inside.rows.items names others (place_in c.self.inside.rows.items c.in_ok-named.named.directory) c.in_ok-named.named.name.now (place_in c.self.inside.rows.items c.in_ok-named.named.target) =
+    λ names others path other_path. c.in_ok-named.ensures.spot (g.P.Pmem.region c.self.inside.memory) names others path other_path in
     let paths = c.in_ok-named.ensures.paths in
-    let target_within : c.in_ok-named.named.target < length c.self.inside.rows.items = subst (λ (rows : List Row). c.in_ok-named.named.target < length rows) c.deref.ensures.value c.in_ok-named.ensures.target in
-    let directory_within : c.in_ok-named.named.directory < length c.self.inside.rows.items = subst (λ (rows : List Row). c.in_ok-named.named.directory < length rows) c.deref.ensures.value c.in_ok-named.ensures.directory in
-    let file = a_row c.self.inside.rows.items c.in_ok-named.named.target target_within in
-    let directory = a_row c.self.inside.rows.items c.in_ok-named.named.directory directory_within in
+    let file = row_in_use c.self.inside.rows.items c.in_ok-named.named.target c.in_ok-named.ensures.target in
+    let directory = row_in_use c.self.inside.rows.items c.in_ok-named.named.directory c.in_ok-named.ensures.directory in
     let there = spot paths.0.0 paths.1.0 paths.0.1 paths.1.1 in
     let free_name = there.spot in
     let in_directory = free_name.directory in
-    kinds_apart c.self.inside.rows.items c.in_ok-named.named.target c.in_ok-named.named.directory file.0 directory.0 file.1 directory.1 (there.file file.0 file.1).0 (in_directory.row directory.0 directory.1).1
-
-pub link_at-requires-clause-rising : goal.link_at-requires-clause-rising
-link_at-requires-clause-rising g c =
-    let runs : c.self.inside.stopped ≡ false = ap (λ (m : Mount g.row.P.Denot). m.stopped) c.self.view_is ∙ c.in_ok-writable.ensures.runs in
-    rows_rise (g.P.Pmem.region c.self.inside.memory) c.self.inside.sup c.self.inside.rows.items c.self.inside.free c.self.inside.faults.items c.self.inside.read_only c.self.inside.stopped c.self.invariant runs
+    (λ same. kinds_apart c.self.inside.rows.items (place_in c.self.inside.rows.items c.in_ok-named.named.target) (place_in c.self.inside.rows.items c.in_ok-named.named.directory) file.0 directory.0 (at_place c.self.inside.rows.items c.in_ok-named.named.target ∙ file.1) (at_place c.self.inside.rows.items c.in_ok-named.named.directory ∙ directory.1) (there.file file.0 (at_place c.self.inside.rows.items c.in_ok-named.named.target ∙ file.1)).0 (in_directory.row directory.0 (at_place c.self.inside.rows.items c.in_ok-named.named.directory ∙ directory.1)).1 (ap (place_in c.self.inside.rows.items) same))
 
 pub link_at-requires-clause-few : goal.link_at-requires-clause-few
 link_at-requires-clause-few g c row at =
-    let spot : (names others : List (List ℕ)) → IsPath c.args.old.now names → IsPath c.args.new.now others → IsLinkSpot (tree_of (g.P.Pmem.region c.self.inside.memory) c.self.inside.rows.items) c.self.inside.rows.items names others c.in_ok-named.named.directory c.in_ok-named.named.name.now c.in_ok-named.named.target =
-    λ names others path other_path. subst (λ (rows : List Row). IsLinkSpot (tree_of (g.P.Pmem.region c.self.inside.memory) rows) rows names others c.in_ok-named.named.directory c.in_ok-named.named.name.now c.in_ok-named.named.target) c.deref.ensures.value (c.in_ok-named.ensures.spot (g.P.Pmem.region c.self.inside.memory) names others path other_path) in
+    let spot : (names others : List (List ℕ)) → IsPath c.args.old.now names → IsPath c.args.new.now others → IsLinkSpot (tree_of (g.P.Pmem.region c.self.inside.memory) c.self.inside.rows.items) c.self.inside.rows.items names others (place_in c.self.inside.rows.items c.in_ok-named.named.directory) c.in_ok-named.named.name.now (place_in c.self.inside.rows.items c.in_ok-named.named.target) =
+    λ names others path other_path. c.in_ok-named.ensures.spot (g.P.Pmem.region c.self.inside.memory) names others path other_path in
     let paths = c.in_ok-named.ensures.paths in
     let there = spot paths.0.0 paths.1.0 paths.0.1 paths.1.1 in
-    (there.file row at).1
+    (there.file row (at_place c.self.inside.rows.items c.in_ok-named.named.target ∙ at)).1
 
 pub link_at-requires-clause-stands : goal.link_at-requires-clause-stands
 link_at-requires-clause-stands g c row at =
     let runs : c.self.inside.stopped ≡ false = ap (λ (m : Mount g.row.P.Denot). m.stopped) c.self.view_is ∙ c.in_ok-writable.ensures.runs in
     let writes : c.self.inside.read_only ≡ false = ap (λ (m : Mount g.row.P.Denot). m.read_only) c.self.view_is ∙ c.in_ok-writable.ensures.writes in
     let low : c.args.cpu < c.self.inside.sup.cpus = subst (λ (m : Mount g.row.P.Denot). c.args.cpu < m.sup.cpus) (sym c.self.view_is) c.in_ok-writable.ensures.cpu in
-    row_commits c.self.invariant runs writes row (stands c.self.inside.rows.items c.in_ok-named.named.target row at) c.args.cpu low
+    row_commits c.self.invariant.0 runs writes row (stands c.self.inside.rows.items (place_in c.self.inside.rows.items c.in_ok-named.named.target) row (at_place c.self.inside.rows.items c.in_ok-named.named.target ∙ at)) c.args.cpu low
 
 pub link_at-requires-clause-directory_stands : goal.link_at-requires-clause-directory_stands
 link_at-requires-clause-directory_stands g c row at =
     let runs : c.self.inside.stopped ≡ false = ap (λ (m : Mount g.row.P.Denot). m.stopped) c.self.view_is ∙ c.in_ok-writable.ensures.runs in
     let writes : c.self.inside.read_only ≡ false = ap (λ (m : Mount g.row.P.Denot). m.read_only) c.self.view_is ∙ c.in_ok-writable.ensures.writes in
     let low : c.args.cpu < c.self.inside.sup.cpus = subst (λ (m : Mount g.row.P.Denot). c.args.cpu < m.sup.cpus) (sym c.self.view_is) c.in_ok-writable.ensures.cpu in
-    row_commits c.self.invariant runs writes row (stands c.self.inside.rows.items c.in_ok-named.named.directory row at) c.args.cpu low
+    row_commits c.self.invariant.0 runs writes row (stands c.self.inside.rows.items (place_in c.self.inside.rows.items c.in_ok-named.named.directory) row (at_place c.self.inside.rows.items c.in_ok-named.named.directory ∙ at)) c.args.cpu low
 
 pub invariant_of-self : goal.invariant_of-self
 invariant_of-self g c =
     let runs : c.self.inside.stopped ≡ false = ap (λ (m : Mount g.row.P.Denot). m.stopped) c.self.view_is ∙ c.in_ok-writable.ensures.runs in
     let writes : c.self.inside.read_only ≡ false = ap (λ (m : Mount g.row.P.Denot). m.read_only) c.self.view_is ∙ c.in_ok-writable.ensures.writes in
-    let spot : (names others : List (List ℕ)) → IsPath c.args.old.now names → IsPath c.args.new.now others → IsLinkSpot (tree_of (g.P.Pmem.region c.self.inside.memory) c.self.inside.rows.items) c.self.inside.rows.items names others c.in_ok-named.named.directory c.in_ok-named.named.name.now c.in_ok-named.named.target =
-    λ names others path other_path. subst (λ (rows : List Row). IsLinkSpot (tree_of (g.P.Pmem.region c.self.inside.memory) rows) rows names others c.in_ok-named.named.directory c.in_ok-named.named.name.now c.in_ok-named.named.target) c.deref.ensures.value (c.in_ok-named.ensures.spot (g.P.Pmem.region c.self.inside.memory) names others path other_path) in
+    let spot : (names others : List (List ℕ)) → IsPath c.args.old.now names → IsPath c.args.new.now others → IsLinkSpot (tree_of (g.P.Pmem.region c.self.inside.memory) c.self.inside.rows.items) c.self.inside.rows.items names others (place_in c.self.inside.rows.items c.in_ok-named.named.directory) c.in_ok-named.named.name.now (place_in c.self.inside.rows.items c.in_ok-named.named.target) =
+    λ names others path other_path. c.in_ok-named.ensures.spot (g.P.Pmem.region c.self.inside.memory) names others path other_path in
     let paths = c.in_ok-named.ensures.paths in
-    linked_kept c.self.invariant runs writes c.in-Ok.ensures.linked c.in_ok-named.ensures.name paths.0.0 paths.1.0 (spot paths.0.0 paths.1.0 paths.0.1 paths.1.1) c.self.inside.stopped
+    (linked_kept c.self.invariant.0 runs writes c.in-Ok.ensures.linked c.in_ok-named.ensures.name paths.0.0 paths.1.0 (spot paths.0.0 paths.1.0 paths.0.1 paths.1.1) c.self.inside.stopped, c.link_at.ensures.limit ∙ c.self.invariant.1)
 
 pub invariant_of-self-in-Err : goal.invariant_of-self-in-Err
 invariant_of-self-in-Err g c =
     let runs : c.self.inside.stopped ≡ false = ap (λ (m : Mount g.row.P.Denot). m.stopped) c.self.view_is ∙ c.in_ok-writable.ensures.runs in
     let writes : c.self.inside.read_only ≡ false = ap (λ (m : Mount g.row.P.Denot). m.read_only) c.self.view_is ∙ c.in_ok-writable.ensures.writes in
-    kept_or_stopped g.P.Pmem.region c.self.invariant runs writes c.in-Err.refusal c.is_stop-self-inside.result c.is_stop-self-inside.ensures.yes c.is_stop-self-inside.ensures.no c.link_at.ensures.lists c.in-Err.ensures.unchanged
+    (kept_or_stopped g.P.Pmem.region c.self.invariant.0 runs writes c.in-Err.refusal c.is_stop-self-inside.result c.is_stop-self-inside.ensures.yes c.is_stop-self-inside.ensures.no c.link_at.ensures.lists c.in-Err.ensures.unchanged, c.link_at.ensures.limit ∙ c.self.invariant.1)
 
 pub returns-in-Ok-clause-allowed : goal.returns-in-Ok-clause-allowed
 returns-in-Ok-clause-allowed g c p q says says_new =
     let runs : c.self.inside.stopped ≡ false = ap (λ (m : Mount g.row.P.Denot). m.stopped) c.self.view_is ∙ c.in_ok-writable.ensures.runs in
-    let spot : (names others : List (List ℕ)) → IsPath c.args.old.now names → IsPath c.args.new.now others → IsLinkSpot (tree_of (g.P.Pmem.region c.self.inside.memory) c.self.inside.rows.items) c.self.inside.rows.items names others c.in_ok-named.named.directory c.in_ok-named.named.name.now c.in_ok-named.named.target =
-    λ names others path other_path. subst (λ (rows : List Row). IsLinkSpot (tree_of (g.P.Pmem.region c.self.inside.memory) rows) rows names others c.in_ok-named.named.directory c.in_ok-named.named.name.now c.in_ok-named.named.target) c.deref.ensures.value (c.in_ok-named.ensures.spot (g.P.Pmem.region c.self.inside.memory) names others path other_path) in
-    let target_within : c.in_ok-named.named.target < length c.self.inside.rows.items = subst (λ (rows : List Row). c.in_ok-named.named.target < length rows) c.deref.ensures.value c.in_ok-named.ensures.target in
-    let directory_within : c.in_ok-named.named.directory < length c.self.inside.rows.items = subst (λ (rows : List Row). c.in_ok-named.named.directory < length rows) c.deref.ensures.value c.in_ok-named.ensures.directory in
-    let file = a_row c.self.inside.rows.items c.in_ok-named.named.target target_within in
-    let directory = a_row c.self.inside.rows.items c.in_ok-named.named.directory directory_within in
-    let rises = rows_rise (g.P.Pmem.region c.self.inside.memory) c.self.inside.sup c.self.inside.rows.items c.self.inside.free c.self.inside.faults.items c.self.inside.read_only c.self.inside.stopped c.self.invariant runs in
-    let is : row_of c.self.inside.rows.items file.0.inode ≡ Some file.0 = row_at c.self.inside.rows.items c.in_ok-named.named.target file.0 rises file.1 in
-    let other_is : row_of c.self.inside.rows.items directory.0.inode ≡ Some directory.0 = row_at c.self.inside.rows.items c.in_ok-named.named.directory directory.0 rises directory.1 in
+    let spot : (names others : List (List ℕ)) → IsPath c.args.old.now names → IsPath c.args.new.now others → IsLinkSpot (tree_of (g.P.Pmem.region c.self.inside.memory) c.self.inside.rows.items) c.self.inside.rows.items names others (place_in c.self.inside.rows.items c.in_ok-named.named.directory) c.in_ok-named.named.name.now (place_in c.self.inside.rows.items c.in_ok-named.named.target) =
+    λ names others path other_path. c.in_ok-named.ensures.spot (g.P.Pmem.region c.self.inside.memory) names others path other_path in
+    let file = row_in_use c.self.inside.rows.items c.in_ok-named.named.target c.in_ok-named.ensures.target in
+    let directory = row_in_use c.self.inside.rows.items c.in_ok-named.named.directory c.in_ok-named.ensures.directory in
+    let is : row_of c.self.inside.rows.items file.0.inode ≡ Some file.0 = own_row c.self.inside.rows.items c.in_ok-named.named.target file.0 file.1 in
+    let other_is : row_of c.self.inside.rows.items directory.0.inode ≡ Some directory.0 = own_row c.self.inside.rows.items c.in_ok-named.named.directory directory.0 directory.1 in
     let none : first_refusal (link_spot_tests (tree_of (g.P.Pmem.region c.self.inside.memory) c.self.inside.rows.items) p q) ≡ None =
-    subst (λ (rows : List Row). first_refusal (link_spot_tests (tree_of (g.P.Pmem.region c.self.inside.memory) rows) p q) ≡ None) c.deref.ensures.value (c.in_ok-named.ensures.allowed (g.P.Pmem.region c.self.inside.memory) p q says says_new) in
-    link_allowed g.P.Pmem.region c.self.view_is c.args.cpu c.in_ok-writable.ensures.passed c.in_ok-named.named.target c.in_ok-named.named.directory file.0 directory.0 file.1 directory.1 is other_is c.in_ok-named.named.name.now c.args.time c.args.old.now c.args.new.now spot p q says says_new none (c.in-Ok.ensures.enough file.0 directory.0 file.1 directory.1)
+    c.in_ok-named.ensures.allowed (g.P.Pmem.region c.self.inside.memory) p q says says_new in
+    link_allowed g.P.Pmem.region c.self.view_is c.args.cpu c.in_ok-writable.ensures.passed (place_in c.self.inside.rows.items c.in_ok-named.named.target) (place_in c.self.inside.rows.items c.in_ok-named.named.directory) file.0 directory.0 (at_place c.self.inside.rows.items c.in_ok-named.named.target ∙ file.1) (at_place c.self.inside.rows.items c.in_ok-named.named.directory ∙ directory.1) is other_is c.in_ok-named.named.name.now c.args.time c.args.old.now c.args.new.now spot p q says says_new none (c.in-Ok.ensures.enough file.0 directory.0 file.1 directory.1)
 
 pub returns-in-Ok-clause-changed : goal.returns-in-Ok-clause-changed
 returns-in-Ok-clause-changed g c names others path other_path =
     let runs : c.self.inside.stopped ≡ false = ap (λ (m : Mount g.row.P.Denot). m.stopped) c.self.view_is ∙ c.in_ok-writable.ensures.runs in
     let writes : c.self.inside.read_only ≡ false = ap (λ (m : Mount g.row.P.Denot). m.read_only) c.self.view_is ∙ c.in_ok-writable.ensures.writes in
-    let spot : (names others : List (List ℕ)) → IsPath c.args.old.now names → IsPath c.args.new.now others → IsLinkSpot (tree_of (g.P.Pmem.region c.self.inside.memory) c.self.inside.rows.items) c.self.inside.rows.items names others c.in_ok-named.named.directory c.in_ok-named.named.name.now c.in_ok-named.named.target =
-    λ names others path other_path. subst (λ (rows : List Row). IsLinkSpot (tree_of (g.P.Pmem.region c.self.inside.memory) rows) rows names others c.in_ok-named.named.directory c.in_ok-named.named.name.now c.in_ok-named.named.target) c.deref.ensures.value (c.in_ok-named.ensures.spot (g.P.Pmem.region c.self.inside.memory) names others path other_path) in
+    let spot : (names others : List (List ℕ)) → IsPath c.args.old.now names → IsPath c.args.new.now others → IsLinkSpot (tree_of (g.P.Pmem.region c.self.inside.memory) c.self.inside.rows.items) c.self.inside.rows.items names others (place_in c.self.inside.rows.items c.in_ok-named.named.directory) c.in_ok-named.named.name.now (place_in c.self.inside.rows.items c.in_ok-named.named.target) =
+    λ names others path other_path. c.in_ok-named.ensures.spot (g.P.Pmem.region c.self.inside.memory) names others path other_path in
     subst (λ (m : Mount g.row.P.Denot). SameTree (tree_of (g.P.Pmem.region c.link_at.new.memory) c.link_at.new.rows.items) (linked names others c.args.time (tree_of (g.P.Pmem.region m.memory) m.rows))) c.self.view_is
-    (linked_tree c.self.invariant runs writes c.in-Ok.ensures.linked c.in_ok-named.ensures.name names others (spot names others path other_path))
+    (linked_tree c.self.invariant.0 runs writes c.in-Ok.ensures.linked c.in_ok-named.ensures.name names others (spot names others path other_path))
 
 pub returns-in-Ok-clause-log : goal.returns-in-Ok-clause-log
 returns-in-Ok-clause-log g c names others i d node held f h path other_path led ended sound is other_is =
     let runs : c.self.inside.stopped ≡ false = ap (λ (m : Mount g.row.P.Denot). m.stopped) c.self.view_is ∙ c.in_ok-writable.ensures.runs in
     let writes : c.self.inside.read_only ≡ false = ap (λ (m : Mount g.row.P.Denot). m.read_only) c.self.view_is ∙ c.in_ok-writable.ensures.writes in
-    let spot : (names others : List (List ℕ)) → IsPath c.args.old.now names → IsPath c.args.new.now others → IsLinkSpot (tree_of (g.P.Pmem.region c.self.inside.memory) c.self.inside.rows.items) c.self.inside.rows.items names others c.in_ok-named.named.directory c.in_ok-named.named.name.now c.in_ok-named.named.target =
-    λ names others path other_path. subst (λ (rows : List Row). IsLinkSpot (tree_of (g.P.Pmem.region c.self.inside.memory) rows) rows names others c.in_ok-named.named.directory c.in_ok-named.named.name.now c.in_ok-named.named.target) c.deref.ensures.value (c.in_ok-named.ensures.spot (g.P.Pmem.region c.self.inside.memory) names others path other_path) in
+    let spot : (names others : List (List ℕ)) → IsPath c.args.old.now names → IsPath c.args.new.now others → IsLinkSpot (tree_of (g.P.Pmem.region c.self.inside.memory) c.self.inside.rows.items) c.self.inside.rows.items names others (place_in c.self.inside.rows.items c.in_ok-named.named.directory) c.in_ok-named.named.name.now (place_in c.self.inside.rows.items c.in_ok-named.named.target) =
+    λ names others path other_path. c.in_ok-named.ensures.spot (g.P.Pmem.region c.self.inside.memory) names others path other_path in
     subst (λ (m : Mount g.row.P.Denot). LeadsTo (tree_of (g.P.Pmem.region m.memory) m.rows) names i node → walk (tree_of (g.P.Pmem.region m.memory) m.rows) 1 others ≡ Ok d → ShowsSound (g.P.Pmem.region m.memory) m.sup held
     → ShowsBothGrew (g.P.Pmem.region c.link_at.new.memory) m.sup held i f (links_entries (node.links + 1) c.args.time) d h (name_entries Add i (last_name others) c.args.time)) c.self.view_is
-    (λ leads walked shown. linked_logs c.self.invariant runs writes c.in-Ok.ensures.linked c.in_ok-named.ensures.name names others (spot names others path other_path) i d node held f h leads walked shown is other_is) led ended sound
+    (λ leads walked shown. linked_logs c.self.invariant.0 runs writes c.in-Ok.ensures.linked c.in_ok-named.ensures.name names others (spot names others path other_path) i d node held f h leads walked shown is other_is) led ended sound
 
 pub returns-in-Err-clause-refused : goal.returns-in-Err-clause-refused
 returns-in-Err-clause-refused g c still p q says says_new =
     let runs : c.self.inside.stopped ≡ false = ap (λ (m : Mount g.row.P.Denot). m.stopped) c.self.view_is ∙ c.in_ok-writable.ensures.runs in
-    let spot : (names others : List (List ℕ)) → IsPath c.args.old.now names → IsPath c.args.new.now others → IsLinkSpot (tree_of (g.P.Pmem.region c.self.inside.memory) c.self.inside.rows.items) c.self.inside.rows.items names others c.in_ok-named.named.directory c.in_ok-named.named.name.now c.in_ok-named.named.target =
-    λ names others path other_path. subst (λ (rows : List Row). IsLinkSpot (tree_of (g.P.Pmem.region c.self.inside.memory) rows) rows names others c.in_ok-named.named.directory c.in_ok-named.named.name.now c.in_ok-named.named.target) c.deref.ensures.value (c.in_ok-named.ensures.spot (g.P.Pmem.region c.self.inside.memory) names others path other_path) in
-    let target_within : c.in_ok-named.named.target < length c.self.inside.rows.items = subst (λ (rows : List Row). c.in_ok-named.named.target < length rows) c.deref.ensures.value c.in_ok-named.ensures.target in
-    let directory_within : c.in_ok-named.named.directory < length c.self.inside.rows.items = subst (λ (rows : List Row). c.in_ok-named.named.directory < length rows) c.deref.ensures.value c.in_ok-named.ensures.directory in
-    let file = a_row c.self.inside.rows.items c.in_ok-named.named.target target_within in
-    let directory = a_row c.self.inside.rows.items c.in_ok-named.named.directory directory_within in
-    let rises = rows_rise (g.P.Pmem.region c.self.inside.memory) c.self.inside.sup c.self.inside.rows.items c.self.inside.free c.self.inside.faults.items c.self.inside.read_only c.self.inside.stopped c.self.invariant runs in
-    let is : row_of c.self.inside.rows.items file.0.inode ≡ Some file.0 = row_at c.self.inside.rows.items c.in_ok-named.named.target file.0 rises file.1 in
-    let other_is : row_of c.self.inside.rows.items directory.0.inode ≡ Some directory.0 = row_at c.self.inside.rows.items c.in_ok-named.named.directory directory.0 rises directory.1 in
+    let spot : (names others : List (List ℕ)) → IsPath c.args.old.now names → IsPath c.args.new.now others → IsLinkSpot (tree_of (g.P.Pmem.region c.self.inside.memory) c.self.inside.rows.items) c.self.inside.rows.items names others (place_in c.self.inside.rows.items c.in_ok-named.named.directory) c.in_ok-named.named.name.now (place_in c.self.inside.rows.items c.in_ok-named.named.target) =
+    λ names others path other_path. c.in_ok-named.ensures.spot (g.P.Pmem.region c.self.inside.memory) names others path other_path in
+    let file = row_in_use c.self.inside.rows.items c.in_ok-named.named.target c.in_ok-named.ensures.target in
+    let directory = row_in_use c.self.inside.rows.items c.in_ok-named.named.directory c.in_ok-named.ensures.directory in
+    let is : row_of c.self.inside.rows.items file.0.inode ≡ Some file.0 = own_row c.self.inside.rows.items c.in_ok-named.named.target file.0 file.1 in
+    let other_is : row_of c.self.inside.rows.items directory.0.inode ≡ Some directory.0 = own_row c.self.inside.rows.items c.in_ok-named.named.directory directory.0 directory.1 in
     let none : first_refusal (link_spot_tests (tree_of (g.P.Pmem.region c.self.inside.memory) c.self.inside.rows.items) p q) ≡ None =
-    subst (λ (rows : List Row). first_refusal (link_spot_tests (tree_of (g.P.Pmem.region c.self.inside.memory) rows) p q) ≡ None) c.deref.ensures.value (c.in_ok-named.ensures.allowed (g.P.Pmem.region c.self.inside.memory) p q says says_new) in
-    link_refused g.P.Pmem.region c.self.view_is c.args.cpu c.in_ok-writable.ensures.passed c.in_ok-named.named.target c.in_ok-named.named.directory file.0 directory.0 file.1 directory.1 is other_is c.in_ok-named.named.name.now c.args.time c.args.old.now c.args.new.now spot p q says says_new none c.in-Err.refusal (c.in-Err.ensures.refused file.0 directory.0 file.1 directory.1)
+    c.in_ok-named.ensures.allowed (g.P.Pmem.region c.self.inside.memory) p q says says_new in
+    link_refused g.P.Pmem.region c.self.view_is c.args.cpu c.in_ok-writable.ensures.passed (place_in c.self.inside.rows.items c.in_ok-named.named.target) (place_in c.self.inside.rows.items c.in_ok-named.named.directory) file.0 directory.0 (at_place c.self.inside.rows.items c.in_ok-named.named.target ∙ file.1) (at_place c.self.inside.rows.items c.in_ok-named.named.directory ∙ directory.1) is other_is c.in_ok-named.named.name.now c.args.time c.args.old.now c.args.new.now spot p q says says_new none c.in-Err.refusal (c.in-Err.ensures.refused file.0 directory.0 file.1 directory.1)
 
 pub returns-in-Err-clause-unchanged : goal.returns-in-Err-clause-unchanged
 returns-in-Err-clause-unchanged g c off =

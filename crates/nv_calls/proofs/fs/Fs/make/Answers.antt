@@ -1,8 +1,10 @@
-use Rattle.std.proofs.Common.{◌≡◌, ◌∙◌, ◌<◌, ◌⊎◌, ◌++◌, ◌∷◌, [], List, ℕ, Some, None, Ok, false, inr, length, ap, subst, sym}
+use Rattle.std.proofs.Common.{◌≡◌, ◌∙◌, ◌<◌, ◌⊎◌, ◌++◌, ◌∷◌, [], List, ℕ, Some, None, Ok, false, inr, ap, subst, sym, slice_get}
 use Rattle.std.proofs.lemmas.Result.{err_from_is_err_and}
-use Rattle.nv_scan.specs.declared.piece.Row.{Row}
-use Rattle.nv_held.specs.nv_named.Read.{row_of}
 use Rattle.nv_tree.specs.declared.refusal.Refusal.{Refusal}
+use Rattle.nv_super.specs.declared.superblock.Super.{Super}
+use Rattle.nv_super.specs.Layout.{inode_limit}
+use Rattle.nv_rows.specs.Rows.{place_in}
+use Rattle.nv_rows.proofs.Places.{at_place, own_row, row_in_use}
 use Rattle.nv_tree.specs.declared.refusal.Refusal.TheVariants.{Memory, Stopped}
 use Rattle.nv_held.specs.Mounted.{ShowsSound}
 use Rattle.nv_tree.specs.Path.{IsPath, last_name}
@@ -17,13 +19,11 @@ use Rattle.nv_calls.specs.Seen.{tree_of}
 use Rattle.nv_rows.specs.Unused.{unused_number}
 use Rattle.nv_calls.specs.World.{world_of}
 use Rattle.nv_calls.proofs.CreateCall.{create_allowed, create_refused, created_kept, created_log, created_tree, kept_or_stopped, unchanged_rows}
-use Rattle.nv_calls.proofs.CreateTests.{a_row, spot_goes_on, spot_refuses}
-use Rattle.nv_calls.proofs.Kept.{rows_rise}
+use Rattle.nv_calls.proofs.CreateTests.{spot_goes_on, spot_refuses}
 use Rattle.nv_calls.proofs.Listed.{refused_by}
-use Rattle.nv_calls.proofs.NewNumbers.{can_name, kept_areas, unused_is}
+use Rattle.nv_calls.proofs.NewNumbers.{can_name, number_below, unused_is}
 use Rattle.nv_calls.proofs.OneRow.{stands, stands_right}
 use Rattle.nv_calls.proofs.RowChange.{same_mount}
-use Rattle.nv_calls.proofs.RowOf.{row_at}
 use Rattle.nv_calls.proofs.SetAttr.{late_reply, not_stop}
 use Rattle.nv_calls.proofs.Tests.{early_reply, if_err, writing_goes_on}
 use Rattle.nv_calls.proofs.fs.Fs.make.Goals as goal
@@ -45,21 +45,16 @@ returns-in_err-writable-clause-stopped g c runs =
     early_reply c.args.self.now.stopped c.from_residual.result c.in_err-writable.field-0.0 w.0 w.1 w.2
     (λ is. writing_goes_on (world_of c.args.self.now) c.args.cpu (c.in_err-writable.ensures.refused runs [] ∙ ap (λ (e : Refusal). Some e) is)) runs
 
-pub spot_for-requires-clause-rising : goal.spot_for-requires-clause-rising
-spot_for-requires-clause-rising g c =
-    let runs : c.self.inside.stopped ≡ false = ap (λ (m : Mount g.row.P.Denot). m.stopped) c.self.view_is ∙ c.in_ok-writable.ensures.runs in
-    rw c.deref.ensures.value (rows_rise (g.P.Pmem.region c.self.inside.memory) c.self.inside.sup c.self.inside.rows.items c.self.inside.free c.self.inside.faults.items c.self.inside.read_only c.self.inside.stopped c.self.invariant runs)
-
-pub spot_for-requires-clause-areas : goal.spot_for-requires-clause-areas
-spot_for-requires-clause-areas g c =
-    let runs : c.self.inside.stopped ≡ false = ap (λ (m : Mount g.row.P.Denot). m.stopped) c.self.view_is ∙ c.in_ok-writable.ensures.runs in
-    kept_areas c.self.invariant runs
+pub spot_for-requires-clause-cpu : goal.spot_for-requires-clause-cpu
+spot_for-requires-clause-cpu g c =
+    let low : c.args.cpu < c.self.inside.sup.cpus = subst (λ (m : Mount g.row.P.Denot). c.args.cpu < m.sup.cpus) (sym c.self.view_is) c.in_ok-writable.ensures.cpu in
+    subst (λ (s : Super). c.args.cpu < s.cpus) (sym c.self.invariant.1) low
 
 pub returns-in_err-spot-clause-refused : goal.returns-in_err-spot-clause-refused
 returns-in_err-spot-clause-refused g c still p says =
     let told : first_refusal (spot_tests (tree_of (g.P.Pmem.region c.args.self.now.memory) c.args.self.now.rows) (unused_number c.args.self.now.sup c.args.self.now.rows c.args.cpu) p) ≡ Some c.in_err-spot.field-0.0 =
     subst (λ (m : Mount g.row.P.Denot). first_refusal (spot_tests (tree_of (g.P.Pmem.region m.memory) m.rows) (unused_number m.sup m.rows c.args.cpu) p) ≡ Some c.in_err-spot.field-0.0) c.self.view_is
-    (subst (λ (rows : List Row). first_refusal (spot_tests (tree_of (g.P.Pmem.region c.self.inside.memory) rows) (unused_number c.self.inside.sup rows c.args.cpu) p) ≡ Some c.in_err-spot.field-0.0) c.deref.ensures.value (c.in_err-spot.ensures.refused (g.P.Pmem.region c.self.inside.memory) p says)) in
+    (subst (λ (s : Super). first_refusal (spot_tests (tree_of (g.P.Pmem.region c.self.inside.memory) c.self.inside.rows.items) (unused_number s c.self.inside.rows.items c.args.cpu) p) ≡ Some c.in_err-spot.field-0.0) c.self.invariant.1 (c.in_err-spot.ensures.refused (g.P.Pmem.region c.self.inside.memory) p says)) in
     let tree = tree_of (g.P.Pmem.region c.args.self.now.memory) c.args.self.now.rows in
     let count = create_blocks c.args.self.now.rows tree p in
     let w = err_from_is_err_and c.from_residual-in_err-spot.result c.from_residual-in_err-spot.ensures.1 in
@@ -76,18 +71,21 @@ returns-in_err-spot-clause-stopped g c runs =
     let said = text_says c.args.path.now in
     let told = c.in_err-spot.ensures.refused (g.P.Pmem.region c.self.inside.memory) said.0 said.1 in
     early_reply c.args.self.now.stopped c.from_residual-in_err-spot.result c.in_err-spot.field-0.0 w.0 w.1 w.2
-    (λ is. spot_goes_on (tree_of (g.P.Pmem.region c.self.inside.memory) c.deref.result.now) _ said.0 (told ∙ ap (λ (e : Refusal). Some e) is)) runs
+    (λ is. spot_goes_on (tree_of (g.P.Pmem.region c.self.inside.memory) c.self.inside.rows.items) _ said.0 (told ∙ ap (λ (e : Refusal). Some e) is)) runs
 
-pub create_at-requires-clause-rising : goal.create_at-requires-clause-rising
-create_at-requires-clause-rising g c =
-    let runs : c.self.inside.stopped ≡ false = ap (λ (m : Mount g.row.P.Denot). m.stopped) c.self.view_is ∙ c.in_ok-writable.ensures.runs in
-    rows_rise (g.P.Pmem.region c.self.inside.memory) c.self.inside.sup c.self.inside.rows.items c.self.inside.free c.self.inside.faults.items c.self.inside.read_only c.self.inside.stopped c.self.invariant runs
+pub create_at-requires-clause-limit : goal.create_at-requires-clause-limit
+create_at-requires-clause-limit g c =
+    let low : c.args.cpu < c.self.inside.sup.cpus = subst (λ (m : Mount g.row.P.Denot). c.args.cpu < m.sup.cpus) (sym c.self.view_is) c.in_ok-writable.ensures.cpu in
+    let spot : (names : List (List ℕ)) → IsPath c.args.path.now names → IsSpot (tree_of (g.P.Pmem.region c.self.inside.memory) c.self.inside.rows.items) c.self.inside.rows.items c.self.inside.sup c.args.cpu names (place_in c.self.inside.rows.items c.in_ok-spot.spot.directory) c.in_ok-spot.spot.name.now c.in_ok-spot.spot.inode =
+    λ names path. subst (λ (s : Super). IsSpot (tree_of (g.P.Pmem.region c.self.inside.memory) c.self.inside.rows.items) c.self.inside.rows.items s c.args.cpu names (place_in c.self.inside.rows.items c.in_ok-spot.spot.directory) c.in_ok-spot.spot.name.now c.in_ok-spot.spot.inode) c.self.invariant.1 (c.in_ok-spot.ensures.spot (g.P.Pmem.region c.self.inside.memory) names path) in
+    let path = c.in_ok-spot.ensures.path in
+    subst (λ (s : Super). c.in_ok-spot.spot.inode < inode_limit s) (sym c.self.invariant.1) (number_below c.self.inside.sup c.in_ok-spot.spot.inode (unused_is c.self.inside.sup c.self.inside.rows.items c.args.cpu c.in_ok-spot.spot.inode low (spot path.0 path.1).unused).1)
 
 pub create_at-requires-clause-unused : goal.create_at-requires-clause-unused
 create_at-requires-clause-unused g c =
     let low : c.args.cpu < c.self.inside.sup.cpus = subst (λ (m : Mount g.row.P.Denot). c.args.cpu < m.sup.cpus) (sym c.self.view_is) c.in_ok-writable.ensures.cpu in
-    let spot : (names : List (List ℕ)) → IsPath c.args.path.now names → IsSpot (tree_of (g.P.Pmem.region c.self.inside.memory) c.self.inside.rows.items) c.self.inside.rows.items c.self.inside.sup c.args.cpu names c.in_ok-spot.spot.place c.in_ok-spot.spot.name.now c.in_ok-spot.spot.inode =
-    λ names path. subst (λ (rows : List Row). IsSpot (tree_of (g.P.Pmem.region c.self.inside.memory) rows) rows c.self.inside.sup c.args.cpu names c.in_ok-spot.spot.place c.in_ok-spot.spot.name.now c.in_ok-spot.spot.inode) c.deref.ensures.value (c.in_ok-spot.ensures.spot (g.P.Pmem.region c.self.inside.memory) names path) in
+    let spot : (names : List (List ℕ)) → IsPath c.args.path.now names → IsSpot (tree_of (g.P.Pmem.region c.self.inside.memory) c.self.inside.rows.items) c.self.inside.rows.items c.self.inside.sup c.args.cpu names (place_in c.self.inside.rows.items c.in_ok-spot.spot.directory) c.in_ok-spot.spot.name.now c.in_ok-spot.spot.inode =
+    λ names path. subst (λ (s : Super). IsSpot (tree_of (g.P.Pmem.region c.self.inside.memory) c.self.inside.rows.items) c.self.inside.rows.items s c.args.cpu names (place_in c.self.inside.rows.items c.in_ok-spot.spot.directory) c.in_ok-spot.spot.name.now c.in_ok-spot.spot.inode) c.self.invariant.1 (c.in_ok-spot.ensures.spot (g.P.Pmem.region c.self.inside.memory) names path) in
     let path = c.in_ok-spot.ensures.path in
     (unused_is c.self.inside.sup c.self.inside.rows.items c.args.cpu c.in_ok-spot.spot.inode low (spot path.0 path.1).unused).0
 
@@ -95,80 +93,78 @@ pub create_at-requires-clause-stands : goal.create_at-requires-clause-stands
 create_at-requires-clause-stands g c row at =
     let runs : c.self.inside.stopped ≡ false = ap (λ (m : Mount g.row.P.Denot). m.stopped) c.self.view_is ∙ c.in_ok-writable.ensures.runs in
     let writes : c.self.inside.read_only ≡ false = ap (λ (m : Mount g.row.P.Denot). m.read_only) c.self.view_is ∙ c.in_ok-writable.ensures.writes in
-    stands_right c.self.invariant runs writes row (stands c.self.inside.rows.items c.in_ok-spot.spot.place row at)
+    stands_right c.self.invariant.0 runs writes row (stands c.self.inside.rows.items (place_in c.self.inside.rows.items c.in_ok-spot.spot.directory) row (at_place c.self.inside.rows.items c.in_ok-spot.spot.directory ∙ at))
 
 pub create_at-requires-clause-can : goal.create_at-requires-clause-can
 create_at-requires-clause-can g c row at =
     let runs : c.self.inside.stopped ≡ false = ap (λ (m : Mount g.row.P.Denot). m.stopped) c.self.view_is ∙ c.in_ok-writable.ensures.runs in
     let writes : c.self.inside.read_only ≡ false = ap (λ (m : Mount g.row.P.Denot). m.read_only) c.self.view_is ∙ c.in_ok-writable.ensures.writes in
     let low : c.args.cpu < c.self.inside.sup.cpus = subst (λ (m : Mount g.row.P.Denot). c.args.cpu < m.sup.cpus) (sym c.self.view_is) c.in_ok-writable.ensures.cpu in
-    let spot : (names : List (List ℕ)) → IsPath c.args.path.now names → IsSpot (tree_of (g.P.Pmem.region c.self.inside.memory) c.self.inside.rows.items) c.self.inside.rows.items c.self.inside.sup c.args.cpu names c.in_ok-spot.spot.place c.in_ok-spot.spot.name.now c.in_ok-spot.spot.inode =
-    λ names path. subst (λ (rows : List Row). IsSpot (tree_of (g.P.Pmem.region c.self.inside.memory) rows) rows c.self.inside.sup c.args.cpu names c.in_ok-spot.spot.place c.in_ok-spot.spot.name.now c.in_ok-spot.spot.inode) c.deref.ensures.value (c.in_ok-spot.ensures.spot (g.P.Pmem.region c.self.inside.memory) names path) in
+    let spot : (names : List (List ℕ)) → IsPath c.args.path.now names → IsSpot (tree_of (g.P.Pmem.region c.self.inside.memory) c.self.inside.rows.items) c.self.inside.rows.items c.self.inside.sup c.args.cpu names (place_in c.self.inside.rows.items c.in_ok-spot.spot.directory) c.in_ok-spot.spot.name.now c.in_ok-spot.spot.inode =
+    λ names path. subst (λ (s : Super). IsSpot (tree_of (g.P.Pmem.region c.self.inside.memory) c.self.inside.rows.items) c.self.inside.rows.items s c.args.cpu names (place_in c.self.inside.rows.items c.in_ok-spot.spot.directory) c.in_ok-spot.spot.name.now c.in_ok-spot.spot.inode) c.self.invariant.1 (c.in_ok-spot.ensures.spot (g.P.Pmem.region c.self.inside.memory) names path) in
     let path = c.in_ok-spot.ensures.path in
-    can_name c.self.invariant runs writes c.args.cpu c.in_ok-spot.spot.inode low (unused_is c.self.inside.sup c.self.inside.rows.items c.args.cpu c.in_ok-spot.spot.inode low (spot path.0 path.1).unused).1 row
-    (stands c.self.inside.rows.items c.in_ok-spot.spot.place row at)
+    can_name c.self.invariant.0 runs writes c.args.cpu c.in_ok-spot.spot.inode low (unused_is c.self.inside.sup c.self.inside.rows.items c.args.cpu c.in_ok-spot.spot.inode low (spot path.0 path.1).unused).1 row
+    (stands c.self.inside.rows.items (place_in c.self.inside.rows.items c.in_ok-spot.spot.directory) row (at_place c.self.inside.rows.items c.in_ok-spot.spot.directory ∙ at))
 
 pub invariant_of-self : goal.invariant_of-self
 invariant_of-self g c =
     let runs : c.self.inside.stopped ≡ false = ap (λ (m : Mount g.row.P.Denot). m.stopped) c.self.view_is ∙ c.in_ok-writable.ensures.runs in
     let writes : c.self.inside.read_only ≡ false = ap (λ (m : Mount g.row.P.Denot). m.read_only) c.self.view_is ∙ c.in_ok-writable.ensures.writes in
     let low : c.args.cpu < c.self.inside.sup.cpus = subst (λ (m : Mount g.row.P.Denot). c.args.cpu < m.sup.cpus) (sym c.self.view_is) c.in_ok-writable.ensures.cpu in
-    let spot : (names : List (List ℕ)) → IsPath c.args.path.now names → IsSpot (tree_of (g.P.Pmem.region c.self.inside.memory) c.self.inside.rows.items) c.self.inside.rows.items c.self.inside.sup c.args.cpu names c.in_ok-spot.spot.place c.in_ok-spot.spot.name.now c.in_ok-spot.spot.inode =
-    λ names path. subst (λ (rows : List Row). IsSpot (tree_of (g.P.Pmem.region c.self.inside.memory) rows) rows c.self.inside.sup c.args.cpu names c.in_ok-spot.spot.place c.in_ok-spot.spot.name.now c.in_ok-spot.spot.inode) c.deref.ensures.value (c.in_ok-spot.ensures.spot (g.P.Pmem.region c.self.inside.memory) names path) in
+    let spot : (names : List (List ℕ)) → IsPath c.args.path.now names → IsSpot (tree_of (g.P.Pmem.region c.self.inside.memory) c.self.inside.rows.items) c.self.inside.rows.items c.self.inside.sup c.args.cpu names (place_in c.self.inside.rows.items c.in_ok-spot.spot.directory) c.in_ok-spot.spot.name.now c.in_ok-spot.spot.inode =
+    λ names path. subst (λ (s : Super). IsSpot (tree_of (g.P.Pmem.region c.self.inside.memory) c.self.inside.rows.items) c.self.inside.rows.items s c.args.cpu names (place_in c.self.inside.rows.items c.in_ok-spot.spot.directory) c.in_ok-spot.spot.name.now c.in_ok-spot.spot.inode) c.self.invariant.1 (c.in_ok-spot.ensures.spot (g.P.Pmem.region c.self.inside.memory) names path) in
     let path = c.in_ok-spot.ensures.path in
-    created_kept c.self.invariant runs writes c.in-Ok.ensures.created c.args.cpu low c.in_ok-spot.ensures.name path.0 (spot path.0 path.1) c.self.inside.stopped
+    (created_kept c.self.invariant.0 runs writes c.in-Ok.ensures.created c.args.cpu low c.in_ok-spot.ensures.name path.0 (spot path.0 path.1) c.self.inside.stopped, c.create_at.ensures.limit ∙ c.self.invariant.1)
 
 pub invariant_of-self-in-Err : goal.invariant_of-self-in-Err
 invariant_of-self-in-Err g c =
     let runs : c.self.inside.stopped ≡ false = ap (λ (m : Mount g.row.P.Denot). m.stopped) c.self.view_is ∙ c.in_ok-writable.ensures.runs in
     let writes : c.self.inside.read_only ≡ false = ap (λ (m : Mount g.row.P.Denot). m.read_only) c.self.view_is ∙ c.in_ok-writable.ensures.writes in
-    kept_or_stopped g.P.Pmem.region c.self.invariant runs writes c.in-Err.refusal c.is_stop-self-inside.result c.is_stop-self-inside.ensures.yes c.is_stop-self-inside.ensures.no c.create_at.ensures.lists c.in-Err.ensures.unchanged
+    (kept_or_stopped g.P.Pmem.region c.self.invariant.0 runs writes c.in-Err.refusal c.is_stop-self-inside.result c.is_stop-self-inside.ensures.yes c.is_stop-self-inside.ensures.no c.create_at.ensures.lists c.in-Err.ensures.unchanged, c.create_at.ensures.limit ∙ c.self.invariant.1)
 
 pub returns-in-Ok-clause-allowed : goal.returns-in-Ok-clause-allowed
 returns-in-Ok-clause-allowed g c p says =
     let runs : c.self.inside.stopped ≡ false = ap (λ (m : Mount g.row.P.Denot). m.stopped) c.self.view_is ∙ c.in_ok-writable.ensures.runs in
-    let spot : (names : List (List ℕ)) → IsPath c.args.path.now names → IsSpot (tree_of (g.P.Pmem.region c.self.inside.memory) c.self.inside.rows.items) c.self.inside.rows.items c.self.inside.sup c.args.cpu names c.in_ok-spot.spot.place c.in_ok-spot.spot.name.now c.in_ok-spot.spot.inode =
-    λ names path. subst (λ (rows : List Row). IsSpot (tree_of (g.P.Pmem.region c.self.inside.memory) rows) rows c.self.inside.sup c.args.cpu names c.in_ok-spot.spot.place c.in_ok-spot.spot.name.now c.in_ok-spot.spot.inode) c.deref.ensures.value (c.in_ok-spot.ensures.spot (g.P.Pmem.region c.self.inside.memory) names path) in
-    let within : c.in_ok-spot.spot.place < length c.self.inside.rows.items = subst (λ (rows : List Row). c.in_ok-spot.spot.place < length rows) c.deref.ensures.value c.in_ok-spot.ensures.within in
-    let r = a_row c.self.inside.rows.items c.in_ok-spot.spot.place within in
-    let rises = rows_rise (g.P.Pmem.region c.self.inside.memory) c.self.inside.sup c.self.inside.rows.items c.self.inside.free c.self.inside.faults.items c.self.inside.read_only c.self.inside.stopped c.self.invariant runs in
-    let numbered : row_of c.self.inside.rows.items r.0.inode ≡ Some r.0 = row_at c.self.inside.rows.items c.in_ok-spot.spot.place r.0 rises r.1 in
+    let spot : (names : List (List ℕ)) → IsPath c.args.path.now names → IsSpot (tree_of (g.P.Pmem.region c.self.inside.memory) c.self.inside.rows.items) c.self.inside.rows.items c.self.inside.sup c.args.cpu names (place_in c.self.inside.rows.items c.in_ok-spot.spot.directory) c.in_ok-spot.spot.name.now c.in_ok-spot.spot.inode =
+    λ names path. subst (λ (s : Super). IsSpot (tree_of (g.P.Pmem.region c.self.inside.memory) c.self.inside.rows.items) c.self.inside.rows.items s c.args.cpu names (place_in c.self.inside.rows.items c.in_ok-spot.spot.directory) c.in_ok-spot.spot.name.now c.in_ok-spot.spot.inode) c.self.invariant.1 (c.in_ok-spot.ensures.spot (g.P.Pmem.region c.self.inside.memory) names path) in
+    let r = row_in_use c.self.inside.rows.items c.in_ok-spot.spot.directory c.in_ok-spot.ensures.in_use in
+    let at : slice_get c.self.inside.rows.items (place_in c.self.inside.rows.items c.in_ok-spot.spot.directory) ≡ Some r.0 = at_place c.self.inside.rows.items c.in_ok-spot.spot.directory ∙ r.1 in
+    let numbered = own_row c.self.inside.rows.items c.in_ok-spot.spot.directory r.0 r.1 in
     let none : first_refusal (spot_tests (tree_of (g.P.Pmem.region c.self.inside.memory) c.self.inside.rows.items) (unused_number c.self.inside.sup c.self.inside.rows.items c.args.cpu) p) ≡ None =
-    subst (λ (rows : List Row). first_refusal (spot_tests (tree_of (g.P.Pmem.region c.self.inside.memory) rows) (unused_number c.self.inside.sup rows c.args.cpu) p) ≡ None) c.deref.ensures.value (c.in_ok-spot.ensures.allowed (g.P.Pmem.region c.self.inside.memory) p says) in
-    create_allowed g.P.Pmem.region c.self.view_is c.args.cpu c.in_ok-writable.ensures.passed c.in_ok-spot.spot.place r.0 r.1 numbered c.in_ok-spot.spot.name.now c.in_ok-spot.spot.inode c.args.time c.args.path.now spot p says none (c.in-Ok.ensures.enough r.0 r.1)
+    subst (λ (s : Super). first_refusal (spot_tests (tree_of (g.P.Pmem.region c.self.inside.memory) c.self.inside.rows.items) (unused_number s c.self.inside.rows.items c.args.cpu) p) ≡ None) c.self.invariant.1 (c.in_ok-spot.ensures.allowed (g.P.Pmem.region c.self.inside.memory) p says) in
+    create_allowed g.P.Pmem.region c.self.view_is c.args.cpu c.in_ok-writable.ensures.passed (place_in c.self.inside.rows.items c.in_ok-spot.spot.directory) r.0 at numbered c.in_ok-spot.spot.name.now c.in_ok-spot.spot.inode c.args.time c.args.path.now spot p says none (c.in-Ok.ensures.enough r.0 r.1)
 
 pub returns-in-Ok-clause-changed : goal.returns-in-Ok-clause-changed
 returns-in-Ok-clause-changed g c names path =
     let runs : c.self.inside.stopped ≡ false = ap (λ (m : Mount g.row.P.Denot). m.stopped) c.self.view_is ∙ c.in_ok-writable.ensures.runs in
     let writes : c.self.inside.read_only ≡ false = ap (λ (m : Mount g.row.P.Denot). m.read_only) c.self.view_is ∙ c.in_ok-writable.ensures.writes in
     let low : c.args.cpu < c.self.inside.sup.cpus = subst (λ (m : Mount g.row.P.Denot). c.args.cpu < m.sup.cpus) (sym c.self.view_is) c.in_ok-writable.ensures.cpu in
-    let spot : (names : List (List ℕ)) → IsPath c.args.path.now names → IsSpot (tree_of (g.P.Pmem.region c.self.inside.memory) c.self.inside.rows.items) c.self.inside.rows.items c.self.inside.sup c.args.cpu names c.in_ok-spot.spot.place c.in_ok-spot.spot.name.now c.in_ok-spot.spot.inode =
-    λ names path. subst (λ (rows : List Row). IsSpot (tree_of (g.P.Pmem.region c.self.inside.memory) rows) rows c.self.inside.sup c.args.cpu names c.in_ok-spot.spot.place c.in_ok-spot.spot.name.now c.in_ok-spot.spot.inode) c.deref.ensures.value (c.in_ok-spot.ensures.spot (g.P.Pmem.region c.self.inside.memory) names path) in
+    let spot : (names : List (List ℕ)) → IsPath c.args.path.now names → IsSpot (tree_of (g.P.Pmem.region c.self.inside.memory) c.self.inside.rows.items) c.self.inside.rows.items c.self.inside.sup c.args.cpu names (place_in c.self.inside.rows.items c.in_ok-spot.spot.directory) c.in_ok-spot.spot.name.now c.in_ok-spot.spot.inode =
+    λ names path. subst (λ (s : Super). IsSpot (tree_of (g.P.Pmem.region c.self.inside.memory) c.self.inside.rows.items) c.self.inside.rows.items s c.args.cpu names (place_in c.self.inside.rows.items c.in_ok-spot.spot.directory) c.in_ok-spot.spot.name.now c.in_ok-spot.spot.inode) c.self.invariant.1 (c.in_ok-spot.ensures.spot (g.P.Pmem.region c.self.inside.memory) names path) in
     subst (λ (m : Mount g.row.P.Denot). SameTree (tree_of (g.P.Pmem.region c.create_at.new.memory) c.create_at.new.rows.items) (created c.args.kind (unused_number m.sup m.rows c.args.cpu) names c.args.mode c.args.time (tree_of (g.P.Pmem.region m.memory) m.rows))) c.self.view_is
-    (created_tree c.self.invariant runs writes c.in-Ok.ensures.created c.args.cpu low c.in_ok-spot.ensures.name names (spot names path))
+    (created_tree c.self.invariant.0 runs writes c.in-Ok.ensures.created c.args.cpu low c.in_ok-spot.ensures.name names (spot names path))
 
 pub returns-in-Ok-clause-log : goal.returns-in-Ok-clause-log
 returns-in-Ok-clause-log g c names d j held h path led number sound is =
     let runs : c.self.inside.stopped ≡ false = ap (λ (m : Mount g.row.P.Denot). m.stopped) c.self.view_is ∙ c.in_ok-writable.ensures.runs in
     let writes : c.self.inside.read_only ≡ false = ap (λ (m : Mount g.row.P.Denot). m.read_only) c.self.view_is ∙ c.in_ok-writable.ensures.writes in
     let low : c.args.cpu < c.self.inside.sup.cpus = subst (λ (m : Mount g.row.P.Denot). c.args.cpu < m.sup.cpus) (sym c.self.view_is) c.in_ok-writable.ensures.cpu in
-    let spot : (names : List (List ℕ)) → IsPath c.args.path.now names → IsSpot (tree_of (g.P.Pmem.region c.self.inside.memory) c.self.inside.rows.items) c.self.inside.rows.items c.self.inside.sup c.args.cpu names c.in_ok-spot.spot.place c.in_ok-spot.spot.name.now c.in_ok-spot.spot.inode =
-    λ names path. subst (λ (rows : List Row). IsSpot (tree_of (g.P.Pmem.region c.self.inside.memory) rows) rows c.self.inside.sup c.args.cpu names c.in_ok-spot.spot.place c.in_ok-spot.spot.name.now c.in_ok-spot.spot.inode) c.deref.ensures.value (c.in_ok-spot.ensures.spot (g.P.Pmem.region c.self.inside.memory) names path) in
+    let spot : (names : List (List ℕ)) → IsPath c.args.path.now names → IsSpot (tree_of (g.P.Pmem.region c.self.inside.memory) c.self.inside.rows.items) c.self.inside.rows.items c.self.inside.sup c.args.cpu names (place_in c.self.inside.rows.items c.in_ok-spot.spot.directory) c.in_ok-spot.spot.name.now c.in_ok-spot.spot.inode =
+    λ names path. subst (λ (s : Super). IsSpot (tree_of (g.P.Pmem.region c.self.inside.memory) c.self.inside.rows.items) c.self.inside.rows.items s c.args.cpu names (place_in c.self.inside.rows.items c.in_ok-spot.spot.directory) c.in_ok-spot.spot.name.now c.in_ok-spot.spot.inode) c.self.invariant.1 (c.in_ok-spot.ensures.spot (g.P.Pmem.region c.self.inside.memory) names path) in
     subst (λ (m : Mount g.row.P.Denot). walk (tree_of (g.P.Pmem.region m.memory) m.rows) 1 names ≡ Ok d → unused_number m.sup m.rows c.args.cpu ≡ Some j → ShowsSound (g.P.Pmem.region m.memory) m.sup held → ShowsCreated (g.P.Pmem.region c.create_at.new.memory) m.sup held c.args.kind c.args.mode c.args.time j d h (last_name names)) c.self.view_is
-    (λ walked free_number shown. created_log c.self.invariant runs writes c.in-Ok.ensures.created c.args.cpu low c.in_ok-spot.ensures.name names (spot names path) d j held h walked free_number shown is) led number sound
+    (λ walked free_number shown. created_log c.self.invariant.0 runs writes c.in-Ok.ensures.created c.args.cpu low c.in_ok-spot.ensures.name names (spot names path) d j held h walked free_number shown is) led number sound
 
 pub returns-in-Err-clause-refused : goal.returns-in-Err-clause-refused
 returns-in-Err-clause-refused g c still p says =
     let runs : c.self.inside.stopped ≡ false = ap (λ (m : Mount g.row.P.Denot). m.stopped) c.self.view_is ∙ c.in_ok-writable.ensures.runs in
-    let spot : (names : List (List ℕ)) → IsPath c.args.path.now names → IsSpot (tree_of (g.P.Pmem.region c.self.inside.memory) c.self.inside.rows.items) c.self.inside.rows.items c.self.inside.sup c.args.cpu names c.in_ok-spot.spot.place c.in_ok-spot.spot.name.now c.in_ok-spot.spot.inode =
-    λ names path. subst (λ (rows : List Row). IsSpot (tree_of (g.P.Pmem.region c.self.inside.memory) rows) rows c.self.inside.sup c.args.cpu names c.in_ok-spot.spot.place c.in_ok-spot.spot.name.now c.in_ok-spot.spot.inode) c.deref.ensures.value (c.in_ok-spot.ensures.spot (g.P.Pmem.region c.self.inside.memory) names path) in
-    let within : c.in_ok-spot.spot.place < length c.self.inside.rows.items = subst (λ (rows : List Row). c.in_ok-spot.spot.place < length rows) c.deref.ensures.value c.in_ok-spot.ensures.within in
-    let r = a_row c.self.inside.rows.items c.in_ok-spot.spot.place within in
-    let rises = rows_rise (g.P.Pmem.region c.self.inside.memory) c.self.inside.sup c.self.inside.rows.items c.self.inside.free c.self.inside.faults.items c.self.inside.read_only c.self.inside.stopped c.self.invariant runs in
-    let numbered : row_of c.self.inside.rows.items r.0.inode ≡ Some r.0 = row_at c.self.inside.rows.items c.in_ok-spot.spot.place r.0 rises r.1 in
+    let spot : (names : List (List ℕ)) → IsPath c.args.path.now names → IsSpot (tree_of (g.P.Pmem.region c.self.inside.memory) c.self.inside.rows.items) c.self.inside.rows.items c.self.inside.sup c.args.cpu names (place_in c.self.inside.rows.items c.in_ok-spot.spot.directory) c.in_ok-spot.spot.name.now c.in_ok-spot.spot.inode =
+    λ names path. subst (λ (s : Super). IsSpot (tree_of (g.P.Pmem.region c.self.inside.memory) c.self.inside.rows.items) c.self.inside.rows.items s c.args.cpu names (place_in c.self.inside.rows.items c.in_ok-spot.spot.directory) c.in_ok-spot.spot.name.now c.in_ok-spot.spot.inode) c.self.invariant.1 (c.in_ok-spot.ensures.spot (g.P.Pmem.region c.self.inside.memory) names path) in
+    let r = row_in_use c.self.inside.rows.items c.in_ok-spot.spot.directory c.in_ok-spot.ensures.in_use in
+    let at : slice_get c.self.inside.rows.items (place_in c.self.inside.rows.items c.in_ok-spot.spot.directory) ≡ Some r.0 = at_place c.self.inside.rows.items c.in_ok-spot.spot.directory ∙ r.1 in
+    let numbered = own_row c.self.inside.rows.items c.in_ok-spot.spot.directory r.0 r.1 in
     let none : first_refusal (spot_tests (tree_of (g.P.Pmem.region c.self.inside.memory) c.self.inside.rows.items) (unused_number c.self.inside.sup c.self.inside.rows.items c.args.cpu) p) ≡ None =
-    subst (λ (rows : List Row). first_refusal (spot_tests (tree_of (g.P.Pmem.region c.self.inside.memory) rows) (unused_number c.self.inside.sup rows c.args.cpu) p) ≡ None) c.deref.ensures.value (c.in_ok-spot.ensures.allowed (g.P.Pmem.region c.self.inside.memory) p says) in
-    create_refused g.P.Pmem.region c.self.view_is c.args.cpu c.in_ok-writable.ensures.passed c.in_ok-spot.spot.place r.0 r.1 numbered c.in_ok-spot.spot.name.now c.in_ok-spot.spot.inode c.args.time c.args.path.now spot p says none c.in-Err.refusal (c.in-Err.ensures.refused r.0 r.1)
+    subst (λ (s : Super). first_refusal (spot_tests (tree_of (g.P.Pmem.region c.self.inside.memory) c.self.inside.rows.items) (unused_number s c.self.inside.rows.items c.args.cpu) p) ≡ None) c.self.invariant.1 (c.in_ok-spot.ensures.allowed (g.P.Pmem.region c.self.inside.memory) p says) in
+    create_refused g.P.Pmem.region c.self.view_is c.args.cpu c.in_ok-writable.ensures.passed (place_in c.self.inside.rows.items c.in_ok-spot.spot.directory) r.0 at numbered c.in_ok-spot.spot.name.now c.in_ok-spot.spot.inode c.args.time c.args.path.now spot p says none c.in-Err.refusal (c.in-Err.ensures.refused r.0 r.1)
 
 pub returns-in-Err-clause-unchanged : goal.returns-in-Err-clause-unchanged
 returns-in-Err-clause-unchanged g c off =

@@ -1,10 +1,10 @@
-use Rattle.std.proofs.Common.{◌≡◌, ◌∙◌, ◌<◌, ◌⊎◌, ◌++◌, ◌∷◌, [], List, ℕ, Some, None, Ok, false, inr, length, ap, subst, sym}
+use Rattle.std.proofs.Common.{◌≡◌, ◌∙◌, ◌<◌, ◌⊎◌, ◌++◌, ◌∷◌, [], List, ℕ, Some, Ok, false, inr, ap, subst, sym, slice_get}
 use Rattle.std.proofs.lemmas.Result.{err_from_is_err_and}
-use Rattle.nv_scan.specs.declared.piece.Row.{Row}
-use Rattle.nv_held.specs.nv_named.Read.{row_of}
 use Rattle.nv_tree.specs.declared.refusal.Refusal.{Refusal}
 use Rattle.nv_tree.specs.declared.refusal.Refusal.TheVariants.{Memory, Stopped}
 use Rattle.nv_held.specs.Mounted.{ShowsSound}
+use Rattle.nv_rows.specs.Rows.{place_in}
+use Rattle.nv_rows.proofs.Places.{at_place, own_row, row_in_use}
 use Rattle.nv_entry.specs.declared.entry.Operation.TheVariants.{Add, Remove}
 use Rattle.nv_tree.specs.Path.{IsPath, last_name}
 use Rattle.nv_tree.specs.Tree.{SameTree, walk}
@@ -13,13 +13,13 @@ use Rattle.nv_tree.specs.Refusals.{first_refusal, has_no_space, is_bad_name, is_
 use Rattle.nv_tree.proofs.Texts.{text_says}
 use Rattle.nv_calls.specs.Grown.{ShowsGrownLog}
 use Rattle.nv_calls.specs.LinkCalls.{ShowsBothGrew}
-use Rattle.nv_calls.specs.MoveCalls.{IsMoveSpot, move_entries, rename_blocks, rename_spot_tests}
+use Rattle.nv_calls.specs.MoveCalls.{move_entries, rename_blocks, rename_spot_tests}
 use Rattle.nv_calls.specs.Mount.{Mount}
 use Rattle.nv_calls.specs.NameCalls.{name_entries}
 use Rattle.nv_calls.specs.Seen.{LeadsTo, tree_of}
 use Rattle.nv_calls.specs.World.{world_of}
 use Rattle.nv_calls.proofs.CreateCall.{kept_or_stopped, unchanged_rows}
-use Rattle.nv_calls.proofs.CreateTests.{a_row, long_text}
+use Rattle.nv_calls.proofs.CreateTests.{long_text}
 use Rattle.nv_calls.proofs.Kept.{rows_rise}
 use Rattle.nv_calls.proofs.Listed.{refused_by}
 use Rattle.nv_calls.proofs.MoveCall.{moved_kept, moved_log, moved_logs, moved_tree, rename_allowed, rename_refused}
@@ -28,7 +28,6 @@ use Rattle.nv_calls.proofs.MoveTests.{rename_refuses}
 use Rattle.nv_calls.proofs.OneRow.{stands}
 use Rattle.nv_calls.proofs.RowChange.{same_mount}
 use Rattle.nv_calls.proofs.RowNumbers.{row_commits}
-use Rattle.nv_calls.proofs.RowOf.{row_at}
 use Rattle.nv_calls.proofs.SetAttr.{late_reply, not_stop}
 use Rattle.nv_calls.proofs.Tests.{early_reply, if_err, writing_goes_on}
 use Rattle.nv_calls.proofs.Walks.{longer}
@@ -50,16 +49,11 @@ returns-in_err-writable-clause-stopped g c runs =
     early_reply c.args.self.now.stopped c.from_residual.result c.in_err-writable.field-0.0 w.0 w.1 w.2
     (λ is. writing_goes_on (world_of c.args.self.now) c.args.cpu (c.in_err-writable.ensures.refused runs [] ∙ ap (λ (e : Refusal). Some e) is)) runs
 
-pub rename_for-requires : goal.rename_for-requires
-rename_for-requires g c =
-    let runs : c.self.inside.stopped ≡ false = ap (λ (m : Mount g.row.P.Denot). m.stopped) c.self.view_is ∙ c.in_ok-writable.ensures.runs in
-    rw c.deref.ensures.value (rows_rise (g.P.Pmem.region c.self.inside.memory) c.self.inside.sup c.self.inside.rows.items c.self.inside.free c.self.inside.faults.items c.self.inside.read_only c.self.inside.stopped c.self.invariant runs)
-
 pub returns-in_err-moved-clause-refused : goal.returns-in_err-moved-clause-refused
 returns-in_err-moved-clause-refused g c still p q says says_new =
     let told : first_refusal (rename_spot_tests (tree_of (g.P.Pmem.region c.args.self.now.memory) c.args.self.now.rows) p q) ≡ Some c.in_err-moved.field-0.0 =
     subst (λ (m : Mount g.row.P.Denot). first_refusal (rename_spot_tests (tree_of (g.P.Pmem.region m.memory) m.rows) p q) ≡ Some c.in_err-moved.field-0.0) c.self.view_is
-    (subst (λ (rows : List Row). first_refusal (rename_spot_tests (tree_of (g.P.Pmem.region c.self.inside.memory) rows) p q) ≡ Some c.in_err-moved.field-0.0) c.deref.ensures.value (c.in_err-moved.ensures.refused (g.P.Pmem.region c.self.inside.memory) p q says says_new)) in
+    (c.in_err-moved.ensures.refused (g.P.Pmem.region c.self.inside.memory) p q says says_new) in
     let w = err_from_is_err_and c.from_residual-in_err-moved.result c.from_residual-in_err-moved.ensures.1 in
     refused_by c.from_residual-in_err-moved.result c.in_err-moved.field-0.0 w.0 (λ (e : Refusal). (e ≡ Memory) ⊎ ((e ≡ Stopped) ⊎ (first_refusal (rename_tests (world_of c.args.self.now) (tree_of (g.P.Pmem.region c.args.self.now.memory) c.args.self.now.rows) c.args.cpu p q (rename_blocks c.args.self.now.rows (tree_of (g.P.Pmem.region c.args.self.now.memory) c.args.self.now.rows) p q)) ≡ Some e))) w.1 w.2
     (inr (inr (rename_refuses (world_of c.args.self.now) (tree_of (g.P.Pmem.region c.args.self.now.memory) c.args.self.now.rows) c.args.cpu c.in_ok-writable.ensures.passed p q (rename_blocks c.args.self.now.rows (tree_of (g.P.Pmem.region c.args.self.now.memory) c.args.self.now.rows) p q) c.in_err-moved.field-0.0 told)))
@@ -75,119 +69,104 @@ returns-in_err-moved-clause-stopped g c runs =
     let said_new = text_says c.args.new.now in
     let told = c.in_err-moved.ensures.refused (g.P.Pmem.region c.self.inside.memory) said.0 said_new.0 said.1 said_new.1 in
     early_reply c.args.self.now.stopped c.from_residual-in_err-moved.result c.in_err-moved.field-0.0 w.0 w.1 w.2
-    (λ is. move_goes_on (tree_of (g.P.Pmem.region c.self.inside.memory) c.deref.result.now) said.0 said_new.0 (told ∙ ap (λ (e : Refusal). Some e) is)) runs
-
-pub move_at-requires-clause-rising : goal.move_at-requires-clause-rising
-move_at-requires-clause-rising g c =
-    let runs : c.self.inside.stopped ≡ false = ap (λ (m : Mount g.row.P.Denot). m.stopped) c.self.view_is ∙ c.in_ok-writable.ensures.runs in
-    rows_rise (g.P.Pmem.region c.self.inside.memory) c.self.inside.sup c.self.inside.rows.items c.self.inside.free c.self.inside.faults.items c.self.inside.read_only c.self.inside.stopped c.self.invariant runs
+    (λ is. move_goes_on (tree_of (g.P.Pmem.region c.self.inside.memory) c.self.inside.rows.items) said.0 said_new.0 (told ∙ ap (λ (e : Refusal). Some e) is)) runs
 
 pub move_at-requires-clause-stands : goal.move_at-requires-clause-stands
 move_at-requires-clause-stands g c row at =
     let runs : c.self.inside.stopped ≡ false = ap (λ (m : Mount g.row.P.Denot). m.stopped) c.self.view_is ∙ c.in_ok-writable.ensures.runs in
     let writes : c.self.inside.read_only ≡ false = ap (λ (m : Mount g.row.P.Denot). m.read_only) c.self.view_is ∙ c.in_ok-writable.ensures.writes in
     let low : c.args.cpu < c.self.inside.sup.cpus = subst (λ (m : Mount g.row.P.Denot). c.args.cpu < m.sup.cpus) (sym c.self.view_is) c.in_ok-writable.ensures.cpu in
-    row_commits c.self.invariant runs writes row (stands c.self.inside.rows.items c.in_ok-moved.moved.from.directory row at) c.args.cpu low
+    row_commits c.self.invariant.0 runs writes row (stands c.self.inside.rows.items (place_in c.self.inside.rows.items c.in_ok-moved.moved.from.directory) row (at_place c.self.inside.rows.items c.in_ok-moved.moved.from.directory ∙ at)) c.args.cpu low
 
 pub move_at-requires-clause-other_stands : goal.move_at-requires-clause-other_stands
 move_at-requires-clause-other_stands g c row at =
     let runs : c.self.inside.stopped ≡ false = ap (λ (m : Mount g.row.P.Denot). m.stopped) c.self.view_is ∙ c.in_ok-writable.ensures.runs in
     let writes : c.self.inside.read_only ≡ false = ap (λ (m : Mount g.row.P.Denot). m.read_only) c.self.view_is ∙ c.in_ok-writable.ensures.writes in
     let low : c.args.cpu < c.self.inside.sup.cpus = subst (λ (m : Mount g.row.P.Denot). c.args.cpu < m.sup.cpus) (sym c.self.view_is) c.in_ok-writable.ensures.cpu in
-    row_commits c.self.invariant runs writes row (stands c.self.inside.rows.items c.in_ok-moved.moved.directory row at) c.args.cpu low
+    row_commits c.self.invariant.0 runs writes row (stands c.self.inside.rows.items (place_in c.self.inside.rows.items c.in_ok-moved.moved.directory) row (at_place c.self.inside.rows.items c.in_ok-moved.moved.directory ∙ at)) c.args.cpu low
 
 pub invariant_of-self : goal.invariant_of-self
 invariant_of-self g c =
     let runs : c.self.inside.stopped ≡ false = ap (λ (m : Mount g.row.P.Denot). m.stopped) c.self.view_is ∙ c.in_ok-writable.ensures.runs in
     let writes : c.self.inside.read_only ≡ false = ap (λ (m : Mount g.row.P.Denot). m.read_only) c.self.view_is ∙ c.in_ok-writable.ensures.writes in
-    let spot : (names others : List (List ℕ)) → IsPath c.args.old.now names → IsPath c.args.new.now others → IsMoveSpot (tree_of (g.P.Pmem.region c.self.inside.memory) c.self.inside.rows.items) c.self.inside.rows.items names others c.in_ok-moved.moved.from.directory c.in_ok-moved.moved.from.name.now c.in_ok-moved.moved.from.target c.in_ok-moved.moved.directory c.in_ok-moved.moved.name.now =
-    λ names others path other_path. subst (λ (rows : List Row). IsMoveSpot (tree_of (g.P.Pmem.region c.self.inside.memory) rows) rows names others c.in_ok-moved.moved.from.directory c.in_ok-moved.moved.from.name.now c.in_ok-moved.moved.from.target c.in_ok-moved.moved.directory c.in_ok-moved.moved.name.now) c.deref.ensures.value (c.in_ok-moved.ensures.spot (g.P.Pmem.region c.self.inside.memory) names others path other_path) in
+    let spot = c.in_ok-moved.ensures.spot (g.P.Pmem.region c.self.inside.memory) in
     let paths = c.in_ok-moved.ensures.paths in
     let old_path = paths.0 in
     let new_path = paths.1 in
-    moved_kept c.self.invariant runs writes c.in_ok-moved.ensures.former c.in_ok-moved.ensures.name old_path.0 new_path.0 new_path.1 (spot old_path.0 (new_path.0 ∷ new_path.1) old_path.1 new_path.2) c.in-Ok.ensures.moved c.self.inside.stopped
+    (moved_kept c.self.invariant.0 runs writes c.in_ok-moved.ensures.former c.in_ok-moved.ensures.name old_path.0 new_path.0 new_path.1 (spot old_path.0 (new_path.0 ∷ new_path.1) old_path.1 new_path.2) c.in-Ok.ensures.moved c.self.inside.stopped, c.move_at.ensures.limit ∙ c.self.invariant.1)
 
 pub invariant_of-self-in-Err : goal.invariant_of-self-in-Err
 invariant_of-self-in-Err g c =
     let runs : c.self.inside.stopped ≡ false = ap (λ (m : Mount g.row.P.Denot). m.stopped) c.self.view_is ∙ c.in_ok-writable.ensures.runs in
     let writes : c.self.inside.read_only ≡ false = ap (λ (m : Mount g.row.P.Denot). m.read_only) c.self.view_is ∙ c.in_ok-writable.ensures.writes in
-    kept_or_stopped g.P.Pmem.region c.self.invariant runs writes c.in-Err.refusal c.is_stop-self-inside.result c.is_stop-self-inside.ensures.yes c.is_stop-self-inside.ensures.no c.move_at.ensures.lists c.in-Err.ensures.unchanged
+    (kept_or_stopped g.P.Pmem.region c.self.invariant.0 runs writes c.in-Err.refusal c.is_stop-self-inside.result c.is_stop-self-inside.ensures.yes c.is_stop-self-inside.ensures.no c.move_at.ensures.lists c.in-Err.ensures.unchanged, c.move_at.ensures.limit ∙ c.self.invariant.1)
 
 pub returns-in-Ok-clause-allowed : goal.returns-in-Ok-clause-allowed
 returns-in-Ok-clause-allowed g c p q says says_new =
     let runs : c.self.inside.stopped ≡ false = ap (λ (m : Mount g.row.P.Denot). m.stopped) c.self.view_is ∙ c.in_ok-writable.ensures.runs in
-    let spot : (names others : List (List ℕ)) → IsPath c.args.old.now names → IsPath c.args.new.now others → IsMoveSpot (tree_of (g.P.Pmem.region c.self.inside.memory) c.self.inside.rows.items) c.self.inside.rows.items names others c.in_ok-moved.moved.from.directory c.in_ok-moved.moved.from.name.now c.in_ok-moved.moved.from.target c.in_ok-moved.moved.directory c.in_ok-moved.moved.name.now =
-    λ names others path other_path. subst (λ (rows : List Row). IsMoveSpot (tree_of (g.P.Pmem.region c.self.inside.memory) rows) rows names others c.in_ok-moved.moved.from.directory c.in_ok-moved.moved.from.name.now c.in_ok-moved.moved.from.target c.in_ok-moved.moved.directory c.in_ok-moved.moved.name.now) c.deref.ensures.value (c.in_ok-moved.ensures.spot (g.P.Pmem.region c.self.inside.memory) names others path other_path) in
-    let from_within : c.in_ok-moved.moved.from.directory < length c.self.inside.rows.items = subst (λ (rows : List Row). c.in_ok-moved.moved.from.directory < length rows) c.deref.ensures.value c.in_ok-moved.ensures.from in
-    let to_within : c.in_ok-moved.moved.directory < length c.self.inside.rows.items = subst (λ (rows : List Row). c.in_ok-moved.moved.directory < length rows) c.deref.ensures.value c.in_ok-moved.ensures.directory in
-    let target_within : c.in_ok-moved.moved.from.target < length c.self.inside.rows.items = subst (λ (rows : List Row). c.in_ok-moved.moved.from.target < length rows) c.deref.ensures.value c.in_ok-moved.ensures.target in
-    let from = a_row c.self.inside.rows.items c.in_ok-moved.moved.from.directory from_within in
-    let to = a_row c.self.inside.rows.items c.in_ok-moved.moved.directory to_within in
-    let inode = a_row c.self.inside.rows.items c.in_ok-moved.moved.from.target target_within in
-    let rises = rows_rise (g.P.Pmem.region c.self.inside.memory) c.self.inside.sup c.self.inside.rows.items c.self.inside.free c.self.inside.faults.items c.self.inside.read_only c.self.inside.stopped c.self.invariant runs in
-    let is : row_of c.self.inside.rows.items from.0.inode ≡ Some from.0 = row_at c.self.inside.rows.items c.in_ok-moved.moved.from.directory from.0 rises from.1 in
-    let other_is : row_of c.self.inside.rows.items to.0.inode ≡ Some to.0 = row_at c.self.inside.rows.items c.in_ok-moved.moved.directory to.0 rises to.1 in
-    let none : first_refusal (rename_spot_tests (tree_of (g.P.Pmem.region c.self.inside.memory) c.self.inside.rows.items) p q) ≡ None =
-    subst (λ (rows : List Row). first_refusal (rename_spot_tests (tree_of (g.P.Pmem.region c.self.inside.memory) rows) p q) ≡ None) c.deref.ensures.value (c.in_ok-moved.ensures.allowed (g.P.Pmem.region c.self.inside.memory) p q says says_new) in
-    rename_allowed g.P.Pmem.region c.self.view_is c.args.cpu c.in_ok-writable.ensures.passed c.in_ok-moved.moved.from.directory c.in_ok-moved.moved.from.target c.in_ok-moved.moved.directory from.0 to.0 inode.0 rises from.1 to.1 is other_is c.in_ok-moved.moved.from.name.now c.in_ok-moved.moved.name.now c.args.time c.args.old.now c.args.new.now spot p q says says_new none (c.in-Ok.ensures.enough from.0 to.0 inode.0 from.1 to.1 inode.1)
+    let spot = c.in_ok-moved.ensures.spot (g.P.Pmem.region c.self.inside.memory) in
+    let from = row_in_use c.self.inside.rows.items c.in_ok-moved.moved.from.directory c.in_ok-moved.ensures.from in
+    let from_at : slice_get c.self.inside.rows.items (place_in c.self.inside.rows.items c.in_ok-moved.moved.from.directory) ≡ Some from.0 = at_place c.self.inside.rows.items c.in_ok-moved.moved.from.directory ∙ from.1 in
+    let to = row_in_use c.self.inside.rows.items c.in_ok-moved.moved.directory c.in_ok-moved.ensures.directory in
+    let to_at : slice_get c.self.inside.rows.items (place_in c.self.inside.rows.items c.in_ok-moved.moved.directory) ≡ Some to.0 = at_place c.self.inside.rows.items c.in_ok-moved.moved.directory ∙ to.1 in
+    let inode = row_in_use c.self.inside.rows.items c.in_ok-moved.moved.from.target c.in_ok-moved.ensures.target in
+    let rises = rows_rise (g.P.Pmem.region c.self.inside.memory) c.self.inside.sup c.self.inside.rows.items c.self.inside.free c.self.inside.faults.items c.self.inside.read_only c.self.inside.stopped c.self.invariant.0 runs in
+    let is = own_row c.self.inside.rows.items c.in_ok-moved.moved.from.directory from.0 from.1 in
+    let other_is = own_row c.self.inside.rows.items c.in_ok-moved.moved.directory to.0 to.1 in
+    let none = c.in_ok-moved.ensures.allowed (g.P.Pmem.region c.self.inside.memory) p q says says_new in
+    rename_allowed g.P.Pmem.region c.self.view_is c.args.cpu c.in_ok-writable.ensures.passed (place_in c.self.inside.rows.items c.in_ok-moved.moved.from.directory) (place_in c.self.inside.rows.items c.in_ok-moved.moved.from.target) (place_in c.self.inside.rows.items c.in_ok-moved.moved.directory) from.0 to.0 inode.0 rises from_at to_at is other_is c.in_ok-moved.moved.from.name.now c.in_ok-moved.moved.name.now c.args.time c.args.old.now c.args.new.now spot p q says says_new none (c.in-Ok.ensures.enough from.0 to.0 inode.0 from.1 to.1 inode.1)
 
 pub returns-in-Ok-clause-changed : goal.returns-in-Ok-clause-changed
 returns-in-Ok-clause-changed g c names others path other_path =
     let runs : c.self.inside.stopped ≡ false = ap (λ (m : Mount g.row.P.Denot). m.stopped) c.self.view_is ∙ c.in_ok-writable.ensures.runs in
     let writes : c.self.inside.read_only ≡ false = ap (λ (m : Mount g.row.P.Denot). m.read_only) c.self.view_is ∙ c.in_ok-writable.ensures.writes in
-    let spot : (names others : List (List ℕ)) → IsPath c.args.old.now names → IsPath c.args.new.now others → IsMoveSpot (tree_of (g.P.Pmem.region c.self.inside.memory) c.self.inside.rows.items) c.self.inside.rows.items names others c.in_ok-moved.moved.from.directory c.in_ok-moved.moved.from.name.now c.in_ok-moved.moved.from.target c.in_ok-moved.moved.directory c.in_ok-moved.moved.name.now =
-    λ names others path other_path. subst (λ (rows : List Row). IsMoveSpot (tree_of (g.P.Pmem.region c.self.inside.memory) rows) rows names others c.in_ok-moved.moved.from.directory c.in_ok-moved.moved.from.name.now c.in_ok-moved.moved.from.target c.in_ok-moved.moved.directory c.in_ok-moved.moved.name.now) c.deref.ensures.value (c.in_ok-moved.ensures.spot (g.P.Pmem.region c.self.inside.memory) names others path other_path) in
+    let spot = c.in_ok-moved.ensures.spot (g.P.Pmem.region c.self.inside.memory) in
     let long = long_text c.args.new.now c.in_ok-moved.ensures.paths.1 in
     let v = longer c.args.new.now others other_path long in
     let others_path : IsPath c.args.new.now (v.0 ∷ v.1) = subst (IsPath c.args.new.now) v.2 other_path in
     subst (λ (xs : List (List ℕ)). SameTree (tree_of (g.P.Pmem.region c.move_at.new.memory) c.move_at.new.rows.items) (renamed names xs c.args.time (tree_of (g.P.Pmem.region c.args.self.now.memory) c.args.self.now.rows))) (sym v.2)
-    (subst (λ (m : Mount g.row.P.Denot). SameTree (tree_of (g.P.Pmem.region c.move_at.new.memory) c.move_at.new.rows.items) (renamed names (v.0 ∷ v.1) c.args.time (tree_of (g.P.Pmem.region m.memory) m.rows))) c.self.view_is (moved_tree c.self.invariant runs writes c.in_ok-moved.ensures.former c.in_ok-moved.ensures.name names v.0 v.1 (spot names (v.0 ∷ v.1) path others_path) c.in-Ok.ensures.moved))
+    (subst (λ (m : Mount g.row.P.Denot). SameTree (tree_of (g.P.Pmem.region c.move_at.new.memory) c.move_at.new.rows.items) (renamed names (v.0 ∷ v.1) c.args.time (tree_of (g.P.Pmem.region m.memory) m.rows))) c.self.view_is (moved_tree c.self.invariant.0 runs writes c.in_ok-moved.ensures.former c.in_ok-moved.ensures.name names v.0 v.1 (spot names (v.0 ∷ v.1) path others_path) c.in-Ok.ensures.moved))
 
 pub returns-in-Ok-clause-log : goal.returns-in-Ok-clause-log
 returns-in-Ok-clause-log g c names others i d e node held h k path other_path led walked ended differ sound is other_is =
     let runs : c.self.inside.stopped ≡ false = ap (λ (m : Mount g.row.P.Denot). m.stopped) c.self.view_is ∙ c.in_ok-writable.ensures.runs in
     let writes : c.self.inside.read_only ≡ false = ap (λ (m : Mount g.row.P.Denot). m.read_only) c.self.view_is ∙ c.in_ok-writable.ensures.writes in
-    let spot : (names others : List (List ℕ)) → IsPath c.args.old.now names → IsPath c.args.new.now others → IsMoveSpot (tree_of (g.P.Pmem.region c.self.inside.memory) c.self.inside.rows.items) c.self.inside.rows.items names others c.in_ok-moved.moved.from.directory c.in_ok-moved.moved.from.name.now c.in_ok-moved.moved.from.target c.in_ok-moved.moved.directory c.in_ok-moved.moved.name.now =
-    λ names others path other_path. subst (λ (rows : List Row). IsMoveSpot (tree_of (g.P.Pmem.region c.self.inside.memory) rows) rows names others c.in_ok-moved.moved.from.directory c.in_ok-moved.moved.from.name.now c.in_ok-moved.moved.from.target c.in_ok-moved.moved.directory c.in_ok-moved.moved.name.now) c.deref.ensures.value (c.in_ok-moved.ensures.spot (g.P.Pmem.region c.self.inside.memory) names others path other_path) in
+    let spot = c.in_ok-moved.ensures.spot (g.P.Pmem.region c.self.inside.memory) in
     let long = long_text c.args.new.now c.in_ok-moved.ensures.paths.1 in
     let v = longer c.args.new.now others other_path long in
     let others_path : IsPath c.args.new.now (v.0 ∷ v.1) = subst (IsPath c.args.new.now) v.2 other_path in
     subst (λ (xs : List (List ℕ)). walk (tree_of (g.P.Pmem.region c.args.self.now.memory) c.args.self.now.rows) 1 xs ≡ Ok e → ShowsBothGrew (g.P.Pmem.region c.move_at.new.memory) c.args.self.now.sup held d h (name_entries Remove i (last_name names) c.args.time) e k (name_entries Add i (last_name xs) c.args.time)) (sym v.2)
     (subst (λ (m : Mount g.row.P.Denot). LeadsTo (tree_of (g.P.Pmem.region m.memory) m.rows) names i node → walk (tree_of (g.P.Pmem.region m.memory) m.rows) 1 names ≡ Ok d → ShowsSound (g.P.Pmem.region m.memory) m.sup held → walk (tree_of (g.P.Pmem.region m.memory) m.rows) 1 (v.0 ∷ v.1) ≡ Ok e
     → ShowsBothGrew (g.P.Pmem.region c.move_at.new.memory) m.sup held d h (name_entries Remove i (last_name names) c.args.time) e k (name_entries Add i (last_name (v.0 ∷ v.1)) c.args.time)) c.self.view_is
-    (λ leads first shown second. moved_logs c.self.invariant runs writes c.in_ok-moved.ensures.former c.in_ok-moved.ensures.name names v.0 v.1 (spot names (v.0 ∷ v.1) path others_path) c.in-Ok.ensures.moved i d e node held h k leads first second differ shown is other_is) led walked sound) ended
+    (λ leads first shown second. moved_logs c.self.invariant.0 runs writes c.in_ok-moved.ensures.former c.in_ok-moved.ensures.name names v.0 v.1 (spot names (v.0 ∷ v.1) path others_path) c.in-Ok.ensures.moved i d e node held h k leads first second differ shown is other_is) led walked sound) ended
 
 pub returns-in-Ok-clause-within : goal.returns-in-Ok-clause-within
 returns-in-Ok-clause-within g c names others i d node held h path other_path led walked ended sound is =
     let runs : c.self.inside.stopped ≡ false = ap (λ (m : Mount g.row.P.Denot). m.stopped) c.self.view_is ∙ c.in_ok-writable.ensures.runs in
     let writes : c.self.inside.read_only ≡ false = ap (λ (m : Mount g.row.P.Denot). m.read_only) c.self.view_is ∙ c.in_ok-writable.ensures.writes in
-    let spot : (names others : List (List ℕ)) → IsPath c.args.old.now names → IsPath c.args.new.now others → IsMoveSpot (tree_of (g.P.Pmem.region c.self.inside.memory) c.self.inside.rows.items) c.self.inside.rows.items names others c.in_ok-moved.moved.from.directory c.in_ok-moved.moved.from.name.now c.in_ok-moved.moved.from.target c.in_ok-moved.moved.directory c.in_ok-moved.moved.name.now =
-    λ names others path other_path. subst (λ (rows : List Row). IsMoveSpot (tree_of (g.P.Pmem.region c.self.inside.memory) rows) rows names others c.in_ok-moved.moved.from.directory c.in_ok-moved.moved.from.name.now c.in_ok-moved.moved.from.target c.in_ok-moved.moved.directory c.in_ok-moved.moved.name.now) c.deref.ensures.value (c.in_ok-moved.ensures.spot (g.P.Pmem.region c.self.inside.memory) names others path other_path) in
+    let spot = c.in_ok-moved.ensures.spot (g.P.Pmem.region c.self.inside.memory) in
     let long = long_text c.args.new.now c.in_ok-moved.ensures.paths.1 in
     let v = longer c.args.new.now others other_path long in
     let others_path : IsPath c.args.new.now (v.0 ∷ v.1) = subst (IsPath c.args.new.now) v.2 other_path in
     subst (λ (xs : List (List ℕ)). walk (tree_of (g.P.Pmem.region c.args.self.now.memory) c.args.self.now.rows) 1 xs ≡ Ok d → ShowsGrownLog (g.P.Pmem.region c.move_at.new.memory) c.args.self.now.sup held d h (move_entries i (last_name names) (last_name xs) c.args.time)) (sym v.2)
     (subst (λ (m : Mount g.row.P.Denot). LeadsTo (tree_of (g.P.Pmem.region m.memory) m.rows) names i node → walk (tree_of (g.P.Pmem.region m.memory) m.rows) 1 names ≡ Ok d → ShowsSound (g.P.Pmem.region m.memory) m.sup held → walk (tree_of (g.P.Pmem.region m.memory) m.rows) 1 (v.0 ∷ v.1) ≡ Ok d
     → ShowsGrownLog (g.P.Pmem.region c.move_at.new.memory) m.sup held d h (move_entries i (last_name names) (last_name (v.0 ∷ v.1)) c.args.time)) c.self.view_is
-    (λ leads first shown second. moved_log c.self.invariant runs writes c.in_ok-moved.ensures.former c.in_ok-moved.ensures.name names v.0 v.1 (spot names (v.0 ∷ v.1) path others_path) c.in-Ok.ensures.moved i d node held h leads first second shown is) led walked sound) ended
+    (λ leads first shown second. moved_log c.self.invariant.0 runs writes c.in_ok-moved.ensures.former c.in_ok-moved.ensures.name names v.0 v.1 (spot names (v.0 ∷ v.1) path others_path) c.in-Ok.ensures.moved i d node held h leads first second shown is) led walked sound) ended
 
 pub returns-in-Err-clause-refused : goal.returns-in-Err-clause-refused
 returns-in-Err-clause-refused g c still p q says says_new =
     let runs : c.self.inside.stopped ≡ false = ap (λ (m : Mount g.row.P.Denot). m.stopped) c.self.view_is ∙ c.in_ok-writable.ensures.runs in
-    let spot : (names others : List (List ℕ)) → IsPath c.args.old.now names → IsPath c.args.new.now others → IsMoveSpot (tree_of (g.P.Pmem.region c.self.inside.memory) c.self.inside.rows.items) c.self.inside.rows.items names others c.in_ok-moved.moved.from.directory c.in_ok-moved.moved.from.name.now c.in_ok-moved.moved.from.target c.in_ok-moved.moved.directory c.in_ok-moved.moved.name.now =
-    λ names others path other_path. subst (λ (rows : List Row). IsMoveSpot (tree_of (g.P.Pmem.region c.self.inside.memory) rows) rows names others c.in_ok-moved.moved.from.directory c.in_ok-moved.moved.from.name.now c.in_ok-moved.moved.from.target c.in_ok-moved.moved.directory c.in_ok-moved.moved.name.now) c.deref.ensures.value (c.in_ok-moved.ensures.spot (g.P.Pmem.region c.self.inside.memory) names others path other_path) in
-    let from_within : c.in_ok-moved.moved.from.directory < length c.self.inside.rows.items = subst (λ (rows : List Row). c.in_ok-moved.moved.from.directory < length rows) c.deref.ensures.value c.in_ok-moved.ensures.from in
-    let to_within : c.in_ok-moved.moved.directory < length c.self.inside.rows.items = subst (λ (rows : List Row). c.in_ok-moved.moved.directory < length rows) c.deref.ensures.value c.in_ok-moved.ensures.directory in
-    let target_within : c.in_ok-moved.moved.from.target < length c.self.inside.rows.items = subst (λ (rows : List Row). c.in_ok-moved.moved.from.target < length rows) c.deref.ensures.value c.in_ok-moved.ensures.target in
-    let from = a_row c.self.inside.rows.items c.in_ok-moved.moved.from.directory from_within in
-    let to = a_row c.self.inside.rows.items c.in_ok-moved.moved.directory to_within in
-    let inode = a_row c.self.inside.rows.items c.in_ok-moved.moved.from.target target_within in
-    let rises = rows_rise (g.P.Pmem.region c.self.inside.memory) c.self.inside.sup c.self.inside.rows.items c.self.inside.free c.self.inside.faults.items c.self.inside.read_only c.self.inside.stopped c.self.invariant runs in
-    let is : row_of c.self.inside.rows.items from.0.inode ≡ Some from.0 = row_at c.self.inside.rows.items c.in_ok-moved.moved.from.directory from.0 rises from.1 in
-    let other_is : row_of c.self.inside.rows.items to.0.inode ≡ Some to.0 = row_at c.self.inside.rows.items c.in_ok-moved.moved.directory to.0 rises to.1 in
-    let none : first_refusal (rename_spot_tests (tree_of (g.P.Pmem.region c.self.inside.memory) c.self.inside.rows.items) p q) ≡ None =
-    subst (λ (rows : List Row). first_refusal (rename_spot_tests (tree_of (g.P.Pmem.region c.self.inside.memory) rows) p q) ≡ None) c.deref.ensures.value (c.in_ok-moved.ensures.allowed (g.P.Pmem.region c.self.inside.memory) p q says says_new) in
-    rename_refused g.P.Pmem.region c.self.view_is c.args.cpu c.in_ok-writable.ensures.passed c.in_ok-moved.moved.from.directory c.in_ok-moved.moved.from.target c.in_ok-moved.moved.directory from.0 to.0 inode.0 rises from.1 to.1 is other_is c.in_ok-moved.moved.from.name.now c.in_ok-moved.moved.name.now c.args.time c.args.old.now c.args.new.now spot p q says says_new none c.in-Err.refusal (c.in-Err.ensures.refused from.0 to.0 inode.0 from.1 to.1 inode.1)
+    let spot = c.in_ok-moved.ensures.spot (g.P.Pmem.region c.self.inside.memory) in
+    let from = row_in_use c.self.inside.rows.items c.in_ok-moved.moved.from.directory c.in_ok-moved.ensures.from in
+    let from_at : slice_get c.self.inside.rows.items (place_in c.self.inside.rows.items c.in_ok-moved.moved.from.directory) ≡ Some from.0 = at_place c.self.inside.rows.items c.in_ok-moved.moved.from.directory ∙ from.1 in
+    let to = row_in_use c.self.inside.rows.items c.in_ok-moved.moved.directory c.in_ok-moved.ensures.directory in
+    let to_at : slice_get c.self.inside.rows.items (place_in c.self.inside.rows.items c.in_ok-moved.moved.directory) ≡ Some to.0 = at_place c.self.inside.rows.items c.in_ok-moved.moved.directory ∙ to.1 in
+    let inode = row_in_use c.self.inside.rows.items c.in_ok-moved.moved.from.target c.in_ok-moved.ensures.target in
+    let rises = rows_rise (g.P.Pmem.region c.self.inside.memory) c.self.inside.sup c.self.inside.rows.items c.self.inside.free c.self.inside.faults.items c.self.inside.read_only c.self.inside.stopped c.self.invariant.0 runs in
+    let is = own_row c.self.inside.rows.items c.in_ok-moved.moved.from.directory from.0 from.1 in
+    let other_is = own_row c.self.inside.rows.items c.in_ok-moved.moved.directory to.0 to.1 in
+    let none = c.in_ok-moved.ensures.allowed (g.P.Pmem.region c.self.inside.memory) p q says says_new in
+    rename_refused g.P.Pmem.region c.self.view_is c.args.cpu c.in_ok-writable.ensures.passed (place_in c.self.inside.rows.items c.in_ok-moved.moved.from.directory) (place_in c.self.inside.rows.items c.in_ok-moved.moved.from.target) (place_in c.self.inside.rows.items c.in_ok-moved.moved.directory) from.0 to.0 inode.0 rises from_at to_at is other_is c.in_ok-moved.moved.from.name.now c.in_ok-moved.moved.name.now c.args.time c.args.old.now c.args.new.now spot p q says says_new none c.in-Err.refusal (c.in-Err.ensures.refused from.0 to.0 inode.0 from.1 to.1 inode.1)
 
 pub returns-in-Err-clause-unchanged : goal.returns-in-Err-clause-unchanged
 returns-in-Err-clause-unchanged g c off =

@@ -1,15 +1,14 @@
-use Rattle.std.proofs.Common.{◌≡◌, ◌∙◌, ◌<◌, ◌%◌, ◌⊎◌, ◌++◌, ◌∷◌, [], List, ℕ, Some, None, Ok, false, inl, inr, length, ap, slice_get, subst, sym}
+use Rattle.std.proofs.Common.{◌≡◌, ◌∙◌, ◌<◌, ◌%◌, ◌⊎◌, ◌++◌, ◌∷◌, [], Some, Ok, false, inl, inr, ap, slice_get, subst, sym}
 use Rattle.std.proofs.lemmas.Result.{err_from_is_err_and}
-use Rattle.nv_super.specs.declared.kind.Kind.TheVariants.{Directory}
 use Rattle.nv_entry.specs.declared.entry.Operation.TheVariants.{Remove}
 use Rattle.nv_logpage.specs.Append.{needed}
-use Rattle.nv_names.specs.Names.{name_at}
 use Rattle.nv_scan.specs.declared.piece.Row.{Row}
-use Rattle.nv_held.specs.nv_named.Read.{row_of}
+use Rattle.nv_rows.specs.Rows.{place_in}
+use Rattle.nv_rows.proofs.Places.{at_place, own_row, row_in_use}
 use Rattle.nv_tree.specs.declared.refusal.Refusal.{Refusal}
 use Rattle.nv_tree.specs.declared.refusal.Refusal.TheVariants.{Memory, Stopped}
 use Rattle.nv_held.specs.Mounted.{ShowsSound}
-use Rattle.nv_tree.specs.Path.{IsPath, last_name}
+use Rattle.nv_tree.specs.Path.{last_name}
 use Rattle.nv_tree.specs.Tree.{SameTree, walk}
 use Rattle.nv_tree.specs.Calls.{removed}
 use Rattle.nv_tree.specs.Refusals.{first_refusal, has_names, has_no_space, is_bad_name, is_missing, is_no_dir, rmdir_tests, walk_tests}
@@ -17,20 +16,17 @@ use Rattle.nv_tree.proofs.Texts.{text_says}
 use Rattle.nv_calls.specs.LessNames.{CanGo}
 use Rattle.nv_calls.specs.Mount.{Mount}
 use Rattle.nv_calls.specs.NameCalls.{name_blocks, name_entries}
-use Rattle.nv_calls.specs.NamedAt.{IsNamedAt, rmdir_spot_tests}
+use Rattle.nv_calls.specs.NamedAt.{rmdir_spot_tests}
 use Rattle.nv_calls.specs.RemoveCalls.{ShowsRemoved}
 use Rattle.nv_calls.specs.Seen.{LeadsTo, tree_of}
 use Rattle.nv_calls.specs.World.{world_of}
 use Rattle.nv_calls.proofs.CreateCall.{kept_or_stopped, unchanged_rows}
-use Rattle.nv_calls.proofs.CreateTests.{a_row}
-use Rattle.nv_calls.proofs.Kept.{rows_rise}
 use Rattle.nv_calls.proofs.Listed.{refused_by}
 use Rattle.nv_calls.proofs.OneRow.{stands, stands_right}
 use Rattle.nv_calls.proofs.OwnedRow.{owns_blocks}
 use Rattle.nv_calls.proofs.RemoveCall.{can_cut, removed_kept, removed_log, rmdir_last, rmdir_refusal, rmdir_tree}
 use Rattle.nv_calls.proofs.RemoveTests.{rmdir_goes_on, rmdir_refuses}
 use Rattle.nv_calls.proofs.RowChange.{same_mount}
-use Rattle.nv_calls.proofs.RowOf.{row_at}
 use Rattle.nv_calls.proofs.SetAttr.{late_reply, not_stop}
 use Rattle.nv_calls.proofs.Tests.{early_reply, if_err, writing_goes_on}
 use Rattle.nv_calls.proofs.Tests.{space_allows, space_refuses}
@@ -53,16 +49,11 @@ returns-in_err-writable-clause-stopped g c runs =
     early_reply c.args.self.now.stopped c.from_residual.result c.in_err-writable.field-0.0 w.0 w.1 w.2
     (λ is. writing_goes_on (world_of c.args.self.now) c.args.cpu (c.in_err-writable.ensures.refused runs [] ∙ ap (λ (e : Refusal). Some e) is)) runs
 
-pub rmdir_for-requires : goal.rmdir_for-requires
-rmdir_for-requires g c =
-    let runs : c.self.inside.stopped ≡ false = ap (λ (m : Mount g.row.P.Denot). m.stopped) c.self.view_is ∙ c.in_ok-writable.ensures.runs in
-    rw c.deref.ensures.value (rows_rise (g.P.Pmem.region c.self.inside.memory) c.self.inside.sup c.self.inside.rows.items c.self.inside.free c.self.inside.faults.items c.self.inside.read_only c.self.inside.stopped c.self.invariant runs)
-
 pub returns-in_err-named-clause-refused : goal.returns-in_err-named-clause-refused
 returns-in_err-named-clause-refused g c still p says =
     let told : first_refusal (rmdir_spot_tests (tree_of (g.P.Pmem.region c.args.self.now.memory) c.args.self.now.rows) p) ≡ Some c.in_err-named.field-0.0 =
     subst (λ (m : Mount g.row.P.Denot). first_refusal (rmdir_spot_tests (tree_of (g.P.Pmem.region m.memory) m.rows) p) ≡ Some c.in_err-named.field-0.0) c.self.view_is
-    (subst (λ (rows : List Row). first_refusal (rmdir_spot_tests (tree_of (g.P.Pmem.region c.self.inside.memory) rows) p) ≡ Some c.in_err-named.field-0.0) c.deref.ensures.value (c.in_err-named.ensures.refused (g.P.Pmem.region c.self.inside.memory) p says)) in
+    (c.in_err-named.ensures.refused (g.P.Pmem.region c.self.inside.memory) p says) in
     let tree = tree_of (g.P.Pmem.region c.args.self.now.memory) c.args.self.now.rows in
     let count = name_blocks c.args.self.now.rows tree p in
     let w = err_from_is_err_and c.from_residual-in_err-named.result c.from_residual-in_err-named.ensures.1 in
@@ -79,98 +70,90 @@ returns-in_err-named-clause-stopped g c runs =
     let said = text_says c.args.path.now in
     let told = c.in_err-named.ensures.refused (g.P.Pmem.region c.self.inside.memory) said.0 said.1 in
     early_reply c.args.self.now.stopped c.from_residual-in_err-named.result c.in_err-named.field-0.0 w.0 w.1 w.2
-    (λ is. rmdir_goes_on (tree_of (g.P.Pmem.region c.self.inside.memory) c.deref.result.now) said.0 (told ∙ ap (λ (e : Refusal). Some e) is)) runs
+    (λ is. rmdir_goes_on (tree_of (g.P.Pmem.region c.self.inside.memory) c.self.inside.rows.items) said.0 (told ∙ ap (λ (e : Refusal). Some e) is)) runs
 
 pub remove_named-requires-clause-stands : goal.remove_named-requires-clause-stands
 remove_named-requires-clause-stands g c row at =
     let runs : c.self.inside.stopped ≡ false = ap (λ (m : Mount g.row.P.Denot). m.stopped) c.self.view_is ∙ c.in_ok-writable.ensures.runs in
     let writes : c.self.inside.read_only ≡ false = ap (λ (m : Mount g.row.P.Denot). m.read_only) c.self.view_is ∙ c.in_ok-writable.ensures.writes in
-    stands_right c.self.invariant runs writes row (stands c.self.inside.rows.items c.in_ok-named.named.directory row at)
+    stands_right c.self.invariant.0 runs writes row (stands c.self.inside.rows.items (place_in c.self.inside.rows.items c.in_ok-named.named.directory) row (at_place c.self.inside.rows.items c.in_ok-named.named.directory ∙ at))
 
 pub remove_named-requires-clause-can : goal.remove_named-requires-clause-can
 remove_named-requires-clause-can g c row gone at there =
     let runs : c.self.inside.stopped ≡ false = ap (λ (m : Mount g.row.P.Denot). m.stopped) c.self.view_is ∙ c.in_ok-writable.ensures.runs in
     let writes : c.self.inside.read_only ≡ false = ap (λ (m : Mount g.row.P.Denot). m.read_only) c.self.view_is ∙ c.in_ok-writable.ensures.writes in
     let low : c.args.cpu < c.self.inside.sup.cpus = subst (λ (m : Mount g.row.P.Denot). c.args.cpu < m.sup.cpus) (sym c.self.view_is) c.in_ok-writable.ensures.cpu in
-    let spot : (names : List (List ℕ)) → IsPath c.args.path.now names → IsNamedAt (tree_of (g.P.Pmem.region c.self.inside.memory) c.self.inside.rows.items) c.self.inside.rows.items names c.in_ok-named.named.directory c.in_ok-named.named.name.now c.in_ok-named.named.target =
-    λ names path. subst (λ (rows : List Row). IsNamedAt (tree_of (g.P.Pmem.region c.self.inside.memory) rows) rows names c.in_ok-named.named.directory c.in_ok-named.named.name.now c.in_ok-named.named.target) c.deref.ensures.value (c.in_ok-named.ensures.spot (g.P.Pmem.region c.self.inside.memory) names path) in
+    let spot = c.in_ok-named.ensures.spot (g.P.Pmem.region c.self.inside.memory) in
     let path = c.in_ok-named.ensures.path in
-    let can_go : (gone : Row) → slice_get c.self.inside.rows.items c.in_ok-named.named.target ≡ Some gone → CanGo gone = λ gone at. inl (subst (λ (rows : List Row). (row : Row) → slice_get rows c.in_ok-named.named.target ≡ Some row → (row.kind ≡ Directory) × ((q : List ℕ) → name_at row.names q ≡ None)) c.deref.ensures.value c.in_ok-named.ensures.empty gone at) in
-    can_cut c.self.invariant runs writes c.args.cpu low c.in_ok-named.named.directory c.in_ok-named.named.target c.in_ok-named.named.name.now path.0 (spot path.0 path.1) row gone at there (can_go gone there)
+    let can_go : (gone : Row) → slice_get c.self.inside.rows.items (place_in c.self.inside.rows.items c.in_ok-named.named.target) ≡ Some gone → CanGo gone = λ gone at. inl (c.in_ok-named.ensures.empty gone (sym (at_place c.self.inside.rows.items c.in_ok-named.named.target) ∙ at)) in
+    can_cut c.self.invariant.0 runs writes c.args.cpu low (place_in c.self.inside.rows.items c.in_ok-named.named.directory) (place_in c.self.inside.rows.items c.in_ok-named.named.target) c.in_ok-named.named.name.now path.0 (spot path.0 path.1) row gone (at_place c.self.inside.rows.items c.in_ok-named.named.directory ∙ at) (at_place c.self.inside.rows.items c.in_ok-named.named.target ∙ there) (can_go gone (at_place c.self.inside.rows.items c.in_ok-named.named.target ∙ there))
 
 pub remove_named-requires-clause-owns : goal.remove_named-requires-clause-owns
 remove_named-requires-clause-owns g c gone at =
     let runs : c.self.inside.stopped ≡ false = ap (λ (m : Mount g.row.P.Denot). m.stopped) c.self.view_is ∙ c.in_ok-writable.ensures.runs in
     let writes : c.self.inside.read_only ≡ false = ap (λ (m : Mount g.row.P.Denot). m.read_only) c.self.view_is ∙ c.in_ok-writable.ensures.writes in
-    owns_blocks c.self.invariant runs writes gone (stands c.self.inside.rows.items c.in_ok-named.named.target gone at)
+    owns_blocks c.self.invariant.0 runs writes gone (stands c.self.inside.rows.items (place_in c.self.inside.rows.items c.in_ok-named.named.target) gone (at_place c.self.inside.rows.items c.in_ok-named.named.target ∙ at))
 
 pub invariant_of-self : goal.invariant_of-self
 invariant_of-self g c =
     let runs : c.self.inside.stopped ≡ false = ap (λ (m : Mount g.row.P.Denot). m.stopped) c.self.view_is ∙ c.in_ok-writable.ensures.runs in
     let writes : c.self.inside.read_only ≡ false = ap (λ (m : Mount g.row.P.Denot). m.read_only) c.self.view_is ∙ c.in_ok-writable.ensures.writes in
-    let spot : (names : List (List ℕ)) → IsPath c.args.path.now names → IsNamedAt (tree_of (g.P.Pmem.region c.self.inside.memory) c.self.inside.rows.items) c.self.inside.rows.items names c.in_ok-named.named.directory c.in_ok-named.named.name.now c.in_ok-named.named.target =
-    λ names path. subst (λ (rows : List Row). IsNamedAt (tree_of (g.P.Pmem.region c.self.inside.memory) rows) rows names c.in_ok-named.named.directory c.in_ok-named.named.name.now c.in_ok-named.named.target) c.deref.ensures.value (c.in_ok-named.ensures.spot (g.P.Pmem.region c.self.inside.memory) names path) in
+    let spot = c.in_ok-named.ensures.spot (g.P.Pmem.region c.self.inside.memory) in
     let path = c.in_ok-named.ensures.path in
-    let can_go : (gone : Row) → slice_get c.self.inside.rows.items c.in_ok-named.named.target ≡ Some gone → CanGo gone = λ gone at. inl (subst (λ (rows : List Row). (row : Row) → slice_get rows c.in_ok-named.named.target ≡ Some row → (row.kind ≡ Directory) × ((q : List ℕ) → name_at row.names q ≡ None)) c.deref.ensures.value c.in_ok-named.ensures.empty gone at) in
+    let can_go : (gone : Row) → slice_get c.self.inside.rows.items (place_in c.self.inside.rows.items c.in_ok-named.named.target) ≡ Some gone → CanGo gone = λ gone at. inl (c.in_ok-named.ensures.empty gone (sym (at_place c.self.inside.rows.items c.in_ok-named.named.target) ∙ at)) in
     let step = c.in-Ok.ensures.removed in
-    removed_kept c.self.invariant runs writes step c.in_ok-named.ensures.name (can_go step.gone step.gone_at) path.0 (spot path.0 path.1) c.self.inside.stopped
+    (removed_kept c.self.invariant.0 runs writes step c.in_ok-named.ensures.name (can_go step.gone step.gone_at) path.0 (spot path.0 path.1) c.self.inside.stopped, c.remove_named.ensures.limit ∙ c.self.invariant.1)
 
 pub invariant_of-self-in-Err : goal.invariant_of-self-in-Err
 invariant_of-self-in-Err g c =
     let runs : c.self.inside.stopped ≡ false = ap (λ (m : Mount g.row.P.Denot). m.stopped) c.self.view_is ∙ c.in_ok-writable.ensures.runs in
     let writes : c.self.inside.read_only ≡ false = ap (λ (m : Mount g.row.P.Denot). m.read_only) c.self.view_is ∙ c.in_ok-writable.ensures.writes in
-    kept_or_stopped g.P.Pmem.region c.self.invariant runs writes c.in-Err.refusal c.is_stop-self-inside.result c.is_stop-self-inside.ensures.yes c.is_stop-self-inside.ensures.no c.remove_named.ensures.lists c.in-Err.ensures.unchanged
+    (kept_or_stopped g.P.Pmem.region c.self.invariant.0 runs writes c.in-Err.refusal c.is_stop-self-inside.result c.is_stop-self-inside.ensures.yes c.is_stop-self-inside.ensures.no c.remove_named.ensures.lists c.in-Err.ensures.unchanged, c.remove_named.ensures.limit ∙ c.self.invariant.1)
 
 pub returns-in-Ok-clause-allowed : goal.returns-in-Ok-clause-allowed
 returns-in-Ok-clause-allowed g c p says =
     let runs : c.self.inside.stopped ≡ false = ap (λ (m : Mount g.row.P.Denot). m.stopped) c.self.view_is ∙ c.in_ok-writable.ensures.runs in
-    let spot : (names : List (List ℕ)) → IsPath c.args.path.now names → IsNamedAt (tree_of (g.P.Pmem.region c.self.inside.memory) c.self.inside.rows.items) c.self.inside.rows.items names c.in_ok-named.named.directory c.in_ok-named.named.name.now c.in_ok-named.named.target =
-    λ names path. subst (λ (rows : List Row). IsNamedAt (tree_of (g.P.Pmem.region c.self.inside.memory) rows) rows names c.in_ok-named.named.directory c.in_ok-named.named.name.now c.in_ok-named.named.target) c.deref.ensures.value (c.in_ok-named.ensures.spot (g.P.Pmem.region c.self.inside.memory) names path) in
-    let r = a_row c.self.inside.rows.items c.in_ok-named.named.directory (subst (λ (rows : List Row). c.in_ok-named.named.directory < length rows) c.deref.ensures.value c.in_ok-named.ensures.directory) in
-    let i = a_row c.self.inside.rows.items c.in_ok-named.named.target (subst (λ (rows : List Row). c.in_ok-named.named.target < length rows) c.deref.ensures.value c.in_ok-named.ensures.target) in
-    let rises = rows_rise (g.P.Pmem.region c.self.inside.memory) c.self.inside.sup c.self.inside.rows.items c.self.inside.free c.self.inside.faults.items c.self.inside.read_only c.self.inside.stopped c.self.invariant runs in
-    let numbered : row_of c.self.inside.rows.items r.0.inode ≡ Some r.0 = row_at c.self.inside.rows.items c.in_ok-named.named.directory r.0 rises r.1 in
-    let none : first_refusal (rmdir_spot_tests (tree_of (g.P.Pmem.region c.self.inside.memory) c.self.inside.rows.items) p) ≡ None =
-    subst (λ (rows : List Row). first_refusal (rmdir_spot_tests (tree_of (g.P.Pmem.region c.self.inside.memory) rows) p) ≡ None) c.deref.ensures.value (c.in_ok-named.ensures.allowed (g.P.Pmem.region c.self.inside.memory) p says) in
-    let last = rmdir_last g.P.Pmem.region c.self.view_is c.args.cpu c.in_ok-writable.ensures.passed c.in_ok-named.named.directory c.in_ok-named.named.target r.0 i.0 r.1 numbered c.in_ok-named.named.name.now c.args.time c.args.path.now spot p says none in
-    let tests = rmdir_refusal g.P.Pmem.region c.self.view_is c.args.cpu c.in_ok-writable.ensures.passed c.in_ok-named.named.directory c.in_ok-named.named.target r.0 i.0 r.1 numbered c.in_ok-named.named.name.now c.args.time c.args.path.now spot p says none in
+    let spot = c.in_ok-named.ensures.spot (g.P.Pmem.region c.self.inside.memory) in
+    let r = row_in_use c.self.inside.rows.items c.in_ok-named.named.directory c.in_ok-named.ensures.directory in
+    let at : slice_get c.self.inside.rows.items (place_in c.self.inside.rows.items c.in_ok-named.named.directory) ≡ Some r.0 = at_place c.self.inside.rows.items c.in_ok-named.named.directory ∙ r.1 in
+    let i = row_in_use c.self.inside.rows.items c.in_ok-named.named.target c.in_ok-named.ensures.target in
+    let numbered = own_row c.self.inside.rows.items c.in_ok-named.named.directory r.0 r.1 in
+    let none = c.in_ok-named.ensures.allowed (g.P.Pmem.region c.self.inside.memory) p says in
+    let last = rmdir_last g.P.Pmem.region c.self.view_is c.args.cpu c.in_ok-writable.ensures.passed (place_in c.self.inside.rows.items c.in_ok-named.named.directory) (place_in c.self.inside.rows.items c.in_ok-named.named.target) r.0 i.0 at numbered c.in_ok-named.named.name.now c.args.time c.args.path.now spot p says none in
+    let tests = rmdir_refusal g.P.Pmem.region c.self.view_is c.args.cpu c.in_ok-writable.ensures.passed (place_in c.self.inside.rows.items c.in_ok-named.named.directory) (place_in c.self.inside.rows.items c.in_ok-named.named.target) r.0 i.0 at numbered c.in_ok-named.named.name.now c.args.time c.args.path.now spot p says none in
     space_allows c.self.view_is tests (needed (r.0.tail % 4096) (name_entries Remove i.0.inode c.in_ok-named.named.name.now c.args.time)) last (c.in-Ok.ensures.enough r.0 i.0 r.1 i.1)
 
 pub returns-in-Ok-clause-changed : goal.returns-in-Ok-clause-changed
 returns-in-Ok-clause-changed g c names path =
     let runs : c.self.inside.stopped ≡ false = ap (λ (m : Mount g.row.P.Denot). m.stopped) c.self.view_is ∙ c.in_ok-writable.ensures.runs in
     let writes : c.self.inside.read_only ≡ false = ap (λ (m : Mount g.row.P.Denot). m.read_only) c.self.view_is ∙ c.in_ok-writable.ensures.writes in
-    let spot : (names : List (List ℕ)) → IsPath c.args.path.now names → IsNamedAt (tree_of (g.P.Pmem.region c.self.inside.memory) c.self.inside.rows.items) c.self.inside.rows.items names c.in_ok-named.named.directory c.in_ok-named.named.name.now c.in_ok-named.named.target =
-    λ names path. subst (λ (rows : List Row). IsNamedAt (tree_of (g.P.Pmem.region c.self.inside.memory) rows) rows names c.in_ok-named.named.directory c.in_ok-named.named.name.now c.in_ok-named.named.target) c.deref.ensures.value (c.in_ok-named.ensures.spot (g.P.Pmem.region c.self.inside.memory) names path) in
-    let can_go : (gone : Row) → slice_get c.self.inside.rows.items c.in_ok-named.named.target ≡ Some gone → CanGo gone = λ gone at. inl (subst (λ (rows : List Row). (row : Row) → slice_get rows c.in_ok-named.named.target ≡ Some row → (row.kind ≡ Directory) × ((q : List ℕ) → name_at row.names q ≡ None)) c.deref.ensures.value c.in_ok-named.ensures.empty gone at) in
+    let spot = c.in_ok-named.ensures.spot (g.P.Pmem.region c.self.inside.memory) in
+    let can_go : (gone : Row) → slice_get c.self.inside.rows.items (place_in c.self.inside.rows.items c.in_ok-named.named.target) ≡ Some gone → CanGo gone = λ gone at. inl (c.in_ok-named.ensures.empty gone (sym (at_place c.self.inside.rows.items c.in_ok-named.named.target) ∙ at)) in
     let step = c.in-Ok.ensures.removed in
     subst (λ (m : Mount g.row.P.Denot). SameTree (tree_of (g.P.Pmem.region c.remove_named.new.memory) c.remove_named.new.rows.items) (removed names c.args.time (tree_of (g.P.Pmem.region m.memory) m.rows))) c.self.view_is
-    (rmdir_tree c.self.invariant runs writes step c.in_ok-named.ensures.name (can_go step.gone step.gone_at) names (spot names path))
+    (rmdir_tree c.self.invariant.0 runs writes step c.in_ok-named.ensures.name (can_go step.gone step.gone_at) names (spot names path))
 
 pub returns-in-Ok-clause-log : goal.returns-in-Ok-clause-log
 returns-in-Ok-clause-log g c names i d node held h path led ended sound is =
     let runs : c.self.inside.stopped ≡ false = ap (λ (m : Mount g.row.P.Denot). m.stopped) c.self.view_is ∙ c.in_ok-writable.ensures.runs in
     let writes : c.self.inside.read_only ≡ false = ap (λ (m : Mount g.row.P.Denot). m.read_only) c.self.view_is ∙ c.in_ok-writable.ensures.writes in
-    let spot : (names : List (List ℕ)) → IsPath c.args.path.now names → IsNamedAt (tree_of (g.P.Pmem.region c.self.inside.memory) c.self.inside.rows.items) c.self.inside.rows.items names c.in_ok-named.named.directory c.in_ok-named.named.name.now c.in_ok-named.named.target =
-    λ names path. subst (λ (rows : List Row). IsNamedAt (tree_of (g.P.Pmem.region c.self.inside.memory) rows) rows names c.in_ok-named.named.directory c.in_ok-named.named.name.now c.in_ok-named.named.target) c.deref.ensures.value (c.in_ok-named.ensures.spot (g.P.Pmem.region c.self.inside.memory) names path) in
-    let can_go : (gone : Row) → slice_get c.self.inside.rows.items c.in_ok-named.named.target ≡ Some gone → CanGo gone = λ gone at. inl (subst (λ (rows : List Row). (row : Row) → slice_get rows c.in_ok-named.named.target ≡ Some row → (row.kind ≡ Directory) × ((q : List ℕ) → name_at row.names q ≡ None)) c.deref.ensures.value c.in_ok-named.ensures.empty gone at) in
+    let spot = c.in_ok-named.ensures.spot (g.P.Pmem.region c.self.inside.memory) in
+    let can_go : (gone : Row) → slice_get c.self.inside.rows.items (place_in c.self.inside.rows.items c.in_ok-named.named.target) ≡ Some gone → CanGo gone = λ gone at. inl (c.in_ok-named.ensures.empty gone (sym (at_place c.self.inside.rows.items c.in_ok-named.named.target) ∙ at)) in
     let step = c.in-Ok.ensures.removed in
     subst (λ (m : Mount g.row.P.Denot). LeadsTo (tree_of (g.P.Pmem.region m.memory) m.rows) names i node → walk (tree_of (g.P.Pmem.region m.memory) m.rows) 1 names ≡ Ok d → ShowsSound (g.P.Pmem.region m.memory) m.sup held → ShowsRemoved (g.P.Pmem.region c.remove_named.new.memory) m.sup held d h (name_entries Remove i (last_name names) c.args.time) i) c.self.view_is
-    (λ leads walked shown. removed_log c.self.invariant runs writes step c.in_ok-named.ensures.name (can_go step.gone step.gone_at) names (spot names path) i d node held h leads walked shown is) led ended sound
+    (λ leads walked shown. removed_log c.self.invariant.0 runs writes step c.in_ok-named.ensures.name (can_go step.gone step.gone_at) names (spot names path) i d node held h leads walked shown is) led ended sound
 
 pub returns-in-Err-clause-refused : goal.returns-in-Err-clause-refused
 returns-in-Err-clause-refused g c still p says =
     let runs : c.self.inside.stopped ≡ false = ap (λ (m : Mount g.row.P.Denot). m.stopped) c.self.view_is ∙ c.in_ok-writable.ensures.runs in
-    let spot : (names : List (List ℕ)) → IsPath c.args.path.now names → IsNamedAt (tree_of (g.P.Pmem.region c.self.inside.memory) c.self.inside.rows.items) c.self.inside.rows.items names c.in_ok-named.named.directory c.in_ok-named.named.name.now c.in_ok-named.named.target =
-    λ names path. subst (λ (rows : List Row). IsNamedAt (tree_of (g.P.Pmem.region c.self.inside.memory) rows) rows names c.in_ok-named.named.directory c.in_ok-named.named.name.now c.in_ok-named.named.target) c.deref.ensures.value (c.in_ok-named.ensures.spot (g.P.Pmem.region c.self.inside.memory) names path) in
-    let r = a_row c.self.inside.rows.items c.in_ok-named.named.directory (subst (λ (rows : List Row). c.in_ok-named.named.directory < length rows) c.deref.ensures.value c.in_ok-named.ensures.directory) in
-    let i = a_row c.self.inside.rows.items c.in_ok-named.named.target (subst (λ (rows : List Row). c.in_ok-named.named.target < length rows) c.deref.ensures.value c.in_ok-named.ensures.target) in
-    let rises = rows_rise (g.P.Pmem.region c.self.inside.memory) c.self.inside.sup c.self.inside.rows.items c.self.inside.free c.self.inside.faults.items c.self.inside.read_only c.self.inside.stopped c.self.invariant runs in
-    let numbered : row_of c.self.inside.rows.items r.0.inode ≡ Some r.0 = row_at c.self.inside.rows.items c.in_ok-named.named.directory r.0 rises r.1 in
-    let none : first_refusal (rmdir_spot_tests (tree_of (g.P.Pmem.region c.self.inside.memory) c.self.inside.rows.items) p) ≡ None =
-    subst (λ (rows : List Row). first_refusal (rmdir_spot_tests (tree_of (g.P.Pmem.region c.self.inside.memory) rows) p) ≡ None) c.deref.ensures.value (c.in_ok-named.ensures.allowed (g.P.Pmem.region c.self.inside.memory) p says) in
-    let last = rmdir_last g.P.Pmem.region c.self.view_is c.args.cpu c.in_ok-writable.ensures.passed c.in_ok-named.named.directory c.in_ok-named.named.target r.0 i.0 r.1 numbered c.in_ok-named.named.name.now c.args.time c.args.path.now spot p says none in
-    let tests = rmdir_refusal g.P.Pmem.region c.self.view_is c.args.cpu c.in_ok-writable.ensures.passed c.in_ok-named.named.directory c.in_ok-named.named.target r.0 i.0 r.1 numbered c.in_ok-named.named.name.now c.args.time c.args.path.now spot p says none in
+    let spot = c.in_ok-named.ensures.spot (g.P.Pmem.region c.self.inside.memory) in
+    let r = row_in_use c.self.inside.rows.items c.in_ok-named.named.directory c.in_ok-named.ensures.directory in
+    let at : slice_get c.self.inside.rows.items (place_in c.self.inside.rows.items c.in_ok-named.named.directory) ≡ Some r.0 = at_place c.self.inside.rows.items c.in_ok-named.named.directory ∙ r.1 in
+    let i = row_in_use c.self.inside.rows.items c.in_ok-named.named.target c.in_ok-named.ensures.target in
+    let numbered = own_row c.self.inside.rows.items c.in_ok-named.named.directory r.0 r.1 in
+    let none = c.in_ok-named.ensures.allowed (g.P.Pmem.region c.self.inside.memory) p says in
+    let last = rmdir_last g.P.Pmem.region c.self.view_is c.args.cpu c.in_ok-writable.ensures.passed (place_in c.self.inside.rows.items c.in_ok-named.named.directory) (place_in c.self.inside.rows.items c.in_ok-named.named.target) r.0 i.0 at numbered c.in_ok-named.named.name.now c.args.time c.args.path.now spot p says none in
+    let tests = rmdir_refusal g.P.Pmem.region c.self.view_is c.args.cpu c.in_ok-writable.ensures.passed (place_in c.self.inside.rows.items c.in_ok-named.named.directory) (place_in c.self.inside.rows.items c.in_ok-named.named.target) r.0 i.0 at numbered c.in_ok-named.named.name.now c.args.time c.args.path.now spot p says none in
     space_refuses c.self.view_is tests (needed (r.0.tail % 4096) (name_entries Remove i.0.inode c.in_ok-named.named.name.now c.args.time)) last c.in-Err.refusal (c.in-Err.ensures.refused r.0 i.0 r.1 i.1)
 
 pub returns-in-Err-clause-unchanged : goal.returns-in-Err-clause-unchanged

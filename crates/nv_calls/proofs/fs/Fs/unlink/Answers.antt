@@ -1,8 +1,10 @@
-use Rattle.std.proofs.Common.{◌≡◌, ◌∙◌, ◌<◌, ◌-◌, ◌⊎◌, ◌++◌, ◌∷◌, [], List, ℕ, Some, None, Ok, false, inr, length, ap, slice_get, subst, sym}
+use Rattle.std.proofs.Common.{◌≡◌, ◌∙◌, ◌<◌, ◌-◌, ◌⊎◌, ◌++◌, ◌∷◌, [], List, ℕ, Some, None, Ok, false, inr, ap, slice_get, subst, sym}
 use Rattle.std.proofs.lemmas.Result.{err_from_is_err_and}
 use Rattle.nv_super.specs.declared.kind.Kind.TheVariants.{File}
 use Rattle.nv_entry.specs.declared.entry.Operation.TheVariants.{Remove}
 use Rattle.nv_scan.specs.declared.piece.Row.{Row}
+use Rattle.nv_rows.specs.Rows.{place_in}
+use Rattle.nv_rows.proofs.Places.{at_place, row_in_use}
 use Rattle.nv_tree.specs.declared.refusal.Refusal.{Refusal}
 use Rattle.nv_tree.specs.declared.refusal.Refusal.TheVariants.{Memory, Stopped}
 use Rattle.nv_held.specs.Mounted.{ShowsSound}
@@ -21,7 +23,6 @@ use Rattle.nv_calls.specs.Unlinks.{release_blocks}
 use Rattle.nv_calls.specs.Seen.{LeadsTo, tree_of}
 use Rattle.nv_calls.specs.World.{world_of}
 use Rattle.nv_calls.proofs.CreateCall.{kept_or_stopped, unchanged_rows}
-use Rattle.nv_calls.proofs.CreateTests.{a_row}
 use Rattle.nv_calls.proofs.Kept.{rows_rise}
 use Rattle.nv_calls.proofs.Listed.{refused_by}
 use Rattle.nv_calls.proofs.OneRow.{stands}
@@ -54,16 +55,11 @@ returns-in_err-writable-clause-stopped g c runs =
     early_reply c.args.self.now.stopped c.from_residual.result c.in_err-writable.field-0.0 w.0 w.1 w.2
     (λ is. writing_goes_on (world_of c.args.self.now) c.args.cpu (c.in_err-writable.ensures.refused runs [] ∙ ap (λ (e : Refusal). Some e) is)) runs
 
-pub unlink_for-requires : goal.unlink_for-requires
-unlink_for-requires g c =
-    let runs : c.self.inside.stopped ≡ false = ap (λ (m : Mount g.row.P.Denot). m.stopped) c.self.view_is ∙ c.in_ok-writable.ensures.runs in
-    rw c.deref.ensures.value (rows_rise (g.P.Pmem.region c.self.inside.memory) c.self.inside.sup c.self.inside.rows.items c.self.inside.free c.self.inside.faults.items c.self.inside.read_only c.self.inside.stopped c.self.invariant runs)
-
 pub returns-in_err-named-clause-refused : goal.returns-in_err-named-clause-refused
 returns-in_err-named-clause-refused g c still p says =
     let told : first_refusal (unlink_spot_tests (tree_of (g.P.Pmem.region c.args.self.now.memory) c.args.self.now.rows) p) ≡ Some c.in_err-named.field-0.0 =
     subst (λ (m : Mount g.row.P.Denot). first_refusal (unlink_spot_tests (tree_of (g.P.Pmem.region m.memory) m.rows) p) ≡ Some c.in_err-named.field-0.0) c.self.view_is
-    (subst (λ (rows : List Row). first_refusal (unlink_spot_tests (tree_of (g.P.Pmem.region c.self.inside.memory) rows) p) ≡ Some c.in_err-named.field-0.0) c.deref.ensures.value (c.in_err-named.ensures.refused (g.P.Pmem.region c.self.inside.memory) p says)) in
+    (c.in_err-named.ensures.refused (g.P.Pmem.region c.self.inside.memory) p says) in
     let tree = tree_of (g.P.Pmem.region c.args.self.now.memory) c.args.self.now.rows in
     let count = unlink_blocks c.args.self.now.rows tree p in
     let w = err_from_is_err_and c.from_residual-in_err-named.result c.from_residual-in_err-named.ensures.1 in
@@ -80,99 +76,99 @@ returns-in_err-named-clause-stopped g c runs =
     let said = text_says c.args.path.now in
     let told = c.in_err-named.ensures.refused (g.P.Pmem.region c.self.inside.memory) said.0 said.1 in
     early_reply c.args.self.now.stopped c.from_residual-in_err-named.result c.in_err-named.field-0.0 w.0 w.1 w.2
-    (λ is. unlink_goes_on (tree_of (g.P.Pmem.region c.self.inside.memory) c.deref.result.now) said.0 (told ∙ ap (λ (e : Refusal). Some e) is)) runs
+    (λ is. unlink_goes_on (tree_of (g.P.Pmem.region c.self.inside.memory) c.self.inside.rows.items) said.0 (told ∙ ap (λ (e : Refusal). Some e) is)) runs
 
 pub release_at-requires-clause-stands : goal.release_at-requires-clause-stands
 release_at-requires-clause-stands g c row at =
     let runs : c.self.inside.stopped ≡ false = ap (λ (m : Mount g.row.P.Denot). m.stopped) c.self.view_is ∙ c.in_ok-writable.ensures.runs in
     let writes : c.self.inside.read_only ≡ false = ap (λ (m : Mount g.row.P.Denot). m.read_only) c.self.view_is ∙ c.in_ok-writable.ensures.writes in
     let low : c.args.cpu < c.self.inside.sup.cpus = subst (λ (m : Mount g.row.P.Denot). c.args.cpu < m.sup.cpus) (sym c.self.view_is) c.in_ok-writable.ensures.cpu in
-    row_commits c.self.invariant runs writes row (stands c.self.inside.rows.items c.in_ok-named.named.directory row at) c.args.cpu low
+    row_commits c.self.invariant.0 runs writes row (stands c.self.inside.rows.items (place_in c.self.inside.rows.items c.in_ok-named.named.directory) row (at_place c.self.inside.rows.items c.in_ok-named.named.directory ∙ at)) c.args.cpu low
 
 pub release_at-requires-clause-can : goal.release_at-requires-clause-can
 release_at-requires-clause-can g c row file at there =
     let runs : c.self.inside.stopped ≡ false = ap (λ (m : Mount g.row.P.Denot). m.stopped) c.self.view_is ∙ c.in_ok-writable.ensures.runs in
     let writes : c.self.inside.read_only ≡ false = ap (λ (m : Mount g.row.P.Denot). m.read_only) c.self.view_is ∙ c.in_ok-writable.ensures.writes in
     let low : c.args.cpu < c.self.inside.sup.cpus = subst (λ (m : Mount g.row.P.Denot). c.args.cpu < m.sup.cpus) (sym c.self.view_is) c.in_ok-writable.ensures.cpu in
-    let spot : (names : List (List ℕ)) → IsPath c.args.path.now names → IsNamedAt (tree_of (g.P.Pmem.region c.self.inside.memory) c.self.inside.rows.items) c.self.inside.rows.items names c.in_ok-named.named.directory c.in_ok-named.named.name.now c.in_ok-named.named.target =
-    λ names path. subst (λ (rows : List Row). IsNamedAt (tree_of (g.P.Pmem.region c.self.inside.memory) rows) rows names c.in_ok-named.named.directory c.in_ok-named.named.name.now c.in_ok-named.named.target) c.deref.ensures.value (c.in_ok-named.ensures.spot (g.P.Pmem.region c.self.inside.memory) names path) in
+    let spot : (names : List (List ℕ)) → IsPath c.args.path.now names → IsNamedAt (tree_of (g.P.Pmem.region c.self.inside.memory) c.self.inside.rows.items) c.self.inside.rows.items names (place_in c.self.inside.rows.items c.in_ok-named.named.directory) c.in_ok-named.named.name.now (place_in c.self.inside.rows.items c.in_ok-named.named.target) =
+    λ names path. c.in_ok-named.ensures.spot (g.P.Pmem.region c.self.inside.memory) names path in
     let path = c.in_ok-named.ensures.path in
-    let files : (row : Row) → slice_get c.self.inside.rows.items c.in_ok-named.named.target ≡ Some row → row.kind ≡ File = subst (λ (rows : List Row). (row : Row) → slice_get rows c.in_ok-named.named.target ≡ Some row → row.kind ≡ File) c.deref.ensures.value c.in_ok-named.ensures.file in
-    let rises = rows_rise (g.P.Pmem.region c.self.inside.memory) c.self.inside.sup c.self.inside.rows.items c.self.inside.free c.self.inside.faults.items c.self.inside.read_only c.self.inside.stopped c.self.invariant runs in
+    let files : (row : Row) → slice_get c.self.inside.rows.items (place_in c.self.inside.rows.items c.in_ok-named.named.target) ≡ Some row → row.kind ≡ File = λ row at. c.in_ok-named.ensures.file row (sym (at_place c.self.inside.rows.items c.in_ok-named.named.target) ∙ at) in
+    let rises = rows_rise (g.P.Pmem.region c.self.inside.memory) c.self.inside.sup c.self.inside.rows.items c.self.inside.free c.self.inside.faults.items c.self.inside.read_only c.self.inside.stopped c.self.invariant.0 runs in
     let here = spot path.0 path.1 in (
-      can_name c.self.invariant runs writes c.args.cpu file.inode low (row_number c.self.invariant runs writes file (stands c.self.inside.rows.items c.in_ok-named.named.target file there)) row (stands c.self.inside.rows.items c.in_ok-named.named.directory row at),
-      (λ same. kinds_differ c.self.inside.rows.items c.in_ok-named.named.target c.in_ok-named.named.directory file row rises there at (files file there) (here.directory row at).1 (sym same)),
+      can_name c.self.invariant.0 runs writes c.args.cpu file.inode low (row_number c.self.invariant.0 runs writes file (stands c.self.inside.rows.items (place_in c.self.inside.rows.items c.in_ok-named.named.target) file (at_place c.self.inside.rows.items c.in_ok-named.named.target ∙ there))) row (stands c.self.inside.rows.items (place_in c.self.inside.rows.items c.in_ok-named.named.directory) row (at_place c.self.inside.rows.items c.in_ok-named.named.directory ∙ at)),
+      (λ same. kinds_differ c.self.inside.rows.items (place_in c.self.inside.rows.items c.in_ok-named.named.target) (place_in c.self.inside.rows.items c.in_ok-named.named.directory) file row rises (at_place c.self.inside.rows.items c.in_ok-named.named.target ∙ there) (at_place c.self.inside.rows.items c.in_ok-named.named.directory ∙ at) (c.in_ok-named.ensures.file file there) (here.directory row (at_place c.self.inside.rows.items c.in_ok-named.named.directory ∙ at)).1 (sym same)),
     )
 
 pub release_at-requires-clause-owns : goal.release_at-requires-clause-owns
 release_at-requires-clause-owns g c gone at =
     let runs : c.self.inside.stopped ≡ false = ap (λ (m : Mount g.row.P.Denot). m.stopped) c.self.view_is ∙ c.in_ok-writable.ensures.runs in
     let writes : c.self.inside.read_only ≡ false = ap (λ (m : Mount g.row.P.Denot). m.read_only) c.self.view_is ∙ c.in_ok-writable.ensures.writes in
-    owns_blocks c.self.invariant runs writes gone (stands c.self.inside.rows.items c.in_ok-named.named.target gone at)
+    owns_blocks c.self.invariant.0 runs writes gone (stands c.self.inside.rows.items (place_in c.self.inside.rows.items c.in_ok-named.named.target) gone (at_place c.self.inside.rows.items c.in_ok-named.named.target ∙ at))
 
 pub invariant_of-self : goal.invariant_of-self
 invariant_of-self g c =
     let runs : c.self.inside.stopped ≡ false = ap (λ (m : Mount g.row.P.Denot). m.stopped) c.self.view_is ∙ c.in_ok-writable.ensures.runs in
     let writes : c.self.inside.read_only ≡ false = ap (λ (m : Mount g.row.P.Denot). m.read_only) c.self.view_is ∙ c.in_ok-writable.ensures.writes in
-    let spot : (names : List (List ℕ)) → IsPath c.args.path.now names → IsNamedAt (tree_of (g.P.Pmem.region c.self.inside.memory) c.self.inside.rows.items) c.self.inside.rows.items names c.in_ok-named.named.directory c.in_ok-named.named.name.now c.in_ok-named.named.target =
-    λ names path. subst (λ (rows : List Row). IsNamedAt (tree_of (g.P.Pmem.region c.self.inside.memory) rows) rows names c.in_ok-named.named.directory c.in_ok-named.named.name.now c.in_ok-named.named.target) c.deref.ensures.value (c.in_ok-named.ensures.spot (g.P.Pmem.region c.self.inside.memory) names path) in
+    let spot : (names : List (List ℕ)) → IsPath c.args.path.now names → IsNamedAt (tree_of (g.P.Pmem.region c.self.inside.memory) c.self.inside.rows.items) c.self.inside.rows.items names (place_in c.self.inside.rows.items c.in_ok-named.named.directory) c.in_ok-named.named.name.now (place_in c.self.inside.rows.items c.in_ok-named.named.target) =
+    λ names path. c.in_ok-named.ensures.spot (g.P.Pmem.region c.self.inside.memory) names path in
     let path = c.in_ok-named.ensures.path in
-    let files : (row : Row) → slice_get c.self.inside.rows.items c.in_ok-named.named.target ≡ Some row → row.kind ≡ File = subst (λ (rows : List Row). (row : Row) → slice_get rows c.in_ok-named.named.target ≡ Some row → row.kind ≡ File) c.deref.ensures.value c.in_ok-named.ensures.file in
-    unlink_kept c.self.invariant runs writes c.in-Ok.ensures.released c.in_ok-named.ensures.name files path.0 (spot path.0 path.1) c.self.inside.stopped
+    let files : (row : Row) → slice_get c.self.inside.rows.items (place_in c.self.inside.rows.items c.in_ok-named.named.target) ≡ Some row → row.kind ≡ File = λ row at. c.in_ok-named.ensures.file row (sym (at_place c.self.inside.rows.items c.in_ok-named.named.target) ∙ at) in
+    (unlink_kept c.self.invariant.0 runs writes c.in-Ok.ensures.released c.in_ok-named.ensures.name files path.0 (spot path.0 path.1) c.self.inside.stopped, c.release_at.ensures.limit ∙ c.self.invariant.1)
 
 pub invariant_of-self-in-Err : goal.invariant_of-self-in-Err
 invariant_of-self-in-Err g c =
     let runs : c.self.inside.stopped ≡ false = ap (λ (m : Mount g.row.P.Denot). m.stopped) c.self.view_is ∙ c.in_ok-writable.ensures.runs in
     let writes : c.self.inside.read_only ≡ false = ap (λ (m : Mount g.row.P.Denot). m.read_only) c.self.view_is ∙ c.in_ok-writable.ensures.writes in
-    kept_or_stopped g.P.Pmem.region c.self.invariant runs writes c.in-Err.refusal c.is_stop-self-inside.result c.is_stop-self-inside.ensures.yes c.is_stop-self-inside.ensures.no c.release_at.ensures.lists c.in-Err.ensures.unchanged
+    (kept_or_stopped g.P.Pmem.region c.self.invariant.0 runs writes c.in-Err.refusal c.is_stop-self-inside.result c.is_stop-self-inside.ensures.yes c.is_stop-self-inside.ensures.no c.release_at.ensures.lists c.in-Err.ensures.unchanged, c.release_at.ensures.limit ∙ c.self.invariant.1)
 
 pub returns-in-Ok-clause-allowed : goal.returns-in-Ok-clause-allowed
 returns-in-Ok-clause-allowed g c p says =
     let runs : c.self.inside.stopped ≡ false = ap (λ (m : Mount g.row.P.Denot). m.stopped) c.self.view_is ∙ c.in_ok-writable.ensures.runs in
-    let spot : (names : List (List ℕ)) → IsPath c.args.path.now names → IsNamedAt (tree_of (g.P.Pmem.region c.self.inside.memory) c.self.inside.rows.items) c.self.inside.rows.items names c.in_ok-named.named.directory c.in_ok-named.named.name.now c.in_ok-named.named.target =
-    λ names path. subst (λ (rows : List Row). IsNamedAt (tree_of (g.P.Pmem.region c.self.inside.memory) rows) rows names c.in_ok-named.named.directory c.in_ok-named.named.name.now c.in_ok-named.named.target) c.deref.ensures.value (c.in_ok-named.ensures.spot (g.P.Pmem.region c.self.inside.memory) names path) in
-    let rises = rows_rise (g.P.Pmem.region c.self.inside.memory) c.self.inside.sup c.self.inside.rows.items c.self.inside.free c.self.inside.faults.items c.self.inside.read_only c.self.inside.stopped c.self.invariant runs in
-    let r = a_row c.self.inside.rows.items c.in_ok-named.named.directory (subst (λ (rows : List Row). c.in_ok-named.named.directory < length rows) c.deref.ensures.value c.in_ok-named.ensures.directory) in
-    let i = a_row c.self.inside.rows.items c.in_ok-named.named.target (subst (λ (rows : List Row). c.in_ok-named.named.target < length rows) c.deref.ensures.value c.in_ok-named.ensures.target) in
+    let spot : (names : List (List ℕ)) → IsPath c.args.path.now names → IsNamedAt (tree_of (g.P.Pmem.region c.self.inside.memory) c.self.inside.rows.items) c.self.inside.rows.items names (place_in c.self.inside.rows.items c.in_ok-named.named.directory) c.in_ok-named.named.name.now (place_in c.self.inside.rows.items c.in_ok-named.named.target) =
+    λ names path. c.in_ok-named.ensures.spot (g.P.Pmem.region c.self.inside.memory) names path in
+    let rises = rows_rise (g.P.Pmem.region c.self.inside.memory) c.self.inside.sup c.self.inside.rows.items c.self.inside.free c.self.inside.faults.items c.self.inside.read_only c.self.inside.stopped c.self.invariant.0 runs in
+    let r = row_in_use c.self.inside.rows.items c.in_ok-named.named.directory c.in_ok-named.ensures.directory in
+    let i = row_in_use c.self.inside.rows.items c.in_ok-named.named.target c.in_ok-named.ensures.target in
     let none : first_refusal (unlink_spot_tests (tree_of (g.P.Pmem.region c.self.inside.memory) c.self.inside.rows.items) p) ≡ None =
-    subst (λ (rows : List Row). first_refusal (unlink_spot_tests (tree_of (g.P.Pmem.region c.self.inside.memory) rows) p) ≡ None) c.deref.ensures.value (c.in_ok-named.ensures.allowed (g.P.Pmem.region c.self.inside.memory) p says) in
-    let last = unlink_last_test g.P.Pmem.region c.self.view_is c.args.cpu c.in_ok-writable.ensures.passed c.in_ok-named.named.directory c.in_ok-named.named.target r.0 i.0 r.1 i.1 rises c.in_ok-named.named.name.now c.args.time c.args.path.now spot p says none in
-    let tests = unlink_refusal g.P.Pmem.region c.self.view_is c.args.cpu c.in_ok-writable.ensures.passed c.in_ok-named.named.directory c.in_ok-named.named.target r.0 i.0 r.1 i.1 rises c.in_ok-named.named.name.now c.args.time c.args.path.now spot p says none in
+    c.in_ok-named.ensures.allowed (g.P.Pmem.region c.self.inside.memory) p says in
+    let last = unlink_last_test g.P.Pmem.region c.self.view_is c.args.cpu c.in_ok-writable.ensures.passed (place_in c.self.inside.rows.items c.in_ok-named.named.directory) (place_in c.self.inside.rows.items c.in_ok-named.named.target) r.0 i.0 (at_place c.self.inside.rows.items c.in_ok-named.named.directory ∙ r.1) (at_place c.self.inside.rows.items c.in_ok-named.named.target ∙ i.1) rises c.in_ok-named.named.name.now c.args.time c.args.path.now spot p says none in
+    let tests = unlink_refusal g.P.Pmem.region c.self.view_is c.args.cpu c.in_ok-writable.ensures.passed (place_in c.self.inside.rows.items c.in_ok-named.named.directory) (place_in c.self.inside.rows.items c.in_ok-named.named.target) r.0 i.0 (at_place c.self.inside.rows.items c.in_ok-named.named.directory ∙ r.1) (at_place c.self.inside.rows.items c.in_ok-named.named.target ∙ i.1) rises c.in_ok-named.named.name.now c.args.time c.args.path.now spot p says none in
     space_allows c.self.view_is tests (release_blocks r.0 i.0 c.in_ok-named.named.name.now c.args.time) last (c.in-Ok.ensures.enough r.0 i.0 r.1 i.1)
 
 pub returns-in-Ok-clause-changed : goal.returns-in-Ok-clause-changed
 returns-in-Ok-clause-changed g c names path =
     let runs : c.self.inside.stopped ≡ false = ap (λ (m : Mount g.row.P.Denot). m.stopped) c.self.view_is ∙ c.in_ok-writable.ensures.runs in
     let writes : c.self.inside.read_only ≡ false = ap (λ (m : Mount g.row.P.Denot). m.read_only) c.self.view_is ∙ c.in_ok-writable.ensures.writes in
-    let spot : (names : List (List ℕ)) → IsPath c.args.path.now names → IsNamedAt (tree_of (g.P.Pmem.region c.self.inside.memory) c.self.inside.rows.items) c.self.inside.rows.items names c.in_ok-named.named.directory c.in_ok-named.named.name.now c.in_ok-named.named.target =
-    λ names path. subst (λ (rows : List Row). IsNamedAt (tree_of (g.P.Pmem.region c.self.inside.memory) rows) rows names c.in_ok-named.named.directory c.in_ok-named.named.name.now c.in_ok-named.named.target) c.deref.ensures.value (c.in_ok-named.ensures.spot (g.P.Pmem.region c.self.inside.memory) names path) in
-    let files : (row : Row) → slice_get c.self.inside.rows.items c.in_ok-named.named.target ≡ Some row → row.kind ≡ File = subst (λ (rows : List Row). (row : Row) → slice_get rows c.in_ok-named.named.target ≡ Some row → row.kind ≡ File) c.deref.ensures.value c.in_ok-named.ensures.file in
+    let spot : (names : List (List ℕ)) → IsPath c.args.path.now names → IsNamedAt (tree_of (g.P.Pmem.region c.self.inside.memory) c.self.inside.rows.items) c.self.inside.rows.items names (place_in c.self.inside.rows.items c.in_ok-named.named.directory) c.in_ok-named.named.name.now (place_in c.self.inside.rows.items c.in_ok-named.named.target) =
+    λ names path. c.in_ok-named.ensures.spot (g.P.Pmem.region c.self.inside.memory) names path in
+    let files : (row : Row) → slice_get c.self.inside.rows.items (place_in c.self.inside.rows.items c.in_ok-named.named.target) ≡ Some row → row.kind ≡ File = λ row at. c.in_ok-named.ensures.file row (sym (at_place c.self.inside.rows.items c.in_ok-named.named.target) ∙ at) in
     subst (λ (m : Mount g.row.P.Denot). SameTree (tree_of (g.P.Pmem.region c.release_at.new.memory) c.release_at.new.rows.items) (unlinked names c.args.time (tree_of (g.P.Pmem.region m.memory) m.rows))) c.self.view_is
-    (unlink_tree c.self.invariant runs writes c.in-Ok.ensures.released c.in_ok-named.ensures.name files names (spot names path))
+    (unlink_tree c.self.invariant.0 runs writes c.in-Ok.ensures.released c.in_ok-named.ensures.name files names (spot names path))
 
 pub returns-in-Ok-clause-log : goal.returns-in-Ok-clause-log
 returns-in-Ok-clause-log g c names i d node held h f path led ended sound is other_is some =
     let runs : c.self.inside.stopped ≡ false = ap (λ (m : Mount g.row.P.Denot). m.stopped) c.self.view_is ∙ c.in_ok-writable.ensures.runs in
     let writes : c.self.inside.read_only ≡ false = ap (λ (m : Mount g.row.P.Denot). m.read_only) c.self.view_is ∙ c.in_ok-writable.ensures.writes in
-    let spot : (names : List (List ℕ)) → IsPath c.args.path.now names → IsNamedAt (tree_of (g.P.Pmem.region c.self.inside.memory) c.self.inside.rows.items) c.self.inside.rows.items names c.in_ok-named.named.directory c.in_ok-named.named.name.now c.in_ok-named.named.target =
-    λ names path. subst (λ (rows : List Row). IsNamedAt (tree_of (g.P.Pmem.region c.self.inside.memory) rows) rows names c.in_ok-named.named.directory c.in_ok-named.named.name.now c.in_ok-named.named.target) c.deref.ensures.value (c.in_ok-named.ensures.spot (g.P.Pmem.region c.self.inside.memory) names path) in
-    let files : (row : Row) → slice_get c.self.inside.rows.items c.in_ok-named.named.target ≡ Some row → row.kind ≡ File = subst (λ (rows : List Row). (row : Row) → slice_get rows c.in_ok-named.named.target ≡ Some row → row.kind ≡ File) c.deref.ensures.value c.in_ok-named.ensures.file in
+    let spot : (names : List (List ℕ)) → IsPath c.args.path.now names → IsNamedAt (tree_of (g.P.Pmem.region c.self.inside.memory) c.self.inside.rows.items) c.self.inside.rows.items names (place_in c.self.inside.rows.items c.in_ok-named.named.directory) c.in_ok-named.named.name.now (place_in c.self.inside.rows.items c.in_ok-named.named.target) =
+    λ names path. c.in_ok-named.ensures.spot (g.P.Pmem.region c.self.inside.memory) names path in
+    let files : (row : Row) → slice_get c.self.inside.rows.items (place_in c.self.inside.rows.items c.in_ok-named.named.target) ≡ Some row → row.kind ≡ File = λ row at. c.in_ok-named.ensures.file row (sym (at_place c.self.inside.rows.items c.in_ok-named.named.target) ∙ at) in
     subst (λ (m : Mount g.row.P.Denot). LeadsTo (tree_of (g.P.Pmem.region m.memory) m.rows) names i node → walk (tree_of (g.P.Pmem.region m.memory) m.rows) 1 names ≡ Ok d → ShowsSound (g.P.Pmem.region m.memory) m.sup held
     → ShowsBothGrew (g.P.Pmem.region c.release_at.new.memory) m.sup held d h (name_entries Remove i (last_name names) c.args.time) i f (links_entries (node.links - 1) c.args.time)) c.self.view_is
-    (λ leads walked shown. unlink_logs c.self.invariant runs writes c.in-Ok.ensures.released c.in_ok-named.ensures.name files names (spot names path) i d node held h f leads walked shown is other_is some) led ended sound
+    (λ leads walked shown. unlink_logs c.self.invariant.0 runs writes c.in-Ok.ensures.released c.in_ok-named.ensures.name files names (spot names path) i d node held h f leads walked shown is other_is some) led ended sound
 
 pub returns-in-Err-clause-refused : goal.returns-in-Err-clause-refused
 returns-in-Err-clause-refused g c still p says =
     let runs : c.self.inside.stopped ≡ false = ap (λ (m : Mount g.row.P.Denot). m.stopped) c.self.view_is ∙ c.in_ok-writable.ensures.runs in
-    let spot : (names : List (List ℕ)) → IsPath c.args.path.now names → IsNamedAt (tree_of (g.P.Pmem.region c.self.inside.memory) c.self.inside.rows.items) c.self.inside.rows.items names c.in_ok-named.named.directory c.in_ok-named.named.name.now c.in_ok-named.named.target =
-    λ names path. subst (λ (rows : List Row). IsNamedAt (tree_of (g.P.Pmem.region c.self.inside.memory) rows) rows names c.in_ok-named.named.directory c.in_ok-named.named.name.now c.in_ok-named.named.target) c.deref.ensures.value (c.in_ok-named.ensures.spot (g.P.Pmem.region c.self.inside.memory) names path) in
-    let rises = rows_rise (g.P.Pmem.region c.self.inside.memory) c.self.inside.sup c.self.inside.rows.items c.self.inside.free c.self.inside.faults.items c.self.inside.read_only c.self.inside.stopped c.self.invariant runs in
-    let r = a_row c.self.inside.rows.items c.in_ok-named.named.directory (subst (λ (rows : List Row). c.in_ok-named.named.directory < length rows) c.deref.ensures.value c.in_ok-named.ensures.directory) in
-    let i = a_row c.self.inside.rows.items c.in_ok-named.named.target (subst (λ (rows : List Row). c.in_ok-named.named.target < length rows) c.deref.ensures.value c.in_ok-named.ensures.target) in
+    let spot : (names : List (List ℕ)) → IsPath c.args.path.now names → IsNamedAt (tree_of (g.P.Pmem.region c.self.inside.memory) c.self.inside.rows.items) c.self.inside.rows.items names (place_in c.self.inside.rows.items c.in_ok-named.named.directory) c.in_ok-named.named.name.now (place_in c.self.inside.rows.items c.in_ok-named.named.target) =
+    λ names path. c.in_ok-named.ensures.spot (g.P.Pmem.region c.self.inside.memory) names path in
+    let rises = rows_rise (g.P.Pmem.region c.self.inside.memory) c.self.inside.sup c.self.inside.rows.items c.self.inside.free c.self.inside.faults.items c.self.inside.read_only c.self.inside.stopped c.self.invariant.0 runs in
+    let r = row_in_use c.self.inside.rows.items c.in_ok-named.named.directory c.in_ok-named.ensures.directory in
+    let i = row_in_use c.self.inside.rows.items c.in_ok-named.named.target c.in_ok-named.ensures.target in
     let none : first_refusal (unlink_spot_tests (tree_of (g.P.Pmem.region c.self.inside.memory) c.self.inside.rows.items) p) ≡ None =
-    subst (λ (rows : List Row). first_refusal (unlink_spot_tests (tree_of (g.P.Pmem.region c.self.inside.memory) rows) p) ≡ None) c.deref.ensures.value (c.in_ok-named.ensures.allowed (g.P.Pmem.region c.self.inside.memory) p says) in
-    let last = unlink_last_test g.P.Pmem.region c.self.view_is c.args.cpu c.in_ok-writable.ensures.passed c.in_ok-named.named.directory c.in_ok-named.named.target r.0 i.0 r.1 i.1 rises c.in_ok-named.named.name.now c.args.time c.args.path.now spot p says none in
-    let tests = unlink_refusal g.P.Pmem.region c.self.view_is c.args.cpu c.in_ok-writable.ensures.passed c.in_ok-named.named.directory c.in_ok-named.named.target r.0 i.0 r.1 i.1 rises c.in_ok-named.named.name.now c.args.time c.args.path.now spot p says none in
+    c.in_ok-named.ensures.allowed (g.P.Pmem.region c.self.inside.memory) p says in
+    let last = unlink_last_test g.P.Pmem.region c.self.view_is c.args.cpu c.in_ok-writable.ensures.passed (place_in c.self.inside.rows.items c.in_ok-named.named.directory) (place_in c.self.inside.rows.items c.in_ok-named.named.target) r.0 i.0 (at_place c.self.inside.rows.items c.in_ok-named.named.directory ∙ r.1) (at_place c.self.inside.rows.items c.in_ok-named.named.target ∙ i.1) rises c.in_ok-named.named.name.now c.args.time c.args.path.now spot p says none in
+    let tests = unlink_refusal g.P.Pmem.region c.self.view_is c.args.cpu c.in_ok-writable.ensures.passed (place_in c.self.inside.rows.items c.in_ok-named.named.directory) (place_in c.self.inside.rows.items c.in_ok-named.named.target) r.0 i.0 (at_place c.self.inside.rows.items c.in_ok-named.named.directory ∙ r.1) (at_place c.self.inside.rows.items c.in_ok-named.named.target ∙ i.1) rises c.in_ok-named.named.name.now c.args.time c.args.path.now spot p says none in
     space_refuses c.self.view_is tests (release_blocks r.0 i.0 c.in_ok-named.named.name.now c.args.time) last c.in-Err.refusal (c.in-Err.ensures.refused r.0 i.0 r.1 i.1)
 
 pub returns-in-Err-clause-unchanged : goal.returns-in-Err-clause-unchanged
@@ -187,33 +183,28 @@ returns-in-Err-clause-stopped g c still =
 pub release_at-requires-clause-apart : goal.release_at-requires-clause-apart
 release_at-requires-clause-apart g c =
     let runs : c.self.inside.stopped ≡ false = ap (λ (m : Mount g.row.P.Denot). m.stopped) c.self.view_is ∙ c.in_ok-writable.ensures.runs in
-    let spot : (names : List (List ℕ)) → IsPath c.args.path.now names → IsNamedAt (tree_of (g.P.Pmem.region c.self.inside.memory) c.self.inside.rows.items) c.self.inside.rows.items names c.in_ok-named.named.directory c.in_ok-named.named.name.now c.in_ok-named.named.target =
-    λ names path. subst (λ (rows : List Row). IsNamedAt (tree_of (g.P.Pmem.region c.self.inside.memory) rows) rows names c.in_ok-named.named.directory c.in_ok-named.named.name.now c.in_ok-named.named.target) c.deref.ensures.value (c.in_ok-named.ensures.spot (g.P.Pmem.region c.self.inside.memory) names path) in
+    let spot : (names : List (List ℕ)) → IsPath c.args.path.now names → IsNamedAt (tree_of (g.P.Pmem.region c.self.inside.memory) c.self.inside.rows.items) c.self.inside.rows.items names (place_in c.self.inside.rows.items c.in_ok-named.named.directory) c.in_ok-named.named.name.now (place_in c.self.inside.rows.items c.in_ok-named.named.target) =
+    λ names path. c.in_ok-named.ensures.spot (g.P.Pmem.region c.self.inside.memory) names path in
     let path = c.in_ok-named.ensures.path in
-    let files : (row : Row) → slice_get c.self.inside.rows.items c.in_ok-named.named.target ≡ Some row → row.kind ≡ File = subst (λ (rows : List Row). (row : Row) → slice_get rows c.in_ok-named.named.target ≡ Some row → row.kind ≡ File) c.deref.ensures.value c.in_ok-named.ensures.file in
-    let r = a_row c.self.inside.rows.items c.in_ok-named.named.directory (subst (λ (rows : List Row). c.in_ok-named.named.directory < length rows) c.deref.ensures.value c.in_ok-named.ensures.directory) in
-    let i = a_row c.self.inside.rows.items c.in_ok-named.named.target (subst (λ (rows : List Row). c.in_ok-named.named.target < length rows) c.deref.ensures.value c.in_ok-named.ensures.target) in
+    let files : (row : Row) → slice_get c.self.inside.rows.items (place_in c.self.inside.rows.items c.in_ok-named.named.target) ≡ Some row → row.kind ≡ File = λ row at. c.in_ok-named.ensures.file row (sym (at_place c.self.inside.rows.items c.in_ok-named.named.target) ∙ at) in
+    let r = row_in_use c.self.inside.rows.items c.in_ok-named.named.directory c.in_ok-named.ensures.directory in
+    let i = row_in_use c.self.inside.rows.items c.in_ok-named.named.target c.in_ok-named.ensures.target in
     let there = spot path.0 path.1 in
-    (λ same. kinds_apart c.self.inside.rows.items c.in_ok-named.named.target c.in_ok-named.named.directory i.0 r.0 i.1 r.1 (files i.0 i.1) (there.directory r.0 r.1).1 (sym same))
-
-pub release_at-requires-clause-rising : goal.release_at-requires-clause-rising
-release_at-requires-clause-rising g c =
-    let runs : c.self.inside.stopped ≡ false = ap (λ (m : Mount g.row.P.Denot). m.stopped) c.self.view_is ∙ c.in_ok-writable.ensures.runs in
-    rows_rise (g.P.Pmem.region c.self.inside.memory) c.self.inside.sup c.self.inside.rows.items c.self.inside.free c.self.inside.faults.items c.self.inside.read_only c.self.inside.stopped c.self.invariant runs
+    (λ same. kinds_apart c.self.inside.rows.items (place_in c.self.inside.rows.items c.in_ok-named.named.target) (place_in c.self.inside.rows.items c.in_ok-named.named.directory) i.0 r.0 (at_place c.self.inside.rows.items c.in_ok-named.named.target ∙ i.1) (at_place c.self.inside.rows.items c.in_ok-named.named.directory ∙ r.1) (c.in_ok-named.ensures.file i.0 i.1) (there.directory r.0 (at_place c.self.inside.rows.items c.in_ok-named.named.directory ∙ r.1)).1 (ap (place_in c.self.inside.rows.items) (sym same)))
 
 pub release_at-requires-clause-file_stands : goal.release_at-requires-clause-file_stands
 release_at-requires-clause-file_stands g c file at =
     let runs : c.self.inside.stopped ≡ false = ap (λ (m : Mount g.row.P.Denot). m.stopped) c.self.view_is ∙ c.in_ok-writable.ensures.runs in
     let writes : c.self.inside.read_only ≡ false = ap (λ (m : Mount g.row.P.Denot). m.read_only) c.self.view_is ∙ c.in_ok-writable.ensures.writes in
     let low : c.args.cpu < c.self.inside.sup.cpus = subst (λ (m : Mount g.row.P.Denot). c.args.cpu < m.sup.cpus) (sym c.self.view_is) c.in_ok-writable.ensures.cpu in
-    row_commits c.self.invariant runs writes file (stands c.self.inside.rows.items c.in_ok-named.named.target file at) c.args.cpu low
+    row_commits c.self.invariant.0 runs writes file (stands c.self.inside.rows.items (place_in c.self.inside.rows.items c.in_ok-named.named.target) file (at_place c.self.inside.rows.items c.in_ok-named.named.target ∙ at)) c.args.cpu low
 
 pub returns-in-Ok-clause-last : goal.returns-in-Ok-clause-last
 returns-in-Ok-clause-last g c names i d node held h path led ended sound is few =
     let runs : c.self.inside.stopped ≡ false = ap (λ (m : Mount g.row.P.Denot). m.stopped) c.self.view_is ∙ c.in_ok-writable.ensures.runs in
     let writes : c.self.inside.read_only ≡ false = ap (λ (m : Mount g.row.P.Denot). m.read_only) c.self.view_is ∙ c.in_ok-writable.ensures.writes in
-    let spot : (names : List (List ℕ)) → IsPath c.args.path.now names → IsNamedAt (tree_of (g.P.Pmem.region c.self.inside.memory) c.self.inside.rows.items) c.self.inside.rows.items names c.in_ok-named.named.directory c.in_ok-named.named.name.now c.in_ok-named.named.target =
-    λ names path. subst (λ (rows : List Row). IsNamedAt (tree_of (g.P.Pmem.region c.self.inside.memory) rows) rows names c.in_ok-named.named.directory c.in_ok-named.named.name.now c.in_ok-named.named.target) c.deref.ensures.value (c.in_ok-named.ensures.spot (g.P.Pmem.region c.self.inside.memory) names path) in
-    let files : (row : Row) → slice_get c.self.inside.rows.items c.in_ok-named.named.target ≡ Some row → row.kind ≡ File = subst (λ (rows : List Row). (row : Row) → slice_get rows c.in_ok-named.named.target ≡ Some row → row.kind ≡ File) c.deref.ensures.value c.in_ok-named.ensures.file in
+    let spot : (names : List (List ℕ)) → IsPath c.args.path.now names → IsNamedAt (tree_of (g.P.Pmem.region c.self.inside.memory) c.self.inside.rows.items) c.self.inside.rows.items names (place_in c.self.inside.rows.items c.in_ok-named.named.directory) c.in_ok-named.named.name.now (place_in c.self.inside.rows.items c.in_ok-named.named.target) =
+    λ names path. c.in_ok-named.ensures.spot (g.P.Pmem.region c.self.inside.memory) names path in
+    let files : (row : Row) → slice_get c.self.inside.rows.items (place_in c.self.inside.rows.items c.in_ok-named.named.target) ≡ Some row → row.kind ≡ File = λ row at. c.in_ok-named.ensures.file row (sym (at_place c.self.inside.rows.items c.in_ok-named.named.target) ∙ at) in
     subst (λ (m : Mount g.row.P.Denot). LeadsTo (tree_of (g.P.Pmem.region m.memory) m.rows) names i node → walk (tree_of (g.P.Pmem.region m.memory) m.rows) 1 names ≡ Ok d → ShowsSound (g.P.Pmem.region m.memory) m.sup held → ShowsRemoved (g.P.Pmem.region c.release_at.new.memory) m.sup held d h (name_entries Remove i (last_name names) c.args.time) i) c.self.view_is
-    (λ leads walked shown. unlink_last c.self.invariant runs writes c.in-Ok.ensures.released c.in_ok-named.ensures.name files names (spot names path) i d node held h leads walked shown is few) led ended sound
+    (λ leads walked shown. unlink_last c.self.invariant.0 runs writes c.in-Ok.ensures.released c.in_ok-named.ensures.name files names (spot names path) i d node held h leads walked shown is few) led ended sound

@@ -1,4 +1,4 @@
-use Rattle.std.proofs.Common.{◌≡◌, ◌∙◌, ◌+◌, ◌<◌, ◌≤◌, ◌⊎◌, ◌++◌, ◌∷◌, [], List, ℕ, Some, None, false, inr, length, ap, set, slice_get, subst, arith}
+use Rattle.std.proofs.Common.{◌≡◌, ◌∙◌, ◌+◌, ◌<◌, ◌≤◌, ◌⊎◌, ◌++◌, ◌∷◌, [], List, ℕ, Some, None, false, inr, length, ap, set, slice_get, subst, sym, arith}
 use Rattle.std.proofs.lemmas.Result.{err_from_is_err_and}
 use Rattle.nv_held.specs.Held.{Held, Store}
 use Rattle.nv_held.specs.nv_named.Read.{row_of}
@@ -21,9 +21,11 @@ use Rattle.nv_calls.specs.declared.planning.Plan.{Plan}
 use Rattle.nv_calls.proofs.FileStanding.{file_stands}
 use Rattle.nv_calls.proofs.Kept.{rows_rise}
 use Rattle.nv_calls.proofs.Listed.{refused_by}
-use Rattle.nv_calls.proofs.OneRow.{placed_row, stands, stands_right}
+use Rattle.nv_rows.specs.Rows.{place_in}
+use Rattle.nv_rows.proofs.Places.{at_place, own_row, put_one}
+use Rattle.nv_calls.proofs.PutRow.{one_row}
+use Rattle.nv_calls.proofs.OneRow.{stands, stands_right}
 use Rattle.nv_calls.proofs.RowChange.{kept_after, same_mount, tree_after}
-use Rattle.nv_calls.proofs.RowOf.{row_at}
 use Rattle.nv_calls.proofs.SetAttr.{kept_or_stopped, not_stop, unchanged_step}
 use Rattle.nv_calls.proofs.SetSize.{front_goes_on, front_tests}
 use Rattle.nv_calls.proofs.Tests.{early_reply, if_err, writing_goes_on}
@@ -47,138 +49,137 @@ returns-in_err-writable-clause-stopped g c runs =
     early_reply c.args.self.now.stopped c.from_residual.result c.in_err-writable.field-0.0 w.0 w.1 w.2
     (λ is. writing_goes_on (world_of c.args.self.now) c.args.cpu (c.in_err-writable.ensures.refused runs [] ∙ ap (λ (e : Refusal). Some e) is)) runs
 
-pub resizable_at-requires : goal.resizable_at-requires
-resizable_at-requires g c =
-    let runs : c.self.inside.stopped ≡ false = ap (λ (m : Mount g.row.P.Denot). m.stopped) c.self.view_is ∙ c.in_ok-writable.ensures.runs in
-    rw c.deref.ensures.value (rows_rise (g.P.Pmem.region c.self.inside.memory) c.self.inside.sup c.self.inside.rows.items c.self.inside.free c.self.inside.faults.items c.self.inside.read_only c.self.inside.stopped c.self.invariant runs)
-
-pub returns-in_err-place-clause-refused : goal.returns-in_err-place-clause-refused
-returns-in_err-place-clause-refused g c runs p count says needs =
+pub returns-in_err-inode-clause-refused : goal.returns-in_err-inode-clause-refused
+returns-in_err-inode-clause-refused g c runs p count says needs =
     let tree = tree_of (g.P.Pmem.region c.args.self.now.memory) c.args.self.now.rows in
-    let w = err_from_is_err_and c.from_residual-in_err-place.result c.from_residual-in_err-place.ensures.1 in
-    let told = subst (λ (rows : List Row). first_refusal (front_tests (tree_of (g.P.Pmem.region c.self.inside.memory) rows) p c.saturating_add.result) ≡ Some c.in_err-place.field-0.0) c.deref.ensures.value (c.in_err-place.ensures.refused (g.P.Pmem.region c.self.inside.memory) p says) in
-    refused_by c.from_residual-in_err-place.result c.in_err-place.field-0.0 w.0 (λ (e : Refusal). (e ≡ Memory) ⊎ ((e ≡ Stopped) ⊎ (first_refusal (write_tests (world_of c.args.self.now) tree c.args.cpu p (c.args.offset + length c.args.bytes.now) count) ≡ Some e))) w.1 w.2
-    (inr (inr (write_front g.P.Pmem.region c.self.view_is c.args.cpu (c.args.offset + length c.args.bytes.now) count c.in_ok-writable.ensures.passed p c.in_err-place.field-0.0 (large_same c.args.offset (length c.args.bytes.now) c.saturating_add.result c.saturating_add.ensures (tree_of (g.P.Pmem.region c.self.inside.memory) c.self.inside.rows.items) p ∙ told))))
+    let w = err_from_is_err_and c.from_residual-in_err-inode.result c.from_residual-in_err-inode.ensures.1 in
+    let told = c.in_err-inode.ensures.refused (g.P.Pmem.region c.self.inside.memory) p says in
+    refused_by c.from_residual-in_err-inode.result c.in_err-inode.field-0.0 w.0 (λ (e : Refusal). (e ≡ Memory) ⊎ ((e ≡ Stopped) ⊎ (first_refusal (write_tests (world_of c.args.self.now) tree c.args.cpu p (c.args.offset + length c.args.bytes.now) count) ≡ Some e))) w.1 w.2
+    (inr (inr (write_front g.P.Pmem.region c.self.view_is c.args.cpu (c.args.offset + length c.args.bytes.now) count c.in_ok-writable.ensures.passed p c.in_err-inode.field-0.0 (large_same c.args.offset (length c.args.bytes.now) c.saturating_add.result c.saturating_add.ensures (tree_of (g.P.Pmem.region c.self.inside.memory) c.self.inside.rows.items) p ∙ told))))
 
-pub returns-in_err-place-clause-unchanged : goal.returns-in_err-place-clause-unchanged
-returns-in_err-place-clause-unchanged g c =
-    if_err c.from_residual-in_err-place.result _ (λ e on. same_mount c.args.self.now)
+pub returns-in_err-inode-clause-unchanged : goal.returns-in_err-inode-clause-unchanged
+returns-in_err-inode-clause-unchanged g c =
+    if_err c.from_residual-in_err-inode.result _ (λ e on. same_mount c.args.self.now)
 
-pub returns-in_err-place-clause-stopped : goal.returns-in_err-place-clause-stopped
-returns-in_err-place-clause-stopped g c runs =
-    let w = err_from_is_err_and c.from_residual-in_err-place.result c.from_residual-in_err-place.ensures.1 in
+pub returns-in_err-inode-clause-stopped : goal.returns-in_err-inode-clause-stopped
+returns-in_err-inode-clause-stopped g c runs =
+    let w = err_from_is_err_and c.from_residual-in_err-inode.result c.from_residual-in_err-inode.ensures.1 in
     let said = text_says c.args.path.now in
-    let told = c.in_err-place.ensures.refused (g.P.Pmem.region c.self.inside.memory) said.0 said.1 in
-    early_reply c.args.self.now.stopped c.from_residual-in_err-place.result c.in_err-place.field-0.0 w.0 w.1 w.2
-    (λ is. front_goes_on (tree_of (g.P.Pmem.region c.self.inside.memory) c.deref.result.now) said.0 c.saturating_add.result (told ∙ ap (λ (e : Refusal). Some e) is)) runs
+    let told = c.in_err-inode.ensures.refused (g.P.Pmem.region c.self.inside.memory) said.0 said.1 in
+    early_reply c.args.self.now.stopped c.from_residual-in_err-inode.result c.in_err-inode.field-0.0 w.0 w.1 w.2
+    (λ is. front_goes_on (tree_of (g.P.Pmem.region c.self.inside.memory) c.self.inside.rows.items) said.0 c.saturating_add.result (told ∙ ap (λ (e : Refusal). Some e) is)) runs
 
 pub returns-then-count-eq0-clause-allowed : goal.returns-then-count-eq0-clause-allowed
 returns-then-count-eq0-clause-allowed g c p count says needs =
     let none : first_refusal (front_tests (tree_of (g.P.Pmem.region c.self.inside.memory) c.self.inside.rows.items) p (c.args.offset + length c.args.bytes.now)) ≡ None =
-    large_same c.args.offset (length c.args.bytes.now) c.saturating_add.result c.saturating_add.ensures (tree_of (g.P.Pmem.region c.self.inside.memory) c.self.inside.rows.items) p ∙ subst (λ (rows : List Row). first_refusal (front_tests (tree_of (g.P.Pmem.region c.self.inside.memory) rows) p c.saturating_add.result) ≡ None) c.deref.ensures.value (c.in_ok-place.ensures.refused (g.P.Pmem.region c.self.inside.memory) p says) in
+    large_same c.args.offset (length c.args.bytes.now) c.saturating_add.result c.saturating_add.ensures (tree_of (g.P.Pmem.region c.self.inside.memory) c.self.inside.rows.items) p ∙ c.in_ok-inode.ensures.refused (g.P.Pmem.region c.self.inside.memory) p says in
     write_none g.P.Pmem.region c.self.view_is c.args.cpu (c.args.offset + length c.args.bytes.now) count c.in_ok-writable.ensures.passed p none (needs.none c.if-count-eq0.true)
 
-pub change_bytes-requires-clause-stands : goal.change_bytes-requires-clause-stands
-change_bytes-requires-clause-stands g c =
+pub change_bytes-changed-requires-clause-stands : goal.change_bytes-changed-requires-clause-stands
+change_bytes-changed-requires-clause-stands g c =
     let runs : c.self.inside.stopped ≡ false = ap (λ (m : Mount g.row.P.Denot). m.stopped) c.self.view_is ∙ c.in_ok-writable.ensures.runs in
     let writes : c.self.inside.read_only ≡ false = ap (λ (m : Mount g.row.P.Denot). m.read_only) c.self.view_is ∙ c.in_ok-writable.ensures.writes in
-    let within : c.in_ok-place.place < length c.self.inside.rows.items = subst (λ (rows : List Row). c.in_ok-place.place < length rows) c.deref.ensures.value c.in_ok-place.ensures.within in
-    let at : slice_get c.self.inside.rows.items c.in_ok-place.place ≡ Some c.index_mut-row.result.now = placed_row c.self.inside.rows.items c.in_ok-place.place c.index_mut-row.result.now within c.index_mut-row.ensures.value in
-    stands_right c.self.invariant runs writes c.index_mut-row.result.now (stands c.self.inside.rows.items c.in_ok-place.place c.index_mut-row.result.now at)
+    let rows = c.self.inside.rows.items in
+    let inode = c.in_ok-inode.field-0.now.inode in
+    let at = at_place rows inode ∙ c.take-row.ensures.row in
+    stands_right c.self.invariant.0 runs writes c.take-row.result (stands c.self.inside.rows.items (place_in rows inode) c.take-row.result at)
 
-pub change_bytes-requires-clause-kind : goal.change_bytes-requires-clause-kind
-change_bytes-requires-clause-kind g c =
-    let within : c.in_ok-place.place < length c.self.inside.rows.items = subst (λ (rows : List Row). c.in_ok-place.place < length rows) c.deref.ensures.value c.in_ok-place.ensures.within in
-    let at : slice_get c.self.inside.rows.items c.in_ok-place.place ≡ Some c.index_mut-row.result.now = placed_row c.self.inside.rows.items c.in_ok-place.place c.index_mut-row.result.now within c.index_mut-row.ensures.value in
-    subst (λ (rows : List Row). slice_get rows c.in_ok-place.place ≡ Some c.index_mut-row.result.now → c.index_mut-row.result.now.kind ≡ File) c.deref.ensures.value (c.in_ok-place.ensures.file c.index_mut-row.result.now) at
+pub change_bytes-changed-requires-clause-kind : goal.change_bytes-changed-requires-clause-kind
+change_bytes-changed-requires-clause-kind g c =
+    let rows = c.self.inside.rows.items in
+    let inode = c.in_ok-inode.field-0.now.inode in
+    let at = at_place rows inode ∙ c.take-row.ensures.row in
+    subst (λ (r : Row). r.kind ≡ File) (one_row (sym c.in_ok-inode.ensures.held ∙ c.take-row.ensures.row)) c.in_ok-inode.ensures.file
 
-pub change_bytes-requires-clause-file : goal.change_bytes-requires-clause-file
-change_bytes-requires-clause-file g c =
+pub change_bytes-changed-requires-clause-file : goal.change_bytes-changed-requires-clause-file
+change_bytes-changed-requires-clause-file g c =
     let runs : c.self.inside.stopped ≡ false = ap (λ (m : Mount g.row.P.Denot). m.stopped) c.self.view_is ∙ c.in_ok-writable.ensures.runs in
     let writes : c.self.inside.read_only ≡ false = ap (λ (m : Mount g.row.P.Denot). m.read_only) c.self.view_is ∙ c.in_ok-writable.ensures.writes in
-    let within : c.in_ok-place.place < length c.self.inside.rows.items = subst (λ (rows : List Row). c.in_ok-place.place < length rows) c.deref.ensures.value c.in_ok-place.ensures.within in
-    let at : slice_get c.self.inside.rows.items c.in_ok-place.place ≡ Some c.index_mut-row.result.now = placed_row c.self.inside.rows.items c.in_ok-place.place c.index_mut-row.result.now within c.index_mut-row.ensures.value in
-    file_stands c.self.invariant runs writes c.index_mut-row.result.now (stands c.self.inside.rows.items c.in_ok-place.place c.index_mut-row.result.now at)
+    let rows = c.self.inside.rows.items in
+    let inode = c.in_ok-inode.field-0.now.inode in
+    let at = at_place rows inode ∙ c.take-row.ensures.row in
+    file_stands c.self.invariant.0 runs writes c.take-row.result (stands c.self.inside.rows.items (place_in rows inode) c.take-row.result at)
 
 pub invariant_of-self : goal.invariant_of-self
 invariant_of-self g c =
     let runs : c.self.inside.stopped ≡ false = ap (λ (m : Mount g.row.P.Denot). m.stopped) c.self.view_is ∙ c.in_ok-writable.ensures.runs in
     let writes : c.self.inside.read_only ≡ false = ap (λ (m : Mount g.row.P.Denot). m.read_only) c.self.view_is ∙ c.in_ok-writable.ensures.writes in
-    let within : c.in_ok-place.place < length c.self.inside.rows.items = subst (λ (rows : List Row). c.in_ok-place.place < length rows) c.deref.ensures.value c.in_ok-place.ensures.within in
-    let at : slice_get c.self.inside.rows.items c.in_ok-place.place ≡ Some c.index_mut-row.result.now = placed_row c.self.inside.rows.items c.in_ok-place.place c.index_mut-row.result.now within c.index_mut-row.ensures.value in
+    let rows = c.self.inside.rows.items in
+    let inode = c.in_ok-inode.field-0.now.inode in
+    let at = at_place rows inode ∙ c.take-row.ensures.row in
     let plan = c.new-plan.result in
-    kept_after c.self.invariant runs writes c.in_ok-place.place c.index_mut-row.result.now c.change_bytes.new.row at (data_entries plan c.in-Ok.ensures.writes.runs) (λ held h shows. c.in-Ok.ensures.writes.follows held h shows) c.change_bytes.ensures.lists c.self.inside.stopped
+    let put = put_one rows c.take-row.new.self.items c.insert.new.self.items inode c.take-row.result c.change_bytes-changed.new.row c.take-row.ensures.rising c.take-row.ensures.row c.take-row.ensures.rows (c.change_bytes-changed.ensures.inode ∙ c.take-row.ensures.number) c.insert.ensures.rows in
+    (rw put (kept_after c.self.invariant.0 runs writes (place_in rows inode) c.take-row.result c.change_bytes-changed.new.row at (data_entries plan c.in-Ok.ensures.writes.runs) (λ held h shows. c.in-Ok.ensures.writes.follows held h shows) c.change_bytes-changed.ensures.lists c.self.inside.stopped), c.insert.ensures.sup ∙ c.take-row.ensures.sup ∙ c.self.invariant.1)
 
 pub invariant_of-self-in-Err : goal.invariant_of-self-in-Err
 invariant_of-self-in-Err g c =
     let runs : c.self.inside.stopped ≡ false = ap (λ (m : Mount g.row.P.Denot). m.stopped) c.self.view_is ∙ c.in_ok-writable.ensures.runs in
     let writes : c.self.inside.read_only ≡ false = ap (λ (m : Mount g.row.P.Denot). m.read_only) c.self.view_is ∙ c.in_ok-writable.ensures.writes in
-    let within : c.in_ok-place.place < length c.self.inside.rows.items = subst (λ (rows : List Row). c.in_ok-place.place < length rows) c.deref.ensures.value c.in_ok-place.ensures.within in
-    let at : slice_get c.self.inside.rows.items c.in_ok-place.place ≡ Some c.index_mut-row.result.now = placed_row c.self.inside.rows.items c.in_ok-place.place c.index_mut-row.result.now within c.index_mut-row.ensures.value in
-    kept_or_stopped g.P.Pmem.region c.self.invariant runs writes c.in_ok-place.place c.index_mut-row.result.now c.change_bytes.new.row at c.in-Err.refusal c.is_stop-self-inside.result c.is_stop-self-inside.ensures.yes c.is_stop-self-inside.ensures.no c.change_bytes.ensures.lists c.in-Err.ensures.unchanged
+    let rows = c.self.inside.rows.items in
+    let inode = c.in_ok-inode.field-0.now.inode in
+    let at = at_place rows inode ∙ c.take-row.ensures.row in
+    let put = put_one rows c.take-row.new.self.items c.insert.new.self.items inode c.take-row.result c.change_bytes-changed.new.row c.take-row.ensures.rising c.take-row.ensures.row c.take-row.ensures.rows (c.change_bytes-changed.ensures.inode ∙ c.take-row.ensures.number) c.insert.ensures.rows in
+    (rw put (kept_or_stopped g.P.Pmem.region c.self.invariant.0 runs writes (place_in rows inode) c.take-row.result c.change_bytes-changed.new.row at c.in-Err.refusal c.is_stop-self-inside.result c.is_stop-self-inside.ensures.yes c.is_stop-self-inside.ensures.no c.change_bytes-changed.ensures.lists c.in-Err.ensures.unchanged), c.insert.ensures.sup ∙ c.take-row.ensures.sup ∙ c.self.invariant.1)
 
 pub returns-in-Ok-clause-allowed : goal.returns-in-Ok-clause-allowed
 returns-in-Ok-clause-allowed g c p count says needs =
     let runs : c.self.inside.stopped ≡ false = ap (λ (m : Mount g.row.P.Denot). m.stopped) c.self.view_is ∙ c.in_ok-writable.ensures.runs in
-    let within : c.in_ok-place.place < length c.self.inside.rows.items = subst (λ (rows : List Row). c.in_ok-place.place < length rows) c.deref.ensures.value c.in_ok-place.ensures.within in
-    let at : slice_get c.self.inside.rows.items c.in_ok-place.place ≡ Some c.index_mut-row.result.now = placed_row c.self.inside.rows.items c.in_ok-place.place c.index_mut-row.result.now within c.index_mut-row.ensures.value in
-    let leads : (names : List (List ℕ)) → IsPath c.args.path.now names → LeadsTo (tree_of (g.P.Pmem.region c.self.inside.memory) c.self.inside.rows.items) names c.index_mut-row.result.now.inode (node_of (g.P.Pmem.region c.self.inside.memory) c.index_mut-row.result.now) =
-    λ names path. subst (λ (rows : List Row). slice_get rows c.in_ok-place.place ≡ Some c.index_mut-row.result.now → LeadsTo (tree_of (g.P.Pmem.region c.self.inside.memory) rows) names c.index_mut-row.result.now.inode (node_of (g.P.Pmem.region c.self.inside.memory) c.index_mut-row.result.now)) c.deref.ensures.value
-    (c.in_ok-place.ensures.leads (g.P.Pmem.region c.self.inside.memory) names path c.index_mut-row.result.now) at in
-    let rises = rows_rise (g.P.Pmem.region c.self.inside.memory) c.self.inside.sup c.self.inside.rows.items c.self.inside.free c.self.inside.faults.items c.self.inside.read_only c.self.inside.stopped c.self.invariant runs in
-    let numbered : row_of c.self.inside.rows.items c.index_mut-row.result.now.inode ≡ Some c.index_mut-row.result.now = row_at c.self.inside.rows.items c.in_ok-place.place c.index_mut-row.result.now rises at in
+    let rows = c.self.inside.rows.items in
+    let inode = c.in_ok-inode.field-0.now.inode in
+    let at = at_place rows inode ∙ c.take-row.ensures.row in
+    let leads : (names : List (List ℕ)) → IsPath c.args.path.now names → LeadsTo (tree_of (g.P.Pmem.region c.self.inside.memory) rows) names c.take-row.result.inode (node_of (g.P.Pmem.region c.self.inside.memory) c.take-row.result) = λ names path. subst (λ (r : Row). LeadsTo (tree_of (g.P.Pmem.region c.self.inside.memory) rows) names r.inode (node_of (g.P.Pmem.region c.self.inside.memory) r)) (one_row (sym c.in_ok-inode.ensures.held ∙ c.take-row.ensures.row)) (c.in_ok-inode.ensures.row (g.P.Pmem.region c.self.inside.memory) names path) in
+    let numbered = own_row rows inode c.take-row.result c.take-row.ensures.row in
     let none : first_refusal (front_tests (tree_of (g.P.Pmem.region c.self.inside.memory) c.self.inside.rows.items) p (c.args.offset + length c.args.bytes.now)) ≡ None =
-    large_same c.args.offset (length c.args.bytes.now) c.saturating_add.result c.saturating_add.ensures (tree_of (g.P.Pmem.region c.self.inside.memory) c.self.inside.rows.items) p ∙ subst (λ (rows : List Row). first_refusal (front_tests (tree_of (g.P.Pmem.region c.self.inside.memory) rows) p c.saturating_add.result) ≡ None) c.deref.ensures.value (c.in_ok-place.ensures.refused (g.P.Pmem.region c.self.inside.memory) p says) in
-    write_allowed g.P.Pmem.region c.self.view_is c.args.cpu (c.args.offset + length c.args.bytes.now) count c.in_ok-writable.ensures.passed p none c.args.path.now c.index_mut-row.result.now (node_of (g.P.Pmem.region c.self.inside.memory) c.index_mut-row.result.now) numbered leads says c.args.offset (length c.args.bytes.now) c.args.time (omega (arith, c.if-count-eq0.false)) needs
-    (subst (λ (q : Plan). (k : ℕ) → NeedsBlocks c.self.inside.free.pools c.args.cpu c.index_mut-row.result.now.tail q k → k ≤ all_blocks c.self.inside.free.pools) c.new-plan.ensures c.in-Ok.ensures.enough)
+    large_same c.args.offset (length c.args.bytes.now) c.saturating_add.result c.saturating_add.ensures (tree_of (g.P.Pmem.region c.self.inside.memory) c.self.inside.rows.items) p ∙ c.in_ok-inode.ensures.refused (g.P.Pmem.region c.self.inside.memory) p says in
+    write_allowed g.P.Pmem.region c.self.view_is c.args.cpu (c.args.offset + length c.args.bytes.now) count c.in_ok-writable.ensures.passed p none c.args.path.now c.take-row.result (node_of (g.P.Pmem.region c.self.inside.memory) c.take-row.result) numbered leads says c.args.offset (length c.args.bytes.now) c.args.time (omega (arith, c.if-count-eq0.false)) needs
+    (subst (λ (q : Plan). (k : ℕ) → NeedsBlocks c.self.inside.free.pools c.args.cpu c.take-row.result.tail q k → k ≤ all_blocks c.self.inside.free.pools) c.new-plan.ensures c.in-Ok.ensures.enough)
 
 pub returns-in-Err-clause-refused : goal.returns-in-Err-clause-refused
 returns-in-Err-clause-refused g c still p count says needs =
     let runs : c.self.inside.stopped ≡ false = ap (λ (m : Mount g.row.P.Denot). m.stopped) c.self.view_is ∙ c.in_ok-writable.ensures.runs in
-    let within : c.in_ok-place.place < length c.self.inside.rows.items = subst (λ (rows : List Row). c.in_ok-place.place < length rows) c.deref.ensures.value c.in_ok-place.ensures.within in
-    let at : slice_get c.self.inside.rows.items c.in_ok-place.place ≡ Some c.index_mut-row.result.now = placed_row c.self.inside.rows.items c.in_ok-place.place c.index_mut-row.result.now within c.index_mut-row.ensures.value in
-    let leads : (names : List (List ℕ)) → IsPath c.args.path.now names → LeadsTo (tree_of (g.P.Pmem.region c.self.inside.memory) c.self.inside.rows.items) names c.index_mut-row.result.now.inode (node_of (g.P.Pmem.region c.self.inside.memory) c.index_mut-row.result.now) =
-    λ names path. subst (λ (rows : List Row). slice_get rows c.in_ok-place.place ≡ Some c.index_mut-row.result.now → LeadsTo (tree_of (g.P.Pmem.region c.self.inside.memory) rows) names c.index_mut-row.result.now.inode (node_of (g.P.Pmem.region c.self.inside.memory) c.index_mut-row.result.now)) c.deref.ensures.value
-    (c.in_ok-place.ensures.leads (g.P.Pmem.region c.self.inside.memory) names path c.index_mut-row.result.now) at in
-    let rises = rows_rise (g.P.Pmem.region c.self.inside.memory) c.self.inside.sup c.self.inside.rows.items c.self.inside.free c.self.inside.faults.items c.self.inside.read_only c.self.inside.stopped c.self.invariant runs in
-    let numbered : row_of c.self.inside.rows.items c.index_mut-row.result.now.inode ≡ Some c.index_mut-row.result.now = row_at c.self.inside.rows.items c.in_ok-place.place c.index_mut-row.result.now rises at in
+    let rows = c.self.inside.rows.items in
+    let inode = c.in_ok-inode.field-0.now.inode in
+    let at = at_place rows inode ∙ c.take-row.ensures.row in
+    let leads : (names : List (List ℕ)) → IsPath c.args.path.now names → LeadsTo (tree_of (g.P.Pmem.region c.self.inside.memory) rows) names c.take-row.result.inode (node_of (g.P.Pmem.region c.self.inside.memory) c.take-row.result) = λ names path. subst (λ (r : Row). LeadsTo (tree_of (g.P.Pmem.region c.self.inside.memory) rows) names r.inode (node_of (g.P.Pmem.region c.self.inside.memory) r)) (one_row (sym c.in_ok-inode.ensures.held ∙ c.take-row.ensures.row)) (c.in_ok-inode.ensures.row (g.P.Pmem.region c.self.inside.memory) names path) in
+    let numbered = own_row rows inode c.take-row.result c.take-row.ensures.row in
     let none : first_refusal (front_tests (tree_of (g.P.Pmem.region c.self.inside.memory) c.self.inside.rows.items) p (c.args.offset + length c.args.bytes.now)) ≡ None =
-    large_same c.args.offset (length c.args.bytes.now) c.saturating_add.result c.saturating_add.ensures (tree_of (g.P.Pmem.region c.self.inside.memory) c.self.inside.rows.items) p ∙ subst (λ (rows : List Row). first_refusal (front_tests (tree_of (g.P.Pmem.region c.self.inside.memory) rows) p c.saturating_add.result) ≡ None) c.deref.ensures.value (c.in_ok-place.ensures.refused (g.P.Pmem.region c.self.inside.memory) p says) in
-    write_refused g.P.Pmem.region c.self.view_is c.args.cpu (c.args.offset + length c.args.bytes.now) count c.in_ok-writable.ensures.passed p none c.args.path.now c.index_mut-row.result.now (node_of (g.P.Pmem.region c.self.inside.memory) c.index_mut-row.result.now) numbered leads says c.args.offset (length c.args.bytes.now) c.args.time (omega (arith, c.if-count-eq0.false)) needs c.in-Err.refusal
-    (subst (λ (q : Plan). RefusesWrite c.in-Err.refusal c.self.inside.free c.args.cpu c.index_mut-row.result.now.tail q) c.new-plan.ensures c.in-Err.ensures.refused)
+    large_same c.args.offset (length c.args.bytes.now) c.saturating_add.result c.saturating_add.ensures (tree_of (g.P.Pmem.region c.self.inside.memory) c.self.inside.rows.items) p ∙ c.in_ok-inode.ensures.refused (g.P.Pmem.region c.self.inside.memory) p says in
+    write_refused g.P.Pmem.region c.self.view_is c.args.cpu (c.args.offset + length c.args.bytes.now) count c.in_ok-writable.ensures.passed p none c.args.path.now c.take-row.result (node_of (g.P.Pmem.region c.self.inside.memory) c.take-row.result) numbered leads says c.args.offset (length c.args.bytes.now) c.args.time (omega (arith, c.if-count-eq0.false)) needs c.in-Err.refusal
+    (subst (λ (q : Plan). RefusesWrite c.in-Err.refusal c.self.inside.free c.args.cpu c.take-row.result.tail q) c.new-plan.ensures c.in-Err.ensures.refused)
 
 pub returns-in-Ok-clause-changed : goal.returns-in-Ok-clause-changed
 returns-in-Ok-clause-changed g c names path =
     let runs : c.self.inside.stopped ≡ false = ap (λ (m : Mount g.row.P.Denot). m.stopped) c.self.view_is ∙ c.in_ok-writable.ensures.runs in
     let writes : c.self.inside.read_only ≡ false = ap (λ (m : Mount g.row.P.Denot). m.read_only) c.self.view_is ∙ c.in_ok-writable.ensures.writes in
-    let within : c.in_ok-place.place < length c.self.inside.rows.items = subst (λ (rows : List Row). c.in_ok-place.place < length rows) c.deref.ensures.value c.in_ok-place.ensures.within in
-    let at : slice_get c.self.inside.rows.items c.in_ok-place.place ≡ Some c.index_mut-row.result.now = placed_row c.self.inside.rows.items c.in_ok-place.place c.index_mut-row.result.now within c.index_mut-row.ensures.value in
-    let leads : (names : List (List ℕ)) → IsPath c.args.path.now names → LeadsTo (tree_of (g.P.Pmem.region c.self.inside.memory) c.self.inside.rows.items) names c.index_mut-row.result.now.inode (node_of (g.P.Pmem.region c.self.inside.memory) c.index_mut-row.result.now) =
-    λ names path. subst (λ (rows : List Row). slice_get rows c.in_ok-place.place ≡ Some c.index_mut-row.result.now → LeadsTo (tree_of (g.P.Pmem.region c.self.inside.memory) rows) names c.index_mut-row.result.now.inode (node_of (g.P.Pmem.region c.self.inside.memory) c.index_mut-row.result.now)) c.deref.ensures.value
-    (c.in_ok-place.ensures.leads (g.P.Pmem.region c.self.inside.memory) names path c.index_mut-row.result.now) at in
+    let rows = c.self.inside.rows.items in
+    let inode = c.in_ok-inode.field-0.now.inode in
+    let at = at_place rows inode ∙ c.take-row.ensures.row in
+    let leads : (names : List (List ℕ)) → IsPath c.args.path.now names → LeadsTo (tree_of (g.P.Pmem.region c.self.inside.memory) rows) names c.take-row.result.inode (node_of (g.P.Pmem.region c.self.inside.memory) c.take-row.result) = λ names path. subst (λ (r : Row). LeadsTo (tree_of (g.P.Pmem.region c.self.inside.memory) rows) names r.inode (node_of (g.P.Pmem.region c.self.inside.memory) r)) (one_row (sym c.in_ok-inode.ensures.held ∙ c.take-row.ensures.row)) (c.in_ok-inode.ensures.row (g.P.Pmem.region c.self.inside.memory) names path) in
     let plan = c.new-plan.result in
-    let follows = λ (held : Store) (h : Held) (shows : ShowsRow (g.P.Pmem.region c.self.inside.memory) c.self.inside.sup held h c.index_mut-row.result.now c.self.inside.free). c.in-Ok.ensures.writes.follows held h shows in
+    let follows = λ (held : Store) (h : Held) (shows : ShowsRow (g.P.Pmem.region c.self.inside.memory) c.self.inside.sup held h c.take-row.result c.self.inside.free). c.in-Ok.ensures.writes.follows held h shows in
     let led = leads names path in
-    write_changed g.P.Pmem.region c.self.view_is names c.index_mut-row.result.now.inode c.args.offset c.args.bytes.now c.args.time (omega (arith, c.if-count-eq0.false)) (tree_of (g.P.Pmem.region c.change_bytes.new.memory) (set c.self.inside.rows.items c.in_ok-place.place c.change_bytes.new.row)) led.leads
-    (tree_after c.self.invariant runs writes c.in_ok-place.place c.index_mut-row.result.now c.change_bytes.new.row at (data_entries plan c.in-Ok.ensures.writes.runs) follows (with_bytes c.args.offset c.args.bytes.now c.args.time) c.in-Ok.ensures.writes.inode
-    (written_node (g.P.Pmem.region c.self.inside.memory) (g.P.Pmem.region c.change_bytes.new.memory) c.args.time c.in-Ok.ensures.writes c.new-plan.ensures
-    (write_bytes c.self.invariant runs writes c.in_ok-place.place c.index_mut-row.result.now at c.in-Ok.ensures.writes)))
+    let put = put_one rows c.take-row.new.self.items c.insert.new.self.items inode c.take-row.result c.change_bytes-changed.new.row c.take-row.ensures.rising c.take-row.ensures.row c.take-row.ensures.rows (c.change_bytes-changed.ensures.inode ∙ c.take-row.ensures.number) c.insert.ensures.rows in
+    rw put (write_changed g.P.Pmem.region c.self.view_is names c.take-row.result.inode c.args.offset c.args.bytes.now c.args.time (omega (arith, c.if-count-eq0.false)) (tree_of (g.P.Pmem.region c.change_bytes-changed.new.memory) (set c.self.inside.rows.items (place_in rows inode) c.change_bytes-changed.new.row)) led.leads
+    (tree_after c.self.invariant.0 runs writes (place_in rows inode) c.take-row.result c.change_bytes-changed.new.row at (data_entries plan c.in-Ok.ensures.writes.runs) follows (with_bytes c.args.offset c.args.bytes.now c.args.time) c.in-Ok.ensures.writes.inode
+    (written_node (g.P.Pmem.region c.self.inside.memory) (g.P.Pmem.region c.change_bytes-changed.new.memory) c.args.time c.in-Ok.ensures.writes c.new-plan.ensures
+    (write_bytes c.self.invariant.0 runs writes (place_in rows inode) c.take-row.result at c.in-Ok.ensures.writes))))
 
 pub returns-in-Ok-clause-log : goal.returns-in-Ok-clause-log
 returns-in-Ok-clause-log g c names i node held h path led sound is some =
     let runs : c.self.inside.stopped ≡ false = ap (λ (m : Mount g.row.P.Denot). m.stopped) c.self.view_is ∙ c.in_ok-writable.ensures.runs in
     let writes : c.self.inside.read_only ≡ false = ap (λ (m : Mount g.row.P.Denot). m.read_only) c.self.view_is ∙ c.in_ok-writable.ensures.writes in
-    let within : c.in_ok-place.place < length c.self.inside.rows.items = subst (λ (rows : List Row). c.in_ok-place.place < length rows) c.deref.ensures.value c.in_ok-place.ensures.within in
-    let at : slice_get c.self.inside.rows.items c.in_ok-place.place ≡ Some c.index_mut-row.result.now = placed_row c.self.inside.rows.items c.in_ok-place.place c.index_mut-row.result.now within c.index_mut-row.ensures.value in
-    let leads : (names : List (List ℕ)) → IsPath c.args.path.now names → LeadsTo (tree_of (g.P.Pmem.region c.self.inside.memory) c.self.inside.rows.items) names c.index_mut-row.result.now.inode (node_of (g.P.Pmem.region c.self.inside.memory) c.index_mut-row.result.now) =
-    λ names path. subst (λ (rows : List Row). slice_get rows c.in_ok-place.place ≡ Some c.index_mut-row.result.now → LeadsTo (tree_of (g.P.Pmem.region c.self.inside.memory) rows) names c.index_mut-row.result.now.inode (node_of (g.P.Pmem.region c.self.inside.memory) c.index_mut-row.result.now)) c.deref.ensures.value
-    (c.in_ok-place.ensures.leads (g.P.Pmem.region c.self.inside.memory) names path c.index_mut-row.result.now) at in
-    write_logged g.P.Pmem.region c.self.view_is names c.args.time i node held h c.self.invariant runs (stands c.self.inside.rows.items c.in_ok-place.place c.index_mut-row.result.now at) (leads names path) c.in-Ok.ensures.writes c.new-plan.ensures
-    (λ st k shown holds. write_log c.self.invariant runs writes c.in_ok-place.place c.index_mut-row.result.now at c.in-Ok.ensures.writes st k shown holds) led sound is
+    let rows = c.self.inside.rows.items in
+    let inode = c.in_ok-inode.field-0.now.inode in
+    let at = at_place rows inode ∙ c.take-row.ensures.row in
+    let leads : (names : List (List ℕ)) → IsPath c.args.path.now names → LeadsTo (tree_of (g.P.Pmem.region c.self.inside.memory) rows) names c.take-row.result.inode (node_of (g.P.Pmem.region c.self.inside.memory) c.take-row.result) = λ names path. subst (λ (r : Row). LeadsTo (tree_of (g.P.Pmem.region c.self.inside.memory) rows) names r.inode (node_of (g.P.Pmem.region c.self.inside.memory) r)) (one_row (sym c.in_ok-inode.ensures.held ∙ c.take-row.ensures.row)) (c.in_ok-inode.ensures.row (g.P.Pmem.region c.self.inside.memory) names path) in
+    write_logged g.P.Pmem.region c.self.view_is names c.args.time i node held h c.self.invariant.0 runs (stands c.self.inside.rows.items (place_in rows inode) c.take-row.result at) (leads names path) c.in-Ok.ensures.writes c.new-plan.ensures
+    (λ st k shown holds. write_log c.self.invariant.0 runs writes (place_in rows inode) c.take-row.result at c.in-Ok.ensures.writes st k shown holds) led sound is
 
 pub returns-in-Err-clause-unchanged : goal.returns-in-Err-clause-unchanged
 returns-in-Err-clause-unchanged g c off =
     let runs : c.self.inside.stopped ≡ false = ap (λ (m : Mount g.row.P.Denot). m.stopped) c.self.view_is ∙ c.in_ok-writable.ensures.runs in
-    let within : c.in_ok-place.place < length c.self.inside.rows.items = subst (λ (rows : List Row). c.in_ok-place.place < length rows) c.deref.ensures.value c.in_ok-place.ensures.within in
-    let at : slice_get c.self.inside.rows.items c.in_ok-place.place ≡ Some c.index_mut-row.result.now = placed_row c.self.inside.rows.items c.in_ok-place.place c.index_mut-row.result.now within c.index_mut-row.ensures.value in
-    unchanged_step c.self.view_is c.change_bytes.new.memory c.change_bytes.new.free c.in_ok-place.place c.index_mut-row.result.now c.change_bytes.new.row c.is_stop-self-inside.result at runs (not_stop c.in-Err.refusal c.is_stop-self-inside.result c.is_stop-self-inside.ensures.yes off) (c.in-Err.ensures.unchanged off)
+    let rows = c.self.inside.rows.items in
+    let inode = c.in_ok-inode.field-0.now.inode in
+    let at = at_place rows inode ∙ c.take-row.ensures.row in
+    let put = put_one rows c.take-row.new.self.items c.insert.new.self.items inode c.take-row.result c.change_bytes-changed.new.row c.take-row.ensures.rising c.take-row.ensures.row c.take-row.ensures.rows (c.change_bytes-changed.ensures.inode ∙ c.take-row.ensures.number) c.insert.ensures.rows in
+    rw put (unchanged_step c.self.view_is c.change_bytes-changed.new.memory c.change_bytes-changed.new.free (place_in rows inode) c.take-row.result c.change_bytes-changed.new.row c.is_stop-self-inside.result at runs (not_stop c.in-Err.refusal c.is_stop-self-inside.result c.is_stop-self-inside.ensures.yes off) (c.in-Err.ensures.unchanged off))

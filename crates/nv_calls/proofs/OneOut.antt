@@ -1,0 +1,30 @@
+-- A row that was taken out, changed and put in again.
+use Rattle.std.proofs.Common.{◌≡◌, ◌≢◌, ℕ, List, remove, set, refl, ap, ◌∙◌, Some}
+use Rattle.nv_super.specs.Order.{Rises}
+use Rattle.nv_alloc.specs.FreeValue.{FreeLists}
+use Rattle.nv_scan.specs.declared.piece.Row.{Row}
+use Rattle.nv_rows.specs.Rows.{row_key, row_of, place_in, IsInUse, HasInserted}
+use Rattle.nv_rows.proofs.Places.{at_place, in_use, others_kept, place_kept, put_one, row_in_use}
+use Rattle.nv_calls.specs.NewNames.{LeavesRows}
+use Rattle.nv_calls.specs.Steps.{LeavesStep}
+use Rattle.nv_calls.proofs.PutRow.{leaves_set}
+
+module _ (rows mid news : List Row) (i : ℕ) (was now : Row) (up : Rises row_key rows) (at : row_of rows i ≡ Some was) (taken : mid ≡ remove rows (place_in rows i)) (number : now.inode ≡ i) (put : HasInserted mid news now) where
+  pub back : news ≡ set rows (place_in rows i) now
+  back = put_one rows mid news i was now up at taken number put
+
+  -- what was refused has changed nothing
+  pub left_one : {P : Type 0} (memory later : P) (free after : FreeLists) → LeavesStep memory later free after was now → LeavesRows memory later free after rows news
+  left_one memory later free after left = rw back (leaves_set rows rows (place_in rows i) was now refl (at_place rows i ∙ at) memory later free after left)
+
+  module _ (j : ℕ) (apart : i ≢ j) where
+    -- the rows of others stay
+    pub other_row : row_of news j ≡ row_of rows j
+    other_row = ap (λ (rs : List Row). row_of rs j) back ∙ others_kept rows i j now number apart
+
+    pub other_used : IsInUse rows j → IsInUse news j
+    other_used used = let r = row_in_use rows j used in in_use news j r.0 (other_row ∙ r.1)
+
+    -- and where one goes out then, it does so at the place that it had
+    pub other_out : {out : List Row} → out ≡ remove news (place_in news j) → out ≡ remove (set rows (place_in rows i) now) (place_in rows j)
+    other_out gone = gone ∙ ap (λ (rs : List Row). remove rs (place_in rs j)) back ∙ ap (remove (set rows (place_in rows i) now)) (place_kept rows i j now number)

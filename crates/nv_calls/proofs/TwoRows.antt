@@ -1,0 +1,70 @@
+-- Two rows that were taken out, changed and put in again, as the rows at their two places.
+use Rattle.std.proofs.Common.{◌≡◌, ◌≢◌, ℕ, List, [], ◌∷◌, remove, set, ap, sym, ◌∙◌, Some, None}
+use Rattle.nv_region.specs.Region.{Region}
+use Rattle.nv_super.specs.declared.superblock.Super.{Super}
+use Rattle.nv_alloc.specs.FreeValue.{FreeLists}
+use Rattle.nv_entry.specs.declared.entry.Entry.{Entry}
+use Rattle.nv_scan.specs.declared.piece.Row.{Row}
+use Rattle.nv_rows.specs.Rows.{row_of, place_in, IsInUse, HasInserted}
+use Rattle.nv_rows.proofs.Places.{at_place, in_use, others_stay, places_apart, row_in_use}
+use Rattle.nv_held.specs.nv_outcome.Same.{SameRow}
+use Rattle.nv_calls.specs.MoreNames.{GrowsTwo}
+use Rattle.nv_calls.specs.NewNames.{LeavesRows}
+use Rattle.nv_calls.specs.Steps.{LeavesStep}
+use Rattle.nv_calls.proofs.Inserted.{row_of_inserted}
+use Rattle.nv_calls.proofs.SetRows.{both_same}
+
+-- ---- while a row is out
+
+-- another inode is in use still
+pub used_still : (rows mid : List Row) (i j : ℕ) → i ≢ j → mid ≡ remove rows (place_in rows i) → IsInUse rows j → IsInUse mid j
+used_still rows mid i j apart taken used =
+    let r = row_in_use rows j used in
+    in_use mid j r.0 (ap (λ (rs : List Row). row_of rs j) taken ∙ others_stay rows i j apart ∙ r.1)
+
+-- and has the row that it had
+pub row_stays : (rows mid : List Row) (i j : ℕ) → i ≢ j → mid ≡ remove rows (place_in rows i) → (row : Row) → row_of mid j ≡ Some row → row_of rows j ≡ Some row
+row_stays rows mid i j apart taken row at = sym (others_stay rows i j apart) ∙ ap (λ (rs : List Row). row_of rs j) (sym taken) ∙ at
+
+-- one that has no row gets none where another's goes out
+pub none_still : (rows mid : List Row) (i j : ℕ) → i ≢ j → mid ≡ remove rows (place_in rows i) → row_of rows j ≡ None → row_of mid j ≡ None
+none_still rows mid i j apart taken none = ap (λ (rs : List Row). row_of rs j) taken ∙ others_stay rows i j apart ∙ none
+
+-- or goes in
+pub none_put : (rows mid : List Row) (row : Row) (j : ℕ) → j ≢ row.inode → HasInserted rows mid row → row_of rows j ≡ None → row_of mid j ≡ None
+none_put rows mid row j apart put none = ap (λ (rs : List Row). row_of rs j) put.all ∙ row_of_inserted rows put.place row j apart ∙ none
+
+-- ---- both in again
+
+module _ (rows news : List Row) (i j : ℕ) (a b c d : Row) (apart : i ≢ j) (at : row_of rows i ≡ Some a) (other_at : row_of rows j ≡ Some b) (put : news ≡ set (set rows (place_in rows i) c) (place_in rows j) d) where
+  -- what was done to the two is done at their places
+  pub lifted : {R S : Region} {s : Super} {free after : FreeLists} {first second : Row} {entries others : List Entry} {Becomes Other : List ℕ → Row → Type 0} → GrowsTwo R S s free after (a ∷ b ∷ []) (c ∷ d ∷ []) 0 first entries 1 second others Becomes Other
+      → GrowsTwo R S s free after rows news (place_in rows i) first entries (place_in rows j) second others Becomes Other
+  lifted step =
+      let first_is : c ≡ step.first_now = (let e = step.put in cc) in
+      let second_is : d ≡ step.second_now = (let e = step.put in cc) in
+      record {
+        first_now = step.first_now;
+        second_now = step.second_now;
+        at = at_place rows i ∙ at ∙ step.at;
+        other_at = at_place rows j ∙ other_at ∙ step.other_at;
+        fresh = step.fresh;
+        more = step.more;
+        taken = step.taken;
+        count = step.count;
+        more_count = step.more_count;
+        is = step.is;
+        other_is = step.other_is;
+        once = step.once;
+        other_once = step.other_once;
+        put = put ∙ ap (λ (r : Row). set (set rows (place_in rows i) r) (place_in rows j) d) first_is ∙ ap (λ (r : Row). set (set rows (place_in rows i) step.first_now) (place_in rows j) r) second_is;
+        shows = step.shows;
+      }
+
+  -- and what was refused has changed nothing
+  pub left_two : {P : Type 0} (memory now : P) (free after : FreeLists) → LeavesStep memory now free after a c → SameRow b d → LeavesRows memory now free after rows news
+  left_two memory now free after left other = record {
+    memory = left.memory;
+    free = left.free;
+    rows = rw put (both_same rows (place_in rows i) (place_in rows j) a c b d (at_place rows i ∙ at) (at_place rows j ∙ other_at) (places_apart rows i j (in_use rows i a at) (in_use rows j b other_at) apart) left.row other);
+  }
