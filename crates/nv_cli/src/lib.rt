@@ -21,5 +21,6 @@ pub use mapping::{BlockUse, Cells, Mapped, map_cells, map_image};
 pub use nv_region::{MemRegion, RegionRefusal};
 pub use nv_report::{BadLength, LONGEST_REGION, is_region_length};
 pub use nv_stream::ScriptError;
+pub use nv_text::Refusal;
 pub use output::Output;
 pub use script::{Ended, run_script, run_script_on, run_script_with_hints};
