@@ -8,3 +8,5 @@ pub mod HintReplies
 pub mod Ending
 pub mod Pieces
 pub mod Looks
+pub mod Opens
+pub mod Cats

@@ -6,7 +6,7 @@ use Rattle.nv_region.specs.ImageState.{ImageState}
 use Rattle.nv_super.specs.FaultText.{super_fault_name}
 use Rattle.nv_text.specs.Refusals.{refusal_name}
 use Rattle.nv_text.specs.declared.refusals.Refusal as texts
-use Rattle.nv_journal.specs.Undo.{undone}
+use Rattle.nv_report.specs.nv_outcome.nv_journal.Undo.{undone}
 use Rattle.nv_session.specs.nv_calls.Mount.{Mount}
 use Rattle.nv_session.specs.nv_calls.Seen.{tree_of}
 use Rattle.nv_tree.specs.Path.{Says}

@@ -25,6 +25,7 @@ const NOT_FOUND: Answered = Answered {
     faults: 0,
 };
 
+#[derive(Drop)]
 struct NoHints;
 
 impl Hints for NoHints {
@@ -42,7 +43,8 @@ fn run_on<H: AllocGlobal + Abort + Threads + Sync>(
     let Ok(region) = region_of_file(rt.alloc(), bytes.to_vec(rt.alloc())?) else {
         return Ok(Vec::new(rt.alloc()));
     };
-    let ended = run_script_on(rt, rt.alloc(), region, script, &mut out, &mut NoHints)?;
+    let mut hints = NoHints;
+    let ended = run_script_on(rt, rt.alloc(), region, script, &mut out, &mut hints)?;
     assert!(rt; out.as_slice() == text.as_bytes());
     assert!(rt; ended.status == 0);
     match ended.region {
