@@ -14,6 +14,10 @@ use Rattle.nv_report.specs.Last.{how_it_went}
 use Rattle.nv_stream.specs.Streams.{AppendsFront}
 use Rattle.nv_report.specs.Texts.{IsReportText}
 use Rattle.nv_report.specs.Workers.{is_worker_count}
+use Rattle.nv_report.specs.Summary.{summary_line}
+use Rattle.nv_text.specs.Faults.{faults_text}
+use Rattle.nv_cli.specs.declared.output.Output.{Output}
+use Rattle.nv_cli.specs.declared.output.Output.TheVariants.{Report, Summary, OnlyFaults}
 
 -- the command was refused by this name
 abbrev pub IsRefusal : List ℕ → List ℕ → ℕ → Type 0
@@ -31,6 +35,20 @@ IsReport R text status = (o : Outcome) × IsOutcome R o × IsReportText o text �
 abbrev pub IsCheck : Region → ℕ → List ℕ → ℕ → Type 0
 IsCheck R workers text status = MatchBool (is_worker_count workers) (IsSuperRefusal R text status ⊎ IsReport R text status) (IsRefusal (codes "Workers") text status)
 
+-- what a check writes of a region that isn't refused: the whole report, one line of sums, or the faults alone
+abbrev pub IsOutputText : Output → Outcome → List ℕ → Type 0
+IsOutputText Report o text = IsReportText o text
+IsOutputText Summary o text = text ≡ summary_line o
+IsOutputText OnlyFaults o text = text ≡ faults_text o.faults
+
+-- such an output of the region's outcome; the status says whether there are faults
+abbrev pub IsOutput : Output → Region → List ℕ → ℕ → Type 0
+IsOutput output R text status = (o : Outcome) × IsOutcome R o × IsOutputText output o text × (status ≡ status_of (how_it_went o.faults))
+
+-- the same as `IsCheck`, with such an output
+abbrev pub IsCheckAs : Output → Region → ℕ → List ℕ → ℕ → Type 0
+IsCheckAs output R workers text status = MatchBool (is_worker_count workers) (IsSuperRefusal R text status ⊎ IsOutput output R text status) (IsRefusal (codes "Workers") text status)
+
 -- the text of a check of these bytes was written
 abbrev pub WritesCheck : List ℕ → ℕ → Option (List ℕ) → Option (List ℕ) → Type 0
 WritesCheck bytes workers old new = (text : List ℕ) × (status : ℕ) × IsCheck (region_of bytes) workers text status × Appends old new text
@@ -45,3 +63,16 @@ abbrev pub FailsCheck : List ℕ → ℕ → ScriptError → Option (List ℕ) �
 FailsCheck bytes workers Read old new = ⊥
 FailsCheck bytes workers Write old new = (text : List ℕ) × (status : ℕ) × IsCheck (region_of bytes) workers text status × AppendsFront old new text
 FailsCheck bytes workers Memory old new = Keeps old new
+
+-- ---- the same of a check with another output
+
+abbrev pub WritesCheckAs : Output → List ℕ → ℕ → Option (List ℕ) → Option (List ℕ) → Type 0
+WritesCheckAs output bytes workers old new = (text : List ℕ) × (status : ℕ) × IsCheckAs output (region_of bytes) workers text status × Appends old new text
+
+abbrev pub EndsCheckAs : Output → List ℕ → ℕ → Option (List ℕ) → Option (List ℕ) → ℕ → Type 0
+EndsCheckAs output bytes workers old new status = (text : List ℕ) × IsCheckAs output (region_of bytes) workers text status × Appends old new text
+
+abbrev pub FailsCheckAs : Output → List ℕ → ℕ → ScriptError → Option (List ℕ) → Option (List ℕ) → Type 0
+FailsCheckAs output bytes workers Read old new = ⊥
+FailsCheckAs output bytes workers Write old new = (text : List ℕ) × (status : ℕ) × IsCheckAs output (region_of bytes) workers text status × AppendsFront old new text
+FailsCheckAs output bytes workers Memory old new = Keeps old new

@@ -44,3 +44,7 @@ Hinted number old (line ∷ lines) hints =
 -- the hints of a whole script, whatever its exit status
 abbrev pub HintsScript : List (List ℕ) → List ℕ → ℕ → Type 0
 HintsScript lines hints status = Hinted 1 first_state lines hints
+
+-- the same of a script that begins in this state
+abbrev pub HintsFrom : State → List (List ℕ) → List ℕ → ℕ → Type 0
+HintsFrom old lines hints status = Hinted 1 old lines hints

@@ -1,5 +1,6 @@
 -- What a script may print, and the exit status with which it may end.
-use Rattle.std.specs.Prelude.{◌≡◌, ◌⊎◌, ◌≤◌, ◌+◌, false, ℕ, List, [], ◌∷◌, ◌++◌, length}
+use Rattle.std.specs.Prelude.{◌≡◌, ◌⊎◌, ◌≤◌, ◌+◌, false, ℕ, List, [], ◌∷◌, ◌++◌, length, Option}
+use Rattle.nv_region.specs.Region.{Region}
 use Rattle.std.specs.List.{AllByRecursion}
 use Rattle.nv_region.specs.declared.memory.Fuse.{Fuse}
 use Rattle.nv_region.specs.declared.memory.Keep.{Keep}
@@ -24,6 +25,23 @@ Shows number old (line ∷ lines) text status =
     ⊎ ((length line ≤ line_limit) × (first : List ℕ) × (rest : List ℕ) × (mid : State)
     × Runs line old first mid × Shows (number + 1) mid lines rest status × (text ≡ first ++ rest))
     ⊎ (IsBad line × (text ≡ bad_line number) × (status ≡ 2))
+
+-- The same, and the state in which they end: that before the end of the lines, or before a bad line.
+abbrev pub ShowsTo : ℕ → State → List (List ℕ) → List ℕ → ℕ → State → Type 0
+ShowsTo number old [] text status end = (text ≡ []) × (status ≡ status_of old.last) × (end ≡ old)
+ShowsTo number old (line ∷ lines) text status end =
+    ((length line ≤ line_limit) × IsSkipped line × ShowsTo (number + 1) old lines text status end)
+    ⊎ ((length line ≤ line_limit) × (first : List ℕ) × (rest : List ℕ) × (mid : State)
+    × Runs line old first mid × ShowsTo (number + 1) mid lines rest status end × (text ≡ first ++ rest))
+    ⊎ (IsBad line × (text ≡ bad_line number) × (status ≡ 2) × (end ≡ old))
+
+-- what a script may print that begins in this state, and its exit status
+abbrev pub ShowsFrom : State → List (List ℕ) → List ℕ → ℕ → Type 0
+ShowsFrom old lines text status = Shows 1 old lines text status
+
+-- the same of a script that ends with this region
+abbrev pub ShowsEnd : State → Option Region → List (List ℕ) → List ℕ → ℕ → Type 0
+ShowsEnd old region lines text status = (end : State) × ShowsTo 1 old lines text status end × (end.region ≡ region)
 
 -- no line sets a stop
 abbrev pub SetsNoStop : List (List ℕ) → Type 0

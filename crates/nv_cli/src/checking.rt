@@ -11,10 +11,9 @@ ghost use Rattle.nv_report.specs.Last.{how_it_went, status_of};
 ghost use Rattle.nv_report.specs.Workers.{is_worker_count};
 ghost use Rattle.nv_cli.specs.Checking.{IsCheck, IsRefusal, WritesCheck, EndsCheck, FailsCheck};
 
+use crate::output::{Output, output_text};
 use nv_region::{ImageRegion, Pmem, RegionRefusal};
-use nv_report::{
-    Answer, Last, MOST_WORKERS, Part, how_it_went, part_text, recover_region, refused_text,
-};
+use nv_report::{Answer, Last, MOST_WORKERS, how_it_went, recover_region, refused_text};
 use nv_stream::{ScriptError, write_text};
 use nv_super::{Fault, SuperFault, read_super};
 use nv_text::Refusal;
@@ -48,7 +47,23 @@ pub fn check_region<H: Threads + Sync, W: Write>(
     ensures status { IfOk result (λ status. EndsCheck bytes.now workers (W.contents writer.old) (W.contents writer.new) status) }
     ensures err { IfErr result (λ e. FailsCheck bytes.now workers e (W.contents writer.old) (W.contents writer.new)) }
 {
-    let checked = check_bytes(rt, alloc, bytes, workers)?;
+    check_region_as(rt, alloc, bytes, workers, Output::Report, writer)
+}
+
+/// `check_region`, which writes this of a region that isn't refused.
+pub fn check_region_as<H: Threads + Sync, W: Write>(
+    rt: &H,
+    alloc: Global,
+    bytes: &[u8],
+    workers: u64,
+    output: Output,
+    writer: &mut W,
+) -> Result<u8, ScriptError>
+    ensures text { IfOk result (λ _. WritesCheckAs output bytes.now workers (W.contents writer.old) (W.contents writer.new)) }
+    ensures status { IfOk result (λ status. EndsCheckAs output bytes.now workers (W.contents writer.old) (W.contents writer.new) status) }
+    ensures err { IfErr result (λ e. FailsCheckAs output bytes.now workers e (W.contents writer.old) (W.contents writer.new)) }
+{
+    let checked = check_bytes(rt, alloc, bytes, workers, output)?;
     write_text(writer, checked.text.as_bytes())?;
     Ok(checked.status)
 }
@@ -58,8 +73,9 @@ fn check_bytes<H: Threads + Sync>(
     alloc: Global,
     bytes: &[u8],
     workers: u64,
+    output: Output,
 ) -> Result<Checked, AllocError>
-    ensures { IfOk result (λ checked. IsCheck (region_of bytes.now) workers (string_bytes checked.text) checked.status) }
+    ensures { IfOk result (λ checked. IsCheckAs output (region_of bytes.now) workers (string_bytes checked.text) checked.status) }
 {
     if !is_worker_count(workers) {
         return refused(alloc, Refusal::Workers);
@@ -67,7 +83,7 @@ fn check_bytes<H: Threads + Sync>(
     match ImageRegion::from_bytes(alloc, bytes) {
         Ok(mut image) => {
             open_system(&mut image)?;
-            check_memory(rt, alloc, &mut image, workers)
+            check_memory(rt, alloc, &mut image, workers, output)
         }
         Err(RegionRefusal::Length) => refused(alloc, Refusal::Super(SuperFault::Length)),
         Err(RegionRefusal::Memory) => Err(AllocError),
@@ -75,7 +91,7 @@ fn check_bytes<H: Threads + Sync>(
 }
 
 // Opens all blocks in front of the data blocks, where the superblock is accepted.
-fn open_system(image: &mut ImageRegion) -> Result<(), AllocError>
+pub(crate) fn open_system(image: &mut ImageRegion) -> Result<(), AllocError>
     requires { image.old.burnt ≡ false }
     ensures same { image.new.region ≡ image.old.region }
     ensures open { OnOk result (IsOpenInFront image.new.region (is_open_to image.new)) }
@@ -92,13 +108,14 @@ fn check_memory<P: Pmem + Sync, H: Threads + Sync>(
     alloc: Global,
     memory: &mut P,
     workers: u64,
+    output: Output,
 ) -> Result<Checked, AllocError>
     requires { IsOpenInFront (P.region memory.old) (P.fuse memory.old).is_open }
-    ensures { IfOk result (λ checked. IsCheck (P.region memory.old) workers (string_bytes checked.text) checked.status) }
+    ensures { IfOk result (λ checked. IsCheckAs output (P.region memory.old) workers (string_bytes checked.text) checked.status) }
 {
     match recover_region(rt, alloc, memory, workers)? {
         Answer::Recovered(recovered) => Ok(Checked {
-            text: part_text(alloc, &recovered, Part::Report)?,
+            text: output_text(alloc, &recovered, output)?,
             status: status_of(&recovered.faults),
         }),
         Answer::Refused(refusal) => refused(alloc, refusal),

@@ -4,13 +4,23 @@
 #![tactic(auto)]
 
 mod checking;
+mod files;
 mod hinting;
 mod laws;
+mod looking;
+mod mapping;
+mod output;
 mod script;
 
-pub use checking::check_region;
+pub use checking::{check_region, check_region_as};
+pub use files::region_of_file;
 pub use hinting::{Hint, Hints, LENGTH_REFUSED};
 pub use laws::{one_check, one_transcript};
+pub use looking::{Answered, cat_image, list_image, stat_image};
+pub use mapping::{BlockUse, Cells, Mapped, map_cells, map_image};
+pub use nv_region::{MemRegion, RegionRefusal};
 pub use nv_report::{BadLength, LONGEST_REGION, is_region_length};
 pub use nv_stream::ScriptError;
-pub use script::{run_script, run_script_with_hints};
+pub use nv_text::Refusal;
+pub use output::Output;
+pub use script::{Ended, run_script, run_script_on, run_script_with_hints};

@@ -2,20 +2,21 @@
 //!
 //! Each line's whole text is made before a byte of it is written, so a line for which memory is wanted prints nothing.
 
-ghost use Rattle.std.specs.Prelude.{◌≡◌, IfOk, IfErr, OnErr, IsErrOf, bytes_eq, string_bytes};
+ghost use Rattle.std.specs.Prelude.{◌≡◌, IfOk, IfErr, OnErr, IsErrOf, option_map, bytes_eq, string_bytes};
 ghost use Rattle.std.specs.Io.KnownBytes.{Appends};
 ghost use Rattle.nv_super.specs.declared.superblock.SuperFault.TheVariants as SuperFault;
 ghost use Rattle.nv_text.specs.Answers.{bad_line, refused_line};
 ghost use Rattle.nv_super.specs.FaultText.{super_fault_name};
-ghost use Rattle.nv_cli.specs.Script.{ShowsScript};
-ghost use Rattle.nv_cli.specs.Hints.{HintsScript, answer_hint};
+ghost use Rattle.nv_cli.specs.Script.{ShowsScript, ShowsFrom, ShowsEnd};
+ghost use Rattle.nv_cli.specs.Hints.{HintsScript, HintsFrom, answer_hint};
 ghost use Rattle.nv_cli.specs.Replies.{KnownReplies, RepliesTo};
-ghost use Rattle.nv_session.specs.Machine.{State, first_state};
+ghost use Rattle.nv_session.specs.Machine.{State, first_state, state_with};
 ghost use Rattle.nv_session.specs.Sessions.{Leads, StandsFor};
 ghost use Rattle.nv_cli.specs.Transcript.{WritesAll, WritesFront, WritesWhole};
 
 use crate::hinting::{Hint, Hints, LENGTH_REFUSED, NoHints};
 use nv_line::{Line, Reason, classify, why_bad};
+use nv_region::MemRegion;
 use nv_report::BadLength;
 use nv_session::Session;
 use nv_stream::{Next, ScriptError, read_line, write_text};
@@ -78,20 +79,56 @@ pub fn run_script_with_hints<H: Threads + Sync, R: Read + Drop, W: Write, N: Hin
     ensures hints { IfOk result (λ status. WritesAll HintsScript (R.remaining reader) (N.told hints.old) (N.told hints.new) status) }
     ensures first_hints { OnErr result (WritesWhole HintsScript (R.remaining reader) (N.told hints.old) (N.told hints.new)) }
 {
+    let mut session = Session::new();
+    run_in(rt, alloc, &mut session, reader, writer, hints)
+}
+
+/// How a script that began with a region has ended: its exit status, and the region that there is then.
+#[derive(Drop)]
+pub struct Ended {
+    pub status: u8,
+    pub region: Option<MemRegion>,
+}
+
+/// `run_script_with_hints`, where a region is there from the start, of which nothing is mounted. Answers the region that there
+/// is at the end, too.
+pub fn run_script_on<H: Threads + Sync, R: Read + Drop, W: Write, N: Hints>(
+    rt: &H,
+    alloc: Global,
+    region: MemRegion,
+    reader: R,
+    writer: &mut W,
+    hints: &mut N,
+) -> Result<Ended, ScriptError>
+    // The region is that of the state in which these lines may end.
+    ensures ok { IfOk result (λ ended. WritesAll (ShowsEnd (state_with region.region) (option_map (λ memory. memory.region) ended.region)) (R.remaining reader) (W.contents writer.old) (W.contents writer.new) ended.status) }
+    ensures err { OnErr result (WritesFront (ShowsFrom (state_with region.region)) (R.remaining reader) (W.contents writer.old) (W.contents writer.new)) }
+    ensures memory { IsErrOf result ScriptError.Memory → WritesWhole (ShowsFrom (state_with region.region)) (R.remaining reader) (W.contents writer.old) (W.contents writer.new) }
+    ensures hints { IfOk result (λ ended. WritesAll (HintsFrom (state_with region.region)) (R.remaining reader) (N.told hints.old) (N.told hints.new) ended.status) }
+    ensures first_hints { OnErr result (WritesWhole (HintsFrom (state_with region.region)) (R.remaining reader) (N.told hints.old) (N.told hints.new)) }
+{
+    let mut session = Session::with_region(region);
+    let status = run_in(rt, alloc, &mut session, reader, writer, hints)?;
+    Ok(Ended {
+        status,
+        region: session.into_region(),
+    })
+}
+
+// Runs a script in a session.
+fn run_in<H: Threads + Sync, R: Read + Drop, W: Write, N: Hints>(
+    rt: &H,
+    alloc: Global,
+    session: &mut Session,
+    reader: R,
+    writer: &mut W,
+    hints: &mut N,
+) -> Result<u8, ScriptError> {
     let Ok(mut reader) = BufReader::with_capacity(alloc, BUFFER_SIZE, reader) else {
         return Err(ScriptError::Memory);
     };
-    let mut session = Session::new();
     let mut line = Vec::new(alloc);
-    run_lines(
-        rt,
-        alloc,
-        &mut session,
-        &mut line,
-        &mut reader,
-        writer,
-        hints,
-    )
+    run_lines(rt, alloc, session, &mut line, &mut reader, writer, hints)
 }
 
 // Runs the lines of a script in a session that has done nothing yet. The line is for the bytes of one after another.

@@ -13,6 +13,7 @@ mod recovering;
 mod recovery;
 mod rows;
 mod shown;
+mod summary;
 mod texts;
 
 pub use last::{Last, how_it_went};
@@ -20,7 +21,8 @@ pub use laws::{one_report, one_row_text};
 pub use lengths::{BadLength, LONGEST_REGION, is_region_length};
 pub use nv_recover::{MOST_WORKERS, Recovered};
 pub use part::Part;
-pub use recovering::{recover_or_stop, recover_region, replay_or_stop};
+pub use recovering::{recover_alone, recover_or_stop, recover_region, replay_or_stop};
 pub use recovery::Answer;
 pub use shown::Shown;
+pub use summary::summary_text;
 pub use texts::{part_text, recovered_text, refused_text, shown_text};

@@ -1,13 +1,13 @@
 //! Recoveries of a region, as the commands see them: nothing but want of memory, or the memory's fuse, prevents an answer.
 
-ghost use Rattle.std.specs.Prelude.{◌≡◌, ◌≢◌, [], None, IfOk, OnErr, IsTrue, map};
+ghost use Rattle.std.specs.Prelude.{◌≡◌, ◌≢◌, [], None, Some, IfOk, OnErr, IsTrue, map};
 ghost use Rattle.nv_region.specs.Fuses.{KeepsFuse};
 ghost use Rattle.nv_recover.specs.Behind.{BehindSystem};
 ghost use Rattle.nv_recover.specs.Errors.{AsBeforeOrUndone};
 ghost use Rattle.nv_report.specs.Answering.{TakesRecovery, MayAnswer, MayEnd, ListsItsPools, IsToldAs, EndsAs, refusal_of, worker_number};
 
 use crate::recovery::Answer;
-use nv_recover::{NoGate, RecoverError, recover, recover_replay};
+use nv_recover::{NoGate, RecoverError, recover, recover_one, recover_replay};
 use nv_region::Pmem;
 use nv_text::Refusal;
 use std::alloc::{AllocError, Global};
@@ -27,6 +27,20 @@ pub fn recover_region<P: Pmem + Sync, H: Threads + Sync>(
     ensures keeps_fuse { KeepsFuse (BehindSystem (P.region memory.old)) (P.fuse memory.old) (P.fuse memory.new) }
 {
     match recover(rt, alloc, memory, workers, &NoGate) {
+        Ok(recovered) => Ok(Answer::Recovered(recovered)),
+        Err(error) => refused(error),
+    }
+}
+
+/// Recovers on this thread.
+pub fn recover_alone<P: Pmem>(alloc: Global, memory: &mut P) -> Result<Answer, AllocError>
+    requires taken { TakesRecovery (P.region memory.old) (P.fuse memory.old) }
+    ensures ok { IfOk result (λ answer. MayAnswer (P.region memory.old) 1 [] answer (P.region memory.new)) }
+    ensures lists { IfOk result (λ answer. ListsItsPools (Some answer)) }
+    // Only want of memory prevents an answer.
+    ensures err { OnErr result (AsBeforeOrUndone (P.region memory.old) (P.region memory.new)) }
+{
+    match recover_one(alloc, memory) {
         Ok(recovered) => Ok(Answer::Recovered(recovered)),
         Err(error) => refused(error),
     }

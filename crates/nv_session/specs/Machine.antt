@@ -50,6 +50,10 @@ pub record State : Type 0 where
 abbrev pub first_state : State
 first_state = record { region = None; mounted = None; time = 0; last = Sound; armed = false }
 
+-- before the first line, where a region is there from the start
+abbrev pub state_with : Region → State
+state_with R = record first_state { region = Some R }
+
 -- the command prints this, and leaves all as it was
 abbrev pub Answers : List ℕ → State → List ℕ → State → Type 0
 Answers said old text new = (text ≡ said) × (new ≡ old)

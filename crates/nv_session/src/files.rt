@@ -1,11 +1,11 @@
 //! What the file calls that read a mounted region print.
 
-ghost use Rattle.std.specs.Prelude.{◌≡◌, ◌≢◌, ◌++◌, false, IfOk, OnOk, string_bytes, map};
+ghost use Rattle.std.specs.Prelude.{◌≡◌, ◌≢◌, ◌++◌, false, is_some, IsTrue, IfOk, OnOk, string_bytes, map};
 ghost use Rattle.nv_text.specs.Answers.{refused_line};
 ghost use Rattle.nv_text.specs.Names.{data_line};
 ghost use Rattle.nv_text.specs.Report.{stat_line};
 ghost use Rattle.nv_tree.specs.Path.{Says};
-ghost use Rattle.nv_tree.specs.Refusals.{Path, refusal_word};
+ghost use Rattle.nv_tree.specs.Refusals.{Path, first_refusal, list_tests, stat_tests, refusal_word};
 ghost use Rattle.nv_tree.specs.declared.refusal.Refusal.TheVariants as refusals;
 ghost use Rattle.nv_calls.specs.Seen.{tree_of};
 ghost use Rattle.nv_calls.specs.Listing.{name_and_inode};
@@ -13,29 +13,46 @@ ghost use Rattle.nv_session.specs.Machine.{attributes_of, list_lines, TellsNames
 
 use nv_calls::{Fs, Stat};
 use nv_names::Named;
-use nv_region::MemRegion;
+use nv_region::{MemRegion, Pmem};
 use nv_text::{Attributes, push_data_line, push_list_line, push_stat_line};
 use nv_tree::Refusal;
 use std::alloc::{AllocError, Global};
 use std::fmt::Write;
 
+/// What a call prints, and whether that is its refusal.
+#[derive(Drop)]
+pub struct Told {
+    pub text: String,
+    pub is_refused: bool,
+}
+
 /// The names of a directory, a line for each.
-pub fn list_text(alloc: Global, mount: &Fs<MemRegion>, path: &[u8]) -> Result<String, AllocError>
-    ensures { IfOk result (λ text. mount.now.stopped ≡ false → (p : Path) → Says path.now p → TellsNames (tree_of mount.now.memory.region mount.now.rows) p (string_bytes text)) }
+pub fn list_text<P: Pmem + Drop>(
+    alloc: Global,
+    mount: &Fs<P>,
+    path: &[u8],
+) -> Result<Told, AllocError>
+    ensures text { IfOk result (λ told. mount.now.stopped ≡ false → (p : Path) → Says path.now p → TellsNames (tree_of (P.region mount.now.memory) mount.now.rows) p (string_bytes told.text)) }
+    ensures refused { IfOk result (λ told. mount.now.stopped ≡ false → (p : Path) → Says path.now p → told.is_refused ≡ is_some (first_refusal (list_tests (tree_of (P.region mount.now.memory) mount.now.rows) p))) }
 {
     match mount.list(path) {
-        Ok(listed) => lines_text(alloc, &listed),
-        Err(refusal) => refused_call_text(alloc, refusal),
+        Ok(listed) => Ok(answered(lines_text(alloc, &listed)?)),
+        Err(refusal) => refused(alloc, refusal),
     }
 }
 
 /// The numbers of an inode.
-pub fn stat_text(alloc: Global, mount: &Fs<MemRegion>, path: &[u8]) -> Result<String, AllocError>
-    ensures { IfOk result (λ text. mount.now.stopped ≡ false → (p : Path) → Says path.now p → TellsStat (tree_of mount.now.memory.region mount.now.rows) p (string_bytes text)) }
+pub fn stat_text<P: Pmem + Drop>(
+    alloc: Global,
+    mount: &Fs<P>,
+    path: &[u8],
+) -> Result<Told, AllocError>
+    ensures text { IfOk result (λ told. mount.now.stopped ≡ false → (p : Path) → Says path.now p → TellsStat (tree_of (P.region mount.now.memory) mount.now.rows) p (string_bytes told.text)) }
+    ensures refused { IfOk result (λ told. mount.now.stopped ≡ false → (p : Path) → Says path.now p → told.is_refused ≡ is_some (first_refusal (stat_tests (tree_of (P.region mount.now.memory) mount.now.rows) p))) }
 {
     match mount.stat(path) {
-        Ok(stat) => numbers_text(alloc, stat),
-        Err(refusal) => refused_call_text(alloc, refusal),
+        Ok(stat) => Ok(answered(numbers_text(alloc, stat)?)),
+        Err(refusal) => refused(alloc, refusal),
     }
 }
 
@@ -55,7 +72,25 @@ pub fn read_text(
     }
 }
 
-// Want of memory is told as no refusal.
+fn answered(text: String) -> Told
+    ensures { result ≡ record { text = text; is_refused = false } }
+{
+    Told {
+        text,
+        is_refused: false,
+    }
+}
+
+fn refused(alloc: Global, refusal: Refusal) -> Result<Told, AllocError>
+    ensures { IfOk result (λ told. (refusal ≢ refusals.Memory) × (string_bytes told.text ≡ refused_line (refusal_word refusal)) × IsTrue told.is_refused) }
+{
+    Ok(Told {
+        text: refused_call_text(alloc, refusal)?,
+        is_refused: true,
+    })
+}
+
+/// The line of a refusal. Want of memory is told as no refusal.
 pub fn refused_call_text(alloc: Global, refusal: Refusal) -> Result<String, AllocError>
     ensures { IfOk result (λ text. (refusal ≢ refusals.Memory) × (string_bytes text ≡ refused_line (refusal_word refusal))) }
 {

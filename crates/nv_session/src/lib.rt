@@ -14,5 +14,8 @@ mod stop;
 mod store;
 mod texts;
 
+pub use files::{Told, list_text, refused_call_text, stat_text};
 pub use laws::one_step;
+pub use nv_calls::Fs;
+pub use nv_tree::Refusal as CallRefusal;
 pub use session::Session;

@@ -37,7 +37,7 @@ impl Session {
     ghost use Rattle.std.specs.Prelude.{string_bytes};
     ghost use Rattle.nv_session.specs.Sessions.{StandsFor, Moves, CanMount, Mounts, Fails, Settles, region_in, mount_in, is_armed};
     ghost use Rattle.nv_session.specs.declared.store.Store.TheVariants as stores;
-    ghost use Rattle.nv_session.specs.Machine.{first_state, SetsTime, Formats, Recovers, Replays, Pokes, Cuts, ShowsPart, Peeks, MayStop, StopsFormat, StopsRecovery, Arms, Reads, TellsNames, TellsStat, TellsBytes, Does, Step};
+    ghost use Rattle.nv_session.specs.Machine.{first_state, state_with, SetsTime, Formats, Recovers, Replays, Pokes, Cuts, ShowsPart, Peeks, MayStop, StopsFormat, StopsRecovery, Arms, Reads, TellsNames, TellsStat, TellsBytes, Does, Step};
     ghost use Rattle.nv_session.specs.Machine.{State};
     ghost use Rattle.nv_report.specs.declared.recovery.Answer.TheVariants as answers;
     ghost use Rattle.nv_report.specs.Last.{status_of};
@@ -53,6 +53,28 @@ impl Session {
             time: 0,
             last: Last::Sound,
             stop: Stop::none(),
+        }
+    }
+
+    /// Nothing made yet but this region, at time 0.
+    pub fn with_region(memory: MemRegion) -> Session
+        ensures { StandsFor result (state_with memory.region) }
+    {
+        Session {
+            store: Some(Store::Alone(memory)),
+            time: 0,
+            last: Last::Sound,
+            stop: Stop::none(),
+        }
+    }
+
+    /// The region that there is at the end.
+    pub fn into_region(self) -> Option<MemRegion>
+        ensures { option_map (λ memory. memory.region) result ≡ region_in self.store }
+    {
+        match self.store {
+            Some(store) => Some(store.into_memory()),
+            None => None,
         }
     }
 
@@ -253,7 +275,7 @@ impl Session {
         ensures { IfOk result (λ text. Moves (Reads TellsNames path.now) self.now (string_bytes text) self.now) }
     {
         match self.mount() {
-            Some(mount) => list_text(alloc, mount, path),
+            Some(mount) => Ok(list_text(alloc, mount, path)?.text),
             None => refused_text(alloc, Refusal::NotMounted),
         }
     }
@@ -262,7 +284,7 @@ impl Session {
         ensures { IfOk result (λ text. Moves (Reads TellsStat path.now) self.now (string_bytes text) self.now) }
     {
         match self.mount() {
-            Some(mount) => stat_text(alloc, mount, path),
+            Some(mount) => Ok(stat_text(alloc, mount, path)?.text),
             None => refused_text(alloc, Refusal::NotMounted),
         }
     }

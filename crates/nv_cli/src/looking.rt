@@ -1,0 +1,237 @@
+//! Looking into a region that is given as bytes: it is recovered over them, as a check does it, and a call that reads is made.
+//!
+//! What is found wrong doesn't keep the calls from being made; the answer tells of it.
+
+ghost use Rattle.std.specs.Prelude.{◌≡◌, ◌∷◌, false, IfOk, IfErr, OnOk, OnErr, List, ℕ, None, string_bytes};
+ghost use Rattle.nv_region.specs.Region.{region_of};
+ghost use Rattle.nv_session.specs.nv_tree.Path.{Says};
+ghost use Rattle.nv_session.specs.nv_tree.Refusals.{Path, first_refusal, read_tests};
+ghost use Rattle.nv_session.specs.nv_calls.Seen.{tree_of};
+ghost use Rattle.nv_cli.specs.Looking.{IsOpened, IsLook, ListsNames, TellsNumbers, GivesBytes, WritesLook, FailsLook, FailsCat, LooksAt};
+
+use crate::checking::open_system;
+use nv_region::{ImageRegion, Pmem, RegionRefusal};
+use nv_report::{Answer, Last, recover_alone, refused_text};
+use nv_session::{CallRefusal, Fs, Told, list_text, refused_call_text, stat_text};
+use nv_stream::{ScriptError, write_text};
+use nv_super::SuperFault;
+use nv_text::Refusal;
+use std::alloc::{AllocError, Global};
+use std::io::Write;
+
+/// How many bytes of a file are read at a time.
+const PIECE: u64 = 1 << 20;
+
+/// What came of looking into a region: the exit status, which is 0, or 2 where the region or the call was refused, and how
+/// many faults the region has.
+#[derive(Clone, Copy, Debug, PartialEq, Eq)]
+pub struct Answered {
+    pub status: u8,
+    pub faults: usize,
+}
+
+// What is printed, and what came of it.
+#[derive(Drop)]
+struct Look {
+    text: String,
+    answered: Answered,
+}
+
+// A region over bytes, mounted with what was found in it, or why it isn't.
+#[derive(Drop)]
+enum Opened<'a> {
+    Mounted(Fs<ImageRegion<'a>>),
+    Refused(Refusal),
+}
+
+/// Writes the names of the directory in the region of these bytes that a path leads to, a line each as a script prints them,
+/// or `refused NAME`.
+///
+/// Errors: `Memory` where a growth was refused, and nothing was written then; `Write` where the writer failed, and a front
+/// of the text was written then.
+pub fn list_image<W: Write>(
+    alloc: Global,
+    bytes: &[u8],
+    path: &[u8],
+    writer: &mut W,
+) -> Result<Answered, ScriptError>
+    ensures ok { IfOk result (λ answered. WritesLook (ListsNames path.now) bytes.now (W.contents writer.old) (W.contents writer.new) answered) }
+    ensures err { IfErr result (λ e. FailsLook (ListsNames path.now) bytes.now e (W.contents writer.old) (W.contents writer.new)) }
+{
+    let look = look_at_names(alloc, bytes, path)?;
+    write_text(writer, look.text.as_bytes())?;
+    Ok(look.answered)
+}
+
+/// Writes the numbers of the inode in the region of these bytes that a path leads to, as a script prints them, or
+/// `refused NAME`. Errors as of `list_image`.
+pub fn stat_image<W: Write>(
+    alloc: Global,
+    bytes: &[u8],
+    path: &[u8],
+    writer: &mut W,
+) -> Result<Answered, ScriptError>
+    ensures ok { IfOk result (λ answered. WritesLook (TellsNumbers path.now) bytes.now (W.contents writer.old) (W.contents writer.new) answered) }
+    ensures err { IfErr result (λ e. FailsLook (TellsNumbers path.now) bytes.now e (W.contents writer.old) (W.contents writer.new)) }
+{
+    let look = look_at_numbers(alloc, bytes, path)?;
+    write_text(writer, look.text.as_bytes())?;
+    Ok(look.answered)
+}
+
+/// Writes the bytes of the file in the region of these bytes that a path leads to, from the first to the last, or
+/// `refused NAME`. Holes are zeros.
+///
+/// It holds a piece of the file at a time. Errors: `Memory` where a growth was refused, and `Write` where the writer failed;
+/// a front of the bytes was written then.
+pub fn cat_image<W: Write>(
+    alloc: Global,
+    bytes: &[u8],
+    path: &[u8],
+    writer: &mut W,
+) -> Result<Answered, ScriptError>
+    ensures ok { IfOk result (λ answered. WritesLook (GivesBytes path.now) bytes.now (W.contents writer.old) (W.contents writer.new) answered) }
+    ensures err { IfErr result (λ e. FailsCat (GivesBytes path.now) bytes.now e (W.contents writer.old) (W.contents writer.new)) }
+{
+    match open_image(alloc, bytes)? {
+        Opened::Mounted(mount) => {
+            let status = cat_file(alloc, &mount, path, writer)?;
+            Ok(Answered {
+                status,
+                faults: mount.faults().len(),
+            })
+        }
+        Opened::Refused(refusal) => {
+            let look = refused_look(alloc, refusal)?;
+            write_text(writer, look.text.as_bytes())?;
+            Ok(look.answered)
+        }
+    }
+}
+
+fn look_at_names(alloc: Global, bytes: &[u8], path: &[u8]) -> Result<Look, AllocError>
+    ensures { IfOk result (λ look. IsLook (ListsNames path.now) (region_of bytes.now) (string_bytes look.text) look.answered) }
+{
+    match open_image(alloc, bytes)? {
+        Opened::Mounted(mount) => {
+            let told = list_text(alloc, &mount, path)?;
+            Ok(told_look(told, mount.faults().len()))
+        }
+        Opened::Refused(refusal) => refused_look(alloc, refusal),
+    }
+}
+
+fn look_at_numbers(alloc: Global, bytes: &[u8], path: &[u8]) -> Result<Look, AllocError>
+    ensures { IfOk result (λ look. IsLook (TellsNumbers path.now) (region_of bytes.now) (string_bytes look.text) look.answered) }
+{
+    match open_image(alloc, bytes)? {
+        Opened::Mounted(mount) => {
+            let told = stat_text(alloc, &mount, path)?;
+            Ok(told_look(told, mount.faults().len()))
+        }
+        Opened::Refused(refusal) => refused_look(alloc, refusal),
+    }
+}
+
+// Recovers the region of these bytes on this thread, and mounts it.
+fn open_image(alloc: Global, bytes: &[u8]) -> Result<Opened<'_>, AllocError>
+    ensures { IfOk result (IsOpened (region_of bytes.now)) }
+{
+    match ImageRegion::from_bytes(alloc, bytes) {
+        Ok(mut image) => {
+            open_system(&mut image)?;
+            mount_image(alloc, image)
+        }
+        Err(RegionRefusal::Length) => { Ok(Opened::Refused(Refusal::Super(SuperFault::Length))) }
+        Err(RegionRefusal::Memory) => Err(AllocError),
+    }
+}
+
+fn mount_image(alloc: Global, mut image: ImageRegion<'_>) -> Result<Opened<'_>, AllocError> {
+    match recover_alone(alloc, &mut image)? {
+        Answer::Recovered(recovered) => Ok(Opened::Mounted(Fs::open(alloc, image, recovered))),
+        Answer::Refused(refusal) => Ok(Opened::Refused(refusal)),
+    }
+}
+
+fn refused_look(alloc: Global, refusal: Refusal) -> Result<Look, AllocError> {
+    Ok(Look {
+        text: refused_text(alloc, refusal)?,
+        answered: Answered {
+            status: Last::Refused.status(),
+            faults: 0,
+        },
+    })
+}
+
+fn told_look(told: Told, faults: usize) -> Look {
+    let status = status_of(told.is_refused);
+    Look {
+        text: told.text,
+        answered: Answered { status, faults },
+    }
+}
+
+// The exit status of a call that was refused or not.
+fn status_of(is_refused: bool) -> u8 {
+    if is_refused {
+        Last::Refused.status()
+    } else {
+        Last::Sound.status()
+    }
+}
+
+// Writes the bytes of a file, or why they aren't read. Answers the exit status.
+fn cat_file<P: Pmem + Drop, W: Write>(
+    alloc: Global,
+    mount: &Fs<P>,
+    path: &[u8],
+    writer: &mut W,
+) -> Result<u8, ScriptError> {
+    // No bytes: the same tests.
+    match mount.read(path, 0, 0) {
+        Ok(_) => {
+            write_file(mount, path, writer)?;
+            Ok(status_of(false))
+        }
+        Err(refusal) => {
+            let text = refused_call_text(alloc, refusal)?;
+            write_text(writer, text.as_bytes())?;
+            Ok(status_of(true))
+        }
+    }
+}
+
+// Writes the bytes of a file that can be read, a piece after another.
+fn write_file<P: Pmem + Drop, W: Write>(
+    mount: &Fs<P>,
+    path: &[u8],
+    writer: &mut W,
+) -> Result<(), ScriptError> {
+    let size = file_size(mount, path)?;
+    for number in 0..size.div_ceil(PIECE) {
+        let piece = file_piece(mount, path, number * PIECE)?;
+        write_text(writer, &piece)?;
+    }
+    Ok(())
+}
+
+// How many bytes the file has that a path leads to.
+fn file_size<P: Pmem + Drop>(mount: &Fs<P>, path: &[u8]) -> Result<u64, AllocError> {
+    match mount.stat(path) {
+        Ok(stat) => Ok(stat.size),
+        Err(_) => Err(AllocError),
+    }
+}
+
+// The bytes of a file that can be read, from an offset on, at most so many. Only want of memory prevents it.
+fn file_piece<P: Pmem + Drop>(
+    mount: &Fs<P>,
+    path: &[u8],
+    offset: u64,
+) -> Result<Vec<u8>, AllocError> {
+    match mount.read(path, offset, PIECE) {
+        Ok(bytes) => Ok(bytes),
+        Err(_) => Err(AllocError),
+    }
+}

@@ -1,0 +1,228 @@
+//! The line that sums a recovery up: how many inodes, names, blocks and faults there are.
+
+ghost use Rattle.std.specs.Prelude.{◌≡◌, ◌<◌, ◌-◌, ◌++◌, [], get_or, bytes_eq, count_by, map, IfOk, OnOk, string_bytes};
+ghost use Rattle.nv_super.specs.Layout.{HasAreas, system_blocks};
+ghost use Rattle.nv_recover.specs.nv_outcome.Answer.{outcome_of};
+ghost use Rattle.nv_report.specs.Summary.{classes, directories, files, names, class_of, class_sums, class_and_count, inodes_part, inodes_text, blocks_part, blocks_text, faults_part, count_text, sum_text, sums_text, more_text, summary_line};
+
+use nv_recover::{Recovered, Row};
+use nv_super::{Fault, Kind, Super};
+use std::alloc::{AllocError, Global};
+use std::fmt::Write;
+
+/// How many fault classes there are.
+const CLASSES: usize = 19;
+
+// How many directories and files are in use, and how many names they have.
+#[derive(Clone, Copy)]
+struct Counts {
+    directories: usize,
+    files: usize,
+    names: u128,
+}
+
+// How many faults there are of a class.
+#[derive(Clone, Copy)]
+struct ClassSum {
+    class: &'static str,
+    count: usize,
+}
+
+/// `inodes I, directories D, files F, names N, blocks in use U, free B, faults K`, as a line. Behind faults it says how
+/// many there are of each class, as in `faults 3 (C1 2, B1 1)`.
+pub fn summary_text(alloc: Global, recovered: &Recovered) -> Result<String, AllocError>
+    requires { HasAreas recovered.now.sup }
+    ensures { IfOk result (λ text. string_bytes text ≡ summary_line (outcome_of recovered.now)) }
+{
+    let mut text = String::new(alloc);
+    push_inodes(&mut text, &recovered.rows)?;
+    push_blocks(&mut text, recovered)?;
+    push_faults(alloc, &mut text, &recovered.faults)?;
+    text.push_str("\n")?;
+    Ok(text)
+}
+
+fn push_inodes(out: &mut String, rows: &[Row]) -> Result<(), AllocError>
+    ensures { OnOk result (string_bytes out.new ≡ string_bytes out.old ++ inodes_part rows.now) }
+{
+    let inodes = rows.len();
+    let counts = counts_of(rows);
+    push_inode_counts(out, inodes, counts)
+}
+
+fn push_inode_counts(out: &mut String, inodes: usize, counts: Counts) -> Result<(), AllocError>
+    ensures { OnOk result (string_bytes out.new ≡ string_bytes out.old ++ inodes_text inodes counts.directories counts.files counts.names) }
+{
+    write!(
+        out,
+        "inodes {inodes}, directories {}, files {}, names {}",
+        counts.directories, counts.files, counts.names
+    )
+}
+
+fn push_blocks(out: &mut String, recovered: &Recovered) -> Result<(), AllocError>
+    requires { HasAreas recovered.now.sup }
+    ensures { OnOk result (string_bytes out.new ≡ string_bytes out.old ++ blocks_part (outcome_of recovered.now)) }
+{
+    let free = recovered.free.free_blocks();
+    let used = used_blocks(&recovered.sup, free);
+    push_block_counts(out, used, free)
+}
+
+fn push_block_counts(out: &mut String, used: u64, free: u64) -> Result<(), AllocError>
+    ensures { OnOk result (string_bytes out.new ≡ string_bytes out.old ++ blocks_text used free) }
+{
+    write!(out, ", blocks in use {used}")?;
+    write!(out, ", free {free}")
+}
+
+// How many data blocks there are beside so many.
+fn used_blocks(sup: &Super, free: u64) -> u64
+    requires { HasAreas sup.now }
+    ensures { result ≡ sup.now.blocks - system_blocks sup.now - free }
+{
+    (sup.blocks - sup.system_blocks()).saturating_sub(free)
+}
+
+fn push_faults(alloc: Global, out: &mut String, faults: &[Fault]) -> Result<(), AllocError>
+    ensures { OnOk result (string_bytes out.new ≡ string_bytes out.old ++ faults_part faults.now) }
+{
+    push_fault_count(out, faults.len())?;
+    let sums = class_sums(alloc, faults)?;
+    push_sums(out, &sums)
+}
+
+fn push_fault_count(out: &mut String, count: usize) -> Result<(), AllocError>
+    ensures { OnOk result (string_bytes out.new ≡ string_bytes out.old ++ count_text count) }
+{
+    write!(out, ", faults {count}")
+}
+
+fn counts_of(rows: &[Row]) -> Counts
+    ensures directories { result.directories ≡ directories rows.now }
+    ensures files { result.files ≡ files rows.now }
+    ensures names { result.names ≡ names rows.now }
+{
+    let mut counts = Counts {
+        directories: 0,
+        files: 0,
+        names: 0,
+    };
+    for row in rows {
+        match row.kind {
+            Kind::Directory => counts.directories += 1,
+            Kind::File => counts.files += 1,
+        }
+        counts.names += row.names.len() as u128;
+    }
+    counts
+}
+
+// How many faults there are of each class of which there are some, in the order of the classes.
+fn class_sums(alloc: Global, faults: &[Fault]) -> Result<Vec<ClassSum>, AllocError>
+    ensures { IfOk result (λ sums. map class_and_count sums.items ≡ class_sums faults.now) }
+{
+    let mut sums = Vec::new(alloc);
+    for number in 0..CLASSES {
+        let class = class_name(number);
+        let count = count_class(faults, class);
+        if count > 0 {
+            sums.push(ClassSum { class, count })?;
+        }
+    }
+    Ok(sums)
+}
+
+fn count_class(faults: &[Fault], class: &str) -> usize
+    ensures { result ≡ count_by (λ fault. bytes_eq (class_of fault) class.now) faults.now }
+{
+    let mut count = 0;
+    for fault in faults {
+        if class_of(fault) == class {
+            count += 1;
+        }
+    }
+    count
+}
+
+fn push_sums(out: &mut String, sums: &[ClassSum]) -> Result<(), AllocError>
+    ensures { OnOk result (string_bytes out.new ≡ string_bytes out.old ++ sums_text (map class_and_count sums.now)) }
+{
+    let Some((first, others)) = sums.split_first() else {
+        return Ok(());
+    };
+    out.push_str(" (")?;
+    push_sum(out, first)?;
+    push_more(out, others)?;
+    out.push_str(")")
+}
+
+fn push_more(out: &mut String, sums: &[ClassSum]) -> Result<(), AllocError>
+    ensures { OnOk result (string_bytes out.new ≡ string_bytes out.old ++ more_text (map class_and_count sums.now)) }
+{
+    for sum in sums {
+        out.push_str(", ")?;
+        push_sum(out, sum)?;
+    }
+    Ok(())
+}
+
+fn push_sum(out: &mut String, sum: &ClassSum) -> Result<(), AllocError>
+    ensures { OnOk result (string_bytes out.new ≡ string_bytes out.old ++ sum_text (class_and_count sum.now)) }
+{
+    write!(out, "{} {}", sum.class, sum.count)
+}
+
+// The classes in their order.
+fn class_name(number: usize) -> &'static str
+    requires { number < 19 }
+    ensures { result.now ≡ get_or classes number [] }
+{
+    match number {
+        0 => "J1",
+        1 => "J2",
+        2 => "I1",
+        3 => "I2",
+        4 => "I3",
+        5 => "L1",
+        6 => "L2",
+        7 => "L3",
+        8 => "L4",
+        9 => "E1",
+        10 => "E2",
+        11 => "E3",
+        12 => "E4",
+        13 => "C1",
+        14 => "C2",
+        15 => "C3",
+        16 => "C4",
+        17 => "C5",
+        _ => "B1",
+    }
+}
+
+fn class_of(fault: &Fault) -> &'static str
+    ensures { result.now ≡ class_of fault.now }
+{
+    match fault {
+        Fault::J1 { .. } => "J1",
+        Fault::J2 { .. } => "J2",
+        Fault::I1 { .. } => "I1",
+        Fault::I2 { .. } => "I2",
+        Fault::I3 { .. } => "I3",
+        Fault::L1 { .. } => "L1",
+        Fault::L2 { .. } => "L2",
+        Fault::L3 { .. } => "L3",
+        Fault::L4 { .. } => "L4",
+        Fault::E1 { .. } => "E1",
+        Fault::E2 { .. } => "E2",
+        Fault::E3 { .. } => "E3",
+        Fault::E4 { .. } => "E4",
+        Fault::C1 { .. } => "C1",
+        Fault::C2 { .. } => "C2",
+        Fault::C3 { .. } => "C3",
+        Fault::C4 { .. } => "C4",
+        Fault::C5 => "C5",
+        Fault::B1 { .. } => "B1",
+    }
+}
