@@ -1,8 +1,8 @@
 //! What ends a command before its answer, and what the user is told of it.
 
+use crate::reason::{Reason, WriteReason};
 use nv_cli::ScriptError;
 use nv_stream::{Unread, Unsaved};
-use crate::reason::Reason;
 use std::alloc::AllocError;
 use std::fmt;
 
@@ -37,14 +37,6 @@ impl<'a> Failure<'a> {
         match unsaved {
             Unsaved::Memory => Failure::Answer(ScriptError::Memory),
             _ => Failure::CannotWrite(path, unsaved),
-        }
-    }
-
-    /// Why the file can't be read, which stands on a line of its own.
-    pub fn reason(&self) -> Option<Reason> {
-        match self {
-            Failure::CannotRead(_, reason) => Some(*reason),
-            _ => None,
         }
     }
 }

@@ -2,69 +2,69 @@
 
 use crate::failure::Failure;
 use crate::hints::ErrorOutput;
+use crate::image::{Image, image_at};
 use crate::reason::Reason;
-use crate::saving::save_region;
+use crate::saving::{Target, save_region};
 use nv_cli::{
-    BadLength, Ended, LONGEST_REGION, MemRegion, RegionRefusal, ScriptError, region_of_file,
-    run_script_on,
+    Ended, MemRegion, RegionRefusal, ScriptError, region_of_file, run_script_on, run_script_to_end,
 };
-use nv_stream::{Contents, contents_at};
-use std::fs;
+use std::io::Read;
+use std::rt::Files;
+use std::thread::Threads;
+use std::{fs, io};
 
-/// Runs the script in a file, or the one on standard input, prints what its commands answer on standard output, and answers
-/// its exit status. It begins with the region of the image, where there is one. The region that is there at its end is
-/// written to the file `save`; without that no file is written.
-pub(crate) fn run<'a>(
-    rt: &HostRuntime,
-    script: Option<&'a str>,
+/// Runs a script, prints what its commands answer on standard output, and answers its exit status. It begins with the region of
+/// the image in a file, or with none. The region that is there at its end is written to the file `save`; without that no file
+/// is written.
+pub(crate) fn run<'a, H: Files + AllocGlobal + Print + Eprint + Threads + Sync, R: Read + Drop>(
+    rt: &H,
+    script: R,
     image: Option<&'a str>,
-    save: Option<&'a str>,
+    save: Option<Target<'a>>,
 ) -> Result<u8, Failure<'a>> {
     let region = match image {
         Some(path) => Some(region_at(rt, path)?),
         None => None,
     };
-    let ended = run_on(rt, script, region)?;
-    if let Some(path) = save {
+    let ended = run_from(rt, script, region)?;
+    if let Some(target) = save {
         let Some(region) = ended.region else {
-            return Err(Failure::NothingToWrite(path));
+            return Err(Failure::NothingToWrite(target.path));
         };
-        save_region(rt, path, &region, true)?;
+        save_region(rt, target, &region)?;
     }
     Ok(ended.status)
 }
 
-fn run_on<'a>(
-    rt: &HostRuntime,
-    script: Option<&'a str>,
+fn run_from<H: AllocGlobal + Print + Eprint + Threads + Sync, R: Read + Drop>(
+    rt: &H,
+    script: R,
     region: Option<MemRegion>,
-) -> Result<Ended, Failure<'a>> {
+) -> Result<Ended, ScriptError> {
     let alloc = rt.alloc();
+    let mut output = io::writer(rt);
     let mut hints = ErrorOutput { rt };
-    let mut output = rt.stdout();
-    let ended = match script {
-        Some(path) => match fs::open(rt, path) {
-            Ok(file) => run_script_on(rt, alloc, region, file, &mut output, &mut hints)?,
-            Err(error) => return Err(Failure::CannotRead(path, Reason::System(error))),
-        },
-        None => run_script_on(rt, alloc, region, rt.stdin(), &mut output, &mut hints)?,
-    };
-    Ok(ended)
-}
-
-// The region of the image in a file, which is read once.
-fn region_at<'a>(rt: &HostRuntime, path: &'a str) -> Result<MemRegion, Failure<'a>> {
-    match contents_at(rt, path, LONGEST_REGION) {
-        Ok(Contents::Whole(bytes)) => match region_of_file(rt.alloc(), bytes) {
-            Ok(region) => Ok(region),
-            Err(RegionRefusal::Length) => Err(too_long(path, None)),
-            Err(RegionRefusal::Memory) => Err(Failure::Answer(ScriptError::Memory)),
-        },
-        Ok(Contents::Longer(told)) => Err(too_long(path, told)),
-        Err(unread) => Err(Failure::unread(path, unread)),
+    match region {
+        Some(region) => run_script_on(rt, alloc, region, script, &mut output, &mut hints),
+        None => run_script_to_end(rt, alloc, script, &mut output, &mut hints),
     }
 }
 
-fn too_long(path: &str, told: Option<u64>) -> Failure<'_> {
-    Failure::CannotRead(path, Reason::Length(length_of(told)))
+/// The script in a file.
+pub(crate) fn script_at<'a, H: Files>(rt: &H, path: &'a str) -> Result<H::File, Failure<'a>> {
+    fs::open(rt, path).map_err(|error| Failure::CannotRead(path, Reason::System(error)))
+}
+
+// The region of the image in a file.
+fn region_at<'a, H: Files + AllocGlobal>(rt: &H, path: &'a str) -> Result<MemRegion, Failure<'a>> {
+    match image_at(rt, path)? {
+        Image::Bytes(bytes) => match region_of_file(rt.alloc(), bytes) {
+            Ok(region) => Ok(region),
+            // No image that was read is as long as that.
+            Err(RegionRefusal::Length) | Err(RegionRefusal::Memory) => {
+                Err(Failure::Answer(ScriptError::Memory))
+            }
+        },
+        Image::TooLong(length) => Err(Failure::CannotRead(path, Reason::Length(length))),
+    }
 }

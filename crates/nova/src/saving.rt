@@ -1,49 +1,69 @@
-//! Writing images.
+//! Writing files: images, and what is drawn of them.
 
 use crate::failure::Failure;
-use nv_cli::{MemRegion, ScriptError, Formatted, format_image};
+use nv_cli::{Formatted, MemRegion, format_image};
 use nv_stream::{save_new, save_over, write_text};
 use std::io;
-use std::process;
+use std::rt::Files;
 
-/// What `mkfs` is told of the image to write.
+/// The numbers of an image that is to be made.
 #[derive(Clone, Copy, Debug)]
-pub(crate) struct NewImage {
+pub(crate) struct Numbers {
     pub blocks: u64,
     pub cpus: u64,
     pub tables: u64,
-    /// Whether it takes the place of a file that is there.
-    pub force: bool,
 }
 
-/// Writes the image of a formatted region to a file, or prints `refused NAME`. Answers the exit status.
-pub(crate) fn mkfs<'a>(rt: &HostRuntime, path: &'a str, new: NewImage) -> Result<u8, Failure<'a>> {
-    match format_image(rt.alloc(), new.cpus, new.blocks, new.tables)? {
+/// A file that is to be written.
+#[derive(Clone, Copy, Debug)]
+pub(crate) struct Target<'a> {
+    pub path: &'a str,
+    /// Whether it may take the place of a file that is there.
+    pub force: bool,
+    /// This process's number, which tells its new files from those of others.
+    pub process: u32,
+}
+
+/// Writes the image of a formatted region to a file, or prints `refused NAME`. Answers the exit status, 0 or 2.
+pub(crate) fn mkfs<'a, H: Files + AllocGlobal + Print>(
+    rt: &H,
+    target: Target<'a>,
+    numbers: Numbers,
+) -> Result<u8, Failure<'a>> {
+    let alloc = rt.alloc();
+    match format_image(alloc, numbers.cpus, numbers.blocks, numbers.tables)? {
         Formatted::Region(region) => {
-            save_region(rt, path, &region, new.force)?;
+            save_region(rt, target, &region)?;
             Ok(0)
         }
         Formatted::Refused(refusal) => {
-            let text = format!(in rt.alloc(); "refused {refusal}\n")?;
+            let text = format!(in alloc; "refused {refusal}\n")?;
             write_text(&mut io::writer(rt), text.as_bytes())?;
             Ok(2)
         }
     }
 }
 
-/// Writes the bytes of a region to a file, by force in the place of one that is there.
-pub(crate) fn save_region<'a>(
-    rt: &HostRuntime,
-    path: &'a str,
+/// Writes the bytes of a region to a file.
+pub(crate) fn save_region<'a, H: Files + AllocGlobal>(
+    rt: &H,
+    target: Target<'a>,
     region: &MemRegion,
-    force: bool,
 ) -> Result<(), Failure<'a>> {
     let bytes = region.to_bytes()?;
-    let tag = process::id(rt.process());
-    let saved = if force {
-        save_over(rt, path, &bytes, tag)
+    save_file(rt, target, &bytes)
+}
+
+/// Writes a file of these bytes.
+pub(crate) fn save_file<'a, H: Files + AllocGlobal>(
+    rt: &H,
+    target: Target<'a>,
+    bytes: &[u8],
+) -> Result<(), Failure<'a>> {
+    let saved = if target.force {
+        save_over(rt, target.path, bytes, target.process)
     } else {
-        save_new(rt, path, &bytes, tag)
+        save_new(rt, target.path, bytes, target.process)
     };
-    saved.map_err(|unsaved| Failure::unsaved(path, unsaved))
+    saved.map_err(|unsaved| Failure::unsaved(target.path, unsaved))
 }

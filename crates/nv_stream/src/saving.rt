@@ -22,6 +22,8 @@ pub enum Unsaved {
     Exists,
     /// What is at the path is no file.
     NotFile,
+    /// All names for a new file beside it are taken.
+    NoName,
     /// The system's error.
     Unwritable(Error),
     /// Memory was refused.
@@ -136,7 +138,7 @@ fn open_beside<H: Files + AllocGlobal>(
             Err(error) => return Err(Unsaved::Unwritable(error)),
         }
     }
-    Err(Unsaved::Exists)
+    Err(Unsaved::NoName)
 }
 
 // Writes all bytes into a file, and waits until they are kept.
