@@ -12,7 +12,7 @@ ghost use Rattle.nv_cli.specs.Looking.{IsOpened, IsLook, ListsNames, TellsNumber
 use crate::checking::open_system;
 use nv_region::{ImageRegion, Pmem, RegionRefusal};
 use nv_report::{Answer, Last, recover_alone, refused_text};
-use nv_session::{CallRefusal, Fs, Told, list_text, refused_call_text, stat_text};
+use nv_session::{CallRefusal, CallText, Fs, list_text, refused_call_text, stat_text};
 use nv_stream::{ScriptError, write_text};
 use nv_super::SuperFault;
 use nv_text::Refusal;
@@ -164,7 +164,7 @@ fn refused_look(alloc: Global, refusal: Refusal) -> Result<Look, AllocError> {
     })
 }
 
-fn told_look(told: Told, faults: usize) -> Look {
+fn told_look(told: CallText, faults: usize) -> Look {
     let status = status_of(told.is_refused);
     Look {
         text: told.text,

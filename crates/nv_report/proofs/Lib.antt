@@ -1,4 +1,5 @@
 pub mod TextLemmas
+pub mod ClassSums
 pub mod OneText
 pub mod Answered
 pub mod Unstopped

@@ -78,8 +78,11 @@ abbrev pub inodes_text : ℕ → ℕ → ℕ → ℕ → List ℕ
 inodes_text inodes directories files names = codes "inodes " ++ decimal inodes ++ codes ", directories " ++ decimal directories
     ++ codes ", files " ++ decimal files ++ codes ", names " ++ decimal names
 
-abbrev pub blocks_text : ℕ → ℕ → List ℕ
-blocks_text used free = codes ", blocks in use " ++ decimal used ++ codes ", free " ++ decimal free
+abbrev pub used_text : ℕ → List ℕ
+used_text used = codes ", blocks in use " ++ decimal used
+
+abbrev pub free_text : ℕ → List ℕ
+free_text free = codes ", free " ++ decimal free
 
 abbrev pub count_text : ℕ → List ℕ
 count_text faults = codes ", faults " ++ decimal faults
@@ -88,7 +91,7 @@ abbrev pub inodes_part : List Row → List ℕ
 inodes_part rows = inodes_text (length rows) (directories rows) (files rows) (names rows)
 
 abbrev pub blocks_part : Outcome → List ℕ
-blocks_part o = blocks_text (used_blocks o) (all_blocks o.free)
+blocks_part o = used_text (used_blocks o) ++ free_text (all_blocks o.free)
 
 abbrev pub faults_part : List Fault → List ℕ
 faults_part faults = count_text (length faults) ++ sums_text (class_sums faults)

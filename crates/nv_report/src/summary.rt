@@ -3,7 +3,7 @@
 ghost use Rattle.std.specs.Prelude.{◌≡◌, ◌<◌, ◌-◌, ◌++◌, [], get_or, bytes_eq, count_by, map, IfOk, OnOk, string_bytes};
 ghost use Rattle.nv_super.specs.Layout.{HasAreas, system_blocks};
 ghost use Rattle.nv_recover.specs.nv_outcome.Answer.{outcome_of};
-ghost use Rattle.nv_report.specs.Summary.{classes, directories, files, names, class_of, class_sums, class_and_count, inodes_part, inodes_text, blocks_part, blocks_text, faults_part, count_text, sum_text, sums_text, more_text, summary_line};
+ghost use Rattle.nv_report.specs.Summary.{classes, directories, files, names, class_of, class_sums, class_and_count, inodes_part, inodes_text, blocks_part, used_text, free_text, faults_part, count_text, sum_text, sums_text, more_text, summary_line};
 
 use nv_recover::{Recovered, Row};
 use nv_super::{Fault, Kind, Super};
@@ -65,14 +65,19 @@ fn push_blocks(out: &mut String, recovered: &Recovered) -> Result<(), AllocError
     ensures { OnOk result (string_bytes out.new ≡ string_bytes out.old ++ blocks_part (outcome_of recovered.now)) }
 {
     let free = recovered.free.free_blocks();
-    let used = used_blocks(&recovered.sup, free);
-    push_block_counts(out, used, free)
+    push_used(out, used_blocks(&recovered.sup, free))?;
+    push_free(out, free)
 }
 
-fn push_block_counts(out: &mut String, used: u64, free: u64) -> Result<(), AllocError>
-    ensures { OnOk result (string_bytes out.new ≡ string_bytes out.old ++ blocks_text used free) }
+fn push_used(out: &mut String, used: u64) -> Result<(), AllocError>
+    ensures { OnOk result (string_bytes out.new ≡ string_bytes out.old ++ used_text used) }
 {
-    write!(out, ", blocks in use {used}")?;
+    write!(out, ", blocks in use {used}")
+}
+
+fn push_free(out: &mut String, free: u64) -> Result<(), AllocError>
+    ensures { OnOk result (string_bytes out.new ≡ string_bytes out.old ++ free_text free) }
+{
     write!(out, ", free {free}")
 }
 

@@ -1,5 +1,5 @@
 -- What a file call that reads answers, as its text.
-use Rattle.std.proofs.Common.{◌≡◌, ◌≢◌, ◌⊎◌, inl, inr, ℕ, List, Some, None, refl}
+use Rattle.std.proofs.Common.{◌≡◌, ◌≢◌, ◌⊎◌, inl, inr, ℕ, List, Some, None, Bool, true, is_some, refl}
 use Rattle.nv_tree.specs.Path.{IsPath, Says}
 use Rattle.nv_tree.specs.Tree.{Tree}
 use Rattle.nv_tree.specs.Refusals.{Path, Tests, first_refusal, refusal_word, list_tests, stat_tests, read_tests}
@@ -18,6 +18,11 @@ use Rattle.nv_session.specs.Machine.{attributes_of, list_lines, TellsRefusal, Te
 pub refusal_told : (tests : Tests) (e : Refusal) (text : List ℕ) → e ≢ Memory → (e ≡ Memory) ⊎ (first_refusal tests ≡ Some e) → text ≡ refused_line (refusal_word e) → TellsRefusal tests text
 refusal_told tests e text other (inl want) said = absurd (other want)
 refusal_told tests e text other (inr first) said = (e, first, said)
+
+-- and says that it is one
+pub refusal_is_some : (tests : Tests) (e : Refusal) (is_refused : Bool) → e ≢ Memory → (e ≡ Memory) ⊎ (first_refusal tests ≡ Some e) → is_refused ≡ true → is_refused ≡ is_some (first_refusal tests)
+refusal_is_some tests e is_refused other (inl want) told = absurd (other want)
+refusal_is_some tests e is_refused other (inr first) told = rw (told, first) refl
 
 module _ (t : Tree) (path : List ℕ) (text : List ℕ) where
   pub names_told : (lines : List (List ℕ × ℕ)) → ((names : List (List ℕ)) → IsPath path names → ListsNamesIn t names lines) → ((p : Path) → Says path p → first_refusal (list_tests t p) ≡ None)

@@ -1,6 +1,6 @@
 //! What the file calls that read a mounted region print.
 
-ghost use Rattle.std.specs.Prelude.{◌≡◌, ◌≢◌, ◌++◌, false, is_some, IsTrue, IfOk, OnOk, string_bytes, map};
+ghost use Rattle.std.specs.Prelude.{◌≡◌, ◌≢◌, ◌++◌, false, true, is_some, IfOk, OnOk, string_bytes, map};
 ghost use Rattle.nv_text.specs.Answers.{refused_line};
 ghost use Rattle.nv_text.specs.Names.{data_line};
 ghost use Rattle.nv_text.specs.Report.{stat_line};
@@ -21,7 +21,7 @@ use std::fmt::Write;
 
 /// What a call prints, and whether that is its refusal.
 #[derive(Drop)]
-pub struct Told {
+pub struct CallText {
     pub text: String,
     pub is_refused: bool,
 }
@@ -31,7 +31,7 @@ pub fn list_text<P: Pmem + Drop>(
     alloc: Global,
     mount: &Fs<P>,
     path: &[u8],
-) -> Result<Told, AllocError>
+) -> Result<CallText, AllocError>
     ensures text { IfOk result (λ told. mount.now.stopped ≡ false → (p : Path) → Says path.now p → TellsNames (tree_of (P.region mount.now.memory) mount.now.rows) p (string_bytes told.text)) }
     ensures refused { IfOk result (λ told. mount.now.stopped ≡ false → (p : Path) → Says path.now p → told.is_refused ≡ is_some (first_refusal (list_tests (tree_of (P.region mount.now.memory) mount.now.rows) p))) }
 {
@@ -46,7 +46,7 @@ pub fn stat_text<P: Pmem + Drop>(
     alloc: Global,
     mount: &Fs<P>,
     path: &[u8],
-) -> Result<Told, AllocError>
+) -> Result<CallText, AllocError>
     ensures text { IfOk result (λ told. mount.now.stopped ≡ false → (p : Path) → Says path.now p → TellsStat (tree_of (P.region mount.now.memory) mount.now.rows) p (string_bytes told.text)) }
     ensures refused { IfOk result (λ told. mount.now.stopped ≡ false → (p : Path) → Says path.now p → told.is_refused ≡ is_some (first_refusal (stat_tests (tree_of (P.region mount.now.memory) mount.now.rows) p))) }
 {
@@ -72,19 +72,19 @@ pub fn read_text(
     }
 }
 
-fn answered(text: String) -> Told
+fn answered(text: String) -> CallText
     ensures { result ≡ record { text = text; is_refused = false } }
 {
-    Told {
+    CallText {
         text,
         is_refused: false,
     }
 }
 
-fn refused(alloc: Global, refusal: Refusal) -> Result<Told, AllocError>
-    ensures { IfOk result (λ told. (refusal ≢ refusals.Memory) × (string_bytes told.text ≡ refused_line (refusal_word refusal)) × IsTrue told.is_refused) }
+fn refused(alloc: Global, refusal: Refusal) -> Result<CallText, AllocError>
+    ensures { IfOk result (λ told. (refusal ≢ refusals.Memory) × (string_bytes told.text ≡ refused_line (refusal_word refusal)) × (told.is_refused ≡ true)) }
 {
-    Ok(Told {
+    Ok(CallText {
         text: refused_call_text(alloc, refusal)?,
         is_refused: true,
     })

@@ -14,7 +14,7 @@ mod stop;
 mod store;
 mod texts;
 
-pub use files::{Told, list_text, refused_call_text, stat_text};
+pub use files::{CallText, list_text, refused_call_text, stat_text};
 pub use laws::one_step;
 pub use making::{Made, new_region};
 pub use nv_calls::{FormatRefusal, Fs};

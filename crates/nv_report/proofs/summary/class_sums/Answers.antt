@@ -1,15 +1,16 @@
-use Rattle.std.proofs.Common.{◌≡◌, ◌<◌, ◌≤◌, ◌+◌, ℕ, true, false, List, [], ◌∷◌, ◌++◌, ◌∙◌, map, take, length, get_or, sym, ap, subst, arith}
-use Rattle.std.specs.List.{filter}
-use Rattle.std.specs.Prelude.{nat_lt, count_by, bytes_eq}
-use Rattle.std.proofs.lemmas.List.Elements.{filter_more}
-use Rattle.nv_super.specs.declared.faults.Fault.{Fault}
-use Rattle.nv_report.specs.declared.summary.ClassSum.{ClassSum}
-use Rattle.nv_report.specs.Summary.{class_and_count, class_of, class_sum, is_some_sum, classes}
+use Rattle.std.proofs.Common.{◌∙◌, refl, ap, arith}
+use Rattle.nv_report.specs.Summary.{classes}
+use Rattle.nv_report.proofs.ClassSums.{one_more, none_more, all_summed}
 use Rattle.nv_report.proofs.summary.class_sums.Goals as goal
 use Rattle.nv_report.proofs.summary.class_sums.Goals.{then-count-gt0+in_ok-push, else-count-gt0}
 
 pub loop-number-preserved : goal.loop-number-preserved
-loop-number-preserved c = elim c.if-count-gt0.branch [ then-count-gt0+in_ok-push w ↦ (let a = w.push.ensures in let b = w.if-count-gt0 in let d = w.sums-is in ?) | else-count-gt0 w ↦ ? ]
+loop-number-preserved c = elim c.if-count-gt0.branch [
+  | then-count-gt0+in_ok-push w ↦ one_more c.args.faults.now classes c.loop-number.number (omega arith) c.class_name-class.result.now c.count_class-count.result c.class_name-class.ensures c.count_class-count.ensures
+      c.loop-number.sums.items c.if-count-gt0.sums.items c.loop-number.invariant (record { class = c.class_name-class.result; count = c.count_class-count.result }) (ap (λ v. v.items) w.sums-is ∙ w.in_ok-push.ensures.items) refl w.if-count-gt0.true
+  | else-count-gt0 w ↦ rw w.sums-is (none_more c.args.faults.now classes c.loop-number.number (omega arith) c.class_name-class.result.now c.count_class-count.result c.class_name-class.ensures c.count_class-count.ensures
+      c.loop-number.sums.items c.loop-number.invariant w.if-count-gt0.false)
+]
 
 pub returns : goal.returns
-returns c = ?
+returns c = c.loop-number.invariant ∙ all_summed c.args.faults.now classes c.loop-number.number (omega arith)

@@ -1,12 +1,20 @@
-use Rattle.std.proofs.Common.{inl, inr, string_bytes}
+use Rattle.std.proofs.Common.{◌∙◌, inl, inr, ap, map, sym, is_some, List, string_bytes}
 use Rattle.std.proofs.lemmas.Result.{IfOk-weaker}
 use Rattle.nv_calls.specs.Seen.{tree_of}
 use Rattle.nv_tree.specs.Refusals.{stat_tests}
-use Rattle.nv_session.proofs.Told.{refusal_told, stat_told}
+use Rattle.nv_session.specs.declared.files.CallText.{CallText}
+use Rattle.nv_session.proofs.Told.{refusal_told, refusal_is_some, stat_told}
 use Rattle.nv_session.proofs.files.stat_text.Goals as goal
 
-pub returns-in-Ok : goal.returns-in-Ok
-returns-in-Ok c = IfOk-weaker c.numbers_text.result _ _ (λ text said runs. stat_told (tree_of c.args.mount.now.memory.region c.args.mount.now.rows) c.args.path.now (string_bytes text) c.in-Ok.stat c.in-Ok.ensures.ok c.in-Ok.ensures.allowed said) c.numbers_text.ensures
+pub returns-in_ok-numbers_text-in-Ok-clause-text : goal.returns-in_ok-numbers_text-in-Ok-clause-text
+returns-in_ok-numbers_text-in-Ok-clause-text g c = λ runs. stat_told (tree_of (g.P.Pmem.region c.args.mount.now.memory) c.args.mount.now.rows) c.args.path.now (string_bytes c.answered.result.text) c.in-Ok.stat c.in-Ok.ensures.ok c.in-Ok.ensures.allowed
+    (ap (λ (told : CallText). string_bytes told.text) c.answered.ensures ∙ c.in_ok-numbers_text-in-Ok.ensures)
 
-pub returns-in-Err : goal.returns-in-Err
-returns-in-Err c = IfOk-weaker c.refused_call_text.result _ _ (λ text h runs p says. inl (refusal_told (stat_tests (tree_of c.args.mount.now.memory.region c.args.mount.now.rows) p) c.in-Err.refusal (string_bytes text) h.0 (inr (c.in-Err.ensures.refused runs p says)) h.1)) c.refused_call_text.ensures
+pub returns-in_ok-numbers_text-in-Ok-clause-refused : goal.returns-in_ok-numbers_text-in-Ok-clause-refused
+returns-in_ok-numbers_text-in-Ok-clause-refused g c = λ runs p says. ap (λ (told : CallText). told.is_refused) c.answered.ensures ∙ sym (ap is_some (c.in-Ok.ensures.allowed p says))
+
+pub returns-in-Err-clause-text : goal.returns-in-Err-clause-text
+returns-in-Err-clause-text g c = IfOk-weaker c.refused.result _ _ (λ told h runs p says. inl (refusal_told (stat_tests (tree_of (g.P.Pmem.region c.args.mount.now.memory) c.args.mount.now.rows) p) c.in-Err.refusal (string_bytes told.text) h.0 (inr (c.in-Err.ensures.refused runs p says)) h.1)) c.refused.ensures
+
+pub returns-in-Err-clause-refused : goal.returns-in-Err-clause-refused
+returns-in-Err-clause-refused g c = IfOk-weaker c.refused.result _ _ (λ told h runs p says. refusal_is_some (stat_tests (tree_of (g.P.Pmem.region c.args.mount.now.memory) c.args.mount.now.rows) p) c.in-Err.refusal told.is_refused h.0 (inr (c.in-Err.ensures.refused runs p says)) h.2) c.refused.ensures

@@ -1,12 +1,12 @@
-use Rattle.std.proofs.Common.{◌∙◌, sym, ap}
+use Rattle.std.proofs.Common.{◌∙◌, sym, ap, string_bytes}
 use Rattle.std.specs.Option.{option_map}
 use Rattle.std.proofs.lemmas.Result.{IfOk-weaker}
 use Rattle.nv_session.specs.Machine.{TellsStat}
 use Rattle.nv_session.proofs.Moved.{read_moves, unread_moves}
 use Rattle.nv_session.proofs.session.Session.stat.Goals as goal
 
-pub returns-in-Some : goal.returns-in-Some
-returns-in-Some c = IfOk-weaker c.stat_text.result _ _ (λ text told. read_moves TellsStat c.args.path.now c.args.self.now c.in-Some.mount.now _ (sym c.mount.ensures ∙ ap (option_map (λ mount. mount.now)) c.in-Some.is) told) c.stat_text.ensures
+pub returns-in_ok-stat_text-in-Some : goal.returns-in_ok-stat_text-in-Some
+returns-in_ok-stat_text-in-Some c = read_moves TellsStat c.args.path.now c.args.self.now c.in-Some.mount.now _ (sym c.mount.ensures ∙ ap (option_map (λ mount. mount.now)) c.in-Some.is) c.in_ok-stat_text-in-Some.ensures.text
 
 pub returns-in-None : goal.returns-in-None
 returns-in-None c = IfOk-weaker c.refused_text.result _ _ (λ text said. unread_moves TellsStat c.args.path.now c.args.self.now _ (sym c.mount.ensures ∙ ap (option_map (λ mount. mount.now)) c.in-None.is) said) c.refused_text.ensures
