@@ -182,7 +182,6 @@ new=$(sum "$folder/new")
 if strace -o /dev/null true 2>/dev/null; then
     for call in openat write fsync fchmod rename; do
         begin
-        strace -qq -o /dev/null -P "$room/image" -P "$room" -e trace="$call" -e inject="$call:error=EIO" true 2>/dev/null
         # Of `write` and `openat` those on the new file: the second `write`, since the script's answer is the first.
         when=1
         [ "$call" != write ] || when=2
