@@ -19,7 +19,7 @@ none_before Tables below = omega arith
 none_before State below = omega arith
 
 -- no region has so many bytes
-too_long : (bytes : List ℕ) → 2 ^ 30 < length bytes → IsRefused (region_of bytes) Length
+pub too_long : (bytes : List ℕ) → 2 ^ 30 < length bytes → IsRefused (region_of bytes) Length
 too_long bytes long = record {
   applies = inr (inr (let same = size_of_bytes bytes in omega (arith, same, long)));
   first = λ other below applies. none_before other below;

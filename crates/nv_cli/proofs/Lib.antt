@@ -5,3 +5,8 @@ pub mod KnownProgress
 pub mod LineReplies
 pub mod OneTranscript
 pub mod HintReplies
+pub mod Ending
+pub mod Pieces
+pub mod Looks
+pub mod Opens
+pub mod Cats

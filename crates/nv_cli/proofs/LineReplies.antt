@@ -19,7 +19,8 @@ use Rattle.nv_stream.specs.declared.reading.Next.TheVariants as nexts
 use Rattle.nv_session.specs.Sessions.{Moves, Leads}
 use Rattle.nv_session.specs.declared.session.Session.{Session}
 use Rattle.nv_session.specs.Machine.{State, Step}
-use Rattle.nv_cli.specs.Script.{Shows}
+use Rattle.nv_region.specs.Region.{Region}
+use Rattle.nv_cli.specs.Script.{ShowsTo, ShowsEndFrom}
 use Rattle.nv_cli.specs.Replies.{Replies, KnownReplies, RepliesTo}
 use Rattle.nv_stream.specs.Streams.{AppendsFront, TakesKnownLine, TakesLine}
 use Rattle.nv_cli.specs.declared.script.Reply.TheVariants.{End, Skipped, Text, Bad}
@@ -29,29 +30,39 @@ use Rattle.nv_stream.proofs.KnownFacts.{known_map}
 use Rattle.nv_stream.proofs.StreamLemmas.{appends_none}
 
 module _ (left after now then : Option (List ℕ)) (number : ℕ) (state mid : State) where
-  pub skipped_goes_on : KnownReplies left after state Skipped mid → IfKnown left after (λ input rest. GoesOn (Shows number state) (Shows (number + 1) mid) now now input rest)
-  skipped_goes_on replies = known_map left after _ _ (λ input rest (r : Replies input rest state Skipped mid). record {
-    line = r.0;
-    first = [];
-    read = r.1;
-    added = appends_none now;
-    step = λ more text status shown. inl (r.2, r.3, subst (λ (s : State). Shows (number + 1) s more text status) r.4 shown);
-  }) replies
+  module _ (region : Option Region) where
+    pub skipped_goes_on : KnownReplies left after state Skipped mid → IfKnown left after (λ input rest. GoesOn (ShowsEndFrom number state region) (ShowsEndFrom (number + 1) mid region) now now input rest)
+    skipped_goes_on replies = known_map left after _ _ (λ input rest (r : Replies input rest state Skipped mid). record {
+      line = r.0;
+      first = [];
+      read = r.1;
+      added = appends_none now;
+      step = λ more text status shown. (shown.0, inl (r.2, r.3, subst (λ (s : State). ShowsTo (number + 1) s more text status shown.0) r.4 shown.1), shown.2);
+    }) replies
 
-  pub end_ends : (status : ℕ) → KnownReplies left after state End mid → status ≡ status_of mid.last → IfKnown left after (λ input rest. Ends (Shows number state) now now input status)
-  end_ends status replies is = known_map left after _ _ (λ input rest (r : Replies input rest state End mid).
-      let none : lines_of input ≡ [] = ap lines_of r.0 in
-      let last : status ≡ status_of state.last = is ∙ ap (λ (s : State). status_of s.last) r.1 in
-      record { text = []; added = appends_none now; shown = rw none (refl, last) }) replies
+    pub end_ends : (status : ℕ) → KnownReplies left after state End mid → status ≡ status_of mid.last → mid.region ≡ region → IfKnown left after (λ input rest. Ends (ShowsEndFrom number state region) now now input status)
+    end_ends status replies is there = known_map left after _ _ (λ input rest (r : Replies input rest state End mid).
+        let none : lines_of input ≡ [] = ap lines_of r.0 in
+        let last : status ≡ status_of state.last = is ∙ ap (λ (s : State). status_of s.last) r.1 in
+        let here : state.region ≡ region = ap (λ (s : State). s.region) (sym r.1) ∙ there in
+        record { text = []; added = appends_none now; shown = rw none (state, (refl, last, refl), here) }) replies
 
-  pub bad_ends : (reason : Reason) → KnownReplies left after state (Bad reason) mid → Appends now then (bad_line number) → IfKnown left after (λ input rest. Ends (Shows number state) now then input 2)
-  bad_ends reason replies added = known_map left after _ _ (λ input rest (r : Replies input rest state (Bad reason) mid). record {
-    text = bad_line number;
-    added = added;
-    shown = rw r.2 (inr (inr (r.3, refl, refl)));
-  }) replies
+    pub bad_ends : (reason : Reason) → KnownReplies left after state (Bad reason) mid → Appends now then (bad_line number) → mid.region ≡ region → IfKnown left after (λ input rest. Ends (ShowsEndFrom number state region) now then input 2)
+    bad_ends reason replies added there = known_map left after _ _ (λ input rest (r : Replies input rest state (Bad reason) mid).
+        let here : state.region ≡ region = ap (λ (s : State). s.region) (sym r.5) ∙ there in
+        record { text = bad_line number; added = added; shown = rw r.2 (state, inr (inr (r.3, refl, refl, refl)), here) }) replies
 
-  pub bad_ends_inside : (reason : Reason) → KnownReplies left after state (Bad reason) mid → AppendsFront now then (bad_line number) → IfKnown left after (λ input rest. EndsInside (Shows number state) now then input)
+    pub text_goes_on : (text : String Global) → KnownReplies left after state (Text text) mid → Appends now then (string_bytes text)
+        → IfKnown left after (λ input rest. GoesOn (ShowsEndFrom number state region) (ShowsEndFrom (number + 1) mid region) now then input rest)
+    text_goes_on text replies added = known_map left after _ _ (λ input rest (r : Replies input rest state (Text text) mid). record {
+      line = r.0;
+      first = string_bytes text;
+      read = r.1;
+      added = added;
+      step = λ more others status shown. (shown.0, inr (inl (r.2, string_bytes text, others, mid, r.3, shown.1, refl)), shown.2);
+    }) replies
+
+  pub bad_ends_inside : (reason : Reason) → KnownReplies left after state (Bad reason) mid → AppendsFront now then (bad_line number) → IfKnown left after (λ input rest. EndsInside (ShowsEndFrom number state state.region) now then input)
   bad_ends_inside reason replies added = known_map left after _ _ (λ input rest (r : Replies input rest state (Bad reason) mid). record {
     line = r.0;
     behind = r.1;
@@ -59,29 +70,19 @@ module _ (left after now then : Option (List ℕ)) (number : ℕ) (state mid : S
     status = 2;
     read = r.2;
     added = added;
-    shown = inr (inr (r.3, refl, refl));
+    shown = (state, inr (inr (r.3, refl, refl, refl)), refl);
   }) replies
 
-  module _ (text : String Global) where
-    pub text_goes_on : KnownReplies left after state (Text text) mid → Appends now then (string_bytes text) → IfKnown left after (λ input rest. GoesOn (Shows number state) (Shows (number + 1) mid) now then input rest)
-    text_goes_on replies added = known_map left after _ _ (λ input rest (r : Replies input rest state (Text text) mid). record {
-      line = r.0;
-      first = string_bytes text;
-      read = r.1;
-      added = added;
-      step = λ more others status shown. inr (inl (r.2, string_bytes text, others, mid, r.3, shown, refl));
-    }) replies
-
-    pub text_ends_inside : KnownReplies left after state (Text text) mid → AppendsFront now then (string_bytes text) → IfKnown left after (λ input rest. EndsInside (Shows number state) now then input)
-    text_ends_inside replies added = known_map left after _ _ (λ input rest (r : Replies input rest state (Text text) mid). record {
-      line = r.0;
-      behind = lines_of rest;
-      text = string_bytes text;
-      status = status_of mid.last;
-      read = r.1;
-      added = added;
-      shown = inr (inl (r.2, string_bytes text, [], mid, r.3, (refl, refl), sym (append-nil (string_bytes text))));
-    }) replies
+  pub text_ends_inside : (text : String Global) → KnownReplies left after state (Text text) mid → AppendsFront now then (string_bytes text) → IfKnown left after (λ input rest. EndsInside (ShowsEndFrom number state mid.region) now then input)
+  text_ends_inside text replies added = known_map left after _ _ (λ input rest (r : Replies input rest state (Text text) mid). record {
+    line = r.0;
+    behind = lines_of rest;
+    text = string_bytes text;
+    status = status_of mid.last;
+    read = r.1;
+    added = added;
+    shown = (mid, inr (inl (r.2, string_bytes text, [], mid, r.3, (refl, refl, refl), sym (append-nil (string_bytes text)))), refl);
+  }) replies
 
 -- a command was run
 pub executed : (line : List ℕ) (command : Command) (old new : Session) (text : String Global) → (length line ≤ line_limit) × Says line (view command)
@@ -94,4 +95,4 @@ unfolding reason_of
 too_long line long = let over : nat_lt line_limit (length line) ≡ true = grind (arith, nat_tests, long) in rw over refl
 
 pub long_replies : (left after : Option (List ℕ)) (line : List ℕ) (state : State) → TakesKnownLine left after nexts.TooLong line → KnownReplies left after state (Bad reasons.TooLong) state
-long_replies left after line state taken = known_map left after _ _ (λ input rest (t : TakesLine input rest nexts.TooLong line). (t.0, t.1, t.2, inl t.3, too_long t.0 t.3)) taken
+long_replies left after line state taken = known_map left after _ _ (λ input rest (t : TakesLine input rest nexts.TooLong line). (t.0, t.1, t.2, inl t.3, too_long t.0 t.3, refl)) taken

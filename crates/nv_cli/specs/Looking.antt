@@ -1,25 +1,27 @@
 -- What looking into the region of some bytes may write, and what comes of it.
-use Rattle.std.specs.Prelude.{◌≡◌, ◌⊎◌, ℕ, List, length, Option, Some, None}
+use Rattle.std.specs.Prelude.{◌≡◌, ◌⊎◌, ℕ, false, List, length, Option, Some, None}
 use Rattle.std.specs.Io.KnownBytes.{Appends, Keeps}
 use Rattle.nv_region.specs.Region.{Region, region_of}
 use Rattle.nv_super.specs.declared.superblock.SuperFault.{SuperFault}
 use Rattle.nv_super.specs.Super.{IsRefused}
 use Rattle.nv_super.specs.FaultText.{super_fault_name}
-use Rattle.nv_journal.specs.Undo.{undone}
+use Rattle.nv_report.specs.nv_outcome.nv_journal.Undo.{undone}
 use Rattle.nv_report.specs.nv_outcome.Outcome.{Outcome, IsOutcome}
-use Rattle.nv_session.specs.nv_tree.Path.{Says}
-use Rattle.nv_session.specs.nv_tree.Tree.{Tree, Node}
-use Rattle.nv_session.specs.nv_tree.Refusals.{Path, Tests, first_refusal, list_tests, stat_tests, read_tests}
-use Rattle.nv_session.specs.nv_tree.Calls.{bytes_read}
-use Rattle.nv_session.specs.nv_tree.declared.refusal.Refusal.{Refusal}
+use Rattle.nv_tree.specs.Path.{Says}
+use Rattle.nv_tree.specs.Tree.{Tree, Node}
+use Rattle.nv_tree.specs.Refusals.{Path, Tests, first_refusal, list_tests, stat_tests, read_tests}
+use Rattle.nv_tree.specs.Calls.{bytes_read}
+use Rattle.nv_tree.specs.declared.refusal.Refusal.{Refusal}
 use Rattle.nv_session.specs.nv_calls.Seen.{tree_of, LeadsTo}
-use Rattle.nv_session.specs.nv_calls.Mount.{Mount}
 use Rattle.nv_session.specs.Machine.{TellsRefusal, TellsNames, TellsStat}
 use Rattle.nv_stream.specs.declared.fault.ScriptError.{ScriptError}
 use Rattle.nv_stream.specs.declared.fault.ScriptError.TheVariants.{Read, Write, Memory}
 use Rattle.nv_stream.specs.Streams.{AppendsFront}
 use Rattle.nv_cli.specs.Checking.{IsSuperRefusal}
+use Rattle.nv_text.specs.declared.refusals.Refusal.TheVariants as refusals
 use Rattle.nv_cli.specs.declared.looking.Answered.{Answered}
+use Rattle.nv_cli.specs.declared.looking.Opened.{Opened}
+use Rattle.nv_cli.specs.declared.looking.Opened.TheVariants as opened
 
 -- what a call tells of a tree, as its text and the exit status
 abbrev pub Call : Type 0
@@ -30,13 +32,17 @@ abbrev pub call_status : Option Refusal → ℕ
 call_status None = 0
 call_status (Some refusal) = 2
 
+-- a call by the path that a text says, which is refused by the first of these tests that holds
+abbrev pub ByPath : (Tree → Path → List ℕ → Type 0) → (Tree → Path → Tests) → List ℕ → Call
+ByPath Tells tests path t text status = (p : Path) × Says path p × Tells t p text × (status ≡ call_status (first_refusal (tests t p)))
+
 -- the names of the directory that a path leads to, as `list` prints them, or its refusal
 abbrev pub ListsNames : List ℕ → Call
-ListsNames path t text status = (p : Path) × Says path p × TellsNames t p text × (status ≡ call_status (first_refusal (list_tests t p)))
+ListsNames path = ByPath TellsNames list_tests path
 
 -- the numbers of the inode that a path leads to, as `stat` prints them, or its refusal
 abbrev pub TellsNumbers : List ℕ → Call
-TellsNumbers path t text status = (p : Path) × Says path p × TellsStat t p text × (status ≡ call_status (first_refusal (stat_tests t p)))
+TellsNumbers path = ByPath TellsStat stat_tests path
 
 -- The path leads to an inode, and these are all its bytes.
 pub record IsWholeFile (t : Tree) (names : List (List ℕ)) (bytes : List ℕ) : Type 0 where
@@ -52,7 +58,7 @@ TellsFile t p text = TellsRefusal (read_tests t p) text
 
 -- the same by the path that a text says
 abbrev pub GivesBytes : List ℕ → Call
-GivesBytes path t text status = (p : Path) × Says path p × TellsFile t p text × (status ≡ call_status (first_refusal (read_tests t p)))
+GivesBytes path = ByPath TellsFile read_tests path
 
 -- A call that only reads is made of the region of some bytes: the superblock's first fault is named, or the call tells what
 -- the rows of the region's outcome show, once the journals are rolled back.
@@ -79,3 +85,35 @@ abbrev pub FailsCat : Call → List ℕ → ScriptError → Option (List ℕ) �
 FailsCat Tells bytes Read old new = ⊥
 FailsCat Tells bytes Write old new = WritesLookFront Tells bytes old new
 FailsCat Tells bytes Memory old new = Keeps old new ⊎ WritesLookFront Tells bytes old new
+
+-- ---- within
+
+-- The region is mounted, with its journals rolled back, and what the mount shows is its outcome; or its superblock isn't accepted.
+abbrev pub IsOpened : Region → Opened → Type 0
+IsOpened R (opened.Mounted m) = (o : Outcome) × IsOutcome R o × (m.memory.region ≡ undone o.sup R) × (m.rows ≡ o.rows) × (m.faults ≡ o.faults) × (m.stopped ≡ false)
+IsOpened R (opened.Refused refusal) = (fault : SuperFault) × IsRefused R fault × (refusal ≡ refusals.Super fault)
+
+-- The path leads to an inode of so many bytes.
+pub record IsSized (t : Tree) (names : List (List ℕ)) (size : ℕ) : Type 0 where
+  pub inode : ℕ
+  pub node : Node
+  pub leads : LeadsTo t names inode node
+  pub is : size ≡ node.size
+
+-- the bytes of the file were written, or after an error a front of them, or none
+abbrev pub WritesFile : Tree → List (List ℕ) → Option (List ℕ) → Option (List ℕ) → Type 0
+WritesFile t names old new = (bytes : List ℕ) × IsWholeFile t names bytes × Appends old new bytes
+
+abbrev pub FailsFile : Tree → List (List ℕ) → ScriptError → Option (List ℕ) → Option (List ℕ) → Type 0
+FailsFile t names Read old new = ⊥
+FailsFile t names Write old new = (bytes : List ℕ) × IsWholeFile t names bytes × AppendsFront old new bytes
+FailsFile t names Memory old new = Keeps old new ⊎ ((bytes : List ℕ) × IsWholeFile t names bytes × AppendsFront old new bytes)
+
+-- the same where the call may be refused
+abbrev pub WritesCall : Tree → Path → Option (List ℕ) → Option (List ℕ) → ℕ → Type 0
+WritesCall t p old new status = (text : List ℕ) × TellsFile t p text × (status ≡ call_status (first_refusal (read_tests t p))) × Appends old new text
+
+abbrev pub FailsCall : Tree → Path → ScriptError → Option (List ℕ) → Option (List ℕ) → Type 0
+FailsCall t p Read old new = ⊥
+FailsCall t p Write old new = (text : List ℕ) × TellsFile t p text × AppendsFront old new text
+FailsCall t p Memory old new = Keeps old new ⊎ ((text : List ℕ) × TellsFile t p text × AppendsFront old new text)

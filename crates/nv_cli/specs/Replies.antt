@@ -15,14 +15,14 @@ abbrev pub RepliesTo : List ℕ → State → Reply → State → Type 0
 RepliesTo line old End new = ⊥
 RepliesTo line old Skipped new = (length line ≤ line_limit) × IsSkipped line × (new ≡ old)
 RepliesTo line old (Text text) new = (length line ≤ line_limit) × Runs line old (string_bytes text) new
-RepliesTo line old (Bad reason) new = IsBad line × (reason ≡ reason_of line)
+RepliesTo line old (Bad reason) new = IsBad line × (reason ≡ reason_of line) × (new ≡ old)
 
 -- from the input to what is left of it, and from a state to the next
 abbrev pub Replies : List ℕ → List ℕ → State → Reply → State → Type 0
 Replies input left old End new = (input ≡ []) × (new ≡ old)
 Replies input left old Skipped new = (line : List ℕ) × (lines_of input ≡ line ∷ lines_of left) × (length line ≤ line_limit) × IsSkipped line × (new ≡ old)
 Replies input left old (Text text) new = (line : List ℕ) × (lines_of input ≡ line ∷ lines_of left) × (length line ≤ line_limit) × Runs line old (string_bytes text) new
-Replies input left old (Bad reason) new = (line : List ℕ) × (more : List (List ℕ)) × (lines_of input ≡ line ∷ more) × IsBad line × (reason ≡ reason_of line)
+Replies input left old (Bad reason) new = (line : List ℕ) × (more : List (List ℕ)) × (lines_of input ≡ line ∷ more) × IsBad line × (reason ≡ reason_of line) × (new ≡ old)
 
 -- the same, where the input is known
 abbrev pub KnownReplies : Option (List ℕ) → Option (List ℕ) → State → Reply → State → Type 0

@@ -11,6 +11,8 @@ use Rattle.nv_text.specs.Answers.{bad_line}
 use Rattle.nv_line.specs.Lines.{line_limit}
 use Rattle.nv_report.specs.Last.{status_of}
 use Rattle.nv_session.specs.Machine.{State, first_state, Step, writes}
+use Rattle.nv_session.specs.Sessions.{StandsFor}
+use Rattle.nv_session.specs.declared.session.Session.{Session}
 
 -- what a line asks for was run
 abbrev pub Runs : List ℕ → State → List ℕ → State → Type 0
@@ -35,13 +37,21 @@ ShowsTo number old (line ∷ lines) text status end =
     × Runs line old first mid × ShowsTo (number + 1) mid lines rest status end × (text ≡ first ++ rest))
     ⊎ (IsBad line × (text ≡ bad_line number) × (status ≡ 2) × (end ≡ old))
 
+-- the same of lines that end with this region
+abbrev pub ShowsEndFrom : ℕ → State → Option Region → List (List ℕ) → List ℕ → ℕ → Type 0
+ShowsEndFrom number old region lines text status = (end : State) × ShowsTo number old lines text status end × (end.region ≡ region)
+
 -- what a script may print that begins in this state, and its exit status
 abbrev pub ShowsFrom : State → List (List ℕ) → List ℕ → ℕ → Type 0
 ShowsFrom old lines text status = Shows 1 old lines text status
 
 -- the same of a script that ends with this region
 abbrev pub ShowsEnd : State → Option Region → List (List ℕ) → List ℕ → ℕ → Type 0
-ShowsEnd old region lines text status = (end : State) × ShowsTo 1 old lines text status end × (end.region ≡ region)
+ShowsEnd old region lines text status = ShowsEndFrom 1 old region lines text status
+
+-- it holds of each state that the session stands for
+abbrev pub FromEach : Session → (State → Type 0) → Type 0
+FromEach session P = (state : State) → StandsFor session state → P state
 
 -- no line sets a stop
 abbrev pub SetsNoStop : List (List ℕ) → Type 0

@@ -2,12 +2,15 @@
 //!
 //! What is found wrong doesn't keep the calls from being made; the answer tells of it.
 
-ghost use Rattle.std.specs.Prelude.{◌≡◌, ◌∷◌, false, IfOk, IfErr, OnOk, OnErr, List, ℕ, None, string_bytes};
+ghost use Rattle.std.specs.Prelude.{◌≡◌, ◌⊎◌, ℕ, false, if◌then◌else◌, IfOk, IfErr, OnOk, List, string_bytes};
 ghost use Rattle.nv_region.specs.Region.{region_of};
-ghost use Rattle.nv_session.specs.nv_tree.Path.{Says};
-ghost use Rattle.nv_session.specs.nv_tree.Refusals.{Path, first_refusal, read_tests};
+ghost use Rattle.nv_text.specs.Refusals.{refusal_name};
+ghost use Rattle.nv_tree.specs.Path.{IsPath, Says};
+ghost use Rattle.nv_tree.specs.Refusals.{Path};
 ghost use Rattle.nv_session.specs.nv_calls.Seen.{tree_of};
-ghost use Rattle.nv_cli.specs.Looking.{IsOpened, IsLook, ListsNames, TellsNumbers, GivesBytes, WritesLook, FailsLook, FailsCat, LooksAt};
+ghost use Rattle.nv_session.specs.nv_calls.Reading.{IsRead};
+ghost use Rattle.nv_cli.specs.Checking.{IsRefusal};
+ghost use Rattle.nv_cli.specs.Looking.{IsLook, IsOpened, IsSized, ListsNames, TellsNumbers, GivesBytes, WritesLook, FailsLook, FailsCat, WritesCall, FailsCall, WritesFile, FailsFile};
 
 use crate::checking::open_system;
 use nv_region::{ImageRegion, Pmem, RegionRefusal};
@@ -140,21 +143,21 @@ fn open_image(alloc: Global, bytes: &[u8]) -> Result<Opened<'_>, AllocError>
     match ImageRegion::from_bytes(alloc, bytes) {
         Ok(mut image) => {
             open_system(&mut image)?;
-            mount_image(alloc, image)
+            match recover_alone(alloc, &mut image)? {
+                Answer::Recovered(recovered) => {
+                    Ok(Opened::Mounted(Fs::open(alloc, image, recovered)))
+                }
+                Answer::Refused(refusal) => Ok(Opened::Refused(refusal)),
+            }
         }
-        Err(RegionRefusal::Length) => { Ok(Opened::Refused(Refusal::Super(SuperFault::Length))) }
+        Err(RegionRefusal::Length) => Ok(Opened::Refused(Refusal::Super(SuperFault::Length))),
         Err(RegionRefusal::Memory) => Err(AllocError),
     }
 }
 
-fn mount_image(alloc: Global, mut image: ImageRegion<'_>) -> Result<Opened<'_>, AllocError> {
-    match recover_alone(alloc, &mut image)? {
-        Answer::Recovered(recovered) => Ok(Opened::Mounted(Fs::open(alloc, image, recovered))),
-        Answer::Refused(refusal) => Ok(Opened::Refused(refusal)),
-    }
-}
-
-fn refused_look(alloc: Global, refusal: Refusal) -> Result<Look, AllocError> {
+fn refused_look(alloc: Global, refusal: Refusal) -> Result<Look, AllocError>
+    ensures { IfOk result (λ look. IsRefusal (refusal_name refusal) (string_bytes look.text) look.answered.status × (look.answered.faults ≡ 0)) }
+{
     Ok(Look {
         text: refused_text(alloc, refusal)?,
         answered: Answered {
@@ -164,7 +167,11 @@ fn refused_look(alloc: Global, refusal: Refusal) -> Result<Look, AllocError> {
     })
 }
 
-fn told_look(told: CallText, faults: usize) -> Look {
+fn told_look(told: CallText, faults: usize) -> Look
+    ensures text { string_bytes result.text ≡ string_bytes told.text }
+    ensures status { result.answered.status ≡ (if told.is_refused then 2 else 0) }
+    ensures faults { result.answered.faults ≡ faults }
+{
     let status = status_of(told.is_refused);
     Look {
         text: told.text,
@@ -173,7 +180,9 @@ fn told_look(told: CallText, faults: usize) -> Look {
 }
 
 // The exit status of a call that was refused or not.
-fn status_of(is_refused: bool) -> u8 {
+fn status_of(is_refused: bool) -> u8
+    ensures { result ≡ (if is_refused then 2 else 0) }
+{
     if is_refused {
         Last::Refused.status()
     } else {
@@ -181,13 +190,17 @@ fn status_of(is_refused: bool) -> u8 {
     }
 }
 
-// Writes the bytes of a file, or why they aren't read. Answers the exit status.
+// Writes the bytes of the file that a path leads to, or why they aren't read. Answers the exit status.
 fn cat_file<P: Pmem + Drop, W: Write>(
     alloc: Global,
     mount: &Fs<P>,
     path: &[u8],
     writer: &mut W,
-) -> Result<u8, ScriptError> {
+) -> Result<u8, ScriptError>
+    requires { mount.now.stopped ≡ false }
+    ensures ok { (p : Path) → Says path.now p → IfOk result (λ status. WritesCall (tree_of (P.region mount.now.memory) mount.now.rows) p (W.contents writer.old) (W.contents writer.new) status) }
+    ensures err { (p : Path) → Says path.now p → IfErr result (λ e. FailsCall (tree_of (P.region mount.now.memory) mount.now.rows) p e (W.contents writer.old) (W.contents writer.new)) }
+{
     // No bytes: the same tests.
     match mount.read(path, 0, 0) {
         Ok(_) => {
@@ -202,35 +215,46 @@ fn cat_file<P: Pmem + Drop, W: Write>(
     }
 }
 
-// Writes the bytes of a file that can be read, a piece after another.
+// Writes the bytes of a file, a piece after another.
 fn write_file<P: Pmem + Drop, W: Write>(
     mount: &Fs<P>,
     path: &[u8],
     writer: &mut W,
-) -> Result<(), ScriptError> {
+) -> Result<(), ScriptError>
+    ensures ok { (names : List (List ℕ)) → IsPath path.now names → OnOk result (WritesFile (tree_of (P.region mount.now.memory) mount.now.rows) names (W.contents writer.old) (W.contents writer.new)) }
+    ensures err { (names : List (List ℕ)) → IsPath path.now names → IfErr result (λ e. FailsFile (tree_of (P.region mount.now.memory) mount.now.rows) names e (W.contents writer.old) (W.contents writer.new)) }
+{
     let size = file_size(mount, path)?;
-    for number in 0..size.div_ceil(PIECE) {
-        let piece = file_piece(mount, path, number * PIECE)?;
+    let mut at = 0;
+    while at < size {
+        let count = PIECE.min(size - at);
+        let piece = file_piece(mount, path, at, count)?;
         write_text(writer, &piece)?;
+        at += count;
     }
     Ok(())
 }
 
 // How many bytes the file has that a path leads to.
-fn file_size<P: Pmem + Drop>(mount: &Fs<P>, path: &[u8]) -> Result<u64, AllocError> {
+fn file_size<P: Pmem + Drop>(mount: &Fs<P>, path: &[u8]) -> Result<u64, AllocError>
+    ensures { (names : List (List ℕ)) → IsPath path.now names → IfOk result (IsSized (tree_of (P.region mount.now.memory) mount.now.rows) names) }
+{
     match mount.stat(path) {
         Ok(stat) => Ok(stat.size),
         Err(_) => Err(AllocError),
     }
 }
 
-// The bytes of a file that can be read, from an offset on, at most so many. Only want of memory prevents it.
+// The bytes of a file from an offset on, at most so many.
 fn file_piece<P: Pmem + Drop>(
     mount: &Fs<P>,
     path: &[u8],
     offset: u64,
-) -> Result<Vec<u8>, AllocError> {
-    match mount.read(path, offset, PIECE) {
+    count: u64,
+) -> Result<Vec<u8>, AllocError>
+    ensures { (names : List (List ℕ)) → IsPath path.now names → IfOk result (λ bytes. IsRead (tree_of (P.region mount.now.memory) mount.now.rows) names offset count bytes.items) }
+{
+    match mount.read(path, offset, count) {
         Ok(bytes) => Ok(bytes),
         Err(_) => Err(AllocError),
     }

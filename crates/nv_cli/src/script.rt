@@ -7,11 +7,11 @@ ghost use Rattle.std.specs.Io.KnownBytes.{Appends};
 ghost use Rattle.nv_super.specs.declared.superblock.SuperFault.TheVariants as SuperFault;
 ghost use Rattle.nv_text.specs.Answers.{bad_line, refused_line};
 ghost use Rattle.nv_super.specs.FaultText.{super_fault_name};
-ghost use Rattle.nv_cli.specs.Script.{ShowsScript, ShowsFrom, ShowsEnd};
+ghost use Rattle.nv_cli.specs.Script.{ShowsScript, ShowsFrom, ShowsEnd, FromEach};
 ghost use Rattle.nv_cli.specs.Hints.{HintsScript, HintsFrom, answer_hint};
 ghost use Rattle.nv_cli.specs.Replies.{KnownReplies, RepliesTo};
 ghost use Rattle.nv_session.specs.Machine.{State, first_state, state_with};
-ghost use Rattle.nv_session.specs.Sessions.{Leads, StandsFor};
+ghost use Rattle.nv_session.specs.Sessions.{Leads, StandsFor, region_in};
 ghost use Rattle.nv_cli.specs.Transcript.{WritesAll, WritesFront, WritesWhole};
 
 use crate::hinting::{Hint, Hints, LENGTH_REFUSED, NoHints};
@@ -115,7 +115,7 @@ pub fn run_script_on<H: Threads + Sync, R: Read + Drop, W: Write, N: Hints>(
     })
 }
 
-// Runs a script in a session.
+// Runs a script in a session, from what that has made so far.
 fn run_in<H: Threads + Sync, R: Read + Drop, W: Write, N: Hints>(
     rt: &H,
     alloc: Global,
@@ -123,7 +123,13 @@ fn run_in<H: Threads + Sync, R: Read + Drop, W: Write, N: Hints>(
     reader: R,
     writer: &mut W,
     hints: &mut N,
-) -> Result<u8, ScriptError> {
+) -> Result<u8, ScriptError>
+    ensures ok { IfOk result (λ status. FromEach session.old (λ begin. WritesAll (ShowsEnd begin (region_in session.new.store)) (R.remaining reader) (W.contents writer.old) (W.contents writer.new) status)) }
+    ensures err { OnErr result (FromEach session.old (λ begin. WritesFront (ShowsFrom begin) (R.remaining reader) (W.contents writer.old) (W.contents writer.new))) }
+    ensures memory { IsErrOf result ScriptError.Memory → FromEach session.old (λ begin. WritesWhole (ShowsFrom begin) (R.remaining reader) (W.contents writer.old) (W.contents writer.new)) }
+    ensures hints { IfOk result (λ status. FromEach session.old (λ begin. WritesAll (HintsFrom begin) (R.remaining reader) (N.told hints.old) (N.told hints.new) status)) }
+    ensures first_hints { OnErr result (FromEach session.old (λ begin. WritesWhole (HintsFrom begin) (R.remaining reader) (N.told hints.old) (N.told hints.new))) }
+{
     let Ok(mut reader) = BufReader::with_capacity(alloc, BUFFER_SIZE, reader) else {
         return Err(ScriptError::Memory);
     };
@@ -131,7 +137,7 @@ fn run_in<H: Threads + Sync, R: Read + Drop, W: Write, N: Hints>(
     run_lines(rt, alloc, session, &mut line, &mut reader, writer, hints)
 }
 
-// Runs the lines of a script in a session that has done nothing yet. The line is for the bytes of one after another.
+// Runs the lines of a script in a session. The line is for the bytes of one after another.
 fn run_lines<H: Threads + Sync, R: Read, W: Write, N: Hints>(
     rt: &H,
     alloc: Global,
@@ -141,12 +147,11 @@ fn run_lines<H: Threads + Sync, R: Read, W: Write, N: Hints>(
     writer: &mut W,
     hints: &mut N,
 ) -> Result<u8, ScriptError>
-    requires { StandsFor session.old first_state }
-    ensures ok { IfOk result (λ status. WritesAll ShowsScript (R.remaining reader.old) (W.contents writer.old) (W.contents writer.new) status) }
-    ensures err { OnErr result (WritesFront ShowsScript (R.remaining reader.old) (W.contents writer.old) (W.contents writer.new)) }
-    ensures memory { IsErrOf result ScriptError.Memory → WritesWhole ShowsScript (R.remaining reader.old) (W.contents writer.old) (W.contents writer.new) }
-    ensures hints { IfOk result (λ status. WritesAll HintsScript (R.remaining reader.old) (N.told hints.old) (N.told hints.new) status) }
-    ensures first_hints { OnErr result (WritesWhole HintsScript (R.remaining reader.old) (N.told hints.old) (N.told hints.new)) }
+    ensures ok { IfOk result (λ status. FromEach session.old (λ begin. WritesAll (ShowsEnd begin (region_in session.new.store)) (R.remaining reader.old) (W.contents writer.old) (W.contents writer.new) status)) }
+    ensures err { OnErr result (FromEach session.old (λ begin. WritesFront (ShowsFrom begin) (R.remaining reader.old) (W.contents writer.old) (W.contents writer.new))) }
+    ensures memory { IsErrOf result ScriptError.Memory → FromEach session.old (λ begin. WritesWhole (ShowsFrom begin) (R.remaining reader.old) (W.contents writer.old) (W.contents writer.new)) }
+    ensures hints { IfOk result (λ status. FromEach session.old (λ begin. WritesAll (HintsFrom begin) (R.remaining reader.old) (N.told hints.old) (N.told hints.new) status)) }
+    ensures first_hints { OnErr result (FromEach session.old (λ begin. WritesWhole (HintsFrom begin) (R.remaining reader.old) (N.told hints.old) (N.told hints.new))) }
 {
     'lines: for number in 1..u64::MAX {
         match next_reply(rt, alloc, session, line, reader)? {

@@ -12,6 +12,8 @@ mod contents;
 #[cfg(test)]
 mod damage;
 #[cfg(test)]
+mod images;
+#[cfg(test)]
 mod line;
 #[cfg(test)]
 mod script;

@@ -1,13 +1,16 @@
+use Rattle.std.specs.Prelude.{Option}
+use Rattle.nv_region.specs.Region.{Region}
 use Rattle.nv_session.specs.Machine.{State}
-use Rattle.nv_cli.specs.Hints.{HintsScript}
-use Rattle.nv_cli.specs.Script.{Shows, ShowsScript}
+use Rattle.nv_cli.specs.Hints.{HintsFrom}
+use Rattle.nv_cli.specs.Script.{ShowsEnd, ShowsEndFrom, FromEach}
 use Rattle.nv_session.specs.Sessions.{StandsFor}
 use Rattle.nv_cli.proofs.HintReplies.{hints_from}
 use Rattle.nv_cli.proofs.KnownProgress.{KnownProgress}
 use Rattle.nv_cli.proofs.script.run_lines.Given as goal
 
 abbrev pub invariant-lines : goal.invariant-lines
-invariant-lines g l = (state : State) × StandsFor l.session state × KnownProgress ShowsScript (Shows l.number state) (g.R.Read.remaining l.initial.reader) (g.R.Read.remaining l.reader)
-    (g.W.Write.contents l.initial.writer) (g.W.Write.contents l.writer)
-    × KnownProgress HintsScript (hints_from l.number state) (g.R.Read.remaining l.initial.reader) (g.R.Read.remaining l.reader)
-    (g.N.Hints.told l.initial.hints) (g.N.Hints.told l.hints)
+invariant-lines g l = FromEach l.initial.session (λ begin. (state : State) × StandsFor l.session state
+    × ((region : Option Region) → KnownProgress (ShowsEnd begin region) (ShowsEndFrom l.number state region) (g.R.Read.remaining l.initial.reader) (g.R.Read.remaining l.reader)
+    (g.W.Write.contents l.initial.writer) (g.W.Write.contents l.writer))
+    × KnownProgress (HintsFrom begin) (hints_from l.number state) (g.R.Read.remaining l.initial.reader) (g.R.Read.remaining l.reader)
+    (g.N.Hints.told l.initial.hints) (g.N.Hints.told l.hints))

@@ -1,0 +1,85 @@
+-- What writing a file tells, by what was written.
+use Rattle.std.proofs.Common.{◌≡◌, ◌≢◌, ◌⊎◌, ◌∙◌, inl, inr, ℕ, List, length, Option, Some, None, refl, sym, ap}
+use Rattle.std.specs.Io.KnownBytes.{Appends}
+use Rattle.nv_region.specs.Region.{region_of}
+use Rattle.nv_region.specs.ImageState.{ImageState}
+use Rattle.nv_text.specs.Answers.{refused_line}
+use Rattle.nv_session.specs.nv_calls.Mount.{Mount}
+use Rattle.nv_session.specs.nv_calls.Seen.{tree_of}
+use Rattle.nv_session.specs.Machine.{TellsRefusal}
+use Rattle.nv_session.proofs.Told.{refusal_told}
+use Rattle.nv_stream.specs.Streams.{AppendsFront}
+use Rattle.nv_stream.specs.declared.fault.ScriptError.{ScriptError}
+use Rattle.nv_stream.specs.declared.fault.ScriptError.TheVariants.{Read, Write, Memory}
+use Rattle.nv_tree.specs.Path.{IsPath, Says}
+use Rattle.nv_tree.specs.Tree.{Tree}
+use Rattle.nv_tree.specs.Refusals.{Path, first_refusal, refusal_word, read_tests}
+use Rattle.nv_tree.specs.declared.refusal.Refusal.{Refusal}
+use Rattle.nv_tree.specs.declared.refusal.Refusal.TheVariants as refusals
+use Rattle.nv_tree.proofs.Texts.{text_says}
+use Rattle.nv_cli.specs.Looking.{GivesBytes, IsWholeFile, TellsFile, IsOpened, WritesLook, WritesLookFront, FailsCat, WritesFile, FailsFile, WritesCall, FailsCall, call_status}
+use Rattle.nv_cli.specs.declared.looking.Answered.{Answered}
+use Rattle.nv_cli.specs.declared.looking.Opened.TheVariants as opened
+use Rattle.nv_cli.proofs.Looks.{mounted_look}
+
+module _ (t : Tree) (path : List ℕ) (p : Path) (says : Says path p) (old new : Option (List ℕ)) where
+  -- ---- a call that isn't refused writes the file
+
+  tells : (names : List (List ℕ)) → p ≡ Some names → first_refusal (read_tests t p) ≡ None → (bytes : List ℕ) → IsWholeFile t names bytes → TellsFile t p bytes
+  tells names is allowed bytes whole = inr (names, is, allowed, whole)
+
+  module _ (allowed : first_refusal (read_tests t p) ≡ None) where
+    pub file_called : (status : ℕ) → ((names : List (List ℕ)) → IsPath path names → WritesFile t names old new) → status ≡ 0 → WritesCall t p old new status
+    file_called status writes ends = by p refl says where
+      by : (q : Path) → p ≡ q → Says path q → WritesCall t p old new status
+      by None is says = absurd (let bad : first_refusal (read_tests t None) ≡ None = rw is at allowed in cc)
+      by (Some names) is says = let w = writes names says in (w.0, tells names is allowed w.0 w.1, ends ∙ ap call_status (sym allowed), w.2)
+
+    pub file_failed : (e : ScriptError) → ((names : List (List ℕ)) → IsPath path names → FailsFile t names e old new) → FailsCall t p e old new
+    file_failed e fails = by p refl says where
+      with_names : (names : List (List ℕ)) → p ≡ Some names → (e : ScriptError) → FailsFile t names e old new → FailsCall t p e old new
+      with_names names is Read f = f
+      with_names names is Write f = (f.0, tells names is allowed f.0 f.1, f.2)
+      with_names names is Memory (inl kept) = inl kept
+      with_names names is Memory (inr f) = inr (f.0, tells names is allowed f.0 f.1, f.2)
+      by : (q : Path) → p ≡ q → Says path q → FailsCall t p e old new
+      by None is says = absurd (let bad : first_refusal (read_tests t None) ≡ None = rw is at allowed in cc)
+      by (Some names) is says = with_names names is e (fails names says)
+
+  -- ---- a call that is refused says so
+
+  module _ (refusal : Refusal) (text : List ℕ) (other : refusal ≢ refusals.Memory) (first : (refusal ≡ refusals.Memory) ⊎ (first_refusal (read_tests t p) ≡ Some refusal)) (said : text ≡ refused_line (refusal_word refusal)) where
+    told : TellsRefusal (read_tests t p) text
+    told = refusal_told (read_tests t p) refusal text other first said
+
+    pub refusal_called : (status : ℕ) → status ≡ 2 → Appends old new text → WritesCall t p old new status
+    refusal_called status ends added = let w = told in (text, inl w, ends ∙ ap call_status (sym w.1), added)
+
+    pub refusal_failed : AppendsFront old new text → FailsCall t p Write old new
+    refusal_failed front = (text, inl told, front)
+
+-- ---- of the region of some bytes
+
+module _ (bytes path : List ℕ) (m : Mount ImageState) (is : IsOpened (region_of bytes) (opened.Mounted m)) (old new : Option (List ℕ)) where
+  abbrev t : Tree
+  t = tree_of m.memory.region m.rows
+
+  pub cat_looks : (answered : Answered) → ((p : Path) → Says path p → WritesCall t p old new answered.status) → answered.faults ≡ length m.faults → WritesLook (GivesBytes path) bytes old new answered
+  cat_looks answered writes faults =
+      let p = text_says path in
+      let w = writes p.0 p.1 in
+      (w.0, mounted_look (region_of bytes) m is (GivesBytes path) w.0 answered (p.0, p.1, w.1, w.2) faults, w.3)
+
+  front : (p : Path) → Says path p → (text : List ℕ) → TellsFile t p text → AppendsFront old new text → WritesLookFront (GivesBytes path) bytes old new
+  front p says text tells added =
+      let answered : Answered = record { status = call_status (first_refusal (read_tests t p)); faults = length m.faults } in
+      (text, answered, mounted_look (region_of bytes) m is (GivesBytes path) text answered (p, says, tells, refl) refl, added)
+
+  fails : (p : Path) → Says path p → (e : ScriptError) → FailsCall t p e old new → FailsCat (GivesBytes path) bytes e old new
+  fails p says Read f = f
+  fails p says Write f = front p says f.0 f.1 f.2
+  fails p says Memory (inl kept) = inl kept
+  fails p says Memory (inr f) = inr (front p says f.0 f.1 f.2)
+
+  pub cat_fails : (e : ScriptError) → ((p : Path) → Says path p → FailsCall t p e old new) → FailsCat (GivesBytes path) bytes e old new
+  cat_fails e f = let p = text_says path in fails p.0 p.1 e (f p.0 p.1)

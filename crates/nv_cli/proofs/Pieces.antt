@@ -1,0 +1,86 @@
+-- A file that is written in pieces: what was written so far is a front of its bytes.
+use Rattle.std.proofs.Common.{◌≡◌, ◌≤◌, ◌+◌, ◌-◌, ℕ, zero, suc, List, [], ◌∷◌, ◌++◌, map, take, min, length, Option, inr, refl, sym, ap, subst, ◌∙◌, append-nil, append_assoc, arith}
+use Rattle.std.specs.Io.KnownBytes.{Appends}
+use Rattle.std.specs.List.{range_with_len}
+use Rattle.std.proofs.lemmas.List.FromFn.{length-map-range_with_len, map-range_with_len_more, take-map-range_with_len}
+use Rattle.std.proofs.lemmas.List.{take_min}
+use Rattle.nv_tree.specs.Tree.{Tree, Node}
+use Rattle.nv_tree.specs.Calls.{bytes_read}
+use Rattle.nv_session.specs.nv_calls.Seen.{LeadsTo}
+use Rattle.nv_session.specs.nv_calls.Reading.{IsRead}
+use Rattle.nv_stream.specs.Streams.{AppendsFront}
+use Rattle.nv_stream.proofs.StreamLemmas.{appends_none, appends_both, appends_front, front_of_whole}
+use Rattle.nv_cli.specs.Looking.{IsSized, IsWholeFile, WritesFile, FailsFile}
+use Rattle.nv_stream.specs.declared.fault.ScriptError.TheVariants as errors
+
+joins : (f : ℕ → ℕ) (at count : ℕ) → map f (range_with_len 0 (at + count)) ≡ map f (range_with_len 0 at) ++ map f (range_with_len at count)
+joins f at zero = sym (append-nil (map f (range_with_len 0 at)))
+joins f at (suc n) =
+    let rest = joins f at n in
+    let one : map f (range_with_len 0 (at + n + 1)) ≡ map f (range_with_len 0 (at + n)) ++ f (at + n) ∷ [] = map-range_with_len_more f 0 (at + n) (at + n) (omega arith) in
+    let here : map f (range_with_len at (n + 1)) ≡ map f (range_with_len at n) ++ f (at + n) ∷ [] = map-range_with_len_more f at n (at + n) refl in
+    one ∙ ap (λ xs. xs ++ f (at + n) ∷ []) rest ∙ append_assoc (map f (range_with_len 0 at)) (map f (range_with_len at n)) (f (at + n) ∷ []) ∙ ap (λ xs. map f (range_with_len 0 at) ++ xs) (sym here)
+
+-- the first bytes of a file
+abbrev pub first_bytes : Node → ℕ → List ℕ
+first_bytes node count = map node.bytes (range_with_len 0 count)
+
+all_bytes : (node : Node) → bytes_read 0 node.size node ≡ first_bytes node node.size
+all_bytes node = ap (λ n. map node.bytes (range_with_len 0 n)) (let same : min node.size (node.size - 0) ≡ node.size = omega arith in same)
+
+a_piece : (node : Node) (at count : ℕ) → at + count ≤ node.size → bytes_read at count node ≡ map node.bytes (range_with_len at count)
+a_piece node at count within = ap (λ n. map node.bytes (range_with_len at n)) (let same : min count (node.size - at) ≡ count = omega arith in same)
+
+-- a path leads to one inode
+one_node : (t : Tree) (names : List (List ℕ)) (i j : ℕ) (a b : Node) → LeadsTo t names i a → LeadsTo t names j b → a ≡ b
+one_node t names i j a b p q =
+    let number : i ≡ j = (let first = p.leads in let second = q.leads in cc) in
+    let first = p.shows in
+    let second : t i ≡ Some b = rw number q.shows in
+    cc
+
+module _ (t : Tree) (names : List (List ℕ)) (size : ℕ) (s : IsSized t names size) where
+  read_piece : (at count : ℕ) (piece : List ℕ) → IsRead t names at count piece → at + count ≤ size → piece ≡ map s.node.bytes (range_with_len at count)
+  read_piece at count piece read within =
+      let same : read.node ≡ s.node = one_node t names read.inode s.inode read.node s.node read.leads s.leads in
+      let of : piece ≡ bytes_read at count s.node = rw (← same) read.is in
+      of ∙ a_piece s.node at count (let is = s.is in omega arith)
+
+  whole : IsWholeFile t names (bytes_read 0 s.node.size s.node)
+  whole = record { inode = s.inode; node = s.node; leads = s.leads; is = refl }
+
+  -- the first bytes are a front of all
+  front_of_file : (old now : Option (List ℕ)) (at : ℕ) → at ≤ size → AppendsFront old now (first_bytes s.node at) → AppendsFront old now (bytes_read 0 s.node.size s.node)
+  front_of_file old now at within (n, added) =
+      let long : length (first_bytes s.node at) ≡ at = length-map-range_with_len s.node.bytes 0 at in
+      let cut : take n (first_bytes s.node at) ≡ first_bytes s.node (min n at) =
+          sym (take_min n (first_bytes s.node at)) ∙ ap (λ k. take (min n k) (first_bytes s.node at)) long ∙ take-map-range_with_len s.node.bytes 0 at (min n at) (omega arith) in
+      let all : take (min n at) (bytes_read 0 s.node.size s.node) ≡ first_bytes s.node (min n at) =
+          ap (take (min n at)) (all_bytes s.node) ∙ take-map-range_with_len s.node.bytes 0 s.node.size (min n at) (let is = s.is in omega arith) in
+      (min n at, subst (λ xs. Appends old now xs) (cut ∙ sym all) added)
+
+  -- nothing yet
+  pub none_yet : (old : Option (List ℕ)) → Appends old old (first_bytes s.node 0)
+  none_yet old = appends_none old
+
+  module _ (old now : Option (List ℕ)) (at : ℕ) (within : at ≤ size) (so_far : Appends old now (first_bytes s.node at)) where
+    pub fails_between : FailsFile t names errors.Memory old now
+    fails_between = inr (bytes_read 0 s.node.size s.node, whole, front_of_file old now at within (front_of_whole old now (first_bytes s.node at) so_far))
+
+    pub ends_file : size ≤ at → WritesFile t names old now
+    ends_file behind =
+        let same : at ≡ s.node.size = (let is = s.is in omega arith) in
+        (bytes_read 0 s.node.size s.node, whole, rw all_bytes (rw same at so_far))
+
+    module _ (count : ℕ) (piece : List ℕ) (read : IsRead t names at count piece) (room : at + count ≤ size) (then : Option (List ℕ)) where
+      pub piece_more : Appends now then piece → Appends old then (first_bytes s.node (at + count))
+      piece_more added =
+          let is = read_piece at count piece read room in
+          rw joins (appends_both old now then (first_bytes s.node at) (map s.node.bytes (range_with_len at count)) so_far (rw is at added))
+
+      pub fails_inside : AppendsFront now then piece → FailsFile t names errors.Write old then
+      fails_inside added =
+          let is = read_piece at count piece read room in
+          let front : AppendsFront old then (first_bytes s.node (at + count)) =
+              rw joins (appends_front old now then (first_bytes s.node at) (map s.node.bytes (range_with_len at count)) so_far (rw is at added)) in
+          (bytes_read 0 s.node.size s.node, whole, front_of_file old then (at + count) room front)
