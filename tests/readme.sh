@@ -5,8 +5,8 @@
 #     tests/readme.sh                      prints a line for each difference, and closes with 'N passed, M failed'
 #     tests/readme.sh --scripts FOLDER     also keeps the scripts, with what they print and their status, for rows-on-workers.py
 #
-# In docs/ a block `script` is run by `nova run`, and the block `output` behind it is what it prints but for lines `ok`. A
-# command on an indented line prints the next block. `parallel` and `man` are left out where they aren't installed.
+# In docs/ a block `script` is run by `nova run`, and the block `output` behind it is what it prints but for lines `ok`.
+# Commands on indented lines print the next block. `parallel` and `man` are left out where they aren't installed.
 set -u
 here=$(cd "$(dirname "${BASH_SOURCE[0]}")/.." && pwd)
 program=$here/crates/nova/out/nova
@@ -48,10 +48,15 @@ cases_of() {
         block == "run" { print > (name ".run"); next }
         block == "out" { print > (name ".out"); next }
         block == "skip" { next }
-        /^    (\.\/nova run <|\.\/nova check [a-z]|od )/ { begin("command"); sub(/^    /, ""); print > (name ".run") }
+        /^    (\.\/nova (run|check|mkfs|ls|stat|cat|map|explain) [a-z<]|od )/ { if (!within) begin("command"); within = 1; sub(/^    /, ""); print > (name ".run"); next }
+        { within = 0 }
     ' "$1"
 }
 
+# Commands are run here, so that the files that they write go with it.
+room=$folder/room
+mkdir "$room"
+ln -s "$here"/* "$room/"
 for document in README.md docs/*.md; do
     cases_of "$document" "$(basename "$document" .md)"
 done
@@ -68,7 +73,7 @@ for kind in "$folder"/*.kind; do
             echo "$status" >"$kept/$(basename "$name").status"
         fi
     else
-        same "$title" "$(cat "$name.out")" "$(sed "s|^\./nova |'$program' |" "$name.run" | bash 2>&1)"
+        same "$title" "$(cat "$name.out")" "$(cd "$room" && sed "s|^\./nova |'$program' |" "$name.run" | bash 2>&1)"
     fi
 done
 
@@ -83,8 +88,31 @@ for words in "check --help" "run --help" "--help" ""; do
     same "status of nova $words" 2 $?
     same "standard output of nova $words" "" "$(cat "$folder/said")"
 done
-for command in run check; do
+for command in run check mkfs ls stat cat map explain; do
     same "usage of nova $command" "Usage: nova $command" "$("$program" $command --help 2>&1 | grep -o "^Usage: nova $command")"
+    # The page has what the help says of the command and of its arguments.
+    while IFS= read -r line; do
+        grep -qF -- "$line" docs/nova.1
+        same "docs/nova.1: $line" 0 $?
+    done < <("$program" $command --help 2>&1 | sed -nE '1p; s/^ +(-[^ ]+|<[a-z]+>|\[[a-z]+\])( <[a-z]+>)?  +//p' | grep -v '^Print help')
+done
+
+# What `nova explain` says of each class stands in docs/FAULTS.md: its title, and what it means.
+sections=$(tr -d '`' <docs/FAULTS.md)
+classes=$("$program" explain none 2>&1 | sed -n 's/^the classes are //p')
+same "the classes of docs/FAULTS.md" "$(sed -nE 's/^(## )([A-Z][0-9]): .*/\2/p; s/^(\| )(S[0-9]) .*/\2/p' docs/FAULTS.md | tr '\n' ' ')" "$classes "
+for class in $classes; do
+    said=$("$program" explain "$class")
+    title=${said%%$'\n'*}
+    meaning=${said#*$'\n'}
+    case $class in
+        S*) found=$(grep -xF "| $class | ${title#*: } |" <<<"$sections" | sed 's/^| \(S.\) | /\1: /; s/ |$//') ;;
+        *) found=$(grep -xF "## $title" <<<"$sections" | sed 's/^## //') ;;
+    esac
+    same "docs/FAULTS.md: the title of $class" "$title" "$found"
+    grep -qF -- "$meaning" <<<"$sections"
+    same "docs/FAULTS.md: the meaning of $class" 0 $?
+    same "nova explain ${class,,}" "$said" "$("$program" explain "${class,,}")"
 done
 
 if command -v parallel >/dev/null; then

@@ -1,33 +1,49 @@
-//! The program `nova`: `nova run` runs the script on its standard input and prints what its commands answer, and
-//! `nova check PATH --workers N` recovers the image in a file in memory and prints its report.
+//! The program `nova`: it makes, checks and shows images of the NOVA file system, and runs scripts on them.
+//!
+//! `run` runs a script, on the region of an image or on none, and saves the region that it leaves, `check` recovers an image in
+//! memory and prints its report, and `show` shows what is in an image. `saving` writes files, `image` reads them.
 //!
 //! Behind a bad line, and a region that is refused for its length, a line on standard error says more.
 //!
-//! Its exit status is the script's or the check's. Words that ask for neither, a file that can't be read, and output or
-//! memory that is refused end it with status 2 and a text on standard error.
+//! Its exit status is the script's or the check's, and 0 or 2 for the other commands. Words that ask for nothing, a file that
+//! can't be read or written, and output or memory that is refused end it with status 2 and a text on standard error.
 #![tactic(auto)]
 
 mod check;
+mod drawing;
+mod explain;
+mod failure;
 mod hints;
+mod image;
 mod reason;
+mod run;
+mod saving;
+mod show;
 mod words;
 
 ghost use Rattle.std.specs.Prelude.{◌≡◌, MatchResult};
 ghost use Rattle.std.specs.Process.{exit_status};
 
-use check::{CheckError, check};
-use hints::ErrorOutput;
+use check::check;
+use explain::{explain, tell_classes};
+use failure::Failure;
 use nv_args::{Todo, read_words};
-use nv_cli::{ScriptError, run_script_with_hints};
+use nv_cli::ScriptError;
 use reason::Reason;
-use std::fmt::Display;
+use run::{run, script_at};
+use saving::{Numbers, Target, mkfs};
+use show::{Shown, show};
+use std::io::Read;
+use std::process;
 use std::process::ExitCode;
+use std::rt::Files;
+use std::thread::Threads;
 use words::words_of;
 
 fn main(rt: HostRuntime) -> ExitCode {
     let alloc = rt.alloc();
     let Ok(words) = words_of(&rt, alloc) else {
-        return refused(&rt, ScriptError::Memory);
+        return refused(&rt, Failure::Answer(ScriptError::Memory));
     };
     let Ok(texts) = words
         .texts
@@ -35,25 +51,18 @@ fn main(rt: HostRuntime) -> ExitCode {
         .map(|text| text.as_str())
         .collect::<Vec<&str>>(alloc)
     else {
-        return refused(&rt, ScriptError::Memory);
+        return refused(&rt, Failure::Answer(ScriptError::Memory));
     };
     match read_words(alloc, texts.as_slice()) {
-        Ok(Todo::Run) => {
-            let mut hints = ErrorOutput { rt: &rt };
-            let answer = run_script_with_hints(
-                &rt,
-                alloc,
-                rt.stdin(),
-                &mut rt.stdout(),
-                &mut hints,
-            );
-            ended(&rt, answer)
-        }
+        Ok(todo) if words.are_utf8 => ended(
+            &rt,
+            answer(&rt, rt.stdin(), process::id(rt.process()), todo),
+        ),
         // Of the words of a check only the path can be one that isn't UTF-8.
-        Ok(Todo::Check { path, .. }) if !words.are_utf8 => {
-            checked(&rt, Err(CheckError::CannotRead(path, Reason::PathNotUtf8)))
+        Ok(Todo::Check { path, .. }) => {
+            refused(&rt, Failure::CannotRead(path, Reason::PathNotUtf8))
         }
-        Ok(Todo::Check { path, workers }) => checked(&rt, check(&rt, path, workers)),
+        Ok(_) => refused(&rt, Failure::WordNotUtf8),
         Err(usage) => {
             // Its text ends its last line.
             let _ = eprint!(rt; "{usage}");
@@ -62,35 +71,85 @@ fn main(rt: HostRuntime) -> ExitCode {
     }
 }
 
-// Ends the program as a check ended. Behind the text of a file that can't be read a line says why.
-fn checked(rt: &HostRuntime, answer: Result<u8, CheckError<'_>>) -> ExitCode
-    ensures { MatchResult answer.entry (λ status. exit_status result ≡ status) (λ _. exit_status result ≡ 2) }
-{
-    let reason = match &answer {
-        Err(CheckError::CannotRead(_, reason)) => Some(*reason),
-        _ => None,
+// Does what is asked for, and answers the exit status. The input is that of a script with no file, and the number that of this
+// process.
+fn answer<'a, H: Files + AllocGlobal + Print + Eprint + Threads + Sync, R: Read + Drop>(
+    rt: &H,
+    input: R,
+    process: u32,
+    todo: Todo<'a>,
+) -> Result<u8, Failure<'a>> {
+    let over = |path| Target {
+        path,
+        force: true,
+        process,
     };
-    let code = ended(rt, answer);
-    if let Some(reason) = reason {
-        let _ = eprintln!(rt; "{reason}");
+    match todo {
+        Todo::Run {
+            script,
+            image,
+            save,
+        } => {
+            let save = save.map(over);
+            match script {
+                Some(path) => run(rt, script_at(rt, path)?, image, save),
+                None => run(rt, input, image, save),
+            }
+        }
+        Todo::Check {
+            path,
+            workers,
+            output,
+        } => check(rt, path, workers, output),
+        Todo::Mkfs {
+            image,
+            blocks,
+            cpus,
+            tables,
+            force,
+        } => {
+            let target = Target {
+                path: image,
+                force,
+                process,
+            };
+            let numbers = Numbers {
+                blocks,
+                cpus,
+                tables,
+            };
+            mkfs(rt, target, numbers)
+        }
+        Todo::Ls { image, path } => show(rt, image, Shown::Names(path)),
+        Todo::Stat { image, path } => show(rt, image, Shown::Attributes(path)),
+        Todo::Cat { image, path } => show(rt, image, Shown::Bytes(path)),
+        Todo::Explain { class } => explain(rt, class),
+        Todo::Map { image, svg } => show(rt, image, Shown::Blocks(svg.map(over))),
     }
-    code
 }
 
 // Ends the program with the status that it has come to, or refused.
-fn ended<E: Display + Drop>(rt: &HostRuntime, answer: Result<u8, E>) -> ExitCode
-    ensures { MatchResult answer (λ status. exit_status result ≡ status) (λ _. exit_status result ≡ 2) }
+fn ended(rt: &HostRuntime, answer: Result<u8, Failure<'_>>) -> ExitCode
+    ensures { MatchResult answer.entry (λ status. exit_status result ≡ status) (λ _. exit_status result ≡ 2) }
 {
     match answer {
         Ok(status) => ExitCode::from(status),
-        Err(error) => refused(rt, error),
+        Err(failure) => refused(rt, failure),
     }
 }
 
-// Ends the program with status 2, and says why on standard error.
-fn refused<E: Display + Drop>(rt: &HostRuntime, error: E) -> ExitCode
+// Ends the program with status 2, and says why on standard error. Why a file can't be read, and which classes there are, stands
+// on a line of its own.
+fn refused(rt: &HostRuntime, failure: Failure<'_>) -> ExitCode
     ensures { exit_status result ≡ 2 }
 {
-    let _ = eprintln!(rt; "{error}");
+    let _ = eprintln!(rt; "{failure}");
+    match failure {
+        Failure::CannotRead(_, reason) => {
+            let _ = eprintln!(rt; "{reason}");
+        }
+        Failure::NoClass(_) => tell_classes(rt),
+        _ => {}
+    }
     ExitCode::from(2)
 }

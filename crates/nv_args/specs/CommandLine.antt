@@ -1,29 +1,75 @@
 -- The command line of the program, as `clap` sees it.
-use Rattle.std.specs.Prelude.{pos, true, Some, codes}
-use Rattle.clap.specs.Walk.{Rule}
+use Rattle.std.specs.Prelude.{◌^◌, ◌-◌, List, [], ◌∷◌, pos, true, Some, codes}
+use Rattle.std.specs.List.{fold}
+use Rattle.clap.specs.Walk.{Rule, Text}
 use Rattle.clap.specs.Simple.{App, new_app, new_rule, with_rule, with_subcommand, on_top}
+use Rattle.clap.specs.declared.builder.action.ArgAction.TheVariants.{SetTrue}
 use Rattle.clap.specs.declared.builder.value_parser.ValueParser.TheVariants as parsers
 
--- the required argument that is written by its place
-abbrev pub path_rule : Rule
-path_rule = record (new_rule (codes "path")) { required = true }
+-- an argument that is written by its place
+abbrev pub place_rule : Text → Rule
+place_rule name = new_rule name
+
+-- one that has to be written
+abbrev pub needed_rule : Text → Rule
+needed_rule name = record (new_rule name) { required = true }
+
+-- an option with a text
+abbrev pub option_rule : Text → Rule
+option_rule name = record (new_rule name) { long = Some name }
+
+-- an option that has to be written, with a number below 2^64
+abbrev pub number_rule : Text → Rule
+number_rule name = record (option_rule name) { required = true; parser = Some (parsers.Unsigned 0 (2 ^ 64 - 1)) }
+
+-- an option with no value
+abbrev pub flag_rule : Text → Rule
+flag_rule name = record (option_rule name) { action = Some SetTrue }
 
 -- the option `--workers`, a number from 1 to 64
 abbrev pub workers_rule : Rule
-workers_rule = record (new_rule (codes "workers")) { long = Some (codes "workers"); parser = Some (parsers.Signed (pos 1) (pos 64)) }
+workers_rule = record (option_rule (codes "workers")) { parser = Some (parsers.Signed (pos 1) (pos 64)) }
 
--- the command `run`, which takes nothing
+-- a command with these arguments
+abbrev pub command : Text → List Rule → App
+command name rules = fold with_rule (new_app name) rules
+
+-- `run`: a script's file, and the images that it begins with and ends with
 abbrev pub run_app : App
-run_app = new_app (codes "run")
+run_app = command (codes "run") (place_rule (codes "script") ∷ option_rule (codes "image") ∷ option_rule (codes "save") ∷ [])
 
--- the command `check`, which takes a path and may take a number of workers
+-- `check`: an image's file, a number of workers, and what is printed in place of the report
 abbrev pub check_app : App
-check_app = with_rule (with_rule (new_app (codes "check")) path_rule) workers_rule
+check_app = command (codes "check") (needed_rule (codes "path") ∷ workers_rule ∷ flag_rule (codes "summary") ∷ flag_rule (codes "only-faults") ∷ [])
+
+-- `mkfs`: an image's file, the numbers of a new region, and whether the file may be there
+abbrev pub mkfs_app : App
+mkfs_app = command (codes "mkfs") (needed_rule (codes "image") ∷ number_rule (codes "blocks") ∷ number_rule (codes "cpus") ∷ number_rule (codes "tables") ∷ flag_rule (codes "force") ∷ [])
+
+-- `ls`: an image's file, and a directory in it
+abbrev pub ls_app : App
+ls_app = command (codes "ls") (needed_rule (codes "image") ∷ place_rule (codes "path") ∷ [])
+
+-- a command on what one path of an image leads to: `stat` and `cat`
+abbrev pub path_app : Text → App
+path_app name = command name (needed_rule (codes "image") ∷ needed_rule (codes "path") ∷ [])
+
+-- `explain`: a class of faults
+abbrev pub explain_app : App
+explain_app = command (codes "explain") (needed_rule (codes "class") ∷ [])
+
+-- `map`: an image's file, and the file of a drawing
+abbrev pub map_app : App
+map_app = command (codes "map") (needed_rule (codes "image") ∷ option_rule (codes "svg") ∷ [])
 
 -- the program before its commands: its own name isn't among the words, and one of the commands has to be
 abbrev pub bare_app : App
 bare_app = on_top (λ s. record s { no_binary_name = true; subcommand_required = true }) (new_app (codes "nova"))
 
--- the program with its two commands, `run` and `check`
+-- the commands that read an image, or write one
+abbrev pub image_apps : List App
+image_apps = mkfs_app ∷ ls_app ∷ path_app (codes "stat") ∷ path_app (codes "cat") ∷ explain_app ∷ map_app ∷ []
+
+-- the program with its commands
 abbrev pub nova_app : App
-nova_app = with_subcommand (with_subcommand bare_app run_app.top) check_app.top
+nova_app = fold (λ app sub. with_subcommand app sub.top) bare_app (run_app ∷ check_app ∷ image_apps)

@@ -1,10 +1,15 @@
-//! The words of the command line: `run`, or `check PATH` with an option `--workers N`.
+//! The words of the command line: the command that they name, with the values of its arguments.
 //!
-//! `command_line` builds the command line for `clap`, with the help that a user reads; `reading` makes of the words
-//! what the program is to do.
+//! `command_line` builds the command line for `clap` out of kinds of `arguments`, with the help that a user reads.
+//! `reading` makes of the words what the program is to do (`todo`), or a text for the user (`usage`).
 #![tactic(auto)]
 
+mod arguments;
 mod command_line;
 mod reading;
+mod todo;
+mod usage;
 
-pub use reading::{Todo, Usage, read_words};
+pub use reading::read_words;
+pub use todo::{CheckOutput, Todo};
+pub use usage::Usage;

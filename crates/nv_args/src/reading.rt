@@ -1,61 +1,39 @@
 //! What the words of the command line ask for.
 
-ghost use Rattle.std.specs.Prelude.{◌≡◌, ℕ, IfOk, IfErr, IfSome, IsNone, option_map, map, codes};
-ghost use Rattle.clap.specs.Walk.{rows_of};
+ghost use Rattle.std.specs.Prelude.{◌≡◌, ◌↔◌, ℕ, IfOk, IfErr, IfSome, IsNone, IsTrue, option_map, map, codes};
+ghost use Rattle.clap.specs.Walk.{first_of, rows_of};
 ghost use Rattle.clap.specs.Simple.{subcommand_rows_of};
 ghost use Rattle.clap.specs.Matches.{found_of};
-ghost use Rattle.nv_args.specs.Words.{AreWorkers, Asks, Says, WordsSay, WantsMemory};
+ghost use Rattle.nv_args.specs.Words.{AreWorkers, Asks, HasValues, IsGiven, IsNumber, IsOutput, Says, WordsSay, WantsMemory};
 
 use crate::command_line::nova;
-use clap::error::ErrorKind;
-use clap::{ArgMatches, Error};
+use crate::todo::{CheckOutput, Todo};
+use crate::usage::{Cause, Usage};
+use clap::ArgMatches;
 use std::alloc::Global;
-use std::fmt;
-use std::marker::Model;
 
-/// What the program is to do.
-#[derive(Clone, Copy, Debug, PartialEq, Eq)]
-pub enum Todo<'a> {
-    /// Run the script on standard input.
-    Run,
-    /// Recover the image in the file at this path on so many threads, from 1 to 64, and report it.
-    Check { path: &'a str, workers: u32 },
+// The text that is written for the argument of this name.
+fn text_of<'a>(values: &ArgMatches<'a>, name: &str) -> Option<&'a str>
+    ensures { first_of name.now (rows_of (found_of values.now)) ≡ option_map (λ text. text.now) result }
+{
+    values.get_str(name)
 }
 
-/// Why the words ask for nothing, or the help that they ask for. Its text is for the user, and ends its last line.
-#[derive(Debug, Drop)]
-pub struct Usage {
-    // `None` where memory was refused before there was a text.
-    error: Option<Error>,
-}
-
-impl Model for Usage {
-    ghost use Rattle.nv_args.specs.UsageValue.{UsageTold, told_by};
-
-    ghost Value = { UsageTold };
-
-    ghost view = { λ u. told_by u.error };
-}
-
-impl Usage {
-    /// Whether memory was refused, so that the words may well ask for something.
-    pub fn is_out_of_memory(&self) -> bool
-        ensures { result ≡ self.now.out_of_memory }
-    {
-        match &self.error {
-            Some(error) => error.kind() == ErrorKind::OutOfMemory,
-            None => true,
-        }
+fn is_given(values: &ArgMatches<'_>, name: &str) -> bool
+    ensures { IsTrue result ↔ IsGiven name.now (rows_of (found_of values.now)) }
+{
+    match text_of(values, name) {
+        Some(text) => text == "true",
+        None => false,
     }
 }
 
-impl fmt::Display for Usage {
-    fn fmt<W: fmt::Write>(&self, f: &mut fmt::Formatter<W>) -> fmt::Result {
-        match &self.error {
-            Some(error) => write!(f, "{error}"),
-            None => writeln!(f, "out of memory"),
-        }
-    }
+// The number that the text writes, where it is one below 2^64.
+fn number_of(text: Option<&str>) -> Option<u64>
+    ensures some { IfSome result (λ number. IsNumber (option_map (λ text. text.now) text.entry) number) }
+    ensures none { IsNone result → (number : ℕ) → ¬ IsNumber (option_map (λ text. text.now) text.entry) number }
+{
+    text?.parse().ok()
 }
 
 // The number of workers that the text writes, where it is one from 1 to 64.
@@ -68,13 +46,103 @@ fn worker_count(text: Option<&str>) -> Option<u32>
     (1..=64).contains(&workers).then_some(workers)
 }
 
+// What a check is to print, unless that are two things.
+fn output_of(values: &ArgMatches<'_>) -> Option<CheckOutput>
+    ensures some { IfSome result (λ output. IsOutput (rows_of (found_of values.now)) output) }
+    ensures none { IsNone result → (output : CheckOutput) → ¬ IsOutput (rows_of (found_of values.now)) output }
+{
+    match (is_given(values, "summary"), is_given(values, "only-faults")) {
+        (false, false) => Some(CheckOutput::Report),
+        (true, false) => Some(CheckOutput::Summary),
+        (false, true) => Some(CheckOutput::OnlyFaults),
+        (true, true) => None,
+    }
+}
+
+fn run_of<'a>(values: &ArgMatches<'a>) -> Todo<'a>
+    ensures { Asks (codes "run") (rows_of (found_of values.now)) result }
+{
+    Todo::Run {
+        script: text_of(values, "script"),
+        image: text_of(values, "image"),
+        save: text_of(values, "save"),
+    }
+}
+
 fn check_of<'a>(values: &ArgMatches<'a>) -> Option<Todo<'a>>
     ensures some { IfSome result (λ todo. Asks (codes "check") (rows_of (found_of values.now)) todo) }
     ensures none { IsNone result → (todo : Todo) → ¬ Asks (codes "check") (rows_of (found_of values.now)) todo }
 {
-    let path = values.get_str("path")?;
-    let workers = worker_count(values.get_str("workers"))?;
-    Some(Todo::Check { path, workers })
+    let path = text_of(values, "path")?;
+    let workers = worker_count(text_of(values, "workers"))?;
+    let output = output_of(values)?;
+    Some(Todo::Check {
+        path,
+        workers,
+        output,
+    })
+}
+
+fn mkfs_of<'a>(values: &ArgMatches<'a>) -> Option<Todo<'a>>
+    ensures some { IfSome result (λ todo. Asks (codes "mkfs") (rows_of (found_of values.now)) todo) }
+    ensures none { IsNone result → (todo : Todo) → ¬ Asks (codes "mkfs") (rows_of (found_of values.now)) todo }
+{
+    let image = text_of(values, "image")?;
+    let blocks = number_of(text_of(values, "blocks"))?;
+    let cpus = number_of(text_of(values, "cpus"))?;
+    let tables = number_of(text_of(values, "tables"))?;
+    let force = is_given(values, "force");
+    Some(Todo::Mkfs {
+        image,
+        blocks,
+        cpus,
+        tables,
+        force,
+    })
+}
+
+fn ls_of<'a>(values: &ArgMatches<'a>) -> Option<Todo<'a>>
+    ensures some { IfSome result (λ todo. Asks (codes "ls") (rows_of (found_of values.now)) todo) }
+    ensures none { IsNone result → (todo : Todo) → ¬ Asks (codes "ls") (rows_of (found_of values.now)) todo }
+{
+    let image = text_of(values, "image")?;
+    let path = text_of(values, "path").unwrap_or("/");
+    Some(Todo::Ls { image, path })
+}
+
+fn stat_of<'a>(values: &ArgMatches<'a>) -> Option<Todo<'a>>
+    ensures some { IfSome result (λ todo. Asks (codes "stat") (rows_of (found_of values.now)) todo) }
+    ensures none { IsNone result → (todo : Todo) → ¬ Asks (codes "stat") (rows_of (found_of values.now)) todo }
+{
+    let image = text_of(values, "image")?;
+    let path = text_of(values, "path")?;
+    Some(Todo::Stat { image, path })
+}
+
+fn cat_of<'a>(values: &ArgMatches<'a>) -> Option<Todo<'a>>
+    ensures some { IfSome result (λ todo. Asks (codes "cat") (rows_of (found_of values.now)) todo) }
+    ensures none { IsNone result → (todo : Todo) → ¬ Asks (codes "cat") (rows_of (found_of values.now)) todo }
+{
+    let image = text_of(values, "image")?;
+    let path = text_of(values, "path")?;
+    Some(Todo::Cat { image, path })
+}
+
+fn explain_of<'a>(values: &ArgMatches<'a>) -> Option<Todo<'a>>
+    ensures some { IfSome result (λ todo. Asks (codes "explain") (rows_of (found_of values.now)) todo) }
+    ensures none { IsNone result → (todo : Todo) → ¬ Asks (codes "explain") (rows_of (found_of values.now)) todo }
+{
+    let class = text_of(values, "class")?;
+    Some(Todo::Explain { class })
+}
+
+fn map_of<'a>(values: &ArgMatches<'a>) -> Option<Todo<'a>>
+    ensures some { IfSome result (λ todo. Asks (codes "map") (rows_of (found_of values.now)) todo) }
+    ensures none { IsNone result → (todo : Todo) → ¬ Asks (codes "map") (rows_of (found_of values.now)) todo }
+{
+    let image = text_of(values, "image")?;
+    let svg = text_of(values, "svg");
+    Some(Todo::Map { image, svg })
 }
 
 fn todo_of<'a>(matches: &ArgMatches<'a>) -> Option<Todo<'a>>
@@ -82,18 +150,22 @@ fn todo_of<'a>(matches: &ArgMatches<'a>) -> Option<Todo<'a>>
     ensures none { IsNone result → (todo : Todo) → ¬ Says (subcommand_rows_of matches.now) todo }
 {
     let (name, values) = matches.subcommand()?;
-    if name == "check" {
-        check_of(values)
-    } else if name == "run" {
-        Some(Todo::Run)
-    } else {
-        None
+    match name {
+        "run" => Some(run_of(values)),
+        "check" => check_of(values),
+        "mkfs" => mkfs_of(values),
+        "ls" => ls_of(values),
+        "stat" => stat_of(values),
+        "cat" => cat_of(values),
+        "explain" => explain_of(values),
+        "map" => map_of(values),
+        _ => None,
     }
 }
 
-/// What the words, which come without the program's name, ask for: `run`, or `check PATH` with an option `--workers N`
-/// from 1 to 64, which is 1 where it is left out. A number is decimal, and may have a plus sign and leading zeros:
-/// `+5` and `05` are 5.
+/// What the words, which come without the program's name, ask for: one of the commands of `Todo` with its arguments. A
+/// number is decimal, and may have a plus sign and leading zeros: `+5` and `05` are 5. It is below 2^64, and a number of
+/// workers, which is 1 where it is left out, from 1 to 64.
 ///
 /// All other words are answered by the text for the user, and so are words that ask for help, and want of memory.
 pub fn read_words<'a>(alloc: Global, words: &'a [&'a str]) -> Result<Todo<'a>, Usage>
@@ -102,10 +174,17 @@ pub fn read_words<'a>(alloc: Global, words: &'a [&'a str]) -> Result<Todo<'a>, U
     ensures err { IfErr result (λ usage. (todo : Todo) → WordsSay (map (λ word. word.now) words.entry.now) todo → WantsMemory usage) }
 {
     let Ok(command) = nova(alloc) else {
-        return Err(Usage { error: None });
+        return Err(Usage {
+            cause: Cause::NoMemory,
+        });
     };
     match command.try_get_matches_from(words) {
-        Ok(matches) => todo_of(&matches).ok_or(Usage { error: None }),
-        Err(error) => Err(Usage { error: Some(error) }),
+        // Of the words that pass, only a check that is to print two things asks for nothing.
+        Ok(matches) => todo_of(&matches).ok_or(Usage {
+            cause: Cause::TwoOutputs,
+        }),
+        Err(error) => Err(Usage {
+            cause: Cause::Words(error),
+        }),
     }
 }

@@ -3,6 +3,7 @@ pub mod Transcript
 pub mod Replies
 pub mod Checking
 pub mod Looking
+pub mod Formatting
 pub use Rattle.nv_region.specs.Region
 pub use Rattle.nv_super.specs.Super
 pub use Rattle.nv_report.specs.nv_outcome.Outcome

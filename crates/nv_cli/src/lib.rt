@@ -7,6 +7,7 @@
 
 mod checking;
 mod files;
+mod formatting;
 mod hinting;
 mod laws;
 mod looking;
@@ -15,6 +16,7 @@ mod script;
 
 pub use checking::{check_region, check_region_as};
 pub use files::region_of_file;
+pub use formatting::{Formatted, format_image};
 pub use hinting::{Hint, Hints, LENGTH_REFUSED};
 pub use laws::{one_check, one_transcript};
 pub use looking::{Answered, cat_image, list_image, stat_image};
@@ -22,4 +24,4 @@ pub use nv_region::{MemRegion, RegionRefusal};
 pub use nv_report::{BadLength, LONGEST_REGION, is_region_length};
 pub use nv_stream::ScriptError;
 pub use output::Output;
-pub use script::{Ended, run_script, run_script_on, run_script_with_hints};
+pub use script::{Ended, run_script, run_script_on, run_script_to_end, run_script_with_hints};

@@ -230,3 +230,25 @@ fn is_length_refusal(text: &str) -> bool
 {
     text == LENGTH_REFUSED
 }
+
+/// `run_script_with_hints`, which also answers the region that there is at the end.
+pub fn run_script_to_end<H: Threads + Sync, R: Read + Drop, W: Write, N: Hints>(
+    rt: &H,
+    alloc: Global,
+    reader: R,
+    writer: &mut W,
+    hints: &mut N,
+) -> Result<Ended, ScriptError>
+    ensures ok { IfOk result (λ ended. WritesAll (ShowsEnd first_state (option_map (λ memory. memory.region) ended.region)) (R.remaining reader) (W.contents writer.old) (W.contents writer.new) ended.status) }
+    ensures err { OnErr result (WritesFront ShowsScript (R.remaining reader) (W.contents writer.old) (W.contents writer.new)) }
+    ensures memory { IsErrOf result ScriptError.Memory → WritesWhole ShowsScript (R.remaining reader) (W.contents writer.old) (W.contents writer.new) }
+    ensures hints { IfOk result (λ ended. WritesAll HintsScript (R.remaining reader) (N.told hints.old) (N.told hints.new) ended.status) }
+    ensures first_hints { OnErr result (WritesWhole HintsScript (R.remaining reader) (N.told hints.old) (N.told hints.new)) }
+{
+    let mut session = Session::new();
+    let status = run_in(rt, alloc, &mut session, reader, writer, hints)?;
+    Ok(Ended {
+        status,
+        region: session.into_region(),
+    })
+}

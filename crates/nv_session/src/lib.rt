@@ -16,6 +16,8 @@ mod texts;
 
 pub use files::{CallText, list_text, refused_call_text, stat_text};
 pub use laws::one_step;
-pub use nv_calls::Fs;
+pub use making::{Made, new_region};
+pub use nv_calls::{FormatRefusal, Fs};
 pub use nv_tree::Refusal as CallRefusal;
 pub use session::Session;
+pub use stop::Stop;

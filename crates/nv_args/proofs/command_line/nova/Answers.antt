@@ -1,12 +1,14 @@
-use Rattle.std.proofs.Common.{◌≡◌, ◌∙◌, ap, ap₂}
 use Rattle.std.proofs.lemmas.Result.{IfOk-weaker}
-use Rattle.clap.specs.Simple.{App, with_subcommand, app_of}
-use Rattle.nv_args.specs.CommandLine.{bare_app, run_app}
+use Rattle.nv_args.proofs.Adding.{with_command}
 use Rattle.nv_args.proofs.command_line.nova.Goals as goal
 
 pub returns : goal.returns
 returns c =
-    let top : App → _ = λ a. a.top in
-    let run_is : app_of c.in_ok-subcommand.field-0 ≡ with_subcommand bare_app run_app.top
-    = c.in_ok-subcommand.ensures.shape c.run.ensures.local ∙ ap₂ with_subcommand c.in_ok-bare.ensures (ap top c.run.ensures.shape) in
-    IfOk-weaker c.subcommand-2.result _ _ (λ new adds. adds.shape c.in_ok-check.ensures.local ∙ ap₂ with_subcommand run_is (ap top c.in_ok-check.ensures.shape)) c.subcommand-2.ensures
+    let one = with_command _ _ _ _ _ c.in_ok-bare.ensures c.in_ok-run.ensures.shape c.in_ok-run.ensures.local c.in_ok-subcommand.ensures in
+    let two = with_command _ _ _ _ _ one c.in_ok-check.ensures.shape c.in_ok-check.ensures.local c.in_ok-subcommand-2.ensures in
+    let three = with_command _ _ _ _ _ two c.in_ok-mkfs.ensures.shape c.in_ok-mkfs.ensures.local c.in_ok-subcommand-3.ensures in
+    let four = with_command _ _ _ _ _ three c.in_ok-ls.ensures.shape c.in_ok-ls.ensures.local c.in_ok-subcommand-4.ensures in
+    let five = with_command _ _ _ _ _ four c.in_ok-stat.ensures.shape c.in_ok-stat.ensures.local c.in_ok-subcommand-5.ensures in
+    let six = with_command _ _ _ _ _ five c.in_ok-cat.ensures.shape c.in_ok-cat.ensures.local c.in_ok-subcommand-6.ensures in
+    let seven = with_command _ _ _ _ _ six c.in_ok-explain.ensures.shape c.in_ok-explain.ensures.local c.in_ok-subcommand-7.ensures in
+    IfOk-weaker c.subcommand-8.result _ _ (λ new adds. with_command _ _ new _ _ seven c.in_ok-map.ensures.shape c.in_ok-map.ensures.local adds) c.subcommand-8.ensures

@@ -1,6 +1,6 @@
 use Rattle.std.proofs.Common.{rules, Some, ◌≡◌, ◌∙◌, ap, pos}
 use Rattle.clap.specs.declared.builder.value_parser.ValueParser.TheVariants as parsers
-use Rattle.nv_args.proofs.command_line.workers.Goals as goal
+use Rattle.nv_args.proofs.arguments.workers.Goals as goal
 
 pub returns-clause-rule : goal.returns-clause-rule
 returns-clause-rule c =

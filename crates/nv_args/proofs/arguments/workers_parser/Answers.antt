@@ -1,4 +1,4 @@
-use Rattle.nv_args.proofs.command_line.workers_parser.Goals as goal
+use Rattle.nv_args.proofs.arguments.workers_parser.Goals as goal
 
 pub returns : goal.returns
 returns c =

@@ -1,0 +1,69 @@
+//! Writing files: images, and what is drawn of them.
+
+use crate::failure::Failure;
+use nv_cli::{Formatted, MemRegion, format_image};
+use nv_stream::{save_new, save_over, write_text};
+use std::io;
+use std::rt::Files;
+
+/// The numbers of an image that is to be made.
+#[derive(Clone, Copy, Debug)]
+pub(crate) struct Numbers {
+    pub blocks: u64,
+    pub cpus: u64,
+    pub tables: u64,
+}
+
+/// A file that is to be written.
+#[derive(Clone, Copy, Debug)]
+pub(crate) struct Target<'a> {
+    pub path: &'a str,
+    /// Whether it may take the place of a file that is there.
+    pub force: bool,
+    /// This process's number, which tells its new files from those of others.
+    pub process: u32,
+}
+
+/// Writes the image of a formatted region to a file, or prints `refused NAME`. Answers the exit status, 0 or 2.
+pub(crate) fn mkfs<'a, H: Files + AllocGlobal + Print>(
+    rt: &H,
+    target: Target<'a>,
+    numbers: Numbers,
+) -> Result<u8, Failure<'a>> {
+    let alloc = rt.alloc();
+    match format_image(alloc, numbers.cpus, numbers.blocks, numbers.tables)? {
+        Formatted::Region(region) => {
+            save_region(rt, target, &region)?;
+            Ok(0)
+        }
+        Formatted::Refused(refusal) => {
+            let text = format!(in alloc; "refused {refusal}\n")?;
+            write_text(&mut io::writer(rt), text.as_bytes())?;
+            Ok(2)
+        }
+    }
+}
+
+/// Writes the bytes of a region to a file.
+pub(crate) fn save_region<'a, H: Files + AllocGlobal>(
+    rt: &H,
+    target: Target<'a>,
+    region: &MemRegion,
+) -> Result<(), Failure<'a>> {
+    let bytes = region.to_bytes()?;
+    save_file(rt, target, &bytes)
+}
+
+/// Writes a file of these bytes.
+pub(crate) fn save_file<'a, H: Files + AllocGlobal>(
+    rt: &H,
+    target: Target<'a>,
+    bytes: &[u8],
+) -> Result<(), Failure<'a>> {
+    let saved = if target.force {
+        save_over(rt, target.path, bytes, target.process)
+    } else {
+        save_new(rt, target.path, bytes, target.process)
+    };
+    saved.map_err(|unsaved| Failure::unsaved(target.path, unsaved))
+}

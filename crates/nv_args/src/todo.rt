@@ -1,0 +1,62 @@
+//! What the program can be asked to do.
+
+/// What the program is to do.
+#[derive(Clone, Copy, Debug, PartialEq, Eq)]
+pub enum Todo<'a> {
+    /// Run the script in a file, or the one on standard input, on the region that an image holds, or on none, and save
+    /// the region that it leaves, or none.
+    Run {
+        script: Option<&'a str>,
+        image: Option<&'a str>,
+        save: Option<&'a str>,
+    },
+    /// Recover the image in the file at this path on so many threads, from 1 to 64, and print this of what it shows.
+    Check {
+        path: &'a str,
+        workers: u32,
+        output: CheckOutput,
+    },
+    /// Write an image of a formatted region, over a file that is there only by force.
+    Mkfs {
+        image: &'a str,
+        blocks: u64,
+        cpus: u64,
+        tables: u64,
+        force: bool,
+    },
+    /// List a directory of an image.
+    Ls {
+        image: &'a str,
+        path: &'a str,
+    },
+    /// Tell what a path of an image leads to.
+    Stat {
+        image: &'a str,
+        path: &'a str,
+    },
+    /// Print the bytes of a file of an image.
+    Cat {
+        image: &'a str,
+        path: &'a str,
+    },
+    /// Tell what a class of faults means.
+    Explain {
+        class: &'a str,
+    },
+    /// Show which blocks of an image are what, and draw it in a file, or nowhere.
+    Map {
+        image: &'a str,
+        svg: Option<&'a str>,
+    },
+}
+
+/// What a check prints.
+#[derive(Clone, Copy, Debug, PartialEq, Eq)]
+pub enum CheckOutput {
+    /// The whole report.
+    Report,
+    /// One line of sums.
+    Summary,
+    /// The faults alone.
+    OnlyFaults,
+}

@@ -1,0 +1,33 @@
+//! A new region, formatted.
+
+ghost use Rattle.std.specs.Prelude.{IfOk};
+ghost use Rattle.nv_cli.specs.Formatting.{IsFormattedImage};
+
+use nv_region::MemRegion;
+use nv_session::{FormatRefusal, Made, Stop, new_region};
+use std::alloc::{AllocError, Global};
+
+/// A formatted region, or why none was made.
+#[derive(Drop)]
+pub enum Formatted {
+    Region(MemRegion),
+    Refused(FormatRefusal),
+}
+
+/// A region of `blocks` blocks of zeros, formatted at time 0 with so many CPUs and table blocks for each, as the command
+/// `format` of a script makes it first of all; or why none is made, the first reason that applies.
+pub fn format_image(
+    alloc: Global,
+    cpus: u64,
+    blocks: u64,
+    table_blocks: u64,
+) -> Result<Formatted, AllocError>
+    ensures { IfOk result (IsFormattedImage cpus blocks table_blocks) }
+{
+    match new_region(alloc, cpus, blocks, table_blocks, 0, Stop::none())? {
+        Made::Region(memory) => Ok(Formatted::Region(memory)),
+        Made::Refused(refusal) => Ok(Formatted::Refused(refusal)),
+        // No stop is set.
+        Made::Stopped(_) => Err(AllocError),
+    }
+}

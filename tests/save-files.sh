@@ -1,0 +1,212 @@
+#!/usr/bin/env bash
+# Tries that `nova mkfs`, `nova run --save` and `nova map --svg` write a file whole or leave what was there: on a full disk, past
+# a limit of the system, where the last step is refused, in a folder that can't be written, on what is no file, and with a stop at
+# each system call that writes.
+#
+#     tests/save-files.sh [PROGRAM]     prints a line for each difference, and closes with 'N passed, M failed'
+#
+# What needs strace, a file system of its own or another user is left out where it can't be had, and a line says so.
+set -u
+here=$(cd "$(dirname "${BASH_SOURCE[0]}")/.." && pwd)
+program=${1:-$here/crates/nova/out/nova}
+if [ ! -x "$program" ]; then
+    echo "there is no program at $program; ./nova builds it" >&2
+    exit 2
+fi
+folder=$(mktemp -d)
+disk=
+trap '[ -z "$disk" ] || umount "$disk"; chmod -R u+w "$folder"; rm -rf "$folder"' EXIT
+chmod 755 "$folder"
+# Other users can run this one.
+install -m 755 "$program" "$folder/nova"
+program=$folder/nova
+passed=0
+failed=0
+
+# same NAME WANTED FOUND
+same() {
+    if [ "$2" = "$3" ]; then
+        passed=$((passed + 1))
+    else
+        failed=$((failed + 1))
+        echo "WRONG: $1"
+        diff <(printf '%s\n' "$2") <(printf '%s\n' "$3") | sed 's/^/    /'
+    fi
+}
+
+# told NAME STATUS OUTPUT ERRORS WORD..: runs the program with these words.
+told() {
+    local name=$1 status=$2 output=$3 errors=$4
+    shift 4
+    "$program" "$@" >"$folder/out" 2>"$folder/err" </dev/null
+    same "$name: status" "$status" "$?"
+    same "$name: output" "$output" "$(cat "$folder/out")"
+    same "$name: errors" "$errors" "$(cat "$folder/err")"
+}
+
+sum() {
+    sha256sum <"$1"
+}
+
+# Makes a folder with the image `image`, of `hello`, and keeps its sum; a script that formats a larger region is beside it.
+room=
+old=
+begin() {
+    room=$folder/room
+    rm -rf "$room"
+    mkdir "$room"
+    "$program" mkfs "$room/image" --blocks 16 --cpus 1 --tables 1
+    "$program" run "$here/examples/hello.nova" --image "$room/image" --save "$room/image" >/dev/null
+    old=$(sum "$room/image")
+}
+
+# unchanged NAME: the image is as it was, and nothing else is in its folder.
+unchanged() {
+    same "$1: the image" "$old" "$(sum "$room/image")"
+    same "$1: the folder" image "$(ls "$room")"
+}
+
+grown=$folder/grown.nova
+printf 'format 1 64 1\n' >"$grown"
+
+# An image is made, changed and shown.
+begin
+same "cat" hi "$("$program" cat "$room/image" /hello)"
+same "ls" "hello 2" "$("$program" ls "$room/image")"
+told "no file is written without --save" 0 ok "" run "$grown" --image "$room/image"
+unchanged "no file is written without --save"
+told "a script's own region is saved" 0 ok "" run "$grown" --save "$room/image"
+same "a script's own region is saved: its length" 262144 "$(stat -c %s "$room/image")"
+same "a script's own region is saved: the folder" image "$(ls "$room")"
+
+# What is there stays.
+begin
+told "mkfs over a file" 2 "" "cannot write $room/image: it is there already; --force replaces it" mkfs "$room/image" --blocks 8 --cpus 1 --tables 1
+unchanged "mkfs over a file"
+told "mkfs of no region" 2 "refused Cpus" "" mkfs "$room/image" --force --blocks 8 --cpus 65 --tables 1
+unchanged "mkfs of no region"
+told "mkfs of no length" 2 "refused Length" "" mkfs "$room/other" --blocks 7 --cpus 65 --tables 0
+unchanged "mkfs of no length"
+told "saving no region" 2 "" "cannot write $room/image: there is no region" run /dev/null --save "$room/image"
+unchanged "saving no region"
+told "an image that isn't there" 2 "" "cannot read $room/none
+no such file" run "$grown" --image "$room/none" --save "$room/image"
+unchanged "an image that isn't there"
+told "a script that isn't there" 2 "" "cannot read $room/none
+no such file" run "$room/none" --save "$room/image"
+unchanged "a script that isn't there"
+chmod 640 "$room/image"
+told "mkfs --force" 0 "" "" mkfs "$room/image" --force --blocks 8 --cpus 1 --tables 1
+same "mkfs --force: length and permissions" "32768 640" "$(stat -c '%s %a' "$room/image")"
+
+# Nothing but a file is replaced.
+begin
+mkdir "$room/folder"
+mkfifo "$room/pipe"
+ln -s none "$room/link"
+for target in folder pipe; do
+    told "mkfs --force over a $target" 2 "" "cannot write $room/$target: it isn't a file" mkfs "$room/$target" --force --blocks 8 --cpus 1 --tables 1
+    told "saving over a $target" 2 ok "cannot write $room/$target: it isn't a file" run "$grown" --save "$room/$target"
+done
+told "mkfs over a link" 2 "" "cannot write $room/link: it is there already; --force replaces it" mkfs "$room/link" --blocks 8 --cpus 1 --tables 1
+told "a map into a folder" 2 "$("$program" map "$room/image")" "cannot write $room/folder: it isn't a file" map "$room/image" --svg "$room/folder"
+same "nothing but a file is replaced" "folder image link pipe" "$(cd "$room" && echo *)"
+rm -r "${room:?}/folder" "$room/pipe" "$room/link"
+ln "$room/image" "$room/second"
+ln -s image "$room/link"
+told "saving over a link" 0 ok "" run "$grown" --save "$room/link"
+same "saving over a link: what it led to" "$old" "$(sum "$room/image")"
+told "mkfs --force over a file with two names" 0 "" "" mkfs "$room/image" --force --blocks 8 --cpus 1 --tables 1
+same "mkfs --force over a file with two names: the other" "$old" "$(sum "$room/second")"
+
+# A limit of the system, once told and once by a signal.
+begin
+(
+    trap '' XFSZ
+    ulimit -f 128
+    "$program" run "$grown" --save "$room/image" >/dev/null 2>"$folder/err"
+)
+same "past a limit: status" 2 $?
+same "past a limit: errors" "cannot write $room/image: File too large (os error 27)" "$(cat "$folder/err")"
+unchanged "past a limit"
+(
+    ulimit -c 0
+    ulimit -f 128
+    "$program" run "$grown" --save "$room/image"
+) >/dev/null 2>&1
+same "killed at a limit: the image" "$old" "$(sum "$room/image")"
+
+# A folder that can't be written.
+begin
+chmod 555 "$room"
+as_other=()
+if [ "$(id -u)" = 0 ]; then
+    as_other=(setpriv --reuid 65534 --regid 65534 --clear-groups)
+fi
+if "${as_other[@]}" true 2>/dev/null; then
+    for words in "run $grown --save" "mkfs --blocks 8 --cpus 1 --tables 1 --force"; do
+        # shellcheck disable=SC2086
+        "${as_other[@]}" "$program" $words "$room/image" >/dev/null 2>"$folder/err"
+        same "in a folder that can't be written: status" 2 $?
+        same "in a folder that can't be written: errors" "cannot write $room/image: no permission to write there" "$(cat "$folder/err")"
+        unchanged "in a folder that can't be written"
+    done
+else
+    echo "left out: a folder that can't be written; there is no setpriv"
+fi
+chmod 755 "$room"
+told "in no folder" 2 ok "cannot write $room/none/image: no such directory" run "$grown" --save "$room/none/image"
+unchanged "in no folder"
+
+# A full disk.
+mkdir "$folder/disk"
+if mount -t tmpfs -o size=128k none "$folder/disk" 2>/dev/null; then
+    disk=$folder/disk
+    "$program" mkfs "$disk/image" --blocks 16 --cpus 1 --tables 1
+    old=$(sum "$disk/image")
+    room=$disk
+    told "on a full disk" 2 ok "cannot write $disk/image: the disk is full" run "$grown" --save "$disk/image"
+    unchanged "on a full disk"
+    told "mkfs on a full disk" 2 "" "cannot write $disk/image: the disk is full" mkfs "$disk/image" --force --blocks 64 --cpus 1 --tables 1
+    unchanged "mkfs on a full disk"
+    told "a new image on a full disk" 2 "" "cannot write $disk/other: the disk is full" mkfs "$disk/other" --blocks 64 --cpus 1 --tables 1
+    unchanged "a new image on a full disk"
+else
+    echo "left out: a full disk; no file system can be mounted"
+fi
+
+# Each system call that writes is refused, and then the program is killed there. $new is what it would have written.
+begin
+"$program" run "$grown" --save "$folder/new" >/dev/null
+new=$(sum "$folder/new")
+if strace -o /dev/null true 2>/dev/null; then
+    for call in openat write fsync fchmod rename; do
+        begin
+        # Of `write` and `openat` those on the new file: the second `write`, since the script's answer is the first.
+        when=1
+        [ "$call" != write ] || when=2
+        [ "$call" != openat ] || when=$(strace -e trace=openat "$program" run "$grown" --save "$room/image" 2>&1 >/dev/null | grep -n 'image.new-' | cut -d: -f1)
+        begin
+        strace -qq -o /dev/null -e trace="$call" -e inject="$call:error=EIO:when=$when" "$program" run "$grown" --save "$room/image" >/dev/null 2>"$folder/err"
+        same "$call is refused: status" 2 $?
+        same "$call is refused: errors" "cannot write $room/image: Input/output error (os error 5)" "$(cat "$folder/err")"
+        unchanged "$call is refused"
+        strace -qq -o /dev/null -e trace="$call" -e inject="$call:error=EIO:signal=KILL:when=$when" "$program" run "$grown" --save "$room/image" >/dev/null 2>&1
+        same "killed at $call: the image" "$old" "$(sum "$room/image")"
+    done
+    begin
+    strace -qq -o /dev/null -e trace=rename -e inject=rename:delay_exit=1:signal=KILL "$program" run "$grown" --save "$room/image" >/dev/null 2>&1
+    found=$(sum "$room/image")
+    [ "$found" = "$old" ] || [ "$found" = "$new" ]
+    same "killed as it is put in its place" 0 $?
+    for call in link linkat; do
+        begin
+        strace -qq -o /dev/null -e trace="$call" -e inject="$call:error=EIO:signal=KILL" "$program" mkfs "$room/other" --blocks 64 --cpus 1 --tables 1 >/dev/null 2>&1
+        same "mkfs killed at $call: the image beside it" "$old" "$(sum "$room/image")"
+    done
+else
+    echo "left out: refused system calls, and stops at them; strace isn't installed or may not trace"
+fi
+
+echo "$passed passed, $failed failed"
+[ "$failed" -eq 0 ]
