@@ -1,11 +1,11 @@
 //! The line that sums a recovery up: how many inodes, names, blocks and faults there are.
 
-ghost use Rattle.std.specs.Prelude.{◌≡◌, ◌<◌, ◌-◌, ◌++◌, [], get_or, bytes_eq, count_by, map, IfOk, OnOk, string_bytes};
+ghost use Rattle.std.specs.Prelude.{◌≡◌, ◌<◌, ◌-◌, ◌++◌, [], get_or, bytes_eq, count_by, length, map, IfOk, OnOk, string_bytes};
 ghost use Rattle.nv_super.specs.Layout.{HasAreas, system_blocks};
 ghost use Rattle.nv_recover.specs.nv_outcome.Answer.{outcome_of};
 ghost use Rattle.nv_report.specs.Summary.{classes, directories, files, names, class_of, class_sums, class_and_count, inodes_part, inodes_text, blocks_part, used_text, free_text, faults_part, count_text, sum_text, sums_text, more_text, summary_line};
 
-use nv_recover::{Recovered, Row};
+use nv_recover::{Recovered, Rows};
 use nv_super::{Fault, Kind, Super};
 use std::alloc::{AllocError, Global};
 use std::fmt::Write;
@@ -13,9 +13,10 @@ use std::fmt::Write;
 /// How many fault classes there are.
 const CLASSES: usize = 19;
 
-// How many directories and files are in use, and how many names they have.
+// How many inodes are in use, how many of them are directories and files, and how many names those have.
 #[derive(Clone, Copy)]
 struct Counts {
+    inodes: usize,
     directories: usize,
     files: usize,
     names: u128,
@@ -42,21 +43,19 @@ pub fn summary_text(alloc: Global, recovered: &Recovered) -> Result<String, Allo
     Ok(text)
 }
 
-fn push_inodes(out: &mut String, rows: &[Row]) -> Result<(), AllocError>
-    ensures { OnOk result (string_bytes out.new ≡ string_bytes out.old ++ inodes_part rows.now) }
+fn push_inodes(out: &mut String, rows: &Rows) -> Result<(), AllocError>
+    ensures { OnOk result (string_bytes out.new ≡ string_bytes out.old ++ inodes_part rows.now.items) }
 {
-    let inodes = rows.len();
-    let counts = counts_of(rows);
-    push_inode_counts(out, inodes, counts)
+    push_counts(out, counts_of(rows))
 }
 
-fn push_inode_counts(out: &mut String, inodes: usize, counts: Counts) -> Result<(), AllocError>
-    ensures { OnOk result (string_bytes out.new ≡ string_bytes out.old ++ inodes_text inodes counts.directories counts.files counts.names) }
+fn push_counts(out: &mut String, counts: Counts) -> Result<(), AllocError>
+    ensures { OnOk result (string_bytes out.new ≡ string_bytes out.old ++ inodes_text counts.inodes counts.directories counts.files counts.names) }
 {
     write!(
         out,
-        "inodes {inodes}, directories {}, files {}, names {}",
-        counts.directories, counts.files, counts.names
+        "inodes {}, directories {}, files {}, names {}",
+        counts.inodes, counts.directories, counts.files, counts.names
     )
 }
 
@@ -103,17 +102,19 @@ fn push_fault_count(out: &mut String, count: usize) -> Result<(), AllocError>
     write!(out, ", faults {count}")
 }
 
-fn counts_of(rows: &[Row]) -> Counts
-    ensures directories { result.directories ≡ directories rows.now }
-    ensures files { result.files ≡ files rows.now }
-    ensures names { result.names ≡ names rows.now }
+fn counts_of(rows: &Rows) -> Counts
+    ensures inodes { result.inodes ≡ length rows.now.items }
+    ensures directories { result.directories ≡ directories rows.now.items }
+    ensures files { result.files ≡ files rows.now.items }
+    ensures names { result.names ≡ names rows.now.items }
 {
     let mut counts = Counts {
+        inodes: rows.len(),
         directories: 0,
         files: 0,
         names: 0,
     };
-    for row in rows {
+    for (_, row) in rows.iter() {
         match row.kind {
             Kind::Directory => counts.directories += 1,
             Kind::File => counts.files += 1,

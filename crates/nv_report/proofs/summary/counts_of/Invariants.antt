@@ -1,8 +1,10 @@
-use Rattle.std.proofs.Common.{◌≡◌, ◌≤◌, ◌*◌, ◌^◌, take}
+use Rattle.std.proofs.Common.{◌≡◌, ◌≤◌, ◌+◌, ◌*◌, ◌^◌, ◌++◌, List, map, length}
+use Rattle.nv_recover.specs.declared.Row.{Row}
 use Rattle.nv_report.specs.Summary.{directories, files, names}
 use Rattle.nv_report.proofs.summary.counts_of.Given as goal
 
+-- some rows were counted, and the others are left
 abbrev pub invariant-loop-row : goal.invariant-loop-row
-invariant-loop-row l =
-    (l.counts.directories ≡ directories (take l.row-index l.rows)) × (l.counts.files ≡ files (take l.row-index l.rows))
-    × (l.counts.names ≡ names (take l.row-index l.rows)) × (l.counts.names ≤ l.row-index * 2 ^ 64)
+invariant-loop-row l = (done : List Row) × (done ++ map (λ entry. entry.1) l.row-iterator ≡ l.rows.items) × (l.counts.inodes ≡ length l.rows.items)
+    × (l.counts.directories ≡ directories done) × (l.counts.files ≡ files done) × (l.counts.names ≡ names done)
+    × (l.counts.directories + l.counts.files ≡ length done) × (l.counts.names ≤ length done * 2 ^ 64)
