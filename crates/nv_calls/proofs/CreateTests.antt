@@ -20,7 +20,6 @@ use Rattle.nv_calls.specs.NewNames.{spot_tests}
 use Rattle.nv_calls.specs.Seen.{LeadsTo, node_of, tree_of}
 use Rattle.nv_rows.specs.Rows.{IsInUse}
 use Rattle.nv_rows.proofs.Places.{numbered, row_in_use}
-use Rattle.nv_calls.proofs.RowOf.{none_within}
 use Rattle.nv_calls.proofs.Targets.{leads_to, none_found, said}
 use Rattle.nv_calls.proofs.Tests.{passed_before, refused_before, walk_goes_on}
 use Rattle.nv_calls.proofs.Walks.{found_below, one_byte}
@@ -45,12 +44,6 @@ module _ (w : World) (t : Tree) (cpu : ℕ) (passed : (tests : Tests) → first_
 
 pub spells_names : (text name : List ℕ) (names : List (List ℕ)) → IsPath text (name ∷ names) → Spells text (name ∷ names)
 spells_names text name names path = record { spells = path.spells; good = path.good }
-
-pub a_row : (rows : List Row) (k : ℕ) → k < length rows → (row : Row) × (slice_get rows k ≡ Some row)
-a_row rows k inside = by (slice_get rows k) refl where
-  by : (o : Option Row) → slice_get rows k ≡ o → (row : Row) × (slice_get rows k ≡ Some row)
-  by None e = absurd (none_within rows k inside e)
-  by (Some row) e = (row, e)
 
 -- what is said of each path with names, where the text is one
 pub said_names : (text : List ℕ) (Q : Path → Type 0) → (name : List ℕ) × (names : List (List ℕ)) × IsPath text (name ∷ names) → (length text ≡ 1 → ⊥) → ((name : List ℕ) (names : List (List ℕ)) → IsPath text (name ∷ names) → Q (Some (name ∷ names))) → (p : Path) → Says text p → Q p

@@ -1,5 +1,5 @@
 -- What `unlink` does, by how many links the file has.
-use Rattle.std.proofs.Common.{◌≡◌, ℕ, ◌+◌, ◌-◌, ◌%◌, ◌<◌, ◌≤◌, nat_lt, Bool, true, false, cond, List, get_or, length, slice_get, ap, sym, ◌∙◌, subst, arith, Some, Result, Ok, Err, OnOk, IfErr}
+use Rattle.std.proofs.Common.{◌≡◌, ℕ, ◌+◌, ◌-◌, ◌%◌, ◌<◌, ◌≤◌, nat_lt, Bool, true, false, cond, List, slice_get, ap, sym, ◌∙◌, subst, arith, Some, Result, Ok, Err, OnOk, IfErr}
 use Rattle.std.proofs.lemmas.Bool.Decides.{nat_tests}
 use Rattle.nv_entry.specs.declared.entry.Operation.TheVariants.{Remove}
 use Rattle.nv_logpage.specs.Append.{needed}
@@ -7,7 +7,6 @@ use Rattle.nv_scan.specs.declared.piece.Row.{Row}
 use Rattle.nv_calls.specs.LinkCalls.{links_entries}
 use Rattle.nv_calls.specs.NameCalls.{name_entries}
 use Rattle.nv_calls.specs.Unlinks.{release_blocks}
-use Rattle.nv_calls.proofs.OneRow.{placed_row}
 use Rattle.nv_calls.proofs.PutRow.{one_row}
 
 -- what holds of a value, and of an error, by what was said of it
@@ -31,13 +30,13 @@ test_more n more = grind (arith, nat_tests)
 test_last : (n : ℕ) → n ≤ 1 → nat_lt 1 n ≡ false
 test_last n few = grind (arith, nat_tests)
 
-module _ (rows : List Row) (place : ℕ) (read : Row) (within : place < length rows) (is : read ≡ get_or rows place read) (b : Bool) (test : b ≡ nat_lt 1 read.numbers.links) where
+module _ (rows : List Row) (place : ℕ) (read : Row) (read_at : slice_get rows place ≡ Some read) (b : Bool) (test : b ≡ nat_lt 1 read.numbers.links) where
   -- the row that was tested is the one at the place
   pub all_more : b ≡ true → (file : Row) → slice_get rows place ≡ Some file → 1 < file.numbers.links
-  all_more on file at = subst (λ (r : Row). 1 < r.numbers.links) (one_row (sym (placed_row rows place read within is) ∙ at)) (is_more read.numbers.links (sym test ∙ on))
+  all_more on file at = subst (λ (r : Row). 1 < r.numbers.links) (one_row (sym read_at ∙ at)) (is_more read.numbers.links (sym test ∙ on))
 
   pub all_last : b ≡ false → (file : Row) → slice_get rows place ≡ Some file → file.numbers.links ≤ 1
-  all_last off file at = subst (λ (r : Row). r.numbers.links ≤ 1) (one_row (sym (placed_row rows place read within is) ∙ at)) (is_last read.numbers.links (sym test ∙ off))
+  all_last off file at = subst (λ (r : Row). r.numbers.links ≤ 1) (one_row (sym read_at ∙ at)) (is_last read.numbers.links (sym test ∙ off))
 
 module _ (row file : Row) (name : List ℕ) (time : ℕ) where
   abbrev of_name : ℕ

@@ -52,7 +52,3 @@ both_same (x ∷ rows) zero zero a c b d at other_at differ same other_same = ab
 both_same (x ∷ rows) zero (suc j) a c b d at other_at differ same other_same = (let is : x ≡ a = cc in subst (λ (r : Row). SameRow r c) (sym is) same, set_same_rows rows j b d other_at other_same)
 both_same (x ∷ rows) (suc i) zero a c b d at other_at differ same other_same = (let is : x ≡ b = cc in subst (λ (r : Row). SameRow r d) (sym is) other_same, set_same_rows rows i a c at same)
 both_same (x ∷ rows) (suc i) (suc j) a c b d at other_at differ same other_same = ((same_rows (x ∷ [])).0, both_same rows i j a c b d at other_at (λ e. differ (ap suc e)) same other_same)
-
--- a place stays one where a row was replaced
-pub still_within : (rows : List Row) (i : ℕ) (new : Row) (k : ℕ) → k < length rows → k < length (set rows i new)
-still_within rows i new k below = let n = length-set rows i new in omega (arith, n, below)

@@ -1,13 +1,12 @@
 -- Two rows that were taken out, changed and put in again, as the rows at their two places.
-use Rattle.std.proofs.Common.{◌≡◌, ◌≢◌, ℕ, List, [], ◌∷◌, remove, set, slice_get, refl, ap, sym, ◌∙◌, subst, Option, Some, None}
+use Rattle.std.proofs.Common.{◌≡◌, ◌≢◌, ℕ, List, [], ◌∷◌, remove, set, ap, sym, ◌∙◌, Some, None}
 use Rattle.nv_region.specs.Region.{Region}
 use Rattle.nv_super.specs.declared.superblock.Super.{Super}
-use Rattle.nv_super.specs.Order.{Rises}
 use Rattle.nv_alloc.specs.FreeValue.{FreeLists}
 use Rattle.nv_entry.specs.declared.entry.Entry.{Entry}
 use Rattle.nv_scan.specs.declared.piece.Row.{Row}
-use Rattle.nv_rows.specs.Rows.{row_key, row_of, place_in, IsInUse, HasInserted}
-use Rattle.nv_rows.proofs.Places.{at_place, in_use, others_stay, places_apart, put_two, row_in_use}
+use Rattle.nv_rows.specs.Rows.{row_of, place_in, IsInUse, HasInserted}
+use Rattle.nv_rows.proofs.Places.{at_place, in_use, others_stay, places_apart, row_in_use}
 use Rattle.nv_held.specs.nv_outcome.Same.{SameRow}
 use Rattle.nv_calls.specs.MoreNames.{GrowsTwo}
 use Rattle.nv_calls.specs.NewNames.{LeavesRows}

@@ -26,6 +26,11 @@ unlink_both-done-requires-clause-file_stands g c =
     let there = row_stays c.args.rows.now.items c.take-directory.new.self.items c.args.named.now.directory c.args.named.now.target c.requires.apart c.take-directory.ensures.rows c.take-file.result c.take-file.ensures.row in
     c.requires.file_stands c.take-file.result there
 
+pub unlink_both-done-requires-clause-more : goal.unlink_both-done-requires-clause-more
+unlink_both-done-requires-clause-more g c =
+    let there = row_stays c.args.rows.now.items c.take-directory.new.self.items c.args.named.now.directory c.args.named.now.target c.requires.apart c.take-directory.ensures.rows c.take-file.result c.take-file.ensures.row in
+    c.requires.more c.take-file.result there
+
 pub insert-requires-2-clause-vacant : goal.insert-requires-2-clause-vacant
 insert-requires-2-clause-vacant g c =
     let number = c.unlink_both-done.ensures.inode ∙ c.take-directory.ensures.number in
