@@ -1,13 +1,10 @@
 -- Two logs that were grown and whose rows were settled: what is owed before the commit, and what was done.
-use Rattle.std.proofs.Common.{◌≡◌, refl, ◌≢◌, ℕ, ◌+◌, ◌/◌, ◌%◌, ◌<◌, ◌≤◌, List, [], ◌∷◌, ◌++◌, length, take, drop, set, slice_get, ap, sym, ◌∙◌, subst, arith, Some, Bool, true, false, cond, vec_len, vec_capacity, length-set}
+use Rattle.std.proofs.Common.{◌≡◌, refl, ◌≢◌, ℕ, ◌+◌, ◌/◌, ◌%◌, ◌≤◌, List, [], ◌∷◌, ◌++◌, length, take, drop, ap, sym, ◌∙◌, subst, arith, Bool, true, false, cond, vec_len, vec_capacity}
 use Rattle.std.proofs.lemmas.List.{length-drop, length-take-le, take-append-drop}
-use Rattle.std.proofs.lemmas.Option.{get_or_from_slice_get, slice_get_within}
 use Rattle.nv_region.specs.Region.{Region, size}
 use Rattle.nv_region.specs.Stops.{IsMixed}
 use Rattle.nv_super.specs.declared.superblock.Super.{Super}
 use Rattle.nv_super.specs.Layout.{slot_address}
-use Rattle.nv_super.specs.Order.{Rises}
-use Rattle.nv_super.proofs.RisingPlaces.{one_place}
 use Rattle.nv_alloc.specs.FreeValue.{FreeLists}
 use Rattle.nv_entry.specs.declared.entry.Entry.{Entry}
 use Rattle.nv_logpage.specs.Append.{AreGiven, EndBy, end_of, needed}
@@ -15,7 +12,6 @@ use Rattle.nv_names.specs.Names.{EachOnce, Names, name_at}
 use Rattle.nv_held.specs.nv_outcome.Same.{SameRow}
 use Rattle.nv_radix.specs.Pages.{Pages, block_at}
 use Rattle.nv_scan.specs.declared.piece.Row.{Row}
-use Rattle.nv_held.specs.nv_check.Cross.{row_key}
 use Rattle.nv_held.specs.Held.{Held, Store}
 use Rattle.nv_commit.specs.declared.together.Extension.{Extension}
 use Rattle.nv_commit.specs.Extends.{with_log}
@@ -26,10 +22,6 @@ use Rattle.nv_calls.specs.MoreNames.{AppendsLogs, GrowsSame, NamesOnce, ReadiesR
 use Rattle.nv_calls.specs.NewNames.{CanName}
 use Rattle.nv_calls.specs.Steps.{ShowsRow}
 use Rattle.nv_calls.specs.Taken.{TakesEach}
-use Rattle.nv_calls.proofs.PutRow.{one_row}
-use Rattle.nv_calls.proofs.RowChange.{at_set}
-use Rattle.nv_calls.proofs.SetRows.{both_twice, first_set, second_set}
-use Rattle.nv_calls.proofs.TakenOut.{other_set}
 use Rattle.nv_calls.proofs.TwoLogs.{as_extension, can_extend_two, cut_each, row_commits, stands_after}
 
 -- one entry takes a page at most

@@ -36,16 +36,16 @@ here_count from_is number name_is other_is time_is = λ k. needed ((from_is k).t
 pub moves_here : {R S : Region} {s : Super} {free after : FreeLists} (rows : List Row) {place end target i : ℕ} {n name o other : List ℕ} {t time : ℕ} (row now moved : Row) → place ≡ end → slice_get rows end ≡ Some row → slice_get rows target ≡ Some moved → i ≡ moved.inode → n ≡ name → o ≡ other → t ≡ time
     → MovesWithin R S s free after row now i n o t → MovesAt R S s free after rows (set rows end now) place target end name other time
 moves_here {R} {S} {s} {free} {after} rows {i = i} {n = n} {name = name} {o = o} {other = other} {t = t} {time = time} row now moved same at moved_at number name_is other_is time_is step =
-  let words : (i, n, o, t) ≡ (moved.inode, name, other, time) = λ k. (number k, name_is k, other_is k, time_is k) in
-  inl (
-  same,
-  record {
-    row = row;
-    now = now;
-    moved = moved;
-    at = ap (slice_get rows) same ∙ at;
-    moved_at = moved_at;
-    step = subst (λ (w : ℕ × List ℕ × List ℕ × ℕ). MovesWithin R S s free after row now w.0 w.1 w.2 w.3) words step;
-    put = ap (λ (k : ℕ). set rows k now) (sym same);
-  },
-)
+    let words : (i, n, o, t) ≡ (moved.inode, name, other, time) = λ k. (number k, name_is k, other_is k, time_is k) in
+    inl (
+      same,
+      record {
+        row = row;
+        now = now;
+        moved = moved;
+        at = ap (slice_get rows) same ∙ at;
+        moved_at = moved_at;
+        step = subst (λ (w : ℕ × List ℕ × List ℕ × ℕ). MovesWithin R S s free after row now w.0 w.1 w.2 w.3) words step;
+        put = ap (λ (k : ℕ). set rows k now) (sym same);
+      },
+    )

@@ -71,15 +71,15 @@ pub both_count : {a from b to : Row} {i j : ℕ} {n name o other : List ℕ} {t 
     → needed (a.tail % 4096) (name_entries Remove i n t) + needed (b.tail % 4096) (name_entries Add i o t) ≡ needed (from.tail % 4096) (name_entries Remove j name time) + needed (to.tail % 4096) (name_entries Add j other time)
 both_count from_is to_is number name_is other_is time_is = λ k. needed ((from_is k).tail % 4096) (name_entries Remove (number k) (name_is k) (time_is k)) + needed ((to_is k).tail % 4096) (name_entries Add (number k) (other_is k) (time_is k))
 
+-- the move, by the row of the inode
 pub moves_across : {R S : Region} {s : Super} {free after : FreeLists} {rows news : List Row} {place target end : ℕ} {from to : Row} {i : ℕ} {n name o other : List ℕ} {t time : ℕ} (moved : Row) → slice_get rows target ≡ Some moved → i ≡ moved.inode → n ≡ name → o ≡ other → t ≡ time
     → GrowsTwo R S s free after rows news place from (name_entries Remove i n t) end to (name_entries Add i o t) (λ fresh now. LosesName from n i t fresh now) (λ more now. GetsName to o i t more now) → MovesAcross R S s free after rows news place target end name other time
 moves_across {R} {S} {s} {free} {after} {rows} {news} {place} {target} {end} {from} {to} {i} {n} {name} {o} {other} {t} {time} moved moved_at number name_is other_is time_is step =
-  let same : (i, n, o, t) ≡ (moved.inode, name, other, time) = λ k. (number k, name_is k, other_is k, time_is k) in
-  record {
-  from = from;
-  to = to;
-  moved = moved;
-  moved_at = moved_at;
-  step = subst (λ (w : ℕ × List ℕ × List ℕ × ℕ). GrowsTwo R S s free after rows news place from (name_entries Remove w.0 w.1 w.3) end to (name_entries Add w.0 w.2 w.3) (λ fresh now. LosesName from w.1 w.0 w.3 fresh now) (λ more now. GetsName to w.2 w.0 w.3 more now))
-      same step;
-}
+    let same : (i, n, o, t) ≡ (moved.inode, name, other, time) = λ k. (number k, name_is k, other_is k, time_is k) in
+    record {
+      from = from;
+      to = to;
+      moved = moved;
+      moved_at = moved_at;
+      step = subst (λ (w : ℕ × List ℕ × List ℕ × ℕ). GrowsTwo R S s free after rows news place from (name_entries Remove w.0 w.1 w.3) end to (name_entries Add w.0 w.2 w.3) (λ fresh now. LosesName from w.1 w.0 w.3 fresh now) (λ more now. GetsName to w.2 w.0 w.3 more now)) same step;
+    }

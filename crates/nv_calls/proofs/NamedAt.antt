@@ -1,5 +1,5 @@
 -- What the last name of a path stands for, and why a call on it is refused.
-use Rattle.std.proofs.Common.{◌≡◌, ℕ, ◌<◌, false, List, [], ◌∷◌, ◌++◌, length, ap, sym, ◌∙◌, Option, Some, None, Result, Ok, is_none, option_copied, Bor}
+use Rattle.std.proofs.Common.{◌≡◌, ℕ, false, List, [], ◌∷◌, ◌++◌, length, ap, sym, ◌∙◌, Option, Some, None, Result, Ok, is_none, option_copied, Bor}
 use Rattle.std.specs.Option.{option_and_then, option_map}
 use Rattle.nv_region.specs.Region.{Region}
 use Rattle.nv_super.specs.declared.kind.Kind.TheVariants.{Directory}

@@ -8,13 +8,12 @@ use Rattle.std.proofs.lemmas.Bool.Decides.{nat_tests}
 use Rattle.nv_region.specs.Region.{Region}
 use Rattle.nv_super.specs.declared.superblock.Super.{Super}
 use Rattle.nv_super.specs.declared.faults.Fault.{Fault}
-use Rattle.nv_super.specs.Layout.{HasAreas, inode_limit, is_number, system_blocks}
+use Rattle.nv_super.specs.Layout.{inode_limit, is_number, system_blocks}
 use Rattle.nv_journal.specs.Undo.{enqueue, is_sound}
 use Rattle.nv_journal.specs.Pending.{IsEmpty}
 use Rattle.nv_alloc.specs.FreeValue.{FreeLists}
 use Rattle.nv_scan.specs.declared.piece.Row.{Row}
 use Rattle.nv_held.specs.nv_named.Read.{row_of}
-use Rattle.nv_held.proofs.nv_outcome.SuperOf.{layout_of_super}
 use Rattle.nv_held.specs.Held.{Store}
 use Rattle.nv_held.specs.Mounted.{IsMounted}
 use Rattle.nv_held.proofs.Kept.{pages_data, tail_there}
@@ -57,6 +56,7 @@ in_table m cpu cpus tables low below = let rows : suc m * cpus ≤ 32 * tables *
 number_by : (s : Super) (j : ℕ) → nat_eq j 0 ≡ false → j < 32 * s.cpus * s.table_blocks → IsTrue (is_number s j)
 number_by s j some below = grind (arith, nat_tests)
 
+-- the number of an inode is below the limit
 pub number_below : (s : Super) (j : ℕ) → IsTrue (is_number s j) → j < inode_limit s
 number_below s j number = grind (arith, nat_tests)
 
@@ -75,27 +75,23 @@ unused_is s rows cpu j low e =
 last_number : (R : Region) (cpu : ℕ) → is_sound R cpu ≡ true → enqueue R cpu < 252
 last_number R cpu sound = grind (arith, nat_tests)
 
-module _ {R : Region} {s : Super} {rows : List Row} {free : FreeLists} {faults : List Fault} {read_only stopped : Bool} (kept : IsKept R s rows free faults read_only stopped) (runs : stopped ≡ false) where
-  pub kept_areas : HasAreas s
-  kept_areas = ∥∥₁_elim (kept.shown runs) (hlevel (props, ℕ_set)) (λ w. (let layout = layout_of_super R s w.1.sup in layout.areas))
+module _ {R : Region} {s : Super} {rows : List Row} {free : FreeLists} {faults : List Fault} {read_only stopped : Bool} (kept : IsKept R s rows free faults read_only stopped) (runs : stopped ≡ false) (writes : read_only ≡ false) where
+  nothing_waits : (cpu : ℕ) → cpu < s.cpus → IsEmpty R cpu
+  nothing_waits cpu low = ∥∥₁_elim (mounted_of_kept kept runs writes) (hlevel (props, ℕ_set)) (λ w. (let m = w.1 in let sound = m.sound in let idle = sound.idle cpu low in (idle.1, last_number R cpu idle.0)))
 
-  module _ (writes : read_only ≡ false) where
-    nothing_waits : (cpu : ℕ) → cpu < s.cpus → IsEmpty R cpu
-    nothing_waits cpu low = ∥∥₁_elim (mounted_of_kept kept runs writes) (hlevel (props, ℕ_set)) (λ w. (let m = w.1 in let sound = m.sound in let idle = sound.idle cpu low in (idle.1, last_number R cpu idle.0)))
+  in_data : (row : Row) → Contains rows row → system_blocks s ≤ row.tail / 4096
+  in_data row c = ∥∥₁_elim (mounted_of_kept kept runs writes) (hlevel (props, ℕ_set)) (λ w. by w.0 w.1) where
+    by : (held : Store) → IsMounted R s held rows free.pools → system_blocks s ≤ row.tail / 4096
+    by held m =
+        let w = shows_row {free = free} m kept.lists row c in
+        let shown = w.1 in
+        let sound = m.sound in
+        let v = stands_at sound.shows row.inode w.0 shown.holds in
+        let from = pages_data v.is.right v.is.reads (w.0.tail / 4096) (tail_there v.is.right v.is.reads) in
+        let told = shown.told in
+        let tail = told.tail in
+        omega (arith, from, tail)
 
-    in_data : (row : Row) → Contains rows row → system_blocks s ≤ row.tail / 4096
-    in_data row c = ∥∥₁_elim (mounted_of_kept kept runs writes) (hlevel (props, ℕ_set)) (λ w. by w.0 w.1) where
-      by : (held : Store) → IsMounted R s held rows free.pools → system_blocks s ≤ row.tail / 4096
-      by held m =
-          let w = shows_row {free = free} m kept.lists row c in
-          let shown = w.1 in
-          let sound = m.sound in
-          let v = stands_at sound.shows row.inode w.0 shown.holds in
-          let from = pages_data v.is.right v.is.reads (w.0.tail / 4096) (tail_there v.is.right v.is.reads) in
-          let told = shown.told in
-          let tail = told.tail in
-          omega (arith, from, tail)
-
-    -- What is known where a new inode gets a name.
-    pub can_name : (cpu j : ℕ) → cpu < s.cpus → IsTrue (is_number s j) → (row : Row) → Contains rows row → CanName R s cpu j row
-    can_name cpu j low number row c = record { cpu_below = low; journal_empty = nothing_waits cpu low; number = number; in_data = in_data row c }
+  -- What is known where a new inode gets a name.
+  pub can_name : (cpu j : ℕ) → cpu < s.cpus → IsTrue (is_number s j) → (row : Row) → Contains rows row → CanName R s cpu j row
+  can_name cpu j low number row c = record { cpu_below = low; journal_empty = nothing_waits cpu low; number = number; in_data = in_data row c }

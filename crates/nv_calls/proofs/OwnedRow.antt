@@ -1,10 +1,10 @@
 -- What is known of a row whose inode goes: its blocks are its own.
-use Rattle.std.proofs.Common.{◌≡◌, ◌≢◌, ℕ, ◌*◌, ◌<◌, ◌≤◌, Bool, false, List, length, get_or, set, slice_get, ap, sym, ◌∙◌, subst, arith, Some}
+use Rattle.std.proofs.Common.{◌≡◌, ℕ, ◌*◌, ◌<◌, ◌≤◌, Bool, false, List, length, get_or, slice_get, ap, sym, ◌∙◌, subst, arith, Some}
 use Rattle.std.specs.List.{Contains}
 use Rattle.std.proofs.Math.Logic.{∥∥₁_elim}
 use Rattle.std.proofs.Math.Nat.{ℕ_set}
 use Rattle.std.proofs.Props.{props}
-use Rattle.std.proofs.lemmas.Option.{get_or_from_slice_get, slice_get-get_or}
+use Rattle.std.proofs.lemmas.Option.{slice_get-get_or}
 use Rattle.nv_region.specs.Region.{Region}
 use Rattle.nv_super.specs.declared.superblock.Super.{Super}
 use Rattle.nv_super.specs.declared.owners.Owner.TheVariants as owners
@@ -31,7 +31,6 @@ use Rattle.nv_calls.proofs.GivenPages.{own_row, own_taken, was_free}
 use Rattle.nv_calls.proofs.Mounts.{mounted_of_kept}
 use Rattle.nv_calls.proofs.OneRow.{shows_row}
 use Rattle.nv_calls.proofs.TakenBlocks.{taken_sup}
-use Rattle.nv_calls.proofs.TakenOut.{other_set, places_differ}
 
 -- ---- its blocks
 
@@ -118,9 +117,3 @@ owns_taken {old} {new} {fresh} {row} taken own =
       apart = own.apart;
       below = own.below;
     }
-
--- The row that is taken out is the one that was at its place.
-pub taken_out : (rows : List Row) (place target : ℕ) (row now gone out : Row) → slice_get rows place ≡ Some row → slice_get rows target ≡ Some gone → row.inode ≢ gone.inode → out ≡ get_or (set rows place now) target out → gone ≡ out
-taken_out rows place target row now gone out at gone_at differ is =
-    let there : slice_get (set rows place now) target ≡ Some gone = other_set rows place target now (places_differ rows place target row gone at gone_at differ) ∙ gone_at in
-    sym (get_or_from_slice_get (set rows place now) target gone out there) ∙ sym is

@@ -1,5 +1,5 @@
 -- Rows of which one was settled, before another is put in.
-use Rattle.std.proofs.Common.{◌≡◌, ◌≢◌, ℕ, List, [], ◌∷◌, set, slice_get, refl, ap, sym, ◌∙◌, subst, Some, None}
+use Rattle.std.proofs.Common.{◌≡◌, ℕ, List, [], ◌∷◌, set, slice_get, refl, ap, sym, ◌∙◌, subst, Some}
 use Rattle.std.proofs.Math.Seq.{map-set_same}
 use Rattle.nv_super.specs.Order.{Rises}
 use Rattle.nv_super.proofs.RisingPlaces.{rises_keys}
@@ -7,11 +7,9 @@ use Rattle.nv_alloc.specs.FreeValue.{FreeLists}
 use Rattle.nv_scan.specs.declared.piece.Row.{Row}
 use Rattle.nv_held.specs.nv_check.Cross.{row_key}
 use Rattle.nv_held.specs.nv_outcome.Same.{SameRows}
-use Rattle.nv_held.specs.nv_named.Read.{row_of}
 use Rattle.nv_calls.specs.NewNames.{LeavesRows}
 use Rattle.nv_calls.specs.Steps.{LeavesStep}
-use Rattle.nv_calls.proofs.RowChange.{number_at, row_of_other, same_rows, set_same_rows}
-use Rattle.nv_calls.proofs.RowOf.{row_at}
+use Rattle.nv_calls.proofs.RowChange.{number_at, same_rows, set_same_rows}
 
 pub leaves_all : {P : Type 0} (memory : P) (free : FreeLists) (old new : List Row) → new ≡ old → LeavesRows memory memory free free old new
 leaves_all memory free old new same = record { memory = refl; free = record { sup = refl; pools = refl }; rows = subst (λ (rows : List Row). SameRows old rows) (sym same) (same_rows old) }
@@ -21,13 +19,6 @@ module _ (rows kept : List Row) (place : ℕ) (row new : Row) (items : kept ≡ 
   pub set_rises : Rises row_key rows → new.inode ≡ row.inode → Rises row_key (set kept place new)
   set_rises rising number = subst (λ (rs : List Row). Rises row_key (set rs place new)) (sym items)
       (rises_keys row_key rows (set rows place new) (sym (map-set_same row_key rows place new new (ap (λ (n : ℕ). n ∷ []) (number ∙ sym (number_at rows place row new at))))) rising)
-
-  -- and no other number comes
-  pub set_unused : Rises row_key rows → new.inode ≡ row.inode → (i j : ℕ) → i ≡ j → row_of rows j ≡ None → row_of (set kept place new) i ≡ None
-  set_unused rising number i j same none =
-      let own : row_of rows row.inode ≡ Some row = row_at rows place row rising at in
-      let differ : j ≢ row.inode = (λ e. (let clash : Some row ≡ None = sym own ∙ ap (row_of rows) (sym e) ∙ none in cc)) in
-      ap (λ (rs : List Row). row_of (set rs place new) i) items ∙ ap (row_of (set rows place new)) same ∙ row_of_other rows place row new j at differ (λ e. differ (e ∙ number)) ∙ none
 
   -- a step on it that was refused
   pub leaves_set : {P : Type 0} (memory now : P) (free after : FreeLists) → LeavesStep memory now free after row new → LeavesRows memory now free after rows (set kept place new)

@@ -1,7 +1,6 @@
-use Rattle.std.proofs.Common.{◌≡◌, ◌∙◌, ◌+◌, ◌%◌, ◌≤◌, ◌∷◌, [], ℕ, ap, subst, sym}
+use Rattle.std.proofs.Common.{◌∙◌, ◌≤◌, ℕ, ap, subst, sym}
 use Rattle.nv_alloc.specs.Taking.{all_blocks}
-use Rattle.nv_scan.specs.declared.piece.Row.{Row}
-use Rattle.nv_rows.specs.Rows.{place_in, row_of}
+use Rattle.nv_rows.specs.Rows.{row_of}
 use Rattle.nv_rows.proofs.Places.{at_place, numbered, put_two, row_in_use}
 use Rattle.nv_tree.specs.declared.refusal.Refusal.{Refusal}
 use Rattle.nv_calls.specs.Steps.{RefusesStep}

@@ -1,4 +1,4 @@
-use Rattle.std.proofs.Common.{◌≡◌, ◌∙◌, ◌%◌, ◌≤◌, ℕ, ap, inr, subst, sym}
+use Rattle.std.proofs.Common.{◌∙◌, ◌≤◌, ℕ, ap, inr, subst, sym}
 use Rattle.nv_alloc.specs.Taking.{all_blocks}
 use Rattle.nv_rows.specs.Rows.{place_in, row_of}
 use Rattle.nv_rows.proofs.Places.{at_place, numbered, places_apart, put_one, row_in_use}

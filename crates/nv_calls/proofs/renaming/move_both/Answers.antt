@@ -1,4 +1,4 @@
-use Rattle.std.proofs.Common.{◌∙◌, ◌+◌, ◌%◌, ◌∷◌, [], ap, subst, arith}
+use Rattle.std.proofs.Common.{◌∙◌, ◌+◌, ◌%◌, ◌∷◌, [], ap, subst}
 use Rattle.std.proofs.lemmas.Result.{err_from_is_err_and}
 use Rattle.nv_entry.specs.declared.entry.Entry.{Entry}
 use Rattle.nv_entry.specs.declared.entry.Operation.TheVariants.{Add, Remove}

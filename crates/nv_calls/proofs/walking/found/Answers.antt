@@ -1,8 +1,6 @@
 use Rattle.std.proofs.Common.{◌≡◌, ap, sym, ◌∙◌, refl, Some, None}
 use Rattle.std.specs.Option.{option_map}
 use Rattle.nv_names.specs.Names.{name_at, inode_and_place}
-use Rattle.nv_tree.specs.Tree.{walk}
-use Rattle.nv_calls.specs.Seen.{tree_of}
 use Rattle.nv_calls.proofs.Targets.{held_by}
 use Rattle.nv_calls.proofs.Walks.{one_byte, longer, found_below, rows_in_use}
 use Rattle.nv_calls.proofs.walking.found.Goals as goal

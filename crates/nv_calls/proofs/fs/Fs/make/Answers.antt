@@ -48,7 +48,7 @@ returns-in_err-writable-clause-stopped g c runs =
 pub spot_for-requires : goal.spot_for-requires
 spot_for-requires g c =
     let low : c.args.cpu < c.self.inside.sup.cpus = subst (λ (m : Mount g.row.P.Denot). c.args.cpu < m.sup.cpus) (sym c.self.view_is) c.in_ok-writable.ensures.cpu in
-    subst (λ (s : Super). c.args.cpu < s.cpus) (sym c.self.invariant.1) low
+    record { cpu = subst (λ (s : Super). c.args.cpu < s.cpus) (sym c.self.invariant.1) low }
 
 pub returns-in_err-spot-clause-refused : goal.returns-in_err-spot-clause-refused
 returns-in_err-spot-clause-refused g c still p says =
@@ -71,7 +71,8 @@ returns-in_err-spot-clause-stopped g c runs =
     let said = text_says c.args.path.now in
     let told = c.in_err-spot.ensures.refused (g.P.Pmem.region c.self.inside.memory) said.0 said.1 in
     early_reply c.args.self.now.stopped c.from_residual-in_err-spot.result c.in_err-spot.field-0.0 w.0 w.1 w.2
-    (λ is. spot_goes_on (tree_of (g.P.Pmem.region c.self.inside.memory) c.self.inside.rows.items) _ said.0 (told ∙ ap (λ (e : Refusal). Some e) is)) runs
+    (λ is. spot_goes_on (tree_of (g.P.Pmem.region c.self.inside.memory) c.self.inside.rows.items) (unused_number c.self.inside.rows.sup c.self.inside.rows.items c.args.cpu) said.0
+    (subst (λ (e : Refusal). first_refusal (spot_tests (tree_of (g.P.Pmem.region c.self.inside.memory) c.self.inside.rows.items) (unused_number c.self.inside.rows.sup c.self.inside.rows.items c.args.cpu) said.0) ≡ Some e) is told)) runs
 
 pub create_at-requires-clause-limit : goal.create_at-requires-clause-limit
 create_at-requires-clause-limit g c =

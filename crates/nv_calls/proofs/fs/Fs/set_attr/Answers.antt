@@ -1,13 +1,12 @@
-use Rattle.std.proofs.Common.{◌≡◌, ◌∙◌, ◌<◌, ◌⊎◌, ◌++◌, ◌∷◌, [], List, ℕ, Some, None, false, inr, length, ap, set, slice_get, subst, sym}
+use Rattle.std.proofs.Common.{◌≡◌, ◌∙◌, ◌⊎◌, ◌++◌, ◌∷◌, [], List, ℕ, Some, false, inr, ap, set, subst, sym}
 use Rattle.std.proofs.lemmas.Result.{err_from_is_err_and}
 use Rattle.nv_held.specs.Held.{Held, Store}
-use Rattle.nv_held.specs.nv_named.Read.{row_of}
 use Rattle.nv_scan.specs.declared.piece.Row.{Row}
 use Rattle.nv_tree.specs.declared.refusal.Refusal.{Refusal}
 use Rattle.nv_tree.specs.declared.refusal.Refusal.TheVariants.{Memory, Stopped}
 use Rattle.nv_tree.specs.Calls.{with_attributes}
 use Rattle.nv_tree.specs.Path.{IsPath}
-use Rattle.nv_tree.specs.Refusals.{first_refusal, has_no_space, is_bad, is_missing, set_attr_tests, stat_tests, walk_tests}
+use Rattle.nv_tree.specs.Refusals.{first_refusal, has_no_space, is_bad, is_missing, set_attr_tests, walk_tests}
 use Rattle.nv_tree.proofs.Texts.{text_says}
 use Rattle.nv_calls.specs.Attributes.{attributes, attributes_blocks}
 use Rattle.nv_calls.specs.Mount.{Mount}
@@ -15,7 +14,7 @@ use Rattle.nv_calls.specs.Seen.{LeadsTo, node_of, tree_of}
 use Rattle.nv_calls.specs.Steps.{ShowsRow}
 use Rattle.nv_calls.specs.World.{world_of}
 use Rattle.nv_calls.proofs.Attributed.{attributed_node}
-use Rattle.nv_calls.proofs.Kept.{rows_rise, refused_as}
+use Rattle.nv_calls.proofs.Kept.{refused_as}
 use Rattle.nv_calls.proofs.Listed.{refused_by}
 use Rattle.nv_rows.specs.Rows.{place_in}
 use Rattle.nv_rows.proofs.Places.{at_place, own_row, put_one}

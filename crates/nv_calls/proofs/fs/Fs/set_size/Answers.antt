@@ -1,9 +1,8 @@
-use Rattle.std.proofs.Common.{◌≡◌, ◌∙◌, ◌<◌, ◌≤◌, ◌⊎◌, ◌++◌, ◌∷◌, [], List, ℕ, Some, None, false, inr, length, ap, set, slice_get, subst, sym}
+use Rattle.std.proofs.Common.{◌≡◌, ◌∙◌, ◌≤◌, ◌⊎◌, ◌++◌, ◌∷◌, [], List, ℕ, Some, false, inr, ap, set, subst, sym}
 use Rattle.std.proofs.lemmas.Result.{err_from_is_err_and}
 use Rattle.nv_alloc.specs.Taking.{all_blocks}
 use Rattle.nv_radix.specs.Pages.{block_at}
 use Rattle.nv_held.specs.Held.{Held, Store}
-use Rattle.nv_held.specs.nv_named.Read.{row_of}
 use Rattle.nv_scan.specs.declared.piece.Row.{Row}
 use Rattle.nv_super.specs.declared.kind.Kind.TheVariants.{File}
 use Rattle.nv_tree.specs.declared.refusal.Refusal.{Refusal}
@@ -17,15 +16,13 @@ use Rattle.nv_calls.specs.Seen.{LeadsTo, node_of, tree_of}
 use Rattle.nv_calls.specs.Sizes.{end_block, resized_blocks, resizing, sized}
 use Rattle.nv_calls.specs.Steps.{RefusesStep, ShowsRow}
 use Rattle.nv_calls.specs.World.{world_of}
-use Rattle.nv_calls.proofs.Kept.{rows_rise}
 use Rattle.nv_calls.proofs.Listed.{refused_by}
 use Rattle.nv_rows.specs.Rows.{place_in}
 use Rattle.nv_rows.proofs.Places.{at_place, own_row, put_one}
 use Rattle.nv_calls.proofs.PutRow.{one_row}
-use Rattle.nv_calls.proofs.OneRow.{placed_row}
 use Rattle.nv_calls.proofs.RowChange.{kept_after, same_mount, tree_after}
 use Rattle.nv_calls.proofs.SetAttr.{kept_or_stopped, late_reply, not_stop, unchanged_step}
-use Rattle.nv_calls.proofs.SetSize.{front_goes_on, front_tests, resized_node, size_allowed, size_changed, size_front, size_logged, size_refused}
+use Rattle.nv_calls.proofs.SetSize.{front_goes_on, resized_node, size_allowed, size_changed, size_front, size_logged, size_refused}
 use Rattle.nv_calls.proofs.SizeKept.{blocks_same, bytes_after, can_resize, log_after}
 use Rattle.nv_calls.proofs.Tests.{early_reply, if_err, writing_goes_on}
 use Rattle.nv_calls.proofs.fs.Fs.set_size.Goals as goal
@@ -83,9 +80,11 @@ invariant_of-self g c =
     let rows = c.self.inside.rows.items in
     let inode = c.in_ok-inode.field-0.now.inode in
     let at = at_place rows inode ∙ c.take-row.ensures.row in
-    let put = put_one rows c.take-row.new.self.items c.insert.new.self.items inode c.take-row.result c.resize-resized.new.row c.take-row.ensures.rising c.take-row.ensures.row c.take-row.ensures.rows (c.resize-resized.ensures.inode ∙ c.take-row.ensures.number) c.insert.ensures.rows in
-    (rw put (kept_after c.self.invariant.0 runs writes (place_in rows inode) c.take-row.result c.resize-resized.new.row at (resizing c.take-row.result.numbers.size (sized (node_of (g.P.Pmem.region c.self.inside.memory) c.take-row.result) c.args.size c.args.time) c.in-Ok.ensures.resized.to)
-    (λ held h shows. c.in-Ok.ensures.resized.follows held h shows) c.resize-resized.ensures.lists c.self.inside.stopped), c.insert.ensures.sup ∙ c.take-row.ensures.sup ∙ c.self.invariant.1)
+    let put = put_one rows c.take-row.new.self.items c.insert.new.self.items inode c.take-row.result c.resize-resized.new.row c.take-row.ensures.rising c.take-row.ensures.row c.take-row.ensures.rows (c.resize-resized.ensures.inode ∙ c.take-row.ensures.number) c.insert.ensures.rows in (
+      rw put (kept_after c.self.invariant.0 runs writes (place_in rows inode) c.take-row.result c.resize-resized.new.row at (resizing c.take-row.result.numbers.size (sized (node_of (g.P.Pmem.region c.self.inside.memory) c.take-row.result) c.args.size c.args.time) c.in-Ok.ensures.resized.to)
+          (λ held h shows. c.in-Ok.ensures.resized.follows held h shows) c.resize-resized.ensures.lists c.self.inside.stopped),
+      c.insert.ensures.sup ∙ c.take-row.ensures.sup ∙ c.self.invariant.1,
+    )
 
 pub invariant_of-self-in-Err : goal.invariant_of-self-in-Err
 invariant_of-self-in-Err g c =

@@ -1,7 +1,6 @@
-use Rattle.std.proofs.Common.{◌≡◌, ◌∙◌, ◌+◌, ◌<◌, ◌≤◌, ◌⊎◌, ◌++◌, ◌∷◌, [], List, ℕ, Some, None, false, inr, length, ap, set, slice_get, subst, sym, arith}
+use Rattle.std.proofs.Common.{◌≡◌, ◌∙◌, ◌+◌, ◌≤◌, ◌⊎◌, ◌++◌, ◌∷◌, [], List, ℕ, Some, None, false, inr, length, ap, set, subst, sym, arith}
 use Rattle.std.proofs.lemmas.Result.{err_from_is_err_and}
 use Rattle.nv_held.specs.Held.{Held, Store}
-use Rattle.nv_held.specs.nv_named.Read.{row_of}
 use Rattle.nv_scan.specs.declared.piece.Row.{Row}
 use Rattle.nv_super.specs.declared.kind.Kind.TheVariants.{File}
 use Rattle.nv_tree.specs.declared.refusal.Refusal.{Refusal}
@@ -19,7 +18,6 @@ use Rattle.nv_calls.specs.Writes.{NeedsBlocks, data_entries}
 use Rattle.nv_calls.specs.Written.{RefusesWrite}
 use Rattle.nv_calls.specs.declared.planning.Plan.{Plan}
 use Rattle.nv_calls.proofs.FileStanding.{file_stands}
-use Rattle.nv_calls.proofs.Kept.{rows_rise}
 use Rattle.nv_calls.proofs.Listed.{refused_by}
 use Rattle.nv_rows.specs.Rows.{place_in}
 use Rattle.nv_rows.proofs.Places.{at_place, own_row, put_one}
