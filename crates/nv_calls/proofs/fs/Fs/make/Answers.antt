@@ -45,8 +45,8 @@ returns-in_err-writable-clause-stopped g c runs =
     early_reply c.args.self.now.stopped c.from_residual.result c.in_err-writable.field-0.0 w.0 w.1 w.2
     (λ is. writing_goes_on (world_of c.args.self.now) c.args.cpu (c.in_err-writable.ensures.refused runs [] ∙ ap (λ (e : Refusal). Some e) is)) runs
 
-pub spot_for-requires-clause-cpu : goal.spot_for-requires-clause-cpu
-spot_for-requires-clause-cpu g c =
+pub spot_for-requires : goal.spot_for-requires
+spot_for-requires g c =
     let low : c.args.cpu < c.self.inside.sup.cpus = subst (λ (m : Mount g.row.P.Denot). c.args.cpu < m.sup.cpus) (sym c.self.view_is) c.in_ok-writable.ensures.cpu in
     subst (λ (s : Super). c.args.cpu < s.cpus) (sym c.self.invariant.1) low
 
