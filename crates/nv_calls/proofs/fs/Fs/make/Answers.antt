@@ -48,7 +48,7 @@ returns-in_err-writable-clause-stopped g c runs =
 pub spot_for-requires : goal.spot_for-requires
 spot_for-requires g c =
     let low : c.args.cpu < c.self.inside.sup.cpus = subst (λ (m : Mount g.row.P.Denot). c.args.cpu < m.sup.cpus) (sym c.self.view_is) c.in_ok-writable.ensures.cpu in
-    subst (λ (s : Super). c.args.cpu < s.cpus) (sym c.self.invariant.1) low
+    record { cpu = subst (λ (s : Super). c.args.cpu < s.cpus) (sym c.self.invariant.1) low }
 
 pub returns-in_err-spot-clause-refused : goal.returns-in_err-spot-clause-refused
 returns-in_err-spot-clause-refused g c still p says =
