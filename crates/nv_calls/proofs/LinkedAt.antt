@@ -1,5 +1,5 @@
 -- A link count and a name, once both logs have grown and the rows are settled.
-use Rattle.std.proofs.Common.{◌≡◌, ◌≢◌, ℕ, ◌+◌, ◌-◌, ◌<◌, cond, nat_eq, List, length, set, slice_get, ap, sym, ◌∙◌, subst, arith, Some, length-set}
+use Rattle.std.proofs.Common.{◌≡◌, ◌≢◌, ℕ, ◌+◌, ◌-◌, cond, nat_eq, List, set, slice_get, ap, sym, ◌∙◌, subst, Some}
 use Rattle.std.specs.Cmp.Lexicographic.{pointwise}
 use Rattle.nv_region.specs.Region.{Region}
 use Rattle.nv_super.specs.declared.superblock.Super.{Super}
@@ -49,13 +49,6 @@ adds_after {old} {mid} {new} {more} {end} {place} {spot} name j time grew adds a
       index = λ p. (λ t. block_at (rest.index t) p) ∙ grew.index p;
       names = λ q. adds.names q ∙ (λ t. cond (pointwise nat_eq q name) (Some (j, at t)) (grew.names q t));
     }
-
--- a place of the rows is one of the grown rows
-pub grown_within : {R S : Region} {s : Super} {free after : FreeLists} {rows news : List Row} {i j : ℕ} {entries others : List Entry} → AppendsLogs R S s free after rows news i entries j others → (k : ℕ) → k < length rows → k < length news
-grown_within {rows = rows} {news = news} {i = i} {j = j} grew k below =
-    let step = grew.step in
-    let n : length news ≡ length rows = ap (λ (rs : List Row). length rs) step.put ∙ length-set (set rows i step.first_now) j step.second_now ∙ length-set rows i step.first_now in
-    omega (arith, n, below)
 
 module _ {R S : Region} {s : Super} {free after : FreeLists} {rows mid : List Row} {i j time : ℕ} {name : List ℕ} (read : Row) (grew : AppendsLogs R S s free after rows mid i (links_entries (read.numbers.links + 1) time) j (name_entries Add read.inode name time)) (read_at : slice_get rows i ≡ Some read) (differ : i ≢ j) where
   abbrev entries : List Entry
