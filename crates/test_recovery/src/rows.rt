@@ -2,7 +2,6 @@
 
 ghost use Rattle.std.specs.Prelude.{◌≡◌, ◌<◌, IfOk};
 ghost use Rattle.nv_super.specs.Layout.{inode_limit};
-ghost use Rattle.test_recovery.specs.contracts.small.{SMALL};
 
 use crate::small::SMALL;
 use nv_names::NameIndex;
