@@ -42,6 +42,7 @@ module _ (t : Tree) (path : List ℕ) (p : Path) (says : Says path p) (old new :
       with_names names is Write f = (f.0, tells names is allowed f.0 f.1, f.2)
       with_names names is Memory (inl kept) = inl kept
       with_names names is Memory (inr f) = inr (f.0, tells names is allowed f.0 f.1, f.2)
+
       by : (q : Path) → p ≡ q → Says path q → FailsCall t p e old new
       by None is says = absurd (let bad : first_refusal (read_tests t None) ≡ None = rw is at allowed in cc)
       by (Some names) is says = with_names names is e (fails names says)

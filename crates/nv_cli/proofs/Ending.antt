@@ -1,6 +1,7 @@
 -- How a script ends: what it showed, by what it showed and the region that it ended with.
 use Rattle.std.proofs.Common.{◌≡◌, ℕ, ◌+◌, List, [], ◌∷◌, Option, Some, None, refl, inl, inr}
 use Rattle.nv_region.specs.Region.{Region}
+use Rattle.nv_report.specs.Last.{status_of}
 use Rattle.nv_session.specs.Machine.{State}
 use Rattle.nv_stream.specs.Known.{IfKnown}
 use Rattle.nv_cli.specs.Script.{Shows, ShowsTo, ShowsFrom, ShowsEndFrom, ShowsEnd}
@@ -37,7 +38,7 @@ module _ (begin state : State) (number : ℕ) (known left old now : Option (List
   -- an error between two lines
   pub so_far : WritesWhole (ShowsFrom begin) known old now
   so_far = whole_weaker (ShowsEnd begin state.region) (ShowsFrom begin) (any_region begin state.region) known old now
-      (known_whole (ShowsEnd begin state.region) old (ShowsEndFrom number state state.region) now known left _ (p state.region) (state, (refl, refl, refl), refl))
+      (known_whole (ShowsEnd begin state.region) old (ShowsEndFrom number state state.region) now known left (status_of state.last) (p state.region) (state, (refl, refl, refl), refl))
 
   -- an error while a line was answered
   pub so_far_front : (region : Option Region) (after then : Option (List ℕ)) → IfKnown left after (λ input rest. EndsInside (ShowsEndFrom number state region) now then input) → WritesFront (ShowsFrom begin) known old then

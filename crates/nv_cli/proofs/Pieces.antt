@@ -1,8 +1,8 @@
 -- A file that is written in pieces: what was written so far is a front of its bytes.
-use Rattle.std.proofs.Common.{◌≡◌, ◌≤◌, ◌+◌, ◌-◌, ℕ, zero, suc, List, [], ◌∷◌, ◌++◌, map, take, min, length, Option, inr, refl, sym, ap, subst, ◌∙◌, append-nil, append_assoc, arith}
+use Rattle.std.proofs.Common.{◌≡◌, ◌≤◌, ◌+◌, ◌-◌, ℕ, zero, suc, List, [], ◌∷◌, ◌++◌, map, take, min, length, Option, Some, inr, refl, sym, ap, subst, ◌∙◌, arith}
 use Rattle.std.specs.Io.KnownBytes.{Appends}
 use Rattle.std.specs.List.{range_with_len}
-use Rattle.std.proofs.lemmas.List.FromFn.{length-map-range_with_len, map-range_with_len_more, take-map-range_with_len}
+use Rattle.std.proofs.lemmas.List.FromFn.{length-map-range_with_len, take-map-range_with_len}
 use Rattle.std.proofs.lemmas.List.{take_min}
 use Rattle.nv_tree.specs.Tree.{Tree, Node}
 use Rattle.nv_tree.specs.Calls.{bytes_read}
@@ -13,13 +13,18 @@ use Rattle.nv_stream.proofs.StreamLemmas.{appends_none, appends_both, appends_fr
 use Rattle.nv_cli.specs.Looking.{IsSized, IsWholeFile, WritesFile, FailsFile}
 use Rattle.nv_stream.specs.declared.fault.ScriptError.TheVariants as errors
 
+joins_from : (f : ℕ → ℕ) (a m n : ℕ) → map f (range_with_len a m) ++ map f (range_with_len (a + m) n) ≡ map f (range_with_len a (m + n))
+joins_from f a zero n = ap (λ (b : ℕ). map f (range_with_len b n)) (let e : a + 0 ≡ a = omega arith in e) ∙ ap (λ (k : ℕ). map f (range_with_len a k)) (let e : n ≡ 0 + n = omega arith in e)
+joins_from f a (suc m) n =
+    ap (λ (b : ℕ). f a ∷ (map f (range_with_len (a + 1) m) ++ map f (range_with_len b n))) (let e : a + suc m ≡ (a + 1) + m = omega arith in e)
+    ∙ ap (λ (l : List ℕ). f a ∷ l) (joins_from f (a + 1) m n)
+    ∙ ap (λ (k : ℕ). map f (range_with_len a k)) (let e : suc (m + n) ≡ suc m + n = omega arith in e)
+
 joins : (f : ℕ → ℕ) (at count : ℕ) → map f (range_with_len 0 (at + count)) ≡ map f (range_with_len 0 at) ++ map f (range_with_len at count)
-joins f at zero = sym (append-nil (map f (range_with_len 0 at)))
-joins f at (suc n) =
-    let rest = joins f at n in
-    let one : map f (range_with_len 0 (at + n + 1)) ≡ map f (range_with_len 0 (at + n)) ++ f (at + n) ∷ [] = map-range_with_len_more f 0 (at + n) (at + n) (omega arith) in
-    let here : map f (range_with_len at (n + 1)) ≡ map f (range_with_len at n) ++ f (at + n) ∷ [] = map-range_with_len_more f at n (at + n) refl in
-    one ∙ ap (λ xs. xs ++ f (at + n) ∷ []) rest ∙ append_assoc (map f (range_with_len 0 at)) (map f (range_with_len at n)) (f (at + n) ∷ []) ∙ ap (λ xs. map f (range_with_len 0 at) ++ xs) (sym here)
+joins f at count =
+    let from : map f (range_with_len 0 at) ++ map f (range_with_len (0 + at) count) ≡ map f (range_with_len 0 (at + count)) = joins_from f 0 at count in
+    let same : 0 + at ≡ at = omega arith in
+    sym (subst (λ (b : ℕ). map f (range_with_len 0 at) ++ map f (range_with_len b count) ≡ map f (range_with_len 0 (at + count))) same from)
 
 -- the first bytes of a file
 abbrev pub first_bytes : Node → ℕ → List ℕ
@@ -54,9 +59,9 @@ module _ (t : Tree) (names : List (List ℕ)) (size : ℕ) (s : IsSized t names 
   front_of_file old now at within (n, added) =
       let long : length (first_bytes s.node at) ≡ at = length-map-range_with_len s.node.bytes 0 at in
       let cut : take n (first_bytes s.node at) ≡ first_bytes s.node (min n at) =
-          sym (take_min n (first_bytes s.node at)) ∙ ap (λ k. take (min n k) (first_bytes s.node at)) long ∙ take-map-range_with_len s.node.bytes 0 at (min n at) (omega arith) in
+      sym (take_min n (first_bytes s.node at)) ∙ ap (λ k. take (min n k) (first_bytes s.node at)) long ∙ take-map-range_with_len s.node.bytes 0 at (min n at) (omega arith) in
       let all : take (min n at) (bytes_read 0 s.node.size s.node) ≡ first_bytes s.node (min n at) =
-          ap (take (min n at)) (all_bytes s.node) ∙ take-map-range_with_len s.node.bytes 0 s.node.size (min n at) (let is = s.is in omega arith) in
+      ap (take (min n at)) (all_bytes s.node) ∙ take-map-range_with_len s.node.bytes 0 s.node.size (min n at) (let is = s.is in omega arith) in
       (min n at, subst (λ xs. Appends old now xs) (cut ∙ sym all) added)
 
   -- nothing yet
@@ -70,17 +75,17 @@ module _ (t : Tree) (names : List (List ℕ)) (size : ℕ) (s : IsSized t names 
     pub ends_file : size ≤ at → WritesFile t names old now
     ends_file behind =
         let same : at ≡ s.node.size = (let is = s.is in omega arith) in
-        (bytes_read 0 s.node.size s.node, whole, rw all_bytes (rw same at so_far))
+        (bytes_read 0 s.node.size s.node, whole, subst (λ (xs : List ℕ). Appends old now xs) (sym (all_bytes s.node)) (subst (λ (k : ℕ). Appends old now (first_bytes s.node k)) same so_far))
 
     module _ (count : ℕ) (piece : List ℕ) (read : IsRead t names at count piece) (room : at + count ≤ size) (then : Option (List ℕ)) where
       pub piece_more : Appends now then piece → Appends old then (first_bytes s.node (at + count))
       piece_more added =
           let is = read_piece at count piece read room in
-          rw joins (appends_both old now then (first_bytes s.node at) (map s.node.bytes (range_with_len at count)) so_far (rw is at added))
+          subst (λ (xs : List ℕ). Appends old then xs) (sym (joins s.node.bytes at count)) (appends_both old now then (first_bytes s.node at) (map s.node.bytes (range_with_len at count)) so_far (rw is at added))
 
       pub fails_inside : AppendsFront now then piece → FailsFile t names errors.Write old then
       fails_inside added =
           let is = read_piece at count piece read room in
           let front : AppendsFront old then (first_bytes s.node (at + count)) =
-              rw joins (appends_front old now then (first_bytes s.node at) (map s.node.bytes (range_with_len at count)) so_far (rw is at added)) in
+          subst (λ (xs : List ℕ). AppendsFront old then xs) (sym (joins s.node.bytes at count)) (appends_front old now then (first_bytes s.node at) (map s.node.bytes (range_with_len at count)) so_far (rw is at added)) in
           (bytes_read 0 s.node.size s.node, whole, front_of_file old then (at + count) room front)

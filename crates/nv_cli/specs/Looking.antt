@@ -24,7 +24,7 @@ use Rattle.nv_cli.specs.declared.looking.Opened.{Opened}
 use Rattle.nv_cli.specs.declared.looking.Opened.TheVariants as opened
 
 -- what a call tells of a tree, as its text and the exit status
-abbrev pub Call : Type 0
+abbrev pub Call : Type 1
 Call = Tree → List ℕ → ℕ → Type 0
 
 -- 0 where no test of a call holds, and 2 where one does

@@ -1,6 +1,8 @@
-//! Scripts: their lines are read, run on a session, and answered. And checks of a region's bytes.
+//! Scripts: their lines are read, run on a session, and answered. And checks of a region's bytes, and looks into them.
 //!
-//! `script` runs the lines one after another, and gives hints of what their answers leave out (`hinting`). `checking` recovers the bytes of a region, and writes its report.
+//! `script` runs the lines one after another, and gives hints of what their answers leave out (`hinting`). `checking` recovers
+//! the bytes of a region, and writes its report, or another `output`. `looking` makes calls that read of such a region. `files`
+//! makes a region of a file's bytes.
 #![tactic(auto)]
 
 mod checking;
@@ -9,7 +11,6 @@ mod formatting;
 mod hinting;
 mod laws;
 mod looking;
-mod mapping;
 mod output;
 mod script;
 
@@ -19,10 +20,8 @@ pub use formatting::{Formatted, format_image};
 pub use hinting::{Hint, Hints, LENGTH_REFUSED};
 pub use laws::{one_check, one_transcript};
 pub use looking::{Answered, cat_image, list_image, stat_image};
-pub use mapping::{BlockUse, Cells, Mapped, map_cells, map_image};
 pub use nv_region::{MemRegion, RegionRefusal};
 pub use nv_report::{BadLength, LONGEST_REGION, is_region_length};
 pub use nv_stream::ScriptError;
-pub use nv_text::Refusal;
 pub use output::Output;
 pub use script::{Ended, run_script, run_script_on, run_script_to_end, run_script_with_hints};

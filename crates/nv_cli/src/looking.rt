@@ -96,7 +96,8 @@ pub fn cat_image<W: Write>(
     ensures ok { IfOk result (λ answered. WritesLook (GivesBytes path.now) bytes.now (W.contents writer.old) (W.contents writer.new) answered) }
     ensures err { IfErr result (λ e. FailsCat (GivesBytes path.now) bytes.now e (W.contents writer.old) (W.contents writer.new)) }
 {
-    match open_image(alloc, bytes)? {
+    let opened = open_image(alloc, bytes)?;
+    match opened {
         Opened::Mounted(mount) => {
             let status = cat_file(alloc, &mount, path, writer)?;
             Ok(Answered {
@@ -115,7 +116,8 @@ pub fn cat_image<W: Write>(
 fn look_at_names(alloc: Global, bytes: &[u8], path: &[u8]) -> Result<Look, AllocError>
     ensures { IfOk result (λ look. IsLook (ListsNames path.now) (region_of bytes.now) (string_bytes look.text) look.answered) }
 {
-    match open_image(alloc, bytes)? {
+    let opened = open_image(alloc, bytes)?;
+    match opened {
         Opened::Mounted(mount) => {
             let told = list_text(alloc, &mount, path)?;
             Ok(told_look(told, mount.faults().len()))
@@ -127,7 +129,8 @@ fn look_at_names(alloc: Global, bytes: &[u8], path: &[u8]) -> Result<Look, Alloc
 fn look_at_numbers(alloc: Global, bytes: &[u8], path: &[u8]) -> Result<Look, AllocError>
     ensures { IfOk result (λ look. IsLook (TellsNumbers path.now) (region_of bytes.now) (string_bytes look.text) look.answered) }
 {
-    match open_image(alloc, bytes)? {
+    let opened = open_image(alloc, bytes)?;
+    match opened {
         Opened::Mounted(mount) => {
             let told = stat_text(alloc, &mount, path)?;
             Ok(told_look(told, mount.faults().len()))
@@ -143,7 +146,8 @@ fn open_image(alloc: Global, bytes: &[u8]) -> Result<Opened<'_>, AllocError>
     match ImageRegion::from_bytes(alloc, bytes) {
         Ok(mut image) => {
             open_system(&mut image)?;
-            match recover_alone(alloc, &mut image)? {
+            let answer = recover_alone(alloc, &mut image)?;
+            match answer {
                 Answer::Recovered(recovered) => {
                     Ok(Opened::Mounted(Fs::open(alloc, image, recovered)))
                 }

@@ -3,7 +3,7 @@
 use crate::broken_streams::Closing;
 use nv_cli::{
     Answered, Hint, Hints, MemRegion, Output, ScriptError, cat_image, check_region_as, list_image,
-    map_image, region_of_file, run_script_on, stat_image,
+    region_of_file, run_script_on, stat_image,
 };
 use std::process::Abort;
 use std::test::Fail;
@@ -112,20 +112,6 @@ fn a_check_sums_up_or_tells_faults_alone(rt: HostRuntime) -> Result<(), Fail> {
     let text =
         b"inodes 3, directories 2, files 1, names 2, blocks in use 4, free 55, faults 0\nno faults\n\
         inodes 2, directories 2, files 0, names 2, blocks in use 2, free 57, faults 1 (C1 1)\nfault C1 inode 2 at 24576\n";
-    assert!(&rt; out.as_slice() == text.as_slice());
-    Ok(())
-}
-
-#[test]
-fn a_map_has_a_character_for_each_cell(rt: HostRuntime) -> Result<(), Fail> {
-    let made = run_on(&rt, b"", MAKING, MADE)?;
-    let mut out = Vec::new(rt.alloc());
-    let fine = map_image(rt.alloc(), &made, 64, &mut out)?;
-    let coarse = map_image(rt.alloc(), &made, 16, &mut out)?;
-    assert!(&rt; fine == FOUND && coarse == FOUND);
-    let text = b"SSSSSLLLD.......................................................\n\
-        blocks in a cell 1: . free, S system, D data, L log, ! doubled\n\
-        SLD.............\nblocks in a cell 4: . free, S system, D data, L log, ! doubled\n";
     assert!(&rt; out.as_slice() == text.as_slice());
     Ok(())
 }

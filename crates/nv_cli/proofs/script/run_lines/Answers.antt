@@ -11,7 +11,7 @@ use Rattle.nv_cli.proofs.script.run_lines.Goals as goal
 use Rattle.nv_cli.proofs.script.run_lines.Goals.{in-Skipped, in-Text+in_ok-write_text-in-Text}
 
 pub lines-init : goal.lines-init
-lines-init g c = λ begin stands. (begin, stands, λ region. known_begins (ShowsEnd begin region) _ _, known_begins (HintsFrom begin) _ _)
+lines-init g c = λ begin stands. (begin, stands, (λ region. known_begins (ShowsEnd begin region) _ _), known_begins (HintsFrom begin) _ _)
 
 -- ---- what was written
 
@@ -76,13 +76,13 @@ lines-preserved g c = λ begin stands.
     let next = c.in_ok-next_reply.ensures at.0 at.1 in (
       next.0,
       next.2,
-      λ region. elim c.match-branch-2.branch [
+      (λ region. elim c.match-branch-2.branch [
         | in-Skipped w ↦ rw w.writer-is (known_on (ShowsEnd begin region) _ (ShowsEndFrom c.lines.number at.0 region) _ (ShowsEndFrom (c.lines.number + 1) next.0 region) _ _ _ _ (at.2 region)
             (skipped_goes_on _ _ (g.W.Write.contents c.lines.writer) (g.W.Write.contents c.lines.writer) c.lines.number at.0 next.0 region (rw w.in-Skipped.is at next.1)))
         | in-Text+in_ok-write_text-in-Text w ↦ rw w.writer-is (known_on (ShowsEnd begin region) _ (ShowsEndFrom c.lines.number at.0 region) _ (ShowsEndFrom (c.lines.number + 1) next.0 region) _ _ _ _ (at.2 region)
             (text_goes_on _ _ _ _ c.lines.number at.0 next.0 region w.in-Text.text (rw w.in-Text.is at next.1)
             (rw w.as_bytes.ensures.value at w.in_ok-write_text-in-Text.ensures.ok)))
-      ],
+      ]),
       elim c.match-branch-2.branch [
         | in-Skipped w ↦ rw w.hints-is (known_on (HintsFrom begin) _ (hints_from c.lines.number at.0) _ (hints_from (c.lines.number + 1) next.0) _ _ _ _ at.3
             (skipped_hints_nothing _ _ (g.N.Hints.told c.lines.hints) (g.N.Hints.told c.lines.hints) c.lines.number at.0 next.0 (rw w.in-Skipped.is at next.1)))
