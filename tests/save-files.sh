@@ -1,5 +1,5 @@
 #!/usr/bin/env bash
-# Tries that `nova mkfs`, `nova run --save` and `nova map --svg` write a file whole or leave what was there: on a full disk, past
+# Tries that `nova mkfs` and `nova run --save` write a file whole or leave what was there: on a full disk, past
 # a limit of the system, where the last step is refused, in a folder that can't be written, on what is no file, and with a stop at
 # each system call that writes.
 #
@@ -109,7 +109,6 @@ for target in folder pipe; do
     told "saving over a $target" 2 ok "cannot write $room/$target: it isn't a file" run "$grown" --save "$room/$target"
 done
 told "mkfs over a link" 2 "" "cannot write $room/link: it is there already; --force replaces it" mkfs "$room/link" --blocks 8 --cpus 1 --tables 1
-told "a map into a folder" 2 "$("$program" map "$room/image")" "cannot write $room/folder: it isn't a file" map "$room/image" --svg "$room/folder"
 same "nothing but a file is replaced" "folder image link pipe" "$(cd "$room" && echo *)"
 rm -r "${room:?}/folder" "$room/pipe" "$room/link"
 ln "$room/image" "$room/second"

@@ -10,7 +10,6 @@
 #![tactic(auto)]
 
 mod check;
-mod drawing;
 mod explain;
 mod failure;
 mod hints;
@@ -79,18 +78,17 @@ fn answer<'a, H: Files + AllocGlobal + Print + Eprint + Threads + Sync, R: Read 
     process: u32,
     todo: Todo<'a>,
 ) -> Result<u8, Failure<'a>> {
-    let over = |path| Target {
-        path,
-        force: true,
-        process,
-    };
     match todo {
         Todo::Run {
             script,
             image,
             save,
         } => {
-            let save = save.map(over);
+            let save = save.map(|path| Target {
+                path,
+                force: true,
+                process,
+            });
             match script {
                 Some(path) => run(rt, script_at(rt, path)?, image, save),
                 None => run(rt, input, image, save),
@@ -124,7 +122,6 @@ fn answer<'a, H: Files + AllocGlobal + Print + Eprint + Threads + Sync, R: Read 
         Todo::Stat { image, path } => show(rt, image, Shown::Attributes(path)),
         Todo::Cat { image, path } => show(rt, image, Shown::Bytes(path)),
         Todo::Explain { class } => explain(rt, class),
-        Todo::Map { image, svg } => show(rt, image, Shown::Blocks(svg.map(over))),
     }
 }
 

@@ -1,17 +1,10 @@
-//! Showing what is in the image in a file: `ls`, `stat`, `cat` and `map`.
+//! Showing what is in the image in a file: `ls`, `stat` and `cat`.
 
-use crate::drawing::drawing;
 use crate::failure::Failure;
 use crate::image::{Image, image_at, refuse_length, tell_length, tell_refused_length};
-use crate::saving::{Target, save_file};
-use nv_cli::{
-    Answered, Mapped, ScriptError, cat_image, list_image, map_cells, map_image, stat_image,
-};
+use nv_cli::{Answered, ScriptError, cat_image, list_image, stat_image};
 use std::io;
 use std::rt::Files;
-
-/// How many cells a map has at most.
-const MOST_CELLS: usize = 1024;
 
 /// What is shown of an image.
 #[derive(Clone, Copy, Debug)]
@@ -22,8 +15,6 @@ pub(crate) enum Shown<'a> {
     Attributes(&'a str),
     /// The bytes of the file at this path.
     Bytes(&'a str),
-    /// What the blocks are, which is also drawn in this file.
-    Blocks(Option<Target<'a>>),
 }
 
 /// Recovers the image in a file in memory, and prints what is to be shown of it, or why that can't be shown. Answers the exit
@@ -38,9 +29,6 @@ pub(crate) fn show<'a, H: Files + AllocGlobal + Print + Eprint>(
             let answered = show_bytes(rt, &bytes, what)?;
             tell_refused_length(rt, answered.status, bytes.len() as u64);
             tell_faults(rt, path, answered.faults);
-            if let Shown::Blocks(Some(svg)) = what {
-                draw(rt, &bytes, svg)?;
-            }
             Ok(answered.status)
         }
         Image::TooLong(length) => {
@@ -62,27 +50,11 @@ fn show_bytes<H: AllocGlobal + Print>(
         Shown::Names(path) => list_image(alloc, bytes, path.as_bytes(), &mut output),
         Shown::Attributes(path) => stat_image(alloc, bytes, path.as_bytes(), &mut output),
         Shown::Bytes(path) => cat_image(alloc, bytes, path.as_bytes(), &mut output),
-        Shown::Blocks(_) => map_image(alloc, bytes, MOST_CELLS, &mut output),
     }
 }
 
 fn tell_faults<H: Eprint>(rt: &H, path: &str, faults: usize) {
     if faults > 0 {
         let _ = eprintln!(rt; "{path} has faults, which nova check tells: {faults}");
-    }
-}
-
-// Draws the blocks of an image in a file, unless the image is refused.
-fn draw<'a, H: Files + AllocGlobal>(
-    rt: &H,
-    bytes: &[u8],
-    svg: Target<'a>,
-) -> Result<(), Failure<'a>> {
-    match map_cells(rt.alloc(), bytes, MOST_CELLS)? {
-        Mapped::Cells(cells) => {
-            let text = drawing(rt.alloc(), &cells)?;
-            save_file(rt, svg, text.as_bytes())
-        }
-        Mapped::Refused(_) => Ok(()),
     }
 }

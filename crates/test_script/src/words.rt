@@ -2,7 +2,7 @@
 
 use nv_args::{CheckOutput, Todo, read_words};
 
-const ASKED: [(&[&str], Todo<'static>); 14] = [
+const ASKED: [(&[&str], Todo<'static>); 12] = [
     (&["run"], run(None, None, None)),
     (&["run", "a"], run(Some("a"), None, None)),
     (
@@ -56,23 +56,9 @@ const ASKED: [(&[&str], Todo<'static>); 14] = [
         },
     ),
     (&["explain", "l2"], Todo::Explain { class: "l2" }),
-    (
-        &["map", "i"],
-        Todo::Map {
-            image: "i",
-            svg: None,
-        },
-    ),
-    (
-        &["map", "i", "--svg", "s"],
-        Todo::Map {
-            image: "i",
-            svg: Some("s"),
-        },
-    ),
 ];
 
-const REFUSED: [&[&str]; 13] = [
+const REFUSED: [&[&str]; 12] = [
     &["check", "a", "--workers", "65"],
     &["check", "a", "--workers", "0"],
     &["check", "a", "--summary", "--only-faults"],
@@ -93,7 +79,6 @@ const REFUSED: [&[&str]; 13] = [
     &["ls", "i", "/", "/"],
     &["cat", "i"],
     &["explain"],
-    &["map", "i", "--svg"],
     &["--help"],
 ];
 
