@@ -171,7 +171,8 @@ can_mount R S workers schedule (Some (answers.Refused refusal)) may lists = tt
 can_mount R S workers schedule (Some (answers.Recovered r)) may lists = (
   left_outcome R S r may.2 may.3,
   subst (λ (T : Region). undone r.sup T ≡ T) (sym may.3) (stays R r.sup may.2.sup),
-  lists,
+  lists.0,
+  lists.1,
 )
 
 shows_outcome : (R S : Region) (r : Recovered) (m : Mount RegionState) → IsOutcome R (outcome_of r) → IsOutcome S (lasting_outcome (outcome_of r)) → m.memory.region ≡ S → told m.sup m.rows m.free r.doubled.items m.faults ≡ outcome_of r → m.stopped ≡ false → ShowsOutcome R m
