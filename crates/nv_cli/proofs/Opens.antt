@@ -4,7 +4,7 @@ use Rattle.nv_region.specs.Region.{Region}
 use Rattle.nv_region.specs.ImageState.{ImageState}
 use Rattle.nv_report.specs.nv_outcome.Answer.{outcome_of}
 use Rattle.nv_report.specs.nv_outcome.declared.recovered.Recovered.{Recovered}
-use Rattle.nv_report.specs.Answering.{MayAnswer, ListsItsPools, RefusesRecovery}
+use Rattle.nv_report.specs.Answering.{MayAnswer, IsOfItsSuper, RefusesRecovery}
 use Rattle.nv_report.specs.declared.recovery.Answer.{Answer}
 use Rattle.nv_report.specs.declared.recovery.Answer.TheVariants as answers
 use Rattle.nv_session.specs.nv_calls.Mount.{Mount}
@@ -21,8 +21,8 @@ module _ (R S : Region) (answer : Answer) (may : MayAnswer R 1 [] answer S) wher
     recovered = subst (λ (x : Answer). MayAnswer R 1 [] x S) is may
 
     -- what was found can be mounted
-    pub opens : ListsItsPools (Some answer) → CanMount S (Some (answers.Recovered r))
-    opens lists = can_mount R S 1 [] (Some (answers.Recovered r)) recovered (subst (λ (x : Answer). ListsItsPools (Some x)) is lists)
+    pub opens : IsOfItsSuper (Some answer) → CanMount S (Some (answers.Recovered r))
+    opens lists = can_mount R S 1 [] (Some (answers.Recovered r)) recovered (subst (λ (x : Answer). IsOfItsSuper (Some x)) is lists)
 
     -- and the mount shows it
     pub mounted : (m : Mount ImageState) → m.memory.region ≡ S → m.rows ≡ r.rows.items → m.faults ≡ r.faults.items → m.stopped ≡ false → IsOpened R (opened.Mounted m)

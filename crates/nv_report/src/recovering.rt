@@ -36,7 +36,7 @@ pub fn recover_region<P: Pmem + Sync, H: Threads + Sync>(
 pub fn recover_alone<P: Pmem>(alloc: Global, memory: &mut P) -> Result<Answer, AllocError>
     requires taken { TakesRecovery (P.region memory.old) (P.fuse memory.old) }
     ensures ok { IfOk result (λ answer. MayAnswer (P.region memory.old) 1 [] answer (P.region memory.new)) }
-    ensures lists { IfOk result (λ answer. ListsItsPools (Some answer)) }
+    ensures lists { IfOk result (λ answer. IsOfItsSuper (Some answer)) }
     // Only want of memory prevents an answer.
     ensures err { OnErr result (AsBeforeOrUndone (P.region memory.old) (P.region memory.new)) }
 {

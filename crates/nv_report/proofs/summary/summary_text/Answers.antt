@@ -9,7 +9,6 @@ joined t0 t1 t2 t3 t4 a b c n e0 e1 e2 e3 e4 = rw (e4, e3, e2, e1, e0) refl
 pub returns : goal.returns
 returns c =
     let r = c.args.recovered.now in
-    let inodes = c.in_ok-push_inodes.ensures ∙ ap (λ rows. string_bytes c.new-text.result ++ inodes_part rows) c.deref.ensures.value in
-    let faults = c.in_ok-push_faults.ensures ∙ ap (λ fs. string_bytes c.push_blocks.new.out ++ faults_part fs) c.deref-2.ensures.value in
+    let faults = c.in_ok-push_faults.ensures ∙ ap (λ fs. string_bytes c.push_blocks.new.out ++ faults_part fs) c.deref.ensures.value in
     joined (string_bytes c.new-text.result) (string_bytes c.push_inodes.new.out) (string_bytes c.push_blocks.new.out) (string_bytes c.push_faults.new.out) (string_bytes c.push_str.new.self)
-    (inodes_part r.rows.items) (blocks_part (outcome_of r)) (faults_part r.faults.items) _ c.new-text.ensures.bytes inodes c.in_ok-push_blocks.ensures faults c.in_ok-push_str.ensures.bytes
+    (inodes_part r.rows.items) (blocks_part (outcome_of r)) (faults_part r.faults.items) _ c.new-text.ensures.bytes c.in_ok-push_inodes.ensures c.in_ok-push_blocks.ensures faults c.in_ok-push_str.ensures.bytes
