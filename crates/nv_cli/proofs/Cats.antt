@@ -1,7 +1,6 @@
 -- What writing a file tells, by what was written.
 use Rattle.std.proofs.Common.{◌≡◌, ◌≢◌, ◌⊎◌, ◌∙◌, inl, inr, ℕ, List, length, Option, Some, None, refl, sym, ap}
 use Rattle.std.specs.Prelude.{Result, Ok, Err, IfOk, IfErr, OnOk}
-use Rattle.std.specs.Io.KnownBytes.{Appends}
 use Rattle.nv_region.specs.Region.{region_of}
 use Rattle.nv_region.specs.ImageState.{ImageState}
 use Rattle.nv_text.specs.Answers.{refused_line}

@@ -1,5 +1,5 @@
 -- How a script ends: what it showed, by what it showed and the region that it ended with.
-use Rattle.std.proofs.Common.{◌≡◌, ℕ, ◌+◌, List, [], ◌∷◌, Option, Some, None, refl, inl, inr}
+use Rattle.std.proofs.Common.{ℕ, ◌+◌, List, [], ◌∷◌, Option, Some, None, refl, inl, inr}
 use Rattle.nv_region.specs.Region.{Region}
 use Rattle.nv_report.specs.Last.{status_of}
 use Rattle.nv_session.specs.Machine.{State}

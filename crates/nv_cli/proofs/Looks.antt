@@ -1,9 +1,8 @@
 -- What looking into a region tells, by what it mounted.
-use Rattle.std.proofs.Common.{◌≡◌, ◌⊎◌, ◌∙◌, ℕ, inl, inr, Bool, true, false, is_some, List, [], length, Option, Some, None, refl, sym, ap, subst}
+use Rattle.std.proofs.Common.{◌≡◌, ◌∙◌, ℕ, inl, inr, Bool, is_some, List, length, Option, Some, None, refl, sym, ap, subst}
 use Rattle.std.specs.Prelude.{if◌then◌else◌}
 use Rattle.nv_region.specs.Region.{Region}
 use Rattle.nv_region.specs.ImageState.{ImageState}
-use Rattle.nv_super.specs.FaultText.{super_fault_name}
 use Rattle.nv_text.specs.Refusals.{refusal_name}
 use Rattle.nv_text.specs.declared.refusals.Refusal as texts
 use Rattle.nv_report.specs.nv_outcome.nv_journal.Undo.{undone}

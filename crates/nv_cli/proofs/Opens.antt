@@ -1,5 +1,5 @@
 -- A region that is recovered on this thread and mounted, or refused.
-use Rattle.std.proofs.Common.{◌≡◌, ◌∙◌, ℕ, false, List, [], Some, refl, subst}
+use Rattle.std.proofs.Common.{◌≡◌, ◌∙◌, false, [], Some, refl, subst}
 use Rattle.nv_region.specs.Region.{Region}
 use Rattle.nv_region.specs.ImageState.{ImageState}
 use Rattle.nv_report.specs.nv_outcome.Answer.{outcome_of}

@@ -4,7 +4,6 @@ use Rattle.std.specs.Io.KnownBytes.{Appends, Keeps}
 use Rattle.nv_region.specs.Region.{Region, region_of}
 use Rattle.nv_super.specs.declared.superblock.SuperFault.{SuperFault}
 use Rattle.nv_super.specs.Super.{IsRefused}
-use Rattle.nv_super.specs.FaultText.{super_fault_name}
 use Rattle.nv_report.specs.nv_outcome.nv_journal.Undo.{undone}
 use Rattle.nv_report.specs.nv_outcome.Outcome.{Outcome, IsOutcome}
 use Rattle.nv_tree.specs.Path.{Says}

@@ -1,4 +1,4 @@
-use Rattle.std.proofs.Common.{refl, ◌+◌, ◌∙◌, ap}
+use Rattle.std.proofs.Common.{refl, ◌+◌}
 use Rattle.std.proofs.lemmas.Result.{err_from_is_err_and}
 use Rattle.nv_session.specs.Sessions.{region_in}
 use Rattle.nv_cli.specs.Hints.{HintsFrom}

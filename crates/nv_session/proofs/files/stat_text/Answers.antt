@@ -1,4 +1,4 @@
-use Rattle.std.proofs.Common.{◌∙◌, inl, inr, ap, map, sym, is_some, List, string_bytes}
+use Rattle.std.proofs.Common.{◌∙◌, inl, inr, ap, sym, is_some, string_bytes}
 use Rattle.std.proofs.lemmas.Result.{IfOk-weaker}
 use Rattle.nv_calls.specs.Seen.{tree_of}
 use Rattle.nv_tree.specs.Refusals.{stat_tests}
