@@ -1,5 +1,6 @@
 -- What writing a file tells, by what was written.
 use Rattle.std.proofs.Common.{◌≡◌, ◌≢◌, ◌⊎◌, ◌∙◌, inl, inr, ℕ, List, length, Option, Some, None, refl, sym, ap}
+use Rattle.std.specs.Prelude.{Result, Ok, Err, IfOk, IfErr, OnOk}
 use Rattle.std.specs.Io.KnownBytes.{Appends}
 use Rattle.nv_region.specs.Region.{region_of}
 use Rattle.nv_region.specs.ImageState.{ImageState}
@@ -17,7 +18,7 @@ use Rattle.nv_tree.specs.Refusals.{Path, first_refusal, refusal_word, read_tests
 use Rattle.nv_tree.specs.declared.refusal.Refusal.{Refusal}
 use Rattle.nv_tree.specs.declared.refusal.Refusal.TheVariants as refusals
 use Rattle.nv_tree.proofs.Texts.{text_says}
-use Rattle.nv_cli.specs.Looking.{GivesBytes, IsWholeFile, TellsFile, IsOpened, WritesLook, WritesLookFront, FailsCat, WritesFile, FailsFile, WritesCall, FailsCall, call_status}
+use Rattle.nv_cli.specs.Looking.{GivesBytes, IsWholeFile, TellsFile, IsOpened, WritesLook, WritesLookFront, FailsCat, WritesFile, FailsFile, WritesCall, FailsCall, WritesRefusal, FailsRefusal, call_status}
 use Rattle.nv_cli.specs.declared.looking.Answered.{Answered}
 use Rattle.nv_cli.specs.declared.looking.Opened.TheVariants as opened
 use Rattle.nv_cli.proofs.Looks.{mounted_look}
@@ -29,13 +30,13 @@ module _ (t : Tree) (path : List ℕ) (p : Path) (says : Says path p) (old new :
   tells names is allowed bytes whole = inr (names, is, allowed, whole)
 
   module _ (allowed : first_refusal (read_tests t p) ≡ None) where
-    pub file_called : (status : ℕ) → ((names : List (List ℕ)) → IsPath path names → WritesFile t names old new) → status ≡ 0 → WritesCall t p old new status
+    file_called : (status : ℕ) → ((names : List (List ℕ)) → IsPath path names → WritesFile t names old new) → status ≡ 0 → WritesCall t p old new status
     file_called status writes ends = by p refl says where
       by : (q : Path) → p ≡ q → Says path q → WritesCall t p old new status
       by None is says = absurd (let bad : first_refusal (read_tests t None) ≡ None = rw is at allowed in cc)
       by (Some names) is says = let w = writes names says in (w.0, tells names is allowed w.0 w.1, ends ∙ ap call_status (sym allowed), w.2)
 
-    pub file_failed : (e : ScriptError) → ((names : List (List ℕ)) → IsPath path names → FailsFile t names e old new) → FailsCall t p e old new
+    file_failed : (e : ScriptError) → ((names : List (List ℕ)) → IsPath path names → FailsFile t names e old new) → FailsCall t p e old new
     file_failed e fails = by p refl says where
       with_names : (names : List (List ℕ)) → p ≡ Some names → (e : ScriptError) → FailsFile t names e old new → FailsCall t p e old new
       with_names names is Read f = f
@@ -47,17 +48,31 @@ module _ (t : Tree) (path : List ℕ) (p : Path) (says : Says path p) (old new :
       by None is says = absurd (let bad : first_refusal (read_tests t None) ≡ None = rw is at allowed in cc)
       by (Some names) is says = with_names names is e (fails names says)
 
+    pub file_ok : (r : Result ℕ ScriptError) → ((names : List (List ℕ)) → IsPath path names → OnOk r (WritesFile t names old new)) → IfOk r (λ status. status ≡ 0) → IfOk r (λ status. WritesCall t p old new status)
+    file_ok (Ok status) writes ends = file_called status writes ends
+    file_ok (Err e) writes ends = tt
+
+    pub file_err : (r : Result ℕ ScriptError) → ((names : List (List ℕ)) → IsPath path names → IfErr r (λ e. FailsFile t names e old new)) → IfErr r (λ e. FailsCall t p e old new)
+    file_err (Ok status) fails = tt
+    file_err (Err e) fails = file_failed e fails
+
   -- ---- a call that is refused says so
 
-  module _ (refusal : Refusal) (text : List ℕ) (other : refusal ≢ refusals.Memory) (first : (refusal ≡ refusals.Memory) ⊎ (first_refusal (read_tests t p) ≡ Some refusal)) (said : text ≡ refused_line (refusal_word refusal)) where
-    told : TellsRefusal (read_tests t p) text
-    told = refusal_told (read_tests t p) refusal text other first said
+  module _ (refusal : Refusal) (first : (refusal ≡ refusals.Memory) ⊎ (first_refusal (read_tests t p) ≡ Some refusal)) where
+    told : refusal ≢ refusals.Memory → TellsRefusal (read_tests t p) (refused_line (refusal_word refusal))
+    told other = refusal_told (read_tests t p) refusal (refused_line (refusal_word refusal)) other first refl
 
-    pub refusal_called : (status : ℕ) → status ≡ 2 → Appends old new text → WritesCall t p old new status
-    refusal_called status ends added = let w = told in (text, inl w, ends ∙ ap call_status (sym w.1), added)
+    pub refusal_ok : (r : Result ℕ ScriptError) → IfOk r (WritesRefusal refusal old new) → IfOk r (λ status. WritesCall t p old new status)
+    refusal_ok (Ok status) said =
+        let w = told said.0 in
+        (refused_line (refusal_word refusal), inl w, said.1 ∙ ap call_status (sym w.1), said.2)
+    refusal_ok (Err e) said = tt
 
-    pub refusal_failed : AppendsFront old new text → FailsCall t p Write old new
-    refusal_failed front = (text, inl told, front)
+    pub refusal_err : (r : Result ℕ ScriptError) → IfErr r (λ e. FailsRefusal refusal e old new) → IfErr r (λ e. FailsCall t p e old new)
+    refusal_err (Ok status) fails = tt
+    refusal_err (Err Read) fails = fails
+    refusal_err (Err Write) fails = (refused_line (refusal_word refusal), inl (told fails.0), fails.1)
+    refusal_err (Err Memory) fails = inl fails
 
 -- ---- of the region of some bytes
 

@@ -6,7 +6,8 @@ use Rattle.nv_super.specs.Super.{IsRefused, rank}
 use Rattle.nv_super.specs.declared.superblock.SuperFault.{SuperFault}
 use Rattle.nv_super.specs.declared.superblock.SuperFault.TheVariants.{Length, Magic, Version, Cpus, Blocks, Tables, State}
 use Rattle.nv_super.specs.FaultText.{super_fault_name}
-use Rattle.nv_cli.specs.Checking.{IsRefusal, IsCheck}
+use Rattle.nv_cli.specs.Checking.{IsRefusal, IsCheckAs}
+use Rattle.nv_cli.specs.declared.output.Output.{Output}
 use Rattle.nv_report.specs.Workers.{is_worker_count}
 
 none_before : (fault : SuperFault) → rank fault < 1 → ⊥
@@ -25,6 +26,6 @@ too_long bytes long = record {
   first = λ other below applies. none_before other below;
 }
 
-pub long_check : (bytes : List ℕ) (workers : ℕ) (text : List ℕ) (status : ℕ) → is_worker_count workers ≡ true → 2 ^ 30 < length bytes → IsRefusal (super_fault_name Length) text status
-    → IsCheck (region_of bytes) workers text status
-long_check bytes workers text status count long said = rw count (inl (Length, too_long bytes long, said))
+pub long_check : (output : Output) (bytes : List ℕ) (workers : ℕ) (text : List ℕ) (status : ℕ) → is_worker_count workers ≡ true → 2 ^ 30 < length bytes → IsRefusal (super_fault_name Length) text status
+    → IsCheckAs output (region_of bytes) workers text status
+long_check output bytes workers text status count long said = rw count (inl (Length, too_long bytes long, said))

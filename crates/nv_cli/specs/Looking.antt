@@ -1,5 +1,5 @@
 -- What looking into the region of some bytes may write, and what comes of it.
-use Rattle.std.specs.Prelude.{◌≡◌, ◌⊎◌, ℕ, false, List, length, Option, Some, None}
+use Rattle.std.specs.Prelude.{◌≡◌, ◌≢◌, ◌⊎◌, ℕ, false, List, length, Option, Some, None}
 use Rattle.std.specs.Io.KnownBytes.{Appends, Keeps}
 use Rattle.nv_region.specs.Region.{Region, region_of}
 use Rattle.nv_super.specs.declared.superblock.SuperFault.{SuperFault}
@@ -9,9 +9,11 @@ use Rattle.nv_report.specs.nv_outcome.nv_journal.Undo.{undone}
 use Rattle.nv_report.specs.nv_outcome.Outcome.{Outcome, IsOutcome}
 use Rattle.nv_tree.specs.Path.{Says}
 use Rattle.nv_tree.specs.Tree.{Tree, Node}
-use Rattle.nv_tree.specs.Refusals.{Path, Tests, first_refusal, list_tests, stat_tests, read_tests}
+use Rattle.nv_tree.specs.Refusals.{Path, Tests, first_refusal, refusal_word, list_tests, stat_tests, read_tests}
 use Rattle.nv_tree.specs.Calls.{bytes_read}
 use Rattle.nv_tree.specs.declared.refusal.Refusal.{Refusal}
+use Rattle.nv_tree.specs.declared.refusal.Refusal.TheVariants as calls
+use Rattle.nv_text.specs.Answers.{refused_line}
 use Rattle.nv_session.specs.nv_calls.Seen.{tree_of, LeadsTo}
 use Rattle.nv_session.specs.Machine.{TellsRefusal, TellsNames, TellsStat}
 use Rattle.nv_stream.specs.declared.fault.ScriptError.{ScriptError}
@@ -108,6 +110,15 @@ abbrev pub FailsFile : Tree → List (List ℕ) → ScriptError → Option (List
 FailsFile t names Read old new = ⊥
 FailsFile t names Write old new = (bytes : List ℕ) × IsWholeFile t names bytes × AppendsFront old new bytes
 FailsFile t names Memory old new = Keeps old new ⊎ ((bytes : List ℕ) × IsWholeFile t names bytes × AppendsFront old new bytes)
+
+-- the call is refused so, which isn't for want of memory
+abbrev pub WritesRefusal : Refusal → Option (List ℕ) → Option (List ℕ) → ℕ → Type 0
+WritesRefusal refusal old new status = (refusal ≢ calls.Memory) × (status ≡ 2) × Appends old new (refused_line (refusal_word refusal))
+
+abbrev pub FailsRefusal : Refusal → ScriptError → Option (List ℕ) → Option (List ℕ) → Type 0
+FailsRefusal refusal Read old new = ⊥
+FailsRefusal refusal Write old new = (refusal ≢ calls.Memory) × AppendsFront old new (refused_line (refusal_word refusal))
+FailsRefusal refusal Memory old new = Keeps old new
 
 -- the same where the call may be refused
 abbrev pub WritesCall : Tree → Path → Option (List ℕ) → Option (List ℕ) → ℕ → Type 0

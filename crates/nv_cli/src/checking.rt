@@ -9,7 +9,7 @@ ghost use Rattle.nv_text.specs.Refusals.{refusal_name};
 ghost use Rattle.nv_report.specs.Answering.{IsOpenInFront};
 ghost use Rattle.nv_report.specs.Last.{how_it_went, status_of};
 ghost use Rattle.nv_report.specs.Workers.{is_worker_count};
-ghost use Rattle.nv_cli.specs.Checking.{IsCheck, IsRefusal, WritesCheck, EndsCheck, FailsCheck};
+ghost use Rattle.nv_cli.specs.Checking.{IsCheckAs, IsRefusal, WritesCheck, EndsCheck, FailsCheck, WritesCheckAs, EndsCheckAs, FailsCheckAs};
 
 use crate::output::{Output, output_text};
 use nv_region::{ImageRegion, Pmem, RegionRefusal};
@@ -113,7 +113,8 @@ fn check_memory<P: Pmem + Sync, H: Threads + Sync>(
     requires { IsOpenInFront (P.region memory.old) (P.fuse memory.old).is_open }
     ensures { IfOk result (λ checked. IsCheckAs output (P.region memory.old) workers (string_bytes checked.text) checked.status) }
 {
-    match recover_region(rt, alloc, memory, workers)? {
+    let answer = recover_region(rt, alloc, memory, workers)?;
+    match answer {
         Answer::Recovered(recovered) => Ok(Checked {
             text: output_text(alloc, &recovered, output)?,
             status: status_of(&recovered.faults),

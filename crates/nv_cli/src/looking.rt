@@ -10,7 +10,7 @@ ghost use Rattle.nv_tree.specs.Refusals.{Path};
 ghost use Rattle.nv_session.specs.nv_calls.Seen.{tree_of};
 ghost use Rattle.nv_session.specs.nv_calls.Reading.{IsRead};
 ghost use Rattle.nv_cli.specs.Checking.{IsRefusal};
-ghost use Rattle.nv_cli.specs.Looking.{IsLook, IsOpened, IsSized, ListsNames, TellsNumbers, GivesBytes, WritesLook, FailsLook, FailsCat, WritesCall, FailsCall, WritesFile, FailsFile};
+ghost use Rattle.nv_cli.specs.Looking.{IsLook, IsOpened, IsSized, ListsNames, TellsNumbers, GivesBytes, WritesLook, FailsLook, FailsCat, WritesCall, FailsCall, WritesFile, FailsFile, WritesRefusal, FailsRefusal};
 
 use crate::checking::open_system;
 use nv_region::{ImageRegion, Pmem, RegionRefusal};
@@ -207,24 +207,32 @@ fn cat_file<P: Pmem + Drop, W: Write>(
 {
     // No bytes: the same tests.
     match mount.read(path, 0, 0) {
-        Ok(_) => {
-            write_file(mount, path, writer)?;
-            Ok(status_of(false))
-        }
-        Err(refusal) => {
-            let text = refused_call_text(alloc, refusal)?;
-            write_text(writer, text.as_bytes())?;
-            Ok(status_of(true))
-        }
+        Ok(_no_bytes) => write_file(mount, path, writer),
+        Err(refusal) => write_refusal(alloc, refusal, writer),
     }
 }
 
-// Writes the bytes of a file, a piece after another.
+// Writes why a call is refused. Answers the exit status.
+fn write_refusal<W: Write>(
+    alloc: Global,
+    refusal: CallRefusal,
+    writer: &mut W,
+) -> Result<u8, ScriptError>
+    ensures ok { IfOk result (λ status. WritesRefusal refusal (W.contents writer.old) (W.contents writer.new) status) }
+    ensures err { IfErr result (λ e. FailsRefusal refusal e (W.contents writer.old) (W.contents writer.new)) }
+{
+    let text = refused_call_text(alloc, refusal)?;
+    write_text(writer, text.as_bytes())?;
+    Ok(status_of(true))
+}
+
+// Writes the bytes of a file, a piece after another. Answers the exit status.
 fn write_file<P: Pmem + Drop, W: Write>(
     mount: &Fs<P>,
     path: &[u8],
     writer: &mut W,
-) -> Result<(), ScriptError>
+) -> Result<u8, ScriptError>
+    ensures status { IfOk result (λ status. status ≡ 0) }
     ensures ok { (names : List (List ℕ)) → IsPath path.now names → OnOk result (WritesFile (tree_of (P.region mount.now.memory) mount.now.rows) names (W.contents writer.old) (W.contents writer.new)) }
     ensures err { (names : List (List ℕ)) → IsPath path.now names → IfErr result (λ e. FailsFile (tree_of (P.region mount.now.memory) mount.now.rows) names e (W.contents writer.old) (W.contents writer.new)) }
 {
@@ -236,7 +244,7 @@ fn write_file<P: Pmem + Drop, W: Write>(
         write_text(writer, &piece)?;
         at += count;
     }
-    Ok(())
+    Ok(status_of(false))
 }
 
 // How many bytes the file has that a path leads to.

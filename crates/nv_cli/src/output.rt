@@ -1,6 +1,7 @@
 //! What a check writes of a region that it recovered.
 
 ghost use Rattle.std.specs.Prelude.{◌≡◌, IfOk, string_bytes};
+ghost use Rattle.nv_super.specs.Layout.{HasAreas};
 ghost use Rattle.nv_report.specs.nv_outcome.Answer.{outcome_of};
 ghost use Rattle.nv_cli.specs.Checking.{IsOutputText};
 
@@ -24,6 +25,7 @@ pub fn output_text(
     recovered: &Recovered,
     output: Output,
 ) -> Result<String, AllocError>
+    requires { HasAreas recovered.now.sup }
     ensures { IfOk result (λ text. IsOutputText output (outcome_of recovered.now) (string_bytes text)) }
 {
     match output {

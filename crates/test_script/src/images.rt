@@ -56,14 +56,14 @@ fn run_on<H: AllocGlobal + Abort + Threads + Sync>(
 #[test]
 fn a_region_is_handed_from_script_to_script(rt: HostRuntime) -> Result<(), Fail> {
     let made = run_on(&rt, b"", MAKING, MADE)?;
-    assert!(&rt; made.len() == 262_144);
+    assert!(rt; made.len() == 262_144);
     let same = run_on(
         &rt,
         &made,
         b"read /d/a 0 9\nrecover 2\nread /d/a 0 9\n",
         "refused NotMounted\nrecovered inodes 3 free 55 faults 0\ndata 4141414141\n",
     )?;
-    assert!(&rt; same.as_slice() == made.as_slice());
+    assert!(rt; same.as_slice() == made.as_slice());
     Ok(())
 }
 
@@ -74,9 +74,9 @@ fn a_region_is_looked_into(rt: HostRuntime) -> Result<(), Fail> {
     let listed = list_image(rt.alloc(), &made, b"/d", &mut out)?;
     let told = stat_image(rt.alloc(), &made, b"/d/a", &mut out)?;
     let read = cat_image(rt.alloc(), &made, b"/d/a", &mut out)?;
-    assert!(&rt; listed == FOUND && told == FOUND && read == FOUND);
+    assert!(rt; listed == FOUND && told == FOUND && read == FOUND);
     let text = b"a 4\nstat inode 4 file mode 420 owner 0 group 0 size 5 links 1 time 7\nAAAAA";
-    assert!(&rt; out.as_slice() == text.as_slice());
+    assert!(rt; out.as_slice() == text.as_slice());
     Ok(())
 }
 
@@ -88,11 +88,11 @@ fn what_is_looked_for_is_refused_by_name(rt: HostRuntime) -> Result<(), Fail> {
     let told = stat_image(rt.alloc(), &made, b"/a", &mut out)?;
     let read = cat_image(rt.alloc(), &made, b"/d", &mut out)?;
     let short = cat_image(rt.alloc(), b"", b"/d", &mut out)?;
-    assert!(&rt;
+    assert!(rt;
         listed == NOT_FOUND && told == NOT_FOUND && read == NOT_FOUND && short == NOT_FOUND
     );
     let text = b"refused NotDirectory\nrefused NotFound\nrefused IsDirectory\nrefused S1\n";
-    assert!(&rt; out.as_slice() == text.as_slice());
+    assert!(rt; out.as_slice() == text.as_slice());
     Ok(())
 }
 
@@ -108,11 +108,11 @@ fn a_check_sums_up_or_tells_faults_alone(rt: HostRuntime) -> Result<(), Fail> {
     }
     let faulty = check_region_as(&rt, rt.alloc(), &made, 2, Output::Summary, &mut out)?;
     let alone = check_region_as(&rt, rt.alloc(), &made, 2, Output::OnlyFaults, &mut out)?;
-    assert!(&rt; sound == 0 && none == 0 && faulty == 1 && alone == 1);
+    assert!(rt; sound == 0 && none == 0 && faulty == 1 && alone == 1);
     let text =
         b"inodes 3, directories 2, files 1, names 2, blocks in use 4, free 55, faults 0\nno faults\n\
         inodes 2, directories 2, files 0, names 2, blocks in use 2, free 57, faults 1 (C1 1)\nfault C1 inode 2 at 24576\n";
-    assert!(&rt; out.as_slice() == text.as_slice());
+    assert!(rt; out.as_slice() == text.as_slice());
     Ok(())
 }
 
@@ -121,7 +121,7 @@ fn a_closed_writer_has_the_front_of_a_file(rt: HostRuntime) -> Result<(), Fail> 
     let made = run_on(&rt, b"", MAKING, MADE)?;
     let mut out = Closing::new(rt.alloc(), 3);
     let answer = cat_image(rt.alloc(), &made, b"/d/a", &mut out);
-    assert!(&rt; answer == Err(ScriptError::Write));
-    assert!(&rt; out.taken() == b"AAA".as_slice());
+    assert!(rt; answer == Err(ScriptError::Write));
+    assert!(rt; out.taken() == b"AAA".as_slice());
     Ok(())
 }

@@ -5,7 +5,7 @@ use Rattle.nv_cli.specs.Hints.{HintsFrom}
 use Rattle.nv_cli.specs.Script.{ShowsFrom, ShowsEnd, ShowsEndFrom}
 use Rattle.nv_cli.proofs.Ending.{so_far, so_far_front}
 use Rattle.nv_cli.proofs.HintReplies.{hints_from, skipped_hints_nothing, text_hints, end_hints, bad_hints}
-use Rattle.nv_cli.proofs.KnownProgress.{front_from_whole, known_begins, known_on, known_all, known_whole, on_err, no_memory}
+use Rattle.nv_cli.proofs.KnownProgress.{front_from_whole, known_begins, known_on, known_all, known_whole, no_memory}
 use Rattle.nv_cli.proofs.LineReplies.{skipped_goes_on, text_goes_on, text_ends_inside, bad_ends, bad_ends_inside, end_ends}
 use Rattle.nv_cli.proofs.script.run_lines.Goals as goal
 use Rattle.nv_cli.proofs.script.run_lines.Goals.{in-Skipped, in-Text+in_ok-write_text-in-Text}
@@ -16,7 +16,9 @@ lines-init g c = λ begin stands. (begin, stands, (λ region. known_begins (Show
 -- ---- what was written
 
 pub returns-in_err-next_reply-clause-err : goal.returns-in_err-next_reply-clause-err
-returns-in_err-next_reply-clause-err g c = on_err _ _ (λ begin stands. let at = c.lines.invariant begin stands in front_from_whole (ShowsFrom begin) _ _ _ (so_far begin at.0 c.lines.number _ _ _ _ at.2))
+returns-in_err-next_reply-clause-err g c =
+    let r = err_from_is_err_and c.from_residual.result c.from_residual.ensures.1 in
+    rw r.1 (λ begin stands. let at = c.lines.invariant begin stands in front_from_whole (ShowsFrom begin) _ _ _ (so_far begin at.0 c.lines.number _ _ _ _ at.2))
 
 pub returns-in_err-next_reply-clause-memory : goal.returns-in_err-next_reply-clause-memory
 returns-in_err-next_reply-clause-memory g c = λ _ begin stands. let at = c.lines.invariant begin stands in so_far begin at.0 c.lines.number _ _ _ _ at.2
@@ -30,7 +32,9 @@ returns-in-End-clause-ok g c = λ begin stands.
     (end_ends _ _ (g.W.Write.contents c.lines.writer) (g.W.Write.contents c.lines.writer) c.lines.number at.0 next.0 region _ (rw c.in-End.is at next.1) (c.status.ensures next.0 next.2) next.2.region)
 
 pub returns-in_err-write_text-in-Text-clause-err : goal.returns-in_err-write_text-in-Text-clause-err
-returns-in_err-write_text-in-Text-clause-err g c = on_err _ _ (λ begin stands.
+returns-in_err-write_text-in-Text-clause-err g c =
+    let r = err_from_is_err_and c.from_residual-in_err-write_text-in-Text.result c.from_residual-in_err-write_text-in-Text.ensures.1 in
+    rw r.1 (λ begin stands.
     let at = c.lines.invariant begin stands in
     let next = c.in_ok-next_reply.ensures at.0 at.1 in
     so_far_front begin at.0 c.lines.number _ _ _ _ at.2 next.0.region _ _
@@ -43,13 +47,17 @@ returns-in_err-write_text-in-Text-clause-memory g c = λ e.
     absurd (no_memory c.from_residual-in_err-write_text-in-Text.result p.0 c.in_err-write_text-in-Text.field-0.0 p.1 p.2 c.in_err-write_text-in-Text.ensures.kind e)
 
 pub returns-in_err-text-in-Bad-clause-err : goal.returns-in_err-text-in-Bad-clause-err
-returns-in_err-text-in-Bad-clause-err g c = on_err _ _ (λ begin stands. let at = c.lines.invariant begin stands in front_from_whole (ShowsFrom begin) _ _ _ (so_far begin at.0 c.lines.number _ _ _ _ at.2))
+returns-in_err-text-in-Bad-clause-err g c =
+    let r = err_from_is_err_and c.from_residual-in_err-text-in-Bad.result c.from_residual-in_err-text-in-Bad.ensures.1 in
+    rw r.1 (λ begin stands. let at = c.lines.invariant begin stands in front_from_whole (ShowsFrom begin) _ _ _ (so_far begin at.0 c.lines.number _ _ _ _ at.2))
 
 pub returns-in_err-text-in-Bad-clause-memory : goal.returns-in_err-text-in-Bad-clause-memory
 returns-in_err-text-in-Bad-clause-memory g c = λ _ begin stands. let at = c.lines.invariant begin stands in so_far begin at.0 c.lines.number _ _ _ _ at.2
 
 pub returns-in_err-write_text-in-Bad-clause-err : goal.returns-in_err-write_text-in-Bad-clause-err
-returns-in_err-write_text-in-Bad-clause-err g c = on_err _ _ (λ begin stands.
+returns-in_err-write_text-in-Bad-clause-err g c =
+    let r = err_from_is_err_and c.from_residual-in_err-write_text-in-Bad.result c.from_residual-in_err-write_text-in-Bad.ensures.1 in
+    rw r.1 (λ begin stands.
     let at = c.lines.invariant begin stands in
     let next = c.in_ok-next_reply.ensures at.0 at.1 in
     so_far_front begin at.0 c.lines.number _ _ _ _ at.2 at.0.region _ _
@@ -97,16 +105,24 @@ returns-clause-err g c = λ begin stands. let at = c.lines.invariant begin stand
 -- ---- the hints
 
 pub returns-in_err-next_reply-clause-first_hints : goal.returns-in_err-next_reply-clause-first_hints
-returns-in_err-next_reply-clause-first_hints g c = on_err _ _ (λ begin stands. let at = c.lines.invariant begin stands in known_whole (HintsFrom begin) _ (hints_from c.lines.number at.0) _ _ _ 0 at.3 refl)
+returns-in_err-next_reply-clause-first_hints g c =
+    let r = err_from_is_err_and c.from_residual.result c.from_residual.ensures.1 in
+    rw r.1 (λ begin stands. let at = c.lines.invariant begin stands in known_whole (HintsFrom begin) _ (hints_from c.lines.number at.0) _ _ _ 0 at.3 refl)
 
 pub returns-in_err-write_text-in-Text-clause-first_hints : goal.returns-in_err-write_text-in-Text-clause-first_hints
-returns-in_err-write_text-in-Text-clause-first_hints g c = on_err _ _ (λ begin stands. let at = c.lines.invariant begin stands in known_whole (HintsFrom begin) _ (hints_from c.lines.number at.0) _ _ _ 0 at.3 refl)
+returns-in_err-write_text-in-Text-clause-first_hints g c =
+    let r = err_from_is_err_and c.from_residual-in_err-write_text-in-Text.result c.from_residual-in_err-write_text-in-Text.ensures.1 in
+    rw r.1 (λ begin stands. let at = c.lines.invariant begin stands in known_whole (HintsFrom begin) _ (hints_from c.lines.number at.0) _ _ _ 0 at.3 refl)
 
 pub returns-in_err-text-in-Bad-clause-first_hints : goal.returns-in_err-text-in-Bad-clause-first_hints
-returns-in_err-text-in-Bad-clause-first_hints g c = on_err _ _ (λ begin stands. let at = c.lines.invariant begin stands in known_whole (HintsFrom begin) _ (hints_from c.lines.number at.0) _ _ _ 0 at.3 refl)
+returns-in_err-text-in-Bad-clause-first_hints g c =
+    let r = err_from_is_err_and c.from_residual-in_err-text-in-Bad.result c.from_residual-in_err-text-in-Bad.ensures.1 in
+    rw r.1 (λ begin stands. let at = c.lines.invariant begin stands in known_whole (HintsFrom begin) _ (hints_from c.lines.number at.0) _ _ _ 0 at.3 refl)
 
 pub returns-in_err-write_text-in-Bad-clause-first_hints : goal.returns-in_err-write_text-in-Bad-clause-first_hints
-returns-in_err-write_text-in-Bad-clause-first_hints g c = on_err _ _ (λ begin stands. let at = c.lines.invariant begin stands in known_whole (HintsFrom begin) _ (hints_from c.lines.number at.0) _ _ _ 0 at.3 refl)
+returns-in_err-write_text-in-Bad-clause-first_hints g c =
+    let r = err_from_is_err_and c.from_residual-in_err-write_text-in-Bad.result c.from_residual-in_err-write_text-in-Bad.ensures.1 in
+    rw r.1 (λ begin stands. let at = c.lines.invariant begin stands in known_whole (HintsFrom begin) _ (hints_from c.lines.number at.0) _ _ _ 0 at.3 refl)
 
 pub returns-clause-first_hints : goal.returns-clause-first_hints
 returns-clause-first_hints g c = λ begin stands. let at = c.lines.invariant begin stands in known_whole (HintsFrom begin) _ (hints_from c.lines.number at.0) _ _ _ 0 at.3 refl
