@@ -26,14 +26,22 @@ pub(crate) fn run<'a, H: Files + AllocGlobal + Print + Eprint + Threads + Sync, 
         Some(path) => Some(region_at(rt, path)?),
         None => None,
     };
-    let ended = run_from(rt, script, region)?;
-    if let Some(target) = save {
-        let Some(region) = ended.region else {
-            return Err(Failure::NothingToWrite(target.path));
-        };
-        save_region(rt, target, &region)?;
-    }
-    Ok(ended.status)
+    let Ended { status, region } = run_from(rt, script, region)?;
+    save_end(rt, save, region)?;
+    Ok(status)
+}
+
+// Writes the region that is there at the end of a script to a file, where there is to be one.
+fn save_end<'a, H: Files + AllocGlobal>(
+    rt: &H,
+    save: Option<Target<'a>>,
+    region: Option<MemRegion>,
+) -> Result<(), Failure<'a>> {
+    let Some(target) = save else { return Ok(()) };
+    let Some(region) = region else {
+        return Err(Failure::NothingToWrite(target.path));
+    };
+    save_region(rt, target, &region)
 }
 
 fn run_from<H: AllocGlobal + Print + Eprint + Threads + Sync, R: Read + Drop>(
