@@ -11,7 +11,7 @@ use Rattle.nv_cli.proofs.looking.open_image.Goals as goal
 pub open-requires : goal.open-requires
 open-requires c =
     let can = opens c.open_system.new.image.region c.recover_alone.new.memory.region c.in_ok-answer-in-Ok.answer c.in_ok-answer-in-Ok.ensures.ok c.in-Recovered.recovered c.in-Recovered.is c.in_ok-answer-in-Ok.ensures.lists in
-    record { outcome = can.0; lists = can.2; own = can.1 }
+    record { outcome = can.0; lists = can.2; own = can.1; numbers = can.3 }
 
 pub returns-in-Recovered : goal.returns-in-Recovered
 returns-in-Recovered c = subst (λ (R : Region). IsOpened R (opened.Mounted c.open.result)) (c.open_system.ensures.same ∙ c.in-Ok.ensures.region)
