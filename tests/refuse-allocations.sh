@@ -1,62 +1,31 @@
 #!/usr/bin/env bash
-# Runs the program refusal_recover with each of its allocations refused in turn, and prints how many of the runs ended in
-# which way: a line for each, its status and what it printed. It ends with status 1, and says why, where a run faults,
-# hangs, or ends in any way but these: all recoveries found the whole, or memory was refused, outside of a recovery or
-# within one that answered so and left its region as before or with its journals rolled back.
+# Runs the program refusal_recover with each of its allocations refused in turn (`refusing.sh` tells how). It ends with
+# status 1, and says why, where a run faults, hangs, or ends in any way but these: all recoveries found the whole; all did,
+# one of them, or a worker, at its second try, since the first was refused memory; or memory was refused outside of them.
 #
-# One build of `rt try` refuses the allocation of the same number in all its runs. So run K takes K blocks of memory first:
-# run 0 meets no refusal, in the last the first allocation is refused. Two threads make those of the recovery by workers,
-# the last one, in an order that differs from run to run. It takes about two minutes.
+# Two threads make the allocations of the recoveries by workers, the last two, in an order that differs from run to run. It
+# takes half an hour and more on a machine with other work.
 set -u
-here=$(cd "$(dirname "${BASH_SOURCE[0]}")/.." && pwd)
-runs=400
-folder=$(mktemp -d)
-trap 'rm -rf "$folder"' EXIT
-
-mkdir "$folder/cases"
-for ((blocks = 0; blocks < runs; blocks++)); do
-    : >"$folder/cases/$blocks"
-    echo "$blocks" >"$folder/cases/$blocks.args"
-done
-cd "$here/crates/refusal_recover" || exit 1
-rt try --steps 1 --fail-alloc $runs --cases "$folder/cases" >"$folder/log" 2>&1
+source "$(dirname "${BASH_SOURCE[0]}")/refusing.sh"
+refuse_each refusal_recover 720
 
 mapfile -t whole <stdout
-one="${whole[0]};"
-two="$one ${whole[1]};"
-refused="run=ended status=1:"
-wanted=(
-    "run=ended status=0: $two ${whole[2]};"
-    "$refused refused Before;"
-    "$refused refused Elsewhere;"
-    "$refused $one refused Elsewhere;"
-    "$refused $two refused Elsewhere;"
-)
-for left in AsBefore RolledBack; do
-    wanted+=(
-        "$refused refused Within(OneThread, $left);"
-        "$refused $one refused Within(Schedule, $left);"
-        "$refused $two refused Within(TwoWorkers, $left);"
-    )
+wanted=()
+so_far=
+for line in "${whole[@]}"; do
+    wanted+=("run=ended status=1:$so_far refused elsewhere;")
+    so_far+=" $line;"
 done
-
-# Each run on one line.
-awk '/^== /          { text = ""; next }
-     /^allocations:/ { next }
-     /^case=/        { print $2, $3 ":" text; next }
-                     { text = text " " $0 ";" }' "$folder/log" >"$folder/ends"
-sort "$folder/ends" | uniq -c
-
-wrong=0
-if [ "$(wc -l <"$folder/ends")" != $runs ]; then
-    echo "WRONG: not $runs runs"
-    tail -n 5 "$folder/log"
-    wrong=1
-fi
-if printf '%s\n' "${wanted[@]}" | grep -vxFf - "$folder/ends" | sort -u | sed 's/^/WRONG: /' | grep .; then
-    wrong=1
-fi
-for way in "${wanted[@]}"; do
-    grep -qxF "$way" "$folder/ends" || { echo "WRONG: no run with $way" && wrong=1; }
+wanted+=("run=ended status=0:$so_far")
+# At most one is refused in a run. A first try that rolled the journals back leaves one fault less to the second: that of
+# the pending record which no journal may have.
+sed -e 's/ refused once: worker, which gave 0 pieces;//' \
+    -e 's/ refused once: [A-Za-z]* [A-Za-z]* AsBefore;//' \
+    -e 's/ refused once: \(Stopped [A-Za-z]*\) RolledBack; \1: inodes 4 free 5 doubled 2 faults 4;/ \1: inodes 4 free 5 doubled 2 faults 5;/' \
+    "$ends" >"$folder/done"
+only_ways "$folder/done" "${wanted[@]}"
+each_way "${wanted[@]}"
+for place in worker, {Stopped,Names}\ {OneThread,Schedule,TwoWorkers}\ AsBefore Stopped\ {OneThread,Schedule,TwoWorkers}\ RolledBack; do
+    grep -q "refused once: $place" "$ends" || say_wrong "no run with refused once: $place"
 done
 exit $wrong

@@ -15,9 +15,9 @@ fn mount(alloc: Global, mut memory: MemRegion) -> Result<Fs<MemRegion>, RecoverE
     Ok(Fs::open(alloc, memory, recovered))
 }
 
-/// A region of 64 blocks for two CPUs, formatted and mounted; `None` where memory is refused.
+/// A region of 24 blocks for two CPUs, formatted and mounted; `None` where memory is refused.
 pub(crate) fn mounted(alloc: Global) -> Option<Fs<MemRegion>> {
-    let mut memory = MemRegion::new(alloc, 64).ok()?;
+    let mut memory = MemRegion::new(alloc, 24).ok()?;
     format(&mut memory, 2, 1, 0).ok()?;
     mount(alloc, memory).ok()
 }

@@ -1,13 +1,31 @@
-//! A small region, damaged and cut short by a stop, and the same with its journals rolled back, word by word.
+//! Two small regions, damaged, and the same with their journals rolled back, word by word. Each has two CPUs and one table
+//! block for each CPU: the slots are in the blocks 3 and 4, and the data blocks begin with 5.
 
-ghost use Rattle.std.specs.Prelude.{IfSome};
+ghost use Rattle.std.specs.Prelude.{◌≤◌, IfSome};
 ghost use Rattle.nv_region.specs.Region.{HasBlocks};
 
 use nv_region::{MemRegion, Pmem};
-use nv_super::MAGIC;
+use nv_super::{MAGIC, Super};
 use std::alloc::Global;
 
-/// Two CPUs, 16 blocks, one table block for each CPU: the slots are in the blocks 3 and 4, the data blocks are 5 to 15.
+/// Which of the regions.
+#[derive(Clone, Copy, Debug)]
+pub(crate) enum Damage {
+    /// A stop left records pending. Two blocks have two owners.
+    Stopped,
+    /// Logs add a name that is there, and remove one that isn't.
+    Names,
+}
+
+/// The superblock of the stopped region.
+pub(crate) const STOPPED: Super = Super {
+    version: 1,
+    cpus: 2,
+    blocks: 16,
+    table_blocks: 1,
+    state: 0,
+};
+
 const SUPERBLOCK: [(u64, u64); 5] = [(0, MAGIC), (8, 1), (16, 2), (24, 16), (32, 1)];
 
 /// The last two records of the journal of CPU 0 are pending: of a word that no journal may name, and of the tail of
@@ -114,31 +132,109 @@ const FILES: [(u64, u64); 15] = [
     (45056, ATTRIBUTES),
 ];
 
-/// The region that a stop left; `None` where memory is refused.
-pub(crate) fn stopped_region(alloc: Global) -> Option<MemRegion>
-    ensures { IfSome result (λ m. HasBlocks m.region 16) }
-{
-    let mut memory = MemRegion::new(alloc, 16).ok()?;
-    store_all(&mut memory, &SUPERBLOCK)?;
-    store_all(&mut memory, &JOURNALS)?;
-    store_all(&mut memory, &SLOTS)?;
-    store_all(&mut memory, &DIRECTORIES)?;
-    store_all(&mut memory, &FILES)?;
-    Some(memory)
+/// Of 64 blocks.
+const NAMES_SUPERBLOCK: [(u64, u64); 5] = [(0, MAGIC), (8, 1), (16, 2), (24, 64), (32, 1)];
+
+/// Valid word, kind, head and tail of the inodes 2, 4, 8 and 1.
+const NAMES_SLOTS: [(u64, u64); 16] = [
+    (12416, 1),
+    (12424, 2),
+    (12432, 24576),
+    (12440, 24640),
+    (12544, 1),
+    (12552, 2),
+    (12560, 28672),
+    (12568, 28736),
+    (12800, 1),
+    (12808, 1),
+    (12816, 36864),
+    (12824, 36920),
+    (16384, 1),
+    (16392, 2),
+    (16400, 20480),
+    (16408, 20640),
+];
+
+/// The first word of an entry that removes a name of one byte.
+const GONE: u64 = 0x1_0020_0203;
+
+/// The root's log removes a name that isn't there, adds `a` twice, and then a name of inode 10, which isn't in use. The
+/// directories 2 and 4 name each other, and the root neither. File 8 has two links.
+const NAMES_LOGS: [(u64, u64); 23] = [
+    (20480, ATTRIBUTES),
+    (20512, GONE),
+    (20520, 2),
+    (20536, 100),
+    (20544, NAME),
+    (20552, 8),
+    (20568, 97),
+    (20576, NAME),
+    (20584, 8),
+    (20600, 97),
+    (20608, NAME),
+    (20616, 10),
+    (20632, 99),
+    (24576, ATTRIBUTES),
+    (24608, NAME),
+    (24616, 4),
+    (24632, 101),
+    (28672, ATTRIBUTES),
+    (28704, NAME),
+    (28712, 2),
+    (28728, 121),
+    (36864, ATTRIBUTES),
+    (36896, TWO_LINKS),
+];
+
+/// The region with this damage; `None` where memory is refused.
+pub(crate) fn damaged_region(alloc: Global, damage: Damage) -> Option<MemRegion> {
+    match damage {
+        Damage::Stopped => stopped_region(alloc),
+        Damage::Names => names_region(alloc),
+    }
 }
 
 /// The same region with its journals rolled back; `None` where memory is refused.
-pub(crate) fn rolled_back_region(alloc: Global) -> Option<MemRegion>
+pub(crate) fn rolled_back_region(alloc: Global, damage: Damage) -> Option<MemRegion> {
+    match damage {
+        Damage::Stopped => undone_region(alloc),
+        Damage::Names => names_region(alloc),
+    }
+}
+
+fn stopped_region(alloc: Global) -> Option<MemRegion>
     ensures { IfSome result (λ m. HasBlocks m.region 16) }
 {
-    let mut memory = stopped_region(alloc)?;
-    store_all(&mut memory, &ROLLED_BACK)?;
+    let mut memory = MemRegion::new(alloc, 16).ok()?;
+    store_all(&mut memory, 16, &SUPERBLOCK)?;
+    store_all(&mut memory, 16, &JOURNALS)?;
+    store_all(&mut memory, 16, &SLOTS)?;
+    store_all(&mut memory, 16, &DIRECTORIES)?;
+    store_all(&mut memory, 16, &FILES)?;
     Some(memory)
 }
 
-fn store_all(memory: &mut MemRegion, words: &[(u64, u64)]) -> Option<()>
-    requires { HasBlocks memory.old.region 16 }
-    ensures { HasBlocks memory.new.region 16 }
+/// The stopped region with its journals rolled back; `None` where memory is refused.
+pub(crate) fn undone_region(alloc: Global) -> Option<MemRegion>
+    ensures { IfSome result (λ m. HasBlocks m.region 16) }
+{
+    let mut memory = stopped_region(alloc)?;
+    store_all(&mut memory, 16, &ROLLED_BACK)?;
+    Some(memory)
+}
+
+fn names_region(alloc: Global) -> Option<MemRegion> {
+    let mut memory = MemRegion::new(alloc, 64).ok()?;
+    store_all(&mut memory, 64, &NAMES_SUPERBLOCK)?;
+    store_all(&mut memory, 64, &NAMES_SLOTS)?;
+    store_all(&mut memory, 64, &NAMES_LOGS)?;
+    Some(memory)
+}
+
+fn store_all(memory: &mut MemRegion, blocks: u64, words: &[(u64, u64)]) -> Option<()>
+    requires many { 16 ≤ blocks }
+    requires blocks { HasBlocks memory.old.region blocks }
+    ensures { HasBlocks memory.new.region blocks }
 {
     for (at, word) in words {
         if at % 8 == 0 && *at < 65536 {
