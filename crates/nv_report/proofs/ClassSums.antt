@@ -1,5 +1,5 @@
 -- How the sums by class grow with the classes that were gone over.
-use Rattle.std.proofs.Common.{◌≡◌, ◌<◌, ◌≤◌, ◌+◌, ℕ, Bool, true, false, List, [], ◌∷◌, ◌++◌, ◌∙◌, cond, map, take, length, get_or, refl, sym, ap, append-nil, arith}
+use Rattle.std.proofs.Common.{◌≡◌, ◌<◌, ◌≤◌, ◌+◌, ℕ, Bool, true, false, List, [], ◌∷◌, ◌++◌, ◌∙◌, cond, map, take, length, get_or, sym, ap, append-nil, arith}
 use Rattle.std.specs.List.{filter}
 use Rattle.std.specs.Prelude.{nat_lt, count_by, bytes_eq}
 use Rattle.std.proofs.Math.Seq.{take-length}

@@ -111,7 +111,7 @@ fn a_check_sums_up_or_tells_faults_alone(rt: HostRuntime) -> Result<(), Fail> {
     assert!(rt; sound == 0 && none == 0 && faulty == 1 && alone == 1);
     let text =
         b"inodes 3, directories 2, files 1, names 2, blocks in use 4, free 55, faults 0\nno faults\n\
-        inodes 2, directories 2, files 0, names 2, blocks in use 2, free 57, faults 1 (C1 1)\nfault C1 inode 2 at 24576\n";
+        inodes 2, directories 2, files 0, names 2, blocks in use 2, free 57, faults 1 (C1 1)\nfault C1 inode 2 at 24608\n";
     assert!(rt; out.as_slice() == text.as_slice());
     Ok(())
 }

@@ -1,5 +1,5 @@
 use Rattle.std.proofs.Common.{◌≡◌, [], false, IsTrue}
-use Rattle.std.proofs.lemmas.Result.{IfOk-weaker, on_err_weaker}
+use Rattle.std.proofs.lemmas.Result.{on_err_weaker}
 use Rattle.nv_report.proofs.Unstopped.{never_stopped, want_of_memory}
 use Rattle.nv_report.proofs.recovering.recover_alone.Goals as goal
 
