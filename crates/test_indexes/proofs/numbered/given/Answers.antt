@@ -16,4 +16,4 @@ once (suc j) (suc zero) order inside same = absurd (omega (arith, order))
 once j (suc (suc k)) order inside same = absurd (omega (arith, inside))
 
 pub from_values-requires-clause-numbers : goal.from_values-requires-clause-numbers
-from_values-requires-clause-numbers c = rw c.in_ok-numbers.ensures (record { below = below; once = once })
+from_values-requires-clause-numbers c = rw c.in_ok-numbers.ensures.items (record { below = below; once = once })
