@@ -1,8 +1,8 @@
 //! A recovery as a script and a check tell it: what it answered, its texts, and the exit status that it leaves.
 //!
 //! `recovering` recovers a region, and answers what was found or why it is refused (`recovery`); `last` has how it went.
-//! `texts` shows a part of what was found (`part`, `shown`), for which `rows` writes the inodes. `lengths` says for a user why a
-//! region's length is refused.
+//! `texts` shows a part of what was found (`part`, `shown`), for which `rows` writes the inodes, and `summary` sums it up in one
+//! line. `lengths` says for a user why a region's length is refused.
 #![tactic(auto)]
 
 mod last;
