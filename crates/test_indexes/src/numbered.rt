@@ -65,7 +65,13 @@ fn given_values_stand_under_their_numbers(rt: HostRuntime) -> Result<(), AllocEr
     assert_values(
         &rt,
         &values,
-        &[(0, None), (1, Some(10)), (5, Some(50)), (7, None), (8, None)],
+        &[
+            (0, None),
+            (1, Some(10)),
+            (5, Some(50)),
+            (7, None),
+            (8, None),
+        ],
     );
     assert!(rt; values.remove(5) == Some(50));
     assert_values(&rt, &values, &[(1, Some(10)), (5, None)]);

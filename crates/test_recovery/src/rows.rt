@@ -119,7 +119,10 @@ fn a_row_is_changed(rt: HostRuntime) -> Result<(), Fail> {
     relink(&mut rows, 2, 7);
     relink(&mut rows, 3, 7);
     assert_numbers(&rt, rt.alloc(), &rows, &[2, 4])?;
-    let links: Vec<u32> = rows.iter().map(|entry| entry.1.numbers.links).collect(rt.alloc())?;
+    let links: Vec<u32> = rows
+        .iter()
+        .map(|entry| entry.1.numbers.links)
+        .collect(rt.alloc())?;
     assert!(rt; links.as_slice() == [7, 1].as_slice());
     Ok(())
 }
