@@ -17,20 +17,26 @@ loop-row-preserved c =
     let more_names = sum_by-append (λ (r : Row). length r.names.names) done (row ∷ []) in
     let longer = length-append done (row ∷ []) in
     elim c.match-row.branch [
-      in-Directory w ↦
-        let kind : is_directory row.kind ≡ true = ap is_directory w.in-Directory.is in
-        (done ++ row ∷ [], rest, ap (λ x. x.inodes) w.counts-is ∙ inodes,
-          grind (arith, dirs, more_directories, kind, ap (λ x. x.directories) w.counts-is),
-          grind (arith, fls, more_files, kind, ap (λ x. x.files) w.counts-is),
-          grind (arith, nms, more_names, c.len-in-loop-row.ensures.exact, ap (λ x. x.names) w.counts-is),
-          grind (arith, all, longer, ap (λ x. x.directories) w.counts-is, ap (λ x. x.files) w.counts-is),
-          grind (arith, few, longer, c.len-in-loop-row.auto, ap (λ x. x.names) w.counts-is))
-    | in-File w ↦
-        let kind : is_directory row.kind ≡ false = ap is_directory w.in-File.is in
-        (done ++ row ∷ [], rest, ap (λ x. x.inodes) w.counts-is ∙ inodes,
-          grind (arith, dirs, more_directories, kind, ap (λ x. x.directories) w.counts-is),
-          grind (arith, fls, more_files, kind, ap (λ x. x.files) w.counts-is),
-          grind (arith, nms, more_names, c.len-in-loop-row.ensures.exact, ap (λ x. x.names) w.counts-is),
-          grind (arith, all, longer, ap (λ x. x.directories) w.counts-is, ap (λ x. x.files) w.counts-is),
-          grind (arith, few, longer, c.len-in-loop-row.auto, ap (λ x. x.names) w.counts-is))
+      | in-Directory w ↦
+          let kind : is_directory row.kind ≡ true = ap is_directory w.in-Directory.is in (
+            done ++ row ∷ [],
+            rest,
+            ap (λ x. x.inodes) w.counts-is ∙ inodes,
+            grind (arith, dirs, more_directories, kind, ap (λ x. x.directories) w.counts-is),
+            grind (arith, fls, more_files, kind, ap (λ x. x.files) w.counts-is),
+            grind (arith, nms, more_names, c.len-in-loop-row.ensures.exact, ap (λ x. x.names) w.counts-is),
+            grind (arith, all, longer, ap (λ x. x.directories) w.counts-is, ap (λ x. x.files) w.counts-is),
+            grind (arith, few, longer, c.len-in-loop-row.auto, ap (λ x. x.names) w.counts-is),
+          )
+      | in-File w ↦
+          let kind : is_directory row.kind ≡ false = ap is_directory w.in-File.is in (
+            done ++ row ∷ [],
+            rest,
+            ap (λ x. x.inodes) w.counts-is ∙ inodes,
+            grind (arith, dirs, more_directories, kind, ap (λ x. x.directories) w.counts-is),
+            grind (arith, fls, more_files, kind, ap (λ x. x.files) w.counts-is),
+            grind (arith, nms, more_names, c.len-in-loop-row.ensures.exact, ap (λ x. x.names) w.counts-is),
+            grind (arith, all, longer, ap (λ x. x.directories) w.counts-is, ap (λ x. x.files) w.counts-is),
+            grind (arith, few, longer, c.len-in-loop-row.auto, ap (λ x. x.names) w.counts-is),
+          )
     ]
