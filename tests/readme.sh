@@ -17,26 +17,9 @@ elif [ $# -ne 0 ]; then
     sed -n 's/^# \{0,1\}//p' "${BASH_SOURCE[0]}" | sed -n 2,9p >&2
     exit 2
 fi
-if [ ! -x "$program" ]; then
-    echo "there is no program at $program; ./nova builds it" >&2
-    exit 2
-fi
-folder=$(mktemp -d)
-trap 'rm -rf "$folder"' EXIT
+source "$(dirname "${BASH_SOURCE[0]}")/comparing.sh"
+needs_program "$program"
 cd "$here" || exit 2
-passed=0
-failed=0
-
-# same NAME WANTED FOUND
-same() {
-    if [ "$2" = "$3" ]; then
-        passed=$((passed + 1))
-    else
-        failed=$((failed + 1))
-        echo "WRONG: $1"
-        diff <(printf '%s\n' "$2") <(printf '%s\n' "$3") | sed 's/^/    /'
-    fi
-}
 
 # Writes each case of a document: what is run, its kind, and what it prints.
 cases_of() {
@@ -168,5 +151,4 @@ while IFS=: read -r name lower; do
     done
 done < <(grep -E '^[a-z_]+:' crates.txt)
 
-echo "$passed passed, $failed failed"
-[ "$failed" -eq 0 ]
+close

@@ -9,30 +9,14 @@
 set -u
 here=$(cd "$(dirname "${BASH_SOURCE[0]}")/.." && pwd)
 program=${1:-$here/crates/nova/out/nova}
-if [ ! -x "$program" ]; then
-    echo "there is no program at $program; ./nova builds it" >&2
-    exit 2
-fi
-folder=$(mktemp -d)
+source "$(dirname "${BASH_SOURCE[0]}")/comparing.sh"
+needs_program "$program"
 disk=
 trap '[ -z "$disk" ] || umount "$disk"; chmod -R u+w "$folder"; rm -rf "$folder"' EXIT
 chmod 755 "$folder"
 # Other users can run this one.
 install -m 755 "$program" "$folder/nova"
 program=$folder/nova
-passed=0
-failed=0
-
-# same NAME WANTED FOUND
-same() {
-    if [ "$2" = "$3" ]; then
-        passed=$((passed + 1))
-    else
-        failed=$((failed + 1))
-        echo "WRONG: $1"
-        diff <(printf '%s\n' "$2") <(printf '%s\n' "$3") | sed 's/^/    /'
-    fi
-}
 
 # told NAME STATUS OUTPUT ERRORS WORD..: runs the program with these words.
 told() {
@@ -207,5 +191,4 @@ else
     echo "left out: refused system calls, and stops at them; strace isn't installed or may not trace"
 fi
 
-echo "$passed passed, $failed failed"
-[ "$failed" -eq 0 ]
+close
