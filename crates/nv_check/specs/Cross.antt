@@ -1,5 +1,5 @@
 -- What is wrong between inodes, told of their rows.
-use Rattle.std.specs.Prelude.{◌≡◌, ◌≢◌, ℕ, ◌<◌, List, [], ◌∷◌, length, Some}
+use Rattle.std.specs.Prelude.{◌≡◌, ◌≢◌, ℕ, ◌<◌, List, ◌∷◌, length, Some}
 use Rattle.std.specs.List.{Contains}
 use Rattle.nv_super.specs.Order.{Lists}
 use Rattle.nv_super.specs.declared.kind.Kind.TheVariants.{File, Directory}
