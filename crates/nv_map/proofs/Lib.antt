@@ -1,0 +1,5 @@
+mod Raising
+mod Runs
+mod Says
+mod Made
+mod Lines

@@ -1,0 +1,49 @@
+-- The marked cells are a map of the outcome.
+use Rattle.std.proofs.Common.{◌⊎◌, inl, inr, ℕ, get_or, refl, ap, sym, ◌∙◌, subst, arith}
+use Rattle.std.specs.Int.{div_ceil}
+use Rattle.nv_super.specs.Layout.{system_blocks}
+use Rattle.nv_outcome.specs.Outcome.{Outcome}
+use Rattle.nv_map.specs.declared.uses.BlockUse.{BlockUse}
+use Rattle.nv_map.specs.declared.uses.BlockUse.TheVariants.{Free, System}
+use Rattle.nv_map.specs.declared.marks.Marks.{Marks}
+use Rattle.nv_map.specs.Map.{IsUsedBy, IsUsedTwice, IsUsed, system, owned, doubled, IsMap}
+use Rattle.nv_map.specs.Marks.{AreFree, AreUsed, IsRaised, Raises, SaysOne}
+use Rattle.nv_map.proofs.Raising.{raises_both}
+
+-- what a block is used for was told
+told : (o : Outcome) (n : ℕ) (kind : BlockUse) → IsUsed o n kind → (AreUsed 0 (system_blocks o.sup) System n kind ⊎ SaysOne IsUsedBy o.rows n kind) ⊎ IsUsedTwice o.doubled n kind
+told o n _ (system below) = inl (inl ((omega arith, omega (arith, below)), refl))
+told o n _ (owned by) = inl (inr by)
+told o n _ (doubled twice) = inr twice
+
+-- all that is told is what blocks are used for
+pub raises_all : (o : Outcome) (a b c d : Marks) → Raises (AreUsed 0 (system_blocks o.sup) System) a b → Raises (SaysOne IsUsedBy o.rows) b c → Raises (IsUsedTwice o.doubled) c d → Raises (IsUsed o) a d
+raises_all o a b c d p q r =
+    let First : ℕ → BlockUse → Type 0 = AreUsed 0 (system_blocks o.sup) System in
+    let Second : ℕ → BlockUse → Type 0 = SaysOne IsUsedBy o.rows in
+    let Both : ℕ → BlockUse → Type 0 = λ n kind. First n kind ⊎ Second n kind in
+    let both : Raises Both a c = raises_both First Second Both (λ n kind h. inl h) (λ n kind h. inr h) (λ n kind h. h) a b c p q in
+    raises_both Both (IsUsedTwice o.doubled) (IsUsed o)
+    (λ n kind h. elim h [
+      | inl first ↦ subst (λ (k : BlockUse). IsUsed o n k) (sym first.1) (system (omega (arith, first.0.1)))
+      | inr second ↦ owned second
+    ])
+    (λ n kind h. doubled h) (told o) a c d both r
+
+-- cells that were free and are told of all blocks are a map
+pub is_map : (o : Outcome) (most : ℕ) (a b : Marks) → AreFree o.sup.blocks most a → Raises (IsUsed o) a b → IsMap o most (record { each = b.each; uses = b.uses })
+is_map o most a b free r = record {
+  each = r.each ∙ free.each;
+  count = r.count ∙ free.count ∙ ap (λ (n : ℕ). div_ceil o.sup.blocks n) (sym r.each);
+  tells = λ place inside.
+      let at = r.cells place (omega (arith, inside, r.count)) in
+      let same : IsRaised (IsUsed o) o.sup.blocks b.each place (get_or a.uses.items place Free) (get_or b.uses.items place Free) =
+      rw (r.each) (subst (λ (n : ℕ). IsRaised (IsUsed o) n a.each place (get_or a.uses.items place Free) (get_or b.uses.items place Free)) free.blocks at) in
+      record {
+        had = λ used. elim same.had [
+          | inl as_before ↦ absurd (used (as_before ∙ free.free place))
+          | inr has ↦ has
+        ];
+        last = same.last;
+      };
+}

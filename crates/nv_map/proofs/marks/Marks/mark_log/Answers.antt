@@ -1,0 +1,6 @@
+use Rattle.nv_map.specs.Marks.{SaysPage}
+use Rattle.nv_map.proofs.Says.{says_next}
+use Rattle.nv_map.proofs.marks.Marks.mark_log.Goals as goal
+
+pub loop-block-preserved : goal.loop-block-preserved
+loop-block-preserved c = says_next SaysPage c.args.pages.now c.loop-block.block-index _ _ _ _ c.loop-block-test.true c.loop-block.invariant c.mark.ensures

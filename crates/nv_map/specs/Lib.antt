@@ -1,0 +1,4 @@
+pub mod Map
+pub mod Marks
+pub mod Text
+pub use Rattle.nv_outcome.specs as nv_outcome

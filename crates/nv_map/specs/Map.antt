@@ -1,0 +1,53 @@
+-- What a map tells: which blocks of an outcome are used for what, and what a cell of some blocks tells of them.
+use Rattle.std.specs.Prelude.{◌≡◌, ◌≢◌, ℕ, ◌+◌, ◌*◌, ◌<◌, ◌≤◌, max, List, length, get_or, Contains, Some}
+use Rattle.std.specs.Int.{div_ceil}
+use Rattle.nv_super.specs.declared.owners.Owner.{Owner}
+use Rattle.nv_super.specs.Layout.{system_blocks}
+use Rattle.nv_radix.specs.Pages.{block_at}
+use Rattle.nv_scan.specs.declared.piece.Row.{Row}
+use Rattle.nv_outcome.specs.Outcome.{Outcome}
+use Rattle.nv_map.specs.declared.uses.BlockUse.{BlockUse}
+use Rattle.nv_map.specs.declared.uses.BlockUse.TheVariants.{Free, System, Data, Log, Doubled}
+use Rattle.nv_map.specs.declared.cells.Cells.{Cells}
+
+-- the order of telling: of several uses the last is told
+abbrev pub rank : BlockUse → ℕ
+rank Free = 0
+rank System = 1
+rank Data = 2
+rank Log = 3
+rank Doubled = 4
+
+-- The inode of a row uses a block: for a page of its file, or for a page of its log.
+pub data IsUsedBy (row : Row) (b : ℕ) : BlockUse → Type 0 where
+  for_file : (page : ℕ) → block_at row.index page ≡ Some b → IsUsedBy row b Data
+  for_log : Contains row.pages.items b → IsUsedBy row b Log
+
+-- the inode of one of the rows uses it
+abbrev pub IsUsedByOne : List Row → ℕ → BlockUse → Type 0
+IsUsedByOne rows b kind = (row : Row) × Contains rows row × IsUsedBy row b kind
+
+-- it stands among the doubled blocks
+abbrev pub IsUsedTwice : List (ℕ × Owner) → ℕ → BlockUse → Type 0
+IsUsedTwice doubled b kind = ((owner : Owner) × Contains doubled (b, owner)) × (kind ≡ Doubled)
+
+-- What a block is used for by an outcome. A block for which nothing stands here is free.
+pub data IsUsed (o : Outcome) (b : ℕ) : BlockUse → Type 0 where
+  system : b < system_blocks o.sup → IsUsed o b System
+  owned : {kind : BlockUse} → IsUsedByOne o.rows b kind → IsUsed o b kind
+  doubled : {kind : BlockUse} → IsUsedTwice o.doubled b kind → IsUsed o b kind
+
+-- the block stands in this cell of so many blocks each
+abbrev pub InCell : ℕ → ℕ → ℕ → Type 0
+InCell each place b = (place * each ≤ b) × (b < place * each + each)
+
+-- A cell tells this use: one of its blocks has it, unless it is free, and none has a later one.
+pub record TellsCell (o : Outcome) (each place : ℕ) (kind : BlockUse) : Type 0 where
+  pub had : kind ≢ Free → (b : ℕ) × (b < o.sup.blocks) × InCell each place b × IsUsed o b kind
+  pub last : (b : ℕ) (other : BlockUse) → b < o.sup.blocks → InCell each place b → IsUsed o b other → rank other ≤ rank kind
+
+-- The cells are a map of the outcome: at most `most` of them (one, if that is 0), of as few blocks as can be.
+pub record IsMap (o : Outcome) (most : ℕ) (cells : Cells) : Type 0 where
+  pub each : cells.each ≡ div_ceil o.sup.blocks (max most 1)
+  pub count : length cells.uses.items ≡ div_ceil o.sup.blocks cells.each
+  pub tells : (place : ℕ) → place < length cells.uses.items → TellsCell o cells.each place (get_or cells.uses.items place Free)

@@ -1,0 +1,11 @@
+//! The map of a region: which blocks are what, in cells of some blocks each, and its text.
+#![tactic(auto)]
+
+mod cells;
+mod marks;
+mod text;
+mod uses;
+
+pub use cells::{Cells, cells_of};
+pub use text::cells_text;
+pub use uses::BlockUse;
