@@ -58,13 +58,17 @@ path_app name = command name (needed_rule (codes "image") ∷ needed_rule (codes
 abbrev pub explain_app : App
 explain_app = command (codes "explain") (needed_rule (codes "class") ∷ [])
 
+-- `map`: an image's file, and the file of a drawing
+abbrev pub map_app : App
+map_app = command (codes "map") (needed_rule (codes "image") ∷ option_rule (codes "svg") ∷ [])
+
 -- the program before its commands: its own name isn't among the words, and one of the commands has to be
 abbrev pub bare_app : App
 bare_app = on_top (λ s. record s { no_binary_name = true; subcommand_required = true }) (new_app (codes "nova"))
 
 -- the commands that read an image, or write one
 abbrev pub image_apps : List App
-image_apps = mkfs_app ∷ ls_app ∷ path_app (codes "stat") ∷ path_app (codes "cat") ∷ explain_app ∷ []
+image_apps = mkfs_app ∷ ls_app ∷ path_app (codes "stat") ∷ path_app (codes "cat") ∷ explain_app ∷ map_app ∷ []
 
 -- the program with its commands
 abbrev pub nova_app : App

@@ -8,7 +8,7 @@ use Rattle.nv_args.specs.CommandLine.{nova_app}
 use Rattle.nv_args.specs.declared.todo.CheckOutput.{CheckOutput}
 use Rattle.nv_args.specs.declared.todo.CheckOutput.TheVariants.{Report, Summary, OnlyFaults}
 use Rattle.nv_args.specs.declared.todo.Todo.{Todo}
-use Rattle.nv_args.specs.declared.todo.Todo.TheVariants.{Run, Check, Mkfs, Ls, Stat, Cat, Explain}
+use Rattle.nv_args.specs.declared.todo.Todo.TheVariants.{Run, Check, Mkfs, Ls, Stat, Cat, Explain, Map}
 use Rattle.nv_args.specs.UsageValue.{UsageTold}
 
 -- the written text is a decimal number below 2^64, which may have a plus sign and leading zeros
@@ -42,6 +42,7 @@ command_of (Ls image path) = codes "ls"
 command_of (Stat image path) = codes "stat"
 command_of (Cat image path) = codes "cat"
 command_of (Explain class) = codes "explain"
+command_of (Map image svg) = codes "map"
 
 -- what is to be done has the values that are written for a command's arguments
 abbrev pub HasValues : List Row → Todo → Type 0
@@ -59,6 +60,8 @@ HasValues values (Ls image path) = (first_of (codes "image") values ≡ Some ima
 HasValues values (Stat image path) = (first_of (codes "image") values ≡ Some image.now) × (first_of (codes "path") values ≡ Some path.now)
 HasValues values (Cat image path) = (first_of (codes "image") values ≡ Some image.now) × (first_of (codes "path") values ≡ Some path.now)
 HasValues values (Explain class) = first_of (codes "class") values ≡ Some class.now
+HasValues values (Map image svg) = (first_of (codes "image") values ≡ Some image.now)
+    × (first_of (codes "svg") values ≡ option_map (λ text. text.now) svg)
 
 -- this command, with the values written for its arguments, asks for this
 abbrev pub Asks : Text → List Row → Todo → Type 0

@@ -3,7 +3,7 @@
 ghost use Rattle.std.specs.Prelude.{◌≡◌, IfOk, false, codes};
 ghost use Rattle.clap.specs.Simple.{app_of};
 ghost use Rattle.clap.specs.declared.builder.command.Command.TheViews.{out-Command};
-ghost use Rattle.nv_args.specs.CommandLine.{run_app, check_app, mkfs_app, ls_app, path_app, explain_app, bare_app, nova_app};
+ghost use Rattle.nv_args.specs.CommandLine.{run_app, check_app, mkfs_app, ls_app, path_app, explain_app, map_app, bare_app, nova_app};
 
 use crate::arguments::{flag, needed, number, option, place, workers};
 use clap::Command;
@@ -150,6 +150,17 @@ fn explain<'a>(alloc: Global) -> Result<Command<'a>, AllocError>
         ))
 }
 
+fn map<'a>(alloc: Global) -> Result<Command<'a>, AllocError>
+    ensures local { IfOk result (λ c. (out-Command c).has_globals ≡ false) }
+    ensures shape { IfOk result (λ c. app_of c ≡ map_app) }
+{
+    Command::new(alloc, "map")
+        .about("Shows which blocks of an image are what")
+        .after_help(NOTES)
+        .arg(needed(alloc, "image", IMAGE))?
+        .arg(option(alloc, "svg", "The file to write a drawing of it to"))
+}
+
 // The program before its commands. Its name leads the usage of each command.
 fn bare<'a>(alloc: Global) -> Result<Command<'a>, AllocError>
     ensures { IfOk result (λ c. app_of c ≡ bare_app) }
@@ -172,5 +183,6 @@ pub(crate) fn nova<'a>(alloc: Global) -> Result<Command<'a>, AllocError>
         .subcommand(ls(alloc)?)?
         .subcommand(stat(alloc)?)?
         .subcommand(cat(alloc)?)?
-        .subcommand(explain(alloc)?)
+        .subcommand(explain(alloc)?)?
+        .subcommand(map(alloc)?)
 }

@@ -136,6 +136,15 @@ fn explain_of<'a>(values: &ArgMatches<'a>) -> Option<Todo<'a>>
     Some(Todo::Explain { class })
 }
 
+fn map_of<'a>(values: &ArgMatches<'a>) -> Option<Todo<'a>>
+    ensures some { IfSome result (λ todo. Asks (codes "map") (rows_of (found_of values.now)) todo) }
+    ensures none { IsNone result → (todo : Todo) → ¬ Asks (codes "map") (rows_of (found_of values.now)) todo }
+{
+    let image = text_of(values, "image")?;
+    let svg = text_of(values, "svg");
+    Some(Todo::Map { image, svg })
+}
+
 fn todo_of<'a>(matches: &ArgMatches<'a>) -> Option<Todo<'a>>
     ensures some { IfSome result (λ todo. Says (subcommand_rows_of matches.now) todo) }
     ensures none { IsNone result → (todo : Todo) → ¬ Says (subcommand_rows_of matches.now) todo }
@@ -149,6 +158,7 @@ fn todo_of<'a>(matches: &ArgMatches<'a>) -> Option<Todo<'a>>
         "stat" => stat_of(values),
         "cat" => cat_of(values),
         "explain" => explain_of(values),
+        "map" => map_of(values),
         _ => None,
     }
 }

@@ -43,6 +43,11 @@ pub enum Todo<'a> {
     Explain {
         class: &'a str,
     },
+    /// Show which blocks of an image are what, and draw it in a file, or nowhere.
+    Map {
+        image: &'a str,
+        svg: Option<&'a str>,
+    },
 }
 
 /// What a check prints.

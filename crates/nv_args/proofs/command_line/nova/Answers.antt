@@ -10,4 +10,5 @@ returns c =
     let four = with_command _ _ _ _ _ three c.in_ok-ls.ensures.shape c.in_ok-ls.ensures.local c.in_ok-subcommand-4.ensures in
     let five = with_command _ _ _ _ _ four c.in_ok-stat.ensures.shape c.in_ok-stat.ensures.local c.in_ok-subcommand-5.ensures in
     let six = with_command _ _ _ _ _ five c.in_ok-cat.ensures.shape c.in_ok-cat.ensures.local c.in_ok-subcommand-6.ensures in
-    IfOk-weaker c.subcommand-7.result _ _ (λ new adds. with_command _ _ new _ _ six c.in_ok-explain.ensures.shape c.in_ok-explain.ensures.local adds) c.subcommand-7.ensures
+    let seven = with_command _ _ _ _ _ six c.in_ok-explain.ensures.shape c.in_ok-explain.ensures.local c.in_ok-subcommand-7.ensures in
+    IfOk-weaker c.subcommand-8.result _ _ (λ new adds. with_command _ _ new _ _ seven c.in_ok-map.ensures.shape c.in_ok-map.ensures.local adds) c.subcommand-8.ensures
