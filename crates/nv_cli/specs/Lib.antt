@@ -2,7 +2,9 @@ pub mod Script
 pub mod Transcript
 pub mod Replies
 pub mod Checking
+pub mod Recovering
 pub mod Looking
+pub mod Mapping
 pub mod Formatting
 pub use Rattle.nv_region.specs.Region
 pub use Rattle.nv_super.specs.Super

@@ -2,8 +2,6 @@
 use Rattle.std.specs.Prelude.{◌≡◌, ◌≢◌, ◌⊎◌, ℕ, false, List, length, Option, Some, None}
 use Rattle.std.specs.Io.KnownBytes.{Appends, Keeps}
 use Rattle.nv_region.specs.Region.{Region, region_of}
-use Rattle.nv_super.specs.declared.superblock.SuperFault.{SuperFault}
-use Rattle.nv_super.specs.Super.{IsRefused}
 use Rattle.nv_report.specs.nv_outcome.nv_journal.Undo.{undone}
 use Rattle.nv_report.specs.nv_outcome.Outcome.{Outcome, IsOutcome}
 use Rattle.nv_tree.specs.Path.{Says}
@@ -19,7 +17,7 @@ use Rattle.nv_stream.specs.declared.fault.ScriptError.{ScriptError}
 use Rattle.nv_stream.specs.declared.fault.ScriptError.TheVariants.{Read, Write, Memory}
 use Rattle.nv_stream.specs.Streams.{AppendsFront}
 use Rattle.nv_cli.specs.Checking.{IsSuperRefusal}
-use Rattle.nv_text.specs.declared.refusals.Refusal.TheVariants as refusals
+use Rattle.nv_cli.specs.Recovering.{IsSuperRefused}
 use Rattle.nv_cli.specs.declared.looking.Answered.{Answered}
 use Rattle.nv_cli.specs.declared.looking.Opened.{Opened}
 use Rattle.nv_cli.specs.declared.looking.Opened.TheVariants as opened
@@ -92,7 +90,7 @@ FailsCat Tells bytes Memory old new = Keeps old new ⊎ WritesLookFront Tells by
 -- The region is mounted, with its journals rolled back, and what the mount shows is its outcome; or its superblock isn't accepted.
 abbrev pub IsOpened : Region → Opened → Type 0
 IsOpened R (opened.Mounted m) = (o : Outcome) × IsOutcome R o × (m.memory.region ≡ undone o.sup R) × (m.rows ≡ o.rows) × (m.faults ≡ o.faults) × (m.stopped ≡ false)
-IsOpened R (opened.Refused refusal) = (fault : SuperFault) × IsRefused R fault × (refusal ≡ refusals.Super fault)
+IsOpened R (opened.Refused refusal) = IsSuperRefused R refusal
 
 -- The path leads to an inode of so many bytes.
 pub record IsSized (t : Tree) (names : List (List ℕ)) (size : ℕ) : Type 0 where

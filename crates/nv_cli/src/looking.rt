@@ -12,12 +12,11 @@ ghost use Rattle.nv_session.specs.nv_calls.Reading.{IsRead};
 ghost use Rattle.nv_cli.specs.Checking.{IsRefusal};
 ghost use Rattle.nv_cli.specs.Looking.{IsLook, IsOpened, IsSized, ListsNames, TellsNumbers, GivesBytes, WritesLook, FailsLook, FailsCat, WritesCall, FailsCall, WritesFile, FailsFile, WritesRefusal, FailsRefusal};
 
-use crate::checking::open_system;
-use nv_region::{ImageRegion, Pmem, RegionRefusal};
-use nv_report::{Answer, Last, recover_alone, refused_text};
+use crate::recovering::{Image, recover_image};
+use nv_region::{ImageRegion, Pmem};
+use nv_report::{Last, refused_text};
 use nv_session::{CallRefusal, CallText, Fs, list_text, refused_call_text, stat_text};
 use nv_stream::{ScriptError, write_text};
-use nv_super::SuperFault;
 use nv_text::Refusal;
 use std::alloc::{AllocError, Global};
 use std::io::Write;
@@ -143,19 +142,12 @@ fn look_at_numbers(alloc: Global, bytes: &[u8], path: &[u8]) -> Result<Look, All
 fn open_image(alloc: Global, bytes: &[u8]) -> Result<Opened<'_>, AllocError>
     ensures { IfOk result (IsOpened (region_of bytes.now)) }
 {
-    match ImageRegion::from_bytes(alloc, bytes) {
-        Ok(mut image) => {
-            open_system(&mut image)?;
-            let answer = recover_alone(alloc, &mut image)?;
-            match answer {
-                Answer::Recovered(recovered) => {
-                    Ok(Opened::Mounted(Fs::open(alloc, image, recovered)))
-                }
-                Answer::Refused(refusal) => Ok(Opened::Refused(refusal)),
-            }
+    let image = recover_image(alloc, bytes)?;
+    match image {
+        Image::Recovered(memory, recovered) => {
+            Ok(Opened::Mounted(Fs::open(alloc, memory, recovered)))
         }
-        Err(RegionRefusal::Length) => Ok(Opened::Refused(Refusal::Super(SuperFault::Length))),
-        Err(RegionRefusal::Memory) => Err(AllocError),
+        Image::Refused(refusal) => Ok(Opened::Refused(refusal)),
     }
 }
 
