@@ -3,7 +3,7 @@
 use crate::broken_streams::Closing;
 use nv_cli::{
     Answered, Hint, Hints, MemRegion, Output, ScriptError, cat_image, check_region_as, list_image,
-    region_of_file, run_script_on, stat_image,
+    map_cells, region_of_file, run_script_on, stat_image, write_map,
 };
 use std::process::Abort;
 use std::test::Fail;
@@ -92,6 +92,25 @@ fn what_is_looked_for_is_refused_by_name(rt: HostRuntime) -> Result<(), Fail> {
         listed == NOT_FOUND && told == NOT_FOUND && read == NOT_FOUND && short == NOT_FOUND
     );
     let text = b"refused NotDirectory\nrefused NotFound\nrefused IsDirectory\nrefused S1\n";
+    assert!(rt; out.as_slice() == text.as_slice());
+    Ok(())
+}
+
+#[test]
+fn a_region_is_mapped(rt: HostRuntime) -> Result<(), Fail> {
+    let made = run_on(&rt, b"", MAKING, MADE)?;
+    let by_block = map_cells(rt.alloc(), &made, 1024)?;
+    let by_four = map_cells(rt.alloc(), &made, 16)?;
+    let short = map_cells(rt.alloc(), b"", 16)?;
+    let mut out = Vec::new(rt.alloc());
+    assert!(rt; write_map(rt.alloc(), &by_block, &mut out)? == FOUND);
+    assert!(rt; write_map(rt.alloc(), &by_four, &mut out)? == FOUND);
+    assert!(rt; write_map(rt.alloc(), &short, &mut out)? == NOT_FOUND);
+    let text = b"SSSSSLLLD.......................................................\n\
+        blocks in a cell 1: . free, S system, D data, L log, ! doubled\n\
+        SLD.............\n\
+        blocks in a cell 4: . free, S system, D data, L log, ! doubled\n\
+        refused S1\n";
     assert!(rt; out.as_slice() == text.as_slice());
     Ok(())
 }

@@ -3,7 +3,7 @@
 use nv_args::{CheckOutput, Todo, read_words};
 use std::process::Abort;
 
-const REFUSED: [&[&str]; 12] = [
+const REFUSED: [&[&str]; 13] = [
     &["check", "a", "--workers", "65"],
     &["check", "a", "--workers", "0"],
     &["check", "a", "--summary", "--only-faults"],
@@ -23,6 +23,7 @@ const REFUSED: [&[&str]; 12] = [
     ],
     &["ls", "i", "/", "/"],
     &["cat", "i"],
+    &["map", "i", "s"],
     &["explain"],
     &["--help"],
 ];
@@ -103,6 +104,12 @@ fn images_are_looked_into(rt: HostRuntime) {
     assert_asked(&rt, &["ls", "i"], Todo::Ls { image, path: "/" });
     assert_asked(&rt, &["stat", "i", "/a"], Todo::Stat { image, path });
     assert_asked(&rt, &["cat", "i", "/a"], Todo::Cat { image, path });
+    assert_asked(&rt, &["map", "i"], Todo::Map { image, svg: None });
+    let drawn = Todo::Map {
+        image,
+        svg: Some("s"),
+    };
+    assert_asked(&rt, &["map", "--svg", "s", "i"], drawn);
     assert_asked(&rt, &["explain", "l2"], Todo::Explain { class: "l2" });
 }
 
