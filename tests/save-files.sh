@@ -1,5 +1,5 @@
 #!/usr/bin/env bash
-# Tries that `nova mkfs` and `nova run --save` write a file whole or leave what was there: on a full disk, past
+# Tries that `nova mkfs`, `nova run --save` and `nova map --svg` write a file whole or leave what was there: on a full disk, past
 # a limit of the system, where the last step is refused, in a folder that can't be written, on what is no file, and with a stop at
 # each system call that writes.
 #
@@ -50,6 +50,7 @@ unchanged() {
     same "$1: the folder" image "$(ls "$room")"
 }
 
+printf cut! >"$folder/short"
 grown=$folder/grown.nova
 printf 'format 1 64 1\n' >"$grown"
 
@@ -62,6 +63,16 @@ unchanged "no file is written without --save"
 told "a script's own region is saved" 0 ok "" run "$grown" --save "$room/image"
 same "a script's own region is saved: its length" 262144 "$(stat -c %s "$room/image")"
 same "a script's own region is saved: the folder" image "$(ls "$room")"
+
+# A drawing has the cells of the text, and takes the place of a file that is there.
+begin
+echo old >"$folder/drawing"
+told "map" 0 "SSSLLD..........
+blocks in a cell 1: . free, S system, D data, L log, ! doubled" "" map "$room/image" --svg "$folder/drawing"
+same "map: the drawing" "3 #7f7f7f 2 #59a14f 1 #4c8ed9 10 #e6e6e6" "$(sed -n 's/^<rect .*fill="\(.*\)".*/\1/p' "$folder/drawing" | head -n 16 | uniq -c | xargs)"
+told "map of no region" 2 "refused S1" "it has 4 bytes; a region has a multiple of 4096, from 32768 to 268435456" map "$folder/short" --svg "$folder/none"
+same "map of no region: the drawing" "" "$(ls "$folder/none" 2>/dev/null)"
+unchanged "map"
 
 # What is there stays.
 begin
