@@ -1,7 +1,8 @@
 //! The program `nova`: it makes, checks and shows images of the NOVA file system, and runs scripts on them.
 //!
 //! `run` runs a script, on the region of an image or on none, and saves the region that it leaves, `check` recovers an image in
-//! memory and prints its report, and `show` shows what is in an image. `saving` writes files, `image` reads them.
+//! memory and prints its report, `show` shows what is in an image, and `mapping` what its blocks are used for. `saving` writes
+//! files, `image` reads them.
 //!
 //! Behind a bad line, and a region that is refused for its length, a line on standard error says more.
 //!
@@ -10,10 +11,12 @@
 #![tactic(auto)]
 
 mod check;
+mod drawing;
 mod explain;
 mod failure;
 mod hints;
 mod image;
+mod mapping;
 mod reason;
 mod run;
 mod saving;
@@ -26,6 +29,7 @@ ghost use Rattle.std.specs.Process.{exit_status};
 use check::check;
 use explain::{explain, tell_classes};
 use failure::Failure;
+use mapping::map;
 use nv_args::{Todo, read_words};
 use nv_cli::ScriptError;
 use reason::Reason;
@@ -78,17 +82,18 @@ fn answer<'a, H: Files + AllocGlobal + Print + Eprint + Threads + Sync, R: Read 
     process: u32,
     todo: Todo<'a>,
 ) -> Result<u8, Failure<'a>> {
+    let over = |path| Target {
+        path,
+        force: true,
+        process,
+    };
     match todo {
         Todo::Run {
             script,
             image,
             save,
         } => {
-            let save = save.map(|path| Target {
-                path,
-                force: true,
-                process,
-            });
+            let save = save.map(over);
             match script {
                 Some(path) => run(rt, script_at(rt, path)?, image, save),
                 None => run(rt, input, image, save),
@@ -121,6 +126,7 @@ fn answer<'a, H: Files + AllocGlobal + Print + Eprint + Threads + Sync, R: Read 
         Todo::Ls { image, path } => show(rt, image, Shown::Names(path)),
         Todo::Stat { image, path } => show(rt, image, Shown::Attributes(path)),
         Todo::Cat { image, path } => show(rt, image, Shown::Bytes(path)),
+        Todo::Map { image, svg } => map(rt, image, svg.map(over)),
         Todo::Explain { class } => explain(rt, class),
     }
 }

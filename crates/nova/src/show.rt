@@ -53,7 +53,8 @@ fn show_bytes<H: AllocGlobal + Print>(
     }
 }
 
-fn tell_faults<H: Eprint>(rt: &H, path: &str, faults: usize) {
+/// Says on standard error that an image has faults, where it has some.
+pub(crate) fn tell_faults<H: Eprint>(rt: &H, path: &str, faults: usize) {
     if faults > 0 {
         let _ = eprintln!(rt; "{path} has faults, which nova check tells: {faults}");
     }
