@@ -25,7 +25,7 @@ use Rattle.nv_commit.specs.Extends.{extended, with_log}
 use Rattle.nv_commit.specs.Together.{ShowsIdle}
 use Rattle.nv_calls.specs.Steps.{ShowsRow}
 use Rattle.nv_calls.specs.Taken.{TakesEach}
-use Rattle.nv_calls.proofs.RowChange.{number_at}
+use Rattle.nv_rows.proofs.Places.{number_at}
 use Rattle.nv_calls.proofs.TakenOut.{other_set}
 use Rattle.nv_calls.proofs.TakenBlocks.{are_free, lists_without}
 use Rattle.nv_calls.proofs.TwoLogs.{cut_each, taken_apart}

@@ -1,5 +1,5 @@
 -- The tree once two rows were replaced: that of before with two inodes changed.
-use Rattle.std.proofs.Common.{◌≡◌, ◌≢◌, ℕ, ◌/◌, inl, inr, List, set, slice_get, refl, ap, sym, ◌∙◌, subst, Option, Some, None}
+use Rattle.std.proofs.Common.{◌≡◌, ◌≢◌, ℕ, ◌/◌, inl, inr, List, set, slice_get, refl, ap, sym, ◌∙◌, subst, Option, Some}
 use Rattle.std.specs.List.{Contains}
 use Rattle.std.specs.Option.{option_map}
 use Rattle.std.proofs.lemmas.Bool.{cases_eq}
@@ -14,7 +14,8 @@ use Rattle.nv_tree.specs.Tree.{Node, SameNode, SameNodes, SameTree, Tree}
 use Rattle.nv_tree.specs.Calls.{edit}
 use Rattle.nv_calls.specs.Seen.{node_of, tree_of}
 use Rattle.nv_calls.proofs.CreatedTree.{changed_there, elsewhere, put_there}
-use Rattle.nv_calls.proofs.RowChange.{row_of_other, row_there}
+use Rattle.nv_rows.proofs.Places.{row_of_other}
+use Rattle.nv_calls.proofs.RowChange.{unchanged}
 use Rattle.nv_calls.proofs.RowOf.{row_at}
 use Rattle.nv_calls.proofs.SetRows.{both_rise, first_set, second_set}
 use Rattle.nv_calls.proofs.TakenOut.{other_set, places_differ}
@@ -52,10 +53,6 @@ module _ (R S : Region) (rows : List Row) (i j : ℕ) (first first_now second se
   abbrev first_node : Option Node
   first_node = option_map change (tree_of R rows first.inode)
 
-  unchanged : (k : ℕ) (o : Option Row) → row_of rows k ≡ o → SameNodes (option_map (node_of S) o) (option_map (node_of R) o)
-  unchanged k None e = tt
-  unchanged k (Some r) e = record { kind = refl; mode = refl; owner = refl; group = refl; size = refl; links = refl; time = refl; count = refl; names = λ q. refl; bytes = λ x below. bytes r (row_there rows k r e) x }
-
   both : {a b : Option Node} (k : ℕ) → tree_of S news k ≡ a → made k ≡ b → SameNodes a b → SameNodes (tree_of S news k) (made k)
   both {a} {b} k left right same = subst (λ (o : Option Node). SameNodes o (made k)) (sym left) (subst (λ (o : Option Node). SameNodes a o) (sym right) same)
 
@@ -67,6 +64,6 @@ module _ (R S : Region) (rows : List Row) (i j : ℕ) (first first_now second se
     | inr no_first ↦ elim (cases_eq k second.inode) [
       | inl same ↦ both k (ap (tree_of S news) same ∙ ap (option_map (node_of S)) second_there)
           (changed_there (tree_of R rows) second.inode first.inode other first_node k same (λ e. differ (sym e)) ∙ ap (λ (o : Option Row). option_map other (option_map (node_of R) o)) own_second) other_changed
-      | inr no_second ↦ both k (ap (option_map (node_of S)) (others_stay k no_first no_second)) (elsewhere (tree_of R rows) second.inode first.inode other first_node k no_first no_second) (unchanged k (row_of rows k) refl)
+      | inr no_second ↦ both k (ap (option_map (node_of S)) (others_stay k no_first no_second)) (elsewhere (tree_of R rows) second.inode first.inode other first_node k no_first no_second) (unchanged R S rows bytes k (row_of rows k) refl)
     ]
   ]

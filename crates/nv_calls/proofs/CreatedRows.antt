@@ -36,11 +36,12 @@ use Rattle.nv_calls.specs.NameCalls.{ShowsCreated, WasCreated, name_entries, new
 use Rattle.nv_calls.specs.NewNames.{CreatesAt, HasNamed, IsNoneNamed, place_named}
 use Rattle.nv_calls.specs.Steps.{ShowsRow}
 use Rattle.nv_calls.proofs.CreatedHeld.{all_free, made_lists, made_sound, new_told}
-use Rattle.nv_calls.proofs.Inserted.{from_inserted, is_inserted, stays_inserted}
+use Rattle.nv_rows.proofs.PutBack.{is_inserted}
+use Rattle.nv_calls.proofs.Inserted.{from_inserted, stays_inserted}
 use Rattle.nv_calls.proofs.Mounts.{bytes_stay, kept_of_mounted, mounted_of_kept, mounted_with}
 use Rattle.nv_calls.proofs.NamedLogs.{named_told}
 use Rattle.nv_calls.proofs.OneRow.{shows_row, stands}
-use Rattle.nv_calls.proofs.RowChange.{number_at}
+use Rattle.nv_rows.proofs.Places.{number_at}
 use Rattle.nv_calls.proofs.RowOf.{row_at}
 use Rattle.nv_calls.proofs.TakenBlocks.{all_differ, taken_sup}
 

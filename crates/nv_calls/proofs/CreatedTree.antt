@@ -1,15 +1,13 @@
 -- The tree once an inode was made: the tree machine's.
-use Rattle.std.proofs.Common.{◌≡◌, ◌≢◌, ℕ, ◌/◌, inl, inr, nat_eq, cond, Bool, true, false, List, [], ◌∷◌, set, slice_get, refl, ap, sym, ◌∙◌, subst, arith, Option, Some, None, Ok}
+use Rattle.std.proofs.Common.{◌≡◌, ◌≢◌, ℕ, ◌/◌, inl, inr, nat_eq, cond, Bool, true, false, List, set, slice_get, refl, ap, sym, ◌∙◌, subst, arith, Option, Some, None, Ok}
 use Rattle.std.specs.Cmp.Lexicographic.{pointwise}
 use Rattle.std.specs.List.{Contains}
 use Rattle.std.specs.Option.{option_map}
-use Rattle.std.proofs.Math.Seq.{map-set_same}
 use Rattle.std.proofs.lemmas.Bool.{cases_eq, eq-eqb, ne_eqb}
 use Rattle.std.proofs.lemmas.Option.{slice_get_within}
 use Rattle.nv_region.specs.Region.{Region}
 use Rattle.nv_super.specs.declared.kind.Kind.{Kind}
 use Rattle.nv_super.specs.Order.{Rises}
-use Rattle.nv_super.proofs.RisingPlaces.{rises_keys}
 use Rattle.nv_names.specs.Names.{EachOnce, name_at}
 use Rattle.nv_names.proofs.Listing.{empty-found_in}
 use Rattle.nv_radix.specs.Pages.{block_at}
@@ -26,7 +24,8 @@ use Rattle.nv_calls.specs.NewNames.{HasNamed, IsNewRow}
 use Rattle.nv_calls.specs.Seen.{node_of, tree_of}
 use Rattle.nv_calls.proofs.Inserted.{row_of_inserted, row_of_own}
 use Rattle.nv_calls.proofs.NamesCounted.{one_more}
-use Rattle.nv_calls.proofs.RowChange.{at_set, number_at, row_of_other, row_there}
+use Rattle.nv_calls.proofs.RowChange.{at_set, unchanged}
+use Rattle.nv_rows.proofs.Places.{row_of_other, set_rising}
 use Rattle.nv_calls.proofs.RowOf.{row_at}
 
 -- a condition over names, where they lead
@@ -100,7 +99,7 @@ tree_then R S rows news place row now made kind mode time name rising at number 
   left_row : row_of news row.inode ≡ Some now
   left_row =
       let inside = slice_get_within rows place row at in
-      let up : Rises row_key (set rows place now) = rises_keys row_key rows (set rows place now) (sym (map-set_same row_key rows place now now (ap (λ (n : ℕ). n ∷ []) (number ∙ sym (number_at rows place row now at))))) rising in
+      let up : Rises row_key (set rows place now) = set_rising rows place row now rising at number in
       ap (λ (rs : List Row). row_of rs row.inode) put.all ∙ row_of_inserted (set rows place now) put.place made row.inode differ ∙ ap (row_of (set rows place now)) (sym number) ∙ row_at (set rows place now) place now up (at_set rows place now inside)
 
   left_other : (j : ℕ) → j ≢ made.inode → j ≢ row.inode → row_of news j ≡ row_of rows j
@@ -110,21 +109,6 @@ tree_then R S rows news place row now made kind mode time name rising at number 
   right_row : (j : ℕ) → j ≡ row.inode → made_tree R rows row made.inode kind mode time name j ≡ Some (with_name name made.inode time (node_of R row))
   right_row j same = changed_there (tree_of R rows) row.inode made.inode (with_name name made.inode time) (Some (new_node kind mode time)) j same differ ∙ ap (λ (o : Option Row). option_map (with_name name made.inode time) (option_map (node_of R) o)) own
 
-  unchanged : (j : ℕ) (o : Option Row) → row_of rows j ≡ o → SameNodes (option_map (node_of S) o) (option_map (node_of R) o)
-  unchanged j None e = tt
-  unchanged j (Some r) e = record {
-    kind = refl;
-    mode = refl;
-    owner = refl;
-    group = refl;
-    size = refl;
-    links = refl;
-    time = refl;
-    count = refl;
-    names = λ q. refl;
-    bytes = λ x below. bytes r (row_there rows j r e) x;
-  }
-
   both : {a b : Option Node} (j : ℕ) → tree_of S news j ≡ a → made_tree R rows row made.inode kind mode time name j ≡ b → SameNodes a b → SameNodes (tree_of S news j) (made_tree R rows row made.inode kind mode time name j)
   both {a} {b} j left right same = subst (λ (o : Option Node). SameNodes o (made_tree R rows row made.inode kind mode time name j)) (sym left) (subst (λ (o : Option Node). SameNodes a o) (sym right) same)
 
@@ -133,7 +117,7 @@ tree_then R S rows news place row now made kind mode time name rising at number 
     | inl same ↦ both j (ap (tree_of S news) same ∙ ap (option_map (node_of S)) left_new) (put_there (tree_of R rows) row.inode made.inode (with_name name made.inode time) (Some (new_node kind mode time)) j same differ) new
     | inr new_no ↦ elim (cases_eq j row.inode) [
       | inl same ↦ both j (ap (tree_of S news) same ∙ ap (option_map (node_of S)) left_row) (right_row j same) changed
-      | inr row_no ↦ both j (ap (option_map (node_of S)) (left_other j new_no row_no)) (elsewhere (tree_of R rows) row.inode made.inode (with_name name made.inode time) (Some (new_node kind mode time)) j new_no row_no) (unchanged j (row_of rows j) refl)
+      | inr row_no ↦ both j (ap (option_map (node_of S)) (left_other j new_no row_no)) (elsewhere (tree_of R rows) row.inode made.inode (with_name name made.inode time) (Some (new_node kind mode time)) j new_no row_no) (unchanged R S rows bytes j (row_of rows j) refl)
     ]
   ]
 

@@ -26,13 +26,6 @@ stays_inserted (y ∷ rows) (suc k) x r c = elim (Contains-cons y rows r c) [
   | inr old ↦ Contains-tail y (insert rows k x) r (stays_inserted rows k x r old)
 ]
 
--- the new one is there
-pub is_inserted : (rows : List Row) (k : ℕ) (x : Row) → Contains (insert rows k x) x
-is_inserted [] zero x = Contains-head x []
-is_inserted [] (suc k) x = Contains-head x []
-is_inserted (y ∷ rows) zero x = Contains-head x (y ∷ rows)
-is_inserted (y ∷ rows) (suc k) x = Contains-tail y (insert rows k x) x (is_inserted rows k x)
-
 -- ---- rows by their numbers
 
 -- the row of another number

@@ -1,10 +1,10 @@
 -- A row that was taken out, changed and put in again.
-use Rattle.std.proofs.Common.{◌≡◌, ◌≢◌, ℕ, List, remove, set, refl, ap, ◌∙◌, Some}
+use Rattle.std.proofs.Common.{◌≡◌, ◌≢◌, ℕ, List, remove, set, refl, ap, sym, ◌∙◌, Some}
 use Rattle.nv_super.specs.Order.{Rises}
 use Rattle.nv_alloc.specs.FreeValue.{FreeLists}
 use Rattle.nv_scan.specs.declared.piece.Row.{Row}
 use Rattle.nv_rows.specs.Rows.{row_key, row_of, place_in, IsInUse, HasInserted}
-use Rattle.nv_rows.proofs.Places.{at_place, in_use, others_kept, place_kept, put_one, row_in_use}
+use Rattle.nv_rows.proofs.Places.{at_place, in_use, numbered, place_kept, put_one, row_in_use, row_of_other}
 use Rattle.nv_calls.specs.NewNames.{LeavesRows}
 use Rattle.nv_calls.specs.Steps.{LeavesStep}
 use Rattle.nv_calls.proofs.PutRow.{leaves_set}
@@ -20,7 +20,7 @@ module _ (rows mid news : List Row) (i : ℕ) (was now : Row) (up : Rises row_ke
   module _ (j : ℕ) (apart : i ≢ j) where
     -- the rows of others stay
     pub other_row : row_of news j ≡ row_of rows j
-    other_row = ap (λ (rs : List Row). row_of rs j) back ∙ others_kept rows i j now number apart
+    other_row = ap (λ (rs : List Row). row_of rs j) back ∙ row_of_other rows (place_in rows i) was now j (at_place rows i ∙ at) (λ e. apart (sym (e ∙ numbered rows i was at))) (λ e. apart (sym (e ∙ number)))
 
     pub other_used : IsInUse rows j → IsInUse news j
     other_used used = let r = row_in_use rows j used in in_use news j r.0 (other_row ∙ r.1)

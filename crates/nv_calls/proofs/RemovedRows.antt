@@ -34,7 +34,7 @@ use Rattle.nv_calls.proofs.Mounts.{bytes_stay, kept_of_mounted, mounted_of_kept,
 use Rattle.nv_calls.proofs.NamedLogs.{lost_told}
 use Rattle.nv_calls.proofs.OneRow.{shows_row, stands}
 use Rattle.nv_calls.proofs.RemovedHeld.{differ, fresh_free, removed_lists, removed_sound}
-use Rattle.nv_calls.proofs.RowChange.{number_at}
+use Rattle.nv_rows.proofs.Places.{number_at}
 use Rattle.nv_calls.proofs.TakenBlocks.{taken_sup}
 use Rattle.nv_calls.proofs.TakenOut.{another, other_set, places_differ, stays_there, still_rise, was_there}
 

@@ -22,7 +22,8 @@ use Rattle.nv_calls.specs.LessNames.{HasLost}
 use Rattle.nv_calls.specs.Seen.{node_of, tree_of}
 use Rattle.nv_calls.proofs.CreatedTree.{changed_there, elsewhere, put_there}
 use Rattle.nv_calls.proofs.NamesCounted.{one_less}
-use Rattle.nv_calls.proofs.RowChange.{at_set, row_of_other, row_there}
+use Rattle.nv_rows.proofs.Places.{row_of_other}
+use Rattle.nv_calls.proofs.RowChange.{at_set, unchanged}
 use Rattle.nv_calls.proofs.RowOf.{row_at}
 use Rattle.nv_calls.proofs.PutRow.{set_rises}
 use Rattle.nv_calls.proofs.TakenOut.{none_there, other_set, other_there, places_differ}
@@ -79,10 +80,6 @@ tree_less R S rows place target row now gone time name rising at gone_at number 
   right_row : (j : ℕ) → j ≡ row.inode → removed_tree R rows row gone.inode time name j ≡ Some (without_name name time (node_of R row))
   right_row j same = changed_there (tree_of R rows) row.inode gone.inode (without_name name time) None j same differ ∙ ap (λ (o : Option Row). option_map (without_name name time) (option_map (node_of R) o)) own
 
-  unchanged : (j : ℕ) (o : Option Row) → row_of rows j ≡ o → SameNodes (option_map (node_of S) o) (option_map (node_of R) o)
-  unchanged j None e = tt
-  unchanged j (Some r) e = record { kind = refl; mode = refl; owner = refl; group = refl; size = refl; links = refl; time = refl; count = refl; names = λ q. refl; bytes = λ x below. bytes r (row_there rows j r e) x }
-
   both : {a b : Option Node} (j : ℕ) → tree_of S (remove (set rows place now) target) j ≡ a → removed_tree R rows row gone.inode time name j ≡ b → SameNodes a b → SameNodes (tree_of S (remove (set rows place now) target) j) (removed_tree R rows row gone.inode time name j)
   both {a} {b} j left right same = subst (λ (o : Option Node). SameNodes o (removed_tree R rows row gone.inode time name j)) (sym left) (subst (λ (o : Option Node). SameNodes a o) (sym right) same)
 
@@ -91,7 +88,7 @@ tree_less R S rows place target row now gone time name rising at gone_at number 
     | inl same ↦ both j (ap (tree_of S (remove (set rows place now) target)) same ∙ ap (option_map (node_of S)) left_gone) (put_there (tree_of R rows) row.inode gone.inode (without_name name time) None j same differ) tt
     | inr no_gone ↦ elim (cases_eq j row.inode) [
       | inl same ↦ both j (ap (tree_of S (remove (set rows place now) target)) same ∙ ap (option_map (node_of S)) left_row) (right_row j same) changed
-      | inr no_row ↦ both j (ap (option_map (node_of S)) (left_other j no_gone no_row)) (elsewhere (tree_of R rows) row.inode gone.inode (without_name name time) None j no_gone no_row) (unchanged j (row_of rows j) refl)
+      | inr no_row ↦ both j (ap (option_map (node_of S)) (left_other j no_gone no_row)) (elsewhere (tree_of R rows) row.inode gone.inode (without_name name time) None j no_gone no_row) (unchanged R S rows bytes j (row_of rows j) refl)
     ]
   ]
 

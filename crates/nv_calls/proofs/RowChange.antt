@@ -1,19 +1,17 @@
 -- A mounted file system once one row was replaced: what it keeps, and the tree that it shows.
-use Rattle.std.proofs.Common.{◌≡◌, Result, Ok, Err, IfOk, Bor, ◌≢◌, ℕ, zero, suc, ◌/◌, ◌<◌, inl, inr, nat_eq, Bool, true, false, cond, List, [], ◌∷◌, length, get_or, set, slice_get, refl, ap, sym, ◌∙◌, subst, arith, Option, Some, None}
+use Rattle.std.proofs.Common.{◌≡◌, Result, Ok, Err, IfOk, Bor, ◌≢◌, ℕ, zero, suc, ◌/◌, ◌<◌, inl, inr, nat_eq, Bool, true, false, cond, List, [], ◌∷◌, length, set, slice_get, refl, ap, sym, ◌∙◌, subst, arith, Option, Some, None}
 use Rattle.std.specs.List.{Contains}
 use Rattle.std.specs.Option.{option_map}
 use Rattle.std.proofs.Math.Logic.{∥∥₁_map}
-use Rattle.std.proofs.Math.Seq.{map-set_same}
 use Rattle.std.proofs.lemmas.Bool.{cases_eq}
 use Rattle.std.proofs.lemmas.Bool.Decides.{nat_tests}
-use Rattle.std.proofs.lemmas.Option.{slice_get_within, get_or_from_slice_get}
+use Rattle.std.proofs.lemmas.Option.{slice_get_within}
 use Rattle.nv_region.specs.Region.{Region}
 use Rattle.nv_super.specs.declared.superblock.Super.{Super}
 use Rattle.nv_super.specs.declared.owners.Run.{Run}
 use Rattle.nv_super.specs.declared.faults.Fault.{Fault}
 use Rattle.nv_super.specs.Layout.{fixed_layout}
 use Rattle.nv_super.specs.Order.{Rises}
-use Rattle.nv_super.proofs.RisingPlaces.{rises_keys}
 use Rattle.nv_alloc.specs.FreeValue.{FreeLists}
 use Rattle.nv_entry.specs.declared.entry.Entry.{Entry}
 use Rattle.nv_radix.specs.Pages.{block_at}
@@ -21,6 +19,7 @@ use Rattle.nv_held.specs.nv_outcome.Same.{SameRow, SameRows}
 use Rattle.nv_scan.specs.declared.piece.Row.{Row}
 use Rattle.nv_held.specs.nv_check.Cross.{row_key}
 use Rattle.nv_held.specs.nv_named.Read.{row_of}
+use Rattle.nv_rows.proofs.Places.{number_at, row_of_other, set_rising}
 use Rattle.nv_tree.specs.declared.refusal.Refusal.{Refusal}
 use Rattle.nv_held.specs.Held.{Held, Store, with_inode}
 use Rattle.nv_held.specs.Bytes.{byte_in}
@@ -48,19 +47,6 @@ use Rattle.nv_calls.proofs.OneRow.{shows_row, stands}
 
 -- ---- one row replaced
 
--- the row of another number
-pub row_of_other : (rows : List Row) (place : ℕ) (row new : Row) (j : ℕ) → slice_get rows place ≡ Some row → j ≢ row.inode → j ≢ new.inode → row_of (set rows place new) j ≡ row_of rows j
-row_of_other [] place row new j at differs apart = absurd (cc)
-row_of_other (x ∷ rows) zero row new j at differs apart =
-    let same : x ≡ row = cc in
-    let off : nat_eq new.inode j ≡ false = grind (arith, nat_tests) in
-    let number : x.inode ≡ row.inode = ap (λ (r : Row). r.inode) same in
-    let out : nat_eq x.inode j ≡ false = other_number x.inode row.inode j number differs in
-    ap (λ (b : Bool). cond b (Some new) (row_of rows j)) off ∙ ap (λ (b : Bool). cond b (Some x) (row_of rows j)) (sym out) where
-      other_number : (a i k : ℕ) → a ≡ i → k ≢ i → nat_eq a k ≡ false
-      other_number a i k same differs = grind (arith, nat_tests)
-row_of_other (x ∷ rows) (suc place) row new j at differs apart = ap (λ (o : Option Row). cond (nat_eq x.inode j) (Some x) o) (row_of_other rows place row new j at differs apart)
-
 -- a row of a number is one of the rows
 pub row_there : (rows : List Row) (j : ℕ) (r : Row) → row_of rows j ≡ Some r → Contains rows r
 row_there [] j r e = absurd (cc)
@@ -68,6 +54,22 @@ row_there (x ∷ rows) j r e = by (nat_eq x.inode j) (row_there rows j r) e wher
   by : (b : Bool) → (row_of rows j ≡ Some r → Contains rows r) → cond b (Some x) (row_of rows j) ≡ Some r → Contains (x ∷ rows) r
   by true rest e = (let same : x ≡ r = cc in subst (λ (q : Row). Contains (x ∷ rows) q) same (Contains-head x rows))
   by false rest e = Contains-tail x rows r (rest e)
+
+-- a row of before shows as it did, where each byte that a row's file had is where it was
+pub unchanged : (R S : Region) (rows : List Row) → ((r : Row) → Contains rows r → (x : ℕ) → byte_in S (block_at r.index (x / 4096)) x ≡ byte_in R (block_at r.index (x / 4096)) x) → (j : ℕ) (o : Option Row) → row_of rows j ≡ o → SameNodes (option_map (node_of S) o) (option_map (node_of R) o)
+unchanged R S rows bytes j None e = tt
+unchanged R S rows bytes j (Some r) e = record {
+  kind = refl;
+  mode = refl;
+  owner = refl;
+  group = refl;
+  size = refl;
+  links = refl;
+  time = refl;
+  count = refl;
+  names = λ name. refl;
+  bytes = λ x below. bytes r (row_there rows j r e) x;
+}
 
 pub each_there : (rows : List Row) (r : Result (Bor Row) Refusal) → IfOk r (λ x. row_of rows x.now.inode ≡ Some x.now) → IfOk r (λ x. Contains rows x.now)
 each_there rows (Ok x) held = row_there rows x.now.inode x.now held
@@ -111,9 +113,6 @@ same_store held i h is = λ t j. (each j) t where
     | inl same ↦ ap (with_inode held i (Some h)) same ∙ same_held held i (Some h) ∙ sym is ∙ ap held (sym same)
     | inr differs ↦ other_held held i j (Some h) differs
   ]
-
-pub number_at : (rows : List Row) (place : ℕ) (row new : Row) → slice_get rows place ≡ Some row → (get_or rows place new).inode ≡ row.inode
-number_at rows place row new at = ap (λ (r : Row). r.inode) (get_or_from_slice_get rows place row new at)
 
 module _ {R : Region} {s : Super} {rows : List Row} {free after : FreeLists} {faults : List Fault} {read_only stopped : Bool} (kept : IsKept R s rows free faults read_only stopped) (runs : stopped ≡ false) (writes : read_only ≡ false)
     (place : ℕ) (row new : Row) (at : slice_get rows place ≡ Some row) where
@@ -175,7 +174,7 @@ module _ {R : Region} {s : Super} {rows : List Row} {free after : FreeLists} {fa
     pub tree_after : (change : Node → Node) → new.inode ≡ row.inode → SameNode (node_of S new) (change (node_of R row)) → SameTree (tree_of S (set rows place new)) (edit row.inode change (tree_of R rows))
     tree_after change number here j = elim (cases_eq j row.inode) [ inl same ↦ changed same | inr differs ↦ other differs ] where
       up : Rises row_key (set rows place new)
-      up = rises_keys row_key rows (set rows place new) (sym (map-set_same row_key rows place new new (ap (λ (n : ℕ). n ∷ []) (number ∙ sym (number_at rows place row new at))))) rising
+      up = set_rising rows place row new rising at number
 
       now : tree_of S (set rows place new) row.inode ≡ Some (node_of S new)
       now = ap (option_map (node_of S)) (ap (row_of (set rows place new)) (sym number) ∙ row_at (set rows place new) place new up (at_set rows place new (slice_get_within rows place row at)))
@@ -190,28 +189,13 @@ module _ {R : Region} {s : Super} {rows : List Row} {free after : FreeLists} {fa
           let right : edit row.inode change (tree_of R rows) j ≡ Some (change (node_of R row)) = ap (λ (b : Bool). cond b (option_map change (tree_of R rows row.inode)) (tree_of R rows j)) test ∙ ap (option_map change) before in
           subst (λ (o : Option Node). SameNodes o (edit row.inode change (tree_of R rows) j)) (sym left) (subst (λ (o : Option Node). SameNodes (Some (node_of S new)) o) (sym right) here)
 
-      unchanged : (o : Option Row) → row_of rows j ≡ o → SameNodes (option_map (node_of S) o) (option_map (node_of R) o)
-      unchanged None e = tt
-      unchanged (Some r) e = record {
-        kind = refl;
-        mode = refl;
-        owner = refl;
-        group = refl;
-        size = refl;
-        links = refl;
-        time = refl;
-        count = refl;
-        names = λ name. refl;
-        bytes = λ x below. row_bytes r (row_there rows j r e) x;
-      }
-
       other : j ≢ row.inode → SameNodes (tree_of S (set rows place new) j) (edit row.inode change (tree_of R rows) j)
       other differs =
           let test : nat_eq j row.inode ≡ false = grind (arith, nat_tests) in
           let left : row_of (set rows place new) j ≡ row_of rows j = row_of_other rows place row new j at differs (λ e. differs (e ∙ number)) in
           let right : edit row.inode change (tree_of R rows) j ≡ tree_of R rows j = ap (λ (b : Bool). cond b (option_map change (tree_of R rows row.inode)) (tree_of R rows j)) test in
           subst (λ (o : Option Row). SameNodes (option_map (node_of S) o) (edit row.inode change (tree_of R rows) j)) (sym left)
-          (subst (λ (o : Option Node). SameNodes (option_map (node_of S) (row_of rows j)) o) (sym right) (unchanged (row_of rows j) refl))
+          (subst (λ (o : Option Node). SameNodes (option_map (node_of S) (row_of rows j)) o) (sym right) (unchanged R S rows row_bytes j (row_of rows j) refl))
 
 -- ---- a mount that is as it was
 

@@ -1,18 +1,13 @@
 -- Rows of which two were replaced.
 use Rattle.std.proofs.Common.{◌≡◌, ◌≢◌, ℕ, zero, suc, ◌<◌, List, [], ◌∷◌, length, set, slice_get, refl, ap, sym, ◌∙◌, subst, Some}
-use Rattle.std.proofs.Math.Seq.{map-set_same}
 use Rattle.std.proofs.lemmas.Option.{slice_get_within}
 use Rattle.nv_super.specs.Order.{Rises}
-use Rattle.nv_super.proofs.RisingPlaces.{rises_keys}
 use Rattle.nv_scan.specs.declared.piece.Row.{Row}
 use Rattle.nv_held.specs.nv_outcome.Same.{SameRow, SameRows}
 use Rattle.nv_held.specs.nv_check.Cross.{row_key}
-use Rattle.nv_calls.proofs.RowChange.{at_set, number_at, same_rows, set_same_rows}
+use Rattle.nv_rows.proofs.Places.{set_rising}
+use Rattle.nv_calls.proofs.RowChange.{at_set, same_rows, set_same_rows}
 use Rattle.nv_calls.proofs.TakenOut.{other_set}
-
--- a row that keeps its number leaves them rising
-pub set_rising : (rows : List Row) (place : ℕ) (row now : Row) → Rises row_key rows → slice_get rows place ≡ Some row → now.inode ≡ row.inode → Rises row_key (set rows place now)
-set_rising rows place row now rising at number = rises_keys row_key rows (set rows place now) (sym (map-set_same row_key rows place now now (ap (λ (n : ℕ). n ∷ []) (number ∙ sym (number_at rows place row now at))))) rising
 
 -- what is put at a place again stands there alone
 pub set_twice : (rows : List Row) (i : ℕ) (a b : Row) → set (set rows i a) i b ≡ set rows i b

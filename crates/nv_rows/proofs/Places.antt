@@ -1,5 +1,5 @@
 -- For callers: where the row of an inode stands, and what the rows are once one or two were taken out, changed and put in again.
-use Rattle.std.proofs.Common.{◌≡◌, ◌≢◌, ℕ, zero, suc, ◌<◌, nat_eq, Bool, true, false, cond, is_some, List, [], ◌∷◌, length, remove, set, slice_get, Option, Some, None, refl, sym, ap, ◌∙◌, subst, arith}
+use Rattle.std.proofs.Common.{◌≡◌, ◌≢◌, ℕ, zero, suc, ◌<◌, nat_eq, Bool, true, false, cond, is_some, List, [], ◌∷◌, length, get_or, remove, set, slice_get, Option, Some, None, refl, sym, ap, ◌∙◌, subst, arith}
 use Rattle.std.proofs.Math.Seq.{map-set_same}
 use Rattle.std.proofs.lemmas.List.{set_comm}
 use Rattle.std.proofs.lemmas.Option.{get_or_from_slice_get, slice_get_within}
@@ -84,13 +84,15 @@ place_kept (x ∷ rows) j i now number = by (nat_eq x.inode j) refl (place_kept 
   by true test rest = ap (λ (n : ℕ). cond (nat_eq n i) zero (suc (place_in rows i))) (number ∙ sym (tested x.inode j test))
   by false test rest = ap (λ (n : ℕ). cond (nat_eq x.inode i) zero (suc n)) rest
 
--- the rows of the others stay
-pub others_kept : (rows : List Row) (j i : ℕ) (now : Row) → now.inode ≡ j → j ≢ i → row_of (set rows (place_in rows j) now) i ≡ row_of rows i
-others_kept [] j i now number apart = refl
-others_kept (x ∷ rows) j i now number apart = by (nat_eq x.inode j) refl (others_kept rows j i now number apart) where
-  by : (b : Bool) → nat_eq x.inode j ≡ b → row_of (set rows (place_in rows j) now) i ≡ row_of rows i → row_of (set (x ∷ rows) (cond b zero (suc (place_in rows j))) now) i ≡ cond (nat_eq x.inode i) (Some x) (row_of rows i)
-  by true test rest = ap (λ (c : Bool). cond c (Some now) (row_of rows i)) (differs now.inode j i number apart) ∙ sym (ap (λ (c : Bool). cond c (Some x) (row_of rows i)) (differs x.inode j i (tested x.inode j test) apart))
-  by false test rest = ap (λ (o : Option Row). cond (nat_eq x.inode i) (Some x) o) rest
+-- the row of another number
+pub row_of_other : (rows : List Row) (place : ℕ) (row new : Row) (j : ℕ) → slice_get rows place ≡ Some row → j ≢ row.inode → j ≢ new.inode → row_of (set rows place new) j ≡ row_of rows j
+row_of_other [] place row new j at apart new_apart = absurd (cc)
+row_of_other (x ∷ rows) zero row new j at apart new_apart =
+    let same : x ≡ row = cc in
+    let number : x.inode ≡ row.inode = ap (λ (r : Row). r.inode) same in
+    ap (λ (b : Bool). cond b (Some new) (row_of rows j)) (differs new.inode new.inode j refl (λ e. new_apart (sym e)))
+    ∙ ap (λ (b : Bool). cond b (Some x) (row_of rows j)) (sym (differs x.inode row.inode j number (λ e. apart (sym e))))
+row_of_other (x ∷ rows) (suc place) row new j at apart new_apart = ap (λ (o : Option Row). cond (nat_eq x.inode j) (Some x) o) (row_of_other rows place row new j at apart new_apart)
 
 -- and its own is the new one
 pub own_kept : (rows : List Row) (i : ℕ) (now : Row) → IsInUse rows i → now.inode ≡ i → row_of (set rows (place_in rows i) now) i ≡ Some now
@@ -100,10 +102,13 @@ own_kept (x ∷ rows) i now used number = by (nat_eq x.inode i) refl (λ u. own_
   by true test rest used = let own : nat_eq now.inode i ≡ true = grind (arith, nat_tests, number) in ap (λ (c : Bool). cond c (Some now) (row_of rows i)) own
   by false test rest used = ap (λ (c : Bool). cond c (Some x) (row_of (set rows (place_in rows i) now) i)) test ∙ rest used
 
-pub rises_kept : (rows : List Row) (i : ℕ) (was now : Row) → Rises row_key rows → row_of rows i ≡ Some was → now.inode ≡ i → Rises row_key (set rows (place_in rows i) now)
-rises_kept rows i was now up at number =
-    let here = get_or_from_slice_get rows (place_in rows i) was now (at_place rows i ∙ at) in
-    rises_keys row_key rows (set rows (place_in rows i) now) (sym (map-set_same row_key rows (place_in rows i) now now (ap (λ (n : ℕ). n ∷ []) (number ∙ sym (ap (λ (r : Row). r.inode) here ∙ numbered rows i was at))))) up
+pub number_at : (rows : List Row) (place : ℕ) (row new : Row) → slice_get rows place ≡ Some row → (get_or rows place new).inode ≡ row.inode
+number_at rows place row new at = ap (λ (r : Row). r.inode) (get_or_from_slice_get rows place row new at)
+
+-- a row that keeps its number leaves them rising
+pub set_rising : (rows : List Row) (place : ℕ) (row now : Row) → Rises row_key rows → slice_get rows place ≡ Some row → now.inode ≡ row.inode → Rises row_key (set rows place now)
+set_rising rows place row now rising at number =
+    rises_keys row_key rows (set rows place now) (sym (map-set_same row_key rows place now now (ap (λ (n : ℕ). n ∷ []) (number ∙ sym (number_at rows place row now at))))) rising
 
 -- ---- rows that were taken out and put in again
 
@@ -130,5 +135,7 @@ put_two old mid rest one new i j first second row other apart up at taken mid_up
     let kept : one ≡ remove (set old (place_in old j) other) (place_in old i) = put_one mid rest one j second other mid_up other_at other_taken other_number other_put ∙ ap (λ (rs : List Row). set rs (place_in rs j) other) taken ∙ set_removed old i j other apart in
     let wrote = set old (place_in old j) other in
     let place : place_in wrote i ≡ place_in old i = place_kept old j i other other_number in
-    let last : new ≡ set wrote (place_in wrote i) row = put_one wrote one new i first row (rises_kept old j second other up there other_number) (others_kept old j i other other_number (λ e. apart (sym e)) ∙ at) (kept ∙ ap (remove wrote) (sym place)) number put in
+    let up_then : Rises row_key wrote = set_rising old (place_in old j) second other up (at_place old j ∙ there) (other_number ∙ sym (numbered old j second there)) in
+    let at_then : row_of wrote i ≡ Some first = row_of_other old (place_in old j) second other i (at_place old j ∙ there) (λ e. apart (e ∙ numbered old j second there)) (λ e. apart (e ∙ other_number)) ∙ at in
+    let last : new ≡ set wrote (place_in wrote i) row = put_one wrote one new i first row up_then at_then (kept ∙ ap (remove wrote) (sym place)) number put in
     last ∙ ap (λ (k : ℕ). set wrote k row) place ∙ set_comm old (place_in old j) (place_in old i) other row (λ e. places_apart old i j (in_use old i first at) (in_use old j second there) apart (sym e))

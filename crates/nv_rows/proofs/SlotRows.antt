@@ -9,7 +9,7 @@ use Rattle.nv_super.specs.Order.{Rises}
 use Rattle.nv_super.proofs.Rising.{Contains-cons, below_first, rises_cons}
 use Rattle.nv_scan.specs.declared.piece.Row.{Row}
 use Rattle.nv_numbered.specs.Values.{entries_from}
-use Rattle.nv_rows.specs.Rows.{row_key, row_of, HasInserted}
+use Rattle.nv_rows.specs.Rows.{row_key, inodes_of, row_of, HasInserted}
 use Rattle.nv_rows.specs.Slots.{rows_in, StandByNumber}
 
 -- what stands behind the first slot
@@ -45,6 +45,15 @@ pub rows_of_entries : (first : ℕ) (slots : List (Option Row)) → map (λ (e :
 rows_of_entries first [] = refl
 rows_of_entries first (None ∷ rest) = rows_of_entries (first + 1) rest
 rows_of_entries first (Some row ∷ rest) = ap (λ (rows : List Row). row ∷ rows) (rows_of_entries (first + 1) rest)
+
+-- under the numbers of these rows
+pub numbers_of_entries : (first : ℕ) (slots : List (Option Row)) → StandByNumber first slots → map (λ (e : ℕ × Row). e.0) (entries_from first slots) ≡ inodes_of (rows_in slots)
+numbers_of_entries first [] stand = refl
+numbers_of_entries first (None ∷ rest) stand = numbers_of_entries (first + 1) rest (later_stand first None rest stand)
+numbers_of_entries first (Some row ∷ rest) stand =
+    let number : first ≡ row.inode = omega (arith, stand 0 row refl) in
+    let later = numbers_of_entries (first + 1) rest (later_stand first (Some row) rest stand) in
+    ap (λ (n : ℕ). n ∷ map (λ (e : ℕ × Row). e.0) (entries_from (first + 1) rest)) number ∙ ap (λ (numbers : List ℕ). row.inode ∷ numbers) later
 
 pub count_of_entries : (slots : List (Option Row)) → length (entries_from 0 slots) ≡ length (rows_in slots)
 count_of_entries slots = count_from 0 slots

@@ -123,6 +123,7 @@ impl Rows {
     /// The rows with their numbers, rising. It looks at every number that an inode can have.
     pub fn iter(&self) -> Iter<'_, Row>
         ensures rows { map (λ entry. entry.1) result ≡ self.now.items }
+        ensures numbers { map (λ entry. entry.0) result ≡ inodes_of self.now.items }
         ensures rising { Rises row_key self.now.items }
     {
         self.rows.iter()
