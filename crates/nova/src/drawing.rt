@@ -66,15 +66,15 @@ fn push_words(out: &mut String, x: usize, y: usize, words: &str) -> Result<(), A
 
 // What the colours mean, and how many blocks a cell has.
 fn push_legend(out: &mut String, y: usize, each: u64) -> Result<(), AllocError> {
-    let mut x = 0;
-    for kind in USES {
-        push_cell(out, x, y, kind)?;
-        push_words(out, x + 14, y, name(kind))?;
-        x += LEGEND_CELLS * SIDE;
+    for (place, kind) in USES.iter().enumerate() {
+        let x = place * LEGEND_CELLS * SIDE;
+        push_cell(out, x, y, *kind)?;
+        push_words(out, x + 14, y, name(*kind))?;
     }
     writeln!(
         out,
-        "<text x=\"{x}\" y=\"{}\">blocks in a cell: {each}</text>",
+        "<text x=\"{}\" y=\"{}\">blocks in a cell: {each}</text>",
+        USES.len() * LEGEND_CELLS * SIDE,
         y.saturating_add(9)
     )
 }
