@@ -1,5 +1,5 @@
 -- What is read of a file that may be too long, and why nothing is.
-use Rattle.std.specs.Prelude.{◌≡◌, ◌≤◌, ◌<◌, ℕ, List, length}
+use Rattle.std.specs.Prelude.{◌≡◌, ◌≤◌, ◌<◌, ℕ, List, length, Some, None, ⊤}
 use Rattle.std.specs.IoError.{error_kind}
 use Rattle.std.specs.declared.io.Error.{Error}
 use Rattle.std.specs.declared.io.ErrorKind.{ErrorKind}
@@ -13,6 +13,12 @@ use Rattle.nv_stream.specs.declared.contents.Unread.TheVariants.{Unreadable, Mem
 abbrev pub AreRead : ℕ → List ℕ → Contents → Type 0
 AreRead limit bytes (Whole read) = (read.items ≡ bytes) × (length bytes ≤ limit)
 AreRead limit bytes (Longer told) = limit < length bytes
+
+-- no more bytes than the limit are held, and a length that a file tells is above it
+abbrev pub KeepsLimit : ℕ → Contents → Type 0
+KeepsLimit limit (Whole read) = length read.items ≤ limit
+KeepsLimit limit (Longer None) = ⊤
+KeepsLimit limit (Longer (Some told)) = limit < told
 
 -- a failure of this kind as what it says of a file
 abbrev pub unread_by : ErrorKind → Error → Unread

@@ -1,7 +1,7 @@
 //! The bytes of a file, where it isn't longer than a limit.
 
 ghost use Rattle.std.specs.Prelude.{◌<◌, ◌≤◌, ◌^◌, IfOk, IfSome};
-ghost use Rattle.nv_stream.specs.Contents.{AreRead};
+ghost use Rattle.nv_stream.specs.Contents.{AreRead, KeepsLimit};
 
 use std::alloc::{AllocError, Global};
 use std::fs;
@@ -64,7 +64,8 @@ pub fn read_whole<R: Read + Drop>(
 ) -> Result<Contents, Unread>
     requires within { length ≤ limit }
     requires small { limit < 2 ^ 62 }
-    ensures { IfOk result (λ contents. IfSome (R.remaining reader) (λ bytes. AreRead limit bytes contents)) }
+    ensures bytes { IfOk result (λ contents. IfSome (R.remaining reader) (λ bytes. AreRead limit bytes contents)) }
+    ensures within { IfOk result (KeepsLimit limit) }
 {
     // Room for one more byte, so that the end is met before a growth.
     let mut bytes = Vec::with_capacity(alloc, length + 1)?;
@@ -85,6 +86,7 @@ pub fn contents_at<H: Files + AllocGlobal>(
     limit: usize,
 ) -> Result<Contents, Unread>
     requires { limit < 2 ^ 62 }
+    ensures { IfOk result (KeepsLimit limit) }
 {
     let file = fs::open(rt, path)?;
     let told = file.metadata()?.len();

@@ -3,8 +3,9 @@
 //! A stop at any time leaves what was there before or the whole new file, and at most a file `PATH.new-TAG-N` beside it. Only
 //! tested: no contract can say what a file holds.
 
-ghost use Rattle.std.specs.Prelude.{OnOk};
+ghost use Rattle.std.specs.Prelude.{◌≡◌, OnOk};
 ghost use Rattle.std.specs.Io.KnownBytes.{Appends};
+ghost use Rattle.nv_stream.specs.declared.saving.Unsaved.TheVariants.{Unwritable, Memory};
 
 use std::alloc::{AllocError, AllocFailed};
 use std::fs;
@@ -31,18 +32,24 @@ pub enum Unsaved {
 }
 
 impl From<Error> for Unsaved {
+    ghost from_gives = { λ error e. e ≡ Unwritable error };
+
     fn from(error: Error) -> Unsaved {
         Unsaved::Unwritable(error)
     }
 }
 
 impl From<AllocError> for Unsaved {
+    ghost from_gives = { λ _ e. e ≡ Memory };
+
     fn from(_error: AllocError) -> Unsaved {
         Unsaved::Memory
     }
 }
 
 impl<T: Drop> From<AllocFailed<T>> for Unsaved {
+    ghost from_gives = { λ _ e. e ≡ Memory };
+
     fn from(_error: AllocFailed<T>) -> Unsaved {
         Unsaved::Memory
     }
