@@ -1,15 +1,17 @@
--- Pages stored anew: word by word, block by block, and run by run.
-use Rattle.std.proofs.Common.{◌≡◌, inl, inr, ℕ, ◌+◌, ◌-◌, ◌*◌, ◌/◌, ◌%◌, ◌<◌, ◌≤◌, Bool, true, false, nat_lt, cond, List, ◌∷◌, length, get_or, drop, Option, Some, None, IfSome, refl, sym, ap, ◌∙◌, subst, arith, add-one}
+-- Pages stored anew: line by line, block by block, and run by run.
+use Rattle.std.proofs.Common.{◌≡◌, inl, inr, ℕ, ◌+◌, ◌-◌, ◌*◌, ◌/◌, ◌%◌, ◌<◌, ◌≤◌, Bool, true, false, nat_lt, cond, List, ◌∷◌, length, get_or, set, drop, Option, Some, None, IfSome, refl, sym, ap, ◌∙◌, subst, arith, add-one}
 use Rattle.std.proofs.Math.Seq.{drop-cons}
-use Rattle.std.proofs.lemmas.Bool.{cases_eq}
+use Rattle.std.proofs.lemmas.Bool.{cases_eq, cases_lt}
 use Rattle.std.proofs.lemmas.Bool.Decides.{nat_tests}
+use Rattle.std.proofs.lemmas.List.{get_or-set_same, get_or-set_other}
 use Rattle.std.proofs.lemmas.Option.{same_Some}
 use Rattle.std.proofs.lemmas.List.Elements.{Contains-get_or}
 use Rattle.nv_region.specs.Region.{Region, size, word}
 use Rattle.nv_region.specs.Stops.{Choices, IsMixed}
-use Rattle.nv_region.specs.Stored.{Stored}
+use Rattle.nv_region.specs.Lines.{put_words}
 use Rattle.nv_region.proofs.Stops.{mixed_same}
 use Rattle.nv_region.proofs.Wordwise.{mixed_more}
+use Rattle.nv_region.proofs.Lines.{words_elsewhere, words_here}
 use Rattle.nv_super.specs.declared.owners.Run.{Run}
 use Rattle.nv_super.specs.Runs.{InRun}
 use Rattle.nv_radix.specs.Pages.{Pages, block_at}
@@ -33,16 +35,33 @@ pub page_stays : (R S : Region) (these : Choices) (bytes : ℕ → ℕ) (b page 
 page_stays R S these bytes b page mixed away holds x at =
     byte_stays R S these (Some b) x mixed (λ c e i v w t. away i v (w ∙ sym (same_Some b c e)) t) ∙ holds x at
 
--- ---- one page, word by word
+-- ---- one page, line by line
 
 -- the first k words of the block are those of a file's page
 abbrev pub HoldsWords : Region → (ℕ → ℕ) → ℕ → ℕ → ℕ → Type 0
 HoldsWords R bytes to page k = (j i : ℕ) → j < k → i < 8 → byte_of_word (word R (to * 4096 + 8 * j)) i ≡ bytes (page * 4096 + 8 * j + i)
 
-pub words_more : (R S : Region) (bytes : ℕ → ℕ) (to page k w : ℕ) → HoldsWords R bytes to page k → Stored R (to * 4096 + 8 * k) w S → ((i : ℕ) → i < 8 → byte_of_word w i ≡ bytes (page * 4096 + 8 * k + i)) → HoldsWords S bytes to page (k + 1)
-words_more R S bytes to page k w holds stored is j i below few = elim (cases_eq j k) [
-  | inl same ↦ subst (λ (m : ℕ). byte_of_word (word S (to * 4096 + 8 * m)) i ≡ bytes (page * 4096 + 8 * m + i)) (sym same) (ap (λ (v : ℕ). byte_of_word v i) stored.here ∙ is i few)
-  | inr differ ↦ ap (λ (v : ℕ). byte_of_word v i) (stored.others (to * 4096 + 8 * j) (omega arith) (λ e. differ (omega (arith, e)))) ∙ holds j i (omega (arith, below, differ)) few
+-- one word more of a line is made
+pub line_more : (bytes : ℕ → ℕ) (line : List ℕ) (x n w : ℕ) → length line ≡ 8 → n < 8 → ((j k : ℕ) → j < n → k < 8 → byte_of_word (get_or line j 0) k ≡ bytes (x + 8 * j + k)) → ((k : ℕ) → k < 8 → byte_of_word w k ≡ bytes (x + 8 * n + k))
+    → (j k : ℕ) → j < n + 1 → k < 8 → byte_of_word (get_or (set line n w) j 0) k ≡ bytes (x + 8 * j + k)
+line_more bytes line x n w eight few made is j k below small = elim (cases_eq j n) [
+  | inl same ↦
+      subst (λ (m : ℕ). byte_of_word (get_or (set line n w) m 0) k ≡ bytes (x + 8 * m + k)) (sym same) (ap (λ (v : ℕ). byte_of_word v k) (get_or-set_same line n w 0 (omega (arith, eight, few))) ∙ is k small)
+  | inr differ ↦ ap (λ (v : ℕ). byte_of_word v k) (get_or-set_other line n j w 0 differ) ∙ made j k (omega (arith, below, differ)) small
+]
+
+-- one line more is stored
+pub words_more : (R S : Region) (bytes : ℕ → ℕ) (to page k : ℕ) (line : List ℕ) → HoldsWords R bytes to page (8 * k) → S ≡ put_words R (to * 4096 + 64 * k) line 8 → to * 4096 + 64 * k + 64 ≤ size R → length R.rest < 8
+    → ((j i : ℕ) → j < 8 → i < 8 → byte_of_word (get_or line j 0) i ≡ bytes (page * 4096 + 64 * k + 8 * j + i)) → HoldsWords S bytes to page (8 * (k + 1))
+words_more R S bytes to page k line holds stored within short is j i below few = ap (λ (Q : Region). byte_of_word (word Q (to * 4096 + 8 * j)) i) stored ∙ elim (cases_lt j (8 * k)) [
+  | inl low ↦
+      ap (λ (v : ℕ). byte_of_word v i) (words_elsewhere R (to * 4096 + 64 * k) line 8 ((to * 4096 + 8 * j) / 8) (omega arith) (λ n before. λ e. absurd (omega (arith, e, low)))) ∙ holds j i low few
+  | inr high ↦
+      let place : (to * 4096 + 8 * j) / 8 ≡ (to * 4096 + 64 * k) / 8 + (j - 8 * k) = omega (arith, high) in
+      let of : page * 4096 + 64 * k + 8 * (j - 8 * k) + i ≡ page * 4096 + 8 * j + i = omega (arith, high) in
+      ap (λ (n : ℕ). byte_of_word (get_or (put_words R (to * 4096 + 64 * k) line 8).words n 0) i) place
+      ∙ ap (λ (v : ℕ). byte_of_word v i) (words_here R (to * 4096 + 64 * k) line 8 (j - 8 * k) (omega arith) (omega (arith, within, short)) (omega (arith, below, high)))
+      ∙ is (j - 8 * k) i (omega (arith, below, high)) few ∙ ap bytes of
 ]
 
 pub words_hold : (R : Region) (bytes : ℕ → ℕ) (to page : ℕ) → HoldsWords R bytes to page 512 → HoldsPage R bytes to page

@@ -2,7 +2,7 @@
 //!
 //! Nothing is fenced: what is stored counts only once an entry names the blocks.
 
-ghost use Rattle.std.specs.Prelude.{◌≡◌, ◌≢◌, ◌+◌, ◌*◌, ◌%◌, ◌<◌, ◌≤◌, ◌^◌, ℕ, length, IfSome, IsTrue, OnOk, OnErr, is_err, false, Some};
+ghost use Rattle.std.specs.Prelude.{◌≡◌, ◌≢◌, ◌+◌, ◌*◌, ◌%◌, ◌<◌, ◌≤◌, ◌^◌, ℕ, length, get_or, IfSome, IsTrue, OnOk, OnErr, is_err, false, Some};
 ghost use Rattle.nv_region.specs.Region.{size};
 ghost use Rattle.nv_region.specs.Stored.{StoresOnly};
 ghost use Rattle.nv_region.specs.Fuses.{KeepsFuse};
@@ -16,10 +16,12 @@ ghost use Rattle.nv_bytes.specs.Storing.{AreFresh, HoldPages, HoldsPage, InBlock
 use crate::change::NewBytes;
 use crate::reading::word_at;
 use nv_radix::FileIndex;
-use nv_region::{Pmem, Stopped, store_word};
+use nv_region::{Pmem, Stopped};
 use nv_super::{BLOCK_SIZE, Run};
 
-const WORDS_IN_PAGE: u64 = 512;
+const LINES_IN_PAGE: u64 = 64;
+
+const LINE_SIZE: u64 = 64;
 
 /// Stores the pages of a file from one on, as they are with the new bytes, into the blocks of runs, in their order.
 ///
@@ -95,11 +97,26 @@ pub fn store_page<P: Pmem>(
     ensures keeps_fuse { KeepsFuse (λ limit. to * 4096 + 4096 ≤ limit) (P.fuse memory.old) (P.fuse memory.new) }
 {
     let _length = memory.len();
-    for k in 0..WORDS_IN_PAGE {
-        let word = next_word(memory, from, page * BLOCK_SIZE + 8 * k, change);
-        store_word(memory, to * BLOCK_SIZE + 8 * k, word)?;
+    for k in 0..LINES_IN_PAGE {
+        let line = next_line(memory, from, page * BLOCK_SIZE + LINE_SIZE * k, change);
+        memory.store_line(to * BLOCK_SIZE + LINE_SIZE * k, &line)?;
     }
     Ok(())
+}
+
+/// The words of the line that a file has from byte `x` on with the new bytes.
+fn next_line<P: Pmem>(memory: &P, block: Option<u64>, x: u64, change: &NewBytes) -> [u64; 8]
+    requires inside { IfSome block (λ b. b * 4096 + 4096 ≤ size (P.region memory.now)) }
+    requires whole { x % 8 ≡ 0 }
+    requires place { x + 64 ≤ 2 ^ 62 }
+    requires small { change.now.offset + length change.now.bytes.now ≤ 2 ^ 62 }
+    ensures { (j k : ℕ) → j < 8 → k < 8 → byte_of_word (get_or result j 0) k ≡ byte_after change.now.offset change.now.bytes.now change.now.size (byte_in (P.region memory.now) block) (x + 8 * j + k) }
+{
+    let mut line = [0; 8];
+    for j in 0..8 {
+        line[j] = next_word(memory, block, x + 8 * j as u64, change);
+    }
+    line
 }
 
 /// The word that a file has from byte `x` on with the new bytes.

@@ -3,6 +3,9 @@ pub mod Fuses
 pub mod Puts
 pub mod Stops
 pub mod Wordwise
+pub mod Lines
+pub mod AfterStores
+pub mod LineStores
 pub mod Marks
 pub mod Fences
 pub mod Fronted

@@ -1,6 +1,6 @@
 -- A region in memory, as its contracts see it.
-use Rattle.std.specs.Prelude.{◌≡◌, ◌⊎◌, ℕ, Bool, true, false, ◌&&◌, not, ◌-◌, ◌==◌, List, get_or}
-use Rattle.nv_region.specs.Region.{Region}
+use Rattle.std.specs.Prelude.{◌≡◌, ◌⊎◌, ℕ, zero, suc, Bool, true, false, ◌&&◌, ◌||◌, not, if◌then◌else◌, ◌+◌, ◌*◌, ◌-◌, ◌==◌, List, get_or}
+use Rattle.nv_region.specs.Region.{Region, put}
 use Rattle.nv_region.specs.Fuses.{FuseState, not_burnt}
 use Rattle.nv_region.specs.declared.memory.Fuse.{Fuse}
 use Rattle.nv_region.specs.declared.memory.Fuse.TheVariants.{Off, After, At}
@@ -34,6 +34,15 @@ abbrev pub one_passed : Fuse → Fuse
 one_passed (After n) = After (n - 1)
 one_passed Off = Off
 one_passed (At a) = At a
+
+-- the state after a store: a fuse that has burnt, or burns at it, refuses it
+abbrev pub after_store : RegionState → ℕ → ℕ → RegionState
+after_store m at value = if m.burnt || burns_at_store m.fuse at then record m { burnt = true } else record m { region = put m.region at value; fuse = one_passed m.fuse }
+
+-- the state after the first so many of the words were stored in turn from this address on
+abbrev pub after_stores : RegionState → ℕ → List ℕ → ℕ → RegionState
+after_stores m at words zero = m
+after_stores m at words (suc n) = after_store (after_stores m at words n) (at + 8 * n) (get_or words n 0)
 
 -- no fuse is set
 abbrev pub is_off : Fuse → Bool

@@ -10,8 +10,9 @@ ghost use Rattle.std.specs.List.Sorted.{IsStrictlyIncreasing};
 ghost use Rattle.byteorder.specs.Endian.{little_number, little_bytes};
 ghost use Rattle.nv_region.specs.Region.{size, word, put, region_of, bytes_of};
 ghost use Rattle.nv_region.specs.Stops.{MayBeLeft, NothingPending, NoneAdded, Adds, One};
+ghost use Rattle.nv_region.specs.Lines.{Each, StoppedAmong, put_words};
 ghost use Rattle.nv_region.specs.Fuses.{KeepsFuse};
-ghost use Rattle.nv_region.specs.RegionState.{RegionState, fenced_or_last, burns_at_store, burns_at_fence, one_passed, fuse_state, steady_unburnt};
+ghost use Rattle.nv_region.specs.RegionState.{RegionState, fenced_or_last, burns_at_store, burns_at_fence, one_passed, after_store, after_stores, fuse_state, is_steady, steady_unburnt};
 ghost use Rattle.nv_region.specs.Kept.{alternate, kept, so_far};
 ghost use Rattle.nv_region.specs.StoredLines.{is_stored};
 ghost use Rattle.nv_region.specs.Fenced.{DifferOnlyIn};
@@ -25,6 +26,8 @@ use std::marker::Model;
 const WORDS_IN_BLOCK: usize = 512;
 
 const WORDS_IN_LINE: usize = 8;
+
+const LINE_SIZE: u64 = 64;
 
 const MOST_BLOCKS: u64 = 262_144;
 
@@ -320,6 +323,7 @@ impl Pmem for MemRegion {
         ensures burns { self.new.burnt ≡ (self.old.burnt || burns_at_store self.old.fuse at) }
         ensures counts { OnOk result (self.new.fuse ≡ one_passed self.old.fuse) }
         ensures fenced { self.new.fenced ≡ self.old.fenced }
+        ensures after { self.new ≡ after_store self.old at value }
     {
         if self.burnt {
             return Err(Stopped);
@@ -335,6 +339,25 @@ impl Pmem for MemRegion {
         }
         self.count_down();
         self.put((at / 8) as usize, value);
+        Ok(())
+    }
+
+    fn store_line(&mut self, at: u64, words: &[u64; 8]) -> Result<(), Stopped>
+        requires aligned { at % 64 ≡ 0 }
+        requires within { at + 64 ≤ size self.old.region }
+        ensures stored { OnOk result (self.new.region ≡ put_words self.old.region at words.now 8) }
+        ensures may_keep { OnOk result (Adds (Each at words.now 8) (fenced_or_last self.old) (fenced_or_last self.new)) }
+        ensures refused { OnErr result (StoppedAmong at words.now 8 self.old.region self.new.region (fenced_or_last self.old) (fenced_or_last self.new)) }
+        ensures stopped { is_err result ≡ self.new.burnt }
+        ensures keeps_fuse { KeepsFuse (λ limit. at + 64 ≤ limit) (fuse_state self.old) (fuse_state self.new) }
+        // It is as after eight stores in turn, and the fuse burns where it would at these.
+        ensures after { self.new ≡ after_stores self.old at words.now 8 }
+    {
+        let _length = self.len();
+        if !self.lets_line_pass() {
+            return self.store_each(at, words);
+        }
+        self.put_line((at / LINE_SIZE) as usize, words);
         Ok(())
     }
 
@@ -381,6 +404,41 @@ impl MemRegion {
     {
         self.stored.note(number / WORDS_IN_LINE);
         self.words[number] = value;
+    }
+
+    // Whether no store of a line's eight can burn the fuse: none is set.
+    fn lets_line_pass(&self) -> bool
+        ensures { result ≡ is_steady self.now }
+    {
+        !self.burnt && matches!(self.fuse, Fuse::Off)
+    }
+
+    // Changes the eight words of the line of this number, and notes it.
+    fn put_line(&mut self, line: usize, words: &[u64; 8])
+        requires { 8 * line + 8 ≤ length self.old.region.words }
+        ensures { self.new ≡ record self.old { region = put_words self.old.region (64 * line) words.now 8 } }
+    {
+        self.stored.note(line);
+        let start = line * WORDS_IN_LINE;
+        self.words[start..start + WORDS_IN_LINE].copy_from_slice(words);
+    }
+
+    // Stores the words of a line one by one, up to the one at which the fuse burns.
+    fn store_each(&mut self, at: u64, words: &[u64; 8]) -> Result<(), Stopped>
+        requires aligned { at % 64 ≡ 0 }
+        requires within { at + 64 ≤ size self.old.region }
+        ensures stored { OnOk result (self.new.region ≡ put_words self.old.region at words.now 8) }
+        ensures may_keep { OnOk result (Adds (Each at words.now 8) (fenced_or_last self.old) (fenced_or_last self.new)) }
+        ensures refused { OnErr result (StoppedAmong at words.now 8 self.old.region self.new.region (fenced_or_last self.old) (fenced_or_last self.new)) }
+        ensures stopped { is_err result ≡ self.new.burnt }
+        ensures keeps_fuse { KeepsFuse (λ limit. at + 64 ≤ limit) (fuse_state self.old) (fuse_state self.new) }
+        ensures after { self.new ≡ after_stores self.old at words.now 8 }
+    {
+        let _length = self.len();
+        for k in 0..WORDS_IN_LINE {
+            self.store(at + 8 * k as u64, words[k])?;
+        }
+        Ok(())
     }
 }
 

@@ -3,6 +3,7 @@
 ghost use Rattle.std.specs.Prelude.{◌≡◌, ◌+◌, ◌≤◌, ◌%◌, ℕ, false, IsTrue, OnOk, OnErr, is_err, get_or, length, ◌<◌};
 ghost use Rattle.nv_region.specs.Region.{Region, size, word, put};
 ghost use Rattle.nv_region.specs.Stops.{Adds, One, NoneAdded, NothingPending};
+ghost use Rattle.nv_region.specs.Lines.{Each, StoppedAmong, put_words};
 ghost use Rattle.nv_region.specs.Fuses.{FuseState, KeepsFuse};
 
 /// The memory has been stopped: its fuse has burnt, and nothing is stored any more.
@@ -45,6 +46,26 @@ pub trait Pmem {
         ensures refused_keep { OnErr result (NoneAdded (may_hold self.old) (may_hold self.new)) }
         ensures stopped { is_err result ≡ (fuse self.new).has_burnt }
         ensures keeps_fuse { KeepsFuse (λ limit. at + 8 ≤ limit) (fuse self.old) (fuse self.new) };
+
+    /// Stores the eight words of a line of 64 bytes, in turn and each as by `store`.
+    ///
+    /// Answers `Stopped` exactly where the fuse has burnt by the end of the call. The words before the one at which it
+    /// burnt are stored then, and no others.
+    fn store_line(&mut self, at: u64, words: &[u64; 8]) -> Result<(), Stopped>
+        requires aligned { at % 64 ≡ 0 }
+        requires within { at + 64 ≤ size (region self.old) }
+        ensures stored { OnOk result (region self.new ≡ put_words (region self.old) at words.now 8) }
+        ensures may_keep { OnOk result (Adds (Each at words.now 8) (may_hold self.old) (may_hold self.new)) }
+        ensures refused { OnErr result (StoppedAmong at words.now 8 (region self.old) (region self.new) (may_hold self.old) (may_hold self.new)) }
+        ensures stopped { is_err result ≡ (fuse self.new).has_burnt }
+        ensures keeps_fuse { KeepsFuse (λ limit. at + 64 ≤ limit) (fuse self.old) (fuse self.new) }
+    {
+        let _length = self.len();
+        for k in 0..8 {
+            self.store(at + 8 * k as u64, words[k])?;
+        }
+        Ok(())
+    }
 
     /// After it, a stop leaves all that was stored before.
     ///
