@@ -24,7 +24,8 @@ use Rattle.nv_calls.specs.Steps.{ShowsRow}
 use Rattle.nv_calls.proofs.BothHeld.{apart, both_lists, both_rows, both_sound, fresh_free, more_free, own_first, own_second}
 use Rattle.nv_calls.proofs.CreatedRows.{in_rows}
 use Rattle.nv_calls.proofs.Mounts.{bytes_stay, kept_of_mounted, mounted_of_kept, mounted_with}
-use Rattle.nv_calls.proofs.OneRow.{shows_row, stands}
+use Rattle.nv_calls.proofs.OneRow.{shows_row}
+use Rattle.nv_super.proofs.Members.{stands}
 use Rattle.nv_calls.proofs.TakenOut.{places_differ}
 use Rattle.nv_calls.proofs.TakenBlocks.{taken_sup}
 

@@ -1,6 +1,5 @@
 -- What `create` and `mkdir` answer, and what they leave.
-use Rattle.std.proofs.Common.{◌≡◌, ℕ, ◌+◌, ◌%◌, ◌<◌, ◌≤◌, ◌⊎◌, inl, inr, Bool, true, false, IsTrue, List, [], ◌∷◌, refl, ap, sym, ◌∙◌, subst, map, Option, Some, None, Result, Ok, slice_get}
-use Rattle.std.specs.List.{Contains}
+use Rattle.std.proofs.Common.{◌≡◌, ℕ, ◌+◌, ◌%◌, ◌<◌, ◌≤◌, ◌⊎◌, Bool, true, false, IsTrue, List, [], ◌∷◌, refl, ap, sym, ◌∙◌, subst, Option, Some, None, Result, Ok, slice_get}
 use Rattle.std.proofs.Math.Logic.{∥∥₁_map}
 use Rattle.nv_region.specs.Region.{Region}
 use Rattle.nv_super.specs.declared.superblock.Super.{Super}
@@ -9,16 +8,15 @@ use Rattle.nv_super.specs.declared.kind.Kind.{Kind}
 use Rattle.nv_super.specs.declared.kind.Kind.TheVariants.{Directory}
 use Rattle.nv_super.specs.declared.owners.Run.{Run}
 use Rattle.nv_super.specs.Layout.{fixed_layout, is_number}
-use Rattle.nv_super.proofs.Members.{none_in}
-use Rattle.nv_super.proofs.Rising.{Contains-cons, Contains-head, Contains-tail}
-use Rattle.nv_super.proofs.RisingPlaces.{rises_keys}
+use Rattle.nv_super.proofs.Members.{stands}
 use Rattle.nv_alloc.specs.FreeValue.{FreeLists}
 use Rattle.nv_alloc.specs.Taking.{all_blocks}
 use Rattle.nv_entry.specs.declared.entry.Operation.TheVariants.{Add}
 use Rattle.nv_logpage.specs.Append.{needed}
 use Rattle.nv_scan.specs.declared.piece.Row.{Row}
 use Rattle.nv_held.specs.nv_check.Cross.{row_key}
-use Rattle.nv_held.specs.nv_outcome.Same.{SameRow, SameRows}
+use Rattle.nv_held.specs.nv_outcome.Same.{SameRows}
+use Rattle.nv_held.proofs.nv_outcome.SameRows.{from_first, from_second, rises_too}
 use Rattle.nv_held.specs.nv_named.Read.{row_of}
 use Rattle.nv_held.specs.nv_named.Step.{IsGoodName}
 use Rattle.nv_held.specs.Held.{Held, Store}
@@ -44,7 +42,6 @@ use Rattle.nv_calls.proofs.CreateTests.{good_name, spot_allows}
 use Rattle.nv_calls.proofs.Kept.{rows_rise}
 use Rattle.nv_calls.proofs.Mounts.{kept_of_mounted, kept_when_stopped, mounted_of_kept}
 use Rattle.nv_calls.proofs.NewNumbers.{unused_is}
-use Rattle.nv_calls.proofs.OneRow.{stands}
 use Rattle.nv_calls.proofs.RowChange.{keeps_same}
 use Rattle.nv_calls.proofs.Tests.{space_allows, space_refuses}
 
@@ -139,31 +136,6 @@ module _ {P : Type 0} (region : P → Region) {n m : Mount P} (same : n ≡ m) (
 
 -- ---- a step that was refused
 
--- each row has its like
-like : (old new : List Row) → SameRows old new → (r : Row) → Contains new r → (q : Row) × Contains old q × SameRow q r
-like [] [] same r c = absurd (none_in r c)
-like [] (y ∷ ys) same r c = absurd same
-like (x ∷ xs) [] same r c = absurd same
-like (x ∷ xs) (y ∷ ys) same r c = elim (Contains-cons y ys r c) [
-  | inl e ↦ (x, Contains-head x xs, subst (λ (z : Row). SameRow x z) (sym e) same.0)
-  | inr rest ↦ (let w = like xs ys same.1 r rest in (w.0, Contains-tail x xs w.0 w.1, w.2))
-]
-
-unlike : (old new : List Row) → SameRows old new → (q : Row) → Contains old q → (r : Row) × Contains new r × SameRow q r
-unlike [] [] same q c = absurd (none_in q c)
-unlike [] (y ∷ ys) same q c = absurd same
-unlike (x ∷ xs) [] same q c = absurd same
-unlike (x ∷ xs) (y ∷ ys) same q c = elim (Contains-cons x xs q c) [
-  | inl e ↦ (y, Contains-head y ys, subst (λ (z : Row). SameRow z y) (sym e) same.0)
-  | inr rest ↦ (let w = unlike xs ys same.1 q rest in (w.0, Contains-tail y ys w.0 w.1, w.2))
-]
-
-keys_same : (old new : List Row) → SameRows old new → map row_key old ≡ map row_key new
-keys_same [] [] same = refl
-keys_same [] (y ∷ ys) same = absurd same
-keys_same (x ∷ xs) [] same = absurd same
-keys_same (x ∷ xs) (y ∷ ys) same = let first = same.0 in λ t. ((sym first.inode) t ∷ []) ∷ keys_same xs ys same.1 t
-
 mounted_same : {R : Region} {s : Super} {rows news : List Row} {pools lists : List (List Run)} (held : Store) → IsMounted R s held rows pools → SameRows rows news → lists ≡ pools → IsMounted R s held news lists
 mounted_same {R} {s} {rows} {news} {pools} {lists} held m same free =
     let keeps = m.keeps in
@@ -172,9 +144,9 @@ mounted_same {R} {s} {rows} {news} {pools} {lists} held m same free =
       sound = m.sound;
       keeps = record {
         in_rows = record {
-          rising = rises_keys row_key rows news (keys_same rows news same) in_rows.rising;
-          each = λ r c. (let w = like rows news same r c in let k = in_rows.each w.0 w.1 in let one = w.2 in (k.0, ap held one.inode ∙ k.1, keeps_same s k.0 w.0 r one k.2));
-          all = λ i h is. (let k = in_rows.all i h is in let w = unlike rows news same k.0 k.1 in let one = w.2 in (w.0, w.1, one.inode ∙ k.2));
+          rising = rises_too row_key (λ a b one. ap (λ (n : ℕ). n ∷ []) (sym one.inode)) rows news same in_rows.rising;
+          each = λ r c. (let w = from_second rows news same r c in let k = in_rows.each w.0 w.1 in let one = w.2 in (k.0, ap held one.inode ∙ k.1, keeps_same s k.0 w.0 r one k.2));
+          all = λ i h is. (let k = in_rows.all i h is in let w = from_first rows news same k.0 k.1 in let one = w.2 in (w.0, w.1, one.inode ∙ k.2));
         };
         in_lists = subst (λ (l : List (List Run)). KeepsFree (fixed_layout s) held l) (sym free) keeps.in_lists;
       };

@@ -40,7 +40,8 @@ use Rattle.nv_rows.proofs.PutBack.{is_inserted}
 use Rattle.nv_calls.proofs.Inserted.{from_inserted, stays_inserted}
 use Rattle.nv_calls.proofs.Mounts.{bytes_stay, kept_of_mounted, mounted_of_kept, mounted_with}
 use Rattle.nv_calls.proofs.NamedLogs.{named_told}
-use Rattle.nv_calls.proofs.OneRow.{shows_row, stands}
+use Rattle.nv_calls.proofs.OneRow.{shows_row}
+use Rattle.nv_super.proofs.Members.{stands}
 use Rattle.nv_rows.proofs.Places.{number_at}
 use Rattle.nv_calls.proofs.RowOf.{row_at}
 use Rattle.nv_calls.proofs.TakenBlocks.{all_differ, taken_sup}

@@ -44,7 +44,7 @@ use Rattle.nv_calls.proofs.LinkTests.{link_allows}
 use Rattle.nv_calls.proofs.LinkedHeld.{kinds_differ, link_right}
 use Rattle.nv_calls.proofs.LinkedTree.{counted_node, linked_by, links_told}
 use Rattle.nv_calls.proofs.NamesCounted.{as_many}
-use Rattle.nv_calls.proofs.OneRow.{stands}
+use Rattle.nv_super.proofs.Members.{stands}
 use Rattle.nv_calls.proofs.RowNumbers.{row_number}
 use Rattle.nv_calls.proofs.RowOf.{row_at}
 use Rattle.nv_calls.proofs.Tests.{space_allows, space_refuses}

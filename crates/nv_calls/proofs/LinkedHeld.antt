@@ -32,7 +32,7 @@ use Rattle.nv_calls.proofs.BothMounted.{IsRight}
 use Rattle.nv_calls.proofs.CreatedRows.{not_named}
 use Rattle.nv_calls.proofs.LinksEntries.{links_file, links_names, links_numbers}
 use Rattle.nv_calls.proofs.NamedLogs.{named_file, named_told}
-use Rattle.nv_calls.proofs.OneRow.{stands}
+use Rattle.nv_super.proofs.Members.{stands}
 use Rattle.nv_calls.proofs.RowOf.{row_at}
 
 -- ---- a file that counts a link more or less

@@ -36,7 +36,7 @@ use Rattle.nv_calls.proofs.Kept.{rows_rise}
 use Rattle.nv_calls.proofs.MoveTests.{rename_allows}
 use Rattle.nv_calls.proofs.MovedAcross.{across_kept, across_logs, across_tree}
 use Rattle.nv_calls.proofs.MovedWithin.{within_kept, within_log, within_tree}
-use Rattle.nv_calls.proofs.OneRow.{stands}
+use Rattle.nv_super.proofs.Members.{stands}
 use Rattle.nv_calls.proofs.RowNumbers.{row_number}
 use Rattle.nv_calls.proofs.Tests.{space_allows, space_refuses}
 

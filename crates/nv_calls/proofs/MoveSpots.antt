@@ -2,12 +2,10 @@
 use Rattle.std.proofs.Common.{◌≡◌, ℕ, Bool, true, false, ◌&&◌, List, [], ◌∷◌, ◌++◌, length, refl, ap, sym, ◌∙◌, Option, Some, None, Result, Ok, Err, eqb, is_none, is_some}
 use Rattle.std.specs.List.{Contains, list_any}
 use Rattle.std.specs.Option.{option_map_or}
-use Rattle.std.proofs.lemmas.Bool.{true≢false}
-use Rattle.std.proofs.lemmas.Cmp.{nat_eq_equiv}
-use Rattle.std.proofs.lemmas.Map.Views.{list_any-from_Contains}
 use Rattle.nv_region.specs.Region.{Region}
 use Rattle.nv_super.specs.declared.kind.Kind.{Kind}
 use Rattle.nv_super.specs.declared.kind.Kind.TheVariants.{Directory}
+use Rattle.nv_super.proofs.Members.{no_member}
 use Rattle.nv_scan.specs.declared.piece.Row.{Row}
 use Rattle.nv_tree.specs.declared.refusal.Refusal.{Refusal}
 use Rattle.nv_tree.specs.declared.refusal.Refusal.TheVariants.{BadName, Exists, IntoItself, NotFound, Stopped}
@@ -87,10 +85,6 @@ pub said_two : (old new : List ℕ) (Q : Path → Path → Type 0) → (name : L
     → ((name : List ℕ) (names : List (List ℕ)) (other : List ℕ) (others : List (List ℕ)) → IsPath old (name ∷ names) → IsPath new (other ∷ others) → Q (Some (name ∷ names)) (Some (other ∷ others))) → (p q : Path) → Says old p → Says new q → Q p q
 said_two old new Q some long some_new long_new each p q says says_new =
     said_names old (λ r. Q r q) some long (λ name names path. said_names new (λ r. Q (Some (name ∷ names)) r) some_new long_new (λ other others other_path. each name names other others path other_path) q says_new) p says
-
--- a number that no member is equal to is no member
-no_member : (xs : List ℕ) (i : ℕ) → list_any (eqb i) xs ≡ false → Contains xs i → ⊥
-no_member xs i none c = true≢false (sym (list_any-from_Contains nat_eq_equiv i xs c) ∙ none)
 
 -- A directory that the way doesn't pass isn't on it.
 pub not_passed : (t : Tree) (names : List (List ℕ)) (row : Row) → passes_row t names row ≡ false → row.kind ≡ Directory → Contains (passed t 1 names) row.inode → ⊥

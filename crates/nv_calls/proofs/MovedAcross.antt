@@ -45,7 +45,7 @@ use Rattle.nv_calls.proofs.GraphPaths.{graph_agrees, passed_there, walked_there,
 use Rattle.nv_calls.proofs.Kept.{rows_rise}
 use Rattle.nv_calls.proofs.LinkedHeld.{absent_in}
 use Rattle.nv_calls.proofs.NamedLogs.{lost_told, named_file, named_told}
-use Rattle.nv_calls.proofs.OneRow.{stands}
+use Rattle.nv_super.proofs.Members.{stands}
 use Rattle.nv_calls.proofs.RemovedTree.{lost_node}
 
 module _ {R S : Region} {s : Super} {rows news : List Row} {free after : FreeLists} {place target end : ℕ} {name other : List ℕ} {time : ℕ} (step : MovesAcross R S s free after rows news place target end name other time) (names : List (List ℕ)) (first : List ℕ) (rest : List (List ℕ))

@@ -52,7 +52,7 @@ use Rattle.nv_calls.proofs.MovedAcross.{renamed_by}
 use Rattle.nv_calls.proofs.MovedEntries.{moved_file, moved_names, moved_numbers}
 use Rattle.nv_calls.proofs.Mounts.{mounted_with}
 use Rattle.nv_calls.proofs.NamesCounted.{one_less, one_more}
-use Rattle.nv_calls.proofs.OneRow.{stands}
+use Rattle.nv_super.proofs.Members.{stands}
 use Rattle.nv_calls.proofs.RemovedTree.{none_of}
 use Rattle.nv_calls.proofs.RowChange.{kept_after, log_grew, row_bytes, tree_after}
 use Rattle.nv_calls.proofs.TakenBlocks.{lists_without, taken_sup}

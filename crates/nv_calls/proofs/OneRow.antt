@@ -1,11 +1,10 @@
 -- A mounted file system once one row was replaced.
-use Rattle.std.proofs.Common.{◌≡◌, ℕ, ◌+◌, ◌*◌, ◌/◌, ◌%◌, ◌<◌, ◌≤◌, Bool, true, false, List, slice_get, sym, subst, arith, Some}
+use Rattle.std.proofs.Common.{◌≡◌, ℕ, ◌+◌, ◌*◌, ◌/◌, ◌%◌, ◌<◌, ◌≤◌, Bool, true, false, List, sym, subst, arith}
 use Rattle.std.specs.List.{Contains}
 use Rattle.std.proofs.Math.Logic.{∥∥₁_elim}
 use Rattle.std.proofs.Math.Nat.{ℕ_set, div-lt_iff_lt-mul}
 use Rattle.std.proofs.Props.{props}
 use Rattle.std.proofs.lemmas.Bool.Decides.{nat_tests}
-use Rattle.std.proofs.lemmas.Option.{slice_get_within, get_or_from_slice_get}
 use Rattle.nv_region.specs.Region.{Region, size}
 use Rattle.nv_super.specs.declared.superblock.Super.{Super}
 use Rattle.nv_super.specs.declared.faults.Fault.{Fault}
@@ -26,11 +25,6 @@ use Rattle.nv_calls.specs.Grown.{StandsRight}
 use Rattle.nv_calls.specs.Mount.{IsKept}
 use Rattle.nv_calls.specs.Steps.{ShowsRow}
 use Rattle.nv_calls.proofs.Mounts.{mounted_of_kept}
-
--- ---- a row at a place
-
-pub stands : (rows : List Row) (place : ℕ) (row : Row) → slice_get rows place ≡ Some row → Contains rows row
-stands rows place row at = (place, slice_get_within rows place row at, get_or_from_slice_get rows place row row at)
 
 -- ---- what is known of it
 

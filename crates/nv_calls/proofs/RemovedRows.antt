@@ -32,7 +32,8 @@ use Rattle.nv_calls.specs.Steps.{ShowsRow}
 use Rattle.nv_calls.proofs.GivenPages.{joined_sup}
 use Rattle.nv_calls.proofs.Mounts.{bytes_stay, kept_of_mounted, mounted_of_kept, mounted_with}
 use Rattle.nv_calls.proofs.NamedLogs.{lost_told}
-use Rattle.nv_calls.proofs.OneRow.{shows_row, stands}
+use Rattle.nv_calls.proofs.OneRow.{shows_row}
+use Rattle.nv_super.proofs.Members.{stands}
 use Rattle.nv_calls.proofs.RemovedHeld.{differ, fresh_free, removed_lists, removed_sound}
 use Rattle.nv_rows.proofs.Places.{number_at}
 use Rattle.nv_calls.proofs.TakenBlocks.{taken_sup}

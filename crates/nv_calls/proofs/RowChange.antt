@@ -43,7 +43,8 @@ use Rattle.nv_held.proofs.Owning.{same_held, other_held}
 use Rattle.nv_calls.specs.Grown.{LogGrew}
 use Rattle.nv_calls.proofs.Kept.{rows_rise}
 use Rattle.nv_calls.proofs.Mounts.{mounted_with}
-use Rattle.nv_calls.proofs.OneRow.{shows_row, stands}
+use Rattle.nv_calls.proofs.OneRow.{shows_row}
+use Rattle.nv_super.proofs.Members.{stands}
 
 -- ---- one row replaced
 

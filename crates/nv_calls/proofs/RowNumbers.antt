@@ -13,7 +13,8 @@ use Rattle.nv_scan.specs.declared.piece.Row.{Row}
 use Rattle.nv_held.specs.Held.{Store}
 use Rattle.nv_held.specs.Mounted.{IsMounted}
 use Rattle.nv_held.proofs.Shown.{stands_at}
-use Rattle.nv_commit.proofs.Permitted.{no_zero, number_holds}
+use Rattle.nv_commit.proofs.Permitted.{no_zero}
+use Rattle.nv_inode.proofs.KeyWords.{number_holds}
 use Rattle.nv_calls.specs.Grown.{StandsRight}
 use Rattle.nv_calls.specs.Mount.{IsKept}
 use Rattle.nv_calls.specs.NewNames.{CanName}

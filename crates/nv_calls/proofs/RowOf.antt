@@ -8,7 +8,7 @@ use Rattle.nv_held.specs.nv_check.Cross.{row_key}
 use Rattle.nv_held.proofs.nv_check.Rows.{key_less}
 use Rattle.nv_scan.specs.declared.piece.Row.{Row}
 use Rattle.nv_held.specs.nv_named.Read.{row_of}
-use Rattle.nv_held.proofs.Growing.{stands}
+use Rattle.nv_super.proofs.Members.{stands}
 
 -- a row at a place is the row of its number
 pub row_at : (rows : List Row) (k : ℕ) (r : Row) → Rises row_key rows → slice_get rows k ≡ Some r → row_of rows r.inode ≡ Some r

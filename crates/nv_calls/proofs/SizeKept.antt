@@ -21,7 +21,8 @@ use Rattle.nv_calls.specs.Sizes.{CanResize, Resizes, SameBytes, ShowsResizedLog,
 use Rattle.nv_calls.specs.Steps.{ShowsRow}
 use Rattle.nv_calls.proofs.GivenPages.{maps_own}
 use Rattle.nv_calls.proofs.Mounts.{mounted_of_kept, mounted_with}
-use Rattle.nv_calls.proofs.OneRow.{shows_row, stands, stands_right}
+use Rattle.nv_calls.proofs.OneRow.{shows_row, stands_right}
+use Rattle.nv_super.proofs.Members.{stands}
 
 -- how many blocks it takes goes with the tail and the pages alone
 pub blocks_same : (tail : ℕ) (x y : AttrEntry) (o : Option ℕ) → blocks_from tail x o ≡ blocks_from tail y o

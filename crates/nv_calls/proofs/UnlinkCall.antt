@@ -40,7 +40,7 @@ use Rattle.nv_calls.proofs.Kept.{rows_rise}
 use Rattle.nv_calls.proofs.LinkedHeld.{kinds_differ}
 use Rattle.nv_calls.proofs.LinkedTree.{counted_node, links_told}
 use Rattle.nv_calls.proofs.NamesCounted.{as_many}
-use Rattle.nv_calls.proofs.OneRow.{stands}
+use Rattle.nv_super.proofs.Members.{stands}
 use Rattle.nv_calls.proofs.RemoveCall.{removal_blocks, removed_kept, removed_log, tree_is}
 use Rattle.nv_calls.proofs.RemovedTree.{lost_node}
 use Rattle.nv_calls.proofs.RemoveTests.{unlink_allows}

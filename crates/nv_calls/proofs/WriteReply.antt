@@ -39,7 +39,8 @@ use Rattle.nv_calls.specs.Written.{RefusesWrite, WritesFile}
 use Rattle.nv_calls.specs.WriteCall.{ShowsLogWrite, WriteNeeds}
 use Rattle.nv_calls.specs.declared.planning.Plan.{Plan}
 use Rattle.nv_calls.proofs.Mounts.{mounted_of_kept, mounted_with}
-use Rattle.nv_calls.proofs.OneRow.{shows_row, stands}
+use Rattle.nv_calls.proofs.OneRow.{shows_row}
+use Rattle.nv_super.proofs.Members.{stands}
 use Rattle.nv_calls.proofs.RowChange.{log_grew}
 use Rattle.nv_calls.proofs.SetSize.{front_tests}
 use Rattle.nv_calls.proofs.Tests.{enough_space, passed_before, refused_before, stat_first, too_few}

@@ -10,6 +10,7 @@ use Rattle.std.proofs.lemmas.Map.Keys.{IsDistinct-head, IsDistinct-tail}
 use Rattle.nv_super.specs.Order.{Rises, SortedOf}
 use Rattle.nv_super.proofs.Rising.{Below, Contains-cons, Contains-head, Contains-tail, head_least, rises_cons, tail_rises}
 use Rattle.nv_super.proofs.Members.{from_map, into_map}
+use Rattle.nv_super.proofs.Options.{some_is}
 use Rattle.nv_names.specs.Names.{Names, name_at, names_of, HasNames}
 
 -- no two elements have one key
@@ -137,9 +138,6 @@ pub record Walked (index : Names) (listed : List Line) : Type 0 where
   pub apart : Apart name_of listed
   pub each : (x : Line) → Contains listed x → name_at index x.0 ≡ Some (x.1, x.2)
   pub all : (x : Line) → name_at index x.0 ≡ Some (x.1, x.2) → Contains listed x
-
-some_is : {A : Type 0} (a b : A) (o : Option A) → o ≡ Some a → o ≡ Some b → a ≡ b
-some_is a b o h k = let e : Some a ≡ Some b = sym h ∙ k in cc
 
 pub names_walked : (index : Names) (listed : List Line) → HasNames index listed → Walked index listed
 names_walked index listed l = record {

@@ -2,12 +2,11 @@
 use Rattle.std.proofs.Common.{◌≡◌, ℕ, ◌+◌, ◌*◌, ◌/◌, ◌%◌, ◌<◌, ◌≤◌, suc, inl, inr, IsTrue, refl, subst, arith, Some}
 use Rattle.std.proofs.Math.Nat.{mul-le-mul_right}
 use Rattle.std.proofs.lemmas.Nat.{div-add-mod', mod_below}
-use Rattle.std.proofs.lemmas.Bool.Decides.{nat_tests}
 use Rattle.nv_super.specs.declared.superblock.Super.{Super}
-use Rattle.nv_super.specs.Layout.{IsLayout, fixed_layout, is_number, slot_of}
+use Rattle.nv_super.specs.Layout.{IsLayout, fixed_layout, slot_of}
 use Rattle.nv_super.proofs.Slots.{slot_is}
 use Rattle.nv_inode.specs.Permitted.{IsKeyWord, is_permitted}
-use Rattle.nv_inode.proofs.KeyWords.{named_permitted}
+use Rattle.nv_inode.proofs.KeyWords.{named_permitted, number_holds}
 
 -- number 0 has no slot
 pub no_zero : (s : Super) (i a : ℕ) → slot_of (fixed_layout s) i ≡ Some a → i ≡ 0 → ⊥
@@ -19,10 +18,6 @@ number_below C T i some row =
     let split : i / C * C + i % C ≡ i = div-add-mod' i C in
     let rest : i % C < C = mod_below i C some in
     omega (arith, rows, split, rest)
-
--- a number within the tables is one that an inode can have
-pub number_holds : (s : Super) (i : ℕ) → 0 < i → i < 32 * s.cpus * s.table_blocks → IsTrue (is_number s i)
-number_holds s i above below = grind (arith, nat_tests)
 
 key_permitted : (s : Super) (i a at : ℕ) → IsLayout s → slot_of (fixed_layout s) i ≡ Some a → IsKeyWord a at → IsTrue (is_permitted s at)
 key_permitted s i a at layout slot key =

@@ -9,6 +9,7 @@ use Rattle.std.proofs.lemmas.Option.{slice_get_within, get_or_from_slice_get}
 use Rattle.nv_super.specs.declared.owners.Owner.{Owner}
 use Rattle.nv_super.specs.declared.owners.Owner.TheVariants as owners
 use Rattle.nv_super.specs.Layout.{Layout}
+use Rattle.nv_super.proofs.Members.{stands}
 use Rattle.nv_super.proofs.Options.{some_is}
 use Rattle.nv_named.specs.nv_scan.State.{block_of}
 use Rattle.nv_named.specs.nv_scan.Owners.{inode_of}
@@ -27,9 +28,6 @@ log_owned (by_log {h = h} is page) = (h, is, page)
 
 pub page_owned : {l : Layout} {held : Store} {i p b : ℕ} → OwnsIn l held b (owners.Data i p) → (h : Held) × (held i ≡ Some h) × (block_of (good_in l h) p ≡ Some b)
 page_owned (by_page {h = h} is maps) = (h, is, maps)
-
-pub stands : {A : Type 0} (xs : List A) (k : ℕ) (x : A) → slice_get xs k ≡ Some x → Contains xs x
-stands xs k x at = (k, slice_get_within xs k x at, get_or_from_slice_get xs k x x at)
 
 -- a place of a list of numbers that differ
 one_place : (xs : List ℕ) (j k b : ℕ) → IsDistinct eqb xs → slice_get xs j ≡ Some b → slice_get xs k ≡ Some b → j ≡ k

@@ -1,7 +1,5 @@
 -- Journals in which nothing is pending: a region that is its own undo.
-use Rattle.std.proofs.Common.{◌≡◌, ◌⊎◌, inl, inr, ◌≤◌, ◌<◌, ℕ, Bool, true, false, refl, sym, ap, ◌∙◌, arith}
-use Rattle.std.proofs.lemmas.Bool.{cases_lt}
-use Rattle.std.proofs.lemmas.Bool.Decides.{nat_tests}
+use Rattle.std.proofs.Common.{◌≡◌, Bool, true, false, refl, sym, ap, ◌∙◌, arith}
 use Rattle.nv_region.specs.Region.{Region}
 use Rattle.nv_super.specs.declared.superblock.Super.{Super}
 use Rattle.nv_super.specs.declared.faults.Fault.{Fault}
@@ -12,14 +10,12 @@ use Rattle.nv_named.specs.nv_journal.Undo.{dequeue, enqueue, is_sound, pending_c
 use Rattle.nv_named.specs.nv_journal.Faults.{HasFault}
 use Rattle.nv_named.proofs.nv_journal.AnyLength.{dequeue_settled, quiet_same}
 use Rattle.nv_named.proofs.nv_journal.Partly.{low_rule}
+use Rattle.nv_named.proofs.nv_journal.Pointers.{right_pointers, wrong_pointers}
 use Rattle.nv_held.specs.Mounted.{AreIdle}
 
 -- an idle region is its own undo
 pub idle_undone : (s : Super) (R : Region) → IsLayout s → AreIdle s.cpus R → undone s R ≡ R
 idle_undone s R layout idle = quiet_same (is_permitted s) s.cpus (low_rule s layout) R (λ cpu below sound. (idle cpu below).1)
-
-right_pointers : (R : Region) (k : ℕ) → is_sound R k ≡ true → (252 ≤ dequeue R k) ⊎ (252 ≤ enqueue R k) → ⊥
-right_pointers R k sound wrong = grind (arith, nat_tests)
 
 -- its journals have no faults
 pub idle_faultless : (s : Super) (R : Region) (f : Fault) → AreIdle s.cpus R → HasFault s R f → ⊥
@@ -29,15 +25,6 @@ idle_faultless s R (faults.J2 c n) idle h =
     let some = h.2.2.1 in
     omega (arith, none, some)
 idle_faultless s R _ idle h = absurd h.2
-
--- a journal whose pointers are wrong has that fault
-wrong_pointers : (R : Region) (k : ℕ) → is_sound R k ≡ false → (252 ≤ dequeue R k) ⊎ (252 ≤ enqueue R k)
-wrong_pointers R k unsound = elim (cases_lt (dequeue R k) 252) [
-  | inr high ↦ inl high
-  | inl low ↦ elim (cases_lt (enqueue R k) 252) [ inr high ↦ inr high | inl less ↦ absurd (both low less) ]
-] where
-  both : dequeue R k < 252 → enqueue R k < 252 → ⊥
-  both low less = grind (arith, nat_tests)
 
 -- a region that is its own undo, and whose journals have no faults, is idle
 pub idle_of : (s : Super) (R : Region) → IsLayout s → undone s R ≡ R → ((f : Fault) → HasFault s R f → ⊥) → AreIdle s.cpus R

@@ -17,7 +17,8 @@ test_parts s at permitted = grind (arith, nat_tests)
 test_holds : (s : Super) (at : ℕ) → (1 + s.cpus) * 4096 + 128 ≤ at → at < system_blocks s * 4096 → (at % 128 ≡ 0) ⊎ ((at % 128 ≡ 16) ⊎ (at % 128 ≡ 24)) → IsTrue (is_permitted s at)
 test_holds s at behind before offset = grind (arith, nat_tests)
 
-number_holds : (s : Super) (i : ℕ) → 0 < i → i < 32 * s.cpus * s.table_blocks → IsTrue (is_number s i)
+-- a number within the tables is one that an inode can have
+pub number_holds : (s : Super) (i : ℕ) → 0 < i → i < 32 * s.cpus * s.table_blocks → IsTrue (is_number s i)
 number_holds s i above below = grind (arith, nat_tests)
 
 pub permitted_lies : (s : Super) (at : ℕ) → IsTrue (is_permitted s at) → IsInTables s at

@@ -1,5 +1,5 @@
 -- Nothing is wrong with the journals while two words change together.
-use Rattle.std.proofs.Common.{◌≡◌, ◌≢◌, ◌⊎◌, ◌≤◌, ◌<◌, ◌+◌, ◌-◌, ◌*◌, ◌%◌, ◌&&◌, inl, inr, ℕ, Bool, true, false, true≢false, nat_lt, List, [], ◌∷◌, length, get_or, sym, ap, ◌∙◌, subst, arith}
+use Rattle.std.proofs.Common.{◌≡◌, ◌≢◌, ◌⊎◌, ◌<◌, ◌+◌, ◌-◌, ◌*◌, ◌%◌, ◌&&◌, inl, inr, ℕ, Bool, true, false, true≢false, nat_lt, List, [], ◌∷◌, length, get_or, sym, ap, ◌∙◌, subst, arith}
 use Rattle.std.proofs.lemmas.List.FromFn.{get_or-map-range_with_len, length-map-range_with_len}
 use Rattle.std.proofs.lemmas.Bool.{cases_eq, cases_lt}
 use Rattle.std.proofs.lemmas.Bool.Decides.{nat_tests}
@@ -15,6 +15,7 @@ use Rattle.nv_journal.specs.Pending.{Begun, CanUndo, HasRecords, IsEmpty}
 use Rattle.nv_journal.specs.Recorded.{Two}
 use Rattle.nv_journal.proofs.Both.{SameBlock}
 use Rattle.nv_journal.proofs.Emptied.{emptied}
+use Rattle.nv_journal.proofs.Pointers.{right_pointers}
 
 module _ (permits : ℕ → Bool) where
   -- a journal whose block reads the same has the same faults
@@ -41,12 +42,9 @@ module _ (permits : ℕ → Bool) where
   empty_faultless S cpu empty (J2 c k) h = let same = empty.0 in let some = h.2.1 in omega (arith, same, some)
   empty_faultless S cpu empty _ h = h
 
-  not_both : (S : Region) (cpu : ℕ) → is_sound S cpu ≡ true → (252 ≤ dequeue S cpu) ⊎ (252 ≤ enqueue S cpu) → ⊥
-  not_both S cpu sound wrong = grind (arith, nat_tests)
-
   -- nor has one in which two records of permitted words are pending
   pair_faultless : (S : Region) (cpu first second a b : ℕ) → permits first ≡ true → permits second ≡ true → HasRecords S cpu ((first, a) ∷ (second, b) ∷ []) → (f : Fault) → IsFaultOf permits S cpu f → ⊥
-  pair_faultless S cpu first second a b one two has (J1 c) h = not_both S cpu has.sound h.1
+  pair_faultless S cpu first second a b one two has (J1 c) h = right_pointers S cpu has.sound h.1
   pair_faultless S cpu first second a b one two has (J2 c k) h = elim (cases_lt j 1) [
     | inl less ↦ (let zero : j ≡ 0 = omega (arith, less) in true≢false (sym one ∙ ap (λ (m : ℕ). permits (get_or Both m (0, 0)).0) (sym zero) ∙ wrong))
     | inr more ↦ (let last : j ≡ 1 = omega (arith, more, below, count) in true≢false (sym two ∙ ap (λ (m : ℕ). permits (get_or Both m (0, 0)).0) (sym last) ∙ wrong))

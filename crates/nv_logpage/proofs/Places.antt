@@ -1,14 +1,13 @@
 -- The entries of a log stand at different places.
 use Rattle.std.proofs.Common.{◌≡◌, ◌≢◌, ◌⊎◌, inl, inr, ℕ, ◌+◌, ◌/◌, ◌%◌, ◌≤◌, false, IsTrue, eqb, List, [], ◌∷◌, ◌++◌, refl, sym, ◌∙◌, subst, arith, Option}
 use Rattle.std.specs.List.{Contains, IsDistinct, AllByRecursion, list_any}
-use Rattle.std.proofs.lemmas.Bool.{true≢false, ne_eqb}
-use Rattle.std.proofs.lemmas.Cmp.{nat_eq_equiv}
+use Rattle.std.proofs.lemmas.Bool.{ne_eqb}
 use Rattle.std.proofs.lemmas.List.Elements.{Contains-append_left}
 use Rattle.std.proofs.lemmas.Map.Keys.{IsDistinct-cons}
-use Rattle.std.proofs.lemmas.Map.Views.{list_any-from_Contains}
 use Rattle.nv_region.specs.Region.{Region}
 use Rattle.nv_super.specs.declared.superblock.Super.{Super}
 use Rattle.nv_super.specs.Layout.{is_page_start}
+use Rattle.nv_super.proofs.Members.{no_member}
 use Rattle.nv_super.proofs.Rising.{Contains-cons, Contains-head, Contains-tail}
 use Rattle.nv_entry.specs.Spelling.{entry_length}
 use Rattle.nv_entry.proofs.Same.{entry_length_words, entry_length_positive}
@@ -23,15 +22,12 @@ use Rattle.nv_logpage.proofs.Steps.{start_whole, Finds-onward}
 abbrev IsBehind : List ℕ → ℕ → ℕ → Type 0
 IsBehind pages p at = ((at / 4096 ≡ p / 4096) × (p ≤ at)) ⊎ (Contains pages (at / 4096) → ⊥)
 
-not_read : (pages : List ℕ) (b : ℕ) → list_any (eqb b) pages ≡ false → Contains pages b → ⊥
-not_read pages b unread c = true≢false (sym (list_any-from_Contains nat_eq_equiv b pages c) ∙ unread)
-
 further : (pages : List ℕ) (p q at : ℕ) → q / 4096 ≡ p / 4096 → p ≤ q → IsBehind pages q at → IsBehind pages p at
 further pages p q at same less (inl w) = inl (w.0 ∙ same, omega (arith, w.1))
 further pages p q at same less (inr w) = inr w
 
 turned : (pages : List ℕ) (p next at : ℕ) → list_any (eqb (next / 4096)) pages ≡ false → IsBehind (pages ++ next / 4096 ∷ []) next at → IsBehind pages p at
-turned pages p next at unread (inl w) = inr (λ c. not_read pages (next / 4096) unread (subst (Contains pages) w.0 c))
+turned pages p next at unread (inl w) = inr (λ c. no_member pages (next / 4096) unread (subst (Contains pages) w.0 c))
 turned pages p next at unread (inr w) = inr (λ c. w (Contains-append_left pages (next / 4096 ∷ []) (at / 4096) c))
 
 -- the entry at a place is behind by its length, and the log goes on in its page

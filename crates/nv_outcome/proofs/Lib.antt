@@ -2,6 +2,7 @@ pub mod Counts
 pub mod Finite
 pub mod Pieces
 pub mod RowsOf
+pub mod SameRows
 pub mod SuperOf
 pub mod CrossLaw
 pub mod Whole

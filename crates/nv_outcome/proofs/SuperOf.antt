@@ -36,7 +36,7 @@ fault_back State = refl
 pub one_fault : (R : Region) (a b : SuperFault) → IsRefused R a → IsRefused R b → a ≡ b
 one_fault R a b p q = one_first rank fault_at fault_back (Applies R) a b p.applies p.first q.applies q.first
 
-is_equal : (a b : ℕ) → (a ≢ b → ⊥) → a ≡ b
+pub is_equal : (a b : ℕ) → (a ≢ b → ⊥) → a ≡ b
 is_equal a b h = elim (cases_eq a b) [ inl e ↦ e | inr ne ↦ absurd (h ne) ]
 
 at_least : (a b : ℕ) → (a < b → ⊥) → b ≤ a

@@ -35,7 +35,7 @@ rest_behind x (z ∷ xs) a some y c = elim (Contains-cons z xs y c) [
   | inr w ↦ (let rest = rest_behind z xs a.1 (λ u v. some u (Contains-tail z xs u v)) y w in let first = a.0.rises in omega (arith, rest, first))
 ]
 
-tail_apart : (x : Extent) (xs : List Extent) → AreApart (x ∷ xs) → AreApart xs
+pub tail_apart : (x : Extent) (xs : List Extent) → AreApart (x ∷ xs) → AreApart xs
 tail_apart x [] a = tt
 tail_apart x (y ∷ xs) a = a.1
 

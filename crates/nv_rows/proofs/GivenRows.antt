@@ -6,12 +6,13 @@ use Rattle.std.proofs.lemmas.Option.{slice_get-get_or}
 use Rattle.nv_super.specs.declared.superblock.Super.{Super}
 use Rattle.nv_super.specs.Layout.{inode_limit, HasAreas}
 use Rattle.nv_super.specs.Order.{SortedOf}
+use Rattle.nv_super.proofs.Members.{stands}
 use Rattle.nv_super.proofs.Rising.{Contains-cons, Contains-head, Contains-tail}
 use Rattle.nv_scan.specs.declared.piece.Row.{Row}
 use Rattle.nv_numbered.specs.Values.{AreNumbersBelow}
 use Rattle.nv_rows.specs.Rows.{row_key, inodes_of}
 use Rattle.nv_rows.specs.Slots.{rows_in, StandByNumber}
-use Rattle.nv_rows.proofs.SlotRows.{listed_at, rows_rise}
+use Rattle.nv_rows.proofs.SlotRows.{rows_rise}
 
 -- the number of the row at a place
 number_at : (rows : List Row) (k : ℕ) (d : Row) → k < length rows → get_or (inodes_of rows) k 0 ≡ (get_or rows k d).inode
@@ -70,7 +71,7 @@ given_sorted rows slots each =
       from = λ row listed.
           let slot = slot_of_row slots row listed in
           let place = (each slot.0 row).0 slot.1 in
-          listed_at rows place.0 row place.2;
+          stands rows place.0 row place.2;
       kept = λ row given.
           let at : slice_get rows given.0 ≡ Some row = slice_get-get_or rows given.0 row given.1 ∙ ap (λ (r : Row). Some r) given.2 in
           row_of_slot slots row.inode row ((each row.inode row).1 (given.0, number_of rows given.0 row at, at));

@@ -2,11 +2,11 @@
 use Rattle.std.proofs.Common.{◌≡◌, ℕ, zero, suc, ◌≤◌, List, [], ◌∷◌, length, set, slice_get, Some, refl, sym, ap, ◌∙◌, arith, Contains}
 use Rattle.std.specs.List.{insert, remove}
 use Rattle.nv_super.specs.Order.{Rises}
+use Rattle.nv_super.proofs.Members.{stands}
 use Rattle.nv_super.proofs.Rising.{Contains-head, Contains-tail, head_least, tail_rises}
 use Rattle.nv_scan.specs.declared.piece.Row.{Row}
 use Rattle.nv_scan.proofs.RowKeys.{key_less}
 use Rattle.nv_rows.specs.Rows.{row_key, IsPlaceOf, HasInserted}
-use Rattle.nv_rows.proofs.SlotRows.{listed_at}
 
 pub is_inserted : (rows : List Row) (p : ℕ) (row : Row) → Contains (insert rows p row) row
 is_inserted [] zero row = Contains-head row []
@@ -25,7 +25,7 @@ set_again (x ∷ y ∷ rows) zero (suc p) was row up at same inside rising =
     absurd (omega (arith, before, after, same, ap (λ (r : Row). r.inode) is))
 set_again (x ∷ rows) (suc k) zero was row up at same inside rising =
     let before = key_less row.inode x.inode (head_least row_key row (x ∷ remove rows k) rising x (Contains-head x (remove rows k))) in
-    let after = key_less x.inode was.inode (head_least row_key x rows up was (listed_at rows k was at)) in
+    let after = key_less x.inode was.inode (head_least row_key x rows up was (stands rows k was at)) in
     absurd (omega (arith, before, after, same))
 set_again (x ∷ rows) (suc k) (suc p) was row up at same inside rising =
     ap (λ (rest : List Row). x ∷ rest) (set_again rows k p was row (tail_rises row_key x rows up) at same (omega (arith, inside)) (tail_rises row_key x (insert (remove rows k) p row) rising))

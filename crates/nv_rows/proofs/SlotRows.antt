@@ -6,6 +6,7 @@ use Rattle.std.proofs.lemmas.Bool.Decides.{nat_tests}
 use Rattle.std.proofs.lemmas.List.{get_or-set_other, get_or_past}
 use Rattle.std.proofs.lemmas.Grind.{get_or-set_at}
 use Rattle.nv_super.specs.Order.{Rises}
+use Rattle.nv_super.proofs.Members.{stands}
 use Rattle.nv_super.proofs.Rising.{Contains-cons, below_first, rises_cons}
 use Rattle.nv_scan.specs.declared.piece.Row.{Row}
 use Rattle.nv_numbered.specs.Values.{entries_from}
@@ -157,11 +158,6 @@ slot_within slots n some =
       | inr past ↦ let none = ap is_some (get_or_past slots n None past) in absurd (cc)
     ]
 
-pub listed_at : (rows : List Row) (k : ℕ) (row : Row) → slice_get rows k ≡ Some row → Contains rows row
-listed_at [] k row at = absurd (cc)
-listed_at (x ∷ rows) zero row at = (0, omega arith, cc)
-listed_at (x ∷ rows) (suc k) row at = let later = listed_at rows k row at in (suc later.0, omega (arith, later.1), later.2)
-
 -- a row that is taken out has its number
 pub number_out : (slots : List (Option Row)) (n limit : ℕ) (o : Option Row) → o ≡ get_or slots n None → StandByNumber 0 slots → length slots ≡ limit → IfSome o (λ row. (row.inode ≡ n) × (n < limit))
 number_out slots n limit None at stand long = tt
@@ -183,12 +179,12 @@ row_gone slots n stand =
 pub slot_emptied : (first : ℕ) (slots : List (Option Row)) (n k : ℕ) (row : Row) → StandByNumber first slots → slice_get (rows_in slots) k ≡ Some row → row.inode ≡ first + n → rows_in (set slots n None) ≡ remove (rows_in slots) k
 slot_emptied first [] n k row stand at is = absurd (cc)
 slot_emptied first (None ∷ rest) zero k row stand at is =
-    absurd (omega (arith, is, none_below (first + 1) rest (later_stand first None rest stand) row (listed_at (rows_in rest) k row at)))
+    absurd (omega (arith, is, none_below (first + 1) rest (later_stand first None rest stand) row (stands (rows_in rest) k row at)))
 slot_emptied first (None ∷ rest) (suc n) k row stand at is =
     slot_emptied (first + 1) rest n k row (later_stand first None rest stand) at (omega (arith, is))
 slot_emptied first (Some x ∷ rest) zero zero row stand at is = refl
 slot_emptied first (Some x ∷ rest) zero (suc k) row stand at is =
-    absurd (omega (arith, is, none_below (first + 1) rest (later_stand first (Some x) rest stand) row (listed_at (rows_in rest) k row at)))
+    absurd (omega (arith, is, none_below (first + 1) rest (later_stand first (Some x) rest stand) row (stands (rows_in rest) k row at)))
 slot_emptied first (Some x ∷ rest) (suc n) zero row stand at is =
     let same : x ≡ row = cc in
     absurd (omega (arith, is, stand 0 x refl, ap (λ (r : Row). r.inode) same))

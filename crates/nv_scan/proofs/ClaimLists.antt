@@ -15,6 +15,7 @@ use Rattle.nv_super.proofs.Options.{some_is}
 use Rattle.nv_radix.specs.Pages.{Pages, block_at}
 use Rattle.nv_radix.specs.Extents.{IsMapped, HasPage, AreApart, AreExtents}
 use Rattle.nv_radix.specs.declared.extent.Extent.{Extent}
+use Rattle.nv_radix.proofs.OnlyExtents.{tail_apart}
 use Rattle.nv_scan.specs.Claims.{IsClaim, of_log, of_page, log_claims, run_claims, data_claims, IsSmall, AreSmall}
 
 abbrev key : ℕ × Owner → List ℕ
@@ -104,10 +105,6 @@ run_rises i p b (suc n) = rises_append key (pairs b (owners.Data i p) n) ((b + n
       | inr w ↦ absurd (omega (arith, w.1))
     ])
 
-apart_tail : (x : Extent) (xs : List Extent) → AreApart (x ∷ xs) → AreApart xs
-apart_tail x [] a = tt
-apart_tail x (y ∷ xs) a = a.1
-
 -- an extent lies before all that follow it
 apart_all : (x : Extent) (xs : List Extent) (y : Extent) → AreApart (x ∷ xs) → Contains xs y → x.page + x.count ≤ y.page
 apart_all x [] y a c = absurd (omega (arith, c.1))
@@ -118,7 +115,7 @@ apart_all x (z ∷ xs) y a c = elim (Contains-cons z xs y c) [
 
 data_rises : (i : ℕ) (xs : List Extent) → AreApart xs → Rises key (data_claims i xs)
 data_rises i [] a = tt
-data_rises i (x ∷ xs) a = rises_append key (run_claims i x) (data_claims i xs) (run_rises i x.page x.block x.count) (data_rises i xs (apart_tail x xs a))
+data_rises i (x ∷ xs) a = rises_append key (run_claims i x) (data_claims i xs) (run_rises i x.page x.block x.count) (data_rises i xs (tail_apart x xs a))
     (λ u v c d. (
     let r = run_claim i x.page x.block x.count u c in
     let f = from_flat (run_claims i) xs v d in

@@ -16,8 +16,7 @@ use Rattle.nv_format.specs.declared.formatting.FormatRefusal.TheVariants.{Stoppe
 use Rattle.nv_report.specs.nv_outcome.Outcome.{Outcome, IsOutcome}
 use Rattle.nv_report.specs.nv_outcome.Same.{lasting_outcome}
 use Rattle.nv_report.proofs.nv_outcome.Again.{rolled_back, stays}
-use Rattle.nv_report.proofs.nv_outcome.SuperOf.{blocks_of_super}
-use Rattle.std.proofs.lemmas.Bool.{cases_eq}
+use Rattle.nv_report.proofs.nv_outcome.SuperOf.{blocks_of_super, is_equal}
 use Rattle.nv_report.specs.nv_outcome.Answer.{outcome_of}
 use Rattle.nv_report.specs.nv_recover.Errors.{UndoesAsBefore}
 use Rattle.nv_report.specs.nv_outcome.declared.recovered.Recovered.{Recovered}
@@ -150,9 +149,6 @@ refused_step R workers schedule refusals.Workers state text next h u = rw h u
 refused_step R workers schedule refusals.Schedule state text next h u = rw (h.0, h.1) u
 refused_step R workers schedule (refusals.Super fault) state text next h u = rw (h.0, h.1) (inl (fault, h.2, u))
 refused_step R workers schedule refusal state text next h u = absurd h
-
-is_equal : (a b : ℕ) → (a ≢ b → ⊥) → a ≡ b
-is_equal a b h = elim (cases_eq a b) [ inl e ↦ e | inr ne ↦ absurd (h ne) ]
 
 -- the length of a region with a superblock
 size_of_super : (R : Region) (s : Super) → IsSuper R s → size R ≡ 4096 * s.blocks

@@ -5,6 +5,7 @@ pub mod Filters
 pub mod OneMore
 pub mod Options
 pub mod Runs
+pub mod Ranges
 pub mod Sorted
 pub mod Pools
 pub mod Slots

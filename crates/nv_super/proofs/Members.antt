@@ -1,11 +1,23 @@
--- What stands in a list that is made of others.
-use Rattle.std.proofs.Common.{◌≡◌, inl, inr, List, [], ◌∷◌, map, sym, subst, arith}
-use Rattle.std.specs.List.{Contains, flat_map}
+-- What stands in a list, and in one that is made of others.
+use Rattle.std.proofs.Common.{◌≡◌, inl, inr, ℕ, false, eqb, List, [], ◌∷◌, map, slice_get, Some, sym, ◌∙◌, subst, arith}
+use Rattle.std.specs.List.{Contains, flat_map, list_any}
+use Rattle.std.proofs.lemmas.Bool.{true≢false}
+use Rattle.std.proofs.lemmas.Cmp.{nat_eq_equiv}
 use Rattle.std.proofs.lemmas.List.Elements.{Contains-append_left, Contains-append_right, Contains-append_cases}
+use Rattle.std.proofs.lemmas.Map.Views.{list_any-from_Contains}
+use Rattle.std.proofs.lemmas.Option.{slice_get_within, get_or_from_slice_get}
 use Rattle.nv_super.proofs.Rising.{Contains-cons, Contains-head, Contains-tail}
 
 pub none_in : {A : Type 0} (x : A) → Contains [] x → ⊥
 none_in x c = omega (arith, c.1)
+
+-- what has a place stands in the list
+pub stands : {A : Type 0} (xs : List A) (k : ℕ) (x : A) → slice_get xs k ≡ Some x → Contains xs x
+stands xs k x at = (k, slice_get_within xs k x at, get_or_from_slice_get xs k x x at)
+
+-- a number that no member is equal to is no member
+pub no_member : (xs : List ℕ) (i : ℕ) → list_any (eqb i) xs ≡ false → Contains xs i → ⊥
+no_member xs i none c = true≢false (sym (list_any-from_Contains nat_eq_equiv i xs c) ∙ none)
 
 pub into_map : {A B : Type 0} (f : A → B) (xs : List A) (x : A) → Contains xs x → Contains (map f xs) (f x)
 into_map f [] x c = absurd (none_in x c)

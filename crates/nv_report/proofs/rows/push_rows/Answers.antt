@@ -1,6 +1,5 @@
-use Rattle.std.proofs.Common.{List, [], ◌∷◌, ◌++◌, map, refl, ap, sym, ◌∙◌, subst, string_bytes, append-nil}
+use Rattle.std.proofs.Common.{[], ◌∷◌, ◌++◌, map, refl, ap, sym, ◌∙◌, subst, string_bytes, append-nil}
 use Rattle.std.proofs.lemmas.List.{append_assoc}
-use Rattle.nv_recover.specs.declared.Row.{Row}
 use Rattle.nv_report.specs.Texts.{IsTreeText, AddsText}
 use Rattle.nv_report.proofs.TextLemmas.{adds_tree}
 use Rattle.nv_report.proofs.rows.push_rows.Goals as goal

@@ -24,7 +24,7 @@ use Rattle.nv_calls.proofs.LinkSpots.{link_goes_on}
 use Rattle.nv_calls.proofs.LinkTests.{link_refuses}
 use Rattle.nv_calls.proofs.LinkedHeld.{kinds_apart}
 use Rattle.nv_calls.proofs.Listed.{refused_by}
-use Rattle.nv_calls.proofs.OneRow.{stands}
+use Rattle.nv_super.proofs.Members.{stands}
 use Rattle.nv_calls.proofs.RowChange.{same_mount}
 use Rattle.nv_calls.proofs.RowNumbers.{row_commits}
 use Rattle.nv_calls.proofs.SetAttr.{late_reply, not_stop}

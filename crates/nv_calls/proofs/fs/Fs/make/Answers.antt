@@ -22,7 +22,8 @@ use Rattle.nv_calls.proofs.CreateCall.{create_allowed, create_refused, created_k
 use Rattle.nv_calls.proofs.CreateTests.{spot_goes_on, spot_refuses}
 use Rattle.nv_calls.proofs.Listed.{refused_by}
 use Rattle.nv_calls.proofs.NewNumbers.{can_name, number_below, unused_is}
-use Rattle.nv_calls.proofs.OneRow.{stands, stands_right}
+use Rattle.nv_calls.proofs.OneRow.{stands_right}
+use Rattle.nv_super.proofs.Members.{stands}
 use Rattle.nv_calls.proofs.RowChange.{same_mount}
 use Rattle.nv_calls.proofs.SetAttr.{late_reply, not_stop}
 use Rattle.nv_calls.proofs.Tests.{early_reply, if_err, writing_goes_on}

@@ -25,7 +25,7 @@ use Rattle.nv_calls.proofs.Listed.{refused_by}
 use Rattle.nv_calls.proofs.MoveCall.{moved_kept, moved_log, moved_logs, moved_tree, rename_allowed, rename_refused}
 use Rattle.nv_calls.proofs.MoveSpots.{move_goes_on}
 use Rattle.nv_calls.proofs.MoveTests.{rename_refuses}
-use Rattle.nv_calls.proofs.OneRow.{stands}
+use Rattle.nv_super.proofs.Members.{stands}
 use Rattle.nv_calls.proofs.RowChange.{same_mount}
 use Rattle.nv_calls.proofs.RowNumbers.{row_commits}
 use Rattle.nv_calls.proofs.SetAttr.{late_reply, not_stop}

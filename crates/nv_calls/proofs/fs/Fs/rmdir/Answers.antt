@@ -22,7 +22,8 @@ use Rattle.nv_calls.specs.Seen.{LeadsTo, tree_of}
 use Rattle.nv_calls.specs.World.{world_of}
 use Rattle.nv_calls.proofs.CreateCall.{kept_or_stopped, unchanged_rows}
 use Rattle.nv_calls.proofs.Listed.{refused_by}
-use Rattle.nv_calls.proofs.OneRow.{stands, stands_right}
+use Rattle.nv_calls.proofs.OneRow.{stands_right}
+use Rattle.nv_super.proofs.Members.{stands}
 use Rattle.nv_calls.proofs.OwnedRow.{owns_blocks}
 use Rattle.nv_calls.proofs.RemoveCall.{can_cut, removed_kept, removed_log, rmdir_last, rmdir_refusal, rmdir_tree}
 use Rattle.nv_calls.proofs.RemoveTests.{rmdir_goes_on, rmdir_refuses}

@@ -19,7 +19,8 @@ use Rattle.nv_calls.proofs.Listed.{refused_by}
 use Rattle.nv_rows.specs.Rows.{place_in}
 use Rattle.nv_rows.proofs.Places.{at_place, own_row, put_one}
 use Rattle.nv_calls.proofs.PutRow.{one_row}
-use Rattle.nv_calls.proofs.OneRow.{stands, stands_right}
+use Rattle.nv_calls.proofs.OneRow.{stands_right}
+use Rattle.nv_super.proofs.Members.{stands}
 use Rattle.nv_calls.proofs.RowChange.{kept_after, log_grew, row_bytes, same_mount, tree_after}
 use Rattle.nv_calls.proofs.SetAttr.{attr_allowed, attr_changed, attr_logged, attr_refused, kept_or_stopped, late_reply, not_stop, unchanged_step}
 use Rattle.nv_calls.proofs.Tests.{early_reply, if_err, stat_goes_on, stat_refuses, writing_goes_on}

@@ -25,7 +25,7 @@ use Rattle.nv_calls.specs.World.{world_of}
 use Rattle.nv_calls.proofs.CreateCall.{kept_or_stopped, unchanged_rows}
 use Rattle.nv_calls.proofs.Kept.{rows_rise}
 use Rattle.nv_calls.proofs.Listed.{refused_by}
-use Rattle.nv_calls.proofs.OneRow.{stands}
+use Rattle.nv_super.proofs.Members.{stands}
 use Rattle.nv_calls.proofs.OwnedRow.{owns_blocks}
 use Rattle.nv_calls.proofs.LinkedHeld.{kinds_apart, kinds_differ}
 use Rattle.nv_calls.proofs.NewNumbers.{can_name}

@@ -22,7 +22,8 @@ use Rattle.nv_calls.proofs.Listed.{refused_by}
 use Rattle.nv_rows.specs.Rows.{place_in}
 use Rattle.nv_rows.proofs.Places.{at_place, own_row, put_one}
 use Rattle.nv_calls.proofs.PutRow.{one_row}
-use Rattle.nv_calls.proofs.OneRow.{stands, stands_right}
+use Rattle.nv_calls.proofs.OneRow.{stands_right}
+use Rattle.nv_super.proofs.Members.{stands}
 use Rattle.nv_calls.proofs.RowChange.{kept_after, same_mount, tree_after}
 use Rattle.nv_calls.proofs.SetAttr.{kept_or_stopped, not_stop, unchanged_step}
 use Rattle.nv_calls.proofs.SetSize.{front_goes_on, front_tests}

@@ -2,7 +2,7 @@ use Rattle.std.proofs.Common.{◌≡◌, ◌/◌, ◌||◌, eqb, refl, ap, ◌�
 use Rattle.std.proofs.lemmas.Result.{on_ok_weaker, on_err_weaker}
 use Rattle.nv_radix.specs.Pages.{is_ready}
 use Rattle.nv_radix.proofs.Halves.{blocks_by_half, ready_by_half, ready_front, other_front, ready_rest, other_rest, not_beyond}
-use Rattle.nv_radix.proofs.RowSteps.{either_way}
+use Rattle.nv_radix.proofs.RunLemmas.{either_way}
 use Rattle.nv_radix.proofs.index.FileIndex.make_ready.Goals as goal
 
 pub returns-then-page-lt64-clause-blocks : goal.returns-then-page-lt64-clause-blocks
