@@ -1,6 +1,6 @@
 //! New bytes of a file, as they fall into its words.
 
-ghost use Rattle.std.specs.Prelude.{◌≡◌, ◌+◌, ◌<◌, ◌≤◌, ◌%◌, ◌^◌, ℕ, length, get_or, IsTrue};
+ghost use Rattle.std.specs.Prelude.{◌≡◌, ◌+◌, ◌<◌, ◌≤◌, ◌^◌, ℕ, length, get_or, IsTrue};
 ghost use Rattle.nv_bytes.specs.Bytes.{byte_of_word, byte_after};
 
 use byteorder::{ByteOrder, LittleEndian};

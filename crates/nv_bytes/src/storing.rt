@@ -2,7 +2,7 @@
 //!
 //! Nothing is fenced: what is stored counts only once an entry names the blocks.
 
-ghost use Rattle.std.specs.Prelude.{◌≡◌, ◌≢◌, ◌+◌, ◌*◌, ◌%◌, ◌<◌, ◌≤◌, ◌^◌, ℕ, length, get_or, IfSome, IsTrue, OnOk, OnErr, is_err, false, Some};
+ghost use Rattle.std.specs.Prelude.{◌≡◌, ◌≢◌, ◌+◌, ◌*◌, ◌%◌, ◌<◌, ◌≤◌, ◌^◌, ℕ, length, get_or, IfSome, OnOk, is_err, false, Some};
 ghost use Rattle.nv_region.specs.Region.{size};
 ghost use Rattle.nv_region.specs.Stored.{StoresOnly};
 ghost use Rattle.nv_region.specs.Fuses.{KeepsFuse};
