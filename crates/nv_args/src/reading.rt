@@ -4,7 +4,7 @@ ghost use Rattle.std.specs.Prelude.{◌≡◌, ◌↔◌, ℕ, IfOk, IfErr, IfSo
 ghost use Rattle.clap.specs.Walk.{first_of, rows_of};
 ghost use Rattle.clap.specs.Simple.{subcommand_rows_of};
 ghost use Rattle.clap.specs.Matches.{found_of};
-ghost use Rattle.nv_args.specs.Words.{AreWorkers, Asks, HasValues, IsGiven, IsNumber, IsOutput, Says, WordsSay, WantsMemory};
+ghost use Rattle.nv_args.specs.Words.{AreWorkers, Asks, IsGiven, IsNumber, IsOutput, Says, WordsSay, WantsMemory};
 
 use crate::command_line::nova;
 use crate::todo::{CheckOutput, Todo};

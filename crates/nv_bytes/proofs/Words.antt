@@ -1,12 +1,12 @@
 -- The bytes of words.
-use Rattle.std.proofs.Common.{◌≡◌, inl, inr, ℕ, zero, suc, ◌+◌, ◌/◌, ◌%◌, ◌<◌, ◌≤◌, List, [], ◌∷◌, length, take, drop, map, get_or, set, refl, sym, ap, ◌∙◌, subst, arith, length-take, length-drop, length-set}
+use Rattle.std.proofs.Common.{◌≡◌, inl, inr, ℕ, zero, suc, ◌+◌, ◌*◌, ◌/◌, ◌%◌, ◌<◌, ◌≤◌, List, [], ◌∷◌, length, take, drop, map, get_or, set, refl, sym, ap, ◌∙◌, subst, arith, length-take, length-drop, length-set}
 use Rattle.std.specs.List.{range_with_len}
 use Rattle.std.specs.Int.{to_le_bytes, from_le_bytes, w64}
 use Rattle.std.proofs.lemmas.List.{ext_get_or, get_or-take, get_or-drop, get_or-set_same, get_or-set_other, get_or_past}
 use Rattle.std.proofs.lemmas.Bool.{cases_lt, cases_eq}
 use Rattle.std.proofs.lemmas.List.FromFn.{get_or-map-range_with_len, length-map-range_with_len}
 use Rattle.std.proofs.lemmas.Nat.{le_bytes_8}
-use Rattle.byteorder.specs.Endian.{little_number}
+use Rattle.byteorder.specs.Endian.{little_number, IsRead}
 use Rattle.byteorder.specs.Numbers.{little_from-take}
 use Rattle.nv_bytes.specs.Bytes.{byte_of_word}
 
@@ -42,6 +42,14 @@ byte_read bytes w k long small is few =
 
     fits : (i : ℕ) → get_or (take 8 bytes) i 0 < 256
     fits i = fits_take 8 bytes i small
+
+-- the bytes of words that are read from a row of bytes
+pub byte_of_line : (bytes line : List ℕ) (j k : ℕ) → length bytes ≡ 64 → length line ≡ 8 → ((i : ℕ) → get_or bytes i 0 < 256) → IsRead little_number 8 bytes line → j < 8 → k < 8
+    → byte_of_word (get_or line j 0) k ≡ get_or bytes (8 * j + k) 0
+byte_of_line bytes line j k long eight small read low few =
+    byte_read (drop (8 * j) bytes) (get_or line j 0) k (simp length-drop (omega arith))
+    (λ i. subst (λ (b : ℕ). b < 256) (sym (get_or-drop (8 * j) bytes i 0)) (small (8 * j + i))) (read j (omega arith)) few
+    ∙ get_or-drop (8 * j) bytes k 0
 
 -- some bytes of a word
 pub part_of_word : (f : ℕ → ℕ) (w at n : ℕ) (bytes : List ℕ) → bytes ≡ to_le_bytes w64 w → at % 8 + n ≤ 8 → ((y : ℕ) → y / 8 ≡ at / 8 → byte_of_word w (y % 8) ≡ f y) → take n (drop (at % 8) bytes) ≡ map f (range_with_len at n)

@@ -2,7 +2,7 @@
 
 ghost use Rattle.std.specs.Prelude.{◌≡◌, ◌<◌, ◌≤◌, ◌+◌, length, IfOk, IfErr, OnOk, OnErr, vec_len, vec_capacity};
 ghost use Rattle.nv_alloc.specs.Taking.{all_blocks};
-ghost use Rattle.nv_alloc.specs.FreeLists.{IsSound, Refuses, SameLists};
+ghost use Rattle.nv_alloc.specs.FreeLists.{Refuses, SameLists};
 ghost use Rattle.nv_calls.specs.Taken.{SamePools, TakesOne, TakesEach, TakesOnto};
 
 use nv_alloc::{AllocRefusal, Allocators};

@@ -1,6 +1,6 @@
 //! What a row says once its file was written. Nothing is stored here, and no memory is taken.
 
-ghost use Rattle.std.specs.Prelude.{◌≡◌, ◌+◌, ◌≤◌, ◌^◌, length, vec_len, vec_capacity};
+ghost use Rattle.std.specs.Prelude.{◌+◌, ◌≤◌, length, vec_len, vec_capacity};
 ghost use Rattle.nv_alloc.specs.Taking.{Disjoint};
 ghost use Rattle.nv_calls.specs.Written.{AreSettled, HasWritten, MapsEntries, entry_pages};
 

@@ -1,6 +1,6 @@
 //! Whether inodes have as many names as they should.
 
-ghost use Rattle.std.specs.Prelude.{◌≡◌, ◌<◌, ◌≤◌, ◌++◌, ◌==◌, ℕ, List, length, slice_index, count_by, replicate, IfOk, OnOk};
+ghost use Rattle.std.specs.Prelude.{◌≡◌, ◌<◌, ◌++◌, ◌==◌, IfOk, OnOk};
 ghost use Rattle.std.specs.List.{filter_map};
 ghost use Rattle.nv_check.specs.Steps.{IsTable, AreCounts, AreNumbersOfNames, count_fault, count_fault_of};
 

@@ -1,6 +1,6 @@
 //! The rows with their names listed, once for all checks.
 
-ghost use Rattle.std.specs.Prelude.{◌≡◌, ◌++◌, List, map, IfOk, OnOk};
+ghost use Rattle.std.specs.Prelude.{◌≡◌, ◌++◌, map, IfOk, OnOk};
 ghost use Rattle.nv_check.specs.Listings.{AreListings, target, targets};
 
 use nv_names::Named;

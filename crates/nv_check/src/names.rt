@@ -1,6 +1,6 @@
 //! Names that lead nowhere.
 
-ghost use Rattle.std.specs.Prelude.{◌≡◌, ◌++◌, List, IfOk, OnOk};
+ghost use Rattle.std.specs.Prelude.{◌≡◌, ◌++◌, OnOk};
 ghost use Rattle.nv_check.specs.Steps.{unused_of, unused_faults};
 
 use crate::listing::Listing;

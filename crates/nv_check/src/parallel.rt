@@ -1,6 +1,6 @@
 //! The same faults, with the work on each row shared among threads.
 
-ghost use Rattle.std.specs.Prelude.{◌≡◌, ◌++◌, List, IfOk, IsTrue, OnOk};
+ghost use Rattle.std.specs.Prelude.{◌≡◌, ◌++◌, IfOk, IsTrue, OnOk};
 ghost use Rattle.std.specs.List.{All, AllZip};
 ghost use Rattle.nv_super.specs.Layout.{IsLayout, is_number};
 ghost use Rattle.nv_super.specs.Order.{fault_key, Lists, Rises};

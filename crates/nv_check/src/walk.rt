@@ -1,6 +1,6 @@
 //! Which inodes are reached by names from the root.
 
-ghost use Rattle.std.specs.Prelude.{◌≡◌, ◌<◌, ◌≤◌, ◌++◌, ℕ, List, [], ◌∷◌, length, map, replicate, false, OnOk, IfOk};
+ghost use Rattle.std.specs.Prelude.{◌≡◌, ◌<◌, ◌++◌, [], ◌∷◌, length, map, replicate, false, OnOk, IfOk};
 ghost use Rattle.nv_check.specs.Listings.{target};
 ghost use Rattle.nv_check.specs.Steps.{Spreads, IsTable, ArePlaces, AreReached, Reaching, Adds, IsUnmarkedBelow, IsFar, root_faults};
 

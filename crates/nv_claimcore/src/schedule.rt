@@ -1,6 +1,6 @@
 //! Workers that take their steps by a schedule, and then run to their ends, with no thread.
 
-ghost use Rattle.std.specs.Prelude.{◌≡◌, ℕ, ◌+◌, ◌/◌, ◌<◌, ◌^◌, ◌==◌, List, [], ◌∷◌, length, drop, slice_set, None, IfOk, IfErr, OnOk, MatchOption};
+ghost use Rattle.std.specs.Prelude.{◌≡◌, ◌+◌, ◌/◌, ◌<◌, ◌^◌, ◌==◌, [], ◌∷◌, length, drop, slice_set, None, IfOk, IfErr, OnOk, MatchOption};
 ghost use Rattle.nv_blockset.specs.BlockSet.{has};
 ghost use Rattle.nv_super.specs.declared.owners.Owner.{Owner};
 ghost use Rattle.nv_claimcore.specs.declared.event.Event.TheVariants.{Draw, Claim, Mark};

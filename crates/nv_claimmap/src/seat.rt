@@ -1,6 +1,6 @@
 //! A worker's place at the map: what it drew and claimed there.
 
-ghost use Rattle.std.specs.Prelude.{◌≡◌, ◌+◌, ◌<◌, ◌^◌, [], IfOk};
+ghost use Rattle.std.specs.Prelude.{◌≡◌, ◌<◌, ◌^◌, [], IfOk};
 ghost use Rattle.std.specs.Vec.{vec_len};
 ghost use Rattle.nv_claimcore.specs.Claims.{nothing};
 ghost use Rattle.nv_claimmap.specs.Held.{Held, held, map_id, fresh};

@@ -1,9 +1,10 @@
 -- A file that is written in pieces: what was written so far is a front of its bytes.
-use Rattle.std.proofs.Common.{◌≡◌, ◌≤◌, ◌+◌, ◌-◌, ℕ, zero, suc, List, ◌∷◌, ◌++◌, map, take, min, length, Option, Some, inr, refl, sym, ap, subst, ◌∙◌, arith}
+use Rattle.std.proofs.Common.{◌≡◌, ◌≤◌, ◌+◌, ◌-◌, ℕ, List, ◌++◌, map, take, min, length, Option, Some, inr, refl, sym, ap, subst, ◌∙◌, arith}
 use Rattle.std.specs.Io.KnownBytes.{Appends}
 use Rattle.std.specs.List.{range_with_len}
 use Rattle.std.proofs.lemmas.List.FromFn.{length-map-range_with_len, take-map-range_with_len}
 use Rattle.std.proofs.lemmas.List.{take_min}
+use Rattle.nv_super.proofs.Ranges.{range_more}
 use Rattle.nv_tree.specs.Tree.{Tree, Node}
 use Rattle.nv_tree.specs.Calls.{bytes_read}
 use Rattle.nv_session.specs.nv_calls.Seen.{LeadsTo}
@@ -13,16 +14,9 @@ use Rattle.nv_stream.proofs.StreamLemmas.{appends_none, appends_both, appends_fr
 use Rattle.nv_cli.specs.Looking.{IsSized, IsWholeFile, WritesFile, FailsFile}
 use Rattle.nv_stream.specs.declared.fault.ScriptError.TheVariants as errors
 
-joins_from : (f : ℕ → ℕ) (a m n : ℕ) → map f (range_with_len a m) ++ map f (range_with_len (a + m) n) ≡ map f (range_with_len a (m + n))
-joins_from f a zero n = ap (λ (b : ℕ). map f (range_with_len b n)) (let e : a + 0 ≡ a = omega arith in e) ∙ ap (λ (k : ℕ). map f (range_with_len a k)) (let e : n ≡ 0 + n = omega arith in e)
-joins_from f a (suc m) n =
-    ap (λ (b : ℕ). f a ∷ (map f (range_with_len (a + 1) m) ++ map f (range_with_len b n))) (let e : a + suc m ≡ (a + 1) + m = omega arith in e)
-    ∙ ap (λ (l : List ℕ). f a ∷ l) (joins_from f (a + 1) m n)
-    ∙ ap (λ (k : ℕ). map f (range_with_len a k)) (let e : suc (m + n) ≡ suc m + n = omega arith in e)
-
 joins : (f : ℕ → ℕ) (at count : ℕ) → map f (range_with_len 0 (at + count)) ≡ map f (range_with_len 0 at) ++ map f (range_with_len at count)
 joins f at count =
-    let from : map f (range_with_len 0 at) ++ map f (range_with_len (0 + at) count) ≡ map f (range_with_len 0 (at + count)) = joins_from f 0 at count in
+    let from : map f (range_with_len 0 at) ++ map f (range_with_len (0 + at) count) ≡ map f (range_with_len 0 (at + count)) = range_more f 0 at count in
     let same : 0 + at ≡ at = omega arith in
     sym (subst (λ (b : ℕ). map f (range_with_len 0 at) ++ map f (range_with_len b count) ≡ map f (range_with_len 0 (at + count))) same from)
 

@@ -2,7 +2,7 @@
 //!
 //! What is found wrong doesn't keep the calls from being made; the answer tells of it.
 
-ghost use Rattle.std.specs.Prelude.{◌≡◌, ◌⊎◌, ℕ, false, if◌then◌else◌, IfOk, IfErr, OnOk, List, string_bytes};
+ghost use Rattle.std.specs.Prelude.{◌≡◌, ℕ, false, if◌then◌else◌, IfOk, IfErr, OnOk, List, string_bytes};
 ghost use Rattle.nv_region.specs.Region.{region_of};
 ghost use Rattle.nv_text.specs.Refusals.{refusal_name};
 ghost use Rattle.nv_tree.specs.Path.{IsPath, Says};

@@ -1,6 +1,6 @@
 //! What a check writes of a region that it recovered.
 
-ghost use Rattle.std.specs.Prelude.{◌≡◌, IfOk, string_bytes};
+ghost use Rattle.std.specs.Prelude.{IfOk, string_bytes};
 ghost use Rattle.nv_super.specs.Layout.{HasAreas};
 ghost use Rattle.nv_report.specs.nv_outcome.Answer.{outcome_of};
 ghost use Rattle.nv_cli.specs.Checking.{IsOutputText};

@@ -1,9 +1,10 @@
 -- The text that stands at an address.
-use Rattle.std.proofs.Common.{◌≡◌, ℕ, zero, suc, ◌+◌, ◌-◌, ◌*◌, ◌/◌, ◌%◌, ◌<◌, ◌≤◌, List, [], ◌∷◌, ◌++◌, length, take, get_or, refl, ap, sym, ◌∙◌, subst, arith, length-append, length-take, append-nil, min}
+use Rattle.std.proofs.Common.{◌≡◌, ℕ, zero, suc, ◌+◌, ◌-◌, ◌*◌, ◌/◌, ◌%◌, ◌<◌, ◌≤◌, List, [], ◌∷◌, ◌++◌, length, take, get_or, refl, ap, sym, ◌∙◌, subst, arith, length-append, length-take, append-nil, add-one, min}
 use Rattle.std.specs.List.{flat_map, range_with_len}
 use Rattle.std.proofs.Math.Seq.{take-append-add}
 use Rattle.std.proofs.lemmas.List.{take_all}
 use Rattle.std.proofs.lemmas.Grind.{flat_map-append}
+use Rattle.nv_super.proofs.Ranges.{one_more}
 use Rattle.nv_super.specs.nv_region.Region.{Region, word}
 use Rattle.nv_entry.specs.Digits.{low_bytes, high_part}
 use Rattle.nv_entry.specs.Name.{IsName}
@@ -12,10 +13,6 @@ use Rattle.nv_entry.specs.Light.{text_at}
 use Rattle.nv_entry.proofs.Words.{length-low_bytes, fits_append, fits_take, low_bytes_fit, TextBelow, text_more}
 
 -- ---- bytes by eights
-
-range_more : (a n : ℕ) → range_with_len a (suc n) ≡ range_with_len a n ++ (a + n) ∷ []
-range_more a zero = ap (λ (x : ℕ). x ∷ []) (omega arith)
-range_more a (suc n) = ap (λ (xs : List ℕ). a ∷ xs) (range_more (a + 1) n ∙ ap (λ (x : ℕ). range_with_len (a + 1) n ++ x ∷ []) (omega arith))
 
 low_front : (part n w : ℕ) → part ≤ n → take part (low_bytes n w) ≡ low_bytes part w
 low_front zero n w few = refl
@@ -33,7 +30,7 @@ module _ (f : ℕ → List ℕ) (each : (k : ℕ) → length (f k) ≡ 8) where
 
   eights_more : (n : ℕ) → flat_map f (range_with_len 0 (suc n)) ≡ flat_map f (range_with_len 0 n) ++ f n
   eights_more n =
-      ap (flat_map f) (range_more 0 n) ∙ flat_map-append f (range_with_len 0 n) ((0 + n) ∷ [])
+      ap (λ (k : ℕ). flat_map f (range_with_len 0 k)) (sym (add-one n)) ∙ ap (flat_map f) (sym (one_more 0 n)) ∙ flat_map-append f (range_with_len 0 n) ((0 + n) ∷ [])
       ∙ ap (λ (xs : List ℕ). flat_map f (range_with_len 0 n) ++ xs) (append-nil (f (0 + n)) ∙ ap f (omega arith))
 
   abbrev front : ℕ → List ℕ

@@ -3,7 +3,7 @@
 //! An entry of any type takes as much room as the longest name. A light one says where its name stands, so it moves
 //! cheaply, and the name is read only where it is wanted.
 
-ghost use Rattle.std.specs.Prelude.{◌≡◌, ◌+◌, ◌*◌, ◌^◌, ◌<◌, ◌≤◌, ◌%◌, ◌++◌, [], ℕ};
+ghost use Rattle.std.specs.Prelude.{◌≡◌, ◌+◌, ◌*◌, ◌^◌, ◌<◌, ◌≤◌, ◌%◌, ◌++◌, []};
 ghost use Rattle.arrayvec.specs.ArrayVec.{array_vec_len};
 ghost use Rattle.nv_super.specs.nv_region.Region.{Region, size};
 ghost use Rattle.nv_entry.specs.Spelling.{entry_length, words_for};

@@ -8,7 +8,7 @@ ghost use Rattle.nv_region.specs.Region.{HasBlocks, size, put};
 ghost use Rattle.nv_region.specs.Stops.{NothingPending, LeavesOnly};
 ghost use Rattle.nv_region.specs.Fuses.{KeepsFuse};
 ghost use Rattle.nv_region.specs.Stored.{StoresOnly, Within};
-ghost use Rattle.nv_super.specs.Layout.{IsLayout, slot_address};
+ghost use Rattle.nv_super.specs.Layout.{IsLayout};
 ghost use Rattle.nv_format.specs.Format.{IsFormatRefusal, CanFormat, IsFormatted, IsLaidOut, HasRoot, AnyAt, IsSystemWord, IsRootWord, fresh_super, root_page, refusal_name, FormatIsDetermined, FormatLeaves};
 
 use crate::clearing::clear_system;

@@ -4,7 +4,7 @@
 //! words are fenced before the journal is emptied. So a stop at any moment leaves all records of a call or none, and
 //! undo gives the words from before, or all of them changed.
 
-ghost use Rattle.std.specs.Prelude.{◌≡◌, ◌⊎◌, ◌≤◌, ◌<◌, ◌+◌, ◌*◌, ◌%◌, ◌^◌, ℕ, Bool, IsTrue, OnOk, OnErr, is_err, length};
+ghost use Rattle.std.specs.Prelude.{◌≡◌, ◌⊎◌, ◌≤◌, ◌<◌, ◌+◌, ◌%◌, ◌^◌, ℕ, Bool, IsTrue, OnOk, OnErr, is_err, length};
 ghost use Rattle.nv_region.specs.Region.{put, size};
 ghost use Rattle.nv_region.specs.Stops.{NothingPending, LeavesOnly, One};
 ghost use Rattle.nv_region.specs.Fuses.{KeepsFuse};

@@ -4,7 +4,7 @@
 //! next-page entry is written there. The links are written last. They form a chain of pages that doesn't depend on
 //! the entries.
 
-ghost use Rattle.std.specs.Prelude.{◌≡◌, ◌≢◌, ◌⊎◌, ◌+◌, ◌*◌, ◌/◌, ◌%◌, ◌^◌, ◌<◌, ◌≤◌, List, ◌∷◌, ◌++◌, ℕ, suc, length, get_or, take, IfOk, OnOk, OnErr, None, IsTrue, false, is_err};
+ghost use Rattle.std.specs.Prelude.{◌≡◌, ◌≢◌, ◌⊎◌, ◌+◌, ◌*◌, ◌/◌, ◌%◌, ◌^◌, ◌<◌, ◌≤◌, List, ◌∷◌, ◌++◌, ℕ, length, take, IfOk, OnOk, OnErr, None, IsTrue, false, is_err};
 ghost use Rattle.nv_region.specs.Region.{Region, size};
 ghost use Rattle.nv_region.specs.Stops.{LeavesOnly, NothingPending};
 ghost use Rattle.nv_region.specs.Fuses.{KeepsFuse};

@@ -1,17 +1,13 @@
 -- The lines of a map, one after another.
-use Rattle.std.proofs.Common.{◌≡◌, inl, inr, ℕ, zero, suc, ◌+◌, ◌*◌, min, List, [], ◌∷◌, ◌++◌, length, take, drop, ap, sym, ◌∙◌, arith, add-one, append-nil, length-append}
+use Rattle.std.proofs.Common.{◌≡◌, inl, inr, ℕ, ◌+◌, ◌*◌, min, List, [], ◌∷◌, ◌++◌, length, take, drop, ap, sym, ◌∙◌, arith, append-nil, length-append}
 use Rattle.std.proofs.Math.Seq.{take-append_seam, drop-append_seam}
 use Rattle.std.proofs.lemmas.Bool.{cases_lt}
 use Rattle.std.proofs.lemmas.List.{take_min, drop-drop, drop_all, nil_from_length}
 use Rattle.std.proofs.lemmas.Grind.{flat_map-append}
 use Rattle.std.specs.List.{flat_map, range_with_len}
+use Rattle.nv_super.proofs.Ranges.{one_more}
 use Rattle.nv_map.specs.declared.uses.BlockUse.{BlockUse}
 use Rattle.nv_map.specs.Text.{letters, line_at}
-
--- one number more
-range_more : (a n : ℕ) → range_with_len a (suc n) ≡ range_with_len a n ++ (a + n) ∷ []
-range_more a zero = ap (λ (k : ℕ). k ∷ []) (omega arith)
-range_more a (suc n) = ap (λ (ks : List ℕ). a ∷ ks) (range_more (a + 1) n ∙ ap (λ (k : ℕ). range_with_len (a + 1) n ++ k ∷ []) (omega arith))
 
 module _ {X : Type 0} (size : ℕ) (all chunk rest : List X) (parts : all ≡ chunk ++ rest) (long : length chunk ≡ min size (length all)) where
   -- the first of the pieces that a list is cut in
@@ -32,7 +28,7 @@ module _ {X : Type 0} (size : ℕ) (all chunk rest : List X) (parts : all ≡ ch
 pub one_line_more : (uses chunk rest : List BlockUse) (k : ℕ) → drop (64 * k) uses ≡ chunk ++ rest → length chunk ≡ min 64 (length (drop (64 * k) uses))
     → flat_map (line_at uses) (range_with_len 0 (k + 1)) ≡ flat_map (line_at uses) (range_with_len 0 k) ++ (letters chunk ++ 10 ∷ [])
 one_line_more uses chunk rest k parts long =
-    ap (λ (n : ℕ). flat_map (line_at uses) (range_with_len 0 n)) (add-one k) ∙ ap (flat_map (line_at uses)) (range_more 0 k)
+    ap (flat_map (line_at uses)) (sym (one_more 0 k))
     ∙ flat_map-append (line_at uses) (range_with_len 0 k) ((0 + k) ∷ [])
     ∙ ap (λ (n : ℕ). flat_map (line_at uses) (range_with_len 0 k) ++ flat_map (line_at uses) (n ∷ [])) (omega arith)
     ∙ ap (λ (text : List ℕ). flat_map (line_at uses) (range_with_len 0 k) ++ text) (append-nil (line_at uses k))

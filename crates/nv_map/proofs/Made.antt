@@ -1,5 +1,6 @@
 -- The marked cells are a map of the outcome.
-use Rattle.std.proofs.Common.{◌⊎◌, inl, inr, ℕ, get_or, refl, ap, sym, ◌∙◌, subst, arith}
+use Rattle.std.proofs.Common.{◌⊎◌, inl, inr, ℕ, ◌*◌, ◌≤◌, max, get_or, refl, ap, sym, ◌∙◌, subst, arith}
+use Rattle.std.proofs.lemmas.Grind.{div_ceil_times}
 use Rattle.std.specs.Int.{div_ceil}
 use Rattle.nv_super.specs.Layout.{system_blocks}
 use Rattle.nv_outcome.specs.Outcome.{Outcome}
@@ -7,8 +8,9 @@ use Rattle.nv_map.specs.declared.uses.BlockUse.{BlockUse}
 use Rattle.nv_map.specs.declared.uses.BlockUse.TheVariants.{Free, System}
 use Rattle.nv_map.specs.declared.marks.Marks.{Marks}
 use Rattle.nv_map.specs.Map.{IsUsedBy, IsUsedTwice, IsUsed, system, owned, doubled, IsMap}
-use Rattle.nv_map.specs.Marks.{AreFree, AreUsed, IsRaised, Raises, SaysOne}
+use Rattle.nv_map.specs.Marks.{AreFree, HasRoom, AreUsed, IsRaised, Raises, SaysOne}
 use Rattle.nv_map.proofs.Raising.{raises_both}
+use Rattle.nv_map.proofs.Runs.{few_cells}
 
 -- what a block is used for was told
 told : (o : Outcome) (n : ℕ) (kind : BlockUse) → IsUsed o n kind → (AreUsed 0 (system_blocks o.sup) System n kind ⊎ SaysOne IsUsedBy o.rows n kind) ⊎ IsUsedTwice o.doubled n kind
@@ -31,10 +33,13 @@ raises_all o a b c d p q r =
     (λ n kind h. doubled h) (told o) a c d both r
 
 -- cells that were free and are told of all blocks are a map
-pub is_map : (o : Outcome) (most : ℕ) (a b : Marks) → AreFree o.sup.blocks most a → Raises (IsUsed o) a b → IsMap o most (record { each = b.each; uses = b.uses })
-is_map o most a b free r = record {
+pub is_map : (o : Outcome) (most : ℕ) (a b : Marks) → AreFree o.sup.blocks most a → HasRoom a → Raises (IsUsed o) a b → IsMap o most (record { each = b.each; uses = b.uses })
+is_map o most a b free room r = record {
   each = r.each ∙ free.each;
   count = r.count ∙ free.count ∙ ap (λ (n : ℕ). div_ceil o.sup.blocks n) (sym r.each);
+  most =
+      let held : o.sup.blocks ≤ a.each * max most 1 = subst (λ (n : ℕ). o.sup.blocks ≤ n * max most 1) (sym free.each) (div_ceil_times o.sup.blocks (max most 1) (omega arith)).0 in
+      subst (λ (n : ℕ). n ≤ max most 1) (sym (r.count ∙ free.count)) (few_cells o.sup.blocks (max most 1) a.each room.some held);
   tells = λ place inside.
       let at = r.cells place (omega (arith, inside, r.count)) in
       let same : IsRaised (IsUsed o) o.sup.blocks b.each place (get_or a.uses.items place Free) (get_or b.uses.items place Free) =

@@ -1,5 +1,5 @@
 -- Which cells a run of blocks stands in, and what marking them tells.
-use Rattle.std.proofs.Common.{◌≡◌, ◌⊎◌, inl, inr, ℕ, suc, ◌+◌, ◌*◌, ◌/◌, ◌<◌, ◌≤◌, Bool, cond, List, length, get_or, refl, ap, sym, ◌∙◌, subst, arith}
+use Rattle.std.proofs.Common.{◌≡◌, ◌⊎◌, inl, inr, ℕ, suc, ◌+◌, ◌*◌, ◌/◌, ◌<◌, ◌≤◌, Bool, cond, List, length, get_or, refl, ap, sym, ◌∙◌, subst, arith, mul_comm}
 use Rattle.std.proofs.Math.Nat.{div-mul-le_self, lt-div-mul-add, mul-le-mul_right, lt_of_mul-lt-mul_right}
 use Rattle.std.proofs.Math.ListN.{set}
 use Rattle.std.proofs.lemmas.List.{length-set, get_or-set_same, get_or-set_other}
@@ -158,4 +158,13 @@ first_reached each start end some full =
     let one = div-mul-le_self start each in
     let two = (div_ceil_times end each some).0 in
     let lt = lt_of_mul-lt-mul_right each {m = start / each} {n = div_ceil end each} (omega (arith, one, two, full)) in
+    omega (arith, lt)
+
+-- cells that hold all blocks if there are so many are at most so many
+pub few_cells : (blocks most each : ℕ) → 0 < each → blocks ≤ each * most → div_ceil blocks each ≤ most
+few_cells blocks most each some room =
+    let one = (div_ceil_times blocks each some).1 in
+    let two = mul_comm each most in
+    let three = subst (λ (n : ℕ). blocks ≤ n) two room in
+    let lt = lt_of_mul-lt-mul_right each {m = div_ceil blocks each} {n = suc most} (omega (arith, one, three, some)) in
     omega (arith, lt)

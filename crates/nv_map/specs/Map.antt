@@ -46,8 +46,9 @@ pub record TellsCell (o : Outcome) (each place : ℕ) (kind : BlockUse) : Type 0
   pub had : kind ≢ Free → (b : ℕ) × (b < o.sup.blocks) × InCell each place b × IsUsed o b kind
   pub last : (b : ℕ) (other : BlockUse) → b < o.sup.blocks → InCell each place b → IsUsed o b other → rank other ≤ rank kind
 
--- The cells are a map of the outcome: at most `most` of them (one, if that is 0), of as few blocks as can be.
-pub record IsMap (o : Outcome) (most : ℕ) (cells : Cells) : Type 0 where
-  pub each : cells.each ≡ div_ceil o.sup.blocks (max most 1)
+-- The cells are a map of the outcome: at most as many as asked for (one, if that is 0), of as few blocks as can be.
+pub record IsMap (o : Outcome) (asked : ℕ) (cells : Cells) : Type 0 where
+  pub each : cells.each ≡ div_ceil o.sup.blocks (max asked 1)
   pub count : length cells.uses.items ≡ div_ceil o.sup.blocks cells.each
+  pub most : length cells.uses.items ≤ max asked 1
   pub tells : (place : ℕ) → place < length cells.uses.items → TellsCell o cells.each place (get_or cells.uses.items place Free)

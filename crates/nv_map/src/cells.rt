@@ -19,6 +19,7 @@ pub struct Cells {
 }
 
 /// The map of what was recovered, in at most `most` cells (one, if that is 0) of as few blocks as can be.
+/// Errors: where a growth was refused.
 pub fn cells_of(alloc: Global, recovered: &Recovered, most: u64) -> Result<Cells, AllocError>
     requires layout { IsLayout recovered.now.sup }
     ensures { IfOk result (λ cells. IsMap (outcome_of recovered.now) most cells) }

@@ -12,6 +12,7 @@ use std::fmt::Write;
 const CELLS_IN_LINE: usize = 64;
 
 /// The lines of the cells, and below them what the letters mean and how many blocks a cell has.
+/// Errors: where a growth was refused.
 pub fn cells_text(alloc: Global, cells: &Cells) -> Result<String, AllocError>
     ensures { IfOk result (λ text. string_bytes text ≡ map_text cells.now) }
 {

@@ -13,6 +13,7 @@ use Rattle.nv_super.specs.declared.superblock.Super.{Super}
 use Rattle.nv_super.specs.declared.faults.Fault.{Fault}
 use Rattle.nv_super.specs.Layout.{IsLayout, fixed_layout, inode_limit, slot_of, slot_address, extra_slot, chain_of}
 use Rattle.nv_super.specs.Order.{Rises}
+use Rattle.nv_super.proofs.Ranges.{one_more}
 use Rattle.nv_super.proofs.Rising.{Contains-cons, Contains-head, Contains-tail, below_first}
 use Rattle.nv_super.proofs.Members.{none_in, into_map, from_map}
 use Rattle.nv_check.specs.nv_claimcore.Claims.{times, below}
@@ -97,20 +98,12 @@ pub pieces_in_order : (R : Region) (s : Super) (ps : List Piece) → IsLayout s 
 pieces_in_order R s ps layout order all = pieces_cover R s ps layout (rises_in_order ps 1 (inode_limit s - 1) order) (of_each (IsPiece R (fixed_layout s)) ps all)
     (λ i some less. (let P : List ℕ → Type 0 = λ numbers. Contains numbers i in subst P (sym order) (in_range 1 (inode_limit s - 1) i some (omega (arith, some, less)))))
 
-pub range_more : (a n : ℕ) → range_with_len a n ++ (a + n) ∷ [] ≡ range_with_len a (n + 1)
-range_more a zero = let e : a + 0 ≡ a = omega arith in ap (λ j. j ∷ []) e
-range_more a (suc n) =
-    let rest = range_more (a + 1) n in
-    let e : a + suc n ≡ a + 1 + n = omega arith in
-    let last : suc (n + 1) ≡ suc n + 1 = omega arith in
-    ap (λ j. a ∷ (range_with_len (a + 1) n ++ j ∷ [])) e ∙ ap (λ l. a ∷ l) rest ∙ ap (range_with_len a) last
-
 -- The piece of the next inode keeps that order.
 pub one_more_in_order : (R : Region) (s : Super) (ps : List Piece) (p : Piece) (n : ℕ) → map (λ (p : Piece). p.inode) ps ≡ range_with_len 1 n → AllByRecursion (IsPiece R (fixed_layout s)) ps → p.inode ≡ n + 1 → IsPiece R (fixed_layout s) p
     → (map (λ (p : Piece). p.inode) (ps ++ p ∷ []) ≡ range_with_len 1 (n + 1)) × AllByRecursion (IsPiece R (fixed_layout s)) (ps ++ p ∷ [])
 one_more_in_order R s ps p n order all next is =
     let number : p.inode ≡ 1 + n = omega (arith, next) in (
-      map-append (λ (p : Piece). p.inode) ps (p ∷ []) ∙ (λ i. order i ++ number i ∷ []) ∙ range_more 1 n,
+      map-append (λ (p : Piece). p.inode) ps (p ∷ []) ∙ (λ i. order i ++ number i ∷ []) ∙ one_more 1 n,
       AllByRecursion-append (IsPiece R (fixed_layout s)) ps (p ∷ []) all (is, tt),
     )
 

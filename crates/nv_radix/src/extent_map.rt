@@ -1,6 +1,6 @@
 //! A map from the pages of a file to blocks, kept as runs, so that a change costs what it changes and no page of it.
 
-ghost use Rattle.std.specs.Prelude.{◌≡◌, ℕ, ◌+◌, ◌-◌, ◌^◌, ◌<◌, ◌≤◌, if◌then◌else◌, nat_le, Some, None, OnOk, IfOk, IsTrue};
+ghost use Rattle.std.specs.Prelude.{◌≡◌, ℕ, ◌+◌, ◌-◌, ◌^◌, ◌<◌, ◌≤◌, if◌then◌else◌, nat_le, Some, None, OnOk, IfOk};
 ghost use Rattle.nv_radix.specs.Pages.{block_at, in_run, AreFilePages};
 ghost use Rattle.nv_radix.specs.Runs.{block_by};
 

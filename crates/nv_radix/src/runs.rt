@@ -1,6 +1,6 @@
 //! Runs of pages in the order of their first pages, of which no two have a page in common.
 
-ghost use Rattle.std.specs.Prelude.{◌≡◌, ℕ, ◌+◌, ◌-◌, ◌<◌, ◌≤◌, ◌^◌, ◌&&◌, ◌∷◌, if◌then◌else◌, nat_le, nat_lt, Some, None, IfSome, IfNone, IsTrue, OnOk, OnErr};
+ghost use Rattle.std.specs.Prelude.{◌≡◌, ℕ, ◌+◌, ◌-◌, ◌<◌, ◌≤◌, ◌&&◌, ◌∷◌, if◌then◌else◌, nat_le, nat_lt, Some, None, IfSome, IfNone, IsTrue, OnOk, OnErr};
 ghost use Rattle.nv_radix.specs.Pages.{in_run};
 ghost use Rattle.nv_radix.specs.Runs.{block_by, run_at, front_of, AreRuns, HasRunOf, IsRun, IsLastBefore, Puts};
 

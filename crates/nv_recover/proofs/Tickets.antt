@@ -7,6 +7,7 @@ use Rattle.std.proofs.lemmas.Grind.{flat_map-append}
 use Rattle.std.proofs.lemmas.List.{length-append}
 use Rattle.std.proofs.lemmas.List.Elements.{filter_map-append}
 use Rattle.nv_region.specs.Region.{Region}
+use Rattle.nv_super.proofs.Ranges.{one_more}
 use Rattle.nv_super.specs.declared.superblock.Super.{Super}
 use Rattle.nv_super.specs.declared.owners.Owner.{Owner}
 use Rattle.nv_super.specs.declared.faults.Fault.{Fault}
@@ -16,7 +17,7 @@ use Rattle.nv_scan.specs.declared.piece.Row.{Row}
 use Rattle.nv_scan.specs.declared.piece.Piece.{Piece}
 use Rattle.nv_scan.proofs.Work.{AtSlot, claims_join, pieces_none, pieces_join}
 use Rattle.nv_outcome.specs.Parts.{rows_in, faults_in}
-use Rattle.nv_outcome.proofs.Tickets.{rows_told, faults_told, range_more}
+use Rattle.nv_outcome.proofs.Tickets.{rows_told, faults_told}
 use Rattle.nv_recover.specs.declared.scanned.Inodes.{Inodes}
 use Rattle.nv_recover.specs.Scanned.{AreNext, AreOfTickets, all_claims}
 
@@ -54,7 +55,7 @@ module _ {R : Region} {s : Super} where
 
   pub tickets_more : (t : ℕ) {old new : Inodes} {work all : List (Vec (ℕ × Owner) Global)} (list : Vec (ℕ × Owner) Global) → AreOfTickets R s (range_with_len 0 t) old work
       → AreNext R s (numbers_of s t) old new list.items → all ≡ work ++ list ∷ [] → AreOfTickets R s (range_with_len 0 (t + 1)) new all
-  tickets_more t {old} {new} {work} {all} list first next is = subst (λ (ts : List ℕ). AreOfTickets R s ts new all) (range_more 0 t) record {
+  tickets_more t {old} {new} {work} {all} list first next is = subst (λ (ts : List ℕ). AreOfTickets R s ts new all) (one_more 0 t) record {
     pieces = first.pieces ++ next.pieces;
     are = subst (λ (ns : List ℕ). ArePiecesOf R s ns (first.pieces ++ next.pieces)) (sym inodes) (pieces_join first.are next.are);
     rows = behind [] (rows_in first.pieces) (rows_in next.pieces) first.rows next.rows (filter_map-append (λ (p : Piece). p.row) first.pieces next.pieces);

@@ -3,8 +3,8 @@
 //! It holds its words twice: as they read, and as they were at the last fence. A fence copies the lines of 64 bytes that
 //! were stored to since the last one, so it costs what was stored and never the size of the region.
 
-ghost use Rattle.std.specs.Prelude.{◌≡◌, ◌≢◌, ◌⊎◌, ◌≤◌, ◌<◌, ◌+◌, ◌*◌, ◌/◌, ◌%◌, ◌||◌, ◌↔◌, ◌^◌, ◌==◌, ℕ, Bool, true, false, IsTrue, IfOk, OnOk, OnErr, IsErrOf, is_err, get_or, eqb, length, take, drop, min, replicate, List, [], ◌∷◌, refl};
-ghost use Rattle.std.proofs.Common.{inl, inr};
+ghost use Rattle.std.specs.Prelude.{◌≡◌, ◌≢◌, ◌⊎◌, ◌≤◌, ◌<◌, ◌+◌, ◌*◌, ◌/◌, ◌%◌, ◌||◌, ◌↔◌, ◌^◌, ◌==◌, ℕ, true, false, IfOk, OnOk, OnErr, IsErrOf, is_err, get_or, eqb, length, take, drop, min, replicate, [], refl};
+ghost use Rattle.std.proofs.Common.{inl};
 ghost use Rattle.std.specs.List.{list_any};
 ghost use Rattle.std.specs.List.Sorted.{IsStrictlyIncreasing};
 ghost use Rattle.byteorder.specs.Endian.{little_number, little_bytes};

@@ -1,8 +1,8 @@
 //! Stores as callers see them: one word, and one word that is committed.
 
-ghost use Rattle.std.specs.Prelude.{◌≡◌, ◌⊎◌, ◌+◌, ◌≤◌, ◌%◌, IsTrue, OnOk, OnErr, is_err};
+ghost use Rattle.std.specs.Prelude.{◌≡◌, ◌⊎◌, ◌+◌, ◌≤◌, ◌%◌, OnOk, OnErr, is_err};
 ghost use Rattle.nv_region.specs.Region.{put, size};
-ghost use Rattle.nv_region.specs.Stops.{Adds, LeavesOnly, NothingPending, One, NoneAdded};
+ghost use Rattle.nv_region.specs.Stops.{Adds, LeavesOnly, NothingPending, One};
 ghost use Rattle.nv_region.specs.Fuses.{KeepsFuse};
 ghost use Rattle.nv_region.specs.Stored.{Stored, StoresOnly};
 

@@ -1,9 +1,8 @@
 //! The blocks that an inode claims.
 
-ghost use Rattle.std.specs.Prelude.{◌≡◌, ◌+◌, ◌≤◌, ◌<◌, ◌^◌, ◌++◌, IfOk, OnOk};
+ghost use Rattle.std.specs.Prelude.{◌≡◌, ◌+◌, ◌<◌, ◌++◌, IfOk, OnOk};
 ghost use Rattle.std.specs.List.{All};
 ghost use Rattle.nv_super.specs.Order.{Lists, owner_key};
-ghost use Rattle.nv_super.specs.Owners.{pairs};
 ghost use Rattle.nv_radix.specs.Pages.{block_at};
 ghost use Rattle.nv_scan.specs.Claims.{IsClaim, log_claims, run_claims, data_claims, IsSmall, AreSmall};
 

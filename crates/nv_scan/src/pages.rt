@@ -2,8 +2,6 @@
 
 ghost use Rattle.std.specs.Prelude.{◌≡◌, ◌*◌, ℕ, unwrap_or, nat_le, false, OnOk};
 ghost use Rattle.nv_super.specs.Layout.{HasAreas};
-ghost use Rattle.nv_super.specs.declared.superblock.Super.{Super as SuperValue};
-ghost use Rattle.nv_super.specs.declared.kind.Kind.{Kind as KindValue};
 ghost use Rattle.nv_entry.specs.Light.{bare};
 ghost use Rattle.nv_entry.specs.Content.{is_out_of_range, is_write_out_of_range};
 ghost use Rattle.nv_radix.specs.Runs.{block_by};

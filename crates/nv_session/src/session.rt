@@ -3,7 +3,7 @@
 //! A method answers the text that its command prints, whole, and leaves what the command leaves. After want of memory the
 //! script ends, and what the session holds is of no use.
 
-ghost use Rattle.std.specs.Prelude.{◌≡◌, IfOk, IsTrue, None, Some, [], option_map, false};
+ghost use Rattle.std.specs.Prelude.{◌≡◌, IfOk, None, Some, [], option_map, false};
 ghost use Rattle.nv_calls.specs.Mount.{told};
 ghost use Rattle.nv_report.specs.Shown.{shown_of};
 

@@ -54,7 +54,7 @@ pub enum Fault {
 }
 
 impl Fault {
-    ghost use Rattle.std.specs.Prelude.{◌≡◌, List, ℕ, []};
+    ghost use Rattle.std.specs.Prelude.{◌≡◌};
     ghost use Rattle.nv_super.specs.Order.{fault_key};
     ghost use Rattle.nv_super.specs.Keys.{fault_fields};
 

@@ -37,7 +37,7 @@ pub(crate) fn short_key(class: u64, first: u64, second: u64) -> FaultKey
 }
 
 impl Owner {
-    ghost use Rattle.std.specs.Prelude.{◌≡◌, List, ℕ, []};
+    ghost use Rattle.std.specs.Prelude.{◌≡◌};
     ghost use Rattle.nv_super.specs.Order.{owner_key};
     ghost use Rattle.nv_super.specs.Keys.{owner_fields};
 

@@ -1,6 +1,5 @@
 //! Lists of faults and of claims, in order and each once.
 
-ghost use Rattle.std.specs.Prelude.{◌≡◌, List, ℕ};
 ghost use Rattle.nv_super.specs.Order.{fault_key, claim_key, SortedOf};
 
 use crate::faults::Fault;

@@ -3,7 +3,7 @@
 //! Word 0 is the magic, word 8 the version, 16 the number of CPUs, 24 of blocks, 32 of table blocks for each CPU, 40 the state.
 //! The magic is stored last when a region is made, so a region without it is no file system.
 
-ghost use Rattle.std.specs.Prelude.{◌≡◌, ◌≤◌, ◌<◌, ◌+◌, ◌-◌, ◌*◌, ◌/◌, ◌%◌, ℕ, IfOk, IfErr, OnOk, is_err};
+ghost use Rattle.std.specs.Prelude.{◌≡◌, ◌≤◌, ◌<◌, ◌+◌, ◌-◌, ◌*◌, ◌/◌, ◌%◌, IfOk, IfErr, OnOk, is_err};
 ghost use Rattle.nv_region.specs.Region.{HasBlocks, size};
 ghost use Rattle.nv_region.specs.Fuses.{KeepsFuse};
 ghost use Rattle.nv_region.specs.Stored.{StoresOnly, Within};

@@ -1,6 +1,6 @@
 //! Two workers of a recovery, one behind the other on one thread, and the join of their seats.
 
-ghost use Rattle.std.specs.Prelude.{◌≡◌, ◌+◌, IfOk, IsTrue};
+ghost use Rattle.std.specs.Prelude.{◌≡◌, ◌+◌, IfOk};
 ghost use Rattle.nv_region.specs.Region.{HasBlocks};
 ghost use Rattle.nv_claimcore.specs.Claims.{nothing, both_views};
 

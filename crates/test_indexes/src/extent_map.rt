@@ -1,7 +1,7 @@
 //! Each call once with ample memory. Steps on a new map leave the extents that they leave in a file index.
 
-ghost use Rattle.std.specs.Prelude.{◌+◌, ◌^◌, ◌<◌, ◌≤◌};
-ghost use Rattle.nv_radix.specs.Pages.{AreFilePages};
+ghost use Rattle.std.specs.Prelude.{◌<◌};
+
 
 use crate::file_index::{ROWS, assert_extents, numbers};
 use nv_radix::{ExtentMap, MAX_FILE_PAGES};

@@ -13,5 +13,5 @@ returns c =
     let first = subst (λ n. Raises (AreUsed 0 n System) m c.mark.new.self) c.system_blocks.ensures c.mark.ensures in
     let claims = subst (λ doubled. Raises (SaysOne SaysClaim doubled) c.mark_rows.new.self c.mark_doubled.new.self) c.deref.ensures.value c.mark_doubled.ensures in
     let last = raises_doubled o.doubled c.mark_rows.new.self c.mark_doubled.new.self claims in
-    is_map o c.args.most m c.mark_doubled.new.self c.in_ok-marks.ensures.free
+    is_map o c.args.most m c.mark_doubled.new.self c.in_ok-marks.ensures.free c.in_ok-marks.ensures.room
     (raises_all o m c.mark.new.self c.mark_rows.new.self c.mark_doubled.new.self first c.in_ok-mark_rows.ensures last)
