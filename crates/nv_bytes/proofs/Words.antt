@@ -1,13 +1,14 @@
 -- The bytes of words.
-use Rattle.std.proofs.Common.{◌≡◌, inl, inr, ℕ, zero, suc, ◌+◌, ◌/◌, ◌%◌, ◌<◌, ◌≤◌, List, [], ◌∷◌, length, take, drop, map, get_or, set, refl, sym, ap, ◌∙◌, subst, arith, length-take, length-drop, length-set}
-use Rattle.std.specs.List.{range_with_len}
-use Rattle.std.specs.Int.{to_le_bytes, from_le_bytes, w64}
+use Rattle.std.proofs.Common.{◌≡◌, inl, inr, ℕ, zero, suc, ◌+◌, ◌*◌, ◌/◌, ◌%◌, ◌<◌, ◌≤◌, List, [], ◌∷◌, ◌++◌, length, take, drop, map, get_or, set, refl, sym, ap, ◌∙◌, subst, arith, length-take, length-drop, length-set}
+use Rattle.std.specs.List.{flat_map, range_with_len}
+use Rattle.std.specs.Int.{to_le_bytes, from_le_bytes, byte_at, bytes_low_first, w64}
 use Rattle.std.proofs.lemmas.List.{ext_get_or, get_or-take, get_or-drop, get_or-set_same, get_or-set_other, get_or_past}
 use Rattle.std.proofs.lemmas.Bool.{cases_lt, cases_eq}
 use Rattle.std.proofs.lemmas.List.FromFn.{get_or-map-range_with_len, length-map-range_with_len}
 use Rattle.std.proofs.lemmas.Nat.{le_bytes_8}
-use Rattle.byteorder.specs.Endian.{little_number}
+use Rattle.byteorder.specs.Endian.{little_number, little_bytes, IsRead}
 use Rattle.byteorder.specs.Numbers.{little_from-take}
+use Rattle.nv_super.proofs.Ranges.{range_more}
 use Rattle.nv_bytes.specs.Bytes.{byte_of_word}
 
 -- the bytes of a word, one by one
@@ -43,6 +44,14 @@ byte_read bytes w k long small is few =
     fits : (i : ℕ) → get_or (take 8 bytes) i 0 < 256
     fits i = fits_take 8 bytes i small
 
+-- the bytes of words that are read from a row of bytes
+pub byte_of_line : (bytes line : List ℕ) (j k : ℕ) → length bytes ≡ 64 → length line ≡ 8 → ((i : ℕ) → get_or bytes i 0 < 256) → IsRead little_number 8 bytes line → j < 8 → k < 8
+    → byte_of_word (get_or line j 0) k ≡ get_or bytes (8 * j + k) 0
+byte_of_line bytes line j k long eight small read low few =
+    byte_read (drop (8 * j) bytes) (get_or line j 0) k (simp length-drop (omega arith))
+    (λ i. subst (λ (b : ℕ). b < 256) (sym (get_or-drop (8 * j) bytes i 0)) (small (8 * j + i))) (read j (omega arith)) few
+    ∙ get_or-drop (8 * j) bytes k 0
+
 -- some bytes of a word
 pub part_of_word : (f : ℕ → ℕ) (w at n : ℕ) (bytes : List ℕ) → bytes ≡ to_le_bytes w64 w → at % 8 + n ≤ 8 → ((y : ℕ) → y / 8 ≡ at / 8 → byte_of_word w (y % 8) ≡ f y) → take n (drop (at % 8) bytes) ≡ map f (range_with_len at n)
 part_of_word f w at n bytes is few each =
@@ -66,6 +75,27 @@ bytes_small w i = elim (cases_lt i 8) [
   | inl few ↦ subst (λ (b : ℕ). b < 256) (sym (byte_there w i few)) (omega arith)
   | inr many ↦ subst (λ (b : ℕ). b < 256) (sym (get_or_past (to_le_bytes w64 w) i 0 many)) (omega arith)
 ]
+
+byte_is : (w i : ℕ) → byte_at i w ≡ byte_of_word w i
+byte_is w zero = omega arith
+byte_is w (suc i) = refl
+
+-- the low bytes of a word, from one on
+bytes_from : (f : ℕ → ℕ) (w i n x : ℕ) → ((k : ℕ) → k < n → byte_of_word w (i + k) ≡ f (x + k)) → bytes_low_first i n w ≡ map f (range_with_len x n)
+bytes_from f w i zero x each = refl
+bytes_from f w i (suc n) x each =
+    let first : byte_at i w ≡ f x = byte_is w i ∙ ap (byte_of_word w) (let e : i ≡ i + 0 = omega arith in e) ∙ each 0 (omega arith) ∙ ap f (let e : x + 0 ≡ x = omega arith in e) in
+    let rest = bytes_from f w (suc i) n (x + 1) (λ k low. ap (byte_of_word w) (let e : suc i + k ≡ i + suc k = omega arith in e) ∙ each (suc k) (omega (arith, low)) ∙ ap f (let e : x + suc k ≡ x + 1 + k = omega arith in e)) in
+    ap (λ (b : ℕ). b ∷ bytes_low_first (suc i) n w) first ∙ ap (λ (l : List ℕ). f x ∷ l) rest
+
+-- the bytes of words in a row
+pub bytes_in_row : (f : ℕ → ℕ) (words : List ℕ) (x : ℕ) → ((j k : ℕ) → j < length words → k < 8 → byte_of_word (get_or words j 0) k ≡ f (x + 8 * j + k)) → flat_map (little_bytes 8) words ≡ map f (range_with_len x (8 * length words))
+bytes_in_row f [] x each = ap (λ (n : ℕ). map f (range_with_len x n)) (let e : 0 ≡ 8 * 0 = omega arith in e)
+bytes_in_row f (w ∷ ws) x each =
+    let first : little_bytes 8 w ≡ map f (range_with_len x 8) = bytes_from f w 0 8 x (λ k few. ap (byte_of_word w) (let e : 0 + k ≡ k = omega arith in e) ∙ each 0 k (omega arith) few ∙ ap f (let e : x + 8 * 0 + k ≡ x + k = omega arith in e)) in
+    let rest = bytes_in_row f ws (x + 8) (λ j k low few. each (suc j) k (omega (arith, low)) few ∙ ap f (let e : x + 8 * suc j + k ≡ x + 8 + 8 * j + k = omega arith in e)) in
+    ap (λ (l : List ℕ). l ++ flat_map (little_bytes 8) ws) first ∙ ap (λ (l : List ℕ). map f (range_with_len x 8) ++ l) rest ∙ range_more f x 8 (8 * length ws)
+    ∙ ap (λ (n : ℕ). map f (range_with_len x n)) (let e : 8 + 8 * length ws ≡ 8 * suc (length ws) = omega arith in e)
 
 -- ---- a word whose bytes are made anew, one by one
 

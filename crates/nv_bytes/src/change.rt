@@ -1,9 +1,12 @@
 //! New bytes of a file, as they fall into its words.
 
-ghost use Rattle.std.specs.Prelude.{◌≡◌, ◌+◌, ◌<◌, ◌≤◌, ◌^◌, ℕ, length, get_or, IsTrue};
+ghost use Rattle.std.specs.Prelude.{◌≡◌, ◌+◌, ◌*◌, ◌<◌, ◌≤◌, ◌^◌, ℕ, length, get_or, IsTrue};
 ghost use Rattle.nv_bytes.specs.Bytes.{byte_of_word, byte_after};
 
 use byteorder::{ByteOrder, LittleEndian};
+
+/// The bytes of a line.
+pub(crate) const LINE_SIZE: u64 = 64;
 
 /// New bytes of a file from an offset on, and the size of the file before.
 ///
@@ -32,6 +35,26 @@ impl NewBytes<'_> {
         ensures to { IsTrue result → x + 8 ≤ self.now.offset + length self.now.bytes.now }
     {
         self.offset <= x && x + 8 <= self.end()
+    }
+
+    /// Whether the line from byte `x` on is all of new bytes.
+    pub(crate) fn covers_line(&self, x: u64) -> bool
+        requires place { x + 64 ≤ 2 ^ 62 }
+        requires small { self.now.offset + length self.now.bytes.now ≤ 2 ^ 62 }
+        ensures from { IsTrue result → self.now.offset ≤ x }
+        ensures to { IsTrue result → x + 64 ≤ self.now.offset + length self.now.bytes.now }
+    {
+        self.offset <= x && x + LINE_SIZE <= self.end()
+    }
+
+    /// The words of the new bytes in the line from byte `x` on.
+    pub(crate) fn line(&self, x: u64) -> [u64; 8]
+        requires from { self.now.offset ≤ x }
+        requires to { x + 64 ≤ self.now.offset + length self.now.bytes.now }
+        ensures { (j k : ℕ) (old : ℕ → ℕ) → j < 8 → k < 8 → byte_of_word (get_or result j 0) k ≡ byte_after self.now.offset self.now.bytes.now self.now.size old (x + 8 * j + k) }
+    {
+        let start = (x - self.offset) as usize;
+        line_of(&self.bytes[start..start + LINE_SIZE as usize])
     }
 
     /// Whether the word from byte `x` on stays: it lies below the size, and has no new byte.
@@ -84,4 +107,14 @@ fn first_word(bytes: &[u8]) -> u64
     ensures { (k : ℕ) → k < 8 → byte_of_word result k ≡ get_or bytes.now k 0 }
 {
     LittleEndian::read_u64(bytes)
+}
+
+/// The eight words of 64 bytes.
+fn line_of(bytes: &[u8]) -> [u64; 8]
+    requires { length bytes.now ≡ 64 }
+    ensures { (j k : ℕ) → j < 8 → k < 8 → byte_of_word (get_or result j 0) k ≡ get_or bytes.now (8 * j + k) 0 }
+{
+    let mut words = [0; 8];
+    LittleEndian::read_u64_into(bytes, &mut words);
+    words
 }

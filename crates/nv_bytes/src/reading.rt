@@ -6,6 +6,8 @@ ghost use Rattle.nv_region.specs.Region.{size};
 ghost use Rattle.nv_held.specs.Bytes.{byte_in};
 ghost use Rattle.nv_bytes.specs.Bytes.{byte_of_word, file_byte, LieInside};
 
+use crate::change::LINE_SIZE;
+use byteorder::{ByteOrder, LittleEndian};
 use nv_radix::FileIndex;
 use nv_region::Pmem;
 use nv_super::BLOCK_SIZE;
@@ -51,11 +53,48 @@ fn push_page<P: Pmem>(
 {
     let mut at = start;
     while at < end {
-        let stop = end.min((at / 8 + 1) * 8);
-        push_part(bytes, memory, block, at, stop)?;
-        at = stop;
+        at = push_some(bytes, memory, block, at, end)?;
     }
     Ok(())
+}
+
+/// Adds the bytes of one line, or of one word where it isn't wanted whole. Answers where the next one begins.
+fn push_some<P: Pmem>(
+    bytes: &mut Vec<u8>,
+    memory: &P,
+    block: Option<u64>,
+    start: u64,
+    end: u64,
+) -> Result<u64, AllocError>
+    requires inside { IfSome block (λ b. b * 4096 + 4096 ≤ size (P.region memory.now)) }
+    requires rises { start < end }
+    requires small { end ≤ 2 ^ 62 }
+    ensures place { IfOk result (λ stop. (start < stop) × (stop ≤ end)) }
+    ensures added { IfOk result (λ stop. bytes.new.items ≡ bytes.old.items ++ map (byte_in (P.region memory.now) block) (range_with_len start (stop - start))) }
+{
+    if start % LINE_SIZE == 0 && end - start >= LINE_SIZE {
+        bytes.extend_from_slice(&line_at(memory, block, start))?;
+        return Ok(start + LINE_SIZE);
+    }
+    let stop = end.min((start / 8 + 1) * 8);
+    push_part(bytes, memory, block, start, stop)?;
+    Ok(stop)
+}
+
+/// The 64 bytes of a line of a page.
+fn line_at<P: Pmem>(memory: &P, block: Option<u64>, x: u64) -> [u8; 64]
+    requires inside { IfSome block (λ b. b * 4096 + 4096 ≤ size (P.region memory.now)) }
+    requires whole { x % 8 ≡ 0 }
+    requires small { x + 64 ≤ 2 ^ 62 }
+    ensures { result ≡ map (byte_in (P.region memory.now) block) (range_with_len x 64) }
+{
+    let mut words = [0; 8];
+    for j in 0..8 {
+        words[j] = word_at(memory, block, x + 8 * j as u64);
+    }
+    let mut bytes = [0; 64];
+    LittleEndian::write_u64_into(&words, &mut bytes);
+    bytes
 }
 
 /// Adds the bytes of one word from a place up to another.

@@ -13,15 +13,13 @@ ghost use Rattle.nv_held.specs.Bytes.{byte_in};
 ghost use Rattle.nv_bytes.specs.Bytes.{byte_after, byte_of_word, file_byte, LieInside};
 ghost use Rattle.nv_bytes.specs.Storing.{AreFresh, HoldPages, HoldsPage, InBlocks};
 
-use crate::change::NewBytes;
+use crate::change::{LINE_SIZE, NewBytes};
 use crate::reading::word_at;
 use nv_radix::FileIndex;
 use nv_region::{Pmem, Stopped};
 use nv_super::{BLOCK_SIZE, Run};
 
 const LINES_IN_PAGE: u64 = 64;
-
-const LINE_SIZE: u64 = 64;
 
 /// Stores the pages of a file from one on, as they are with the new bytes, into the blocks of runs, in their order.
 ///
@@ -106,6 +104,21 @@ pub fn store_page<P: Pmem>(
 
 /// The words of the line that a file has from byte `x` on with the new bytes.
 fn next_line<P: Pmem>(memory: &P, block: Option<u64>, x: u64, change: &NewBytes) -> [u64; 8]
+    requires inside { IfSome block (λ b. b * 4096 + 4096 ≤ size (P.region memory.now)) }
+    requires whole { x % 8 ≡ 0 }
+    requires place { x + 64 ≤ 2 ^ 62 }
+    requires small { change.now.offset + length change.now.bytes.now ≤ 2 ^ 62 }
+    ensures { (j k : ℕ) → j < 8 → k < 8 → byte_of_word (get_or result j 0) k ≡ byte_after change.now.offset change.now.bytes.now change.now.size (byte_in (P.region memory.now) block) (x + 8 * j + k) }
+{
+    if change.covers_line(x) {
+        change.line(x)
+    } else {
+        mixed_line(memory, block, x, change)
+    }
+}
+
+/// The same, word by word.
+fn mixed_line<P: Pmem>(memory: &P, block: Option<u64>, x: u64, change: &NewBytes) -> [u64; 8]
     requires inside { IfSome block (λ b. b * 4096 + 4096 ≤ size (P.region memory.now)) }
     requires whole { x % 8 ≡ 0 }
     requires place { x + 64 ≤ 2 ^ 62 }

@@ -1,13 +1,12 @@
 -- The region of the first bytes of another.
 use Rattle.std.proofs.Common.{◌≡◌, ◌≤◌, ◌<◌, ◌*◌, ◌+◌, ◌%◌, ◌/◌, ◌^◌, ℕ, zero, suc, List, [], ◌∷◌, ◌++◌, length, take, drop, get_or, refl, ap, ◌∙◌, arith, append_assoc}
 use Rattle.std.specs.List.{flat_map}
-use Rattle.std.proofs.lemmas.List.{length-take, take-append-le}
+use Rattle.std.proofs.lemmas.List.{length-take, take-append-le, drop_all}
 use Rattle.std.proofs.Math.Seq.{take-append-add}
 use Rattle.byteorder.specs.Endian.{little_number, little_bytes}
 use Rattle.byteorder.specs.Numbers.{length-bytes_low_first, little_number-reads_back}
 use Rattle.nv_region.specs.Region.{words_of, rest_of, region_of, bytes_of}
 use Rattle.nv_region.proofs.Bytes.{words_of_short, rest_of_short}
-use Rattle.nv_region.proofs.Fences.{drop_past}
 
 -- it has the whole words among them, and the bytes behind these
 cut_region : (words rest : List ℕ) (n r : ℕ) → ((i : ℕ) → get_or words i 0 < 2 ^ 64) → n ≤ length words → r < 8
@@ -59,4 +58,4 @@ cut_behind_words words rest count fits past =
     ∙ (λ i. record { words = take (count / 8) words; rest = take (count % 8) (bytes_of (record { words = none i; rest = rest })) })
   where
     none : drop (count / 8) words ≡ []
-    none = drop_past words (count / 8) (omega (arith, past))
+    none = drop_all (count / 8) words (omega (arith, past))

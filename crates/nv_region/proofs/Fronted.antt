@@ -3,11 +3,10 @@ use Rattle.std.proofs.Common.{◌⊎◌, inl, inr, ◌≡◌, ◌+◌, ◌*◌, 
 use Rattle.std.proofs.Math.Seq.{take-suc}
 use Rattle.std.proofs.lemmas.Bool.{cases_eq}
 use Rattle.std.proofs.lemmas.Bool.Decides.{nat_tests}
-use Rattle.std.proofs.lemmas.List.{places, get_or_append_left, take-append-drop, drop-append-le, length-take, set-append_left}
+use Rattle.std.proofs.lemmas.List.{places, get_or_append_left, take-append-drop, drop-append-le, length-take, drop_all, set-append_left}
 use Rattle.byteorder.specs.Endian.{little_number}
 use Rattle.nv_region.specs.Region.{Region, size, word, region_of, words_of, rest_of}
 use Rattle.nv_region.specs.ImageState.{with_front}
-use Rattle.nv_region.proofs.Fences.{drop_past}
 use Rattle.nv_region.proofs.Bytes.{size_of_bytes, word_of_bytes}
 
 pub short_rest : (bytes : List ℕ) → length (rest_of bytes) < 8
@@ -63,7 +62,7 @@ pub nothing_added : (front words : List ℕ) → front ≡ front ++ drop (length
 nothing_added front words = sym (ap (λ (l : List ℕ). front ++ l) (drop_taken (length front) words) ∙ append-nil front)
   where
     drop_taken : (n : ℕ) (words : List ℕ) → drop n (take n words) ≡ []
-    drop_taken n words = drop_past (take n words) n (omega (arith, length-take n words))
+    drop_taken n words = drop_all n (take n words) (omega (arith, length-take n words))
 
 -- one word more is copied
 pub word_added : (front words copied : List ℕ) (k x : ℕ) → length front ≤ k → k < length words → x ≡ get_or words k 0 → copied ≡ front ++ drop (length front) (take k words) → copied ++ x ∷ [] ≡ front ++ drop (length front) (take (k + 1) words)

@@ -458,22 +458,42 @@ fn copy_lines(fenced: &mut [u64], words: &[u64], lines: &[usize])
     requires differ { DifferOnlyIn lines.now words.now fenced.old }
     ensures { fenced.new ≡ words.now }
 {
-    for line in lines {
-        copy_line(fenced, words, *line);
+    let mut left = lines;
+    while !left.is_empty() {
+        let count = lines_in_row(left);
+        copy_row(fenced, words, left[0], count);
+        left = &left[count..];
     }
 }
 
-// Copies one line, whose last words may lie past the end.
-fn copy_line(fenced: &mut [u64], words: &[u64], line: usize)
+// How many lines from the first on follow each other, as those of a page that was stored do.
+fn lines_in_row(lines: &[usize]) -> usize
+    requires some { 0 < length lines.now }
+    requires small { get_or lines.now 0 0 ≤ 2 ^ 27 }
+    ensures some { 0 < result }
+    ensures within { result ≤ length lines.now }
+    ensures row { (k : ℕ) → k < result → get_or lines.now k 0 ≡ get_or lines.now 0 0 + k }
+{
+    let first = lines[0];
+    let mut count = 1;
+    while count < lines.len() && lines[count] == first + count {
+        count += 1;
+    }
+    count
+}
+
+// Copies so many lines from one on. The last one's last words may lie past the end.
+fn copy_row(fenced: &mut [u64], words: &[u64], line: usize, count: usize)
     requires as_long { length fenced.old ≡ length words.now }
     requires small { length words.now ≤ 2 ^ 27 }
-    requires within { 8 * line < length words.now }
+    requires some { 0 < count }
+    requires within { 8 * (line + count) < length words.now + 8 }
     ensures as_long { length fenced.new ≡ length fenced.old }
-    ensures here { (i : ℕ) → i / 8 ≡ line → get_or fenced.new i 0 ≡ get_or words.now i 0 }
-    ensures others { (i : ℕ) → i / 8 ≢ line → get_or fenced.new i 0 ≡ get_or fenced.old i 0 }
+    ensures here { (i : ℕ) → line ≤ i / 8 → i / 8 < line + count → get_or fenced.new i 0 ≡ get_or words.now i 0 }
+    ensures others { (i : ℕ) → (i / 8 < line) ⊎ (line + count ≤ i / 8) → get_or fenced.new i 0 ≡ get_or fenced.old i 0 }
 {
     let start = line * WORDS_IN_LINE;
-    let end = (start + WORDS_IN_LINE).min(words.len());
+    let end = (start + count * WORDS_IN_LINE).min(words.len());
     fenced[start..end].copy_from_slice(&words[start..end]);
 }
 

@@ -6,9 +6,11 @@ use Rattle.nv_bytes.proofs.reading.push_page.Goals as goal
 
 pub loop-at-preserved : goal.loop-at-preserved
 loop-at-preserved g c =
-    let on : c.loop-at.at ≤ c.min-stop.result = omega (arith, c.min-stop.ensures) in
+    let place = c.in_ok-at.ensures.place in
+    let on : c.loop-at.at ≤ c.in_ok-at.at = omega (arith, place) in
     record {
       low = omega (arith, c.loop-at.invariant.low, on);
-      high = omega (arith, c.min-stop.ensures);
-      items = piece_more (byte_in (g.P.Pmem.region c.args.memory.now) c.args.block) _ _ _ _ c.args.start c.loop-at.at c.min-stop.result c.loop-at.invariant.low on c.loop-at.invariant.items c.in_ok-push_part.ensures (refl {a = map (byte_in (g.P.Pmem.region c.args.memory.now) c.args.block) (range_with_len c.loop-at.at (c.min-stop.result - c.loop-at.at))});
+      high = place.1;
+      items = piece_more (byte_in (g.P.Pmem.region c.args.memory.now) c.args.block) _ _ _ _ c.args.start c.loop-at.at _ c.loop-at.invariant.low on c.loop-at.invariant.items c.in_ok-at.ensures.added
+          (refl {a = map (byte_in (g.P.Pmem.region c.args.memory.now) c.args.block) (range_with_len c.loop-at.at (c.in_ok-at.at - c.loop-at.at))});
     }
