@@ -2,7 +2,6 @@
 
 ghost use Rattle.std.specs.Prelude.{◌<◌};
 
-
 use crate::file_index::{ROWS, assert_extents, numbers};
 use nv_radix::{ExtentMap, MAX_FILE_PAGES};
 use std::alloc::{AllocError, Global};
