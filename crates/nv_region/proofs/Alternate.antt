@@ -1,23 +1,21 @@
 -- The words that a stop keeps are each as last stored or as at the last fence.
 use Rattle.std.proofs.Common.{◌≡◌, ◌≢◌, ◌⊎◌, inl, inr, ◌<◌, ℕ, zero, suc, Bool, true, false, List, [], ◌∷◌, length, get_or, refl, sym, ap, ◌∙◌, subst, arith}
-use Rattle.std.proofs.lemmas.Bool.{cases_eq, cases_lt}
-use Rattle.std.proofs.lemmas.List.{get_or_past}
+use Rattle.std.proofs.lemmas.Bool.{cases_eq}
 use Rattle.std.proofs.lemmas.Bool.Decides.{nat_tests}
 use Rattle.nv_region.specs.Region.{Region}
 use Rattle.nv_region.specs.Stops.{MayBeLeft}
 use Rattle.nv_region.specs.RegionState.{RegionState, fenced_or_last}
 use Rattle.nv_region.specs.Kept.{alternate, kept}
-use Rattle.nv_region.specs.Fenced.{DifferOnlyIn}
 use Rattle.nv_region.specs.declared.memory.Keep.{Keep}
 use Rattle.nv_region.specs.declared.memory.Keep.TheVariants.{None as NoWord, All as AllWords, Alternate}
 
 pub same_head : (turn : Bool) (w f : ℕ) (ws fs : List ℕ) → w ≡ f → alternate turn (w ∷ ws) (f ∷ fs) ≡ w ∷ alternate turn ws fs
 same_head turn w f ws fs same = grind (arith, nat_tests)
 
-kept_head : (w f : ℕ) (ws fs : List ℕ) → w ≢ f → alternate true (w ∷ ws) (f ∷ fs) ≡ w ∷ alternate false ws fs
+pub kept_head : (w f : ℕ) (ws fs : List ℕ) → w ≢ f → alternate true (w ∷ ws) (f ∷ fs) ≡ w ∷ alternate false ws fs
 kept_head w f ws fs differ = grind (arith, nat_tests)
 
-lost_head : (w f : ℕ) (ws fs : List ℕ) → w ≢ f → alternate false (w ∷ ws) (f ∷ fs) ≡ f ∷ alternate true ws fs
+pub lost_head : (w f : ℕ) (ws fs : List ℕ) → w ≢ f → alternate false (w ∷ ws) (f ∷ fs) ≡ f ∷ alternate true ws fs
 lost_head w f ws fs differ = grind (arith, nat_tests)
 
 -- it goes on from one of the two words, whichever turn comes next
@@ -76,13 +74,3 @@ kept_may_be_left keep m words rest fenced left is was same made = record {
       let choice : OneOfTwo (get_or left i 0) (get_or words i 0) (get_or fenced i 0) = subst (λ (l : List ℕ). OneOfTwo (get_or l i 0) (get_or words i 0) (get_or fenced i 0)) (sym made) (kept_word keep words fenced i same inside) in
       subst (λ (r : Region). OneOfTwo (get_or left i 0) (get_or r.words i 0) (get_or m.fenced i 0)) (sym is) (subst (λ (l : List ℕ). OneOfTwo (get_or left i 0) (get_or words i 0) (get_or l i 0)) (sym was) choice);
 }
-
--- only words that differed can differ then
-pub kept_differ : (keep : Keep) (lines words fenced left : List ℕ) → length fenced ≡ length words → left ≡ kept keep words fenced → DifferOnlyIn lines words fenced → DifferOnlyIn lines left fenced
-kept_differ keep lines words fenced left same made differ i other = elim (cases_lt i (length words)) [
-  | inl inside ↦ elim (kept_word keep words fenced i same inside) [
-    | inl last ↦ differ i (λ e. other (ap (λ (l : List ℕ). get_or l i 0) made ∙ last ∙ e))
-    | inr before ↦ absurd (other (ap (λ (l : List ℕ). get_or l i 0) made ∙ before))
-  ]
-  | inr outside ↦ absurd (other (ap (λ (l : List ℕ). get_or l i 0) made ∙ get_or_past (kept keep words fenced) i 0 (omega (arith, outside, kept_length keep words fenced same)) ∙ sym (get_or_past fenced i 0 (omega (arith, outside, same)))))
-]

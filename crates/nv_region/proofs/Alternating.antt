@@ -1,5 +1,5 @@
 -- The words that differ, taken in turn, line by line.
-use Rattle.std.proofs.Common.{◌≡◌, ◌≢◌, inl, inr, ◌+◌, ◌*◌, ◌/◌, ◌<◌, ◌≤◌, ℕ, zero, suc, Bool, true, List, [], ◌∷◌, length, min, get_or, refl, sym, ap, ◌∙◌, arith}
+use Rattle.std.proofs.Common.{◌≡◌, ◌≢◌, inl, inr, ◌+◌, ◌*◌, ◌/◌, ◌<◌, ◌≤◌, ℕ, zero, suc, Bool, true, false, not, List, [], ◌∷◌, length, min, get_or, set, add-one, refl, sym, ap, ◌∙◌, arith}
 use Rattle.std.specs.List.Sorted.{IsStrictlyIncreasing}
 use Rattle.std.proofs.lemmas.Bool.{cases_eq, eqb-true}
 use Rattle.std.proofs.lemmas.List.{get_or_default, get_or_past}
@@ -7,7 +7,7 @@ use Rattle.std.proofs.lemmas.Map.Keys.{below_from_sorted, sorted_from_strictly_i
 use Rattle.std.proofs.lemmas.Map.Views.{Contains-from_any}
 use Rattle.nv_region.specs.Fenced.{DifferOnlyIn}
 use Rattle.nv_region.specs.Kept.{alternate, so_far}
-use Rattle.nv_region.proofs.Alternate.{same_head}
+use Rattle.nv_region.proofs.Alternate.{same_head, kept_head, lost_head}
 
 -- words that are the same take no turn
 skipped : (turn : Bool) (a b : ℕ) (ws fs : List ℕ) → length fs ≡ length ws → a ≤ b → ((i : ℕ) → a ≤ i → i < b → get_or ws i 0 ≡ get_or fs i 0) → so_far turn a ws fs ≡ so_far turn b ws fs
@@ -27,6 +27,42 @@ all_done turn (suc b) [] fs as_long end = refl
 all_done turn zero (w ∷ ws) fs as_long end = absurd (omega arith)
 all_done turn (suc b) (w ∷ ws) [] as_long end = absurd (omega arith)
 all_done turn (suc b) (w ∷ ws) (f ∷ fs) as_long end = ap (λ (l : List ℕ). w ∷ l) (all_done turn b ws fs (omega arith) (omega arith))
+
+-- one word more, which is the same
+pub one_same : (turn : Bool) (i : ℕ) (ws fs : List ℕ) → length fs ≡ length ws → get_or ws i 0 ≡ get_or fs i 0 → so_far turn (i + 1) ws fs ≡ so_far turn i ws fs
+one_same turn i ws fs as_long same = sym (skipped turn i (i + 1) ws fs as_long (omega arith) (λ j low high. let e : j ≡ i = omega arith in ap (λ (n : ℕ). get_or ws n 0) e ∙ same ∙ ap (λ (n : ℕ). get_or fs n 0) (sym e)))
+
+-- one word more, which stays
+pub one_kept : (i : ℕ) (ws fs : List ℕ) → length fs ≡ length ws → i < length ws → get_or ws i 0 ≢ get_or fs i 0 → so_far false (i + 1) ws fs ≡ so_far true i ws fs
+one_kept i ws fs as_long within differ = ap (λ (n : ℕ). so_far false n ws fs) (add-one i) ∙ kept i ws fs as_long within differ where
+  kept : (i : ℕ) (ws fs : List ℕ) → length fs ≡ length ws → i < length ws → get_or ws i 0 ≢ get_or fs i 0 → so_far false (suc i) ws fs ≡ so_far true i ws fs
+  kept i [] fs as_long within differ = absurd (omega arith)
+  kept i (w ∷ ws) [] as_long within differ = absurd (omega arith)
+  kept zero (w ∷ ws) (f ∷ fs) as_long within differ = sym (kept_head w f ws fs differ)
+  kept (suc i) (w ∷ ws) (f ∷ fs) as_long within differ = ap (λ (l : List ℕ). w ∷ l) (kept i ws fs (omega arith) (omega arith) differ)
+
+-- one word more, which is taken back
+pub one_lost : (i : ℕ) (ws fs : List ℕ) → length fs ≡ length ws → i < length ws → get_or ws i 0 ≢ get_or fs i 0 → so_far true (i + 1) (set ws i (get_or fs i 0)) fs ≡ so_far false i ws fs
+one_lost i ws fs as_long within differ = ap (λ (n : ℕ). so_far true n (set ws i (get_or fs i 0)) fs) (add-one i) ∙ lost i ws fs as_long within differ where
+  lost : (i : ℕ) (ws fs : List ℕ) → length fs ≡ length ws → i < length ws → get_or ws i 0 ≢ get_or fs i 0 → so_far true (suc i) (set ws i (get_or fs i 0)) fs ≡ so_far false i ws fs
+  lost i [] fs as_long within differ = absurd (omega arith)
+  lost i (w ∷ ws) [] as_long within differ = absurd (omega arith)
+  lost zero (w ∷ ws) (f ∷ fs) as_long within differ = sym (lost_head w f ws fs differ)
+  lost (suc i) (w ∷ ws) (f ∷ fs) as_long within differ = ap (λ (l : List ℕ). w ∷ l) (lost i ws fs (omega arith) (omega arith) differ)
+
+-- a step in a line, by what the word at the fence was and whose turn it is
+pub step_lost : (turn next : Bool) (i before : ℕ) (ws left fs : List ℕ) → length ws ≡ length fs → i < length ws → before ≡ get_or fs i 0 → get_or ws i 0 ≢ before → turn ≡ false → next ≡ not turn → left ≡ set ws i before
+    → so_far next (i + 1) left fs ≡ so_far turn i ws fs
+step_lost turn next i before ws left fs as_long within is differ here there made =
+    (λ k. so_far ((there ∙ ap not here) k) (i + 1) ((made ∙ ap (λ (b : ℕ). set ws i b) is) k) fs) ∙ one_lost i ws fs (sym as_long) within (λ e. differ (e ∙ sym is)) ∙ (λ k. so_far (sym here k) i ws fs)
+
+pub step_kept : (turn next : Bool) (i before : ℕ) (ws left fs : List ℕ) → length ws ≡ length fs → i < length ws → before ≡ get_or fs i 0 → get_or ws i 0 ≢ before → turn ≡ true → next ≡ not turn → left ≡ ws
+    → so_far next (i + 1) left fs ≡ so_far turn i ws fs
+step_kept turn next i before ws left fs as_long within is differ here there made =
+    (λ k. so_far ((there ∙ ap not here) k) (i + 1) (made k) fs) ∙ one_kept i ws fs (sym as_long) within (λ e. differ (e ∙ sym is)) ∙ (λ k. so_far (sym here k) i ws fs)
+
+pub step_same : (turn next : Bool) (i before : ℕ) (ws left fs : List ℕ) → length ws ≡ length fs → before ≡ get_or fs i 0 → get_or ws i 0 ≡ before → next ≡ turn → left ≡ ws → so_far next (i + 1) left fs ≡ so_far turn i ws fs
+step_same turn next i before ws left fs as_long is same there made = (λ k. so_far (there k) (i + 1) (made k) fs) ∙ one_same turn i ws fs (sym as_long) (same ∙ is)
 
 -- one of the lines from the k-th on
 abbrev IsAhead : ℕ → List ℕ → ℕ → Type 0

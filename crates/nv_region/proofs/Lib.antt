@@ -7,7 +7,7 @@ pub mod Lines
 pub mod AfterStores
 pub mod LineStores
 pub mod Marks
-pub mod Fences
+pub mod Before
 pub mod Fronted
 pub mod Alternate
 pub mod Alternating

@@ -108,3 +108,9 @@ told_err (Err stopped) p = p
 -- once all are stored
 pub all_added : {at n : ℕ} {words : List ℕ} {R Q : Region} {old mid : Choices} (k : ℕ) → k ≡ n → FirstStored at words k R Q old mid → Adds (Each at words n) old mid
 all_added {at} {n} {words} {R} {Q} {old} {mid} k all first = subst (λ (m : ℕ). Adds (Each at words m) old mid) all first.adds
+
+-- the words of a line that is stored are all that change
+pub put_words_other : (R : Region) (line : ℕ) (words : List ℕ) (n i : ℕ) → n ≤ 8 → i / 8 ≢ line → get_or (put_words R (64 * line) words n).words i 0 ≡ get_or R.words i 0
+put_words_other R line words zero i few other = refl
+put_words_other R line words (suc n) i few other =
+    get_or-set_other (put_words R (64 * line) words n).words ((64 * line + 8 * n) / 8) i (get_or words n 0) 0 (omega (arith, few, other)) ∙ put_words_other R line words n i (omega (arith, few)) other

@@ -1,11 +1,11 @@
 //! A region in ordinary memory, which a fuse can stop.
 //!
-//! It holds its words twice: as they read, and as they were at the last fence. A fence copies the lines of 64 bytes that
-//! were stored to since the last one, so it costs what was stored and never the size of the region.
+//! It holds its words as they read, and of each line of 64 bytes that was stored to since the last fence also the words at
+//! that fence. A fence forgets these, so it costs what was stored and never the size of the region.
 
-ghost use Rattle.std.specs.Prelude.{◌≡◌, ◌≢◌, ◌⊎◌, ◌≤◌, ◌<◌, ◌+◌, ◌*◌, ◌/◌, ◌%◌, ◌||◌, ◌↔◌, ◌^◌, ◌==◌, ℕ, true, false, IfOk, OnOk, OnErr, IsErrOf, is_err, get_or, eqb, length, take, drop, min, replicate, [], refl};
+ghost use Rattle.std.specs.Prelude.{◌≡◌, ◌≢◌, ◌⊎◌, ◌≤◌, ◌<◌, ◌+◌, ◌*◌, ◌/◌, ◌%◌, ◌||◌, ◌↔◌, ◌^◌, ◌==◌, ℕ, true, false, IfOk, OnOk, OnErr, IsErrOf, is_err, get_or, eqb, length, take, drop, min, replicate, List, [], refl};
 ghost use Rattle.std.proofs.Common.{inl};
-ghost use Rattle.std.specs.List.{list_any};
+ghost use Rattle.std.specs.List.{list_any, IsDistinct};
 ghost use Rattle.std.specs.List.Sorted.{IsStrictlyIncreasing};
 ghost use Rattle.byteorder.specs.Endian.{little_number, little_bytes};
 ghost use Rattle.nv_region.specs.Region.{size, word, put, region_of, bytes_of};
@@ -14,10 +14,9 @@ ghost use Rattle.nv_region.specs.Lines.{Each, StoppedAmong, put_words};
 ghost use Rattle.nv_region.specs.Fuses.{KeepsFuse};
 ghost use Rattle.nv_region.specs.RegionState.{RegionState, fenced_or_last, burns_at_store, burns_at_fence, one_passed, after_store, after_stores, fuse_state, is_steady, steady_unburnt};
 ghost use Rattle.nv_region.specs.Kept.{alternate, kept, so_far};
-ghost use Rattle.nv_region.specs.StoredLines.{is_stored};
-ghost use Rattle.nv_region.specs.Fenced.{DifferOnlyIn};
+ghost use Rattle.nv_region.specs.StoredLines.{is_stored, numbers, words_before};
 
-use crate::stored::StoredLines;
+use crate::stored::{StoredLine, StoredLines};
 use crate::{Pmem, Stopped};
 use byteorder::{ByteOrder, LittleEndian};
 use std::alloc::{AllocError, Global};
@@ -80,7 +79,6 @@ impl From<AllocError> for RegionRefusal {
 pub struct MemRegion {
     alloc: Global,
     words: Vec<u64>,
-    fenced: Vec<u64>,
     stored: StoredLines,
     rest: Vec<u8>,
     fuse: Fuse,
@@ -89,10 +87,11 @@ pub struct MemRegion {
 
 impl Model for MemRegion {
     ghost use Rattle.nv_region.specs.RegionState.{RegionState};
+    ghost use Rattle.nv_region.specs.StoredLines.{words_before};
 
     ghost Value = { RegionState };
 
-    ghost view = { λ m. record { region = record { words = m.words.items; rest = m.rest.items }; fenced = m.fenced.items; fuse = m.fuse; burnt = m.burnt } };
+    ghost view = { λ m. record { region = record { words = m.words.items; rest = m.rest.items }; fenced = words_before m.stored.lines m.words.items; fuse = m.fuse; burnt = m.burnt } };
 
     ghost use Rattle.nv_region.specs.Fenced.{IsTracked};
 
@@ -116,7 +115,6 @@ impl MemRegion {
         Ok(MemRegion {
             alloc,
             words: vec![in alloc; 0; count]?,
-            fenced: vec![in alloc; 0; count]?,
             stored: StoredLines::new(alloc, lines_of(count))?,
             rest: Vec::new(alloc),
             fuse: Fuse::Off,
@@ -141,12 +139,10 @@ impl MemRegion {
             return Err(RegionRefusal::Length);
         }
         let (words, rest) = read_words(alloc, bytes)?;
-        let fenced = words.as_slice().to_vec(alloc)?;
         let stored = StoredLines::new(alloc, lines_of(words.len()))?;
         Ok(MemRegion {
             alloc,
             words,
-            fenced,
             stored,
             rest,
             fuse: Fuse::Off,
@@ -158,7 +154,7 @@ impl MemRegion {
     pub fn to_bytes(&self) -> Result<Vec<u8>, AllocError>
         ensures { IfOk result (λ bytes. bytes.items ≡ bytes_of self.now.region) }
     {
-        let mut bytes = Vec::new(self.alloc);
+        let mut bytes = Vec::with_capacity(self.alloc, self.len() as usize)?;
         for word in &self.words {
             let mut eight = [0; 8];
             LittleEndian::write_u64(&mut eight, *word);
@@ -189,21 +185,17 @@ impl MemRegion {
         let MemRegion {
             alloc,
             mut words,
-            mut fenced,
             mut stored,
             rest,
             ..
         } = self;
         let rest = bytes_behind(alloc, &words, &rest, length as usize)?;
         let count = (length / 8) as usize;
-        copy_lines(&mut fenced, &words, stored.lines());
         words.truncate(count);
-        fenced.truncate(count);
         stored.cut(lines_of(count));
         Ok(MemRegion {
             alloc,
             words,
-            fenced,
             stored,
             rest,
             fuse: Fuse::Off,
@@ -224,18 +216,15 @@ impl MemRegion {
         let MemRegion {
             alloc,
             mut words,
-            mut fenced,
             mut stored,
             rest,
             ..
         } = self;
-        keep_words(&mut words, &fenced, &mut stored, keep);
-        copy_lines(&mut fenced, &words, stored.lines());
+        keep_words(&mut words, &mut stored, keep);
         stored.clear();
         MemRegion {
             alloc,
             words,
-            fenced,
             stored,
             rest,
             fuse: Fuse::Off,
@@ -250,7 +239,7 @@ fn read_words(alloc: Global, bytes: &[u8]) -> Result<(Vec<u64>, Vec<u8>), AllocE
     ensures short { IfOk result (λ r. length r.1.items < 8) }
     ensures count { IfOk result (λ r. 8 * length r.0.items ≤ length bytes.now) }
 {
-    let mut words = Vec::new(alloc);
+    let mut words = Vec::with_capacity(alloc, bytes.len() / 8)?;
     let mut left = bytes;
     while left.len() >= 8 {
         words.push(LittleEndian::read_u64(left))?;
@@ -381,7 +370,6 @@ impl Pmem for MemRegion {
             return Err(Stopped);
         }
         self.count_down();
-        copy_lines(&mut self.fenced, &self.words, self.stored.lines());
         self.stored.clear();
         Ok(())
     }
@@ -402,7 +390,7 @@ impl MemRegion {
         requires { number < length self.old.region.words }
         ensures { self.new ≡ record self.old { region = put self.old.region (8 * number) value } }
     {
-        self.stored.note(number / WORDS_IN_LINE);
+        self.stored.note(number / WORDS_IN_LINE, &self.words);
         self.words[number] = value;
     }
 
@@ -418,7 +406,7 @@ impl MemRegion {
         requires { 8 * line + 8 ≤ length self.old.region.words }
         ensures { self.new ≡ record self.old { region = put_words self.old.region (64 * line) words.now 8 } }
     {
-        self.stored.note(line);
+        self.stored.note(line, &self.words);
         let start = line * WORDS_IN_LINE;
         self.words[start..start + WORDS_IN_LINE].copy_from_slice(words);
     }
@@ -450,106 +438,85 @@ fn lines_of(words: usize) -> usize
     words.div_ceil(WORDS_IN_LINE)
 }
 
-// Makes the words at the last fence those of now: only these lines can differ.
-fn copy_lines(fenced: &mut [u64], words: &[u64], lines: &[usize])
-    requires as_long { length fenced.old ≡ length words.now }
-    requires small { length words.now ≤ 2 ^ 27 }
-    requires below { (p : ℕ) → list_any (eqb p) lines.now ≡ true → 8 * p < length words.now }
-    requires differ { DifferOnlyIn lines.now words.now fenced.old }
-    ensures { fenced.new ≡ words.now }
-{
-    let mut left = lines;
-    while !left.is_empty() {
-        let count = lines_in_row(left);
-        copy_row(fenced, words, left[0], count);
-        left = &left[count..];
-    }
-}
-
-// How many lines from the first on follow each other, as those of a page that was stored do.
-fn lines_in_row(lines: &[usize]) -> usize
-    requires some { 0 < length lines.now }
-    requires small { get_or lines.now 0 0 ≤ 2 ^ 27 }
-    ensures some { 0 < result }
-    ensures within { result ≤ length lines.now }
-    ensures row { (k : ℕ) → k < result → get_or lines.now k 0 ≡ get_or lines.now 0 0 + k }
-{
-    let first = lines[0];
-    let mut count = 1;
-    while count < lines.len() && lines[count] == first + count {
-        count += 1;
-    }
-    count
-}
-
-// Copies so many lines from one on. The last one's last words may lie past the end.
-fn copy_row(fenced: &mut [u64], words: &[u64], line: usize, count: usize)
-    requires as_long { length fenced.old ≡ length words.now }
-    requires small { length words.now ≤ 2 ^ 27 }
-    requires some { 0 < count }
-    requires within { 8 * (line + count) < length words.now + 8 }
-    ensures as_long { length fenced.new ≡ length fenced.old }
-    ensures here { (i : ℕ) → line ≤ i / 8 → i / 8 < line + count → get_or fenced.new i 0 ≡ get_or words.now i 0 }
-    ensures others { (i : ℕ) → (i / 8 < line) ⊎ (line + count ≤ i / 8) → get_or fenced.new i 0 ≡ get_or fenced.old i 0 }
-{
-    let start = line * WORDS_IN_LINE;
-    let end = (start + count * WORDS_IN_LINE).min(words.len());
-    fenced[start..end].copy_from_slice(&words[start..end]);
-}
-
-// Leaves the words that a stop keeps: only in the lines that were stored to can they differ from those at the last fence.
-fn keep_words(words: &mut [u64], fenced: &[u64], stored: &mut StoredLines, keep: Keep)
-    requires as_long { length fenced.now ≡ length words.old }
+// Leaves the words that a stop keeps.
+fn keep_words(words: &mut [u64], stored: &mut StoredLines, keep: Keep)
     requires small { length words.old ≤ 2 ^ 27 }
     requires below { (p : ℕ) → is_stored stored.old p ≡ true → 8 * p < length words.old }
-    requires differ { DifferOnlyIn stored.old.lines words.old fenced.now }
-    ensures words { words.new ≡ kept keep words.old fenced.now }
+    ensures words { words.new ≡ kept keep words.old (words_before stored.old.lines words.old) }
     ensures as_long { length words.new ≡ length words.old }
     ensures count { stored.new.count ≡ stored.old.count }
-    ensures lines { (p : ℕ) → is_stored stored.new p ≡ is_stored stored.old p }
 {
     match keep {
-        Keep::None => copy_lines(words, fenced, stored.lines()),
+        Keep::None => put_back(words, stored.lines()),
         Keep::All => {}
         Keep::Alternate => {
             stored.sort();
-            keep_alternate(words, fenced, stored.lines());
+            keep_alternate(words, stored.lines());
         }
     }
 }
 
-// Keeps the first, third and so on of the words that differ, and takes the others back: only these lines can differ.
-fn keep_alternate(words: &mut [u64], fenced: &[u64], lines: &[usize])
-    requires as_long { length fenced.now ≡ length words.old }
+// Makes the words those at the last fence.
+fn put_back(words: &mut [u64], lines: &[StoredLine])
     requires small { length words.old ≤ 2 ^ 27 }
-    requires rising { IsStrictlyIncreasing lines.now }
-    requires below { (p : ℕ) → list_any (eqb p) lines.now ≡ true → 8 * p < length words.old }
-    requires differ { DifferOnlyIn lines.now words.old fenced.now }
-    ensures words { words.new ≡ alternate true words.old fenced.now }
+    requires once { IsDistinct eqb (numbers lines.now) }
+    requires below { (p : ℕ) → list_any (eqb p) (numbers lines.now) ≡ true → 8 * p < length words.old }
+    ensures { words.new ≡ words_before lines.now words.old }
+{
+    for line in lines {
+        put_line_back(words, line);
+    }
+}
+
+// Makes the words of a line those at the last fence. Its last words may lie past the end.
+fn put_line_back(words: &mut [u64], line: &StoredLine)
+    requires small { length words.old ≤ 2 ^ 27 }
+    requires within { 8 * line.now.number < length words.old }
+    ensures as_long { length words.new ≡ length words.old }
+    ensures here { (i : ℕ) → i < length words.old → i / 8 ≡ line.now.number → get_or words.new i 0 ≡ get_or line.now.before (i % 8) 0 }
+    ensures others { (i : ℕ) → i / 8 ≢ line.now.number → get_or words.new i 0 ≡ get_or words.old i 0 }
+{
+    let start = line.number * WORDS_IN_LINE;
+    let end = (start + WORDS_IN_LINE).min(words.len());
+    words[start..end].copy_from_slice(&line.before[..end - start]);
+}
+
+// Keeps the first, third and so on of the words that differ from those at the last fence, and takes the others back.
+fn keep_alternate(words: &mut [u64], lines: &[StoredLine])
+    ghost fenced: { List ℕ }
+    requires fenced { fenced ≡ words_before lines.now words.old }
+    requires small { length words.old ≤ 2 ^ 27 }
+    requires rising { IsStrictlyIncreasing (numbers lines.now) }
+    requires once { IsDistinct eqb (numbers lines.now) }
+    requires below { (p : ℕ) → list_any (eqb p) (numbers lines.now) ≡ true → 8 * p < length words.old }
+    ensures words { words.new ≡ alternate true words.old fenced }
     ensures as_long { length words.new ≡ length words.old }
 {
     let mut turn = true;
     for line in lines {
-        turn = alternate_line(words, fenced, *line, turn);
+        turn = alternate_line(words, line, turn);
     }
 }
 
 // Does so in one line, from this turn on. Answers whose turn comes next.
-fn alternate_line(words: &mut [u64], fenced: &[u64], line: usize, turn: bool) -> bool
-    requires as_long { length fenced.now ≡ length words.old }
+fn alternate_line(words: &mut [u64], line: &StoredLine, turn: bool) -> bool
+    ghost fenced: { List ℕ }
+    requires as_long { length fenced ≡ length words.old }
     requires small { length words.old ≤ 2 ^ 27 }
-    requires within { 8 * line < length words.old }
-    ensures goes_on { so_far result (min (8 * line + 8) (length words.old)) words.new fenced.now ≡ so_far turn (8 * line) words.old fenced.now }
-    ensures behind { (i : ℕ) → min (8 * line + 8) (length words.old) ≤ i → get_or words.new i 0 ≡ get_or words.old i 0 }
+    requires within { 8 * line.now.number < length words.old }
+    requires before { (j : ℕ) → j < 8 → 8 * line.now.number + j < length fenced → get_or line.now.before j 0 ≡ get_or fenced (8 * line.now.number + j) 0 }
+    ensures goes_on { so_far result (min (8 * line.now.number + 8) (length words.old)) words.new fenced ≡ so_far turn (8 * line.now.number) words.old fenced }
+    ensures behind { (i : ℕ) → min (8 * line.now.number + 8) (length words.old) ≤ i → get_or words.new i 0 ≡ get_or words.old i 0 }
     ensures as_long { length words.new ≡ length words.old }
 {
-    let start = line * WORDS_IN_LINE;
+    let start = line.number * WORDS_IN_LINE;
     let end = (start + WORDS_IN_LINE).min(words.len());
     let mut turn = turn;
     for i in start..end {
-        if words[i] != fenced[i] {
+        let before = line.before[i - start];
+        if words[i] != before {
             if !turn {
-                words[i] = fenced[i];
+                words[i] = before;
             }
             turn = !turn;
         }

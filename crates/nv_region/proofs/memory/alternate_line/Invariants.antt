@@ -3,6 +3,6 @@ use Rattle.nv_region.specs.Kept.{so_far}
 use Rattle.nv_region.proofs.memory.alternate_line.Given as goal
 
 abbrev pub invariant-loop-i : goal.invariant-loop-i
-invariant-loop-i l =
-    (so_far l.turn l.i l.words l.fenced ≡ so_far l.initial.turn (8 * l.fn.line) l.initial.words l.fenced) × (length l.words ≡ length l.fenced)
+invariant-loop-i g l =
+    (so_far l.turn l.i l.words g.fenced ≡ so_far l.initial.turn (8 * l.fn.line.number) l.initial.words g.fenced) × (length l.words ≡ length g.fenced)
     × ((k : ℕ) → l.i ≤ k → get_or l.words k 0 ≡ get_or l.initial.words k 0)

@@ -1,12 +1,11 @@
 use Rattle.std.proofs.Common.{arith, ap, ◌≡◌, ◌∙◌, length, false, get_or, List, Bool}
 use Rattle.std.specs.Vec.{with_items}
 use Rattle.std.proofs.lemmas.List.{take_at}
-use Rattle.nv_region.proofs.Marks.{none_marked, member_at, marked_in}
+use Rattle.nv_region.proofs.Marks.{none_marked, marked_in}
 use Rattle.nv_region.proofs.stored.StoredLines.clear.Goals as goal
 
 pub unmark-requires-clause-below : goal.unmark-requires-clause-below
-unmark-requires-clause-below c k within =
-    rw (c.deref.ensures.value, c.deref_mut.ensures.value) (c.self.invariant.below _ (member_at c.self.inside.lines.items k (rw c.deref.ensures.value at within)))
+unmark-requires-clause-below c p stands = rw c.deref_mut.ensures.value (c.self.invariant.below p (rw c.deref.ensures.value at stands))
 
 pub unmark-requires-clause-all : goal.unmark-requires-clause-all
 unmark-requires-clause-all c p on = rw c.deref.ensures.value (marked_in c.self.inside c.self.invariant p (rw c.deref_mut.ensures.value at on))

@@ -1,16 +1,37 @@
-use Rattle.std.proofs.Common.{arith, ap, sym, refl, ◌<◌, ◌≡◌, length, get_or, false}
-use Rattle.nv_region.specs.StoredLines.{Noted}
-use Rattle.nv_region.proofs.Marks.{room_left, noted_marked}
+use Rattle.std.proofs.Common.{◌≡◌, ℕ, ◌<◌, ◌||◌, List, length, get_or, eqb, true, false, ap, sym, refl, ◌∙◌, arith}
+use Rattle.std.specs.List.{list_any}
+use Rattle.std.proofs.lemmas.List.{get_or_default}
+use Rattle.nv_region.specs.StoredLines.{Noted, is_stored, numbers, words_before}
+use Rattle.nv_region.specs.declared.stored.StoredLine.{StoredLine}
+use Rattle.nv_region.proofs.Marks.{room_left, noted_marked, numbers_more, noted_is}
+use Rattle.nv_region.proofs.Before.{again_before, first_before}
 use Rattle.nv_region.proofs.stored.StoredLines.note.Goals as goal
 
 pub push_reserved-requires : goal.push_reserved-requires
 push_reserved-requires c =
-    let within : c.args.line < length c.self.inside.marks.items = omega (arith, ap (λ (noted : Noted). noted.count) c.self.view_is, c.requires) in
-    let off : get_or c.self.inside.marks.items c.args.line false ≡ false = sym (rw c.if-not-index.true at c.index.ensures) in
-    room_left c.self.inside c.args.line c.self.invariant within off
+    let within : c.args.number < length c.self.inside.marks.items = omega (arith, ap (λ (noted : Noted). noted.count) c.self.view_is, c.requires.below) in
+    let off : get_or c.self.inside.marks.items c.args.number false ≡ false = sym (rw c.if-not-index.true at c.index.ensures) in
+    room_left c.self.inside c.args.number c.self.invariant within off
 
 pub invariant_of-self : goal.invariant_of-self
 invariant_of-self c =
-    let within : c.args.line < length c.self.inside.marks.items = omega (arith, ap (λ (noted : Noted). noted.count) c.self.view_is, c.requires) in
-    let off : get_or c.self.inside.marks.items c.args.line false ≡ false = sym (rw c.if-not-index.true at c.index.ensures) in
-    noted_marked c.self.inside _ c.args.line c.self.invariant within off refl c.push_reserved.ensures.items c.push_reserved.ensures.capacity
+    let within : c.args.number < length c.self.inside.marks.items = omega (arith, ap (λ (noted : Noted). noted.count) c.self.view_is, c.requires.below) in
+    let off : get_or c.self.inside.marks.items c.args.number false ≡ false = sym (rw c.if-not-index.true at c.index.ensures) in
+    noted_marked c.self.inside _ c.args.number c.self.invariant within off refl (ap numbers c.push_reserved.ensures.items ∙ numbers_more c.self.inside.lines.items _) c.push_reserved.ensures.capacity
+
+pub returns-then-not-index-clause-lines : goal.returns-then-not-index-clause-lines
+returns-then-not-index-clause-lines c p =
+    ap (λ (lines : List StoredLine). list_any (eqb p) (numbers lines)) c.push_reserved.ensures.items ∙ ap (λ (ns : List ℕ). list_any (eqb p) ns) (numbers_more c.self.inside.lines.items _) ∙ noted_is (numbers c.self.inside.lines.items) c.args.number p
+    ∙ ap (λ (noted : Noted). eqb p c.args.number || is_stored noted p) c.self.view_is
+
+pub returns-then-not-index-clause-before : goal.returns-then-not-index-clause-before
+returns-then-not-index-clause-before c after as_long others =
+    ap (λ (lines : List StoredLine). words_before lines after) c.push_reserved.ensures.items
+    ∙ first_before c.self.inside.lines.items _ c.args.words.now after c.words_of.ensures as_long others ∙ ap (λ (noted : Noted). words_before noted.lines c.args.words.now) c.self.view_is
+
+pub returns-else-not-index-clause-before : goal.returns-else-not-index-clause-before
+returns-else-not-index-clause-before c after as_long others =
+    let within : c.args.number < length c.self.inside.marks.items = omega (arith, ap (λ (noted : Noted). noted.count) c.self.view_is, c.requires.below) in
+    let on : get_or c.self.inside.marks.items c.args.number false ≡ true = get_or_default c.self.inside.marks.items c.args.number false true within ∙ sym (rw c.if-not-index.false at c.index.ensures) in
+    again_before c.args.self.now.lines c.args.number c.args.words.now after
+    (ap (λ (noted : Noted). is_stored noted c.args.number) (sym c.self.view_is) ∙ sym (c.self.invariant.marked c.args.number within) ∙ on) as_long others

@@ -1,0 +1,7 @@
+use Rattle.std.proofs.Common.{ap}
+use Rattle.nv_region.specs.StoredLines.{Noted}
+use Rattle.nv_region.proofs.Before.{settled}
+use Rattle.nv_region.proofs.memory.MemRegion.new.Goals as goal
+
+pub returns-clause-settled : goal.returns-clause-settled
+returns-clause-settled c = settled _ _ (ap (λ (n : Noted). n.lines) c.in_ok-new.ensures)

@@ -1,0 +1,5 @@
+use Rattle.nv_region.specs.StoredLines.{words_before}
+use Rattle.nv_region.proofs.memory.keep_words.Given as goal
+
+abbrev pub ghost-keep_alternate : goal.ghost-keep_alternate
+ghost-keep_alternate a = words_before a.lines.now a.words.now
