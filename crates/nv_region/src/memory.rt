@@ -370,7 +370,7 @@ impl Pmem for MemRegion {
             return Err(Stopped);
         }
         self.count_down();
-        self.stored.clear();
+        self.settle();
         Ok(())
     }
 }
@@ -383,6 +383,13 @@ impl MemRegion {
         if let Fuse::After(left) = self.fuse {
             self.fuse = Fuse::After(left.saturating_sub(1));
         }
+    }
+
+    // Makes the words at the last fence those of now.
+    fn settle(&mut self)
+        ensures { self.new ≡ record self.old { fenced = self.old.region.words } }
+    {
+        self.stored.clear();
     }
 
     // Changes the word of this number, and notes its line.
