@@ -65,6 +65,8 @@ impl Scanner {
     /// Scans one inode: the words of its slot, and each page of its log once. Memory is taken for the pages, the
     /// indexes, the claims and the faults, and not for the entries; and, at the first log, for the reader. After a
     /// refusal the scanner can be used on. It is quickest where the numbers rise.
+    // A caller that doesn't see into it can't leave the touching out.
+    #[inline(never)]
     pub fn scan<P: Pmem>(&mut self, memory: &P, inode: u64) -> Result<Piece, AllocError>
         requires blocks { HasBlocks (P.region memory.now) self.old.blocks }
         requires number { IsTrue (is_number self.old inode) }
@@ -103,6 +105,8 @@ impl Scanner {
     /// Scans the inode whose slot has this place in the tables. None where nothing is to be told of it: at the place of
     /// number 0, and where the valid word is 0, which is all that is read of it then. At the first place of a table block
     /// the logs of its inodes are touched.
+    // A caller that doesn't see into it can't leave the touching out.
+    #[inline(never)]
     pub fn scan_place<P: Pmem>(
         &mut self,
         memory: &P,
