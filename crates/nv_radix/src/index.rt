@@ -157,8 +157,16 @@ impl FileIndex {
         ensures only { IfOk result (λ v. (others : List Extent) → AreExtents self.now others → others ≡ v.items) }
     {
         let mut extents = Vec::new(self.alloc);
-        self.front.add_pages(&mut extents, 0)?;
-        self.rest.add_pages(&mut extents, 64)?;
+        self.runs_into(&mut extents)?;
         Ok(extents)
+    }
+
+    /// The same, in place of what the list had, whose room is used again.
+    pub fn runs_into(&self, extents: &mut Vec<Extent>) -> Result<(), AllocError>
+        ensures { OnOk result (AreExtents self.now extents.new.items) }
+    {
+        extents.clear();
+        self.front.add_pages(extents, 0)?;
+        self.rest.add_pages(extents, 64)
     }
 }

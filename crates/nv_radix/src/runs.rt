@@ -1,6 +1,6 @@
 //! Runs of pages in the order of their first pages, of which no two have a page in common.
 
-ghost use Rattle.std.specs.Prelude.{◌≡◌, ℕ, ◌+◌, ◌-◌, ◌<◌, ◌≤◌, ◌&&◌, ◌∷◌, if◌then◌else◌, nat_le, nat_lt, Some, None, IfSome, IfNone, IsTrue, OnOk, OnErr};
+ghost use Rattle.std.specs.Prelude.{◌≡◌, ℕ, ◌+◌, ◌-◌, ◌<◌, ◌≤◌, ◌&&◌, ◌∷◌, if◌then◌else◌, nat_le, nat_lt, Some, None, IfSome, IfNone, IsTrue, false, OnOk, OnErr};
 ghost use Rattle.nv_radix.specs.Pages.{in_run};
 ghost use Rattle.nv_radix.specs.Runs.{block_by, run_at, front_of, AreRuns, HasRunOf, IsRun, IsLastBefore, Puts};
 
@@ -28,11 +28,26 @@ pub(crate) fn set(runs: &mut Runs, page: u64, blocks: Blocks) -> Result<(), Allo
     ensures fewer { OnErr result ((p : ℕ) → block_by runs.old.entries p ≡ None → block_by runs.new.entries p ≡ None) }
     ensures ok { OnOk result ((p : ℕ) → block_by runs.new.entries p ≡ (if in_run page blocks.count p then Some (blocks.start + (p - page)) else block_by runs.old.entries p)) }
 {
-    if has_run(runs, page, blocks.count) {
-        return put(runs, page, blocks);
+    if replace(runs, page, blocks) {
+        return Ok(());
     }
     clear(runs, page, page + blocks.count)?;
     put(runs, page, blocks)
+}
+
+/// Gives a run of the very same pages these blocks. Where there is none, nothing changes.
+fn replace(runs: &mut Runs, page: u64, blocks: Blocks) -> bool
+    ensures was { IsTrue result → HasRunOf runs.old.entries page blocks.count }
+    ensures puts { IsTrue result → Puts runs.old.entries runs.new.entries page (Some blocks) }
+    ensures same { result ≡ false → runs.new.entries ≡ runs.old.entries }
+{
+    match runs.get_mut(&page) {
+        Some(had) if had.count == blocks.count => {
+            *had = blocks;
+            true
+        }
+        _ => false,
+    }
 }
 
 /// Puts the last run, if it has pages, to the others, which all stand before it. An error changes nothing.
@@ -77,16 +92,6 @@ pub(crate) fn goes_on(first: u64, blocks: Blocks, page: u64, start: u64) -> bool
 {
     page.checked_sub(first) == Some(blocks.count)
         && start.checked_sub(blocks.start) == Some(blocks.count)
-}
-
-/// Whether a run of this many pages begins at a page.
-fn has_run(runs: &Runs, page: u64, count: u64) -> bool
-    ensures { IsTrue result → HasRunOf runs.now.entries page count }
-{
-    match runs.get(&page) {
-        Some(blocks) => blocks.count == count,
-        None => false,
-    }
 }
 
 /// Unmaps the pages from `first` up to `end`. An error may leave some of them unmapped, and some behind them.

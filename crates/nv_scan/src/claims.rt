@@ -10,21 +10,32 @@ use nv_radix::{Extent, FileIndex};
 use nv_super::Owner;
 use std::alloc::{AllocError, Global};
 
-/// First the pages of the inode's log, in their order, and then the blocks of its file, by page.
+/// First the pages of the inode's log, in their order, and then the blocks of its file, by page. The runs are room for the
+/// runs of the index, which is kept from one inode to the next.
 pub(crate) fn claims_of(
     alloc: Global,
     inode: u64,
     pages: &[u64],
     index: &FileIndex,
+    runs: &mut Vec<Extent>,
 ) -> Result<Vec<(u64, Owner)>, AllocError>
     requires { AreSmall (block_at index.now) }
     ensures { IfOk result (λ claims. Lists (λ x. owner_key x.1) (IsClaim inode pages.now index.now) claims.items) }
 {
-    let mut claims = Vec::new(alloc);
+    index.runs_into(runs)?;
+    let mut claims = Vec::with_capacity(alloc, count_claims(pages, runs))?;
     push_pages(&mut claims, inode, pages)?;
-    let runs = index.runs()?;
-    push_runs(&mut claims, inode, &runs)?;
+    push_runs(&mut claims, inode, runs)?;
     Ok(claims)
+}
+
+/// How many blocks these are, so that room for their claims is taken once.
+fn count_claims(pages: &[u64], runs: &[Extent]) -> usize {
+    let mut count = pages.len();
+    for run in runs {
+        count = count.saturating_add(run.count as usize);
+    }
+    count
 }
 
 fn push_pages(claims: &mut Vec<(u64, Owner)>, inode: u64, pages: &[u64]) -> Result<(), AllocError>

@@ -20,6 +20,7 @@ use crate::tickets::number_at;
 use crate::touching::{touch_block, touch_numbers};
 use nv_inode::{Slot, SlotState, nth_slot, read_slot};
 use nv_logpage::{LogEnd, LogFault, LogReader};
+use nv_radix::Extent;
 use nv_region::Pmem;
 use nv_super::{Fault, Super};
 use std::alloc::{AllocError, Global};
@@ -32,6 +33,8 @@ pub struct Scanner {
     alloc: Global,
     sup: Super,
     reader: Option<LogReader>,
+    // Room for the runs of one file after another.
+    runs: Vec<Extent>,
     // What was touched last, which says nothing: it stands here so that it is loaded.
     touched: u64,
 }
@@ -58,6 +61,7 @@ impl Scanner {
             alloc,
             sup: *sup,
             reader: None,
+            runs: Vec::new(alloc),
             touched: 0,
         }
     }
@@ -65,6 +69,8 @@ impl Scanner {
     /// Scans one inode: the words of its slot, and each page of its log once. Memory is taken for the pages, the
     /// indexes, the claims and the faults, and not for the entries; and, at the first log, for the reader. After a
     /// refusal the scanner can be used on. It is quickest where the numbers rise.
+    // A caller that doesn't see into it can't leave the touching out.
+    #[inline(never)]
     pub fn scan<P: Pmem>(&mut self, memory: &P, inode: u64) -> Result<Piece, AllocError>
         requires blocks { HasBlocks (P.region memory.now) self.old.blocks }
         requires number { IsTrue (is_number self.old inode) }
@@ -95,6 +101,7 @@ impl Scanner {
                 memory,
                 &self.sup,
                 &mut self.reader,
+                &mut self.runs,
                 &InUse { inode, kind, slot },
             ),
         }
@@ -103,6 +110,8 @@ impl Scanner {
     /// Scans the inode whose slot has this place in the tables. None where nothing is to be told of it: at the place of
     /// number 0, and where the valid word is 0, which is all that is read of it then. At the first place of a table block
     /// the logs of its inodes are touched.
+    // A caller that doesn't see into it can't leave the touching out.
+    #[inline(never)]
     pub fn scan_place<P: Pmem>(
         &mut self,
         memory: &P,
@@ -147,6 +156,7 @@ fn scan_log<P: Pmem>(
     memory: &P,
     sup: &Super,
     reader: &mut Option<LogReader>,
+    runs: &mut Vec<Extent>,
     used: &InUse,
 ) -> Result<Piece, AllocError>
     requires layout { IsLayout sup.now }
@@ -165,11 +175,11 @@ fn scan_log<P: Pmem>(
         let read = read_log(alloc, memory, sup, &mut at_head, used);
         *reader = Some(at_head);
         let Read { pages, fault, fold } = read?;
-        piece_of(alloc, used, pages, fold, fault_of_end(inode, fault))
+        piece_of(alloc, runs, used, pages, fold, fault_of_end(inode, fault))
     } else {
         let fold = Fold::new(alloc, used.slot.created);
         let pages = Vec::new(alloc);
-        piece_of(alloc, used, pages, fold, Some(Fault::I3 { inode }))
+        piece_of(alloc, runs, used, pages, fold, Some(Fault::I3 { inode }))
     }
 }
 
@@ -211,6 +221,7 @@ fn fault_of_end(inode: u64, end: Option<LogEnd>) -> Option<Fault>
 /// are left.
 fn piece_of(
     alloc: Global,
+    runs: &mut Vec<Extent>,
     used: &InUse,
     pages: Vec<u64>,
     fold: Fold,
@@ -227,7 +238,7 @@ fn piece_of(
         mut faults,
     } = fold;
     let index = extents.to_index(alloc)?;
-    let claims = claims_of(alloc, inode, &pages, &index)?;
+    let claims = claims_of(alloc, inode, &pages, &index, runs)?;
     push_fault(&mut faults, fault)?;
     let row = Row {
         inode,

@@ -10,6 +10,9 @@ use nv_inode::read_slot;
 use nv_region::Pmem;
 use nv_super::Super;
 
+// The memory hands over so many bytes at once.
+const LINE_SIZE: u64 = 64;
+
 /// For a scan in the order of the numbers: at each number of so many, the logs of those from it on.
 pub(crate) fn touch_numbers<P: Pmem>(memory: &P, sup: &Super, inode: u64) -> u64
     requires layout { IsLayout sup.now }
@@ -43,14 +46,15 @@ fn touch_logs<P: Pmem>(memory: &P, sup: &Super, first: u64, step: u64) -> u64
     let mut inode = first;
     let mut words = 0;
     for _ in 0..SLOTS {
-        words ^= first_word(memory, sup, inode);
+        words ^= first_lines(memory, sup, inode);
         inode = inode.saturating_add(step);
     }
     words
 }
 
-/// The first word of the log of an inode, if there is such an inode, and a log.
-fn first_word<P: Pmem>(memory: &P, sup: &Super, inode: u64) -> u64
+/// A word of each of the first two lines of the log of an inode, if there is such an inode, and a log. Few logs of small
+/// files go on behind these.
+fn first_lines<P: Pmem>(memory: &P, sup: &Super, inode: u64) -> u64
     requires layout { IsLayout sup.now }
     requires blocks { HasBlocks (P.region memory.now) sup.now.blocks }
 {
@@ -59,7 +63,7 @@ fn first_word<P: Pmem>(memory: &P, sup: &Super, inode: u64) -> u64
     }
     let head = read_slot(memory, sup, inode).head;
     if sup.is_page_start(head) {
-        memory.load(head)
+        memory.load(head) ^ memory.load(head + LINE_SIZE)
     } else {
         0
     }

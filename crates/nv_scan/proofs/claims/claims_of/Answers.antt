@@ -8,13 +8,13 @@ use Rattle.nv_scan.proofs.ClaimLists.{small_runs, are_claims}
 use Rattle.nv_scan.proofs.claims.claims_of.Goals as goal
 
 pub push_runs-requires : goal.push_runs-requires
-push_runs-requires c = small_runs _ _ c.requires (subst (λ (xs : List Extent). AreExtents c.args.index.now xs) (sym c.deref.ensures.value) c.in_ok-runs.ensures.extents)
+push_runs-requires c = small_runs _ _ c.requires (subst (λ (xs : List Extent). AreExtents c.args.index.now xs) (sym c.deref-2.ensures.value) c.in_ok-runs_into.ensures)
 
 pub returns : goal.returns
 returns c =
     let i = c.args.inode in
-    let pages : c.push_pages.new.claims.items ≡ log_claims i 0 c.args.pages.now = c.in_ok-push_pages.ensures ∙ ap (λ (xs : List (ℕ × Owner)). xs ++ log_claims i 0 c.args.pages.now) c.new-claims.ensures.items in
-    let all : c.push_runs.new.claims.items ≡ log_claims i 0 c.args.pages.now ++ data_claims i c.in_ok-runs.runs.items =
-    c.in_ok-push_runs.ensures ∙ ap (λ (xs : List (ℕ × Owner)). xs ++ data_claims i c.deref.result.now) pages ∙ ap (λ (xs : List Extent). log_claims i 0 c.args.pages.now ++ data_claims i xs) c.deref.ensures.value in
+    let pages : c.push_pages.new.claims.items ≡ log_claims i 0 c.args.pages.now = c.in_ok-push_pages.ensures ∙ ap (λ (xs : List (ℕ × Owner)). xs ++ log_claims i 0 c.args.pages.now) c.in_ok-claims.ensures.items in
+    let all : c.push_runs.new.claims.items ≡ log_claims i 0 c.args.pages.now ++ data_claims i c.runs_into.new.extents.items =
+    c.in_ok-push_runs.ensures ∙ ap (λ (xs : List (ℕ × Owner)). xs ++ data_claims i c.deref-2.result.now) pages ∙ ap (λ (xs : List Extent). log_claims i 0 c.args.pages.now ++ data_claims i xs) c.deref-2.ensures.value in
     subst (λ (xs : List (ℕ × Owner)). Lists (λ (x : ℕ × Owner). owner_key x.1) (IsClaim i c.args.pages.now c.args.index.now) xs) (sym all)
-    (are_claims i c.args.pages.now c.args.index.now c.in_ok-runs.runs.items c.in_ok-runs.ensures.extents)
+    (are_claims i c.args.pages.now c.args.index.now c.runs_into.new.extents.items c.in_ok-runs_into.ensures)
