@@ -26,9 +26,13 @@ number_rule name = record (option_rule name) { required = true; parser = Some (p
 abbrev pub flag_rule : Text → Rule
 flag_rule name = record (option_rule name) { action = Some SetTrue }
 
--- the option `--workers`, a number from 1 to 64
+-- an option with a number from 1 to 64
+abbrev pub threads_rule : Text → Rule
+threads_rule name = record (option_rule name) { parser = Some (parsers.Signed (pos 1) (pos 64)) }
+
+-- the option `--workers`
 abbrev pub workers_rule : Rule
-workers_rule = record (option_rule (codes "workers")) { parser = Some (parsers.Signed (pos 1) (pos 64)) }
+workers_rule = threads_rule (codes "workers")
 
 -- a command with these arguments
 abbrev pub command : Text → List Rule → App
@@ -66,10 +70,14 @@ map_app = command (codes "map") (needed_rule (codes "image") ∷ option_rule (co
 abbrev pub bare_app : App
 bare_app = on_top (λ s. record s { no_binary_name = true; subcommand_required = true }) (new_app (codes "nova"))
 
+-- a program with these commands
+abbrev pub with_commands : App → List App → App
+with_commands program apps = fold (λ app sub. with_subcommand app sub.top) program apps
+
 -- the commands that read an image, or write one
 abbrev pub image_apps : List App
 image_apps = mkfs_app ∷ ls_app ∷ path_app (codes "stat") ∷ path_app (codes "cat") ∷ explain_app ∷ map_app ∷ []
 
 -- the program with its commands
 abbrev pub nova_app : App
-nova_app = fold (λ app sub. with_subcommand app sub.top) bare_app (run_app ∷ check_app ∷ image_apps)
+nova_app = with_commands bare_app (run_app ∷ check_app ∷ image_apps)

@@ -2,14 +2,55 @@
 
 ghost use Rattle.std.specs.Prelude.{◌≡◌, ◌^◌, ◌-◌, false, pos};
 ghost use Rattle.clap.specs.Walk.{rule_of};
-ghost use Rattle.nv_args.specs.CommandLine.{place_rule, needed_rule, option_rule, number_rule, flag_rule, workers_rule};
+ghost use Rattle.nv_args.specs.CommandLine.{place_rule, needed_rule, option_rule, number_rule, flag_rule, threads_rule};
+ghost use Rattle.nv_args.specs.Tables.{rule_by};
 
 use clap::builder::ValueParser;
 use clap::{Arg, ArgAction, value_parser};
 use std::alloc::Global;
 
+/// How an argument is written.
+#[derive(Clone, Copy)]
+pub(crate) enum Written {
+    /// By its place, where it isn't left out.
+    ByPlace,
+    /// By its place.
+    Needed,
+    /// `--NAME TEXT`.
+    Option,
+    /// `--NAME`.
+    Flag,
+    /// `--NAME N`, which has to be written.
+    Number,
+    /// `--NAME N`, where N is a number of threads.
+    Workers,
+}
+
+/// An argument, and what a user reads of it.
+pub(crate) struct Argument<'a> {
+    pub(crate) written: Written,
+    pub(crate) name: &'a str,
+    pub(crate) help: &'a str,
+}
+
+/// The argument for `clap`.
+pub(crate) fn arg_of<'a>(alloc: Global, argument: &Argument<'a>) -> Arg<'a>
+    ensures rule { rule_of result ≡ rule_by argument.now }
+    ensures local { result.global ≡ false }
+{
+    let (name, help) = (argument.name, argument.help);
+    match argument.written {
+        Written::ByPlace => place(alloc, name, help),
+        Written::Needed => needed(alloc, name, help),
+        Written::Option => option(alloc, name, help),
+        Written::Flag => flag(alloc, name, help),
+        Written::Number => number(alloc, name, help),
+        Written::Workers => workers(alloc, name, help),
+    }
+}
+
 /// An argument that is written by its place, and may be left out.
-pub(crate) fn place<'a>(alloc: Global, name: &'a str, help: &'a str) -> Arg<'a>
+fn place<'a>(alloc: Global, name: &'a str, help: &'a str) -> Arg<'a>
     ensures rule { rule_of result ≡ place_rule name.entry.now }
     ensures local { result.global ≡ false }
 {
@@ -17,7 +58,7 @@ pub(crate) fn place<'a>(alloc: Global, name: &'a str, help: &'a str) -> Arg<'a>
 }
 
 /// An argument that is written by its place.
-pub(crate) fn needed<'a>(alloc: Global, name: &'a str, help: &'a str) -> Arg<'a>
+fn needed<'a>(alloc: Global, name: &'a str, help: &'a str) -> Arg<'a>
     ensures rule { rule_of result ≡ needed_rule name.entry.now }
     ensures local { result.global ≡ false }
 {
@@ -25,7 +66,7 @@ pub(crate) fn needed<'a>(alloc: Global, name: &'a str, help: &'a str) -> Arg<'a>
 }
 
 /// `--NAME TEXT`.
-pub(crate) fn option<'a>(alloc: Global, name: &'a str, help: &'a str) -> Arg<'a>
+fn option<'a>(alloc: Global, name: &'a str, help: &'a str) -> Arg<'a>
     ensures rule { rule_of result ≡ option_rule name.entry.now }
     ensures local { result.global ≡ false }
 {
@@ -33,7 +74,7 @@ pub(crate) fn option<'a>(alloc: Global, name: &'a str, help: &'a str) -> Arg<'a>
 }
 
 /// `--NAME`.
-pub(crate) fn flag<'a>(alloc: Global, name: &'a str, help: &'a str) -> Arg<'a>
+fn flag<'a>(alloc: Global, name: &'a str, help: &'a str) -> Arg<'a>
     ensures rule { rule_of result ≡ flag_rule name.entry.now }
     ensures local { result.global ≡ false }
 {
@@ -44,7 +85,7 @@ pub(crate) fn flag<'a>(alloc: Global, name: &'a str, help: &'a str) -> Arg<'a>
 }
 
 /// `--NAME N`, which has to be written.
-pub(crate) fn number<'a>(alloc: Global, name: &'a str, help: &'a str) -> Arg<'a>
+fn number<'a>(alloc: Global, name: &'a str, help: &'a str) -> Arg<'a>
     ensures rule { rule_of result ≡ number_rule name.entry.now }
     ensures local { result.global ≡ false }
 {
@@ -55,14 +96,14 @@ pub(crate) fn number<'a>(alloc: Global, name: &'a str, help: &'a str) -> Arg<'a>
         .value_parser(number_parser())
 }
 
-/// `--workers N`.
-pub(crate) fn workers<'a>(alloc: Global) -> Arg<'a>
-    ensures rule { rule_of result ≡ workers_rule }
+/// `--NAME N`, where N is a number of threads.
+fn workers<'a>(alloc: Global, name: &'a str, help: &'a str) -> Arg<'a>
+    ensures rule { rule_of result ≡ threads_rule name.entry.now }
     ensures local { result.global ≡ false }
 {
-    Arg::new(alloc, "workers")
-        .long("workers")
-        .help("The number of threads that recover it, from 1 to 64; 1 where left out")
+    Arg::new(alloc, name)
+        .long(name)
+        .help(help)
         .value_parser(workers_parser())
 }
 

@@ -1,11 +1,12 @@
 //! The command line of the program, with the help that a user reads.
 
-ghost use Rattle.std.specs.Prelude.{◌≡◌, IfOk, false, codes};
+ghost use Rattle.std.specs.Prelude.{◌≡◌, IfOk, false};
 ghost use Rattle.clap.specs.Simple.{app_of};
 ghost use Rattle.clap.specs.declared.builder.command.Command.TheViews.{out-Command};
-ghost use Rattle.nv_args.specs.CommandLine.{run_app, check_app, mkfs_app, ls_app, path_app, explain_app, map_app, bare_app, nova_app};
+ghost use Rattle.nv_args.specs.CommandLine.{bare_app, nova_app};
+ghost use Rattle.nv_args.specs.Tables.{app_by};
 
-use crate::arguments::{flag, needed, number, option, place, workers};
+use crate::arguments::{Argument, Written, arg_of};
 use clap::Command;
 use std::alloc::{AllocError, Global};
 
@@ -32,133 +33,189 @@ Exit status:
 
 const IMAGE: &str = "The file that holds the image";
 
-fn run<'a>(alloc: Global) -> Result<Command<'a>, AllocError>
-    ensures local { IfOk result (λ c. (out-Command c).has_globals ≡ false) }
-    ensures shape { IfOk result (λ c. app_of c ≡ run_app) }
-{
-    Command::new(alloc, "run")
-        .about("Runs a script and prints its answers")
-        .after_help(RUN_NOTES)
-        .arg(place(
-            alloc,
-            "script",
-            "The file that holds the script; standard input where left out",
-        ))?
-        .arg(option(
-            alloc,
-            "image",
-            "The file whose region the script begins with; without it there is none at first",
-        ))?
-        .arg(option(
-            alloc,
-            "save",
-            "The file that the region at the script's end is written to; without it no file is written",
-        ))
+/// A command, what a user reads of it, and its arguments.
+struct CommandForm<'a> {
+    name: &'a str,
+    about: &'a str,
+    notes: &'a str,
+    arguments: &'a [Argument<'a>],
 }
 
-fn check<'a>(alloc: Global) -> Result<Command<'a>, AllocError>
-    ensures local { IfOk result (λ c. (out-Command c).has_globals ≡ false) }
-    ensures shape { IfOk result (λ c. app_of c ≡ check_app) }
-{
-    Command::new(alloc, "check")
-        .about("Recovers an image in memory and prints its report; the file is never written")
-        .after_help(CHECK_NOTES)
-        .arg(needed(alloc, "path", IMAGE))?
-        .arg(workers(alloc))?
-        .arg(flag(
-            alloc,
-            "summary",
-            "Print one line of sums in place of the report",
-        ))?
-        .arg(flag(
-            alloc,
-            "only-faults",
-            "Print the faults alone in place of the report",
-        ))
-}
+// In the order in which help lists them.
+const COMMANDS: [CommandForm<'static>; 8] = [
+    CommandForm {
+        name: "run",
+        about: "Runs a script and prints its answers",
+        notes: RUN_NOTES,
+        arguments: &[
+            Argument {
+                written: Written::ByPlace,
+                name: "script",
+                help: "The file that holds the script; standard input where left out",
+            },
+            Argument {
+                written: Written::Option,
+                name: "image",
+                help: "The file whose region the script begins with; without it there is none at first",
+            },
+            Argument {
+                written: Written::Option,
+                name: "save",
+                help: "The file that the region at the script's end is written to; without it no file is written",
+            },
+        ],
+    },
+    CommandForm {
+        name: "check",
+        about: "Recovers an image in memory and prints its report; the file is never written",
+        notes: CHECK_NOTES,
+        arguments: &[
+            Argument {
+                written: Written::Needed,
+                name: "path",
+                help: IMAGE,
+            },
+            Argument {
+                written: Written::Workers,
+                name: "workers",
+                help: "The number of threads that recover it, from 1 to 64; 1 where left out",
+            },
+            Argument {
+                written: Written::Flag,
+                name: "summary",
+                help: "Print one line of sums in place of the report",
+            },
+            Argument {
+                written: Written::Flag,
+                name: "only-faults",
+                help: "Print the faults alone in place of the report",
+            },
+        ],
+    },
+    CommandForm {
+        name: "mkfs",
+        about: "Writes the image of a formatted region",
+        notes: NOTES,
+        arguments: &[
+            Argument {
+                written: Written::Needed,
+                name: "image",
+                help: "The file to write",
+            },
+            Argument {
+                written: Written::Number,
+                name: "blocks",
+                help: "The number of blocks of 4096 bytes, from 8 to 65536",
+            },
+            Argument {
+                written: Written::Number,
+                name: "cpus",
+                help: "The number of CPUs, from 1 to 64",
+            },
+            Argument {
+                written: Written::Number,
+                name: "tables",
+                help: "The number of table blocks of each CPU, from 1 to 64",
+            },
+            Argument {
+                written: Written::Flag,
+                name: "force",
+                help: "Put the image in the place of a file that is there",
+            },
+        ],
+    },
+    CommandForm {
+        name: "ls",
+        about: "Lists a directory of an image, each name with its inode",
+        notes: NOTES,
+        arguments: &[
+            Argument {
+                written: Written::Needed,
+                name: "image",
+                help: IMAGE,
+            },
+            Argument {
+                written: Written::ByPlace,
+                name: "path",
+                help: "The path of the directory; / where left out",
+            },
+        ],
+    },
+    CommandForm {
+        name: "stat",
+        about: "Tells the attributes of a file or directory of an image",
+        notes: NOTES,
+        arguments: &[
+            Argument {
+                written: Written::Needed,
+                name: "image",
+                help: IMAGE,
+            },
+            Argument {
+                written: Written::Needed,
+                name: "path",
+                help: "The path in the image",
+            },
+        ],
+    },
+    CommandForm {
+        name: "cat",
+        about: "Prints the bytes of a file of an image",
+        notes: NOTES,
+        arguments: &[
+            Argument {
+                written: Written::Needed,
+                name: "image",
+                help: IMAGE,
+            },
+            Argument {
+                written: Written::Needed,
+                name: "path",
+                help: "The path in the image",
+            },
+        ],
+    },
+    CommandForm {
+        name: "explain",
+        about: "Tells what a class of faults means",
+        notes: NOTES,
+        arguments: &[Argument {
+            written: Written::Needed,
+            name: "class",
+            help: "The class as a report names it, in upper or lower case, such as L2",
+        }],
+    },
+    CommandForm {
+        name: "map",
+        about: "Shows which blocks of an image are what",
+        notes: NOTES,
+        arguments: &[
+            Argument {
+                written: Written::Needed,
+                name: "image",
+                help: IMAGE,
+            },
+            Argument {
+                written: Written::Option,
+                name: "svg",
+                help: "The file to write a drawing of it to",
+            },
+        ],
+    },
+];
 
-fn mkfs<'a>(alloc: Global) -> Result<Command<'a>, AllocError>
+// The command for `clap`.
+fn command_of<'a>(alloc: Global, form: &CommandForm<'a>) -> Result<Command<'a>, AllocError>
     ensures local { IfOk result (λ c. (out-Command c).has_globals ≡ false) }
-    ensures shape { IfOk result (λ c. app_of c ≡ mkfs_app) }
+    ensures shape { IfOk result (λ c. app_of c ≡ app_by form.now) }
 {
-    Command::new(alloc, "mkfs")
-        .about("Writes the image of a formatted region")
-        .after_help(NOTES)
-        .arg(needed(alloc, "image", "The file to write"))?
-        .arg(number(
-            alloc,
-            "blocks",
-            "The number of blocks of 4096 bytes, from 8 to 65536",
-        ))?
-        .arg(number(alloc, "cpus", "The number of CPUs, from 1 to 64"))?
-        .arg(number(
-            alloc,
-            "tables",
-            "The number of table blocks of each CPU, from 1 to 64",
-        ))?
-        .arg(flag(
-            alloc,
-            "force",
-            "Put the image in the place of a file that is there",
-        ))
-}
-
-fn ls<'a>(alloc: Global) -> Result<Command<'a>, AllocError>
-    ensures local { IfOk result (λ c. (out-Command c).has_globals ≡ false) }
-    ensures shape { IfOk result (λ c. app_of c ≡ ls_app) }
-{
-    Command::new(alloc, "ls")
-        .about("Lists a directory of an image, each name with its inode")
-        .after_help(NOTES)
-        .arg(needed(alloc, "image", IMAGE))?
-        .arg(place(alloc, "path", "The path of the directory; / where left out"))
-}
-
-fn stat<'a>(alloc: Global) -> Result<Command<'a>, AllocError>
-    ensures local { IfOk result (λ c. (out-Command c).has_globals ≡ false) }
-    ensures shape { IfOk result (λ c. app_of c ≡ path_app (codes "stat")) }
-{
-    Command::new(alloc, "stat")
-        .about("Tells the attributes of a file or directory of an image")
-        .after_help(NOTES)
-        .arg(needed(alloc, "image", IMAGE))?
-        .arg(needed(alloc, "path", "The path in the image"))
-}
-
-fn cat<'a>(alloc: Global) -> Result<Command<'a>, AllocError>
-    ensures local { IfOk result (λ c. (out-Command c).has_globals ≡ false) }
-    ensures shape { IfOk result (λ c. app_of c ≡ path_app (codes "cat")) }
-{
-    Command::new(alloc, "cat")
-        .about("Prints the bytes of a file of an image")
-        .after_help(NOTES)
-        .arg(needed(alloc, "image", IMAGE))?
-        .arg(needed(alloc, "path", "The path in the image"))
-}
-
-fn explain<'a>(alloc: Global) -> Result<Command<'a>, AllocError>
-    ensures local { IfOk result (λ c. (out-Command c).has_globals ≡ false) }
-    ensures shape { IfOk result (λ c. app_of c ≡ explain_app) }
-{
-    Command::new(alloc, "explain")
-        .about("Tells what a class of faults means")
-        .after_help(NOTES)
-        .arg(needed(
-            alloc,
-            "class",
-            "The class as a report names it, in upper or lower case, such as L2",
-        ))
-}
-
-fn map<'a>(alloc: Global) -> Result<Command<'a>, AllocError>
-    ensures local { IfOk result (λ c. (out-Command c).has_globals ≡ false) }
-    ensures shape { IfOk result (λ c. app_of c ≡ map_app) }
-{
-    Command::new(alloc, "map")
-        .about("Shows which blocks of an image are what")
-        .after_help(NOTES)
-        .arg(needed(alloc, "image", IMAGE))?
-        .arg(option(alloc, "svg", "The file to write a drawing of it to"))
+    let mut command = Command::new(alloc, form.name)
+        .about(form.about)
+        .after_help(form.notes);
+    for argument in form.arguments {
+        command = command.arg(arg_of(alloc, argument))?;
+    }
+    Ok(command)
 }
 
 // The program before its commands. Its name leads the usage of each command.
@@ -176,13 +233,9 @@ fn bare<'a>(alloc: Global) -> Result<Command<'a>, AllocError>
 pub(crate) fn nova<'a>(alloc: Global) -> Result<Command<'a>, AllocError>
     ensures { IfOk result (λ c. app_of c ≡ nova_app) }
 {
-    bare(alloc)?
-        .subcommand(run(alloc)?)?
-        .subcommand(check(alloc)?)?
-        .subcommand(mkfs(alloc)?)?
-        .subcommand(ls(alloc)?)?
-        .subcommand(stat(alloc)?)?
-        .subcommand(cat(alloc)?)?
-        .subcommand(explain(alloc)?)?
-        .subcommand(map(alloc)?)
+    let mut program = bare(alloc)?;
+    for form in COMMANDS.iter() {
+        program = program.subcommand(command_of(alloc, form)?)?;
+    }
+    Ok(program)
 }
