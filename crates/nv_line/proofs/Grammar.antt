@@ -5,7 +5,7 @@ use Rattle.std.proofs.lemmas.Bool.{and_parts}
 use Rattle.std.proofs.lemmas.List.Splits.{join_with_byte-slice_split}
 use Rattle.nv_line.specs.Request.{Request}
 use Rattle.nv_line.specs.Lines.{IsSkipped, IsBad}
-use Rattle.nv_line.specs.Table.{Row, rows, more_rows, writing_rows, naming_rows}
+use Rattle.nv_line.specs.Table.{Row, rows, recovery_rows, showing_rows, more_rows, writing_rows, naming_rows}
 use Rattle.nv_line.specs.Shapes.{Values, words_of, CanBeWritten}
 use Rattle.nv_line.specs.Spelling.{Says}
 use Rattle.nv_line.specs.Reading.{request_of, request_of_words, request_by}
@@ -17,7 +17,7 @@ use Rattle.nv_line.proofs.Rows.{are_distinct, found_by_name, read_by_row, row_sa
 
 -- no two rows have one name
 rows_distinct : are_distinct rows ≡ true
-unfolding rows more_rows writing_rows naming_rows
+unfolding rows recovery_rows showing_rows more_rows writing_rows naming_rows
 rows_distinct = refl
 
 -- a name has no space, and doesn't begin as a comment does
@@ -29,7 +29,7 @@ abbrev is_name : List ℕ → Bool
 is_name name = list_all (λ b. not (eqb b 32)) name && begins_a_command name
 
 rows_named : list_all (λ (row : Row). is_name row.name) rows ≡ true
-unfolding rows more_rows writing_rows naming_rows
+unfolding rows recovery_rows showing_rows more_rows writing_rows naming_rows
 rows_named = refl
 
 all_at : (table : List Row) (row : Row) → list_all (λ (row : Row). is_name row.name) table ≡ true → (k : ℕ) → k < length table → slice_index_or table k row ≡ row → is_name row.name ≡ true

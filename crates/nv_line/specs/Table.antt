@@ -92,17 +92,25 @@ more_rows = row (codes "stop") forms.Stop stop_words stop_of
     ∷ row (codes "read") forms.Read path_and_two_numbers Read
     ∷ writing_rows
 
+-- the rows of the commands that show what was recovered, and of all behind them
+unfoldable pub showing_rows : List Row
+showing_rows = row (codes "tree") forms.Tree End Tree
+    ∷ row (codes "free") forms.Free End Free
+    ∷ row (codes "faults") forms.Faults End Faults
+    ∷ row (codes "report") forms.Report End Report
+    ∷ row (codes "peek") forms.Peek one_number Peek
+    ∷ more_rows
+
+-- the same with those that recover
+unfoldable pub recovery_rows : List Row
+recovery_rows = row (codes "recover") forms.Recover one_number Recover
+    ∷ row (codes "replay") forms.Replay (Then Number Numbers) Replay
+    ∷ showing_rows
+
 -- the rows of all commands
 unfoldable pub rows : List Row
 rows = row (codes "format") forms.Format three_numbers Format
     ∷ row (codes "time") forms.Time one_number Time
     ∷ row (codes "poke") forms.Poke two_numbers Poke
     ∷ row (codes "cut") forms.Cut one_number Cut
-    ∷ row (codes "recover") forms.Recover one_number Recover
-    ∷ row (codes "replay") forms.Replay (Then Number Numbers) Replay
-    ∷ row (codes "tree") forms.Tree End Tree
-    ∷ row (codes "free") forms.Free End Free
-    ∷ row (codes "faults") forms.Faults End Faults
-    ∷ row (codes "report") forms.Report End Report
-    ∷ row (codes "peek") forms.Peek one_number Peek
-    ∷ more_rows
+    ∷ recovery_rows

@@ -2,7 +2,7 @@
 
 ghost use Rattle.std.specs.Prelude.{◌≡◌, map, IfOk, option_map};
 ghost use Rattle.nv_line.specs.Reading.{read_by};
-ghost use Rattle.nv_line.specs.Table.{rows, more_rows, writing_rows, naming_rows};
+ghost use Rattle.nv_line.specs.Table.{rows, recovery_rows, showing_rows, more_rows, writing_rows, naming_rows};
 ghost use Rattle.nv_line.specs.View.{view};
 
 use crate::commands::Command;
@@ -61,7 +61,21 @@ pub(crate) fn row_named<'a>(
             form: Form::Cut,
             command,
         }))
-    } else if name == b"recover".as_slice() {
+    } else {
+        recovery_row_named(alloc, name, words)
+    }
+}
+
+// The same of the commands that recover, and of those behind them in the table.
+#[tactic(auto, unfolding(crate::specs::Reading::read_by, crate::specs::Table::recovery_rows))]
+fn recovery_row_named<'a>(
+    alloc: Global,
+    name: &[u8],
+    words: &[&'a [u8]],
+) -> Result<Option<Row<'a>>, AllocError>
+    ensures { IfOk result (λ found. option_map (λ row. (row.form, option_map view row.command)) found ≡ read_by recovery_rows name.now (map (λ word. word.now) words.now)) }
+{
+    if name == b"recover".as_slice() {
         let command = one_number(words).map(|workers| Command::Recover { workers });
         Ok(Some(Row {
             form: Form::Recover,
@@ -76,38 +90,48 @@ pub(crate) fn row_named<'a>(
             form: Form::Replay,
             command,
         }))
-    } else if name == b"tree".as_slice() {
+    } else {
+        Ok(showing_row_named(name, words))
+    }
+}
+
+// The same of those that show what was recovered, and of those behind them.
+#[tactic(auto, unfolding(crate::specs::Reading::read_by, crate::specs::Table::showing_rows))]
+fn showing_row_named<'a>(name: &[u8], words: &[&'a [u8]]) -> Option<Row<'a>>
+    ensures { option_map (λ row. (row.form, option_map view row.command)) result ≡ read_by showing_rows name.now (map (λ word. word.now) words.now) }
+{
+    if name == b"tree".as_slice() {
         let command = no_words(words).map(|()| Command::Tree);
-        Ok(Some(Row {
+        Some(Row {
             form: Form::Tree,
             command,
-        }))
+        })
     } else if name == b"free".as_slice() {
         let command = no_words(words).map(|()| Command::Free);
-        Ok(Some(Row {
+        Some(Row {
             form: Form::Free,
             command,
-        }))
+        })
     } else if name == b"faults".as_slice() {
         let command = no_words(words).map(|()| Command::Faults);
-        Ok(Some(Row {
+        Some(Row {
             form: Form::Faults,
             command,
-        }))
+        })
     } else if name == b"report".as_slice() {
         let command = no_words(words).map(|()| Command::Report);
-        Ok(Some(Row {
+        Some(Row {
             form: Form::Report,
             command,
-        }))
+        })
     } else if name == b"peek".as_slice() {
         let command = one_number(words).map(|at| Command::Peek { at });
-        Ok(Some(Row {
+        Some(Row {
             form: Form::Peek,
             command,
-        }))
+        })
     } else {
-        Ok(more_row_named(name, words))
+        more_row_named(name, words)
     }
 }
 
