@@ -1,26 +1,25 @@
 -- What is wrong between the listed rows is what is wrong between the rows.
-use Rattle.std.proofs.Common.{◌≡◌, ℕ, ◌<◌, eqb, nat_cmp, Bool, true, false, cond, Some, List, [], ◌∷◌, length, map, refl, ap, sym, ◌∙◌, subst, arith, eqb-true, eq-eqb}
+use Rattle.std.proofs.Common.{◌≡◌, ℕ, ◌<◌, eqb, Bool, true, false, cond, Some, List, [], ◌∷◌, length, map, refl, ap, sym, ◌∙◌, subst, arith, eqb-true, eq-eqb}
 use Rattle.std.specs.List.{Contains, flat_map, filter, count_by}
-use Rattle.std.specs.Cmp.Lexicographic.{slice_cmp}
-use Rattle.std.specs.declared.cmp.Ordering.TheVariants.{Less}
 use Rattle.std.proofs.lemmas.List.Sums.{sum_by-cons, sum_by-append}
 use Rattle.std.proofs.lemmas.List.{length-append}
-use Rattle.nv_super.specs.Order.{Lists, Rises, SortedOf, fault_key}
+use Rattle.nv_super.specs.Order.{Lists, SortedOf, fault_key}
 use Rattle.nv_super.specs.declared.faults.Fault.{Fault}
 use Rattle.nv_super.specs.declared.faults.Fault.TheVariants as faults
-use Rattle.nv_super.proofs.Rising.{Contains-head, Contains-tail, Lists-only, head_least, tail_rises}
+use Rattle.nv_super.proofs.Rising.{Contains-head, Contains-tail, Lists-only}
 use Rattle.nv_super.proofs.Filters.{from_filter, into_filter}
 use Rattle.nv_super.proofs.Members.{from_flat, into_flat, from_map, into_map}
 use Rattle.nv_names.specs.Names.{name_at, line_of}
 use Rattle.nv_names.specs.declared.named.Named.{Named}
 use Rattle.nv_scan.specs.declared.piece.Row.{Row}
+use Rattle.nv_numbered.specs.Values.{AreNumbersBelow}
 use Rattle.nv_check.specs.declared.listing.Listing.{Listing}
 use Rattle.nv_check.specs.Cross as cross
-use Rattle.nv_check.specs.Cross.{row_key, HasNameIn, IsUnusedIn, AreNamesIn, IsReachedIn, IsCrossFaultIn}
+use Rattle.nv_check.specs.Cross.{HasNameIn, IsUnusedIn, AreNamesIn, IsReachedIn, IsCrossFaultIn}
 use Rattle.nv_check.specs.Listings as listed
 use Rattle.nv_check.specs.Listings.{IsListing, AreListings, target, targets, names_of, IsReached, IsUnused, IsFault}
-use Rattle.nv_check.proofs.Ordered.{Apart, apart_append, Walked, names_walked, InOrder, in_order}
-use Rattle.nv_check.proofs.Rows.{listing_of, row_of, key_less}
+use Rattle.nv_check.proofs.Ordered.{Apart, apart_append, apart_numbers, Walked, names_walked, InOrder, in_order}
+use Rattle.nv_check.proofs.Rows.{listing_of, row_of, listed_apart}
 
 abbrev Line : Type 0
 Line = List ℕ × ℕ × ℕ
@@ -87,18 +86,7 @@ pairs_count i (l ∷ listings) =
     let n = length-append (pairs_of i l) (pairs_in i listings) in let one = row_count i l.inode l.names.items in let rest = pairs_count i listings in
     let s = sum_by-append (λ t. cond (eqb t i) 1 0) (map target l.names.items) (targets listings) in omega (arith, n, one, rest, s)
 
-rises_listed : (rows : List Row) (listings : List Listing) → AreListings rows listings → Rises row_key rows → Rises listing_key listings
-rises_listed [] [] h r = tt
-rises_listed [] (l ∷ listings) h r = absurd h
-rises_listed (x ∷ rows) [] h r = absurd h
-rises_listed (x ∷ []) (l ∷ []) h r = tt
-rises_listed (x ∷ []) (l ∷ m ∷ listings) h r = absurd h.1
-rises_listed (x ∷ y ∷ rows) (l ∷ []) h r = absurd h.1
-rises_listed (x ∷ y ∷ rows) (l ∷ m ∷ listings) h r =
-    let P : ℕ → Type 0 = λ i. slice_cmp nat_cmp (i ∷ []) (m.inode ∷ []) ≡ Less in let Q : ℕ → Type 0 = λ i. slice_cmp nat_cmp (x.inode ∷ []) (i ∷ []) ≡ Less in
-    (subst P (sym h.0.inode) (subst Q (sym h.1.0.inode) r.0), rises_listed (y ∷ rows) (m ∷ listings) h.1 r.1)
-
-module _ (rows : List Row) (listings : List Listing) (are : AreListings rows listings) (rising : Rises row_key rows) where
+module _ (rows : List Row) (listings : List Listing) (are : AreListings rows listings) (apart : Apart listing_key listings) where
   names_in : (r : Row) (l : Listing) → IsListing r l → Walked r.names (lines l)
   names_in r l h = names_walked r.names (lines l) h.names
 
@@ -150,11 +138,11 @@ module _ (rows : List Row) (listings : List Listing) (are : AreListings rows lis
       let P : ℕ → Type 0 = λ j. IsReached listings j in
       subst P (w.2.inode ∙ e) (listed.step s.listing w.0 s.line (subst P (sym s.inode) (reached_back d rd)) s.here s.has w.1 (w.2.inode ∙ e ∙ ap (λ (z : Line). z.1) s.is))
 
-  pairs_apart : (i : ℕ) (some : List Listing) → Rises listing_key some → ((l : Listing) → Contains some l → Contains listings l) → Apart pair_key (pairs_in i some)
-  pairs_apart i [] r sub = tt
-  pairs_apart i (x ∷ some) r sub = apart_append pair_key (pairs_of i x) (pairs_in i some)
+  pairs_apart : (i : ℕ) (some : List Listing) → Apart listing_key some → ((l : Listing) → Contains some l → Contains listings l) → Apart pair_key (pairs_in i some)
+  pairs_apart i [] a sub = tt
+  pairs_apart i (x ∷ some) a sub = apart_append pair_key (pairs_of i x) (pairs_in i some)
       (let w = row x (sub x (Contains-head x some)) in row_apart i x.inode (lines x) (names_in w.0 x w.2).apart)
-      (pairs_apart i some (tail_rises listing_key x some r) (λ q c. sub q (Contains-tail x some q c)))
+      (pairs_apart i some a.1 (λ q c. sub q (Contains-tail x some q c)))
       (λ u v c d same. (
       let m = pair_from i x.inode (lines x) u c in
       let f = from_flat (pairs_of i) some v d in
@@ -162,12 +150,11 @@ module _ (rows : List Row) (listings : List Listing) (are : AreListings rows lis
       let P : ℕ × List ℕ → Type 0 = λ z. pair_key z ≡ pair_key v in
       let Q : ℕ × List ℕ → Type 0 = λ z. x.inode ∷ m.0.0 ≡ pair_key z in
       let one : x.inode ≡ f.0.inode = same_directory x.inode f.0.inode m.0.0 n.0.0 (subst Q n.3 (subst P m.3 same)) in
-      let less : x.inode < f.0.inode = key_less x.inode f.0.inode (head_least listing_key x some r f.0 f.1) in
-      omega (arith, one, less)))
+      a.0 f.0 f.1 (ap (λ (j : ℕ). j ∷ []) one)))
 
   -- the names of inode i, in order
   sorted : (i : ℕ) → (ys : List (ℕ × List ℕ)) × InOrder pair_key (pairs_in i listings) ys
-  sorted i = in_order pair_key (pairs_in i listings) (pairs_apart i listings (rises_listed rows listings are rising) (λ l c. c))
+  sorted i = in_order pair_key (pairs_in i listings) (pairs_apart i listings apart (λ l c. c))
 
   abbrev ordered : ℕ → List (ℕ × List ℕ)
   ordered i = (sorted i).0
@@ -234,10 +221,12 @@ module _ (rows : List Row) (listings : List Listing) (are : AreListings rows lis
   cross_back f (cross.c5 out) = listed.c5 (λ l c one dir. (let w = row l c in out w.0 w.1 (sym w.2.inode ∙ one) (sym w.2.kind ∙ dir)))
 
 -- the faults between the listed rows, sorted, are those between the rows
-pub cross_listed : (rows : List Row) (listings : List Listing) (are : AreListings rows listings) (rising : Rises row_key rows) (every new : List Fault)
+pub cross_listed : (limit : ℕ) (rows : List Row) (listings : List Listing) (are : AreListings rows listings) (apart : AreNumbersBelow limit (map (λ (r : Row). r.inode) rows)) (every new : List Fault)
     → ((f : Fault) → (Contains every f → IsFault listings f) × (IsFault listings f → Contains every f)) → SortedOf fault_key every new → Lists fault_key (IsCrossFaultIn rows) new
-cross_listed rows listings are rising every new all s = record {
+cross_listed limit rows listings are apart every new all s = record {
   rising = s.rising;
-  each = λ f c. cross_there rows listings are rising f ((all f).0 (s.from f c));
-  all = λ f h. s.kept f ((all f).1 (cross_back rows listings are rising f h));
-}
+  each = λ f c. cross_there rows listings are other f ((all f).0 (s.from f c));
+  all = λ f h. s.kept f ((all f).1 (cross_back rows listings are other f h));
+} where
+  other : Apart listing_key listings
+  other = apart_numbers (λ (l : Listing). l.inode) listings (listed_apart limit rows listings are apart).once

@@ -10,6 +10,7 @@ use Rattle.nv_super.proofs.Rising.{Contains-cons, Contains-head}
 use Rattle.nv_super.specs.declared.kind.Kind.TheVariants.{File, Directory}
 use Rattle.nv_super.proofs.Members.{from_map, into_map}
 use Rattle.nv_super.proofs.Options.{some_only}
+use Rattle.nv_numbered.specs.Values.{AreNumbersBelow}
 use Rattle.nv_check.specs.declared.listing.Listing.{Listing}
 use Rattle.nv_check.specs.Listings.{inodes_of, target, targets, IsReached, root, step}
 use Rattle.nv_check.specs.Steps.{place_of, ArePlaces, IsTable, IsMarked, Spreads, Reaching, AreReached, IsAt, NamesMarked, AreCounts, AreNumbersOfNames}
@@ -23,6 +24,10 @@ inodes_len (l ∷ listings) = ap suc (inodes_len listings)
 -- the number at a row's place
 pub inode_at : (listings : List Listing) (k : ℕ) (l : Listing) → IsAt listings k l → get_or (inodes_of listings) k 0 ≡ l.inode
 inode_at listings k l h = get_or-map (λ (x : Listing). x.inode) listings k l 0 h.0 ∙ ap (λ (x : Listing). x.inode) h.1
+
+-- each row's number is below the limit
+pub below_limit : (limit : ℕ) (listings : List Listing) (k : ℕ) (l : Listing) → AreNumbersBelow limit (inodes_of listings) → IsAt listings k l → l.inode < limit
+below_limit limit listings k l apart at = subst (λ i. i < limit) (inode_at listings k l at) (apart.below k (omega (arith, at.0, inodes_len listings)))
 
 -- one place has one row
 pub same_row : (listings : List Listing) (k : ℕ) (l m : Listing) → IsAt listings k l → IsAt listings k m → l ≡ m

@@ -1,10 +1,11 @@
 -- Lists whose keys differ, and the same in order.
-use Rattle.std.proofs.Common.{true, false, Some, Option, IsSome, ◌≡◌, ◌≢◌, ◌⊎◌, inl, inr, ℕ, suc, List, [], ◌∷◌, ◌++◌, length, refl, ap, sym, ◌∙◌, subst, nat_cmp, nat_eq, arith}
+use Rattle.std.proofs.Common.{true, false, Some, Option, IsSome, ◌≡◌, ◌≢◌, ◌⊎◌, inl, inr, ℕ, suc, ◌<◌, List, [], ◌∷◌, ◌++◌, length, get_or, map, refl, ap, sym, ◌∙◌, subst, nat_cmp, nat_eq, arith}
 use Rattle.std.specs.List.{Contains, IsDistinct, AllByRecursion}
 use Rattle.std.specs.Ordering.{is_eq, ordering_reverse}
 use Rattle.std.specs.Cmp.Lexicographic.{pointwise, slice_cmp, nat_list_cmp_total, nat_list_eq_equiv, texts_ties, bytes_decides}
 use Rattle.std.specs.declared.cmp.Ordering.{Ordering}
 use Rattle.std.specs.declared.cmp.Ordering.TheVariants.{Less, Equal, Greater}
+use Rattle.std.proofs.lemmas.List.{get_or-map, length-map}
 use Rattle.std.proofs.lemmas.List.Elements.{Contains-append_cases, All-contains}
 use Rattle.std.proofs.lemmas.Map.Keys.{IsDistinct-head, IsDistinct-tail}
 use Rattle.nv_super.specs.Order.{Rises, SortedOf}
@@ -25,6 +26,17 @@ apart_append key (x ∷ xs) ys a b other = (
   λ y c. elim (Contains-append_cases xs ys y c) [ inl w ↦ a.0 y w | inr w ↦ other x y (Contains-head x xs) w ],
   apart_append key xs ys a.1 b (λ z y v w. other z y (Contains-tail x xs z v) w),
 )
+
+-- elements by their numbers, of which none stands twice
+pub apart_numbers : {A : Type 0} (n : A → ℕ) (xs : List A) → ((j k : ℕ) → j < k → k < length (map n xs) → get_or (map n xs) j 0 ≢ get_or (map n xs) k 0) → Apart (λ x. n x ∷ []) xs
+apart_numbers n [] once = tt
+apart_numbers {A} n (x ∷ xs) once = (other, apart_numbers n xs (λ j k order inside. once (suc j) (suc k) (omega (arith, order)) (omega (arith, inside))))
+  where
+    other : (y : A) → Contains xs y → n x ∷ [] ≢ n y ∷ []
+    other y c same =
+        let at : get_or (map n xs) c.0 0 ≡ n y = get_or-map n xs c.0 y 0 c.1 ∙ ap n c.2 in
+        let first : n x ≡ n y = cc in
+        once 0 (suc c.0) (omega arith) (omega (arith, c.1, length-map xs n)) (first ∙ sym at)
 
 among : {K : Type 0} (P : K → Type 0) (ks : List K) (k : K) → AllByRecursion P ks → Contains ks k → P k
 among P [] k all c = absurd (omega (arith, c.1))

@@ -1,14 +1,8 @@
 -- A table of the places of inodes.
-use Rattle.std.proofs.Common.{◌≡◌, ◌≢◌, ℕ, zero, suc, ◌+◌, ◌<◌, ◌⊎◌, inl, inr, Option, Some, None, List, length, get_or, replicate, refl, ap, sym, ◌∙◌, subst, arith, get_or-set_same, get_or-set_other}
+use Rattle.std.proofs.Common.{◌≡◌, ◌≢◌, ℕ, zero, suc, ◌+◌, ◌<◌, ◌⊎◌, inl, inr, Option, Some, None, List, length, get_or, replicate, refl, ap, sym, ◌∙◌, arith, get_or-set_same, get_or-set_other}
 use Rattle.std.proofs.Math.ListN.{set}
-use Rattle.std.specs.List.Sorted.{IsStrictlyIncreasing}
-use Rattle.std.proofs.lemmas.List.Kept.{AllPairs-from_increasing}
-use Rattle.std.proofs.lemmas.Bool.{cases_order, cases_lt, ltb-true}
-use Rattle.std.specs.Prelude.{IsTrue, All, nat_lt, ◌&&◌, Bool, true, false}
-use Rattle.nv_super.specs.Layout.{is_number, inode_limit}
-use Rattle.nv_super.specs.declared.superblock.Super.{Super}
+use Rattle.std.proofs.lemmas.Bool.{cases_order, cases_lt}
 use Rattle.nv_super.proofs.Options.{some_only}
-use Rattle.nv_check.specs.declared.listing.Listing.{Listing}
 use Rattle.nv_check.specs.Steps.{place_of, ArePlacesTo}
 
 pub none_some : {A P : Type 0} (a : A) → None ≡ Some a → P
@@ -31,7 +25,7 @@ places_none inodes m = record {
   all = λ k lt. absurd (omega (arith, lt));
 }
 
-module _ (inodes : List ℕ) (n : ℕ) (table : List (Option ℕ)) (up : IsStrictlyIncreasing inodes) (lt : n < length inodes) (room : get_or inodes n 0 < length table) (h : ArePlacesTo inodes n table) where
+module _ (inodes : List ℕ) (n : ℕ) (table : List (Option ℕ)) (once : (j k : ℕ) → j < k → k < length inodes → get_or inodes j 0 ≢ get_or inodes k 0) (lt : n < length inodes) (room : get_or inodes n 0 < length table) (h : ArePlacesTo inodes n table) where
   stored : place_of (set table (get_or inodes n 0) (Some n)) (get_or inodes n 0) ≡ Some n
   stored = at (get_or inodes n 0) room where
     at : (i : ℕ) → i < length table → place_of (set table i (Some n)) i ≡ Some n
@@ -43,7 +37,7 @@ module _ (inodes : List ℕ) (n : ℕ) (table : List (Option ℕ)) (up : IsStric
     at j w = rw get_or-set_other refl
 
   before : (k : ℕ) → k < n → get_or inodes k 0 ≢ get_or inodes n 0
-  before k w e = let p = AllPairs-from_increasing inodes up k n 0 w lt in omega (arith, p, e)
+  before k w = once k n w lt
 
   pub places_more : ArePlacesTo inodes (n + 1) (set table (get_or inodes n 0) (Some n))
   places_more = record {
@@ -55,14 +49,3 @@ module _ (inodes : List ℕ) (n : ℕ) (table : List (Option ℕ)) (up : IsStric
       | inr v ↦ ap (λ (j : ℕ). place_of (set table (get_or inodes n 0) (Some n)) (get_or inodes j 0)) v ∙ stored ∙ ap Some (sym v)
     ];
   }
-
--- a row's inode is a number of the superblock
-pub below_limit : (s : Super) (listings : List Listing) (n : ℕ) (l : Listing) → n < length listings → l ≡ get_or listings n l → All (λ (m : Listing). IsTrue (is_number s m.inode)) listings → l.inode < inode_limit s
-below_limit s listings n l lt is each = ltb-true l.inode (inode_limit s) (second (nat_lt 0 l.inode) (nat_lt l.inode (inode_limit s)) here) where
-  here : IsTrue (is_number s l.inode)
-  here = let P : Listing → Type 0 = λ m. IsTrue (is_number s m.inode) in subst P (sym is) (each n l lt)
-
-  second : (a b : Bool) → IsTrue (a && b) → b ≡ true
-  second true true h = refl
-  second true false h = absurd (cc)
-  second false b h = absurd (cc)

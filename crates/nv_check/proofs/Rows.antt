@@ -1,17 +1,11 @@
 -- The rows, and the same with their names listed.
-use Rattle.std.proofs.Common.{◌≡◌, ℕ, zero, suc, ◌+◌, ◌<◌, inl, inr, List, [], ◌∷◌, ◌++◌, length, get_or, map, take, refl, ap, sym, ◌∙◌, subst, arith}
-use Rattle.std.specs.Prelude.{All, IsTrue}
+use Rattle.std.proofs.Common.{◌≡◌, ℕ, ◌+◌, ◌<◌, inl, inr, List, [], ◌∷◌, ◌++◌, length, get_or, map, take, refl, ap, sym, ◌∙◌, subst, arith}
 use Rattle.std.specs.List.{Contains, AllZip}
-use Rattle.std.specs.List.Sorted.{IsStrictlyIncreasing}
-use Rattle.std.proofs.lemmas.List.{take_more, get_or_default}
-use Rattle.nv_super.specs.Order.{Rises}
-use Rattle.nv_super.specs.Layout.{is_number}
-use Rattle.nv_super.specs.declared.superblock.Super.{Super}
+use Rattle.std.proofs.lemmas.List.{take_more}
 use Rattle.nv_super.proofs.Rising.{Contains-cons, Contains-head, Contains-tail}
 use Rattle.nv_scan.specs.declared.piece.Row.{Row}
-pub use Rattle.nv_scan.proofs.RowKeys.{key_less}
+use Rattle.nv_numbered.specs.Values.{AreNumbersBelow}
 use Rattle.nv_check.specs.declared.listing.Listing.{Listing}
-use Rattle.nv_check.specs.Cross.{row_key}
 use Rattle.nv_check.specs.Listings.{IsListing, AreListings, inodes_of}
 
 zip_push : {A B : Type 0} (R : A → B → Type 0) (xs : List A) (ys : List B) (x : A) (y : B) → AllZip R xs ys → R x y → AllZip R (xs ++ x ∷ []) (ys ++ y ∷ [])
@@ -52,21 +46,6 @@ inodes_same [] (l ∷ listings) h = absurd h
 inodes_same (r ∷ rows) [] h = absurd h
 inodes_same (r ∷ rows) (l ∷ listings) h = λ i. h.0.inode i ∷ inodes_same rows listings h.1 i
 
-rising_rows : (rows : List Row) → Rises row_key rows → IsStrictlyIncreasing (map (λ (r : Row). r.inode) rows)
-rising_rows [] r k lt = absurd (omega (arith, lt))
-rising_rows (x ∷ []) r k lt = absurd (omega (arith, lt))
-rising_rows (x ∷ y ∷ rows) r zero lt = key_less x.inode y.inode r.0
-rising_rows (x ∷ y ∷ rows) r (suc k) lt =
-    let e : suc k + 1 ≡ suc (k + 1) = omega arith in
-    let P : ℕ → Type 0 = λ n. get_or (map (λ (r : Row). r.inode) (x ∷ y ∷ rows)) (suc k) 0 < get_or (map (λ (r : Row). r.inode) (x ∷ y ∷ rows)) n 0 in
-    subst P (sym e) (rising_rows (y ∷ rows) r.1 k (omega (arith, lt)))
-
-pub rising_inodes : (rows : List Row) (listings : List Listing) → AreListings rows listings → Rises row_key rows → IsStrictlyIncreasing (inodes_of listings)
-rising_inodes rows listings h r = let P : List ℕ → Type 0 = λ is. IsStrictlyIncreasing is in subst P (sym (inodes_same rows listings h)) (rising_rows rows r)
-
-pub numbers_listed : (s : Super) (rows : List Row) (listings : List Listing) → AreListings rows listings → All (λ (r : Row). IsTrue (is_number s r.inode)) rows → All (λ (l : Listing). IsTrue (is_number s l.inode)) listings
-numbers_listed s rows listings h each k d lt =
-    let w = row_of IsListing rows listings (get_or listings k d) h (k, lt, get_or_default listings k (get_or listings k d) d lt) in
-    let P : ℕ → Type 0 = λ i. IsTrue (is_number s i) in
-    let Q : Row → Type 0 = λ r. IsTrue (is_number s r.inode) in
-    subst P (sym w.2.inode) (subst Q w.1.2 (each w.1.0 w.0 w.1.1))
+-- the numbers of the rows stay apart
+pub listed_apart : (limit : ℕ) (rows : List Row) (listings : List Listing) → AreListings rows listings → AreNumbersBelow limit (map (λ (r : Row). r.inode) rows) → AreNumbersBelow limit (inodes_of listings)
+listed_apart limit rows listings h apart = subst (AreNumbersBelow limit) (sym (inodes_same rows listings h)) apart

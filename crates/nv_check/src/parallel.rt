@@ -1,11 +1,12 @@
 //! The same faults, with the work on each row shared among threads.
 
-ghost use Rattle.std.specs.Prelude.{◌≡◌, ◌++◌, IfOk, IsTrue, OnOk};
+ghost use Rattle.std.specs.Prelude.{◌≡◌, ◌++◌, map, IfOk, IsTrue, OnOk};
 ghost use Rattle.std.specs.List.{All, AllZip};
-ghost use Rattle.nv_super.specs.Layout.{IsLayout, is_number};
-ghost use Rattle.nv_super.specs.Order.{fault_key, Lists, Rises};
+ghost use Rattle.nv_super.specs.Layout.{IsLayout, inode_limit, is_number};
+ghost use Rattle.nv_super.specs.Order.{fault_key, Lists};
 ghost use Rattle.nv_scan.specs.declared.piece.Row.{Row as RowValue};
-ghost use Rattle.nv_check.specs.Cross.{row_key, IsCrossFaultIn};
+ghost use Rattle.nv_numbered.specs.Values.{AreNumbersBelow};
+ghost use Rattle.nv_check.specs.Cross.{IsCrossFaultIn};
 ghost use Rattle.nv_check.specs.Steps.{named_by, all_of, AreNear};
 
 use crate::counts::fault_of;
@@ -33,7 +34,7 @@ pub fn cross_faults<H: Threads + Sync>(
     rows: &[Row],
 ) -> Result<Vec<Fault>, AllocError>
     requires layout { IsLayout sup.now }
-    requires rising { Rises row_key rows.now }
+    requires apart { AreNumbersBelow (inode_limit sup.now) (map (λ (r : RowValue). r.inode) rows.now) }
     requires numbers { All (λ (r : RowValue). IsTrue (is_number sup.now r.inode)) rows.now }
     ensures { IfOk result (λ found. Lists fault_key (IsCrossFaultIn rows.now) found.items) }
 {

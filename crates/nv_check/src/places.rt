@@ -1,10 +1,8 @@
 //! Where the row of each inode stands.
 
-ghost use Rattle.std.specs.Prelude.{◌≡◌, IfOk, IsTrue};
-ghost use Rattle.std.specs.List.{All};
-ghost use Rattle.std.specs.List.Sorted.{IsStrictlyIncreasing};
-ghost use Rattle.nv_super.specs.Layout.{IsLayout, is_number};
-ghost use Rattle.nv_check.specs.declared.listing.Listing.{Listing as ListingValue};
+ghost use Rattle.std.specs.Prelude.{◌≡◌, IfOk};
+ghost use Rattle.nv_super.specs.Layout.{IsLayout, inode_limit};
+ghost use Rattle.nv_numbered.specs.Values.{AreNumbersBelow};
 ghost use Rattle.nv_check.specs.Listings.{inodes_of};
 ghost use Rattle.nv_check.specs.Steps.{place_of, ArePlaces};
 
@@ -19,8 +17,7 @@ pub(crate) fn places_of(
     listings: &[Listing<'_>],
 ) -> Result<Vec<Option<usize>>, AllocError>
     requires layout { IsLayout sup.now }
-    requires rising { IsStrictlyIncreasing (inodes_of listings.now) }
-    requires numbers { All (λ (l : ListingValue). IsTrue (is_number sup.now l.inode)) listings.now }
+    requires apart { AreNumbersBelow (inode_limit sup.now) (inodes_of listings.now) }
     ensures { IfOk result (λ table. ArePlaces listings.now table.items) }
 {
     let mut places = vec![in alloc; None; sup.max_inode() as usize + 1]?;

@@ -1,11 +1,9 @@
 //! What the checks read: the rows with their names listed, where each inode's row stands, and how often each is named.
 
-ghost use Rattle.std.specs.Prelude.{IfOk, IsTrue};
-ghost use Rattle.std.specs.List.{All};
-ghost use Rattle.nv_super.specs.Layout.{IsLayout, is_number};
-ghost use Rattle.nv_super.specs.Order.{Rises};
+ghost use Rattle.std.specs.Prelude.{map, IfOk};
+ghost use Rattle.nv_super.specs.Layout.{IsLayout, inode_limit};
 ghost use Rattle.nv_scan.specs.declared.piece.Row.{Row as RowValue};
-ghost use Rattle.nv_check.specs.Cross.{row_key};
+ghost use Rattle.nv_numbered.specs.Values.{AreNumbersBelow};
 ghost use Rattle.nv_check.specs.Tables.{AreTables};
 
 use crate::counts::count_names;
@@ -29,8 +27,7 @@ pub(crate) fn tables_of<'a>(
     rows: &'a [Row],
 ) -> Result<Tables<'a>, AllocError>
     requires layout { IsLayout sup.now }
-    requires rising { Rises row_key rows.now }
-    requires numbers { All (λ (r : RowValue). IsTrue (is_number sup.now r.inode)) rows.now }
+    requires apart { AreNumbersBelow (inode_limit sup.now) (map (λ (r : RowValue). r.inode) rows.now) }
     ensures { IfOk result (λ tables. AreTables rows.now tables) }
 {
     let listings = listings_of(alloc, rows)?;

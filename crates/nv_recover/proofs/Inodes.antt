@@ -86,10 +86,10 @@ rows_ordered {R} {s} {pieces} {x} layout inodes rows same = subst (AreOrdered s)
 }
 
 -- their numbers are each below the limit, and none stands twice
-pub rows_numbered : {R : Region} {s : Super} {pieces : List Piece} {x : Inodes} → IsLayout s → AreInodes R s pieces x → AreNumbersBelow (inode_limit s) (inodes_of x.rows.items)
-rows_numbered {R} {s} {pieces} {x} layout inodes =
+pub rows_numbered : {R : Region} {s : Super} {pieces : List Piece} {x : Inodes} → IsLayout s → AreInodes R s pieces x → (rows : List Row) → rows ≡ x.rows.items → AreNumbersBelow (inode_limit s) (inodes_of rows)
+rows_numbered {R} {s} {pieces} {x} layout inodes rows same =
     let are = rows_are pieces inodes.pieces_are in
-    subst (λ (rows : List Row). AreNumbersBelow (inode_limit s) (inodes_of rows)) (sym inodes.rows)
+    subst (λ (rows : List Row). AreNumbersBelow (inode_limit s) (inodes_of rows)) (sym (same ∙ inodes.rows))
     (rising_given (inode_limit s) (rows_in pieces) are.rising (λ row c. let w = are.each row c in (slot_number s row.inode w.0 layout (slot_in_use w.2.inode)).1))
 
 -- the faults between these rows, told of the same rows

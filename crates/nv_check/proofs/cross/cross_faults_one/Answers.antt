@@ -17,7 +17,7 @@ returns c =
     c.in_ok-push_counts.ensures ∙ (λ i. first i ++ filter_map (count_fault (c.deref-3.ensures.value i)) (c.deref-3.ensures.value i)) in
     let F : List Listing → Type 0 = λ ls. Adds (IsFar ls) c.push_counts.new.faults.items c.push_far.new.faults.items in
     let far : F listings = subst F c.deref-6.ensures.value c.in_ok-push_far.ensures in
-    cross_listed c.args.rows.now listings is.listings c.requires.rising c.push_far.new.faults.items c.sort_faults.new.faults.items
+    cross_listed _ c.args.rows.now listings is.listings c.requires.apart c.push_far.new.faults.items c.sort_faults.new.faults.items
     (all_faults listings table is.places c.push_counts.new.faults.items c.push_far.new.faults.items (from_both _ one two near) (into_both _ one two near) far) c.sort_faults.ensures
 
 pub push_counts-requires : goal.push_counts-requires

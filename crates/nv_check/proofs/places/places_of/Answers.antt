@@ -3,9 +3,15 @@ use Rattle.std.proofs.Math.ListN.{set, length-set}
 use Rattle.nv_super.specs.Layout.{inode_limit}
 use Rattle.nv_check.specs.Listings.{inodes_of}
 use Rattle.nv_check.specs.Steps.{ArePlacesTo}
-use Rattle.nv_check.proofs.PlaceTable.{places_more, below_limit}
-use Rattle.nv_check.proofs.Follow.{inodes_len, inode_at}
+use Rattle.nv_check.proofs.PlaceTable.{places_more}
+use Rattle.nv_check.proofs.Follow.{inodes_len, inode_at, below_limit}
 use Rattle.nv_check.proofs.places.places_of.Goals as goal
+
+pub index_mut-requires : goal.index_mut-requires
+index_mut-requires c =
+    let lt = c.loop-place-test.true in
+    let small : c.index-listings-place.result.inode < inode_limit c.args.sup.now = below_limit _ c.args.listings.now c.loop-place.place _ c.requires.apart (lt, sym c.index-listings-place.is) in
+    omega (arith, small, c.loop-place.invariant.0)
 
 pub loop-place-preserved : goal.loop-place-preserved
 loop-place-preserved c =
@@ -13,11 +19,11 @@ loop-place-preserved c =
     let lt = c.loop-place-test.true in
     let len = inodes_len c.args.listings.now in
     let here : get_or inodes n 0 ≡ l.inode = inode_at c.args.listings.now n l (lt, sym c.index-listings-place.is) in
-    let small : l.inode < inode_limit c.args.sup.now = below_limit c.args.sup.now c.args.listings.now n l lt c.index-listings-place.is c.requires.numbers in
+    let small : l.inode < inode_limit c.args.sup.now = below_limit _ c.args.listings.now n l c.requires.apart (lt, sym c.index-listings-place.is) in
     let within : get_or inodes n 0 < length c.loop-place.places.items = omega (arith, here, small, c.loop-place.invariant.0) in
     let P : ℕ → Type 0 = λ i. ArePlacesTo inodes (n + 1) (set c.loop-place.places.items i (Some n)) in (
       length-set c.loop-place.places.items l.inode (Some n) ∙ c.loop-place.invariant.0,
-      subst P here (places_more inodes n c.loop-place.places.items c.requires.rising (omega (arith, lt, len)) within c.loop-place.invariant.1),
+      subst P here (places_more inodes n c.loop-place.places.items c.requires.apart.once (omega (arith, lt, len)) within c.loop-place.invariant.1),
     )
 
 pub returns : goal.returns

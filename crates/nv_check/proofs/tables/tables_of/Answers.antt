@@ -1,23 +1,17 @@
 use Rattle.std.proofs.Common.{◌≡◌, ◌∙◌, ℕ, List, Option, sym, ap, subst, length}
-use Rattle.std.specs.Prelude.{All, IsTrue}
-use Rattle.std.specs.List.Sorted.{IsStrictlyIncreasing}
-use Rattle.nv_super.specs.Layout.{is_number}
+use Rattle.nv_super.specs.Layout.{inode_limit}
+use Rattle.nv_numbered.specs.Values.{AreNumbersBelow}
 use Rattle.nv_check.specs.declared.listing.Listing.{Listing}
 use Rattle.nv_check.specs.Listings.{inodes_of, targets}
 use Rattle.nv_check.specs.Steps.{ArePlaces, IsTable, AreCounts}
-use Rattle.nv_check.proofs.Rows.{rising_inodes, numbers_listed}
+use Rattle.nv_check.proofs.Rows.{listed_apart}
 use Rattle.nv_check.proofs.Follow.{is_table, numbers_of_names}
 use Rattle.nv_check.proofs.tables.tables_of.Goals as goal
 
-pub places_of-requires-clause-rising : goal.places_of-requires-clause-rising
-places_of-requires-clause-rising c =
-    let P : List Listing → Type 0 = λ ls. IsStrictlyIncreasing (inodes_of ls) in
-    subst P (sym c.deref.ensures.value) (rising_inodes _ _ c.in_ok-listings.ensures c.requires.rising)
-
-pub places_of-requires-clause-numbers : goal.places_of-requires-clause-numbers
-places_of-requires-clause-numbers c =
-    let P : List Listing → Type 0 = λ ls. All (λ (l : Listing). IsTrue (is_number c.args.sup.now l.inode)) ls in
-    subst P (sym c.deref.ensures.value) (numbers_listed c.args.sup.now _ _ c.in_ok-listings.ensures c.requires.numbers)
+pub places_of-requires-clause-apart : goal.places_of-requires-clause-apart
+places_of-requires-clause-apart c =
+    let P : List Listing → Type 0 = λ ls. AreNumbersBelow (inode_limit c.args.sup.now) (inodes_of ls) in
+    subst P (sym c.deref.ensures.value) (listed_apart _ _ _ c.in_ok-listings.ensures c.requires.apart)
 
 pub count_names-requires : goal.count_names-requires
 count_names-requires c =

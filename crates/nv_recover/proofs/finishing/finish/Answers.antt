@@ -11,7 +11,7 @@ doubled-requires c = let s = c.requires.scanned.1 in
     record { covers = claims_covered c.args.started.sup s.pieces c.args.scanned.claimed s.inodes.pieces_are s.claimed c.deref-2.ensures.value c.deref-3.ensures.value }
 
 pub from_rows-requires-clause-numbers : goal.from_rows-requires-clause-numbers
-from_rows-requires-clause-numbers c = let s = c.requires.scanned.1 in rows_numbered c.requires.layout s.inodes
+from_rows-requires-clause-numbers c = let s = c.requires.scanned.1 in rows_numbered c.requires.layout s.inodes _ refl
 
 pub returns : goal.returns
 returns c = λ old new started scanned. answer_of started scanned record {

@@ -1,5 +1,5 @@
 use Rattle.nv_recover.proofs.Claims.{claims_within, same_claims, claimed_all}
-use Rattle.nv_recover.proofs.Inodes.{rows_ordered, cross_same}
+use Rattle.nv_recover.proofs.Inodes.{rows_ordered, rows_numbered, cross_same}
 use Rattle.nv_recover.proofs.one.scan_all.Goals as goal
 
 pub claimed_of-requires : goal.claimed_of-requires
@@ -7,8 +7,8 @@ claimed_of-requires g c = let is = c.in_ok-inodes.ensures in record {
   within = claims_within c.args.sup.now is.0 is.1.pieces_are c.in_ok-inodes.claims.items (same_claims _ _ is.2);
 }
 
-pub cross_faults_one-requires-clause-rising : goal.cross_faults_one-requires-clause-rising
-cross_faults_one-requires-clause-rising g c = (rows_ordered c.requires.layout c.in_ok-inodes.ensures.1 c.deref.result.now c.deref.ensures.value).rising
+pub cross_faults_one-requires-clause-apart : goal.cross_faults_one-requires-clause-apart
+cross_faults_one-requires-clause-apart g c = rows_numbered c.requires.layout c.in_ok-inodes.ensures.1 c.deref.result.now c.deref.ensures.value
 
 pub cross_faults_one-requires-clause-numbers : goal.cross_faults_one-requires-clause-numbers
 cross_faults_one-requires-clause-numbers g c = (rows_ordered c.requires.layout c.in_ok-inodes.ensures.1 c.deref.result.now c.deref.ensures.value).numbers

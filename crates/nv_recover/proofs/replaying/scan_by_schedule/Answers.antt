@@ -1,13 +1,13 @@
 use Rattle.nv_recover.proofs.Claims.{work_inside, claimed_by_sets}
-use Rattle.nv_recover.proofs.Inodes.{rows_ordered, cross_same}
+use Rattle.nv_recover.proofs.Inodes.{rows_ordered, rows_numbered, cross_same}
 use Rattle.nv_recover.proofs.replaying.scan_by_schedule.Goals as goal
 
 pub claim_all-requires-clause-inside : goal.claim_all-requires-clause-inside
 claim_all-requires-clause-inside g c = let is = c.in_ok-inodes.ensures.inodes in
     work_inside c.args.sup.now is.0 is.1.pieces_are c.in_ok-inodes.work.items is.2
 
-pub cross_faults_one-requires-clause-rising : goal.cross_faults_one-requires-clause-rising
-cross_faults_one-requires-clause-rising g c = (rows_ordered c.requires.layout c.in_ok-inodes.ensures.inodes.1 c.deref.result.now c.deref.ensures.value).rising
+pub cross_faults_one-requires-clause-apart : goal.cross_faults_one-requires-clause-apart
+cross_faults_one-requires-clause-apart g c = rows_numbered c.requires.layout c.in_ok-inodes.ensures.inodes.1 c.deref.result.now c.deref.ensures.value
 
 pub cross_faults_one-requires-clause-numbers : goal.cross_faults_one-requires-clause-numbers
 cross_faults_one-requires-clause-numbers g c = (rows_ordered c.requires.layout c.in_ok-inodes.ensures.inodes.1 c.deref.result.now c.deref.ensures.value).numbers
