@@ -19,7 +19,7 @@ done
 wanted+=("run=ended status=0:$so_far")
 # At most one is refused in a run. A first try that rolled the journals back leaves one fault less to the second: that of
 # the pending record which no journal may have.
-sed -e 's/ refused once: worker, which gave 0 pieces;//' \
+sed -e 's/ refused once: worker, which gave 0 rows and 0 faults;//' \
     -e 's/ refused once: [A-Za-z]* [A-Za-z]* AsBefore;//' \
     -e 's/ refused once: \(Stopped [A-Za-z]*\) RolledBack; \1: inodes 4 free 5 doubled 2 faults 4;/ \1: inodes 4 free 5 doubled 2 faults 5;/' \
     "$ends" >"$folder/done"

@@ -8,4 +8,5 @@ pub mod Together
 pub mod CrossRows
 pub mod Near
 pub mod Ordered
+pub mod SameCross
 pub use Rattle.nv_scan.proofs as nv_scan

@@ -4,3 +4,4 @@ pub mod MadeLemmas
 pub mod PairLemmas
 pub mod SlotLemmas
 pub mod SoundLemmas
+pub mod Permuted

@@ -1,16 +1,14 @@
 -- Pieces by tickets: the pieces of all tickets' inodes are those of a region.
-use Rattle.std.proofs.Common.{◌≡◌, ℕ, zero, suc, ◌+◌, ◌-◌, ◌*◌, ◌/◌, ◌%◌, ◌<◌, ◌≤◌, ◌==◌, ◌||◌, nat_lt, nat_cmp, inl, inr, Bool, true, false, cond, if◌then◌else◌, Option, Some, None, List, [], ◌∷◌, ◌++◌, map, length, refl, ap, sym, ◌∙◌, subst, arith, eq-eqb}
-use Rattle.std.specs.Prelude.{slice_get, is_some}
-use Rattle.std.specs.List.{Contains, AllByRecursion, cons_option, range_with_len, count_by}
+use Rattle.std.proofs.Common.{◌≡◌, ℕ, zero, suc, ◌+◌, ◌-◌, ◌*◌, ◌/◌, ◌%◌, ◌<◌, ◌≤◌, ◌==◌, nat_lt, nat_cmp, inl, inr, Bool, true, false, cond, if◌then◌else◌, Some, None, List, [], ◌∷◌, ◌++◌, map, refl, ap, sym, ◌∙◌, subst, arith, eq-eqb}
+use Rattle.std.specs.Prelude.{slice_get}
+use Rattle.std.specs.List.{Contains, AllByRecursion, range_with_len, count_by}
 use Rattle.std.specs.List.Sorted.{IsPermutation, IsSortedByKey, IsNonDecreasingBy}
 use Rattle.std.proofs.lemmas.Bool.{cases_lt, ltb-true}
-use Rattle.std.proofs.lemmas.Bool.Decides.{nat_tests}
 use Rattle.std.proofs.lemmas.Nat.{le-div}
 use Rattle.std.proofs.lemmas.List.{map-append}
 use Rattle.std.proofs.lemmas.List.Sorted.{Contains-permutation, IsPermutation-sym, sum_by-IsPermutation, IsNonDecreasingBy-from_sort, IsNonDecreasingBy-drop}
 use Rattle.nv_region.specs.Region.{Region}
 use Rattle.nv_super.specs.declared.superblock.Super.{Super}
-use Rattle.nv_super.specs.declared.faults.Fault.{Fault}
 use Rattle.nv_super.specs.Layout.{IsLayout, fixed_layout, inode_limit, slot_of, slot_address, extra_slot, chain_of}
 use Rattle.nv_super.specs.Order.{Rises}
 use Rattle.nv_super.proofs.Ranges.{one_more}
@@ -18,13 +16,12 @@ use Rattle.nv_super.proofs.Rising.{Contains-cons, Contains-head, Contains-tail, 
 use Rattle.nv_super.proofs.Members.{none_in, into_map, from_map}
 use Rattle.nv_check.specs.nv_claimcore.Claims.{times, below}
 use Rattle.nv_check.specs.nv_scan.Rows.{IsPiece}
-use Rattle.nv_check.specs.nv_scan.Tickets.{ticket_count, is_told, told_of}
+use Rattle.nv_check.specs.nv_scan.Tickets.{ticket_count}
 use Rattle.nv_check.specs.nv_scan.Work.{numbers_in, claims_in, ArePiecesOf}
-use Rattle.nv_check.specs.nv_scan.declared.piece.Row.{Row}
 use Rattle.nv_check.specs.nv_scan.declared.piece.Piece.{Piece}
 use Rattle.nv_check.proofs.nv_scan.Drawn.{count_cons, once, stands}
 use Rattle.nv_check.proofs.nv_scan.Work.{AllByRecursion-append}
-use Rattle.nv_outcome.specs.Parts.{ArePieces, piece_key, rows_in, faults_in}
+use Rattle.nv_outcome.specs.Parts.{ArePieces, piece_key}
 use Rattle.nv_outcome.proofs.Reordered.{flat_map_permutation}
 
 -- ---- inodes that have slots
@@ -161,28 +158,3 @@ tickets_cover R s tickets pieces sorted layout are drawn moved up =
       numbers i some less =
           let w = from_map (λ (p : Piece). p.inode) pieces i (subst (λ (l : List ℕ). Contains l i) (sym are.order) (stands s layout tickets drawn i some less)) in
           subst (λ j. Contains (map (λ (p : Piece). p.inode) sorted) j) (sym w.2) (into_map (λ (p : Piece). p.inode) sorted w.0 (Contains-permutation pieces sorted w.0 moved w.1))
-
--- ---- what isn't kept
-
-no_row : (o : Option Row) (b : Bool) → (is_some o || b) ≡ false → o ≡ None
-no_row None b e = refl
-no_row (Some row) b e = absurd (cc)
-
-no_faults : (b : Bool) (fs : List Fault) → (b || nat_lt 0 (length fs)) ≡ false → fs ≡ []
-no_faults b [] e = refl
-no_faults b (f ∷ fs) e = absurd (let some : nat_lt 0 (length (f ∷ fs)) ≡ true = grind (arith, nat_tests) in grind (arith, nat_tests))
-
--- The pieces that tell nothing have no row and no fault.
-pub rows_told : (ps : List Piece) → rows_in (told_of ps) ≡ rows_in ps
-rows_told [] = refl
-rows_told (p ∷ ps) = test (is_told p) refl (rows_told ps) where
-  test : (b : Bool) → is_told p ≡ b → rows_in (told_of ps) ≡ rows_in ps → rows_in (cond b (p ∷ told_of ps) (told_of ps)) ≡ rows_in (p ∷ ps)
-  test true e rest = ap (cons_option p.row) rest
-  test false e rest = rest ∙ ap (λ (o : Option Row). cons_option o (rows_in ps)) (sym (no_row p.row (nat_lt 0 (length p.faults.items)) e))
-
-pub faults_told : (ps : List Piece) → faults_in (told_of ps) ≡ faults_in ps
-faults_told [] = refl
-faults_told (p ∷ ps) = test (is_told p) refl (faults_told ps) where
-  test : (b : Bool) → is_told p ≡ b → faults_in (told_of ps) ≡ faults_in ps → faults_in (cond b (p ∷ told_of ps) (told_of ps)) ≡ faults_in (p ∷ ps)
-  test true e rest = ap (λ (fs : List Fault). p.faults.items ++ fs) rest
-  test false e rest = rest ∙ ap (λ (fs : List Fault). fs ++ faults_in ps) (sym (no_faults (is_some p.row) p.faults.items e))

@@ -1,6 +1,6 @@
 -- The parts that a recovery makes, each by itself, and what they make up.
 use Rattle.std.specs.Prelude.{◌≡◌, ℕ, ◌-◌, min, List, [], ◌∷◌, ◌++◌, map, Some}
-use Rattle.std.specs.List.{Contains, flat_map, filter_map}
+use Rattle.std.specs.List.{Contains}
 use Rattle.std.specs.List.Sorted.{IsPermutation}
 use Rattle.nv_blockset.specs.BlockSet.{has}
 use Rattle.nv_region.specs.Region.{Region}
@@ -17,7 +17,7 @@ use Rattle.nv_alloc.specs.FreeValue.{FreeLists}
 use Rattle.nv_alloc.specs.FreeLists.{AreOutside}
 use Rattle.nv_check.specs.nv_scan.Rows.{IsPiece}
 use Rattle.nv_check.specs.nv_scan.Work.{claims_in}
-use Rattle.nv_check.specs.nv_scan.declared.piece.Row.{Row}
+pub use Rattle.nv_check.specs.nv_scan.Work.{rows_in, faults_in}
 use Rattle.nv_check.specs.nv_scan.declared.piece.Piece.{Piece}
 use Rattle.nv_check.specs.Cross.{IsCrossFaultIn}
 use Rattle.nv_check.specs.Doubled.{AreDoubled}
@@ -30,14 +30,6 @@ pub record ArePieces (R : Region) (l : Layout) (pieces : List Piece) : Type 0 wh
   pub rising : Rises piece_key pieces
   pub each : (p : Piece) → Contains pieces p → IsPiece R l p
   pub all : (i a : ℕ) → slot_of l i ≡ Some a → (p : Piece) × Contains pieces p × (p.inode ≡ i)
-
--- the rows of these pieces
-abbrev pub rows_in : List Piece → List Row
-rows_in pieces = filter_map (λ (p : Piece). p.row) pieces
-
--- the inodes' own faults, piece by piece
-abbrev pub faults_in : List Piece → List Fault
-faults_in pieces = flat_map (λ (p : Piece). p.faults.items) pieces
 
 -- the fault of a claim whose block is doubled
 abbrev pub double_fault : ℕ × Owner → Fault

@@ -7,17 +7,20 @@ use Rattle.nv_super.specs.declared.superblock.Super.{Super}
 use Rattle.nv_super.specs.declared.owners.Owner.{Owner}
 use Rattle.nv_super.specs.declared.faults.Fault.{Fault}
 use Rattle.nv_super.specs.Layout.{fixed_layout}
-use Rattle.nv_super.specs.Order.{fault_key, Lists, SortedOf}
+use Rattle.nv_super.specs.Order.{fault_key, SortedOf}
 use Rattle.nv_journal.specs.Undo.{undone}
 use Rattle.nv_alloc.specs.FreeLists.{AreOutside}
 use Rattle.nv_scan.specs.declared.piece.Row.{Row}
-use Rattle.nv_outcome.specs.nv_check.Cross.{IsCrossFaultIn}
+use Rattle.nv_outcome.specs.nv_rows.Rows.{row_key}
 use Rattle.nv_outcome.specs.nv_check.Doubled.{AreDoubled}
 use Rattle.nv_outcome.specs.Outcome.{IsOutcome}
-use Rattle.nv_outcome.specs.Parts.{ArePieces, AreParts, faults_in, double_fault}
+use Rattle.nv_outcome.specs.Parts.{ArePieces, AreParts, rows_in, faults_in, double_fault}
 use Rattle.nv_outcome.specs.Shared.{SharesAll}
+use Rattle.nv_outcome.proofs.RowsOf.{rows_are}
 use Rattle.nv_outcome.proofs.Whole.{parts_outcome}
 use Rattle.nv_outcome.proofs.Shared.{shares_all}
+use Rattle.nv_outcome.proofs.nv_check.SameCross.{same_cross}
+use Rattle.nv_outcome.proofs.nv_rows.InOrder.{rising_stay}
 use Rattle.nv_recover.specs.declared.starting.Started.{Started}
 use Rattle.nv_recover.specs.declared.scanned.Scanned.{Scanned}
 use Rattle.nv_outcome.specs.declared.recovered.Recovered.{Recovered}
@@ -25,15 +28,18 @@ use Rattle.nv_outcome.specs.Answer.{outcome_of, IsAnswer}
 use Rattle.nv_recover.specs.Started.{IsStarted}
 use Rattle.nv_recover.specs.Scanned.{IsScanned, all_told}
 
+-- what is in order of a list is so of the list in another order
+sorted_otherwise : {A : Type 0} (key : A → List ℕ) (given others sorted : List A) → IsPermutation others given → SortedOf key given sorted → SortedOf key others sorted
+sorted_otherwise key given others sorted moved are = record {
+  rising = are.rising;
+  from = λ x c. Contains-permutation given others x (IsPermutation-sym others given moved) (are.from x c);
+  kept = λ x c. are.kept x (Contains-permutation others given x moved c);
+}
+
 -- faults that are told in another order are the same in order
 told_otherwise : (journal own others cross : List Fault) (doubled : List (ℕ × Owner)) (faults : List Fault) → IsPermutation others own → SortedOf fault_key (all_told journal own cross doubled) faults → SortedOf fault_key (all_told journal others cross doubled) faults
-told_otherwise journal own others cross doubled faults moved sorted = record {
-  rising = sorted.rising;
-  from = λ f c. Contains-permutation (all_told journal own cross doubled) (all_told journal others cross doubled) f (IsPermutation-sym (all_told journal others cross doubled) (all_told journal own cross doubled) all) (sorted.from f c);
-  kept = λ f c. sorted.kept f (Contains-permutation (all_told journal others cross doubled) (all_told journal own cross doubled) f all c);
-} where
-  all : IsPermutation (all_told journal others cross doubled) (all_told journal own cross doubled)
-  all = IsPermutation-append_right journal (others ++ (cross ++ map double_fault doubled)) (own ++ (cross ++ map double_fault doubled)) (IsPermutation-append_left (cross ++ map double_fault doubled) others own moved)
+told_otherwise journal own others cross doubled faults moved = sorted_otherwise fault_key (all_told journal own cross doubled) (all_told journal others cross doubled) faults
+    (IsPermutation-append_right journal (others ++ (cross ++ map double_fault doubled)) (own ++ (cross ++ map double_fault doubled)) (IsPermutation-append_left (cross ++ map double_fault doubled) others own moved))
 
 -- the same, told of what is the same
 pub doubled_same : {claims same : List (ℕ × Owner)} {second covers : List ℕ} {found : List (ℕ × Owner)} → claims ≡ same → second ≡ covers → AreDoubled claims second found → AreDoubled same covers found
@@ -42,10 +48,10 @@ doubled_same {found = found} one two are = subst (λ (z : List (ℕ × Owner) ×
 pub told_same : (journal : List Fault) {own own' cross cross' faults : List Fault} {doubled doubled' : List (ℕ × Owner)} → own ≡ own' → cross ≡ cross' → doubled ≡ doubled' → SortedOf fault_key (all_told journal own cross doubled) faults → SortedOf fault_key (all_told journal own' cross' doubled') faults
 told_same journal {faults = faults} one two three are = subst (λ (told : List Fault). SortedOf fault_key told faults) (λ i. all_told journal (one i) (two i) (three i)) are
 
--- What is made of what was scanned: the blocks outside the first set, the claims of the second set, and all faults in order.
+-- What is made of what was scanned: the rows in order, the blocks outside the first set, the claims of the second set, and all faults in order.
 pub record IsMade (o : Started) (x : Scanned) (r : Recovered) : Type 0 where
   pub sup : r.sup ≡ o.sup
-  pub rows : r.rows.items ≡ x.inodes.rows.items
+  pub rows : SortedOf row_key x.inodes.rows.items r.rows.items
   pub numbers : r.rows.sup ≡ o.sup
   pub outside : AreOutside x.claimed.first.items o.sup r.free
   pub owned_twice : AreDoubled x.claimed.claims.items x.claimed.second.items r.doubled.items
@@ -60,13 +66,18 @@ module _ {old new : Region} {o : Started} {x : Scanned} {r : Recovered} (started
     outside = made.outside;
     owned_twice = made.owned_twice;
     in_journals = started.in_journals;
-    between = subst (λ (rows : List Row). Lists fault_key (IsCrossFaultIn rows) x.cross.items) scanned.inodes.rows scanned.cross;
+    between = same_cross (rows_in scanned.pieces) x.inodes.rows.items x.cross.items scanned.inodes.rows scanned.cross;
     all = told_otherwise o.journal.items x.inodes.faults.items (faults_in scanned.pieces) x.cross.items r.doubled.items r.faults.items scanned.inodes.faults made.all;
   }
 
+  -- the rows of the pieces rise, so in order they are that list
+  rows : r.rows.items ≡ rows_in scanned.pieces
+  rows = rising_stay r.rows.items (rows_in scanned.pieces) (rows_are scanned.pieces scanned.inodes.pieces_are).rising
+      (sorted_otherwise row_key x.inodes.rows.items (rows_in scanned.pieces) r.rows.items scanned.inodes.rows made.rows)
+
   outcome : IsOutcome old (outcome_of r)
   outcome = subst (λ (s : Super). IsOutcome old (record { sup = s; rows = r.rows.items; free = r.free.pools; doubled = r.doubled.items; faults = r.faults.items })) (sym made.sup)
-      (subst (λ (rows : List Row). IsOutcome old (record { sup = o.sup; rows = rows; free = r.free.pools; doubled = r.doubled.items; faults = r.faults.items })) (sym (made.rows ∙ scanned.inodes.rows)) (parts_outcome started.sup parts))
+      (subst (λ (rows : List Row). IsOutcome old (record { sup = o.sup; rows = rows; free = r.free.pools; doubled = r.doubled.items; faults = r.faults.items })) (sym rows) (parts_outcome started.sup parts))
 
   rolled_back : new ≡ undone r.sup old
   rolled_back = started.rolled_back ∙ ap (λ (s : Super). undone s old) (sym made.sup)

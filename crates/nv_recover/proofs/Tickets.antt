@@ -1,11 +1,10 @@
 -- The tickets of a replay, one after another.
-use Rattle.std.proofs.Common.{◌≡◌, ℕ, ◌+◌, List, [], ◌∷◌, ◌++◌, length, Option, ap, sym, ◌∙◌, subst, append-nil, append_assoc, arith}
+use Rattle.std.proofs.Common.{◌≡◌, ℕ, ◌+◌, List, [], ◌∷◌, ◌++◌, length, Option, ap, sym, ◌∙◌, subst, append-nil, arith}
 use Rattle.std.specs.Prelude.{Vec}
 use Rattle.std.specs.declared.alloc.Global.{Global}
 use Rattle.std.specs.List.{cons_option, range_with_len}
 use Rattle.std.proofs.lemmas.Grind.{flat_map-append}
 use Rattle.std.proofs.lemmas.List.{length-append}
-use Rattle.std.proofs.lemmas.List.Elements.{filter_map-append}
 use Rattle.nv_region.specs.Region.{Region}
 use Rattle.nv_super.proofs.Ranges.{one_more}
 use Rattle.nv_super.specs.declared.superblock.Super.{Super}
@@ -15,15 +14,10 @@ use Rattle.nv_scan.specs.Tickets.{numbers_to, numbers_of}
 use Rattle.nv_scan.specs.Work.{numbers_in, claims_in, ArePiecesOf}
 use Rattle.nv_scan.specs.declared.piece.Row.{Row}
 use Rattle.nv_scan.specs.declared.piece.Piece.{Piece}
-use Rattle.nv_scan.proofs.Work.{AtSlot, claims_join, pieces_none, pieces_join}
+use Rattle.nv_scan.proofs.Work.{AtSlot, behind, claims_join, rows_join, faults_join, pieces_none, pieces_join}
 use Rattle.nv_outcome.specs.Parts.{rows_in, faults_in}
-use Rattle.nv_outcome.proofs.Tickets.{rows_told, faults_told}
 use Rattle.nv_recover.specs.declared.scanned.Inodes.{Inodes}
 use Rattle.nv_recover.specs.Scanned.{AreNext, AreOfTickets, all_claims}
-
--- what stands behind both
-behind : {A : Type 0} (old ps qs : List A) {mid new all : List A} → mid ≡ old ++ ps → new ≡ mid ++ qs → all ≡ ps ++ qs → new ≡ old ++ all
-behind old ps qs first second both = second ∙ ap (λ xs. xs ++ qs) first ∙ append_assoc old ps qs ∙ ap (λ xs. old ++ xs) (sym both)
 
 module _ {R : Region} {s : Super} where
   -- ---- the slots of one ticket
@@ -38,9 +32,9 @@ module _ {R : Region} {s : Super} where
     pieces = next.pieces ++ at.pieces;
     are = pieces_join next.are at.are;
     rows = behind old.rows.items (rows_in next.pieces) (rows_in (cons_option o [])) next.rows rows
-        (filter_map-append (λ (p : Piece). p.row) next.pieces at.pieces ∙ ap (λ (rs : List Row). rows_in next.pieces ++ rs) (sym (rows_told at.pieces) ∙ ap rows_in at.told));
+        (rows_join next.pieces at.pieces ∙ ap (λ (rs : List Row). rows_in next.pieces ++ rs) at.rows);
     faults = behind old.faults.items (faults_in next.pieces) (faults_in (cons_option o [])) next.faults faults
-        (flat_map-append (λ (p : Piece). p.faults.items) next.pieces at.pieces ∙ ap (λ (fs : List Fault). faults_in next.pieces ++ fs) (sym (faults_told at.pieces) ∙ ap faults_in at.told));
+        (faults_join next.pieces at.pieces ∙ ap (λ (fs : List Fault). faults_in next.pieces ++ fs) at.faults);
     claims_are = claims ∙ (λ i. next.claims_are i ++ sym at.claims i) ∙ sym (claims_join next.pieces at.pieces);
   }
 
@@ -58,8 +52,8 @@ module _ {R : Region} {s : Super} where
   tickets_more t {old} {new} {work} {all} list first next is = subst (λ (ts : List ℕ). AreOfTickets R s ts new all) (one_more 0 t) record {
     pieces = first.pieces ++ next.pieces;
     are = subst (λ (ns : List ℕ). ArePiecesOf R s ns (first.pieces ++ next.pieces)) (sym inodes) (pieces_join first.are next.are);
-    rows = behind [] (rows_in first.pieces) (rows_in next.pieces) first.rows next.rows (filter_map-append (λ (p : Piece). p.row) first.pieces next.pieces);
-    faults = behind [] (faults_in first.pieces) (faults_in next.pieces) first.faults next.faults (flat_map-append (λ (p : Piece). p.faults.items) first.pieces next.pieces);
+    rows = behind [] (rows_in first.pieces) (rows_in next.pieces) first.rows next.rows (rows_join first.pieces next.pieces);
+    faults = behind [] (faults_in first.pieces) (faults_in next.pieces) first.faults next.faults (faults_join first.pieces next.pieces);
     lists_are = ap length is ∙ length-append work (list ∷ []) ∙ ap (λ (n : ℕ). n + 1) first.lists_are ∙ sym (length-append (range_with_len 0 t) ((0 + t) ∷ []));
     claims_are = ap all_claims is ∙ flat_map-append (λ (v : Vec (ℕ × Owner) Global). v.items) work (list ∷ []) ∙ (λ i. first.claims_are i ++ append-nil (next.claims_are i) i) ∙ sym (claims_join first.pieces next.pieces);
   } where

@@ -8,25 +8,26 @@ use Rattle.nv_region.specs.Region.{Region}
 use Rattle.nv_super.specs.declared.superblock.Super.{Super}
 use Rattle.nv_super.specs.declared.owners.Owner.{Owner}
 use Rattle.nv_super.specs.declared.faults.Fault.{Fault}
-use Rattle.nv_super.specs.Layout.{is_number, fixed_layout}
-use Rattle.nv_super.specs.Order.{fault_key, Lists, Rises}
+use Rattle.nv_super.specs.Layout.{inode_limit, is_number, fixed_layout}
+use Rattle.nv_super.specs.Order.{fault_key, Lists}
 use Rattle.nv_claimcore.specs.Finished.{works_of}
 use Rattle.nv_claimmap.specs.declared.map.Claimed.{Claimed}
 use Rattle.nv_scan.specs.Rows.{IsPiece}
 use Rattle.nv_scan.specs.Work.{numbers_in, claims_in, ArePiecesOf}
 use Rattle.nv_scan.specs.declared.piece.Row.{Row}
 use Rattle.nv_scan.specs.declared.piece.Piece.{Piece}
-use Rattle.nv_outcome.specs.nv_check.Cross.{row_key, IsCrossFaultIn}
+use Rattle.nv_outcome.specs.nv_rows.nv_numbered.Values.{AreNumbersBelow}
+use Rattle.nv_outcome.specs.nv_check.Cross.{IsCrossFaultIn}
 use Rattle.nv_outcome.specs.Parts.{ArePieces, AreMaps, rows_in, faults_in, double_fault}
 use Rattle.nv_recover.specs.declared.scanned.Inodes.{Inodes}
 use Rattle.nv_recover.specs.declared.scanned.Scanned.{Scanned}
 
 -- ---- the inodes by themselves
 
--- The pieces are those of all inodes of the region; kept are their rows, rising by number, and their faults, in any order.
+-- The pieces are those of all inodes of the region; kept are their rows and their faults, in any order.
 pub record AreInodes (R : Region) (s : Super) (pieces : List Piece) (x : Inodes) : Type 0 where
   pub pieces_are : ArePieces R (fixed_layout s) pieces
-  pub rows : x.rows.items ≡ rows_in pieces
+  pub rows : IsPermutation (rows_in pieces) x.rows.items
   pub faults : IsPermutation (faults_in pieces) x.faults.items
 
 -- A piece of this inode: its row and its faults were put behind the others, and its claims are these.
@@ -66,9 +67,9 @@ pub record AreFirst (R : Region) (s : Super) (number : ℕ) (pieces : List Piece
   pub rows : x.rows.items ≡ rows_in pieces
   pub faults : x.faults.items ≡ faults_in pieces
 
--- Rows that rise by inode, each of a number that an inode can have.
-pub record AreOrdered (s : Super) (rows : List Row) : Type 0 where
-  pub rising : Rises row_key rows
+-- Rows of numbers that an inode can have, no two of one inode.
+pub record AreApart (s : Super) (rows : List Row) : Type 0 where
+  pub apart : AreNumbersBelow (inode_limit s) (map (λ (r : Row). r.inode) rows)
   pub numbers : All (λ (r : Row). IsTrue (is_number s r.inode)) rows
 
 -- ---- what they claim

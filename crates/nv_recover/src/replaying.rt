@@ -96,7 +96,7 @@ fn scan_by_schedule<P: Pmem>(
     })
 }
 
-// Scans the inodes of each ticket, and keeps a list of claims for each. The rows are put in order then.
+// Scans the inodes of each ticket, and keeps a list of claims for each.
 fn scan_apart<P: Pmem>(
     alloc: Global,
     memory: &P,
@@ -114,7 +114,6 @@ fn scan_apart<P: Pmem>(
         let list = scan_ticket(alloc, memory, &mut scanner, &mut inodes, ticket)?;
         work.push(list)?;
     }
-    inodes.sort_rows()?;
     Ok((inodes, work))
 }
 

@@ -1,10 +1,7 @@
 //! What a scan of all inodes gives, whichever way it goes.
 
 ghost use Rattle.std.specs.Prelude.{◌≡◌, ◌++◌, [], OnOk};
-ghost use Rattle.std.specs.Ordering.{nat_cmp};
 ghost use Rattle.std.specs.List.{cons_option};
-ghost use Rattle.std.specs.List.Sorted.{IsPermutation, IsSortedByKey};
-ghost use Rattle.nv_scan.specs.declared.piece.Row.{Row as RowValue};
 
 use nv_claimmap::Claimed;
 use nv_scan::Row;
@@ -40,13 +37,13 @@ impl Inodes {
         self.faults.extend_from_slice(faults)
     }
 
-    /// Puts the rows in the order of their inodes. The sort is stable, so it merges what rises already.
-    pub fn sort_rows(&mut self) -> Result<(), AllocError>
-        ensures same { OnOk result (IsPermutation self.old.rows.items self.new.rows.items) }
-        ensures sorted { OnOk result (IsSortedByKey (λ (r : RowValue). r.inode) nat_cmp self.new.rows.items) }
-        ensures faults { OnOk result (self.new.faults ≡ self.old.faults) }
+    /// Puts what others found behind what is there.
+    pub fn append(&mut self, mut other: Inodes) -> Result<(), AllocError>
+        ensures rows { OnOk result (self.new.rows.items ≡ self.old.rows.items ++ other.rows.items) }
+        ensures faults { OnOk result (self.new.faults.items ≡ self.old.faults.items ++ other.faults.items) }
     {
-        self.rows.sort_by_key(|row| row.inode)
+        self.rows.append(&mut other.rows)?;
+        self.faults.append(&mut other.faults)
     }
 }
 

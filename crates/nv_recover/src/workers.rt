@@ -1,6 +1,6 @@
 //! The inodes are scanned by workers on threads of their own, and what they bring is put together.
 
-ghost use Rattle.std.specs.Prelude.{◌≡◌, ◌<◌, ◌≤◌, ◌++◌, List, IfOk, OnOk, false, vec_len};
+ghost use Rattle.std.specs.Prelude.{◌≡◌, ◌<◌, ◌≤◌, List, IfOk, false, vec_len};
 ghost use Rattle.std.specs.List.{All};
 ghost use Rattle.nv_region.specs.Region.{HasBlocks};
 ghost use Rattle.nv_super.specs.Layout.{IsLayout};
@@ -8,7 +8,6 @@ ghost use Rattle.nv_claimcore.specs.Claims.{nothing};
 ghost use Rattle.nv_scan.specs.Tickets.{ticket_count};
 ghost use Rattle.nv_scan.specs.Work.{Returned};
 ghost use Rattle.nv_scan.specs.declared.piece.Piece.{Piece as PieceValue};
-ghost use Rattle.nv_outcome.specs.Parts.{rows_in, faults_in};
 ghost use Rattle.nv_recover.specs.Scanned.{AreInodes, AreClaimed};
 ghost use Rattle.nv_recover.specs.Workers.{IsBrought};
 
@@ -16,7 +15,7 @@ use crate::scanned::Inodes;
 use nv_claimcore::Sizes;
 use nv_claimmap::{ClaimMap, ClaimSeat, Claimed};
 use nv_region::Pmem;
-use nv_scan::{Gate, Piece, WorkerResult, ticket_count, worker};
+use nv_scan::{Gate, WorkerResult, ticket_count, worker};
 use nv_super::Super;
 use std::alloc::{AllocError, Global};
 use std::thread;
@@ -52,8 +51,7 @@ pub(crate) fn scan_by_workers<P: Pmem + Sync, G: Gate + Sync, H: Threads + Sync>
             ensures { Returned (P.region memory.entry.now) sup.entry.now map result }
         { worker(alloc, memory, sup, &map, seat, gate) },
     )?;
-    let mut brought = join_all(alloc, memory, sup, &map, results)?;
-    brought.inodes.sort_rows()?;
+    let brought = join_all(memory, sup, &map, results)?;
     Ok((brought.inodes, map.close(brought.seat)))
 }
 
@@ -64,9 +62,8 @@ pub(crate) struct Brought {
     pub inodes: Inodes,
 }
 
-// Joins the seats, and moves what was scanned together.
+// Joins the seats, and moves what was scanned together: behind the rows and faults of one worker go those of the others.
 fn join_all<P: Pmem>(
-    alloc: Global,
     _memory: &P,
     _sup: &Super,
     map: &ClaimMap,
@@ -79,10 +76,11 @@ fn join_all<P: Pmem>(
     let Some(first) = results.pop() else {
         unreachable!()
     };
-    let mut inodes = Inodes::new(alloc);
-    let mut seat = take_apart(&mut inodes, first)?;
+    let (mut seat, mut inodes) = take_apart(first)?;
+    inodes.rows.reserve(row_count(&results))?;
     while let Some(next) = results.pop() {
-        let other = take_apart(&mut inodes, next)?;
+        let (other, more) = take_apart(next)?;
+        inodes.append(more)?;
         match map.join(seat, other) {
             Ok(both) => seat = both,
             Err(_) => return Err(AllocError),
@@ -91,31 +89,30 @@ fn join_all<P: Pmem>(
     Ok(Brought { seat, inodes })
 }
 
-// Moves what a worker scanned behind what is there, and hands its seat on. A refused worker's work isn't whole, so there
-// is no answer then. The pieces' own claims are the seat's too.
-fn take_apart(inodes: &mut Inodes, work: WorkerResult) -> Result<ClaimSeat, AllocError>
+// How many rows these workers bring: so much room is made at once.
+fn row_count(results: &[WorkerResult]) -> usize {
+    let mut count = 0usize;
+    for work in results {
+        count = count.saturating_add(work.rows.len());
+    }
+    count
+}
+
+// A worker's seat, and what it scanned. A refused worker's work isn't whole, so there is no answer then.
+fn take_apart(work: WorkerResult) -> Result<(ClaimSeat, Inodes), AllocError>
     ensures whole { IfOk result (λ _. work.refused ≡ false) }
-    ensures seat { IfOk result (λ seat. seat ≡ work.seat) }
-    ensures rows { OnOk result (inodes.new.rows.items ≡ inodes.old.rows.items ++ rows_in work.pieces.items) }
-    ensures faults { OnOk result (inodes.new.faults.items ≡ inodes.old.faults.items ++ faults_in work.pieces.items) }
+    ensures seat { IfOk result (λ r. r.0 ≡ work.seat) }
+    ensures rows { IfOk result (λ r. r.1.rows ≡ work.rows) }
+    ensures faults { IfOk result (λ r. r.1.faults ≡ work.faults) }
 {
     if work.refused {
         return Err(AllocError);
     }
     let WorkerResult {
         seat,
-        pieces,
+        rows,
+        faults,
         refused: _,
     } = work;
-    inodes.rows.reserve(pieces.len())?;
-    for piece in pieces {
-        let Piece {
-            inode: _,
-            row,
-            claims: _,
-            faults,
-        } = piece;
-        inodes.push(row, &faults)?;
-    }
-    Ok(seat)
+    Ok((seat, Inodes { rows, faults }))
 }

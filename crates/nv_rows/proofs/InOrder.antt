@@ -1,10 +1,13 @@
 -- For callers of `from_rows`: rows that rise already.
 use Rattle.std.proofs.Common.{◌≡◌, ℕ, zero, suc, ◌<◌, List, ◌∷◌, [], length, get_or, arith, Contains}
+use Rattle.std.specs.List.Sorted.{IsPermutation}
+use Rattle.std.proofs.lemmas.List.Sorted.{IsPermutation-map}
 use Rattle.nv_super.specs.Order.{Rises, SortedOf}
 use Rattle.nv_super.proofs.Rising.{Contains-head, Contains-tail, head_least, tail_rises, Lists-only}
 use Rattle.nv_scan.specs.declared.piece.Row.{Row}
 use Rattle.nv_scan.proofs.RowKeys.{key_less}
 use Rattle.nv_numbered.specs.Values.{AreNumbersBelow}
+use Rattle.nv_numbered.proofs.Permuted.{numbers_permute}
 use Rattle.nv_rows.specs.Rows.{row_key, inodes_of}
 
 -- what holds of each row's number
@@ -28,6 +31,11 @@ rising_given limit rows up each =
       below = holds_at (λ n. n < limit) rows each;
       once = λ j k order inside same. let less = less_at rows up j k order inside in absurd (omega (arith, less, same));
     }
+
+-- in another order too
+pub moved_given : (limit : ℕ) (rows given : List Row) → Rises row_key rows → ((row : Row) → Contains rows row → row.inode < limit) → IsPermutation rows given → AreNumbersBelow limit (inodes_of given)
+moved_given limit rows given up each moved =
+    numbers_permute limit (inodes_of rows) (inodes_of given) (IsPermutation-map (λ (row : Row). row.inode) rows given moved) (rising_given limit rows up each)
 
 -- and stay the list that they were
 pub rising_stay : (rows given : List Row) → Rises row_key given → SortedOf row_key given rows → rows ≡ given

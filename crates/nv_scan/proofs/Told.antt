@@ -1,5 +1,5 @@
 -- Inodes of which nothing is to be told, and pieces that tell something.
-use Rattle.std.proofs.Common.{◌≡◌, ◌≢◌, ℕ, inl, inr, ◌^◌, ◌<◌, ◌||◌, true, false, nat_lt, IsTrue, List, [], length, Option, Some, None, refl, ap, sym, ◌∙◌, subst, arith}
+use Rattle.std.proofs.Common.{◌≡◌, ◌≢◌, ℕ, inl, inr, ◌^◌, ◌<◌, ◌||◌, true, nat_lt, IsTrue, List, [], length, Option, Some, None, refl, ap, sym, ◌∙◌, subst, arith}
 use Rattle.std.specs.Option.{MatchOption}
 use Rattle.std.specs.Prelude.{is_some}
 use Rattle.std.specs.List.{Contains}
@@ -49,7 +49,7 @@ abbrev blank : ℕ → Piece
 blank i = record { inode = i; row = None; claims = vec_of [] no_claims; faults = vec_of [] no_faults }
 
 -- it is that of such an inode
-pub blank_piece : (R : Region) (l : Layout) (i : ℕ) → IsBlank R l i → (p : Piece) × (p.inode ≡ i) × IsPiece R l p × (p.claims.items ≡ []) × (is_told p ≡ false)
+pub blank_piece : (R : Region) (l : Layout) (i : ℕ) → IsBlank R l i → (p : Piece) × (p.inode ≡ i) × IsPiece R l p × (p.claims.items ≡ []) × (p.row ≡ None) × (p.faults.items ≡ [])
 blank_piece R l i none = (
   blank i,
   refl,
@@ -66,7 +66,8 @@ blank_piece R l i none = (
     };
   },
   vec_items [] no_claims,
-  ap (λ (fs : List Fault). nat_lt 0 (length fs)) (vec_items [] no_faults),
+  refl,
+  vec_items [] no_faults,
 )
 
 module _ (R : Region) (s : Super) (i : ℕ) (layout : IsLayout s) (number : IsTrue (is_number s i)) where

@@ -4,11 +4,12 @@ use Rattle.std.specs.List.{AllByRecursion, cons_option}
 use Rattle.std.proofs.lemmas.Bool.Decides.{nat_tests}
 use Rattle.std.proofs.lemmas.Grind.{flat_map-append}
 use Rattle.std.proofs.lemmas.List.{map-append}
-use Rattle.std.proofs.lemmas.List.Elements.{filter-append}
+use Rattle.std.proofs.lemmas.List.Elements.{filter-append, filter_map-append}
 use Rattle.std.proofs.lemmas.List.FromFn.{filter_of_map_range_with_len_more}
 use Rattle.nv_region.specs.Region.{Region}
 use Rattle.nv_super.specs.declared.superblock.Super.{Super}
 use Rattle.nv_super.specs.declared.owners.Owner.{Owner}
+use Rattle.nv_super.specs.declared.faults.Fault.{Fault}
 use Rattle.nv_super.specs.Layout.{fixed_layout}
 use Rattle.nv_claimmap.specs.nv_claimcore.declared.view.View.{View}
 use Rattle.nv_claimmap.specs.nv_claimcore.Claims.{above, with_number, nothing, both_views}
@@ -18,8 +19,9 @@ use Rattle.nv_claimmap.proofs.nv_claimcore.Runs.{adds_none}
 use Rattle.nv_claimmap.proofs.Seats.{fewer_left}
 use Rattle.nv_inode.proofs.Slots.{number_above}
 use Rattle.nv_scan.specs.Rows.{IsPiece}
-use Rattle.nv_scan.specs.Tickets.{ticket_count, number_at, numbers_to, numbers_of, is_told, told_of, IsFound}
-use Rattle.nv_scan.specs.Work.{tickets_among, numbers_in, claims_in, ArePiecesOf, IsWork, IsDone}
+use Rattle.nv_scan.specs.Tickets.{ticket_count, number_at, numbers_to, numbers_of, IsFound}
+use Rattle.nv_scan.specs.Work.{tickets_among, numbers_in, claims_in, rows_in, faults_in, ArePiecesOf, IsWork, IsDone}
+use Rattle.nv_scan.specs.declared.piece.Row.{Row}
 use Rattle.nv_scan.specs.declared.piece.Piece.{Piece}
 use Rattle.nv_scan.proofs.Runs.{adds_both}
 use Rattle.nv_scan.proofs.Told.{blank_piece}
@@ -32,22 +34,28 @@ AllByRecursion-append P (x ∷ xs) ys p q = (p.0, AllByRecursion-append P xs ys 
 pub claims_join : (ps qs : List Piece) → claims_in (ps ++ qs) ≡ claims_in ps ++ claims_in qs
 claims_join ps qs = flat_map-append (λ (p : Piece). p.claims.items) ps qs
 
--- of one piece
-told_one : (p : Piece) (b : Bool) → is_told p ≡ b → told_of (p ∷ []) ≡ cond b (p ∷ []) []
-told_one p true e = ap (λ (b : Bool). cond b (p ∷ []) []) e
-told_one p false e = ap (λ (b : Bool). cond b (p ∷ []) []) e
+pub rows_join : (ps qs : List Piece) → rows_in (ps ++ qs) ≡ rows_in ps ++ rows_in qs
+rows_join ps qs = filter_map-append (λ (p : Piece). p.row) ps qs
+
+pub faults_join : (ps qs : List Piece) → faults_in (ps ++ qs) ≡ faults_in ps ++ faults_in qs
+faults_join ps qs = flat_map-append (λ (p : Piece). p.faults.items) ps qs
+
+-- what stands behind both
+pub behind : {A : Type 0} (old ps qs : List A) {mid new all : List A} → mid ≡ old ++ ps → new ≡ mid ++ qs → all ≡ ps ++ qs → new ≡ old ++ all
+behind old ps qs first second both = second ∙ ap (λ xs. xs ++ qs) first ∙ append_assoc old ps qs ∙ ap (λ xs. old ++ xs) (sym both)
 
 -- the numbers of one slot more
 numbers_more : (s : Super) (t k m : ℕ) (b : Bool) → 32 * t + k ≡ m → nat_lt 0 (number_at s m) ≡ b → numbers_to s t (k + 1) ≡ numbers_to s t k ++ cond b (number_at s m ∷ []) []
 numbers_more s t k m b here e = filter_of_map_range_with_len_more (λ i. nat_lt 0 i) (number_at s) (32 * t) k m here ∙ ap (λ (b : Bool). numbers_to s t k ++ cond b (number_at s m ∷ []) []) e
 
--- What one slot more adds: the number of its inode, but for number 0, with a piece, of which that is kept which is found.
+-- What one slot more adds: the number of its inode, but for number 0, with a piece, whose row, faults and claims are those of what is found.
 pub record AtSlot (R : Region) (s : Super) (t k : ℕ) (o : Option Piece) : Type 0 where
   pub numbers : List ℕ
   pub more : numbers_to s t (k + 1) ≡ numbers_to s t k ++ numbers
   pub pieces : List Piece
   pub are : ArePiecesOf R s numbers pieces
-  pub told : told_of pieces ≡ cons_option o []
+  pub rows : rows_in pieces ≡ rows_in (cons_option o [])
+  pub faults : faults_in pieces ≡ faults_in (cons_option o [])
   pub claims : claims_in pieces ≡ claims_in (cons_option o [])
 
 module _ {R : Region} {s : Super} where
@@ -67,16 +75,18 @@ module _ {R : Region} {s : Super} where
 
   -- ---- some inodes are done
 
-  pub done_none : {v : View} {old : List Piece} → IsDone R s [] v v old old
-  done_none {v} {old} = record { pieces = []; are = pieces_none; claims = adds_none v; told = sym (append-nil old) }
+  pub done_none : {v : View} {rows : List Row} {faults : List Fault} → IsDone R s [] v v rows rows faults faults
+  done_none {v} {rows} {faults} = record { pieces = []; are = pieces_none; claims = adds_none v; rows_are = sym (append-nil rows); faults_are = sym (append-nil faults) }
 
   -- those, and then the others
-  done_join : {ns ms : List ℕ} {v u w : View} {old mid new : List Piece} → IsDone R s ns v u old mid → IsDone R s ms u w mid new → IsDone R s (ns ++ ms) v w old new
-  done_join {v = v} {u = u} {w = w} {old = old} p q = record {
+  done_join : {ns ms : List ℕ} {v u w : View} {old mid new : List Row} {before between after : List Fault} → IsDone R s ns v u old mid before between → IsDone R s ms u w mid new between after
+      → IsDone R s (ns ++ ms) v w old new before after
+  done_join {v = v} {u = u} {w = w} {old = old} {before = before} p q = record {
     pieces = p.pieces ++ q.pieces;
     are = pieces_join p.are q.are;
     claims = subst (λ (cs : List (ℕ × Owner)). Adds cs v w) (sym (claims_join p.pieces q.pieces)) (adds_both (claims_in p.pieces) (claims_in q.pieces) v u w p.claims q.claims);
-    told = q.told ∙ ap (λ (xs : List Piece). xs ++ told_of q.pieces) p.told ∙ append_assoc old (told_of p.pieces) (told_of q.pieces) ∙ ap (λ (xs : List Piece). old ++ xs) (sym (filter-append is_told p.pieces q.pieces));
+    rows_are = behind old (rows_in p.pieces) (rows_in q.pieces) p.rows_are q.rows_are (rows_join p.pieces q.pieces);
+    faults_are = behind before (faults_in p.pieces) (faults_in q.pieces) p.faults_are q.faults_are (faults_join p.pieces q.pieces);
   }
 
   -- ---- the slots of a ticket, one after another
@@ -87,7 +97,8 @@ module _ {R : Region} {s : Super} where
     more = numbers_more s t k m true here (grind (arith, nat_tests));
     pieces = p ∷ [];
     are = one_piece p found.0 found.2;
-    told = told_one p true found.3;
+    rows = refl;
+    faults = refl;
     claims = refl;
   }
   at_slot t k m None here found = test (nat_lt 0 (number_at s m)) refl where
@@ -97,35 +108,40 @@ module _ {R : Region} {s : Super} where
       more = numbers_more s t k m true here e;
       pieces = p.0 ∷ [];
       are = one_piece p.0 p.1 p.2;
-      told = told_one p.0 false p.4;
+      rows = ap (λ (o : Option Row). cons_option o []) p.4;
+      faults = append-nil p.0.faults.items ∙ p.5;
       claims = append-nil p.0.claims.items ∙ p.3;
     }
-    test false e = record { numbers = []; more = numbers_more s t k m false here e; pieces = []; are = pieces_none; told = refl; claims = refl }
+    test false e = record { numbers = []; more = numbers_more s t k m false here e; pieces = []; are = pieces_none; rows = refl; faults = refl; claims = refl }
 
-  slot_done : {t k : ℕ} {o : Option Piece} {v u w : View} {old mid new : List Piece} → AtSlot R s t k o → IsDone R s (numbers_to s t k) v u old mid → Adds (claims_in (cons_option o [])) u w → new ≡ mid ++ cons_option o []
-      → IsDone R s (numbers_to s t (k + 1)) v w old new
-  slot_done {v = v} {u = u} {w = w} {old = old} {mid = mid} {new = new} at done adds kept = subst (λ (ns : List ℕ). IsDone R s ns v w old new) (sym at.more) (done_join done record {
-    pieces = at.pieces;
-    are = at.are;
-    claims = subst (λ (cs : List (ℕ × Owner)). Adds cs u w) (sym at.claims) adds;
-    told = kept ∙ ap (λ (xs : List Piece). mid ++ xs) (sym at.told);
-  })
+  slot_done : {t k : ℕ} {o : Option Piece} {v u w : View} {old mid new : List Row} {before between after : List Fault} → AtSlot R s t k o → IsDone R s (numbers_to s t k) v u old mid before between
+      → Adds (claims_in (cons_option o [])) u w → new ≡ mid ++ rows_in (cons_option o []) → after ≡ between ++ faults_in (cons_option o []) → IsDone R s (numbers_to s t (k + 1)) v w old new before after
+  slot_done {v = v} {u = u} {w = w} {old = old} {mid = mid} {new = new} {before = before} {between = between} {after = after} at done adds rows faults =
+      subst (λ (ns : List ℕ). IsDone R s ns v w old new before after) (sym at.more) (done_join done record {
+        pieces = at.pieces;
+        are = at.are;
+        claims = subst (λ (cs : List (ℕ × Owner)). Adds cs u w) (sym at.claims) adds;
+        rows_are = rows ∙ ap (λ (rs : List Row). mid ++ rs) (sym at.rows);
+        faults_are = faults ∙ ap (λ (fs : List Fault). between ++ fs) (sym at.faults);
+      })
 
-  -- a slot whose inode's piece is kept
-  pub slot_kept : (t k m : ℕ) {v u w : View} {old mid new : List Piece} (p : Piece) → 32 * t + k ≡ m → IsFound R s (number_at s m) (Some p)
-      → IsDone R s (numbers_to s t k) v u old mid → Adds p.claims.items u w → new ≡ mid ++ p ∷ [] → IsDone R s (numbers_to s t (k + 1)) v w old new
-  slot_kept t k m {u = u} {w = w} p here found done adds kept =
-      slot_done (at_slot t k m (Some p) here found) done (subst (λ (cs : List (ℕ × Owner)). Adds cs u w) (sym (append-nil p.claims.items)) adds) kept
+  -- a slot of whose inode a piece is found
+  pub slot_kept : (t k m : ℕ) {v u w : View} {old mid new : List Row} {before between after : List Fault} (p : Piece) → 32 * t + k ≡ m → IsFound R s (number_at s m) (Some p)
+      → IsDone R s (numbers_to s t k) v u old mid before between → Adds p.claims.items u w → new ≡ mid ++ cons_option p.row [] → after ≡ between ++ p.faults.items
+      → IsDone R s (numbers_to s t (k + 1)) v w old new before after
+  slot_kept t k m {u = u} {w = w} {between = between} p here found done adds rows faults =
+      slot_done (at_slot t k m (Some p) here found) done (subst (λ (cs : List (ℕ × Owner)). Adds cs u w) (sym (append-nil p.claims.items)) adds) rows
+      (faults ∙ ap (λ (fs : List Fault). between ++ fs) (sym (append-nil p.faults.items)))
 
   -- a slot of which nothing is told
-  pub slot_blank : (t k m : ℕ) {v u : View} {old mid : List Piece} → 32 * t + k ≡ m → IsFound R s (number_at s m) None
-      → IsDone R s (numbers_to s t k) v u old mid → IsDone R s (numbers_to s t (k + 1)) v u old mid
-  slot_blank t k m {u = u} {mid = mid} here found done = slot_done (at_slot t k m None here found) done (adds_none u) (sym (append-nil mid))
+  pub slot_blank : (t k m : ℕ) {v u : View} {old mid : List Row} {before between : List Fault} → 32 * t + k ≡ m → IsFound R s (number_at s m) None
+      → IsDone R s (numbers_to s t k) v u old mid before between → IsDone R s (numbers_to s t (k + 1)) v u old mid before between
+  slot_blank t k m {u = u} {mid = mid} {between = between} here found done = slot_done (at_slot t k m None here found) done (adds_none u) (sym (append-nil mid)) (sym (append-nil between))
 
   -- all slots of its table block
-  pub all_slots : (t k : ℕ) {v w : View} {old new : List Piece} → k ≡ 32 → IsDone R s (numbers_to s t k) v w old new → IsDone R s (numbers_of s t) v w old new
+  pub all_slots : (t k : ℕ) {v w : View} {old new : List Row} {before after : List Fault} → k ≡ 32 → IsDone R s (numbers_to s t k) v w old new before after → IsDone R s (numbers_of s t) v w old new before after
   unfolding numbers_of
-  all_slots t k {v} {w} {old} {new} all done = subst (λ (n : ℕ). IsDone R s (numbers_to s t n) v w old new) all done
+  all_slots t k {v} {w} {old} {new} {before} {after} all done = subst (λ (n : ℕ). IsDone R s (numbers_to s t n) v w old new before after) all done
 
 -- ---- the tickets, one after another
 
@@ -138,23 +154,25 @@ among_more : (tickets : ℕ) (ns : List ℕ) (n : ℕ) (b : Bool) → nat_lt n t
 among_more tickets ns n b h = filter-append (λ (m : ℕ). nat_lt m tickets) ns (n ∷ []) ∙ ap (λ (ms : List ℕ). tickets_among tickets ns ++ ms) (among_one tickets n b h)
 
 -- no work was done
-pub work_none : (R : Region) (s : Super) (v : View) (kept : List Piece) → v ≡ nothing 1 → kept ≡ [] → IsWork R s v kept
-work_none R s v kept is none = rw (is, none) record { pieces = []; are = pieces_none; claims = refl; told = refl }
+pub work_none : (R : Region) (s : Super) (v : View) (rows : List Row) (faults : List Fault) → v ≡ nothing 1 → rows ≡ [] → faults ≡ [] → IsWork R s v rows faults
+work_none R s v rows faults is no_rows no_faults = rw (is, no_rows, no_faults) record { pieces = []; are = pieces_none; claims = refl; rows_are = refl; faults_are = refl }
 
 -- a number past the end is no work
-pub work_past : (R : Region) (s : Super) (v w : View) (kept : List Piece) (n : ℕ) → IsWork R s v kept → ticket_count s ≤ n → w ≡ with_number v n → IsWork R s w kept
-work_past R s v w kept n work past is =
+pub work_past : (R : Region) (s : Super) (v w : View) (rows : List Row) (faults : List Fault) (n : ℕ) → IsWork R s v rows faults → ticket_count s ≤ n → w ≡ with_number v n → IsWork R s w rows faults
+work_past R s v w rows faults n work past is =
     let not_below : nat_lt n (ticket_count s) ≡ false = grind (arith, nat_tests, past) in
-    subst (λ (u : View). IsWork R s u kept) (sym is) record {
+    subst (λ (u : View). IsWork R s u rows faults) (sym is) record {
       pieces = work.pieces;
       are = subst (λ (ts : List ℕ). ArePiecesOf R s (numbers_in s ts) work.pieces) (sym (append-nil (tickets_among (ticket_count s) v.numbers)) ∙ sym (among_more (ticket_count s) v.numbers n false not_below)) work.are;
       claims = work.claims;
-      told = work.told;
+      rows_are = work.rows_are;
+      faults_are = work.faults_are;
     }
 
 -- the work of one ticket more
-pub work_more : (R : Region) (s : Super) (v u w : View) (old new : List Piece) (t : ℕ) → IsWork R s v old → t < ticket_count s → u ≡ with_number v t → IsDone R s (numbers_of s t) u w old new → IsWork R s w new
-work_more R s v u w old new t work low is done =
+pub work_more : (R : Region) (s : Super) (v u w : View) (old new : List Row) (before after : List Fault) (t : ℕ) → IsWork R s v old before → t < ticket_count s → u ≡ with_number v t
+    → IsDone R s (numbers_of s t) u w old new before after → IsWork R s w new after
+work_more R s v u w old new before after t work low is done =
     let below : nat_lt t (ticket_count s) ≡ true = grind (arith, nat_tests, low) in
     let added = done.claims.2 in
     let numbers : w.numbers ≡ v.numbers ++ t ∷ [] = done.claims.1 ∙ ap (λ (x : View). x.numbers) is in
@@ -167,23 +185,25 @@ work_more R s v u w old new t work low is done =
       pieces = work.pieces ++ done.pieces;
       are = subst (λ (ns : List ℕ). ArePiecesOf R s ns (work.pieces ++ done.pieces)) (sym inodes) (pieces_join work.are done.are);
       claims = ap (map pair_of) records ∙ map-append pair_of v.records added.0 ∙ (λ i. work.claims i ++ added.2 i) ∙ sym (claims_join work.pieces done.pieces);
-      told = done.told ∙ ap (λ (xs : List Piece). xs ++ told_of done.pieces) work.told ∙ sym (filter-append is_told work.pieces done.pieces);
+      rows_are = behind [] (rows_in work.pieces) (rows_in done.pieces) work.rows_are done.rows_are (rows_join work.pieces done.pieces);
+      faults_are = behind [] (faults_in work.pieces) (faults_in done.pieces) work.faults_are done.faults_are (faults_join work.pieces done.pieces);
     }
 
 -- what is left to draw gets less with each ticket
-pub nearer : (R : Region) (s : Super) (tickets t : ℕ) (ns : List ℕ) (v u w : View) (old new : List Piece) → above v.numbers ≤ t → t < tickets → u ≡ with_number v t → IsDone R s ns u w old new
-    → tickets - above w.numbers < tickets - above v.numbers
-nearer R s tickets t ns v u w old new low l is done = subst (λ (ns : List ℕ). tickets - above ns < tickets - above v.numbers) (sym done.claims.1) (fewer_left tickets t v u low l is)
+pub nearer : (R : Region) (s : Super) (tickets t : ℕ) (ns : List ℕ) (v u w : View) {old new : List Row} {before after : List Fault} → above v.numbers ≤ t → t < tickets → u ≡ with_number v t
+    → IsDone R s ns u w old new before after → tickets - above w.numbers < tickets - above v.numbers
+nearer R s tickets t ns v u w low l is done = subst (λ (ns : List ℕ). tickets - above ns < tickets - above v.numbers) (sym done.claims.1) (fewer_left tickets t v u low l is)
 
 -- ---- works that are brought together
 
 -- The work of two views together.
-pub work_joins : (R : Region) (s : Super) (v u : View) (old new : List Piece) → IsWork R s v old → IsWork R s u new → IsWork R s (both_views v u) (old ++ new)
-work_joins R s v u old new p q = record {
+pub work_joins : (R : Region) (s : Super) (v u : View) (old new : List Row) (before after : List Fault) → IsWork R s v old before → IsWork R s u new after → IsWork R s (both_views v u) (old ++ new) (before ++ after)
+work_joins R s v u old new before after p q = record {
   pieces = p.pieces ++ q.pieces;
   are = subst (λ (ns : List ℕ). ArePiecesOf R s ns (p.pieces ++ q.pieces))
       (sym (ap (numbers_in s) (filter-append (λ n. nat_lt n (ticket_count s)) v.numbers u.numbers) ∙ flat_map-append (numbers_of s) (tickets_among (ticket_count s) v.numbers) (tickets_among (ticket_count s) u.numbers)))
       (pieces_join p.are q.are);
   claims = map-append pair_of v.records u.records ∙ (λ i. p.claims i ++ q.claims i) ∙ sym (claims_join p.pieces q.pieces);
-  told = (λ i. p.told i ++ q.told i) ∙ sym (filter-append is_told p.pieces q.pieces);
+  rows_are = (λ i. p.rows_are i ++ q.rows_are i) ∙ sym (rows_join p.pieces q.pieces);
+  faults_are = (λ i. p.faults_are i ++ q.faults_are i) ∙ sym (faults_join p.pieces q.pieces);
 }

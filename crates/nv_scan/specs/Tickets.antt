@@ -36,10 +36,6 @@ IsBlank R l i = (IsInUse R l i → ⊥) × ((f : Fault) → IsFaultOf R l i f �
 abbrev pub is_told : Piece → Bool
 is_told p = is_some p.row || nat_lt 0 (length p.faults.items)
 
--- those of the pieces that tell anything: the others aren't kept
-abbrev pub told_of : List Piece → List Piece
-told_of pieces = filter is_told pieces
-
 -- What is found of an inode by its slot: its piece, which tells something, or nothing, where there is nothing to tell.
 abbrev pub IsFound : Region → Super → ℕ → Option Piece → Type 0
 IsFound R s i (Some p) = (p.inode ≡ i) × (is_number s i ≡ true) × IsPiece R (fixed_layout s) p × (is_told p ≡ true)

@@ -1,9 +1,10 @@
 -- What a worker does with the tickets that it draws.
 use Rattle.std.specs.Prelude.{◌≡◌, ℕ, ◌<◌, nat_lt, false, List, ◌++◌, map}
-use Rattle.std.specs.List.{flat_map, filter, AllByRecursion}
+use Rattle.std.specs.List.{flat_map, filter, filter_map, AllByRecursion}
 use Rattle.nv_region.specs.Region.{Region}
 use Rattle.nv_super.specs.declared.superblock.Super.{Super}
 use Rattle.nv_super.specs.declared.owners.Owner.{Owner}
+use Rattle.nv_super.specs.declared.faults.Fault.{Fault}
 use Rattle.nv_super.specs.Layout.{fixed_layout}
 use Rattle.nv_claimmap.specs.nv_claimcore.declared.view.View.{View}
 use Rattle.nv_claimmap.specs.nv_claimcore.Claims.{past}
@@ -11,7 +12,8 @@ use Rattle.nv_claimmap.specs.nv_claimcore.Finished.{pair_of}
 use Rattle.nv_claimmap.specs.nv_claimcore.Spans.{Adds}
 use Rattle.nv_claimmap.specs.Held.{MapId}
 use Rattle.nv_scan.specs.Rows.{IsPiece}
-use Rattle.nv_scan.specs.Tickets.{ticket_count, numbers_of, told_of}
+use Rattle.nv_scan.specs.Tickets.{ticket_count, numbers_of}
+use Rattle.nv_scan.specs.declared.piece.Row.{Row}
 use Rattle.nv_scan.specs.declared.piece.Piece.{Piece}
 use Rattle.nv_scan.specs.declared.working.WorkerResult.{WorkerResult}
 
@@ -27,28 +29,38 @@ numbers_in s tickets = flat_map (numbers_of s) tickets
 abbrev pub claims_in : List Piece → List (ℕ × Owner)
 claims_in pieces = flat_map (λ (p : Piece). p.claims.items) pieces
 
+-- the rows of these pieces
+abbrev pub rows_in : List Piece → List Row
+rows_in pieces = filter_map (λ (p : Piece). p.row) pieces
+
+-- the inodes' own faults, piece by piece
+abbrev pub faults_in : List Piece → List Fault
+faults_in pieces = flat_map (λ (p : Piece). p.faults.items) pieces
+
 -- Pieces of the inodes with these numbers, in this order.
 pub record ArePiecesOf (R : Region) (s : Super) (numbers : List ℕ) (pieces : List Piece) : Type 0 where
   pub each : AllByRecursion (IsPiece R (fixed_layout s)) pieces
   pub order : map (λ (p : Piece). p.inode) pieces ≡ numbers
 
--- Pieces of all inodes of the tickets that were drawn, in that order; the blocks claimed are those of the pieces, and those pieces are kept that tell anything.
-pub record IsWork (R : Region) (s : Super) (v : View) (kept : List Piece) : Type 0 where
+-- Pieces of all inodes of the tickets that were drawn, in that order; the blocks claimed are those of the pieces, and the rows and the faults are theirs.
+pub record IsWork (R : Region) (s : Super) (v : View) (rows : List Row) (faults : List Fault) : Type 0 where
   pub pieces : List Piece
   pub are : ArePiecesOf R s (numbers_in s (tickets_among (ticket_count s) v.numbers)) pieces
   pub claims : map pair_of v.records ≡ claims_in pieces
-  pub told : kept ≡ told_of pieces
+  pub rows_are : rows ≡ rows_in pieces
+  pub faults_are : faults ≡ faults_in pieces
 
--- The inodes with these numbers are done: the blocks that they own are claimed, and those of their pieces that tell anything stand behind the others.
-pub record IsDone (R : Region) (s : Super) (numbers : List ℕ) (v w : View) (old new : List Piece) : Type 0 where
+-- The inodes with these numbers are done: the blocks that they own are claimed, and the rows and the faults of their pieces stand behind the others.
+pub record IsDone (R : Region) (s : Super) (numbers : List ℕ) (v w : View) (old_rows rows : List Row) (old_faults faults : List Fault) : Type 0 where
   pub pieces : List Piece
   pub are : ArePiecesOf R s numbers pieces
   pub claims : Adds (claims_in pieces) v w
-  pub told : new ≡ old ++ told_of pieces
+  pub rows_are : rows ≡ old_rows ++ rows_in pieces
+  pub faults_are : faults ≡ old_faults ++ faults_in pieces
 
--- What a worker gives back: its seat; and, unless it was refused memory, the pieces of all tickets that the seat drew, the last draw being past the end.
+-- What a worker gives back: its seat; and, unless it was refused memory, the rows and the faults of all tickets that the seat drew, the last draw being past the end.
 pub record Returned (R : Region) (s : Super) (m : MapId) (r : WorkerResult) : Type 0 where
   pub map : r.seat.map ≡ m
   pub seats : r.seat.view.seats ≡ 1
   pub ended : r.refused ≡ false → 0 < past (ticket_count s) r.seat.view.numbers
-  pub work : r.refused ≡ false → IsWork R s r.seat.view r.pieces.items
+  pub work : r.refused ≡ false → IsWork R s r.seat.view r.rows.items r.faults.items

@@ -1,6 +1,7 @@
 //! A worker of a recovery: it draws tickets until none is left, scans the inodes of each and claims what they own.
 
-ghost use Rattle.std.specs.Prelude.{◌≡◌, ◌<◌, IsTrue, [], OnOk};
+ghost use Rattle.std.specs.Prelude.{◌≡◌, ◌<◌, ◌++◌, IsTrue, [], OnOk};
+ghost use Rattle.std.specs.List.{cons_option};
 ghost use Rattle.nv_region.specs.Region.{HasBlocks};
 ghost use Rattle.nv_super.specs.Layout.{IsLayout};
 ghost use Rattle.nv_claimmap.specs.nv_claimcore.Claims.{nothing};
@@ -8,12 +9,12 @@ ghost use Rattle.nv_scan.specs.Tickets.{ticket_count, numbers_of};
 ghost use Rattle.nv_scan.specs.Work.{IsDone, Returned};
 
 use crate::claiming::claim_all;
-use crate::piece::Piece;
+use crate::piece::{Piece, Row};
 use crate::scan::Scanner;
 use crate::tickets::SLOTS;
 use nv_claimmap::{ClaimMap, ClaimSeat};
 use nv_region::Pmem;
-use nv_super::Super;
+use nv_super::{Fault, Super};
 use std::alloc::{AllocError, Global};
 
 /// What a worker passes between drawing a ticket and its work, so that a caller can watch or hold workers.
@@ -35,9 +36,10 @@ impl Gate for NoGate {
 pub struct WorkerResult {
     /// The seat that it worked by, in every case.
     pub seat: ClaimSeat,
-    /// The pieces of its tickets' inodes, in the order of the draws, but for those that tell nothing; none where it was
-    /// refused memory.
-    pub pieces: Vec<Piece>,
+    /// The rows of its tickets' inodes, in the order of the draws; none where it was refused memory.
+    pub rows: Vec<Row>,
+    /// What is wrong with each of these inodes by itself, in that order; nothing where it was refused memory.
+    pub faults: Vec<Fault>,
     /// Memory was refused, so the work isn't whole.
     pub refused: bool,
 }
@@ -46,7 +48,7 @@ pub struct WorkerResult {
 /// the block's slots are scanned one after another, and the blocks that they own are claimed for their owners. A block
 /// of unused slots costs a few loads for each, and no log.
 ///
-/// It stops early only where a growth is refused: then `refused` is true, and there are no pieces.
+/// It stops early only where a growth is refused: then `refused` is true, and there are no rows and no faults.
 pub fn worker<P: Pmem, G: Gate>(
     alloc: Global,
     memory: &P,
@@ -61,18 +63,28 @@ pub fn worker<P: Pmem, G: Gate>(
     requires sizes { (map.now.sizes.blocks ≡ sup.now.blocks) × (map.now.sizes.tickets ≡ ticket_count sup.now) }
     ensures returned { Returned (P.region memory.now) sup.now map.now result }
     ensures number { result.seat.number ≡ seat.number }
-    ensures refused { IsTrue result.refused → result.pieces.items ≡ [] }
+    ensures refused { IsTrue result.refused → (result.rows.items ≡ []) × (result.faults.items ≡ []) }
 {
     let mut scanner = Scanner::new(alloc, sup);
-    let mut pieces = Vec::new(alloc);
+    let mut rows = Vec::new(alloc);
+    let mut faults = Vec::new(alloc);
     while let Some(ticket) = map.draw(&mut seat) {
         gate.enter(seat.number(), ticket);
-        match scan_ticket(memory, &mut scanner, map, &mut seat, &mut pieces, ticket) {
+        match scan_ticket(
+            memory,
+            &mut scanner,
+            map,
+            &mut seat,
+            &mut rows,
+            &mut faults,
+            ticket,
+        ) {
             Ok(()) => {}
             Err(AllocError) => {
                 return WorkerResult {
                     seat,
-                    pieces: Vec::new(alloc),
+                    rows: Vec::new(alloc),
+                    faults: Vec::new(alloc),
                     refused: true,
                 };
             }
@@ -80,19 +92,21 @@ pub fn worker<P: Pmem, G: Gate>(
     }
     WorkerResult {
         seat,
-        pieces,
+        rows,
+        faults,
         refused: false,
     }
 }
 
-/// Does the work of one ticket: the inodes of its table block are scanned, what each owns is claimed, and its piece is
-/// kept, if it tells anything.
+/// Does the work of one ticket: the inodes of its table block are scanned, what each owns is claimed, and its row and its
+/// faults are kept.
 fn scan_ticket<P: Pmem>(
     memory: &P,
     scanner: &mut Scanner,
     map: &ClaimMap,
     seat: &mut ClaimSeat,
-    pieces: &mut Vec<Piece>,
+    rows: &mut Vec<Row>,
+    faults: &mut Vec<Fault>,
     ticket: u64,
 ) -> Result<(), AllocError>
     requires layout { IsLayout scanner.old }
@@ -102,13 +116,35 @@ fn scan_ticket<P: Pmem>(
     requires ticket { ticket < ticket_count scanner.old }
     ensures scanner { scanner.new ≡ scanner.old }
     ensures seat { (seat.new.map ≡ seat.old.map) × (seat.new.number ≡ seat.old.number) × (seat.new.view.seats ≡ seat.old.view.seats) }
-    ensures done { OnOk result (IsDone (P.region memory.now) scanner.old (numbers_of scanner.old ticket) seat.old.view seat.new.view pieces.old.items pieces.new.items) }
+    ensures done { OnOk result (IsDone (P.region memory.now) scanner.old (numbers_of scanner.old ticket) seat.old.view seat.new.view rows.old.items rows.new.items faults.old.items faults.new.items) }
 {
     for slot in 0..SLOTS {
         if let Some(piece) = scanner.scan_place(memory, SLOTS * ticket + slot)? {
-            claim_all(map, seat, &piece.claims)?;
-            pieces.push(piece)?;
+            let Piece {
+                inode: _,
+                row,
+                claims,
+                faults: own,
+            } = piece;
+            claim_all(map, seat, &claims)?;
+            keep(rows, faults, row, &own)?;
         }
     }
     Ok(())
+}
+
+/// Puts what was found of one inode behind what is there.
+fn keep(
+    rows: &mut Vec<Row>,
+    faults: &mut Vec<Fault>,
+    row: Option<Row>,
+    own: &[Fault],
+) -> Result<(), AllocError>
+    ensures rows { OnOk result (rows.new.items ≡ rows.old.items ++ cons_option row []) }
+    ensures faults { OnOk result (faults.new.items ≡ faults.old.items ++ own.now) }
+{
+    if let Some(row) = row {
+        rows.push(row)?;
+    }
+    faults.extend_from_slice(own)
 }

@@ -2,9 +2,9 @@
 //! found.
 //!
 //! It is run with each of its allocations refused in turn (`tests/refuse-allocations.sh`). A recovery that answers want of
-//! memory leaves its region as before or with its journals rolled back, and a worker gives no pieces and its seat; each is
-//! then made once more. Status 1 is for memory that was refused outside of them. The first word is how many blocks of memory
-//! are taken, and given back, before anything else.
+//! memory leaves its region as before or with its journals rolled back, and a worker gives its seat and neither rows nor
+//! faults; each is then made once more. Status 1 is for memory that was refused outside of them. The first word is how many
+//! blocks of memory are taken, and given back, before anything else.
 #![tactic(auto)]
 
 mod findings;
@@ -160,13 +160,17 @@ fn tell_recovery<R: AllocGlobal + Print + Threads + Sync>(
 fn tell_workers<R: AllocGlobal + Print>(rt: &R) -> Option<()> {
     let memory = undone_region(rt.alloc())?;
     let mut work = work_in_turn(rt.alloc(), &memory).ok()?;
-    if let Some(kept) = work.refused {
-        println!(rt; "refused once: worker, which gave {kept} pieces").ok()?;
+    if let Some(given) = work.refused {
+        println!(rt;
+            "refused once: worker, which gave {} rows and {} faults",
+            given.rows, given.faults
+        )
+        .ok()?;
         work = work_in_turn(rt.alloc(), &memory).ok()?;
     }
     println!(rt;
-        "two workers in turn: pieces {} claims {}",
-        work.pieces, work.claims
+        "two workers in turn: rows {} faults {} claims {}",
+        work.whole.rows, work.whole.faults, work.claims
     )
     .ok()
 }

@@ -11,13 +11,20 @@ use nv_region::MemRegion;
 use nv_scan::{NoGate, WorkerResult, worker};
 use std::alloc::{AllocError, Global};
 
+/// How many rows and faults workers gave back.
+#[derive(Clone, Copy)]
+pub(crate) struct Given {
+    pub(crate) rows: usize,
+    pub(crate) faults: usize,
+}
+
 /// What two workers gave back.
 #[derive(Clone, Copy)]
 pub(crate) struct Work {
-    /// The pieces of those that were refused memory: none, where one was.
-    pub(crate) refused: Option<usize>,
-    /// The pieces of those that weren't.
-    pub(crate) pieces: usize,
+    /// By those that were refused memory: nothing, where one was.
+    pub(crate) refused: Option<Given>,
+    /// By those that weren't.
+    pub(crate) whole: Given,
     pub(crate) claims: usize,
 }
 
@@ -48,13 +55,32 @@ fn joined(map: &ClaimMap, one: ClaimSeat, other: ClaimSeat) -> Result<ClaimSeat,
     }
 }
 
-/// The pieces of the workers that were refused memory, and of those that weren't.
-fn pieces_of(one: &WorkerResult, other: &WorkerResult) -> (Option<usize>, usize) {
+/// What one worker gave back.
+fn given_by(one: &WorkerResult) -> Given {
+    Given {
+        rows: one.rows.len(),
+        faults: one.faults.len(),
+    }
+}
+
+/// What two workers gave back together.
+fn given_by_both(one: &WorkerResult, other: &WorkerResult) -> Given {
+    Given {
+        rows: one.rows.len() + other.rows.len(),
+        faults: one.faults.len() + other.faults.len(),
+    }
+}
+
+/// What the workers gave back that were refused memory, and those that weren't.
+fn given_apart(one: &WorkerResult, other: &WorkerResult) -> (Option<Given>, Given) {
     match (one.refused, other.refused) {
-        (false, false) => (None, one.pieces.len() + other.pieces.len()),
-        (true, false) => (Some(one.pieces.len()), other.pieces.len()),
-        (false, true) => (Some(other.pieces.len()), one.pieces.len()),
-        (true, true) => (Some(one.pieces.len() + other.pieces.len()), 0),
+        (false, false) => (None, given_by_both(one, other)),
+        (true, false) => (Some(given_by(one)), given_by(other)),
+        (false, true) => (Some(given_by(other)), given_by(one)),
+        (true, true) => (
+            Some(given_by_both(one, other)),
+            Given { rows: 0, faults: 0 },
+        ),
     }
 }
 
@@ -65,11 +91,11 @@ pub(crate) fn work_in_turn(alloc: Global, memory: &MemRegion) -> Result<Work, Al
     let (map, one, two) = opened(alloc)?;
     let one = worker(alloc, memory, &STOPPED, &map, one, &NoGate);
     let two = worker(alloc, memory, &STOPPED, &map, two, &NoGate);
-    let (refused, pieces) = pieces_of(&one, &two);
+    let (refused, whole) = given_apart(&one, &two);
     let both = joined(&map, one.seat, two.seat)?;
     Ok(Work {
         refused,
-        pieces,
+        whole,
         claims: map.close(both).claims.len(),
     })
 }

@@ -280,7 +280,7 @@ fn slots_in_use_are_told_alone(rt: HostRuntime) -> Result<(), Fail> {
 }
 
 /// What a worker finds in the region of two inodes, and the map closed after it.
-fn worked(alloc: Global) -> Result<(Vec<Piece>, Claimed), Fail> {
+fn worked(alloc: Global) -> Result<(Vec<Row>, Claimed), Fail> {
     let memory = small_region(alloc, &TWO_INODES)?;
     let (map, seat) = opened_for_one(alloc)?;
     let done = worker(alloc, &memory, &SMALL, &map, seat, &NoGate);
@@ -288,12 +288,14 @@ fn worked(alloc: Global) -> Result<(Vec<Piece>, Claimed), Fail> {
         return Err(AllocError)?;
     }
     let closed = map.close(done.seat);
-    Ok((done.pieces, closed))
+    Ok((done.rows, closed))
 }
 
-fn assert_pieces(rt: &impl Abort, pieces: &[Piece]) {
-    assert!(rt; pieces.len() == 2);
-    assert_claims(rt, &pieces[1], &OWNED_BY_FILE);
+fn assert_rows(rt: &impl Abort, rows: &[Row]) {
+    assert!(rt; rows.len() == 2);
+    assert!(rt; rows[0].inode == 1);
+    assert!(rt; rows[1].inode == 2);
+    assert!(rt; rows[1].pages.as_slice() == [4].as_slice());
 }
 
 fn assert_closed(rt: &impl Abort, closed: &Claimed) {
@@ -305,8 +307,8 @@ fn assert_closed(rt: &impl Abort, closed: &Claimed) {
 
 #[test]
 fn a_worker_claims_what_the_inodes_own(rt: HostRuntime) -> Result<(), Fail> {
-    let (pieces, closed) = worked(rt.alloc())?;
-    assert_pieces(&rt, &pieces);
+    let (rows, closed) = worked(rt.alloc())?;
+    assert_rows(&rt, &rows);
     assert_closed(&rt, &closed);
     Ok(())
 }

@@ -1,9 +1,8 @@
 use Rattle.std.proofs.Common.{ℕ, List, refl, subst}
 use Rattle.nv_alloc.specs.FreeLists.{AreOutside}
-use Rattle.nv_outcome.proofs.nv_rows.InOrder.{rising_stay}
 use Rattle.nv_recover.proofs.Answers.{answer_of, doubled_same, told_same}
 use Rattle.nv_recover.proofs.Claims.{claims_covered}
-use Rattle.nv_recover.proofs.Inodes.{rows_numbered, rows_ordered}
+use Rattle.nv_recover.proofs.Inodes.{rows_apart}
 use Rattle.nv_recover.proofs.finishing.finish.Goals as goal
 
 pub doubled-requires : goal.doubled-requires
@@ -11,12 +10,12 @@ doubled-requires c = let s = c.requires.scanned.1 in
     record { covers = claims_covered c.args.started.sup s.pieces c.args.scanned.claimed s.inodes.pieces_are s.claimed c.deref-2.ensures.value c.deref-3.ensures.value }
 
 pub from_rows-requires-clause-numbers : goal.from_rows-requires-clause-numbers
-from_rows-requires-clause-numbers c = let s = c.requires.scanned.1 in rows_numbered c.requires.layout s.inodes _ refl
+from_rows-requires-clause-numbers c = let s = c.requires.scanned.1 in (rows_apart c.requires.layout s.inodes c.args.scanned.inodes.rows.items refl).apart
 
 pub returns : goal.returns
 returns c = λ old new started scanned. answer_of started scanned record {
   sup = refl;
-  rows = rising_stay c.in_ok-rows.rows.items c.args.scanned.inodes.rows.items (rows_ordered c.requires.layout scanned.inodes c.args.scanned.inodes.rows.items refl).rising c.in_ok-rows.ensures.rows;
+  rows = c.in_ok-rows.ensures.rows;
   numbers = c.in_ok-rows.ensures.sup;
   outside = subst (λ (first : List ℕ). AreOutside first c.args.started.sup c.in_ok-free.free) c.deref.ensures.value c.in_ok-free.ensures.outside;
   owned_twice = doubled_same c.deref-2.ensures.value c.deref-3.ensures.value c.in_ok-doubled.ensures;

@@ -1,5 +1,5 @@
 use Rattle.nv_recover.proofs.Claims.{claims_within, same_claims, claimed_all}
-use Rattle.nv_recover.proofs.Inodes.{rows_ordered, rows_numbered, cross_same}
+use Rattle.nv_recover.proofs.Inodes.{rows_apart, cross_same}
 use Rattle.nv_recover.proofs.one.scan_all.Goals as goal
 
 pub claimed_of-requires : goal.claimed_of-requires
@@ -8,10 +8,10 @@ claimed_of-requires g c = let is = c.in_ok-inodes.ensures in record {
 }
 
 pub cross_faults_one-requires-clause-apart : goal.cross_faults_one-requires-clause-apart
-cross_faults_one-requires-clause-apart g c = rows_numbered c.requires.layout c.in_ok-inodes.ensures.1 c.deref.result.now c.deref.ensures.value
+cross_faults_one-requires-clause-apart g c = (rows_apart c.requires.layout c.in_ok-inodes.ensures.1 c.deref.result.now c.deref.ensures.value).apart
 
 pub cross_faults_one-requires-clause-numbers : goal.cross_faults_one-requires-clause-numbers
-cross_faults_one-requires-clause-numbers g c = (rows_ordered c.requires.layout c.in_ok-inodes.ensures.1 c.deref.result.now c.deref.ensures.value).numbers
+cross_faults_one-requires-clause-numbers g c = (rows_apart c.requires.layout c.in_ok-inodes.ensures.1 c.deref.result.now c.deref.ensures.value).numbers
 
 pub returns : goal.returns
 returns g c = let is = c.in_ok-inodes.ensures in let claimed = c.in_ok-claimed.ensures in record {

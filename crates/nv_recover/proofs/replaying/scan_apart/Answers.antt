@@ -1,13 +1,12 @@
-use Rattle.std.proofs.Common.{◌≡◌, ◌∙◌, ℕ, List, sym, ap, subst, arith}
+use Rattle.std.proofs.Common.{◌≡◌, ◌∙◌, ℕ, sym, subst, arith}
 use Rattle.std.specs.List.{range_with_len}
 use Rattle.std.specs.List.Sorted.{IsPermutation}
 use Rattle.std.proofs.lemmas.List.FromFn.{length-range_with_len}
 use Rattle.nv_super.specs.declared.superblock.Super.{Super}
 use Rattle.nv_scan.specs.Tickets.{ticket_count, numbers_of}
 use Rattle.nv_scan.specs.Work.{claims_in}
-use Rattle.nv_scan.specs.declared.piece.Row.{Row}
 use Rattle.nv_scan.proofs.Drawn.{all_times}
-use Rattle.nv_outcome.specs.Parts.{faults_in}
+use Rattle.nv_outcome.specs.Parts.{rows_in, faults_in}
 use Rattle.nv_recover.specs.Scanned.{AreNext, AreOfTickets}
 use Rattle.nv_recover.proofs.InOrder.{tickets_in_order}
 use Rattle.nv_recover.proofs.Tickets.{tickets_none, tickets_more}
@@ -38,12 +37,13 @@ returns-clause-inodes g c =
     let past = c.loop-ticket-test.false in
     let last : l.ticket ≡ ticket_count s = omega (arith, c.ticket_count-ticket-end.ensures, past, l.auto.ticket-end) in
     let all = subst (λ (n : ℕ). AreOfTickets R s (range_with_len 0 n) l.inodes l.work.items) last l.invariant.first in
-    let rows = c.sort_rows.new.self.rows.items in
-    let moved = subst (λ (old : List Row). IsPermutation old rows) all.rows c.in_ok-sort_rows.ensures.same in
-    let order = tickets_in_order R s (range_with_len 0 (ticket_count s)) all.pieces rows c.requires.layout all.are (all_times (ticket_count s)) moved c.in_ok-sort_rows.ensures.sorted in
-    let kept : c.sort_rows.new.self.faults.items ≡ faults_in all.pieces = ap (λ fs. fs.items) c.in_ok-sort_rows.ensures.faults ∙ all.faults in (
+    let order = tickets_in_order R s (range_with_len 0 (ticket_count s)) all.pieces c.requires.layout all.are (all_times (ticket_count s)) in (
       order.sorted,
-      record { pieces_are = order.pieces_are; rows = order.rows_are; faults = subst (IsPermutation (faults_in order.sorted)) (sym kept) order.faults },
+      record {
+        pieces_are = order.pieces_are;
+        rows = subst (IsPermutation (rows_in order.sorted)) (sym all.rows) order.rows;
+        faults = subst (IsPermutation (faults_in order.sorted)) (sym all.faults) order.faults;
+      },
       subst (IsPermutation (claims_in order.sorted)) (sym all.claims_are) order.claims,
     )
 

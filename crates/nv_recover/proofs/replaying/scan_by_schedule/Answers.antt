@@ -1,5 +1,5 @@
 use Rattle.nv_recover.proofs.Claims.{work_inside, claimed_by_sets}
-use Rattle.nv_recover.proofs.Inodes.{rows_ordered, rows_numbered, cross_same}
+use Rattle.nv_recover.proofs.Inodes.{rows_apart, cross_same}
 use Rattle.nv_recover.proofs.replaying.scan_by_schedule.Goals as goal
 
 pub claim_all-requires-clause-inside : goal.claim_all-requires-clause-inside
@@ -7,10 +7,10 @@ claim_all-requires-clause-inside g c = let is = c.in_ok-inodes.ensures.inodes in
     work_inside c.args.sup.now is.0 is.1.pieces_are c.in_ok-inodes.work.items is.2
 
 pub cross_faults_one-requires-clause-apart : goal.cross_faults_one-requires-clause-apart
-cross_faults_one-requires-clause-apart g c = rows_numbered c.requires.layout c.in_ok-inodes.ensures.inodes.1 c.deref.result.now c.deref.ensures.value
+cross_faults_one-requires-clause-apart g c = (rows_apart c.requires.layout c.in_ok-inodes.ensures.inodes.1 c.deref.result.now c.deref.ensures.value).apart
 
 pub cross_faults_one-requires-clause-numbers : goal.cross_faults_one-requires-clause-numbers
-cross_faults_one-requires-clause-numbers g c = (rows_ordered c.requires.layout c.in_ok-inodes.ensures.inodes.1 c.deref.result.now c.deref.ensures.value).numbers
+cross_faults_one-requires-clause-numbers g c = (rows_apart c.requires.layout c.in_ok-inodes.ensures.inodes.1 c.deref.result.now c.deref.ensures.value).numbers
 
 pub returns : goal.returns
 returns g c = let is = c.in_ok-inodes.ensures.inodes in record {

@@ -1,4 +1,4 @@
-use Rattle.std.proofs.Common.{◌≡◌, ◌<◌, List, ap, sym, ◌∙◌, subst, arith}
+use Rattle.std.proofs.Common.{◌≡◌, ◌<◌, ap, sym, ◌∙◌, subst, arith}
 use Rattle.std.specs.List.{All}
 use Rattle.std.specs.List.Sorted.{IsPermutation}
 use Rattle.nv_claimcore.specs.Claims.{nothing}
@@ -7,10 +7,8 @@ use Rattle.nv_claimcore.proofs.Runs.{all_drawn}
 use Rattle.nv_claimmap.specs.Held.{Held}
 use Rattle.nv_scan.specs.Tickets.{ticket_count}
 use Rattle.nv_scan.specs.Work.{tickets_among, claims_in}
-use Rattle.nv_scan.specs.declared.piece.Row.{Row}
 use Rattle.nv_scan.proofs.Drawn.{among_times}
 use Rattle.nv_outcome.specs.Parts.{rows_in, faults_in}
-use Rattle.nv_outcome.proofs.Tickets.{rows_told, faults_told}
 use Rattle.nv_recover.proofs.InOrder.{tickets_in_order}
 use Rattle.nv_claimmap.proofs.Seats.{fresh_all}
 use Rattle.nv_recover.proofs.workers.scan_by_workers.Goals as goal
@@ -37,15 +35,12 @@ returns g c =
     let numbers = c.close.ensures.numbers in
     let past_end : ticket_count s < numbers.0 = all_drawn (ticket_count s) numbers.0 brought.seat.view.numbers numbers.1 is.ended in
     let drawn = among_times (ticket_count s) numbers.0 brought.seat.view.numbers numbers.1 (omega (arith, past_end)) in
-    let rows = c.sort_rows.new.self.rows.items in
-    let moved = subst (λ (old : List Row). IsPermutation old rows) (is.rows ∙ ap rows_in work.told ∙ rows_told work.pieces) c.in_ok-sort_rows.ensures.same in
-    let order = tickets_in_order (g.P.Pmem.region c.args.memory.now) s (tickets_among (ticket_count s) brought.seat.view.numbers) work.pieces rows c.requires.layout work.are drawn moved c.in_ok-sort_rows.ensures.sorted in
-    let kept : c.sort_rows.new.self.faults.items ≡ faults_in work.pieces = ap (λ fs. fs.items) c.in_ok-sort_rows.ensures.faults ∙ is.faults ∙ ap faults_in work.told ∙ faults_told work.pieces in (
+    let order = tickets_in_order (g.P.Pmem.region c.args.memory.now) s (tickets_among (ticket_count s) brought.seat.view.numbers) work.pieces c.requires.layout work.are drawn in (
       order.sorted,
       record {
         pieces_are = order.pieces_are;
-        rows = order.rows_are;
-        faults = subst (IsPermutation (faults_in order.sorted)) (sym kept) order.faults;
+        rows = subst (IsPermutation (rows_in order.sorted)) (sym work.rows_are) order.rows;
+        faults = subst (IsPermutation (faults_in order.sorted)) (sym work.faults_are) order.faults;
       },
       record {
         claimed = subst (IsPermutation (claims_in order.sorted)) (sym (c.close.ensures.claims ∙ work.claims)) order.claims;

@@ -1,18 +1,29 @@
-use Rattle.std.proofs.Common.{◌∙◌, ◌+◌, ◌*◌, ℕ, List, Option, sym, ap, subst, arith, refl}
+use Rattle.std.proofs.Common.{◌≡◌, ◌∙◌, ◌+◌, ◌*◌, ◌++◌, ℕ, List, Option, sym, ap, subst, arith, refl}
+use Rattle.std.specs.Prelude.{Vec}
+use Rattle.std.specs.declared.alloc.Global.{Global}
 use Rattle.std.specs.List.{All}
+use Rattle.nv_region.specs.Region.{Region}
 use Rattle.nv_super.specs.Layout.{fixed_layout}
 use Rattle.nv_super.specs.declared.superblock.Super.{Super}
 use Rattle.nv_super.specs.declared.owners.Owner.{Owner}
+use Rattle.nv_super.specs.declared.faults.Fault.{Fault}
+use Rattle.nv_claimmap.specs.nv_claimcore.declared.view.View.{View}
 use Rattle.nv_claimmap.specs.nv_claimcore.Spans.{Adds}
 use Rattle.nv_claimmap.specs.Held.{Held}
 use Rattle.nv_scan.specs.Claiming.{IsClaimable}
-use Rattle.nv_scan.specs.Tickets.{number_at, numbers_to, IsFound}
+use Rattle.nv_scan.specs.Tickets.{number_at, IsFound}
 use Rattle.nv_scan.specs.Work.{IsDone}
+use Rattle.nv_scan.specs.declared.piece.Row.{Row}
 use Rattle.nv_scan.specs.declared.piece.Piece.{Piece}
 use Rattle.nv_scan.proofs.Runs.{claims_fit}
 use Rattle.nv_scan.proofs.Work.{all_slots, slot_kept, slot_blank}
 use Rattle.nv_scan.proofs.working.scan_ticket.Goals as goal
-use Rattle.nv_scan.proofs.working.scan_ticket.Goals.{in-Some+in_ok-claim_all+in_ok-push, in_default}
+use Rattle.nv_scan.proofs.working.scan_ticket.Goals.{in-Some+in_ok-claim_all+in_ok-keep, in_default}
+
+-- the same, told of what is the same
+in_state : {R : Region} {s : Super} {ns : List ℕ} {v : View} {old : List Row} {before : List Fault} {h k : Held} {rows new : Vec Row Global} {faults after : Vec Fault Global} → k ≡ h → new ≡ rows → after ≡ faults
+    → IsDone R s ns v h.view old rows.items before faults.items → IsDone R s ns v k.view old new.items before after.items
+in_state {R} {s} {ns} {v} {old} {before} one two three done = subst (λ (z : Held × Vec Row Global × Vec Fault Global). IsDone R s ns v z.0.view old z.1.items before z.2.items) (sym (λ i. (one i, two i, three i))) done
 
 pub claim_all-requires-clause-each : goal.claim_all-requires-clause-each
 claim_all-requires-clause-each g c =
@@ -32,19 +43,20 @@ loop-slot-preserved g c =
     let t = c.args.ticket in
     let k = c.loop-slot.slot in
     let v = c.args.seat.now.view in
-    let old = c.args.pieces.now.items in
+    let old = c.args.rows.now.items in
+    let before = c.args.faults.now.items in
     let found = subst (λ (x : Super). IsFound R x (number_at x (32 * t + k)) c.in_ok-piece.field-0) l.scanner c.in_ok-piece.ensures.found in
     elim c.match-branch-2.branch [
-      | in-Some+in_ok-claim_all+in_ok-push w ↦ (
+      | in-Some+in_ok-claim_all+in_ok-keep w ↦ (
           let adds = subst (λ (ps : List (ℕ × Owner)). Adds ps c.loop-slot.seat.view w.claim_all.new.seat.view) w.deref.ensures.value w.in_ok-claim_all.ensures.ok in
-          let done = slot_kept t k (32 * t + k) w.in-Some.piece refl (subst (λ (o : Option Piece). IsFound R s (number_at s (32 * t + k)) o) w.in-Some.is found) l.done adds w.in_ok-push.ensures.items in
+          let done = slot_kept t k (32 * t + k) w.in-Some.piece refl (subst (λ (o : Option Piece). IsFound R s (number_at s (32 * t + k)) o) w.in-Some.is found) l.done adds w.in_ok-keep.ensures.rows
+          (w.in_ok-keep.ensures.faults ∙ ap (λ (fs : List Fault). c.loop-slot.faults.items ++ fs) w.deref-in-Some.ensures.value) in
           record {
             scanner = c.scan_place.ensures.same ∙ l.scanner;
             map = ap (λ (h : Held). h.map) w.seat-is ∙ w.claim_all.ensures.same.0 ∙ l.map;
             number = ap (λ (h : Held). h.number) w.seat-is ∙ w.claim_all.ensures.same.1 ∙ l.number;
             seats = ap (λ (h : Held). h.view.seats) w.seat-is ∙ w.claim_all.ensures.same.2 ∙ l.seats;
-            done = subst (λ (h : Held). IsDone R s (numbers_to s t (k + 1)) v h.view old c.match-branch-2.pieces.items) (sym w.seat-is)
-                (subst (λ (ps : List Piece). IsDone R s (numbers_to s t (k + 1)) v w.claim_all.new.seat.view old ps) (sym (ap (λ ps. ps.items) w.pieces-is)) done);
+            done = in_state w.seat-is w.rows-is w.faults-is done;
           })
       | in_default w ↦ (
           let done = slot_blank t k (32 * t + k) refl (subst (λ (o : Option Piece). IsFound R s (number_at s (32 * t + k)) o) w.in_default.is found) l.done in
@@ -53,8 +65,7 @@ loop-slot-preserved g c =
             map = ap (λ (h : Held). h.map) w.seat-is ∙ l.map;
             number = ap (λ (h : Held). h.number) w.seat-is ∙ l.number;
             seats = ap (λ (h : Held). h.view.seats) w.seat-is ∙ l.seats;
-            done = subst (λ (h : Held). IsDone R s (numbers_to s t (k + 1)) v h.view old c.match-branch-2.pieces.items) (sym w.seat-is)
-                (subst (λ (ps : List Piece). IsDone R s (numbers_to s t (k + 1)) v c.loop-slot.seat.view old ps) (sym (ap (λ ps. ps.items) w.pieces-is)) done);
+            done = in_state w.seat-is w.rows-is w.faults-is done;
           })
     ]
 
