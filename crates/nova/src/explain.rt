@@ -5,7 +5,7 @@ use nv_stream::write_text;
 use std::io;
 
 /// A class of faults, or of refused superblocks.
-#[derive(Clone, Copy, Debug)]
+#[derive(Clone, Copy)]
 struct Class {
     name: &'static str,
     title: &'static str,
@@ -172,9 +172,9 @@ pub(crate) fn tell_classes<H: Eprint>(rt: &H) {
 }
 
 fn class_of(name: &str) -> Option<Class> {
-    for class in CLASSES {
+    for class in &CLASSES {
         if class.name.eq_ignore_ascii_case(name) {
-            return Some(class);
+            return Some(*class);
         }
     }
     None

@@ -62,6 +62,15 @@ fn insert_new(alloc: Global, rows: &mut Rows, inode: u64) -> Result<(), AllocErr
     Ok(())
 }
 
+/// Takes out the row of an inode, which has one.
+fn remove_once(rt: &impl Abort, rows: &mut Rows, inode: u64)
+    ensures { rows.new.sup ≡ rows.old.sup }
+{
+    let gone = rows.remove(inode).map(|row| row.inode);
+    assert!(rt; gone == Some(inode));
+    assert!(rt; rows.remove(inode).is_none());
+}
+
 /// Just these numbers have a row, and they are listed so.
 fn assert_numbers(
     rt: &impl Abort,
@@ -96,9 +105,7 @@ fn rows_come_and_go(rt: HostRuntime) -> Result<(), Fail> {
     assert!(rt; rows.lowest_unused(0) == Some(3));
     insert_new(rt.alloc(), &mut rows, 31)?;
     assert_numbers(&rt, rt.alloc(), &rows, &[1, 2, 4, 31])?;
-    let gone = rows.remove(2).expect(&rt, "inode 2 has a row");
-    assert!(rt; gone.inode == 2);
-    assert!(rt; rows.remove(2).is_none());
+    remove_once(&rt, &mut rows, 2);
     assert!(rt; rows.lowest_unused(0) == Some(2));
     assert_numbers(&rt, rt.alloc(), &rows, &[1, 4, 31])?;
     Ok(())
