@@ -7,6 +7,7 @@ pub mod ExtentLemmas
 pub mod RunLemmas
 pub mod Clearing
 pub mod Indexing
+pub mod Fronts
 pub mod Rising
 pub mod RowSteps
 pub mod Rows

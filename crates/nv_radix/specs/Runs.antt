@@ -1,12 +1,12 @@
--- What an `ExtentMap` shows, and how it keeps it.
-use Rattle.std.specs.Prelude.{◌≡◌, ◌≢◌, ℕ, ◌+◌, ◌-◌, ◌^◌, ◌<◌, ◌≤◌, ◌==◌, if◌then◌else◌, List, [], ◌∷◌, Option, Some, None}
+-- What an `ExtentMap` shows, and how it and a `RunMap` keep it.
+use Rattle.std.specs.Prelude.{◌≡◌, ◌≢◌, ℕ, zero, suc, ◌+◌, ◌-◌, ◌^◌, ◌<◌, ◌≤◌, ◌==◌, if◌then◌else◌, List, [], ◌∷◌, Option, Some, None}
 use Rattle.std.specs.Ordering.{nat_cmp}
 use Rattle.std.specs.List.Sorted.{IsStrictlySortedBy}
 use Rattle.std.specs.Map.{lookup, keys_of}
 use Rattle.std.specs.BTreeMap.{is_at}
 use Rattle.nv_radix.specs.declared.TheConstants.{MAX_FILE_PAGES}
 use Rattle.nv_radix.specs.declared.runs.Blocks.{Blocks}
-use Rattle.nv_radix.specs.Pages.{in_run}
+use Rattle.nv_radix.specs.Pages.{Pages, block_at, in_run}
 
 -- runs of pages: the first page of each, and its blocks
 abbrev pub Runs : Type 0
@@ -16,6 +16,16 @@ Runs = List (ℕ × Blocks)
 abbrev pub block_by : Runs → ℕ → Option ℕ
 block_by [] p = None
 block_by (x ∷ xs) p = if in_run x.0 x.1.count p then Some (x.1.start + (p - x.0)) else block_by xs p
+
+-- a page's block as a run of one page, and none as a run without pages
+abbrev pub one_page : Option ℕ → Blocks
+one_page None = record { start = 0; count = 0 }
+one_page (Some b) = record { start = b; count = 1 }
+
+-- the first n pages as runs of one page
+unfoldable pub front_runs : Pages → ℕ → Runs
+front_runs m zero = []
+front_runs m (suc n) = (n, one_page (block_at m n)) ∷ front_runs m n
 
 -- the blocks of the run that begins at a page
 abbrev pub run_at : Runs → ℕ → Option Blocks

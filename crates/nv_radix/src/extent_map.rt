@@ -1,40 +1,36 @@
-//! A map from the pages of a file to blocks, kept as runs, so that a change costs what it changes and no page of it.
+//! A map from the pages of a file to blocks that is still being made.
 
-ghost use Rattle.std.specs.Prelude.{◌≡◌, ℕ, ◌+◌, ◌-◌, ◌^◌, ◌<◌, ◌≤◌, if◌then◌else◌, nat_le, Some, None, OnOk, IfOk};
-ghost use Rattle.nv_radix.specs.Pages.{block_at, in_run, AreFilePages};
+ghost use Rattle.std.specs.Prelude.{◌≡◌, ℕ, ◌+◌, ◌-◌, ◌^◌, ◌<◌, ◌≤◌, if◌then◌else◌, nat_le, nat_lt, Some, None, false, IsTrue, OnOk, IfOk};
+ghost use Rattle.std.specs.Option.{option_or};
+ghost use Rattle.nv_radix.specs.Pages.{block_at, in_run, is_ready, AreFilePages};
 ghost use Rattle.nv_radix.specs.Runs.{block_by};
 
 use crate::index::FileIndex;
-use crate::runs::{Blocks, Runs, clear, goes_on, set, settle};
+use crate::leaf::{LEAF_PAGES, Leaf};
+use crate::run_map::RunMap;
 use std::alloc::{AllocError, Global};
-use std::collections::BTreeMap;
 use std::marker::Model;
 
 /// A map from the pages of a file to blocks that is still being made: each call costs the logarithm of the number of
 /// runs, and that for each run that it takes out, however long the runs are.
 ///
-/// The run that was mapped last stands beside the others while it is behind them: most logs make it longer again and
-/// again, and most files have no other.
+/// Once a page is mapped again, the first 64 stand in a leaf: small files are written over and over, and a page of a leaf
+/// is found without a search.
 #[derive(Drop)]
 pub struct ExtentMap {
-    runs: Runs,
-    /// The first page of the last run, and its blocks, of which there are none where it stands among the others.
-    page: u64,
-    last: Blocks,
-    /// No page from here on is mapped.
-    end: u64,
+    /// The first pages that were mapped since the leaf was made ready. What it maps goes before the runs.
+    front: Leaf,
+    runs: RunMap,
 }
 
 impl Model for ExtentMap {
-    ghost use Rattle.std.specs.Prelude.{ℕ, ◌∷◌, List};
+    ghost use Rattle.std.specs.Prelude.{ℕ, ◌++◌, List};
     ghost use Rattle.nv_radix.specs.declared.runs.Blocks.{Blocks as BlocksValue};
-    ghost use Rattle.nv_radix.specs.Runs.{IsOpen};
+    ghost use Rattle.nv_radix.specs.Runs.{front_runs};
 
     ghost Value = { List (ℕ × BlocksValue) };
 
-    ghost view = { λ a. (a.page, a.last) ∷ a.runs.entries };
-
-    ghost invariant = { λ a. IsOpen a.runs.entries a.page a.last a.end };
+    ghost view = { λ a. front_runs a.front 64 ++ a.runs };
 }
 
 impl ExtentMap {
@@ -43,10 +39,8 @@ impl ExtentMap {
         ensures { (p : ℕ) → block_by result p ≡ None }
     {
         ExtentMap {
-            runs: BTreeMap::new(alloc),
-            page: 0,
-            last: Blocks { start: 0, count: 0 },
-            end: 0,
+            front: Leaf::new(alloc),
+            runs: RunMap::new(alloc),
         }
     }
 
@@ -54,17 +48,11 @@ impl ExtentMap {
     pub fn cut(&mut self, first_page: u64) -> Result<(), AllocError>
         ensures { OnOk result ((p : ℕ) → block_by self.new p ≡ (if nat_le first_page p then None else block_by self.old p)) }
     {
-        if first_page >= self.end {
-            return Ok(());
+        if first_page >= LEAF_PAGES {
+            return self.runs.cut(first_page);
         }
-        if self.last.count > 0 && self.page < first_page {
-            self.last.count = self.last.count.min(first_page - self.page);
-        } else {
-            self.last.count = 0;
-            clear(&mut self.runs, first_page, self.end)?;
-        }
-        self.end = first_page;
-        Ok(())
+        self.front.cut(first_page);
+        self.runs.cut(first_page)
     }
 
     /// Maps the `count` pages from `page` on to as many blocks from `block` on.
@@ -73,23 +61,26 @@ impl ExtentMap {
         requires blocks { 0 < count → block + count ≤ 2 ^ 64 }
         ensures { OnOk result ((p : ℕ) → block_by self.new p ≡ (if in_run page count p then Some (block + (p - page)) else block_by self.old p)) }
     {
-        if count == 0 {
-            return Ok(());
+        if goes_first(&self.front, self.runs.end(), page) {
+            return self.set_first(page, block, count);
         }
-        let start = block;
-        if self.last.count > 0 && goes_on(self.page, self.last, page, start) {
-            self.last.count += count;
-            self.end = self.end.max(page + count);
-            return Ok(());
+        self.runs.set_run(page, block, count)
+    }
+
+    /// Maps a run that begins among the first pages: these in the leaf, and the whole run among the others where it goes on
+    /// behind them.
+    fn set_first(&mut self, page: u64, block: u64, count: u64) -> Result<(), AllocError>
+        requires first { page < 64 }
+        requires pages { AreFilePages page count }
+        requires blocks { 0 < count → block + count ≤ 2 ^ 64 }
+        ensures { OnOk result ((p : ℕ) → block_by self.new p ≡ (if in_run page count p then Some (block + (p - page)) else block_by self.old p)) }
+    {
+        self.front.make_ready()?;
+        let part = count.min(LEAF_PAGES - page);
+        self.front.set_part(page, block, part);
+        if page + count > LEAF_PAGES {
+            return self.runs.set_run(page, block, count);
         }
-        settle(&mut self.runs, self.page, &mut self.last)?;
-        if self.end <= page {
-            self.page = page;
-            self.last = Blocks { start, count };
-        } else {
-            set(&mut self.runs, page, Blocks { start, count })?;
-        }
-        self.end = self.end.max(page + count);
         Ok(())
     }
 
@@ -97,13 +88,33 @@ impl ExtentMap {
     pub fn to_index(&self, alloc: Global) -> Result<FileIndex, AllocError>
         ensures { IfOk result (λ index. (p : ℕ) → block_at index p ≡ block_by self.now p) }
     {
-        let mut index = FileIndex::new(alloc);
-        for (page, blocks) in &self.runs {
-            index.reserve(*page, blocks.count)?;
-            index.set_run(*page, blocks.start, blocks.count);
+        let mut index = self.runs.to_index(alloc)?;
+        if !self.front.is_ready() {
+            return Ok(index);
         }
-        index.reserve(self.page, self.last.count)?;
-        index.set_run(self.page, self.last.start, self.last.count);
+        put_leaf(&mut index, &self.front)?;
         Ok(index)
     }
+}
+
+/// Whether a run from a page on goes into the leaf, where no page from `end` on is mapped: once the leaf is ready it has
+/// all first pages that are mapped since.
+fn goes_first(front: &Leaf, end: u64, page: u64) -> bool
+    ensures first { IsTrue result → page < 64 }
+    ensures none { result ≡ false → page < 64 → (p : ℕ) → p < 64 → is_ready front.now p ≡ false }
+{
+    page < LEAF_PAGES && (front.is_ready() || page < end)
+}
+
+/// Maps the first pages of an index as a leaf does, where that maps them.
+fn put_leaf(index: &mut FileIndex, leaf: &Leaf) -> Result<(), AllocError>
+    ensures { OnOk result ((p : ℕ) → block_at index.new p ≡ (if nat_lt p 64 then option_or (block_at leaf.now p) (block_at index.old p) else block_at index.old p)) }
+{
+    index.reserve(0, LEAF_PAGES)?;
+    for page in 0..LEAF_PAGES {
+        if let Some(block) = leaf.get(page) {
+            index.set_run(page, block, 1);
+        }
+    }
+    Ok(())
 }

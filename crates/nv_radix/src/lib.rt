@@ -11,6 +11,7 @@ mod extents;
 mod index;
 mod leaf;
 mod root;
+mod run_map;
 mod runs;
 
 pub use extent::Extent;

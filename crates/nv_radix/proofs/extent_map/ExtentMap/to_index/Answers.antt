@@ -1,25 +1,15 @@
-use Rattle.std.proofs.Common.{ℕ, ◌+◌, ◌-◌, cond, Option, Some, ap, ◌∙◌}
-use Rattle.nv_radix.specs.Pages.{in_run}
+use Rattle.std.proofs.Common.{ℕ, Option, ap, sym, ◌∙◌}
 use Rattle.nv_radix.specs.Runs.{Runs, block_by}
-use Rattle.nv_radix.proofs.Indexing.{next_is, more_indexed, all_indexed}
+use Rattle.nv_radix.proofs.Fronts.{over, block_by-front, runs_alone}
 use Rattle.nv_radix.proofs.extent_map.ExtentMap.to_index.Goals as goal
 
-pub reserve-requires : goal.reserve-requires
-reserve-requires c = λ some. (next_is c.self.inside.runs.entries c.loop-page.page-iterator c.next.new.self c.loop-page.index (c.in-Some.page.now, c.in-Some.blocks.now) c.self.invariant.are c.loop-page.invariant.indexed c.in-Some.ensures.steps).pages
-
-pub set_run-requires-clause-blocks : goal.set_run-requires-clause-blocks
-set_run-requires-clause-blocks c = λ some. (next_is c.self.inside.runs.entries c.loop-page.page-iterator c.next.new.self c.loop-page.index (c.in-Some.page.now, c.in-Some.blocks.now) c.self.invariant.are c.loop-page.invariant.indexed c.in-Some.ensures.steps).blocks
-
-pub loop-page-preserved : goal.loop-page-preserved
-loop-page-preserved c = record {
-  can_next = tt;
-  ends = tt;
-  indexed = more_indexed c.self.inside.runs.entries c.loop-page.page-iterator c.next.new.self c.loop-page.index c.set_run.new.self (c.in-Some.page.now, c.in-Some.blocks.now) c.self.invariant.are c.loop-page.invariant.indexed c.in-Some.ensures.steps
-      (λ p. c.set_run.ensures.blocks p ∙ ap (λ (o : Option ℕ). cond (in_run c.in-Some.page.now c.in-Some.blocks.now.count p) (Some (c.in-Some.blocks.now.start + (p - c.in-Some.page.now))) o) (c.in_ok-reserve.ensures.blocks p));
-}
+pub returns-then-not-is_ready : goal.returns-then-not-is_ready
+returns-then-not-is_ready c = λ p. c.in_ok-index.ensures p
+    ∙ sym (runs_alone c.self.inside.front c.self.inside.runs (λ q low. sym (c.is_ready.ensures q low) ∙ c.if-not-is_ready.true) p)
+    ∙ ap (λ (runs : Runs). block_by runs p) c.self.view_is
 
 pub returns : goal.returns
-returns c = λ p. c.set_run-2.ensures.blocks p
-    ∙ ap (λ (o : Option ℕ). cond (in_run c.self.inside.page c.self.inside.last.count p) (Some (c.self.inside.last.start + (p - c.self.inside.page))) o)
-    (c.in_ok-reserve-2.ensures.blocks p ∙ all_indexed c.self.inside.runs.entries c.loop-page.page-iterator c.loop-page.index c.loop-page.invariant.indexed c.in-None.ensures.steps.0 p)
+returns c = λ p. c.in_ok-put_leaf.ensures p
+    ∙ ap (λ (o : Option ℕ). over 64 c.self.inside.front o p) (c.in_ok-index.ensures p)
+    ∙ sym (block_by-front 64 c.self.inside.front c.self.inside.runs p)
     ∙ ap (λ (runs : Runs). block_by runs p) c.self.view_is

@@ -1,5 +1,5 @@
 use Rattle.nv_radix.proofs.Indexing.{IsIndexed}
-use Rattle.nv_radix.proofs.extent_map.ExtentMap.to_index.Given as goal
+use Rattle.nv_radix.proofs.run_map.RunMap.to_index.Given as goal
 
 abbrev pub invariant-loop-page : goal.invariant-loop-page
 invariant-loop-page l = record {
