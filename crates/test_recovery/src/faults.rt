@@ -24,7 +24,7 @@ fn root_names(alloc: Global) -> Result<NameIndex, Fail> {
     Ok(names)
 }
 
-/// Inode 2 is a file of two links. Inodes 3 and 4 name each other.
+/// Inode 2 is a file of two links. Inodes 3 and 4 name each other. The rows come in no order.
 #[test]
 fn faults_between_four_rows(rt: HostRuntime) -> Result<(), Fail> {
     let alloc = rt.alloc();
@@ -32,10 +32,10 @@ fn faults_between_four_rows(rt: HostRuntime) -> Result<(), Fail> {
     let names_of_3 = one_name(alloc, 4, 16384)?;
     let names_of_4 = one_name(alloc, 3, 20480)?;
     let rows = [
-        row(alloc, 1, Kind::Directory, 1, names),
-        row(alloc, 2, Kind::File, 2, NameIndex::new(alloc)),
         row(alloc, 3, Kind::Directory, 1, names_of_3),
+        row(alloc, 1, Kind::Directory, 1, names),
         row(alloc, 4, Kind::Directory, 1, names_of_4),
+        row(alloc, 2, Kind::File, 2, NameIndex::new(alloc)),
     ];
     let found = [
         Fault::C1 {
