@@ -40,7 +40,8 @@ pub(crate) fn listings_of<'a>(
 pub(crate) fn targets_of(alloc: Global, listings: &[Listing<'_>]) -> Result<Vec<u64>, AllocError>
     ensures { IfOk result (λ found. found.items ≡ targets listings.now) }
 {
-    let mut found = Vec::new(alloc);
+    // Most inodes have one name.
+    let mut found = Vec::with_capacity(alloc, listings.len())?;
     for listing in listings {
         push_targets(&mut found, &listing.names)?;
     }

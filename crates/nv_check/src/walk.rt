@@ -35,7 +35,8 @@ pub(crate) fn reach(
     ensures { IfOk result (λ marks. AreReached listings.now marks.items) }
 {
     let mut marks = vec![in alloc; false; listings.len()]?;
-    let mut todo = Vec::new(alloc);
+    // Each row is opened once at most.
+    let mut todo = Vec::with_capacity(alloc, listings.len())?;
     mark_root(listings, places, &mut marks, &mut todo)?;
     while let Some(place) = todo.pop() {
         spread(places, &listings[place].names, &mut marks, &mut todo)?;
