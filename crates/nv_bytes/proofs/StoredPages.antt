@@ -1,5 +1,5 @@
 -- Pages stored anew: line by line, block by block, and run by run.
-use Rattle.std.proofs.Common.{◌≡◌, inl, inr, ℕ, ◌+◌, ◌-◌, ◌*◌, ◌/◌, ◌%◌, ◌<◌, ◌≤◌, Bool, true, false, nat_lt, cond, List, ◌∷◌, length, get_or, set, drop, Option, Some, None, IfSome, refl, sym, ap, ◌∙◌, subst, arith, add-one}
+use Rattle.std.proofs.Common.{◌≡◌, inl, inr, ℕ, ◌+◌, ◌-◌, ◌*◌, ◌/◌, ◌%◌, ◌<◌, ◌≤◌, Bool, true, false, nat_lt, cond, List, ◌∷◌, length, get_or, set, drop, Option, Some, None, IfSome, Result, Ok, Err, OnOk, refl, sym, ap, ◌∙◌, subst, arith, add-one}
 use Rattle.std.proofs.Math.Seq.{drop-cons}
 use Rattle.std.proofs.lemmas.Bool.{cases_eq, cases_lt}
 use Rattle.std.proofs.lemmas.Bool.Decides.{nat_tests}
@@ -69,6 +69,17 @@ words_hold R bytes to page holds x at =
     let place : x % 4096 / 8 * 8 ≡ 8 * (x % 4096 / 8) = omega arith in
     let back : page * 4096 + 8 * (x % 4096 / 8) + x % 8 ≡ x = omega (arith, at) in
     ap (λ (a : ℕ). byte_of_word (word R (to * 4096 + a)) (x % 8)) place ∙ holds (x % 4096 / 8) (x % 8) (omega arith) (omega arith) ∙ ap bytes back
+
+-- a page whose words are stored in one row
+pub page_stored : {T E : Type 0} (result : Result T E) (R S : Region) (bytes : ℕ → ℕ) (to page : ℕ) (words : List ℕ) → length words ≡ 512 → to * 4096 + 4096 ≤ size R → length R.rest < 8
+    → ((j i : ℕ) → j < 512 → i < 8 → byte_of_word (get_or words j 0) i ≡ bytes (page * 4096 + 8 * j + i)) → OnOk result (S ≡ put_words R (to * 4096) words (length words)) → OnOk result (HoldsPage S bytes to page)
+page_stored (Ok done) R S bytes to page words all within short is stored = words_hold S bytes to page (λ j i below few.
+    let place : (to * 4096 + 8 * j) / 8 ≡ to * 4096 / 8 + j = omega arith in
+    ap (λ (Q : Region). byte_of_word (word Q (to * 4096 + 8 * j)) i) stored
+    ∙ ap (λ (n : ℕ). byte_of_word (get_or (put_words R (to * 4096) words (length words)).words n 0) i) place
+    ∙ ap (λ (v : ℕ). byte_of_word v i) (words_here R (to * 4096) words (length words) j (omega arith) (omega (arith, within, short, all)) (omega (arith, below, all)))
+    ∙ is j i below few)
+page_stored (Err burnt) R S bytes to page words all within short is stored = tt
 
 -- ---- block by block
 

@@ -45,10 +45,10 @@ byte_read bytes w k long small is few =
     fits i = fits_take 8 bytes i small
 
 -- the bytes of words that are read from a row of bytes
-pub byte_of_line : (bytes line : List ℕ) (j k : ℕ) → length bytes ≡ 64 → length line ≡ 8 → ((i : ℕ) → get_or bytes i 0 < 256) → IsRead little_number 8 bytes line → j < 8 → k < 8
-    → byte_of_word (get_or line j 0) k ≡ get_or bytes (8 * j + k) 0
-byte_of_line bytes line j k long eight small read low few =
-    byte_read (drop (8 * j) bytes) (get_or line j 0) k (simp length-drop (omega arith))
+pub byte_of_row : (bytes words : List ℕ) (j k : ℕ) → length bytes ≡ 8 * length words → ((i : ℕ) → get_or bytes i 0 < 256) → IsRead little_number 8 bytes words → j < length words → k < 8
+    → byte_of_word (get_or words j 0) k ≡ get_or bytes (8 * j + k) 0
+byte_of_row bytes words j k long small read low few =
+    byte_read (drop (8 * j) bytes) (get_or words j 0) k (simp length-drop (omega arith))
     (λ i. subst (λ (b : ℕ). b < 256) (sym (get_or-drop (8 * j) bytes i 0)) (small (8 * j + i))) (read j (omega arith)) few
     ∙ get_or-drop (8 * j) bytes k 0
 

@@ -27,24 +27,25 @@ impl NewBytes<'_> {
         self.offset + self.bytes.len() as u64
     }
 
-    /// Whether the word from byte `x` on is all of new bytes.
-    pub(crate) fn covers(&self, x: u64) -> bool
-        requires place { x + 8 ≤ 2 ^ 62 }
+    /// Whether so many bytes from byte `x` on are all new ones.
+    pub(crate) fn covers(&self, x: u64, count: u64) -> bool
+        requires place { x + count ≤ 2 ^ 62 }
         requires small { self.now.offset + length self.now.bytes.now ≤ 2 ^ 62 }
         ensures from { IsTrue result → self.now.offset ≤ x }
-        ensures to { IsTrue result → x + 8 ≤ self.now.offset + length self.now.bytes.now }
+        ensures to { IsTrue result → x + count ≤ self.now.offset + length self.now.bytes.now }
     {
-        self.offset <= x && x + 8 <= self.end()
+        self.offset <= x && x + count <= self.end()
     }
 
-    /// Whether the line from byte `x` on is all of new bytes.
-    pub(crate) fn covers_line(&self, x: u64) -> bool
-        requires place { x + 64 ≤ 2 ^ 62 }
-        requires small { self.now.offset + length self.now.bytes.now ≤ 2 ^ 62 }
-        ensures from { IsTrue result → self.now.offset ≤ x }
-        ensures to { IsTrue result → x + 64 ≤ self.now.offset + length self.now.bytes.now }
+    /// Reads the words of the new bytes from byte `x` on, as many as there is room for.
+    pub(crate) fn read(&self, x: u64, words: &mut [u64])
+        requires from { self.now.offset ≤ x }
+        requires to { x + 8 * length words.old ≤ self.now.offset + length self.now.bytes.now }
+        ensures read { (j k : ℕ) (old : ℕ → ℕ) → j < length words.old → k < 8 → byte_of_word (get_or words.new j 0) k ≡ byte_after self.now.offset self.now.bytes.now self.now.size old (x + 8 * j + k) }
+        ensures as_long { length words.new ≡ length words.old }
     {
-        self.offset <= x && x + LINE_SIZE <= self.end()
+        let start = (x - self.offset) as usize;
+        read_words(&self.bytes[start..start + 8 * words.len()], words);
     }
 
     /// The words of the new bytes in the line from byte `x` on.
@@ -53,8 +54,9 @@ impl NewBytes<'_> {
         requires to { x + 64 ≤ self.now.offset + length self.now.bytes.now }
         ensures { (j k : ℕ) (old : ℕ → ℕ) → j < 8 → k < 8 → byte_of_word (get_or result j 0) k ≡ byte_after self.now.offset self.now.bytes.now self.now.size old (x + 8 * j + k) }
     {
-        let start = (x - self.offset) as usize;
-        line_of(&self.bytes[start..start + LINE_SIZE as usize])
+        let mut words = [0; 8];
+        self.read(x, &mut words);
+        words
     }
 
     /// Whether the word from byte `x` on stays: it lies below the size, and has no new byte.
@@ -109,12 +111,11 @@ fn first_word(bytes: &[u8]) -> u64
     LittleEndian::read_u64(bytes)
 }
 
-/// The eight words of 64 bytes.
-fn line_of(bytes: &[u8]) -> [u64; 8]
-    requires { length bytes.now ≡ 64 }
-    ensures { (j k : ℕ) → j < 8 → k < 8 → byte_of_word (get_or result j 0) k ≡ get_or bytes.now (8 * j + k) 0 }
+/// Reads the words of bytes, which are as many as there is room for.
+fn read_words(bytes: &[u8], words: &mut [u64])
+    requires { length bytes.now ≡ 8 * length words.old }
+    ensures read { (j k : ℕ) → j < length words.old → k < 8 → byte_of_word (get_or words.new j 0) k ≡ get_or bytes.now (8 * j + k) 0 }
+    ensures as_long { length words.new ≡ length words.old }
 {
-    let mut words = [0; 8];
-    LittleEndian::read_u64_into(bytes, &mut words);
-    words
+    LittleEndian::read_u64_into(bytes, words);
 }

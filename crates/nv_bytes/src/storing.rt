@@ -21,6 +21,8 @@ use nv_super::{BLOCK_SIZE, Run};
 
 const LINES_IN_PAGE: u64 = 64;
 
+const WORDS_IN_PAGE: usize = 512;
+
 /// Stores the pages of a file from one on, as they are with the new bytes, into the blocks of runs, in their order.
 ///
 /// `Stopped` where the fuse has burnt. Some of the words may be stored then.
@@ -94,10 +96,57 @@ pub fn store_page<P: Pmem>(
     ensures stopped { is_err result ≡ (P.fuse memory.new).has_burnt }
     ensures keeps_fuse { KeepsFuse (λ limit. to * 4096 + 4096 ≤ limit) (P.fuse memory.old) (P.fuse memory.new) }
 {
+    if change.covers(page * BLOCK_SIZE, BLOCK_SIZE) {
+        store_new_page(memory, to, page, change)
+    } else {
+        store_mixed_page(memory, from, to, page, change)
+    }
+}
+
+/// Stores a page that is all of new bytes into a block.
+fn store_new_page<P: Pmem>(
+    memory: &mut P,
+    to: u64,
+    page: u64,
+    change: &NewBytes,
+) -> Result<(), Stopped>
+    requires to { to * 4096 + 4096 ≤ size (P.region memory.old) }
+    requires page { page < 2 ^ 32 }
+    requires from { change.now.offset ≤ page * 4096 }
+    requires covered { page * 4096 + 4096 ≤ change.now.offset + length change.now.bytes.now }
+    ensures stored { (old : ℕ → ℕ) → OnOk result (HoldsPage (P.region memory.new) (byte_after change.now.offset change.now.bytes.now change.now.size old) to page) }
+    ensures wrote { StoresOnly (InBlocks (λ b. b ≡ to)) (P.region memory.old) (P.region memory.new) (P.may_hold memory.old) (P.may_hold memory.new) }
+    ensures stopped { is_err result ≡ (P.fuse memory.new).has_burnt }
+    ensures keeps_fuse { KeepsFuse (λ limit. to * 4096 + 4096 ≤ limit) (P.fuse memory.old) (P.fuse memory.new) }
+{
+    let _length = memory.len();
+    let mut words = [0; WORDS_IN_PAGE];
+    change.read(page * BLOCK_SIZE, &mut words);
+    memory.store_words(to * BLOCK_SIZE, &words)
+}
+
+/// Stores any page into a block, line by line.
+fn store_mixed_page<P: Pmem>(
+    memory: &mut P,
+    from: Option<u64>,
+    to: u64,
+    page: u64,
+    change: &NewBytes,
+) -> Result<(), Stopped>
+    requires from { IfSome from (λ b. b * 4096 + 4096 ≤ size (P.region memory.old)) }
+    requires apart { IfSome from (λ b. b ≢ to) }
+    requires to { to * 4096 + 4096 ≤ size (P.region memory.old) }
+    requires page { page < 2 ^ 32 }
+    requires small { change.now.offset + length change.now.bytes.now ≤ 2 ^ 62 }
+    ensures stored { OnOk result (HoldsPage (P.region memory.new) (byte_after change.now.offset change.now.bytes.now change.now.size (byte_in (P.region memory.old) from)) to page) }
+    ensures wrote { StoresOnly (InBlocks (λ b. b ≡ to)) (P.region memory.old) (P.region memory.new) (P.may_hold memory.old) (P.may_hold memory.new) }
+    ensures stopped { is_err result ≡ (P.fuse memory.new).has_burnt }
+    ensures keeps_fuse { KeepsFuse (λ limit. to * 4096 + 4096 ≤ limit) (P.fuse memory.old) (P.fuse memory.new) }
+{
     let _length = memory.len();
     for k in 0..LINES_IN_PAGE {
         let line = next_line(memory, from, page * BLOCK_SIZE + LINE_SIZE * k, change);
-        memory.store_line(to * BLOCK_SIZE + LINE_SIZE * k, &line)?;
+        memory.store_words(to * BLOCK_SIZE + LINE_SIZE * k, &line)?;
     }
     Ok(())
 }
@@ -110,7 +159,7 @@ fn next_line<P: Pmem>(memory: &P, block: Option<u64>, x: u64, change: &NewBytes)
     requires small { change.now.offset + length change.now.bytes.now ≤ 2 ^ 62 }
     ensures { (j k : ℕ) → j < 8 → k < 8 → byte_of_word (get_or result j 0) k ≡ byte_after change.now.offset change.now.bytes.now change.now.size (byte_in (P.region memory.now) block) (x + 8 * j + k) }
 {
-    if change.covers_line(x) {
+    if change.covers(x, LINE_SIZE) {
         change.line(x)
     } else {
         mixed_line(memory, block, x, change)
@@ -140,7 +189,7 @@ fn next_word<P: Pmem>(memory: &P, block: Option<u64>, x: u64, change: &NewBytes)
     requires small { change.now.offset + length change.now.bytes.now ≤ 2 ^ 62 }
     ensures { (k : ℕ) → k < 8 → byte_of_word result k ≡ byte_after change.now.offset change.now.bytes.now change.now.size (byte_in (P.region memory.now) block) (x + k) }
 {
-    if change.covers(x) {
+    if change.covers(x, 8) {
         return change.whole(x);
     }
     let old = word_at(memory, block, x);

@@ -1,5 +1,5 @@
 -- The words at the last fence, by the lines that were stored to since.
-use Rattle.std.proofs.Common.{◌≡◌, ◌≢◌, ◌+◌, ◌*◌, ◌/◌, ◌%◌, ◌<◌, ◌||◌, ◌⊎◌, inl, inr, ℕ, zero, suc, Bool, true, false, eqb, if◌then◌else◌, List, [], ◌∷◌, ◌++◌, length, get_or, refl, sym, ap, subst, ◌∙◌, drop, drop-cons, add-one, arith}
+use Rattle.std.proofs.Common.{◌≡◌, ◌≢◌, ◌+◌, ◌*◌, ◌/◌, ◌%◌, ◌<◌, ◌≤◌, ◌||◌, ◌⊎◌, inl, inr, ℕ, zero, suc, Bool, true, false, eqb, if◌then◌else◌, List, [], ◌∷◌, ◌++◌, length, get_or, refl, sym, ap, subst, ◌∙◌, drop, drop-cons, add-one, arith}
 use Rattle.std.specs.List.{list_any, IsDistinct, AllByRecursion, Contains}
 use Rattle.std.specs.List.Sorted.{IsPermutation}
 use Rattle.std.proofs.lemmas.Bool.{cases_eq, cases_lt, ne_eqb, eq-eqb, eqb-true}
@@ -8,8 +8,9 @@ use Rattle.std.proofs.lemmas.List.FromFn.{get_or-map-range_with_len, length-map-
 use Rattle.std.proofs.lemmas.List.Sorted.{Contains-permutation, IsPermutation-map, list_any-IsPermutation}
 use Rattle.std.proofs.lemmas.Map.Views.{Contains-from_any}
 use Rattle.std.proofs.lemmas.Map.Keys.{IsDistinct-head, IsDistinct-tail}
-use Rattle.nv_region.specs.StoredLines.{numbers, word_before, words_before}
-use Rattle.nv_region.specs.Fenced.{DifferOnlyIn}
+use Rattle.nv_region.specs.StoredLines.{is_stored, numbers, word_before, words_before}
+use Rattle.nv_region.specs.Fenced.{DifferOnlyIn, IsTracked}
+use Rattle.nv_region.specs.declared.memory.MemRegion.TheInside.{Inside}
 use Rattle.nv_region.specs.declared.stored.StoredLine.{StoredLine}
 use Rattle.nv_region.proofs.Marks.{no_line}
 
@@ -61,28 +62,41 @@ word_before-append (l ∷ lines) line words i = by (word_before-append lines lin
   by further true = refl
   by further false = further
 
--- a store to a line that was stored to before
-pub again_before : (lines : List StoredLine) (number : ℕ) (words after : List ℕ) → list_any (eqb number) (numbers lines) ≡ true → length after ≡ length words → ((i : ℕ) → i / 8 ≢ number → get_or after i 0 ≡ get_or words i 0)
-    → words_before lines after ≡ words_before lines words
-again_before lines number words after stands as_long others = same_before lines lines words after as_long (λ i within. kept_before lines words after i (λ none. others i (λ here.
-    let e : list_any (eqb (i / 8)) (numbers lines) ≡ true = ap (λ (p : ℕ). list_any (eqb p) (numbers lines)) here ∙ stands in cc)))
+-- a word of a line that was stored to before
+pub again_here : (lines : List StoredLine) (number : ℕ) (words after : List ℕ) (i : ℕ) → list_any (eqb number) (numbers lines) ≡ true → i / 8 ≡ number → word_before lines after i ≡ word_before lines words i
+again_here lines number words after i stands here = kept_before lines words after i (λ none.
+    let e : list_any (eqb (i / 8)) (numbers lines) ≡ true = ap (λ (p : ℕ). list_any (eqb p) (numbers lines)) here ∙ stands in cc)
 
--- the first store to a line, whose words are kept
-pub first_before : (lines : List StoredLine) (line : StoredLine) (words after : List ℕ) → ((j : ℕ) → j < 8 → get_or line.before j 0 ≡ get_or words (8 * line.number + j) 0) → length after ≡ length words
-    → ((i : ℕ) → i / 8 ≢ line.number → get_or after i 0 ≡ get_or words i 0) → words_before (lines ++ line ∷ []) after ≡ words_before lines words
-first_before lines line words after kept as_long others = same_before lines (lines ++ line ∷ []) words after as_long (λ i within. word_before-append lines line after i ∙ by i (list_any (eqb (i / 8)) (numbers lines)) refl)
+-- a word of a line whose words are kept at its first store
+pub first_here : (lines : List StoredLine) (line : StoredLine) (words after : List ℕ) (i : ℕ) → ((j : ℕ) → j < 8 → get_or line.before j 0 ≡ get_or words (8 * line.number + j) 0) → i / 8 ≡ line.number
+    → word_before (lines ++ line ∷ []) after i ≡ word_before lines words i
+first_here lines line words after i kept here = word_before-append lines line after i ∙ by (list_any (eqb (i / 8)) (numbers lines)) refl
   where
-    new : (i : ℕ) → (if eqb (i / 8) line.number then get_or line.before (i % 8) 0 else get_or after i 0) ≡ get_or words i 0
-    new i = elim (cases_eq (i / 8) line.number) [
-      | inl here ↦
-          let e : 8 * line.number + i % 8 ≡ i = omega (arith, here) in
-          ap (λ (b : Bool). if b then get_or line.before (i % 8) 0 else get_or after i 0) (eq-eqb (i / 8) line.number here) ∙ kept (i % 8) (omega arith) ∙ ap (λ (k : ℕ). get_or words k 0) e
-      | inr other ↦ ap (λ (b : Bool). if b then get_or line.before (i % 8) 0 else get_or after i 0) (ne_eqb (i / 8) line.number other) ∙ others i other
-    ]
+    by : (b : Bool) → list_any (eqb (i / 8)) (numbers lines) ≡ b → (if b then word_before lines after i else (if eqb (i / 8) line.number then get_or line.before (i % 8) 0 else get_or after i 0)) ≡ word_before lines words i
+    by true stands = kept_before lines words after i (λ none. absurd (let e : true ≡ false = sym stands ∙ none in cc))
+    by false none =
+        let e : 8 * line.number + i % 8 ≡ i = omega (arith, here) in
+        ap (λ (b : Bool). if b then get_or line.before (i % 8) 0 else get_or after i 0) (eq-eqb (i / 8) line.number here) ∙ kept (i % 8) (omega arith) ∙ ap (λ (k : ℕ). get_or words k 0) e ∙ sym (not_stored lines words i none)
 
-    by : (i : ℕ) (b : Bool) → list_any (eqb (i / 8)) (numbers lines) ≡ b → (if b then word_before lines after i else (if eqb (i / 8) line.number then get_or line.before (i % 8) 0 else get_or after i 0)) ≡ word_before lines words i
-    by i true stands = kept_before lines words after i (λ none. absurd (let e : true ≡ false = sym stands ∙ none in cc))
-    by i false none = new i ∙ sym (not_stored lines words i none)
+-- a word of another line
+pub first_other : (lines : List StoredLine) (line : StoredLine) (words : List ℕ) (i : ℕ) → i / 8 ≢ line.number → word_before (lines ++ line ∷ []) words i ≡ word_before lines words i
+first_other lines line words i other = word_before-append lines line words i ∙ by (list_any (eqb (i / 8)) (numbers lines)) refl
+  where
+    by : (b : Bool) → list_any (eqb (i / 8)) (numbers lines) ≡ b → (if b then word_before lines words i else (if eqb (i / 8) line.number then get_or line.before (i % 8) 0 else get_or words i 0)) ≡ word_before lines words i
+    by true stands = refl
+    by false none = ap (λ (b : Bool). if b then get_or line.before (i % 8) 0 else get_or words i 0) (ne_eqb (i / 8) line.number other) ∙ sym (not_stored lines words i none)
+
+-- Once some lines in a row are noted, the words before are as they were, whatever becomes of these lines.
+pub row_before : (lines noted : List StoredLine) (words after : List ℕ) (first end : ℕ) → ((i : ℕ) → first ≤ i / 8 → i / 8 < end → word_before noted after i ≡ word_before lines words i)
+    → ((i : ℕ) → (first ≤ i / 8 → i / 8 < end → ⊥) → word_before noted after i ≡ word_before lines after i) → length after ≡ length words
+    → ((i : ℕ) → (first ≤ i / 8 → i / 8 < end → ⊥) → get_or after i 0 ≡ get_or words i 0) → words_before noted after ≡ words_before lines words
+row_before lines noted words after first end here others as_long same = same_before lines noted words after as_long (λ i within. elim (cases_lt (i / 8) first) [
+  | inl low ↦ away i (λ from to. absurd (omega (arith, low, from)))
+  | inr from ↦ elim (cases_lt (i / 8) end) [ inl to ↦ here i from to | inr past ↦ away i (λ low to. absurd (omega (arith, past, to))) ]
+])
+  where
+    away : (i : ℕ) → (first ≤ i / 8 → i / 8 < end → ⊥) → word_before noted after i ≡ word_before lines words i
+    away i other = others i other ∙ kept_before lines words after i (λ none. same i other)
 
 -- where no line stands twice, each has its own words
 pub word_at : (lines : List StoredLine) (words : List ℕ) (k i : ℕ) (d : StoredLine) → IsDistinct eqb (numbers lines) → k < length lines → i / 8 ≡ (get_or lines k d).number → word_before lines words i ≡ get_or (get_or lines k d).before (i % 8) 0
@@ -182,3 +196,13 @@ put_back_more lines k words after once low as_long here others =
     distinct_behind zero ls apart = apart
     distinct_behind (suc n) [] apart = apart
     distinct_behind (suc n) (l ∷ ls) apart = distinct_behind n ls (IsDistinct-tail eqb l.number (numbers ls) apart)
+
+-- what is known of a region lasts where its words change and lines of it are noted
+pub row_tracked : (m n : Inside) (end : ℕ) → IsTracked m → length n.words.items ≡ length m.words.items → length n.rest.items ≡ length m.rest.items → n.stored.count ≡ m.stored.count → end ≤ m.stored.count
+    → ((p : ℕ) → is_stored n.stored p ≡ true → (is_stored m.stored p ≡ true) ⊎ (p < end)) → IsTracked n
+row_tracked m n end tracked as_long rest count within noted = record {
+  short = omega (arith, rest, tracked.short);
+  small = omega (arith, as_long, tracked.small);
+  count = count ∙ tracked.count ∙ ap (λ (k : ℕ). (k + 7) / 8) (sym as_long);
+  below = λ p stored. elim (noted p stored) [ inl before ↦ omega (arith, tracked.below p before, count) | inr new ↦ omega (arith, new, within, count) ];
+}

@@ -5,7 +5,7 @@ pub mod Stops
 pub mod Wordwise
 pub mod Lines
 pub mod AfterStores
-pub mod LineStores
+pub mod RowStores
 pub mod Marks
 pub mod Before
 pub mod Fronted

@@ -59,20 +59,20 @@ one_more at words n R Q S old mid new first is adds = record {
 pub first_size : {at n : ℕ} {words : List ℕ} {R Q : Region} {old mid : Choices} → FirstStored at words n R Q old mid → size Q ≡ size R
 first_size {at} {n} {words} {R} first = ap size first.reads ∙ put_words_size R at words n
 
--- ---- a line that is copied
+-- ---- words that are copied
 
--- the words of a line put at once are those put in turn
-pub line_copied : (R : Region) (part words : List ℕ) (line : ℕ) → length words ≡ 8 → 8 * line + 8 ≤ length R.words → part ≡ words → put_mid (line * 8) (line * 8 + 8 - line * 8) R.words part ≡ (put_words R (64 * line) words 8).words
-line_copied R part words line eight within is =
-    let long : length (put_mid (line * 8) (line * 8 + 8 - line * 8) R.words part) ≡ length R.words = rw is (mid_long R.words words (line * 8) (line * 8 + 8 - line * 8) (omega arith) (omega arith)) in
-    ext_get_or 0 _ _ (long ∙ sym (put_words_long R (64 * line) words 8)) (λ i inside. elim (cases_lt i (line * 8)) [
-      | inl low ↦ rw is (mid_before R.words words (line * 8) (line * 8 + 8 - line * 8) i (omega arith) (omega arith) low) ∙ sym (words_elsewhere R (64 * line) words 8 i (omega arith) (λ k few e. absurd (omega (arith, e, low))))
-      | inr high ↦ elim (cases_lt i (line * 8 + 8)) [
+-- words in a row that are put at once are those put in turn
+pub words_copied : (R : Region) (part words : List ℕ) (first n : ℕ) → length words ≡ n → first + n ≤ length R.words → part ≡ words → put_mid first (first + n - first) R.words part ≡ (put_words R (8 * first) words n).words
+words_copied R part words first n as_long within is =
+    let long : length (put_mid first (first + n - first) R.words part) ≡ length R.words = rw is (mid_long R.words words first (first + n - first) (omega arith) (omega arith)) in
+    ext_get_or 0 _ _ (long ∙ sym (put_words_long R (8 * first) words n)) (λ i inside. elim (cases_lt i first) [
+      | inl low ↦ rw is (mid_before R.words words first (first + n - first) i (omega arith) (omega arith) low) ∙ sym (words_elsewhere R (8 * first) words n i (omega arith) (λ k few e. absurd (omega (arith, e, low))))
+      | inr high ↦ elim (cases_lt i (first + n)) [
         | inl below ↦
-            let place : 64 * line / 8 + (i - line * 8) ≡ i = omega (arith, high) in
-            rw is (mid_here R.words words (line * 8) (line * 8 + 8 - line * 8) i (omega arith) (omega arith) high (omega arith))
-            ∙ sym (ap (λ (j : ℕ). get_or (put_words R (64 * line) words 8).words j 0) (sym place) ∙ words_here R (64 * line) words 8 (i - line * 8) (omega arith) (omega arith) (omega arith))
-        | inr behind ↦ rw is (mid_behind R.words words (line * 8) (line * 8 + 8 - line * 8) i (omega arith) (omega arith) (omega arith)) ∙ sym (words_elsewhere R (64 * line) words 8 i (omega arith) (λ k few e. absurd (omega (arith, e, few, behind))))
+            let place : 8 * first / 8 + (i - first) ≡ i = omega (arith, high) in
+            rw is (mid_here R.words words first (first + n - first) i (omega arith) (omega arith) high (omega arith))
+            ∙ sym (ap (λ (j : ℕ). get_or (put_words R (8 * first) words n).words j 0) (sym place) ∙ words_here R (8 * first) words n (i - first) (omega arith) (omega arith) (omega arith))
+        | inr behind ↦ rw is (mid_behind R.words words first (first + n - first) i (omega arith) (omega arith) (omega arith)) ∙ sym (words_elsewhere R (8 * first) words n i (omega arith) (λ k few e. absurd (omega (arith, e, few, behind))))
       ]
     ])
   where
@@ -89,8 +89,8 @@ line_copied R part words line eight within is =
     mid_behind xs ys a k i as_long within high = grind (arith, places)
 
 -- of the words after stores, each is one of those stored or as before
-pub line_adds : (R : Region) (at : ℕ) (words : List ℕ) (n i x : ℕ) → at % 8 ≡ 0 → at / 8 + n ≤ length R.words → x ≡ get_or (put_words R at words n).words i 0 → (x ≡ get_or R.words i 0) ⊎ Each at words n i x
-line_adds R at words n i x aligned within is = elim (cases i) [
+pub words_add : (R : Region) (at : ℕ) (words : List ℕ) (n i x : ℕ) → at % 8 ≡ 0 → at / 8 + n ≤ length R.words → x ≡ get_or (put_words R at words n).words i 0 → (x ≡ get_or R.words i 0) ⊎ Each at words n i x
+words_add R at words n i x aligned within is = elim (cases i) [
   | inl away ↦ inl (is ∙ words_elsewhere R at words n i aligned (λ k few e. away (omega (arith, e)) (omega (arith, e, few))))
   | inr here ↦
       let place : at / 8 + (i - at / 8) ≡ i = omega (arith, here.0) in
@@ -109,8 +109,6 @@ told_err (Err stopped) p = p
 pub all_added : {at n : ℕ} {words : List ℕ} {R Q : Region} {old mid : Choices} (k : ℕ) → k ≡ n → FirstStored at words k R Q old mid → Adds (Each at words n) old mid
 all_added {at} {n} {words} {R} {Q} {old} {mid} k all first = subst (λ (m : ℕ). Adds (Each at words m) old mid) all first.adds
 
--- the words of a line that is stored are all that change
-pub put_words_other : (R : Region) (line : ℕ) (words : List ℕ) (n i : ℕ) → n ≤ 8 → i / 8 ≢ line → get_or (put_words R (64 * line) words n).words i 0 ≡ get_or R.words i 0
-put_words_other R line words zero i few other = refl
-put_words_other R line words (suc n) i few other =
-    get_or-set_other (put_words R (64 * line) words n).words ((64 * line + 8 * n) / 8) i (get_or words n 0) 0 (omega (arith, few, other)) ∙ put_words_other R line words n i (omega (arith, few)) other
+-- of words that are stored in a row, no line behind them or before them changes
+pub row_other : (R : Region) (first : ℕ) (words : List ℕ) (n i : ℕ) → (first / 8 ≤ i / 8 → i / 8 < (first + n + 7) / 8 → ⊥) → get_or (put_words R (8 * first) words n).words i 0 ≡ get_or R.words i 0
+row_other R first words n i other = words_elsewhere R (8 * first) words n i (omega arith) (λ k few e. other (omega (arith, e)) (omega (arith, e, few)))

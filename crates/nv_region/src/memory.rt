@@ -26,8 +26,6 @@ const WORDS_IN_BLOCK: usize = 512;
 
 const WORDS_IN_LINE: usize = 8;
 
-const LINE_SIZE: u64 = 64;
-
 const MOST_BLOCKS: u64 = 262_144;
 
 const MOST_BYTES: usize = 1 << 30;
@@ -331,22 +329,23 @@ impl Pmem for MemRegion {
         Ok(())
     }
 
-    fn store_line(&mut self, at: u64, words: &[u64; 8]) -> Result<(), Stopped>
-        requires aligned { at % 64 ≡ 0 }
-        requires within { at + 64 ≤ size self.old.region }
-        ensures stored { OnOk result (self.new.region ≡ put_words self.old.region at words.now 8) }
-        ensures may_keep { OnOk result (Adds (Each at words.now 8) (fenced_or_last self.old) (fenced_or_last self.new)) }
-        ensures refused { OnErr result (StoppedAmong at words.now 8 self.old.region self.new.region (fenced_or_last self.old) (fenced_or_last self.new)) }
+    fn store_words(&mut self, at: u64, words: &[u64]) -> Result<(), Stopped>
+        requires aligned { at % 8 ≡ 0 }
+        requires some { 1 ≤ length words.now }
+        requires within { at + 8 * length words.now ≤ size self.old.region }
+        ensures stored { OnOk result (self.new.region ≡ put_words self.old.region at words.now (length words.now)) }
+        ensures may_keep { OnOk result (Adds (Each at words.now (length words.now)) (fenced_or_last self.old) (fenced_or_last self.new)) }
+        ensures refused { OnErr result (StoppedAmong at words.now (length words.now) self.old.region self.new.region (fenced_or_last self.old) (fenced_or_last self.new)) }
         ensures stopped { is_err result ≡ self.new.burnt }
-        ensures keeps_fuse { KeepsFuse (λ limit. at + 64 ≤ limit) (fuse_state self.old) (fuse_state self.new) }
-        // It is as after eight stores in turn, and the fuse burns where it would at these.
-        ensures after { self.new ≡ after_stores self.old at words.now 8 }
+        ensures keeps_fuse { KeepsFuse (λ limit. at + 8 * length words.now ≤ limit) (fuse_state self.old) (fuse_state self.new) }
+        // It is as after these stores in turn, and the fuse burns where it would at them.
+        ensures after { self.new ≡ after_stores self.old at words.now (length words.now) }
     {
         let _length = self.len();
-        if !self.lets_line_pass() {
+        if !self.lets_all_pass() {
             return self.store_each(at, words);
         }
-        self.put_line((at / LINE_SIZE) as usize, words);
+        self.put_row((at / 8) as usize, words);
         Ok(())
     }
 
@@ -401,36 +400,40 @@ impl MemRegion {
         self.words[number] = value;
     }
 
-    // Whether no store of a line's eight can burn the fuse: none is set.
-    fn lets_line_pass(&self) -> bool
+    // Whether no store can burn the fuse: none is set.
+    fn lets_all_pass(&self) -> bool
         ensures { result ≡ is_steady self.now }
     {
         !self.burnt && matches!(self.fuse, Fuse::Off)
     }
 
-    // Changes the eight words of the line of this number, and notes it.
-    fn put_line(&mut self, line: usize, words: &[u64; 8])
-        requires { 8 * line + 8 ≤ length self.old.region.words }
-        ensures { self.new ≡ record self.old { region = put_words self.old.region (64 * line) words.now 8 } }
-    {
-        self.stored.note(line, &self.words);
-        let start = line * WORDS_IN_LINE;
-        self.words[start..start + WORDS_IN_LINE].copy_from_slice(words);
-    }
-
-    // Stores the words of a line one by one, up to the one at which the fuse burns.
-    fn store_each(&mut self, at: u64, words: &[u64; 8]) -> Result<(), Stopped>
-        requires aligned { at % 64 ≡ 0 }
-        requires within { at + 64 ≤ size self.old.region }
-        ensures stored { OnOk result (self.new.region ≡ put_words self.old.region at words.now 8) }
-        ensures may_keep { OnOk result (Adds (Each at words.now 8) (fenced_or_last self.old) (fenced_or_last self.new)) }
-        ensures refused { OnErr result (StoppedAmong at words.now 8 self.old.region self.new.region (fenced_or_last self.old) (fenced_or_last self.new)) }
-        ensures stopped { is_err result ≡ self.new.burnt }
-        ensures keeps_fuse { KeepsFuse (λ limit. at + 64 ≤ limit) (fuse_state self.old) (fuse_state self.new) }
-        ensures after { self.new ≡ after_stores self.old at words.now 8 }
+    // Changes the words in a row from the one of this number on, and notes their lines.
+    fn put_row(&mut self, first: usize, words: &[u64])
+        requires some { 1 ≤ length words.now }
+        requires within { first + length words.now ≤ length self.old.region.words }
+        ensures { self.new ≡ record self.old { region = put_words self.old.region (8 * first) words.now (length words.now) } }
     {
         let _length = self.len();
-        for k in 0..WORDS_IN_LINE {
+        let end = first + words.len();
+        self.stored
+            .note_row(first / WORDS_IN_LINE, lines_of(end), &self.words);
+        self.words[first..end].copy_from_slice(words);
+    }
+
+    // Stores words in a row one by one, up to the one at which the fuse burns.
+    fn store_each(&mut self, at: u64, words: &[u64]) -> Result<(), Stopped>
+        requires aligned { at % 8 ≡ 0 }
+        requires some { 1 ≤ length words.now }
+        requires within { at + 8 * length words.now ≤ size self.old.region }
+        ensures stored { OnOk result (self.new.region ≡ put_words self.old.region at words.now (length words.now)) }
+        ensures may_keep { OnOk result (Adds (Each at words.now (length words.now)) (fenced_or_last self.old) (fenced_or_last self.new)) }
+        ensures refused { OnErr result (StoppedAmong at words.now (length words.now) self.old.region self.new.region (fenced_or_last self.old) (fenced_or_last self.new)) }
+        ensures stopped { is_err result ≡ self.new.burnt }
+        ensures keeps_fuse { KeepsFuse (λ limit. at + 8 * length words.now ≤ limit) (fuse_state self.old) (fuse_state self.new) }
+        ensures after { self.new ≡ after_stores self.old at words.now (length words.now) }
+    {
+        let _length = self.len();
+        for k in 0..words.len() {
             self.store(at + 8 * k as u64, words[k])?;
         }
         Ok(())

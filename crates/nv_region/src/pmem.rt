@@ -1,6 +1,6 @@
 //! Memory that keeps its words over a stop, as far as they were fenced.
 
-ghost use Rattle.std.specs.Prelude.{◌≡◌, ◌+◌, ◌≤◌, ◌%◌, ℕ, false, IsTrue, OnOk, OnErr, is_err, get_or, length, ◌<◌};
+ghost use Rattle.std.specs.Prelude.{◌≡◌, ◌+◌, ◌*◌, ◌≤◌, ◌%◌, ℕ, false, IsTrue, OnOk, OnErr, is_err, get_or, length, ◌<◌};
 ghost use Rattle.nv_region.specs.Region.{Region, size, word, put};
 ghost use Rattle.nv_region.specs.Stops.{Adds, One, NoneAdded, NothingPending};
 ghost use Rattle.nv_region.specs.Lines.{Each, StoppedAmong, put_words};
@@ -47,21 +47,22 @@ pub trait Pmem {
         ensures stopped { is_err result ≡ (fuse self.new).has_burnt }
         ensures keeps_fuse { KeepsFuse (λ limit. at + 8 ≤ limit) (fuse self.old) (fuse self.new) };
 
-    /// Stores the eight words of a line of 64 bytes, in turn and each as by `store`.
+    /// Stores words in a row, in turn and each as by `store`.
     ///
     /// Answers `Stopped` exactly where the fuse has burnt by the end of the call. The words before the one at which it
     /// burnt are stored then, and no others.
-    fn store_line(&mut self, at: u64, words: &[u64; 8]) -> Result<(), Stopped>
-        requires aligned { at % 64 ≡ 0 }
-        requires within { at + 64 ≤ size (region self.old) }
-        ensures stored { OnOk result (region self.new ≡ put_words (region self.old) at words.now 8) }
-        ensures may_keep { OnOk result (Adds (Each at words.now 8) (may_hold self.old) (may_hold self.new)) }
-        ensures refused { OnErr result (StoppedAmong at words.now 8 (region self.old) (region self.new) (may_hold self.old) (may_hold self.new)) }
+    fn store_words(&mut self, at: u64, words: &[u64]) -> Result<(), Stopped>
+        requires aligned { at % 8 ≡ 0 }
+        requires some { 1 ≤ length words.now }
+        requires within { at + 8 * length words.now ≤ size (region self.old) }
+        ensures stored { OnOk result (region self.new ≡ put_words (region self.old) at words.now (length words.now)) }
+        ensures may_keep { OnOk result (Adds (Each at words.now (length words.now)) (may_hold self.old) (may_hold self.new)) }
+        ensures refused { OnErr result (StoppedAmong at words.now (length words.now) (region self.old) (region self.new) (may_hold self.old) (may_hold self.new)) }
         ensures stopped { is_err result ≡ (fuse self.new).has_burnt }
-        ensures keeps_fuse { KeepsFuse (λ limit. at + 64 ≤ limit) (fuse self.old) (fuse self.new) }
+        ensures keeps_fuse { KeepsFuse (λ limit. at + 8 * length words.now ≤ limit) (fuse self.old) (fuse self.new) }
     {
         let _length = self.len();
-        for k in 0..8 {
+        for k in 0..words.len() {
             self.store(at + 8 * k as u64, words[k])?;
         }
         Ok(())

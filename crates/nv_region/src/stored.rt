@@ -3,10 +3,10 @@
 //!
 //! All room is made when the region is made: a mark for each line, and a list as long as there are lines.
 
-ghost use Rattle.std.specs.Prelude.{◌≡◌, ◌≢◌, ◌==◌, ◌<◌, ◌≤◌, ◌+◌, ◌*◌, ◌/◌, ◌^◌, ◌||◌, ℕ, List, IfOk, [], length, get_or, slice_index_or, eqb, true, false, replicate};
+ghost use Rattle.std.specs.Prelude.{◌≡◌, ◌≢◌, ◌==◌, ◌<◌, ◌≤◌, ◌+◌, ◌*◌, ◌/◌, ◌^◌, ◌||◌, ◌⊎◌, ℕ, List, IfOk, [], length, get_or, slice_index_or, eqb, true, false, replicate};
 ghost use Rattle.std.specs.List.{list_any, IsDistinct};
 ghost use Rattle.std.specs.List.Sorted.{IsStrictlyIncreasing};
-ghost use Rattle.nv_region.specs.StoredLines.{is_stored, numbers, words_before};
+ghost use Rattle.nv_region.specs.StoredLines.{is_stored, numbers, word_before, words_before};
 
 use std::alloc::{AllocError, Global};
 use std::marker::Model;
@@ -62,6 +62,9 @@ impl StoredLines {
         ensures lines { (p : ℕ) → is_stored self.new p ≡ ((p == number) || is_stored self.old p) }
         // What the words at the last fence are doesn't hang on what becomes of the line.
         ensures before { (after : List ℕ) → length after ≡ length words.now → ((i : ℕ) → i / 8 ≢ number → get_or after i 0 ≡ get_or words.now i 0) → words_before self.new.lines after ≡ words_before self.old.lines words.now }
+        // Word by word: the line's are as they were, whatever becomes of them, and of others nothing changes.
+        ensures here { (after : List ℕ) (i : ℕ) → i / 8 ≡ number → word_before self.new.lines after i ≡ word_before self.old.lines words.now i }
+        ensures others { (after : List ℕ) (i : ℕ) → i / 8 ≢ number → word_before self.new.lines after i ≡ word_before self.old.lines after i }
     {
         if !self.marks[number] {
             self.marks[number] = true;
@@ -69,6 +72,23 @@ impl StoredLines {
                 number,
                 before: words_of(words, number),
             });
+        }
+    }
+
+    /// Notes a store to each line from one up to another, as by `note` in turn.
+    #[inline]
+    pub(crate) fn note_row(&mut self, first: usize, end: usize, words: &[u64])
+        requires rises { first ≤ end }
+        requires below { end ≤ self.old.count }
+        requires within { 8 * end < length words.now + 8 }
+        requires small { length words.now ≤ 2 ^ 27 }
+        ensures count { self.new.count ≡ self.old.count }
+        ensures lines { (p : ℕ) → is_stored self.new p ≡ true → (is_stored self.old p ≡ true) ⊎ (p < end) }
+        ensures here { (after : List ℕ) (i : ℕ) → first ≤ i / 8 → i / 8 < end → word_before self.new.lines after i ≡ word_before self.old.lines words.now i }
+        ensures others { (after : List ℕ) (i : ℕ) → (first ≤ i / 8 → i / 8 < end → ⊥) → word_before self.new.lines after i ≡ word_before self.old.lines after i }
+    {
+        for number in first..end {
+            self.note(number, words);
         }
     }
 

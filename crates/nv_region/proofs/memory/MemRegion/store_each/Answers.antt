@@ -1,4 +1,4 @@
-use Rattle.std.proofs.Common.{◌+◌, arith, ap, sym, ◌∙◌, is_err}
+use Rattle.std.proofs.Common.{◌+◌, length, arith, ap, sym, ◌∙◌, is_err}
 use Rattle.nv_region.proofs.Fuses.{keeps_more}
 use Rattle.nv_region.proofs.Lines.{told_err, all_added, one_more, same_stored, first_size}
 use Rattle.nv_region.proofs.AfterStores.{after_one, stays_burnt}
@@ -19,7 +19,7 @@ loop-k-preserved c = record {
 pub returns-in_err-store-clause-after : goal.returns-in_err-store-clause-after
 returns-in_err-store-clause-after c =
     let now = after_one _ _ _ _ _ _ c.loop-k.invariant.after c.store.ensures.after in
-    now ∙ stays_burnt c.args.self.now c.args.at c.args.words.now (c.loop-k.k + 1) 8 (omega (arith, c.loop-k-test.true)) (ap (λ (m : RegionState). m.burnt) (sym now) ∙ sym c.store.ensures.stopped ∙ ap is_err c.in_err-store.was)
+    now ∙ stays_burnt c.args.self.now c.args.at c.args.words.now (c.loop-k.k + 1) (length c.args.words.now) (omega (arith, c.loop-k-test.true)) (ap (λ (m : RegionState). m.burnt) (sym now) ∙ sym c.store.ensures.stopped ∙ ap is_err c.in_err-store.was)
 
 pub returns-in_err-store-clause-refused : goal.returns-in_err-store-clause-refused
 returns-in_err-store-clause-refused c = told_err c.from_residual.result (c.loop-k.k, c.loop-k-test.true, same_stored _ _ _ _ _ _ _ _ _ c.loop-k.invariant.first c.in_err-store.ensures.refused c.in_err-store.ensures.refused_keep)

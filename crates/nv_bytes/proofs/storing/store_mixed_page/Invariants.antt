@@ -6,7 +6,7 @@ use Rattle.nv_held.specs.Bytes.{byte_in}
 use Rattle.nv_bytes.specs.Bytes.{byte_after}
 use Rattle.nv_bytes.specs.Storing.{InBlocks}
 use Rattle.nv_bytes.proofs.StoredPages.{HoldsWords}
-use Rattle.nv_bytes.proofs.storing.store_page.Given as goal
+use Rattle.nv_bytes.proofs.storing.store_mixed_page.Given as goal
 
 abbrev pub invariant-loop-k : goal.invariant-loop-k
 invariant-loop-k g l = record {

@@ -1,4 +1,4 @@
--- What stores of a line change: only words of the line, whether all were stored or only the first.
+-- What stores of words in a row change: only these words, whether all were stored or only the first.
 use Rattle.std.proofs.Common.{◌≡◌, ◌+◌, ◌*◌, ◌%◌, ◌<◌, ◌≤◌, inl, inr, ℕ, zero, suc, List, get_or, sym, subst, arith, Result, Ok, Err, OnOk, OnErr}
 use Rattle.nv_region.specs.Region.{Region}
 use Rattle.nv_region.specs.Stops.{Choices, Adds, IsMixed}
@@ -20,11 +20,11 @@ first_stores R S at words n m old new aligned few reads adds = record {
   adds = λ i x may. elim (adds i x may) [ inl before ↦ inl before | inr here ↦ inr (each_within at words n m aligned few i x here) ];
 }
 
--- after the words of a line were stored, or the first of them up to a stop
-pub line_stores : {T E : Type 0} (result : Result T E) (R S : Region) (at : ℕ) (words : List ℕ) (old new : Choices) → at % 8 ≡ 0
-    → OnOk result (S ≡ put_words R at words 8) → OnOk result (Adds (Each at words 8) old new) → OnErr result (StoppedAmong at words 8 R S old new) → StoresOnly (Within at 64) R S old new
-line_stores (Ok done) R S at words old new aligned reads adds stopped = first_stores R S at words 8 64 old new aligned (omega arith) reads adds
-line_stores (Err burnt) R S at words old new aligned reads adds stopped =
+-- after words in a row were stored, or the first of them up to a stop
+pub row_stores : {T E : Type 0} (result : Result T E) (R S : Region) (at : ℕ) (words : List ℕ) (count : ℕ) (old new : Choices) → at % 8 ≡ 0
+    → OnOk result (S ≡ put_words R at words count) → OnOk result (Adds (Each at words count) old new) → OnErr result (StoppedAmong at words count R S old new) → StoresOnly (Within at (8 * count)) R S old new
+row_stores (Ok done) R S at words count old new aligned reads adds stopped = first_stores R S at words count (8 * count) old new aligned (omega arith) reads adds
+row_stores (Err burnt) R S at words count old new aligned reads adds stopped =
     let n : ℕ = stopped.0 in
-    let below : n < 8 = stopped.1 in
-    first_stores R S at words n 64 old new aligned (omega arith) stopped.2.reads stopped.2.adds
+    let below : n < count = stopped.1 in
+    first_stores R S at words n (8 * count) old new aligned (omega arith) stopped.2.reads stopped.2.adds

@@ -1,7 +1,7 @@
 use Rattle.std.proofs.Common.{arith, ap, sym, ◌∙◌, is_err}
 use Rattle.nv_region.proofs.Fuses.{keeps_more}
 use Rattle.nv_region.proofs.Lines.{told_err, all_added, one_more, same_stored, first_size}
-use Rattle.nv_region.proofs.pmem.Pmem.store_line.Goals as goal
+use Rattle.nv_region.proofs.pmem.Pmem.store_words.Goals as goal
 
 pub store-requires-clause-within : goal.store-requires-clause-within
 store-requires-clause-within g c = omega (arith, c.requires.within, c.loop-k-test.true, first_size c.loop-k.invariant.first)

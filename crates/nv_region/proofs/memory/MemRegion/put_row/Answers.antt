@@ -1,0 +1,49 @@
+use Rattle.std.proofs.Common.{◌≡◌, ◌≤◌, ◌∙◌, ◌+◌, ◌-◌, ◌*◌, ◌/◌, ℕ, List, length, refl, sym, ap, arith}
+use Rattle.nv_region.specs.StoredLines.{word_before, words_before}
+use Rattle.std.specs.Vec.{with_items}
+use Rattle.std.proofs.lemmas.List.{take_at}
+use borrow.Rule.Slice.PartMut.{put_mid}
+use Rattle.nv_region.specs.Region.{Region}
+use Rattle.nv_region.specs.RegionState.{RegionState}
+use Rattle.nv_region.specs.Lines.{put_words}
+use Rattle.nv_region.proofs.Before.{row_before, row_tracked}
+use Rattle.nv_region.proofs.Lines.{words_copied, put_words_long, put_words_rest, row_other}
+use Rattle.nv_region.proofs.memory.MemRegion.put_row.Goals as goal
+
+pub returns : goal.returns
+returns c =
+    let first : ℕ = c.args.first in
+    let n : ℕ = length c.args.words.now in
+    let R : Region = record { words = c.self.inside.words.items; rest = c.self.inside.rest.items } in
+    let made : List ℕ = put_mid first (first + n - first) c.deref_mut.result.now c.copy_from_slice.new.self in
+    let after : List ℕ = (put_words R (8 * first) c.args.words.now n).words in
+    let within : first + n ≤ length R.words = omega (arith, c.requires.within, ap (λ (m : RegionState). length m.region.words) c.self.view_is) in
+    let words : made ≡ after =
+    ap (λ (l : List ℕ). put_mid first (first + n - first) l c.copy_from_slice.new.self) c.deref_mut.ensures.value ∙ words_copied R c.copy_from_slice.new.self c.args.words.now first n (omega arith) within c.copy_from_slice.ensures.after in
+    let items : (with_items c.self.inside.words made).items ≡ made = take_at made _ c.self.inside.words.len (omega (arith, ap length words, put_words_long R (8 * first) c.args.words.now n, c.self.inside.words.ok)) in
+    let before : words_before c.note_row.new.self.lines (with_items c.self.inside.words made).items ≡ words_before c.self.inside.stored.lines c.self.inside.words.items =
+    ap (λ (l : List ℕ). words_before c.note_row.new.self.lines l) (items ∙ words)
+    ∙ row_before c.self.inside.stored.lines c.note_row.new.self.lines R.words after (first / 8) c.lines_of.result
+    (λ i from to. c.note_row.ensures.here after i from to ∙ ap (λ (l : List ℕ). word_before c.self.inside.stored.lines l i) c.deref.ensures.value)
+    (λ i away. c.note_row.ensures.others after i away) (put_words_long R (8 * first) c.args.words.now n)
+    (λ i away. row_other R first c.args.words.now n i (λ from to. away from (omega (arith, to, c.lines_of.ensures)))) in
+    (λ k. record {
+      region = record { words = (items ∙ words) k; rest = (sym (put_words_rest R (8 * first) c.args.words.now n)) k };
+      fenced = before k;
+      fuse = c.self.inside.fuse;
+      burnt = c.self.inside.burnt;
+    })
+    ∙ ap (λ (m : RegionState). record m { region = put_words m.region (8 * first) c.args.words.now n }) c.self.view_is
+
+pub invariant_of-self : goal.invariant_of-self
+invariant_of-self c =
+    let first : ℕ = c.args.first in
+    let n : ℕ = length c.args.words.now in
+    let R : Region = record { words = c.self.inside.words.items; rest = c.self.inside.rest.items } in
+    let made : List ℕ = put_mid first (first + n - first) c.deref_mut.result.now c.copy_from_slice.new.self in
+    let within : first + n ≤ length R.words = omega (arith, c.requires.within, ap (λ (m : RegionState). length m.region.words) c.self.view_is) in
+    let words : made ≡ (put_words R (8 * first) c.args.words.now n).words =
+    ap (λ (l : List ℕ). put_mid first (first + n - first) l c.copy_from_slice.new.self) c.deref_mut.ensures.value ∙ words_copied R c.copy_from_slice.new.self c.args.words.now first n (omega arith) within c.copy_from_slice.ensures.after in
+    let long : length made ≡ length R.words = ap length words ∙ put_words_long R (8 * first) c.args.words.now n in
+    let items : (with_items c.self.inside.words made).items ≡ made = take_at made _ c.self.inside.words.len (omega (arith, long, c.self.inside.words.ok)) in
+    row_tracked c.self.inside _ c.lines_of.result c.self.invariant (ap length items ∙ long) refl c.note_row.ensures.count (omega (arith, c.lines_of.ensures, within, c.self.invariant.count)) c.note_row.ensures.lines
