@@ -5,17 +5,18 @@ use Rattle.std.specs.List.{IsDistinct, AllByRecursion, filter}
 use Rattle.std.specs.List.Sorted.{IsStrictlySortedBy}
 use Rattle.std.specs.Option.{option_or}
 use Rattle.std.specs.declared.cmp.Ordering.TheVariants.{Less}
-use Rattle.std.specs.Ordering.{is_eq}
+use Rattle.std.specs.Ordering.{nat_cmp, is_eq}
 use Rattle.std.specs.Map.{keys_of}
-use Rattle.std.specs.Cmp.Lexicographic.{pointwise, nat_list_eq_equiv, bytes_decides}
+use Rattle.std.specs.Cmp.Lexicographic.{pointwise, nat_list_eq_equiv, texts_ties, bytes_decides}
 use Rattle.std.proofs.lemmas.Map.Keys.{IsDistinct-head, IsDistinct-tail, IsDistinct-cons, sorted_head, sorted_tail}
 use Rattle.std.proofs.lemmas.Map.Made.{IsDistinct-keys_filter}
 use Rattle.nv_names.specs.declared.target.Target.{Target}
-use Rattle.nv_names.specs.Keys.{name_in, IsKey}
+use Rattle.nv_names.specs.Keys.{key_of}
 use Rattle.nv_names.specs.Names.{found_in, names_of}
-use Rattle.nv_names.specs.Table.{tree_line, fresh_line, PutsAt, FindSame, AreBeside}
-use Rattle.nv_names.proofs.Entries.{by_bytes, same_keys, found_in-append}
-use Rattle.nv_names.proofs.Keys.{Keyed}
+use Rattle.nv_names.specs.Table.{fresh_line, PutsAt, FindSame, AreApart, AreBeside}
+use Rattle.nv_names.specs.Tree.{first_line, other_line}
+use Rattle.nv_names.proofs.Entries.{by_bytes, found_in-append}
+use Rattle.nv_names.proofs.First.{Entry, Keyed, other_names}
 use Rattle.nv_names.proofs.Listing.{each_found}
 
 -- no value is none
@@ -47,17 +48,69 @@ PutsAt-after a b d name w same puts q = puts q ∙ ap (cond (pointwise nat_eq q 
 pub found_here : (old new : List (List ℕ × ℕ × ℕ)) (name : List ℕ) (w : Option (ℕ × ℕ)) → PutsAt old new name w → found_in new name ≡ w
 found_here old new name w puts = puts name ∙ ap (λ b. cond b w (found_in old name)) (nat_list_eq_equiv.refl name)
 
--- a name that is taken out of both is taken out
-pub PutsAt-both : (a b d e : List (List ℕ × ℕ × ℕ)) (name : List ℕ) → PutsAt a b name None → PutsAt d e name None → PutsAt (a ++ d) (b ++ e) name None
-PutsAt-both a b d e name first second q =
+-- a name gets its meaning in the first list, and is taken out of the second
+pub PutsAt-both : (a b d e : List (List ℕ × ℕ × ℕ)) (name : List ℕ) (w : Option (ℕ × ℕ)) → PutsAt a b name w → PutsAt d e name None → PutsAt (a ++ d) (b ++ e) name w
+PutsAt-both a b d e name w first second q =
     found_in-append b e q
     ∙ (λ i. option_or (first q i) (second q i))
     ∙ choose (pointwise nat_eq q name)
-    ∙ ap (cond (pointwise nat_eq q name) None) (sym (found_in-append a d q))
+    ∙ ap (cond (pointwise nat_eq q name) w) (sym (found_in-append a d q))
   where
-    choose : (c : Bool) → option_or (cond c None (found_in a q)) (cond c None (found_in d q)) ≡ cond c None (option_or (found_in a q) (found_in d q))
-    choose true = refl
+    choose : (c : Bool) → option_or (cond c w (found_in a q)) (cond c None (found_in d q)) ≡ cond c w (option_or (found_in a q) (found_in d q))
+    choose true = option_or-None w
     choose false = refl
+
+-- which leaves them apart
+pub AreApart-both : (a b d e : List (List ℕ × ℕ × ℕ)) (name : List ℕ) (w : Option (ℕ × ℕ)) → PutsAt a b name w → PutsAt d e name None → AreApart a d → AreApart b e
+AreApart-both a b d e name w first second apart q some = decide (pointwise nat_eq q name) refl
+  where
+    decide : (c : Bool) → pointwise nat_eq q name ≡ c → found_in b q ≡ None
+    decide true is = absurd (not_none some (second q ∙ ap (λ c. cond c None (found_in d q)) is))
+    decide false is = first q ∙ ap (λ c. cond c w (found_in a q)) is ∙ apart q (subst IsSome (second q ∙ ap (λ c. cond c None (found_in d q)) is) some)
+
+-- a name that the first list lacks gets its meaning in the second
+pub PutsAt-second : (a b d e : List (List ℕ × ℕ × ℕ)) (name : List ℕ) (w : Option (ℕ × ℕ)) → FindSame a b → found_in a name ≡ None → PutsAt d e name w → PutsAt (a ++ d) (b ++ e) name w
+PutsAt-second a b d e name w same none second q =
+    found_in-append b e q
+    ∙ (λ i. option_or (same q i) (second q i))
+    ∙ choose (pointwise nat_eq q name) refl
+    ∙ ap (cond (pointwise nat_eq q name) w) (sym (found_in-append a d q))
+  where
+    choose : (c : Bool) → pointwise nat_eq q name ≡ c → option_or (found_in a q) (cond c w (found_in d q)) ≡ cond c w (option_or (found_in a q) (found_in d q))
+    choose true is = ap (λ o. option_or o w) (ap (found_in a) ((bytes_decides q name).0 is) ∙ none)
+    choose false is = refl
+
+-- which leaves them apart too
+pub AreApart-second : (a b d e : List (List ℕ × ℕ × ℕ)) (name : List ℕ) (w : Option (ℕ × ℕ)) → FindSame a b → found_in a name ≡ None → PutsAt d e name w → AreApart a d → AreApart b e
+AreApart-second a b d e name w same none second apart q some = same q ∙ decide (pointwise nat_eq q name) refl
+  where
+    decide : (c : Bool) → pointwise nat_eq q name ≡ c → found_in a q ≡ None
+    decide true is = ap (found_in a) ((bytes_decides q name).0 is) ∙ none
+    decide false is = apart q (subst IsSome (second q ∙ ap (λ c. cond c w (found_in d q)) is) some)
+
+-- two lists that find the same stand apart from the same
+pub AreApart-same : (a b d : List (List ℕ × ℕ × ℕ)) → FindSame a b → AreApart a d → AreApart b d
+AreApart-same a b d same apart q some = same q ∙ apart q some
+
+-- and find the same in front of another
+pub FindSame-front : (a b d : List (List ℕ × ℕ × ℕ)) → FindSame a b → FindSame (a ++ d) (b ++ d)
+FindSame-front a b d same q = found_in-append b d q ∙ ap (λ o. option_or o (found_in d q)) (same q) ∙ sym (found_in-append a d q)
+
+-- a name that a list lacks is taken out of it by nothing
+pub PutsAt-nothing : (a : List (List ℕ × ℕ × ℕ)) (name : List ℕ) → found_in a name ≡ None → PutsAt a a name None
+PutsAt-nothing a name none q = decide (pointwise nat_eq q name) refl
+  where
+    decide : (c : Bool) → pointwise nat_eq q name ≡ c → found_in a q ≡ cond c None (found_in a q)
+    decide true is = ap (found_in a) ((bytes_decides q name).0 is) ∙ none
+    decide false is = refl
+
+-- a name of the first list isn't in the second
+pub second_lacks : (a d : List (List ℕ × ℕ × ℕ)) (name : List ℕ) (v : ℕ × ℕ) → AreApart a d → found_in a name ≡ Some v → found_in d name ≡ None
+second_lacks a d name v apart found = decide (found_in d name) refl
+  where
+    decide : (o : Option (ℕ × ℕ)) → found_in d name ≡ o → o ≡ None
+    decide None is = refl
+    decide (Some w) is = some_is_none (sym found ∙ apart name (subst IsSome (sym is) refl))
 
 -- the names of a list beside the tree
 names_of-fresh : (fs : List (List ℕ × Target)) → names_of (map fresh_line fs) ≡ keys_of fs
@@ -189,29 +242,35 @@ moved a d b x beside puts = (
         ap (λ o. option_or o (found_in b q)) (at q false is)
         ∙ ap (option_or (found_in a q)) (sym (ap (λ c. option_or (found_in b q) (cond c (Some (x.1, x.2)) None)) is ∙ option_or-None (found_in b q)))
 
--- the names of keys that rise are apart
-all_apart : (k : Vec ℕ Global) (es : List (Vec ℕ Global × Target)) → IsKey k.items → Keyed es → AllByRecursion (λ y. by_bytes k y ≡ Less) (keys_of es)
-    → AllByRecursion (λ y. pointwise nat_eq (name_in k.items) y ≡ false) (names_of (map tree_line es))
-all_apart k [] key keyed all = tt
-all_apart k (e ∷ es) key keyed all = (same_keys k e.0 key keyed.0 ∙ ap is_eq all.0, all_apart k es key keyed.1 all.1)
+-- the names of others that rise are apart
+all_apart : (k : Vec ℕ Global) (es : List (Vec ℕ Global × Target)) → AllByRecursion (λ y. by_bytes k y ≡ Less) (keys_of es) → AllByRecursion (λ y. pointwise nat_eq k.items y ≡ false) (names_of (map other_line es))
+all_apart k [] all = tt
+all_apart k (e ∷ es) all = (texts_ties k.items e.0.items ∙ ap is_eq all.0, all_apart k es all.1)
 
--- a tree's names are apart
-distinct-tree : (es : List (Vec ℕ Global × Target)) → Keyed es → IsStrictlySortedBy by_bytes (keys_of es) → IsDistinct (pointwise nat_eq) (names_of (map tree_line es))
+-- so none of them is there twice
+pub distinct-others : (es : List (Vec ℕ Global × Target)) → IsStrictlySortedBy by_bytes (keys_of es) → IsDistinct (pointwise nat_eq) (names_of (map other_line es))
 unfolding IsDistinct
-distinct-tree [] keyed sorted = tt
-distinct-tree (e ∷ es) keyed sorted =
-    IsDistinct-cons (pointwise nat_eq) (name_in e.0.items) (names_of (map tree_line es)) (all_apart e.0 es keyed.0 keyed.1 (sorted_head by_bytes e.0 (keys_of es) sorted))
-    (distinct-tree es keyed.1 (sorted_tail by_bytes e.0 (keys_of es) sorted))
+distinct-others [] sorted = tt
+distinct-others (e ∷ es) sorted =
+    IsDistinct-cons (pointwise nat_eq) e.0.items (names_of (map other_line es)) (all_apart e.0 es (sorted_head by_bytes e.0 (keys_of es) sorted)) (distinct-others es (sorted_tail by_bytes e.0 (keys_of es) sorted))
 
--- no name is twice in both together
-pub distinct-both : (es : List (Vec ℕ Global × Target)) (b : List (List ℕ × ℕ × ℕ)) → Keyed es → AreBeside (map tree_line es) b → IsStrictlySortedBy by_bytes (keys_of es)
-    → IsDistinct (pointwise nat_eq) (names_of (map tree_line es ++ b))
-distinct-both es b keyed beside sorted = distinct-append (map tree_line es) b (without (map tree_line es) (each_found (map tree_line es) (distinct-tree es keyed sorted))) (distinct-tree es keyed sorted) beside.once
+-- the names of keys that rise are apart
+keys_apart : (e : Entry) (es : List Entry) → e.0 ≡ key_of e.1.0 → Keyed es → AllByRecursion (λ y. nat_cmp e.0 y ≡ Less) (keys_of es) → AllByRecursion (λ y. pointwise nat_eq e.1.0 y ≡ false) (names_of (map first_line es))
+keys_apart e [] is keyed all = tt
+keys_apart e (x ∷ xs) is keyed all = (other_names e x is keyed.0 (ap is_eq all.0), keys_apart e xs is keyed.1 all.1)
+
+-- so no name is there twice
+pub distinct-first : (es : List Entry) → Keyed es → IsStrictlySortedBy nat_cmp (keys_of es) → IsDistinct (pointwise nat_eq) (names_of (map first_line es))
+unfolding IsDistinct
+distinct-first [] keyed sorted = tt
+distinct-first (e ∷ es) keyed sorted =
+    IsDistinct-cons (pointwise nat_eq) e.1.0 (names_of (map first_line es)) (keys_apart e es keyed.0 keyed.1 (sorted_head nat_cmp e.0 (keys_of es) sorted))
+    (distinct-first es keyed.1 (sorted_tail nat_cmp e.0 (keys_of es) sorted))
+
+-- no name is twice in two lists together that stand apart
+pub distinct-both : (a b : List (List ℕ × ℕ × ℕ)) → IsDistinct (pointwise nat_eq) (names_of a) → IsDistinct (pointwise nat_eq) (names_of b) → AreApart a b → IsDistinct (pointwise nat_eq) (names_of (a ++ b))
+distinct-both a b once once' apart = distinct-append a b (without a (each_found a once)) once once'
   where
-    lacks : (q : List ℕ) (v : ℕ × ℕ) → found_in (map tree_line es) q ≡ Some v → (o : Option (ℕ × ℕ)) → found_in b q ≡ o → o ≡ None
-    lacks q v found None is = refl
-    lacks q v found (Some w) is = some_is_none (sym found ∙ beside.apart q (subst IsSome (sym is) refl))
-
-    without : (xs : List (List ℕ × ℕ × ℕ)) → AllByRecursion (λ x. found_in (map tree_line es) x.0 ≡ Some (x.1, x.2)) xs → AllByRecursion (λ x. found_in b x.0 ≡ None) xs
+    without : (xs : List (List ℕ × ℕ × ℕ)) → AllByRecursion (λ x. found_in a x.0 ≡ Some (x.1, x.2)) xs → AllByRecursion (λ x. found_in b x.0 ≡ None) xs
     without [] all = tt
-    without (x ∷ xs) all = (lacks x.0 (x.1, x.2) all.0 (found_in b x.0) refl, without xs all.1)
+    without (x ∷ xs) all = (second_lacks a b x.0 (x.1, x.2) apart all.0, without xs all.1)

@@ -1,5 +1,6 @@
 pub mod Beside
 pub mod Calls
 pub mod Entries
-pub mod Keys
+pub mod First
 pub mod Listing
+pub mod Trees

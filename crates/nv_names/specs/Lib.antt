@@ -1,3 +1,4 @@
 pub mod Keys
 pub mod Names
 pub mod Table
+pub mod Tree

@@ -1,15 +1,10 @@
 -- The table that a name index holds: a tree of names, and a list of names beside it.
-use Rattle.std.specs.Prelude.{◌≡◌, ℕ, nat_eq, if◌then◌else◌, List, [], Option, Some, None, IsSome, Box, Vec}
+use Rattle.std.specs.Prelude.{◌≡◌, ℕ, nat_eq, if◌then◌else◌, List, [], Option, None, Some, IsSome, Box}
 use Rattle.std.specs.declared.alloc.Global.{Global}
 use Rattle.std.specs.Cmp.Lexicographic.{pointwise}
 use Rattle.std.specs.List.{IsDistinct}
 use Rattle.nv_names.specs.declared.target.Target.{Target}
-use Rattle.nv_names.specs.Keys.{name_in}
 use Rattle.nv_names.specs.Names.{Names, found_in, names_of}
-
--- an entry of the tree as one of `Names`
-abbrev pub tree_line : Vec ℕ Global × Target → List ℕ × ℕ × ℕ
-tree_line e = (name_in e.0.items, e.1.inode, e.1.place)
 
 -- a name beside the tree as one of `Names`
 abbrev pub fresh_line : List ℕ × Target → List ℕ × ℕ × ℕ
@@ -23,10 +18,14 @@ PutsAt old new name w = (q : List ℕ) → found_in new q ≡ (if pointwise nat_
 abbrev pub FindSame : List (List ℕ × ℕ × ℕ) → List (List ℕ × ℕ × ℕ) → Type 0
 FindSame old new = (q : List ℕ) → found_in new q ≡ found_in old q
 
+-- no name of the second list is in the first one
+abbrev pub AreApart : List (List ℕ × ℕ × ℕ) → List (List ℕ × ℕ × ℕ) → Type 0
+AreApart xs ys = (q : List ℕ) → IsSome (found_in ys q) → found_in xs q ≡ None
+
 -- no name is twice beside the tree, nor both in the tree and beside it
 pub record AreBeside (tree fresh : List (List ℕ × ℕ × ℕ)) : Type 0 where
   pub once : IsDistinct (pointwise nat_eq) (names_of fresh)
-  pub apart : (q : List ℕ) → IsSome (found_in fresh q) → found_in tree q ≡ None
+  pub apart : AreApart tree fresh
 
 -- the names that a table holds; where there is no table, there is no name, and no room for one
 abbrev pub names_held : Option (Box Names Global) → Names

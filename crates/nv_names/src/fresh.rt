@@ -1,16 +1,17 @@
 //! The names beside the tree: a list of the few that were added since room was last made.
 
-ghost use Rattle.std.specs.Prelude.{◌≡◌, ◌≤◌, ◌++◌, map, not, OnOk, nat_eq};
+ghost use Rattle.std.specs.Prelude.{◌≡◌, ◌≤◌, ◌++◌, [], map, not, OnOk, nat_eq};
 ghost use Rattle.std.specs.List.{filter};
 ghost use Rattle.std.specs.Option.{option_map};
 ghost use Rattle.std.specs.Cmp.Lexicographic.{pointwise};
 ghost use Rattle.std.specs.Vec.{vec_len, vec_capacity};
 ghost use Rattle.nv_names.specs.Names.{found_in, inode_and_place, line_of};
-ghost use Rattle.nv_names.specs.Table.{fresh_line};
+ghost use Rattle.nv_names.specs.Table.{fresh_line, FindSame, AreBeside};
 
 use crate::name::Name;
+use crate::tree::Tree;
 use crate::{Named, Target};
-use std::alloc::AllocError;
+use std::alloc::{AllocError, Global};
 
 /// A name, and what it stands for.
 pub(crate) type Fresh = (Name, Target);
@@ -33,7 +34,10 @@ pub(crate) fn forget(list: &mut Vec<Fresh>, name: &[u8])
     ensures len { vec_len list.new ≤ vec_len list.old }
     ensures capacity { vec_capacity list.new ≡ vec_capacity list.old }
 {
-    list.retain(|entry| is_other(entry, name));
+    match target_of(list.as_slice(), name) {
+        Some(_) => list.retain(|entry| is_other(entry, name)),
+        None => {}
+    }
 }
 
 /// Whether an entry is of another name.
@@ -41,6 +45,29 @@ fn is_other(entry: &Fresh, name: &[u8]) -> bool
     ensures { result ≡ not (pointwise nat_eq entry.now.0 name.now) }
 {
     entry.0.as_bytes() != name
+}
+
+/// Moves the names of a list into the tree that it stands beside, the last one first. An error leaves the names that both
+/// have together.
+///
+/// A name is let go only once the tree has it. So it is never moved as a value, which has room for the longest name.
+pub(crate) fn settle(
+    alloc: Global,
+    tree: &mut Tree,
+    fresh: &mut Vec<Fresh>,
+) -> Result<(), AllocError>
+    requires { AreBeside tree.old (map fresh_line fresh.old.items) }
+    ensures beside { AreBeside tree.new (map fresh_line fresh.new.items) }
+    ensures names { FindSame (tree.old ++ map fresh_line fresh.old.items) (tree.new ++ map fresh_line fresh.new.items) }
+    ensures ok { OnOk result (fresh.new.items ≡ []) }
+    ensures len { vec_len fresh.new ≤ vec_len fresh.old }
+    ensures capacity { vec_capacity fresh.new ≡ vec_capacity fresh.old }
+{
+    while let Some(entry) = fresh.last() {
+        let _had = tree.put(alloc, entry.0.as_bytes(), entry.1)?;
+        fresh.truncate(fresh.len() - 1);
+    }
+    Ok(())
 }
 
 /// Puts a line for each name of a list at the end of a listing.

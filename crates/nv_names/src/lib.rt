@@ -2,6 +2,7 @@
 #![tactic(auto)]
 
 mod fresh;
+mod held;
 mod index;
 mod key;
 mod name;

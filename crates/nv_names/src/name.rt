@@ -2,9 +2,11 @@
 
 ghost use Rattle.std.specs.Prelude.{◌≡◌, ◌≤◌, length};
 
-use crate::key::LONGEST;
 use arrayvec::ArrayVec;
 use std::marker::Model;
+
+/// The most bytes of a name.
+const LONGEST: usize = 255;
 
 /// The bytes of a name.
 #[derive(Drop)]

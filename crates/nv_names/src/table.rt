@@ -6,12 +6,11 @@ ghost use Rattle.std.specs.Option.{option_map};
 ghost use Rattle.nv_names.specs.Names.{IsName, name_at, EachOnce, inode_and_place, line_of};
 ghost use Rattle.nv_names.specs.Table.{PutsAt};
 
-use crate::fresh::{Fresh, forget, push_fresh, target_of};
+use crate::fresh::{Fresh, forget, push_fresh, settle, target_of};
 use crate::name::Name;
-use crate::tree::{Tree, find, push_tree, put, settle, take_out};
+use crate::tree::Tree;
 use crate::{Named, Target};
 use std::alloc::{AllocError, Global};
-use std::collections::BTreeMap;
 use std::marker::Model;
 
 /// A map from names to the inodes that they stand for and the places of their entries.
@@ -28,18 +27,17 @@ pub(crate) struct Table {
 impl Model for Table {
     ghost use Rattle.std.specs.Prelude.{map, ◌++◌, ◌-◌};
     ghost use Rattle.std.specs.Vec.{vec_len, vec_capacity};
-    ghost use Rattle.nv_names.specs.Keys.{AreKeys};
     ghost use Rattle.nv_names.specs.Names.{Names};
-    ghost use Rattle.nv_names.specs.Table.{tree_line, fresh_line, AreBeside};
+    ghost use Rattle.nv_names.specs.Table.{fresh_line, AreBeside};
 
     ghost Value = { Names };
 
     ghost view = { λ a. record {
-      names = map tree_line a.tree.entries ++ map fresh_line a.fresh.items;
+      names = a.tree ++ map fresh_line a.fresh.items;
       room = vec_capacity a.fresh - vec_len a.fresh;
     } };
 
-    ghost invariant = { λ a. AreKeys a.tree.entries × AreBeside (map tree_line a.tree.entries) (map fresh_line a.fresh.items) };
+    ghost invariant = { λ a. AreBeside a.tree (map fresh_line a.fresh.items) };
 }
 
 impl Table {
@@ -48,7 +46,7 @@ impl Table {
         ensures empty { (q : List ℕ) → name_at result q ≡ None }
     {
         Table {
-            tree: BTreeMap::new(alloc),
+            tree: Tree::new(alloc),
             fresh: Vec::new(alloc),
             alloc,
         }
@@ -58,7 +56,7 @@ impl Table {
     pub(crate) fn get(&self, name: &[u8]) -> Option<Target>
         ensures { option_map inode_and_place result ≡ name_at self.now name.now }
     {
-        match find(&self.tree, name) {
+        match self.tree.find(name) {
             Some(target) => Some(target),
             None => target_of(self.fresh.as_slice(), name),
         }
@@ -82,7 +80,7 @@ impl Table {
         ensures room { self.old.room ≤ self.new.room + 1 }
     {
         let target = Target { inode, place };
-        take_out(&mut self.tree, name);
+        self.tree.take_out(name);
         forget(&mut self.fresh, name);
         self.fresh.push_reserved((Name::new(name), target));
     }
@@ -107,7 +105,7 @@ impl Table {
             return Ok(had);
         }
         settle(self.alloc, &mut self.tree, &mut self.fresh)?;
-        put(self.alloc, &mut self.tree, name, Target { inode, place })
+        self.tree.put(self.alloc, name, Target { inode, place })
     }
 
     /// Takes a name out, if it is there. It takes no memory.
@@ -115,7 +113,7 @@ impl Table {
         ensures names { PutsAt self.old.names self.new.names name.now None }
         ensures room { self.old.room ≤ self.new.room }
     {
-        take_out(&mut self.tree, name);
+        self.tree.take_out(name);
         forget(&mut self.fresh, name);
     }
 
@@ -133,7 +131,7 @@ impl Table {
         ensures each_once { EachOnce self.now }
     {
         let mut listed = Vec::with_capacity(self.alloc, self.len())?;
-        push_tree(&mut listed, &self.tree)?;
+        self.tree.push_lines(&mut listed)?;
         push_fresh(&mut listed, self.fresh.as_slice())?;
         Ok(listed)
     }

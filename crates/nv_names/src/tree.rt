@@ -1,117 +1,233 @@
 //! The tree of names, in the order of their keys. It takes memory for each name that it is given.
 
-ghost use Rattle.std.specs.Prelude.{◌≡◌, ◌+◌, ◌<◌, ◌≤◌, ◌++◌, ◌∷◌, [], length, map, IfOk, OnOk, OnErr, Some, None};
+ghost use Rattle.std.specs.Prelude.{◌≡◌, ◌^◌, ◌<◌, ◌≤◌, ◌+◌, ◌++◌, [], List, ℕ, length, map, cond, IsSome, IfOk, OnOk, OnErr, Some, None, nat_eq};
 ghost use Rattle.std.specs.Option.{option_map};
-ghost use Rattle.std.specs.Vec.{vec_len, vec_capacity};
-ghost use Rattle.nv_names.specs.Keys.{AreKeys};
-ghost use Rattle.nv_names.specs.Names.{found_in, line_of, inode_and_place};
-ghost use Rattle.nv_names.specs.Table.{tree_line, fresh_line, PutsAt, FindSame, AreBeside};
+ghost use Rattle.std.specs.Ordering.{nat_cmp};
+ghost use Rattle.std.specs.Map.{lookup, keys_of};
+ghost use Rattle.std.specs.BTreeMap.{is_at};
+ghost use Rattle.std.specs.List.{IsDistinct};
+ghost use Rattle.std.specs.List.Sorted.{IsStrictlySortedBy};
+ghost use Rattle.std.specs.Cmp.Lexicographic.{pointwise};
+ghost use Rattle.nv_names.specs.Keys.{key_of};
+ghost use Rattle.nv_names.specs.Names.{found_in, names_of, line_of, inode_and_place};
+ghost use Rattle.nv_names.specs.Table.{PutsAt, FindSame};
+ghost use Rattle.nv_names.specs.Tree.{first_line, other_line, AreKeyed, IsTree};
 
-use crate::fresh::Fresh;
-use crate::key::{LONGEST, held_key, key_of, name_in};
-use crate::name::Name;
+use crate::held::Held;
+use crate::key::key_of;
 use crate::{Named, Target};
 use std::alloc::{AllocError, Global};
 use std::collections::BTreeMap;
+use std::marker::Model;
 
-/// What names stand for, by their keys.
-pub(crate) type Tree = BTreeMap<Vec<u8>, Target>;
+/// The names that came first with their keys.
+type First = BTreeMap<u64, Held>;
 
-/// Puts a name into a tree, in place of what it stood for, which it answers.
-pub(crate) fn put(
+/// What other names stand for.
+type Others = BTreeMap<Vec<u8>, Target>;
+
+/// From here on the tree takes no name: no memory holds so many, and their number still fits a word.
+const MOST: usize = 0x7FFF_FFFF_FFFF_FFFF;
+
+/// A map from names to what they stand for.
+///
+/// A name stands by its key, or by itself where another name has its key already. Nobody has such names but who picks
+/// them on purpose, and both maps are ordered trees, so no choice of names makes a call look at every name.
+#[derive(Drop)]
+pub(crate) struct Tree {
+    first: First,
+    others: Others,
+}
+
+impl Model for Tree {
+    ghost use Rattle.std.specs.Prelude.{List, ℕ};
+    ghost use Rattle.nv_names.specs.Tree.{lines_of, IsTree};
+
+    ghost Value = { List (List ℕ × ℕ × ℕ) };
+
+    ghost view = { λ a. lines_of a.first.entries a.others.entries };
+
+    ghost invariant = { λ a. IsTree a.first.entries a.others.entries };
+}
+
+impl Tree {
+    /// A tree with no name. It takes no memory.
+    pub(crate) fn new(alloc: Global) -> Tree
+        ensures { result ≡ [] }
+    {
+        Tree {
+            first: BTreeMap::new(alloc),
+            others: BTreeMap::new(alloc),
+        }
+    }
+
+    /// What a name stands for, if it is in the tree.
+    pub(crate) fn find(&self, name: &[u8]) -> Option<Target>
+        ensures { option_map inode_and_place result ≡ found_in self.now name.now }
+    {
+        match find_first(&self.first, key_of(name), name) {
+            Some(target) => Some(target),
+            None => find_other(&self.others, name),
+        }
+    }
+
+    /// Puts a name into the tree, in place of what it stood for, which it answers.
+    pub(crate) fn put(
+        &mut self,
+        alloc: Global,
+        name: &[u8],
+        target: Target,
+    ) -> Result<Option<Target>, AllocError>
+        ensures had { IfOk result (λ had. option_map inode_and_place had ≡ found_in self.old name.now) }
+        ensures ok { OnOk result (PutsAt self.old self.new name.now (Some (inode_and_place target))) }
+        ensures err { OnErr result (FindSame self.old self.new) }
+    {
+        if self.first.len() + self.others.len() >= MOST {
+            return Err(AllocError);
+        }
+        let key = key_of(name);
+        let held = Held::new(alloc, name, target)?;
+        match self.first.insert(key, held)? {
+            None => Ok(take_other(&mut self.others, name)),
+            Some(before) => {
+                if before.is_of(name) {
+                    return Ok(Some(before.target()));
+                }
+                put_back(&mut self.first, key, before);
+                put_other(alloc, &mut self.others, name, target)
+            }
+        }
+    }
+
+    /// Takes a name out of the tree, if it is there.
+    pub(crate) fn take_out(&mut self, name: &[u8])
+        ensures { PutsAt self.old self.new name.now None }
+    {
+        let key = key_of(name);
+        match find_first(&self.first, key, name) {
+            Some(_) => take_first(&mut self.first, key),
+            None => {
+                let _had = take_other(&mut self.others, name);
+            }
+        }
+    }
+
+    /// How many names there are.
+    pub(crate) fn len(&self) -> usize
+        ensures exact { result ≡ length self.now }
+        ensures small { result < 2 ^ 63 }
+        ensures each_once { IsDistinct (pointwise nat_eq) (names_of self.now) }
+    {
+        self.first.len() + self.others.len()
+    }
+
+    /// Puts a line for each name at the end of a listing.
+    pub(crate) fn push_lines<'a>(&'a self, listed: &mut Vec<Named<'a>>) -> Result<(), AllocError>
+        ensures { OnOk result (map line_of listed.new.items ≡ map line_of listed.old.items ++ self.now) }
+    {
+        push_first(listed, &self.first)?;
+        push_others(listed, &self.others)
+    }
+}
+
+/// What a name stands for, if it came first with its key.
+fn find_first(first: &First, key: u64, name: &[u8]) -> Option<Target>
+    requires key { key ≡ key_of name.now }
+    requires keyed { AreKeyed first.now.entries }
+    requires rising { IsStrictlySortedBy nat_cmp (keys_of first.now.entries) }
+    ensures { option_map inode_and_place result ≡ found_in (map first_line first.now.entries) name.now }
+{
+    match first.get(&key) {
+        Some(held) => {
+            if held.is_of(name) {
+                return Some(held.target());
+            }
+            None
+        }
+        None => None,
+    }
+}
+
+/// What a name stands for, if it is one of the others.
+fn find_other(others: &Others, name: &[u8]) -> Option<Target>
+    ensures { option_map inode_and_place result ≡ found_in (map other_line others.now.entries) name.now }
+{
+    others.get(name).copied()
+}
+
+/// Takes out the name of a key.
+fn take_first(first: &mut First, key: u64)
+    requires keyed { AreKeyed first.old.entries }
+    ensures keyed { AreKeyed first.new.entries }
+    ensures rising { IsStrictlySortedBy nat_cmp (keys_of first.new.entries) }
+    ensures len { length first.new.entries ≤ length first.old.entries }
+    ensures taken { (k : ℕ) → lookup (is_at (nat_cmp k)) first.new.entries
+        ≡ cond (is_at (nat_cmp key) k) None (lookup (is_at (nat_cmp k)) first.old.entries) }
+{
+    let _had = first.remove(&key);
+}
+
+/// Gives a key its name again, where another was put.
+fn put_back(first: &mut First, key: u64, before: Held)
+    requires keyed { AreKeyed first.old.entries }
+    requires key { key ≡ key_of before.0 }
+    requires there { IsSome (lookup (is_at (nat_cmp key)) first.old.entries) }
+    ensures keyed { AreKeyed first.new.entries }
+    ensures rising { IsStrictlySortedBy nat_cmp (keys_of first.new.entries) }
+    ensures len { length first.new.entries ≡ length first.old.entries }
+    ensures put { (k : ℕ) → lookup (is_at (nat_cmp k)) first.new.entries
+        ≡ cond (is_at (nat_cmp key) k) (Some before) (lookup (is_at (nat_cmp k)) first.old.entries) }
+{
+    let _other = first.insert(key, before);
+}
+
+/// Takes a name out of the others, and answers what it stood for.
+fn take_other(others: &mut Others, name: &[u8]) -> Option<Target>
+    ensures had { option_map inode_and_place result ≡ found_in (map other_line others.old.entries) name.now }
+    ensures names { PutsAt (map other_line others.old.entries) (map other_line others.new.entries) name.now None }
+    ensures len { length others.new.entries ≤ length others.old.entries }
+{
+    others.remove(name)
+}
+
+/// Puts a name among the others, and answers what it stood for.
+fn put_other(
     alloc: Global,
-    tree: &mut Tree,
+    others: &mut Others,
     name: &[u8],
     target: Target,
 ) -> Result<Option<Target>, AllocError>
-    requires short { length name.now ≤ 255 }
-    requires keys { AreKeys tree.old.entries }
-    ensures keys { AreKeys tree.new.entries }
-    ensures had { IfOk result (λ had. option_map inode_and_place had ≡ found_in (map tree_line tree.old.entries) name.now) }
-    ensures ok { OnOk result (PutsAt (map tree_line tree.old.entries) (map tree_line tree.new.entries) name.now (Some (inode_and_place target))) }
-    ensures err { OnErr result (tree.new.entries ≡ tree.old.entries) }
+    ensures had { IfOk result (λ had. option_map inode_and_place had ≡ found_in (map other_line others.old.entries) name.now) }
+    ensures ok { OnOk result (PutsAt (map other_line others.old.entries) (map other_line others.new.entries) name.now (Some (inode_and_place target))) }
+    ensures err { OnErr result (others.new.entries ≡ others.old.entries) }
+    ensures len { length others.new.entries ≤ length others.old.entries + 1 }
 {
-    let key = key_of(alloc, name)?;
-    Ok(tree.insert(key, target)?)
+    let bytes = Vec::from_slice(alloc, name)?;
+    Ok(others.insert(bytes, target)?)
 }
 
-/// What a name stands for, if it is in the tree.
-pub(crate) fn find(tree: &Tree, name: &[u8]) -> Option<Target>
-    requires { AreKeys tree.now.entries }
-    ensures { option_map inode_and_place result ≡ found_in (map tree_line tree.now.entries) name.now }
+/// Puts a line for each name that came first at the end of a listing.
+fn push_first<'a>(listed: &mut Vec<Named<'a>>, first: &'a First) -> Result<(), AllocError>
+    ensures { OnOk result (map line_of listed.new.items ≡ map line_of listed.old.items ++ map first_line first.now.entries) }
 {
-    if name.len() > LONGEST {
-        return None;
-    }
-    let key = held_key(name);
-    tree.get(key.as_slice()).copied()
-}
-
-/// Takes a name out of a tree, if it is there.
-pub(crate) fn take_out(tree: &mut Tree, name: &[u8])
-    requires { AreKeys tree.old.entries }
-    ensures keys { AreKeys tree.new.entries }
-    ensures names { PutsAt (map tree_line tree.old.entries) (map tree_line tree.new.entries) name.now None }
-{
-    if name.len() <= LONGEST {
-        let key = held_key(name);
-        let _had = tree.remove(key.as_slice());
-    }
-}
-
-/// Moves the names of a list into the tree that it stands beside. An error leaves the names that both have together.
-pub(crate) fn settle(
-    alloc: Global,
-    tree: &mut Tree,
-    fresh: &mut Vec<Fresh>,
-) -> Result<(), AllocError>
-    requires keys { AreKeys tree.old.entries }
-    requires beside { AreBeside (map tree_line tree.old.entries) (map fresh_line fresh.old.items) }
-    ensures keys { AreKeys tree.new.entries }
-    ensures beside { AreBeside (map tree_line tree.new.entries) (map fresh_line fresh.new.items) }
-    ensures names { FindSame (map tree_line tree.old.entries ++ map fresh_line fresh.old.items) (map tree_line tree.new.entries ++ map fresh_line fresh.new.items) }
-    ensures ok { OnOk result (fresh.new.items ≡ []) }
-    ensures len { vec_len fresh.new ≤ vec_len fresh.old }
-    ensures capacity { vec_capacity fresh.new ≡ vec_capacity fresh.old }
-{
-    while let Some((name, target)) = fresh.pop() {
-        move_in(alloc, tree, fresh, name, target)?;
-    }
-    Ok(())
-}
-
-/// Puts a name that stood at the end of the list into the tree, or back.
-fn move_in(
-    alloc: Global,
-    tree: &mut Tree,
-    fresh: &mut Vec<Fresh>,
-    name: Name,
-    target: Target,
-) -> Result<(), AllocError>
-    requires keys { AreKeys tree.old.entries }
-    requires beside { AreBeside (map tree_line tree.old.entries) (map fresh_line (fresh.old.items ++ (name, target) ∷ [])) }
-    requires room { vec_len fresh.old < vec_capacity fresh.old }
-    ensures keys { AreKeys tree.new.entries }
-    ensures beside { AreBeside (map tree_line tree.new.entries) (map fresh_line fresh.new.items) }
-    ensures names { FindSame (map tree_line tree.old.entries ++ map fresh_line (fresh.old.items ++ (name, target) ∷ [])) (map tree_line tree.new.entries ++ map fresh_line fresh.new.items) }
-    ensures len { vec_len fresh.new ≤ vec_len fresh.old + 1 }
-    ensures less { OnOk result (vec_len fresh.new ≡ vec_len fresh.old) }
-    ensures capacity { vec_capacity fresh.new ≡ vec_capacity fresh.old }
-{
-    if let Err(refusal) = put(alloc, tree, name.as_bytes(), target) {
-        fresh.push_reserved((name, target));
-        return Err(refusal);
-    }
-    Ok(())
-}
-
-/// Puts a line for each name of a tree at the end of a listing.
-pub(crate) fn push_tree<'a>(listed: &mut Vec<Named<'a>>, tree: &'a Tree) -> Result<(), AllocError>
-    ensures { OnOk result (map line_of listed.new.items ≡ map line_of listed.old.items ++ map tree_line tree.now.entries) }
-{
-    for (key, target) in tree {
+    for (_, held) in first {
+        let target = held.target();
         listed.push(Named {
-            name: name_in(key.as_slice()),
+            name: held.name(),
+            inode: target.inode,
+            place: target.place,
+        })?;
+    }
+    Ok(())
+}
+
+/// Puts a line for each other name at the end of a listing.
+fn push_others<'a>(listed: &mut Vec<Named<'a>>, others: &'a Others) -> Result<(), AllocError>
+    ensures { OnOk result (map line_of listed.new.items ≡ map line_of listed.old.items ++ map other_line others.now.entries) }
+{
+    for (name, target) in others {
+        listed.push(Named {
+            name: name.as_slice(),
             inode: target.inode,
             place: target.place,
         })?;

@@ -38,15 +38,30 @@ fn added(alloc: Global, names: &[Vec<u8>]) -> Result<NameIndex, AllocError> {
     Ok(index)
 }
 
-/// The same, inserted where no room was made.
-fn inserted(alloc: Global, names: &[Vec<u8>]) -> Result<NameIndex, AllocError> {
-    let mut index = NameIndex::new(alloc);
+/// Inserts each name, where no room was made.
+fn insert_all(index: &mut NameIndex, names: &[Vec<u8>]) -> Result<(), AllocError> {
     for (place, name) in names.iter().enumerate() {
         if !name.is_empty() && name.len() <= 255 {
             index.insert(name, 7, place as u64)?;
         }
     }
+    Ok(())
+}
+
+/// The same as `added`, inserted where no room was made.
+fn inserted(alloc: Global, names: &[Vec<u8>]) -> Result<NameIndex, AllocError> {
+    let mut index = NameIndex::new(alloc);
+    insert_all(&mut index, names)?;
     Ok(index)
+}
+
+/// Three names that the index's tree gives one key.
+fn names_of_one_key(alloc: Global) -> Result<Vec<Vec<u8>>, AllocError> {
+    let mut names = Vec::new(alloc);
+    for name in [b"mmmmmmmmmmmm", b"ls_|gmmg|_sl", b"ng{^smms^{gn"].iter() {
+        names.push(Vec::from_slice(alloc, name.as_slice())?)?;
+    }
+    Ok(names)
 }
 
 fn remove_all(index: &mut NameIndex, names: &[Vec<u8>]) {
@@ -108,6 +123,22 @@ fn names_are_removed_once_and_again(rt: HostRuntime) -> Result<(), AllocError> {
         index.remove(&last);
         index.remove(&last);
     }
+    assert_named(&rt, &index, &names);
+    remove_all(&mut index, &names);
+    assert!(rt; index.is_empty());
+    Ok(())
+}
+
+#[test]
+fn names_of_one_key_are_told_apart(rt: HostRuntime) -> Result<(), AllocError> {
+    let names = names_of_one_key(rt.alloc())?;
+    let mut index = inserted(rt.alloc(), &names)?;
+    assert_named(&rt, &index, &names);
+    if let Some(first) = names.first() {
+        index.remove(first);
+        assert!(rt; index.get(first).is_none());
+    }
+    insert_all(&mut index, &names)?;
     assert_named(&rt, &index, &names);
     remove_all(&mut index, &names);
     assert!(rt; index.is_empty());

@@ -1,0 +1,195 @@
+-- What the calls of a tree make of its two maps.
+use Rattle.std.proofs.Common.{◌≡◌, ℕ, ◌+◌, ◌<◌, ◌≤◌, ◌^◌, Bool, true, false, cond, nat_eq, List, length, map, Option, Some, None, Result, Ok, Err, OnOk, OnErr, Vec, refl, sym, ap, subst, ◌∙◌, arith}
+use Rattle.std.specs.declared.alloc.Global.{Global}
+use Rattle.std.specs.Ordering.{nat_cmp}
+use Rattle.std.specs.Map.{lookup, keys_of}
+use Rattle.std.specs.BTreeMap.{insert_entry}
+use Rattle.std.specs.List.Sorted.{IsStrictlySortedBy}
+use Rattle.std.specs.Cmp.Lexicographic.{pointwise, nat_list_eq_equiv, bytes_decides}
+use Rattle.std.proofs.lemmas.List.Elements.{All-from_recursion, recursion_from_All}
+use Rattle.nv_names.specs.declared.target.Target.{Target}
+use Rattle.nv_names.specs.Keys.{key_of}
+use Rattle.nv_names.specs.Names.{found_in}
+use Rattle.nv_names.specs.Table.{PutsAt, FindSame, AreApart}
+use Rattle.nv_names.specs.Tree.{first_line, other_line, lines_of, AreKeyed, IsTree}
+use Rattle.nv_names.proofs.Entries.{found_in-first, found_in-second}
+use Rattle.nv_names.proofs.First.{Entry, Keyed, same_key, at_name, Only, only_it, only_found, first_at, first_changed, first_same, key_is, Keyed-inserted}
+use Rattle.nv_names.proofs.Beside.{PutsAt-both, AreApart-both, PutsAt-second, AreApart-second, AreApart-same, FindSame-front, PutsAt-nothing, second_lacks}
+
+-- the names by themselves, and what they stand for
+abbrev pub Others : Type 0
+Others = List (Vec ℕ Global × Target)
+
+-- Where a name was put or taken out, the maps are a tree again, in which the name stands for w.
+pub record Changes (es en : List Entry) (os on : Others) (name : List ℕ) (w : Option (ℕ × ℕ)) : Type 0 where
+  pub tree : IsTree en on
+  pub names : PutsAt (lines_of es os) (lines_of en on) name w
+
+-- the entry of a name's key in `first` changes, and the others lose the name
+both_changed : (es en : List Entry) (os on : Others) (name : List ℕ) (w : Option (List ℕ × ℕ × ℕ)) → IsTree es os → AreKeyed en → IsStrictlySortedBy nat_cmp (keys_of en)
+    → ((k : ℕ) → lookup (same_key k) en ≡ cond (same_key (key_of name) k) w (lookup (same_key k) es)) → Only name w → Only name (lookup (same_key (key_of name)) es)
+    → PutsAt (map other_line os) (map other_line on) name None → length en + length on < 2 ^ 63 → Changes es en os on name (at_name name w)
+both_changed es en os on name w tree keyed rising changed new old second few =
+    let first : PutsAt (map first_line es) (map first_line en) name (at_name name w) = first_changed es en name w (recursion_from_All _ _ tree.keyed) tree.rising (recursion_from_All _ _ keyed) rising changed new old in record {
+      tree = record {
+        keyed = keyed;
+        rising = rising;
+        apart = AreApart-both (map first_line es) (map first_line en) (map other_line os) (map other_line on) name (at_name name w) first second tree.apart;
+        few = few;
+      };
+      names = PutsAt-both (map first_line es) (map first_line en) (map other_line os) (map other_line on) name (at_name name w) first second;
+    }
+
+-- what stands by a name's key where it is found
+found_there : (es : List Entry) (os : Others) (name : List ℕ) → IsTree es os → found_in (map first_line es) name ≡ at_name name (lookup (same_key (key_of name)) es)
+found_there es os name tree = first_at es (key_of name) name (lookup (same_key (key_of name)) es) (recursion_from_All _ _ tree.keyed) tree.rising refl refl
+
+-- a name that is found by its key is taken out
+pub first_taken : (es en : List Entry) (os : Others) (key : ℕ) (name : List ℕ) (v : ℕ × ℕ) → IsTree es os → key ≡ key_of name → Some v ≡ found_in (map first_line es) name → AreKeyed en → IsStrictlySortedBy nat_cmp (keys_of en)
+    → length en ≤ length es → ((k : ℕ) → lookup (same_key k) en ≡ cond (same_key key k) None (lookup (same_key k) es)) → Changes es en os os name None
+first_taken es en os key name v tree is found keyed rising fewer taken =
+    both_changed es en os os name None tree keyed rising
+    (λ k. taken k ∙ ap (λ n. cond (same_key n k) None (lookup (same_key k) es)) is)
+    (λ q apart. refl)
+    (only_found name (lookup (same_key (key_of name)) es) v (sym (found ∙ found_there es os name tree)))
+    (PutsAt-nothing (map other_line os) name (second_lacks (map first_line es) (map other_line os) name v tree.apart (sym found)))
+    (let few = tree.few in omega (arith, few, fewer))
+
+-- a name that isn't found by its key is taken out of the others
+pub other_taken_out : (es : List Entry) (os on : Others) (name : List ℕ) → IsTree es os → None ≡ found_in (map first_line es) name → length on ≤ length os
+    → PutsAt (map other_line os) (map other_line on) name None → Changes es es os on name None
+other_taken_out es os on name tree none fewer second = record {
+  tree = record {
+    keyed = tree.keyed;
+    rising = tree.rising;
+    apart = AreApart-second (map first_line es) (map first_line es) (map other_line os) (map other_line on) name None (λ q. refl) (sym none) second tree.apart;
+    few = let few = tree.few in omega (arith, few, fewer);
+  };
+  names = PutsAt-second (map first_line es) (map first_line es) (map other_line os) (map other_line on) name None (λ q. refl) (sym none) second;
+}
+
+-- each key is that of its name after a name was put in
+pub put_keyed : (es en : List Entry) (key : ℕ) (name : List ℕ) (h : List ℕ × ℕ × ℕ) (v : ℕ × ℕ) → AreKeyed es → key ≡ key_of name → h ≡ (name, v.0, v.1) → en ≡ insert_entry nat_cmp es key h → AreKeyed en
+put_keyed es en key name h v keyed is own made =
+    All-from_recursion _ _ (subst Keyed (sym made) (Keyed-inserted es key h (recursion_from_All _ _ keyed) (is ∙ ap (λ (x : List ℕ × ℕ × ℕ). key_of x.0) (sym own))))
+
+-- the entry of a name at its own name
+at_own : (name : List ℕ) (h : List ℕ × ℕ × ℕ) (v : ℕ × ℕ) → h ≡ (name, v.0, v.1) → at_name name (Some h) ≡ Some v
+at_own name h v is = ap (λ (x : List ℕ × ℕ × ℕ). at_name name (Some x)) is ∙ ap (λ b. cond b (Some v) None) (nat_list_eq_equiv.refl name)
+
+-- a name is put in by its key, which no other name has
+own_put : (es en : List Entry) (os on : Others) (key : ℕ) (name : List ℕ) (h : List ℕ × ℕ × ℕ) (v : ℕ × ℕ) → IsTree es os → key ≡ key_of name → h ≡ (name, v.0, v.1) → Only name (lookup (same_key key) es)
+    → en ≡ insert_entry nat_cmp es key h → IsStrictlySortedBy nat_cmp (keys_of en) → ((k : ℕ) → lookup (same_key k) en ≡ cond (same_key key k) (Some h) (lookup (same_key k) es))
+    → PutsAt (map other_line os) (map other_line on) name None → length en + length on < 2 ^ 63 → Changes es en os on name (Some v)
+own_put es en os on key name h v tree is own old made rising put second few =
+    subst (Changes es en os on name) (at_own name h v own)
+    (both_changed es en os on name (Some h) tree (put_keyed es en key name h v tree.keyed is own made) rising
+    (λ k. put k ∙ ap (λ n. cond (same_key n k) (Some h) (lookup (same_key k) es)) is)
+    (only_it name h (ap (λ (x : List ℕ × ℕ × ℕ). x.0) own))
+    (subst (λ k. Only name (lookup (same_key k) es)) is old)
+    second few)
+
+-- a name whose key is new
+pub new_put : (es en : List Entry) (os on : Others) (key : ℕ) (name : List ℕ) (h : List ℕ × ℕ × ℕ) (v : ℕ × ℕ) → IsTree es os → key ≡ key_of name → h ≡ (name, v.0, v.1) → None ≡ lookup (same_key key) es
+    → en ≡ insert_entry nat_cmp es key h → IsStrictlySortedBy nat_cmp (keys_of en) → ((k : ℕ) → lookup (same_key k) en ≡ cond (same_key key k) (Some h) (lookup (same_key k) es))
+    → PutsAt (map other_line os) (map other_line on) name None → length en + length on < 2 ^ 63 → Changes es en os on name (Some v)
+new_put es en os on key name h v tree is own none made rising put second few =
+    own_put es en os on key name h v tree is own (subst (Only name) none (λ q apart. refl)) made rising put second few
+
+-- what a name has that no key finds
+pub new_had : (es : List Entry) (os : Others) (key : ℕ) (name : List ℕ) (had : Option (ℕ × ℕ)) → IsTree es os → key ≡ key_of name → None ≡ lookup (same_key key) es → had ≡ found_in (map other_line os) name → had ≡ found_in (lines_of es os) name
+new_had es os key name had tree is none found =
+    found_in-second (map first_line es) (map other_line os) name had (sym (first_at es key name None (recursion_from_All _ _ tree.keyed) tree.rising is none)) found
+
+-- what a name stands for whose entry its key finds
+own_found : (es : List Entry) (os : Others) (key : ℕ) (name : List ℕ) (before : List ℕ × ℕ × ℕ) → IsTree es os → key ≡ key_of name → Some before ≡ lookup (same_key key) es → pointwise nat_eq name before.0 ≡ true
+    → found_in (map first_line es) name ≡ Some (before.1, before.2)
+own_found es os key name before tree is was same =
+    first_at es key name (Some before) (recursion_from_All _ _ tree.keyed) tree.rising is was ∙ ap (λ b. cond b (Some (before.1, before.2)) None) same
+
+-- a name that stands by its key is put in again
+pub again_put : (es en : List Entry) (os : Others) (key : ℕ) (name : List ℕ) (h before : List ℕ × ℕ × ℕ) (v : ℕ × ℕ) → IsTree es os → key ≡ key_of name → h ≡ (name, v.0, v.1) → Some before ≡ lookup (same_key key) es
+    → pointwise nat_eq name before.0 ≡ true → en ≡ insert_entry nat_cmp es key h → IsStrictlySortedBy nat_cmp (keys_of en)
+    → ((k : ℕ) → lookup (same_key k) en ≡ cond (same_key key k) (Some h) (lookup (same_key k) es)) → length en + length os < 2 ^ 63 → Changes es en os os name (Some v)
+again_put es en os key name h before v tree is own was same made rising put few =
+    own_put es en os os key name h v tree is own (subst (Only name) was (only_it name before (sym ((bytes_decides name before.0).0 same)))) made rising put
+    (PutsAt-nothing (map other_line os) name (second_lacks (map first_line es) (map other_line os) name (before.1, before.2) tree.apart (own_found es os key name before tree is was same)))
+    few
+
+-- and had what its entry tells
+pub again_had : (es : List Entry) (os : Others) (key : ℕ) (name : List ℕ) (before : List ℕ × ℕ × ℕ) → IsTree es os → key ≡ key_of name → Some before ≡ lookup (same_key key) es → pointwise nat_eq name before.0 ≡ true
+    → Some (before.1, before.2) ≡ found_in (lines_of es os) name
+again_had es os key name before tree is was same = found_in-first (map first_line es) (map other_line os) name (before.1, before.2) (sym (own_found es os key name before tree is was same))
+
+-- how many entries there are at most after one was put in
+pub one_more : (b : Bool) (n m : ℕ) → m ≡ n + cond b 0 1 → m ≤ n + 1
+one_more true n m len = omega (arith, len)
+one_more false n m len = omega (arith, len)
+
+-- there are as many where the key had one
+pub no_more : (b : Bool) (n m : ℕ) → b ≡ true → m ≡ n + cond b 0 1 → m ≡ n
+no_more true n m is len = omega (arith, len)
+no_more false n m is len = absurd (cc)
+
+-- A name whose key another has is put among the others, or refused.
+pub record Puts {X E : Type 0} (r : Result X E) (es en : List Entry) (os on : Others) (name : List ℕ) (w : Option (ℕ × ℕ)) : Type 0 where
+  pub tree : IsTree en on
+  pub ok : OnOk r (PutsAt (lines_of es os) (lines_of en on) name w)
+  pub err : OnErr r (FindSame (lines_of es os) (lines_of en on))
+
+-- the key has again what it had
+key_again : (es em en : List Entry) (key : ℕ) (h before : List ℕ × ℕ × ℕ) → Some before ≡ lookup (same_key key) es
+    → ((k : ℕ) → lookup (same_key k) em ≡ cond (same_key key k) (Some h) (lookup (same_key k) es))
+    → ((k : ℕ) → lookup (same_key k) en ≡ cond (same_key key k) (Some before) (lookup (same_key k) em)) → (k : ℕ) → lookup (same_key k) en ≡ lookup (same_key k) es
+key_again es em en key h before was put back k = back k ∙ ap (cond (same_key key k) (Some before)) (put k) ∙ decide (same_key key k) refl
+  where
+    decide : (b : Bool) → same_key key k ≡ b → cond b (Some before) (cond b (Some h) (lookup (same_key k) es)) ≡ lookup (same_key k) es
+    decide true is = was ∙ ap (λ n. lookup (same_key n) es) (key_is key k is)
+    decide false is = refl
+
+-- another name stands by the key
+other_there : (es : List Entry) (os : Others) (key : ℕ) (name : List ℕ) (before : List ℕ × ℕ × ℕ) → IsTree es os → key ≡ key_of name → Some before ≡ lookup (same_key key) es → pointwise nat_eq name before.0 ≡ false
+    → found_in (map first_line es) name ≡ None
+other_there es os key name before tree is was apart =
+    first_at es key name (Some before) (recursion_from_All _ _ tree.keyed) tree.rising is was ∙ ap (λ b. cond b (Some (before.1, before.2)) None) apart
+
+-- so a name is put among the others
+pub other_puts : {X E : Type 0} (r : Result X E) (es em en : List Entry) (os on : Others) (key : ℕ) (name : List ℕ) (h before : List ℕ × ℕ × ℕ) (w : Option (ℕ × ℕ)) → IsTree es os → key ≡ key_of name → Some before ≡ lookup (same_key key) es
+    → pointwise nat_eq name before.0 ≡ false → AreKeyed en → IsStrictlySortedBy nat_cmp (keys_of en)
+    → ((k : ℕ) → lookup (same_key k) em ≡ cond (same_key key k) (Some h) (lookup (same_key k) es))
+    → ((k : ℕ) → lookup (same_key k) en ≡ cond (same_key key k) (Some before) (lookup (same_key k) em))
+    → length en + length on < 2 ^ 63 → OnOk r (PutsAt (map other_line os) (map other_line on) name w) → OnErr r (on ≡ os) → Puts r es en os on name w
+other_puts {X = X} {E = E} r es em en os on key name h before w tree is was apart keyed rising put back few = decide r
+  where
+    same : FindSame (map first_line es) (map first_line en)
+    same = first_same es en (recursion_from_All _ _ tree.keyed) tree.rising (recursion_from_All _ _ keyed) rising (key_again es em en key h before was put back)
+
+    none : found_in (map first_line es) name ≡ None
+    none = other_there es os key name before tree is was apart
+
+    decide : (r : Result X E) → OnOk r (PutsAt (map other_line os) (map other_line on) name w) → OnErr r (on ≡ os) → Puts r es en os on name w
+    decide (Ok x) second rest = record {
+      tree = record {
+        keyed = keyed;
+        rising = rising;
+        apart = AreApart-second (map first_line es) (map first_line en) (map other_line os) (map other_line on) name w same none second tree.apart;
+        few = few;
+      };
+      ok = PutsAt-second (map first_line es) (map first_line en) (map other_line os) (map other_line on) name w same none second;
+      err = tt;
+    }
+    decide (Err x) second rest = record {
+      tree = record {
+        keyed = keyed;
+        rising = rising;
+        apart = subst (λ xs. AreApart (map first_line en) (map other_line xs)) (sym rest) (AreApart-same (map first_line es) (map first_line en) (map other_line os) same tree.apart);
+        few = few;
+      };
+      ok = tt;
+      err = subst (λ xs. FindSame (lines_of es os) (lines_of en xs)) (sym rest) (FindSame-front (map first_line es) (map first_line en) (map other_line os) same);
+    }
+
+-- and had what the others tell
+pub other_had : (es : List Entry) (os : Others) (key : ℕ) (name : List ℕ) (before : List ℕ × ℕ × ℕ) (had : Option (ℕ × ℕ)) → IsTree es os → key ≡ key_of name → Some before ≡ lookup (same_key key) es → pointwise nat_eq name before.0 ≡ false
+    → had ≡ found_in (map other_line os) name → had ≡ found_in (lines_of es os) name
+other_had es os key name before had tree is was apart found = found_in-second (map first_line es) (map other_line os) name had (sym (other_there es os key name before tree is was apart)) found
