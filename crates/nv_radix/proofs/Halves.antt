@@ -1,5 +1,5 @@
 -- The pages of an index: those of its front leaf, and those of its tree behind them.
-use Rattle.std.proofs.Common.{◌≡◌, ℕ, ◌+◌, ◌-◌, ◌/◌, ◌<◌, ◌≤◌, ◌||◌, Bool, true, false, true≢false, cond, eqb, leb, ltb, suc, ◌++◌, Option, Some, None, refl, ap, sym, ◌∙◌, subst, arith, inl, inr}
+use Rattle.std.proofs.Common.{◌≡◌, ℕ, ◌+◌, ◌-◌, ◌/◌, ◌<◌, ◌≤◌, ◌||◌, Bool, true, false, true≢false, cond, eqb, leb, suc, ◌++◌, Option, Some, None, refl, ap, sym, ◌∙◌, subst, arith, inl, inr}
 use Rattle.std.proofs.lemmas.Bool.{cases_lt}
 use Rattle.std.proofs.lemmas.Bool.Decides.{leb_tells, eqb_tells}
 use Rattle.nv_radix.specs.Pages.{Pages, block_at, is_ready, in_run}
@@ -37,25 +37,12 @@ ready_by_half front rest new_front new_rest R h k h' k' low high = by_half (λ p
     (λ p l. subst (λ o. R p o (is_ready (new_front ++ raised 64 new_rest) p)) (sym (is_ready-front 64 262144 front rest p k.rises l)) (subst (λ o. R p (is_ready front p) o) (sym (is_ready-front 64 262144 new_front new_rest p k'.rises l)) (low p l)))
     (λ q. subst (λ o. R (64 + q) o (is_ready (new_front ++ raised 64 new_rest) (64 + q))) (sym (is_ready-behind 64 front rest q h.rises)) (subst (λ o. R (64 + q) (is_ready rest q) o) (sym (is_ready-behind 64 new_front new_rest q h'.rises)) (high q)))
 
--- the pages of a leaf are ready together
-pub leaves_together : (front rest : Pages) (p q : ℕ) → IsNode 64 front → IsNode 262144 rest → p / 64 ≡ q / 64 → is_ready (front ++ raised 64 rest) p ≡ is_ready (front ++ raised 64 rest) q
-leaves_together front rest p q h k e = elim (cases_lt p 64) [
-  | inl l ↦ is_ready-low front rest p k l ∙ h.leaves p q e ∙ sym (is_ready-low front rest q k (omega (arith, l, e)))
-  | inr l ↦ is_ready-high front rest p h l ∙ k.leaves (p - 64) (q - 64) (omega (arith, l, e)) ∙ sym (is_ready-high front rest q h (omega (arith, l, e)))
-]
-
 -- no page becomes ready where none that is ready is new
 pub not_more : (a b : Bool) → (b ≡ true → a ≡ true) → a ≡ false → b ≡ false
 not_more a true f e = absurd (true≢false (sym (f refl) ∙ e))
 not_more a false f e = refl
 
 -- whether a page is ready, where the leaf of another was made so
-pub ready_front : (page p : ℕ) (b : Bool) → page < 64 → p < 64 → ltb p 64 ≡ (eqb (p / 64) (page / 64) || b)
-ready_front page p b l k = elim (leb_tells (suc p) 64) [
-  | inl w ↦ elim (eqb_tells (p / 64) (page / 64)) [ inl v ↦ rw (w.0, v.0) refl | inr v ↦ absurd (v.1 (omega (arith, l, k))) ]
-  | inr w ↦ absurd (omega (arith, w.1, k))
-]
-
 pub other_rest : (page q : ℕ) (b : Bool) → page < 64 → b ≡ (eqb ((64 + q) / 64) (page / 64) || b)
 other_rest page q b l = elim (eqb_tells ((64 + q) / 64) (page / 64)) [ inl v ↦ absurd (omega (arith, l, v.1)) | inr v ↦ rw v.0 refl ]
 

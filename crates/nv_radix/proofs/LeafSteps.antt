@@ -1,5 +1,5 @@
 -- What each call on a leaf makes of its pages.
-use Rattle.std.proofs.Common.{◌≡◌, ℕ, ◌+◌, ◌-◌, ◌*◌, ◌/◌, ◌%◌, ◌^◌, ◌<◌, ◌≤◌, Bool, true, false, true≢false, cond, not, eqb, leb, ltb, List, [], ◌∷◌, ◌++◌, length, get_or, take, drop, Option, Some, None, refl, ap, sym, ◌∙◌, subst, arith, inl, inr, suc, bit_and, append_assoc}
+use Rattle.std.proofs.Common.{◌≡◌, ℕ, ◌+◌, ◌-◌, ◌*◌, ◌/◌, ◌%◌, ◌^◌, ◌<◌, ◌≤◌, Bool, true, false, true≢false, cond, ◌||◌, eqb, leb, ltb, List, [], ◌∷◌, ◌++◌, length, get_or, take, drop, Option, Some, None, refl, ap, sym, ◌∙◌, subst, arith, inl, inr, suc, bit_and, append_assoc}
 use Rattle.std.specs.Int.{bit_at}
 use Rattle.std.proofs.lemmas.Bool.{cases_lt}
 use Rattle.std.proofs.lemmas.Bool.Decides.{eqb_tells, leb_tells, nat_tests}
@@ -18,12 +18,15 @@ use Rattle.nv_radix.proofs.ExtentLemmas.{AreExtents-same, AreExtents-skip}
 use Rattle.nv_radix.proofs.Rising.{Rises-append, block_at-none}
 use Rattle.nv_radix.proofs.Rows.{Rises-raised, raised-append, block_at-raised_none}
 
--- a leaf that isn't empty is ready
-pub not_empty : (n k p : ℕ) (b : Bool) → b ≡ eqb k 0 → n ≡ k → p < 64 → (0 < n → n ≡ 64) → not b ≡ ltb p n
-not_empty n k p b e same l size = rw e (elim (eqb_tells k 0) [
-  | inl w ↦ elim (leb_tells (suc p) n) [ inl v ↦ absurd (omega (arith, w.1, v.1, same)) | inr v ↦ rw (w.0, v.0) refl ]
-  | inr w ↦ elim (leb_tells (suc p) n) [ inl v ↦ rw (w.0, v.0) refl | inr v ↦ absurd (let some : 0 < n = omega (arith, w.1, same) in let full = size some in omega (arith, v.1, full, l)) ]
-])
+-- whether a page is ready, where the leaf was made so
+pub made_leaf : (n p page : ℕ) → page < 64 → (0 < n → n ≡ 64) → ltb p 64 ≡ (eqb (p / 64) (page / 64) || ltb p n)
+made_leaf n p page low size = elim (leb_tells (suc p) 64) [
+  | inl w ↦ elim (eqb_tells (p / 64) (page / 64)) [ inl v ↦ rw (w.0, v.0) refl | inr v ↦ absurd (v.1 (omega (arith, w.1, low))) ]
+  | inr w ↦ elim (eqb_tells (p / 64) (page / 64)) [
+    | inl v ↦ absurd (omega (arith, w.1, v.1, low))
+    | inr v ↦ elim (leb_tells (suc p) n) [ inl u ↦ absurd (let full = size (omega (arith, u.1)) in omega (arith, full, u.1, w.1)) | inr u ↦ rw (w.0, v.0, u.0) refl ]
+  ]
+]
 
 pub leaf_found : (mapped : ℕ) (blocks : List ℕ) (p block : ℕ) → p < length blocks → bit_at mapped p ≡ 1 → block ≡ get_or blocks p 0 → Some block ≡ block_at (leaf_pages mapped blocks 0) p
 leaf_found mapped blocks p block l set is = rw (block_at-leaf mapped blocks p l, set) (ap (λ (b : ℕ). Some b) is)
@@ -54,6 +57,13 @@ leaf_cut mapped new blocks k p bits = elim (cases_lt p (length blocks)) [
   | inr l ↦ rw (block_at-past_leaf new blocks p l, block_at-past_leaf mapped blocks p l) (elim (leb_tells k p) [ inl w ↦ rw w.0 refl | inr w ↦ rw w.0 refl ])
 ]
 
+-- a leaf ends before the pages that are cut
+pub leaf_uncut : (mapped : ℕ) (blocks : List ℕ) (k p : ℕ) → (0 < length blocks → length blocks ≡ 64) → 64 ≤ k → block_at (leaf_pages mapped blocks 0) p ≡ cond (leb k p) None (block_at (leaf_pages mapped blocks 0) p)
+leaf_uncut mapped blocks k p size past = elim (leb_tells k p) [
+  | inl w ↦ rw w.0 (block_at-past_leaf mapped blocks p (elim (cases_lt 0 (length blocks)) [ inl u ↦ (let full = size u in omega (arith, full, w.1, past)) | inr u ↦ omega (arith, u) ]))
+  | inr w ↦ rw w.0 refl
+]
+
 pub leaf_same_ready : (mapped new : ℕ) (blocks written : List ℕ) (p : ℕ) → length written ≡ length blocks → is_ready (leaf_pages new written 0) p ≡ is_ready (leaf_pages mapped blocks 0) p
 leaf_same_ready mapped new blocks written p same = is_ready-leaf new written p ∙ ap (λ (n : ℕ). ltb p n) same ∙ sym (is_ready-leaf mapped blocks p)
 
@@ -63,6 +73,9 @@ leaf_full mapped blocks p ready size = elim (leb_tells (suc p) (length blocks)) 
   | inl w ↦ size (omega (arith, w.1))
   | inr w ↦ absurd (true≢false (sym ready ∙ is_ready-leaf mapped blocks p ∙ w.0))
 ]
+
+pub ready_page : (mapped : ℕ) (blocks : List ℕ) (p : ℕ) → is_ready (leaf_pages mapped blocks 0) p ≡ true → p < length blocks
+ready_page mapped blocks p ready = elim (leb_tells (suc p) (length blocks)) [ inl w ↦ w.1 | inr w ↦ absurd (true≢false (sym ready ∙ is_ready-leaf mapped blocks p ∙ w.0)) ]
 
 -- a leaf with a run of its pages set
 pub leaf_set : (mapped new : ℕ) (blocks written : List ℕ) (page block count p : ℕ) → length written ≡ length blocks → length blocks ≡ 64 → page + count ≤ 64 → ((q : ℕ) → q < 64 → bit_at new q ≡ cond (in_run page count q) 1 (bit_at mapped q)) → ((q : ℕ) → get_or written q 0 ≡ cond (in_run page count q) (block + (q - page)) (get_or blocks q 0)) → block_at (leaf_pages new written 0) p ≡ cond (in_run page count p) (Some (block + (p - page))) (block_at (leaf_pages mapped blocks 0) p)

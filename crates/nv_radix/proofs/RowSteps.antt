@@ -1,11 +1,11 @@
 -- What a change of the nodes in a row makes of its pages.
-use Rattle.std.proofs.Common.{◌≡◌, ◌≢◌, ℕ, ◌+◌, ◌-◌, ◌*◌, ◌/◌, ◌%◌, ◌<◌, ◌≤◌, ◌⊎◌, Bool, true, false, true≢false, cond, leb, ltb, eqb, ◌||◌, Result, Ok, Err, OnErr, List, [], ◌∷◌, ◌++◌, length, get_or, take, Option, Some, None, refl, ap, sym, ◌∙◌, subst, arith, inl, inr, suc, append_assoc, append-nil}
+use Rattle.std.proofs.Common.{◌≡◌, ◌≢◌, ℕ, ◌+◌, ◌-◌, ◌*◌, ◌/◌, ◌%◌, ◌<◌, ◌≤◌, ◌⊎◌, Bool, true, false, true≢false, cond, leb, eqb, ◌||◌, Result, Ok, Err, OnErr, List, [], ◌∷◌, ◌++◌, length, map, get_or, take, Option, Some, None, refl, ap, sym, ◌∙◌, subst, arith, inl, inr, suc, append_assoc, append-nil}
 use Rattle.std.proofs.Math.ListN.{set}
 use Rattle.std.proofs.Math.Nat.{mul-le-mul_left}
 use Rattle.std.specs.List.{All}
 use Rattle.std.proofs.lemmas.Bool.{cases_lt, cases_eq}
 use Rattle.std.proofs.lemmas.Bool.Decides.{leb_tells, eqb_tells}
-use Rattle.std.proofs.lemmas.List.{get_or-set_same, get_or-set_other, get_or-take, get_or_past, length-take, length-take-le, take_more}
+use Rattle.std.proofs.lemmas.List.{get_or-map, get_or-set_same, get_or-set_other, get_or-take, get_or_past, length-take, length-take-le, take_more}
 use Rattle.std.proofs.lemmas.List.Elements.{All-take, All-push}
 use Rattle.nv_radix.specs.declared.extent.Extent.{Extent}
 use Rattle.nv_radix.specs.Pages.{Pages, block_at, is_ready, in_run}
@@ -14,6 +14,10 @@ use Rattle.nv_radix.specs.Rising.{Rises}
 use Rattle.nv_radix.specs.Nodes.{in_row, raised, IsNode}
 use Rattle.nv_radix.proofs.Rising.{Rises-append, Rises-higher}
 use Rattle.nv_radix.proofs.Rows.{push_empty, Rises-in_row, Rises-raised, block_at-in_row, is_ready-in_row, in_row-append, raised-append, raised-raised}
+
+-- the pages before a node fill whole leaves
+in_leaves : (span i : ℕ) → span % 64 ≡ 0 → i * span ≡ 64 * (i * (span / 64))
+in_leaves span i whole = (let is : span ≡ 64 * (span / 64) = omega (arith, whole) in ap (λ (n : ℕ). i * n) is ∙ omega arith)
 
 pub IsNode-nil : (span : ℕ) → IsNode span []
 IsNode-nil span = record { rises = omega arith; leaves = λ p q e. refl }
@@ -139,27 +143,21 @@ pub part_no_more_step : (xs : List Pages) (n : ℕ) (x : Pages) → n < length x
 part_no_more_step xs n x l is j r =
     set_by_place (take (n + 1) xs) n x (λ j m. is_ready m r ≡ true → is_ready (get_or xs j []) r ≡ true) (omega (arith, length-take-le (n + 1) xs (omega (arith, l)))) (is r) (λ j ne. cut_no_more_step xs (n + 1) j r) j
 
-pub get_or-kept : (xs : List Pages) (n : ℕ) → get_or (take (n + 1) xs) n [] ≡ get_or xs n []
-get_or-kept xs n = get_or-take (n + 1) xs n [] (omega arith)
+-- a page of a node, and another page of its leaf: that is one of the same node
+pub same_node : (span i r p : ℕ) → span % 64 ≡ 0 → r < span → p / 64 ≡ (i * span + r) / 64 → (s : ℕ) × (p ≡ i * span + s) × (s < span) × (s / 64 ≡ r / 64)
+same_node span i r p whole l e =
+    let first = in_leaves span i whole in
+    (p - i * span, omega (arith, first, e), omega (arith, first, e, l, whole), omega (arith, first, e))
 
--- rows of leaves and of branches
-pub IsNode-leaves : (xs : List Pages) → All (IsNode 64) xs → length xs ≤ 64 → IsNode 4096 (in_row 64 xs)
-IsNode-leaves xs h few = record {
-  rises = Rises-higher 0 (length xs * 64) 4096 (in_row 64 xs) (omega (arith, few)) (Rises-in_row 64 xs h);
-  leaves = λ p q e. page p ∙ (node_at 64 xs (p / 64) h).leaves (p % 64) (q % 64) (omega arith) ∙ ap (λ i. is_ready (get_or xs i []) (q % 64)) e ∙ sym (page q);
+-- a row of nodes
+pub IsNode-row : (span : ℕ) (xs : List Pages) → 0 < span → span % 64 ≡ 0 → All (IsNode span) xs → length xs ≤ 64 → IsNode (64 * span) (in_row span xs)
+IsNode-row span xs some whole h few = record {
+  rises = Rises-higher 0 (length xs * span) (64 * span) (in_row span xs) (not_lower span (length xs) 64 few) (Rises-in_row span xs h);
+  leaves = λ p q e.
+      let is : q ≡ q / span * span + q % span = omega arith in
+      let w = same_node span (q / span) (q % span) p whole (omega arith) (e ∙ ap (λ (n : ℕ). n / 64) is) in
+      ap (is_ready (in_row span xs)) w.1 ∙ is_ready-in_row span xs (q / span) w.0 h w.2 ∙ (node_at span xs (q / span) h).leaves w.0 (q % span) w.3 ∙ sym (is_ready-in_row span xs (q / span) (q % span) h (omega arith)) ∙ ap (is_ready (in_row span xs)) (sym is);
 }
-  where
-    page : (p : ℕ) → is_ready (in_row 64 xs) p ≡ is_ready (get_or xs (p / 64) []) (p % 64)
-    page p = (let whole : p ≡ p / 64 * 64 + p % 64 = omega arith in ap (is_ready (in_row 64 xs)) whole ∙ is_ready-in_row 64 xs (p / 64) (p % 64) h (omega arith))
-
-pub IsNode-branches : (xs : List Pages) → All (IsNode 4096) xs → length xs ≤ 64 → IsNode 262144 (in_row 4096 xs)
-IsNode-branches xs h few = record {
-  rises = Rises-higher 0 (length xs * 4096) 262144 (in_row 4096 xs) (omega (arith, few)) (Rises-in_row 4096 xs h);
-  leaves = λ p q e. (let same : p / 4096 ≡ q / 4096 = omega (arith, e) in page p ∙ (node_at 4096 xs (p / 4096) h).leaves (p % 4096) (q % 4096) (omega (arith, e)) ∙ ap (λ i. is_ready (get_or xs i []) (q % 4096)) same ∙ sym (page q));
-}
-  where
-    page : (p : ℕ) → is_ready (in_row 4096 xs) p ≡ is_ready (get_or xs (p / 4096) []) (p % 4096)
-    page p = (let whole : p ≡ p / 4096 * 4096 + p % 4096 = omega arith in ap (is_ready (in_row 4096 xs)) whole ∙ is_ready-in_row 4096 xs (p / 4096) (p % 4096) h (omega arith))
 
 -- one node more of a walk over a row
 pub AreExtents-node : (span base : ℕ) (xs : List Pages) (i : ℕ) (m : Pages) (old new : List Extent) → All (IsNode span) xs → i < length xs → Rises 0 base m → ((n : Pages) → Rises 0 (base + i * span) n → AreExtents n old → AreExtents (n ++ raised (base + i * span) (get_or xs i [])) new) → AreExtents (m ++ raised base (in_row span (take i xs))) old → AreExtents (m ++ raised base (in_row span (take (i + 1) xs))) new
@@ -174,18 +172,32 @@ AreExtents-node span base xs i m old new h l rises step a =
     subst (λ n. AreExtents n new) (sym more) (step front (Rises-append 0 base (base + i * span) m _ rises lifted) a)
 
 -- a page of a row, by its node
-pub block_at-page : (span : ℕ) (xs : List Pages) (p : ℕ) → 0 < span → All (IsNode span) xs → block_at (in_row span xs) p ≡ block_at (get_or xs (p / span) []) (p % span)
-block_at-page span xs p some h = (let whole : p ≡ p / span * span + p % span = omega arith in let low : p % span < span = omega arith in ap (block_at (in_row span xs)) whole ∙ block_at-in_row span xs (p / span) (p % span) h low)
+pub block_at-page : (span : ℕ) (xs : List Pages) (i r p : ℕ) → p ≡ i * span + r → r < span → All (IsNode span) xs → block_at (in_row span xs) p ≡ block_at (get_or xs i []) r
+block_at-page span xs i r p is l h = ap (block_at (in_row span xs)) is ∙ block_at-in_row span xs i r h l
 
-pub is_ready-page : (span : ℕ) (xs : List Pages) (p : ℕ) → 0 < span → All (IsNode span) xs → is_ready (in_row span xs) p ≡ is_ready (get_or xs (p / span) []) (p % span)
-is_ready-page span xs p some h = (let whole : p ≡ p / span * span + p % span = omega arith in let low : p % span < span = omega arith in ap (is_ready (in_row span xs)) whole ∙ is_ready-in_row span xs (p / span) (p % span) h low)
+pub is_ready-page : (span : ℕ) (xs : List Pages) (i r p : ℕ) → p ≡ i * span + r → r < span → All (IsNode span) xs → is_ready (in_row span xs) p ≡ is_ready (get_or xs i []) r
+is_ready-page span xs i r p is l h = ap (is_ready (in_row span xs)) is ∙ is_ready-in_row span xs i r h l
+
+-- what is told of a leaf in a node is told of it in the row
+pub told_by_node : (span : ℕ) (xs : List Pages) (i r page : ℕ) (b : Bool) → page ≡ i * span + r → r < span → span % 64 ≡ 0 → All (IsNode span) xs → ((q : ℕ) → q / 64 ≡ r / 64 → b ≡ is_ready (get_or xs i []) q) → (p : ℕ) → p / 64 ≡ page / 64 → b ≡ is_ready (in_row span xs) p
+told_by_node span xs i r page b is l whole h told p e =
+    let w = same_node span i r p whole l (e ∙ ap (λ (n : ℕ). n / 64) is) in
+    told w.0 w.3 ∙ sym (is_ready-page span xs i w.0 p w.1 w.2 h)
 
 -- the node of a ready page is there
-pub ready_place : (span : ℕ) (xs : List Pages) (p : ℕ) → 0 < span → All (IsNode span) xs → is_ready (in_row span xs) p ≡ true → p / span < length xs
-ready_place span xs p some h e = elim (cases_lt (p / span) (length xs)) [
-  | inl l ↦ l
-  | inr l ↦ absurd (let none : is_ready (get_or xs (p / span) []) (p % span) ≡ false = ap (λ m. is_ready m (p % span)) (get_or_past xs (p / span) [] l) in true≢false (sym e ∙ is_ready-page span xs p some h ∙ none))
+pub ready_place : (span : ℕ) (xs : List Pages) (i r p : ℕ) → p ≡ i * span + r → r < span → All (IsNode span) xs → is_ready (in_row span xs) p ≡ true → i < length xs
+ready_place span xs i r p is l h e = elim (cases_lt i (length xs)) [
+  | inl k ↦ k
+  | inr k ↦ absurd (let none : is_ready (get_or xs i []) r ≡ false = ap (λ m. is_ready m r) (get_or_past xs i [] k) in true≢false (sym e ∙ is_ready-page span xs i r p is l h ∙ none))
 ]
+
+-- a node among those of a row, of which only the pages count
+pub node_is : {X : Type 0} (pages : X → Pages) (xs : List X) (i : ℕ) (x : X) → i < length xs → x ≡ get_or xs i x → pages x ≡ get_or (map pages xs) i []
+node_is pages xs i x l is = ap pages is ∙ sym (get_or-map pages xs i x [] l)
+
+-- the last node of a row that was cut behind it
+pub kept_node : {X : Type 0} (pages : X → Pages) (xs : List X) (n : ℕ) (x : X) → n < length xs → x ≡ get_or (take (n + 1) xs) n x → pages x ≡ get_or (map pages xs) n []
+kept_node pages xs n x l is = node_is pages xs n x l (is ∙ get_or-take (n + 1) xs n x (omega arith))
 
 -- a row with more empty nodes at its end
 pub same_step : (xs ys : List Pages) → ((i : ℕ) → get_or ys i [] ≡ get_or xs i []) → (i r : ℕ) → is_ready (get_or ys i []) r ≡ is_ready (get_or xs i []) r
@@ -205,25 +217,30 @@ IsGrown-push span old new x e g = subst (λ y. IsGrown span old (new ++ y ∷ []
   nodes = λ h. All-push (IsNode span) new [] (g.nodes h) (IsNode-nil span);
 })
 
--- a leaf that was made ready, among the leaves
-pub ready_leaf : (i r : ℕ) (b : Bool) → r < 64 → ltb r 64 ≡ (eqb ((i * 64 + r) / 64) i || b)
-ready_leaf i r b l = elim (leb_tells (suc r) 64) [
-  | inl w ↦ elim (eqb_tells ((i * 64 + r) / 64) i) [ inl v ↦ rw (w.0, v.0) refl | inr v ↦ absurd (v.1 (omega (arith, l))) ]
-  | inr w ↦ absurd (omega (arith, w.1, l))
+-- a leaf that was made ready, in its node and in the row
+pub ready_here : (span i r page s : ℕ) (b : Bool) → span % 64 ≡ 0 → page ≡ i * span + r → (eqb (s / 64) (r / 64) || b) ≡ (eqb ((i * span + s) / 64) (page / 64) || b)
+ready_here span i r page s b whole is = (let first = in_leaves span i whole in elim (eqb_tells (s / 64) (r / 64)) [
+  | inl w ↦ elim (eqb_tells ((i * span + s) / 64) (page / 64)) [ inl v ↦ rw (w.0, v.0) refl | inr v ↦ absurd (v.1 (omega (arith, w.1, first, is))) ]
+  | inr w ↦ elim (eqb_tells ((i * span + s) / 64) (page / 64)) [ inl v ↦ absurd (w.1 (omega (arith, v.1, first, is))) | inr v ↦ rw (w.0, v.0) refl ]
+])
+
+-- and among other nodes
+pub ready_there : (span i j r page s : ℕ) (b : Bool) → span % 64 ≡ 0 → page ≡ i * span + r → r < span → s < span → j ≢ i → b ≡ (eqb ((j * span + s) / 64) (page / 64) || b)
+ready_there span i j r page s b whole is l h n = elim (eqb_tells ((j * span + s) / 64) (page / 64)) [
+  | inl v ↦ absurd (let w = same_node span i r (j * span + s) whole l (v.1 ∙ ap (λ (n : ℕ). n / 64) is) in elim (cases_lt j i) [
+    | inl k ↦ (let low = lower span j i s k h in omega (arith, low, w.1))
+    | inr k ↦ (let low = lower span i j w.0 (omega (arith, k, n)) w.2 in omega (arith, low, w.1))
+  ])
+  | inr v ↦ rw v.0 refl
 ]
 
-pub other_leaf : (i j r : ℕ) (b : Bool) → r < 64 → j ≢ i → b ≡ (eqb ((j * 64 + r) / 64) i || b)
-other_leaf i j r b l n = elim (eqb_tells ((j * 64 + r) / 64) i) [ inl v ↦ absurd (n (omega (arith, l, v.1))) | inr v ↦ rw v.0 refl ]
+-- a page stands at the same place of its leaf in a node as in the row
+pub same_place : (span i r page : ℕ) → span % 64 ≡ 0 → page ≡ i * span + r → r % 64 ≡ page % 64
+same_place span i r page whole is = (let first = in_leaves span i whole in omega (arith, first, is))
 
--- and among the branches
-pub ready_branch : (page r : ℕ) (b : Bool) → r < 4096 → (eqb (r / 64) (page % 4096 / 64) || b) ≡ (eqb ((page / 4096 * 4096 + r) / 64) (page / 64) || b)
-ready_branch page r b l = elim (eqb_tells (r / 64) (page % 4096 / 64)) [
-  | inl w ↦ elim (eqb_tells ((page / 4096 * 4096 + r) / 64) (page / 64)) [ inl v ↦ rw (w.0, v.0) refl | inr v ↦ absurd (v.1 (omega (arith, w.1))) ]
-  | inr w ↦ elim (eqb_tells ((page / 4096 * 4096 + r) / 64) (page / 64)) [ inl v ↦ absurd (w.1 (omega (arith, v.1))) | inr v ↦ rw (w.0, v.0) refl ]
-]
-
-pub other_branch : (page j r : ℕ) (b : Bool) → r < 4096 → j ≢ page / 4096 → b ≡ (eqb ((j * 4096 + r) / 64) (page / 64) || b)
-other_branch page j r b l n = elim (eqb_tells ((j * 4096 + r) / 64) (page / 64)) [ inl v ↦ absurd (n (omega (arith, l, v.1))) | inr v ↦ rw v.0 refl ]
+-- the place of a node among so many
+pub few_places : (span i r page n : ℕ) → page ≡ i * span + r → page < n * span → i < n
+few_places span i r page n is l = elim (cases_lt i n) [ inl w ↦ w | inr w ↦ absurd (let high = not_lower span n i w in omega (arith, high, is, l)) ]
 
 -- what holds on one outcome of a call
 pub on_any_err : {T E : Type 0} (r : Result T E) (P : Type 0) → P → OnErr r P

@@ -7,6 +7,7 @@ ghost use Rattle.nv_radix.specs.Runs.{block_by};
 
 use crate::index::FileIndex;
 use crate::leaf::{LEAF_PAGES, Leaf};
+use crate::node::Node;
 use crate::run_map::RunMap;
 use std::alloc::{AllocError, Global};
 use std::marker::Model;
@@ -75,7 +76,7 @@ impl ExtentMap {
         requires blocks { 0 < count → block + count ≤ 2 ^ 64 }
         ensures { OnOk result ((p : ℕ) → block_by self.new p ≡ (if in_run page count p then Some (block + (p - page)) else block_by self.old p)) }
     {
-        self.front.make_ready()?;
+        self.front.make_ready(page)?;
         let part = count.min(LEAF_PAGES - page);
         self.front.set_part(page, block, part);
         if page + count > LEAF_PAGES {
@@ -89,7 +90,7 @@ impl ExtentMap {
         ensures { IfOk result (λ index. (p : ℕ) → block_at index p ≡ block_by self.now p) }
     {
         let mut index = self.runs.to_index(alloc)?;
-        if !self.front.is_ready() {
+        if !self.front.is_ready(0) {
             return Ok(index);
         }
         put_leaf(&mut index, &self.front)?;
@@ -103,7 +104,7 @@ fn goes_first(front: &Leaf, end: u64, page: u64) -> bool
     ensures first { IsTrue result → page < 64 }
     ensures none { result ≡ false → page < 64 → (p : ℕ) → p < 64 → is_ready front.now p ≡ false }
 {
-    page < LEAF_PAGES && (front.is_ready() || page < end)
+    page < LEAF_PAGES && (front.is_ready(page) || page < end)
 }
 
 /// Maps the first pages of an index as a leaf does, where that maps them.

@@ -7,7 +7,8 @@ ghost use Rattle.nv_radix.specs.Extents.{AreExtents};
 use crate::MAX_FILE_PAGES;
 use crate::extent::Extent;
 use crate::leaf::Leaf;
-use crate::root::Root;
+use crate::node::Node;
+use crate::row::Root;
 use std::alloc::{AllocError, Global};
 use std::marker::Model;
 
@@ -63,7 +64,7 @@ impl FileIndex {
         ensures beyond { MAX_FILE_PAGES ≤ page → result ≡ false }
     {
         if page < 64 {
-            self.front.is_ready()
+            self.front.is_ready(page)
         } else {
             self.rest.is_ready(page - 64)
         }
@@ -113,7 +114,7 @@ impl FileIndex {
         ensures err { OnErr result ((p : ℕ) → is_ready self.new p ≡ is_ready self.old p) }
     {
         if page < 64 {
-            self.front.make_ready()
+            self.front.make_ready(page)
         } else {
             self.rest.make_ready(page - 64)
         }

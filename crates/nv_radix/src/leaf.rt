@@ -1,14 +1,12 @@
 //! A leaf of a file index: 64 pages that are ready together, each with its block or none.
 
-ghost use Rattle.std.specs.Prelude.{◌≡◌, ℕ, ◌+◌, ◌-◌, ◌^◌, ◌<◌, ◌≤◌, ◌++◌, [], if◌then◌else◌, nat_le, nat_lt, Some, None, true, length, slice_index, OnOk, OnErr};
+ghost use Rattle.std.specs.Prelude.{◌≡◌, ℕ, ◌+◌, ◌-◌, ◌^◌, ◌<◌, ◌≤◌, if◌then◌else◌, length, slice_index};
 ghost use Rattle.std.specs.Int.{bit_at};
-ghost use Rattle.nv_radix.specs.Nodes.{raised, IsNode};
-ghost use Rattle.nv_radix.specs.Pages.{Pages, block_at, is_ready, in_run};
-ghost use Rattle.nv_radix.specs.Extents.{AreExtents};
-ghost use Rattle.nv_radix.specs.Rising.{Rises};
+ghost use Rattle.nv_radix.specs.Pages.{in_run};
 
 use crate::extent::Extent;
 use crate::extents::add_page;
+use crate::node::{Child, Node, Single};
 use std::alloc::{AllocError, Global};
 use std::marker::Model;
 
@@ -35,42 +33,30 @@ impl Model for Leaf {
     ghost invariant = { λ a. 0 < length a.blocks.items → length a.blocks.items ≡ 64 };
 }
 
-impl Leaf {
-    /// A leaf that isn't ready.
-    pub fn new(alloc: Global) -> Leaf
-        ensures { result ≡ [] }
-    {
+impl Node for Leaf {
+    ghost span = { 64 };
+
+    ghost pages = { λ m. m };
+
+    fn new(alloc: Global) -> Leaf {
         Leaf {
             mapped: 0,
             blocks: Vec::new(alloc),
         }
     }
 
-    /// Whether the pages of the leaf are ready.
-    pub fn is_ready(&self) -> bool
-        ensures { (p : ℕ) → p < 64 → result ≡ is_ready self.now p }
-    {
-        !self.blocks.is_empty()
+    fn is_ready(&self, page: u64) -> bool {
+        (page as usize) < self.blocks.len()
     }
 
-    /// The block of a page.
-    pub fn get(&self, page: u64) -> Option<u64>
-        requires { page < 64 }
-        ensures { result ≡ block_at self.now page }
-    {
+    fn get(&self, page: u64) -> Option<u64> {
         match self.blocks.get(page as usize) {
             Some(block) if (self.mapped >> page) & 1 == 1 => Some(*block),
             _ => None,
         }
     }
 
-    /// Makes the pages ready. An error leaves the leaf.
-    pub fn make_ready(&mut self) -> Result<(), AllocError>
-        ensures blocks { (p : ℕ) → block_at self.new p ≡ block_at self.old p }
-        ensures ready { OnOk result ((p : ℕ) → is_ready self.new p ≡ nat_lt p 64) }
-        ensures err { OnErr result (self.new ≡ self.old) }
-        ensures node { IsNode 64 self.new }
-    {
+    fn make_ready(&mut self, _page: u64) -> Result<(), AllocError> {
         if self.blocks.is_empty() {
             self.blocks.resize(64, 0)?;
             self.mapped = 0;
@@ -78,33 +64,18 @@ impl Leaf {
         Ok(())
     }
 
-    /// Maps the `count` pages from `page` on to as many blocks from `block` on.
-    pub fn set_part(&mut self, page: u64, block: u64, count: u64)
-        requires part { page + count ≤ 64 }
-        requires ready { is_ready self.old page ≡ true }
-        requires blocks { block + count ≤ 2 ^ 64 }
-        ensures blocks { (p : ℕ) → block_at self.new p ≡ (if in_run page count p then Some (block + (p - page)) else block_at self.old p) }
-        ensures ready { (p : ℕ) → is_ready self.new p ≡ is_ready self.old p }
-        ensures node { IsNode 64 self.new }
-    {
+    fn set_part(&mut self, page: u64, block: u64, count: u64) {
         set_places(&mut self.mapped, &mut self.blocks, page, block, count);
     }
 
-    /// Unmaps the pages from `first_page` on. They stay ready.
-    pub fn cut(&mut self, first_page: u64)
-        requires { first_page < 64 }
-        ensures blocks { (p : ℕ) → block_at self.new p ≡ (if nat_le first_page p then None else block_at self.old p) }
-        ensures ready { (p : ℕ) → is_ready self.new p ≡ is_ready self.old p }
-        ensures node { IsNode 64 self.new }
-    {
-        self.mapped &= (1 << first_page) - 1;
+    /// All pages stay ready.
+    fn cut(&mut self, first_page: u64) {
+        if first_page < 64 {
+            self.mapped &= (1 << first_page) - 1;
+        }
     }
 
-    /// Adds the mapped pages, each raised by `base`, to extents of lower pages.
-    pub fn add_pages(&self, extents: &mut Vec<Extent>, base: u64) -> Result<(), AllocError>
-        requires { base < 2 ^ 32 }
-        ensures { OnOk result ((m : Pages) → Rises 0 base m → AreExtents m extents.old.items → AreExtents (m ++ raised base self.now) extents.new.items) }
-    {
+    fn add_pages(&self, extents: &mut Vec<Extent>, base: u64) -> Result<(), AllocError> {
         for (place, block) in self.blocks.iter().enumerate() {
             let rest = self.mapped >> place;
             if rest == 0 {
@@ -116,6 +87,28 @@ impl Leaf {
         }
         Ok(())
     }
+
+    ghost use Rattle.std.proofs.Common.{arith, refl};
+
+    ghost some = { omega arith };
+
+    ghost whole = { refl };
+}
+
+impl Child for Leaf {
+    ghost use Rattle.std.proofs.Common.{refl};
+
+    const PAGES: u64 = 64;
+
+    ghost PAGES = { 64 };
+
+    ghost spans = { refl };
+}
+
+impl Single for Leaf {
+    ghost use Rattle.std.proofs.Common.{refl};
+
+    ghost one = { refl };
 }
 
 /// Sets the bits of a run of places, and gives them as many blocks from `block` on.

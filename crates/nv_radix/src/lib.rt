@@ -4,13 +4,13 @@
 //! Both rely on nothing else and hand on the map alone, so that bodies can change.
 #![tactic(auto)]
 
-mod branch;
 mod extent;
 mod extent_map;
 mod extents;
 mod index;
 mod leaf;
-mod root;
+mod node;
+mod row;
 mod run_map;
 mod runs;
 

@@ -1,11 +1,11 @@
-use Rattle.std.proofs.Common.{ℕ, Option, ap, sym, ◌∙◌}
+use Rattle.std.proofs.Common.{ℕ, Option, ap, sym, ◌∙◌, arith}
 use Rattle.nv_radix.specs.Runs.{Runs, block_by}
 use Rattle.nv_radix.proofs.Fronts.{over, block_by-front, runs_alone}
 use Rattle.nv_radix.proofs.extent_map.ExtentMap.to_index.Goals as goal
 
 pub returns-then-not-is_ready : goal.returns-then-not-is_ready
 returns-then-not-is_ready c = λ p. c.in_ok-index.ensures p
-    ∙ sym (runs_alone c.self.inside.front c.self.inside.runs (λ q low. sym (c.is_ready.ensures q low) ∙ c.if-not-is_ready.true) p)
+    ∙ sym (runs_alone c.self.inside.front c.self.inside.runs (λ q low. sym (c.is_ready.ensures q (omega (arith, low))) ∙ c.if-not-is_ready.true) p)
     ∙ ap (λ (runs : Runs). block_by runs p) c.self.view_is
 
 pub returns : goal.returns

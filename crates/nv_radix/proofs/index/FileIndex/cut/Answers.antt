@@ -25,7 +25,7 @@ invariant_of-self-then-first_page-eq0 c =
 pub invariant_of-self-else-first_page-eq0 : goal.invariant_of-self-else-first_page-eq0
 invariant_of-self-else-first_page-eq0 c =
     let front = c.cut-else-first_page-eq0.ensures in
-    (front.node, c.cut-2.ensures.node, λ p l. not_more _ _ (ready_by_half c.self.inside.front c.self.inside.rest c.cut-else-first_page-eq0.new.self c.cut-2.new.self (λ q old new. new ≡ true → old ≡ true) c.self.invariant.0 c.self.invariant.1 front.node c.cut-2.ensures.node (λ q k e. sym (front.ready q) ∙ e) (λ q. c.cut-2.ensures.no_more q) p) (c.self.invariant.2 p l))
+    (front.node, c.cut-2.ensures.node, λ p l. not_more _ _ (ready_by_half c.self.inside.front c.self.inside.rest c.cut-else-first_page-eq0.new.self c.cut-2.new.self (λ q old new. new ≡ true → old ≡ true) c.self.invariant.0 c.self.invariant.1 front.node c.cut-2.ensures.node (λ q k e. front.no_more q e) (λ q. c.cut-2.ensures.no_more q) p) (c.self.invariant.2 p l))
 
 pub returns-then-first_page-eq0-clause-blocks : goal.returns-then-first_page-eq0-clause-blocks
 returns-then-first_page-eq0-clause-blocks c =
@@ -45,9 +45,9 @@ returns-else-first_page-eq0-clause-blocks c =
 pub returns-else-first_page-eq0-clause-ready : goal.returns-else-first_page-eq0-clause-ready
 returns-else-first_page-eq0-clause-ready c =
     let front = c.cut-else-first_page-eq0.ensures in
-    λ p. rw (← c.self.view_is) (ready_by_half c.self.inside.front c.self.inside.rest c.cut-else-first_page-eq0.new.self c.cut-2.new.self (λ q old new. q < c.args.first_page → new ≡ old) c.self.invariant.0 c.self.invariant.1 front.node c.cut-2.ensures.node (λ q l k. front.ready q) (λ q k. absurd (omega (arith, k, c.if-first_page-ge64.false))) p)
+    λ p. rw (← c.self.view_is) (ready_by_half c.self.inside.front c.self.inside.rest c.cut-else-first_page-eq0.new.self c.cut-2.new.self (λ q old new. q < c.args.first_page → new ≡ old) c.self.invariant.0 c.self.invariant.1 front.node c.cut-2.ensures.node (λ q l k. front.ready q k) (λ q k. absurd (omega (arith, k, c.if-first_page-ge64.false))) p)
 
 pub returns-else-first_page-eq0-clause-no_more : goal.returns-else-first_page-eq0-clause-no_more
 returns-else-first_page-eq0-clause-no_more c =
     let front = c.cut-else-first_page-eq0.ensures in
-    λ p. rw (← c.self.view_is) (ready_by_half c.self.inside.front c.self.inside.rest c.cut-else-first_page-eq0.new.self c.cut-2.new.self (λ q old new. new ≡ true → old ≡ true) c.self.invariant.0 c.self.invariant.1 front.node c.cut-2.ensures.node (λ q l e. sym (front.ready q) ∙ e) (λ q. c.cut-2.ensures.no_more q) p)
+    λ p. rw (← c.self.view_is) (ready_by_half c.self.inside.front c.self.inside.rest c.cut-else-first_page-eq0.new.self c.cut-2.new.self (λ q old new. new ≡ true → old ≡ true) c.self.invariant.0 c.self.invariant.1 front.node c.cut-2.ensures.node (λ q l e. front.no_more q e) (λ q. c.cut-2.ensures.no_more q) p)

@@ -1,9 +1,0 @@
-use Rattle.std.proofs.Common.{take, ◌++◌}
-use Rattle.nv_radix.specs.Pages.{Pages}
-use Rattle.nv_radix.specs.Extents.{AreExtents}
-use Rattle.nv_radix.specs.Rising.{Rises}
-use Rattle.nv_radix.specs.Nodes.{raised, in_row}
-use Rattle.nv_radix.proofs.branch.Branch.add_pages.Given as goal
-
-abbrev pub invariant-loop-place : goal.invariant-loop-place
-invariant-loop-place l = (m : Pages) → Rises 0 l.base m → AreExtents m l.initial.extents.items → AreExtents (m ++ raised l.base (in_row 64 (take l.place l.leaf-items))) l.extents.items
