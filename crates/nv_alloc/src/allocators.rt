@@ -227,7 +227,7 @@ fn join_all(pools: &mut [Pool], sup: &Super, run: Run)
     ensures joined { JoinedUpTo sup.now run (length pools.old) pools.old pools.new }
 {
     let end = run.start + run.count;
-    let home = pool_of(sup, run.start) as usize;
+    let home = pool_of(pools, sup, run.start) as usize;
     for cpu in home..pools.len() {
         pools[cpu].join(run);
         if end <= pools[cpu].end() {
@@ -237,8 +237,10 @@ fn join_all(pools: &mut [Pool], sup: &Super, run: Run)
 }
 
 /// The CPU whose pool has the block, by a binary search.
-fn pool_of(sup: &Super, block: u64) -> u64
+fn pool_of(pools: &[Pool], sup: &Super, block: u64) -> u64
     requires layout { IsLayout sup.now }
+    requires count { length pools.now ≡ sup.now.cpus }
+    requires bounds { AreBounds sup.now sup.now.cpus (bounds_of pools.now) }
     requires block { (system_blocks sup.now ≤ block) × (block < sup.now.blocks) }
     ensures cpu { result < sup.now.cpus }
     ensures pool { InPool sup.now result block }
@@ -247,8 +249,8 @@ fn pool_of(sup: &Super, block: u64) -> u64
     let mut high = sup.cpus;
     while high - low > 1 {
         let middle = low + (high - low) / 2;
-        let (start, _) = sup.pool(middle);
-        if start <= block {
+        // A pool begins where the one before it ends, so no bound need be computed.
+        if pools[middle as usize - 1].end() <= block {
             low = middle;
         } else {
             high = middle;

@@ -1,6 +1,6 @@
 //! Blocks that are taken one by one, as the pages of logs are.
 
-ghost use Rattle.std.specs.Prelude.{◌≡◌, ◌<◌, ◌≤◌, ◌+◌, length, IfOk, IfErr, OnOk, OnErr, vec_len, vec_capacity};
+ghost use Rattle.std.specs.Prelude.{◌≡◌, ◌<◌, ◌≤◌, ◌+◌, length, IsTrue, IsFalse, IfOk, IfErr, OnOk, OnErr, vec_len, vec_capacity};
 ghost use Rattle.nv_alloc.specs.Taking.{all_blocks};
 ghost use Rattle.nv_alloc.specs.FreeLists.{Refuses, SameLists};
 ghost use Rattle.nv_calls.specs.Taken.{SamePools, TakesOne, TakesEach, TakesOnto};
@@ -8,6 +8,14 @@ ghost use Rattle.nv_calls.specs.Taken.{SamePools, TakesOne, TakesEach, TakesOnto
 use nv_alloc::{AllocRefusal, Allocators};
 use nv_super::Run;
 use std::alloc::{AllocError, Global};
+
+/// Whether all pools together have so many blocks. It looks at no pool where that is none.
+pub(crate) fn are_enough(free: &Allocators, count: u64) -> bool
+    ensures yes { IsTrue result → count ≤ all_blocks free.now.pools }
+    ensures no { IsFalse result → all_blocks free.now.pools < count }
+{
+    count == 0 || count <= free.free_blocks()
+}
 
 /// Takes so many blocks, each by itself: the lowest of a CPU's pool, and where that is empty one of the fullest.
 ///
@@ -27,7 +35,7 @@ pub(crate) fn take_blocks(
     ensures unchanged { OnErr result (SamePools free.old free.new) }
     ensures room_left { OnErr result (free.old.room ≤ free.new.room + count) }
 {
-    if free.free_blocks() < count {
+    if !are_enough(free, count) {
         return Err(AllocRefusal::NoSpace);
     }
     match take_enough(alloc, free, cpu, count) {

@@ -1,12 +1,13 @@
 //! Two logs that grow together, and the rows that stand for them: all growths first, then the commit, then the rows.
 
-ghost use Rattle.std.specs.Prelude.{◌≡◌, ◌≢◌, ◌+◌, ◌%◌, ◌<◌, ◌≤◌, [], ◌∷◌, length, IsTrue, IfOk, IfErr, OnOk, OnErr, vec_len, vec_capacity};
+ghost use Rattle.std.specs.Prelude.{◌≡◌, ◌≢◌, ◌+◌, ◌%◌, ◌<◌, ◌≤◌, ℕ, List, [], ◌∷◌, length, IsTrue, IfOk, IfErr, OnOk, OnErr, vec_len, vec_capacity};
 ghost use Rattle.nv_region.specs.Region.{size};
 ghost use Rattle.nv_region.specs.Stops.{NothingPending};
 ghost use Rattle.nv_region.specs.Fuses.{KeepsFuse};
 ghost use Rattle.nv_super.specs.Layout.{IsLayout, inode_limit, slot_address};
 ghost use Rattle.nv_alloc.specs.Taking.{all_blocks};
 ghost use Rattle.nv_logpage.specs.Append.{AreGiven, needed};
+ghost use Rattle.nv_names.specs.Names.{name_at};
 ghost use Rattle.nv_held.specs.nv_outcome.Same.{SameRow};
 ghost use Rattle.nv_tree.specs.declared.refusal.Refusal.{Refusal as RefusalValue};
 ghost use Rattle.nv_calls.specs.Grown.{StandsRight};
@@ -15,12 +16,13 @@ ghost use Rattle.nv_calls.specs.NewNames.{CanName};
 ghost use Rattle.nv_calls.specs.Steps.{LeavesStep, RefusesStep};
 ghost use Rattle.nv_calls.specs.Taken.{SamePools, TakesEach};
 
-use crate::blocks::take_blocks;
+use crate::blocks::{are_enough, take_blocks};
 use crate::settling::settle_log;
 use nv_alloc::{AllocRefusal, Allocators};
 use nv_commit::{Extension, extend_two};
 use nv_entry::Entry;
 use nv_logpage::pages_needed;
+use nv_names::NameIndex;
 use nv_region::Pmem;
 use nv_scan::Row;
 use nv_super::Super;
@@ -134,7 +136,7 @@ fn prepare_logs(
 {
     let count = blocks_for(row, first);
     let more = blocks_for(other, second);
-    if free.free_blocks() < count + more {
+    if !are_enough(free, count + more) {
         return Err(Refusal::NoSpace);
     }
     let Ok(()) = make_room(row, count as usize, first.names) else {
@@ -160,7 +162,18 @@ fn make_room(row: &mut Row, pages: usize, names: usize) -> Result<(), AllocError
     // A name index says of itself that it has no name twice.
     let _names = row.names.len();
     row.pages.reserve(pages)?;
-    row.names.reserve(names)?;
+    reserve_names(&mut row.names, names)?;
     let _names = row.names.len();
     Ok(())
+}
+
+/// Makes room for so many names. For none it takes no memory, as the index of a file's names would.
+fn reserve_names(names: &mut NameIndex, more: usize) -> Result<(), AllocError>
+    ensures same { (q : List ℕ) → name_at names.new q ≡ name_at names.old q }
+    ensures room { OnOk result (more ≤ names.new.room) }
+{
+    if more == 0 {
+        return Ok(());
+    }
+    names.reserve(more)
 }

@@ -6,7 +6,7 @@ ghost use Rattle.nv_alloc.specs.Taking.{all_blocks};
 ghost use Rattle.nv_logpage.specs.Append.{needed};
 ghost use Rattle.nv_calls.specs.Taken.{SamePools, TakesEach};
 
-use crate::blocks::take_blocks;
+use crate::blocks::{are_enough, take_blocks};
 use nv_alloc::{AllocRefusal, Allocators};
 use nv_entry::Entry;
 use nv_logpage::pages_needed;
@@ -35,7 +35,7 @@ pub(crate) fn prepare_log(
     ensures pages { pages.new.items ≡ pages.old.items }
 {
     let count = pages_needed(tail, entries);
-    if free.free_blocks() < count {
+    if !are_enough(free, count) {
         return Err(AllocRefusal::NoSpace);
     }
     match pages.reserve(count as usize) {

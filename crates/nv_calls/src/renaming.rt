@@ -32,6 +32,7 @@ ghost use Rattle.nv_calls.specs.World.{world_of};
 
 use crate::Fs;
 use crate::appending::append_log;
+use crate::blocks::are_enough;
 use crate::growing::{Growth, append_logs};
 use crate::making::name_entry;
 use crate::moving::{Move, rename_for};
@@ -90,7 +91,7 @@ fn move_within<P: Pmem>(
     ];
     // A name index says of itself that it has no name twice.
     let _names = directory.names.len();
-    if free.free_blocks() < pages_needed(directory.tail, &entries) {
+    if !are_enough(free, pages_needed(directory.tail, &entries)) {
         return Err(Refusal::NoSpace);
     }
     if directory.names.reserve(1).is_err() {
