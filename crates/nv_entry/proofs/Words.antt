@@ -2,6 +2,7 @@
 use Rattle.std.proofs.Common.{◌≡◌, ℕ, zero, suc, ◌+◌, ◌-◌, ◌*◌, ◌/◌, ◌%◌, ◌^◌, ◌<◌, ◌≤◌, List, [], ◌∷◌, ◌++◌, length, take, drop, get_or, refl, ap, sym, ◌∙◌, arith, append_assoc, length-drop, length-take, add-one, min, below_more}
 use Rattle.std.proofs.Math.Nat.{pow-succ', mul-le-mul_left, pow-le-pow_right}
 use Rattle.std.proofs.lemmas.List.{take-append-le, drop-append-le, take_all}
+use Rattle.std.proofs.lemmas.Nat.{shr-shr}
 use Rattle.std.proofs.Math.Seq.{drop-append_seam}
 use Rattle.nv_entry.specs.Digits.{low_bytes, high_part}
 use Rattle.nv_super.specs.nv_region.Region.{Region, word}
@@ -124,3 +125,8 @@ at_most_7 n h = pow-le-pow_right {n = 256} (omega arith) {i = n} {j = 7} h
 
 pub rest_whole : (i : ℕ) (xs : List ℕ) → take (length xs - i) (drop i xs) ≡ drop i xs
 rest_whole i xs = take_all (length xs - i) (drop i xs) (simp length-drop (omega arith))
+
+-- what k bytes leave of a number is what a shift by their bits leaves
+pub high_part_shifted : (k n : ℕ) → high_part k n ≡ n / 2 ^ (8 * k)
+high_part_shifted zero n = omega arith
+high_part_shifted (suc k) n = high_part_shifted k (n / 256) ∙ shr-shr n 8 (8 * k) ∙ ap (λ (m : ℕ). n / 2 ^ m) (omega arith)

@@ -211,9 +211,5 @@ fn has_high_part(word: u64, count: usize) -> bool
     ensures some { IsTrue result → 0 < high_part count word }
     ensures none { result ≡ false → high_part count word ≡ 0 }
 {
-    let mut rest = word;
-    for _ in 0..count {
-        rest /= 256;
-    }
-    rest != 0
+    count < 8 && word >> (8 * count) > 0
 }
