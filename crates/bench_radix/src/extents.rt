@@ -50,20 +50,36 @@ fn write_small(alloc: Global, files: u64) -> Result<ExtentMap, AllocError> {
     Ok(ExtentMap::new(alloc))
 }
 
+fn measure_over<R: AllocGlobal + Eprint + Clock>(rt: &R, entries: u64) -> io::Result<()> {
+    let start = Instant::now(rt)?;
+    let _map = write_over(rt.alloc(), entries)?;
+    print_time(rt, "extents, over one another", start)
+}
+
+fn measure_cuts<R: AllocGlobal + Eprint + Clock>(rt: &R, entries: u64) -> io::Result<()> {
+    let start = Instant::now(rt)?;
+    let _map = grow_and_cut(rt.alloc(), entries)?;
+    print_time(rt, "extents, grown and cut", start)
+}
+
+fn measure_again<R: AllocGlobal + Eprint + Clock>(rt: &R, entries: u64) -> io::Result<()> {
+    let start = Instant::now(rt)?;
+    let _map = write_again(rt.alloc(), entries)?;
+    print_time(rt, "extents, overwritten", start)
+}
+
+fn measure_small<R: AllocGlobal + Eprint + Clock>(rt: &R, files: u64) -> io::Result<()> {
+    let start = Instant::now(rt)?;
+    let _map = write_small(rt.alloc(), files)?;
+    print_time(rt, "extents, small files", start)
+}
+
 pub(crate) fn measure_extents<R: AllocGlobal + Eprint + Clock>(
     rt: &R,
     entries: u64,
 ) -> io::Result<()> {
-    let start = Instant::now(rt)?;
-    let _over = write_over(rt.alloc(), entries)?;
-    print_time(rt, "extents, over one another", start)?;
-    let start = Instant::now(rt)?;
-    let _cut = grow_and_cut(rt.alloc(), entries)?;
-    print_time(rt, "extents, grown and cut", start)?;
-    let start = Instant::now(rt)?;
-    let _again = write_again(rt.alloc(), entries)?;
-    print_time(rt, "extents, overwritten", start)?;
-    let start = Instant::now(rt)?;
-    let _small = write_small(rt.alloc(), entries / 10)?;
-    print_time(rt, "extents, small files", start)
+    measure_over(rt, entries)?;
+    measure_cuts(rt, entries)?;
+    measure_again(rt, entries)?;
+    measure_small(rt, entries / 10)
 }
