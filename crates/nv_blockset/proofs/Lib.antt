@@ -2,3 +2,4 @@ pub mod Sets
 pub mod Lists
 pub mod WordBits
 pub mod TakenOut
+pub mod FilledRows

@@ -3,8 +3,10 @@
 
 mod bits;
 mod listed;
+mod rows;
 mod words;
 
 pub use bits::{first_clear, first_set, remove, word_run};
 pub use listed::BlockList;
+pub use rows::{empty_words, insert_row};
 pub use words::{contains, insert, words_for};
