@@ -6,6 +6,7 @@ pub mod Wordwise
 pub mod Lines
 pub mod AfterStores
 pub mod RowStores
+pub mod Rows
 pub mod Marks
 pub mod Before
 pub mod Fronted

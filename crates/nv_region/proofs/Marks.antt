@@ -1,157 +1,151 @@
--- The lines that were stored to: each has its mark, and the list of them has room for all.
-use Rattle.std.proofs.Common.{◌≡◌, ◌≢◌, ◌<◌, ◌≤◌, ◌||◌, ◌⊎◌, inl, inr, ℕ, Bool, true, false, zero, suc, List, [], ◌∷◌, ◌++◌, length, get_or, set, eqb, vec_len, vec_capacity, refl, sym, ap, ◌∙◌, subst, arith, length-append, length-set, replicate, get_or-set_same, get_or-set_other, drop, drop-cons, add-one, ◌+◌}
-use Rattle.std.specs.List.{list_any, IsDistinct}
-use Rattle.std.specs.List.Sorted.{IsNonDecreasing, IsNonDecreasingBy, IsPermutation, IsStrictlyIncreasing}
-use Rattle.std.proofs.lemmas.Bool.{cases_eq, cases_lt, eqb-true, ne_eqb, eq-eqb}
-use Rattle.std.proofs.lemmas.List.{get_or_past, get_or-map, length-map, length-replicate, places}
+-- The lines that were stored to: each has its mark, and there is room for all of them.
+use Rattle.std.proofs.Common.{◌≡◌, ◌<◌, ◌≤◌, ◌||◌, ◌+◌, ◌-◌, ◌*◌, ◌/◌, ◌%◌, ◌^◌, inl, inr, ℕ, Bool, true, false, List, [], ◌∷◌, ◌++◌, length, min, get_or, take, drop, eqb, vec_len, vec_capacity, refl, sym, ap, ◌∙◌, subst, arith, length-append}
+use Rattle.std.specs.List.{list_any, sum_by, Contains, IsDistinct}
+use Rattle.std.specs.List.Sorted.{IsNonDecreasingBy, IsPermutation}
+use Rattle.std.proofs.lemmas.Bool.{cases_eq, cases_lt, eq-eqb}
+use Rattle.std.proofs.lemmas.List.{get_or-map, length-map, length-take-le, length-drop}
 use Rattle.std.proofs.lemmas.List.Folds.{list_any-append}
-use Rattle.std.proofs.lemmas.List.Sorted.{list_any-IsPermutation, IsPermutation-map}
-use Rattle.std.proofs.lemmas.Map.Keys.{IsDistinct-IsPermutation, IsDistinct-push, IsStrictlyIncreasing-from_distinct}
-use Rattle.std.proofs.lemmas.Map.Steps.{length-le_from_distinct_below}
-use Rattle.std.proofs.lemmas.Cmp.{nat_eq_equiv}
-use Rattle.nv_region.specs.Marks.{AreMarked}
-use Rattle.nv_region.specs.StoredLines.{numbers}
-use Rattle.nv_region.specs.declared.stored.StoredLine.{StoredLine}
+use Rattle.std.proofs.lemmas.List.Sums.{sum_by_push}
+use Rattle.std.proofs.lemmas.List.Sorted.{list_any-IsPermutation, IsPermutation-map, sum_by-IsPermutation, Contains-permutation, IsPermutation-sym}
+use Rattle.std.proofs.lemmas.Map.Keys.{IsDistinct-IsPermutation, apart_from_distinct}
+use Rattle.std.proofs.lemmas.Nat.Bits.{bit_at-lt}
+use Rattle.nv_blockset.specs.BlockSet.{has, is_set}
+use Rattle.nv_region.specs.Marks.{AreKept, AreMarked, RowsRise, firsts, lines_in}
+use Rattle.nv_region.specs.StoredLines.{holds}
+use Rattle.nv_region.specs.declared.stored.StoredRow.{StoredRow}
 use Rattle.nv_region.specs.declared.stored.StoredLines.TheInside.{Inside}
-
--- what is read past the end of a list of lines
-abbrev pub no_line : StoredLine
-no_line = record { number = 0; before = [] }
+use Rattle.nv_region.proofs.Rows.{has_holds, not_held, row_kept, row_in, counted, few_rows}
 
 -- no line is marked
-pub none_marked : (s : Inside) → s.lines.items ≡ [] → length s.marks.items ≤ vec_capacity s.lines → ((p : ℕ) → get_or s.marks.items p false ≡ false) → AreMarked s
+pub none_marked : (s : Inside) → s.rows.items ≡ [] → s.kept.items ≡ [] → s.total ≤ 2 ^ 27 → (s.total + 7) / 8 ≤ 64 * length s.marks.items
+    → (s.total + 7) / 8 ≤ vec_capacity s.rows → 8 * ((s.total + 7) / 8) ≤ vec_capacity s.kept → ((p : ℕ) → is_set s.marks.items p ≡ false) → AreMarked s
 unfolding IsDistinct
-none_marked s none room off = record {
+none_marked s none empty small marks room wide off = record {
+  small = small;
+  rows = subst (λ (rows : List StoredRow). AreKept s.total rows s.kept.items) (sym none) (record {
+    once = tt;
+    some = λ row (k, low, _). absurd (omega (arith, low));
+    below = λ row (k, low, _). absurd (omega (arith, low));
+    apart = λ row other (k, low, _) _ _. absurd (omega (arith, low));
+    within = λ row (k, low, _). absurd (omega (arith, low));
+  });
+  few = omega (arith, ap length empty);
+  marks = marks;
+  marked = λ p. off p ∙ sym (ap (λ (rows : List StoredRow). list_any (λ row. holds row p) rows) none);
   room = room;
-  once = subst (λ (xs : List ℕ). IsDistinct eqb xs) (sym no_number) tt;
-  below = λ p h. (let e : list_any (eqb p) (numbers s.lines.items) ≡ false = ap (λ (xs : List ℕ). list_any (eqb p) xs) no_number in cc);
-  marked = λ p _. off p ∙ sym (ap (λ (xs : List ℕ). list_any (eqb p) xs) no_number);
-}
-  where
-    no_number : numbers s.lines.items ≡ []
-    no_number = ap numbers none
-
--- one line more has its number at the end
-pub numbers_more : (lines : List StoredLine) (line : StoredLine) → numbers (lines ++ line ∷ []) ≡ numbers lines ++ line.number ∷ []
-numbers_more [] line = refl
-numbers_more (l ∷ lines) line = ap (λ (xs : List ℕ). l.number ∷ xs) (numbers_more lines line)
-
--- the line joins the lines
-pub noted_is : (xs : List ℕ) (line p : ℕ) → list_any (eqb p) (xs ++ line ∷ []) ≡ (eqb p line || list_any (eqb p) xs)
-noted_is xs line p = list_any-append (eqb p) xs (line ∷ []) ∙ swapped (list_any (eqb p) xs) (eqb p line)
-  where
-    swapped : (a b : Bool) → (a || (b || false)) ≡ (b || a)
-    swapped true true = refl
-    swapped true false = refl
-    swapped false true = refl
-    swapped false false = refl
-
--- a line without a mark isn't in the list
-absent : (s : Inside) (line : ℕ) → AreMarked s → line < length s.marks.items → get_or s.marks.items line false ≡ false → list_any (eqb line) (numbers s.lines.items) ≡ false
-absent s line marked within off = sym (marked.marked line within) ∙ off
-
-below_more : (s : Inside) (line : ℕ) → AreMarked s → line < length s.marks.items → (p : ℕ) → list_any (eqb p) ((numbers s.lines.items) ++ line ∷ []) ≡ true → p < length s.marks.items
-below_more s line marked within p h = by (eqb p line) refl (sym (noted_is (numbers s.lines.items) line p) ∙ h) where
-  by : (b : Bool) → eqb p line ≡ b → (b || list_any (eqb p) (numbers s.lines.items)) ≡ true → p < length s.marks.items
-  by true e _ = (let is = eqb-true p line e in omega (arith, is, within))
-  by false e k = marked.below p k
-
--- so the list has room for it
-pub room_left : (s : Inside) (line : ℕ) → AreMarked s → line < length s.marks.items → get_or s.marks.items line false ≡ false → vec_len s.lines < vec_capacity s.lines
-room_left s line marked within off =
-    let distinct = IsDistinct-push nat_eq_equiv (numbers s.lines.items) line marked.once (absent s line marked within off) in
-    let most : length ((numbers s.lines.items) ++ line ∷ []) ≤ length s.marks.items = length-le_from_distinct_below _ _ distinct (below_more s line marked within) in
-    omega (arith, most, marked.room, s.lines.ok, length-append (numbers s.lines.items) (line ∷ []), length-map s.lines.items (λ (l : StoredLine). l.number))
-
--- the line is marked and joins the list
-pub noted_marked : (s t : Inside) (line : ℕ) → AreMarked s → line < length s.marks.items → get_or s.marks.items line false ≡ false
-    → t.marks.items ≡ set s.marks.items line true → numbers t.lines.items ≡ numbers s.lines.items ++ line ∷ [] → vec_capacity t.lines ≡ vec_capacity s.lines → AreMarked t
-noted_marked s t line marked within off marks lines room = record {
-  room = rw room (rw as_long marked.room);
-  once = rw lines (IsDistinct-push nat_eq_equiv (numbers s.lines.items) line marked.once (absent s line marked within off));
-  below = λ p h. rw as_long (below_more s line marked within p (rw lines at h));
-  marked = λ p h. rw (marks, lines, noted_is (numbers s.lines.items) line p) (by p (rw as_long at h) (cases_eq p line));
-}
-  where
-    as_long : length t.marks.items ≡ length s.marks.items
-    as_long = simp marks (simp length-set)
-
-    by : (p : ℕ) → p < length s.marks.items → (p ≡ line) ⊎ (p ≢ line) → get_or (set s.marks.items line true) p false ≡ (eqb p line || list_any (eqb p) (numbers s.lines.items))
-    by p h (inl is) = rw is (get_or-set_same s.marks.items line true false within ∙ sym (ap (λ (b : Bool). b || list_any (eqb line) (numbers s.lines.items)) (eq-eqb line line refl)))
-    by p h (inr differ) = get_or-set_other s.marks.items line p true false differ ∙ marked.marked p h ∙ sym (ap (λ (b : Bool). b || list_any (eqb p) (numbers s.lines.items)) (ne_eqb p line differ))
-
--- an element is in its list
-pub member_at : (xs : List ℕ) (k : ℕ) → k < length xs → list_any (eqb (get_or xs k 0)) xs ≡ true
-member_at [] k h = absurd (omega arith)
-member_at (x ∷ xs) zero h = ap (λ (b : Bool). b || list_any (eqb x) xs) (eq-eqb x x refl)
-member_at (x ∷ xs) (suc k) h = ap (λ (b : Bool). eqb (get_or xs k 0) x || b) (member_at xs k (omega arith)) ∙ or_true (eqb (get_or xs k 0) x)
-  where
-    or_true : (b : Bool) → (b || true) ≡ true
-    or_true true = refl
-    or_true false = refl
-
--- a mark stands for a line of the list
-pub marked_in : (s : Inside) → AreMarked s → (p : ℕ) → get_or s.marks.items p false ≡ true → list_any (eqb p) (numbers s.lines.items) ≡ true
-marked_in s marked p on = elim (cases_lt p (length s.marks.items)) [
-  | inl within ↦ sym (marked.marked p within) ∙ on
-  | inr past ↦ (let off = get_or_past s.marks.items p false past in cc)
-]
-
-pub no_mark : (n p : ℕ) → get_or (replicate n false) p false ≡ false
-no_mark n p = elim (cases_lt p n) [
-  | inl within ↦ grind (arith, places)
-  | inr past ↦ get_or_past (replicate n false) p false (omega (arith, past, length-replicate n false))
-]
-
-same_test : (x y : ℕ) → eqb x y ≡ eqb y x
-same_test x y = grind arith
-
--- the list may be put into another order
-pub permuted_marked : (s t : Inside) → AreMarked s → t.marks.items ≡ s.marks.items → IsPermutation s.lines.items t.lines.items → vec_capacity t.lines ≡ vec_capacity s.lines → AreMarked t
-permuted_marked s t marked marks changed room = let moved = IsPermutation-map (λ (l : StoredLine). l.number) s.lines.items t.lines.items changed in record {
-  room = rw (room, marks) marked.room;
-  once = IsDistinct-IsPermutation eqb same_test (numbers s.lines.items) (numbers t.lines.items) moved marked.once;
-  below = λ p h. rw marks (marked.below p (list_any-IsPermutation (eqb p) (numbers s.lines.items) (numbers t.lines.items) moved ∙ h));
-  marked = λ p h. rw marks (marked.marked p (rw marks at h)) ∙ list_any-IsPermutation (eqb p) (numbers s.lines.items) (numbers t.lines.items) moved;
+  wide = wide;
 }
 
-pub permuted_distinct : (s : Inside) (lines : List StoredLine) → AreMarked s → IsPermutation s.lines.items lines → IsDistinct eqb (numbers lines)
-permuted_distinct s lines marked moved = IsDistinct-IsPermutation eqb same_test (numbers s.lines.items) (numbers lines) (IsPermutation-map (λ (l : StoredLine). l.number) s.lines.items lines moved) marked.once
+-- a row joins the rows
+pub more_is : (rows : List StoredRow) (row : StoredRow) (p : ℕ) → list_any (λ r. holds r p) (rows ++ row ∷ []) ≡ (holds row p || list_any (λ r. holds r p) rows)
+more_is rows row p = list_any-append (λ r. holds r p) rows (row ∷ []) ∙ swapped (list_any (λ r. holds r p) rows) (holds row p) where
+  swapped : (a b : Bool) → (a || (b || false)) ≡ (b || a)
+  swapped true true = refl
+  swapped true false = refl
+  swapped false true = refl
+  swapped false false = refl
 
--- in rising order no line stands twice
-pub permuted_rises : (s : Inside) (lines : List StoredLine) → AreMarked s → IsPermutation s.lines.items lines → IsNonDecreasingBy (λ (l : StoredLine). l.number) lines → IsStrictlyIncreasing (numbers lines)
-permuted_rises s lines marked moved up = IsStrictlyIncreasing-from_distinct (numbers lines) rising (permuted_distinct s lines marked moved) where
-  rising : IsNonDecreasing (numbers lines)
-  rising i j d low within =
-      let long = length-map lines (λ (l : StoredLine). l.number) in
-      let e : StoredLine = no_line in
-      let first = get_or-map (λ (l : StoredLine). l.number) lines i e d (omega (arith, long, low, within)) in
-      let second = get_or-map (λ (l : StoredLine). l.number) lines j e d (omega (arith, long, low, within)) in
-      omega (arith, first, second, up i j e low (omega (arith, long, within)))
+-- Lines in a row that aren't marked: there is room for their row and their words.
+pub room_left : (s : Inside) (words : List ℕ) (first end : ℕ) → AreMarked s → length words ≡ s.total → first < end → 8 * end < s.total + 8
+    → ((p : ℕ) → first ≤ p → p < end → list_any (λ row. holds row p) s.rows.items ≡ false) → (vec_len s.rows < vec_capacity s.rows) × (vec_len s.kept + 8 * (end - first) ≤ vec_capacity s.kept)
+room_left s words first end marked all rises below fresh =
+    let row : StoredRow = record { first = first; end = end; at = length s.kept.items } in
+    let more = row_kept s.total s.rows.items s.kept.items words first end marked.rows all rises below fresh in
+    let count = counted s.total _ (s.rows.items ++ row ∷ []) more in
+    let sum : sum_by lines_in (s.rows.items ++ row ∷ []) ≡ sum_by lines_in s.rows.items + (end - first) = sum_by_push lines_in s.rows.items row in
+    let few = few_rows s.total s.kept.items s.rows.items marked.rows in
+    (omega (arith, count, sum, few, rises, marked.room, s.rows.ok), omega (arith, count, sum, marked.few, marked.wide, s.kept.ok))
 
-pub number_at : (lines : List StoredLine) (k : ℕ) (d : StoredLine) → k < length lines → get_or (numbers lines) k 0 ≡ (get_or lines k d).number
-number_at lines k d within = get_or-map (λ (l : StoredLine). l.number) lines k d 0 within
-
--- the number of a line is among the numbers
-pub number_stands : (lines : List StoredLine) (k : ℕ) (d : StoredLine) → k < length lines → list_any (eqb (get_or lines k d).number) (numbers lines) ≡ true
-number_stands lines k d within =
-    ap (λ (p : ℕ). list_any (eqb p) (numbers lines)) (sym (number_at lines k d within)) ∙ member_at (numbers lines) k (omega (arith, within, length-map lines (λ (l : StoredLine). l.number)))
-
--- with one mark taken off, those left are of the lines behind
-pub unmarked : (marks : List Bool) (lines : List StoredLine) (k : ℕ) (d : StoredLine) → k < length lines → (get_or lines k d).number < length marks → ((p : ℕ) → get_or marks p false ≡ true → list_any (eqb p) (drop k (numbers lines)) ≡ true)
-    → (p : ℕ) → get_or (set marks (get_or lines k d).number false) p false ≡ true → list_any (eqb p) (drop (k + 1) (numbers lines)) ≡ true
-unmarked marks lines k d within below left p on = elim (cases_eq p n) [
-  | inl here ↦ (let off : get_or (set marks n false) p false ≡ false = ap (λ (q : ℕ). get_or (set marks n false) q false) here ∙ get_or-set_same marks n false false below in cc)
-  | inr other ↦
-      let stands = left p (sym (get_or-set_other marks n p false false other) ∙ on) in
-      let long : k < length (numbers lines) = omega (arith, within, length-map lines (λ (l : StoredLine). l.number)) in
-      let parts : drop k (numbers lines) ≡ n ∷ drop (k + 1) (numbers lines) = drop-cons (numbers lines) k 0 long ∙ ap (λ (m : ℕ). m ∷ drop (suc k) (numbers lines)) (number_at lines k d within) ∙ ap (λ (m : ℕ). n ∷ drop m (numbers lines)) (sym (add-one k)) in
-      behind (eqb p n) (ne_eqb p n other) (sym (ap (λ (xs : List ℕ). list_any (eqb p) xs) parts) ∙ stands)
-]
+-- They are marked, their row joins the rows, and their words the words that are kept.
+pub row_marked : (s t : Inside) (words : List ℕ) (first end : ℕ) → AreMarked s → length words ≡ s.total → first < end → 8 * end < s.total + 8
+    → ((p : ℕ) → first ≤ p → p < end → list_any (λ row. holds row p) s.rows.items ≡ false)
+    → t.total ≡ s.total → t.rows.items ≡ s.rows.items ++ record { first = first; end = end; at = length s.kept.items } ∷ []
+    → t.kept.items ≡ s.kept.items ++ take (min (8 * end) (length words) - 8 * first) (drop (8 * first) words)
+    → vec_capacity s.rows ≤ vec_capacity t.rows → vec_capacity s.kept ≤ vec_capacity t.kept → length t.marks.items ≡ length s.marks.items
+    → ((p : ℕ) → first ≤ p → p < end → is_set t.marks.items p ≡ true) → ((p : ℕ) → (first ≤ p → p < end → ⊥) → is_set t.marks.items p ≡ is_set s.marks.items p) → AreMarked t
+row_marked s t words first end marked all rises below fresh total rows kept room wide marks on others = record {
+  small = omega (arith, total, marked.small);
+  rows = rw (total, rows, keeps) (row_kept s.total s.rows.items s.kept.items words first end marked.rows all rises below fresh);
+  few = rw (rows, keeps) (omega (arith, length-append s.kept.items more, taken, marked.few, sum_by_push lines_in s.rows.items row));
+  marks = omega (arith, marks, total, marked.marks);
+  marked = λ p. by p ∙ sym (ap (λ (rs : List StoredRow). list_any (λ r. holds r p) rs) rows ∙ more_is s.rows.items row p);
+  room = omega (arith, room, total, marked.room);
+  wide = omega (arith, wide, total, marked.wide);
+}
   where
-    n : ℕ
-    n = (get_or lines k d).number
+    row : StoredRow
+    row = record { first = first; end = end; at = length s.kept.items }
 
-    behind : (b : Bool) → b ≡ false → (b || list_any (eqb p) (drop (k + 1) (numbers lines))) ≡ true → list_any (eqb p) (drop (k + 1) (numbers lines)) ≡ true
-    behind true off h = cc
-    behind false off h = h
+    more : List ℕ
+    more = take (min (8 * end) s.total - 8 * first) (drop (8 * first) words)
+
+    keeps : t.kept.items ≡ s.kept.items ++ more
+    keeps = kept ∙ ap (λ (n : ℕ). s.kept.items ++ take (min (8 * end) n - 8 * first) (drop (8 * first) words)) all
+
+    taken : length more ≤ 8 * (end - first)
+    taken = (let behind = length-drop (8 * first) words in omega (arith, length-take-le (min (8 * end) s.total - 8 * first) (drop (8 * first) words) (omega (arith, behind, all))))
+
+    by : (p : ℕ) → is_set t.marks.items p ≡ (holds row p || list_any (λ r. holds r p) s.rows.items)
+    by p = elim (cases_lt p first) [
+      | inl low ↦ away p (λ from _. absurd (omega (arith, low, from)))
+      | inr from ↦ elim (cases_lt p end) [
+        | inl to ↦ on p from to ∙ sym (ap (λ (b : Bool). b || list_any (λ r. holds r p) s.rows.items) (has_holds row p from to))
+        | inr past ↦ away p (λ _ to. absurd (omega (arith, past, to)))
+      ]
+    ]
+      where
+        away : (p : ℕ) → (first ≤ p → p < end → ⊥) → is_set t.marks.items p ≡ (holds row p || list_any (λ r. holds r p) s.rows.items)
+        away p out = others p out ∙ marked.marked p ∙ sym (ap (λ (b : Bool). b || list_any (λ r. holds r p) s.rows.items) (not_held row p out))
+
+-- a line without a mark is in no row
+pub line_fresh : (s : Inside) (number : ℕ) → AreMarked s → is_set s.marks.items number ≡ false → (p : ℕ) → number ≤ p → p < number + 1 → list_any (λ row. holds row p) s.rows.items ≡ false
+line_fresh s number marked off p from to = sym (marked.marked p) ∙ ap (λ (q : ℕ). is_set s.marks.items q) (let e : p ≡ number = omega (arith, from, to) in e) ∙ off
+
+-- where no bit was put in, what is set was set before
+pub still_set : (old new : List ℕ) (p : ℕ) → (has old p ≡ 0 → has new p ≡ 0) → is_set new p ≡ true → is_set old p ≡ true
+still_set old new p fewer on = elim (cases_eq (has old p) 0) [
+  | inl off ↦ absurd (let none : is_set new p ≡ false = ap (λ (x : ℕ). eqb x 1) (fewer off) in cc (on, none))
+  | inr other ↦ (let low = bit_at-lt (get_or old (p / 64) 0) (p % 64) in eq-eqb (has old p) 1 (omega (arith, low, other)))
+]
+
+-- the rows may be put into another order
+pub permuted_kept : (total : ℕ) (rows others : List StoredRow) (kept : List ℕ) → AreKept total rows kept → IsPermutation rows others → AreKept total others kept
+permuted_kept total rows others kept are moved = record {
+  once = IsDistinct-IsPermutation eqb same_test (firsts rows) (firsts others) (IsPermutation-map (λ (r : StoredRow). r.first) rows others moved) are.once;
+  some = λ r is. are.some r (back r is);
+  below = λ r is. are.below r (back r is);
+  apart = λ r o is also. are.apart r o (back r is) (back o also);
+  within = λ r is. are.within r (back r is);
+}
+  where
+    same_test : (x y : ℕ) → eqb x y ≡ eqb y x
+    same_test x y = grind arith
+
+    back : (r : StoredRow) → Contains others r → Contains rows r
+    back r is = Contains-permutation others rows r (IsPermutation-sym rows others moved) is
+
+pub permuted_marked : (s t : Inside) → AreMarked s → t.total ≡ s.total → t.kept.items ≡ s.kept.items → t.marks.items ≡ s.marks.items → IsPermutation s.rows.items t.rows.items → vec_capacity t.rows ≡ vec_capacity s.rows → vec_capacity t.kept ≡ vec_capacity s.kept
+    → AreMarked t
+permuted_marked s t marked total kept marks moved room wide = record {
+  small = omega (arith, total, marked.small);
+  rows = rw (total, kept) (permuted_kept s.total s.rows.items t.rows.items s.kept.items marked.rows moved);
+  few = omega (arith, ap length kept, marked.few, sum_by-IsPermutation lines_in s.rows.items t.rows.items moved);
+  marks = omega (arith, ap length marks, total, marked.marks);
+  marked = λ p. ap (λ (ws : List ℕ). is_set ws p) marks ∙ marked.marked p ∙ list_any-IsPermutation (λ r. holds r p) s.rows.items t.rows.items moved;
+  room = omega (arith, room, total, marked.room);
+  wide = omega (arith, wide, total, marked.wide);
+}
+
+-- in rising order each row ends before the next begins
+pub kept_rise : (total : ℕ) (rows : List StoredRow) (kept : List ℕ) → AreKept total rows kept → IsNonDecreasingBy (λ (r : StoredRow). r.first) rows → RowsRise rows
+kept_rise total rows kept are up j k d less within =
+    let row = row_in rows j d (omega (arith, less, within)) in
+    let other = row_in rows k d within in elim (cases_eq (get_or rows j d).first (get_or rows k d).first) [
+      | inl same ↦ absurd (
+          let long = length-map rows (λ (r : StoredRow). r.first) in
+          let first = get_or-map (λ (r : StoredRow). r.first) rows j d 0 (omega (arith, less, within)) in
+          let second = get_or-map (λ (r : StoredRow). r.first) rows k d 0 within in
+          let no = apart_from_distinct eqb (firsts rows) j k 0 are.once less (omega (arith, within, long)) in
+          let yes = eq-eqb (get_or (firsts rows) j 0) (get_or (firsts rows) k 0) (first ∙ same ∙ sym second) in cc (yes, no))
+      | inr differ ↦ are.apart (get_or rows j d) (get_or rows k d) row other (omega (arith, up j k d (omega (arith, less)) within, differ))
+    ]

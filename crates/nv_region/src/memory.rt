@@ -3,7 +3,7 @@
 //! It holds its words as they read, and of each line of 64 bytes that was stored to since the last fence also the words at
 //! that fence. A fence forgets these, so it costs what was stored and never the size of the region.
 
-ghost use Rattle.std.specs.Prelude.{◌≡◌, ◌≢◌, ◌⊎◌, ◌≤◌, ◌<◌, ◌+◌, ◌*◌, ◌/◌, ◌%◌, ◌||◌, ◌↔◌, ◌^◌, ◌==◌, ℕ, true, false, IfOk, OnOk, OnErr, IsErrOf, is_err, get_or, eqb, length, take, drop, min, replicate, List, [], refl};
+ghost use Rattle.std.specs.Prelude.{◌≡◌, ◌≢◌, ◌⊎◌, ◌≤◌, ◌<◌, ◌+◌, ◌-◌, ◌*◌, ◌/◌, ◌%◌, ◌||◌, ◌↔◌, ◌^◌, ◌==◌, ℕ, true, false, IfOk, OnOk, OnErr, IsErrOf, is_err, get_or, eqb, length, take, drop, min, replicate, List, [], refl};
 ghost use Rattle.std.proofs.Common.{inl};
 ghost use Rattle.std.specs.List.{list_any, IsDistinct};
 ghost use Rattle.std.specs.List.Sorted.{IsStrictlyIncreasing};
@@ -14,17 +14,16 @@ ghost use Rattle.nv_region.specs.Lines.{Each, StoppedAmong, put_words};
 ghost use Rattle.nv_region.specs.Fuses.{KeepsFuse};
 ghost use Rattle.nv_region.specs.RegionState.{RegionState, fenced_or_last, burns_at_store, burns_at_fence, one_passed, after_store, after_stores, fuse_state, is_steady, steady_unburnt};
 ghost use Rattle.nv_region.specs.Kept.{alternate, kept, so_far};
-ghost use Rattle.nv_region.specs.StoredLines.{is_stored, numbers, words_before};
+ghost use Rattle.nv_region.specs.StoredLines.{words_before};
+ghost use Rattle.nv_region.specs.Marks.{AreKept, RowsRise};
 
-use crate::stored::{StoredLine, StoredLines};
+use crate::stored::{StoredLines, StoredRow, WORDS_IN_LINE, lines_of};
 use crate::{Pmem, Stopped};
 use byteorder::{ByteOrder, LittleEndian};
 use std::alloc::{AllocError, Global};
 use std::marker::Model;
 
 const WORDS_IN_BLOCK: usize = 512;
-
-const WORDS_IN_LINE: usize = 8;
 
 const MOST_BLOCKS: u64 = 262_144;
 
@@ -89,7 +88,7 @@ impl Model for MemRegion {
 
     ghost Value = { RegionState };
 
-    ghost view = { λ m. record { region = record { words = m.words.items; rest = m.rest.items }; fenced = words_before m.stored.lines m.words.items; fuse = m.fuse; burnt = m.burnt } };
+    ghost view = { λ m. record { region = record { words = m.words.items; rest = m.rest.items }; fenced = words_before m.stored.rows m.stored.kept m.words.items; fuse = m.fuse; burnt = m.burnt } };
 
     ghost use Rattle.nv_region.specs.Fenced.{IsTracked};
 
@@ -113,7 +112,7 @@ impl MemRegion {
         Ok(MemRegion {
             alloc,
             words: vec![in alloc; 0; count]?,
-            stored: StoredLines::new(alloc, lines_of(count))?,
+            stored: StoredLines::new(alloc, count)?,
             rest: Vec::new(alloc),
             fuse: Fuse::Off,
             burnt: false,
@@ -137,7 +136,7 @@ impl MemRegion {
             return Err(RegionRefusal::Length);
         }
         let (words, rest) = read_words(alloc, bytes)?;
-        let stored = StoredLines::new(alloc, lines_of(words.len()))?;
+        let stored = StoredLines::new(alloc, words.len())?;
         Ok(MemRegion {
             alloc,
             words,
@@ -190,7 +189,7 @@ impl MemRegion {
         let rest = bytes_behind(alloc, &words, &rest, length as usize)?;
         let count = (length / 8) as usize;
         words.truncate(count);
-        stored.cut(lines_of(count));
+        stored.cut(count);
         Ok(MemRegion {
             alloc,
             words,
@@ -440,90 +439,84 @@ impl MemRegion {
     }
 }
 
-// How many lines have words, of which there are so many.
-fn lines_of(words: usize) -> usize
-    requires { words ≤ 2 ^ 27 }
-    ensures { result ≡ (words + 7) / 8 }
-{
-    words.div_ceil(WORDS_IN_LINE)
-}
-
 // Leaves the words that a stop keeps.
 fn keep_words(words: &mut [u64], stored: &mut StoredLines, keep: Keep)
     requires small { length words.old ≤ 2 ^ 27 }
-    requires below { (p : ℕ) → is_stored stored.old p ≡ true → 8 * p < length words.old }
-    ensures words { words.new ≡ kept keep words.old (words_before stored.old.lines words.old) }
+    requires all { length words.old ≡ stored.old.total }
+    ensures words { words.new ≡ kept keep words.old (words_before stored.old.rows stored.old.kept words.old) }
     ensures as_long { length words.new ≡ length words.old }
-    ensures count { stored.new.count ≡ stored.old.count }
+    ensures total { stored.new.total ≡ stored.old.total }
 {
     match keep {
-        Keep::None => put_back(words, stored.lines()),
+        Keep::None => put_back(words, stored.rows(), stored.kept()),
         Keep::All => {}
         Keep::Alternate => {
             stored.sort();
-            keep_alternate(words, stored.lines());
+            keep_alternate(words, stored.rows(), stored.kept());
         }
     }
 }
 
 // Makes the words those at the last fence.
-fn put_back(words: &mut [u64], lines: &[StoredLine])
+fn put_back(words: &mut [u64], rows: &[StoredRow], kept: &[u64])
     requires small { length words.old ≤ 2 ^ 27 }
-    requires once { IsDistinct eqb (numbers lines.now) }
-    requires below { (p : ℕ) → list_any (eqb p) (numbers lines.now) ≡ true → 8 * p < length words.old }
-    ensures { words.new ≡ words_before lines.now words.old }
+    requires rows { AreKept (length words.old) rows.now kept.now }
+    ensures { words.new ≡ words_before rows.now kept.now words.old }
 {
-    for line in lines {
-        put_line_back(words, line);
+    for row in rows {
+        put_row_back(words, row, kept);
     }
 }
 
-// Makes the words of a line those at the last fence. Its last words may lie past the end.
-fn put_line_back(words: &mut [u64], line: &StoredLine)
+// Makes the words of a row those at the last fence. Its last words may lie past the end.
+fn put_row_back(words: &mut [u64], row: &StoredRow, kept: &[u64])
     requires small { length words.old ≤ 2 ^ 27 }
-    requires within { 8 * line.now.number < length words.old }
+    requires rises { row.now.first < row.now.end }
+    requires below { 8 * row.now.end < length words.old + 8 }
+    requires within { row.now.at + (min (8 * row.now.end) (length words.old) - 8 * row.now.first) ≤ length kept.now }
     ensures as_long { length words.new ≡ length words.old }
-    ensures here { (i : ℕ) → i < length words.old → i / 8 ≡ line.now.number → get_or words.new i 0 ≡ get_or line.now.before (i % 8) 0 }
-    ensures others { (i : ℕ) → i / 8 ≢ line.now.number → get_or words.new i 0 ≡ get_or words.old i 0 }
+    ensures here { (i : ℕ) → i < length words.old → row.now.first ≤ i / 8 → i / 8 < row.now.end → get_or words.new i 0 ≡ get_or kept.now (row.now.at + (i - 8 * row.now.first)) 0 }
+    ensures others { (i : ℕ) → (row.now.first ≤ i / 8 → i / 8 < row.now.end → ⊥) → get_or words.new i 0 ≡ get_or words.old i 0 }
 {
-    let start = line.number * WORDS_IN_LINE;
-    let end = (start + WORDS_IN_LINE).min(words.len());
-    words[start..end].copy_from_slice(&line.before[..end - start]);
+    let start = row.first * WORDS_IN_LINE;
+    let end = (row.end * WORDS_IN_LINE).min(words.len());
+    words[start..end].copy_from_slice(&kept[row.at..row.at + (end - start)]);
 }
 
 // Keeps the first, third and so on of the words that differ from those at the last fence, and takes the others back.
-fn keep_alternate(words: &mut [u64], lines: &[StoredLine])
+fn keep_alternate(words: &mut [u64], rows: &[StoredRow], kept: &[u64])
     ghost fenced: { List ℕ }
-    requires fenced { fenced ≡ words_before lines.now words.old }
+    requires fenced { fenced ≡ words_before rows.now kept.now words.old }
     requires small { length words.old ≤ 2 ^ 27 }
-    requires rising { IsStrictlyIncreasing (numbers lines.now) }
-    requires once { IsDistinct eqb (numbers lines.now) }
-    requires below { (p : ℕ) → list_any (eqb p) (numbers lines.now) ≡ true → 8 * p < length words.old }
+    requires rising { RowsRise rows.now }
+    requires rows { AreKept (length words.old) rows.now kept.now }
     ensures words { words.new ≡ alternate true words.old fenced }
     ensures as_long { length words.new ≡ length words.old }
 {
     let mut turn = true;
-    for line in lines {
-        turn = alternate_line(words, line, turn);
+    for row in rows {
+        turn = alternate_row(words, row, kept, turn);
     }
 }
 
-// Does so in one line, from this turn on. Answers whose turn comes next.
-fn alternate_line(words: &mut [u64], line: &StoredLine, turn: bool) -> bool
+// Does so in one row, from this turn on. Answers whose turn comes next.
+fn alternate_row(words: &mut [u64], row: &StoredRow, kept: &[u64], turn: bool) -> bool
     ghost fenced: { List ℕ }
     requires as_long { length fenced ≡ length words.old }
     requires small { length words.old ≤ 2 ^ 27 }
-    requires within { 8 * line.now.number < length words.old }
-    requires before { (j : ℕ) → j < 8 → 8 * line.now.number + j < length fenced → get_or line.now.before j 0 ≡ get_or fenced (8 * line.now.number + j) 0 }
-    ensures goes_on { so_far result (min (8 * line.now.number + 8) (length words.old)) words.new fenced ≡ so_far turn (8 * line.now.number) words.old fenced }
-    ensures behind { (i : ℕ) → min (8 * line.now.number + 8) (length words.old) ≤ i → get_or words.new i 0 ≡ get_or words.old i 0 }
+    requires rises { row.now.first < row.now.end }
+    requires below { 8 * row.now.end < length words.old + 8 }
+    requires within { row.now.at + (min (8 * row.now.end) (length words.old) - 8 * row.now.first) ≤ length kept.now }
+    requires before { (i : ℕ) → i < length fenced → row.now.first ≤ i / 8 → i / 8 < row.now.end → get_or kept.now (row.now.at + (i - 8 * row.now.first)) 0 ≡ get_or fenced i 0 }
+    ensures goes_on { so_far result (min (8 * row.now.end) (length words.old)) words.new fenced ≡ so_far turn (8 * row.now.first) words.old fenced }
+    ensures behind { (i : ℕ) → min (8 * row.now.end) (length words.old) ≤ i → get_or words.new i 0 ≡ get_or words.old i 0 }
     ensures as_long { length words.new ≡ length words.old }
 {
-    let start = line.number * WORDS_IN_LINE;
-    let end = (start + WORDS_IN_LINE).min(words.len());
+    let start = row.first * WORDS_IN_LINE;
+    let end = (row.end * WORDS_IN_LINE).min(words.len());
     let mut turn = turn;
     for i in start..end {
-        let before = line.before[i - start];
+        let before = kept[row.at + (i - start)];
         if words[i] != before {
             if !turn {
                 words[i] = before;

@@ -47,7 +47,7 @@ pub trait Pmem {
         ensures stopped { is_err result ≡ (fuse self.new).has_burnt }
         ensures keeps_fuse { KeepsFuse (λ limit. at + 8 ≤ limit) (fuse self.old) (fuse self.new) };
 
-    /// Stores words in a row, in turn and each as by `store`.
+    /// Stores words in a row, in turn and each as by `store`. There must be one at least.
     ///
     /// Answers `Stopped` exactly where the fuse has burnt by the end of the call. The words before the one at which it
     /// burnt are stored then, and no others.

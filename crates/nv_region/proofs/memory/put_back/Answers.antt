@@ -1,22 +1,24 @@
-use Rattle.std.proofs.Common.{◌≡◌, ◌∙◌, List, [], drop, sym, ap, arith}
-use Rattle.std.proofs.lemmas.List.{drop_all}
-use Rattle.nv_region.specs.StoredLines.{words_before}
-use Rattle.nv_region.specs.declared.stored.StoredLine.{StoredLine}
-use Rattle.nv_region.proofs.Marks.{no_line, number_stands}
-use Rattle.nv_region.proofs.Before.{none_before, put_back_more}
+use Rattle.std.proofs.Common.{arith, refl}
+use Rattle.nv_region.proofs.Rows.{row_in, no_row}
+use Rattle.nv_region.proofs.Before.{row_put_back, all_put_back}
 use Rattle.nv_region.proofs.memory.put_back.Goals as goal
 
-pub put_line_back-requires-clause-within : goal.put_line_back-requires-clause-within
-put_line_back-requires-clause-within c = omega (arith, c.requires.below _ (number_stands c.args.lines.now c.loop-line.line-index no_line c.loop-line-test.true), c.loop-line.invariant.0)
+pub loop-row-init : goal.loop-row-init
+loop-row-init c = record { as_long = refl; done = λ j i less. absurd (omega (arith, less)); others = λ i away. refl }
 
-pub loop-line-preserved : goal.loop-line-preserved
-loop-line-preserved c = (
-  c.put_line_back.ensures.as_long ∙ c.loop-line.invariant.0,
-  put_back_more c.args.lines.now c.loop-line.line-index c.loop-line.words c.put_line_back.new.words c.requires.once c.loop-line-test.true c.put_line_back.ensures.as_long c.put_line_back.ensures.here c.put_line_back.ensures.others
-      ∙ c.loop-line.invariant.1,
-)
+pub put_row_back-requires-clause-rises : goal.put_row_back-requires-clause-rises
+put_row_back-requires-clause-rises c = c.requires.rows.some _ (row_in c.args.rows.now c.loop-row.row-index no_row c.loop-row-test.true)
+
+pub put_row_back-requires-clause-below : goal.put_row_back-requires-clause-below
+put_row_back-requires-clause-below c = omega (arith, c.requires.rows.below _ (row_in c.args.rows.now c.loop-row.row-index no_row c.loop-row-test.true), c.loop-row.invariant.as_long)
+
+pub put_row_back-requires-clause-within : goal.put_row_back-requires-clause-within
+put_row_back-requires-clause-within c = omega (arith, c.requires.rows.within _ (row_in c.args.rows.now c.loop-row.row-index no_row c.loop-row-test.true), c.loop-row.invariant.as_long)
+
+pub loop-row-preserved : goal.loop-row-preserved
+loop-row-preserved c =
+    row_put_back c.args.rows.now c.args.kept.now c.args.words.now c.loop-row.words c.put_row_back.new.words c.loop-row.row-index c.requires.rows c.loop-row-test.true c.put_row_back.ensures.as_long c.put_row_back.ensures.here
+    c.put_row_back.ensures.others c.loop-row.invariant
 
 pub returns : goal.returns
-returns c =
-    let none : drop c.loop-line.line-index c.args.lines.now ≡ [] = drop_all c.loop-line.line-index c.args.lines.now c.loop-line-test.false in
-    sym (none_before c.loop-line.words) ∙ ap (λ (ls : List StoredLine). words_before ls c.loop-line.words) (sym none) ∙ c.loop-line.invariant.1
+returns c = all_put_back c.args.rows.now c.args.kept.now c.args.words.now c.loop-row.words c.loop-row.row-index (omega (arith, c.loop-row-test.false)) c.loop-row.invariant

@@ -1,6 +1,5 @@
-use Rattle.std.proofs.Common.{◌≡◌, length, drop}
-use Rattle.nv_region.specs.StoredLines.{words_before}
+use Rattle.nv_region.proofs.Before.{ArePutBack}
 use Rattle.nv_region.proofs.memory.put_back.Given as goal
 
-abbrev pub invariant-loop-line : goal.invariant-loop-line
-invariant-loop-line l = (length l.words ≡ length l.initial.words) × (words_before (drop l.line-index l.lines) l.words ≡ words_before l.lines l.initial.words)
+abbrev pub invariant-loop-row : goal.invariant-loop-row
+invariant-loop-row l = ArePutBack l.rows l.kept l.initial.words l.row-index l.words

@@ -1,9 +1,10 @@
-use Rattle.std.proofs.Common.{◌≡◌, ℕ, true, length, drop, eqb}
-use Rattle.std.specs.Prelude.{slice_index_or, false}
-use Rattle.std.specs.List.{list_any}
-use Rattle.nv_region.specs.StoredLines.{numbers}
+use Rattle.std.proofs.Common.{◌≡◌, ℕ, length, IsTrue}
+use Rattle.nv_blockset.specs.BlockSet.{is_set}
+use Rattle.nv_region.proofs.Alternating.{IsAhead}
 use Rattle.nv_region.proofs.stored.unmark.Given as goal
 
-abbrev pub invariant-loop-line : goal.invariant-loop-line
-invariant-loop-line l =
-    (length l.marks ≡ length l.initial.marks) × ((p : ℕ) → slice_index_or l.marks p false ≡ true → list_any (eqb p) (drop l.line-index (numbers l.lines)) ≡ true)
+abbrev pub invariant-loop-row : goal.invariant-loop-row
+invariant-loop-row l = record {
+  count : length l.marks ≡ length l.initial.marks;
+  all : (p : ℕ) → IsTrue (is_set l.marks p) → IsAhead l.row-index l.rows p;
+}

@@ -1,4 +1,4 @@
-use Rattle.std.proofs.Common.{◌≡◌, ◌≤◌, ◌∙◌, ◌+◌, ◌-◌, ◌*◌, ◌/◌, ℕ, List, length, refl, sym, ap, arith}
+use Rattle.std.proofs.Common.{◌≡◌, ◌≤◌, ◌∙◌, ◌+◌, ◌-◌, ◌*◌, ◌/◌, ℕ, List, length, sym, ap, arith}
 use Rattle.nv_region.specs.StoredLines.{word_before, words_before}
 use Rattle.std.specs.Vec.{with_items}
 use Rattle.std.proofs.lemmas.List.{take_at}
@@ -6,7 +6,7 @@ use borrow.Rule.Slice.PartMut.{put_mid}
 use Rattle.nv_region.specs.Region.{Region}
 use Rattle.nv_region.specs.RegionState.{RegionState}
 use Rattle.nv_region.specs.Lines.{put_words}
-use Rattle.nv_region.proofs.Before.{row_before, row_tracked}
+use Rattle.nv_region.proofs.Before.{row_before}
 use Rattle.nv_region.proofs.Lines.{words_copied, put_words_long, put_words_rest, row_other}
 use Rattle.nv_region.proofs.memory.MemRegion.put_row.Goals as goal
 
@@ -21,11 +21,13 @@ returns c =
     let words : made ≡ after =
     ap (λ (l : List ℕ). put_mid first (first + n - first) l c.copy_from_slice.new.self) c.deref_mut.ensures.value ∙ words_copied R c.copy_from_slice.new.self c.args.words.now first n (omega arith) within c.copy_from_slice.ensures.after in
     let items : (with_items c.self.inside.words made).items ≡ made = take_at made _ c.self.inside.words.len (omega (arith, ap length words, put_words_long R (8 * first) c.args.words.now n, c.self.inside.words.ok)) in
-    let before : words_before c.note_row.new.self.lines (with_items c.self.inside.words made).items ≡ words_before c.self.inside.stored.lines c.self.inside.words.items =
-    ap (λ (l : List ℕ). words_before c.note_row.new.self.lines l) (items ∙ words)
-    ∙ row_before c.self.inside.stored.lines c.note_row.new.self.lines R.words after (first / 8) c.lines_of.result
-    (λ i from to. c.note_row.ensures.here after i from to ∙ ap (λ (l : List ℕ). word_before c.self.inside.stored.lines l i) c.deref.ensures.value)
-    (λ i away. c.note_row.ensures.others after i away) (put_words_long R (8 * first) c.args.words.now n)
+    let rows = c.self.inside.stored.rows in
+    let kept : List ℕ = c.self.inside.stored.kept in
+    let before : words_before c.note_row.new.self.rows c.note_row.new.self.kept (with_items c.self.inside.words made).items ≡ words_before rows kept R.words =
+    ap (λ (l : List ℕ). words_before c.note_row.new.self.rows c.note_row.new.self.kept l) (items ∙ words)
+    ∙ row_before rows c.note_row.new.self.rows kept c.note_row.new.self.kept R.words after (first / 8) c.lines_of.result
+    (λ i within from to. c.note_row.ensures.here after i (rw c.deref.ensures.value within) from to ∙ ap (λ (l : List ℕ). word_before rows kept l i) c.deref.ensures.value)
+    (λ i within away. c.note_row.ensures.others after i (rw c.deref.ensures.value within) away) (put_words_long R (8 * first) c.args.words.now n)
     (λ i away. row_other R first c.args.words.now n i (λ from to. away from (omega (arith, to, c.lines_of.ensures)))) in
     (λ k. record {
       region = record { words = (items ∙ words) k; rest = (sym (put_words_rest R (8 * first) c.args.words.now n)) k };
@@ -46,4 +48,8 @@ invariant_of-self c =
     ap (λ (l : List ℕ). put_mid first (first + n - first) l c.copy_from_slice.new.self) c.deref_mut.ensures.value ∙ words_copied R c.copy_from_slice.new.self c.args.words.now first n (omega arith) within c.copy_from_slice.ensures.after in
     let long : length made ≡ length R.words = ap length words ∙ put_words_long R (8 * first) c.args.words.now n in
     let items : (with_items c.self.inside.words made).items ≡ made = take_at made _ c.self.inside.words.len (omega (arith, long, c.self.inside.words.ok)) in
-    row_tracked c.self.inside _ c.lines_of.result c.self.invariant (ap length items ∙ long) refl c.note_row.ensures.count (omega (arith, c.lines_of.ensures, within, c.self.invariant.count)) c.note_row.ensures.lines
+    record {
+      short = c.self.invariant.short;
+      small = omega (arith, ap length items, long, c.self.invariant.small);
+      count = c.note_row.ensures.total ∙ c.self.invariant.count ∙ sym (ap length items ∙ long);
+    }

@@ -1,22 +1,24 @@
-use Rattle.std.proofs.Common.{◌≡◌, ◌<◌, ◌+◌, ◌-◌, ◌*◌, ℕ, List, length, get_or, min, refl, ap, sym, ◌∙◌, arith}
+use Rattle.std.proofs.Common.{◌≡◌, ◌<◌, ◌≤◌, ◌+◌, ◌-◌, ◌*◌, ℕ, List, length, get_or, refl, ap, sym, ◌∙◌, arith}
 use Rattle.std.proofs.lemmas.List.{get_or-set_other}
 use Rattle.nv_region.specs.Kept.{so_far}
 use Rattle.nv_region.proofs.Alternating.{step_lost, step_kept, step_same}
-use Rattle.nv_region.proofs.memory.alternate_line.Goals as goal
-use Rattle.nv_region.proofs.memory.alternate_line.Goals.{then-words-i, then-not-turn, else-not-turn, else-words-i}
+use Rattle.nv_region.proofs.memory.alternate_row.Goals as goal
+use Rattle.nv_region.proofs.memory.alternate_row.Goals.{then-words-i, then-not-turn, else-not-turn, else-words-i}
 
 pub loop-i-init : goal.loop-i-init
 loop-i-init g c =
-    let start : c.args.line.now.number * 8 ≡ 8 * c.args.line.now.number = omega arith in
+    let start : c.args.row.now.first * 8 ≡ 8 * c.args.row.now.first = omega arith in
     (ap (λ (n : ℕ). so_far c.args.turn n c.args.words.now g.fenced) start, sym c.requires.0, λ k from. refl)
 
 pub loop-i-preserved : goal.loop-i-preserved
 loop-i-preserved g c =
     let was = c.loop-i.invariant in
+    let first : ℕ = c.args.row.now.first in
+    let low : 8 * first ≤ c.loop-i.i = omega (arith, c.loop-i.auto.i) in
     let within : c.loop-i.i < length c.loop-i.words = omega (arith, c.loop-i-test.true, c.min-end.ensures, was.1, c.requires.0) in
-    let place : 8 * c.args.line.now.number + (c.loop-i.i - c.args.line.now.number * 8) ≡ c.loop-i.i = omega (arith, c.loop-i.auto.i) in
-    let before : get_or c.args.line.now.before (c.loop-i.i - c.args.line.now.number * 8) 0 ≡ get_or g.fenced c.loop-i.i 0 =
-    c.requires.1.1.1 (c.loop-i.i - c.args.line.now.number * 8) (omega (arith, c.loop-i-test.true, c.min-end.ensures)) (omega (arith, place, within, was.1)) ∙ ap (λ (n : ℕ). get_or g.fenced n 0) place in
+    let place : c.args.row.now.at + (c.loop-i.i - first * 8) ≡ c.args.row.now.at + (c.loop-i.i - 8 * first) = omega arith in
+    let before : get_or c.args.kept.now (c.args.row.now.at + (c.loop-i.i - first * 8)) 0 ≡ get_or g.fenced c.loop-i.i 0 =
+    ap (λ (n : ℕ). get_or c.args.kept.now n 0) place ∙ c.requires.1.1.1.1.1 c.loop-i.i (omega (arith, within, was.1)) (omega (arith, low)) (omega (arith, c.loop-i-test.true, c.min-end.ensures)) in
     elim c.if-words-i.branch [
       | then-words-i w ↦ elim w.if-not-turn.branch [
         | then-not-turn w' ↦ (
@@ -36,11 +38,3 @@ loop-i-preserved g c =
         λ k low. ap (λ (l : List ℕ). get_or l k 0) w.words-is ∙ was.2 k (omega (arith, low)),
       )
     ]
-
-pub returns-clause-goes_on : goal.returns-clause-goes_on
-returns-clause-goes_on g c =
-    let end : min (8 * c.args.line.now.number + 8) (length c.args.words.now) ≡ c.loop-i.i = omega (arith, c.loop-i-test.false, c.min-end.ensures, c.loop-i.auto.i-end, c.requires.1.1.0) in
-    ap (λ (n : ℕ). so_far c.loop-i.turn n c.loop-i.words g.fenced) end ∙ c.loop-i.invariant.0
-
-pub returns-clause-behind : goal.returns-clause-behind
-returns-clause-behind g c i from = c.loop-i.invariant.2 i (omega (arith, from, c.loop-i-test.false, c.min-end.ensures, c.loop-i.auto.i-end, c.requires.1.1.0))
