@@ -1,16 +1,14 @@
 -- What is read of a line's words by a table is spelled by one of its rows, and what a row spells is read by it.
-use Rattle.std.proofs.Common.{◌≡◌, ℕ, zero, suc, ◌<◌, Bool, true, false, ◌&&◌, not, cond, List, [], ◌∷◌, length, slice_index_or, Some, None, Option, option_map, refl, sym, ap, ◌∙◌, arith, subst}
+use Rattle.std.proofs.Common.{◌≡◌, ℕ, zero, suc, ◌<◌, Bool, true, false, ◌&&◌, not, cond, List, [], ◌∷◌, length, slice_index_or, Some, None, Option, option_map, refl, sym, ap, ◌∙◌, arith, rules, subst}
 use Rattle.std.specs.Prelude.{option_and_then, bytes_eq}
 use Rattle.std.specs.List.{list_all, Contains, AllByRecursion}
 use Rattle.std.proofs.lemmas.Bool.{and_parts}
 use Rattle.std.proofs.lemmas.Slice.Eq.{bytes_eq-Decides}
 use Rattle.nv_line.specs.Request.{Request}
 use Rattle.nv_line.specs.declared.reasons.Form.{Form}
-use Rattle.nv_line.specs.Table.{Row}
+use Rattle.nv_line.specs.Table.{Row, rows, recovery_rows, showing_rows, more_rows, writing_rows, naming_rows}
 use Rattle.nv_line.specs.Shapes.{Values, made_of, words_of, CanBeWritten}
-use Rattle.nv_line.specs.Reading.{values_of, request_by, read_by}
-use Rattle.nv_line.specs.declared.table.Row as table
-use Rattle.nv_line.specs.View.{view}
+use Rattle.nv_line.specs.Reading.{values_of, request_by, request_as, read_by, request_of_words}
 use Rattle.nv_line.specs.Reasons.{form_in}
 use Rattle.nv_line.proofs.Words.{IsUnspaced, same_bytes}
 use Rattle.nv_line.proofs.ShapedWords.{values_say, values_again}
@@ -102,17 +100,29 @@ row_again row vs can = rw (values_again row.shape vs can) refl
 
 -- ---- forms
 
--- a name has the form of its row, whatever stands behind it
-pub form_read : (rows : List Row) (name : List ℕ) (words : List (List ℕ)) → option_map (λ (read : Form × Option Request). read.0) (read_by rows name words) ≡ form_in rows name
+-- the words make by each row what they make by its form
+abbrev AllByForm : List (List ℕ) → List Row → Type 0
+AllByForm words rows = AllByRecursion (λ (row : Row). request_by row.shape row.make words ≡ request_as row.form words) rows
+
+all_by_form : (words : List (List ℕ)) → AllByForm words rows
+unfolding rows recovery_rows showing_rows more_rows writing_rows naming_rows
+all_by_form words = search rules
+
+-- so a name and the words behind it are read by the form of the name
+read_by_form : (rows : List Row) (name : List ℕ) (words : List (List ℕ)) → AllByForm words rows → read_by rows name words ≡ option_map (λ form. (form, request_as form words)) (form_in rows name)
 unfolding read_by form_in
-form_read [] name words = refl
-form_read (x ∷ rows) name words = at (bytes_eq name x.name) (form_read rows name words) where
-  at : (b : Bool) → option_map (λ (read : Form × Option Request). read.0) (read_by rows name words) ≡ form_in rows name
-      → option_map (λ (read : Form × Option Request). read.0) (cond b (told x words) (read_by rows name words)) ≡ cond b (Some x.form) (form_in rows name)
-  at true rest = refl
+read_by_form [] name words all = refl
+read_by_form (x ∷ rows) name words all = at (bytes_eq name x.name) (read_by_form rows name words all.1) where
+  at : (b : Bool) → read_by rows name words ≡ option_map (λ form. (form, request_as form words)) (form_in rows name)
+      → cond b (told x words) (read_by rows name words) ≡ option_map (λ form. (form, request_as form words)) (cond b (Some x.form) (form_in rows name))
+  at true rest = ap (λ (made : Option Request). Some (x.form, made)) all.0
   at false rest = rest
 
--- so the form of the row that was found is that of the name
-pub form_found : (rows : List Row) (name : List ℕ) (words : List (List ℕ)) (found : Option table.Row) → option_map (λ row. (row.form, option_map view row.command)) found ≡ read_by rows name words → option_map (λ row. row.form) found ≡ form_in rows name
-form_found rows name words None e = ap (option_map (λ (read : Form × Option Request). read.0)) e ∙ form_read rows name words
-form_found rows name words (Some row) e = ap (option_map (λ (read : Form × Option Request). read.0)) e ∙ form_read rows name words
+second_of : (words : List (List ℕ)) (form : Option Form) → option_and_then (λ (read : Form × Option Request). read.1) (option_map (λ form. (form, request_as form words)) form) ≡ option_and_then (λ form. request_as form words) form
+second_of words None = refl
+second_of words (Some form) = refl
+
+-- and so is a request
+pub request_named : (name : List ℕ) (words : List (List ℕ)) → request_of_words (name ∷ words) ≡ option_and_then (λ form. request_as form words) (form_in rows name)
+unfolding request_of_words
+request_named name words = ap (option_and_then (λ (read : Form × Option Request). read.1)) (read_by_form rows name words (all_by_form words)) ∙ second_of words (form_in rows name)

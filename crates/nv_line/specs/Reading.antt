@@ -6,10 +6,12 @@ use Rattle.std.specs.Char.{is_ascii_digit}
 use Rattle.std.specs.Str.Parse.{digits_value}
 use Rattle.nv_region.specs.declared.memory.Keep.{Keep}
 use Rattle.nv_region.specs.declared.memory.Keep.TheVariants as keeps
+use Rattle.nv_line.specs.Request as request
 use Rattle.nv_line.specs.Request.{Request}
 use Rattle.nv_line.specs.declared.reasons.Form.{Form}
+use Rattle.nv_line.specs.declared.reasons.Form.TheVariants as forms
 use Rattle.nv_line.specs.Shapes.{Moment, After, At, Slot, Number, UpTo, Path, When, Keeping, Shape, End, Numbers, Then, ValueOf, Values, Makes, made_of}
-use Rattle.nv_line.specs.Table.{Row, rows}
+use Rattle.nv_line.specs.Table.{Row, rows, attribute_words, cpu_and_path, cpu_and_two_paths, cpu_path_and_number, one_number, one_path, path_and_two_numbers, stop_of, stop_words, three_numbers, two_numbers, write_words}
 
 -- digits with no zero in front, or a zero alone
 unfoldable pub is_numeral : List ℕ → Bool
@@ -54,6 +56,33 @@ values_of (Then slot shape) (word ∷ words) = option_and_then (λ v. option_map
 -- the request that words make, if they have the shape
 unfoldable pub request_by : (shape : Shape) → Makes shape → List (List ℕ) → Option Request
 request_by shape make words = option_map (made_of shape make) (values_of shape words)
+
+-- what the words behind a name make, by the form of the name's command
+abbrev pub request_as : Form → List (List ℕ) → Option Request
+request_as forms.Format words = request_by three_numbers request.Format words
+request_as forms.Time words = request_by one_number request.Time words
+request_as forms.Poke words = request_by two_numbers request.Poke words
+request_as forms.Cut words = request_by one_number request.Cut words
+request_as forms.Recover words = request_by one_number request.Recover words
+request_as forms.Replay words = request_by (Then Number Numbers) request.Replay words
+request_as forms.Tree words = request_by End request.Tree words
+request_as forms.Free words = request_by End request.Free words
+request_as forms.Faults words = request_by End request.Faults words
+request_as forms.Report words = request_by End request.Report words
+request_as forms.Peek words = request_by one_number request.Peek words
+request_as forms.Stop words = request_by stop_words stop_of words
+request_as forms.ListNames words = request_by one_path request.ListNames words
+request_as forms.Stat words = request_by one_path request.Stat words
+request_as forms.Read words = request_by path_and_two_numbers request.Read words
+request_as forms.Create words = request_by cpu_and_path request.Create words
+request_as forms.MakeDirectory words = request_by cpu_and_path request.MakeDirectory words
+request_as forms.Write words = request_by write_words request.Write words
+request_as forms.SetSize words = request_by cpu_path_and_number request.SetSize words
+request_as forms.SetAttributes words = request_by attribute_words request.SetAttributes words
+request_as forms.Link words = request_by cpu_and_two_paths request.Link words
+request_as forms.Unlink words = request_by cpu_and_path request.Unlink words
+request_as forms.RemoveDirectory words = request_by cpu_and_path request.RemoveDirectory words
+request_as forms.Rename words = request_by cpu_and_two_paths request.Rename words
 
 -- The form of the command of this name, and the request that the words after it make of it, if there is one.
 unfoldable pub read_by : List Row → List ℕ → List (List ℕ) → Option (Form × Option Request)

@@ -8,6 +8,7 @@
 
 mod commands;
 mod lines;
+mod making;
 mod numeral;
 mod parsing;
 mod reasons;

@@ -9,7 +9,7 @@ ghost use Rattle.nv_line.specs.Spelling.{Says};
 ghost use Rattle.nv_line.specs.View.{view};
 
 use crate::commands::Command;
-use crate::table::row_named;
+use crate::table::{command_of, form_named};
 use std::alloc::{AllocError, Global};
 
 /// The parts of a line between its spaces.
@@ -19,15 +19,15 @@ pub(crate) fn words(alloc: Global, line: &[u8]) -> Result<Vec<&[u8]>, AllocError
     line.split(|byte| *byte == b' ').collect(alloc)
 }
 
-#[tactic(auto, unfolding(crate::specs::Reading::request_of, crate::specs::Reading::request_of_words))]
+#[tactic(auto, using(crate::proofs::Rows::request_named), unfolding(crate::specs::Reading::request_of, crate::specs::Reading::request_of_words))]
 fn parse_line(alloc: Global, line: &[u8]) -> Result<Option<Command<'_>>, AllocError>
     ensures { IfOk result (λ found. option_map view found ≡ request_of line.now) }
 {
     let words = words(alloc, line)?;
     match words.as_slice() {
         [] => Ok(None),
-        [name, words @ ..] => match row_named(alloc, name, words)? {
-            Some(row) => Ok(row.command),
+        [name, words @ ..] => match form_named(name) {
+            Some(form) => command_of(alloc, form, words),
             None => Ok(None),
         },
     }

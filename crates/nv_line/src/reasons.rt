@@ -1,12 +1,11 @@
 //! Why a line is bad, for the user: what was expected in its place.
 
 ghost use Rattle.std.specs.Prelude.{◌≡◌, Some, IfOk, map};
-ghost use Rattle.nv_line.specs.Reasons.{form_in, form_text, reason_of_words, reason_of, reason_text};
-ghost use Rattle.nv_line.specs.Table.{rows};
+ghost use Rattle.nv_line.specs.Reasons.{form_text, reason_of_words, reason_of, reason_text};
 
 use crate::lines::LINE_LIMIT;
 use crate::parsing::words;
-use crate::table::row_named;
+use crate::table::form_named;
 use std::alloc::{AllocError, Global};
 use std::fmt;
 
@@ -86,31 +85,21 @@ impl Form {
     }
 }
 
-// The form of the command of this name, whatever the words behind it are.
-fn form_named(alloc: Global, name: &[u8], words: &[&[u8]]) -> Result<Option<Form>, AllocError>
-    ensures { IfOk result (λ form. form ≡ form_in rows name.now) }
-{
-    match row_named(alloc, name, words)? {
-        Some(row) => Ok(Some(row.form)),
-        None => Ok(None),
-    }
-}
-
 // By the words of a line.
 #[tactic(auto, unfolding(crate::specs::Reasons::reason_of_words))]
-fn reason_of_words(alloc: Global, words: &[&[u8]]) -> Result<Reason, AllocError>
-    ensures { IfOk result (λ reason. reason ≡ reason_of_words (map (λ word. word.now) words.now)) }
+fn reason_of_words(words: &[&[u8]]) -> Reason
+    ensures { result ≡ reason_of_words (map (λ word. word.now) words.now) }
 {
-    let [name, words @ ..] = words else {
-        return Ok(Reason::NoCommand);
+    let [name, ..] = words else {
+        return Reason::NoCommand;
     };
-    match form_named(alloc, name, words)? {
-        Some(form) => Ok(Reason::Form(form)),
-        None => Ok(Reason::NoCommand),
+    match form_named(name) {
+        Some(form) => Reason::Form(form),
+        None => Reason::NoCommand,
     }
 }
 
-/// Why a bad line is bad. The error is a refused growth of the list of the line's words, or of a schedule.
+/// Why a bad line is bad. The error is a refused growth of the list of the line's words.
 #[tactic(auto, unfolding(crate::specs::Reasons::reason_of))]
 pub fn why_bad(alloc: Global, line: &[u8]) -> Result<Reason, AllocError>
     ensures { IfOk result (λ reason. reason ≡ reason_of line.now) }
@@ -122,7 +111,7 @@ pub fn why_bad(alloc: Global, line: &[u8]) -> Result<Reason, AllocError>
         return Ok(Reason::CarriageReturn);
     }
     let words = words(alloc, line)?;
-    reason_of_words(alloc, words.as_slice())
+    Ok(reason_of_words(words.as_slice()))
 }
 
 impl fmt::Display for Reason {

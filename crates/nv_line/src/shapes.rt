@@ -1,11 +1,10 @@
-//! The values that the words behind a command's name write.
+//! The values that the words behind a command's name write: what several commands take, and the words of single values.
 
 ghost use Rattle.std.specs.Prelude.{◌≡◌, ℕ, List, map, IfOk, option_map};
-ghost use Rattle.nv_line.specs.Request as request;
 ghost use Rattle.nv_line.specs.Request.{Request};
 ghost use Rattle.nv_line.specs.Reading.{numbers_of, value_of, moment_of, keep_of, request_by};
-ghost use Rattle.nv_line.specs.Shapes.{End, Then, Number, UpTo, Path, Numbers, fuse_by};
-ghost use Rattle.nv_line.specs.Table.{one_number, two_numbers, three_numbers, one_path, path_and_two_numbers, cpu_and_path, cpu_and_two_paths, cpu_path_and_number, most_32, attribute_words, write_words, stop_words, stop_of};
+ghost use Rattle.nv_line.specs.Shapes.{End, UpTo, Path, fuse_by};
+ghost use Rattle.nv_line.specs.Table.{one_number, one_path, cpu_and_path, cpu_and_two_paths, most_32};
 
 use crate::numeral::read_number;
 use nv_region::{Fuse, Keep};
@@ -28,30 +27,6 @@ pub(crate) fn one_number(words: &[&[u8]]) -> Option<u64>
 }
 
 #[tactic(auto, unfolding(crate::specs::Reading::request_by))]
-pub(crate) fn two_numbers(words: &[&[u8]]) -> Option<(u64, u64)>
-    ensures { (make : ℕ → ℕ → Request) → option_map (λ v. make v.0 v.1) result ≡ request_by two_numbers make (map (λ word. word.now) words.now) }
-{
-    let [first, second] = words else {
-        return None;
-    };
-    Some((read_number(first)?, read_number(second)?))
-}
-
-#[tactic(auto, unfolding(crate::specs::Reading::request_by))]
-pub(crate) fn three_numbers(words: &[&[u8]]) -> Option<(u64, u64, u64)>
-    ensures { (make : ℕ → ℕ → ℕ → Request) → option_map (λ v. make v.0 v.1 v.2) result ≡ request_by three_numbers make (map (λ word. word.now) words.now) }
-{
-    let [first, second, third] = words else {
-        return None;
-    };
-    Some((
-        read_number(first)?,
-        read_number(second)?,
-        read_number(third)?,
-    ))
-}
-
-#[tactic(auto, unfolding(crate::specs::Reading::request_by))]
 pub(crate) fn one_path<'a>(words: &[&'a [u8]]) -> Option<&'a [u8]>
     ensures { (make : List ℕ → Request) → option_map (λ path. make path.now) result ≡ request_by one_path make (map (λ word. word.now) words.now) }
 {
@@ -60,42 +35,6 @@ pub(crate) fn one_path<'a>(words: &[&'a [u8]]) -> Option<&'a [u8]>
         return None;
     }
     Some(path)
-}
-
-#[tactic(auto, unfolding(crate::specs::Reading::request_by))]
-pub(crate) fn path_and_two_numbers<'a>(words: &[&'a [u8]]) -> Option<(&'a [u8], u64, u64)>
-    ensures { (make : List ℕ → ℕ → ℕ → Request) → option_map (λ v. make v.0.now v.1 v.2) result ≡ request_by path_and_two_numbers make (map (λ word. word.now) words.now) }
-{
-    let [path, first, second] = words else {
-        return None;
-    };
-    if path.is_empty() {
-        return None;
-    }
-    Some((path, read_number(first)?, read_number(second)?))
-}
-
-/// A number of at most this.
-fn number_up_to(most: u64, word: &[u8]) -> Option<u64>
-    ensures { result ≡ value_of (UpTo most) word.now }
-{
-    let number = read_number(word)?;
-    if number <= most { Some(number) } else { None }
-}
-
-/// A number of 32 bits.
-fn small_number(word: &[u8]) -> Option<u32>
-    ensures { result ≡ value_of (UpTo most_32) word.now }
-{
-    let number = number_up_to(4294967295, word)?;
-    Some(number as u32)
-}
-
-/// The bytes of a path.
-fn path<'a>(word: &'a [u8]) -> Option<&'a [u8]>
-    ensures { option_map (λ path. path.now) result ≡ value_of Path word.now }
-{
-    if word.is_empty() { None } else { Some(word) }
 }
 
 #[tactic(auto, unfolding(crate::specs::Reading::request_by))]
@@ -118,70 +57,31 @@ pub(crate) fn cpu_and_two_paths<'a>(words: &[&'a [u8]]) -> Option<(u64, &'a [u8]
     Some((read_number(cpu)?, path(name)?, path(other)?))
 }
 
-#[tactic(auto, unfolding(crate::specs::Reading::request_by))]
-pub(crate) fn cpu_path_and_number<'a>(words: &[&'a [u8]]) -> Option<(u64, &'a [u8], u64)>
-    ensures { (make : ℕ → List ℕ → ℕ → Request) → option_map (λ v. make v.0 v.1.now v.2) result ≡ request_by cpu_path_and_number make (map (λ word. word.now) words.now) }
+/// The bytes of a path.
+pub(crate) fn path<'a>(word: &'a [u8]) -> Option<&'a [u8]>
+    ensures { option_map (λ path. path.now) result ≡ value_of Path word.now }
 {
-    let [cpu, name, number] = words else {
-        return None;
-    };
-    Some((read_number(cpu)?, path(name)?, read_number(number)?))
+    if word.is_empty() { None } else { Some(word) }
 }
 
-/// What `attr` sets.
-#[derive(Drop)]
-pub(crate) struct AttributeWords<'a> {
-    pub(crate) cpu: u64,
-    pub(crate) path: &'a [u8],
-    pub(crate) mode: u32,
-    pub(crate) owner: u32,
-    pub(crate) group: u32,
-}
-
-#[tactic(auto, unfolding(crate::specs::Reading::request_by))]
-pub(crate) fn attribute_words<'a>(words: &[&'a [u8]]) -> Option<AttributeWords<'a>>
-    ensures { (make : ℕ → List ℕ → ℕ → ℕ → ℕ → Request) → option_map (λ v. make v.cpu v.path.now v.mode v.owner v.group) result ≡ request_by attribute_words make (map (λ word. word.now) words.now) }
+/// A number of at most this.
+pub(crate) fn number_up_to(most: u64, word: &[u8]) -> Option<u64>
+    ensures { result ≡ value_of (UpTo most) word.now }
 {
-    let [cpu, name, mode, owner, group] = words else {
-        return None;
-    };
-    Some(AttributeWords {
-        cpu: read_number(cpu)?,
-        path: path(name)?,
-        mode: small_number(mode)?,
-        owner: small_number(owner)?,
-        group: small_number(group)?,
-    })
+    let number = read_number(word)?;
+    if number <= most { Some(number) } else { None }
 }
 
-/// What `write` writes, and where.
-#[derive(Drop)]
-pub(crate) struct WriteWords<'a> {
-    pub(crate) cpu: u64,
-    pub(crate) path: &'a [u8],
-    pub(crate) offset: u64,
-    pub(crate) count: u64,
-    pub(crate) byte: u8,
-}
-
-#[tactic(auto, unfolding(crate::specs::Reading::request_by))]
-pub(crate) fn write_words<'a>(words: &[&'a [u8]]) -> Option<WriteWords<'a>>
-    ensures { (make : ℕ → List ℕ → ℕ → ℕ → ℕ → Request) → option_map (λ v. make v.cpu v.path.now v.offset v.count v.byte) result ≡ request_by write_words make (map (λ word. word.now) words.now) }
+/// A number of 32 bits.
+pub(crate) fn small_number(word: &[u8]) -> Option<u32>
+    ensures { result ≡ value_of (UpTo most_32) word.now }
 {
-    let [cpu, name, offset, count, byte] = words else {
-        return None;
-    };
-    Some(WriteWords {
-        cpu: read_number(cpu)?,
-        path: path(name)?,
-        offset: read_number(offset)?,
-        count: number_up_to(1073741824, count)?,
-        byte: number_up_to(255, byte)? as u8,
-    })
+    let number = number_up_to(4294967295, word)?;
+    Some(number as u32)
 }
 
 #[tactic(auto, unfolding(crate::specs::Reading::moment_of))]
-fn fuse(moment: &[u8], number: u64) -> Option<Fuse>
+pub(crate) fn fuse(moment: &[u8], number: u64) -> Option<Fuse>
     ensures { result ≡ option_map (λ m. fuse_by m number) (moment_of moment.now) }
 {
     if moment == b"after".as_slice() {
@@ -194,7 +94,7 @@ fn fuse(moment: &[u8], number: u64) -> Option<Fuse>
 }
 
 #[tactic(auto, unfolding(crate::specs::Reading::keep_of))]
-fn keep(word: &[u8]) -> Option<Keep>
+pub(crate) fn keep(word: &[u8]) -> Option<Keep>
     ensures { result ≡ keep_of word.now }
 {
     if word == b"none".as_slice() {
@@ -208,37 +108,8 @@ fn keep(word: &[u8]) -> Option<Keep>
     }
 }
 
-/// The fuse of a stop, and what it keeps.
-#[tactic(auto, unfolding(crate::specs::Reading::request_by))]
-pub(crate) fn stop_words(words: &[&[u8]]) -> Option<(Fuse, Keep)>
-    ensures { option_map (λ v. request.Stop v.0 v.1) result ≡ request_by stop_words stop_of (map (λ word. word.now) words.now) }
-{
-    let [moment, number, kept] = words else {
-        return None;
-    };
-    Some((fuse(moment, read_number(number)?)?, keep(kept)?))
-}
-
-/// A number, and the numbers after it.
-#[tactic(auto, unfolding(crate::specs::Reading::request_by))]
-pub(crate) fn number_and_more(
-    alloc: Global,
-    words: &[&[u8]],
-) -> Result<Option<(u64, Vec<u64>)>, AllocError>
-    ensures { IfOk result (λ found. (make : ℕ → List ℕ → Request) → option_map (λ v. make v.0 v.1.items) found ≡ request_by (Then Number Numbers) make (map (λ word. word.now) words.now)) }
-{
-    let [first, more @ ..] = words else {
-        return Ok(None);
-    };
-    let Some(first) = read_number(first) else {
-        return Ok(None);
-    };
-    let more = numbers(alloc, more)?;
-    Ok(more.map(|more| (first, more)))
-}
-
 /// The numbers that the words write, if each writes one.
-fn numbers(alloc: Global, words: &[&[u8]]) -> Result<Option<Vec<u64>>, AllocError>
+pub(crate) fn numbers(alloc: Global, words: &[&[u8]]) -> Result<Option<Vec<u64>>, AllocError>
     ensures { IfOk result (λ found. option_map (λ numbers. numbers.items) found ≡ numbers_of (map (λ word. word.now) words.now)) }
 {
     let mut numbers = Vec::new(alloc);
