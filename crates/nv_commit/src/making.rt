@@ -107,9 +107,22 @@ fn prepare<P: Pmem>(
         tail,
         created: inode.created,
     };
-    store_slot(memory, inode.slot, &slot)?;
-    memory.fence()?;
+    write_slot(memory, inode.slot, &slot)?;
     Ok((tail, end))
+}
+
+/// Stores the words of the slot at an address but for its valid word, and fences them and all that was stored before.
+fn write_slot<P: Pmem>(memory: &mut P, at: u64, slot: &Slot) -> Result<(), Stopped>
+    requires whole { at % 8 ≡ 0 }
+    requires inside { at + 40 ≤ size (P.region memory.old) }
+    ensures done { OnOk result (P.region memory.new ≡ with_slot (P.region memory.old) at slot.now) }
+    ensures wrote { StoresOnly (Within (at + 8) 32) (P.region memory.old) (P.region memory.new) (P.may_hold memory.old) (P.may_hold memory.new) }
+    ensures settled { OnOk result (NothingPending (P.region memory.new) (P.may_hold memory.new)) }
+    ensures stopped { is_err result ≡ (P.fuse memory.new).has_burnt }
+    ensures keeps_fuse { KeepsFuse (λ limit. at + 40 ≤ limit) (P.fuse memory.old) (P.fuse memory.new) }
+{
+    store_slot(memory, at, slot)?;
+    memory.fence()
 }
 
 /// Stores the words of the slot at an address but for its valid word.
