@@ -2,8 +2,10 @@
 
 ghost use Rattle.std.specs.Prelude.{◌≡◌, ◌++◌, IfOk, OnOk, map};
 ghost use Rattle.nv_region.specs.Region.{Region};
+ghost use Rattle.nv_super.specs.declared.superblock.Super.{Super as SuperValue};
 ghost use Rattle.nv_super.specs.Layout.{IsLayout};
 ghost use Rattle.nv_super.specs.Order.{fault_key, SortedOf};
+ghost use Rattle.nv_outcome.specs.nv_check.Doubled.{AreDoubled};
 ghost use Rattle.nv_outcome.specs.Parts.{double_fault};
 ghost use Rattle.nv_outcome.specs.Answer.{IsAnswer};
 ghost use Rattle.nv_recover.specs.Started.{IsStarted};
@@ -27,23 +29,32 @@ pub(crate) fn finish(
     requires scanned { (R : Region) × IsScanned R started.sup scanned }
     ensures { IfOk result (λ r. (old new : Region) → IsStarted old new started → IsScanned new started.sup scanned → IsAnswer old new r) }
 {
-    let Started { sup, journal } = started;
-    let Scanned {
-        inodes,
-        claimed,
-        cross,
-    } = scanned;
-    let free = Allocators::from_words(alloc, &claimed.first, &sup)?;
-    let doubled = doubled(alloc, &claimed.claims, &claimed.second)?;
-    let faults = all_faults(journal, &inodes.faults, &cross, &doubled)?;
-    let rows = Rows::from_rows(alloc, inodes.rows, &sup)?;
+    let free = Allocators::from_words(alloc, &scanned.claimed.first, &started.sup)?;
+    let (doubled, faults) = told(alloc, started.journal, &scanned)?;
+    let Scanned { inodes, .. } = scanned;
+    let rows = Rows::from_rows(alloc, inodes.rows, &started.sup)?;
     Ok(Recovered {
-        sup,
+        sup: started.sup,
         rows,
         free,
         doubled,
         faults,
     })
+}
+
+// What is told beside the rows: the claims of doubled blocks, and all faults in order.
+fn told(
+    alloc: Global,
+    journal: Vec<Fault>,
+    scanned: &Scanned,
+) -> Result<(Vec<(u64, Owner)>, Vec<Fault>), AllocError>
+    requires scanned { (R : Region) × (s : SuperValue) × IsScanned R s scanned.now }
+    ensures doubled { IfOk result (λ r. AreDoubled scanned.now.claimed.claims.items scanned.now.claimed.second.items r.0.items) }
+    ensures faults { IfOk result (λ r. SortedOf fault_key (all_told journal.items scanned.now.inodes.faults.items scanned.now.cross.items r.0.items) r.1.items) }
+{
+    let doubled = doubled(alloc, &scanned.claimed.claims, &scanned.claimed.second)?;
+    let faults = all_faults(journal, &scanned.inodes.faults, &scanned.cross, &doubled)?;
+    Ok((doubled, faults))
 }
 
 // All faults in order: of the journals, of the inodes by themselves, between them, and of doubled blocks.
@@ -66,11 +77,17 @@ fn all_faults(
 fn push_doubled(faults: &mut Vec<Fault>, doubled: &[(u64, Owner)]) -> Result<(), AllocError>
     ensures { OnOk result (faults.new.items ≡ faults.old.items ++ map double_fault doubled.now) }
 {
-    for (block, owner) in doubled {
-        faults.push(Fault::B1 {
-            block: *block,
-            owner: *owner,
-        })?;
+    for claim in doubled {
+        faults.push(double_fault(claim))?;
     }
     Ok(())
+}
+
+fn double_fault(claim: &(u64, Owner)) -> Fault
+    ensures { result ≡ double_fault claim.now }
+{
+    Fault::B1 {
+        block: claim.0,
+        owner: claim.1,
+    }
 }

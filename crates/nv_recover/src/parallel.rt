@@ -15,10 +15,10 @@ ghost use Rattle.nv_recover.specs.Errors.{Fails, comes_first, IsBadCount};
 ghost use Rattle.nv_recover.specs.Behind.{BehindSystem};
 ghost use Rattle.nv_recover.specs.Scanned.{IsScanned};
 
-use crate::errors::{MOST_WORKERS, RecoverError};
+use crate::errors::RecoverError;
 use crate::finishing::finish;
 use crate::scanned::Scanned;
-use crate::starting::start;
+use crate::starting::{is_worker_count, start};
 use crate::workers::scan_by_workers;
 use nv_outcome::{Recovered, cross_faults};
 use nv_region::Pmem;
@@ -58,7 +58,7 @@ pub fn recover<P: Pmem + Sync, G: Gate + Sync, H: Threads + Sync>(
     // A memory that takes stores up to the first data block isn't stopped.
     ensures unstopped { (s : SuperValue) → IsSuper (P.region memory.old) s → IsTrue ((P.fuse memory.old).is_open (4096 * system_blocks s)) → IfErr result (λ e. e ≢ errors.Stopped) }
 {
-    if !(1..=MOST_WORKERS).contains(&workers) {
+    if !is_worker_count(workers) {
         return Err(RecoverError::Workers);
     }
     let started = start(alloc, memory)?;

@@ -20,10 +20,10 @@ ghost use Rattle.nv_recover.specs.Errors.{Fails, comes_first, IsBadCount};
 ghost use Rattle.nv_recover.specs.Behind.{BehindSystem};
 ghost use Rattle.nv_recover.specs.Scanned.{AreInodes, IsScanned, AreClaimedSets, AreNext, all_claims};
 
-use crate::errors::{MOST_WORKERS, RecoverError};
+use crate::errors::RecoverError;
 use crate::finishing::finish;
 use crate::scanned::{Inodes, Scanned};
-use crate::starting::start;
+use crate::starting::{is_worker_count, start};
 use nv_claimcore::{ClaimState, CoreRefusal, replay};
 use nv_claimmap::Claimed;
 use nv_outcome::{Recovered, cross_faults_one};
@@ -61,7 +61,7 @@ pub fn recover_replay<P: Pmem>(
     // A memory that takes stores up to the first data block isn't stopped.
     ensures unstopped { (s : SuperValue) → IsSuper (P.region memory.old) s → IsTrue ((P.fuse memory.old).is_open (4096 * system_blocks s)) → IfErr result (λ e. e ≢ errors.Stopped) }
 {
-    if !(1..=MOST_WORKERS).contains(&workers) {
+    if !is_worker_count(workers) {
         return Err(RecoverError::Workers);
     }
     if let Some(place) = first_stranger(schedule, workers as u32) {

@@ -1,17 +1,17 @@
-//! How each recovery begins: the superblock is read, and the journals are rolled back.
+//! How each recovery begins: the number of workers is tested, the superblock is read, and the journals are rolled back.
 
-ghost use Rattle.std.specs.Prelude.{◌≡◌, ◌*◌, ◌≢◌, ℕ, List, IfOk, IfErr, IsTrue};
+ghost use Rattle.std.specs.Prelude.{◌≡◌, ◌*◌, ◌≢◌, ◌<◌, ◌≤◌, ℕ, List, IfOk, IfErr, IsTrue, false};
 ghost use Rattle.nv_region.specs.Fuses.{KeepsFuse};
 ghost use Rattle.nv_super.specs.Layout.{system_blocks};
 ghost use Rattle.nv_super.specs.Super.{IsSuper};
 ghost use Rattle.nv_super.specs.declared.superblock.Super.{Super as SuperValue};
 ghost use Rattle.nv_journal.specs.Undone.{AllQuiet};
 ghost use Rattle.nv_recover.specs.declared.errors.RecoverError.TheVariants as errors;
-ghost use Rattle.nv_recover.specs.Errors.{Fails, comes_first};
+ghost use Rattle.nv_recover.specs.Errors.{Fails, comes_first, IsBadCount};
 ghost use Rattle.nv_recover.specs.Behind.{BehindSystem};
 ghost use Rattle.nv_recover.specs.Started.{IsStarted};
 
-use crate::errors::RecoverError;
+use crate::errors::{MOST_WORKERS, RecoverError};
 use nv_journal::undo;
 use nv_region::Pmem;
 use nv_super::{Fault, Super, read_super};
@@ -22,6 +22,15 @@ use std::alloc::Global;
 pub(crate) struct Started {
     pub sup: Super,
     pub journal: Vec<Fault>,
+}
+
+/// Whether there can be so many workers.
+pub(crate) fn is_worker_count(workers: u64) -> bool
+    ensures some { IsTrue result → (0 < workers) × (workers ≤ 64) }
+    ensures good { IsTrue result → IsBadCount workers → ⊥ }
+    ensures bad { result ≡ false → IsBadCount workers }
+{
+    (1..=MOST_WORKERS).contains(&workers)
 }
 
 /// Reads the superblock and rolls the journals back. What comes after it only reads.

@@ -1,10 +1,10 @@
 //! The inodes are scanned by workers on threads of their own, and what they bring is put together.
 
-ghost use Rattle.std.specs.Prelude.{◌≡◌, ◌<◌, ◌≤◌, List, IfOk, false, vec_len};
+ghost use Rattle.std.specs.Prelude.{◌≡◌, ◌<◌, ◌≤◌, ◌++◌, List, IfOk, OnOk, false, vec_len};
 ghost use Rattle.std.specs.List.{All};
 ghost use Rattle.nv_region.specs.Region.{HasBlocks};
 ghost use Rattle.nv_super.specs.Layout.{IsLayout};
-ghost use Rattle.nv_claimcore.specs.Claims.{nothing};
+ghost use Rattle.nv_claimcore.specs.Claims.{nothing, both_views};
 ghost use Rattle.nv_scan.specs.Tickets.{ticket_count};
 ghost use Rattle.nv_scan.specs.Work.{Returned};
 ghost use Rattle.nv_scan.specs.declared.piece.Piece.{Piece as PieceValue};
@@ -79,14 +79,32 @@ fn join_all<P: Pmem>(
     let (mut seat, mut inodes) = take_apart(first)?;
     inodes.rows.reserve(row_count(&results))?;
     while let Some(next) = results.pop() {
-        let (other, more) = take_apart(next)?;
-        inodes.append(more)?;
-        match map.join(seat, other) {
-            Ok(both) => seat = both,
-            Err(_) => return Err(AllocError),
-        }
+        seat = join_next(map, seat, &mut inodes, next)?;
     }
     Ok(Brought { seat, inodes })
+}
+
+// Joins one worker's seat to this one, and moves what it scanned behind what is there.
+fn join_next(
+    map: &ClaimMap,
+    seat: ClaimSeat,
+    inodes: &mut Inodes,
+    work: WorkerResult,
+) -> Result<ClaimSeat, AllocError>
+    requires own { seat.map ≡ map.now }
+    requires other { work.seat.map ≡ map.now }
+    ensures whole { IfOk result (λ _. work.refused ≡ false) }
+    ensures map { IfOk result (λ both. both.map ≡ seat.map) }
+    ensures view { IfOk result (λ both. both.view ≡ both_views seat.view work.seat.view) }
+    ensures rows { OnOk result (inodes.new.rows.items ≡ inodes.old.rows.items ++ work.rows.items) }
+    ensures faults { OnOk result (inodes.new.faults.items ≡ inodes.old.faults.items ++ work.faults.items) }
+{
+    let (other, more) = take_apart(work)?;
+    inodes.append(more)?;
+    match map.join(seat, other) {
+        Ok(both) => Ok(both),
+        Err(_) => Err(AllocError),
+    }
 }
 
 // How many rows these workers bring: so much room is made at once.

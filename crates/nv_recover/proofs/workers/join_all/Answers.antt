@@ -1,4 +1,4 @@
-use Rattle.std.proofs.Common.{List, ◌≡◌, ◌+◌, ◌<◌, ◌++◌, Some, vec_len, sym, ap, ◌∙◌, subst, arith}
+use Rattle.std.proofs.Common.{List, ◌≡◌, ◌+◌, ◌<◌, Some, vec_len, sym, ap, ◌∙◌, subst, arith}
 use Rattle.std.specs.Prelude.{Vec}
 use Rattle.std.specs.declared.alloc.Global.{Global}
 use Rattle.std.proofs.lemmas.List.Elements.{All-pop}
@@ -6,7 +6,7 @@ use Rattle.nv_region.specs.Region.{Region}
 use Rattle.nv_super.specs.declared.superblock.Super.{Super}
 use Rattle.nv_super.specs.declared.faults.Fault.{Fault}
 use Rattle.nv_claimcore.specs.declared.view.View.{View}
-use Rattle.nv_claimcore.specs.Claims.{past, both_views}
+use Rattle.nv_claimcore.specs.Claims.{past}
 use Rattle.nv_claimcore.proofs.Runs.{past_both}
 use Rattle.nv_claimmap.specs.Held.{Held}
 use Rattle.nv_scan.specs.Tickets.{ticket_count}
@@ -39,31 +39,27 @@ loop-next-init g c =
       work = same_work (ap (λ (h : Held). h.view) same) (c.reserve.ensures.items ∙ items c.in_ok-seat.ensures.rows) (items c.in_ok-seat.ensures.faults) (first.work whole);
     }
 
-pub join-requires-clause-other : goal.join-requires-clause-other
-join-requires-clause-other g c =
+pub join_next-requires-clause-other : goal.join_next-requires-clause-other
+join_next-requires-clause-other g c =
     let l = c.loop-next in
-    let split = All-pop (Returned (g.P.Pmem.region c.args._memory.now) c.args._sup.now c.args.map.now) l.results.items c.pop-in-loop-next.new.self.items (Some c.in-Some-pop.next) c.in-Some-pop.ensures.items l.invariant.rest in
-    ap (λ (h : Held). h.map) c.in_ok-other.ensures.seat ∙ split.1.map
+    (All-pop (Returned (g.P.Pmem.region c.args._memory.now) c.args._sup.now c.args.map.now) l.results.items c.pop-in-loop-next.new.self.items (Some c.in-Some-pop.next) c.in-Some-pop.ensures.items l.invariant.rest).1.map
 
 pub loop-next-preserved : goal.loop-next-preserved
 loop-next-preserved g c =
     let R = g.P.Pmem.region c.args._memory.now in
     let s = c.args._sup.now in
     let l = c.loop-next in
-    let ok = c.in-Ok.ensures in
+    let joins = c.in_ok-seat-2.ensures in
     let pop = c.in-Some-pop.ensures in
     let split = All-pop (Returned R s c.args.map.now) l.results.items c.pop-in-loop-next.new.self.items (Some c.in-Some-pop.next) pop.items l.invariant.rest in
     let next = split.1 in
-    let joined = c.in-Ok.both.view in
-    let both = ap (λ (h : Held). both_views l.seat.view h.view) c.in_ok-other.ensures.seat in
-    let seats : joined.seats ≡ l.seat.view.seats + c.in_ok-other.other.view.seats = ap (λ (v : View). v.seats) ok.view in
-    let one : c.in_ok-other.other.view.seats ≡ 1 = ap (λ (h : Held). h.view.seats) c.in_ok-other.ensures.seat ∙ next.seats in
+    let seats : _ ≡ l.seat.view.seats + c.in-Some-pop.next.seat.view.seats = ap (λ (v : View). v.seats) joins.view in
+    let one = next.seats in
     let len : vec_len l.results ≡ vec_len c.pop-in-loop-next.new.self + 1 = sym pop.len in record {
-      map = ok.map ∙ l.invariant.map;
+      map = joins.map ∙ l.invariant.map;
       seats = omega (arith, seats, one, len, l.invariant.seats);
       rest = split.0;
-      ended = subst (λ (v : View). 0 < past (ticket_count s) v.numbers) (sym ok.view) (let sum = past_both (ticket_count s) l.seat.view.numbers c.in_ok-other.other.view.numbers in omega (arith, sum, l.invariant.ended));
-      work = same_work (ok.view ∙ both) (c.in_ok-append.ensures.rows ∙ ap (λ (rs : List Row). l.inodes.rows.items ++ rs) (items c.in_ok-other.ensures.rows))
-          (c.in_ok-append.ensures.faults ∙ ap (λ (fs : List Fault). l.inodes.faults.items ++ fs) (items c.in_ok-other.ensures.faults))
-          (work_joins R s l.seat.view c.in-Some-pop.next.seat.view l.inodes.rows.items c.in-Some-pop.next.rows.items l.inodes.faults.items c.in-Some-pop.next.faults.items l.invariant.work (next.work c.in_ok-other.ensures.whole));
+      ended = subst (λ (v : View). 0 < past (ticket_count s) v.numbers) (sym joins.view) (let sum = past_both (ticket_count s) l.seat.view.numbers c.in-Some-pop.next.seat.view.numbers in omega (arith, sum, l.invariant.ended));
+      work = same_work joins.view joins.rows joins.faults
+          (work_joins R s l.seat.view c.in-Some-pop.next.seat.view l.inodes.rows.items c.in-Some-pop.next.rows.items l.inodes.faults.items c.in-Some-pop.next.faults.items l.invariant.work (next.work joins.whole));
     }
