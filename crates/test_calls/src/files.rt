@@ -1,6 +1,6 @@
 //! The bytes and attributes of files. After each step recovery of the region's bytes finds what is mounted.
 
-use crate::story::follow;
+use crate::story::{Story, follow_each};
 use std::test::Fail;
 
 const OVERWRITTEN: &str = "
@@ -67,27 +67,15 @@ const FULL_PAGE: &str = "
     20512       tail    - /a
     10          free";
 
-#[test]
-fn overwritten_blocks_are_free_again(rt: HostRuntime) -> Result<(), Fail> {
-    follow(&rt, rt.alloc(), 64, 2, OVERWRITTEN)
-}
+const STORIES: [Story<'static>; 5] = [
+    (64, 2, OVERWRITTEN),
+    (8, 1, TO_THE_LAST_BLOCK),
+    (16, 1, CUT_AND_LENGTHENED),
+    (16, 1, FULL_PAGE),
+    (16, 1, ATTRIBUTES),
+];
 
 #[test]
-fn a_file_has_the_last_block(rt: HostRuntime) -> Result<(), Fail> {
-    follow(&rt, rt.alloc(), 8, 1, TO_THE_LAST_BLOCK)
-}
-
-#[test]
-fn a_file_is_cut_and_lengthened_by_zeros(rt: HostRuntime) -> Result<(), Fail> {
-    follow(&rt, rt.alloc(), 16, 1, CUT_AND_LENGTHENED)
-}
-
-#[test]
-fn a_log_goes_on_in_the_next_page(rt: HostRuntime) -> Result<(), Fail> {
-    follow(&rt, rt.alloc(), 16, 1, FULL_PAGE)
-}
-
-#[test]
-fn attributes_are_set(rt: HostRuntime) -> Result<(), Fail> {
-    follow(&rt, rt.alloc(), 16, 1, ATTRIBUTES)
+fn files_are_written_cut_and_lengthened_and_get_attributes(rt: HostRuntime) -> Result<(), Fail> {
+    follow_each(&rt, rt.alloc(), &STORIES)
 }

@@ -1,7 +1,7 @@
 //! Formatted regions, mounted.
 
 use crate::mounted::mount;
-use crate::story::follow;
+use crate::story::{Story, follow_each};
 use nv_calls::{Fs, format};
 use nv_region::MemRegion;
 use std::alloc::Global;
@@ -30,9 +30,9 @@ const ROOT: &str = "
     NotFound     names   - /a
     NotFound     read    - /a 0 1";
 
+const STORIES: [Story<'static>; 3] = [(39, 7, ROOT), (31, 2, ROOT), (8, 2, ROOT)];
+
 #[test]
 fn there_is_the_root_alone(rt: HostRuntime) -> Result<(), Fail> {
-    follow(&rt, rt.alloc(), 39, 7, ROOT)?;
-    follow(&rt, rt.alloc(), 31, 2, ROOT)?;
-    follow(&rt, rt.alloc(), 8, 2, ROOT)
+    follow_each(&rt, rt.alloc(), &STORIES)
 }

@@ -1,7 +1,7 @@
 //! Devices that are full at each block that a call needs. `fill` writes attributes behind a log until its page has no room
 //! for more of them. After each step recovery of the region's bytes finds what is mounted.
 
-use crate::story::follow;
+use crate::story::{Story, follow_each};
 use std::test::Fail;
 
 /// A page for the log of a new inode, and one for its directory's log.
@@ -128,27 +128,15 @@ const WRITE: &str = "
     ok          size    0 /a 0
     1           free";
 
-#[test]
-fn a_full_device_takes_no_inode(rt: HostRuntime) -> Result<(), Fail> {
-    follow(&rt, rt.alloc(), 16, 1, NEW_INODE)
-}
+const STORIES: [Story<'static>; 5] = [
+    (16, 1, NEW_INODE),
+    (16, 1, LINK),
+    (16, 1, RENAME),
+    (16, 1, REMOVAL),
+    (16, 1, WRITE),
+];
 
 #[test]
-fn a_full_device_takes_no_link(rt: HostRuntime) -> Result<(), Fail> {
-    follow(&rt, rt.alloc(), 16, 1, LINK)
-}
-
-#[test]
-fn a_full_device_takes_no_rename(rt: HostRuntime) -> Result<(), Fail> {
-    follow(&rt, rt.alloc(), 16, 1, RENAME)
-}
-
-#[test]
-fn a_full_device_takes_no_removal(rt: HostRuntime) -> Result<(), Fail> {
-    follow(&rt, rt.alloc(), 16, 1, REMOVAL)
-}
-
-#[test]
-fn a_full_device_takes_no_bytes(rt: HostRuntime) -> Result<(), Fail> {
-    follow(&rt, rt.alloc(), 16, 1, WRITE)
+fn a_full_device_refuses_each_call_that_needs_a_block(rt: HostRuntime) -> Result<(), Fail> {
+    follow_each(&rt, rt.alloc(), &STORIES)
 }

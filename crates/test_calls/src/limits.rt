@@ -3,8 +3,9 @@
 use crate::formatted::formatted;
 use crate::story::follow_on;
 use nv_calls::Fs;
-use nv_region::Pmem;
+use nv_region::{MemRegion, Pmem};
 use std::alloc::Global;
+use std::process::Abort;
 use std::test::Fail;
 
 /// Links the file `/n0` by the names of these numbers.
@@ -55,13 +56,18 @@ const ALL_LINKS: &str = "
     0           free
     LinkLimit   link    0 /n0 /n1000";
 
+/// Links a file until it has a thousand names.
+fn link_all(rt: &impl Abort, alloc: Global, fs: &mut Fs<MemRegion>) -> Result<(), Fail> {
+    create_each(alloc, fs, 0, 1)?;
+    link_each(alloc, fs, 1, 126)?;
+    follow_on(rt, alloc, fs, FULL_PAGE)?;
+    link_each(alloc, fs, 127, 1000)
+}
+
 #[test]
 fn a_file_has_a_thousand_links(rt: HostRuntime) -> Result<(), Fail> {
     let mut fs = formatted(rt.alloc(), 64, 2)?;
-    create_each(rt.alloc(), &mut fs, 0, 1)?;
-    link_each(rt.alloc(), &mut fs, 1, 126)?;
-    follow_on(&rt, rt.alloc(), &mut fs, FULL_PAGE)?;
-    link_each(rt.alloc(), &mut fs, 127, 1000)?;
+    link_all(&rt, rt.alloc(), &mut fs)?;
     follow_on(&rt, rt.alloc(), &mut fs, ALL_LINKS)
 }
 

@@ -1,6 +1,6 @@
 //! Names that come, go and move. After each step recovery of the region's bytes finds what is mounted.
 
-use crate::story::follow;
+use crate::story::{Story, follow_each};
 use std::test::Fail;
 
 const COME_AND_GO: &str = "
@@ -89,27 +89,15 @@ const BLOCKS: &str = "
     ok          unlink  1 /b
     58          free";
 
-#[test]
-fn names_come_and_go(rt: HostRuntime) -> Result<(), Fail> {
-    follow(&rt, rt.alloc(), 16, 1, COME_AND_GO)
-}
+const STORIES: [Story<'static>; 5] = [
+    (16, 1, COME_AND_GO),
+    (64, 2, NESTED),
+    (64, 2, A_FILE),
+    (64, 2, DIRECTORIES),
+    (64, 2, BLOCKS),
+];
 
 #[test]
-fn directories_are_nested(rt: HostRuntime) -> Result<(), Fail> {
-    follow(&rt, rt.alloc(), 64, 2, NESTED)
-}
-
-#[test]
-fn a_file_moves(rt: HostRuntime) -> Result<(), Fail> {
-    follow(&rt, rt.alloc(), 64, 2, A_FILE)
-}
-
-#[test]
-fn directories_move(rt: HostRuntime) -> Result<(), Fail> {
-    follow(&rt, rt.alloc(), 64, 2, DIRECTORIES)
-}
-
-#[test]
-fn a_last_name_takes_the_blocks_along(rt: HostRuntime) -> Result<(), Fail> {
-    follow(&rt, rt.alloc(), 64, 2, BLOCKS)
+fn names_come_go_and_move(rt: HostRuntime) -> Result<(), Fail> {
+    follow_each(&rt, rt.alloc(), &STORIES)
 }

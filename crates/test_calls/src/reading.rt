@@ -57,10 +57,13 @@ const REFUSED: &str = "
     NotDirectory       names   - /a
     IsDirectory        read    - / 0 1";
 
+const ASKED: [&str; 3] = [SHOWN, BYTES, REFUSED];
+
 #[test]
 fn a_file_is_read(rt: HostRuntime) -> Result<(), Fail> {
     let mut fs = two_pages_but(rt.alloc(), &[])?;
-    follow_on(&rt, rt.alloc(), &mut fs, SHOWN)?;
-    follow_on(&rt, rt.alloc(), &mut fs, BYTES)?;
-    follow_on(&rt, rt.alloc(), &mut fs, REFUSED)
+    for lines in ASKED.iter() {
+        follow_on(&rt, rt.alloc(), &mut fs, lines)?;
+    }
+    Ok(())
 }

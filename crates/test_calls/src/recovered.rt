@@ -40,14 +40,30 @@ fn has_same_names(mounted: &Row, recovered: &Row) -> Result<bool, AllocError> {
     Ok(mounted.names.list()?.as_slice() == recovered.names.list()?.as_slice())
 }
 
+fn is_same(mounted: &Row, recovered: &Row) -> Result<bool, AllocError> {
+    Ok(
+        has_same_numbers(mounted, recovered)
+            && has_same_log(mounted, recovered)
+            && has_same_pages(mounted, recovered)?
+            && has_same_names(mounted, recovered)?,
+    )
+}
+
 fn assert_same_rows(rt: &impl Abort, mounted: &Rows, recovered: &Rows) -> Result<(), AllocError> {
     assert!(rt; mounted.len() == recovered.len());
     for ((_, row), (_, other)) in mounted.iter().zip(recovered.iter()) {
-        assert!(rt; has_same_numbers(row, other));
-        assert!(rt; has_same_log(row, other));
-        assert!(rt; has_same_pages(row, other)?);
-        assert!(rt; has_same_names(row, other)?);
+        assert!(rt; is_same(row, other)?, "the row of inode {}", row.inode);
     }
+    Ok(())
+}
+
+fn assert_same_free(
+    rt: &impl Abort,
+    fs: &Fs<MemRegion>,
+    recovered: &Recovered,
+) -> Result<(), AllocError> {
+    let lists = fs.free().lists()?;
+    assert_same_lists(rt, &lists, &recovered.free.lists()?);
     Ok(())
 }
 
@@ -58,13 +74,19 @@ fn assert_same_lists(rt: &impl Abort, mounted: &[Vec<Run>], recovered: &[Vec<Run
     }
 }
 
+fn assert_same(
+    rt: &impl Abort,
+    fs: &Fs<MemRegion>,
+    recovered: &Recovered,
+) -> Result<(), AllocError> {
+    assert!(rt; fs.faults() == recovered.faults.as_slice());
+    assert_same_rows(rt, fs.rows(), &recovered.rows)?;
+    assert_same_free(rt, fs, recovered)
+}
+
 /// Recovery of the region's bytes finds the rows, the free lists and the faults that are mounted.
 pub fn assert_recovered(rt: &impl Abort, alloc: Global, fs: &Fs<MemRegion>) -> Result<(), Fail> {
     let recovered = recover_bytes(alloc, &bytes_of(fs)?)?;
-    assert!(rt; fs.faults() == recovered.faults.as_slice());
-    assert_same_rows(rt, fs.rows(), &recovered.rows)?;
-    let mounted = fs.free().lists()?;
-    let others = recovered.free.lists()?;
-    assert_same_lists(rt, &mounted, &others);
+    assert_same(rt, fs, &recovered)?;
     Ok(())
 }

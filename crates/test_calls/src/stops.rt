@@ -5,6 +5,7 @@ use crate::recovered::assert_recovered;
 use crate::story::follow_on;
 use nv_calls::Fs;
 use nv_region::{Fuse, Keep, MemRegion};
+use nv_tree::Refusal;
 use std::alloc::Global;
 use std::process::Abort;
 use std::test::Fail;
@@ -44,14 +45,37 @@ fn after_stop(alloc: Global, fs: Fs<MemRegion>, keep: Keep) -> Result<Fs<MemRegi
     Ok(mount(alloc, fs.into_region().after_stop(keep))?)
 }
 
-/// Sets the time of the file to 12, where it was 9, in a memory that stops. Whether it was set.
-fn set_and_stop(rt: &impl Abort, alloc: Global, passed: u64, keep: Keep) -> Result<bool, Fail> {
-    let mut fs = stopping(alloc, passed)?;
-    let is_set = fs.set_attr(0, b"/a", 420, 7, 8, 12).is_ok();
+/// Sets the time of the file to 12, where it was 9. Whether it was set.
+fn set_time(fs: &mut Fs<MemRegion>) -> bool {
+    fs.set_attr(0, b"/a", 420, 7, 8, 12).is_ok()
+}
+
+/// The time is 12, or where it was not set it may be 9.
+fn assert_time(rt: &impl Abort, fs: &Fs<MemRegion>, is_set: bool) -> Result<(), Refusal> {
+    let time = fs.stat(b"/a")?.time;
+    assert!(rt; time == 12 || time == 9 && !is_set);
+    Ok(())
+}
+
+/// A stop leaves a file system whose file has the time 12, or where that was not set may have 9.
+fn assert_left(
+    rt: &impl Abort,
+    alloc: Global,
+    fs: Fs<MemRegion>,
+    keep: Keep,
+    is_set: bool,
+) -> Result<(), Fail> {
     let left = after_stop(alloc, fs, keep)?;
     assert_recovered(rt, alloc, &left)?;
-    let time = left.stat(b"/a")?.time;
-    assert!(rt; time == 12 || time == 9 && !is_set);
+    assert_time(rt, &left, is_set)?;
+    Ok(())
+}
+
+/// Sets the time in a memory that stops. Whether it was set.
+fn set_and_stop(rt: &impl Abort, alloc: Global, passed: u64, keep: Keep) -> Result<bool, Fail> {
+    let mut fs = stopping(alloc, passed)?;
+    let is_set = set_time(&mut fs);
+    assert_left(rt, alloc, fs, keep, is_set)?;
     Ok(is_set)
 }
 

@@ -70,13 +70,18 @@ pub fn follow_on(
 }
 
 /// Asks each line of a region that was formatted for so many CPUs.
-pub fn follow(
-    rt: &impl Abort,
-    alloc: Global,
-    blocks: u64,
-    cpus: u64,
-    story: &str,
-) -> Result<(), Fail> {
+fn follow(rt: &impl Abort, alloc: Global, blocks: u64, cpus: u64, story: &str) -> Result<(), Fail> {
     let mut fs = formatted(alloc, blocks, cpus)?;
     follow_on(rt, alloc, &mut fs, story)
+}
+
+/// The blocks and the CPUs of a region, and the lines that are asked of it.
+pub type Story<'a> = (u64, u64, &'a str);
+
+/// Follows each story in a region of its own.
+pub fn follow_each(rt: &impl Abort, alloc: Global, stories: &[Story<'_>]) -> Result<(), Fail> {
+    for &(blocks, cpus, story) in stories {
+        follow(rt, alloc, blocks, cpus, story)?;
+    }
+    Ok(())
 }

@@ -153,25 +153,44 @@ const FIRST_OF_0: [Pair; 2] = [(6, 28), (34, 2)];
 
 const FIRST_OF_1: [Pair; 2] = [(34, 30), (6, 28)];
 
+/// The first take of two pools gives these runs.
+fn assert_first(
+    rt: &impl Abort,
+    alloc: Global,
+    cpu: u64,
+    n: u64,
+    wanted: &[Pair],
+) -> Result<(), Fail>
+    requires { cpu < 2 }
+{
+    let mut free = two_pools(alloc)?;
+    assert_taken(rt, &mut free, cpu, n, wanted)?;
+    Ok(())
+}
+
 #[test]
 fn the_own_pool_is_taken_first_and_then_the_fullest(rt: HostRuntime) -> Result<(), Fail> {
-    let mut free = two_pools(rt.alloc())?;
-    assert_taken(&rt, &mut free, 0, 30, &FIRST_OF_0)?;
-    let mut free = two_pools(rt.alloc())?;
-    assert_taken(&rt, &mut free, 1, 58, &FIRST_OF_1)?;
-    Ok(())
+    assert_first(&rt, rt.alloc(), 0, 30, &FIRST_OF_0)?;
+    assert_first(&rt, rt.alloc(), 1, 58, &FIRST_OF_1)
 }
 
 const ALL: [Pair; 2] = [(6, 28), (34, 30)];
 
+/// Takes all blocks, and asks for more before and after.
+fn take_all(rt: &impl Abort, free: &mut Allocators) -> Result<(), AllocRefusal>
+    requires { free.old.sup.cpus ≡ 2 }
+{
+    assert_no_space(rt, free, 0, 59);
+    assert_taken(rt, free, 0, 58, &ALL)?;
+    assert!(rt; free.free_blocks() == 0);
+    assert_no_space(rt, free, 1, 1);
+    assert_taken(rt, free, 1, 0, &[])
+}
+
 #[test]
 fn more_than_all_is_refused_and_changes_nothing(rt: HostRuntime) -> Result<(), Fail> {
     let mut free = two_pools(rt.alloc())?;
-    assert_no_space(&rt, &mut free, 0, 59);
-    assert_taken(&rt, &mut free, 0, 58, &ALL)?;
-    assert!(rt; free.free_blocks() == 0);
-    assert_no_space(&rt, &mut free, 1, 1);
-    assert_taken(&rt, &mut free, 1, 0, &[])?;
+    take_all(&rt, &mut free)?;
     Ok(())
 }
 
@@ -219,6 +238,25 @@ fn three_pools(alloc: Global) -> Result<Allocators, AllocError>
     Allocators::from_words(alloc, &[0], &THREE_POOLS)
 }
 
+/// The same runs leave these in each pool.
+fn assert_given(
+    rt: &impl Abort,
+    alloc: Global,
+    low: Run,
+    high: Run,
+    middle: Run,
+    wanted: &[&[Pair]],
+) -> Result<(), AllocError>
+    requires from { 5 ≤ low.start }
+    requires below { low.start + low.count ≤ middle.start }
+    requires above { middle.start + middle.count ≤ high.start }
+    requires to { high.start + high.count ≤ 64 }
+{
+    let lists = lists_after(alloc, low, high, middle)?;
+    assert_lists(rt, &lists, wanted);
+    Ok(())
+}
+
 const BOTH_JOINED: [&[Pair]; 2] = [&[(10, 5)], &[]];
 
 const LOW_JOINED: [&[Pair]; 2] = [&[(10, 3), (14, 2)], &[]];
@@ -227,12 +265,10 @@ const HIGH_JOINED: [&[Pair]; 2] = [&[(10, 2), (13, 3)], &[]];
 
 #[test]
 fn a_run_joins_the_two_that_it_touches(rt: HostRuntime) -> Result<(), Fail> {
-    let lists = lists_after(rt.alloc(), run(10, 2), run(13, 2), run(12, 1))?;
-    assert_lists(&rt, &lists, &BOTH_JOINED);
-    let lists = lists_after(rt.alloc(), run(10, 2), run(14, 2), run(12, 1))?;
-    assert_lists(&rt, &lists, &LOW_JOINED);
-    let lists = lists_after(rt.alloc(), run(10, 2), run(14, 2), run(13, 1))?;
-    assert_lists(&rt, &lists, &HIGH_JOINED);
+    let low = run(10, 2);
+    assert_given(&rt, rt.alloc(), low, run(13, 2), run(12, 1), &BOTH_JOINED)?;
+    assert_given(&rt, rt.alloc(), low, run(14, 2), run(12, 1), &LOW_JOINED)?;
+    assert_given(&rt, rt.alloc(), low, run(14, 2), run(13, 1), &HIGH_JOINED)?;
     Ok(())
 }
 
@@ -240,8 +276,8 @@ const OVER_THE_BORDER: [&[Pair]; 2] = [&[(6, 1), (30, 4)], &[(34, 4)]];
 
 #[test]
 fn a_run_over_the_border_of_two_pools_joins_both(rt: HostRuntime) -> Result<(), Fail> {
-    let lists = lists_after(rt.alloc(), run(6, 1), run(40, 0), run(30, 8))?;
-    assert_lists(&rt, &lists, &OVER_THE_BORDER);
+    let (low, high) = (run(6, 1), run(40, 0));
+    assert_given(&rt, rt.alloc(), low, high, run(30, 8), &OVER_THE_BORDER)?;
     Ok(())
 }
 

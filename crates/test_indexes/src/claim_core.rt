@@ -67,16 +67,20 @@ fn assert_worker(rt: &impl Abort, worker: &Worker, wanted: &Wanted) {
     assert!(rt; worker.records() == [wanted.record].as_slice());
 }
 
-fn assert_state(rt: &impl Abort, state: &ClaimState, first: &Wanted, second: &Wanted) {
-    assert!(rt; state.first() == [8u64].as_slice());
-    assert!(rt; state.second() == [8u64].as_slice());
+// Both claimed block 3 of four, and drew four numbers in all.
+fn assert_state(rt: &impl Abort, state: &ClaimState, wanted: &[Wanted]) {
+    assert_sets(rt, state, 8, 8);
     assert!(rt; state.cursor() == 4);
     let workers = state.views();
-    assert!(rt; workers.len() == 2);
-    if workers.len() == 2 {
-        assert_worker(rt, &workers[0], first);
-        assert_worker(rt, &workers[1], second);
+    assert!(rt; workers.len() == wanted.len());
+    for (worker, wanted) in workers.iter().zip(wanted) {
+        assert_worker(rt, worker, wanted);
     }
+}
+
+fn assert_sets(rt: &impl Abort, state: &ClaimState, first: u64, second: u64) {
+    assert!(rt; state.first() == [first].as_slice());
+    assert!(rt; state.second() == [second].as_slice());
 }
 
 const LOSES_AND_MARKS: Wanted = Wanted {
@@ -92,12 +96,14 @@ const WINS: Wanted = Wanted {
 #[test]
 fn the_second_claim_of_a_block_is_lost_and_marked(rt: HostRuntime) -> Result<(), CoreRefusal> {
     let state = run(rt.alloc(), SIZES, &EVENTS)?;
-    assert_state(&rt, &state, &LOSES_AND_MARKS, &WINS);
+    assert_state(&rt, &state, &[LOSES_AND_MARKS, WINS]);
     Ok(())
 }
 
-fn refusal_of(alloc: Global, events: &[Event]) -> Option<CoreRefusal> {
-    run(alloc, SIZES, events).err()
+// The event at this place is the first that is refused.
+fn assert_refused(rt: &impl Abort, alloc: Global, events: &[Event], place: usize) {
+    let refusal = run(alloc, SIZES, events).err();
+    assert!(rt; refusal == Some(CoreRefusal::NotAllowed { place }));
 }
 
 // The winner marks the block.
@@ -130,18 +136,15 @@ const PAST_THE_BLOCKS: [Event; 1] = [Event::Claim {
 
 #[test]
 fn the_first_event_that_is_not_allowed_is_refused(rt: HostRuntime) {
-    let refusal = refusal_of(rt.alloc(), &MARKED_BY_THE_WINNER);
-    assert!(rt; refusal == Some(CoreRefusal::NotAllowed { place: 4 }));
-    let refusal = refusal_of(rt.alloc(), &PAST_THE_BLOCKS);
-    assert!(rt; refusal == Some(CoreRefusal::NotAllowed { place: 0 }));
+    assert_refused(&rt, rt.alloc(), &MARKED_BY_THE_WINNER, 4);
+    assert_refused(&rt, rt.alloc(), &PAST_THE_BLOCKS, 0);
 }
 
 #[test]
 fn a_draw_more_is_refused(rt: HostRuntime) -> Result<(), AllocError> {
     let mut one_draw_more = Vec::from_array(rt.alloc(), EVENTS)?;
     one_draw_more.push(Event::Draw { worker: 0 })?;
-    let refusal = refusal_of(rt.alloc(), &one_draw_more);
-    assert!(rt; refusal == Some(CoreRefusal::NotAllowed { place: 7 }));
+    assert_refused(&rt, rt.alloc(), &one_draw_more, 7);
     Ok(())
 }
 
@@ -169,7 +172,7 @@ const DRAWS_0_AND_LOSES: Wanted = Wanted {
 fn a_schedule_says_which_worker_wins(rt: HostRuntime) -> Result<(), CoreRefusal> {
     let work = work(rt.alloc())?;
     let state = replay(rt.alloc(), &[1, 0, 0], 4, 2, &work)?;
-    assert_state(&rt, &state, &DRAWS_1_AND_WINS, &DRAWS_0_AND_LOSES);
+    assert_state(&rt, &state, &[DRAWS_1_AND_WINS, DRAWS_0_AND_LOSES]);
     Ok(())
 }
 
@@ -211,11 +214,35 @@ fn claim_of_file(
     state.claim_span(worker, run, Owner::Data { inode, page: 0 })
 }
 
+// A claim gives this mask of its lost blocks, or is refused.
+fn assert_claimed(
+    rt: &impl Abort,
+    state: &mut ClaimState,
+    worker: u32,
+    run: Run,
+    inode: u64,
+    answer: Result<u64, CoreRefusal>,
+)
+    requires { run.start + run.count ≤ 64 }
+{
+    assert!(rt; claim_of_file(state, worker, run, inode) == answer);
+}
+
 fn mark_in_word(state: &mut ClaimState, worker: u32, mask: u64) -> Result<(), CoreRefusal> {
     if state.second().len() != 1 {
         return Err(CoreRefusal::Memory);
     }
     state.mark_span(worker, 0, mask)
+}
+
+fn assert_marked(
+    rt: &impl Abort,
+    state: &mut ClaimState,
+    worker: u32,
+    mask: u64,
+    answer: Result<(), CoreRefusal>,
+) {
+    assert!(rt; mark_in_word(state, worker, mask) == answer);
 }
 
 const LAST_FOUR: Run = Run {
@@ -233,16 +260,9 @@ const LAST_BIT: u64 = 9223372036854775808;
 // Worker 0 claims blocks 60 to 63 for a file, and then worker 1 block 63 for another.
 fn both_claims(rt: &impl Abort, alloc: Global) -> Result<ClaimState, CoreRefusal> {
     let mut state = run(alloc, ONE_WORD, &[])?;
-    let lost = claim_of_file(&mut state, 0, LAST_FOUR, 2)?;
-    assert!(rt; lost == 0);
-    let lost = claim_of_file(&mut state, 1, LAST, 4)?;
-    assert!(rt; lost == LAST_BIT);
+    assert_claimed(rt, &mut state, 0, LAST_FOUR, 2, Ok(0));
+    assert_claimed(rt, &mut state, 1, LAST, 4, Ok(LAST_BIT));
     Ok(state)
-}
-
-fn assert_sets(rt: &impl Abort, state: &ClaimState, first: u64, second: u64) {
-    assert!(rt; state.first() == [first].as_slice());
-    assert!(rt; state.second() == [second].as_slice());
 }
 
 // The bits 60 to 63.
@@ -252,7 +272,7 @@ const LAST_FOUR_BITS: u64 = 17293822569102704640;
 fn a_span_gives_the_mask_of_its_lost_claims(rt: HostRuntime) -> Result<(), CoreRefusal> {
     let mut state = both_claims(&rt, rt.alloc())?;
     assert_sets(&rt, &state, LAST_FOUR_BITS, 0);
-    mark_in_word(&mut state, 1, LAST_BIT)?;
+    assert_marked(&rt, &mut state, 1, LAST_BIT, Ok(()));
     assert_sets(&rt, &state, LAST_FOUR_BITS, LAST_BIT);
     Ok(())
 }
@@ -262,35 +282,33 @@ const NOT_ALLOWED: CoreRefusal = CoreRefusal::NotAllowed { place: 0 };
 #[test]
 fn a_refused_span_changes_nothing(rt: HostRuntime) -> Result<(), CoreRefusal> {
     let mut state = both_claims(&rt, rt.alloc())?;
-    let refusal = claim_of_file(&mut state, 2, LAST, 4).err();
-    assert!(rt; refusal == Some(NOT_ALLOWED));
-    let refusal = mark_in_word(&mut state, 0, LAST_BIT).err();
-    assert!(rt; refusal == Some(NOT_ALLOWED));
+    assert_claimed(&rt, &mut state, 2, LAST, 4, Err(NOT_ALLOWED));
+    assert_marked(&rt, &mut state, 0, LAST_BIT, Err(NOT_ALLOWED));
     assert_sets(&rt, &state, LAST_FOUR_BITS, 0);
-    mark_in_word(&mut state, 1, LAST_BIT)?;
+    assert_marked(&rt, &mut state, 1, LAST_BIT, Ok(()));
     // The one lost claim of block 63 is marked, so a second mark is not allowed.
-    let refusal = mark_in_word(&mut state, 1, LAST_BIT).err();
-    assert!(rt; refusal == Some(NOT_ALLOWED));
+    assert_marked(&rt, &mut state, 1, LAST_BIT, Err(NOT_ALLOWED));
     assert_sets(&rt, &state, LAST_FOUR_BITS, LAST_BIT);
     Ok(())
 }
 
+const NEXT_TO_LAST: Run = Run {
+    start: 62,
+    count: 1,
+};
+
+const NEXT_TO_LAST_BIT: u64 = 4611686018427387904;
+
+const LAST_TWO_BITS: u64 = 13835058055282163712;
+
 #[test]
 fn a_mark_is_refused_at_its_place_in_the_mask(rt: HostRuntime) -> Result<(), CoreRefusal> {
     let mut state = run(rt.alloc(), ONE_WORD, &[])?;
-    claim_of_file(&mut state, 0, LAST_FOUR, 2)?;
+    assert_claimed(&rt, &mut state, 0, LAST_FOUR, 2, Ok(0));
     // Worker 1 loses block 62, and not block 63, which it does not claim.
-    claim_of_file(
-        &mut state,
-        1,
-        Run {
-            start: 62,
-            count: 1,
-        },
-        4,
-    )?;
-    let refusal = mark_in_word(&mut state, 1, 13835058055282163712).err();
-    assert!(rt; refusal == Some(CoreRefusal::NotAllowed { place: 1 }));
+    assert_claimed(&rt, &mut state, 1, NEXT_TO_LAST, 4, Ok(NEXT_TO_LAST_BIT));
+    let refusal = CoreRefusal::NotAllowed { place: 1 };
+    assert_marked(&rt, &mut state, 1, LAST_TWO_BITS, Err(refusal));
     assert_sets(&rt, &state, LAST_FOUR_BITS, 0);
     Ok(())
 }

@@ -3,7 +3,7 @@
 ghost use Rattle.std.specs.Prelude.{◌+◌, ◌^◌, ◌<◌, ◌≤◌};
 ghost use Rattle.nv_radix.specs.Pages.{AreFilePages};
 
-use nv_radix::{FileIndex, MAX_FILE_PAGES};
+use nv_radix::{Extent, FileIndex, MAX_FILE_PAGES};
 use std::alloc::{AllocError, Global};
 use std::process::Abort;
 use std::test::Fail;
@@ -84,62 +84,69 @@ fn stepped(alloc: Global, steps: &str) -> Result<FileIndex, Fail> {
     Ok(index)
 }
 
+fn assert_listed(rt: &impl Abort, extents: &[Extent], numbers: &[u64], wanted: &str) {
+    assert!(rt; extents.len() == numbers.len() / 3, "the extents {wanted}");
+    for (extent, numbers) in extents.iter().zip(numbers.chunks_exact(3)) {
+        assert!(rt;
+            numbers == [extent.page, extent.count, extent.block].as_slice(),
+            "the extents {wanted}"
+        );
+    }
+}
+
 pub fn assert_extents(
     rt: &impl Abort,
     alloc: Global,
     index: &FileIndex,
     wanted: &str,
 ) -> Result<(), Fail> {
-    let numbers = numbers(alloc, wanted)?;
     let extents = index.runs()?;
-    assert!(rt; extents.len() == numbers.len() / 3, "the extents {wanted}");
-    for (extent, wanted) in extents.iter().zip(numbers.chunks_exact(3)) {
-        assert!(rt; wanted == [extent.page, extent.count, extent.block].as_slice());
-    }
+    assert_listed(rt, &extents, &numbers(alloc, wanted)?, wanted);
     Ok(())
 }
 
-fn assert_mapped(
-    rt: &impl Abort,
-    alloc: Global,
-    index: &FileIndex,
-    mapped: &str,
-    unmapped: &str,
-) -> Result<(), Fail> {
-    for place in numbers(alloc, mapped)?.chunks_exact(2) {
+fn assert_blocks(rt: &impl Abort, index: &FileIndex, places: &[u64], mapped: &str) {
+    for place in places.chunks_exact(2) {
         if let [page, block] = *place {
             assert!(rt; index.get(page) == Some(block), "the blocks {mapped}");
         }
     }
-    for page in numbers(alloc, unmapped)?.iter() {
-        assert!(rt; index.get(*page) == None, "no block at {unmapped}");
-    }
-    Ok(())
 }
 
-fn assert_ready(
+fn assert_unmapped(rt: &impl Abort, index: &FileIndex, pages: &[u64], unmapped: &str) {
+    for page in pages {
+        assert!(rt; index.get(*page) == None, "no block at {unmapped}");
+    }
+}
+
+fn assert_ready(rt: &impl Abort, index: &FileIndex, pages: &[u64], is_ready: bool) {
+    for page in pages {
+        assert!(rt; index.ready(*page) == is_ready, "page {page}");
+    }
+}
+
+/// The index is what the fields of a row say.
+fn assert_left(
     rt: &impl Abort,
     alloc: Global,
     index: &FileIndex,
-    pages: &str,
-    is_ready: bool,
+    fields: &[&str],
 ) -> Result<(), Fail> {
-    for page in numbers(alloc, pages)?.iter() {
-        assert!(rt; index.ready(*page) == is_ready, "ready {pages}");
-    }
+    let [_, _, extents, mapped, unmapped, ready, unready] = *fields else {
+        return Err("a row has seven fields".into());
+    };
+    assert_extents(rt, alloc, index, extents)?;
+    assert_blocks(rt, index, &numbers(alloc, mapped)?, mapped);
+    assert_unmapped(rt, index, &numbers(alloc, unmapped)?, unmapped);
+    assert_ready(rt, index, &numbers(alloc, ready)?, true);
+    assert_ready(rt, index, &numbers(alloc, unready)?, false);
     Ok(())
 }
 
 fn assert_row(rt: &impl Abort, alloc: Global, row: &str) -> Result<(), Fail> {
     let fields: Vec<&str> = row.split('|').collect(alloc)?;
-    let [_, steps, extents, mapped, unmapped, ready, unready] = *fields.as_slice() else {
-        return Err("a row has seven fields".into());
-    };
-    let index = stepped(alloc, steps)?;
-    assert_extents(rt, alloc, &index, extents)?;
-    assert_mapped(rt, alloc, &index, mapped, unmapped)?;
-    assert_ready(rt, alloc, &index, ready, true)?;
-    assert_ready(rt, alloc, &index, unready, false)
+    let index = stepped(alloc, fields.get(1).copied().unwrap_or(""))?;
+    assert_left(rt, alloc, &index, &fields)
 }
 
 #[test]

@@ -115,17 +115,39 @@ fn a_refused_growth_leaves_the_names(rt: HostRuntime) -> Result<(), AllocError> 
     Ok(())
 }
 
+/// Removes the last name twice, and then all others.
+fn assert_all_go(rt: &impl Abort, index: &mut NameIndex, names: &[Vec<u8>]) {
+    if let Some((last, others)) = names.split_last() {
+        index.remove(last);
+        index.remove(last);
+        assert_named(rt, index, others);
+    }
+    remove_all(index, names);
+    assert!(rt; index.is_empty());
+}
+
 #[test]
 fn names_are_removed_once_and_again(rt: HostRuntime) -> Result<(), AllocError> {
-    let mut names = edge_names(rt.alloc())?;
+    let names = edge_names(rt.alloc())?;
     let mut index = inserted(rt.alloc(), &names)?;
-    if let Some(last) = names.pop() {
-        index.remove(&last);
-        index.remove(&last);
+    assert_all_go(&rt, &mut index, &names);
+    Ok(())
+}
+
+/// The first name goes alone, and comes again.
+fn assert_told_apart(
+    rt: &impl Abort,
+    index: &mut NameIndex,
+    names: &[Vec<u8>],
+) -> Result<(), AllocError> {
+    assert_named(rt, index, names);
+    if let Some((first, others)) = names.split_first() {
+        index.remove(first);
+        assert!(rt; index.get(first).is_none());
+        assert!(rt; index.len() == others.len());
     }
-    assert_named(&rt, &index, &names);
-    remove_all(&mut index, &names);
-    assert!(rt; index.is_empty());
+    insert_all(index, names)?;
+    assert_named(rt, index, names);
     Ok(())
 }
 
@@ -133,14 +155,7 @@ fn names_are_removed_once_and_again(rt: HostRuntime) -> Result<(), AllocError> {
 fn names_of_one_key_are_told_apart(rt: HostRuntime) -> Result<(), AllocError> {
     let names = names_of_one_key(rt.alloc())?;
     let mut index = inserted(rt.alloc(), &names)?;
-    assert_named(&rt, &index, &names);
-    if let Some(first) = names.first() {
-        index.remove(first);
-        assert!(rt; index.get(first).is_none());
-    }
-    insert_all(&mut index, &names)?;
-    assert_named(&rt, &index, &names);
-    remove_all(&mut index, &names);
-    assert!(rt; index.is_empty());
+    assert_told_apart(&rt, &mut index, &names)?;
+    assert_all_go(&rt, &mut index, &names);
     Ok(())
 }

@@ -41,13 +41,48 @@ fn filled(alloc: Global, numbers: &[u64]) -> Result<Numbered<u64>, AllocError> {
     Ok(values)
 }
 
-/// These numbers have these values, or none.
-fn assert_values(rt: &impl Abort, values: &Numbered<u64>, wanted: &[(u64, Option<u64>)]) {
+/// So many numbers have a value, and these have these values, or none.
+fn assert_values(
+    rt: &impl Abort,
+    values: &Numbered<u64>,
+    count: usize,
+    wanted: &[(u64, Option<u64>)],
+) {
+    assert!(rt; values.len() == count);
+    assert!(rt; values.is_empty() == (count == 0));
     for (number, value) in wanted {
         assert!(rt;
             values.get(*number).copied() == *value,
             "at number {number}"
         );
+    }
+}
+
+/// These numbers alone are listed, in this order and with these values.
+fn assert_listed(rt: &impl Abort, values: &Numbered<u64>, wanted: &[(u64, u64)]) {
+    let mut listed = values.iter();
+    for (number, value) in wanted {
+        assert!(rt;
+            listed.next() == Some((*number, value)),
+            "at number {number}"
+        );
+    }
+    assert!(rt; listed.next().is_none());
+}
+
+/// A number's value is removed, if it has one.
+fn assert_removed(rt: &impl Abort, values: &mut Numbered<u64>, number: u64, value: Option<u64>) {
+    assert!(rt; values.remove(number) == value, "at number {number}");
+}
+
+/// A number's value is set to 1, if it has one.
+fn assert_written(rt: &impl Abort, values: &mut Numbered<u64>, number: u64, has_value: bool) {
+    match values.get_mut(number) {
+        Some(value) => {
+            *value = 1;
+            assert!(rt; has_value, "at number {number}");
+        }
+        None => assert!(rt; !has_value, "at number {number}"),
     }
 }
 
@@ -58,111 +93,89 @@ fn given(alloc: Global) -> Result<Numbered<u64>, AllocError> {
     Numbered::from_values(alloc, values, numbers, 8)
 }
 
+const GIVEN: [(u64, Option<u64>); 5] = [
+    (0, None),
+    (1, Some(10)),
+    (5, Some(50)),
+    (7, None),
+    (8, None),
+];
+
 #[test]
 fn given_values_stand_under_their_numbers(rt: HostRuntime) -> Result<(), AllocError> {
     let mut values = given(rt.alloc())?;
-    assert!(rt; values.len() == 2);
-    assert_values(
-        &rt,
-        &values,
-        &[
-            (0, None),
-            (1, Some(10)),
-            (5, Some(50)),
-            (7, None),
-            (8, None),
-        ],
-    );
-    assert!(rt; values.remove(5) == Some(50));
-    assert_values(&rt, &values, &[(1, Some(10)), (5, None)]);
+    assert_values(&rt, &values, 2, &GIVEN);
+    assert_removed(&rt, &mut values, 5, Some(50));
+    assert_values(&rt, &values, 1, &[(1, Some(10)), (5, None)]);
     Ok(())
 }
+
+const NO_VALUES: [(u64, Option<u64>); 4] = [(0, None), (7, None), (8, None), (u64::MAX, None)];
 
 #[test]
 fn a_new_table_has_no_value(rt: HostRuntime) -> Result<(), AllocError> {
-    let values = Numbered::<u64>::new(rt.alloc(), 8)?;
-    assert!(rt; values.is_empty());
-    assert!(rt; values.len() == 0);
-    assert_values(
-        &rt,
-        &values,
-        &[(0, None), (7, None), (8, None), (u64::MAX, None)],
-    );
+    for &limit in [8, 0].iter() {
+        let mut values = Numbered::<u64>::new(rt.alloc(), limit)?;
+        assert_values(&rt, &values, 0, &NO_VALUES);
+        assert_listed(&rt, &values, &[]);
+        assert_written(&rt, &mut values, 0, false);
+        assert_removed(&rt, &mut values, 0, None);
+    }
     Ok(())
 }
 
-#[test]
-fn a_table_of_no_numbers_has_no_value(rt: HostRuntime) -> Result<(), AllocError> {
-    let mut values = Numbered::<u64>::new(rt.alloc(), 0)?;
-    assert!(rt; values.get(0).is_none());
-    assert!(rt; values.get_mut(0).is_none());
-    assert!(rt; values.remove(0).is_none());
-    assert!(rt; values.iter().next().is_none());
-    Ok(())
-}
+const INSERTED: [(u64, Option<u64>); 4] = [(2, None), (3, Some(30)), (7, Some(70)), (8, None)];
 
 #[test]
 fn a_value_is_inserted_found_and_removed(rt: HostRuntime) -> Result<(), AllocError> {
     let mut values = Numbered::<u64>::new(rt.alloc(), 8)?;
     insert_new(&mut values, 3, 30)?;
     insert_new(&mut values, 7, 70)?;
-    assert!(rt; values.len() == 2);
-    assert!(rt; !values.is_empty());
-    assert_values(
-        &rt,
-        &values,
-        &[(2, None), (3, Some(30)), (7, Some(70)), (8, None)],
-    );
-    assert!(rt; values.remove(3) == Some(30));
-    assert!(rt; values.remove(3) == None);
-    assert_values(&rt, &values, &[(3, None), (7, Some(70))]);
-    assert!(rt; values.len() == 1);
+    assert_values(&rt, &values, 2, &INSERTED);
+    assert_removed(&rt, &mut values, 3, Some(30));
+    assert_removed(&rt, &mut values, 3, None);
+    assert_values(&rt, &values, 1, &[(3, None), (7, Some(70))]);
     Ok(())
 }
 
-/// Writes where a number has a value, and finds none where it has none.
-fn write_one(rt: &impl Abort, values: &mut Numbered<u64>) {
-    if let Some(value) = values.get_mut(0) {
-        *value = 1;
-    }
-    assert!(rt; values.get_mut(1).is_none());
-    assert!(rt; values.get_mut(8).is_none());
-}
+const WRITTEN: [(u64, Option<u64>); 4] = [(0, Some(1)), (1, None), (5, Some(50)), (7, Some(70))];
 
 #[test]
 fn a_write_changes_one_value(rt: HostRuntime) -> Result<(), AllocError> {
     let mut values = filled(rt.alloc(), &[5, 0, 7])?;
-    write_one(&rt, &mut values);
-    assert_values(
-        &rt,
-        &values,
-        &[(0, Some(1)), (1, None), (5, Some(50)), (7, Some(70))],
-    );
+    assert_written(&rt, &mut values, 0, true);
+    assert_written(&rt, &mut values, 1, false);
+    assert_written(&rt, &mut values, 8, false);
+    assert_values(&rt, &values, 3, &WRITTEN);
     Ok(())
 }
 
 #[test]
 fn a_listing_rises_by_number(rt: HostRuntime) -> Result<(), AllocError> {
     let mut values = filled(rt.alloc(), &[5, 1, 7, 0, 6])?;
-    assert!(rt; values.remove(5) == Some(50));
-    let listed: Vec<u64> = values.iter().map(|entry| entry.0).collect(rt.alloc())?;
-    assert!(rt; listed.as_slice() == [0, 1, 6, 7].as_slice());
-    let listed: Vec<u64> = values.iter().map(|entry| *entry.1).collect(rt.alloc())?;
-    assert!(rt; listed.as_slice() == [0, 10, 60, 70].as_slice());
+    assert_removed(&rt, &mut values, 5, Some(50));
+    assert_listed(&rt, &values, &[(0, 0), (1, 10), (6, 60), (7, 70)]);
     Ok(())
 }
+
+/// The numbers that are removed from eight, with their values, and how many are left then.
+const REMOVED: [(u64, u64, usize); 7] = [
+    (7, 70, 7),
+    (0, 0, 6),
+    (3, 30, 5),
+    (4, 40, 4),
+    (1, 10, 3),
+    (6, 60, 2),
+    (2, 20, 1),
+];
 
 #[test]
 fn values_are_removed_in_any_order(rt: HostRuntime) -> Result<(), AllocError> {
     let mut values = filled(rt.alloc(), &[0, 1, 2, 3, 4, 5, 6, 7])?;
-    for &number in [7, 0, 3, 4, 1, 6, 2].iter() {
-        assert!(rt;
-            values.remove(number) == Some(number.wrapping_mul(10)),
-            "at number {number}"
-        );
-        assert_values(&rt, &values, &[(number, None), (5, Some(50))]);
+    for (number, value, left) in REMOVED.iter() {
+        assert_removed(&rt, &mut values, *number, Some(*value));
+        assert_values(&rt, &values, *left, &[(*number, None), (5, Some(50))]);
     }
-    assert!(rt; values.len() == 1);
     Ok(())
 }
 
@@ -170,8 +183,7 @@ fn values_are_removed_in_any_order(rt: HostRuntime) -> Result<(), AllocError> {
 fn a_refused_growth_leaves_the_values(rt: HostRuntime) -> Result<(), AllocError> {
     let mut values = filled(rt.alloc(), &[1, 4])?;
     assert!(rt; values.reserve(usize::MAX) == Err(AllocError));
-    assert!(rt; values.len() == 2);
-    assert_values(&rt, &values, &[(1, Some(10)), (4, Some(40))]);
+    assert_values(&rt, &values, 2, &[(1, Some(10)), (4, Some(40))]);
     Ok(())
 }
 

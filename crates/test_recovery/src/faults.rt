@@ -6,6 +6,7 @@ use nv_check::{cross_faults, cross_faults_one, doubled};
 use nv_names::NameIndex;
 use nv_super::{Fault, Kind, Owner};
 use std::alloc::Global;
+use std::process::Abort;
 use std::test::Fail;
 
 /// One name, of this inode and at this place.
@@ -24,6 +25,20 @@ fn root_names(alloc: Global) -> Result<NameIndex, Fail> {
     Ok(names)
 }
 
+const FOUND: [Fault; 4] = [
+    Fault::C1 {
+        directory: 1,
+        at: 12352,
+    },
+    Fault::C3 { inode: 2 },
+    Fault::C4 { inode: 3 },
+    Fault::C4 { inode: 4 },
+];
+
+fn assert_faults(rt: &impl Abort, faults: &[Fault]) {
+    assert!(rt; faults == FOUND.as_slice());
+}
+
 /// Inode 2 is a file of two links. Inodes 3 and 4 name each other. The rows come in no order.
 #[test]
 fn faults_between_four_rows(rt: HostRuntime) -> Result<(), Fail> {
@@ -37,19 +52,10 @@ fn faults_between_four_rows(rt: HostRuntime) -> Result<(), Fail> {
         row(alloc, 4, Kind::Directory, 1, names_of_4),
         row(alloc, 2, Kind::File, 2, NameIndex::new(alloc)),
     ];
-    let found = [
-        Fault::C1 {
-            directory: 1,
-            at: 12352,
-        },
-        Fault::C3 { inode: 2 },
-        Fault::C4 { inode: 3 },
-        Fault::C4 { inode: 4 },
-    ];
     let one = cross_faults_one(alloc, &SMALL, &rows)?;
-    assert!(rt; one.as_slice() == &found[..]);
+    assert_faults(&rt, &one);
     let threads = cross_faults(&rt, alloc, &SMALL, &rows)?;
-    assert!(rt; threads.as_slice() == &found[..]);
+    assert_faults(&rt, &threads);
     Ok(())
 }
 

@@ -6,7 +6,11 @@ use nv_recover::{RecoverError, recover};
 use nv_region::{MemRegion, Pmem, RegionRefusal};
 use nv_scan::{Gate, NoGate};
 use nv_super::MAGIC;
+use std::alloc::Global;
+use std::process::Abort;
 use std::sync::atomic::{AtomicBool, Ordering};
+use std::test::Fail;
+use std::thread::Threads;
 
 /// The most turns that a party waits for the other.
 const TURNS: u64 = 10_000_000;
@@ -112,46 +116,39 @@ fn region_of_two(rt: HostRuntime) -> Result<MemRegion, RegionRefusal> {
     Ok(memory)
 }
 
-#[derive(Debug, Drop)]
-enum Failure {
-    Region(RegionRefusal),
-    Recover(RecoverError),
-}
-
-impl From<RegionRefusal> for Failure {
-    fn from(refusal: RegionRefusal) -> Self {
-        Failure::Region(refusal)
-    }
-}
-
-impl From<RecoverError> for Failure {
-    fn from(error: RecoverError) -> Self {
-        Failure::Recover(error)
-    }
+/// Two workers find one inode and nothing wrong.
+fn recover_root_alone<P: Pmem + Sync, G: Gate + Sync, R: Threads + Abort + Sync>(
+    rt: &R,
+    alloc: Global,
+    memory: &mut P,
+    gate: &G,
+) -> Result<(), RecoverError> {
+    let recovered = recover(rt, alloc, memory, 2, gate)?;
+    assert!(rt; recovered.rows.len() == 1);
+    assert!(rt; recovered.faults.len() == 0);
+    Ok(())
 }
 
 #[test]
-fn two_tickets_at_once(rt: HostRuntime) -> Result<(), Failure> {
+fn two_tickets_at_once(rt: HostRuntime) -> Result<(), Fail> {
     let mut memory = region_of_two(rt)?;
     let gate = MeetingGate {
         meeting: Meeting::new(),
     };
-    let recovered = recover(&rt, rt.alloc(), &mut memory, 2, &gate)?;
-    assert!(rt; recovered.rows.len() == 1);
+    recover_root_alone(&rt, rt.alloc(), &mut memory, &gate)?;
     assert!(rt; gate.meeting.both_met());
     Ok(())
 }
 
 #[test]
-fn two_inodes_are_read_at_once(rt: HostRuntime) -> Result<(), Failure> {
+fn two_inodes_are_read_at_once(rt: HostRuntime) -> Result<(), Fail> {
     let mut memory = WatchedRegion {
         memory: region_of_two(rt)?,
         watch: MeetingLoads {
             meeting: Meeting::new(),
         },
     };
-    let recovered = recover(&rt, rt.alloc(), &mut memory, 2, &NoGate)?;
-    assert!(rt; recovered.faults.len() == 0);
+    recover_root_alone(&rt, rt.alloc(), &mut memory, &NoGate)?;
     assert!(rt; memory.watch.meeting.both_met());
     Ok(())
 }

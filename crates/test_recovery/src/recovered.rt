@@ -72,36 +72,51 @@ fn assert_root_alone(rt: &impl Abort, answer: &Recovered) -> Result<(), Fail> {
     Ok(())
 }
 
-#[test]
-fn the_root_alone_on_one_thread(rt: HostRuntime) -> Result<(), Fail> {
-    let mut memory = small_region(rt.alloc(), &ROOT)?;
-    let answer = recover_one(rt.alloc(), &mut memory)?;
-    assert_root_alone(&rt, &answer)
+/// The ways to recover a region.
+#[derive(Clone, Copy)]
+enum Way<'a> {
+    OneThread,
+    Workers(u64),
+    Schedule(u64, &'a [u32]),
 }
 
-fn root_by_workers<R: Threads + Abort + Sync>(
+fn recover_by<R: Threads + Sync>(
     rt: &R,
     alloc: Global,
-    workers: u64,
+    memory: &mut MemRegion,
+    way: &Way<'_>,
+) -> Result<Recovered, RecoverError> {
+    match way {
+        Way::OneThread => recover_one(alloc, memory),
+        Way::Workers(workers) => recover(rt, alloc, memory, *workers, &NoGate),
+        Way::Schedule(workers, schedule) => recover_replay(alloc, memory, *workers, schedule),
+    }
+}
+
+fn finds_root_alone<R: Threads + Abort + Sync>(
+    rt: &R,
+    alloc: Global,
+    way: &Way<'_>,
 ) -> Result<(), Fail> {
     let mut memory = small_region(alloc, &ROOT)?;
-    let answer = recover(rt, alloc, &mut memory, workers, &NoGate)?;
+    let answer = recover_by(rt, alloc, &mut memory, way)?;
     assert_root_alone(rt, &answer)
 }
 
-#[test]
-fn the_root_alone_by_workers(rt: HostRuntime) -> Result<(), Fail> {
-    for &workers in [1, 2, 8].iter() {
-        root_by_workers(&rt, rt.alloc(), workers)?;
-    }
-    Ok(())
-}
+const OF_ROOT_ALONE: [Way<'static>; 5] = [
+    Way::OneThread,
+    Way::Workers(1),
+    Way::Workers(2),
+    Way::Workers(8),
+    Way::Schedule(2, &[1, 0, 1, 1, 0]),
+];
 
 #[test]
-fn the_root_alone_by_a_schedule(rt: HostRuntime) -> Result<(), Fail> {
-    let mut memory = small_region(rt.alloc(), &ROOT)?;
-    let answer = recover_replay(rt.alloc(), &mut memory, 2, &[1, 0, 1, 1, 0])?;
-    assert_root_alone(&rt, &answer)
+fn the_root_alone_is_found_alike_by_all(rt: HostRuntime) -> Result<(), Fail> {
+    for way in OF_ROOT_ALONE.iter() {
+        finds_root_alone(&rt, rt.alloc(), way)?;
+    }
+    Ok(())
 }
 
 /// The log of both.
@@ -130,79 +145,56 @@ fn assert_shared_log(rt: &impl Abort, answer: &Recovered) {
     assert!(rt; answer.faults.as_slice() == ITS_FAULTS.as_slice());
 }
 
-fn shared_log_on_one_thread(
-    rt: &impl Abort,
-    alloc: Global,
-    memory: &mut MemRegion,
-) -> Result<(), Fail> {
-    let answer = recover_one(alloc, memory)?;
-    assert_shared_log(rt, &answer);
-    Ok(())
-}
-
-fn shared_log_by_workers<R: Threads + Abort + Sync>(
+fn finds_shared_log<R: Threads + Abort + Sync>(
     rt: &R,
     alloc: Global,
-    memory: &mut MemRegion,
+    way: &Way<'_>,
 ) -> Result<(), Fail> {
-    let answer = recover(rt, alloc, memory, 8, &NoGate)?;
+    let mut memory = small_region(alloc, &SHARED_LOG)?;
+    let answer = recover_by(rt, alloc, &mut memory, way)?;
     assert_shared_log(rt, &answer);
     Ok(())
 }
 
-fn shared_log_by_a_schedule(
-    rt: &impl Abort,
-    alloc: Global,
-    memory: &mut MemRegion,
-) -> Result<(), Fail> {
-    let answer = recover_replay(alloc, memory, 3, &[2, 2, 1])?;
-    assert_shared_log(rt, &answer);
-    Ok(())
-}
+const OF_SHARED_LOG: [Way<'static>; 3] = [
+    Way::OneThread,
+    Way::Workers(8),
+    Way::Schedule(3, &[2, 2, 1]),
+];
 
 #[test]
 fn a_log_that_two_inodes_own_is_told_alike_by_all(rt: HostRuntime) -> Result<(), Fail> {
-    let mut memory = small_region(rt.alloc(), &SHARED_LOG)?;
-    shared_log_on_one_thread(&rt, rt.alloc(), &mut memory)?;
-    shared_log_by_workers(&rt, rt.alloc(), &mut memory)?;
-    shared_log_by_a_schedule(&rt, rt.alloc(), &mut memory)
+    for way in OF_SHARED_LOG.iter() {
+        finds_shared_log(&rt, rt.alloc(), way)?;
+    }
+    Ok(())
 }
 
-fn refusal_by_workers<R: Threads + Sync>(
+/// Ways to recover a region of zeros, and why each is refused.
+const REFUSED: [(Way<'static>, RecoverError); 5] = [
+    (Way::Workers(0), RecoverError::Workers),
+    (Way::Workers(65), RecoverError::Workers),
+    (Way::Schedule(65, &[70]), RecoverError::Workers),
+    (Way::Schedule(2, &[1, 0, 2, 3]), RecoverError::Schedule(2)),
+    (Way::OneThread, RecoverError::Super(SuperFault::Magic)),
+];
+
+fn is_refused<R: Threads + Abort + Sync>(
     rt: &R,
     alloc: Global,
-    memory: &mut MemRegion,
-    workers: u64,
-) -> Option<RecoverError> {
-    recover(rt, alloc, memory, workers, &NoGate).err()
-}
-
-fn refusal_by_a_schedule(
-    alloc: Global,
-    memory: &mut MemRegion,
-    workers: u64,
-    schedule: &[u32],
-) -> Option<RecoverError> {
-    recover_replay(alloc, memory, workers, schedule).err()
-}
-
-fn refusal_on_one_thread(alloc: Global, memory: &mut MemRegion) -> Option<RecoverError> {
-    recover_one(alloc, memory).err()
+    way: &Way<'_>,
+    refusal: RecoverError,
+) -> Result<(), Fail> {
+    let mut zeros = MemRegion::new(alloc, 16)?;
+    let answer = recover_by(rt, alloc, &mut zeros, way).err();
+    assert!(rt; answer == Some(refusal));
+    Ok(())
 }
 
 #[test]
 fn refusals_in_their_order(rt: HostRuntime) -> Result<(), Fail> {
-    let alloc: Global = rt.alloc();
-    let mut zeros = MemRegion::new(alloc, 16)?;
-    for &workers in [0, 65].iter() {
-        let refusal = refusal_by_workers(&rt, alloc, &mut zeros, workers);
-        assert!(rt; refusal == Some(RecoverError::Workers));
+    for (way, refusal) in REFUSED.iter() {
+        is_refused(&rt, rt.alloc(), way, *refusal)?;
     }
-    let refusal = refusal_by_a_schedule(alloc, &mut zeros, 65, &[70]);
-    assert!(rt; refusal == Some(RecoverError::Workers));
-    let refusal = refusal_by_a_schedule(alloc, &mut zeros, 2, &[1, 0, 2, 3]);
-    assert!(rt; refusal == Some(RecoverError::Schedule(2)));
-    let refusal = refusal_on_one_thread(alloc, &mut zeros);
-    assert!(rt; refusal == Some(RecoverError::Super(SuperFault::Magic)));
     Ok(())
 }

@@ -62,39 +62,67 @@ fn insert_new(alloc: Global, rows: &mut Rows, inode: u64) -> Result<(), AllocErr
     Ok(())
 }
 
+/// Takes out the row of an inode, and answers the inode that it tells.
+fn take_out(rows: &mut Rows, inode: u64) -> Option<u64>
+    ensures { rows.new.sup ≡ rows.old.sup }
+{
+    let row = rows.remove(inode)?;
+    Some(row.inode)
+}
+
 /// Takes out the row of an inode, which has one.
 fn remove_once(rt: &impl Abort, rows: &mut Rows, inode: u64)
     ensures { rows.new.sup ≡ rows.old.sup }
 {
-    let gone = rows.remove(inode).map(|row| row.inode);
-    assert!(rt; gone == Some(inode));
-    assert!(rt; rows.remove(inode).is_none());
+    assert!(rt; take_out(rows, inode) == Some(inode));
+    assert!(rt; take_out(rows, inode) == None);
+}
+
+/// The inode that the row of a number tells.
+fn told_at(rows: &Rows, number: u64) -> Option<u64> {
+    let row = rows.get(number)?;
+    Some(row.inode)
+}
+
+fn assert_row(rt: &impl Abort, rows: &Rows, number: u64, has_row: bool) {
+    let wanted = if has_row { Some(number) } else { None };
+    assert!(rt; told_at(rows, number) == wanted, "at {number}");
+}
+
+/// The rows of these inodes alone are listed, in this order.
+fn assert_listed(rt: &impl Abort, rows: &Rows, inodes: &[u64]) {
+    let mut listed = rows.iter();
+    for inode in inodes {
+        match listed.next() {
+            Some((_, row)) => assert!(rt; row.inode == *inode),
+            None => assert!(rt; false, "the row of {inode} is missing"),
+        }
+    }
+    assert!(rt; listed.next().is_none());
 }
 
 /// Just these numbers have a row, and they are listed so.
-fn assert_numbers(
-    rt: &impl Abort,
-    alloc: Global,
-    rows: &Rows,
-    numbers: &[u64],
-) -> Result<(), AllocError> {
-    let listed: Vec<u64> = rows.iter().map(|entry| entry.1.inode).collect(alloc)?;
-    assert!(rt; listed.as_slice() == numbers);
+fn assert_numbers(rt: &impl Abort, rows: &Rows, numbers: &[u64]) {
     assert!(rt; rows.len() == numbers.len());
     for number in 0..33 {
-        let found = rows.get(number).map(|row| row.inode);
-        assert!(rt; found.is_some() == numbers.contains(&number), "at {number}");
-        assert!(rt; found.unwrap_or(number) == number);
+        assert_row(rt, rows, number, numbers.contains(&number));
     }
-    Ok(())
+    assert_row(rt, rows, u64::MAX, false);
+    assert_listed(rt, rows, numbers);
+}
+
+/// The lowest number without a row.
+fn assert_unused(rt: &impl Abort, rows: &Rows, number: Option<u64>)
+    requires { rows.now.sup ≡ SMALL }
+{
+    assert!(rt; rows.lowest_unused(0) == number);
 }
 
 #[test]
 fn given_rows_are_found_by_their_numbers(rt: HostRuntime) -> Result<(), Fail> {
     let rows = two_files(rt.alloc())?;
-    assert_numbers(&rt, rt.alloc(), &rows, &[2, 4])?;
-    assert!(rt; rows.get(u64::MAX).is_none());
-    assert!(rt; rows.lowest_unused(0) == Some(1));
+    assert_numbers(&rt, &rows, &[2, 4]);
+    assert_unused(&rt, &rows, Some(1));
     Ok(())
 }
 
@@ -102,12 +130,12 @@ fn given_rows_are_found_by_their_numbers(rt: HostRuntime) -> Result<(), Fail> {
 fn rows_come_and_go(rt: HostRuntime) -> Result<(), Fail> {
     let mut rows = two_files(rt.alloc())?;
     insert_new(rt.alloc(), &mut rows, 1)?;
-    assert!(rt; rows.lowest_unused(0) == Some(3));
+    assert_unused(&rt, &rows, Some(3));
     insert_new(rt.alloc(), &mut rows, 31)?;
-    assert_numbers(&rt, rt.alloc(), &rows, &[1, 2, 4, 31])?;
+    assert_numbers(&rt, &rows, &[1, 2, 4, 31]);
     remove_once(&rt, &mut rows, 2);
-    assert!(rt; rows.lowest_unused(0) == Some(2));
-    assert_numbers(&rt, rt.alloc(), &rows, &[1, 4, 31])?;
+    assert_unused(&rt, &rows, Some(2));
+    assert_numbers(&rt, &rows, &[1, 4, 31]);
     Ok(())
 }
 
@@ -120,17 +148,23 @@ fn relink(rows: &mut Rows, inode: u64, links: u32) {
     }
 }
 
+fn links_at(rows: &Rows, number: u64) -> Option<u32> {
+    let row = rows.get(number)?;
+    Some(row.numbers.links)
+}
+
+fn assert_links(rt: &impl Abort, rows: &Rows, number: u64, links: u32) {
+    assert!(rt; links_at(rows, number) == Some(links));
+}
+
 #[test]
 fn a_row_is_changed(rt: HostRuntime) -> Result<(), Fail> {
     let mut rows = two_files(rt.alloc())?;
     relink(&mut rows, 2, 7);
     relink(&mut rows, 3, 7);
-    assert_numbers(&rt, rt.alloc(), &rows, &[2, 4])?;
-    let links: Vec<u32> = rows
-        .iter()
-        .map(|entry| entry.1.numbers.links)
-        .collect(rt.alloc())?;
-    assert!(rt; links.as_slice() == [7, 1].as_slice());
+    assert_numbers(&rt, &rows, &[2, 4]);
+    assert_links(&rt, &rows, 2, 7);
+    assert_links(&rt, &rows, 4, 1);
     Ok(())
 }
 
@@ -141,6 +175,6 @@ fn no_number_is_unused(rt: HostRuntime) -> Result<(), Fail> {
         insert_new(rt.alloc(), &mut rows, number)?;
     }
     assert!(rt; rows.len() == 31);
-    assert!(rt; rows.lowest_unused(0).is_none());
+    assert_unused(&rt, &rows, None);
     Ok(())
 }

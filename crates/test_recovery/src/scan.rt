@@ -1,10 +1,12 @@
 //! Inodes of small regions, written word by word, and their pieces.
 
-ghost use Rattle.std.specs.Prelude.{◌<◌};
+ghost use Rattle.std.specs.Prelude.{◌≡◌, ◌<◌};
+ghost use Rattle.nv_region.specs.Region.{HasBlocks};
 
 use crate::small::{DIRECTORY_MODE, SMALL, opened_for_one, small_region};
 use nv_claimmap::Claimed;
 use nv_names::Target;
+use nv_region::MemRegion;
 use nv_scan::{
     NoGate, Numbers, Piece, Row, Scanner, directories_have_no_pages, files_have_no_names,
     in_use_by_the_slot, inode_alone, mapped_pages_begin_below_the_size, names_are_listed,
@@ -97,8 +99,13 @@ const ITS_NUMBERS: Numbers = Numbers {
     time: 5,
 };
 
-fn assert_named(rt: &impl Abort, piece: &Piece, name: &[u8], inode: u64, place: u64) {
-    assert!(rt; target(piece, name) == Some(Target { inode, place }));
+/// A name stands for this inode, at this place, or for none.
+fn assert_named(rt: &impl Abort, piece: &Piece, name: &[u8], inode: Option<u64>, place: u64) {
+    let wanted = match inode {
+        Some(inode) => Some(Target { inode, place }),
+        None => None,
+    };
+    assert!(rt; target(piece, name) == wanted);
 }
 
 fn assert_row(rt: &impl Abort, row: &Row) {
@@ -113,10 +120,10 @@ fn assert_row(rt: &impl Abort, row: &Row) {
 #[test]
 fn a_directory_has_the_name_that_its_log_adds(rt: HostRuntime) -> Result<(), Fail> {
     let piece = scan(rt.alloc(), &ONE_NAME)?;
-    assert!(rt; piece.claims.len() == 1);
-    assert!(rt; piece.faults.is_empty());
+    assert_claims(&rt, &piece, &[(3, Owner::Log { inode: 1, page: 0 })]);
+    assert_faults(&rt, &piece, &[]);
     assert_row(&rt, piece.row.as_ref().expect(&rt, "inode 1 is in use"));
-    assert_named(&rt, &piece, b"a", 2, 12320);
+    assert_named(&rt, &piece, b"a", Some(2), 12320);
     Ok(())
 }
 
@@ -196,8 +203,8 @@ const TOLD_OF_NAMES: [Fault; 2] = [
 fn a_second_add_is_told_and_holds(rt: HostRuntime) -> Result<(), Fail> {
     let piece = scan(rt.alloc(), &A_TWICE)?;
     assert_faults(&rt, &piece, &TOLD_OF_NAMES);
-    assert_named(&rt, &piece, b"a", 4, 12320);
-    assert!(rt; target(&piece, b"b").is_none());
+    assert_named(&rt, &piece, b"a", Some(4), 12320);
+    assert_named(&rt, &piece, b"b", None, 0);
     Ok(())
 }
 
@@ -244,20 +251,27 @@ fn a_wrong_head_is_told_and_no_log_is_read(rt: HostRuntime) -> Result<(), Fail> 
     Ok(())
 }
 
-/// The piece of inode 2, twice by one scanner.
-fn scanned_twice(alloc: Global) -> Result<(Piece, Piece), Fail> {
-    let memory = small_region(alloc, &TWO_INODES)?;
-    let mut scanner = Scanner::new(alloc, &SMALL);
-    let first = scanner.scan(&memory, 2)?;
-    let second = scanner.scan(&memory, 2)?;
-    Ok((first, second))
+/// A scanner reads the log of inode 2.
+fn reads_second(
+    rt: &impl Abort,
+    scanner: &mut Scanner,
+    memory: &MemRegion,
+) -> Result<(), AllocError>
+    requires scanner { scanner.old ≡ SMALL }
+    requires blocks { HasBlocks memory.now.region 16 }
+    ensures { scanner.new ≡ scanner.old }
+{
+    let piece = scanner.scan(memory, 2)?;
+    assert_claims(rt, &piece, &OWNED_BY_FILE);
+    Ok(())
 }
 
 #[test]
 fn a_scanner_reads_a_log_again(rt: HostRuntime) -> Result<(), Fail> {
-    let (first, second) = scanned_twice(rt.alloc())?;
-    assert_claims(&rt, &first, &OWNED_BY_FILE);
-    assert_claims(&rt, &second, &OWNED_BY_FILE);
+    let memory = small_region(rt.alloc(), &TWO_INODES)?;
+    let mut scanner = Scanner::new(rt.alloc(), &SMALL);
+    reads_second(&rt, &mut scanner, &memory)?;
+    reads_second(&rt, &mut scanner, &memory)?;
     Ok(())
 }
 
@@ -266,17 +280,26 @@ fn told_at(alloc: Global, place: u64) -> Result<Option<u64>, Fail>
     requires { place < 32 }
 {
     let memory = small_region(alloc, &TWO_INODES)?;
-    let found = Scanner::new(alloc, &SMALL).scan_place(&memory, place)?;
-    Ok(found.map(|piece| piece.inode))
+    let mut scanner = Scanner::new(alloc, &SMALL);
+    match scanner.scan_place(&memory, place)? {
+        Some(piece) => Ok(Some(piece.inode)),
+        None => Ok(None),
+    }
+}
+
+fn assert_told_at(rt: &impl Abort, alloc: Global, place: u64, told: Option<u64>) -> Result<(), Fail>
+    requires { place < 32 }
+{
+    assert!(rt; told_at(alloc, place)? == told);
+    Ok(())
 }
 
 #[test]
 fn slots_in_use_are_told_alone(rt: HostRuntime) -> Result<(), Fail> {
     assert!(rt; ticket_count(&SMALL) == 1);
-    assert!(rt; told_at(rt.alloc(), 0)? == None);
-    assert!(rt; told_at(rt.alloc(), 2)? == Some(2));
-    assert!(rt; told_at(rt.alloc(), 31)? == None);
-    Ok(())
+    assert_told_at(&rt, rt.alloc(), 0, None)?;
+    assert_told_at(&rt, rt.alloc(), 2, Some(2))?;
+    assert_told_at(&rt, rt.alloc(), 31, None)
 }
 
 /// What a worker finds in the region of two inodes, and the map closed after it.

@@ -1,6 +1,7 @@
 //! The spellings byte by byte, the ways to depart from them, and the bounds of what an entry can say.
 
-ghost use Rattle.std.specs.Prelude.{◌≤◌};
+ghost use Rattle.std.specs.Prelude.{◌≡◌, ◌≤◌, IfOk};
+ghost use Rattle.nv_region.specs.Region.{size};
 ghost use Rattle.nv_entry.specs.Spelling.{entry_length};
 
 use crate::small::SMALL;
@@ -56,11 +57,19 @@ fn is_spelled(alloc: Global, rt: &impl Abort, entry: &Entry, spelling: &[u8]) ->
     is_read(alloc, rt, entry, spelling)
 }
 
+/// 512 bytes that are all 255.
+fn filled(alloc: Global) -> Result<MemRegion, Fail>
+    ensures { IfOk result (λ memory. size memory.region ≡ 512) }
+{
+    let bytes = vec![in alloc; 255; 512]?;
+    Ok(MemRegion::from_bytes(alloc, &bytes)?)
+}
+
 /// The entry at 64, amid 512 bytes that were all 255.
 fn written(alloc: Global, entry: &Entry) -> Result<Vec<u8>, Fail>
     requires { entry_length entry.now ≤ 280 }
 {
-    let mut memory = MemRegion::from_bytes(alloc, &vec![in alloc; 255; 512]?)?;
+    let mut memory = filled(alloc)?;
     write_entry(&mut memory, 64, entry)?;
     Ok(memory.to_bytes()?)
 }
@@ -78,9 +87,14 @@ fn stands_alone(rt: &impl Abort, bytes: &[u8], spelling: &[u8]) {
     }
 }
 
+/// The entry that is read from these bytes, which are a region.
+fn read_alone(alloc: Global, bytes: &[u8]) -> Result<Result<Entry, Framing>, Fail> {
+    let alone = MemRegion::from_bytes(alloc, bytes)?;
+    Ok(read_entry(&alone, 0, bytes.len() as u64))
+}
+
 fn is_read(alloc: Global, rt: &impl Abort, entry: &Entry, spelling: &[u8]) -> Result<(), Fail> {
-    let alone = MemRegion::from_bytes(alloc, spelling)?;
-    let read = read_entry(&alone, 0, spelling.len() as u64)?;
+    let read = read_alone(alloc, spelling)??;
     assert!(rt; read == *entry);
     Ok(())
 }
@@ -95,11 +109,7 @@ fn departs(
 ) -> Result<(), Fail> {
     let mut bytes = front.to_vec(alloc)?;
     bytes.resize(length, 0)?;
-    let memory = MemRegion::from_bytes(alloc, &bytes)?;
-    assert!(rt;
-        read_entry(&memory, 0, bytes.len() as u64) == Err(Framing),
-        "{how}"
-    );
+    assert!(rt; read_alone(alloc, &bytes)? == Err(Framing), "{how}");
     Ok(())
 }
 

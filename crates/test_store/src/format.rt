@@ -2,7 +2,6 @@
 
 use crate::small::{Word, assert_words, small_region, word_at};
 use nv_format::{FormatRefusal, format};
-use nv_inode::{Slot, read_slot};
 use nv_region::{Fuse, MemRegion, RegionRefusal};
 use nv_super::{MAGIC, Super, SuperFault, read_super};
 
@@ -80,13 +79,14 @@ const TWO_CPUS: Super = Super {
     state: 0,
 };
 
-const ROOT: Slot = Slot {
-    valid: 1,
-    kind: 2,
-    head: 36_864,
-    tail: 36_896,
-    created: 9,
-};
+// The first slot of the second CPU's table.
+const ROOT: [Word; 5] = [
+    (24_576, 1),
+    (24_584, 2),
+    (24_592, 36_864),
+    (24_600, 36_896),
+    (24_608, 9),
+];
 
 #[test]
 fn a_formatted_region_is_accepted(rt: HostRuntime) -> Result<(), RegionRefusal> {
@@ -94,7 +94,7 @@ fn a_formatted_region_is_accepted(rt: HostRuntime) -> Result<(), RegionRefusal> 
     assert!(rt; read_super(&memory) == Err(SuperFault::Magic));
     assert!(rt; format(&mut memory, 2, 3, 9) == Ok(()));
     assert!(rt; read_super(&memory) == Ok(TWO_CPUS));
-    assert!(rt; read_slot(&memory, &TWO_CPUS, 1) == ROOT);
+    assert_words(&rt, &memory, &ROOT);
     Ok(())
 }
 

@@ -9,6 +9,7 @@ use nv_inode::{
 };
 use nv_region::{Fuse, MemRegion, RegionRefusal, Stopped};
 use nv_super::{Kind, Super};
+use std::process::Abort;
 
 // Two CPUs with two table blocks each: the tables are blocks 3 and 4, and 5 and 6.
 const TWO: Super = Super {
@@ -71,6 +72,21 @@ fn put_in_two(memory: &mut MemRegion, inode: u64) -> Result<(), Stopped>
     put_slot(memory, &TWO, inode, &ROOT)
 }
 
+fn put_both(memory: &mut MemRegion) -> Result<(), Stopped>
+    requires { HasBlocks memory.old.region 16 }
+    ensures { HasBlocks memory.new.region 16 }
+{
+    put_in_two(memory, 2)?;
+    put_in_two(memory, 3)
+}
+
+fn assert_created(rt: &impl Abort, memory: &MemRegion, inode: u64, created: u64)
+    requires blocks { HasBlocks memory.now.region 16 }
+    requires number { (0 < inode) × (inode < 128) }
+{
+    assert!(rt; read_slot(memory, &TWO, inode).created == created);
+}
+
 const TAILS_IN_TWO: [Word; 2] = [(12416 + 24, 12320), (20608 + 24, 12320)];
 
 #[test]
@@ -84,11 +100,10 @@ fn slots_lie_one_behind_the_other(rt: HostRuntime) {
 #[test]
 fn slots_alternate_between_the_tables_of_the_cpus(rt: HostRuntime) -> Result<(), RegionRefusal> {
     let mut memory = small_region(rt.alloc(), &[])?;
-    assert!(rt; put_in_two(&mut memory, 2) == Ok(()));
-    assert!(rt; put_in_two(&mut memory, 3) == Ok(()));
+    assert!(rt; put_both(&mut memory) == Ok(()));
     assert_words(&rt, &memory, &TAILS_IN_TWO);
-    assert!(rt; read_slot(&memory, &TWO, 3).created == 7);
-    assert!(rt; read_slot(&memory, &TWO, 127).created == 0);
+    assert_created(&rt, &memory, 3, 7);
+    assert_created(&rt, &memory, 127, 0);
     Ok(())
 }
 

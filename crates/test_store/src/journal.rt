@@ -3,10 +3,11 @@
 mod changes;
 mod stores;
 
+ghost use Rattle.std.specs.Prelude.{◌≡◌};
 ghost use Rattle.nv_region.specs.Region.{HasBlocks};
 ghost use Rattle.nv_super.specs.Layout.{IsLayout};
 
-use crate::small::{SMALL, Word, assert_words, small_region, word_at};
+use crate::small::{SMALL, Word, assert_words, small_region};
 use nv_journal::{
     UndoError, one_region_is_undone, the_superblock_stays, undo, undo_again_changes_nothing,
     undone_regions_are_quiet,
@@ -64,6 +65,15 @@ impl From<UndoError> for Failure {
     }
 }
 
+/// The faults that an undo tells.
+fn undone(alloc: Global, memory: &mut MemRegion, sup: &Super) -> Result<Vec<Fault>, UndoError>
+    requires layout { IsLayout sup.now }
+    requires blocks { HasBlocks memory.old.region sup.now.blocks }
+    ensures { HasBlocks memory.new.region sup.now.blocks }
+{
+    undo(alloc, memory, sup)
+}
+
 /// An undo tells these faults.
 fn assert_undone(
     rt: &impl Abort,
@@ -76,59 +86,18 @@ fn assert_undone(
     requires blocks { HasBlocks memory.old.region sup.now.blocks }
     ensures { HasBlocks memory.new.region sup.now.blocks }
 {
-    let faults = undo(alloc, memory, sup)?;
+    let faults = undone(alloc, memory, sup)?;
     assert!(rt; faults.as_slice() == told);
     Ok(())
 }
 
 const ROLLED_BACK: [Word; 3] = [(8344, 12320), (8336, 12288), (4096, 1)];
 
-#[test]
-fn three_records_that_wrap_are_rolled_back(rt: HostRuntime) -> Result<(), Failure> {
-    let mut memory = small_region(rt.alloc(), &WRAPPED)?;
-    assert_undone(&rt, rt.alloc(), &mut memory, &SMALL, &[])?;
-    assert_words(&rt, &memory, &ROLLED_BACK);
-    Ok(())
-}
-
+// The pointer is too large, and stays.
 const TOO_LARGE: [Word; 3] = [(4096, 252), (4160, 8344), (4168, 5)];
 
-#[test]
-fn a_pointer_that_is_too_large_stays(rt: HostRuntime) -> Result<(), Failure> {
-    let mut memory = small_region(rt.alloc(), &TOO_LARGE)?;
-    assert_undone(
-        &rt,
-        rt.alloc(),
-        &mut memory,
-        &SMALL,
-        &[Fault::J1 { cpu: 0 }],
-    )?;
-    assert!(rt; word_at(&memory, 4096) == Some(252));
-    assert!(rt; word_at(&memory, 8344) == Some(0));
-    assert_undone(
-        &rt,
-        rt.alloc(),
-        &mut memory,
-        &SMALL,
-        &[Fault::J1 { cpu: 0 }],
-    )?;
-    assert!(rt; word_at(&memory, 4096) == Some(252));
-    Ok(())
-}
-
+// The address is not permitted, and is skipped.
 const NOT_PERMITTED: [Word; 3] = [(4104, 1), (4160, 4096), (4168, 77)];
-
-const NOT_PERMITTED_FAULT: Fault = Fault::J2 { cpu: 0, record: 0 };
-
-#[test]
-fn an_address_that_is_not_permitted_is_skipped(rt: HostRuntime) -> Result<(), Failure> {
-    let mut memory = small_region(rt.alloc(), &NOT_PERMITTED)?;
-    assert_undone(&rt, rt.alloc(), &mut memory, &SMALL, &[NOT_PERMITTED_FAULT])?;
-    assert!(rt; word_at(&memory, 4096) == Some(1));
-    assert_undone(&rt, rt.alloc(), &mut memory, &SMALL, &[])?;
-    assert!(rt; word_at(&memory, 4096) == Some(1));
-    Ok(())
-}
 
 // Records 251 and 0 of the first journal name words that none may, and a pointer of the second is too large.
 const FAULTY: [Word; 5] = [
@@ -139,6 +108,7 @@ const FAULTY: [Word; 5] = [
     (8200, 300),
 ];
 
+// They rise by class and then by record.
 const RISING: [Fault; 3] = [
     Fault::J1 { cpu: 1 },
     Fault::J2 { cpu: 0, record: 0 },
@@ -147,13 +117,6 @@ const RISING: [Fault; 3] = [
         record: 251,
     },
 ];
-
-#[test]
-fn faults_rise_by_class_and_then_by_record(rt: HostRuntime) -> Result<(), Failure> {
-    let mut memory = small_region(rt.alloc(), &FAULTY)?;
-    assert_undone(&rt, rt.alloc(), &mut memory, &TWO, &RISING)?;
-    Ok(())
-}
 
 // Both journals name the head of slot 2, the second one twice.
 const NAMED_BY_BOTH: [Word; 10] = [
@@ -169,13 +132,55 @@ const NAMED_BY_BOTH: [Word; 10] = [
     (8280, 4),
 ];
 
+// The highest journal that names a word counts.
 const HIGHEST: [Word; 4] = [(12416 + 24, 3), (12416, 2), (4096, 2), (8192, 2)];
 
+/// The words of a region, the faults that an undo tells, the words that it leaves, and the faults that another one tells,
+/// which leaves the same words.
+type Row<'a> = (&'a [Word], &'a [Fault], &'a [Word], &'a [Fault]);
+
+const OF_ONE_CPU: [Row<'static>; 3] = [
+    (&WRAPPED, &[], &ROLLED_BACK, &[]),
+    (
+        &TOO_LARGE,
+        &[Fault::J1 { cpu: 0 }],
+        &[(4096, 252), (8344, 0)],
+        &[Fault::J1 { cpu: 0 }],
+    ),
+    (
+        &NOT_PERMITTED,
+        &[Fault::J2 { cpu: 0, record: 0 }],
+        &[(4096, 1)],
+        &[],
+    ),
+];
+
+const OF_TWO_CPUS: [Row<'static>; 2] = [
+    (&FAULTY, &RISING, &[(8200, 300)], &[Fault::J1 { cpu: 1 }]),
+    (&NAMED_BY_BOTH, &[], &HIGHEST, &[]),
+];
+
+fn is_undone(rt: &impl Abort, alloc: Global, sup: &Super, row: &Row<'_>) -> Result<(), Failure>
+    requires layout { IsLayout sup.now }
+    requires blocks { sup.now.blocks ≡ 16 }
+{
+    let (words, told, left, again) = *row;
+    let mut memory = small_region(alloc, words)?;
+    assert_undone(rt, alloc, &mut memory, sup, told)?;
+    assert_words(rt, &memory, left);
+    assert_undone(rt, alloc, &mut memory, sup, again)?;
+    assert_words(rt, &memory, left);
+    Ok(())
+}
+
 #[test]
-fn the_highest_journal_that_names_a_word_counts(rt: HostRuntime) -> Result<(), Failure> {
-    let mut memory = small_region(rt.alloc(), &NAMED_BY_BOTH)?;
-    assert_undone(&rt, rt.alloc(), &mut memory, &TWO, &[])?;
-    assert_words(&rt, &memory, &HIGHEST);
+fn pending_records_are_undone_and_faults_told(rt: HostRuntime) -> Result<(), Failure> {
+    for row in OF_ONE_CPU.iter() {
+        is_undone(&rt, rt.alloc(), &SMALL, row)?;
+    }
+    for row in OF_TWO_CPUS.iter() {
+        is_undone(&rt, rt.alloc(), &TWO, row)?;
+    }
     Ok(())
 }
 
@@ -189,40 +194,45 @@ fn journals_with_nothing_pending_cause_no_store(rt: HostRuntime) -> Result<(), F
     Ok(())
 }
 
-/// Whether so many stores and fences are too few.
-fn is_stopped_after(alloc: Global, memory: &mut MemRegion, passed: u64) -> Result<bool, UndoError>
+/// Why an undo ends early, where so many stores and fences are taken.
+fn refusal_after(alloc: Global, memory: &mut MemRegion, passed: u64) -> Option<UndoError>
     requires { HasBlocks memory.old.region 16 }
     ensures { HasBlocks memory.new.region 16 }
 {
     memory.set_fuse(Fuse::After(passed));
-    match undo(alloc, memory, &SMALL) {
-        Ok(_) => Ok(false),
-        Err(UndoError::Stopped) => Ok(true),
-        Err(error) => Err(error),
-    }
+    undone(alloc, memory, &SMALL).err()
 }
 
-/// What was stopped is undone by another undo.
-fn assert_undone_again(
-    rt: &impl Abort,
-    alloc: Global,
-    memory: &mut MemRegion,
-) -> Result<(), UndoError>
+/// An undo is stopped where so many stores and fences are too few.
+fn assert_stopped_after(rt: &impl Abort, alloc: Global, memory: &mut MemRegion, passed: u64)
     requires { HasBlocks memory.old.region 16 }
+    ensures { HasBlocks memory.new.region 16 }
 {
-    undo(alloc, memory, &SMALL)?;
-    assert_words(rt, memory, &ROLLED_BACK);
+    let due = if passed < 6 {
+        Some(UndoError::Stopped)
+    } else {
+        None
+    };
+    assert!(rt;
+        refusal_after(alloc, memory, passed) == due,
+        "after {passed}"
+    );
+}
+
+/// An undo that so many stores and fences were too few for is finished by another.
+fn is_finished(rt: &impl Abort, alloc: Global, passed: u64) -> Result<(), Failure> {
+    let mut memory = small_region(alloc, &WRAPPED)?;
+    assert_stopped_after(rt, alloc, &mut memory, passed);
+    memory.set_fuse(Fuse::Off);
+    assert_undone(rt, alloc, &mut memory, &SMALL, &[])?;
+    assert_words(rt, &memory, &ROLLED_BACK);
     Ok(())
 }
 
 #[test]
 fn an_undo_that_was_stopped_is_finished_by_another(rt: HostRuntime) -> Result<(), Failure> {
     for passed in 0..7 {
-        let mut memory = small_region(rt.alloc(), &WRAPPED)?;
-        let stopped = is_stopped_after(rt.alloc(), &mut memory, passed)?;
-        assert!(rt; stopped == (passed < 6), "after {passed}");
-        memory.set_fuse(Fuse::Off);
-        assert_undone_again(&rt, rt.alloc(), &mut memory)?;
+        is_finished(&rt, rt.alloc(), passed)?;
     }
     one_region_is_undone();
     undo_again_changes_nothing();

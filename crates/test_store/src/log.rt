@@ -2,7 +2,7 @@
 
 mod appending;
 
-ghost use Rattle.std.specs.Prelude.{◌≡◌};
+ghost use Rattle.std.specs.Prelude.{◌≡◌, ◌<◌};
 ghost use Rattle.nv_region.specs.Region.{HasBlocks};
 
 use crate::small::{SMALL, Word, small_region};
@@ -48,6 +48,11 @@ fn attr_at(at: u64) -> Placed {
     Placed { at, entry }
 }
 
+/// The reader goes on at this address, in the last of its pages.
+fn has_turned_to(reader: &LogReader, address: u64) -> bool {
+    reader.place() == address && reader.pages().last() == Some(&(address / 4096))
+}
+
 /// Reads a log one finding at a time.
 fn read_by_findings(alloc: Global, memory: &MemRegion, tail: u64) -> Result<Walk, Fail>
     requires { HasBlocks memory.now.region 16 }
@@ -58,7 +63,7 @@ fn read_by_findings(alloc: Global, memory: &MemRegion, tail: u64) -> Result<Walk
         match reader.next(memory)? {
             Finding::Entry(placed) => entries.push(placed)?,
             Finding::Page(address) => {
-                if reader.place() != address || reader.pages().last() != Some(&(address / 4096)) {
+                if !has_turned_to(&reader, address) {
                     return Err("the page that was turned to is the last".into());
                 }
             }
@@ -74,18 +79,42 @@ fn read_by_findings(alloc: Global, memory: &MemRegion, tail: u64) -> Result<Walk
     Err("the log ends".into())
 }
 
-/// What was read is what the case says.
-fn is_as_told(rt: &impl Abort, read: &Walk, case: &Case) {
-    let name = case.name;
-    assert!(rt; read.pages.as_slice() == case.pages, "the pages of {name}");
-    assert!(rt;
-        read.entries.len() == case.entries.len(),
-        "the entries of {name}"
-    );
-    for (placed, at) in read.entries.iter().zip(case.entries) {
+/// What was read has these pages, this end and so many entries.
+fn assert_read(
+    rt: &impl Abort,
+    read: &Walk,
+    pages: &[u64],
+    fault: Option<LogEnd>,
+    count: usize,
+    name: &str,
+) {
+    assert!(rt; read.pages.as_slice() == pages, "the pages of {name}");
+    assert!(rt; read.fault == fault, "the end of {name}");
+    assert!(rt; read.entries.len() == count, "the entries of {name}");
+}
+
+/// These entries are attributes at these places.
+fn assert_attributes(rt: &impl Abort, entries: &[Placed], places: &[u64], name: &str) {
+    for (placed, at) in entries.iter().zip(places) {
         assert!(rt; *placed == attr_at(*at), "the entry at {at} of {name}");
     }
-    assert!(rt; read.fault == case.fault, "the end of {name}");
+}
+
+/// What was read is what the case says.
+fn is_as_told(rt: &impl Abort, read: &Walk, case: &Case) {
+    assert_read(
+        rt,
+        read,
+        case.pages,
+        case.fault,
+        case.entries.len(),
+        case.name,
+    );
+    assert_attributes(rt, &read.entries, case.entries, case.name);
+}
+
+fn assert_same(rt: &impl Abort, again: &Walk, read: &Walk, name: &str) {
+    assert!(rt; *again == *read, "the findings of {name}");
 }
 
 /// Reads the log of a case whole and one finding at a time, and compares both.
@@ -94,7 +123,14 @@ fn is_read(alloc: Global, rt: &impl Abort, case: &Case) -> Result<(), Fail> {
     let read = walk(alloc, &memory, &SMALL, HEAD, case.tail)?;
     is_as_told(rt, &read, case);
     let again = read_by_findings(alloc, &memory, case.tail)?;
-    assert!(rt; again == read, "the findings of {}", case.name);
+    assert_same(rt, &again, &read, case.name);
+    Ok(())
+}
+
+fn are_read(alloc: Global, rt: &impl Abort, cases: &[Case]) -> Result<(), Fail> {
+    for case in cases {
+        is_read(alloc, rt, case)?;
+    }
     Ok(())
 }
 
@@ -150,10 +186,7 @@ const RIGHT_LOGS: [Case<'static>; 5] = [
 
 #[test]
 fn logs_end_at_their_tails(rt: HostRuntime) -> Result<(), Fail> {
-    for case in RIGHT_LOGS.iter() {
-        is_read(rt.alloc(), &rt, case)?;
-    }
-    Ok(())
+    are_read(rt.alloc(), &rt, &RIGHT_LOGS)
 }
 
 /// Logs that a fault ends.
@@ -245,28 +278,34 @@ const WRONG_LOGS: [Case<'static>; 7] = [
 
 #[test]
 fn a_log_ends_at_its_first_fault(rt: HostRuntime) -> Result<(), Fail> {
-    for case in WRONG_LOGS.iter() {
-        is_read(rt.alloc(), &rt, case)?;
+    are_read(rt.alloc(), &rt, &WRONG_LOGS)
+}
+
+/// The places of so many more entries of 32 bytes.
+fn push_places(places: &mut Vec<u64>, from: u64, count: u64) -> Result<(), Fail>
+    requires { (from < 65536) × (count < 128) }
+{
+    for k in 0..count {
+        places.push(from + 32 * k)?;
     }
     Ok(())
 }
 
-/// A page full of entries with a link to block 4, and the places of its entries.
-fn full_page(alloc: Global) -> Result<(Vec<Word>, Vec<u64>), Fail> {
+/// Entries at these places, with a link to block 4.
+fn full_page(alloc: Global, places: &[u64]) -> Result<Vec<Word>, Fail> {
     let mut words = Vec::new(alloc);
-    let mut places = Vec::new(alloc);
-    for k in 0..127 {
-        let at = HEAD + 32 * k;
-        words.push((at, ATTR))?;
-        places.push(at)?;
+    for at in places {
+        words.push((*at, ATTR))?;
     }
     words.push((16352, 16384))?;
-    Ok((words, places))
+    Ok(words)
 }
 
 #[test]
 fn a_full_page_leads_on_by_its_link_alone(rt: HostRuntime) -> Result<(), Fail> {
-    let (words, places) = full_page(rt.alloc())?;
+    let mut places = Vec::new(rt.alloc());
+    push_places(&mut places, HEAD, 127)?;
+    let words = full_page(rt.alloc(), &places)?;
     let full = Case {
         name: "a full page up to its link",
         words: &words,
@@ -341,15 +380,19 @@ fn finds(
     Ok(())
 }
 
+fn assert_pages(rt: &impl Abort, reader: &LogReader, pages: &[u64]) {
+    assert!(rt; reader.pages() == pages);
+}
+
 #[test]
 fn a_reader_goes_on_to_another_log(rt: HostRuntime) -> Result<(), Fail> {
     let memory = small_region(rt.alloc(), &TWO_ENTRIES)?;
     let mut reader = LogReader::new(rt.alloc(), &SMALL, HEAD, 16416)?;
     finds(&rt, &mut reader, &memory, &FIRST_LOG)?;
-    assert!(rt; reader.pages() == [3, 4].as_slice());
+    assert_pages(&rt, &reader, &[3, 4]);
     // The last log's pages are this one's to read again.
     reader.restart(HEAD, 16448);
-    assert!(rt; reader.pages() == [3].as_slice());
+    assert_pages(&rt, &reader, &[3]);
     finds(&rt, &mut reader, &memory, &SECOND_LOG)
 }
 

@@ -2,18 +2,14 @@
 
 mod image;
 
-ghost use Rattle.std.specs.Prelude.{◌≡◌, IfOk, length};
-ghost use Rattle.nv_region.specs.Region.{HasBlocks};
-
+use crate::small::{Word, assert_words, is_place};
 use nv_region::{Fuse, Keep, MemRegion, Pmem, RegionRefusal, Stopped, commit_word, store_word};
 use std::alloc::{AllocError, Global};
 use std::process::Abort;
 use std::test::Fail;
 
 /// Bytes of which neighbours differ.
-fn counted(alloc: Global, count: u64) -> Result<Vec<u8>, AllocError>
-    ensures { IfOk result (λ bytes. length bytes.items ≡ count) }
-{
+fn counted(alloc: Global, count: u64) -> Result<Vec<u8>, AllocError> {
     let mut bytes = Vec::new(alloc);
     for k in 0..count {
         bytes.push((k % 251) as u8)?;
@@ -57,96 +53,109 @@ fn no_block_and_too_many_blocks_are_refused(rt: HostRuntime) {
     );
 }
 
-fn store_three(region: &mut MemRegion) -> Result<(), Stopped>
-    requires { HasBlocks region.old.region 8 }
-    ensures { HasBlocks region.new.region 8 }
-{
-    region.store(32_760, 7)?;
+/// Stores a word, where there is one.
+fn store_within<P: Pmem>(region: &mut P, at: u64, word: u64) -> Result<(), Stopped> {
+    if is_place(region, at) {
+        store_word(region, at, word)?;
+    }
+    Ok(())
+}
+
+/// Stores a word, where there is one, and fences it.
+fn commit_within<P: Pmem>(region: &mut P, at: u64, word: u64) -> Result<(), Stopped> {
+    if is_place(region, at) {
+        commit_word(region, at, word)?;
+    }
+    Ok(())
+}
+
+fn store_three(region: &mut MemRegion) -> Result<(), Stopped> {
+    store_within(region, 32_760, 7)?;
     region.fence()?;
-    commit_word(region, 0, 8)?;
-    store_word(region, 8, 9)
+    commit_within(region, 0, 8)?;
+    store_within(region, 8, 9)
 }
 
 #[test]
 fn a_new_region_is_zeros_and_takes_stores(rt: HostRuntime) -> Result<(), Fail> {
     let mut region = MemRegion::new(rt.alloc(), 8)?;
     assert!(rt; region.len() == 32_768);
-    assert!(rt; region.load(32_760) == 0);
+    assert_words(&rt, &region, &[(32_760, 0)]);
     store_three(&mut region)?;
-    assert!(rt; region.load(32_760) == 7);
-    assert!(rt; region.load(0) == 8);
-    assert!(rt; region.load(8) == 9);
+    assert_words(&rt, &region, &[(32_760, 7), (0, 8), (8, 9)]);
     Ok(())
 }
 
-/// One store and one fence are taken, and no more.
-fn assert_two_are_taken(rt: &impl Abort, region: &mut MemRegion)
-    requires { HasBlocks region.old.region 8 }
-    ensures { HasBlocks region.new.region 8 }
-{
-    assert!(rt; region.store(0, 1) == Ok(()));
-    assert!(rt; region.fence() == Ok(()));
-    assert!(rt; region.store(8, 2) == Err(Stopped));
-    assert!(rt; region.fence() == Err(Stopped));
-    assert!(rt; region.load(8) == 0);
+/// A store has this answer.
+fn assert_store<P: Pmem>(rt: &impl Abort, region: &mut P, at: u64, answer: Result<(), Stopped>) {
+    assert!(rt; store_within(region, at, 7) == answer, "the store at {at}");
+}
+
+fn assert_fence<P: Pmem>(rt: &impl Abort, region: &mut P, answer: Result<(), Stopped>) {
+    assert!(rt; region.fence() == answer);
 }
 
 #[test]
 fn a_fuse_counts_stores_and_fences(rt: HostRuntime) -> Result<(), Fail> {
     let mut region = MemRegion::new(rt.alloc(), 8)?;
     region.set_fuse(Fuse::After(2));
-    assert_two_are_taken(&rt, &mut region);
+    assert_store(&rt, &mut region, 0, Ok(()));
+    assert_fence(&rt, &mut region, Ok(()));
+    assert_store(&rt, &mut region, 8, Err(Stopped));
+    assert_fence(&rt, &mut region, Err(Stopped));
+    assert_words(&rt, &region, &[(0, 7), (8, 0)]);
     region.set_fuse(Fuse::Off);
-    assert!(rt; region.store(8, 2) == Ok(()));
+    assert_store(&rt, &mut region, 8, Ok(()));
     Ok(())
-}
-
-fn assert_stopped_at_16(rt: &impl Abort, region: &mut MemRegion)
-    requires { HasBlocks region.old.region 8 }
-{
-    assert!(rt; region.store(8, 1) == Ok(()));
-    assert!(rt; region.fence() == Ok(()));
-    assert!(rt; region.store(16, 2) == Err(Stopped));
-    assert!(rt; region.load(8) == 1);
-    assert!(rt; region.load(16) == 0);
 }
 
 #[test]
 fn a_fuse_waits_for_its_address(rt: HostRuntime) -> Result<(), Fail> {
     let mut region = MemRegion::new(rt.alloc(), 8)?;
     region.set_fuse(Fuse::At(16));
-    assert_stopped_at_16(&rt, &mut region);
+    assert_store(&rt, &mut region, 8, Ok(()));
+    assert_fence(&rt, &mut region, Ok(()));
+    assert_store(&rt, &mut region, 16, Err(Stopped));
+    assert_words(&rt, &region, &[(8, 7), (16, 0)]);
     Ok(())
 }
 
-// Two words are fenced. Then the last word, those at 0, 16 and 32, and that at 8 are stored, the latter as it was.
-fn store_unfenced(region: &mut MemRegion) -> Result<(), Stopped>
-    requires { HasBlocks region.old.region 8 }
-    ensures { HasBlocks region.new.region 8 }
-{
-    store_word(region, 0, 1)?;
-    commit_word(region, 8, 2)?;
-    store_word(region, 32_760, 44)?;
-    store_word(region, 0, 11)?;
-    store_word(region, 32, 55)?;
-    store_word(region, 16, 33)?;
-    store_word(region, 8, 2)
+/// What is stored behind a fence. The word at 8 is as it was.
+const UNFENCED: [Word; 5] = [(32_760, 44), (0, 11), (32, 55), (16, 33), (8, 2)];
+
+fn store_unfenced(region: &mut MemRegion) -> Result<(), Stopped> {
+    store_within(region, 0, 1)?;
+    commit_within(region, 8, 2)?;
+    for (at, word) in UNFENCED.iter() {
+        store_within(region, *at, *word)?;
+    }
+    Ok(())
 }
 
-// The words at 0, 8, 16, 32 and the last one that a stop leaves.
-fn left_by(alloc: Global, keep: Keep) -> Result<[u64; 5], Fail> {
+/// What a stop leaves of a region in which two words are fenced and further ones are not.
+fn left_by(alloc: Global, keep: Keep) -> Result<MemRegion, Fail> {
     let mut region = MemRegion::new(alloc, 8)?;
     store_unfenced(&mut region)?;
     region.set_fuse(Fuse::After(0));
-    let left = region.after_stop(keep);
-    let [a, b, c] = [left.load(0), left.load(8), left.load(16)];
-    Ok([a, b, c, left.load(32), left.load(32_760)])
+    Ok(region.after_stop(keep))
 }
+
+const KEPT: [(Keep, [Word; 5]); 3] = [
+    (Keep::None, [(0, 1), (8, 2), (16, 0), (32, 0), (32_760, 0)]),
+    (
+        Keep::All,
+        [(0, 11), (8, 2), (16, 33), (32, 55), (32_760, 44)],
+    ),
+    (
+        Keep::Alternate,
+        [(0, 11), (8, 2), (16, 0), (32, 55), (32_760, 0)],
+    ),
+];
 
 #[test]
 fn a_stop_keeps_none_all_or_every_second_word(rt: HostRuntime) -> Result<(), Fail> {
-    assert!(rt; left_by(rt.alloc(), Keep::None)? == [1, 2, 0, 0, 0]);
-    assert!(rt; left_by(rt.alloc(), Keep::All)? == [11, 2, 33, 55, 44]);
-    assert!(rt; left_by(rt.alloc(), Keep::Alternate)? == [11, 2, 0, 55, 0]);
+    for (keep, words) in KEPT.iter() {
+        assert_words(&rt, &left_by(rt.alloc(), *keep)?, words);
+    }
     Ok(())
 }

@@ -1,8 +1,8 @@
 //! A small region, in which the journal is block 1, the table block 2, and the data blocks are 3 to 15. The slot of
 //! inode `i` begins at `8192 + 128 * i`.
 
-ghost use Rattle.std.specs.Prelude.{IfOk};
-ghost use Rattle.nv_region.specs.Region.{HasBlocks};
+ghost use Rattle.std.specs.Prelude.{◌≡◌, ◌+◌, ◌%◌, ◌≤◌, IfOk, true};
+ghost use Rattle.nv_region.specs.Region.{HasBlocks, size};
 
 use nv_region::{MemRegion, Pmem, RegionRefusal};
 use nv_super::Super;
@@ -34,10 +34,17 @@ pub fn small_region(alloc: Global, words: &[Word]) -> Result<MemRegion, RegionRe
     Ok(memory)
 }
 
-/// The word at a byte address, where there is one.
-pub fn word_at(memory: &MemRegion, at: u64) -> Option<u64> {
+/// Whether a word lies at a byte address.
+pub fn is_place<P: Pmem>(memory: &P, at: u64) -> bool
+    ensures { result ≡ true → (at % 8 ≡ 0) × (at + 8 ≤ size (P.region memory.now)) }
+{
     let length = memory.len();
-    if at % 8 == 0 && length >= 8 && at <= length - 8 {
+    at % 8 == 0 && length >= 8 && at <= length - 8
+}
+
+/// The word at a byte address, where there is one.
+pub fn word_at<P: Pmem>(memory: &P, at: u64) -> Option<u64> {
+    if is_place(memory, at) {
         Some(memory.load(at))
     } else {
         None
@@ -45,7 +52,7 @@ pub fn word_at(memory: &MemRegion, at: u64) -> Option<u64> {
 }
 
 /// The region holds these words.
-pub fn assert_words(rt: &impl Abort, memory: &MemRegion, words: &[Word]) {
+pub fn assert_words<P: Pmem>(rt: &impl Abort, memory: &P, words: &[Word]) {
     for (at, word) in words {
         assert!(rt; word_at(memory, *at) == Some(*word), "the word at {at}");
     }

@@ -1,24 +1,70 @@
 //! Words that change together: what is recorded, and where.
 
-ghost use Rattle.std.specs.Prelude.{◌≡◌, true};
+ghost use Rattle.std.specs.Prelude.{◌≡◌, IfOk, true};
 ghost use Rattle.nv_region.specs.Region.{HasBlocks};
 ghost use Rattle.nv_journal.specs.Pending.{IsEmpty};
 
 use super::{Failure, assert_undone};
-use crate::small::{SMALL, Word, assert_words, small_region, word_at};
+use crate::small::{SMALL, Word, assert_words, small_region};
 use nv_journal::{begin, change_two, commit};
 use nv_region::{MemRegion, Pmem, Stopped};
+use std::alloc::Global;
+use std::process::Abort;
 
 // The head and the tail of slot 1.
 const SLOT: [Word; 2] = [(8336, 12288), (8344, 12320)];
 
-/// The number of the first of two records, the addresses of both, and the enqueue number then. Record k stands at
-/// 4160 + 16 k.
-const WRAPPING: [[u64; 4]; 4] = [
-    [0, 4160, 4176, 2],
-    [249, 8144, 8160, 251],
-    [250, 8160, 8176, 0],
-    [251, 8176, 4160, 1],
+/// The enqueue number before two records are begun and after it, and the words then: the two records and the journal's
+/// numbers. Record k stands at 4160 + 16 k.
+const WRAPPING: [(u64, u64, [Word; 6]); 4] = [
+    (
+        0,
+        2,
+        [
+            (4160, 8336),
+            (4168, 12288),
+            (4176, 8344),
+            (4184, 12320),
+            (4096, 0),
+            (4104, 2),
+        ],
+    ),
+    (
+        249,
+        251,
+        [
+            (8144, 8336),
+            (8152, 12288),
+            (8160, 8344),
+            (8168, 12320),
+            (4096, 249),
+            (4104, 251),
+        ],
+    ),
+    (
+        250,
+        0,
+        [
+            (8160, 8336),
+            (8168, 12288),
+            (8176, 8344),
+            (8184, 12320),
+            (4096, 250),
+            (4104, 0),
+        ],
+    ),
+    (
+        251,
+        1,
+        [
+            (8176, 8336),
+            (8184, 12288),
+            (4160, 8344),
+            (4168, 12320),
+            (4096, 251),
+            (4104, 1),
+        ],
+    ),
 ];
 
 fn is_empty(memory: &MemRegion) -> bool
@@ -29,83 +75,86 @@ fn is_empty(memory: &MemRegion) -> bool
     memory.load(4096) == next && next < 252
 }
 
-fn two_words(memory: &MemRegion, at: u64) -> Option<[u64; 2]> {
-    Some([word_at(memory, at)?, word_at(memory, at.checked_add(8)?)?])
-}
-
-/// The words of two records that are begun in a journal whose numbers are this one, and its numbers before the commit.
-fn recorded(memory: &mut MemRegion, row: &[u64; 4]) -> Result<[Option<[u64; 2]>; 3], Stopped>
+/// Begins a change of the head and the tail of slot 1, where the journal is empty.
+fn begin_slot(memory: &mut MemRegion) -> Result<(), Stopped>
     requires { HasBlocks memory.old.region 16 }
     ensures { HasBlocks memory.new.region 16 }
 {
     if is_empty(memory) {
         begin(memory, 0, &SLOT)?;
     }
-    Ok([
-        two_words(memory, row[1]),
-        two_words(memory, row[2]),
-        two_words(memory, 4096),
-    ])
+    Ok(())
+}
+
+/// Begins two records in an empty journal with this number.
+fn begun(alloc: Global, from: u64) -> Result<MemRegion, Failure>
+    ensures { IfOk result (λ m. HasBlocks m.region 16) }
+{
+    let mut memory = small_region(alloc, &[(4096, from), (4104, from)])?;
+    begin_slot(&mut memory)?;
+    Ok(memory)
+}
+
+fn are_recorded(
+    rt: &impl Abort,
+    alloc: Global,
+    from: u64,
+    next: u64,
+    words: &[Word],
+) -> Result<(), Failure> {
+    let mut memory = begun(alloc, from)?;
+    assert_words(rt, &memory, words);
+    commit(&mut memory, 0)?;
+    assert_words(rt, &memory, &[(4096, next), (4104, next)]);
+    Ok(())
 }
 
 #[test]
 fn after_record_251_comes_0(rt: HostRuntime) -> Result<(), Failure> {
-    for row in &WRAPPING {
-        let [from, _, _, next] = *row;
-        let mut memory = small_region(rt.alloc(), &[(4096, from), (4104, from)])?;
-        let words = recorded(&mut memory, row)?;
-        assert!(rt; words[0] == Some([8336, 12288]), "the first from {from}");
-        assert!(rt; words[1] == Some([8344, 12320]), "the second from {from}");
-        assert!(rt; words[2] == Some([from, next]), "from {from}");
-        commit(&mut memory, 0)?;
-        assert!(rt;
-            two_words(&memory, 4096) == Some([next, next]),
-            "from {from}"
-        );
+    for (from, next, words) in WRAPPING.iter() {
+        are_recorded(&rt, rt.alloc(), *from, *next, words)?;
     }
     Ok(())
 }
 
-const CHANGED: [Word; 2] = [(8336, 16384), (8344, 16416)];
+// Two records were begun and committed in an empty journal.
+const CHANGED: [Word; 4] = [(8336, 16384), (8344, 16416), (4096, 2), (4104, 2)];
 
-/// Changes the head and the tail of slot 1.
+/// Changes the head and the tail of slot 1, where the journal is empty.
 fn change_slot(memory: &mut MemRegion) -> Result<(), Stopped>
-    requires blocks { HasBlocks memory.old.region 16 }
-    requires empty { IsEmpty memory.old.region 0 }
+    requires { HasBlocks memory.old.region 16 }
 {
-    change_two(memory, 0, 8336, 16384, 8344, 16416)
+    if is_empty(memory) {
+        change_two(memory, 0, 8336, 16384, 8344, 16416)?;
+    }
+    Ok(())
 }
 
 #[test]
 fn two_words_change_together(rt: HostRuntime) -> Result<(), Failure> {
     let mut memory = small_region(rt.alloc(), &SLOT)?;
-    assert!(rt; is_empty(&memory));
-    if is_empty(&memory) {
-        change_slot(&mut memory)?;
-        assert_words(&rt, &memory, &CHANGED);
-        assert!(rt; word_at(&memory, 4096) == word_at(&memory, 4104));
-    }
+    change_slot(&mut memory)?;
+    assert_words(&rt, &memory, &CHANGED);
     Ok(())
 }
 
-/// Begins a change of the head and the tail of slot 1, and stores the head.
-fn begin_slot(memory: &mut MemRegion) -> Result<(), Stopped>
-    requires blocks { HasBlocks memory.old.region 16 }
-    requires empty { IsEmpty memory.old.region 0 }
+// The head is stored, and the tail isn't.
+fn store_head(memory: &mut MemRegion) -> Result<(), Stopped>
+    requires { HasBlocks memory.old.region 16 }
     ensures { HasBlocks memory.new.region 16 }
 {
-    begin(memory, 0, &SLOT)?;
+    begin_slot(memory)?;
     memory.store(8336, 16384)
 }
+
+const BEGUN: [Word; 4] = [(8336, 16384), (8344, 12320), (4096, 0), (4104, 2)];
 
 #[test]
 fn a_change_that_was_begun_is_rolled_back(rt: HostRuntime) -> Result<(), Failure> {
     let mut memory = small_region(rt.alloc(), &SLOT)?;
-    assert!(rt; is_empty(&memory));
-    if is_empty(&memory) {
-        begin_slot(&mut memory)?;
-        assert_undone(&rt, rt.alloc(), &mut memory, &SMALL, &[])?;
-        assert_words(&rt, &memory, &SLOT);
-    }
+    store_head(&mut memory)?;
+    assert_words(&rt, &memory, &BEGUN);
+    assert_undone(&rt, rt.alloc(), &mut memory, &SMALL, &[])?;
+    assert_words(&rt, &memory, &SLOT);
     Ok(())
 }

@@ -1,13 +1,16 @@
 //! Which words an undo and a change of two words store, and in which order.
 
-ghost use Rattle.std.specs.Prelude.{◌≡◌};
+ghost use Rattle.std.specs.Prelude.{◌≡◌, IfOk};
 ghost use Rattle.std.proofs.Common.{inl, refl};
+ghost use Rattle.nv_region.specs.Region.{HasBlocks};
 ghost use Rattle.nv_region.specs.RegionState.{fenced_or_last, fuse_state, steady_unburnt};
 
 use super::{Failure, TWO};
-use crate::small::small_region;
-use nv_journal::{change_two, undo};
-use nv_region::{MemRegion, Pmem, Stopped};
+use crate::small::{Word, assert_words, small_region};
+use nv_journal::{UndoError, change_two, undo};
+use nv_region::{MemRegion, Pmem, RegionRefusal, Stopped};
+use nv_super::Fault;
+use std::alloc::Global;
 
 /// A memory that counts its stores and fences, and notes the addresses of the first eight stores.
 #[derive(Drop)]
@@ -76,20 +79,42 @@ const ONE_PENDING: [(u64, u64); 10] = [
     (8264, 1),
 ];
 
-#[test]
-fn an_empty_journal_causes_no_store_beside_a_pending_one(rt: HostRuntime) -> Result<(), Failure> {
-    let mut memory = NotedRegion {
-        memory: small_region(rt.alloc(), &ONE_PENDING)?,
+fn noted(alloc: Global, words: &[Word]) -> Result<NotedRegion, RegionRefusal>
+    ensures { IfOk result (λ m. HasBlocks m.memory.region 16) }
+{
+    Ok(NotedRegion {
+        memory: small_region(alloc, words)?,
         addresses: [0; 8],
         stores: 0,
         fences: 0,
-    };
-    let faults = undo(rt.alloc(), &mut memory, &TWO)?;
+    })
+}
+
+fn undo_noted(alloc: Global, region: &mut NotedRegion) -> Result<Vec<Fault>, UndoError>
+    requires { HasBlocks region.old.memory.region 16 }
+{
+    undo(alloc, region, &TWO)
+}
+
+#[test]
+fn an_empty_journal_causes_no_store_beside_a_pending_one(rt: HostRuntime) -> Result<(), Failure> {
+    let mut region = noted(rt.alloc(), &ONE_PENDING)?;
+    let faults = undo_noted(rt.alloc(), &mut region)?;
     assert!(rt; faults.len() == 0);
-    assert!(rt; memory.stores == 3);
-    assert!(rt; memory.addresses == [12416, 12440, 8192, 0, 0, 0, 0, 0]);
-    assert!(rt; memory.fences == 2);
-    assert!(rt; memory.load(12440) == 20488);
+    assert!(rt; region.stores == 3);
+    assert!(rt; region.addresses == [12416, 12440, 8192, 0, 0, 0, 0, 0]);
+    assert!(rt; region.fences == 2);
+    assert_words(&rt, &region.memory, &[(12440, 20488)]);
+    Ok(())
+}
+
+/// Changes the head and the tail of slot 1, where the first journal is empty.
+fn change_noted(region: &mut NotedRegion) -> Result<(), Stopped>
+    requires { HasBlocks region.old.memory.region 16 }
+{
+    if region.load(4096) == 0 && region.load(4104) == 0 {
+        change_two(region, 0, 8336, 16384, 8344, 16416)?;
+    }
     Ok(())
 }
 
@@ -97,17 +122,10 @@ fn an_empty_journal_causes_no_store_beside_a_pending_one(rt: HostRuntime) -> Res
 fn a_change_of_two_words_costs_eight_stores_and_four_fences(
     rt: HostRuntime,
 ) -> Result<(), Failure> {
-    let mut memory = NotedRegion {
-        memory: small_region(rt.alloc(), &[])?,
-        addresses: [0; 8],
-        stores: 0,
-        fences: 0,
-    };
-    if memory.load(4096) == 0 && memory.load(4104) == 0 {
-        change_two(&mut memory, 0, 8336, 16384, 8344, 16416)?;
-    }
-    assert!(rt; memory.stores == 8);
-    assert!(rt; memory.addresses == [4160, 4168, 4176, 4184, 4104, 8336, 8344, 4096]);
-    assert!(rt; memory.fences == 4);
+    let mut region = noted(rt.alloc(), &[])?;
+    change_noted(&mut region)?;
+    assert!(rt; region.stores == 8);
+    assert!(rt; region.addresses == [4160, 4168, 4176, 4184, 4104, 8336, 8344, 4096]);
+    assert!(rt; region.fences == 4);
     Ok(())
 }

@@ -8,10 +8,10 @@ ghost use Rattle.nv_region.specs.Region.{HasBlocks};
 ghost use Rattle.nv_logpage.specs.Append.{AreGiven, CanAppend, needed};
 ghost use Rattle.nv_logpage.specs.Reads.{is_next_page};
 
-use super::{HEAD, NEXT_PAGE};
-use crate::small::{SMALL, Word};
+use super::{HEAD, NEXT_PAGE, assert_read, push_places};
+use crate::small::{SMALL, Word, assert_words};
 use nv_entry::{AttrEntry, Entry, WriteEntry};
-use nv_logpage::{Walk, append, pages_needed, walk};
+use nv_logpage::{Placed, Walk, append, pages_needed, walk};
 use nv_region::{Fuse, MemRegion, Pmem, Stopped};
 use std::alloc::Global;
 use std::process::Abort;
@@ -53,17 +53,6 @@ fn used_region(alloc: Global) -> Result<MemRegion, Fail>
     Ok(memory)
 }
 
-/// The region holds these words.
-fn holds(rt: &impl Abort, memory: &MemRegion, words: &[Word])
-    requires { HasBlocks memory.now.region 16 }
-{
-    for (at, word) in words {
-        if *at % 8 == 0 && *at < 65536 {
-            assert!(rt; memory.load(*at) == *word, "the word at {at}");
-        }
-    }
-}
-
 /// Appends the entry of 32 bytes, and answers the new tail.
 fn append_set(memory: &mut MemRegion, tail: u64, fresh: &[u64]) -> Result<u64, Stopped>
     requires blocks { HasBlocks memory.old.region 16 }
@@ -73,8 +62,13 @@ fn append_set(memory: &mut MemRegion, tail: u64, fresh: &[u64]) -> Result<u64, S
     append(memory, tail, &[Entry::Attr(SET)], fresh)
 }
 
-fn pages_for_set(tail: u64) -> u64 {
-    pages_needed(tail, &[Entry::Attr(SET)])
+/// The entry of 32 bytes needs as many pages as are given, and its log ends here then.
+fn assert_appended(rt: &impl Abort, memory: &mut MemRegion, tail: u64, fresh: &[u64], end: u64)
+    requires blocks { HasBlocks memory.old.region 16 }
+    requires room { CanAppend memory.old.region tail (Entry.Attr SET ∷ []) fresh.now }
+{
+    assert!(rt; pages_needed(tail, &[Entry::Attr(SET)]) == fresh.len() as u64);
+    assert!(rt; append_set(memory, tail, fresh) == Ok(end));
 }
 
 const EXACT: [Word; 7] = [
@@ -90,9 +84,8 @@ const EXACT: [Word; 7] = [
 #[test]
 fn an_entry_that_fits_exactly_stays_in_its_page(rt: HostRuntime) -> Result<(), Fail> {
     let mut memory = used_region(rt.alloc())?;
-    assert!(rt; pages_for_set(16320) == 0);
-    assert!(rt; append_set(&mut memory, 16320, &[]) == Ok(16352));
-    holds(&rt, &memory, &EXACT);
+    assert_appended(&rt, &mut memory, 16320, &[], 16352);
+    assert_words(&rt, &memory, &EXACT);
     Ok(())
 }
 
@@ -113,9 +106,8 @@ const IN_A_FRESH_PAGE: [Word; 11] = [
 #[test]
 fn an_entry_that_does_not_fit_goes_to_a_fresh_page(rt: HostRuntime) -> Result<(), Fail> {
     let mut memory = used_region(rt.alloc())?;
-    assert!(rt; pages_for_set(16328) == 1);
-    assert!(rt; append_set(&mut memory, 16328, &[4]) == Ok(16416));
-    holds(&rt, &memory, &IN_A_FRESH_PAGE);
+    assert_appended(&rt, &mut memory, 16328, &[4], 16416);
+    assert_words(&rt, &memory, &IN_A_FRESH_PAGE);
     Ok(())
 }
 
@@ -129,9 +121,8 @@ const BEHIND_THE_LAST_WORD: [Word; 4] = [
 #[test]
 fn the_last_word_of_a_page_takes_a_next_page_entry(rt: HostRuntime) -> Result<(), Fail> {
     let mut memory = used_region(rt.alloc())?;
-    assert!(rt; pages_for_set(16344) == 1);
-    assert!(rt; append_set(&mut memory, 16344, &[4]) == Ok(16416));
-    holds(&rt, &memory, &BEHIND_THE_LAST_WORD);
+    assert_appended(&rt, &mut memory, 16344, &[4], 16416);
+    assert_words(&rt, &memory, &BEHIND_THE_LAST_WORD);
     Ok(())
 }
 
@@ -145,9 +136,8 @@ const BEHIND_A_FULL_PAGE: [Word; 4] = [
 #[test]
 fn a_full_page_takes_no_next_page_entry(rt: HostRuntime) -> Result<(), Fail> {
     let mut memory = used_region(rt.alloc())?;
-    assert!(rt; pages_for_set(16352) == 1);
-    assert!(rt; append_set(&mut memory, 16352, &[4]) == Ok(16416));
-    holds(&rt, &memory, &BEHIND_A_FULL_PAGE);
+    assert_appended(&rt, &mut memory, 16352, &[4], 16416);
+    assert_words(&rt, &memory, &BEHIND_A_FULL_PAGE);
     Ok(())
 }
 
@@ -160,32 +150,41 @@ fn stopped_after(memory: &mut MemRegion, passed: u64) -> Result<u64, Stopped>
     append_set(memory, 16328, &[4])
 }
 
-#[test]
-fn each_word_is_stored_once(rt: HostRuntime) -> Result<(), Fail> {
-    let mut memory = used_region(rt.alloc())?;
-    assert!(rt; stopped_after(&mut memory, 6) == Ok(16416));
+const NOT_LINKED: [Word; 3] = [(16384, FIRST), (16408, OWNERS), (16352, USED)];
+
+fn assert_stopped_after(
+    rt: &impl Abort,
+    alloc: Global,
+    passed: u64,
+    answer: Result<u64, Stopped>,
+    words: &[Word],
+) -> Result<(), Fail> {
+    let mut memory = used_region(alloc)?;
+    assert!(rt; stopped_after(&mut memory, passed) == answer);
+    assert_words(rt, &memory, words);
     Ok(())
 }
 
-const NOT_LINKED: [Word; 3] = [(16384, FIRST), (16408, OWNERS), (16352, USED)];
-
 #[test]
-fn the_link_is_stored_last(rt: HostRuntime) -> Result<(), Fail> {
-    let mut memory = used_region(rt.alloc())?;
-    assert!(rt; stopped_after(&mut memory, 5) == Err(Stopped));
-    holds(&rt, &memory, &NOT_LINKED);
-    Ok(())
+fn each_word_is_stored_once_and_the_link_last(rt: HostRuntime) -> Result<(), Fail> {
+    assert_stopped_after(&rt, rt.alloc(), 5, Err(Stopped), &NOT_LINKED)?;
+    assert_stopped_after(&rt, rt.alloc(), 6, Ok(16416), &IN_A_FRESH_PAGE)
+}
+
+/// These entries stand at these places.
+fn assert_placed(rt: &impl Abort, read: &[Placed], places: &[u64], entries: &[Entry]) {
+    for (placed, at) in read.iter().zip(places) {
+        assert!(rt; placed.at == *at);
+    }
+    for (placed, entry) in read.iter().zip(entries) {
+        assert!(rt; placed.entry == *entry, "the entry at {}", placed.at);
+    }
 }
 
 /// What was read are these entries at these places, in these pages.
 fn is_listed(rt: &impl Abort, read: &Walk, pages: &[u64], places: &[u64], entries: &[Entry]) {
-    assert!(rt; read.fault == None);
-    assert!(rt; read.pages.as_slice() == pages);
-    assert!(rt; read.entries.len() == places.len());
-    for ((placed, at), entry) in read.entries.iter().zip(places).zip(entries) {
-        assert!(rt; placed.at == *at);
-        assert!(rt; placed.entry == *entry, "the entry at {at}");
-    }
+    assert_read(rt, read, pages, None, places.len(), "the log");
+    assert_placed(rt, &read.entries, places, entries);
 }
 
 /// Two entries, one appended behind the other.
@@ -250,14 +249,10 @@ fn entries_of_three_pages(alloc: Global) -> Result<Vec<Entry>, Fail>
 /// Where each of these entries goes.
 fn places_in_three_pages(alloc: Global) -> Result<Vec<u64>, Fail> {
     let mut places = Vec::new(alloc);
-    for k in 0..126 {
-        places.push(12288 + 32 * k)?;
-    }
-    places.push(20480)?;
-    for k in 0..125 {
-        places.push(20520 + 32 * k)?;
-    }
-    places.push(16384)?;
+    push_places(&mut places, HEAD, 126)?;
+    push_places(&mut places, 20480, 1)?;
+    push_places(&mut places, 20520, 125)?;
+    push_places(&mut places, 16384, 1)?;
     Ok(places)
 }
 
@@ -306,7 +301,7 @@ fn turns_twice(rt: &impl Abort, memory: &mut MemRegion, entries: &[Entry])
     if is_enough {
         assert!(rt; append_over_three(memory, entries) == Ok(16416));
     }
-    holds(rt, memory, &TURNED_TWICE);
+    assert_words(rt, memory, &TURNED_TWICE);
 }
 
 fn reads_three_pages(

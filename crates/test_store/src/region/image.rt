@@ -1,11 +1,17 @@
 //! Regions over borrowed bytes: their lengths, and what their front takes.
 
-use super::counted;
+use super::{assert_fence, assert_store, counted};
+use crate::small::{Word, assert_words};
 use nv_region::{ImageRegion, Pmem, Stopped};
 use std::process::Abort;
 use std::test::Fail;
 
 const BLOCK: u64 = 4096;
+
+/// The first word of the second block. Byte k of the region is k mod 251.
+const SECOND: u64 = 0x5756_5554_5352_5150;
+
+const STORED: [Word; 3] = [(0, 0x0706_0504_0302_0100), (BLOCK - 8, 7), (BLOCK, SECOND)];
 
 // Whether many threads may read it, and another own it.
 fn is_shared<M: Sync + Send>(_memory: &M) -> bool {
@@ -18,12 +24,9 @@ fn an_open_front_takes_stores(rt: HostRuntime) -> Result<(), Fail> {
     let mut region = ImageRegion::from_bytes(rt.alloc(), &bytes)?;
     assert!(rt; is_shared(&region));
     region.open_front(1)?;
-    region.store(BLOCK - 8, 7)?;
-    region.fence()?;
-    // Byte k of the region is k mod 251.
-    assert!(rt; region.load(0) == 0x0706_0504_0302_0100);
-    assert!(rt; region.load(BLOCK - 8) == 7);
-    assert!(rt; region.load(BLOCK) == 0x5756_5554_5352_5150);
+    assert_store(&rt, &mut region, BLOCK - 8, Ok(()));
+    assert_fence(&rt, &mut region, Ok(()));
+    assert_words(&rt, &region, &STORED);
     Ok(())
 }
 
@@ -32,10 +35,10 @@ fn a_store_behind_the_front_is_refused(rt: HostRuntime) -> Result<(), Fail> {
     let bytes = counted(rt.alloc(), 16 * BLOCK)?;
     let mut region = ImageRegion::from_bytes(rt.alloc(), &bytes)?;
     region.open_front(1)?;
-    assert!(rt; region.store(BLOCK, 7) == Err(Stopped));
-    assert!(rt; region.load(BLOCK) == 0x5756_5554_5352_5150);
-    assert!(rt; region.store(0, 7) == Err(Stopped));
-    assert!(rt; region.fence() == Err(Stopped));
+    assert_store(&rt, &mut region, BLOCK, Err(Stopped));
+    assert_words(&rt, &region, &[(BLOCK, SECOND)]);
+    assert_store(&rt, &mut region, 0, Err(Stopped));
+    assert_fence(&rt, &mut region, Err(Stopped));
     Ok(())
 }
 
