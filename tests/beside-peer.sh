@@ -4,7 +4,7 @@
 # usage: tests/beside-peer.sh PEER [ROUNDS]
 #
 # PEER is the folder of the native program's sources, a crate `nova_ref` whose `bench` writes an image and times its own
-# recovery. In each round (5 where none are given) the native program and `bench_recover` run one after the other, three
+# recovery. In each round (5 where none are given) the native program and `bench_mounted` run one after the other, three
 # recoveries each, and the best of all rounds counts. The images have 65,536 blocks: small files, one big file, one
 # directory of many names, and files of many overwrites. Nothing else should run meanwhile.
 set -eu
@@ -18,8 +18,8 @@ folder=$(mktemp -d)
 trap 'rm -rf "$folder"' EXIT
 (cd "$1" && CARGO_TARGET_DIR=$folder/peer cargo build --release --offline -q)
 peer=$folder/peer/release/nova_ref
-(cd "$here/crates/bench_recover" && rt run >"$folder/built" 2>&1) || { tail -n 20 "$folder/built"; exit 2; }
-ours=$here/crates/bench_recover/out/bench_recover
+(cd "$here/crates/bench_mounted" && rt run >"$folder/built" 2>&1) || { tail -n 20 "$folder/built"; exit 2; }
+ours=$here/crates/bench_mounted/out/bench_mounted
 
 shape() {
     case $1 in
@@ -33,7 +33,7 @@ for name in small big names frag; do
         # shellcheck disable=SC2046
         "$peer" bench $(shape "$name") --runs 3 --out "$folder/image" |
             awk -F'|' -v name="$name" '$3 + 0 > 0 { print name, "peer", $3 + 0, $7 + 0 }'
-        "$ours" 3 "$folder/image" 2>&1 >"$folder/found" |
+        "$ours" recovery 3 "$folder/image" 2>&1 >"$folder/found" |
             awk -v name="$name" '/ ms, / { print name, "ours", ($1 == "one" ? 0 : $1), $3 }'
         if grep -q refused "$folder/found"; then
             echo "$name: refused" >&2

@@ -1,15 +1,16 @@
 #!/usr/bin/env bash
-# Runs the program refusal_recover with each of its allocations refused in turn (`refusing.sh` tells how). It ends with
-# status 1, and says why, where a run faults, hangs, or ends in any way but these: all recoveries found the whole; all did,
-# one of them, or a worker, at its second try, since the first was refused memory; or memory was refused outside of them.
+# Runs the recoveries of the program refusals with each of their allocations refused in turn (`refusing.sh` tells how). It
+# ends with status 1, and says why, where a run faults, hangs, or ends in any way but these: all recoveries found the whole;
+# all did, one of them, or a worker, at its second try, since the first was refused memory; or memory was refused outside
+# of them.
 #
 # Two threads make the allocations of the recoveries by workers, the last two, in an order that differs from run to run. It
 # takes half an hour and more on a machine with other work.
 set -u
 source "$(dirname "${BASH_SOURCE[0]}")/refusing.sh"
-refuse_each refusal_recover 720
+refuse_each recoveries 720
 
-mapfile -t whole <stdout
+mapfile -t whole < <(head -n 7 stdout)
 wanted=()
 so_far=
 for line in "${whole[@]}"; do

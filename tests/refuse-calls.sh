@@ -1,16 +1,16 @@
 #!/usr/bin/env bash
-# Runs the program refusal_calls with each of its allocations refused in turn (`refusing.sh` tells how). It ends with status
-# 1, and says why, where a run faults, hangs, or ends in any way but these: all calls, claims and joins were done; all were,
-# one of them at its second try, since the first was refused memory and changed nothing; or memory was refused outside of
-# them.
+# Runs the calls of the program refusals with each of their allocations refused in turn (`refusing.sh` tells how). It ends
+# with status 1, and says why, where a run faults, hangs, or ends in any way but these: all calls, claims and joins were
+# done; all were, one of them at its second try, since the first was refused memory and changed nothing; or memory was
+# refused outside of them.
 #
 # It takes half an hour and more on a machine with other work: 4 s a run.
 set -u
 source "$(dirname "${BASH_SOURCE[0]}")/refusing.sh"
 runs=520
-refuse_each refusal_calls $runs
+refuse_each calls $runs
 
-mapfile -t whole <stdout
+mapfile -t whole < <(tail -n 2 stdout)
 wanted=(
     "run=ended status=0: ${whole[0]}; ${whole[1]};"
     "run=ended status=1: ${whole[0]}; refused elsewhere;"

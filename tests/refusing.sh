@@ -1,4 +1,5 @@
-# Runs a program with each of its allocations refused in turn. `refuse-allocations.sh` and `refuse-calls.sh` source it.
+# Runs a part of the program refusals with each of its allocations refused in turn. `refuse-allocations.sh` and
+# `refuse-calls.sh` source it.
 #
 # One build of `rt try` refuses the allocation of the same number in all its runs. So run K takes K blocks of memory first:
 # run 0 meets no refusal, in the last the first allocation is refused.
@@ -14,16 +15,16 @@ say_wrong() {
     wrong=1
 }
 
-# refuse_each CRATE RUNS: runs the program so often, and prints how many of the runs ended in which way: a line for each, its
-# status and what it printed.
+# refuse_each PART RUNS: runs this part of the program so often, and prints how many of the runs ended in which way: a line
+# for each, its status and what it printed.
 refuse_each() {
     local blocks
     mkdir "$folder/cases"
     for ((blocks = 0; blocks < $2; blocks++)); do
         : >"$folder/cases/$blocks"
-        echo "$blocks" >"$folder/cases/$blocks.args"
+        printf '%s\n%s\n' "$1" "$blocks" >"$folder/cases/$blocks.args"
     done
-    cd "$(dirname "${BASH_SOURCE[0]}")/../crates/$1" || exit 1
+    cd "$(dirname "${BASH_SOURCE[0]}")/../crates/refusals" || exit 1
     rt try --steps 1 --fail-alloc "$2" --cases "$folder/cases" >"$folder/log" 2>&1
 
     # Each run on one line.

@@ -69,12 +69,14 @@ fn list_free<R: Print>(rt: &R, lists: &[Vec<Run>]) -> io::Result<()> {
     Ok(())
 }
 
+fn list<R: Print>(rt: &R, found: &Recovered) -> io::Result<()> {
+    list_rows(rt, &found.rows)?;
+    list_free(rt, &found.free.lists()?)
+}
+
 fn main(rt: HostRuntime) -> io::Result<()> {
     match mount(rt.alloc()) {
-        Ok(found) => {
-            list_rows(&rt, &found.rows)?;
-            list_free(&rt, &found.free.lists()?)
-        }
+        Ok(found) => list(&rt, &found),
         Err(error) => eprintln!(rt; "{error}"),
     }
 }

@@ -1,0 +1,25 @@
+//! Prints on standard error how long something took.
+
+use std::io;
+use std::rt::Clock;
+use std::time::Instant;
+
+/// The seconds since the start.
+pub(crate) fn print_seconds<R: Eprint + Clock>(
+    rt: &R,
+    what: &str,
+    start: Instant,
+) -> io::Result<()> {
+    eprintln!(rt; "{what}: {:.4}", start.elapsed(rt)?.as_secs_f64())
+}
+
+/// The nanoseconds that each of so many took since the start.
+pub(crate) fn print_each<R: Eprint + Clock>(
+    rt: &R,
+    what: &str,
+    count: u64,
+    start: Instant,
+) -> io::Result<()> {
+    let tenths = start.elapsed(rt)?.as_nanos() / u128::from((count / 10).max(1));
+    eprintln!(rt; "{what}: {}.{} ns", tenths / 10, tenths % 10)
+}

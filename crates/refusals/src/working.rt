@@ -1,0 +1,89 @@
+//! Two workers of a recovery, one behind the other on one thread, and the join of their seats.
+
+ghost use Rattle.std.specs.Prelude.{◌≡◌, ◌+◌};
+ghost use Rattle.nv_region.specs.Region.{HasBlocks};
+
+use crate::region::STOPPED;
+use crate::seats::{joined, opened};
+use nv_claimcore::Sizes;
+use nv_claimmap::{ClaimMap, ClaimSeat};
+use nv_region::MemRegion;
+use nv_scan::{NoGate, WorkerResult, worker};
+use std::alloc::{AllocError, Global};
+
+/// Of the claim map of the stopped region.
+const SIZES: Sizes = Sizes {
+    blocks: STOPPED.blocks,
+    tickets: STOPPED.cpus * STOPPED.table_blocks,
+    workers: 2,
+};
+
+/// How many rows and faults workers gave back.
+#[derive(Clone, Copy)]
+pub(crate) struct Given {
+    pub(crate) rows: usize,
+    pub(crate) faults: usize,
+}
+
+/// What two workers gave back.
+#[derive(Clone, Copy)]
+pub(crate) struct Work {
+    /// By those that were refused memory: nothing, where one was.
+    pub(crate) refused: Option<Given>,
+    /// By those that weren't.
+    pub(crate) whole: Given,
+    pub(crate) claims: usize,
+}
+
+/// What one worker gave back.
+fn given_by(one: &WorkerResult) -> Given {
+    Given {
+        rows: one.rows.len(),
+        faults: one.faults.len(),
+    }
+}
+
+/// What two workers gave back together.
+fn given_by_both(one: &WorkerResult, other: &WorkerResult) -> Given {
+    Given {
+        rows: one.rows.len() + other.rows.len(),
+        faults: one.faults.len() + other.faults.len(),
+    }
+}
+
+/// What the workers gave back that were refused memory, and those that weren't.
+fn given_apart(one: &WorkerResult, other: &WorkerResult) -> (Option<Given>, Given) {
+    match (one.refused, other.refused) {
+        (false, false) => (None, given_by_both(one, other)),
+        (true, false) => (Some(given_by(one)), given_by(other)),
+        (false, true) => (Some(given_by(other)), given_by(one)),
+        (true, true) => (
+            Some(given_by_both(one, other)),
+            Given { rows: 0, faults: 0 },
+        ),
+    }
+}
+
+/// The claims of two seats together.
+fn claims_of(map: ClaimMap, one: ClaimSeat, other: ClaimSeat) -> Result<usize, AllocError>
+    requires own { (one.map ≡ map) × (other.map ≡ map) }
+    requires all { one.view.seats + other.view.seats ≡ map.sizes.workers }
+{
+    let (both, _) = joined(&map, one, other)?;
+    Ok(map.close(both).claims.len())
+}
+
+/// Lets two workers scan the region, one behind the other, and joins their seats, also that of one that was refused memory.
+pub(crate) fn work_in_turn(alloc: Global, memory: &MemRegion) -> Result<Work, AllocError>
+    requires { HasBlocks memory.now.region 16 }
+{
+    let (map, one, two) = opened(alloc, SIZES)?;
+    let one = worker(alloc, memory, &STOPPED, &map, one, &NoGate);
+    let two = worker(alloc, memory, &STOPPED, &map, two, &NoGate);
+    let (refused, whole) = given_apart(&one, &two);
+    Ok(Work {
+        refused,
+        whole,
+        claims: claims_of(map, one.seat, two.seat)?,
+    })
+}
