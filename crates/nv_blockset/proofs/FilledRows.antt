@@ -53,5 +53,9 @@ module _ (words : List ℕ) (from next bits : ℕ) (within : from / 64 < length 
 pub emptied : (words : List ℕ) (w b : ℕ) → w < length words → b / 64 ≡ w → has (slice_set words w 0) b ≡ 0
 emptied words w b within is = here words w 0 within b is ∙ bit_at-zero (b % 64)
 
-pub emptied_more : (words : List ℕ) (w b : ℕ) → w < length words → has words b ≡ 0 → has (slice_set words w 0) b ≡ 0
-emptied_more words w b within off = elim (cases_eq (b / 64) w) [ inl is ↦ emptied words w b within is | inr other ↦ there words w 0 within b other ∙ off ]
+-- so a block that was off stays off where the words of a row, and no others, were emptied
+pub stays_off : (old new : List ℕ) (first last b : ℕ) → (first ≤ b / 64 → b / 64 ≤ last → has new b ≡ 0) → ((first ≤ b / 64 → b / 64 ≤ last → ⊥) → has new b ≡ has old b) → has old b ≡ 0 → has new b ≡ 0
+stays_off old new first last b none others off = elim (cases_lt (b / 64) first) [
+  | inl before ↦ others (λ low high. omega (arith, before, low)) ∙ off
+  | inr behind ↦ elim (cases_lt last (b / 64)) [ inl past ↦ others (λ low high. omega (arith, past, high)) ∙ off | inr inside ↦ none behind inside ]
+]

@@ -1,6 +1,6 @@
 //! Blocks in a row put into a set, and a set emptied around them, a word at a time.
 
-ghost use Rattle.std.specs.Prelude.{◌≡◌, ℕ, ◌<◌, ◌≤◌, ◌*◌, ◌/◌, ◌^◌, length};
+ghost use Rattle.std.specs.Prelude.{◌≡◌, ℕ, ◌<◌, ◌≤◌, ◌-◌, ◌*◌, ◌/◌, ◌^◌, length};
 ghost use Rattle.std.specs.Int.{bit_at};
 ghost use Rattle.nv_blockset.specs.BlockSet.{has};
 
@@ -39,8 +39,8 @@ pub fn empty_words(words: &mut [u64], from: u64, to: u64)
     requires within { to ≤ 64 * length words.old }
     requires small { to ≤ 2 ^ 32 }
     ensures count { length words.new ≡ length words.old }
-    ensures none { (b : ℕ) → from ≤ b → b < to → has words.new b ≡ 0 }
-    ensures fewer { (b : ℕ) → has words.old b ≡ 0 → has words.new b ≡ 0 }
+    ensures none { (b : ℕ) → from / 64 ≤ b / 64 → b / 64 ≤ (to - 1) / 64 → has words.new b ≡ 0 }
+    ensures others { (b : ℕ) → (from / 64 ≤ b / 64 → b / 64 ≤ (to - 1) / 64 → ⊥) → has words.new b ≡ has words.old b }
 {
     let first = (from / WORD_BITS) as usize;
     words[first] = 0;

@@ -1,6 +1,7 @@
 use Rattle.std.proofs.Common.{inl, inr, ◌≡◌, ◌∙◌, ℕ, Bool, true, false, eqb, refl, ap, get_or, arith}
 use Rattle.std.proofs.lemmas.Bool.{cases_eq}
 use Rattle.nv_blockset.specs.BlockSet.{is_set}
+use Rattle.nv_blockset.proofs.FilledRows.{stays_off}
 use Rattle.nv_region.proofs.Rows.{row_in, no_row, found}
 use Rattle.nv_region.proofs.Marks.{still_set}
 use Rattle.nv_region.proofs.stored.unmark.Goals as goal
@@ -21,7 +22,7 @@ pub loop-row-preserved : goal.loop-row-preserved
 loop-row-preserved c = record {
   count = c.empty_words.ensures.count ∙ c.loop-row.invariant.count;
   all = λ p on.
-      let a = c.loop-row.invariant.all p (still_set c.loop-row.marks c.empty_words.new.words p (c.empty_words.ensures.fewer p) on) in elim (cases_eq a.j c.loop-row.row-index) [
+      let a = c.loop-row.invariant.all p (still_set c.loop-row.marks c.empty_words.new.words p (stays_off c.loop-row.marks c.empty_words.new.words _ _ p (c.empty_words.ensures.none p) (c.empty_words.ensures.others p)) on) in elim (cases_eq a.j c.loop-row.row-index) [
         | inl here ↦ absurd (
             let first : (get_or c.args.rows.now a.j no_row).first ≡ (get_or c.args.rows.now c.loop-row.row-index no_row).first = ap (λ (j : ℕ). (get_or c.args.rows.now j no_row).first) here in
             let end : (get_or c.args.rows.now a.j no_row).end ≡ (get_or c.args.rows.now c.loop-row.row-index no_row).end = ap (λ (j : ℕ). (get_or c.args.rows.now j no_row).end) here in
