@@ -5,7 +5,7 @@
 //! undo gives the words from before, or all of them changed.
 
 ghost use Rattle.std.specs.Prelude.{◌≡◌, ◌⊎◌, ◌≤◌, ◌<◌, ◌+◌, ◌%◌, ◌^◌, ℕ, Bool, IsTrue, OnOk, OnErr, is_err, length};
-ghost use Rattle.nv_region.specs.Region.{put, size};
+ghost use Rattle.nv_region.specs.Region.{put, size, word};
 ghost use Rattle.nv_region.specs.Stops.{NothingPending, LeavesOnly, One};
 ghost use Rattle.nv_region.specs.Fuses.{KeepsFuse};
 ghost use Rattle.nv_region.specs.Stored.{SameOutside, StoresOnly, Within};
@@ -15,7 +15,7 @@ ghost use Rattle.nv_journal.specs.Recorded.{Recorded, Changes, Two};
 ghost use Rattle.nv_journal.specs.Faults.{NoJournalFault};
 
 use crate::pending::{Pending, dequeue_word, enqueue_word};
-use nv_region::{Pmem, Stopped, commit_word, store_word};
+use nv_region::{Pmem, Stopped, commit_word};
 
 /// Makes records pending in the empty journal of a CPU: of each word that is about to change its byte address, which is
 /// a permitted one, and the value that it has now. A journal has room for 251.
@@ -59,12 +59,23 @@ fn write_records<P: Pmem>(
     ensures keeps_fuse { KeepsFuse (λ limit. journal pending.now.cpu + 4096 ≤ limit) (P.fuse memory.old) (P.fuse memory.new) }
 {
     for k in 0..records.len() {
-        let record = records[k];
-        let place = pending.place(k as u64);
-        store_word(memory, place, record.0)?;
-        store_word(memory, place + 8, record.1)?;
+        write_record(memory, pending.place(k as u64), records[k])?;
     }
     Ok(())
+}
+
+/// Writes a record to its place: its address, and in the next word its value.
+fn write_record<P: Pmem>(memory: &mut P, place: u64, pair: (u64, u64)) -> Result<(), Stopped>
+    requires aligned { place % 8 ≡ 0 }
+    requires within { place + 16 ≤ size (P.region memory.old) }
+    ensures recorded { OnOk result ((word (P.region memory.new) place ≡ pair.0) × (word (P.region memory.new) (place + 8) ≡ pair.1)) }
+    ensures wrote { StoresOnly (Within place 16) (P.region memory.old) (P.region memory.new) (P.may_hold memory.old) (P.may_hold memory.new) }
+    ensures stopped { OnErr result (IsTrue (P.fuse memory.new).has_burnt) }
+    ensures keeps_fuse { KeepsFuse (λ limit. place + 16 ≤ limit) (P.fuse memory.old) (P.fuse memory.new) }
+{
+    // Fewer than eight bytes stand behind the last word, so both addresses are those of words.
+    let _end = memory.len();
+    memory.store_words(place, &[pair.0, pair.1])
 }
 
 /// Empties the journal of a CPU, so that no record is pending in it: the change that it records is done.
