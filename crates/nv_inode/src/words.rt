@@ -45,11 +45,21 @@ pub fn put_slot<P: Pmem>(
     ensures stopped { is_err result ≡ (P.fuse memory.new).has_burnt }
     ensures keeps_fuse { KeepsFuse (λ limit. slot_address sup.now inode + 40 ≤ limit) (P.fuse memory.old) (P.fuse memory.new) }
 {
-    let at = slot_start(sup, inode);
-    memory.store(at + KIND, slot.kind)?;
-    memory.store(at + HEAD, slot.head)?;
-    memory.store(at + TAIL, slot.tail)?;
-    memory.store(at + CREATED, slot.created)
+    store_slot(memory, slot_start(sup, inode), slot)
+}
+
+/// Stores the words of the slot at an address but for its valid word, as one row from the kind on.
+pub fn store_slot<P: Pmem>(memory: &mut P, at: u64, slot: &Slot) -> Result<(), Stopped>
+    requires whole { at % 8 ≡ 0 }
+    requires inside { at + 40 ≤ size (P.region memory.old) }
+    ensures done { OnOk result (P.region memory.new ≡ with_slot (P.region memory.old) at slot.now) }
+    ensures wrote { StoresOnly (Within (at + 8) 32) (P.region memory.old) (P.region memory.new) (P.may_hold memory.old) (P.may_hold memory.new) }
+    ensures stopped { is_err result ≡ (P.fuse memory.new).has_burnt }
+    ensures keeps_fuse { KeepsFuse (λ limit. at + 40 ≤ limit) (P.fuse memory.old) (P.fuse memory.new) }
+{
+    // The region's length is a u64, and so is each address up to it.
+    let _length = memory.len();
+    memory.store_words(at + KIND, &[slot.kind, slot.head, slot.tail, slot.created])
 }
 
 /// Stores one word.
