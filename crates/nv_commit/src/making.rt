@@ -17,18 +17,11 @@ ghost use Rattle.nv_commit.specs.Makes.{BeforeOrMade, CanBegin, CanMake, MakeWor
 use crate::extending::TAIL;
 use crate::together::Extension;
 use nv_entry::Entry;
-use nv_inode::Slot;
+use nv_inode::{Slot, store_slot};
 use nv_journal::change_two;
 use nv_logpage::append;
 use nv_region::{Pmem, Stopped};
 use nv_super::{BLOCK_SIZE, Kind};
-
-// Words of a slot, by their places in it.
-const KIND: u64 = 8;
-
-const HEAD: u64 = 16;
-
-const CREATED: u64 = 32;
 
 /// What an inode begins with.
 #[derive(Clone, Copy)]
@@ -123,21 +116,4 @@ fn write_slot<P: Pmem>(memory: &mut P, at: u64, slot: &Slot) -> Result<(), Stopp
 {
     store_slot(memory, at, slot)?;
     memory.fence()
-}
-
-/// Stores the words of the slot at an address but for its valid word.
-fn store_slot<P: Pmem>(memory: &mut P, at: u64, slot: &Slot) -> Result<(), Stopped>
-    requires whole { at % 8 ≡ 0 }
-    requires inside { at + 40 ≤ size (P.region memory.old) }
-    ensures done { OnOk result (P.region memory.new ≡ with_slot (P.region memory.old) at slot.now) }
-    ensures wrote { StoresOnly (Within (at + 8) 32) (P.region memory.old) (P.region memory.new) (P.may_hold memory.old) (P.may_hold memory.new) }
-    ensures stopped { is_err result ≡ (P.fuse memory.new).has_burnt }
-    ensures keeps_fuse { KeepsFuse (λ limit. at + 40 ≤ limit) (P.fuse memory.old) (P.fuse memory.new) }
-{
-    // The region's length is a u64, and so is each address up to it.
-    let _length = memory.len();
-    memory.store(at + KIND, slot.kind)?;
-    memory.store(at + HEAD, slot.head)?;
-    memory.store(at + TAIL, slot.tail)?;
-    memory.store(at + CREATED, slot.created)
 }
