@@ -1,9 +1,12 @@
 -- Laws of words and of the numbers of bytes.
 use Rattle.std.proofs.Common.{◌≡◌, ℕ, zero, suc, ◌+◌, ◌-◌, ◌*◌, ◌/◌, ◌%◌, ◌^◌, ◌<◌, ◌≤◌, List, [], ◌∷◌, ◌++◌, length, take, drop, get_or, refl, ap, sym, ◌∙◌, arith, append_assoc, length-drop, length-take, add-one, min, below_more}
-use Rattle.std.proofs.Math.Nat.{pow-succ', mul-le-mul_left, pow-le-pow_right}
+use Rattle.std.proofs.Math.Nat.{pow-succ', mul-le-mul_left}
 use Rattle.std.proofs.lemmas.List.{take-append-le, drop-append-le, take_all}
 use Rattle.std.proofs.lemmas.Nat.{shr-shr}
 use Rattle.std.proofs.Math.Seq.{drop-append_seam}
+use Rattle.std.proofs.lemmas.Slice.{between_is}
+use Rattle.byteorder.specs.Endian.{little_number}
+use Rattle.byteorder.specs.Numbers.{little_from-cons, little_from-take}
 use Rattle.nv_entry.specs.Digits.{low_bytes, high_part}
 use Rattle.nv_super.specs.nv_region.Region.{Region, word}
 use Rattle.nv_entry.specs.Text.{number_of, text_word}
@@ -120,11 +123,27 @@ text_more R at k w part items new len few e is_new none below = rw is_new (below
         let flat : 256 ^ part * high_part part w ≡ 0 = ap (λ (h : ℕ). 256 ^ part * h) none ∙ omega arith in
         sym e ∙ (let whole : w ≡ number_of (low_bytes part w) = omega arith in whole) ∙ sym (word-append_right items (low_bytes part w) (8 * k) (sym len) few')
 
-pub at_most_7 : (n : ℕ) → n ≤ 7 → 256 ^ n ≤ 72057594037927936
-at_most_7 n h = pow-le-pow_right {n = 256} (omega arith) {i = n} {j = 7} h
+-- ---- words of a text, as they are read
 
-pub rest_whole : (i : ℕ) (xs : List ℕ) → take (length xs - i) (drop i xs) ≡ drop i xs
-rest_whole i xs = take_all (length xs - i) (drop i xs) (simp length-drop (omega arith))
+number_read : (n : ℕ) (xs : List ℕ) → n ≤ length xs → little_number n xs ≡ number_of (take n xs)
+number_read zero xs inside = refl
+number_read (suc n) [] inside = absurd (omega (arith, inside))
+number_read (suc n) (x ∷ xs) inside = ap (λ (r : ℕ). x + 256 * r) (little_from-cons 0 n x xs ∙ number_read n xs (omega (arith, inside)))
+
+-- a whole word, from the first bytes
+pub word_read : (name : List ℕ) (k m : ℕ) → 8 * k + 8 ≤ m → m ≤ length name → little_number 8 (drop (8 * k) (take m name)) ≡ text_word name (8 * k)
+unfolding text_word
+word_read name k m inside front =
+    ap (little_number 8) (sym (between_is name (8 * k) m)) ∙ little_from-take 0 8 (m - 8 * k) (drop (8 * k) name) (omega arith)
+    ∙ number_read 8 (drop (8 * k) name) (omega (arith, length-drop (8 * k) name))
+
+-- the last word, from the bytes that are left
+pub rest_read : (name rest : List ℕ) (k : ℕ) → length name ≤ 8 * k + 8 → rest ≡ take (length name - 8 * k) (drop (8 * k) name) → little_number (length rest) rest ≡ text_word name (8 * k)
+unfolding text_word
+rest_read name rest k last is =
+    let few : length (drop (8 * k) name) ≤ 8 = simp length-drop (omega arith) in
+    let all : rest ≡ drop (8 * k) name = is ∙ take_all (length name - 8 * k) (drop (8 * k) name) (simp length-drop (omega arith)) in
+    number_read (length rest) rest (omega arith) ∙ ap number_of (take_all (length rest) rest (omega arith) ∙ all ∙ sym (take_all 8 (drop (8 * k) name) few))
 
 -- what k bytes leave of a number is what a shift by their bits leaves
 pub high_part_shifted : (k n : ℕ) → high_part k n ≡ n / 2 ^ (8 * k)

@@ -1,26 +1,39 @@
-use Rattle.std.proofs.Common.{rules, ℕ, [], ◌∷◌, ◌+◌, ◌*◌, ◌≡◌, ◌%◌, ◌∙◌, ap, arith, length}
+use Rattle.std.proofs.Common.{rules, ℕ, suc, List, [], ◌∷◌, ◌++◌, ◌+◌, ◌*◌, ◌≡◌, ◌<◌, ◌∙◌, ap, arith, length, length-take, take, get_or, append-nil}
+use Rattle.std.proofs.lemmas.List.{get_or-take}
 use Rattle.std.proofs.lemmas.Result.{on_ok_weaker}
 use Rattle.nv_super.specs.nv_region.Region.{Region, word}
 use Rattle.nv_entry.specs.Name.{IsName}
-use Rattle.nv_entry.specs.Spelling.{IsNameAt, IsTextAt, first_word, operation_code, words_for}
+use Rattle.nv_entry.specs.Text.{text_word}
+use Rattle.nv_entry.specs.Spelling.{IsNameAt, first_word, operation_code, words_for}
 use Rattle.nv_entry.specs.Written.{HoldsWords}
-use Rattle.nv_super.specs.nv_region.Stored.{SameOutside}
 use Rattle.nv_entry.specs.declared.entry.NameEntry.{NameEntry}
 use Rattle.nv_entry.proofs.writing.store_name_entry.Goals as goal
 
--- the three words, then the name, behind which nothing of the three has changed
-name_written : (R R' : Region) (at n first : ℕ) (e : NameEntry) → at % 8 ≡ 0 → HoldsWords R at (first ∷ e.inode ∷ e.time ∷ []) → SameOutside R (at + 24) n R' → IsName e.name
-    → first ≡ first_word 3 (operation_code e.operation) (24 + 8 * words_for (length e.name)) (length e.name) → IsTextAt R' (at + 24) e.name → IsNameAt R' at e
-name_written R R' at n first e aligned held rest is is_first text = record {
-  first = rest.before at aligned (omega arith) ∙ ap (word R) (let s : at ≡ at + 0 = omega arith in s) ∙ held 0 (omega arith) ∙ is_first;
-  inode = rest.before (at + 8) (omega arith) (omega arith) ∙ held 1 (omega arith);
-  time = rest.before (at + 16) (omega arith) (omega arith) ∙ held 2 (omega arith);
-  name = text;
+-- three words and those of the name, of a row with room for 32 more
+name_written : (R : Region) (at first : ℕ) (e : NameEntry) (text : List ℕ) → HoldsWords R at (take (3 + words_for (length e.name)) (first ∷ e.inode ∷ e.time ∷ (text ++ []))) → length text ≡ 32 → IsName e.name
+    → first ≡ first_word 3 (operation_code e.operation) (8 * (3 + words_for (length e.name))) (length e.name) → ((k : ℕ) → 8 * k < length e.name → get_or text k 0 ≡ text_word e.name (8 * k)) → IsNameAt R at e
+name_written R at first e text held long is is_first spelled = record {
+  first = ap (word R) (let start : at ≡ at + 8 * 0 = omega arith in start) ∙ there 0 (omega arith) ∙ is_first ∙ ap (λ (n : ℕ). first_word 3 (operation_code e.operation) n (length e.name)) (omega arith);
+  inode = there 1 (omega arith);
+  time = there 2 (omega arith);
+  name = λ k inside.
+      ap (word R) (let place : at + 24 + 8 * k ≡ at + 8 * suc (suc (suc k)) = omega arith in place) ∙ there (suc (suc (suc k))) (omega (arith, inside))
+      ∙ ap (λ (l : List ℕ). get_or l k 0) (append-nil text) ∙ spelled k inside;
   is_name = is;
 }
+  where
+    row : List ℕ
+    row = first ∷ e.inode ∷ e.time ∷ (text ++ [])
+
+    enough : length row ≡ 35
+    enough = ap (λ (l : List ℕ). length (first ∷ e.inode ∷ e.time ∷ l)) (append-nil text) ∙ omega (arith, long)
+
+    there : (k : ℕ) → k < 3 + words_for (length e.name) → word R (at + 8 * k) ≡ get_or row k 0
+    there k below =
+        held k (omega (arith, below, enough, is.fits, length-take (3 + words_for (length e.name)) row)) ∙ get_or-take (3 + words_for (length e.name)) row k 0 below
 
 pub returns-clause-spelled : goal.returns-clause-spelled
 returns-clause-spelled g c =
-    on_ok_weaker c.store_text.result
-    (λ text. name_written _ _ c.args.at _ c.first_word_of-first.result c.args.e.now c.requires.aligned c.in_ok-store_words.ensures.held c.store_text.ensures.rest c.as_slice-name.ensures.is_name (search rules) (rw c.as_slice-name.ensures.value at text))
-    c.store_text.ensures.text
+    on_ok_weaker c.store_words.result
+    (λ held. name_written _ c.args.at c.first_word_of.result c.args.e.now c.spell_text.new.words (rw c.as_slice-name.ensures.value at held) c.spell_text.ensures.as_long c.as_slice-name.ensures.is_name (search rules) (rw c.as_slice-name.ensures.value at c.spell_text.ensures.text))
+    c.store_words.ensures.held
