@@ -23,12 +23,12 @@ use Rattle.nv_held.proofs.RowsKept.{rows_follow}
 use Rattle.nv_held.proofs.Shown.{stands_at}
 use Rattle.nv_commit.specs.Extends.{extended, with_log}
 use Rattle.nv_commit.specs.Together.{ShowsIdle}
-use Rattle.nv_calls.specs.Steps.{ShowsRow}
-use Rattle.nv_calls.specs.Taken.{TakesEach}
+use Rattle.nv_steps.specs.Steps.{ShowsRow}
+use Rattle.nv_steps.specs.Taken.{TakesEach}
 use Rattle.nv_rows.proofs.Places.{number_at}
-use Rattle.nv_calls.proofs.TakenOut.{other_set}
-use Rattle.nv_calls.proofs.TakenBlocks.{are_free, lists_without}
-use Rattle.nv_calls.proofs.TwoLogs.{cut_each, taken_apart}
+use Rattle.nv_steps.proofs.RowsAt.{other_set}
+use Rattle.nv_steps.proofs.TakenBlocks.{are_free, lists_without}
+use Rattle.nv_steps.proofs.TwoLogs.{cut_each, taken_apart}
 
 -- the pages of a log that is shown are all different
 shown_once : (l : Layout) (S : Region) (held : Store) (i : ℕ) (h : Held) → Shows S l held → held i ≡ Some h → IsDistinct eqb h.pages

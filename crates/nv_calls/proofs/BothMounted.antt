@@ -18,16 +18,16 @@ use Rattle.nv_held.specs.Grows.{SameFile}
 use Rattle.nv_held.specs.Mounted.{IsFaultless, IsMounted, KeepsRow, KeepsRows, ShowsSound}
 use Rattle.nv_commit.specs.Extends.{extended, with_log}
 use Rattle.nv_calls.specs.LinkCalls.{BothGrew, ShowsBothGrew}
-use Rattle.nv_calls.specs.MoreNames.{GrowsTwo}
+use Rattle.nv_steps.specs.MoreNames.{GrowsTwo}
 use Rattle.nv_calls.specs.Mount.{IsKept}
-use Rattle.nv_calls.specs.Steps.{ShowsRow}
+use Rattle.nv_steps.specs.Steps.{ShowsRow}
 use Rattle.nv_calls.proofs.BothHeld.{apart, both_lists, both_rows, both_sound, fresh_free, more_free, own_first, own_second}
 use Rattle.nv_calls.proofs.CreatedRows.{in_rows}
 use Rattle.nv_calls.proofs.Mounts.{bytes_stay, kept_of_mounted, mounted_of_kept, mounted_with}
 use Rattle.nv_calls.proofs.OneRow.{shows_row}
 use Rattle.nv_super.proofs.Members.{stands}
 use Rattle.nv_calls.proofs.TakenOut.{places_differ}
-use Rattle.nv_calls.proofs.TakenBlocks.{taken_sup}
+use Rattle.nv_steps.proofs.TakenBlocks.{taken_sup}
 
 -- What is owed of a call on two logs: its entries leave the files' blocks, both rows are of the new logs, and nothing is wrong
 -- with what is held then, where both inodes own what was theirs or free.

@@ -16,9 +16,11 @@ use Rattle.nv_calls.specs.Seen.{node_of, tree_of}
 use Rattle.nv_calls.proofs.CreatedTree.{changed_there, elsewhere, put_there}
 use Rattle.nv_rows.proofs.Places.{row_of_other}
 use Rattle.nv_calls.proofs.RowChange.{unchanged}
-use Rattle.nv_calls.proofs.RowOf.{row_at}
-use Rattle.nv_calls.proofs.SetRows.{both_rise, first_set, second_set}
-use Rattle.nv_calls.proofs.TakenOut.{other_set, places_differ}
+use Rattle.nv_steps.proofs.RowOf.{row_at}
+use Rattle.nv_calls.proofs.TwoRows.{both_rise}
+use Rattle.nv_steps.proofs.SetRows.{first_set, second_set}
+use Rattle.nv_calls.proofs.TakenOut.{places_differ}
+use Rattle.nv_steps.proofs.RowsAt.{other_set}
 
 module _ (R S : Region) (rows : List Row) (i j : ℕ) (first first_now second second_now : Row) (rising : Rises row_key rows) (at : slice_get rows i ≡ Some first) (other_at : slice_get rows j ≡ Some second)
     (number : first_now.inode ≡ first.inode) (other_number : second_now.inode ≡ second.inode) (differ : first.inode ≢ second.inode) (change other : Node → Node) (changed : SameNode (node_of S first_now) (change (node_of R first))) (other_changed : SameNode (node_of S second_now) (other (node_of R second)))

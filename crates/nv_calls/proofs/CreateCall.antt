@@ -29,11 +29,13 @@ use Rattle.nv_tree.specs.Tree.{SameNode, SameTree, Tree, walk}
 use Rattle.nv_tree.specs.Calls.{created, with_name}
 use Rattle.nv_tree.specs.Refusals.{Path, Tests, create_tests, first_refusal, has_no_space, writing}
 use Rattle.nv_calls.specs.Mount.{IsKept, Mount}
-use Rattle.nv_calls.specs.NameCalls.{ShowsCreated, create_blocks, ended_row, name_entries, row_blocks}
-use Rattle.nv_calls.specs.NewNames.{CreatesAt, IsNoneNamed, IsSpot, LeavesRows, spot_tests}
+use Rattle.nv_calls.specs.NameCalls.{ShowsCreated, create_blocks, ended_row, row_blocks}
+use Rattle.nv_steps.specs.NameEntries.{name_entries}
+use Rattle.nv_calls.specs.AtPlaces.{CreatesAt, LeavesRows}
+use Rattle.nv_calls.specs.Spots.{IsNoneNamed, IsSpot, spot_tests}
 use Rattle.nv_calls.specs.Same.{SameMount}
 use Rattle.nv_calls.specs.Seen.{node_of, tree_of}
-use Rattle.nv_calls.specs.Steps.{RefusesStep}
+use Rattle.nv_steps.specs.Steps.{RefusesStep}
 use Rattle.nv_rows.specs.Unused.{unused_number}
 use Rattle.nv_calls.specs.World.{world_of}
 use Rattle.nv_calls.proofs.CreatedRows.{bytes_kept, kept_then, name_absent, was_created}

@@ -16,7 +16,7 @@ use Rattle.nv_tree.specs.Path.{IsPath, IsPathName, Says, last_name}
 use Rattle.nv_tree.specs.Names.{Spells}
 use Rattle.nv_tree.specs.Tree.{Tree, found, walk}
 use Rattle.nv_tree.specs.Refusals.{Path, Tests, World, create_tests, first_refusal, has_no_slot, has_no_space, is_bad_name, is_there, refused_walk, walk_tests, writing}
-use Rattle.nv_calls.specs.NewNames.{spot_tests}
+use Rattle.nv_calls.specs.Spots.{spot_tests}
 use Rattle.nv_calls.specs.Seen.{LeadsTo, node_of, tree_of}
 use Rattle.nv_rows.specs.Rows.{IsInUse}
 use Rattle.nv_rows.proofs.Places.{numbered, row_in_use}

@@ -30,12 +30,12 @@ use Rattle.nv_commit.specs.Pages.{MapsNothing}
 use Rattle.nv_commit.specs.Together.{ShowsIdle}
 use Rattle.nv_commit.proofs.BlocksOf.{begun_free, begun_owns}
 use Rattle.nv_commit.proofs.Called.{created_faultless}
-use Rattle.nv_calls.specs.NameCalls.{first_entries, name_entries, new_held, with_named}
-use Rattle.nv_calls.specs.NewNames.{IsNewRow, place_named}
-use Rattle.nv_calls.specs.Steps.{ShowsRow}
-use Rattle.nv_calls.specs.Taken.{TakesEach}
-use Rattle.nv_calls.proofs.NameEntries.{first, first_in_range, at_page, name_file, new_maps_nothing, new_names, new_numbers}
-use Rattle.nv_calls.proofs.TakenBlocks.{are_free, lists_without}
+use Rattle.nv_steps.specs.NameEntries.{first_entries, name_entries, new_held, with_named}
+use Rattle.nv_steps.specs.NewNames.{IsNewRow, place_named}
+use Rattle.nv_steps.specs.Steps.{ShowsRow}
+use Rattle.nv_steps.specs.Taken.{TakesEach}
+use Rattle.nv_steps.proofs.NameEntries.{first, first_in_range, at_page, name_file, new_maps_nothing, new_names, new_numbers}
+use Rattle.nv_steps.proofs.TakenBlocks.{are_free, lists_without}
 
 module _ {R : Region} {s : Super} {held : Store} {h : Held} {row : Row} {free after : FreeLists} (kind : Kind) (mode time j : ℕ) (name : List ℕ) (page : ℕ) (fresh : List ℕ)
     (shows : ShowsRow R s held h row free) (unused : held j ≡ None) (directory : h.kind ≡ Directory) (good : IsGoodName s j name) (absent : (graph_in (fixed_layout s) held).name row.inode name ≡ None)

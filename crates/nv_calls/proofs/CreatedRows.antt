@@ -32,19 +32,22 @@ use Rattle.nv_held.proofs.Owning.{other_held}
 use Rattle.nv_held.proofs.RowsKept.{rows_follow, rows_more}
 use Rattle.nv_commit.specs.Extends.{extended}
 use Rattle.nv_calls.specs.Mount.{IsKept}
-use Rattle.nv_calls.specs.NameCalls.{ShowsCreated, WasCreated, name_entries, new_held, with_named}
-use Rattle.nv_calls.specs.NewNames.{CreatesAt, HasNamed, IsNoneNamed, place_named}
-use Rattle.nv_calls.specs.Steps.{ShowsRow}
+use Rattle.nv_calls.specs.NameCalls.{ShowsCreated, WasCreated}
+use Rattle.nv_steps.specs.NameEntries.{name_entries, new_held, with_named}
+use Rattle.nv_steps.specs.NewNames.{HasNamed, place_named}
+use Rattle.nv_calls.specs.AtPlaces.{CreatesAt}
+use Rattle.nv_calls.specs.Spots.{IsNoneNamed}
+use Rattle.nv_steps.specs.Steps.{ShowsRow}
 use Rattle.nv_calls.proofs.CreatedHeld.{all_free, made_lists, made_sound, new_told}
 use Rattle.nv_rows.proofs.PutBack.{is_inserted}
-use Rattle.nv_calls.proofs.Inserted.{from_inserted, stays_inserted}
+use Rattle.nv_steps.proofs.Inserted.{from_inserted, stays_inserted}
 use Rattle.nv_calls.proofs.Mounts.{bytes_stay, kept_of_mounted, mounted_of_kept, mounted_with}
-use Rattle.nv_calls.proofs.NamedLogs.{named_told}
+use Rattle.nv_steps.proofs.NamedLogs.{named_told}
 use Rattle.nv_calls.proofs.OneRow.{shows_row}
 use Rattle.nv_super.proofs.Members.{stands}
 use Rattle.nv_rows.proofs.Places.{number_at}
-use Rattle.nv_calls.proofs.RowOf.{row_at}
-use Rattle.nv_calls.proofs.TakenBlocks.{all_differ, taken_sup}
+use Rattle.nv_steps.proofs.RowOf.{row_at}
+use Rattle.nv_steps.proofs.TakenBlocks.{all_differ, taken_sup}
 
 -- ---- what is held of rows
 

@@ -20,13 +20,14 @@ use Rattle.nv_tree.specs.Path.{last_name}
 use Rattle.nv_tree.specs.Tree.{Node, SameNode, SameNodes, SameTree, Tree, walk}
 use Rattle.nv_tree.specs.Calls.{created, edit, new_node, on_ok, put_node, with_name}
 use Rattle.nv_rows.specs.Rows.{HasInserted}
-use Rattle.nv_calls.specs.NewNames.{HasNamed, IsNewRow}
+use Rattle.nv_steps.specs.NewNames.{HasNamed, IsNewRow}
 use Rattle.nv_calls.specs.Seen.{node_of, tree_of}
-use Rattle.nv_calls.proofs.Inserted.{row_of_inserted, row_of_own}
-use Rattle.nv_calls.proofs.NamesCounted.{one_more}
-use Rattle.nv_calls.proofs.RowChange.{at_set, unchanged}
+use Rattle.nv_steps.proofs.Inserted.{row_of_inserted, row_of_own}
+use Rattle.nv_steps.proofs.NamesCounted.{one_more}
+use Rattle.nv_calls.proofs.RowChange.{unchanged}
+use Rattle.nv_steps.proofs.RowsAt.{at_set}
 use Rattle.nv_rows.proofs.Places.{row_of_other, set_rising}
-use Rattle.nv_calls.proofs.RowOf.{row_at}
+use Rattle.nv_steps.proofs.RowOf.{row_at}
 
 -- a condition over names, where they lead
 pub first_of : (b : Bool) (x : ℕ × ℕ) (o : Option (ℕ × ℕ)) → option_map (λ (y : ℕ × ℕ). y.0) (cond b (Some x) o) ≡ cond b (Some x.0) (option_map (λ (y : ℕ × ℕ). y.0) o)

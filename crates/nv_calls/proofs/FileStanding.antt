@@ -1,11 +1,10 @@
 -- What is known of the row of a file, and of what a write does to it.
-use Rattle.std.proofs.Common.{◌≡◌, ℕ, ◌+◌, ◌/◌, ◌%◌, ◌<◌, ◌≤◌, Bool, true, false, cond, nat_eq, nat_lt, not, is_some, ◌&&◌, List, refl, sym, ◌∙◌, arith, Option, Some, None}
+use Rattle.std.proofs.Common.{◌≡◌, ℕ, ◌≤◌, Bool, false, List, sym, ◌∙◌, arith}
 use Rattle.std.specs.List.{Contains}
 use Rattle.std.proofs.Math.Logic.{∥∥₁_elim}
 use Rattle.std.proofs.Math.Nat.{ℕ_set}
 use Rattle.std.proofs.Props.{props}
-use Rattle.std.proofs.lemmas.Bool.Decides.{nat_tests}
-use Rattle.nv_region.specs.Region.{Region, size}
+use Rattle.nv_region.specs.Region.{Region}
 use Rattle.nv_super.specs.declared.superblock.Super.{Super}
 use Rattle.nv_super.specs.declared.faults.Fault.{Fault}
 use Rattle.nv_super.specs.declared.owners.Owner.TheVariants as owners
@@ -18,14 +17,12 @@ use Rattle.nv_scan.proofs.Sizes.{page_below}
 use Rattle.nv_held.specs.Held.{Held, Store}
 use Rattle.nv_held.specs.Blocks.{by_page}
 use Rattle.nv_calls.specs.Mount.{IsKept}
-use Rattle.nv_calls.specs.Steps.{ShowsRow}
-use Rattle.nv_calls.specs.Writes.{ending_page, plan_of}
-use Rattle.nv_calls.specs.Written.{FileStands}
+use Rattle.nv_steps.specs.Steps.{ShowsRow}
+use Rattle.nv_steps.specs.Written.{FileStands}
 use Rattle.nv_calls.proofs.FileBytes.{row_size}
 use Rattle.nv_calls.proofs.Mounts.{mounted_of_kept}
 use Rattle.nv_calls.proofs.OneRow.{shows_row}
-use Rattle.nv_calls.proofs.PreparedBlocks.{free_held}
-use Rattle.nv_calls.proofs.WriteFollows.{IsRight}
+use Rattle.nv_steps.proofs.PreparedBlocks.{free_held}
 
 file_stands_so : {R : Region} {s : Super} {held : Store} {h : Held} {row : Row} {free : FreeLists} → ShowsRow R s held h row free → row.numbers.size ≤ 1073741824 → FileStands R s free row
 file_stands_so {R} {s} {held} {h} {row} {free} shows small =
@@ -52,25 +49,3 @@ pub file_stands : {R : Region} {s : Super} {rows : List Row} {free : FreeLists} 
 file_stands {R} {s} {rows} {free} {faults} {read_only} {stopped} kept runs writes row c =
     let prop : IsProp (FileStands R s free row) = hlevel (props, ℕ_set) in
     ∥∥₁_elim (mounted_of_kept kept runs writes) prop (λ w. (let v = shows_row w.1 kept.lists row c in file_stands_so v.1 (row_size R s rows free faults read_only stopped kept runs row c)))
-
--- ---- the plan of a write
-
--- the page where the file ended lies before the new bytes
-ends_before : (mapped : ℕ → Option ℕ) (size offset q : ℕ) → ending_page mapped size offset ≡ Some q → q < offset / 4096
-ends_before mapped size offset q is = by (not (nat_eq (size % 4096) 0)) (nat_lt (size / 4096) (offset / 4096)) (is_some (mapped (size / 4096))) refl is where
-  by : (a b c : Bool) → nat_lt (size / 4096) (offset / 4096) ≡ b → cond (a && b && c) (Some (size / 4096)) None ≡ Some q → q < offset / 4096
-  by true true true test e = (let same : size / 4096 ≡ q = cc in let less : size / 4096 < offset / 4096 = grind (arith, nat_tests) in omega (arith, same, less))
-  by true true false test e = absurd (cc)
-  by true false c test e = absurd (cc)
-  by false b c test e = absurd (cc)
-
--- A write that isn't too large is right for its file.
-pub plan_right : (row : Row) (mapped : ℕ → Option ℕ) (offset count time : ℕ) → row.numbers.size ≤ 1073741824 → 0 < count → offset + count ≤ 1073741824 → IsRight row (plan_of mapped row.numbers.size offset count time)
-plan_right row mapped offset count time small some fits = record {
-  some = omega (arith, some);
-  before = λ q is. ends_before mapped row.numbers.size offset q is;
-  small = omega (arith, small, fits);
-  top = omega (arith, some, fits);
-  last = omega (arith, some);
-  grows = omega arith;
-}

@@ -25,14 +25,15 @@ use Rattle.nv_tree.specs.Path.{IsPath, IsPathName, Says, last_name}
 use Rattle.nv_tree.specs.Tree.{Node, SameTree, Tree, found, walk}
 use Rattle.nv_tree.specs.Calls.{edit, linked, links_at, with_links, with_name}
 use Rattle.nv_tree.specs.Refusals.{Path, Tests, first_refusal, has_no_space, link_tests, writing}
-use Rattle.nv_calls.specs.LinkCalls.{ShowsBothGrew, link_blocks, links_entries}
-use Rattle.nv_calls.specs.MoreNames.{LinksAt}
+use Rattle.nv_calls.specs.LinkCalls.{ShowsBothGrew, link_blocks}
+use Rattle.nv_steps.specs.NameEntries.{links_entries, name_entries}
+use Rattle.nv_steps.specs.MoreNames.{LinksAt}
 use Rattle.nv_calls.specs.Mount.{IsKept, Mount}
-use Rattle.nv_calls.specs.NameCalls.{ended_row, name_entries, row_blocks}
-use Rattle.nv_calls.specs.NewNames.{IsNoneNamed}
+use Rattle.nv_calls.specs.NameCalls.{ended_row, row_blocks}
+use Rattle.nv_calls.specs.Spots.{IsNoneNamed}
 use Rattle.nv_calls.specs.Places.{IsLinkSpot, link_spot_tests}
 use Rattle.nv_calls.specs.Seen.{LeadsTo, tree_of}
-use Rattle.nv_calls.specs.Steps.{RefusesStep}
+use Rattle.nv_steps.specs.Steps.{RefusesStep}
 use Rattle.nv_calls.specs.World.{world_of}
 use Rattle.nv_calls.proofs.BothMounted.{both_bytes, both_kept, both_logs}
 use Rattle.nv_calls.proofs.BothTree.{both_tree}
@@ -43,10 +44,10 @@ use Rattle.nv_calls.proofs.Kept.{rows_rise}
 use Rattle.nv_calls.proofs.LinkTests.{link_allows}
 use Rattle.nv_calls.proofs.LinkedHeld.{kinds_differ, link_right}
 use Rattle.nv_calls.proofs.LinkedTree.{counted_node, linked_by, links_told}
-use Rattle.nv_calls.proofs.NamesCounted.{as_many}
+use Rattle.nv_steps.proofs.NamesCounted.{as_many}
 use Rattle.nv_super.proofs.Members.{stands}
 use Rattle.nv_calls.proofs.RowNumbers.{row_number}
-use Rattle.nv_calls.proofs.RowOf.{row_at}
+use Rattle.nv_steps.proofs.RowOf.{row_at}
 use Rattle.nv_calls.proofs.Tests.{space_allows, space_refuses}
 
 module _ {R S : Region} {s : Super} {rows news : List Row} {free after : FreeLists} {faults : List Fault} {read_only stopped : Bool} (kept : IsKept R s rows free faults read_only stopped) (runs : stopped ≡ false) (writes : read_only ≡ false)

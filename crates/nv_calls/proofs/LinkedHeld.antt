@@ -23,17 +23,17 @@ use Rattle.nv_held.specs.nv_named.Read.{row_of}
 use Rattle.nv_held.specs.nv_named.Step.{IsGoodName}
 use Rattle.nv_commit.specs.Extends.{extended, with_log}
 use Rattle.nv_commit.proofs.Called.{linked_faultless}
-use Rattle.nv_calls.specs.LinkCalls.{links_entries}
-use Rattle.nv_calls.specs.MoreNames.{HasCounted, LinksAt}
-use Rattle.nv_calls.specs.NameCalls.{name_entries}
-use Rattle.nv_calls.specs.NewNames.{IsNoneNamed, place_named}
-use Rattle.nv_calls.specs.Steps.{ShowsRow}
+use Rattle.nv_steps.specs.NameEntries.{links_entries, name_entries}
+use Rattle.nv_steps.specs.MoreNames.{HasCounted, LinksAt}
+use Rattle.nv_steps.specs.NewNames.{place_named}
+use Rattle.nv_calls.specs.Spots.{IsNoneNamed}
+use Rattle.nv_steps.specs.Steps.{ShowsRow}
 use Rattle.nv_calls.proofs.BothMounted.{IsRight}
 use Rattle.nv_calls.proofs.CreatedRows.{not_named}
-use Rattle.nv_calls.proofs.LinksEntries.{links_file, links_names, links_numbers}
-use Rattle.nv_calls.proofs.NamedLogs.{named_file, named_told}
+use Rattle.nv_steps.proofs.LinksEntries.{links_file, links_names, links_numbers}
+use Rattle.nv_steps.proofs.NamedLogs.{named_file, named_told}
 use Rattle.nv_super.proofs.Members.{stands}
-use Rattle.nv_calls.proofs.RowOf.{row_at}
+use Rattle.nv_steps.proofs.RowOf.{row_at}
 
 -- ---- a file that counts a link more or less
 

@@ -11,7 +11,7 @@ use Rattle.nv_tree.specs.declared.refusal.Refusal.{Refusal}
 use Rattle.nv_tree.specs.Path.{last_name}
 use Rattle.nv_tree.specs.Tree.{Node, SameNode, Tree, found, walk}
 use Rattle.nv_tree.specs.Calls.{edit, linked, links_at, on_ok, on_some, with_links, with_name}
-use Rattle.nv_calls.specs.MoreNames.{HasCounted}
+use Rattle.nv_steps.specs.MoreNames.{HasCounted}
 use Rattle.nv_calls.specs.Seen.{node_of, tree_of}
 
 -- The file shows its new count.

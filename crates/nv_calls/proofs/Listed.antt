@@ -1,5 +1,5 @@
 -- The names of a directory's row as those of the tree, and why `list` is refused.
-use Rattle.std.proofs.Common.{◌≡◌, ℕ, Bool, is_none, inl, inr, List, [], ◌∷◌, ◌++◌, map, refl, sym, ◌∙◌, ap, subst, arith, Option, Some, None, Result, Ok, Err, IfErr}
+use Rattle.std.proofs.Common.{◌≡◌, ℕ, Bool, is_none, inl, inr, List, [], ◌∷◌, ◌++◌, map, refl, sym, ◌∙◌, ap, subst, arith, Option, Some, None, Result, Ok, Err}
 use Rattle.std.specs.List.{Contains}
 use Rattle.std.specs.Option.{option_map, option_and_then}
 use Rattle.nv_region.specs.Region.{Region}
@@ -76,7 +76,3 @@ refused_too t (Some names) e h = by (walk t 1 names) (found t names) (is_no_dir 
   by (Err r) o b h = h
   by (Ok d) None b h = h
   by (Ok d) (Some i) b h = absurd (cc)
-
--- a refusal handed on
-pub refused_by : {A : Type 0} (r : Result A Refusal) (e x : Refusal) (Q : Refusal → Type 0) → r ≡ Err x → x ≡ e → Q e → IfErr r Q
-refused_by r e x Q is same q = rw (is, same) q

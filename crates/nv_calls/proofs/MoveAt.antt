@@ -7,8 +7,11 @@ use Rattle.nv_alloc.specs.FreeValue.{FreeLists}
 use Rattle.nv_entry.specs.declared.entry.Operation.TheVariants.{Add, Remove}
 use Rattle.nv_logpage.specs.Append.{needed}
 use Rattle.nv_scan.specs.declared.piece.Row.{Row}
-use Rattle.nv_calls.specs.MoveCalls.{MovesAt, MovesWithin, move_blocks, move_entries}
-use Rattle.nv_calls.specs.NameCalls.{name_entries}
+use Rattle.nv_calls.specs.MoveCalls.{MovesAt, move_blocks, MovesAcross}
+use Rattle.nv_steps.specs.Moves.{MovesWithin, move_entries}
+use Rattle.nv_steps.specs.NameEntries.{name_entries}
+use Rattle.nv_steps.specs.MoreNames.{GetsName, GrowsTwo}
+use Rattle.nv_steps.specs.Unlinks.{LosesName}
 
 pub on_ok : {A E : Type 0} (r : Result A E) {P Q : Type 0} → (P → Q) → OnOk r P → OnOk r Q
 on_ok (Ok a) to p = to p
@@ -49,3 +52,21 @@ moves_here {R} {S} {s} {free} {after} rows {i = i} {n = n} {name = name} {o = o}
         put = ap (λ (k : ℕ). set rows k now) (sym same);
       },
     )
+
+-- how many blocks they take
+pub both_count : {a from b to : Row} {i j : ℕ} {n name o other : List ℕ} {t time : ℕ} → a ≡ from → b ≡ to → i ≡ j → n ≡ name → o ≡ other → t ≡ time
+    → needed (a.tail % 4096) (name_entries Remove i n t) + needed (b.tail % 4096) (name_entries Add i o t) ≡ needed (from.tail % 4096) (name_entries Remove j name time) + needed (to.tail % 4096) (name_entries Add j other time)
+both_count from_is to_is number name_is other_is time_is = λ k. needed ((from_is k).tail % 4096) (name_entries Remove (number k) (name_is k) (time_is k)) + needed ((to_is k).tail % 4096) (name_entries Add (number k) (other_is k) (time_is k))
+
+-- the move, by the row of the inode
+pub moves_across : {R S : Region} {s : Super} {free after : FreeLists} {rows news : List Row} {place target end : ℕ} {from to : Row} {i : ℕ} {n name o other : List ℕ} {t time : ℕ} (moved : Row) → slice_get rows target ≡ Some moved → i ≡ moved.inode → n ≡ name → o ≡ other → t ≡ time
+    → GrowsTwo R S s free after rows news place from (name_entries Remove i n t) end to (name_entries Add i o t) (λ fresh now. LosesName from n i t fresh now) (λ more now. GetsName to o i t more now) → MovesAcross R S s free after rows news place target end name other time
+moves_across {R} {S} {s} {free} {after} {rows} {news} {place} {target} {end} {from} {to} {i} {n} {name} {o} {other} {t} {time} moved moved_at number name_is other_is time_is step =
+    let same : (i, n, o, t) ≡ (moved.inode, name, other, time) = λ k. (number k, name_is k, other_is k, time_is k) in
+    record {
+      from = from;
+      to = to;
+      moved = moved;
+      moved_at = moved_at;
+      step = subst (λ (w : ℕ × List ℕ × List ℕ × ℕ). GrowsTwo R S s free after rows news place from (name_entries Remove w.0 w.1 w.3) end to (name_entries Add w.0 w.2 w.3) (λ fresh now. LosesName from w.1 w.0 w.3 fresh now) (λ more now. GetsName to w.2 w.0 w.3 more now)) same step;
+    }

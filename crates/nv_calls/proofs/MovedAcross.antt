@@ -33,10 +33,10 @@ use Rattle.nv_tree.specs.Calls.{edit, on_ok, on_some, renamed, with_name, withou
 use Rattle.nv_calls.specs.LinkCalls.{ShowsBothGrew}
 use Rattle.nv_calls.specs.Mount.{IsKept}
 use Rattle.nv_calls.specs.MoveCalls.{IsMoveSpot, MovesAcross}
-use Rattle.nv_calls.specs.NameCalls.{name_entries}
-use Rattle.nv_calls.specs.NewNames.{place_named}
+use Rattle.nv_steps.specs.NameEntries.{name_entries}
+use Rattle.nv_steps.specs.NewNames.{place_named}
 use Rattle.nv_calls.specs.Seen.{tree_of}
-use Rattle.nv_calls.specs.Steps.{ShowsRow}
+use Rattle.nv_steps.specs.Steps.{ShowsRow}
 use Rattle.nv_calls.proofs.BothMounted.{IsRight, both_bytes, both_kept, both_logs}
 use Rattle.nv_calls.proofs.BothTree.{both_tree}
 use Rattle.nv_calls.proofs.CreatedRows.{in_rows, name_absent}
@@ -44,7 +44,7 @@ use Rattle.nv_calls.proofs.CreatedTree.{named_node}
 use Rattle.nv_calls.proofs.GraphPaths.{graph_agrees, passed_there, walked_there, way_to}
 use Rattle.nv_calls.proofs.Kept.{rows_rise}
 use Rattle.nv_calls.proofs.LinkedHeld.{absent_in}
-use Rattle.nv_calls.proofs.NamedLogs.{lost_told, named_file, named_told}
+use Rattle.nv_steps.proofs.NamedLogs.{lost_told, named_file, named_told}
 use Rattle.nv_super.proofs.Members.{stands}
 use Rattle.nv_calls.proofs.RemovedTree.{lost_node}
 

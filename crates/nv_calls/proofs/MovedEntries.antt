@@ -15,7 +15,7 @@ use Rattle.nv_held.specs.Grows.{SameFile, grown}
 use Rattle.nv_held.specs.nv_named.Step.{IsGoodName, name_entry}
 use Rattle.nv_commit.specs.Pages.{SaysNoPage}
 use Rattle.nv_commit.proofs.BlocksOf.{same_file}
-use Rattle.nv_calls.proofs.NameEntries.{name_added, name_lost, name_numbers}
+use Rattle.nv_steps.proofs.NameEntries.{name_added, name_lost, name_numbers}
 
 module _ (l : Layout) (h : Held) (directory : h.kind ≡ Directory) (j : ℕ) (name other : List ℕ) (good : IsGoodName l.sup j name) (good_other : IsGoodName l.sup j other) (at next time tail : ℕ) (fresh : List ℕ) where
   abbrev x : Placed

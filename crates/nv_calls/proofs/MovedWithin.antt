@@ -34,28 +34,29 @@ use Rattle.nv_held.proofs.Growing.{free_but, grown_owns}
 use Rattle.nv_held.specs.nv_named.Step.{IsGoodName}
 use Rattle.nv_commit.specs.Extends.{CanExtend, extended, with_log}
 use Rattle.nv_commit.proofs.Called.{either_none, moved_here_faultless}
-use Rattle.nv_tree.specs.Tree.{SameNode, SameTree, Tree, found, walk}
+use Rattle.nv_tree.specs.Tree.{SameNode, SameTree, Tree, walk}
 use Rattle.nv_tree.specs.Tree as tree
 use Rattle.nv_tree.specs.Calls.{edit, renamed, with_name, without_name}
-use Rattle.nv_calls.specs.Grown.{ShowsGrownLog}
-use Rattle.nv_calls.specs.MoveCalls.{IsMoveSpot, MovesWithin, move_entries, move_place}
+use Rattle.nv_calls.specs.GrownLogs.{ShowsGrownLog}
+use Rattle.nv_calls.specs.MoveCalls.{IsMoveSpot}
+use Rattle.nv_steps.specs.Moves.{MovesWithin, move_entries, move_place}
 use Rattle.nv_calls.specs.Mount.{IsKept}
-use Rattle.nv_calls.specs.NewNames.{IsNoneNamed}
+use Rattle.nv_calls.specs.Spots.{IsNoneNamed}
 use Rattle.nv_calls.specs.Seen.{node_of, tree_of}
-use Rattle.nv_calls.specs.Steps.{LogFollows, ShowsRow}
+use Rattle.nv_steps.specs.Steps.{LogFollows, ShowsRow}
 use Rattle.nv_calls.proofs.CreatedRows.{in_rows, name_absent}
 use Rattle.nv_calls.proofs.CreatedTree.{first_of}
 use Rattle.nv_calls.proofs.GraphPaths.{graph_agrees, passed_there, walked_there, way_to}
 use Rattle.nv_calls.proofs.LinkedHeld.{absent_in}
-use Rattle.nv_calls.proofs.LogGrows.{can_extend, count_held, extended_bytes, fresh_free, pages_now, pages_once}
+use Rattle.nv_steps.proofs.LogGrows.{can_extend, count_held, extended_bytes, fresh_free, pages_now, pages_once}
 use Rattle.nv_calls.proofs.MovedAcross.{renamed_by}
 use Rattle.nv_calls.proofs.MovedEntries.{moved_file, moved_names, moved_numbers}
 use Rattle.nv_calls.proofs.Mounts.{mounted_with}
-use Rattle.nv_calls.proofs.NamesCounted.{one_less, one_more}
+use Rattle.nv_steps.proofs.NamesCounted.{one_less, one_more}
 use Rattle.nv_super.proofs.Members.{stands}
 use Rattle.nv_calls.proofs.RemovedTree.{none_of}
 use Rattle.nv_calls.proofs.RowChange.{kept_after, log_grew, row_bytes, tree_after}
-use Rattle.nv_calls.proofs.TakenBlocks.{lists_without, taken_sup}
+use Rattle.nv_steps.proofs.TakenBlocks.{lists_without, taken_sup}
 
 module _ {R S : Region} {s : Super} {rows : List Row} {free after : FreeLists} {faults : List Fault} {read_only stopped : Bool} (kept : IsKept R s rows free faults read_only stopped) (runs : stopped ≡ false) (writes : read_only ≡ false)
     {place target : ℕ} {name other : List ℕ} {time : ℕ} {row new : Row} (moved : Row) (at : slice_get rows place ≡ Some row) (moved_at : slice_get rows target ≡ Some moved) (step : MovesWithin R S s free after row new moved.inode name other time) (names : List (List ℕ)) (first : List ℕ) (rest : List (List ℕ))

@@ -14,8 +14,8 @@ use Rattle.nv_tree.specs.Refusals.{Path, target}
 use Rattle.nv_calls.specs.Mount.{Mount}
 use Rattle.nv_calls.specs.Seen.{tree_of}
 use Rattle.nv_calls.specs.WriteCall.{WriteNeeds}
-use Rattle.nv_calls.specs.Writes.{NeedsBlocks, data_blocks, data_entries, plan_of}
-use Rattle.nv_calls.specs.declared.planning.Plan.{Plan}
+use Rattle.nv_steps.specs.Writes.{NeedsBlocks, data_blocks, data_entries, plan_of}
+use Rattle.nv_steps.specs.declared.planning.Plan.{Plan}
 
 -- behind a tail
 blocks_needed : (pools : List (List Run)) (cpu tail : ℕ) (plan : Plan) → (count : ℕ) × NeedsBlocks pools cpu tail plan count

@@ -19,7 +19,7 @@ use Rattle.nv_held.specs.Mounted.{IsMounted}
 use Rattle.nv_held.proofs.Kept.{pages_data, tail_there}
 use Rattle.nv_held.proofs.Shown.{stands_at}
 use Rattle.nv_calls.specs.Mount.{IsKept}
-use Rattle.nv_calls.specs.NewNames.{CanName}
+use Rattle.nv_steps.specs.NewNames.{CanName}
 use Rattle.nv_rows.specs.Unused.{is_unused, unused_number}
 use Rattle.nv_calls.proofs.Mounts.{mounted_of_kept}
 use Rattle.nv_calls.proofs.OneRow.{shows_row}

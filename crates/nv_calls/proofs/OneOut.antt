@@ -5,8 +5,8 @@ use Rattle.nv_alloc.specs.FreeValue.{FreeLists}
 use Rattle.nv_scan.specs.declared.piece.Row.{Row}
 use Rattle.nv_rows.specs.Rows.{row_key, row_of, place_in, IsInUse, HasInserted}
 use Rattle.nv_rows.proofs.Places.{at_place, in_use, numbered, place_kept, put_one, row_in_use, row_of_other}
-use Rattle.nv_calls.specs.NewNames.{LeavesRows}
-use Rattle.nv_calls.specs.Steps.{LeavesStep}
+use Rattle.nv_calls.specs.AtPlaces.{LeavesRows}
+use Rattle.nv_steps.specs.Steps.{LeavesStep}
 use Rattle.nv_calls.proofs.PutRow.{leaves_set}
 
 module _ (rows mid news : List Row) (i : ℕ) (was now : Row) (up : Rises row_key rows) (at : row_of rows i ≡ Some was) (taken : mid ≡ remove rows (place_in rows i)) (number : now.inode ≡ i) (put : HasInserted mid news now) where

@@ -21,9 +21,9 @@ use Rattle.nv_held.specs.Mounted.{IsMounted}
 use Rattle.nv_held.proofs.Clear.{slots_clear}
 use Rattle.nv_held.proofs.Kept.{page_owner, tail_there}
 use Rattle.nv_held.proofs.Shown.{stands_at}
-use Rattle.nv_calls.specs.Grown.{StandsRight}
+use Rattle.nv_steps.specs.Grown.{StandsRight}
 use Rattle.nv_calls.specs.Mount.{IsKept}
-use Rattle.nv_calls.specs.Steps.{ShowsRow}
+use Rattle.nv_steps.specs.Steps.{ShowsRow}
 use Rattle.nv_calls.proofs.Mounts.{mounted_of_kept}
 
 -- ---- what is known of it

@@ -23,14 +23,15 @@ use Rattle.nv_held.specs.Blocks.{NoneDoubled, OwnsIn, by_log, by_page}
 use Rattle.nv_held.specs.Mounted.{IsMounted, KeepsRow}
 use Rattle.nv_held.proofs.Kept.{page_owner}
 use Rattle.nv_held.proofs.Shown.{stands_at}
-use Rattle.nv_calls.specs.LessNames.{OwnsBlocks}
+use Rattle.nv_steps.specs.LessNames.{OwnsBlocks}
 use Rattle.nv_calls.specs.Mount.{IsKept}
-use Rattle.nv_calls.specs.Steps.{ShowsRow}
-use Rattle.nv_calls.specs.Taken.{TakesEach}
-use Rattle.nv_calls.proofs.GivenPages.{own_row, own_taken, was_free}
+use Rattle.nv_steps.specs.Steps.{ShowsRow}
+use Rattle.nv_steps.specs.Taken.{TakesEach}
+use Rattle.nv_steps.proofs.GivenPages.{own_taken, was_free}
+use Rattle.nv_calls.proofs.OwnedPages.{own_row}
 use Rattle.nv_calls.proofs.Mounts.{mounted_of_kept}
 use Rattle.nv_calls.proofs.OneRow.{shows_row}
-use Rattle.nv_calls.proofs.TakenBlocks.{taken_sup}
+use Rattle.nv_steps.proofs.TakenBlocks.{taken_sup}
 
 -- ---- its blocks
 

@@ -5,10 +5,10 @@ use Rattle.nv_alloc.specs.FreeValue.{FreeLists}
 use Rattle.nv_scan.specs.declared.piece.Row.{Row}
 use Rattle.nv_held.specs.nv_check.Cross.{row_key}
 use Rattle.nv_held.specs.nv_outcome.Same.{SameRows}
-use Rattle.nv_calls.specs.NewNames.{LeavesRows}
-use Rattle.nv_calls.specs.Steps.{LeavesStep}
+use Rattle.nv_calls.specs.AtPlaces.{LeavesRows}
+use Rattle.nv_steps.specs.Steps.{LeavesStep}
 use Rattle.nv_rows.proofs.Places.{set_rising}
-use Rattle.nv_calls.proofs.RowChange.{same_rows, set_same_rows}
+use Rattle.nv_steps.proofs.RowsAt.{same_rows, set_same_rows}
 
 pub leaves_all : {P : Type 0} (memory : P) (free : FreeLists) (old new : List Row) → new ≡ old → LeavesRows memory memory free free old new
 leaves_all memory free old new same = record { memory = refl; free = record { sup = refl; pools = refl }; rows = subst (λ (rows : List Row). SameRows old rows) (sym same) (same_rows old) }
@@ -25,6 +25,3 @@ module _ (rows kept : List Row) (place : ℕ) (row new : Row) (items : kept ≡ 
     free = left.free;
     rows = subst (λ (rs : List Row). SameRows rows (set rs place new)) (sym items) (set_same_rows rows place row new at left.row);
   }
-
-pub one_row : {a b : Row} → Some a ≡ Some b → a ≡ b
-one_row e = cc

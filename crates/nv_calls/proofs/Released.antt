@@ -4,10 +4,9 @@ use Rattle.std.proofs.lemmas.Bool.Decides.{nat_tests}
 use Rattle.nv_entry.specs.declared.entry.Operation.TheVariants.{Remove}
 use Rattle.nv_logpage.specs.Append.{needed}
 use Rattle.nv_scan.specs.declared.piece.Row.{Row}
-use Rattle.nv_calls.specs.LinkCalls.{links_entries}
-use Rattle.nv_calls.specs.NameCalls.{name_entries}
-use Rattle.nv_calls.specs.Unlinks.{release_blocks}
-use Rattle.nv_calls.proofs.PutRow.{one_row}
+use Rattle.nv_steps.specs.NameEntries.{links_entries, name_entries}
+use Rattle.nv_calls.specs.AtPlaces.{release_blocks}
+use Rattle.nv_steps.proofs.RowsAt.{one_row}
 
 -- what holds of a value, and of an error, by what was said of it
 pub on_ok : {A E P Q : Type 0} (r : Result A E) → (P → Q) → OnOk r P → OnOk r Q

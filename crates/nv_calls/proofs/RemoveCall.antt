@@ -19,11 +19,12 @@ use Rattle.nv_tree.specs.Path.{IsPath, IsPathName, Says, last_name}
 use Rattle.nv_tree.specs.Tree.{Node, SameTree, Tree, walk}
 use Rattle.nv_tree.specs.Calls.{removed}
 use Rattle.nv_tree.specs.Refusals.{Path, Tests, first_refusal, has_no_space, rmdir_tests, writing}
-use Rattle.nv_calls.specs.LessNames.{CanGo, RemovesAt}
+use Rattle.nv_calls.specs.AtPlaces.{CanGo, RemovesAt}
 use Rattle.nv_calls.specs.Mount.{IsKept, Mount}
-use Rattle.nv_calls.specs.NameCalls.{ended_row, name_blocks, name_entries, row_blocks}
+use Rattle.nv_calls.specs.NameCalls.{ended_row, name_blocks, row_blocks}
+use Rattle.nv_steps.specs.NameEntries.{name_entries}
 use Rattle.nv_calls.specs.NamedAt.{IsNamedAt, rmdir_spot_tests}
-use Rattle.nv_calls.specs.NewNames.{CanName}
+use Rattle.nv_steps.specs.NewNames.{CanName}
 use Rattle.nv_calls.specs.RemoveCalls.{ShowsRemoved}
 use Rattle.nv_calls.specs.Seen.{LeadsTo, tree_of}
 use Rattle.nv_calls.specs.World.{world_of}
@@ -35,7 +36,7 @@ use Rattle.nv_calls.proofs.RowNumbers.{row_number}
 use Rattle.nv_calls.proofs.RemovedRows.{bytes_kept, kept_then, numbers_differ, was_removed}
 use Rattle.nv_calls.proofs.RemovedTree.{lost_node, removed_by, removed_tree, tree_less}
 use Rattle.nv_calls.proofs.RemoveTests.{rmdir_allows}
-use Rattle.nv_calls.proofs.RowOf.{row_at}
+use Rattle.nv_steps.proofs.RowOf.{row_at}
 
 module _ {R S : Region} {s : Super} {rows news : List Row} {free after : FreeLists} {faults : List Fault} {read_only stopped : Bool} (kept : IsKept R s rows free faults read_only stopped) (runs : stopped ≡ false) (writes : read_only ≡ false)
     {place target : ℕ} {name : List ℕ} {time : ℕ} (step : RemovesAt R S s free after rows news place target name time) (spelled : IsPathName name) (can_go : CanGo step.gone) (names : List (List ℕ)) (spot : IsNamedAt (tree_of R rows) rows names place name target) where

@@ -33,13 +33,13 @@ use Rattle.nv_commit.specs.Extends.{extended, with_log}
 use Rattle.nv_commit.specs.Together.{ShowsIdle}
 use Rattle.nv_commit.proofs.BlocksOf.{gone_free}
 use Rattle.nv_commit.proofs.Called.{directory_gone_faultless, file_gone_faultless}
-use Rattle.nv_calls.specs.LessNames.{CanGo, GivesRow}
-use Rattle.nv_calls.specs.NameCalls.{name_entries}
-use Rattle.nv_calls.specs.RemoveCalls.{with_gone}
-use Rattle.nv_calls.specs.Steps.{ShowsRow}
-use Rattle.nv_calls.specs.Taken.{TakesEach, single_takes}
-use Rattle.nv_calls.proofs.NameEntries.{name_file}
-use Rattle.nv_calls.proofs.TakenBlocks.{are_free, is_taken, was_taken}
+use Rattle.nv_steps.specs.LessNames.{GivesRow}
+use Rattle.nv_calls.specs.AtPlaces.{CanGo}
+use Rattle.nv_steps.specs.NameEntries.{name_entries, with_gone}
+use Rattle.nv_steps.specs.Steps.{ShowsRow}
+use Rattle.nv_steps.specs.Taken.{TakesEach, single_takes}
+use Rattle.nv_steps.proofs.NameEntries.{name_file}
+use Rattle.nv_steps.proofs.TakenBlocks.{are_free, is_taken, was_taken}
 
 module _ {R : Region} {s : Super} {held : Store} {h f : Held} {row gone : Row} {free mid after : FreeLists} (time : ℕ) (name : List ℕ) (fresh : List ℕ) (shows : ShowsRow R s held h row free) (shows_gone : ShowsRow R s held f gone free)
     (directory : h.kind ≡ Directory) (good : IsGoodName s gone.inode name) (named : (graph_in (fixed_layout s) held).name row.inode name ≡ Some gone.inode) (can_go : CanGo gone)

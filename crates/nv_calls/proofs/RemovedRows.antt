@@ -24,20 +24,21 @@ use Rattle.nv_held.specs.Graph.{graph_in, target_in}
 use Rattle.nv_held.specs.Mounted.{IsMounted, KeepsRows, ShowsSound}
 use Rattle.nv_held.proofs.RowsKept.{rows_follow, rows_less}
 use Rattle.nv_commit.specs.Extends.{extended, with_log}
-use Rattle.nv_calls.specs.LessNames.{CanGo, RemovesAt}
+use Rattle.nv_calls.specs.AtPlaces.{CanGo, RemovesAt}
 use Rattle.nv_calls.specs.Mount.{IsKept}
-use Rattle.nv_calls.specs.NameCalls.{name_entries}
-use Rattle.nv_calls.specs.RemoveCalls.{ShowsRemoved, WasRemoved, with_gone}
-use Rattle.nv_calls.specs.Steps.{ShowsRow}
-use Rattle.nv_calls.proofs.GivenPages.{joined_sup}
+use Rattle.nv_steps.specs.NameEntries.{name_entries, with_gone}
+use Rattle.nv_calls.specs.RemoveCalls.{ShowsRemoved, WasRemoved}
+use Rattle.nv_steps.specs.Steps.{ShowsRow}
+use Rattle.nv_steps.proofs.GivenPages.{joined_sup}
 use Rattle.nv_calls.proofs.Mounts.{bytes_stay, kept_of_mounted, mounted_of_kept, mounted_with}
-use Rattle.nv_calls.proofs.NamedLogs.{lost_told}
+use Rattle.nv_steps.proofs.NamedLogs.{lost_told}
 use Rattle.nv_calls.proofs.OneRow.{shows_row}
 use Rattle.nv_super.proofs.Members.{stands}
 use Rattle.nv_calls.proofs.RemovedHeld.{differ, fresh_free, removed_lists, removed_sound}
 use Rattle.nv_rows.proofs.Places.{number_at}
-use Rattle.nv_calls.proofs.TakenBlocks.{taken_sup}
-use Rattle.nv_calls.proofs.TakenOut.{another, other_set, places_differ, stays_there, still_rise, was_there}
+use Rattle.nv_steps.proofs.TakenBlocks.{taken_sup}
+use Rattle.nv_calls.proofs.TakenOut.{another, places_differ, stays_there, still_rise, was_there}
+use Rattle.nv_steps.proofs.RowsAt.{other_set}
 
 module _ {R S : Region} {s : Super} {rows news : List Row} {free after : FreeLists} {faults : List Fault} {read_only stopped : Bool} (kept : IsKept R s rows free faults read_only stopped) (runs : stopped ≡ false) (writes : read_only ≡ false)
     {place target : ℕ} {name : List ℕ} {time : ℕ} (step : RemovesAt R S s free after rows news place target name time) (directory : step.row.kind ≡ Directory) (good : IsGoodName s step.gone.inode name)

@@ -18,15 +18,16 @@ use Rattle.nv_tree.specs.declared.refusal.Refusal.{Refusal}
 use Rattle.nv_tree.specs.Path.{last_name}
 use Rattle.nv_tree.specs.Tree.{Node, SameNode, SameNodes, SameTree, Tree, found, walk}
 use Rattle.nv_tree.specs.Calls.{edit, on_ok, on_some, put_node, removed, without_name}
-use Rattle.nv_calls.specs.LessNames.{HasLost}
+use Rattle.nv_steps.specs.LessNames.{HasLost}
 use Rattle.nv_calls.specs.Seen.{node_of, tree_of}
 use Rattle.nv_calls.proofs.CreatedTree.{changed_there, elsewhere, put_there}
-use Rattle.nv_calls.proofs.NamesCounted.{one_less}
+use Rattle.nv_steps.proofs.NamesCounted.{one_less}
 use Rattle.nv_rows.proofs.Places.{row_of_other}
-use Rattle.nv_calls.proofs.RowChange.{at_set, unchanged}
-use Rattle.nv_calls.proofs.RowOf.{row_at}
+use Rattle.nv_calls.proofs.RowChange.{unchanged}
+use Rattle.nv_steps.proofs.RowsAt.{at_set, other_set}
+use Rattle.nv_steps.proofs.RowOf.{row_at}
 use Rattle.nv_calls.proofs.PutRow.{set_rises}
-use Rattle.nv_calls.proofs.TakenOut.{none_there, other_set, other_there, places_differ}
+use Rattle.nv_calls.proofs.TakenOut.{none_there, other_there, places_differ}
 
 pub none_of : (b : Bool) (o : Option (ℕ × ℕ)) → option_map (λ (y : ℕ × ℕ). y.0) (cond b None o) ≡ cond b None (option_map (λ (y : ℕ × ℕ). y.0) o)
 none_of true o = refl

@@ -1,5 +1,5 @@
 -- A mounted file system once one row was replaced: what it keeps, and the tree that it shows.
-use Rattle.std.proofs.Common.{◌≡◌, Result, Ok, Err, IfOk, Bor, ◌≢◌, ℕ, zero, suc, ◌/◌, ◌<◌, inl, inr, nat_eq, Bool, true, false, cond, List, [], ◌∷◌, length, set, slice_get, refl, ap, sym, ◌∙◌, subst, arith, Option, Some, None}
+use Rattle.std.proofs.Common.{◌≡◌, Result, Ok, Err, IfOk, Bor, ◌≢◌, ℕ, ◌/◌, inl, inr, nat_eq, Bool, true, false, cond, List, [], ◌∷◌, set, slice_get, refl, ap, sym, ◌∙◌, subst, arith, Option, Some, None}
 use Rattle.std.specs.List.{Contains}
 use Rattle.std.specs.Option.{option_map}
 use Rattle.std.proofs.Math.Logic.{∥∥₁_map}
@@ -15,7 +15,7 @@ use Rattle.nv_super.specs.Order.{Rises}
 use Rattle.nv_alloc.specs.FreeValue.{FreeLists}
 use Rattle.nv_entry.specs.declared.entry.Entry.{Entry}
 use Rattle.nv_radix.specs.Pages.{block_at}
-use Rattle.nv_held.specs.nv_outcome.Same.{SameRow, SameRows}
+use Rattle.nv_held.specs.nv_outcome.Same.{SameRow}
 use Rattle.nv_scan.specs.declared.piece.Row.{Row}
 use Rattle.nv_held.specs.nv_check.Cross.{row_key}
 use Rattle.nv_held.specs.nv_named.Read.{row_of}
@@ -31,20 +31,21 @@ use Rattle.nv_tree.specs.Calls.{edit}
 use Rattle.nv_calls.specs.Mount.{IsKept, Mount}
 use Rattle.nv_calls.specs.Same.{SameMount}
 use Rattle.nv_calls.specs.Seen.{node_of, tree_of}
-use Rattle.nv_calls.specs.Steps.{LogFollows, ShowsRow}
-use Rattle.nv_calls.specs.Taken.{SamePools}
-use Rattle.nv_calls.proofs.RowOf.{row_at}
+use Rattle.nv_steps.specs.Steps.{LogFollows, ShowsRow}
+use Rattle.nv_steps.specs.Taken.{SamePools}
+use Rattle.nv_steps.proofs.RowOf.{row_at}
 use Rattle.nv_calls.proofs.Mounts.{bytes_stay, kept_of_mounted, mounted_of_kept}
 use Rattle.nv_super.proofs.Rising.{Contains-head, Contains-tail}
 use Rattle.nv_scan.specs.Rows.{AreNumbers}
 use Rattle.nv_held.specs.Held.{good_in}
 use Rattle.nv_held.specs.Blocks.{KeepsFree}
 use Rattle.nv_held.proofs.Owning.{same_held, other_held}
-use Rattle.nv_calls.specs.Grown.{LogGrew}
+use Rattle.nv_calls.specs.GrownLogs.{LogGrew}
 use Rattle.nv_calls.proofs.Kept.{rows_rise}
 use Rattle.nv_calls.proofs.Mounts.{mounted_with}
 use Rattle.nv_calls.proofs.OneRow.{shows_row}
 use Rattle.nv_super.proofs.Members.{stands}
+use Rattle.nv_steps.proofs.RowsAt.{at_set, same_rows}
 
 -- ---- one row replaced
 
@@ -75,24 +76,6 @@ unchanged R S rows bytes j (Some r) e = record {
 pub each_there : (rows : List Row) (r : Result (Bor Row) Refusal) → IfOk r (λ x. row_of rows x.now.inode ≡ Some x.now) → IfOk r (λ x. Contains rows x.now)
 each_there rows (Ok x) held = row_there rows x.now.inode x.now held
 each_there rows (Err e) held = tt
-
-pub at_set : (rows : List Row) (place : ℕ) (new : Row) → place < length rows → slice_get (set rows place new) place ≡ Some new
-at_set [] place new inside = absurd (omega (arith, inside))
-at_set (x ∷ rows) zero new inside = refl
-at_set (x ∷ rows) (suc place) new inside = at_set rows place new (omega (arith, inside))
-
-same_row : (r : Row) → SameRow r r
-same_row r = record { inode = refl; kind = refl; numbers = refl; head = refl; tail = refl; pages = refl; index = λ p. refl; names = λ q. refl }
-
-pub same_rows : (rows : List Row) → SameRows rows rows
-same_rows [] = tt
-same_rows (x ∷ rows) = (same_row x, same_rows rows)
-
--- the rows are the same where one was replaced by the same
-pub set_same_rows : (rows : List Row) (place : ℕ) (row new : Row) → slice_get rows place ≡ Some row → SameRow row new → SameRows rows (set rows place new)
-set_same_rows [] place row new at same = absurd (cc)
-set_same_rows (x ∷ rows) zero row new at same = (let is : x ≡ row = cc in subst (λ (r : Row). SameRow r new) (sym is) same, same_rows rows)
-set_same_rows (x ∷ rows) (suc place) row new at same = (same_row x, set_same_rows rows place row new at same)
 
 -- a row that is the same is of the same
 pub keeps_same : (s : Super) (h : Held) (row new : Row) → SameRow row new → KeepsRow (fixed_layout s) h row → KeepsRow (fixed_layout s) h new

@@ -15,9 +15,9 @@ use Rattle.nv_held.specs.Mounted.{IsMounted}
 use Rattle.nv_held.proofs.Shown.{stands_at}
 use Rattle.nv_commit.proofs.Permitted.{no_zero}
 use Rattle.nv_inode.proofs.KeyWords.{number_holds}
-use Rattle.nv_calls.specs.Grown.{StandsRight}
+use Rattle.nv_steps.specs.Grown.{StandsRight}
 use Rattle.nv_calls.specs.Mount.{IsKept}
-use Rattle.nv_calls.specs.NewNames.{CanName}
+use Rattle.nv_steps.specs.NewNames.{CanName}
 use Rattle.nv_calls.proofs.Mounts.{mounted_of_kept}
 use Rattle.nv_calls.proofs.NewNumbers.{can_name}
 use Rattle.nv_calls.proofs.OneRow.{row_stands, shows_row, stands_right}

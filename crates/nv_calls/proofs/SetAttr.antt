@@ -1,5 +1,5 @@
 -- What `set_attr` answers, and what it leaves.
-use Rattle.std.proofs.Common.{◌≡◌, ℕ, ◌%◌, ◌≤◌, ◌⊎◌, inl, inr, Bool, true, false, IsTrue, List, [], ◌∷◌, refl, ap, sym, ◌∙◌, subst, Option, Some, None, Result, Err, slice_get, set}
+use Rattle.std.proofs.Common.{◌≡◌, ℕ, ◌%◌, ◌≤◌, ◌⊎◌, inl, inr, Bool, true, false, IsTrue, List, [], ◌∷◌, refl, ap, sym, ◌∙◌, subst, Option, Some, None, Result, Err, slice_get, set, ◌/◌, length}
 use Rattle.std.proofs.lemmas.Option.{same_Some}
 use Rattle.nv_region.specs.Region.{Region}
 use Rattle.nv_super.specs.declared.superblock.Super.{Super}
@@ -14,19 +14,25 @@ use Rattle.nv_held.specs.Mounted.{ShowsSound}
 use Rattle.nv_tree.specs.declared.refusal.Refusal.{Refusal}
 use Rattle.nv_tree.specs.declared.refusal.Refusal.TheVariants.{Memory, Stopped}
 use Rattle.nv_tree.specs.Path.{IsPath, Says}
-use Rattle.nv_tree.specs.Tree.{Node, SameTree, Tree, found}
+use Rattle.nv_tree.specs.Tree.{Node, SameTree, Tree, found, SameNode}
 use Rattle.nv_tree.specs.Calls.{attributed, edit, on_some, with_attributes}
 use Rattle.nv_tree.specs.Refusals.{Path, Tests, first_refusal, has_no_space, set_attr_tests, stat_tests, writing}
-use Rattle.nv_calls.specs.Attributes.{attributes, attributes_blocks}
-use Rattle.nv_calls.specs.Grown.{ShowsGrownLog}
+use Rattle.nv_steps.specs.Attributes.{attributes, HasAttributes}
+use Rattle.nv_calls.specs.AttributesCall.{attributes_blocks}
+use Rattle.nv_calls.specs.GrownLogs.{ShowsGrownLog}
 use Rattle.nv_calls.specs.Mount.{IsKept, Mount}
 use Rattle.nv_calls.specs.Same.{SameMount}
 use Rattle.nv_calls.specs.Seen.{LeadsTo, node_of, tree_of}
-use Rattle.nv_calls.specs.Steps.{LeavesStep, RefusesStep}
+use Rattle.nv_steps.specs.Steps.{LeavesStep, RefusesStep}
 use Rattle.nv_calls.specs.World.{world_of}
 use Rattle.nv_calls.proofs.Mounts.{kept_when_stopped}
-use Rattle.nv_calls.proofs.RowChange.{kept_same, set_same_rows}
+use Rattle.nv_calls.proofs.RowChange.{kept_same}
+use Rattle.nv_steps.proofs.RowsAt.{set_same_rows}
 use Rattle.nv_calls.proofs.Tests.{blocks_there, enough_space, stat_allows, too_few}
+use Rattle.std.specs.Option.{option_map}
+use Rattle.nv_radix.specs.Pages.{block_at}
+use Rattle.nv_names.specs.Names.{Names, name_at}
+use Rattle.nv_held.specs.Bytes.{byte_in}
 
 -- ---- why it is refused
 
@@ -113,3 +119,19 @@ late_reply {A} e false stopped_by goes_by burnt = ((λ on. absurd (let clash : f
 pub not_stop : (e : Refusal) (stops : Bool) → (IsTrue stops → e ≡ Stopped) → (e ≡ Stopped → ⊥) → stops ≡ false
 not_stop e true stopped_by off = absurd (off (stopped_by refl))
 not_stop e false stopped_by off = refl
+
+-- The node has the attributes.
+pub attributed_node : (R S : Region) {row new : Row} (mode owner group time size : ℕ) → HasAttributes row (record { mode = mode % 4096; size = size; time = time; owner = owner; group = group }) new
+    → ((x : ℕ) → byte_in S (block_at row.index (x / 4096)) x ≡ byte_in R (block_at row.index (x / 4096)) x) → SameNode (node_of S new) (with_attributes mode owner group time (node_of R row))
+attributed_node R S {row} {new} mode owner group time size has bytes = record {
+  kind = has.kind;
+  mode = has.mode;
+  owner = has.owner;
+  group = has.group;
+  size = has.size;
+  links = has.links;
+  time = has.time;
+  count = ap (λ (n : Names). length n.names) has.names;
+  names = λ q. ap (λ (n : Names). option_map (λ (y : ℕ × ℕ). y.0) (name_at n q)) has.names;
+  bytes = λ x below. ap (λ (ix : List (ℕ × Option ℕ)). byte_in S (block_at ix (x / 4096)) x) has.index ∙ bytes x;
+}

@@ -17,9 +17,10 @@ use Rattle.nv_held.specs.Bytes.{byte_in}
 use Rattle.nv_held.specs.Mounted.{ShowsSound}
 use Rattle.nv_calls.specs.Mount.{IsKept}
 use Rattle.nv_calls.specs.Seen.{node_of}
-use Rattle.nv_calls.specs.Sizes.{CanResize, Resizes, SameBytes, ShowsResizedLog, blocks_from, sized}
-use Rattle.nv_calls.specs.Steps.{ShowsRow}
-use Rattle.nv_calls.proofs.GivenPages.{maps_own}
+use Rattle.nv_steps.specs.Sizes.{CanResize, Resizes, SameBytes, blocks_from, sized}
+use Rattle.nv_calls.specs.SizeCall.{ShowsResizedLog}
+use Rattle.nv_steps.specs.Steps.{ShowsRow}
+use Rattle.nv_calls.proofs.OwnedPages.{maps_own}
 use Rattle.nv_calls.proofs.Mounts.{mounted_of_kept, mounted_with}
 use Rattle.nv_calls.proofs.OneRow.{shows_row, stands_right}
 use Rattle.nv_super.proofs.Members.{stands}

@@ -1,5 +1,5 @@
 -- A row taken out of others that rise by number.
-use Rattle.std.proofs.Common.{◌≡◌, ◌≢◌, ℕ, zero, suc, ◌<◌, inl, inr, nat_eq, Bool, false, cond, List, [], ◌∷◌, remove, set, slice_get, refl, ap, sym, ◌∙◌, subst, arith, Option, Some, None}
+use Rattle.std.proofs.Common.{◌≡◌, ◌≢◌, ℕ, zero, suc, ◌<◌, inl, inr, nat_eq, Bool, false, cond, List, [], ◌∷◌, remove, slice_get, ap, sym, ◌∙◌, subst, arith, Option, Some, None}
 use Rattle.std.specs.List.{Contains}
 use Rattle.std.proofs.lemmas.Bool.Decides.{nat_tests}
 use Rattle.nv_super.specs.Order.{Rises}
@@ -9,7 +9,7 @@ use Rattle.nv_held.specs.nv_check.Cross.{row_key}
 use Rattle.nv_scan.proofs.RowKeys.{key_less}
 use Rattle.nv_held.specs.nv_named.Read.{row_of}
 use Rattle.nv_super.proofs.Members.{stands}
-use Rattle.nv_calls.proofs.RowOf.{no_row}
+use Rattle.nv_steps.proofs.RowOf.{no_row}
 
 -- each row that is left was there
 pub was_there : (rows : List Row) (k : ℕ) (r : Row) → Contains (remove rows k) r → Contains rows r
@@ -74,14 +74,6 @@ other_there (x ∷ rows) zero gone j at differs =
 other_there (x ∷ rows) (suc k) gone j at differs = ap (λ (o : Option Row). cond (nat_eq x.inode j) (Some x) o) (other_there rows k gone j at differs)
 
 -- ---- places
-
--- the rows at other places stay
-pub other_set : (rows : List Row) (i j : ℕ) (new : Row) → i ≢ j → slice_get (set rows i new) j ≡ slice_get rows j
-other_set [] i j new differ = refl
-other_set (x ∷ rows) zero zero new differ = absurd (differ refl)
-other_set (x ∷ rows) zero (suc j) new differ = refl
-other_set (x ∷ rows) (suc i) zero new differ = refl
-other_set (x ∷ rows) (suc i) (suc j) new differ = other_set rows i j new (λ e. differ (ap suc e))
 
 -- two places with other numbers differ
 pub places_differ : (rows : List Row) (i j : ℕ) (a b : Row) → slice_get rows i ≡ Some a → slice_get rows j ≡ Some b → a.inode ≢ b.inode → i ≢ j

@@ -12,10 +12,10 @@ use Rattle.nv_tree.specs.declared.refusal.Refusal.TheVariants.{BadCpu, Memory, N
 use Rattle.nv_tree.specs.Path.{IsPath, Says}
 use Rattle.nv_tree.specs.Tree.{Node, Tree, and_then, as_directory, found, is_directory, name_in, or_not_found, walk}
 use Rattle.nv_tree.specs.Refusals.{Path, Tests, World, first_refusal, has_no_space, is_bad, is_missing, refused_walk, stat_tests, walk_tests, writing}
-use Rattle.nv_calls.specs.Grown.{log_blocks}
+use Rattle.nv_calls.specs.GrownLogs.{log_blocks}
 use Rattle.nv_calls.specs.Mount.{Mount}
 use Rattle.nv_calls.specs.Seen.{LeadsTo}
-use Rattle.nv_calls.specs.Steps.{RefusesStep}
+use Rattle.nv_steps.specs.Steps.{RefusesStep}
 use Rattle.nv_calls.specs.World.{world_of}
 
 -- ---- tests behind others

@@ -1,18 +1,21 @@
 -- Two rows that were taken out, changed and put in again, as the rows at their two places.
-use Rattle.std.proofs.Common.{◌≡◌, ◌≢◌, ℕ, List, [], ◌∷◌, remove, set, ap, sym, ◌∙◌, Some, None}
+use Rattle.std.proofs.Common.{◌≡◌, ◌≢◌, ℕ, List, [], ◌∷◌, remove, set, slice_get, ap, sym, ◌∙◌, Some, None}
 use Rattle.nv_region.specs.Region.{Region}
 use Rattle.nv_super.specs.declared.superblock.Super.{Super}
 use Rattle.nv_alloc.specs.FreeValue.{FreeLists}
 use Rattle.nv_entry.specs.declared.entry.Entry.{Entry}
 use Rattle.nv_scan.specs.declared.piece.Row.{Row}
 use Rattle.nv_rows.specs.Rows.{row_of, place_in, IsInUse, HasInserted}
-use Rattle.nv_rows.proofs.Places.{at_place, in_use, others_stay, places_apart, row_in_use}
+use Rattle.nv_super.specs.Order.{Rises}
+use Rattle.nv_held.specs.nv_check.Cross.{row_key}
+use Rattle.nv_rows.proofs.Places.{at_place, in_use, others_stay, places_apart, row_in_use, set_rising}
 use Rattle.nv_held.specs.nv_outcome.Same.{SameRow}
-use Rattle.nv_calls.specs.MoreNames.{GrowsTwo}
-use Rattle.nv_calls.specs.NewNames.{LeavesRows}
-use Rattle.nv_calls.specs.Steps.{LeavesStep}
-use Rattle.nv_calls.proofs.Inserted.{row_of_inserted}
-use Rattle.nv_calls.proofs.SetRows.{both_same}
+use Rattle.nv_steps.specs.MoreNames.{GrowsTwo}
+use Rattle.nv_calls.specs.AtPlaces.{LeavesRows}
+use Rattle.nv_steps.specs.Steps.{LeavesStep}
+use Rattle.nv_steps.proofs.Inserted.{row_of_inserted}
+use Rattle.nv_steps.proofs.RowsAt.{other_set}
+use Rattle.nv_steps.proofs.SetRows.{both_same}
 
 -- ---- while a row is out
 
@@ -68,3 +71,7 @@ module _ (rows news : List Row) (i j : ℕ) (a b c d : Row) (apart : i ≢ j) (a
     free = left.free;
     rows = rw put (both_same rows (place_in rows i) (place_in rows j) a c b d (at_place rows i ∙ at) (at_place rows j ∙ other_at) (places_apart rows i j (in_use rows i a at) (in_use rows j b other_at) apart) left.row other);
   }
+
+-- they rise where both numbers stay
+pub both_rise : (rows : List Row) (i j : ℕ) (a b c d : Row) → slice_get rows i ≡ Some a → slice_get rows j ≡ Some b → i ≢ j → Rises row_key rows → c.inode ≡ a.inode → d.inode ≡ b.inode → Rises row_key (set (set rows i c) j d)
+both_rise rows i j a b c d at other_at differ rising number other_number = set_rising (set rows i c) j b d (set_rising rows i a c rising at number) (other_set rows i j c differ ∙ other_at) other_number

@@ -19,13 +19,12 @@ use Rattle.nv_held.specs.nv_named.Step.{IsGoodName}
 use Rattle.nv_held.proofs.nv_named.GoodEntries.{links_small}
 use Rattle.nv_commit.specs.Extends.{extended, with_log}
 use Rattle.nv_commit.proofs.Called.{unlinked_faultless}
-use Rattle.nv_calls.specs.LinkCalls.{links_entries}
-use Rattle.nv_calls.specs.NameCalls.{name_entries}
-use Rattle.nv_calls.specs.Steps.{ShowsRow}
-use Rattle.nv_calls.specs.Unlinks.{UnlinksAt}
+use Rattle.nv_steps.specs.NameEntries.{links_entries, name_entries}
+use Rattle.nv_steps.specs.Steps.{ShowsRow}
+use Rattle.nv_steps.specs.Unlinks.{UnlinksAt}
 use Rattle.nv_calls.proofs.BothMounted.{IsRight}
 use Rattle.nv_calls.proofs.LinkedHeld.{counted_file, counted_told}
-use Rattle.nv_calls.proofs.NamedLogs.{lost_told, named_file}
+use Rattle.nv_steps.proofs.NamedLogs.{lost_told, named_file}
 
 -- no file has more than a thousand links
 few_links : {R : Region} {s : Super} {held : Store} {f : Held} {file : Row} {free : FreeLists} → ShowsRow R s held f file free → file.numbers.links ≤ 1000

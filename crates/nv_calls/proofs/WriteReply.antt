@@ -30,14 +30,14 @@ use Rattle.nv_tree.specs.Tree.{Node, SameNode, SameTree, Tree, found}
 use Rattle.nv_tree.specs.Calls.{edit, on_some, with_bytes, written}
 use Rattle.nv_tree.specs.Refusals.{Path, Tests, first_refusal, has_no_space, is_bad, is_dir, is_missing, is_too_large, stat_tests, target, walk_tests, write_tests, writing}
 use Rattle.nv_tree.proofs.Same.{same_itself}
-use Rattle.nv_calls.specs.Grown.{LogGrew}
+use Rattle.nv_calls.specs.GrownLogs.{LogGrew}
 use Rattle.nv_calls.specs.Mount.{IsKept, Mount}
 use Rattle.nv_calls.specs.Seen.{LeadsTo, node_of, tree_of}
 use Rattle.nv_calls.specs.World.{world_of}
-use Rattle.nv_calls.specs.Writes.{NeedsBlocks, data_blocks, data_entries, plan_of}
-use Rattle.nv_calls.specs.Written.{RefusesWrite, WritesFile}
+use Rattle.nv_steps.specs.Writes.{NeedsBlocks, data_blocks, data_entries, plan_of}
+use Rattle.nv_steps.specs.Written.{RefusesWrite, WritesFile}
 use Rattle.nv_calls.specs.WriteCall.{ShowsLogWrite, WriteNeeds}
-use Rattle.nv_calls.specs.declared.planning.Plan.{Plan}
+use Rattle.nv_steps.specs.declared.planning.Plan.{Plan}
 use Rattle.nv_calls.proofs.Mounts.{mounted_of_kept, mounted_with}
 use Rattle.nv_calls.proofs.OneRow.{shows_row}
 use Rattle.nv_super.proofs.Members.{stands}

@@ -1,12 +1,11 @@
--- What `link` and `rename` write, and what they leave of the logs.
-use Rattle.std.specs.Prelude.{◌≡◌, ℕ, ◌+◌, ◌%◌, List, [], ◌∷◌, length}
+-- How many blocks `link` takes, and what `link` and `rename` leave of the logs.
+use Rattle.std.specs.Prelude.{◌≡◌, ℕ, ◌+◌, ◌%◌, List, length}
 use Rattle.std.specs.List.{Contains}
 use Rattle.std.specs.Option.{option_map_or}
 use Rattle.nv_region.specs.Region.{Region}
 use Rattle.nv_super.specs.declared.superblock.Super.{Super}
 use Rattle.nv_super.specs.Layout.{fixed_layout}
 use Rattle.nv_entry.specs.declared.entry.Entry.{Entry}
-use Rattle.nv_entry.specs.declared.entry.Entry.TheVariants.{Links}
 use Rattle.nv_logpage.specs.Append.{needed}
 use Rattle.nv_scan.specs.declared.piece.Row.{Row}
 use Rattle.nv_held.specs.Held.{Held, Store}
@@ -17,14 +16,7 @@ use Rattle.nv_held.specs.nv_named.Read.{row_of}
 use Rattle.nv_tree.specs.Tree.{Tree}
 use Rattle.nv_tree.specs.Refusals.{Path, target}
 use Rattle.nv_calls.specs.NameCalls.{name_blocks, row_blocks}
-
--- ---- entries
-
--- the entry for a link count
-abbrev pub links_entries : ℕ → ℕ → List Entry
-links_entries count time = Links (record { count = count; time = time }) ∷ []
-
--- ---- blocks
+use Rattle.nv_steps.specs.NameEntries.{links_entries}
 
 -- those that the inode of a path takes for a link count
 abbrev pub links_blocks : List Row → Tree → Path → ℕ
@@ -33,8 +25,6 @@ links_blocks rows t p = option_map_or (λ i. row_blocks (row_of rows i) (links_e
 -- `link` takes those of the file and those of the directory of the new name
 abbrev pub link_blocks : List Row → Tree → Path → Path → ℕ
 link_blocks rows t p q = links_blocks rows t p + name_blocks rows t q
-
--- ---- logs
 
 -- The region is sound, and shows what was held with these entries behind two logs, over free blocks.
 pub record BothGrew (S : Region) (s : Super) (held : Store) (i : ℕ) (h : Held) (entries : List Entry) (j : ℕ) (g : Held) (others : List Entry) : Type 0 where

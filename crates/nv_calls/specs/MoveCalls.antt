@@ -1,39 +1,24 @@
 -- What `rename` is about, what it writes, and what it makes of the rows.
-use Rattle.std.specs.Prelude.{◌≡◌, ◌≢◌, ◌⊎◌, ℕ, ◌+◌, ◌%◌, nat_eq, Bool, false, if◌then◌else◌, List, [], ◌∷◌, ◌++◌, length, set, slice_get, Some, None, Result, Ok, Err}
-use Rattle.std.specs.Cmp.Lexicographic.{pointwise}
+use Rattle.std.specs.Prelude.{◌≡◌, ◌≢◌, ◌⊎◌, ℕ, ◌+◌, ◌%◌, nat_eq, Bool, false, if◌then◌else◌, List, [], ◌∷◌, ◌++◌, set, slice_get, Some, None, Result, Ok, Err}
 use Rattle.std.specs.List.{Contains}
 use Rattle.nv_region.specs.Region.{Region}
-use Rattle.nv_region.specs.Stops.{IsMixed}
 use Rattle.nv_super.specs.declared.superblock.Super.{Super}
-use Rattle.nv_super.specs.Layout.{slot_address}
 use Rattle.nv_super.specs.declared.kind.Kind.TheVariants.{Directory}
 use Rattle.nv_alloc.specs.FreeValue.{FreeLists}
 use Rattle.nv_entry.specs.declared.entry.Operation.TheVariants.{Add, Remove}
-use Rattle.nv_entry.specs.declared.entry.Entry.{Entry}
-use Rattle.nv_entry.specs.declared.entry.Entry.TheVariants.{Name}
-use Rattle.nv_entry.specs.Spelling.{entry_length}
-use Rattle.nv_logpage.specs.Append.{end_of, needed, pages_after, place_of}
-use Rattle.nv_names.specs.Names.{EachOnce, Names, name_at}
-use Rattle.nv_radix.specs.Pages.{block_at}
+use Rattle.nv_logpage.specs.Append.{needed}
 use Rattle.nv_scan.specs.declared.piece.Row.{Row}
-use Rattle.nv_held.specs.Held.{Held, Store}
-use Rattle.nv_commit.specs.Extends.{CanExtend, ExtendWords, ShowsMoved, with_log}
 use Rattle.nv_tree.specs.declared.refusal.Refusal.{Refusal}
 use Rattle.nv_tree.specs.Path.{last_name}
 use Rattle.nv_tree.specs.Tree.{Tree, passed, walk}
 use Rattle.nv_tree.specs.Refusals.{Path, Tests, is_bad_name, is_into_itself, is_missing, is_there, walk_tests}
-use Rattle.nv_calls.specs.MoreNames.{GetsName, GrowsTwo}
-use Rattle.nv_calls.specs.NameCalls.{ended_row, name_blocks, name_entries, row_blocks}
+use Rattle.nv_steps.specs.MoreNames.{GetsName, GrowsTwo}
+use Rattle.nv_calls.specs.NameCalls.{ended_row, name_blocks, row_blocks}
+use Rattle.nv_steps.specs.NameEntries.{name_entries}
 use Rattle.nv_calls.specs.NamedAt.{IsNamedAt}
 use Rattle.nv_calls.specs.Places.{IsFreeName}
-use Rattle.nv_calls.specs.Taken.{TakesEach}
-use Rattle.nv_calls.specs.Unlinks.{LosesName}
-
--- ---- entries
-
--- the entries of an inode that gets another name in its directory
-abbrev pub move_entries : ℕ → List ℕ → List ℕ → ℕ → List Entry
-move_entries i name other time = Name (record { operation = Remove; inode = i; time = time; name = name }) ∷ Name (record { operation = Add; inode = i; time = time; name = other }) ∷ []
+use Rattle.nv_steps.specs.Unlinks.{LosesName}
+use Rattle.nv_steps.specs.Moves.{MovesWithin, move_entries}
 
 -- ---- blocks
 
@@ -72,38 +57,6 @@ pub record MovesAcross (R S : Region) (s : Super) (free after : FreeLists) (rows
   pub moved : Row
   pub moved_at : slice_get rows target ≡ Some moved
   pub step : GrowsTwo R S s free after rows news place from (name_entries Remove moved.inode name time) end to (name_entries Add moved.inode other time) (λ fresh now. LosesName from name moved.inode time fresh now) (λ more now. GetsName to other moved.inode time more now)
-
--- where the second of these entries goes
-abbrev pub move_place : List ℕ → ℕ → ℕ → List ℕ → List ℕ → ℕ → ℕ
-move_place fresh tail i name other time =
-    let removal = Name (record { operation = Remove; inode = i; time = time; name = name }) in
-    place_of fresh (pages_after 0 tail removal) (place_of fresh 0 tail removal + entry_length removal) (Name (record { operation = Add; inode = i; time = time; name = other }))
-
--- The row has another name for an inode in place of one, and a time; its log goes on over these pages up to a new tail. Between
--- them the index has neither.
-pub record HasMoved (old : Row) (fresh : List ℕ) (end : ℕ) (name other : List ℕ) (i spot time : ℕ) (new : Row) : Type 0 where
-  pub inode : new.inode ≡ old.inode
-  pub kind : new.kind ≡ old.kind
-  pub numbers : new.numbers ≡ record old.numbers { time = time }
-  pub head : new.head ≡ old.head
-  pub tail : new.tail ≡ end
-  pub pages : new.pages.items ≡ old.pages.items ++ fresh
-  pub index : (p : ℕ) → block_at new.index p ≡ block_at old.index p
-  pub between : Names
-  pub lost : (q : List ℕ) → name_at between q ≡ (if pointwise nat_eq q name then None else name_at old.names q)
-  pub names : (q : List ℕ) → name_at new.names q ≡ (if pointwise nat_eq q other then Some (i, spot) else name_at between q)
-  pub once : EachOnce old.names
-  pub once_between : EachOnce between
-  pub once_now : EachOnce new.names
-
--- Both entries were written behind the log of a directory's row, over blocks that were taken for them one by one.
-pub record MovesWithin (R S : Region) (s : Super) (free after : FreeLists) (old new : Row) (i : ℕ) (name other : List ℕ) (time : ℕ) : Type 0 where
-  pub fresh : List ℕ
-  pub taken : TakesEach free fresh after
-  pub count : length fresh ≡ needed (old.tail % 4096) (move_entries i name other time)
-  pub row : HasMoved old fresh (end_of fresh 0 old.tail (move_entries i name other time)) name other i (move_place fresh old.tail i name other time) time new
-  pub moved : (held : Store) (h : Held) → CanExtend R s held old.inode h (slot_address s old.inode) old.tail (move_entries i name other time) fresh → ShowsMoved R s (with_log held old.inode h (move_entries i name other time) fresh) S
-  pub mixed : IsMixed R (ExtendWords (slot_address s old.inode) old.tail (move_entries i name other time) fresh) S
 
 -- That was done in the directory whose row is at this place.
 pub record MovesHere (R S : Region) (s : Super) (free after : FreeLists) (rows news : List Row) (place target : ℕ) (name other : List ℕ) (time : ℕ) : Type 0 where

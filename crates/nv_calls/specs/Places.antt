@@ -5,7 +5,7 @@ use Rattle.nv_scan.specs.declared.piece.Row.{Row}
 use Rattle.nv_tree.specs.Path.{last_name}
 use Rattle.nv_tree.specs.Tree.{Tree, found, walk}
 use Rattle.nv_tree.specs.Refusals.{Path, Tests, has_most_links, is_bad, is_bad_name, is_dir, is_missing, is_there, walk_tests}
-use Rattle.nv_calls.specs.NewNames.{IsNoneNamed}
+use Rattle.nv_calls.specs.Spots.{IsNoneNamed}
 
 -- the tests of `link` between those of every writing call and that for space
 abbrev pub link_spot_tests : Tree → Path → Path → Tests

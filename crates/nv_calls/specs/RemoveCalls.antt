@@ -1,18 +1,14 @@
--- What `rmdir` and `unlink` write, and what they leave of the logs.
-use Rattle.std.specs.Prelude.{◌≡◌, ℕ, ◌%◌, List, length, None}
+-- What `rmdir` and `unlink` leave of the logs.
+use Rattle.std.specs.Prelude.{◌≡◌, ℕ, ◌%◌, List, length}
 use Rattle.nv_region.specs.Region.{Region}
 use Rattle.nv_super.specs.declared.superblock.Super.{Super}
 use Rattle.nv_super.specs.Layout.{fixed_layout}
 use Rattle.nv_entry.specs.declared.entry.Entry.{Entry}
 use Rattle.nv_logpage.specs.Append.{needed}
-use Rattle.nv_held.specs.Held.{Held, Store, with_inode}
+use Rattle.nv_held.specs.Held.{Held, Store}
 use Rattle.nv_held.specs.Grows.{AreFree}
 use Rattle.nv_held.specs.Mounted.{ShowsSound}
-use Rattle.nv_commit.specs.Extends.{with_log}
-
--- what is held with these entries behind a directory's log and without an inode
-abbrev pub with_gone : Store → ℕ → Held → List Entry → List ℕ → ℕ → Store
-with_gone held d h entries fresh i = with_inode (with_log held d h entries fresh) i None
+use Rattle.nv_steps.specs.NameEntries.{with_gone}
 
 -- The region is sound, and shows what was held without an inode and with these entries behind a directory's log.
 pub record WasRemoved (S : Region) (s : Super) (held : Store) (d : ℕ) (h : Held) (entries : List Entry) (i : ℕ) : Type 0 where

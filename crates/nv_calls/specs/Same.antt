@@ -2,7 +2,7 @@
 use Rattle.std.specs.Prelude.{◌≡◌}
 use Rattle.nv_held.specs.nv_outcome.Same.{SameRows}
 use Rattle.nv_calls.specs.Mount.{Mount}
-use Rattle.nv_calls.specs.Taken.{SamePools}
+use Rattle.nv_steps.specs.Taken.{SamePools}
 
 -- All is as before but for the room that growths have made: rows are compared by what each page and each name stands for.
 pub record SameMount {P : Type 0} (old new : Mount P) : Type 0 where

@@ -9,11 +9,11 @@ use Rattle.nv_scan.specs.declared.piece.Row.{Row}
 use Rattle.nv_held.specs.nv_named.Read.{row_of}
 use Rattle.nv_held.specs.Held.{Held, Store}
 use Rattle.nv_tree.specs.Refusals.{Path, target}
-use Rattle.nv_calls.specs.Grown.{ShowsGrownLog}
+use Rattle.nv_calls.specs.GrownLogs.{ShowsGrownLog}
 use Rattle.nv_calls.specs.Mount.{Mount}
 use Rattle.nv_calls.specs.Seen.{tree_of}
-use Rattle.nv_calls.specs.Writes.{NeedsBlocks, data_blocks, data_entries, plan_of}
-use Rattle.nv_calls.specs.declared.planning.Plan.{Plan}
+use Rattle.nv_steps.specs.Writes.{NeedsBlocks, data_blocks, data_entries, plan_of}
+use Rattle.nv_steps.specs.declared.planning.Plan.{Plan}
 
 -- How many blocks a write of so many bytes takes: none where there are no bytes, and else those that the file of the path
 -- needs.

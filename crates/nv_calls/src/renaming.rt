@@ -1,6 +1,6 @@
 //! `rename`: another name for an inode.
 
-ghost use Rattle.std.specs.Prelude.{◌≡◌, ◌≢◌, ◌⊎◌, ◌+◌, ◌%◌, ◌<◌, ◌≤◌, ℕ, List, [], ◌∷◌, Option, Result, IsTrue, IfErr, OnOk, false};
+ghost use Rattle.std.specs.Prelude.{◌≡◌, ◌≢◌, ◌⊎◌, ◌+◌, ◌%◌, ◌<◌, ◌≤◌, ℕ, List, Option, Result, IsTrue, IfErr, OnOk, false};
 ghost use Rattle.nv_region.specs.Region.{size};
 ghost use Rattle.nv_region.specs.Stops.{NothingPending};
 ghost use Rattle.nv_region.specs.Fuses.{KeepsFuse};
@@ -10,7 +10,6 @@ ghost use Rattle.nv_logpage.specs.Append.{needed};
 ghost use Rattle.nv_names.specs.Names.{IsName};
 ghost use Rattle.nv_scan.specs.declared.piece.Row.{Row as RowValue};
 ghost use Rattle.nv_rows.specs.Rows.{IsInUse, place_in, row_of};
-ghost use Rattle.nv_held.specs.nv_outcome.Same.{SameRow};
 ghost use Rattle.nv_held.specs.Held.{Held, Store};
 ghost use Rattle.nv_held.specs.Mounted.{ShowsSound};
 ghost use Rattle.nv_tree.specs.Path.{IsPath, Says, last_name};
@@ -18,139 +17,29 @@ ghost use Rattle.nv_tree.specs.Tree.{Node, SameTree, walk};
 ghost use Rattle.nv_tree.specs.Calls.{renamed};
 ghost use Rattle.nv_tree.specs.Refusals.{Path, first_refusal, rename_tests};
 ghost use Rattle.nv_tree.specs.declared.refusal.Refusal.{Refusal as RefusalValue};
-ghost use Rattle.nv_calls.specs.Grown.{ShowsGrownLog, StandsRight};
+ghost use Rattle.nv_steps.specs.Grown.{StandsRight};
+ghost use Rattle.nv_calls.specs.GrownLogs.{ShowsGrownLog};
 ghost use Rattle.nv_calls.specs.LinkCalls.{ShowsBothGrew};
-ghost use Rattle.nv_calls.specs.MoveCalls.{MovesAcross, MovesAt, MovesWithin, move_blocks, move_entries, rename_blocks};
-ghost use Rattle.nv_calls.specs.MoreNames.{GetsName, GrowsTwo};
-ghost use Rattle.nv_calls.specs.NameCalls.{name_entries};
-ghost use Rattle.nv_calls.specs.NewNames.{CanName, LeavesRows};
+ghost use Rattle.nv_calls.specs.MoveCalls.{MovesAcross, MovesAt, move_blocks, rename_blocks};
+ghost use Rattle.nv_steps.specs.Moves.{move_entries};
+ghost use Rattle.nv_steps.specs.NameEntries.{name_entries};
+ghost use Rattle.nv_steps.specs.NewNames.{CanName};
+ghost use Rattle.nv_calls.specs.AtPlaces.{LeavesRows};
 ghost use Rattle.nv_calls.specs.Same.{KeepsMount, SameMount};
 ghost use Rattle.nv_calls.specs.Seen.{LeadsTo, tree_of};
-ghost use Rattle.nv_calls.specs.Steps.{LeavesStep, RefusesStep};
-ghost use Rattle.nv_calls.specs.Unlinks.{LosesName};
+ghost use Rattle.nv_steps.specs.Steps.{RefusesStep};
 ghost use Rattle.nv_calls.specs.World.{world_of};
 
 use crate::Fs;
-use crate::appending::append_log;
-use crate::blocks::are_enough;
-use crate::growing::{Growth, append_logs};
-use crate::making::name_entry;
 use crate::moving::{Move, rename_for};
-use crate::settling_names::{add_name, remove_name};
 use crate::writing::is_stop;
 use nv_alloc::Allocators;
-use nv_entry::{Operation, length};
-use nv_logpage::pages_needed;
 use nv_region::Pmem;
 use nv_rows::Rows;
-use nv_scan::Row;
+use nv_steps::{OtherName, move_both, move_within};
 use nv_super::Super;
 use nv_tree::Refusal;
 use std::alloc::Global;
-
-/// Another name for an inode, in the directory in which it has one.
-#[derive(Clone, Copy)]
-struct OtherName<'a> {
-    inode: u64,
-    name: &'a [u8],
-    other: &'a [u8],
-    time: u64,
-}
-
-/// Takes a name out of a directory and puts another in for the same inode, by entries behind one log.
-///
-/// `NoSpace` where all pools together have too few blocks, `Memory` where a growth was refused; both change nothing.
-/// `Stopped` where the fuse has burnt.
-fn move_within<P: Pmem>(
-    alloc: Global,
-    memory: &mut P,
-    sup: &Super,
-    free: &mut Allocators,
-    cpu: u64,
-    directory: &mut Row,
-    moved: &OtherName<'_>,
-) -> Result<(), Refusal>
-    requires cpu { cpu < free.old.sup.cpus }
-    requires stands { StandsRight (P.region memory.old) sup.now free.old directory.old }
-    requires name { IsName moved.now.name.now }
-    requires other { IsName moved.now.other.now }
-    ensures moved { OnOk result (MovesWithin (P.region memory.old) (P.region memory.new) sup.now free.old free.new directory.old directory.new moved.now.inode moved.now.name.now moved.now.other.now moved.now.time) }
-    ensures enough { OnOk result (needed (directory.old.tail % 4096) (move_entries moved.now.inode moved.now.name.now moved.now.other.now moved.now.time) ≤ all_blocks free.old.pools) }
-    ensures settled { OnOk result (NothingPending (P.region memory.new) (P.may_hold memory.new)) }
-    ensures refused { IfErr result (λ e. RefusesStep e (needed (directory.old.tail % 4096) (move_entries moved.now.inode moved.now.name.now moved.now.other.now moved.now.time)) free.old) }
-    ensures unchanged { IfErr result (λ e. (e ≡ RefusalValue.Stopped → ⊥) → LeavesStep memory.old memory.new free.old free.new directory.old directory.new) }
-    ensures stopped { IfErr result (λ e. e ≡ RefusalValue.Stopped → IsTrue (P.fuse memory.new).has_burnt) }
-    ensures inode { directory.new.inode ≡ directory.old.inode }
-    ensures lists { free.new.sup ≡ free.old.sup }
-    ensures length { size (P.region memory.new) ≡ size (P.region memory.old) }
-    ensures keeps_fuse { KeepsFuse (λ limit. size (P.region memory.old) ≤ limit) (P.fuse memory.old) (P.fuse memory.new) }
-{
-    let entries = [
-        name_entry(Operation::Remove, moved.inode, moved.name, moved.time),
-        name_entry(Operation::Add, moved.inode, moved.other, moved.time),
-    ];
-    // A name index says of itself that it has no name twice.
-    let _names = directory.names.len();
-    if !are_enough(free, pages_needed(directory.tail, &entries)) {
-        return Err(Refusal::NoSpace);
-    }
-    if directory.names.reserve(1).is_err() {
-        return Err(Refusal::Memory);
-    }
-    append_log(alloc, memory, sup, free, cpu, directory, &entries)?;
-    let place = directory.tail - length(&entries[1]);
-    remove_name(directory, moved.name, moved.time);
-    add_name(directory, moved.other, moved.inode, place, moved.time);
-    Ok(())
-}
-
-/// Takes a name out of one directory and puts one in another for the same inode, by their rows.
-///
-/// `NoSpace` where all pools together have too few blocks, `Memory` where a growth was refused; both change nothing.
-/// `Stopped` where the fuse has burnt.
-fn move_both<P: Pmem>(
-    alloc: Global,
-    memory: &mut P,
-    sup: &Super,
-    free: &mut Allocators,
-    cpu: u64,
-    from: &mut Row,
-    to: &mut Row,
-    moved: &OtherName<'_>,
-) -> Result<(), Refusal>
-    requires apart { from.old.inode ≢ to.old.inode }
-    requires stands { StandsRight (P.region memory.old) sup.now free.old from.old × CanName (P.region memory.old) sup.now cpu from.old.inode from.old }
-    requires to_stands { StandsRight (P.region memory.old) sup.now free.old to.old × CanName (P.region memory.old) sup.now cpu to.old.inode to.old }
-    requires name { IsName moved.now.name.now }
-    requires other { IsName moved.now.other.now }
-    ensures moved { OnOk result (GrowsTwo (P.region memory.old) (P.region memory.new) sup.now free.old free.new (from.old ∷ to.old ∷ []) (from.new ∷ to.new ∷ []) 0 from.old (name_entries Remove moved.now.inode moved.now.name.now moved.now.time) 1 to.old (name_entries Add moved.now.inode moved.now.other.now moved.now.time) (λ fresh now. LosesName from.old moved.now.name.now moved.now.inode moved.now.time fresh now) (λ more now. GetsName to.old moved.now.other.now moved.now.inode moved.now.time more now)) }
-    ensures enough { OnOk result (needed (from.old.tail % 4096) (name_entries Remove moved.now.inode moved.now.name.now moved.now.time) + needed (to.old.tail % 4096) (name_entries Add moved.now.inode moved.now.other.now moved.now.time) ≤ all_blocks free.old.pools) }
-    ensures settled { OnOk result (NothingPending (P.region memory.new) (P.may_hold memory.new)) }
-    ensures refused { IfErr result (λ e. RefusesStep e (needed (from.old.tail % 4096) (name_entries Remove moved.now.inode moved.now.name.now moved.now.time) + needed (to.old.tail % 4096) (name_entries Add moved.now.inode moved.now.other.now moved.now.time)) free.old) }
-    ensures unchanged { IfErr result (λ e. (e ≡ RefusalValue.Stopped → ⊥) → LeavesStep memory.old memory.new free.old free.new from.old from.new × SameRow to.old to.new) }
-    ensures stopped { IfErr result (λ e. e ≡ RefusalValue.Stopped → IsTrue (P.fuse memory.new).has_burnt) }
-    ensures inode { from.new.inode ≡ from.old.inode }
-    ensures to_inode { to.new.inode ≡ to.old.inode }
-    ensures lists { free.new.sup ≡ free.old.sup }
-    ensures length { size (P.region memory.new) ≡ size (P.region memory.old) }
-    ensures keeps_fuse { KeepsFuse (λ limit. size (P.region memory.old) ≤ limit) (P.fuse memory.old) (P.fuse memory.new) }
-{
-    let removal = [name_entry(Operation::Remove, moved.inode, moved.name, moved.time)];
-    let addition = [name_entry(Operation::Add, moved.inode, moved.other, moved.time)];
-    let first = Growth {
-        entries: &removal,
-        names: 0,
-    };
-    let second = Growth {
-        entries: &addition,
-        names: 1,
-    };
-    append_logs(alloc, memory, sup, free, cpu, from, &first, to, &second)?;
-    remove_name(from, moved.name, moved.time);
-    let place = to.tail - length(&addition[0]);
-    add_name(to, moved.other, moved.inode, place, moved.time);
-    Ok(())
-}
 
 /// Takes a name out of one directory and puts one in another for the same inode, by both logs together.
 ///

@@ -17,17 +17,17 @@ ghost use Rattle.nv_tree.specs.Refusals.{Path, first_refusal, is_dir, is_too_lar
 ghost use Rattle.nv_tree.specs.declared.refusal.Refusal.{Refusal as RefusalValue};
 ghost use Rattle.nv_calls.specs.Same.{KeepsMount, SameMount};
 ghost use Rattle.nv_calls.specs.Seen.{LeadsTo, node_of, tree_of};
-ghost use Rattle.nv_calls.specs.Sizes.{ShowsResizedLog, resized_blocks};
+ghost use Rattle.nv_calls.specs.SizeCall.{ShowsResizedLog, resized_blocks};
 ghost use Rattle.nv_calls.specs.World.{world_of};
 
 use crate::Fs;
-use crate::resizing::resize;
 use crate::walking::row_at;
 use crate::writing::is_stop;
 use nv_entry::AttrEntry;
 use nv_region::Pmem;
 use nv_rows::Rows;
 use nv_scan::Row;
+use nv_steps::resize;
 use nv_super::Kind;
 use nv_tree::Refusal;
 

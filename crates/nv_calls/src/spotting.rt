@@ -6,7 +6,7 @@ ghost use Rattle.nv_rows.specs.Rows.{IsInUse, place_in};
 ghost use Rattle.nv_rows.specs.Unused.{unused_number};
 ghost use Rattle.nv_tree.specs.Path.{IsPath, IsPathName, Says};
 ghost use Rattle.nv_tree.specs.Refusals.{Path, first_refusal};
-ghost use Rattle.nv_calls.specs.NewNames.{IsSpot, spot_tests};
+ghost use Rattle.nv_calls.specs.Spots.{IsSpot, spot_tests};
 ghost use Rattle.nv_calls.specs.Seen.{tree_of};
 
 use crate::naming::{has_name, target_at};

@@ -1,6 +1,6 @@
 //! `unlink`: a name of a file less, and with the last one the file.
 
-ghost use Rattle.std.specs.Prelude.{◌≡◌, ◌≢◌, ◌⊎◌, ◌+◌, ◌-◌, ◌%◌, ◌<◌, ◌≤◌, nat_lt, ℕ, List, [], ◌∷◌, Option, Result, IsTrue, IfErr, OnOk, false};
+ghost use Rattle.std.specs.Prelude.{◌≡◌, ◌≢◌, ◌⊎◌, ◌+◌, ◌-◌, ◌%◌, ◌<◌, ◌≤◌, nat_lt, ℕ, List, Option, Result, IsTrue, IfErr, OnOk, false};
 ghost use Rattle.nv_region.specs.Region.{size};
 ghost use Rattle.nv_region.specs.Stops.{NothingPending};
 ghost use Rattle.nv_region.specs.Fuses.{KeepsFuse};
@@ -10,7 +10,6 @@ ghost use Rattle.nv_logpage.specs.Append.{needed};
 ghost use Rattle.nv_names.specs.Names.{IsName};
 ghost use Rattle.nv_scan.specs.declared.piece.Row.{Row as RowValue};
 ghost use Rattle.nv_rows.specs.Rows.{IsInUse, place_in, row_of};
-ghost use Rattle.nv_held.specs.nv_outcome.Same.{SameRow};
 ghost use Rattle.nv_held.specs.Held.{Held, Store};
 ghost use Rattle.nv_held.specs.Mounted.{ShowsSound};
 ghost use Rattle.nv_tree.specs.Path.{IsPath, Says, last_name};
@@ -18,86 +17,32 @@ ghost use Rattle.nv_tree.specs.Tree.{Node, SameTree, walk};
 ghost use Rattle.nv_tree.specs.Calls.{unlinked};
 ghost use Rattle.nv_tree.specs.Refusals.{Path, first_refusal, unlink_tests};
 ghost use Rattle.nv_tree.specs.declared.refusal.Refusal.{Refusal as RefusalValue};
-ghost use Rattle.nv_calls.specs.Grown.{StandsRight};
-ghost use Rattle.nv_calls.specs.LessNames.{OwnsBlocks};
-ghost use Rattle.nv_calls.specs.LinkCalls.{ShowsBothGrew, links_entries};
-ghost use Rattle.nv_calls.specs.NameCalls.{name_entries};
-ghost use Rattle.nv_calls.specs.NewNames.{CanName, LeavesRows};
+ghost use Rattle.nv_steps.specs.Grown.{StandsRight};
+ghost use Rattle.nv_steps.specs.LessNames.{OwnsBlocks};
+ghost use Rattle.nv_calls.specs.LinkCalls.{ShowsBothGrew};
+ghost use Rattle.nv_steps.specs.NameEntries.{links_entries, name_entries};
+ghost use Rattle.nv_steps.specs.NewNames.{CanName};
+ghost use Rattle.nv_calls.specs.AtPlaces.{LeavesRows, Releases, release_blocks};
 ghost use Rattle.nv_calls.specs.RemoveCalls.{ShowsRemoved};
 ghost use Rattle.nv_calls.specs.Same.{KeepsMount, SameMount};
 ghost use Rattle.nv_calls.specs.Seen.{LeadsTo, tree_of};
-ghost use Rattle.nv_calls.specs.Steps.{LeavesStep, RefusesStep};
+ghost use Rattle.nv_steps.specs.Steps.{RefusesStep};
 ghost use Rattle.nv_calls.specs.UnlinkCalls.{unlink_blocks};
-ghost use Rattle.nv_calls.specs.Unlinks.{Releases, UnlinksAt, release_blocks};
+ghost use Rattle.nv_steps.specs.Unlinks.{UnlinksAt};
 ghost use Rattle.nv_calls.specs.World.{world_of};
 
 use crate::Fs;
-use crate::growing::{Growth, append_logs};
-use crate::making::name_entry;
 use crate::named::{Named, unlink_for};
 use crate::removing::remove_named;
-use crate::settling_names::{remove_name, set_links};
 use crate::writing::is_stop;
 use nv_alloc::Allocators;
-use nv_entry::{Entry, LinksEntry, Operation};
 use nv_region::Pmem;
 use nv_rows::Rows;
 use nv_scan::Row;
+use nv_steps::unlink_both;
 use nv_super::Super;
 use nv_tree::Refusal;
 use std::alloc::Global;
-
-/// Takes a name of a file that has others out of a directory, by their rows: the directory's log says so, and the file's log
-/// says one link less.
-///
-/// `NoSpace` where all pools together have too few blocks, `Memory` where a growth was refused; both change nothing.
-/// `Stopped` where the fuse has burnt.
-fn unlink_both<P: Pmem>(
-    alloc: Global,
-    memory: &mut P,
-    sup: &Super,
-    free: &mut Allocators,
-    cpu: u64,
-    directory: &mut Row,
-    file: &mut Row,
-    name: &[u8],
-    time: u64,
-) -> Result<(), Refusal>
-    requires apart { directory.old.inode ≢ file.old.inode }
-    requires stands { StandsRight (P.region memory.old) sup.now free.old directory.old × CanName (P.region memory.old) sup.now cpu directory.old.inode directory.old }
-    requires file_stands { StandsRight (P.region memory.old) sup.now free.old file.old × CanName (P.region memory.old) sup.now cpu file.old.inode file.old }
-    requires more { 1 < file.old.numbers.links }
-    requires name { IsName name.now }
-    ensures unlinked { OnOk result (UnlinksAt (P.region memory.old) (P.region memory.new) sup.now free.old free.new (directory.old ∷ file.old ∷ []) (directory.new ∷ file.new ∷ []) 0 1 name.now time) }
-    ensures enough { OnOk result (needed (directory.old.tail % 4096) (name_entries Remove file.old.inode name.now time) + needed (file.old.tail % 4096) (links_entries (file.old.numbers.links - 1) time) ≤ all_blocks free.old.pools) }
-    ensures settled { OnOk result (NothingPending (P.region memory.new) (P.may_hold memory.new)) }
-    ensures refused { IfErr result (λ e. RefusesStep e (needed (directory.old.tail % 4096) (name_entries Remove file.old.inode name.now time) + needed (file.old.tail % 4096) (links_entries (file.old.numbers.links - 1) time)) free.old) }
-    ensures unchanged { IfErr result (λ e. (e ≡ RefusalValue.Stopped → ⊥) → LeavesStep memory.old memory.new free.old free.new directory.old directory.new × SameRow file.old file.new) }
-    ensures stopped { IfErr result (λ e. e ≡ RefusalValue.Stopped → IsTrue (P.fuse memory.new).has_burnt) }
-    ensures inode { directory.new.inode ≡ directory.old.inode }
-    ensures file_inode { file.new.inode ≡ file.old.inode }
-    ensures lists { free.new.sup ≡ free.old.sup }
-    ensures length { size (P.region memory.new) ≡ size (P.region memory.old) }
-    ensures keeps_fuse { KeepsFuse (λ limit. size (P.region memory.old) ≤ limit) (P.fuse memory.old) (P.fuse memory.new) }
-{
-    let count = file.numbers.links - 1;
-    let names = [name_entry(Operation::Remove, file.inode, name, time)];
-    let links = [Entry::Links(LinksEntry { count, time })];
-    let first = Growth {
-        entries: &names,
-        names: 0,
-    };
-    let second = Growth {
-        entries: &links,
-        names: 0,
-    };
-    append_logs(
-        alloc, memory, sup, free, cpu, directory, &first, file, &second,
-    )?;
-    remove_name(directory, name, time);
-    set_links(file, count, time);
-    Ok(())
-}
 
 /// Takes a name of a file that has others out of a directory: the directory's log says so, and the file's log says one link
 /// less.

@@ -16,21 +16,24 @@ use Rattle.nv_tree.specs.Calls.{linked, renamed}
 use Rattle.nv_tree.specs.Refusals.{Path, Tests, World, first_refusal, writing, create_tests, write_tests, set_size_tests, set_attr_tests, link_tests, unlink_tests, rmdir_tests, rename_tests}
 use Rattle.nv_tree.specs.declared.refusal.Refusal.{Refusal}
 use Rattle.nv_tree.specs.declared.refusal.Refusal.TheVariants.{BadCpu, ReadOnly, Memory, Stopped}
-use Rattle.nv_calls.specs.Attributes.{attributes, attributes_blocks}
-use Rattle.nv_calls.specs.Grown.{ShowsGrownLog}
-use Rattle.nv_calls.specs.LinkCalls.{ShowsBothGrew, link_blocks, links_entries}
+use Rattle.nv_steps.specs.Attributes.{attributes}
+use Rattle.nv_calls.specs.AttributesCall.{attributes_blocks}
+use Rattle.nv_calls.specs.GrownLogs.{ShowsGrownLog}
+use Rattle.nv_calls.specs.LinkCalls.{ShowsBothGrew, link_blocks}
+use Rattle.nv_steps.specs.NameEntries.{links_entries, name_entries}
 use Rattle.nv_calls.specs.Mount.{Mount}
-use Rattle.nv_calls.specs.MoveCalls.{move_entries, rename_blocks}
-use Rattle.nv_calls.specs.NameCalls.{ShowsCreated, create_blocks, name_blocks, name_entries}
+use Rattle.nv_calls.specs.MoveCalls.{rename_blocks}
+use Rattle.nv_steps.specs.Moves.{move_entries}
+use Rattle.nv_calls.specs.NameCalls.{ShowsCreated, create_blocks, name_blocks}
 use Rattle.nv_calls.specs.RemoveCalls.{ShowsRemoved}
 use Rattle.nv_calls.specs.Seen.{LeadsTo, tree_of}
-use Rattle.nv_calls.specs.Sizes.{ShowsResizedLog, resized_blocks}
+use Rattle.nv_calls.specs.SizeCall.{ShowsResizedLog, resized_blocks}
 use Rattle.nv_calls.specs.UnlinkCalls.{unlink_blocks}
 use Rattle.nv_calls.specs.nv_rows.Unused.{unused_number}
 use Rattle.nv_calls.specs.World.{world_of}
 use Rattle.nv_calls.specs.WriteCall.{ShowsLogWrite, WriteNeeds}
 use Rattle.nv_calls.proofs.NeedsExist.{write_needs}
-use Rattle.nv_calls.specs.Writes.{plan_of}
+use Rattle.nv_steps.specs.Writes.{plan_of}
 use Rattle.nv_session.specs.Calls.{LogsBytes, LogsUnlink, asks_create, asks_write, asks_size, asks_attributes, asks_link, asks_unlink, asks_remove, asks_rename, makes_link, makes_rename, logs_inode, logs_size, logs_attributes, logs_link, logs_removal, logs_rename}
 use Rattle.nv_session.proofs.Calling.{Answers, can_write, seen}
 

@@ -24,19 +24,23 @@ use Rattle.nv_tree.specs.declared.refusal.Refusal.{Refusal}
 use Rattle.nv_tree.specs.declared.refusal.Refusal.TheVariants.{BadCpu, ReadOnly}
 use Rattle.nv_tree.proofs.Texts.{says_one}
 use Rattle.nv_text.specs.Answers.{refused_line}
-use Rattle.nv_calls.specs.Attributes.{attributes, attributes_blocks}
-use Rattle.nv_calls.specs.LinkCalls.{link_blocks, links_blocks, links_entries}
+use Rattle.nv_steps.specs.Attributes.{attributes}
+use Rattle.nv_calls.specs.AttributesCall.{attributes_blocks}
+use Rattle.nv_calls.specs.LinkCalls.{link_blocks, links_blocks}
+use Rattle.nv_steps.specs.NameEntries.{links_entries, name_entries}
 use Rattle.nv_calls.specs.Mount.{Mount, has_faults}
-use Rattle.nv_calls.specs.MoveCalls.{end_together, move_entries, rename_blocks}
-use Rattle.nv_calls.specs.NameCalls.{create_blocks, ended_row, name_blocks, name_entries, row_blocks}
+use Rattle.nv_calls.specs.MoveCalls.{end_together, rename_blocks}
+use Rattle.nv_steps.specs.Moves.{move_entries}
+use Rattle.nv_calls.specs.NameCalls.{create_blocks, ended_row, name_blocks, row_blocks}
 use Rattle.nv_calls.specs.Seen.{node_of, tree_of}
-use Rattle.nv_calls.specs.Sizes.{blocks_from, end_block, resized_blocks, size_blocks}
+use Rattle.nv_steps.specs.Sizes.{blocks_from, end_block}
+use Rattle.nv_calls.specs.SizeCall.{resized_blocks, size_blocks}
 use Rattle.nv_calls.specs.UnlinkCalls.{has_more_links, unlink_blocks}
 use Rattle.nv_calls.specs.nv_rows.Unused.{numbers_in_table, unused_number}
 use Rattle.nv_calls.specs.World.{world_of}
 use Rattle.nv_calls.specs.WriteCall.{WriteNeeds}
-use Rattle.nv_calls.specs.Writes.{NeedsBlocks, data_blocks, data_entries, plan_of}
-use Rattle.nv_calls.proofs.Takes.{takes_less, takes_once}
+use Rattle.nv_steps.specs.Writes.{NeedsBlocks, data_blocks, data_entries, plan_of}
+use Rattle.nv_steps.proofs.Takes.{takes_less, takes_once}
 use Rattle.nv_logpage.specs.Append.{needed}
 use Rattle.nv_session.specs.Calls.{Asks, Makes, Logs, Asked, asks_create, asks_write, asks_size, asks_attributes, asks_link, asks_unlink, asks_remove, asks_rename, seen_in}
 use Rattle.nv_session.specs.Machine.{State, CallsMounted}

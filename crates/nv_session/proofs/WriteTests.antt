@@ -16,7 +16,7 @@ use Rattle.nv_calls.specs.Mount.{Mount}
 use Rattle.nv_calls.specs.World.{world_of}
 use Rattle.nv_calls.specs.Seen.{node_of, tree_of}
 use Rattle.nv_calls.specs.WriteCall.{WriteNeeds}
-use Rattle.nv_calls.specs.Writes.{NeedsBlocks, data_blocks, plan_of}
+use Rattle.nv_steps.specs.Writes.{NeedsBlocks, data_blocks, plan_of}
 use Rattle.nv_calls.proofs.SetSize.{front_tests}
 use Rattle.nv_calls.proofs.Tests.{enough_space, passed_before, refused_before, stat_first, too_few}
 use Rattle.nv_calls.proofs.WriteReply.{large_same}

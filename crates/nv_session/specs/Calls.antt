@@ -14,20 +14,23 @@ use Rattle.nv_tree.specs.Path.{Says, last_name}
 use Rattle.nv_tree.specs.Tree.{Node, Tree, SameTree, walk}
 use Rattle.nv_tree.specs.Calls.{attributed, created, linked, removed, renamed, resized, unlinked, written}
 use Rattle.nv_tree.specs.Refusals.{Path, Tests, create_tests, link_tests, rename_tests, rmdir_tests, set_attr_tests, set_size_tests, unlink_tests, write_tests}
-use Rattle.nv_calls.specs.Attributes.{attributes, attributes_blocks}
-use Rattle.nv_calls.specs.Grown.{ShowsGrownLog}
-use Rattle.nv_calls.specs.LinkCalls.{ShowsBothGrew, link_blocks, links_entries}
+use Rattle.nv_steps.specs.Attributes.{attributes}
+use Rattle.nv_calls.specs.AttributesCall.{attributes_blocks}
+use Rattle.nv_calls.specs.GrownLogs.{ShowsGrownLog}
+use Rattle.nv_calls.specs.LinkCalls.{ShowsBothGrew, link_blocks}
+use Rattle.nv_steps.specs.NameEntries.{links_entries, name_entries}
 use Rattle.nv_calls.specs.Mount.{Mount, has_faults}
-use Rattle.nv_calls.specs.MoveCalls.{move_entries, rename_blocks}
-use Rattle.nv_calls.specs.NameCalls.{ShowsCreated, create_blocks, name_blocks, name_entries}
+use Rattle.nv_calls.specs.MoveCalls.{rename_blocks}
+use Rattle.nv_steps.specs.Moves.{move_entries}
+use Rattle.nv_calls.specs.NameCalls.{ShowsCreated, create_blocks, name_blocks}
 use Rattle.nv_calls.specs.RemoveCalls.{ShowsRemoved}
 use Rattle.nv_calls.specs.Seen.{LeadsTo, tree_of}
-use Rattle.nv_calls.specs.Sizes.{ShowsResizedLog, resized_blocks}
+use Rattle.nv_calls.specs.SizeCall.{ShowsResizedLog, resized_blocks}
 use Rattle.nv_calls.specs.UnlinkCalls.{unlink_blocks}
 use Rattle.nv_calls.specs.nv_rows.Unused.{unused_number}
 use Rattle.nv_calls.specs.World.{world_of}
 use Rattle.nv_calls.specs.WriteCall.{ShowsLogWrite, WriteNeeds}
-use Rattle.nv_calls.specs.Writes.{plan_of}
+use Rattle.nv_steps.specs.Writes.{plan_of}
 
 -- A call by its tests: those of a path, where this region is mounted so.
 abbrev pub Asks : Type 1

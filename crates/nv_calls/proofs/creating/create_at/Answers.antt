@@ -11,12 +11,13 @@ use Rattle.nv_rows.proofs.Places.{at_place}
 use Rattle.nv_scan.specs.declared.piece.Row.{Row}
 use Rattle.nv_tree.specs.declared.refusal.Refusal.{Refusal}
 use Rattle.nv_tree.specs.declared.refusal.Refusal.TheVariants.{Stopped}
-use Rattle.nv_calls.specs.NameCalls.{name_entries}
-use Rattle.nv_calls.specs.NewNames.{LeavesRows}
-use Rattle.nv_calls.specs.Steps.{RefusesStep}
-use Rattle.nv_calls.proofs.Listed.{refused_by}
+use Rattle.nv_steps.specs.NameEntries.{name_entries}
+use Rattle.nv_calls.specs.AtPlaces.{LeavesRows}
+use Rattle.nv_steps.specs.Steps.{RefusesStep}
+use Rattle.nv_steps.proofs.Replies.{refused_by}
 use Rattle.nv_calls.proofs.OneOut.{back, left_one, other_row}
-use Rattle.nv_calls.proofs.PutRow.{leaves_all, one_row}
+use Rattle.nv_calls.proofs.PutRow.{leaves_all}
+use Rattle.nv_steps.proofs.RowsAt.{one_row}
 use Rattle.nv_calls.proofs.creating.create_at.Goals as goal
 
 pub returns-then-free_blocks-pages_needed-clause-unchanged : goal.returns-then-free_blocks-pages_needed-clause-unchanged

@@ -12,10 +12,10 @@ use Rattle.nv_rows.specs.Rows.{place_in}
 use Rattle.nv_rows.proofs.Places.{at_place}
 use Rattle.nv_calls.proofs.CreateTests.{last_is_name, long_text, none, none_of, row_leads, spells_names}
 use Rattle.nv_calls.proofs.LinkSpots.{found_some}
-use Rattle.nv_calls.proofs.Listed.{refused_by}
+use Rattle.nv_steps.proofs.Replies.{refused_by}
 use Rattle.nv_calls.proofs.MoveSpots.{inode_missing, into_itself, move_passes, new_way_refused, not_passed, old_way_refused, other_there, passes_row, said_two}
 use Rattle.nv_calls.proofs.NamedAt.{named_found, stands_for}
-use Rattle.nv_calls.proofs.PutRow.{one_row}
+use Rattle.nv_steps.proofs.RowsAt.{one_row}
 use Rattle.nv_calls.proofs.Walks.{longer}
 use Rattle.nv_calls.proofs.moving.rename_for.Goals as goal
 

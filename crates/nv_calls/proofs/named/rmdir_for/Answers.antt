@@ -9,8 +9,8 @@ use Rattle.nv_calls.specs.NamedAt.{rmdir_spot_tests}
 use Rattle.nv_calls.specs.Seen.{tree_of}
 use Rattle.nv_rows.specs.Rows.{place_in}
 use Rattle.nv_rows.proofs.Places.{at_place, own_row}
-use Rattle.nv_calls.proofs.Listed.{refused_by}
-use Rattle.nv_calls.proofs.PutRow.{one_row}
+use Rattle.nv_steps.proofs.Replies.{refused_by}
+use Rattle.nv_steps.proofs.RowsAt.{one_row}
 use Rattle.nv_calls.proofs.RemoveTests.{rmdir_file, rmdir_full, rmdir_missing, rmdir_passes}
 use Rattle.nv_calls.proofs.named.rmdir_for.Goals as goal
 

@@ -8,8 +8,8 @@ use Rattle.nv_calls.specs.NamedAt.{unlink_spot_tests}
 use Rattle.nv_calls.specs.Seen.{tree_of}
 use Rattle.nv_rows.specs.Rows.{place_in}
 use Rattle.nv_rows.proofs.Places.{at_place, own_row}
-use Rattle.nv_calls.proofs.Listed.{refused_by}
-use Rattle.nv_calls.proofs.PutRow.{one_row}
+use Rattle.nv_steps.proofs.Replies.{refused_by}
+use Rattle.nv_steps.proofs.RowsAt.{one_row}
 use Rattle.nv_calls.proofs.RemoveTests.{unlink_directory, unlink_missing, unlink_passes}
 use Rattle.nv_calls.proofs.named.unlink_for.Goals as goal
 

@@ -8,14 +8,15 @@ use Rattle.nv_rows.proofs.Places.{at_place, numbered}
 use Rattle.nv_scan.specs.declared.piece.Row.{Row}
 use Rattle.nv_tree.specs.declared.refusal.Refusal.{Refusal}
 use Rattle.nv_tree.specs.declared.refusal.Refusal.TheVariants.{Stopped}
-use Rattle.nv_calls.specs.LessNames.{CutsName}
-use Rattle.nv_calls.specs.NameCalls.{name_entries}
-use Rattle.nv_calls.specs.NewNames.{CanName, LeavesRows}
-use Rattle.nv_calls.specs.Steps.{RefusesStep}
-use Rattle.nv_calls.proofs.Listed.{refused_by}
+use Rattle.nv_steps.specs.LessNames.{CutsName}
+use Rattle.nv_steps.specs.NameEntries.{name_entries}
+use Rattle.nv_steps.specs.NewNames.{CanName}
+use Rattle.nv_calls.specs.AtPlaces.{LeavesRows}
+use Rattle.nv_steps.specs.Steps.{RefusesStep}
+use Rattle.nv_steps.proofs.Replies.{refused_by}
 use Rattle.nv_calls.proofs.OneOut.{left_one, other_out, other_row, other_used}
 use Rattle.nv_calls.proofs.OwnedRow.{owns_taken}
-use Rattle.nv_calls.proofs.PutRow.{one_row}
+use Rattle.nv_steps.proofs.RowsAt.{one_row}
 use Rattle.nv_calls.proofs.removing.remove_named.Goals as goal
 
 pub cut_name-cut-requires-clause-stands : goal.cut_name-cut-requires-clause-stands

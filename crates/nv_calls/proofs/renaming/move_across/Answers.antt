@@ -3,10 +3,9 @@ use Rattle.nv_alloc.specs.Taking.{all_blocks}
 use Rattle.nv_rows.specs.Rows.{row_of}
 use Rattle.nv_rows.proofs.Places.{at_place, numbered, put_two, row_in_use}
 use Rattle.nv_tree.specs.declared.refusal.Refusal.{Refusal}
-use Rattle.nv_calls.specs.Steps.{RefusesStep}
-use Rattle.nv_calls.proofs.MoveAt.{on_err, on_ok}
-use Rattle.nv_calls.proofs.MovedAt.{both_count, moves_across}
-use Rattle.nv_calls.proofs.PutRow.{one_row}
+use Rattle.nv_steps.specs.Steps.{RefusesStep}
+use Rattle.nv_calls.proofs.MoveAt.{on_err, on_ok, both_count, moves_across}
+use Rattle.nv_steps.proofs.RowsAt.{one_row}
 use Rattle.nv_calls.proofs.TwoRows.{left_two, lifted, none_put, none_still, row_stays, used_still}
 use Rattle.nv_calls.proofs.renaming.move_across.Goals as goal
 

@@ -3,10 +3,10 @@ use Rattle.nv_alloc.specs.Taking.{all_blocks}
 use Rattle.nv_rows.specs.Rows.{place_in, row_of}
 use Rattle.nv_rows.proofs.Places.{at_place, numbered, places_apart, put_one, row_in_use}
 use Rattle.nv_tree.specs.declared.refusal.Refusal.{Refusal}
-use Rattle.nv_calls.specs.Steps.{RefusesStep}
+use Rattle.nv_steps.specs.Steps.{RefusesStep}
 use Rattle.nv_calls.proofs.MoveAt.{across_count, here_count, moves_here, on_err, on_ok, within_count}
 use Rattle.nv_calls.proofs.OneOut.{left_one}
-use Rattle.nv_calls.proofs.PutRow.{one_row}
+use Rattle.nv_steps.proofs.RowsAt.{one_row}
 use Rattle.nv_calls.proofs.renaming.move_at.Goals as goal
 
 pub returns-then-moved-clause-moved : goal.returns-then-moved-clause-moved

@@ -2,7 +2,7 @@ use Rattle.std.proofs.Common.{◌≡◌, ◌∙◌, ◌∷◌, Some, None, ap, s
 use Rattle.nv_tree.specs.declared.refusal.Refusal.TheVariants.{Exists, NoInodes}
 use Rattle.nv_tree.specs.Path.{IsPathName}
 use Rattle.nv_tree.specs.Refusals.{Path, first_refusal}
-use Rattle.nv_calls.specs.NewNames.{spot_tests}
+use Rattle.nv_calls.specs.Spots.{spot_tests}
 use Rattle.nv_calls.specs.Seen.{tree_of}
 use Rattle.nv_rows.specs.Unused.{unused_number}
 use Rattle.nv_rows.proofs.Places.{at_place}

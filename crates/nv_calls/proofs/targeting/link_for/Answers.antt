@@ -11,8 +11,8 @@ use Rattle.nv_rows.specs.Rows.{place_in, row_of}
 use Rattle.nv_rows.proofs.Places.{at_place, row_in_use}
 use Rattle.nv_calls.proofs.CreateTests.{last_is_name, long_text, none_of, spells_names}
 use Rattle.nv_calls.proofs.LinkSpots.{few_links, file_is_directory, file_missing, found_some, is_file, link_passes, links_full, name_there, new_walk_refused, said_both}
-use Rattle.nv_calls.proofs.Listed.{refused_by}
-use Rattle.nv_calls.proofs.PutRow.{one_row}
+use Rattle.nv_steps.proofs.Replies.{refused_by}
+use Rattle.nv_steps.proofs.RowsAt.{one_row}
 use Rattle.nv_calls.proofs.Targets.{held_of, leads_to, none_found}
 use Rattle.nv_calls.proofs.Walks.{longer}
 use Rattle.nv_calls.proofs.targeting.link_for.Goals as goal

@@ -3,7 +3,7 @@ use Rattle.nv_alloc.specs.Taking.{all_blocks}
 use Rattle.nv_rows.specs.Rows.{place_in}
 use Rattle.nv_rows.proofs.Places.{at_place}
 use Rattle.nv_tree.specs.declared.refusal.Refusal.{Refusal}
-use Rattle.nv_calls.specs.Steps.{RefusesStep}
+use Rattle.nv_steps.specs.Steps.{RefusesStep}
 use Rattle.nv_calls.proofs.Released.{all_last, all_more, blocks_last, blocks_more, on_err, on_ok}
 use Rattle.nv_calls.proofs.unlinking.release_at.Goals as goal
 

@@ -6,11 +6,10 @@ use Rattle.nv_scan.specs.declared.piece.Row.{Row}
 use Rattle.nv_rows.specs.Rows.{row_of}
 use Rattle.nv_rows.proofs.Places.{put_two}
 use Rattle.nv_tree.specs.declared.refusal.Refusal.{Refusal}
-use Rattle.nv_calls.specs.LinkCalls.{links_entries}
-use Rattle.nv_calls.specs.Unlinks.{UnlinksAt}
-use Rattle.nv_calls.specs.NameCalls.{name_entries}
-use Rattle.nv_calls.specs.Steps.{RefusesStep}
-use Rattle.nv_calls.proofs.PutRow.{one_row}
+use Rattle.nv_steps.specs.NameEntries.{links_entries, name_entries}
+use Rattle.nv_steps.specs.Unlinks.{UnlinksAt}
+use Rattle.nv_steps.specs.Steps.{RefusesStep}
+use Rattle.nv_steps.proofs.RowsAt.{one_row}
 use Rattle.nv_calls.proofs.Released.{on_err, on_ok}
 use Rattle.nv_calls.proofs.TwoRows.{left_two, lifted, none_put, none_still, row_stays, used_still}
 use Rattle.nv_calls.proofs.unlinking.unlink_at.Goals as goal

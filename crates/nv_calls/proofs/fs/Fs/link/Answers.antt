@@ -12,9 +12,9 @@ use Rattle.nv_tree.specs.Tree.{SameTree, walk}
 use Rattle.nv_tree.specs.Calls.{linked}
 use Rattle.nv_tree.specs.Refusals.{first_refusal, has_most_links, has_no_space, is_bad, is_bad_name, is_dir, is_missing, is_there, link_tests, walk_tests}
 use Rattle.nv_tree.proofs.Texts.{text_says}
-use Rattle.nv_calls.specs.LinkCalls.{ShowsBothGrew, link_blocks, links_entries}
+use Rattle.nv_calls.specs.LinkCalls.{ShowsBothGrew, link_blocks}
+use Rattle.nv_steps.specs.NameEntries.{links_entries, name_entries}
 use Rattle.nv_calls.specs.Mount.{Mount}
-use Rattle.nv_calls.specs.NameCalls.{name_entries}
 use Rattle.nv_calls.specs.Places.{IsLinkSpot, link_spot_tests}
 use Rattle.nv_calls.specs.Seen.{LeadsTo, tree_of}
 use Rattle.nv_calls.specs.World.{world_of}
@@ -23,7 +23,7 @@ use Rattle.nv_calls.proofs.LinkCall.{link_allowed, link_refused, linked_kept, li
 use Rattle.nv_calls.proofs.LinkSpots.{link_goes_on}
 use Rattle.nv_calls.proofs.LinkTests.{link_refuses}
 use Rattle.nv_calls.proofs.LinkedHeld.{kinds_apart}
-use Rattle.nv_calls.proofs.Listed.{refused_by}
+use Rattle.nv_steps.proofs.Replies.{refused_by}
 use Rattle.nv_super.proofs.Members.{stands}
 use Rattle.nv_calls.proofs.RowChange.{same_mount}
 use Rattle.nv_calls.proofs.RowNumbers.{row_commits}

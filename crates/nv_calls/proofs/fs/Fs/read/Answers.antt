@@ -4,7 +4,7 @@ use Rattle.nv_tree.specs.declared.refusal.Refusal.{Refusal}
 use Rattle.nv_tree.specs.declared.refusal.Refusal.TheVariants.{Memory}
 use Rattle.nv_tree.specs.Refusals.{first_refusal, read_tests}
 use Rattle.nv_calls.specs.Seen.{tree_of}
-use Rattle.nv_calls.proofs.Listed.{refused_by}
+use Rattle.nv_steps.proofs.Replies.{refused_by}
 use Rattle.nv_calls.proofs.FileBytes.{read_refused}
 use Rattle.nv_calls.proofs.fs.Fs.read.Goals as goal
 

@@ -11,17 +11,18 @@ use Rattle.nv_tree.specs.Tree.{SameTree, walk}
 use Rattle.nv_tree.specs.Calls.{renamed}
 use Rattle.nv_tree.specs.Refusals.{first_refusal, has_no_space, is_bad_name, is_into_itself, is_missing, is_there, rename_tests, walk_tests}
 use Rattle.nv_tree.proofs.Texts.{text_says}
-use Rattle.nv_calls.specs.Grown.{ShowsGrownLog}
+use Rattle.nv_calls.specs.GrownLogs.{ShowsGrownLog}
 use Rattle.nv_calls.specs.LinkCalls.{ShowsBothGrew}
-use Rattle.nv_calls.specs.MoveCalls.{move_entries, rename_blocks, rename_spot_tests}
+use Rattle.nv_calls.specs.MoveCalls.{rename_blocks, rename_spot_tests}
+use Rattle.nv_steps.specs.Moves.{move_entries}
 use Rattle.nv_calls.specs.Mount.{Mount}
-use Rattle.nv_calls.specs.NameCalls.{name_entries}
+use Rattle.nv_steps.specs.NameEntries.{name_entries}
 use Rattle.nv_calls.specs.Seen.{LeadsTo, tree_of}
 use Rattle.nv_calls.specs.World.{world_of}
 use Rattle.nv_calls.proofs.CreateCall.{kept_or_stopped, unchanged_rows}
 use Rattle.nv_calls.proofs.CreateTests.{long_text}
 use Rattle.nv_calls.proofs.Kept.{rows_rise}
-use Rattle.nv_calls.proofs.Listed.{refused_by}
+use Rattle.nv_steps.proofs.Replies.{refused_by}
 use Rattle.nv_calls.proofs.MoveCall.{moved_kept, moved_log, moved_logs, moved_tree, rename_allowed, rename_refused}
 use Rattle.nv_calls.proofs.MoveSpots.{move_goes_on}
 use Rattle.nv_calls.proofs.MoveTests.{rename_refuses}

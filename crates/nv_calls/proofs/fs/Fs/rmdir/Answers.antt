@@ -13,15 +13,16 @@ use Rattle.nv_tree.specs.Tree.{SameTree, walk}
 use Rattle.nv_tree.specs.Calls.{removed}
 use Rattle.nv_tree.specs.Refusals.{first_refusal, has_names, has_no_space, is_bad_name, is_missing, is_no_dir, rmdir_tests, walk_tests}
 use Rattle.nv_tree.proofs.Texts.{text_says}
-use Rattle.nv_calls.specs.LessNames.{CanGo}
+use Rattle.nv_calls.specs.AtPlaces.{CanGo}
 use Rattle.nv_calls.specs.Mount.{Mount}
-use Rattle.nv_calls.specs.NameCalls.{name_blocks, name_entries}
+use Rattle.nv_calls.specs.NameCalls.{name_blocks}
+use Rattle.nv_steps.specs.NameEntries.{name_entries}
 use Rattle.nv_calls.specs.NamedAt.{rmdir_spot_tests}
 use Rattle.nv_calls.specs.RemoveCalls.{ShowsRemoved}
 use Rattle.nv_calls.specs.Seen.{LeadsTo, tree_of}
 use Rattle.nv_calls.specs.World.{world_of}
 use Rattle.nv_calls.proofs.CreateCall.{kept_or_stopped, unchanged_rows}
-use Rattle.nv_calls.proofs.Listed.{refused_by}
+use Rattle.nv_steps.proofs.Replies.{refused_by}
 use Rattle.nv_calls.proofs.OneRow.{stands_right}
 use Rattle.nv_super.proofs.Members.{stands}
 use Rattle.nv_calls.proofs.OwnedRow.{owns_blocks}

@@ -8,21 +8,21 @@ use Rattle.nv_tree.specs.Calls.{with_attributes}
 use Rattle.nv_tree.specs.Path.{IsPath}
 use Rattle.nv_tree.specs.Refusals.{first_refusal, has_no_space, is_bad, is_missing, set_attr_tests, walk_tests}
 use Rattle.nv_tree.proofs.Texts.{text_says}
-use Rattle.nv_calls.specs.Attributes.{attributes, attributes_blocks}
+use Rattle.nv_steps.specs.Attributes.{attributes}
+use Rattle.nv_calls.specs.AttributesCall.{attributes_blocks}
 use Rattle.nv_calls.specs.Mount.{Mount}
 use Rattle.nv_calls.specs.Seen.{LeadsTo, node_of, tree_of}
-use Rattle.nv_calls.specs.Steps.{ShowsRow}
+use Rattle.nv_steps.specs.Steps.{ShowsRow}
 use Rattle.nv_calls.specs.World.{world_of}
-use Rattle.nv_calls.proofs.Attributed.{attributed_node}
 use Rattle.nv_calls.proofs.Kept.{refused_as}
-use Rattle.nv_calls.proofs.Listed.{refused_by}
+use Rattle.nv_steps.proofs.Replies.{refused_by}
 use Rattle.nv_rows.specs.Rows.{place_in}
 use Rattle.nv_rows.proofs.Places.{at_place, own_row, put_one}
-use Rattle.nv_calls.proofs.PutRow.{one_row}
+use Rattle.nv_steps.proofs.RowsAt.{one_row}
 use Rattle.nv_calls.proofs.OneRow.{stands_right}
 use Rattle.nv_super.proofs.Members.{stands}
 use Rattle.nv_calls.proofs.RowChange.{kept_after, log_grew, row_bytes, same_mount, tree_after}
-use Rattle.nv_calls.proofs.SetAttr.{attr_allowed, attr_changed, attr_logged, attr_refused, kept_or_stopped, late_reply, not_stop, unchanged_step}
+use Rattle.nv_calls.proofs.SetAttr.{attr_allowed, attr_changed, attr_logged, attr_refused, kept_or_stopped, late_reply, not_stop, unchanged_step, attributed_node}
 use Rattle.nv_calls.proofs.Tests.{early_reply, if_err, stat_goes_on, stat_refuses, writing_goes_on}
 use Rattle.nv_calls.proofs.fs.Fs.set_attr.Goals as goal
 

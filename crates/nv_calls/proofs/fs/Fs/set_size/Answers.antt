@@ -13,13 +13,14 @@ use Rattle.nv_tree.specs.Refusals.{first_refusal, has_no_space, is_bad, is_dir, 
 use Rattle.nv_tree.proofs.Texts.{text_says}
 use Rattle.nv_calls.specs.Mount.{Mount}
 use Rattle.nv_calls.specs.Seen.{LeadsTo, node_of, tree_of}
-use Rattle.nv_calls.specs.Sizes.{end_block, resized_blocks, resizing, sized}
-use Rattle.nv_calls.specs.Steps.{RefusesStep, ShowsRow}
+use Rattle.nv_steps.specs.Sizes.{end_block, resizing, sized}
+use Rattle.nv_calls.specs.SizeCall.{resized_blocks}
+use Rattle.nv_steps.specs.Steps.{RefusesStep, ShowsRow}
 use Rattle.nv_calls.specs.World.{world_of}
-use Rattle.nv_calls.proofs.Listed.{refused_by}
+use Rattle.nv_steps.proofs.Replies.{refused_by}
 use Rattle.nv_rows.specs.Rows.{place_in}
 use Rattle.nv_rows.proofs.Places.{at_place, own_row, put_one}
-use Rattle.nv_calls.proofs.PutRow.{one_row}
+use Rattle.nv_steps.proofs.RowsAt.{one_row}
 use Rattle.nv_calls.proofs.RowChange.{kept_after, same_mount, tree_after}
 use Rattle.nv_calls.proofs.SetAttr.{kept_or_stopped, late_reply, not_stop, unchanged_step}
 use Rattle.nv_calls.proofs.SetSize.{front_goes_on, resized_node, size_allowed, size_changed, size_front, size_logged, size_refused}

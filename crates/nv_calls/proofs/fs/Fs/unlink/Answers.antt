@@ -14,17 +14,17 @@ use Rattle.nv_tree.specs.Calls.{unlinked}
 use Rattle.nv_tree.specs.Refusals.{first_refusal, has_no_space, is_bad_name, is_dir, is_missing, unlink_tests, walk_tests}
 use Rattle.nv_tree.proofs.Texts.{text_says}
 use Rattle.nv_calls.specs.Mount.{Mount}
-use Rattle.nv_calls.specs.NameCalls.{name_entries}
 use Rattle.nv_calls.specs.NamedAt.{IsNamedAt, unlink_spot_tests}
-use Rattle.nv_calls.specs.LinkCalls.{ShowsBothGrew, links_entries}
+use Rattle.nv_calls.specs.LinkCalls.{ShowsBothGrew}
+use Rattle.nv_steps.specs.NameEntries.{links_entries, name_entries}
 use Rattle.nv_calls.specs.RemoveCalls.{ShowsRemoved}
 use Rattle.nv_calls.specs.UnlinkCalls.{unlink_blocks}
-use Rattle.nv_calls.specs.Unlinks.{release_blocks}
+use Rattle.nv_calls.specs.AtPlaces.{release_blocks}
 use Rattle.nv_calls.specs.Seen.{LeadsTo, tree_of}
 use Rattle.nv_calls.specs.World.{world_of}
 use Rattle.nv_calls.proofs.CreateCall.{kept_or_stopped, unchanged_rows}
 use Rattle.nv_calls.proofs.Kept.{rows_rise}
-use Rattle.nv_calls.proofs.Listed.{refused_by}
+use Rattle.nv_steps.proofs.Replies.{refused_by}
 use Rattle.nv_super.proofs.Members.{stands}
 use Rattle.nv_calls.proofs.OwnedRow.{owns_blocks}
 use Rattle.nv_calls.proofs.LinkedHeld.{kinds_apart, kinds_differ}

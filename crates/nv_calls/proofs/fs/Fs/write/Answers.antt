@@ -11,17 +11,17 @@ use Rattle.nv_tree.specs.Refusals.{first_refusal, has_no_space, is_bad, is_dir, 
 use Rattle.nv_tree.proofs.Texts.{text_says}
 use Rattle.nv_calls.specs.Mount.{Mount}
 use Rattle.nv_calls.specs.Seen.{LeadsTo, node_of, tree_of}
-use Rattle.nv_calls.specs.Steps.{ShowsRow}
+use Rattle.nv_steps.specs.Steps.{ShowsRow}
 use Rattle.nv_calls.specs.World.{world_of}
 use Rattle.nv_alloc.specs.Taking.{all_blocks}
-use Rattle.nv_calls.specs.Writes.{NeedsBlocks, data_entries}
-use Rattle.nv_calls.specs.Written.{RefusesWrite}
-use Rattle.nv_calls.specs.declared.planning.Plan.{Plan}
+use Rattle.nv_steps.specs.Writes.{NeedsBlocks, data_entries}
+use Rattle.nv_steps.specs.Written.{RefusesWrite}
+use Rattle.nv_steps.specs.declared.planning.Plan.{Plan}
 use Rattle.nv_calls.proofs.FileStanding.{file_stands}
-use Rattle.nv_calls.proofs.Listed.{refused_by}
+use Rattle.nv_steps.proofs.Replies.{refused_by}
 use Rattle.nv_rows.specs.Rows.{place_in}
 use Rattle.nv_rows.proofs.Places.{at_place, own_row, put_one}
-use Rattle.nv_calls.proofs.PutRow.{one_row}
+use Rattle.nv_steps.proofs.RowsAt.{one_row}
 use Rattle.nv_calls.proofs.OneRow.{stands_right}
 use Rattle.nv_super.proofs.Members.{stands}
 use Rattle.nv_calls.proofs.RowChange.{kept_after, same_mount, tree_after}

@@ -1,0 +1,60 @@
+-- What the steps of names make of all rows.
+use Rattle.std.specs.Prelude.{◌≡◌, ℕ, List, set, slice_get, Some, ◌⊎◌, ◌≤◌, remove, None, ◌+◌, ◌-◌, ◌%◌, ◌<◌, nat_lt, if◌then◌else◌}
+use Rattle.nv_region.specs.Region.{Region}
+use Rattle.nv_super.specs.declared.superblock.Super.{Super}
+use Rattle.nv_super.specs.declared.kind.Kind.{Kind}
+use Rattle.nv_alloc.specs.FreeValue.{FreeLists}
+use Rattle.nv_scan.specs.declared.piece.Row.{Row}
+use Rattle.nv_rows.specs.Rows.{HasInserted}
+use Rattle.nv_held.specs.nv_outcome.Same.{SameRows}
+use Rattle.nv_steps.specs.Taken.{SamePools}
+use Rattle.nv_steps.specs.NewNames.{MakesNamed}
+use Rattle.nv_super.specs.declared.kind.Kind.TheVariants.{File, Directory}
+use Rattle.nv_names.specs.Names.{name_at}
+use Rattle.nv_steps.specs.LessNames.{CutsName, GivesRow}
+use Rattle.nv_entry.specs.declared.entry.Operation.TheVariants.{Remove}
+use Rattle.nv_logpage.specs.Append.{needed}
+use Rattle.nv_steps.specs.NameEntries.{links_entries, name_entries}
+use Rattle.nv_steps.specs.Unlinks.{UnlinksAt}
+
+-- That was done in the directory whose row is at this place, and the new inode's row was put in.
+pub record CreatesAt (R S : Region) (s : Super) (free after : FreeLists) (rows news : List Row) (place : ℕ) (kind : Kind) (mode time j : ℕ) (name : List ℕ) : Type 0 where
+  pub row : Row
+  pub now : Row
+  pub made : Row
+  pub at : slice_get rows place ≡ Some row
+  pub step : MakesNamed R S s free after row now kind mode time j name made
+  pub put : HasInserted (set rows place now) news made
+
+-- a step on rows that was refused has changed nothing
+pub record LeavesRows {P : Type 0} (old new : P) (before after : FreeLists) (had has' : List Row) : Type 0 where
+  pub memory : new ≡ old
+  pub free : SamePools before after
+  pub rows : SameRows had has'
+
+-- an inode that can go with a name: a directory without names, or a file with no further link
+abbrev pub CanGo : Row → Type 0
+CanGo row = ((row.kind ≡ Directory) × ((q : List ℕ) → name_at row.names q ≡ None)) ⊎ ((row.kind ≡ File) × (row.numbers.links ≤ 1))
+
+-- That was done in the directory whose row is at one place, for the inode whose row was at another. Its row was taken out, and
+-- its blocks were given back.
+pub record RemovesAt (R S : Region) (s : Super) (free after : FreeLists) (rows news : List Row) (place target : ℕ) (name : List ℕ) (time : ℕ) : Type 0 where
+  pub row : Row
+  pub gone : Row
+  pub now : Row
+  pub mid : FreeLists
+  pub at : slice_get rows place ≡ Some row
+  pub gone_at : slice_get rows target ≡ Some gone
+  pub step : CutsName R S s free mid row now gone.inode time name
+  pub given : GivesRow mid gone after
+  pub put : news ≡ remove (set rows place now) target
+
+-- where a file has other names, that was done; else it went with the name
+abbrev pub Releases : Region → Region → Super → FreeLists → FreeLists → List Row → List Row → ℕ → ℕ → List ℕ → ℕ → Type 0
+Releases R S s free after rows news place target name time =
+    (((file : Row) → slice_get rows target ≡ Some file → 1 < file.numbers.links) × UnlinksAt R S s free after rows news place target name time)
+    ⊎ (((file : Row) → slice_get rows target ≡ Some file → file.numbers.links ≤ 1) × RemovesAt R S s free after rows news place target name time)
+
+-- how many blocks it takes
+abbrev pub release_blocks : Row → Row → List ℕ → ℕ → ℕ
+release_blocks row file name time = needed (row.tail % 4096) (name_entries Remove file.inode name time) + (if nat_lt 1 file.numbers.links then needed (file.tail % 4096) (links_entries (file.numbers.links - 1) time) else 0)

@@ -1,0 +1,156 @@
+-- Two logs that were grown and whose rows were settled: what is owed before the commit, and what was done.
+use Rattle.std.proofs.Common.{◌≡◌, refl, ◌≢◌, ℕ, ◌+◌, ◌/◌, ◌%◌, ◌≤◌, List, [], ◌∷◌, ◌++◌, length, take, drop, ap, sym, ◌∙◌, subst, arith, Bool, true, false, cond, vec_len, vec_capacity}
+use Rattle.std.proofs.lemmas.List.{length-drop, length-take-le, take-append-drop}
+use Rattle.nv_region.specs.Region.{Region, size}
+use Rattle.nv_region.specs.Stops.{IsMixed}
+use Rattle.nv_super.specs.declared.superblock.Super.{Super}
+use Rattle.nv_super.specs.Layout.{slot_address}
+use Rattle.nv_alloc.specs.FreeValue.{FreeLists}
+use Rattle.nv_entry.specs.declared.entry.Entry.{Entry}
+use Rattle.nv_logpage.specs.Append.{AreGiven, EndBy, end_of, needed}
+use Rattle.nv_names.specs.Names.{EachOnce, Names, name_at}
+use Rattle.nv_held.specs.nv_outcome.Same.{SameRow}
+use Rattle.nv_radix.specs.Pages.{Pages, block_at}
+use Rattle.nv_scan.specs.declared.piece.Row.{Row}
+use Rattle.nv_held.specs.Held.{Held, Store}
+use Rattle.nv_commit.specs.declared.together.Extension.{Extension}
+use Rattle.nv_commit.specs.Extends.{with_log}
+use Rattle.nv_commit.specs.Together.{CanCommit, CanExtendTwo, ShowsIdle, TogetherWords, with_logs}
+use Rattle.nv_commit.proofs.BytesStay.{together_bytes}
+use Rattle.nv_steps.specs.Grown.{HasGrown, StandsRight}
+use Rattle.nv_steps.specs.MoreNames.{AppendsLogs, GrowsSame, NamesOnce, ReadiesRow}
+use Rattle.nv_steps.specs.NewNames.{CanName}
+use Rattle.nv_steps.specs.Steps.{ShowsRow}
+use Rattle.nv_steps.specs.Taken.{TakesEach}
+use Rattle.nv_steps.proofs.TwoLogs.{as_extension, can_extend_two, cut_each, row_commits, stands_after}
+
+-- one entry takes a page at most
+pub needed_one : (offset : ℕ) (es : List Entry) → length es ≡ 1 → needed offset es ≤ 1
+needed_one offset [] one = omega arith
+needed_one offset (e ∷ []) one = by _ where
+  by : (b : Bool) → cond b 0 1 ≤ 1
+  by true = omega arith
+  by false = omega arith
+needed_one offset (e ∷ f ∷ es) one = absurd (omega (arith, one))
+
+-- a row that was made ready and then settled
+grows_same : {old mid new : Row} {blocks fresh : List ℕ} {last end : ℕ} → SameRow old mid → HasGrown mid blocks last new → blocks ≡ fresh → last ≡ end → GrowsSame old fresh end new
+grows_same {old} {mid} {new} {blocks} {fresh} {last} {end} same grown is ends = record {
+  inode = grown.inode ∙ same.inode;
+  kind = grown.kind ∙ same.kind;
+  numbers = grown.numbers ∙ same.numbers;
+  head = grown.head ∙ same.head;
+  tail = grown.tail ∙ ends;
+  pages = grown.pages ∙ (λ t. same.pages t ++ is t);
+  index = λ p. ap (λ (m : Pages). block_at m p) grown.index ∙ same.index p;
+  names = λ q. ap (λ (m : Names). name_at m q) grown.names ∙ same.names q;
+}
+
+once_still : (old : Row) {mid new : Row} {blocks : List ℕ} {last : ℕ} → NamesOnce old mid → HasGrown mid blocks last new → NamesOnce old new
+once_still old once grown = (once.0, subst EachOnce (sym grown.names) once.1)
+
+module _ {R : Region} {s : Super} {free after : FreeLists} {first second row other : Row} {cpu : ℕ} {items : List ℕ} {entries others : List Entry} {names more_names : ℕ} (ready : ReadiesRow first row entries names) (other_ready : ReadiesRow second other others more_names)
+    (stands : StandsRight R s free first × CanName R s cpu first.inode first) (other_stands : StandsRight R s free second × CanName R s cpu second.inode second) (taken : TakesEach free items after) (counted : length items ≡ needed (first.tail % 4096) entries + needed (second.tail % 4096) others)
+    (apart : first.inode ≢ second.inode) (given : AreGiven entries) (more_given : AreGiven others) (some : length entries ≡ 1) (more_some : length others ≡ 1) where
+  abbrev n : ℕ
+  n = needed (first.tail % 4096) entries
+
+  abbrev fresh : List ℕ
+  fresh = take n items
+
+  abbrev more : List ℕ
+  more = drop n items
+
+  all : TakesEach free (fresh ++ more) after
+  all = subst (λ (xs : List ℕ). TakesEach free xs after) (sym (take-append-drop n items)) taken
+
+  count : length fresh ≡ n
+  count = length-take-le n items (omega (arith, counted))
+
+  more_count : length more ≡ needed (second.tail % 4096) others
+  more_count = length-drop n items ∙ omega (arith, counted)
+
+  first_taken : TakesEach free fresh (cut_each fresh more all).0
+  first_taken = (cut_each fresh more all).1
+
+  more_taken : TakesEach (cut_each fresh more all).0 more after
+  more_taken = (cut_each fresh more all).2
+
+  two : StandsRight R s (cut_each fresh more all).0 second
+  two = stands_after other_stands.0 first_taken
+
+  -- There is room for the pages.
+  pub first_room : vec_len row.pages + length fresh ≤ vec_capacity row.pages
+  first_room = let room = ready.room in omega (arith, room, count)
+
+  pub second_room : vec_len other.pages + length more ≤ vec_capacity other.pages
+  second_room = let room = other_ready.room in omega (arith, room, more_count)
+
+  -- so many blocks are the first log's
+  pub count_is : (m : ℕ) → m ≡ needed (row.tail % 4096) entries → m ≡ n
+  count_is m told = let same = ready.same in told ∙ ap (λ (t : ℕ). needed (t % 4096) entries) same.tail
+
+  module _ (x y : Extension) (slot : x.slot ≡ slot_address s row.inode) (tail : x.tail ≡ row.tail) (es : x.entries.now ≡ entries) (blocks : x.fresh.now ≡ fresh)
+      (other_slot : y.slot ≡ slot_address s other.inode) (other_tail : y.tail ≡ other.tail) (other_es : y.entries.now ≡ others) (other_blocks : y.fresh.now ≡ more) where
+    slot_is : x.slot ≡ slot_address s first.inode
+    slot_is = let same = ready.same in slot ∙ ap (slot_address s) same.inode
+
+    tail_is : x.tail ≡ first.tail
+    tail_is = let same = ready.same in tail ∙ same.tail
+
+    other_slot_is : y.slot ≡ slot_address s second.inode
+    other_slot_is = let same = other_ready.same in other_slot ∙ ap (slot_address s) same.inode
+
+    other_tail_is : y.tail ≡ second.tail
+    other_tail_is = let same = other_ready.same in other_tail ∙ same.tail
+
+    pub first_commits : CanCommit R cpu x
+    first_commits = row_commits entries stands.0 stands.1 first_taken count given x slot_is tail_is es blocks
+
+    pub second_commits : CanCommit R cpu y
+    second_commits = row_commits others two other_stands.1 more_taken more_count more_given y other_slot_is other_tail_is other_es other_blocks
+
+    extends_two : (held : Store) (f h : Held) → ShowsRow R s held f first free → ShowsRow R s held h second free → CanExtendTwo R s held cpu first.inode f x second.inode h y
+    extends_two held f h shows shows_other = can_extend_two entries others fresh more (let right = stands.0 in right.lists) all count more_count given more_given (omega (arith, some)) (omega (arith, more_some)) shows shows_other (let can = stands.1 in can.cpu_below) apart blocks other_blocks
+        (λ w. as_extension entries stands.0 stands.1 first_taken count given x slot_is tail_is es blocks w) (λ w. as_extension others two other_stands.1 more_taken more_count more_given y other_slot_is other_tail_is other_es other_blocks w)
+
+    -- Memory that is open past the region is open past all that is stored.
+    pub both_within : (limit : ℕ) → size R ≤ limit → EndBy (x.tail / 4096 ∷ x.fresh.now) limit × EndBy (y.tail / 4096 ∷ y.fresh.now) limit × (x.slot + 32 ≤ limit) × (y.slot + 32 ≤ limit)
+    both_within limit past =
+        let a = first_commits in
+        let b = second_commits in
+        let append = a.append in
+        let other_append = b.append in (
+          (λ k below. (let inside = append.inside k below in omega (arith, inside, past))),
+          (λ k below. (let inside = other_append.inside k below in omega (arith, inside, past))),
+          (let inside = a.inside in omega (arith, inside, past)),
+          (let inside = b.inside in omega (arith, inside, past)),
+        )
+
+    -- Both logs have grown, and both rows.
+    pub appends_logs : {S : Region} {end last : ℕ} {c d : Row} {bs cs : List ℕ} → bs ≡ fresh → cs ≡ more → end ≡ end_of x.fresh.now 0 x.tail x.entries.now → last ≡ end_of y.fresh.now 0 y.tail y.entries.now → HasGrown row bs end c → HasGrown other cs last d
+        → ((held : Store) (a b : ℕ) (h g : Held) → CanExtendTwo R s held cpu a h x b g y → ShowsIdle S s (with_logs held a h x b g y)) → IsMixed R (TogetherWords cpu x y) S → AppendsLogs R S s free after (first ∷ second ∷ []) (c ∷ d ∷ []) 0 entries 1 others
+    appends_logs {S} {end} {last} {c} {d} {bs} {cs} settled other_settled ends other_ends grown other_grown shows mixed = record {
+      first = first;
+      second = second;
+      step = record {
+        first_now = c;
+        second_now = d;
+        at = refl;
+        other_at = refl;
+        fresh = fresh;
+        more = more;
+        taken = all;
+        count = count;
+        more_count = more_count;
+        is = grows_same ready.same grown settled (ends ∙ (λ t. end_of (blocks t) 0 (tail_is t) (es t)));
+        other_is = grows_same other_ready.same other_grown other_settled (other_ends ∙ (λ t. end_of (other_blocks t) 0 (other_tail_is t) (other_es t)));
+        once = once_still first ready.once grown;
+        other_once = once_still second other_ready.once other_grown;
+        put = refl;
+        shows = λ held h g seen seen_other. record {
+          idle = subst (λ (st : Store). ShowsIdle S s st) (λ t. with_log (with_log held first.inode h (es t) (blocks t)) second.inode g (other_es t) (other_blocks t)) (shows held first.inode second.inode h g (extends_two held h g seen seen_other));
+          bytes = together_bytes (extends_two held h g seen seen_other) S mixed;
+        };
+      };
+    }

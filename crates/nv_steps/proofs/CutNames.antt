@@ -1,0 +1,121 @@
+-- The removal of a name and its inode, once they are committed and the directory's row is settled.
+use Rattle.std.proofs.Common.{◌≡◌, ◌≢◌, ℕ, ◌+◌, ◌*◌, ◌/◌, ◌%◌, ◌≤◌, cond, nat_eq, List, ◌∷◌, ◌++◌, length, refl, ap, sym, ◌∙◌, subst, arith, Some, None}
+use Rattle.std.specs.Cmp.Lexicographic.{pointwise}
+use Rattle.nv_region.specs.Region.{Region, size}
+use Rattle.nv_region.specs.Stops.{IsMixed}
+use Rattle.nv_super.specs.declared.superblock.Super.{Super}
+use Rattle.nv_super.specs.Layout.{fixed_layout, slot_address, slot_of}
+use Rattle.nv_super.proofs.Slots.{slots_apart}
+use Rattle.nv_scan.proofs.Pieces.{slot_is}
+use Rattle.nv_journal.specs.Undo.{journal}
+use Rattle.nv_alloc.specs.FreeValue.{FreeLists}
+use Rattle.nv_entry.specs.declared.entry.Entry.{Entry}
+use Rattle.nv_entry.specs.declared.entry.Operation.TheVariants.{Remove}
+use Rattle.nv_logpage.specs.Append.{EndBy, end_of, needed}
+use Rattle.nv_names.specs.Names.{EachOnce}
+use Rattle.nv_scan.specs.declared.numbers.Numbers.{Numbers}
+use Rattle.nv_scan.specs.declared.piece.Row.{Row}
+use Rattle.nv_held.specs.nv_outcome.Same.{SameRow}
+use Rattle.nv_held.specs.Held.{Held, Store, with_inode}
+use Rattle.nv_commit.specs.declared.together.Extension.{Extension}
+use Rattle.nv_commit.specs.Extends.{with_log}
+use Rattle.nv_commit.specs.Together.{CanCommit, ShowsIdle}
+use Rattle.nv_commit.specs.Removes.{CanRemove, RemoveWords, with_removed}
+use Rattle.nv_commit.proofs.BytesStay.{removed_bytes}
+use Rattle.nv_steps.specs.Grown.{StandsRight}
+use Rattle.nv_steps.specs.LessNames.{CutsName, HasLost}
+use Rattle.nv_steps.specs.NameEntries.{name_entries, with_gone}
+use Rattle.nv_steps.specs.NewNames.{CanName}
+use Rattle.nv_steps.specs.Steps.{ShowsRow}
+use Rattle.nv_steps.specs.Taken.{TakesEach}
+use Rattle.nv_steps.proofs.LogGrows.{can_extend, stores_within_region}
+use Rattle.nv_steps.proofs.TwoLogs.{as_extension, row_commits}
+
+-- a row that was made ready and then settled
+lost_after : {old mid new : Row} {fresh others : List ℕ} {end last : ℕ} (name : List ℕ) (time : ℕ) → SameRow old mid → HasLost mid fresh end name time new → fresh ≡ others → end ≡ last → HasLost old others last name time new
+lost_after {old} {mid} {new} {fresh} {others} {end} {last} name time same lost blocks ends = record {
+  inode = lost.inode ∙ same.inode;
+  kind = lost.kind ∙ same.kind;
+  numbers = lost.numbers ∙ ap (λ (n : Numbers). record n { time = time }) same.numbers;
+  head = lost.head ∙ same.head;
+  tail = lost.tail ∙ ends;
+  pages = lost.pages ∙ (λ t. same.pages t ++ blocks t);
+  index = λ p. lost.index p ∙ same.index p;
+  names = λ q. lost.names q ∙ (λ t. cond (pointwise nat_eq q name) None (same.names q t));
+}
+
+module _ {R : Region} {s : Super} {free after : FreeLists} {old mid : Row} {cpu j : ℕ} {fresh : List ℕ} (stands : StandsRight R s free old) (can : CanName R s cpu j old) (taken : TakesEach free fresh after) (name : List ℕ) (time : ℕ)
+    (count : length fresh ≡ needed (old.tail % 4096) (name_entries Remove j name time)) (same : SameRow old mid) where
+  abbrev entries : List Entry
+  entries = name_entries Remove j name time
+
+  -- the slot of the inode that goes
+  gone_slot : slot_of (fixed_layout s) j ≡ Some (slot_address s j)
+  gone_slot = slot_is s j stands.layout can.number
+
+  pub slot_whole : slot_address s j % 8 ≡ 0
+  slot_whole = let apart = slots_apart s stands.layout in let whole = apart.whole j (slot_address s j) gone_slot in omega (arith, whole)
+
+  pub slot_inside : slot_address s j + 8 ≤ size R
+  slot_inside =
+      let apart = slots_apart s stands.layout in
+      let before = apart.before j (slot_address s j) gone_slot in
+      let layout = stands.layout in
+      let areas = layout.areas in
+      let room = areas.room in
+      let blocks = stands.blocks in
+      omega (arith, before, room, blocks)
+
+  pub slot_behind : journal cpu + 4096 ≤ slot_address s j
+  slot_behind =
+      let apart = slots_apart s stands.layout in
+      let behind : (1 + s.cpus) * 4096 ≤ slot_address s j = apart.behind j (slot_address s j) gone_slot in
+      let below = can.cpu_below in
+      let before : journal cpu + 4096 ≤ (1 + s.cpus) * 4096 = omega (arith, below) in
+      omega (arith, behind, before)
+
+  module _ (x : Extension) (slot : x.slot ≡ slot_address s mid.inode) (tail : x.tail ≡ mid.tail) (more : x.entries.now ≡ entries) (blocks : x.fresh.now ≡ fresh) where
+    old_slot : x.slot ≡ slot_address s old.inode
+    old_slot = slot ∙ ap (slot_address s) same.inode
+
+    old_tail : x.tail ≡ old.tail
+    old_tail = tail ∙ same.tail
+
+    pub commits : CanCommit R cpu x
+    commits = row_commits entries stands can taken count (refl, tt) x old_slot old_tail more blocks
+
+    can_remove : (gone : ℕ) → gone ≡ slot_address s j → old.inode ≢ j → (held : Store) (h : Held) → ShowsRow R s held h old free → CanRemove R s held cpu mid.inode h x j gone
+    can_remove gone there differ held h shows = subst (λ (d : ℕ). CanRemove R s held cpu d h x j gone) (sym same.inode) (record {
+      journals = can.cpu_below;
+      parent = as_extension entries stands can taken count (refl, tt) x old_slot old_tail more blocks (can_extend entries shows stands.lists taken count (refl, tt) (omega arith));
+      at = gone_slot ∙ ap (λ (a : ℕ). Some a) (sym there);
+      differ = differ;
+    })
+
+    store_as : (held : Store) (d : ℕ) (h : Held) → with_removed held d h x j ≡ with_gone held d h entries fresh j
+    store_as held d h = λ t. with_inode (with_log held d h (more t) (blocks t)) j None
+
+    pub cuts_name : {S : Region} {new : Row} (gone end : ℕ) (bs : List ℕ) → gone ≡ slot_address s j → old.inode ≢ j → bs ≡ fresh → end ≡ end_of x.fresh.now 0 x.tail x.entries.now → HasLost mid bs end name time new → EachOnce old.names → EachOnce new.names
+        → ((held : Store) (h : Held) → CanRemove R s held cpu mid.inode h x j gone → ShowsIdle S s (with_removed held mid.inode h x j)) → IsMixed R (RemoveWords cpu x gone) S → CutsName R S s free after old new j time name
+    cuts_name {S} {new} gone end bs there differ others ends lost once once_now shows mixed = record {
+      fresh = fresh;
+      taken = taken;
+      count = count;
+      directory = lost_after name time same lost others (ends ∙ (λ t. end_of (blocks t) 0 (old_tail t) (more t)));
+      once = once;
+      once_now = once_now;
+      shows = λ held h seen. record {
+        idle = subst (λ (st : Store). ShowsIdle S s st) (store_as held old.inode h) (subst (λ (d : ℕ). ShowsIdle S s (with_removed held d h x j)) same.inode (shows held h (can_remove gone there differ held h seen)));
+        bytes = removed_bytes (can_remove gone there differ held h seen) S mixed;
+      };
+    }
+
+  -- Memory that is open past the region is open past all that is stored.
+  pub cuts_within : (a b t : ℕ) (bs : List ℕ) → a ≡ slot_address s j → b ≡ slot_address s mid.inode → t ≡ mid.tail → bs ≡ fresh → (limit : ℕ) → size R ≤ limit
+      → EndBy (t / 4096 ∷ bs) limit × (b + 32 ≤ limit) × (a + 8 ≤ limit)
+  cuts_within a b t bs gone slot tail blocks limit past =
+      let w = stores_within_region entries bs b stands taken count (refl, tt) blocks (slot ∙ ap (slot_address s) same.inode) limit past in (
+        subst (λ (n : ℕ). EndBy (n / 4096 ∷ bs) limit) (sym (tail ∙ same.tail)) w.0,
+        w.1,
+        omega (arith, slot_inside, gone, past),
+      )

@@ -1,0 +1,154 @@
+-- A new inode and its name, once they are committed and the rows settled.
+use Rattle.std.proofs.Common.{◌≡◌, ℕ, zero, suc, ◌+◌, ◌-◌, ◌*◌, ◌/◌, ◌%◌, ◌<◌, ◌≤◌, cond, nat_eq, List, [], ◌∷◌, ◌++◌, drop, take, take_all, length, get_or, refl, ap, sym, ◌∙◌, subst, arith, Some, None}
+use Rattle.std.specs.Cmp.Lexicographic.{pointwise}
+use Rattle.nv_region.specs.Region.{Region, size}
+use Rattle.nv_region.specs.Stops.{IsMixed}
+use Rattle.nv_super.specs.declared.superblock.Super.{Super}
+use Rattle.nv_super.specs.declared.kind.Kind.{Kind}
+use Rattle.nv_super.specs.Layout.{slot_address}
+use Rattle.nv_alloc.specs.FreeValue.{FreeLists}
+use Rattle.nv_entry.specs.declared.entry.Entry.{Entry}
+use Rattle.nv_entry.specs.declared.entry.Entry.TheVariants.{Name}
+use Rattle.nv_entry.specs.declared.entry.Operation.TheVariants.{Add}
+use Rattle.nv_entry.specs.Spelling.{entry_length}
+use Rattle.nv_logpage.specs.Append.{EndBy, appended, end_of, needed}
+use Rattle.nv_names.specs.Names.{EachOnce}
+use Rattle.nv_scan.specs.declared.numbers.Numbers.{Numbers}
+use Rattle.nv_scan.specs.declared.piece.Row.{Row}
+use Rattle.nv_held.specs.nv_outcome.Same.{SameRow}
+use Rattle.nv_held.specs.Held.{Held, Store, with_inode}
+use Rattle.nv_commit.specs.declared.together.Extension.{Extension}
+use Rattle.nv_commit.specs.declared.making.NewInode.{NewInode}
+use Rattle.nv_commit.specs.Extends.{with_log}
+use Rattle.nv_commit.specs.Together.{CanCommit, ShowsIdle}
+use Rattle.nv_commit.specs.Makes.{CanBegin, CanMake, MakeWords, begun, tail_of, with_made}
+use Rattle.nv_commit.proofs.BytesStay.{made_bytes}
+use Rattle.nv_steps.specs.Grown.{StandsRight}
+use Rattle.nv_steps.specs.NameEntries.{first_entries, name_entries, new_held, with_named}
+use Rattle.nv_steps.specs.NewNames.{CanName, HasNamed, IsNewRow, MakesNamed, place_named}
+use Rattle.nv_steps.specs.Steps.{ShowsRow}
+use Rattle.nv_steps.specs.Taken.{TakesEach}
+use Rattle.nv_steps.proofs.NewLogs.{can_begin, can_commit, can_make, first_append, second_append, slot_inside}
+
+-- blocks as the first and the others
+pub cut_first : (xs : List ℕ) (n d : ℕ) → length xs ≡ 1 + n → xs ≡ get_or xs 0 d ∷ drop 1 xs
+cut_first [] n d count = absurd (omega (arith, count))
+cut_first (x ∷ xs) n d count = refl
+
+pub others_count : (xs : List ℕ) (n : ℕ) → length xs ≡ 1 + n → length (drop 1 xs) ≡ n
+others_count [] n count = absurd (omega (arith, count))
+others_count (x ∷ xs) n count = omega (arith, count)
+
+pub all_others : (xs : List ℕ) (n : ℕ) → n ≡ length xs → take (n - 1) (drop 1 xs) ≡ drop 1 xs
+all_others [] n is = ap (λ (m : ℕ). take (m - 1) (drop 1 [])) is
+all_others (x ∷ xs) n is = take_all (n - 1) xs (omega (arith, is))
+
+pub first_taken : (xs : List ℕ) (n d : ℕ) → length xs ≡ 1 + n → get_or (take 1 xs) 0 d ≡ get_or xs 0 d
+first_taken [] n d count = absurd (omega (arith, count))
+first_taken (x ∷ xs) n d count = refl
+
+pub first_is : (xs : List ℕ) (n v : ℕ) → length xs ≡ 1 + n → v ≡ get_or xs 0 v → v ≡ get_or xs 0 0
+first_is [] n v count is = absurd (omega (arith, count))
+first_is (x ∷ xs) n v count is = is
+
+-- where a name's entry begins, by where it ends
+pub place_is : (end len : ℕ) (fresh : List ℕ) (tail j : ℕ) (name : List ℕ) (time : ℕ) → end ≡ end_of fresh 0 tail (name_entries Add j name time) → len ≡ entry_length (Name (record { operation = Add; inode = j; time = time; name = name })) → end - len ≡ place_named fresh tail j name time
+place_is end len fresh tail j name time ends is = omega (arith, ends, is)
+
+-- the store by the names of a call
+made_store : (held : Store) (n : NewInode) (x : Extension) (kind : Kind) (mode time j d : ℕ) (h : Held) (name : List ℕ) (page : ℕ) (fresh : List ℕ) → n.kind ≡ kind → n.created ≡ time → n.page ≡ page → n.entries.now ≡ first_entries mode time → x.entries.now ≡ name_entries Add j name time → x.fresh.now ≡ fresh
+    → with_made held j n d h x ≡ with_named held kind mode time j d h name page fresh
+made_store held n x kind mode time j d h name page fresh of_kind created page_is first more blocks =
+    let same : begun n ≡ new_held kind mode time page = λ t. record { kind = of_kind t; head = 4096 * page_is t; tail = end_of [] 0 (4096 * page_is t) (first t); created = created t; entries = appended [] 0 (4096 * page_is t) (first t); pages = page_is t ∷ [] } in
+    λ t. with_log (with_inode held j (Some (same t))) d h (more t) (blocks t)
+
+-- a row that was made ready and then settled
+pub named_after : {old mid new : Row} {fresh others : List ℕ} {end last place spot : ℕ} (name : List ℕ) (j time : ℕ) → SameRow old mid → HasNamed mid fresh end name j place time new → fresh ≡ others → end ≡ last → place ≡ spot → HasNamed old others last name j spot time new
+named_after {old} {mid} {new} {fresh} {others} {end} {last} {place} {spot} name j time same named blocks ends at = record {
+  inode = named.inode ∙ same.inode;
+  kind = named.kind ∙ same.kind;
+  numbers = named.numbers ∙ ap (λ (n : Numbers). record n { time = time }) same.numbers;
+  head = named.head ∙ same.head;
+  tail = named.tail ∙ ends;
+  pages = named.pages ∙ (λ t. same.pages t ++ blocks t);
+  index = λ p. named.index p ∙ same.index p;
+  names = λ q. named.names q ∙ (λ t. cond (pointwise nat_eq q name) (Some (j, at t)) (same.names q t));
+}
+
+pub new_row_as : {p page t tail : ℕ} {row : Row} (j : ℕ) (kind : Kind) (mode time : ℕ) → p ≡ page → t ≡ tail → IsNewRow j kind mode time p t row → IsNewRow j kind mode time page tail row
+new_row_as {p} {page} {t} {tail} {row} j kind mode time same ends is = subst (λ (m : ℕ). IsNewRow j kind mode time page m row) ends (subst (λ (m : ℕ). IsNewRow j kind mode time m t row) same is)
+
+module _ {R : Region} {s : Super} {free after : FreeLists} {old mid : Row} {cpu j : ℕ} {items : List ℕ} (stands : StandsRight R s free old) (can : CanName R s cpu j old) (taken : TakesEach free items after) (name : List ℕ) (time : ℕ)
+    (counted : length items ≡ 1 + needed (old.tail % 4096) (name_entries Add j name time)) (same : SameRow old mid) where
+  abbrev entries : List Entry
+  entries = name_entries Add j name time
+
+  abbrev page : ℕ
+  page = get_or items 0 0
+
+  abbrev fresh : List ℕ
+  fresh = drop 1 items
+
+  all : items ≡ page ∷ fresh
+  all = cut_first items (needed (old.tail % 4096) entries) 0 counted
+
+  both_taken : TakesEach free (page ∷ fresh) after
+  both_taken = subst (λ (xs : List ℕ). TakesEach free xs after) all taken
+
+  count : length fresh ≡ needed (old.tail % 4096) entries
+  count = others_count items (needed (old.tail % 4096) entries) counted
+
+  pub begins : (mode : ℕ) {n : NewInode} → n.slot ≡ slot_address s j → n.page ≡ page → n.entries.now ≡ first_entries mode time → CanBegin R cpu n
+  begins mode slot page_is first = can_begin entries stands can both_taken count (refl, tt) mode time slot page_is first
+
+  module _ (x : Extension) (slot : x.slot ≡ slot_address s mid.inode) (tail : x.tail ≡ mid.tail) (more : x.entries.now ≡ entries) (blocks : x.fresh.now ≡ fresh) where
+    old_slot : x.slot ≡ slot_address s old.inode
+    old_slot = slot ∙ ap (slot_address s) same.inode
+
+    old_tail : x.tail ≡ old.tail
+    old_tail = tail ∙ same.tail
+
+    pub commits : CanCommit R cpu x
+    commits = can_commit entries stands can both_taken count (refl, tt) old_slot old_tail more blocks
+
+    module _ (kind : Kind) (mode : ℕ) (n : NewInode) (new_slot : n.slot ≡ slot_address s j) (of_kind : n.kind ≡ kind) (created : n.created ≡ time) (page_is : n.page ≡ page) (first : n.entries.now ≡ first_entries mode time) where
+      can_make_it : (held : Store) (h : Held) → ShowsRow R s held h old free → held j ≡ None → CanMake R s held cpu j n mid.inode h x
+      can_make_it held h shows unused = subst (λ (d : ℕ). CanMake R s held cpu j n d h x) (sym same.inode) (can_make entries stands can both_taken count (refl, tt) shows unused (omega arith) mode time new_slot page_is first old_slot old_tail more blocks)
+
+      pub makes_named : {S : Region} {new row : Row} (end tail_now place first_page : ℕ) (bs : List ℕ) → bs ≡ fresh → tail_now ≡ tail_of n → end ≡ end_of x.fresh.now 0 x.tail x.entries.now → HasNamed mid bs end name j place time new → place ≡ place_named fresh old.tail j name time
+          → EachOnce old.names → EachOnce new.names → first_page ≡ page → IsNewRow j kind mode time first_page tail_now row
+          → ((held : Store) (h : Held) → CanMake R s held cpu j n mid.inode h x → ShowsIdle S s (with_made held j n mid.inode h x)) → IsMixed R (MakeWords cpu n x) S
+          → MakesNamed R S s free after old new kind mode time j name row
+      makes_named {S} {new} {row} end tail_now place first_page bs others tails ends named at once once_now paged made shows mixed = record {
+        page = page;
+        fresh = fresh;
+        taken = both_taken;
+        count = count;
+        directory = named_after name j time same named others (ends ∙ (λ t. end_of (blocks t) 0 (old_tail t) (more t))) at;
+        once = once;
+        once_now = once_now;
+        row = new_row_as j kind mode time paged (tails ∙ (λ t. end_of [] 0 (4096 * page_is t) (first t))) made;
+        shows = λ held h seen unused. record {
+          idle = subst (λ (st : Store). ShowsIdle S s st) (made_store held n x kind mode time j old.inode h name page fresh of_kind created page_is first more blocks) (subst (λ (d : ℕ). ShowsIdle S s (with_made held j n d h x)) same.inode (shows held h (can_make_it held h seen unused)));
+          bytes = made_bytes (can_make_it held h seen unused) S mixed;
+        };
+      }
+
+  -- Memory that is open past the region is open past all that is stored.
+  pub makes_within : (p a b t : ℕ) (bs : List ℕ) → p ≡ page → a ≡ slot_address s j → b ≡ slot_address s mid.inode → t ≡ mid.tail → bs ≡ fresh → (limit : ℕ) → size R ≤ limit
+      → EndBy (p ∷ []) limit × EndBy (t / 4096 ∷ bs) limit × (a + 40 ≤ limit) × (b + 32 ≤ limit)
+  makes_within p a b t bs page_is new_slot slot tail blocks limit past =
+      let first = first_append entries stands can both_taken count (refl, tt) 0 0 in
+      let second = second_append entries stands can both_taken count (refl, tt) in
+      let page_in = first.inside in
+      let pages_in : EndBy (t / 4096 ∷ bs) (size R) = subst (λ (xs : List ℕ). EndBy (t / 4096 ∷ xs) (size R)) (sym blocks) (subst (λ (m : ℕ). EndBy (m / 4096 ∷ fresh) (size R)) (sym (tail ∙ same.tail)) second.inside) in
+      let new_inside = slot_inside entries stands can both_taken count (refl, tt) in (
+        (λ k below. one k below (page_in 0 (omega arith))),
+        (λ k below. (let in_region = pages_in k below in omega (arith, in_region, past))),
+        omega (arith, new_inside, new_slot, past),
+        (let inside = stands.inside in let here : b ≡ slot_address s old.inode = slot ∙ ap (slot_address s) same.inode in omega (arith, inside, here, past)),
+      )
+    where
+      one : (k : ℕ) → k < 1 → 4096 * (4096 * page / 4096) + 4096 ≤ size R → 4096 * get_or (p ∷ []) k 0 + 4096 ≤ limit
+      one zero below inside = omega (arith, inside, past, page_is)
+      one (suc k) below inside = absurd (omega (arith, below))

@@ -1,0 +1,85 @@
+-- A name less and a link less, once both logs have grown and the rows are settled.
+use Rattle.std.proofs.Common.{◌≡◌, ◌≢◌, ℕ, ◌-◌, cond, nat_eq, List, set, slice_get, ap, sym, ◌∙◌, subst, Some, None}
+use Rattle.std.specs.Cmp.Lexicographic.{pointwise}
+use Rattle.nv_region.specs.Region.{Region}
+use Rattle.nv_super.specs.declared.superblock.Super.{Super}
+use Rattle.nv_alloc.specs.FreeValue.{FreeLists}
+use Rattle.nv_entry.specs.declared.entry.Entry.{Entry}
+use Rattle.nv_entry.specs.declared.entry.Operation.TheVariants.{Remove}
+use Rattle.nv_logpage.specs.Append.{end_of}
+use Rattle.nv_names.specs.Names.{EachOnce}
+use Rattle.nv_radix.specs.Pages.{block_at}
+use Rattle.nv_scan.specs.declared.numbers.Numbers.{Numbers}
+use Rattle.nv_scan.specs.declared.piece.Row.{Row}
+use Rattle.nv_steps.specs.LessNames.{HasLost}
+use Rattle.nv_steps.specs.NameEntries.{links_entries, name_entries}
+use Rattle.nv_steps.specs.MoreNames.{AppendsLogs, CountsLinks, GrowsSame, GrowsTwo}
+use Rattle.nv_steps.specs.Unlinks.{DropsName, UnlinksAt}
+use Rattle.nv_steps.proofs.LinkedAt.{counted_after}
+use Rattle.nv_steps.proofs.SetRows.{both_twice, first_set, second_set}
+use Rattle.nv_steps.proofs.RowsAt.{other_set, one_row}
+
+-- a row that grew and then has a name less
+pub drops_after : {old mid new : Row} {fresh : List ℕ} {end : ℕ} (name : List ℕ) (time : ℕ) → GrowsSame old fresh end mid → DropsName mid name time new → HasLost old fresh end name time new
+drops_after {old} {mid} {new} {fresh} {end} name time grew drops =
+    let rest = drops.rest in record {
+      inode = rest.inode ∙ grew.inode;
+      kind = rest.kind ∙ grew.kind;
+      numbers = drops.numbers ∙ ap (λ (n : Numbers). record n { time = time }) grew.numbers;
+      head = rest.head ∙ grew.head;
+      tail = rest.tail ∙ grew.tail;
+      pages = (λ t. (rest.pages t).items) ∙ grew.pages;
+      index = λ p. (λ t. block_at (rest.index t) p) ∙ grew.index p;
+      names = λ q. drops.names q ∙ (λ t. cond (pointwise nat_eq q name) None (grew.names q t));
+    }
+
+module _ {R S : Region} {s : Super} {free after : FreeLists} {rows mid : List Row} {i j time : ℕ} {name : List ℕ} (read : Row) (grew : AppendsLogs R S s free after rows mid i (name_entries Remove read.inode name time) j (links_entries (read.numbers.links - 1) time)) (read_at : slice_get rows j ≡ Some read) (differ : i ≢ j) where
+  abbrev entries : List Entry
+  entries = name_entries Remove read.inode name time
+
+  abbrev others : List Entry
+  others = links_entries (read.numbers.links - 1) time
+
+  abbrev first : Row
+  first = grew.first
+
+  grown_rows : GrowsTwo R S s free after rows mid i first entries j read others (λ fresh now. GrowsSame first fresh (end_of fresh 0 first.tail entries) now) (λ more now. GrowsSame read more (end_of more 0 read.tail others) now)
+  grown_rows =
+      let step = grew.step in
+      subst (λ (r : Row). GrowsTwo R S s free after rows mid i first entries j r others (λ fresh now. GrowsSame first fresh (end_of fresh 0 first.tail entries) now) (λ more now. GrowsSame r more (end_of more 0 r.tail others) now)) (one_row (sym step.other_at ∙ read_at)) grew.step
+
+  directory_there : slice_get mid i ≡ Some grown_rows.first_now
+  directory_there = ap (λ (rs : List Row). slice_get rs i) grown_rows.put ∙ first_set rows i j first read grown_rows.first_now grown_rows.second_now grown_rows.at grown_rows.other_at differ
+
+  file_there : slice_get mid j ≡ Some grown_rows.second_now
+  file_there = ap (λ (rs : List Row). slice_get rs j) grown_rows.put ∙ second_set rows i j first read grown_rows.first_now grown_rows.second_now grown_rows.at grown_rows.other_at differ
+
+  -- Both rows are settled.
+  pub unlinks_at_places : {c d : Row} (a b : Row) → slice_get mid i ≡ Some a → DropsName a name time c → EachOnce c.names → slice_get (set mid i c) j ≡ Some b → CountsLinks b (read.numbers.links - 1) time d → UnlinksAt R S s free after rows (set (set mid i c) j d) i j name time
+  unlinks_at_places {c} {d} a b a_at drops once_c b_at counts =
+      let step = grown_rows in
+      let first_is : a ≡ step.first_now = one_row (sym a_at ∙ directory_there) in
+      let second_is : b ≡ step.second_now = one_row (sym b_at ∙ other_set mid i j c differ ∙ file_there) in
+      let drops_now : DropsName step.first_now name time c = subst (λ (r : Row). DropsName r name time c) first_is drops in
+      let counts_now : CountsLinks step.second_now (read.numbers.links - 1) time d = subst (λ (r : Row). CountsLinks r (read.numbers.links - 1) time d) second_is counts in
+      record {
+        directory = first;
+        file = read;
+        step = record {
+          first_now = c;
+          second_now = d;
+          at = step.at;
+          other_at = step.other_at;
+          fresh = step.fresh;
+          more = step.more;
+          taken = step.taken;
+          count = step.count;
+          more_count = step.more_count;
+          is = drops_after name time step.is drops_now;
+          other_is = counted_after (read.numbers.links - 1) time step.other_is counts_now;
+          once = (step.once.0, once_c);
+          other_once = (step.other_once.0, subst EachOnce (sym counts_now.names) step.other_once.1);
+          put = ap (λ (rs : List Row). set (set rs i c) j d) step.put ∙ both_twice rows i j step.first_now step.second_now c d differ;
+          shows = step.shows;
+        };
+      }

@@ -1,0 +1,43 @@
+use Rattle.std.proofs.Common.{◌++◌, ◌∙◌, List, ℕ, ap, arith, refl}
+use Rattle.nv_steps.proofs.CopiedEnd.{copy_resizes}
+use Rattle.nv_steps.proofs.CopyOwed.{copies_as, copy_appends, end_ready, ends_as, from_joins, numbered, to_differs, to_inside}
+use Rattle.nv_steps.proofs.TakenBlocks.{taken_sup}
+use Rattle.nv_steps.proofs.copying.resize_with_copy.Goals as goal
+
+pub copy_end-requires-clause-can : goal.copy_end-requires-clause-can
+copy_end-requires-clause-can g c = rw (c.deref.ensures.value, c.copy_entries-entries.ensures) (copy_appends c.requires.can c.in-Ok.ensures.taken _ (let count = c.in-Ok.ensures.count in omega (arith, count)) (refl, (refl, tt)))
+
+pub copy_end-requires-clause-apart : goal.copy_end-requires-clause-apart
+copy_end-requires-clause-apart g c = to_differs c.requires.can c.in-Ok.ensures.taken c.requires.ends
+
+pub copy_end-requires-clause-to : goal.copy_end-requires-clause-to
+copy_end-requires-clause-to g c = to_inside c.requires.can c.in-Ok.ensures.taken
+
+pub give_block-requires-clause-can : goal.give_block-requires-clause-can
+give_block-requires-clause-can g c = from_joins c.requires.can c.in-Ok.ensures.taken c.requires.ends
+
+pub set_run-requires-clause-ready : goal.set_run-requires-clause-ready
+set_run-requires-clause-ready g c = end_ready c.requires.can c.in-Ok.ensures.taken c.requires.ends c.settle_log.ensures.index
+
+pub returns-in-Ok-copy_end-clause-resized : goal.returns-in-Ok-copy_end-clause-resized
+returns-in-Ok-copy_end-clause-resized g c =
+    let settled = c.settle_log.ensures in
+    copy_resizes c.args.attributes c.requires.can c.args.from _ c.in-Ok-copy_end.end c.requires.ends c.in-Ok.ensures.taken (let count = c.in-Ok.ensures.count in omega (arith, count))
+    (copies_as c.slot_address-slot.ensures c.copy_entries-entries.ensures c.deref.ensures.value c.in-Ok-copy_end.ensures.copies)
+    (ends_as c.args.row.now.tail c.deref.ensures.value c.copy_entries-entries.ensures c.in-Ok-copy_end.ensures.end)
+    (record {
+      inode = settled.inode;
+      kind = settled.kind;
+      numbers = settled.numbers;
+      head = settled.head;
+      tail = settled.tail;
+      pages = settled.pages ∙ ap (λ (pages : List ℕ). pages ++ c.deref-in-Ok-copy_end.result.now) c.in-Ok.ensures.pages ∙ ap (λ (more : List ℕ). c.args.row.now.pages.items ++ more) c.deref-in-Ok-copy_end.ensures.value;
+      index = settled.index;
+      names = settled.names;
+    }) c.give_block.ensures.given (record { has = numbered c.numbers_with-row.ensures; head = refl; tail = refl; pages = refl }) c.set_run.ensures.blocks
+
+pub returns-in-Ok-copy_end-clause-lists : goal.returns-in-Ok-copy_end-clause-lists
+returns-in-Ok-copy_end-clause-lists g c = c.give_block.ensures.lists ∙ taken_sup c.in-Ok.ensures.taken
+
+pub returns-clause-lists : goal.returns-clause-lists
+returns-clause-lists g c = taken_sup c.in-Ok.ensures.taken

@@ -1,0 +1,18 @@
+use Rattle.std.proofs.Common.{◌∙◌, ℕ, sym, subst}
+use Rattle.nv_held.proofs.BytesKept.{mixed_size}
+use Rattle.nv_bytes.specs.Bytes.{byte_after, file_byte}
+use Rattle.nv_steps.specs.Written.{AreSmall}
+use Rattle.nv_steps.proofs.Committed.{commits}
+use Rattle.nv_steps.proofs.storing_data.commit_data.Goals as goal
+
+pub store_data-requires-clause-pages : goal.store_data-requires-clause-pages
+store_data-requires-clause-pages g c = subst AreSmall (sym c.deref.ensures.value) c.requires.pages
+
+pub returns-clause-commits : goal.returns-clause-commits
+returns-clause-commits g c s inode =
+    let bytes : ℕ → ℕ = byte_after c.args.change.now.offset c.args.change.now.bytes.now c.args.change.now.size (file_byte (g.P.Pmem.region c.args.memory.now) c.args.index.now) in
+    commits (g.P.Pmem.region c.args.memory.now) (g.P.Pmem.region c.store_data.new.memory) (g.P.Pmem.region c.extend_log.new.memory) s inode c.args.slot c.args.tail bytes c.args.log.now.entries.items c.args.log.now.fresh.items c.deref.result.now c.deref-2.result.now c.deref-3.result.now
+    c.deref.ensures.value c.deref-2.ensures.value c.deref-3.ensures.value c.extend_log.result c.store_data.ensures.wrote.mixed c.in_ok-store_data.ensures.stored c.extend_log.ensures.wrote.mixed (λ held h can. c.extend_log.ensures.shows s held inode h can)
+
+pub returns-clause-length : goal.returns-clause-length
+returns-clause-length g c = mixed_size c.extend_log.ensures.wrote.mixed ∙ mixed_size c.store_data.ensures.wrote.mixed

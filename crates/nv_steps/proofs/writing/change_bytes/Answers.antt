@@ -1,0 +1,74 @@
+use Rattle.std.proofs.Common.{◌∙◌, ℕ, List, length, inr, sym, subst, refl}
+use Rattle.nv_region.specs.Region.{Region}
+use Rattle.nv_super.specs.declared.owners.Run.{Run}
+use Rattle.nv_alloc.specs.FreeLists.{JoinAll}
+use Rattle.nv_bytes.specs.Bytes.{byte_after, file_byte}
+use Rattle.nv_logpage.specs.Append.{CanAppend}
+use Rattle.nv_radix.specs.Pages.{block_at}
+use Rattle.nv_steps.specs.Writes.{CanGive}
+use Rattle.nv_steps.proofs.PlanRight.{plan_right}
+use Rattle.nv_steps.proofs.PreparedBlocks.{prepared_sup}
+use Rattle.nv_steps.proofs.WriteFollows.{IsRight}
+use Rattle.nv_steps.proofs.WriteSteps.{blocks_fresh, can_append_entries, can_give_replaced, entries_small, pages_settled, told}
+use Rattle.nv_steps.proofs.WritesFile.{bytes_as, commits_as, has_written, inside_as, writes_file}
+use Rattle.nv_steps.proofs.writing.change_bytes.Goals as goal
+
+pub returns-in-Err-NoSpace-clause-refused : goal.returns-in-Err-NoSpace-clause-refused
+returns-in-Err-NoSpace-clause-refused g c = inr (inr (refl, c.in-Err-NoSpace.ensures.refused c.in-Err-NoSpace.field-0-is))
+
+pub commit_data-requires-clause-mapped : goal.commit_data-requires-clause-mapped
+commit_data-requires-clause-mapped g c = inside_as (g.P.Pmem.region c.args.memory.now) c.args.row.now.index c.prepare_data.new.row.index c.prepare_data.ensures.row.index c.requires.file.inside
+
+pub commit_data-requires-clause-fresh : goal.commit_data-requires-clause-fresh
+commit_data-requires-clause-fresh g c =
+    let right = subst (IsRight c.args.row.now) (sym c.requires.plan) (plan_right c.args.row.now (block_at c.args.row.now.index) c.args.change.now.offset (length c.args.change.now.bytes.now) c.args.plan.now.time c.requires.file.small c.requires.some c.requires.fits) in
+    blocks_fresh c.requires.stands c.requires.file right c.requires.cpu c.in-Ok.ensures.prepared c.prepare_data.new.row.index c.prepare_data.ensures.row.index
+
+pub commit_data-requires-clause-pages : goal.commit_data-requires-clause-pages
+commit_data-requires-clause-pages g c =
+    let right = subst (IsRight c.args.row.now) (sym c.requires.plan) (plan_right c.args.row.now (block_at c.args.row.now.index) c.args.change.now.offset (length c.args.change.now.bytes.now) c.args.plan.now.time c.requires.file.small c.requires.some c.requires.fits) in
+    entries_small c.requires.stands c.requires.file right c.requires.cpu c.in-Ok.ensures.prepared
+
+pub commit_data-requires-clause-can : goal.commit_data-requires-clause-can
+commit_data-requires-clause-can g c =
+    let right = subst (IsRight c.args.row.now) (sym c.requires.plan) (plan_right c.args.row.now (block_at c.args.row.now.index) c.args.change.now.offset (length c.args.change.now.bytes.now) c.args.plan.now.time c.requires.file.small c.requires.some c.requires.fits) in
+    subst (λ (t : ℕ). CanAppend (g.P.Pmem.region c.args.memory.now) t c.in-Ok.ready.log.entries.items c.in-Ok.ready.log.fresh.items) (sym c.prepare_data.ensures.row.tail) (can_append_entries c.requires.stands c.requires.file right c.requires.cpu c.in-Ok.ensures.prepared)
+
+pub settle_data-requires-clause-ready : goal.settle_data-requires-clause-ready
+settle_data-requires-clause-ready g c =
+    let right = subst (IsRight c.args.row.now) (sym c.requires.plan) (plan_right c.args.row.now (block_at c.args.row.now.index) c.args.change.now.offset (length c.args.change.now.bytes.now) c.args.plan.now.time c.requires.file.small c.requires.some c.requires.fits) in
+    pages_settled c.requires.stands c.requires.file right c.requires.cpu c.in-Ok.ensures.prepared c.prepare_data.new.row.index c.in-Ok.ensures.first c.in-Ok.ensures.last
+
+pub settle_data-requires-clause-once : goal.settle_data-requires-clause-once
+settle_data-requires-clause-once g c =
+    let right = subst (IsRight c.args.row.now) (sym c.requires.plan) (plan_right c.args.row.now (block_at c.args.row.now.index) c.args.change.now.offset (length c.args.change.now.bytes.now) c.args.plan.now.time c.requires.file.small c.requires.some c.requires.fits) in
+    (told c.requires.stands c.requires.file right c.requires.cpu c.in-Ok.ensures.prepared).pages_once
+
+pub give_all-requires-clause-can : goal.give_all-requires-clause-can
+give_all-requires-clause-can g c =
+    let right = subst (IsRight c.args.row.now) (sym c.requires.plan) (plan_right c.args.row.now (block_at c.args.row.now.index) c.args.change.now.offset (length c.args.change.now.bytes.now) c.args.plan.now.time c.requires.file.small c.requires.some c.requires.fits) in
+    subst (CanGive c.prepare_data.new.free) (sym (c.deref.ensures.value ∙ c.in-Ok.ensures.replaced)) (can_give_replaced c.requires.stands c.requires.file right c.requires.cpu c.in-Ok.ensures.prepared)
+
+pub returns-in-Ok-commit_data-clause-writes : goal.returns-in-Ok-commit_data-clause-writes
+returns-in-Ok-commit_data-clause-writes g c =
+    let R : Region = g.P.Pmem.region c.args.memory.now in
+    let S : Region = g.P.Pmem.region c.commit_data.new.memory in
+    let row = c.args.row.now in
+    let mid = c.prepare_data.new.row in
+    let same = c.prepare_data.ensures.row in
+    let n = c.args.change.now in
+    let right = subst (IsRight row) (sym c.requires.plan) (plan_right row (block_at row.index) n.offset (length n.bytes.now) c.args.plan.now.time c.requires.file.small c.requires.some c.requires.fits) in
+    let entries = c.in-Ok.ready.log.entries.items in
+    let fresh = c.in-Ok.ready.log.fresh.items in
+    let bytes : ℕ → ℕ = byte_after n.offset n.bytes.now n.size (file_byte R mid.index) in
+    let done = commits_as R S c.args.sup.now row.inode mid.inode c.slot_address-slot.result row.tail mid.tail bytes entries fresh same.inode same.tail c.slot_address-slot.ensures (c.in-Ok-commit_data.ensures.commits c.args.sup.now row.inode) in
+    let has = has_written row mid c.settle_data.new.row c.args.plan.now entries fresh c.in-Ok-commit_data.end same c.prepare_data.ensures.names c.in-Ok-commit_data.ensures.end c.settle_data.ensures in
+    let joins = subst (λ (xs : List Run). JoinAll c.prepare_data.new.free xs c.give_all.new.free) (c.deref.ensures.value ∙ c.in-Ok.ensures.replaced) c.give_all.ensures.given in
+    writes_file c.requires.stands c.requires.kind c.requires.file c.requires.cpu right c.in-Ok.ensures.prepared done has c.give_all.new.free joins n.offset c.args.plan.now.time n.bytes.now c.requires.some c.requires.plan
+    (λ x. bytes_as R row.index mid.index n.offset n.size row.numbers.size n.bytes.now same.index c.requires.size x)
+
+pub returns-in-Ok-commit_data-clause-lists : goal.returns-in-Ok-commit_data-clause-lists
+returns-in-Ok-commit_data-clause-lists g c = c.give_all.ensures.lists ∙ prepared_sup c.in-Ok.ensures.prepared
+
+pub returns-clause-lists : goal.returns-clause-lists
+returns-clause-lists g c = prepared_sup c.in-Ok.ensures.prepared

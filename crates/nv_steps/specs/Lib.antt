@@ -1,0 +1,14 @@
+pub mod Taken
+pub mod Grown
+pub mod Steps
+pub mod Attributes
+pub mod Writes
+pub mod Written
+pub mod Given
+pub mod Sizes
+pub mod NewNames
+pub mod NameEntries
+pub mod MoreNames
+pub mod LessNames
+pub mod Unlinks
+pub mod Moves

@@ -1,0 +1,67 @@
+//! Entries written behind the log of a row: all growths first, then the commit, then the row.
+
+ghost use Rattle.std.specs.Prelude.{◌≡◌, ◌<◌, ◌≤◌, ◌%◌, length, IsTrue, IfErr, OnOk};
+ghost use Rattle.nv_region.specs.Region.{size};
+ghost use Rattle.nv_region.specs.Stops.{NothingPending};
+ghost use Rattle.nv_region.specs.Fuses.{KeepsFuse};
+ghost use Rattle.nv_alloc.specs.Taking.{all_blocks};
+ghost use Rattle.nv_logpage.specs.Append.{AreGiven, needed};
+ghost use Rattle.nv_tree.specs.declared.refusal.Refusal.{Refusal as RefusalValue};
+ghost use Rattle.nv_steps.specs.Grown.{StandsRight};
+ghost use Rattle.nv_steps.specs.Steps.{AppendsLog, LeavesStep, RefusesStep};
+
+use crate::preparing::prepare_log;
+use crate::settling::settle_log;
+use nv_alloc::{AllocRefusal, Allocators};
+use nv_commit::extend_log;
+use nv_entry::Entry;
+use nv_region::Pmem;
+use nv_scan::Row;
+use nv_super::Super;
+use nv_tree::Refusal;
+use std::alloc::Global;
+
+/// Writes entries behind the log of a row, over blocks that it takes for them, and puts its new tail and pages into the row.
+/// What else the entries say of the inode is left to the caller.
+///
+/// `NoSpace` where all pools together have too few blocks, `Memory` where a growth was refused; both change nothing.
+/// `Stopped` where the fuse has burnt.
+pub(crate) fn append_log<P: Pmem>(
+    alloc: Global,
+    memory: &mut P,
+    sup: &Super,
+    free: &mut Allocators,
+    cpu: u64,
+    row: &mut Row,
+    entries: &[Entry],
+) -> Result<(), Refusal>
+    requires cpu { cpu < free.old.sup.cpus }
+    requires stands { StandsRight (P.region memory.old) sup.now free.old row.old }
+    requires given { AreGiven entries.now }
+    ensures appended { OnOk result (AppendsLog (P.region memory.old) (P.region memory.new) sup.now free.old free.new row.old row.new entries.now) }
+    ensures enough { OnOk result (needed (row.old.tail % 4096) entries.now ≤ all_blocks free.old.pools) }
+    ensures room { OnOk result (free.old.room ≤ free.new.room) }
+    ensures settled { OnOk result (NothingPending (P.region memory.new) (P.may_hold memory.new)) }
+    ensures refused { IfErr result (λ e. RefusesStep e (needed (row.old.tail % 4096) entries.now) free.old) }
+    ensures unchanged { IfErr result (λ e. (e ≡ RefusalValue.Stopped → ⊥) → LeavesStep memory.old memory.new free.old free.new row.old row.new) }
+    ensures stopped { IfErr result (λ e. e ≡ RefusalValue.Stopped → IsTrue (P.fuse memory.new).has_burnt) }
+    ensures inode { row.new.inode ≡ row.old.inode }
+    ensures lists { free.new.sup ≡ free.old.sup }
+    ensures length { size (P.region memory.new) ≡ size (P.region memory.old) }
+    ensures keeps_fuse { KeepsFuse (λ limit. size (P.region memory.old) ≤ limit) (P.fuse memory.old) (P.fuse memory.new) }
+{
+    let slot = sup.slot_address(row.inode);
+    let tail = row.tail;
+    let fresh = match prepare_log(alloc, free, cpu, &mut row.pages, tail, entries) {
+        Ok(fresh) => fresh,
+        Err(AllocRefusal::NoSpace) => return Err(Refusal::NoSpace),
+        Err(AllocRefusal::Memory) => return Err(Refusal::Memory),
+    };
+    match extend_log(memory, slot, tail, entries, &fresh) {
+        Ok(end) => {
+            settle_log(row, &fresh, end);
+            Ok(())
+        }
+        Err(_) => Err(Refusal::Stopped),
+    }
+}

@@ -1,0 +1,58 @@
+//! An attributes entry behind the log of a row, and the row with what it says.
+
+ghost use Rattle.std.specs.Prelude.{◌≡◌, ◌<◌, ◌≤◌, ◌%◌, ◌∷◌, [], Result, IsTrue, IfErr, OnOk};
+ghost use Rattle.nv_region.specs.Region.{size};
+ghost use Rattle.nv_region.specs.Stops.{NothingPending};
+ghost use Rattle.nv_region.specs.Fuses.{KeepsFuse};
+ghost use Rattle.nv_alloc.specs.Taking.{all_blocks};
+ghost use Rattle.nv_entry.specs.declared.entry.Entry.TheVariants.{Attr};
+ghost use Rattle.nv_logpage.specs.Append.{needed};
+ghost use Rattle.nv_held.specs.Held.{Held, Store};
+ghost use Rattle.nv_tree.specs.declared.refusal.Refusal.{Refusal as RefusalValue};
+ghost use Rattle.nv_steps.specs.Attributes.{HasAttributes, attributes};
+ghost use Rattle.nv_steps.specs.Grown.{StandsRight};
+ghost use Rattle.nv_steps.specs.Steps.{LeavesStep, LogFollows, RefusesStep, ShowsRow};
+
+use crate::appending::append_log;
+use crate::settling::numbers_with;
+use nv_alloc::Allocators;
+use nv_entry::{AttrEntry, Entry};
+use nv_region::Pmem;
+use nv_scan::Row;
+use nv_super::Super;
+use nv_tree::Refusal;
+use std::alloc::Global;
+
+/// Writes an attributes entry behind the log of a row, with the size as it is, and puts what it says into the row. It is
+/// refused as `append_log` is.
+pub fn change_attributes<P: Pmem>(
+    alloc: Global,
+    memory: &mut P,
+    sup: &Super,
+    free: &mut Allocators,
+    cpu: u64,
+    row: &mut Row,
+    attributes: AttrEntry,
+) -> Result<(), Refusal>
+    requires cpu { cpu < free.old.sup.cpus }
+    requires stands { StandsRight (P.region memory.old) sup.now free.old row.old }
+    requires mode { attributes.mode ≤ 4095 }
+    requires size { attributes.size ≡ row.old.numbers.size }
+    ensures log { (held : Store) (h : Held) → ShowsRow (P.region memory.old) sup.now held h row.old free.old
+        → OnOk result (LogFollows (P.region memory.old) (P.region memory.new) sup.now held h (Attr attributes ∷ []) row.old row.new free.new) }
+    ensures row { OnOk result (HasAttributes row.old attributes row.new) }
+    ensures enough { OnOk result (needed (row.old.tail % 4096) (Attr attributes ∷ []) ≤ all_blocks free.old.pools) }
+    ensures settled { OnOk result (NothingPending (P.region memory.new) (P.may_hold memory.new)) }
+    ensures refused { IfErr result (λ e. RefusesStep e (needed (row.old.tail % 4096) (Attr attributes ∷ [])) free.old) }
+    ensures unchanged { IfErr result (λ e. (e ≡ RefusalValue.Stopped → ⊥) → LeavesStep memory.old memory.new free.old free.new row.old row.new) }
+    ensures stopped { IfErr result (λ e. e ≡ RefusalValue.Stopped → IsTrue (P.fuse memory.new).has_burnt) }
+    ensures inode { row.new.inode ≡ row.old.inode }
+    ensures lists { free.new.sup ≡ free.old.sup }
+    ensures length { size (P.region memory.new) ≡ size (P.region memory.old) }
+    ensures keeps_fuse { KeepsFuse (λ limit. size (P.region memory.old) ≤ limit) (P.fuse memory.old) (P.fuse memory.new) }
+{
+    let entries = [Entry::Attr(attributes)];
+    append_log(alloc, memory, sup, free, cpu, row, &entries)?;
+    row.numbers = numbers_with(row.numbers, attributes);
+    Ok(())
+}

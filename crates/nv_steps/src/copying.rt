@@ -1,0 +1,187 @@
+//! A file that gets longer, and ends in a page that has a block: that page goes to a fresh block, with zeros behind the end.
+
+ghost use Rattle.std.specs.Prelude.{◌≡◌, ◌<◌, ◌≤◌, ◌+◌, ◌*◌, ◌/◌, ◌%◌, ◌∷◌, [], ◌^◌, length, IfOk, IfErr, OnOk, OnErr, Option, IsTrue, is_err, vec_len, vec_capacity, suc};
+ghost use Rattle.nv_region.specs.Region.{size};
+ghost use Rattle.nv_region.specs.Stops.{NothingPending};
+ghost use Rattle.nv_region.specs.Stored.{StoresOnly};
+ghost use Rattle.nv_region.specs.Fuses.{KeepsFuse};
+ghost use Rattle.nv_alloc.specs.Taking.{all_blocks};
+ghost use Rattle.nv_alloc.specs.FreeLists.{Refuses};
+ghost use Rattle.nv_logpage.specs.Append.{CanAppend, end_of};
+ghost use Rattle.nv_radix.specs.Pages.{block_at};
+ghost use Rattle.nv_held.specs.Bytes.{byte_in};
+ghost use Rattle.nv_bytes.specs.Bytes.{byte_after};
+ghost use Rattle.nv_bytes.specs.Storing.{HoldsPage, InBlocks};
+ghost use Rattle.nv_tree.specs.declared.refusal.Refusal.{Refusal as RefusalValue};
+ghost use Rattle.nv_steps.specs.Sizes.{CanResize, CopiesEnd, Resizes, blocks_from, end_block, resizing};
+ghost use Rattle.nv_steps.specs.Steps.{LeavesStep, RefusesStep};
+ghost use Rattle.nv_steps.specs.Taken.{SamePools, TakesEach};
+
+use crate::blocks::take_blocks;
+use crate::giving::give_block;
+use crate::settling::{numbers_with, settle_log};
+use nv_alloc::{AllocRefusal, Allocators};
+use nv_bytes::{NewBytes, store_page};
+use nv_commit::{Extension, extend_log};
+use nv_entry::{AttrEntry, Entry, WriteEntry};
+use nv_logpage::pages_needed;
+use nv_region::{Pmem, Stopped};
+use nv_scan::Row;
+use nv_super::{BLOCK_SIZE, Super};
+use nv_tree::Refusal;
+use std::alloc::Global;
+
+/// Copies the page in which a file ends from its block into one that it takes, and writes that block's entry and the
+/// attributes behind the file's log. Then it gives back the page's old block.
+pub(crate) fn resize_with_copy<P: Pmem>(
+    alloc: Global,
+    memory: &mut P,
+    sup: &Super,
+    free: &mut Allocators,
+    cpu: u64,
+    row: &mut Row,
+    attributes: AttrEntry,
+    from: u64,
+) -> Result<(), Refusal>
+    requires cpu { cpu < free.old.sup.cpus }
+    requires can { CanResize (P.region memory.old) sup.now free.old row.old attributes }
+    requires ends { end_block (block_at row.old.index) row.old.numbers.size attributes.size ≡ Option.Some from }
+    ensures resized { OnOk result (Resizes (P.region memory.old) (P.region memory.new) sup.now free.old row.old attributes row.new free.new) }
+    ensures enough { OnOk result (blocks_from row.old.tail attributes (Option.Some from) ≤ all_blocks free.old.pools) }
+    ensures settled { OnOk result (NothingPending (P.region memory.new) (P.may_hold memory.new)) }
+    ensures refused { IfErr result (λ e. RefusesStep e (blocks_from row.old.tail attributes (Option.Some from)) free.old) }
+    ensures unchanged { IfErr result (λ e. (e ≡ RefusalValue.Stopped → ⊥) → LeavesStep memory.old memory.new free.old free.new row.old row.new) }
+    ensures stopped { IfErr result (λ e. e ≡ RefusalValue.Stopped → IsTrue (P.fuse memory.new).has_burnt) }
+    ensures inode { row.new.inode ≡ row.old.inode }
+    ensures lists { free.new.sup ≡ free.old.sup }
+    ensures length { size (P.region memory.new) ≡ size (P.region memory.old) }
+    ensures keeps_fuse { KeepsFuse (λ limit. size (P.region memory.old) ≤ limit) (P.fuse memory.old) (P.fuse memory.new) }
+{
+    let bytes = row.numbers.size;
+    let slot = sup.slot_address(row.inode);
+    let tail = row.tail;
+    let (to, fresh) = match prepare_copy(alloc, free, cpu, &mut row.pages, tail, attributes) {
+        Ok(prepared) => prepared,
+        Err(AllocRefusal::NoSpace) => return Err(Refusal::NoSpace),
+        Err(AllocRefusal::Memory) => return Err(Refusal::Memory),
+    };
+    let entries = copy_entries(bytes, to, attributes);
+    let extension = Extension {
+        slot,
+        tail,
+        entries: &entries,
+        fresh: &fresh,
+    };
+    match copy_end(memory, from, to, bytes, &extension) {
+        Ok(end) => {
+            settle_log(row, &fresh, end);
+            give_block(free, Some(from));
+            row.index.set_run(bytes / BLOCK_SIZE, to, 1);
+            row.numbers = numbers_with(row.numbers, attributes);
+            Ok(())
+        }
+        Err(_) => Err(Refusal::Stopped),
+    }
+}
+
+/// Takes a block for the page that is copied, and then those that the entries need behind the tail, each by itself. It makes
+/// room for these among the log's pages, and room to give back one block.
+///
+/// `NoSpace` where all pools together have fewer blocks, `Memory` where a growth was refused. Both leave the free lists.
+fn prepare_copy(
+    alloc: Global,
+    free: &mut Allocators,
+    cpu: u64,
+    pages: &mut Vec<u64>,
+    tail: u64,
+    attributes: AttrEntry,
+) -> Result<(u64, Vec<u64>), AllocRefusal>
+    requires cpu { cpu < free.old.sup.cpus }
+    ensures taken { IfOk result (λ blocks. TakesEach free.old (blocks.0 ∷ blocks.1.items) free.new) }
+    ensures count { IfOk result (λ blocks. suc (length blocks.1.items) ≡ blocks_from tail attributes (Option.Some 0)) }
+    ensures room { IfOk result (λ blocks. vec_len pages.new + length blocks.1.items ≤ vec_capacity pages.new) }
+    ensures given_back { OnOk result (0 < free.new.room) }
+    ensures enough { OnOk result (blocks_from tail attributes (Option.Some 0) ≤ all_blocks free.old.pools) }
+    ensures err { IfErr result (λ refusal. Refuses refusal (blocks_from tail attributes (Option.Some 0)) free.old.pools) }
+    ensures unchanged { OnErr result (SamePools free.old free.new) }
+    ensures pages { pages.new.items ≡ pages.old.items }
+{
+    let entries = copy_entries(0, 0, attributes);
+    let count = pages_needed(tail, &entries);
+    if free.free_blocks() <= count {
+        return Err(AllocRefusal::NoSpace);
+    }
+    if pages.reserve(count as usize).is_err() || free.reserve(1).is_err() {
+        return Err(AllocRefusal::Memory);
+    }
+    let mut blocks = take_blocks(alloc, free, cpu, count + 1)?;
+    let to = blocks.remove(0);
+    Ok((to, blocks))
+}
+
+/// The entries of a file of so many bytes whose last page was copied into a block, and which gets these attributes.
+fn copy_entries(bytes: u64, to: u64, attributes: AttrEntry) -> [Entry; 2]
+    ensures { result ≡ resizing bytes attributes (Option.Some to) }
+{
+    let copied = WriteEntry {
+        offset: bytes / BLOCK_SIZE,
+        count: 1,
+        block: to,
+        size: attributes.size,
+        time: attributes.time,
+    };
+    [Entry::Write(copied), Entry::Attr(attributes)]
+}
+
+/// Copies the page in which a file of so many bytes ends from a block into another, with zeros behind the end, and extends
+/// the file's log. Answers the new tail.
+fn copy_end<P: Pmem>(
+    memory: &mut P,
+    from: u64,
+    to: u64,
+    bytes: u64,
+    log: &Extension<'_>,
+) -> Result<u64, Stopped>
+    requires can { CanAppend (P.region memory.old) log.now.tail log.now.entries.now log.now.fresh.now }
+    requires whole { log.now.slot % 8 ≡ 0 }
+    requires inside { log.now.slot + 32 ≤ size (P.region memory.old) }
+    requires from { from * 4096 + 4096 ≤ size (P.region memory.old) }
+    requires apart { from ≡ to → ⊥ }
+    requires to { to * 4096 + 4096 ≤ size (P.region memory.old) }
+    requires page { bytes / 4096 < 2 ^ 32 }
+    ensures end { IfOk result (λ new. new ≡ end_of log.now.fresh.now 0 log.now.tail log.now.entries.now) }
+    ensures copies { OnOk result (CopiesEnd (P.region memory.old) (P.region memory.new) from to bytes log.now.slot log.now.tail log.now.entries.now log.now.fresh.now) }
+    ensures settled { OnOk result (NothingPending (P.region memory.new) (P.may_hold memory.new)) }
+    ensures stopped { is_err result ≡ (P.fuse memory.new).has_burnt }
+    ensures length { size (P.region memory.new) ≡ size (P.region memory.old) }
+    ensures keeps_fuse { KeepsFuse (λ limit. size (P.region memory.old) ≤ limit) (P.fuse memory.old) (P.fuse memory.new) }
+{
+    copy_page(memory, from, to, bytes)?;
+    extend_log(memory, log.slot, log.tail, log.entries, log.fresh)
+}
+
+/// Copies the page in which a file of so many bytes ends from a block into another, with zeros behind the end. Nothing is
+/// fenced.
+fn copy_page<P: Pmem>(memory: &mut P, from: u64, to: u64, bytes: u64) -> Result<(), Stopped>
+    requires from { from * 4096 + 4096 ≤ size (P.region memory.old) }
+    requires apart { from ≡ to → ⊥ }
+    requires to { to * 4096 + 4096 ≤ size (P.region memory.old) }
+    requires page { bytes / 4096 < 2 ^ 32 }
+    ensures stored { OnOk result (HoldsPage (P.region memory.new) (byte_after 0 [] bytes (byte_in (P.region memory.old) (Option.Some from))) to (bytes / 4096)) }
+    ensures wrote { StoresOnly (InBlocks (λ b. b ≡ to)) (P.region memory.old) (P.region memory.new) (P.may_hold memory.old) (P.may_hold memory.new) }
+    ensures stopped { is_err result ≡ (P.fuse memory.new).has_burnt }
+    ensures keeps_fuse { KeepsFuse (λ limit. to * 4096 + 4096 ≤ limit) (P.fuse memory.old) (P.fuse memory.new) }
+{
+    let copy = NewBytes {
+        offset: 0,
+        bytes: &[],
+        size: bytes,
+    };
+    let stored = store_page(memory, Some(from), to, bytes / BLOCK_SIZE, &copy);
+    let NewBytes {
+        offset: _,
+        bytes: _,
+        size: _,
+    } = copy;
+    stored
+}

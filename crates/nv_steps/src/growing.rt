@@ -1,0 +1,179 @@
+//! Two logs that grow together, and the rows that stand for them: all growths first, then the commit, then the rows.
+
+ghost use Rattle.std.specs.Prelude.{◌≡◌, ◌≢◌, ◌+◌, ◌%◌, ◌<◌, ◌≤◌, ℕ, List, [], ◌∷◌, length, IsTrue, IfOk, IfErr, OnOk, OnErr, vec_len, vec_capacity};
+ghost use Rattle.nv_region.specs.Region.{size};
+ghost use Rattle.nv_region.specs.Stops.{NothingPending};
+ghost use Rattle.nv_region.specs.Fuses.{KeepsFuse};
+ghost use Rattle.nv_super.specs.Layout.{IsLayout, inode_limit, slot_address};
+ghost use Rattle.nv_alloc.specs.Taking.{all_blocks};
+ghost use Rattle.nv_logpage.specs.Append.{AreGiven, needed};
+ghost use Rattle.nv_names.specs.Names.{name_at};
+ghost use Rattle.nv_held.specs.nv_outcome.Same.{SameRow};
+ghost use Rattle.nv_tree.specs.declared.refusal.Refusal.{Refusal as RefusalValue};
+ghost use Rattle.nv_steps.specs.Grown.{StandsRight};
+ghost use Rattle.nv_steps.specs.MoreNames.{AppendsLogs, NamesOnce, ReadiesRow};
+ghost use Rattle.nv_steps.specs.NewNames.{CanName};
+ghost use Rattle.nv_steps.specs.Steps.{LeavesStep, RefusesStep};
+ghost use Rattle.nv_steps.specs.Taken.{SamePools, TakesEach};
+
+use crate::blocks::{are_enough, take_blocks};
+use crate::settling::settle_log;
+use nv_alloc::{AllocRefusal, Allocators};
+use nv_commit::{Extension, extend_two};
+use nv_entry::Entry;
+use nv_logpage::pages_needed;
+use nv_names::NameIndex;
+use nv_region::Pmem;
+use nv_scan::Row;
+use nv_super::Super;
+use nv_tree::Refusal;
+use std::alloc::{AllocError, Global};
+
+/// What goes behind the log of a row.
+#[derive(Clone, Copy)]
+pub(crate) struct Growth<'a> {
+    pub entries: &'a [Entry],
+    /// How many names the row gets.
+    pub names: usize,
+}
+
+/// Writes an entry behind each of the logs of two rows, over blocks that it takes, the first log's first. Both rows get the new tails
+/// and the new pages, and there is room for the names.
+///
+/// `NoSpace` where all pools together have too few blocks, `Memory` where a growth was refused; both change nothing.
+/// `Stopped` where the fuse has burnt.
+pub(crate) fn append_logs<P: Pmem>(
+    alloc: Global,
+    memory: &mut P,
+    sup: &Super,
+    free: &mut Allocators,
+    cpu: u64,
+    row: &mut Row,
+    first: &Growth<'_>,
+    other: &mut Row,
+    second: &Growth<'_>,
+) -> Result<(), Refusal>
+    requires apart { row.old.inode ≢ other.old.inode }
+    requires stands { StandsRight (P.region memory.old) sup.now free.old row.old × CanName (P.region memory.old) sup.now cpu row.old.inode row.old }
+    requires other_stands { StandsRight (P.region memory.old) sup.now free.old other.old × CanName (P.region memory.old) sup.now cpu other.old.inode other.old }
+    requires given { AreGiven first.now.entries.now × (length first.now.entries.now ≡ 1) }
+    requires more_given { AreGiven second.now.entries.now × (length second.now.entries.now ≡ 1) }
+    ensures appended { OnOk result (AppendsLogs (P.region memory.old) (P.region memory.new) sup.now free.old free.new (row.old ∷ other.old ∷ []) (row.new ∷ other.new ∷ []) 0 first.now.entries.now 1 second.now.entries.now) }
+    ensures room { OnOk result (second.now.names ≤ other.new.names.room) }
+    ensures enough { OnOk result (needed (row.old.tail % 4096) first.now.entries.now + needed (other.old.tail % 4096) second.now.entries.now ≤ all_blocks free.old.pools) }
+    ensures settled { OnOk result (NothingPending (P.region memory.new) (P.may_hold memory.new)) }
+    ensures refused { IfErr result (λ e. RefusesStep e (needed (row.old.tail % 4096) first.now.entries.now + needed (other.old.tail % 4096) second.now.entries.now) free.old) }
+    ensures unchanged { IfErr result (λ e. (e ≡ RefusalValue.Stopped → ⊥) → LeavesStep memory.old memory.new free.old free.new row.old row.new × SameRow other.old other.new) }
+    ensures stopped { IfErr result (λ e. e ≡ RefusalValue.Stopped → IsTrue (P.fuse memory.new).has_burnt) }
+    ensures inode { row.new.inode ≡ row.old.inode }
+    ensures other_inode { other.new.inode ≡ other.old.inode }
+    ensures lists { free.new.sup ≡ free.old.sup }
+    ensures length { size (P.region memory.new) ≡ size (P.region memory.old) }
+    ensures keeps_fuse { KeepsFuse (λ limit. size (P.region memory.old) ≤ limit) (P.fuse memory.old) (P.fuse memory.new) }
+{
+    let blocks = prepare_logs(alloc, free, cpu, row, first, other, second)?;
+    let count = blocks_for(row, first) as usize;
+    let (fresh, more) = blocks.split_at(count);
+    let one = extension(sup, row, first.entries, fresh);
+    let two = extension(sup, other, second.entries, more);
+    let Ok((end, last)) = extend_two(memory, cpu, &one, &two) else {
+        return Err(Refusal::Stopped);
+    };
+    settle_log(row, fresh, end);
+    settle_log(other, more, last);
+    Ok(())
+}
+
+/// How many blocks the log of a row takes.
+fn blocks_for(row: &Row, growth: &Growth<'_>) -> u64
+    ensures { result ≡ needed (row.now.tail % 4096) growth.now.entries.now }
+{
+    pages_needed(row.tail, growth.entries)
+}
+
+/// Entries for the log of a row, over these blocks.
+fn extension<'a>(sup: &Super, row: &Row, entries: &'a [Entry], fresh: &'a [u64]) -> Extension<'a>
+    requires layout { IsLayout sup.now }
+    requires number { row.now.inode < inode_limit sup.now }
+    ensures slot { result.slot ≡ slot_address sup.now row.now.inode }
+    ensures tail { result.tail ≡ row.now.tail }
+    ensures entries { result.entries.now ≡ entries.now }
+    ensures fresh { result.fresh.now ≡ fresh.now }
+{
+    Extension {
+        slot: sup.slot_address(row.inode),
+        tail: row.tail,
+        entries,
+        fresh,
+    }
+}
+
+/// Takes the blocks that both logs need, each by itself, and makes room for them in both rows.
+///
+/// `NoSpace` where all pools together have fewer blocks, `Memory` where a growth was refused. Both leave the free lists.
+fn prepare_logs(
+    alloc: Global,
+    free: &mut Allocators,
+    cpu: u64,
+    row: &mut Row,
+    first: &Growth<'_>,
+    other: &mut Row,
+    second: &Growth<'_>,
+) -> Result<Vec<u64>, Refusal>
+    requires cpu { cpu < free.old.sup.cpus }
+    requires one { length first.now.entries.now ≡ 1 }
+    requires other_one { length second.now.entries.now ≡ 1 }
+    ensures taken { IfOk result (λ blocks. TakesEach free.old blocks.items free.new) }
+    ensures count { IfOk result (λ blocks. length blocks.items ≡ needed (row.old.tail % 4096) first.now.entries.now + needed (other.old.tail % 4096) second.now.entries.now) }
+    ensures enough { OnOk result (needed (row.old.tail % 4096) first.now.entries.now + needed (other.old.tail % 4096) second.now.entries.now ≤ all_blocks free.old.pools) }
+    ensures refused { IfErr result (λ e. RefusesStep e (needed (row.old.tail % 4096) first.now.entries.now + needed (other.old.tail % 4096) second.now.entries.now) free.old) }
+    ensures goes_on { IfErr result (λ e. e ≡ RefusalValue.Stopped → ⊥) }
+    ensures unchanged { OnErr result (SamePools free.old free.new) }
+    ensures row { SameRow row.old row.new }
+    ensures other { SameRow other.old other.new }
+    ensures ready { OnOk result (ReadiesRow row.old row.new first.now.entries.now first.now.names) }
+    ensures other_ready { OnOk result (ReadiesRow other.old other.new second.now.entries.now second.now.names) }
+{
+    let count = blocks_for(row, first);
+    let more = blocks_for(other, second);
+    if !are_enough(free, count + more) {
+        return Err(Refusal::NoSpace);
+    }
+    let Ok(()) = make_room(row, count as usize, first.names) else {
+        return Err(Refusal::Memory);
+    };
+    let Ok(()) = make_room(other, more as usize, second.names) else {
+        return Err(Refusal::Memory);
+    };
+    match take_blocks(alloc, free, cpu, count + more) {
+        Ok(blocks) => Ok(blocks),
+        Err(AllocRefusal::NoSpace) => Err(Refusal::NoSpace),
+        Err(AllocRefusal::Memory) => Err(Refusal::Memory),
+    }
+}
+
+/// Makes room in a row for so many pages and so many names.
+fn make_room(row: &mut Row, pages: usize, names: usize) -> Result<(), AllocError>
+    ensures row { SameRow row.old row.new }
+    ensures pages { OnOk result (vec_len row.new.pages + pages ≤ vec_capacity row.new.pages) }
+    ensures names { OnOk result (names ≤ row.new.names.room) }
+    ensures once { OnOk result (NamesOnce row.old row.new) }
+{
+    // A name index says of itself that it has no name twice.
+    let _names = row.names.len();
+    row.pages.reserve(pages)?;
+    reserve_names(&mut row.names, names)?;
+    let _names = row.names.len();
+    Ok(())
+}
+
+/// Makes room for so many names. For none it takes no memory, as the index of a file's names would.
+fn reserve_names(names: &mut NameIndex, more: usize) -> Result<(), AllocError>
+    ensures same { (q : List ℕ) → name_at names.new q ≡ name_at names.old q }
+    ensures room { OnOk result (more ≤ names.new.room) }
+{
+    if more == 0 {
+        return Ok(());
+    }
+    names.reserve(more)
+}

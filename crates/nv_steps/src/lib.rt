@@ -1,0 +1,38 @@
+//! The steps of a call, by the rows of the inodes that it changes: it takes blocks, writes behind their logs and commits that, and
+//! settles the rows and the free lists.
+//!
+//! Each step makes ready first: all growths of memory, and the blocks that it takes. Then it stores what nothing shown reads,
+//! commits, and settles without taking memory.
+#![tactic(auto)]
+
+mod appending;
+mod attributes;
+mod blocks;
+mod copying;
+mod giving;
+mod growing;
+mod linking;
+mod making;
+mod planning;
+mod preparing;
+mod preparing_data;
+mod removing;
+mod renaming;
+mod resizing;
+mod settling;
+mod settling_data;
+mod settling_names;
+mod storing_data;
+mod unlinking;
+mod writing;
+
+pub use attributes::change_attributes;
+pub use giving::give_row;
+pub use linking::link_both;
+pub use making::{NewName, make_named, name_entry};
+pub use planning::Plan;
+pub use removing::{Gone, cut_name};
+pub use renaming::{OtherName, move_both, move_within};
+pub use resizing::resize;
+pub use unlinking::unlink_both;
+pub use writing::change_bytes;

@@ -1,0 +1,82 @@
+//! One more name of a file, by the rows of the file and of the directory.
+
+ghost use Rattle.std.specs.Prelude.{◌≡◌, ◌≢◌, ◌+◌, ◌%◌, ◌<◌, ◌≤◌, [], ◌∷◌, Result, IsTrue, IfErr, OnOk};
+ghost use Rattle.nv_region.specs.Region.{size};
+ghost use Rattle.nv_region.specs.Stops.{NothingPending};
+ghost use Rattle.nv_region.specs.Fuses.{KeepsFuse};
+ghost use Rattle.nv_alloc.specs.Taking.{all_blocks};
+ghost use Rattle.nv_entry.specs.declared.entry.Operation.TheVariants.{Add};
+ghost use Rattle.nv_logpage.specs.Append.{needed};
+ghost use Rattle.nv_names.specs.Names.{IsName};
+ghost use Rattle.nv_held.specs.nv_outcome.Same.{SameRow};
+ghost use Rattle.nv_tree.specs.Calls.{linked};
+ghost use Rattle.nv_tree.specs.declared.refusal.Refusal.{Refusal as RefusalValue};
+ghost use Rattle.nv_steps.specs.Grown.{StandsRight};
+ghost use Rattle.nv_steps.specs.NameEntries.{links_entries, name_entries};
+ghost use Rattle.nv_steps.specs.MoreNames.{LinksAt};
+ghost use Rattle.nv_steps.specs.NewNames.{CanName};
+ghost use Rattle.nv_steps.specs.Steps.{LeavesStep, RefusesStep};
+
+use crate::growing::{Growth, append_logs};
+use crate::making::name_entry;
+use crate::settling_names::{add_name, set_links};
+use nv_alloc::Allocators;
+use nv_entry::{Entry, LinksEntry, Operation, length};
+use nv_region::Pmem;
+use nv_scan::Row;
+use nv_super::Super;
+use nv_tree::Refusal;
+use std::alloc::Global;
+
+/// Gives a file a name in a directory, by their rows: the file's log says one link more, and the directory's log says the name.
+///
+/// `NoSpace` where all pools together have too few blocks, `Memory` where a growth was refused; both change nothing.
+/// `Stopped` where the fuse has burnt.
+pub fn link_both<P: Pmem>(
+    alloc: Global,
+    memory: &mut P,
+    sup: &Super,
+    free: &mut Allocators,
+    cpu: u64,
+    file: &mut Row,
+    directory: &mut Row,
+    name: &[u8],
+    time: u64,
+) -> Result<(), Refusal>
+    requires apart { file.old.inode ≢ directory.old.inode }
+    requires stands { StandsRight (P.region memory.old) sup.now free.old file.old × CanName (P.region memory.old) sup.now cpu file.old.inode file.old }
+    requires directory_stands { StandsRight (P.region memory.old) sup.now free.old directory.old × CanName (P.region memory.old) sup.now cpu directory.old.inode directory.old }
+    requires few { file.old.numbers.links < 1000 }
+    requires name { IsName name.now }
+    ensures linked { OnOk result (LinksAt (P.region memory.old) (P.region memory.new) sup.now free.old free.new (file.old ∷ directory.old ∷ []) (file.new ∷ directory.new ∷ []) 0 1 name.now time) }
+    ensures enough { OnOk result (needed (file.old.tail % 4096) (links_entries (file.old.numbers.links + 1) time) + needed (directory.old.tail % 4096) (name_entries Add file.old.inode name.now time) ≤ all_blocks free.old.pools) }
+    ensures settled { OnOk result (NothingPending (P.region memory.new) (P.may_hold memory.new)) }
+    ensures refused { IfErr result (λ e. RefusesStep e (needed (file.old.tail % 4096) (links_entries (file.old.numbers.links + 1) time) + needed (directory.old.tail % 4096) (name_entries Add file.old.inode name.now time)) free.old) }
+    ensures unchanged { IfErr result (λ e. (e ≡ RefusalValue.Stopped → ⊥) → LeavesStep memory.old memory.new free.old free.new file.old file.new × SameRow directory.old directory.new) }
+    ensures stopped { IfErr result (λ e. e ≡ RefusalValue.Stopped → IsTrue (P.fuse memory.new).has_burnt) }
+    ensures inode { file.new.inode ≡ file.old.inode }
+    ensures directory_inode { directory.new.inode ≡ directory.old.inode }
+    ensures lists { free.new.sup ≡ free.old.sup }
+    ensures length { size (P.region memory.new) ≡ size (P.region memory.old) }
+    ensures keeps_fuse { KeepsFuse (λ limit. size (P.region memory.old) ≤ limit) (P.fuse memory.old) (P.fuse memory.new) }
+{
+    let inode = file.inode;
+    let count = file.numbers.links + 1;
+    let links = [Entry::Links(LinksEntry { count, time })];
+    let names = [name_entry(Operation::Add, inode, name, time)];
+    let first = Growth {
+        entries: &links,
+        names: 0,
+    };
+    let second = Growth {
+        entries: &names,
+        names: 1,
+    };
+    append_logs(
+        alloc, memory, sup, free, cpu, file, &first, directory, &second,
+    )?;
+    set_links(file, count, time);
+    let place = directory.tail - length(&names[0]);
+    add_name(directory, name, inode, place, time);
+    Ok(())
+}

@@ -1,0 +1,212 @@
+//! A new inode and its name, over blocks that are taken for both logs: all growths first, then the commit, then the rows.
+
+ghost use Rattle.std.specs.Prelude.{◌≡◌, ◌+◌, ◌*◌, ◌<◌, ◌≤◌, ◌%◌, ◌^◌, [], ◌∷◌, get_or, length, IsTrue, IfOk, IfErr, OnOk, OnErr, vec_len, vec_capacity};
+ghost use Rattle.nv_region.specs.Region.{size};
+ghost use Rattle.nv_region.specs.Stops.{NothingPending};
+ghost use Rattle.nv_region.specs.Fuses.{KeepsFuse};
+ghost use Rattle.nv_alloc.specs.Taking.{all_blocks};
+ghost use Rattle.nv_entry.specs.declared.entry.Operation.{Operation as OperationValue};
+ghost use Rattle.nv_entry.specs.declared.entry.Entry.TheVariants.{Attr, Name};
+ghost use Rattle.nv_logpage.specs.Append.{needed};
+ghost use Rattle.nv_names.specs.Names.{EachOnce, IsName};
+ghost use Rattle.nv_held.specs.nv_outcome.Same.{SameRow};
+ghost use Rattle.nv_tree.specs.declared.refusal.Refusal.{Refusal as RefusalValue};
+ghost use Rattle.nv_steps.specs.Grown.{StandsRight};
+ghost use Rattle.nv_steps.specs.NameEntries.{first_entries, name_entries};
+ghost use Rattle.nv_steps.specs.NewNames.{CanName, HasNamed, IsNewRow, MakesNamed};
+ghost use Rattle.nv_steps.specs.Steps.{LeavesStep, RefusesStep};
+ghost use Rattle.nv_steps.specs.Taken.{SamePools, TakesEach};
+
+use crate::blocks::take_blocks;
+use crate::settling::settle_log;
+use nv_alloc::{AllocRefusal, Allocators};
+use nv_commit::{Extension, NewInode, make_inode};
+use nv_entry::{AttrEntry, Entry, FileName, NameEntry, Operation, length};
+use nv_logpage::pages_needed;
+use nv_names::NameIndex;
+use nv_radix::FileIndex;
+use nv_region::Pmem;
+use nv_scan::{Numbers, Row};
+use nv_super::{BLOCK_SIZE, Kind, Super};
+use nv_tree::Refusal;
+use std::alloc::{AllocError, Global};
+
+/// A new inode, and the name that a directory has for it.
+#[derive(Clone, Copy)]
+pub struct NewName<'a> {
+    pub inode: u64,
+    pub kind: Kind,
+    /// Of which the low 12 bits are kept.
+    pub mode: u32,
+    pub time: u64,
+    pub name: &'a [u8],
+}
+
+/// The entry that adds or removes a name.
+pub fn name_entry(operation: Operation, inode: u64, name: &[u8], time: u64) -> Entry
+    requires { IsName name.now }
+    ensures { result ≡ Name (record { operation = operation; inode = inode; time = time; name = name.now }) }
+{
+    match FileName::new(name) {
+        Some(name) => Entry::Name(NameEntry {
+            operation,
+            inode,
+            time,
+            name,
+        }),
+        None => unreachable!(),
+    }
+}
+
+/// Makes a new inode with its name in the directory of a row, over blocks that it takes: one for the new log, and then those
+/// that the directory's log needs. The directory's row gets the name, the time, the new tail and the new pages. Answers the
+/// new inode's row.
+///
+/// `NoSpace` where all pools together have too few blocks, `Memory` where a growth was refused; both change nothing.
+/// `Stopped` where the fuse has burnt.
+pub fn make_named<P: Pmem>(
+    alloc: Global,
+    memory: &mut P,
+    sup: &Super,
+    free: &mut Allocators,
+    cpu: u64,
+    directory: &mut Row,
+    new: &NewName<'_>,
+) -> Result<Row, Refusal>
+    requires stands { StandsRight (P.region memory.old) sup.now free.old directory.old }
+    requires can { CanName (P.region memory.old) sup.now cpu new.now.inode directory.old }
+    requires name { IsName new.now.name.now }
+    ensures made { IfOk result (λ row. MakesNamed (P.region memory.old) (P.region memory.new) sup.now free.old free.new directory.old directory.new new.now.kind new.now.mode new.now.time new.now.inode new.now.name.now row) }
+    ensures enough { OnOk result (1 + needed (directory.old.tail % 4096) (name_entries OperationValue.Add new.now.inode new.now.name.now new.now.time) ≤ all_blocks free.old.pools) }
+    ensures settled { OnOk result (NothingPending (P.region memory.new) (P.may_hold memory.new)) }
+    ensures refused { IfErr result (λ e. RefusesStep e (1 + needed (directory.old.tail % 4096) (name_entries OperationValue.Add new.now.inode new.now.name.now new.now.time)) free.old) }
+    ensures unchanged { IfErr result (λ e. (e ≡ RefusalValue.Stopped → ⊥) → LeavesStep memory.old memory.new free.old free.new directory.old directory.new) }
+    ensures stopped { IfErr result (λ e. e ≡ RefusalValue.Stopped → IsTrue (P.fuse memory.new).has_burnt) }
+    ensures inode { directory.new.inode ≡ directory.old.inode }
+    ensures lists { free.new.sup ≡ free.old.sup }
+    ensures length { size (P.region memory.new) ≡ size (P.region memory.old) }
+    ensures keeps_fuse { KeepsFuse (λ limit. size (P.region memory.old) ≤ limit) (P.fuse memory.old) (P.fuse memory.new) }
+{
+    let entries = [name_entry(Operation::Add, new.inode, new.name, new.time)];
+    let mut blocks = prepare_name(alloc, free, cpu, directory, &entries)?;
+    let first = [Entry::Attr(first_attributes(new.mode, new.time))];
+    let inode = NewInode {
+        slot: sup.slot_address(new.inode),
+        kind: new.kind,
+        created: new.time,
+        page: blocks[0],
+        entries: &first,
+    };
+    let parent = Extension {
+        slot: sup.slot_address(directory.inode),
+        tail: directory.tail,
+        entries: &entries,
+        fresh: &blocks[1..],
+    };
+    let Ok((tail, end)) = make_inode(memory, cpu, &inode, &parent) else {
+        return Err(Refusal::Stopped);
+    };
+    settle_name(directory, &blocks[1..], end, end - length(&entries[0]), new);
+    blocks.truncate(1);
+    Ok(new_row(alloc, new, blocks, tail))
+}
+
+/// Takes a block for a new log, and those that entries need behind the tail of its directory's log, each by itself. Makes
+/// room in the directory's row for their pages and for a name.
+///
+/// `NoSpace` where all pools together have fewer blocks, `Memory` where a growth was refused. Both leave the free lists.
+fn prepare_name(
+    alloc: Global,
+    free: &mut Allocators,
+    cpu: u64,
+    directory: &mut Row,
+    entries: &[Entry],
+) -> Result<Vec<u64>, Refusal>
+    requires cpu { cpu < free.old.sup.cpus }
+    requires few { needed (directory.old.tail % 4096) entries.now ≤ 1 }
+    ensures taken { IfOk result (λ blocks. TakesEach free.old blocks.items free.new) }
+    ensures count { IfOk result (λ blocks. length blocks.items ≡ 1 + needed (directory.old.tail % 4096) entries.now) }
+    ensures room { IfOk result (λ blocks. vec_len directory.new.pages + length blocks.items ≤ vec_capacity directory.new.pages) }
+    ensures names_room { OnOk result (0 < directory.new.names.room) }
+    ensures enough { OnOk result (1 + needed (directory.old.tail % 4096) entries.now ≤ all_blocks free.old.pools) }
+    ensures once { EachOnce directory.old.names }
+    ensures row { SameRow directory.old directory.new }
+    ensures refused { IfErr result (λ e. RefusesStep e (1 + needed (directory.old.tail % 4096) entries.now) free.old) }
+    ensures goes_on { IfErr result (λ e. e ≡ RefusalValue.Stopped → ⊥) }
+    ensures unchanged { OnErr result (SamePools free.old free.new) }
+{
+    // A name index says of itself that it has no name twice.
+    let _names = directory.names.len();
+    let count = 1 + pages_needed(directory.tail, entries);
+    if make_room(directory, count as usize).is_err() {
+        return Err(Refusal::Memory);
+    }
+    match take_blocks(alloc, free, cpu, count) {
+        Ok(blocks) => Ok(blocks),
+        Err(AllocRefusal::NoSpace) => Err(Refusal::NoSpace),
+        Err(AllocRefusal::Memory) => Err(Refusal::Memory),
+    }
+}
+
+/// Makes room in a row for so many pages and for a name.
+fn make_room(row: &mut Row, pages: usize) -> Result<(), AllocError>
+    ensures row { SameRow row.old row.new }
+    ensures pages { OnOk result (vec_len row.new.pages + pages ≤ vec_capacity row.new.pages) }
+    ensures names { OnOk result (0 < row.new.names.room) }
+{
+    row.pages.reserve(pages)?;
+    row.names.reserve(1)
+}
+
+/// What the log of a new inode begins with.
+fn first_attributes(mode: u32, time: u64) -> AttrEntry
+    ensures { Attr result ∷ [] ≡ first_entries mode time }
+{
+    AttrEntry {
+        mode: mode % 4096,
+        size: 0,
+        time,
+        owner: 0,
+        group: 0,
+    }
+}
+
+/// Puts a name, the time, the new pages and the new tail of its log into a directory's row, which has room for them.
+fn settle_name(directory: &mut Row, fresh: &[u64], end: u64, place: u64, new: &NewName<'_>)
+    requires pages { vec_len directory.old.pages + length fresh.now ≤ vec_capacity directory.old.pages }
+    requires names { 0 < directory.old.names.room }
+    requires name { IsName new.now.name.now }
+    ensures row { HasNamed directory.old fresh.now end new.now.name.now new.now.inode place new.now.time directory.new }
+    ensures once { EachOnce directory.new.names }
+{
+    settle_log(directory, fresh, end);
+    directory.names.add(new.name, new.inode, place);
+    directory.numbers.time = new.time;
+    // A name index says of itself that it has no name twice.
+    let _names = directory.names.len();
+}
+
+/// The row of a new inode whose log is one page and ends at this tail.
+fn new_row(alloc: Global, new: &NewName<'_>, pages: Vec<u64>, tail: u64) -> Row
+    requires page { length pages.items ≡ 1 }
+    requires inside { 4096 * get_or pages.items 0 0 < 2 ^ 64 }
+    ensures { IsNewRow new.now.inode new.now.kind new.now.mode new.now.time (get_or pages.items 0 0) tail result }
+{
+    Row {
+        inode: new.inode,
+        kind: new.kind,
+        numbers: Numbers {
+            size: 0,
+            mode: new.mode % 4096,
+            owner: 0,
+            group: 0,
+            links: 1,
+            time: new.time,
+        },
+        head: BLOCK_SIZE * pages[0],
+        tail,
+        pages,
+        index: FileIndex::new(alloc),
+        names: NameIndex::new(alloc),
+    }
+}

@@ -1,0 +1,144 @@
+//! What a write makes ready before it stores: all growths of memory, and the blocks that it takes.
+
+ghost use Rattle.std.specs.Prelude.{◌≡◌, ◌<◌, ◌≤◌, ◌+◌, ◌*◌, ◌%◌, ◌^◌, ℕ, length, Some, IfOk, IfErr, IfSome, OnOk, OnErr, vec_len, vec_capacity};
+ghost use Rattle.std.specs.List.{Contains};
+ghost use Rattle.nv_super.specs.declared.owners.Run.{Run as RunValue};
+ghost use Rattle.nv_alloc.specs.FreeLists.{SameLists};
+ghost use Rattle.nv_alloc.specs.Taking.{all_blocks, blocks_in};
+ghost use Rattle.nv_logpage.specs.Append.{needed};
+ghost use Rattle.nv_held.specs.nv_outcome.Same.{SameRow};
+ghost use Rattle.nv_radix.specs.Pages.{AreReady, block_at};
+ghost use Rattle.nv_alloc.specs.declared.allocators.AllocRefusal.TheVariants.{NoSpace};
+ghost use Rattle.nv_steps.specs.Taken.{SamePools, TakesEach};
+ghost use Rattle.nv_steps.specs.Writes.{NeedsBlocks, data_blocks, data_entries, replaced_blocks};
+ghost use Rattle.nv_steps.specs.Written.{Prepared};
+
+use crate::giving::give_all;
+use crate::planning::{Plan, data_entries, replaced_blocks};
+use crate::preparing::prepare_log;
+use nv_alloc::{AllocRefusal, Allocators};
+use nv_entry::Entry;
+use nv_radix::FileIndex;
+use nv_scan::Row;
+use nv_super::Run;
+use std::alloc::{AllocError, Global};
+
+/// The entries of a write, and the blocks that become pages of the log for them.
+#[derive(Drop)]
+pub(crate) struct Entries {
+    pub entries: Vec<Entry>,
+    pub fresh: Vec<u64>,
+}
+
+/// What a write has ready before it stores: its entries, and the blocks that its pages have so far.
+#[derive(Drop)]
+pub(crate) struct Ready {
+    pub log: Entries,
+    pub replaced: Vec<Run>,
+}
+
+/// Makes a write ready: room where the file's pages and what comes back will stand, then the blocks of its pages, taken at
+/// once, then those that its entries need, one by one.
+///
+/// `NoSpace` where all pools together have too few blocks, `Memory` where a growth was refused. Both leave the free lists.
+pub(crate) fn prepare_data(
+    alloc: Global,
+    free: &mut Allocators,
+    cpu: u64,
+    row: &mut Row,
+    plan: &Plan,
+) -> Result<Ready, AllocRefusal>
+    requires cpu { cpu < free.old.sup.cpus }
+    requires some { 0 < plan.now.pages }
+    requires pages { plan.now.first + plan.now.pages ≤ 262144 }
+    requires ending { IfSome plan.now.ending (λ p. p < 262144) }
+    ensures prepared { IfOk result (λ ready. Prepared free.old cpu row.old.tail plan.now ready.log.entries.items ready.log.fresh.items free.new) }
+    ensures replaced { IfOk result (λ ready. ready.replaced.items ≡ replaced_blocks row.old.index plan.now) }
+    ensures room { IfOk result (λ ready. length ready.replaced.items ≤ free.new.room) }
+    ensures pages { IfOk result (λ ready. vec_len row.new.pages + length ready.log.fresh.items ≤ vec_capacity row.new.pages) }
+    ensures first { OnOk result (AreReady row.new.index plan.now.first plan.now.pages) }
+    ensures last { OnOk result (IfSome plan.now.ending (λ p. AreReady row.new.index p 1)) }
+    ensures enough { OnOk result ((count : ℕ) → NeedsBlocks free.old.pools cpu row.old.tail plan.now count → count ≤ all_blocks free.old.pools) }
+    ensures refused { IfErr result (λ e. e ≡ NoSpace → (count : ℕ) → NeedsBlocks free.old.pools cpu row.old.tail plan.now count → all_blocks free.old.pools < count) }
+    ensures unchanged { OnErr result (SamePools free.old free.new) }
+    ensures row { SameRow row.old row.new }
+    ensures names { row.new.names ≡ row.old.names }
+{
+    if free.free_blocks() < plan.blocks() {
+        return Err(AllocRefusal::NoSpace);
+    }
+    let Ok(replaced) = make_room(alloc, free, &mut row.index, plan) else {
+        return Err(AllocRefusal::Memory);
+    };
+    let runs = free.take(cpu, plan.blocks())?;
+    match prepare_entries(alloc, free, cpu, row, plan, &runs) {
+        Ok(log) => Ok(Ready { log, replaced }),
+        Err(refusal) => {
+            give_all(free, &runs);
+            Err(refusal)
+        }
+    }
+}
+
+/// Makes room for a write, in the index for its pages and in the free lists for what comes back. Answers the blocks that
+/// its pages have so far.
+fn make_room(
+    alloc: Global,
+    free: &mut Allocators,
+    index: &mut FileIndex,
+    plan: &Plan,
+) -> Result<Vec<Run>, AllocError>
+    requires pages { plan.now.first + plan.now.pages ≤ 262144 }
+    requires ending { IfSome plan.now.ending (λ p. p < 262144) }
+    ensures replaced { IfOk result (λ runs. runs.items ≡ replaced_blocks index.old plan.now) }
+    ensures count { IfOk result (λ runs. length runs.items ≤ data_blocks plan.now) }
+    ensures room { OnOk result (2 * data_blocks plan.now ≤ free.new.room) }
+    ensures first { OnOk result (AreReady index.new plan.now.first plan.now.pages) }
+    ensures last { OnOk result (IfSome plan.now.ending (λ p. AreReady index.new p 1)) }
+    ensures lists { SameLists free.old free.new }
+    ensures blocks { (p : ℕ) → block_at index.new p ≡ block_at index.old p }
+{
+    let replaced = replaced_blocks(alloc, index, plan)?;
+    index.reserve(plan.first, plan.pages)?;
+    if let Some(page) = plan.ending {
+        index.reserve(page, 1)?;
+    }
+    // A refusal of one of the log's pages uses up room for at most one block an entry.
+    free.reserve(2 * plan.blocks() as usize)?;
+    Ok(replaced)
+}
+
+/// Makes the entries of a write over the blocks that were taken, and takes the blocks that they need in the log. Either way
+/// there is room in the free lists for as many blocks as before but for one an entry.
+fn prepare_entries(
+    alloc: Global,
+    free: &mut Allocators,
+    cpu: u64,
+    row: &mut Row,
+    plan: &Plan,
+    runs: &[Run],
+) -> Result<Entries, AllocRefusal>
+    requires cpu { cpu < free.old.sup.cpus }
+    requires some { 0 < length runs.now }
+    requires blocks { (r : RunValue) → Contains runs.now r → (0 < r.count) × (r.start < 2 ^ 62) }
+    requires ending { IfSome plan.now.ending (λ p. p < 262144) }
+    requires pages { plan.now.first + plan.now.pages ≤ 262144 }
+    requires count { blocks_in runs.now ≡ data_blocks plan.now }
+    ensures entries { IfOk result (λ log. log.entries.items ≡ data_entries plan.now runs.now) }
+    ensures taken { IfOk result (λ log. TakesEach free.old log.fresh.items free.new) }
+    ensures count { IfOk result (λ log. length log.fresh.items ≡ needed (row.old.tail % 4096) log.entries.items) }
+    ensures pages { IfOk result (λ log. vec_len row.new.pages + length log.fresh.items ≤ vec_capacity row.new.pages) }
+    ensures enough { OnOk result (needed (row.old.tail % 4096) (data_entries plan.now runs.now) ≤ all_blocks free.old.pools) }
+    ensures refused { IfErr result (λ e. e ≡ NoSpace → all_blocks free.old.pools < needed (row.old.tail % 4096) (data_entries plan.now runs.now)) }
+    ensures unchanged { OnErr result (SamePools free.old free.new) }
+    ensures room { free.old.room ≤ free.new.room + data_blocks plan.now }
+    ensures row { SameRow row.old row.new }
+    ensures index { row.new.index ≡ row.old.index }
+    ensures names { row.new.names ≡ row.old.names }
+{
+    let Ok(entries) = data_entries(alloc, plan, runs) else {
+        return Err(AllocRefusal::Memory);
+    };
+    let fresh = prepare_log(alloc, free, cpu, &mut row.pages, row.tail, &entries)?;
+    Ok(Entries { entries, fresh })
+}

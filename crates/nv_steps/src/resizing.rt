@@ -1,0 +1,106 @@
+//! A file's new size: its log grows by the attributes, and the pages behind the new end are cut.
+
+ghost use Rattle.std.specs.Prelude.{◌≡◌, ◌<◌, ◌≤◌, IfErr, OnOk, Option, IsTrue};
+ghost use Rattle.nv_region.specs.Region.{size};
+ghost use Rattle.nv_region.specs.Stops.{NothingPending};
+ghost use Rattle.nv_region.specs.Fuses.{KeepsFuse};
+ghost use Rattle.nv_alloc.specs.Taking.{all_blocks};
+ghost use Rattle.nv_radix.specs.Pages.{block_at};
+ghost use Rattle.nv_tree.specs.declared.refusal.Refusal.{Refusal as RefusalValue};
+ghost use Rattle.nv_steps.specs.Sizes.{CanResize, Resizes, blocks_from, end_block};
+ghost use Rattle.nv_steps.specs.Steps.{LeavesStep, RefusesStep};
+
+use crate::appending::append_log;
+use crate::copying::resize_with_copy;
+use crate::giving::give_pages;
+use crate::settling::numbers_with;
+use nv_alloc::Allocators;
+use nv_entry::{AttrEntry, Entry};
+use nv_region::Pmem;
+use nv_scan::Row;
+use nv_super::{BLOCK_SIZE, Super};
+use nv_tree::Refusal;
+use std::alloc::Global;
+
+/// Gives a file the size of these attributes, which are its own but for size and time: cuts it, or lengthens it by zeros.
+///
+/// `NoSpace` where all pools together have too few blocks, `Memory` where a growth was refused; both change nothing.
+/// `Stopped` where the fuse has burnt.
+pub fn resize<P: Pmem>(
+    alloc: Global,
+    memory: &mut P,
+    sup: &Super,
+    free: &mut Allocators,
+    cpu: u64,
+    row: &mut Row,
+    attributes: AttrEntry,
+) -> Result<(), Refusal>
+    requires cpu { cpu < free.old.sup.cpus }
+    requires can { CanResize (P.region memory.old) sup.now free.old row.old attributes }
+    ensures resized { OnOk result (Resizes (P.region memory.old) (P.region memory.new) sup.now free.old row.old attributes row.new free.new) }
+    ensures enough { OnOk result (blocks_from row.old.tail attributes (end_block (block_at row.old.index) row.old.numbers.size attributes.size) ≤ all_blocks free.old.pools) }
+    ensures settled { OnOk result (NothingPending (P.region memory.new) (P.may_hold memory.new)) }
+    ensures refused { IfErr result (λ e. RefusesStep e (blocks_from row.old.tail attributes (end_block (block_at row.old.index) row.old.numbers.size attributes.size)) free.old) }
+    ensures unchanged { IfErr result (λ e. (e ≡ RefusalValue.Stopped → ⊥) → LeavesStep memory.old memory.new free.old free.new row.old row.new) }
+    ensures stopped { IfErr result (λ e. e ≡ RefusalValue.Stopped → IsTrue (P.fuse memory.new).has_burnt) }
+    ensures inode { row.new.inode ≡ row.old.inode }
+    ensures lists { free.new.sup ≡ free.old.sup }
+    ensures length { size (P.region memory.new) ≡ size (P.region memory.old) }
+    ensures keeps_fuse { KeepsFuse (λ limit. size (P.region memory.old) ≤ limit) (P.fuse memory.old) (P.fuse memory.new) }
+{
+    match end_block(row, attributes.size) {
+        Some(from) => resize_with_copy(alloc, memory, sup, free, cpu, row, attributes, from),
+        None => resize_in_place(alloc, memory, sup, free, cpu, row, attributes),
+    }
+}
+
+/// The block of the page in which a file ends, where the file gets longer and has bytes of that page.
+fn end_block(row: &Row, new: u64) -> Option<u64>
+    ensures { result ≡ end_block (block_at row.now.index) row.now.numbers.size new }
+{
+    let old = row.numbers.size;
+    if old < new && old % BLOCK_SIZE != 0 {
+        row.index.get(old / BLOCK_SIZE)
+    } else {
+        None
+    }
+}
+
+/// Writes the attributes behind the log of a file whose last page isn't copied. Gives back the blocks of the pages behind
+/// the new end.
+fn resize_in_place<P: Pmem>(
+    alloc: Global,
+    memory: &mut P,
+    sup: &Super,
+    free: &mut Allocators,
+    cpu: u64,
+    row: &mut Row,
+    attributes: AttrEntry,
+) -> Result<(), Refusal>
+    requires cpu { cpu < free.old.sup.cpus }
+    requires can { CanResize (P.region memory.old) sup.now free.old row.old attributes }
+    requires stays { end_block (block_at row.old.index) row.old.numbers.size attributes.size ≡ Option.None }
+    ensures resized { OnOk result (Resizes (P.region memory.old) (P.region memory.new) sup.now free.old row.old attributes row.new free.new) }
+    ensures enough { OnOk result (blocks_from row.old.tail attributes Option.None ≤ all_blocks free.old.pools) }
+    ensures settled { OnOk result (NothingPending (P.region memory.new) (P.may_hold memory.new)) }
+    ensures refused { IfErr result (λ e. RefusesStep e (blocks_from row.old.tail attributes Option.None) free.old) }
+    ensures unchanged { IfErr result (λ e. (e ≡ RefusalValue.Stopped → ⊥) → LeavesStep memory.old memory.new free.old free.new row.old row.new) }
+    ensures stopped { IfErr result (λ e. e ≡ RefusalValue.Stopped → IsTrue (P.fuse memory.new).has_burnt) }
+    ensures inode { row.new.inode ≡ row.old.inode }
+    ensures lists { free.new.sup ≡ free.old.sup }
+    ensures length { size (P.region memory.new) ≡ size (P.region memory.old) }
+    ensures keeps_fuse { KeepsFuse (λ limit. size (P.region memory.old) ≤ limit) (P.fuse memory.old) (P.fuse memory.new) }
+{
+    let first = attributes.size.div_ceil(BLOCK_SIZE);
+    let end = row.numbers.size.div_ceil(BLOCK_SIZE);
+    let entries = [Entry::Attr(attributes)];
+    // Room for the blocks that are given back.
+    if free.reserve(end.saturating_sub(first) as usize).is_err() {
+        return Err(Refusal::Memory);
+    }
+    append_log(alloc, memory, sup, free, cpu, row, &entries)?;
+    give_pages(free, &row.index, first, end);
+    row.index.cut(first);
+    row.numbers = numbers_with(row.numbers, attributes);
+    Ok(())
+}

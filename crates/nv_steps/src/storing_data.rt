@@ -1,0 +1,82 @@
+//! What a write stores: the pages of a file by its entries, the entries behind the log, and the log's tail.
+
+ghost use Rattle.std.specs.Prelude.{◌≡◌, ◌+◌, ◌<◌, ◌≤◌, ◌^◌, ◌%◌, ℕ, length, IfOk, OnOk, is_err, false};
+ghost use Rattle.nv_region.specs.Region.{size};
+ghost use Rattle.nv_region.specs.Stored.{StoresOnly};
+ghost use Rattle.nv_region.specs.Fuses.{KeepsFuse};
+ghost use Rattle.nv_alloc.specs.Taking.{HasBlock};
+ghost use Rattle.nv_bytes.specs.Bytes.{byte_after, file_byte, LieInside};
+ghost use Rattle.nv_bytes.specs.Storing.{AreFresh, InBlocks};
+ghost use Rattle.nv_region.specs.Stops.{NothingPending};
+ghost use Rattle.nv_super.specs.declared.superblock.Super.{Super};
+ghost use Rattle.nv_logpage.specs.Append.{CanAppend, end_of};
+ghost use Rattle.nv_steps.specs.Written.{AreSmall, Commits, HoldEntries, entry_blocks};
+
+use crate::preparing_data::Entries;
+use nv_bytes::{NewBytes, store_pages};
+use nv_commit::extend_log;
+use nv_entry::Entry;
+use nv_radix::FileIndex;
+use nv_region::{Pmem, Stopped};
+use nv_super::Run;
+
+/// Stores the pages of write entries, as they are with the new bytes, into the entries' blocks. Nothing is fenced.
+///
+/// `Stopped` where the fuse has burnt. Some of the words may be stored then.
+pub(crate) fn store_data<P: Pmem>(
+    memory: &mut P,
+    index: &FileIndex,
+    entries: &[Entry],
+    change: &NewBytes,
+) -> Result<(), Stopped>
+    requires mapped { LieInside (P.region memory.old) index.now }
+    requires fresh { AreFresh (P.region memory.old) index.now (entry_blocks entries.now) }
+    requires pages { AreSmall entries.now }
+    requires small { change.now.offset + length change.now.bytes.now ≤ 2 ^ 62 }
+    ensures stored { OnOk result (HoldEntries (P.region memory.new) (byte_after change.now.offset change.now.bytes.now change.now.size (file_byte (P.region memory.old) index.now)) entries.now) }
+    ensures wrote { StoresOnly (InBlocks (HasBlock (entry_blocks entries.now))) (P.region memory.old) (P.region memory.new) (P.may_hold memory.old) (P.may_hold memory.new) }
+    ensures stopped { (P.fuse memory.old).has_burnt ≡ false → is_err result ≡ (P.fuse memory.new).has_burnt }
+    ensures keeps_fuse { KeepsFuse (λ limit. size (P.region memory.old) ≤ limit) (P.fuse memory.old) (P.fuse memory.new) }
+{
+    for entry in entries {
+        if let Entry::Write(write) = entry {
+            let blocks = Run {
+                start: write.block,
+                count: u64::from(write.count),
+            };
+            store_pages(memory, index, write.offset, &[blocks], change)?;
+        }
+    }
+    Ok(())
+}
+
+/// Stores the pages of write entries into the entries' blocks, then writes the entries behind the tail of the inode's log, and
+/// moves the tail behind them by one store. Answers the new tail.
+///
+/// `Stopped` where the fuse has burnt: the log then is as it was, or has all of the entries.
+pub(crate) fn commit_data<P: Pmem>(
+    memory: &mut P,
+    index: &FileIndex,
+    slot: u64,
+    tail: u64,
+    log: &Entries,
+    change: &NewBytes,
+) -> Result<u64, Stopped>
+    requires mapped { LieInside (P.region memory.old) index.now }
+    requires fresh { AreFresh (P.region memory.old) index.now (entry_blocks log.now.entries.items) }
+    requires pages { AreSmall log.now.entries.items }
+    requires small { change.now.offset + length change.now.bytes.now ≤ 2 ^ 62 }
+    requires can { CanAppend (P.region memory.old) tail log.now.entries.items log.now.fresh.items }
+    requires whole { slot % 8 ≡ 0 }
+    requires inside { slot + 32 ≤ size (P.region memory.old) }
+    ensures end { IfOk result (λ new. new ≡ end_of log.now.fresh.items 0 tail log.now.entries.items) }
+    ensures commits { (s : Super) (inode : ℕ)
+        → OnOk result (Commits (P.region memory.old) (P.region memory.new) s inode slot tail (byte_after change.now.offset change.now.bytes.now change.now.size (file_byte (P.region memory.old) index.now)) log.now.entries.items log.now.fresh.items) }
+    ensures settled { OnOk result (NothingPending (P.region memory.new) (P.may_hold memory.new)) }
+    ensures stopped { (P.fuse memory.old).has_burnt ≡ false → is_err result ≡ (P.fuse memory.new).has_burnt }
+    ensures length { size (P.region memory.new) ≡ size (P.region memory.old) }
+    ensures keeps_fuse { KeepsFuse (λ limit. size (P.region memory.old) ≤ limit) (P.fuse memory.old) (P.fuse memory.new) }
+{
+    store_data(memory, index, &log.entries, change)?;
+    extend_log(memory, slot, tail, &log.entries, &log.fresh)
+}
