@@ -1,5 +1,5 @@
 -- The choice between one directory and two.
-use Rattle.std.proofs.Common.{◌≡◌, ◌≢◌, ℕ, ◌+◌, ◌%◌, cond, nat_eq, Bool, true, false, List, set, slice_get, ap, sym, ◌∙◌, subst, arith, inl, Some, Result, Ok, Err, IfErr, OnOk}
+use Rattle.std.proofs.Common.{◌≡◌, ◌≢◌, ℕ, ◌+◌, ◌%◌, cond, nat_eq, Bool, true, false, List, set, slice_get, ap, sym, ◌∙◌, subst, arith, inl, Some}
 use Rattle.std.proofs.lemmas.Bool.Decides.{nat_tests}
 use Rattle.nv_region.specs.Region.{Region}
 use Rattle.nv_super.specs.declared.superblock.Super.{Super}
@@ -12,14 +12,6 @@ use Rattle.nv_steps.specs.Moves.{MovesWithin, move_entries}
 use Rattle.nv_steps.specs.NameEntries.{name_entries}
 use Rattle.nv_steps.specs.MoreNames.{GetsName, GrowsTwo}
 use Rattle.nv_steps.specs.Unlinks.{LosesName}
-
-pub on_ok : {A E : Type 0} (r : Result A E) {P Q : Type 0} → (P → Q) → OnOk r P → OnOk r Q
-on_ok (Ok a) to p = to p
-on_ok (Err e) to p = tt
-
-pub on_err : {A E : Type 0} (r : Result A E) {P Q : E → Type 0} → ((e : E) → P e → Q e) → IfErr r P → IfErr r Q
-on_err (Ok a) to p = tt
-on_err (Err e) to p = to e p
 
 pub across_count : (place end : ℕ) (from to : Row) (i : ℕ) (name other : List ℕ) (time : ℕ) → place ≢ end → move_blocks place end from to i name other time ≡ needed (from.tail % 4096) (name_entries Remove i name time) + needed (to.tail % 4096) (name_entries Add i other time)
 across_count place end from to i name other time differ =

@@ -1,5 +1,5 @@
 -- What `unlink` does, by how many links the file has.
-use Rattle.std.proofs.Common.{◌≡◌, ℕ, ◌+◌, ◌-◌, ◌%◌, ◌<◌, ◌≤◌, nat_lt, Bool, true, false, cond, List, slice_get, ap, sym, ◌∙◌, subst, arith, Some, Result, Ok, Err, OnOk, IfErr}
+use Rattle.std.proofs.Common.{◌≡◌, ℕ, ◌+◌, ◌-◌, ◌%◌, ◌<◌, ◌≤◌, nat_lt, Bool, true, false, cond, List, slice_get, ap, sym, ◌∙◌, subst, arith, Some}
 use Rattle.std.proofs.lemmas.Bool.Decides.{nat_tests}
 use Rattle.nv_entry.specs.declared.entry.Operation.TheVariants.{Remove}
 use Rattle.nv_logpage.specs.Append.{needed}
@@ -7,15 +7,6 @@ use Rattle.nv_scan.specs.declared.piece.Row.{Row}
 use Rattle.nv_steps.specs.NameEntries.{links_entries, name_entries}
 use Rattle.nv_calls.specs.AtPlaces.{release_blocks}
 use Rattle.nv_steps.proofs.RowsAt.{one_row}
-
--- what holds of a value, and of an error, by what was said of it
-pub on_ok : {A E P Q : Type 0} (r : Result A E) → (P → Q) → OnOk r P → OnOk r Q
-on_ok (Ok a) follows said = follows said
-on_ok (Err e) follows said = said
-
-pub on_err : {A E : Type 0} {P Q : E → Type 0} (r : Result A E) → ((e : E) → P e → Q e) → IfErr r P → IfErr r Q
-on_err (Ok a) follows said = said
-on_err (Err e) follows said = follows e said
 
 is_more : (n : ℕ) → nat_lt 1 n ≡ true → 1 < n
 is_more n test = grind (arith, nat_tests)

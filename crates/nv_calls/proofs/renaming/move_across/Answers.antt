@@ -1,10 +1,11 @@
 use Rattle.std.proofs.Common.{◌∙◌, ◌≤◌, ℕ, ap, subst, sym}
+use Rattle.std.proofs.lemmas.Result.{IfErr-weaker, on_ok_weaker}
 use Rattle.nv_alloc.specs.Taking.{all_blocks}
 use Rattle.nv_rows.specs.Rows.{row_of}
 use Rattle.nv_rows.proofs.Places.{at_place, numbered, put_two, row_in_use}
 use Rattle.nv_tree.specs.declared.refusal.Refusal.{Refusal}
 use Rattle.nv_steps.specs.Steps.{RefusesStep}
-use Rattle.nv_calls.proofs.MoveAt.{on_err, on_ok, both_count, moves_across}
+use Rattle.nv_calls.proofs.MoveAt.{both_count, moves_across}
 use Rattle.nv_steps.proofs.RowsAt.{one_row}
 use Rattle.nv_calls.proofs.TwoRows.{left_two, lifted, none_put, none_still, row_stays, used_still}
 use Rattle.nv_calls.proofs.renaming.move_across.Goals as goal
@@ -38,7 +39,7 @@ returns-clause-moved g c =
     c.take-from.ensures.rising c.take-from.ensures.row c.take-from.ensures.rows c.take-to.ensures.rising c.take-to.ensures.row c.take-to.ensures.rows (c.move_both-done.ensures.to_inode ∙ c.take-to.ensures.number) c.insert.ensures.rows (c.move_both-done.ensures.inode ∙ c.take-from.ensures.number) c.insert-2.ensures.rows in
     let target = row_in_use rows c.args.moved.now.from.target c.requires.target in
     let number = c.other_name-other.ensures.inode ∙ sym (numbered rows c.args.moved.now.from.target target.0 target.1) in
-    on_ok c.move_both-done.result (λ step. moves_across target.0 (at_place rows c.args.moved.now.from.target ∙ target.1) number c.other_name-other.ensures.name c.other_name-other.ensures.other c.other_name-other.ensures.time
+    on_ok_weaker c.move_both-done.result (λ step. moves_across target.0 (at_place rows c.args.moved.now.from.target ∙ target.1) number c.other_name-other.ensures.name c.other_name-other.ensures.other c.other_name-other.ensures.time
     (lifted rows c.insert-2.new.self.items c.args.moved.now.from.directory c.args.moved.now.directory c.take-from.result c.take-to.result c.move_both-done.new.from c.move_both-done.new.to c.requires.apart c.take-from.ensures.row there put step)) c.move_both-done.ensures.moved
 
 pub returns-clause-enough : goal.returns-clause-enough
@@ -47,7 +48,7 @@ returns-clause-enough g c from to inode at other_at inode_at =
     let there = row_stays rows c.take-from.new.self.items c.args.moved.now.from.directory c.args.moved.now.directory c.requires.apart c.take-from.ensures.rows c.take-to.result c.take-to.ensures.row in
     let number = c.other_name-other.ensures.inode ∙ sym (numbered rows c.args.moved.now.from.target inode inode_at) in
     let count = both_count (one_row (sym c.take-from.ensures.row ∙ at)) (one_row (sym there ∙ other_at)) number c.other_name-other.ensures.name c.other_name-other.ensures.other c.other_name-other.ensures.time in
-    on_ok c.move_both-done.result (subst (λ (n : ℕ). n ≤ all_blocks c.args.free.now.pools) count) c.move_both-done.ensures.enough
+    on_ok_weaker c.move_both-done.result (subst (λ (n : ℕ). n ≤ all_blocks c.args.free.now.pools) count) c.move_both-done.ensures.enough
 
 pub returns-clause-refused : goal.returns-clause-refused
 returns-clause-refused g c from to inode at other_at inode_at =
@@ -55,7 +56,7 @@ returns-clause-refused g c from to inode at other_at inode_at =
     let there = row_stays rows c.take-from.new.self.items c.args.moved.now.from.directory c.args.moved.now.directory c.requires.apart c.take-from.ensures.rows c.take-to.result c.take-to.ensures.row in
     let number = c.other_name-other.ensures.inode ∙ sym (numbered rows c.args.moved.now.from.target inode inode_at) in
     let count = both_count (one_row (sym c.take-from.ensures.row ∙ at)) (one_row (sym there ∙ other_at)) number c.other_name-other.ensures.name c.other_name-other.ensures.other c.other_name-other.ensures.time in
-    on_err c.move_both-done.result (λ (e : Refusal). subst (λ (n : ℕ). RefusesStep e n c.args.free.now) count) c.move_both-done.ensures.refused
+    IfErr-weaker c.move_both-done.result _ _ (λ (e : Refusal). subst (λ (n : ℕ). RefusesStep e n c.args.free.now) count) c.move_both-done.ensures.refused
 
 pub returns-clause-unchanged : goal.returns-clause-unchanged
 returns-clause-unchanged g c =
@@ -63,4 +64,4 @@ returns-clause-unchanged g c =
     let there = row_stays rows c.take-from.new.self.items c.args.moved.now.from.directory c.args.moved.now.directory c.requires.apart c.take-from.ensures.rows c.take-to.result c.take-to.ensures.row in
     let put = put_two rows c.take-from.new.self.items c.take-to.new.self.items c.insert.new.self.items c.insert-2.new.self.items c.args.moved.now.from.directory c.args.moved.now.directory c.take-from.result c.take-to.result c.move_both-done.new.from c.move_both-done.new.to c.requires.apart
     c.take-from.ensures.rising c.take-from.ensures.row c.take-from.ensures.rows c.take-to.ensures.rising c.take-to.ensures.row c.take-to.ensures.rows (c.move_both-done.ensures.to_inode ∙ c.take-to.ensures.number) c.insert.ensures.rows (c.move_both-done.ensures.inode ∙ c.take-from.ensures.number) c.insert-2.ensures.rows in
-    on_err c.move_both-done.result (λ (e : Refusal) told off. (let left = told off in left_two rows c.insert-2.new.self.items c.args.moved.now.from.directory c.args.moved.now.directory c.take-from.result c.take-to.result c.move_both-done.new.from c.move_both-done.new.to c.requires.apart c.take-from.ensures.row there put c.args.memory.now c.move_both-done.new.memory c.args.free.now c.move_both-done.new.free left.0 left.1)) c.move_both-done.ensures.unchanged
+    IfErr-weaker c.move_both-done.result _ _ (λ (e : Refusal) told off. (let left = told off in left_two rows c.insert-2.new.self.items c.args.moved.now.from.directory c.args.moved.now.directory c.take-from.result c.take-to.result c.move_both-done.new.from c.move_both-done.new.to c.requires.apart c.take-from.ensures.row there put c.args.memory.now c.move_both-done.new.memory c.args.free.now c.move_both-done.new.free left.0 left.1)) c.move_both-done.ensures.unchanged

@@ -1,37 +1,38 @@
 use Rattle.std.proofs.Common.{◌∙◌, ◌≤◌, ℕ, inl, inr, subst}
+use Rattle.std.proofs.lemmas.Result.{IfErr-weaker, on_ok_weaker}
 use Rattle.nv_alloc.specs.Taking.{all_blocks}
 use Rattle.nv_rows.specs.Rows.{place_in}
 use Rattle.nv_rows.proofs.Places.{at_place}
 use Rattle.nv_tree.specs.declared.refusal.Refusal.{Refusal}
 use Rattle.nv_steps.specs.Steps.{RefusesStep}
-use Rattle.nv_calls.proofs.Released.{all_last, all_more, blocks_last, blocks_more, on_err, on_ok}
+use Rattle.nv_calls.proofs.Released.{all_last, all_more, blocks_last, blocks_more}
 use Rattle.nv_calls.proofs.unlinking.release_at.Goals as goal
 
 pub remove_named-requires-clause-stands : goal.remove_named-requires-clause-stands
 remove_named-requires-clause-stands g c row at = (c.requires.stands row at).0
 
 pub returns-then-has_more_links-clause-released : goal.returns-then-has_more_links-clause-released
-returns-then-has_more_links-clause-released g c = on_ok c.unlink_at.result (λ step. inl (all_more c.args.rows.now.items (place_in c.args.rows.now.items c.args.named.now.target) c.row.result.now (at_place c.args.rows.now.items c.args.named.now.target ∙ c.row.ensures) c.has_more_links.result c.has_more_links.ensures c.if-has_more_links.true, step)) c.unlink_at.ensures.unlinked
+returns-then-has_more_links-clause-released g c = on_ok_weaker c.unlink_at.result (λ step. inl (all_more c.args.rows.now.items (place_in c.args.rows.now.items c.args.named.now.target) c.row.result.now (at_place c.args.rows.now.items c.args.named.now.target ∙ c.row.ensures) c.has_more_links.result c.has_more_links.ensures c.if-has_more_links.true, step)) c.unlink_at.ensures.unlinked
 
 pub returns-then-has_more_links-clause-enough : goal.returns-then-has_more_links-clause-enough
 returns-then-has_more_links-clause-enough g c row file at there =
     let same = blocks_more row file c.args.named.now.name.now c.args.time (all_more c.args.rows.now.items (place_in c.args.rows.now.items c.args.named.now.target) c.row.result.now (at_place c.args.rows.now.items c.args.named.now.target ∙ c.row.ensures) c.has_more_links.result c.has_more_links.ensures c.if-has_more_links.true file (at_place c.args.rows.now.items c.args.named.now.target ∙ there)) in
-    on_ok c.unlink_at.result (λ enough. subst (λ (n : ℕ). n ≤ all_blocks c.args.free.now.pools) same enough) (c.unlink_at.ensures.enough row file at there)
+    on_ok_weaker c.unlink_at.result (λ enough. subst (λ (n : ℕ). n ≤ all_blocks c.args.free.now.pools) same enough) (c.unlink_at.ensures.enough row file at there)
 
 pub returns-then-has_more_links-clause-refused : goal.returns-then-has_more_links-clause-refused
 returns-then-has_more_links-clause-refused g c row file at there =
     let same = blocks_more row file c.args.named.now.name.now c.args.time (all_more c.args.rows.now.items (place_in c.args.rows.now.items c.args.named.now.target) c.row.result.now (at_place c.args.rows.now.items c.args.named.now.target ∙ c.row.ensures) c.has_more_links.result c.has_more_links.ensures c.if-has_more_links.true file (at_place c.args.rows.now.items c.args.named.now.target ∙ there)) in
-    on_err c.unlink_at.result (λ (e : Refusal) refused. subst (λ (n : ℕ). RefusesStep e n c.args.free.now) same refused) (c.unlink_at.ensures.refused row file at there)
+    IfErr-weaker c.unlink_at.result _ _ (λ (e : Refusal) refused. subst (λ (n : ℕ). RefusesStep e n c.args.free.now) same refused) (c.unlink_at.ensures.refused row file at there)
 
 pub returns-else-has_more_links-clause-released : goal.returns-else-has_more_links-clause-released
-returns-else-has_more_links-clause-released g c = on_ok c.remove_named.result (λ step. inr (all_last c.args.rows.now.items (place_in c.args.rows.now.items c.args.named.now.target) c.row.result.now (at_place c.args.rows.now.items c.args.named.now.target ∙ c.row.ensures) c.has_more_links.result c.has_more_links.ensures c.if-has_more_links.false, step)) c.remove_named.ensures.removed
+returns-else-has_more_links-clause-released g c = on_ok_weaker c.remove_named.result (λ step. inr (all_last c.args.rows.now.items (place_in c.args.rows.now.items c.args.named.now.target) c.row.result.now (at_place c.args.rows.now.items c.args.named.now.target ∙ c.row.ensures) c.has_more_links.result c.has_more_links.ensures c.if-has_more_links.false, step)) c.remove_named.ensures.removed
 
 pub returns-else-has_more_links-clause-enough : goal.returns-else-has_more_links-clause-enough
 returns-else-has_more_links-clause-enough g c row file at there =
     let same = blocks_last row file c.args.named.now.name.now c.args.time (all_last c.args.rows.now.items (place_in c.args.rows.now.items c.args.named.now.target) c.row.result.now (at_place c.args.rows.now.items c.args.named.now.target ∙ c.row.ensures) c.has_more_links.result c.has_more_links.ensures c.if-has_more_links.false file (at_place c.args.rows.now.items c.args.named.now.target ∙ there)) in
-    on_ok c.remove_named.result (λ enough. subst (λ (n : ℕ). n ≤ all_blocks c.args.free.now.pools) same enough) (c.remove_named.ensures.enough row file at there)
+    on_ok_weaker c.remove_named.result (λ enough. subst (λ (n : ℕ). n ≤ all_blocks c.args.free.now.pools) same enough) (c.remove_named.ensures.enough row file at there)
 
 pub returns-else-has_more_links-clause-refused : goal.returns-else-has_more_links-clause-refused
 returns-else-has_more_links-clause-refused g c row file at there =
     let same = blocks_last row file c.args.named.now.name.now c.args.time (all_last c.args.rows.now.items (place_in c.args.rows.now.items c.args.named.now.target) c.row.result.now (at_place c.args.rows.now.items c.args.named.now.target ∙ c.row.ensures) c.has_more_links.result c.has_more_links.ensures c.if-has_more_links.false file (at_place c.args.rows.now.items c.args.named.now.target ∙ there)) in
-    on_err c.remove_named.result (λ (e : Refusal) refused. subst (λ (n : ℕ). RefusesStep e n c.args.free.now) same refused) (c.remove_named.ensures.refused row file at there)
+    IfErr-weaker c.remove_named.result _ _ (λ (e : Refusal) refused. subst (λ (n : ℕ). RefusesStep e n c.args.free.now) same refused) (c.remove_named.ensures.refused row file at there)
