@@ -12,7 +12,7 @@ use Rattle.nv_held.specs.nv_named.Read.{row_of}
 use Rattle.nv_held.specs.Bytes.{byte_in}
 use Rattle.nv_tree.specs.Tree.{Node, SameNode, SameNodes, SameTree, Tree}
 use Rattle.nv_tree.specs.Calls.{edit}
-use Rattle.nv_calls.specs.Seen.{node_of, tree_of}
+use Rattle.nv_paths.specs.Seen.{node_of, tree_of}
 use Rattle.nv_calls.proofs.CreatedTree.{changed_there, elsewhere, put_there}
 use Rattle.nv_rows.proofs.Places.{row_of_other}
 use Rattle.nv_calls.proofs.RowChange.{unchanged}

@@ -32,15 +32,15 @@ use Rattle.nv_calls.specs.Mount.{IsKept, Mount}
 use Rattle.nv_calls.specs.NameCalls.{ShowsCreated, create_blocks, ended_row, row_blocks}
 use Rattle.nv_steps.specs.NameEntries.{name_entries}
 use Rattle.nv_calls.specs.AtPlaces.{CreatesAt, LeavesRows}
-use Rattle.nv_calls.specs.Spots.{IsNoneNamed, IsSpot, spot_tests}
+use Rattle.nv_paths.specs.Spots.{IsNoneNamed, IsSpot, spot_tests}
 use Rattle.nv_calls.specs.Same.{SameMount}
-use Rattle.nv_calls.specs.Seen.{node_of, tree_of}
+use Rattle.nv_paths.specs.Seen.{node_of, tree_of}
 use Rattle.nv_steps.specs.Steps.{RefusesStep}
 use Rattle.nv_rows.specs.Unused.{unused_number}
 use Rattle.nv_calls.specs.World.{world_of}
 use Rattle.nv_calls.proofs.CreatedRows.{bytes_kept, kept_then, name_absent, was_created}
 use Rattle.nv_calls.proofs.CreatedTree.{created_by, made_tree, named_node, new_node_is, tree_then}
-use Rattle.nv_calls.proofs.CreateTests.{good_name, spot_allows}
+use Rattle.nv_paths.proofs.CreateTests.{good_name, spot_allows}
 use Rattle.nv_calls.proofs.Kept.{rows_rise}
 use Rattle.nv_calls.proofs.Mounts.{kept_of_mounted, kept_when_stopped, mounted_of_kept}
 use Rattle.nv_calls.proofs.NewNumbers.{unused_is}

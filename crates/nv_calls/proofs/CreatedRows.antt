@@ -36,7 +36,7 @@ use Rattle.nv_calls.specs.NameCalls.{ShowsCreated, WasCreated}
 use Rattle.nv_steps.specs.NameEntries.{name_entries, new_held, with_named}
 use Rattle.nv_steps.specs.NewNames.{HasNamed, place_named}
 use Rattle.nv_calls.specs.AtPlaces.{CreatesAt}
-use Rattle.nv_calls.specs.Spots.{IsNoneNamed}
+use Rattle.nv_paths.specs.Spots.{IsNoneNamed}
 use Rattle.nv_steps.specs.Steps.{ShowsRow}
 use Rattle.nv_calls.proofs.CreatedHeld.{all_free, made_lists, made_sound, new_told}
 use Rattle.nv_rows.proofs.PutBack.{is_inserted}

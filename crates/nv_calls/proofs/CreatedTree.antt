@@ -21,7 +21,7 @@ use Rattle.nv_tree.specs.Tree.{Node, SameNode, SameNodes, SameTree, Tree, walk}
 use Rattle.nv_tree.specs.Calls.{created, edit, new_node, on_ok, put_node, with_name}
 use Rattle.nv_rows.specs.Rows.{HasInserted}
 use Rattle.nv_steps.specs.NewNames.{HasNamed, IsNewRow}
-use Rattle.nv_calls.specs.Seen.{node_of, tree_of}
+use Rattle.nv_paths.specs.Seen.{node_of, tree_of}
 use Rattle.nv_steps.proofs.Inserted.{row_of_inserted, row_of_own}
 use Rattle.nv_steps.proofs.NamesCounted.{one_more}
 use Rattle.nv_calls.proofs.RowChange.{unchanged}

@@ -14,11 +14,11 @@ use Rattle.nv_held.specs.Mounted.{IsMounted}
 use Rattle.nv_held.specs.nv_named.Read.{row_of}
 use Rattle.nv_tree.specs.declared.refusal.Refusal.{Refusal}
 use Rattle.nv_tree.specs.Tree.{Node, Tree, and_then, as_directory, name_in, or_not_found, passed, walk}
-use Rattle.nv_calls.specs.Seen.{node_of, tree_of}
+use Rattle.nv_paths.specs.Seen.{node_of, tree_of}
 use Rattle.nv_calls.proofs.CreatedRows.{in_rows, not_held}
 use Rattle.nv_calls.proofs.RowChange.{row_there}
 use Rattle.nv_rows.proofs.Places.{numbered}
-use Rattle.nv_calls.proofs.Walks.{same_number}
+use Rattle.nv_paths.proofs.Walks.{same_number}
 
 -- all names but the last
 abbrev pub way_to : List (List ℕ) → List (List ℕ)

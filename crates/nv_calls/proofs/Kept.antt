@@ -12,7 +12,7 @@ use Rattle.nv_held.specs.nv_check.Cross.{row_key}
 use Rattle.nv_tree.specs.declared.refusal.Refusal.{Refusal}
 use Rattle.nv_tree.specs.Refusals.{Path, first_refusal, stat_tests}
 use Rattle.nv_calls.specs.Mount.{Mount, IsKept}
-use Rattle.nv_calls.specs.Seen.{tree_of}
+use Rattle.nv_paths.specs.Seen.{tree_of}
 
 rises_prop : (rows : List Row) → IsProp (Rises row_key rows)
 rises_prop [] = hlevel props

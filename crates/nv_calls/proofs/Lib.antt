@@ -1,9 +1,6 @@
-pub mod Walks
-pub mod Targets
+pub mod Stated
 pub mod Kept
 pub mod Listed
-mod Spots
-mod Passes
 pub mod FileBytes
 pub mod FreshBlocks
 pub mod Mounts
@@ -18,13 +15,11 @@ pub mod SizeKept
 pub mod CreatedHeld
 pub mod CreatedRows
 pub mod CreatedTree
-pub mod CreateTests
 pub mod TwoRows
 pub mod BothHeld
 pub mod BothMounted
 pub mod BothTree
 pub mod LinkTests
-pub mod LinkSpots
 pub mod RowNumbers
 pub mod LinkedHeld
 pub mod LinkedTree
@@ -34,8 +29,6 @@ pub mod CreateCall
 pub mod PutRow
 pub mod WriteReply
 pub mod NeedsExist
-pub mod NamedAt
-pub mod RemoveTests
 pub mod TakenOut
 pub mod OwnedRow
 pub mod RemovedHeld
@@ -51,7 +44,6 @@ pub mod MovedEntries
 pub mod MovedAcross
 pub mod MovedWithin
 pub mod OneOut
-pub mod MoveSpots
 pub mod MoveTests
 pub mod MoveCall
 pub mod MoveAt

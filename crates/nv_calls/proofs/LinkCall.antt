@@ -30,14 +30,14 @@ use Rattle.nv_steps.specs.NameEntries.{links_entries, name_entries}
 use Rattle.nv_steps.specs.MoreNames.{LinksAt}
 use Rattle.nv_calls.specs.Mount.{IsKept, Mount}
 use Rattle.nv_calls.specs.NameCalls.{ended_row, row_blocks}
-use Rattle.nv_calls.specs.Spots.{IsNoneNamed}
-use Rattle.nv_calls.specs.Places.{IsLinkSpot, link_spot_tests}
-use Rattle.nv_calls.specs.Seen.{LeadsTo, tree_of}
+use Rattle.nv_paths.specs.Spots.{IsNoneNamed}
+use Rattle.nv_paths.specs.Places.{IsLinkSpot, link_spot_tests}
+use Rattle.nv_paths.specs.Seen.{LeadsTo, tree_of}
 use Rattle.nv_steps.specs.Steps.{RefusesStep}
 use Rattle.nv_calls.specs.World.{world_of}
 use Rattle.nv_calls.proofs.BothMounted.{both_bytes, both_kept, both_logs}
 use Rattle.nv_calls.proofs.BothTree.{both_tree}
-use Rattle.nv_calls.proofs.CreateTests.{good_name}
+use Rattle.nv_paths.proofs.CreateTests.{good_name}
 use Rattle.nv_calls.proofs.CreatedRows.{name_absent}
 use Rattle.nv_calls.proofs.CreatedTree.{named_node}
 use Rattle.nv_calls.proofs.Kept.{rows_rise}

@@ -26,7 +26,7 @@ use Rattle.nv_commit.proofs.Called.{linked_faultless}
 use Rattle.nv_steps.specs.NameEntries.{links_entries, name_entries}
 use Rattle.nv_steps.specs.MoreNames.{HasCounted, LinksAt}
 use Rattle.nv_steps.specs.NewNames.{place_named}
-use Rattle.nv_calls.specs.Spots.{IsNoneNamed}
+use Rattle.nv_paths.specs.Spots.{IsNoneNamed}
 use Rattle.nv_steps.specs.Steps.{ShowsRow}
 use Rattle.nv_calls.proofs.BothMounted.{IsRight}
 use Rattle.nv_calls.proofs.CreatedRows.{not_named}

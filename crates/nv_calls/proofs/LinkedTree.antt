@@ -12,7 +12,7 @@ use Rattle.nv_tree.specs.Path.{last_name}
 use Rattle.nv_tree.specs.Tree.{Node, SameNode, Tree, found, walk}
 use Rattle.nv_tree.specs.Calls.{edit, linked, links_at, on_ok, on_some, with_links, with_name}
 use Rattle.nv_steps.specs.MoreNames.{HasCounted}
-use Rattle.nv_calls.specs.Seen.{node_of, tree_of}
+use Rattle.nv_paths.specs.Seen.{node_of, tree_of}
 
 -- The file shows its new count.
 pub counted_node : (R S : Region) {row now : Row} (fresh : List ℕ) (end links time : ℕ) → HasCounted row fresh end links time now → length now.names.names ≡ length row.names.names

@@ -13,7 +13,7 @@ use Rattle.nv_tree.specs.declared.refusal.Refusal.{Refusal}
 use Rattle.nv_tree.specs.declared.refusal.Refusal.TheVariants.{NotFound, NotDirectory}
 use Rattle.nv_tree.specs.Tree.{Node, Tree, walk, found}
 use Rattle.nv_tree.specs.Refusals.{Path, first_refusal, refused_walk, is_no_dir, stat_tests, list_tests}
-use Rattle.nv_calls.specs.Seen.{node_of, tree_of, LeadsTo}
+use Rattle.nv_paths.specs.Seen.{node_of, tree_of, LeadsTo}
 use Rattle.nv_calls.specs.Listing.{name_and_inode, ListsNamesIn}
 
 -- ---- lines with their places, and without

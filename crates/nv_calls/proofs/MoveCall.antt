@@ -25,15 +25,16 @@ use Rattle.nv_tree.specs.Calls.{renamed}
 use Rattle.nv_tree.specs.Refusals.{Path, Tests, first_refusal, has_no_space, rename_tests, writing}
 use Rattle.nv_calls.specs.GrownLogs.{ShowsGrownLog}
 use Rattle.nv_calls.specs.LinkCalls.{ShowsBothGrew}
-use Rattle.nv_calls.specs.MoveCalls.{IsMoveSpot, MovesAcross, MovesAt, end_together, move_blocks, rename_blocks, rename_spot_tests}
+use Rattle.nv_calls.specs.MoveCalls.{MovesAcross, MovesAt, end_together, move_blocks, rename_blocks}
+use Rattle.nv_paths.specs.MoveSpots.{IsMoveSpot, rename_spot_tests}
 use Rattle.nv_steps.specs.Moves.{move_entries}
 use Rattle.nv_calls.specs.Mount.{IsKept, Mount}
 use Rattle.nv_calls.specs.NameCalls.{ended_row, row_blocks}
 use Rattle.nv_steps.specs.NameEntries.{name_entries}
-use Rattle.nv_calls.specs.Seen.{LeadsTo, tree_of}
+use Rattle.nv_paths.specs.Seen.{LeadsTo, tree_of}
 use Rattle.nv_steps.specs.Steps.{RefusesStep}
 use Rattle.nv_calls.specs.World.{world_of}
-use Rattle.nv_calls.proofs.CreateTests.{good_name}
+use Rattle.nv_paths.proofs.CreateTests.{good_name}
 use Rattle.nv_calls.proofs.Kept.{rows_rise}
 use Rattle.nv_calls.proofs.MoveTests.{rename_allows}
 use Rattle.nv_calls.proofs.MovedAcross.{across_kept, across_logs, across_tree}

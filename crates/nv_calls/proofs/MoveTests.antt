@@ -3,8 +3,8 @@ use Rattle.std.proofs.Common.{◌≡◌, ℕ, [], ◌∷◌, ◌++◌, append_as
 use Rattle.nv_tree.specs.declared.refusal.Refusal.{Refusal}
 use Rattle.nv_tree.specs.Tree.{Tree}
 use Rattle.nv_tree.specs.Refusals.{Path, Tests, World, first_refusal, has_no_space, is_bad_name, is_into_itself, is_missing, is_there, rename_tests, walk_tests, writing}
-use Rattle.nv_calls.specs.MoveCalls.{rename_spot_tests}
-use Rattle.nv_calls.proofs.Tests.{passed_before, refused_before}
+use Rattle.nv_paths.specs.MoveSpots.{rename_spot_tests}
+use Rattle.nv_paths.proofs.Refusing.{passed_before, refused_before}
 
 abbrev last_tests : Tree → Path → Path → Tests
 last_tests t p q = is_missing t p ∷ is_into_itself t p q ∷ is_there t q ∷ []

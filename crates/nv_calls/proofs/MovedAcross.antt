@@ -32,10 +32,11 @@ use Rattle.nv_tree.specs.Tree.{SameTree, Tree, found, walk}
 use Rattle.nv_tree.specs.Calls.{edit, on_ok, on_some, renamed, with_name, without_name}
 use Rattle.nv_calls.specs.LinkCalls.{ShowsBothGrew}
 use Rattle.nv_calls.specs.Mount.{IsKept}
-use Rattle.nv_calls.specs.MoveCalls.{IsMoveSpot, MovesAcross}
+use Rattle.nv_calls.specs.MoveCalls.{MovesAcross}
+use Rattle.nv_paths.specs.MoveSpots.{IsMoveSpot}
 use Rattle.nv_steps.specs.NameEntries.{name_entries}
 use Rattle.nv_steps.specs.NewNames.{place_named}
-use Rattle.nv_calls.specs.Seen.{tree_of}
+use Rattle.nv_paths.specs.Seen.{tree_of}
 use Rattle.nv_steps.specs.Steps.{ShowsRow}
 use Rattle.nv_calls.proofs.BothMounted.{IsRight, both_bytes, both_kept, both_logs}
 use Rattle.nv_calls.proofs.BothTree.{both_tree}

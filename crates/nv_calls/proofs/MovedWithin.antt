@@ -38,11 +38,11 @@ use Rattle.nv_tree.specs.Tree.{SameNode, SameTree, Tree, walk}
 use Rattle.nv_tree.specs.Tree as tree
 use Rattle.nv_tree.specs.Calls.{edit, renamed, with_name, without_name}
 use Rattle.nv_calls.specs.GrownLogs.{ShowsGrownLog}
-use Rattle.nv_calls.specs.MoveCalls.{IsMoveSpot}
+use Rattle.nv_paths.specs.MoveSpots.{IsMoveSpot}
 use Rattle.nv_steps.specs.Moves.{MovesWithin, move_entries, move_place}
 use Rattle.nv_calls.specs.Mount.{IsKept}
-use Rattle.nv_calls.specs.Spots.{IsNoneNamed}
-use Rattle.nv_calls.specs.Seen.{node_of, tree_of}
+use Rattle.nv_paths.specs.Spots.{IsNoneNamed}
+use Rattle.nv_paths.specs.Seen.{node_of, tree_of}
 use Rattle.nv_steps.specs.Steps.{LogFollows, ShowsRow}
 use Rattle.nv_calls.proofs.CreatedRows.{in_rows, name_absent}
 use Rattle.nv_calls.proofs.CreatedTree.{first_of}

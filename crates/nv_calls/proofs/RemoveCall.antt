@@ -23,19 +23,19 @@ use Rattle.nv_calls.specs.AtPlaces.{CanGo, RemovesAt}
 use Rattle.nv_calls.specs.Mount.{IsKept, Mount}
 use Rattle.nv_calls.specs.NameCalls.{ended_row, name_blocks, row_blocks}
 use Rattle.nv_steps.specs.NameEntries.{name_entries}
-use Rattle.nv_calls.specs.NamedAt.{IsNamedAt, rmdir_spot_tests}
+use Rattle.nv_paths.specs.NamedAt.{IsNamedAt, rmdir_spot_tests}
 use Rattle.nv_steps.specs.NewNames.{CanName}
 use Rattle.nv_calls.specs.RemoveCalls.{ShowsRemoved}
-use Rattle.nv_calls.specs.Seen.{LeadsTo, tree_of}
+use Rattle.nv_paths.specs.Seen.{LeadsTo, tree_of}
 use Rattle.nv_calls.specs.World.{world_of}
-use Rattle.nv_calls.proofs.CreateTests.{good_name}
+use Rattle.nv_paths.proofs.CreateTests.{good_name}
 use Rattle.nv_calls.proofs.Kept.{rows_rise}
 use Rattle.nv_calls.proofs.NewNumbers.{can_name}
 use Rattle.nv_super.proofs.Members.{stands}
 use Rattle.nv_calls.proofs.RowNumbers.{row_number}
 use Rattle.nv_calls.proofs.RemovedRows.{bytes_kept, kept_then, numbers_differ, was_removed}
 use Rattle.nv_calls.proofs.RemovedTree.{lost_node, removed_by, removed_tree, tree_less}
-use Rattle.nv_calls.proofs.RemoveTests.{rmdir_allows}
+use Rattle.nv_paths.proofs.RemoveTests.{rmdir_allows}
 use Rattle.nv_steps.proofs.RowOf.{row_at}
 
 module _ {R S : Region} {s : Super} {rows news : List Row} {free after : FreeLists} {faults : List Fault} {read_only stopped : Bool} (kept : IsKept R s rows free faults read_only stopped) (runs : stopped ≡ false) (writes : read_only ≡ false)

@@ -19,7 +19,7 @@ use Rattle.nv_tree.specs.Path.{last_name}
 use Rattle.nv_tree.specs.Tree.{Node, SameNode, SameNodes, SameTree, Tree, found, walk}
 use Rattle.nv_tree.specs.Calls.{edit, on_ok, on_some, put_node, removed, without_name}
 use Rattle.nv_steps.specs.LessNames.{HasLost}
-use Rattle.nv_calls.specs.Seen.{node_of, tree_of}
+use Rattle.nv_paths.specs.Seen.{node_of, tree_of}
 use Rattle.nv_calls.proofs.CreatedTree.{changed_there, elsewhere, put_there}
 use Rattle.nv_steps.proofs.NamesCounted.{one_less}
 use Rattle.nv_rows.proofs.Places.{row_of_other}

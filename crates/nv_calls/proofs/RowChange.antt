@@ -30,7 +30,7 @@ use Rattle.nv_tree.specs.Tree.{Node, SameNode, SameNodes, SameTree}
 use Rattle.nv_tree.specs.Calls.{edit}
 use Rattle.nv_calls.specs.Mount.{IsKept, Mount}
 use Rattle.nv_calls.specs.Same.{SameMount}
-use Rattle.nv_calls.specs.Seen.{node_of, tree_of}
+use Rattle.nv_paths.specs.Seen.{node_of, tree_of}
 use Rattle.nv_steps.specs.Steps.{LogFollows, ShowsRow}
 use Rattle.nv_steps.specs.Taken.{SamePools}
 use Rattle.nv_steps.proofs.RowOf.{row_at}

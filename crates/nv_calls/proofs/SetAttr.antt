@@ -22,7 +22,7 @@ use Rattle.nv_calls.specs.AttributesCall.{attributes_blocks}
 use Rattle.nv_calls.specs.GrownLogs.{ShowsGrownLog}
 use Rattle.nv_calls.specs.Mount.{IsKept, Mount}
 use Rattle.nv_calls.specs.Same.{SameMount}
-use Rattle.nv_calls.specs.Seen.{LeadsTo, node_of, tree_of}
+use Rattle.nv_paths.specs.Seen.{LeadsTo, node_of, tree_of}
 use Rattle.nv_steps.specs.Steps.{LeavesStep, RefusesStep}
 use Rattle.nv_calls.specs.World.{world_of}
 use Rattle.nv_calls.proofs.Mounts.{kept_when_stopped}

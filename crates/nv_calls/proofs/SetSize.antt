@@ -18,12 +18,13 @@ use Rattle.nv_tree.specs.Tree.{Node, SameNode, SameTree, Tree, found, is_directo
 use Rattle.nv_tree.specs.Calls.{edit, on_some, resized, with_size}
 use Rattle.nv_tree.specs.Refusals.{Path, Tests, first_refusal, has_no_space, is_bad, is_dir, is_directory_at, is_missing, is_too_large, set_size_tests, stat_tests, walk_tests, writing}
 use Rattle.nv_calls.specs.Mount.{Mount}
-use Rattle.nv_calls.specs.Seen.{LeadsTo, node_of, tree_of}
+use Rattle.nv_paths.specs.Seen.{LeadsTo, node_of, tree_of}
 use Rattle.nv_steps.specs.Sizes.{HasSize, SameBytes, sized}
 use Rattle.nv_calls.specs.SizeCall.{ShowsResizedLog, resized_blocks, size_blocks}
 use Rattle.nv_steps.specs.Steps.{RefusesStep}
 use Rattle.nv_calls.specs.World.{world_of}
-use Rattle.nv_calls.proofs.Tests.{enough_space, passed_before, refused_before, stat_first, stat_goes_on, too_few}
+use Rattle.nv_calls.proofs.Tests.{enough_space, stat_first, stat_goes_on, too_few}
+use Rattle.nv_paths.proofs.Refusing.{passed_before, refused_before}
 
 -- ---- the tests before that of the space
 

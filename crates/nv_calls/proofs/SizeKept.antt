@@ -16,7 +16,7 @@ use Rattle.nv_held.specs.Held.{Held, Store}
 use Rattle.nv_held.specs.Bytes.{byte_in}
 use Rattle.nv_held.specs.Mounted.{ShowsSound}
 use Rattle.nv_calls.specs.Mount.{IsKept}
-use Rattle.nv_calls.specs.Seen.{node_of}
+use Rattle.nv_paths.specs.Seen.{node_of}
 use Rattle.nv_steps.specs.Sizes.{CanResize, Resizes, SameBytes, blocks_from, sized}
 use Rattle.nv_calls.specs.SizeCall.{ShowsResizedLog}
 use Rattle.nv_steps.specs.Steps.{ShowsRow}

@@ -1,5 +1,5 @@
 -- The tests of writing calls on one path, by those of `stat` and by what is needed.
-use Rattle.std.proofs.Common.{◌≡◌, ◌⊎◌, inl, inr, ℕ, ◌%◌, ◌<◌, ◌≤◌, nat_lt, Bool, true, false, cond, List, [], ◌∷◌, ◌++◌, append_assoc, refl, ap, sym, ◌∙◌, subst, arith, Option, Some, None, Result, Ok, Err, IfErr, IsTrue, is_none, not}
+use Rattle.std.proofs.Common.{◌≡◌, ◌⊎◌, inl, inr, ℕ, ◌%◌, ◌<◌, ◌≤◌, nat_lt, Bool, true, false, cond, List, [], ◌∷◌, ◌++◌, append_assoc, ap, sym, ◌∙◌, subst, arith, Option, Some, None, Result, Ok, Err, IfErr, IsTrue, is_none, not}
 use Rattle.std.specs.Option.{option_and_then, option_map_or}
 use Rattle.std.proofs.lemmas.Bool.Decides.{nat_tests}
 use Rattle.nv_alloc.specs.Taking.{all_blocks}
@@ -8,31 +8,18 @@ use Rattle.nv_logpage.specs.Append.{needed}
 use Rattle.nv_scan.specs.declared.piece.Row.{Row}
 use Rattle.nv_held.specs.nv_named.Read.{row_of}
 use Rattle.nv_tree.specs.declared.refusal.Refusal.{Refusal}
-use Rattle.nv_tree.specs.declared.refusal.Refusal.TheVariants.{BadCpu, Memory, NoSpace, NotDirectory, NotFound, ReadOnly, Stopped}
+use Rattle.nv_tree.specs.declared.refusal.Refusal.TheVariants.{BadCpu, Memory, NoSpace, NotFound, ReadOnly, Stopped}
 use Rattle.nv_tree.specs.Path.{IsPath, Says}
-use Rattle.nv_tree.specs.Tree.{Node, Tree, and_then, as_directory, found, is_directory, name_in, or_not_found, walk}
+use Rattle.nv_tree.specs.Tree.{Node, Tree, found, walk}
 use Rattle.nv_tree.specs.Refusals.{Path, Tests, World, first_refusal, has_no_space, is_bad, is_missing, refused_walk, stat_tests, walk_tests, writing}
 use Rattle.nv_calls.specs.GrownLogs.{log_blocks}
 use Rattle.nv_calls.specs.Mount.{Mount}
-use Rattle.nv_calls.specs.Seen.{LeadsTo}
+use Rattle.nv_paths.specs.Seen.{LeadsTo}
 use Rattle.nv_steps.specs.Steps.{RefusesStep}
 use Rattle.nv_calls.specs.World.{world_of}
+use Rattle.nv_paths.proofs.Refusing.{passed_before, refused_before, walk_goes_on}
 
 -- ---- tests behind others
-
-pub refused_before : (a b : Tests) (e : Refusal) → first_refusal a ≡ Some e → first_refusal (a ++ b) ≡ Some e
-refused_before [] b e h = absurd (cc)
-refused_before (x ∷ a) b e h = by x.0 (refused_before a b e) h where
-  by : (t : Bool) → (first_refusal a ≡ Some e → first_refusal (a ++ b) ≡ Some e) → cond t (Some x.1) (first_refusal a) ≡ Some e → cond t (Some x.1) (first_refusal (a ++ b)) ≡ Some e
-  by true rest h = h
-  by false rest h = rest h
-
-pub passed_before : (a b : Tests) → first_refusal a ≡ None → first_refusal (a ++ b) ≡ first_refusal b
-passed_before [] b h = refl
-passed_before (x ∷ a) b h = by x.0 (passed_before a b) h where
-  by : (t : Bool) → (first_refusal a ≡ None → first_refusal (a ++ b) ≡ first_refusal b) → cond t (Some x.1) (first_refusal a) ≡ None → cond t (Some x.1) (first_refusal (a ++ b)) ≡ first_refusal b
-  by true rest h = absurd (cc)
-  by false rest h = rest h
 
 -- the tests of `stat` come first
 pub stat_first : (t : Tree) (p : Path) (more : Tests) → is_bad p ∷ walk_tests t p ++ is_missing t p ∷ more ≡ stat_tests t p ++ more
@@ -65,27 +52,6 @@ blocks_there rows t entries row node text is leads (Some names) says none =
     ap (λ (o : Option ℕ). option_map_or (λ (r : Row). needed (r.tail % 4096) (entries r)) (option_and_then (row_of rows) o) 0) led.leads ∙ ap (λ (o : Option Row). option_map_or (λ (r : Row). needed (r.tail % 4096) (entries r)) o 0) is
 
 -- ---- no test answers `Stopped`
-
-pub walk_goes_on : (t : Tree) (d : ℕ) (names : List (List ℕ)) → walk t d names ≡ Err Stopped → ⊥
-walk_goes_on t d [] e = absurd (cc)
-walk_goes_on t d (name ∷ []) e = here (t d) e where
-  here : (o : Option Node) → as_directory d o ≡ Err Stopped → ⊥
-  here None e = absurd (cc)
-  here (Some node) e = by (is_directory node.kind) e where
-    by : (b : Bool) → cond b (Ok d) (Err NotDirectory) ≡ Err Stopped → ⊥
-    by true e = absurd (cc)
-    by false e = absurd (cc)
-walk_goes_on t d (name ∷ next ∷ names) e = here (t d) (λ i. walk_goes_on t i (next ∷ names)) e where
-  named : (o : Option ℕ) → ((i : ℕ) → walk t i (next ∷ names) ≡ Err Stopped → ⊥) → and_then (or_not_found o) (λ i. walk t i (next ∷ names)) ≡ Err Stopped → ⊥
-  named None on e = absurd (cc)
-  named (Some i) on e = on i e
-
-  here : (o : Option Node) → ((i : ℕ) → walk t i (next ∷ names) ≡ Err Stopped → ⊥) → and_then (as_directory d o) (λ j. and_then (or_not_found (name_in t j name)) (λ i. walk t i (next ∷ names))) ≡ Err Stopped → ⊥
-  here None on e = absurd (cc)
-  here (Some node) on e = by (is_directory node.kind) e where
-    by : (b : Bool) → and_then (cond b (Ok d) (Err NotDirectory)) (λ j. and_then (or_not_found (name_in t j name)) (λ i. walk t i (next ∷ names))) ≡ Err Stopped → ⊥
-    by true e = named (name_in t d name) on e
-    by false e = absurd (cc)
 
 pub stat_goes_on : (t : Tree) (p : Path) → first_refusal (stat_tests t p) ≡ Some Stopped → ⊥
 stat_goes_on t None e = absurd (cc)

@@ -28,16 +28,16 @@ use Rattle.nv_calls.specs.LinkCalls.{ShowsBothGrew, links_blocks}
 use Rattle.nv_steps.specs.NameEntries.{links_entries, name_entries}
 use Rattle.nv_calls.specs.Mount.{IsKept, Mount}
 use Rattle.nv_calls.specs.NameCalls.{row_blocks}
-use Rattle.nv_calls.specs.NamedAt.{IsNamedAt, unlink_spot_tests}
+use Rattle.nv_paths.specs.NamedAt.{IsNamedAt, unlink_spot_tests}
 use Rattle.nv_calls.specs.RemoveCalls.{ShowsRemoved}
-use Rattle.nv_calls.specs.Seen.{LeadsTo, tree_of}
+use Rattle.nv_paths.specs.Seen.{LeadsTo, tree_of}
 use Rattle.nv_calls.specs.UnlinkCalls.{has_more_links, unlink_blocks}
 use Rattle.nv_steps.specs.Unlinks.{UnlinksAt}
 use Rattle.nv_calls.specs.AtPlaces.{Releases, release_blocks}
 use Rattle.nv_calls.specs.World.{world_of}
 use Rattle.nv_calls.proofs.BothMounted.{both_bytes, both_kept, both_logs}
 use Rattle.nv_calls.proofs.BothTree.{both_tree}
-use Rattle.nv_calls.proofs.CreateTests.{good_name}
+use Rattle.nv_paths.proofs.CreateTests.{good_name}
 use Rattle.nv_calls.proofs.Kept.{rows_rise}
 use Rattle.nv_calls.proofs.LinkedHeld.{kinds_differ}
 use Rattle.nv_calls.proofs.LinkedTree.{counted_node, links_told}
@@ -45,7 +45,7 @@ use Rattle.nv_steps.proofs.NamesCounted.{as_many}
 use Rattle.nv_super.proofs.Members.{stands}
 use Rattle.nv_calls.proofs.RemoveCall.{removal_blocks, removed_kept, removed_log, tree_is}
 use Rattle.nv_calls.proofs.RemovedTree.{lost_node}
-use Rattle.nv_calls.proofs.RemoveTests.{unlink_allows}
+use Rattle.nv_paths.proofs.RemoveTests.{unlink_allows}
 use Rattle.nv_calls.proofs.RowNumbers.{row_number}
 use Rattle.nv_steps.proofs.RowOf.{row_at}
 use Rattle.nv_calls.proofs.UnlinkedHeld.{unlink_right}

@@ -8,6 +8,7 @@ use Rattle.std.proofs.Props.{props}
 use Rattle.std.proofs.lemmas.Bool.{cases_lt}
 use Rattle.std.proofs.lemmas.Bool.Decides.{nat_tests}
 use Rattle.std.proofs.lemmas.Option.{same_Some}
+use Rattle.nv_super.proofs.Options.{some_only}
 use Rattle.nv_region.specs.Region.{Region}
 use Rattle.nv_super.specs.declared.superblock.Super.{Super}
 use Rattle.nv_super.specs.declared.faults.Fault.{Fault}
@@ -32,7 +33,7 @@ use Rattle.nv_tree.specs.Refusals.{Path, Tests, first_refusal, has_no_space, is_
 use Rattle.nv_tree.proofs.Same.{same_itself}
 use Rattle.nv_calls.specs.GrownLogs.{LogGrew}
 use Rattle.nv_calls.specs.Mount.{IsKept, Mount}
-use Rattle.nv_calls.specs.Seen.{LeadsTo, node_of, tree_of}
+use Rattle.nv_paths.specs.Seen.{LeadsTo, node_of, tree_of}
 use Rattle.nv_calls.specs.World.{world_of}
 use Rattle.nv_steps.specs.Writes.{NeedsBlocks, data_blocks, data_entries, plan_of}
 use Rattle.nv_steps.specs.Written.{RefusesWrite, WritesFile}
@@ -43,7 +44,8 @@ use Rattle.nv_calls.proofs.OneRow.{shows_row}
 use Rattle.nv_super.proofs.Members.{stands}
 use Rattle.nv_calls.proofs.RowChange.{log_grew}
 use Rattle.nv_calls.proofs.SetSize.{front_tests}
-use Rattle.nv_calls.proofs.Tests.{enough_space, passed_before, refused_before, stat_first, too_few}
+use Rattle.nv_calls.proofs.Tests.{enough_space, stat_first, too_few}
+use Rattle.nv_paths.proofs.Refusing.{passed_before, refused_before}
 
 -- ---- the tests
 
@@ -152,9 +154,6 @@ written_node R S time w planned bytes = record {
   bytes = λ x below. bytes x (subst (λ (z : ℕ). x < z) (ap (λ (n : Numbers). n.size) w.numbers) below);
 }
 
-some_held : {a b : Held} → Some a ≡ Some b → a ≡ b
-some_held e = cc
-
 plan_same : (f g : ℕ → Option ℕ) (size offset count time : ℕ) → f (size / 4096) ≡ g (size / 4096) → plan_of f size offset count time ≡ plan_of g size offset count time
 plan_same f g size offset count time same = ap (λ (o : Option ℕ). plan_of (λ q. o) size offset count time) same
 
@@ -177,7 +176,7 @@ write_logged {P} region {n} {m} same {S} {after} {cpu} {plan} {offset} {new} {ro
         let shown = shows_row {free = n.free} mounted kept.lists row there in
         let v = shown.1 in
         let both : Some shown.0 ≡ Some h = sym v.holds ∙ ap held number ∙ is in
-        let one : shown.0 ≡ h = some_held both in
+        let one : shown.0 ≡ h = some_only _ _ both in
         let told = v.told in
         let index : block_at row.index (row.numbers.size / 4096) ≡ block_of (good_in (fixed_layout n.sup) h) (row.numbers.size / 4096) = subst (λ (g : Held). block_at row.index (row.numbers.size / 4096) ≡ block_of (good_in (fixed_layout n.sup) g) (row.numbers.size / 4096)) one (told.index (row.numbers.size / 4096)) in
         let equal : plan ≡ plan_of (block_of (good_in (fixed_layout n.sup) h)) node.size offset (length new) time =

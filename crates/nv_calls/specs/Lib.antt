@@ -1,5 +1,4 @@
 pub mod Mount
-pub mod Seen
 pub mod World
 pub mod Same
 pub mod AttributesCall
@@ -7,8 +6,6 @@ pub mod Stat
 pub mod Listing
 pub mod Reading
 pub mod WriteCall
-pub mod Places
-pub mod NamedAt
 pub mod UnlinkCalls
 pub use Rattle.nv_held.specs as nv_held
 pub use Rattle.nv_rows.specs as nv_rows
@@ -17,7 +14,6 @@ pub mod MoveCalls
 pub mod LinkCalls
 pub mod NameCalls
 pub mod RemoveCalls
-pub mod Spots
 pub mod AtPlaces
 pub mod GrownLogs
 pub mod SizeCall

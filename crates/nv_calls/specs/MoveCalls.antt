@@ -1,22 +1,18 @@
 -- What `rename` is about, what it writes, and what it makes of the rows.
-use Rattle.std.specs.Prelude.{◌≡◌, ◌≢◌, ◌⊎◌, ℕ, ◌+◌, ◌%◌, nat_eq, Bool, false, if◌then◌else◌, List, [], ◌∷◌, ◌++◌, set, slice_get, Some, None, Result, Ok, Err}
-use Rattle.std.specs.List.{Contains}
+use Rattle.std.specs.Prelude.{◌≡◌, ◌≢◌, ◌⊎◌, ℕ, ◌+◌, ◌%◌, nat_eq, Bool, false, if◌then◌else◌, List, set, slice_get, Some, None, Result, Ok, Err}
 use Rattle.nv_region.specs.Region.{Region}
 use Rattle.nv_super.specs.declared.superblock.Super.{Super}
-use Rattle.nv_super.specs.declared.kind.Kind.TheVariants.{Directory}
 use Rattle.nv_alloc.specs.FreeValue.{FreeLists}
 use Rattle.nv_entry.specs.declared.entry.Operation.TheVariants.{Add, Remove}
 use Rattle.nv_logpage.specs.Append.{needed}
 use Rattle.nv_scan.specs.declared.piece.Row.{Row}
 use Rattle.nv_tree.specs.declared.refusal.Refusal.{Refusal}
 use Rattle.nv_tree.specs.Path.{last_name}
-use Rattle.nv_tree.specs.Tree.{Tree, passed, walk}
-use Rattle.nv_tree.specs.Refusals.{Path, Tests, is_bad_name, is_into_itself, is_missing, is_there, walk_tests}
+use Rattle.nv_tree.specs.Tree.{Tree, walk}
+use Rattle.nv_tree.specs.Refusals.{Path}
 use Rattle.nv_steps.specs.MoreNames.{GetsName, GrowsTwo}
 use Rattle.nv_calls.specs.NameCalls.{ended_row, name_blocks, row_blocks}
 use Rattle.nv_steps.specs.NameEntries.{name_entries}
-use Rattle.nv_calls.specs.NamedAt.{IsNamedAt}
-use Rattle.nv_calls.specs.Places.{IsFreeName}
 use Rattle.nv_steps.specs.Unlinks.{LosesName}
 use Rattle.nv_steps.specs.Moves.{MovesWithin, move_entries}
 
@@ -36,17 +32,6 @@ rename_blocks rows t (Some names) None = 0
 rename_blocks rows t (Some names) (Some others) = if end_together (walk t 1 names) (walk t 1 others) then row_blocks (ended_row rows (walk t 1 names)) (move_entries 0 (last_name names) (last_name others) 0) else name_blocks rows t (Some names) + name_blocks rows t (Some others)
 
 -- ---- what it is about
-
--- the tests of `rename` between those of every writing call and that for space
-abbrev pub rename_spot_tests : Tree → Path → Path → Tests
-rename_spot_tests t p q = is_bad_name p ∷ is_bad_name q ∷ walk_tests t p ++ walk_tests t q ++ is_missing t p ∷ is_into_itself t p q ∷ is_there t q ∷ []
-
--- The first path's name stands for the inode whose row is at a place, the second ends in a free name, and the way to that
--- doesn't pass the inode where it is a directory.
-pub record IsMoveSpot (t : Tree) (rows : List Row) (names others : List (List ℕ)) (place : ℕ) (name : List ℕ) (target end : ℕ) (other : List ℕ) : Type 0 where
-  pub from : IsNamedAt t rows names place name target
-  pub spot : IsFreeName t rows others end other
-  pub apart : (row : Row) → slice_get rows target ≡ Some row → row.kind ≡ Directory → Contains (passed t 1 others) row.inode → ⊥
 
 -- ---- rows
 

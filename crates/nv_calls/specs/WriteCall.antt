@@ -11,7 +11,7 @@ use Rattle.nv_held.specs.Held.{Held, Store}
 use Rattle.nv_tree.specs.Refusals.{Path, target}
 use Rattle.nv_calls.specs.GrownLogs.{ShowsGrownLog}
 use Rattle.nv_calls.specs.Mount.{Mount}
-use Rattle.nv_calls.specs.Seen.{tree_of}
+use Rattle.nv_paths.specs.Seen.{tree_of}
 use Rattle.nv_steps.specs.Writes.{NeedsBlocks, data_blocks, data_entries, plan_of}
 use Rattle.nv_steps.specs.declared.planning.Plan.{Plan}
 

@@ -15,13 +15,13 @@ ghost use Rattle.nv_steps.specs.Attributes.{attributes};
 ghost use Rattle.nv_calls.specs.AttributesCall.{attributes_blocks};
 ghost use Rattle.nv_calls.specs.GrownLogs.{ShowsGrownLog};
 ghost use Rattle.nv_calls.specs.Same.{KeepsMount, SameMount};
-ghost use Rattle.nv_calls.specs.Seen.{LeadsTo, tree_of};
+ghost use Rattle.nv_paths.specs.Seen.{LeadsTo, tree_of};
 ghost use Rattle.nv_calls.specs.World.{world_of};
 
 use crate::Fs;
-use crate::walking::row_at;
 use crate::writing::is_stop;
 use nv_entry::AttrEntry;
+use nv_paths::row_at;
 use nv_region::Pmem;
 use nv_steps::change_attributes;
 use nv_tree::Refusal;

@@ -1,17 +1,26 @@
 //! A mounted file system: the memory, and what recovery found in its region.
 
-ghost use Rattle.std.specs.Prelude.{◌≡◌, false};
+ghost use Rattle.std.specs.Prelude.{◌≡◌, ℕ, List, IsTrue, IfOk, Result, false};
+ghost use Rattle.std.specs.Result.{result_err};
+ghost use Rattle.std.specs.List.{Contains};
 ghost use Rattle.nv_journal.specs.Undo.{undone};
 ghost use Rattle.nv_held.specs.nv_outcome.Outcome.{IsOutcome};
 ghost use Rattle.nv_held.specs.nv_outcome.Same.{lasting_outcome};
 ghost use Rattle.nv_held.specs.nv_outcome.Answer.{outcome_of};
+ghost use Rattle.nv_tree.specs.Path.{IsPath, Says};
+ghost use Rattle.nv_tree.specs.Refusals.{Path, first_refusal, stat_tests};
+ghost use Rattle.nv_tree.specs.declared.refusal.Refusal.{Refusal as RefusalValue};
+ghost use Rattle.nv_paths.specs.Seen.{node_of, tree_of, LeadsTo};
 ghost use Rattle.nv_calls.specs.Mount.{IsKept, has_faults};
 
 use nv_alloc::Allocators;
 use nv_held::Recovered;
 use nv_region::{Fuse, MemRegion, Pmem};
+use nv_paths::row_at;
 use nv_rows::Rows;
+use nv_scan::Row;
 use nv_super::{Fault, Super};
+use nv_tree::Refusal;
 use std::alloc::Global;
 use std::marker::Model;
 
@@ -125,6 +134,19 @@ impl<P: Pmem + Drop> Fs<P> {
     {
         // Its type's promise is known where a field is used.
         let _ = &self.sup;
+    }
+
+    /// The row of the inode in use that a path leads to, or the refusal that `stat` has.
+    pub(crate) fn target(&self, path: &[u8]) -> Result<&Row, Refusal>
+        ensures stopped { IsTrue self.now.stopped → result ≡ Result.Err RefusalValue.Stopped }
+        ensures row { (names : List (List ℕ)) → IsPath path.now names → IfOk result (λ r. LeadsTo (tree_of (P.region self.now.memory) self.now.rows) names r.now.inode (node_of (P.region self.now.memory) r.now)) }
+        ensures held { IfOk result (λ r. Contains self.now.rows r.now) }
+        ensures refused { self.now.stopped ≡ false → (p : Path) → Says path.now p → first_refusal (stat_tests (tree_of (P.region self.now.memory) self.now.rows) p) ≡ result_err result }
+    {
+        if self.stopped {
+            return Err(Refusal::Stopped);
+        }
+        row_at(&self.rows, path)
     }
 }
 

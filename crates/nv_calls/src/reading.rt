@@ -6,7 +6,7 @@ ghost use Rattle.nv_tree.specs.Path.{IsPath, Says};
 ghost use Rattle.nv_tree.specs.Calls.{bytes_read};
 ghost use Rattle.nv_tree.specs.Refusals.{Path, first_refusal, read_tests};
 ghost use Rattle.nv_tree.specs.declared.refusal.Refusal.{Refusal};
-ghost use Rattle.nv_calls.specs.Seen.{node_of, tree_of};
+ghost use Rattle.nv_paths.specs.Seen.{node_of, tree_of};
 ghost use Rattle.nv_calls.specs.Reading.{IsRead};
 
 use crate::Fs;

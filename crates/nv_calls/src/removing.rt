@@ -19,8 +19,8 @@ ghost use Rattle.nv_steps.specs.NewNames.{CanName};
 ghost use Rattle.nv_calls.specs.AtPlaces.{LeavesRows, RemovesAt};
 ghost use Rattle.nv_steps.specs.Steps.{RefusesStep};
 
-use crate::named::Named;
 use nv_alloc::Allocators;
+use nv_paths::Named;
 use nv_region::Pmem;
 use nv_rows::Rows;
 use nv_scan::Row;

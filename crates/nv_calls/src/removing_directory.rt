@@ -16,13 +16,13 @@ ghost use Rattle.nv_calls.specs.NameCalls.{name_blocks};
 ghost use Rattle.nv_steps.specs.NameEntries.{name_entries};
 ghost use Rattle.nv_calls.specs.RemoveCalls.{ShowsRemoved};
 ghost use Rattle.nv_calls.specs.Same.{KeepsMount, SameMount};
-ghost use Rattle.nv_calls.specs.Seen.{LeadsTo, tree_of};
+ghost use Rattle.nv_paths.specs.Seen.{LeadsTo, tree_of};
 ghost use Rattle.nv_calls.specs.World.{world_of};
 
 use crate::Fs;
-use crate::named::rmdir_for;
 use crate::removing::remove_named;
 use crate::writing::is_stop;
+use nv_paths::rmdir_for;
 use nv_region::Pmem;
 use nv_tree::Refusal;
 

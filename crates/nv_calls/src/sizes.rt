@@ -16,14 +16,14 @@ ghost use Rattle.nv_tree.specs.Calls.{resized};
 ghost use Rattle.nv_tree.specs.Refusals.{Path, first_refusal, is_dir, is_too_large, set_size_tests, stat_tests};
 ghost use Rattle.nv_tree.specs.declared.refusal.Refusal.{Refusal as RefusalValue};
 ghost use Rattle.nv_calls.specs.Same.{KeepsMount, SameMount};
-ghost use Rattle.nv_calls.specs.Seen.{LeadsTo, node_of, tree_of};
+ghost use Rattle.nv_paths.specs.Seen.{LeadsTo, node_of, tree_of};
 ghost use Rattle.nv_calls.specs.SizeCall.{ShowsResizedLog, resized_blocks};
 ghost use Rattle.nv_calls.specs.World.{world_of};
 
 use crate::Fs;
-use crate::walking::row_at;
 use crate::writing::is_stop;
 use nv_entry::AttrEntry;
+use nv_paths::row_at;
 use nv_region::Pmem;
 use nv_rows::Rows;
 use nv_scan::Row;

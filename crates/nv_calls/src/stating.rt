@@ -5,7 +5,7 @@ ghost use Rattle.nv_region.specs.Region.{Region};
 ghost use Rattle.nv_tree.specs.Path.{IsPath, Says};
 ghost use Rattle.nv_tree.specs.Refusals.{Path, first_refusal, stat_tests};
 ghost use Rattle.nv_tree.specs.declared.refusal.Refusal.{Refusal};
-ghost use Rattle.nv_calls.specs.Seen.{node_of, tree_of};
+ghost use Rattle.nv_paths.specs.Seen.{node_of, tree_of};
 ghost use Rattle.nv_calls.specs.Stat.{stat_of, IsStat};
 
 use crate::Fs;

@@ -15,7 +15,7 @@ ghost use Rattle.nv_tree.specs.Refusals.{Path, first_refusal, write_tests};
 ghost use Rattle.nv_tree.specs.declared.refusal.Refusal.{Refusal as RefusalValue};
 ghost use Rattle.nv_steps.specs.Writes.{plan_of};
 ghost use Rattle.nv_calls.specs.Same.{KeepsMount, SameMount};
-ghost use Rattle.nv_calls.specs.Seen.{LeadsTo, tree_of};
+ghost use Rattle.nv_paths.specs.Seen.{LeadsTo, tree_of};
 ghost use Rattle.nv_calls.specs.World.{world_of};
 ghost use Rattle.nv_calls.specs.WriteCall.{ShowsLogWrite, WriteNeeds};
 

@@ -21,7 +21,7 @@ use Rattle.nv_text.specs.Report.{stat_line}
 use Rattle.nv_text.specs.Names.{data_line}
 use Rattle.nv_tree.specs.Calls.{bytes_read, links_at}
 use Rattle.nv_calls.specs.nv_held.Bytes.{byte_in}
-use Rattle.nv_calls.specs.Seen.{node_of, tree_of}
+use Rattle.nv_paths.specs.Seen.{node_of, tree_of}
 use Rattle.nv_calls.specs.Stat.{stat_of, IsStat}
 use Rattle.nv_calls.specs.Listing.{ListsNamesIn}
 use Rattle.nv_calls.specs.Reading.{IsRead}

@@ -23,7 +23,7 @@ use Rattle.nv_tree.proofs.Texts.{text_says}
 use Rattle.nv_text.specs.Answers.{ok_line, refused_line, stopped_line}
 use Rattle.nv_calls.specs.Mount.{IsKept, Mount, has_faults, told}
 use Rattle.nv_calls.specs.Same.{KeepsMount, SameMount}
-use Rattle.nv_calls.specs.Seen.{tree_of}
+use Rattle.nv_paths.specs.Seen.{tree_of}
 use Rattle.nv_calls.proofs.Mounts.{faultless}
 use Rattle.nv_session.specs.Calls.{Asks, Makes, Logs, Asked, LeavesTree}
 use Rattle.nv_session.specs.Machine.{State, Calls, CallsByTwo, CallsMounted, DoesCall, StopsMounted}

@@ -29,7 +29,7 @@ use Rattle.nv_tree.specs.Tree.{Tree}
 use Rattle.nv_tree.specs.Refusals.{Path}
 use Rattle.nv_tree.proofs.Texts.{text_says}
 use Rattle.nv_calls.specs.Mount.{Mount, told}
-use Rattle.nv_calls.specs.Seen.{tree_of}
+use Rattle.nv_paths.specs.Seen.{tree_of}
 use Rattle.nv_report.specs.Workers.{is_worker_count, names_stranger}
 use Rattle.nv_report.specs.Answering.{RefusesRecovery, MayEnd, IsOfItsSuper}
 use Rattle.nv_report.specs.Last.{how_it_went}

@@ -32,7 +32,7 @@ use Rattle.nv_calls.specs.Mount.{Mount, has_faults}
 use Rattle.nv_calls.specs.MoveCalls.{end_together, rename_blocks}
 use Rattle.nv_steps.specs.Moves.{move_entries}
 use Rattle.nv_calls.specs.NameCalls.{create_blocks, ended_row, name_blocks, row_blocks}
-use Rattle.nv_calls.specs.Seen.{node_of, tree_of}
+use Rattle.nv_paths.specs.Seen.{node_of, tree_of}
 use Rattle.nv_steps.specs.Sizes.{blocks_from, end_block}
 use Rattle.nv_calls.specs.SizeCall.{resized_blocks, size_blocks}
 use Rattle.nv_calls.specs.UnlinkCalls.{has_more_links, unlink_blocks}

@@ -4,7 +4,7 @@ use Rattle.nv_tree.specs.Tree as trees
 use Rattle.nv_tree.specs.Refusals.{Path}
 use Rattle.nv_super.specs.declared.kind.Kind.TheVariants.{File, Directory}
 use Rattle.nv_tree.proofs.Texts.{says_one}
-use Rattle.nv_calls.specs.Seen.{tree_of}
+use Rattle.nv_paths.specs.Seen.{tree_of}
 use Rattle.nv_session.proofs.Alike.{Alike, alike_rows, stat_one, names_one, bytes_one}
 use Rattle.nv_session.proofs.OneCall.{AskedOnce, called_text, create_one, write_one, size_one, attributes_one, link_one, unlink_one, remove_one, rename_one}
 use Rattle.std.specs.Prelude.{MatchBool, codes, replicate}

@@ -14,11 +14,12 @@ use Rattle.nv_tree.specs.declared.refusal.Refusal.{Refusal}
 use Rattle.nv_tree.specs.declared.refusal.Refusal.TheVariants.{BadCpu, Memory, NoSpace, ReadOnly, Stopped}
 use Rattle.nv_calls.specs.Mount.{Mount}
 use Rattle.nv_calls.specs.World.{world_of}
-use Rattle.nv_calls.specs.Seen.{node_of, tree_of}
+use Rattle.nv_paths.specs.Seen.{node_of, tree_of}
 use Rattle.nv_calls.specs.WriteCall.{WriteNeeds}
 use Rattle.nv_steps.specs.Writes.{NeedsBlocks, data_blocks, plan_of}
 use Rattle.nv_calls.proofs.SetSize.{front_tests}
-use Rattle.nv_calls.proofs.Tests.{enough_space, passed_before, refused_before, stat_first, too_few}
+use Rattle.nv_calls.proofs.Tests.{enough_space, stat_first, too_few}
+use Rattle.nv_paths.proofs.Refusing.{passed_before, refused_before}
 use Rattle.nv_calls.proofs.WriteReply.{large_same}
 use Rattle.nv_session.proofs.OneCall.{first_passes, later_passes, target_there}
 

@@ -24,7 +24,7 @@ use Rattle.nv_calls.specs.MoveCalls.{rename_blocks}
 use Rattle.nv_steps.specs.Moves.{move_entries}
 use Rattle.nv_calls.specs.NameCalls.{ShowsCreated, create_blocks, name_blocks}
 use Rattle.nv_calls.specs.RemoveCalls.{ShowsRemoved}
-use Rattle.nv_calls.specs.Seen.{LeadsTo, tree_of}
+use Rattle.nv_paths.specs.Seen.{LeadsTo, tree_of}
 use Rattle.nv_calls.specs.SizeCall.{ShowsResizedLog, resized_blocks}
 use Rattle.nv_calls.specs.UnlinkCalls.{unlink_blocks}
 use Rattle.nv_calls.specs.nv_rows.Unused.{unused_number}

@@ -19,7 +19,7 @@ use Rattle.nv_tree.specs.Path.{Says}
 use Rattle.nv_tree.specs.Tree as trees
 use Rattle.nv_tree.specs.Refusals.{Path, Tests, first_refusal, refusal_word, list_tests, stat_tests, read_tests}
 use Rattle.nv_tree.specs.declared.refusal.Refusal.{Refusal}
-use Rattle.nv_calls.specs.Seen.{tree_of}
+use Rattle.nv_paths.specs.Seen.{tree_of}
 use Rattle.nv_calls.specs.Stat.{IsStat}
 use Rattle.nv_calls.specs.Reading.{IsRead}
 use Rattle.nv_calls.specs.Listing.{ListsNamesIn}

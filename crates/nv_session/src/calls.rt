@@ -9,7 +9,7 @@ ghost use Rattle.nv_tree.specs.Refusals.{Path, first_refusal, write_tests};
 ghost use Rattle.nv_tree.specs.declared.refusal.Refusal.TheVariants as refusals;
 ghost use Rattle.nv_calls.specs.Mount.{IsKept};
 ghost use Rattle.nv_calls.specs.Same.{KeepsMount, SameMount};
-ghost use Rattle.nv_calls.specs.Seen.{tree_of};
+ghost use Rattle.nv_paths.specs.Seen.{tree_of};
 ghost use Rattle.nv_calls.specs.World.{world_of};
 ghost use Rattle.nv_calls.specs.WriteCall.{WriteNeeds};
 

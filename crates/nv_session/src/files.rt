@@ -7,7 +7,7 @@ ghost use Rattle.nv_text.specs.Report.{stat_line};
 ghost use Rattle.nv_tree.specs.Path.{Says};
 ghost use Rattle.nv_tree.specs.Refusals.{Path, first_refusal, list_tests, stat_tests, refusal_word};
 ghost use Rattle.nv_tree.specs.declared.refusal.Refusal.TheVariants as refusals;
-ghost use Rattle.nv_calls.specs.Seen.{tree_of};
+ghost use Rattle.nv_paths.specs.Seen.{tree_of};
 ghost use Rattle.nv_calls.specs.Listing.{name_and_inode};
 ghost use Rattle.nv_session.specs.Machine.{attributes_of, list_lines, TellsNames, TellsStat, TellsBytes};
 

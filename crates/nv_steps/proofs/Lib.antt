@@ -1,5 +1,4 @@
 pub mod RowOf
-pub mod Replies
 pub mod Singles
 pub mod TakenBlocks
 pub mod LogGrows

@@ -29,5 +29,3 @@ other_set (x ∷ rows) zero (suc j) new differ = refl
 other_set (x ∷ rows) (suc i) zero new differ = refl
 other_set (x ∷ rows) (suc i) (suc j) new differ = other_set rows i j new (λ e. differ (ap suc e))
 
-pub one_row : {a b : Row} → Some a ≡ Some b → a ≡ b
-one_row e = cc

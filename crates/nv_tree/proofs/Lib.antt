@@ -9,3 +9,4 @@ pub mod First
 pub mod Named
 pub mod Leads
 pub mod Effects
+pub mod Replies

@@ -1,5 +1,6 @@
 use Rattle.std.proofs.Common.{◌≡◌, ◌∙◌, ◌+◌, ◌-◌, ◌%◌, ◌≤◌, ◌∷◌, [], ℕ, ap, subst, sym}
 use Rattle.std.proofs.lemmas.Result.{IfErr-weaker, on_ok_weaker}
+use Rattle.nv_super.proofs.Options.{some_only}
 use Rattle.nv_alloc.specs.Taking.{all_blocks}
 use Rattle.nv_entry.specs.declared.entry.Operation.TheVariants.{Remove}
 use Rattle.nv_logpage.specs.Append.{needed}
@@ -10,7 +11,6 @@ use Rattle.nv_tree.specs.declared.refusal.Refusal.{Refusal}
 use Rattle.nv_steps.specs.NameEntries.{links_entries, name_entries}
 use Rattle.nv_steps.specs.Unlinks.{UnlinksAt}
 use Rattle.nv_steps.specs.Steps.{RefusesStep}
-use Rattle.nv_steps.proofs.RowsAt.{one_row}
 use Rattle.nv_calls.proofs.TwoRows.{left_two, lifted, none_put, none_still, row_stays, used_still}
 use Rattle.nv_calls.proofs.unlinking.unlink_at.Goals as goal
 
@@ -47,15 +47,15 @@ returns-clause-unlinked g c =
 pub returns-clause-enough : goal.returns-clause-enough
 returns-clause-enough g c row file at other_at =
     let there = row_stays c.args.rows.now.items c.take-directory.new.self.items c.args.named.now.directory c.args.named.now.target c.requires.apart c.take-directory.ensures.rows c.take-file.result c.take-file.ensures.row in
-    let same : c.take-directory.result ≡ row = one_row (sym c.take-directory.ensures.row ∙ at) in
-    let other_same : c.take-file.result ≡ file = one_row (sym there ∙ other_at) in
+    let same : c.take-directory.result ≡ row = some_only _ _ (sym c.take-directory.ensures.row ∙ at) in
+    let other_same : c.take-file.result ≡ file = some_only _ _ (sym there ∙ other_at) in
     on_ok_weaker c.unlink_both-done.result (λ enough. subst (λ (n : ℕ). n ≤ all_blocks c.args.free.now.pools) (ap (λ (r : Row). needed (r.tail % 4096) (name_entries Remove c.take-file.result.inode c.args.named.now.name.now c.args.time) + needed (c.take-file.result.tail % 4096) (links_entries (c.take-file.result.numbers.links - 1) c.args.time)) same ∙ ap (λ (r : Row). needed (row.tail % 4096) (name_entries Remove r.inode c.args.named.now.name.now c.args.time) + needed (r.tail % 4096) (links_entries (r.numbers.links - 1) c.args.time)) other_same) enough) c.unlink_both-done.ensures.enough
 
 pub returns-clause-refused : goal.returns-clause-refused
 returns-clause-refused g c row file at other_at =
     let there = row_stays c.args.rows.now.items c.take-directory.new.self.items c.args.named.now.directory c.args.named.now.target c.requires.apart c.take-directory.ensures.rows c.take-file.result c.take-file.ensures.row in
-    let same : c.take-directory.result ≡ row = one_row (sym c.take-directory.ensures.row ∙ at) in
-    let other_same : c.take-file.result ≡ file = one_row (sym there ∙ other_at) in
+    let same : c.take-directory.result ≡ row = some_only _ _ (sym c.take-directory.ensures.row ∙ at) in
+    let other_same : c.take-file.result ≡ file = some_only _ _ (sym there ∙ other_at) in
     IfErr-weaker c.unlink_both-done.result _ _ (λ (e : Refusal) refused. subst (λ (n : ℕ). RefusesStep e n c.args.free.now) (ap (λ (r : Row). needed (r.tail % 4096) (name_entries Remove c.take-file.result.inode c.args.named.now.name.now c.args.time) + needed (c.take-file.result.tail % 4096) (links_entries (c.take-file.result.numbers.links - 1) c.args.time)) same ∙ ap (λ (r : Row). needed (row.tail % 4096) (name_entries Remove r.inode c.args.named.now.name.now c.args.time) + needed (r.tail % 4096) (links_entries (r.numbers.links - 1) c.args.time)) other_same) refused) c.unlink_both-done.ensures.refused
 
 pub returns-clause-unchanged : goal.returns-clause-unchanged

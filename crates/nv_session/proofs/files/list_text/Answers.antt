@@ -1,6 +1,6 @@
 use Rattle.std.proofs.Common.{◌∙◌, inl, ap, map, sym, is_some, List, string_bytes}
 use Rattle.std.proofs.lemmas.Result.{IfOk-weaker}
-use Rattle.nv_calls.specs.Seen.{tree_of}
+use Rattle.nv_paths.specs.Seen.{tree_of}
 use Rattle.nv_calls.specs.Listing.{name_and_inode}
 use Rattle.nv_names.specs.declared.named.Named.{Named}
 use Rattle.nv_session.specs.Machine.{list_lines}

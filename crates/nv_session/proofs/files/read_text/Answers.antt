@@ -1,6 +1,6 @@
 use Rattle.std.proofs.Common.{◌∙◌, inl, ap, string_bytes}
 use Rattle.std.proofs.lemmas.Result.{IfOk-weaker}
-use Rattle.nv_calls.specs.Seen.{tree_of}
+use Rattle.nv_paths.specs.Seen.{tree_of}
 use Rattle.nv_tree.specs.Refusals.{read_tests}
 use Rattle.nv_text.specs.Names.{data_line}
 use Rattle.nv_session.proofs.Told.{refusal_told, bytes_told}

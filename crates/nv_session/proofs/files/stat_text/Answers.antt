@@ -1,6 +1,6 @@
 use Rattle.std.proofs.Common.{◌∙◌, inl, inr, ap, sym, is_some, string_bytes}
 use Rattle.std.proofs.lemmas.Result.{IfOk-weaker}
-use Rattle.nv_calls.specs.Seen.{tree_of}
+use Rattle.nv_paths.specs.Seen.{tree_of}
 use Rattle.nv_tree.specs.Refusals.{stat_tests}
 use Rattle.nv_session.specs.declared.files.CallText.{CallText}
 use Rattle.nv_session.proofs.Told.{refusal_told, refusal_is_some, stat_told}

@@ -9,7 +9,7 @@ use Rattle.nv_steps.specs.NameEntries.{links_entries, name_entries}
 use Rattle.nv_steps.specs.MoreNames.{AppendsLogs}
 use Rattle.nv_steps.specs.Steps.{RefusesStep}
 use Rattle.nv_steps.proofs.LinkedAt.{links_at_places}
-use Rattle.nv_steps.proofs.Replies.{refused_by}
+use Rattle.nv_tree.proofs.Replies.{refused_by}
 use Rattle.nv_steps.proofs.linking.link_both.Goals as goal
 
 pub returns-in_err-append_logs-clause-refused : goal.returns-in_err-append_logs-clause-refused

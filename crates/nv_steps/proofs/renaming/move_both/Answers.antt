@@ -8,7 +8,7 @@ use Rattle.nv_tree.specs.declared.refusal.Refusal.{Refusal}
 use Rattle.nv_steps.specs.MoreNames.{AppendsLogs}
 use Rattle.nv_steps.specs.NameEntries.{name_entries}
 use Rattle.nv_steps.specs.Steps.{RefusesStep}
-use Rattle.nv_steps.proofs.Replies.{refused_by}
+use Rattle.nv_tree.proofs.Replies.{refused_by}
 use Rattle.nv_steps.proofs.MovedAt.{moves_both}
 use Rattle.nv_steps.proofs.renaming.move_both.Goals as goal
 

@@ -7,7 +7,7 @@ use Rattle.nv_tree.specs.declared.refusal.Refusal.{Refusal}
 use Rattle.nv_steps.specs.NameEntries.{links_entries, name_entries}
 use Rattle.nv_steps.specs.MoreNames.{AppendsLogs}
 use Rattle.nv_steps.specs.Steps.{RefusesStep}
-use Rattle.nv_steps.proofs.Replies.{refused_by}
+use Rattle.nv_tree.proofs.Replies.{refused_by}
 use Rattle.nv_steps.proofs.UnlinkedAt.{unlinks_at_places}
 use Rattle.nv_steps.proofs.unlinking.unlink_both.Goals as goal
 

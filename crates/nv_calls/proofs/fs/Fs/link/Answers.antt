@@ -15,15 +15,15 @@ use Rattle.nv_tree.proofs.Texts.{text_says}
 use Rattle.nv_calls.specs.LinkCalls.{ShowsBothGrew, link_blocks}
 use Rattle.nv_steps.specs.NameEntries.{links_entries, name_entries}
 use Rattle.nv_calls.specs.Mount.{Mount}
-use Rattle.nv_calls.specs.Places.{IsLinkSpot, link_spot_tests}
-use Rattle.nv_calls.specs.Seen.{LeadsTo, tree_of}
+use Rattle.nv_paths.specs.Places.{IsLinkSpot, link_spot_tests}
+use Rattle.nv_paths.specs.Seen.{LeadsTo, tree_of}
 use Rattle.nv_calls.specs.World.{world_of}
 use Rattle.nv_calls.proofs.CreateCall.{kept_or_stopped, unchanged_rows}
 use Rattle.nv_calls.proofs.LinkCall.{link_allowed, link_refused, linked_kept, linked_logs, linked_tree}
-use Rattle.nv_calls.proofs.LinkSpots.{link_goes_on}
+use Rattle.nv_paths.proofs.LinkSpots.{link_goes_on}
 use Rattle.nv_calls.proofs.LinkTests.{link_refuses}
 use Rattle.nv_calls.proofs.LinkedHeld.{kinds_apart}
-use Rattle.nv_steps.proofs.Replies.{refused_by}
+use Rattle.nv_tree.proofs.Replies.{refused_by}
 use Rattle.nv_super.proofs.Members.{stands}
 use Rattle.nv_calls.proofs.RowChange.{same_mount}
 use Rattle.nv_calls.proofs.RowNumbers.{row_commits}

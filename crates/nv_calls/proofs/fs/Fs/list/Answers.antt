@@ -3,9 +3,9 @@ use Rattle.std.proofs.lemmas.Result.{err_from_is_err_and}
 use Rattle.nv_tree.specs.declared.refusal.Refusal.{Refusal}
 use Rattle.nv_tree.specs.declared.refusal.Refusal.TheVariants.{Memory}
 use Rattle.nv_tree.specs.Refusals.{first_refusal, list_tests}
-use Rattle.nv_calls.specs.Seen.{tree_of}
+use Rattle.nv_paths.specs.Seen.{tree_of}
 use Rattle.nv_calls.proofs.Listed.{lists_names, refused_too}
-use Rattle.nv_steps.proofs.Replies.{refused_by}
+use Rattle.nv_tree.proofs.Replies.{refused_by}
 use Rattle.nv_calls.proofs.fs.Fs.list.Goals as goal
 
 pub returns-in_err-row-clause-refused : goal.returns-in_err-row-clause-refused

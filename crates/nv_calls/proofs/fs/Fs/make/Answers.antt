@@ -14,13 +14,13 @@ use Rattle.nv_tree.specs.Refusals.{create_tests, first_refusal, has_no_slot, has
 use Rattle.nv_tree.proofs.Texts.{text_says}
 use Rattle.nv_calls.specs.Mount.{Mount}
 use Rattle.nv_calls.specs.NameCalls.{ShowsCreated, create_blocks}
-use Rattle.nv_calls.specs.Spots.{IsSpot, spot_tests}
-use Rattle.nv_calls.specs.Seen.{tree_of}
+use Rattle.nv_paths.specs.Spots.{IsSpot, spot_tests}
+use Rattle.nv_paths.specs.Seen.{tree_of}
 use Rattle.nv_rows.specs.Unused.{unused_number}
 use Rattle.nv_calls.specs.World.{world_of}
 use Rattle.nv_calls.proofs.CreateCall.{create_allowed, create_refused, created_kept, created_log, created_tree, kept_or_stopped, unchanged_rows}
-use Rattle.nv_calls.proofs.CreateTests.{spot_goes_on, spot_refuses}
-use Rattle.nv_steps.proofs.Replies.{refused_by}
+use Rattle.nv_paths.proofs.CreateTests.{spot_goes_on, spot_refuses}
+use Rattle.nv_tree.proofs.Replies.{refused_by}
 use Rattle.nv_calls.proofs.NewNumbers.{can_name, number_below, unused_is}
 use Rattle.nv_calls.proofs.OneRow.{stands_right}
 use Rattle.nv_super.proofs.Members.{stands}

@@ -3,8 +3,8 @@ use Rattle.std.proofs.lemmas.Result.{err_from_is_err_and}
 use Rattle.nv_tree.specs.declared.refusal.Refusal.{Refusal}
 use Rattle.nv_tree.specs.declared.refusal.Refusal.TheVariants.{Memory}
 use Rattle.nv_tree.specs.Refusals.{first_refusal, read_tests}
-use Rattle.nv_calls.specs.Seen.{tree_of}
-use Rattle.nv_steps.proofs.Replies.{refused_by}
+use Rattle.nv_paths.specs.Seen.{tree_of}
+use Rattle.nv_tree.proofs.Replies.{refused_by}
 use Rattle.nv_calls.proofs.FileBytes.{read_refused}
 use Rattle.nv_calls.proofs.fs.Fs.read.Goals as goal
 

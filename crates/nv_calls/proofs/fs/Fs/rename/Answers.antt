@@ -13,25 +13,26 @@ use Rattle.nv_tree.specs.Refusals.{first_refusal, has_no_space, is_bad_name, is_
 use Rattle.nv_tree.proofs.Texts.{text_says}
 use Rattle.nv_calls.specs.GrownLogs.{ShowsGrownLog}
 use Rattle.nv_calls.specs.LinkCalls.{ShowsBothGrew}
-use Rattle.nv_calls.specs.MoveCalls.{rename_blocks, rename_spot_tests}
+use Rattle.nv_calls.specs.MoveCalls.{rename_blocks}
+use Rattle.nv_paths.specs.MoveSpots.{rename_spot_tests}
 use Rattle.nv_steps.specs.Moves.{move_entries}
 use Rattle.nv_calls.specs.Mount.{Mount}
 use Rattle.nv_steps.specs.NameEntries.{name_entries}
-use Rattle.nv_calls.specs.Seen.{LeadsTo, tree_of}
+use Rattle.nv_paths.specs.Seen.{LeadsTo, tree_of}
 use Rattle.nv_calls.specs.World.{world_of}
 use Rattle.nv_calls.proofs.CreateCall.{kept_or_stopped, unchanged_rows}
-use Rattle.nv_calls.proofs.CreateTests.{long_text}
+use Rattle.nv_paths.proofs.CreateTests.{long_text}
 use Rattle.nv_calls.proofs.Kept.{rows_rise}
-use Rattle.nv_steps.proofs.Replies.{refused_by}
+use Rattle.nv_tree.proofs.Replies.{refused_by}
 use Rattle.nv_calls.proofs.MoveCall.{moved_kept, moved_log, moved_logs, moved_tree, rename_allowed, rename_refused}
-use Rattle.nv_calls.proofs.MoveSpots.{move_goes_on}
+use Rattle.nv_paths.proofs.MoveSpots.{move_goes_on}
 use Rattle.nv_calls.proofs.MoveTests.{rename_refuses}
 use Rattle.nv_super.proofs.Members.{stands}
 use Rattle.nv_calls.proofs.RowChange.{same_mount}
 use Rattle.nv_calls.proofs.RowNumbers.{row_commits}
 use Rattle.nv_calls.proofs.SetAttr.{late_reply, not_stop}
 use Rattle.nv_calls.proofs.Tests.{early_reply, if_err, writing_goes_on}
-use Rattle.nv_calls.proofs.Walks.{longer}
+use Rattle.nv_paths.proofs.Walks.{longer}
 use Rattle.nv_calls.proofs.fs.Fs.rename.Goals as goal
 
 pub returns-in_err-writable-clause-refused : goal.returns-in_err-writable-clause-refused

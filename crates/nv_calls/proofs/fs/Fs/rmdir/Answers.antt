@@ -17,17 +17,17 @@ use Rattle.nv_calls.specs.AtPlaces.{CanGo}
 use Rattle.nv_calls.specs.Mount.{Mount}
 use Rattle.nv_calls.specs.NameCalls.{name_blocks}
 use Rattle.nv_steps.specs.NameEntries.{name_entries}
-use Rattle.nv_calls.specs.NamedAt.{rmdir_spot_tests}
+use Rattle.nv_paths.specs.NamedAt.{rmdir_spot_tests}
 use Rattle.nv_calls.specs.RemoveCalls.{ShowsRemoved}
-use Rattle.nv_calls.specs.Seen.{LeadsTo, tree_of}
+use Rattle.nv_paths.specs.Seen.{LeadsTo, tree_of}
 use Rattle.nv_calls.specs.World.{world_of}
 use Rattle.nv_calls.proofs.CreateCall.{kept_or_stopped, unchanged_rows}
-use Rattle.nv_steps.proofs.Replies.{refused_by}
+use Rattle.nv_tree.proofs.Replies.{refused_by}
 use Rattle.nv_calls.proofs.OneRow.{stands_right}
 use Rattle.nv_super.proofs.Members.{stands}
 use Rattle.nv_calls.proofs.OwnedRow.{owns_blocks}
 use Rattle.nv_calls.proofs.RemoveCall.{can_cut, removed_kept, removed_log, rmdir_last, rmdir_refusal, rmdir_tree}
-use Rattle.nv_calls.proofs.RemoveTests.{rmdir_goes_on, rmdir_refuses}
+use Rattle.nv_paths.proofs.RemoveTests.{rmdir_goes_on, rmdir_refuses}
 use Rattle.nv_calls.proofs.RowChange.{same_mount}
 use Rattle.nv_calls.proofs.SetAttr.{late_reply, not_stop}
 use Rattle.nv_calls.proofs.Tests.{early_reply, if_err, writing_goes_on}

@@ -1,5 +1,6 @@
 use Rattle.std.proofs.Common.{◌≡◌, ◌∙◌, ◌⊎◌, ◌++◌, ◌∷◌, [], List, ℕ, Some, false, inr, ap, set, subst, sym}
 use Rattle.std.proofs.lemmas.Result.{err_from_is_err_and}
+use Rattle.nv_super.proofs.Options.{some_only}
 use Rattle.nv_held.specs.Held.{Held, Store}
 use Rattle.nv_scan.specs.declared.piece.Row.{Row}
 use Rattle.nv_tree.specs.declared.refusal.Refusal.{Refusal}
@@ -11,14 +12,13 @@ use Rattle.nv_tree.proofs.Texts.{text_says}
 use Rattle.nv_steps.specs.Attributes.{attributes}
 use Rattle.nv_calls.specs.AttributesCall.{attributes_blocks}
 use Rattle.nv_calls.specs.Mount.{Mount}
-use Rattle.nv_calls.specs.Seen.{LeadsTo, node_of, tree_of}
+use Rattle.nv_paths.specs.Seen.{LeadsTo, node_of, tree_of}
 use Rattle.nv_steps.specs.Steps.{ShowsRow}
 use Rattle.nv_calls.specs.World.{world_of}
 use Rattle.nv_calls.proofs.Kept.{refused_as}
-use Rattle.nv_steps.proofs.Replies.{refused_by}
+use Rattle.nv_tree.proofs.Replies.{refused_by}
 use Rattle.nv_rows.specs.Rows.{place_in}
 use Rattle.nv_rows.proofs.Places.{at_place, own_row, put_one}
-use Rattle.nv_steps.proofs.RowsAt.{one_row}
 use Rattle.nv_calls.proofs.OneRow.{stands_right}
 use Rattle.nv_super.proofs.Members.{stands}
 use Rattle.nv_calls.proofs.RowChange.{kept_after, log_grew, row_bytes, same_mount, tree_after}
@@ -100,7 +100,7 @@ returns-in-Ok-clause-allowed g c p says =
     let rows = c.self.inside.rows.items in
     let inode = c.in_ok-inode.field-0.now.inode in
     let at = at_place rows inode ∙ c.take-row.ensures.row in
-    let leads : (names : List (List ℕ)) → IsPath c.args.path.now names → LeadsTo (tree_of (g.P.Pmem.region c.self.inside.memory) rows) names c.take-row.result.inode (node_of (g.P.Pmem.region c.self.inside.memory) c.take-row.result) = λ names path. subst (λ (r : Row). LeadsTo (tree_of (g.P.Pmem.region c.self.inside.memory) rows) names r.inode (node_of (g.P.Pmem.region c.self.inside.memory) r)) (one_row (sym c.in_ok-inode.ensures.held ∙ c.take-row.ensures.row)) (c.in_ok-inode.ensures.row (g.P.Pmem.region c.self.inside.memory) names path) in
+    let leads : (names : List (List ℕ)) → IsPath c.args.path.now names → LeadsTo (tree_of (g.P.Pmem.region c.self.inside.memory) rows) names c.take-row.result.inode (node_of (g.P.Pmem.region c.self.inside.memory) c.take-row.result) = λ names path. subst (λ (r : Row). LeadsTo (tree_of (g.P.Pmem.region c.self.inside.memory) rows) names r.inode (node_of (g.P.Pmem.region c.self.inside.memory) r)) (some_only _ _ (sym c.in_ok-inode.ensures.held ∙ c.take-row.ensures.row)) (c.in_ok-inode.ensures.row (g.P.Pmem.region c.self.inside.memory) names path) in
     let numbered = own_row rows inode c.take-row.result c.take-row.ensures.row in
     let none = c.in_ok-inode.ensures.refused (g.P.Pmem.region c.self.inside.memory) p says in
     attr_allowed g.P.Pmem.region c.self.view_is c.args.cpu c.in_ok-writable.ensures.passed c.args.path.now c.take-row.result (node_of (g.P.Pmem.region c.self.inside.memory) c.take-row.result) numbered leads p says none c.in-Ok.ensures.enough
@@ -112,7 +112,7 @@ returns-in-Ok-clause-changed g c names path =
     let rows = c.self.inside.rows.items in
     let inode = c.in_ok-inode.field-0.now.inode in
     let at = at_place rows inode ∙ c.take-row.ensures.row in
-    let leads : (names : List (List ℕ)) → IsPath c.args.path.now names → LeadsTo (tree_of (g.P.Pmem.region c.self.inside.memory) rows) names c.take-row.result.inode (node_of (g.P.Pmem.region c.self.inside.memory) c.take-row.result) = λ names path. subst (λ (r : Row). LeadsTo (tree_of (g.P.Pmem.region c.self.inside.memory) rows) names r.inode (node_of (g.P.Pmem.region c.self.inside.memory) r)) (one_row (sym c.in_ok-inode.ensures.held ∙ c.take-row.ensures.row)) (c.in_ok-inode.ensures.row (g.P.Pmem.region c.self.inside.memory) names path) in
+    let leads : (names : List (List ℕ)) → IsPath c.args.path.now names → LeadsTo (tree_of (g.P.Pmem.region c.self.inside.memory) rows) names c.take-row.result.inode (node_of (g.P.Pmem.region c.self.inside.memory) c.take-row.result) = λ names path. subst (λ (r : Row). LeadsTo (tree_of (g.P.Pmem.region c.self.inside.memory) rows) names r.inode (node_of (g.P.Pmem.region c.self.inside.memory) r)) (some_only _ _ (sym c.in_ok-inode.ensures.held ∙ c.take-row.ensures.row)) (c.in_ok-inode.ensures.row (g.P.Pmem.region c.self.inside.memory) names path) in
     let follows = λ (held : Store) (h : Held) (shows : ShowsRow (g.P.Pmem.region c.self.inside.memory) c.self.inside.sup held h c.take-row.result c.self.inside.free). c.in-Ok.ensures.log held h shows in
     let has = c.in-Ok.ensures.row in
     let led = leads names path in
@@ -129,7 +129,7 @@ returns-in-Ok-clause-log g c names i node held h path led sound is =
     let rows = c.self.inside.rows.items in
     let inode = c.in_ok-inode.field-0.now.inode in
     let at = at_place rows inode ∙ c.take-row.ensures.row in
-    let leads : (names : List (List ℕ)) → IsPath c.args.path.now names → LeadsTo (tree_of (g.P.Pmem.region c.self.inside.memory) rows) names c.take-row.result.inode (node_of (g.P.Pmem.region c.self.inside.memory) c.take-row.result) = λ names path. subst (λ (r : Row). LeadsTo (tree_of (g.P.Pmem.region c.self.inside.memory) rows) names r.inode (node_of (g.P.Pmem.region c.self.inside.memory) r)) (one_row (sym c.in_ok-inode.ensures.held ∙ c.take-row.ensures.row)) (c.in_ok-inode.ensures.row (g.P.Pmem.region c.self.inside.memory) names path) in
+    let leads : (names : List (List ℕ)) → IsPath c.args.path.now names → LeadsTo (tree_of (g.P.Pmem.region c.self.inside.memory) rows) names c.take-row.result.inode (node_of (g.P.Pmem.region c.self.inside.memory) c.take-row.result) = λ names path. subst (λ (r : Row). LeadsTo (tree_of (g.P.Pmem.region c.self.inside.memory) rows) names r.inode (node_of (g.P.Pmem.region c.self.inside.memory) r)) (some_only _ _ (sym c.in_ok-inode.ensures.held ∙ c.take-row.ensures.row)) (c.in_ok-inode.ensures.row (g.P.Pmem.region c.self.inside.memory) names path) in
     attr_logged g.P.Pmem.region c.self.view_is (g.P.Pmem.region c.change_attributes-changed.new.memory) names c.take-row.result c.args.mode c.args.owner c.args.group c.args.time i node held h (leads names path)
     (λ st k shown holds. log_grew c.self.invariant.0 runs writes (place_in rows inode) c.take-row.result c.change_attributes-changed.new.row at (attributes c.take-row.result.numbers.size c.args.mode c.args.owner c.args.group c.args.time) (λ first g' shows. c.in-Ok.ensures.log first g' shows) st k shown holds) led sound is
 
@@ -140,7 +140,7 @@ returns-in-Err-clause-refused g c still p says =
     let rows = c.self.inside.rows.items in
     let inode = c.in_ok-inode.field-0.now.inode in
     let at = at_place rows inode ∙ c.take-row.ensures.row in
-    let leads : (names : List (List ℕ)) → IsPath c.args.path.now names → LeadsTo (tree_of (g.P.Pmem.region c.self.inside.memory) rows) names c.take-row.result.inode (node_of (g.P.Pmem.region c.self.inside.memory) c.take-row.result) = λ names path. subst (λ (r : Row). LeadsTo (tree_of (g.P.Pmem.region c.self.inside.memory) rows) names r.inode (node_of (g.P.Pmem.region c.self.inside.memory) r)) (one_row (sym c.in_ok-inode.ensures.held ∙ c.take-row.ensures.row)) (c.in_ok-inode.ensures.row (g.P.Pmem.region c.self.inside.memory) names path) in
+    let leads : (names : List (List ℕ)) → IsPath c.args.path.now names → LeadsTo (tree_of (g.P.Pmem.region c.self.inside.memory) rows) names c.take-row.result.inode (node_of (g.P.Pmem.region c.self.inside.memory) c.take-row.result) = λ names path. subst (λ (r : Row). LeadsTo (tree_of (g.P.Pmem.region c.self.inside.memory) rows) names r.inode (node_of (g.P.Pmem.region c.self.inside.memory) r)) (some_only _ _ (sym c.in_ok-inode.ensures.held ∙ c.take-row.ensures.row)) (c.in_ok-inode.ensures.row (g.P.Pmem.region c.self.inside.memory) names path) in
     let numbered = own_row rows inode c.take-row.result c.take-row.ensures.row in
     let none = c.in_ok-inode.ensures.refused (g.P.Pmem.region c.self.inside.memory) p says in
     attr_refused g.P.Pmem.region c.self.view_is c.args.cpu c.in_ok-writable.ensures.passed c.args.path.now c.take-row.result (node_of (g.P.Pmem.region c.self.inside.memory) c.take-row.result) numbered leads p says none c.in-Err.refusal c.in-Err.ensures.refused

@@ -1,5 +1,5 @@
-use Rattle.nv_calls.specs.Seen.{tree_of, node_of}
-use Rattle.nv_calls.proofs.Targets.{numbers_of}
+use Rattle.nv_paths.specs.Seen.{tree_of, node_of}
+use Rattle.nv_calls.proofs.Stated.{numbers_of}
 use Rattle.nv_calls.proofs.fs.Fs.stat.Goals as goal
 
 pub returns-clause-ok : goal.returns-clause-ok

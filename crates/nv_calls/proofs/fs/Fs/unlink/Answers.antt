@@ -14,17 +14,17 @@ use Rattle.nv_tree.specs.Calls.{unlinked}
 use Rattle.nv_tree.specs.Refusals.{first_refusal, has_no_space, is_bad_name, is_dir, is_missing, unlink_tests, walk_tests}
 use Rattle.nv_tree.proofs.Texts.{text_says}
 use Rattle.nv_calls.specs.Mount.{Mount}
-use Rattle.nv_calls.specs.NamedAt.{IsNamedAt, unlink_spot_tests}
+use Rattle.nv_paths.specs.NamedAt.{IsNamedAt, unlink_spot_tests}
 use Rattle.nv_calls.specs.LinkCalls.{ShowsBothGrew}
 use Rattle.nv_steps.specs.NameEntries.{links_entries, name_entries}
 use Rattle.nv_calls.specs.RemoveCalls.{ShowsRemoved}
 use Rattle.nv_calls.specs.UnlinkCalls.{unlink_blocks}
 use Rattle.nv_calls.specs.AtPlaces.{release_blocks}
-use Rattle.nv_calls.specs.Seen.{LeadsTo, tree_of}
+use Rattle.nv_paths.specs.Seen.{LeadsTo, tree_of}
 use Rattle.nv_calls.specs.World.{world_of}
 use Rattle.nv_calls.proofs.CreateCall.{kept_or_stopped, unchanged_rows}
 use Rattle.nv_calls.proofs.Kept.{rows_rise}
-use Rattle.nv_steps.proofs.Replies.{refused_by}
+use Rattle.nv_tree.proofs.Replies.{refused_by}
 use Rattle.nv_super.proofs.Members.{stands}
 use Rattle.nv_calls.proofs.OwnedRow.{owns_blocks}
 use Rattle.nv_calls.proofs.LinkedHeld.{kinds_apart, kinds_differ}
@@ -32,7 +32,7 @@ use Rattle.nv_calls.proofs.NewNumbers.{can_name}
 use Rattle.nv_calls.proofs.RowNumbers.{row_commits, row_number}
 use Rattle.nv_calls.proofs.Tests.{space_allows, space_refuses}
 use Rattle.nv_calls.proofs.UnlinkCall.{unlink_kept, unlink_last, unlink_last_test, unlink_logs, unlink_refusal, unlink_tree}
-use Rattle.nv_calls.proofs.RemoveTests.{unlink_goes_on, unlink_refuses}
+use Rattle.nv_paths.proofs.RemoveTests.{unlink_goes_on, unlink_refuses}
 use Rattle.nv_calls.proofs.RowChange.{same_mount}
 use Rattle.nv_calls.proofs.SetAttr.{late_reply, not_stop}
 use Rattle.nv_calls.proofs.Tests.{early_reply, if_err, writing_goes_on}

@@ -1,0 +1,91 @@
+-- Why `rename` is refused where it looks for its inode and its directories.
+use Rattle.std.proofs.Common.{◌≡◌, ℕ, Bool, true, false, ◌&&◌, List, [], ◌∷◌, ◌++◌, length, refl, ap, sym, ◌∙◌, Option, Some, None, Result, Ok, Err, eqb, is_none, is_some}
+use Rattle.std.specs.List.{Contains, list_any}
+use Rattle.std.specs.Option.{option_map_or}
+use Rattle.nv_region.specs.Region.{Region}
+use Rattle.nv_super.specs.declared.kind.Kind.{Kind}
+use Rattle.nv_super.specs.declared.kind.Kind.TheVariants.{Directory}
+use Rattle.nv_super.proofs.Members.{no_member}
+use Rattle.nv_scan.specs.declared.piece.Row.{Row}
+use Rattle.nv_tree.specs.declared.refusal.Refusal.{Refusal}
+use Rattle.nv_tree.specs.declared.refusal.Refusal.TheVariants.{BadName, Exists, IntoItself, NotFound, Stopped}
+use Rattle.nv_tree.specs.Path.{IsPath, Says}
+use Rattle.nv_tree.specs.Tree.{Node, Tree, found, is_directory, passed, walk}
+use Rattle.nv_tree.specs.Refusals.{Path, first_refusal, is_directory_at, is_into_itself, passes, refused_walk}
+use Rattle.nv_paths.specs.MoveSpots.{rename_spot_tests}
+use Rattle.nv_paths.specs.Seen.{LeadsTo, node_of, tree_of}
+use Rattle.nv_paths.proofs.CreateTests.{said_names}
+use Rattle.nv_paths.proofs.Refusing.{walk_goes_on}
+
+-- the tests by what both walks and both paths give
+abbrev move_told : Result ℕ Refusal → Result ℕ Refusal → Bool → Bool → Bool → Option Refusal
+move_told w v missing into there = first_refusal ((false, BadName) ∷ (false, BadName) ∷ refused_walk w ++ refused_walk v ++ (missing, NotFound) ∷ (into, IntoItself) ∷ (there, Exists) ∷ [])
+
+-- the inode is a directory that the way passes
+abbrev pub passes_row : Tree → List (List ℕ) → Row → Bool
+passes_row t names row = is_directory row.kind && list_any (eqb row.inode) (passed t 1 names)
+
+module _ (R : Region) (rows : List Row) (name : List ℕ) (names : List (List ℕ)) (other : List ℕ) (others : List (List ℕ)) where
+  abbrev t : Tree
+  t = tree_of R rows
+
+  abbrev told : Option Refusal
+  told = first_refusal (rename_spot_tests t (Some (name ∷ names)) (Some (other ∷ others)))
+
+  move_by : {w v : Result ℕ Refusal} {missing into there : Bool} → walk t 1 (name ∷ names) ≡ w → walk t 1 (other ∷ others) ≡ v → is_none (found t (name ∷ names)) ≡ missing → (is_into_itself t (Some (name ∷ names)) (Some (other ∷ others))).0 ≡ into → is_some (found t (other ∷ others)) ≡ there
+      → told ≡ move_told w v missing into there
+  move_by a b c d e = λ k. move_told (a k) (b k) (c k) (d k) (e k)
+
+  pub old_way_refused : (e : Refusal) → walk t 1 (name ∷ names) ≡ Err e → told ≡ Some e
+  old_way_refused e w = move_by w refl refl refl refl
+
+  pub new_way_refused : (d : ℕ) (e : Refusal) → walk t 1 (name ∷ names) ≡ Ok d → walk t 1 (other ∷ others) ≡ Err e → told ≡ Some e
+  new_way_refused d e w v = move_by w v refl refl refl
+
+  module _ (d e : ℕ) (walked : walk t 1 (name ∷ names) ≡ Ok d) (ended : walk t 1 (other ∷ others) ≡ Ok e) where
+    pub inode_missing : found t (name ∷ names) ≡ None → told ≡ Some NotFound
+    inode_missing none = move_by walked ended (ap (λ (o : Option ℕ). is_none o) none) refl refl
+
+    module _ (row : Row) (led : LeadsTo t (name ∷ names) row.inode (node_of R row)) where
+      here : is_none (found t (name ∷ names)) ≡ false
+      here = ap (λ (o : Option ℕ). is_none o) led.leads
+
+      into_is : (b : Bool) → passes_row t (other ∷ others) row ≡ b → (is_into_itself t (Some (name ∷ names)) (Some (other ∷ others))).0 ≡ b
+      into_is b is =
+          ap (λ (o : Option ℕ). option_map_or (λ i. is_directory_at t i && passes t (Some (other ∷ others)) i) o false) led.leads
+          ∙ ap (λ (o : Option Node). option_map_or (λ (node : Node). is_directory node.kind) o false && passes t (Some (other ∷ others)) row.inode) led.shows ∙ is
+
+      pub into_itself : passes_row t (other ∷ others) row ≡ true → told ≡ Some IntoItself
+      into_itself is = move_by walked ended here (into_is true is) refl
+
+      pub other_there : passes_row t (other ∷ others) row ≡ false → is_some (found t (other ∷ others)) ≡ true → told ≡ Some Exists
+      other_there is there = move_by walked ended here (into_is false is) there
+
+      pub move_passes : passes_row t (other ∷ others) row ≡ false → is_some (found t (other ∷ others)) ≡ false → told ≡ None
+      move_passes is there = move_by walked ended here (into_is false is) there
+
+-- no test answers `Stopped`
+pub move_goes_on : (t : Tree) (p q : Path) → first_refusal (rename_spot_tests t p q) ≡ Some Stopped → ⊥
+move_goes_on t None q e = absurd (cc)
+move_goes_on t (Some []) q e = absurd (cc)
+move_goes_on t (Some (name ∷ names)) None e = absurd (cc)
+move_goes_on t (Some (name ∷ names)) (Some []) e = absurd (cc)
+move_goes_on t (Some (name ∷ names)) (Some (other ∷ others)) e =
+    by (walk t 1 (name ∷ names)) (walk_goes_on t 1 (name ∷ names)) (walk t 1 (other ∷ others)) (walk_goes_on t 1 (other ∷ others)) (is_none (found t (name ∷ names))) (is_into_itself t (Some (name ∷ names)) (Some (other ∷ others))).0 (is_some (found t (other ∷ others))) e where
+      by : (w : Result ℕ Refusal) → (w ≡ Err Stopped → ⊥) → (v : Result ℕ Refusal) → (v ≡ Err Stopped → ⊥) → (missing into there : Bool) → move_told w v missing into there ≡ Some Stopped → ⊥
+      by (Err r) off v on a b c e = off (let same : r ≡ Stopped = cc in ap (λ (x : Refusal). Err x) same)
+      by (Ok k) off (Err r) on a b c e = on (let same : r ≡ Stopped = cc in ap (λ (x : Refusal). Err x) same)
+      by (Ok k) off (Ok j) on true b c e = absurd (cc)
+      by (Ok k) off (Ok j) on false true c e = absurd (cc)
+      by (Ok k) off (Ok j) on false false true e = absurd (cc)
+      by (Ok k) off (Ok j) on false false false e = absurd (cc)
+
+-- what holds of each two paths with names, where both texts are such
+pub said_two : (old new : List ℕ) (Q : Path → Path → Type 0) → (name : List ℕ) × (names : List (List ℕ)) × IsPath old (name ∷ names) → (length old ≡ 1 → ⊥) → (name : List ℕ) × (names : List (List ℕ)) × IsPath new (name ∷ names) → (length new ≡ 1 → ⊥)
+    → ((name : List ℕ) (names : List (List ℕ)) (other : List ℕ) (others : List (List ℕ)) → IsPath old (name ∷ names) → IsPath new (other ∷ others) → Q (Some (name ∷ names)) (Some (other ∷ others))) → (p q : Path) → Says old p → Says new q → Q p q
+said_two old new Q some long some_new long_new each p q says says_new =
+    said_names old (λ r. Q r q) some long (λ name names path. said_names new (λ r. Q (Some (name ∷ names)) r) some_new long_new (λ other others other_path. each name names other others path other_path) q says_new) p says
+
+-- A directory that the way doesn't pass isn't on it.
+pub not_passed : (t : Tree) (names : List (List ℕ)) (row : Row) → passes_row t names row ≡ false → row.kind ≡ Directory → Contains (passed t 1 names) row.inode → ⊥
+not_passed t names row off directory = no_member (passed t 1 names) row.inode (sym (ap (λ (k : Kind). is_directory k && list_any (eqb row.inode) (passed t 1 names)) directory) ∙ off)

@@ -1,0 +1,46 @@
+use Rattle.std.proofs.Common.{◌≡◌, ◌∙◌, List, ℕ, Some, None, true, false, subst, sym}
+use Rattle.std.proofs.lemmas.Result.{err_from_is_err_and}
+use Rattle.nv_super.proofs.Options.{some_only}
+use Rattle.nv_super.specs.declared.kind.Kind.TheVariants.{Directory}
+use Rattle.nv_names.specs.Names.{name_at}
+use Rattle.nv_scan.specs.declared.piece.Row.{Row}
+use Rattle.nv_tree.specs.declared.refusal.Refusal.{Refusal}
+use Rattle.nv_tree.specs.Refusals.{first_refusal}
+use Rattle.nv_paths.specs.NamedAt.{rmdir_spot_tests}
+use Rattle.nv_paths.specs.Seen.{tree_of}
+use Rattle.nv_rows.specs.Rows.{place_in}
+use Rattle.nv_rows.proofs.Places.{at_place, own_row}
+use Rattle.nv_tree.proofs.Replies.{refused_by}
+use Rattle.nv_paths.proofs.RemoveTests.{rmdir_file, rmdir_full, rmdir_missing, rmdir_passes}
+use Rattle.nv_paths.proofs.named.rmdir_for.Goals as goal
+
+pub returns-in_err-named-clause-refused : goal.returns-in_err-named-clause-refused
+returns-in_err-named-clause-refused c region p says =
+    let w = err_from_is_err_and c.from_residual.result c.from_residual.ensures.1 in
+    refused_by c.from_residual.result c.in_err-named.field-0.0 w.0 (λ (e : Refusal). first_refusal (rmdir_spot_tests (tree_of region c.args.rows.now.items) p) ≡ Some e) w.1 w.2 (rmdir_missing (tree_of region c.args.rows.now.items) p c.in_err-named.field-0.0 (c.in_err-named.ensures.refused region p says))
+
+pub returns-clause-spot : goal.returns-clause-spot
+returns-clause-spot c region names path = c.in_ok-named.ensures.spot region names path
+
+pub returns-then-is_file-clause-refused : goal.returns-then-is_file-clause-refused
+returns-then-is_file-clause-refused c region p says =
+    let at = at_place c.args.rows.now.items c.in_ok-named.named.target ∙ c.row-row.ensures in
+    let held = own_row c.args.rows.now.items c.in_ok-named.named.target c.row-row.result.now c.row-row.ensures in
+    rmdir_file region c.args.rows.now.items c.args.path.now c.in_ok-named.named.name.now (place_in c.args.rows.now.items c.in_ok-named.named.directory) (place_in c.args.rows.now.items c.in_ok-named.named.target) c.row-row.result.now held at (c.in_ok-named.ensures.spot region) p says (c.in_ok-named.ensures.allowed region p says) (c.is_file.ensures.yes c.if-is_file.true)
+
+pub returns-then-not-is_empty-clause-refused : goal.returns-then-not-is_empty-clause-refused
+returns-then-not-is_empty-clause-refused c region p says =
+    let at = at_place c.args.rows.now.items c.in_ok-named.named.target ∙ c.row-row.ensures in
+    let held = own_row c.args.rows.now.items c.in_ok-named.named.target c.row-row.result.now c.row-row.ensures in
+    rmdir_full region c.args.rows.now.items c.args.path.now c.in_ok-named.named.name.now (place_in c.args.rows.now.items c.in_ok-named.named.directory) (place_in c.args.rows.now.items c.in_ok-named.named.target) c.row-row.result.now held at (c.in_ok-named.ensures.spot region) p says (c.in_ok-named.ensures.allowed region p says) (c.is_file.ensures.no c.if-is_file.false)
+    (λ none. (let clash : true ≡ false = sym (c.is_empty.ensures.1 none) ∙ c.if-not-is_empty.true in cc))
+
+pub returns-clause-allowed : goal.returns-clause-allowed
+returns-clause-allowed c region p says =
+    let at = at_place c.args.rows.now.items c.in_ok-named.named.target ∙ c.row-row.ensures in
+    let held = own_row c.args.rows.now.items c.in_ok-named.named.target c.row-row.result.now c.row-row.ensures in
+    rmdir_passes region c.args.rows.now.items c.args.path.now c.in_ok-named.named.name.now (place_in c.args.rows.now.items c.in_ok-named.named.directory) (place_in c.args.rows.now.items c.in_ok-named.named.target) c.row-row.result.now held at (c.in_ok-named.ensures.spot region) p says (c.in_ok-named.ensures.allowed region p says) (c.is_file.ensures.no c.if-is_file.false) (c.is_empty.ensures.0 c.if-not-is_empty.false)
+
+pub returns-clause-empty : goal.returns-clause-empty
+returns-clause-empty c row is =
+    subst (λ (r : Row). (r.kind ≡ Directory) × ((q : List ℕ) → name_at r.names q ≡ None)) (some_only _ _ (sym c.row-row.ensures ∙ is)) (c.is_file.ensures.no c.if-is_file.false, c.is_empty.ensures.0 c.if-not-is_empty.false)

@@ -1,0 +1,17 @@
+//! Where paths lead, among the rows of the inodes in use: the inode that one leads to, and the place where a name comes or goes, or
+//! the refusal that the call has there.
+#![tactic(auto)]
+
+mod moving;
+mod named;
+mod naming;
+mod passing;
+mod spotting;
+mod targeting;
+mod walking;
+
+pub use moving::{Move, rename_for};
+pub use named::{Named, rmdir_for, unlink_for};
+pub use spotting::{Spot, spot_for};
+pub use targeting::link_for;
+pub use walking::row_at;
