@@ -15,8 +15,8 @@ ghost use Rattle.nv_calls.specs.Mount.{IsKept, has_faults};
 
 use nv_alloc::Allocators;
 use nv_held::Recovered;
-use nv_region::{Fuse, MemRegion, Pmem};
 use nv_paths::row_at;
+use nv_region::{Fuse, MemRegion, Pmem};
 use nv_rows::Rows;
 use nv_scan::Row;
 use nv_super::{Fault, Super};

@@ -28,4 +28,3 @@ other_set (x ∷ rows) zero zero new differ = absurd (differ refl)
 other_set (x ∷ rows) zero (suc j) new differ = refl
 other_set (x ∷ rows) (suc i) zero new differ = refl
 other_set (x ∷ rows) (suc i) (suc j) new differ = other_set rows i j new (λ e. differ (ap suc e))
-
