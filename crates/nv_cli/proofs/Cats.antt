@@ -5,7 +5,7 @@ use Rattle.nv_region.specs.Region.{region_of}
 use Rattle.nv_region.specs.ImageState.{ImageState}
 use Rattle.nv_text.specs.Answers.{refused_line}
 use Rattle.nv_session.specs.nv_calls.Mount.{Mount}
-use Rattle.nv_session.specs.nv_calls.Seen.{tree_of}
+use Rattle.nv_session.specs.nv_paths.Seen.{tree_of}
 use Rattle.nv_session.specs.Machine.{TellsRefusal}
 use Rattle.nv_session.proofs.Told.{refusal_told}
 use Rattle.nv_stream.specs.Streams.{AppendsFront}

@@ -7,7 +7,7 @@ use Rattle.nv_text.specs.Refusals.{refusal_name}
 use Rattle.nv_text.specs.declared.refusals.Refusal as texts
 use Rattle.nv_report.specs.nv_outcome.nv_journal.Undo.{undone}
 use Rattle.nv_session.specs.nv_calls.Mount.{Mount}
-use Rattle.nv_session.specs.nv_calls.Seen.{tree_of}
+use Rattle.nv_session.specs.nv_paths.Seen.{tree_of}
 use Rattle.nv_tree.specs.Path.{Says}
 use Rattle.nv_tree.specs.Tree.{Tree}
 use Rattle.nv_tree.specs.Refusals.{Path, Tests, first_refusal}

@@ -7,7 +7,7 @@ use Rattle.std.proofs.lemmas.List.{take_min}
 use Rattle.nv_super.proofs.Ranges.{range_more}
 use Rattle.nv_tree.specs.Tree.{Tree, Node}
 use Rattle.nv_tree.specs.Calls.{bytes_read}
-use Rattle.nv_session.specs.nv_calls.Seen.{LeadsTo}
+use Rattle.nv_session.specs.nv_paths.Seen.{LeadsTo}
 use Rattle.nv_session.specs.nv_calls.Reading.{IsRead}
 use Rattle.nv_stream.specs.Streams.{AppendsFront}
 use Rattle.nv_stream.proofs.StreamLemmas.{appends_none, appends_both, appends_front, front_of_whole}

@@ -11,7 +11,7 @@ use Rattle.nv_tree.specs.Calls.{bytes_read}
 use Rattle.nv_tree.specs.declared.refusal.Refusal.{Refusal}
 use Rattle.nv_tree.specs.declared.refusal.Refusal.TheVariants as calls
 use Rattle.nv_text.specs.Answers.{refused_line}
-use Rattle.nv_session.specs.nv_calls.Seen.{tree_of, LeadsTo}
+use Rattle.nv_session.specs.nv_paths.Seen.{tree_of, LeadsTo}
 use Rattle.nv_session.specs.Machine.{TellsRefusal, TellsNames, TellsStat}
 use Rattle.nv_stream.specs.declared.fault.ScriptError.{ScriptError}
 use Rattle.nv_stream.specs.declared.fault.ScriptError.TheVariants.{Read, Write, Memory}

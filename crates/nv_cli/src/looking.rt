@@ -7,7 +7,7 @@ ghost use Rattle.nv_region.specs.Region.{region_of};
 ghost use Rattle.nv_text.specs.Refusals.{refusal_name};
 ghost use Rattle.nv_tree.specs.Path.{IsPath, Says};
 ghost use Rattle.nv_tree.specs.Refusals.{Path};
-ghost use Rattle.nv_session.specs.nv_calls.Seen.{tree_of};
+ghost use Rattle.nv_session.specs.nv_paths.Seen.{tree_of};
 ghost use Rattle.nv_session.specs.nv_calls.Reading.{IsRead};
 ghost use Rattle.nv_cli.specs.Checking.{IsRefusal};
 ghost use Rattle.nv_cli.specs.Looking.{IsLook, IsOpened, IsSized, ListsNames, TellsNumbers, GivesBytes, WritesLook, FailsLook, FailsCat, WritesCall, FailsCall, WritesFile, FailsFile, WritesRefusal, FailsRefusal};

@@ -7,4 +7,5 @@ pub use Rattle.nv_super.specs.Super
 pub use Rattle.nv_format.specs.Format
 pub use Rattle.nv_report.specs.nv_outcome.Outcome
 pub use Rattle.nv_calls.specs as nv_calls
+pub use Rattle.nv_paths.specs as nv_paths
 pub use Rattle.nv_tree.specs as nv_tree

@@ -1,4 +1,4 @@
-use Rattle.nv_session.specs.nv_calls.Seen.{tree_of}
+use Rattle.nv_session.specs.nv_paths.Seen.{tree_of}
 use Rattle.nv_cli.proofs.Cats.{file_ok, file_err, refusal_ok, refusal_err}
 use Rattle.nv_cli.proofs.looking.cat_file.Goals as goal
 
