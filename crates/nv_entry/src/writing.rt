@@ -117,6 +117,7 @@ fn store_words<P: Pmem>(memory: &mut P, at: u64, words: &[u64]) -> Result<(), St
     ensures stopped { is_err result ≡ (P.fuse memory.new).has_burnt }
     ensures keeps_fuse { KeepsFuse (λ limit. at + 8 * length words.now ≤ limit) (P.fuse memory.old) (P.fuse memory.new) }
 {
+    // The region's length is a u64, and so is each address up to it.
     let _length = memory.len();
     memory.store_words(at, words)
 }

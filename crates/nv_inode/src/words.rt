@@ -48,7 +48,8 @@ pub fn put_slot<P: Pmem>(
     store_slot(memory, slot_start(sup, inode), slot)
 }
 
-/// Stores the words of the slot at an address but for its valid word, as one row from the kind on.
+/// Stores the words of the slot at an address, in bytes from the start of the region, but for its valid word: one row from
+/// the kind on. `Stopped` where the fuse has burnt; some of the words may be stored then.
 pub fn store_slot<P: Pmem>(memory: &mut P, at: u64, slot: &Slot) -> Result<(), Stopped>
     requires whole { at % 8 ≡ 0 }
     requires inside { at + 40 ≤ size (P.region memory.old) }

@@ -53,7 +53,10 @@ fn named_at<'a>(rows: &Rows, path: &'a [u8]) -> Result<Named<'a>, Refusal>
     }
 }
 
-/// The file whose name goes. Refusals are those of `named_at`, and then `IsDirectory` for a directory.
+/// The file whose name goes.
+///
+/// Errors, the first that applies: `BadName` where the text is no path or `/`, `NotFound` or `NotDirectory` for an inode on
+/// the way, `NotFound` where the path leads to no inode in use, `IsDirectory` where it leads to a directory.
 pub fn unlink_for<'a>(rows: &Rows, path: &'a [u8]) -> Result<Named<'a>, Refusal>
     ensures directory { IfOk result (λ named. IsInUse rows.now.items named.directory) }
     ensures target { IfOk result (λ named. IsInUse rows.now.items named.target) }
@@ -71,8 +74,11 @@ pub fn unlink_for<'a>(rows: &Rows, path: &'a [u8]) -> Result<Named<'a>, Refusal>
     Ok(named)
 }
 
-/// The directory that goes with its name. Refusals are those of `named_at`, and then `NotDirectory` for a file and
-/// `NotEmpty` where there are names in it.
+/// The directory that goes with its name.
+///
+/// Errors, the first that applies: `BadName` where the text is no path or `/`, `NotFound` or `NotDirectory` for an inode on
+/// the way, `NotFound` where the path leads to no inode in use, `NotDirectory` where it leads to a file, `NotEmpty` where
+/// there are names in the directory.
 pub fn rmdir_for<'a>(rows: &Rows, path: &'a [u8]) -> Result<Named<'a>, Refusal>
     ensures directory { IfOk result (λ named. IsInUse rows.now.items named.directory) }
     ensures target { IfOk result (λ named. IsInUse rows.now.items named.target) }

@@ -23,8 +23,10 @@ use nv_super::Super;
 use nv_tree::Refusal;
 use std::alloc::Global;
 
-/// Writes an attributes entry behind the log of a row, with the size as it is, and puts what it says into the row. It is
-/// refused as `append_log` is.
+/// Writes an attributes entry behind the log of a row, with the size as it is, and puts what it says into the row.
+///
+/// `NoSpace` where all pools together have too few blocks, `Memory` where a growth was refused; both change nothing.
+/// `Stopped` where the fuse has burnt.
 pub fn change_attributes<P: Pmem>(
     alloc: Global,
     memory: &mut P,

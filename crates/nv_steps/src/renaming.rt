@@ -32,7 +32,7 @@ use nv_super::Super;
 use nv_tree::Refusal;
 use std::alloc::Global;
 
-/// Another name for an inode, in the directory in which it has one.
+/// A name that an inode has, and the other that it gets for it.
 #[derive(Clone, Copy)]
 pub struct OtherName<'a> {
     pub inode: u64,
