@@ -24,7 +24,7 @@ some_is_none : {X P : Type 0} {x : X} → Some x ≡ None → P
 some_is_none e = absurd (cc)
 
 -- nothing that is found is none
-not_none : {X : Type 0} {o : Option X} → IsSome o → o ≡ None → ⊥
+pub not_none : {X : Type 0} {o : Option X} → IsSome o → o ≡ None → ⊥
 not_none some none = cc
 
 -- nothing before what is found

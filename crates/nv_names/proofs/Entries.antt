@@ -1,5 +1,5 @@
 -- What a list of names finds, through a change of the others of a tree or of the list beside it.
-use Rattle.std.proofs.Common.{◌≡◌, ℕ, Bool, true, false, cond, not, nat_eq, List, [], ◌∷◌, ◌++◌, map, Option, Some, None, Vec, refl, sym, ap, ◌∙◌}
+use Rattle.std.proofs.Common.{◌≡◌, ℕ, Bool, true, false, cond, not, nat_eq, List, [], ◌∷◌, ◌++◌, map, Option, Some, None, is_some, Vec, refl, sym, ap, ◌∙◌}
 use Rattle.std.specs.declared.alloc.Global.{Global}
 use Rattle.std.specs.declared.cmp.Ordering.{Ordering}
 use Rattle.std.specs.declared.cmp.Ordering.TheVariants.{Less, Equal, Greater}
@@ -169,3 +169,8 @@ found_in-first xs ys q v is = sym (found_in-append xs ys q ∙ ap (λ o. option_
 -- what only the second has
 pub found_in-second : (xs ys : List (List ℕ × ℕ × ℕ)) (q : List ℕ) (o : Option (ℕ × ℕ)) → None ≡ found_in xs q → o ≡ found_in ys q → o ≡ found_in (xs ++ ys) q
 found_in-second xs ys q o none is = is ∙ sym (found_in-append xs ys q ∙ ap (λ p. option_or p (found_in ys q)) (sym none))
+
+-- a target is there as the pair that it stands for is
+pub some_of : (o : Option Target) → is_some o ≡ is_some (option_map inode_and_place o)
+some_of None = refl
+some_of (Some t) = refl

@@ -1,11 +1,12 @@
 -- What the calls of a tree make of its two maps.
-use Rattle.std.proofs.Common.{◌≡◌, ℕ, ◌+◌, ◌<◌, ◌≤◌, ◌^◌, Bool, true, false, cond, nat_eq, List, length, map, Option, Some, None, Result, Ok, Err, OnOk, OnErr, Vec, refl, sym, ap, subst, ◌∙◌, arith}
+use Rattle.std.proofs.Common.{◌≡◌, ℕ, ◌+◌, ◌<◌, ◌≤◌, ◌^◌, Bool, true, false, cond, nat_eq, List, length, map, Option, Some, None, IsSome, is_some, Result, Ok, Err, OnOk, OnErr, Vec, refl, sym, ap, subst, ◌∙◌, arith, length-append}
 use Rattle.std.specs.declared.alloc.Global.{Global}
 use Rattle.std.specs.Ordering.{nat_cmp}
 use Rattle.std.specs.Map.{lookup, keys_of}
 use Rattle.std.specs.BTreeMap.{insert_entry}
 use Rattle.std.specs.List.Sorted.{IsStrictlySortedBy}
 use Rattle.std.specs.Cmp.Lexicographic.{pointwise, nat_list_eq_equiv, bytes_decides}
+use Rattle.std.proofs.lemmas.List.{length-map}
 use Rattle.std.proofs.lemmas.List.Elements.{All-from_recursion, recursion_from_All}
 use Rattle.nv_names.specs.declared.target.Target.{Target}
 use Rattle.nv_names.specs.Keys.{key_of}
@@ -67,6 +68,47 @@ other_taken_out es os on name tree none fewer second = record {
   };
   names = PutsAt-second (map first_line es) (map first_line es) (map other_line os) (map other_line on) name None (λ q. refl) (sym none) second;
 }
+
+-- an entry stands by the key of a name that is found
+pub first_there : (es : List Entry) (os : Others) (key : ℕ) (name : List ℕ) (v : ℕ × ℕ) → IsTree es os → key ≡ key_of name → Some v ≡ found_in (map first_line es) name → IsSome (lookup (same_key key) es)
+first_there es os key name v tree is found = decide (lookup (same_key key) es) refl
+  where
+    decide : (o : Option (List ℕ × ℕ × ℕ)) → o ≡ lookup (same_key key) es → IsSome o
+    decide None there = absurd (let none : Some v ≡ None = found ∙ first_at es key name None (recursion_from_All _ _ tree.keyed) tree.rising is there in cc)
+    decide (Some h) there = refl
+
+-- how many names both maps have
+lines_count : (es : List Entry) (os : Others) → length (lines_of es os) ≡ length es + length os
+lines_count es os = omega (arith, length-append (map first_line es) (map other_line os), length-map es first_line, length-map os other_line)
+
+-- one less where the key's name was taken out
+pub first_less : (es en : List Entry) (os : Others) → length en + 1 ≡ length es → length (lines_of en os) + 1 ≡ length (lines_of es os)
+first_less es en os less = omega (arith, less, lines_count es os, lines_count en os)
+
+-- and where one of the others was, if it was there
+pub other_less : (es : List Entry) (os on : Others) (n : ℕ) → length on + n ≡ length os → length (lines_of es on) + n ≡ length (lines_of es os)
+other_less es os on n less = omega (arith, less, lines_count es os, lines_count es on)
+
+-- one more where a key is new, but for a name that one of the others was
+pub new_more : (es en : List Entry) (os on : Others) (b c : Bool) → b ≡ false → length en ≡ length es + cond b 0 1 → length on + cond c 1 0 ≡ length os → length (lines_of en on) ≡ length (lines_of es os) + cond c 0 1
+new_more es en os on true c is first second = absurd (cc)
+new_more es en os on false true is first second = omega (arith, first, second, lines_count es os, lines_count en on)
+new_more es en os on false false is first second = omega (arith, first, second, lines_count es os, lines_count en on)
+
+-- as many where the key had the name
+pub again_more : (es en : List Entry) (os : Others) (b : Bool) → b ≡ true → length en ≡ length es + cond b 0 1 → length (lines_of en os) ≡ length (lines_of es os) + 0
+again_more es en os true is first = omega (arith, first, lines_count es os, lines_count en os)
+again_more es en os false is first = absurd (cc)
+
+-- and where the key has again what it had, as many more as of the others
+pub other_more : (es em en : List Entry) (os on : Others) (b : Bool) (n : ℕ) → b ≡ true → length em ≡ length es + cond b 0 1 → length en ≡ length em → length on ≡ length os + n → length (lines_of en on) ≡ length (lines_of es os) + n
+other_more es em en os on true n is first back second = omega (arith, first, back, second, lines_count es os, lines_count en on)
+other_more es em en os on false n is first back second = absurd (cc)
+
+-- so as many where the others refused the name
+pub no_other_more : (es em en : List Entry) (os on : Others) (b : Bool) → b ≡ true → length em ≡ length es + cond b 0 1 → length en ≡ length em → on ≡ os → length (lines_of en on) ≡ length (lines_of es os)
+no_other_more es em en os on b is first back same =
+    let stay : length on ≡ length os + 0 = (let e = ap length same in omega (arith, e)) in let all = other_more es em en os on b 0 is first back stay in omega (arith, all)
 
 -- each key is that of its name after a name was put in
 pub put_keyed : (es en : List Entry) (key : ℕ) (name : List ℕ) (h : List ℕ × ℕ × ℕ) (v : ℕ × ℕ) → AreKeyed es → key ≡ key_of name → h ≡ (name, v.0, v.1) → en ≡ insert_entry nat_cmp es key h → AreKeyed en

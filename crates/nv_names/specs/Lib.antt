@@ -1,3 +1,4 @@
+pub mod Forest
 pub mod Keys
 pub mod Names
 pub mod Table

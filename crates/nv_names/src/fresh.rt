@@ -9,7 +9,7 @@ ghost use Rattle.nv_names.specs.Names.{found_in, inode_and_place, line_of};
 ghost use Rattle.nv_names.specs.Table.{fresh_line, FindSame, AreBeside};
 
 use crate::name::Name;
-use crate::tree::Tree;
+use crate::forest::Forest;
 use crate::{Named, Target};
 use std::alloc::{AllocError, Global};
 
@@ -53,7 +53,7 @@ fn is_other(entry: &Fresh, name: &[u8]) -> bool
 /// A name is let go only once the tree has it. So it is never moved as a value, which has room for the longest name.
 pub(crate) fn settle(
     alloc: Global,
-    tree: &mut Tree,
+    tree: &mut Forest,
     fresh: &mut Vec<Fresh>,
 ) -> Result<(), AllocError>
     requires { AreBeside tree.old (map fresh_line fresh.old.items) }

@@ -1,12 +1,15 @@
 //! The names of a directory, as a map from a name's bytes to its inode and the place of its entry.
 #![tactic(auto)]
 
+mod forest;
 mod fresh;
 mod held;
 mod index;
 mod key;
+mod many;
 mod name;
 mod named;
+mod spreading;
 mod table;
 mod target;
 mod tree;

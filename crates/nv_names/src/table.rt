@@ -8,7 +8,7 @@ ghost use Rattle.nv_names.specs.Table.{PutsAt};
 
 use crate::fresh::{Fresh, forget, push_fresh, settle, target_of};
 use crate::name::Name;
-use crate::tree::Tree;
+use crate::forest::Forest;
 use crate::{Named, Target};
 use std::alloc::{AllocError, Global};
 use std::marker::Model;
@@ -19,7 +19,7 @@ use std::marker::Model;
 /// moves into the tree when room is next made.
 #[derive(Drop)]
 pub(crate) struct Table {
-    tree: Tree,
+    tree: Forest,
     fresh: Vec<Fresh>,
     alloc: Global,
 }
@@ -46,7 +46,7 @@ impl Table {
         ensures empty { (q : List ℕ) → name_at result q ≡ None }
     {
         Table {
-            tree: Tree::new(alloc),
+            tree: Forest::new(alloc),
             fresh: Vec::new(alloc),
             alloc,
         }

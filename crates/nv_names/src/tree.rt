@@ -1,6 +1,6 @@
 //! The tree of names, in the order of their keys. It takes memory for each name that it is given.
 
-ghost use Rattle.std.specs.Prelude.{◌≡◌, ◌^◌, ◌<◌, ◌≤◌, ◌+◌, ◌++◌, [], List, ℕ, length, map, cond, IsSome, IfOk, OnOk, OnErr, Some, None, nat_eq};
+ghost use Rattle.std.specs.Prelude.{◌≡◌, ◌^◌, ◌<◌, ◌≤◌, ◌+◌, ◌++◌, [], List, ℕ, length, map, cond, if◌then◌else◌, is_some, IsSome, IfOk, OnOk, OnErr, Some, None, nat_eq};
 ghost use Rattle.std.specs.Option.{option_map};
 ghost use Rattle.std.specs.Ordering.{nat_cmp};
 ghost use Rattle.std.specs.Map.{lookup, keys_of};
@@ -14,7 +14,6 @@ ghost use Rattle.nv_names.specs.Table.{PutsAt, FindSame};
 ghost use Rattle.nv_names.specs.Tree.{first_line, other_line, AreKeyed, IsTree};
 
 use crate::held::Held;
-use crate::key::key_of;
 use crate::{Named, Target};
 use std::alloc::{AllocError, Global};
 use std::collections::BTreeMap;
@@ -62,10 +61,11 @@ impl Tree {
     }
 
     /// What a name stands for, if it is in the tree.
-    pub(crate) fn find(&self, name: &[u8]) -> Option<Target>
+    pub(crate) fn find(&self, key: u64, name: &[u8]) -> Option<Target>
+        requires { key ≡ key_of name.now }
         ensures { option_map inode_and_place result ≡ found_in self.now name.now }
     {
-        match find_first(&self.first, key_of(name), name) {
+        match find_first(&self.first, key, name) {
             Some(target) => Some(target),
             None => find_other(&self.others, name),
         }
@@ -75,17 +75,20 @@ impl Tree {
     pub(crate) fn put(
         &mut self,
         alloc: Global,
+        key: u64,
         name: &[u8],
         target: Target,
     ) -> Result<Option<Target>, AllocError>
+        requires { key ≡ key_of name.now }
         ensures had { IfOk result (λ had. option_map inode_and_place had ≡ found_in self.old name.now) }
         ensures ok { OnOk result (PutsAt self.old self.new name.now (Some (inode_and_place target))) }
         ensures err { OnErr result (FindSame self.old self.new) }
+        ensures more { IfOk result (λ had. length self.new ≡ length self.old + (if is_some had then 0 else 1)) }
+        ensures no_more { OnErr result (length self.new ≡ length self.old) }
     {
         if self.first.len() + self.others.len() >= MOST {
             return Err(AllocError);
         }
-        let key = key_of(name);
         let held = Held::new(alloc, name, target)?;
         match self.first.insert(key, held)? {
             None => Ok(take_other(&mut self.others, name)),
@@ -99,16 +102,19 @@ impl Tree {
         }
     }
 
-    /// Takes a name out of the tree, if it is there.
-    pub(crate) fn take_out(&mut self, name: &[u8])
-        ensures { PutsAt self.old self.new name.now None }
+    /// Takes a name out of the tree, and answers whether it was there.
+    pub(crate) fn take_out(&mut self, key: u64, name: &[u8]) -> bool
+        requires { key ≡ key_of name.now }
+        ensures had { result ≡ is_some (found_in self.old name.now) }
+        ensures names { PutsAt self.old self.new name.now None }
+        ensures less { length self.new + (if result then 1 else 0) ≡ length self.old }
     {
-        let key = key_of(name);
         match find_first(&self.first, key, name) {
-            Some(_) => take_first(&mut self.first, key),
-            None => {
-                let _had = take_other(&mut self.others, name);
+            Some(_) => {
+                take_first(&mut self.first, key);
+                true
             }
+            None => take_other(&mut self.others, name).is_some(),
         }
     }
 
@@ -158,9 +164,10 @@ fn find_other(others: &Others, name: &[u8]) -> Option<Target>
 /// Takes out the name of a key.
 fn take_first(first: &mut First, key: u64)
     requires keyed { AreKeyed first.old.entries }
+    requires there { IsSome (lookup (is_at (nat_cmp key)) first.old.entries) }
     ensures keyed { AreKeyed first.new.entries }
     ensures rising { IsStrictlySortedBy nat_cmp (keys_of first.new.entries) }
-    ensures len { length first.new.entries ≤ length first.old.entries }
+    ensures len { length first.new.entries + 1 ≡ length first.old.entries }
     ensures taken { (k : ℕ) → lookup (is_at (nat_cmp k)) first.new.entries
         ≡ cond (is_at (nat_cmp key) k) None (lookup (is_at (nat_cmp k)) first.old.entries) }
 {
@@ -185,7 +192,7 @@ fn put_back(first: &mut First, key: u64, before: Held)
 fn take_other(others: &mut Others, name: &[u8]) -> Option<Target>
     ensures had { option_map inode_and_place result ≡ found_in (map other_line others.old.entries) name.now }
     ensures names { PutsAt (map other_line others.old.entries) (map other_line others.new.entries) name.now None }
-    ensures len { length others.new.entries ≤ length others.old.entries }
+    ensures len { length others.new.entries + (if is_some result then 1 else 0) ≡ length others.old.entries }
 {
     others.remove(name)
 }
@@ -200,6 +207,7 @@ fn put_other(
     ensures had { IfOk result (λ had. option_map inode_and_place had ≡ found_in (map other_line others.old.entries) name.now) }
     ensures ok { OnOk result (PutsAt (map other_line others.old.entries) (map other_line others.new.entries) name.now (Some (inode_and_place target))) }
     ensures err { OnErr result (others.new.entries ≡ others.old.entries) }
+    ensures more { IfOk result (λ had. length others.new.entries ≡ length others.old.entries + (if is_some had then 0 else 1)) }
     ensures len { length others.new.entries ≤ length others.old.entries + 1 }
 {
     let bytes = Vec::from_slice(alloc, name)?;

@@ -1,0 +1,44 @@
+-- The trees of a forest: one, or many among which a name's key chooses.
+use Rattle.std.specs.Prelude.{◌≡◌, ℕ, ◌+◌, ◌/◌, ◌%◌, ◌<◌, ◌^◌, ◌++◌, nat_eq, List, [], ◌∷◌, length, flat_map, IsSome}
+use Rattle.std.specs.Cmp.Lexicographic.{pointwise}
+use Rattle.std.specs.List.{IsDistinct}
+use Rattle.nv_names.specs.Keys.{key_of}
+use Rattle.nv_names.specs.Names.{found_in, names_of}
+
+-- the place of a key's tree among so many; names that differ in their last byte alone have one place, mostly
+abbrev pub place_of : ℕ → ℕ → ℕ
+place_of key trees = key / 256 % trees
+
+-- the names of many trees, those of one tree after those of another
+abbrev pub all_lines : List (List (List ℕ × ℕ × ℕ)) → List (List ℕ × ℕ × ℕ)
+all_lines trees = flat_map (λ tree. tree) trees
+
+-- no name is twice in a tree, and each that it has is of its place, where `at` tells the place of a name
+pub record StandsAt (at : List ℕ → ℕ) (place : ℕ) (tree : List (List ℕ × ℕ × ℕ)) : Type 0 where
+  pub once : IsDistinct (pointwise nat_eq) (names_of tree)
+  pub placed : (q : List ℕ) → IsSome (found_in tree q) → at q ≡ place
+
+-- the first of some trees stands at a place, and each of the others at the one after that of the tree before it
+abbrev pub StandFrom : (List ℕ → ℕ) → ℕ → List (List (List ℕ × ℕ × ℕ)) → Type 0
+StandFrom at place [] = Unit {0}
+StandFrom at place (t ∷ ts) = StandsAt at place t × StandFrom at (place + 1) ts
+
+-- each name stands in the tree of its key's place, and there once
+abbrev pub AreMany : List (List (List ℕ × ℕ × ℕ)) → Type 0
+AreMany trees = StandFrom (λ name. place_of (key_of name) (length trees)) 0 trees
+
+-- no name is twice in the one tree; each name of the many stands in its tree; and where there are many, the one has no name
+pub record AreTrees (one : List (List ℕ × ℕ × ℕ)) (many : List (List (List ℕ × ℕ × ℕ))) : Type 0 where
+  pub once : IsDistinct (pointwise nat_eq) (names_of one)
+  pub each : AreMany many
+  pub alone : 0 < length many → one ≡ []
+
+-- the names of the one tree and of the many
+abbrev pub lines_in : List (List ℕ × ℕ × ℕ) → List (List (List ℕ × ℕ × ℕ)) → List (List ℕ × ℕ × ℕ)
+lines_in one many = one ++ all_lines many
+
+-- the trees are as above, and a word counts their names
+pub record IsForest (one : List (List ℕ × ℕ × ℕ)) (many : List (List (List ℕ × ℕ × ℕ))) (count : ℕ) : Type 0 where
+  pub trees : AreTrees one many
+  pub counted : count ≡ length (lines_in one many)
+  pub few : count < 2 ^ 63
