@@ -10,7 +10,7 @@ use Rattle.nv_names.specs.declared.target.Target.{Target}
 use Rattle.nv_names.specs.Forest.{place_of, all_lines, lines_in, StandsAt, StandFrom, AreMany, AreTrees, IsForest}
 use Rattle.nv_names.specs.Keys.{key_of}
 use Rattle.nv_names.specs.Names.{found_in, names_of, inode_and_place}
-use Rattle.nv_names.specs.Table.{PutsAt, FindSame, AreApart}
+use Rattle.nv_names.specs.Table.{PutsAt, FindSame}
 use Rattle.nv_names.proofs.Entries.{found_in-append}
 use Rattle.nv_names.proofs.Beside.{not_none, option_or-None, PutsAt-both, PutsAt-second, PutsAt-nothing, FindSame-front, distinct-both}
 

@@ -1,5 +1,5 @@
 -- The names of one tree on their way into many.
-use Rattle.std.proofs.Common.{◌≡◌, ℕ, ◌+◌, true, false, cond, nat_eq, List, [], ◌∷◌, ◌++◌, length, map, Option, Some, None, is_some, refl, sym, ap, subst, ◌∙◌, arith, length-append}
+use Rattle.std.proofs.Common.{◌≡◌, ℕ, ◌+◌, true, cond, nat_eq, List, [], ◌∷◌, ◌++◌, length, map, Option, Some, None, is_some, refl, sym, ap, subst, ◌∙◌, arith, length-append}
 use Rattle.std.proofs.lemmas.List.{append-nil, map-append, length-map}
 use Rattle.std.specs.List.{IsDistinct}
 use Rattle.std.specs.Option.{option_map, option_or}
@@ -9,7 +9,7 @@ use Rattle.nv_names.specs.declared.target.Target.{Target}
 use Rattle.nv_names.specs.Names.{found_in, names_of, line_of, inode_and_place}
 use Rattle.nv_names.specs.Table.{PutsAt, FindSame, AreBeside}
 use Rattle.nv_names.proofs.Entries.{found_in-append, some_of}
-use Rattle.nv_names.proofs.Beside.{not_none, moved}
+use Rattle.nv_names.proofs.Beside.{moved}
 use Rattle.nv_names.proofs.Forests.{Lines}
 
 -- The trees and the lines that are left have together the names of the one tree, each once.
@@ -55,7 +55,7 @@ moves_on one a d left rest line had moves split found puts more = record {
     both : AreBeside d (map line_of rest) × FindSame (a ++ (map line_of rest ++ line_of line ∷ [])) (d ++ map line_of rest)
     both = moved a d (map line_of rest) (line_of line) apart puts
 
-    new : cond (is_some had) 0 1 ≡ 1
+    new : cond {A = ℕ} (is_some had) 0 1 ≡ 1
     new = ap (λ b. cond b 0 1) (some_of had ∙ ap is_some (found ∙ last_lacks a (map line_of rest) (line_of line) apart))
 
 -- in the end the trees have all names

@@ -8,8 +8,8 @@ ghost use Rattle.std.specs.Vec.{vec_len, vec_capacity};
 ghost use Rattle.nv_names.specs.Names.{found_in, inode_and_place, line_of};
 ghost use Rattle.nv_names.specs.Table.{fresh_line, FindSame, AreBeside};
 
-use crate::name::Name;
 use crate::forest::Forest;
+use crate::name::Name;
 use crate::{Named, Target};
 use std::alloc::{AllocError, Global};
 

@@ -49,7 +49,13 @@ fn spread(alloc: Global, one: &Tree) -> Result<Vec<Tree>, AllocError>
             inode: line.inode,
             place: line.place,
         };
-        let _had = put_among(alloc, many.as_mut_slice(), key_of(line.name), line.name, target)?;
+        let _had = put_among(
+            alloc,
+            many.as_mut_slice(),
+            key_of(line.name),
+            line.name,
+            target,
+        )?;
     }
     Ok(many)
 }

@@ -6,9 +6,9 @@ ghost use Rattle.std.specs.Option.{option_map};
 ghost use Rattle.nv_names.specs.Names.{IsName, name_at, EachOnce, inode_and_place, line_of};
 ghost use Rattle.nv_names.specs.Table.{PutsAt};
 
+use crate::forest::Forest;
 use crate::fresh::{Fresh, forget, push_fresh, settle, target_of};
 use crate::name::Name;
-use crate::forest::Forest;
 use crate::{Named, Target};
 use std::alloc::{AllocError, Global};
 use std::marker::Model;

@@ -1,8 +1,6 @@
-use Rattle.std.proofs.Common.{◌≡◌, length, sym, subst, arith}
-use Rattle.std.specs.Vec.{with_items}
+use Rattle.std.proofs.Common.{◌≡◌, length, subst, arith}
 use Rattle.std.proofs.lemmas.List.{with_items_is}
 use Rattle.nv_names.specs.Names.{inode_and_place}
-use Rattle.nv_names.specs.Forest.{AreMany}
 use Rattle.nv_names.proofs.Forests.{PutAmong, not_many, some_many, put_one, put_many}
 use Rattle.nv_names.proofs.forest.put_in.Goals as goal
 
@@ -23,8 +21,8 @@ put_among-requires-clause-some c =
 pub put_among-requires-clause-many : goal.put_among-requires-clause-many
 put_among-requires-clause-many c = rw c.as_mut_slice.ensures.value c.requires.each
 
-pub returns-else-is_empty : goal.returns-else-is_empty
-returns-else-is_empty c =
+pub returns : goal.returns
+returns c =
     let len : length c.args.many.now.items ≡ c.args.many.now.len = omega arith in
     let same : length c.put_among.new.trees ≡ c.args.many.now.len = omega arith in
     let items = with_items_is c.args.many.now c.put_among.new.trees same in

@@ -1,7 +1,5 @@
-use Rattle.std.proofs.Common.{◌≡◌, length, sym, subst, arith}
-use Rattle.std.specs.Vec.{with_items}
+use Rattle.std.proofs.Common.{◌≡◌, length, subst, arith}
 use Rattle.std.proofs.lemmas.List.{with_items_is}
-use Rattle.nv_names.specs.Forest.{AreMany}
 use Rattle.nv_names.proofs.Forests.{TakenFrom, not_many, some_many, taken_one, taken_many}
 use Rattle.nv_names.proofs.forest.take_out_of.Goals as goal
 
@@ -22,8 +20,8 @@ take_from-requires-clause-some c =
 pub take_from-requires-clause-many : goal.take_from-requires-clause-many
 take_from-requires-clause-many c = rw c.as_mut_slice.ensures.value c.requires.each
 
-pub returns-else-is_empty : goal.returns-else-is_empty
-returns-else-is_empty c =
+pub returns : goal.returns
+returns c =
     let len : length c.args.many.now.items ≡ c.args.many.now.len = omega arith in
     let same : length c.take_from.new.trees ≡ c.args.many.now.len = omega arith in
     let items = with_items_is c.args.many.now c.take_from.new.trees same in

@@ -1,6 +1,5 @@
-use Rattle.std.proofs.Common.{◌≡◌, ◌<◌, [], ℕ, List, length, subst, sym, ap, ◌∙◌, arith}
+use Rattle.std.proofs.Common.{[], List, length, subst, sym, ap, ◌∙◌}
 use Rattle.std.proofs.Math.ListN.{replicate}
-use Rattle.std.proofs.lemmas.List.{length-replicate}
 use Rattle.nv_names.specs.Keys.{key_of}
 use Rattle.nv_names.specs.Forest.{place_of, all_lines, AreMany}
 use Rattle.nv_names.proofs.Forests.{Lines, empty_stand, empty_lines}

@@ -1,13 +1,14 @@
-use Rattle.std.proofs.Common.{◌≡◌, length, sym, subst, ap, ◌∙◌, arith}
-use Rattle.std.specs.Vec.{with_items}
+use Rattle.std.proofs.Common.{◌≡◌, ◌++◌, length, map, ap, ◌∙◌, arith}
 use Rattle.std.proofs.lemmas.List.{with_items_is}
-use Rattle.nv_names.specs.Forest.{all_lines, AreMany}
-use Rattle.nv_names.proofs.Spreads.{Moves, moves_begin, moves_on, moves_end}
+use Rattle.nv_names.specs.Forest.{all_lines}
+use Rattle.nv_names.specs.Names.{line_of}
+use Rattle.nv_names.proofs.Spreads.{moves_begin, moves_on, moves_end}
 use Rattle.nv_names.proofs.spreading.spread.Goals as goal
 
 pub loop-line-init : goal.loop-line-init
 loop-line-init c = record {
-  moves = moves_begin c.args.one.now (all_lines c.in_ok-many.many.items) c.push_lines.new.listed.items c.in_ok-many.ensures.none ?  c.len.ensures.each_once;
+  moves = moves_begin c.args.one.now (all_lines c.in_ok-many.many.items) c.push_lines.new.listed.items c.in_ok-many.ensures.none
+      (c.in_ok-push_lines.ensures ∙ ap (λ lines. map line_of lines ++ c.args.one.now) c.in_ok-listed.ensures.items) c.len.ensures.each_once;
   many = c.in_ok-many.ensures.many;
   some = c.in_ok-many.ensures.some;
 }

@@ -1,5 +1,4 @@
-use Rattle.std.proofs.Common.{map, is_some, ap, sym, ◌∙◌, arith}
-use Rattle.nv_names.specs.Names.{inode_and_place}
+use Rattle.std.proofs.Common.{map, is_some, ap, ◌∙◌, arith}
 use Rattle.nv_names.specs.Tree.{first_line, other_line}
 use Rattle.nv_names.proofs.Entries.{found_in-first, found_in-second, some_of}
 use Rattle.nv_names.proofs.Trees.{first_taken, first_there, first_less, other_taken_out, other_less}
