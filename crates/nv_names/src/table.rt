@@ -1,4 +1,4 @@
-//! The table of a name index that has, or had, a name: an ordered tree of names, and beside it a list of the few that
+//! The table of a name index that has, or had, a name: ordered trees of names, and beside them a list of the few that
 //! were added since room was last made. Only `reserve`, `put` and `unsorted` take memory.
 
 ghost use Rattle.std.specs.Prelude.{◌≡◌, ◌+◌, ◌<◌, ◌≤◌, ◌++◌, List, ℕ, length, map, IfOk, IsOk, OnOk, OnErr, Some, None};
@@ -15,8 +15,8 @@ use std::marker::Model;
 
 /// A map from names to the inodes that they stand for and the places of their entries.
 ///
-/// The tree takes memory for each name, so a name that must take none goes into `fresh`, where there is room for it. It
-/// moves into the tree when room is next made.
+/// The trees take memory for each name, so a name that must take none goes into `fresh`, where there is room for it. It
+/// moves into its tree when room is next made.
 #[derive(Drop)]
 pub(crate) struct Table {
     tree: Forest,
@@ -85,7 +85,7 @@ impl Table {
         self.fresh.push_reserved((Name::new(name), target));
     }
 
-    /// As `add`, and where there is no room the name goes into the tree. Answers what the name stood for before.
+    /// As `add`, and where there is no room the name goes into its tree. Answers what the name stood for before.
     pub(crate) fn put(
         &mut self,
         name: &[u8],
@@ -125,7 +125,7 @@ impl Table {
         self.tree.len() + self.fresh.len()
     }
 
-    /// Each name once: those of the tree, and then those beside it.
+    /// Each name once: those of the trees, and then those beside them.
     pub(crate) fn unsorted(&self) -> Result<Vec<Named<'_>>, AllocError>
         ensures names { IfOk result (λ listed. map line_of listed.items ≡ self.now.names) }
         ensures each_once { EachOnce self.now }
