@@ -1,7 +1,7 @@
 //! The program `nova`: it makes, checks and shows images of the NOVA file system, and runs scripts on them.
 //!
-//! `run` runs a script, on the region of an image or on none, and saves the region that it leaves, `check` recovers an image in
-//! memory and prints its report, `show` shows what is in an image, and `mapping` what its blocks are used for. `saving` writes
+//! `run` runs a script, on the region of an image or on none, and saves the region that it leaves. `check` recovers an image in
+//! memory and prints its report. `show` shows what is in an image, and `mapping` what its blocks are used for. `saving` writes
 //! files, `image` reads them.
 //!
 //! Behind a bad line, and a region that is refused for its length, a line on standard error says more.

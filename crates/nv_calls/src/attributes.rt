@@ -29,10 +29,17 @@ use nv_tree::Refusal;
 impl<P: Pmem + Drop> Fs<P> {
     /// Sets the mode, of which the low 12 bits are kept, and the owner, group and time of the inode that a path leads to.
     ///
-    /// Errors, the first that applies: `Stopped` after a stop, `BadCpu` where there is no CPU of that number, `ReadOnly`
-    /// where the region was mounted with faults, `BadName` where the text is no path, `NotFound` or `NotDirectory` for an
-    /// inode on the way, `NotFound` for the last name, `NoSpace` where fewer blocks are free than the log needs. `Memory`
-    /// where a growth was refused, `Stopped` where the fuse burns. All but `Stopped` leave everything as it was.
+    /// Errors, the first that applies:
+    /// - `Stopped` after a stop
+    /// - `BadCpu` where there is no CPU of that number
+    /// - `ReadOnly` where the region was mounted with faults
+    /// - `BadName` where the text is no path
+    /// - `NotFound` or `NotDirectory` for an inode on the way
+    /// - `NotFound` for the last name
+    /// - `NoSpace` where fewer blocks are free than the log needs
+    ///
+    /// Besides these `Memory` where a growth was refused, and `Stopped` where the fuse burns. All but `Stopped` leave
+    /// everything as it was.
     pub fn set_attr(
         &mut self,
         cpu: u64,

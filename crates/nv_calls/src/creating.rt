@@ -91,11 +91,18 @@ fn create_at<P: Pmem>(
 impl<P: Pmem + Drop> Fs<P> {
     /// Makes a file of this mode, of which the low 12 bits are kept, with one name.
     ///
-    /// Errors, the first that applies: `Stopped` after a stop, `BadCpu` where there is no CPU of that number, `ReadOnly`
-    /// where the region was mounted with faults, `BadName` where the text is no path or `/`, `NotFound` or `NotDirectory`
-    /// for an inode on the way, `Exists` where the path leads to an inode, `NoInodes` where the CPU's table has no unused
-    /// slot, `NoSpace` where fewer blocks are free than both logs need. `Memory` where a growth was refused, `Stopped`
-    /// where the fuse burns. All but `Stopped` leave everything as it was.
+    /// Errors, the first that applies:
+    /// - `Stopped` after a stop
+    /// - `BadCpu` where there is no CPU of that number
+    /// - `ReadOnly` where the region was mounted with faults
+    /// - `BadName` where the text is no path or `/`
+    /// - `NotFound` or `NotDirectory` for an inode on the way
+    /// - `Exists` where the path leads to an inode
+    /// - `NoInodes` where the CPU's table has no unused slot
+    /// - `NoSpace` where fewer blocks are free than both logs need
+    ///
+    /// Besides these `Memory` where a growth was refused, and `Stopped` where the fuse burns. All but `Stopped` leave
+    /// everything as it was.
     pub fn create(&mut self, cpu: u64, path: &[u8], mode: u32, time: u64) -> Result<(), Refusal>
         ensures stopped_before { IsTrue self.old.stopped → (result ≡ Result.Err RefusalValue.Stopped) × (self.new ≡ self.old) }
         ensures allowed { (p : Path) → Says path.now p

@@ -92,12 +92,20 @@ fn link_at<P: Pmem>(
 impl<P: Pmem + Drop> Fs<P> {
     /// Gives the file that the first path leads to one name more, which the second path says.
     ///
-    /// Errors, the first that applies: `Stopped` after a stop, `BadCpu` where there is no CPU of that number, `ReadOnly`
-    /// where the region was mounted with faults, `BadName` where the first text is no path or the second no path or `/`,
-    /// `NotFound` or `NotDirectory` for an inode on the first way and then on the second, `NotFound` where the first path
-    /// leads to no inode, `IsDirectory` where to a directory, `Exists` where the second leads to an inode, `LinkLimit` where
-    /// the file has 1,000 links, `NoSpace` where fewer blocks are free than both logs need. `Memory` where a growth was
-    /// refused, `Stopped` where the fuse burns. All but `Stopped` leave everything as it was.
+    /// Errors, the first that applies:
+    /// - `Stopped` after a stop
+    /// - `BadCpu` where there is no CPU of that number
+    /// - `ReadOnly` where the region was mounted with faults
+    /// - `BadName` where the first text is no path or the second no path or `/`
+    /// - `NotFound` or `NotDirectory` for an inode on the first way and then on the second
+    /// - `NotFound` where the first path leads to no inode
+    /// - `IsDirectory` where it leads to a directory
+    /// - `Exists` where the second leads to an inode
+    /// - `LinkLimit` where the file has 1,000 links
+    /// - `NoSpace` where fewer blocks are free than both logs need
+    ///
+    /// Besides these `Memory` where a growth was refused, and `Stopped` where the fuse burns. All but `Stopped` leave
+    /// everything as it was.
     pub fn link(&mut self, cpu: u64, old: &[u8], new: &[u8], time: u64) -> Result<(), Refusal>
         ensures stopped_before { IsTrue self.old.stopped → (result ≡ Result.Err RefusalValue.Stopped) × (self.new ≡ self.old) }
         ensures allowed { (p q : Path) → Says old.now p → Says new.now q

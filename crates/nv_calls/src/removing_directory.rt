@@ -29,11 +29,19 @@ use nv_tree::Refusal;
 impl<P: Pmem + Drop> Fs<P> {
     /// Takes a directory without names away, and its name.
     ///
-    /// Errors, the first that applies: `Stopped` after a stop, `BadCpu` where there is no CPU of that number, `ReadOnly`
-    /// where the region was mounted with faults, `BadName` where the text is no path or `/`, `NotFound` or `NotDirectory`
-    /// for an inode on the way, `NotFound` for the last name, `NotDirectory` for a file, `NotEmpty` where names are in it,
-    /// `NoSpace` where fewer blocks are free than the log needs. `Memory` where a growth was refused, `Stopped` where the
-    /// fuse burns. All but `Stopped` leave everything as it was.
+    /// Errors, the first that applies:
+    /// - `Stopped` after a stop
+    /// - `BadCpu` where there is no CPU of that number
+    /// - `ReadOnly` where the region was mounted with faults
+    /// - `BadName` where the text is no path or `/`
+    /// - `NotFound` or `NotDirectory` for an inode on the way
+    /// - `NotFound` for the last name
+    /// - `NotDirectory` for a file
+    /// - `NotEmpty` where names are in it
+    /// - `NoSpace` where fewer blocks are free than the log needs
+    ///
+    /// Besides these `Memory` where a growth was refused, and `Stopped` where the fuse burns. All but `Stopped` leave
+    /// everything as it was.
     pub fn rmdir(&mut self, cpu: u64, path: &[u8], time: u64) -> Result<(), Refusal>
         ensures stopped_before { IsTrue self.old.stopped → (result ≡ Result.Err RefusalValue.Stopped) × (self.new ≡ self.old) }
         ensures allowed { (p : Path) → Says path.now p

@@ -144,12 +144,19 @@ fn move_at<P: Pmem>(
 impl<P: Pmem + Drop> Fs<P> {
     /// Gives the inode that the first path leads to the name that the second path says, in place of its old one.
     ///
-    /// Errors, the first that applies: `Stopped` after a stop, `BadCpu` where there is no CPU of that number, `ReadOnly`
-    /// where the region was mounted with faults, `BadName` where a text is no path or `/`, `NotFound` or `NotDirectory` for
-    /// an inode on the first way and then on the second, `NotFound` where the first path leads to no inode, `IntoItself`
-    /// where it leads to a directory that the second way passes, `Exists` where the second leads to an inode, `NoSpace`
-    /// where fewer blocks are free than the logs need. `Memory` where a growth was refused, `Stopped` where the fuse burns.
-    /// All but `Stopped` leave everything as it was.
+    /// Errors, the first that applies:
+    /// - `Stopped` after a stop
+    /// - `BadCpu` where there is no CPU of that number
+    /// - `ReadOnly` where the region was mounted with faults
+    /// - `BadName` where a text is no path or `/`
+    /// - `NotFound` or `NotDirectory` for an inode on the first way and then on the second
+    /// - `NotFound` where the first path leads to no inode
+    /// - `IntoItself` where it leads to a directory that the second way passes
+    /// - `Exists` where the second leads to an inode
+    /// - `NoSpace` where fewer blocks are free than the logs need
+    ///
+    /// Besides these `Memory` where a growth was refused, and `Stopped` where the fuse burns. All but `Stopped` leave
+    /// everything as it was.
     pub fn rename(&mut self, cpu: u64, old: &[u8], new: &[u8], time: u64) -> Result<(), Refusal>
         ensures stopped_before { IsTrue self.old.stopped → (result ≡ Result.Err RefusalValue.Stopped) × (self.new ≡ self.old) }
         ensures allowed { (p q : Path) → Says old.now p → Says new.now q

@@ -37,11 +37,19 @@ const MOST_BYTES: u64 = 1_073_741_824;
 impl<P: Pmem + Drop> Fs<P> {
     /// Sets the size and the time of the file that a path leads to: it is cut, or lengthened by zeros.
     ///
-    /// Errors, the first that applies: `Stopped` after a stop, `BadCpu` where there is no CPU of that number, `ReadOnly`
-    /// where the region was mounted with faults, `BadName` where the text is no path, `NotFound` or `NotDirectory` for an
-    /// inode on the way, `NotFound` for the last name, `IsDirectory` for a directory, `TooLarge` for more bytes than a file
-    /// can have, `NoSpace` where fewer blocks are free than it needs. `Memory` where a growth was refused, `Stopped` where
-    /// the fuse burns. All but `Stopped` leave everything as it was.
+    /// Errors, the first that applies:
+    /// - `Stopped` after a stop
+    /// - `BadCpu` where there is no CPU of that number
+    /// - `ReadOnly` where the region was mounted with faults
+    /// - `BadName` where the text is no path
+    /// - `NotFound` or `NotDirectory` for an inode on the way
+    /// - `NotFound` for the last name
+    /// - `IsDirectory` for a directory
+    /// - `TooLarge` for more bytes than a file can have
+    /// - `NoSpace` where fewer blocks are free than it needs
+    ///
+    /// Besides these `Memory` where a growth was refused, and `Stopped` where the fuse burns. All but `Stopped` leave
+    /// everything as it was.
     pub fn set_size(&mut self, cpu: u64, path: &[u8], size: u64, time: u64) -> Result<(), Refusal>
         ensures stopped_before { IsTrue self.old.stopped → (result ≡ Result.Err RefusalValue.Stopped) × (self.new ≡ self.old) }
         ensures allowed { (p : Path) → Says path.now p

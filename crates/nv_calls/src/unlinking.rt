@@ -143,11 +143,18 @@ fn release_at<P: Pmem>(
 impl<P: Pmem + Drop> Fs<P> {
     /// Takes a name of a file away, and with the last one the file.
     ///
-    /// Errors, the first that applies: `Stopped` after a stop, `BadCpu` where there is no CPU of that number, `ReadOnly`
-    /// where the region was mounted with faults, `BadName` where the text is no path or `/`, `NotFound` or `NotDirectory`
-    /// for an inode on the way, `NotFound` for the last name, `IsDirectory` for a directory, `NoSpace` where fewer blocks
-    /// are free than the logs need. `Memory` where a growth was refused, `Stopped` where the fuse burns. All but `Stopped`
-    /// leave everything as it was.
+    /// Errors, the first that applies:
+    /// - `Stopped` after a stop
+    /// - `BadCpu` where there is no CPU of that number
+    /// - `ReadOnly` where the region was mounted with faults
+    /// - `BadName` where the text is no path or `/`
+    /// - `NotFound` or `NotDirectory` for an inode on the way
+    /// - `NotFound` for the last name
+    /// - `IsDirectory` for a directory
+    /// - `NoSpace` where fewer blocks are free than the logs need
+    ///
+    /// Besides these `Memory` where a growth was refused, and `Stopped` where the fuse burns. All but `Stopped` leave
+    /// everything as it was.
     pub fn unlink(&mut self, cpu: u64, path: &[u8], time: u64) -> Result<(), Refusal>
         ensures stopped_before { IsTrue self.old.stopped → (result ≡ Result.Err RefusalValue.Stopped) × (self.new ≡ self.old) }
         ensures allowed { (p : Path) → Says path.now p

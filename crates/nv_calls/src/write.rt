@@ -37,11 +37,19 @@ impl<P: Pmem + Drop> Fs<P> {
     /// Writes bytes into the file that a path leads to, from an offset on. A gap between the old end and the offset is
     /// zeros. No bytes change nothing.
     ///
-    /// Errors, the first that applies: `Stopped` after a stop, `BadCpu` where there is no CPU of that number, `ReadOnly`
-    /// where the region was mounted with faults, `BadName` where the text is no path, `NotFound` or `NotDirectory` for an
-    /// inode on the way, `NotFound` for the last name, `IsDirectory` for a directory, `TooLarge` where the bytes would end
-    /// past the most that a file can have, `NoSpace` where fewer blocks are free than are needed. `Memory` where a growth
-    /// was refused, `Stopped` where the fuse burns. All but `Stopped` leave everything as it was.
+    /// Errors, the first that applies:
+    /// - `Stopped` after a stop
+    /// - `BadCpu` where there is no CPU of that number
+    /// - `ReadOnly` where the region was mounted with faults
+    /// - `BadName` where the text is no path
+    /// - `NotFound` or `NotDirectory` for an inode on the way
+    /// - `NotFound` for the last name
+    /// - `IsDirectory` for a directory
+    /// - `TooLarge` where the bytes would end past the most that a file can have
+    /// - `NoSpace` where fewer blocks are free than are needed
+    ///
+    /// Besides these `Memory` where a growth was refused, and `Stopped` where the fuse burns. All but `Stopped` leave
+    /// everything as it was.
     pub fn write(
         &mut self,
         cpu: u64,

@@ -37,11 +37,11 @@ pub struct NewInode<'a> {
     pub entries: &'a [Entry],
 }
 
-/// Writes the log of a new inode, entries behind the tail of a directory's log, and the inode's slot, and then, by the empty
-/// journal of a CPU, sets the slot's valid word and moves that tail behind them. Answers the tails of both logs.
+/// Writes the log of a new inode, entries behind the tail of a directory's log, and the inode's slot. Then, by the empty
+/// journal of a CPU, it sets the slot's valid word and moves that tail behind them. Answers the tails of both logs.
 ///
 /// After a stop at any moment of the call, the undone region has the directory's log as it was and no such inode, or the log
-/// with all of the entries and the inode, and nothing is wrong with the journals. It costs five fences and takes no memory.
+/// with all of the entries and the inode. Nothing is wrong with the journals then. It costs five fences and takes no memory.
 /// Answers `Stopped` exactly where the fuse has burnt by the end of the call.
 pub fn make_inode<P: Pmem>(
     memory: &mut P,

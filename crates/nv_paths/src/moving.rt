@@ -31,9 +31,12 @@ pub struct Move<'a> {
 
 /// The inode that gets another name, and both names.
 ///
-/// Errors, the first that applies: `BadName` where a text is no path or `/`, `NotFound` or `NotDirectory` for an inode on
-/// the first way and then on the second, `NotFound` where the first path leads to no inode in use, `IntoItself` where it
-/// leads to a directory that the second way passes, `Exists` where the second leads to an inode in use.
+/// Errors, the first that applies:
+/// - `BadName` where a text is no path or `/`
+/// - `NotFound` or `NotDirectory` for an inode on the first way and then on the second
+/// - `NotFound` where the first path leads to no inode in use
+/// - `IntoItself` where it leads to a directory that the second way passes
+/// - `Exists` where the second leads to an inode in use
 pub fn rename_for<'a>(rows: &Rows, old: &'a [u8], new: &'a [u8]) -> Result<Move<'a>, Refusal>
     ensures from { IfOk result (λ moved. IsInUse rows.now.items moved.from.directory) }
     ensures target { IfOk result (λ moved. IsInUse rows.now.items moved.from.target) }

@@ -76,9 +76,12 @@ pub fn unlink_for<'a>(rows: &Rows, path: &'a [u8]) -> Result<Named<'a>, Refusal>
 
 /// The directory that goes with its name.
 ///
-/// Errors, the first that applies: `BadName` where the text is no path or `/`, `NotFound` or `NotDirectory` for an inode on
-/// the way, `NotFound` where the path leads to no inode in use, `NotDirectory` where it leads to a file, `NotEmpty` where
-/// there are names in the directory.
+/// Errors, the first that applies:
+/// - `BadName` where the text is no path or `/`
+/// - `NotFound` or `NotDirectory` for an inode on the way
+/// - `NotFound` where the path leads to no inode in use
+/// - `NotDirectory` where it leads to a file
+/// - `NotEmpty` where there are names in the directory
 pub fn rmdir_for<'a>(rows: &Rows, path: &'a [u8]) -> Result<Named<'a>, Refusal>
     ensures directory { IfOk result (λ named. IsInUse rows.now.items named.directory) }
     ensures target { IfOk result (λ named. IsInUse rows.now.items named.target) }

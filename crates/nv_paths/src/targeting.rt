@@ -22,10 +22,13 @@ const MOST_LINKS: u32 = 1000;
 
 /// The file to which a path leads, and the directory and the name of its new link.
 ///
-/// Errors, the first that applies: `BadName` where the first text is no path or the second no path or `/`, `NotFound` or
-/// `NotDirectory` for an inode on the first way and then on the second, `NotFound` where the first path leads to no inode
-/// in use, `IsDirectory` where to a directory, `Exists` where the second leads to one, `LinkLimit` where the file has as
-/// many links as it can have.
+/// Errors, the first that applies:
+/// - `BadName` where the first text is no path or the second no path or `/`
+/// - `NotFound` or `NotDirectory` for an inode on the first way and then on the second
+/// - `NotFound` where the first path leads to no inode in use
+/// - `IsDirectory` where it leads to a directory
+/// - `Exists` where the second leads to an inode in use
+/// - `LinkLimit` where the file has as many links as it can have
 pub fn link_for<'a>(rows: &Rows, old: &[u8], new: &'a [u8]) -> Result<Named<'a>, Refusal>
     ensures directory { IfOk result (λ named. IsInUse rows.now.items named.directory) }
     ensures target { IfOk result (λ named. IsInUse rows.now.items named.target) }

@@ -23,8 +23,8 @@ pub struct Row {
     pub names: NameIndex,
 }
 
-/// All that is found of one inode by itself: its row, if it is in use, the blocks that it claims, each with the owner,
-/// first the pages of the log in their order and then the pages of the file, and its faults, each once and in no order.
+/// All that is found of one inode by itself: its row, if it is in use, the blocks that it claims, and its faults, each once
+/// and in no order. Each claim has its owner: first come the pages of the log in their order, then those of the file.
 #[derive(Drop)]
 pub struct Piece {
     pub inode: u64,
