@@ -5,9 +5,9 @@ use Rattle.std.specs.List.{IsDistinct}
 use Rattle.nv_names.specs.Keys.{key_of}
 use Rattle.nv_names.specs.Names.{found_in, names_of}
 
--- the place of a key's tree among so many; names that differ in their last byte alone have one place, mostly
+-- the place of a key's tree among so many; names that differ in their last two bytes alone have one place, mostly
 abbrev pub place_of : ℕ → ℕ → ℕ
-place_of key trees = key / 256 % trees
+place_of key trees = key / 65536 % trees
 
 -- the names of many trees, those of one tree after those of another
 abbrev pub all_lines : List (List (List ℕ × ℕ × ℕ)) → List (List ℕ × ℕ × ℕ)

@@ -11,9 +11,9 @@ use crate::tree::Tree;
 use crate::{Named, Target};
 use std::alloc::{AllocError, Global};
 
-/// So many keys in a row have one place. Names that differ in their last byte alone have mostly keys of one such row: so
-/// names that come by number are put in side by side.
-const ROW: u64 = 256;
+/// So many keys in a row have one place. Names that differ in their last two bytes alone have mostly keys of one such row: so
+/// names that come by number are put in, found and taken out side by side.
+const ROW: u64 = 65_536;
 
 /// The place of a key's tree among so many.
 fn place_of(key: u64, trees: usize) -> usize

@@ -14,8 +14,8 @@ use std::alloc::{AllocError, Global};
 /// From so many names on a directory has many trees.
 const FEW: usize = 512;
 
-/// How many trees a directory of many names has. It is a prime, so that each digit of a numbered name moves its place: modulo
-/// 1,024 most would not.
+/// How many trees a directory of many names has. It is a prime, so that each digit of a numbered name but the last two moves
+/// its place: modulo 1,024 most would not.
 const MANY: usize = 1021;
 
 /// Moves the names of the one tree into many, where it has many. An error leaves them as they are.
