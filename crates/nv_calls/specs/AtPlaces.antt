@@ -17,7 +17,7 @@ use Rattle.nv_logpage.specs.Append.{needed}
 use Rattle.nv_steps.specs.NameEntries.{links_entries, name_entries}
 use Rattle.nv_steps.specs.Unlinks.{UnlinksAt}
 
--- That was done in the directory whose row is at this place, and the new inode's row was put in.
+-- A new inode and its name were made in the directory whose row is at this place, and the new inode's row was put in.
 pub record CreatesAt (R S : Region) (s : Super) (free after : FreeLists) (rows news : List Row) (place : ℕ) (kind : Kind) (mode time j : ℕ) (name : List ℕ) : Type 0 where
   pub row : Row
   pub now : Row
@@ -36,8 +36,8 @@ pub record LeavesRows {P : Type 0} (old new : P) (before after : FreeLists) (had
 abbrev pub CanGo : Row → Type 0
 CanGo row = ((row.kind ≡ Directory) × ((q : List ℕ) → name_at row.names q ≡ None)) ⊎ ((row.kind ≡ File) × (row.numbers.links ≤ 1))
 
--- That was done in the directory whose row is at one place, for the inode whose row was at another. Its row was taken out, and
--- its blocks were given back.
+-- A name went from the directory whose row is at one place, and with it the inode whose row was at another. That row was taken
+-- out, and its blocks were given back.
 pub record RemovesAt (R S : Region) (s : Super) (free after : FreeLists) (rows news : List Row) (place target : ℕ) (name : List ℕ) (time : ℕ) : Type 0 where
   pub row : Row
   pub gone : Row
@@ -49,7 +49,7 @@ pub record RemovesAt (R S : Region) (s : Super) (free after : FreeLists) (rows n
   pub given : GivesRow mid gone after
   pub put : news ≡ remove (set rows place now) target
 
--- where a file has other names, that was done; else it went with the name
+-- where the file has other names, one name and one link of it went; else it went with the name
 abbrev pub Releases : Region → Region → Super → FreeLists → FreeLists → List Row → List Row → ℕ → ℕ → List ℕ → ℕ → Type 0
 Releases R S s free after rows news place target name time =
     (((file : Row) → slice_get rows target ≡ Some file → 1 < file.numbers.links) × UnlinksAt R S s free after rows news place target name time)

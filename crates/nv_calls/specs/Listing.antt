@@ -8,7 +8,8 @@ use Rattle.nv_tree.specs.Tree.{Tree, found, name_in}
 abbrev pub name_and_inode : Named → List ℕ × ℕ
 name_and_inode line = (line.name.now, line.inode)
 
--- The names of the directory that the path leads to, each once, rising by bytes, with the inodes that they stand for.
+-- The names in the inode that the path leads to, each once, rising by bytes, with the inodes that they stand for. That it is a
+-- directory is asked by the tests of `list`.
 pub record ListsNamesIn (t : Tree) (names : List (List ℕ)) (lines : List (List ℕ × ℕ)) : Type 0 where
   pub directory : ℕ
   pub leads : found t names ≡ Some directory

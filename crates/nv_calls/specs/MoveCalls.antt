@@ -31,8 +31,6 @@ rename_blocks rows t None q = 0
 rename_blocks rows t (Some names) None = 0
 rename_blocks rows t (Some names) (Some others) = if end_together (walk t 1 names) (walk t 1 others) then row_blocks (ended_row rows (walk t 1 names)) (move_entries 0 (last_name names) (last_name others) 0) else name_blocks rows t (Some names) + name_blocks rows t (Some others)
 
--- ---- what it is about
-
 -- ---- rows
 
 -- The first directory's row has a name less, and another's has one more for the same inode.
@@ -43,7 +41,7 @@ pub record MovesAcross (R S : Region) (s : Super) (free after : FreeLists) (rows
   pub moved_at : slice_get rows target ≡ Some moved
   pub step : GrowsTwo R S s free after rows news place from (name_entries Remove moved.inode name time) end to (name_entries Add moved.inode other time) (λ fresh now. LosesName from name moved.inode time fresh now) (λ more now. GetsName to other moved.inode time more now)
 
--- That was done in the directory whose row is at this place.
+-- The inode got another name in place of the old one, in the directory whose row is at this place.
 pub record MovesHere (R S : Region) (s : Super) (free after : FreeLists) (rows news : List Row) (place target : ℕ) (name other : List ℕ) (time : ℕ) : Type 0 where
   pub row : Row
   pub now : Row
