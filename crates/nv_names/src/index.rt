@@ -1,5 +1,5 @@
 //! The name index of a directory: a finite map that recovery rebuilds from the directory's log, and that the
-//! file calls look names up in. Only `reserve`, `insert` and `list` take memory.
+//! file calls look names up in. Only `reserve`, `insert`, `put`, `list` and `walk` take memory.
 
 ghost use Rattle.std.specs.Prelude.{◌≡◌, ◌+◌, ◌<◌, ◌≤◌, ◌↔◌, IsTrue, if◌then◌else◌, List, ℕ, length, map, IfOk, IsOk, OnOk, OnErr, Some, None, nat_eq};
 ghost use Rattle.std.specs.Option.{option_map};

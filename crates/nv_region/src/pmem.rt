@@ -49,8 +49,8 @@ pub trait Pmem {
 
     /// Stores words in a row, in turn and each as by `store`. There must be one at least.
     ///
-    /// Answers `Stopped` exactly where the fuse has burnt by the end of the call. The words before the one at which it
-    /// burnt are stored then, and no others.
+    /// Answers `Stopped` exactly where the fuse has burnt by the end of the call. Then some of the first words,
+    /// or none, are stored, and no others.
     fn store_words(&mut self, at: u64, words: &[u64]) -> Result<(), Stopped>
         requires aligned { at % 8 ≡ 0 }
         requires some { 1 ≤ length words.now }
