@@ -16,6 +16,8 @@ pub enum Formatted {
 
 /// A region of `blocks` blocks of zeros, formatted at time 0 with so many CPUs and table blocks for each, as the command
 /// `format` of a script makes it first of all; or why none is made, the first reason that applies.
+///
+/// Errors: `AllocError` where a growth was refused.
 pub fn format_image(
     alloc: Global,
     cpus: u64,

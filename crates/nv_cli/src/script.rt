@@ -45,8 +45,11 @@ enum Reply {
 /// Runs a script, and answers its exit status: 2 after a bad line, and where the last recovery was refused; else 1 where
 /// that showed faults, and 0 otherwise.
 ///
-/// Reads to the end of the input or to the first bad line. Answers `Read` or `Write` where the reader or the writer
-/// failed, and `Memory` where a growth was refused; a front of the output of the lines so far was written then.
+/// Reads to the end of the input or to the first bad line.
+///
+/// Errors: `Read` or `Write` where the reader or the writer failed, and a front of the output of the lines so far was
+/// written then; `Memory` where a growth was refused or a thread couldn't be started, and the whole output of the lines
+/// before that one was written then.
 pub fn run_script<H: Threads + Sync, R: Read + Drop, W: Write>(
     rt: &H,
     alloc: Global,
@@ -64,7 +67,7 @@ pub fn run_script<H: Threads + Sync, R: Read + Drop, W: Write>(
 }
 
 /// `run_script`, which also gives a hint behind each line of the output that leaves out what a user needs: behind
-/// `bad line K`, and behind the refusal of a region for its length.
+/// `bad line K`, and behind the refusal of a region for its length. After an error the hints of the first lines were given.
 pub fn run_script_with_hints<H: Threads + Sync, R: Read + Drop, W: Write, N: Hints>(
     rt: &H,
     alloc: Global,
@@ -83,7 +86,7 @@ pub fn run_script_with_hints<H: Threads + Sync, R: Read + Drop, W: Write, N: Hin
     run_in(rt, alloc, &mut session, reader, writer, hints)
 }
 
-/// How a script that began with a region has ended: its exit status, and the region that there is then.
+/// How a script has ended: its exit status, and the region that there is then, if there is one.
 #[derive(Drop)]
 pub struct Ended {
     pub status: u8,
@@ -91,7 +94,7 @@ pub struct Ended {
 }
 
 /// `run_script_with_hints`, where a region is there from the start, of which nothing is mounted. Answers the region that there
-/// is at the end, too.
+/// is at the end, too; after an error it is gone.
 pub fn run_script_on<H: Threads + Sync, R: Read + Drop, W: Write, N: Hints>(
     rt: &H,
     alloc: Global,
@@ -231,7 +234,7 @@ fn is_length_refusal(text: &str) -> bool
     text == LENGTH_REFUSED
 }
 
-/// `run_script_with_hints`, which also answers the region that there is at the end.
+/// `run_script_with_hints`, which also answers the region that there is at the end; after an error it is gone.
 pub fn run_script_to_end<H: Threads + Sync, R: Read + Drop, W: Write, N: Hints>(
     rt: &H,
     alloc: Global,
