@@ -1,4 +1,6 @@
 //! The texts of a recovery's answer, each whole before any byte of it is written.
+//!
+//! Errors of each function: `AllocError` where a growth was refused.
 
 ghost use Rattle.std.specs.Prelude.{◌≡◌, ◌++◌, IfOk, OnOk, string_bytes};
 ghost use Rattle.nv_text.specs.Answers.{refused_line};
@@ -27,7 +29,7 @@ pub fn refused_text(alloc: Global, refusal: Refusal) -> Result<String, AllocErro
     Ok(text)
 }
 
-/// The line that tells of a recovery.
+/// The line that tells of a recovery: how many inodes are in use, how many blocks are free, and how many faults there are.
 pub fn recovered_text(alloc: Global, recovered: &Recovered) -> Result<String, AllocError>
     ensures { IfOk result (λ text. string_bytes text ≡ recovered_text (outcome_of recovered.now)) }
 {
