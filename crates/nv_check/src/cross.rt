@@ -16,9 +16,10 @@ use nv_scan::Row;
 use nv_super::{Fault, Super, sort_faults};
 use std::alloc::{AllocError, Global};
 
-/// The faults, rising, between the rows of all inodes in use, which come in any order: names of inodes that aren't in use,
-/// directories that aren't named exactly once and a root directory that is named, files whose link count isn't their number
-/// of names, inodes that aren't reached from the root, and a root that is no directory in use. No two rows are of one inode.
+/// The faults, rising, between the rows of all inodes in use, which come in any order: names of inodes that aren't in
+/// use, directories that aren't named exactly once and a root directory that is named, files whose link count isn't
+/// their number of names, inodes that aren't reached from the root, and a root that is no directory in use. No two rows
+/// are of one inode.
 ///
 /// Errors: `AllocError` where a growth was refused.
 pub fn cross_faults_one(alloc: Global, sup: &Super, rows: &[Row]) -> Result<Vec<Fault>, AllocError>

@@ -70,8 +70,8 @@ impl ClaimState {
     ///
     /// It takes the time of one step for each block of the run.
     ///
-    /// Errors: `NotAllowed` at place 0 where the run has blocks and there is no such worker; `Memory` where a growth was
-    /// refused. Either changes nothing.
+    /// Errors: `NotAllowed` at place 0 where the run has blocks and there is no such worker; `Memory` where a growth
+    /// was refused. Either changes nothing.
     pub fn claim_span(&mut self, worker: u32, run: Run, owner: Owner) -> Result<u64, CoreRefusal>
         requires word { run.start % 64 + run.count ≤ 64 }
         requires blocks { 0 < run.count → run.start + run.count ≤ 64 * length self.old.first }
@@ -101,8 +101,8 @@ impl ClaimState {
     ///
     /// For each block of the mask it looks through the worker's records. It takes no memory.
     ///
-    /// Errors: `NotAllowed` with the place, among the mask's blocks from 0 on, of the first of which the worker has no such
-    /// claim, or 0 where there is no such worker. It changes nothing.
+    /// Errors: `NotAllowed` with the place, among the mask's blocks from 0 on, of the first of which the worker has no
+    /// such claim, or 0 where there is no such worker. It changes nothing.
     pub fn mark_span(&mut self, worker: u32, word: usize, mask: u64) -> Result<(), CoreRefusal>
         requires word { (word < length self.old.second) × (word < 2 ^ 58) }
         ensures allowed { OnOk result (all_allowed (sizes_of self.old) self.old (mark_events worker word mask) ≡ true) }

@@ -82,9 +82,9 @@ impl ClaimMap {
         Ok((map, seats))
     }
 
-    /// The next ticket, which is none of those that the seat has drawn; `None` once all are drawn. That no two draws of any
-    /// threads give one ticket is told of all seats together, by `close`. After its first `None` a seat makes no further
-    /// step. It takes no memory and waits for nobody.
+    /// The next ticket, which is none of those that the seat has drawn; `None` once all are drawn. That no two draws of
+    /// any threads give one ticket is told of all seats together, by `close`. After its first `None` a seat makes no
+    /// further step. It takes no memory and waits for nobody.
     pub fn draw(&self, seat: &mut ClaimSeat) -> Option<u64>
         requires own { seat.old.map ≡ self.now }
         ensures map { seat.new.map ≡ seat.old.map }

@@ -10,8 +10,8 @@ use std::alloc::Global;
 
 /// The region of the bytes of a file, in memory. The bytes are let go.
 ///
-/// Shorter files than those that are refused are taken, of any length: a script may have cut its region, and a recovery says
-/// of each wrong length that it is no region's.
+/// Shorter files than those that are refused are taken, of any length: a script may have cut its region, and a recovery
+/// says of each wrong length that it is no region's.
 ///
 /// Errors: `Length` for more than 1,073,741,824 bytes; `Memory` where a growth was refused.
 pub fn region_of_file(alloc: Global, bytes: Vec<u8>) -> Result<MemRegion, RegionRefusal>

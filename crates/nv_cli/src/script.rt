@@ -67,7 +67,8 @@ pub fn run_script<H: Threads + Sync, R: Read + Drop, W: Write>(
 }
 
 /// `run_script`, which also gives a hint behind each line of the output that leaves out what a user needs: behind
-/// `bad line K`, and behind the refusal of a region for its length. After an error the hints of the first lines were given.
+/// `bad line K`, and behind the refusal of a region for its length. After an error the hints of the first lines were
+/// given.
 pub fn run_script_with_hints<H: Threads + Sync, R: Read + Drop, W: Write, N: Hints>(
     rt: &H,
     alloc: Global,
@@ -93,8 +94,8 @@ pub struct Ended {
     pub region: Option<MemRegion>,
 }
 
-/// `run_script_with_hints`, where a region is there from the start, of which nothing is mounted. Answers the region that there
-/// is at the end, too; after an error it is gone.
+/// `run_script_with_hints`, where a region is there from the start, of which nothing is mounted. Answers the region
+/// that there is at the end, too; after an error it is gone.
 pub fn run_script_on<H: Threads + Sync, R: Read + Drop, W: Write, N: Hints>(
     rt: &H,
     alloc: Global,

@@ -39,8 +39,8 @@ pub fn read_entry<P: Pmem>(memory: &P, at: u64, room: u64) -> Result<Entry, Fram
     Ok(read_light(memory, at, room)?.read(memory))
 }
 
-/// Reads the entry that begins at the byte address `at`, a multiple of 8, and ends within `room` bytes, and leaves its name
-/// where it stands.
+/// Reads the entry that begins at the byte address `at`, a multiple of 8, and ends within `room` bytes, and leaves its
+/// name where it stands.
 ///
 /// Errors: `Framing` exactly where no entry is spelled there that fits the room.
 pub fn read_light<P: Pmem>(memory: &P, at: u64, room: u64) -> Result<LightEntry, Framing>

@@ -32,11 +32,11 @@ pub fn length(entry: &Entry) -> u64
     }
 }
 
-/// Writes the entry at the byte address `at`, a multiple of 8, without a fence. Then it stands there, so that reading there
-/// gives it back.
+/// Writes the entry at the byte address `at`, a multiple of 8, without a fence. Then it stands there, so that reading
+/// there gives it back.
 ///
-/// Errors: `Stopped` exactly where the fuse has burnt by the end of the call. No word outside the entry's place changes,
-/// then neither.
+/// Errors: `Stopped` exactly where the fuse has burnt by the end of the call. No word outside the entry's place
+/// changes, then neither.
 pub fn write_entry<P: Pmem>(memory: &mut P, at: u64, entry: &Entry) -> Result<(), Stopped>
     requires aligned { at % 8 ≡ 0 }
     requires inside { at + entry_length entry.now ≤ size (P.region memory.old) }

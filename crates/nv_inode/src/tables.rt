@@ -18,7 +18,8 @@ pub fn slot_start(sup: &Super, inode: u64) -> u64
     sup.slot_address(inode)
 }
 
-/// The byte address of a slot by its place in the tables, from 0 on, where there are `inode_limit` slots, one behind the other.
+/// The byte address of a slot by its place in the tables, from 0 on, where there are `inode_limit` slots, one behind
+/// the other.
 pub fn nth_slot(sup: &Super, place: u64) -> u64
     requires layout { IsLayout sup.now }
     requires place { place < inode_limit sup.now }

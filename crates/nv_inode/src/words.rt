@@ -29,8 +29,8 @@ pub fn read_slot<P: Pmem>(memory: &P, sup: &Super, inode: u64) -> Slot
     }
 }
 
-/// Stores the kind, head, tail and creation time of an inode's slot, without a fence. The valid word stays: it is what puts
-/// an inode in use, so its caller stores it by itself.
+/// Stores the kind, head, tail and creation time of an inode's slot, without a fence. The valid word stays: it is what
+/// puts an inode in use, so its caller stores it by itself.
 ///
 /// Errors: `Stopped` exactly where the fuse has burnt by the end of the call; some of the words may be stored then.
 pub fn put_slot<P: Pmem>(
@@ -50,8 +50,8 @@ pub fn put_slot<P: Pmem>(
     store_slot(memory, slot_start(sup, inode), slot)
 }
 
-/// Stores the words of the slot at a byte address, a multiple of 8, but for its valid word: one row from the kind on, without
-/// a fence.
+/// Stores the words of the slot at a byte address, a multiple of 8, but for its valid word: one row from the kind on,
+/// without a fence.
 ///
 /// Errors: `Stopped` exactly where the fuse has burnt by the end of the call; some of the words may be stored then.
 pub fn store_slot<P: Pmem>(memory: &mut P, at: u64, slot: &Slot) -> Result<(), Stopped>

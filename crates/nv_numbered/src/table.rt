@@ -192,8 +192,8 @@ impl<T> Numbered<T> {
         self.places[number as usize] = self.values.len() as u32;
     }
 
-    /// As `insert`, where no room need have been made. Where a growth was refused the value comes back, and the values stay
-    /// as they were. That doesn't happen where there is room already.
+    /// As `insert`, where no room need have been made. Where a growth was refused the value comes back, and the values
+    /// stay as they were. That doesn't happen where there is room already.
     pub fn push(&mut self, number: u64, value: T) -> Result<(), AllocFailed<T>>
         requires within { number < limit_of self.old }
         requires vacant { value_at self.old number ≡ None }

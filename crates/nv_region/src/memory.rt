@@ -119,8 +119,8 @@ impl MemRegion {
         })
     }
 
-    /// A region of these bytes, with nothing pending and no fuse. Any length up to 1,073,741,824 bytes is taken, so that a
-    /// region that was cut can be shown too.
+    /// A region of these bytes, with nothing pending and no fuse. Any length up to 1,073,741,824 bytes is taken, so
+    /// that a region that was cut can be shown too.
     ///
     /// Errors: `Length` for more bytes; `Memory` where a growth was refused.
     pub fn from_bytes(alloc: Global, bytes: &[u8]) -> Result<MemRegion, RegionRefusal>
@@ -169,8 +169,8 @@ impl MemRegion {
         self.burnt = false;
     }
 
-    /// The region of its first `length` bytes, which it has, in the memory that it has. Nothing is pending in it, and it
-    /// has no fuse.
+    /// The region of its first `length` bytes, which it has, in the memory that it has. Nothing is pending in it, and
+    /// it has no fuse.
     ///
     /// It costs what was stored since the last fence, and takes memory only for the bytes behind the last whole word.
     /// Errors: `AllocError` where that is refused; the region is gone then.

@@ -24,8 +24,8 @@ pub fn store_word<P: Pmem>(memory: &mut P, at: u64, value: u64) -> Result<(), St
     memory.store(at, value)
 }
 
-/// Stores a word at a byte address, a multiple of 8, and fences it: where nothing was pending, a stop at any moment of the
-/// call leaves the region from before it or the region with the word.
+/// Stores a word at a byte address, a multiple of 8, and fences it: where nothing was pending, a stop at any moment of
+/// the call leaves the region from before it or the region with the word.
 ///
 /// Answers `Stopped` exactly where the fuse has burnt by the end of the call; the region is then one of these two.
 pub fn commit_word<P: Pmem>(memory: &mut P, at: u64, value: u64) -> Result<(), Stopped>

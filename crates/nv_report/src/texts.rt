@@ -29,7 +29,8 @@ pub fn refused_text(alloc: Global, refusal: Refusal) -> Result<String, AllocErro
     Ok(text)
 }
 
-/// The line that tells of a recovery: how many inodes are in use, how many blocks are free, and how many faults there are.
+/// The line that tells of a recovery: how many inodes are in use, how many blocks are free, and how many faults there
+/// are.
 pub fn recovered_text(alloc: Global, recovered: &Recovered) -> Result<String, AllocError>
     ensures { IfOk result (λ text. string_bytes text ≡ recovered_text (outcome_of recovered.now)) }
 {

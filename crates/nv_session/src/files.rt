@@ -26,8 +26,8 @@ pub struct CallText {
     pub is_refused: bool,
 }
 
-/// What `list` prints: the names of the directory that a path leads to, a line for each, or the line of its refusal. Of a
-/// mount that was stopped nothing is said.
+/// What `list` prints: the names of the directory that a path leads to, a line for each, or the line of its refusal. Of
+/// a mount that was stopped nothing is said.
 ///
 /// Errors: `AllocError` where a growth was refused.
 pub fn list_text<P: Pmem + Drop>(
@@ -44,8 +44,8 @@ pub fn list_text<P: Pmem + Drop>(
     }
 }
 
-/// What `stat` prints: the numbers of the inode that a path leads to, or the line of its refusal. Of a mount that was stopped
-/// nothing is said.
+/// What `stat` prints: the numbers of the inode that a path leads to, or the line of its refusal. Of a mount that was
+/// stopped nothing is said.
 ///
 /// Errors: `AllocError` where a growth was refused.
 pub fn stat_text<P: Pmem + Drop>(
@@ -62,8 +62,8 @@ pub fn stat_text<P: Pmem + Drop>(
     }
 }
 
-/// What `read` prints: the bytes of the file that a path leads to, from an offset in bytes on, at most so many, or the line of
-/// its refusal. Of a mount that was stopped nothing is said.
+/// What `read` prints: the bytes of the file that a path leads to, from an offset in bytes on, at most so many, or the
+/// line of its refusal. Of a mount that was stopped nothing is said.
 pub fn read_text(
     alloc: Global,
     mount: &Fs<MemRegion>,

@@ -21,8 +21,8 @@ pub enum Made {
     Stopped(MemRegion),
 }
 
-/// Makes a region of `blocks` blocks of zeros, and formats it at this time with so many CPUs and table blocks for each. No
-/// region is made for a number of blocks that is refused. It is stopped only where a stop is set.
+/// Makes a region of `blocks` blocks of zeros, and formats it at this time with so many CPUs and table blocks for each.
+/// No region is made for a number of blocks that is refused. It is stopped only where a stop is set.
 ///
 /// Errors: `AllocError` where a growth was refused.
 pub fn new_region(

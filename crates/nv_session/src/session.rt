@@ -78,8 +78,8 @@ impl Session {
         }
     }
 
-    /// The exit status by how the last recovery went: 0 where it found no fault or there was none, 1 where it found some, and 2
-    /// where it was refused or stopped.
+    /// The exit status by how the last recovery went: 0 where it found no fault or there was none, 1 where it found
+    /// some, and 2 where it was refused or stopped.
     pub fn status(&self) -> u8
         ensures { (state : State) → StandsFor self.now state → result ≡ status_of state.last }
     {
@@ -88,7 +88,8 @@ impl Session {
 
     /// Runs one command, and answers what it prints.
     ///
-    /// Errors: `AllocError` where a growth was refused or a thread couldn't be started; of the session nothing is said then.
+    /// Errors: `AllocError` where a growth was refused or a thread couldn't be started; of the session nothing is said
+    /// then.
     pub fn execute<H: Threads + Sync>(
         &mut self,
         rt: &H,
