@@ -65,8 +65,8 @@ impl Slot {
         }
     }
 
-    /// Whether the log begins at the start of a data block, and ends in a data block, at a word
-    /// whose offset there is 8 to 4064 bytes.
+    /// Whether the log begins at the start of a data block, and ends in a data block, at a word whose offset there is 8
+    /// to 4064 bytes.
     pub fn has_right_log(&self, sup: &Super) -> bool
         requires { HasAreas sup.now }
         ensures { result ≡ is_right_log sup.now self.now.head self.now.tail }

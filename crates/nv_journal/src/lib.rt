@@ -2,8 +2,8 @@
 //! A call that changes more than one word records them first, so that a stop leaves all as they were or all changed.
 //!
 //! Each CPU has a journal of one block, the blocks from 1 on. At byte 0 of it stands the number of the oldest pending
-//! record (dequeue), at byte 8 that of the place behind the newest (enqueue). Record k, of 252, stands at byte 64 + 16
-//! k: a byte address, and the value that stood there before the call. After 251 comes 0.
+//! record (dequeue), at byte 8 that of the place behind the newest (enqueue). At byte 64 + 16 k stands record k, of
+//! 252: a byte address, and the value that stood there before the call. After 251 comes 0.
 #![tactic(auto)]
 
 mod committing;

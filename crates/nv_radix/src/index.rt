@@ -89,8 +89,8 @@ impl FileIndex {
         }
     }
 
-    /// Makes the `count` pages from `page` on, all below `MAX_FILE_PAGES`, ready, and with them all
-    /// pages of their leaves. It costs a step a leaf.
+    /// Makes the `count` pages from `page` on, all below `MAX_FILE_PAGES`, ready, and with them all pages of their
+    /// leaves. It costs a step a leaf.
     ///
     /// Errors: `AllocError` where a growth was refused; the map stays, and what is ready stays so.
     pub fn reserve(&mut self, page: u64, count: u64) -> Result<(), AllocError>
@@ -122,8 +122,8 @@ impl FileIndex {
         }
     }
 
-    /// Maps the `count` pages from `page` on, all of them ready, to as many blocks from `block` on. It
-    /// takes no memory and costs a step a leaf and one a page.
+    /// Maps the `count` pages from `page` on, all of them ready, to as many blocks from `block` on. It takes no memory
+    /// and costs a step a leaf and one a page.
     pub fn set_run(&mut self, page: u64, block: u64, count: u64)
         requires ready { AreReady self.old page count }
         requires blocks { 0 < count → block + count ≤ 2 ^ 64 }

@@ -16,7 +16,7 @@ pub enum RecoverError {
     /// The superblock isn't accepted: its first fault. The region is as before.
     #[error("superblock fault {0:?}")]
     Super(SuperFault),
-    /// A growth was refused, or a thread couldn't be started. The region is as before, or its journals are rolled back.
+    /// A growth was refused. The region is as before, or its journals are rolled back.
     #[error("out of memory")]
     Memory,
     /// The memory's fuse has burnt. A later recovery gives the region that this one would have given.

@@ -29,11 +29,11 @@ use std::thread::Threads;
 
 /// Recovers a region, damaged or not, by 1 to 64 workers on threads of their own: rolls its journals back, and answers
 /// the outcome of the region as it came, whatever order the workers' steps fall in. No more of them begin than there
-/// are tickets, and one works on the caller's thread. All threads are joined before it answers; it waits for them and
-/// for the gate, which each worker enters after each ticket that it draws.
+/// are tickets, and one works on the caller's thread, as do those for which no thread can be started. All threads are
+/// joined before it answers; it waits for them and for the gate, which each worker enters after each ticket that it
+/// draws.
 ///
 /// Errors: `Workers`, tested first, where their number isn't 1 to 64, the memory as before; and those of `recover_one`.
-/// A thread that can't be started is want of memory.
 pub fn recover<P: Pmem + Sync, G: Gate + Sync, H: Threads + Sync>(
     rt: &H,
     alloc: Global,

@@ -17,8 +17,7 @@ use std::thread::Threads;
 /// block. Answers what was found, or the first refusal that applies, which leaves the region as before: `Workers`, or
 /// the first fault of the superblock.
 ///
-/// Errors: `AllocError` where a growth was refused or a thread couldn't be started. The region is as before then, or
-/// its journals are rolled back.
+/// Errors: `AllocError` where a growth was refused. The region is as before then, or its journals are rolled back.
 pub fn recover_region<P: Pmem + Sync, H: Threads + Sync>(
     rt: &H,
     alloc: Global,
@@ -57,8 +56,7 @@ pub fn recover_alone<P: Pmem>(alloc: Global, memory: &mut P) -> Result<Answer, A
 /// Recovers by 1 to 64 workers on threads of their own. Answers what `recover_region` does, or nothing where the
 /// memory's fuse burnt: rolling back what is left gives then what the old region would have given.
 ///
-/// Errors: `AllocError` where a growth was refused or a thread couldn't be started; of the region no clause says more
-/// then.
+/// Errors: `AllocError` where a growth was refused; of the region no clause says more then.
 pub fn recover_or_stop<P: Pmem + Sync, H: Threads + Sync>(
     rt: &H,
     alloc: Global,

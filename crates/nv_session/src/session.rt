@@ -88,8 +88,7 @@ impl Session {
 
     /// Runs one command, and answers what it prints.
     ///
-    /// Errors: `AllocError` where a growth was refused or a thread couldn't be started; of the session nothing is said
-    /// then.
+    /// Errors: `AllocError` where a growth was refused; of the session nothing is said then.
     pub fn execute<H: Threads + Sync>(
         &mut self,
         rt: &H,
