@@ -47,9 +47,8 @@ enum Reply {
 ///
 /// Reads to the end of the input or to the first bad line.
 ///
-/// Errors: `Read` or `Write` where the reader or the writer failed, and a front of the output of the lines so far was
-/// written then; `Memory` where a growth was refused, and the whole output of the lines before that one was written
-/// then.
+/// Errors: `Read` where the reader failed, `Write` where the writer failed, and `Memory` where a growth was refused. With
+/// each a front of the output of the lines so far was written, and with `Memory` the whole output of the lines before.
 pub fn run_script<H: Threads + Sync, R: Read + Drop, W: Write>(
     rt: &H,
     alloc: Global,

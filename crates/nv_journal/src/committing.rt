@@ -106,14 +106,13 @@ pub fn commit<P: Pmem>(memory: &mut P, cpu: u64) -> Result<(), Stopped>
     commit_word(memory, dequeue_word(cpu), pending.enqueue)
 }
 
-/// Changes the words at two byte addresses together, by the empty journal of a CPU. Where no journal has anything to
-/// roll back, both addresses are permitted, and all stores before the call were fenced, a stop at any moment of it
-/// leaves a region whose undone region has both words as they were, or both changed.
+/// Changes the words at two byte addresses together, by the empty journal of a CPU.
 ///
-/// It costs four fences and takes no memory.
+/// Where both addresses are permitted and no journal has anything to roll back, the undone region has then both words
+/// as they were, or both changed. So it is with each region that a stop at any moment of the call leaves, where all
+/// stores before it were fenced. It costs four fences and takes no memory.
 ///
-/// Errors: `Stopped` exactly where the fuse has burnt by the end of the call. Where both addresses are permitted and no
-/// journal had anything to roll back, the undone region has both words as they were then, or both changed.
+/// Errors: `Stopped` exactly where the fuse has burnt by the end of the call.
 pub fn change_two<P: Pmem>(
     memory: &mut P,
     cpu: u64,
