@@ -18,9 +18,9 @@ use std::alloc::{AllocError, Global};
 
 /// The faults, rising, between the rows of all inodes in use, which come in any order, no two of one inode.
 ///
-/// They are names of inodes that aren't in use, directories that aren't named exactly once, and a root directory that is
-/// named. And they are files whose link count isn't their number of names, inodes that aren't reached from the root, and
-/// a root that is no directory in use.
+/// They are names of inodes that aren't in use, directories that aren't named exactly once, and a root directory that
+/// is named. And they are files whose link count isn't their number of names, inodes that aren't reached from the root,
+/// and a root that is no directory in use.
 ///
 /// Errors: `AllocError` where a growth was refused.
 pub fn cross_faults_one(alloc: Global, sup: &Super, rows: &[Row]) -> Result<Vec<Fault>, AllocError>

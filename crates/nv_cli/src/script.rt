@@ -47,8 +47,9 @@ enum Reply {
 ///
 /// Reads to the end of the input or to the first bad line.
 ///
-/// Errors: `Read` where the reader failed, `Write` where the writer failed, and `Memory` where a growth was refused. With
-/// each a front of the output of the lines so far was written, and with `Memory` the whole output of the lines before.
+/// Errors: `Read` where the reader failed, `Write` where the writer failed, and `Memory` where a growth was refused.
+/// With each a front of the output of the lines so far was written, and with `Memory` the whole output of the lines
+/// before.
 pub fn run_script<H: Threads + Sync, R: Read + Drop, W: Write>(
     rt: &H,
     alloc: Global,
@@ -66,8 +67,9 @@ pub fn run_script<H: Threads + Sync, R: Read + Drop, W: Write>(
 }
 
 /// `run_script`, which also gives a hint behind each line of the output that leaves out what a user needs: behind
-/// `bad line K`, and behind the refusal of a region for its length. After an error the hints of the first lines were
-/// given.
+/// `bad line K`, and behind the refusal of a region for its length.
+///
+/// Errors: those of `run_script`; the hints of the first lines were given then.
 pub fn run_script_with_hints<H: Threads + Sync, R: Read + Drop, W: Write, N: Hints>(
     rt: &H,
     alloc: Global,
@@ -94,7 +96,9 @@ pub struct Ended {
 }
 
 /// `run_script_with_hints`, where a region is there from the start, of which nothing is mounted. Answers the region
-/// that there is at the end, too; after an error it is gone.
+/// that there is at the end, too.
+///
+/// Errors: those of `run_script`; the region is gone then.
 pub fn run_script_on<H: Threads + Sync, R: Read + Drop, W: Write, N: Hints>(
     rt: &H,
     alloc: Global,
@@ -234,7 +238,9 @@ fn is_length_refusal(text: &str) -> bool
     text == LENGTH_REFUSED
 }
 
-/// `run_script_with_hints`, which also answers the region that there is at the end; after an error it is gone.
+/// `run_script_with_hints`, which also answers the region that there is at the end.
+///
+/// Errors: those of `run_script`; the region is gone then.
 pub fn run_script_to_end<H: Threads + Sync, R: Read + Drop, W: Write, N: Hints>(
     rt: &H,
     alloc: Global,

@@ -15,8 +15,8 @@ use std::marker::Model;
 /// A map from the pages of a file to blocks that is still being made: each change costs the logarithm of the number of
 /// runs, and that for each run that it takes out, however long the runs are.
 ///
-/// Once one of the first 64 pages is mapped in front of the end of what is mapped, these stand in a leaf. For small files
-/// are written over and over, and a page of a leaf is found without a search.
+/// Once one of the first 64 pages is mapped in front of the end of what is mapped, these stand in a leaf. For small
+/// files are written over and over, and a page of a leaf is found without a search.
 #[derive(Drop)]
 pub struct ExtentMap {
     /// The first pages that were mapped since the leaf was made ready. What it maps goes before the runs.

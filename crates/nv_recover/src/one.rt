@@ -34,8 +34,8 @@ use std::alloc::{AllocError, Global};
 ///
 /// Errors: `Super` with the first fault of the superblock, the memory as before; `Memory` where a growth was refused,
 /// the region as before or with its journals rolled back; `Stopped` where its fuse has burnt. After `Stopped` a later
-/// recovery gives the region that this one would have given. It doesn't come where no journal has anything to roll back,
-/// or where the memory is open up to the first data block.
+/// recovery gives the region that this one would have given. It doesn't come where no journal has anything to roll
+/// back, or where the memory is open up to the first data block.
 pub fn recover_one<P: Pmem>(alloc: Global, memory: &mut P) -> Result<Recovered, RecoverError>
     ensures ok { IfOk result (λ r. IsOutcome (P.region memory.old) (outcome_of r)) }
     ensures undone { IfOk result (λ r. P.region memory.new ≡ undone r.sup (P.region memory.old)) }
