@@ -19,7 +19,9 @@ use std::marker::Model;
 /// Why no blocks were taken.
 #[derive(Clone, Copy, Debug, PartialEq, Eq)]
 pub enum AllocRefusal {
+    /// All pools together have fewer blocks.
     NoSpace,
+    /// They have enough, and there is no memory for the runs.
     Memory,
 }
 
@@ -59,7 +61,8 @@ impl Model for Allocators {
 }
 
 impl Allocators {
-    /// The blocks of the pools that aren't in the set, whose words cover all blocks of the region. There is no room to give yet.
+    /// The blocks of the pools that aren't in the set of these words, of which each block of the region has a bit. No room to give is
+    /// promised. Errors: `AllocError` where a growth was refused.
     pub fn from_words(alloc: Global, words: &[u64], sup: &Super) -> Result<Allocators, AllocError>
         requires layout { IsLayout sup.now }
         requires covers { sup.now.blocks ≤ 64 * length words.now }
@@ -83,8 +86,11 @@ impl Allocators {
     /// Takes n blocks, lowest first, from the pool of a CPU. Once it is empty, they come from the pool that then has most free blocks
     /// (of several, that of the lowest CPU), which is used until it is empty or nothing more is needed. Runs of two pools aren't joined.
     ///
-    /// `NoSpace` where all pools together have fewer blocks, and `Memory` where the answer's runs found none; both change nothing.
-    /// The time goes with the runs that are taken, each by a word for 4096 blocks of its pool. The room for them is that of n runs.
+    /// Answers the runs, and leaves no less room to give. The time goes with the runs that are taken, each by a word for 4096 blocks of
+    /// its pool. Memory is taken for n runs.
+    ///
+    /// Errors: `NoSpace` where all pools together have fewer blocks; `Memory` where they have enough, and there is no memory for the
+    /// runs. With both the lists are as before.
     pub fn take(&mut self, cpu: u64, n: u64) -> Result<Vec<Run>, AllocRefusal>
         requires cpu { cpu < self.old.sup.cpus }
         ensures ok { IfOk result (λ runs. Took self.old cpu n runs.items self.new) }
@@ -98,7 +104,8 @@ impl Allocators {
         take_from(self.alloc, self.pools.as_mut_slice(), cpu as usize, n)
     }
 
-    /// Makes room: the next k calls of `give` take no memory, also with calls of `take` between. It takes none itself.
+    /// Makes room for the next k calls of `give`, also with calls of `take` between. The lists stay. It takes no memory, so that it never
+    /// answers `AllocError`; no clause says so.
     pub fn reserve(&mut self, k: usize) -> Result<(), AllocError>
         ensures same { SameLists self.old self.new }
         ensures room { OnOk result (k ≤ self.new.room) }
@@ -110,7 +117,7 @@ impl Allocators {
     }
 
     /// Adds a run of data blocks, none of which is free, to the pools in which they lie, joined with the runs that they touch. A run
-    /// of no blocks changes nothing. It takes no memory.
+    /// of no blocks changes nothing, and any other may use up the room for one call. It takes no memory.
     ///
     /// The first pool is found by a binary search. The time goes with the words of the run's blocks.
     pub fn give(&mut self, run: Run)
@@ -128,7 +135,7 @@ impl Allocators {
         }
     }
 
-    /// The runs of free blocks, by CPU.
+    /// The runs of free blocks, by CPU. Errors: `AllocError` where a growth was refused.
     pub fn lists(&self) -> Result<Vec<Vec<Run>>, AllocError>
         ensures lists { IfOk result (λ lists. runs_in lists.items ≡ self.now.pools) }
         ensures sound { IsSound self.now }
@@ -141,7 +148,7 @@ impl Allocators {
         Ok(lists)
     }
 
-    /// How many blocks are free.
+    /// How many blocks are free in all pools together.
     pub fn free_blocks(&self) -> u64
         ensures blocks { result ≡ all_blocks self.now.pools }
         ensures sound { IsSound self.now }

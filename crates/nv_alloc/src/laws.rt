@@ -7,12 +7,12 @@ ghost use Rattle.nv_alloc.specs.FreeValue.{FreeLists};
 ghost use Rattle.nv_alloc.specs.FreeLists.{IsFreeIn, IsSound, Leave, TakeThenGiveRestores, TakenCanJoin, SetsDetermineLists};
 ghost use Rattle.nv_alloc.specs.Taking.{HasBlock, TakeExists};
 
-/// Where all pools together have n blocks there is something that a take of n gives, from whichever pool on.
+/// Where all pools together have n blocks or more, there is something that a take of n gives, from whichever pool on.
 pub fn a_take_exists()
     ensures { TakeExists }
 {}
 
-/// Giving back all that a take gave restores the lists.
+/// Giving back all that a take gave, one run after another, restores the lists. Of the room nothing is said.
 pub fn take_then_give_restores()
     ensures { TakeThenGiveRestores }
 {}
@@ -22,13 +22,13 @@ pub fn taken_can_join()
     ensures { TakenCanJoin }
 {}
 
-/// What a take gave are data blocks, and they aren't free behind it: so no later take gives one of them again.
+/// From sound lists, the blocks that a take gave are data blocks, and none of them is free in the lists that it left.
 pub fn taken_blocks_are_data_blocks()
     ensures { (old new : FreeLists) (n : ℕ) (runs : List RunValue) (b : ℕ) → IsSound old → Leave old n runs new → HasBlock runs b
         → (system_blocks old.sup ≤ b) × (b < old.sup.blocks) × ((cpu : ℕ) → IsFreeIn new cpu b → ⊥) }
 {}
 
-/// The lists are determined by the sets of free blocks.
+/// Sound lists of one superblock are determined by the sets of free blocks of their pools.
 pub fn sets_determine_lists()
     ensures { SetsDetermineLists }
 {}

@@ -16,9 +16,13 @@ use nv_scan::Row;
 use nv_super::{Fault, Super, sort_faults};
 use std::alloc::{AllocError, Global};
 
-/// The faults, rising, between the rows of all inodes in use, which come in any order: names of inodes that aren't in use,
-/// directories that aren't named exactly once, files whose link count isn't their number of names, inodes that aren't
-/// reached from the root, and a root that is no directory in use.
+/// The faults, rising, between the rows of all inodes in use, which come in any order, no two of one inode.
+///
+/// They are names of inodes that aren't in use, directories that aren't named exactly once, and a root directory that
+/// is named. And they are files whose link count isn't their number of names, inodes that aren't reached from the root,
+/// and a root that is no directory in use.
+///
+/// Errors: `AllocError` where a growth was refused.
 pub fn cross_faults_one(alloc: Global, sup: &Super, rows: &[Row]) -> Result<Vec<Fault>, AllocError>
     requires layout { IsLayout sup.now }
     requires apart { AreNumbersBelow (inode_limit sup.now) (map (λ (r : RowValue). r.inode) rows.now) }

@@ -12,6 +12,8 @@ use std::alloc::{AllocError, Global};
 /// All claims of the blocks in the second set, each once, rising by block and owner: also the one that came first.
 ///
 /// Block b is bit `b % 64` of word `b / 64` of the set, which has a word for each claim's block.
+///
+/// Errors: `AllocError` where a growth was refused.
 pub fn doubled(
     alloc: Global,
     claims: &[(u64, Owner)],

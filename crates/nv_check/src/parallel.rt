@@ -25,8 +25,10 @@ use std::thread::Threads;
 // From so many rows on, threads are worth their start: a row takes some nanoseconds, and they some milliseconds.
 const MANY_ROWS: usize = 400_000;
 
-/// The faults between the rows of all inodes in use, as `cross_faults_one` gives them: where there are many rows, each
-/// row's names are looked up, and its names counted out, in threads.
+/// The faults between the rows of all inodes in use, as `cross_faults_one` gives them: from 400,000 rows on, which are
+/// more than a region can have now, each row's names are looked up, and its names counted out, in threads.
+///
+/// Errors: `AllocError` where a growth was refused.
 pub fn cross_faults<H: Threads + Sync>(
     rt: &H,
     alloc: Global,

@@ -11,10 +11,13 @@ use crate::state::ClaimState;
 use crate::view::Sizes;
 use std::alloc::Global;
 
-/// The state after the events, from the one in which nothing was drawn or claimed, or the place of the first event that
-/// is not allowed.
+/// The state after the events, from the one in which nothing was drawn or claimed, with so many blocks, tickets and
+/// workers.
 ///
 /// A draw and a mark look through that worker's numbers or records.
+///
+/// Errors: `NotAllowed` with the place of the first event that is not allowed, where one isn't; `Memory` where a growth
+/// was refused, of which no clause says more.
 pub fn run(alloc: Global, sizes: Sizes, events: &[Event]) -> Result<ClaimState, CoreRefusal>
     ensures allowed { IfOk result (λ _. all_allowed sizes (start sizes) events.now ≡ true) }
     ensures state { IfOk result (λ s. s ≡ after_all (start sizes) events.now) }

@@ -20,11 +20,13 @@ use std::alloc::{AllocError, Global};
 /// The state that `workers` workers leave who do the work, a list of claims for each ticket.
 ///
 /// Each number of the schedule gives that worker one step: it marks its lost claim that is not marked yet, or else it
-/// makes the next claim of its last ticket, or else it draws; a worker that drew past the end has no step. Then the
-/// workers run to their ends in rising order. The answer is `NotAllowed` with the first place of the schedule that
-/// names no worker, which is tested first; then the one refusal is `Memory`.
+/// makes the next claim of its last ticket, or else it draws. A worker that drew past the end, and has nothing left to
+/// mark or to claim, has no step. Then the workers run to their ends in rising order. Workers are numbered from 0.
 ///
 /// Each step takes the same time, but for the growth of the worker's lists.
+///
+/// Errors: `NotAllowed` with the first place of the schedule that names no worker, where there is one; else only
+/// `Memory`, where a growth was refused.
 pub fn replay(
     alloc: Global,
     schedule: &[u32],

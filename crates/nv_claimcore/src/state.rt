@@ -66,9 +66,12 @@ impl ClaimState {
     }
 
     /// The worker claims the blocks of a run within one word, in rising order, for an owner whose page is raised by one
-    /// from block to block. The answer is the mask of the blocks whose claims were lost. A refusal changes nothing.
+    /// from block to block. The answer is the mask of the blocks whose claims were lost.
     ///
     /// It takes the time of one step for each block of the run.
+    ///
+    /// Errors: `NotAllowed` at place 0 where the run has blocks and there is no such worker; `Memory` where a growth
+    /// was refused. Either changes nothing.
     pub fn claim_span(&mut self, worker: u32, run: Run, owner: Owner) -> Result<u64, CoreRefusal>
         requires word { run.start % 64 + run.count ≤ 64 }
         requires blocks { 0 < run.count → run.start + run.count ≤ 64 * length self.old.first }
@@ -94,9 +97,12 @@ impl ClaimState {
     }
 
     /// The worker marks the blocks that the mask has in a word of the second set, in rising order: of each its oldest
-    /// lost claim that is not marked. A refusal changes nothing.
+    /// lost claim that is not marked.
     ///
-    /// For each block of the mask it looks through the worker's records.
+    /// For each block of the mask it looks through the worker's records. It takes no memory.
+    ///
+    /// Errors: `NotAllowed` with the place, among the mask's blocks from 0 on, of the first of which the worker has no
+    /// such claim, or 0 where there is no such worker. It changes nothing.
     pub fn mark_span(&mut self, worker: u32, word: usize, mask: u64) -> Result<(), CoreRefusal>
         requires word { (word < length self.old.second) × (word < 2 ^ 58) }
         ensures allowed { OnOk result (all_allowed (sizes_of self.old) self.old (mark_events worker word mask) ≡ true) }

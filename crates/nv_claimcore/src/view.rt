@@ -3,7 +3,7 @@ use nv_super::Owner;
 use std::collections::LinkedList;
 
 /// One claim of a block for an owner. It won where the block was not in the first set; a lost one is marked once its
-/// block is in the second set too.
+/// worker has put the block into the second set for it.
 #[derive(Clone, Copy, Debug, PartialEq, Eq, Drop)]
 pub struct Record {
     pub block: u64,

@@ -57,6 +57,8 @@ pub struct Claimed {
 impl ClaimMap {
     /// A map of so many blocks and tickets, and a seat for each worker, numbered from 0. No ticket is drawn and no
     /// block claimed. It costs two bits for each block, twice: once shared, and once as the room that `close` fills.
+    ///
+    /// Errors: `AllocError` where a growth was refused.
     pub fn open(alloc: Global, sizes: Sizes) -> Result<(ClaimMap, Vec<ClaimSeat>), AllocError>
         requires workers { (0 < sizes.workers) × (sizes.workers < 2 ^ 32) }
         requires numbers { sizes.tickets + sizes.workers < 2 ^ 64 }
@@ -80,8 +82,9 @@ impl ClaimMap {
         Ok((map, seats))
     }
 
-    /// The next ticket, which no other draw of any thread gives; `None` once all are drawn. After its first `None` a
-    /// seat makes no further step. It takes no memory and waits for nobody.
+    /// The next ticket, which is none of those that the seat has drawn; `None` once all are drawn. That no two draws of
+    /// any threads give one ticket is told of all seats together, by `close`. After its first `None` a seat makes no
+    /// further step. It takes no memory and waits for nobody.
     pub fn draw(&self, seat: &mut ClaimSeat) -> Option<u64>
         requires own { seat.old.map ≡ self.now }
         ensures map { seat.new.map ≡ seat.old.map }
@@ -115,8 +118,10 @@ impl ClaimMap {
     }
 
     /// Claims the blocks of a run for an owner, whose page is raised by one from block to block. A run of no blocks
-    /// changes nothing, wherever it begins. A refusal, for want of memory, makes no step. It costs at most two steps
-    /// for each 64 blocks, and waits for nobody.
+    /// changes nothing, wherever it begins. It costs at most two steps for each word of 64 blocks that the run touches,
+    /// and waits for nobody.
+    ///
+    /// Errors: `AllocError` where a growth was refused, before any step; the seat has claimed then what it had before.
     pub fn claim(&self, seat: &mut ClaimSeat, run: Run, owner: Owner) -> Result<(), AllocError>
         requires own { seat.old.map ≡ self.now }
         requires blocks { 0 < run.count → run.start + run.count ≤ self.now.sizes.blocks }
@@ -135,8 +140,9 @@ impl ClaimMap {
         Ok(())
     }
 
-    /// Makes two seats one, which has the first one's number and what both have drawn and claimed. Want of memory hands
-    /// both back.
+    /// Makes two seats one, which has the first one's number and what both have drawn and claimed.
+    ///
+    /// Errors: where a growth was refused, both seats as they were.
     pub fn join(
         &self,
         mut one: ClaimSeat,

@@ -34,8 +34,8 @@ struct Checked {
 /// It is refused as `Workers`, which is tested first, or by the first fault of its superblock, which is `S1` for a length
 /// that no region has.
 ///
-/// Errors: `Memory` where a growth was refused or no thread could be started, and nothing was written then; `Write` where
-/// the writer failed, and a front of the text was written then.
+/// Errors: `Memory` where a growth was refused, and nothing was written then; `Write` where the writer failed, and a
+/// front of the text was written then.
 pub fn check_region<H: Threads + Sync, W: Write>(
     rt: &H,
     alloc: Global,
@@ -50,7 +50,8 @@ pub fn check_region<H: Threads + Sync, W: Write>(
     check_region_as(rt, alloc, bytes, workers, Output::Report, writer)
 }
 
-/// `check_region`, which writes this of a region that isn't refused.
+/// `check_region`, which writes this of a region that isn't refused: the whole report, one line of sums, or the faults
+/// alone. The exit status and the errors are the same.
 pub fn check_region_as<H: Threads + Sync, W: Write>(
     rt: &H,
     alloc: Global,

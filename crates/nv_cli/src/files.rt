@@ -10,8 +10,10 @@ use std::alloc::Global;
 
 /// The region of the bytes of a file, in memory. The bytes are let go.
 ///
-/// Refuses `Length` for more than 1,073,741,824 bytes, and `Memory` where a growth was refused. Shorter files of any length
-/// are taken: a script may have cut its region, and a recovery says of each other length that it is no region's.
+/// Shorter files than those that are refused are taken, of any length: a script may have cut its region, and a recovery
+/// says of each wrong length that it is no region's.
+///
+/// Errors: `Length` for more than 1,073,741,824 bytes; `Memory` where a growth was refused.
 pub fn region_of_file(alloc: Global, bytes: Vec<u8>) -> Result<MemRegion, RegionRefusal>
     ensures region { IfOk result (λ m. m.region ≡ region_of bytes.items) }
     ensures bytes { IfOk result (λ m. bytes_of m.region ≡ bytes.items) }

@@ -14,8 +14,10 @@ pub enum Formatted {
     Refused(FormatRefusal),
 }
 
-/// A region of `blocks` blocks of zeros, formatted at time 0 with so many CPUs and table blocks for each, as the command
-/// `format` of a script makes it first of all; or why none is made, the first reason that applies.
+/// A region of `blocks` blocks of zeros, formatted at time 0 with so many CPUs and table blocks for each; or why none
+/// is made, the first reason that applies. It is what the command `format` makes where a script begins with it.
+///
+/// Errors: `AllocError` where a growth was refused.
 pub fn format_image(
     alloc: Global,
     cpus: u64,

@@ -36,6 +36,7 @@ pub trait Hints {
     /// The hints that were taken, a line each, where that is known.
     ghost told: { Self → Option (List ℕ) } = { λ _. None };
 
+    /// Takes one hint.
     fn give(&mut self, hint: Hint)
         ensures { Appends (told self.old) (told self.new) (hint_line hint) };
 }

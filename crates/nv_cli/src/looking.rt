@@ -24,8 +24,8 @@ use std::io::Write;
 /// How many bytes of a file are read at a time.
 const PIECE: u64 = 1 << 20;
 
-/// What came of looking into a region: the exit status, which is 0, or 2 where the region or the call was refused, and how
-/// many faults the region has.
+/// What came of looking into a region: the exit status, which is 0, or 2 where the region or the call was refused, and
+/// how many faults the region has, told as 0 where it was refused.
 #[derive(Clone, Copy, Debug, PartialEq, Eq)]
 pub struct Answered {
     pub status: u8,
@@ -84,8 +84,8 @@ pub fn stat_image<W: Write>(
 /// Writes the bytes of the file in the region of these bytes that a path leads to, from the first to the last, or
 /// `refused NAME`. Holes are zeros.
 ///
-/// It holds a piece of the file at a time. Errors: `Memory` where a growth was refused, and `Write` where the writer failed;
-/// a front of the bytes was written then.
+/// It holds a piece of the file at a time. Errors: `Memory` where a growth was refused, and `Write` where the writer
+/// failed; a front of the bytes, or of the refusal, was written then, or nothing.
 pub fn cat_image<W: Write>(
     alloc: Global,
     bytes: &[u8],

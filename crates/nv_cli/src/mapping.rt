@@ -18,12 +18,13 @@ use std::io::Write;
 pub enum Mapped {
     /// The cells, and how many faults the region has.
     Cells { cells: Cells, faults: usize },
+    /// The first fault of its superblock.
     Refused(Refusal),
 }
 
 /// Maps the region of these bytes in at most `most` cells (one, if that is 0) of as few blocks as can be.
 ///
-/// Errors: where a growth was refused.
+/// Errors: `AllocError` where a growth was refused.
 pub fn map_cells(alloc: Global, bytes: &[u8], most: u64) -> Result<Mapped, AllocError>
     ensures { IfOk result (IsMapped (region_of bytes.now) most) }
 {

@@ -45,8 +45,11 @@ enum Reply {
 /// Runs a script, and answers its exit status: 2 after a bad line, and where the last recovery was refused; else 1 where
 /// that showed faults, and 0 otherwise.
 ///
-/// Reads to the end of the input or to the first bad line. Answers `Read` or `Write` where the reader or the writer
-/// failed, and `Memory` where a growth was refused; a front of the output of the lines so far was written then.
+/// Reads to the end of the input or to the first bad line.
+///
+/// Errors: `Read` where the reader failed, `Write` where the writer failed, and `Memory` where a growth was refused.
+/// With each a front of the output of the lines so far was written, and with `Memory` the whole output of the lines
+/// before.
 pub fn run_script<H: Threads + Sync, R: Read + Drop, W: Write>(
     rt: &H,
     alloc: Global,
@@ -65,6 +68,8 @@ pub fn run_script<H: Threads + Sync, R: Read + Drop, W: Write>(
 
 /// `run_script`, which also gives a hint behind each line of the output that leaves out what a user needs: behind
 /// `bad line K`, and behind the refusal of a region for its length.
+///
+/// Errors: those of `run_script`; the hints of the first lines were given then.
 pub fn run_script_with_hints<H: Threads + Sync, R: Read + Drop, W: Write, N: Hints>(
     rt: &H,
     alloc: Global,
@@ -83,15 +88,17 @@ pub fn run_script_with_hints<H: Threads + Sync, R: Read + Drop, W: Write, N: Hin
     run_in(rt, alloc, &mut session, reader, writer, hints)
 }
 
-/// How a script that began with a region has ended: its exit status, and the region that there is then.
+/// How a script has ended: its exit status, and the region that there is then, if there is one.
 #[derive(Drop)]
 pub struct Ended {
     pub status: u8,
     pub region: Option<MemRegion>,
 }
 
-/// `run_script_with_hints`, where a region is there from the start, of which nothing is mounted. Answers the region that there
-/// is at the end, too.
+/// `run_script_with_hints`, where a region is there from the start, of which nothing is mounted. Answers the region
+/// that there is at the end, too.
+///
+/// Errors: those of `run_script`; the region is gone then.
 pub fn run_script_on<H: Threads + Sync, R: Read + Drop, W: Write, N: Hints>(
     rt: &H,
     alloc: Global,
@@ -232,6 +239,8 @@ fn is_length_refusal(text: &str) -> bool
 }
 
 /// `run_script_with_hints`, which also answers the region that there is at the end.
+///
+/// Errors: those of `run_script`; the region is gone then.
 pub fn run_script_to_end<H: Threads + Sync, R: Read + Drop, W: Write, N: Hints>(
     rt: &H,
     alloc: Global,

@@ -22,9 +22,9 @@ use nv_region::{Pmem, Stopped};
 /// Writes entries behind the tail of a directory's log, and then, by the empty journal of a CPU, moves the tail behind them
 /// and clears the valid word of the inode whose slot is at `slot`. Answers the new tail.
 ///
-/// After a stop at any moment of the call, the undone region has the log as it was and the inode, or the log with all of
-/// the entries and no such inode, and nothing is wrong with the journals. It costs five fences and takes no memory. Answers `Stopped` exactly where the fuse has
-/// burnt by the end of the call.
+/// After a stop at any moment of the call, the undone region has the log as it was and the inode, or the log with all
+/// of the entries and no such inode, and nothing is wrong with the journals. It costs five fences and takes no memory.
+/// Answers `Stopped` exactly where the fuse has burnt by the end of the call.
 pub fn remove_inode<P: Pmem>(
     memory: &mut P,
     cpu: u64,

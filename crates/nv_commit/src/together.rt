@@ -33,8 +33,8 @@ pub struct Extension<'a> {
 /// new tails.
 ///
 /// After a stop at any moment of the call, the undone region has both logs as they were, or both with all of their
-/// entries, and nothing is wrong with the journals. It costs five fences and takes no memory. Answers `Stopped` exactly where the fuse has burnt by the end of the
-/// call.
+/// entries, and nothing is wrong with the journals. It costs five fences and takes no memory. Answers `Stopped` exactly
+/// where the fuse has burnt by the end of the call.
 pub fn extend_two<P: Pmem>(
     memory: &mut P,
     cpu: u64,

@@ -56,7 +56,8 @@ pub fn check_name(sup: &Super, kind: Kind, e: &NameEntry) -> Option<ContentFault
     }
 }
 
-/// The fault in what a light entry says by itself, or `None` where it is good. A name is not looked at.
+/// The fault in what a light entry says by itself, or `None` where it is good. A name entry is not looked at: it counts
+/// as good here, in a file too.
 pub fn check_bare(sup: &Super, kind: Kind, entry: &LightEntry) -> Option<ContentFault>
     requires { HasAreas sup.now }
     ensures fault { result ≡ content_fault sup.now kind (bare entry.now) }

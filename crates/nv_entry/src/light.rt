@@ -39,7 +39,7 @@ pub enum LightEntry {
 }
 
 impl LightName {
-    /// The entry with its name.
+    /// The entry with its name, as that stands in this region.
     pub fn read<P: Pmem>(&self, memory: &P) -> NameEntry
         requires { HasName (P.region memory.now) self.now }
         ensures { result ≡ name_in (P.region memory.now) self.now }
@@ -59,7 +59,7 @@ impl LightName {
 }
 
 impl LightEntry {
-    /// The entry with its name, if it has one.
+    /// The entry with its name, if it has one, as that stands in this region.
     pub fn read<P: Pmem>(&self, memory: &P) -> Entry
         requires { CanBeRead (P.region memory.now) self.now }
         ensures { result ≡ entry_in (P.region memory.now) self.now }

@@ -47,6 +47,7 @@ impl FileName {
         FileName { bytes }
     }
 
+    /// Its bytes, 1 to 255.
     pub fn as_slice(&self) -> &[u8]
         ensures value { result.now ≡ self.now }
         ensures is_name { IsName self.now }

@@ -25,9 +25,9 @@ use nv_super::Pmem;
 #[derive(Clone, Copy, Debug, PartialEq, Eq)]
 pub struct Framing;
 
-/// Reads the entry that begins at the address `at` and ends within `room` bytes.
+/// Reads the entry that begins at the byte address `at`, a multiple of 8, and ends within `room` bytes.
 ///
-/// `Framing` where no entry is spelled there that fits the room.
+/// Errors: `Framing` exactly where no entry is spelled there that fits the room.
 pub fn read_entry<P: Pmem>(memory: &P, at: u64, room: u64) -> Result<Entry, Framing>
     requires aligned { at % 8 ≡ 0 }
     requires inside { at + room ≤ size (P.region memory.now) }
@@ -39,9 +39,10 @@ pub fn read_entry<P: Pmem>(memory: &P, at: u64, room: u64) -> Result<Entry, Fram
     Ok(read_light(memory, at, room)?.read(memory))
 }
 
-/// Reads the entry that begins at the address `at` and ends within `room` bytes, and leaves its name where it stands.
+/// Reads the entry that begins at the byte address `at`, a multiple of 8, and ends within `room` bytes, and leaves its
+/// name where it stands.
 ///
-/// `Framing` where no entry is spelled there that fits the room.
+/// Errors: `Framing` exactly where no entry is spelled there that fits the room.
 pub fn read_light<P: Pmem>(memory: &P, at: u64, room: u64) -> Result<LightEntry, Framing>
     requires aligned { at % 8 ≡ 0 }
     requires inside { at + room ≤ size (P.region memory.now) }

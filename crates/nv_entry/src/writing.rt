@@ -32,9 +32,10 @@ pub fn length(entry: &Entry) -> u64
     }
 }
 
-/// Writes the entry at the address `at`, without a fence.
+/// Writes the entry at the byte address `at`, a multiple of 8, without a fence. Then it stands there, so that reading
+/// there gives it back. No word outside its place changes, whatever the call answers.
 ///
-/// Reading there gives it back. No word outside its place changes, also where a stop refuses a store half-way.
+/// Errors: `Stopped` exactly where the fuse has burnt by the end of the call.
 pub fn write_entry<P: Pmem>(memory: &mut P, at: u64, entry: &Entry) -> Result<(), Stopped>
     requires aligned { at % 8 ≡ 0 }
     requires inside { at + entry_length entry.now ≤ size (P.region memory.old) }

@@ -67,9 +67,12 @@ impl fmt::Display for FormatRefusal {
 /// Makes the region a file system of version 1 that holds the root directory alone, made at `time`: for each CPU an
 /// empty journal and `table_blocks` blocks of slots.
 ///
-/// Refuses, the first that applies: `Length`, `Cpus`, `Tables`, which change nothing; `Stopped` where the fuse has
-/// burnt. A stop leaves the region as it was, one that is refused for its magic, or the new one. It takes no memory,
-/// and stores one word for each slot, two for each CPU, and some twenty more, whatever the length of the region.
+/// Where all stores before the call were fenced, a stop at any moment of it leaves the region as it was, one that is
+/// refused for its magic, or the new one. Where it is done, all its words are fenced. It takes no memory, and stores
+/// one word for each slot, two for each CPU, and 16 more, whatever the length of the region.
+///
+/// Errors, the first that applies: `Length`, `Cpus`, `Tables`, which change nothing; `Stopped` where the fuse has
+/// burnt. `Stopped` doesn't come from a steady memory.
 pub fn format<P: Pmem>(
     memory: &mut P,
     cpus: u64,
@@ -92,7 +95,8 @@ pub fn format<P: Pmem>(
     Ok(())
 }
 
-/// What format leaves of a region is one region: no word of it is left open.
+/// What a format that is done leaves is one region, by the region before, the superblock and the time: no word of it is
+/// left open.
 pub fn format_is_determined()
     ensures { FormatIsDetermined }
 {}

@@ -19,7 +19,8 @@ pub record Appends (R S : Region) (tail new : ℕ) (entries : List Entry) (fresh
   pub right : (s : Super) (head : ℕ) → IsTrue (is_page_start s head) → IsTrue (is_data_address s tail) → CanBePages s fresh → (8 ≤ tail % 4096) ⊎ (0 < length entries) → IsTrue (is_right_log s head new)
   pub wrote : IsMixed R (AppendWords tail fresh) S
 
--- The region shows what is held, and behind the tail of one inode's log stand these entries, up to a new tail, over these pages.
+-- The region shows what is held, and behind the tail of one inode's log stand these entries, up to a new tail that is
+-- right, over these pages. No slot stands in a page of this log, old or new.
 pub record HasBehind (S : Region) (l : Layout) (held : Store) (h : Held) (new : ℕ) (more : List Placed) (fresh : List ℕ) : Type 0 where
   pub shows : Shows S l held
   pub right : is_right_log l.sup h.head new ≡ true

@@ -8,7 +8,8 @@ use crate::slot::{HEAD, TAIL, VALID};
 use crate::tables::first_slot;
 use nv_super::{BLOCK_SIZE, SLOT_SIZE, Super};
 
-/// Whether a journal may name the word at an address: the valid, head or tail word of an inode's slot.
+/// Whether a journal may name the word at a byte address: the valid, head or tail word of the slot of a number that an
+/// inode can have.
 pub fn is_journal_word(sup: &Super, at: u64) -> bool
     requires { IsLayout sup.now }
     ensures value { result ≡ is_permitted sup.now at }

@@ -8,7 +8,7 @@ ghost use Rattle.nv_inode.specs.Slot.{state_of, kind_of, kind_in, is_right_log};
 
 use nv_super::{BLOCK_SIZE, Kind, Super};
 
-/// The offset of a log page's link, where the room for its entries ends.
+/// The offset in bytes of a log page's link, where the room for its entries ends.
 pub const LINK: u64 = 4064;
 
 const FIRST_TAIL: u64 = 8;
@@ -37,11 +37,13 @@ pub struct Slot {
 /// Whether a slot is in use, and if not, why.
 #[derive(Clone, Copy, Debug, PartialEq, Eq)]
 pub enum SlotState {
+    /// The valid word is 0.
     Unused,
     /// The valid word is neither 0 nor 1.
     BadValid,
-    /// Valid, but of no kind.
+    /// The valid word is 1, and the kind word is that of no kind.
     BadKind,
+    /// The valid word is 1, and the kind word that of this kind.
     InUse(Kind),
 }
 
@@ -63,8 +65,8 @@ impl Slot {
         }
     }
 
-    /// Whether the log begins at the start of a data block, and ends in a data block, at a word
-    /// that is neither its first nor the one that leads to the next page.
+    /// Whether the log begins at the start of a data block, and ends in a data block, at a word whose offset there is 8
+    /// to 4064 bytes.
     pub fn has_right_log(&self, sup: &Super) -> bool
         requires { HasAreas sup.now }
         ensures { result ≡ is_right_log sup.now self.now.head self.now.tail }

@@ -7,7 +7,7 @@ ghost use Rattle.nv_inode.specs.Slot.{nth_slot};
 
 use nv_super::{BLOCK_SIZE, SLOT_SIZE, Super};
 
-/// The byte address of the slot of an inode, which stands whole before the data blocks.
+/// The byte address of the slot of an inode: a multiple of 128. The slot lies whole within the region.
 pub fn slot_start(sup: &Super, inode: u64) -> u64
     requires layout { IsLayout sup.now }
     requires number { IsTrue (is_number sup.now inode) }
@@ -18,7 +18,8 @@ pub fn slot_start(sup: &Super, inode: u64) -> u64
     sup.slot_address(inode)
 }
 
-/// The byte address of a slot by its place in the tables, where there are `inode_limit` slots, one behind the other.
+/// The byte address of a slot by its place in the tables, from 0 on, where there are `inode_limit` slots, one behind
+/// the other.
 pub fn nth_slot(sup: &Super, place: u64) -> u64
     requires layout { IsLayout sup.now }
     requires place { place < inode_limit sup.now }

@@ -29,8 +29,10 @@ pub fn read_slot<P: Pmem>(memory: &P, sup: &Super, inode: u64) -> Slot
     }
 }
 
-/// Stores the kind, head, tail and creation time of a slot, in this order. The valid word stays:
-/// it is what puts an inode in use, so it is stored by itself, after the rest is fenced.
+/// Stores the kind, head, tail and creation time of an inode's slot, without a fence. The valid word stays: it is what
+/// puts an inode in use, so its caller stores it by itself.
+///
+/// Errors: `Stopped` exactly where the fuse has burnt by the end of the call; some of the words may be stored then.
 pub fn put_slot<P: Pmem>(
     memory: &mut P,
     sup: &Super,
@@ -48,8 +50,10 @@ pub fn put_slot<P: Pmem>(
     store_slot(memory, slot_start(sup, inode), slot)
 }
 
-/// Stores the words of the slot at an address, in bytes from the start of the region, but for its valid word: one row from
-/// the kind on. `Stopped` where the fuse has burnt; some of the words may be stored then.
+/// Stores the words of the slot at a byte address, a multiple of 8, but for its valid word: one row from the kind on,
+/// without a fence.
+///
+/// Errors: `Stopped` exactly where the fuse has burnt by the end of the call; some of the words may be stored then.
 pub fn store_slot<P: Pmem>(memory: &mut P, at: u64, slot: &Slot) -> Result<(), Stopped>
     requires whole { at % 8 ≡ 0 }
     requires inside { at + 40 ≤ size (P.region memory.old) }
@@ -63,7 +67,9 @@ pub fn store_slot<P: Pmem>(memory: &mut P, at: u64, slot: &Slot) -> Result<(), S
     memory.store_words(at + KIND, &[slot.kind, slot.head, slot.tail, slot.created])
 }
 
-/// Stores one word.
+/// Stores one word at a byte address, a multiple of 8, without a fence.
+///
+/// Errors: `Stopped` exactly where the fuse has burnt by the end of the call.
 pub fn set_word<P: Pmem>(memory: &mut P, at: u64, value: u64) -> Result<(), Stopped>
     requires aligned { at % 8 ≡ 0 }
     requires within { at + 8 ≤ size (P.region memory.old) }

@@ -1,8 +1,8 @@
 //! Calls that change more than one word: the journal of a CPU holds the old values until all of them are stored.
 //!
 //! The records are fenced before the enqueue number makes them pending, and that number before the words change. The
-//! words are fenced before the journal is emptied. So a stop at any moment leaves all records of a call or none, and
-//! undo gives the words from before, or all of them changed.
+//! words are fenced before the journal is emptied. So where all stores before the call were fenced, a stop at any
+//! moment leaves all records of a call or none, and undo gives the words from before, or all of them changed.
 
 ghost use Rattle.std.specs.Prelude.{◌≡◌, ◌⊎◌, ◌≤◌, ◌<◌, ◌+◌, ◌%◌, ◌^◌, ℕ, Bool, IsTrue, OnOk, OnErr, is_err, length};
 ghost use Rattle.nv_region.specs.Region.{put, size, word};
@@ -17,11 +17,14 @@ ghost use Rattle.nv_journal.specs.Faults.{NoJournalFault};
 use crate::pending::{Pending, dequeue_word, enqueue_word};
 use nv_region::{Pmem, Stopped, commit_word};
 
-/// Makes records pending in the empty journal of a CPU: of each word that is about to change its byte address, which is
-/// a permitted one, and the value that it has now. A journal has room for 251.
+/// Makes records pending in the empty journal of a CPU. A caller gives, of each word that is about to change, its byte
+/// address, which should be a permitted one, and the value that it has now. A journal has room for 251.
 ///
-/// A stop at any moment of the call leaves all of them pending or none. It costs two fences and takes no memory.
-/// Answers `Stopped` exactly where the fuse has burnt by the end of the call.
+/// Only the journal's block may change. Where all stores before the call were fenced, a stop at any moment of it leaves
+/// all of the records pending or none. It costs two fences and takes no memory.
+///
+/// Errors: `Stopped` exactly where the fuse has burnt by the end of the call; all of the records are pending then or
+/// none.
 pub fn begin<P: Pmem>(memory: &mut P, cpu: u64, records: &[(u64, u64)]) -> Result<(), Stopped>
     requires inside { journal cpu + 4096 ≤ size (P.region memory.old) }
     requires empty { IsEmpty (P.region memory.old) cpu }
@@ -78,10 +81,14 @@ fn write_record<P: Pmem>(memory: &mut P, place: u64, pair: (u64, u64)) -> Result
     memory.store_words(place, &[pair.0, pair.1])
 }
 
-/// Empties the journal of a CPU, so that no record is pending in it: the change that it records is done.
+/// Gives the dequeue word of a CPU's journal the enqueue number. Where that is below 252, no record is pending in the
+/// journal then: the change that it records is done.
 ///
-/// The words that the records name are fenced before. It costs one fence and takes no memory. Answers `Stopped` exactly
-/// where the fuse has burnt by the end of the call.
+/// The caller fences the words that the records name before. Where all stores before the call were fenced, a stop at
+/// any moment of it leaves the region from before, or the new one. It costs one fence and takes no memory.
+///
+/// Errors: `Stopped` exactly where the fuse has burnt by the end of the call; the region is as before then, or the new
+/// one.
 pub fn commit<P: Pmem>(memory: &mut P, cpu: u64) -> Result<(), Stopped>
     requires { journal cpu + 4096 ≤ size (P.region memory.old) }
     ensures done { OnOk result (P.region memory.new ≡ put (P.region memory.old) (journal cpu) (enqueue (P.region memory.old) cpu)) }
@@ -99,11 +106,13 @@ pub fn commit<P: Pmem>(memory: &mut P, cpu: u64) -> Result<(), Stopped>
     commit_word(memory, dequeue_word(cpu), pending.enqueue)
 }
 
-/// Changes the words at two permitted byte addresses together, by the empty journal of a CPU: where nothing was
-/// pending, a stop at any moment of the call leaves a region whose undone region has both words as they were, or both
-/// changed.
+/// Changes the words at two byte addresses together, by the empty journal of a CPU.
 ///
-/// It costs four fences and takes no memory. Answers `Stopped` exactly where the fuse has burnt by the end of the call.
+/// Where both addresses are permitted and no journal has anything to roll back, the undone region has then both words
+/// as they were, or both changed. So it is with each region that a stop at any moment of the call leaves, where all
+/// stores before it were fenced. It costs four fences and takes no memory.
+///
+/// Errors: `Stopped` exactly where the fuse has burnt by the end of the call.
 pub fn change_two<P: Pmem>(
     memory: &mut P,
     cpu: u64,

@@ -1,9 +1,9 @@
 //! The journals of a region: the calls that a stop cut short are rolled back, and what is wrong with a journal is told.
 //! A call that changes more than one word records them first, so that a stop leaves all as they were or all changed.
 //!
-//! Each CPU has a journal of one block, the blocks from 1 on. Word 0 is the number of the oldest pending record (dequeue),
-//! word 8 the number of the place behind the newest (enqueue). Record k, of 252, stands at 64 + 16 k: an address,
-//! and the value that stood there before the call. After 251 comes 0.
+//! Each CPU has a journal of one block, the blocks from 1 on. At byte 0 of it stands the number of the oldest pending
+//! record (dequeue), at byte 8 that of the place behind the newest (enqueue). At byte 64 + 16 k stands record k, of
+//! 252: a byte address, and the value that stood there before the call. After 251 comes 0.
 #![tactic(auto)]
 
 mod committing;

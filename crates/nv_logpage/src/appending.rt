@@ -23,7 +23,7 @@ use nv_inode::LINK;
 use nv_region::{Pmem, Stopped, store_word};
 use nv_super::BLOCK_SIZE;
 
-/// How many fresh pages the entries take behind this tail.
+/// How many fresh pages the entries take behind this tail, a byte address.
 pub fn pages_needed(tail: u64, entries: &[Entry]) -> u64
     ensures { result ≡ needed (tail % 4096) entries.now }
 {
@@ -46,11 +46,13 @@ pub fn pages_needed(tail: u64, entries: &[Entry]) -> u64
 /// Writes the entries behind the tail of a log, over these fresh pages, links those that it takes, and answers the new
 /// tail. It doesn't fence, and it leaves the tail to its caller: before that is stored, the log is as it was.
 ///
-/// The tail is that of the log, or the start of a new log's page. As many fresh pages are given as `pages_needed` says, or
-/// more: data blocks, all different and none of them a page of the log. No given entry is a next-page entry.
+/// The tail, a byte address as the answer is, is that of the log, or the start of a new log's page. As many fresh
+/// pages, by their block numbers, are given as `pages_needed` says, or more: data blocks, all different and none of
+/// them a page of the log. No given entry is a next-page entry.
 ///
-/// Answers `Stopped` exactly where the fuse has burnt by the end of the call. Where there is nothing to append it stores
-/// nothing, and answers the tail.
+/// Errors: `Stopped` exactly where there is something to append and the fuse has burnt by the end of the call; the log
+/// is read up to the old tail as before then. Where there is nothing to append, the memory stays as it was, and the
+/// answer is the tail.
 pub fn append<P: Pmem>(
     memory: &mut P,
     tail: u64,

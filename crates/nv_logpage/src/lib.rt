@@ -1,10 +1,10 @@
 //! The log pages of an inode: reading a log from its head to its tail, or to the first fault on the way, and writing
 //! behind its tail.
 //!
-//! A log is a chain of pages. Its entries stand in each page one after the other, and the last word of a page's
-//! entries, at offset 4064, leads to the next page. What lies past the tail is no part of the log (FAST 2016): the
-//! tail alone commits what was appended. A damaged region may hold anything in its pages, so a reading ends at the
-//! tail or at a named fault, and it always ends.
+//! A log is a chain of pages. Its entries stand in the first 4064 bytes of each page, one after the other, and the word
+//! behind these leads to the next page. What lies past the tail is no part of the log (the FAST 2016 paper): the tail
+//! alone commits what was appended. A damaged region may hold anything in its pages, so a reading ends at the tail or
+//! at a named fault, and it always ends.
 #![tactic(auto)]
 
 mod appending;

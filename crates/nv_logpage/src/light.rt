@@ -20,14 +20,14 @@ pub struct LightPlaced {
 pub enum LightFinding {
     /// An entry of the log, which is no next-page entry.
     Entry(LightPlaced),
-    /// The log goes on at this address, where a page begins.
+    /// The log goes on at this byte address, where a page begins.
     Page(u64),
     /// The log ends: at its tail, or by a fault.
     End(Option<LogEnd>),
 }
 
 impl LightPlaced {
-    /// The entry with its name, if it has one.
+    /// The entry with its name, if it has one, as the name stands in this region.
     pub fn read<P: Pmem>(&self, memory: &P) -> Placed
         requires { CanBeRead (P.region memory.now) self.now.entry }
         ensures { result ≡ placed_in (P.region memory.now) self.now }
@@ -40,7 +40,7 @@ impl LightPlaced {
 }
 
 impl LightFinding {
-    /// The finding with the entry's name, if it has one.
+    /// The finding with the entry's name, if it has one, as the name stands in this region.
     pub fn read<P: Pmem>(&self, memory: &P) -> Finding
         requires { FindsName (P.region memory.now) self.now }
         ensures { result ≡ finding_in (P.region memory.now) self.now }

@@ -1,5 +1,5 @@
 //! Values by number: a place for each number that may have one, and the values side by side, each with its number.
-//! Only `new`, `reserve` and `push` take memory.
+//! Only `new`, `from_values`, `reserve` and `push` take memory.
 
 ghost use Rattle.std.specs.Prelude.{◌≡◌, ◌+◌, ◌<◌, ◌≤◌, ◌^◌, ◌↔◌, [], ℕ, length, IsTrue, IsOk, IsSome, IfOk, IfErr, OnOk, OnErr, OnSome, Some, None, Contains, option_copied, slice_get, slice_index, slice_set};
 ghost use Rattle.std.specs.Option.{option_copied_mut};
@@ -82,6 +82,8 @@ impl<T> Numbered<T> {
     }
 
     /// Values in any order, each under the number at its place among `numbers`. It moves no value.
+    ///
+    /// Errors: `AllocError` where there is no memory for a place of each number below the limit.
     pub fn from_values(
         alloc: Global,
         values: Vec<T>,
@@ -164,9 +166,9 @@ impl<T> Numbered<T> {
         }
     }
 
-    /// Makes room for `more` calls of `insert`, or leaves the values as they are.
+    /// Makes room for `more` calls of `insert`. The values stay, whatever it answers.
     ///
-    /// Where there is room already, it does nothing.
+    /// Errors: `AllocError` where a growth was refused. It doesn't come where there is room already.
     pub fn reserve(&mut self, more: usize) -> Result<(), AllocError>
         ensures values { self.new.slots ≡ self.old.slots }
         ensures ready { OnOk result (more ≤ self.new.room) }
@@ -190,8 +192,8 @@ impl<T> Numbered<T> {
         self.places[number as usize] = self.values.len() as u32;
     }
 
-    /// As `insert`, where no room need have been made. Where there is no memory the value comes back, and all stays as
-    /// it was.
+    /// As `insert`, where no room need have been made. Where a growth was refused the value comes back, and the values
+    /// stay as they were. That doesn't happen where there is room already.
     pub fn push(&mut self, number: u64, value: T) -> Result<(), AllocFailed<T>>
         requires within { number < limit_of self.old }
         requires vacant { value_at self.old number ≡ None }

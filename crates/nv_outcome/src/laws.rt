@@ -18,7 +18,8 @@ ghost use Rattle.nv_outcome.specs.Same.{SameOutcome, ShowsAgain, lasting_outcome
 ghost use Rattle.nv_outcome.specs.Shared.{SharesAll};
 ghost use Rattle.nv_outcome.specs.Parts.{AreParts, rows_in};
 
-/// Two outcomes of a region show the same, so what a recovery answers is a function of the region.
+/// Two outcomes of a region are the same, where an index is compared by what each page and each name stands for. So
+/// what a recovery's answer shows is a function of the region.
 pub fn one_outcome()
     ensures { (region : Region) (a b : Outcome) → IsOutcome region a → IsOutcome region b → SameOutcome a b }
 {}
@@ -46,7 +47,8 @@ pub fn cross_faults_are()
     ensures { (region : Region) (l : Layout) (rows : List Row) (f : Fault) → AreRows region l rows → (IsCrossFaultIn rows f ↔ IsCrossFault region l f) }
 {}
 
-/// Recovering again shows the same, but for the pending records of journals, of which none is left.
+/// The outcome of a region that was rolled back shows the same as that of the region before, but for the faults of
+/// pending records, of which it has none.
 pub fn recovered_again()
     ensures { (region : Region) (a b : Outcome) → IsOutcome region a → IsOutcome (undone a.sup region) b → ShowsAgain a b }
 {}

@@ -4,7 +4,8 @@ use nv_alloc::Allocators;
 use nv_rows::Rows;
 use nv_super::{Fault, Owner, Super};
 
-/// What a region holds, read from its bytes once its journals were rolled back.
+/// What a region holds, read from its bytes once its journals were rolled back, but for the faults of the journals,
+/// which are read before.
 #[derive(Drop)]
 pub struct Recovered {
     pub sup: Super,

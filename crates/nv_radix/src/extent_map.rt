@@ -12,11 +12,11 @@ use crate::run_map::RunMap;
 use std::alloc::{AllocError, Global};
 use std::marker::Model;
 
-/// A map from the pages of a file to blocks that is still being made: each call costs the logarithm of the number of
+/// A map from the pages of a file to blocks that is still being made: each change costs the logarithm of the number of
 /// runs, and that for each run that it takes out, however long the runs are.
 ///
-/// Once one of the first 64 pages is mapped in front of the end of what is mapped, these stand in a leaf: small files are
-/// written over and over, and a page of a leaf is found without a search.
+/// Once one of the first 64 pages is mapped in front of the end of what is mapped, these stand in a leaf. For small
+/// files are written over and over, and a page of a leaf is found without a search.
 #[derive(Drop)]
 pub struct ExtentMap {
     /// The first pages that were mapped since the leaf was made ready. What it maps goes before the runs.
@@ -46,6 +46,8 @@ impl ExtentMap {
     }
 
     /// Unmaps the pages from `first_page` on, which may be any number.
+    ///
+    /// Errors: `AllocError` where a growth was refused; of the map nothing is said then.
     pub fn cut(&mut self, first_page: u64) -> Result<(), AllocError>
         ensures { OnOk result ((p : ℕ) → block_by self.new p ≡ (if nat_le first_page p then None else block_by self.old p)) }
     {
@@ -56,7 +58,9 @@ impl ExtentMap {
         self.runs.cut(first_page)
     }
 
-    /// Maps the `count` pages from `page` on to as many blocks from `block` on.
+    /// Maps the `count` pages from `page` on, all below `MAX_FILE_PAGES`, to as many blocks from `block` on.
+    ///
+    /// Errors: `AllocError` where a growth was refused; of the map nothing is said then.
     pub fn set_run(&mut self, page: u64, block: u64, count: u64) -> Result<(), AllocError>
         requires pages { AreFilePages page count }
         requires blocks { 0 < count → block + count ≤ 2 ^ 64 }
@@ -85,7 +89,7 @@ impl ExtentMap {
         Ok(())
     }
 
-    /// The index of the same map.
+    /// The index of the same map. Errors: `AllocError` where a growth was refused.
     pub fn to_index(&self, alloc: Global) -> Result<FileIndex, AllocError>
         ensures { IfOk result (λ index. (p : ℕ) → block_at index p ≡ block_by self.now p) }
     {

@@ -46,7 +46,7 @@ impl FileIndex {
         }
     }
 
-    /// The block of a page.
+    /// The block of a page, which may be any number, if it is mapped.
     pub fn get(&self, page: u64) -> Option<u64>
         ensures { result ≡ block_at self.now page }
     {
@@ -89,8 +89,10 @@ impl FileIndex {
         }
     }
 
-    /// Makes the `count` pages from `page` on ready, and with them all pages of their leaves. An error
-    /// leaves the map; leaves that were made before it stay ready. It costs a step a leaf.
+    /// Makes the `count` pages from `page` on, all below `MAX_FILE_PAGES`, ready, and with them all pages of their
+    /// leaves. It costs a step a leaf.
+    ///
+    /// Errors: `AllocError` where a growth was refused; the map stays, and what is ready stays so.
     pub fn reserve(&mut self, page: u64, count: u64) -> Result<(), AllocError>
         requires { AreFilePages page count }
         ensures blocks { (p : ℕ) → block_at self.new p ≡ block_at self.old p }
@@ -120,7 +122,7 @@ impl FileIndex {
         }
     }
 
-    /// Maps the `count` pages from `page` on to as many blocks from `block` on. It takes no memory
+    /// Maps the `count` pages from `page` on, all of them ready, to as many blocks from `block` on. It takes no memory
     /// and costs a step a leaf and one a page.
     pub fn set_run(&mut self, page: u64, block: u64, count: u64)
         requires ready { AreReady self.old page count }
@@ -153,6 +155,8 @@ impl FileIndex {
     }
 
     /// The longest extents of the map, rising. It costs a walk over the tree.
+    ///
+    /// Errors: `AllocError` where a growth was refused.
     pub fn runs(&self) -> Result<Vec<Extent>, AllocError>
         ensures extents { IfOk result (λ v. AreExtents self.now v.items) }
         ensures only { IfOk result (λ v. (others : List Extent) → AreExtents self.now others → others ≡ v.items) }
@@ -163,6 +167,8 @@ impl FileIndex {
     }
 
     /// The same, in place of what the list had, whose room is used again.
+    ///
+    /// Errors: `AllocError` where a growth was refused; of the list nothing is said then.
     pub fn runs_into(&self, extents: &mut Vec<Extent>) -> Result<(), AllocError>
         ensures { OnOk result (AreExtents self.now extents.new.items) }
     {

@@ -13,13 +13,13 @@ pub const MOST_WORKERS: u64 = 64;
 /// Why a region was not recovered.
 #[derive(Clone, Copy, Debug, PartialEq, Eq, Error)]
 pub enum RecoverError {
-    /// The superblock isn't accepted. The region is as before.
+    /// The superblock isn't accepted: its first fault. The region is as before.
     #[error("superblock fault {0:?}")]
     Super(SuperFault),
-    /// A growth was refused, or a thread couldn't be started. The region is as before, or its journals are rolled back.
+    /// A growth was refused. The region is as before, or its journals are rolled back.
     #[error("out of memory")]
     Memory,
-    /// The region's fuse has burnt. A later recovery gives the region that this one would have given.
+    /// The memory's fuse has burnt. A later recovery gives the region that this one would have given.
     #[error("stopped")]
     Stopped,
     /// The number of workers isn't 1 to 64. The region is as before.

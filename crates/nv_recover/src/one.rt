@@ -29,10 +29,13 @@ use nv_scan::Scanner;
 use nv_super::{Owner, Super};
 use std::alloc::{AllocError, Global};
 
-/// Recovers a region, damaged or not, on one thread: rolls its journals back, and answers its outcome.
+/// Recovers a region, damaged or not, on one thread: rolls its journals back, and answers the outcome of the region as
+/// it came.
 ///
-/// Errors: `Super` with the first fault of the superblock, the region as before; `Memory` where a growth was refused, the
-/// region as before or with its journals rolled back; `Stopped` where its fuse has burnt.
+/// Errors: `Super` with the first fault of the superblock, the memory as before; `Memory` where a growth was refused,
+/// the region as before or with its journals rolled back; `Stopped` where its fuse has burnt. After `Stopped` a later
+/// recovery gives the region that this one would have given. It doesn't come where no journal has anything to roll
+/// back, or where the memory is open up to the first data block.
 pub fn recover_one<P: Pmem>(alloc: Global, memory: &mut P) -> Result<Recovered, RecoverError>
     ensures ok { IfOk result (λ r. IsOutcome (P.region memory.old) (outcome_of r)) }
     ensures undone { IfOk result (λ r. P.region memory.new ≡ undone r.sup (P.region memory.old)) }
@@ -40,7 +43,7 @@ pub fn recover_one<P: Pmem>(alloc: Global, memory: &mut P) -> Result<Recovered, 
     ensures once { IfOk result (λ r. r.faults.items ≡ [] → SharesBlocks (P.region memory.new) r) }
     ensures lists { IfOk result (λ r. r.free.sup ≡ r.sup) }
     ensures numbers { IfOk result (λ r. r.rows.sup ≡ r.sup) }
-    // With nothing to roll back, nothing is stored or fenced, and it isn't stopped.
+    // With nothing to roll back, the memory is as before, and it isn't stopped.
     ensures quiet { (s : SuperValue) → IsSuper (P.region memory.old) s → AllQuiet s.cpus (P.region memory.old) → memory.new ≡ memory.old }
     ensures quiet_done { (s : SuperValue) → IsSuper (P.region memory.old) s → AllQuiet s.cpus (P.region memory.old) → IfErr result (λ e. e ≢ errors.Stopped) }
     ensures untouched { IfErr result (λ e. IsTrue (comes_first e) → memory.new ≡ memory.old) }

@@ -28,12 +28,12 @@ use std::alloc::{AllocError, Global};
 use std::thread::Threads;
 
 /// Recovers a region, damaged or not, by 1 to 64 workers on threads of their own: rolls its journals back, and answers
-/// its outcome, whatever order the workers' steps fall in. No more of them begin than there are tickets, and one works on
-/// the caller's thread. All threads are joined before it answers; it waits for them and for the gate, which each worker
-/// enters after each ticket that it draws.
+/// the outcome of the region as it came, whatever order the workers' steps fall in. No more of them begin than there
+/// are tickets, and one works on the caller's thread, as do those for which no thread can be started. All threads are
+/// joined before it answers; it waits for them and for the gate, which each worker enters after each ticket that it
+/// draws.
 ///
-/// Errors: `Workers`, tested first, where their number isn't 1 to 64, the region as before; and those of `recover_one`.
-/// A thread that can't be started is want of memory.
+/// Errors: `Workers`, tested first, where their number isn't 1 to 64, the memory as before; and those of `recover_one`.
 pub fn recover<P: Pmem + Sync, G: Gate + Sync, H: Threads + Sync>(
     rt: &H,
     alloc: Global,
@@ -47,7 +47,7 @@ pub fn recover<P: Pmem + Sync, G: Gate + Sync, H: Threads + Sync>(
     ensures once { IfOk result (λ r. r.faults.items ≡ [] → SharesBlocks (P.region memory.new) r) }
     ensures lists { IfOk result (λ r. r.free.sup ≡ r.sup) }
     ensures numbers { IfOk result (λ r. r.rows.sup ≡ r.sup) }
-    // With nothing to roll back, nothing is stored or fenced, and it isn't stopped.
+    // With nothing to roll back, the memory is as before, and it isn't stopped.
     ensures quiet { (s : SuperValue) → IsSuper (P.region memory.old) s → AllQuiet s.cpus (P.region memory.old) → memory.new ≡ memory.old }
     ensures quiet_done { (s : SuperValue) → IsSuper (P.region memory.old) s → AllQuiet s.cpus (P.region memory.old) → IfErr result (λ e. e ≢ errors.Stopped) }
     ensures untouched { IfErr result (λ e. IsTrue (comes_first e) → memory.new ≡ memory.old) }

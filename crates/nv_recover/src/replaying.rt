@@ -33,10 +33,11 @@ use nv_super::{Owner, Super};
 use std::alloc::{AllocError, Global};
 
 /// Recovers a region as `recover` does, on one thread: the workers' claims are made in the order of the schedule, of
-/// which each number gives that worker one step, and then the workers run to their ends in rising order.
+/// which each number gives that worker one step, and then the workers run to their ends in rising order. Workers and
+/// places of the schedule are numbered from 0.
 ///
-/// Errors: `Workers`, tested first; `Schedule` with the first place that names no worker, tested next, the region as
-/// before; and those of `recover_one`.
+/// Errors: `Workers`, tested first, where their number isn't 1 to 64; `Schedule` with the first place that names no
+/// worker, tested next; both with the memory as before; and those of `recover_one`.
 pub fn recover_replay<P: Pmem>(
     alloc: Global,
     memory: &mut P,
@@ -49,7 +50,7 @@ pub fn recover_replay<P: Pmem>(
     ensures once { IfOk result (λ r. r.faults.items ≡ [] → SharesBlocks (P.region memory.new) r) }
     ensures lists { IfOk result (λ r. r.free.sup ≡ r.sup) }
     ensures numbers { IfOk result (λ r. r.rows.sup ≡ r.sup) }
-    // With nothing to roll back, nothing is stored or fenced, and it isn't stopped.
+    // With nothing to roll back, the memory is as before, and it isn't stopped.
     ensures quiet { (s : SuperValue) → IsSuper (P.region memory.old) s → AllQuiet s.cpus (P.region memory.old) → memory.new ≡ memory.old }
     ensures quiet_done { (s : SuperValue) → IsSuper (P.region memory.old) s → AllQuiet s.cpus (P.region memory.old) → IfErr result (λ e. e ≢ errors.Stopped) }
     ensures untouched { IfErr result (λ e. IsTrue (comes_first e) → memory.new ≡ memory.old) }

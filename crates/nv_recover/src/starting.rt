@@ -36,7 +36,7 @@ pub(crate) fn is_worker_count(workers: u64) -> bool
 /// Reads the superblock and rolls the journals back. What comes after it only reads.
 pub(crate) fn start<P: Pmem>(alloc: Global, memory: &mut P) -> Result<Started, RecoverError>
     ensures ok { IfOk result (λ started. IsStarted (P.region memory.old) (P.region memory.new) started) }
-    // With nothing to roll back, nothing is stored or fenced, and it isn't stopped.
+    // With nothing to roll back, the memory is as before, and it isn't stopped.
     ensures quiet { (s : SuperValue) → IsSuper (P.region memory.old) s → AllQuiet s.cpus (P.region memory.old) → memory.new ≡ memory.old }
     ensures quiet_done { (s : SuperValue) → IsSuper (P.region memory.old) s → AllQuiet s.cpus (P.region memory.old) → IfErr result (λ e. e ≢ errors.Stopped) }
     ensures untouched { IfErr result (λ e. IsTrue (comes_first e) → memory.new ≡ memory.old) }

@@ -45,10 +45,10 @@ impl<'a> Model for ImageRegion<'a> {
 }
 
 impl<'a> ImageRegion<'a> {
-    /// The region of these bytes. Any length up to 1,073,741,824 is taken, so that a region that was cut can be
+    /// The region of these bytes. Any length up to 1,073,741,824 bytes is taken, so that a region that was cut can be
     /// shown too. It takes no memory, and no store until its front is opened.
     ///
-    /// Refuses `Length` for more bytes, and nothing else.
+    /// Errors: `Length` for more bytes, and no other.
     pub fn from_bytes(alloc: Global, bytes: &'a [u8]) -> Result<ImageRegion<'a>, RegionRefusal>
         ensures region { IfOk result (λ m. m.region ≡ region_of bytes.now) }
         ensures size { IfOk result (λ m. size m.region ≡ length bytes.now) }
@@ -73,7 +73,7 @@ impl<'a> ImageRegion<'a> {
     /// stores within them are taken, unless one was refused before. What was open before stays open, and no word
     /// changes.
     ///
-    /// Refused, it leaves all as it was.
+    /// Errors: `AllocError` where a growth was refused, which leaves all as it was.
     pub fn open_front(&mut self, blocks: u64) -> Result<(), AllocError>
         ensures same { self.new.region ≡ self.old.region }
         ensures burnt { self.new.burnt ≡ self.old.burnt }

@@ -98,7 +98,7 @@ impl Model for MemRegion {
 impl MemRegion {
     /// A region of `blocks` blocks of 4096 zero bytes, with nothing pending and no fuse.
     ///
-    /// Refuses `Length` where there is no block or more than 262,144, and `Memory` where a growth was refused.
+    /// Errors: `Length` where there is no block or more than 262,144; `Memory` where a growth was refused.
     pub fn new(alloc: Global, blocks: u64) -> Result<MemRegion, RegionRefusal>
         ensures zeros { IfOk result (λ m. m.region ≡ record { words = replicate (512 * blocks) 0; rest = [] }) }
         ensures settled { IfOk result (λ m. NothingPending m.region (fenced_or_last m)) }
@@ -119,10 +119,10 @@ impl MemRegion {
         })
     }
 
-    /// A region of these bytes, with nothing pending and no fuse. Any length up to 1,073,741,824 is taken, so that a
-    /// region that was cut can be shown too.
+    /// A region of these bytes, with nothing pending and no fuse. Any length up to 1,073,741,824 bytes is taken, so
+    /// that a region that was cut can be shown too.
     ///
-    /// Refuses `Length` for more bytes, and `Memory` where a growth was refused.
+    /// Errors: `Length` for more bytes; `Memory` where a growth was refused.
     pub fn from_bytes(alloc: Global, bytes: &[u8]) -> Result<MemRegion, RegionRefusal>
         ensures region { IfOk result (λ m. m.region ≡ region_of bytes.now) }
         ensures size { IfOk result (λ m. size m.region ≡ length bytes.now) }
@@ -147,7 +147,7 @@ impl MemRegion {
         })
     }
 
-    /// The bytes of the region as it reads.
+    /// The bytes of the region as it reads. Errors: `AllocError` where a growth was refused.
     pub fn to_bytes(&self) -> Result<Vec<u8>, AllocError>
         ensures { IfOk result (λ bytes. bytes.items ≡ bytes_of self.now.region) }
     {
@@ -169,10 +169,11 @@ impl MemRegion {
         self.burnt = false;
     }
 
-    /// The region of its first bytes, in the memory that it has. Nothing is pending in it, and it has no fuse.
+    /// The region of its first `length` bytes, which it has, in the memory that it has. Nothing is pending in it, and
+    /// it has no fuse.
     ///
     /// It costs what was stored since the last fence, and takes memory only for the bytes behind the last whole word.
-    /// Where that is refused, the region is gone.
+    /// Errors: `AllocError` where that is refused; the region is gone then.
     pub fn cut(self, length: u64) -> Result<MemRegion, AllocError>
         requires { length ≤ size self.region }
         ensures region { IfOk result (λ m. m.region ≡ region_of (take length (bytes_of self.region))) }

@@ -34,9 +34,10 @@ pub trait Pmem {
         requires within { at + 8 ≤ size (region self.now) }
         ensures { result ≡ word (region self.now) at };
 
-    /// Stores a word at once and whole. A stop may lose it until the next fence.
+    /// Stores a word at a byte address, at once and whole. A stop may lose it until the next fence.
     ///
-    /// Answers `Stopped` exactly where the fuse has burnt by the end of the call; nothing has changed then.
+    /// Answers `Stopped` exactly where the fuse has burnt by the end of the call. Then no word has changed, and a stop
+    /// may leave no more than before.
     fn store(&mut self, at: u64, value: u64) -> Result<(), Stopped>
         requires aligned { at % 8 ≡ 0 }
         requires within { at + 8 ≤ size (region self.old) }
@@ -47,7 +48,7 @@ pub trait Pmem {
         ensures stopped { is_err result ≡ (fuse self.new).has_burnt }
         ensures keeps_fuse { KeepsFuse (λ limit. at + 8 ≤ limit) (fuse self.old) (fuse self.new) };
 
-    /// Stores words in a row, in turn and each as by `store`. There must be one at least.
+    /// Stores words in a row from a byte address on, in turn and each as by `store`. There must be one at least.
     ///
     /// Answers `Stopped` exactly where the fuse has burnt by the end of the call. Then some of the first words,
     /// or none, are stored, and no others.
@@ -70,8 +71,8 @@ pub trait Pmem {
 
     /// After it, a stop leaves all that was stored before.
     ///
-    /// Answers `Stopped` exactly where the fuse has burnt by the end of the call; a stop may leave then what it
-    /// could leave before.
+    /// Answers `Stopped` exactly where the fuse has burnt by the end of the call; a stop may leave then no more than
+    /// before.
     fn fence(&mut self) -> Result<(), Stopped>
         ensures same { region self.new ≡ region self.old }
         ensures fenced { OnOk result (NothingPending (region self.new) (may_hold self.new)) }

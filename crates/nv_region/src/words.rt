@@ -8,9 +8,9 @@ ghost use Rattle.nv_region.specs.Stored.{Stored, StoresOnly};
 
 use crate::pmem::{Pmem, Stopped};
 
-/// Stores a word, and says what became of each word of the region.
+/// Stores a word at a byte address, a multiple of 8, and says what became of each word of the region.
 ///
-/// Answers `Stopped` exactly where the fuse has burnt; the region is then as before.
+/// Answers `Stopped` exactly where the fuse has burnt by the end of the call; the region is then as before.
 pub fn store_word<P: Pmem>(memory: &mut P, at: u64, value: u64) -> Result<(), Stopped>
     requires aligned { at % 8 ≡ 0 }
     requires within { at + 8 ≤ size (P.region memory.old) }
@@ -24,10 +24,10 @@ pub fn store_word<P: Pmem>(memory: &mut P, at: u64, value: u64) -> Result<(), St
     memory.store(at, value)
 }
 
-/// Stores a word and fences it: where nothing was pending, a stop at any moment of the call leaves the region from
-/// before it or the region with the word.
+/// Stores a word at a byte address, a multiple of 8, and fences it: where nothing was pending, a stop at any moment of
+/// the call leaves the region from before it or the region with the word.
 ///
-/// Answers `Stopped` exactly where the fuse has burnt by the end of the call.
+/// Answers `Stopped` exactly where the fuse has burnt by the end of the call; the region is then one of these two.
 pub fn commit_word<P: Pmem>(memory: &mut P, at: u64, value: u64) -> Result<(), Stopped>
     requires aligned { at % 8 ≡ 0 }
     requires within { at + 8 ≤ size (P.region memory.old) }

@@ -13,7 +13,11 @@ use nv_text::Refusal;
 use std::alloc::{AllocError, Global};
 use std::thread::Threads;
 
-/// Recovers by so many workers on threads of their own.
+/// Recovers by 1 to 64 workers on threads of their own, where the memory has no fuse or is open up to the first data
+/// block. Answers what was found, or the first refusal that applies, which leaves the region as before: `Workers`, or
+/// the first fault of the superblock.
+///
+/// Errors: `AllocError` where a growth was refused. The region is as before then, or its journals are rolled back.
 pub fn recover_region<P: Pmem + Sync, H: Threads + Sync>(
     rt: &H,
     alloc: Global,
@@ -32,7 +36,10 @@ pub fn recover_region<P: Pmem + Sync, H: Threads + Sync>(
     }
 }
 
-/// Recovers on this thread.
+/// Recovers on this thread, where the memory has no fuse or is open up to the first data block. Answers what was found,
+/// or the first fault of the superblock, which leaves the region as before.
+///
+/// Errors: `AllocError` where a growth was refused. The region is as before then, or its journals are rolled back.
 pub fn recover_alone<P: Pmem>(alloc: Global, memory: &mut P) -> Result<Answer, AllocError>
     requires taken { TakesRecovery (P.region memory.old) (P.fuse memory.old) }
     ensures ok { IfOk result (λ answer. MayAnswer (P.region memory.old) 1 [] answer (P.region memory.new)) }
@@ -46,7 +53,10 @@ pub fn recover_alone<P: Pmem>(alloc: Global, memory: &mut P) -> Result<Answer, A
     }
 }
 
-/// Recovers by so many workers on threads of their own. Nothing is answered where the memory's fuse burnt.
+/// Recovers by 1 to 64 workers on threads of their own. Answers what `recover_region` does, or nothing where the
+/// memory's fuse burnt: rolling back what is left gives then what the old region would have given.
+///
+/// Errors: `AllocError` where a growth was refused; of the region no clause says more then.
 pub fn recover_or_stop<P: Pmem + Sync, H: Threads + Sync>(
     rt: &H,
     alloc: Global,
@@ -63,8 +73,10 @@ pub fn recover_or_stop<P: Pmem + Sync, H: Threads + Sync>(
     }
 }
 
-/// Recovers on this thread, the claims of so many workers made in the order of the schedule. Nothing is answered where the
-/// memory's fuse burnt.
+/// Recovers on this thread, the claims of 1 to 64 workers, numbered from 0, made in the order of the schedule. Answers
+/// what `recover_or_stop` does, or the refusal `Schedule`, tested behind `Workers`, where a number names no worker.
+///
+/// Errors: `AllocError` where a growth was refused; of the region no clause says more then.
 pub fn replay_or_stop<P: Pmem>(
     alloc: Global,
     memory: &mut P,

@@ -22,7 +22,7 @@ pub struct Shown<'a> {
 impl<'a> Shown<'a> {
     ghost use Rattle.nv_report.specs.Shown.{shown_of};
 
-    /// What a recovery found.
+    /// What a recovery found, but for the doubled blocks by themselves, of which no text tells.
     pub fn of(recovered: &'a Recovered) -> Shown<'a>
         ensures { shown_of result ≡ record (outcome_of recovered.now) { doubled = [] } }
     {

@@ -29,8 +29,10 @@ struct ClassSum {
     count: usize,
 }
 
-/// `inodes I, directories D, files F, names N, blocks in use U, free B, faults K`, as a line. Behind faults it says how
-/// many there are of each class, as in `faults 3 (C1 2, B1 1)`.
+/// `inodes I, directories D, files F, names N, blocks in use U, free B, faults K`, as a line, where the blocks are data
+/// blocks. Behind faults it says how many there are of each class, as in `faults 3 (C1 2, B1 1)`.
+///
+/// Errors: `AllocError` where a growth was refused.
 pub fn summary_text(alloc: Global, recovered: &Recovered) -> Result<String, AllocError>
     requires { HasAreas recovered.now.sup }
     ensures { IfOk result (λ text. string_bytes text ≡ summary_line (outcome_of recovered.now)) }

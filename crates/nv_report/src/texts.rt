@@ -18,7 +18,7 @@ use nv_text::{
 };
 use std::alloc::{AllocError, Global};
 
-/// The line of a command that is refused.
+/// The line of a command that is refused. Errors: `AllocError` where a growth was refused.
 pub fn refused_text(alloc: Global, refusal: Refusal) -> Result<String, AllocError>
     ensures { IfOk result (λ text. string_bytes text ≡ refused_line (refusal_name refusal)) }
 {
@@ -27,7 +27,8 @@ pub fn refused_text(alloc: Global, refusal: Refusal) -> Result<String, AllocErro
     Ok(text)
 }
 
-/// The line that tells of a recovery.
+/// The line that tells of a recovery: how many inodes are in use, how many data blocks are free, and how many faults
+/// there are. Errors: `AllocError` where a growth was refused.
 pub fn recovered_text(alloc: Global, recovered: &Recovered) -> Result<String, AllocError>
     ensures { IfOk result (λ text. string_bytes text ≡ recovered_text (outcome_of recovered.now)) }
 {
@@ -39,14 +40,14 @@ pub fn recovered_text(alloc: Global, recovered: &Recovered) -> Result<String, Al
     Ok(text)
 }
 
-/// A part of what a recovery found, or all of it.
+/// A part of what a recovery found, or all of it. Errors: `AllocError` where a growth was refused.
 pub fn part_text(alloc: Global, recovered: &Recovered, part: Part) -> Result<String, AllocError>
     ensures { IfOk result (λ text. IsPartText part (outcome_of recovered.now) (string_bytes text)) }
 {
     shown_text(alloc, &Shown::of(recovered), part)
 }
 
-/// A part of what is told of a region, or all of it.
+/// A part of what is told of a region, or all of it. Errors: `AllocError` where a growth was refused.
 pub fn shown_text(alloc: Global, shown: &Shown<'_>, part: Part) -> Result<String, AllocError>
     ensures { IfOk result (λ text. IsPartText part (shown_of shown.now) (string_bytes text)) }
 {

@@ -51,7 +51,7 @@ pub record IsEmptyPiece (i : ℕ) (fault : Option Fault) (p : Piece) : Type 0 wh
   pub claims : p.claims.items ≡ []
   pub faults : p.faults.items ≡ cons_option fault []
 
--- the slots at an address have the same words
+-- the slots at an address have the same valid word, kind, head and tail; creation times aren't compared
 pub record SameSlot (R R' : Region) (a : ℕ) : Type 0 where
   pub valid : word R' a ≡ word R a
   pub kind : word R' (a + 8) ≡ word R (a + 8)

@@ -46,13 +46,14 @@ Logs = Region → Mount ⊤ → List (List ℕ) → Region → Type 0
 
 -- ---- what is asked
 
--- An outcome as what contracts see of a mounted file system, without its memory. It is read-only where the region that came to
--- the recovery had faults.
+-- An outcome as what contracts see of a mounted file system, without its memory: read-only or not, not stopped, and
+-- with no room to give blocks back.
 abbrev pub mounted_as : Outcome → Bool → Mount ⊤
 mounted_as o read_only = record { memory = tt; sup = o.sup; rows = o.rows; free = record { sup = o.sup; pools = o.free; room = 0 }; faults = o.faults; read_only = read_only; stopped = false }
 
--- What a call is asked by a path: the outcomes of the region that came to the recovery and of the one that there is, what the
--- path says, and the call's tests.
+-- What a call is asked by a path: the outcomes of the mounted region and of the one that there is, what the path says,
+-- and the call's tests. The mounted region is the one that came to the last recovery, or, once a call that writes was
+-- done, the one that this call left. Where it has faults, what is mounted is read-only.
 pub record Asked (asks : Asks) (R S : Region) (path : List ℕ) : Type 0 where
   pub came : Outcome
   pub of_came : IsOutcome R came

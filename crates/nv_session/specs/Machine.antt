@@ -218,7 +218,8 @@ abbrev pub TellsBytes : ℕ → ℕ → trees.Tree → Path → List ℕ → Typ
 TellsBytes offset count t p text = TellsRefusal (read_tests t p) text
     ⊎ ((names : List (List ℕ)) × (p ≡ Some names) × (first_refusal (read_tests t p) ≡ None) × (bytes : List ℕ) × IsRead t names offset count bytes × (text ≡ data_line bytes))
 
--- A call that only reads: of a region that is mounted it tells what the tree of the rows of its outcome shows.
+-- A call that only reads, where a region is mounted: it tells what the tree shows that the rows of an outcome of the
+-- region that there is make.
 abbrev pub ReadsMounted : (trees.Tree → Path → List ℕ → Type 0) → Option Region → Option Region → List ℕ → State → List ℕ → State → Type 0
 ReadsMounted Tells None region path old text new = IsRefusedAs (codes "NotMounted") old text new
 ReadsMounted Tells (Some R) None path old text new = ⊥
@@ -239,7 +240,8 @@ abbrev pub DoesCall : Asks → Makes → Logs → Region → Region → List ℕ
 DoesCall asks makes logs R S path old text new = (a : Asked asks R S path) × (first_refusal a.tests ≡ None) × (names : List (List ℕ)) × (a.path_is ≡ Some names)
     × (T : Region) × LeavesTree S T (seen_in a) (makes S (seen_in a) names) × logs S (seen_in a) names T × (text ≡ ok_line) × (new ≡ record old { region = Some T; mounted = Some T })
 
--- a call on what is mounted, if something is: the region that came to the recovery, and the one that there is
+-- A call on what is mounted, if something is: of the mounted region, which came to the last recovery or which a call
+-- left, and of the one that there is.
 abbrev pub CallsMounted : Asks → Makes → Logs → List ℕ → Option Region → Option Region → State → List ℕ → State → Type 0
 CallsMounted asks makes logs path None region old text new = IsRefusedAs (codes "NotMounted") old text new
 CallsMounted asks makes logs path (Some R) None old text new = ⊥

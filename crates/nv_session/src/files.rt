@@ -26,7 +26,10 @@ pub struct CallText {
     pub is_refused: bool,
 }
 
-/// The names of a directory, a line for each.
+/// What `list` prints: the names of the directory that a path leads to, a line for each, or the line of its refusal. Of
+/// a mount that was stopped nothing is said.
+///
+/// Errors: `AllocError` where a growth was refused.
 pub fn list_text<P: Pmem + Drop>(
     alloc: Global,
     mount: &Fs<P>,
@@ -41,7 +44,10 @@ pub fn list_text<P: Pmem + Drop>(
     }
 }
 
-/// The numbers of an inode.
+/// What `stat` prints: the numbers of the inode that a path leads to, or the line of its refusal. Of a mount that was
+/// stopped nothing is said.
+///
+/// Errors: `AllocError` where a growth was refused.
 pub fn stat_text<P: Pmem + Drop>(
     alloc: Global,
     mount: &Fs<P>,
@@ -56,7 +62,8 @@ pub fn stat_text<P: Pmem + Drop>(
     }
 }
 
-/// The bytes of a file, from an offset on, at most so many.
+/// What `read` prints: the bytes of the file that a path leads to, from an offset in bytes on, at most so many, or the
+/// line of its refusal. Of a mount that was stopped nothing is said.
 pub fn read_text(
     alloc: Global,
     mount: &Fs<MemRegion>,
@@ -90,7 +97,9 @@ fn refused(alloc: Global, refusal: Refusal) -> Result<CallText, AllocError>
     })
 }
 
-/// The line of a refusal. Want of memory is told as no refusal.
+/// The line of a refusal.
+///
+/// Errors: `AllocError` where a growth was refused, and for the refusal `Memory`: want of memory is told as no refusal.
 pub fn refused_call_text(alloc: Global, refusal: Refusal) -> Result<String, AllocError>
     ensures { IfOk result (λ text. (refusal ≢ refusals.Memory) × (string_bytes text ≡ refused_line (refusal_word refusal))) }
 {

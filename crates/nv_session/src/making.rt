@@ -13,13 +13,18 @@ use std::alloc::{AllocError, Global};
 /// What came of making a region.
 #[derive(Drop)]
 pub enum Made {
+    /// The region, formatted.
     Region(MemRegion),
+    /// The first refusal that applies, which is no stop.
     Refused(FormatRefusal),
     /// What a stop left.
     Stopped(MemRegion),
 }
 
-/// Makes a region of `blocks` blocks of zeros and formats it. No region is made for a number of blocks that is refused.
+/// Makes a region of `blocks` blocks of zeros, and formats it at this time with so many CPUs and table blocks for each.
+/// No region is made for a number of blocks that is refused. It is stopped only where a stop is set.
+///
+/// Errors: `AllocError` where a growth was refused.
 pub fn new_region(
     alloc: Global,
     cpus: u64,

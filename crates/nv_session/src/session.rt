@@ -68,7 +68,7 @@ impl Session {
         }
     }
 
-    /// The region that there is at the end.
+    /// The region that there is at the end, if there is one.
     pub fn into_region(self) -> Option<MemRegion>
         ensures { option_map (λ memory. memory.region) result ≡ region_in self.store }
     {
@@ -78,7 +78,8 @@ impl Session {
         }
     }
 
-    /// The exit status after what was run.
+    /// The exit status by how the last recovery went: 0 where it found no fault or there was none, 1 where it found
+    /// some, and 2 where it was refused or stopped.
     pub fn status(&self) -> u8
         ensures { (state : State) → StandsFor self.now state → result ≡ status_of state.last }
     {
@@ -86,6 +87,8 @@ impl Session {
     }
 
     /// Runs one command, and answers what it prints.
+    ///
+    /// Errors: `AllocError` where a growth was refused; of the session nothing is said then.
     pub fn execute<H: Threads + Sync>(
         &mut self,
         rt: &H,

@@ -40,7 +40,7 @@ impl Store {
     }
 }
 
-/// Whether a word begins at the address, and is in the region.
+/// Whether a word begins at the byte address, and is in the region.
 pub fn has_word(memory: &MemRegion, at: u64) -> bool
     ensures { result ≡ has_word memory.now.region at }
 {

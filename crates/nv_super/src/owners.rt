@@ -21,6 +21,7 @@ pub enum Owner {
 }
 
 impl Run {
+    /// Whether it has no block.
     pub fn is_empty(&self) -> bool
         ensures { result ≡ (self.now.count == 0) }
     {
@@ -29,7 +30,8 @@ impl Run {
 }
 
 impl Owner {
-    /// The owner of the block that stands `by` places on in a run: a file's page is raised by so much.
+    /// The owner of the block that stands `by` places on in a run: a file's page is raised by so much, and a log's
+    /// stays.
     pub fn raised(self, by: u64) -> Owner
         requires { page_end self by < 2 ^ 64 }
         ensures { result ≡ raised self by }

@@ -1,7 +1,8 @@
 //! The superblock: block 0 of a region, whose words lay out all other areas.
 //!
-//! Word 0 is the magic, word 8 the version, 16 the number of CPUs, 24 of blocks, 32 of table blocks for each CPU, 40 the state.
-//! The magic is stored last when a region is made, so a region without it is no file system.
+//! At byte 0 stands the magic, at 8 the version, at 16 the number of CPUs, at 24 that of blocks, at 32 that of table
+//! blocks for each CPU, and at 40 the state. The magic is stored last when a region is made, so a region without it is
+//! no file system.
 
 ghost use Rattle.std.specs.Prelude.{◌≡◌, ◌≤◌, ◌<◌, ◌+◌, ◌-◌, ◌*◌, ◌/◌, ◌%◌, IfOk, IfErr, OnOk, is_err};
 ghost use Rattle.nv_region.specs.Region.{HasBlocks, size};
@@ -63,7 +64,9 @@ pub enum SuperFault {
     State,
 }
 
-/// Reads the superblock of any region, or finds the first fault that applies. It takes no memory.
+/// Reads the superblock of any region. It takes no memory.
+///
+/// Errors: the first fault that applies, in the order of `SuperFault`.
 pub fn read_super<P: Pmem>(memory: &P) -> Result<Super, SuperFault>
     ensures accepted { IfOk result (λ s. IsSuper (P.region memory.now) s) }
     ensures layout { IfOk result (λ s. IsLayout s) }
@@ -106,9 +109,10 @@ pub fn read_super<P: Pmem>(memory: &P) -> Result<Super, SuperFault>
     Ok(found)
 }
 
-/// Stores all words of the superblock but the magic, in rising order and without a fence.
+/// Stores the five numbers of the superblock, in rising order and without a fence. The magic stays.
 ///
-/// Answers `Stopped` exactly where the fuse has burnt; only words of the superblock's numbers may have changed then.
+/// Errors: `Stopped` exactly where the fuse has burnt by the end of the call; only words of these numbers may have
+/// changed then.
 pub fn write_super<P: Pmem>(memory: &mut P, sup: &Super) -> Result<(), Stopped>
     requires { 4096 ≤ size (P.region memory.old) }
     ensures done { OnOk result (P.region memory.new ≡ with_numbers (P.region memory.old) sup.now) }
