@@ -237,7 +237,10 @@ fn add_command<'a>(
 ) -> Result<Command<'a>, AllocError>
     ensures { IfOk result (λ c. app_of c ≡ with_subcommand (app_of program.entry) (app_by form.now).top) }
 {
-    program.subcommand(command_of(alloc, form)?)
+    match command_of(alloc, form) {
+        Ok(command) => program.subcommand(command),
+        Err(error) => Err(error),
+    }
 }
 
 fn add_commands<'a>(
@@ -257,5 +260,8 @@ fn add_commands<'a>(
 pub(crate) fn nova<'a>(alloc: Global) -> Result<Command<'a>, AllocError>
     ensures { IfOk result (λ c. app_of c ≡ nova_app) }
 {
-    add_commands(alloc, bare(alloc)?, &COMMANDS)
+    match bare(alloc) {
+        Ok(program) => add_commands(alloc, program, &COMMANDS),
+        Err(error) => Err(error),
+    }
 }
