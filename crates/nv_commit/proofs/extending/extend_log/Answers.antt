@@ -95,3 +95,9 @@ returns-clause-shows g c s held i h can =
     let appends : Appends (g.P.Pmem.region c.args.memory.now) (g.P.Pmem.region c.fence.new.self) c.args.tail c.in_ok-end.end c.args.entries.now c.args.fresh.now = subst (λ (X : Region). Appends (g.P.Pmem.region c.args.memory.now) X c.args.tail c.in_ok-end.end c.args.entries.now c.args.fresh.now) (sym c.in_ok-fence.ensures.same)
     (record { reads = λ s head es all start free read. c.in_ok-end.ensures.reads s head es all start free read; right = λ s head start tail_in pages either. c.in_ok-end.ensures.right s head start tail_in pages either; wrote = c.append.ensures.wrote.mixed }) in
     subst (λ (X : Region). ShowsMoved (g.P.Pmem.region c.args.memory.now) s (with_log held i h c.args.entries.now c.args.fresh.now) X) (sym c.in_ok-commit_word.ensures.done) (put_after can (g.P.Pmem.region c.fence.new.self) c.in_ok-end.end c.in_ok-end.ensures.end appends c.requires.whole c.requires.inside c.len-length.ensures.short)
+
+pub returns-clause-settled : goal.returns-clause-settled
+returns-clause-settled g c = c.in_ok-commit_word.ensures.settled
+
+pub returns-clause-stopped : goal.returns-clause-stopped
+returns-clause-stopped g c = sym (ap is_err c.in_ok-commit_word.was) ∙ c.commit_word.ensures.stopped

@@ -12,6 +12,18 @@ use Rattle.nv_journal.proofs.Both.{while_begun, while_pending, once_stored, stil
 use Rattle.nv_journal.proofs.Faultless.{begun_faultless, pending_faultless, emptied_faultless}
 use Rattle.nv_journal.proofs.committing.change_two.Goals as goal
 
+pub begin-requires-clause-inside : goal.begin-requires-clause-inside
+begin-requires-clause-inside g c = c.requires.inside
+
+pub begin-requires-clause-empty : goal.begin-requires-clause-empty
+begin-requires-clause-empty g c = c.requires.empty
+
+pub returns-in_err-begin-clause-keeps_fuse : goal.returns-in_err-begin-clause-keeps_fuse
+returns-in_err-begin-clause-keeps_fuse g c = keeps_within (λ limit past. past.0) c.begin.ensures.keeps_fuse
+
+pub returns-in_err-store_both-clause-keeps_fuse : goal.returns-in_err-store_both-clause-keeps_fuse
+returns-in_err-store_both-clause-keeps_fuse g c = keeps_more (λ limit past. (past.1, past.2)) (keeps_within (λ limit past. past.0) c.begin.ensures.keeps_fuse) c.store_both.ensures.keeps_fuse
+
 pub returns-in_err-begin-clause-reads : goal.returns-in_err-begin-clause-reads
 returns-in_err-begin-clause-reads g c permits cpus can = while_begun permits cpus _ c.args.cpu c.args.first c.args.first_value c.args.second c.args.second_value _ _ c.load-old_first.ensures c.load-old_second.ensures can _ c.begin.ensures.reads
 

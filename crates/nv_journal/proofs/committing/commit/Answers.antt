@@ -42,5 +42,8 @@ returns-clause-wrote g c =
     subst (λ (at : ℕ). StoresOnly (One at (enqueue (g.P.Pmem.region c.args.memory.now) c.args.cpu)) (g.P.Pmem.region c.args.memory.now) (g.P.Pmem.region c.commit_word.new.memory) (g.P.Pmem.may_hold c.args.memory.now) (g.P.Pmem.may_hold c.commit_word.new.memory)) c.dequeue_word.ensures
     (subst (λ (n : ℕ). StoresOnly (One c.dequeue_word.result n) (g.P.Pmem.region c.args.memory.now) (g.P.Pmem.region c.commit_word.new.memory) (g.P.Pmem.may_hold c.args.memory.now) (g.P.Pmem.may_hold c.commit_word.new.memory)) value c.commit_word.ensures.wrote)
 
+pub returns-clause-settled : goal.returns-clause-settled
+returns-clause-settled g c = c.commit_word.ensures.settled
+
 pub returns-clause-keeps_fuse : goal.returns-clause-keeps_fuse
 returns-clause-keeps_fuse g c = keeps_within (λ limit past. omega (arith, c.dequeue_word.ensures)) c.commit_word.ensures.keeps_fuse

@@ -46,6 +46,9 @@ returns-clause-done g c =
     let all : c.loop-done.done ≡ pending_count R c.args.pending.now.cpu = finished ∙ c.count-count.ensures ∙ ap count_of c.requires.read in
     on_ok_weaker c.fence.result (λ _. c.fence.ensures.same ∙ c.loop-done.invariant.so_far ∙ (λ i. stores (permitted (is_permitted s) (pending_from R c.args.pending.now.cpu (none i) (all i))) R)) c.fence.ensures.fenced
 
+pub returns-clause-settled : goal.returns-clause-settled
+returns-clause-settled g c = search depth 2 parts 0 steps 300000
+
 pub returns-clause-wrote : goal.returns-clause-wrote
 returns-clause-wrote g c = fenced_stores c.fence.result _ _ _ _ _ _ _ c.loop-done.invariant.wrote c.fence.ensures.same c.fence.ensures.fenced c.fence.ensures.refused_keep (g.met.P.Pmem.holds_now _)
 

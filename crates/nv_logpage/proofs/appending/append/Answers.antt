@@ -1,10 +1,38 @@
-use Rattle.std.proofs.Common.{IsTrue, ℕ, arith, ◌/◌, ◌∷◌, subst, sym, ◌%◌, ◌++◌, take, inl, inr, None}
-use Rattle.nv_logpage.specs.Append.{needed, Linked, appended}
+use Rattle.std.proofs.Common.{IsTrue, ℕ, ◌∙◌, ap, is_err, arith, ◌/◌, ◌∷◌, subst, sym, ◌%◌, ◌++◌, take, inl, inr, None}
+use Rattle.nv_region.proofs.Fuses.{keeps_more}
+use Rattle.nv_logpage.specs.Append.{needed, EndBy, Linked, appended}
 use Rattle.nv_logpage.specs.Reads.{Reads}
 use Rattle.nv_logpage.proofs.Written.{settled_links, entries_within, links_too}
 use Rattle.nv_inode.specs.Slot.{is_right_log}
 use Rattle.nv_logpage.proofs.Grown.{grown, left_unread, right_after, unread}
 use Rattle.nv_logpage.proofs.appending.append.Goals as goal
+
+pub write_entries-requires-clause-can : goal.write_entries-requires-clause-can
+write_entries-requires-clause-can g c = c.requires
+
+pub link_pages-requires-clause-inside : goal.link_pages-requires-clause-inside
+link_pages-requires-clause-inside g c = subst (EndBy (c.args.tail / 4096 ∷ c.args.fresh.now)) (sym c.write_entries.ensures.len) c.requires.inside
+
+pub returns-in_err-end-clause-len : goal.returns-in_err-end-clause-len
+returns-in_err-end-clause-len g c = c.write_entries.ensures.len
+
+pub returns-in_err-link_pages-clause-len : goal.returns-in_err-link_pages-clause-len
+returns-in_err-link_pages-clause-len g c = c.link_pages.ensures.len ∙ c.write_entries.ensures.len
+
+pub returns-clause-len : goal.returns-clause-len
+returns-clause-len g c = c.link_pages.ensures.len ∙ c.write_entries.ensures.len
+
+pub returns-in_err-end-clause-keeps_fuse : goal.returns-in_err-end-clause-keeps_fuse
+returns-in_err-end-clause-keeps_fuse g c = c.write_entries.ensures.keeps_fuse
+
+pub returns-in_err-link_pages-clause-keeps_fuse : goal.returns-in_err-link_pages-clause-keeps_fuse
+returns-in_err-link_pages-clause-keeps_fuse g c = keeps_more (λ limit end. end) c.write_entries.ensures.keeps_fuse c.link_pages.ensures.keeps_fuse
+
+pub returns-clause-keeps_fuse : goal.returns-clause-keeps_fuse
+returns-clause-keeps_fuse g c = keeps_more (λ limit end. end) c.write_entries.ensures.keeps_fuse c.link_pages.ensures.keeps_fuse
+
+pub returns-clause-stopped : goal.returns-clause-stopped
+returns-clause-stopped g c some = sym (ap is_err c.in_ok-link_pages.was) ∙ c.link_pages.ensures.stopped (sym (c.write_entries.ensures.stopped some) ∙ ap is_err c.in_ok-end.was)
 
 pub returns-clause-laid : goal.returns-clause-laid
 returns-clause-laid g c = c.in_ok-end.ensures.laid (g.P.Pmem.region c.link_pages.new.memory) (settled_links _ _ (c.args.tail / 4096 ∷ c.args.fresh.now) c.in_ok-end.used c.in_ok-end.used c.in_ok-end.end c.link_pages.ensures.wrote.mixed)

@@ -1,10 +1,31 @@
 use Rattle.std.proofs.Common.{arith, suc, refl, ap, sym, ◌∙◌, ◌*◌, ◌+◌, ◌/◌, ◌≡◌, ◌<◌, ◌∷◌, get_or, length, is_err}
 use Rattle.nv_region.proofs.Fuses.{keeps_more}
+use Rattle.nv_region.proofs.Wordwise.{stores_none}
 use Rattle.nv_entry.specs.Spelling.{entry_length}
 use Rattle.nv_logpage.proofs.Placing.{page_end}
 use Rattle.nv_logpage.proofs.Writing.{writing_fits, writing_turns, turned_words, more_pages, fitted_words}
 use Rattle.nv_logpage.proofs.appending.write_entries.Goals as goal
 use Rattle.nv_logpage.proofs.appending.write_entries.Goals.{then-place-size-le-LINK+in_ok-write_entry, else-place-size-le-LINK+in_ok-write_turned}
+
+pub loop-entry-init : goal.loop-entry-init
+loop-entry-init g c = record {
+  writing = record {
+    whole = c.requires.can.whole;
+    offset = c.requires.can.offset;
+    page = refl;
+    low = λ none. omega arith;
+    given = c.requires.can.given;
+    fit = λ fit. fit;
+    count = omega arith;
+    ends = refl;
+    goes = λ S settled laid. laid;
+    wrote = stores_none _ _ _;
+    len = refl;
+  };
+  nothing = λ none. refl;
+  quiet = λ some. absurd (omega (arith, some));
+  keeps_fuse = record { burnt = λ on. on; steady = λ on. on; stays_open = λ limit past on. on };
+}
 
 pub loop-entry-preserved : goal.loop-entry-preserved
 loop-entry-preserved g c =

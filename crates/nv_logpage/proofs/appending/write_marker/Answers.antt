@@ -8,3 +8,6 @@ returns-then-place-lt-LINK-clause-wrote g c =
 
 pub returns-else-place-lt-LINK-clause-wrote : goal.returns-else-place-lt-LINK-clause-wrote
 returns-else-place-lt-LINK-clause-wrote g c = stores_none _ _ _
+
+pub returns-else-place-lt-LINK-clause-marker : goal.returns-else-place-lt-LINK-clause-marker
+returns-else-place-lt-LINK-clause-marker g c less = absurd (omega arith)
