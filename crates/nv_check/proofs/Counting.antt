@@ -1,10 +1,10 @@
 -- Counting what is named, one after another.
-use Rattle.std.proofs.Common.{◌≡◌, ◌≢◌, ℕ, ◌+◌, ◌<◌, ◌≤◌, eqb, List, [], ◌∷◌, ◌++◌, length, get_or, take, refl, ap, sym, ◌∙◌, arith, eq-eqb, get_or-set_same, get_or-set_other, Option, Some, None, append-nil}
+use Rattle.std.proofs.Common.{◌≡◌, ◌≢◌, ℕ, ◌+◌, ◌<◌, ◌≤◌, eqb, Bool, true, false, cond, List, [], ◌∷◌, ◌++◌, length, get_or, take, map, refl, ap, sym, ◌∙◌, arith, eq-eqb, get_or-set_same, get_or-set_other, Option, Some, None, append-nil}
 use Rattle.std.proofs.Math.ListN.{set, length-set}
-use Rattle.std.specs.List.{count_by, filter_map, cons_option}
-use Rattle.std.proofs.lemmas.List.Elements.{filter_map-append}
+use Rattle.std.specs.List.{count_by, filter, filter_map, cons_option}
+use Rattle.std.proofs.lemmas.List.Elements.{filter-append, filter_map-append}
 use Rattle.std.proofs.lemmas.List.Sums.{count_by_more_yes, count_by_more_no, count_by-le-length}
-use Rattle.std.proofs.lemmas.List.{length-take-le, take_more, append_assoc}
+use Rattle.std.proofs.lemmas.List.{length-take-le, take_more, append_assoc, map-append}
 use Rattle.std.proofs.lemmas.Bool.{ne_eqb}
 use Rattle.nv_super.proofs.Options.{some_only}
 use Rattle.nv_check.specs.Steps.{place_of, IsTable, AreCounts}
@@ -57,3 +57,24 @@ pub takes : {A B : Type 0} (f : A → Option B) (xs : List A) (i : ℕ) (r : A) 
 takes {A} {B} f xs i r b old now new lt is some e h =
     e ∙ ap (λ (ys : List B). ys ++ b ∷ []) h ∙ append_assoc old (filter_map f (take i xs)) (b ∷ [])
     ∙ ap (λ (ys : List B). old ++ ys) (sym (filter_step f xs i r lt is ∙ ap (λ (o : Option B). filter_map f (take i xs) ++ cons_option o []) some))
+
+-- one element more of a map
+pub maps : {A B : Type 0} (f : A → B) (xs : List A) (i : ℕ) (d : A) (old now new : List B) → i < length xs → new ≡ now ++ f (get_or xs i d) ∷ [] → now ≡ old ++ map f (take i xs) → new ≡ old ++ map f (take (i + 1) xs)
+maps {A} {B} f xs i d old now new lt e h =
+    e ∙ ap (λ (ys : List B). ys ++ f (get_or xs i d) ∷ []) h ∙ append_assoc old (map f (take i xs)) (f (get_or xs i d) ∷ [])
+    ∙ ap (λ (ys : List B). old ++ ys) (sym (ap (map f) (take_more xs i d lt) ∙ map-append f (take i xs) (get_or xs i d ∷ [])))
+
+filter_one : {A : Type 0} (test : A → Bool) (x : A) (b : Bool) → test x ≡ b → filter test (x ∷ []) ≡ cond b (x ∷ []) []
+filter_one test x true h = rw h refl
+filter_one test x false h = rw h refl
+
+filter_more : {A : Type 0} (test : A → Bool) (xs : List A) (i : ℕ) (d : A) (b : Bool) → i < length xs → test (get_or xs i d) ≡ b → filter test (take (i + 1) xs) ≡ filter test (take i xs) ++ cond b (get_or xs i d ∷ []) []
+filter_more {A} test xs i d b lt is = ap (filter test) (take_more xs i d lt) ∙ filter-append test (take i xs) (get_or xs i d ∷ []) ∙ ap (λ (ys : List A). filter test (take i xs) ++ ys) (filter_one test (get_or xs i d) b is)
+
+-- one element more that passes
+pub passes : {A : Type 0} (test : A → Bool) (xs : List A) (i : ℕ) (d : A) (now new : List A) → i < length xs → test (get_or xs i d) ≡ true → new ≡ now ++ get_or xs i d ∷ [] → now ≡ filter test (take i xs) → new ≡ filter test (take (i + 1) xs)
+passes {A} test xs i d now new lt pass e h = e ∙ ap (λ (ys : List A). ys ++ get_or xs i d ∷ []) h ∙ sym (filter_more test xs i d true lt pass)
+
+-- one more that doesn't
+pub stays : {A : Type 0} (test : A → Bool) (xs : List A) (i : ℕ) (d : A) (now new : List A) → i < length xs → test (get_or xs i d) ≡ false → new ≡ now → now ≡ filter test (take i xs) → new ≡ filter test (take (i + 1) xs)
+stays test xs i d now new lt fail e h = e ∙ h ∙ sym (append-nil (filter test (take i xs))) ∙ sym (filter_more test xs i d false lt fail)

@@ -18,6 +18,7 @@ use Rattle.nv_check.specs.Cross as cross
 use Rattle.nv_check.specs.Cross.{HasNameIn, IsUnusedIn, AreNamesIn, IsReachedIn, IsCrossFaultIn}
 use Rattle.nv_check.specs.Listings as listed
 use Rattle.nv_check.specs.Listings.{IsListing, AreListings, target, targets, names_of, IsReached, IsUnused, IsFault}
+use Rattle.nv_check.specs.Steps.{AreFaults}
 use Rattle.nv_check.proofs.Ordered.{Apart, apart_append, apart_numbers, Walked, names_walked, InOrder, in_order}
 use Rattle.nv_check.proofs.Rows.{listing_of, row_of, listed_apart}
 
@@ -220,13 +221,21 @@ module _ (rows : List Row) (listings : List Listing) (are : AreListings rows lis
       subst P w.2.inode (listed.c4 w.0 w.1 (λ u. out (subst Q w.2.inode (reached_there w.0.inode u))))
   cross_back f (cross.c5 out) = listed.c5 (λ l c one dir. (let w = row l c in out w.0 w.1 (sym w.2.inode ∙ one) (sym w.2.kind ∙ dir)))
 
--- the faults between the listed rows, sorted, are those between the rows
-pub cross_listed : (limit : ℕ) (rows : List Row) (listings : List Listing) (are : AreListings rows listings) (apart : AreNumbersBelow limit (map (λ (r : Row). r.inode) rows)) (every new : List Fault)
-    → ((f : Fault) → (Contains every f → IsFault listings f) × (IsFault listings f → Contains every f)) → SortedOf fault_key every new → Lists fault_key (IsCrossFaultIn rows) new
-cross_listed limit rows listings are apart every new all s = record {
+-- the faults between the listed rows, sorted
+pub sorted_listed : (listings : List Listing) (every new : List Fault) → AreFaults listings every → SortedOf fault_key every new → Lists fault_key (IsFault listings) new
+sorted_listed listings every new all s = record {
   rising = s.rising;
-  each = λ f c. cross_there rows listings are other f ((all f).0 (s.from f c));
-  all = λ f h. s.kept f ((all f).1 (cross_back rows listings are other f h));
+  each = λ f c. (all f).0 (s.from f c);
+  all = λ f h. s.kept f ((all f).1 h);
+}
+
+-- the faults between the listed rows are those between the rows
+pub cross_listed : (limit : ℕ) (rows : List Row) (listings : List Listing) (are : AreListings rows listings) (apart : AreNumbersBelow limit (map (λ (r : Row). r.inode) rows)) (found : List Fault)
+    → Lists fault_key (IsFault listings) found → Lists fault_key (IsCrossFaultIn rows) found
+cross_listed limit rows listings are apart found l = record {
+  rising = l.rising;
+  each = λ f c. cross_there rows listings are other f (l.each f c);
+  all = λ f h. l.all f (cross_back rows listings are other f h);
 } where
   other : Apart listing_key listings
   other = apart_numbers (λ (l : Listing). l.inode) listings (listed_apart limit rows listings are apart).once

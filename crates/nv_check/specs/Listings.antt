@@ -1,5 +1,5 @@
 -- Rows whose names are listed, and what is wrong between them.
-use Rattle.std.specs.Prelude.{◌≡◌, ◌≢◌, ℕ, ◌<◌, ◌==◌, List, map, count_by}
+use Rattle.std.specs.Prelude.{◌≡◌, ◌≢◌, ℕ, ◌<◌, ◌==◌, List, [], ◌∷◌, ◌++◌, map, count_by}
 use Rattle.std.specs.List.{Contains, flat_map, AllZip}
 use Rattle.nv_super.specs.declared.kind.Kind.TheVariants.{File, Directory}
 use Rattle.nv_super.specs.declared.faults.Fault.{Fault}
@@ -19,6 +19,10 @@ pub record IsListing (r : Row) (l : Listing) : Type 0 where
 -- the rows one by one
 abbrev pub AreListings : List Row → List Listing → Type 0
 AreListings rows listings = AllZip IsListing rows listings
+
+-- the listing of the row stands behind the others
+abbrev pub AddsListing : Row → List Listing → List Listing → Type 0
+AddsListing r old new = (l : Listing) × (new ≡ old ++ l ∷ []) × IsListing r l
 
 -- the inodes of the rows
 abbrev pub inodes_of : List Listing → List ℕ

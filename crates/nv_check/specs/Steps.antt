@@ -9,7 +9,7 @@ use Rattle.nv_super.specs.declared.faults.Fault.{Fault}
 use Rattle.nv_super.specs.declared.faults.Fault.TheVariants as faults
 use Rattle.nv_names.specs.declared.named.Named.{Named}
 use Rattle.nv_check.specs.declared.listing.Listing.{Listing}
-use Rattle.nv_check.specs.Listings.{inodes_of, target, names_of, IsReached}
+use Rattle.nv_check.specs.Listings.{inodes_of, target, names_of, IsReached, IsFault}
 
 -- where the row of an inode stands, by a table
 abbrev pub place_of : List (Option ℕ) → ℕ → Option ℕ
@@ -102,6 +102,10 @@ pub record Adds (P : Fault → Type 0) (old new : List Fault) : Type 0 where
   pub each : (f : Fault) → Contains new f → Contains old f ⊎ P f
   pub kept : (f : Fault) → Contains old f → Contains new f
   pub all : (f : Fault) → P f → Contains new f
+
+-- just what is wrong between the listed rows
+abbrev pub AreFaults : List Listing → List Fault → Type 0
+AreFaults listings found = (f : Fault) → (Contains found f → IsFault listings f) × (IsFault listings f → Contains found f)
 
 -- an inode before place n that isn't marked
 abbrev pub IsUnmarkedBelow : List Listing → List Bool → ℕ → Fault → Type 0

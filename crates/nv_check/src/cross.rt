@@ -1,16 +1,18 @@
 //! What is wrong between inodes.
 
-ghost use Rattle.std.specs.Prelude.{map, IfOk, IsTrue};
+ghost use Rattle.std.specs.Prelude.{◌≡◌, [], map, IfOk, IsTrue, OnOk};
 ghost use Rattle.std.specs.List.{All};
 ghost use Rattle.nv_super.specs.Layout.{IsLayout, inode_limit, is_number};
 ghost use Rattle.nv_super.specs.Order.{fault_key, Lists};
 ghost use Rattle.nv_scan.specs.declared.piece.Row.{Row as RowValue};
 ghost use Rattle.nv_numbered.specs.Values.{AreNumbersBelow};
 ghost use Rattle.nv_check.specs.Cross.{IsCrossFaultIn};
+ghost use Rattle.nv_check.specs.Listings.{IsFault};
+ghost use Rattle.nv_check.specs.Steps.{ArePlaces, AreNumbersOfNames, AreFaults};
 
 use crate::counts::push_counts;
 use crate::names::push_unused;
-use crate::tables::tables_of;
+use crate::tables::{Tables, tables_of};
 use crate::walk::push_far;
 use nv_scan::Row;
 use nv_super::{Fault, Super, sort_faults};
@@ -30,10 +32,29 @@ pub fn cross_faults_one(alloc: Global, sup: &Super, rows: &[Row]) -> Result<Vec<
     ensures { IfOk result (λ found. Lists fault_key (IsCrossFaultIn rows.now) found.items) }
 {
     let tables = tables_of(alloc, sup, rows)?;
+    sorted_faults(alloc, &tables)
+}
+
+/// The faults between the rows of these tables, rising.
+fn sorted_faults(alloc: Global, tables: &Tables<'_>) -> Result<Vec<Fault>, AllocError>
+    requires places { ArePlaces tables.now.listings.items tables.now.places.items }
+    requires counts { AreNumbersOfNames tables.now.listings.items tables.now.counts.items }
+    ensures { IfOk result (λ found. Lists fault_key (IsFault tables.now.listings.items) found.items) }
+{
     let mut faults = Vec::new(alloc);
-    push_unused(&mut faults, &tables.places, &tables.listings)?;
-    push_counts(&mut faults, &tables.listings, &tables.counts)?;
-    push_far(alloc, &mut faults, &tables.places, &tables.listings)?;
+    push_all(alloc, &mut faults, tables)?;
     sort_faults(&mut faults);
     Ok(faults)
+}
+
+/// The faults between the rows, kind by kind.
+fn push_all(alloc: Global, faults: &mut Vec<Fault>, tables: &Tables<'_>) -> Result<(), AllocError>
+    requires places { ArePlaces tables.now.listings.items tables.now.places.items }
+    requires counts { AreNumbersOfNames tables.now.listings.items tables.now.counts.items }
+    requires none { faults.old.items ≡ [] }
+    ensures { OnOk result (AreFaults tables.now.listings.items faults.new.items) }
+{
+    push_unused(faults, &tables.places, &tables.listings)?;
+    push_counts(faults, &tables.listings, &tables.counts)?;
+    push_far(alloc, faults, &tables.places, &tables.listings)
 }

@@ -1,7 +1,7 @@
 //! The rows with their names listed, once for all checks.
 
-ghost use Rattle.std.specs.Prelude.{◌≡◌, ◌++◌, map, IfOk, OnOk};
-ghost use Rattle.nv_check.specs.Listings.{AreListings, target, targets};
+ghost use Rattle.std.specs.Prelude.{◌≡◌, ◌++◌, [], map, IfOk, OnOk};
+ghost use Rattle.nv_check.specs.Listings.{AddsListing, AreListings, target, targets};
 
 use nv_names::Named;
 use nv_scan::Row;
@@ -25,15 +25,31 @@ pub(crate) fn listings_of<'a>(
     ensures { IfOk result (λ listings. AreListings rows.now listings.items) }
 {
     let mut listings = Vec::with_capacity(alloc, rows.len())?;
-    for row in rows {
-        listings.push(Listing {
-            inode: row.inode,
-            kind: row.kind,
-            links: row.numbers.links,
-            names: row.names.walk()?,
-        })?;
-    }
+    push_listings(&mut listings, rows)?;
     Ok(listings)
+}
+
+fn push_listings<'a>(listings: &mut Vec<Listing<'a>>, rows: &'a [Row]) -> Result<(), AllocError>
+    requires { listings.old.items ≡ [] }
+    ensures { OnOk result (AreListings rows.now listings.new.items) }
+{
+    for row in rows {
+        push_listing(listings, row)?;
+    }
+    Ok(())
+}
+
+fn push_listing<'a>(listings: &mut Vec<Listing<'a>>, row: &'a Row) -> Result<(), AllocError>
+    ensures { OnOk result (AddsListing row.now listings.old.items listings.new.items) }
+{
+    let names = row.names.walk()?;
+    listings.push(Listing {
+        inode: row.inode,
+        kind: row.kind,
+        links: row.numbers.links,
+        names,
+    })?;
+    Ok(())
 }
 
 /// The inodes named, once for each name.

@@ -1,13 +1,13 @@
 //! The same faults, with the work on each row shared among threads.
 
-ghost use Rattle.std.specs.Prelude.{◌≡◌, ◌++◌, map, IfOk, IsTrue, OnOk};
+ghost use Rattle.std.specs.Prelude.{◌≡◌, ◌++◌, map, IfOk, IsTrue, OnOk, Some};
 ghost use Rattle.std.specs.List.{All, AllZip};
 ghost use Rattle.nv_super.specs.Layout.{IsLayout, inode_limit, is_number};
 ghost use Rattle.nv_super.specs.Order.{fault_key, Lists};
 ghost use Rattle.nv_scan.specs.declared.piece.Row.{Row as RowValue};
 ghost use Rattle.nv_numbered.specs.Values.{AreNumbersBelow};
 ghost use Rattle.nv_check.specs.Cross.{IsCrossFaultIn};
-ghost use Rattle.nv_check.specs.Steps.{named_by, all_of, AreNear};
+ghost use Rattle.nv_check.specs.Steps.{named_at, named_by, all_of, AreNear};
 
 use crate::counts::fault_of;
 use crate::cross::cross_faults_one;
@@ -94,9 +94,15 @@ fn named_by(places: &[Option<usize>], counts: &[u64], inode: u64) -> u64
     ensures { result ≡ named_by places.now counts.now inode }
 {
     match find(places, inode) {
-        Some(place) => counts.get(place).copied().unwrap_or(0),
+        Some(place) => count_at(counts, place),
         None => 0,
     }
+}
+
+fn count_at(counts: &[u64], place: usize) -> u64
+    ensures { result ≡ named_at counts.now (Some place) }
+{
+    counts.get(place).copied().unwrap_or(0)
 }
 
 /// Puts the faults of all rows behind one another.

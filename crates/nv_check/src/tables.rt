@@ -4,6 +4,8 @@ ghost use Rattle.std.specs.Prelude.{map, IfOk};
 ghost use Rattle.nv_super.specs.Layout.{IsLayout, inode_limit};
 ghost use Rattle.nv_scan.specs.declared.piece.Row.{Row as RowValue};
 ghost use Rattle.nv_numbered.specs.Values.{AreNumbersBelow};
+ghost use Rattle.nv_check.specs.Listings.{inodes_of};
+ghost use Rattle.nv_check.specs.Steps.{ArePlaces, AreNumbersOfNames};
 ghost use Rattle.nv_check.specs.Tables.{AreTables};
 
 use crate::counts::count_names;
@@ -31,12 +33,39 @@ pub(crate) fn tables_of<'a>(
     ensures { IfOk result (λ tables. AreTables rows.now tables) }
 {
     let listings = listings_of(alloc, rows)?;
-    let places = places_of(alloc, sup, &listings)?;
-    let targets = targets_of(alloc, &listings)?;
-    let counts = count_names(alloc, listings.len(), &places, &targets)?;
+    let (places, counts) = places_and_counts(alloc, sup, &listings)?;
     Ok(Tables {
         listings,
         places,
         counts,
     })
+}
+
+/// The tables over listed rows.
+fn places_and_counts(
+    alloc: Global,
+    sup: &Super,
+    listings: &[Listing<'_>],
+) -> Result<(Vec<Option<usize>>, Vec<u64>), AllocError>
+    requires layout { IsLayout sup.now }
+    requires apart { AreNumbersBelow (inode_limit sup.now) (inodes_of listings.now) }
+    ensures places { IfOk result (λ r. ArePlaces listings.now r.0.items) }
+    ensures counts { IfOk result (λ r. AreNumbersOfNames listings.now r.1.items) }
+{
+    let places = places_of(alloc, sup, listings)?;
+    let counts = counts_of(alloc, &places, listings)?;
+    Ok((places, counts))
+}
+
+/// How often each row's inode is named.
+fn counts_of(
+    alloc: Global,
+    places: &[Option<usize>],
+    listings: &[Listing<'_>],
+) -> Result<Vec<u64>, AllocError>
+    requires { ArePlaces listings.now places.now }
+    ensures { IfOk result (λ counts. AreNumbersOfNames listings.now counts.items) }
+{
+    let targets = targets_of(alloc, listings)?;
+    count_names(alloc, listings.len(), places, &targets)
 }

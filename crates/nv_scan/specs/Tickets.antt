@@ -1,10 +1,10 @@
 -- The inodes that each ticket stands for: those of a table block.
-use Rattle.std.specs.Prelude.{◌≡◌, ℕ, ◌+◌, ◌*◌, ◌/◌, ◌%◌, nat_lt, Bool, true, ◌||◌, is_some, List, length, map, Option, Some, None}
+use Rattle.std.specs.Prelude.{◌≡◌, ◌≢◌, ℕ, ◌+◌, ◌*◌, ◌/◌, ◌%◌, nat_lt, Bool, true, ◌||◌, is_some, List, length, map, Option, Some, None}
 use Rattle.std.specs.List.{filter, range_with_len}
-use Rattle.nv_region.specs.Region.{Region}
+use Rattle.nv_region.specs.Region.{Region, word}
 use Rattle.nv_super.specs.declared.superblock.Super.{Super}
 use Rattle.nv_super.specs.declared.faults.Fault.{Fault}
-use Rattle.nv_super.specs.Layout.{Layout, is_number, fixed_layout}
+use Rattle.nv_super.specs.Layout.{Layout, is_number, slot_address, fixed_layout}
 use Rattle.nv_scan.specs.Inode.{IsInUse}
 use Rattle.nv_scan.specs.Faults.{IsFaultOf}
 use Rattle.nv_scan.specs.Rows.{IsPiece}
@@ -31,6 +31,10 @@ numbers_of s ticket = numbers_to s ticket 32
 -- an inode that isn't in use, and with which nothing is wrong
 abbrev pub IsBlank : Region → Layout → ℕ → Type 0
 IsBlank R l i = (IsInUse R l i → ⊥) × ((f : Fault) → IsFaultOf R l i f → ⊥)
+
+-- an inode whose number has a slot, of a valid word that isn't 0
+abbrev pub IsUsed : Region → Super → ℕ → Type 0
+IsUsed R s i = (is_number s i ≡ true) × (word R (slot_address s i) ≢ 0)
 
 -- whether a piece tells anything: a row, or a fault
 abbrev pub is_told : Piece → Bool

@@ -1,15 +1,18 @@
 //! One inode: its slot and its log become its row, the blocks that it claims and its faults.
 
-ghost use Rattle.std.specs.Prelude.{◌≡◌, ◌<◌, IfOk, IfSome, IsTrue, Some, true};
+ghost use Rattle.std.specs.Prelude.{◌≡◌, ◌<◌, ◌++◌, [], ℕ, IfOk, IfSome, IsTrue, None, OnOk, Some, false, true};
+ghost use Rattle.std.specs.List.{cons_option};
 ghost use Rattle.nv_region.specs.Region.{HasBlocks};
 ghost use Rattle.nv_super.specs.Layout.{IsLayout, HasAreas, inode_limit, is_number, slot_address, fixed_layout};
+ghost use Rattle.nv_super.specs.Order.{Lists, owner_key};
 ghost use Rattle.nv_inode.specs.Slot.{slot_at, kind_of, is_right_log};
 ghost use Rattle.nv_logpage.specs.Progress.{at_head};
+ghost use Rattle.nv_radix.specs.Pages.{block_at};
 ghost use Rattle.nv_radix.specs.Runs.{block_by};
-ghost use Rattle.nv_scan.specs.Claims.{AreSmall};
+ghost use Rattle.nv_scan.specs.Claims.{AreSmall, IsClaim};
 ghost use Rattle.nv_scan.specs.Rows.{IsPiece};
 ghost use Rattle.nv_scan.specs.Scanned.{IsPieceOf, IsEmptyPiece, fault_of_end};
-ghost use Rattle.nv_scan.specs.Tickets.{IsFound, number_at};
+ghost use Rattle.nv_scan.specs.Tickets.{IsBlank, IsFound, IsUsed, number_at};
 
 use crate::claims::claims_of;
 use crate::fold::{Fold, push_fault};
@@ -20,9 +23,9 @@ use crate::tickets::number_at;
 use crate::touching::{touch_block, touch_numbers};
 use nv_inode::{Slot, SlotState, nth_slot, read_slot};
 use nv_logpage::{LogEnd, LogFault, LogReader};
-use nv_radix::Extent;
+use nv_radix::{Extent, ExtentMap, FileIndex};
 use nv_region::Pmem;
-use nv_super::{Fault, Super};
+use nv_super::{Fault, Owner, Super};
 use std::alloc::{AllocError, Global};
 use std::marker::Model;
 
@@ -123,11 +126,25 @@ impl Scanner {
         ensures found { IfOk result (IsFound (P.region memory.now) self.old (number_at self.old place)) }
     {
         self.touched = touch_block(memory, &self.sup, place);
-        if place == 0 || memory.load(nth_slot(&self.sup, place)) == 0 {
+        if is_blank(memory, &self.sup, place) {
             return Ok(None);
         }
         let inode = number_at(&self.sup, place);
         Ok(Some(self.scan_one(memory, inode)?))
+    }
+}
+
+/// Whether nothing is to be told of the inode whose slot has this place.
+fn is_blank<P: Pmem>(memory: &P, sup: &Super, place: u64) -> bool
+    requires layout { IsLayout sup.now }
+    requires blocks { HasBlocks (P.region memory.now) sup.now.blocks }
+    requires place { place < inode_limit sup.now }
+    ensures blank { IsTrue result → IsBlank (P.region memory.now) (fixed_layout sup.now) (number_at sup.now place) }
+    ensures told { result ≡ false → IsUsed (P.region memory.now) sup.now (number_at sup.now place) }
+{
+    match place {
+        0 => true,
+        _ => memory.load(nth_slot(sup, place)) == 0,
     }
 }
 
@@ -217,45 +234,86 @@ fn fault_of_end(inode: u64, end: Option<LogEnd>) -> Option<Fault>
     })
 }
 
-/// The piece of an inode in use, with one fault more, if there is one. The index is made here, once, of the pages that
-/// are left.
+/// The piece of an inode in use, with one fault more, if there is one.
 fn piece_of(
     alloc: Global,
     runs: &mut Vec<Extent>,
     used: &InUse,
     pages: Vec<u64>,
-    fold: Fold,
+    mut fold: Fold,
     fault: Option<Fault>,
 ) -> Result<Piece, AllocError>
     requires { AreSmall (block_by fold.extents) }
     ensures { IfOk result (λ piece. IsPieceOf used.now.inode used.now.kind used.now.slot pages.items fold fault piece) }
 {
-    let InUse { inode, kind, slot } = *used;
+    let (index, claims) = closed(
+        alloc,
+        runs,
+        used.inode,
+        &pages,
+        &fold.extents,
+        &mut fold.faults,
+        fault,
+    )?;
+    Ok(with_row(used, pages, fold, index, claims))
+}
+
+/// The index of the pages that are left, which is made here, once, and what the inode claims. The fault is put behind
+/// the others.
+fn closed(
+    alloc: Global,
+    runs: &mut Vec<Extent>,
+    inode: u64,
+    pages: &[u64],
+    extents: &ExtentMap,
+    faults: &mut Vec<Fault>,
+    fault: Option<Fault>,
+) -> Result<(FileIndex, Vec<(u64, Owner)>), AllocError>
+    requires { AreSmall (block_by extents.now) }
+    ensures index { IfOk result (λ r. (p : ℕ) → block_at r.0 p ≡ block_by extents.now p) }
+    ensures claims { IfOk result (λ r. Lists (λ x. owner_key x.1) (IsClaim inode pages.now r.0) r.1.items) }
+    ensures faults { OnOk result (faults.new.items ≡ faults.old.items ++ cons_option fault []) }
+{
+    push_fault(faults, fault)?;
+    let index = extents.to_index(alloc)?;
+    let claims = claims_of(alloc, inode, pages, &index, runs)?;
+    Ok((index, claims))
+}
+
+/// Puts a piece together.
+fn with_row(
+    used: &InUse,
+    pages: Vec<u64>,
+    fold: Fold,
+    index: FileIndex,
+    claims: Vec<(u64, Owner)>,
+) -> Piece
+    requires index { (p : ℕ) → block_at index p ≡ block_by fold.extents p }
+    requires claims { Lists (λ x. owner_key x.1) (IsClaim used.now.inode pages.items index) claims.items }
+    ensures { IsPieceOf used.now.inode used.now.kind used.now.slot pages.items fold None result }
+{
     let Fold {
         numbers,
-        extents,
+        extents: _,
         names,
-        mut faults,
+        faults,
     } = fold;
-    let index = extents.to_index(alloc)?;
-    let claims = claims_of(alloc, inode, &pages, &index, runs)?;
-    push_fault(&mut faults, fault)?;
     let row = Row {
-        inode,
-        kind,
+        inode: used.inode,
+        kind: used.kind,
         numbers,
-        head: slot.head,
-        tail: slot.tail,
+        head: used.slot.head,
+        tail: used.slot.tail,
         pages,
         index,
         names,
     };
-    Ok(Piece {
-        inode,
+    Piece {
+        inode: used.inode,
         row: Some(row),
         claims,
         faults,
-    })
+    }
 }
 
 /// The piece of an inode that isn't in use.

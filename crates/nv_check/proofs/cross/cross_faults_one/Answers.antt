@@ -1,31 +1,15 @@
-use Rattle.std.proofs.Common.{◌≡◌, ◌++◌, ◌∙◌, sym, subst, List, ℕ, Option}
-use Rattle.std.specs.List.{filter_map}
-use Rattle.nv_check.specs.declared.listing.Listing.{Listing}
-use Rattle.nv_check.specs.Steps.{unused_faults, count_fault, AreNumbersOfNames, ArePlaces, Adds, IsFar}
-use Rattle.nv_check.proofs.Together.{all_faults, from_both, into_both}
+use Rattle.std.proofs.lemmas.Result.{IfOk-weaker}
+use Rattle.nv_super.specs.declared.faults.Fault.{Fault}
+use Rattle.nv_super.specs.Order.{Lists, fault_key}
+use Rattle.std.specs.declared.vec.Vec.{Vec}
+use Rattle.std.specs.declared.alloc.Global.{Global}
+use Rattle.nv_check.specs.Cross.{IsCrossFaultIn}
+use Rattle.nv_check.specs.Listings.{IsFault}
 use Rattle.nv_check.proofs.CrossRows.{cross_listed}
 use Rattle.nv_check.proofs.cross.cross_faults_one.Goals as goal
 
 pub returns : goal.returns
 returns c =
-    let t = c.in_ok-tables.tables in let is = c.in_ok-tables.ensures in
-    let listings = t.listings.items in let table = t.places.items in
-    let one = unused_faults table listings in let two = filter_map (count_fault listings) listings in
-    let first : c.push_unused.new.faults.items ≡ one =
-    c.in_ok-push_unused.ensures ∙ (λ i. c.new-faults.ensures.items i ++ unused_faults (c.deref.ensures.value i) (c.deref-2.ensures.value i)) in
-    let near : c.push_counts.new.faults.items ≡ one ++ two =
-    c.in_ok-push_counts.ensures ∙ (λ i. first i ++ filter_map (count_fault (c.deref-3.ensures.value i)) (c.deref-3.ensures.value i)) in
-    let F : List Listing → Type 0 = λ ls. Adds (IsFar ls) c.push_counts.new.faults.items c.push_far.new.faults.items in
-    let far : F listings = subst F c.deref-6.ensures.value c.in_ok-push_far.ensures in
-    cross_listed _ c.args.rows.now listings is.listings c.requires.apart c.push_far.new.faults.items c.sort_faults.new.faults.items
-    (all_faults listings table is.places c.push_counts.new.faults.items c.push_far.new.faults.items (from_both _ one two near) (into_both _ one two near) far) c.sort_faults.ensures
-
-pub push_counts-requires : goal.push_counts-requires
-push_counts-requires c =
-    let L : List Listing → Type 0 = λ ls. AreNumbersOfNames ls c.deref-4.result.now in let N : List ℕ → Type 0 = λ ns. AreNumbersOfNames c.in_ok-tables.tables.listings.items ns in
-    subst L (sym c.deref-3.ensures.value) (subst N (sym c.deref-4.ensures.value) c.in_ok-tables.ensures.counts)
-
-pub push_far-requires : goal.push_far-requires
-push_far-requires c =
-    let L : List Listing → Type 0 = λ ls. ArePlaces ls c.deref-5.result.now in let P : List (Option ℕ) → Type 0 = λ t. ArePlaces c.in_ok-tables.tables.listings.items t in
-    subst L (sym c.deref-6.ensures.value) (subst P (sym c.deref-5.ensures.value) c.in_ok-tables.ensures.places)
+    let listings = c.in_ok-tables.tables.listings.items in
+    IfOk-weaker c.sorted_faults.result (λ (found : Vec Fault Global). Lists fault_key (IsFault listings) found.items) (λ (found : Vec Fault Global). Lists fault_key (IsCrossFaultIn c.args.rows.now) found.items)
+    (λ found l. cross_listed _ c.args.rows.now listings c.in_ok-tables.ensures.listings c.requires.apart found.items l) c.sorted_faults.ensures

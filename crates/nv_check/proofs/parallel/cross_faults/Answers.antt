@@ -5,7 +5,7 @@ use Rattle.nv_check.specs.declared.listing.Listing.{Listing}
 use Rattle.nv_check.specs.Steps.{ArePlaces, Adds, IsFar, AreNear, all_of}
 use Rattle.nv_check.proofs.Together.{all_faults}
 use Rattle.nv_check.proofs.Near.{near_from, near_into}
-use Rattle.nv_check.proofs.CrossRows.{cross_listed}
+use Rattle.nv_check.proofs.CrossRows.{cross_listed, sorted_listed}
 use Rattle.nv_check.proofs.parallel.cross_faults.Goals as goal
 
 pub returns : goal.returns
@@ -20,9 +20,9 @@ returns g c =
     let F : List Listing → Type 0 = λ ls. Adds (IsFar ls) c.push_rows.new.faults.items c.push_far.new.faults.items in
     let A : List Fault → Type 0 = λ fs. Adds (IsFar listings) fs c.push_far.new.faults.items in
     let far : A (all_of near) = subst A all (subst F c.deref-6.ensures.value c.in_ok-push_far.ensures) in
-    cross_listed _ c.args.rows.now listings is.listings c.requires.apart c.push_far.new.faults.items c.sort_faults.new.faults.items
-    (all_faults listings table is.places (all_of near) c.push_far.new.faults.items
-    (near_from listings table counts near is.places is.counts rows) (near_into listings table counts near is.places is.counts rows) far) c.sort_faults.ensures
+    cross_listed _ c.args.rows.now listings is.listings c.requires.apart c.sort_faults.new.faults.items
+    (sorted_listed listings c.push_far.new.faults.items c.sort_faults.new.faults.items (all_faults listings table is.places (all_of near) c.push_far.new.faults.items
+    (near_from listings table counts near is.places is.counts rows) (near_into listings table counts near is.places is.counts rows) far) c.sort_faults.ensures)
 
 pub push_far-requires : goal.push_far-requires
 push_far-requires g c =

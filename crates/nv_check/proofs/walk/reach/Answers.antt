@@ -36,3 +36,6 @@ returns c =
     let none : c.loop-place.todo.items ≡ [] = nil_from_length _ (omega (arith, c.in_default.ensures.cases)) in
     let P : List ℕ → Type 0 = λ xs. Reaching c.args.listings.now c.args.places.now c.loop-place.marks.items xs in
     reaching_done c.args.listings.now c.args.places.now c.requires _ (subst P none c.loop-place.invariant)
+
+pub mark_root-requires-clause-clear : goal.mark_root-requires-clause-clear
+mark_root-requires-clause-clear c = c.in_ok-marks.ensures.items_if_clones_equal (λ y h. h)

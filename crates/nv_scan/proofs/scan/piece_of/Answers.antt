@@ -1,18 +1,21 @@
-use Rattle.std.proofs.Common.{◌∙◌, refl, sym, subst, ℕ, List}
+use Rattle.std.proofs.Common.{◌∙◌, subst, ℕ, List, append-nil}
 use Rattle.nv_super.specs.declared.owners.Owner.{Owner}
 use Rattle.nv_super.specs.Order.{Lists, owner_key}
 use Rattle.nv_scan.specs.Claims.{IsClaim}
 use Rattle.nv_scan.proofs.scan.piece_of.Goals as goal
 
-pub claims_of-requires : goal.claims_of-requires
-claims_of-requires c = λ p b e. c.requires p b (sym (c.in_ok-index.ensures p) ∙ e)
-
 pub returns : goal.returns
-returns c = record {
-  inode = refl;
-  row = _;
-  has_row = refl;
-  is_row = (refl, refl, refl, refl, refl, refl, c.in_ok-index.ensures, refl);
-  claims = subst (λ (pages : List ℕ). Lists (λ (x : ℕ × Owner). owner_key x.1) (IsClaim c.args.used.now.inode pages c.in_ok-index.index) c.in_ok-claims.claims.items) c.deref.ensures.value c.in_ok-claims.ensures;
-  faults = c.in_ok-push_fault.ensures;
+returns c = let h = c.with_row.ensures in record {
+  inode = h.inode;
+  row = h.row;
+  has_row = h.has_row;
+  is_row = h.is_row;
+  claims = h.claims;
+  faults = h.faults ∙ append-nil c.closed.new.faults.items ∙ c.in_ok-index.ensures.faults;
+}
+
+pub with_row-requires : goal.with_row-requires
+with_row-requires c = record {
+  index = c.in_ok-index.ensures.index;
+  claims = subst (λ (pages : List ℕ). Lists (λ (x : ℕ × Owner). owner_key x.1) (IsClaim c.args.used.now.inode pages c.in_ok-index.index) c.in_ok-index.claims.items) c.deref.ensures.value c.in_ok-index.ensures.claims;
 }
