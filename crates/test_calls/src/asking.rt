@@ -17,7 +17,7 @@ const DIRECTORY_MODE: u32 = 16877;
 
 const NEW_MODE: u32 = 33216;
 
-fn write<P: Pmem + Drop>(alloc: Global, fs: &mut Fs<P>, line: Line) -> Result<(), Refusal> {
+fn write<P: Pmem + Drop>(alloc: Global, fs: &mut Fs<P>, line: &Line<'_>) -> Result<(), Refusal> {
     let [offset, count, byte] = line.numbers;
     let byte = u8::try_from(byte).unwrap_or(0);
     match vec![in alloc; byte; count as usize] {
@@ -26,17 +26,17 @@ fn write<P: Pmem + Drop>(alloc: Global, fs: &mut Fs<P>, line: Line) -> Result<()
     }
 }
 
-fn set_size<P: Pmem + Drop>(fs: &mut Fs<P>, line: Line) -> Result<(), Refusal> {
+fn set_size<P: Pmem + Drop>(fs: &mut Fs<P>, line: &Line<'_>) -> Result<(), Refusal> {
     let [size, ..] = line.numbers;
     fs.set_size(line.cpu, line.path, size, TIME)
 }
 
-fn set_attr<P: Pmem + Drop>(fs: &mut Fs<P>, line: Line) -> Result<(), Refusal> {
+fn set_attr<P: Pmem + Drop>(fs: &mut Fs<P>, line: &Line<'_>) -> Result<(), Refusal> {
     fs.set_attr(line.cpu, line.path, NEW_MODE, 1, 2, TIME)
 }
 
 /// Sets the attributes until the page in which the log ends has no room for more.
-fn fill<P: Pmem + Drop>(fs: &mut Fs<P>, line: Line) -> Result<(), Refusal> {
+fn fill<P: Pmem + Drop>(fs: &mut Fs<P>, line: &Line<'_>) -> Result<(), Refusal> {
     for _ in 0..127 {
         if log_is_full(fs, line.path)? {
             break;
@@ -46,27 +46,27 @@ fn fill<P: Pmem + Drop>(fs: &mut Fs<P>, line: Line) -> Result<(), Refusal> {
     Ok(())
 }
 
-fn create<P: Pmem + Drop>(fs: &mut Fs<P>, line: Line) -> Result<(), Refusal> {
+fn create<P: Pmem + Drop>(fs: &mut Fs<P>, line: &Line<'_>) -> Result<(), Refusal> {
     fs.create(line.cpu, line.path, FILE_MODE, TIME)
 }
 
-fn mkdir<P: Pmem + Drop>(fs: &mut Fs<P>, line: Line) -> Result<(), Refusal> {
+fn mkdir<P: Pmem + Drop>(fs: &mut Fs<P>, line: &Line<'_>) -> Result<(), Refusal> {
     fs.mkdir(line.cpu, line.path, DIRECTORY_MODE, TIME)
 }
 
-fn link<P: Pmem + Drop>(fs: &mut Fs<P>, line: Line) -> Result<(), Refusal> {
+fn link<P: Pmem + Drop>(fs: &mut Fs<P>, line: &Line<'_>) -> Result<(), Refusal> {
     fs.link(line.cpu, line.path, line.other, TIME)
 }
 
-fn unlink<P: Pmem + Drop>(fs: &mut Fs<P>, line: Line) -> Result<(), Refusal> {
+fn unlink<P: Pmem + Drop>(fs: &mut Fs<P>, line: &Line<'_>) -> Result<(), Refusal> {
     fs.unlink(line.cpu, line.path, TIME)
 }
 
-fn rmdir<P: Pmem + Drop>(fs: &mut Fs<P>, line: Line) -> Result<(), Refusal> {
+fn rmdir<P: Pmem + Drop>(fs: &mut Fs<P>, line: &Line<'_>) -> Result<(), Refusal> {
     fs.rmdir(line.cpu, line.path, TIME)
 }
 
-fn rename<P: Pmem + Drop>(fs: &mut Fs<P>, line: Line) -> Result<(), Refusal> {
+fn rename<P: Pmem + Drop>(fs: &mut Fs<P>, line: &Line<'_>) -> Result<(), Refusal> {
     fs.rename(line.cpu, line.path, line.other, TIME)
 }
 
@@ -74,7 +74,7 @@ fn rename<P: Pmem + Drop>(fs: &mut Fs<P>, line: Line) -> Result<(), Refusal> {
 pub fn call<P: Pmem + Drop>(
     alloc: Global,
     fs: &mut Fs<P>,
-    line: Line,
+    line: &Line<'_>,
 ) -> Option<Result<(), Refusal>> {
     Some(match line.name {
         "write" => write(alloc, fs, line),

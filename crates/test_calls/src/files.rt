@@ -68,11 +68,11 @@ const FULL_PAGE: &str = "
     10          free";
 
 const STORIES: [Story<'static>; 5] = [
-    (64, 2, OVERWRITTEN),
-    (8, 1, TO_THE_LAST_BLOCK),
-    (16, 1, CUT_AND_LENGTHENED),
-    (16, 1, FULL_PAGE),
-    (16, 1, ATTRIBUTES),
+    (64, 2, &[OVERWRITTEN]),
+    (8, 1, &[TO_THE_LAST_BLOCK]),
+    (16, 1, &[CUT_AND_LENGTHENED]),
+    (16, 1, &[FULL_PAGE]),
+    (16, 1, &[ATTRIBUTES]),
 ];
 
 #[test]

@@ -11,7 +11,7 @@ use std::test::Fail;
 pub fn formatted(alloc: Global, blocks: u64, cpus: u64) -> Result<Fs<MemRegion>, Fail> {
     let mut memory = MemRegion::new(alloc, blocks)?;
     format(&mut memory, cpus, 1, 1000)?;
-    Ok(mount(alloc, memory)?)
+    mount(alloc, memory)
 }
 
 const ROOT: &str = "
@@ -30,7 +30,7 @@ const ROOT: &str = "
     NotFound     names   - /a
     NotFound     read    - /a 0 1";
 
-const STORIES: [Story<'static>; 3] = [(39, 7, ROOT), (31, 2, ROOT), (8, 2, ROOT)];
+const STORIES: [Story<'static>; 3] = [(39, 7, &[ROOT]), (31, 2, &[ROOT]), (8, 2, &[ROOT])];
 
 #[test]
 fn there_is_the_root_alone(rt: HostRuntime) -> Result<(), Fail> {

@@ -129,11 +129,11 @@ const WRITE: &str = "
     1           free";
 
 const STORIES: [Story<'static>; 5] = [
-    (16, 1, NEW_INODE),
-    (16, 1, LINK),
-    (16, 1, RENAME),
-    (16, 1, REMOVAL),
-    (16, 1, WRITE),
+    (16, 1, &[NEW_INODE]),
+    (16, 1, &[LINK]),
+    (16, 1, &[RENAME]),
+    (16, 1, &[REMOVAL]),
+    (16, 1, &[WRITE]),
 ];
 
 #[test]

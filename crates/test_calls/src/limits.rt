@@ -1,7 +1,6 @@
 //! As many names as a page of a log takes, as a file may have, and as there are inodes.
 
-use crate::formatted::formatted;
-use crate::story::follow_on;
+use crate::story::{Asked, Made, follow, follow_on};
 use nv_calls::Fs;
 use nv_region::{MemRegion, Pmem};
 use std::alloc::Global;
@@ -57,18 +56,17 @@ const ALL_LINKS: &str = "
     LinkLimit   link    0 /n0 /n1000";
 
 /// Links a file until it has a thousand names.
-fn link_all(rt: &impl Abort, alloc: Global, fs: &mut Fs<MemRegion>) -> Result<(), Fail> {
+pub fn link_all(rt: &impl Abort, alloc: Global, fs: &mut Fs<MemRegion>) -> Result<(), Fail> {
     create_each(alloc, fs, 0, 1)?;
     link_each(alloc, fs, 1, 126)?;
     follow_on(rt, alloc, fs, FULL_PAGE)?;
-    link_each(alloc, fs, 127, 1000)
+    link_each(alloc, fs, 127, 1000)?;
+    follow_on(rt, alloc, fs, ALL_LINKS)
 }
 
 #[test]
 fn a_file_has_a_thousand_links(rt: HostRuntime) -> Result<(), Fail> {
-    let mut fs = formatted(rt.alloc(), 64, 2)?;
-    link_all(&rt, rt.alloc(), &mut fs)?;
-    follow_on(&rt, rt.alloc(), &mut fs, ALL_LINKS)
+    follow(&rt, rt.alloc(), &Made::Formatted(64, 2), &Asked::Links)
 }
 
 const ALL_INODES: &str = "
@@ -83,9 +81,13 @@ const ALL_INODES: &str = "
     ok          create  0 /x
     3           inode   - /x";
 
+/// Makes files until each inode is in use.
+pub fn create_all(rt: &impl Abort, alloc: Global, fs: &mut Fs<MemRegion>) -> Result<(), Fail> {
+    create_each(alloc, fs, 2, 32)?;
+    follow_on(rt, alloc, fs, ALL_INODES)
+}
+
 #[test]
 fn a_table_is_full(rt: HostRuntime) -> Result<(), Fail> {
-    let mut fs = formatted(rt.alloc(), 64, 1)?;
-    create_each(rt.alloc(), &mut fs, 2, 32)?;
-    follow_on(&rt, rt.alloc(), &mut fs, ALL_INODES)
+    follow(&rt, rt.alloc(), &Made::Formatted(64, 1), &Asked::Inodes)
 }

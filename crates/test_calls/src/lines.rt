@@ -25,15 +25,27 @@ fn number(words: &[&str], place: usize) -> u64 {
     word(words, place).parse::<u64>().unwrap_or(0)
 }
 
+fn numbers(words: &[&str]) -> [u64; 3] {
+    [number(words, 4), number(words, 5), number(words, 6)]
+}
+
+fn bytes<'a>(words: &[&'a str], place: usize) -> &'a [u8] {
+    word(words, place).as_bytes()
+}
+
+fn of_words<'a>(words: &[&'a str]) -> Line<'a> {
+    Line {
+        answer: word(words, 0),
+        name: word(words, 1),
+        cpu: number(words, 2),
+        path: bytes(words, 3),
+        other: bytes(words, 4),
+        numbers: numbers(words),
+    }
+}
+
 /// Reads a line.
 pub fn line_of(alloc: Global, text: &str) -> Result<Line<'_>, AllocError> {
     let words: Vec<&str> = text.split_whitespace().collect(alloc)?;
-    Ok(Line {
-        answer: word(&words, 0),
-        name: word(&words, 1),
-        cpu: number(&words, 2),
-        path: word(&words, 3).as_bytes(),
-        other: word(&words, 4).as_bytes(),
-        numbers: [number(&words, 4), number(&words, 5), number(&words, 6)],
-    })
+    Ok(of_words(&words))
 }

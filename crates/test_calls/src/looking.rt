@@ -60,7 +60,7 @@ fn shown(stat: Stat, name: &str) -> u64 {
 }
 
 /// The number that a line asks for.
-pub fn look<P: Pmem + Drop>(fs: &Fs<P>, line: Line) -> Result<u64, Refusal> {
+pub fn look<P: Pmem + Drop>(fs: &Fs<P>, line: &Line<'_>) -> Result<u64, Refusal> {
     let [number, ..] = line.numbers;
     match line.name {
         "free" => Ok(fs.free().free_blocks()),

@@ -6,13 +6,13 @@ ghost use Rattle.nv_region.specs.Region.{size};
 use crate::regions::{EMPTY_FILE, TWO_PAGES, Word};
 use nv_calls::Fs;
 use nv_outcome::rolled_back_outcome;
-use nv_recover::{RecoverError, recover_one};
+use nv_recover::recover_one;
 use nv_region::{MemRegion, Pmem};
 use std::alloc::Global;
 use std::test::Fail;
 
 /// Recovers a region and mounts it.
-pub fn mount(alloc: Global, mut memory: MemRegion) -> Result<Fs<MemRegion>, RecoverError> {
+pub fn mount(alloc: Global, mut memory: MemRegion) -> Result<Fs<MemRegion>, Fail> {
     let recovered = recover_one(alloc, &mut memory)?;
     rolled_back_outcome();
     Ok(Fs::open(alloc, memory, recovered))
@@ -37,5 +37,5 @@ pub fn two_pages_but(alloc: Global, words: &[Word]) -> Result<Fs<MemRegion>, Fai
     store_words(&mut memory, &EMPTY_FILE);
     store_words(&mut memory, &TWO_PAGES);
     store_words(&mut memory, words);
-    Ok(mount(alloc, memory)?)
+    mount(alloc, memory)
 }

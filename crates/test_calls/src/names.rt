@@ -90,11 +90,11 @@ const BLOCKS: &str = "
     58          free";
 
 const STORIES: [Story<'static>; 5] = [
-    (16, 1, COME_AND_GO),
-    (64, 2, NESTED),
-    (64, 2, A_FILE),
-    (64, 2, DIRECTORIES),
-    (64, 2, BLOCKS),
+    (16, 1, &[COME_AND_GO]),
+    (64, 2, &[NESTED]),
+    (64, 2, &[A_FILE]),
+    (64, 2, &[DIRECTORIES]),
+    (64, 2, &[BLOCKS]),
 ];
 
 #[test]

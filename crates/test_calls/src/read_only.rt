@@ -1,9 +1,12 @@
 //! A region with faults is mounted, and what is there can be read, but no call writes.
 
-use crate::mounted::two_pages_but;
 use crate::regions::DANGLING;
-use crate::story::follow_on;
+use crate::story::{Asked, Made, follow, follow_on};
+use nv_calls::Fs;
+use nv_region::MemRegion;
 use nv_super::Fault;
+use std::alloc::Global;
+use std::process::Abort;
 use std::test::Fail;
 
 /// The name stands for inode 3, which isn't in use, and inode 2 has none.
@@ -35,9 +38,17 @@ const READ_ONLY: &str = "
     ReadOnly    rmdir   0 a
     ReadOnly    rename  0 a b";
 
+pub fn is_read_only(rt: &impl Abort, alloc: Global, fs: &mut Fs<MemRegion>) -> Result<(), Fail> {
+    assert!(rt; fs.faults() == FAULTS.as_slice());
+    follow_on(rt, alloc, fs, READ_ONLY)
+}
+
 #[test]
 fn what_is_there_is_read_and_not_changed(rt: HostRuntime) -> Result<(), Fail> {
-    let mut fs = two_pages_but(rt.alloc(), &DANGLING)?;
-    assert!(rt; fs.faults() == FAULTS.as_slice());
-    follow_on(&rt, rt.alloc(), &mut fs, READ_ONLY)
+    follow(
+        &rt,
+        rt.alloc(),
+        &Made::TwoPages(&DANGLING),
+        &Asked::ReadOnly,
+    )
 }

@@ -1,7 +1,6 @@
 //! What is read of a file of two pages, whose region is given as words.
 
-use crate::mounted::two_pages_but;
-use crate::story::follow_on;
+use crate::story::{Asked, Made, follow};
 use std::test::Fail;
 
 const SHOWN: &str = "
@@ -61,9 +60,5 @@ const ASKED: [&str; 3] = [SHOWN, BYTES, REFUSED];
 
 #[test]
 fn a_file_is_read(rt: HostRuntime) -> Result<(), Fail> {
-    let mut fs = two_pages_but(rt.alloc(), &[])?;
-    for lines in ASKED.iter() {
-        follow_on(&rt, rt.alloc(), &mut fs, lines)?;
-    }
-    Ok(())
+    follow(&rt, rt.alloc(), &Made::TwoPages(&[]), &Asked::Texts(&ASKED))
 }

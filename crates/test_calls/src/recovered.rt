@@ -9,17 +9,6 @@ use std::alloc::{AllocError, Global};
 use std::process::Abort;
 use std::test::Fail;
 
-/// The bytes of the region.
-pub fn bytes_of(fs: &Fs<MemRegion>) -> Result<Vec<u8>, AllocError> {
-    fs.region().to_bytes()
-}
-
-/// What recovery finds in the bytes of a region.
-fn recover_bytes(alloc: Global, bytes: &[u8]) -> Result<Recovered, Fail> {
-    let mut memory = MemRegion::from_bytes(alloc, bytes)?;
-    Ok(recover_one(alloc, &mut memory)?)
-}
-
 fn has_same_log(mounted: &Row, recovered: &Row) -> bool {
     mounted.head == recovered.head
         && mounted.tail == recovered.tail
@@ -49,10 +38,17 @@ fn is_same(mounted: &Row, recovered: &Row) -> Result<bool, AllocError> {
     )
 }
 
+fn assert_same_row(rt: &impl Abort, mounted: &Row, recovered: &Row) -> Result<(), AllocError> {
+    let inode = mounted.inode;
+    let is_same = is_same(mounted, recovered)?;
+    assert!(rt; is_same, "the row of inode {inode}");
+    Ok(())
+}
+
 fn assert_same_rows(rt: &impl Abort, mounted: &Rows, recovered: &Rows) -> Result<(), AllocError> {
     assert!(rt; mounted.len() == recovered.len());
     for ((_, row), (_, other)) in mounted.iter().zip(recovered.iter()) {
-        assert!(rt; is_same(row, other)?, "the row of inode {}", row.inode);
+        assert_same_row(rt, row, other)?;
     }
     Ok(())
 }
@@ -74,19 +70,35 @@ fn assert_same_lists(rt: &impl Abort, mounted: &[Vec<Run>], recovered: &[Vec<Run
     }
 }
 
-fn assert_same(
-    rt: &impl Abort,
-    fs: &Fs<MemRegion>,
-    recovered: &Recovered,
-) -> Result<(), AllocError> {
+fn assert_same(rt: &impl Abort, fs: &Fs<MemRegion>, recovered: &Recovered) -> Result<(), Fail> {
     assert!(rt; fs.faults() == recovered.faults.as_slice());
     assert_same_rows(rt, fs.rows(), &recovered.rows)?;
-    assert_same_free(rt, fs, recovered)
+    assert_same_free(rt, fs, recovered)?;
+    Ok(())
+}
+
+fn is_recovered_of(
+    rt: &impl Abort,
+    alloc: Global,
+    fs: &Fs<MemRegion>,
+    memory: &mut MemRegion,
+) -> Result<(), Fail> {
+    let recovered = recover_one(alloc, memory)?;
+    assert_same(rt, fs, &recovered)
+}
+
+fn is_recovered_from(
+    rt: &impl Abort,
+    alloc: Global,
+    fs: &Fs<MemRegion>,
+    bytes: &[u8],
+) -> Result<(), Fail> {
+    let mut memory = MemRegion::from_bytes(alloc, bytes)?;
+    is_recovered_of(rt, alloc, fs, &mut memory)
 }
 
 /// Recovery of the region's bytes finds the rows, the free lists and the faults that are mounted.
 pub fn assert_recovered(rt: &impl Abort, alloc: Global, fs: &Fs<MemRegion>) -> Result<(), Fail> {
-    let recovered = recover_bytes(alloc, &bytes_of(fs)?)?;
-    assert_same(rt, fs, &recovered)?;
-    Ok(())
+    let bytes = fs.region().to_bytes()?;
+    is_recovered_from(rt, alloc, fs, &bytes)
 }

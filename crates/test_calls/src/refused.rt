@@ -1,10 +1,7 @@
 //! Why calls are refused: the first reason that applies. After each refusal recovery of the region's bytes finds what is
 //! mounted.
 
-use crate::formatted::formatted;
-use crate::story::follow_on;
-use std::alloc::Global;
-use std::process::Abort;
+use crate::story::{Story, follow_each};
 use std::test::Fail;
 
 const SMALL_TREE: &str = "
@@ -88,19 +85,16 @@ const FILES: &str = "
     IsDirectory   size    0 / 1073741825
     TooLarge      size    0 /a 1073741825";
 
-/// Asks the lines of a small tree.
-fn refuse(rt: &impl Abort, alloc: Global, lines: &str) -> Result<(), Fail> {
-    let mut fs = formatted(alloc, 32, 1)?;
-    follow_on(rt, alloc, &mut fs, SMALL_TREE)?;
-    follow_on(rt, alloc, &mut fs, lines)
-}
-
-const CALLS: [&str; 5] = [NEW_NAMES, LINKS, RENAMES, REMOVALS, FILES];
+/// The lines of each are asked of a small tree.
+const STORIES: [Story<'static>; 5] = [
+    (32, 1, &[SMALL_TREE, NEW_NAMES]),
+    (32, 1, &[SMALL_TREE, LINKS]),
+    (32, 1, &[SMALL_TREE, RENAMES]),
+    (32, 1, &[SMALL_TREE, REMOVALS]),
+    (32, 1, &[SMALL_TREE, FILES]),
+];
 
 #[test]
 fn each_call_is_refused_for_the_first_reason(rt: HostRuntime) -> Result<(), Fail> {
-    for lines in CALLS.iter() {
-        refuse(&rt, rt.alloc(), lines)?;
-    }
-    Ok(())
+    follow_each(&rt, rt.alloc(), &STORIES)
 }

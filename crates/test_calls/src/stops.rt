@@ -2,20 +2,13 @@
 
 use crate::mounted::{mount, two_pages_but};
 use crate::recovered::assert_recovered;
-use crate::story::follow_on;
+use crate::story::{Asked, Made, follow, follow_on};
 use nv_calls::Fs;
 use nv_region::{Fuse, Keep, MemRegion};
 use nv_tree::Refusal;
 use std::alloc::Global;
 use std::process::Abort;
 use std::test::Fail;
-
-/// A mounted file whose memory stops after so many stores and fences.
-fn stopping(alloc: Global, passed: u64) -> Result<Fs<MemRegion>, Fail> {
-    let mut fs = two_pages_but(alloc, &[])?;
-    fs.set_fuse(Fuse::After(passed));
-    Ok(fs)
-}
 
 const STOPPED: &str = "
     Stopped     attr    0 /a
@@ -32,17 +25,22 @@ const STOPPED: &str = "
     Stopped     names   - a
     Stopped     read    - a";
 
+/// Each call is refused, also once the memory takes stores again.
+pub fn stays_stopped(rt: &impl Abort, alloc: Global, fs: &mut Fs<MemRegion>) -> Result<(), Fail> {
+    fs.set_fuse(Fuse::After(0));
+    follow_on(rt, alloc, fs, STOPPED)?;
+    fs.set_fuse(Fuse::Off);
+    follow_on(rt, alloc, fs, STOPPED)
+}
+
 #[test]
 fn after_a_stop_each_call_is_refused(rt: HostRuntime) -> Result<(), Fail> {
-    let mut fs = stopping(rt.alloc(), 0)?;
-    follow_on(&rt, rt.alloc(), &mut fs, STOPPED)?;
-    fs.set_fuse(Fuse::Off);
-    follow_on(&rt, rt.alloc(), &mut fs, STOPPED)
+    follow(&rt, rt.alloc(), &Made::TwoPages(&[]), &Asked::Stops)
 }
 
 /// What a stop leaves of the region, mounted.
 fn after_stop(alloc: Global, fs: Fs<MemRegion>, keep: Keep) -> Result<Fs<MemRegion>, Fail> {
-    Ok(mount(alloc, fs.into_region().after_stop(keep))?)
+    mount(alloc, fs.into_region().after_stop(keep))
 }
 
 /// Sets the time of the file to 12, where it was 9. Whether it was set.
@@ -57,7 +55,13 @@ fn assert_time(rt: &impl Abort, fs: &Fs<MemRegion>, is_set: bool) -> Result<(), 
     Ok(())
 }
 
-/// A stop leaves a file system whose file has the time 12, or where that was not set may have 9.
+/// A file system whose file has the time 12, or where that was not set may have 9.
+fn is_left(rt: &impl Abort, alloc: Global, left: &Fs<MemRegion>, is_set: bool) -> Result<(), Fail> {
+    assert_recovered(rt, alloc, left)?;
+    assert_time(rt, left, is_set)?;
+    Ok(())
+}
+
 fn assert_left(
     rt: &impl Abort,
     alloc: Global,
@@ -66,27 +70,24 @@ fn assert_left(
     is_set: bool,
 ) -> Result<(), Fail> {
     let left = after_stop(alloc, fs, keep)?;
-    assert_recovered(rt, alloc, &left)?;
-    assert_time(rt, &left, is_set)?;
-    Ok(())
+    is_left(rt, alloc, &left, is_set)
 }
 
-/// Sets the time in a memory that stops. Whether it was set.
-fn set_and_stop(rt: &impl Abort, alloc: Global, passed: u64, keep: Keep) -> Result<bool, Fail> {
-    let mut fs = stopping(alloc, passed)?;
+/// Sets the time in a memory that stops after so many of four stores of the entry, a fence, the tail and a fence.
+fn set_and_stop(rt: &impl Abort, alloc: Global, passed: u64, keep: Keep) -> Result<(), Fail> {
+    let mut fs = two_pages_but(alloc, &[])?;
+    fs.set_fuse(Fuse::After(passed));
     let is_set = set_time(&mut fs);
-    assert_left(rt, alloc, fs, keep, is_set)?;
-    Ok(is_set)
+    assert!(rt; is_set == (passed == 7));
+    assert_left(rt, alloc, fs, keep, is_set)
 }
 
 #[test]
 fn a_stop_at_each_store_leaves_the_old_or_the_new(rt: HostRuntime) -> Result<(), Fail> {
     for &keep in [Keep::None, Keep::All, Keep::Alternate].iter() {
-        // Four stores of the entry, a fence, the tail and a fence.
-        for passed in 0..7 {
-            assert!(rt; !set_and_stop(&rt, rt.alloc(), passed, keep)?);
+        for passed in 0..8 {
+            set_and_stop(&rt, rt.alloc(), passed, keep)?;
         }
-        assert!(rt; set_and_stop(&rt, rt.alloc(), 7, keep)?);
     }
     Ok(())
 }

@@ -2,31 +2,44 @@
 
 use crate::asking::call;
 use crate::formatted::formatted;
+use crate::limits::{create_all, link_all};
 use crate::lines::{Line, line_of};
 use crate::looking::look;
+use crate::mounted::two_pages_but;
+use crate::read_only::is_read_only;
 use crate::recovered::assert_recovered;
+use crate::regions::Word;
+use crate::stops::stays_stopped;
 use nv_calls::Fs;
 use nv_region::{MemRegion, Pmem};
 use std::alloc::{AllocError, Global};
 use std::process::Abort;
 use std::test::Fail;
 
-/// The bytes that a line asks for, behind an equals sign. A point stands for a zero.
-fn read<P: Pmem + Drop>(alloc: Global, fs: &Fs<P>, line: Line) -> Result<String, AllocError> {
-    let [offset, count, _] = line.numbers;
-    let bytes = match fs.read(line.path, offset, count) {
-        Ok(bytes) => bytes,
-        Err(refusal) => return format!(in alloc; "{refusal}"),
-    };
+/// Bytes behind an equals sign. A point stands for a zero.
+fn shown(alloc: Global, bytes: &[u8]) -> Result<String, AllocError> {
     let mut text = format!(in alloc; "=")?;
-    for byte in &bytes {
+    for byte in bytes {
         text.push(if *byte == 0 { '.' } else { char::from(*byte) })?;
     }
     Ok(text)
 }
 
+/// The bytes that a line asks for.
+fn read<P: Pmem + Drop>(alloc: Global, fs: &Fs<P>, line: &Line<'_>) -> Result<String, AllocError> {
+    let [offset, count, _] = line.numbers;
+    match fs.read(line.path, offset, count) {
+        Ok(bytes) => shown(alloc, &bytes),
+        Err(refusal) => format!(in alloc; "{refusal}"),
+    }
+}
+
 /// The answer to a line, in its words.
-fn answer<P: Pmem + Drop>(alloc: Global, fs: &mut Fs<P>, line: Line) -> Result<String, AllocError> {
+fn answer<P: Pmem + Drop>(
+    alloc: Global,
+    fs: &mut Fs<P>,
+    line: &Line<'_>,
+) -> Result<String, AllocError> {
     if line.name == "read" {
         return read(alloc, fs, line);
     }
@@ -41,6 +54,18 @@ fn answer<P: Pmem + Drop>(alloc: Global, fs: &mut Fs<P>, line: Line) -> Result<S
     }
 }
 
+fn assert_answer(
+    rt: &impl Abort,
+    alloc: Global,
+    fs: &mut Fs<MemRegion>,
+    line: &Line<'_>,
+    text: &str,
+) -> Result<(), AllocError> {
+    let answer = answer(alloc, fs, line)?;
+    assert!(rt; answer.as_str() == line.answer, "{text}");
+    Ok(())
+}
+
 /// Asks a line. Then recovery of the region's bytes finds what is mounted.
 fn follow_line(
     rt: &impl Abort,
@@ -49,8 +74,7 @@ fn follow_line(
     text: &str,
 ) -> Result<(), Fail> {
     let line = line_of(alloc, text)?;
-    let answer = answer(alloc, fs, line)?;
-    assert!(rt; answer.as_str() == line.answer, "{text}");
+    assert_answer(rt, alloc, fs, &line, text)?;
     assert_recovered(rt, alloc, fs)
 }
 
@@ -69,19 +93,83 @@ pub fn follow_on(
     Ok(())
 }
 
-/// Asks each line of a region that was formatted for so many CPUs.
-fn follow(rt: &impl Abort, alloc: Global, blocks: u64, cpus: u64, story: &str) -> Result<(), Fail> {
-    let mut fs = formatted(alloc, blocks, cpus)?;
-    follow_on(rt, alloc, &mut fs, story)
+/// Asks each line of these texts.
+fn follow_all(
+    rt: &impl Abort,
+    alloc: Global,
+    fs: &mut Fs<MemRegion>,
+    texts: &[&str],
+) -> Result<(), Fail> {
+    for text in texts {
+        follow_on(rt, alloc, fs, text)?;
+    }
+    Ok(())
 }
 
-/// The blocks and the CPUs of a region, and the lines that are asked of it.
-pub type Story<'a> = (u64, u64, &'a str);
+/// A region, made and mounted.
+#[derive(Clone, Copy)]
+pub enum Made<'a> {
+    /// Formatted, of so many blocks for so many CPUs.
+    Formatted(u64, u64),
+    /// A file of two pages, with further words stored over it.
+    TwoPages(&'a [Word]),
+}
 
-/// Follows each story in a region of its own.
+/// What is asked of it.
+#[derive(Clone, Copy)]
+pub enum Asked<'a> {
+    Texts(&'a [&'a str]),
+    ReadOnly,
+    Links,
+    Inodes,
+    Stops,
+}
+
+fn mounted(alloc: Global, made: &Made<'_>) -> Result<Fs<MemRegion>, Fail> {
+    match made {
+        Made::Formatted(blocks, cpus) => formatted(alloc, *blocks, *cpus),
+        Made::TwoPages(words) => two_pages_but(alloc, words),
+    }
+}
+
+fn ask(
+    rt: &impl Abort,
+    alloc: Global,
+    fs: &mut Fs<MemRegion>,
+    asked: &Asked<'_>,
+) -> Result<(), Fail> {
+    match asked {
+        Asked::Texts(texts) => follow_all(rt, alloc, fs, texts),
+        Asked::ReadOnly => is_read_only(rt, alloc, fs),
+        Asked::Links => link_all(rt, alloc, fs),
+        Asked::Inodes => create_all(rt, alloc, fs),
+        Asked::Stops => stays_stopped(rt, alloc, fs),
+    }
+}
+
+/// Asks all of a region of its own.
+pub fn follow(
+    rt: &impl Abort,
+    alloc: Global,
+    made: &Made<'_>,
+    asked: &Asked<'_>,
+) -> Result<(), Fail> {
+    let mut fs = mounted(alloc, made)?;
+    ask(rt, alloc, &mut fs, asked)
+}
+
+/// The blocks and the CPUs of a region, and the texts of lines that are asked of it.
+pub type Story<'a> = (u64, u64, &'a [&'a str]);
+
+/// Follows each story in a region of its own, which is formatted.
 pub fn follow_each(rt: &impl Abort, alloc: Global, stories: &[Story<'_>]) -> Result<(), Fail> {
-    for &(blocks, cpus, story) in stories {
-        follow(rt, alloc, blocks, cpus, story)?;
+    for &(blocks, cpus, texts) in stories {
+        follow(
+            rt,
+            alloc,
+            &Made::Formatted(blocks, cpus),
+            &Asked::Texts(texts),
+        )?;
     }
     Ok(())
 }

@@ -1,6 +1,7 @@
 //! Worked examples. `TWO_POOLS` has the system blocks 0 to 4 and the pools 5 to 33 and 34 to 63.
 
-ghost use Rattle.std.specs.Prelude.{◌≡◌, ◌<◌, ◌≤◌, ◌+◌, IfOk};
+ghost use Rattle.std.specs.Prelude.{◌≡◌, ◌<◌, ◌≤◌, ◌+◌, ◌*◌, IfOk, length};
+ghost use Rattle.nv_super.specs.Layout.{IsLayout};
 
 use nv_alloc::{AllocRefusal, Allocators};
 use nv_super::{Run, Super};
@@ -95,32 +96,46 @@ fn assert_free(rt: &impl Abort, free: &Allocators, wanted: &[&[Pair]]) -> Result
     Ok(())
 }
 
-const FROM_6: [&[Pair]; 2] = [&[(6, 28)], &[(34, 30)]];
-
-#[test]
-fn each_pool_lists_its_blocks_that_are_not_in_use(rt: HostRuntime) -> Result<(), Fail> {
-    let free = two_pools(rt.alloc())?;
-    assert_free(&rt, &free, &FROM_6)?;
-    assert!(rt; free.free_blocks() == 58);
-    Ok(())
+/// So many blocks are free, in these runs.
+fn assert_counted(
+    rt: &impl Abort,
+    free: &Allocators,
+    count: u64,
+    wanted: &[&[Pair]],
+) -> Result<(), AllocError> {
+    assert!(rt; free.free_blocks() == count);
+    assert_free(rt, free, wanted)
 }
+
+/// What is free where these words tell the blocks in use.
+fn assert_from(
+    rt: &impl Abort,
+    alloc: Global,
+    words: &[u64],
+    sup: &Super,
+    count: u64,
+    wanted: &[&[Pair]],
+) -> Result<(), AllocError>
+    requires layout { IsLayout sup.now }
+    requires covers { sup.now.blocks ≤ 64 * length words.now }
+{
+    let free = Allocators::from_words(alloc, words, sup)?;
+    assert_counted(rt, &free, count, wanted)
+}
+
+const FROM_6: [&[Pair]; 2] = [&[(6, 28)], &[(34, 30)]];
 
 const FROM_6_TO_62: [&[Pair]; 2] = [&[(6, 28)], &[(34, 29)]];
 
-#[test]
-fn blocks_in_use_part_the_runs(rt: HostRuntime) -> Result<(), Fail> {
-    let free = Allocators::from_words(rt.alloc(), &[0x8000_0000_0000_0020], &TWO_POOLS)?;
-    assert_free(&rt, &free, &FROM_6_TO_62)?;
-    Ok(())
-}
-
 const FROM_4: [&[Pair]; 1] = [&[(4, 12)]];
 
+// Blocks in use part the runs, and blocks past the end are not free.
 #[test]
-fn blocks_past_the_end_are_not_free(rt: HostRuntime) -> Result<(), Fail> {
-    let free = Allocators::from_words(rt.alloc(), &[8, 0], &ONE_POOL)?;
-    assert_free(&rt, &free, &FROM_4)?;
-    Ok(())
+fn each_pool_lists_its_blocks_that_are_not_in_use(rt: HostRuntime) -> Result<(), AllocError> {
+    let parted = [0x8000_0000_0000_0020];
+    assert_from(&rt, rt.alloc(), &[63], &TWO_POOLS, 58, &FROM_6)?;
+    assert_from(&rt, rt.alloc(), &parted, &TWO_POOLS, 57, &FROM_6_TO_62)?;
+    assert_from(&rt, rt.alloc(), &[8, 0], &ONE_POOL, 12, &FROM_4)
 }
 
 /// A take of two pools gives these runs.
@@ -164,8 +179,7 @@ fn assert_first(
     requires { cpu < 2 }
 {
     let mut free = two_pools(alloc)?;
-    assert_taken(rt, &mut free, cpu, n, wanted)?;
-    Ok(())
+    Ok(assert_taken(rt, &mut free, cpu, n, wanted)?)
 }
 
 #[test]
@@ -190,21 +204,25 @@ fn take_all(rt: &impl Abort, free: &mut Allocators) -> Result<(), AllocRefusal>
 #[test]
 fn more_than_all_is_refused_and_changes_nothing(rt: HostRuntime) -> Result<(), Fail> {
     let mut free = two_pools(rt.alloc())?;
-    take_all(&rt, &mut free)?;
-    Ok(())
+    Ok(take_all(&rt, &mut free)?)
 }
 
 const ONLY_7: [Pair; 1] = [(7, 1)];
 
 const ONLY_7_IN_THE_LAST: [&[Pair]; 3] = [&[], &[], &ONLY_7];
 
+fn assert_other(rt: &impl Abort, free: &mut Allocators) -> Result<(), Fail>
+    requires { free.old.sup.cpus ≡ 3 }
+{
+    assert_free(rt, free, &ONLY_7_IN_THE_LAST)?;
+    assert_runs(rt, &free.take(0, 1)?, &ONLY_7);
+    Ok(())
+}
+
 #[test]
 fn an_empty_pool_takes_from_another(rt: HostRuntime) -> Result<(), Fail> {
     let mut free = three_pools(rt.alloc())?;
-    assert_free(&rt, &free, &ONLY_7_IN_THE_LAST)?;
-    let taken = free.take(0, 1)?;
-    assert_runs(&rt, &taken, &ONLY_7);
-    Ok(())
+    assert_other(&rt, &mut free)
 }
 
 const BEHIND_FULL_WORDS: [&[Pair]; 1] = [&[(5000, 1), (8190, 2)]];
@@ -213,17 +231,22 @@ const THE_LAST: [&[Pair]; 1] = [&[(8191, 1)]];
 
 const FIRST_TWO: [Pair; 2] = [(5000, 1), (8190, 1)];
 
+fn assert_behind(rt: &impl Abort, free: &mut Allocators) -> Result<(), Fail>
+    requires { free.old.sup.cpus ≡ 1 }
+{
+    assert_free(rt, free, &BEHIND_FULL_WORDS)?;
+    assert_runs(rt, &free.take(0, 2)?, &FIRST_TWO);
+    assert_free(rt, free, &THE_LAST)?;
+    Ok(())
+}
+
 #[test]
 fn blocks_behind_full_words_are_found(rt: HostRuntime) -> Result<(), Fail> {
     let mut words = [u64::MAX; 128];
     words[78] = !(1 << 8);
     words[127] = u64::MAX >> 2;
     let mut free = wide_pool(rt.alloc(), &words)?;
-    assert_free(&rt, &free, &BEHIND_FULL_WORDS)?;
-    let taken = free.take(0, 2)?;
-    assert_runs(&rt, &taken, &FIRST_TWO);
-    assert_free(&rt, &free, &THE_LAST)?;
-    Ok(())
+    assert_behind(&rt, &mut free)
 }
 
 fn wide_pool(alloc: Global, words: &[u64; 128]) -> Result<Allocators, AllocError>
@@ -263,22 +286,23 @@ const LOW_JOINED: [&[Pair]; 2] = [&[(10, 3), (14, 2)], &[]];
 
 const HIGH_JOINED: [&[Pair]; 2] = [&[(10, 2), (13, 3)], &[]];
 
+const OVER_THE_BORDER: [&[Pair]; 2] = [&[(6, 1), (30, 4)], &[(34, 4)]];
+
+// One that goes over the border of two pools joins both.
 #[test]
-fn a_run_joins_the_two_that_it_touches(rt: HostRuntime) -> Result<(), Fail> {
+fn a_run_joins_the_two_that_it_touches(rt: HostRuntime) -> Result<(), AllocError> {
     let low = run(10, 2);
     assert_given(&rt, rt.alloc(), low, run(13, 2), run(12, 1), &BOTH_JOINED)?;
     assert_given(&rt, rt.alloc(), low, run(14, 2), run(12, 1), &LOW_JOINED)?;
     assert_given(&rt, rt.alloc(), low, run(14, 2), run(13, 1), &HIGH_JOINED)?;
-    Ok(())
-}
-
-const OVER_THE_BORDER: [&[Pair]; 2] = [&[(6, 1), (30, 4)], &[(34, 4)]];
-
-#[test]
-fn a_run_over_the_border_of_two_pools_joins_both(rt: HostRuntime) -> Result<(), Fail> {
-    let (low, high) = (run(6, 1), run(40, 0));
-    assert_given(&rt, rt.alloc(), low, high, run(30, 8), &OVER_THE_BORDER)?;
-    Ok(())
+    assert_given(
+        &rt,
+        rt.alloc(),
+        run(6, 1),
+        run(40, 0),
+        run(30, 8),
+        &OVER_THE_BORDER,
+    )
 }
 
 fn is_shown_as(alloc: Global, refusal: AllocRefusal, text: &str) -> Result<bool, AllocError> {

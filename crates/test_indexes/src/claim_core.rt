@@ -168,27 +168,30 @@ const DRAWS_0_AND_LOSES: Wanted = Wanted {
     record: LOST_LOG,
 };
 
+// So much work is done by two workers in this order of turns.
+fn replayed(alloc: Global, turns: &[u32]) -> Result<ClaimState, CoreRefusal> {
+    let work = work(alloc)?;
+    replay(alloc, turns, 4, 2, &work)
+}
+
 #[test]
 fn a_schedule_says_which_worker_wins(rt: HostRuntime) -> Result<(), CoreRefusal> {
-    let work = work(rt.alloc())?;
-    let state = replay(rt.alloc(), &[1, 0, 0], 4, 2, &work)?;
+    let state = replayed(rt.alloc(), &[1, 0, 0])?;
     assert_state(&rt, &state, &[DRAWS_1_AND_WINS, DRAWS_0_AND_LOSES]);
     Ok(())
 }
 
 #[test]
-fn a_number_that_names_no_worker_is_refused(rt: HostRuntime) -> Result<(), CoreRefusal> {
-    let work = work(rt.alloc())?;
-    let refusal = replay(rt.alloc(), &[2], 4, 2, &work).err();
+fn a_number_that_names_no_worker_is_refused(rt: HostRuntime) {
+    let refusal = replayed(rt.alloc(), &[2]).err();
     assert!(rt; refusal == Some(CoreRefusal::NotAllowed { place: 0 }));
-    Ok(())
 }
 
 #[test]
 fn a_worker_past_the_end_has_no_step(rt: HostRuntime) -> Result<(), CoreRefusal> {
     let nothing = Vec::new(rt.alloc());
-    let state = replay(rt.alloc(), &[0, 0, 0], 0, 1, &nothing)?;
-    assert!(rt; state.cursor() == 1);
+    let cursor = replay(rt.alloc(), &[0, 0, 0], 0, 1, &nothing)?.cursor();
+    assert!(rt; cursor == 1);
     Ok(())
 }
 
@@ -257,38 +260,29 @@ const LAST: Run = Run {
 
 const LAST_BIT: u64 = 9223372036854775808;
 
-// Worker 0 claims blocks 60 to 63 for a file, and then worker 1 block 63 for another.
-fn both_claims(rt: &impl Abort, alloc: Global) -> Result<ClaimState, CoreRefusal> {
-    let mut state = run(alloc, ONE_WORD, &[])?;
-    assert_claimed(rt, &mut state, 0, LAST_FOUR, 2, Ok(0));
-    assert_claimed(rt, &mut state, 1, LAST, 4, Ok(LAST_BIT));
-    Ok(state)
-}
-
 // The bits 60 to 63.
 const LAST_FOUR_BITS: u64 = 17293822569102704640;
 
-#[test]
-fn a_span_gives_the_mask_of_its_lost_claims(rt: HostRuntime) -> Result<(), CoreRefusal> {
-    let mut state = both_claims(&rt, rt.alloc())?;
-    assert_sets(&rt, &state, LAST_FOUR_BITS, 0);
-    assert_marked(&rt, &mut state, 1, LAST_BIT, Ok(()));
-    assert_sets(&rt, &state, LAST_FOUR_BITS, LAST_BIT);
-    Ok(())
-}
-
 const NOT_ALLOWED: CoreRefusal = CoreRefusal::NotAllowed { place: 0 };
 
-#[test]
-fn a_refused_span_changes_nothing(rt: HostRuntime) -> Result<(), CoreRefusal> {
-    let mut state = both_claims(&rt, rt.alloc())?;
-    assert_claimed(&rt, &mut state, 2, LAST, 4, Err(NOT_ALLOWED));
-    assert_marked(&rt, &mut state, 0, LAST_BIT, Err(NOT_ALLOWED));
-    assert_sets(&rt, &state, LAST_FOUR_BITS, 0);
-    assert_marked(&rt, &mut state, 1, LAST_BIT, Ok(()));
+// Worker 0 claims blocks 60 to 63 for a file, and then worker 1 block 63 for another.
+fn assert_spans(rt: &impl Abort, state: &mut ClaimState) {
+    assert_claimed(rt, state, 0, LAST_FOUR, 2, Ok(0));
+    assert_claimed(rt, state, 1, LAST, 4, Ok(LAST_BIT));
+    // What is refused changes nothing.
+    assert_claimed(rt, state, 2, LAST, 4, Err(NOT_ALLOWED));
+    assert_marked(rt, state, 0, LAST_BIT, Err(NOT_ALLOWED));
+    assert_sets(rt, state, LAST_FOUR_BITS, 0);
+    assert_marked(rt, state, 1, LAST_BIT, Ok(()));
     // The one lost claim of block 63 is marked, so a second mark is not allowed.
-    assert_marked(&rt, &mut state, 1, LAST_BIT, Err(NOT_ALLOWED));
-    assert_sets(&rt, &state, LAST_FOUR_BITS, LAST_BIT);
+    assert_marked(rt, state, 1, LAST_BIT, Err(NOT_ALLOWED));
+    assert_sets(rt, state, LAST_FOUR_BITS, LAST_BIT);
+}
+
+#[test]
+fn a_span_gives_the_mask_of_its_lost_claims(rt: HostRuntime) -> Result<(), CoreRefusal> {
+    let mut state = run(rt.alloc(), ONE_WORD, &[])?;
+    assert_spans(&rt, &mut state);
     Ok(())
 }
 
@@ -301,14 +295,18 @@ const NEXT_TO_LAST_BIT: u64 = 4611686018427387904;
 
 const LAST_TWO_BITS: u64 = 13835058055282163712;
 
+// Worker 1 loses block 62, and not block 63, which it does not claim.
+fn assert_place(rt: &impl Abort, state: &mut ClaimState) {
+    assert_claimed(rt, state, 0, LAST_FOUR, 2, Ok(0));
+    assert_claimed(rt, state, 1, NEXT_TO_LAST, 4, Ok(NEXT_TO_LAST_BIT));
+    let refusal = CoreRefusal::NotAllowed { place: 1 };
+    assert_marked(rt, state, 1, LAST_TWO_BITS, Err(refusal));
+    assert_sets(rt, state, LAST_FOUR_BITS, 0);
+}
+
 #[test]
 fn a_mark_is_refused_at_its_place_in_the_mask(rt: HostRuntime) -> Result<(), CoreRefusal> {
     let mut state = run(rt.alloc(), ONE_WORD, &[])?;
-    assert_claimed(&rt, &mut state, 0, LAST_FOUR, 2, Ok(0));
-    // Worker 1 loses block 62, and not block 63, which it does not claim.
-    assert_claimed(&rt, &mut state, 1, NEXT_TO_LAST, 4, Ok(NEXT_TO_LAST_BIT));
-    let refusal = CoreRefusal::NotAllowed { place: 1 };
-    assert_marked(&rt, &mut state, 1, LAST_TWO_BITS, Err(refusal));
-    assert_sets(&rt, &state, LAST_FOUR_BITS, 0);
+    assert_place(&rt, &mut state);
     Ok(())
 }

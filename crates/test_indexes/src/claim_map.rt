@@ -102,6 +102,15 @@ fn assert_each_once(rt: &impl Abort, mut tickets: Vec<u64>, count: usize) {
     }
 }
 
+// All that was drawn, one list behind the other.
+fn all_of(alloc: Global, lists: Vec<Result<Vec<u64>, AllocError>>) -> Result<Vec<u64>, AllocError> {
+    let mut tickets = Vec::new(alloc);
+    for list in lists {
+        tickets.extend_from_slice(&list?)?;
+    }
+    Ok(tickets)
+}
+
 #[test]
 fn sixty_four_threads_draw_each_ticket_once(rt: HostRuntime) -> Result<(), Fail> {
     let alloc: Global = rt.alloc();
@@ -113,11 +122,7 @@ fn sixty_four_threads_draw_each_ticket_once(rt: HostRuntime) -> Result<(), Fail>
             requires { seat.map ≡ map }
         { draw_all(alloc, &map, &mut seat) },
     )?;
-    let mut tickets = Vec::new(alloc);
-    for list in lists {
-        tickets.extend_from_slice(&list?)?;
-    }
-    assert_each_once(&rt, tickets, 1000);
+    assert_each_once(&rt, all_of(alloc, lists)?, 1000);
     Ok(())
 }
 
@@ -204,44 +209,67 @@ fn assert_claimed(rt: &impl Abort, closed: &Claimed, row: &Row) {
     assert!(rt; closed.claims.len() == row.claims);
 }
 
+fn is_claimed<R: Threads + Abort>(rt: &R, alloc: Global, row: &Row) -> Result<(), AllocError> {
+    let [first, second] = row.runs;
+    let closed = claimed_by_two(rt, alloc, row.blocks, first, second)?;
+    assert_claimed(rt, &closed, row);
+    Ok(())
+}
+
 #[test]
-fn two_threads_claim_blocks_in_common(rt: HostRuntime) -> Result<(), Fail> {
+fn two_threads_claim_blocks_in_common(rt: HostRuntime) -> Result<(), AllocError> {
     for row in ROWS.iter() {
-        let [first, second] = row.runs;
-        let closed = claimed_by_two(&rt, rt.alloc(), row.blocks, first, second)?;
-        assert_claimed(&rt, &closed, row);
+        is_claimed(&rt, rt.alloc(), row)?;
     }
     Ok(())
 }
 
-#[test]
-fn the_last_block_of_a_large_map_is_claimed(rt: HostRuntime) -> Result<(), Fail> {
-    let closed = claimed_by_two(&rt, rt.alloc(), 262144, &[(262143, 1)], &[])?;
-    assert!(rt; closed.first.len() == 4096);
+// One claim, of the last of 4096 words' blocks.
+fn assert_last(rt: &impl Abort, closed: &Claimed) {
+    assert!(rt; (closed.first.len(), closed.claims.len()) == (4096, 1));
     assert!(rt; closed.first.last() == Some(&9223372036854775808));
-    assert!(rt; closed.claims.len() == 1);
-    Ok(())
 }
 
 #[test]
-fn seats_are_numbered_and_a_joined_one_has_the_first_number(rt: HostRuntime) -> Result<(), Fail> {
-    let (map, mut one, two) = opened(rt.alloc(), 64, 0)?;
-    assert!(rt; map.draw(&mut one).is_none());
+fn the_last_block_of_a_large_map_is_claimed(rt: HostRuntime) -> Result<(), AllocError> {
+    let closed = claimed_by_two(&rt, rt.alloc(), 262144, &[(262143, 1)], &[])?;
+    assert_last(&rt, &closed);
+    Ok(())
+}
+
+// There is no ticket to draw, and the seats are numbered.
+fn assert_numbered(rt: &impl Abort, map: &ClaimMap, one: &mut ClaimSeat, two: &ClaimSeat)
+    requires { one.old.map ≡ map.now }
+    ensures { one.new.map ≡ one.old.map }
+{
+    assert!(rt; map.draw(one).is_none());
     assert!(rt; (one.number(), two.number()) == (0, 1));
-    let seat = joined(&map, two, one)?;
-    assert!(rt; seat.number() == 1);
+}
+
+fn joined_number(map: &ClaimMap, one: ClaimSeat, other: ClaimSeat) -> Result<u32, AllocError>
+    requires { (one.map ≡ map.now) × (other.map ≡ map.now) }
+{
+    let seat = joined(map, one, other)?;
+    Ok(seat.number())
+}
+
+#[test]
+fn seats_are_numbered_and_a_joined_one_has_the_first_number(
+    rt: HostRuntime,
+) -> Result<(), AllocError> {
+    let (map, mut one, two) = opened(rt.alloc(), 64, 0)?;
+    assert_numbered(&rt, &map, &mut one, &two);
+    assert!(rt; joined_number(&map, two, one) == Ok(1));
     Ok(())
 }
 
 // 300 runs that a worker claims, each of at most 100 blocks below 1,000.
-fn overlapping(alloc: Global, stride: u64) -> Result<Vec<Pair>, AllocError>
-    requires { stride < 1000 }
-{
-    let mut runs = Vec::new(alloc);
-    for place in 0..300 {
-        runs.push((place * stride % 900, place % 100 + 1))?;
+fn overlapping(stride: u64) -> [Pair; 300] {
+    let mut runs = [(0, 1); 300];
+    for (place, run) in (0..300u64).zip(runs.iter_mut()) {
+        *run = (place.wrapping_mul(stride) % 900, place % 100 + 1);
     }
-    Ok(runs)
+    runs
 }
 
 // How often each block below 1,000 stands in the runs.
@@ -265,21 +293,30 @@ fn is_in(words: &[u64], block: usize) -> bool {
 // The sets have the blocks that are counted once or more, and twice or more.
 fn assert_counted(rt: &impl Abort, closed: &Claimed, counts: &[u64; 1000]) {
     for (block, count) in counts.iter().enumerate() {
-        assert!(rt; is_in(&closed.first, block) == (*count > 0));
-        assert!(rt; is_in(&closed.second, block) == (*count > 1));
+        assert!(rt;
+            (is_in(&closed.first, block), is_in(&closed.second, block)) == (*count > 0, *count > 1),
+            "block {block}"
+        );
     }
 }
 
-#[test]
-fn overlapping_runs_agree_with_a_plain_count(rt: HostRuntime) -> Result<(), Fail> {
-    let first = overlapping(rt.alloc(), 37)?;
-    let second = overlapping(rt.alloc(), 53)?;
-    let closed = claimed_by_two(&rt, rt.alloc(), 1000, &first, &second)?;
+fn agrees<R: Threads + Abort>(
+    rt: &R,
+    alloc: Global,
+    first: &[Pair],
+    second: &[Pair],
+) -> Result<(), AllocError> {
+    let closed = claimed_by_two(rt, alloc, 1000, first, second)?;
     let mut counts = [0; 1000];
-    count_runs(&mut counts, &first);
-    count_runs(&mut counts, &second);
-    assert_counted(&rt, &closed, &counts);
+    count_runs(&mut counts, first);
+    count_runs(&mut counts, second);
+    assert_counted(rt, &closed, &counts);
     Ok(())
+}
+
+#[test]
+fn overlapping_runs_agree_with_a_plain_count(rt: HostRuntime) -> Result<(), AllocError> {
+    agrees(&rt, rt.alloc(), &overlapping(37), &overlapping(53))
 }
 
 #[test]

@@ -105,24 +105,43 @@ pub fn assert_extents(
     Ok(())
 }
 
-fn assert_blocks(rt: &impl Abort, index: &FileIndex, places: &[u64], mapped: &str) {
-    for place in places.chunks_exact(2) {
+fn assert_blocks(
+    rt: &impl Abort,
+    alloc: Global,
+    index: &FileIndex,
+    mapped: &str,
+) -> Result<(), Fail> {
+    for place in numbers(alloc, mapped)?.chunks_exact(2) {
         if let [page, block] = *place {
             assert!(rt; index.get(page) == Some(block), "the blocks {mapped}");
         }
     }
+    Ok(())
 }
 
-fn assert_unmapped(rt: &impl Abort, index: &FileIndex, pages: &[u64], unmapped: &str) {
-    for page in pages {
+fn assert_unmapped(
+    rt: &impl Abort,
+    alloc: Global,
+    index: &FileIndex,
+    unmapped: &str,
+) -> Result<(), Fail> {
+    for page in &numbers(alloc, unmapped)? {
         assert!(rt; index.get(*page) == None, "no block at {unmapped}");
     }
+    Ok(())
 }
 
-fn assert_ready(rt: &impl Abort, index: &FileIndex, pages: &[u64], is_ready: bool) {
-    for page in pages {
+fn assert_ready(
+    rt: &impl Abort,
+    alloc: Global,
+    index: &FileIndex,
+    pages: &str,
+    is_ready: bool,
+) -> Result<(), Fail> {
+    for page in &numbers(alloc, pages)? {
         assert!(rt; index.ready(*page) == is_ready, "page {page}");
     }
+    Ok(())
 }
 
 /// The index is what the fields of a row say.
@@ -136,11 +155,10 @@ fn assert_left(
         return Err("a row has seven fields".into());
     };
     assert_extents(rt, alloc, index, extents)?;
-    assert_blocks(rt, index, &numbers(alloc, mapped)?, mapped);
-    assert_unmapped(rt, index, &numbers(alloc, unmapped)?, unmapped);
-    assert_ready(rt, index, &numbers(alloc, ready)?, true);
-    assert_ready(rt, index, &numbers(alloc, unready)?, false);
-    Ok(())
+    assert_blocks(rt, alloc, index, mapped)?;
+    assert_unmapped(rt, alloc, index, unmapped)?;
+    assert_ready(rt, alloc, index, ready, true)?;
+    assert_ready(rt, alloc, index, unready, false)
 }
 
 fn assert_row(rt: &impl Abort, alloc: Global, row: &str) -> Result<(), Fail> {

@@ -48,13 +48,6 @@ fn insert_all(index: &mut NameIndex, names: &[Vec<u8>]) -> Result<(), AllocError
     Ok(())
 }
 
-/// The same as `added`, inserted where no room was made.
-fn inserted(alloc: Global, names: &[Vec<u8>]) -> Result<NameIndex, AllocError> {
-    let mut index = NameIndex::new(alloc);
-    insert_all(&mut index, names)?;
-    Ok(index)
-}
-
 /// Three names that the index's tree gives one key.
 fn names_of_one_key(alloc: Global) -> Result<Vec<Vec<u8>>, AllocError> {
     let mut names = Vec::new(alloc);
@@ -96,22 +89,11 @@ fn assert_rising(rt: &impl Abort, listed: &[Named]) {
     }
 }
 
-#[test]
-fn names_at_the_edges_are_told_apart_and_listed(rt: HostRuntime) -> Result<(), AllocError> {
-    let names = edge_names(rt.alloc())?;
-    let index = added(rt.alloc(), &names)?;
-    assert_named(&rt, &index, &names);
-    assert_no_names(&rt, &index);
-    assert_rising(&rt, &index.list()?);
-    Ok(())
-}
-
-#[test]
-fn a_refused_growth_leaves_the_names(rt: HostRuntime) -> Result<(), AllocError> {
-    let names = edge_names(rt.alloc())?;
-    let mut index = inserted(rt.alloc(), &names)?;
-    assert!(rt; index.reserve(usize::MAX) == Err(AllocError));
-    assert_named(&rt, &index, &names);
+fn are_listed(rt: &impl Abort, alloc: Global, names: &[Vec<u8>]) -> Result<(), AllocError> {
+    let index = added(alloc, names)?;
+    assert_named(rt, &index, names);
+    assert_no_names(rt, &index);
+    assert_rising(rt, &index.list()?);
     Ok(())
 }
 
@@ -126,14 +108,6 @@ fn assert_all_go(rt: &impl Abort, index: &mut NameIndex, names: &[Vec<u8>]) {
     assert!(rt; index.is_empty());
 }
 
-#[test]
-fn names_are_removed_once_and_again(rt: HostRuntime) -> Result<(), AllocError> {
-    let names = edge_names(rt.alloc())?;
-    let mut index = inserted(rt.alloc(), &names)?;
-    assert_all_go(&rt, &mut index, &names);
-    Ok(())
-}
-
 /// The first name goes alone, and comes again.
 fn assert_told_apart(
     rt: &impl Abort,
@@ -146,16 +120,37 @@ fn assert_told_apart(
         assert!(rt; index.get(first).is_none());
         assert!(rt; index.len() == others.len());
     }
+    insert_all(index, names)
+}
+
+/// The names are inserted where no room was made. A refused growth leaves them, one goes and comes, and all go.
+fn come_and_go(
+    rt: &impl Abort,
+    index: &mut NameIndex,
+    names: &[Vec<u8>],
+) -> Result<(), AllocError> {
     insert_all(index, names)?;
+    assert!(rt; index.reserve(usize::MAX) == Err(AllocError));
+    assert_told_apart(rt, index, names)?;
     assert_named(rt, index, names);
+    assert_all_go(rt, index, names);
     Ok(())
+}
+
+fn are_told_apart(rt: &impl Abort, alloc: Global, names: &[Vec<u8>]) -> Result<(), AllocError> {
+    let mut index = NameIndex::new(alloc);
+    come_and_go(rt, &mut index, names)
+}
+
+#[test]
+fn names_at_the_edges_are_told_apart_and_listed(rt: HostRuntime) -> Result<(), AllocError> {
+    let names = edge_names(rt.alloc())?;
+    are_listed(&rt, rt.alloc(), &names)?;
+    are_told_apart(&rt, rt.alloc(), &names)
 }
 
 #[test]
 fn names_of_one_key_are_told_apart(rt: HostRuntime) -> Result<(), AllocError> {
     let names = names_of_one_key(rt.alloc())?;
-    let mut index = inserted(rt.alloc(), &names)?;
-    assert_told_apart(&rt, &mut index, &names)?;
-    assert_all_go(&rt, &mut index, &names);
-    Ok(())
+    are_told_apart(&rt, rt.alloc(), &names)
 }

@@ -1,6 +1,6 @@
 //! Each call on its happy path with ample memory, numbers at the edges, and values that own memory.
 
-ghost use Rattle.std.specs.Prelude.{◌≡◌, ◌<◌};
+ghost use Rattle.std.specs.Prelude.{◌≡◌, ◌^◌, ◌<◌};
 ghost use Rattle.nv_numbered.specs.Values.{limit_of};
 
 use nv_numbered::Numbered;
@@ -101,52 +101,75 @@ const GIVEN: [(u64, Option<u64>); 5] = [
     (8, None),
 ];
 
+fn assert_given(rt: &impl Abort, values: &mut Numbered<u64>) {
+    assert_values(rt, values, 2, &GIVEN);
+    assert_removed(rt, values, 5, Some(50));
+    assert_values(rt, values, 1, &[(1, Some(10)), (5, None)]);
+}
+
 #[test]
 fn given_values_stand_under_their_numbers(rt: HostRuntime) -> Result<(), AllocError> {
     let mut values = given(rt.alloc())?;
-    assert_values(&rt, &values, 2, &GIVEN);
-    assert_removed(&rt, &mut values, 5, Some(50));
-    assert_values(&rt, &values, 1, &[(1, Some(10)), (5, None)]);
+    assert_given(&rt, &mut values);
     Ok(())
 }
 
 const NO_VALUES: [(u64, Option<u64>); 4] = [(0, None), (7, None), (8, None), (u64::MAX, None)];
 
+fn assert_new(rt: &impl Abort, values: &mut Numbered<u64>) {
+    assert_values(rt, values, 0, &NO_VALUES);
+    assert_listed(rt, values, &[]);
+    assert_written(rt, values, 0, false);
+    assert_removed(rt, values, 0, None);
+}
+
+fn is_new(rt: &impl Abort, alloc: Global, limit: u64) -> Result<(), AllocError>
+    requires { limit < 2 ^ 32 }
+{
+    let mut values = Numbered::<u64>::new(alloc, limit)?;
+    assert_new(rt, &mut values);
+    Ok(())
+}
+
 #[test]
 fn a_new_table_has_no_value(rt: HostRuntime) -> Result<(), AllocError> {
-    for &limit in [8, 0].iter() {
-        let mut values = Numbered::<u64>::new(rt.alloc(), limit)?;
-        assert_values(&rt, &values, 0, &NO_VALUES);
-        assert_listed(&rt, &values, &[]);
-        assert_written(&rt, &mut values, 0, false);
-        assert_removed(&rt, &mut values, 0, None);
-    }
-    Ok(())
+    is_new(&rt, rt.alloc(), 8)?;
+    is_new(&rt, rt.alloc(), 0)
 }
 
 const INSERTED: [(u64, Option<u64>); 4] = [(2, None), (3, Some(30)), (7, Some(70)), (8, None)];
 
+fn are_inserted(rt: &impl Abort, values: &mut Numbered<u64>) -> Result<(), AllocError>
+    requires { limit_of values.old ≡ 8 }
+{
+    insert_new(values, 3, 30)?;
+    insert_new(values, 7, 70)?;
+    assert_values(rt, values, 2, &INSERTED);
+    assert_removed(rt, values, 3, Some(30));
+    assert_removed(rt, values, 3, None);
+    assert_values(rt, values, 1, &[(3, None), (7, Some(70))]);
+    Ok(())
+}
+
 #[test]
 fn a_value_is_inserted_found_and_removed(rt: HostRuntime) -> Result<(), AllocError> {
     let mut values = Numbered::<u64>::new(rt.alloc(), 8)?;
-    insert_new(&mut values, 3, 30)?;
-    insert_new(&mut values, 7, 70)?;
-    assert_values(&rt, &values, 2, &INSERTED);
-    assert_removed(&rt, &mut values, 3, Some(30));
-    assert_removed(&rt, &mut values, 3, None);
-    assert_values(&rt, &values, 1, &[(3, None), (7, Some(70))]);
-    Ok(())
+    are_inserted(&rt, &mut values)
 }
 
 const WRITTEN: [(u64, Option<u64>); 4] = [(0, Some(1)), (1, None), (5, Some(50)), (7, Some(70))];
 
+fn assert_writes(rt: &impl Abort, values: &mut Numbered<u64>) {
+    assert_written(rt, values, 0, true);
+    assert_written(rt, values, 1, false);
+    assert_written(rt, values, 8, false);
+    assert_values(rt, values, 3, &WRITTEN);
+}
+
 #[test]
 fn a_write_changes_one_value(rt: HostRuntime) -> Result<(), AllocError> {
     let mut values = filled(rt.alloc(), &[5, 0, 7])?;
-    assert_written(&rt, &mut values, 0, true);
-    assert_written(&rt, &mut values, 1, false);
-    assert_written(&rt, &mut values, 8, false);
-    assert_values(&rt, &values, 3, &WRITTEN);
+    assert_writes(&rt, &mut values);
     Ok(())
 }
 
@@ -169,13 +192,17 @@ const REMOVED: [(u64, u64, usize); 7] = [
     (2, 20, 1),
 ];
 
+fn assert_removals(rt: &impl Abort, values: &mut Numbered<u64>) {
+    for (number, value, left) in REMOVED.iter() {
+        assert_removed(rt, values, *number, Some(*value));
+        assert_values(rt, values, *left, &[(*number, None), (5, Some(50))]);
+    }
+}
+
 #[test]
 fn values_are_removed_in_any_order(rt: HostRuntime) -> Result<(), AllocError> {
     let mut values = filled(rt.alloc(), &[0, 1, 2, 3, 4, 5, 6, 7])?;
-    for (number, value, left) in REMOVED.iter() {
-        assert_removed(&rt, &mut values, *number, Some(*value));
-        assert_values(&rt, &values, *left, &[(*number, None), (5, Some(50))]);
-    }
+    assert_removals(&rt, &mut values);
     Ok(())
 }
 

@@ -5,12 +5,11 @@ use crate::small::SMALL;
 use nv_check::{cross_faults, cross_faults_one, doubled};
 use nv_names::NameIndex;
 use nv_super::{Fault, Kind, Owner};
-use std::alloc::Global;
+use std::alloc::{AllocError, Global};
 use std::process::Abort;
-use std::test::Fail;
 
 /// One name, of this inode and at this place.
-fn one_name(alloc: Global, inode: u64, place: u64) -> Result<NameIndex, Fail> {
+fn one_name(alloc: Global, inode: u64, place: u64) -> Result<NameIndex, AllocError> {
     let mut names = NameIndex::new(alloc);
     names.reserve(1)?;
     names.add(b"a", inode, place);
@@ -18,7 +17,7 @@ fn one_name(alloc: Global, inode: u64, place: u64) -> Result<NameIndex, Fail> {
 }
 
 /// The names of the root: inode 2, and inode 9, which has no row.
-fn root_names(alloc: Global) -> Result<NameIndex, Fail> {
+fn root_names(alloc: Global) -> Result<NameIndex, AllocError> {
     let mut names = one_name(alloc, 2, 12288)?;
     names.reserve(1)?;
     names.add(b"b", 9, 12352);
@@ -41,7 +40,7 @@ fn assert_faults(rt: &impl Abort, faults: &[Fault]) {
 
 /// Inode 2 is a file of two links. Inodes 3 and 4 name each other. The rows come in no order.
 #[test]
-fn faults_between_four_rows(rt: HostRuntime) -> Result<(), Fail> {
+fn faults_between_four_rows(rt: HostRuntime) -> Result<(), AllocError> {
     let alloc = rt.alloc();
     let names = root_names(alloc)?;
     let names_of_3 = one_name(alloc, 4, 16384)?;
@@ -61,7 +60,7 @@ fn faults_between_four_rows(rt: HostRuntime) -> Result<(), Fail> {
 
 /// Block 5 is in the second set, and block 6 isn't.
 #[test]
-fn both_owners_of_a_block_are_told(rt: HostRuntime) -> Result<(), Fail> {
+fn both_owners_of_a_block_are_told(rt: HostRuntime) -> Result<(), AllocError> {
     let first = (5, Owner::Log { inode: 2, page: 0 });
     let other = (6, Owner::Data { inode: 2, page: 0 });
     let second = (5, Owner::Data { inode: 3, page: 1 });

@@ -43,11 +43,8 @@ const SHARED_LOG: [Word; 14] = [
 ];
 
 fn assert_root_row(rt: &impl Abort, row: &Row) {
-    assert!(rt; row.inode == 1);
+    assert!(rt; (row.inode, row.head, row.tail, row.numbers.mode) == (1, 12288, 12320, 493));
     assert!(rt; row.kind == Kind::Directory);
-    assert!(rt; row.head == 12288);
-    assert!(rt; row.tail == 12320);
-    assert!(rt; row.numbers.mode == 493);
 }
 
 /// One pool, of the blocks 4 to 15.
@@ -93,16 +90,6 @@ fn recover_by<R: Threads + Sync>(
     }
 }
 
-fn finds_root_alone<R: Threads + Abort + Sync>(
-    rt: &R,
-    alloc: Global,
-    way: &Way<'_>,
-) -> Result<(), Fail> {
-    let mut memory = small_region(alloc, &ROOT)?;
-    let answer = recover_by(rt, alloc, &mut memory, way)?;
-    assert_root_alone(rt, &answer)
-}
-
 const OF_ROOT_ALONE: [Way<'static>; 5] = [
     Way::OneThread,
     Way::Workers(1),
@@ -110,14 +97,6 @@ const OF_ROOT_ALONE: [Way<'static>; 5] = [
     Way::Workers(8),
     Way::Schedule(2, &[1, 0, 1, 1, 0]),
 ];
-
-#[test]
-fn the_root_alone_is_found_alike_by_all(rt: HostRuntime) -> Result<(), Fail> {
-    for way in OF_ROOT_ALONE.iter() {
-        finds_root_alone(&rt, rt.alloc(), way)?;
-    }
-    Ok(())
-}
 
 /// The log of both.
 const ITS_OWNERS: [(u64, Owner); 2] = [
@@ -145,29 +124,50 @@ fn assert_shared_log(rt: &impl Abort, answer: &Recovered) {
     assert!(rt; answer.faults.as_slice() == ITS_FAULTS.as_slice());
 }
 
-fn finds_shared_log<R: Threads + Abort + Sync>(
-    rt: &R,
-    alloc: Global,
-    way: &Way<'_>,
-) -> Result<(), Fail> {
-    let mut memory = small_region(alloc, &SHARED_LOG)?;
-    let answer = recover_by(rt, alloc, &mut memory, way)?;
-    assert_shared_log(rt, &answer);
-    Ok(())
-}
-
 const OF_SHARED_LOG: [Way<'static>; 3] = [
     Way::OneThread,
     Way::Workers(8),
     Way::Schedule(3, &[2, 2, 1]),
 ];
 
-#[test]
-fn a_log_that_two_inodes_own_is_told_alike_by_all(rt: HostRuntime) -> Result<(), Fail> {
-    for way in OF_SHARED_LOG.iter() {
-        finds_shared_log(&rt, rt.alloc(), way)?;
+fn recovers<R: Threads + Abort + Sync>(
+    rt: &R,
+    alloc: Global,
+    memory: &mut MemRegion,
+    way: &Way<'_>,
+    is_shared: bool,
+) -> Result<(), Fail> {
+    let answer = recover_by(rt, alloc, memory, way)?;
+    if is_shared {
+        assert_shared_log(rt, &answer);
+        return Ok(());
+    }
+    assert_root_alone(rt, &answer)
+}
+
+/// The region of the root alone, or that with a shared log, is told alike by all these ways.
+fn all_recover<R: Threads + Abort + Sync>(
+    rt: &R,
+    alloc: Global,
+    words: &[Word],
+    ways: &[Way<'_>],
+    is_shared: bool,
+) -> Result<(), Fail> {
+    for way in ways {
+        let mut memory = small_region(alloc, words)?;
+        recovers(rt, alloc, &mut memory, way, is_shared)?;
     }
     Ok(())
+}
+
+#[test]
+fn the_root_alone_is_found_alike_by_all(rt: HostRuntime) -> Result<(), Fail> {
+    all_recover(&rt, rt.alloc(), &ROOT, &OF_ROOT_ALONE, false)
+}
+
+#[test]
+fn a_log_that_two_inodes_own_is_told_alike_by_all(rt: HostRuntime) -> Result<(), Fail> {
+    all_recover(&rt, rt.alloc(), &SHARED_LOG, &OF_SHARED_LOG, true)
 }
 
 /// Ways to recover a region of zeros, and why each is refused.

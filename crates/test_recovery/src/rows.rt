@@ -11,7 +11,6 @@ use nv_scan::{Numbers, Row};
 use nv_super::Kind;
 use std::alloc::{AllocError, Global};
 use std::process::Abort;
-use std::test::Fail;
 
 /// The row of an inode with so many links and these names, and nothing else.
 pub fn row(alloc: Global, inode: u64, kind: Kind, links: u32, names: NameIndex) -> Row
@@ -118,29 +117,33 @@ fn assert_unused(rt: &impl Abort, rows: &Rows, number: Option<u64>)
     assert!(rt; rows.lowest_unused(0) == number);
 }
 
-#[test]
-fn given_rows_are_found_by_their_numbers(rt: HostRuntime) -> Result<(), Fail> {
-    let rows = two_files(rt.alloc())?;
-    assert_numbers(&rt, &rows, &[2, 4]);
-    assert_unused(&rt, &rows, Some(1));
+fn come_and_go(rt: &impl Abort, alloc: Global, rows: &mut Rows) -> Result<(), AllocError>
+    requires { rows.old.sup ≡ SMALL }
+{
+    assert_numbers(rt, rows, &[2, 4]);
+    assert_unused(rt, rows, Some(1));
+    insert_new(alloc, rows, 1)?;
+    assert_unused(rt, rows, Some(3));
+    insert_new(alloc, rows, 31)?;
+    assert_numbers(rt, rows, &[1, 2, 4, 31]);
+    remove_once(rt, rows, 2);
+    assert_unused(rt, rows, Some(2));
+    assert_numbers(rt, rows, &[1, 4, 31]);
     Ok(())
 }
 
 #[test]
-fn rows_come_and_go(rt: HostRuntime) -> Result<(), Fail> {
+fn given_rows_are_found_by_their_numbers_and_come_and_go(
+    rt: HostRuntime,
+) -> Result<(), AllocError> {
     let mut rows = two_files(rt.alloc())?;
-    insert_new(rt.alloc(), &mut rows, 1)?;
-    assert_unused(&rt, &rows, Some(3));
-    insert_new(rt.alloc(), &mut rows, 31)?;
-    assert_numbers(&rt, &rows, &[1, 2, 4, 31]);
-    remove_once(&rt, &mut rows, 2);
-    assert_unused(&rt, &rows, Some(2));
-    assert_numbers(&rt, &rows, &[1, 4, 31]);
-    Ok(())
+    come_and_go(&rt, rt.alloc(), &mut rows)
 }
 
 /// Takes a row out, if there is one, and puts it in again with so many links.
-fn relink(rows: &mut Rows, inode: u64, links: u32) {
+fn relink(rows: &mut Rows, inode: u64, links: u32)
+    ensures { rows.new.sup ≡ rows.old.sup }
+{
     if rows.get(inode).is_some() {
         let mut row = rows.take(inode);
         row.numbers.links = links;
@@ -157,24 +160,39 @@ fn assert_links(rt: &impl Abort, rows: &Rows, number: u64, links: u32) {
     assert!(rt; links_at(rows, number) == Some(links));
 }
 
-#[test]
-fn a_row_is_changed(rt: HostRuntime) -> Result<(), Fail> {
-    let mut rows = two_files(rt.alloc())?;
-    relink(&mut rows, 2, 7);
-    relink(&mut rows, 3, 7);
-    assert_numbers(&rt, &rows, &[2, 4]);
-    assert_links(&rt, &rows, 2, 7);
-    assert_links(&rt, &rows, 4, 1);
+/// Puts in the rows of all numbers that have none.
+fn fill(alloc: Global, rows: &mut Rows) -> Result<(), AllocError>
+    requires { rows.old.sup ≡ SMALL }
+    ensures { rows.new.sup ≡ SMALL }
+{
+    for number in 1..32 {
+        insert_new(alloc, rows, number)?;
+    }
+    Ok(())
+}
+
+fn assert_relinked(rt: &impl Abort, rows: &mut Rows)
+    ensures { rows.new.sup ≡ rows.old.sup }
+{
+    relink(rows, 2, 7);
+    relink(rows, 3, 7);
+    assert_numbers(rt, rows, &[2, 4]);
+    assert_links(rt, rows, 2, 7);
+    assert_links(rt, rows, 4, 1);
+}
+
+fn change_and_fill(rt: &impl Abort, alloc: Global, rows: &mut Rows) -> Result<(), AllocError>
+    requires { rows.old.sup ≡ SMALL }
+{
+    assert_relinked(rt, rows);
+    fill(alloc, rows)?;
+    assert!(rt; rows.len() == 31);
+    assert_unused(rt, rows, None);
     Ok(())
 }
 
 #[test]
-fn no_number_is_unused(rt: HostRuntime) -> Result<(), Fail> {
+fn a_row_is_changed_and_at_last_no_number_is_unused(rt: HostRuntime) -> Result<(), AllocError> {
     let mut rows = two_files(rt.alloc())?;
-    for number in 1..32 {
-        insert_new(rt.alloc(), &mut rows, number)?;
-    }
-    assert!(rt; rows.len() == 31);
-    assert_unused(&rt, &rows, None);
-    Ok(())
+    change_and_fill(&rt, rt.alloc(), &mut rows)
 }

@@ -29,16 +29,6 @@ const ADD: u64 = 4297064707;
 
 const REMOVE: u64 = 4297064963;
 
-/// The piece of inode 1, whose slot is at 8320.
-fn scan(alloc: Global, words: &[(u64, u64)]) -> Result<Piece, Fail> {
-    let memory = small_region(alloc, words)?;
-    Ok(scan_slot(alloc, &memory, &SMALL, 1)?)
-}
-
-fn assert_faults(rt: &impl Abort, piece: &Piece, told: &[Fault]) {
-    assert!(rt; piece.faults.as_slice() == told);
-}
-
 fn assert_claims(rt: &impl Abort, piece: &Piece, owned: &[(u64, Owner)]) {
     assert!(rt; piece.claims.as_slice() == owned);
 }
@@ -101,30 +91,17 @@ const ITS_NUMBERS: Numbers = Numbers {
 
 /// A name stands for this inode, at this place, or for none.
 fn assert_named(rt: &impl Abort, piece: &Piece, name: &[u8], inode: Option<u64>, place: u64) {
-    let wanted = match inode {
-        Some(inode) => Some(Target { inode, place }),
-        None => None,
-    };
-    assert!(rt; target(piece, name) == wanted);
+    let found = target(piece, name);
+    match inode {
+        Some(inode) => assert!(rt; found == Some(Target { inode, place })),
+        None => assert!(rt; found.is_none()),
+    }
 }
 
 fn assert_row(rt: &impl Abort, row: &Row) {
-    assert!(rt; row.inode == 1);
-    assert!(rt; row.kind == Kind::Directory);
-    assert!(rt; row.numbers == ITS_NUMBERS);
-    assert!(rt; row.head == 12288);
-    assert!(rt; row.tail == 12352);
+    assert!(rt; (row.inode, row.head, row.tail) == (1, 12288, 12352));
+    assert!(rt; row.kind == Kind::Directory && row.numbers == ITS_NUMBERS);
     assert!(rt; row.pages.as_slice() == [3].as_slice());
-}
-
-#[test]
-fn a_directory_has_the_name_that_its_log_adds(rt: HostRuntime) -> Result<(), Fail> {
-    let piece = scan(rt.alloc(), &ONE_NAME)?;
-    assert_claims(&rt, &piece, &[(3, Owner::Log { inode: 1, page: 0 })]);
-    assert_faults(&rt, &piece, &[]);
-    assert_row(&rt, piece.row.as_ref().expect(&rt, "inode 1 is in use"));
-    assert_named(&rt, &piece, b"a", Some(2), 12320);
-    Ok(())
 }
 
 /// A file, inode 1, with two writes out of range, and then one in range.
@@ -163,14 +140,6 @@ const OWNED_BY_THE_THIRD: [(u64, Owner); 2] = [
     (7, Owner::Data { inode: 1, page: 0 }),
 ];
 
-#[test]
-fn an_entry_out_of_range_is_skipped_and_the_log_read_on(rt: HostRuntime) -> Result<(), Fail> {
-    let piece = scan(rt.alloc(), &TWO_OUT_OF_RANGE)?;
-    assert_faults(&rt, &piece, &THEIR_FAULTS);
-    assert_claims(&rt, &piece, &OWNED_BY_THE_THIRD);
-    Ok(())
-}
-
 /// A directory, inode 1, that adds the name a twice, and removes b, which it hasn't.
 const A_TWICE: [(u64, u64); 13] = [
     (8320, 1),
@@ -199,37 +168,6 @@ const TOLD_OF_NAMES: [Fault; 2] = [
     },
 ];
 
-#[test]
-fn a_second_add_is_told_and_holds(rt: HostRuntime) -> Result<(), Fail> {
-    let piece = scan(rt.alloc(), &A_TWICE)?;
-    assert_faults(&rt, &piece, &TOLD_OF_NAMES);
-    assert_named(&rt, &piece, b"a", Some(4), 12320);
-    assert_named(&rt, &piece, b"b", None, 0);
-    Ok(())
-}
-
-/// The valid word and the kind of a slot out of use, and the fault that is told.
-const OUT_OF_USE: [(u64, u64, Option<Fault>); 3] = [
-    (0, 0, None),
-    (2, 1, Some(Fault::I1 { inode: 1 })),
-    (1, 3, Some(Fault::I2 { inode: 1 })),
-];
-
-fn assert_out_of_use(rt: &impl Abort, piece: &Piece, told: Option<Fault>) {
-    assert!(rt; piece.row.is_none());
-    assert!(rt; piece.faults.first().copied() == told);
-    assert!(rt; piece.claims.is_empty());
-}
-
-#[test]
-fn slots_out_of_use_have_no_row(rt: HostRuntime) -> Result<(), Fail> {
-    for &(valid, kind, told) in OUT_OF_USE.iter() {
-        let piece = scan(rt.alloc(), &[(8320, valid), (8328, kind)])?;
-        assert_out_of_use(&rt, &piece, told);
-    }
-    Ok(())
-}
-
 const WRONG_HEAD: [(u64, u64); 5] = [
     (8320, 1),
     (8328, 2),
@@ -243,11 +181,103 @@ fn assert_no_log(rt: &impl Abort, row: &Row) {
     assert!(rt; row.numbers == Numbers::new(9));
 }
 
+/// What a piece's row is to have.
+#[derive(Clone, Copy)]
+enum Wanted {
+    /// There is none.
+    NoRow,
+    Anything,
+    NoLog,
+    /// The row of the directory that adds one name.
+    OneName,
+    /// The second place of the name a, and no name b.
+    SecondPlace,
+}
+
+/// The words of a region, and the faults and claims of inode 1 in it, with its row.
+type Scanned<'a> = (&'a [(u64, u64)], &'a [Fault], &'a [(u64, Owner)], Wanted);
+
+const ITS_LOG: [(u64, Owner); 1] = [(3, Owner::Log { inode: 1, page: 0 })];
+
+// The first three are slots out of use. Of a wrong head no log is read, an entry out of range is skipped and the log read
+// on, and a second add of a name holds.
+const SCANNED: [Scanned<'static>; 7] = [
+    (&[(8320, 0), (8328, 0)], &[], &[], Wanted::NoRow),
+    (
+        &[(8320, 2), (8328, 1)],
+        &[Fault::I1 { inode: 1 }],
+        &[],
+        Wanted::NoRow,
+    ),
+    (
+        &[(8320, 1), (8328, 3)],
+        &[Fault::I2 { inode: 1 }],
+        &[],
+        Wanted::NoRow,
+    ),
+    (&WRONG_HEAD, &[Fault::I3 { inode: 1 }], &[], Wanted::NoLog),
+    (&ONE_NAME, &[], &ITS_LOG, Wanted::OneName),
+    (
+        &TWO_OUT_OF_RANGE,
+        &THEIR_FAULTS,
+        &OWNED_BY_THE_THIRD,
+        Wanted::Anything,
+    ),
+    (&A_TWICE, &TOLD_OF_NAMES, &ITS_LOG, Wanted::SecondPlace),
+];
+
+fn assert_names(rt: &impl Abort, piece: &Piece, wanted: Wanted) {
+    match wanted {
+        Wanted::OneName => assert_named(rt, piece, b"a", Some(2), 12320),
+        Wanted::SecondPlace => {
+            assert_named(rt, piece, b"a", Some(4), 12320);
+            assert_named(rt, piece, b"b", None, 0);
+        }
+        _ => {}
+    }
+}
+
+fn assert_wanted(rt: &impl Abort, row: Option<&Row>, wanted: Wanted) {
+    match (row, wanted) {
+        (row, Wanted::NoRow) => assert!(rt; row.is_none()),
+        (Some(row), Wanted::NoLog) => assert_no_log(rt, row),
+        (Some(row), Wanted::OneName) => assert_row(rt, row),
+        (row, _) => assert!(rt; row.is_some()),
+    }
+}
+
+fn assert_piece(rt: &impl Abort, piece: &Piece, scanned: &Scanned<'_>) {
+    let (_, faults, claims, wanted) = *scanned;
+    assert!(rt; piece.faults.as_slice() == faults);
+    assert_claims(rt, piece, claims);
+    assert_wanted(rt, piece.row.as_ref(), wanted);
+    assert_names(rt, piece, wanted);
+}
+
+/// Scans inode 1, whose slot is at 8320.
+fn is_scanned_in(
+    rt: &impl Abort,
+    alloc: Global,
+    memory: &MemRegion,
+    scanned: &Scanned<'_>,
+) -> Result<(), Fail>
+    requires { HasBlocks memory.now.region 16 }
+{
+    let piece = scan_slot(alloc, memory, &SMALL, 1)?;
+    assert_piece(rt, &piece, scanned);
+    Ok(())
+}
+
+fn is_scanned(rt: &impl Abort, alloc: Global, scanned: &Scanned<'_>) -> Result<(), Fail> {
+    let memory = small_region(alloc, scanned.0)?;
+    is_scanned_in(rt, alloc, &memory, scanned)
+}
+
 #[test]
-fn a_wrong_head_is_told_and_no_log_is_read(rt: HostRuntime) -> Result<(), Fail> {
-    let piece = scan(rt.alloc(), &WRONG_HEAD)?;
-    assert_faults(&rt, &piece, &[Fault::I3 { inode: 1 }]);
-    assert_no_log(&rt, piece.row.as_ref().expect(&rt, "inode 1 is in use"));
+fn a_slot_is_told_with_its_log(rt: HostRuntime) -> Result<(), Fail> {
+    for scanned in SCANNED.iter() {
+        is_scanned(&rt, rt.alloc(), scanned)?;
+    }
     Ok(())
 }
 
@@ -266,59 +296,69 @@ fn reads_second(
     Ok(())
 }
 
-#[test]
-fn a_scanner_reads_a_log_again(rt: HostRuntime) -> Result<(), Fail> {
-    let memory = small_region(rt.alloc(), &TWO_INODES)?;
-    let mut scanner = Scanner::new(rt.alloc(), &SMALL);
-    reads_second(&rt, &mut scanner, &memory)?;
-    reads_second(&rt, &mut scanner, &memory)?;
-    Ok(())
+fn inode_of(piece: &Option<Piece>) -> Option<u64> {
+    let piece = piece.as_ref()?;
+    Some(piece.inode)
 }
 
 /// The inode that is told by the slot at a place, if any is.
-fn told_at(alloc: Global, place: u64) -> Result<Option<u64>, Fail>
-    requires { place < 32 }
+fn told_at(scanner: &mut Scanner, memory: &MemRegion, place: u64) -> Result<Option<u64>, AllocError>
+    requires scanner { scanner.old ≡ SMALL }
+    requires blocks { HasBlocks memory.now.region 16 }
+    requires place { place < 32 }
+    ensures { scanner.new ≡ scanner.old }
 {
-    let memory = small_region(alloc, &TWO_INODES)?;
-    let mut scanner = Scanner::new(alloc, &SMALL);
-    match scanner.scan_place(&memory, place)? {
-        Some(piece) => Ok(Some(piece.inode)),
-        None => Ok(None),
-    }
+    let piece = scanner.scan_place(memory, place)?;
+    Ok(inode_of(&piece))
 }
 
-fn assert_told_at(rt: &impl Abort, alloc: Global, place: u64, told: Option<u64>) -> Result<(), Fail>
-    requires { place < 32 }
+/// One log is read twice, and of the slots those in use are told.
+fn reads_again(rt: &impl Abort, scanner: &mut Scanner, memory: &MemRegion) -> Result<(), AllocError>
+    requires scanner { scanner.old ≡ SMALL }
+    requires blocks { HasBlocks memory.now.region 16 }
 {
-    assert!(rt; told_at(alloc, place)? == told);
+    reads_second(rt, scanner, memory)?;
+    reads_second(rt, scanner, memory)?;
+    let told = [
+        told_at(scanner, memory, 0)?,
+        told_at(scanner, memory, 2)?,
+        told_at(scanner, memory, 31)?,
+    ];
+    assert!(rt; told == [None, Some(2), None]);
     Ok(())
 }
 
+fn reads_with_one(rt: &impl Abort, alloc: Global, memory: &MemRegion) -> Result<(), AllocError>
+    requires { HasBlocks memory.now.region 16 }
+{
+    let mut scanner = Scanner::new(alloc, &SMALL);
+    reads_again(rt, &mut scanner, memory)
+}
+
 #[test]
-fn slots_in_use_are_told_alone(rt: HostRuntime) -> Result<(), Fail> {
+fn a_scanner_reads_a_log_again(rt: HostRuntime) -> Result<(), Fail> {
+    let memory = small_region(rt.alloc(), &TWO_INODES)?;
     assert!(rt; ticket_count(&SMALL) == 1);
-    assert_told_at(&rt, rt.alloc(), 0, None)?;
-    assert_told_at(&rt, rt.alloc(), 2, Some(2))?;
-    assert_told_at(&rt, rt.alloc(), 31, None)
+    Ok(reads_with_one(&rt, rt.alloc(), &memory)?)
 }
 
-/// What a worker finds in the region of two inodes, and the map closed after it.
-fn worked(alloc: Global) -> Result<(Vec<Row>, Claimed), Fail> {
-    let memory = small_region(alloc, &TWO_INODES)?;
-    let (map, seat) = opened_for_one(alloc)?;
-    let done = worker(alloc, &memory, &SMALL, &map, seat, &NoGate);
-    if done.refused {
-        return Err(AllocError)?;
+/// The rows of inodes 1 and 2.
+fn are_two(rows: &[Row]) -> bool {
+    match rows {
+        [one, two] => one.inode == 1 && two.inode == 2 && two.pages.as_slice() == [4].as_slice(),
+        _ => false,
     }
-    let closed = map.close(done.seat);
-    Ok((done.rows, closed))
 }
 
-fn assert_rows(rt: &impl Abort, rows: &[Row]) {
-    assert!(rt; rows.len() == 2);
-    assert!(rt; rows[0].inode == 1);
-    assert!(rt; rows[1].inode == 2);
-    assert!(rt; rows[1].pages.as_slice() == [4].as_slice());
+/// A worker finds both inodes, and the map that is closed after it has what they own.
+fn works(rt: &impl Abort, alloc: Global, memory: &MemRegion) -> Result<(), Fail>
+    requires { HasBlocks memory.now.region 16 }
+{
+    let (map, seat) = opened_for_one(alloc)?;
+    let done = worker(alloc, memory, &SMALL, &map, seat, &NoGate);
+    assert!(rt; !done.refused && are_two(&done.rows));
+    assert_closed(rt, &map.close(done.seat));
+    Ok(())
 }
 
 fn assert_closed(rt: &impl Abort, closed: &Claimed) {
@@ -330,10 +370,8 @@ fn assert_closed(rt: &impl Abort, closed: &Claimed) {
 
 #[test]
 fn a_worker_claims_what_the_inodes_own(rt: HostRuntime) -> Result<(), Fail> {
-    let (rows, closed) = worked(rt.alloc())?;
-    assert_rows(&rt, &rows);
-    assert_closed(&rt, &closed);
-    Ok(())
+    let memory = small_region(rt.alloc(), &TWO_INODES)?;
+    works(&rt, rt.alloc(), &memory)
 }
 
 #[test]

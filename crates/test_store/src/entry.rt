@@ -6,11 +6,11 @@ ghost use Rattle.nv_entry.specs.Spelling.{entry_length};
 
 use crate::small::SMALL;
 use nv_entry::{
-    AttrEntry, ContentFault, Entry, FileName, Framing, LinksEntry, NameEntry, Operation,
-    WriteEntry, an_entry_or_none_at_a_place, check_content, is_out_of_range, is_wrong_kind, length,
+    AttrEntry, ContentFault, Entry, FileName, LinksEntry, NameEntry, Operation, WriteEntry,
+    an_entry_or_none_at_a_place, check_content, is_out_of_range, is_wrong_kind, length,
     no_spelling_begins_another, one_entry_at_a_place, one_spelling, read_entry, write_entry,
 };
-use nv_region::MemRegion;
+use nv_region::{MemRegion, RegionRefusal};
 use nv_super::Kind;
 use std::alloc::Global;
 use std::process::Abort;
@@ -53,8 +53,23 @@ fn links(count: u32) -> Entry {
 /// The entry is as long as its spelling, is written as it, and is read from it.
 fn is_spelled(alloc: Global, rt: &impl Abort, entry: &Entry, spelling: &[u8]) -> Result<(), Fail> {
     assert!(rt; length(entry) == spelling.len() as u64);
-    stands_alone(rt, &written(alloc, entry)?, spelling);
-    is_read(alloc, rt, entry, spelling)
+    is_written(alloc, rt, entry, spelling)?;
+    assert!(rt; is_read_as(alloc, spelling, Some(entry))?);
+    Ok(())
+}
+
+fn name_is_spelled(
+    alloc: Global,
+    rt: &impl Abort,
+    operation: Operation,
+    bytes: &[u8],
+    inode: u64,
+    spelling: &[u8],
+) -> Result<(), Fail> {
+    match name(operation, bytes, inode) {
+        Some(entry) => is_spelled(alloc, rt, &entry, spelling),
+        None => Err("a name".into()),
+    }
 }
 
 /// 512 bytes that are all 255.
@@ -65,13 +80,26 @@ fn filled(alloc: Global) -> Result<MemRegion, Fail>
     Ok(MemRegion::from_bytes(alloc, &bytes)?)
 }
 
-/// The entry at 64, amid 512 bytes that were all 255.
-fn written(alloc: Global, entry: &Entry) -> Result<Vec<u8>, Fail>
+/// The entry stands alone at 64, amid 512 bytes that were all 255.
+fn is_written(alloc: Global, rt: &impl Abort, entry: &Entry, spelling: &[u8]) -> Result<(), Fail>
     requires { entry_length entry.now ≤ 280 }
 {
     let mut memory = filled(alloc)?;
-    write_entry(&mut memory, 64, entry)?;
-    Ok(memory.to_bytes()?)
+    is_written_in(rt, &mut memory, entry, spelling)
+}
+
+fn is_written_in(
+    rt: &impl Abort,
+    memory: &mut MemRegion,
+    entry: &Entry,
+    spelling: &[u8],
+) -> Result<(), Fail>
+    requires size { size memory.old.region ≡ 512 }
+    requires length { entry_length entry.now ≤ 280 }
+{
+    write_entry(memory, 64, entry)?;
+    stands_alone(rt, &memory.to_bytes()?, spelling);
+    Ok(())
 }
 
 /// The bytes from 64 on are the spelling, and all others of the 512 are still 255.
@@ -87,16 +115,11 @@ fn stands_alone(rt: &impl Abort, bytes: &[u8], spelling: &[u8]) {
     }
 }
 
-/// The entry that is read from these bytes, which are a region.
-fn read_alone(alloc: Global, bytes: &[u8]) -> Result<Result<Entry, Framing>, Fail> {
+/// Whether these bytes, which are a region, are read as this entry, or are refused.
+fn is_read_as(alloc: Global, bytes: &[u8], entry: Option<&Entry>) -> Result<bool, RegionRefusal> {
     let alone = MemRegion::from_bytes(alloc, bytes)?;
-    Ok(read_entry(&alone, 0, bytes.len() as u64))
-}
-
-fn is_read(alloc: Global, rt: &impl Abort, entry: &Entry, spelling: &[u8]) -> Result<(), Fail> {
-    let read = read_alone(alloc, spelling)??;
-    assert!(rt; read == *entry);
-    Ok(())
+    let read = read_entry(&alone, 0, bytes.len() as u64);
+    Ok(read.ok().as_ref() == entry)
 }
 
 /// These bytes with zeros behind, which depart from every spelling, are refused.
@@ -109,7 +132,7 @@ fn departs(
 ) -> Result<(), Fail> {
     let mut bytes = front.to_vec(alloc)?;
     bytes.resize(length, 0)?;
-    assert!(rt; read_alone(alloc, &bytes)? == Err(Framing), "{how}");
+    assert!(rt; is_read_as(alloc, &bytes, None)?, "{how}");
     Ok(())
 }
 
@@ -181,8 +204,7 @@ const NAME_SPELLINGS: [(Operation, &[u8], u64, &[u8]); 4] = [
 #[test]
 fn names_fill_whole_words(rt: HostRuntime) -> Result<(), Fail> {
     for &(operation, bytes, inode, spelling) in NAME_SPELLINGS.iter() {
-        let entry = name(operation, bytes, inode).ok_or("a name")?;
-        is_spelled(rt.alloc(), &rt, &entry, spelling)?;
+        name_is_spelled(rt.alloc(), &rt, operation, bytes, inode, spelling)?;
     }
     Ok(())
 }
@@ -193,11 +215,13 @@ fn the_largest_name_has_255_bytes(rt: HostRuntime) -> Result<(), Fail> {
     let front = b"\x03\x01\x18\x01\xff\x00\x00\x00\x01\0\0\0\0\0\0\0\0\0\0\0\0\0\0\0";
     largest[..24].copy_from_slice(front);
     largest[279] = 0;
-    let entry = name(Operation::Add, &[b'n'; 255], 1).ok_or("255 bytes")?;
-    is_spelled(rt.alloc(), &rt, &entry, &largest)?;
+    name_is_spelled(rt.alloc(), &rt, Operation::Add, &[b'n'; 255], 1, &largest)
+}
+
+#[test]
+fn no_name_has_no_byte_or_256(rt: HostRuntime) {
     assert!(rt; FileName::new(b"").is_none());
     assert!(rt; FileName::new(&[b'n'; 256]).is_none());
-    Ok(())
 }
 
 /// Bytes that depart from every spelling: the first of them, how many there are with the zeros behind, and how.

@@ -1,9 +1,11 @@
 //! Regions after format: their words, the steps that it takes, and what it refuses.
 
-use crate::small::{Word, assert_words, small_region, word_at};
+use crate::small::{SMALL, Word, assert_words, small_region};
 use nv_format::{FormatRefusal, format};
 use nv_region::{Fuse, MemRegion, RegionRefusal};
 use nv_super::{MAGIC, Super, SuperFault, read_super};
+use std::alloc::Global;
+use std::process::Abort;
 
 const ROOT_ALONE: [Word; 20] = [
     (0, MAGIC),
@@ -27,14 +29,6 @@ const ROOT_ALONE: [Word; 20] = [
     (12_312, 0),
     (12_320, 0),
 ];
-
-#[test]
-fn a_formatted_region_has_the_root_alone(rt: HostRuntime) -> Result<(), RegionRefusal> {
-    let mut memory = small_region(rt.alloc(), &[])?;
-    assert!(rt; format(&mut memory, 1, 1, 7) == Ok(()));
-    assert_words(&rt, &memory, &ROOT_ALONE);
-    Ok(())
-}
 
 const USED: [Word; 9] = [
     (4096, 5),
@@ -62,23 +56,6 @@ const CLEARED_OR_KEPT: [Word; 11] = [
     (20_496, 0),
 ];
 
-#[test]
-fn what_a_used_region_held_is_cleared_or_kept(rt: HostRuntime) -> Result<(), RegionRefusal> {
-    let mut memory = small_region(rt.alloc(), &USED)?;
-    assert_words(&rt, &memory, &USED);
-    assert!(rt; format(&mut memory, 2, 1, 0) == Ok(()));
-    assert_words(&rt, &memory, &CLEARED_OR_KEPT);
-    Ok(())
-}
-
-const TWO_CPUS: Super = Super {
-    version: 1,
-    cpus: 2,
-    blocks: 16,
-    table_blocks: 3,
-    state: 0,
-};
-
 // The first slot of the second CPU's table.
 const ROOT: [Word; 5] = [
     (24_576, 1),
@@ -88,29 +65,87 @@ const ROOT: [Word; 5] = [
     (24_608, 9),
 ];
 
-#[test]
-fn a_formatted_region_is_accepted(rt: HostRuntime) -> Result<(), RegionRefusal> {
-    let mut memory = small_region(rt.alloc(), &[])?;
-    assert!(rt; read_super(&memory) == Err(SuperFault::Magic));
-    assert!(rt; format(&mut memory, 2, 3, 9) == Ok(()));
-    assert!(rt; read_super(&memory) == Ok(TWO_CPUS));
-    assert_words(&rt, &memory, &ROOT);
+/// What a region holds, the CPUs, table blocks and time of a format, and words that it leaves.
+type Row<'a> = (&'a [Word], u64, u64, u64, &'a [Word]);
+
+const FORMATTED: [Row<'static>; 3] = [
+    (&[], 1, 1, 7, &ROOT_ALONE),
+    (&USED, 2, 1, 0, &CLEARED_OR_KEPT),
+    (&[], 2, 3, 9, &ROOT),
+];
+
+fn assert_formatted(rt: &impl Abort, memory: &mut MemRegion, row: &Row<'_>) {
+    let (before, cpus, table_blocks, time, after) = *row;
+    let sup = Super {
+        cpus,
+        table_blocks,
+        ..SMALL
+    };
+    assert_words(rt, memory, before);
+    assert!(rt; read_super(memory) == Err(SuperFault::Magic));
+    assert!(rt; format(memory, cpus, table_blocks, time) == Ok(()));
+    assert!(rt; read_super(memory) == Ok(sup));
+    assert_words(rt, memory, after);
+}
+
+fn is_formatted(rt: &impl Abort, alloc: Global, row: &Row<'_>) -> Result<(), RegionRefusal> {
+    let mut memory = small_region(alloc, row.0)?;
+    assert_formatted(rt, &mut memory, row);
     Ok(())
 }
 
-/// What a format answers where so many stores and fences are taken.
-fn stopped_after(memory: &mut MemRegion, passed: u64) -> Result<(), FormatRefusal> {
-    memory.set_fuse(Fuse::After(passed));
-    format(memory, 1, 1, 0)
+// What the region held is cleared or kept, and its superblock is accepted.
+#[test]
+fn a_formatted_region_has_the_root_alone(rt: HostRuntime) -> Result<(), RegionRefusal> {
+    for row in FORMATTED.iter() {
+        is_formatted(&rt, rt.alloc(), row)?;
+    }
+    Ok(())
 }
 
+/// How many stores and fences are taken, the CPUs, what a format answers, what is read of the superblock then, and its
+/// first word.
+type Stop = (u64, u64, Result<(), FormatRefusal>, Option<SuperFault>, u64);
+
+const STOPS: [Stop; 5] = [
+    (0, 0, Err(FormatRefusal::Cpus), Some(SuperFault::Magic), 0),
+    (
+        0,
+        1,
+        Err(FormatRefusal::Stopped),
+        Some(SuperFault::Magic),
+        0,
+    ),
+    (
+        51,
+        1,
+        Err(FormatRefusal::Stopped),
+        Some(SuperFault::Magic),
+        0,
+    ),
+    (52, 1, Err(FormatRefusal::Stopped), None, MAGIC),
+    (53, 1, Ok(()), None, MAGIC),
+];
+
+fn assert_stop(rt: &impl Abort, memory: &mut MemRegion, stop: &Stop) {
+    let (passed, cpus, answer, fault, word) = *stop;
+    memory.set_fuse(Fuse::After(passed));
+    assert!(rt; format(memory, cpus, 1, 0) == answer, "after {passed}");
+    assert!(rt; read_super(memory).err() == fault, "after {passed}");
+    assert_words(rt, memory, &[(0, word)]);
+}
+
+fn assert_stops(rt: &impl Abort, memory: &mut MemRegion) {
+    for stop in STOPS.iter() {
+        assert_stop(rt, memory, stop);
+    }
+}
+
+// A refused region is as before.
 #[test]
 fn format_takes_53_stores_and_fences(rt: HostRuntime) -> Result<(), RegionRefusal> {
     let mut memory = small_region(rt.alloc(), &[])?;
-    assert!(rt; stopped_after(&mut memory, 51) == Err(FormatRefusal::Stopped));
-    assert!(rt; read_super(&memory) == Err(SuperFault::Magic));
-    assert!(rt; stopped_after(&mut memory, 52) == Err(FormatRefusal::Stopped));
-    assert!(rt; stopped_after(&mut memory, 53) == Ok(()));
+    assert_stops(&rt, &mut memory);
     Ok(())
 }
 
@@ -127,24 +162,24 @@ const NUMBERS: [(u64, u64, u64, Result<(), FormatRefusal>); 9] = [
     (130, 64, 1, Ok(())),
 ];
 
-#[test]
-fn numbers_are_refused_in_their_order(rt: HostRuntime) -> Result<(), RegionRefusal> {
-    for &(blocks, cpus, table_blocks, answer) in NUMBERS.iter() {
-        let mut memory = MemRegion::new(rt.alloc(), blocks)?;
-        assert!(rt;
-            format(&mut memory, cpus, table_blocks, 0) == answer,
-            "at {blocks} {cpus} {table_blocks}"
-        );
-    }
-    Ok(())
+/// What a format of so many blocks answers.
+fn answer(
+    alloc: Global,
+    blocks: u64,
+    cpus: u64,
+    table_blocks: u64,
+) -> Result<Result<(), FormatRefusal>, RegionRefusal> {
+    let mut memory = MemRegion::new(alloc, blocks)?;
+    Ok(format(&mut memory, cpus, table_blocks, 0))
 }
 
 #[test]
-fn a_refused_region_is_as_before(rt: HostRuntime) -> Result<(), RegionRefusal> {
-    let mut memory = small_region(rt.alloc(), &[])?;
-    memory.set_fuse(Fuse::After(0));
-    assert!(rt; format(&mut memory, 0, 1, 0) == Err(FormatRefusal::Cpus));
-    assert!(rt; word_at(&memory, 0) == Some(0));
-    assert!(rt; format(&mut memory, 1, 1, 0) == Err(FormatRefusal::Stopped));
+fn numbers_are_refused_in_their_order(rt: HostRuntime) -> Result<(), RegionRefusal> {
+    for &(blocks, cpus, table_blocks, wanted) in NUMBERS.iter() {
+        assert!(rt;
+            answer(rt.alloc(), blocks, cpus, table_blocks)? == wanted,
+            "at {blocks} {cpus} {table_blocks}"
+        );
+    }
     Ok(())
 }

@@ -3,13 +3,14 @@
 ghost use Rattle.std.specs.Prelude.{◌<◌};
 ghost use Rattle.nv_region.specs.Region.{HasBlocks};
 
-use crate::small::{SMALL, Word, assert_words, small_region, word_at};
+use crate::small::{SMALL, Word, assert_words, small_region};
 use nv_inode::{
     Slot, SlotState, is_journal_word, nth_slot, put_slot, read_slot, set_word, slot_start,
 };
 use nv_region::{Fuse, MemRegion, RegionRefusal, Stopped};
 use nv_super::{Kind, Super};
 use std::process::Abort;
+use std::test::Fail;
 
 // Two CPUs with two table blocks each: the tables are blocks 3 and 4, and 5 and 6.
 const TWO: Super = Super {
@@ -37,17 +38,6 @@ const ROOT_AT_8320: [Word; 6] = [
     (8360, 0),
 ];
 
-#[test]
-fn a_slot_is_read_as_it_was_put(rt: HostRuntime) -> Result<(), RegionRefusal> {
-    let mut memory = small_region(rt.alloc(), &[])?;
-    assert!(rt; put_root(&mut memory) == Ok(()));
-    assert!(rt; word_at(&memory, 8320) == Some(0));
-    assert!(rt; validate_root(&mut memory) == Ok(()));
-    assert!(rt; read_slot(&memory, &SMALL, 1) == ROOT);
-    assert_words(&rt, &memory, &ROOT_AT_8320);
-    Ok(())
-}
-
 /// Puts the root into slot 1, all but its valid word.
 fn put_root(memory: &mut MemRegion) -> Result<(), Stopped>
     requires { HasBlocks memory.old.region 16 }
@@ -61,6 +51,29 @@ fn validate_root(memory: &mut MemRegion) -> Result<(), Stopped>
     ensures { HasBlocks memory.new.region 16 }
 {
     set_word(memory, 8320, 1)
+}
+
+fn assert_slot(rt: &impl Abort, memory: &MemRegion, slot: &Slot)
+    requires { HasBlocks memory.now.region 16 }
+{
+    assert!(rt; read_slot(memory, &SMALL, 1) == *slot);
+}
+
+fn is_put(rt: &impl Abort, memory: &mut MemRegion) -> Result<(), Stopped>
+    requires { HasBlocks memory.old.region 16 }
+{
+    put_root(memory)?;
+    assert_words(rt, memory, &[(8320, 0)]);
+    validate_root(memory)?;
+    assert_slot(rt, memory, &ROOT);
+    assert_words(rt, memory, &ROOT_AT_8320);
+    Ok(())
+}
+
+#[test]
+fn a_slot_is_read_as_it_was_put(rt: HostRuntime) -> Result<(), Fail> {
+    let mut memory = small_region(rt.alloc(), &[])?;
+    Ok(is_put(&rt, &mut memory)?)
 }
 
 /// Puts the root into a slot of the tables of two CPUs.
@@ -97,14 +110,20 @@ fn slots_lie_one_behind_the_other(rt: HostRuntime) {
     );
 }
 
-#[test]
-fn slots_alternate_between_the_tables_of_the_cpus(rt: HostRuntime) -> Result<(), RegionRefusal> {
-    let mut memory = small_region(rt.alloc(), &[])?;
-    assert!(rt; put_both(&mut memory) == Ok(()));
-    assert_words(&rt, &memory, &TAILS_IN_TWO);
-    assert_created(&rt, &memory, 3, 7);
-    assert_created(&rt, &memory, 127, 0);
+fn are_put_in_two(rt: &impl Abort, memory: &mut MemRegion) -> Result<(), Stopped>
+    requires { HasBlocks memory.old.region 16 }
+{
+    put_both(memory)?;
+    assert_words(rt, memory, &TAILS_IN_TWO);
+    assert_created(rt, memory, 3, 7);
+    assert_created(rt, memory, 127, 0);
     Ok(())
+}
+
+#[test]
+fn slots_alternate_between_the_tables_of_the_cpus(rt: HostRuntime) -> Result<(), Fail> {
+    let mut memory = small_region(rt.alloc(), &[])?;
+    Ok(are_put_in_two(&rt, &mut memory)?)
 }
 
 const PARTLY: Slot = Slot {
@@ -114,13 +133,19 @@ const PARTLY: Slot = Slot {
     ..ROOT
 };
 
+fn is_put_partly(rt: &impl Abort, memory: &mut MemRegion)
+    requires { HasBlocks memory.old.region 16 }
+{
+    assert!(rt; put_root(memory) == Err(Stopped));
+    assert_slot(rt, memory, &PARTLY);
+    assert!(rt; validate_root(memory) == Err(Stopped));
+}
+
 #[test]
 fn a_slot_is_put_word_by_word_until_a_stop(rt: HostRuntime) -> Result<(), RegionRefusal> {
     let mut memory = small_region(rt.alloc(), &[])?;
     memory.set_fuse(Fuse::After(2));
-    assert!(rt; put_root(&mut memory) == Err(Stopped));
-    assert!(rt; read_slot(&memory, &SMALL, 1) == PARTLY);
-    assert!(rt; validate_root(&mut memory) == Err(Stopped));
+    is_put_partly(&rt, &mut memory);
     Ok(())
 }
 
@@ -136,8 +161,7 @@ const STATES: [(u64, u64, SlotState); 7] = [
 
 #[test]
 fn a_slot_is_in_use_where_it_is_valid_and_of_a_kind(rt: HostRuntime) {
-    assert!(rt; Kind::File.number() == 1);
-    assert!(rt; Kind::Directory.number() == 2);
+    assert!(rt; (Kind::File.number(), Kind::Directory.number()) == (1, 2));
     for &(valid, kind, state) in STATES.iter() {
         let slot = Slot {
             valid,

@@ -12,10 +12,11 @@ use nv_journal::{
     UndoError, one_region_is_undone, the_superblock_stays, undo, undo_again_changes_nothing,
     undone_regions_are_quiet,
 };
-use nv_region::{Fuse, MemRegion, RegionRefusal, Stopped};
+use nv_region::{Fuse, MemRegion};
 use nv_super::{Fault, Super};
 use std::alloc::Global;
 use std::process::Abort;
+use std::test::Fail;
 
 // Two CPUs: their journals are blocks 1 and 2, the tables blocks 3 and 4. Slot 2 begins at 12416.
 const TWO: Super = Super {
@@ -41,30 +42,6 @@ const WRAPPED: [Word; 11] = [
     (8344, 12344),
 ];
 
-#[derive(Debug, Drop)]
-enum Failure {
-    Region(RegionRefusal),
-    Undo(UndoError),
-}
-
-impl From<RegionRefusal> for Failure {
-    fn from(refusal: RegionRefusal) -> Self {
-        Failure::Region(refusal)
-    }
-}
-
-impl From<Stopped> for Failure {
-    fn from(_: Stopped) -> Self {
-        Failure::Undo(UndoError::Stopped)
-    }
-}
-
-impl From<UndoError> for Failure {
-    fn from(error: UndoError) -> Self {
-        Failure::Undo(error)
-    }
-}
-
 /// The faults that an undo tells.
 fn undone(alloc: Global, memory: &mut MemRegion, sup: &Super) -> Result<Vec<Fault>, UndoError>
     requires layout { IsLayout sup.now }
@@ -81,7 +58,7 @@ fn assert_undone(
     memory: &mut MemRegion,
     sup: &Super,
     told: &[Fault],
-) -> Result<(), UndoError>
+) -> Result<(), Fail>
     requires layout { IsLayout sup.now }
     requires blocks { HasBlocks memory.old.region sup.now.blocks }
     ensures { HasBlocks memory.new.region sup.now.blocks }
@@ -135,62 +112,85 @@ const NAMED_BY_BOTH: [Word; 10] = [
 // The highest journal that names a word counts.
 const HIGHEST: [Word; 4] = [(12416 + 24, 3), (12416, 2), (4096, 2), (8192, 2)];
 
-/// The words of a region, the faults that an undo tells, the words that it leaves, and the faults that another one tells,
-/// which leaves the same words.
-type Row<'a> = (&'a [Word], &'a [Fault], &'a [Word], &'a [Fault]);
+// One of the numbers is too large. No store is caused, so a fuse that takes none doesn't stop the undo.
+const NOTHING_PENDING: [Word; 3] = [(4096, 7), (4104, 7), (8192, 252)];
+
+/// The words of a region, its fuse, the faults that an undo tells, the words that it leaves, and the faults that another
+/// one tells, which leaves the same words.
+type Row<'a> = (&'a [Word], Fuse, &'a [Fault], &'a [Word], &'a [Fault]);
 
 const OF_ONE_CPU: [Row<'static>; 3] = [
-    (&WRAPPED, &[], &ROLLED_BACK, &[]),
+    (&WRAPPED, Fuse::Off, &[], &ROLLED_BACK, &[]),
     (
         &TOO_LARGE,
+        Fuse::Off,
         &[Fault::J1 { cpu: 0 }],
         &[(4096, 252), (8344, 0)],
         &[Fault::J1 { cpu: 0 }],
     ),
     (
         &NOT_PERMITTED,
+        Fuse::Off,
         &[Fault::J2 { cpu: 0, record: 0 }],
         &[(4096, 1)],
         &[],
     ),
 ];
 
-const OF_TWO_CPUS: [Row<'static>; 2] = [
-    (&FAULTY, &RISING, &[(8200, 300)], &[Fault::J1 { cpu: 1 }]),
-    (&NAMED_BY_BOTH, &[], &HIGHEST, &[]),
+const OF_TWO_CPUS: [Row<'static>; 3] = [
+    (
+        &FAULTY,
+        Fuse::Off,
+        &RISING,
+        &[(8200, 300)],
+        &[Fault::J1 { cpu: 1 }],
+    ),
+    (&NAMED_BY_BOTH, Fuse::Off, &[], &HIGHEST, &[]),
+    (
+        &NOTHING_PENDING,
+        Fuse::After(0),
+        &[Fault::J1 { cpu: 1 }],
+        &NOTHING_PENDING,
+        &[Fault::J1 { cpu: 1 }],
+    ),
 ];
 
-fn is_undone(rt: &impl Abort, alloc: Global, sup: &Super, row: &Row<'_>) -> Result<(), Failure>
+/// An undo and another one tell and leave what the row says.
+fn is_undone_twice(
+    rt: &impl Abort,
+    alloc: Global,
+    memory: &mut MemRegion,
+    sup: &Super,
+    row: &Row<'_>,
+) -> Result<(), Fail>
     requires layout { IsLayout sup.now }
-    requires blocks { sup.now.blocks ≡ 16 }
+    requires blocks { HasBlocks memory.old.region sup.now.blocks }
 {
-    let (words, told, left, again) = *row;
-    let mut memory = small_region(alloc, words)?;
-    assert_undone(rt, alloc, &mut memory, sup, told)?;
-    assert_words(rt, &memory, left);
-    assert_undone(rt, alloc, &mut memory, sup, again)?;
-    assert_words(rt, &memory, left);
+    let (_, fuse, told, left, again) = *row;
+    memory.set_fuse(fuse);
+    assert_undone(rt, alloc, memory, sup, told)?;
+    assert_words(rt, memory, left);
+    assert_undone(rt, alloc, memory, sup, again)?;
+    assert_words(rt, memory, left);
     Ok(())
 }
 
+fn is_undone(rt: &impl Abort, alloc: Global, sup: &Super, row: &Row<'_>) -> Result<(), Fail>
+    requires layout { IsLayout sup.now }
+    requires blocks { sup.now.blocks ≡ 16 }
+{
+    let mut memory = small_region(alloc, row.0)?;
+    is_undone_twice(rt, alloc, &mut memory, sup, row)
+}
+
 #[test]
-fn pending_records_are_undone_and_faults_told(rt: HostRuntime) -> Result<(), Failure> {
+fn pending_records_are_undone_and_faults_told(rt: HostRuntime) -> Result<(), Fail> {
     for row in OF_ONE_CPU.iter() {
         is_undone(&rt, rt.alloc(), &SMALL, row)?;
     }
     for row in OF_TWO_CPUS.iter() {
         is_undone(&rt, rt.alloc(), &TWO, row)?;
     }
-    Ok(())
-}
-
-const NOTHING_PENDING: [Word; 3] = [(4096, 7), (4104, 7), (8192, 252)];
-
-#[test]
-fn journals_with_nothing_pending_cause_no_store(rt: HostRuntime) -> Result<(), Failure> {
-    let mut memory = small_region(rt.alloc(), &NOTHING_PENDING)?;
-    memory.set_fuse(Fuse::After(0));
-    assert_undone(&rt, rt.alloc(), &mut memory, &TWO, &[Fault::J1 { cpu: 1 }])?;
     Ok(())
 }
 
@@ -220,19 +220,30 @@ fn assert_stopped_after(rt: &impl Abort, alloc: Global, memory: &mut MemRegion, 
 }
 
 /// An undo that so many stores and fences were too few for is finished by another.
-fn is_finished(rt: &impl Abort, alloc: Global, passed: u64) -> Result<(), Failure> {
-    let mut memory = small_region(alloc, &WRAPPED)?;
-    assert_stopped_after(rt, alloc, &mut memory, passed);
+fn is_finished(
+    rt: &impl Abort,
+    alloc: Global,
+    memory: &mut MemRegion,
+    passed: u64,
+) -> Result<(), Fail>
+    requires { HasBlocks memory.old.region 16 }
+{
+    assert_stopped_after(rt, alloc, memory, passed);
     memory.set_fuse(Fuse::Off);
-    assert_undone(rt, alloc, &mut memory, &SMALL, &[])?;
-    assert_words(rt, &memory, &ROLLED_BACK);
+    assert_undone(rt, alloc, memory, &SMALL, &[])?;
+    assert_words(rt, memory, &ROLLED_BACK);
     Ok(())
 }
 
+fn stops_and_is_finished(rt: &impl Abort, alloc: Global, passed: u64) -> Result<(), Fail> {
+    let mut memory = small_region(alloc, &WRAPPED)?;
+    is_finished(rt, alloc, &mut memory, passed)
+}
+
 #[test]
-fn an_undo_that_was_stopped_is_finished_by_another(rt: HostRuntime) -> Result<(), Failure> {
+fn an_undo_that_was_stopped_is_finished_by_another(rt: HostRuntime) -> Result<(), Fail> {
     for passed in 0..7 {
-        is_finished(&rt, rt.alloc(), passed)?;
+        stops_and_is_finished(&rt, rt.alloc(), passed)?;
     }
     one_region_is_undone();
     undo_again_changes_nothing();

@@ -14,7 +14,7 @@ use nv_logpage::{
     words_behind_the_tail_are_unread,
 };
 use nv_region::MemRegion;
-use std::alloc::Global;
+use std::alloc::{AllocError, Global};
 use std::process::Abort;
 use std::test::Fail;
 
@@ -53,78 +53,96 @@ fn has_turned_to(reader: &LogReader, address: u64) -> bool {
     reader.place() == address && reader.pages().last() == Some(&(address / 4096))
 }
 
-/// Reads a log one finding at a time.
-fn read_by_findings(alloc: Global, memory: &MemRegion, tail: u64) -> Result<Walk, Fail>
+/// Whether what was found is the next entry of what was read, a page that was turned to, or the end.
+fn is_next(reader: &LogReader, found: &Finding, read: &Walk, count: usize) -> bool {
+    match found {
+        Finding::Entry(placed) => read.entries.get(count) == Some(placed),
+        Finding::Page(address) => has_turned_to(reader, *address),
+        Finding::End(fault) => *fault == read.fault && count == read.entries.len(),
+    }
+}
+
+/// Whether a reader finds what was read, one finding after another.
+fn finds_all(reader: &mut LogReader, memory: &MemRegion, read: &Walk) -> Result<bool, AllocError>
+    requires blocks { HasBlocks memory.now.region 16 }
+    requires sup { reader.old.sup.blocks ≡ 16 }
+{
+    let mut count = 0usize;
+    for _ in 0..1000 {
+        let found = reader.next(memory)?;
+        if !is_next(reader, &found, read, count) {
+            return Ok(false);
+        }
+        match found {
+            Finding::Entry(_) => count = count.wrapping_add(1),
+            Finding::Page(_) => {}
+            Finding::End(_) => return Ok(true),
+        }
+    }
+    Ok(false)
+}
+
+/// Whether a log that is read one finding at a time is what was read.
+fn is_found(alloc: Global, memory: &MemRegion, tail: u64, read: &Walk) -> Result<bool, AllocError>
     requires { HasBlocks memory.now.region 16 }
 {
     let mut reader = LogReader::new(alloc, &SMALL, HEAD, tail)?;
-    let mut entries = Vec::new(alloc);
-    for _ in 0..1000 {
-        match reader.next(memory)? {
-            Finding::Entry(placed) => entries.push(placed)?,
-            Finding::Page(address) => {
-                if !has_turned_to(&reader, address) {
-                    return Err("the page that was turned to is the last".into());
-                }
-            }
-            Finding::End(fault) => {
-                return Ok(Walk {
-                    pages: reader.into_pages(),
-                    entries,
-                    fault,
-                });
-            }
-        }
-    }
-    Err("the log ends".into())
+    let is_same = finds_all(&mut reader, memory, read)?;
+    Ok(is_same && reader.into_pages().as_slice() == read.pages.as_slice())
 }
 
-/// What was read has these pages, this end and so many entries.
-fn assert_read(
-    rt: &impl Abort,
-    read: &Walk,
-    pages: &[u64],
-    fault: Option<LogEnd>,
-    count: usize,
-    name: &str,
-) {
-    assert!(rt; read.pages.as_slice() == pages, "the pages of {name}");
-    assert!(rt; read.fault == fault, "the end of {name}");
-    assert!(rt; read.entries.len() == count, "the entries of {name}");
+/// Whether these pages, this end and so many entries were read.
+fn is_walk(read: &Walk, pages: &[u64], fault: Option<LogEnd>, count: usize) -> bool {
+    read.pages.as_slice() == pages && read.fault == fault && read.entries.len() == count
+}
+
+/// The entry is the attributes at this place.
+fn is_attributes(placed: &Placed, at: u64) -> bool {
+    *placed == attr_at(at)
 }
 
 /// These entries are attributes at these places.
 fn assert_attributes(rt: &impl Abort, entries: &[Placed], places: &[u64], name: &str) {
     for (placed, at) in entries.iter().zip(places) {
-        assert!(rt; *placed == attr_at(*at), "the entry at {at} of {name}");
+        assert!(rt; is_attributes(placed, *at), "the entry at {at} of {name}");
     }
 }
 
-/// What was read is what the case says.
-fn is_as_told(rt: &impl Abort, read: &Walk, case: &Case) {
-    assert_read(
-        rt,
-        read,
-        case.pages,
-        case.fault,
-        case.entries.len(),
-        case.name,
-    );
-    assert_attributes(rt, &read.entries, case.entries, case.name);
+/// What was read is what the case says, and is found again one finding at a time.
+fn is_as_told(
+    alloc: Global,
+    rt: &impl Abort,
+    memory: &MemRegion,
+    read: &Walk,
+    case: &Case,
+) -> Result<(), AllocError>
+    requires { HasBlocks memory.now.region 16 }
+{
+    let name = case.name;
+    let is_right = is_walk(read, case.pages, case.fault, case.entries.len());
+    assert!(rt; is_right, "the pages, end and entries of {name}");
+    assert_attributes(rt, &read.entries, case.entries, name);
+    let is_same = is_found(alloc, memory, case.tail, read)?;
+    assert!(rt; is_same, "the findings of {name}");
+    Ok(())
 }
 
-fn assert_same(rt: &impl Abort, again: &Walk, read: &Walk, name: &str) {
-    assert!(rt; *again == *read, "the findings of {name}");
+/// Reads the log of a case.
+fn is_read_in(
+    alloc: Global,
+    rt: &impl Abort,
+    memory: &MemRegion,
+    case: &Case,
+) -> Result<(), AllocError>
+    requires { HasBlocks memory.now.region 16 }
+{
+    let read = walk(alloc, memory, &SMALL, HEAD, case.tail)?;
+    is_as_told(alloc, rt, memory, &read, case)
 }
 
-/// Reads the log of a case whole and one finding at a time, and compares both.
 fn is_read(alloc: Global, rt: &impl Abort, case: &Case) -> Result<(), Fail> {
     let memory = small_region(alloc, case.words)?;
-    let read = walk(alloc, &memory, &SMALL, HEAD, case.tail)?;
-    is_as_told(rt, &read, case);
-    let again = read_by_findings(alloc, &memory, case.tail)?;
-    assert_same(rt, &again, &read, case.name);
-    Ok(())
+    Ok(is_read_in(alloc, rt, &memory, case)?)
 }
 
 fn are_read(alloc: Global, rt: &impl Abort, cases: &[Case]) -> Result<(), Fail> {
@@ -301,17 +319,13 @@ fn full_page(alloc: Global, places: &[u64]) -> Result<Vec<Word>, Fail> {
     Ok(words)
 }
 
-#[test]
-fn a_full_page_leads_on_by_its_link_alone(rt: HostRuntime) -> Result<(), Fail> {
-    let mut places = Vec::new(rt.alloc());
-    push_places(&mut places, HEAD, 127)?;
-    let words = full_page(rt.alloc(), &places)?;
+fn is_full(rt: &impl Abort, alloc: Global, entries: &[u64], words: &[Word]) -> Result<(), Fail> {
     let full = Case {
         name: "a full page up to its link",
-        words: &words,
+        words,
         tail: 16352,
         pages: &[3],
-        entries: &places,
+        entries,
         fault: None,
     };
     let linked = Case {
@@ -320,8 +334,19 @@ fn a_full_page_leads_on_by_its_link_alone(rt: HostRuntime) -> Result<(), Fail> {
         pages: &[3, 4],
         ..full
     };
-    is_read(rt.alloc(), &rt, &full)?;
-    is_read(rt.alloc(), &rt, &linked)
+    are_read(alloc, rt, &[full, linked])
+}
+
+fn leads_on(rt: &impl Abort, alloc: Global, places: &[u64]) -> Result<(), Fail> {
+    let words = full_page(alloc, places)?;
+    is_full(rt, alloc, places, &words)
+}
+
+#[test]
+fn a_full_page_leads_on_by_its_link_alone(rt: HostRuntime) -> Result<(), Fail> {
+    let mut places = Vec::new(rt.alloc());
+    push_places(&mut places, HEAD, 127)?;
+    leads_on(&rt, rt.alloc(), &places)
 }
 
 const NOTHING_SET: AttrEntry = AttrEntry {
@@ -369,13 +394,12 @@ fn finds(
     reader: &mut LogReader,
     memory: &MemRegion,
     all: &[Finding],
-) -> Result<(), Fail>
+) -> Result<(), AllocError>
     requires { HasBlocks memory.now.region reader.old.sup.blocks }
     ensures { reader.new.sup ≡ reader.old.sup }
 {
     for wanted in all {
-        let found = reader.next(memory)?;
-        assert!(rt; found == *wanted);
+        assert!(rt; reader.next(memory)? == *wanted);
     }
     Ok(())
 }
@@ -384,16 +408,29 @@ fn assert_pages(rt: &impl Abort, reader: &LogReader, pages: &[u64]) {
     assert!(rt; reader.pages() == pages);
 }
 
+/// The last log's pages are the next one's to read again.
+fn finds_both(rt: &impl Abort, reader: &mut LogReader, memory: &MemRegion) -> Result<(), AllocError>
+    requires sup { reader.old.sup ≡ SMALL }
+    requires blocks { HasBlocks memory.now.region 16 }
+{
+    finds(rt, reader, memory, &FIRST_LOG)?;
+    assert_pages(rt, reader, &[3, 4]);
+    reader.restart(HEAD, 16448);
+    assert_pages(rt, reader, &[3]);
+    finds(rt, reader, memory, &SECOND_LOG)
+}
+
+fn goes_on(rt: &impl Abort, alloc: Global, memory: &MemRegion) -> Result<(), AllocError>
+    requires { HasBlocks memory.now.region 16 }
+{
+    let mut reader = LogReader::new(alloc, &SMALL, HEAD, 16416)?;
+    finds_both(rt, &mut reader, memory)
+}
+
 #[test]
 fn a_reader_goes_on_to_another_log(rt: HostRuntime) -> Result<(), Fail> {
     let memory = small_region(rt.alloc(), &TWO_ENTRIES)?;
-    let mut reader = LogReader::new(rt.alloc(), &SMALL, HEAD, 16416)?;
-    finds(&rt, &mut reader, &memory, &FIRST_LOG)?;
-    assert_pages(&rt, &reader, &[3, 4]);
-    // The last log's pages are this one's to read again.
-    reader.restart(HEAD, 16448);
-    assert_pages(&rt, &reader, &[3]);
-    finds(&rt, &mut reader, &memory, &SECOND_LOG)
+    Ok(goes_on(&rt, rt.alloc(), &memory)?)
 }
 
 #[test]

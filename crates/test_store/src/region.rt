@@ -17,12 +17,20 @@ fn counted(alloc: Global, count: u64) -> Result<Vec<u8>, AllocError> {
     Ok(bytes)
 }
 
+/// Whether a region has so many bytes, and gives these back.
+fn holds(region: &MemRegion, bytes: &[u8], count: u64) -> Result<bool, AllocError> {
+    let back = region.to_bytes()?;
+    Ok(region.len() == count && back.as_slice() == bytes)
+}
+
+fn is_given_back(alloc: Global, bytes: &[u8], count: u64) -> Result<bool, Fail> {
+    let region = MemRegion::from_bytes(alloc, bytes)?;
+    Ok(holds(&region, bytes, count)?)
+}
+
 fn gives_back(rt: &impl Abort, alloc: Global, count: u64) -> Result<(), Fail> {
     let bytes = counted(alloc, count)?;
-    let region = MemRegion::from_bytes(alloc, &bytes)?;
-    assert!(rt; region.len() == count);
-    let back = region.to_bytes()?;
-    assert!(rt; back.as_slice() == bytes.as_slice(), "of {count} bytes");
+    assert!(rt; is_given_back(alloc, &bytes, count)?, "of {count} bytes");
     Ok(())
 }
 
@@ -42,15 +50,15 @@ fn words_are_little_endian(rt: HostRuntime) -> Result<(), Fail> {
     Ok(())
 }
 
+fn refusal_of(alloc: Global, blocks: u64) -> Option<RegionRefusal> {
+    MemRegion::new(alloc, blocks).err()
+}
+
 #[test]
 fn no_block_and_too_many_blocks_are_refused(rt: HostRuntime) {
-    assert!(rt; matches!(&MemRegion::new(rt.alloc(), 0), Err(RegionRefusal::Length)));
-    assert!(rt;
-        matches!(
-            &MemRegion::new(rt.alloc(), 262_145),
-            Err(RegionRefusal::Length)
-        )
-    );
+    for &blocks in [0, 262_145].iter() {
+        assert!(rt; refusal_of(rt.alloc(), blocks) == Some(RegionRefusal::Length));
+    }
 }
 
 /// Stores a word, where there is one.
@@ -69,75 +77,114 @@ fn commit_within<P: Pmem>(region: &mut P, at: u64, word: u64) -> Result<(), Stop
     Ok(())
 }
 
-fn store_three(region: &mut MemRegion) -> Result<(), Stopped> {
-    store_within(region, 32_760, 7)?;
-    region.fence()?;
-    commit_within(region, 0, 8)?;
-    store_within(region, 8, 9)
+/// A store of a word at its address, one that is fenced, or a fence alone.
+#[derive(Clone, Copy)]
+enum Step {
+    Store(u64, u64),
+    Commit(u64, u64),
+    Fence,
 }
 
-#[test]
-fn a_new_region_is_zeros_and_takes_stores(rt: HostRuntime) -> Result<(), Fail> {
-    let mut region = MemRegion::new(rt.alloc(), 8)?;
+/// A step and its answer.
+type Answered = (Step, Result<(), Stopped>);
+
+fn take<P: Pmem>(region: &mut P, step: Step) -> Result<(), Stopped> {
+    match step {
+        Step::Store(at, word) => store_within(region, at, word),
+        Step::Commit(at, word) => commit_within(region, at, word),
+        Step::Fence => region.fence(),
+    }
+}
+
+/// The steps have these answers, and leave these words.
+fn assert_steps<P: Pmem>(rt: &impl Abort, region: &mut P, steps: &[Answered], words: &[Word]) {
+    for (step, answer) in steps {
+        assert!(rt; take(region, *step) == *answer);
+    }
+    assert_words(rt, region, words);
+}
+
+/// A fuse, the steps that follow, and words that they leave.
+type Row<'a> = (Fuse, &'a [Answered], &'a [Word]);
+
+// A fuse that is off takes all steps, one counts stores and fences, and one waits for its address.
+const FUSES: [Row<'static>; 3] = [
+    (
+        Fuse::Off,
+        &[
+            (Step::Store(32_760, 7), Ok(())),
+            (Step::Fence, Ok(())),
+            (Step::Commit(0, 8), Ok(())),
+            (Step::Store(8, 9), Ok(())),
+        ],
+        &[(32_760, 7), (0, 8), (8, 9)],
+    ),
+    (
+        Fuse::After(2),
+        &[
+            (Step::Store(0, 7), Ok(())),
+            (Step::Fence, Ok(())),
+            (Step::Store(8, 7), Err(Stopped)),
+            (Step::Fence, Err(Stopped)),
+        ],
+        &[(0, 7), (8, 0)],
+    ),
+    (
+        Fuse::At(16),
+        &[
+            (Step::Store(8, 7), Ok(())),
+            (Step::Fence, Ok(())),
+            (Step::Store(16, 7), Err(Stopped)),
+        ],
+        &[(8, 7), (16, 0)],
+    ),
+];
+
+/// A new region is zeros, and takes steps as its fuse says.
+fn assert_fuse(rt: &impl Abort, region: &mut MemRegion, row: &Row<'_>) {
+    let (fuse, steps, words) = *row;
     assert!(rt; region.len() == 32_768);
-    assert_words(&rt, &region, &[(32_760, 0)]);
-    store_three(&mut region)?;
-    assert_words(&rt, &region, &[(32_760, 7), (0, 8), (8, 9)]);
-    Ok(())
-}
-
-/// A store has this answer.
-fn assert_store<P: Pmem>(rt: &impl Abort, region: &mut P, at: u64, answer: Result<(), Stopped>) {
-    assert!(rt; store_within(region, at, 7) == answer, "the store at {at}");
-}
-
-fn assert_fence<P: Pmem>(rt: &impl Abort, region: &mut P, answer: Result<(), Stopped>) {
-    assert!(rt; region.fence() == answer);
-}
-
-#[test]
-fn a_fuse_counts_stores_and_fences(rt: HostRuntime) -> Result<(), Fail> {
-    let mut region = MemRegion::new(rt.alloc(), 8)?;
-    region.set_fuse(Fuse::After(2));
-    assert_store(&rt, &mut region, 0, Ok(()));
-    assert_fence(&rt, &mut region, Ok(()));
-    assert_store(&rt, &mut region, 8, Err(Stopped));
-    assert_fence(&rt, &mut region, Err(Stopped));
-    assert_words(&rt, &region, &[(0, 7), (8, 0)]);
+    assert_words(rt, region, &[(32_760, 0)]);
+    region.set_fuse(fuse);
+    assert_steps(rt, region, steps, words);
     region.set_fuse(Fuse::Off);
-    assert_store(&rt, &mut region, 8, Ok(()));
+    assert_steps(rt, region, &[(Step::Store(8, 7), Ok(()))], &[]);
+}
+
+fn is_fused(rt: &impl Abort, alloc: Global, row: &Row<'_>) -> Result<(), RegionRefusal> {
+    let mut region = MemRegion::new(alloc, 8)?;
+    assert_fuse(rt, &mut region, row);
     Ok(())
 }
 
 #[test]
-fn a_fuse_waits_for_its_address(rt: HostRuntime) -> Result<(), Fail> {
-    let mut region = MemRegion::new(rt.alloc(), 8)?;
-    region.set_fuse(Fuse::At(16));
-    assert_store(&rt, &mut region, 8, Ok(()));
-    assert_fence(&rt, &mut region, Ok(()));
-    assert_store(&rt, &mut region, 16, Err(Stopped));
-    assert_words(&rt, &region, &[(8, 7), (16, 0)]);
-    Ok(())
-}
-
-/// What is stored behind a fence. The word at 8 is as it was.
-const UNFENCED: [Word; 5] = [(32_760, 44), (0, 11), (32, 55), (16, 33), (8, 2)];
-
-fn store_unfenced(region: &mut MemRegion) -> Result<(), Stopped> {
-    store_within(region, 0, 1)?;
-    commit_within(region, 8, 2)?;
-    for (at, word) in UNFENCED.iter() {
-        store_within(region, *at, *word)?;
+fn a_new_region_is_zeros_and_takes_steps_until_its_fuse_burns(
+    rt: HostRuntime,
+) -> Result<(), RegionRefusal> {
+    for row in FUSES.iter() {
+        is_fused(&rt, rt.alloc(), row)?;
     }
     Ok(())
 }
 
+/// What is stored before and behind a fence. The word at 8 is as it was.
+const UNFENCED: [Answered; 7] = [
+    (Step::Store(0, 1), Ok(())),
+    (Step::Commit(8, 2), Ok(())),
+    (Step::Store(32_760, 44), Ok(())),
+    (Step::Store(0, 11), Ok(())),
+    (Step::Store(32, 55), Ok(())),
+    (Step::Store(16, 33), Ok(())),
+    (Step::Store(8, 2), Ok(())),
+];
+
 /// What a stop leaves of a region in which two words are fenced and further ones are not.
-fn left_by(alloc: Global, keep: Keep) -> Result<MemRegion, Fail> {
+fn keeps(rt: &impl Abort, alloc: Global, keep: Keep, words: &[Word]) -> Result<(), RegionRefusal> {
     let mut region = MemRegion::new(alloc, 8)?;
-    store_unfenced(&mut region)?;
+    assert_steps(rt, &mut region, &UNFENCED, &[]);
     region.set_fuse(Fuse::After(0));
-    Ok(region.after_stop(keep))
+    assert_words(rt, &region.after_stop(keep), words);
+    Ok(())
 }
 
 const KEPT: [(Keep, [Word; 5]); 3] = [
@@ -153,9 +200,9 @@ const KEPT: [(Keep, [Word; 5]); 3] = [
 ];
 
 #[test]
-fn a_stop_keeps_none_all_or_every_second_word(rt: HostRuntime) -> Result<(), Fail> {
+fn a_stop_keeps_none_all_or_every_second_word(rt: HostRuntime) -> Result<(), RegionRefusal> {
     for (keep, words) in KEPT.iter() {
-        assert_words(&rt, &left_by(rt.alloc(), *keep)?, words);
+        keeps(&rt, rt.alloc(), *keep, words)?;
     }
     Ok(())
 }

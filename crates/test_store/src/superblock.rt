@@ -2,10 +2,11 @@
 
 ghost use Rattle.nv_region.specs.Region.{HasBlocks};
 
-use nv_region::{MemRegion, Pmem};
+use nv_region::{MemRegion, Pmem, RegionRefusal};
 use nv_super::{
     Fault, Owner, Run, Super, SuperFault, read_super, sort_claims, sort_faults, write_super,
 };
+use std::alloc::AllocError;
 use std::process::Abort;
 use std::test::Fail;
 
@@ -19,14 +20,18 @@ const TWO_CPUS: Super = Super {
     state: 0,
 };
 
-#[test]
-fn a_superblock_reads_as_it_was_written(rt: HostRuntime) -> Result<(), Fail> {
-    let mut region = MemRegion::new(rt.alloc(), 64)?;
-    assert!(rt; read_super(&region) == Err(SuperFault::Magic));
-    write_super(&mut region, &TWO_CPUS)?;
-    region.store(0, MAGIC)?;
-    assert!(rt; read_super(&region) == Ok(TWO_CPUS));
-    Ok(())
+/// What is read of a superblock, once a word at this address was stored.
+fn assert_super(rt: &impl Abort, memory: &MemRegion, at: u64, wanted: Result<Super, SuperFault>) {
+    assert!(rt; read_super(memory) == wanted, "after word {at}");
+}
+
+/// Stores the superblock of two CPUs.
+fn write_two(memory: &mut MemRegion) -> Result<(), Fail>
+    requires { HasBlocks memory.old.region 64 }
+    ensures { HasBlocks memory.new.region 64 }
+{
+    write_super(memory, &TWO_CPUS)?;
+    store(memory, 0, MAGIC)
 }
 
 /// Words that are stored one after another, and the fault that is told then.
@@ -53,94 +58,118 @@ fn faults_are_told(rt: &impl Abort, memory: &mut MemRegion) -> Result<(), Fail>
 {
     for &(at, word, fault) in FIRST_FAULTS.iter() {
         store(memory, at, word)?;
-        assert!(rt; read_super(memory) == Err(fault), "after word {at}");
+        assert_super(rt, memory, at, Err(fault));
     }
     Ok(())
 }
 
-#[test]
-fn the_first_fault_that_applies_is_told(rt: HostRuntime) -> Result<(), Fail> {
-    let mut region = MemRegion::new(rt.alloc(), 64)?;
-    write_super(&mut region, &TWO_CPUS)?;
-    region.store(0, MAGIC)?;
-    faults_are_told(&rt, &mut region)
+fn is_read_as_written(rt: &impl Abort, memory: &mut MemRegion) -> Result<(), Fail>
+    requires { HasBlocks memory.old.region 64 }
+{
+    assert_super(rt, memory, 0, Err(SuperFault::Magic));
+    write_two(memory)?;
+    assert_super(rt, memory, 0, Ok(TWO_CPUS));
+    faults_are_told(rt, memory)
 }
 
 #[test]
-fn a_region_that_is_too_short_is_told(rt: HostRuntime) -> Result<(), Fail> {
+fn a_superblock_reads_as_it_was_written_and_its_first_fault_is_told(
+    rt: HostRuntime,
+) -> Result<(), Fail> {
+    let mut region = MemRegion::new(rt.alloc(), 64)?;
+    is_read_as_written(&rt, &mut region)
+}
+
+#[test]
+fn a_region_that_is_too_short_is_told(rt: HostRuntime) -> Result<(), RegionRefusal> {
     let short = MemRegion::from_bytes(rt.alloc(), &[0; 100])?;
-    assert!(rt; read_super(&short) == Err(SuperFault::Length));
+    assert_super(&rt, &short, 0, Err(SuperFault::Length));
     Ok(())
+}
+
+/// The system blocks, the pools, slots 1 and 2, and the bounds of inodes.
+fn areas() -> [u64; 9] {
+    let sup = TWO_CPUS;
+    let (first, border) = sup.pool(0);
+    let (second, end) = sup.pool(1);
+    [
+        sup.system_blocks(),
+        first,
+        border,
+        second,
+        end,
+        sup.slot_address(1),
+        sup.slot_address(2),
+        sup.inode_limit(),
+        sup.max_inode(),
+    ]
 }
 
 #[test]
 fn areas_lie_where_the_layout_says(rt: HostRuntime) {
+    assert!(rt; areas() == [5, 5, 34, 34, 64, 16384, 12416, 64, 63]);
+}
+
+#[test]
+fn numbers_and_pages_are_told_from_others(rt: HostRuntime) {
     let sup = TWO_CPUS;
-    assert!(rt; sup.system_blocks() == 5);
-    assert!(rt; (sup.pool(0), sup.pool(1)) == ((5, 34), (34, 64)));
-    assert!(rt; (sup.slot_address(1), sup.slot_address(2)) == (16384, 12416));
-    assert!(rt; (sup.inode_limit(), sup.max_inode()) == (64, 63));
     assert!(rt; sup.is_number(63) && !sup.is_number(64) && !sup.is_number(0));
     assert!(rt; sup.is_page_start(20480) && !sup.is_page_start(16384) && !sup.is_page_start(20488));
     assert!(rt; Run { start: 7, count: 0 }.is_empty());
 }
 
+const LOG: Owner = Owner::Log { inode: 2, page: 0 };
+
+const DATA: Owner = Owner::Data { inode: 2, page: 0 };
+
+const UNSORTED: [Fault; 6] = [
+    Fault::B1 {
+        block: 8,
+        owner: DATA,
+    },
+    Fault::C5,
+    Fault::B1 {
+        block: 8,
+        owner: LOG,
+    },
+    Fault::J2 {
+        cpu: 0,
+        record: 251,
+    },
+    Fault::C5,
+    Fault::J2 { cpu: 0, record: 0 },
+];
+
+const SORTED: [Fault; 5] = [
+    Fault::J2 { cpu: 0, record: 0 },
+    Fault::J2 {
+        cpu: 0,
+        record: 251,
+    },
+    Fault::C5,
+    Fault::B1 {
+        block: 8,
+        owner: LOG,
+    },
+    Fault::B1 {
+        block: 8,
+        owner: DATA,
+    },
+];
+
 #[test]
-fn faults_rise_by_class_and_fields(rt: HostRuntime) -> Result<(), Fail> {
-    let log = Owner::Log { inode: 2, page: 0 };
-    let data = Owner::Data { inode: 2, page: 0 };
-    let mut faults = Vec::new(rt.alloc());
-    for &fault in [
-        Fault::B1 {
-            block: 8,
-            owner: data,
-        },
-        Fault::C5,
-        Fault::B1 {
-            block: 8,
-            owner: log,
-        },
-        Fault::J2 {
-            cpu: 0,
-            record: 251,
-        },
-        Fault::C5,
-        Fault::J2 { cpu: 0, record: 0 },
-    ]
-    .iter()
-    {
-        faults.push(fault)?;
-    }
+fn faults_rise_by_class_and_fields(rt: HostRuntime) -> Result<(), AllocError> {
+    let mut faults = Vec::from_array(rt.alloc(), UNSORTED)?;
     sort_faults(&mut faults);
-    let sorted = [
-        Fault::J2 { cpu: 0, record: 0 },
-        Fault::J2 {
-            cpu: 0,
-            record: 251,
-        },
-        Fault::C5,
-        Fault::B1 {
-            block: 8,
-            owner: log,
-        },
-        Fault::B1 {
-            block: 8,
-            owner: data,
-        },
-    ];
-    assert!(rt; faults.as_slice() == sorted.as_slice());
+    assert!(rt; faults.as_slice() == SORTED.as_slice());
     Ok(())
 }
 
 #[test]
-fn claims_rise_by_block_and_owner(rt: HostRuntime) -> Result<(), Fail> {
+fn claims_rise_by_block_and_owner(rt: HostRuntime) -> Result<(), AllocError> {
     let log = Owner::Log { inode: 4, page: 0 };
     let data = Owner::Data { inode: 2, page: 3 }.raised(1);
-    let mut claims = Vec::new(rt.alloc());
-    claims.push((9, data))?;
-    claims.push((8, log))?;
-    claims.push((8, data))?;
-    claims.push((9, data))?;
+    let mut claims = Vec::from_array(rt.alloc(), [(9, data), (8, log), (8, data), (9, data)])?;
     sort_claims(&mut claims);
     assert!(rt; claims.as_slice() == [(8, data), (8, log), (9, data)].as_slice());
     Ok(())

@@ -1,26 +1,29 @@
 //! Words that change together: what is recorded, and where.
 
-ghost use Rattle.std.specs.Prelude.{◌≡◌, IfOk, true};
+ghost use Rattle.std.specs.Prelude.{◌≡◌, true};
 ghost use Rattle.nv_region.specs.Region.{HasBlocks};
 ghost use Rattle.nv_journal.specs.Pending.{IsEmpty};
 
-use super::{Failure, assert_undone};
+use super::assert_undone;
 use crate::small::{SMALL, Word, assert_words, small_region};
 use nv_journal::{begin, change_two, commit};
 use nv_region::{MemRegion, Pmem, Stopped};
 use std::alloc::Global;
 use std::process::Abort;
+use std::test::Fail;
 
 // The head and the tail of slot 1.
 const SLOT: [Word; 2] = [(8336, 12288), (8344, 12320)];
 
+type Row<'a> = (u64, u64, &'a [Word]);
+
 /// The enqueue number before two records are begun and after it, and the words then: the two records and the journal's
 /// numbers. Record k stands at 4160 + 16 k.
-const WRAPPING: [(u64, u64, [Word; 6]); 4] = [
+const WRAPPING: [Row<'static>; 4] = [
     (
         0,
         2,
-        [
+        &[
             (4160, 8336),
             (4168, 12288),
             (4176, 8344),
@@ -32,7 +35,7 @@ const WRAPPING: [(u64, u64, [Word; 6]); 4] = [
     (
         249,
         251,
-        [
+        &[
             (8144, 8336),
             (8152, 12288),
             (8160, 8344),
@@ -44,7 +47,7 @@ const WRAPPING: [(u64, u64, [Word; 6]); 4] = [
     (
         250,
         0,
-        [
+        &[
             (8160, 8336),
             (8168, 12288),
             (8176, 8344),
@@ -56,7 +59,7 @@ const WRAPPING: [(u64, u64, [Word; 6]); 4] = [
     (
         251,
         1,
-        [
+        &[
             (8176, 8336),
             (8184, 12288),
             (4160, 8344),
@@ -86,33 +89,27 @@ fn begin_slot(memory: &mut MemRegion) -> Result<(), Stopped>
     Ok(())
 }
 
-/// Begins two records in an empty journal with this number.
-fn begun(alloc: Global, from: u64) -> Result<MemRegion, Failure>
-    ensures { IfOk result (λ m. HasBlocks m.region 16) }
+/// Two records are begun in an empty journal and committed.
+fn are_recorded(rt: &impl Abort, memory: &mut MemRegion, row: &Row<'_>) -> Result<(), Stopped>
+    requires { HasBlocks memory.old.region 16 }
 {
-    let mut memory = small_region(alloc, &[(4096, from), (4104, from)])?;
-    begin_slot(&mut memory)?;
-    Ok(memory)
-}
-
-fn are_recorded(
-    rt: &impl Abort,
-    alloc: Global,
-    from: u64,
-    next: u64,
-    words: &[Word],
-) -> Result<(), Failure> {
-    let mut memory = begun(alloc, from)?;
-    assert_words(rt, &memory, words);
-    commit(&mut memory, 0)?;
-    assert_words(rt, &memory, &[(4096, next), (4104, next)]);
+    let (_, next, words) = *row;
+    begin_slot(memory)?;
+    assert_words(rt, memory, words);
+    commit(memory, 0)?;
+    assert_words(rt, memory, &[(4096, next), (4104, next)]);
     Ok(())
 }
 
+fn records(rt: &impl Abort, alloc: Global, row: &Row<'_>) -> Result<(), Fail> {
+    let mut memory = small_region(alloc, &[(4096, row.0), (4104, row.0)])?;
+    Ok(are_recorded(rt, &mut memory, row)?)
+}
+
 #[test]
-fn after_record_251_comes_0(rt: HostRuntime) -> Result<(), Failure> {
-    for (from, next, words) in WRAPPING.iter() {
-        are_recorded(&rt, rt.alloc(), *from, *next, words)?;
+fn after_record_251_comes_0(rt: HostRuntime) -> Result<(), Fail> {
+    for row in WRAPPING.iter() {
+        records(&rt, rt.alloc(), row)?;
     }
     Ok(())
 }
@@ -130,12 +127,18 @@ fn change_slot(memory: &mut MemRegion) -> Result<(), Stopped>
     Ok(())
 }
 
-#[test]
-fn two_words_change_together(rt: HostRuntime) -> Result<(), Failure> {
-    let mut memory = small_region(rt.alloc(), &SLOT)?;
-    change_slot(&mut memory)?;
-    assert_words(&rt, &memory, &CHANGED);
+fn changes_together(rt: &impl Abort, memory: &mut MemRegion) -> Result<(), Stopped>
+    requires { HasBlocks memory.old.region 16 }
+{
+    change_slot(memory)?;
+    assert_words(rt, memory, &CHANGED);
     Ok(())
+}
+
+#[test]
+fn two_words_change_together(rt: HostRuntime) -> Result<(), Fail> {
+    let mut memory = small_region(rt.alloc(), &SLOT)?;
+    Ok(changes_together(&rt, &mut memory)?)
 }
 
 // The head is stored, and the tail isn't.
@@ -149,12 +152,18 @@ fn store_head(memory: &mut MemRegion) -> Result<(), Stopped>
 
 const BEGUN: [Word; 4] = [(8336, 16384), (8344, 12320), (4096, 0), (4104, 2)];
 
-#[test]
-fn a_change_that_was_begun_is_rolled_back(rt: HostRuntime) -> Result<(), Failure> {
-    let mut memory = small_region(rt.alloc(), &SLOT)?;
-    store_head(&mut memory)?;
-    assert_words(&rt, &memory, &BEGUN);
-    assert_undone(&rt, rt.alloc(), &mut memory, &SMALL, &[])?;
-    assert_words(&rt, &memory, &SLOT);
+fn is_rolled_back(rt: &impl Abort, alloc: Global, memory: &mut MemRegion) -> Result<(), Fail>
+    requires { HasBlocks memory.old.region 16 }
+{
+    store_head(memory)?;
+    assert_words(rt, memory, &BEGUN);
+    assert_undone(rt, alloc, memory, &SMALL, &[])?;
+    assert_words(rt, memory, &SLOT);
     Ok(())
+}
+
+#[test]
+fn a_change_that_was_begun_is_rolled_back(rt: HostRuntime) -> Result<(), Fail> {
+    let mut memory = small_region(rt.alloc(), &SLOT)?;
+    is_rolled_back(&rt, rt.alloc(), &mut memory)
 }

@@ -5,12 +5,13 @@ ghost use Rattle.std.proofs.Common.{inl, refl};
 ghost use Rattle.nv_region.specs.Region.{HasBlocks};
 ghost use Rattle.nv_region.specs.RegionState.{fenced_or_last, fuse_state, steady_unburnt};
 
-use super::{Failure, TWO};
+use super::TWO;
 use crate::small::{Word, assert_words, small_region};
 use nv_journal::{UndoError, change_two, undo};
 use nv_region::{MemRegion, Pmem, RegionRefusal, Stopped};
-use nv_super::Fault;
 use std::alloc::Global;
+use std::process::Abort;
+use std::test::Fail;
 
 /// A memory that counts its stores and fences, and notes the addresses of the first eight stores.
 #[derive(Drop)]
@@ -90,22 +91,43 @@ fn noted(alloc: Global, words: &[Word]) -> Result<NotedRegion, RegionRefusal>
     })
 }
 
-fn undo_noted(alloc: Global, region: &mut NotedRegion) -> Result<Vec<Fault>, UndoError>
+/// How many faults an undo tells.
+fn undo_noted(alloc: Global, region: &mut NotedRegion) -> Result<usize, UndoError>
     requires { HasBlocks region.old.memory.region 16 }
 {
-    undo(alloc, region, &TWO)
+    Ok(undo(alloc, region, &TWO)?.len())
+}
+
+/// So many stores, at these addresses, and fences.
+fn assert_noted(
+    rt: &impl Abort,
+    region: &NotedRegion,
+    stores: usize,
+    addresses: &[u64; 8],
+    fences: usize,
+) {
+    assert!(rt; (region.stores, region.fences) == (stores, fences));
+    assert!(rt; region.addresses == *addresses);
+}
+
+fn stores_for_the_pending_one(
+    rt: &impl Abort,
+    alloc: Global,
+    region: &mut NotedRegion,
+) -> Result<(), Fail>
+    requires { HasBlocks region.old.memory.region 16 }
+{
+    let faults = undo_noted(alloc, region)?;
+    assert!(rt; faults == 0);
+    assert_noted(rt, region, 3, &[12416, 12440, 8192, 0, 0, 0, 0, 0], 2);
+    assert_words(rt, &region.memory, &[(12440, 20488)]);
+    Ok(())
 }
 
 #[test]
-fn an_empty_journal_causes_no_store_beside_a_pending_one(rt: HostRuntime) -> Result<(), Failure> {
+fn an_empty_journal_causes_no_store_beside_a_pending_one(rt: HostRuntime) -> Result<(), Fail> {
     let mut region = noted(rt.alloc(), &ONE_PENDING)?;
-    let faults = undo_noted(rt.alloc(), &mut region)?;
-    assert!(rt; faults.len() == 0);
-    assert!(rt; region.stores == 3);
-    assert!(rt; region.addresses == [12416, 12440, 8192, 0, 0, 0, 0, 0]);
-    assert!(rt; region.fences == 2);
-    assert_words(&rt, &region.memory, &[(12440, 20488)]);
-    Ok(())
+    stores_for_the_pending_one(&rt, rt.alloc(), &mut region)
 }
 
 /// Changes the head and the tail of slot 1, where the first journal is empty.
@@ -118,14 +140,18 @@ fn change_noted(region: &mut NotedRegion) -> Result<(), Stopped>
     Ok(())
 }
 
-#[test]
-fn a_change_of_two_words_costs_eight_stores_and_four_fences(
-    rt: HostRuntime,
-) -> Result<(), Failure> {
-    let mut region = noted(rt.alloc(), &[])?;
-    change_noted(&mut region)?;
-    assert!(rt; region.stores == 8);
-    assert!(rt; region.addresses == [4160, 4168, 4176, 4184, 4104, 8336, 8344, 4096]);
-    assert!(rt; region.fences == 4);
+const CHANGED: [u64; 8] = [4160, 4168, 4176, 4184, 4104, 8336, 8344, 4096];
+
+fn stores_for_a_change(rt: &impl Abort, region: &mut NotedRegion) -> Result<(), Stopped>
+    requires { HasBlocks region.old.memory.region 16 }
+{
+    change_noted(region)?;
+    assert_noted(rt, region, 8, &CHANGED, 4);
     Ok(())
+}
+
+#[test]
+fn a_change_of_two_words_costs_eight_stores_and_four_fences(rt: HostRuntime) -> Result<(), Fail> {
+    let mut region = noted(rt.alloc(), &[])?;
+    Ok(stores_for_a_change(&rt, &mut region)?)
 }

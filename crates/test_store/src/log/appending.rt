@@ -3,17 +3,17 @@
 //! Block 3 ends its entries at 16352, where the word is that links it to the next page. Block 4 begins at 16384 and links
 //! at 20448; block 5 begins at 20480 and links at 24544.
 
-ghost use Rattle.std.specs.Prelude.{◌≡◌, ◌≤◌, ◌∷◌, [], IfOk, OnOk, false};
+ghost use Rattle.std.specs.Prelude.{◌≡◌, ◌∷◌, [], IfOk, OnOk, false};
 ghost use Rattle.nv_region.specs.Region.{HasBlocks};
-ghost use Rattle.nv_logpage.specs.Append.{AreGiven, CanAppend, needed};
+ghost use Rattle.nv_logpage.specs.Append.{AreGiven, CanAppend};
 ghost use Rattle.nv_logpage.specs.Reads.{is_next_page};
 
-use super::{HEAD, NEXT_PAGE, assert_read, push_places};
+use super::{HEAD, NEXT_PAGE, is_walk, push_places};
 use crate::small::{SMALL, Word, assert_words};
 use nv_entry::{AttrEntry, Entry, WriteEntry};
-use nv_logpage::{Placed, Walk, append, pages_needed, walk};
-use nv_region::{Fuse, MemRegion, Pmem, Stopped};
-use std::alloc::Global;
+use nv_logpage::{Placed, append, pages_needed, walk};
+use nv_region::{Fuse, MemRegion, Pmem, RegionRefusal, Stopped};
+use std::alloc::{AllocError, Global};
 use std::process::Abort;
 use std::test::Fail;
 
@@ -43,12 +43,12 @@ const FIRST: u64 = 493 * 4294967296 + 32 * 65536 + 2;
 const OWNERS: u64 = 8 * 4294967296 + 7;
 
 /// A region whose blocks 3, 4 and 5 hold `USED` in each word.
-fn used_region(alloc: Global) -> Result<MemRegion, Fail>
+fn used_region(alloc: Global) -> Result<MemRegion, RegionRefusal>
     ensures { IfOk result (λ m. HasBlocks m.region 16) }
 {
     let mut memory = MemRegion::new(alloc, 16)?;
     for k in 0..1536 {
-        memory.store(HEAD + 8 * k, USED)?;
+        let _unstopped = memory.store(HEAD + 8 * k, USED);
     }
     Ok(memory)
 }
@@ -62,15 +62,32 @@ fn append_set(memory: &mut MemRegion, tail: u64, fresh: &[u64]) -> Result<u64, S
     append(memory, tail, &[Entry::Attr(SET)], fresh)
 }
 
-/// The entry of 32 bytes needs as many pages as are given, and its log ends here then.
-fn assert_appended(rt: &impl Abort, memory: &mut MemRegion, tail: u64, fresh: &[u64], end: u64)
+/// Appends the entry of 32 bytes, where it needs as many pages as are given.
+fn append_needed(memory: &mut MemRegion, tail: u64, fresh: &[u64]) -> Option<Result<u64, Stopped>>
     requires blocks { HasBlocks memory.old.region 16 }
     requires room { CanAppend memory.old.region tail (Entry.Attr SET ∷ []) fresh.now }
 {
-    assert!(rt; pages_needed(tail, &[Entry::Attr(SET)]) == fresh.len() as u64);
-    assert!(rt; append_set(memory, tail, fresh) == Ok(end));
+    if pages_needed(tail, &[Entry::Attr(SET)]) == fresh.len() as u64 {
+        Some(append_set(memory, tail, fresh))
+    } else {
+        None
+    }
 }
 
+/// Appends it at one of four places near the end of a page, with the page that is needed there.
+fn append_at(memory: &mut MemRegion, tail: u64) -> Option<Result<u64, Stopped>>
+    requires { HasBlocks memory.old.region 16 }
+{
+    match tail {
+        16320 => append_needed(memory, 16320, &[]),
+        16328 => append_needed(memory, 16328, &[4]),
+        16344 => append_needed(memory, 16344, &[4]),
+        16352 => append_needed(memory, 16352, &[4]),
+        _ => None,
+    }
+}
+
+// An entry that fits exactly stays in its page.
 const EXACT: [Word; 7] = [
     (16312, USED),
     (16320, FIRST),
@@ -81,14 +98,7 @@ const EXACT: [Word; 7] = [
     (16384, USED),
 ];
 
-#[test]
-fn an_entry_that_fits_exactly_stays_in_its_page(rt: HostRuntime) -> Result<(), Fail> {
-    let mut memory = used_region(rt.alloc())?;
-    assert_appended(&rt, &mut memory, 16320, &[], 16352);
-    assert_words(&rt, &memory, &EXACT);
-    Ok(())
-}
-
+// One that doesn't fit goes to a fresh page.
 const IN_A_FRESH_PAGE: [Word; 11] = [
     (16320, USED),
     (16328, NEXT_PAGE),
@@ -103,14 +113,7 @@ const IN_A_FRESH_PAGE: [Word; 11] = [
     (20448, USED),
 ];
 
-#[test]
-fn an_entry_that_does_not_fit_goes_to_a_fresh_page(rt: HostRuntime) -> Result<(), Fail> {
-    let mut memory = used_region(rt.alloc())?;
-    assert_appended(&rt, &mut memory, 16328, &[4], 16416);
-    assert_words(&rt, &memory, &IN_A_FRESH_PAGE);
-    Ok(())
-}
-
+// The last word of a page takes a next-page entry.
 const BEHIND_THE_LAST_WORD: [Word; 4] = [
     (16336, USED),
     (16344, NEXT_PAGE),
@@ -118,14 +121,7 @@ const BEHIND_THE_LAST_WORD: [Word; 4] = [
     (16384, FIRST),
 ];
 
-#[test]
-fn the_last_word_of_a_page_takes_a_next_page_entry(rt: HostRuntime) -> Result<(), Fail> {
-    let mut memory = used_region(rt.alloc())?;
-    assert_appended(&rt, &mut memory, 16344, &[4], 16416);
-    assert_words(&rt, &memory, &BEHIND_THE_LAST_WORD);
-    Ok(())
-}
-
+// A full page takes none.
 const BEHIND_A_FULL_PAGE: [Word; 4] = [
     (16344, USED),
     (16352, 16384),
@@ -133,58 +129,82 @@ const BEHIND_A_FULL_PAGE: [Word; 4] = [
     (16416, USED),
 ];
 
-#[test]
-fn a_full_page_takes_no_next_page_entry(rt: HostRuntime) -> Result<(), Fail> {
-    let mut memory = used_region(rt.alloc())?;
-    assert_appended(&rt, &mut memory, 16352, &[4], 16416);
-    assert_words(&rt, &memory, &BEHIND_A_FULL_PAGE);
-    Ok(())
-}
-
-/// An append of six stores, a next-page entry, four words of the entry, and the link, where so many are taken.
-fn stopped_after(memory: &mut MemRegion, passed: u64) -> Result<u64, Stopped>
-    requires { HasBlocks memory.old.region 16 }
-    ensures { HasBlocks memory.new.region 16 }
-{
-    memory.set_fuse(Fuse::After(passed));
-    append_set(memory, 16328, &[4])
-}
-
+// Of six stores, a next-page entry, four words of the entry, and the link, the last wasn't taken.
 const NOT_LINKED: [Word; 3] = [(16384, FIRST), (16408, OWNERS), (16352, USED)];
 
-fn assert_stopped_after(
-    rt: &impl Abort,
-    alloc: Global,
-    passed: u64,
-    answer: Result<u64, Stopped>,
-    words: &[Word],
-) -> Result<(), Fail> {
+/// A fuse, the tail, the new one, and words then.
+type Row<'a> = (Fuse, u64, Result<u64, Stopped>, &'a [Word]);
+
+const APPENDS: [Row<'static>; 6] = [
+    (Fuse::Off, 16320, Ok(16352), &EXACT),
+    (Fuse::Off, 16328, Ok(16416), &IN_A_FRESH_PAGE),
+    (Fuse::Off, 16344, Ok(16416), &BEHIND_THE_LAST_WORD),
+    (Fuse::Off, 16352, Ok(16416), &BEHIND_A_FULL_PAGE),
+    (Fuse::After(5), 16328, Err(Stopped), &NOT_LINKED),
+    (Fuse::After(6), 16328, Ok(16416), &IN_A_FRESH_PAGE),
+];
+
+fn assert_appended(rt: &impl Abort, memory: &mut MemRegion, row: &Row<'_>)
+    requires { HasBlocks memory.old.region 16 }
+{
+    let (fuse, tail, answer, words) = *row;
+    memory.set_fuse(fuse);
+    assert!(rt; append_at(memory, tail) == Some(answer), "at {tail}");
+    assert_words(rt, memory, words);
+}
+
+fn is_appended(rt: &impl Abort, alloc: Global, row: &Row<'_>) -> Result<(), RegionRefusal> {
     let mut memory = used_region(alloc)?;
-    assert!(rt; stopped_after(&mut memory, passed) == answer);
-    assert_words(rt, &memory, words);
+    assert_appended(rt, &mut memory, row);
     Ok(())
 }
 
+// Each word is stored once, and the link last.
 #[test]
-fn each_word_is_stored_once_and_the_link_last(rt: HostRuntime) -> Result<(), Fail> {
-    assert_stopped_after(&rt, rt.alloc(), 5, Err(Stopped), &NOT_LINKED)?;
-    assert_stopped_after(&rt, rt.alloc(), 6, Ok(16416), &IN_A_FRESH_PAGE)
+fn an_entry_goes_behind_the_tail_or_to_a_fresh_page(rt: HostRuntime) -> Result<(), RegionRefusal> {
+    for row in APPENDS.iter() {
+        is_appended(&rt, rt.alloc(), row)?;
+    }
+    Ok(())
 }
 
-/// These entries stand at these places.
-fn assert_placed(rt: &impl Abort, read: &[Placed], places: &[u64], entries: &[Entry]) {
+/// Whether these entries stand at these places.
+fn stand_at(read: &[Placed], places: &[u64]) -> bool {
     for (placed, at) in read.iter().zip(places) {
-        assert!(rt; placed.at == *at);
+        if placed.at != *at {
+            return false;
+        }
     }
-    for (placed, entry) in read.iter().zip(entries) {
-        assert!(rt; placed.entry == *entry, "the entry at {}", placed.at);
-    }
+    true
 }
 
-/// What was read are these entries at these places, in these pages.
-fn is_listed(rt: &impl Abort, read: &Walk, pages: &[u64], places: &[u64], entries: &[Entry]) {
-    assert_read(rt, read, pages, None, places.len(), "the log");
-    assert_placed(rt, &read.entries, places, entries);
+fn are_entries(read: &[Placed], entries: &[Entry]) -> bool {
+    for (placed, entry) in read.iter().zip(entries) {
+        if placed.entry != *entry {
+            return false;
+        }
+    }
+    true
+}
+
+/// The pages of a log, the places of its entries, and the entries.
+type Listed<'a> = (&'a [u64], &'a [u64], &'a [Entry]);
+
+/// What is read of a log up to this tail.
+fn lists(
+    rt: &impl Abort,
+    alloc: Global,
+    memory: &MemRegion,
+    tail: u64,
+    wanted: Listed<'_>,
+) -> Result<(), AllocError>
+    requires { HasBlocks memory.now.region 16 }
+{
+    let (pages, places, entries) = wanted;
+    let read = walk(alloc, memory, &SMALL, HEAD, tail)?;
+    assert!(rt; is_walk(&read, pages, None, places.len()));
+    assert!(rt; stand_at(&read.entries, places) && are_entries(&read.entries, entries));
+    Ok(())
 }
 
 /// Two entries, one appended behind the other.
@@ -198,19 +218,18 @@ fn append_two(memory: &mut MemRegion) -> Result<u64, Stopped>
 
 const TWO_SETS: [Entry; 2] = [Entry::Attr(SET), Entry::Attr(SET)];
 
-fn reads_two(rt: &impl Abort, alloc: Global, memory: &MemRegion) -> Result<(), Fail>
-    requires { HasBlocks memory.now.region 16 }
+fn lists_two(rt: &impl Abort, alloc: Global, memory: &mut MemRegion) -> Result<(), AllocError>
+    requires { HasBlocks memory.old.region 16 }
 {
-    let read = walk(alloc, memory, &SMALL, HEAD, HEAD + 64)?;
-    is_listed(rt, &read, &[3], &[HEAD, HEAD + 32], &TWO_SETS);
-    Ok(())
+    assert!(rt; append_two(memory) == Ok(HEAD + 64));
+    let wanted: Listed = (&[3], &[HEAD, HEAD + 32], &TWO_SETS);
+    lists(rt, alloc, memory, HEAD + 64, wanted)
 }
 
 #[test]
 fn a_new_log_has_the_entries_that_were_appended(rt: HostRuntime) -> Result<(), Fail> {
     let mut memory = used_region(rt.alloc())?;
-    assert!(rt; append_two(&mut memory) == Ok(HEAD + 64));
-    reads_two(&rt, rt.alloc(), &memory)
+    Ok(lists_two(&rt, rt.alloc(), &mut memory)?)
 }
 
 /// One more entry.
@@ -281,47 +300,44 @@ const TURNED_TWICE: [Word; 22] = [
     (20448, USED),
 ];
 
-/// Appends these entries to a new log, with two fresh pages.
-fn append_over_three(memory: &mut MemRegion, entries: &[Entry]) -> Result<u64, Stopped>
-    requires blocks { HasBlocks memory.old.region 16 }
-    requires given { AreGiven entries.now }
-    requires room { needed 0 entries.now ≤ 2 }
-    ensures { HasBlocks memory.new.region 16 }
-{
-    append(memory, HEAD, entries, &[5, 4])
-}
-
-fn turns_twice(rt: &impl Abort, memory: &mut MemRegion, entries: &[Entry])
+/// Appends these entries to a new log, with the two fresh pages that they need.
+fn append_over_three(memory: &mut MemRegion, entries: &[Entry]) -> Option<Result<u64, Stopped>>
     requires blocks { HasBlocks memory.old.region 16 }
     requires given { AreGiven entries.now }
     ensures { HasBlocks memory.new.region 16 }
 {
-    let is_enough = pages_needed(HEAD, entries) == 2;
-    assert!(rt; is_enough);
-    if is_enough {
-        assert!(rt; append_over_three(memory, entries) == Ok(16416));
+    if pages_needed(HEAD, entries) == 2 {
+        Some(append(memory, HEAD, entries, &[5, 4]))
+    } else {
+        None
     }
-    assert_words(rt, memory, &TURNED_TWICE);
 }
 
-fn reads_three_pages(
+fn turns_twice(
     rt: &impl Abort,
     alloc: Global,
-    memory: &MemRegion,
+    memory: &mut MemRegion,
     entries: &[Entry],
 ) -> Result<(), Fail>
-    requires { HasBlocks memory.now.region 16 }
+    requires blocks { HasBlocks memory.old.region 16 }
+    requires given { AreGiven entries.now }
 {
+    assert!(rt; append_over_three(memory, entries) == Some(Ok(16416)));
+    assert_words(rt, memory, &TURNED_TWICE);
     let places = places_in_three_pages(alloc)?;
-    let read = walk(alloc, memory, &SMALL, HEAD, 16416)?;
-    is_listed(rt, &read, &[3, 5, 4], &places, entries);
-    Ok(())
+    let wanted: Listed = (&[3, 5, 4], &places, entries);
+    Ok(lists(rt, alloc, memory, 16416, wanted)?)
+}
+
+fn fills_three_pages(rt: &impl Abort, alloc: Global, memory: &mut MemRegion) -> Result<(), Fail>
+    requires { HasBlocks memory.old.region 16 }
+{
+    let entries = entries_of_three_pages(alloc)?;
+    turns_twice(rt, alloc, memory, &entries)
 }
 
 #[test]
 fn an_append_that_turns_twice_takes_the_fresh_pages_in_turn(rt: HostRuntime) -> Result<(), Fail> {
     let mut memory = used_region(rt.alloc())?;
-    let entries = entries_of_three_pages(rt.alloc())?;
-    turns_twice(&rt, &mut memory, &entries);
-    reads_three_pages(&rt, rt.alloc(), &memory, &entries)
+    fills_three_pages(&rt, rt.alloc(), &mut memory)
 }

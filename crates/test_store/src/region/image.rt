@@ -1,8 +1,9 @@
 //! Regions over borrowed bytes: their lengths, and what their front takes.
 
-use super::{assert_fence, assert_store, counted};
-use crate::small::{Word, assert_words};
+use super::{Answered, Step, assert_steps, counted};
+use crate::small::Word;
 use nv_region::{ImageRegion, Pmem, Stopped};
+use std::alloc::Global;
 use std::process::Abort;
 use std::test::Fail;
 
@@ -13,42 +14,61 @@ const SECOND: u64 = 0x5756_5554_5352_5150;
 
 const STORED: [Word; 3] = [(0, 0x0706_0504_0302_0100), (BLOCK - 8, 7), (BLOCK, SECOND)];
 
+/// The bytes of a region, the blocks of its front, steps, and words that they leave.
+type Row<'a> = (u64, u64, &'a [Answered], &'a [Word]);
+
+// A store behind the front is refused, and so is what follows it.
+const ROWS: [Row<'static>; 6] = [
+    (
+        16 * BLOCK,
+        1,
+        &[(Step::Store(BLOCK - 8, 7), Ok(())), (Step::Fence, Ok(()))],
+        &STORED,
+    ),
+    (
+        16 * BLOCK,
+        1,
+        &[
+            (Step::Store(BLOCK, 7), Err(Stopped)),
+            (Step::Store(0, 7), Err(Stopped)),
+            (Step::Fence, Err(Stopped)),
+        ],
+        &[(BLOCK, SECOND)],
+    ),
+    (0, 2, &[], &[]),
+    (7, 2, &[], &[]),
+    (100, 2, &[], &[]),
+    (4096, 2, &[], &[]),
+];
+
 // Whether many threads may read it, and another own it.
 fn is_shared<M: Sync + Send>(_memory: &M) -> bool {
     true
 }
 
-#[test]
-fn an_open_front_takes_stores(rt: HostRuntime) -> Result<(), Fail> {
-    let bytes = counted(rt.alloc(), 16 * BLOCK)?;
-    let mut region = ImageRegion::from_bytes(rt.alloc(), &bytes)?;
-    assert!(rt; is_shared(&region));
-    region.open_front(1)?;
-    assert_store(&rt, &mut region, BLOCK - 8, Ok(()));
-    assert_fence(&rt, &mut region, Ok(()));
-    assert_words(&rt, &region, &STORED);
+fn assert_front(rt: &impl Abort, region: &mut ImageRegion<'_>, row: &Row<'_>) -> Result<(), Fail> {
+    let (count, front, steps, words) = *row;
+    region.open_front(front)?;
+    assert!(rt; is_shared(region));
+    assert!(rt; region.len() == count);
+    assert_steps(rt, region, steps, words);
     Ok(())
 }
 
-#[test]
-fn a_store_behind_the_front_is_refused(rt: HostRuntime) -> Result<(), Fail> {
-    let bytes = counted(rt.alloc(), 16 * BLOCK)?;
-    let mut region = ImageRegion::from_bytes(rt.alloc(), &bytes)?;
-    region.open_front(1)?;
-    assert_store(&rt, &mut region, BLOCK, Err(Stopped));
-    assert_words(&rt, &region, &[(BLOCK, SECOND)]);
-    assert_store(&rt, &mut region, 0, Err(Stopped));
-    assert_fence(&rt, &mut region, Err(Stopped));
-    Ok(())
+fn is_region_over(rt: &impl Abort, alloc: Global, bytes: &[u8], row: &Row<'_>) -> Result<(), Fail> {
+    let mut region = ImageRegion::from_bytes(alloc, bytes)?;
+    assert_front(rt, &mut region, row)
+}
+
+fn is_image(rt: &impl Abort, alloc: Global, row: &Row<'_>) -> Result<(), Fail> {
+    let bytes = counted(alloc, row.0)?;
+    is_region_over(rt, alloc, &bytes, row)
 }
 
 #[test]
-fn bytes_of_any_length_are_a_region(rt: HostRuntime) -> Result<(), Fail> {
-    for &count in [0, 7, 100, 4096].iter() {
-        let bytes = counted(rt.alloc(), count)?;
-        let mut region = ImageRegion::from_bytes(rt.alloc(), &bytes)?;
-        region.open_front(2)?;
-        assert!(rt; region.len() == count);
+fn bytes_of_any_length_are_a_region_whose_front_takes_stores(rt: HostRuntime) -> Result<(), Fail> {
+    for row in ROWS.iter() {
+        is_image(&rt, rt.alloc(), row)?;
     }
     Ok(())
 }
