@@ -14,7 +14,6 @@ use nv_journal::change_two;
 use nv_logpage::{append, pages_needed};
 use nv_region::{ImageRegion, MemRegion, Pmem, Stopped, commit_word};
 use std::alloc::{AllocError, Global};
-use std::io;
 use std::rt::Clock;
 use std::time::Instant;
 
@@ -276,12 +275,9 @@ fn measure<R: AllocGlobal + Print + Eprint + Clock>(rt: &R, count: u64) -> Optio
 pub(crate) fn measure_appends_and_commits<R: AllocGlobal + Print + Eprint + Clock>(
     rt: &R,
     count: u64,
-) -> io::Result<()> {
+) -> Option<()> {
     if count > MOST {
-        return eprintln!(rt; "at most 10000000 entries are appended");
+        return eprintln!(rt; "at most 10000000 entries are appended").ok();
     }
-    match measure(rt, count) {
-        Some(()) => Ok(()),
-        None => eprintln!(rt; "memory was refused, or there was no room"),
-    }
+    measure(rt, count)
 }

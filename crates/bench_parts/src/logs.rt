@@ -11,7 +11,6 @@ use nv_logpage::{Finding, LogReader, walk};
 use nv_region::{MemRegion, Pmem, Stopped};
 use nv_super::Super;
 use std::alloc::{AllocError, Global};
-use std::io;
 use std::rt::Clock;
 use std::time::Instant;
 
@@ -147,43 +146,44 @@ fn log_of(alloc: Global, blocks: u64, entries: u64) -> Option<MemRegion>
     Some(memory)
 }
 
-fn print_counts<R: Print>(rt: &R, what: &str, counts: Counts) -> io::Result<()> {
+fn print_counts<R: Print>(rt: &R, what: &str, counts: Counts) -> Option<()> {
     println!(rt;
         "{what}: {} pages {} entries at the tail {}",
         counts.pages, counts.entries, counts.ended
     )
+    .ok()
 }
 
-fn measure_walk<R: AllocGlobal + Print + Eprint + Clock>(
+fn measure_walk<R: AllocGlobal + Eprint + Clock>(
     rt: &R,
     memory: &MemRegion,
     sup: &Super,
     tail: u64,
-) -> io::Result<()>
+) -> Option<Counts>
     requires areas { HasAreas sup.now }
     requires blocks { HasBlocks memory.now.region sup.now.blocks }
     requires head { IsTrue (is_page_start sup.now 12288) }
 {
-    let start = Instant::now(rt)?;
-    let counts = read_whole(rt.alloc(), memory, sup, tail)?;
-    print_seconds(rt, "walk", start)?;
-    print_counts(rt, "walk", counts)
+    let start = Instant::now(rt).ok()?;
+    let counts = read_whole(rt.alloc(), memory, sup, tail).ok()?;
+    print_seconds(rt, "walk", start).ok()?;
+    Some(counts)
 }
 
-fn measure_findings<R: AllocGlobal + Print + Eprint + Clock>(
+fn measure_findings<R: AllocGlobal + Eprint + Clock>(
     rt: &R,
     memory: &MemRegion,
     sup: &Super,
     tail: u64,
-) -> io::Result<()>
+) -> Option<Counts>
     requires areas { HasAreas sup.now }
     requires blocks { HasBlocks memory.now.region sup.now.blocks }
     requires head { IsTrue (is_page_start sup.now 12288) }
 {
-    let start = Instant::now(rt)?;
-    let counts = read_by_findings(rt.alloc(), memory, sup, tail)?;
-    print_seconds(rt, "findings", start)?;
-    print_counts(rt, "findings", counts)
+    let start = Instant::now(rt).ok()?;
+    let counts = read_by_findings(rt.alloc(), memory, sup, tail).ok()?;
+    print_seconds(rt, "findings", start).ok()?;
+    Some(counts)
 }
 
 fn measure_reading<R: AllocGlobal + Print + Eprint + Clock>(
@@ -191,40 +191,34 @@ fn measure_reading<R: AllocGlobal + Print + Eprint + Clock>(
     memory: &MemRegion,
     sup: &Super,
     tail: u64,
-) -> io::Result<()>
+) -> Option<()>
     requires areas { HasAreas sup.now }
     requires blocks { HasBlocks memory.now.region sup.now.blocks }
     requires head { IsTrue (is_page_start sup.now 12288) }
 {
-    measure_walk(rt, memory, sup, tail)?;
-    measure_findings(rt, memory, sup, tail)
+    print_counts(rt, "walk", measure_walk(rt, memory, sup, tail)?)?;
+    print_counts(rt, "findings", measure_findings(rt, memory, sup, tail)?)
 }
 
-fn measure<R: AllocGlobal + Print + Eprint + Clock>(
-    rt: &R,
-    pages: u64,
-    entries: u64,
-) -> io::Result<()>
+fn measure<R: AllocGlobal + Print + Eprint + Clock>(rt: &R, pages: u64, entries: u64) -> Option<()>
     requires some { 0 < pages }
     requires most { pages ≤ 200000 }
     requires entries { entries ≤ 126 }
 {
     let sup = numbers_of(pages);
     let tail = (sup.blocks - 1) * 4096 + 32 * entries;
-    match log_of(rt.alloc(), sup.blocks, entries) {
-        Some(memory) => measure_reading(rt, &memory, &sup, tail),
-        None => eprintln!(rt; "no memory"),
-    }
+    let memory = log_of(rt.alloc(), sup.blocks, entries)?;
+    measure_reading(rt, &memory, &sup, tail)
 }
 
 pub(crate) fn measure_logs<R: AllocGlobal + Print + Eprint + Clock>(
     rt: &R,
     pages: u64,
     entries: u64,
-) -> io::Result<()> {
+) -> Option<()> {
     if pages > 0 && pages <= MOST_PAGES && entries <= MOST_ENTRIES {
         measure(rt, pages, entries)
     } else {
-        eprintln!(rt; "a log has 1 to 200000 pages, and at most 126 entries in each")
+        eprintln!(rt; "a log has 1 to 200000 pages, and at most 126 entries in each").ok()
     }
 }

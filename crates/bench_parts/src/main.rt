@@ -1,12 +1,11 @@
-//! Measures the parts that a mounted file system stands on, each by a module: the name index (`names`), the file index and its
-//! map of extents (`pages`), the allocator (`blocks`), the reading of a log (`logs`), and what a call stores (`appends`).
+//! Measures the parts that a mounted file system stands on, each by a module: the name index (`names`), the file index
+//! (`pages`), the allocator (`blocks`), the reading of a log (`logs`), and what a call stores (`appends`).
 //!
 //! The first argument names one of them, and those behind it are its numbers. Without any, each runs on a little.
 #![tactic(auto)]
 
 mod appends;
 mod blocks;
-mod extents;
 mod hold;
 mod logs;
 mod names;
@@ -17,19 +16,27 @@ use appends::measure_appends_and_commits;
 use blocks::measure_blocks;
 use logs::measure_logs;
 use names::measure_names;
-use nv_radix::MAX_FILE_PAGES;
 use pages::measure_pages;
+use std::env;
+use std::process::ExitCode;
 use std::rt::Clock;
-use std::{env, io};
 
-/// Names have numbers of 32 bits.
-const MOST_NAMES: u64 = 4_294_967_295;
-
-fn number_of(text: Option<String>) -> Option<u64> {
-    text.and_then(|text| text.as_str().parse::<u64>().ok())
+/// A number that is missing is 0.
+fn number_of(text: Option<String>) -> u64 {
+    match text {
+        Some(text) => text.as_str().parse::<u64>().unwrap_or(0),
+        None => 0,
+    }
 }
 
-fn measure_each<R: AllocGlobal + Print + Eprint + Clock>(rt: &R) -> io::Result<()> {
+fn tell_usage<R: Eprint>(rt: &R) -> Option<()> {
+    eprintln!(rt;
+        "usage: bench_parts [names COUNT | pages [PAGES] | blocks BLOCKS CPUS | logs PAGES ENTRIES | appends COUNT]"
+    ).ok()
+}
+
+/// `None` where memory is refused, or the clock or the output fails.
+fn measure_each<R: AllocGlobal + Print + Eprint + Clock>(rt: &R) -> Option<()> {
     measure_names(rt, 1000)?;
     measure_pages(rt, 4096)?;
     measure_blocks(rt, 1000, 4)?;
@@ -40,27 +47,33 @@ fn measure_each<R: AllocGlobal + Print + Eprint + Clock>(rt: &R) -> io::Result<(
 fn measure_part<R: AllocGlobal + Print + Eprint + Clock>(
     rt: &R,
     part: &str,
-    numbers: (Option<u64>, Option<u64>),
-) -> io::Result<()> {
-    match (part, numbers) {
-        ("names", (Some(count), None)) if count <= MOST_NAMES => measure_names(rt, count as u32),
-        ("pages", (count, None)) => measure_pages(rt, count.unwrap_or(MAX_FILE_PAGES)),
-        ("blocks", (Some(count), Some(cpus))) => measure_blocks(rt, count, cpus),
-        ("logs", (Some(count), Some(entries))) => measure_logs(rt, count, entries),
-        ("appends", (Some(count), None)) => measure_appends_and_commits(rt, count),
-        _ => eprintln!(rt;
-            "usage: bench_parts [names COUNT | pages [PAGES] | blocks BLOCKS CPUS | logs PAGES ENTRIES | appends COUNT]"
-        ),
+    count: u64,
+    other: u64,
+) -> Option<()> {
+    match part {
+        "names" => measure_names(rt, count),
+        "pages" => measure_pages(rt, count),
+        "blocks" => measure_blocks(rt, count, other),
+        "logs" => measure_logs(rt, count, other),
+        "appends" => measure_appends_and_commits(rt, count),
+        _ => tell_usage(rt),
     }
 }
 
-fn main(rt: HostRuntime) -> io::Result<()> {
-    let mut words = env::args(&rt)?.skip(1);
-    match words.next() {
+fn main(rt: HostRuntime) -> ExitCode {
+    let Ok(words) = env::args(&rt) else {
+        return ExitCode::FAILURE;
+    };
+    let mut words = words.skip(1);
+    let measured = match words.next() {
         Some(part) => {
-            let numbers = (number_of(words.next()), number_of(words.next()));
-            measure_part(&rt, part.as_str(), numbers)
+            let (count, other) = (number_of(words.next()), number_of(words.next()));
+            measure_part(&rt, part.as_str(), count, other)
         }
         None => measure_each(&rt),
+    };
+    match measured {
+        Some(()) => ExitCode::SUCCESS,
+        None => ExitCode::FAILURE,
     }
 }

@@ -7,13 +7,33 @@ use crate::times::print_seconds;
 use nv_names::NameIndex;
 use rand::seq::SliceRandom;
 use rand_pcg::Pcg32;
-use std::alloc::{AllocError, Global};
-use std::io;
+use std::alloc::AllocError;
 use std::rt::Clock;
 use std::time::Instant;
 
 /// The bytes of a name.
 type Name = [u8; 16];
+
+/// Names have numbers of 32 bits.
+const MOST_NAMES: u64 = 4_294_967_295;
+
+/// What is done with all names.
+#[derive(Clone, Copy)]
+enum Step {
+    Add,
+    Get,
+    List,
+    Remove,
+    Insert,
+}
+
+/// What was found by the steps.
+#[derive(Clone, Copy)]
+struct Counts {
+    found: usize,
+    listed: usize,
+    left: usize,
+}
 
 /// `file-` and a number of eleven digits.
 fn name_of(number: u32) -> Name {
@@ -59,10 +79,17 @@ fn insert_all(index: &mut NameIndex, names: &[Name]) -> Result<(), AllocError> {
 }
 
 fn count_found(index: &NameIndex, names: &[Name]) -> usize {
-    names
-        .iter()
-        .filter(|name| index.get(*name).is_some())
-        .count()
+    let mut found: usize = 0;
+    for name in names {
+        if index.get(name).is_some() {
+            found = found.wrapping_add(1);
+        }
+    }
+    found
+}
+
+fn count_listed(index: &NameIndex) -> Result<usize, AllocError> {
+    Ok(index.list()?.len())
 }
 
 fn remove_all(index: &mut NameIndex, names: &[Name]) {
@@ -71,95 +98,101 @@ fn remove_all(index: &mut NameIndex, names: &[Name]) {
     }
 }
 
-fn measure_adds<R: Eprint + Clock>(
-    rt: &R,
-    index: &mut NameIndex,
-    names: &[Name],
-) -> io::Result<()> {
-    let start = Instant::now(rt)?;
-    add_all(index, names)?;
-    print_seconds(rt, "add", start)
+fn label_of(step: Step) -> &'static str {
+    match step {
+        Step::Add => "add",
+        Step::Get => "get",
+        Step::List => "list",
+        Step::Remove => "remove",
+        Step::Insert => "insert",
+    }
 }
 
-fn measure_inserts<R: AllocGlobal + Eprint + Clock>(rt: &R, names: &[Name]) -> io::Result<usize> {
-    let mut index = NameIndex::new(rt.alloc());
-    let start = Instant::now(rt)?;
-    insert_all(&mut index, names)?;
-    print_seconds(rt, "insert", start)?;
+/// How many names a step finds, or leaves in the index.
+fn count_by(index: &mut NameIndex, names: &[Name], step: Step) -> Result<usize, AllocError> {
+    match step {
+        Step::Add => add_all(index, names)?,
+        Step::Get => return Ok(count_found(index, names)),
+        Step::List => return count_listed(index),
+        Step::Remove => remove_all(index, names),
+        Step::Insert => insert_all(index, names)?,
+    }
     Ok(index.len())
 }
 
-fn measure_lookups<R: Eprint + Clock>(
-    rt: &R,
-    index: &NameIndex,
-    names: &[Name],
-) -> io::Result<usize> {
-    let start = Instant::now(rt)?;
-    let found = count_found(index, names);
-    print_seconds(rt, "get", start)?;
-    Ok(found)
-}
-
-fn measure_listing<R: Eprint + Clock>(rt: &R, index: &NameIndex) -> io::Result<usize> {
-    let start = Instant::now(rt)?;
-    let listed = index.list()?.len();
-    print_seconds(rt, "list", start)?;
-    Ok(listed)
-}
-
-fn measure_removals<R: Eprint + Clock>(
+fn measure_step<R: Eprint + Clock>(
     rt: &R,
     index: &mut NameIndex,
     names: &[Name],
-) -> io::Result<()> {
-    let start = Instant::now(rt)?;
-    remove_all(index, names);
-    print_seconds(rt, "remove", start)
+    step: Step,
+) -> Option<usize> {
+    let start = Instant::now(rt).ok()?;
+    let count = count_by(index, names, step).ok()?;
+    print_seconds(rt, label_of(step), start).ok()?;
+    Some(count)
 }
 
-/// Fills the index, and answers how many of its names are found and listed.
-fn measure_filled<R: Print + Eprint + Clock>(
+/// Measures the steps that fill an index, read it and empty it.
+fn measure_index<R: Eprint + Clock>(
     rt: &R,
     index: &mut NameIndex,
     names: &mut [Name],
-    rng: &mut Pcg32,
-) -> io::Result<(usize, usize)> {
-    names.shuffle(rng);
-    measure_adds(rt, index, names)?;
-    names.shuffle(rng);
-    let found = measure_lookups(rt, index, names)?;
-    let listed = measure_listing(rt, index)?;
-    Ok((found, listed))
-}
-
-fn measure_index<R: AllocGlobal + Print + Eprint + Clock>(
-    rt: &R,
-    index: &mut NameIndex,
-    names: &mut [Name],
-) -> io::Result<()> {
+) -> Option<Counts> {
     let mut rng = Pcg32::new(1, 1);
-    let (found, listed) = measure_filled(rt, index, names, &mut rng)?;
     names.shuffle(&mut rng);
-    measure_removals(rt, index, names)?;
-    let inserted = measure_inserts(rt, names)?;
-    println!(rt;
-        "{found} found, {listed} listed, {} left, {inserted} inserted",
-        index.len()
-    )
+    measure_step(rt, index, names, Step::Add)?;
+    names.shuffle(&mut rng);
+    let found = measure_step(rt, index, names, Step::Get)?;
+    let listed = measure_step(rt, index, names, Step::List)?;
+    names.shuffle(&mut rng);
+    let left = measure_step(rt, index, names, Step::Remove)?;
+    Some(Counts {
+        found,
+        listed,
+        left,
+    })
 }
 
-fn measure<R: AllocGlobal + Print + Eprint + Clock>(
-    rt: &R,
-    mut names: Vec<Name>,
-) -> io::Result<()> {
+fn measure_filled<R: AllocGlobal + Eprint + Clock>(rt: &R, names: &mut [Name]) -> Option<Counts> {
     let mut index = NameIndex::new(rt.alloc());
-    measure_index(rt, &mut index, names.as_mut_slice())
+    measure_index(rt, &mut index, names)
 }
 
+fn measure_inserts<R: AllocGlobal + Eprint + Clock>(rt: &R, names: &[Name]) -> Option<usize> {
+    let mut index = NameIndex::new(rt.alloc());
+    measure_step(rt, &mut index, names, Step::Insert)
+}
+
+fn print_counts<R: Print>(rt: &R, counts: Counts, inserted: usize) -> Option<()> {
+    println!(rt;
+        "{} found, {} listed, {} left, {inserted} inserted",
+        counts.found, counts.listed, counts.left
+    )
+    .ok()
+}
+
+fn measure<R: AllocGlobal + Print + Eprint + Clock>(rt: &R, names: &mut [Name]) -> Option<()> {
+    let counts = measure_filled(rt, names)?;
+    let inserted = measure_inserts(rt, names)?;
+    print_counts(rt, counts, inserted)
+}
+
+fn measure_apart<R: AllocGlobal + Print + Eprint + Clock>(rt: &R, count: u32) -> Option<()> {
+    let mut names: Vec<Name> = (0..count).map(name_of).collect(rt.alloc()).ok()?;
+    measure(rt, names.as_mut_slice())
+}
+
+fn measure_one_hash<R: AllocGlobal + Print + Eprint + Clock>(rt: &R, count: u32) -> Option<()> {
+    let mut names: Vec<Name> = (0..count).map(name_of_one_hash).collect(rt.alloc()).ok()?;
+    measure(rt, names.as_mut_slice())
+}
+
+/// As many names as have numbers stand for more.
 pub(crate) fn measure_names<R: AllocGlobal + Print + Eprint + Clock>(
     rt: &R,
-    count: u32,
-) -> io::Result<()> {
-    measure(rt, (0..count).map(name_of).collect(rt.alloc())?)?;
-    measure(rt, (0..count).map(name_of_one_hash).collect(rt.alloc())?)
+    count: u64,
+) -> Option<()> {
+    let count = count.min(MOST_NAMES) as u32;
+    measure_apart(rt, count)?;
+    measure_one_hash(rt, count)
 }

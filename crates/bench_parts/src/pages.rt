@@ -1,15 +1,12 @@
 //! Measures a file index: pages mapped one by one in rising, falling and shuffled order, looked up and listed; overwrites
-//! of one page each in a fragmented file; and many small files' indexes, made and dropped. Then a map of extents under the
-//! entries of a log, four for each page. The seconds go to standard error.
+//! of one page each in a fragmented file; and many small files' indexes, made and dropped. The seconds go to standard error.
 
 ghost use Rattle.std.specs.Prelude.{◌≤◌, ◌<◌};
 ghost use Rattle.nv_radix.specs.declared.TheConstants.{MAX_FILE_PAGES};
 
-use crate::extents::measure_extents;
 use crate::times::print_seconds;
 use nv_radix::{FileIndex, MAX_FILE_PAGES};
 use std::alloc::{AllocError, Global};
-use std::io;
 use std::rt::Clock;
 use std::time::Instant;
 
@@ -25,6 +22,13 @@ enum Order {
     /// Shuffled, with all made ready at once.
     AtOnce,
 }
+
+const ORDERS: [Order; 4] = [
+    Order::Rising,
+    Order::Falling,
+    Order::Shuffled,
+    Order::AtOnce,
+];
 
 /// The page that comes at a step.
 fn page_at(order: Order, step: u64, pages: u64) -> u64
@@ -83,76 +87,69 @@ fn overwrite(index: &mut FileIndex, pages: u64) -> Result<(), AllocError>
     Ok(())
 }
 
-/// An index of one page.
-fn small_index(alloc: Global, block: u64) -> Result<FileIndex, AllocError> {
-    let mut index = FileIndex::new(alloc);
+/// Maps the first page.
+fn set_first(index: &mut FileIndex, block: u64) -> Result<(), AllocError> {
     index.reserve(0, 1)?;
     index.cut(1);
     index.set_run(0, block, 1);
+    Ok(())
+}
+
+fn count_extents(index: &FileIndex) -> Result<usize, AllocError> {
+    Ok(index.runs()?.len())
+}
+
+/// An index of one page.
+fn small_index(alloc: Global, block: u64) -> Result<FileIndex, AllocError> {
+    let mut index = FileIndex::new(alloc);
+    set_first(&mut index, block)?;
     Ok(index)
+}
+
+/// Makes an index of one page, drops it, and answers how many extents it had.
+fn small_extents(alloc: Global, block: u64) -> Result<usize, AllocError> {
+    let index = small_index(alloc, block)?;
+    count_extents(&index)
 }
 
 /// Makes an index of one page and drops it, many times.
 fn make_small(alloc: Global, files: u64) -> Result<usize, AllocError> {
     let mut extents = 0;
     for file in 0..files {
-        let index = small_index(alloc, file)?;
-        extents = index.runs()?.len();
+        extents = small_extents(alloc, file)?;
     }
     Ok(extents)
 }
 
-/// Makes indexes of one page and keeps them all until the end.
-fn keep_small(alloc: Global, files: u64) -> Result<Vec<FileIndex>, AllocError> {
-    let mut kept = Vec::new(alloc);
-    for file in 0..files {
-        kept.push(small_index(alloc, file)?)?;
-    }
-    Ok(kept)
+fn keep_one(kept: &mut Vec<FileIndex>, alloc: Global, block: u64) -> Result<(), AllocError> {
+    kept.push(small_index(alloc, block)?)?;
+    Ok(())
 }
 
-fn count_mapped(index: &FileIndex, pages: u64) -> usize
+/// Makes indexes of one page and keeps them all until the end.
+fn keep_small(kept: &mut Vec<FileIndex>, alloc: Global, files: u64) -> Result<(), AllocError> {
+    for file in 0..files {
+        keep_one(kept, alloc, file)?;
+    }
+    Ok(())
+}
+
+fn count_mapped(index: &FileIndex, pages: u64) -> u64
     requires { pages ≤ MAX_FILE_PAGES }
 {
-    (0..pages).filter(|page| index.get(*page).is_some()).count()
+    let mut mapped: u64 = 0;
+    for page in 0..pages {
+        if index.get(page).is_some() {
+            mapped = mapped.wrapping_add(1);
+        }
+    }
+    mapped
 }
 
 /// How many indexes of one page are made.
 const SMALL_FILES: u64 = 100_000;
 
-fn measure_lookups<R: Print + Eprint + Clock>(
-    rt: &R,
-    index: &FileIndex,
-    pages: u64,
-) -> io::Result<()>
-    requires { pages ≤ MAX_FILE_PAGES }
-{
-    let start = Instant::now(rt)?;
-    let mapped = count_mapped(index, pages);
-    print_seconds(rt, "looked up", start)?;
-    println!(rt; "{mapped} of {pages} pages mapped")
-}
-
-fn measure_overwrites<R: Eprint + Clock>(
-    rt: &R,
-    index: &mut FileIndex,
-    pages: u64,
-) -> io::Result<()>
-    requires { pages ≤ MAX_FILE_PAGES }
-{
-    let start = Instant::now(rt)?;
-    overwrite(index, pages)?;
-    print_seconds(rt, "overwritten", start)
-}
-
-fn measure_listing<R: Print + Eprint + Clock>(rt: &R, index: &FileIndex) -> io::Result<()> {
-    let start = Instant::now(rt)?;
-    let extents = index.runs()?.len();
-    print_seconds(rt, "listed", start)?;
-    println!(rt; "{extents} extents")
-}
-
-fn name_of(order: Order) -> &'static str {
+fn label_of(order: Order) -> &'static str {
     match order {
         Order::Rising => "rising",
         Order::Falling => "falling",
@@ -161,13 +158,49 @@ fn name_of(order: Order) -> &'static str {
     }
 }
 
+fn print_extents<R: Print>(rt: &R, extents: usize) -> Option<()> {
+    println!(rt; "{extents} extents").ok()
+}
+
+fn print_mapped<R: Print>(rt: &R, mapped: u64, pages: u64) -> Option<()> {
+    println!(rt; "{mapped} of {pages} pages mapped").ok()
+}
+
+fn print_small<R: Print>(rt: &R, kept: usize, extents: usize) -> Option<()> {
+    println!(rt; "{kept} small files of {extents} extent").ok()
+}
+
+fn measure_lookups<R: Print + Eprint + Clock>(rt: &R, index: &FileIndex, pages: u64) -> Option<()>
+    requires { pages ≤ MAX_FILE_PAGES }
+{
+    let start = Instant::now(rt).ok()?;
+    let mapped = count_mapped(index, pages);
+    print_seconds(rt, "looked up", start).ok()?;
+    print_mapped(rt, mapped, pages)
+}
+
+fn measure_overwrites<R: Eprint + Clock>(rt: &R, index: &mut FileIndex, pages: u64) -> Option<()>
+    requires { pages ≤ MAX_FILE_PAGES }
+{
+    let start = Instant::now(rt).ok()?;
+    overwrite(index, pages).ok()?;
+    print_seconds(rt, "overwritten", start).ok()
+}
+
+fn measure_listing<R: Print + Eprint + Clock>(rt: &R, index: &FileIndex) -> Option<()> {
+    let start = Instant::now(rt).ok()?;
+    let extents = count_extents(index).ok()?;
+    print_seconds(rt, "listed", start).ok()?;
+    print_extents(rt, extents)
+}
+
 /// Measures what is done with an index whose pages were mapped in this order.
 fn measure_mapped<R: Print + Eprint + Clock>(
     rt: &R,
     index: &mut FileIndex,
     order: Order,
     pages: u64,
-) -> io::Result<()>
+) -> Option<()>
     requires { pages ≤ MAX_FILE_PAGES }
 {
     match order {
@@ -185,12 +218,12 @@ fn measure_index<R: Print + Eprint + Clock>(
     index: &mut FileIndex,
     order: Order,
     pages: u64,
-) -> io::Result<()>
+) -> Option<()>
     requires { pages ≤ MAX_FILE_PAGES }
 {
-    let start = Instant::now(rt)?;
-    set_all(index, order, pages)?;
-    print_seconds(rt, name_of(order), start)?;
+    let start = Instant::now(rt).ok()?;
+    set_all(index, order, pages).ok()?;
+    print_seconds(rt, label_of(order), start).ok()?;
     measure_mapped(rt, index, order, pages)
 }
 
@@ -198,43 +231,50 @@ fn measure_order<R: AllocGlobal + Print + Eprint + Clock>(
     rt: &R,
     order: Order,
     pages: u64,
-) -> io::Result<()>
+) -> Option<()>
     requires { pages ≤ MAX_FILE_PAGES }
 {
     let mut index = FileIndex::new(rt.alloc());
     measure_index(rt, &mut index, order, pages)
 }
 
-fn measure_dropped<R: AllocGlobal + Eprint + Clock>(rt: &R) -> io::Result<usize> {
-    let start = Instant::now(rt)?;
-    let extents = make_small(rt.alloc(), SMALL_FILES)?;
-    print_seconds(rt, "small, dropped", start)?;
-    Ok(extents)
+fn measure_dropped<R: AllocGlobal + Eprint + Clock>(rt: &R) -> Option<usize> {
+    let start = Instant::now(rt).ok()?;
+    let extents = make_small(rt.alloc(), SMALL_FILES).ok()?;
+    print_seconds(rt, "small, dropped", start).ok()?;
+    Some(extents)
 }
 
-fn measure_kept<R: AllocGlobal + Eprint + Clock>(rt: &R) -> io::Result<usize> {
-    let start = Instant::now(rt)?;
-    let kept = keep_small(rt.alloc(), SMALL_FILES)?.len();
-    print_seconds(rt, "small, kept", start)?;
-    Ok(kept)
+fn fill_kept<R: AllocGlobal + Eprint + Clock>(rt: &R, kept: &mut Vec<FileIndex>) -> Option<usize> {
+    let start = Instant::now(rt).ok()?;
+    keep_small(kept, rt.alloc(), SMALL_FILES).ok()?;
+    print_seconds(rt, "small, kept", start).ok()?;
+    Some(kept.len())
 }
 
-fn measure_small<R: AllocGlobal + Print + Eprint + Clock>(rt: &R) -> io::Result<()> {
+fn measure_kept<R: AllocGlobal + Eprint + Clock>(rt: &R) -> Option<usize> {
+    let mut kept = Vec::new(rt.alloc());
+    fill_kept(rt, &mut kept)
+}
+
+fn measure_small<R: AllocGlobal + Print + Eprint + Clock>(rt: &R) -> Option<()> {
     let extents = measure_dropped(rt)?;
     let kept = measure_kept(rt)?;
-    println!(rt; "{kept} small files of {extents} extent")
+    print_small(rt, kept, extents)
 }
 
-/// As many pages as a file can have stand for more.
+/// Without a number, as for a greater one, a file has all pages that it can have.
 pub(crate) fn measure_pages<R: AllocGlobal + Print + Eprint + Clock>(
     rt: &R,
     pages: u64,
-) -> io::Result<()> {
-    let pages = pages.min(MAX_FILE_PAGES);
-    measure_order(rt, Order::Rising, pages)?;
-    measure_order(rt, Order::Falling, pages)?;
-    measure_order(rt, Order::Shuffled, pages)?;
-    measure_order(rt, Order::AtOnce, pages)?;
-    measure_small(rt)?;
-    measure_extents(rt, 4 * pages)
+) -> Option<()> {
+    let pages = if pages > 0 && pages < MAX_FILE_PAGES {
+        pages
+    } else {
+        MAX_FILE_PAGES
+    };
+    for order in ORDERS {
+        measure_order(rt, order, pages)?;
+    }
+    measure_small(rt)
 }

@@ -5,7 +5,7 @@ use nv_region::MemRegion;
 use nv_tree::Refusal;
 
 /// A call, by what it is for.
-#[derive(Clone, Copy, Debug, PartialEq, Eq)]
+#[derive(Clone, Copy)]
 pub(crate) enum Call {
     MakeDirectory,
     MakeDirectoryInIt,
@@ -50,6 +50,31 @@ pub(crate) const CALLS: [Call; 19] = [
     Call::UnlinkLast,
     Call::RemoveDirectory,
 ];
+
+/// How a call is told.
+pub(crate) fn name_of(call: Call) -> &'static str {
+    match call {
+        Call::MakeDirectory => "MakeDirectory",
+        Call::MakeDirectoryInIt => "MakeDirectoryInIt",
+        Call::CreateDeep => "CreateDeep",
+        Call::Create => "Create",
+        Call::Link => "Link",
+        Call::CreateAnother => "CreateAnother",
+        Call::Write => "Write",
+        Call::WriteBehindTheEnd => "WriteBehindTheEnd",
+        Call::Overwrite => "Overwrite",
+        Call::Shorten => "Shorten",
+        Call::Lengthen => "Lengthen",
+        Call::SetAttributes => "SetAttributes",
+        Call::RenameWithin => "RenameWithin",
+        Call::RenameAcross => "RenameAcross",
+        Call::List => "List",
+        Call::Read => "Read",
+        Call::UnlinkOne => "UnlinkOne",
+        Call::UnlinkLast => "UnlinkLast",
+        Call::RemoveDirectory => "RemoveDirectory",
+    }
+}
 
 /// Makes a call.
 pub(crate) fn make(fs: &mut Fs<MemRegion>, call: Call) -> Result<(), Refusal> {

@@ -33,24 +33,40 @@ const OTHER_RUN: Run = Run {
     count: 2,
 };
 
-/// Claims a run, and whether it was refused once. A refusal makes no step, so the second try has the same answer.
-fn claimed(
+/// Claims a run, and answers whether that was refused once. A refusal makes no step, so the second try has the same answer.
+fn claim_twice(
     map: &ClaimMap,
-    mut seat: ClaimSeat,
+    seat: &mut ClaimSeat,
     run: Run,
     owner: Owner,
-) -> Result<(ClaimSeat, bool), AllocError>
-    requires own { seat.map ≡ map.now }
+) -> Result<bool, AllocError>
+    requires own { seat.old.map ≡ map.now }
     requires run { (run.start + run.count ≤ map.now.sizes.blocks) × MayOwn owner run.count }
-    ensures { IfOk result (λ s. (s.0.map ≡ seat.map) × (s.0.view.seats ≡ seat.view.seats)) }
+    ensures { IfOk result (λ _. (seat.new.map ≡ seat.old.map) × (seat.new.view.seats ≡ seat.old.view.seats)) }
 {
-    match map.claim(&mut seat, run, owner) {
-        Ok(()) => Ok((seat, false)),
+    match map.claim(seat, run, owner) {
+        Ok(()) => Ok(false),
         Err(AllocError) => {
-            map.claim(&mut seat, run, owner)?;
-            Ok((seat, true))
+            map.claim(seat, run, owner)?;
+            Ok(true)
         }
     }
+}
+
+/// Each seat claims a run, and the runs meet. Answers whether one of the claims was refused once.
+fn claim_both(
+    map: &ClaimMap,
+    one: &mut ClaimSeat,
+    other: &mut ClaimSeat,
+) -> Result<bool, AllocError>
+    requires own { (one.old.map ≡ map.now) × (other.old.map ≡ map.now) }
+    requires blocks { map.now.sizes.blocks ≡ 128 }
+    ensures one { IfOk result (λ _. (one.new.map ≡ one.old.map) × (one.new.view.seats ≡ one.old.view.seats)) }
+    ensures other { IfOk result (λ _. (other.new.map ≡ other.old.map) × (other.new.view.seats ≡ other.old.view.seats)) }
+{
+    let one_again = claim_twice(map, one, RUN, Owner::Data { inode: 2, page: 0 })?;
+    let other_again = claim_twice(map, other, OTHER_RUN, Owner::Data { inode: 4, page: 0 })?;
+    Ok(one_again || other_again)
 }
 
 fn is_right(claimed: &Claimed) -> bool {
@@ -87,8 +103,7 @@ fn joined_and_told(
 
 /// Two seats claim runs that meet, and are joined. An error is for memory that is refused outside of a claim and the join.
 pub(crate) fn claim_and_join(alloc: Global) -> Result<Told, AllocError> {
-    let (map, one, two) = opened(alloc, SIZES)?;
-    let (one, one_again) = claimed(&map, one, RUN, Owner::Data { inode: 2, page: 0 })?;
-    let (two, two_again) = claimed(&map, two, OTHER_RUN, Owner::Data { inode: 4, page: 0 })?;
-    joined_and_told(map, one, two, one_again || two_again)
+    let (map, mut one, mut two) = opened(alloc, SIZES)?;
+    let claim_again = claim_both(&map, &mut one, &mut two)?;
+    joined_and_told(map, one, two, claim_again)
 }

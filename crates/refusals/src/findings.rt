@@ -8,11 +8,19 @@ ghost use Rattle.refusals.specs.declared.findings.Left.TheVariants.{AsBefore, Ro
 use nv_recover::{RecoverError, Recovered};
 
 /// What a recovery left of the region.
-#[derive(Clone, Copy, Debug, PartialEq, Eq)]
+#[derive(Clone, Copy, PartialEq, Eq)]
 pub(crate) enum Left {
     AsBefore,
     RolledBack,
     Otherwise,
+}
+
+pub(crate) fn name_of(left: Left) -> &'static str {
+    match left {
+        Left::AsBefore => "AsBefore",
+        Left::RolledBack => "RolledBack",
+        Left::Otherwise => "Otherwise",
+    }
 }
 
 /// What a recovery found.

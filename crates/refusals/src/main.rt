@@ -43,8 +43,10 @@ fn part_of(word: Option<String>) -> Part {
 }
 
 fn number_of(word: Option<String>) -> u64 {
-    word.and_then(|word| word.as_str().parse::<u64>().ok())
-        .unwrap_or(0)
+    match word {
+        Some(word) => word.as_str().parse::<u64>().unwrap_or(0),
+        None => 0,
+    }
 }
 
 fn take_and_give_back(alloc: Global, blocks: u64) -> Result<(), AllocError> {

@@ -3,7 +3,7 @@
 //! A call that answers want of memory leaves the region's bytes as they were, and what is mounted as a recovery finds it in
 //! them; it is then made once more, as is a claim or a join. So in the end all runs show the same.
 
-use crate::calls::{CALLS, Call, make};
+use crate::calls::{CALLS, Call, make, name_of};
 use crate::claims::claim_and_join;
 use crate::mounted::{bytes_of, is_what_recovery_finds, mounted};
 use nv_calls::Fs;
@@ -12,7 +12,7 @@ use nv_tree::Refusal;
 use std::alloc::Global;
 
 /// How a call ended.
-#[derive(Clone, Copy, PartialEq, Eq)]
+#[derive(Clone, Copy)]
 enum Ending {
     Done,
     /// With want of memory and nothing changed; made again, it was done.
@@ -42,12 +42,21 @@ fn ended_so(alloc: Global, fs: &mut Fs<MemRegion>, call: Call) -> Option<Ending>
     }
 }
 
+/// Tells that something was refused memory once.
+fn tell_refused<R: Print>(rt: &R, what: &str) -> Option<()> {
+    println!(rt; "refused once: {what}").ok()
+}
+
+fn tell_wrong<R: Print>(rt: &R, what: &str) -> Option<()> {
+    println!(rt; "{what}: wrong").ok()
+}
+
 /// Makes a call, and tells of it where it wasn't done at once; `None` where memory is refused outside of it.
 fn tell_call<R: AllocGlobal + Print>(rt: &R, fs: &mut Fs<MemRegion>, call: Call) -> Option<()> {
     match ended_so(rt.alloc(), fs, call)? {
         Ending::Done => Some(()),
-        Ending::DoneAgain => println!(rt; "refused once: {call:?}").ok(),
-        Ending::Wrong => println!(rt; "{call:?}: wrong").ok(),
+        Ending::DoneAgain => tell_refused(rt, name_of(call)),
+        Ending::Wrong => tell_wrong(rt, name_of(call)),
     }
 }
 
@@ -59,16 +68,14 @@ fn make_all<R: AllocGlobal + Print>(rt: &R, fs: &mut Fs<MemRegion>) -> Option<()
     Some(())
 }
 
-/// What there is once all calls are made; `None` where memory is refused.
-fn tell_mounted<R: AllocGlobal + Print>(rt: &R, fs: &Fs<MemRegion>) -> Option<()> {
-    let is_found = is_what_recovery_finds(rt.alloc(), fs)?;
-    let (inodes, free) = (fs.rows().len(), fs.free().free_blocks());
+fn tell_numbers<R: Print>(rt: &R, inodes: usize, free: u64, is_found: bool) -> Option<()> {
     println!(rt; "inodes {inodes} free {free} as recovered {is_found}").ok()
 }
 
-/// Tells that something was refused memory once.
-fn tell_refused<R: Print>(rt: &R, what: &str) -> Option<()> {
-    println!(rt; "refused once: {what}").ok()
+/// What there is once all calls are made; `None` where memory is refused.
+fn tell_mounted<R: AllocGlobal + Print>(rt: &R, fs: &Fs<MemRegion>) -> Option<()> {
+    let is_found = is_what_recovery_finds(rt.alloc(), fs)?;
+    tell_numbers(rt, fs.rows().len(), fs.free().free_blocks(), is_found)
 }
 
 /// Makes the claims and the join, and tells how they ended; `None` where memory is refused outside of them.

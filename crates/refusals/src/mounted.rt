@@ -3,24 +3,28 @@
 use nv_alloc::Allocators;
 use nv_calls::{Fs, format};
 use nv_outcome::rolled_back_outcome;
-use nv_recover::{RecoverError, Recovered, Rows, recover_one};
+use nv_recover::{Recovered, Rows, recover_one};
 use nv_region::MemRegion;
 use nv_scan::Row;
 use nv_super::Run;
 use std::alloc::{AllocError, Global};
 
 /// Recovers a region and mounts it.
-fn mount(alloc: Global, mut memory: MemRegion) -> Result<Fs<MemRegion>, RecoverError> {
-    let recovered = recover_one(alloc, &mut memory)?;
-    rolled_back_outcome();
-    Ok(Fs::open(alloc, memory, recovered))
+fn mount(alloc: Global, mut memory: MemRegion) -> Option<Fs<MemRegion>> {
+    match recover_one(alloc, &mut memory) {
+        Ok(recovered) => {
+            rolled_back_outcome();
+            Some(Fs::open(alloc, memory, recovered))
+        }
+        Err(_) => None,
+    }
 }
 
 /// A region of 24 blocks for two CPUs, formatted and mounted; `None` where memory is refused.
 pub(crate) fn mounted(alloc: Global) -> Option<Fs<MemRegion>> {
     let mut memory = MemRegion::new(alloc, 24).ok()?;
     format(&mut memory, 2, 1, 0).ok()?;
-    mount(alloc, memory).ok()
+    mount(alloc, memory)
 }
 
 /// The bytes of the region.
@@ -31,13 +35,22 @@ pub(crate) fn bytes_of(fs: &Fs<MemRegion>) -> Result<Vec<u8>, AllocError> {
 /// Whether the rows, the free lists and the faults are those that a recovery finds; `None` where memory is refused.
 pub(crate) fn is_what_recovery_finds(alloc: Global, fs: &Fs<MemRegion>) -> Option<bool> {
     let bytes = bytes_of(fs).ok()?;
-    let found = recovered_from(alloc, &bytes)?;
-    has_same_parts(fs, &found).ok()
+    is_what_these_give(alloc, fs, &bytes)
 }
 
-fn recovered_from(alloc: Global, bytes: &[u8]) -> Option<Recovered> {
-    let mut memory = MemRegion::from_bytes(alloc, bytes).ok()?;
-    recover_one(alloc, &mut memory).ok()
+/// Whether it is what a recovery of these bytes finds.
+fn is_what_these_give(alloc: Global, fs: &Fs<MemRegion>, bytes: &[u8]) -> Option<bool> {
+    match MemRegion::from_bytes(alloc, bytes) {
+        Ok(mut memory) => is_found_in(alloc, fs, &mut memory),
+        Err(_) => None,
+    }
+}
+
+fn is_found_in(alloc: Global, fs: &Fs<MemRegion>, memory: &mut MemRegion) -> Option<bool> {
+    match recover_one(alloc, memory) {
+        Ok(found) => has_same_parts(fs, &found).ok(),
+        Err(_) => None,
+    }
 }
 
 fn has_same_parts(fs: &Fs<MemRegion>, found: &Recovered) -> Result<bool, AllocError> {

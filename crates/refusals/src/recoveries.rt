@@ -4,33 +4,78 @@
 //! A recovery that answers want of memory leaves its region as before or with its journals rolled back, and a worker gives
 //! its seat and neither rows nor faults; each is then made once more.
 
+ghost use Rattle.std.specs.Prelude.{◌≤◌};
 ghost use Rattle.nv_region.specs.Region.{HasBlocks};
 
-use crate::findings::{Counts, Left, counts_of, is_want_of_memory, left_of};
-use crate::region::{Damage, damaged_region, rolled_back_region, undone_region};
-use crate::working::{Work, work_in_turn};
+use crate::findings::{Counts, Left, counts_of, is_want_of_memory, left_of, name_of};
+use crate::region::{Damage, blocks_of, store_damaged, store_rolled_back, store_undone};
+use crate::working::{Given, Work, work_in_turn};
 use nv_recover::{RecoverError, Recovered, recover, recover_one, recover_replay};
 use nv_region::MemRegion;
 use nv_scan::NoGate;
 use std::alloc::Global;
 use std::thread::Threads;
 
-/// Which recovery.
-#[derive(Clone, Copy, Debug)]
+/// By what a region is recovered.
+#[derive(Clone, Copy)]
 enum Way {
     OneThread,
     Schedule,
     TwoWorkers,
 }
 
+/// A recovery of a region with this damage, and how it is called.
+#[derive(Clone, Copy)]
+struct Case {
+    damage: Damage,
+    way: Way,
+    label: &'static str,
+}
+
+const STOPPED_ONE_THREAD: Case = Case {
+    damage: Damage::Stopped,
+    way: Way::OneThread,
+    label: "Stopped OneThread",
+};
+
+const STOPPED_SCHEDULE: Case = Case {
+    damage: Damage::Stopped,
+    way: Way::Schedule,
+    label: "Stopped Schedule",
+};
+
+const STOPPED_TWO_WORKERS: Case = Case {
+    damage: Damage::Stopped,
+    way: Way::TwoWorkers,
+    label: "Stopped TwoWorkers",
+};
+
+const NAMES_ONE_THREAD: Case = Case {
+    damage: Damage::Names,
+    way: Way::OneThread,
+    label: "Names OneThread",
+};
+
+const NAMES_SCHEDULE: Case = Case {
+    damage: Damage::Names,
+    way: Way::Schedule,
+    label: "Names Schedule",
+};
+
+const NAMES_TWO_WORKERS: Case = Case {
+    damage: Damage::Names,
+    way: Way::TwoWorkers,
+    label: "Names TwoWorkers",
+};
+
 /// The recoveries whose allocations have no order of their own come last.
-const RECOVERIES: [(Damage, Way); 6] = [
-    (Damage::Stopped, Way::OneThread),
-    (Damage::Stopped, Way::Schedule),
-    (Damage::Names, Way::OneThread),
-    (Damage::Names, Way::Schedule),
-    (Damage::Stopped, Way::TwoWorkers),
-    (Damage::Names, Way::TwoWorkers),
+const CASES: [Case; 6] = [
+    STOPPED_ONE_THREAD,
+    STOPPED_SCHEDULE,
+    NAMES_ONE_THREAD,
+    NAMES_SCHEDULE,
+    STOPPED_TWO_WORKERS,
+    NAMES_TWO_WORKERS,
 ];
 
 /// The bytes that a region had, and those that it has once its journals are rolled back.
@@ -71,8 +116,20 @@ fn recovered_so<R: AllocGlobal + Threads + Sync>(
     }
 }
 
+/// The bytes of the region with its journals rolled back; `None` where memory is refused.
 fn rolled_back_bytes(alloc: Global, damage: Damage) -> Option<Vec<u8>> {
-    let memory = rolled_back_region(alloc, damage)?;
+    let blocks = blocks_of(damage);
+    match MemRegion::new(alloc, blocks) {
+        Ok(mut memory) => rolled_back_in(&mut memory, blocks, damage),
+        Err(_) => None,
+    }
+}
+
+fn rolled_back_in(memory: &mut MemRegion, blocks: u64, damage: Damage) -> Option<Vec<u8>>
+    requires many { 16 ≤ blocks }
+    requires blocks { HasBlocks memory.old.region blocks }
+{
+    store_rolled_back(memory, blocks, damage)?;
     memory.to_bytes().ok()
 }
 
@@ -86,13 +143,20 @@ fn expected_of(alloc: Global, memory: &MemRegion, damage: Damage) -> Option<Expe
     })
 }
 
+fn counted(answer: &Result<Recovered, RecoverError>) -> Result<Counts, RecoverError> {
+    match answer {
+        Ok(found) => Ok(counts_of(found)),
+        Err(error) => Err(*error),
+    }
+}
+
 fn answer_of<R: AllocGlobal + Threads + Sync>(
     rt: &R,
     memory: &mut MemRegion,
     way: Way,
 ) -> Result<Counts, RecoverError> {
-    let found = recovered_so(rt, memory, way)?;
-    Ok(counts_of(&found))
+    let answer = recovered_so(rt, memory, way);
+    counted(&answer)
 }
 
 /// What a recovery does to the region; `None` where memory is refused outside of it.
@@ -143,46 +207,60 @@ fn ended_so<R: AllocGlobal + Threads + Sync>(
     }
 }
 
-fn tell_counts<R: Print>(rt: &R, damage: Damage, way: Way, counts: Counts) -> Option<()> {
+fn tell_counts<R: Print>(rt: &R, label: &str, counts: Counts) -> Option<()> {
     println!(rt;
-        "{damage:?} {way:?}: inodes {} free {} doubled {} faults {}",
+        "{label}: inodes {} free {} doubled {} faults {}",
         counts.inodes, counts.free, counts.doubled, counts.faults
     )
     .ok()
 }
 
-fn tell_ending<R: Print>(rt: &R, damage: Damage, way: Way, ending: Ending) -> Option<()> {
+fn tell_refused<R: Print>(rt: &R, label: &str, left: &str) -> Option<()> {
+    println!(rt; "refused once: {label} {left}").ok()
+}
+
+fn tell_wrong<R: Print>(
+    rt: &R,
+    label: &str,
+    left: &str,
+    error: Option<RecoverError>,
+) -> Option<()> {
+    println!(rt; "{label}: wrong, {left} {error:?}").ok()
+}
+
+fn tell_ending<R: Print>(rt: &R, label: &str, ending: Ending) -> Option<()> {
     match ending {
-        Ending::Whole(counts) => tell_counts(rt, damage, way, counts),
+        Ending::Whole(counts) => tell_counts(rt, label, counts),
         Ending::WholeAgain(left, counts) => {
-            println!(rt; "refused once: {damage:?} {way:?} {left:?}").ok()?;
-            tell_counts(rt, damage, way, counts)
+            tell_refused(rt, label, name_of(left))?;
+            tell_counts(rt, label, counts)
         }
-        Ending::Wrong(left, error) => {
-            println!(rt; "{damage:?} {way:?}: wrong, {left:?} {error:?}").ok()
-        }
+        Ending::Wrong(left, error) => tell_wrong(rt, label, name_of(left), error),
     }
 }
 
-/// Recovers a region with this damage, and tells how that ended; `None` where memory is refused outside of it.
-fn tell_recovery_of<R: AllocGlobal + Print + Threads + Sync>(
+/// Recovers a region, and tells how that ended; `None` where memory is refused outside of it.
+fn tell_recovery_in<R: AllocGlobal + Print + Threads + Sync>(
     rt: &R,
     memory: &mut MemRegion,
-    damage: Damage,
-    way: Way,
-) -> Option<()> {
-    let expected = expected_of(rt.alloc(), memory, damage)?;
-    let ending = ended_so(rt, memory, &expected, way)?;
-    tell_ending(rt, damage, way, ending)
+    blocks: u64,
+    case: Case,
+) -> Option<()>
+    requires many { 16 ≤ blocks }
+    requires blocks { HasBlocks memory.old.region blocks }
+{
+    store_damaged(memory, blocks, case.damage)?;
+    let expected = expected_of(rt.alloc(), memory, case.damage)?;
+    let ending = ended_so(rt, memory, &expected, case.way)?;
+    tell_ending(rt, case.label, ending)
 }
 
-fn tell_recovery<R: AllocGlobal + Print + Threads + Sync>(
-    rt: &R,
-    damage: Damage,
-    way: Way,
-) -> Option<()> {
-    let mut memory = damaged_region(rt.alloc(), damage)?;
-    tell_recovery_of(rt, &mut memory, damage, way)
+fn tell_recovery<R: AllocGlobal + Print + Threads + Sync>(rt: &R, case: Case) -> Option<()> {
+    let blocks = blocks_of(case.damage);
+    match MemRegion::new(rt.alloc(), blocks) {
+        Ok(mut memory) => tell_recovery_in(rt, &mut memory, blocks, case),
+        Err(_) => None,
+    }
 }
 
 fn tell_work<R: Print>(rt: &R, work: Work) -> Option<()> {
@@ -193,33 +271,40 @@ fn tell_work<R: Print>(rt: &R, work: Work) -> Option<()> {
     .ok()
 }
 
-/// Lets two workers scan this region in turn, and tells what they gave; `None` where memory is refused outside of them.
-fn tell_workers_on<R: AllocGlobal + Print>(rt: &R, memory: &MemRegion) -> Option<()>
-    requires { HasBlocks memory.now.region 16 }
-{
-    let work = work_in_turn(rt.alloc(), memory).ok()?;
-    let Some(given) = work.refused else {
-        return tell_work(rt, work);
-    };
+fn tell_given<R: Print>(rt: &R, given: Given) -> Option<()> {
     println!(rt;
         "refused once: worker, which gave {} rows and {} faults",
         given.rows, given.faults
     )
-    .ok()?;
+    .ok()
+}
+
+/// Lets two workers scan this region in turn, and tells what they gave; `None` where memory is refused outside of them.
+fn tell_workers_on<R: AllocGlobal + Print>(rt: &R, memory: &mut MemRegion) -> Option<()>
+    requires { HasBlocks memory.old.region 16 }
+{
+    store_undone(memory, 16)?;
+    let work = work_in_turn(rt.alloc(), memory).ok()?;
+    let Some(given) = work.refused else {
+        return tell_work(rt, work);
+    };
+    tell_given(rt, given)?;
     let again = work_in_turn(rt.alloc(), memory).ok()?;
     tell_work(rt, again)
 }
 
 fn tell_workers<R: AllocGlobal + Print>(rt: &R) -> Option<()> {
-    let memory = undone_region(rt.alloc())?;
-    tell_workers_on(rt, &memory)
+    match MemRegion::new(rt.alloc(), 16) {
+        Ok(mut memory) => tell_workers_on(rt, &mut memory),
+        Err(_) => None,
+    }
 }
 
 /// `None` where memory is refused outside of a recovery and of the workers.
 pub(crate) fn tell_recoveries<R: AllocGlobal + Print + Threads + Sync>(rt: &R) -> Option<()> {
     tell_workers(rt)?;
-    for (damage, way) in RECOVERIES {
-        tell_recovery(rt, damage, way)?;
+    for case in &CASES {
+        tell_recovery(rt, *case)?;
     }
     Some(())
 }

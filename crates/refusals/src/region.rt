@@ -1,15 +1,14 @@
 //! Two small regions, damaged, and the same with their journals rolled back, word by word. Each has two CPUs and one table
 //! block for each CPU: the slots are in the blocks 3 and 4, and the data blocks begin with 5.
 
-ghost use Rattle.std.specs.Prelude.{◌≤◌, IfSome};
+ghost use Rattle.std.specs.Prelude.{◌≤◌};
 ghost use Rattle.nv_region.specs.Region.{HasBlocks};
 
 use nv_region::{MemRegion, Pmem};
 use nv_super::{MAGIC, Super};
-use std::alloc::Global;
 
 /// Which of the regions.
-#[derive(Clone, Copy, Debug)]
+#[derive(Clone, Copy)]
 pub(crate) enum Damage {
     /// A stop left records pending. Two blocks have two owners.
     Stopped,
@@ -186,62 +185,78 @@ const NAMES_LOGS: [(u64, u64); 23] = [
     (36896, TWO_LINKS),
 ];
 
-/// The region with this damage; `None` where memory is refused.
-pub(crate) fn damaged_region(alloc: Global, damage: Damage) -> Option<MemRegion> {
+/// How many blocks the region has.
+pub(crate) fn blocks_of(damage: Damage) -> u64
+    ensures { 16 ≤ result }
+{
     match damage {
-        Damage::Stopped => stopped_region(alloc),
-        Damage::Names => names_region(alloc),
+        Damage::Stopped => 16,
+        Damage::Names => 64,
     }
 }
 
-/// The same region with its journals rolled back; `None` where memory is refused.
-pub(crate) fn rolled_back_region(alloc: Global, damage: Damage) -> Option<MemRegion> {
+/// Stores the region with this damage.
+pub(crate) fn store_damaged(memory: &mut MemRegion, blocks: u64, damage: Damage) -> Option<()>
+    requires many { 16 ≤ blocks }
+    requires blocks { HasBlocks memory.old.region blocks }
+    ensures { HasBlocks memory.new.region blocks }
+{
     match damage {
-        Damage::Stopped => undone_region(alloc),
-        Damage::Names => names_region(alloc),
+        Damage::Stopped => store_stopped(memory, blocks),
+        Damage::Names => store_names(memory, blocks),
     }
 }
 
-fn store_stopped(memory: &mut MemRegion) -> Option<()>
-    requires { HasBlocks memory.old.region 16 }
-    ensures { HasBlocks memory.new.region 16 }
+/// Stores the same region with its journals rolled back.
+pub(crate) fn store_rolled_back(memory: &mut MemRegion, blocks: u64, damage: Damage) -> Option<()>
+    requires many { 16 ≤ blocks }
+    requires blocks { HasBlocks memory.old.region blocks }
+    ensures { HasBlocks memory.new.region blocks }
 {
-    store_all(memory, 16, &SUPERBLOCK)?;
-    store_all(memory, 16, &JOURNALS)?;
-    store_all(memory, 16, &SLOTS)?;
-    store_all(memory, 16, &DIRECTORIES)?;
-    store_all(memory, 16, &FILES)
+    match damage {
+        Damage::Stopped => store_undone(memory, blocks),
+        Damage::Names => store_names(memory, blocks),
+    }
 }
 
-fn stopped_region(alloc: Global) -> Option<MemRegion>
-    ensures { IfSome result (λ m. HasBlocks m.region 16) }
+/// Stores the stopped region with its journals rolled back.
+pub(crate) fn store_undone(memory: &mut MemRegion, blocks: u64) -> Option<()>
+    requires many { 16 ≤ blocks }
+    requires blocks { HasBlocks memory.old.region blocks }
+    ensures { HasBlocks memory.new.region blocks }
 {
-    let mut memory = MemRegion::new(alloc, 16).ok()?;
-    store_stopped(&mut memory)?;
-    Some(memory)
+    store_stopped(memory, blocks)?;
+    store_all(memory, blocks, &ROLLED_BACK)
 }
 
-/// The stopped region with its journals rolled back; `None` where memory is refused.
-pub(crate) fn undone_region(alloc: Global) -> Option<MemRegion>
-    ensures { IfSome result (λ m. HasBlocks m.region 16) }
+fn store_stopped(memory: &mut MemRegion, blocks: u64) -> Option<()>
+    requires many { 16 ≤ blocks }
+    requires blocks { HasBlocks memory.old.region blocks }
+    ensures { HasBlocks memory.new.region blocks }
 {
-    let mut memory = stopped_region(alloc)?;
-    store_all(&mut memory, 16, &ROLLED_BACK)?;
-    Some(memory)
+    store_all(memory, blocks, &SUPERBLOCK)?;
+    store_all(memory, blocks, &JOURNALS)?;
+    store_all(memory, blocks, &SLOTS)?;
+    store_logs(memory, blocks)
 }
 
-fn store_names(memory: &mut MemRegion) -> Option<()>
-    requires { HasBlocks memory.old.region 64 }
+fn store_logs(memory: &mut MemRegion, blocks: u64) -> Option<()>
+    requires many { 16 ≤ blocks }
+    requires blocks { HasBlocks memory.old.region blocks }
+    ensures { HasBlocks memory.new.region blocks }
 {
-    store_all(memory, 64, &NAMES_SUPERBLOCK)?;
-    store_all(memory, 64, &NAMES_SLOTS)?;
-    store_all(memory, 64, &NAMES_LOGS)
+    store_all(memory, blocks, &DIRECTORIES)?;
+    store_all(memory, blocks, &FILES)
 }
 
-fn names_region(alloc: Global) -> Option<MemRegion> {
-    let mut memory = MemRegion::new(alloc, 64).ok()?;
-    store_names(&mut memory)?;
-    Some(memory)
+fn store_names(memory: &mut MemRegion, blocks: u64) -> Option<()>
+    requires many { 16 ≤ blocks }
+    requires blocks { HasBlocks memory.old.region blocks }
+    ensures { HasBlocks memory.new.region blocks }
+{
+    store_all(memory, blocks, &NAMES_SUPERBLOCK)?;
+    store_all(memory, blocks, &NAMES_SLOTS)?;
+    store_all(memory, blocks, &NAMES_LOGS)
 }
 
 fn store_all(memory: &mut MemRegion, blocks: u64, words: &[(u64, u64)]) -> Option<()>

@@ -73,6 +73,12 @@ fn claims_of(map: ClaimMap, one: ClaimSeat, other: ClaimSeat) -> Result<usize, A
     Ok(map.close(both).claims.len())
 }
 
+fn seat_of(worker: WorkerResult) -> ClaimSeat
+    ensures { result ≡ worker.seat }
+{
+    worker.seat
+}
+
 /// Lets two workers scan the region, one behind the other, and joins their seats, also that of one that was refused memory.
 pub(crate) fn work_in_turn(alloc: Global, memory: &MemRegion) -> Result<Work, AllocError>
     requires { HasBlocks memory.now.region 16 }
@@ -81,9 +87,10 @@ pub(crate) fn work_in_turn(alloc: Global, memory: &MemRegion) -> Result<Work, Al
     let one = worker(alloc, memory, &STOPPED, &map, one, &NoGate);
     let two = worker(alloc, memory, &STOPPED, &map, two, &NoGate);
     let (refused, whole) = given_apart(&one, &two);
+    let claims = claims_of(map, seat_of(one), seat_of(two))?;
     Ok(Work {
         refused,
         whole,
-        claims: claims_of(map, one.seat, two.seat)?,
+        claims,
     })
 }

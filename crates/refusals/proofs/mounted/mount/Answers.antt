@@ -8,10 +8,10 @@ use Rattle.refusals.proofs.mounted.mount.Goals as goal
 
 pub open-requires-clause-outcome : goal.open-requires-clause-outcome
 open-requires-clause-outcome c =
-    subst (λ (R : Region). IsOutcome R (lasting_outcome (outcome_of c.in_ok-recovered.recovered))) (sym c.in_ok-recovered.ensures.undone)
-    (c.rolled_back_outcome.ensures.outcome c.args.memory.region (outcome_of c.in_ok-recovered.recovered) c.in_ok-recovered.ensures.ok)
+    subst (λ (R : Region). IsOutcome R (lasting_outcome (outcome_of c.in-Ok.recovered))) (sym c.in-Ok.ensures.undone)
+    (c.rolled_back_outcome.ensures.outcome c.args.memory.region (outcome_of c.in-Ok.recovered) c.in-Ok.ensures.ok)
 
 pub open-requires-clause-own : goal.open-requires-clause-own
 open-requires-clause-own c =
-    subst (λ (R : Region). undone c.in_ok-recovered.recovered.sup R ≡ R) (sym c.in_ok-recovered.ensures.undone)
-    (c.rolled_back_outcome.ensures.same c.args.memory.region (outcome_of c.in_ok-recovered.recovered) c.in_ok-recovered.ensures.ok)
+    subst (λ (R : Region). undone c.in-Ok.recovered.sup R ≡ R) (sym c.in-Ok.ensures.undone)
+    (c.rolled_back_outcome.ensures.same c.args.memory.region (outcome_of c.in-Ok.recovered) c.in-Ok.ensures.ok)
