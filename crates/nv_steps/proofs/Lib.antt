@@ -41,6 +41,7 @@ pub mod LinksEntries
 pub mod LinkedAt
 pub mod GivenBlocks
 pub mod CutNames
+pub mod NumbersOwed
 pub mod UnlinkedAt
 pub mod MovedAt
 pub mod MovedRow

@@ -1,4 +1,4 @@
-use Rattle.std.proofs.Common.{◌++◌, ◌∙◌, List, ℕ, ap, arith, refl}
+use Rattle.std.proofs.Common.{◌++◌, ◌∙◌, List, ℕ, ap, arith, refl, inl, inr}
 use Rattle.nv_steps.proofs.CopiedEnd.{copy_resizes}
 use Rattle.nv_steps.proofs.CopyOwed.{copies_as, copy_appends, end_ready, ends_as, from_joins, numbered, to_differs, to_inside}
 use Rattle.nv_steps.proofs.TakenBlocks.{taken_sup}
@@ -41,3 +41,48 @@ returns-in-Ok-copy_end-clause-lists g c = c.give_block.ensures.lists ∙ taken_s
 
 pub returns-clause-lists : goal.returns-clause-lists
 returns-clause-lists g c = taken_sup c.in-Ok.ensures.taken
+
+pub returns-in-Ok-copy_end-clause-settled : goal.returns-in-Ok-copy_end-clause-settled
+returns-in-Ok-copy_end-clause-settled g c = c.in-Ok-copy_end.ensures.settled
+
+pub returns-in-Ok-copy_end-clause-refused : goal.returns-in-Ok-copy_end-clause-refused
+returns-in-Ok-copy_end-clause-refused g c = tt
+
+pub returns-in-Ok-copy_end-clause-unchanged : goal.returns-in-Ok-copy_end-clause-unchanged
+returns-in-Ok-copy_end-clause-unchanged g c = tt
+
+pub returns-in-Ok-copy_end-clause-stopped : goal.returns-in-Ok-copy_end-clause-stopped
+returns-in-Ok-copy_end-clause-stopped g c = tt
+
+pub returns-in-Ok-copy_end-clause-inode : goal.returns-in-Ok-copy_end-clause-inode
+returns-in-Ok-copy_end-clause-inode g c = c.settle_log.ensures.inode
+
+pub returns-in-Ok-copy_end-clause-length : goal.returns-in-Ok-copy_end-clause-length
+returns-in-Ok-copy_end-clause-length g c = c.in-Ok-copy_end.ensures.length
+
+pub returns-in-Ok-copy_end-clause-keeps_fuse : goal.returns-in-Ok-copy_end-clause-keeps_fuse
+returns-in-Ok-copy_end-clause-keeps_fuse g c = c.in-Ok-copy_end.ensures.keeps_fuse
+
+pub returns-clause-resized : goal.returns-clause-resized
+returns-clause-resized g c = tt
+
+pub returns-clause-enough : goal.returns-clause-enough
+returns-clause-enough g c = tt
+
+pub returns-clause-settled : goal.returns-clause-settled
+returns-clause-settled g c = tt
+
+pub returns-clause-refused : goal.returns-clause-refused
+returns-clause-refused g c = inr (inl refl)
+
+pub returns-clause-unchanged : goal.returns-clause-unchanged
+returns-clause-unchanged g c = λ goes_on. absurd (goes_on refl)
+
+pub returns-clause-inode : goal.returns-clause-inode
+returns-clause-inode g c = refl
+
+pub returns-clause-length : goal.returns-clause-length
+returns-clause-length g c = c.copy_end.ensures.length
+
+pub returns-clause-keeps_fuse : goal.returns-clause-keeps_fuse
+returns-clause-keeps_fuse g c = c.copy_end.ensures.keeps_fuse

@@ -1,4 +1,12 @@
-use Rattle.std.proofs.Common.{◌∙◌, ◌+◌, ◌<◌, ◌≤◌, ℕ, List, ap, drop, length, subst, sym, take, vec_capacity, vec_len}
+use Rattle.std.proofs.Common.{◌∙◌, ◌+◌, ◌<◌, ◌≤◌, ℕ, List, ap, drop, length, subst, sym, take, vec_capacity, vec_len, ◌≡◌, ◌%◌, refl, inl, inr, IsTrue}
+use Rattle.std.proofs.lemmas.Result.{err_from_is_err_and}
+use Rattle.nv_logpage.specs.Append.{needed}
+use Rattle.nv_held.specs.nv_outcome.Same.{SameRow}
+use Rattle.nv_held.proofs.BytesKept.{mixed_size}
+use Rattle.nv_tree.specs.declared.refusal.Refusal.{Refusal}
+use Rattle.nv_tree.specs.declared.refusal.Refusal.TheVariants.{Stopped}
+use Rattle.nv_tree.proofs.Replies.{refused_by}
+use Rattle.nv_steps.specs.Steps.{LeavesStep, RefusesStep}
 use Rattle.nv_names.specs.Names.{Names}
 use Rattle.nv_region.proofs.Fuses.{keeps_within}
 use Rattle.nv_super.specs.declared.superblock.Super.{Super}
@@ -81,3 +89,88 @@ returns-clause-room g c =
     let ready = c.in_ok-blocks.ensures.other_ready in
     let grown = c.settle_log-2.ensures in
     subst (λ (names : Names). c.args.second.now.names ≤ names.room) (sym grown.names) ready.names_room
+
+pub prepare_logs-requires-clause-one : goal.prepare_logs-requires-clause-one
+prepare_logs-requires-clause-one g c = c.requires.given.1
+
+pub prepare_logs-requires-clause-other_one : goal.prepare_logs-requires-clause-other_one
+prepare_logs-requires-clause-other_one g c = c.requires.more_given.1
+
+pub returns-in_err-blocks-clause-refused : goal.returns-in_err-blocks-clause-refused
+returns-in_err-blocks-clause-refused g c = 
+    let w = err_from_is_err_and c.from_residual.result c.from_residual.ensures.1 in
+    refused_by c.from_residual.result c.in_err-blocks.field-0.0 w.0 (λ (e : Refusal). RefusesStep e (needed (c.args.row.now.tail % 4096) c.args.first.now.entries.now + needed (c.args.other.now.tail % 4096) c.args.second.now.entries.now) c.args.free.now) w.1 w.2 c.in_err-blocks.ensures.refused
+
+pub returns-in_err-blocks-clause-unchanged : goal.returns-in_err-blocks-clause-unchanged
+returns-in_err-blocks-clause-unchanged g c = 
+    let w = err_from_is_err_and c.from_residual.result c.from_residual.ensures.1 in
+    refused_by c.from_residual.result c.in_err-blocks.field-0.0 w.0 (λ (e : Refusal). (e ≡ Stopped → ⊥) → LeavesStep c.args.memory.now c.args.memory.now c.args.free.now c.prepare_logs.new.free c.args.row.now c.prepare_logs.new.row × SameRow c.args.other.now c.prepare_logs.new.other) w.1 w.2
+    (λ _. (record { memory = refl; free = c.in_err-blocks.ensures.unchanged; row = c.in_err-blocks.ensures.row }, c.in_err-blocks.ensures.other))
+
+pub returns-in_err-blocks-clause-stopped : goal.returns-in_err-blocks-clause-stopped
+returns-in_err-blocks-clause-stopped g c = 
+    let w = err_from_is_err_and c.from_residual.result c.from_residual.ensures.1 in
+    refused_by c.from_residual.result c.in_err-blocks.field-0.0 w.0 (λ (e : Refusal). e ≡ Stopped → IsTrue (g.P.Pmem.fuse c.args.memory.now).has_burnt) w.1 w.2 (λ is. absurd (c.in_err-blocks.ensures.goes_on is))
+
+pub returns-in_err-blocks-clause-inode : goal.returns-in_err-blocks-clause-inode
+returns-in_err-blocks-clause-inode g c = c.in_err-blocks.ensures.row.inode
+
+pub returns-in_err-blocks-clause-other_inode : goal.returns-in_err-blocks-clause-other_inode
+returns-in_err-blocks-clause-other_inode g c = c.in_err-blocks.ensures.other.inode
+
+pub returns-in_err-blocks-clause-lists : goal.returns-in_err-blocks-clause-lists
+returns-in_err-blocks-clause-lists g c = c.in_err-blocks.ensures.unchanged.sup
+
+pub returns-in_err-blocks-clause-length : goal.returns-in_err-blocks-clause-length
+returns-in_err-blocks-clause-length g c = refl
+
+pub returns-in_default-clause-appended : goal.returns-in_default-clause-appended
+returns-in_default-clause-appended g c = tt
+
+pub returns-in_default-clause-room : goal.returns-in_default-clause-room
+returns-in_default-clause-room g c = tt
+
+pub returns-in_default-clause-enough : goal.returns-in_default-clause-enough
+returns-in_default-clause-enough g c = tt
+
+pub returns-in_default-clause-settled : goal.returns-in_default-clause-settled
+returns-in_default-clause-settled g c = tt
+
+pub returns-in_default-clause-refused : goal.returns-in_default-clause-refused
+returns-in_default-clause-refused g c = inr (inl refl)
+
+pub returns-in_default-clause-unchanged : goal.returns-in_default-clause-unchanged
+returns-in_default-clause-unchanged g c = λ goes_on. absurd (goes_on refl)
+
+pub returns-in_default-clause-inode : goal.returns-in_default-clause-inode
+returns-in_default-clause-inode g c = c.in_ok-blocks.ensures.row.inode
+
+pub returns-in_default-clause-other_inode : goal.returns-in_default-clause-other_inode
+returns-in_default-clause-other_inode g c = c.in_ok-blocks.ensures.other.inode
+
+pub returns-in_default-clause-length : goal.returns-in_default-clause-length
+returns-in_default-clause-length g c = mixed_size c.extend_two.ensures.wrote.mixed
+
+pub returns-clause-enough : goal.returns-clause-enough
+returns-clause-enough g c = c.in_ok-blocks.ensures.enough
+
+pub returns-clause-settled : goal.returns-clause-settled
+returns-clause-settled g c = c.in-Ok.ensures.settled
+
+pub returns-clause-refused : goal.returns-clause-refused
+returns-clause-refused g c = tt
+
+pub returns-clause-unchanged : goal.returns-clause-unchanged
+returns-clause-unchanged g c = tt
+
+pub returns-clause-stopped : goal.returns-clause-stopped
+returns-clause-stopped g c = tt
+
+pub returns-clause-inode : goal.returns-clause-inode
+returns-clause-inode g c = c.settle_log.ensures.inode ∙ c.in_ok-blocks.ensures.row.inode
+
+pub returns-clause-other_inode : goal.returns-clause-other_inode
+returns-clause-other_inode g c = c.settle_log-2.ensures.inode ∙ c.in_ok-blocks.ensures.other.inode
+
+pub returns-clause-length : goal.returns-clause-length
+returns-clause-length g c = mixed_size c.extend_two.ensures.wrote.mixed

@@ -1,13 +1,77 @@
-use Rattle.std.proofs.Common.{◌≡◌, ◌+◌, ◌%◌, ◌∙◌, ◌∷◌, [], List, ℕ, ap, drop, get_or, length, refl}
+use Rattle.std.proofs.Common.{◌≡◌, ◌+◌, ◌-◌, ◌%◌, ◌<◌, ◌≤◌, ◌∙◌, ◌∷◌, [], List, ℕ, ap, arith, drop, get_or, inl, inr, length, refl, subst, sym, take, Result, Err, IfOk, OnOk, IsTrue}
+use Rattle.std.proofs.lemmas.Result.{err_from_is_err_and}
 use Rattle.nv_region.proofs.Fuses.{keeps_within}
+use Rattle.nv_super.specs.declared.superblock.Super.{Super}
+use Rattle.nv_super.specs.Layout.{inode_limit}
+use Rattle.nv_alloc.specs.Taking.{all_blocks}
 use Rattle.nv_entry.specs.declared.entry.Entry.{Entry}
 use Rattle.nv_entry.specs.declared.entry.Operation.TheVariants.{Add}
 use Rattle.nv_entry.specs.Spelling.{entry_length}
 use Rattle.nv_logpage.specs.Append.{end_of, needed}
 use Rattle.nv_held.proofs.BytesKept.{mixed_size}
+use Rattle.nv_tree.specs.declared.refusal.Refusal.{Refusal}
+use Rattle.nv_tree.specs.declared.refusal.Refusal.TheVariants.{Stopped}
+use Rattle.nv_tree.proofs.Replies.{refused_by}
 use Rattle.nv_steps.specs.NameEntries.{name_entries}
+use Rattle.nv_steps.specs.Steps.{LeavesStep, RefusesStep}
+use Rattle.nv_steps.proofs.AppendedLogs.{needed_one}
 use Rattle.nv_steps.proofs.MadeNamed.{all_others, begins, commits, first_is, first_taken, makes_named, makes_within, place_is}
+use Rattle.nv_steps.proofs.NumbersOwed.{ends_behind, first_alone, has_one, number_below, others_fit}
+use Rattle.nv_steps.proofs.TakenBlocks.{taken_sup}
 use Rattle.nv_steps.proofs.making.make_named.Goals as goal
+
+pub name_entry-requires : goal.name_entry-requires
+name_entry-requires g c = c.requires.name
+
+pub prepare_name-requires-clause-cpu : goal.prepare_name-requires-clause-cpu
+prepare_name-requires-clause-cpu g c = subst (λ (s : Super). c.args.cpu < s.cpus) (sym c.requires.stands.lists) c.requires.can.cpu_below
+
+pub prepare_name-requires-clause-few : goal.prepare_name-requires-clause-few
+prepare_name-requires-clause-few g c = needed_one (c.args.directory.now.tail % 4096) (c.name_entry.result ∷ []) refl
+
+pub returns-in_err-blocks-clause-refused : goal.returns-in_err-blocks-clause-refused
+returns-in_err-blocks-clause-refused g c = 
+    let w = err_from_is_err_and c.from_residual.result c.from_residual.ensures.1 in
+    refused_by c.from_residual.result c.in_err-blocks.field-0.0 w.0 (λ (e : Refusal). RefusesStep e (1 + needed (c.args.directory.now.tail % 4096) (name_entries Add c.args.new.now.inode c.args.new.now.name.now c.args.new.now.time)) c.args.free.now) w.1 w.2
+    (subst (λ (x : Entry). RefusesStep c.in_err-blocks.field-0.0 (1 + needed (c.args.directory.now.tail % 4096) (x ∷ [])) c.args.free.now) c.name_entry.ensures c.in_err-blocks.ensures.refused)
+
+pub returns-in_err-blocks-clause-unchanged : goal.returns-in_err-blocks-clause-unchanged
+returns-in_err-blocks-clause-unchanged g c = 
+    let w = err_from_is_err_and c.from_residual.result c.from_residual.ensures.1 in
+    refused_by c.from_residual.result c.in_err-blocks.field-0.0 w.0 (λ (e : Refusal). (e ≡ Stopped → ⊥) → LeavesStep c.args.memory.now c.args.memory.now c.args.free.now c.prepare_name.new.free c.args.directory.now c.prepare_name.new.directory) w.1 w.2
+    (λ _. record { memory = refl; free = c.in_err-blocks.ensures.unchanged; row = c.in_err-blocks.ensures.row })
+
+pub returns-in_err-blocks-clause-stopped : goal.returns-in_err-blocks-clause-stopped
+returns-in_err-blocks-clause-stopped g c = 
+    let w = err_from_is_err_and c.from_residual.result c.from_residual.ensures.1 in
+    refused_by c.from_residual.result c.in_err-blocks.field-0.0 w.0 (λ (e : Refusal). e ≡ Stopped → IsTrue (g.P.Pmem.fuse c.args.memory.now).has_burnt) w.1 w.2 (λ is. absurd (c.in_err-blocks.ensures.goes_on is))
+
+pub returns-in_err-blocks-clause-inode : goal.returns-in_err-blocks-clause-inode
+returns-in_err-blocks-clause-inode g c = c.in_err-blocks.ensures.row.inode
+
+pub returns-in_err-blocks-clause-lists : goal.returns-in_err-blocks-clause-lists
+returns-in_err-blocks-clause-lists g c = c.in_err-blocks.ensures.unchanged.sup
+
+pub returns-in_err-blocks-clause-length : goal.returns-in_err-blocks-clause-length
+returns-in_err-blocks-clause-length g c = refl
+
+pub slot_address-requires-clause-layout : goal.slot_address-requires-clause-layout
+slot_address-requires-clause-layout g c = c.requires.stands.layout
+
+pub slot_address-requires-clause-inode : goal.slot_address-requires-clause-inode
+slot_address-requires-clause-inode g c = number_below c.args.sup.now c.args.new.now.inode c.requires.can.number
+
+pub slot_address-requires-2-clause-layout : goal.slot_address-requires-2-clause-layout
+slot_address-requires-2-clause-layout g c = c.requires.stands.layout
+
+pub slot_address-requires-2-clause-inode : goal.slot_address-requires-2-clause-inode
+slot_address-requires-2-clause-inode g c = subst (λ (i : ℕ). i < inode_limit c.args.sup.now) (sym c.in_ok-blocks.ensures.row.inode) c.requires.stands.number
+
+pub slice_bounds-parent-count : goal.slice_bounds-parent-count
+slice_bounds-parent-count g c = subst (λ (xs : List ℕ). 1 ≤ length xs) (sym c.deref.ensures.value) (has_one c.in_ok-blocks.blocks.items _ c.in_ok-blocks.ensures.count)
+
+pub make_inode-requires-clause-empty : goal.make_inode-requires-clause-empty
+make_inode-requires-clause-empty g c = c.requires.can.journal_empty
 
 pub make_inode-requires-clause-inode : goal.make_inode-requires-clause-inode
 make_inode-requires-clause-inode g c =
@@ -19,6 +83,27 @@ make_inode-requires-clause-directory g c =
     let count : length c.in_ok-blocks.blocks.items ≡ 1 + needed (c.args.directory.now.tail % 4096) (name_entries Add c.args.new.now.inode c.args.new.now.name.now c.args.new.now.time) = c.in_ok-blocks.ensures.count ∙ ap (λ (e : Entry). 1 + needed (c.args.directory.now.tail % 4096) (e ∷ [])) c.name_entry.ensures in
     commits c.requires.stands c.requires.can c.in_ok-blocks.ensures.taken c.args.new.now.name.now c.args.new.now.time count c.in_ok-blocks.ensures.row _ c.slot_address-2.ensures refl (ap (λ (e : Entry). e ∷ []) c.name_entry.ensures)
     (all_others c.deref.result.now (length c.deref.result.now) refl ∙ ap (drop 1) c.deref.ensures.value)
+
+pub returns-in_default-clause-made : goal.returns-in_default-clause-made
+returns-in_default-clause-made g c = tt
+
+pub returns-in_default-clause-enough : goal.returns-in_default-clause-enough
+returns-in_default-clause-enough g c = tt
+
+pub returns-in_default-clause-settled : goal.returns-in_default-clause-settled
+returns-in_default-clause-settled g c = tt
+
+pub returns-in_default-clause-refused : goal.returns-in_default-clause-refused
+returns-in_default-clause-refused g c = inr (inl refl)
+
+pub returns-in_default-clause-unchanged : goal.returns-in_default-clause-unchanged
+returns-in_default-clause-unchanged g c = λ goes_on. absurd (goes_on refl)
+
+pub returns-in_default-clause-inode : goal.returns-in_default-clause-inode
+returns-in_default-clause-inode g c = c.in_ok-blocks.ensures.row.inode
+
+pub returns-in_default-clause-lists : goal.returns-in_default-clause-lists
+returns-in_default-clause-lists g c = taken_sup c.in_ok-blocks.ensures.taken
 
 pub returns-in_default-clause-keeps_fuse : goal.returns-in_default-clause-keeps_fuse
 returns-in_default-clause-keeps_fuse g c =
@@ -50,3 +135,42 @@ returns-in_default-clause-length g c = mixed_size c.make_inode.ensures.wrote.mix
 
 pub returns-clause-length : goal.returns-clause-length
 returns-clause-length g c = mixed_size c.make_inode.ensures.wrote.mixed
+
+pub slice_bounds-settle_name-count : goal.slice_bounds-settle_name-count
+slice_bounds-settle_name-count g c = subst (λ (xs : List ℕ). 1 ≤ length xs) (sym c.deref-2.ensures.value) (has_one c.in_ok-blocks.blocks.items _ c.in_ok-blocks.ensures.count)
+
+pub overflow_sub-end : goal.overflow_sub-end
+overflow_sub-end g c = ends_behind c.in-Ok.end c.length.result (take (length c.deref.result.now - 1) (drop 1 c.deref.result.now)) c.prepare_name.new.directory.tail c.name_entry.result c.in-Ok.ensures.ends.1 c.length.ensures.value
+
+pub settle_name-requires-clause-pages : goal.settle_name-requires-clause-pages
+settle_name-requires-clause-pages g c = others_fit _ _ c.in_ok-blocks.blocks.items _ (all_others c.deref-2.result.now (length c.deref-2.result.now) refl ∙ ap (drop 1) c.deref-2.ensures.value) c.in_ok-blocks.ensures.room
+
+pub settle_name-requires-clause-names : goal.settle_name-requires-clause-names
+settle_name-requires-clause-names g c = c.in_ok-blocks.ensures.names_room
+
+pub settle_name-requires-clause-name : goal.settle_name-requires-clause-name
+settle_name-requires-clause-name g c = c.requires.name
+
+pub new_row-requires-clause-page : goal.new_row-requires-clause-page
+new_row-requires-clause-page g c = ap length c.truncate.ensures.items ∙ first_alone c.in_ok-blocks.blocks.items _ c.in_ok-blocks.ensures.count
+
+pub returns-clause-enough : goal.returns-clause-enough
+returns-clause-enough g c = subst (λ (x : Entry). 1 + needed (c.args.directory.now.tail % 4096) (x ∷ []) ≤ all_blocks c.args.free.now.pools) c.name_entry.ensures c.in_ok-blocks.ensures.enough
+
+pub returns-clause-settled : goal.returns-clause-settled
+returns-clause-settled g c = c.in-Ok.ensures.settled
+
+pub returns-clause-refused : goal.returns-clause-refused
+returns-clause-refused g c = tt
+
+pub returns-clause-unchanged : goal.returns-clause-unchanged
+returns-clause-unchanged g c = tt
+
+pub returns-clause-stopped : goal.returns-clause-stopped
+returns-clause-stopped g c = tt
+
+pub returns-clause-inode : goal.returns-clause-inode
+returns-clause-inode g c = c.settle_name.ensures.row.inode ∙ c.in_ok-blocks.ensures.row.inode
+
+pub returns-clause-lists : goal.returns-clause-lists
+returns-clause-lists g c = taken_sup c.in_ok-blocks.ensures.taken

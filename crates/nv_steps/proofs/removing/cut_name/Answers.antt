@@ -1,11 +1,139 @@
-use Rattle.std.proofs.Common.{◌≡◌, ◌%◌, ◌∙◌, ◌∷◌, [], ap, arith, length, refl}
+use Rattle.std.proofs.Common.{◌≡◌, ◌+◌, ◌%◌, ◌<◌, ◌≤◌, ◌∙◌, ◌∷◌, [], ℕ, ap, arith, inl, inr, length, refl, subst, sym, IsTrue, List, vec_len, vec_capacity}
+use Rattle.std.proofs.lemmas.Result.{err_from_is_err_and}
+use Rattle.nv_region.specs.Region.{size}
 use Rattle.nv_region.proofs.Fuses.{keeps_within}
+use Rattle.nv_super.specs.declared.superblock.Super.{Super}
+use Rattle.nv_super.specs.Layout.{inode_limit}
+use Rattle.nv_journal.specs.Undo.{journal}
+use Rattle.nv_alloc.specs.Taking.{all_blocks}
 use Rattle.nv_entry.specs.declared.entry.Entry.{Entry}
 use Rattle.nv_entry.specs.declared.entry.Operation.TheVariants.{Remove}
 use Rattle.nv_logpage.specs.Append.{needed}
+use Rattle.nv_held.proofs.BytesKept.{mixed_size}
+use Rattle.nv_tree.specs.declared.refusal.Refusal.{Refusal}
+use Rattle.nv_tree.specs.declared.refusal.Refusal.TheVariants.{Stopped}
+use Rattle.nv_tree.proofs.Replies.{refused_by}
 use Rattle.nv_steps.specs.NameEntries.{name_entries}
-use Rattle.nv_steps.proofs.CutNames.{commits, cuts_name, cuts_within, slot_inside}
+use Rattle.nv_steps.specs.Steps.{LeavesStep, RefusesStep}
+use Rattle.nv_steps.proofs.CutNames.{commits, cuts_name, cuts_within, slot_behind, slot_inside, slot_whole}
+use Rattle.nv_steps.proofs.NumbersOwed.{number_below}
+use Rattle.nv_steps.proofs.TakenBlocks.{taken_sup}
 use Rattle.nv_steps.proofs.removing.cut_name.Goals as goal
+
+pub name_entry-requires : goal.name_entry-requires
+name_entry-requires g c = c.requires.name
+
+pub prepare_cut-requires : goal.prepare_cut-requires
+prepare_cut-requires g c = record { cpu = subst (λ (s : Super). c.args.cpu < s.cpus) (sym c.requires.stands.lists) c.requires.can.cpu_below }
+
+pub returns-in_err-fresh-clause-refused : goal.returns-in_err-fresh-clause-refused
+returns-in_err-fresh-clause-refused g c = 
+    let w = err_from_is_err_and c.from_residual.result c.from_residual.ensures.1 in
+    refused_by c.from_residual.result c.in_err-fresh.field-0.0 w.0 (λ (e : Refusal). RefusesStep e (needed (c.args.directory.now.tail % 4096) (name_entries Remove c.args.gone.now.inode c.args.gone.now.name.now c.args.gone.now.time)) c.args.free.now) w.1 w.2
+    (subst (λ (x : Entry). RefusesStep c.in_err-fresh.field-0.0 (needed (c.args.directory.now.tail % 4096) (x ∷ [])) c.args.free.now) c.name_entry.ensures c.in_err-fresh.ensures.refused)
+
+pub returns-in_err-fresh-clause-unchanged : goal.returns-in_err-fresh-clause-unchanged
+returns-in_err-fresh-clause-unchanged g c = 
+    let w = err_from_is_err_and c.from_residual.result c.from_residual.ensures.1 in
+    refused_by c.from_residual.result c.in_err-fresh.field-0.0 w.0 (λ (e : Refusal). (e ≡ Stopped → ⊥) → LeavesStep c.args.memory.now c.args.memory.now c.args.free.now c.prepare_cut.new.free c.args.directory.now c.prepare_cut.new.directory) w.1 w.2
+    (λ _. record { memory = refl; free = c.in_err-fresh.ensures.unchanged; row = c.in_err-fresh.ensures.row })
+
+pub returns-in_err-fresh-clause-stopped : goal.returns-in_err-fresh-clause-stopped
+returns-in_err-fresh-clause-stopped g c = 
+    let w = err_from_is_err_and c.from_residual.result c.from_residual.ensures.1 in
+    refused_by c.from_residual.result c.in_err-fresh.field-0.0 w.0 (λ (e : Refusal). e ≡ Stopped → IsTrue (g.P.Pmem.fuse c.args.memory.now).has_burnt) w.1 w.2 (λ is. absurd (c.in_err-fresh.ensures.goes_on is))
+
+pub returns-in_err-fresh-clause-inode : goal.returns-in_err-fresh-clause-inode
+returns-in_err-fresh-clause-inode g c = c.in_err-fresh.ensures.row.inode
+
+pub returns-in_err-fresh-clause-lists : goal.returns-in_err-fresh-clause-lists
+returns-in_err-fresh-clause-lists g c = c.in_err-fresh.ensures.unchanged.sup
+
+pub returns-in_err-fresh-clause-length : goal.returns-in_err-fresh-clause-length
+returns-in_err-fresh-clause-length g c = refl
+
+pub slot_address-requires-clause-layout : goal.slot_address-requires-clause-layout
+slot_address-requires-clause-layout g c = c.requires.stands.layout
+
+pub slot_address-requires-clause-inode : goal.slot_address-requires-clause-inode
+slot_address-requires-clause-inode g c = subst (λ (i : ℕ). i < inode_limit c.args.sup.now) (sym c.in_ok-fresh.ensures.row.inode) c.requires.stands.number
+
+pub slot_address-requires-2-clause-layout : goal.slot_address-requires-2-clause-layout
+slot_address-requires-2-clause-layout g c = c.requires.stands.layout
+
+pub slot_address-requires-2-clause-inode : goal.slot_address-requires-2-clause-inode
+slot_address-requires-2-clause-inode g c = number_below c.args.sup.now c.args.gone.now.inode c.requires.can.number
+
+pub remove_inode-requires-clause-empty : goal.remove_inode-requires-clause-empty
+remove_inode-requires-clause-empty g c = c.requires.can.journal_empty
+
+pub remove_inode-requires-clause-whole : goal.remove_inode-requires-clause-whole
+remove_inode-requires-clause-whole g c =
+    let count : length c.in_ok-fresh.fresh.items ≡ needed (c.args.directory.now.tail % 4096) (name_entries Remove c.args.gone.now.inode c.args.gone.now.name.now c.args.gone.now.time) = c.in_ok-fresh.ensures.count ∙ ap (λ (e : Entry). needed (c.args.directory.now.tail % 4096) (e ∷ [])) c.name_entry.ensures in
+    subst (λ (a : ℕ). a % 8 ≡ 0) (sym c.slot_address-2.ensures) (slot_whole c.requires.stands c.requires.can c.in_ok-fresh.ensures.taken c.args.gone.now.name.now c.args.gone.now.time count c.in_ok-fresh.ensures.row)
+
+pub remove_inode-requires-clause-behind : goal.remove_inode-requires-clause-behind
+remove_inode-requires-clause-behind g c =
+    let count : length c.in_ok-fresh.fresh.items ≡ needed (c.args.directory.now.tail % 4096) (name_entries Remove c.args.gone.now.inode c.args.gone.now.name.now c.args.gone.now.time) = c.in_ok-fresh.ensures.count ∙ ap (λ (e : Entry). needed (c.args.directory.now.tail % 4096) (e ∷ [])) c.name_entry.ensures in
+    subst (λ (a : ℕ). journal c.args.cpu + 4096 ≤ a) (sym c.slot_address-2.ensures) (slot_behind c.requires.stands c.requires.can c.in_ok-fresh.ensures.taken c.args.gone.now.name.now c.args.gone.now.time count c.in_ok-fresh.ensures.row)
+
+pub returns-in_default-clause-cut : goal.returns-in_default-clause-cut
+returns-in_default-clause-cut g c = tt
+
+pub returns-in_default-clause-room : goal.returns-in_default-clause-room
+returns-in_default-clause-room g c = tt
+
+pub returns-in_default-clause-enough : goal.returns-in_default-clause-enough
+returns-in_default-clause-enough g c = tt
+
+pub returns-in_default-clause-settled : goal.returns-in_default-clause-settled
+returns-in_default-clause-settled g c = tt
+
+pub returns-in_default-clause-refused : goal.returns-in_default-clause-refused
+returns-in_default-clause-refused g c = inr (inl refl)
+
+pub returns-in_default-clause-unchanged : goal.returns-in_default-clause-unchanged
+returns-in_default-clause-unchanged g c = λ goes_on. absurd (goes_on refl)
+
+pub returns-in_default-clause-inode : goal.returns-in_default-clause-inode
+returns-in_default-clause-inode g c = c.in_ok-fresh.ensures.row.inode
+
+pub returns-in_default-clause-lists : goal.returns-in_default-clause-lists
+returns-in_default-clause-lists g c = taken_sup c.in_ok-fresh.ensures.taken
+
+pub returns-in_default-clause-length : goal.returns-in_default-clause-length
+returns-in_default-clause-length g c = mixed_size c.remove_inode.ensures.wrote.mixed
+
+pub settle_cut-requires : goal.settle_cut-requires
+settle_cut-requires g c = 
+    subst (λ (bs : List ℕ). vec_len c.prepare_cut.new.directory.pages + length bs ≤ vec_capacity c.prepare_cut.new.directory.pages) (sym c.deref-2.ensures.value) c.in_ok-fresh.ensures.pages_room
+
+pub returns-clause-enough : goal.returns-clause-enough
+returns-clause-enough g c = subst (λ (x : Entry). needed (c.args.directory.now.tail % 4096) (x ∷ []) ≤ all_blocks c.args.free.now.pools) c.name_entry.ensures c.in_ok-fresh.ensures.enough
+
+pub returns-clause-room : goal.returns-clause-room
+returns-clause-room g c = c.in_ok-fresh.ensures.room
+
+pub returns-clause-settled : goal.returns-clause-settled
+returns-clause-settled g c = c.in-Ok.ensures.settled
+
+pub returns-clause-refused : goal.returns-clause-refused
+returns-clause-refused g c = tt
+
+pub returns-clause-unchanged : goal.returns-clause-unchanged
+returns-clause-unchanged g c = tt
+
+pub returns-clause-stopped : goal.returns-clause-stopped
+returns-clause-stopped g c = tt
+
+pub returns-clause-inode : goal.returns-clause-inode
+returns-clause-inode g c = c.settle_cut.ensures.row.inode ∙ c.in_ok-fresh.ensures.row.inode
+
+pub returns-clause-lists : goal.returns-clause-lists
+returns-clause-lists g c = taken_sup c.in_ok-fresh.ensures.taken
+
+pub returns-clause-length : goal.returns-clause-length
+returns-clause-length g c = mixed_size c.remove_inode.ensures.wrote.mixed
 
 pub remove_inode-requires-clause-directory : goal.remove_inode-requires-clause-directory
 remove_inode-requires-clause-directory g c =
@@ -15,8 +143,7 @@ remove_inode-requires-clause-directory g c =
 pub remove_inode-requires-clause-inside : goal.remove_inode-requires-clause-inside
 remove_inode-requires-clause-inside g c =
     let count : length c.in_ok-fresh.fresh.items ≡ needed (c.args.directory.now.tail % 4096) (name_entries Remove c.args.gone.now.inode c.args.gone.now.name.now c.args.gone.now.time) = c.in_ok-fresh.ensures.count ∙ ap (λ (e : Entry). needed (c.args.directory.now.tail % 4096) (e ∷ [])) c.name_entry.ensures in
-    let inside = slot_inside c.requires.stands c.requires.can c.in_ok-fresh.ensures.taken c.args.gone.now.name.now c.args.gone.now.time count c.in_ok-fresh.ensures.row in
-    omega (arith, inside, c.slot_address-2.ensures)
+    subst (λ (a : ℕ). a + 8 ≤ size (g.P.Pmem.region c.args.memory.now)) (sym c.slot_address-2.ensures) (slot_inside c.requires.stands c.requires.can c.in_ok-fresh.ensures.taken c.args.gone.now.name.now c.args.gone.now.time count c.in_ok-fresh.ensures.row)
 
 pub returns-in_default-clause-keeps_fuse : goal.returns-in_default-clause-keeps_fuse
 returns-in_default-clause-keeps_fuse g c =

@@ -1,10 +1,17 @@
-use Rattle.std.proofs.Common.{◌∙◌, ◌∷◌, [], ap, refl, subst}
+use Rattle.std.proofs.Common.{◌∙◌, ◌∷◌, [], ap, refl, subst, ◌≡◌, ◌≤◌, ◌%◌, sym, IsTrue}
+use Rattle.std.proofs.lemmas.Result.{err_from_is_err_and}
+use Rattle.nv_alloc.specs.Taking.{all_blocks}
+use Rattle.nv_logpage.specs.Append.{AreGiven, needed}
+use Rattle.nv_tree.specs.declared.refusal.Refusal.{Refusal}
+use Rattle.nv_tree.specs.declared.refusal.Refusal.TheVariants.{Stopped}
+use Rattle.nv_tree.proofs.Replies.{refused_by}
+use Rattle.nv_steps.specs.Moves.{move_entries}
 use Rattle.nv_entry.specs.declared.entry.Entry.{Entry}
 use Rattle.nv_entry.specs.declared.entry.Entry.TheVariants.{Name}
 use Rattle.nv_entry.specs.declared.entry.Operation.TheVariants.{Remove}
 use Rattle.nv_entry.specs.Spelling.{entry_length}
 use Rattle.nv_held.specs.nv_outcome.Same.{SameRow}
-use Rattle.nv_steps.specs.Steps.{AppendsLog}
+use Rattle.nv_steps.specs.Steps.{AppendsLog, RefusesStep}
 use Rattle.nv_steps.proofs.MovedRow.{moves_within}
 use Rattle.nv_steps.proofs.renaming.move_within.Goals as goal
 
@@ -23,3 +30,72 @@ returns-clause-moved g c =
     let one = subst (λ (x : Entry). AppendsLog (g.P.Pmem.region c.args.memory.now) (g.P.Pmem.region c.append_log.new.memory) c.args.sup.now c.args.free.now c.append_log.new.free (record c.args.directory.now { names = c.reserve.new.self }) c.append_log.new.row (x ∷ c.name_entry-2.result ∷ [])) c.name_entry.ensures c.in_ok-append_log.ensures.appended in
     let both = subst (λ (x : Entry). AppendsLog (g.P.Pmem.region c.args.memory.now) (g.P.Pmem.region c.append_log.new.memory) c.args.sup.now c.args.free.now c.append_log.new.free (record c.args.directory.now { names = c.reserve.new.self }) c.append_log.new.row (Name (record { operation = Remove; inode = c.args.moved.now.inode; time = c.args.moved.now.time; name = c.args.moved.now.name.now }) ∷ x ∷ [])) c.name_entry-2.ensures one in
     moves_within c.args.moved.now.inode c.args.moved.now.name.now c.args.moved.now.other.now c.args.moved.now.time same both c.length.result (c.length.ensures.value ∙ ap entry_length c.name_entry-2.ensures) c.remove_name.ensures.row c.remove_name.ensures.once c.add_name.ensures.row c.add_name.ensures.once c.len-names.ensures.each_once
+
+pub name_entry-requires : goal.name_entry-requires
+name_entry-requires g c = c.requires.name
+
+pub name_entry-requires-2 : goal.name_entry-requires-2
+name_entry-requires-2 g c = c.requires.other
+
+pub append_log-requires-clause-cpu : goal.append_log-requires-clause-cpu
+append_log-requires-clause-cpu g c = c.requires.cpu
+
+pub append_log-requires-clause-stands : goal.append_log-requires-clause-stands
+append_log-requires-clause-stands g c = record { layout = c.requires.stands.layout; lists = c.requires.stands.lists; number = c.requires.stands.number; whole = c.requires.stands.whole; inside = c.requires.stands.inside; aligned = c.requires.stands.aligned; offset = c.requires.stands.offset; blocks = c.requires.stands.blocks; in_blocks = c.requires.stands.in_blocks; used = c.requires.stands.used; }
+
+pub append_log-requires-clause-given : goal.append_log-requires-clause-given
+append_log-requires-clause-given g c = 
+    subst (λ (x : Entry). AreGiven (x ∷ c.name_entry-2.result ∷ [])) (sym c.name_entry.ensures) (subst (λ (x : Entry). AreGiven (Name (record { operation = Remove; inode = c.args.moved.now.inode; time = c.args.moved.now.time; name = c.args.moved.now.name.now }) ∷ x ∷ [])) (sym c.name_entry-2.ensures) (refl, (refl, tt)))
+
+pub returns-in_err-append_log-clause-refused : goal.returns-in_err-append_log-clause-refused
+returns-in_err-append_log-clause-refused g c = 
+    let w = err_from_is_err_and c.from_residual.result c.from_residual.ensures.1 in
+    refused_by c.from_residual.result c.in_err-append_log.field-0.0 w.0 (λ (e : Refusal). RefusesStep e (needed (c.args.directory.now.tail % 4096) (move_entries c.args.moved.now.inode c.args.moved.now.name.now c.args.moved.now.other.now c.args.moved.now.time)) c.args.free.now) w.1 w.2
+    (subst (λ (x : Entry). RefusesStep c.in_err-append_log.field-0.0 (needed (c.args.directory.now.tail % 4096) (Name (record { operation = Remove; inode = c.args.moved.now.inode; time = c.args.moved.now.time; name = c.args.moved.now.name.now }) ∷ x ∷ [])) c.args.free.now) c.name_entry-2.ensures
+    (subst (λ (x : Entry). RefusesStep c.in_err-append_log.field-0.0 (needed (c.args.directory.now.tail % 4096) (x ∷ c.name_entry-2.result ∷ [])) c.args.free.now) c.name_entry.ensures c.in_err-append_log.ensures.refused))
+
+pub returns-in_err-append_log-clause-stopped : goal.returns-in_err-append_log-clause-stopped
+returns-in_err-append_log-clause-stopped g c = 
+    let w = err_from_is_err_and c.from_residual.result c.from_residual.ensures.1 in
+    refused_by c.from_residual.result c.in_err-append_log.field-0.0 w.0 (λ (e : Refusal). e ≡ Stopped → IsTrue (g.P.Pmem.fuse c.append_log.new.memory).has_burnt) w.1 w.2 c.in_err-append_log.ensures.stopped
+
+pub returns-in_err-append_log-clause-inode : goal.returns-in_err-append_log-clause-inode
+returns-in_err-append_log-clause-inode g c = c.in_err-append_log.ensures.inode
+
+pub returns-in_err-append_log-clause-lists : goal.returns-in_err-append_log-clause-lists
+returns-in_err-append_log-clause-lists g c = c.in_err-append_log.ensures.lists
+
+pub returns-in_err-append_log-clause-length : goal.returns-in_err-append_log-clause-length
+returns-in_err-append_log-clause-length g c = c.in_err-append_log.ensures.length
+
+pub returns-in_err-append_log-clause-keeps_fuse : goal.returns-in_err-append_log-clause-keeps_fuse
+returns-in_err-append_log-clause-keeps_fuse g c = c.in_err-append_log.ensures.keeps_fuse
+
+pub returns-clause-enough : goal.returns-clause-enough
+returns-clause-enough g c = 
+    subst (λ (x : Entry). needed (c.args.directory.now.tail % 4096) (Name (record { operation = Remove; inode = c.args.moved.now.inode; time = c.args.moved.now.time; name = c.args.moved.now.name.now }) ∷ x ∷ []) ≤ all_blocks c.args.free.now.pools) c.name_entry-2.ensures
+    (subst (λ (x : Entry). needed (c.args.directory.now.tail % 4096) (x ∷ c.name_entry-2.result ∷ []) ≤ all_blocks c.args.free.now.pools) c.name_entry.ensures c.in_ok-append_log.ensures.enough)
+
+pub returns-clause-settled : goal.returns-clause-settled
+returns-clause-settled g c = c.in_ok-append_log.ensures.settled
+
+pub returns-clause-refused : goal.returns-clause-refused
+returns-clause-refused g c = tt
+
+pub returns-clause-unchanged : goal.returns-clause-unchanged
+returns-clause-unchanged g c = tt
+
+pub returns-clause-stopped : goal.returns-clause-stopped
+returns-clause-stopped g c = tt
+
+pub returns-clause-inode : goal.returns-clause-inode
+returns-clause-inode g c = c.add_name.ensures.row.rest.inode ∙ c.remove_name.ensures.row.rest.inode ∙ c.in_ok-append_log.ensures.inode
+
+pub returns-clause-lists : goal.returns-clause-lists
+returns-clause-lists g c = c.in_ok-append_log.ensures.lists
+
+pub returns-clause-length : goal.returns-clause-length
+returns-clause-length g c = c.in_ok-append_log.ensures.length
+
+pub returns-clause-keeps_fuse : goal.returns-clause-keeps_fuse
+returns-clause-keeps_fuse g c = c.in_ok-append_log.ensures.keeps_fuse

@@ -1,4 +1,9 @@
-use Rattle.std.proofs.Common.{refl}
+use Rattle.std.proofs.Common.{refl, ◌≡◌, ◌<◌, subst, sym, IsTrue}
+use Rattle.std.proofs.lemmas.Result.{err_from_is_err_and}
+use Rattle.nv_super.specs.declared.superblock.Super.{Super}
+use Rattle.nv_tree.specs.declared.refusal.Refusal.{Refusal}
+use Rattle.nv_tree.specs.declared.refusal.Refusal.TheVariants.{Stopped}
+use Rattle.nv_tree.proofs.Replies.{refused_by}
 use Rattle.nv_steps.proofs.CopyOwed.{numbered}
 use Rattle.nv_steps.proofs.CutFile.{cut_as, cut_resizes, gives_as, own_grown, stands_with}
 use Rattle.nv_steps.proofs.resizing.resize_in_place.Goals as goal
@@ -14,3 +19,44 @@ returns-clause-resized g c =
     let same = c.reserve.ensures.same in
     cut_resizes c.args.attributes c.requires.can c.requires.stays (record { sup = same.sup; pools = same.pools }) c.in_ok-append_log.ensures.appended (gives_as c.div_ceil-first.ensures c.div_ceil-end.ensures c.give_pages.ensures.given)
     (record { has = numbered c.numbers_with-row.ensures; head = refl; tail = refl; pages = refl }) (cut_as c.append_log.new.row.index c.cut.new.self c.div_ceil-first.ensures c.cut.ensures.blocks)
+
+pub append_log-requires-clause-cpu : goal.append_log-requires-clause-cpu
+append_log-requires-clause-cpu g c = let same = c.reserve.ensures.same in subst (λ (s : Super). c.args.cpu < s.cpus) (sym same.sup) c.requires.cpu
+
+pub append_log-requires-clause-given : goal.append_log-requires-clause-given
+append_log-requires-clause-given g c = (refl, tt)
+
+pub returns-in_err-append_log-clause-stopped : goal.returns-in_err-append_log-clause-stopped
+returns-in_err-append_log-clause-stopped g c = 
+    let w = err_from_is_err_and c.from_residual.result c.from_residual.ensures.1 in
+    refused_by c.from_residual.result c.in_err-append_log.field-0.0 w.0 (λ (e : Refusal). e ≡ Stopped → IsTrue (g.P.Pmem.fuse c.append_log.new.memory).has_burnt) w.1 w.2 c.in_err-append_log.ensures.stopped
+
+pub returns-in_err-append_log-clause-inode : goal.returns-in_err-append_log-clause-inode
+returns-in_err-append_log-clause-inode g c = c.in_err-append_log.ensures.inode
+
+pub returns-in_err-append_log-clause-length : goal.returns-in_err-append_log-clause-length
+returns-in_err-append_log-clause-length g c = c.in_err-append_log.ensures.length
+
+pub returns-in_err-append_log-clause-keeps_fuse : goal.returns-in_err-append_log-clause-keeps_fuse
+returns-in_err-append_log-clause-keeps_fuse g c = c.in_err-append_log.ensures.keeps_fuse
+
+pub returns-clause-settled : goal.returns-clause-settled
+returns-clause-settled g c = c.in_ok-append_log.ensures.settled
+
+pub returns-clause-refused : goal.returns-clause-refused
+returns-clause-refused g c = tt
+
+pub returns-clause-unchanged : goal.returns-clause-unchanged
+returns-clause-unchanged g c = tt
+
+pub returns-clause-stopped : goal.returns-clause-stopped
+returns-clause-stopped g c = tt
+
+pub returns-clause-inode : goal.returns-clause-inode
+returns-clause-inode g c = c.in_ok-append_log.ensures.inode
+
+pub returns-clause-length : goal.returns-clause-length
+returns-clause-length g c = c.in_ok-append_log.ensures.length
+
+pub returns-clause-keeps_fuse : goal.returns-clause-keeps_fuse
+returns-clause-keeps_fuse g c = c.in_ok-append_log.ensures.keeps_fuse

@@ -1,12 +1,15 @@
-use Rattle.std.proofs.Common.{◌+◌, ◌-◌, ◌%◌, ◌∷◌, [], refl, subst, arith}
+use Rattle.std.proofs.Common.{◌+◌, ◌-◌, ◌%◌, ◌∷◌, [], refl, subst, arith, ◌∙◌, ◌≡◌, ◌≤◌, length, sym, IsTrue}
 use Rattle.std.proofs.lemmas.Result.{err_from_is_err_and}
 use Rattle.nv_entry.specs.declared.entry.Entry.{Entry}
 use Rattle.nv_entry.specs.declared.entry.Operation.TheVariants.{Remove}
-use Rattle.nv_logpage.specs.Append.{needed}
+use Rattle.nv_logpage.specs.Append.{AreGiven, needed}
+use Rattle.nv_alloc.specs.Taking.{all_blocks}
+use Rattle.nv_held.specs.nv_outcome.Same.{SameRow}
+use Rattle.nv_tree.specs.declared.refusal.Refusal.TheVariants.{Stopped}
 use Rattle.nv_tree.specs.declared.refusal.Refusal.{Refusal}
 use Rattle.nv_steps.specs.NameEntries.{links_entries, name_entries}
 use Rattle.nv_steps.specs.MoreNames.{AppendsLogs}
-use Rattle.nv_steps.specs.Steps.{RefusesStep}
+use Rattle.nv_steps.specs.Steps.{LeavesStep, RefusesStep}
 use Rattle.nv_tree.proofs.Replies.{refused_by}
 use Rattle.nv_steps.proofs.UnlinkedAt.{unlinks_at_places}
 use Rattle.nv_steps.proofs.unlinking.unlink_both.Goals as goal
@@ -23,3 +26,73 @@ returns-clause-unlinked g c =
     let grew = c.in_ok-append_logs.ensures.appended in
     let both = subst (λ (x : Entry). AppendsLogs (g.P.Pmem.region c.args.memory.now) (g.P.Pmem.region c.append_logs.new.memory) c.args.sup.now c.args.free.now c.append_logs.new.free (c.args.directory.now ∷ c.args.file.now ∷ []) (c.append_logs.new.row ∷ c.append_logs.new.other ∷ []) 0 (x ∷ []) 1 (links_entries (c.args.file.now.numbers.links - 1) c.args.time)) c.name_entry.ensures grew in
     unlinks_at_places c.args.file.now both refl (λ e. omega (arith, e)) c.append_logs.new.row c.append_logs.new.other refl c.remove_name.ensures.row c.remove_name.ensures.once refl c.set_links.ensures
+
+pub append_logs-requires-clause-apart : goal.append_logs-requires-clause-apart
+append_logs-requires-clause-apart g c = c.requires.apart
+
+pub append_logs-requires-clause-stands : goal.append_logs-requires-clause-stands
+append_logs-requires-clause-stands g c = c.requires.stands
+
+pub append_logs-requires-clause-other_stands : goal.append_logs-requires-clause-other_stands
+append_logs-requires-clause-other_stands g c = c.requires.file_stands
+
+pub append_logs-requires-clause-given : goal.append_logs-requires-clause-given
+append_logs-requires-clause-given g c = subst (λ (x : Entry). AreGiven (x ∷ []) × (length (x ∷ []) ≡ 1)) (sym c.name_entry.ensures) ((refl, tt), refl)
+
+pub append_logs-requires-clause-more_given : goal.append_logs-requires-clause-more_given
+append_logs-requires-clause-more_given g c = ((refl, tt), refl)
+
+pub returns-in_err-append_logs-clause-unchanged : goal.returns-in_err-append_logs-clause-unchanged
+returns-in_err-append_logs-clause-unchanged g c = 
+    let w = err_from_is_err_and c.from_residual.result c.from_residual.ensures.1 in
+    refused_by c.from_residual.result c.in_err-append_logs.field-0.0 w.0 (λ (e : Refusal). (e ≡ Stopped → ⊥) → LeavesStep c.args.memory.now c.append_logs.new.memory c.args.free.now c.append_logs.new.free c.args.directory.now c.append_logs.new.row × SameRow c.args.file.now c.append_logs.new.other) w.1 w.2 c.in_err-append_logs.ensures.unchanged
+
+pub returns-in_err-append_logs-clause-stopped : goal.returns-in_err-append_logs-clause-stopped
+returns-in_err-append_logs-clause-stopped g c = 
+    let w = err_from_is_err_and c.from_residual.result c.from_residual.ensures.1 in
+    refused_by c.from_residual.result c.in_err-append_logs.field-0.0 w.0 (λ (e : Refusal). e ≡ Stopped → IsTrue (g.P.Pmem.fuse c.append_logs.new.memory).has_burnt) w.1 w.2 c.in_err-append_logs.ensures.stopped
+
+pub returns-in_err-append_logs-clause-inode : goal.returns-in_err-append_logs-clause-inode
+returns-in_err-append_logs-clause-inode g c = c.in_err-append_logs.ensures.inode
+
+pub returns-in_err-append_logs-clause-file_inode : goal.returns-in_err-append_logs-clause-file_inode
+returns-in_err-append_logs-clause-file_inode g c = c.in_err-append_logs.ensures.other_inode
+
+pub returns-in_err-append_logs-clause-lists : goal.returns-in_err-append_logs-clause-lists
+returns-in_err-append_logs-clause-lists g c = c.in_err-append_logs.ensures.lists
+
+pub returns-in_err-append_logs-clause-length : goal.returns-in_err-append_logs-clause-length
+returns-in_err-append_logs-clause-length g c = c.in_err-append_logs.ensures.length
+
+pub returns-in_err-append_logs-clause-keeps_fuse : goal.returns-in_err-append_logs-clause-keeps_fuse
+returns-in_err-append_logs-clause-keeps_fuse g c = c.in_err-append_logs.ensures.keeps_fuse
+
+pub returns-clause-enough : goal.returns-clause-enough
+returns-clause-enough g c = subst (λ (x : Entry). needed (c.args.directory.now.tail % 4096) (x ∷ []) + needed (c.args.file.now.tail % 4096) (links_entries (c.args.file.now.numbers.links - 1) c.args.time) ≤ all_blocks c.args.free.now.pools) c.name_entry.ensures c.in_ok-append_logs.ensures.enough
+
+pub returns-clause-settled : goal.returns-clause-settled
+returns-clause-settled g c = c.in_ok-append_logs.ensures.settled
+
+pub returns-clause-refused : goal.returns-clause-refused
+returns-clause-refused g c = tt
+
+pub returns-clause-unchanged : goal.returns-clause-unchanged
+returns-clause-unchanged g c = tt
+
+pub returns-clause-stopped : goal.returns-clause-stopped
+returns-clause-stopped g c = tt
+
+pub returns-clause-inode : goal.returns-clause-inode
+returns-clause-inode g c = c.remove_name.ensures.row.rest.inode ∙ c.in_ok-append_logs.ensures.inode
+
+pub returns-clause-file_inode : goal.returns-clause-file_inode
+returns-clause-file_inode g c = c.set_links.ensures.rest.inode ∙ c.in_ok-append_logs.ensures.other_inode
+
+pub returns-clause-lists : goal.returns-clause-lists
+returns-clause-lists g c = c.in_ok-append_logs.ensures.lists
+
+pub returns-clause-length : goal.returns-clause-length
+returns-clause-length g c = c.in_ok-append_logs.ensures.length
+
+pub returns-clause-keeps_fuse : goal.returns-clause-keeps_fuse
+returns-clause-keeps_fuse g c = c.in_ok-append_logs.ensures.keeps_fuse

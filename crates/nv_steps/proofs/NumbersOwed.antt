@@ -1,0 +1,30 @@
+-- Numbers that calls owe, apart from all else that is known there.
+use Rattle.std.proofs.Common.{ℕ, ◌≡◌, ◌+◌, ◌<◌, ◌≤◌, List, [], ◌∷◌, ap, drop, length, length-drop, take, refl, arith, IsTrue}
+use Rattle.std.proofs.lemmas.Bool.Decides.{nat_tests}
+use Rattle.nv_super.specs.declared.superblock.Super.{Super}
+use Rattle.nv_super.specs.Layout.{inode_limit, is_number}
+use Rattle.nv_entry.specs.declared.entry.Entry.{Entry}
+use Rattle.nv_entry.specs.Spelling.{entry_length}
+use Rattle.nv_logpage.specs.Append.{end_of}
+
+pub number_below : (s : Super) (j : ℕ) → IsTrue (is_number s j) → j < inode_limit s
+number_below s j number = grind (arith, nat_tests)
+
+-- there is a first one of some blocks
+pub has_one : (xs : List ℕ) (n : ℕ) → length xs ≡ 1 + n → 1 ≤ length xs
+has_one xs n count = omega (arith, count)
+
+pub first_alone : (xs : List ℕ) (n : ℕ) → length xs ≡ 1 + n → length (take 1 xs) ≡ 1
+first_alone [] n count = absurd (omega (arith, count))
+first_alone (x ∷ xs) n count = refl
+
+-- where all pages fit, those behind the first do
+pub others_fit : (len cap : ℕ) (xs bs : List ℕ) → bs ≡ drop 1 xs → len + length xs ≤ cap → len + length bs ≤ cap
+others_fit len cap xs bs is room =
+    let same = ap length is in
+    let fewer = length-drop 1 xs in
+    omega (arith, same, fewer, room)
+
+-- an entry ends behind its length
+pub ends_behind : (end len : ℕ) (fresh : List ℕ) (tail : ℕ) (e : Entry) → end ≡ end_of fresh 0 tail (e ∷ []) → len ≡ entry_length e → len ≤ end
+ends_behind end len fresh tail e ends is = omega (arith, ends, is)
