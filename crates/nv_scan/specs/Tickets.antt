@@ -32,9 +32,9 @@ numbers_of s ticket = numbers_to s ticket 32
 abbrev pub IsBlank : Region → Layout → ℕ → Type 0
 IsBlank R l i = (IsInUse R l i → ⊥) × ((f : Fault) → IsFaultOf R l i f → ⊥)
 
--- an inode whose number has a slot, of a valid word that isn't 0
-abbrev pub IsUsed : Region → Super → ℕ → Type 0
-IsUsed R s i = (is_number s i ≡ true) × (word R (slot_address s i) ≢ 0)
+-- a number that an inode can have, with a slot whose valid word isn't 0
+abbrev pub HasValidWord : Region → Super → ℕ → Type 0
+HasValidWord R s i = (is_number s i ≡ true) × (word R (slot_address s i) ≢ 0)
 
 -- whether a piece tells anything: a row, or a fault
 abbrev pub is_told : Piece → Bool

@@ -12,7 +12,7 @@ ghost use Rattle.nv_radix.specs.Runs.{block_by};
 ghost use Rattle.nv_scan.specs.Claims.{AreSmall, IsClaim};
 ghost use Rattle.nv_scan.specs.Rows.{IsPiece};
 ghost use Rattle.nv_scan.specs.Scanned.{IsPieceOf, IsEmptyPiece, fault_of_end};
-ghost use Rattle.nv_scan.specs.Tickets.{IsBlank, IsFound, IsUsed, number_at};
+ghost use Rattle.nv_scan.specs.Tickets.{IsBlank, IsFound, HasValidWord, number_at};
 
 use crate::claims::claims_of;
 use crate::fold::{Fold, push_fault};
@@ -140,7 +140,7 @@ fn is_blank<P: Pmem>(memory: &P, sup: &Super, place: u64) -> bool
     requires blocks { HasBlocks (P.region memory.now) sup.now.blocks }
     requires place { place < inode_limit sup.now }
     ensures blank { IsTrue result → IsBlank (P.region memory.now) (fixed_layout sup.now) (number_at sup.now place) }
-    ensures told { result ≡ false → IsUsed (P.region memory.now) sup.now (number_at sup.now place) }
+    ensures told { result ≡ false → HasValidWord (P.region memory.now) sup.now (number_at sup.now place) }
 {
     match place {
         0 => true,

@@ -2,7 +2,7 @@ use Rattle.std.proofs.Common.{◌≡◌, ◌∙◌, ap, subst, ℕ, IsTrue, sym}
 use Rattle.nv_super.specs.declared.superblock.Super.{Super}
 use Rattle.nv_super.specs.Layout.{IsLayout, is_number, fixed_layout}
 use Rattle.nv_scan.specs.Rows.{IsPiece}
-use Rattle.nv_scan.specs.Tickets.{number_at, IsBlank, IsUsed}
+use Rattle.nv_scan.specs.Tickets.{number_at, IsBlank, HasValidWord}
 use Rattle.nv_scan.proofs.Told.{piece_tells}
 use Rattle.nv_scan.proofs.scan.Scanner.scan_place.Goals as goal
 
@@ -20,7 +20,7 @@ returns-clause-found g c =
     let s = c.args.self.now in
     let m = c.args.place in
     let layout : IsLayout s = subst IsLayout c.self.view_is c.self.invariant.layout in
-    let used : IsUsed R s (number_at s m) = subst (λ (x : Super). IsUsed R x (number_at x m)) c.self.view_is (c.is_blank.ensures.told c.if-is_blank.false) in
+    let used : HasValidWord R s (number_at s m) = subst (λ (x : Super). HasValidWord R x (number_at x m)) c.self.view_is (c.is_blank.ensures.told c.if-is_blank.false) in
     let piece : IsPiece R (fixed_layout s) c.in_ok-scan_one.field-0 = subst (λ (x : Super). IsPiece R (fixed_layout x) c.in_ok-scan_one.field-0) c.self.view_is c.in_ok-scan_one.ensures.piece in
     let same : c.in_ok-scan_one.field-0.inode ≡ number_at s m = c.in_ok-scan_one.ensures.number ∙ c.number_at-inode.ensures ∙ ap (λ (x : Super). number_at x m) c.self.view_is in (
       same,
