@@ -1,11 +1,22 @@
-use Rattle.std.proofs.Common.{◌≡◌, ◌+◌, ◌*◌, ◌∷◌, suc, get_or, arith, ap, sym, ◌∙◌, is_err}
+use Rattle.std.proofs.Common.{◌≡◌, ◌+◌, ◌*◌, ◌∷◌, suc, get_or, arith, ap, refl, sym, ◌∙◌, is_err}
 use Rattle.nv_region.proofs.Fuses.{keeps_more}
-use Rattle.nv_region.proofs.Wordwise.{stores_more, stored_only}
+use Rattle.nv_region.proofs.Wordwise.{stores_more, stores_none, stored_only}
 use Rattle.nv_logpage.proofs.Placing.{link_more, next_page}
 use Rattle.nv_logpage.proofs.appending.link_pages.Goals as goal
 
 pub overflow_mul-next : goal.overflow_mul-next
 overflow_mul-next g c = omega (arith, c.requires.inside (suc c.loop-k.k) (omega arith), c.requires.small)
+
+pub loop-k-init : goal.loop-k-init
+loop-k-init g c = record {
+  page = refl;
+  linked = λ j below. absurd (omega (arith, below));
+  wrote = stores_none _ _ _;
+  len = refl;
+  nothing = λ none. refl;
+  quiet = λ was. was;
+  keeps_fuse = record { burnt = λ on. on; steady = λ on. on; stays_open = λ limit past on. on };
+}
 
 pub loop-k-preserved : goal.loop-k-preserved
 loop-k-preserved g c =
