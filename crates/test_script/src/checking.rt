@@ -25,7 +25,7 @@ fn formatted<H: AllocGlobal + Abort>(rt: &H) -> Result<Vec<u8>, Fail> {
     Ok(memory.to_bytes()?)
 }
 
-fn clear(bytes: &mut [u8], at: usize) {
+pub fn clear(bytes: &mut [u8], at: usize) {
     if let Some(byte) = bytes.get_mut(at) {
         *byte = 0;
     }
@@ -45,27 +45,41 @@ fn check<H: AllocGlobal + Abort + Threads + Sync>(
     Ok(())
 }
 
+fn refuses<H: AllocGlobal + Abort + Threads + Sync>(
+    rt: &H,
+    bytes: &mut Vec<u8>,
+) -> Result<(), Fail> {
+    check(rt, bytes, 0, "refused Workers\n", 2)?;
+    check(rt, bytes, 65, "refused Workers\n", 2)?;
+    check(rt, b"", 65, "refused Workers\n", 2)?;
+    check(rt, b"", 64, "refused S1\n", 2)?;
+    clear(bytes, 0);
+    check(rt, bytes, 1, "refused S2\n", 2)?;
+    bytes.truncate(65535);
+    check(rt, bytes, 1, "refused S1\n", 2)
+}
+
 #[test]
 fn a_check_is_refused_by_name(rt: HostRuntime) -> Result<(), Fail> {
     let mut bytes = formatted(&rt)?;
-    check(&rt, &bytes, 0, "refused Workers\n", 2)?;
-    check(&rt, &bytes, 65, "refused Workers\n", 2)?;
-    check(&rt, b"", 65, "refused Workers\n", 2)?;
-    check(&rt, b"", 64, "refused S1\n", 2)?;
-    clear(&mut bytes, 0);
-    check(&rt, &bytes, 1, "refused S2\n", 2)?;
-    bytes.truncate(65535);
-    check(&rt, &bytes, 1, "refused S1\n", 2)
+    refuses(&rt, &mut bytes)
+}
+
+fn reports<H: AllocGlobal + Abort + Threads + Sync>(
+    rt: &H,
+    bytes: &mut Vec<u8>,
+) -> Result<(), Fail> {
+    for &workers in [1, 2, 64].iter() {
+        check(rt, bytes, workers, ROOT_ALONE, 0)?;
+    }
+    clear(bytes, ROOT_IN_USE);
+    check(rt, bytes, 3, NO_ROOT, 1)
 }
 
 #[test]
 fn a_check_reports_what_it_finds(rt: HostRuntime) -> Result<(), Fail> {
     let mut bytes = formatted(&rt)?;
-    for &workers in [1, 2, 64].iter() {
-        check(&rt, &bytes, workers, ROOT_ALONE, 0)?;
-    }
-    clear(&mut bytes, ROOT_IN_USE);
-    check(&rt, &bytes, 3, NO_ROOT, 1)
+    reports(&rt, &mut bytes)
 }
 
 #[test]

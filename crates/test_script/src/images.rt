@@ -1,10 +1,12 @@
 //! Images: regions that a script begins and ends with, and what is told of their bytes.
 
 use crate::broken_streams::Closing;
+use crate::checking::clear;
 use nv_cli::{
     Answered, Hint, Hints, MemRegion, Output, ScriptError, cat_image, check_region_as, list_image,
     map_cells, region_of_file, run_script_on, stat_image, write_map,
 };
+use std::alloc::Global;
 use std::process::Abort;
 use std::test::Fail;
 use std::thread::Threads;
@@ -32,7 +34,30 @@ impl Hints for NoHints {
     fn give(&mut self, _hint: Hint) {}
 }
 
+fn bytes_of(alloc: Global, region: &Option<MemRegion>) -> Result<Vec<u8>, Fail> {
+    match region {
+        Some(region) => Ok(region.to_bytes()?),
+        None => Ok(Vec::new(alloc)),
+    }
+}
+
 // The bytes of the region that a script ends with, which begins with this one.
+fn bytes_behind<H: AllocGlobal + Abort + Threads + Sync>(
+    rt: &H,
+    bytes: &[u8],
+    script: &[u8],
+    out: &mut Vec<u8>,
+) -> Result<Vec<u8>, Fail> {
+    let Ok(region) = region_of_file(rt.alloc(), bytes.to_vec(rt.alloc())?) else {
+        return Ok(Vec::new(rt.alloc()));
+    };
+    let mut hints = NoHints;
+    let ended = run_script_on(rt, rt.alloc(), region, script, out, &mut hints)?;
+    assert!(rt; ended.status == 0);
+    bytes_of(rt.alloc(), &ended.region)
+}
+
+// They, where this is printed.
 fn run_on<H: AllocGlobal + Abort + Threads + Sync>(
     rt: &H,
     bytes: &[u8],
@@ -40,107 +65,177 @@ fn run_on<H: AllocGlobal + Abort + Threads + Sync>(
     text: &str,
 ) -> Result<Vec<u8>, Fail> {
     let mut out = Vec::new(rt.alloc());
-    let Ok(region) = region_of_file(rt.alloc(), bytes.to_vec(rt.alloc())?) else {
-        return Ok(Vec::new(rt.alloc()));
-    };
-    let mut hints = NoHints;
-    let ended = run_script_on(rt, rt.alloc(), region, script, &mut out, &mut hints)?;
+    let made = bytes_behind(rt, bytes, script, &mut out)?;
     assert!(rt; out.as_slice() == text.as_bytes());
-    assert!(rt; ended.status == 0);
-    match ended.region {
-        Some(region) => Ok(region.to_bytes()?),
-        None => Ok(Vec::new(rt.alloc())),
-    }
+    Ok(made)
+}
+
+const READING: &[u8] = b"read /d/a 0 9\nrecover 2\nread /d/a 0 9\n";
+
+const READ: &str = "refused NotMounted\nrecovered inodes 3 free 55 faults 0\ndata 4141414141\n";
+
+fn is_handed_on<H: AllocGlobal + Abort + Threads + Sync>(rt: &H, made: &[u8]) -> Result<(), Fail> {
+    let same = run_on(rt, made, READING, READ)?;
+    assert!(rt; made.len() == 262_144 && same.as_slice() == made);
+    Ok(())
 }
 
 #[test]
 fn a_region_is_handed_from_script_to_script(rt: HostRuntime) -> Result<(), Fail> {
     let made = run_on(&rt, b"", MAKING, MADE)?;
-    assert!(rt; made.len() == 262_144);
-    let same = run_on(
-        &rt,
-        &made,
-        b"read /d/a 0 9\nrecover 2\nread /d/a 0 9\n",
-        "refused NotMounted\nrecovered inodes 3 free 55 faults 0\ndata 4141414141\n",
-    )?;
-    assert!(rt; same.as_slice() == made.as_slice());
+    is_handed_on(&rt, &made)
+}
+
+// What a look into a region printed, and its answer, are these.
+fn assert_told(rt: &impl Abort, out: &[u8], answer: Answered, text: &[u8], due: Answered) {
+    assert!(rt; out == text);
+    assert!(rt; answer == due);
+}
+
+#[derive(Clone, Copy)]
+enum Look {
+    List,
+    Stat,
+    Cat,
+}
+
+fn answer_to(
+    alloc: Global,
+    made: &[u8],
+    look: Look,
+    path: &[u8],
+    out: &mut Vec<u8>,
+) -> Result<Answered, ScriptError> {
+    match look {
+        Look::List => list_image(alloc, made, path, out),
+        Look::Stat => stat_image(alloc, made, path, out),
+        Look::Cat => cat_image(alloc, made, path, out),
+    }
+}
+
+fn assert_look(
+    rt: &impl Abort,
+    alloc: Global,
+    made: &[u8],
+    kind: Look,
+    path: &[u8],
+    text: &[u8],
+    due: Answered,
+) -> Result<(), Fail> {
+    let mut out = Vec::new(alloc);
+    let answer = answer_to(alloc, made, kind, path, &mut out)?;
+    assert_told(rt, &out, answer, text, due);
     Ok(())
+}
+
+const ITS_NUMBERS: &[u8] = b"stat inode 4 file mode 420 owner 0 group 0 size 5 links 1 time 7\n";
+
+/// What is looked at, where, and what is printed.
+type Row<'a> = (Look, &'a [u8], &'a [u8], Answered);
+
+const LOOKS: [Row<'static>; 6] = [
+    (Look::List, b"/d", b"a 4\n", FOUND),
+    (Look::Stat, b"/d/a", ITS_NUMBERS, FOUND),
+    (Look::Cat, b"/d/a", b"AAAAA", FOUND),
+    (Look::List, b"/d/a", b"refused NotDirectory\n", NOT_FOUND),
+    (Look::Stat, b"/a", b"refused NotFound\n", NOT_FOUND),
+    (Look::Cat, b"/d", b"refused IsDirectory\n", NOT_FOUND),
+];
+
+fn is_looked_into(rt: &impl Abort, alloc: Global, made: &[u8]) -> Result<(), Fail> {
+    for (look, path, text, due) in LOOKS.iter() {
+        assert_look(rt, alloc, made, *look, path, text, *due)?;
+    }
+    assert_look(rt, alloc, b"", Look::Cat, b"/d", b"refused S1\n", NOT_FOUND)
 }
 
 #[test]
 fn a_region_is_looked_into(rt: HostRuntime) -> Result<(), Fail> {
     let made = run_on(&rt, b"", MAKING, MADE)?;
+    is_looked_into(&rt, rt.alloc(), &made)
+}
+
+// A map of so many cells at most.
+fn assert_map<H: AllocGlobal + Abort>(
+    rt: &H,
+    made: &[u8],
+    most: u64,
+    text: &[u8],
+    due: Answered,
+) -> Result<(), Fail> {
+    let cells = map_cells(rt.alloc(), made, most)?;
     let mut out = Vec::new(rt.alloc());
-    let listed = list_image(rt.alloc(), &made, b"/d", &mut out)?;
-    let told = stat_image(rt.alloc(), &made, b"/d/a", &mut out)?;
-    let read = cat_image(rt.alloc(), &made, b"/d/a", &mut out)?;
-    assert!(rt; listed == FOUND && told == FOUND && read == FOUND);
-    let text = b"a 4\nstat inode 4 file mode 420 owner 0 group 0 size 5 links 1 time 7\nAAAAA";
-    assert!(rt; out.as_slice() == text.as_slice());
+    let answer = write_map(rt.alloc(), &cells, &mut out)?;
+    assert_told(rt, &out, answer, text, due);
     Ok(())
 }
 
-#[test]
-fn what_is_looked_for_is_refused_by_name(rt: HostRuntime) -> Result<(), Fail> {
-    let made = run_on(&rt, b"", MAKING, MADE)?;
-    let mut out = Vec::new(rt.alloc());
-    let listed = list_image(rt.alloc(), &made, b"/d/a", &mut out)?;
-    let told = stat_image(rt.alloc(), &made, b"/a", &mut out)?;
-    let read = cat_image(rt.alloc(), &made, b"/d", &mut out)?;
-    let short = cat_image(rt.alloc(), b"", b"/d", &mut out)?;
-    assert!(rt;
-        listed == NOT_FOUND && told == NOT_FOUND && read == NOT_FOUND && short == NOT_FOUND
-    );
-    let text = b"refused NotDirectory\nrefused NotFound\nrefused IsDirectory\nrefused S1\n";
-    assert!(rt; out.as_slice() == text.as_slice());
-    Ok(())
+const BY_BLOCK: &[u8] = b"SSSSSLLLD.......................................................\n\
+    blocks in a cell 1: . free, S system, D data, L log, ! doubled\n";
+
+const BY_FOUR: &[u8] = b"SLD.............\n\
+    blocks in a cell 4: . free, S system, D data, L log, ! doubled\n";
+
+fn is_mapped<H: AllocGlobal + Abort>(rt: &H, made: &[u8]) -> Result<(), Fail> {
+    assert_map(rt, made, 1024, BY_BLOCK, FOUND)?;
+    assert_map(rt, made, 16, BY_FOUR, FOUND)?;
+    assert_map(rt, b"", 16, b"refused S1\n", NOT_FOUND)
 }
 
 #[test]
 fn a_region_is_mapped(rt: HostRuntime) -> Result<(), Fail> {
     let made = run_on(&rt, b"", MAKING, MADE)?;
-    let by_block = map_cells(rt.alloc(), &made, 1024)?;
-    let by_four = map_cells(rt.alloc(), &made, 16)?;
-    let short = map_cells(rt.alloc(), b"", 16)?;
+    is_mapped(&rt, &made)
+}
+
+// What a check by two workers prints in this form.
+fn assert_check<H: AllocGlobal + Abort + Threads + Sync>(
+    rt: &H,
+    bytes: &[u8],
+    output: Output,
+    text: &[u8],
+    status: u8,
+) -> Result<(), Fail> {
     let mut out = Vec::new(rt.alloc());
-    assert!(rt; write_map(rt.alloc(), &by_block, &mut out)? == FOUND);
-    assert!(rt; write_map(rt.alloc(), &by_four, &mut out)? == FOUND);
-    assert!(rt; write_map(rt.alloc(), &short, &mut out)? == NOT_FOUND);
-    let text = b"SSSSSLLLD.......................................................\n\
-        blocks in a cell 1: . free, S system, D data, L log, ! doubled\n\
-        SLD.............\n\
-        blocks in a cell 4: . free, S system, D data, L log, ! doubled\n\
-        refused S1\n";
-    assert!(rt; out.as_slice() == text.as_slice());
+    let answer = check_region_as(rt, rt.alloc(), bytes, 2, output, &mut out)?;
+    assert!(rt; out.as_slice() == text);
+    assert!(rt; answer == status);
     Ok(())
+}
+
+const SOUND: &[u8] =
+    b"inodes 3, directories 2, files 1, names 2, blocks in use 4, free 55, faults 0\n";
+
+const FAULTY: &[u8] =
+    b"inodes 2, directories 2, files 0, names 2, blocks in use 2, free 57, faults 1 (C1 1)\n";
+
+const FAULT: &[u8] = b"fault C1 inode 2 at 24608\n";
+
+fn sums_up<H: AllocGlobal + Abort + Threads + Sync>(rt: &H, made: &mut [u8]) -> Result<(), Fail> {
+    assert_check(rt, made, Output::Summary, SOUND, 0)?;
+    assert_check(rt, made, Output::OnlyFaults, b"no faults\n", 0)?;
+    // The valid word of inode 4, the third of the first CPU's table.
+    clear(made, 12_544);
+    assert_check(rt, made, Output::Summary, FAULTY, 1)?;
+    assert_check(rt, made, Output::OnlyFaults, FAULT, 1)
 }
 
 #[test]
 fn a_check_sums_up_or_tells_faults_alone(rt: HostRuntime) -> Result<(), Fail> {
     let mut made = run_on(&rt, b"", MAKING, MADE)?;
-    let mut out = Vec::new(rt.alloc());
-    let sound = check_region_as(&rt, rt.alloc(), &made, 2, Output::Summary, &mut out)?;
-    let none = check_region_as(&rt, rt.alloc(), &made, 2, Output::OnlyFaults, &mut out)?;
-    // The valid word of inode 4, the third of the first CPU's table.
-    if let Some(byte) = made.get_mut(12_544) {
-        *byte = 0;
-    }
-    let faulty = check_region_as(&rt, rt.alloc(), &made, 2, Output::Summary, &mut out)?;
-    let alone = check_region_as(&rt, rt.alloc(), &made, 2, Output::OnlyFaults, &mut out)?;
-    assert!(rt; sound == 0 && none == 0 && faulty == 1 && alone == 1);
-    let text =
-        b"inodes 3, directories 2, files 1, names 2, blocks in use 4, free 55, faults 0\nno faults\n\
-        inodes 2, directories 2, files 0, names 2, blocks in use 2, free 57, faults 1 (C1 1)\nfault C1 inode 2 at 24608\n";
-    assert!(rt; out.as_slice() == text.as_slice());
-    Ok(())
+    sums_up(&rt, &mut made)
+}
+
+fn closes(rt: &impl Abort, alloc: Global, made: &[u8]) {
+    let mut out = Closing::new(alloc, 3);
+    let answer = cat_image(alloc, made, b"/d/a", &mut out);
+    assert!(rt; answer == Err(ScriptError::Write));
+    assert!(rt; out.taken() == b"AAA".as_slice());
 }
 
 #[test]
 fn a_closed_writer_has_the_front_of_a_file(rt: HostRuntime) -> Result<(), Fail> {
     let made = run_on(&rt, b"", MAKING, MADE)?;
-    let mut out = Closing::new(rt.alloc(), 3);
-    let answer = cat_image(rt.alloc(), &made, b"/d/a", &mut out);
-    assert!(rt; answer == Err(ScriptError::Write));
-    assert!(rt; out.taken() == b"AAA".as_slice());
+    closes(&rt, rt.alloc(), &made);
     Ok(())
 }

@@ -1,89 +1,111 @@
 //! Lines with what each is, as the format's text has them.
 
-use nv_line::{LINE_LIMIT, Line, classify, no_skipped_command, number, one_reading, parse};
+use nv_line::{LINE_LIMIT, classify, no_skipped_command, number, one_reading, parse};
 use std::alloc::Global;
 use std::process::Abort;
 use std::test::Fail;
 
-/// Lines, and the commands that they are read as, as `Debug` shows these.
+/// Lines, and the commands that they are read as, as `Debug` shows them.
 const COMMANDS: [(&str, &str); 26] = [
     (
         "format 1 16 1",
-        "Format { cpus: 1, blocks: 16, table_blocks: 1 }",
+        "Command(Format { cpus: 1, blocks: 16, table_blocks: 1 })",
     ),
     (
         "format 64 65536 32",
-        "Format { cpus: 64, blocks: 65536, table_blocks: 32 }",
+        "Command(Format { cpus: 64, blocks: 65536, table_blocks: 32 })",
     ),
     (
         "format 0 18446744073709551615 0",
-        "Format { cpus: 0, blocks: 18446744073709551615, table_blocks: 0 }",
+        "Command(Format { cpus: 0, blocks: 18446744073709551615, table_blocks: 0 })",
     ),
-    ("time 0", "Time { time: 0 }"),
+    ("time 0", "Command(Time { time: 0 })"),
     (
         "time 18446744073709551615",
-        "Time { time: 18446744073709551615 }",
+        "Command(Time { time: 18446744073709551615 })",
     ),
-    ("cut 0", "Cut { length: 0 }"),
-    ("recover 1", "Recover { workers: 1 }"),
-    ("recover 65", "Recover { workers: 65 }"),
-    ("peek 8344", "Peek { at: 8344 }"),
-    ("peek 7", "Peek { at: 7 }"),
-    ("poke 8344 12288", "Poke { at: 8344, value: 12288 }"),
+    ("cut 0", "Command(Cut { length: 0 })"),
+    ("recover 1", "Command(Recover { workers: 1 })"),
+    ("recover 65", "Command(Recover { workers: 65 })"),
+    ("peek 8344", "Command(Peek { at: 8344 })"),
+    ("peek 7", "Command(Peek { at: 7 })"),
+    (
+        "poke 8344 12288",
+        "Command(Poke { at: 8344, value: 12288 })",
+    ),
     (
         "replay 2 0 0 0 0 1 1 1 1",
-        "Replay { workers: 2, schedule: [0, 0, 0, 0, 1, 1, 1, 1] }",
+        "Command(Replay { workers: 2, schedule: [0, 0, 0, 0, 1, 1, 1, 1] })",
     ),
-    ("replay 3", "Replay { workers: 3, schedule: [] }"),
-    ("tree", "Tree"),
-    ("free", "Free"),
-    ("faults", "Faults"),
-    ("report", "Report"),
+    ("replay 3", "Command(Replay { workers: 3, schedule: [] })"),
+    ("tree", "Command(Tree)"),
+    ("free", "Command(Free)"),
+    ("faults", "Command(Faults)"),
+    ("report", "Command(Report)"),
     (
         "list /d/a\tb",
-        "ListNames { path: [47, 100, 47, 97, 9, 98] }",
+        "Command(ListNames { path: [47, 100, 47, 97, 9, 98] })",
     ),
-    ("stat /d/a\tb", "Stat { path: [47, 100, 47, 97, 9, 98] }"),
+    (
+        "stat /d/a\tb",
+        "Command(Stat { path: [47, 100, 47, 97, 9, 98] })",
+    ),
     (
         "read /d/a\tb 7 0",
-        "Read { path: [47, 100, 47, 97, 9, 98], offset: 7, count: 0 }",
+        "Command(Read { path: [47, 100, 47, 97, 9, 98], offset: 7, count: 0 })",
     ),
-    ("stat no", "Stat { path: [110, 111] }"),
-    ("stop after 0 none", "Stop { fuse: After(0), keep: None }"),
-    ("stop at 12568 all", "Stop { fuse: At(12568), keep: All }"),
+    ("stat no", "Command(Stat { path: [110, 111] })"),
+    (
+        "stop after 0 none",
+        "Command(Stop { fuse: After(0), keep: None })",
+    ),
+    (
+        "stop at 12568 all",
+        "Command(Stop { fuse: At(12568), keep: All })",
+    ),
     (
         "stop after 7 alternate",
-        "Stop { fuse: After(7), keep: Alternate }",
+        "Command(Stop { fuse: After(7), keep: Alternate })",
     ),
     (
         "link 0 /a /b",
-        "Link { cpu: 0, old: [47, 97], new: [47, 98] }",
+        "Command(Link { cpu: 0, old: [47, 97], new: [47, 98] })",
     ),
     (
         "attr 1 / 493 7 9",
-        "SetAttributes { cpu: 1, path: [47], mode: 493, owner: 7, group: 9 }",
+        "Command(SetAttributes { cpu: 1, path: [47], mode: 493, owner: 7, group: 9 })",
     ),
 ];
 
 /// What a line is, as `Debug` shows it.
-fn shown(alloc: Global, line: &str) -> Result<String, Fail> {
-    Ok(format!(in alloc; "{:?}", classify(alloc, line.as_bytes())?)?)
+fn shown(alloc: Global, line: &[u8]) -> Result<String, Fail> {
+    Ok(format!(in alloc; "{:?}", classify(alloc, line)?)?)
+}
+
+fn assert_shown(rt: &impl Abort, alloc: Global, line: &str, wanted: &str) -> Result<(), Fail> {
+    assert!(rt; shown(alloc, line.as_bytes())?.as_str() == wanted, "{line}");
+    Ok(())
+}
+
+fn assert_command(
+    rt: &impl Abort,
+    alloc: Global,
+    line: &str,
+    is_command: bool,
+) -> Result<(), Fail> {
+    assert!(rt;
+        parse(alloc, line.as_bytes())?.is_some() == is_command,
+        "{line}"
+    );
+    Ok(())
 }
 
 #[test]
 fn commands_are_read_with_their_values(rt: HostRuntime) -> Result<(), Fail> {
-    for &(line, command) in COMMANDS.iter() {
-        let wanted = format!(in rt.alloc(); "Command({command})")?;
-        assert!(rt; parse(rt.alloc(), line.as_bytes())?.is_some(), "{line}");
-        assert!(rt; shown(rt.alloc(), line)? == wanted, "{line}");
+    for (line, command) in COMMANDS.iter() {
+        assert_command(&rt, rt.alloc(), line, true)?;
+        assert_shown(&rt, rt.alloc(), line, command)?;
     }
-    Ok(())
-}
-
-/// A line is this, and no command.
-fn assert_no_command<H: AllocGlobal + Abort>(rt: &H, line: &str, wanted: &str) -> Result<(), Fail> {
-    assert!(rt; parse(rt.alloc(), line.as_bytes())?.is_none(), "{line}");
-    assert!(rt; shown(rt.alloc(), line)?.as_str() == wanted, "{line}");
     Ok(())
 }
 
@@ -170,8 +192,9 @@ const BAD_LINES: [&str; 73] = [
 
 #[test]
 fn a_line_that_is_no_command_is_bad(rt: HostRuntime) -> Result<(), Fail> {
-    for &line in BAD_LINES.iter() {
-        assert_no_command(&rt, line, "Bad")?;
+    for line in BAD_LINES.iter() {
+        assert_command(&rt, rt.alloc(), line, false)?;
+        assert_shown(&rt, rt.alloc(), line, "Bad")?;
     }
     Ok(())
 }
@@ -180,20 +203,25 @@ const SKIPPED_LINES: [&str; 6] = ["", "#", "# time 1", "#time 1", "##", "#\r"];
 
 #[test]
 fn an_empty_line_and_a_comment_are_skipped(rt: HostRuntime) -> Result<(), Fail> {
-    for &line in SKIPPED_LINES.iter() {
-        assert_no_command(&rt, line, "Skipped")?;
+    for line in SKIPPED_LINES.iter() {
+        assert_command(&rt, rt.alloc(), line, false)?;
+        assert_shown(&rt, rt.alloc(), line, "Skipped")?;
     }
+    Ok(())
+}
+
+/// A comment of so many bytes is shown so.
+fn assert_comment(rt: &impl Abort, alloc: Global, count: usize, wanted: &str) -> Result<(), Fail> {
+    let line = vec![in alloc; b'#'; count]?;
+    assert!(rt; shown(alloc, &line)?.as_str() == wanted);
     Ok(())
 }
 
 #[test]
 fn a_line_has_at_most_4096_bytes(rt: HostRuntime) -> Result<(), Fail> {
     assert!(rt; LINE_LIMIT == 4096);
-    let whole = vec![in rt.alloc(); b'#'; 4096]?;
-    assert!(rt; matches!(classify(rt.alloc(), &whole)?, Line::Skipped));
-    let longer = vec![in rt.alloc(); b'#'; 4097]?;
-    assert!(rt; matches!(classify(rt.alloc(), &longer)?, Line::Bad));
-    Ok(())
+    assert_comment(&rt, rt.alloc(), 4096, "Skipped")?;
+    assert_comment(&rt, rt.alloc(), 4097, "Bad")
 }
 
 const NUMBERS: [(&str, u64); 4] = [
@@ -218,10 +246,10 @@ const NO_NUMBERS: [&str; 10] = [
 
 #[test]
 fn a_number_has_no_sign_and_no_leading_zero(rt: HostRuntime) {
-    for &(word, n) in NUMBERS.iter() {
-        assert!(rt; number(word.as_bytes()) == Some(n), "{word}");
+    for (word, n) in NUMBERS.iter() {
+        assert!(rt; number(word.as_bytes()) == Some(*n), "{word}");
     }
-    for &word in NO_NUMBERS.iter() {
+    for word in NO_NUMBERS.iter() {
         assert!(rt; number(word.as_bytes()) == None, "{word}");
     }
 }

@@ -4,6 +4,7 @@ use crate::broken_streams::{Closing, Failing};
 use crate::damage::{JOURNALS, LOGS, NAMES, REPLAYED};
 use crate::written::{REFUSED, STOPPED, WRITTEN};
 use nv_cli::{ScriptError, run_script};
+use std::alloc::{AllocError, Global};
 use std::process::Abort;
 use std::test::Fail;
 use std::thread::Threads;
@@ -366,107 +367,66 @@ const STOPS: [(&str, &str, u8); 8] = [
     ),
 ];
 
+fn check_row<H: AllocGlobal + Abort + Threads + Sync>(
+    rt: &H,
+    script: &[u8],
+    output: &str,
+    status: u8,
+) -> Result<(), Fail> {
+    let mut out = Vec::new(rt.alloc());
+    let answer = run_script(rt, rt.alloc(), script, &mut out)?;
+    assert!(rt; out.as_slice() == output.as_bytes(), "{output}");
+    assert!(rt; answer == status, "the status behind {output}");
+    Ok(())
+}
+
 fn check_rows<H: AllocGlobal + Abort + Threads + Sync>(
     rt: &H,
     rows: &[(&str, &str, u8)],
 ) -> Result<(), Fail> {
     for (script, output, status) in rows {
-        let mut out = Vec::new(rt.alloc());
-        let answer = run_script(rt, rt.alloc(), script.as_bytes(), &mut out)?;
-        assert!(rt; out.as_slice() == output.as_bytes(), "at {script:?}");
-        assert_eq!(rt; answer, *status, "at {script:?}");
+        check_row(rt, script.as_bytes(), output, *status)?;
     }
     Ok(())
 }
 
-#[test]
-fn regions_are_reported(rt: HostRuntime) -> Result<(), Fail> {
-    check_rows(&rt, &FIRST_PATH)
-}
+const ALL_ROWS: [&[(&str, &str, u8)]; 15] = [
+    &FIRST_PATH,
+    &LINES,
+    &REFUSALS,
+    &WORDS,
+    &CHANGES,
+    &MOUNTS,
+    &FILES,
+    &WRITTEN,
+    &STOPPED,
+    &REFUSED,
+    &STOPS,
+    &LOGS,
+    &JOURNALS,
+    &NAMES,
+    &REPLAYED,
+];
 
 #[test]
-fn a_bad_line_ends_a_script(rt: HostRuntime) -> Result<(), Fail> {
-    check_rows(&rt, &LINES)
+fn scripts_print_what_is_due(rt: HostRuntime) -> Result<(), Fail> {
+    for rows in ALL_ROWS.iter() {
+        check_rows(&rt, rows)?;
+    }
+    Ok(())
 }
 
-#[test]
-fn a_refusal_is_named(rt: HostRuntime) -> Result<(), Fail> {
-    check_rows(&rt, &REFUSALS)
-}
-
-#[test]
-fn words_are_where_the_format_has_them(rt: HostRuntime) -> Result<(), Fail> {
-    check_rows(&rt, &WORDS)
-}
-
-#[test]
-fn a_region_is_changed_by_words_and_by_length(rt: HostRuntime) -> Result<(), Fail> {
-    check_rows(&rt, &CHANGES)
-}
-
-#[test]
-fn a_mount_ends_where_the_region_changes(rt: HostRuntime) -> Result<(), Fail> {
-    check_rows(&rt, &MOUNTS)
-}
-
-#[test]
-fn a_mounted_region_is_read_by_paths(rt: HostRuntime) -> Result<(), Fail> {
-    check_rows(&rt, &FILES)
-}
-
-#[test]
-fn a_mounted_region_is_written_by_paths(rt: HostRuntime) -> Result<(), Fail> {
-    check_rows(&rt, &WRITTEN)
-}
-
-#[test]
-fn a_call_that_writes_is_stopped(rt: HostRuntime) -> Result<(), Fail> {
-    check_rows(&rt, &STOPPED)
-}
-
-#[test]
-fn a_call_that_writes_is_refused(rt: HostRuntime) -> Result<(), Fail> {
-    check_rows(&rt, &REFUSED)
-}
-
-#[test]
-fn a_command_is_stopped_only_behind_a_stop(rt: HostRuntime) -> Result<(), Fail> {
-    check_rows(&rt, &STOPS)
-}
-
-#[test]
-fn a_damaged_log_is_reported(rt: HostRuntime) -> Result<(), Fail> {
-    check_rows(&rt, &LOGS)
-}
-
-#[test]
-fn pending_records_are_rolled_back(rt: HostRuntime) -> Result<(), Fail> {
-    check_rows(&rt, &JOURNALS)
-}
-
-#[test]
-fn names_and_owners_are_checked(rt: HostRuntime) -> Result<(), Fail> {
-    check_rows(&rt, &NAMES)
-}
-
-#[test]
-fn every_order_gives_one_report(rt: HostRuntime) -> Result<(), Fail> {
-    check_rows(&rt, &REPLAYED)
+/// A comment of so many bytes, and a command behind it.
+fn long_script(alloc: Global, count: usize) -> Result<Vec<u8>, AllocError> {
+    let mut script = vec![in alloc; b'#'; count]?;
+    script.extend_from_slice(b"\ntime 1\n")?;
+    Ok(script)
 }
 
 #[test]
 fn a_line_of_more_than_4096_bytes_is_bad(rt: HostRuntime) -> Result<(), Fail> {
-    for (count, output, status) in [(4096, "ok\n", 0), (4097, "bad line 1\n", 2)] {
-        let mut script = vec![in rt.alloc(); b'#'; count]?;
-        script.extend_from_slice(b"\ntime 1\n")?;
-        let mut out = Vec::new(rt.alloc());
-        assert_eq!(rt;
-            run_script(&rt, rt.alloc(), script.as_slice(), &mut out)?,
-            status
-        );
-        assert!(rt; out.as_slice() == output.as_bytes());
-    }
-    Ok(())
+    check_row(&rt, &long_script(rt.alloc(), 4096)?, "ok\n", 0)?;
+    check_row(&rt, &long_script(rt.alloc(), 4097)?, "bad line 1\n", 2)
 }
 
 #[test]
@@ -495,7 +455,24 @@ const FRONTS: [&str; 4] = [
     "ok\nrecovered inodes 1 free 58 faults 0\nfree 0 6-33\nfree 1 34-63\n",
 ];
 
-// Where an allocation is made to fail, the script ends with `Memory` after whole lines, or the allocation wasn't needed.
+fn is_front(out: &[u8]) -> bool {
+    for front in FRONTS.iter() {
+        if out == front.as_bytes() {
+            return true;
+        }
+    }
+    false
+}
+
+// The script ends with `Memory` after whole lines, or all is printed.
+fn assert_whole(rt: &impl Abort, answer: Result<u8, ScriptError>, out: &[u8]) {
+    match answer {
+        Ok(status) => assert!(rt; status == 0 && out == FRONTS[3].as_bytes()),
+        Err(error) => assert!(rt; error == ScriptError::Memory && is_front(out)),
+    }
+}
+
+// An allocation may be made to fail that wasn't needed.
 #[test]
 fn want_of_memory_prints_whole_answers_alone(rt: HostRuntime) {
     let Ok(mut out) = Vec::with_capacity(rt.alloc(), 256) else {
@@ -503,16 +480,5 @@ fn want_of_memory_prints_whole_answers_alone(rt: HostRuntime) {
     };
     let script = b"format 2 64 1\nrecover 1\nfree\n".as_slice();
     let answer = run_script(&rt, rt.alloc(), script, &mut out);
-    let all = out.as_slice() == FRONTS[3].as_bytes();
-    match answer {
-        Ok(status) => assert!(rt; status == 0 && all),
-        Err(error) => {
-            assert!(rt; error == ScriptError::Memory);
-            assert!(rt;
-                FRONTS
-                    .iter()
-                    .any(|front| out.as_slice() == front.as_bytes())
-            );
-        }
-    }
+    assert_whole(&rt, answer, &out);
 }

@@ -2,70 +2,104 @@
 
 use crate::broken_streams::{Closing, Failing};
 use nv_stream::{Next, ScriptError, read_line, write_text};
+use std::alloc::{AllocError, Global};
+use std::io::Read;
+use std::process::Abort;
 use std::test::Fail;
 
+/// The next line of a reader has these bytes, where there is one.
+fn assert_line<R: Read>(
+    rt: &impl Abort,
+    reader: &mut R,
+    line: &mut Vec<u8>,
+    next: Result<Next, ScriptError>,
+    bytes: &[u8],
+) {
+    assert!(rt; read_line(reader, line) == next);
+    if next == Ok(Next::Line) {
+        assert!(rt; line.as_slice() == bytes);
+    }
+}
+
 #[test]
-fn lines_are_cut_at_byte_10(rt: HostRuntime) -> Result<(), Fail> {
+fn lines_are_cut_at_byte_10(rt: HostRuntime) {
     let mut reader = b"a\n\nb c".as_slice();
     let mut line = Vec::new(rt.alloc());
-    for &text in [b"a".as_slice(), b"", b"b c"].iter() {
-        assert!(rt; read_line(&mut reader, &mut line)? == Next::Line);
-        assert!(rt; line.as_slice() == text);
-    }
-    assert!(rt; read_line(&mut reader, &mut line)? == Next::End);
-    assert!(rt; read_line(&mut reader, &mut line)? == Next::End);
+    assert_line(&rt, &mut reader, &mut line, Ok(Next::Line), b"a");
+    assert_line(&rt, &mut reader, &mut line, Ok(Next::Line), b"");
+    assert_line(&rt, &mut reader, &mut line, Ok(Next::Line), b"b c");
+    assert_line(&rt, &mut reader, &mut line, Ok(Next::End), b"");
+    assert_line(&rt, &mut reader, &mut line, Ok(Next::End), b"");
+}
+
+/// What is read of a line of so many bytes, with and without an end of line behind it.
+fn assert_length(
+    rt: &impl Abort,
+    alloc: Global,
+    count: usize,
+    next: Next,
+) -> Result<(), AllocError> {
+    let mut input = vec![in alloc; b'#'; count]?;
+    let mut line = Vec::new(alloc);
+    assert!(rt; read_line(&mut input.as_slice(), &mut line) == Ok(next));
+    input.push(b'\n')?;
+    assert!(rt; read_line(&mut input.as_slice(), &mut line) == Ok(next));
+    assert!(rt; line.len() == count);
     Ok(())
 }
 
 #[test]
 fn a_line_of_4096_bytes_is_the_longest(rt: HostRuntime) -> Result<(), Fail> {
-    let alloc = rt.alloc();
-    let mut line = Vec::new(alloc);
-    for &(count, next) in [(4096, Next::Line), (4097, Next::TooLong)].iter() {
-        let mut input = vec![in alloc; b'#'; count]?;
-        assert!(rt; read_line(&mut input.as_slice(), &mut line)? == next);
-        input.push(b'\n')?;
-        assert!(rt; read_line(&mut input.as_slice(), &mut line)? == next);
-        assert!(rt; line.len() == count);
-    }
+    assert_length(&rt, rt.alloc(), 4096, Next::Line)?;
+    assert_length(&rt, rt.alloc(), 4097, Next::TooLong)?;
     Ok(())
 }
 
 #[test]
-fn a_reader_that_fails_loses_the_line_and_none_before(rt: HostRuntime) -> Result<(), Fail> {
+fn a_reader_that_fails_loses_the_line_and_none_before(rt: HostRuntime) {
     let mut reader = Failing::new(b"ab\n\nc");
     let mut line = Vec::new(rt.alloc());
-    assert!(rt; read_line(&mut reader, &mut line)? == Next::Line);
-    assert!(rt; line.as_slice() == b"ab".as_slice());
-    assert!(rt; read_line(&mut reader, &mut line)? == Next::Line);
-    assert!(rt; line.is_empty());
-    assert!(rt; read_line(&mut reader, &mut line) == Err(ScriptError::Read));
-    assert!(rt; read_line(&mut reader, &mut line) == Err(ScriptError::Read));
-    Ok(())
+    assert_line(&rt, &mut reader, &mut line, Ok(Next::Line), b"ab");
+    assert_line(&rt, &mut reader, &mut line, Ok(Next::Line), b"");
+    assert_line(&rt, &mut reader, &mut line, Err(ScriptError::Read), b"");
+    assert_line(&rt, &mut reader, &mut line, Err(ScriptError::Read), b"");
+}
+
+/// A text is written, or refused, and then these bytes are there.
+fn assert_written(
+    rt: &impl Abort,
+    writer: &mut Closing,
+    text: &[u8],
+    answer: Result<(), ScriptError>,
+    taken: &[u8],
+) {
+    assert!(rt; write_text(writer, text) == answer);
+    assert!(rt; writer.taken() == taken);
 }
 
 #[test]
-fn a_closed_writer_has_the_front(rt: HostRuntime) -> Result<(), Fail> {
+fn a_closed_writer_has_the_front(rt: HostRuntime) {
     let mut writer = Closing::new(rt.alloc(), 9);
-    write_text(&mut writer, b"")?;
-    write_text(&mut writer, b"abcde")?;
-    assert!(rt; writer.taken() == b"abcde".as_slice());
-    assert!(rt; write_text(&mut writer, b"fghij") == Err(ScriptError::Write));
-    assert!(rt; writer.taken() == b"abcdefghi".as_slice());
+    assert_written(&rt, &mut writer, b"", Ok(()), b"");
+    assert_written(&rt, &mut writer, b"abcde", Ok(()), b"abcde");
+    let closed = Err(ScriptError::Write);
+    assert_written(&rt, &mut writer, b"fghij", closed, b"abcdefghi");
+}
+
+fn assert_text(
+    rt: &impl Abort,
+    alloc: Global,
+    error: ScriptError,
+    text: &str,
+) -> Result<(), AllocError> {
+    assert!(rt; format!(in alloc; "{error}")?.as_str() == text);
     Ok(())
 }
 
 #[test]
 fn an_error_has_its_text(rt: HostRuntime) -> Result<(), Fail> {
-    for &(error, text) in [
-        (ScriptError::Read, "failed Read"),
-        (ScriptError::Write, "failed Write"),
-        (ScriptError::Memory, "failed Memory"),
-    ]
-    .iter()
-    {
-        let shown = format!(in rt.alloc(); "{error}")?;
-        assert!(rt; shown.as_str() == text);
-    }
+    assert_text(&rt, rt.alloc(), ScriptError::Read, "failed Read")?;
+    assert_text(&rt, rt.alloc(), ScriptError::Write, "failed Write")?;
+    assert_text(&rt, rt.alloc(), ScriptError::Memory, "failed Memory")?;
     Ok(())
 }

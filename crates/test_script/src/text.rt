@@ -2,22 +2,19 @@
 
 use nv_super::{Fault, Kind, Owner, Run, Super, SuperFault};
 use nv_text::*;
-use std::test::Fail;
+use std::alloc::{AllocError, Global};
+use std::process::Abort;
 
-#[test]
-fn an_answer_is_one_line(rt: HostRuntime) -> Result<(), Fail> {
-    let mut out = String::new(rt.alloc());
-    push_ok(&mut out)?;
-    push_stopped(&mut out)?;
-    push_bad_line(&mut out, 8)?;
-    push_recovered(&mut out, 3, 54, 4)?;
-    push_word(&mut out, 18446744073709551615)?;
-    assert!(rt;
-        out.as_str()
-            == "ok\nstopped\nbad line 8\nrecovered inodes 3 free 54 faults 4\nword 18446744073709551615\n"
-    );
-    Ok(())
+fn push_answers(out: &mut String) -> Result<(), AllocError> {
+    push_ok(out)?;
+    push_stopped(out)?;
+    push_bad_line(out, 8)?;
+    push_recovered(out, 3, 54, 4)?;
+    push_word(out, 18446744073709551615)
 }
+
+const ANSWERS: &str = "ok\nstopped\nbad line 8\nrecovered inodes 3 free 54 faults 4\n\
+     word 18446744073709551615\n";
 
 const REFUSALS: [(Refusal, &str); 28] = [
     (Refusal::NoRegion, "refused NoRegion\n"),
@@ -50,30 +47,13 @@ const REFUSALS: [(Refusal, &str); 28] = [
     (Refusal::BadCpu, "refused BadCpu\n"),
 ];
 
-#[test]
-fn each_refusal_has_its_name(rt: HostRuntime) -> Result<(), Fail> {
-    for &(refusal, line) in REFUSALS.iter() {
-        let mut out = String::new(rt.alloc());
-        push_refused(&mut out, refusal)?;
-        assert!(rt; out.as_str() == line, "{line}");
-    }
-    Ok(())
-}
-
-#[test]
-fn a_region_shows_its_numbers(rt: HostRuntime) -> Result<(), Fail> {
-    let numbers = Super {
-        version: 1,
-        cpus: 64,
-        blocks: 65536,
-        table_blocks: 63,
-        state: 0,
-    };
-    let mut out = String::new(rt.alloc());
-    push_region_line(&mut out, &numbers)?;
-    assert!(rt; out.as_str() == "region version 1 cpus 64 blocks 65536 tables 63 state 0\n");
-    Ok(())
-}
+const NUMBERS: Super = Super {
+    version: 1,
+    cpus: 64,
+    blocks: 65536,
+    table_blocks: 63,
+    state: 0,
+};
 
 const ROOT: Attributes = Attributes {
     inode: 1,
@@ -97,20 +77,21 @@ const FILE: Attributes = Attributes {
     time: 446929405319,
 };
 
-#[test]
-fn an_inode_shows_its_attributes_its_log_and_its_extents(rt: HostRuntime) -> Result<(), Fail> {
-    let mut out = String::new(rt.alloc());
-    push_inode_line(&mut out, &ROOT)?;
-    push_log_line(&mut out, &[3, 4], 20488)?;
-    push_stat_line(&mut out, &FILE)?;
-    push_log_line(&mut out, &[], 24648)?;
-    push_page_line(&mut out, 0, 2, 7)?;
-    assert!(rt;
-        out.as_str()
-            == "inode 1 dir mode 493 owner 0 group 0 size 0 links 1 time 18446744073709551615\n  log 3 4 tail 20488\nstat inode 14 file mode 4095 owner 4294967295 group 7 size 6000 links 2 time 446929405319\n  log tail 24648\n  page 0 2 7\n"
-    );
-    Ok(())
+fn push_inodes(out: &mut String) -> Result<(), AllocError> {
+    push_inode_line(out, &ROOT)?;
+    push_log_line(out, &[3, 4], 20488)?;
+    push_stat_line(out, &FILE)?;
+    push_log_line(out, &[], 24648)?;
+    push_page_line(out, 0, 2, 7)
 }
+
+const INODES: &str = "\
+inode 1 dir mode 493 owner 0 group 0 size 0 links 1 time 18446744073709551615
+  log 3 4 tail 20488
+stat inode 14 file mode 4095 owner 4294967295 group 7 size 6000 links 2 time 446929405319
+  log tail 24648
+  page 0 2 7
+";
 
 const NAMES: [(&[u8], &str); 9] = [
     (b"a", "  name a 3\n"),
@@ -124,49 +105,35 @@ const NAMES: [(&[u8], &str); 9] = [
     (b"\xff", "  name \\xff 3\n"),
 ];
 
-#[test]
-fn a_byte_that_could_be_mistaken_is_escaped(rt: HostRuntime) -> Result<(), Fail> {
-    for &(name, line) in NAMES.iter() {
-        let mut out = String::new(rt.alloc());
-        push_name_line(&mut out, name, 3)?;
-        assert!(rt; out.as_str() == line, "{line}");
-    }
-    Ok(())
+fn push_contents(out: &mut String) -> Result<(), AllocError> {
+    push_list_line(out, b"x", 6)?;
+    push_data_line(out, b"AAA\x00\x0a\xff")?;
+    push_data_line(out, b"")
 }
 
-#[test]
-fn a_list_and_a_content_are_shown(rt: HostRuntime) -> Result<(), Fail> {
-    let mut out = String::new(rt.alloc());
-    push_list_line(&mut out, b"x", 6)?;
-    push_data_line(&mut out, b"AAA\x00\x0a\xff")?;
-    push_data_line(&mut out, b"")?;
-    assert!(rt; out.as_str() == "x 6\ndata 414141000aff\ndata\n");
-    Ok(())
-}
-
-#[test]
-fn each_pool_shows_its_free_runs(rt: HostRuntime) -> Result<(), Fail> {
-    let alloc = rt.alloc();
-    let pieces = [(11, 1), (32, 1), (35, 19), (55, 9), (65, 1), (67, 3)];
+/// The runs of two pools, of which the second has none.
+fn two_pools(alloc: Global) -> Result<Vec<Vec<Run>>, AllocError> {
     let mut runs = Vec::new(alloc);
-    for &(start, count) in pieces.iter() {
-        runs.push(Run { start, count })?;
+    for (start, count) in [(11, 1), (32, 1), (35, 19), (55, 9), (65, 1), (67, 3)].iter() {
+        runs.push(Run {
+            start: *start,
+            count: *count,
+        })?;
     }
     let mut pools = Vec::new(alloc);
     pools.push(runs)?;
     pools.push(Vec::new(alloc))?;
-    let mut out = String::new(alloc);
-    push_free_lines(&mut out, &pools)?;
-    push_free_line(
-        &mut out,
-        7,
-        &[Run {
-            start: 4,
-            count: 12,
-        }],
-    )?;
-    assert!(rt; out.as_str() == "free 0 11 32 35-53 55-63 65 67-69\nfree 1\nfree 7 4-15\n");
-    Ok(())
+    Ok(pools)
+}
+
+const ONE_RUN: [Run; 1] = [Run {
+    start: 4,
+    count: 12,
+}];
+
+fn push_pools(alloc: Global, out: &mut String) -> Result<(), AllocError> {
+    push_free_lines(out, &two_pools(alloc)?)?;
+    push_free_line(out, 7, &ONE_RUN)
 }
 
 const FAULTS: [(Fault, &str); 20] = [
@@ -264,21 +231,96 @@ const FAULTS: [(Fault, &str); 20] = [
     ),
 ];
 
+fn push_both_faults(out: &mut String) -> Result<(), AllocError> {
+    push_faults(out, &[])?;
+    push_faults(out, &[Fault::C3 { inode: 8 }, Fault::C5])
+}
+
+/// What is shown.
+#[derive(Clone, Copy)]
+enum Shown<'a> {
+    Answers,
+    Region,
+    Inodes,
+    Contents,
+    Pools,
+    /// None, and then two.
+    Faults,
+    Refusal(Refusal),
+    Name(&'a [u8]),
+    Fault(&'a Fault),
+}
+
+fn push(alloc: Global, out: &mut String, shown: Shown<'_>) -> Result<(), AllocError> {
+    match shown {
+        Shown::Answers => push_answers(out),
+        Shown::Region => push_region_line(out, &NUMBERS),
+        Shown::Inodes => push_inodes(out),
+        Shown::Contents => push_contents(out),
+        Shown::Pools => push_pools(alloc, out),
+        Shown::Faults => push_both_faults(out),
+        Shown::Refusal(refusal) => push_refused(out, refusal),
+        Shown::Name(name) => push_name_line(out, name, 3),
+        Shown::Fault(fault) => push_fault_line(out, fault),
+    }
+}
+
+/// It has this text.
+fn is_shown(
+    rt: &impl Abort,
+    alloc: Global,
+    shown: Shown<'_>,
+    text: &str,
+) -> Result<(), AllocError> {
+    let mut out = String::new(alloc);
+    push(alloc, &mut out, shown)?;
+    assert!(rt; out.as_str() == text, "{text}");
+    Ok(())
+}
+
+const TEXTS: [(Shown<'static>, &str); 6] = [
+    (Shown::Answers, ANSWERS),
+    (
+        Shown::Region,
+        "region version 1 cpus 64 blocks 65536 tables 63 state 0\n",
+    ),
+    (Shown::Inodes, INODES),
+    (Shown::Contents, "x 6\ndata 414141000aff\ndata\n"),
+    (
+        Shown::Pools,
+        "free 0 11 32 35-53 55-63 65 67-69\nfree 1\nfree 7 4-15\n",
+    ),
+    (Shown::Faults, "no faults\nfault C3 inode 8\nfault C5\n"),
+];
+
 #[test]
-fn each_class_of_fault_has_its_line(rt: HostRuntime) -> Result<(), Fail> {
-    for &(fault, line) in FAULTS.iter() {
-        let mut out = String::new(rt.alloc());
-        push_fault_line(&mut out, &fault)?;
-        assert!(rt; out.as_str() == line, "{line}");
+fn values_have_their_lines(rt: HostRuntime) -> Result<(), AllocError> {
+    for (shown, text) in TEXTS.iter() {
+        is_shown(&rt, rt.alloc(), *shown, text)?;
     }
     Ok(())
 }
 
 #[test]
-fn no_faults_are_told_too(rt: HostRuntime) -> Result<(), Fail> {
-    let mut out = String::new(rt.alloc());
-    push_faults(&mut out, &[])?;
-    push_faults(&mut out, &[Fault::C3 { inode: 8 }, Fault::C5])?;
-    assert!(rt; out.as_str() == "no faults\nfault C3 inode 8\nfault C5\n");
+fn each_refusal_has_its_name(rt: HostRuntime) -> Result<(), AllocError> {
+    for (refusal, line) in REFUSALS.iter() {
+        is_shown(&rt, rt.alloc(), Shown::Refusal(*refusal), line)?;
+    }
+    Ok(())
+}
+
+#[test]
+fn a_byte_that_could_be_mistaken_is_escaped(rt: HostRuntime) -> Result<(), AllocError> {
+    for (name, line) in NAMES.iter() {
+        is_shown(&rt, rt.alloc(), Shown::Name(name), line)?;
+    }
+    Ok(())
+}
+
+#[test]
+fn each_class_of_fault_has_its_line(rt: HostRuntime) -> Result<(), AllocError> {
+    for (fault, line) in FAULTS.iter() {
+        is_shown(&rt, rt.alloc(), Shown::Fault(fault), line)?;
+    }
     Ok(())
 }
