@@ -97,18 +97,18 @@ pub prepare_logs-requires-clause-other_one : goal.prepare_logs-requires-clause-o
 prepare_logs-requires-clause-other_one g c = c.requires.more_given.1
 
 pub returns-in_err-blocks-clause-refused : goal.returns-in_err-blocks-clause-refused
-returns-in_err-blocks-clause-refused g c = 
+returns-in_err-blocks-clause-refused g c =
     let w = err_from_is_err_and c.from_residual.result c.from_residual.ensures.1 in
     refused_by c.from_residual.result c.in_err-blocks.field-0.0 w.0 (λ (e : Refusal). RefusesStep e (needed (c.args.row.now.tail % 4096) c.args.first.now.entries.now + needed (c.args.other.now.tail % 4096) c.args.second.now.entries.now) c.args.free.now) w.1 w.2 c.in_err-blocks.ensures.refused
 
 pub returns-in_err-blocks-clause-unchanged : goal.returns-in_err-blocks-clause-unchanged
-returns-in_err-blocks-clause-unchanged g c = 
+returns-in_err-blocks-clause-unchanged g c =
     let w = err_from_is_err_and c.from_residual.result c.from_residual.ensures.1 in
     refused_by c.from_residual.result c.in_err-blocks.field-0.0 w.0 (λ (e : Refusal). (e ≡ Stopped → ⊥) → LeavesStep c.args.memory.now c.args.memory.now c.args.free.now c.prepare_logs.new.free c.args.row.now c.prepare_logs.new.row × SameRow c.args.other.now c.prepare_logs.new.other) w.1 w.2
     (λ _. (record { memory = refl; free = c.in_err-blocks.ensures.unchanged; row = c.in_err-blocks.ensures.row }, c.in_err-blocks.ensures.other))
 
 pub returns-in_err-blocks-clause-stopped : goal.returns-in_err-blocks-clause-stopped
-returns-in_err-blocks-clause-stopped g c = 
+returns-in_err-blocks-clause-stopped g c =
     let w = err_from_is_err_and c.from_residual.result c.from_residual.ensures.1 in
     refused_by c.from_residual.result c.in_err-blocks.field-0.0 w.0 (λ (e : Refusal). e ≡ Stopped → IsTrue (g.P.Pmem.fuse c.args.memory.now).has_burnt) w.1 w.2 (λ is. absurd (c.in_err-blocks.ensures.goes_on is))
 

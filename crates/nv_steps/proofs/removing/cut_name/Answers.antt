@@ -1,4 +1,4 @@
-use Rattle.std.proofs.Common.{◌≡◌, ◌+◌, ◌%◌, ◌<◌, ◌≤◌, ◌∙◌, ◌∷◌, [], ℕ, ap, arith, inl, inr, length, refl, subst, sym, IsTrue, List, vec_len, vec_capacity}
+use Rattle.std.proofs.Common.{◌≡◌, ◌+◌, ◌%◌, ◌<◌, ◌≤◌, ◌∙◌, ◌∷◌, [], ℕ, ap, inl, inr, length, refl, subst, sym, IsTrue, List, vec_len, vec_capacity}
 use Rattle.std.proofs.lemmas.Result.{err_from_is_err_and}
 use Rattle.nv_region.specs.Region.{size}
 use Rattle.nv_region.proofs.Fuses.{keeps_within}
@@ -27,19 +27,19 @@ pub prepare_cut-requires : goal.prepare_cut-requires
 prepare_cut-requires g c = record { cpu = subst (λ (s : Super). c.args.cpu < s.cpus) (sym c.requires.stands.lists) c.requires.can.cpu_below }
 
 pub returns-in_err-fresh-clause-refused : goal.returns-in_err-fresh-clause-refused
-returns-in_err-fresh-clause-refused g c = 
+returns-in_err-fresh-clause-refused g c =
     let w = err_from_is_err_and c.from_residual.result c.from_residual.ensures.1 in
     refused_by c.from_residual.result c.in_err-fresh.field-0.0 w.0 (λ (e : Refusal). RefusesStep e (needed (c.args.directory.now.tail % 4096) (name_entries Remove c.args.gone.now.inode c.args.gone.now.name.now c.args.gone.now.time)) c.args.free.now) w.1 w.2
     (subst (λ (x : Entry). RefusesStep c.in_err-fresh.field-0.0 (needed (c.args.directory.now.tail % 4096) (x ∷ [])) c.args.free.now) c.name_entry.ensures c.in_err-fresh.ensures.refused)
 
 pub returns-in_err-fresh-clause-unchanged : goal.returns-in_err-fresh-clause-unchanged
-returns-in_err-fresh-clause-unchanged g c = 
+returns-in_err-fresh-clause-unchanged g c =
     let w = err_from_is_err_and c.from_residual.result c.from_residual.ensures.1 in
     refused_by c.from_residual.result c.in_err-fresh.field-0.0 w.0 (λ (e : Refusal). (e ≡ Stopped → ⊥) → LeavesStep c.args.memory.now c.args.memory.now c.args.free.now c.prepare_cut.new.free c.args.directory.now c.prepare_cut.new.directory) w.1 w.2
     (λ _. record { memory = refl; free = c.in_err-fresh.ensures.unchanged; row = c.in_err-fresh.ensures.row })
 
 pub returns-in_err-fresh-clause-stopped : goal.returns-in_err-fresh-clause-stopped
-returns-in_err-fresh-clause-stopped g c = 
+returns-in_err-fresh-clause-stopped g c =
     let w = err_from_is_err_and c.from_residual.result c.from_residual.ensures.1 in
     refused_by c.from_residual.result c.in_err-fresh.field-0.0 w.0 (λ (e : Refusal). e ≡ Stopped → IsTrue (g.P.Pmem.fuse c.args.memory.now).has_burnt) w.1 w.2 (λ is. absurd (c.in_err-fresh.ensures.goes_on is))
 
@@ -105,7 +105,7 @@ pub returns-in_default-clause-length : goal.returns-in_default-clause-length
 returns-in_default-clause-length g c = mixed_size c.remove_inode.ensures.wrote.mixed
 
 pub settle_cut-requires : goal.settle_cut-requires
-settle_cut-requires g c = 
+settle_cut-requires g c =
     subst (λ (bs : List ℕ). vec_len c.prepare_cut.new.directory.pages + length bs ≤ vec_capacity c.prepare_cut.new.directory.pages) (sym c.deref-2.ensures.value) c.in_ok-fresh.ensures.pages_room
 
 pub returns-clause-enough : goal.returns-clause-enough

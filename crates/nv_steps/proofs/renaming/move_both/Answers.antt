@@ -45,12 +45,12 @@ pub append_logs-requires-clause-more_given : goal.append_logs-requires-clause-mo
 append_logs-requires-clause-more_given g c = subst (λ (x : Entry). AreGiven (x ∷ []) × (length (x ∷ []) ≡ 1)) (sym c.name_entry-2.ensures) ((refl, tt), refl)
 
 pub returns-in_err-append_logs-clause-unchanged : goal.returns-in_err-append_logs-clause-unchanged
-returns-in_err-append_logs-clause-unchanged g c = 
+returns-in_err-append_logs-clause-unchanged g c =
     let w = err_from_is_err_and c.from_residual.result c.from_residual.ensures.1 in
     refused_by c.from_residual.result c.in_err-append_logs.field-0.0 w.0 (λ (e : Refusal). (e ≡ Stopped → ⊥) → LeavesStep c.args.memory.now c.append_logs.new.memory c.args.free.now c.append_logs.new.free c.args.from.now c.append_logs.new.row × SameRow c.args.to.now c.append_logs.new.other) w.1 w.2 c.in_err-append_logs.ensures.unchanged
 
 pub returns-in_err-append_logs-clause-stopped : goal.returns-in_err-append_logs-clause-stopped
-returns-in_err-append_logs-clause-stopped g c = 
+returns-in_err-append_logs-clause-stopped g c =
     let w = err_from_is_err_and c.from_residual.result c.from_residual.ensures.1 in
     refused_by c.from_residual.result c.in_err-append_logs.field-0.0 w.0 (λ (e : Refusal). e ≡ Stopped → IsTrue (g.P.Pmem.fuse c.append_logs.new.memory).has_burnt) w.1 w.2 c.in_err-append_logs.ensures.stopped
 
@@ -70,7 +70,7 @@ pub returns-in_err-append_logs-clause-keeps_fuse : goal.returns-in_err-append_lo
 returns-in_err-append_logs-clause-keeps_fuse g c = c.in_err-append_logs.ensures.keeps_fuse
 
 pub returns-clause-enough : goal.returns-clause-enough
-returns-clause-enough g c = 
+returns-clause-enough g c =
     subst (λ (x : Entry). needed (c.args.from.now.tail % 4096) (name_entries Remove c.args.moved.now.inode c.args.moved.now.name.now c.args.moved.now.time) + needed (c.args.to.now.tail % 4096) (x ∷ []) ≤ all_blocks c.args.free.now.pools) c.name_entry-2.ensures
     (subst (λ (x : Entry). needed (c.args.from.now.tail % 4096) (x ∷ []) + needed (c.args.to.now.tail % 4096) (c.name_entry-2.result ∷ []) ≤ all_blocks c.args.free.now.pools) c.name_entry.ensures c.in_ok-append_logs.ensures.enough)
 

@@ -41,21 +41,21 @@ pub append_log-requires-clause-cpu : goal.append_log-requires-clause-cpu
 append_log-requires-clause-cpu g c = c.requires.cpu
 
 pub append_log-requires-clause-stands : goal.append_log-requires-clause-stands
-append_log-requires-clause-stands g c = record { layout = c.requires.stands.layout; lists = c.requires.stands.lists; number = c.requires.stands.number; whole = c.requires.stands.whole; inside = c.requires.stands.inside; aligned = c.requires.stands.aligned; offset = c.requires.stands.offset; blocks = c.requires.stands.blocks; in_blocks = c.requires.stands.in_blocks; used = c.requires.stands.used; }
+append_log-requires-clause-stands g c = record { layout = c.requires.stands.layout; lists = c.requires.stands.lists; number = c.requires.stands.number; whole = c.requires.stands.whole; inside = c.requires.stands.inside; aligned = c.requires.stands.aligned; offset = c.requires.stands.offset; blocks = c.requires.stands.blocks; in_blocks = c.requires.stands.in_blocks; used = c.requires.stands.used }
 
 pub append_log-requires-clause-given : goal.append_log-requires-clause-given
-append_log-requires-clause-given g c = 
+append_log-requires-clause-given g c =
     subst (λ (x : Entry). AreGiven (x ∷ c.name_entry-2.result ∷ [])) (sym c.name_entry.ensures) (subst (λ (x : Entry). AreGiven (Name (record { operation = Remove; inode = c.args.moved.now.inode; time = c.args.moved.now.time; name = c.args.moved.now.name.now }) ∷ x ∷ [])) (sym c.name_entry-2.ensures) (refl, (refl, tt)))
 
 pub returns-in_err-append_log-clause-refused : goal.returns-in_err-append_log-clause-refused
-returns-in_err-append_log-clause-refused g c = 
+returns-in_err-append_log-clause-refused g c =
     let w = err_from_is_err_and c.from_residual.result c.from_residual.ensures.1 in
     refused_by c.from_residual.result c.in_err-append_log.field-0.0 w.0 (λ (e : Refusal). RefusesStep e (needed (c.args.directory.now.tail % 4096) (move_entries c.args.moved.now.inode c.args.moved.now.name.now c.args.moved.now.other.now c.args.moved.now.time)) c.args.free.now) w.1 w.2
     (subst (λ (x : Entry). RefusesStep c.in_err-append_log.field-0.0 (needed (c.args.directory.now.tail % 4096) (Name (record { operation = Remove; inode = c.args.moved.now.inode; time = c.args.moved.now.time; name = c.args.moved.now.name.now }) ∷ x ∷ [])) c.args.free.now) c.name_entry-2.ensures
     (subst (λ (x : Entry). RefusesStep c.in_err-append_log.field-0.0 (needed (c.args.directory.now.tail % 4096) (x ∷ c.name_entry-2.result ∷ [])) c.args.free.now) c.name_entry.ensures c.in_err-append_log.ensures.refused))
 
 pub returns-in_err-append_log-clause-stopped : goal.returns-in_err-append_log-clause-stopped
-returns-in_err-append_log-clause-stopped g c = 
+returns-in_err-append_log-clause-stopped g c =
     let w = err_from_is_err_and c.from_residual.result c.from_residual.ensures.1 in
     refused_by c.from_residual.result c.in_err-append_log.field-0.0 w.0 (λ (e : Refusal). e ≡ Stopped → IsTrue (g.P.Pmem.fuse c.append_log.new.memory).has_burnt) w.1 w.2 c.in_err-append_log.ensures.stopped
 
@@ -72,7 +72,7 @@ pub returns-in_err-append_log-clause-keeps_fuse : goal.returns-in_err-append_log
 returns-in_err-append_log-clause-keeps_fuse g c = c.in_err-append_log.ensures.keeps_fuse
 
 pub returns-clause-enough : goal.returns-clause-enough
-returns-clause-enough g c = 
+returns-clause-enough g c =
     subst (λ (x : Entry). needed (c.args.directory.now.tail % 4096) (Name (record { operation = Remove; inode = c.args.moved.now.inode; time = c.args.moved.now.time; name = c.args.moved.now.name.now }) ∷ x ∷ []) ≤ all_blocks c.args.free.now.pools) c.name_entry-2.ensures
     (subst (λ (x : Entry). needed (c.args.directory.now.tail % 4096) (x ∷ c.name_entry-2.result ∷ []) ≤ all_blocks c.args.free.now.pools) c.name_entry.ensures c.in_ok-append_log.ensures.enough)
 

@@ -27,7 +27,7 @@ pub append_log-requires-clause-given : goal.append_log-requires-clause-given
 append_log-requires-clause-given g c = (refl, tt)
 
 pub returns-in_err-append_log-clause-stopped : goal.returns-in_err-append_log-clause-stopped
-returns-in_err-append_log-clause-stopped g c = 
+returns-in_err-append_log-clause-stopped g c =
     let w = err_from_is_err_and c.from_residual.result c.from_residual.ensures.1 in
     refused_by c.from_residual.result c.in_err-append_log.field-0.0 w.0 (λ (e : Refusal). e ≡ Stopped → IsTrue (g.P.Pmem.fuse c.append_log.new.memory).has_burnt) w.1 w.2 c.in_err-append_log.ensures.stopped
 

@@ -43,12 +43,12 @@ pub append_logs-requires-clause-more_given : goal.append_logs-requires-clause-mo
 append_logs-requires-clause-more_given g c = ((refl, tt), refl)
 
 pub returns-in_err-append_logs-clause-unchanged : goal.returns-in_err-append_logs-clause-unchanged
-returns-in_err-append_logs-clause-unchanged g c = 
+returns-in_err-append_logs-clause-unchanged g c =
     let w = err_from_is_err_and c.from_residual.result c.from_residual.ensures.1 in
     refused_by c.from_residual.result c.in_err-append_logs.field-0.0 w.0 (λ (e : Refusal). (e ≡ Stopped → ⊥) → LeavesStep c.args.memory.now c.append_logs.new.memory c.args.free.now c.append_logs.new.free c.args.directory.now c.append_logs.new.row × SameRow c.args.file.now c.append_logs.new.other) w.1 w.2 c.in_err-append_logs.ensures.unchanged
 
 pub returns-in_err-append_logs-clause-stopped : goal.returns-in_err-append_logs-clause-stopped
-returns-in_err-append_logs-clause-stopped g c = 
+returns-in_err-append_logs-clause-stopped g c =
     let w = err_from_is_err_and c.from_residual.result c.from_residual.ensures.1 in
     refused_by c.from_residual.result c.in_err-append_logs.field-0.0 w.0 (λ (e : Refusal). e ≡ Stopped → IsTrue (g.P.Pmem.fuse c.append_logs.new.memory).has_burnt) w.1 w.2 c.in_err-append_logs.ensures.stopped
 

@@ -1,4 +1,4 @@
-use Rattle.std.proofs.Common.{◌∙◌, ℕ, List, length, inr, sym, subst, refl}
+use Rattle.std.proofs.Common.{◌∙◌, ℕ, List, length, inr, sym, subst, refl, inl}
 use Rattle.nv_region.specs.Region.{Region}
 use Rattle.nv_super.specs.declared.owners.Run.{Run}
 use Rattle.nv_alloc.specs.FreeLists.{JoinAll}
@@ -72,3 +72,66 @@ returns-in-Ok-commit_data-clause-lists g c = c.give_all.ensures.lists ∙ prepar
 
 pub returns-clause-lists : goal.returns-clause-lists
 returns-clause-lists g c = prepared_sup c.in-Ok.ensures.prepared
+
+pub returns-in-Ok-commit_data-clause-enough : goal.returns-in-Ok-commit_data-clause-enough
+returns-in-Ok-commit_data-clause-enough g c = c.in-Ok.ensures.enough
+
+pub returns-in-Ok-commit_data-clause-settled : goal.returns-in-Ok-commit_data-clause-settled
+returns-in-Ok-commit_data-clause-settled g c = c.in-Ok-commit_data.ensures.settled
+
+pub returns-in-Ok-commit_data-clause-refused : goal.returns-in-Ok-commit_data-clause-refused
+returns-in-Ok-commit_data-clause-refused g c = tt
+
+pub returns-in-Ok-commit_data-clause-unchanged : goal.returns-in-Ok-commit_data-clause-unchanged
+returns-in-Ok-commit_data-clause-unchanged g c = tt
+
+pub returns-in-Ok-commit_data-clause-stopped : goal.returns-in-Ok-commit_data-clause-stopped
+returns-in-Ok-commit_data-clause-stopped g c = tt
+
+pub returns-in-Ok-commit_data-clause-length : goal.returns-in-Ok-commit_data-clause-length
+returns-in-Ok-commit_data-clause-length g c = c.in-Ok-commit_data.ensures.length
+
+pub returns-in-Ok-commit_data-clause-keeps_fuse : goal.returns-in-Ok-commit_data-clause-keeps_fuse
+returns-in-Ok-commit_data-clause-keeps_fuse g c = c.in-Ok-commit_data.ensures.keeps_fuse
+
+pub returns-clause-writes : goal.returns-clause-writes
+returns-clause-writes g c = tt
+
+pub returns-clause-enough : goal.returns-clause-enough
+returns-clause-enough g c = tt
+
+pub returns-clause-settled : goal.returns-clause-settled
+returns-clause-settled g c = tt
+
+pub returns-clause-refused : goal.returns-clause-refused
+returns-clause-refused g c = inr (inl refl)
+
+pub returns-clause-unchanged : goal.returns-clause-unchanged
+returns-clause-unchanged g c = λ goes_on. absurd (goes_on refl)
+
+pub returns-clause-inode : goal.returns-clause-inode
+returns-clause-inode g c = c.in-Ok.ensures.row.inode
+
+pub returns-clause-length : goal.returns-clause-length
+returns-clause-length g c = c.commit_data.ensures.length
+
+pub returns-clause-keeps_fuse : goal.returns-clause-keeps_fuse
+returns-clause-keeps_fuse g c = c.commit_data.ensures.keeps_fuse
+
+pub returns-in-Err-NoSpace-clause-writes : goal.returns-in-Err-NoSpace-clause-writes
+returns-in-Err-NoSpace-clause-writes g c = tt
+
+pub returns-in-Err-NoSpace-clause-enough : goal.returns-in-Err-NoSpace-clause-enough
+returns-in-Err-NoSpace-clause-enough g c = tt
+
+pub returns-in-Err-NoSpace-clause-settled : goal.returns-in-Err-NoSpace-clause-settled
+returns-in-Err-NoSpace-clause-settled g c = tt
+
+pub returns-in-Err-NoSpace-clause-unchanged : goal.returns-in-Err-NoSpace-clause-unchanged
+returns-in-Err-NoSpace-clause-unchanged g c = λ _. record { memory = refl; free = c.in-Err-NoSpace.ensures.unchanged; row = c.in-Err-NoSpace.ensures.row }
+
+pub returns-in-Err-NoSpace-clause-inode : goal.returns-in-Err-NoSpace-clause-inode
+returns-in-Err-NoSpace-clause-inode g c = c.in-Err-NoSpace.ensures.row.inode
+
+pub returns-in-Err-NoSpace-clause-length : goal.returns-in-Err-NoSpace-clause-length
+returns-in-Err-NoSpace-clause-length g c = refl
