@@ -20,16 +20,13 @@ drop-next : {A : Type 0} (l : List A) (i : ℕ) (d : A) → i < length l → dro
 drop-next l i d here = rw add-one (drop-cons l i d here)
 
 -- The commands of a table that are left, with one of them added.
-pub with_one_more : (forms : List CommandForm) (i : ℕ) (d : CommandForm) (old new : Command) (app : App) → i < length forms
-    → app_of new ≡ with_subcommand (app_of old) (app_by (slice_index_or forms i d)).top
+pub with_one_more : (forms : List CommandForm) (i : ℕ) (d : CommandForm) (old sub new : Command) (app : App) → i < length forms
+    → app_of sub ≡ app_by (slice_index_or forms i d) → (out-Command sub).has_globals ≡ false → AddsSubcommand old sub new
     → with_commands (app_of old) (map app_by (drop i forms)) ≡ app → with_commands (app_of new) (map app_by (drop (i + 1) forms)) ≡ app
-with_one_more forms i d old new app here added left =
+with_one_more forms i d old sub new app here is local adds left =
+    let added : app_of new ≡ with_subcommand (app_of old) (app_by (slice_index_or forms i d)).top = with_command old sub new _ _ refl is local adds in
     let rest : with_commands (app_of old) (app_by (slice_index_or forms i d) ∷ map app_by (drop (i + 1) forms)) ≡ app = rw (drop-next forms i d here) at left in
     ap (λ a. with_commands a (map app_by (drop (i + 1) forms))) added ∙ rest
-
--- The program with these commands, where it is known what it begins with.
-pub begun_with : (program start begun : App) (apps : List App) → program ≡ with_commands start apps → start ≡ begun → program ≡ with_commands begun apps
-begun_with program start begun apps is starts = is ∙ ap (λ a. with_commands a apps) starts
 
 -- The arguments of a command's form that are left, with one of them added.
 pub with_one_argument_more : (arguments : List Argument) (i : ℕ) (d : Argument) (old new : Command) (a : Arg) (app : App) → i < length arguments

@@ -1,9 +1,9 @@
 //! The command line of the program, with the help that a user reads.
 
-ghost use Rattle.std.specs.Prelude.{◌≡◌, IfOk, false, map};
-ghost use Rattle.clap.specs.Simple.{app_of, with_subcommand};
+ghost use Rattle.std.specs.Prelude.{◌≡◌, IfOk, false};
+ghost use Rattle.clap.specs.Simple.{app_of};
 ghost use Rattle.clap.specs.declared.builder.command.Command.TheViews.{out-Command};
-ghost use Rattle.nv_args.specs.CommandLine.{bare_app, nova_app, with_commands};
+ghost use Rattle.nv_args.specs.CommandLine.{bare_app, nova_app};
 ghost use Rattle.nv_args.specs.Tables.{app_by};
 
 use crate::arguments::{Argument, Written, arg_of};
@@ -229,39 +229,13 @@ fn bare<'a>(alloc: Global) -> Result<Command<'a>, AllocError>
         .bin_name("nova")
 }
 
-// The program with one command more.
-fn add_command<'a>(
-    alloc: Global,
-    program: Command<'a>,
-    form: &CommandForm<'a>,
-) -> Result<Command<'a>, AllocError>
-    ensures { IfOk result (λ c. app_of c ≡ with_subcommand (app_of program.entry) (app_by form.now).top) }
-{
-    match command_of(alloc, form) {
-        Ok(command) => program.subcommand(command),
-        Err(error) => Err(error),
-    }
-}
-
-fn add_commands<'a>(
-    alloc: Global,
-    mut program: Command<'a>,
-    forms: &[CommandForm<'a>],
-) -> Result<Command<'a>, AllocError>
-    ensures { IfOk result (λ c. app_of c ≡ with_commands (app_of program.entry) (map app_by forms.now)) }
-{
-    for form in forms {
-        program = add_command(alloc, program, form)?;
-    }
-    Ok(program)
-}
-
 /// The program's command line. Fails where memory is refused.
 pub(crate) fn nova<'a>(alloc: Global) -> Result<Command<'a>, AllocError>
     ensures { IfOk result (λ c. app_of c ≡ nova_app) }
 {
-    match bare(alloc) {
-        Ok(program) => add_commands(alloc, program, &COMMANDS),
-        Err(error) => Err(error),
+    let mut program = bare(alloc)?;
+    for form in COMMANDS.iter() {
+        program = program.subcommand(command_of(alloc, form)?)?;
     }
+    Ok(program)
 }

@@ -1,8 +1,7 @@
-use Rattle.std.proofs.Common.{◌∷◌}
-use Rattle.std.proofs.lemmas.Result.{IfOk-weaker}
-use Rattle.nv_args.specs.CommandLine.{run_app, check_app, image_apps}
-use Rattle.nv_args.proofs.Adding.{begun_with}
+use Rattle.nv_args.proofs.Adding.{with_one_more}
 use Rattle.nv_args.proofs.command_line.nova.Goals as goal
 
-pub returns-in-Ok : goal.returns-in-Ok
-returns-in-Ok c = IfOk-weaker c.add_commands.result _ _ (λ program is. begun_with _ _ _ (run_app ∷ check_app ∷ image_apps) is c.in-Ok.ensures) c.add_commands.ensures
+pub loop-form-preserved : goal.loop-form-preserved
+loop-form-preserved c =
+    with_one_more _ c.loop-form.form-index _ _ _ _ _ c.loop-form-test.true c.in_ok-command_of.ensures.shape c.in_ok-command_of.ensures.local
+    c.in_ok-program-2.ensures c.loop-form.invariant
