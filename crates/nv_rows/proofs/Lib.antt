@@ -6,3 +6,4 @@ pub mod InOrder
 pub mod UsedPlaces
 pub mod LowestPlace
 pub mod Places
+pub mod Early

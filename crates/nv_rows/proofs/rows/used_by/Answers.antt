@@ -1,8 +1,9 @@
-use Rattle.std.proofs.Common.{ℕ, length, get_or, ap, ◌∙◌, arith}
-use Rattle.std.proofs.lemmas.List.{take_more}
+use Rattle.std.proofs.Common.{ℕ, ◌<◌, List, length, get_or, ap, ◌∙◌, arith, subst, sym}
+use Rattle.std.proofs.lemmas.List.{take_all, take_more}
 use Rattle.nv_blockset.proofs.Sets.{with_block_long}
 use Rattle.nv_super.specs.Layout.{inode_limit}
-use Rattle.nv_rows.specs.InUse.{place_of}
+use Rattle.nv_rows.specs.InUse.{HasUsed, place_of}
+use Rattle.nv_rows.proofs.Early.{if_ok_err}
 use Rattle.nv_rows.proofs.UsedPlaces.{all_written, word_there, HasUsed-more, below_front}
 use Rattle.nv_rows.proofs.rows.used_by.Goals as goal
 
@@ -26,3 +27,21 @@ loop-number-preserved c =
     let long = ap length put ∙ with_block_long used (place_of s number) in
     rw (all_written c.loop-number.used.len used c.insert.new.words c.loop-number.used.ok.0 long, take_more numbers n 0 inside, put)
     (HasUsed-more s c.requires.layout _ used number (c.requires.numbers.below n inside) (below_front (inode_limit s) numbers n c.requires.numbers (omega (arith, inside))) c.loop-number.invariant)
+
+pub inode_limit-requires : goal.inode_limit-requires
+inode_limit-requires c = c.requires.layout.areas
+
+pub returns-in_err-used : goal.returns-in_err-used
+returns-in_err-used c = if_ok_err c.from_residual.result _ c.from_residual.ensures.0
+
+pub bounds-numbers-number-index : goal.bounds-numbers-number-index
+bounds-numbers-number-index c = c.loop-number-test.true
+
+pub place_of-requires-clause-layout : goal.place_of-requires-clause-layout
+place_of-requires-clause-layout c = c.requires.layout
+
+pub place_of-requires-clause-inode : goal.place_of-requires-clause-inode
+place_of-requires-clause-inode c = subst (λ (i : ℕ). i < inode_limit c.args.sup.now) (sym c.from.ensures) (c.requires.numbers.below c.loop-number.number-index c.loop-number-test.true)
+
+pub returns : goal.returns
+returns c = subst (λ (numbers : List ℕ). HasUsed c.args.sup.now numbers c.loop-number.used.items) (take_all c.loop-number.number-index c.args.numbers.now c.loop-number-test.false) c.loop-number.invariant

@@ -1,11 +1,14 @@
-use Rattle.std.proofs.Common.{◌<◌, length, is_some, sym, ◌∙◌, ap, arith, zero-add}
+use Rattle.std.proofs.Common.{◌≡◌, ◌+◌, ◌<◌, ◌≤◌, OnSome, ℕ, List, Option, length, is_some, sym, subst, ◌∙◌, ap, arith, zero-add}
 use Rattle.nv_super.specs.Layout.{inode_limit}
 use Rattle.nv_blockset.proofs.TakenOut.{without_long}
 use Rattle.nv_numbered.proofs.SlotLemmas.{set_none}
-use Rattle.nv_rows.specs.InUse.{place_of}
+use Rattle.nv_scan.specs.declared.piece.Row.{Row}
+use Rattle.nv_rows.specs.InUse.{AreRows, place_of}
+use Rattle.nv_rows.specs.RowList.{RowList}
 use Rattle.nv_rows.specs.Slots.{rows_in}
 use Rattle.nv_rows.proofs.SlotRows.{row_at_slot, slot_emptied, slot_within, stand-emptied, number_out, row_gone}
-use Rattle.nv_rows.proofs.UsedPlaces.{all_written, TellsUsed-emptied}
+use Rattle.nv_rows.proofs.UsedPlaces.{all_written, word_there, TellsUsed-emptied}
+use Rattle.nv_rows.proofs.Early.{none_there}
 use Rattle.nv_rows.proofs.rows.Rows.remove.Goals as goal
 
 pub invariant_of-self : goal.invariant_of-self
@@ -61,3 +64,54 @@ returns-then-is_some-clause-gone c =
 pub returns-else-is_some-clause-gone : goal.returns-else-is_some-clause-gone
 returns-else-is_some-clause-gone c =
     rw c.remove-row.ensures.values (row_gone c.self.inside.rows.slots c.args.inode c.self.invariant.stand)
+
+pub place_of-requires-clause-layout : goal.place_of-requires-clause-layout
+place_of-requires-clause-layout c = c.self.invariant.layout
+
+pub place_of-requires-clause-inode : goal.place_of-requires-clause-inode
+place_of-requires-clause-inode c =
+    let t = c.self.inside in
+    let inside = slot_within t.rows.slots c.args.inode (ap is_some (sym c.remove-row.ensures.value) ∙ sym c.if-is_some.ensures) in
+    subst (λ (limit : ℕ). c.args.inode < limit) c.self.invariant.tells.long inside
+
+pub remove-requires : goal.remove-requires
+remove-requires c =
+    let t = c.self.inside in
+    let inside = slot_within t.rows.slots c.args.inode (ap is_some (sym c.remove-row.ensures.value) ∙ sym c.if-is_some.ensures) in
+    let below : c.args.inode < inode_limit t.sup = subst (λ (limit : ℕ). c.args.inode < limit) c.self.invariant.tells.long inside in
+    rw (c.deref_mut.ensures.value, c.place_of.ensures) (word_there t.sup c.self.invariant.layout t.used.items c.args.inode c.self.invariant.tells.room below)
+
+pub invariant_of-self-else-is_some : goal.invariant_of-self-else-is_some
+invariant_of-self-else-is_some c =
+    let t = c.self.inside in
+    let vacant = sym c.remove-row.ensures.value ∙ none_there c.remove-row.result c.if-is_some.ensures in
+    subst (λ (slots : List (Option Row)). AreRows t.sup slots t.used.items) (set_none t.rows.slots c.args.inode vacant ∙ sym c.remove-row.ensures.values) c.self.invariant
+
+pub returns-then-is_some-clause-sup : goal.returns-then-is_some-clause-sup
+returns-then-is_some-clause-sup c = ap (λ (l : RowList). l.sup) c.self.view_is
+
+pub returns-then-is_some-clause-room : goal.returns-then-is_some-clause-room
+returns-then-is_some-clause-room c = subst (λ (l : RowList). l.room ≤ c.remove-row.new.self.room) c.self.view_is c.remove-row.ensures.room
+
+pub returns-then-is_some-clause-freed : goal.returns-then-is_some-clause-freed
+returns-then-is_some-clause-freed c = subst (λ (l : RowList). OnSome c.remove-row.result (c.remove-row.new.self.room ≡ l.room + 1)) c.self.view_is c.remove-row.ensures.freed
+
+pub returns-else-is_some-clause-number : goal.returns-else-is_some-clause-number
+returns-else-is_some-clause-number c =
+    let t = c.self.inside in
+    number_out t.rows.slots c.args.inode (inode_limit t.sup) c.remove-row.result c.remove-row.ensures.value c.self.invariant.stand c.self.invariant.tells.long
+
+pub returns-else-is_some-clause-unchanged : goal.returns-else-is_some-clause-unchanged
+returns-else-is_some-clause-unchanged c none =
+    let slots = c.self.inside.rows.slots in
+    let vacant = sym (row_at_slot slots c.args.inode c.self.invariant.stand) ∙ rw (← c.self.view_is) at none in
+    rw (← c.self.view_is, c.remove-row.ensures.values) (ap rows_in (sym (set_none slots c.args.inode vacant)))
+
+pub returns-else-is_some-clause-sup : goal.returns-else-is_some-clause-sup
+returns-else-is_some-clause-sup c = ap (λ (l : RowList). l.sup) c.self.view_is
+
+pub returns-else-is_some-clause-room : goal.returns-else-is_some-clause-room
+returns-else-is_some-clause-room c = subst (λ (l : RowList). l.room ≤ c.remove-row.new.self.room) c.self.view_is c.remove-row.ensures.room
+
+pub returns-else-is_some-clause-freed : goal.returns-else-is_some-clause-freed
+returns-else-is_some-clause-freed c = subst (λ (l : RowList). OnSome c.remove-row.result (c.remove-row.new.self.room ≡ l.room + 1)) c.self.view_is c.remove-row.ensures.freed
