@@ -1,5 +1,5 @@
 -- From what was scanned to the outcome.
-use Rattle.std.proofs.Common.{◌≡◌, ℕ, List, ◌++◌, map, ap, sym, ◌∙◌, subst}
+use Rattle.std.proofs.Common.{◌≡◌, ℕ, List, ◌++◌, map, ap, sym, ◌∙◌, subst, arith, append_assoc}
 use Rattle.std.specs.List.Sorted.{IsPermutation}
 use Rattle.std.proofs.lemmas.List.Sorted.{Contains-permutation, IsPermutation-sym, IsPermutation-append_left, IsPermutation-append_right}
 use Rattle.nv_region.specs.Region.{Region}
@@ -47,6 +47,13 @@ doubled_same {found = found} one two are = subst (λ (z : List (ℕ × Owner) ×
 
 pub told_same : (journal : List Fault) {own own' cross cross' faults : List Fault} {doubled doubled' : List (ℕ × Owner)} → own ≡ own' → cross ≡ cross' → doubled ≡ doubled' → SortedOf fault_key (all_told journal own cross doubled) faults → SortedOf fault_key (all_told journal own' cross' doubled') faults
 told_same journal {faults = faults} one two three are = subst (λ (told : List Fault). SortedOf fault_key told faults) (λ i. all_told journal (one i) (two i) (three i)) are
+
+grouped : (a b c d : List Fault) → ((a ++ b) ++ c) ++ d ≡ a ++ (b ++ (c ++ d))
+grouped a b c d = grind (arith, append_assoc)
+
+pub told_of : (journal own cross : List Fault) (doubled : List (ℕ × Owner)) {one two three : List Fault} → one ≡ journal ++ own → two ≡ one ++ cross → three ≡ two ++ map double_fault doubled → three ≡ all_told journal own cross doubled
+told_of journal own cross doubled p q r =
+    r ∙ (ap (λ (xs : List Fault). xs ++ map double_fault doubled) (q ∙ ap (λ (xs : List Fault). xs ++ cross) p) ∙ grouped journal own cross (map double_fault doubled))
 
 -- What is made of what was scanned: the rows in order, the blocks outside the first set, the claims of the second set, and all faults in order.
 pub record IsMade (o : Started) (x : Scanned) (r : Recovered) : Type 0 where

@@ -1,3 +1,5 @@
+pub mod Handed
+pub mod MadeMaps
 pub mod TwoSets
 pub mod Inodes
 pub mod Tickets

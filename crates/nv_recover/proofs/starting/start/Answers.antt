@@ -1,6 +1,81 @@
-use Rattle.std.proofs.Common.{rules}
+use Rattle.std.proofs.Common.{◌≡◌, ◌≢◌, ◌*◌, IsTrue, ap, refl, subst}
+use Rattle.nv_region.proofs.Fuses.{keeps_within}
+use Rattle.nv_super.specs.Layout.{system_blocks}
+use Rattle.nv_super.specs.declared.superblock.Super.{Super}
 use Rattle.nv_super.proofs.Accepted.{super_outside}
+use Rattle.nv_journal.specs.Undone.{AllQuiet}
+use Rattle.nv_outcome.proofs.SuperOf.{one_super}
+use Rattle.nv_recover.specs.Errors.{Fails, comes_first, error_of_undo}
+use Rattle.nv_recover.specs.declared.errors.RecoverError.{RecoverError}
+use Rattle.nv_recover.specs.declared.errors.RecoverError.TheVariants.{Super as Refused, Stopped}
+use Rattle.nv_recover.proofs.Handed.{burnt_of, fails_of, goes_on, handed, no_stop_of}
 use Rattle.nv_recover.proofs.starting.start.Goals as goal
 
+pub returns-in_err-sup-clause-quiet : goal.returns-in_err-sup-clause-quiet
+returns-in_err-sup-clause-quiet g c = λ s is quiet. refl
+
+pub returns-in_err-sup-clause-quiet_done : goal.returns-in_err-sup-clause-quiet_done
+returns-in_err-sup-clause-quiet_done g c = λ s is quiet. handed c.from_residual.result (Refused c.in_err-sup.field-0.0) (λ (e : RecoverError). e ≢ Stopped) c.from_residual.ensures.1 (goes_on _ tt)
+
+pub returns-in_err-sup-clause-untouched : goal.returns-in_err-sup-clause-untouched
+returns-in_err-sup-clause-untouched g c = handed c.from_residual.result (Refused c.in_err-sup.field-0.0) (λ (e : RecoverError). IsTrue (comes_first e) → c.args.memory.now ≡ c.args.memory.now) c.from_residual.ensures.1 (λ first. refl)
+
+pub returns-in_err-sup-clause-err : goal.returns-in_err-sup-clause-err
+returns-in_err-sup-clause-err g c = λ workers schedule. let R = g.P.Pmem.region c.args.memory.now in
+    handed c.from_residual.result (Refused c.in_err-sup.field-0.0) (λ (e : RecoverError). Fails workers schedule e R R) c.from_residual.ensures.1 (c.in_err-sup.ensures.refused, refl)
+
+pub returns-in_err-sup-clause-stopped : goal.returns-in_err-sup-clause-stopped
+returns-in_err-sup-clause-stopped g c = handed c.from_residual.result (Refused c.in_err-sup.field-0.0) (λ (e : RecoverError). e ≡ Stopped → IsTrue (g.P.Pmem.fuse c.args.memory.now).has_burnt) c.from_residual.ensures.1 (λ is. absurd (goes_on (Refused c.in_err-sup.field-0.0) tt is))
+
+pub returns-in_err-sup-clause-keeps_fuse : goal.returns-in_err-sup-clause-keeps_fuse
+returns-in_err-sup-clause-keeps_fuse g c = record { burnt = λ was. was; steady = λ was. was; stays_open = λ limit past was. was }
+
+pub returns-in_err-sup-clause-unstopped : goal.returns-in_err-sup-clause-unstopped
+returns-in_err-sup-clause-unstopped g c = λ s is free. handed c.from_residual.result (Refused c.in_err-sup.field-0.0) (λ (e : RecoverError). e ≢ Stopped) c.from_residual.ensures.1 (goes_on _ tt)
+
+pub returns-in_err-journal-clause-quiet : goal.returns-in_err-journal-clause-quiet
+returns-in_err-journal-clause-quiet g c = λ s is quiet. let R = g.P.Pmem.region c.args.memory.now in
+    c.undo.ensures.quiet (subst (λ (t : Super). AllQuiet t.cpus R) (one_super R c.in_ok-sup.sup s c.in_ok-sup.ensures.accepted is) quiet)
+
+pub returns-in_err-journal-clause-quiet_done : goal.returns-in_err-journal-clause-quiet_done
+returns-in_err-journal-clause-quiet_done g c = λ s is quiet. let R = g.P.Pmem.region c.args.memory.now in
+    handed c.from_residual-in_err-journal.result (error_of_undo c.in_err-journal.field-0.0) (λ (e : RecoverError). e ≢ Stopped) c.from_residual-in_err-journal.ensures.1
+    (no_stop_of c.undo.result c.in_err-journal.field-0.0 c.in_err-journal.was (c.undo.ensures.quiet_done (subst (λ (t : Super). AllQuiet t.cpus R) (one_super R c.in_ok-sup.sup s c.in_ok-sup.ensures.accepted is) quiet)))
+
 pub returns-in_err-journal-clause-err : goal.returns-in_err-journal-clause-err
-returns-in_err-journal-clause-err g c = let stays = super_outside _ _ _ c.undo.ensures.outside _ c.in_ok-sup.ensures.accepted in search rules
+returns-in_err-journal-clause-err g c = λ workers schedule.
+    let R = g.P.Pmem.region c.args.memory.now in
+    let Q = g.P.Pmem.region c.undo.new.memory in
+    let is = c.in_ok-sup.ensures.accepted in
+    handed c.from_residual-in_err-journal.result (error_of_undo c.in_err-journal.field-0.0) (λ (e : RecoverError). Fails workers schedule e R Q) c.from_residual-in_err-journal.ensures.1
+    (fails_of c.undo.result c.in_err-journal.field-0.0 R Q c.in_ok-sup.sup c.in_err-journal.was is (super_outside R Q _ c.undo.ensures.outside c.in_ok-sup.sup is) (λ none. ap (λ m. g.P.Pmem.region m) (c.undo.ensures.memory none)) c.undo.ensures.reads workers schedule)
+
+pub returns-in_err-journal-clause-stopped : goal.returns-in_err-journal-clause-stopped
+returns-in_err-journal-clause-stopped g c =
+    let X = IsTrue (g.P.Pmem.fuse c.undo.new.memory).has_burnt in
+    handed c.from_residual-in_err-journal.result (error_of_undo c.in_err-journal.field-0.0) (λ (e : RecoverError). e ≡ Stopped → X) c.from_residual-in_err-journal.ensures.1
+    (burnt_of c.undo.result c.in_err-journal.field-0.0 X c.in_err-journal.was c.undo.ensures.stopped)
+
+pub returns-in_err-journal-clause-keeps_fuse : goal.returns-in_err-journal-clause-keeps_fuse
+returns-in_err-journal-clause-keeps_fuse g c = keeps_within (λ limit past. past c.in_ok-sup.sup c.in_ok-sup.ensures.accepted) c.undo.ensures.keeps_fuse
+
+pub returns-in_err-journal-clause-unstopped : goal.returns-in_err-journal-clause-unstopped
+returns-in_err-journal-clause-unstopped g c = λ s is free. let R = g.P.Pmem.region c.args.memory.now in
+    handed c.from_residual-in_err-journal.result (error_of_undo c.in_err-journal.field-0.0) (λ (e : RecoverError). e ≢ Stopped) c.from_residual-in_err-journal.ensures.1
+    (no_stop_of c.undo.result c.in_err-journal.field-0.0 c.in_err-journal.was (c.undo.ensures.open_done (subst (λ (t : Super). IsTrue ((g.P.Pmem.fuse c.args.memory.now).is_open (4096 * system_blocks t))) (one_super R c.in_ok-sup.sup s c.in_ok-sup.ensures.accepted is) free)))
+
+pub returns-clause-ok : goal.returns-clause-ok
+returns-clause-ok g c = record {
+  sup = c.in_ok-sup.ensures.accepted;
+  layout = c.in_ok-sup.ensures.layout;
+  rolled_back = c.in_ok-journal.ensures.done;
+  blocks = c.undo.ensures.blocks;
+  in_journals = c.in_ok-journal.ensures.faults;
+}
+
+pub returns-clause-quiet : goal.returns-clause-quiet
+returns-clause-quiet g c = λ s is quiet. let R = g.P.Pmem.region c.args.memory.now in
+    c.undo.ensures.quiet (subst (λ (t : Super). AllQuiet t.cpus R) (one_super R c.in_ok-sup.sup s c.in_ok-sup.ensures.accepted is) quiet)
+
+pub returns-clause-keeps_fuse : goal.returns-clause-keeps_fuse
+returns-clause-keeps_fuse g c = keeps_within (λ limit past. past c.in_ok-sup.sup c.in_ok-sup.ensures.accepted) c.undo.ensures.keeps_fuse
