@@ -47,3 +47,4 @@ pub mod OneOut
 pub mod MoveTests
 pub mod MoveCall
 pub mod MoveAt
+pub mod Early

@@ -1,6 +1,8 @@
-use Rattle.std.proofs.Common.{◌≡◌, ◌∙◌, ◌<◌, ◌⊎◌, ◌++◌, ◌∷◌, [], List, ℕ, Some, None, Ok, false, inr, ap, subst, sym, slice_get}
+use Rattle.std.proofs.Common.{◌≡◌, ◌∙◌, ◌<◌, ◌≤◌, ◌⊎◌, ◌++◌, ◌∷◌, [], List, ℕ, Some, None, Ok, true, false, inr, ap, refl, subst, sym, slice_get}
 use Rattle.std.proofs.lemmas.Result.{err_from_is_err_and}
 use Rattle.nv_tree.specs.declared.refusal.Refusal.{Refusal}
+use Rattle.nv_region.specs.Region.{size}
+use Rattle.nv_region.specs.Fuses.{KeepsFuse}
 use Rattle.nv_super.specs.declared.superblock.Super.{Super}
 use Rattle.nv_super.specs.Layout.{inode_limit}
 use Rattle.nv_rows.specs.Rows.{place_in}
@@ -27,6 +29,7 @@ use Rattle.nv_super.proofs.Members.{stands}
 use Rattle.nv_calls.proofs.RowChange.{same_mount}
 use Rattle.nv_calls.proofs.SetAttr.{late_reply, not_stop}
 use Rattle.nv_calls.proofs.Tests.{early_reply, if_err, writing_goes_on}
+use Rattle.nv_calls.proofs.Early.{on_ok_err}
 use Rattle.nv_calls.proofs.fs.Fs.make.Goals as goal
 
 pub returns-in_err-writable-clause-refused : goal.returns-in_err-writable-clause-refused
@@ -176,3 +179,92 @@ returns-in-Err-clause-unchanged g c off =
 pub returns-in-Err-clause-stopped : goal.returns-in-Err-clause-stopped
 returns-in-Err-clause-stopped g c still =
     late_reply c.in-Err.refusal c.is_stop-self-inside.result c.is_stop-self-inside.ensures.yes c.is_stop-self-inside.ensures.no c.in-Err.ensures.stopped
+
+pub returns-in_err-writable-clause-allowed : goal.returns-in_err-writable-clause-allowed
+returns-in_err-writable-clause-allowed g c p says = on_ok_err c.from_residual.result _ c.from_residual.ensures.0
+
+pub returns-in_err-writable-clause-changed : goal.returns-in_err-writable-clause-changed
+returns-in_err-writable-clause-changed g c names path = on_ok_err c.from_residual.result _ c.from_residual.ensures.0
+
+pub returns-in_err-writable-clause-log : goal.returns-in_err-writable-clause-log
+returns-in_err-writable-clause-log g c names d j held h path led number sound is = on_ok_err c.from_residual.result _ c.from_residual.ensures.0
+
+pub returns-in_err-writable-clause-settled : goal.returns-in_err-writable-clause-settled
+returns-in_err-writable-clause-settled g c = on_ok_err c.from_residual.result _ c.from_residual.ensures.0
+
+pub returns-in_err-writable-clause-keeps : goal.returns-in_err-writable-clause-keeps
+returns-in_err-writable-clause-keeps g c = record { sup = refl; faults = refl; read_only = refl }
+
+pub returns-in_err-writable-clause-length : goal.returns-in_err-writable-clause-length
+returns-in_err-writable-clause-length g c = refl
+
+pub returns-in_err-spot-clause-allowed : goal.returns-in_err-spot-clause-allowed
+returns-in_err-spot-clause-allowed g c p says = on_ok_err c.from_residual-in_err-spot.result _ c.from_residual-in_err-spot.ensures.0
+
+pub returns-in_err-spot-clause-changed : goal.returns-in_err-spot-clause-changed
+returns-in_err-spot-clause-changed g c names path = on_ok_err c.from_residual-in_err-spot.result _ c.from_residual-in_err-spot.ensures.0
+
+pub returns-in_err-spot-clause-log : goal.returns-in_err-spot-clause-log
+returns-in_err-spot-clause-log g c names d j held h path led number sound is = on_ok_err c.from_residual-in_err-spot.result _ c.from_residual-in_err-spot.ensures.0
+
+pub returns-in_err-spot-clause-settled : goal.returns-in_err-spot-clause-settled
+returns-in_err-spot-clause-settled g c = on_ok_err c.from_residual-in_err-spot.result _ c.from_residual-in_err-spot.ensures.0
+
+pub returns-in_err-spot-clause-keeps : goal.returns-in_err-spot-clause-keeps
+returns-in_err-spot-clause-keeps g c = record { sup = refl; faults = refl; read_only = refl }
+
+pub returns-in_err-spot-clause-length : goal.returns-in_err-spot-clause-length
+returns-in_err-spot-clause-length g c = refl
+
+pub returns-in_err-spot-clause-stopped_before : goal.returns-in_err-spot-clause-stopped_before
+returns-in_err-spot-clause-stopped_before g c stopped = absurd (let no : true ≡ false = sym stopped ∙ c.in_ok-writable.ensures.runs in cc)
+
+pub returns-in-Ok-clause-stopped_before : goal.returns-in-Ok-clause-stopped_before
+returns-in-Ok-clause-stopped_before g c stopped = absurd (let no : true ≡ false = sym stopped ∙ c.in_ok-writable.ensures.runs in cc)
+
+pub returns-in-Err-clause-stopped_before : goal.returns-in-Err-clause-stopped_before
+returns-in-Err-clause-stopped_before g c stopped = absurd (let no : true ≡ false = sym stopped ∙ c.in_ok-writable.ensures.runs in cc)
+
+pub create_at-requires-clause-in_use : goal.create_at-requires-clause-in_use
+create_at-requires-clause-in_use g c = c.in_ok-spot.ensures.in_use
+
+pub returns-in-Ok-clause-refused : goal.returns-in-Ok-clause-refused
+returns-in-Ok-clause-refused g c still p says = tt
+
+pub returns-in-Ok-clause-unchanged : goal.returns-in-Ok-clause-unchanged
+returns-in-Ok-clause-unchanged g c = tt
+
+pub returns-in-Ok-clause-settled : goal.returns-in-Ok-clause-settled
+returns-in-Ok-clause-settled g c = c.in-Ok.ensures.settled
+
+pub returns-in-Err-clause-allowed : goal.returns-in-Err-clause-allowed
+returns-in-Err-clause-allowed g c p says = tt
+
+pub returns-in-Err-clause-changed : goal.returns-in-Err-clause-changed
+returns-in-Err-clause-changed g c names path = tt
+
+pub returns-in-Err-clause-log : goal.returns-in-Err-clause-log
+returns-in-Err-clause-log g c names d j held h path led number sound is = tt
+
+pub returns-in-Err-clause-settled : goal.returns-in-Err-clause-settled
+returns-in-Err-clause-settled g c = tt
+
+pub returns-in-Ok-clause-keeps : goal.returns-in-Ok-clause-keeps
+returns-in-Ok-clause-keeps g c = record { sup = ap (λ (m : Mount g.row.P.Denot). m.sup) c.self.view_is; faults = ap (λ (m : Mount g.row.P.Denot). m.faults) c.self.view_is; read_only = ap (λ (m : Mount g.row.P.Denot). m.read_only) c.self.view_is }
+
+pub returns-in-Ok-clause-length : goal.returns-in-Ok-clause-length
+returns-in-Ok-clause-length g c = subst (λ (m : Mount g.row.P.Denot). size (g.P.Pmem.region c.create_at.new.memory) ≡ size (g.P.Pmem.region m.memory)) c.self.view_is c.create_at.ensures.length
+
+pub returns-in-Ok-clause-keeps_fuse : goal.returns-in-Ok-clause-keeps_fuse
+returns-in-Ok-clause-keeps_fuse g c =
+    subst (λ (m : Mount g.row.P.Denot). KeepsFuse (λ limit. size (g.P.Pmem.region m.memory) ≤ limit) (g.P.Pmem.fuse m.memory) (g.P.Pmem.fuse c.create_at.new.memory)) c.self.view_is c.create_at.ensures.keeps_fuse
+
+pub returns-in-Err-clause-keeps : goal.returns-in-Err-clause-keeps
+returns-in-Err-clause-keeps g c = record { sup = ap (λ (m : Mount g.row.P.Denot). m.sup) c.self.view_is; faults = ap (λ (m : Mount g.row.P.Denot). m.faults) c.self.view_is; read_only = ap (λ (m : Mount g.row.P.Denot). m.read_only) c.self.view_is }
+
+pub returns-in-Err-clause-length : goal.returns-in-Err-clause-length
+returns-in-Err-clause-length g c = subst (λ (m : Mount g.row.P.Denot). size (g.P.Pmem.region c.create_at.new.memory) ≡ size (g.P.Pmem.region m.memory)) c.self.view_is c.create_at.ensures.length
+
+pub returns-in-Err-clause-keeps_fuse : goal.returns-in-Err-clause-keeps_fuse
+returns-in-Err-clause-keeps_fuse g c =
+    subst (λ (m : Mount g.row.P.Denot). KeepsFuse (λ limit. size (g.P.Pmem.region m.memory) ≤ limit) (g.P.Pmem.fuse m.memory) (g.P.Pmem.fuse c.create_at.new.memory)) c.self.view_is c.create_at.ensures.keeps_fuse
