@@ -241,11 +241,11 @@ impl Session {
     }
 
     // Puts a mount in, without a fuse.
-    fn put_mount(&mut self, mut mount: Fs<MemRegion>)
+    pub(crate) fn put_mount(&mut self, mut mount: Fs<MemRegion>)
         ensures { PutsMount mount self.old self.new }
     {
         mount.set_fuse(Fuse::Off);
-        self.store = Some(Store::Mounted(mount));
+        self.hold(Store::Mounted(mount));
     }
 }
 

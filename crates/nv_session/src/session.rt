@@ -3,7 +3,7 @@
 //! A method answers the text that its command prints, whole, and leaves what the command leaves. After want of memory the
 //! script ends, and what the session holds is of no use.
 
-ghost use Rattle.std.specs.Prelude.{◌≡◌, IfOk, None, Some, [], option_map, false};
+ghost use Rattle.std.specs.Prelude.{◌≡◌, ◌≤◌, IfOk, None, Some, [], option_map, false};
 ghost use Rattle.nv_calls.specs.Mount.{told};
 ghost use Rattle.nv_report.specs.Shown.{shown_of};
 
@@ -14,7 +14,7 @@ use crate::store::{Store, has_word, poked};
 use crate::texts::{ok_text, refused_format_text, stopped_text, word_text};
 use nv_calls::Fs;
 use nv_line::Command;
-use nv_region::{Fuse, Keep, MemRegion, Pmem};
+use nv_region::{Keep, MemRegion, Pmem};
 use nv_report::{
     Answer, Last, Part, Recovered, Shown, how_it_went, recover_or_stop, recovered_text,
     refused_text, replay_or_stop, shown_text,
@@ -35,14 +35,16 @@ pub struct Session {
 
 impl Session {
     ghost use Rattle.std.specs.Prelude.{string_bytes};
-    ghost use Rattle.nv_session.specs.Sessions.{StandsFor, Moves, CanMount, Mounts, Fails, Settles, region_in, mount_in, is_armed};
+    ghost use Rattle.nv_session.specs.Sessions.{StandsFor, Moves, CanMount, Fails, Settles, region_in, mount_in, is_armed};
     ghost use Rattle.nv_session.specs.declared.store.Store.TheVariants as stores;
-    ghost use Rattle.nv_session.specs.Machine.{first_state, state_with, SetsTime, Formats, Recovers, Replays, Pokes, Cuts, ShowsPart, Peeks, MayStop, StopsFormat, StopsRecovery, Arms, Reads, TellsNames, TellsStat, TellsBytes, Does, Step};
+    ghost use Rattle.nv_session.specs.Machine.{first_state, state_with, SetsTime, Formats, Recovers, Replays, Pokes, Cuts, ShowsPart, Peeks, MayStop, StopsFormat, StopsRecovery, Arms, Reads, TellsNames, TellsStat, TellsBytes, Does, Step, front};
     ghost use Rattle.nv_session.specs.Machine.{State};
     ghost use Rattle.nv_report.specs.declared.recovery.Answer.TheVariants as answers;
     ghost use Rattle.nv_report.specs.Last.{status_of};
     ghost use Rattle.nv_line.specs.View.{view};
     ghost use Rattle.nv_region.specs.Region.{size};
+    ghost use Rattle.nv_region.specs.RegionState.{RegionState};
+    ghost use Rattle.nv_text.specs.Answers.{ok_line};
 
     /// Nothing made yet, at time 0.
     pub fn new() -> Session
@@ -214,7 +216,7 @@ impl Session {
             return refused_text(alloc, Refusal::NoRegion);
         };
         if !has_word(store.memory(), at) {
-            self.store = Some(store);
+            self.hold(store);
             return refused_text(alloc, Refusal::Address);
         }
         self.put(poked(store.into_memory(), at, value));
@@ -228,10 +230,23 @@ impl Session {
             return refused_text(alloc, Refusal::NoRegion);
         };
         if length > store.memory().len() {
-            self.store = Some(store);
+            self.hold(store);
             return refused_text(alloc, Refusal::Length);
         }
-        let front = store.into_memory().cut(length)?;
+        self.put_front(alloc, store.into_memory(), length)
+    }
+
+    // Puts in the first bytes of a region, of which nothing is mounted.
+    fn put_front(
+        &mut self,
+        alloc: Global,
+        memory: MemRegion,
+        length: u64,
+    ) -> Result<String, AllocError>
+        requires { length ≤ size memory.region }
+        ensures { IfOk result (λ text. (string_bytes text ≡ ok_line) × (m : RegionState) × (m.region ≡ front memory.region length) × (self.new ≡ record self.old { store = Some (stores.Alone m) })) }
+    {
+        let front = memory.cut(length)?;
         self.put(front);
         ok_text(alloc)
     }
@@ -361,11 +376,7 @@ impl Session {
         ensures { IfOk result (λ text. Settles memory.region answer self.old (string_bytes text) self.new) }
     {
         match answer {
-            Some(Answer::Recovered(recovered)) => {
-                let text = recovered_text(alloc, &recovered)?;
-                self.mount_region(alloc, memory, recovered);
-                Ok(text)
-            }
+            Some(Answer::Recovered(recovered)) => self.mount_region(alloc, memory, recovered),
             Some(Answer::Refused(refusal)) => {
                 self.fail(memory);
                 refused_text(alloc, refusal)
@@ -377,14 +388,20 @@ impl Session {
         }
     }
 
-    // Mounts a region with what a recovery found in it.
-    fn mount_region(&mut self, alloc: Global, mut memory: MemRegion, recovered: Recovered)
+    // Mounts a region with what a recovery found in it. Answers what is printed.
+    fn mount_region(
+        &mut self,
+        alloc: Global,
+        memory: MemRegion,
+        recovered: Recovered,
+    ) -> Result<String, AllocError>
         requires { CanMount memory.region (Some (answers.Recovered recovered)) }
-        ensures { Mounts memory.region recovered self.old self.new }
+        ensures { IfOk result (λ text. Settles memory.region (Some (answers.Recovered recovered)) self.old (string_bytes text) self.new) }
     {
-        memory.set_fuse(Fuse::Off);
+        let text = recovered_text(alloc, &recovered)?;
         self.last = how_it_went(&recovered.faults);
-        self.store = Some(Store::Mounted(Fs::open(alloc, memory, recovered)));
+        self.put_mount(Fs::open(alloc, memory, recovered));
+        Ok(text)
     }
 
     // Puts a region in that wasn't recovered.
@@ -392,14 +409,21 @@ impl Session {
         ensures { Fails memory self.old self.new }
     {
         self.last = Last::Refused;
-        self.store = Some(Store::Alone(memory));
+        self.put(memory);
     }
 
     // Puts a region in, of which nothing is mounted.
     pub(crate) fn put(&mut self, memory: MemRegion)
         ensures { self.new ≡ record self.old { store = Some (stores.Alone memory) } }
     {
-        self.store = Some(Store::Alone(memory));
+        self.hold(Store::Alone(memory));
+    }
+
+    // The one place where what was there is dropped.
+    pub(crate) fn hold(&mut self, store: Store)
+        ensures { self.new ≡ record self.old { store = Some store } }
+    {
+        self.store = Some(store);
     }
 }
 
