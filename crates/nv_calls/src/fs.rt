@@ -151,7 +151,8 @@ impl<P: Pmem + Drop> Fs<P> {
 }
 
 impl Fs<MemRegion> {
-    /// Sets the memory's fuse, and nothing else.
+    /// Puts another fuse into the memory, which counts as not burnt then, and changes nothing else. A mount that was stopped
+    /// stays so.
     pub fn set_fuse(&mut self, fuse: Fuse)
         ensures { self.new ≡ record self.old { memory = record self.old.memory { fuse = fuse; burnt = false } } }
     {
