@@ -2,6 +2,8 @@
 use Rattle.std.proofs.Common.{◌≡◌, ℕ, List, ◌++◌, map, ap, sym, ◌∙◌, subst, arith, append_assoc}
 use Rattle.std.specs.List.Sorted.{IsPermutation}
 use Rattle.std.proofs.lemmas.List.Sorted.{Contains-permutation, IsPermutation-sym, IsPermutation-append_left, IsPermutation-append_right}
+use Rattle.std.specs.Prelude.{Vec}
+use Rattle.std.specs.declared.alloc.Global.{Global}
 use Rattle.nv_region.specs.Region.{Region}
 use Rattle.nv_super.specs.declared.superblock.Super.{Super}
 use Rattle.nv_super.specs.declared.owners.Owner.{Owner}
@@ -42,9 +44,6 @@ told_otherwise journal own others cross doubled faults moved = sorted_otherwise 
     (IsPermutation-append_right journal (others ++ (cross ++ map double_fault doubled)) (own ++ (cross ++ map double_fault doubled)) (IsPermutation-append_left (cross ++ map double_fault doubled) others own moved))
 
 -- the same, told of what is the same
-pub doubled_same : {claims same : List (ℕ × Owner)} {second covers : List ℕ} {found : List (ℕ × Owner)} → claims ≡ same → second ≡ covers → AreDoubled claims second found → AreDoubled same covers found
-doubled_same {found = found} one two are = subst (λ (z : List (ℕ × Owner) × List ℕ). AreDoubled z.0 z.1 found) (λ i. (one i, two i)) are
-
 pub told_same : (journal : List Fault) {own own' cross cross' faults : List Fault} {doubled doubled' : List (ℕ × Owner)} → own ≡ own' → cross ≡ cross' → doubled ≡ doubled' → SortedOf fault_key (all_told journal own cross doubled) faults → SortedOf fault_key (all_told journal own' cross' doubled') faults
 told_same journal {faults = faults} one two three are = subst (λ (told : List Fault). SortedOf fault_key told faults) (λ i. all_told journal (one i) (two i) (three i)) are
 
@@ -55,23 +54,23 @@ pub told_of : (journal own cross : List Fault) (doubled : List (ℕ × Owner)) {
 told_of journal own cross doubled p q r =
     r ∙ (ap (λ (xs : List Fault). xs ++ map double_fault doubled) (q ∙ ap (λ (xs : List Fault). xs ++ cross) p) ∙ grouped journal own cross (map double_fault doubled))
 
--- What is made of what was scanned: the rows in order, the blocks outside the first set, the claims of the second set, and all faults in order.
+-- What is made of what was scanned: the rows in order, the blocks that nobody owns, the claims of doubled blocks, and all faults in order.
 pub record IsMade (o : Started) (x : Scanned) (r : Recovered) : Type 0 where
   pub sup : r.sup ≡ o.sup
   pub rows : SortedOf row_key x.inodes.rows.items r.rows.items
   pub numbers : r.rows.sup ≡ o.sup
-  pub outside : AreOutside x.claimed.first.items o.sup r.free
-  pub owned_twice : AreDoubled x.claimed.claims.items x.claimed.second.items r.doubled.items
+  pub outside : AreOutside x.owned.blocks.items o.sup r.free
+  pub owned_twice : r.doubled ≡ x.owned.doubled
   pub all : SortedOf fault_key (all_told o.journal.items x.inodes.faults.items x.cross.items r.doubled.items) r.faults.items
 
 module _ {old new : Region} {o : Started} {x : Scanned} {r : Recovered} (started : IsStarted old new o) (scanned : IsScanned new o.sup x) (made : IsMade o x r) where
-  parts : AreParts old o.sup scanned.pieces x.claimed.claims.items x.claimed.first.items x.claimed.second.items r.free r.doubled.items o.journal.items x.cross.items r.faults.items
+  parts : AreParts old o.sup scanned.pieces scanned.owned.claims x.owned.blocks.items scanned.owned.second r.free r.doubled.items o.journal.items x.cross.items r.faults.items
   parts = record {
     scanned = subst (λ (R : Region). ArePieces R (fixed_layout o.sup) scanned.pieces) started.rolled_back scanned.inodes.pieces_are;
-    claimed = scanned.claimed.claimed;
-    maps = scanned.claimed.maps;
+    claimed = scanned.owned.claimed;
+    maps = scanned.owned.maps;
     outside = made.outside;
-    owned_twice = made.owned_twice;
+    owned_twice = subst (λ (v : Vec (ℕ × Owner) Global). AreDoubled scanned.owned.claims scanned.owned.second v.items) (sym made.owned_twice) scanned.owned.doubled;
     in_journals = started.in_journals;
     between = same_cross (rows_in scanned.pieces) x.inodes.rows.items x.cross.items scanned.inodes.rows scanned.cross;
     all = told_otherwise o.journal.items x.inodes.faults.items (faults_in scanned.pieces) x.cross.items r.doubled.items r.faults.items scanned.inodes.faults made.all;

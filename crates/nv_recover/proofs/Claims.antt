@@ -7,7 +7,7 @@ use Rattle.std.specs.List.Sorted.{IsPermutation}
 use Rattle.std.proofs.lemmas.Grind.{flat_map-append}
 use Rattle.std.proofs.lemmas.List.Sums.{sum_by-cons, sum_by-append}
 use Rattle.std.proofs.lemmas.List.Elements.{All-contains_itself}
-use Rattle.std.proofs.lemmas.List.Sorted.{Contains-permutation, IsPermutation-refl, IsPermutation-sym}
+use Rattle.std.proofs.lemmas.List.Sorted.{Contains-permutation, IsPermutation-sym}
 use Rattle.nv_region.specs.Region.{Region}
 use Rattle.nv_super.specs.declared.superblock.Super.{Super}
 use Rattle.nv_super.specs.declared.owners.Owner.{Owner}
@@ -22,7 +22,7 @@ use Rattle.nv_scan.proofs.Owned.{owned_block}
 use Rattle.nv_outcome.specs.Parts.{ArePieces, AreMaps}
 use Rattle.nv_super.proofs.Members.{from_map, into_flat}
 use Rattle.nv_outcome.proofs.Pieces.{claimed_owned}
-use Rattle.nv_recover.specs.Scanned.{AreWithin, Cover, AreClaimed, AreClaimedSets, all_claims}
+use Rattle.nv_recover.specs.Scanned.{AreWithin, AreClaimed, AreClaimedSets, all_claims}
 
 -- the claims of one piece more
 pub claims_more : (ps : List Piece) (p : Piece) → claims_in (ps ++ p ∷ []) ≡ claims_in ps ++ p.claims.items
@@ -32,9 +32,6 @@ pub claims_one_more : (ps : List Piece) (p : Piece) {now new list : List (ℕ ×
 claims_one_more ps p {list = list} before are same is =
     let its : list ≡ p.claims.items = same ∙ ap (λ (v : Vec (ℕ × Owner) Global). v.items) (sym are) in
     is ∙ ((λ i. before i ++ its i) ∙ sym (claims_more ps p))
-
-pub same_claims : (xs ys : List (ℕ × Owner)) → ys ≡ xs → IsPermutation xs ys
-same_claims xs ys same = subst (IsPermutation xs) (sym same) (IsPermutation-refl xs)
 
 module _ {R : Region} (s : Super) (pieces : List Piece) (scanned : ArePieces R (fixed_layout s) pieces) where
   pub claims_within : (claims : List (ℕ × Owner)) → IsPermutation (claims_in pieces) claims → AreWithin s claims
@@ -56,15 +53,6 @@ module _ {R : Region} (s : Super) (pieces : List Piece) (scanned : ArePieces R (
 pub claims_covered : {R : Region} (s : Super) (pieces : List Piece) (c : Claimed) {claims : List (ℕ × Owner)} {second : List ℕ} → ArePieces R (fixed_layout s) pieces → AreClaimed s pieces c → claims ≡ c.claims.items → second ≡ c.second.items
     → All (λ (x : ℕ × Owner). x.0 < 64 * length second) claims
 claims_covered s pieces c scanned claimed same covers = rw (same, covers) (λ k d less. (let within = claims_within s pieces scanned c.claims.items claimed.claimed k d less in let cover = claimed.cover.1 in omega (arith, within, cover)))
-
--- claims in the order of the pieces, with their sets
-pub claimed_all : (s : Super) (pieces : List Piece) (c : Claimed) {claims : Vec (ℕ × Owner) Global} → claims.items ≡ claims_in pieces → c.claims ≡ claims → AreMaps claims.items c.first.items c.second.items → Cover s c.first.items c.second.items → AreClaimed s pieces c
-claimed_all s pieces c are is maps cover =
-    let same : c.claims.items ≡ _ = ap (λ (v : Vec (ℕ × Owner) Global). v.items) is in record {
-      claimed = same_claims (claims_in pieces) c.claims.items (same ∙ are);
-      maps = subst (λ (claims : List (ℕ × Owner)). AreMaps claims c.first.items c.second.items) (sym same) maps;
-      cover = cover;
-    }
 
 -- a block stands in the lists of a work as often as in all of them together
 works_joined : (work : List (Vec (ℕ × Owner) Global)) (b : ℕ) → works_of b (lists work) ≡ claims_of b (all_claims work)

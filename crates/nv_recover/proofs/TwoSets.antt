@@ -1,5 +1,5 @@
 -- The two sets of claims, after one claim more.
-use Rattle.std.proofs.Common.{◌≡◌, ℕ, ◌+◌, ◌/◌, ◌<◌, ◌≢◌, eqb, Bool, true, false, min, List, [], ◌∷◌, ◌++◌, length, cond, refl, ap, ◌∙◌, arith, if◌then◌else◌, replicate, take, get_or}
+use Rattle.std.proofs.Common.{◌≡◌, ℕ, ◌+◌, ◌/◌, ◌<◌, ◌≢◌, eqb, Bool, true, false, min, List, [], ◌∷◌, ◌++◌, length, cond, refl, ap, sym, ◌∙◌, arith, append_assoc, if◌then◌else◌, take, get_or}
 use Rattle.std.proofs.lemmas.Bool.Decides.{nat_tests}
 use Rattle.std.proofs.lemmas.List.Sums.{sum_by_push}
 use Rattle.std.specs.List.{All}
@@ -7,7 +7,7 @@ use Rattle.std.proofs.lemmas.List.{take_more}
 use mathlib.Core.Logic.{dite}
 use native.Mathlib.Decide.{ℕ_discrete}
 use Rattle.nv_blockset.specs.BlockSet.{has, is_set, with_block}
-use Rattle.nv_blockset.proofs.Sets.{has_same, has_other, has_none, with_block_long}
+use Rattle.nv_blockset.proofs.Sets.{has_same, has_other, with_block_long}
 use Rattle.nv_super.specs.declared.owners.Owner.{Owner}
 use Rattle.nv_super.specs.Owners.{claims_of}
 use Rattle.nv_outcome.specs.Parts.{AreMaps}
@@ -43,22 +43,18 @@ module _ (claims : List (ℕ × Owner)) (first second : List ℕ) (maps : AreMap
         (λ n. rw (claims_elsewhere b c claims o n) (elsewhere c (is_set first b) n ∙ maps.twice c));
   }
 
--- nothing is claimed yet
-pub no_maps : (n m : ℕ) → AreMaps [] (replicate n 0) (replicate m 0)
-no_maps n m = record { once = λ b. has_none n b; twice = λ b. has_none m b }
-
 pub second_after_long : (first second : List ℕ) (b : ℕ) → length (second_after first second b) ≡ length second
 second_after_long first second b = at (is_set first b) where
   at : (t : Bool) → length (if t then with_block second b else second) ≡ length second
   at true = with_block_long second b
   at false = refl
 
--- the claim at a place is the next one
-pub maps_next : (claims : List (ℕ × Owner)) (i : ℕ) (d : ℕ × Owner) (first second next_first next_second : List ℕ) (m n : ℕ) → i < length claims → length first ≡ m → length second ≡ n
-    → All (λ (x : ℕ × Owner). (x.0 / 64 < m) × (x.0 / 64 < n)) claims → AreMaps (take i claims) first second → next_first ≡ with_block first (get_or claims i d).0 → next_second ≡ second_after first second (get_or claims i d).0
-    → AreMaps (take (i + 1) claims) next_first next_second
-maps_next claims i d first second next_first next_second m n less long_first long_second within maps is_first is_second =
+-- the claim at a place is the next one, behind those before
+pub maps_next : (before claims : List (ℕ × Owner)) (i : ℕ) (d : ℕ × Owner) (first second next_first next_second : List ℕ) (m n : ℕ) → i < length claims → length first ≡ m → length second ≡ n
+    → All (λ (x : ℕ × Owner). (x.0 / 64 < m) × (x.0 / 64 < n)) claims → AreMaps (before ++ take i claims) first second → next_first ≡ with_block first (get_or claims i d).0 → next_second ≡ second_after first second (get_or claims i d).0
+    → AreMaps (before ++ take (i + 1) claims) next_first next_second
+maps_next before claims i d first second next_first next_second m n less long_first long_second within maps is_first is_second =
     let here = within i d less in
     let x = get_or claims i d in
-    let more = maps_more (take i claims) first second maps x.0 x.1 (omega (arith, here.0)) (omega (arith, here.1)) in
-    rw (take_more claims i d less, is_first, is_second) more
+    let more = maps_more (before ++ take i claims) first second maps x.0 x.1 (omega (arith, here.0)) (omega (arith, here.1)) in
+    rw (take_more claims i d less, sym (append_assoc before (take i claims) (x ∷ [])), is_first, is_second) more

@@ -18,8 +18,10 @@ use Rattle.nv_scan.specs.declared.piece.Row.{Row}
 use Rattle.nv_scan.specs.declared.piece.Piece.{Piece}
 use Rattle.nv_outcome.specs.nv_rows.nv_numbered.Values.{AreNumbersBelow}
 use Rattle.nv_outcome.specs.nv_check.Cross.{IsCrossFaultIn}
+use Rattle.nv_outcome.specs.nv_check.Doubled.{AreDoubled}
 use Rattle.nv_outcome.specs.Parts.{ArePieces, AreMaps, rows_in, faults_in, double_fault}
 use Rattle.nv_recover.specs.declared.scanned.Inodes.{Inodes}
+use Rattle.nv_recover.specs.declared.scanned.Owned.{Owned}
 use Rattle.nv_recover.specs.declared.scanned.Scanned.{Scanned}
 
 -- ---- the inodes by themselves
@@ -98,13 +100,29 @@ pub record AreClaimedSets (s : Super) (work : List (List (ℕ × Owner))) (first
 abbrev pub second_after : List ℕ → List ℕ → ℕ → List ℕ
 second_after first second b = if is_set first b then with_block second b else second
 
+-- The rows and the claims are those of pieces of the region, and the sets are those of the claims, with a bit for each block.
+pub record AreSetsOf (R : Region) (s : Super) (pieces : List Piece) (rows : List Row) (first second : List ℕ) : Type 0 where
+  pub each : AllByRecursion (IsPiece R (fixed_layout s)) pieces
+  pub rows_are : rows ≡ rows_in pieces
+  pub maps : AreMaps (claims_in pieces) first second
+  pub cover : Cover s first second
+
+-- The blocks that these pieces claim, with a bit for each block of the region, and the claims of those that are claimed twice or more.
+pub record AreOwned (s : Super) (pieces : List Piece) (o : Owned) : Type 0 where
+  pub claims : List (ℕ × Owner)
+  pub second : List ℕ
+  pub claimed : IsPermutation (claims_in pieces) claims
+  pub maps : AreMaps claims o.blocks.items second
+  pub cover : s.blocks ≤ 64 * length o.blocks.items
+  pub doubled : AreDoubled claims second o.doubled.items
+
 -- ---- all of it
 
--- All inodes of the region by themselves, what they claim, and what is wrong between them.
+-- All inodes of the region by themselves, what they own, and what is wrong between them.
 pub record IsScanned (R : Region) (s : Super) (x : Scanned) : Type 0 where
   pub pieces : List Piece
   pub inodes : AreInodes R s pieces x.inodes
-  pub claimed : AreClaimed s pieces x.claimed
+  pub owned : AreOwned s pieces x.owned
   pub cross : Lists fault_key (IsCrossFaultIn x.inodes.rows.items) x.cross.items
 
 -- all faults that are told: of the journals, of the inodes, between them, and of doubled blocks

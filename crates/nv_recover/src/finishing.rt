@@ -2,10 +2,8 @@
 
 ghost use Rattle.std.specs.Prelude.{◌≡◌, ◌++◌, IfOk, OnOk, map};
 ghost use Rattle.nv_region.specs.Region.{Region};
-ghost use Rattle.nv_super.specs.declared.superblock.Super.{Super as SuperValue};
 ghost use Rattle.nv_super.specs.Layout.{IsLayout};
 ghost use Rattle.nv_super.specs.Order.{fault_key, SortedOf};
-ghost use Rattle.nv_outcome.specs.nv_check.Doubled.{AreDoubled};
 ghost use Rattle.nv_outcome.specs.Parts.{double_fault};
 ghost use Rattle.nv_outcome.specs.Answer.{IsAnswer};
 ghost use Rattle.nv_recover.specs.Started.{IsStarted};
@@ -14,12 +12,12 @@ ghost use Rattle.nv_recover.specs.Scanned.{IsScanned, all_told};
 use crate::scanned::Scanned;
 use crate::starting::Started;
 use nv_alloc::Allocators;
-use nv_outcome::{Recovered, Rows, doubled};
+use nv_outcome::{Recovered, Rows};
 use nv_super::{Fault, Owner, sort_faults};
 use std::alloc::{AllocError, Global};
 
-/// The answer: the rows get places by their numbers, the free lists are made of the first set, the doubled blocks are
-/// found by the second, and all faults are put in order.
+/// The answer: the rows get places by their numbers, the free lists are made of the blocks that nobody owns, and all
+/// faults are put in order.
 pub(crate) fn finish(
     alloc: Global,
     started: Started,
@@ -29,32 +27,21 @@ pub(crate) fn finish(
     requires scanned { (R : Region) × IsScanned R started.sup scanned }
     ensures { IfOk result (λ r. (old new : Region) → IsStarted old new started → IsScanned new started.sup scanned → IsAnswer old new r) }
 {
-    let free = Allocators::from_words(alloc, &scanned.claimed.first, &started.sup)?;
-    let (doubled, faults) = told(alloc, started.journal, &scanned)?;
-    let Scanned { inodes, .. } = scanned;
+    let Scanned {
+        inodes,
+        owned,
+        cross,
+    } = scanned;
+    let free = Allocators::from_words(alloc, &owned.blocks, &started.sup)?;
+    let faults = all_faults(started.journal, &inodes.faults, &cross, &owned.doubled)?;
     let rows = Rows::from_rows(alloc, inodes.rows, &started.sup)?;
     Ok(Recovered {
         sup: started.sup,
         rows,
         free,
-        doubled,
+        doubled: owned.doubled,
         faults,
     })
-}
-
-// What is told beside the rows: the claims of doubled blocks, and all faults in order.
-fn told(
-    alloc: Global,
-    journal: Vec<Fault>,
-    scanned: &Scanned,
-) -> Result<(Vec<(u64, Owner)>, Vec<Fault>), AllocError>
-    requires scanned { (R : Region) × (s : SuperValue) × IsScanned R s scanned.now }
-    ensures doubled { IfOk result (λ r. AreDoubled scanned.now.claimed.claims.items scanned.now.claimed.second.items r.0.items) }
-    ensures faults { IfOk result (λ r. SortedOf fault_key (all_told journal.items scanned.now.inodes.faults.items scanned.now.cross.items r.0.items) r.1.items) }
-{
-    let doubled = doubled(alloc, &scanned.claimed.claims, &scanned.claimed.second)?;
-    let faults = all_faults(journal, &scanned.inodes.faults, &scanned.cross, &doubled)?;
-    Ok((doubled, faults))
 }
 
 // All faults in order: of the journals, of the inodes by themselves, between them, and of doubled blocks.

@@ -6,12 +6,12 @@
 
 mod errors;
 mod finishing;
-mod maps;
 mod one;
 mod parallel;
 mod replaying;
 mod scanned;
 mod scanning;
+mod sets;
 mod starting;
 mod workers;
 

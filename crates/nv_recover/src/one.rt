@@ -8,25 +8,24 @@ ghost use Rattle.nv_super.specs.Super.{IsSuper};
 ghost use Rattle.nv_super.specs.declared.superblock.Super.{Super as SuperValue};
 ghost use Rattle.nv_journal.specs.Undo.{undone};
 ghost use Rattle.nv_journal.specs.Undone.{AllQuiet};
-ghost use Rattle.nv_scan.specs.Work.{claims_in};
 ghost use Rattle.nv_scan.specs.declared.piece.Piece.{Piece};
 ghost use Rattle.nv_outcome.specs.Outcome.{IsOutcome};
 ghost use Rattle.nv_recover.specs.declared.errors.RecoverError.TheVariants as errors;
 ghost use Rattle.nv_outcome.specs.Answer.{outcome_of, SharesBlocks};
 ghost use Rattle.nv_recover.specs.Errors.{Fails, comes_first};
 ghost use Rattle.nv_recover.specs.Behind.{BehindSystem};
-ghost use Rattle.nv_recover.specs.Scanned.{AreInodes, IsScanned};
+ghost use Rattle.nv_recover.specs.Scanned.{AreInodes, AreSetsOf, IsScanned};
 
 use crate::errors::RecoverError;
 use crate::finishing::finish;
-use crate::maps::claimed_of;
 use crate::scanned::{Inodes, Scanned};
 use crate::scanning::scan_next;
+use crate::sets::Sets;
 use crate::starting::start;
 use nv_outcome::{Recovered, cross_faults_one};
 use nv_region::Pmem;
 use nv_scan::Scanner;
-use nv_super::{Owner, Super};
+use nv_super::Super;
 use std::alloc::{AllocError, Global};
 
 /// Recovers a region, damaged or not, on one thread: rolls its journals back, and answers the outcome of the region as
@@ -58,38 +57,38 @@ pub fn recover_one<P: Pmem>(alloc: Global, memory: &mut P) -> Result<Recovered, 
     Ok(finish(alloc, started, scanned)?)
 }
 
-// Scans all inodes. The sets of their claims are made at the end.
+// Scans all inodes. No list of all their claims is kept.
 fn scan_all<P: Pmem>(alloc: Global, memory: &P, sup: &Super) -> Result<Scanned, AllocError>
     requires layout { IsLayout sup.now }
     requires blocks { HasBlocks (P.region memory.now) sup.now.blocks }
     ensures { IfOk result (IsScanned (P.region memory.now) sup.now) }
 {
-    let (inodes, claims) = scan_in_order(alloc, memory, sup)?;
-    let claimed = claimed_of(alloc, sup, claims)?;
+    let (inodes, sets) = scan_in_order(alloc, memory, sup)?;
+    let owned = sets.owned(alloc, sup, &inodes.rows)?;
     let cross = cross_faults_one(alloc, sup, &inodes.rows)?;
     Ok(Scanned {
         inodes,
-        claimed,
+        owned,
         cross,
     })
 }
 
-// Scans each inode number, in rising order, and keeps all claims in one list.
+// Scans each inode number, in rising order, and puts the blocks that it claims into the sets.
 fn scan_in_order<P: Pmem>(
     alloc: Global,
     memory: &P,
     sup: &Super,
-) -> Result<(Inodes, Vec<(u64, Owner)>), AllocError>
+) -> Result<(Inodes, Sets), AllocError>
     requires layout { IsLayout sup.now }
     requires blocks { HasBlocks (P.region memory.now) sup.now.blocks }
-    ensures { IfOk result (λ r. (pieces : List Piece) × AreInodes (P.region memory.now) sup.now pieces r.0 × (r.1.items ≡ claims_in pieces)) }
+    ensures { IfOk result (λ r. (pieces : List Piece) × AreInodes (P.region memory.now) sup.now pieces r.0 × AreSetsOf (P.region memory.now) sup.now pieces r.0.rows.items r.1.first.items r.1.second.items) }
 {
     let mut scanner = Scanner::new(alloc, sup);
     let mut inodes = Inodes::new(alloc);
-    let mut claims = Vec::new(alloc);
+    let mut sets = Sets::new(alloc, sup)?;
     for inode in 1..sup.max_inode() + 1 {
-        let list = scan_next(memory, &mut scanner, &mut inodes, inode)?;
-        claims.extend_from_slice(&list)?;
+        let claims = scan_next(memory, &mut scanner, &mut inodes, inode)?;
+        sets.claim_all(&claims);
     }
-    Ok((inodes, claims))
+    Ok((inodes, sets))
 }

@@ -18,6 +18,7 @@ ghost use Rattle.nv_recover.specs.Scanned.{IsScanned};
 use crate::errors::RecoverError;
 use crate::finishing::finish;
 use crate::scanned::Scanned;
+use crate::sets::owned_of;
 use crate::starting::{is_worker_count, start};
 use crate::workers::scan_by_workers;
 use nv_outcome::{Recovered, cross_faults};
@@ -81,10 +82,11 @@ fn scan_on_threads<P: Pmem + Sync, G: Gate + Sync, H: Threads + Sync>(
     ensures { IfOk result (IsScanned (P.region memory.now) sup.now) }
 {
     let (inodes, claimed) = scan_by_workers(rt, alloc, memory, sup, workers, gate)?;
+    let owned = owned_of(alloc, claimed)?;
     let cross = cross_faults(rt, alloc, sup, &inodes.rows)?;
     Ok(Scanned {
         inodes,
-        claimed,
+        owned,
         cross,
     })
 }

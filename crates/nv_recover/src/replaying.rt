@@ -23,6 +23,7 @@ ghost use Rattle.nv_recover.specs.Scanned.{AreInodes, IsScanned, AreClaimedSets,
 use crate::errors::RecoverError;
 use crate::finishing::finish;
 use crate::scanned::{Inodes, Scanned};
+use crate::sets::owned_of;
 use crate::starting::{is_worker_count, start};
 use nv_claimcore::{ClaimState, CoreRefusal, replay};
 use nv_claimmap::Claimed;
@@ -89,10 +90,11 @@ fn scan_by_schedule<P: Pmem>(
 {
     let (inodes, work) = scan_apart(alloc, memory, sup)?;
     let claimed = claim_all(alloc, sup, workers, schedule, work)?;
+    let owned = owned_of(alloc, claimed)?;
     let cross = cross_faults_one(alloc, sup, &inodes.rows)?;
     Ok(Scanned {
         inodes,
-        claimed,
+        owned,
         cross,
     })
 }

@@ -3,9 +3,8 @@
 ghost use Rattle.std.specs.Prelude.{◌≡◌, ◌++◌, [], OnOk};
 ghost use Rattle.std.specs.List.{cons_option};
 
-use nv_claimmap::Claimed;
 use nv_scan::Row;
-use nv_super::Fault;
+use nv_super::{Fault, Owner};
 use std::alloc::{AllocError, Global};
 
 /// The inodes by themselves: a row for each that is in use, and what is wrong with each.
@@ -47,10 +46,18 @@ impl Inodes {
     }
 }
 
-/// All inodes by themselves, what they claim, and what is wrong between them.
+/// The blocks that are claimed, and all claims of those that are claimed twice or more, in order. Block b is bit `b % 64`
+/// of word `b / 64`.
+#[derive(Drop)]
+pub(crate) struct Owned {
+    pub blocks: Vec<u64>,
+    pub doubled: Vec<(u64, Owner)>,
+}
+
+/// All inodes by themselves, the blocks that they own, and what is wrong between them.
 #[derive(Drop)]
 pub(crate) struct Scanned {
     pub inodes: Inodes,
-    pub claimed: Claimed,
+    pub owned: Owned,
     pub cross: Vec<Fault>,
 }

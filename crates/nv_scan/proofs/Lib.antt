@@ -21,3 +21,4 @@ pub mod Told
 pub mod Drawn
 pub mod Work
 pub mod RowKeys
+pub mod RowClaims

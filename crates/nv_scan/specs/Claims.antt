@@ -1,11 +1,13 @@
 -- The claims of an inode, by the pages of its log and its file index.
-use Rattle.std.specs.Prelude.{◌≡◌, ℕ, ◌+◌, ◌<◌, ◌≤◌, ◌^◌, List, [], ◌∷◌, Option, Some, slice_get}
+use Rattle.std.specs.Prelude.{◌≡◌, ℕ, ◌+◌, ◌<◌, ◌≤◌, ◌^◌, List, [], ◌∷◌, ◌++◌, Option, Some, slice_get}
 use Rattle.std.specs.List.{flat_map}
 use Rattle.nv_super.specs.Owners.{pairs}
 use Rattle.nv_super.specs.declared.owners.Owner.{Owner}
 use Rattle.nv_super.specs.declared.owners.Owner.TheVariants as owners
+use Rattle.nv_super.specs.Order.{Lists, owner_key}
 use Rattle.nv_radix.specs.Pages.{Pages, block_at}
 use Rattle.nv_radix.specs.declared.extent.Extent.{Extent}
+use Rattle.nv_scan.specs.declared.piece.Row.{Row}
 
 -- a block with its owner: a page of the log, or the block of a page of the file
 pub data IsClaim (i : ℕ) (pages : List ℕ) (m : Pages) : ℕ × Owner → Type 0 where
@@ -32,3 +34,12 @@ IsSmall x = (x.block + x.count ≤ 2 ^ 64) × (x.page + x.count ≤ 2 ^ 64)
 -- pages and their blocks have small numbers
 abbrev pub AreSmall : (ℕ → Option ℕ) → Type 0
 AreSmall block = (p b : ℕ) → block p ≡ Some b → (p < 262144) × (b < 262144)
+
+-- the claims of the inode of a row, in the order of owners
+abbrev pub AreRowClaims : Row → List (ℕ × Owner) → Type 0
+AreRowClaims row claims = Lists (λ (x : ℕ × Owner). owner_key x.1) (IsClaim row.inode row.pages.items row.index) claims
+
+-- the claims of the inodes of these rows, one row after the other
+abbrev pub AreClaimsOf : List Row → List (ℕ × Owner) → Type 0
+AreClaimsOf [] claims = claims ≡ []
+AreClaimsOf (row ∷ rows) claims = (own rest : List (ℕ × Owner)) × (claims ≡ own ++ rest) × AreRowClaims row own × AreClaimsOf rows rest

@@ -1,14 +1,38 @@
 //! The blocks that an inode claims.
 
-ghost use Rattle.std.specs.Prelude.{◌≡◌, ◌+◌, ◌<◌, ◌++◌, IfOk, OnOk};
-ghost use Rattle.std.specs.List.{All};
+ghost use Rattle.std.specs.Prelude.{◌≡◌, ◌*◌, ◌+◌, ◌<◌, ◌++◌, List, IfOk, OnOk};
+ghost use Rattle.std.specs.List.{All, AllByRecursion};
+ghost use Rattle.nv_region.specs.Region.{Region};
+ghost use Rattle.nv_super.specs.declared.superblock.Super.{Super};
+ghost use Rattle.nv_super.specs.Layout.{IsLayout, Layout, fixed_layout};
 ghost use Rattle.nv_super.specs.Order.{Lists, owner_key};
 ghost use Rattle.nv_radix.specs.Pages.{block_at};
 ghost use Rattle.nv_scan.specs.Claims.{IsClaim, log_claims, run_claims, data_claims, IsSmall, AreSmall};
+ghost use Rattle.nv_scan.specs.Rows.{IsPiece};
+ghost use Rattle.nv_scan.specs.Work.{rows_in, claims_in};
+ghost use Rattle.nv_scan.specs.declared.piece.Piece.{Piece};
 
+use crate::piece::Row;
 use nv_radix::{Extent, FileIndex};
 use nv_super::Owner;
 use std::alloc::{AllocError, Global};
+
+/// All that the inodes of these rows claim, one row after the other: what their pieces gave when they were scanned, for a
+/// caller that kept no claims.
+///
+/// Errors: `AllocError` where a growth was refused.
+pub fn claims_of_rows(alloc: Global, rows: &[Row]) -> Result<Vec<(u64, Owner)>, AllocError>
+    requires scanned { (region : Region) × (s : Super) × IsLayout s × (pieces : List Piece) × AllByRecursion (IsPiece region (fixed_layout s)) pieces × (rows.now ≡ rows_in pieces) }
+    ensures { IfOk result (λ claims. (region : Region) (l : Layout) (pieces : List Piece) → AllByRecursion (IsPiece region l) pieces → rows.now ≡ rows_in pieces → claims.items ≡ claims_in pieces) }
+{
+    let mut claims = Vec::new(alloc);
+    let mut runs = Vec::new(alloc);
+    for row in rows {
+        let own = claims_of(alloc, row.inode, &row.pages, &row.index, &mut runs)?;
+        claims.extend_from_slice(&own)?;
+    }
+    Ok(claims)
+}
 
 /// First the pages of the inode's log, in their order, and then the blocks of its file, by page. The runs are room for the
 /// runs of the index, which is kept from one inode to the next.

@@ -1,29 +1,48 @@
-use Rattle.std.proofs.Common.{◌≡◌, ◌+◌, ◌-◌, ◌++◌, ◌∷◌, [], ◌∙◌, arith, subst}
+use Rattle.std.proofs.Common.{◌≡◌, ◌+◌, ◌-◌, ◌++◌, ◌∷◌, [], ℕ, List, refl, ap, ◌∙◌, arith, sym, subst}
+use Rattle.std.specs.Prelude.{Vec}
+use Rattle.std.specs.declared.alloc.Global.{Global}
 use Rattle.nv_super.specs.declared.superblock.Super.{Super}
+use Rattle.nv_super.specs.declared.owners.Owner.{Owner}
 use Rattle.nv_super.specs.Layout.{inode_limit}
-use Rattle.nv_recover.specs.Scanned.{IsNext}
+use Rattle.nv_scan.specs.Work.{claims_in}
+use Rattle.nv_outcome.specs.Parts.{AreMaps}
+use Rattle.nv_recover.specs.Scanned.{AreWithin, IsNext}
 use Rattle.nv_recover.proofs.Claims.{claims_one_more}
+use Rattle.nv_recover.proofs.MadeMaps.{within_cover}
+use Rattle.nv_recover.proofs.Owned.{piece_within}
 use Rattle.nv_recover.proofs.Inodes.{first_none, first_more, all_first}
 use Rattle.nv_recover.proofs.one.scan_in_order.Goals as goal
 
 pub loop-inode-init : goal.loop-inode-init
 loop-inode-init g c = record {
   same = c.new-scanner.ensures;
-  first = ([], first_none c.new-inodes.ensures.rows c.new-inodes.ensures.faults, c.new-claims.ensures.items);
+  first = ([], first_none c.new-inodes.ensures.rows c.new-inodes.ensures.faults, c.in_ok-sets.ensures.maps);
+  cover = c.in_ok-sets.ensures.cover;
 }
+
+pub claim_all-requires : goal.claim_all-requires
+claim_all-requires g c =
+    let l = c.loop-inode in
+    let next = subst (λ (s : Super). IsNext (g.P.Pmem.region c.args.memory.now) s l.inode l.inodes c.scan_next.new.inodes c.in_ok-claims.claims) l.invariant.same c.in_ok-claims.ensures.next in
+    let claims : c.deref.result.now ≡ next.piece.claims.items = c.deref.ensures.value ∙ ap (λ (v : Vec (ℕ × Owner) Global). v.items) (sym next.claims_are) in
+    record { within = within_cover c.args.sup.now.blocks c.deref.result.now _ _ (subst (AreWithin c.args.sup.now) (sym claims) (piece_within (g.P.Pmem.region c.args.memory.now) c.args.sup.now next.piece next.is)) l.invariant.cover.0 l.invariant.cover.1 }
 
 pub loop-inode-preserved : goal.loop-inode-preserved
 loop-inode-preserved g c =
     let R = g.P.Pmem.region c.args.memory.now in
     let l = c.loop-inode in
-    let next = subst (λ (s : Super). IsNext R s l.inode l.inodes c.scan_next.new.inodes c.in_ok-list.list) l.invariant.same c.in_ok-list.ensures.next in
-    let pieces = l.invariant.first.0 in record {
+    let next = subst (λ (s : Super). IsNext R s l.inode l.inodes c.scan_next.new.inodes c.in_ok-claims.claims) l.invariant.same c.in_ok-claims.ensures.next in
+    let pieces = l.invariant.first.0 in
+    let long = c.claim_all.ensures.as_long in
+    let cover = l.invariant.cover in record {
       same = c.scan_next.ensures.same ∙ l.invariant.same;
       first = (
         pieces ++ next.piece ∷ [],
         first_more (omega (arith, l.auto.inode)) l.invariant.first.1 next,
-        claims_one_more pieces next.piece l.invariant.first.2 next.claims_are c.deref.ensures.value c.in_ok-extend_from_slice.ensures.items,
+        subst (λ (claims : List (ℕ × Owner)). AreMaps claims c.claim_all.new.self.first.items c.claim_all.new.self.second.items) (claims_one_more pieces next.piece refl next.claims_are c.deref.ensures.value refl)
+            (c.claim_all.ensures.maps (claims_in pieces) l.invariant.first.2),
       );
+      cover = (omega (arith, long.0, cover.0), omega (arith, long.1, cover.1));
     }
 
 pub returns : goal.returns
@@ -32,4 +51,5 @@ returns g c =
     let l = c.loop-inode in
     let end = c.loop-inode-test.false in
     let limit : inode_limit s - 1 + 1 ≡ l.inode = omega (arith, c.max_inode-inode-end.ensures, end, l.auto.inode) in
-    (l.invariant.first.0, all_first c.requires.layout (omega (arith, limit)) l.invariant.first.1, l.invariant.first.2)
+    let first = l.invariant.first.1 in
+    (l.invariant.first.0, all_first c.requires.layout (omega (arith, limit)) first, record { each = first.each; rows_are = first.rows; maps = l.invariant.first.2; cover = l.invariant.cover })

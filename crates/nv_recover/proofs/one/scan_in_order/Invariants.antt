@@ -1,11 +1,13 @@
 use Rattle.std.proofs.Common.{◌≡◌, List}
 use Rattle.nv_scan.specs.Work.{claims_in}
 use Rattle.nv_scan.specs.declared.piece.Piece.{Piece}
-use Rattle.nv_recover.specs.Scanned.{AreFirst}
+use Rattle.nv_outcome.specs.Parts.{AreMaps}
+use Rattle.nv_recover.specs.Scanned.{AreFirst, Cover}
 use Rattle.nv_recover.proofs.one.scan_in_order.Given as goal
 
 abbrev pub invariant-loop-inode : goal.invariant-loop-inode
 invariant-loop-inode g l = record {
   same : l.scanner ≡ l.sup;
-  first : (pieces : List Piece) × AreFirst (g.P.Pmem.region l.memory) l.sup l.inode pieces l.inodes × (l.claims.items ≡ claims_in pieces);
+  first : (pieces : List Piece) × AreFirst (g.P.Pmem.region l.memory) l.sup l.inode pieces l.inodes × AreMaps (claims_in pieces) l.sets.first.items l.sets.second.items;
+  cover : Cover l.sup l.sets.first.items l.sets.second.items;
 }

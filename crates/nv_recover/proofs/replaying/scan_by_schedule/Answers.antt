@@ -1,5 +1,7 @@
-use Rattle.nv_recover.proofs.Claims.{work_inside, claimed_by_sets}
+use Rattle.std.proofs.Common.{refl}
+use Rattle.nv_recover.proofs.Claims.{work_inside, claims_covered, claimed_by_sets}
 use Rattle.nv_recover.proofs.Inodes.{rows_apart, cross_same}
+use Rattle.nv_recover.proofs.Owned.{owned_claimed}
 use Rattle.nv_recover.proofs.replaying.scan_by_schedule.Goals as goal
 
 pub claim_all-requires-clause-inside : goal.claim_all-requires-clause-inside
@@ -12,10 +14,16 @@ cross_faults_one-requires-clause-apart g c = (rows_apart c.requires.layout c.in_
 pub cross_faults_one-requires-clause-numbers : goal.cross_faults_one-requires-clause-numbers
 cross_faults_one-requires-clause-numbers g c = (rows_apart c.requires.layout c.in_ok-inodes.ensures.inodes.1 c.deref.result.now c.deref.ensures.value).numbers
 
+pub owned_of-requires : goal.owned_of-requires
+owned_of-requires g c =
+    let is = c.in_ok-inodes.ensures.inodes in
+    let claimed = claimed_by_sets c.args.sup.now is.0 c.in_ok-inodes.work.items c.in_ok-claimed.claimed is.2 c.in_ok-claimed.ensures.claims c.in_ok-claimed.ensures.sets in
+    record { covers = claims_covered c.args.sup.now is.0 c.in_ok-claimed.claimed is.1.pieces_are claimed refl refl }
+
 pub returns : goal.returns
 returns g c = let is = c.in_ok-inodes.ensures.inodes in record {
   pieces = is.0;
   inodes = is.1;
-  claimed = claimed_by_sets c.args.sup.now is.0 c.in_ok-inodes.work.items c.in_ok-claimed.claimed is.2 c.in_ok-claimed.ensures.claims c.in_ok-claimed.ensures.sets;
+  owned = owned_claimed c.args.sup.now is.0 c.in_ok-claimed.claimed c.in_ok-owned.owned (claimed_by_sets c.args.sup.now is.0 c.in_ok-inodes.work.items c.in_ok-claimed.claimed is.2 c.in_ok-claimed.ensures.claims c.in_ok-claimed.ensures.sets) c.in_ok-owned.ensures.first c.in_ok-owned.ensures.doubled;
   cross = cross_same _ _ _ c.deref.ensures.value c.in_ok-cross.ensures;
 }

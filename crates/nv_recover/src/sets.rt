@@ -1,0 +1,118 @@
+//! The blocks that are claimed, and those that are claimed twice or more, as sets: block b is bit `b % 64` of word
+//! `b / 64`.
+
+ghost use Rattle.std.specs.Prelude.{◌≡◌, ◌/◌, ◌*◌, ◌<◌, ◌++◌, ℕ, List, [], IfOk, length};
+ghost use Rattle.std.specs.List.{All};
+ghost use Rattle.nv_blockset.specs.BlockSet.{with_block};
+ghost use Rattle.nv_region.specs.Region.{Region};
+ghost use Rattle.nv_super.specs.declared.owners.Owner.{Owner as OwnerValue};
+ghost use Rattle.nv_super.specs.Layout.{IsLayout};
+ghost use Rattle.nv_scan.specs.Work.{claims_in};
+ghost use Rattle.nv_scan.specs.declared.piece.Piece.{Piece};
+ghost use Rattle.nv_outcome.specs.nv_check.Doubled.{AreDoubled};
+ghost use Rattle.nv_outcome.specs.Parts.{AreMaps};
+ghost use Rattle.nv_recover.specs.Scanned.{AreOwned, AreSetsOf, Cover, second_after};
+
+use crate::scanned::Owned;
+use nv_blockset::{contains, first_set, insert, words_for};
+use nv_claimmap::Claimed;
+use nv_outcome::doubled;
+use nv_scan::{Row, claims_of_rows};
+use nv_super::{Owner, Super};
+use std::alloc::{AllocError, Global};
+
+/// The blocks that were claimed so far, and those that were claimed twice or more.
+#[derive(Drop)]
+pub(crate) struct Sets {
+    pub first: Vec<u64>,
+    pub second: Vec<u64>,
+}
+
+impl Sets {
+    /// Nothing is claimed. There is a bit for each block of the region.
+    pub fn new(alloc: Global, sup: &Super) -> Result<Sets, AllocError>
+        ensures maps { IfOk result (λ sets. AreMaps [] sets.first.items sets.second.items) }
+        ensures cover { IfOk result (λ sets. Cover sup.now sets.first.items sets.second.items) }
+    {
+        let words = words_for(sup.blocks);
+        Ok(Sets {
+            first: vec![in alloc; 0u64; words]?,
+            second: vec![in alloc; 0u64; words]?,
+        })
+    }
+
+    /// Puts the blocks of these claims into the sets.
+    pub fn claim_all(&mut self, claims: &[(u64, Owner)])
+        requires within { All (λ (x : ℕ × OwnerValue). (x.0 / 64 < length self.old.first.items) × (x.0 / 64 < length self.old.second.items)) claims.now }
+        ensures maps { (before : List (ℕ × OwnerValue)) → AreMaps before self.old.first.items self.old.second.items → AreMaps (before ++ claims.now) self.new.first.items self.new.second.items }
+        ensures as_long { (length self.new.first.items ≡ length self.old.first.items) × (length self.new.second.items ≡ length self.old.second.items) }
+    {
+        fill(&mut self.first, &mut self.second, claims);
+    }
+
+    /// What the inodes of these rows own, where the sets are those of their claims.
+    pub fn owned(self, alloc: Global, sup: &Super, rows: &[Row]) -> Result<Owned, AllocError>
+        requires layout { IsLayout sup.now }
+        requires sets { (region : Region) × (pieces : List Piece) × AreSetsOf region sup.now pieces rows.now self.first.items self.second.items }
+        ensures { IfOk result (λ owned. (region : Region) (pieces : List Piece) → AreSetsOf region sup.now pieces rows.now self.first.items self.second.items → AreOwned sup.now pieces owned) }
+    {
+        let doubled = doubled_in(alloc, sup, rows, &self.second)?;
+        Ok(Owned {
+            blocks: self.first,
+            doubled,
+        })
+    }
+}
+
+/// What was claimed by workers, in whatever order.
+pub(crate) fn owned_of(alloc: Global, claimed: Claimed) -> Result<Owned, AllocError>
+    requires covers { All (λ (x : ℕ × OwnerValue). x.0 < 64 * length claimed.second.items) claimed.claims.items }
+    ensures first { IfOk result (λ owned. owned.blocks ≡ claimed.first) }
+    ensures doubled { IfOk result (λ owned. AreDoubled claimed.claims.items claimed.second.items owned.doubled.items) }
+{
+    let doubled = doubled(alloc, &claimed.claims, &claimed.second)?;
+    Ok(Owned {
+        blocks: claimed.first,
+        doubled,
+    })
+}
+
+// The claims of the blocks in the second set. Only where there is such a block, the claims of all rows are listed.
+fn doubled_in(
+    alloc: Global,
+    sup: &Super,
+    rows: &[Row],
+    second: &[u64],
+) -> Result<Vec<(u64, Owner)>, AllocError>
+    requires layout { IsLayout sup.now }
+    requires sets { (region : Region) × (pieces : List Piece) × (first : List ℕ) × AreSetsOf region sup.now pieces rows.now first second.now }
+    ensures { IfOk result (λ found. (region : Region) (pieces : List Piece) (first : List ℕ) → AreSetsOf region sup.now pieces rows.now first second.now → AreDoubled (claims_in pieces) second.now found.items) }
+{
+    if first_set(second, 0, sup.blocks) == sup.blocks {
+        return Ok(Vec::new(alloc));
+    }
+    let claims = claims_of_rows(alloc, rows)?;
+    doubled(alloc, &claims, second)
+}
+
+// Puts the claims' blocks into the sets.
+fn fill(first: &mut [u64], second: &mut [u64], claims: &[(u64, Owner)])
+    requires within { All (λ (x : ℕ × OwnerValue). (x.0 / 64 < length first.old) × (x.0 / 64 < length second.old)) claims.now }
+    ensures maps { (before : List (ℕ × OwnerValue)) → AreMaps before first.old second.old → AreMaps (before ++ claims.now) first.new second.new }
+    ensures as_long { (length first.new ≡ length first.old) × (length second.new ≡ length second.old) }
+{
+    for (block, _) in claims {
+        claim(first, second, *block);
+    }
+}
+
+fn claim(first: &mut [u64], second: &mut [u64], block: u64)
+    requires { (block / 64 < length first.old) × (block / 64 < length second.old) }
+    ensures first { first.new ≡ with_block first.old block }
+    ensures second { second.new ≡ second_after first.old second.old block }
+{
+    if contains(first, block) {
+        insert(second, block);
+    }
+    insert(first, block);
+}
