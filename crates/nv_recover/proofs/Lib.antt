@@ -9,3 +9,4 @@ pub mod Answers
 pub use Rattle.nv_outcome.proofs as nv_outcome
 pub use Rattle.nv_scan.proofs as nv_scan
 pub mod Owned
+pub mod Stops

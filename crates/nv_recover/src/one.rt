@@ -3,6 +3,7 @@
 ghost use Rattle.std.specs.Prelude.{◌≡◌, ◌*◌, ◌≢◌, List, [], IfOk, IfErr, IsTrue};
 ghost use Rattle.nv_region.specs.Region.{HasBlocks};
 ghost use Rattle.nv_region.specs.Fuses.{KeepsFuse};
+ghost use Rattle.nv_region.specs.Stops.{LeavesOnly, NothingPending};
 ghost use Rattle.nv_super.specs.Layout.{IsLayout, system_blocks};
 ghost use Rattle.nv_super.specs.Super.{IsSuper};
 ghost use Rattle.nv_super.specs.declared.superblock.Super.{Super as SuperValue};
@@ -12,7 +13,7 @@ ghost use Rattle.nv_scan.specs.declared.piece.Piece.{Piece};
 ghost use Rattle.nv_outcome.specs.Outcome.{IsOutcome};
 ghost use Rattle.nv_recover.specs.declared.errors.RecoverError.TheVariants as errors;
 ghost use Rattle.nv_outcome.specs.Answer.{outcome_of, SharesBlocks};
-ghost use Rattle.nv_recover.specs.Errors.{Fails, comes_first};
+ghost use Rattle.nv_recover.specs.Errors.{Fails, comes_first, UndoesAsBefore};
 ghost use Rattle.nv_recover.specs.Behind.{BehindSystem};
 ghost use Rattle.nv_recover.specs.Scanned.{AreInodes, AreSetsOf, IsScanned};
 
@@ -35,6 +36,9 @@ use std::alloc::{AllocError, Global};
 /// the region as before or with its journals rolled back; `Stopped` where its fuse has burnt. After `Stopped` a later
 /// recovery gives the region that this one would have given. It doesn't come where no journal has anything to roll
 /// back, or where the memory is open up to the first data block.
+///
+/// Where nothing was pending before, whatever a power failure leaves, at any of its stores or behind the last one, has the
+/// same superblock and rolls back to the same region.
 pub fn recover_one<P: Pmem>(alloc: Global, memory: &mut P) -> Result<Recovered, RecoverError>
     ensures ok { IfOk result (λ r. IsOutcome (P.region memory.old) (outcome_of r)) }
     ensures undone { IfOk result (λ r. P.region memory.new ≡ undone r.sup (P.region memory.old)) }
@@ -51,6 +55,9 @@ pub fn recover_one<P: Pmem>(alloc: Global, memory: &mut P) -> Result<Recovered, 
     ensures keeps_fuse { KeepsFuse (BehindSystem (P.region memory.old)) (P.fuse memory.old) (P.fuse memory.new) }
     // A memory that takes stores up to the first data block isn't stopped.
     ensures unstopped { (s : SuperValue) → IsSuper (P.region memory.old) s → IsTrue ((P.fuse memory.old).is_open (4096 * system_blocks s)) → IfErr result (λ e. e ≢ errors.Stopped) }
+    // Whatever a stop leaves has the same undone region.
+    ensures settled { NothingPending (P.region memory.old) (P.may_hold memory.old) → IfOk result (λ _. NothingPending (P.region memory.new) (P.may_hold memory.new)) }
+    ensures any_stop { (s : SuperValue) → IsSuper (P.region memory.old) s → NothingPending (P.region memory.old) (P.may_hold memory.old) → LeavesOnly (P.region memory.new) (P.may_hold memory.new) (UndoesAsBefore (P.region memory.old)) }
 {
     let started = start(alloc, memory)?;
     let scanned = scan_all(alloc, &*memory, &started.sup)?;

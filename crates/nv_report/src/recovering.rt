@@ -1,9 +1,10 @@
 //! Recoveries of a region, as the commands see them: nothing but want of memory, or the memory's fuse, prevents an answer.
 
-ghost use Rattle.std.specs.Prelude.{◌≡◌, ◌≢◌, [], None, Some, IfOk, OnErr, IsTrue, map};
+ghost use Rattle.std.specs.Prelude.{◌≡◌, ◌≢◌, ◌⊎◌, [], None, Some, IfOk, OnErr, IsTrue, map};
 ghost use Rattle.nv_region.specs.Fuses.{KeepsFuse};
 ghost use Rattle.nv_recover.specs.Behind.{BehindSystem};
 ghost use Rattle.nv_recover.specs.Errors.{AsBeforeOrUndone};
+ghost use Rattle.nv_recover.specs.declared.errors.RecoverError.TheVariants as errors;
 ghost use Rattle.nv_report.specs.Answering.{TakesRecovery, MayAnswer, MayEnd, IsOfItsSuper, IsToldAs, EndsAs, refusal_of, worker_number};
 
 use crate::recovery::Answer;
@@ -56,7 +57,7 @@ pub fn recover_alone<P: Pmem>(alloc: Global, memory: &mut P) -> Result<Answer, A
 /// Recovers by 1 to 64 workers on threads of their own. Answers what `recover_region` does, or nothing where the
 /// memory's fuse burnt: rolling back what is left gives then what the old region would have given.
 ///
-/// Errors: `AllocError` where a growth was refused; of the region no clause says more then.
+/// Errors: `AllocError` where a growth was refused. The region is as before then, or its journals are rolled back.
 pub fn recover_or_stop<P: Pmem + Sync, H: Threads + Sync>(
     rt: &H,
     alloc: Global,
@@ -65,6 +66,7 @@ pub fn recover_or_stop<P: Pmem + Sync, H: Threads + Sync>(
 ) -> Result<Option<Answer>, AllocError>
     ensures ok { IfOk result (λ answer. MayEnd (P.region memory.old) workers [] answer (P.region memory.new)) }
     ensures lists { IfOk result IsOfItsSuper }
+    ensures err { OnErr result (AsBeforeOrUndone (P.region memory.old) (P.region memory.new)) }
     ensures unstopped { IsTrue (P.fuse memory.old).is_steady → IfOk result (λ answer. answer ≢ None) }
 {
     match recover(rt, alloc, memory, workers, &NoGate) {
@@ -76,7 +78,7 @@ pub fn recover_or_stop<P: Pmem + Sync, H: Threads + Sync>(
 /// Recovers on this thread, the claims of 1 to 64 workers, numbered from 0, made in the order of the schedule. Answers
 /// what `recover_or_stop` does, or the refusal `Schedule`, tested behind `Workers`, where a number names no worker.
 ///
-/// Errors: `AllocError` where a growth was refused; of the region no clause says more then.
+/// Errors: `AllocError` where a growth was refused. The region is as before then, or its journals are rolled back.
 pub fn replay_or_stop<P: Pmem>(
     alloc: Global,
     memory: &mut P,
@@ -85,6 +87,7 @@ pub fn replay_or_stop<P: Pmem>(
 ) -> Result<Option<Answer>, AllocError>
     ensures ok { IfOk result (λ answer. MayEnd (P.region memory.old) workers schedule.now answer (P.region memory.new)) }
     ensures lists { IfOk result IsOfItsSuper }
+    ensures err { OnErr result ((P.region memory.new ≡ P.region memory.old) ⊎ AsBeforeOrUndone (P.region memory.old) (P.region memory.new)) }
     ensures unstopped { IsTrue (P.fuse memory.old).is_steady → IfOk result (λ answer. answer ≢ None) }
 {
     let numbers = worker_numbers(alloc, schedule)?;
@@ -94,8 +97,10 @@ pub fn replay_or_stop<P: Pmem>(
     }
 }
 
+// Only want of memory is told as no answer.
 fn stopped_or_refused(error: RecoverError) -> Result<Option<Answer>, AllocError>
-    ensures { IfOk result (EndsAs error) }
+    ensures ok { IfOk result (EndsAs error) }
+    ensures err { OnErr result (error ≡ errors.Memory) }
 {
     match error {
         RecoverError::Stopped => Ok(None),

@@ -91,3 +91,18 @@ returns-clause-quiet g c = c.start.ensures.quiet
 
 pub returns-clause-keeps_fuse : goal.returns-clause-keeps_fuse
 returns-clause-keeps_fuse g c = c.start.ensures.keeps_fuse
+
+pub returns-in_err-started-clause-any_stop : goal.returns-in_err-started-clause-any_stop
+returns-in_err-started-clause-any_stop g c = c.start.ensures.any_stop
+
+pub returns-in_err-scanned-clause-any_stop : goal.returns-in_err-scanned-clause-any_stop
+returns-in_err-scanned-clause-any_stop g c = c.start.ensures.any_stop
+
+pub returns-in_err-finish-clause-any_stop : goal.returns-in_err-finish-clause-any_stop
+returns-in_err-finish-clause-any_stop g c = c.start.ensures.any_stop
+
+pub returns-clause-any_stop : goal.returns-clause-any_stop
+returns-clause-any_stop g c = c.start.ensures.any_stop
+
+pub returns-clause-settled : goal.returns-clause-settled
+returns-clause-settled g c = c.in_ok-started.ensures.settled

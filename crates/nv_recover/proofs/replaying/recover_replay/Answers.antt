@@ -3,6 +3,7 @@ use Rattle.nv_recover.specs.Errors.{Fails, comes_first}
 use Rattle.nv_recover.specs.declared.errors.RecoverError.{RecoverError}
 use Rattle.nv_recover.specs.declared.errors.RecoverError.TheVariants.{Stopped}
 use Rattle.nv_recover.proofs.Handed.{handed, memory_fails, memory_goes_on, memory_not_burnt, memory_not_first}
+use Rattle.nv_recover.proofs.Stops.{stop_before}
 use Rattle.nv_recover.proofs.replaying.recover_replay.Goals as goal
 
 pub finish-requires-clause-scanned : goal.finish-requires-clause-scanned
@@ -91,3 +92,24 @@ returns-clause-quiet g c = c.start.ensures.quiet
 
 pub returns-clause-keeps_fuse : goal.returns-clause-keeps_fuse
 returns-clause-keeps_fuse g c = c.start.ensures.keeps_fuse
+
+pub returns-in_err-started-clause-any_stop : goal.returns-in_err-started-clause-any_stop
+returns-in_err-started-clause-any_stop g c = c.start.ensures.any_stop
+
+pub returns-in_err-scanned-clause-any_stop : goal.returns-in_err-scanned-clause-any_stop
+returns-in_err-scanned-clause-any_stop g c = c.start.ensures.any_stop
+
+pub returns-in_err-finish-clause-any_stop : goal.returns-in_err-finish-clause-any_stop
+returns-in_err-finish-clause-any_stop g c = c.start.ensures.any_stop
+
+pub returns-clause-any_stop : goal.returns-clause-any_stop
+returns-clause-any_stop g c = c.start.ensures.any_stop
+
+pub returns-clause-settled : goal.returns-clause-settled
+returns-clause-settled g c = c.in_ok-started.ensures.settled
+
+pub returns-then-not-is_worker_count-clause-any_stop : goal.returns-then-not-is_worker_count-clause-any_stop
+returns-then-not-is_worker_count-clause-any_stop g c = λ s is none. stop_before (g.P.Pmem.region c.args.memory.now) (g.P.Pmem.may_hold c.args.memory.now) s is none
+
+pub returns-in-Some-clause-any_stop : goal.returns-in-Some-clause-any_stop
+returns-in-Some-clause-any_stop g c = λ s is none. stop_before (g.P.Pmem.region c.args.memory.now) (g.P.Pmem.may_hold c.args.memory.now) s is none

@@ -9,6 +9,7 @@ use Rattle.nv_recover.specs.Errors.{Fails, comes_first, error_of_undo}
 use Rattle.nv_recover.specs.declared.errors.RecoverError.{RecoverError}
 use Rattle.nv_recover.specs.declared.errors.RecoverError.TheVariants.{Super as Refused, Stopped}
 use Rattle.nv_recover.proofs.Handed.{burnt_of, fails_of, goes_on, handed, no_stop_of}
+use Rattle.nv_recover.proofs.Stops.{stop_before, stop_undone}
 use Rattle.nv_recover.proofs.starting.start.Goals as goal
 
 pub returns-in_err-sup-clause-quiet : goal.returns-in_err-sup-clause-quiet
@@ -79,3 +80,15 @@ returns-clause-quiet g c = λ s is quiet. let R = g.P.Pmem.region c.args.memory.
 
 pub returns-clause-keeps_fuse : goal.returns-clause-keeps_fuse
 returns-clause-keeps_fuse g c = keeps_within (λ limit past. past c.in_ok-sup.sup c.in_ok-sup.ensures.accepted) c.undo.ensures.keeps_fuse
+
+pub returns-in_err-sup-clause-any_stop : goal.returns-in_err-sup-clause-any_stop
+returns-in_err-sup-clause-any_stop g c = λ s is none. stop_before (g.P.Pmem.region c.args.memory.now) (g.P.Pmem.may_hold c.args.memory.now) s is none
+
+pub returns-in_err-journal-clause-any_stop : goal.returns-in_err-journal-clause-any_stop
+returns-in_err-journal-clause-any_stop g c = λ s is none. stop_undone (g.P.Pmem.region c.args.memory.now) (g.P.Pmem.region c.undo.new.memory) (g.P.Pmem.may_hold c.undo.new.memory) c.in_ok-sup.sup c.in_ok-sup.ensures.layout c.in_ok-sup.ensures.accepted (c.undo.ensures.any_stop none)
+
+pub returns-clause-any_stop : goal.returns-clause-any_stop
+returns-clause-any_stop g c = λ s is none. stop_undone (g.P.Pmem.region c.args.memory.now) (g.P.Pmem.region c.undo.new.memory) (g.P.Pmem.may_hold c.undo.new.memory) c.in_ok-sup.sup c.in_ok-sup.ensures.layout c.in_ok-sup.ensures.accepted (c.undo.ensures.any_stop none)
+
+pub returns-clause-settled : goal.returns-clause-settled
+returns-clause-settled g c = c.in_ok-journal.ensures.settled
