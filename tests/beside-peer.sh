@@ -6,14 +6,16 @@
 # PEER is the folder of the native program's sources, a crate `nova_ref` whose `bench` writes an image and times its own
 # recovery. In each round (5 where none are given) the native program and `bench_mounted` run one after the other, three
 # recoveries each, and the best of all rounds counts. The images have 65,536 blocks: small files, one big file, one
-# directory of many names, and files of many overwrites. Nothing else should run meanwhile.
+# directory of many names, and files of many overwrites. Both keep the memory that they free, so that a recovery doesn't
+# wait for the system to clear it again. Nothing else should run meanwhile.
 set -eu
 here=$(cd "$(dirname "${BASH_SOURCE[0]}")/.." && pwd)
 if [ $# -lt 1 ] || [ ! -f "$1/Cargo.toml" ]; then
-    sed -n '2,10s/^# \{0,1\}//p' "${BASH_SOURCE[0]}"
+    sed -n '2,11s/^# \{0,1\}//p' "${BASH_SOURCE[0]}"
     exit 2
 fi
 rounds=${2:-5}
+export MALLOC_TRIM_THRESHOLD_=1073741824 MALLOC_MMAP_THRESHOLD_=1073741824
 folder=$(mktemp -d)
 trap 'rm -rf "$folder"' EXIT
 (cd "$1" && CARGO_TARGET_DIR=$folder/peer cargo build --release --offline -q)
