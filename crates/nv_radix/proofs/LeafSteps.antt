@@ -78,24 +78,22 @@ pub ready_page : (mapped : ℕ) (blocks : List ℕ) (p : ℕ) → is_ready (leaf
 ready_page mapped blocks p ready = elim (leb_tells (suc p) (length blocks)) [ inl w ↦ w.1 | inr w ↦ absurd (true≢false (sym ready ∙ is_ready-leaf mapped blocks p ∙ w.0)) ]
 
 -- a leaf with a run of its pages set
-pub leaf_set : (mapped new : ℕ) (blocks written : List ℕ) (page block count p : ℕ) → length written ≡ length blocks → length blocks ≡ 64 → page + count ≤ 64 → ((q : ℕ) → q < 64 → bit_at new q ≡ cond (in_run page count q) 1 (bit_at mapped q)) → ((q : ℕ) → get_or written q 0 ≡ cond (in_run page count q) (block + (q - page)) (get_or blocks q 0)) → block_at (leaf_pages new written 0) p ≡ cond (in_run page count p) (Some (block + (p - page))) (block_at (leaf_pages mapped blocks 0) p)
-leaf_set mapped new blocks written page block count p same full part bits is = elim (cases_lt p 64) [
-  | inl l ↦
-      let old : p < length blocks = omega (arith, l, full) in
-      let now : p < length written = omega (arith, l, full, same) in
-      rw (block_at-leaf new written p now, block_at-leaf mapped blocks p old, bits p l, is p) (either (in_run page count p) (bit_at mapped p) (block + (p - page)) (get_or blocks p 0))
-  | inr l ↦
-      let old : length blocks ≤ p = omega (arith, l, full) in
-      let now : length written ≤ p = omega (arith, l, full, same) in
-      rw (block_at-past_leaf new written p now, block_at-past_leaf mapped blocks p old, outside page count p part l) refl
+pub leaf_set : (mapped new : ℕ) (blocks written : List ℕ) (page block count p : ℕ) → length written ≡ length blocks → length blocks ≤ 64 → page + count ≤ length blocks → ((q : ℕ) → q < 64 → bit_at new q ≡ cond (in_run page count q) 1 (bit_at mapped q)) → ((q : ℕ) → get_or written q 0 ≡ cond (in_run page count q) (block + (q - page)) (get_or blocks q 0)) → block_at (leaf_pages new written 0) p ≡ cond (in_run page count p) (Some (block + (p - page))) (block_at (leaf_pages mapped blocks 0) p)
+leaf_set mapped new blocks written page block count p same few part bits is = elim (cases_lt p (length blocks)) [
+  | inl old ↦
+      let now : p < length written = omega (arith, old, same) in
+      rw (block_at-leaf new written p now, block_at-leaf mapped blocks p old, bits p (omega (arith, old, few)), is p) (either (in_run page count p) (bit_at mapped p) (block + (p - page)) (get_or blocks p 0))
+  | inr old ↦
+      let now : length written ≤ p = omega (arith, old, same) in
+      rw (block_at-past_leaf new written p now, block_at-past_leaf mapped blocks p old, outside page count p (omega (arith, part, old))) refl
 ]
   where
     either : (b : Bool) (bit new old : ℕ) → cond (eqb (cond b 1 bit) 1) (Some (cond b new old)) None ≡ cond b (Some new) (cond (eqb bit 1) (Some old) None)
     either true bit new old = refl
     either false bit new old = refl
 
-    outside : (page count p : ℕ) → page + count ≤ 64 → 64 ≤ p → in_run page count p ≡ false
-    outside page count p part l = grind (arith, nat_tests)
+    outside : (page count p : ℕ) → page + count ≤ p → in_run page count p ≡ false
+    outside page count p part = grind (arith, nat_tests)
 
 -- one place more of a loop that writes a run
 pub run_more : (X : Type 0) (page step p : ℕ) (new old : X) → (p ≡ page + step → ⊥) → cond (in_run page step p) new old ≡ cond (in_run page (step + 1) p) new old

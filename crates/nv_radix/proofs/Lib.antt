@@ -11,3 +11,4 @@ pub mod Fronts
 pub mod Rising
 pub mod RowSteps
 pub mod Rows
+pub mod FirstPages

@@ -115,9 +115,9 @@ fn goes_first(front: &Leaf, end: u64, page: u64) -> bool
 fn put_leaf(index: &mut FileIndex, leaf: &Leaf) -> Result<(), AllocError>
     ensures { OnOk result ((p : ℕ) → block_at index.new p ≡ (if nat_lt p 64 then option_or (block_at leaf.now p) (block_at index.old p) else block_at index.old p)) }
 {
-    index.reserve(0, LEAF_PAGES)?;
     for page in 0..LEAF_PAGES {
         if let Some(block) = leaf.get(page) {
+            index.reserve(page, 1)?;
             index.set_run(page, block, 1);
         }
     }

@@ -1,22 +1,22 @@
 //! A file index as a tree of three levels, of which each node has up to 64 others or 64 pages.
 
-ghost use Rattle.std.specs.Prelude.{◌≡◌, ℕ, ◌+◌, ◌-◌, ◌/◌, ◌%◌, ◌^◌, ◌<◌, ◌≤◌, ◌||◌, ◌==◌, List, if◌then◌else◌, nat_le, Some, None, true, false, OnOk, OnErr, IfOk};
+ghost use Rattle.std.specs.Prelude.{◌≡◌, ℕ, ◌+◌, ◌-◌, ◌/◌, ◌%◌, ◌^◌, ◌<◌, ◌≤◌, ◌||◌, ◌==◌, List, if◌then◌else◌, nat_le, nat_lt, Some, None, true, false, OnOk, OnErr, IfOk};
 ghost use Rattle.nv_radix.specs.Pages.{block_at, is_ready, in_run, AreReady, AreFilePages};
 ghost use Rattle.nv_radix.specs.Extents.{AreExtents};
 
 use crate::MAX_FILE_PAGES;
 use crate::extent::Extent;
-use crate::leaf::Leaf;
+use crate::front::Front;
 use crate::node::Node;
 use crate::row::Root;
 use std::alloc::{AllocError, Global};
 use std::marker::Model;
 
 /// A map from pages to blocks, with a set of pages that are ready. The first 64 pages, which are
-/// all that most files have, stand in a leaf of their own, and the others in the tree.
+/// all that most files have, stand beside the tree of the others.
 #[derive(Drop)]
 pub struct FileIndex {
-    front: Leaf,
+    front: Front,
     rest: Root,
     alloc: Global,
 }
@@ -26,12 +26,13 @@ impl Model for FileIndex {
     ghost use Rattle.nv_radix.specs.declared.TheConstants.{MAX_FILE_PAGES};
     ghost use Rattle.nv_radix.specs.Pages.{is_ready};
     ghost use Rattle.nv_radix.specs.Nodes.{raised, IsNode};
+    ghost use Rattle.nv_radix.specs.Rising.{Rises};
 
     ghost Value = { List (ℕ × Option ℕ) };
 
     ghost view = { λ a. a.front ++ raised 64 a.rest };
 
-    ghost invariant = { λ a. IsNode 64 a.front × IsNode 262144 a.rest × ((p : ℕ) → MAX_FILE_PAGES ≤ p → is_ready (a.front ++ raised 64 a.rest) p ≡ false) };
+    ghost invariant = { λ a. Rises 0 64 a.front × IsNode 262144 a.rest × ((p : ℕ) → MAX_FILE_PAGES ≤ p → is_ready (a.front ++ raised 64 a.rest) p ≡ false) };
 }
 
 impl FileIndex {
@@ -40,7 +41,7 @@ impl FileIndex {
         ensures empty { (p : ℕ) → block_at result p ≡ None }
     {
         FileIndex {
-            front: Leaf::new(alloc),
+            front: Front::new(alloc),
             rest: Root::new(alloc),
             alloc,
         }
@@ -57,10 +58,12 @@ impl FileIndex {
         }
     }
 
-    /// Whether a page is ready: the 64 pages of a leaf are ready together.
+    /// Whether a page is ready: with one of the first 64 all pages before it are, and behind these the 64 pages of a leaf
+    /// are ready together.
     pub fn ready(&self, page: u64) -> bool
         ensures ready { result ≡ is_ready self.now page }
-        ensures leaf { (p : ℕ) → p / 64 ≡ page / 64 → is_ready self.now p ≡ result }
+        ensures before { page < 64 → result ≡ true → (p : ℕ) → p ≤ page → is_ready self.now p ≡ true }
+        ensures leaf { 64 ≤ page → (p : ℕ) → p / 64 ≡ page / 64 → is_ready self.now p ≡ result }
         ensures beyond { MAX_FILE_PAGES ≤ page → result ≡ false }
     {
         if page < 64 {
@@ -82,15 +85,11 @@ impl FileIndex {
             return;
         }
         self.rest.cut(0);
-        if first_page == 0 {
-            self.front = Leaf::new(self.alloc);
-        } else {
-            self.front.cut(first_page);
-        }
+        self.front.cut(first_page);
     }
 
-    /// Makes the `count` pages from `page` on, all below `MAX_FILE_PAGES`, ready, and with them all pages of their
-    /// leaves. It costs a step a leaf.
+    /// Makes the `count` pages from `page` on, all below `MAX_FILE_PAGES`, ready. Of the first 64 pages those before them
+    /// become ready too, and behind these all pages of their leaves. It costs a step a leaf.
     ///
     /// Errors: `AllocError` where a growth was refused; the map stays, and what is ready stays so.
     pub fn reserve(&mut self, page: u64, count: u64) -> Result<(), AllocError>
@@ -102,24 +101,35 @@ impl FileIndex {
         if count == 0 {
             return Ok(());
         }
-        for leaf in page / 64..(page + count - 1) / 64 + 1 {
-            self.make_ready(leaf * 64)?;
+        let end = page + count;
+        if page < 64 {
+            self.make_first_ready(end.min(64))?;
+        }
+        for leaf in (page / 64).max(1)..(end - 1) / 64 + 1 {
+            self.make_leaf_ready(leaf * 64)?;
         }
         Ok(())
     }
 
-    /// Makes the leaf of a page ready. An error leaves the pages.
-    fn make_ready(&mut self, page: u64) -> Result<(), AllocError>
-        requires { page < 262144 }
+    /// Makes the first `count` pages ready. An error leaves the pages.
+    fn make_first_ready(&mut self, count: u64) -> Result<(), AllocError>
+        requires { count ≤ 64 }
+        ensures blocks { (p : ℕ) → block_at self.new p ≡ block_at self.old p }
+        ensures ready { OnOk result ((p : ℕ) → is_ready self.new p ≡ (nat_lt p count || is_ready self.old p)) }
+        ensures err { OnErr result ((p : ℕ) → is_ready self.new p ≡ is_ready self.old p) }
+    {
+        self.front.make_ready(count)
+    }
+
+    /// Makes the leaf of a page behind the first 64 ready. An error leaves the pages.
+    fn make_leaf_ready(&mut self, page: u64) -> Result<(), AllocError>
+        requires behind { 64 ≤ page }
+        requires page { page < 262144 }
         ensures blocks { (p : ℕ) → block_at self.new p ≡ block_at self.old p }
         ensures ready { OnOk result ((p : ℕ) → is_ready self.new p ≡ (p / 64 == page / 64 || is_ready self.old p)) }
         ensures err { OnErr result ((p : ℕ) → is_ready self.new p ≡ is_ready self.old p) }
     {
-        if page < 64 {
-            self.front.make_ready(page)
-        } else {
-            self.rest.make_ready(page - 64)
-        }
+        self.rest.make_ready(page - 64)
     }
 
     /// Maps the `count` pages from `page` on, all of them ready, to as many blocks from `block` on. It takes no memory
@@ -140,8 +150,9 @@ impl FileIndex {
 
     /// Maps the `count` pages from `page` on, all of one leaf, to as many blocks from `block` on.
     fn set_part(&mut self, page: u64, block: u64, count: u64)
+        requires some { 0 < count }
         requires part { page % 64 + count ≤ 64 }
-        requires ready { is_ready self.old page ≡ true }
+        requires ready { AreReady self.old page count }
         requires blocks { block + count ≤ 2 ^ 64 }
         ensures bound { page < MAX_FILE_PAGES }
         ensures blocks { (p : ℕ) → block_at self.new p ≡ (if in_run page count p then Some (block + (p - page)) else block_at self.old p) }
@@ -173,7 +184,7 @@ impl FileIndex {
         ensures { OnOk result (AreExtents self.now extents.new.items) }
     {
         extents.clear();
-        self.front.add_pages(extents, 0)?;
+        self.front.add_pages(extents)?;
         self.rest.add_pages(extents, 64)
     }
 }

@@ -5,8 +5,8 @@ ghost use Rattle.std.specs.Int.{bit_at};
 ghost use Rattle.nv_radix.specs.Pages.{in_run};
 
 use crate::extent::Extent;
-use crate::extents::add_page;
 use crate::node::{Child, Node, Single};
+use crate::places::{add_places, block_of, set_places};
 use std::alloc::{AllocError, Global};
 use std::marker::Model;
 
@@ -50,10 +50,7 @@ impl Node for Leaf {
     }
 
     fn get(&self, page: u64) -> Option<u64> {
-        match self.blocks.get(page as usize) {
-            Some(block) if (self.mapped >> page) & 1 == 1 => Some(*block),
-            _ => None,
-        }
+        block_of(self.mapped, &self.blocks, page)
     }
 
     fn make_ready(&mut self, _page: u64) -> Result<(), AllocError> {
@@ -76,16 +73,7 @@ impl Node for Leaf {
     }
 
     fn add_pages(&self, extents: &mut Vec<Extent>, base: u64) -> Result<(), AllocError> {
-        for (place, block) in self.blocks.iter().enumerate() {
-            let rest = self.mapped >> place;
-            if rest == 0 {
-                return Ok(());
-            }
-            if rest & 1 == 1 {
-                add_page(extents, base + place as u64, *block)?;
-            }
-        }
-        Ok(())
+        add_places(self.mapped, &self.blocks, extents, base)
     }
 
     ghost use Rattle.std.proofs.Common.{arith, refl};
@@ -109,19 +97,4 @@ impl Single for Leaf {
     ghost use Rattle.std.proofs.Common.{refl};
 
     ghost one = { refl };
-}
-
-/// Sets the bits of a run of places, and gives them as many blocks from `block` on.
-fn set_places(mapped: &mut u64, blocks: &mut [u64], page: u64, block: u64, count: u64)
-    requires part { page + count ≤ length blocks.old }
-    requires few { length blocks.old ≤ 64 }
-    requires fits { block + count ≤ 2 ^ 64 }
-    ensures bits { (p : ℕ) → p < 64 → bit_at mapped.new p ≡ (if in_run page count p then 1 else bit_at mapped.old p) }
-    ensures blocks { (p : ℕ) → slice_index blocks.new p ≡ (if in_run page count p then block + (p - page) else slice_index blocks.old p) }
-{
-    for step in 0..count {
-        let place = page + step;
-        *mapped |= 1 << place;
-        blocks[place as usize] = block + step;
-    }
 }

@@ -7,9 +7,11 @@
 mod extent;
 mod extent_map;
 mod extents;
+mod front;
 mod index;
 mod leaf;
 mod node;
+mod places;
 mod row;
 mod run_map;
 mod runs;

@@ -20,7 +20,10 @@ overflow_add-page-in-loop-done c = elim (cases_lt 0 c.loop-done.done) [
 ]
 
 pub set_part-requires-clause-ready : goal.set_part-requires-clause-ready
-set_part-requires-clause-ready c = c.loop-done.invariant.3 _ ∙ c.requires.ready (c.args.page + c.loop-done.done) (omega arith) (omega (arith, c.loop-done-test.true))
+set_part-requires-clause-ready c = λ p l h. c.loop-done.invariant.3 p ∙ c.requires.ready p (omega (arith, l)) (omega (arith, h, c.min-part.ensures, c.loop-done-test.true))
+
+pub set_part-requires-clause-some : goal.set_part-requires-clause-some
+set_part-requires-clause-some c = omega (arith, c.min-part.ensures, c.loop-done-test.true)
 
 pub loop-done-preserved : goal.loop-done-preserved
 loop-done-preserved c =

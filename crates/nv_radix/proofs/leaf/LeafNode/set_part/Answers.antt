@@ -17,7 +17,7 @@ returns-clause-blocks c =
     let same : length c.set_places.new.blocks ≡ length c.self.inside.blocks.items = omega arith in
     let written = with_items_is c.self.inside.blocks c.set_places.new.blocks (omega arith) in
     let is = rw c.deref_mut.ensures.value at c.set_places.ensures.blocks in
-    λ p. rw (written, ← c.self.view_is) (leaf_set c.self.inside.mapped _ c.self.inside.blocks.items _ c.args.page c.args.block c.args.count p same full (omega (arith, full, low, c.requires.part)) c.set_places.ensures.bits is)
+    λ p. rw (written, ← c.self.view_is) (leaf_set c.self.inside.mapped _ c.self.inside.blocks.items _ c.args.page c.args.block c.args.count p same (omega (arith, full)) (omega (arith, full, low, c.requires.part)) c.set_places.ensures.bits is)
 
 pub returns-clause-ready : goal.returns-clause-ready
 returns-clause-ready c =

@@ -3,7 +3,7 @@ use Rattle.std.proofs.lemmas.Bool.{cases_eq}
 use Rattle.std.proofs.lemmas.List.{get_or-set_same, get_or-set_other}
 use Rattle.std.proofs.lemmas.Nat.Bits.{bit_at_set_same, bit_at_set_other}
 use Rattle.nv_radix.proofs.LeafSteps.{run_more, in_run-last}
-use Rattle.nv_radix.proofs.leaf.set_places.Goals as goal
+use Rattle.nv_radix.proofs.places.set_places.Goals as goal
 
 pub loop-step-preserved : goal.loop-step-preserved
 loop-step-preserved c =

@@ -1,0 +1,61 @@
+//! Blocks of places in a row, with a bit for each place that has one.
+
+ghost use Rattle.std.specs.Prelude.{◌≡◌, ℕ, ◌+◌, ◌-◌, ◌^◌, ◌<◌, ◌≤◌, ◌++◌, if◌then◌else◌, length, slice_index, OnOk};
+ghost use Rattle.std.specs.Int.{bit_at};
+ghost use Rattle.nv_radix.specs.Pages.{Pages, block_at, in_run};
+ghost use Rattle.nv_radix.specs.Nodes.{leaf_pages, raised};
+ghost use Rattle.nv_radix.specs.Extents.{AreExtents};
+ghost use Rattle.nv_radix.specs.Rising.{Rises};
+
+use crate::extent::Extent;
+use crate::extents::add_page;
+use std::alloc::AllocError;
+
+/// The block of a place, if its bit is set.
+pub(crate) fn block_of(mapped: u64, blocks: &[u64], place: u64) -> Option<u64>
+    requires { length blocks.now ≤ 64 }
+    ensures { result ≡ block_at (leaf_pages mapped blocks.now 0) place }
+{
+    match blocks.get(place as usize) {
+        Some(block) if (mapped >> place) & 1 == 1 => Some(*block),
+        _ => None,
+    }
+}
+
+/// Sets the bits of a run of places, and gives them as many blocks from `block` on.
+pub(crate) fn set_places(mapped: &mut u64, blocks: &mut [u64], page: u64, block: u64, count: u64)
+    requires part { page + count ≤ length blocks.old }
+    requires few { length blocks.old ≤ 64 }
+    requires fits { block + count ≤ 2 ^ 64 }
+    ensures bits { (p : ℕ) → p < 64 → bit_at mapped.new p ≡ (if in_run page count p then 1 else bit_at mapped.old p) }
+    ensures blocks { (p : ℕ) → slice_index blocks.new p ≡ (if in_run page count p then block + (p - page) else slice_index blocks.old p) }
+{
+    for step in 0..count {
+        let place = page + step;
+        *mapped |= 1 << place;
+        blocks[place as usize] = block + step;
+    }
+}
+
+/// Adds the places with a block, each raised by `base`, to extents of lower pages.
+pub(crate) fn add_places(
+    mapped: u64,
+    blocks: &[u64],
+    extents: &mut Vec<Extent>,
+    base: u64,
+) -> Result<(), AllocError>
+    requires few { length blocks.now ≤ 64 }
+    requires fits { base + 64 ≤ 2 ^ 32 }
+    ensures { OnOk result ((m : Pages) → Rises 0 base m → AreExtents m extents.old.items → AreExtents (m ++ raised base (leaf_pages mapped blocks.now 0)) extents.new.items) }
+{
+    for (place, block) in blocks.iter().enumerate() {
+        let rest = mapped >> place;
+        if rest == 0 {
+            return Ok(());
+        }
+        if rest & 1 == 1 {
+            add_page(extents, base + place as u64, *block)?;
+        }
+    }
+    Ok(())
+}
