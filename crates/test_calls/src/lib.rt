@@ -1,9 +1,12 @@
-//! Tests of a mounted file system: of what is read of it, of each call that changes it, and of stops. They stand here since
-//! a crate that has tests is proved twice, once with them and once without.
+//! Tests of the scan of inodes, of rows by number, of the faults between inodes, and of recovery; and of a mounted file
+//! system: of what is read of it, of each call that changes it, and of stops. They stand here since a crate that has tests
+//! is proved twice, once with them and once without.
 #![tactic(auto)]
 
 #[cfg(test)]
 mod asking;
+#[cfg(test)]
+mod faults;
 #[cfg(test)]
 mod files;
 #[cfg(test)]
@@ -17,6 +20,8 @@ mod lines;
 #[cfg(test)]
 mod looking;
 #[cfg(test)]
+mod meeting;
+#[cfg(test)]
 mod mounted;
 #[cfg(test)]
 mod names;
@@ -27,10 +32,22 @@ mod reading;
 #[cfg(test)]
 mod recovered;
 #[cfg(test)]
+mod recovery;
+#[cfg(test)]
 mod refused;
 #[cfg(test)]
 mod regions;
 #[cfg(test)]
+mod rows;
+#[cfg(test)]
+mod scan;
+#[cfg(test)]
+mod small;
+#[cfg(test)]
 mod stops;
 #[cfg(test)]
 mod story;
+#[cfg(test)]
+mod turns;
+#[cfg(test)]
+mod watched;

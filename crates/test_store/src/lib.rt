@@ -1,9 +1,20 @@
-//! Tests of the crates that hold a region: its words, superblock, slots, journals, logs and format. They stand here
-//! since a crate that has tests is proved twice, once with them and once without.
+//! Tests of the crates that hold a region (its words, superblock, slots, journals, logs and format), and of those that are
+//! kept in memory (the indexes of names and of pages, values by number, the allocator, and the claims of recovery's
+//! workers). They stand here since a crate that has tests is proved twice, once with them and once without.
 #![tactic(auto)]
 
 #[cfg(test)]
+mod allocator;
+#[cfg(test)]
+mod claim_core;
+#[cfg(test)]
+mod claim_map;
+#[cfg(test)]
 mod entry;
+#[cfg(test)]
+mod extent_map;
+#[cfg(test)]
+mod file_index;
 #[cfg(test)]
 mod format;
 #[cfg(test)]
@@ -13,8 +24,14 @@ mod journal;
 #[cfg(test)]
 mod log;
 #[cfg(test)]
+mod name_index;
+#[cfg(test)]
+mod numbered;
+#[cfg(test)]
 mod region;
 #[cfg(test)]
 mod small;
 #[cfg(test)]
 mod superblock;
+#[cfg(test)]
+mod word_runs;

@@ -1,6 +1,6 @@
 use Rattle.std.proofs.Common.{◌≡◌}
 use Rattle.nv_super.specs.declared.superblock.Super.{Super}
-use Rattle.test_recovery.proofs.rows.fill.Given as goal
+use Rattle.test_calls.proofs.rows.fill.Given as goal
 
 abbrev small : Super
 small = record { version = 1; cpus = 1; blocks = 16; table_blocks = 1; state = 0 }

@@ -11,7 +11,7 @@ use Rattle.nv_alloc.specs.FreeValue.{FreeLists}
 use Rattle.nv_alloc.specs.FreeLists.{IsFreeIn, IsSound, AreOutside, CanJoin, SameLists}
 use Rattle.nv_alloc.specs.Taking.{HasBlock, pool_at}
 use Rattle.nv_alloc.proofs.Sound.{free_within, data_block, joins_from}
-use Rattle.test_indexes.proofs.allocator.lists_after.Goals as goal
+use Rattle.test_store.proofs.allocator.lists_after.Goals as goal
 
 -- where all blocks are in use, none is free
 none_free : (s : Super) (a : FreeLists) → IsSound a → AreOutside (18446744073709551615 ∷ []) s a → s.blocks ≤ 64 → (c b : ℕ) → IsFreeIn a c b → ⊥

@@ -1,7 +1,7 @@
 use Rattle.std.proofs.Common.{◌≡◌, ◌≢◌, ℕ, zero, suc, ◌<◌, [], ◌∷◌, get_or, arith}
 use Rattle.nv_scan.specs.declared.piece.Row.{Row}
 use Rattle.nv_recover.specs.nv_outcome.nv_rows.Rows.{inodes_of}
-use Rattle.test_recovery.proofs.rows.two_files.Goals as goal
+use Rattle.test_calls.proofs.rows.two_files.Goals as goal
 
 below : (a b : Row) → a.inode ≡ 4 → b.inode ≡ 2 → (k : ℕ) → k < 2 → get_or (inodes_of (a ∷ b ∷ [])) k 0 < 32
 below a b first second zero inside = omega (arith, first)

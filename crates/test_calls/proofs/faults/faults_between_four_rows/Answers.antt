@@ -7,7 +7,7 @@ use Rattle.nv_super.specs.Layout.{is_number, inode_limit}
 use Rattle.nv_super.specs.declared.superblock.Super.{Super}
 use Rattle.nv_scan.specs.declared.piece.Row.{Row}
 use Rattle.nv_check.specs.nv_numbered.Values.{AreNumbersBelow}
-use Rattle.test_recovery.proofs.faults.faults_between_four_rows.Goals as goal
+use Rattle.test_calls.proofs.faults.faults_between_four_rows.Goals as goal
 
 abbrev small : Super
 small = record { version = 1; cpus = 1; blocks = 16; table_blocks = 1; state = 0 }

@@ -3,7 +3,7 @@ use Rattle.std.specs.List.{All}
 use Rattle.nv_claimcore.specs.Claims.{nothing}
 use Rattle.nv_claimmap.specs.Held.{Held}
 use Rattle.nv_claimmap.proofs.Seats.{fresh_all}
-use Rattle.test_indexes.proofs.claim_map.sixty_four_threads_draw_each_ticket_once.Goals as goal
+use Rattle.test_store.proofs.claim_map.sixty_four_threads_draw_each_ticket_once.Goals as goal
 
 pub map_vec-requires-after_bounds : goal.map_vec-requires-after_bounds
 map_vec-requires-after_bounds g c κs within = λ i x l is.

@@ -1,5 +1,5 @@
 use Rattle.nv_region.specs.Region.{HasBlocks}
-use Rattle.test_recovery.proofs.small.small_region.Given as goal
+use Rattle.test_calls.proofs.small.small_region.Given as goal
 
 abbrev pub invariant-loop-at : goal.invariant-loop-at
 invariant-loop-at l = HasBlocks l.memory.region 16

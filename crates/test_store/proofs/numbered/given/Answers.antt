@@ -1,5 +1,5 @@
 use Rattle.std.proofs.Common.{◌≡◌, ◌≢◌, ℕ, zero, suc, ◌<◌, List, [], ◌∷◌, get_or, arith}
-use Rattle.test_indexes.proofs.numbered.given.Goals as goal
+use Rattle.test_store.proofs.numbered.given.Goals as goal
 
 abbrev five_and_one : List ℕ
 five_and_one = 5 ∷ 1 ∷ []
