@@ -79,5 +79,5 @@ pub(crate) fn remove_named<P: Pmem>(
 fn most_blocks(row: &Row) -> usize
     ensures { result ≡ length row.now.pages.items + div_ceil row.now.numbers.size 4096 }
 {
-    row.pages.len() + row.numbers.size.div_ceil(BLOCK_SIZE) as usize
+    row.pages.as_slice().len() + row.numbers.size.div_ceil(BLOCK_SIZE) as usize
 }

@@ -96,6 +96,7 @@ fn scan_in_order<P: Pmem>(
     for inode in 1..sup.max_inode() + 1 {
         let claims = scan_next(memory, &mut scanner, &mut inodes, inode)?;
         sets.claim_all(&claims);
+        scanner.reuse(claims);
     }
     Ok((inodes, sets))
 }

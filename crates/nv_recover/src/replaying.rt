@@ -149,6 +149,7 @@ fn scan_ticket<P: Pmem>(
             } = piece;
             inodes.push(row, &faults)?;
             list.extend_from_slice(&claims)?;
+            scanner.reuse(claims);
         }
     }
     Ok(list)

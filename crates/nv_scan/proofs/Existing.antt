@@ -237,19 +237,9 @@ named_said good q v h = last_word-all (says_name q) IsSaid None good (λ v e. ab
 
 -- ---- a row
 
--- a log has no more pages than there are blocks
-few_pages : {R : Region} {l : Layout} {i a : ℕ} {log : Log} → IsInode R l i a log → length log.pages ≤ l.sup.blocks
-few_pages {R} {l} {i} {a} {log} (right s kind t r) =
-    let are : AreDataBlocks l.sup log.pages = pages_are (one_page l.sup (word R (a + 16)) (head_starts l.sup (word R (a + 16)) (word R (a + 24)) t)) r in
-    length-le_from_distinct_below log.pages l.sup.blocks are.once (λ q h. are.within q (Contains-from_any eqb-true q log.pages h))
-few_pages (wrong s kind t) = omega arith
-
 -- The row of an inode in use.
-pub row_of_inode : (R : Region) (l : Layout) (i a : ℕ) (log : Log) → l.sup.blocks < 2 ^ 63 → IsInode R l i a log → (row : Row) × (row.inode ≡ i) × IsRow R l a log row
-row_of_inode R l i a log short is = (row, refl, is_row) where
-  small : length log.pages < 2 ^ 63
-  small = let few = few_pages is in omega (arith, few, short)
-
+pub row_of_inode : (R : Region) (l : Layout) (i a : ℕ) (log : Log) → IsInode R l i a log → (row : Row) × (row.inode ≡ i) × IsRow R l a log row
+row_of_inode R l i a log is = (row, refl, is_row) where
   pages : (m : Pages) × ((p : ℕ) → block_at m p ≡ block_of (good_of l log) p)
   pages = index_of (block_of (good_of l log)) 262144 (λ p b h. (data_pages l.sup log.kind log.entries p b h).0)
 
@@ -270,7 +260,7 @@ row_of_inode R l i a log short is = (row, refl, is_row) where
     };
     head = word R (a + 16);
     tail = word R (a + 24);
-    pages = vec_of log.pages small;
+    pages = record { items = log.pages; capacity = length log.pages };
     index = pages.0;
     names = record { names = names.0; room = 0 };
   }
@@ -282,7 +272,7 @@ row_of_inode R l i a log short is = (row, refl, is_row) where
     numbers = record { size = refl; mode = refl; owner = refl; group = refl; links = refl; time = refl };
     head = refl;
     tail = refl;
-    pages = vec_items log.pages small;
+    pages = refl;
     index = pages.1;
     names = names.1;
   }
@@ -297,5 +287,5 @@ row_or_none R s i layout number = by_kind (kind_at R (slot_address s i)) refl wh
       cc))
   by_kind (Some kind) k =
       let h = has_log R (fixed_layout s) i (slot_address s i) kind (slot_is s i layout number) k in
-      let r = row_of_inode R (fixed_layout s) i (slot_address s i) h.0 (omega (arith, layout.blocks_to)) h.2 in
+      let r = row_of_inode R (fixed_layout s) i (slot_address s i) h.0 h.2 in
       inl (r.0, r.1, (slot_address s i, h.0, r.2))

@@ -16,6 +16,7 @@ use crate::piece::Row;
 use nv_radix::{Extent, FileIndex};
 use nv_super::Owner;
 use std::alloc::{AllocError, Global};
+use std::mem;
 
 /// All that the inodes of these rows claim, one row after the other: what their pieces gave when they were scanned, for a
 /// caller that kept no claims.
@@ -26,30 +27,52 @@ pub fn claims_of_rows(alloc: Global, rows: &[Row]) -> Result<Vec<(u64, Owner)>, 
     ensures { IfOk result (λ claims. (region : Region) (l : Layout) (pieces : List Piece) → AllByRecursion (IsPiece region l) pieces → rows.now ≡ rows_in pieces → claims.items ≡ claims_in pieces) }
 {
     let mut claims = Vec::new(alloc);
-    let mut runs = Vec::new(alloc);
+    let mut room = Room::new(alloc);
     for row in rows {
-        let own = claims_of(alloc, row.inode, &row.pages, &row.index, &mut runs)?;
+        let own = claims_of(alloc, row.inode, &row.pages, &row.index, &mut room)?;
         claims.extend_from_slice(&own)?;
+        room.claims = own;
     }
     Ok(claims)
 }
 
-/// First the pages of the inode's log, in their order, and then the blocks of its file, by page. The runs are room for the
-/// runs of the index, which is kept from one inode to the next.
+/// Memory that is kept from one inode to the next. What stands in it says nothing.
+#[derive(Drop)]
+pub(crate) struct Room {
+    /// For the runs of a file.
+    runs: Vec<Extent>,
+    /// For what an inode claims.
+    pub claims: Vec<(u64, Owner)>,
+}
+
+impl Room {
+    /// It takes no memory yet.
+    pub fn new(alloc: Global) -> Room {
+        Room {
+            runs: Vec::new(alloc),
+            claims: Vec::new(alloc),
+        }
+    }
+}
+
+/// First the pages of the inode's log, in their order, and then the blocks of its file, by page. They stand in the room's
+/// memory, which they take with them.
 pub(crate) fn claims_of(
     alloc: Global,
     inode: u64,
     pages: &[u64],
     index: &FileIndex,
-    runs: &mut Vec<Extent>,
+    room: &mut Room,
 ) -> Result<Vec<(u64, Owner)>, AllocError>
     requires { AreSmall (block_at index.now) }
     ensures { IfOk result (λ claims. Lists (λ x. owner_key x.1) (IsClaim inode pages.now index.now) claims.items) }
 {
-    index.runs_into(runs)?;
-    let mut claims = Vec::with_capacity(alloc, count_claims(pages, runs))?;
+    index.runs_into(&mut room.runs)?;
+    let mut claims = mem::replace(&mut room.claims, Vec::new(alloc));
+    claims.clear();
+    claims.reserve(count_claims(pages, &room.runs))?;
     push_pages(&mut claims, inode, pages)?;
-    push_runs(&mut claims, inode, runs)?;
+    push_runs(&mut claims, inode, &room.runs)?;
     Ok(claims)
 }
 

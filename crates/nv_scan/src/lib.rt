@@ -28,7 +28,7 @@ pub use laws::{
     owned_blocks_are_data_blocks, tickets_are_table_blocks,
 };
 pub use numbers::Numbers;
-pub use piece::{Piece, Row};
+pub use piece::{LogPages, Piece, Row};
 pub use scan::{Scanner, scan_slot};
 pub use tickets::{SLOTS, ticket_count};
 pub use working::{Gate, NoGate, WorkerResult, worker};

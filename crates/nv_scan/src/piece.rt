@@ -4,6 +4,10 @@ use crate::numbers::Numbers;
 use nv_names::NameIndex;
 use nv_radix::FileIndex;
 use nv_super::{Fault, Kind, Owner};
+use smallvec::SmallVec;
+
+/// The blocks of a log's pages. Most logs have one page, and two take no memory of their own.
+pub type LogPages = SmallVec<u64, 2>;
 
 /// The row of an inode in use.
 #[derive(Drop)]
@@ -16,7 +20,7 @@ pub struct Row {
     /// The byte address where it ends.
     pub tail: u64,
     /// The blocks of the log's pages, in the order of reading.
-    pub pages: Vec<u64>,
+    pub pages: LogPages,
     /// The blocks of a file's pages.
     pub index: FileIndex,
     /// The names of a directory.

@@ -8,6 +8,7 @@ ghost use Rattle.nv_scan.specs.Reading.{IsRead};
 
 use crate::fold::Fold;
 use crate::in_use::InUse;
+use crate::piece::LogPages;
 use nv_logpage::{LightFinding, LogEnd, LogReader};
 use nv_region::Pmem;
 use nv_super::Super;
@@ -16,7 +17,7 @@ use std::alloc::{AllocError, Global};
 /// What a log gave: its pages, the fault that ended it, unless it ended at its tail, and what its entries say.
 #[derive(Drop)]
 pub(crate) struct Read {
-    pub pages: Vec<u64>,
+    pub pages: LogPages,
     pub fault: Option<LogEnd>,
     pub fold: Fold,
 }
@@ -42,7 +43,7 @@ pub(crate) fn read_log<P: Pmem>(
             LightFinding::Page(_) => {}
             LightFinding::End(fault) => {
                 return Ok(Read {
-                    pages: reader.pages().to_vec(alloc)?,
+                    pages: LogPages::from_slice(alloc, reader.pages())?,
                     fault,
                     fold,
                 });

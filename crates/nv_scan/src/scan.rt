@@ -14,16 +14,16 @@ ghost use Rattle.nv_scan.specs.Rows.{IsPiece};
 ghost use Rattle.nv_scan.specs.Scanned.{IsPieceOf, IsEmptyPiece, fault_of_end};
 ghost use Rattle.nv_scan.specs.Tickets.{IsBlank, IsFound, HasValidWord, number_at};
 
-use crate::claims::claims_of;
+use crate::claims::{Room, claims_of};
 use crate::fold::{Fold, push_fault};
 use crate::in_use::InUse;
-use crate::piece::{Piece, Row};
+use crate::piece::{LogPages, Piece, Row};
 use crate::reading::{Read, read_log};
 use crate::tickets::number_at;
 use crate::touching::{touch_block, touch_numbers};
 use nv_inode::{Slot, SlotState, nth_slot, read_slot};
 use nv_logpage::{LogEnd, LogFault, LogReader};
-use nv_radix::{Extent, ExtentMap, FileIndex};
+use nv_radix::{ExtentMap, FileIndex};
 use nv_region::Pmem;
 use nv_super::{Fault, Owner, Super};
 use std::alloc::{AllocError, Global};
@@ -36,8 +36,8 @@ pub struct Scanner {
     alloc: Global,
     sup: Super,
     reader: Option<LogReader>,
-    // Room for the runs of one file after another.
-    runs: Vec<Extent>,
+    // Kept from one inode to the next.
+    room: Room,
     // What was touched last, which says nothing: it stands here so that it is loaded.
     touched: u64,
 }
@@ -64,7 +64,7 @@ impl Scanner {
             alloc,
             sup: *sup,
             reader: None,
-            runs: Vec::new(alloc),
+            room: Room::new(alloc),
             touched: 0,
         }
     }
@@ -104,7 +104,7 @@ impl Scanner {
                 memory,
                 &self.sup,
                 &mut self.reader,
-                &mut self.runs,
+                &mut self.room,
                 &InUse { inode, kind, slot },
             ),
         }
@@ -131,6 +131,13 @@ impl Scanner {
         }
         let inode = number_at(&self.sup, place);
         Ok(Some(self.scan_one(memory, inode)?))
+    }
+
+    /// Takes back the claims of a piece that are of no more use: the next piece stands its own in their memory.
+    pub fn reuse(&mut self, claims: Vec<(u64, Owner)>)
+        ensures { self.new ≡ self.old }
+    {
+        self.room.claims = claims;
     }
 }
 
@@ -173,7 +180,7 @@ fn scan_log<P: Pmem>(
     memory: &P,
     sup: &Super,
     reader: &mut Option<LogReader>,
-    runs: &mut Vec<Extent>,
+    room: &mut Room,
     used: &InUse,
 ) -> Result<Piece, AllocError>
     requires layout { IsLayout sup.now }
@@ -192,11 +199,11 @@ fn scan_log<P: Pmem>(
         let read = read_log(alloc, memory, sup, &mut at_head, used);
         *reader = Some(at_head);
         let Read { pages, fault, fold } = read?;
-        piece_of(alloc, runs, used, pages, fold, fault_of_end(inode, fault))
+        piece_of(alloc, room, used, pages, fold, fault_of_end(inode, fault))
     } else {
         let fold = Fold::new(alloc, used.slot.created);
-        let pages = Vec::new(alloc);
-        piece_of(alloc, runs, used, pages, fold, Some(Fault::I3 { inode }))
+        let pages = LogPages::new(alloc);
+        piece_of(alloc, room, used, pages, fold, Some(Fault::I3 { inode }))
     }
 }
 
@@ -237,9 +244,9 @@ fn fault_of_end(inode: u64, end: Option<LogEnd>) -> Option<Fault>
 /// The piece of an inode in use, with one fault more, if there is one.
 fn piece_of(
     alloc: Global,
-    runs: &mut Vec<Extent>,
+    room: &mut Room,
     used: &InUse,
-    pages: Vec<u64>,
+    pages: LogPages,
     mut fold: Fold,
     fault: Option<Fault>,
 ) -> Result<Piece, AllocError>
@@ -248,7 +255,7 @@ fn piece_of(
 {
     let (index, claims) = closed(
         alloc,
-        runs,
+        room,
         used.inode,
         &pages,
         &fold.extents,
@@ -262,7 +269,7 @@ fn piece_of(
 /// the others.
 fn closed(
     alloc: Global,
-    runs: &mut Vec<Extent>,
+    room: &mut Room,
     inode: u64,
     pages: &[u64],
     extents: &ExtentMap,
@@ -276,14 +283,14 @@ fn closed(
 {
     push_fault(faults, fault)?;
     let index = extents.to_index(alloc)?;
-    let claims = claims_of(alloc, inode, pages, &index, runs)?;
+    let claims = claims_of(alloc, inode, pages, &index, room)?;
     Ok((index, claims))
 }
 
 /// Puts a piece together.
 fn with_row(
     used: &InUse,
-    pages: Vec<u64>,
+    pages: LogPages,
     fold: Fold,
     index: FileIndex,
     claims: Vec<(u64, Owner)>,

@@ -127,6 +127,7 @@ fn scan_ticket<P: Pmem>(
                 faults: own,
             } = piece;
             claim_all(map, seat, &claims)?;
+            scanner.reuse(claims);
             keep(rows, faults, row, &own)?;
         }
     }

@@ -170,8 +170,8 @@ module _ (asks : ℕ → Asks) (makes : ℕ → Makes) (logs : ℕ → Logs) (pa
       -- what the call is asked
       asked : (R : Region) → ShowsOutcome R m → (p : Path) → Says path p → Asked (asks state.time) R m.memory.region path
       asked R shows p says = (let answers = called.answers p says in record {
-        came = told m.sup m.rows m.free shows.doubled m.faults;
-        of_came = shows.shown;
+        shown = told m.sup m.rows m.free shows.doubled m.faults;
+        of_shown = shows.shown;
         here = lasting_outcome (told m.sup m.rows m.free shows.doubled m.faults);
         of_here = shows.here;
         path_is = p;

@@ -57,8 +57,8 @@ pub record SameSeen (m k : Mount ⊤) : Type 0 where
 pub same_seen : (asks : Asks) (R S : Region) (path : List ℕ) (a b : Asked asks R S path) → SameSeen (seen_in a) (seen_in b)
 same_seen asks R S path a b =
     let here = same_outcome S a.here b.here a.of_here b.of_here in
-    let came = same_outcome R a.came b.came a.of_came b.of_came in
-    record { sup = here.sup; rows = here.rows; pools = here.free; read_only = ap has_faults came.faults }
+    let shown = same_outcome R a.shown b.shown a.of_shown b.of_shown in
+    record { sup = here.sup; rows = here.rows; pools = here.free; read_only = ap has_faults shown.faults }
 
 -- two tests of the inode that a path leads to
 on_target : (f g : ℕ → Bool) → ((i : ℕ) → g i ≡ f i) → (o : Option ℕ) → option_map_or g o false ≡ option_map_or f o false

@@ -51,22 +51,22 @@ Logs = Region → Mount ⊤ → List (List ℕ) → Region → Type 0
 abbrev pub mounted_as : Outcome → Bool → Mount ⊤
 mounted_as o read_only = record { memory = tt; sup = o.sup; rows = o.rows; free = record { sup = o.sup; pools = o.free; room = 0 }; faults = o.faults; read_only = read_only; stopped = false }
 
--- What a call is asked by a path: the outcomes of the mounted region and of the one that there is, what the path says,
--- and the call's tests. The mounted region is the one that came to the last recovery, or, once a call that writes was
--- done, the one that this call left. Where it has faults, what is mounted is read-only.
+-- What a call is asked by a path: the outcomes of the mounted region, which the mount shows, and of the one that there is,
+-- what the path says, and the call's tests. The mounted region is the one that came to the last recovery, or, once a call
+-- that writes was done, the one that this call left. Where it has faults, what is mounted is read-only.
 pub record Asked (asks : Asks) (R S : Region) (path : List ℕ) : Type 0 where
-  pub came : Outcome
-  pub of_came : IsOutcome R came
+  pub shown : Outcome
+  pub of_shown : IsOutcome R shown
   pub here : Outcome
   pub of_here : IsOutcome S here
   pub path_is : Path
   pub says : Says path path_is
   pub tests : Tests
-  pub are : asks S (mounted_as here (has_faults came.faults)) path_is tests
+  pub are : asks S (mounted_as here (has_faults shown.faults)) path_is tests
 
 -- the mounted file system that it is asked of
 abbrev pub seen_in : {asks : Asks} {R S : Region} {path : List ℕ} → Asked asks R S path → Mount ⊤
-seen_in a = mounted_as a.here (has_faults a.came.faults)
+seen_in a = mounted_as a.here (has_faults a.shown.faults)
 
 -- `create` and `mkdir`
 abbrev pub asks_create : ℕ → Asks

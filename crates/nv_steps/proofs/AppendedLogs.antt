@@ -1,6 +1,7 @@
 -- Two logs that were grown and whose rows were settled: what is owed before the commit, and what was done.
-use Rattle.std.proofs.Common.{◌≡◌, refl, ◌≢◌, ℕ, ◌+◌, ◌/◌, ◌%◌, ◌≤◌, List, [], ◌∷◌, ◌++◌, length, take, drop, ap, sym, ◌∙◌, subst, arith, Bool, true, false, cond, vec_len, vec_capacity}
+use Rattle.std.proofs.Common.{◌≡◌, refl, ◌≢◌, ℕ, ◌+◌, ◌/◌, ◌%◌, ◌≤◌, List, [], ◌∷◌, ◌++◌, length, take, drop, ap, sym, ◌∙◌, subst, arith, Bool, true, false, cond}
 use Rattle.std.proofs.lemmas.List.{length-drop, length-take-le, take-append-drop}
+use Rattle.smallvec.specs.SmallVec.{HasRoomFor}
 use Rattle.nv_region.specs.Region.{Region, size}
 use Rattle.nv_region.specs.Stops.{IsMixed}
 use Rattle.nv_super.specs.declared.superblock.Super.{Super}
@@ -80,10 +81,10 @@ module _ {R : Region} {s : Super} {free after : FreeLists} {first second row oth
   two = stands_after other_stands.0 first_taken
 
   -- There is room for the pages.
-  pub first_room : vec_len row.pages + length fresh ≤ vec_capacity row.pages
+  pub first_room : HasRoomFor row.pages (length fresh)
   first_room = let room = ready.room in omega (arith, room, count)
 
-  pub second_room : vec_len other.pages + length more ≤ vec_capacity other.pages
+  pub second_room : HasRoomFor other.pages (length more)
   second_room = let room = other_ready.room in omega (arith, room, more_count)
 
   -- so many blocks are the first log's

@@ -43,10 +43,6 @@ pub all_others : (xs : List ℕ) (n : ℕ) → n ≡ length xs → take (n - 1) 
 all_others [] n is = ap (λ (m : ℕ). take (m - 1) (drop 1 [])) is
 all_others (x ∷ xs) n is = take_all (n - 1) xs (omega (arith, is))
 
-pub first_taken : (xs : List ℕ) (n d : ℕ) → length xs ≡ 1 + n → get_or (take 1 xs) 0 d ≡ get_or xs 0 d
-first_taken [] n d count = absurd (omega (arith, count))
-first_taken (x ∷ xs) n d count = refl
-
 pub first_is : (xs : List ℕ) (n v : ℕ) → length xs ≡ 1 + n → v ≡ get_or xs 0 v → v ≡ get_or xs 0 0
 first_is [] n v count is = absurd (omega (arith, count))
 first_is (x ∷ xs) n v count is = is

@@ -14,10 +14,6 @@ number_below s j number = grind (arith, nat_tests)
 pub has_one : (xs : List ℕ) (n : ℕ) → length xs ≡ 1 + n → 1 ≤ length xs
 has_one xs n count = omega (arith, count)
 
-pub first_alone : (xs : List ℕ) (n : ℕ) → length xs ≡ 1 + n → length (take 1 xs) ≡ 1
-first_alone [] n count = absurd (omega (arith, count))
-first_alone (x ∷ xs) n count = refl
-
 -- where all pages fit, those behind the first do
 pub others_fit : (len cap : ℕ) (xs bs : List ℕ) → bs ≡ drop 1 xs → len + length xs ≤ cap → len + length bs ≤ cap
 others_fit len cap xs bs is room =

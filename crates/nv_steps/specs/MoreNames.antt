@@ -1,6 +1,7 @@
 -- A name more or less, and a link count, by the rows that stand for them.
-use Rattle.std.specs.Prelude.{◌≡◌, ℕ, ◌+◌, ◌%◌, ◌≤◌, nat_eq, if◌then◌else◌, List, ◌++◌, length, set, slice_get, Some, vec_len, vec_capacity}
+use Rattle.std.specs.Prelude.{◌≡◌, ℕ, ◌+◌, ◌%◌, ◌≤◌, nat_eq, if◌then◌else◌, List, ◌++◌, length, set, slice_get, Some}
 use Rattle.std.specs.Cmp.Lexicographic.{pointwise}
+use Rattle.smallvec.specs.SmallVec.{HasRoomFor}
 use Rattle.nv_region.specs.Region.{Region}
 use Rattle.nv_super.specs.declared.superblock.Super.{Super}
 use Rattle.nv_alloc.specs.FreeValue.{FreeLists}
@@ -73,7 +74,7 @@ NamesOnce old new = EachOnce old.names × EachOnce new.names
 pub record ReadiesRow (old new : Row) (entries : List Entry) (names : ℕ) : Type 0 where
   pub same : SameRow old new
   pub once : NamesOnce old new
-  pub room : vec_len new.pages + needed (old.tail % 4096) entries ≤ vec_capacity new.pages
+  pub room : HasRoomFor new.pages (needed (old.tail % 4096) entries)
   pub names_room : names ≤ new.names.room
 
 -- ---- the step of two logs

@@ -1,6 +1,7 @@
 //! A file that gets longer, and ends in a page that has a block: that page goes to a fresh block, with zeros behind the end.
 
-ghost use Rattle.std.specs.Prelude.{◌≡◌, ◌<◌, ◌≤◌, ◌+◌, ◌*◌, ◌/◌, ◌%◌, ◌∷◌, [], ◌^◌, length, IfOk, IfErr, OnOk, OnErr, Option, IsTrue, is_err, vec_len, vec_capacity, suc};
+ghost use Rattle.std.specs.Prelude.{◌≡◌, ◌<◌, ◌≤◌, ◌+◌, ◌*◌, ◌/◌, ◌%◌, ◌∷◌, [], ◌^◌, length, IfOk, IfErr, OnOk, OnErr, Option, IsTrue, is_err, suc};
+ghost use Rattle.smallvec.specs.SmallVec.{HasRoomFor};
 ghost use Rattle.nv_region.specs.Region.{size};
 ghost use Rattle.nv_region.specs.Stops.{NothingPending};
 ghost use Rattle.nv_region.specs.Stored.{StoresOnly};
@@ -26,7 +27,7 @@ use nv_commit::{Extension, extend_log};
 use nv_entry::{AttrEntry, Entry, WriteEntry};
 use nv_logpage::pages_needed;
 use nv_region::{Pmem, Stopped};
-use nv_scan::Row;
+use nv_scan::{LogPages, Row};
 use nv_super::{BLOCK_SIZE, Super};
 use nv_tree::Refusal;
 use std::alloc::Global;
@@ -92,14 +93,14 @@ fn prepare_copy(
     alloc: Global,
     free: &mut Allocators,
     cpu: u64,
-    pages: &mut Vec<u64>,
+    pages: &mut LogPages,
     tail: u64,
     attributes: AttrEntry,
 ) -> Result<(u64, Vec<u64>), AllocRefusal>
     requires cpu { cpu < free.old.sup.cpus }
     ensures taken { IfOk result (λ blocks. TakesEach free.old (blocks.0 ∷ blocks.1.items) free.new) }
     ensures count { IfOk result (λ blocks. suc (length blocks.1.items) ≡ blocks_from tail attributes (Option.Some 0)) }
-    ensures room { IfOk result (λ blocks. vec_len pages.new + length blocks.1.items ≤ vec_capacity pages.new) }
+    ensures room { IfOk result (λ blocks. HasRoomFor pages.new (length blocks.1.items)) }
     ensures given_back { OnOk result (0 < free.new.room) }
     ensures enough { OnOk result (blocks_from tail attributes (Option.Some 0) ≤ all_blocks free.old.pools) }
     ensures err { IfErr result (λ refusal. Refuses refusal (blocks_from tail attributes (Option.Some 0)) free.old.pools) }

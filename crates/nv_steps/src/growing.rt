@@ -1,6 +1,7 @@
 //! Two logs that grow together, and the rows that stand for them: all growths first, then the commit, then the rows.
 
-ghost use Rattle.std.specs.Prelude.{◌≡◌, ◌≢◌, ◌+◌, ◌%◌, ◌<◌, ◌≤◌, ℕ, List, [], ◌∷◌, length, IsTrue, IfOk, IfErr, OnOk, OnErr, vec_len, vec_capacity};
+ghost use Rattle.std.specs.Prelude.{◌≡◌, ◌≢◌, ◌+◌, ◌%◌, ◌<◌, ◌≤◌, ℕ, List, [], ◌∷◌, length, IsTrue, IfOk, IfErr, OnOk, OnErr};
+ghost use Rattle.smallvec.specs.SmallVec.{HasRoomFor};
 ghost use Rattle.nv_region.specs.Region.{size};
 ghost use Rattle.nv_region.specs.Stops.{NothingPending};
 ghost use Rattle.nv_region.specs.Fuses.{KeepsFuse};
@@ -136,7 +137,8 @@ fn prepare_logs(
 {
     let count = blocks_for(row, first);
     let more = blocks_for(other, second);
-    if !are_enough(free, count + more) {
+    let both = count + more;
+    if !are_enough(free, both) {
         return Err(Refusal::NoSpace);
     }
     let Ok(()) = make_room(row, count as usize, first.names) else {
@@ -145,7 +147,7 @@ fn prepare_logs(
     let Ok(()) = make_room(other, more as usize, second.names) else {
         return Err(Refusal::Memory);
     };
-    match take_blocks(alloc, free, cpu, count + more) {
+    match take_blocks(alloc, free, cpu, both) {
         Ok(blocks) => Ok(blocks),
         Err(AllocRefusal::NoSpace) => Err(Refusal::NoSpace),
         Err(AllocRefusal::Memory) => Err(Refusal::Memory),
@@ -155,7 +157,7 @@ fn prepare_logs(
 /// Makes room in a row for so many pages and so many names.
 fn make_room(row: &mut Row, pages: usize, names: usize) -> Result<(), AllocError>
     ensures row { SameRow row.old row.new }
-    ensures pages { OnOk result (vec_len row.new.pages + pages ≤ vec_capacity row.new.pages) }
+    ensures pages { OnOk result (HasRoomFor row.new.pages pages) }
     ensures names { OnOk result (names ≤ row.new.names.room) }
     ensures once { OnOk result (NamesOnce row.old row.new) }
 {

@@ -1,6 +1,7 @@
 //! A new inode and its name, over blocks that are taken for both logs: all growths first, then the commit, then the rows.
 
-ghost use Rattle.std.specs.Prelude.{◌≡◌, ◌+◌, ◌*◌, ◌<◌, ◌≤◌, ◌%◌, ◌^◌, [], ◌∷◌, get_or, length, IsTrue, IfOk, IfErr, OnOk, OnErr, vec_len, vec_capacity};
+ghost use Rattle.std.specs.Prelude.{◌≡◌, ◌+◌, ◌*◌, ◌<◌, ◌≤◌, ◌%◌, ◌^◌, [], ◌∷◌, get_or, length, IsTrue, IfOk, IfErr, OnOk, OnErr};
+ghost use Rattle.smallvec.specs.SmallVec.{HasRoomFor};
 ghost use Rattle.nv_region.specs.Region.{size};
 ghost use Rattle.nv_region.specs.Stops.{NothingPending};
 ghost use Rattle.nv_region.specs.Fuses.{KeepsFuse};
@@ -26,7 +27,7 @@ use nv_logpage::pages_needed;
 use nv_names::NameIndex;
 use nv_radix::FileIndex;
 use nv_region::Pmem;
-use nv_scan::{Numbers, Row};
+use nv_scan::{LogPages, Numbers, Row};
 use nv_super::{BLOCK_SIZE, Kind, Super};
 use nv_tree::Refusal;
 use std::alloc::{AllocError, Global};
@@ -88,7 +89,7 @@ pub fn make_named<P: Pmem>(
     ensures keeps_fuse { KeepsFuse (λ limit. size (P.region memory.old) ≤ limit) (P.fuse memory.old) (P.fuse memory.new) }
 {
     let entries = [name_entry(Operation::Add, new.inode, new.name, new.time)];
-    let mut blocks = prepare_name(alloc, free, cpu, directory, &entries)?;
+    let blocks = prepare_name(alloc, free, cpu, directory, &entries)?;
     let first = [Entry::Attr(first_attributes(new.mode, new.time))];
     let inode = NewInode {
         slot: sup.slot_address(new.inode),
@@ -107,8 +108,7 @@ pub fn make_named<P: Pmem>(
         return Err(Refusal::Stopped);
     };
     settle_name(directory, &blocks[1..], end, end - length(&entries[0]), new);
-    blocks.truncate(1);
-    Ok(new_row(alloc, new, blocks, tail))
+    Ok(new_row(alloc, new, inode.page, tail))
 }
 
 /// Takes a block for a new log, and those that entries need behind the tail of its directory's log, each by itself. Makes
@@ -126,7 +126,7 @@ fn prepare_name(
     requires few { needed (directory.old.tail % 4096) entries.now ≤ 1 }
     ensures taken { IfOk result (λ blocks. TakesEach free.old blocks.items free.new) }
     ensures count { IfOk result (λ blocks. length blocks.items ≡ 1 + needed (directory.old.tail % 4096) entries.now) }
-    ensures room { IfOk result (λ blocks. vec_len directory.new.pages + length blocks.items ≤ vec_capacity directory.new.pages) }
+    ensures room { IfOk result (λ blocks. HasRoomFor directory.new.pages (length blocks.items)) }
     ensures names_room { OnOk result (0 < directory.new.names.room) }
     ensures enough { OnOk result (1 + needed (directory.old.tail % 4096) entries.now ≤ all_blocks free.old.pools) }
     ensures once { EachOnce directory.old.names }
@@ -151,7 +151,7 @@ fn prepare_name(
 /// Makes room in a row for so many pages and for a name.
 fn make_room(row: &mut Row, pages: usize) -> Result<(), AllocError>
     ensures row { SameRow row.old row.new }
-    ensures pages { OnOk result (vec_len row.new.pages + pages ≤ vec_capacity row.new.pages) }
+    ensures pages { OnOk result (HasRoomFor row.new.pages pages) }
     ensures names { OnOk result (0 < row.new.names.room) }
 {
     row.pages.reserve(pages)?;
@@ -173,7 +173,7 @@ fn first_attributes(mode: u32, time: u64) -> AttrEntry
 
 /// Puts a name, the time, the new pages and the new tail of its log into a directory's row, which has room for them.
 fn settle_name(directory: &mut Row, fresh: &[u64], end: u64, place: u64, new: &NewName<'_>)
-    requires pages { vec_len directory.old.pages + length fresh.now ≤ vec_capacity directory.old.pages }
+    requires pages { HasRoomFor directory.old.pages (length fresh.now) }
     requires names { 0 < directory.old.names.room }
     requires name { IsName new.now.name.now }
     ensures row { HasNamed directory.old fresh.now end new.now.name.now new.now.inode place new.now.time directory.new }
@@ -186,11 +186,10 @@ fn settle_name(directory: &mut Row, fresh: &[u64], end: u64, place: u64, new: &N
     let _names = directory.names.len();
 }
 
-/// The row of a new inode whose log is one page and ends at this tail.
-fn new_row(alloc: Global, new: &NewName<'_>, pages: Vec<u64>, tail: u64) -> Row
-    requires page { length pages.items ≡ 1 }
-    requires inside { 4096 * get_or pages.items 0 0 < 2 ^ 64 }
-    ensures { IsNewRow new.now.inode new.now.kind new.now.mode new.now.time (get_or pages.items 0 0) tail result }
+/// The row of a new inode whose log is this one page and ends at this tail.
+fn new_row(alloc: Global, new: &NewName<'_>, page: u64, tail: u64) -> Row
+    requires inside { 4096 * page < 2 ^ 64 }
+    ensures { IsNewRow new.now.inode new.now.kind new.now.mode new.now.time page tail result }
 {
     Row {
         inode: new.inode,
@@ -203,9 +202,9 @@ fn new_row(alloc: Global, new: &NewName<'_>, pages: Vec<u64>, tail: u64) -> Row
             links: 1,
             time: new.time,
         },
-        head: BLOCK_SIZE * pages[0],
+        head: BLOCK_SIZE * page,
         tail,
-        pages,
+        pages: LogPages::from_buf_and_len(alloc, [page, 0], 1),
         index: FileIndex::new(alloc),
         names: NameIndex::new(alloc),
     }

@@ -1,6 +1,7 @@
 //! What a call makes ready before it stores: all growths of memory, and the blocks that it takes.
 
-ghost use Rattle.std.specs.Prelude.{◌≡◌, ◌<◌, ◌≤◌, ◌+◌, ◌%◌, length, IfOk, IfErr, OnOk, OnErr, vec_len, vec_capacity};
+ghost use Rattle.std.specs.Prelude.{◌≡◌, ◌<◌, ◌≤◌, ◌+◌, ◌%◌, length, IfOk, IfErr, OnOk, OnErr};
+ghost use Rattle.smallvec.specs.SmallVec.{HasRoomFor};
 ghost use Rattle.nv_alloc.specs.FreeLists.{Refuses};
 ghost use Rattle.nv_alloc.specs.Taking.{all_blocks};
 ghost use Rattle.nv_logpage.specs.Append.{needed};
@@ -10,6 +11,7 @@ use crate::blocks::{are_enough, take_blocks};
 use nv_alloc::{AllocRefusal, Allocators};
 use nv_entry::Entry;
 use nv_logpage::pages_needed;
+use nv_scan::LogPages;
 use std::alloc::Global;
 
 /// Takes the blocks that entries need behind the tail of a log, each by itself, and makes room for them among its pages.
@@ -19,14 +21,14 @@ pub(crate) fn prepare_log(
     alloc: Global,
     free: &mut Allocators,
     cpu: u64,
-    pages: &mut Vec<u64>,
+    pages: &mut LogPages,
     tail: u64,
     entries: &[Entry],
 ) -> Result<Vec<u64>, AllocRefusal>
     requires cpu { cpu < free.old.sup.cpus }
     ensures taken { IfOk result (λ fresh. TakesEach free.old fresh.items free.new) }
     ensures count { IfOk result (λ fresh. length fresh.items ≡ needed (tail % 4096) entries.now) }
-    ensures room { IfOk result (λ fresh. vec_len pages.new + length fresh.items ≤ vec_capacity pages.new) }
+    ensures room { IfOk result (λ fresh. HasRoomFor pages.new (length fresh.items)) }
     ensures given_back { OnOk result (free.old.room ≤ free.new.room) }
     ensures enough { OnOk result (needed (tail % 4096) entries.now ≤ all_blocks free.old.pools) }
     ensures err { IfErr result (λ refusal. Refuses refusal (needed (tail % 4096) entries.now) free.old.pools) }

@@ -1,7 +1,8 @@
 //! What a write makes ready before it stores: all growths of memory, and the blocks that it takes.
 
-ghost use Rattle.std.specs.Prelude.{◌≡◌, ◌<◌, ◌≤◌, ◌+◌, ◌*◌, ◌%◌, ◌^◌, ℕ, length, Some, IfOk, IfErr, IfSome, OnOk, OnErr, vec_len, vec_capacity};
+ghost use Rattle.std.specs.Prelude.{◌≡◌, ◌<◌, ◌≤◌, ◌+◌, ◌*◌, ◌%◌, ◌^◌, ℕ, length, Some, IfOk, IfErr, IfSome, OnOk, OnErr};
 ghost use Rattle.std.specs.List.{Contains};
+ghost use Rattle.smallvec.specs.SmallVec.{HasRoomFor};
 ghost use Rattle.nv_super.specs.declared.owners.Run.{Run as RunValue};
 ghost use Rattle.nv_alloc.specs.FreeLists.{SameLists};
 ghost use Rattle.nv_alloc.specs.Taking.{all_blocks, blocks_in};
@@ -55,7 +56,7 @@ pub(crate) fn prepare_data(
     ensures prepared { IfOk result (λ ready. Prepared free.old cpu row.old.tail plan.now ready.log.entries.items ready.log.fresh.items free.new) }
     ensures replaced { IfOk result (λ ready. ready.replaced.items ≡ replaced_blocks row.old.index plan.now) }
     ensures room { IfOk result (λ ready. length ready.replaced.items ≤ free.new.room) }
-    ensures pages { IfOk result (λ ready. vec_len row.new.pages + length ready.log.fresh.items ≤ vec_capacity row.new.pages) }
+    ensures pages { IfOk result (λ ready. HasRoomFor row.new.pages (length ready.log.fresh.items)) }
     ensures first { OnOk result (AreReady row.new.index plan.now.first plan.now.pages) }
     ensures last { OnOk result (IfSome plan.now.ending (λ p. AreReady row.new.index p 1)) }
     ensures enough { OnOk result ((count : ℕ) → NeedsBlocks free.old.pools cpu row.old.tail plan.now count → count ≤ all_blocks free.old.pools) }
@@ -127,7 +128,7 @@ fn prepare_entries(
     ensures entries { IfOk result (λ log. log.entries.items ≡ data_entries plan.now runs.now) }
     ensures taken { IfOk result (λ log. TakesEach free.old log.fresh.items free.new) }
     ensures count { IfOk result (λ log. length log.fresh.items ≡ needed (row.old.tail % 4096) log.entries.items) }
-    ensures pages { IfOk result (λ log. vec_len row.new.pages + length log.fresh.items ≤ vec_capacity row.new.pages) }
+    ensures pages { IfOk result (λ log. HasRoomFor row.new.pages (length log.fresh.items)) }
     ensures enough { OnOk result (needed (row.old.tail % 4096) (data_entries plan.now runs.now) ≤ all_blocks free.old.pools) }
     ensures refused { IfErr result (λ e. e ≡ NoSpace → all_blocks free.old.pools < needed (row.old.tail % 4096) (data_entries plan.now runs.now)) }
     ensures unchanged { OnErr result (SamePools free.old free.new) }

@@ -1,6 +1,7 @@
 //! A name that goes with its inode, by its directory's row: all growths first, then the commit, then the row.
 
-ghost use Rattle.std.specs.Prelude.{◌≡◌, ◌≢◌, ◌+◌, ◌%◌, ◌<◌, ◌≤◌, length, IsTrue, IfOk, IfErr, OnOk, OnErr, vec_len, vec_capacity};
+ghost use Rattle.std.specs.Prelude.{◌≡◌, ◌≢◌, ◌+◌, ◌%◌, ◌<◌, ◌≤◌, length, IsTrue, IfOk, IfErr, OnOk, OnErr};
+ghost use Rattle.smallvec.specs.SmallVec.{HasRoomFor};
 ghost use Rattle.nv_region.specs.Region.{size};
 ghost use Rattle.nv_region.specs.Stops.{NothingPending};
 ghost use Rattle.nv_region.specs.Fuses.{KeepsFuse};
@@ -99,7 +100,7 @@ fn prepare_cut(
     requires cpu { cpu < free.old.sup.cpus }
     ensures taken { IfOk result (λ blocks. TakesEach free.old blocks.items free.new) }
     ensures count { IfOk result (λ blocks. length blocks.items ≡ needed (directory.old.tail % 4096) entries.now) }
-    ensures pages_room { IfOk result (λ blocks. vec_len directory.new.pages + length blocks.items ≤ vec_capacity directory.new.pages) }
+    ensures pages_room { IfOk result (λ blocks. HasRoomFor directory.new.pages (length blocks.items)) }
     ensures room { OnOk result (coming ≤ free.new.room) }
     ensures enough { OnOk result (needed (directory.old.tail % 4096) entries.now ≤ all_blocks free.old.pools) }
     ensures once { EachOnce directory.old.names }
@@ -123,7 +124,7 @@ fn prepare_cut(
 
 /// Takes a name out of a directory's row, and puts in the time, the new pages and the new tail of its log, for which it has room.
 fn settle_cut(directory: &mut Row, fresh: &[u64], end: u64, gone: &Gone<'_>)
-    requires { vec_len directory.old.pages + length fresh.now ≤ vec_capacity directory.old.pages }
+    requires { HasRoomFor directory.old.pages (length fresh.now) }
     ensures row { HasLost directory.old fresh.now end gone.now.name.now gone.now.time directory.new }
     ensures once { EachOnce directory.new.names }
 {

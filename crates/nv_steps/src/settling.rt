@@ -1,27 +1,28 @@
 //! What a row says once the log of its inode has grown. Nothing is stored here, and no memory is taken.
 
-ghost use Rattle.std.specs.Prelude.{◌≡◌, ◌+◌, ◌≤◌, ◌++◌, length, vec_len, vec_capacity};
+ghost use Rattle.std.specs.Prelude.{◌≡◌, ◌+◌, ◌≤◌, ◌++◌, length};
+ghost use Rattle.smallvec.specs.SmallVec.{HasRoomFor};
 ghost use Rattle.nv_steps.specs.Grown.{HasGrown};
 
 use nv_entry::AttrEntry;
-use nv_scan::{Numbers, Row};
+use nv_scan::{LogPages, Numbers, Row};
 
 /// Puts the new pages and the new tail of its log into a row, which has room for them.
 pub(crate) fn settle_log(row: &mut Row, fresh: &[u64], end: u64)
-    requires { vec_len row.old.pages + length fresh.now ≤ vec_capacity row.old.pages }
+    requires { HasRoomFor row.old.pages (length fresh.now) }
     ensures { HasGrown row.old fresh.now end row.new }
 {
     push_all(&mut row.pages, fresh);
     row.tail = end;
 }
 
-/// Puts numbers behind others, where there is room for them.
-fn push_all(numbers: &mut Vec<u64>, more: &[u64])
-    requires { vec_len numbers.old + length more.now ≤ vec_capacity numbers.old }
-    ensures { numbers.new.items ≡ numbers.old.items ++ more.now }
+/// Puts pages behind those of a log, where there is room for them.
+fn push_all(pages: &mut LogPages, more: &[u64])
+    requires { HasRoomFor pages.old (length more.now) }
+    ensures { pages.new.items ≡ pages.old.items ++ more.now }
 {
-    for number in more {
-        numbers.push_reserved(*number);
+    for page in more {
+        pages.push_reserved(*page);
     }
 }
 

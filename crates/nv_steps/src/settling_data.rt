@@ -1,6 +1,7 @@
 //! What a row says once its file was written. Nothing is stored here, and no memory is taken.
 
-ghost use Rattle.std.specs.Prelude.{◌+◌, ◌≤◌, length, vec_len, vec_capacity};
+ghost use Rattle.std.specs.Prelude.{◌+◌, ◌≤◌, length};
+ghost use Rattle.smallvec.specs.SmallVec.{HasRoomFor};
 ghost use Rattle.nv_alloc.specs.Taking.{Disjoint};
 ghost use Rattle.nv_steps.specs.Written.{AreSettled, HasWritten, MapsEntries, entry_pages};
 
@@ -14,7 +15,7 @@ use nv_scan::Row;
 /// Puts the pages of write entries, the size and the time, and the new pages and the new tail of its log into a row, which
 /// has room for them.
 pub(crate) fn settle_data(row: &mut Row, log: &Entries, plan: &Plan, end: u64)
-    requires room { vec_len row.old.pages + length log.now.fresh.items ≤ vec_capacity row.old.pages }
+    requires room { HasRoomFor row.old.pages (length log.now.fresh.items) }
     requires ready { AreSettled row.old.index log.now.entries.items }
     requires once { Disjoint (entry_pages log.now.entries.items) }
     ensures { HasWritten row.old plan.now log.now.entries.items log.now.fresh.items end row.new }

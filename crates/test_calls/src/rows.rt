@@ -7,7 +7,7 @@ use crate::small::SMALL;
 use nv_names::NameIndex;
 use nv_radix::FileIndex;
 use nv_recover::Rows;
-use nv_scan::{Numbers, Row};
+use nv_scan::{LogPages, Numbers, Row};
 use nv_super::Kind;
 use std::alloc::{AllocError, Global};
 use std::process::Abort;
@@ -29,7 +29,7 @@ pub fn row(alloc: Global, inode: u64, kind: Kind, links: u32, names: NameIndex) 
         },
         head: 0,
         tail: 0,
-        pages: Vec::new(alloc),
+        pages: LogPages::new(alloc),
         index: FileIndex::new(alloc),
         names,
     }

@@ -35,7 +35,7 @@ loop-inode-preserved g c =
     let pieces = l.invariant.first.0 in
     let long = c.claim_all.ensures.as_long in
     let cover = l.invariant.cover in record {
-      same = c.scan_next.ensures.same ∙ l.invariant.same;
+      same = c.reuse.ensures ∙ c.scan_next.ensures.same ∙ l.invariant.same;
       first = (
         pieces ++ next.piece ∷ [],
         first_more (omega (arith, l.auto.inode)) l.invariant.first.1 next,

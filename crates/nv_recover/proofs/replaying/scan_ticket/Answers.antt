@@ -31,7 +31,7 @@ loop-slot-preserved g c =
           let claims = w.in_ok-extend_from_slice.ensures.items ∙ ap (λ (cs : List (ℕ × Owner)). c.loop-slot.list.items ++ cs) (w.deref-in-Some.ensures.value ∙ sym (append-nil p.claims.items)) in
           let next = next_slot at l.next w.in_ok-push.ensures.rows faults claims in
           record {
-            same = c.scan_place.ensures.same ∙ l.same;
+            same = w.scanner-is ∙ w.reuse.ensures ∙ c.scan_place.ensures.same ∙ l.same;
             next = subst (λ (x : Inodes). AreNext R s (numbers_to s t (k + 1)) old x c.match-branch-2.list.items) (sym w.inodes-is)
                 (subst (λ (cs : List (ℕ × Owner)). AreNext R s (numbers_to s t (k + 1)) old w.push.new.self cs) (sym (ap (λ v. v.items) w.list-is)) next);
           })
@@ -39,7 +39,7 @@ loop-slot-preserved g c =
           let at = at_slot t k (32 * t + k) None refl (subst (λ (o : Option Piece). IsFound R s (number_at s (32 * t + k)) o) w.in_default.is found) in
           let next = next_slot at l.next (sym (append-nil c.loop-slot.inodes.rows.items)) (sym (append-nil c.loop-slot.inodes.faults.items)) (sym (append-nil c.loop-slot.list.items)) in
           record {
-            same = c.scan_place.ensures.same ∙ l.same;
+            same = w.scanner-is ∙ c.scan_place.ensures.same ∙ l.same;
             next = subst (λ (x : Inodes). AreNext R s (numbers_to s t (k + 1)) old x c.match-branch-2.list.items) (sym w.inodes-is)
                 (subst (λ (cs : List (ℕ × Owner)). AreNext R s (numbers_to s t (k + 1)) old c.loop-slot.inodes cs) (sym (ap (λ v. v.items) w.list-is)) next);
           })

@@ -13,7 +13,7 @@ push_runs-requires c = small_runs _ _ c.requires (subst (λ (xs : List Extent). 
 pub returns : goal.returns
 returns c =
     let i = c.args.inode in
-    let pages : c.push_pages.new.claims.items ≡ log_claims i 0 c.args.pages.now = c.in_ok-push_pages.ensures ∙ ap (λ (xs : List (ℕ × Owner)). xs ++ log_claims i 0 c.args.pages.now) c.in_ok-claims.ensures.items in
+    let pages : c.push_pages.new.claims.items ≡ log_claims i 0 c.args.pages.now = c.in_ok-push_pages.ensures ∙ ap (λ (xs : List (ℕ × Owner)). xs ++ log_claims i 0 c.args.pages.now) (c.reserve.ensures.items ∙ c.clear.ensures.items) in
     let all : c.push_runs.new.claims.items ≡ log_claims i 0 c.args.pages.now ++ data_claims i c.runs_into.new.extents.items =
     c.in_ok-push_runs.ensures ∙ ap (λ (xs : List (ℕ × Owner)). xs ++ data_claims i c.deref-2.result.now) pages ∙ ap (λ (xs : List Extent). log_claims i 0 c.args.pages.now ++ data_claims i xs) c.deref-2.ensures.value in
     subst (λ (xs : List (ℕ × Owner)). Lists (λ (x : ℕ × Owner). owner_key x.1) (IsClaim i c.args.pages.now c.args.index.now) xs) (sym all)

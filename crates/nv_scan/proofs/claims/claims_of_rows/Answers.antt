@@ -22,7 +22,7 @@ loop-row-preserved c =
     let i = c.loop-row.row-index in
     let row = c.row-item.result in
     let own = c.in_ok-own.own in
-    let own_claims : AreRowClaims row own.items = subst (λ (pages : List ℕ). Lists (λ (x : ℕ × Owner). owner_key x.1) (IsClaim row.inode pages row.index) own.items) c.deref.ensures.value c.in_ok-own.ensures in
+    let own_claims : AreRowClaims row own.items = subst (λ (pages : List ℕ). Lists (λ (x : ℕ × Owner). owner_key x.1) (IsClaim row.inode pages row.index) own.items) c.deref.ensures c.in_ok-own.ensures in
     let read : take (i + 1) rows ≡ take i rows ++ row ∷ [] = take_more rows i row c.loop-row-test.true ∙ ap (λ (x : Row). take i rows ++ x ∷ []) (sym c.row-item.is) in
     let listed : c.extend_from_slice.new.self.items ≡ c.loop-row.claims.items ++ own.items = c.in_ok-extend_from_slice.ensures.items ∙ ap (λ (xs : List (ℕ × Owner)). c.loop-row.claims.items ++ xs) c.deref-in-loop-row.ensures.value in
     subst (AreClaimsOf (take (i + 1) rows)) (sym listed)

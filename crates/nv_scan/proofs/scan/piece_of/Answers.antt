@@ -17,5 +17,5 @@ returns c = let h = c.with_row.ensures in record {
 pub with_row-requires : goal.with_row-requires
 with_row-requires c = record {
   index = c.in_ok-index.ensures.index;
-  claims = subst (λ (pages : List ℕ). Lists (λ (x : ℕ × Owner). owner_key x.1) (IsClaim c.args.used.now.inode pages c.in_ok-index.index) c.in_ok-index.claims.items) c.deref.ensures.value c.in_ok-index.ensures.claims;
+  claims = subst (λ (pages : List ℕ). Lists (λ (x : ℕ × Owner). owner_key x.1) (IsClaim c.args.used.now.inode pages c.in_ok-index.index) c.in_ok-index.claims.items) c.deref.ensures c.in_ok-index.ensures.claims;
 }

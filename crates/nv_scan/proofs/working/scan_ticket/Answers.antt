@@ -52,7 +52,7 @@ loop-slot-preserved g c =
           let done = slot_kept t k (32 * t + k) w.in-Some.piece refl (subst (λ (o : Option Piece). IsFound R s (number_at s (32 * t + k)) o) w.in-Some.is found) l.done adds w.in_ok-keep.ensures.rows
           (w.in_ok-keep.ensures.faults ∙ ap (λ (fs : List Fault). c.loop-slot.faults.items ++ fs) w.deref-in-Some.ensures.value) in
           record {
-            scanner = c.scan_place.ensures.same ∙ l.scanner;
+            scanner = w.scanner-is ∙ w.reuse.ensures ∙ c.scan_place.ensures.same ∙ l.scanner;
             map = ap (λ (h : Held). h.map) w.seat-is ∙ w.claim_all.ensures.same.0 ∙ l.map;
             number = ap (λ (h : Held). h.number) w.seat-is ∙ w.claim_all.ensures.same.1 ∙ l.number;
             seats = ap (λ (h : Held). h.view.seats) w.seat-is ∙ w.claim_all.ensures.same.2 ∙ l.seats;
@@ -61,7 +61,7 @@ loop-slot-preserved g c =
       | in_default w ↦ (
           let done = slot_blank t k (32 * t + k) refl (subst (λ (o : Option Piece). IsFound R s (number_at s (32 * t + k)) o) w.in_default.is found) l.done in
           record {
-            scanner = c.scan_place.ensures.same ∙ l.scanner;
+            scanner = w.scanner-is ∙ c.scan_place.ensures.same ∙ l.scanner;
             map = ap (λ (h : Held). h.map) w.seat-is ∙ l.map;
             number = ap (λ (h : Held). h.number) w.seat-is ∙ l.number;
             seats = ap (λ (h : Held). h.view.seats) w.seat-is ∙ l.seats;

@@ -1,5 +1,6 @@
-use Rattle.std.proofs.Common.{◌∙◌, ◌+◌, ◌<◌, ◌≤◌, ℕ, List, ap, drop, length, subst, sym, take, vec_capacity, vec_len, ◌≡◌, ◌%◌, refl, inl, inr, IsTrue}
+use Rattle.std.proofs.Common.{◌∙◌, ◌+◌, ◌<◌, ◌≤◌, ℕ, List, ap, drop, length, subst, sym, take, ◌≡◌, ◌%◌, refl, inl, inr, IsTrue}
 use Rattle.std.proofs.lemmas.Result.{err_from_is_err_and}
+use Rattle.smallvec.specs.SmallVec.{HasRoomFor}
 use Rattle.nv_logpage.specs.Append.{needed}
 use Rattle.nv_held.specs.nv_outcome.Same.{SameRow}
 use Rattle.nv_held.proofs.BytesKept.{mixed_size}
@@ -64,7 +65,7 @@ settle_log-requires g c =
     let count = count_is ready c.in_ok-blocks.ensures.other_ready c.requires.stands c.requires.other_stands c.in_ok-blocks.ensures.taken c.in_ok-blocks.ensures.count c.requires.apart c.requires.given.0 c.requires.more_given.0 c.requires.given.1 c.requires.more_given.1 c.blocks_for-count.result c.blocks_for-count.ensures in
     let front = c.split_at.ensures.front ∙ ap (λ (bs : List ℕ). take c.blocks_for-count.result bs) c.deref.ensures.value ∙ ap (λ (m : ℕ). take m c.in_ok-blocks.blocks.items) count in
     let back = c.split_at.ensures.back ∙ ap (λ (bs : List ℕ). drop c.blocks_for-count.result bs) c.deref.ensures.value ∙ ap (λ (m : ℕ). drop m c.in_ok-blocks.blocks.items) count in
-    subst (λ (bs : List ℕ). vec_len c.prepare_logs.new.row.pages + length bs ≤ vec_capacity c.prepare_logs.new.row.pages) (sym front) (first_room ready c.in_ok-blocks.ensures.other_ready c.requires.stands c.requires.other_stands c.in_ok-blocks.ensures.taken c.in_ok-blocks.ensures.count c.requires.apart c.requires.given.0 c.requires.more_given.0 c.requires.given.1 c.requires.more_given.1)
+    subst (λ (bs : List ℕ). HasRoomFor c.prepare_logs.new.row.pages (length bs)) (sym front) (first_room ready c.in_ok-blocks.ensures.other_ready c.requires.stands c.requires.other_stands c.in_ok-blocks.ensures.taken c.in_ok-blocks.ensures.count c.requires.apart c.requires.given.0 c.requires.more_given.0 c.requires.given.1 c.requires.more_given.1)
 
 pub settle_log-requires-2 : goal.settle_log-requires-2
 settle_log-requires-2 g c =
@@ -72,7 +73,7 @@ settle_log-requires-2 g c =
     let count = count_is ready c.in_ok-blocks.ensures.other_ready c.requires.stands c.requires.other_stands c.in_ok-blocks.ensures.taken c.in_ok-blocks.ensures.count c.requires.apart c.requires.given.0 c.requires.more_given.0 c.requires.given.1 c.requires.more_given.1 c.blocks_for-count.result c.blocks_for-count.ensures in
     let front = c.split_at.ensures.front ∙ ap (λ (bs : List ℕ). take c.blocks_for-count.result bs) c.deref.ensures.value ∙ ap (λ (m : ℕ). take m c.in_ok-blocks.blocks.items) count in
     let back = c.split_at.ensures.back ∙ ap (λ (bs : List ℕ). drop c.blocks_for-count.result bs) c.deref.ensures.value ∙ ap (λ (m : ℕ). drop m c.in_ok-blocks.blocks.items) count in
-    subst (λ (bs : List ℕ). vec_len c.prepare_logs.new.other.pages + length bs ≤ vec_capacity c.prepare_logs.new.other.pages) (sym back) (second_room ready c.in_ok-blocks.ensures.other_ready c.requires.stands c.requires.other_stands c.in_ok-blocks.ensures.taken c.in_ok-blocks.ensures.count c.requires.apart c.requires.given.0 c.requires.more_given.0 c.requires.given.1 c.requires.more_given.1)
+    subst (λ (bs : List ℕ). HasRoomFor c.prepare_logs.new.other.pages (length bs)) (sym back) (second_room ready c.in_ok-blocks.ensures.other_ready c.requires.stands c.requires.other_stands c.in_ok-blocks.ensures.taken c.in_ok-blocks.ensures.count c.requires.apart c.requires.given.0 c.requires.more_given.0 c.requires.given.1 c.requires.more_given.1)
 
 pub returns-clause-appended : goal.returns-clause-appended
 returns-clause-appended g c =

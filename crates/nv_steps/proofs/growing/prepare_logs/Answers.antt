@@ -3,8 +3,8 @@ use Rattle.nv_alloc.specs.Taking.{all_blocks}
 use Rattle.nv_steps.proofs.AppendedLogs.{needed_one}
 use Rattle.nv_steps.proofs.growing.prepare_logs.Goals as goal
 
-pub overflow_add-count : goal.overflow_add-count
-overflow_add-count c =
+pub overflow_add-both : goal.overflow_add-both
+overflow_add-both c =
     let one = needed_one (c.args.row.now.tail % 4096) c.args.first.now.entries.now c.requires.one in
     let other = needed_one (c.args.other.now.tail % 4096) c.args.second.now.entries.now c.requires.other_one in
     omega (arith, one, other, c.blocks_for-count.ensures, c.blocks_for-more.ensures)

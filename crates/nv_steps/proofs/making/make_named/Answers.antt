@@ -15,8 +15,8 @@ use Rattle.nv_tree.proofs.Replies.{refused_by}
 use Rattle.nv_steps.specs.NameEntries.{name_entries}
 use Rattle.nv_steps.specs.Steps.{LeavesStep, RefusesStep}
 use Rattle.nv_steps.proofs.AppendedLogs.{needed_one}
-use Rattle.nv_steps.proofs.MadeNamed.{all_others, begins, commits, first_is, first_taken, makes_named, makes_within, place_is}
-use Rattle.nv_steps.proofs.NumbersOwed.{ends_behind, first_alone, has_one, number_below, others_fit}
+use Rattle.nv_steps.proofs.MadeNamed.{all_others, begins, commits, first_is, makes_named, makes_within, place_is}
+use Rattle.nv_steps.proofs.NumbersOwed.{ends_behind, has_one, number_below, others_fit}
 use Rattle.nv_steps.proofs.TakenBlocks.{taken_sup}
 use Rattle.nv_steps.proofs.making.make_named.Goals as goal
 
@@ -127,7 +127,7 @@ returns-clause-made g c =
     (first_is c.in_ok-blocks.blocks.items _ c.index.result.now count c.index.ensures) c.first_attributes.ensures c.in-Ok.end c.in-Ok.tail _ _ _ (all_others c.deref-2.result.now (length c.deref-2.result.now) refl ∙ ap (drop 1) c.deref-2.ensures.value) ends.0 ends.1 c.settle_name.ensures.row
     (place_is c.in-Ok.end c.length.result (drop 1 c.in_ok-blocks.blocks.items) c.args.directory.now.tail c.args.new.now.inode c.args.new.now.name.now c.args.new.now.time
     (ends.1 ∙ (λ t. end_of (blocks t) 0 (same.tail t) (c.name_entry.ensures t ∷ []))) (c.length.ensures.value ∙ ap entry_length c.name_entry.ensures))
-    c.in_ok-blocks.ensures.once c.settle_name.ensures.once (ap (λ (xs : List ℕ). get_or xs 0 0) c.truncate.ensures.items ∙ first_taken c.in_ok-blocks.blocks.items _ 0 count) c.new_row.ensures
+    c.in_ok-blocks.ensures.once c.settle_name.ensures.once (first_is c.in_ok-blocks.blocks.items _ c.index.result.now count c.index.ensures) c.new_row.ensures
     (λ held h can. c.in-Ok.ensures.shows c.args.sup.now held c.args.new.now.inode c.prepare_name.new.directory.inode h can) c.make_inode.ensures.wrote.mixed
 
 pub returns-in_default-clause-length : goal.returns-in_default-clause-length
@@ -150,9 +150,6 @@ settle_name-requires-clause-names g c = c.in_ok-blocks.ensures.names_room
 
 pub settle_name-requires-clause-name : goal.settle_name-requires-clause-name
 settle_name-requires-clause-name g c = c.requires.name
-
-pub new_row-requires-clause-page : goal.new_row-requires-clause-page
-new_row-requires-clause-page g c = ap length c.truncate.ensures.items ∙ first_alone c.in_ok-blocks.blocks.items _ c.in_ok-blocks.ensures.count
 
 pub returns-clause-enough : goal.returns-clause-enough
 returns-clause-enough g c = subst (λ (x : Entry). 1 + needed (c.args.directory.now.tail % 4096) (x ∷ []) ≤ all_blocks c.args.free.now.pools) c.name_entry.ensures c.in_ok-blocks.ensures.enough

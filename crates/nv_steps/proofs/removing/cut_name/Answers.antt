@@ -1,5 +1,6 @@
-use Rattle.std.proofs.Common.{◌≡◌, ◌+◌, ◌%◌, ◌<◌, ◌≤◌, ◌∙◌, ◌∷◌, [], ℕ, ap, inl, inr, length, refl, subst, sym, IsTrue, List, vec_len, vec_capacity}
+use Rattle.std.proofs.Common.{◌≡◌, ◌+◌, ◌%◌, ◌<◌, ◌≤◌, ◌∙◌, ◌∷◌, [], ℕ, ap, inl, inr, length, refl, subst, sym, IsTrue, List}
 use Rattle.std.proofs.lemmas.Result.{err_from_is_err_and}
+use Rattle.smallvec.specs.SmallVec.{HasRoomFor}
 use Rattle.nv_region.specs.Region.{size}
 use Rattle.nv_region.proofs.Fuses.{keeps_within}
 use Rattle.nv_super.specs.declared.superblock.Super.{Super}
@@ -106,7 +107,7 @@ returns-in_default-clause-length g c = mixed_size c.remove_inode.ensures.wrote.m
 
 pub settle_cut-requires : goal.settle_cut-requires
 settle_cut-requires g c =
-    subst (λ (bs : List ℕ). vec_len c.prepare_cut.new.directory.pages + length bs ≤ vec_capacity c.prepare_cut.new.directory.pages) (sym c.deref-2.ensures.value) c.in_ok-fresh.ensures.pages_room
+    subst (λ (bs : List ℕ). HasRoomFor c.prepare_cut.new.directory.pages (length bs)) (sym c.deref-2.ensures.value) c.in_ok-fresh.ensures.pages_room
 
 pub returns-clause-enough : goal.returns-clause-enough
 returns-clause-enough g c = subst (λ (x : Entry). needed (c.args.directory.now.tail % 4096) (x ∷ []) ≤ all_blocks c.args.free.now.pools) c.name_entry.ensures c.in_ok-fresh.ensures.enough

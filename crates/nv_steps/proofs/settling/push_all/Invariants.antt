@@ -1,5 +1,6 @@
-use Rattle.std.proofs.Common.{◌≡◌, ◌+◌, ◌++◌, take, vec_len, vec_capacity}
+use Rattle.std.proofs.Common.{◌≡◌, ◌+◌, ◌++◌, take}
+use Rattle.smallvec.specs.SmallVec.{small_vec_len}
 use Rattle.nv_steps.proofs.settling.push_all.Given as goal
 
-abbrev pub invariant-loop-number : goal.invariant-loop-number
-invariant-loop-number l = (l.numbers.items ≡ l.initial.numbers.items ++ take l.number-index l.more) × (vec_len l.numbers ≡ vec_len l.initial.numbers + l.number-index) × (vec_capacity l.numbers ≡ vec_capacity l.initial.numbers)
+abbrev pub invariant-loop-page : goal.invariant-loop-page
+invariant-loop-page l = (l.pages.items ≡ l.initial.pages.items ++ take l.page-index l.more) × (small_vec_len l.pages ≡ small_vec_len l.initial.pages + l.page-index) × (l.pages.capacity ≡ l.initial.pages.capacity)

@@ -9,4 +9,4 @@ pub returns : goal.returns
 returns c =
     let row = c.args.row.now in
     let are = subst (λ (xs : List Extent). AreExtents row.index xs) (sym c.deref-2.ensures.value) c.in_ok-extents.ensures.extents in
-    raises_row row _ are _ c.mark_log.new.self _ (subst (λ pages. Raises (SaysOne SaysPage pages) c.args.self.now c.mark_log.new.self) c.deref.ensures.value c.mark_log.ensures) c.mark_extents.ensures
+    raises_row row _ are _ c.mark_log.new.self _ (subst (λ pages. Raises (SaysOne SaysPage pages) c.args.self.now c.mark_log.new.self) c.deref.ensures c.mark_log.ensures) c.mark_extents.ensures
