@@ -5,8 +5,6 @@ use Rattle.std.specs.List.{Contains, cons_option}
 use Rattle.std.specs.Cmp.Lexicographic.{pointwise, nat_list_eq_equiv}
 use Rattle.std.specs.declared.alloc.Global.{Global}
 use Rattle.std.proofs.lemmas.Bool.{cases_eq, cases_lt}
-use Rattle.std.proofs.lemmas.Map.Steps.{length-le_from_distinct_below}
-use Rattle.std.proofs.lemmas.Map.Views.{Contains-from_any}
 use denote.RawPtr.{null_ptr}
 use Rattle.nv_region.specs.Region.{Region, word}
 use Rattle.nv_super.specs.declared.superblock.Super.{Super}
@@ -22,13 +20,10 @@ use Rattle.nv_inode.specs.Slot.{kind_at, is_right_log}
 use Rattle.nv_entry.specs.declared.entry.Entry.{Entry}
 use Rattle.nv_entry.specs.declared.entry.Entry.TheVariants.{NextPage, Write, Attr, Name, Links}
 use Rattle.nv_logpage.specs.declared.found.Placed.{Placed}
-use Rattle.nv_logpage.specs.DataBlocks.{AreDataBlocks}
-use Rattle.nv_logpage.proofs.DataBlocks.{one_page, pages_are}
-use Rattle.nv_logpage.proofs.RightLogs.{head_starts}
 use Rattle.nv_radix.specs.Pages.{Pages, block_at}
 use Rattle.nv_names.specs.Names.{found_in}
 use Rattle.nv_scan.specs.State.{size_of, mode_of, owner_of, group_of, links_of, time_of, block_of, named, says_name, name_in, named_by}
-use Rattle.nv_scan.specs.Inode.{Log, IsInode, IsInUse, right, wrong, empty_log, good_of}
+use Rattle.nv_scan.specs.Inode.{Log, IsInode, IsInUse, wrong, empty_log, good_of}
 use Rattle.nv_scan.specs.Faults.{Has, IsEntryFault, IsFaultOf, i1, i2, i3, l1, l2, l3, l4, entry}
 use Rattle.nv_scan.specs.Scanned.{fault_of_end}
 use Rattle.nv_scan.specs.Rows.{IsRow}

@@ -1,6 +1,6 @@
 //! What a row says once the log of its inode has grown. Nothing is stored here, and no memory is taken.
 
-ghost use Rattle.std.specs.Prelude.{◌≡◌, ◌+◌, ◌≤◌, ◌++◌, length};
+ghost use Rattle.std.specs.Prelude.{◌≡◌, ◌+◌, ◌++◌, length};
 ghost use Rattle.smallvec.specs.SmallVec.{HasRoomFor};
 ghost use Rattle.nv_steps.specs.Grown.{HasGrown};
 

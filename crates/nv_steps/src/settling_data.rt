@@ -1,6 +1,6 @@
 //! What a row says once its file was written. Nothing is stored here, and no memory is taken.
 
-ghost use Rattle.std.specs.Prelude.{◌+◌, ◌≤◌, length};
+ghost use Rattle.std.specs.Prelude.{length};
 ghost use Rattle.smallvec.specs.SmallVec.{HasRoomFor};
 ghost use Rattle.nv_alloc.specs.Taking.{Disjoint};
 ghost use Rattle.nv_steps.specs.Written.{AreSettled, HasWritten, MapsEntries, entry_pages};
