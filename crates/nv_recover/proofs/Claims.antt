@@ -16,6 +16,7 @@ use Rattle.nv_super.specs.Owners.{claims_of}
 use Rattle.nv_claimcore.specs.Finished.{works_of}
 use Rattle.nv_claimcore.specs.Replay.{Inside, lists}
 use Rattle.nv_claimmap.specs.declared.map.Claimed.{Claimed}
+use Rattle.nv_scan.specs.ClaimList.{ClaimList}
 use Rattle.nv_scan.specs.Work.{claims_in}
 use Rattle.nv_scan.specs.declared.piece.Piece.{Piece}
 use Rattle.nv_scan.proofs.Owned.{owned_block}
@@ -28,9 +29,9 @@ use Rattle.nv_recover.specs.Scanned.{AreWithin, AreClaimed, AreClaimedSets, all_
 pub claims_more : (ps : List Piece) (p : Piece) → claims_in (ps ++ p ∷ []) ≡ claims_in ps ++ p.claims.items
 claims_more ps p = flat_map-append (λ (q : Piece). q.claims.items) ps (p ∷ []) ∙ ap (λ (xs : List (ℕ × Owner)). claims_in ps ++ xs) (append-nil p.claims.items)
 
-pub claims_one_more : (ps : List Piece) (p : Piece) {now new list : List (ℕ × Owner)} {claims : Vec (ℕ × Owner) Global} → now ≡ claims_in ps → p.claims ≡ claims → list ≡ claims.items → new ≡ now ++ list → new ≡ claims_in (ps ++ p ∷ [])
+pub claims_one_more : (ps : List Piece) (p : Piece) {now new list : List (ℕ × Owner)} {claims : ClaimList} → now ≡ claims_in ps → p.claims ≡ claims → list ≡ claims.items → new ≡ now ++ list → new ≡ claims_in (ps ++ p ∷ [])
 claims_one_more ps p {list = list} before are same is =
-    let its : list ≡ p.claims.items = same ∙ ap (λ (v : Vec (ℕ × Owner) Global). v.items) (sym are) in
+    let its : list ≡ p.claims.items = same ∙ ap (λ (v : ClaimList). v.items) (sym are) in
     is ∙ ((λ i. before i ++ its i) ∙ sym (claims_more ps p))
 
 module _ {R : Region} (s : Super) (pieces : List Piece) (scanned : ArePieces R (fixed_layout s) pieces) where

@@ -1,7 +1,5 @@
 -- The rows and the faults of inodes that are scanned one after another.
 use Rattle.std.proofs.Common.{◌≡◌, ℕ, ◌+◌, ◌-◌, ◌<◌, IsTrue, List, [], ◌∷◌, ◌++◌, get_or, refl, ap, sym, ◌∙◌, subst, arith, append-nil}
-use Rattle.std.specs.Prelude.{Vec}
-use Rattle.std.specs.declared.alloc.Global.{Global}
 use Rattle.std.specs.List.{Contains, cons_option, range_with_len}
 use Rattle.std.specs.List.Sorted.{IsPermutation}
 use Rattle.std.proofs.lemmas.Bool.Decides.{nat_tests}
@@ -9,7 +7,6 @@ use Rattle.std.proofs.lemmas.List.Elements.{All-contains_itself}
 use Rattle.std.proofs.lemmas.List.Sorted.{All-permutation, IsPermutation-refl}
 use Rattle.nv_region.specs.Region.{Region}
 use Rattle.nv_super.specs.declared.superblock.Super.{Super}
-use Rattle.nv_super.specs.declared.owners.Owner.{Owner}
 use Rattle.nv_super.specs.declared.faults.Fault.{Fault}
 use Rattle.nv_super.specs.Layout.{IsLayout, inode_limit, is_number, fixed_layout}
 use Rattle.nv_super.specs.Order.{fault_key, Lists}
@@ -24,6 +21,7 @@ use Rattle.nv_outcome.proofs.RowsOf.{rows_are}
 use Rattle.nv_outcome.proofs.nv_rows.InOrder.{moved_given}
 use Rattle.nv_outcome.proofs.Tickets.{pieces_in_order, one_more_in_order, slot_number}
 use Rattle.nv_recover.specs.declared.scanned.Inodes.{Inodes}
+use Rattle.nv_scan.specs.ClaimList.{ClaimList}
 use Rattle.nv_recover.specs.Scanned.{AreInodes, AreFirst, AreApart, IsNext}
 
 -- ---- one inode more
@@ -38,7 +36,7 @@ module _ {R : Region} {s : Super} where
   pub first_none : {x : Inodes} → x.rows.items ≡ [] → x.faults.items ≡ [] → AreFirst R s 1 [] x
   first_none rows faults = record { order = refl; each = tt; rows = rows; faults = faults }
 
-  pub first_more : {n : ℕ} {ps : List Piece} {old new : Inodes} {claims : Vec (ℕ × Owner) Global} → 0 < n → AreFirst R s n ps old → (next : IsNext R s n old new claims) → AreFirst R s (n + 1) (ps ++ next.piece ∷ []) new
+  pub first_more : {n : ℕ} {ps : List Piece} {old new : Inodes} {claims : ClaimList} → 0 < n → AreFirst R s n ps old → (next : IsNext R s n old new claims) → AreFirst R s (n + 1) (ps ++ next.piece ∷ []) new
   first_more {n} {ps} some first next =
       let more = one_more_in_order R s ps next.piece (n - 1) first.order first.each (omega (arith, next.number, some)) next.is in
       let count : n - 1 + 1 ≡ n + 1 - 1 = omega (arith, some) in record {

@@ -34,3 +34,11 @@ maps_back claims one two first second x y maps p q = rw (whole one first x p, wh
 
 pub length_back : (one : ℕ) (first x : List ℕ) → length first ≡ one → length (take one (first ++ x)) ≡ one
 length_back one first x p = ap length (whole one first x p) ∙ p
+
+-- both sets have a bit for the block of a claim
+abbrev pub Fits : List ℕ → List ℕ → ℕ × Owner → Type 0
+Fits first second x = (x.0 / 64 < length first) × (x.0 / 64 < length second)
+
+-- sets that are as long have it too
+pub fits_as_long : (claims : List (ℕ × Owner)) (first second first' second' : List ℕ) → (length first' ≡ length first) × (length second' ≡ length second) → All (Fits first second) claims → All (Fits first' second') claims
+fits_as_long claims first second first' second' long within = rw (long.0, long.1) within

@@ -1,9 +1,7 @@
 -- The two sets of claims, after one claim more.
-use Rattle.std.proofs.Common.{◌≡◌, ℕ, ◌+◌, ◌/◌, ◌<◌, ◌≢◌, eqb, Bool, true, false, min, List, [], ◌∷◌, ◌++◌, length, cond, refl, ap, sym, ◌∙◌, arith, append_assoc, if◌then◌else◌, take, get_or}
+use Rattle.std.proofs.Common.{◌≡◌, ℕ, ◌+◌, ◌/◌, ◌<◌, ◌≢◌, eqb, Bool, true, false, min, List, [], ◌∷◌, ◌++◌, length, cond, refl, ap, sym, ◌∙◌, arith, append_assoc, if◌then◌else◌}
 use Rattle.std.proofs.lemmas.Bool.Decides.{nat_tests}
 use Rattle.std.proofs.lemmas.List.Sums.{sum_by_push}
-use Rattle.std.specs.List.{All}
-use Rattle.std.proofs.lemmas.List.{take_more}
 use mathlib.Core.Logic.{dite}
 use native.Mathlib.Decide.{ℕ_discrete}
 use Rattle.nv_blockset.specs.BlockSet.{has, is_set, with_block}
@@ -49,12 +47,13 @@ second_after_long first second b = at (is_set first b) where
   at true = with_block_long second b
   at false = refl
 
--- the claim at a place is the next one, behind those before
-pub maps_next : (before claims : List (ℕ × Owner)) (i : ℕ) (d : ℕ × Owner) (first second next_first next_second : List ℕ) (m n : ℕ) → i < length claims → length first ≡ m → length second ≡ n
-    → All (λ (x : ℕ × Owner). (x.0 / 64 < m) × (x.0 / 64 < n)) claims → AreMaps (before ++ take i claims) first second → next_first ≡ with_block first (get_or claims i d).0 → next_second ≡ second_after first second (get_or claims i d).0
-    → AreMaps (before ++ take (i + 1) claims) next_first next_second
-maps_next before claims i d first second next_first next_second m n less long_first long_second within maps is_first is_second =
-    let here = within i d less in
-    let x = get_or claims i d in
-    let more = maps_more (before ++ take i claims) first second maps x.0 x.1 (omega (arith, here.0)) (omega (arith, here.1)) in
-    rw (take_more claims i d less, sym (append_assoc before (take i claims) (x ∷ [])), is_first, is_second) more
+-- one claim more, behind those before
+pub maps_behind : (before claims next : List (ℕ × Owner)) (b : ℕ) (o : Owner) (first second next_first next_second : List ℕ) (m n : ℕ) → length first ≡ m → length second ≡ n → (b / 64 < m) × (b / 64 < n)
+    → AreMaps (before ++ claims) first second → next_first ≡ with_block first b → next_second ≡ second_after first second b → next ≡ claims ++ (b, o) ∷ [] → AreMaps (before ++ next) next_first next_second
+maps_behind before claims next b o first second next_first next_second m n long_first long_second here maps is_first is_second is_next =
+    let more = maps_more (before ++ claims) first second maps b o (omega (arith, here.0)) (omega (arith, here.1)) in
+    rw (is_next, sym (append_assoc before claims ((b, o) ∷ [])), is_first, is_second) more
+
+-- more claims behind those before, and others behind them
+pub maps_on : (before claims more next : List (ℕ × Owner)) {first second : List ℕ} → next ≡ claims ++ more → AreMaps ((before ++ claims) ++ more) first second → AreMaps (before ++ next) first second
+maps_on before claims more next is maps = rw (is, sym (append_assoc before claims more)) maps

@@ -12,6 +12,7 @@ use Rattle.nv_super.specs.Layout.{inode_limit, is_number, fixed_layout}
 use Rattle.nv_super.specs.Order.{fault_key, Lists}
 use Rattle.nv_claimcore.specs.Finished.{works_of}
 use Rattle.nv_claimmap.specs.declared.map.Claimed.{Claimed}
+use Rattle.nv_scan.specs.ClaimList.{ClaimList}
 use Rattle.nv_scan.specs.Rows.{IsPiece}
 use Rattle.nv_scan.specs.Work.{numbers_in, claims_in, ArePiecesOf}
 use Rattle.nv_scan.specs.declared.piece.Row.{Row}
@@ -33,7 +34,7 @@ pub record AreInodes (R : Region) (s : Super) (pieces : List Piece) (x : Inodes)
   pub faults : IsPermutation (faults_in pieces) x.faults.items
 
 -- A piece of this inode: its row and its faults were put behind the others, and its claims are these.
-pub record IsNext (R : Region) (s : Super) (inode : ℕ) (old new : Inodes) (claims : Vec (ℕ × Owner) Global) : Type 0 where
+pub record IsNext (R : Region) (s : Super) (inode : ℕ) (old new : Inodes) (claims : ClaimList) : Type 0 where
   pub piece : Piece
   pub is : IsPiece R (fixed_layout s) piece
   pub number : piece.inode ≡ inode

@@ -148,7 +148,7 @@ fn scan_ticket<P: Pmem>(
                 faults,
             } = piece;
             inodes.push(row, &faults)?;
-            list.extend_from_slice(&claims)?;
+            claims.push_to(&mut list)?;
             scanner.reuse(claims);
         }
     }

@@ -7,8 +7,7 @@ ghost use Rattle.nv_recover.specs.Scanned.{IsNext};
 
 use crate::scanned::Inodes;
 use nv_region::Pmem;
-use nv_scan::{Piece, Scanner};
-use nv_super::Owner;
+use nv_scan::{Claims, Piece, Scanner};
 use std::alloc::AllocError;
 
 /// Scans one inode: what it is by itself is kept, and what it claims is handed on.
@@ -17,7 +16,7 @@ pub(crate) fn scan_next<P: Pmem>(
     scanner: &mut Scanner,
     inodes: &mut Inodes,
     inode: u64,
-) -> Result<Vec<(u64, Owner)>, AllocError>
+) -> Result<Claims, AllocError>
     requires blocks { HasBlocks (P.region memory.now) scanner.old.blocks }
     requires number { IsTrue (is_number scanner.old inode) }
     ensures same { scanner.new ≡ scanner.old }

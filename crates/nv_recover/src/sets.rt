@@ -7,6 +7,7 @@ ghost use Rattle.nv_blockset.specs.BlockSet.{with_block};
 ghost use Rattle.nv_region.specs.Region.{Region};
 ghost use Rattle.nv_super.specs.declared.owners.Owner.{Owner as OwnerValue};
 ghost use Rattle.nv_super.specs.Layout.{IsLayout};
+ghost use Rattle.nv_scan.specs.Claims.{log_claims, run_claims, data_claims, IsSmall};
 ghost use Rattle.nv_scan.specs.Work.{claims_in};
 ghost use Rattle.nv_scan.specs.declared.piece.Piece.{Piece};
 ghost use Rattle.nv_outcome.specs.nv_check.Doubled.{AreDoubled};
@@ -17,7 +18,8 @@ use crate::scanned::Owned;
 use nv_blockset::{contains, first_set, insert, words_for};
 use nv_claimmap::Claimed;
 use nv_outcome::doubled;
-use nv_scan::{Row, claims_of_rows};
+use nv_radix::Extent;
+use nv_scan::{Claims, Row, claims_of_rows};
 use nv_super::{Owner, Super};
 use std::alloc::{AllocError, Global};
 
@@ -42,9 +44,9 @@ impl Sets {
     }
 
     /// Puts the blocks of these claims into the sets.
-    pub fn claim_all(&mut self, claims: &[(u64, Owner)])
-        requires within { All (λ (x : ℕ × OwnerValue). (x.0 / 64 < length self.old.first.items) × (x.0 / 64 < length self.old.second.items)) claims.now }
-        ensures maps { (before : List (ℕ × OwnerValue)) → AreMaps before self.old.first.items self.old.second.items → AreMaps (before ++ claims.now) self.new.first.items self.new.second.items }
+    pub fn claim_all(&mut self, claims: &Claims)
+        requires within { All (λ (x : ℕ × OwnerValue). (x.0 / 64 < length self.old.first.items) × (x.0 / 64 < length self.old.second.items)) claims.now.items }
+        ensures maps { (before : List (ℕ × OwnerValue)) → AreMaps before self.old.first.items self.old.second.items → AreMaps (before ++ claims.now.items) self.new.first.items self.new.second.items }
         ensures as_long { (length self.new.first.items ≡ length self.old.first.items) × (length self.new.second.items ≡ length self.old.second.items) }
     {
         fill(&mut self.first, &mut self.second, claims);
@@ -95,14 +97,48 @@ fn doubled_in(
     doubled(alloc, &claims, second)
 }
 
-// Puts the claims' blocks into the sets.
-fn fill(first: &mut [u64], second: &mut [u64], claims: &[(u64, Owner)])
-    requires within { All (λ (x : ℕ × OwnerValue). (x.0 / 64 < length first.old) × (x.0 / 64 < length second.old)) claims.now }
-    ensures maps { (before : List (ℕ × OwnerValue)) → AreMaps before first.old second.old → AreMaps (before ++ claims.now) first.new second.new }
+// Puts the blocks of these claims into the sets.
+fn fill(first: &mut [u64], second: &mut [u64], claims: &Claims)
+    requires within { All (λ (x : ℕ × OwnerValue). (x.0 / 64 < length first.old) × (x.0 / 64 < length second.old)) claims.now.items }
+    ensures maps { (before : List (ℕ × OwnerValue)) → AreMaps before first.old second.old → AreMaps (before ++ claims.now.items) first.new second.new }
     ensures as_long { (length first.new ≡ length first.old) × (length second.new ≡ length second.old) }
 {
-    for (block, _) in claims {
+    let (inode, pages, runs) = claims.parts();
+    fill_pages(first, second, inode, pages);
+    fill_runs(first, second, inode, runs);
+}
+
+// Puts the pages of an inode's log into the sets.
+fn fill_pages(first: &mut [u64], second: &mut [u64], _inode: u64, pages: &[u64])
+    requires within { All (λ (x : ℕ × OwnerValue). (x.0 / 64 < length first.old) × (x.0 / 64 < length second.old)) (log_claims _inode 0 pages.now) }
+    ensures maps { (before : List (ℕ × OwnerValue)) → AreMaps before first.old second.old → AreMaps (before ++ log_claims _inode 0 pages.now) first.new second.new }
+    ensures as_long { (length first.new ≡ length first.old) × (length second.new ≡ length second.old) }
+{
+    for block in pages {
         claim(first, second, *block);
+    }
+}
+
+// Puts the runs of an inode's file into the sets.
+fn fill_runs(first: &mut [u64], second: &mut [u64], inode: u64, runs: &[Extent])
+    requires within { All (λ (x : ℕ × OwnerValue). (x.0 / 64 < length first.old) × (x.0 / 64 < length second.old)) (data_claims inode runs.now) }
+    requires small { All IsSmall runs.now }
+    ensures maps { (before : List (ℕ × OwnerValue)) → AreMaps before first.old second.old → AreMaps (before ++ data_claims inode runs.now) first.new second.new }
+    ensures as_long { (length first.new ≡ length first.old) × (length second.new ≡ length second.old) }
+{
+    for run in runs {
+        fill_run(first, second, inode, run);
+    }
+}
+
+fn fill_run(first: &mut [u64], second: &mut [u64], _inode: u64, run: &Extent)
+    requires within { All (λ (x : ℕ × OwnerValue). (x.0 / 64 < length first.old) × (x.0 / 64 < length second.old)) (run_claims _inode run.now) }
+    requires small { IsSmall run.now }
+    ensures maps { (before : List (ℕ × OwnerValue)) → AreMaps before first.old second.old → AreMaps (before ++ run_claims _inode run.now) first.new second.new }
+    ensures as_long { (length first.new ≡ length first.old) × (length second.new ≡ length second.old) }
+{
+    for by in 0..run.count {
+        claim(first, second, run.block + by);
     }
 }
 

@@ -56,7 +56,7 @@ log_claim i k (b ∷ bs) x c = elim (Contains-cons (b, owners.Log i k) (log_clai
   | inr w ↦ (let r = log_claim i (k + 1) bs x w in record { j = suc r.j; here = r.here; owner = r.owner ∙ ap (owners.Log i) (omega arith) })
 ]
 
-log_claimed : (i k : ℕ) (bs : List ℕ) (j b : ℕ) → slice_get bs j ≡ Some b → Contains (log_claims i k bs) (b, owners.Log i (k + j))
+pub log_claimed : (i k : ℕ) (bs : List ℕ) (j b : ℕ) → slice_get bs j ≡ Some b → Contains (log_claims i k bs) (b, owners.Log i (k + j))
 log_claimed i k [] j b h = absurd (cc)
 log_claimed i k (x ∷ bs) zero b h =
     let e : k ≡ k + 0 = omega arith in
@@ -87,7 +87,7 @@ run_claim i p b (suc n) x c = elim (Contains-push_cases (pairs b (owners.Data i 
   | inr w ↦ record { j = n; within = omega arith; is = sym w }
 ]
 
-run_claimed : (i p b n j : ℕ) → j < n → Contains (pairs b (owners.Data i p) n) (b + j, owners.Data i (p + j))
+pub run_claimed : (i p b n j : ℕ) → j < n → Contains (pairs b (owners.Data i p) n) (b + j, owners.Data i (p + j))
 run_claimed i p b zero j h = absurd (omega arith)
 run_claimed i p b (suc n) j h = elim (cases_order j n) [
   | inl w ↦ rw w (Contains-push (pairs b (owners.Data i p) n) (b + n, owners.Data i (p + n)))

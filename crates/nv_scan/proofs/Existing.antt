@@ -9,7 +9,6 @@ use denote.RawPtr.{null_ptr}
 use Rattle.nv_region.specs.Region.{Region, word}
 use Rattle.nv_super.specs.declared.superblock.Super.{Super}
 use Rattle.nv_super.specs.declared.kind.Kind.{Kind}
-use Rattle.nv_super.specs.declared.owners.Owner.{Owner}
 use Rattle.nv_super.specs.declared.faults.Fault.{Fault}
 use Rattle.nv_super.specs.declared.faults.Fault.TheVariants as faults
 use Rattle.nv_super.specs.Layout.{Layout, IsLayout, is_number, slot_address, slot_of, fixed_layout}
@@ -81,9 +80,8 @@ module _ (R : Region) (s : Super) (i : ℕ) (layout : IsLayout s) (number : IsTr
   unfolding Found
   of_unused no_kind o told one two =
       let small : length (cons_option o []) < 2 ^ 63 = few o in
-      let none : length {A = ℕ × Owner} [] < 2 ^ 63 = omega arith in
-      let p : Piece = record { inode = i; row = None; claims = vec_of [] none; faults = vec_of (cons_option o []) small } in
-      let is = empty_piece R s i o p layout number no_kind told one two (record { inode = refl; row = refl; claims = vec_items [] none; faults = vec_items (cons_option o []) small }) in
+      let p : Piece = record { inode = i; row = None; claims = record { items = [] }; faults = vec_of (cons_option o []) small } in
+      let is = empty_piece R s i o p layout number no_kind told one two (record { inode = refl; row = refl; claims = refl; faults = vec_items (cons_option o []) small }) in
       (cons_option o [], subst (λ (fs : List Fault). Has (IsFaultOf R (fixed_layout s) i) fs) (vec_items (cons_option o []) small) is.faults.has) where
         few : (o : Option Fault) → length (cons_option o []) < 2 ^ 63
         few None = omega arith

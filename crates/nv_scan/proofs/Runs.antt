@@ -1,14 +1,14 @@
--- Claiming what a piece claims, in runs.
-use Rattle.std.proofs.Common.{ℕ, zero, suc, ◌+◌, ◌<◌, ◌≤◌, List, [], ◌∷◌, ◌++◌, Some, refl, ap, ◌∙◌, subst, append_assoc, arith}
+-- Claiming what a piece claims, page by page and run by run.
+use Rattle.std.proofs.Common.{◌≡◌, ℕ, zero, suc, ◌+◌, ◌<◌, ◌≤◌, List, [], ◌∷◌, ◌++◌, length, get_or, Some, refl, ap, ◌∙◌, subst, append_assoc, arith}
 use Rattle.std.specs.List.{Contains, All, AllByRecursion}
 use Rattle.std.proofs.lemmas.List.{map-append}
-use Rattle.std.proofs.lemmas.List.Elements.{All-take, All-pop, All-append, All-from_recursion}
+use Rattle.std.proofs.lemmas.Option.{slice_get-get_or}
+use Rattle.std.proofs.lemmas.List.Elements.{All-contains, All-contains_itself, All-pop, All-append, All-from_recursion, Contains-append_left, Contains-append_right}
 use Rattle.nv_region.specs.Region.{Region}
 use Rattle.nv_super.specs.Layout.{Layout}
-use Rattle.nv_super.specs.Owners.{MayOwn, pairs, raised}
+use Rattle.nv_super.specs.Owners.{MayOwn, pairs}
 use Rattle.nv_super.specs.declared.owners.Owner.{Owner}
 use Rattle.nv_super.specs.declared.owners.Owner.TheVariants as owners
-use Rattle.nv_super.specs.declared.owners.Run.{Run}
 use Rattle.nv_super.proofs.Rising.{Contains-head, Contains-tail}
 use Rattle.nv_claimmap.specs.nv_claimcore.declared.view.Record.{Record}
 use Rattle.nv_claimmap.specs.nv_claimcore.declared.view.View.{View}
@@ -16,8 +16,12 @@ use Rattle.nv_claimmap.specs.nv_claimcore.Claims.{Settled}
 use Rattle.nv_claimmap.specs.nv_claimcore.Finished.{pair_of}
 use Rattle.nv_claimmap.specs.nv_claimcore.Spans.{Adds}
 use Rattle.nv_scan.specs.Owners.{Owns, AreClaims}
-use Rattle.nv_scan.specs.Claiming.{IsClaimable, StandsAlone, BeginWith}
+use Rattle.nv_scan.specs.Claiming.{IsClaimable}
+use Rattle.nv_scan.specs.Claims.{log_claims, run_claims, data_claims}
+use Rattle.nv_radix.specs.declared.extent.Extent.{Extent}
+use Rattle.nv_super.proofs.Members.{into_flat}
 use Rattle.nv_scan.proofs.Blocks.{data_pages}
+use Rattle.nv_scan.proofs.ClaimLists.{log_claimed, run_claimed}
 use Rattle.nv_scan.proofs.Only.{owned_page}
 use Rattle.nv_scan.proofs.Owned.{owned_block}
 
@@ -36,19 +40,41 @@ pub claims_fit : (R : Region) (l : Layout) (i : ℕ) (claims : List (ℕ × Owne
 claims_fit R l i claims are = All-from_recursion (IsClaimable l.sup.blocks) claims (each_of (IsClaimable l.sup.blocks) claims
     (λ x c. (let owns = (are.each x c).0 in ((owned_block R l x.0 x.1 owns).1, page_fits R l x.0 x.1 owns))))
 
-owner_fits : (o : Owner) (k : ℕ) → StandsAlone o (suc k) → MayOwn (raised o k) 1 → MayOwn o (suc k)
-owner_fits (owners.Log i j) k alone last = alone
-owner_fits (owners.Data i p) k alone last = omega arith
+-- those of some claims that stand among others
+all_among : {A : Type 0} (P : A → Type 0) (xs ys : List A) → All P ys → ((x : A) → Contains xs x → Contains ys x) → All P xs
+all_among P xs ys all among = All-from_recursion P xs (each_of P xs (λ x c. All-contains P ys x all (among x c)))
 
-run_fits : (blocks start : ℕ) (o : Owner) (n : ℕ) → 0 < n → StandsAlone o n → All (IsClaimable blocks) (pairs start o n) → (start + n ≤ blocks) × MayOwn o n
-run_fits blocks start o zero some alone all = absurd (omega arith)
-run_fits blocks start o (suc k) some alone all =
-    let last = (All-pop (IsClaimable blocks) (pairs start o (suc k)) (pairs start o k) (Some (start + k, raised o k)) refl all).1 in
-    (omega (arith, last.0), owner_fits o k alone last.1)
+-- what is so of each claim is so of each of the log, and of each of the file
+pub claims_split : (P : ℕ × Owner → Type 0) (i : ℕ) (claims : List (ℕ × Owner)) (pages : List ℕ) (runs : List Extent) → claims ≡ log_claims i 0 pages ++ data_claims i runs → All P claims
+    → All P (log_claims i 0 pages) × All P (data_claims i runs)
+claims_split P i claims pages runs is all =
+    let both = subst (All P) is all in (
+      all_among P (log_claims i 0 pages) (log_claims i 0 pages ++ data_claims i runs) both (λ x c. Contains-append_left (log_claims i 0 pages) (data_claims i runs) x c),
+      all_among P (data_claims i runs) (log_claims i 0 pages ++ data_claims i runs) both (λ x c. Contains-append_right (log_claims i 0 pages) (data_claims i runs) x c),
+    )
 
--- a run that claims begin with can be claimed where each of them can
-pub begin_fits : (blocks : ℕ) (claims : List (ℕ × Owner)) (run : Run) (o : Owner) → All (IsClaimable blocks) claims → BeginWith claims run o → (run.start + run.count ≤ blocks) × MayOwn o run.count
-begin_fits blocks claims run o all begin = run_fits blocks run.start o run.count begin.some begin.alone (subst (All (IsClaimable blocks)) begin.is (All-take (IsClaimable blocks) run.count claims all))
+-- what is so of each claim of a log is so of one of its pages
+pub each_page : (P : ℕ × Owner → Type 0) (i k : ℕ) (pages : List ℕ) → k < length pages → All P (log_claims i 0 pages) → P (get_or pages k 0, owners.Log i (0 + k))
+each_page P i k pages less all = All-contains P (log_claims i 0 pages) (get_or pages k 0, owners.Log i (0 + k)) all (log_claimed i 0 pages k (get_or pages k 0) (slice_get-get_or pages k 0 less))
+
+-- what is so of each claim of a file is so of each of one run
+pub each_run : (P : ℕ × Owner → Type 0) (i k : ℕ) (runs : List Extent) (d : Extent) → k < length runs → All P (data_claims i runs) → All P (run_claims i (get_or runs k d))
+each_run P i k runs d less all = all_among P (run_claims i (get_or runs k d)) (data_claims i runs) all (λ y c. into_flat (run_claims i) runs (get_or runs k d) y (All-contains_itself runs k d less) c)
+
+-- and of one of its blocks
+pub each_block : (P : ℕ × Owner → Type 0) (i p b n j : ℕ) → j < n → All P (pairs b (owners.Data i p) n) → P (b + j, owners.Data i (p + j))
+each_block P i p b n j less all = All-contains P (pairs b (owners.Data i p) n) (b + j, owners.Data i (p + j)) all (run_claimed i p b n j less)
+
+run_fits : (blocks start i p n : ℕ) → 0 < n → All (IsClaimable blocks) (pairs start (owners.Data i p) n) → (start + n ≤ blocks) × MayOwn (owners.Data i p) n
+run_fits blocks start i p zero some all = absurd (omega arith)
+run_fits blocks start i p (suc k) some all =
+    let last = (All-pop (IsClaimable blocks) (pairs start (owners.Data i p) (suc k)) (pairs start (owners.Data i p) k) (Some (start + k, owners.Data i (p + k))) refl all).1 in
+    (omega (arith, last.0), omega (arith, last.1))
+
+-- a run of a file can be claimed where each of its blocks can
+pub run_claimable : (blocks i k : ℕ) (runs : List Extent) (d : Extent) → k < length runs → All (IsClaimable blocks) (data_claims i runs) → 0 < (get_or runs k d).count
+    → ((get_or runs k d).block + (get_or runs k d).count ≤ blocks) × MayOwn (owners.Data i (get_or runs k d).page) (get_or runs k d).count
+run_claimable blocks i k runs d less all some = let x = get_or runs k d in run_fits blocks x.block i x.page x.count some (each_run (IsClaimable blocks) i k runs d less all)
 
 -- ---- what was claimed
 
@@ -64,3 +90,7 @@ adds_both ps qs v u w a b = let one = a.2 in let two = b.2 in (
     All-append Settled one.0 two.0 one.3 two.3,
   ),
 )
+
+-- one page of a log, as a run
+pub page_pair : (b i k n : ℕ) → k ≡ n → pairs b (owners.Log i k) 1 ≡ (b, owners.Log i n) ∷ []
+page_pair b i k n same = let block : b + 0 ≡ b = omega arith in λ t. (block t, owners.Log i (same t)) ∷ []

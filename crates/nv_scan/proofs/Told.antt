@@ -15,7 +15,7 @@ use Rattle.nv_super.specs.Layout.{Layout, IsLayout, is_number, slot_address, slo
 use Rattle.nv_super.proofs.Members.{none_in}
 use Rattle.nv_inode.specs.Slot.{kind_at}
 use Rattle.nv_scan.specs.Inode.{Log, IsInUse}
-use Rattle.nv_scan.specs.Owners.{Owns, by_log, by_page, inode_of, AreClaims}
+use Rattle.nv_scan.specs.Owners.{Owns, by_log, by_page, inode_of}
 use Rattle.nv_scan.specs.Faults.{HasOnce, IsFaultOf, i1, i2}
 use Rattle.nv_scan.specs.Rows.{IsRow, IsPiece}
 use Rattle.nv_scan.specs.Tickets.{IsBlank, is_told}
@@ -38,15 +38,12 @@ owner_in_use : {R : Region} {l : Layout} {b : ℕ} {o : Owner} → Owns R l b o 
 owner_in_use (by_log {a = a} {log = log} is h) = (a, log, is)
 owner_in_use (by_page {a = a} {log = log} is h) = (a, log, is)
 
-no_claims : length {A = ℕ × Owner} [] < 2 ^ 63
-no_claims = omega arith
-
 no_faults : length {A = Fault} [] < 2 ^ 63
 no_faults = omega arith
 
 -- the piece that tells nothing
 abbrev blank : ℕ → Piece
-blank i = record { inode = i; row = None; claims = vec_of [] no_claims; faults = vec_of [] no_faults }
+blank i = record { inode = i; row = None; claims = record { items = [] }; faults = vec_of [] no_faults }
 
 -- it is that of such an inode
 pub blank_piece : (R : Region) (l : Layout) (i : ℕ) → IsBlank R l i → (p : Piece) × (p.inode ≡ i) × IsPiece R l p × (p.claims.items ≡ []) × (p.row ≡ None) × (p.faults.items ≡ [])
@@ -55,7 +52,7 @@ blank_piece R l i none = (
   refl,
   record {
     row = none.0;
-    claims = subst (AreClaims R l i) (sym (vec_items [] no_claims)) record {
+    claims = record {
       rising = tt;
       each = λ x c. absurd (none_in x c);
       all = λ x h. absurd (none.0 (subst (IsInUse R l) h.1 (owner_in_use h.0)));
@@ -65,7 +62,7 @@ blank_piece R l i none = (
       once = tt;
     };
   },
-  vec_items [] no_claims,
+  refl,
   refl,
   vec_items [] no_faults,
 )
@@ -82,7 +79,7 @@ module _ (R : Region) (s : Super) (i : ℕ) (layout : IsLayout s) (number : IsTr
 
     is : IsPiece R (fixed_layout s) (blank i)
     is = empty_piece R s i None (blank i) layout number no_kind (λ f e. absurd (cc)) (λ big. absurd (omega (arith, unused, big))) (λ one. absurd (omega (arith, unused, one)))
-        record { inode = refl; row = refl; claims = vec_items [] no_claims; faults = vec_items [] no_faults }
+        record { inode = refl; row = refl; claims = refl; faults = vec_items [] no_faults }
 
   -- any other valid word is told
   pub piece_tells : (p : Piece) → p.inode ≡ i → IsPiece R (fixed_layout s) p → word R (slot_address s i) ≢ 0 → is_told p ≡ true

@@ -6,6 +6,7 @@ pub mod Faults
 pub mod Rows
 pub mod Fold
 pub mod Reading
+pub mod ClaimList
 pub mod Claims
 pub mod Scanned
 pub mod Tickets

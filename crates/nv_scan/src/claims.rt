@@ -1,6 +1,6 @@
 //! The blocks that an inode claims.
 
-ghost use Rattle.std.specs.Prelude.{◌≡◌, ◌*◌, ◌+◌, ◌<◌, ◌++◌, List, IfOk, OnOk};
+ghost use Rattle.std.specs.Prelude.{◌≡◌, ◌*◌, ◌+◌, ◌<◌, ◌++◌, List, [], IfOk, OnOk};
 ghost use Rattle.std.specs.List.{All, AllByRecursion};
 ghost use Rattle.nv_region.specs.Region.{Region};
 ghost use Rattle.nv_super.specs.declared.superblock.Super.{Super};
@@ -12,11 +12,71 @@ ghost use Rattle.nv_scan.specs.Rows.{IsPiece};
 ghost use Rattle.nv_scan.specs.Work.{rows_in, claims_in};
 ghost use Rattle.nv_scan.specs.declared.piece.Piece.{Piece};
 
-use crate::piece::Row;
+use crate::piece::{LogPages, Row};
 use nv_radix::{Extent, FileIndex};
 use nv_super::Owner;
 use std::alloc::{AllocError, Global};
+use std::marker::Model;
 use std::mem;
+
+/// What an inode claims, as the pages of its log and the runs of its file. Contracts see each block with its owner: first
+/// come the pages of the log in their order, then the blocks of the file, by page.
+#[derive(Drop)]
+pub struct Claims {
+    inode: u64,
+    pages: LogPages,
+    runs: Vec<Extent>,
+}
+
+impl Model for Claims {
+    ghost use Rattle.std.specs.Prelude.{◌++◌};
+    ghost use Rattle.std.specs.List.{All};
+    ghost use Rattle.nv_scan.specs.ClaimList.{ClaimList};
+
+    ghost Value = { ClaimList };
+
+    ghost use Rattle.nv_scan.specs.Claims.{log_claims, data_claims, IsSmall};
+
+    ghost view = { λ a. record { items = log_claims a.inode 0 a.pages.items ++ data_claims a.inode a.runs.items } };
+
+    ghost invariant = { λ a. All IsSmall a.runs.items };
+}
+
+impl Claims {
+    /// No claims. It takes no memory.
+    pub(crate) fn new(alloc: Global) -> Claims
+        ensures { result.items ≡ [] }
+    {
+        Claims {
+            inode: 0,
+            pages: LogPages::new(alloc),
+            runs: Vec::new(alloc),
+        }
+    }
+
+    /// The inode, the blocks of its log's pages and the runs of its file.
+    pub fn parts(&self) -> (u64, &[u64], &[Extent])
+        ensures claims { self.now.items ≡ log_claims result.0 0 result.1.now ++ data_claims result.0 result.2.now }
+        ensures small { All IsSmall result.2.now }
+    {
+        (self.inode, &self.pages, &self.runs)
+    }
+
+    /// Puts each block with its owner behind those of a list.
+    ///
+    /// Errors: `AllocError` where a growth was refused.
+    pub fn push_to(&self, list: &mut Vec<(u64, Owner)>) -> Result<(), AllocError>
+        ensures { OnOk result (list.new.items ≡ list.old.items ++ self.now.items) }
+    {
+        push_pages(list, self.inode, &self.pages)?;
+        push_runs(list, self.inode, &self.runs)
+    }
+
+    /// The memory of the runs, for those of another inode.
+    pub(crate) fn into_runs(self) -> Vec<Extent> {
+        self.runs
+    }
+}
 
 /// All that the inodes of these rows claim, one row after the other: what their pieces gave when they were scanned, for a
 /// caller that kept no claims.
@@ -27,62 +87,31 @@ pub fn claims_of_rows(alloc: Global, rows: &[Row]) -> Result<Vec<(u64, Owner)>, 
     ensures { IfOk result (λ claims. (region : Region) (l : Layout) (pieces : List Piece) → AllByRecursion (IsPiece region l) pieces → rows.now ≡ rows_in pieces → claims.items ≡ claims_in pieces) }
 {
     let mut claims = Vec::new(alloc);
-    let mut room = Room::new(alloc);
+    let mut runs = Vec::new(alloc);
     for row in rows {
-        let own = claims_of(alloc, row.inode, &row.pages, &row.index, &mut room)?;
-        claims.extend_from_slice(&own)?;
-        room.claims = own;
+        let own = claims_of(alloc, row.inode, &row.pages, &row.index, &mut runs)?;
+        own.push_to(&mut claims)?;
+        runs = own.into_runs();
     }
     Ok(claims)
 }
 
-/// Memory that is kept from one inode to the next. What stands in it says nothing.
-#[derive(Drop)]
-pub(crate) struct Room {
-    /// For the runs of a file.
-    runs: Vec<Extent>,
-    /// For what an inode claims.
-    pub claims: Vec<(u64, Owner)>,
-}
-
-impl Room {
-    /// It takes no memory yet.
-    pub fn new(alloc: Global) -> Room {
-        Room {
-            runs: Vec::new(alloc),
-            claims: Vec::new(alloc),
-        }
-    }
-}
-
-/// First the pages of the inode's log, in their order, and then the blocks of its file, by page. They stand in the room's
-/// memory, which they take with them.
+/// What an inode claims, by the pages of its log and its file's index. Its runs stand in the memory of those given, which they
+/// take with them.
 pub(crate) fn claims_of(
     alloc: Global,
     inode: u64,
     pages: &[u64],
     index: &FileIndex,
-    room: &mut Room,
-) -> Result<Vec<(u64, Owner)>, AllocError>
+    room: &mut Vec<Extent>,
+) -> Result<Claims, AllocError>
     requires { AreSmall (block_at index.now) }
     ensures { IfOk result (λ claims. Lists (λ x. owner_key x.1) (IsClaim inode pages.now index.now) claims.items) }
 {
-    index.runs_into(&mut room.runs)?;
-    let mut claims = mem::replace(&mut room.claims, Vec::new(alloc));
-    claims.clear();
-    claims.reserve(count_claims(pages, &room.runs))?;
-    push_pages(&mut claims, inode, pages)?;
-    push_runs(&mut claims, inode, &room.runs)?;
-    Ok(claims)
-}
-
-/// How many blocks these are, so that room for their claims is taken once.
-fn count_claims(pages: &[u64], runs: &[Extent]) -> usize {
-    let mut count = pages.len();
-    for run in runs {
-        count = count.saturating_add(run.count as usize);
-    }
-    count
+    let mut runs = mem::replace(room, Vec::new(alloc));
+    index.runs_into(&mut runs)?;
+    let pages = LogPages::from_slice(alloc, pages)?;
+    Ok(Claims { inode, pages, runs })
 }
 
 fn push_pages(claims: &mut Vec<(u64, Owner)>, inode: u64, pages: &[u64]) -> Result<(), AllocError>

@@ -21,7 +21,7 @@ mod tickets;
 mod touching;
 mod working;
 
-pub use claims::claims_of_rows;
+pub use claims::{Claims, claims_of_rows};
 pub use laws::{
     directories_have_no_pages, files_have_no_names, in_use_by_the_slot, inode_alone,
     mapped_pages_begin_below_the_size, names_are_listed, one_block, one_inode,

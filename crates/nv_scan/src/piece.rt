@@ -1,9 +1,10 @@
 //! What a scan finds of one inode.
 
+use crate::claims::Claims;
 use crate::numbers::Numbers;
 use nv_names::NameIndex;
 use nv_radix::FileIndex;
-use nv_super::{Fault, Kind, Owner};
+use nv_super::{Fault, Kind};
 use smallvec::SmallVec;
 
 /// The blocks of a log's pages. Most logs have one page, and two take no memory of their own.
@@ -28,11 +29,11 @@ pub struct Row {
 }
 
 /// All that is found of one inode by itself: its row, if it is in use, the blocks that it claims, and its faults, each once
-/// and in no order. Each claim has its owner: first come the pages of the log in their order, then those of the file.
+/// and in no order.
 #[derive(Drop)]
 pub struct Piece {
     pub inode: u64,
     pub row: Option<Row>,
-    pub claims: Vec<(u64, Owner)>,
+    pub claims: Claims,
     pub faults: Vec<Fault>,
 }

@@ -14,7 +14,7 @@ ghost use Rattle.nv_scan.specs.Rows.{IsPiece};
 ghost use Rattle.nv_scan.specs.Scanned.{IsPieceOf, IsEmptyPiece, fault_of_end};
 ghost use Rattle.nv_scan.specs.Tickets.{IsBlank, IsFound, HasValidWord, number_at};
 
-use crate::claims::{Room, claims_of};
+use crate::claims::{Claims, claims_of};
 use crate::fold::{Fold, push_fault};
 use crate::in_use::InUse;
 use crate::piece::{LogPages, Piece, Row};
@@ -23,9 +23,9 @@ use crate::tickets::number_at;
 use crate::touching::{touch_block, touch_numbers};
 use nv_inode::{Slot, SlotState, nth_slot, read_slot};
 use nv_logpage::{LogEnd, LogFault, LogReader};
-use nv_radix::{ExtentMap, FileIndex};
+use nv_radix::{Extent, ExtentMap, FileIndex};
 use nv_region::Pmem;
-use nv_super::{Fault, Owner, Super};
+use nv_super::{Fault, Super};
 use std::alloc::{AllocError, Global};
 use std::marker::Model;
 
@@ -36,8 +36,8 @@ pub struct Scanner {
     alloc: Global,
     sup: Super,
     reader: Option<LogReader>,
-    // Kept from one inode to the next.
-    room: Room,
+    // Room for the runs of one file after another.
+    runs: Vec<Extent>,
     // What was touched last, which says nothing: it stands here so that it is loaded.
     touched: u64,
 }
@@ -64,7 +64,7 @@ impl Scanner {
             alloc,
             sup: *sup,
             reader: None,
-            room: Room::new(alloc),
+            runs: Vec::new(alloc),
             touched: 0,
         }
     }
@@ -104,7 +104,7 @@ impl Scanner {
                 memory,
                 &self.sup,
                 &mut self.reader,
-                &mut self.room,
+                &mut self.runs,
                 &InUse { inode, kind, slot },
             ),
         }
@@ -134,10 +134,10 @@ impl Scanner {
     }
 
     /// Takes back the claims of a piece that are of no more use: the next piece stands its own in their memory.
-    pub fn reuse(&mut self, claims: Vec<(u64, Owner)>)
+    pub fn reuse(&mut self, claims: Claims)
         ensures { self.new ≡ self.old }
     {
-        self.room.claims = claims;
+        self.runs = claims.into_runs();
     }
 }
 
@@ -180,7 +180,7 @@ fn scan_log<P: Pmem>(
     memory: &P,
     sup: &Super,
     reader: &mut Option<LogReader>,
-    room: &mut Room,
+    room: &mut Vec<Extent>,
     used: &InUse,
 ) -> Result<Piece, AllocError>
     requires layout { IsLayout sup.now }
@@ -244,7 +244,7 @@ fn fault_of_end(inode: u64, end: Option<LogEnd>) -> Option<Fault>
 /// The piece of an inode in use, with one fault more, if there is one.
 fn piece_of(
     alloc: Global,
-    room: &mut Room,
+    room: &mut Vec<Extent>,
     used: &InUse,
     pages: LogPages,
     mut fold: Fold,
@@ -269,13 +269,13 @@ fn piece_of(
 /// the others.
 fn closed(
     alloc: Global,
-    room: &mut Room,
+    room: &mut Vec<Extent>,
     inode: u64,
     pages: &[u64],
     extents: &ExtentMap,
     faults: &mut Vec<Fault>,
     fault: Option<Fault>,
-) -> Result<(FileIndex, Vec<(u64, Owner)>), AllocError>
+) -> Result<(FileIndex, Claims), AllocError>
     requires { AreSmall (block_by extents.now) }
     ensures index { IfOk result (λ r. (p : ℕ) → block_at r.0 p ≡ block_by extents.now p) }
     ensures claims { IfOk result (λ r. Lists (λ x. owner_key x.1) (IsClaim inode pages.now r.0) r.1.items) }
@@ -293,7 +293,7 @@ fn with_row(
     pages: LogPages,
     fold: Fold,
     index: FileIndex,
-    claims: Vec<(u64, Owner)>,
+    claims: Claims,
 ) -> Piece
     requires index { (p : ℕ) → block_at index p ≡ block_by fold.extents p }
     requires claims { Lists (λ x. owner_key x.1) (IsClaim used.now.inode pages.items index) claims.items }
@@ -332,7 +332,7 @@ fn without_row(alloc: Global, inode: u64, fault: Option<Fault>) -> Result<Piece,
     Ok(Piece {
         inode,
         row: None,
-        claims: Vec::new(alloc),
+        claims: Claims::new(alloc),
         faults,
     })
 }

@@ -8,7 +8,7 @@ use nv_claimmap::Claimed;
 use nv_names::Target;
 use nv_region::MemRegion;
 use nv_scan::{
-    NoGate, Numbers, Piece, Row, Scanner, directories_have_no_pages, files_have_no_names,
+    Claims, NoGate, Numbers, Piece, Row, Scanner, directories_have_no_pages, files_have_no_names,
     in_use_by_the_slot, inode_alone, mapped_pages_begin_below_the_size, names_are_listed,
     one_block, one_inode, owned_blocks_are_data_blocks, scan_slot, ticket_count,
     tickets_are_table_blocks, worker,
@@ -29,8 +29,10 @@ const ADD: u64 = 4297064707;
 
 const REMOVE: u64 = 4297064963;
 
-fn assert_claims(rt: &impl Abort, piece: &Piece, owned: &[(u64, Owner)]) {
-    assert!(rt; piece.claims.as_slice() == owned);
+fn assert_claims(rt: &impl Abort, alloc: Global, claims: &Claims, owned: &[(u64, Owner)]) {
+    let mut listed = Vec::new(alloc);
+    let is_listed = claims.push_to(&mut listed).is_ok();
+    assert!(rt; is_listed && listed.as_slice() == owned);
 }
 
 /// The target of the name in the piece's row.
@@ -246,10 +248,10 @@ fn assert_wanted(rt: &impl Abort, row: Option<&Row>, wanted: Wanted) {
     }
 }
 
-fn assert_piece(rt: &impl Abort, piece: &Piece, scanned: &Scanned<'_>) {
+fn assert_piece(rt: &impl Abort, alloc: Global, piece: &Piece, scanned: &Scanned<'_>) {
     let (_, faults, claims, wanted) = *scanned;
     assert!(rt; piece.faults.as_slice() == faults);
-    assert_claims(rt, piece, claims);
+    assert_claims(rt, alloc, &piece.claims, claims);
     assert_wanted(rt, piece.row.as_ref(), wanted);
     assert_names(rt, piece, wanted);
 }
@@ -264,7 +266,7 @@ fn is_scanned_in(
     requires { HasBlocks memory.now.region 16 }
 {
     let piece = scan_slot(alloc, memory, &SMALL, 1)?;
-    assert_piece(rt, &piece, scanned);
+    assert_piece(rt, alloc, &piece, scanned);
     Ok(())
 }
 
@@ -281,9 +283,10 @@ fn a_slot_is_told_with_its_log(rt: HostRuntime) -> Result<(), Fail> {
     Ok(())
 }
 
-/// A scanner reads the log of inode 2.
+/// A scanner reads the log of inode 2, and takes the claims back.
 fn reads_second(
     rt: &impl Abort,
+    alloc: Global,
     scanner: &mut Scanner,
     memory: &MemRegion,
 ) -> Result<(), AllocError>
@@ -292,7 +295,8 @@ fn reads_second(
     ensures { scanner.new ≡ scanner.old }
 {
     let piece = scanner.scan(memory, 2)?;
-    assert_claims(rt, &piece, &OWNED_BY_FILE);
+    assert_claims(rt, alloc, &piece.claims, &OWNED_BY_FILE);
+    scanner.reuse(piece.claims);
     Ok(())
 }
 
@@ -313,12 +317,17 @@ fn told_at(scanner: &mut Scanner, memory: &MemRegion, place: u64) -> Result<Opti
 }
 
 /// One log is read twice, and of the slots those in use are told.
-fn reads_again(rt: &impl Abort, scanner: &mut Scanner, memory: &MemRegion) -> Result<(), AllocError>
+fn reads_again(
+    rt: &impl Abort,
+    alloc: Global,
+    scanner: &mut Scanner,
+    memory: &MemRegion,
+) -> Result<(), AllocError>
     requires scanner { scanner.old ≡ SMALL }
     requires blocks { HasBlocks memory.now.region 16 }
 {
-    reads_second(rt, scanner, memory)?;
-    reads_second(rt, scanner, memory)?;
+    reads_second(rt, alloc, scanner, memory)?;
+    reads_second(rt, alloc, scanner, memory)?;
     let told = [
         told_at(scanner, memory, 0)?,
         told_at(scanner, memory, 2)?,
@@ -332,7 +341,7 @@ fn reads_with_one(rt: &impl Abort, alloc: Global, memory: &MemRegion) -> Result<
     requires { HasBlocks memory.now.region 16 }
 {
     let mut scanner = Scanner::new(alloc, &SMALL);
-    reads_again(rt, &mut scanner, memory)
+    reads_again(rt, alloc, &mut scanner, memory)
 }
 
 #[test]

@@ -1,9 +1,8 @@
-use Rattle.std.proofs.Common.{◌≡◌, ◌+◌, ◌-◌, ◌++◌, ◌∷◌, [], ℕ, List, refl, ap, ◌∙◌, arith, sym, subst}
-use Rattle.std.specs.Prelude.{Vec}
-use Rattle.std.specs.declared.alloc.Global.{Global}
+use Rattle.std.proofs.Common.{◌≡◌, ◌+◌, ◌-◌, ◌++◌, ◌∷◌, [], ℕ, List, refl, ◌∙◌, arith, subst}
 use Rattle.nv_super.specs.declared.superblock.Super.{Super}
 use Rattle.nv_super.specs.declared.owners.Owner.{Owner}
 use Rattle.nv_super.specs.Layout.{inode_limit}
+use Rattle.nv_scan.specs.ClaimList.{ClaimList}
 use Rattle.nv_scan.specs.Work.{claims_in}
 use Rattle.nv_outcome.specs.Parts.{AreMaps}
 use Rattle.nv_recover.specs.Scanned.{AreWithin, IsNext}
@@ -24,8 +23,8 @@ pub claim_all-requires : goal.claim_all-requires
 claim_all-requires g c =
     let l = c.loop-inode in
     let next = subst (λ (s : Super). IsNext (g.P.Pmem.region c.args.memory.now) s l.inode l.inodes c.scan_next.new.inodes c.in_ok-claims.claims) l.invariant.same c.in_ok-claims.ensures.next in
-    let claims : c.deref.result.now ≡ next.piece.claims.items = c.deref.ensures.value ∙ ap (λ (v : Vec (ℕ × Owner) Global). v.items) (sym next.claims_are) in
-    record { within = within_cover c.args.sup.now.blocks c.deref.result.now _ _ (subst (AreWithin c.args.sup.now) (sym claims) (piece_within (g.P.Pmem.region c.args.memory.now) c.args.sup.now next.piece next.is)) l.invariant.cover.0 l.invariant.cover.1 }
+    let claims = c.in_ok-claims.claims in
+    record { within = within_cover c.args.sup.now.blocks claims.items _ _ (subst (λ (x : ClaimList). AreWithin c.args.sup.now x.items) next.claims_are (piece_within (g.P.Pmem.region c.args.memory.now) c.args.sup.now next.piece next.is)) l.invariant.cover.0 l.invariant.cover.1 }
 
 pub loop-inode-preserved : goal.loop-inode-preserved
 loop-inode-preserved g c =
@@ -39,7 +38,7 @@ loop-inode-preserved g c =
       first = (
         pieces ++ next.piece ∷ [],
         first_more (omega (arith, l.auto.inode)) l.invariant.first.1 next,
-        subst (λ (claims : List (ℕ × Owner)). AreMaps claims c.claim_all.new.self.first.items c.claim_all.new.self.second.items) (claims_one_more pieces next.piece refl next.claims_are c.deref.ensures.value refl)
+        subst (λ (claims : List (ℕ × Owner)). AreMaps claims c.claim_all.new.self.first.items c.claim_all.new.self.second.items) (claims_one_more pieces next.piece refl next.claims_are refl refl)
             (c.claim_all.ensures.maps (claims_in pieces) l.invariant.first.2),
       );
       cover = (omega (arith, long.0, cover.0), omega (arith, long.1, cover.1));

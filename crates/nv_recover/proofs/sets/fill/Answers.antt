@@ -1,27 +1,24 @@
-use Rattle.std.proofs.Common.{List, ℕ, refl, ap, ◌∙◌, ◌++◌, length, subst, sym, append-nil}
-use Rattle.std.proofs.lemmas.List.{take_all}
-use Rattle.nv_blockset.proofs.Sets.{with_block_long}
-use Rattle.nv_super.specs.declared.owners.Owner.{Owner}
-use Rattle.nv_outcome.specs.Parts.{AreMaps}
-use Rattle.nv_recover.proofs.TwoSets.{second_after_long, maps_next}
+use Rattle.std.proofs.Common.{◌++◌, ◌∙◌}
+use Rattle.nv_scan.specs.Claims.{log_claims, data_claims}
+use Rattle.nv_scan.proofs.Runs.{claims_split}
+use Rattle.nv_recover.proofs.MadeMaps.{Fits, fits_as_long}
+use Rattle.nv_recover.proofs.TwoSets.{maps_on}
 use Rattle.nv_recover.proofs.sets.fill.Goals as goal
 
-pub loop-block-init : goal.loop-block-init
-loop-block-init c = record {
-  first_long = refl;
-  second_long = refl;
-  maps = λ before maps. subst (λ (claims : List (ℕ × Owner)). AreMaps claims c.args.first.now c.args.second.now) (sym (append-nil before)) maps;
-}
+pub fill_pages-requires : goal.fill_pages-requires
+fill_pages-requires c = record { within = (claims_split (Fits c.args.first.now c.args.second.now) c.parts-inode.result.0 c.args.claims.now.items c.parts-inode.result.1.now c.parts-inode.result.2.now c.parts-inode.ensures.claims c.requires.within).0 }
 
-pub loop-block-preserved : goal.loop-block-preserved
-loop-block-preserved c = let l = c.loop-block in let claimed = c.claim.ensures in record {
-  first_long = ap length claimed.first ∙ (with_block_long l.first _ ∙ l.invariant.first_long);
-  second_long = ap length claimed.second ∙ (second_after_long l.first l.second _ ∙ l.invariant.second_long);
-  maps = λ before maps. maps_next before c.args.claims.now l.block-index _ l.first l.second c.claim.new.first c.claim.new.second _ _ c.loop-block-test.true l.invariant.first_long l.invariant.second_long c.requires.within (l.invariant.maps before maps) claimed.first claimed.second;
+pub fill_runs-requires : goal.fill_runs-requires
+fill_runs-requires c = record {
+  within = fits_as_long (data_claims c.parts-inode.result.0 c.parts-inode.result.2.now) c.args.first.now c.args.second.now c.fill_pages.new.first c.fill_pages.new.second c.fill_pages.ensures.as_long
+      (claims_split (Fits c.args.first.now c.args.second.now) c.parts-inode.result.0 c.args.claims.now.items c.parts-inode.result.1.now c.parts-inode.result.2.now c.parts-inode.ensures.claims c.requires.within).1;
+  small = c.parts-inode.ensures.small;
 }
 
 pub returns : goal.returns
-returns c = let l = c.loop-block in record {
-  maps = λ before maps. subst (λ (claims : List (ℕ × Owner)). AreMaps (before ++ claims) l.first l.second) (take_all l.block-index c.args.claims.now c.loop-block-test.false) (l.invariant.maps before maps);
-  as_long = (l.invariant.first_long, l.invariant.second_long);
-}
+returns c =
+    let log = log_claims c.parts-inode.result.0 0 c.parts-inode.result.1.now in
+    let file = data_claims c.parts-inode.result.0 c.parts-inode.result.2.now in record {
+      maps = λ before maps. maps_on before log file c.args.claims.now.items c.parts-inode.ensures.claims (c.fill_runs.ensures.maps (before ++ log) (c.fill_pages.ensures.maps before maps));
+      as_long = (c.fill_runs.ensures.as_long.0 ∙ c.fill_pages.ensures.as_long.0, c.fill_runs.ensures.as_long.1 ∙ c.fill_pages.ensures.as_long.1);
+    }

@@ -5,10 +5,8 @@ use Rattle.std.specs.List.{All}
 use Rattle.nv_region.specs.Region.{Region}
 use Rattle.nv_super.specs.Layout.{fixed_layout}
 use Rattle.nv_super.specs.declared.superblock.Super.{Super}
-use Rattle.nv_super.specs.declared.owners.Owner.{Owner}
 use Rattle.nv_super.specs.declared.faults.Fault.{Fault}
 use Rattle.nv_claimmap.specs.nv_claimcore.declared.view.View.{View}
-use Rattle.nv_claimmap.specs.nv_claimcore.Spans.{Adds}
 use Rattle.nv_claimmap.specs.Held.{Held}
 use Rattle.nv_scan.specs.Claiming.{IsClaimable}
 use Rattle.nv_scan.specs.Tickets.{number_at, IsFound}
@@ -33,7 +31,7 @@ claim_all-requires-clause-each g c =
     let piece = c.in-Some.piece in
     let found = subst (λ (o : Option Piece). IsFound R s (number_at s m) o) c.in-Some.is (subst (λ (x : Super). IsFound R x (number_at x m) c.in_ok-piece.field-0) c.loop-slot.invariant.scanner c.in_ok-piece.ensures.found) in
     let each = claims_fit R (fixed_layout s) piece.inode piece.claims.items found.2.claims in
-    subst (λ (n : ℕ). All (IsClaimable n) c.deref.result.now) (sym c.requires.sizes) (subst (All (IsClaimable _)) (sym c.deref.ensures.value) each)
+    subst (λ (n : ℕ). All (IsClaimable n) piece.claims.items) (sym c.requires.sizes) each
 
 pub loop-slot-preserved : goal.loop-slot-preserved
 loop-slot-preserved g c =
@@ -48,9 +46,8 @@ loop-slot-preserved g c =
     let found = subst (λ (x : Super). IsFound R x (number_at x (32 * t + k)) c.in_ok-piece.field-0) l.scanner c.in_ok-piece.ensures.found in
     elim c.match-branch-2.branch [
       | in-Some+in_ok-claim_all+in_ok-keep w ↦ (
-          let adds = subst (λ (ps : List (ℕ × Owner)). Adds ps c.loop-slot.seat.view w.claim_all.new.seat.view) w.deref.ensures.value w.in_ok-claim_all.ensures.ok in
-          let done = slot_kept t k (32 * t + k) w.in-Some.piece refl (subst (λ (o : Option Piece). IsFound R s (number_at s (32 * t + k)) o) w.in-Some.is found) l.done adds w.in_ok-keep.ensures.rows
-          (w.in_ok-keep.ensures.faults ∙ ap (λ (fs : List Fault). c.loop-slot.faults.items ++ fs) w.deref-in-Some.ensures.value) in
+          let done = slot_kept t k (32 * t + k) w.in-Some.piece refl (subst (λ (o : Option Piece). IsFound R s (number_at s (32 * t + k)) o) w.in-Some.is found) l.done w.in_ok-claim_all.ensures.ok w.in_ok-keep.ensures.rows
+          (w.in_ok-keep.ensures.faults ∙ ap (λ (fs : List Fault). c.loop-slot.faults.items ++ fs) w.deref.ensures.value) in
           record {
             scanner = w.scanner-is ∙ w.reuse.ensures ∙ c.scan_place.ensures.same ∙ l.scanner;
             map = ap (λ (h : Held). h.map) w.seat-is ∙ w.claim_all.ensures.same.0 ∙ l.map;

@@ -3,7 +3,7 @@ use Rattle.nv_recover.proofs.MadeMaps.{length_back, maps_back, maps_same, within
 use Rattle.nv_recover.proofs.sets.Sets.claim_all.Goals as goal
 
 pub fill-requires : goal.fill-requires
-fill-requires c = record { within = within_same c.args.claims.now c.deref_mut.ensures.value c.deref_mut-2.ensures.value c.requires.within }
+fill-requires c = record { within = within_same c.args.claims.now.items c.deref_mut.ensures.value c.deref_mut-2.ensures.value c.requires.within }
 
 pub returns : goal.returns
 returns c =
