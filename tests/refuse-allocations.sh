@@ -5,10 +5,10 @@
 # of them.
 #
 # Two threads make the allocations of the recoveries by workers, the last two, in an order that differs from run to run. It
-# takes half an hour and more on a machine with other work.
+# takes ten minutes.
 set -u
 source "$(dirname "${BASH_SOURCE[0]}")/refusing.sh"
-refuse_each recoveries 720
+refuse_each recoveries 334
 
 mapfile -t whole < <(head -n 7 stdout)
 wanted=()

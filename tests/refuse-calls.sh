@@ -4,10 +4,10 @@
 # done; all were, one of them at its second try, since the first was refused memory and changed nothing; or memory was
 # refused outside of them.
 #
-# It takes half an hour and more on a machine with other work: 4 s a run.
+# It takes five minutes.
 set -u
 source "$(dirname "${BASH_SOURCE[0]}")/refusing.sh"
-runs=520
+runs=131
 refuse_each calls $runs
 
 mapfile -t whole < <(tail -n 2 stdout)

@@ -288,13 +288,7 @@ fn closed(
 }
 
 /// Puts a piece together.
-fn with_row(
-    used: &InUse,
-    pages: LogPages,
-    fold: Fold,
-    index: FileIndex,
-    claims: Claims,
-) -> Piece
+fn with_row(used: &InUse, pages: LogPages, fold: Fold, index: FileIndex, claims: Claims) -> Piece
     requires index { (p : ℕ) → block_at index p ≡ block_by fold.extents p }
     requires claims { Lists (λ x. owner_key x.1) (IsClaim used.now.inode pages.items index) claims.items }
     ensures { IsPieceOf used.now.inode used.now.kind used.now.slot pages.items fold None result }
