@@ -15,7 +15,8 @@ if [ $# -lt 1 ] || [ ! -f "$1/Cargo.toml" ]; then
     exit 2
 fi
 rounds=${2:-5}
-export MALLOC_TRIM_THRESHOLD_=1073741824 MALLOC_MMAP_THRESHOLD_=1073741824
+# 32 MiB is the most that the C library takes as the second.
+export MALLOC_TRIM_THRESHOLD_=1073741824 MALLOC_MMAP_THRESHOLD_=33554432
 folder=$(mktemp -d)
 trap 'rm -rf "$folder"' EXIT
 (cd "$1" && CARGO_TARGET_DIR=$folder/peer cargo build --release --offline -q)
