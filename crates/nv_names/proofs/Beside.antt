@@ -1,11 +1,11 @@
--- The tree of a table and the list beside it, through the calls of the table.
+-- The buckets of a table and the list beside it, through the calls of the table.
 use Rattle.std.proofs.Common.{◌≡◌, ℕ, Bool, true, false, cond, not, nat_eq, List, [], ◌∷◌, ◌++◌, map, Option, Some, None, IsSome, Vec, refl, sym, ap, subst, ◌∙◌, append_assoc}
 use Rattle.std.specs.declared.alloc.Global.{Global}
 use Rattle.std.specs.List.{IsDistinct, AllByRecursion, filter}
 use Rattle.std.specs.List.Sorted.{IsStrictlySortedBy}
 use Rattle.std.specs.Option.{option_or}
 use Rattle.std.specs.declared.cmp.Ordering.TheVariants.{Less}
-use Rattle.std.specs.Ordering.{nat_cmp, is_eq}
+use Rattle.std.specs.Ordering.{is_eq}
 use Rattle.std.specs.Map.{keys_of}
 use Rattle.std.specs.Cmp.Lexicographic.{pointwise, nat_list_eq_equiv, texts_ties, bytes_decides}
 use Rattle.std.proofs.lemmas.Map.Keys.{IsDistinct-head, IsDistinct-tail, IsDistinct-cons, sorted_head, sorted_tail}
@@ -14,7 +14,7 @@ use Rattle.nv_names.specs.declared.target.Target.{Target}
 use Rattle.nv_names.specs.Keys.{key_of}
 use Rattle.nv_names.specs.Names.{found_in, names_of}
 use Rattle.nv_names.specs.Table.{fresh_line, PutsAt, FindSame, AreApart, AreBeside}
-use Rattle.nv_names.specs.Tree.{first_line, other_line}
+use Rattle.nv_names.specs.Bucket.{first_line, other_line}
 use Rattle.nv_names.proofs.Entries.{by_bytes, found_in-append}
 use Rattle.nv_names.proofs.First.{Entry, Keyed, other_names}
 use Rattle.nv_names.proofs.Listing.{each_found}
@@ -112,12 +112,12 @@ second_lacks a d name v apart found = decide (found_in d name) refl
     decide None is = refl
     decide (Some w) is = some_is_none (sym found ∙ apart name (subst IsSome (sym is) refl))
 
--- the names of a list beside the tree
+-- the names of a list beside the bucket
 names_of-fresh : (fs : List (List ℕ × Target)) → names_of (map fresh_line fs) ≡ keys_of fs
 names_of-fresh [] = refl
 names_of-fresh (f ∷ fs) = ap (λ ks. f.0 ∷ ks) (names_of-fresh fs)
 
--- a tree and the list beside it stay so where a name is taken out of both
+-- a bucket and the list beside it stay so where a name is taken out of both
 pub AreBeside-removed : (a b : List (List ℕ × ℕ × ℕ)) (fs : List (List ℕ × Target)) (name : List ℕ) → AreBeside a (map fresh_line fs)
     → PutsAt a b name None → PutsAt (map fresh_line fs) (map fresh_line (filter (λ e. not (pointwise nat_eq e.0 name)) fs)) name None
     → AreBeside b (map fresh_line (filter (λ e. not (pointwise nat_eq e.0 name)) fs))
@@ -196,7 +196,7 @@ PutsAt-pushed a b x none q = ap (λ es. found_in es q) (sym (append_assoc a b (x
     decide true is = ap (λ o. option_or o (Some (x.1, x.2))) (ap (found_in (a ++ b)) ((bytes_decides q x.0).0 is) ∙ none)
     decide false is = option_or-None (found_in (a ++ b) q)
 
--- and the list still stands beside the tree
+-- and the list still stands beside the bucket
 pub AreBeside-pushed : (a b : List (List ℕ × ℕ × ℕ)) (x : List ℕ × ℕ × ℕ) → AreBeside a b → found_in a x.0 ≡ None → found_in b x.0 ≡ None → AreBeside a (b ++ x ∷ [])
 AreBeside-pushed a b x beside first second = record {
   once = distinct-push b x beside.once second;
@@ -207,7 +207,7 @@ AreBeside-pushed a b x beside first second = record {
     decide q true is some = ap (found_in a) ((bytes_decides q x.0).0 is) ∙ first
     decide q false is some = beside.apart q (subst IsSome (found_in-push b x q ∙ ap (λ c. option_or (found_in b q) (cond c (Some (x.1, x.2)) None)) is ∙ option_or-None (found_in b q)) some)
 
--- the last name of the list moves into the tree
+-- the last name of the list moves into the bucket
 pub moved : (a d b : List (List ℕ × ℕ × ℕ)) (x : List ℕ × ℕ × ℕ) → AreBeside a (b ++ x ∷ []) → PutsAt a d x.0 (Some (x.1, x.2)) → AreBeside d b × FindSame (a ++ (b ++ x ∷ [])) (d ++ b)
 moved a d b x beside puts = (
   record { once = front.0; apart = λ q some. without q (pointwise nat_eq q x.0) refl some },
@@ -254,18 +254,18 @@ distinct-others [] sorted = tt
 distinct-others (e ∷ es) sorted =
     IsDistinct-cons (pointwise nat_eq) e.0.items (names_of (map other_line es)) (all_apart e.0 es (sorted_head by_bytes e.0 (keys_of es) sorted)) (distinct-others es (sorted_tail by_bytes e.0 (keys_of es) sorted))
 
--- the names of keys that rise are apart
-keys_apart : (e : Entry) (es : List Entry) → e.0 ≡ key_of e.1.0 → Keyed es → AllByRecursion (λ y. nat_cmp e.0 y ≡ Less) (keys_of es) → AllByRecursion (λ y. pointwise nat_eq e.1.0 y ≡ false) (names_of (map first_line es))
+-- the names of different keys are apart
+keys_apart : (e : Entry) (es : List Entry) → e.0 ≡ key_of e.1.0 → Keyed es → AllByRecursion (λ y. nat_eq e.0 y ≡ false) (keys_of es) → AllByRecursion (λ y. pointwise nat_eq e.1.0 y ≡ false) (names_of (map first_line es))
 keys_apart e [] is keyed all = tt
-keys_apart e (x ∷ xs) is keyed all = (other_names e x is keyed.0 (ap is_eq all.0), keys_apart e xs is keyed.1 all.1)
+keys_apart e (x ∷ xs) is keyed all = (other_names e x is keyed.0 all.0, keys_apart e xs is keyed.1 all.1)
 
 -- so no name is there twice
-pub distinct-first : (es : List Entry) → Keyed es → IsStrictlySortedBy nat_cmp (keys_of es) → IsDistinct (pointwise nat_eq) (names_of (map first_line es))
+pub distinct-first : (es : List Entry) → Keyed es → IsDistinct nat_eq (keys_of es) → IsDistinct (pointwise nat_eq) (names_of (map first_line es))
 unfolding IsDistinct
-distinct-first [] keyed sorted = tt
-distinct-first (e ∷ es) keyed sorted =
-    IsDistinct-cons (pointwise nat_eq) e.1.0 (names_of (map first_line es)) (keys_apart e es keyed.0 keyed.1 (sorted_head nat_cmp e.0 (keys_of es) sorted))
-    (distinct-first es keyed.1 (sorted_tail nat_cmp e.0 (keys_of es) sorted))
+distinct-first [] keyed once = tt
+distinct-first (e ∷ es) keyed once =
+    IsDistinct-cons (pointwise nat_eq) e.1.0 (names_of (map first_line es)) (keys_apart e es keyed.0 keyed.1 (IsDistinct-head nat_eq e.0 (keys_of es) once))
+    (distinct-first es keyed.1 (IsDistinct-tail nat_eq e.0 (keys_of es) once))
 
 -- no name is twice in two lists together that stand apart
 pub distinct-both : (a b : List (List ℕ × ℕ × ℕ)) → IsDistinct (pointwise nat_eq) (names_of a) → IsDistinct (pointwise nat_eq) (names_of b) → AreApart a b → IsDistinct (pointwise nat_eq) (names_of (a ++ b))

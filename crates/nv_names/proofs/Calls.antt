@@ -1,4 +1,4 @@
--- What the calls of a table make of its tree and of the list beside it.
+-- What the calls of a table make of its buckets and of the list beside it.
 use Rattle.std.proofs.Common.{◌≡◌, ℕ, cond, not, nat_eq, zero, suc, List, [], ◌∷◌, ◌++◌, ◌+◌, ◌-◌, length, take, slice_get, map, Option, Some, None, sym, ap, subst, ◌∙◌, arith}
 use Rattle.std.specs.List.{IsDistinct, filter}
 use Rattle.std.specs.Option.{option_or}
@@ -15,36 +15,36 @@ use Rattle.nv_names.proofs.Beside.{option_or-None, PutsAt-twice, PutsAt-after, P
 some_is_none : {X : Type 0} {x : X} → Some x ≡ None → ⊥
 some_is_none e = cc
 
--- no name is beside the tree
-pub none_beside : (tree : List (List ℕ × ℕ × ℕ)) (fs : List (List ℕ × Target)) → fs ≡ [] → AreBeside tree (map fresh_line fs)
+-- no name is beside the bucket
+pub none_beside : (bucket : List (List ℕ × ℕ × ℕ)) (fs : List (List ℕ × Target)) → fs ≡ [] → AreBeside bucket (map fresh_line fs)
 unfolding IsDistinct
-none_beside tree fs none = subst (λ gs. AreBeside tree (map fresh_line gs)) (sym none) (record { once = tt; apart = λ q some. absurd (cc) })
+none_beside bucket fs none = subst (λ gs. AreBeside bucket (map fresh_line gs)) (sym none) (record { once = tt; apart = λ q some. absurd (cc) })
 
--- The name is taken out of the tree and of the list.
+-- The name is taken out of the bucket and of the list.
 pub record Gone (a b : List (List ℕ × ℕ × ℕ)) (fs fn : List (List ℕ × Target)) (name : List ℕ) : Type 0 where
-  pub tree : PutsAt a b name None
+  pub bucket : PutsAt a b name None
   pub fresh : PutsAt (map fresh_line fs) (map fresh_line fn) name None
   pub beside : AreBeside b (map fresh_line fn)
 
 pub gone : (a b : List (List ℕ × ℕ × ℕ)) (fs fn : List (List ℕ × Target)) (name : List ℕ) → AreBeside a (map fresh_line fs)
     → PutsAt a b name None → fn ≡ filter (λ e. not (pointwise nat_eq e.0 name)) fs → Gone a b fs fn name
-gone a b fs fn name beside tree filtered = record {
-  tree = tree;
+gone a b fs fn name beside bucket filtered = record {
+  bucket = bucket;
   fresh = rw filtered (fresh-removed fs name);
-  beside = rw filtered (AreBeside-removed a b fs name beside tree (fresh-removed fs name));
+  beside = rw filtered (AreBeside-removed a b fs name beside bucket (fresh-removed fs name));
 }
 
 -- a name is taken out
 pub puts_none : (a b : List (List ℕ × ℕ × ℕ)) (fs fn : List (List ℕ × Target)) (name : List ℕ) → Gone a b fs fn name
     → PutsAt (a ++ map fresh_line fs) (b ++ map fresh_line fn) name None
-puts_none a b fs fn name g = PutsAt-both a b (map fresh_line fs) (map fresh_line fn) name None g.tree g.fresh
+puts_none a b fs fn name g = PutsAt-both a b (map fresh_line fs) (map fresh_line fn) name None g.bucket g.fresh
 
 -- a name that was taken out is put at the end of the list
 pub beside_added : (a b : List (List ℕ × ℕ × ℕ)) (fs fn fa : List (List ℕ × Target)) (name n : List ℕ) (t : Target) → Gone a b fs fn name → n ≡ name → fa ≡ fn ++ (n, t) ∷ []
     → AreBeside b (map fresh_line fa)
 beside_added a b fs fn fa name n t g is made =
     rw (made, map-append fresh_line fn ((n, t) ∷ []), is)
-    (AreBeside-pushed b (map fresh_line fn) (name, t.inode, t.place) g.beside (found_here _ _ name None g.tree) (found_here _ _ name None g.fresh))
+    (AreBeside-pushed b (map fresh_line fn) (name, t.inode, t.place) g.beside (found_here _ _ name None g.bucket) (found_here _ _ name None g.fresh))
 
 -- which gives it its meaning
 pub puts_added : (a b : List (List ℕ × ℕ × ℕ)) (fs fn fa : List (List ℕ × Target)) (name n : List ℕ) (t : Target) → Gone a b fs fn name → n ≡ name → fa ≡ fn ++ (n, t) ∷ []
@@ -62,11 +62,11 @@ front_last (x ∷ []) zero e len at = let it : x ≡ e = cc in ap (λ y. y ∷ [
 front_last (x ∷ y ∷ ys) zero e len at = absurd (omega (arith, len))
 front_last (x ∷ xs) (suc k) e len at = ap (λ ys. x ∷ ys) (front_last xs k e (omega (arith, len)) at)
 
--- the tree may find the same by other means
+-- the bucket may find the same by other means
 pub AreBeside-same : (a b : List (List ℕ × ℕ × ℕ)) (fs : List (List ℕ × Target)) → FindSame a b → AreBeside a (map fresh_line fs) → AreBeside b (map fresh_line fs)
 AreBeside-same a b fs same beside = record { once = beside.once; apart = AreApart-same a b (map fresh_line fs) same beside.apart }
 
--- the last name of the list is put into the tree
+-- the last name of the list is put into the bucket
 pub last_settled : (a b : List (List ℕ × ℕ × ℕ)) (fs gs : List (List ℕ × Target)) (e : List ℕ × Target) → slice_get fs (length fs - 1) ≡ Some e → gs ≡ take (length fs - 1) fs → AreBeside a (map fresh_line fs)
     → PutsAt a b e.0 (Some (inode_and_place e.1)) → AreBeside b (map fresh_line gs) × FindSame (a ++ map fresh_line fs) (b ++ map fresh_line gs)
 last_settled a b fs gs e last rest beside puts =
@@ -79,7 +79,7 @@ last_settled a b fs gs e last rest beside puts =
     lines = ap (map fresh_line) (front_last fs (length fs - 1) e (let within = slice_get_within fs (length fs - 1) e last in omega (arith, within)) last)
         ∙ map-append fresh_line (take (length fs - 1) fs) (e ∷ [])
 
--- a name is put into the tree once the list is empty
+-- a name is put into the bucket once the list is empty
 pub puts_settled : (a b d : List (List ℕ × ℕ × ℕ)) (fs : List (List ℕ × Target)) (name : List ℕ) (w : Option (ℕ × ℕ)) → FindSame a (b ++ map fresh_line fs) → fs ≡ [] → PutsAt b d name w
     → PutsAt a (d ++ map fresh_line fs) name w
 puts_settled a b d fs name w same none puts = PutsAt-after a (b ++ map fresh_line fs) (d ++ map fresh_line fs) name w same (λ q. alone d q ∙ puts q ∙ ap (cond (pointwise nat_eq q name) w) (sym (alone b q)))

@@ -1,4 +1,4 @@
--- What a list of names finds, through a change of the others of a tree or of the list beside it.
+-- What a list of names finds, through a change of the others of a bucket or of the list beside it.
 use Rattle.std.proofs.Common.{◌≡◌, ℕ, Bool, true, false, cond, not, nat_eq, List, [], ◌∷◌, ◌++◌, map, Option, Some, None, is_some, Vec, refl, sym, ap, ◌∙◌}
 use Rattle.std.specs.declared.alloc.Global.{Global}
 use Rattle.std.specs.declared.cmp.Ordering.{Ordering}
@@ -12,7 +12,7 @@ use Rattle.std.specs.Cmp.Lexicographic.{pointwise, slice_cmp, nat_list_eq_equiv,
 use Rattle.nv_names.specs.declared.target.Target.{Target}
 use Rattle.nv_names.specs.Names.{found_in, inode_and_place}
 use Rattle.nv_names.specs.Table.{fresh_line, PutsAt}
-use Rattle.nv_names.specs.Tree.{other_line}
+use Rattle.nv_names.specs.Bucket.{other_line}
 
 -- the order of the others
 abbrev pub by_bytes : Vec ℕ Global → Vec ℕ Global → Ordering
@@ -106,7 +106,7 @@ other_taken es en name made none q = decide (pointwise nat_eq q name) refl
     decide true is = ap (found_in (map other_line en)) ((bytes_decides q name).0 is) ∙ found_other en name ∙ ap (option_map inode_and_place) none
     decide false is = ap (λ ns. found_in (map other_line ns) q) made ∙ others_stay es name q is
 
--- what the list beside the tree finds after a name was taken out of it
+-- what the list beside the bucket finds after a name was taken out of it
 pub fresh-removed : (fs : List (List ℕ × Target)) (name : List ℕ) → PutsAt (map fresh_line fs) (map fresh_line (filter (λ e. not (pointwise nat_eq e.0 name)) fs)) name None
 fresh-removed [] name q = choose (pointwise nat_eq q name)
   where

@@ -2,7 +2,7 @@ pub mod Beside
 pub mod Calls
 pub mod Entries
 pub mod First
-pub mod Forests
+pub mod Choosing
 pub mod Listing
 pub mod Spreads
-pub mod Trees
+pub mod Keeping

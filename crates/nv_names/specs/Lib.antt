@@ -1,5 +1,5 @@
-pub mod Forest
+pub mod Buckets
 pub mod Keys
 pub mod Names
 pub mod Table
-pub mod Tree
+pub mod Bucket

@@ -1,4 +1,4 @@
-//! The names beside the tree: a list of the few that were added since room was last made.
+//! The names beside the buckets: a list of the few that were added since room was last made.
 
 ghost use Rattle.std.specs.Prelude.{◌≡◌, ◌≤◌, ◌++◌, [], map, not, OnOk, nat_eq};
 ghost use Rattle.std.specs.List.{filter};
@@ -8,7 +8,7 @@ ghost use Rattle.std.specs.Vec.{vec_len, vec_capacity};
 ghost use Rattle.nv_names.specs.Names.{found_in, inode_and_place, line_of};
 ghost use Rattle.nv_names.specs.Table.{fresh_line, FindSame, AreBeside};
 
-use crate::forest::Forest;
+use crate::buckets::Buckets;
 use crate::name::Name;
 use crate::{Named, Target};
 use std::alloc::{AllocError, Global};
@@ -47,24 +47,24 @@ fn is_other(entry: &Fresh, name: &[u8]) -> bool
     entry.0.as_bytes() != name
 }
 
-/// Moves the names of a list into the tree that it stands beside, the last one first. An error leaves the names that both
+/// Moves the names of a list into the buckets that it stands beside, the last one first. An error leaves the names that both
 /// have together.
 ///
-/// A name is let go only once the tree has it. So it is never moved as a value, which has room for the longest name.
+/// A name is let go only once a bucket has it. So it is never moved as a value, which has room for the longest name.
 pub(crate) fn settle(
     alloc: Global,
-    tree: &mut Forest,
+    buckets: &mut Buckets,
     fresh: &mut Vec<Fresh>,
 ) -> Result<(), AllocError>
-    requires { AreBeside tree.old (map fresh_line fresh.old.items) }
-    ensures beside { AreBeside tree.new (map fresh_line fresh.new.items) }
-    ensures names { FindSame (tree.old ++ map fresh_line fresh.old.items) (tree.new ++ map fresh_line fresh.new.items) }
+    requires { AreBeside buckets.old (map fresh_line fresh.old.items) }
+    ensures beside { AreBeside buckets.new (map fresh_line fresh.new.items) }
+    ensures names { FindSame (buckets.old ++ map fresh_line fresh.old.items) (buckets.new ++ map fresh_line fresh.new.items) }
     ensures ok { OnOk result (fresh.new.items ≡ []) }
     ensures len { vec_len fresh.new ≤ vec_len fresh.old }
     ensures capacity { vec_capacity fresh.new ≡ vec_capacity fresh.old }
 {
     while let Some(entry) = fresh.last() {
-        let _had = tree.put(alloc, entry.0.as_bytes(), entry.1)?;
+        let _had = buckets.put(alloc, entry.0.as_bytes(), entry.1)?;
         fresh.truncate(fresh.len() - 1);
     }
     Ok(())

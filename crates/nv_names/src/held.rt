@@ -1,4 +1,4 @@
-//! A name of the tree with what it stands for.
+//! A name of a bucket with what it stands for.
 
 ghost use Rattle.std.specs.Prelude.{◌≡◌, IfOk, nat_eq};
 ghost use Rattle.std.specs.Cmp.Lexicographic.{pointwise};

@@ -14,7 +14,7 @@ use std::marker::Model;
 /// A map from names to the inodes that they stand for and the places of their entries.
 ///
 /// It is a table, which is made for the first name, so that an index that never had one stays small. The table keeps the
-/// names in ordered trees, so no choice of names makes a call look at every name.
+/// names in ordered buckets, so no choice of names makes a call look at every name.
 #[derive(Drop)]
 pub struct NameIndex {
     table: Option<Box<Table>>,
@@ -40,7 +40,8 @@ impl NameIndex {
 
     /// What a name stands for, if the directory has it.
     ///
-    /// Its cost grows with the logarithm of the number of names, and with the names added since the last `reserve`.
+    /// Its cost doesn't grow with the number of names, but with the names added since the last `reserve`. Where names were
+    /// picked to slow it down, it looks at some thousands of them.
     pub fn get(&self, name: &[u8]) -> Option<Target>
         ensures { option_map inode_and_place result ≡ name_at self.now name.now }
     {

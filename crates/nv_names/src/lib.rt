@@ -1,7 +1,8 @@
 //! The names of a directory, as a map from a name's bytes to its inode and the place of its entry.
 #![tactic(auto)]
 
-mod forest;
+mod bucket;
+mod buckets;
 mod fresh;
 mod held;
 mod index;
@@ -12,7 +13,6 @@ mod named;
 mod spreading;
 mod table;
 mod target;
-mod tree;
 
 pub use index::NameIndex;
 pub use named::Named;

@@ -1,4 +1,4 @@
-//! The table of a name index that has, or had, a name: ordered trees of names, and beside them a list of the few that
+//! The table of a name index that has, or had, a name: buckets of names, and beside them a list of the few that
 //! were added since room was last made. Only `reserve`, `put` and `unsorted` take memory.
 
 ghost use Rattle.std.specs.Prelude.{◌≡◌, ◌+◌, ◌<◌, ◌≤◌, ◌++◌, List, ℕ, length, map, IfOk, IsOk, OnOk, OnErr, Some, None};
@@ -6,7 +6,7 @@ ghost use Rattle.std.specs.Option.{option_map};
 ghost use Rattle.nv_names.specs.Names.{IsName, name_at, EachOnce, inode_and_place, line_of};
 ghost use Rattle.nv_names.specs.Table.{PutsAt};
 
-use crate::forest::Forest;
+use crate::buckets::Buckets;
 use crate::fresh::{Fresh, forget, push_fresh, settle, target_of};
 use crate::name::Name;
 use crate::{Named, Target};
@@ -15,11 +15,11 @@ use std::marker::Model;
 
 /// A map from names to the inodes that they stand for and the places of their entries.
 ///
-/// The trees take memory for each name, so a name that must take none goes into `fresh`, where there is room for it. It
-/// moves into its tree when room is next made.
+/// The buckets take memory for each name, so a name that must take none goes into `fresh`, where there is room for it. It
+/// moves into its bucket when room is next made.
 #[derive(Drop)]
 pub(crate) struct Table {
-    tree: Forest,
+    buckets: Buckets,
     fresh: Vec<Fresh>,
     alloc: Global,
 }
@@ -33,11 +33,11 @@ impl Model for Table {
     ghost Value = { Names };
 
     ghost view = { λ a. record {
-      names = a.tree ++ map fresh_line a.fresh.items;
+      names = a.buckets ++ map fresh_line a.fresh.items;
       room = vec_capacity a.fresh - vec_len a.fresh;
     } };
 
-    ghost invariant = { λ a. AreBeside a.tree (map fresh_line a.fresh.items) };
+    ghost invariant = { λ a. AreBeside a.buckets (map fresh_line a.fresh.items) };
 }
 
 impl Table {
@@ -46,7 +46,7 @@ impl Table {
         ensures empty { (q : List ℕ) → name_at result q ≡ None }
     {
         Table {
-            tree: Forest::new(alloc),
+            buckets: Buckets::new(alloc),
             fresh: Vec::new(alloc),
             alloc,
         }
@@ -56,7 +56,7 @@ impl Table {
     pub(crate) fn get(&self, name: &[u8]) -> Option<Target>
         ensures { option_map inode_and_place result ≡ name_at self.now name.now }
     {
-        match self.tree.find(name) {
+        match self.buckets.find(name) {
             Some(target) => Some(target),
             None => target_of(self.fresh.as_slice(), name),
         }
@@ -68,7 +68,7 @@ impl Table {
         ensures ready { OnOk result (more ≤ self.new.room) }
         ensures room { self.old.room ≤ self.new.room }
     {
-        settle(self.alloc, &mut self.tree, &mut self.fresh)?;
+        settle(self.alloc, &mut self.buckets, &mut self.fresh)?;
         self.fresh.reserve(more)
     }
 
@@ -80,12 +80,12 @@ impl Table {
         ensures room { self.old.room ≤ self.new.room + 1 }
     {
         let target = Target { inode, place };
-        self.tree.take_out(name);
+        self.buckets.take_out(name);
         forget(&mut self.fresh, name);
         self.fresh.push_reserved((Name::new(name), target));
     }
 
-    /// As `add`, and where there is no room the name goes into its tree. Answers what the name stood for before.
+    /// As `add`, and where there is no room the name goes into its buckets. Answers what the name stood for before.
     pub(crate) fn put(
         &mut self,
         name: &[u8],
@@ -104,8 +104,8 @@ impl Table {
             self.add(name, inode, place);
             return Ok(had);
         }
-        settle(self.alloc, &mut self.tree, &mut self.fresh)?;
-        self.tree.put(self.alloc, name, Target { inode, place })
+        settle(self.alloc, &mut self.buckets, &mut self.fresh)?;
+        self.buckets.put(self.alloc, name, Target { inode, place })
     }
 
     /// Takes a name out, if it is there. It takes no memory.
@@ -113,7 +113,7 @@ impl Table {
         ensures names { PutsAt self.old.names self.new.names name.now None }
         ensures room { self.old.room ≤ self.new.room }
     {
-        self.tree.take_out(name);
+        self.buckets.take_out(name);
         forget(&mut self.fresh, name);
     }
 
@@ -122,16 +122,16 @@ impl Table {
         ensures exact { result ≡ length self.now.names }
         ensures each_once { EachOnce self.now }
     {
-        self.tree.len() + self.fresh.len()
+        self.buckets.len() + self.fresh.len()
     }
 
-    /// Each name once: those of the trees, and then those beside them.
+    /// Each name once: those of the buckets, and then those beside them.
     pub(crate) fn unsorted(&self) -> Result<Vec<Named<'_>>, AllocError>
         ensures names { IfOk result (λ listed. map line_of listed.items ≡ self.now.names) }
         ensures each_once { EachOnce self.now }
     {
         let mut listed = Vec::with_capacity(self.alloc, self.len())?;
-        self.tree.push_lines(&mut listed)?;
+        self.buckets.push_lines(&mut listed)?;
         push_fresh(&mut listed, self.fresh.as_slice())?;
         Ok(listed)
     }

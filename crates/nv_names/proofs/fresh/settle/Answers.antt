@@ -5,7 +5,7 @@ use Rattle.nv_names.proofs.Calls.{last_settled}
 use Rattle.nv_names.proofs.fresh.settle.Goals as goal
 
 pub returns-in_err-_had-clause-names : goal.returns-in_err-_had-clause-names
-returns-in_err-_had-clause-names c = λ q. FindSame-front c.loop-entry.tree c.put.new.self (map fresh_line c.loop-entry.fresh.items) c.in_err-_had.ensures.err q ∙ c.loop-entry.invariant.same q
+returns-in_err-_had-clause-names c = λ q. FindSame-front c.loop-entry.buckets c.put.new.self (map fresh_line c.loop-entry.fresh.items) c.in_err-_had.ensures.err q ∙ c.loop-entry.invariant.same q
 
 pub loop-entry-preserved : goal.loop-entry-preserved
 loop-entry-preserved c =
@@ -14,7 +14,7 @@ loop-entry-preserved c =
     let told = c.len.ensures in
     let same : c.len.result ≡ length c.loop-entry.fresh.items = omega (arith, all, lent, told) in
     let both =
-    last_settled c.loop-entry.tree c.put.new.self c.loop-entry.fresh.items c.truncate.new.self.items c.in-Some.entry.now
+    last_settled c.loop-entry.buckets c.put.new.self c.loop-entry.fresh.items c.truncate.new.self.items c.in-Some.entry.now
     (sym (c.in-Some.ensures.value ∙ ap (λ xs. slice_get xs (length xs - 1)) c.deref.ensures.value))
     (c.truncate.ensures.items ∙ ap (λ n. take (n - 1) c.loop-entry.fresh.items) same)
     c.loop-entry.invariant.beside

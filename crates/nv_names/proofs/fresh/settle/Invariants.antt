@@ -6,8 +6,8 @@ use Rattle.nv_names.proofs.fresh.settle.Given as goal
 -- the names that both have together are the same
 abbrev pub invariant-loop-entry : goal.invariant-loop-entry
 invariant-loop-entry l = record {
-  beside : AreBeside l.tree (map fresh_line l.fresh.items);
-  same : FindSame (l.initial.tree ++ map fresh_line l.initial.fresh.items) (l.tree ++ map fresh_line l.fresh.items);
+  beside : AreBeside l.buckets (map fresh_line l.fresh.items);
+  same : FindSame (l.initial.buckets ++ map fresh_line l.initial.fresh.items) (l.buckets ++ map fresh_line l.fresh.items);
   len : vec_len l.fresh ≤ vec_len l.initial.fresh;
   capacity : vec_capacity l.fresh ≡ vec_capacity l.initial.fresh;
 }

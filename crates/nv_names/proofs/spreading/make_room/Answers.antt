@@ -1,10 +1,10 @@
 use Rattle.std.proofs.Common.{◌≡◌, length, ap, sym, ◌∙◌, arith}
 use Rattle.nv_names.specs.Names.{found_in}
-use Rattle.nv_names.proofs.Forests.{not_many, lines_alone, lines_many, only_many}
+use Rattle.nv_names.proofs.Choosing.{not_many, lines_alone, lines_many, only_many}
 use Rattle.nv_names.proofs.spreading.make_room.Goals as goal
 
-pub returns-in_ok-many-clause-trees : goal.returns-in_ok-many-clause-trees
-returns-in_ok-many-clause-trees c = only_many c.new.result c.in_ok-many.field-0.items c.new.ensures c.in_ok-many.ensures.many
+pub returns-in_ok-many-clause-buckets : goal.returns-in_ok-many-clause-buckets
+returns-in_ok-many-clause-buckets c = only_many c.new.result c.in_ok-many.field-0.items c.new.ensures c.in_ok-many.ensures.many
 
 pub returns-in_ok-many-clause-names : goal.returns-in_ok-many-clause-names
 returns-in_ok-many-clause-names c = λ q.

@@ -1,5 +1,0 @@
-use Rattle.nv_names.proofs.Forests.{no_names}
-use Rattle.nv_names.proofs.forest.Forest.new.Goals as goal
-
-pub invariant_of-result : goal.invariant_of-result
-invariant_of-result c = no_names _ _ c.new.ensures c.new-2.ensures.items
