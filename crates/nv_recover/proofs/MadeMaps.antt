@@ -4,6 +4,7 @@ use Rattle.std.specs.List.{All}
 use Rattle.nv_blockset.specs.BlockSet.{words_for}
 use Rattle.nv_super.specs.declared.owners.Owner.{Owner}
 use Rattle.nv_outcome.specs.Parts.{AreMaps}
+use Rattle.nv_recover.specs.Scanned.{Fits}
 
 take_front : (xs ys : List ℕ) → take (length xs) (xs ++ ys) ≡ xs
 take_front [] ys = refl
@@ -17,12 +18,12 @@ pub covers : (blocks words : ℕ) → words ≡ words_for blocks → blocks ≤ 
 covers blocks words is = omega (arith, is)
 
 pub within_cover : (blocks : ℕ) (claims : List (ℕ × Owner)) (first second : List ℕ) → All (λ (x : ℕ × Owner). x.0 < blocks) claims → blocks ≤ 64 * length first → blocks ≤ 64 * length second
-    → All (λ (x : ℕ × Owner). (x.0 / 64 < length first) × (x.0 / 64 < length second)) claims
+    → All (Fits first second) claims
 within_cover blocks claims first second within one two = λ k d less. (let w = within k d less in (omega (arith, w, one), omega (arith, w, two)))
 
 -- the same, told of what is the same
-pub within_same : (claims : List (ℕ × Owner)) {first second first' second' : List ℕ} → first' ≡ first → second' ≡ second → All (λ (x : ℕ × Owner). (x.0 / 64 < length first) × (x.0 / 64 < length second)) claims
-    → All (λ (x : ℕ × Owner). (x.0 / 64 < length first') × (x.0 / 64 < length second')) claims
+pub within_same : (claims : List (ℕ × Owner)) {first second first' second' : List ℕ} → first' ≡ first → second' ≡ second → All (Fits first second) claims
+    → All (Fits first' second') claims
 within_same claims one two within = rw (one, two) within
 
 pub maps_same : (claims : List (ℕ × Owner)) {first second first' second' : List ℕ} → first' ≡ first → second' ≡ second → AreMaps claims first second → AreMaps claims first' second'
@@ -34,10 +35,6 @@ maps_back claims one two first second x y maps p q = rw (whole one first x p, wh
 
 pub length_back : (one : ℕ) (first x : List ℕ) → length first ≡ one → length (take one (first ++ x)) ≡ one
 length_back one first x p = ap length (whole one first x p) ∙ p
-
--- both sets have a bit for the block of a claim
-abbrev pub Fits : List ℕ → List ℕ → ℕ × Owner → Type 0
-Fits first second x = (x.0 / 64 < length first) × (x.0 / 64 < length second)
 
 -- sets that are as long have it too
 pub fits_as_long : (claims : List (ℕ × Owner)) (first second first' second' : List ℕ) → (length first' ≡ length first) × (length second' ≡ length second) → All (Fits first second) claims → All (Fits first' second') claims

@@ -1,5 +1,5 @@
 -- What a scan of all inodes gives, whichever way it goes.
-use Rattle.std.specs.Prelude.{◌≡◌, ℕ, ◌*◌, ◌<◌, ◌≤◌, ◌-◌, min, List, [], ◌++◌, length, map, Vec, IsTrue, if◌then◌else◌}
+use Rattle.std.specs.Prelude.{◌≡◌, ℕ, ◌*◌, ◌/◌, ◌<◌, ◌≤◌, ◌-◌, min, List, [], ◌++◌, length, map, Vec, IsTrue, if◌then◌else◌}
 use Rattle.std.specs.declared.alloc.Global.{Global}
 use Rattle.std.specs.List.{All, AllByRecursion, flat_map, cons_option, range_with_len}
 use Rattle.std.specs.List.Sorted.{IsPermutation}
@@ -96,6 +96,14 @@ pub record AreClaimedSets (s : Super) (work : List (List (ℕ × Owner))) (first
   pub cover : Cover s first second
   pub once : (b : ℕ) → has first b ≡ min 1 (works_of b work)
   pub twice : (b : ℕ) → has second b ≡ min 1 (works_of b work - 1)
+
+-- both sets have a bit for the block of a claim
+abbrev pub Fits : List ℕ → List ℕ → ℕ × Owner → Type 0
+Fits first second x = (x.0 / 64 < length first) × (x.0 / 64 < length second)
+
+-- Where the old sets are those of some claims, the new ones are those of the same claims and of these.
+abbrev pub TakeIn : List (ℕ × Owner) → List ℕ → List ℕ → List ℕ → List ℕ → Type 0
+TakeIn claims old_first old_second new_first new_second = (before : List (ℕ × Owner)) → AreMaps before old_first old_second → AreMaps (before ++ claims) new_first new_second
 
 -- the second set after a claim: with the block, where it is in the first set already
 abbrev pub second_after : List ℕ → List ℕ → ℕ → List ℕ

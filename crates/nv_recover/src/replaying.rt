@@ -148,7 +148,7 @@ fn scan_ticket<P: Pmem>(
                 faults,
             } = piece;
             inodes.push(row, &faults)?;
-            claims.push_to(&mut list)?;
+            list.extend_from_slice(&claims.to_list(alloc)?)?;
             scanner.reuse(claims);
         }
     }

@@ -1,7 +1,7 @@
 //! The blocks that are claimed, and those that are claimed twice or more, as sets: block b is bit `b % 64` of word
 //! `b / 64`.
 
-ghost use Rattle.std.specs.Prelude.{◌≡◌, ◌/◌, ◌*◌, ◌<◌, ◌++◌, ℕ, List, [], IfOk, length};
+ghost use Rattle.std.specs.Prelude.{◌≡◌, ◌/◌, ◌*◌, ◌<◌, ℕ, List, [], IfOk, length};
 ghost use Rattle.std.specs.List.{All};
 ghost use Rattle.nv_blockset.specs.BlockSet.{with_block};
 ghost use Rattle.nv_region.specs.Region.{Region};
@@ -12,7 +12,7 @@ ghost use Rattle.nv_scan.specs.Work.{claims_in};
 ghost use Rattle.nv_scan.specs.declared.piece.Piece.{Piece};
 ghost use Rattle.nv_outcome.specs.nv_check.Doubled.{AreDoubled};
 ghost use Rattle.nv_outcome.specs.Parts.{AreMaps};
-ghost use Rattle.nv_recover.specs.Scanned.{AreOwned, AreSetsOf, Cover, second_after};
+ghost use Rattle.nv_recover.specs.Scanned.{AreOwned, AreSetsOf, Cover, Fits, TakeIn, second_after};
 
 use crate::scanned::Owned;
 use nv_blockset::{contains, first_set, insert, words_for};
@@ -45,8 +45,8 @@ impl Sets {
 
     /// Puts the blocks of these claims into the sets.
     pub fn claim_all(&mut self, claims: &Claims)
-        requires within { All (λ (x : ℕ × OwnerValue). (x.0 / 64 < length self.old.first.items) × (x.0 / 64 < length self.old.second.items)) claims.now.items }
-        ensures maps { (before : List (ℕ × OwnerValue)) → AreMaps before self.old.first.items self.old.second.items → AreMaps (before ++ claims.now.items) self.new.first.items self.new.second.items }
+        requires within { All (Fits self.old.first.items self.old.second.items) claims.now.items }
+        ensures maps { TakeIn claims.now.items self.old.first.items self.old.second.items self.new.first.items self.new.second.items }
         ensures as_long { (length self.new.first.items ≡ length self.old.first.items) × (length self.new.second.items ≡ length self.old.second.items) }
     {
         fill(&mut self.first, &mut self.second, claims);
@@ -99,8 +99,8 @@ fn doubled_in(
 
 // Puts the blocks of these claims into the sets.
 fn fill(first: &mut [u64], second: &mut [u64], claims: &Claims)
-    requires within { All (λ (x : ℕ × OwnerValue). (x.0 / 64 < length first.old) × (x.0 / 64 < length second.old)) claims.now.items }
-    ensures maps { (before : List (ℕ × OwnerValue)) → AreMaps before first.old second.old → AreMaps (before ++ claims.now.items) first.new second.new }
+    requires within { All (Fits first.old second.old) claims.now.items }
+    ensures maps { TakeIn claims.now.items first.old second.old first.new second.new }
     ensures as_long { (length first.new ≡ length first.old) × (length second.new ≡ length second.old) }
 {
     let (inode, pages, runs) = claims.parts();
@@ -110,8 +110,8 @@ fn fill(first: &mut [u64], second: &mut [u64], claims: &Claims)
 
 // Puts the pages of an inode's log into the sets.
 fn fill_pages(first: &mut [u64], second: &mut [u64], _inode: u64, pages: &[u64])
-    requires within { All (λ (x : ℕ × OwnerValue). (x.0 / 64 < length first.old) × (x.0 / 64 < length second.old)) (log_claims _inode 0 pages.now) }
-    ensures maps { (before : List (ℕ × OwnerValue)) → AreMaps before first.old second.old → AreMaps (before ++ log_claims _inode 0 pages.now) first.new second.new }
+    requires within { All (Fits first.old second.old) (log_claims _inode 0 pages.now) }
+    ensures maps { TakeIn (log_claims _inode 0 pages.now) first.old second.old first.new second.new }
     ensures as_long { (length first.new ≡ length first.old) × (length second.new ≡ length second.old) }
 {
     for block in pages {
@@ -121,9 +121,9 @@ fn fill_pages(first: &mut [u64], second: &mut [u64], _inode: u64, pages: &[u64])
 
 // Puts the runs of an inode's file into the sets.
 fn fill_runs(first: &mut [u64], second: &mut [u64], inode: u64, runs: &[Extent])
-    requires within { All (λ (x : ℕ × OwnerValue). (x.0 / 64 < length first.old) × (x.0 / 64 < length second.old)) (data_claims inode runs.now) }
+    requires within { All (Fits first.old second.old) (data_claims inode runs.now) }
     requires small { All IsSmall runs.now }
-    ensures maps { (before : List (ℕ × OwnerValue)) → AreMaps before first.old second.old → AreMaps (before ++ data_claims inode runs.now) first.new second.new }
+    ensures maps { TakeIn (data_claims inode runs.now) first.old second.old first.new second.new }
     ensures as_long { (length first.new ≡ length first.old) × (length second.new ≡ length second.old) }
 {
     for run in runs {
@@ -131,10 +131,11 @@ fn fill_runs(first: &mut [u64], second: &mut [u64], inode: u64, runs: &[Extent])
     }
 }
 
+// Puts the blocks of one run into the sets.
 fn fill_run(first: &mut [u64], second: &mut [u64], _inode: u64, run: &Extent)
-    requires within { All (λ (x : ℕ × OwnerValue). (x.0 / 64 < length first.old) × (x.0 / 64 < length second.old)) (run_claims _inode run.now) }
+    requires within { All (Fits first.old second.old) (run_claims _inode run.now) }
     requires small { IsSmall run.now }
-    ensures maps { (before : List (ℕ × OwnerValue)) → AreMaps before first.old second.old → AreMaps (before ++ run_claims _inode run.now) first.new second.new }
+    ensures maps { TakeIn (run_claims _inode run.now) first.old second.old first.new second.new }
     ensures as_long { (length first.new ≡ length first.old) × (length second.new ≡ length second.old) }
 {
     for by in 0..run.count {
@@ -142,6 +143,7 @@ fn fill_run(first: &mut [u64], second: &mut [u64], _inode: u64, run: &Extent)
     }
 }
 
+// Puts a block into the first set, and into the second where it stood in the first already.
 fn claim(first: &mut [u64], second: &mut [u64], block: u64)
     requires { (block / 64 < length first.old) × (block / 64 < length second.old) }
     ensures first { first.new ≡ with_block first.old block }

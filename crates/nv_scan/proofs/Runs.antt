@@ -25,6 +25,10 @@ use Rattle.nv_scan.proofs.ClaimLists.{log_claimed, run_claimed}
 use Rattle.nv_scan.proofs.Only.{owned_page}
 use Rattle.nv_scan.proofs.Owned.{owned_block}
 
+-- what is read where there is no run
+abbrev pub no_run : Extent
+no_run = record { page = 0; count = 0; block = 0 }
+
 -- ---- what can be claimed
 
 page_fits : (R : Region) (l : Layout) (b : ℕ) (o : Owner) → Owns R l b o → MayOwn o 1

@@ -54,7 +54,8 @@ impl Claims {
         }
     }
 
-    /// The inode, the blocks of its log's pages and the runs of its file.
+    /// The inode, the blocks of its log's pages in their order, and the runs of its file by page. What a run ends before, in
+    /// blocks and in pages, is at most 2^64.
     pub fn parts(&self) -> (u64, &[u64], &[Extent])
         ensures claims { self.now.items ≡ log_claims result.0 0 result.1.now ++ data_claims result.0 result.2.now }
         ensures small { All IsSmall result.2.now }
@@ -62,17 +63,19 @@ impl Claims {
         (self.inode, &self.pages, &self.runs)
     }
 
-    /// Puts each block with its owner behind those of a list.
+    /// Each block with its owner.
     ///
-    /// Errors: `AllocError` where a growth was refused.
-    pub fn push_to(&self, list: &mut Vec<(u64, Owner)>) -> Result<(), AllocError>
-        ensures { OnOk result (list.new.items ≡ list.old.items ++ self.now.items) }
+    /// Errors: `AllocError` where the list's memory was refused.
+    pub fn to_list(&self, alloc: Global) -> Result<Vec<(u64, Owner)>, AllocError>
+        ensures { IfOk result (λ list. list.items ≡ self.now.items) }
     {
-        push_pages(list, self.inode, &self.pages)?;
-        push_runs(list, self.inode, &self.runs)
+        let mut list = Vec::new(alloc);
+        push_pages(&mut list, self.inode, &self.pages)?;
+        push_runs(&mut list, self.inode, &self.runs)?;
+        Ok(list)
     }
 
-    /// The memory of the runs, for those of another inode.
+    /// Gives up the runs, whose memory those of another inode can take.
     pub(crate) fn into_runs(self) -> Vec<Extent> {
         self.runs
     }
@@ -90,14 +93,14 @@ pub fn claims_of_rows(alloc: Global, rows: &[Row]) -> Result<Vec<(u64, Owner)>, 
     let mut runs = Vec::new(alloc);
     for row in rows {
         let own = claims_of(alloc, row.inode, &row.pages, &row.index, &mut runs)?;
-        own.push_to(&mut claims)?;
+        claims.extend_from_slice(&own.to_list(alloc)?)?;
         runs = own.into_runs();
     }
     Ok(claims)
 }
 
-/// What an inode claims, by the pages of its log and its file's index. Its runs stand in the memory of those given, which they
-/// take with them.
+/// What an inode claims, by the pages of its log and its file's index. The runs take the memory of those given, which are left
+/// empty.
 pub(crate) fn claims_of(
     alloc: Global,
     inode: u64,

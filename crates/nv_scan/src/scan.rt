@@ -133,7 +133,7 @@ impl Scanner {
         Ok(Some(self.scan_one(memory, inode)?))
     }
 
-    /// Takes back the claims of a piece that are of no more use: the next piece stands its own in their memory.
+    /// Takes back the claims of a piece that are of no more use, so that the next piece's claims need no new memory.
     pub fn reuse(&mut self, claims: Claims)
         ensures { self.new ≡ self.old }
     {

@@ -30,9 +30,10 @@ const ADD: u64 = 4297064707;
 const REMOVE: u64 = 4297064963;
 
 fn assert_claims(rt: &impl Abort, alloc: Global, claims: &Claims, owned: &[(u64, Owner)]) {
-    let mut listed = Vec::new(alloc);
-    let is_listed = claims.push_to(&mut listed).is_ok();
-    assert!(rt; is_listed && listed.as_slice() == owned);
+    match claims.to_list(alloc) {
+        Ok(listed) => assert!(rt; listed.as_slice() == owned),
+        Err(AllocError) => assert!(rt; false),
+    }
 }
 
 /// The target of the name in the piece's row.

@@ -1,7 +1,8 @@
 use Rattle.std.proofs.Common.{◌++◌, ◌∙◌}
 use Rattle.nv_scan.specs.Claims.{log_claims, data_claims}
 use Rattle.nv_scan.proofs.Runs.{claims_split}
-use Rattle.nv_recover.proofs.MadeMaps.{Fits, fits_as_long}
+use Rattle.nv_recover.specs.Scanned.{Fits}
+use Rattle.nv_recover.proofs.MadeMaps.{fits_as_long}
 use Rattle.nv_recover.proofs.TwoSets.{maps_on}
 use Rattle.nv_recover.proofs.sets.fill.Goals as goal
 

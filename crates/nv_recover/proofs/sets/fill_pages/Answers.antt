@@ -7,7 +7,7 @@ use Rattle.nv_scan.specs.Claims.{log_claims}
 use Rattle.nv_scan.proofs.ClaimLists.{log_claims-more}
 use Rattle.nv_scan.proofs.Runs.{each_page}
 use Rattle.nv_outcome.specs.Parts.{AreMaps}
-use Rattle.nv_recover.proofs.MadeMaps.{Fits}
+use Rattle.nv_recover.specs.Scanned.{Fits}
 use Rattle.nv_recover.proofs.TwoSets.{second_after_long, maps_behind}
 use Rattle.nv_recover.proofs.sets.fill_pages.Goals as goal
 

@@ -6,7 +6,7 @@ use Rattle.nv_super.specs.Owners.{pairs}
 use Rattle.nv_scan.proofs.ClaimLists.{run_claims-more}
 use Rattle.nv_scan.proofs.Runs.{each_block}
 use Rattle.nv_outcome.specs.Parts.{AreMaps}
-use Rattle.nv_recover.proofs.MadeMaps.{Fits}
+use Rattle.nv_recover.specs.Scanned.{Fits}
 use Rattle.nv_recover.proofs.TwoSets.{second_after_long, maps_behind}
 use Rattle.nv_recover.proofs.sets.fill_run.Goals as goal
 

@@ -24,9 +24,10 @@ loop-row-preserved c =
     let own = c.in_ok-own.own in
     let own_claims : AreRowClaims row own.items = subst (λ (pages : List ℕ). Lists (λ (x : ℕ × Owner). owner_key x.1) (IsClaim row.inode pages row.index) own.items) c.deref.ensures c.in_ok-own.ensures in
     let read : take (i + 1) rows ≡ take i rows ++ row ∷ [] = take_more rows i row c.loop-row-test.true ∙ ap (λ (x : Row). take i rows ++ x ∷ []) (sym c.row-item.is) in
-    let listed : c.push_to.new.list.items ≡ c.loop-row.claims.items ++ own.items = c.in_ok-push_to.ensures in
+    let claims = c.loop-row.claims.items in
+    let listed : c.extend_from_slice.new.self.items ≡ claims ++ own.items = c.in_ok-extend_from_slice.ensures.items ∙ ap (λ (xs : List (ℕ × Owner)). claims ++ xs) (c.deref-in-loop-row.ensures.value ∙ c.in_ok-to_list.ensures) in
     subst (AreClaimsOf (take (i + 1) rows)) (sym listed)
-    (subst (λ (rs : List Row). AreClaimsOf rs (c.loop-row.claims.items ++ own.items)) (sym read) (one_row_more (take i rows) row c.loop-row.claims.items own.items c.loop-row.invariant own_claims))
+    (subst (λ (rs : List Row). AreClaimsOf rs (claims ++ own.items)) (sym read) (one_row_more (take i rows) row claims own.items c.loop-row.invariant own_claims))
 
 pub returns : goal.returns
 returns c = λ region l pieces each are. by_rows region l pieces c.loop-row.claims.items each
