@@ -9,7 +9,7 @@ use Rattle.nv_recover.specs.declared.scanned.Inodes.{Inodes}
 use Rattle.nv_recover.specs.Scanned.{AreNext}
 use Rattle.nv_recover.proofs.Tickets.{next_none, next_slot, next_all}
 use Rattle.nv_recover.proofs.replaying.scan_ticket.Goals as goal
-use Rattle.nv_recover.proofs.replaying.scan_ticket.Goals.{in-Some+in_ok-push+in_ok-push_to, in_default}
+use Rattle.nv_recover.proofs.replaying.scan_ticket.Goals.{in-Some+in_ok-push+in_ok-to_list+in_ok-extend_from_slice, in_default}
 
 pub loop-slot-init : goal.loop-slot-init
 loop-slot-init g c = record { same = refl; next = next_none c.new-list.ensures.items }
@@ -24,11 +24,11 @@ loop-slot-preserved g c =
     let old = c.args.inodes.now in
     let found = subst (λ (x : Super). IsFound R x (number_at x (32 * t + k)) c.in_ok-piece.field-0) l.same c.in_ok-piece.ensures.found in
     elim c.match-branch-2.branch [
-      | in-Some+in_ok-push+in_ok-push_to w ↦ (
+      | in-Some+in_ok-push+in_ok-to_list+in_ok-extend_from_slice w ↦ (
           let p = w.in-Some.piece in
           let at = at_slot t k (32 * t + k) (Some p) refl (subst (λ (o : Option Piece). IsFound R s (number_at s (32 * t + k)) o) w.in-Some.is found) in
           let faults = w.in_ok-push.ensures.faults ∙ ap (λ (fs : List Fault). c.loop-slot.inodes.faults.items ++ fs) (w.deref.ensures.value ∙ sym (append-nil p.faults.items)) in
-          let claims = w.in_ok-push_to.ensures ∙ ap (λ (cs : List (ℕ × Owner)). c.loop-slot.list.items ++ cs) (sym (append-nil p.claims.items)) in
+          let claims = w.in_ok-extend_from_slice.ensures.items ∙ ap (λ (cs : List (ℕ × Owner)). c.loop-slot.list.items ++ cs) (w.deref-in-Some.ensures.value ∙ w.in_ok-to_list.ensures ∙ sym (append-nil p.claims.items)) in
           let next = next_slot at l.next w.in_ok-push.ensures.rows faults claims in
           record {
             same = w.scanner-is ∙ w.reuse.ensures ∙ c.scan_place.ensures.same ∙ l.same;
