@@ -1,5 +1,5 @@
 -- For callers: where the row of an inode stands, and what the rows are once one or two were taken out, changed and put in again.
-use Rattle.std.proofs.Common.{◌≡◌, ◌≢◌, ℕ, zero, suc, ◌<◌, nat_eq, Bool, true, false, cond, is_some, List, [], ◌∷◌, length, get_or, remove, set, slice_get, Option, Some, None, refl, sym, ap, ◌∙◌, subst, arith}
+use Rattle.std.proofs.Common.{◌≡◌, ◌≢◌, ℕ, zero, suc, ◌<◌, nat_eq, Bool, true, false, cond, is_some, List, [], ◌∷◌, length, get_or, remove, set, set-set, slice_get, Option, Some, None, refl, sym, ap, ◌∙◌, subst, arith}
 use Rattle.std.proofs.Math.Seq.{map-set_same}
 use Rattle.std.proofs.lemmas.List.{set_comm}
 use Rattle.std.proofs.lemmas.Option.{get_or_from_slice_get, slice_get_within}
@@ -7,7 +7,7 @@ use Rattle.std.proofs.lemmas.Bool.Decides.{nat_tests}
 use Rattle.nv_super.specs.Order.{Rises}
 use Rattle.nv_super.proofs.RisingPlaces.{rises_keys}
 use Rattle.nv_scan.specs.declared.piece.Row.{Row}
-use Rattle.nv_rows.specs.Rows.{row_key, row_of, place_in, IsInUse, IsPlaceOf, HasInserted}
+use Rattle.nv_rows.specs.Rows.{row_key, row_of, place_in, IsInUse, IsLent, IsPlaceOf, HasInserted}
 use Rattle.nv_rows.proofs.PutBack.{put_back}
 
 differs : (a i j : ℕ) → a ≡ i → i ≢ j → nat_eq a j ≡ false
@@ -109,6 +109,45 @@ number_at rows place row new at = ap (λ (r : Row). r.inode) (get_or_from_slice_
 pub set_rising : (rows : List Row) (place : ℕ) (row now : Row) → Rises row_key rows → slice_get rows place ≡ Some row → now.inode ≡ row.inode → Rises row_key (set rows place now)
 set_rising rows place row now rising at number =
     rises_keys row_key rows (set rows place now) (sym (map-set_same row_key rows place now now (ap (λ (n : ℕ). n ∷ []) (number ∙ sym (number_at rows place row now at))))) rising
+
+-- ---- rows that were lent and given back
+
+-- the others have their rows meanwhile
+pub others_lent : (old mid : List Row) (i j : ℕ) → i ≢ j → IsInUse old i → IsLent old mid i → row_of mid j ≡ row_of old j
+others_lent old mid i j apart used lent =
+    let was = row_in_use old i used in
+    ap (λ (rs : List Row). row_of rs j) lent.all
+    ∙ row_of_other old (place_in old i) was.0 lent.blank j (at_place old i ∙ was.1) (λ e. apart (sym (e ∙ numbered old i was.0 was.1))) (λ e. apart (sym (e ∙ lent.number)))
+
+-- an inode whose row was lent is in use
+pub used_lent : (old mid : List Row) (i : ℕ) → IsInUse old i → IsLent old mid i → IsInUse mid i
+used_lent old mid i used lent = in_use mid i lent.blank (ap (λ (rs : List Row). row_of rs i) lent.all ∙ own_kept old i lent.blank used lent.number)
+
+-- its place is what it was
+pub place_lent : (old mid : List Row) (i j : ℕ) → IsLent old mid i → place_in mid j ≡ place_in old j
+place_lent old mid i j lent = ap (λ (rs : List Row). place_in rs j) lent.all ∙ place_kept old i j lent.blank lent.number
+
+-- one row given back
+pub back_one : (old mid new : List Row) (i : ℕ) (row : Row) → IsLent old mid i → row.inode ≡ i → new ≡ set mid (place_in mid row.inode) row → new ≡ set old (place_in old i) row
+back_one old mid new i row lent number back =
+    back ∙ ap (λ (k : ℕ). set mid (place_in mid k) row) number
+    ∙ ap (λ (p : ℕ). set mid p row) (place_lent old mid i i lent)
+    ∙ ap (λ (rs : List Row). set rs (place_in old i) row) lent.all
+    ∙ set-set old (place_in old i) lent.blank row
+
+-- two of them: the second was lent last, and given back first
+pub back_two : (old mid rest one new : List Row) (i j : ℕ) (row other : Row) → i ≢ j → IsInUse old i → IsInUse old j → IsLent old mid i → IsLent mid rest j → other.inode ≡ j → one ≡ set rest (place_in rest other.inode) other
+    → row.inode ≡ i → new ≡ set one (place_in one row.inode) row → new ≡ set (set old (place_in old i) row) (place_in old j) other
+back_two old mid rest one new i j row other apart used other_used lent other_lent other_number other_back number back =
+    let at = place_in old i in
+    let place = place_in old j in
+    let first : one ≡ set mid place other = back_one mid rest one j other other_lent other_number other_back ∙ ap (λ (p : ℕ). set mid p other) (place_lent old mid i j lent) in
+    let stays : place_in one i ≡ at =
+    (ap (λ (rs : List Row). place_in rs i) (back_one mid rest one j other other_lent other_number other_back) ∙ place_kept mid j i other other_number ∙ place_lent old mid i i lent) in
+    back ∙ ap (λ (k : ℕ). set one (place_in one k) row) number ∙ ap (λ (p : ℕ). set one p row) stays
+    ∙ ap (λ (rs : List Row). set rs at row) (first ∙ ap (λ (rs : List Row). set rs place other) lent.all)
+    ∙ set_comm (set old at lent.blank) place at other row (λ e. places_apart old i j used other_used apart (sym e))
+    ∙ ap (λ (rs : List Row). set rs place other) (set-set old at lent.blank row)
 
 -- ---- rows that were taken out and put in again
 

@@ -10,7 +10,7 @@ use Rattle.nv_super.proofs.Members.{stands}
 use Rattle.nv_super.proofs.Rising.{Contains-cons, below_first, rises_cons}
 use Rattle.nv_scan.specs.declared.piece.Row.{Row}
 use Rattle.nv_numbered.specs.Values.{entries_from}
-use Rattle.nv_rows.specs.Rows.{row_key, inodes_of, row_of, HasInserted}
+use Rattle.nv_rows.specs.Rows.{row_key, inodes_of, row_of, place_in, HasInserted}
 use Rattle.nv_rows.specs.Slots.{rows_in, StandByNumber}
 
 -- what stands behind the first slot
@@ -190,3 +190,23 @@ slot_emptied first (Some x ∷ rest) (suc n) zero row stand at is =
     absurd (omega (arith, is, stand 0 x refl, ap (λ (r : Row). r.inode) same))
 slot_emptied first (Some x ∷ rest) (suc n) (suc k) row stand at is =
     ap (λ (rows : List Row). x ∷ rows) (slot_emptied (first + 1) rest n k row (later_stand first (Some x) rest stand) at (omega (arith, is)))
+
+-- ---- a row that is exchanged for another
+
+-- it stands where the other stood
+pub slot_exchanged : (first : ℕ) (slots : List (Option Row)) (n : ℕ) (was row : Row) → StandByNumber first slots → get_or slots n None ≡ Some was → rows_in (set slots n (Some row)) ≡ set (rows_in slots) (place_in (rows_in slots) (first + n)) row
+slot_exchanged first [] n was row stand at = absurd (cc)
+slot_exchanged first (None ∷ rest) zero was row stand at = absurd (cc)
+slot_exchanged first (None ∷ rest) (suc k) was row stand at =
+    let shift : first + suc k ≡ first + 1 + k = omega arith in
+    rw shift (slot_exchanged (first + 1) rest k was row (later_stand first None rest stand) at)
+slot_exchanged first (Some x ∷ rest) zero was row stand at =
+    let is : x.inode ≡ first + 0 = stand 0 x refl in
+    let test : nat_eq x.inode (first + 0) ≡ true = grind (arith, nat_tests) in
+    rw test refl
+slot_exchanged first (Some x ∷ rest) (suc k) was row stand at =
+    let is : x.inode ≡ first + 0 = stand 0 x refl in
+    let test : nat_eq x.inode (first + suc k) ≡ false = grind (arith, nat_tests) in
+    let shift : first + suc k ≡ first + 1 + k = omega arith in
+    let later : rows_in (set rest k (Some row)) ≡ set (rows_in rest) (place_in (rows_in rest) (first + suc k)) row = rw shift (slot_exchanged (first + 1) rest k was row (later_stand first (Some x) rest stand) at) in
+    rw test (ap (λ (rows : List Row). x ∷ rows) later)

@@ -104,6 +104,19 @@ module _ (s : Super) (layout : IsLayout s) where
 
   -- ---- as a row comes or goes
 
+  -- the slot of a number gets another row
+  pub TellsUsed-exchanged : (slots : List (Option Row)) (used : List ℕ) (n : ℕ) (was row : Row) → get_or slots n None ≡ Some was → n < length slots → TellsUsed s slots used → TellsUsed s (set slots n (Some row)) used
+  TellsUsed-exchanged slots used n was row at inside tells = record {
+    long = length-set slots n (Some row) ∙ tells.long;
+    room = tells.room;
+    told = λ i i_below. tells.told i i_below ∙ elim (cases_eq i n) [
+      | inl same ↦
+          ap (λ (j : ℕ). cond (is_some (get_or slots j None)) 1 0) same ∙ ap (λ (o : Option Row). cond (is_some o) 1 0) at
+          ∙ sym (ap (λ (o : Option Row). cond (is_some o) 1 0) (get_or-set_at slots n i (Some row) None same inside))
+      | inr differs ↦ sym (ap (λ (o : Option Row). cond (is_some o) 1 0) (get_or-set_other slots n i (Some row) None differs))
+    ];
+  }
+
   pub TellsUsed-filled : (slots : List (Option Row)) (used : List ℕ) (n : ℕ) (row : Row) → n < inode_limit s → TellsUsed s slots used → TellsUsed s (set slots n (Some row)) (with_block used (place_of s n))
   TellsUsed-filled slots used n row below tells =
       let there = word_there used n tells.room below in

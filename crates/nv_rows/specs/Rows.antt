@@ -1,5 +1,5 @@
 -- Rows by their numbers: which row an inode has, where it stands, and what a list is with a further row.
-use Rattle.std.specs.Prelude.{◌≡◌, ℕ, zero, suc, ◌≤◌, cond, nat_eq, IsTrue, List, [], ◌∷◌, map, length, Option, Some, is_some, slice_get}
+use Rattle.std.specs.Prelude.{◌≡◌, ℕ, zero, suc, ◌≤◌, cond, nat_eq, IsTrue, List, [], ◌∷◌, map, length, Option, Some, is_some, set, slice_get}
 use Rattle.std.specs.List.{find, insert}
 use Rattle.nv_super.specs.Order.{Rises}
 pub use Rattle.nv_scan.specs.Rows.{row_key}
@@ -32,3 +32,9 @@ pub record HasInserted (old new : List Row) (row : Row) : Type 0 where
   pub inside : place ≤ length old
   pub all : new ≡ insert old place row
   pub rising : Rises row_key new
+
+-- The row of an inode was taken out, and one that says nothing stands in its place.
+pub record IsLent (old new : List Row) (i : ℕ) : Type 0 where
+  pub blank : Row
+  pub number : blank.inode ≡ i
+  pub all : new ≡ set old (place_in old i) blank

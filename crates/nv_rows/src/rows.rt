@@ -1,21 +1,24 @@
 //! Rows by the numbers of their inodes, over `Numbered`. Only `from_rows` and `reserve` take memory.
 
-ghost use Rattle.std.specs.Prelude.{◌≡◌, ◌+◌, ◌<◌, ◌≤◌, ◌^◌, ℕ, None, Some, map, IfOk, IfSome, length, IsOk, OnOk, OnSome, option_copied};
+ghost use Rattle.std.specs.Prelude.{◌≡◌, ◌+◌, ◌<◌, ◌≤◌, ◌^◌, ℕ, None, Some, map, IfOk, IfSome, length, IsOk, OnOk, OnSome, option_copied, set};
 ghost use Rattle.std.specs.List.{All, remove};
 ghost use Rattle.nv_super.specs.Order.{Rises, SortedOf};
 ghost use Rattle.nv_super.specs.Layout.{inode_limit, IsLayout};
 ghost use Rattle.nv_rows.specs.InUse.{place_of, HasUsed};
 ghost use Rattle.nv_scan.specs.declared.piece.Row.{Row as RowValue};
 ghost use Rattle.nv_numbered.specs.Values.{AreNumbersBelow};
-ghost use Rattle.nv_rows.specs.Rows.{row_key, inodes_of, row_of, place_in, IsInUse, IsPlaceOf, HasInserted};
+ghost use Rattle.nv_rows.specs.Rows.{row_key, inodes_of, row_of, place_in, IsInUse, IsLent, IsPlaceOf, HasInserted};
 ghost use Rattle.nv_rows.specs.Unused.{unused_number};
 
 use nv_blockset::{first_clear, words_for};
+use nv_names::NameIndex;
 use nv_numbered::{Iter, Numbered};
-use nv_scan::{Row, SLOTS};
-use nv_super::Super;
+use nv_radix::FileIndex;
+use nv_scan::{LogPages, Numbers, Row, SLOTS};
+use nv_super::{Kind, Super};
 use std::alloc::{AllocError, Global};
 use std::marker::Model;
+use std::mem;
 
 /// The rows of the inodes in use, seen as their list, which rises by number.
 #[derive(Drop)]
@@ -41,6 +44,22 @@ impl Model for Rows {
     } };
 
     ghost invariant = { λ t. AreRows t.sup t.rows.slots t.used.items };
+}
+
+// A row of this number that says nothing. It takes no memory.
+fn blank_row(alloc: Global, inode: u64) -> Row
+    ensures { result.inode ≡ inode }
+{
+    Row {
+        inode,
+        kind: Kind::File,
+        numbers: Numbers::new(0),
+        head: 0,
+        tail: 0,
+        pages: LogPages::new(alloc),
+        index: FileIndex::new(alloc),
+        names: NameIndex::new(alloc),
+    }
 }
 
 // The number of each row.
@@ -187,6 +206,48 @@ impl Rows {
         let _rows = self.len();
         match self.remove(inode) {
             Some(row) => row,
+            None => unreachable!(),
+        }
+    }
+
+    /// Takes the row of an inode in use out for a while. One that says nothing stands in its place until it is given back.
+    pub fn lend(&mut self, alloc: Global, inode: u64) -> Row
+        requires { IsInUse self.old.items inode }
+        ensures row { row_of self.old.items inode ≡ Some result }
+        ensures number { result.inode ≡ inode }
+        ensures lent { IsLent self.old.items self.new.items inode }
+        ensures rising { Rises row_key self.old.items }
+        ensures sup { self.new.sup ≡ self.old.sup }
+        ensures room { self.new.room ≡ self.old.room }
+    {
+        let mut row = blank_row(alloc, inode);
+        self.exchange(&mut row);
+        row
+    }
+
+    /// Puts a row in the place of the one that its inode has.
+    pub fn give_back(&mut self, mut row: Row)
+        requires { IsInUse self.old.items row.inode }
+        ensures rows { self.new.items ≡ set self.old.items (place_in self.old.items row.inode) row }
+        ensures sup { self.new.sup ≡ self.old.sup }
+        ensures room { self.new.room ≡ self.old.room }
+    {
+        self.exchange(&mut row);
+    }
+
+    /// Exchanges the row of an inode in use for another of the same number.
+    fn exchange(&mut self, row: &mut Row)
+        requires { IsInUse self.old.items row.old.inode }
+        ensures row { row_of self.old.items row.old.inode ≡ Some row.new }
+        ensures rows { self.new.items ≡ set self.old.items (place_in self.old.items row.old.inode) row.old }
+        ensures rising { Rises row_key self.old.items }
+        ensures sup { self.new.sup ≡ self.old.sup }
+        ensures room { self.new.room ≡ self.old.room }
+    {
+        // Rows say of themselves that they rise.
+        let _rows = self.len();
+        match self.rows.get_mut(row.inode) {
+            Some(held) => mem::swap(held, row),
             None => unreachable!(),
         }
     }
