@@ -1,6 +1,6 @@
 -- A mounted file system once an inode was made: what it keeps.
-use Rattle.std.proofs.Common.{◌≡◌, ◌≢◌, ℕ, suc, ◌<◌, ◌/◌, ◌%◌, inl, inr, nat_eq, cond, Bool, true, false, List, length, set, slice_get, refl, ap, sym, ◌∙◌, subst, arith, Option, Some, None}
-use Rattle.std.specs.List.{Contains}
+use Rattle.std.proofs.Common.{◌≡◌, ◌≢◌, ℕ, zero, suc, ◌<◌, ◌/◌, ◌%◌, inl, inr, nat_eq, cond, Bool, true, false, List, [], ◌∷◌, length, set, slice_get, refl, ap, sym, ◌∙◌, subst, arith, Option, Some, None}
+use Rattle.std.specs.List.{Contains, insert}
 use Rattle.std.specs.Option.{option_and_then, option_map}
 use Rattle.std.proofs.Math.Logic.{∥∥₁_elim, ∥∥₁_map}
 use Rattle.std.proofs.Math.Nat.{ℕ_set}
@@ -39,7 +39,7 @@ use Rattle.nv_calls.specs.AtPlaces.{CreatesAt}
 use Rattle.nv_paths.specs.Spots.{IsNoneNamed}
 use Rattle.nv_steps.specs.Steps.{ShowsRow}
 use Rattle.nv_calls.proofs.CreatedHeld.{all_free, made_lists, made_sound, new_told}
-use Rattle.nv_rows.proofs.PutBack.{is_inserted}
+use Rattle.nv_super.proofs.Rising.{Contains-head, Contains-tail}
 use Rattle.nv_steps.proofs.Inserted.{from_inserted, stays_inserted}
 use Rattle.nv_calls.proofs.Mounts.{bytes_stay, kept_of_mounted, mounted_of_kept, mounted_with}
 use Rattle.nv_steps.proofs.NamedLogs.{named_told}
@@ -48,6 +48,13 @@ use Rattle.nv_super.proofs.Members.{stands}
 use Rattle.nv_rows.proofs.Places.{number_at}
 use Rattle.nv_steps.proofs.RowOf.{row_at}
 use Rattle.nv_steps.proofs.TakenBlocks.{all_differ, taken_sup}
+
+-- an element that was put in stands there
+is_inserted : (rows : List Row) (p : ℕ) (row : Row) → Contains (insert rows p row) row
+is_inserted [] zero row = Contains-head row []
+is_inserted [] (suc p) row = Contains-head row []
+is_inserted (x ∷ rows) zero row = Contains-head row (x ∷ rows)
+is_inserted (x ∷ rows) (suc p) row = Contains-tail x (insert rows p row) row (is_inserted rows p row)
 
 -- ---- what is held of rows
 

@@ -1,17 +1,16 @@
--- A row that was taken out, changed and put in again.
+-- A row that was lent, changed and given back.
 use Rattle.std.proofs.Common.{◌≡◌, ◌≢◌, ℕ, List, remove, set, refl, ap, sym, ◌∙◌, Some}
-use Rattle.nv_super.specs.Order.{Rises}
 use Rattle.nv_alloc.specs.FreeValue.{FreeLists}
 use Rattle.nv_scan.specs.declared.piece.Row.{Row}
-use Rattle.nv_rows.specs.Rows.{row_key, row_of, place_in, IsInUse, HasInserted}
-use Rattle.nv_rows.proofs.Places.{at_place, in_use, numbered, place_kept, put_one, row_in_use, row_of_other}
+use Rattle.nv_rows.specs.Rows.{row_of, place_in, IsInUse, IsLent}
+use Rattle.nv_rows.proofs.Places.{at_place, back_one, in_use, numbered, place_kept, row_in_use, row_of_other}
 use Rattle.nv_calls.specs.AtPlaces.{LeavesRows}
 use Rattle.nv_steps.specs.Steps.{LeavesStep}
 use Rattle.nv_calls.proofs.PutRow.{leaves_set}
 
-module _ (rows mid news : List Row) (i : ℕ) (was now : Row) (up : Rises row_key rows) (at : row_of rows i ≡ Some was) (taken : mid ≡ remove rows (place_in rows i)) (number : now.inode ≡ i) (put : HasInserted mid news now) where
+module _ (rows mid news : List Row) (i : ℕ) (was now : Row) (at : row_of rows i ≡ Some was) (lent : IsLent rows mid i) (number : now.inode ≡ i) (given : news ≡ set mid (place_in mid now.inode) now) where
   pub back : news ≡ set rows (place_in rows i) now
-  back = put_one rows mid news i was now up at taken number put
+  back = back_one rows mid news i now lent number given
 
   -- what was refused has changed nothing
   pub left_one : {P : Type 0} (memory later : P) (free after : FreeLists) → LeavesStep memory later free after was now → LeavesRows memory later free after rows news

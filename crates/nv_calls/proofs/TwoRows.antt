@@ -1,43 +1,46 @@
--- Two rows that were taken out, changed and put in again, as the rows at their two places.
-use Rattle.std.proofs.Common.{◌≡◌, ◌≢◌, ℕ, List, [], ◌∷◌, remove, set, slice_get, ap, sym, ◌∙◌, Some, None}
+-- Two rows that were lent, changed and given back, as the rows at their two places.
+use Rattle.std.proofs.Common.{◌≡◌, ◌≢◌, ℕ, List, [], ◌∷◌, set, slice_get, ap, subst, sym, ◌∙◌, Some}
 use Rattle.nv_region.specs.Region.{Region}
 use Rattle.nv_super.specs.declared.superblock.Super.{Super}
 use Rattle.nv_alloc.specs.FreeValue.{FreeLists}
 use Rattle.nv_entry.specs.declared.entry.Entry.{Entry}
 use Rattle.nv_scan.specs.declared.piece.Row.{Row}
-use Rattle.nv_rows.specs.Rows.{row_of, place_in, IsInUse, HasInserted}
+use Rattle.nv_rows.specs.Rows.{row_of, place_in, IsInUse, IsLent}
 use Rattle.nv_super.specs.Order.{Rises}
 use Rattle.nv_held.specs.nv_check.Cross.{row_key}
-use Rattle.nv_rows.proofs.Places.{at_place, in_use, others_stay, places_apart, row_in_use, set_rising}
+use Rattle.nv_rows.proofs.Places.{at_place, in_use, others_lent, places_apart, row_in_use, set_rising, used_back, used_lent}
 use Rattle.nv_held.specs.nv_outcome.Same.{SameRow}
 use Rattle.nv_steps.specs.MoreNames.{GrowsTwo}
 use Rattle.nv_calls.specs.AtPlaces.{LeavesRows}
 use Rattle.nv_steps.specs.Steps.{LeavesStep}
-use Rattle.nv_steps.proofs.Inserted.{row_of_inserted}
 use Rattle.nv_steps.proofs.RowsAt.{other_set}
 use Rattle.nv_steps.proofs.SetRows.{both_same}
 
--- ---- while a row is out
+-- ---- while a row is lent
 
--- another inode is in use still
-pub used_still : (rows mid : List Row) (i j : ℕ) → i ≢ j → mid ≡ remove rows (place_in rows i) → IsInUse rows j → IsInUse mid j
-used_still rows mid i j apart taken used =
-    let r = row_in_use rows j used in
-    in_use mid j r.0 (ap (λ (rs : List Row). row_of rs j) taken ∙ others_stay rows i j apart ∙ r.1)
+module _ (rows mid : List Row) (i j : ℕ) (apart : i ≢ j) (used : IsInUse rows i) (lent : IsLent rows mid i) where
+  -- another inode is in use still
+  pub used_still : IsInUse rows j → IsInUse mid j
+  used_still other_used =
+      let r = row_in_use rows j other_used in
+      in_use mid j r.0 (others_lent rows mid i j apart used lent ∙ r.1)
 
--- and has the row that it had
-pub row_stays : (rows mid : List Row) (i j : ℕ) → i ≢ j → mid ≡ remove rows (place_in rows i) → (row : Row) → row_of mid j ≡ Some row → row_of rows j ≡ Some row
-row_stays rows mid i j apart taken row at = sym (others_stay rows i j apart) ∙ ap (λ (rs : List Row). row_of rs j) (sym taken) ∙ at
+  -- and has the row that it had
+  pub row_stays : (row : Row) → row_of mid j ≡ Some row → row_of rows j ≡ Some row
+  row_stays row at = sym (others_lent rows mid i j apart used lent) ∙ at
 
--- one that has no row gets none where another's goes out
-pub none_still : (rows mid : List Row) (i j : ℕ) → i ≢ j → mid ≡ remove rows (place_in rows i) → row_of rows j ≡ None → row_of mid j ≡ None
-none_still rows mid i j apart taken none = ap (λ (rs : List Row). row_of rs j) taken ∙ others_stay rows i j apart ∙ none
+-- the one that was lent last can be given back
+pub last_used : (mid rest : List Row) (j : ℕ) (row : Row) → IsInUse mid j → IsLent mid rest j → row.inode ≡ j → IsInUse rest row.inode
+last_used mid rest j row used lent number = subst (IsInUse rest) (sym number) (used_lent mid rest j used lent)
 
--- or goes in
-pub none_put : (rows mid : List Row) (row : Row) (j : ℕ) → j ≢ row.inode → HasInserted rows mid row → row_of rows j ≡ None → row_of mid j ≡ None
-none_put rows mid row j apart put none = ap (λ (rs : List Row). row_of rs j) put.all ∙ row_of_inserted rows put.place row j apart ∙ none
+-- and then the one that was lent first
+pub first_used : (rows mid rest one : List Row) (i j : ℕ) (row other : Row) → i ≢ j → IsInUse rows i → IsInUse rows j → IsLent rows mid i → IsLent mid rest j → other.inode ≡ j → one ≡ set rest (place_in rest other.inode) other → row.inode ≡ i → IsInUse one row.inode
+first_used rows mid rest one i j row other apart used other_used lent other_lent other_number back number =
+    let used_j = used_still rows mid i j apart used lent other_used in
+    let used_i = used_still mid rest j i (λ e. apart (sym e)) used_j other_lent (used_lent rows mid i used lent) in
+    subst (IsInUse one) (sym number) (used_back rest one i j other apart (used_lent mid rest j used_j other_lent) other_number back used_i)
 
--- ---- both in again
+-- ---- both given back
 
 module _ (rows news : List Row) (i j : ℕ) (a b c d : Row) (apart : i ≢ j) (at : row_of rows i ≡ Some a) (other_at : row_of rows j ≡ Some b) (put : news ≡ set (set rows (place_in rows i) c) (place_in rows j) d) where
   -- what was done to the two is done at their places

@@ -69,7 +69,7 @@ impl<P: Pmem + Drop> Fs<P> {
     {
         self.writable(cpu)?;
         let inode = row_at(&self.rows, path)?.inode;
-        let mut row = self.rows.take(inode);
+        let mut row = self.rows.lend(self.alloc, inode);
         let attributes = AttrEntry {
             mode: mode % 4096,
             size: row.numbers.size,
@@ -86,7 +86,7 @@ impl<P: Pmem + Drop> Fs<P> {
             &mut row,
             attributes,
         );
-        self.rows.insert(row);
+        self.rows.give_back(row);
         match changed {
             Ok(()) => Ok(()),
             Err(refusal) => {

@@ -81,9 +81,9 @@ fn create_at<P: Pmem>(
     if rows.reserve(1).is_err() {
         return Err(Refusal::Memory);
     }
-    let mut row = rows.take(directory);
+    let mut row = rows.lend(alloc, directory);
     let made = make_named(alloc, memory, sup, free, cpu, &mut row, new);
-    rows.insert(row);
+    rows.give_back(row);
     rows.insert(made?);
     Ok(())
 }

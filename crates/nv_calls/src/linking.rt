@@ -71,8 +71,8 @@ fn link_at<P: Pmem>(
     ensures length { size (P.region memory.new) ≡ size (P.region memory.old) }
     ensures keeps_fuse { KeepsFuse (λ limit. size (P.region memory.old) ≤ limit) (P.fuse memory.old) (P.fuse memory.new) }
 {
-    let mut file = rows.take(named.target);
-    let mut directory = rows.take(named.directory);
+    let mut file = rows.lend(alloc, named.target);
+    let mut directory = rows.lend(alloc, named.directory);
     let done = link_both(
         alloc,
         memory,
@@ -84,8 +84,8 @@ fn link_at<P: Pmem>(
         named.name,
         time,
     );
-    rows.insert(directory);
-    rows.insert(file);
+    rows.give_back(directory);
+    rows.give_back(file);
     done
 }
 

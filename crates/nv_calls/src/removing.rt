@@ -67,9 +67,9 @@ pub(crate) fn remove_named<P: Pmem>(
         name: named.name,
         time,
     };
-    let mut directory = rows.take(named.directory);
+    let mut directory = rows.lend(alloc, named.directory);
     let cut = cut_name(alloc, memory, sup, free, cpu, &mut directory, &gone);
-    rows.insert(directory);
+    rows.give_back(directory);
     cut?;
     give_row(free, &rows.take(named.target));
     Ok(())

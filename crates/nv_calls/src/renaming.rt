@@ -74,12 +74,12 @@ fn move_across<P: Pmem>(
     ensures length { size (P.region memory.new) ≡ size (P.region memory.old) }
     ensures keeps_fuse { KeepsFuse (λ limit. size (P.region memory.old) ≤ limit) (P.fuse memory.old) (P.fuse memory.new) }
 {
-    let mut from = rows.take(moved.from.directory);
-    let mut to = rows.take(moved.directory);
+    let mut from = rows.lend(alloc, moved.from.directory);
+    let mut to = rows.lend(alloc, moved.directory);
     let other = other_name(moved, time);
     let done = move_both(alloc, memory, sup, free, cpu, &mut from, &mut to, &other);
-    rows.insert(to);
-    rows.insert(from);
+    rows.give_back(to);
+    rows.give_back(from);
     done
 }
 
@@ -134,10 +134,10 @@ fn move_at<P: Pmem>(
     if moved.from.directory != moved.directory {
         return move_across(alloc, memory, sup, free, cpu, rows, moved, time);
     }
-    let mut directory = rows.take(moved.directory);
+    let mut directory = rows.lend(alloc, moved.directory);
     let other = other_name(moved, time);
     let done = move_within(alloc, memory, sup, free, cpu, &mut directory, &other);
-    rows.insert(directory);
+    rows.give_back(directory);
     done
 }
 

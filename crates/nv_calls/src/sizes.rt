@@ -71,7 +71,7 @@ impl<P: Pmem + Drop> Fs<P> {
     {
         self.writable(cpu)?;
         let inode = resizable_at(&self.rows, path, size)?.inode;
-        let mut row = self.rows.take(inode);
+        let mut row = self.rows.lend(self.alloc, inode);
         let attributes = AttrEntry {
             mode: row.numbers.mode,
             size,
@@ -88,7 +88,7 @@ impl<P: Pmem + Drop> Fs<P> {
             &mut row,
             attributes,
         );
-        self.rows.insert(row);
+        self.rows.give_back(row);
         match resized {
             Ok(()) => Ok(()),
             Err(refusal) => {

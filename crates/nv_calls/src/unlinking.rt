@@ -77,8 +77,8 @@ fn unlink_at<P: Pmem>(
     ensures length { size (P.region memory.new) ≡ size (P.region memory.old) }
     ensures keeps_fuse { KeepsFuse (λ limit. size (P.region memory.old) ≤ limit) (P.fuse memory.old) (P.fuse memory.new) }
 {
-    let mut directory = rows.take(named.directory);
-    let mut file = rows.take(named.target);
+    let mut directory = rows.lend(alloc, named.directory);
+    let mut file = rows.lend(alloc, named.target);
     let done = unlink_both(
         alloc,
         memory,
@@ -90,8 +90,8 @@ fn unlink_at<P: Pmem>(
         named.name,
         time,
     );
-    rows.insert(file);
-    rows.insert(directory);
+    rows.give_back(file);
+    rows.give_back(directory);
     done
 }
 

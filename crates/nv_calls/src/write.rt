@@ -84,7 +84,7 @@ impl<P: Pmem + Drop> Fs<P> {
         if count == 0 {
             return Ok(());
         }
-        let mut row = self.rows.take(inode);
+        let mut row = self.rows.lend(self.alloc, inode);
         let size = row.numbers.size;
         let plan = Plan::new(&row.index, size, offset, count, time);
         let change = NewBytes {
@@ -102,7 +102,7 @@ impl<P: Pmem + Drop> Fs<P> {
             &plan,
             &change,
         );
-        self.rows.insert(row);
+        self.rows.give_back(row);
         match changed {
             Ok(()) => Ok(()),
             Err(refusal) => {

@@ -1,7 +1,6 @@
 pub mod SlotRows
 pub mod GivenRows
 pub mod Numbers
-pub mod PutBack
 pub mod InOrder
 pub mod UsedPlaces
 pub mod LowestPlace

@@ -1,4 +1,4 @@
--- For callers: where the row of an inode stands, and what the rows are once one or two were taken out, changed and put in again.
+-- For callers: where the row of an inode stands, and what the rows are once one or two were lent, changed and given back.
 use Rattle.std.proofs.Common.{◌≡◌, ◌≢◌, ℕ, zero, suc, ◌<◌, nat_eq, Bool, true, false, cond, is_some, List, [], ◌∷◌, length, get_or, remove, set, set-set, slice_get, Option, Some, None, refl, sym, ap, ◌∙◌, subst, arith}
 use Rattle.std.proofs.Math.Seq.{map-set_same}
 use Rattle.std.proofs.lemmas.List.{set_comm}
@@ -8,7 +8,6 @@ use Rattle.nv_super.specs.Order.{Rises}
 use Rattle.nv_super.proofs.RisingPlaces.{rises_keys}
 use Rattle.nv_scan.specs.declared.piece.Row.{Row}
 use Rattle.nv_rows.specs.Rows.{row_key, row_of, place_in, IsInUse, IsLent, IsPlaceOf, HasInserted}
-use Rattle.nv_rows.proofs.PutBack.{put_back}
 
 differs : (a i j : ℕ) → a ≡ i → i ≢ j → nat_eq a j ≡ false
 differs a i j is apart = grind (arith, nat_tests)
@@ -135,7 +134,7 @@ back_one old mid new i row lent number back =
     ∙ ap (λ (rs : List Row). set rs (place_in old i) row) lent.all
     ∙ set-set old (place_in old i) lent.blank row
 
--- two of them: the second was lent last, and given back first
+-- and two: the second was lent last, and given back first
 pub back_two : (old mid rest one new : List Row) (i j : ℕ) (row other : Row) → i ≢ j → IsInUse old i → IsInUse old j → IsLent old mid i → IsLent mid rest j → other.inode ≡ j → one ≡ set rest (place_in rest other.inode) other
     → row.inode ≡ i → new ≡ set one (place_in one row.inode) row → new ≡ set (set old (place_in old i) row) (place_in old j) other
 back_two old mid rest one new i j row other apart used other_used lent other_lent other_number other_back number back =
@@ -149,32 +148,12 @@ back_two old mid rest one new i j row other apart used other_used lent other_len
     ∙ set_comm (set old at lent.blank) place at other row (λ e. places_apart old i j used other_used apart (sym e))
     ∙ ap (λ (rs : List Row). set rs place other) (set-set old at lent.blank row)
 
--- ---- rows that were taken out and put in again
-
--- one of them
-pub put_one : (old mid new : List Row) (i : ℕ) (was row : Row) → Rises row_key old → row_of old i ≡ Some was → mid ≡ remove old (place_in old i) → row.inode ≡ i → HasInserted mid new row → new ≡ set old (place_in old i) row
-put_one old mid new i was row up at taken number put = put_back old mid new i (place_in old i) row up (is_place old i was at) taken number put
-
--- writing at one place and taking out at another go in any order
-set_removed : (rows : List Row) (i j : ℕ) (d : Row) → i ≢ j → set (remove rows (place_in rows i)) (place_in (remove rows (place_in rows i)) j) d ≡ remove (set rows (place_in rows j) d) (place_in rows i)
-set_removed [] i j d apart = refl
-set_removed (x ∷ rows) i j d apart = by (nat_eq x.inode i) (nat_eq x.inode j) refl refl (set_removed rows i j d apart) where
-  by : (b c : Bool) → nat_eq x.inode i ≡ b → nat_eq x.inode j ≡ c → set (remove rows (place_in rows i)) (place_in (remove rows (place_in rows i)) j) d ≡ remove (set rows (place_in rows j) d) (place_in rows i)
-      → set (remove (x ∷ rows) (cond b zero (suc (place_in rows i)))) (place_in (remove (x ∷ rows) (cond b zero (suc (place_in rows i)))) j) d ≡ remove (set (x ∷ rows) (cond c zero (suc (place_in rows j))) d) (cond b zero (suc (place_in rows i)))
-  by true true test other rest = absurd (apart (sym (tested x.inode i test) ∙ tested x.inode j other))
-  by true false test other rest = refl
-  by false true test other rest = ap (λ (c : Bool). set (x ∷ remove rows (place_in rows i)) (cond c zero (suc (place_in (remove rows (place_in rows i)) j))) d) other
-  by false false test other rest = ap (λ (c : Bool). set (x ∷ remove rows (place_in rows i)) (cond c zero (suc (place_in (remove rows (place_in rows i)) j))) d) other ∙ ap (λ (rs : List Row). x ∷ rs) rest
-
--- two of them: the second was taken out last, and was put in first
-pub put_two : (old mid rest one new : List Row) (i j : ℕ) (first second row other : Row) → i ≢ j → Rises row_key old → row_of old i ≡ Some first → mid ≡ remove old (place_in old i) → Rises row_key mid → row_of mid j ≡ Some second → rest ≡ remove mid (place_in mid j)
-    → other.inode ≡ j → HasInserted rest one other → row.inode ≡ i → HasInserted one new row → new ≡ set (set old (place_in old i) row) (place_in old j) other
-put_two old mid rest one new i j first second row other apart up at taken mid_up other_at other_taken other_number other_put number put =
-    let there : row_of old j ≡ Some second = sym (others_stay old i j apart) ∙ ap (λ (rs : List Row). row_of rs j) (sym taken) ∙ other_at in
-    let kept : one ≡ remove (set old (place_in old j) other) (place_in old i) = put_one mid rest one j second other mid_up other_at other_taken other_number other_put ∙ ap (λ (rs : List Row). set rs (place_in rs j) other) taken ∙ set_removed old i j other apart in
-    let wrote = set old (place_in old j) other in
-    let place : place_in wrote i ≡ place_in old i = place_kept old j i other other_number in
-    let up_then : Rises row_key wrote = set_rising old (place_in old j) second other up (at_place old j ∙ there) (other_number ∙ sym (numbered old j second there)) in
-    let at_then : row_of wrote i ≡ Some first = row_of_other old (place_in old j) second other i (at_place old j ∙ there) (λ e. apart (e ∙ numbered old j second there)) (λ e. apart (e ∙ other_number)) ∙ at in
-    let last : new ≡ set wrote (place_in wrote i) row = put_one wrote one new i first row up_then at_then (kept ∙ ap (remove wrote) (sym place)) number put in
-    last ∙ ap (λ (k : ℕ). set wrote k row) place ∙ set_comm old (place_in old j) (place_in old i) other row (λ e. places_apart old i j (in_use old i first at) (in_use old j second there) apart (sym e))
+-- an inode in use stays so where another's row is given back
+pub used_back : (rest one : List Row) (i j : ℕ) (row : Row) → i ≢ j → IsInUse rest j → row.inode ≡ j → one ≡ set rest (place_in rest row.inode) row → IsInUse rest i → IsInUse one i
+used_back rest one i j row apart there number back used =
+    let was = row_in_use rest j there in
+    let r = row_in_use rest i used in
+    let place : place_in rest row.inode ≡ place_in rest j = ap (place_in rest) number in
+    in_use one i r.0
+    (ap (λ (rs : List Row). row_of rs i) (back ∙ ap (λ (p : ℕ). set rest p row) place)
+    ∙ row_of_other rest (place_in rest j) was.0 row i (at_place rest j ∙ was.1) (λ e. apart (e ∙ numbered rest j was.0 was.1)) (λ e. apart (e ∙ number)) ∙ r.1)

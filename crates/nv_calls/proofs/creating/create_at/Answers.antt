@@ -1,14 +1,13 @@
-use Rattle.std.proofs.Common.{◌≡◌, ◌≢◌, ◌∙◌, ◌+◌, ◌%◌, ◌<◌, ◌≤◌, List, ℕ, Some, None, ap, refl, remove, subst, sym}
+use Rattle.std.proofs.Common.{◌≡◌, ◌≢◌, ◌∙◌, ◌+◌, ◌%◌, ◌<◌, ◌≤◌, List, ℕ, Some, None, ap, refl, subst, sym}
 use Rattle.std.proofs.lemmas.Result.{err_from_is_err_and}
 use Rattle.nv_super.proofs.Options.{some_only}
 use Rattle.nv_super.specs.Layout.{inode_limit}
-use Rattle.nv_super.specs.Order.{Rises}
 use Rattle.nv_super.specs.declared.superblock.Super.{Super}
 use Rattle.nv_alloc.specs.Taking.{all_blocks}
 use Rattle.nv_entry.specs.declared.entry.Operation.TheVariants.{Add}
 use Rattle.nv_logpage.specs.Append.{needed}
-use Rattle.nv_rows.specs.Rows.{HasInserted, place_in, row_key, row_of}
-use Rattle.nv_rows.proofs.Places.{at_place}
+use Rattle.nv_rows.specs.Rows.{HasInserted, IsInUse, IsLent, row_of}
+use Rattle.nv_rows.proofs.Places.{at_place, in_use}
 use Rattle.nv_scan.specs.declared.piece.Row.{Row}
 use Rattle.nv_tree.specs.declared.refusal.Refusal.{Refusal}
 use Rattle.nv_tree.specs.declared.refusal.Refusal.TheVariants.{Stopped}
@@ -18,7 +17,12 @@ use Rattle.nv_steps.specs.Steps.{RefusesStep}
 use Rattle.nv_tree.proofs.Replies.{refused_by}
 use Rattle.nv_calls.proofs.OneOut.{back, left_one, other_row}
 use Rattle.nv_calls.proofs.PutRow.{leaves_all}
+use Rattle.nv_calls.proofs.TwoRows.{last_used}
 use Rattle.nv_calls.proofs.creating.create_at.Goals as goal
+
+pub give_back-requires : goal.give_back-requires
+give_back-requires g c =
+    last_used c.reserve.new.self.items c.lend-row.new.self.items c.args.directory c.make_named-made.new.directory (in_use c.reserve.new.self.items c.args.directory c.lend-row.result c.lend-row.ensures.row) c.lend-row.ensures.lent (c.make_named-made.ensures.inode ∙ c.lend-row.ensures.number)
 
 pub returns-then-free_blocks-pages_needed-clause-unchanged : goal.returns-then-free_blocks-pages_needed-clause-unchanged
 returns-then-free_blocks-pages_needed-clause-unchanged g c off = leaves_all c.args.memory.now c.args.free.now c.args.rows.now.items c.args.rows.now.items refl
@@ -28,17 +32,17 @@ returns-then-is_err-clause-unchanged g c off = leaves_all c.args.memory.now c.ar
 
 pub make_named-made-requires-clause-stands : goal.make_named-made-requires-clause-stands
 make_named-made-requires-clause-stands g c =
-    let at : row_of c.args.rows.now.items c.args.directory ≡ Some c.take-row.result = ap (λ (rows : List Row). row_of rows c.args.directory) (sym c.reserve.ensures.rows) ∙ c.take-row.ensures.row in
-    c.requires.stands c.take-row.result at
+    let at : row_of c.args.rows.now.items c.args.directory ≡ Some c.lend-row.result = ap (λ (rows : List Row). row_of rows c.args.directory) (sym c.reserve.ensures.rows) ∙ c.lend-row.ensures.row in
+    c.requires.stands c.lend-row.result at
 
 pub make_named-made-requires-clause-can : goal.make_named-made-requires-clause-can
 make_named-made-requires-clause-can g c =
-    let at : row_of c.args.rows.now.items c.args.directory ≡ Some c.take-row.result = ap (λ (rows : List Row). row_of rows c.args.directory) (sym c.reserve.ensures.rows) ∙ c.take-row.ensures.row in
-    c.requires.can c.take-row.result at
+    let at : row_of c.args.rows.now.items c.args.directory ≡ Some c.lend-row.result = ap (λ (rows : List Row). row_of rows c.args.directory) (sym c.reserve.ensures.rows) ∙ c.lend-row.ensures.row in
+    c.requires.can c.lend-row.result at
 
 pub returns-in_err-made-clause-refused : goal.returns-in_err-made-clause-refused
 returns-in_err-made-clause-refused g c row is =
-    let at : row_of c.args.rows.now.items c.args.directory ≡ Some c.take-row.result = ap (λ (rows : List Row). row_of rows c.args.directory) (sym c.reserve.ensures.rows) ∙ c.take-row.ensures.row in
+    let at : row_of c.args.rows.now.items c.args.directory ≡ Some c.lend-row.result = ap (λ (rows : List Row). row_of rows c.args.directory) (sym c.reserve.ensures.rows) ∙ c.lend-row.ensures.row in
     let w = err_from_is_err_and c.from_residual.result c.from_residual.ensures.1 in
     refused_by c.from_residual.result c.in_err-made.field-0.0 w.0
     (λ (e : Refusal). RefusesStep e (1 + needed (row.tail % 4096) (name_entries Add c.args.new.now.inode c.args.new.now.name.now c.args.new.now.time)) c.args.free.now) w.1 w.2
@@ -46,45 +50,42 @@ returns-in_err-made-clause-refused g c row is =
 
 pub returns-in_err-made-clause-unchanged : goal.returns-in_err-made-clause-unchanged
 returns-in_err-made-clause-unchanged g c =
-    let at : row_of c.args.rows.now.items c.args.directory ≡ Some c.take-row.result = ap (λ (rows : List Row). row_of rows c.args.directory) (sym c.reserve.ensures.rows) ∙ c.take-row.ensures.row in
-    let up = subst (λ (rows : List Row). Rises row_key rows) c.reserve.ensures.rows c.take-row.ensures.rising in
-    let taken = c.take-row.ensures.rows ∙ ap (λ (rows : List Row). remove rows (place_in rows c.args.directory)) c.reserve.ensures.rows in
+    let at : row_of c.args.rows.now.items c.args.directory ≡ Some c.lend-row.result = ap (λ (rows : List Row). row_of rows c.args.directory) (sym c.reserve.ensures.rows) ∙ c.lend-row.ensures.row in
+    let lent : IsLent c.args.rows.now.items c.lend-row.new.self.items c.args.directory = subst (λ (rows : List Row). IsLent rows c.lend-row.new.self.items c.args.directory) c.reserve.ensures.rows c.lend-row.ensures.lent in
     let w = err_from_is_err_and c.from_residual.result c.from_residual.ensures.1 in
     refused_by c.from_residual.result c.in_err-made.field-0.0 w.0
-    (λ (e : Refusal). (e ≡ Stopped → ⊥) → LeavesRows c.args.memory.now c.make_named-made.new.memory c.args.free.now c.make_named-made.new.free c.args.rows.now.items c.insert.new.self.items) w.1 w.2
-    (λ off. left_one c.args.rows.now.items c.take-row.new.self.items c.insert.new.self.items c.args.directory c.take-row.result c.make_named-made.new.directory up at taken (c.make_named-made.ensures.inode ∙ c.take-row.ensures.number) c.insert.ensures.rows
+    (λ (e : Refusal). (e ≡ Stopped → ⊥) → LeavesRows c.args.memory.now c.make_named-made.new.memory c.args.free.now c.make_named-made.new.free c.args.rows.now.items c.give_back.new.self.items) w.1 w.2
+    (λ off. left_one c.args.rows.now.items c.lend-row.new.self.items c.give_back.new.self.items c.args.directory c.lend-row.result c.make_named-made.new.directory at lent (c.make_named-made.ensures.inode ∙ c.lend-row.ensures.number) c.give_back.ensures.rows
     c.args.memory.now c.make_named-made.new.memory c.args.free.now c.make_named-made.new.free (c.in_err-made.ensures.unchanged off))
 
-pub insert-requires-2-clause-within : goal.insert-requires-2-clause-within
-insert-requires-2-clause-within g c =
-    let sup : c.insert.new.self.sup ≡ c.args.rows.now.sup = c.insert.ensures.sup ∙ c.take-row.ensures.sup ∙ c.reserve.ensures.sup in
+pub insert-requires-clause-within : goal.insert-requires-clause-within
+insert-requires-clause-within g c =
+    let sup : c.give_back.new.self.sup ≡ c.args.rows.now.sup = c.give_back.ensures.sup ∙ c.lend-row.ensures.sup ∙ c.reserve.ensures.sup in
     let number : c.in_ok-made.field-0.inode ≡ c.args.new.now.inode = c.in_ok-made.ensures.made.row.inode in
-    subst (λ (i : ℕ). i < inode_limit c.insert.new.self.sup) (sym number) (subst (λ (s : Super). c.args.new.now.inode < inode_limit s) (sym sup) c.requires.limit)
+    subst (λ (i : ℕ). i < inode_limit c.give_back.new.self.sup) (sym number) (subst (λ (s : Super). c.args.new.now.inode < inode_limit s) (sym sup) c.requires.limit)
 
-pub insert-requires-2-clause-vacant : goal.insert-requires-2-clause-vacant
-insert-requires-2-clause-vacant g c =
-    let at : row_of c.args.rows.now.items c.args.directory ≡ Some c.take-row.result = ap (λ (rows : List Row). row_of rows c.args.directory) (sym c.reserve.ensures.rows) ∙ c.take-row.ensures.row in
-    let up = subst (λ (rows : List Row). Rises row_key rows) c.reserve.ensures.rows c.take-row.ensures.rising in
-    let taken = c.take-row.ensures.rows ∙ ap (λ (rows : List Row). remove rows (place_in rows c.args.directory)) c.reserve.ensures.rows in
-    let apart : c.args.directory ≢ c.args.new.now.inode = (λ same. (let clash : Some c.take-row.result ≡ None = sym at ∙ ap (row_of c.args.rows.now.items) same ∙ c.requires.unused in cc)) in
-    ap (row_of c.insert.new.self.items) c.in_ok-made.ensures.made.row.inode
-    ∙ other_row c.args.rows.now.items c.take-row.new.self.items c.insert.new.self.items c.args.directory c.take-row.result c.make_named-made.new.directory up at taken (c.make_named-made.ensures.inode ∙ c.take-row.ensures.number) c.insert.ensures.rows c.args.new.now.inode apart ∙ c.requires.unused
+pub insert-requires-clause-vacant : goal.insert-requires-clause-vacant
+insert-requires-clause-vacant g c =
+    let at : row_of c.args.rows.now.items c.args.directory ≡ Some c.lend-row.result = ap (λ (rows : List Row). row_of rows c.args.directory) (sym c.reserve.ensures.rows) ∙ c.lend-row.ensures.row in
+    let lent : IsLent c.args.rows.now.items c.lend-row.new.self.items c.args.directory = subst (λ (rows : List Row). IsLent rows c.lend-row.new.self.items c.args.directory) c.reserve.ensures.rows c.lend-row.ensures.lent in
+    let apart : c.args.directory ≢ c.args.new.now.inode = (λ same. (let clash : Some c.lend-row.result ≡ None = sym at ∙ ap (row_of c.args.rows.now.items) same ∙ c.requires.unused in cc)) in
+    ap (row_of c.give_back.new.self.items) c.in_ok-made.ensures.made.row.inode
+    ∙ other_row c.args.rows.now.items c.lend-row.new.self.items c.give_back.new.self.items c.args.directory c.lend-row.result c.make_named-made.new.directory at lent (c.make_named-made.ensures.inode ∙ c.lend-row.ensures.number) c.give_back.ensures.rows c.args.new.now.inode apart ∙ c.requires.unused
 
 pub returns-clause-created : goal.returns-clause-created
 returns-clause-created g c =
-    let at : row_of c.args.rows.now.items c.args.directory ≡ Some c.take-row.result = ap (λ (rows : List Row). row_of rows c.args.directory) (sym c.reserve.ensures.rows) ∙ c.take-row.ensures.row in
-    let up = subst (λ (rows : List Row). Rises row_key rows) c.reserve.ensures.rows c.take-row.ensures.rising in
-    let taken = c.take-row.ensures.rows ∙ ap (λ (rows : List Row). remove rows (place_in rows c.args.directory)) c.reserve.ensures.rows in
+    let at : row_of c.args.rows.now.items c.args.directory ≡ Some c.lend-row.result = ap (λ (rows : List Row). row_of rows c.args.directory) (sym c.reserve.ensures.rows) ∙ c.lend-row.ensures.row in
+    let lent : IsLent c.args.rows.now.items c.lend-row.new.self.items c.args.directory = subst (λ (rows : List Row). IsLent rows c.lend-row.new.self.items c.args.directory) c.reserve.ensures.rows c.lend-row.ensures.lent in
     record {
-      row = c.take-row.result;
+      row = c.lend-row.result;
       now = c.make_named-made.new.directory;
       made = c.in_ok-made.field-0;
       at = at_place c.args.rows.now.items c.args.directory ∙ at;
       step = c.in_ok-made.ensures.made;
-      put = subst (λ (rows : List Row). HasInserted rows c.insert-2.new.self.items c.in_ok-made.field-0) (back c.args.rows.now.items c.take-row.new.self.items c.insert.new.self.items c.args.directory c.take-row.result c.make_named-made.new.directory up at taken (c.make_named-made.ensures.inode ∙ c.take-row.ensures.number) c.insert.ensures.rows) c.insert-2.ensures.rows;
+      put = subst (λ (rows : List Row). HasInserted rows c.insert.new.self.items c.in_ok-made.field-0) (back c.args.rows.now.items c.lend-row.new.self.items c.give_back.new.self.items c.args.directory c.lend-row.result c.make_named-made.new.directory at lent (c.make_named-made.ensures.inode ∙ c.lend-row.ensures.number) c.give_back.ensures.rows) c.insert.ensures.rows;
     }
 
 pub returns-clause-enough : goal.returns-clause-enough
 returns-clause-enough g c row is =
-    let at : row_of c.args.rows.now.items c.args.directory ≡ Some c.take-row.result = ap (λ (rows : List Row). row_of rows c.args.directory) (sym c.reserve.ensures.rows) ∙ c.take-row.ensures.row in
+    let at : row_of c.args.rows.now.items c.args.directory ≡ Some c.lend-row.result = ap (λ (rows : List Row). row_of rows c.args.directory) (sym c.reserve.ensures.rows) ∙ c.lend-row.ensures.row in
     subst (λ (r : Row). 1 + needed (r.tail % 4096) (name_entries Add c.args.new.now.inode c.args.new.now.name.now c.args.new.now.time) ≤ all_blocks c.args.free.now.pools) (some_only _ _ (sym at ∙ is)) c.in_ok-made.ensures.enough

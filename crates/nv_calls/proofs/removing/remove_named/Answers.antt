@@ -5,7 +5,7 @@ use Rattle.nv_super.proofs.Options.{some_only}
 use Rattle.nv_alloc.specs.Taking.{all_blocks}
 use Rattle.nv_entry.specs.declared.entry.Operation.TheVariants.{Remove}
 use Rattle.nv_logpage.specs.Append.{needed}
-use Rattle.nv_rows.proofs.Places.{at_place, numbered}
+use Rattle.nv_rows.proofs.Places.{at_place, in_use, numbered}
 use Rattle.nv_scan.specs.declared.piece.Row.{Row}
 use Rattle.nv_tree.specs.declared.refusal.Refusal.{Refusal}
 use Rattle.nv_tree.specs.declared.refusal.Refusal.TheVariants.{Stopped}
@@ -17,26 +17,31 @@ use Rattle.nv_steps.specs.Steps.{RefusesStep}
 use Rattle.nv_tree.proofs.Replies.{refused_by}
 use Rattle.nv_calls.proofs.OneOut.{left_one, other_out, other_row, other_used}
 use Rattle.nv_calls.proofs.OwnedRow.{owns_taken}
+use Rattle.nv_calls.proofs.TwoRows.{last_used}
 use Rattle.nv_calls.proofs.removing.remove_named.Goals as goal
 
+pub give_back-requires : goal.give_back-requires
+give_back-requires g c =
+    last_used c.args.rows.now.items c.lend-directory.new.self.items c.args.named.now.directory c.cut_name-cut.new.directory (in_use c.args.rows.now.items c.args.named.now.directory c.lend-directory.result c.lend-directory.ensures.row) c.lend-directory.ensures.lent (c.cut_name-cut.ensures.inode ∙ c.lend-directory.ensures.number)
+
 pub cut_name-cut-requires-clause-stands : goal.cut_name-cut-requires-clause-stands
-cut_name-cut-requires-clause-stands g c = c.requires.stands c.take-directory.result c.take-directory.ensures.row
+cut_name-cut-requires-clause-stands g c = c.requires.stands c.lend-directory.result c.lend-directory.ensures.row
 
 pub cut_name-cut-requires-clause-can : goal.cut_name-cut-requires-clause-can
 cut_name-cut-requires-clause-can g c =
     let number = numbered c.args.rows.now.items c.args.named.now.target c.row.result.now c.row.ensures in
-    subst (λ (i : ℕ). CanName (g.P.Pmem.region c.args.memory.now) c.args.sup.now c.args.cpu i c.take-directory.result) number (c.requires.can c.take-directory.result c.row.result.now c.take-directory.ensures.row c.row.ensures).0
+    subst (λ (i : ℕ). CanName (g.P.Pmem.region c.args.memory.now) c.args.sup.now c.args.cpu i c.lend-directory.result) number (c.requires.can c.lend-directory.result c.row.result.now c.lend-directory.ensures.row c.row.ensures).0
 
 pub cut_name-cut-requires-clause-differ : goal.cut_name-cut-requires-clause-differ
 cut_name-cut-requires-clause-differ g c =
     let number = numbered c.args.rows.now.items c.args.named.now.target c.row.result.now c.row.ensures in
-    λ same. (c.requires.can c.take-directory.result c.row.result.now c.take-directory.ensures.row c.row.ensures).1 (same ∙ sym number)
+    λ same. (c.requires.can c.lend-directory.result c.row.result.now c.lend-directory.ensures.row c.row.ensures).1 (same ∙ sym number)
 
 pub returns-in_err-cut-clause-refused : goal.returns-in_err-cut-clause-refused
 returns-in_err-cut-clause-refused g c row gone at gone_at =
-    let row_is = some_only _ _ (sym c.take-directory.ensures.row ∙ at) in
+    let row_is = some_only _ _ (sym c.lend-directory.ensures.row ∙ at) in
     let number = sym (numbered c.args.rows.now.items c.args.named.now.target gone gone_at) in
-    let count : needed (c.take-directory.result.tail % 4096) (name_entries Remove c.args.named.now.target c.args.named.now.name.now c.args.time) ≡ needed (row.tail % 4096) (name_entries Remove gone.inode c.args.named.now.name.now c.args.time) = λ k. needed ((row_is k).tail % 4096) (name_entries Remove (number k) c.args.named.now.name.now c.args.time) in
+    let count : needed (c.lend-directory.result.tail % 4096) (name_entries Remove c.args.named.now.target c.args.named.now.name.now c.args.time) ≡ needed (row.tail % 4096) (name_entries Remove gone.inode c.args.named.now.name.now c.args.time) = λ k. needed ((row_is k).tail % 4096) (name_entries Remove (number k) c.args.named.now.name.now c.args.time) in
     let w = err_from_is_err_and c.from_residual.result c.from_residual.ensures.1 in
     refused_by c.from_residual.result c.in_err-cut.field-0.0 w.0
     (λ (e : Refusal). RefusesStep e (needed (row.tail % 4096) (name_entries Remove gone.inode c.args.named.now.name.now c.args.time)) c.args.free.now) w.1 w.2
@@ -46,52 +51,52 @@ pub returns-in_err-cut-clause-unchanged : goal.returns-in_err-cut-clause-unchang
 returns-in_err-cut-clause-unchanged g c =
     let w = err_from_is_err_and c.from_residual.result c.from_residual.ensures.1 in
     refused_by c.from_residual.result c.in_err-cut.field-0.0 w.0
-    (λ (e : Refusal). (e ≡ Stopped → ⊥) → LeavesRows c.args.memory.now c.cut_name-cut.new.memory c.args.free.now c.cut_name-cut.new.free c.args.rows.now.items c.insert.new.self.items) w.1 w.2
-    (λ off. left_one c.args.rows.now.items c.take-directory.new.self.items c.insert.new.self.items c.args.named.now.directory c.take-directory.result c.cut_name-cut.new.directory c.take-directory.ensures.rising c.take-directory.ensures.row c.take-directory.ensures.rows (c.cut_name-cut.ensures.inode ∙ c.take-directory.ensures.number) c.insert.ensures.rows
+    (λ (e : Refusal). (e ≡ Stopped → ⊥) → LeavesRows c.args.memory.now c.cut_name-cut.new.memory c.args.free.now c.cut_name-cut.new.free c.args.rows.now.items c.give_back.new.self.items) w.1 w.2
+    (λ off. left_one c.args.rows.now.items c.lend-directory.new.self.items c.give_back.new.self.items c.args.named.now.directory c.lend-directory.result c.cut_name-cut.new.directory c.lend-directory.ensures.row c.lend-directory.ensures.lent (c.cut_name-cut.ensures.inode ∙ c.lend-directory.ensures.number) c.give_back.ensures.rows
     c.args.memory.now c.cut_name-cut.new.memory c.args.free.now c.cut_name-cut.new.free (c.in_err-cut.ensures.unchanged off))
 
 pub take-requires : goal.take-requires
 take-requires g c =
     let rows = c.args.rows.now.items in
-    let apart : c.args.named.now.directory ≢ c.args.named.now.target = (λ same. (c.requires.can c.take-directory.result c.row.result.now c.take-directory.ensures.row c.row.ensures).1 (c.take-directory.ensures.number ∙ same ∙ sym (numbered rows c.args.named.now.target c.row.result.now c.row.ensures))) in
-    other_used rows c.take-directory.new.self.items c.insert.new.self.items c.args.named.now.directory c.take-directory.result c.cut_name-cut.new.directory c.take-directory.ensures.rising c.take-directory.ensures.row c.take-directory.ensures.rows (c.cut_name-cut.ensures.inode ∙ c.take-directory.ensures.number) c.insert.ensures.rows c.args.named.now.target apart c.requires.target
+    let apart : c.args.named.now.directory ≢ c.args.named.now.target = (λ same. (c.requires.can c.lend-directory.result c.row.result.now c.lend-directory.ensures.row c.row.ensures).1 (c.lend-directory.ensures.number ∙ same ∙ sym (numbered rows c.args.named.now.target c.row.result.now c.row.ensures))) in
+    other_used rows c.lend-directory.new.self.items c.give_back.new.self.items c.args.named.now.directory c.lend-directory.result c.cut_name-cut.new.directory c.lend-directory.ensures.row c.lend-directory.ensures.lent (c.cut_name-cut.ensures.inode ∙ c.lend-directory.ensures.number) c.give_back.ensures.rows c.args.named.now.target apart c.requires.target
 
 pub give_row-requires-clause-own : goal.give_row-requires-clause-own
 give_row-requires-clause-own g c =
     let rows = c.args.rows.now.items in
-    let apart : c.args.named.now.directory ≢ c.args.named.now.target = (λ same. (c.requires.can c.take-directory.result c.row.result.now c.take-directory.ensures.row c.row.ensures).1 (c.take-directory.ensures.number ∙ same ∙ sym (numbered rows c.args.named.now.target c.row.result.now c.row.ensures))) in
-    let there = sym (other_row rows c.take-directory.new.self.items c.insert.new.self.items c.args.named.now.directory c.take-directory.result c.cut_name-cut.new.directory c.take-directory.ensures.rising c.take-directory.ensures.row c.take-directory.ensures.rows (c.cut_name-cut.ensures.inode ∙ c.take-directory.ensures.number) c.insert.ensures.rows c.args.named.now.target apart) ∙ c.take.ensures.row in
+    let apart : c.args.named.now.directory ≢ c.args.named.now.target = (λ same. (c.requires.can c.lend-directory.result c.row.result.now c.lend-directory.ensures.row c.row.ensures).1 (c.lend-directory.ensures.number ∙ same ∙ sym (numbered rows c.args.named.now.target c.row.result.now c.row.ensures))) in
+    let there = sym (other_row rows c.lend-directory.new.self.items c.give_back.new.self.items c.args.named.now.directory c.lend-directory.result c.cut_name-cut.new.directory c.lend-directory.ensures.row c.lend-directory.ensures.lent (c.cut_name-cut.ensures.inode ∙ c.lend-directory.ensures.number) c.give_back.ensures.rows c.args.named.now.target apart) ∙ c.take.ensures.row in
     let cuts = c.in_ok-cut.ensures.cut in
     owns_taken cuts.taken (c.requires.owns c.take.result there)
 
 pub give_row-requires-clause-room : goal.give_row-requires-clause-room
 give_row-requires-clause-room g c =
     let rows = c.args.rows.now.items in
-    let apart : c.args.named.now.directory ≢ c.args.named.now.target = (λ same. (c.requires.can c.take-directory.result c.row.result.now c.take-directory.ensures.row c.row.ensures).1 (c.take-directory.ensures.number ∙ same ∙ sym (numbered rows c.args.named.now.target c.row.result.now c.row.ensures))) in
-    let there = sym (other_row rows c.take-directory.new.self.items c.insert.new.self.items c.args.named.now.directory c.take-directory.result c.cut_name-cut.new.directory c.take-directory.ensures.rising c.take-directory.ensures.row c.take-directory.ensures.rows (c.cut_name-cut.ensures.inode ∙ c.take-directory.ensures.number) c.insert.ensures.rows c.args.named.now.target apart) ∙ c.take.ensures.row in
+    let apart : c.args.named.now.directory ≢ c.args.named.now.target = (λ same. (c.requires.can c.lend-directory.result c.row.result.now c.lend-directory.ensures.row c.row.ensures).1 (c.lend-directory.ensures.number ∙ same ∙ sym (numbered rows c.args.named.now.target c.row.result.now c.row.ensures))) in
+    let there = sym (other_row rows c.lend-directory.new.self.items c.give_back.new.self.items c.args.named.now.directory c.lend-directory.result c.cut_name-cut.new.directory c.lend-directory.ensures.row c.lend-directory.ensures.lent (c.cut_name-cut.ensures.inode ∙ c.lend-directory.ensures.number) c.give_back.ensures.rows c.args.named.now.target apart) ∙ c.take.ensures.row in
     let same : c.row.result.now ≡ c.take.result = some_only _ _ (sym c.row.ensures ∙ there) in
     subst (λ (r : Row). length r.pages.items + div_ceil r.numbers.size 4096 ≤ c.cut_name-cut.new.free.room) same (subst (λ (n : ℕ). n ≤ c.cut_name-cut.new.free.room) c.most_blocks.ensures c.in_ok-cut.ensures.room)
 
 pub returns-clause-removed : goal.returns-clause-removed
 returns-clause-removed g c =
     let rows = c.args.rows.now.items in
-    let apart : c.args.named.now.directory ≢ c.args.named.now.target = (λ same. (c.requires.can c.take-directory.result c.row.result.now c.take-directory.ensures.row c.row.ensures).1 (c.take-directory.ensures.number ∙ same ∙ sym (numbered rows c.args.named.now.target c.row.result.now c.row.ensures))) in
-    let there = sym (other_row rows c.take-directory.new.self.items c.insert.new.self.items c.args.named.now.directory c.take-directory.result c.cut_name-cut.new.directory c.take-directory.ensures.rising c.take-directory.ensures.row c.take-directory.ensures.rows (c.cut_name-cut.ensures.inode ∙ c.take-directory.ensures.number) c.insert.ensures.rows c.args.named.now.target apart) ∙ c.take.ensures.row in
+    let apart : c.args.named.now.directory ≢ c.args.named.now.target = (λ same. (c.requires.can c.lend-directory.result c.row.result.now c.lend-directory.ensures.row c.row.ensures).1 (c.lend-directory.ensures.number ∙ same ∙ sym (numbered rows c.args.named.now.target c.row.result.now c.row.ensures))) in
+    let there = sym (other_row rows c.lend-directory.new.self.items c.give_back.new.self.items c.args.named.now.directory c.lend-directory.result c.cut_name-cut.new.directory c.lend-directory.ensures.row c.lend-directory.ensures.lent (c.cut_name-cut.ensures.inode ∙ c.lend-directory.ensures.number) c.give_back.ensures.rows c.args.named.now.target apart) ∙ c.take.ensures.row in
     record {
-      row = c.take-directory.result;
+      row = c.lend-directory.result;
       gone = c.take.result;
       now = c.cut_name-cut.new.directory;
       mid = c.cut_name-cut.new.free;
-      at = at_place rows c.args.named.now.directory ∙ c.take-directory.ensures.row;
+      at = at_place rows c.args.named.now.directory ∙ c.lend-directory.ensures.row;
       gone_at = at_place rows c.args.named.now.target ∙ there;
-      step = subst (λ (i : ℕ). CutsName (g.P.Pmem.region c.args.memory.now) (g.P.Pmem.region c.cut_name-cut.new.memory) c.args.sup.now c.args.free.now c.cut_name-cut.new.free c.take-directory.result c.cut_name-cut.new.directory i c.args.time c.args.named.now.name.now) (sym c.take.ensures.number) c.in_ok-cut.ensures.cut;
+      step = subst (λ (i : ℕ). CutsName (g.P.Pmem.region c.args.memory.now) (g.P.Pmem.region c.cut_name-cut.new.memory) c.args.sup.now c.args.free.now c.cut_name-cut.new.free c.lend-directory.result c.cut_name-cut.new.directory i c.args.time c.args.named.now.name.now) (sym c.take.ensures.number) c.in_ok-cut.ensures.cut;
       given = c.give_row.ensures.given;
-      put = other_out rows c.take-directory.new.self.items c.insert.new.self.items c.args.named.now.directory c.take-directory.result c.cut_name-cut.new.directory c.take-directory.ensures.rising c.take-directory.ensures.row c.take-directory.ensures.rows (c.cut_name-cut.ensures.inode ∙ c.take-directory.ensures.number) c.insert.ensures.rows c.args.named.now.target apart c.take.ensures.rows;
+      put = other_out rows c.lend-directory.new.self.items c.give_back.new.self.items c.args.named.now.directory c.lend-directory.result c.cut_name-cut.new.directory c.lend-directory.ensures.row c.lend-directory.ensures.lent (c.cut_name-cut.ensures.inode ∙ c.lend-directory.ensures.number) c.give_back.ensures.rows c.args.named.now.target apart c.take.ensures.rows;
     }
 
 pub returns-clause-enough : goal.returns-clause-enough
 returns-clause-enough g c row gone at gone_at =
-    let row_is = some_only _ _ (sym c.take-directory.ensures.row ∙ at) in
+    let row_is = some_only _ _ (sym c.lend-directory.ensures.row ∙ at) in
     let number = sym (numbered c.args.rows.now.items c.args.named.now.target gone gone_at) in
-    let count : needed (c.take-directory.result.tail % 4096) (name_entries Remove c.args.named.now.target c.args.named.now.name.now c.args.time) ≡ needed (row.tail % 4096) (name_entries Remove gone.inode c.args.named.now.name.now c.args.time) = λ k. needed ((row_is k).tail % 4096) (name_entries Remove (number k) c.args.named.now.name.now c.args.time) in
+    let count : needed (c.lend-directory.result.tail % 4096) (name_entries Remove c.args.named.now.target c.args.named.now.name.now c.args.time) ≡ needed (row.tail % 4096) (name_entries Remove gone.inode c.args.named.now.name.now c.args.time) = λ k. needed ((row_is k).tail % 4096) (name_entries Remove (number k) c.args.named.now.name.now c.args.time) in
     subst (λ (n : ℕ). n ≤ all_blocks c.args.free.now.pools) count c.in_ok-cut.ensures.enough

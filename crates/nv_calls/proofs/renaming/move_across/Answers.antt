@@ -3,65 +3,68 @@ use Rattle.std.proofs.lemmas.Result.{IfErr-weaker, on_ok_weaker}
 use Rattle.nv_super.proofs.Options.{some_only}
 use Rattle.nv_alloc.specs.Taking.{all_blocks}
 use Rattle.nv_rows.specs.Rows.{row_of}
-use Rattle.nv_rows.proofs.Places.{at_place, numbered, put_two, row_in_use}
+use Rattle.nv_rows.proofs.Places.{at_place, numbered, back_two, row_in_use}
 use Rattle.nv_tree.specs.declared.refusal.Refusal.{Refusal}
 use Rattle.nv_steps.specs.Steps.{RefusesStep}
 use Rattle.nv_calls.proofs.MoveAt.{both_count, moves_across}
-use Rattle.nv_calls.proofs.TwoRows.{left_two, lifted, none_put, none_still, row_stays, used_still}
+use Rattle.nv_calls.proofs.TwoRows.{first_used, last_used, left_two, lifted, row_stays, used_still}
 use Rattle.nv_calls.proofs.renaming.move_across.Goals as goal
 
-pub take-to-requires : goal.take-to-requires
-take-to-requires g c = used_still c.args.rows.now.items c.take-from.new.self.items c.args.moved.now.from.directory c.args.moved.now.directory c.requires.apart c.take-from.ensures.rows c.requires.directory
+pub lend-to-requires : goal.lend-to-requires
+lend-to-requires g c = used_still c.args.rows.now.items c.lend-from.new.self.items c.args.moved.now.from.directory c.args.moved.now.directory c.requires.apart c.requires.from c.lend-from.ensures.lent c.requires.directory
 
 pub move_both-done-requires-clause-apart : goal.move_both-done-requires-clause-apart
-move_both-done-requires-clause-apart g c = λ same. c.requires.apart (sym c.take-from.ensures.number ∙ same ∙ c.take-to.ensures.number)
+move_both-done-requires-clause-apart g c = λ same. c.requires.apart (sym c.lend-from.ensures.number ∙ same ∙ c.lend-to.ensures.number)
 
 pub move_both-done-requires-clause-stands : goal.move_both-done-requires-clause-stands
-move_both-done-requires-clause-stands g c = c.requires.stands c.take-from.result c.take-from.ensures.row
+move_both-done-requires-clause-stands g c = c.requires.stands c.lend-from.result c.lend-from.ensures.row
 
 pub move_both-done-requires-clause-to_stands : goal.move_both-done-requires-clause-to_stands
 move_both-done-requires-clause-to_stands g c =
-    let there = row_stays c.args.rows.now.items c.take-from.new.self.items c.args.moved.now.from.directory c.args.moved.now.directory c.requires.apart c.take-from.ensures.rows c.take-to.result c.take-to.ensures.row in
-    c.requires.other_stands c.take-to.result there
+    let there = row_stays c.args.rows.now.items c.lend-from.new.self.items c.args.moved.now.from.directory c.args.moved.now.directory c.requires.apart c.requires.from c.lend-from.ensures.lent c.lend-to.result c.lend-to.ensures.row in
+    c.requires.other_stands c.lend-to.result there
 
-pub insert-requires-2-clause-vacant : goal.insert-requires-2-clause-vacant
-insert-requires-2-clause-vacant g c =
-    let number = c.move_both-done.ensures.inode ∙ c.take-from.ensures.number in
-    let other_number = c.move_both-done.ensures.to_inode ∙ c.take-to.ensures.number in
-    let gone = none_still c.take-from.new.self.items c.take-to.new.self.items c.args.moved.now.directory c.args.moved.now.from.directory (λ e. c.requires.apart (sym e)) c.take-to.ensures.rows c.take-from.ensures.gone in
-    ap (row_of c.insert.new.self.items) number ∙ none_put c.take-to.new.self.items c.insert.new.self.items c.move_both-done.new.to c.args.moved.now.from.directory (λ e. c.requires.apart (e ∙ other_number)) c.insert.ensures.rows gone
+pub give_back-requires : goal.give_back-requires
+give_back-requires g c =
+    let used = used_still c.args.rows.now.items c.lend-from.new.self.items c.args.moved.now.from.directory c.args.moved.now.directory c.requires.apart c.requires.from c.lend-from.ensures.lent c.requires.directory in
+    last_used c.lend-from.new.self.items c.lend-to.new.self.items c.args.moved.now.directory c.move_both-done.new.to used c.lend-to.ensures.lent (c.move_both-done.ensures.to_inode ∙ c.lend-to.ensures.number)
+
+pub give_back-requires-2 : goal.give_back-requires-2
+give_back-requires-2 g c =
+    first_used c.args.rows.now.items c.lend-from.new.self.items c.lend-to.new.self.items c.give_back.new.self.items c.args.moved.now.from.directory c.args.moved.now.directory c.move_both-done.new.from c.move_both-done.new.to c.requires.apart c.requires.from c.requires.directory c.lend-from.ensures.lent c.lend-to.ensures.lent
+    (c.move_both-done.ensures.to_inode ∙ c.lend-to.ensures.number) c.give_back.ensures.rows (c.move_both-done.ensures.inode ∙ c.lend-from.ensures.number)
 
 pub returns-clause-moved : goal.returns-clause-moved
 returns-clause-moved g c =
     let rows = c.args.rows.now.items in
-    let there = row_stays rows c.take-from.new.self.items c.args.moved.now.from.directory c.args.moved.now.directory c.requires.apart c.take-from.ensures.rows c.take-to.result c.take-to.ensures.row in
-    let put = put_two rows c.take-from.new.self.items c.take-to.new.self.items c.insert.new.self.items c.insert-2.new.self.items c.args.moved.now.from.directory c.args.moved.now.directory c.take-from.result c.take-to.result c.move_both-done.new.from c.move_both-done.new.to c.requires.apart
-    c.take-from.ensures.rising c.take-from.ensures.row c.take-from.ensures.rows c.take-to.ensures.rising c.take-to.ensures.row c.take-to.ensures.rows (c.move_both-done.ensures.to_inode ∙ c.take-to.ensures.number) c.insert.ensures.rows (c.move_both-done.ensures.inode ∙ c.take-from.ensures.number) c.insert-2.ensures.rows in
+    let there = row_stays rows c.lend-from.new.self.items c.args.moved.now.from.directory c.args.moved.now.directory c.requires.apart c.requires.from c.lend-from.ensures.lent c.lend-to.result c.lend-to.ensures.row in
+    let put = back_two rows c.lend-from.new.self.items c.lend-to.new.self.items c.give_back.new.self.items c.give_back-2.new.self.items c.args.moved.now.from.directory c.args.moved.now.directory c.move_both-done.new.from c.move_both-done.new.to c.requires.apart c.requires.from c.requires.directory
+    c.lend-from.ensures.lent c.lend-to.ensures.lent (c.move_both-done.ensures.to_inode ∙ c.lend-to.ensures.number) c.give_back.ensures.rows (c.move_both-done.ensures.inode ∙ c.lend-from.ensures.number) c.give_back-2.ensures.rows in
     let target = row_in_use rows c.args.moved.now.from.target c.requires.target in
     let number = c.other_name-other.ensures.inode ∙ sym (numbered rows c.args.moved.now.from.target target.0 target.1) in
     on_ok_weaker c.move_both-done.result (λ step. moves_across target.0 (at_place rows c.args.moved.now.from.target ∙ target.1) number c.other_name-other.ensures.name c.other_name-other.ensures.other c.other_name-other.ensures.time
-    (lifted rows c.insert-2.new.self.items c.args.moved.now.from.directory c.args.moved.now.directory c.take-from.result c.take-to.result c.move_both-done.new.from c.move_both-done.new.to c.requires.apart c.take-from.ensures.row there put step)) c.move_both-done.ensures.moved
+    (lifted rows c.give_back-2.new.self.items c.args.moved.now.from.directory c.args.moved.now.directory c.lend-from.result c.lend-to.result c.move_both-done.new.from c.move_both-done.new.to c.requires.apart c.lend-from.ensures.row there put step)) c.move_both-done.ensures.moved
 
 pub returns-clause-enough : goal.returns-clause-enough
 returns-clause-enough g c from to inode at other_at inode_at =
     let rows = c.args.rows.now.items in
-    let there = row_stays rows c.take-from.new.self.items c.args.moved.now.from.directory c.args.moved.now.directory c.requires.apart c.take-from.ensures.rows c.take-to.result c.take-to.ensures.row in
+    let there = row_stays rows c.lend-from.new.self.items c.args.moved.now.from.directory c.args.moved.now.directory c.requires.apart c.requires.from c.lend-from.ensures.lent c.lend-to.result c.lend-to.ensures.row in
     let number = c.other_name-other.ensures.inode ∙ sym (numbered rows c.args.moved.now.from.target inode inode_at) in
-    let count = both_count (some_only _ _ (sym c.take-from.ensures.row ∙ at)) (some_only _ _ (sym there ∙ other_at)) number c.other_name-other.ensures.name c.other_name-other.ensures.other c.other_name-other.ensures.time in
+    let count = both_count (some_only _ _ (sym c.lend-from.ensures.row ∙ at)) (some_only _ _ (sym there ∙ other_at)) number c.other_name-other.ensures.name c.other_name-other.ensures.other c.other_name-other.ensures.time in
     on_ok_weaker c.move_both-done.result (subst (λ (n : ℕ). n ≤ all_blocks c.args.free.now.pools) count) c.move_both-done.ensures.enough
 
 pub returns-clause-refused : goal.returns-clause-refused
 returns-clause-refused g c from to inode at other_at inode_at =
     let rows = c.args.rows.now.items in
-    let there = row_stays rows c.take-from.new.self.items c.args.moved.now.from.directory c.args.moved.now.directory c.requires.apart c.take-from.ensures.rows c.take-to.result c.take-to.ensures.row in
+    let there = row_stays rows c.lend-from.new.self.items c.args.moved.now.from.directory c.args.moved.now.directory c.requires.apart c.requires.from c.lend-from.ensures.lent c.lend-to.result c.lend-to.ensures.row in
     let number = c.other_name-other.ensures.inode ∙ sym (numbered rows c.args.moved.now.from.target inode inode_at) in
-    let count = both_count (some_only _ _ (sym c.take-from.ensures.row ∙ at)) (some_only _ _ (sym there ∙ other_at)) number c.other_name-other.ensures.name c.other_name-other.ensures.other c.other_name-other.ensures.time in
+    let count = both_count (some_only _ _ (sym c.lend-from.ensures.row ∙ at)) (some_only _ _ (sym there ∙ other_at)) number c.other_name-other.ensures.name c.other_name-other.ensures.other c.other_name-other.ensures.time in
     IfErr-weaker c.move_both-done.result _ _ (λ (e : Refusal). subst (λ (n : ℕ). RefusesStep e n c.args.free.now) count) c.move_both-done.ensures.refused
 
 pub returns-clause-unchanged : goal.returns-clause-unchanged
 returns-clause-unchanged g c =
     let rows = c.args.rows.now.items in
-    let there = row_stays rows c.take-from.new.self.items c.args.moved.now.from.directory c.args.moved.now.directory c.requires.apart c.take-from.ensures.rows c.take-to.result c.take-to.ensures.row in
-    let put = put_two rows c.take-from.new.self.items c.take-to.new.self.items c.insert.new.self.items c.insert-2.new.self.items c.args.moved.now.from.directory c.args.moved.now.directory c.take-from.result c.take-to.result c.move_both-done.new.from c.move_both-done.new.to c.requires.apart
-    c.take-from.ensures.rising c.take-from.ensures.row c.take-from.ensures.rows c.take-to.ensures.rising c.take-to.ensures.row c.take-to.ensures.rows (c.move_both-done.ensures.to_inode ∙ c.take-to.ensures.number) c.insert.ensures.rows (c.move_both-done.ensures.inode ∙ c.take-from.ensures.number) c.insert-2.ensures.rows in
-    IfErr-weaker c.move_both-done.result _ _ (λ (e : Refusal) told off. (let left = told off in left_two rows c.insert-2.new.self.items c.args.moved.now.from.directory c.args.moved.now.directory c.take-from.result c.take-to.result c.move_both-done.new.from c.move_both-done.new.to c.requires.apart c.take-from.ensures.row there put c.args.memory.now c.move_both-done.new.memory c.args.free.now c.move_both-done.new.free left.0 left.1)) c.move_both-done.ensures.unchanged
+    let there = row_stays rows c.lend-from.new.self.items c.args.moved.now.from.directory c.args.moved.now.directory c.requires.apart c.requires.from c.lend-from.ensures.lent c.lend-to.result c.lend-to.ensures.row in
+    let put = back_two rows c.lend-from.new.self.items c.lend-to.new.self.items c.give_back.new.self.items c.give_back-2.new.self.items c.args.moved.now.from.directory c.args.moved.now.directory c.move_both-done.new.from c.move_both-done.new.to c.requires.apart c.requires.from c.requires.directory
+    c.lend-from.ensures.lent c.lend-to.ensures.lent (c.move_both-done.ensures.to_inode ∙ c.lend-to.ensures.number) c.give_back.ensures.rows (c.move_both-done.ensures.inode ∙ c.lend-from.ensures.number) c.give_back-2.ensures.rows in
+    IfErr-weaker c.move_both-done.result _ _ (λ (e : Refusal) told off. (let left = told off in left_two rows c.give_back-2.new.self.items c.args.moved.now.from.directory c.args.moved.now.directory c.lend-from.result c.lend-to.result c.move_both-done.new.from c.move_both-done.new.to c.requires.apart c.lend-from.ensures.row there put c.args.memory.now c.move_both-done.new.memory c.args.free.now c.move_both-done.new.free left.0 left.1)) c.move_both-done.ensures.unchanged

@@ -3,12 +3,17 @@ use Rattle.std.proofs.lemmas.Result.{IfErr-weaker, on_ok_weaker}
 use Rattle.nv_super.proofs.Options.{some_only}
 use Rattle.nv_alloc.specs.Taking.{all_blocks}
 use Rattle.nv_rows.specs.Rows.{place_in, row_of}
-use Rattle.nv_rows.proofs.Places.{at_place, numbered, places_apart, put_one, row_in_use}
+use Rattle.nv_rows.proofs.Places.{at_place, back_one, in_use, numbered, places_apart, row_in_use}
 use Rattle.nv_tree.specs.declared.refusal.Refusal.{Refusal}
 use Rattle.nv_steps.specs.Steps.{RefusesStep}
 use Rattle.nv_calls.proofs.MoveAt.{across_count, here_count, moves_here, within_count}
 use Rattle.nv_calls.proofs.OneOut.{left_one}
+use Rattle.nv_calls.proofs.TwoRows.{last_used}
 use Rattle.nv_calls.proofs.renaming.move_at.Goals as goal
+
+pub give_back-requires : goal.give_back-requires
+give_back-requires g c =
+    last_used c.args.rows.now.items c.lend-directory.new.self.items c.args.moved.now.directory c.move_within-done.new.directory (in_use c.args.rows.now.items c.args.moved.now.directory c.lend-directory.result c.lend-directory.ensures.row) c.lend-directory.ensures.lent (c.move_within-done.ensures.inode ∙ c.lend-directory.ensures.number)
 
 pub returns-then-moved-clause-moved : goal.returns-then-moved-clause-moved
 returns-then-moved-clause-moved g c =
@@ -25,21 +30,21 @@ returns-then-moved-clause-refused g c from to inode at other_at inode_at =
     IfErr-weaker c.move_across.result _ _ (λ (e : Refusal). subst (λ (n : ℕ). RefusesStep e n c.args.free.now) (sym (across_count (place_in c.args.rows.now.items c.args.moved.now.from.directory) (place_in c.args.rows.now.items c.args.moved.now.directory) from to inode.inode c.args.moved.now.from.name.now c.args.moved.now.name.now c.args.time apart))) (c.move_across.ensures.refused from to inode at other_at inode_at)
 
 pub move_within-done-requires-clause-stands : goal.move_within-done-requires-clause-stands
-move_within-done-requires-clause-stands g c = (c.requires.other_stands c.take-directory.result c.take-directory.ensures.row).0
+move_within-done-requires-clause-stands g c = (c.requires.other_stands c.lend-directory.result c.lend-directory.ensures.row).0
 
 pub returns-clause-moved : goal.returns-clause-moved
 returns-clause-moved g c =
     let rows = c.args.rows.now.items in
-    let put = put_one rows c.take-directory.new.self.items c.insert.new.self.items c.args.moved.now.directory c.take-directory.result c.move_within-done.new.directory c.take-directory.ensures.rising c.take-directory.ensures.row c.take-directory.ensures.rows (c.move_within-done.ensures.inode ∙ c.take-directory.ensures.number) c.insert.ensures.rows in
+    let put = back_one rows c.lend-directory.new.self.items c.give_back.new.self.items c.args.moved.now.directory c.move_within-done.new.directory c.lend-directory.ensures.lent (c.move_within-done.ensures.inode ∙ c.lend-directory.ensures.number) c.give_back.ensures.rows in
     let target = row_in_use rows c.args.moved.now.from.target c.requires.target in
     let number = c.other_name-other.ensures.inode ∙ sym (numbered rows c.args.moved.now.from.target target.0 target.1) in
-    rw put (on_ok_weaker c.move_within-done.result (moves_here rows c.take-directory.result c.move_within-done.new.directory target.0 (ap (place_in rows) c.if-moved.false) (at_place rows c.args.moved.now.directory ∙ c.take-directory.ensures.row) (at_place rows c.args.moved.now.from.target ∙ target.1)
+    rw put (on_ok_weaker c.move_within-done.result (moves_here rows c.lend-directory.result c.move_within-done.new.directory target.0 (ap (place_in rows) c.if-moved.false) (at_place rows c.args.moved.now.directory ∙ c.lend-directory.ensures.row) (at_place rows c.args.moved.now.from.target ∙ target.1)
     number c.other_name-other.ensures.name c.other_name-other.ensures.other c.other_name-other.ensures.time) c.move_within-done.ensures.moved)
 
 pub returns-clause-enough : goal.returns-clause-enough
 returns-clause-enough g c from to inode at other_at inode_at =
     let rows = c.args.rows.now.items in
-    let one = some_only _ _ (sym c.take-directory.ensures.row ∙ sym (ap (row_of rows) c.if-moved.false) ∙ at) in
+    let one = some_only _ _ (sym c.lend-directory.ensures.row ∙ sym (ap (row_of rows) c.if-moved.false) ∙ at) in
     let number = c.other_name-other.ensures.inode ∙ sym (numbered rows c.args.moved.now.from.target inode inode_at) in
     let count = here_count one number c.other_name-other.ensures.name c.other_name-other.ensures.other c.other_name-other.ensures.time ∙ sym (within_count (place_in rows c.args.moved.now.from.directory) (place_in rows c.args.moved.now.directory) from to inode.inode c.args.moved.now.from.name.now c.args.moved.now.name.now c.args.time (ap (place_in rows) c.if-moved.false)) in
     on_ok_weaker c.move_within-done.result (subst (λ (n : ℕ). n ≤ all_blocks c.args.free.now.pools) count) c.move_within-done.ensures.enough
@@ -47,12 +52,12 @@ returns-clause-enough g c from to inode at other_at inode_at =
 pub returns-clause-refused : goal.returns-clause-refused
 returns-clause-refused g c from to inode at other_at inode_at =
     let rows = c.args.rows.now.items in
-    let one = some_only _ _ (sym c.take-directory.ensures.row ∙ sym (ap (row_of rows) c.if-moved.false) ∙ at) in
+    let one = some_only _ _ (sym c.lend-directory.ensures.row ∙ sym (ap (row_of rows) c.if-moved.false) ∙ at) in
     let number = c.other_name-other.ensures.inode ∙ sym (numbered rows c.args.moved.now.from.target inode inode_at) in
     let count = here_count one number c.other_name-other.ensures.name c.other_name-other.ensures.other c.other_name-other.ensures.time ∙ sym (within_count (place_in rows c.args.moved.now.from.directory) (place_in rows c.args.moved.now.directory) from to inode.inode c.args.moved.now.from.name.now c.args.moved.now.name.now c.args.time (ap (place_in rows) c.if-moved.false)) in
     IfErr-weaker c.move_within-done.result _ _ (λ (e : Refusal). subst (λ (n : ℕ). RefusesStep e n c.args.free.now) count) c.move_within-done.ensures.refused
 
 pub returns-clause-unchanged : goal.returns-clause-unchanged
 returns-clause-unchanged g c =
-    IfErr-weaker c.move_within-done.result _ _ (λ (e : Refusal) told off. left_one c.args.rows.now.items c.take-directory.new.self.items c.insert.new.self.items c.args.moved.now.directory c.take-directory.result c.move_within-done.new.directory c.take-directory.ensures.rising c.take-directory.ensures.row c.take-directory.ensures.rows (c.move_within-done.ensures.inode ∙ c.take-directory.ensures.number) c.insert.ensures.rows
+    IfErr-weaker c.move_within-done.result _ _ (λ (e : Refusal) told off. left_one c.args.rows.now.items c.lend-directory.new.self.items c.give_back.new.self.items c.args.moved.now.directory c.lend-directory.result c.move_within-done.new.directory c.lend-directory.ensures.row c.lend-directory.ensures.lent (c.move_within-done.ensures.inode ∙ c.lend-directory.ensures.number) c.give_back.ensures.rows
     c.args.memory.now c.move_within-done.new.memory c.args.free.now c.move_within-done.new.free (told off)) c.move_within-done.ensures.unchanged

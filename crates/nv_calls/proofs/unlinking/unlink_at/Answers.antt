@@ -6,61 +6,64 @@ use Rattle.nv_entry.specs.declared.entry.Operation.TheVariants.{Remove}
 use Rattle.nv_logpage.specs.Append.{needed}
 use Rattle.nv_scan.specs.declared.piece.Row.{Row}
 use Rattle.nv_rows.specs.Rows.{row_of}
-use Rattle.nv_rows.proofs.Places.{put_two}
+use Rattle.nv_rows.proofs.Places.{back_two}
 use Rattle.nv_tree.specs.declared.refusal.Refusal.{Refusal}
 use Rattle.nv_steps.specs.NameEntries.{links_entries, name_entries}
 use Rattle.nv_steps.specs.Unlinks.{UnlinksAt}
 use Rattle.nv_steps.specs.Steps.{RefusesStep}
-use Rattle.nv_calls.proofs.TwoRows.{left_two, lifted, none_put, none_still, row_stays, used_still}
+use Rattle.nv_calls.proofs.TwoRows.{first_used, last_used, left_two, lifted, row_stays, used_still}
 use Rattle.nv_calls.proofs.unlinking.unlink_at.Goals as goal
 
-pub take-file-requires : goal.take-file-requires
-take-file-requires g c = used_still c.args.rows.now.items c.take-directory.new.self.items c.args.named.now.directory c.args.named.now.target c.requires.apart c.take-directory.ensures.rows c.requires.target
+pub lend-file-requires : goal.lend-file-requires
+lend-file-requires g c = used_still c.args.rows.now.items c.lend-directory.new.self.items c.args.named.now.directory c.args.named.now.target c.requires.apart c.requires.directory c.lend-directory.ensures.lent c.requires.target
 
 pub unlink_both-done-requires-clause-stands : goal.unlink_both-done-requires-clause-stands
-unlink_both-done-requires-clause-stands g c = c.requires.stands c.take-directory.result c.take-directory.ensures.row
+unlink_both-done-requires-clause-stands g c = c.requires.stands c.lend-directory.result c.lend-directory.ensures.row
 
 pub unlink_both-done-requires-clause-file_stands : goal.unlink_both-done-requires-clause-file_stands
 unlink_both-done-requires-clause-file_stands g c =
-    let there = row_stays c.args.rows.now.items c.take-directory.new.self.items c.args.named.now.directory c.args.named.now.target c.requires.apart c.take-directory.ensures.rows c.take-file.result c.take-file.ensures.row in
-    c.requires.file_stands c.take-file.result there
+    let there = row_stays c.args.rows.now.items c.lend-directory.new.self.items c.args.named.now.directory c.args.named.now.target c.requires.apart c.requires.directory c.lend-directory.ensures.lent c.lend-file.result c.lend-file.ensures.row in
+    c.requires.file_stands c.lend-file.result there
 
 pub unlink_both-done-requires-clause-more : goal.unlink_both-done-requires-clause-more
 unlink_both-done-requires-clause-more g c =
-    let there = row_stays c.args.rows.now.items c.take-directory.new.self.items c.args.named.now.directory c.args.named.now.target c.requires.apart c.take-directory.ensures.rows c.take-file.result c.take-file.ensures.row in
-    c.requires.more c.take-file.result there
+    let there = row_stays c.args.rows.now.items c.lend-directory.new.self.items c.args.named.now.directory c.args.named.now.target c.requires.apart c.requires.directory c.lend-directory.ensures.lent c.lend-file.result c.lend-file.ensures.row in
+    c.requires.more c.lend-file.result there
 
-pub insert-requires-2-clause-vacant : goal.insert-requires-2-clause-vacant
-insert-requires-2-clause-vacant g c =
-    let number = c.unlink_both-done.ensures.inode ∙ c.take-directory.ensures.number in
-    let other_number = c.unlink_both-done.ensures.file_inode ∙ c.take-file.ensures.number in
-    let gone = none_still c.take-directory.new.self.items c.take-file.new.self.items c.args.named.now.target c.args.named.now.directory (λ e. c.requires.apart (sym e)) c.take-file.ensures.rows c.take-directory.ensures.gone in
-    ap (row_of c.insert.new.self.items) number ∙ none_put c.take-file.new.self.items c.insert.new.self.items c.unlink_both-done.new.file c.args.named.now.directory (λ e. c.requires.apart (e ∙ other_number)) c.insert.ensures.rows gone
+pub give_back-requires : goal.give_back-requires
+give_back-requires g c =
+    let used = used_still c.args.rows.now.items c.lend-directory.new.self.items c.args.named.now.directory c.args.named.now.target c.requires.apart c.requires.directory c.lend-directory.ensures.lent c.requires.target in
+    last_used c.lend-directory.new.self.items c.lend-file.new.self.items c.args.named.now.target c.unlink_both-done.new.file used c.lend-file.ensures.lent (c.unlink_both-done.ensures.file_inode ∙ c.lend-file.ensures.number)
+
+pub give_back-requires-2 : goal.give_back-requires-2
+give_back-requires-2 g c =
+    first_used c.args.rows.now.items c.lend-directory.new.self.items c.lend-file.new.self.items c.give_back.new.self.items c.args.named.now.directory c.args.named.now.target c.unlink_both-done.new.directory c.unlink_both-done.new.file c.requires.apart c.requires.directory c.requires.target c.lend-directory.ensures.lent c.lend-file.ensures.lent
+    (c.unlink_both-done.ensures.file_inode ∙ c.lend-file.ensures.number) c.give_back.ensures.rows (c.unlink_both-done.ensures.inode ∙ c.lend-directory.ensures.number)
 
 pub returns-clause-unlinked : goal.returns-clause-unlinked
 returns-clause-unlinked g c =
-    let there = row_stays c.args.rows.now.items c.take-directory.new.self.items c.args.named.now.directory c.args.named.now.target c.requires.apart c.take-directory.ensures.rows c.take-file.result c.take-file.ensures.row in
-    let put = put_two c.args.rows.now.items c.take-directory.new.self.items c.take-file.new.self.items c.insert.new.self.items c.insert-2.new.self.items c.args.named.now.directory c.args.named.now.target c.take-directory.result c.take-file.result c.unlink_both-done.new.directory c.unlink_both-done.new.file c.requires.apart
-    c.take-directory.ensures.rising c.take-directory.ensures.row c.take-directory.ensures.rows c.take-file.ensures.rising c.take-file.ensures.row c.take-file.ensures.rows (c.unlink_both-done.ensures.file_inode ∙ c.take-file.ensures.number) c.insert.ensures.rows (c.unlink_both-done.ensures.inode ∙ c.take-directory.ensures.number) c.insert-2.ensures.rows in
-    on_ok_weaker c.unlink_both-done.result (λ (step : UnlinksAt (g.P.Pmem.region c.args.memory.now) (g.P.Pmem.region c.unlink_both-done.new.memory) c.args.sup.now c.args.free.now c.unlink_both-done.new.free (c.take-directory.result ∷ c.take-file.result ∷ []) (c.unlink_both-done.new.directory ∷ c.unlink_both-done.new.file ∷ []) 0 1 c.args.named.now.name.now c.args.time). record { directory = step.directory; file = step.file; step = lifted c.args.rows.now.items c.insert-2.new.self.items c.args.named.now.directory c.args.named.now.target c.take-directory.result c.take-file.result c.unlink_both-done.new.directory c.unlink_both-done.new.file c.requires.apart c.take-directory.ensures.row there put step.step }) c.unlink_both-done.ensures.unlinked
+    let there = row_stays c.args.rows.now.items c.lend-directory.new.self.items c.args.named.now.directory c.args.named.now.target c.requires.apart c.requires.directory c.lend-directory.ensures.lent c.lend-file.result c.lend-file.ensures.row in
+    let put = back_two c.args.rows.now.items c.lend-directory.new.self.items c.lend-file.new.self.items c.give_back.new.self.items c.give_back-2.new.self.items c.args.named.now.directory c.args.named.now.target c.unlink_both-done.new.directory c.unlink_both-done.new.file c.requires.apart c.requires.directory c.requires.target
+    c.lend-directory.ensures.lent c.lend-file.ensures.lent (c.unlink_both-done.ensures.file_inode ∙ c.lend-file.ensures.number) c.give_back.ensures.rows (c.unlink_both-done.ensures.inode ∙ c.lend-directory.ensures.number) c.give_back-2.ensures.rows in
+    on_ok_weaker c.unlink_both-done.result (λ (step : UnlinksAt (g.P.Pmem.region c.args.memory.now) (g.P.Pmem.region c.unlink_both-done.new.memory) c.args.sup.now c.args.free.now c.unlink_both-done.new.free (c.lend-directory.result ∷ c.lend-file.result ∷ []) (c.unlink_both-done.new.directory ∷ c.unlink_both-done.new.file ∷ []) 0 1 c.args.named.now.name.now c.args.time). record { directory = step.directory; file = step.file; step = lifted c.args.rows.now.items c.give_back-2.new.self.items c.args.named.now.directory c.args.named.now.target c.lend-directory.result c.lend-file.result c.unlink_both-done.new.directory c.unlink_both-done.new.file c.requires.apart c.lend-directory.ensures.row there put step.step }) c.unlink_both-done.ensures.unlinked
 
 pub returns-clause-enough : goal.returns-clause-enough
 returns-clause-enough g c row file at other_at =
-    let there = row_stays c.args.rows.now.items c.take-directory.new.self.items c.args.named.now.directory c.args.named.now.target c.requires.apart c.take-directory.ensures.rows c.take-file.result c.take-file.ensures.row in
-    let same : c.take-directory.result ≡ row = some_only _ _ (sym c.take-directory.ensures.row ∙ at) in
-    let other_same : c.take-file.result ≡ file = some_only _ _ (sym there ∙ other_at) in
-    on_ok_weaker c.unlink_both-done.result (λ enough. subst (λ (n : ℕ). n ≤ all_blocks c.args.free.now.pools) (ap (λ (r : Row). needed (r.tail % 4096) (name_entries Remove c.take-file.result.inode c.args.named.now.name.now c.args.time) + needed (c.take-file.result.tail % 4096) (links_entries (c.take-file.result.numbers.links - 1) c.args.time)) same ∙ ap (λ (r : Row). needed (row.tail % 4096) (name_entries Remove r.inode c.args.named.now.name.now c.args.time) + needed (r.tail % 4096) (links_entries (r.numbers.links - 1) c.args.time)) other_same) enough) c.unlink_both-done.ensures.enough
+    let there = row_stays c.args.rows.now.items c.lend-directory.new.self.items c.args.named.now.directory c.args.named.now.target c.requires.apart c.requires.directory c.lend-directory.ensures.lent c.lend-file.result c.lend-file.ensures.row in
+    let same : c.lend-directory.result ≡ row = some_only _ _ (sym c.lend-directory.ensures.row ∙ at) in
+    let other_same : c.lend-file.result ≡ file = some_only _ _ (sym there ∙ other_at) in
+    on_ok_weaker c.unlink_both-done.result (λ enough. subst (λ (n : ℕ). n ≤ all_blocks c.args.free.now.pools) (ap (λ (r : Row). needed (r.tail % 4096) (name_entries Remove c.lend-file.result.inode c.args.named.now.name.now c.args.time) + needed (c.lend-file.result.tail % 4096) (links_entries (c.lend-file.result.numbers.links - 1) c.args.time)) same ∙ ap (λ (r : Row). needed (row.tail % 4096) (name_entries Remove r.inode c.args.named.now.name.now c.args.time) + needed (r.tail % 4096) (links_entries (r.numbers.links - 1) c.args.time)) other_same) enough) c.unlink_both-done.ensures.enough
 
 pub returns-clause-refused : goal.returns-clause-refused
 returns-clause-refused g c row file at other_at =
-    let there = row_stays c.args.rows.now.items c.take-directory.new.self.items c.args.named.now.directory c.args.named.now.target c.requires.apart c.take-directory.ensures.rows c.take-file.result c.take-file.ensures.row in
-    let same : c.take-directory.result ≡ row = some_only _ _ (sym c.take-directory.ensures.row ∙ at) in
-    let other_same : c.take-file.result ≡ file = some_only _ _ (sym there ∙ other_at) in
-    IfErr-weaker c.unlink_both-done.result _ _ (λ (e : Refusal) refused. subst (λ (n : ℕ). RefusesStep e n c.args.free.now) (ap (λ (r : Row). needed (r.tail % 4096) (name_entries Remove c.take-file.result.inode c.args.named.now.name.now c.args.time) + needed (c.take-file.result.tail % 4096) (links_entries (c.take-file.result.numbers.links - 1) c.args.time)) same ∙ ap (λ (r : Row). needed (row.tail % 4096) (name_entries Remove r.inode c.args.named.now.name.now c.args.time) + needed (r.tail % 4096) (links_entries (r.numbers.links - 1) c.args.time)) other_same) refused) c.unlink_both-done.ensures.refused
+    let there = row_stays c.args.rows.now.items c.lend-directory.new.self.items c.args.named.now.directory c.args.named.now.target c.requires.apart c.requires.directory c.lend-directory.ensures.lent c.lend-file.result c.lend-file.ensures.row in
+    let same : c.lend-directory.result ≡ row = some_only _ _ (sym c.lend-directory.ensures.row ∙ at) in
+    let other_same : c.lend-file.result ≡ file = some_only _ _ (sym there ∙ other_at) in
+    IfErr-weaker c.unlink_both-done.result _ _ (λ (e : Refusal) refused. subst (λ (n : ℕ). RefusesStep e n c.args.free.now) (ap (λ (r : Row). needed (r.tail % 4096) (name_entries Remove c.lend-file.result.inode c.args.named.now.name.now c.args.time) + needed (c.lend-file.result.tail % 4096) (links_entries (c.lend-file.result.numbers.links - 1) c.args.time)) same ∙ ap (λ (r : Row). needed (row.tail % 4096) (name_entries Remove r.inode c.args.named.now.name.now c.args.time) + needed (r.tail % 4096) (links_entries (r.numbers.links - 1) c.args.time)) other_same) refused) c.unlink_both-done.ensures.refused
 
 pub returns-clause-unchanged : goal.returns-clause-unchanged
 returns-clause-unchanged g c =
-    let there = row_stays c.args.rows.now.items c.take-directory.new.self.items c.args.named.now.directory c.args.named.now.target c.requires.apart c.take-directory.ensures.rows c.take-file.result c.take-file.ensures.row in
-    let put = put_two c.args.rows.now.items c.take-directory.new.self.items c.take-file.new.self.items c.insert.new.self.items c.insert-2.new.self.items c.args.named.now.directory c.args.named.now.target c.take-directory.result c.take-file.result c.unlink_both-done.new.directory c.unlink_both-done.new.file c.requires.apart
-    c.take-directory.ensures.rising c.take-directory.ensures.row c.take-directory.ensures.rows c.take-file.ensures.rising c.take-file.ensures.row c.take-file.ensures.rows (c.unlink_both-done.ensures.file_inode ∙ c.take-file.ensures.number) c.insert.ensures.rows (c.unlink_both-done.ensures.inode ∙ c.take-directory.ensures.number) c.insert-2.ensures.rows in
-    IfErr-weaker c.unlink_both-done.result _ _ (λ (e : Refusal) told off. (let left = told off in left_two c.args.rows.now.items c.insert-2.new.self.items c.args.named.now.directory c.args.named.now.target c.take-directory.result c.take-file.result c.unlink_both-done.new.directory c.unlink_both-done.new.file c.requires.apart c.take-directory.ensures.row there put c.args.memory.now c.unlink_both-done.new.memory c.args.free.now c.unlink_both-done.new.free left.0 left.1)) c.unlink_both-done.ensures.unchanged
+    let there = row_stays c.args.rows.now.items c.lend-directory.new.self.items c.args.named.now.directory c.args.named.now.target c.requires.apart c.requires.directory c.lend-directory.ensures.lent c.lend-file.result c.lend-file.ensures.row in
+    let put = back_two c.args.rows.now.items c.lend-directory.new.self.items c.lend-file.new.self.items c.give_back.new.self.items c.give_back-2.new.self.items c.args.named.now.directory c.args.named.now.target c.unlink_both-done.new.directory c.unlink_both-done.new.file c.requires.apart c.requires.directory c.requires.target
+    c.lend-directory.ensures.lent c.lend-file.ensures.lent (c.unlink_both-done.ensures.file_inode ∙ c.lend-file.ensures.number) c.give_back.ensures.rows (c.unlink_both-done.ensures.inode ∙ c.lend-directory.ensures.number) c.give_back-2.ensures.rows in
+    IfErr-weaker c.unlink_both-done.result _ _ (λ (e : Refusal) told off. (let left = told off in left_two c.args.rows.now.items c.give_back-2.new.self.items c.args.named.now.directory c.args.named.now.target c.lend-directory.result c.lend-file.result c.unlink_both-done.new.directory c.unlink_both-done.new.file c.requires.apart c.lend-directory.ensures.row there put c.args.memory.now c.unlink_both-done.new.memory c.args.free.now c.unlink_both-done.new.free left.0 left.1)) c.unlink_both-done.ensures.unchanged

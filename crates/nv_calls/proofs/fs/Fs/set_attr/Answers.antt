@@ -18,13 +18,18 @@ use Rattle.nv_calls.specs.World.{world_of}
 use Rattle.nv_calls.proofs.Kept.{refused_as}
 use Rattle.nv_tree.proofs.Replies.{refused_by}
 use Rattle.nv_rows.specs.Rows.{place_in}
-use Rattle.nv_rows.proofs.Places.{at_place, own_row, put_one}
+use Rattle.nv_rows.proofs.Places.{at_place, back_one, in_use, own_row}
 use Rattle.nv_calls.proofs.OneRow.{stands_right}
 use Rattle.nv_super.proofs.Members.{stands}
 use Rattle.nv_calls.proofs.RowChange.{kept_after, log_grew, row_bytes, same_mount, tree_after}
 use Rattle.nv_calls.proofs.SetAttr.{attr_allowed, attr_changed, attr_logged, attr_refused, kept_or_stopped, late_reply, not_stop, unchanged_step, attributed_node}
 use Rattle.nv_calls.proofs.Tests.{early_reply, if_err, stat_goes_on, stat_refuses, writing_goes_on}
+use Rattle.nv_calls.proofs.TwoRows.{last_used}
 use Rattle.nv_calls.proofs.fs.Fs.set_attr.Goals as goal
+
+pub give_back-requires : goal.give_back-requires
+give_back-requires g c =
+    last_used c.self.inside.rows.items c.lend-row.new.self.items c.in_ok-inode.field-0.now.inode c.change_attributes-changed.new.row (in_use c.self.inside.rows.items c.in_ok-inode.field-0.now.inode c.lend-row.result c.lend-row.ensures.row) c.lend-row.ensures.lent (c.change_attributes-changed.ensures.inode ∙ c.lend-row.ensures.number)
 
 pub returns-in_err-writable-clause-refused : goal.returns-in_err-writable-clause-refused
 returns-in_err-writable-clause-refused g c runs p says =
@@ -70,8 +75,8 @@ change_attributes-changed-requires-clause-stands g c =
     let writes : c.self.inside.read_only ≡ false = ap (λ (m : Mount g.row.P.Denot). m.read_only) c.self.view_is ∙ c.in_ok-writable.ensures.writes in
     let rows = c.self.inside.rows.items in
     let inode = c.in_ok-inode.field-0.now.inode in
-    let at = at_place rows inode ∙ c.take-row.ensures.row in
-    stands_right c.self.invariant.0 runs writes c.take-row.result (stands c.self.inside.rows.items (place_in rows inode) c.take-row.result at)
+    let at = at_place rows inode ∙ c.lend-row.ensures.row in
+    stands_right c.self.invariant.0 runs writes c.lend-row.result (stands c.self.inside.rows.items (place_in rows inode) c.lend-row.result at)
 
 pub invariant_of-self : goal.invariant_of-self
 invariant_of-self g c =
@@ -79,9 +84,9 @@ invariant_of-self g c =
     let writes : c.self.inside.read_only ≡ false = ap (λ (m : Mount g.row.P.Denot). m.read_only) c.self.view_is ∙ c.in_ok-writable.ensures.writes in
     let rows = c.self.inside.rows.items in
     let inode = c.in_ok-inode.field-0.now.inode in
-    let at = at_place rows inode ∙ c.take-row.ensures.row in
-    let put = put_one rows c.take-row.new.self.items c.insert.new.self.items inode c.take-row.result c.change_attributes-changed.new.row c.take-row.ensures.rising c.take-row.ensures.row c.take-row.ensures.rows (c.change_attributes-changed.ensures.inode ∙ c.take-row.ensures.number) c.insert.ensures.rows in
-    (rw put (kept_after c.self.invariant.0 runs writes (place_in rows inode) c.take-row.result c.change_attributes-changed.new.row at (attributes c.take-row.result.numbers.size c.args.mode c.args.owner c.args.group c.args.time) (λ held h shows. c.in-Ok.ensures.log held h shows) c.change_attributes-changed.ensures.lists c.self.inside.stopped), c.insert.ensures.sup ∙ c.take-row.ensures.sup ∙ c.self.invariant.1)
+    let at = at_place rows inode ∙ c.lend-row.ensures.row in
+    let put = back_one rows c.lend-row.new.self.items c.give_back.new.self.items inode c.change_attributes-changed.new.row c.lend-row.ensures.lent (c.change_attributes-changed.ensures.inode ∙ c.lend-row.ensures.number) c.give_back.ensures.rows in
+    (rw put (kept_after c.self.invariant.0 runs writes (place_in rows inode) c.lend-row.result c.change_attributes-changed.new.row at (attributes c.lend-row.result.numbers.size c.args.mode c.args.owner c.args.group c.args.time) (λ held h shows. c.in-Ok.ensures.log held h shows) c.change_attributes-changed.ensures.lists c.self.inside.stopped), c.give_back.ensures.sup ∙ c.lend-row.ensures.sup ∙ c.self.invariant.1)
 
 pub invariant_of-self-in-Err : goal.invariant_of-self-in-Err
 invariant_of-self-in-Err g c =
@@ -89,9 +94,9 @@ invariant_of-self-in-Err g c =
     let writes : c.self.inside.read_only ≡ false = ap (λ (m : Mount g.row.P.Denot). m.read_only) c.self.view_is ∙ c.in_ok-writable.ensures.writes in
     let rows = c.self.inside.rows.items in
     let inode = c.in_ok-inode.field-0.now.inode in
-    let at = at_place rows inode ∙ c.take-row.ensures.row in
-    let put = put_one rows c.take-row.new.self.items c.insert.new.self.items inode c.take-row.result c.change_attributes-changed.new.row c.take-row.ensures.rising c.take-row.ensures.row c.take-row.ensures.rows (c.change_attributes-changed.ensures.inode ∙ c.take-row.ensures.number) c.insert.ensures.rows in
-    (rw put (kept_or_stopped g.P.Pmem.region c.self.invariant.0 runs writes (place_in rows inode) c.take-row.result c.change_attributes-changed.new.row at c.in-Err.refusal c.is_stop-self-inside.result c.is_stop-self-inside.ensures.yes c.is_stop-self-inside.ensures.no c.change_attributes-changed.ensures.lists c.in-Err.ensures.unchanged), c.insert.ensures.sup ∙ c.take-row.ensures.sup ∙ c.self.invariant.1)
+    let at = at_place rows inode ∙ c.lend-row.ensures.row in
+    let put = back_one rows c.lend-row.new.self.items c.give_back.new.self.items inode c.change_attributes-changed.new.row c.lend-row.ensures.lent (c.change_attributes-changed.ensures.inode ∙ c.lend-row.ensures.number) c.give_back.ensures.rows in
+    (rw put (kept_or_stopped g.P.Pmem.region c.self.invariant.0 runs writes (place_in rows inode) c.lend-row.result c.change_attributes-changed.new.row at c.in-Err.refusal c.is_stop-self-inside.result c.is_stop-self-inside.ensures.yes c.is_stop-self-inside.ensures.no c.change_attributes-changed.ensures.lists c.in-Err.ensures.unchanged), c.give_back.ensures.sup ∙ c.lend-row.ensures.sup ∙ c.self.invariant.1)
 
 pub returns-in-Ok-clause-allowed : goal.returns-in-Ok-clause-allowed
 returns-in-Ok-clause-allowed g c p says =
@@ -99,11 +104,11 @@ returns-in-Ok-clause-allowed g c p says =
     let writes : c.self.inside.read_only ≡ false = ap (λ (m : Mount g.row.P.Denot). m.read_only) c.self.view_is ∙ c.in_ok-writable.ensures.writes in
     let rows = c.self.inside.rows.items in
     let inode = c.in_ok-inode.field-0.now.inode in
-    let at = at_place rows inode ∙ c.take-row.ensures.row in
-    let leads : (names : List (List ℕ)) → IsPath c.args.path.now names → LeadsTo (tree_of (g.P.Pmem.region c.self.inside.memory) rows) names c.take-row.result.inode (node_of (g.P.Pmem.region c.self.inside.memory) c.take-row.result) = λ names path. subst (λ (r : Row). LeadsTo (tree_of (g.P.Pmem.region c.self.inside.memory) rows) names r.inode (node_of (g.P.Pmem.region c.self.inside.memory) r)) (some_only _ _ (sym c.in_ok-inode.ensures.held ∙ c.take-row.ensures.row)) (c.in_ok-inode.ensures.row (g.P.Pmem.region c.self.inside.memory) names path) in
-    let numbered = own_row rows inode c.take-row.result c.take-row.ensures.row in
+    let at = at_place rows inode ∙ c.lend-row.ensures.row in
+    let leads : (names : List (List ℕ)) → IsPath c.args.path.now names → LeadsTo (tree_of (g.P.Pmem.region c.self.inside.memory) rows) names c.lend-row.result.inode (node_of (g.P.Pmem.region c.self.inside.memory) c.lend-row.result) = λ names path. subst (λ (r : Row). LeadsTo (tree_of (g.P.Pmem.region c.self.inside.memory) rows) names r.inode (node_of (g.P.Pmem.region c.self.inside.memory) r)) (some_only _ _ (sym c.in_ok-inode.ensures.held ∙ c.lend-row.ensures.row)) (c.in_ok-inode.ensures.row (g.P.Pmem.region c.self.inside.memory) names path) in
+    let numbered = own_row rows inode c.lend-row.result c.lend-row.ensures.row in
     let none = c.in_ok-inode.ensures.refused (g.P.Pmem.region c.self.inside.memory) p says in
-    attr_allowed g.P.Pmem.region c.self.view_is c.args.cpu c.in_ok-writable.ensures.passed c.args.path.now c.take-row.result (node_of (g.P.Pmem.region c.self.inside.memory) c.take-row.result) numbered leads p says none c.in-Ok.ensures.enough
+    attr_allowed g.P.Pmem.region c.self.view_is c.args.cpu c.in_ok-writable.ensures.passed c.args.path.now c.lend-row.result (node_of (g.P.Pmem.region c.self.inside.memory) c.lend-row.result) numbered leads p says none c.in-Ok.ensures.enough
 
 pub returns-in-Ok-clause-changed : goal.returns-in-Ok-clause-changed
 returns-in-Ok-clause-changed g c names path =
@@ -111,16 +116,16 @@ returns-in-Ok-clause-changed g c names path =
     let writes : c.self.inside.read_only ≡ false = ap (λ (m : Mount g.row.P.Denot). m.read_only) c.self.view_is ∙ c.in_ok-writable.ensures.writes in
     let rows = c.self.inside.rows.items in
     let inode = c.in_ok-inode.field-0.now.inode in
-    let at = at_place rows inode ∙ c.take-row.ensures.row in
-    let leads : (names : List (List ℕ)) → IsPath c.args.path.now names → LeadsTo (tree_of (g.P.Pmem.region c.self.inside.memory) rows) names c.take-row.result.inode (node_of (g.P.Pmem.region c.self.inside.memory) c.take-row.result) = λ names path. subst (λ (r : Row). LeadsTo (tree_of (g.P.Pmem.region c.self.inside.memory) rows) names r.inode (node_of (g.P.Pmem.region c.self.inside.memory) r)) (some_only _ _ (sym c.in_ok-inode.ensures.held ∙ c.take-row.ensures.row)) (c.in_ok-inode.ensures.row (g.P.Pmem.region c.self.inside.memory) names path) in
-    let follows = λ (held : Store) (h : Held) (shows : ShowsRow (g.P.Pmem.region c.self.inside.memory) c.self.inside.sup held h c.take-row.result c.self.inside.free). c.in-Ok.ensures.log held h shows in
+    let at = at_place rows inode ∙ c.lend-row.ensures.row in
+    let leads : (names : List (List ℕ)) → IsPath c.args.path.now names → LeadsTo (tree_of (g.P.Pmem.region c.self.inside.memory) rows) names c.lend-row.result.inode (node_of (g.P.Pmem.region c.self.inside.memory) c.lend-row.result) = λ names path. subst (λ (r : Row). LeadsTo (tree_of (g.P.Pmem.region c.self.inside.memory) rows) names r.inode (node_of (g.P.Pmem.region c.self.inside.memory) r)) (some_only _ _ (sym c.in_ok-inode.ensures.held ∙ c.lend-row.ensures.row)) (c.in_ok-inode.ensures.row (g.P.Pmem.region c.self.inside.memory) names path) in
+    let follows = λ (held : Store) (h : Held) (shows : ShowsRow (g.P.Pmem.region c.self.inside.memory) c.self.inside.sup held h c.lend-row.result c.self.inside.free). c.in-Ok.ensures.log held h shows in
     let has = c.in-Ok.ensures.row in
     let led = leads names path in
-    let put = put_one rows c.take-row.new.self.items c.insert.new.self.items inode c.take-row.result c.change_attributes-changed.new.row c.take-row.ensures.rising c.take-row.ensures.row c.take-row.ensures.rows (c.change_attributes-changed.ensures.inode ∙ c.take-row.ensures.number) c.insert.ensures.rows in
-    rw put (attr_changed g.P.Pmem.region c.self.view_is names c.take-row.result.inode c.args.mode c.args.owner c.args.group c.args.time (tree_of (g.P.Pmem.region c.change_attributes-changed.new.memory) (set c.self.inside.rows.items (place_in rows inode) c.change_attributes-changed.new.row)) led.leads
-    (tree_after c.self.invariant.0 runs writes (place_in rows inode) c.take-row.result c.change_attributes-changed.new.row at (attributes c.take-row.result.numbers.size c.args.mode c.args.owner c.args.group c.args.time) follows (with_attributes c.args.mode c.args.owner c.args.group c.args.time) has.inode
-    (attributed_node (g.P.Pmem.region c.self.inside.memory) (g.P.Pmem.region c.change_attributes-changed.new.memory) c.args.mode c.args.owner c.args.group c.args.time c.take-row.result.numbers.size has
-    (λ x. row_bytes c.self.invariant.0 runs writes (place_in rows inode) c.take-row.result c.change_attributes-changed.new.row at (attributes c.take-row.result.numbers.size c.args.mode c.args.owner c.args.group c.args.time) follows c.take-row.result (stands c.self.inside.rows.items (place_in rows inode) c.take-row.result at) x))))
+    let put = back_one rows c.lend-row.new.self.items c.give_back.new.self.items inode c.change_attributes-changed.new.row c.lend-row.ensures.lent (c.change_attributes-changed.ensures.inode ∙ c.lend-row.ensures.number) c.give_back.ensures.rows in
+    rw put (attr_changed g.P.Pmem.region c.self.view_is names c.lend-row.result.inode c.args.mode c.args.owner c.args.group c.args.time (tree_of (g.P.Pmem.region c.change_attributes-changed.new.memory) (set c.self.inside.rows.items (place_in rows inode) c.change_attributes-changed.new.row)) led.leads
+    (tree_after c.self.invariant.0 runs writes (place_in rows inode) c.lend-row.result c.change_attributes-changed.new.row at (attributes c.lend-row.result.numbers.size c.args.mode c.args.owner c.args.group c.args.time) follows (with_attributes c.args.mode c.args.owner c.args.group c.args.time) has.inode
+    (attributed_node (g.P.Pmem.region c.self.inside.memory) (g.P.Pmem.region c.change_attributes-changed.new.memory) c.args.mode c.args.owner c.args.group c.args.time c.lend-row.result.numbers.size has
+    (λ x. row_bytes c.self.invariant.0 runs writes (place_in rows inode) c.lend-row.result c.change_attributes-changed.new.row at (attributes c.lend-row.result.numbers.size c.args.mode c.args.owner c.args.group c.args.time) follows c.lend-row.result (stands c.self.inside.rows.items (place_in rows inode) c.lend-row.result at) x))))
 
 pub returns-in-Ok-clause-log : goal.returns-in-Ok-clause-log
 returns-in-Ok-clause-log g c names i node held h path led sound is =
@@ -128,10 +133,10 @@ returns-in-Ok-clause-log g c names i node held h path led sound is =
     let writes : c.self.inside.read_only ≡ false = ap (λ (m : Mount g.row.P.Denot). m.read_only) c.self.view_is ∙ c.in_ok-writable.ensures.writes in
     let rows = c.self.inside.rows.items in
     let inode = c.in_ok-inode.field-0.now.inode in
-    let at = at_place rows inode ∙ c.take-row.ensures.row in
-    let leads : (names : List (List ℕ)) → IsPath c.args.path.now names → LeadsTo (tree_of (g.P.Pmem.region c.self.inside.memory) rows) names c.take-row.result.inode (node_of (g.P.Pmem.region c.self.inside.memory) c.take-row.result) = λ names path. subst (λ (r : Row). LeadsTo (tree_of (g.P.Pmem.region c.self.inside.memory) rows) names r.inode (node_of (g.P.Pmem.region c.self.inside.memory) r)) (some_only _ _ (sym c.in_ok-inode.ensures.held ∙ c.take-row.ensures.row)) (c.in_ok-inode.ensures.row (g.P.Pmem.region c.self.inside.memory) names path) in
-    attr_logged g.P.Pmem.region c.self.view_is (g.P.Pmem.region c.change_attributes-changed.new.memory) names c.take-row.result c.args.mode c.args.owner c.args.group c.args.time i node held h (leads names path)
-    (λ st k shown holds. log_grew c.self.invariant.0 runs writes (place_in rows inode) c.take-row.result c.change_attributes-changed.new.row at (attributes c.take-row.result.numbers.size c.args.mode c.args.owner c.args.group c.args.time) (λ first g' shows. c.in-Ok.ensures.log first g' shows) st k shown holds) led sound is
+    let at = at_place rows inode ∙ c.lend-row.ensures.row in
+    let leads : (names : List (List ℕ)) → IsPath c.args.path.now names → LeadsTo (tree_of (g.P.Pmem.region c.self.inside.memory) rows) names c.lend-row.result.inode (node_of (g.P.Pmem.region c.self.inside.memory) c.lend-row.result) = λ names path. subst (λ (r : Row). LeadsTo (tree_of (g.P.Pmem.region c.self.inside.memory) rows) names r.inode (node_of (g.P.Pmem.region c.self.inside.memory) r)) (some_only _ _ (sym c.in_ok-inode.ensures.held ∙ c.lend-row.ensures.row)) (c.in_ok-inode.ensures.row (g.P.Pmem.region c.self.inside.memory) names path) in
+    attr_logged g.P.Pmem.region c.self.view_is (g.P.Pmem.region c.change_attributes-changed.new.memory) names c.lend-row.result c.args.mode c.args.owner c.args.group c.args.time i node held h (leads names path)
+    (λ st k shown holds. log_grew c.self.invariant.0 runs writes (place_in rows inode) c.lend-row.result c.change_attributes-changed.new.row at (attributes c.lend-row.result.numbers.size c.args.mode c.args.owner c.args.group c.args.time) (λ first g' shows. c.in-Ok.ensures.log first g' shows) st k shown holds) led sound is
 
 pub returns-in-Err-clause-refused : goal.returns-in-Err-clause-refused
 returns-in-Err-clause-refused g c still p says =
@@ -139,11 +144,11 @@ returns-in-Err-clause-refused g c still p says =
     let writes : c.self.inside.read_only ≡ false = ap (λ (m : Mount g.row.P.Denot). m.read_only) c.self.view_is ∙ c.in_ok-writable.ensures.writes in
     let rows = c.self.inside.rows.items in
     let inode = c.in_ok-inode.field-0.now.inode in
-    let at = at_place rows inode ∙ c.take-row.ensures.row in
-    let leads : (names : List (List ℕ)) → IsPath c.args.path.now names → LeadsTo (tree_of (g.P.Pmem.region c.self.inside.memory) rows) names c.take-row.result.inode (node_of (g.P.Pmem.region c.self.inside.memory) c.take-row.result) = λ names path. subst (λ (r : Row). LeadsTo (tree_of (g.P.Pmem.region c.self.inside.memory) rows) names r.inode (node_of (g.P.Pmem.region c.self.inside.memory) r)) (some_only _ _ (sym c.in_ok-inode.ensures.held ∙ c.take-row.ensures.row)) (c.in_ok-inode.ensures.row (g.P.Pmem.region c.self.inside.memory) names path) in
-    let numbered = own_row rows inode c.take-row.result c.take-row.ensures.row in
+    let at = at_place rows inode ∙ c.lend-row.ensures.row in
+    let leads : (names : List (List ℕ)) → IsPath c.args.path.now names → LeadsTo (tree_of (g.P.Pmem.region c.self.inside.memory) rows) names c.lend-row.result.inode (node_of (g.P.Pmem.region c.self.inside.memory) c.lend-row.result) = λ names path. subst (λ (r : Row). LeadsTo (tree_of (g.P.Pmem.region c.self.inside.memory) rows) names r.inode (node_of (g.P.Pmem.region c.self.inside.memory) r)) (some_only _ _ (sym c.in_ok-inode.ensures.held ∙ c.lend-row.ensures.row)) (c.in_ok-inode.ensures.row (g.P.Pmem.region c.self.inside.memory) names path) in
+    let numbered = own_row rows inode c.lend-row.result c.lend-row.ensures.row in
     let none = c.in_ok-inode.ensures.refused (g.P.Pmem.region c.self.inside.memory) p says in
-    attr_refused g.P.Pmem.region c.self.view_is c.args.cpu c.in_ok-writable.ensures.passed c.args.path.now c.take-row.result (node_of (g.P.Pmem.region c.self.inside.memory) c.take-row.result) numbered leads p says none c.in-Err.refusal c.in-Err.ensures.refused
+    attr_refused g.P.Pmem.region c.self.view_is c.args.cpu c.in_ok-writable.ensures.passed c.args.path.now c.lend-row.result (node_of (g.P.Pmem.region c.self.inside.memory) c.lend-row.result) numbered leads p says none c.in-Err.refusal c.in-Err.ensures.refused
 
 pub returns-in-Err-clause-unchanged : goal.returns-in-Err-clause-unchanged
 returns-in-Err-clause-unchanged g c off =
@@ -151,9 +156,9 @@ returns-in-Err-clause-unchanged g c off =
     let writes : c.self.inside.read_only ≡ false = ap (λ (m : Mount g.row.P.Denot). m.read_only) c.self.view_is ∙ c.in_ok-writable.ensures.writes in
     let rows = c.self.inside.rows.items in
     let inode = c.in_ok-inode.field-0.now.inode in
-    let at = at_place rows inode ∙ c.take-row.ensures.row in
-    let put = put_one rows c.take-row.new.self.items c.insert.new.self.items inode c.take-row.result c.change_attributes-changed.new.row c.take-row.ensures.rising c.take-row.ensures.row c.take-row.ensures.rows (c.change_attributes-changed.ensures.inode ∙ c.take-row.ensures.number) c.insert.ensures.rows in
-    rw put (unchanged_step c.self.view_is c.change_attributes-changed.new.memory c.change_attributes-changed.new.free (place_in rows inode) c.take-row.result c.change_attributes-changed.new.row c.is_stop-self-inside.result at runs (not_stop c.in-Err.refusal c.is_stop-self-inside.result c.is_stop-self-inside.ensures.yes off) (c.in-Err.ensures.unchanged off))
+    let at = at_place rows inode ∙ c.lend-row.ensures.row in
+    let put = back_one rows c.lend-row.new.self.items c.give_back.new.self.items inode c.change_attributes-changed.new.row c.lend-row.ensures.lent (c.change_attributes-changed.ensures.inode ∙ c.lend-row.ensures.number) c.give_back.ensures.rows in
+    rw put (unchanged_step c.self.view_is c.change_attributes-changed.new.memory c.change_attributes-changed.new.free (place_in rows inode) c.lend-row.result c.change_attributes-changed.new.row c.is_stop-self-inside.result at runs (not_stop c.in-Err.refusal c.is_stop-self-inside.result c.is_stop-self-inside.ensures.yes off) (c.in-Err.ensures.unchanged off))
 
 pub returns-in-Err-clause-stopped : goal.returns-in-Err-clause-stopped
 returns-in-Err-clause-stopped g c still = late_reply c.in-Err.refusal c.is_stop-self-inside.result c.is_stop-self-inside.ensures.yes c.is_stop-self-inside.ensures.no c.in-Err.ensures.stopped

@@ -20,13 +20,18 @@ use Rattle.nv_steps.specs.Steps.{RefusesStep, ShowsRow}
 use Rattle.nv_calls.specs.World.{world_of}
 use Rattle.nv_tree.proofs.Replies.{refused_by}
 use Rattle.nv_rows.specs.Rows.{place_in}
-use Rattle.nv_rows.proofs.Places.{at_place, own_row, put_one}
+use Rattle.nv_rows.proofs.Places.{at_place, back_one, in_use, own_row}
 use Rattle.nv_calls.proofs.RowChange.{kept_after, same_mount, tree_after}
 use Rattle.nv_calls.proofs.SetAttr.{kept_or_stopped, late_reply, not_stop, unchanged_step}
 use Rattle.nv_calls.proofs.SetSize.{front_goes_on, resized_node, size_allowed, size_changed, size_front, size_logged, size_refused}
 use Rattle.nv_calls.proofs.SizeKept.{blocks_same, bytes_after, can_resize, log_after}
 use Rattle.nv_calls.proofs.Tests.{early_reply, if_err, writing_goes_on}
+use Rattle.nv_calls.proofs.TwoRows.{last_used}
 use Rattle.nv_calls.proofs.fs.Fs.set_size.Goals as goal
+
+pub give_back-requires : goal.give_back-requires
+give_back-requires g c =
+    last_used c.self.inside.rows.items c.lend-row.new.self.items c.in_ok-inode.field-0.now.inode c.resize-resized.new.row (in_use c.self.inside.rows.items c.in_ok-inode.field-0.now.inode c.lend-row.result c.lend-row.ensures.row) c.lend-row.ensures.lent (c.resize-resized.ensures.inode ∙ c.lend-row.ensures.number)
 
 pub returns-in_err-writable-clause-refused : goal.returns-in_err-writable-clause-refused
 returns-in_err-writable-clause-refused g c runs p says =
@@ -70,9 +75,9 @@ resize-resized-requires-clause-can g c =
     let writes : c.self.inside.read_only ≡ false = ap (λ (m : Mount g.row.P.Denot). m.read_only) c.self.view_is ∙ c.in_ok-writable.ensures.writes in
     let rows = c.self.inside.rows.items in
     let inode = c.in_ok-inode.field-0.now.inode in
-    let at = at_place rows inode ∙ c.take-row.ensures.row in
-    let file = subst (λ (r : Row). r.kind ≡ File) (some_only _ _ (sym c.in_ok-inode.ensures.held ∙ c.take-row.ensures.row)) c.in_ok-inode.ensures.file in
-    can_resize c.self.invariant.0 runs writes (place_in rows inode) c.take-row.result at c.args.size c.args.time file c.in_ok-inode.ensures.most
+    let at = at_place rows inode ∙ c.lend-row.ensures.row in
+    let file = subst (λ (r : Row). r.kind ≡ File) (some_only _ _ (sym c.in_ok-inode.ensures.held ∙ c.lend-row.ensures.row)) c.in_ok-inode.ensures.file in
+    can_resize c.self.invariant.0 runs writes (place_in rows inode) c.lend-row.result at c.args.size c.args.time file c.in_ok-inode.ensures.most
 
 pub invariant_of-self : goal.invariant_of-self
 invariant_of-self g c =
@@ -80,11 +85,11 @@ invariant_of-self g c =
     let writes : c.self.inside.read_only ≡ false = ap (λ (m : Mount g.row.P.Denot). m.read_only) c.self.view_is ∙ c.in_ok-writable.ensures.writes in
     let rows = c.self.inside.rows.items in
     let inode = c.in_ok-inode.field-0.now.inode in
-    let at = at_place rows inode ∙ c.take-row.ensures.row in
-    let put = put_one rows c.take-row.new.self.items c.insert.new.self.items inode c.take-row.result c.resize-resized.new.row c.take-row.ensures.rising c.take-row.ensures.row c.take-row.ensures.rows (c.resize-resized.ensures.inode ∙ c.take-row.ensures.number) c.insert.ensures.rows in (
-      rw put (kept_after c.self.invariant.0 runs writes (place_in rows inode) c.take-row.result c.resize-resized.new.row at (resizing c.take-row.result.numbers.size (sized (node_of (g.P.Pmem.region c.self.inside.memory) c.take-row.result) c.args.size c.args.time) c.in-Ok.ensures.resized.to)
+    let at = at_place rows inode ∙ c.lend-row.ensures.row in
+    let put = back_one rows c.lend-row.new.self.items c.give_back.new.self.items inode c.resize-resized.new.row c.lend-row.ensures.lent (c.resize-resized.ensures.inode ∙ c.lend-row.ensures.number) c.give_back.ensures.rows in (
+      rw put (kept_after c.self.invariant.0 runs writes (place_in rows inode) c.lend-row.result c.resize-resized.new.row at (resizing c.lend-row.result.numbers.size (sized (node_of (g.P.Pmem.region c.self.inside.memory) c.lend-row.result) c.args.size c.args.time) c.in-Ok.ensures.resized.to)
           (λ held h shows. c.in-Ok.ensures.resized.follows held h shows) c.resize-resized.ensures.lists c.self.inside.stopped),
-      c.insert.ensures.sup ∙ c.take-row.ensures.sup ∙ c.self.invariant.1,
+      c.give_back.ensures.sup ∙ c.lend-row.ensures.sup ∙ c.self.invariant.1,
     )
 
 pub invariant_of-self-in-Err : goal.invariant_of-self-in-Err
@@ -93,22 +98,22 @@ invariant_of-self-in-Err g c =
     let writes : c.self.inside.read_only ≡ false = ap (λ (m : Mount g.row.P.Denot). m.read_only) c.self.view_is ∙ c.in_ok-writable.ensures.writes in
     let rows = c.self.inside.rows.items in
     let inode = c.in_ok-inode.field-0.now.inode in
-    let at = at_place rows inode ∙ c.take-row.ensures.row in
-    let put = put_one rows c.take-row.new.self.items c.insert.new.self.items inode c.take-row.result c.resize-resized.new.row c.take-row.ensures.rising c.take-row.ensures.row c.take-row.ensures.rows (c.resize-resized.ensures.inode ∙ c.take-row.ensures.number) c.insert.ensures.rows in
-    (rw put (kept_or_stopped g.P.Pmem.region c.self.invariant.0 runs writes (place_in rows inode) c.take-row.result c.resize-resized.new.row at c.in-Err.refusal c.is_stop-self-inside.result c.is_stop-self-inside.ensures.yes c.is_stop-self-inside.ensures.no c.resize-resized.ensures.lists c.in-Err.ensures.unchanged), c.insert.ensures.sup ∙ c.take-row.ensures.sup ∙ c.self.invariant.1)
+    let at = at_place rows inode ∙ c.lend-row.ensures.row in
+    let put = back_one rows c.lend-row.new.self.items c.give_back.new.self.items inode c.resize-resized.new.row c.lend-row.ensures.lent (c.resize-resized.ensures.inode ∙ c.lend-row.ensures.number) c.give_back.ensures.rows in
+    (rw put (kept_or_stopped g.P.Pmem.region c.self.invariant.0 runs writes (place_in rows inode) c.lend-row.result c.resize-resized.new.row at c.in-Err.refusal c.is_stop-self-inside.result c.is_stop-self-inside.ensures.yes c.is_stop-self-inside.ensures.no c.resize-resized.ensures.lists c.in-Err.ensures.unchanged), c.give_back.ensures.sup ∙ c.lend-row.ensures.sup ∙ c.self.invariant.1)
 
 pub returns-in-Ok-clause-allowed : goal.returns-in-Ok-clause-allowed
 returns-in-Ok-clause-allowed g c p says =
     let runs : c.self.inside.stopped ≡ false = ap (λ (m : Mount g.row.P.Denot). m.stopped) c.self.view_is ∙ c.in_ok-writable.ensures.runs in
     let rows = c.self.inside.rows.items in
     let inode = c.in_ok-inode.field-0.now.inode in
-    let at = at_place rows inode ∙ c.take-row.ensures.row in
-    let leads : (names : List (List ℕ)) → IsPath c.args.path.now names → LeadsTo (tree_of (g.P.Pmem.region c.self.inside.memory) rows) names c.take-row.result.inode (node_of (g.P.Pmem.region c.self.inside.memory) c.take-row.result) = λ names path. subst (λ (r : Row). LeadsTo (tree_of (g.P.Pmem.region c.self.inside.memory) rows) names r.inode (node_of (g.P.Pmem.region c.self.inside.memory) r)) (some_only _ _ (sym c.in_ok-inode.ensures.held ∙ c.take-row.ensures.row)) (c.in_ok-inode.ensures.row (g.P.Pmem.region c.self.inside.memory) names path) in
-    let numbered = own_row rows inode c.take-row.result c.take-row.ensures.row in
+    let at = at_place rows inode ∙ c.lend-row.ensures.row in
+    let leads : (names : List (List ℕ)) → IsPath c.args.path.now names → LeadsTo (tree_of (g.P.Pmem.region c.self.inside.memory) rows) names c.lend-row.result.inode (node_of (g.P.Pmem.region c.self.inside.memory) c.lend-row.result) = λ names path. subst (λ (r : Row). LeadsTo (tree_of (g.P.Pmem.region c.self.inside.memory) rows) names r.inode (node_of (g.P.Pmem.region c.self.inside.memory) r)) (some_only _ _ (sym c.in_ok-inode.ensures.held ∙ c.lend-row.ensures.row)) (c.in_ok-inode.ensures.row (g.P.Pmem.region c.self.inside.memory) names path) in
+    let numbered = own_row rows inode c.lend-row.result c.lend-row.ensures.row in
     let none = c.in_ok-inode.ensures.refused (g.P.Pmem.region c.self.inside.memory) p says in
-    let count = blocks_same c.take-row.result.tail (sized (node_of (g.P.Pmem.region c.self.inside.memory) c.take-row.result) c.args.size c.args.time) (record { mode = 0; size = 0; time = 0; owner = 0; group = 0 })
-    (end_block (block_at c.take-row.result.index) c.take-row.result.numbers.size c.args.size) in
-    size_allowed g.P.Pmem.region c.self.view_is c.args.cpu c.args.size c.in_ok-writable.ensures.passed p c.args.path.now c.take-row.result (node_of (g.P.Pmem.region c.self.inside.memory) c.take-row.result) numbered leads says none
+    let count = blocks_same c.lend-row.result.tail (sized (node_of (g.P.Pmem.region c.self.inside.memory) c.lend-row.result) c.args.size c.args.time) (record { mode = 0; size = 0; time = 0; owner = 0; group = 0 })
+    (end_block (block_at c.lend-row.result.index) c.lend-row.result.numbers.size c.args.size) in
+    size_allowed g.P.Pmem.region c.self.view_is c.args.cpu c.args.size c.in_ok-writable.ensures.passed p c.args.path.now c.lend-row.result (node_of (g.P.Pmem.region c.self.inside.memory) c.lend-row.result) numbered leads says none
     (subst (λ (n : ℕ). n ≤ all_blocks c.self.inside.free.pools) count c.in-Ok.ensures.enough)
 
 pub returns-in-Ok-clause-changed : goal.returns-in-Ok-clause-changed
@@ -117,17 +122,17 @@ returns-in-Ok-clause-changed g c names path =
     let writes : c.self.inside.read_only ≡ false = ap (λ (m : Mount g.row.P.Denot). m.read_only) c.self.view_is ∙ c.in_ok-writable.ensures.writes in
     let rows = c.self.inside.rows.items in
     let inode = c.in_ok-inode.field-0.now.inode in
-    let at = at_place rows inode ∙ c.take-row.ensures.row in
-    let leads : (names : List (List ℕ)) → IsPath c.args.path.now names → LeadsTo (tree_of (g.P.Pmem.region c.self.inside.memory) rows) names c.take-row.result.inode (node_of (g.P.Pmem.region c.self.inside.memory) c.take-row.result) = λ names path. subst (λ (r : Row). LeadsTo (tree_of (g.P.Pmem.region c.self.inside.memory) rows) names r.inode (node_of (g.P.Pmem.region c.self.inside.memory) r)) (some_only _ _ (sym c.in_ok-inode.ensures.held ∙ c.take-row.ensures.row)) (c.in_ok-inode.ensures.row (g.P.Pmem.region c.self.inside.memory) names path) in
-    let follows = λ (held : Store) (h : Held) (shows : ShowsRow (g.P.Pmem.region c.self.inside.memory) c.self.inside.sup held h c.take-row.result c.self.inside.free). c.in-Ok.ensures.resized.follows held h shows in
+    let at = at_place rows inode ∙ c.lend-row.ensures.row in
+    let leads : (names : List (List ℕ)) → IsPath c.args.path.now names → LeadsTo (tree_of (g.P.Pmem.region c.self.inside.memory) rows) names c.lend-row.result.inode (node_of (g.P.Pmem.region c.self.inside.memory) c.lend-row.result) = λ names path. subst (λ (r : Row). LeadsTo (tree_of (g.P.Pmem.region c.self.inside.memory) rows) names r.inode (node_of (g.P.Pmem.region c.self.inside.memory) r)) (some_only _ _ (sym c.in_ok-inode.ensures.held ∙ c.lend-row.ensures.row)) (c.in_ok-inode.ensures.row (g.P.Pmem.region c.self.inside.memory) names path) in
+    let follows = λ (held : Store) (h : Held) (shows : ShowsRow (g.P.Pmem.region c.self.inside.memory) c.self.inside.sup held h c.lend-row.result c.self.inside.free). c.in-Ok.ensures.resized.follows held h shows in
     let resized = c.in-Ok.ensures.resized in
     let has = resized.numbers in
     let led = leads names path in
-    let put = put_one rows c.take-row.new.self.items c.insert.new.self.items inode c.take-row.result c.resize-resized.new.row c.take-row.ensures.rising c.take-row.ensures.row c.take-row.ensures.rows (c.resize-resized.ensures.inode ∙ c.take-row.ensures.number) c.insert.ensures.rows in
-    rw put (size_changed g.P.Pmem.region c.self.view_is names c.take-row.result.inode c.args.size c.args.time (tree_of (g.P.Pmem.region c.resize-resized.new.memory) (set c.self.inside.rows.items (place_in rows inode) c.resize-resized.new.row)) led.leads
-    (tree_after c.self.invariant.0 runs writes (place_in rows inode) c.take-row.result c.resize-resized.new.row at (resizing c.take-row.result.numbers.size (sized (node_of (g.P.Pmem.region c.self.inside.memory) c.take-row.result) c.args.size c.args.time) c.in-Ok.ensures.resized.to) follows (with_size c.args.size c.args.time) has.inode
+    let put = back_one rows c.lend-row.new.self.items c.give_back.new.self.items inode c.resize-resized.new.row c.lend-row.ensures.lent (c.resize-resized.ensures.inode ∙ c.lend-row.ensures.number) c.give_back.ensures.rows in
+    rw put (size_changed g.P.Pmem.region c.self.view_is names c.lend-row.result.inode c.args.size c.args.time (tree_of (g.P.Pmem.region c.resize-resized.new.memory) (set c.self.inside.rows.items (place_in rows inode) c.resize-resized.new.row)) led.leads
+    (tree_after c.self.invariant.0 runs writes (place_in rows inode) c.lend-row.result c.resize-resized.new.row at (resizing c.lend-row.result.numbers.size (sized (node_of (g.P.Pmem.region c.self.inside.memory) c.lend-row.result) c.args.size c.args.time) c.in-Ok.ensures.resized.to) follows (with_size c.args.size c.args.time) has.inode
     (resized_node (g.P.Pmem.region c.self.inside.memory) (g.P.Pmem.region c.resize-resized.new.memory) c.args.size c.args.time has
-    (bytes_after c.self.invariant.0 runs writes (place_in rows inode) c.take-row.result at c.args.size c.args.time resized))))
+    (bytes_after c.self.invariant.0 runs writes (place_in rows inode) c.lend-row.result at c.args.size c.args.time resized))))
 
 pub returns-in-Ok-clause-log : goal.returns-in-Ok-clause-log
 returns-in-Ok-clause-log g c names i node held h path led sound is =
@@ -135,23 +140,23 @@ returns-in-Ok-clause-log g c names i node held h path led sound is =
     let writes : c.self.inside.read_only ≡ false = ap (λ (m : Mount g.row.P.Denot). m.read_only) c.self.view_is ∙ c.in_ok-writable.ensures.writes in
     let rows = c.self.inside.rows.items in
     let inode = c.in_ok-inode.field-0.now.inode in
-    let at = at_place rows inode ∙ c.take-row.ensures.row in
-    let leads : (names : List (List ℕ)) → IsPath c.args.path.now names → LeadsTo (tree_of (g.P.Pmem.region c.self.inside.memory) rows) names c.take-row.result.inode (node_of (g.P.Pmem.region c.self.inside.memory) c.take-row.result) = λ names path. subst (λ (r : Row). LeadsTo (tree_of (g.P.Pmem.region c.self.inside.memory) rows) names r.inode (node_of (g.P.Pmem.region c.self.inside.memory) r)) (some_only _ _ (sym c.in_ok-inode.ensures.held ∙ c.take-row.ensures.row)) (c.in_ok-inode.ensures.row (g.P.Pmem.region c.self.inside.memory) names path) in
-    size_logged g.P.Pmem.region c.self.view_is (g.P.Pmem.region c.resize-resized.new.memory) names c.take-row.result c.args.size c.args.time i node held h (leads names path)
-    (λ st k shown holds. log_after c.self.invariant.0 runs writes (place_in rows inode) c.take-row.result at c.args.size c.args.time c.in-Ok.ensures.resized st k shown holds) led sound is
+    let at = at_place rows inode ∙ c.lend-row.ensures.row in
+    let leads : (names : List (List ℕ)) → IsPath c.args.path.now names → LeadsTo (tree_of (g.P.Pmem.region c.self.inside.memory) rows) names c.lend-row.result.inode (node_of (g.P.Pmem.region c.self.inside.memory) c.lend-row.result) = λ names path. subst (λ (r : Row). LeadsTo (tree_of (g.P.Pmem.region c.self.inside.memory) rows) names r.inode (node_of (g.P.Pmem.region c.self.inside.memory) r)) (some_only _ _ (sym c.in_ok-inode.ensures.held ∙ c.lend-row.ensures.row)) (c.in_ok-inode.ensures.row (g.P.Pmem.region c.self.inside.memory) names path) in
+    size_logged g.P.Pmem.region c.self.view_is (g.P.Pmem.region c.resize-resized.new.memory) names c.lend-row.result c.args.size c.args.time i node held h (leads names path)
+    (λ st k shown holds. log_after c.self.invariant.0 runs writes (place_in rows inode) c.lend-row.result at c.args.size c.args.time c.in-Ok.ensures.resized st k shown holds) led sound is
 
 pub returns-in-Err-clause-refused : goal.returns-in-Err-clause-refused
 returns-in-Err-clause-refused g c still p says =
     let runs : c.self.inside.stopped ≡ false = ap (λ (m : Mount g.row.P.Denot). m.stopped) c.self.view_is ∙ c.in_ok-writable.ensures.runs in
     let rows = c.self.inside.rows.items in
     let inode = c.in_ok-inode.field-0.now.inode in
-    let at = at_place rows inode ∙ c.take-row.ensures.row in
-    let leads : (names : List (List ℕ)) → IsPath c.args.path.now names → LeadsTo (tree_of (g.P.Pmem.region c.self.inside.memory) rows) names c.take-row.result.inode (node_of (g.P.Pmem.region c.self.inside.memory) c.take-row.result) = λ names path. subst (λ (r : Row). LeadsTo (tree_of (g.P.Pmem.region c.self.inside.memory) rows) names r.inode (node_of (g.P.Pmem.region c.self.inside.memory) r)) (some_only _ _ (sym c.in_ok-inode.ensures.held ∙ c.take-row.ensures.row)) (c.in_ok-inode.ensures.row (g.P.Pmem.region c.self.inside.memory) names path) in
-    let numbered = own_row rows inode c.take-row.result c.take-row.ensures.row in
+    let at = at_place rows inode ∙ c.lend-row.ensures.row in
+    let leads : (names : List (List ℕ)) → IsPath c.args.path.now names → LeadsTo (tree_of (g.P.Pmem.region c.self.inside.memory) rows) names c.lend-row.result.inode (node_of (g.P.Pmem.region c.self.inside.memory) c.lend-row.result) = λ names path. subst (λ (r : Row). LeadsTo (tree_of (g.P.Pmem.region c.self.inside.memory) rows) names r.inode (node_of (g.P.Pmem.region c.self.inside.memory) r)) (some_only _ _ (sym c.in_ok-inode.ensures.held ∙ c.lend-row.ensures.row)) (c.in_ok-inode.ensures.row (g.P.Pmem.region c.self.inside.memory) names path) in
+    let numbered = own_row rows inode c.lend-row.result c.lend-row.ensures.row in
     let none = c.in_ok-inode.ensures.refused (g.P.Pmem.region c.self.inside.memory) p says in
-    let count = blocks_same c.take-row.result.tail (sized (node_of (g.P.Pmem.region c.self.inside.memory) c.take-row.result) c.args.size c.args.time) (record { mode = 0; size = 0; time = 0; owner = 0; group = 0 })
-    (end_block (block_at c.take-row.result.index) c.take-row.result.numbers.size c.args.size) in
-    size_refused g.P.Pmem.region c.self.view_is c.args.cpu c.args.size c.in_ok-writable.ensures.passed p c.args.path.now c.take-row.result (node_of (g.P.Pmem.region c.self.inside.memory) c.take-row.result) numbered leads says none c.in-Err.refusal
+    let count = blocks_same c.lend-row.result.tail (sized (node_of (g.P.Pmem.region c.self.inside.memory) c.lend-row.result) c.args.size c.args.time) (record { mode = 0; size = 0; time = 0; owner = 0; group = 0 })
+    (end_block (block_at c.lend-row.result.index) c.lend-row.result.numbers.size c.args.size) in
+    size_refused g.P.Pmem.region c.self.view_is c.args.cpu c.args.size c.in_ok-writable.ensures.passed p c.args.path.now c.lend-row.result (node_of (g.P.Pmem.region c.self.inside.memory) c.lend-row.result) numbered leads says none c.in-Err.refusal
     (subst (λ (n : ℕ). RefusesStep c.in-Err.refusal n c.self.inside.free) count c.in-Err.ensures.refused)
 
 pub returns-in-Err-clause-unchanged : goal.returns-in-Err-clause-unchanged
@@ -159,9 +164,9 @@ returns-in-Err-clause-unchanged g c off =
     let runs : c.self.inside.stopped ≡ false = ap (λ (m : Mount g.row.P.Denot). m.stopped) c.self.view_is ∙ c.in_ok-writable.ensures.runs in
     let rows = c.self.inside.rows.items in
     let inode = c.in_ok-inode.field-0.now.inode in
-    let at = at_place rows inode ∙ c.take-row.ensures.row in
-    let put = put_one rows c.take-row.new.self.items c.insert.new.self.items inode c.take-row.result c.resize-resized.new.row c.take-row.ensures.rising c.take-row.ensures.row c.take-row.ensures.rows (c.resize-resized.ensures.inode ∙ c.take-row.ensures.number) c.insert.ensures.rows in
-    rw put (unchanged_step c.self.view_is c.resize-resized.new.memory c.resize-resized.new.free (place_in rows inode) c.take-row.result c.resize-resized.new.row c.is_stop-self-inside.result at runs (not_stop c.in-Err.refusal c.is_stop-self-inside.result c.is_stop-self-inside.ensures.yes off) (c.in-Err.ensures.unchanged off))
+    let at = at_place rows inode ∙ c.lend-row.ensures.row in
+    let put = back_one rows c.lend-row.new.self.items c.give_back.new.self.items inode c.resize-resized.new.row c.lend-row.ensures.lent (c.resize-resized.ensures.inode ∙ c.lend-row.ensures.number) c.give_back.ensures.rows in
+    rw put (unchanged_step c.self.view_is c.resize-resized.new.memory c.resize-resized.new.free (place_in rows inode) c.lend-row.result c.resize-resized.new.row c.is_stop-self-inside.result at runs (not_stop c.in-Err.refusal c.is_stop-self-inside.result c.is_stop-self-inside.ensures.yes off) (c.in-Err.ensures.unchanged off))
 
 pub returns-in-Err-clause-stopped : goal.returns-in-Err-clause-stopped
 returns-in-Err-clause-stopped g c still = late_reply c.in-Err.refusal c.is_stop-self-inside.result c.is_stop-self-inside.ensures.yes c.is_stop-self-inside.ensures.no c.in-Err.ensures.stopped

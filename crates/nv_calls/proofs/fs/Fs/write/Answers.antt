@@ -21,7 +21,7 @@ use Rattle.nv_steps.specs.declared.planning.Plan.{Plan}
 use Rattle.nv_calls.proofs.FileStanding.{file_stands}
 use Rattle.nv_tree.proofs.Replies.{refused_by}
 use Rattle.nv_rows.specs.Rows.{place_in}
-use Rattle.nv_rows.proofs.Places.{at_place, own_row, put_one}
+use Rattle.nv_rows.proofs.Places.{at_place, back_one, in_use, own_row}
 use Rattle.nv_calls.proofs.OneRow.{stands_right}
 use Rattle.nv_super.proofs.Members.{stands}
 use Rattle.nv_calls.proofs.RowChange.{kept_after, same_mount, tree_after}
@@ -29,7 +29,12 @@ use Rattle.nv_calls.proofs.SetAttr.{kept_or_stopped, not_stop, unchanged_step}
 use Rattle.nv_calls.proofs.SetSize.{front_goes_on, front_tests}
 use Rattle.nv_calls.proofs.Tests.{early_reply, if_err, writing_goes_on}
 use Rattle.nv_calls.proofs.WriteReply.{large_same, write_allowed, write_bytes, write_changed, write_front, write_log, write_logged, write_none, write_refused, written_node}
+use Rattle.nv_calls.proofs.TwoRows.{last_used}
 use Rattle.nv_calls.proofs.fs.Fs.write.Goals as goal
+
+pub give_back-requires : goal.give_back-requires
+give_back-requires g c =
+    last_used c.self.inside.rows.items c.lend-row.new.self.items c.in_ok-inode.field-0.now.inode c.change_bytes-changed.new.row (in_use c.self.inside.rows.items c.in_ok-inode.field-0.now.inode c.lend-row.result c.lend-row.ensures.row) c.lend-row.ensures.lent (c.change_bytes-changed.ensures.inode ∙ c.lend-row.ensures.number)
 
 pub returns-in_err-writable-clause-refused : goal.returns-in_err-writable-clause-refused
 returns-in_err-writable-clause-refused g c runs p count says needs =
@@ -80,15 +85,15 @@ change_bytes-changed-requires-clause-stands g c =
     let writes : c.self.inside.read_only ≡ false = ap (λ (m : Mount g.row.P.Denot). m.read_only) c.self.view_is ∙ c.in_ok-writable.ensures.writes in
     let rows = c.self.inside.rows.items in
     let inode = c.in_ok-inode.field-0.now.inode in
-    let at = at_place rows inode ∙ c.take-row.ensures.row in
-    stands_right c.self.invariant.0 runs writes c.take-row.result (stands c.self.inside.rows.items (place_in rows inode) c.take-row.result at)
+    let at = at_place rows inode ∙ c.lend-row.ensures.row in
+    stands_right c.self.invariant.0 runs writes c.lend-row.result (stands c.self.inside.rows.items (place_in rows inode) c.lend-row.result at)
 
 pub change_bytes-changed-requires-clause-kind : goal.change_bytes-changed-requires-clause-kind
 change_bytes-changed-requires-clause-kind g c =
     let rows = c.self.inside.rows.items in
     let inode = c.in_ok-inode.field-0.now.inode in
-    let at = at_place rows inode ∙ c.take-row.ensures.row in
-    subst (λ (r : Row). r.kind ≡ File) (some_only _ _ (sym c.in_ok-inode.ensures.held ∙ c.take-row.ensures.row)) c.in_ok-inode.ensures.file
+    let at = at_place rows inode ∙ c.lend-row.ensures.row in
+    subst (λ (r : Row). r.kind ≡ File) (some_only _ _ (sym c.in_ok-inode.ensures.held ∙ c.lend-row.ensures.row)) c.in_ok-inode.ensures.file
 
 pub change_bytes-changed-requires-clause-file : goal.change_bytes-changed-requires-clause-file
 change_bytes-changed-requires-clause-file g c =
@@ -96,8 +101,8 @@ change_bytes-changed-requires-clause-file g c =
     let writes : c.self.inside.read_only ≡ false = ap (λ (m : Mount g.row.P.Denot). m.read_only) c.self.view_is ∙ c.in_ok-writable.ensures.writes in
     let rows = c.self.inside.rows.items in
     let inode = c.in_ok-inode.field-0.now.inode in
-    let at = at_place rows inode ∙ c.take-row.ensures.row in
-    file_stands c.self.invariant.0 runs writes c.take-row.result (stands c.self.inside.rows.items (place_in rows inode) c.take-row.result at)
+    let at = at_place rows inode ∙ c.lend-row.ensures.row in
+    file_stands c.self.invariant.0 runs writes c.lend-row.result (stands c.self.inside.rows.items (place_in rows inode) c.lend-row.result at)
 
 pub invariant_of-self : goal.invariant_of-self
 invariant_of-self g c =
@@ -105,10 +110,10 @@ invariant_of-self g c =
     let writes : c.self.inside.read_only ≡ false = ap (λ (m : Mount g.row.P.Denot). m.read_only) c.self.view_is ∙ c.in_ok-writable.ensures.writes in
     let rows = c.self.inside.rows.items in
     let inode = c.in_ok-inode.field-0.now.inode in
-    let at = at_place rows inode ∙ c.take-row.ensures.row in
+    let at = at_place rows inode ∙ c.lend-row.ensures.row in
     let plan = c.new-plan.result in
-    let put = put_one rows c.take-row.new.self.items c.insert.new.self.items inode c.take-row.result c.change_bytes-changed.new.row c.take-row.ensures.rising c.take-row.ensures.row c.take-row.ensures.rows (c.change_bytes-changed.ensures.inode ∙ c.take-row.ensures.number) c.insert.ensures.rows in
-    (rw put (kept_after c.self.invariant.0 runs writes (place_in rows inode) c.take-row.result c.change_bytes-changed.new.row at (data_entries plan c.in-Ok.ensures.writes.runs) (λ held h shows. c.in-Ok.ensures.writes.follows held h shows) c.change_bytes-changed.ensures.lists c.self.inside.stopped), c.insert.ensures.sup ∙ c.take-row.ensures.sup ∙ c.self.invariant.1)
+    let put = back_one rows c.lend-row.new.self.items c.give_back.new.self.items inode c.change_bytes-changed.new.row c.lend-row.ensures.lent (c.change_bytes-changed.ensures.inode ∙ c.lend-row.ensures.number) c.give_back.ensures.rows in
+    (rw put (kept_after c.self.invariant.0 runs writes (place_in rows inode) c.lend-row.result c.change_bytes-changed.new.row at (data_entries plan c.in-Ok.ensures.writes.runs) (λ held h shows. c.in-Ok.ensures.writes.follows held h shows) c.change_bytes-changed.ensures.lists c.self.inside.stopped), c.give_back.ensures.sup ∙ c.lend-row.ensures.sup ∙ c.self.invariant.1)
 
 pub invariant_of-self-in-Err : goal.invariant_of-self-in-Err
 invariant_of-self-in-Err g c =
@@ -116,35 +121,35 @@ invariant_of-self-in-Err g c =
     let writes : c.self.inside.read_only ≡ false = ap (λ (m : Mount g.row.P.Denot). m.read_only) c.self.view_is ∙ c.in_ok-writable.ensures.writes in
     let rows = c.self.inside.rows.items in
     let inode = c.in_ok-inode.field-0.now.inode in
-    let at = at_place rows inode ∙ c.take-row.ensures.row in
-    let put = put_one rows c.take-row.new.self.items c.insert.new.self.items inode c.take-row.result c.change_bytes-changed.new.row c.take-row.ensures.rising c.take-row.ensures.row c.take-row.ensures.rows (c.change_bytes-changed.ensures.inode ∙ c.take-row.ensures.number) c.insert.ensures.rows in
-    (rw put (kept_or_stopped g.P.Pmem.region c.self.invariant.0 runs writes (place_in rows inode) c.take-row.result c.change_bytes-changed.new.row at c.in-Err.refusal c.is_stop-self-inside.result c.is_stop-self-inside.ensures.yes c.is_stop-self-inside.ensures.no c.change_bytes-changed.ensures.lists c.in-Err.ensures.unchanged), c.insert.ensures.sup ∙ c.take-row.ensures.sup ∙ c.self.invariant.1)
+    let at = at_place rows inode ∙ c.lend-row.ensures.row in
+    let put = back_one rows c.lend-row.new.self.items c.give_back.new.self.items inode c.change_bytes-changed.new.row c.lend-row.ensures.lent (c.change_bytes-changed.ensures.inode ∙ c.lend-row.ensures.number) c.give_back.ensures.rows in
+    (rw put (kept_or_stopped g.P.Pmem.region c.self.invariant.0 runs writes (place_in rows inode) c.lend-row.result c.change_bytes-changed.new.row at c.in-Err.refusal c.is_stop-self-inside.result c.is_stop-self-inside.ensures.yes c.is_stop-self-inside.ensures.no c.change_bytes-changed.ensures.lists c.in-Err.ensures.unchanged), c.give_back.ensures.sup ∙ c.lend-row.ensures.sup ∙ c.self.invariant.1)
 
 pub returns-in-Ok-clause-allowed : goal.returns-in-Ok-clause-allowed
 returns-in-Ok-clause-allowed g c p count says needs =
     let runs : c.self.inside.stopped ≡ false = ap (λ (m : Mount g.row.P.Denot). m.stopped) c.self.view_is ∙ c.in_ok-writable.ensures.runs in
     let rows = c.self.inside.rows.items in
     let inode = c.in_ok-inode.field-0.now.inode in
-    let at = at_place rows inode ∙ c.take-row.ensures.row in
-    let leads : (names : List (List ℕ)) → IsPath c.args.path.now names → LeadsTo (tree_of (g.P.Pmem.region c.self.inside.memory) rows) names c.take-row.result.inode (node_of (g.P.Pmem.region c.self.inside.memory) c.take-row.result) = λ names path. subst (λ (r : Row). LeadsTo (tree_of (g.P.Pmem.region c.self.inside.memory) rows) names r.inode (node_of (g.P.Pmem.region c.self.inside.memory) r)) (some_only _ _ (sym c.in_ok-inode.ensures.held ∙ c.take-row.ensures.row)) (c.in_ok-inode.ensures.row (g.P.Pmem.region c.self.inside.memory) names path) in
-    let numbered = own_row rows inode c.take-row.result c.take-row.ensures.row in
+    let at = at_place rows inode ∙ c.lend-row.ensures.row in
+    let leads : (names : List (List ℕ)) → IsPath c.args.path.now names → LeadsTo (tree_of (g.P.Pmem.region c.self.inside.memory) rows) names c.lend-row.result.inode (node_of (g.P.Pmem.region c.self.inside.memory) c.lend-row.result) = λ names path. subst (λ (r : Row). LeadsTo (tree_of (g.P.Pmem.region c.self.inside.memory) rows) names r.inode (node_of (g.P.Pmem.region c.self.inside.memory) r)) (some_only _ _ (sym c.in_ok-inode.ensures.held ∙ c.lend-row.ensures.row)) (c.in_ok-inode.ensures.row (g.P.Pmem.region c.self.inside.memory) names path) in
+    let numbered = own_row rows inode c.lend-row.result c.lend-row.ensures.row in
     let none : first_refusal (front_tests (tree_of (g.P.Pmem.region c.self.inside.memory) c.self.inside.rows.items) p (c.args.offset + length c.args.bytes.now)) ≡ None =
     large_same c.args.offset (length c.args.bytes.now) c.saturating_add.result c.saturating_add.ensures (tree_of (g.P.Pmem.region c.self.inside.memory) c.self.inside.rows.items) p ∙ c.in_ok-inode.ensures.refused (g.P.Pmem.region c.self.inside.memory) p says in
-    write_allowed g.P.Pmem.region c.self.view_is c.args.cpu (c.args.offset + length c.args.bytes.now) count c.in_ok-writable.ensures.passed p none c.args.path.now c.take-row.result (node_of (g.P.Pmem.region c.self.inside.memory) c.take-row.result) numbered leads says c.args.offset (length c.args.bytes.now) c.args.time (omega (arith, c.if-count-eq0.false)) needs
-    (subst (λ (q : Plan). (k : ℕ) → NeedsBlocks c.self.inside.free.pools c.args.cpu c.take-row.result.tail q k → k ≤ all_blocks c.self.inside.free.pools) c.new-plan.ensures c.in-Ok.ensures.enough)
+    write_allowed g.P.Pmem.region c.self.view_is c.args.cpu (c.args.offset + length c.args.bytes.now) count c.in_ok-writable.ensures.passed p none c.args.path.now c.lend-row.result (node_of (g.P.Pmem.region c.self.inside.memory) c.lend-row.result) numbered leads says c.args.offset (length c.args.bytes.now) c.args.time (omega (arith, c.if-count-eq0.false)) needs
+    (subst (λ (q : Plan). (k : ℕ) → NeedsBlocks c.self.inside.free.pools c.args.cpu c.lend-row.result.tail q k → k ≤ all_blocks c.self.inside.free.pools) c.new-plan.ensures c.in-Ok.ensures.enough)
 
 pub returns-in-Err-clause-refused : goal.returns-in-Err-clause-refused
 returns-in-Err-clause-refused g c still p count says needs =
     let runs : c.self.inside.stopped ≡ false = ap (λ (m : Mount g.row.P.Denot). m.stopped) c.self.view_is ∙ c.in_ok-writable.ensures.runs in
     let rows = c.self.inside.rows.items in
     let inode = c.in_ok-inode.field-0.now.inode in
-    let at = at_place rows inode ∙ c.take-row.ensures.row in
-    let leads : (names : List (List ℕ)) → IsPath c.args.path.now names → LeadsTo (tree_of (g.P.Pmem.region c.self.inside.memory) rows) names c.take-row.result.inode (node_of (g.P.Pmem.region c.self.inside.memory) c.take-row.result) = λ names path. subst (λ (r : Row). LeadsTo (tree_of (g.P.Pmem.region c.self.inside.memory) rows) names r.inode (node_of (g.P.Pmem.region c.self.inside.memory) r)) (some_only _ _ (sym c.in_ok-inode.ensures.held ∙ c.take-row.ensures.row)) (c.in_ok-inode.ensures.row (g.P.Pmem.region c.self.inside.memory) names path) in
-    let numbered = own_row rows inode c.take-row.result c.take-row.ensures.row in
+    let at = at_place rows inode ∙ c.lend-row.ensures.row in
+    let leads : (names : List (List ℕ)) → IsPath c.args.path.now names → LeadsTo (tree_of (g.P.Pmem.region c.self.inside.memory) rows) names c.lend-row.result.inode (node_of (g.P.Pmem.region c.self.inside.memory) c.lend-row.result) = λ names path. subst (λ (r : Row). LeadsTo (tree_of (g.P.Pmem.region c.self.inside.memory) rows) names r.inode (node_of (g.P.Pmem.region c.self.inside.memory) r)) (some_only _ _ (sym c.in_ok-inode.ensures.held ∙ c.lend-row.ensures.row)) (c.in_ok-inode.ensures.row (g.P.Pmem.region c.self.inside.memory) names path) in
+    let numbered = own_row rows inode c.lend-row.result c.lend-row.ensures.row in
     let none : first_refusal (front_tests (tree_of (g.P.Pmem.region c.self.inside.memory) c.self.inside.rows.items) p (c.args.offset + length c.args.bytes.now)) ≡ None =
     large_same c.args.offset (length c.args.bytes.now) c.saturating_add.result c.saturating_add.ensures (tree_of (g.P.Pmem.region c.self.inside.memory) c.self.inside.rows.items) p ∙ c.in_ok-inode.ensures.refused (g.P.Pmem.region c.self.inside.memory) p says in
-    write_refused g.P.Pmem.region c.self.view_is c.args.cpu (c.args.offset + length c.args.bytes.now) count c.in_ok-writable.ensures.passed p none c.args.path.now c.take-row.result (node_of (g.P.Pmem.region c.self.inside.memory) c.take-row.result) numbered leads says c.args.offset (length c.args.bytes.now) c.args.time (omega (arith, c.if-count-eq0.false)) needs c.in-Err.refusal
-    (subst (λ (q : Plan). RefusesWrite c.in-Err.refusal c.self.inside.free c.args.cpu c.take-row.result.tail q) c.new-plan.ensures c.in-Err.ensures.refused)
+    write_refused g.P.Pmem.region c.self.view_is c.args.cpu (c.args.offset + length c.args.bytes.now) count c.in_ok-writable.ensures.passed p none c.args.path.now c.lend-row.result (node_of (g.P.Pmem.region c.self.inside.memory) c.lend-row.result) numbered leads says c.args.offset (length c.args.bytes.now) c.args.time (omega (arith, c.if-count-eq0.false)) needs c.in-Err.refusal
+    (subst (λ (q : Plan). RefusesWrite c.in-Err.refusal c.self.inside.free c.args.cpu c.lend-row.result.tail q) c.new-plan.ensures c.in-Err.ensures.refused)
 
 pub returns-in-Ok-clause-changed : goal.returns-in-Ok-clause-changed
 returns-in-Ok-clause-changed g c names path =
@@ -152,16 +157,16 @@ returns-in-Ok-clause-changed g c names path =
     let writes : c.self.inside.read_only ≡ false = ap (λ (m : Mount g.row.P.Denot). m.read_only) c.self.view_is ∙ c.in_ok-writable.ensures.writes in
     let rows = c.self.inside.rows.items in
     let inode = c.in_ok-inode.field-0.now.inode in
-    let at = at_place rows inode ∙ c.take-row.ensures.row in
-    let leads : (names : List (List ℕ)) → IsPath c.args.path.now names → LeadsTo (tree_of (g.P.Pmem.region c.self.inside.memory) rows) names c.take-row.result.inode (node_of (g.P.Pmem.region c.self.inside.memory) c.take-row.result) = λ names path. subst (λ (r : Row). LeadsTo (tree_of (g.P.Pmem.region c.self.inside.memory) rows) names r.inode (node_of (g.P.Pmem.region c.self.inside.memory) r)) (some_only _ _ (sym c.in_ok-inode.ensures.held ∙ c.take-row.ensures.row)) (c.in_ok-inode.ensures.row (g.P.Pmem.region c.self.inside.memory) names path) in
+    let at = at_place rows inode ∙ c.lend-row.ensures.row in
+    let leads : (names : List (List ℕ)) → IsPath c.args.path.now names → LeadsTo (tree_of (g.P.Pmem.region c.self.inside.memory) rows) names c.lend-row.result.inode (node_of (g.P.Pmem.region c.self.inside.memory) c.lend-row.result) = λ names path. subst (λ (r : Row). LeadsTo (tree_of (g.P.Pmem.region c.self.inside.memory) rows) names r.inode (node_of (g.P.Pmem.region c.self.inside.memory) r)) (some_only _ _ (sym c.in_ok-inode.ensures.held ∙ c.lend-row.ensures.row)) (c.in_ok-inode.ensures.row (g.P.Pmem.region c.self.inside.memory) names path) in
     let plan = c.new-plan.result in
-    let follows = λ (held : Store) (h : Held) (shows : ShowsRow (g.P.Pmem.region c.self.inside.memory) c.self.inside.sup held h c.take-row.result c.self.inside.free). c.in-Ok.ensures.writes.follows held h shows in
+    let follows = λ (held : Store) (h : Held) (shows : ShowsRow (g.P.Pmem.region c.self.inside.memory) c.self.inside.sup held h c.lend-row.result c.self.inside.free). c.in-Ok.ensures.writes.follows held h shows in
     let led = leads names path in
-    let put = put_one rows c.take-row.new.self.items c.insert.new.self.items inode c.take-row.result c.change_bytes-changed.new.row c.take-row.ensures.rising c.take-row.ensures.row c.take-row.ensures.rows (c.change_bytes-changed.ensures.inode ∙ c.take-row.ensures.number) c.insert.ensures.rows in
-    rw put (write_changed g.P.Pmem.region c.self.view_is names c.take-row.result.inode c.args.offset c.args.bytes.now c.args.time (omega (arith, c.if-count-eq0.false)) (tree_of (g.P.Pmem.region c.change_bytes-changed.new.memory) (set c.self.inside.rows.items (place_in rows inode) c.change_bytes-changed.new.row)) led.leads
-    (tree_after c.self.invariant.0 runs writes (place_in rows inode) c.take-row.result c.change_bytes-changed.new.row at (data_entries plan c.in-Ok.ensures.writes.runs) follows (with_bytes c.args.offset c.args.bytes.now c.args.time) c.in-Ok.ensures.writes.inode
+    let put = back_one rows c.lend-row.new.self.items c.give_back.new.self.items inode c.change_bytes-changed.new.row c.lend-row.ensures.lent (c.change_bytes-changed.ensures.inode ∙ c.lend-row.ensures.number) c.give_back.ensures.rows in
+    rw put (write_changed g.P.Pmem.region c.self.view_is names c.lend-row.result.inode c.args.offset c.args.bytes.now c.args.time (omega (arith, c.if-count-eq0.false)) (tree_of (g.P.Pmem.region c.change_bytes-changed.new.memory) (set c.self.inside.rows.items (place_in rows inode) c.change_bytes-changed.new.row)) led.leads
+    (tree_after c.self.invariant.0 runs writes (place_in rows inode) c.lend-row.result c.change_bytes-changed.new.row at (data_entries plan c.in-Ok.ensures.writes.runs) follows (with_bytes c.args.offset c.args.bytes.now c.args.time) c.in-Ok.ensures.writes.inode
     (written_node (g.P.Pmem.region c.self.inside.memory) (g.P.Pmem.region c.change_bytes-changed.new.memory) c.args.time c.in-Ok.ensures.writes c.new-plan.ensures
-    (write_bytes c.self.invariant.0 runs writes (place_in rows inode) c.take-row.result at c.in-Ok.ensures.writes))))
+    (write_bytes c.self.invariant.0 runs writes (place_in rows inode) c.lend-row.result at c.in-Ok.ensures.writes))))
 
 pub returns-in-Ok-clause-log : goal.returns-in-Ok-clause-log
 returns-in-Ok-clause-log g c names i node held h path led sound is some =
@@ -169,16 +174,16 @@ returns-in-Ok-clause-log g c names i node held h path led sound is some =
     let writes : c.self.inside.read_only ≡ false = ap (λ (m : Mount g.row.P.Denot). m.read_only) c.self.view_is ∙ c.in_ok-writable.ensures.writes in
     let rows = c.self.inside.rows.items in
     let inode = c.in_ok-inode.field-0.now.inode in
-    let at = at_place rows inode ∙ c.take-row.ensures.row in
-    let leads : (names : List (List ℕ)) → IsPath c.args.path.now names → LeadsTo (tree_of (g.P.Pmem.region c.self.inside.memory) rows) names c.take-row.result.inode (node_of (g.P.Pmem.region c.self.inside.memory) c.take-row.result) = λ names path. subst (λ (r : Row). LeadsTo (tree_of (g.P.Pmem.region c.self.inside.memory) rows) names r.inode (node_of (g.P.Pmem.region c.self.inside.memory) r)) (some_only _ _ (sym c.in_ok-inode.ensures.held ∙ c.take-row.ensures.row)) (c.in_ok-inode.ensures.row (g.P.Pmem.region c.self.inside.memory) names path) in
-    write_logged g.P.Pmem.region c.self.view_is names c.args.time i node held h c.self.invariant.0 runs (stands c.self.inside.rows.items (place_in rows inode) c.take-row.result at) (leads names path) c.in-Ok.ensures.writes c.new-plan.ensures
-    (λ st k shown holds. write_log c.self.invariant.0 runs writes (place_in rows inode) c.take-row.result at c.in-Ok.ensures.writes st k shown holds) led sound is
+    let at = at_place rows inode ∙ c.lend-row.ensures.row in
+    let leads : (names : List (List ℕ)) → IsPath c.args.path.now names → LeadsTo (tree_of (g.P.Pmem.region c.self.inside.memory) rows) names c.lend-row.result.inode (node_of (g.P.Pmem.region c.self.inside.memory) c.lend-row.result) = λ names path. subst (λ (r : Row). LeadsTo (tree_of (g.P.Pmem.region c.self.inside.memory) rows) names r.inode (node_of (g.P.Pmem.region c.self.inside.memory) r)) (some_only _ _ (sym c.in_ok-inode.ensures.held ∙ c.lend-row.ensures.row)) (c.in_ok-inode.ensures.row (g.P.Pmem.region c.self.inside.memory) names path) in
+    write_logged g.P.Pmem.region c.self.view_is names c.args.time i node held h c.self.invariant.0 runs (stands c.self.inside.rows.items (place_in rows inode) c.lend-row.result at) (leads names path) c.in-Ok.ensures.writes c.new-plan.ensures
+    (λ st k shown holds. write_log c.self.invariant.0 runs writes (place_in rows inode) c.lend-row.result at c.in-Ok.ensures.writes st k shown holds) led sound is
 
 pub returns-in-Err-clause-unchanged : goal.returns-in-Err-clause-unchanged
 returns-in-Err-clause-unchanged g c off =
     let runs : c.self.inside.stopped ≡ false = ap (λ (m : Mount g.row.P.Denot). m.stopped) c.self.view_is ∙ c.in_ok-writable.ensures.runs in
     let rows = c.self.inside.rows.items in
     let inode = c.in_ok-inode.field-0.now.inode in
-    let at = at_place rows inode ∙ c.take-row.ensures.row in
-    let put = put_one rows c.take-row.new.self.items c.insert.new.self.items inode c.take-row.result c.change_bytes-changed.new.row c.take-row.ensures.rising c.take-row.ensures.row c.take-row.ensures.rows (c.change_bytes-changed.ensures.inode ∙ c.take-row.ensures.number) c.insert.ensures.rows in
-    rw put (unchanged_step c.self.view_is c.change_bytes-changed.new.memory c.change_bytes-changed.new.free (place_in rows inode) c.take-row.result c.change_bytes-changed.new.row c.is_stop-self-inside.result at runs (not_stop c.in-Err.refusal c.is_stop-self-inside.result c.is_stop-self-inside.ensures.yes off) (c.in-Err.ensures.unchanged off))
+    let at = at_place rows inode ∙ c.lend-row.ensures.row in
+    let put = back_one rows c.lend-row.new.self.items c.give_back.new.self.items inode c.change_bytes-changed.new.row c.lend-row.ensures.lent (c.change_bytes-changed.ensures.inode ∙ c.lend-row.ensures.number) c.give_back.ensures.rows in
+    rw put (unchanged_step c.self.view_is c.change_bytes-changed.new.memory c.change_bytes-changed.new.free (place_in rows inode) c.lend-row.result c.change_bytes-changed.new.row c.is_stop-self-inside.result at runs (not_stop c.in-Err.refusal c.is_stop-self-inside.result c.is_stop-self-inside.ensures.yes off) (c.in-Err.ensures.unchanged off))
