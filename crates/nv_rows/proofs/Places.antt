@@ -7,7 +7,7 @@ use Rattle.std.proofs.lemmas.Bool.Decides.{nat_tests}
 use Rattle.nv_super.specs.Order.{Rises}
 use Rattle.nv_super.proofs.RisingPlaces.{rises_keys}
 use Rattle.nv_scan.specs.declared.piece.Row.{Row}
-use Rattle.nv_rows.specs.Rows.{row_key, row_of, place_in, IsInUse, IsLent, IsPlaceOf, HasInserted}
+use Rattle.nv_rows.specs.Rows.{row_key, row_of, place_in, IsInUse, IsLent, IsPlaceOf}
 
 differs : (a i j : ℕ) → a ≡ i → i ≢ j → nat_eq a j ≡ false
 differs a i j is apart = grind (arith, nat_tests)
