@@ -22,8 +22,8 @@ const MOST: usize = 0x7FFF_FFFF_FFFF_FFFF;
 
 /// A map from names to what they stand for.
 ///
-/// It begins with one bucket. When that has as many names as stand by their keys, they move into many buckets. The one
-/// bucket has no name from then on.
+/// It begins with one bucket. Once that takes no more by their keys, its names move into many buckets, and it has none from
+/// then on.
 #[derive(Drop)]
 pub(crate) struct Buckets {
     one: Bucket,
@@ -43,7 +43,7 @@ impl Model for Buckets {
 }
 
 impl Buckets {
-    /// Buckets with no name. It takes no memory.
+    /// Buckets with no name. They take no memory.
     pub(crate) fn new(alloc: Global) -> Buckets
         ensures { result ≡ [] }
     {
@@ -67,7 +67,7 @@ impl Buckets {
 
     /// Puts a name into its bucket, in place of what it stood for, which it answers.
     ///
-    /// Where the one bucket has many names, it first moves them into many buckets. This happens once.
+    /// Where the one bucket takes no more by their keys, its names first move into many buckets. This happens once.
     pub(crate) fn put(
         &mut self,
         alloc: Global,

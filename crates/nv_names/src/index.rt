@@ -14,7 +14,7 @@ use std::marker::Model;
 /// A map from names to the inodes that they stand for and the places of their entries.
 ///
 /// It is a table, which is made for the first name, so that an index that never had one stays small. The table keeps the
-/// names in ordered buckets, so no choice of names makes a call look at every name.
+/// names in buckets, so no choice of names makes a call look at every name.
 #[derive(Drop)]
 pub struct NameIndex {
     table: Option<Box<Table>>,

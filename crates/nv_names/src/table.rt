@@ -85,7 +85,7 @@ impl Table {
         self.fresh.push_reserved((Name::new(name), target));
     }
 
-    /// As `add`, and where there is no room the name goes into its buckets. Answers what the name stood for before.
+    /// As `add`, and where there is no room the name goes into its bucket. Answers what the name stood for before.
     pub(crate) fn put(
         &mut self,
         name: &[u8],
