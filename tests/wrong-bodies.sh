@@ -5,8 +5,9 @@
 #     JOBS=2 tests/wrong-bodies.sh         two crates at a time; without JOBS as many as there are processors, at most 4
 #
 # They are tried by `rt must-fail` in a copy of the repository, where they stand in the place of the gate's own edits.
-# The libraries that are built are linked into it, or copied where that can't be. Prints a line for each, and closes with
-# 'N refused, M accepted'; one that could not be tried counts as accepted. The status is 1 where one was accepted.
+# What the prover kept of the crates is linked into it, or copied where that can't be, so that a crate that is proved already
+# isn't proved once more. Prints a line for each, and closes with 'N refused, M accepted'; one that could not be tried counts
+# as accepted. The status is 1 where one was accepted.
 set -u
 here=$(cd "$(dirname "${BASH_SOURCE[0]}")/.." && pwd)
 cores=$(nproc)
@@ -35,9 +36,8 @@ for folder in "$here"/crates/*; do
         [ ! -d "$folder/$part" ] || cp -a "$folder/$part" "$to/"
     done
     [ ! -d "$folder/wrong-bodies" ] || cp -a "$folder/wrong-bodies" "$to/must-fail"
-    if [ -d "$folder/out/rlib" ]; then
-        mkdir "$to/out"
-        cp -al "$folder/out/rlib" "$to/out/" 2>/dev/null || cp -a --reflink=auto "$folder/out/rlib" "$to/out/"
+    if [ -d "$folder/out" ]; then
+        cp -al "$folder/out" "$to/" 2>/dev/null || cp -a --reflink=auto "$folder/out" "$to/"
     fi
 done
 

@@ -220,26 +220,25 @@ impl Rows {
         ensures sup { self.new.sup ≡ self.old.sup }
         ensures room { self.new.room ≡ self.old.room }
     {
-        let mut row = blank_row(alloc, inode);
-        self.exchange(&mut row);
-        row
+        self.exchange(blank_row(alloc, inode))
     }
 
     /// Puts a row in the place of the one that its inode has.
-    pub fn give_back(&mut self, mut row: Row)
+    pub fn give_back(&mut self, row: Row)
         requires { IsInUse self.old.items row.inode }
         ensures rows { self.new.items ≡ set self.old.items (place_in self.old.items row.inode) row }
         ensures sup { self.new.sup ≡ self.old.sup }
         ensures room { self.new.room ≡ self.old.room }
     {
-        self.exchange(&mut row);
+        let _other = self.exchange(row);
     }
 
-    /// Exchanges the row of an inode in use for another of the same number.
-    fn exchange(&mut self, row: &mut Row)
-        requires { IsInUse self.old.items row.old.inode }
-        ensures row { row_of self.old.items row.old.inode ≡ Some row.new }
-        ensures rows { self.new.items ≡ set self.old.items (place_in self.old.items row.old.inode) row.old }
+    /// Puts a row in the place of the one that its inode has, and answers that one.
+    #[inline]
+    fn exchange(&mut self, row: Row) -> Row
+        requires { IsInUse self.old.items row.inode }
+        ensures row { row_of self.old.items row.inode ≡ Some result }
+        ensures rows { self.new.items ≡ set self.old.items (place_in self.old.items row.inode) row }
         ensures rising { Rises row_key self.old.items }
         ensures sup { self.new.sup ≡ self.old.sup }
         ensures room { self.new.room ≡ self.old.room }
@@ -247,7 +246,7 @@ impl Rows {
         // Rows say of themselves that they rise.
         let _rows = self.len();
         match self.rows.get_mut(row.inode) {
-            Some(held) => mem::swap(held, row),
+            Some(held) => mem::replace(held, row),
             None => unreachable!(),
         }
     }
