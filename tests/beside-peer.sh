@@ -7,7 +7,7 @@
 # recovery. In each round (5 where none are given) the native program and `bench_mounted` run one after the other, three
 # recoveries each, and the best of all rounds counts. The images have 65,536 blocks: small files, one big file, one
 # directory of many names, and files of many overwrites. Both keep the memory that they free, so that a recovery doesn't
-# wait for the system to clear it again. Nothing else should run meanwhile.
+# wait for the system to clear it again, and both have huge pages. Nothing else should run meanwhile.
 set -eu
 here=$(cd "$(dirname "${BASH_SOURCE[0]}")/.." && pwd)
 if [ $# -lt 1 ] || [ ! -f "$1/Cargo.toml" ]; then
@@ -17,6 +17,7 @@ fi
 rounds=${2:-5}
 # 32 MiB is the most that the C library takes as the second.
 export MALLOC_TRIM_THRESHOLD_=1073741824 MALLOC_MMAP_THRESHOLD_=33554432
+export GLIBC_TUNABLES=glibc.malloc.hugetlb=1
 folder=$(mktemp -d)
 trap 'rm -rf "$folder"' EXIT
 (cd "$1" && CARGO_TARGET_DIR=$folder/peer cargo build --release --offline -q)

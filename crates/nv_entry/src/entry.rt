@@ -1,6 +1,10 @@
 //! What a log says, entry by entry.
 
+ghost use Rattle.std.specs.Prelude.{◌≡◌, ◌<◌, ◌≤◌, length};
+ghost use Rattle.nv_entry.specs.declared.entry.Entry.TheVariants.{Name};
+
 use crate::name::FileName;
+use arrayvec::ArrayVec;
 
 /// What a name entry does with its name.
 #[derive(Clone, Copy, Debug, PartialEq, Eq)]
@@ -59,4 +63,21 @@ pub enum Entry {
     Attr(AttrEntry),
     Name(NameEntry),
     Links(LinksEntry),
+}
+
+/// The entry that adds a name of 1 to 255 bytes to a directory, or removes it.
+pub fn name_entry(operation: Operation, inode: u64, name: &[u8], time: u64) -> Entry
+    requires some { 0 < length name.now }
+    requires fits { length name.now ≤ 255 }
+    ensures { result ≡ Name (record { operation = operation; inode = inode; time = time; name = name.now }) }
+{
+    // The bytes are put in place here, and so move but once, into the entry.
+    let mut bytes: ArrayVec<u8, 255> = ArrayVec::new();
+    let _fits = bytes.try_extend_from_slice(name);
+    Entry::Name(NameEntry {
+        operation,
+        inode,
+        time,
+        name: FileName::from_bytes(bytes),
+    })
 }

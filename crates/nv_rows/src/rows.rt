@@ -211,6 +211,7 @@ impl Rows {
     }
 
     /// Takes the row of an inode in use out for a while. One that says nothing stands in its place until it is given back.
+    #[inline(always)]
     pub fn lend(&mut self, alloc: Global, inode: u64) -> Row
         requires { IsInUse self.old.items inode }
         ensures row { row_of self.old.items inode ≡ Some result }
@@ -220,25 +221,28 @@ impl Rows {
         ensures sup { self.new.sup ≡ self.old.sup }
         ensures room { self.new.room ≡ self.old.room }
     {
-        self.exchange(blank_row(alloc, inode))
+        let mut row = blank_row(alloc, inode);
+        self.exchange(&mut row);
+        row
     }
 
     /// Puts a row in the place of the one that its inode has.
-    pub fn give_back(&mut self, row: Row)
+    #[inline(always)]
+    pub fn give_back(&mut self, mut row: Row)
         requires { IsInUse self.old.items row.inode }
         ensures rows { self.new.items ≡ set self.old.items (place_in self.old.items row.inode) row }
         ensures sup { self.new.sup ≡ self.old.sup }
         ensures room { self.new.room ≡ self.old.room }
     {
-        let _other = self.exchange(row);
+        self.exchange(&mut row);
     }
 
-    /// Puts a row in the place of the one that its inode has, and answers that one.
-    #[inline]
-    fn exchange(&mut self, row: Row) -> Row
-        requires { IsInUse self.old.items row.inode }
-        ensures row { row_of self.old.items row.inode ≡ Some result }
-        ensures rows { self.new.items ≡ set self.old.items (place_in self.old.items row.inode) row }
+    /// Exchanges the row of an inode in use for another of the same number.
+    #[inline(always)]
+    fn exchange(&mut self, row: &mut Row)
+        requires { IsInUse self.old.items row.old.inode }
+        ensures row { row_of self.old.items row.old.inode ≡ Some row.new }
+        ensures rows { self.new.items ≡ set self.old.items (place_in self.old.items row.old.inode) row.old }
         ensures rising { Rises row_key self.old.items }
         ensures sup { self.new.sup ≡ self.old.sup }
         ensures room { self.new.room ≡ self.old.room }
@@ -246,7 +250,7 @@ impl Rows {
         // Rows say of themselves that they rise.
         let _rows = self.len();
         match self.rows.get_mut(row.inode) {
-            Some(held) => mem::replace(held, row),
+            Some(held) => mem::swap(held, row),
             None => unreachable!(),
         }
     }

@@ -29,7 +29,7 @@ mod writing;
 pub use attributes::change_attributes;
 pub use giving::give_row;
 pub use linking::link_both;
-pub use making::{NewName, make_named, name_entry};
+pub use making::{NewName, make_named};
 pub use planning::Plan;
 pub use removing::{Gone, cut_name};
 pub use renaming::{OtherName, move_both, move_within};

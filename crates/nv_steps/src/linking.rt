@@ -18,10 +18,9 @@ ghost use Rattle.nv_steps.specs.NewNames.{CanName};
 ghost use Rattle.nv_steps.specs.Steps.{LeavesStep, RefusesStep};
 
 use crate::growing::{Growth, append_logs};
-use crate::making::name_entry;
 use crate::settling_names::{add_name, set_links};
 use nv_alloc::Allocators;
-use nv_entry::{Entry, LinksEntry, Operation, length};
+use nv_entry::{Entry, LinksEntry, Operation, length, name_entry};
 use nv_region::Pmem;
 use nv_scan::Row;
 use nv_super::Super;

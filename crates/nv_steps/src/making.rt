@@ -7,7 +7,7 @@ ghost use Rattle.nv_region.specs.Stops.{NothingPending};
 ghost use Rattle.nv_region.specs.Fuses.{KeepsFuse};
 ghost use Rattle.nv_alloc.specs.Taking.{all_blocks};
 ghost use Rattle.nv_entry.specs.declared.entry.Operation.{Operation as OperationValue};
-ghost use Rattle.nv_entry.specs.declared.entry.Entry.TheVariants.{Attr, Name};
+ghost use Rattle.nv_entry.specs.declared.entry.Entry.TheVariants.{Attr};
 ghost use Rattle.nv_logpage.specs.Append.{needed};
 ghost use Rattle.nv_names.specs.Names.{EachOnce, IsName};
 ghost use Rattle.nv_held.specs.nv_outcome.Same.{SameRow};
@@ -22,7 +22,7 @@ use crate::blocks::take_blocks;
 use crate::settling::settle_log;
 use nv_alloc::{AllocRefusal, Allocators};
 use nv_commit::{Extension, NewInode, make_inode};
-use nv_entry::{AttrEntry, Entry, FileName, NameEntry, Operation, length};
+use nv_entry::{AttrEntry, Entry, Operation, length, name_entry};
 use nv_logpage::pages_needed;
 use nv_names::NameIndex;
 use nv_radix::FileIndex;
@@ -41,22 +41,6 @@ pub struct NewName<'a> {
     pub mode: u32,
     pub time: u64,
     pub name: &'a [u8],
-}
-
-/// The entry that adds or removes a name.
-pub fn name_entry(operation: Operation, inode: u64, name: &[u8], time: u64) -> Entry
-    requires { IsName name.now }
-    ensures { result ≡ Name (record { operation = operation; inode = inode; time = time; name = name.now }) }
-{
-    match FileName::new(name) {
-        Some(name) => Entry::Name(NameEntry {
-            operation,
-            inode,
-            time,
-            name,
-        }),
-        None => unreachable!(),
-    }
 }
 
 /// Makes a new inode with its name in the directory of a row, over blocks that it takes: one for the new log, and then those

@@ -18,12 +18,11 @@ ghost use Rattle.nv_steps.specs.NewNames.{CanName};
 ghost use Rattle.nv_steps.specs.Steps.{LeavesStep, RefusesStep};
 ghost use Rattle.nv_steps.specs.Taken.{SamePools, TakesEach};
 
-use crate::making::name_entry;
 use crate::preparing::prepare_log;
 use crate::settling::settle_log;
 use nv_alloc::{AllocRefusal, Allocators};
 use nv_commit::{Extension, remove_inode};
-use nv_entry::{Entry, Operation};
+use nv_entry::{Entry, Operation, name_entry};
 use nv_region::Pmem;
 use nv_scan::Row;
 use nv_super::Super;

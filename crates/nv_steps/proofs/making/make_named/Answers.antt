@@ -21,7 +21,7 @@ use Rattle.nv_steps.proofs.TakenBlocks.{taken_sup}
 use Rattle.nv_steps.proofs.making.make_named.Goals as goal
 
 pub name_entry-requires : goal.name_entry-requires
-name_entry-requires g c = c.requires.name
+name_entry-requires g c = record { some = c.requires.name.some; fits = c.requires.name.short }
 
 pub prepare_name-requires-clause-cpu : goal.prepare_name-requires-clause-cpu
 prepare_name-requires-clause-cpu g c = subst (λ (s : Super). c.args.cpu < s.cpus) (sym c.requires.stands.lists) c.requires.can.cpu_below

@@ -32,10 +32,10 @@ returns-clause-moved g c =
     moves_within c.args.moved.now.inode c.args.moved.now.name.now c.args.moved.now.other.now c.args.moved.now.time same both c.length.result (c.length.ensures.value ∙ ap entry_length c.name_entry-2.ensures) c.remove_name.ensures.row c.remove_name.ensures.once c.add_name.ensures.row c.add_name.ensures.once c.len-names.ensures.each_once
 
 pub name_entry-requires : goal.name_entry-requires
-name_entry-requires g c = c.requires.name
+name_entry-requires g c = record { some = c.requires.name.some; fits = c.requires.name.short }
 
 pub name_entry-requires-2 : goal.name_entry-requires-2
-name_entry-requires-2 g c = c.requires.other
+name_entry-requires-2 g c = record { some = c.requires.other.some; fits = c.requires.other.short }
 
 pub append_log-requires-clause-cpu : goal.append_log-requires-clause-cpu
 append_log-requires-clause-cpu g c = c.requires.cpu

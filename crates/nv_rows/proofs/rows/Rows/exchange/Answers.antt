@@ -9,30 +9,30 @@ use Rattle.nv_rows.proofs.rows.Rows.exchange.Goals as goal
 pub unreachable-requires : goal.unreachable-requires
 unreachable-requires c =
     let used = rw (← c.self.view_is) at c.requires in
-    let none : row_of (rows_in c.self.inside.rows.slots) c.args.row.inode ≡ None = row_at_slot c.self.inside.rows.slots c.args.row.inode c.self.invariant.stand ∙ sym c.in-None.ensures.value in
+    let none : row_of (rows_in c.self.inside.rows.slots) c.args.row.now.inode ≡ None = row_at_slot c.self.inside.rows.slots c.args.row.now.inode c.self.invariant.stand ∙ sym c.in-None.ensures.value in
     let not_there = ap is_some none in
     absurd (cc)
 
 pub invariant_of-self : goal.invariant_of-self
 invariant_of-self c =
     let slots = c.self.inside.rows.slots in
-    let n = c.args.row.inode in
+    let n = c.args.row.now.inode in
     let at : get_or slots n None ≡ Some c.in-Some.held.now = sym c.in-Some.ensures.value in
     let inside = slot_within slots n (ap is_some at) in
-    rw c.replace.ensures.after
+    rw c.swap.ensures.x_after
     (record {
       layout = c.self.invariant.layout;
-      stand = stand-set 0 slots n (Some c.args.row) inside (λ row is. (let same : c.args.row ≡ row = cc in ap (λ (r : Row). r.inode) (sym same) ∙ sym (zero-add n))) c.self.invariant.stand;
-      tells = TellsUsed-exchanged c.self.inside.sup c.self.invariant.layout slots c.self.inside.used.items n c.in-Some.held.now c.args.row at inside c.self.invariant.tells;
+      stand = stand-set 0 slots n (Some c.args.row.now) inside (λ row is. (let same : c.args.row.now ≡ row = cc in ap (λ (r : Row). r.inode) (sym same) ∙ sym (zero-add n))) c.self.invariant.stand;
+      tells = TellsUsed-exchanged c.self.inside.sup c.self.invariant.layout slots c.self.inside.used.items n c.in-Some.held.now c.args.row.now at inside c.self.invariant.tells;
     })
 
 pub returns-clause-row : goal.returns-clause-row
 returns-clause-row c =
-    rw (← c.self.view_is) (row_at_slot c.self.inside.rows.slots c.args.row.inode c.self.invariant.stand ∙ sym c.in-Some.ensures.value ∙ ap (λ (r : Row). Some r) (sym c.replace.ensures.value))
+    rw (← c.self.view_is) (row_at_slot c.self.inside.rows.slots c.args.row.now.inode c.self.invariant.stand ∙ sym c.in-Some.ensures.value ∙ ap (λ (r : Row). Some r) (sym c.swap.ensures.y_after))
 
 pub returns-clause-rows : goal.returns-clause-rows
 returns-clause-rows c =
     let slots = c.self.inside.rows.slots in
-    let n = c.args.row.inode in
-    rw (← c.self.view_is, c.replace.ensures.after)
-    (subst (λ k. rows_in (set slots n (Some c.args.row)) ≡ set (rows_in slots) (place_in (rows_in slots) k) c.args.row) (zero-add n) (slot_exchanged 0 slots n c.in-Some.held.now c.args.row c.self.invariant.stand (sym c.in-Some.ensures.value)))
+    let n = c.args.row.now.inode in
+    rw (← c.self.view_is, c.swap.ensures.x_after)
+    (subst (λ k. rows_in (set slots n (Some c.args.row.now)) ≡ set (rows_in slots) (place_in (rows_in slots) k) c.args.row.now) (zero-add n) (slot_exchanged 0 slots n c.in-Some.held.now c.args.row.now c.self.invariant.stand (sym c.in-Some.ensures.value)))
