@@ -65,13 +65,13 @@ pub enum Entry {
     Links(LinksEntry),
 }
 
-/// The entry that adds a name of 1 to 255 bytes to a directory, or removes it.
+/// The entry that adds a name of 1 to 255 bytes to a directory for an inode at a time, or removes it.
 pub fn name_entry(operation: Operation, inode: u64, name: &[u8], time: u64) -> Entry
     requires some { 0 < length name.now }
     requires fits { length name.now ≤ 255 }
     ensures { result ≡ Name (record { operation = operation; inode = inode; time = time; name = name.now }) }
 {
-    // The bytes are put in place here, and so move but once, into the entry.
+    // So many bytes always fit.
     let mut bytes: ArrayVec<u8, 255> = ArrayVec::new();
     let _fits = bytes.try_extend_from_slice(name);
     Entry::Name(NameEntry {

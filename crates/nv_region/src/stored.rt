@@ -90,24 +90,11 @@ impl StoredLines {
         ensures here { (after : List ℕ) (i : ℕ) → i < length words.now → first ≤ i / 8 → i / 8 < end → word_before self.new.rows self.new.kept after i ≡ word_before self.old.rows self.old.kept words.now i }
         ensures others { (after : List ℕ) (i : ℕ) → i < length words.now → (first ≤ i / 8 → i / 8 < end → ⊥) → word_before self.new.rows self.new.kept after i ≡ word_before self.old.rows self.old.kept after i }
     {
-        match end - first {
-            1 => self.note(first, words),
-            2 => self.note_two(first, words),
-            _ => self.note_stretches(first, end, words),
+        if end - first == 1 {
+            self.note(first, words);
+        } else {
+            self.note_stretches(first, end, words);
         }
-    }
-
-    /// Does so for two lines, as most entries of a log that don't lie in one line ask for.
-    fn note_two(&mut self, first: usize, words: &[u64])
-        requires all { length words.now ≡ self.old.total }
-        requires within { 8 * (first + 1) < length words.now }
-        ensures total { self.new.total ≡ self.old.total }
-        ensures lines { (p : ℕ) → is_stored self.new p ≡ true → (is_stored self.old p ≡ true) ⊎ (p < first + 2) }
-        ensures here { (after : List ℕ) (i : ℕ) → i < length words.now → first ≤ i / 8 → i / 8 < first + 2 → word_before self.new.rows self.new.kept after i ≡ word_before self.old.rows self.old.kept words.now i }
-        ensures others { (after : List ℕ) (i : ℕ) → i < length words.now → (first ≤ i / 8 → i / 8 < first + 2 → ⊥) → word_before self.new.rows self.new.kept after i ≡ word_before self.old.rows self.old.kept after i }
-    {
-        self.note(first, words);
-        self.note(first + 1, words);
     }
 
     /// Does so by stretches of lines that aren't noted.

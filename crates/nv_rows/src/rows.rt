@@ -211,6 +211,7 @@ impl Rows {
     }
 
     /// Takes the row of an inode in use out for a while. One that says nothing stands in its place until it is given back.
+    // A call would copy the whole row once more, and so would one of the next two.
     #[inline(always)]
     pub fn lend(&mut self, alloc: Global, inode: u64) -> Row
         requires { IsInUse self.old.items inode }
