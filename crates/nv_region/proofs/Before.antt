@@ -8,6 +8,8 @@ use Rattle.std.proofs.lemmas.List.FromFn.{get_or-map-range_with_len, length-map-
 use Rattle.std.proofs.lemmas.List.Sorted.{Contains-permutation, list_any-IsPermutation}
 use Rattle.nv_region.specs.StoredLines.{Noted, holds, is_stored, word_before, words_before}
 use Rattle.nv_region.specs.Marks.{AreKept}
+use Rattle.nv_region.specs.Recent.{taken_back}
+use Rattle.nv_region.specs.declared.recent.StoredWord.{StoredWord}
 use Rattle.nv_region.specs.declared.stored.StoredRow.{StoredRow}
 use Rattle.nv_region.proofs.Rows.{Has, IsFound, found, has_holds, holds_has, not_held, row_in, no_row, stands, tail_kept, head_lacks}
 use Rattle.nv_region.proofs.Marks.{permuted_kept}
@@ -191,9 +193,10 @@ before_differ rows kept words i other = by (list_any (λ row. holds row (i / 8))
   ]
 
 -- so nothing is pending there
-pub settled : (rows : List StoredRow) (kept words : List ℕ) → rows ≡ [] → (i x : ℕ) → (x ≡ get_or words i 0) ⊎ (x ≡ get_or (words_before rows kept words) i 0) → x ≡ get_or words i 0
-settled rows kept words none i x (inl last) = last
-settled rows kept words none i x (inr fenced) = fenced ∙ ap (λ (rs : List StoredRow). get_or (words_before rs kept words) i 0) none ∙ ap (λ (ws : List ℕ). get_or ws i 0) (none_before kept words)
+pub settled : (rows : List StoredRow) (stores : List StoredWord) (kept words : List ℕ) → rows ≡ [] → stores ≡ [] → (i x : ℕ) → (x ≡ get_or words i 0) ⊎ (x ≡ get_or (words_before rows kept (taken_back stores words)) i 0) → x ≡ get_or words i 0
+settled rows stores kept words none no_store i x (inl last) = last
+settled rows stores kept words none no_store i x (inr fenced) =
+    fenced ∙ ap (λ (l : List StoredWord). get_or (words_before rows kept (taken_back l words)) i 0) no_store ∙ ap (λ (rs : List StoredRow). get_or (words_before rs kept words) i 0) none ∙ ap (λ (ws : List ℕ). get_or ws i 0) (none_before kept words)
 
 -- the first so many rows are put back
 pub record ArePutBack (rows : List StoredRow) (kept words : List ℕ) (k : ℕ) (made : List ℕ) : Type 0 where

@@ -13,3 +13,4 @@ pub mod Fronted
 pub mod Alternate
 pub mod Alternating
 pub mod Cuts
+pub mod RecentStores

@@ -6,6 +6,7 @@ pub mod Stored
 pub mod Lines
 pub mod StoredLines
 pub mod Marks
+pub mod Recent
 pub mod Fenced
 pub mod Kept
 pub mod ImageState

@@ -7,6 +7,7 @@
 mod image;
 mod memory;
 mod pmem;
+mod recent;
 mod stored;
 mod words;
 

@@ -17,6 +17,7 @@ ghost use Rattle.nv_region.specs.Kept.{alternate, kept, so_far};
 ghost use Rattle.nv_region.specs.StoredLines.{words_before};
 ghost use Rattle.nv_region.specs.Marks.{AreKept, RowsRise};
 
+use crate::recent::{RecentStores, hold, note_recent};
 use crate::stored::{StoredLines, StoredRow, WORDS_IN_LINE, lines_of};
 use crate::{Pmem, Stopped};
 use byteorder::{ByteOrder, LittleEndian};
@@ -77,6 +78,7 @@ pub struct MemRegion {
     alloc: Global,
     words: Vec<u64>,
     stored: StoredLines,
+    recent: RecentStores,
     rest: Vec<u8>,
     fuse: Fuse,
     burnt: bool,
@@ -85,10 +87,11 @@ pub struct MemRegion {
 impl Model for MemRegion {
     ghost use Rattle.nv_region.specs.RegionState.{RegionState};
     ghost use Rattle.nv_region.specs.StoredLines.{words_before};
+    ghost use Rattle.nv_region.specs.Recent.{taken_back};
 
     ghost Value = { RegionState };
 
-    ghost view = { λ m. record { region = record { words = m.words.items; rest = m.rest.items }; fenced = words_before m.stored.rows m.stored.kept m.words.items; fuse = m.fuse; burnt = m.burnt } };
+    ghost view = { λ m. record { region = record { words = m.words.items; rest = m.rest.items }; fenced = words_before m.stored.rows m.stored.kept (taken_back m.recent m.words.items); fuse = m.fuse; burnt = m.burnt } };
 
     ghost use Rattle.nv_region.specs.Fenced.{IsTracked};
 
@@ -113,6 +116,7 @@ impl MemRegion {
             alloc,
             words: vec![in alloc; 0; count]?,
             stored: StoredLines::new(alloc, count)?,
+            recent: RecentStores::new(),
             rest: Vec::new(alloc),
             fuse: Fuse::Off,
             burnt: false,
@@ -141,6 +145,7 @@ impl MemRegion {
             alloc,
             words,
             stored,
+            recent: RecentStores::new(),
             rest,
             fuse: Fuse::Off,
             burnt: false,
@@ -195,6 +200,7 @@ impl MemRegion {
             alloc,
             words,
             stored,
+            recent: RecentStores::new(),
             rest,
             fuse: Fuse::Off,
             burnt: false,
@@ -215,15 +221,18 @@ impl MemRegion {
             alloc,
             mut words,
             mut stored,
+            mut recent,
             rest,
             ..
         } = self;
+        note_recent(&mut stored, &mut recent, &mut words);
         keep_words(&mut words, &mut stored, keep);
         stored.clear();
         MemRegion {
             alloc,
             words,
             stored,
+            recent,
             rest,
             fuse: Fuse::Off,
             burnt: false,
@@ -389,14 +398,21 @@ impl MemRegion {
         ensures { self.new ≡ record self.old { fenced = self.old.region.words } }
     {
         self.stored.clear();
+        self.recent.forget();
     }
 
-    // Changes the word of this number, and notes its line.
+    // Changes the word of this number.
     fn put(&mut self, number: usize, value: u64)
         requires { number < length self.old.region.words }
         ensures { self.new ≡ record self.old { region = put self.old.region (8 * number) value } }
     {
-        self.stored.note(number / WORDS_IN_LINE, &self.words);
+        hold(
+            &mut self.stored,
+            &mut self.recent,
+            &mut self.words,
+            number,
+            value,
+        );
         self.words[number] = value;
     }
 
@@ -407,14 +423,39 @@ impl MemRegion {
         !self.burnt && matches!(self.fuse, Fuse::Off)
     }
 
-    // Changes the words in a row from the one of this number on, and notes their lines.
+    // Changes the words in a row from the one of this number on.
     fn put_row(&mut self, first: usize, words: &[u64])
+        requires some { 1 ≤ length words.now }
+        requires within { first + length words.now ≤ length self.old.region.words }
+        ensures { self.new ≡ record self.old { region = put_words self.old.region (8 * first) words.now (length words.now) } }
+    {
+        if words.len() < WORDS_IN_LINE && self.stored.is_empty() {
+            self.put_each(first, words);
+        } else {
+            self.put_lines(first, words);
+        }
+    }
+
+    // Does so word by word.
+    fn put_each(&mut self, first: usize, words: &[u64])
+        requires within { first + length words.now ≤ length self.old.region.words }
+        ensures { self.new ≡ record self.old { region = put_words self.old.region (8 * first) words.now (length words.now) } }
+    {
+        let _length = self.len();
+        for k in 0..words.len() {
+            self.put(first + k, words[k]);
+        }
+    }
+
+    // Does so at once, and notes their lines.
+    fn put_lines(&mut self, first: usize, words: &[u64])
         requires some { 1 ≤ length words.now }
         requires within { first + length words.now ≤ length self.old.region.words }
         ensures { self.new ≡ record self.old { region = put_words self.old.region (8 * first) words.now (length words.now) } }
     {
         let _length = self.len();
         let end = first + words.len();
+        note_recent(&mut self.stored, &mut self.recent, &mut self.words);
         self.stored
             .note_row(first / WORDS_IN_LINE, lines_of(end), &self.words);
         self.words[first..end].copy_from_slice(words);

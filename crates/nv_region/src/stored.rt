@@ -146,6 +146,14 @@ impl StoredLines {
         keep(&mut self.rows, &mut self.kept, first, end, words);
     }
 
+    /// Whether no line is noted.
+    #[inline]
+    pub(crate) fn is_empty(&self) -> bool
+        ensures { result ≡ (length self.now.rows == 0) }
+    {
+        self.rows.is_empty()
+    }
+
     /// The rows of lines that are noted.
     pub(crate) fn rows(&self) -> &[StoredRow]
         ensures rows { result.now ≡ self.now.rows }

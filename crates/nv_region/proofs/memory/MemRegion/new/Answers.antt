@@ -4,4 +4,4 @@ use Rattle.nv_region.proofs.Before.{settled}
 use Rattle.nv_region.proofs.memory.MemRegion.new.Goals as goal
 
 pub returns-clause-settled : goal.returns-clause-settled
-returns-clause-settled c = settled _ _ _ (ap (λ (n : Noted). n.rows) c.in_ok-new.ensures)
+returns-clause-settled c = settled _ _ _ _ (ap (λ (n : Noted). n.rows) c.in_ok-new.ensures) c.new-2.ensures

@@ -1,8 +1,10 @@
-use Rattle.std.proofs.Common.{◌≡◌, ◌+◌, ◌*◌, ◌/◌, ℕ, List, set, ap, ◌∙◌, arith, length-set, get_or-set_other}
+use Rattle.std.proofs.Common.{◌≡◌, ◌*◌, ◌/◌, ℕ, List, set, length, ap, sym, subst, ◌∙◌, arith, length-set}
+use Rattle.std.specs.Vec.{with_items}
+use Rattle.std.proofs.lemmas.List.{take_at}
 use Rattle.nv_region.specs.Region.{put}
 use Rattle.nv_region.specs.RegionState.{RegionState}
-use Rattle.nv_region.specs.StoredLines.{word_before, words_before}
-use Rattle.nv_region.proofs.Before.{row_before}
+use Rattle.nv_region.specs.Recent.{AreHeld, taken_back}
+use Rattle.nv_region.specs.StoredLines.{words_before}
 use Rattle.nv_region.proofs.memory.MemRegion.put.Goals as goal
 
 pub returns : goal.returns
@@ -11,17 +13,34 @@ returns c =
     let rows = c.self.inside.stored.rows in
     let kept : List ℕ = c.self.inside.stored.kept in
     let number : ℕ = c.args.number in
-    let after : List ℕ = set words number c.args.value in
+    let value : ℕ = c.args.value in
+    let new = c.hold.new in
+    let lent = c.deref_mut.ensures.value in
+    let same : new.words ≡ words = c.hold.ensures.same ∙ lent in
+    let items : (with_items c.self.inside.words new.words).items ≡ words = take_at new.words _ c.self.inside.words.len (omega (arith, ap length same, c.self.inside.words.ok)) ∙ same in
     let place : number ≡ 8 * number / 8 = omega arith in
-    let before : words_before c.note.new.self.rows c.note.new.self.kept after ≡ words_before rows kept words =
-    row_before rows c.note.new.self.rows kept c.note.new.self.kept words after (number / 8) (number / 8 + 1)
-    (λ i within from to. c.note.ensures.here after i (rw c.deref.ensures.value within) (omega (arith, from, to)) ∙ ap (λ (l : List ℕ). word_before rows kept l i) c.deref.ensures.value)
-    (λ i within away. c.note.ensures.others after i (rw c.deref.ensures.value within) (λ is. away (omega (arith, is)) (omega (arith, is)))) (length-set words number c.args.value)
-    (λ i away. get_or-set_other words number i c.args.value 0 (λ is. away (omega (arith, ap (λ (n : ℕ). n / 8) is)) (omega (arith, ap (λ (n : ℕ). n / 8) is)))) in
+    let before : words_before new.stored.rows new.stored.kept (taken_back new.recent (set (with_items c.self.inside.words new.words).items number value)) ≡ words_before rows kept (taken_back c.self.inside.recent words) =
+    ap (λ (l : List ℕ). words_before new.stored.rows new.stored.kept (taken_back new.recent (set l number value))) (items ∙ sym lent)
+    ∙ c.hold.ensures.before ∙ ap (λ (l : List ℕ). words_before rows kept (taken_back c.self.inside.recent l)) lent in
     (λ k. record {
-      region = record { words = set words (place k) c.args.value; rest = c.self.inside.rest.items };
+      region = record { words = set (items k) (place k) value; rest = c.self.inside.rest.items };
       fenced = before k;
       fuse = c.self.inside.fuse;
       burnt = c.self.inside.burnt;
     })
-    ∙ ap (λ (m : RegionState). record m { region = put m.region (8 * number) c.args.value }) c.self.view_is
+    ∙ ap (λ (m : RegionState). record m { region = put m.region (8 * number) value }) c.self.view_is
+
+pub invariant_of-self : goal.invariant_of-self
+invariant_of-self c =
+    let new = c.hold.new in
+    let number : ℕ = c.args.number in
+    let value : ℕ = c.args.value in
+    let same : new.words ≡ c.self.inside.words.items = c.hold.ensures.same ∙ c.deref_mut.ensures.value in
+    let items : (with_items c.self.inside.words new.words).items ≡ c.self.inside.words.items = take_at new.words _ c.self.inside.words.len (omega (arith, ap length same, c.self.inside.words.ok)) ∙ same in
+    let long = length-set (with_items c.self.inside.words new.words).items number value ∙ ap length items in
+    record {
+      short = c.self.invariant.short;
+      small = omega (arith, long, c.self.invariant.small);
+      count = c.hold.ensures.total ∙ c.self.invariant.count ∙ sym long;
+      held = subst (λ (l : List ℕ). AreHeld new.recent (set l number value)) (c.deref_mut.ensures.value ∙ sym items) c.hold.ensures.held;
+    }
