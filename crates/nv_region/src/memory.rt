@@ -1,7 +1,8 @@
 //! A region in ordinary memory, which a fuse can stop.
 //!
-//! It holds its words as they read, and of each line of 64 bytes that was stored to since the last fence also the words at
-//! that fence. A fence forgets these, so it costs what was stored and never the size of the region.
+//! It holds its words as they read, and what was stored since the last fence: the stores themselves while they are few, and
+//! else each line of 64 bytes that was stored to, with its words at that fence. A fence forgets these, so it costs what was
+//! stored and never the size of the region.
 
 ghost use Rattle.std.specs.Prelude.{◌≡◌, ◌≢◌, ◌⊎◌, ◌≤◌, ◌<◌, ◌+◌, ◌-◌, ◌*◌, ◌/◌, ◌%◌, ◌||◌, ◌↔◌, ◌^◌, ◌==◌, ℕ, true, false, IfOk, OnOk, OnErr, IsErrOf, is_err, get_or, eqb, length, take, drop, min, replicate, List, [], refl};
 ghost use Rattle.std.proofs.Common.{inl};
