@@ -12,10 +12,6 @@ pub length-taken_back : (stores : List StoredWord) (words : List ℕ) → length
 length-taken_back [] words = refl
 length-taken_back (store ∷ stores) words = length-set (taken_back stores words) store.number store.before ∙ length-taken_back stores words
 
-pub length-done_again : (stores : List StoredWord) (words : List ℕ) → length (done_again stores words) ≡ length words
-length-done_again [] words = refl
-length-done_again (store ∷ stores) words = length-done_again stores (set words store.number store.after) ∙ length-set words store.number store.after
-
 -- the last of them is taken back first
 last_taken_back : (stores : List StoredWord) (store : StoredWord) (words : List ℕ) → taken_back (stores ++ store ∷ []) words ≡ taken_back stores (set words store.number store.before)
 last_taken_back [] store words = refl
