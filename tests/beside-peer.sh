@@ -4,7 +4,7 @@
 # usage: tests/beside-peer.sh PEER [ROUNDS]
 #
 # PEER is the folder of the native program's sources, a crate `nova_ref` whose `bench` writes an image and times its own
-# recovery. In each round (5 where none are given) the native program and `bench_mounted` run one after the other, three
+# recovery. In each round (5 where none are given) the native program and `bench` run one after the other, three
 # recoveries each, and the best of all rounds counts. The images have 65,536 blocks: small files, one big file, one
 # directory of many names, and files of many overwrites. Both keep the memory that they free, so that a recovery doesn't
 # wait for the system to clear it again, and both have huge pages. Nothing else should run meanwhile.
@@ -22,8 +22,8 @@ folder=$(mktemp -d)
 trap 'rm -rf "$folder"' EXIT
 (cd "$1" && CARGO_TARGET_DIR=$folder/peer cargo build --release --offline -q)
 peer=$folder/peer/release/nova_ref
-(cd "$here/crates/bench_mounted" && rt run >"$folder/built" 2>&1) || { tail -n 20 "$folder/built"; exit 2; }
-ours=$here/crates/bench_mounted/out/bench_mounted
+(cd "$here/crates/bench" && rt run >"$folder/built" 2>&1) || { tail -n 20 "$folder/built"; exit 2; }
+ours=$here/crates/bench/out/bench
 
 shape() {
     case $1 in

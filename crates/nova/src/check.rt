@@ -1,9 +1,8 @@
 //! The check of the image in a file.
 
-use crate::failure::Failure;
 use crate::image::{Image, image_at, refuse_length, tell_length, tell_refused_length};
 use nv_args::CheckOutput;
-use nv_cli::{Output, check_region_as};
+use nv_cli::{Failure, Output, check_region_as};
 use std::io;
 use std::rt::Files;
 use std::thread::Threads;

@@ -1,6 +1,6 @@
 //! What each class of faults means. docs/FAULTS.md says the same, with an example of each.
 
-use crate::failure::Failure;
+use nv_cli::Failure;
 use nv_stream::write_text;
 use std::io;
 

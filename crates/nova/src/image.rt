@@ -4,8 +4,7 @@ ghost use Rattle.std.specs.Prelude.{◌≡◌, OnOk, OnErr, IfOk, IfErr, codes};
 ghost use Rattle.std.specs.Io.KnownBytes.{Appends};
 ghost use Rattle.nv_stream.specs.Streams.{AppendsFront};
 
-use crate::failure::Failure;
-use nv_cli::{BadLength, LONGEST_REGION, ScriptError, is_region_length};
+use nv_cli::{BadLength, Failure, LONGEST_REGION, ScriptError, is_region_length};
 use nv_stream::{Contents, contents_at, write_text};
 use std::io::Write;
 use std::rt::Files;

@@ -13,11 +13,9 @@
 mod check;
 mod drawing;
 mod explain;
-mod failure;
 mod hints;
 mod image;
 mod mapping;
-mod reason;
 mod run;
 mod saving;
 mod show;
@@ -28,11 +26,9 @@ ghost use Rattle.std.specs.Process.{exit_status};
 
 use check::check;
 use explain::{explain, tell_classes};
-use failure::Failure;
 use mapping::map;
 use nv_args::{Todo, read_words};
-use nv_cli::ScriptError;
-use reason::Reason;
+use nv_cli::{Failure, Reason, ScriptError, exit_of};
 use run::{run, script_at};
 use saving::{Numbers, Target, mkfs};
 use show::{Shown, show};
@@ -46,7 +42,7 @@ use words::words_of;
 fn main(rt: HostRuntime) -> ExitCode {
     let alloc = rt.alloc();
     let Ok(words) = words_of(&rt, alloc) else {
-        return refused(&rt, Failure::Answer(ScriptError::Memory));
+        return ended(&rt, Err(Failure::Answer(ScriptError::Memory)));
     };
     let Ok(texts) = words
         .texts
@@ -54,7 +50,7 @@ fn main(rt: HostRuntime) -> ExitCode {
         .map(|text| text.as_str())
         .collect::<Vec<&str>>(alloc)
     else {
-        return refused(&rt, Failure::Answer(ScriptError::Memory));
+        return ended(&rt, Err(Failure::Answer(ScriptError::Memory)));
     };
     match read_words(alloc, texts.as_slice()) {
         Ok(todo) if words.are_utf8 => ended(
@@ -63,9 +59,9 @@ fn main(rt: HostRuntime) -> ExitCode {
         ),
         // Of the words of a check only the path can be one that isn't UTF-8.
         Ok(Todo::Check { path, .. }) => {
-            refused(&rt, Failure::CannotRead(path, Reason::PathNotUtf8))
+            ended(&rt, Err(Failure::CannotRead(path, Reason::PathNotUtf8)))
         }
-        Ok(_) => refused(&rt, Failure::WordNotUtf8),
+        Ok(_) => ended(&rt, Err(Failure::WordNotUtf8)),
         Err(usage) => {
             // Its text ends its last line.
             let _ = eprint!(rt; "{usage}");
@@ -131,21 +127,20 @@ fn answer<'a, H: Files + AllocGlobal + Print + Eprint + Threads + Sync, R: Read 
     }
 }
 
-// Ends the program with the status that it has come to, or refused.
+// Ends the program with the status that it has come to, or with 2, and then says why on standard error.
 fn ended(rt: &HostRuntime, answer: Result<u8, Failure<'_>>) -> ExitCode
     ensures { MatchResult answer.entry (λ status. exit_status result ≡ status) (λ _. exit_status result ≡ 2) }
 {
-    match answer {
-        Ok(status) => ExitCode::from(status),
-        Err(failure) => refused(rt, failure),
+    let code = exit_of(&answer);
+    if let Err(failure) = answer {
+        tell(rt, failure);
     }
+    code
 }
 
-// Ends the program with status 2, and says why on standard error. Why a file can't be read, and which classes there are, stands
-// on a line of its own.
-fn refused(rt: &HostRuntime, failure: Failure<'_>) -> ExitCode
-    ensures { exit_status result ≡ 2 }
-{
+// Says on standard error what ended the program. Why a file can't be read, and which classes there are, stands on a line of
+// its own.
+fn tell(rt: &HostRuntime, failure: Failure<'_>) {
     let _ = eprintln!(rt; "{failure}");
     match failure {
         Failure::CannotRead(_, reason) => {
@@ -154,5 +149,4 @@ fn refused(rt: &HostRuntime, failure: Failure<'_>) -> ExitCode
         Failure::NoClass(_) => tell_classes(rt),
         _ => {}
     }
-    ExitCode::from(2)
 }

@@ -1,11 +1,10 @@
 //! The map of the image in a file, as text and as a drawing.
 
 use crate::drawing::drawing;
-use crate::failure::Failure;
 use crate::image::{Image, image_at, refuse_length, tell_length, tell_refused_length};
 use crate::saving::{Target, save_file};
 use crate::show::tell_faults;
-use nv_cli::{Mapped, map_cells, write_map};
+use nv_cli::{Failure, Mapped, map_cells, write_map};
 use std::io;
 use std::rt::Files;
 

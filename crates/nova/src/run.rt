@@ -1,12 +1,11 @@
 //! Running a script, on the region of an image or on none, and saving the region that it leaves.
 
-use crate::failure::Failure;
 use crate::hints::ErrorOutput;
 use crate::image::{Image, image_at};
-use crate::reason::Reason;
 use crate::saving::{Target, save_region};
 use nv_cli::{
-    Ended, MemRegion, RegionRefusal, ScriptError, region_of_file, run_script_on, run_script_to_end,
+    Ended, Failure, MemRegion, Reason, RegionRefusal, ScriptError, region_of_file, run_script_on,
+    run_script_to_end,
 };
 use std::io::Read;
 use std::rt::Files;

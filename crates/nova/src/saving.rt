@@ -1,7 +1,6 @@
 //! Writing files: images, and what is drawn of them.
 
-use crate::failure::Failure;
-use nv_cli::{Formatted, MemRegion, format_image};
+use nv_cli::{Failure, Formatted, MemRegion, format_image};
 use nv_stream::{save_new, save_over, write_text};
 use std::io;
 use std::rt::Files;

@@ -1,8 +1,7 @@
 //! Showing what is in the image in a file: `ls`, `stat` and `cat`.
 
-use crate::failure::Failure;
 use crate::image::{Image, image_at, refuse_length, tell_length, tell_refused_length};
-use nv_cli::{Answered, ScriptError, cat_image, list_image, stat_image};
+use nv_cli::{Answered, Failure, ScriptError, cat_image, list_image, stat_image};
 use std::io;
 use std::rt::Files;
 

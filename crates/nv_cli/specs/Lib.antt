@@ -6,6 +6,7 @@ pub mod Recovering
 pub mod Looking
 pub mod Mapping
 pub mod Formatting
+pub mod Failures
 pub use Rattle.nv_region.specs.Region
 pub use Rattle.nv_super.specs.Super
 pub use Rattle.nv_report.specs.nv_outcome.Outcome

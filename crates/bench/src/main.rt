@@ -1,0 +1,98 @@
+//! Measures what the project stands for, and what that stands on: recovery (`recovery`) and the calls of a mounted file
+//! system (`calls`); the name index (`names`), the file index (`pages`), the allocator (`blocks`), the reading of a log
+//! (`logs`), and what a call stores (`appends`).
+//!
+//! The first word names one of them, and the others are its numbers, and for recovery the path of an image. Without any, each
+//! runs on a little.
+#![tactic(auto)]
+
+mod appends;
+mod blocks;
+mod calls;
+mod entries;
+mod hold;
+mod logs;
+mod measuring;
+mod mounting;
+mod names;
+mod pages;
+mod parts;
+mod recovery;
+mod shapes;
+mod times;
+
+use measuring::measure_calls;
+use parts::{measure_each_part, measure_part};
+use recovery::measure_recovery;
+use std::rt::{Clock, Files};
+use std::thread::Threads;
+use std::{env, io};
+
+/// A number that is missing is none.
+fn number_at(words: &[String], at: usize) -> Option<u64> {
+    words.get(at)?.as_str().parse::<u64>().ok()
+}
+
+fn tell_usage<R: Eprint>(rt: &R) -> io::Result<()> {
+    eprintln!(rt;
+        "usage: bench [recovery RUNS [PATH] | calls BLOCKS FILES NAMES | names COUNT | pages PAGES | blocks BLOCKS CPUS | logs PAGES ENTRIES | appends COUNT]"
+    )
+}
+
+fn measure_calls_by<R: AllocGlobal + Print + Eprint + Clock>(
+    rt: &R,
+    words: &[String],
+) -> io::Result<()> {
+    let (blocks, files, names) = (
+        number_at(words, 1),
+        number_at(words, 2),
+        number_at(words, 3),
+    );
+    match (blocks, files, names) {
+        (Some(blocks), Some(files), Some(names)) => measure_calls(rt, blocks, files, names),
+        _ => tell_usage(rt),
+    }
+}
+
+fn measure_recovery_by<R: AllocGlobal + Print + Eprint + Clock + Files + Threads + Sync>(
+    rt: &R,
+    words: &[String],
+) -> io::Result<()> {
+    match number_at(words, 1) {
+        Some(runs) => measure_recovery(rt, runs, words.get(2)),
+        None => tell_usage(rt),
+    }
+}
+
+fn measure_all<R: AllocGlobal + Print + Eprint + Clock + Files + Threads + Sync>(
+    rt: &R,
+) -> io::Result<()> {
+    measure_each_part(rt)?;
+    measure_recovery(rt, 1, None)?;
+    measure_calls(rt, 8192, 8, 42)
+}
+
+fn measure_by<R: AllocGlobal + Print + Eprint + Clock + Files + Threads + Sync>(
+    rt: &R,
+    words: &[String],
+) -> io::Result<()> {
+    let Some(part) = words.first() else {
+        return measure_all(rt);
+    };
+    match part.as_str() {
+        "recovery" => measure_recovery_by(rt, words),
+        "calls" => measure_calls_by(rt, words),
+        part => {
+            let (count, other) = (number_at(words, 1), number_at(words, 2));
+            match measure_part(rt, part, count.unwrap_or(0), other.unwrap_or(0)) {
+                Some(measured) => measured,
+                None => tell_usage(rt),
+            }
+        }
+    }
+}
+
+fn main(rt: HostRuntime) -> io::Result<()> {
+    let words: Vec<String> = env::args(&rt)?.skip(1).collect(rt.alloc())?;
+    measure_by(&rt, words.as_slice())
+}

@@ -1,0 +1,56 @@
+use Rattle.std.proofs.Common.{◌≡◌, ◌∙◌, ℕ, zero, suc, ◌<◌, eqb, List, [], ◌∷◌, get_or, map, refl, ap, sym, subst, arith, eq-eqb}
+use Rattle.std.specs.Prelude.{IsTrue}
+use Rattle.std.specs.List.{IsDistinct}
+use Rattle.std.proofs.lemmas.Bool.{true≢false}
+use Rattle.std.proofs.lemmas.Map.Keys.{apart_from_distinct}
+use Rattle.nv_super.specs.Layout.{is_number, inode_limit}
+use Rattle.nv_super.specs.declared.superblock.Super.{Super}
+use Rattle.nv_scan.specs.declared.piece.Row.{Row}
+use Rattle.nv_check.specs.nv_numbered.Values.{AreNumbersBelow}
+use Rattle.test_system.proofs.faults.faults_between_four_rows.Goals as goal
+
+abbrev small : Super
+small = record { version = 1; cpus = 1; blocks = 16; table_blocks = 1; state = 0 }
+
+abbrev numbers : List ℕ
+numbers = 3 ∷ 1 ∷ 4 ∷ 2 ∷ []
+
+distinct : IsDistinct eqb numbers
+unfolding IsDistinct
+distinct = ((refl, (refl, (refl, tt))), ((refl, (refl, tt)), ((refl, tt), (tt, tt))))
+
+below : (k : ℕ) → k < 4 → get_or numbers k 0 < inode_limit small
+below zero lt = omega arith
+below (suc zero) lt = omega arith
+below (suc (suc zero)) lt = omega arith
+below (suc (suc (suc zero))) lt = omega arith
+below (suc (suc (suc (suc k)))) lt = absurd (omega (arith, lt))
+
+numbers_apart : AreNumbersBelow (inode_limit small) numbers
+numbers_apart = record {
+  below = below;
+  once = λ j k order inside same. true≢false (sym (eq-eqb _ _ same) ∙ apart_from_distinct eqb numbers j k 0 distinct order inside);
+}
+
+module _ (a b c d : Row) (p : a.inode ≡ 3) (q : b.inode ≡ 1) (r : c.inode ≡ 4) (s : d.inode ≡ 2) where
+  apart : AreNumbersBelow (inode_limit small) (map (λ (x : Row). x.inode) (a ∷ b ∷ c ∷ d ∷ []))
+  apart = subst (AreNumbersBelow (inode_limit small)) (sym (λ i. p i ∷ q i ∷ r i ∷ s i ∷ [])) numbers_apart
+
+  numbered : (k : ℕ) (e : Row) → k < 4 → IsTrue (is_number small (get_or (a ∷ b ∷ c ∷ d ∷ []) k e).inode)
+  numbered zero e lt = ap (is_number small) p
+  numbered (suc zero) e lt = ap (is_number small) q
+  numbered (suc (suc zero)) e lt = ap (is_number small) r
+  numbered (suc (suc (suc zero))) e lt = ap (is_number small) s
+  numbered (suc (suc (suc (suc k)))) e lt = absurd (omega (arith, lt))
+
+pub cross_faults_one-requires-clause-apart : goal.cross_faults_one-requires-clause-apart
+cross_faults_one-requires-clause-apart g c = apart c.row.result c.row-2.result c.row-3.result c.row-4.result c.row.ensures c.row-2.ensures c.row-3.ensures c.row-4.ensures
+
+pub cross_faults_one-requires-clause-numbers : goal.cross_faults_one-requires-clause-numbers
+cross_faults_one-requires-clause-numbers g c = numbered c.row.result c.row-2.result c.row-3.result c.row-4.result c.row.ensures c.row-2.ensures c.row-3.ensures c.row-4.ensures
+
+pub cross_faults-requires-clause-apart : goal.cross_faults-requires-clause-apart
+cross_faults-requires-clause-apart g c κs = apart c.row.result c.row-2.result c.row-3.result c.row-4.result c.row.ensures c.row-2.ensures c.row-3.ensures c.row-4.ensures
+
+pub cross_faults-requires-clause-numbers : goal.cross_faults-requires-clause-numbers
+cross_faults-requires-clause-numbers g c κs = numbered c.row.result c.row-2.result c.row-3.result c.row-4.result c.row.ensures c.row-2.ensures c.row-3.ensures c.row-4.ensures

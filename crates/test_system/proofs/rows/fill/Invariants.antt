@@ -1,0 +1,10 @@
+use Rattle.std.proofs.Common.{◌≡◌}
+use Rattle.nv_super.specs.declared.superblock.Super.{Super}
+use Rattle.test_system.proofs.rows.fill.Given as goal
+
+abbrev small : Super
+small = record { version = 1; cpus = 1; blocks = 16; table_blocks = 1; state = 0 }
+
+-- the rows stay those of the small region
+abbrev pub invariant-loop-number : goal.invariant-loop-number
+invariant-loop-number l = l.rows.sup ≡ small
