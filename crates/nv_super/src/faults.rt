@@ -1,8 +1,7 @@
 //! What can be wrong with a region: one table of the fault classes, with their fields, their order and their texts, and
 //! the names of a superblock's faults.
 
-ghost use Rattle.std.specs.Prelude.{◌≡◌, ◌++◌, codes, decimal};
-ghost use Rattle.std.specs.Fmt.{WritesOnOk};
+ghost use Rattle.std.specs.Prelude.{◌≡◌};
 
 use crate::order::{FaultKey, short_key};
 use crate::owners::Owner;
@@ -11,7 +10,7 @@ use std::fmt;
 
 /// A fault. Faults rise by class as the classes stand here, and then by their fields from left to right.
 /// Addresses and places are in bytes from the start of the region.
-#[derive(Clone, Copy, Debug)]
+#[derive(Clone, Copy)]
 pub enum Fault {
     /// A journal's pointer is 252 or more.
     J1 { cpu: u64 },
@@ -102,26 +101,83 @@ impl fmt::Display for Fault {
     ghost output = { λ fault. Some (fault_text fault) };
 
     fn fmt<W: fmt::Write>(&self, f: &mut fmt::Formatter<W>) -> fmt::Result {
-        match *self {
-            Fault::J1 { cpu } => write!(f, "J1 cpu {cpu}"),
-            Fault::J2 { cpu, record } => write!(f, "J2 cpu {cpu} record {record}"),
-            Fault::I1 { inode } => write_inode(f, "I1", inode),
-            Fault::I2 { inode } => write_inode(f, "I2", inode),
-            Fault::I3 { inode } => write_inode(f, "I3", inode),
-            Fault::L1 { inode, at } => write_place(f, "L1", inode, at),
-            Fault::L2 { inode, at } => write_place(f, "L2", inode, at),
-            Fault::L3 { inode, at } => write_place(f, "L3", inode, at),
-            Fault::L4 { inode, at } => write_place(f, "L4", inode, at),
-            Fault::E1 { inode, at } => write_place(f, "E1", inode, at),
-            Fault::E2 { inode, at } => write_place(f, "E2", inode, at),
-            Fault::E3 { inode, at } => write_place(f, "E3", inode, at),
-            Fault::E4 { inode, at } => write_place(f, "E4", inode, at),
-            Fault::C1 { directory, at } => write_place(f, "C1", directory, at),
-            Fault::C2 { inode } => write_inode(f, "C2", inode),
-            Fault::C3 { inode } => write_inode(f, "C3", inode),
-            Fault::C4 { inode } => write_inode(f, "C4", inode),
-            Fault::C5 => f.write_str("C5"),
-            Fault::B1 { block, owner } => write!(f, "B1 block {block} {owner}"),
+        f.write_str(self.class())?;
+        self.write_fields(f)
+    }
+}
+
+/// Shows it as it is printed.
+impl fmt::Debug for Fault {
+    ghost use Rattle.std.specs.Prelude.{Some};
+    ghost use Rattle.nv_super.specs.FaultText.{fault_text};
+
+    ghost debug_output = { λ fault. Some (fault_text fault) };
+
+    fn fmt<W: fmt::Write>(&self, f: &mut fmt::Formatter<W>) -> fmt::Result {
+        fmt::Display::fmt(self, f)
+    }
+}
+
+impl Fault {
+    ghost use Rattle.std.specs.Prelude.{take, drop};
+    ghost use Rattle.std.specs.Fmt.{WritesOnOk};
+    ghost use Rattle.nv_super.specs.FaultText.{fault_text};
+
+    // The name of its class: the first two letters of its text.
+    fn class(&self) -> &'static str
+        ensures { result.now ≡ take 2 (fault_text self.now) }
+    {
+        match self {
+            Fault::J1 { .. } => "J1",
+            Fault::J2 { .. } => "J2",
+            Fault::I1 { .. } => "I1",
+            Fault::I2 { .. } => "I2",
+            Fault::I3 { .. } => "I3",
+            Fault::L1 { .. } => "L1",
+            Fault::L2 { .. } => "L2",
+            Fault::L3 { .. } => "L3",
+            Fault::L4 { .. } => "L4",
+            Fault::E1 { .. } => "E1",
+            Fault::E2 { .. } => "E2",
+            Fault::E3 { .. } => "E3",
+            Fault::E4 { .. } => "E4",
+            Fault::C1 { .. } => "C1",
+            Fault::C2 { .. } => "C2",
+            Fault::C3 { .. } => "C3",
+            Fault::C4 { .. } => "C4",
+            Fault::C5 => "C5",
+            Fault::B1 { .. } => "B1",
+        }
+    }
+
+    // What its text has behind the name of its class.
+    fn write_fields<W: fmt::Write>(&self, f: &mut fmt::Formatter<W>) -> fmt::Result
+        ensures { WritesOnOk W.write_str_gives f.old result (drop 2 (fault_text self.now)) f.new }
+    {
+        // Its key has the fields as numbers, from left to right.
+        let key = self.key();
+        let first = key.first;
+        let second = key.second;
+        match self {
+            Fault::J1 { .. } => write!(f, " cpu {first}"),
+            Fault::J2 { .. } => write!(f, " cpu {first} record {second}"),
+            Fault::I1 { .. }
+            | Fault::I2 { .. }
+            | Fault::I3 { .. }
+            | Fault::C2 { .. }
+            | Fault::C3 { .. }
+            | Fault::C4 { .. } => write!(f, " inode {first}"),
+            Fault::L1 { .. }
+            | Fault::L2 { .. }
+            | Fault::L3 { .. }
+            | Fault::L4 { .. }
+            | Fault::E1 { .. }
+            | Fault::E2 { .. }
+            | Fault::E3 { .. }
+            | Fault::E4 { .. }
+            | Fault::C1 { .. } => write!(f, " inode {first} at {second}"),
+            Fault::C5 => Ok(()),
+            Fault::B1 { owner, .. } => write!(f, " block {first} {owner}"),
         }
     }
 }
@@ -143,23 +199,4 @@ impl SuperFault {
             SuperFault::State => "S7",
         }
     }
-}
-
-// A class, and the inode that it is of.
-fn write_inode<W: fmt::Write>(f: &mut fmt::Formatter<W>, class: &str, inode: u64) -> fmt::Result
-    ensures { WritesOnOk W.write_str_gives f.old result (class.now ++ codes " inode " ++ decimal inode) f.new }
-{
-    write!(f, "{class} inode {inode}")
-}
-
-// A class, the inode that it is of, and where in its log.
-fn write_place<W: fmt::Write>(
-    f: &mut fmt::Formatter<W>,
-    class: &str,
-    inode: u64,
-    at: u64,
-) -> fmt::Result
-    ensures { WritesOnOk W.write_str_gives f.old result (class.now ++ codes " inode " ++ decimal inode ++ codes " at " ++ decimal at) f.new }
-{
-    write!(f, "{class} inode {inode} at {at}")
 }

@@ -120,11 +120,16 @@ pub fn write_super<P: Pmem>(memory: &mut P, sup: &Super) -> Result<(), Stopped>
     ensures stopped { is_err result ≡ (P.fuse memory.new).has_burnt }
     ensures keeps_fuse { KeepsFuse (λ limit. 48 ≤ limit) (P.fuse memory.old) (P.fuse memory.new) }
 {
-    memory.store(8, sup.version)?;
-    memory.store(16, sup.cpus)?;
-    memory.store(24, sup.blocks)?;
-    memory.store(32, sup.table_blocks)?;
-    memory.store(40, sup.state)
+    memory.store_words(
+        8,
+        &[
+            sup.version,
+            sup.cpus,
+            sup.blocks,
+            sup.table_blocks,
+            sup.state,
+        ],
+    )
 }
 
 impl Super {
