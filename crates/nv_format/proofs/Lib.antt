@@ -6,4 +6,5 @@ pub mod Root
 pub mod Formatted
 pub mod Determined
 pub mod Stopped
+pub mod Refused
 pub mod OneAnswer

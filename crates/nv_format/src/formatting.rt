@@ -197,9 +197,5 @@ fn write_root_entry<P: Pmem>(memory: &mut P, at: u64, time: u64) -> Result<(), S
     ensures stopped { OnErr result (IsTrue (P.fuse memory.new).has_burnt) }
     ensures keeps_fuse { KeepsFuse (λ limit. at + 32 ≤ limit) (P.fuse memory.old) (P.fuse memory.new) }
 {
-    let _length = memory.len();
-    memory.store(at, ROOT_ATTRIBUTES)?;
-    memory.store(at + 8, 0)?;
-    memory.store(at + 16, time)?;
-    memory.store(at + 24, 0)
+    memory.store_words(at, &[ROOT_ATTRIBUTES, 0, time, 0])
 }

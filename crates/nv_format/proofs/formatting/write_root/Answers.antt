@@ -1,9 +1,85 @@
-use Rattle.std.proofs.Common.{◌≡◌, ◌*◌, ap, ℕ}
+use Rattle.std.proofs.Common.{◌≡◌, ◌*◌, ap, ℕ, sym, arith}
 use Rattle.std.proofs.lemmas.Result.{on_ok_weaker}
 use Rattle.nv_region.proofs.Wordwise.{stores_more, stores_within}
 use Rattle.nv_format.specs.Format.{root_page}
-use Rattle.nv_format.proofs.Root.{root_written, entry_words, slot_words, valid_word}
+use Rattle.nv_format.proofs.Root.{root_written, entry_words, slot_words, valid_word, page_inside}
+use Rattle.nv_region.proofs.Fuses.{keeps_more, keeps_within}
+use Rattle.nv_region.proofs.Puts.{blocks_stay}
+use Rattle.nv_format.proofs.Tables.{slot_to, root_below}
+use Rattle.nv_format.proofs.Refused.{none_done, was_refused, burnt_where}
 use Rattle.nv_format.proofs.formatting.write_root.Goals as goal
+
+pub write_root_entry-requires-clause-within : goal.write_root_entry-requires-clause-within
+write_root_entry-requires-clause-within g c =
+    let s = c.args.sup.now in
+    let page : 4096 * c.system_blocks-page.result ≡ root_page s = ap (λ (n : ℕ). 4096 * n) c.system_blocks-page.ensures in
+    let inside = page_inside s c.args.time c.requires.layout in
+    let size = c.requires.blocks.0 in
+    omega (arith, page, inside, size)
+
+pub returns-in_err-write_root_entry-clause-done : goal.returns-in_err-write_root_entry-clause-done
+returns-in_err-write_root_entry-clause-done g c = none_done _ _ c.from_residual.result c.from_residual.ensures.1
+
+pub returns-in_err-write_root_entry-clause-blocks : goal.returns-in_err-write_root_entry-clause-blocks
+returns-in_err-write_root_entry-clause-blocks g c = blocks_stay _ _ _ _ c.write_root_entry.ensures.wrote.mixed c.requires.blocks
+
+pub returns-in_err-write_root_entry-clause-wrote : goal.returns-in_err-write_root_entry-clause-wrote
+returns-in_err-write_root_entry-clause-wrote g c =
+    let s = c.args.sup.now in
+    let page : 4096 * c.system_blocks-page.result ≡ root_page s = ap (λ (n : ℕ). 4096 * n) c.system_blocks-page.ensures in
+    stores_within _ _ _ _ _ _ (λ i x. entry_words s c.args.time c.requires.layout (4096 * c.system_blocks-page.result) i x page) c.write_root_entry.ensures.wrote
+
+pub returns-in_err-write_root_entry-clause-stopped : goal.returns-in_err-write_root_entry-clause-stopped
+returns-in_err-write_root_entry-clause-stopped g c = was_refused c.from_residual.result c.in_err-write_root_entry.ensures.stopped
+
+pub returns-in_err-write_root_entry-clause-keeps_fuse : goal.returns-in_err-write_root_entry-clause-keeps_fuse
+returns-in_err-write_root_entry-clause-keeps_fuse g c =
+    let s = c.args.sup.now in
+    let page : 4096 * c.system_blocks-page.result ≡ root_page s = ap (λ (n : ℕ). 4096 * n) c.system_blocks-page.ensures in
+    keeps_within (λ limit past. omega (arith, page, past)) c.write_root_entry.ensures.keeps_fuse
+
+pub set_word-requires-clause-within : goal.set_word-requires-clause-within
+set_word-requires-clause-within g c = let long = c.write_root_entry.ensures.wrote.mixed.as_long in let size = c.requires.blocks.0 in let inside = c.slot_start.ensures.inside in omega (arith, long, size, inside)
+
+pub returns-in_err-set_word-clause-done : goal.returns-in_err-set_word-clause-done
+returns-in_err-set_word-clause-done g c = none_done _ _ c.from_residual-in_err-set_word.result c.from_residual-in_err-set_word.ensures.1
+
+pub returns-in_err-set_word-clause-blocks : goal.returns-in_err-set_word-clause-blocks
+returns-in_err-set_word-clause-blocks g c = blocks_stay _ _ _ _ c.set_word.ensures.wrote.mixed (blocks_stay _ _ _ _ c.write_root_entry.ensures.wrote.mixed c.requires.blocks)
+
+pub returns-in_err-set_word-clause-wrote : goal.returns-in_err-set_word-clause-wrote
+returns-in_err-set_word-clause-wrote g c =
+    let s = c.args.sup.now in
+    let page : 4096 * c.system_blocks-page.result ≡ root_page s = ap (λ (n : ℕ). 4096 * n) c.system_blocks-page.ensures in
+    stores_more _ _ _ _ _ _ _ _ (λ i x. valid_word s c.args.time c.requires.layout c.slot_start.result i x c.slot_start.ensures.value) (stores_within _ _ _ _ _ _ (λ i x. entry_words s c.args.time c.requires.layout (4096 * c.system_blocks-page.result) i x page) c.write_root_entry.ensures.wrote) c.set_word.ensures.wrote
+
+pub returns-in_err-set_word-clause-stopped : goal.returns-in_err-set_word-clause-stopped
+returns-in_err-set_word-clause-stopped g c = was_refused c.from_residual-in_err-set_word.result (sym c.in_err-set_word.ensures.stopped)
+
+pub returns-in_err-set_word-clause-keeps_fuse : goal.returns-in_err-set_word-clause-keeps_fuse
+returns-in_err-set_word-clause-keeps_fuse g c =
+    let s = c.args.sup.now in
+    let page : 4096 * c.system_blocks-page.result ≡ root_page s = ap (λ (n : ℕ). 4096 * n) c.system_blocks-page.ensures in
+    let to = slot_to s 1 c.requires.layout (root_below s c.requires.layout) in let at = c.slot_start.ensures.value in
+    keeps_more (λ limit past. omega (arith, to, at, past)) (keeps_within (λ limit past. omega (arith, page, past)) c.write_root_entry.ensures.keeps_fuse) c.set_word.ensures.keeps_fuse
+
+pub put_slot-requires-clause-blocks : goal.put_slot-requires-clause-blocks
+put_slot-requires-clause-blocks g c = blocks_stay _ _ _ _ c.set_word.ensures.wrote.mixed (blocks_stay _ _ _ _ c.write_root_entry.ensures.wrote.mixed c.requires.blocks)
+
+pub returns-clause-blocks : goal.returns-clause-blocks
+returns-clause-blocks g c = blocks_stay _ _ _ _ c.put_slot.ensures.wrote.mixed (blocks_stay _ _ _ _ c.set_word.ensures.wrote.mixed (blocks_stay _ _ _ _ c.write_root_entry.ensures.wrote.mixed c.requires.blocks))
+
+pub returns-clause-stopped : goal.returns-clause-stopped
+returns-clause-stopped g c = burnt_where c.put_slot.result _ c.put_slot.ensures.stopped
+
+pub returns-clause-keeps_fuse : goal.returns-clause-keeps_fuse
+returns-clause-keeps_fuse g c =
+    let s = c.args.sup.now in
+    let page : 4096 * c.system_blocks-page.result ≡ root_page s = ap (λ (n : ℕ). 4096 * n) c.system_blocks-page.ensures in
+    let to = slot_to s 1 c.requires.layout (root_below s c.requires.layout) in let at = c.slot_start.ensures.value in
+    keeps_more (λ limit past. omega (arith, to, past))
+    (keeps_more (λ limit past. omega (arith, to, at, past)) (keeps_within (λ limit past. omega (arith, page, past)) c.write_root_entry.ensures.keeps_fuse) c.set_word.ensures.keeps_fuse)
+    c.put_slot.ensures.keeps_fuse
 
 pub returns-clause-done : goal.returns-clause-done
 returns-clause-done g c =
