@@ -14,6 +14,7 @@ use crate::entry::{AttrEntry, Entry, LinksEntry, NameEntry, Operation, WriteEntr
 use crate::name::FileName;
 use arrayvec::ArrayVec;
 use nv_super::Pmem;
+use std::fmt;
 
 /// A name was added to a directory, or removed from it. The name stands in the region.
 #[derive(Clone, Copy, Debug, PartialEq, Eq)]
@@ -28,7 +29,7 @@ pub struct LightName {
 }
 
 /// An entry of a log, but for the bytes of its name.
-#[derive(Clone, Copy, Debug, PartialEq, Eq)]
+#[derive(Clone, Copy, PartialEq, Eq)]
 pub enum LightEntry {
     /// The log goes on at the next page.
     NextPage,
@@ -36,6 +37,19 @@ pub enum LightEntry {
     Attr(AttrEntry),
     Name(LightName),
     Links(LinksEntry),
+}
+
+/// Shows what it says, whose type names its kind.
+impl fmt::Debug for LightEntry {
+    fn fmt<W: fmt::Write>(&self, f: &mut fmt::Formatter<W>) -> fmt::Result {
+        match self {
+            LightEntry::NextPage => f.write_str("NextPage"),
+            LightEntry::Write(e) => fmt::Debug::fmt(e, f),
+            LightEntry::Attr(e) => fmt::Debug::fmt(e, f),
+            LightEntry::Name(e) => fmt::Debug::fmt(e, f),
+            LightEntry::Links(e) => fmt::Debug::fmt(e, f),
+        }
+    }
 }
 
 impl LightName {
