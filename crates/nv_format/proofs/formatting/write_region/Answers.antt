@@ -67,9 +67,6 @@ commit_word-requires-2-clause-within g c =
     let same : length (g.P.Pmem.region c.fence.new.self).words ≡ length (g.P.Pmem.region c.lay_out.new.memory).words = ap (λ (r : Region). length r.words) c.fence.ensures.same in
     omega (arith, size, from, same)
 
-pub returns-clause-settled : goal.returns-clause-settled
-returns-clause-settled g c = c.commit_word-2.ensures.settled
-
 pub returns-clause-stopped : goal.returns-clause-stopped
 returns-clause-stopped g c = burnt_where c.commit_word-2.result _ c.commit_word-2.ensures.stopped
 
