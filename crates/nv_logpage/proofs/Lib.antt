@@ -13,3 +13,5 @@ pub mod Written
 pub mod Writing
 pub mod Laid
 pub mod Grown
+pub mod Refused
+pub mod ReadOn

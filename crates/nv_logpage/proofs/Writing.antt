@@ -1,5 +1,6 @@
 -- The loop that writes entries, one entry further.
-use Rattle.std.proofs.Common.{◌≡◌, ℕ, ◌+◌, ◌*◌, ◌/◌, ◌%◌, ◌<◌, ◌≤◌, inl, inr, List, ◌∷◌, length, get_or, drop, sym, ◌∙◌, subst, arith}
+use Rattle.std.proofs.Common.{◌≡◌, ℕ, ◌+◌, ◌*◌, ◌/◌, ◌%◌, ◌<◌, ◌≤◌, inl, inr, List, [], ◌∷◌, suc, length, get_or, drop, sym, ◌∙◌, subst, arith}
+use Rattle.std.proofs.lemmas.List.{drop_all}
 use Rattle.nv_region.specs.Region.{Region, size}
 use Rattle.nv_region.specs.Stops.{Choices}
 use Rattle.nv_region.specs.Stored.{SameOutside, StoresOnly, Within}
@@ -8,9 +9,9 @@ use Rattle.nv_entry.specs.declared.entry.Entry.{Entry}
 use Rattle.nv_entry.specs.declared.entry.Entry.TheVariants.{NextPage}
 use Rattle.nv_entry.specs.Spelling.{Stands, entry_length}
 use Rattle.nv_entry.proofs.Same.{entry_length_words, entry_length_positive}
-use Rattle.nv_logpage.specs.Append.{AreGiven, EntryWords, CanAppend, Laid, end_of, needed}
+use Rattle.nv_logpage.specs.Append.{AreGiven, EndBy, EntryWords, CanAppend, Laid, end_of, needed}
 use Rattle.nv_logpage.specs.Writing.{FitPages, FromOrIn, Settled}
-use Rattle.nv_logpage.proofs.Placing.{needed_fits, needed_turns, next_page}
+use Rattle.nv_logpage.proofs.Placing.{needed_fits, needed_turns, next_page, page_end}
 use Rattle.nv_logpage.proofs.Written.{from_page, given_rest, fit_more, room_left, ends_fits, ends_turns, goes_fits, goes_turns}
 
 -- What holds before entry number i, when so many fresh pages are used and the place was reached. Whatever region comes to
@@ -103,3 +104,50 @@ module _ (start R Q : Region) (old now new : Choices) (tail : ℕ) (entries : Li
         wrote = turned_words b next more stores;
         len = len ∙ w.len;
       }
+
+-- where the place may lie, and the page that comes next
+module _ {start R : Region} {old now : Choices} {tail : ℕ} {entries : List Entry} {fresh : List ℕ} {i used place : ℕ}
+    (can : CanAppend start tail entries fresh) (w : Writing start R old now tail entries fresh i used place) where
+  -- the place's page ends by where all pages do
+  pub page_by : (limit : ℕ) → EndBy (tail / 4096 ∷ fresh) limit → place / 4096 * 4096 + 4096 ≤ limit
+  page_by limit end = page_end (tail / 4096 ∷ fresh) used place limit end (omega (arith, w.count, can.enough)) w.page
+
+  pub page_inside : place / 4096 * 4096 + 4096 ≤ size R
+  page_inside = subst (λ (n : ℕ). place / 4096 * 4096 + 4096 ≤ n) (sym w.len) (page_by (size start) can.inside)
+
+  -- and so does what ends within its entries
+  pub fits_by : (n length limit : ℕ) → n ≡ length → place % 4096 + n ≤ 4064 → EndBy (tail / 4096 ∷ fresh) limit → place + length ≤ limit
+  fits_by n length limit is fits end = let page : place / 4096 * 4096 + 4096 ≤ limit = page_by limit end in ends_by place n length limit is fits page
+    where
+      ends_by : (place n length limit : ℕ) → n ≡ length → place % 4096 + n ≤ 4064 → place / 4096 * 4096 + 4096 ≤ limit → place + length ≤ limit
+      ends_by place n length limit is fits page = omega arith
+
+  pub fits_inside : (n length : ℕ) → n ≡ length → place % 4096 + n ≤ 4064 → place + length ≤ size R
+  fits_inside n length is fits = subst (λ (m : ℕ). place + length ≤ m) (sym w.len) (fits_by n length (size start) is fits can.inside)
+
+  -- an entry that doesn't fit has a fresh page left
+  pub page_left : (e : Entry) (n : ℕ) → i < length entries → e ≡ get_or entries i e → n ≡ entry_length e → 4064 < place % 4096 + n → used < length fresh
+  page_left e n inside is length turns = more_pages _ _ R _ _ now tail entries fresh i used place e can w inside is (subst (λ (m : ℕ). 4064 < place % 4096 + m) length turns)
+
+  -- where nothing is left, all is done
+  pub none_left : length entries ≤ i → drop i entries ≡ []
+  none_left past = drop_all i entries past
+
+  pub ends_at : length entries ≤ i → place ≡ end_of fresh 0 tail entries
+  ends_at past = subst (λ (es : List Entry). end_of fresh used place es ≡ end_of fresh 0 tail entries) (none_left past) w.ends
+
+  pub counts_all : length entries ≤ i → used ≡ needed (tail % 4096) entries
+  counts_all past = add_none used (subst (λ (es : List Entry). used + needed (place % 4096) es ≡ needed (tail % 4096) entries) (none_left past) w.count)
+    where
+      add_none : (n : ℕ) {m : ℕ} → n + 0 ≡ m → n ≡ m
+      add_none n e = omega (arith, e)
+
+  pub all_fit : length entries ≤ i → FitPages entries
+  all_fit past = w.fit (subst FitPages (sym (none_left past)) tt)
+
+  pub all_laid : length entries ≤ i → (S : Region) → Settled R S (tail / 4096 ∷ fresh) used place → Laid S fresh 0 tail entries
+  all_laid past S settled = w.goes S settled (subst (Laid S fresh used place) (sym (none_left past)) tt)
+
+-- the next page lies within the region
+pub next_by : (fresh : List ℕ) (tail used limit : ℕ) → used < length fresh → EndBy (tail / 4096 ∷ fresh) limit → 4096 * get_or fresh used 0 + 4096 ≤ limit
+next_by fresh tail used limit more end = end (suc used) (omega arith)

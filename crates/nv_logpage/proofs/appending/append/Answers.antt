@@ -1,11 +1,16 @@
-use Rattle.std.proofs.Common.{IsTrue, ℕ, ◌∙◌, ap, is_err, arith, ◌/◌, ◌∷◌, subst, sym, ◌%◌, ◌++◌, take, inl, inr, None}
+use Rattle.std.proofs.Common.{length, refl, ◌≤◌, ◌≡◌, Bool, true, false, true≢false, IsTrue, ℕ, ◌∙◌, ap, is_err, ◌/◌, ◌∷◌, subst, sym, ◌%◌, ◌++◌, take, inl, inr, None}
 use Rattle.nv_region.proofs.Fuses.{keeps_more}
 use Rattle.nv_logpage.specs.Append.{needed, EndBy, Linked, appended}
 use Rattle.nv_logpage.specs.Reads.{Reads}
 use Rattle.nv_logpage.proofs.Written.{settled_links, entries_within, links_too}
+use Rattle.nv_logpage.proofs.Placing.{none_needed}
+use Rattle.nv_logpage.proofs.Refused.{no_value, refused_as}
 use Rattle.nv_inode.specs.Slot.{is_right_log}
 use Rattle.nv_logpage.proofs.Grown.{grown, left_unread, right_after, unread}
 use Rattle.nv_logpage.proofs.appending.append.Goals as goal
+
+not_both : {A : Type 0} {b : Bool} → b ≡ true → b ≡ false → A
+not_both is off = absurd (true≢false (sym is ∙ off))
 
 pub write_entries-requires-clause-can : goal.write_entries-requires-clause-can
 write_entries-requires-clause-can g c = c.requires
@@ -42,11 +47,11 @@ returns-in_err-end-clause-wrote g c = entries_within c.args.tail c.args.fresh.no
 
 pub returns-in_err-link_pages-clause-wrote : goal.returns-in_err-link_pages-clause-wrote
 returns-in_err-link_pages-clause-wrote g c =
-    links_too c.args.tail c.in_ok-end.used c.args.fresh.now _ _ _ _ _ _ c.requires.offset (omega (arith, c.in_ok-end.ensures.end.1, c.requires.enough)) c.write_entries.ensures.wrote c.link_pages.ensures.wrote
+    links_too c.args.tail c.in_ok-end.used c.args.fresh.now _ _ _ _ _ _ c.requires.offset (subst (λ (n : ℕ). n ≤ length c.args.fresh.now) (sym c.in_ok-end.ensures.end.1) c.requires.enough) c.write_entries.ensures.wrote c.link_pages.ensures.wrote
 
 pub returns-clause-wrote : goal.returns-clause-wrote
 returns-clause-wrote g c =
-    links_too c.args.tail c.in_ok-end.used c.args.fresh.now _ _ _ _ _ _ c.requires.offset (omega (arith, c.in_ok-end.ensures.end.1, c.requires.enough)) c.write_entries.ensures.wrote c.link_pages.ensures.wrote
+    links_too c.args.tail c.in_ok-end.used c.args.fresh.now _ _ _ _ _ _ c.requires.offset (subst (λ (n : ℕ). n ≤ length c.args.fresh.now) (sym c.in_ok-end.ensures.end.1) c.requires.enough) c.write_entries.ensures.wrote c.link_pages.ensures.wrote
 
 pub returns-in_err-end-clause-unread : goal.returns-in_err-end-clause-unread
 returns-in_err-end-clause-unread g c s head es all start free read =
@@ -54,17 +59,17 @@ returns-in_err-end-clause-unread g c s head es all start free read =
 
 pub returns-in_err-link_pages-clause-unread : goal.returns-in_err-link_pages-clause-unread
 returns-in_err-link_pages-clause-unread g c s head es all start free read =
-    let wrote = links_too c.args.tail c.in_ok-end.used c.args.fresh.now (g.P.Pmem.region c.args.memory.now) _ _ (g.P.Pmem.may_hold c.args.memory.now) _ _ c.requires.offset (omega (arith, c.in_ok-end.ensures.end.1, c.requires.enough)) c.write_entries.ensures.wrote c.link_pages.ensures.wrote in
+    let wrote = links_too c.args.tail c.in_ok-end.used c.args.fresh.now (g.P.Pmem.region c.args.memory.now) _ _ (g.P.Pmem.may_hold c.args.memory.now) _ _ c.requires.offset (subst (λ (n : ℕ). n ≤ length c.args.fresh.now) (sym c.in_ok-end.ensures.end.1) c.requires.enough) c.write_entries.ensures.wrote c.link_pages.ensures.wrote in
     unread (g.P.Pmem.region c.args.memory.now) _ s head c.args.tail c.args.fresh.now all es c.requires.differ c.requires.offset start wrote.mixed free read
 
 pub returns-clause-unread : goal.returns-clause-unread
 returns-clause-unread g c s head es all start free read =
-    let wrote = links_too c.args.tail c.in_ok-end.used c.args.fresh.now (g.P.Pmem.region c.args.memory.now) _ _ (g.P.Pmem.may_hold c.args.memory.now) _ _ c.requires.offset (omega (arith, c.in_ok-end.ensures.end.1, c.requires.enough)) c.write_entries.ensures.wrote c.link_pages.ensures.wrote in
+    let wrote = links_too c.args.tail c.in_ok-end.used c.args.fresh.now (g.P.Pmem.region c.args.memory.now) _ _ (g.P.Pmem.may_hold c.args.memory.now) _ _ c.requires.offset (subst (λ (n : ℕ). n ≤ length c.args.fresh.now) (sym c.in_ok-end.ensures.end.1) c.requires.enough) c.write_entries.ensures.wrote c.link_pages.ensures.wrote in
     unread (g.P.Pmem.region c.args.memory.now) _ s head c.args.tail c.args.fresh.now all es c.requires.differ c.requires.offset start wrote.mixed free read
 
 pub returns-clause-reads : goal.returns-clause-reads
 returns-clause-reads g c s head es all start free read =
-    let wrote = links_too c.args.tail c.in_ok-end.used c.args.fresh.now (g.P.Pmem.region c.args.memory.now) _ _ (g.P.Pmem.may_hold c.args.memory.now) _ _ c.requires.offset (omega (arith, c.in_ok-end.ensures.end.1, c.requires.enough)) c.write_entries.ensures.wrote c.link_pages.ensures.wrote in
+    let wrote = links_too c.args.tail c.in_ok-end.used c.args.fresh.now (g.P.Pmem.region c.args.memory.now) _ _ (g.P.Pmem.may_hold c.args.memory.now) _ _ c.requires.offset (subst (λ (n : ℕ). n ≤ length c.args.fresh.now) (sym c.in_ok-end.ensures.end.1) c.requires.enough) c.write_entries.ensures.wrote c.link_pages.ensures.wrote in
     let laid = c.in_ok-end.ensures.laid (g.P.Pmem.region c.link_pages.new.memory) (settled_links _ _ (c.args.tail / 4096 ∷ c.args.fresh.now) c.in_ok-end.used c.in_ok-end.used c.in_ok-end.end c.link_pages.ensures.wrote.mixed) in
     let linked = subst (λ (n : ℕ). Linked (g.P.Pmem.region c.link_pages.new.memory) (c.args.tail / 4096 ∷ c.args.fresh.now) n) c.in_ok-end.ensures.end.1 c.in_ok-link_pages.ensures.linked in
     subst (λ (n : ℕ). Reads (g.P.Pmem.region c.link_pages.new.memory) s head n (es ++ appended c.args.fresh.now 0 c.args.tail c.args.entries.now) (all ++ take (needed (c.args.tail % 4096) c.args.entries.now) c.args.fresh.now) None)
@@ -91,10 +96,67 @@ returns-in_err-end-clause-any_stop g c s head es all start free read =
 
 pub returns-in_err-link_pages-clause-any_stop : goal.returns-in_err-link_pages-clause-any_stop
 returns-in_err-link_pages-clause-any_stop g c s head es all start free read =
-    let wrote = links_too c.args.tail c.in_ok-end.used c.args.fresh.now (g.P.Pmem.region c.args.memory.now) _ _ (g.P.Pmem.may_hold c.args.memory.now) _ _ c.requires.offset (omega (arith, c.in_ok-end.ensures.end.1, c.requires.enough)) c.write_entries.ensures.wrote c.link_pages.ensures.wrote in
+    let wrote = links_too c.args.tail c.in_ok-end.used c.args.fresh.now (g.P.Pmem.region c.args.memory.now) _ _ (g.P.Pmem.may_hold c.args.memory.now) _ _ c.requires.offset (subst (λ (n : ℕ). n ≤ length c.args.fresh.now) (sym c.in_ok-end.ensures.end.1) c.requires.enough) c.write_entries.ensures.wrote c.link_pages.ensures.wrote in
     left_unread (g.P.Pmem.region c.args.memory.now) _ _ _ s head c.args.tail c.args.fresh.now all es c.requires.differ c.requires.offset start wrote free read
 
 pub returns-clause-any_stop : goal.returns-clause-any_stop
 returns-clause-any_stop g c s head es all start free read =
-    let wrote = links_too c.args.tail c.in_ok-end.used c.args.fresh.now (g.P.Pmem.region c.args.memory.now) _ _ (g.P.Pmem.may_hold c.args.memory.now) _ _ c.requires.offset (omega (arith, c.in_ok-end.ensures.end.1, c.requires.enough)) c.write_entries.ensures.wrote c.link_pages.ensures.wrote in
+    let wrote = links_too c.args.tail c.in_ok-end.used c.args.fresh.now (g.P.Pmem.region c.args.memory.now) _ _ (g.P.Pmem.may_hold c.args.memory.now) _ _ c.requires.offset (subst (λ (n : ℕ). n ≤ length c.args.fresh.now) (sym c.in_ok-end.ensures.end.1) c.requires.enough) c.write_entries.ensures.wrote c.link_pages.ensures.wrote in
     left_unread (g.P.Pmem.region c.args.memory.now) _ _ _ s head c.args.tail c.args.fresh.now all es c.requires.differ c.requires.offset start wrote free read
+
+pub returns-in_err-end-clause-end : goal.returns-in_err-end-clause-end
+returns-in_err-end-clause-end g c = no_value _ c.from_residual.result c.from_residual.ensures.1 _
+
+pub returns-in_err-end-clause-laid : goal.returns-in_err-end-clause-laid
+returns-in_err-end-clause-laid g c = no_value _ c.from_residual.result c.from_residual.ensures.1 _
+
+pub returns-in_err-end-clause-linked : goal.returns-in_err-end-clause-linked
+returns-in_err-end-clause-linked g c = no_value _ c.from_residual.result c.from_residual.ensures.1 _
+
+pub returns-in_err-end-clause-reads : goal.returns-in_err-end-clause-reads
+returns-in_err-end-clause-reads g c s head es all start free read = no_value _ c.from_residual.result c.from_residual.ensures.1 _
+
+pub returns-in_err-end-clause-right : goal.returns-in_err-end-clause-right
+returns-in_err-end-clause-right g c s head start in_data starts either = no_value _ c.from_residual.result c.from_residual.ensures.1 _
+
+pub returns-in_err-link_pages-clause-end : goal.returns-in_err-link_pages-clause-end
+returns-in_err-link_pages-clause-end g c = no_value _ c.from_residual-in_err-link_pages.result c.from_residual-in_err-link_pages.ensures.1 _
+
+pub returns-in_err-link_pages-clause-laid : goal.returns-in_err-link_pages-clause-laid
+returns-in_err-link_pages-clause-laid g c = no_value _ c.from_residual-in_err-link_pages.result c.from_residual-in_err-link_pages.ensures.1 _
+
+pub returns-in_err-link_pages-clause-linked : goal.returns-in_err-link_pages-clause-linked
+returns-in_err-link_pages-clause-linked g c = no_value _ c.from_residual-in_err-link_pages.result c.from_residual-in_err-link_pages.ensures.1 _
+
+pub returns-in_err-link_pages-clause-reads : goal.returns-in_err-link_pages-clause-reads
+returns-in_err-link_pages-clause-reads g c s head es all start free read = no_value _ c.from_residual-in_err-link_pages.result c.from_residual-in_err-link_pages.ensures.1 _
+
+pub returns-in_err-link_pages-clause-right : goal.returns-in_err-link_pages-clause-right
+returns-in_err-link_pages-clause-right g c s head start in_data starts either = no_value _ c.from_residual-in_err-link_pages.result c.from_residual-in_err-link_pages.ensures.1 _
+
+pub returns-in_err-end-clause-nothing : goal.returns-in_err-end-clause-nothing
+returns-in_err-end-clause-nothing g c none = not_both (ap is_err c.in_err-end.was) (c.write_entries.ensures.nothing none).0
+
+pub returns-in_err-end-clause-stopped : goal.returns-in_err-end-clause-stopped
+returns-in_err-end-clause-stopped g c some = refused_as _ c.from_residual.result c.from_residual.ensures.1 (ap is_err c.in_err-end.was) (c.write_entries.ensures.stopped some)
+
+pub returns-in_err-link_pages-clause-nothing : goal.returns-in_err-link_pages-clause-nothing
+returns-in_err-link_pages-clause-nothing g c none = not_both (ap is_err c.in_err-link_pages.was) (c.link_pages.ensures.nothing (c.in_ok-end.ensures.end.1 ∙ none_needed (c.args.tail % 4096) c.args.entries.now none)).0
+
+pub returns-in_err-link_pages-clause-stopped : goal.returns-in_err-link_pages-clause-stopped
+returns-in_err-link_pages-clause-stopped g c some = refused_as _ c.from_residual-in_err-link_pages.result c.from_residual-in_err-link_pages.ensures.1 (ap is_err c.in_err-link_pages.was) (c.link_pages.ensures.stopped (sym (c.write_entries.ensures.stopped some) ∙ ap is_err c.in_ok-end.was))
+
+pub link_pages-requires-clause-count : goal.link_pages-requires-clause-count
+link_pages-requires-clause-count g c = subst (λ (n : ℕ). n ≤ length c.args.fresh.now) (sym c.in_ok-end.ensures.end.1) c.requires.enough
+
+pub link_pages-requires-clause-differ : goal.link_pages-requires-clause-differ
+link_pages-requires-clause-differ g c = c.requires.differ
+
+pub returns-clause-end : goal.returns-clause-end
+returns-clause-end g c = c.in_ok-end.ensures.end.0
+
+pub returns-clause-linked : goal.returns-clause-linked
+returns-clause-linked g c = subst (λ (n : ℕ). Linked (g.P.Pmem.region c.link_pages.new.memory) (c.args.tail / 4096 ∷ c.args.fresh.now) n) c.in_ok-end.ensures.end.1 c.in_ok-link_pages.ensures.linked
+
+pub returns-clause-nothing : goal.returns-clause-nothing
+returns-clause-nothing g c none = (refl, (c.link_pages.ensures.nothing (c.in_ok-end.ensures.end.1 ∙ none_needed (c.args.tail % 4096) c.args.entries.now none)).1 ∙ (c.write_entries.ensures.nothing none).1)
