@@ -15,3 +15,4 @@ pub mod OneJournal
 pub mod Both
 pub mod Emptied
 pub mod Faultless
+pub mod Answered

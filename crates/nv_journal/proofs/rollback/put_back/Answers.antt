@@ -1,16 +1,48 @@
-use Rattle.std.proofs.Common.{◌-◌, ◌*◌, ◌∙◌, arith, sym}
+use Rattle.std.proofs.Common.{◌≡◌, ◌≤◌, ◌+◌, ◌-◌, ◌*◌, ◌%◌, ◌∙◌, ℕ, Fits, w64, arith, sym}
 use Rattle.std.proofs.lemmas.Result.{on_ok_weaker}
+use Rattle.nv_region.specs.Region.{Region, HasBlocks, size}
+use Rattle.nv_region.proofs.Fuses.{keeps_within}
 use Rattle.nv_region.proofs.Wordwise.{stores_none}
 use Rattle.nv_super.specs.Layout.{system_blocks}
 use Rattle.nv_inode.specs.Permitted.{is_permitted}
 use Rattle.nv_journal.proofs.Stored.{stands}
 use Rattle.nv_journal.proofs.Turns.{by_record, either_of, not_named, outside_either, outside_same, record_stored}
+use Rattle.nv_journal.proofs.Answered.{burnt_told}
 use Rattle.nv_journal.proofs.rollback.put_back.Goals as goal
+
+-- words within the blocks lie within the region
+in_region : (at n : ℕ) (R : Region) → at ≤ 4096 * n → HasBlocks R n → at ≤ size R
+in_region at n R inside blocks = omega (arith, blocks.0, blocks.1)
+
+first_word : (place n : ℕ) → place + 16 ≤ 4096 * n → place + 8 ≤ 4096 * n
+first_word place n inside = omega arith
+
+second_word : (place n : ℕ) → place + 16 ≤ 4096 * n → place + 8 + 8 ≤ 4096 * n
+second_word place n inside = omega arith
+
+second_aligned : (place : ℕ) → place % 8 ≡ 0 → (place + 8) % 8 ≡ 0
+second_aligned place whole = omega arith
+
+place_fits : (place n : ℕ) → place + 16 ≤ 4096 * n → n ≤ 262144 → Fits w64 (place + 8)
+place_fits place n inside few = omega arith
+
+-- the tables stand behind the superblock and before the data blocks
+behind_start : (at cpus : ℕ) → (1 + cpus) * 4096 ≤ at → 4096 ≤ at
+behind_start at cpus behind = omega arith
+
+before_data : (at blocks : ℕ) → 1 ≤ blocks → at + 8 ≤ blocks * 4096 → at + 8 ≤ 4096 + 4096 * (blocks - 1)
+before_data at blocks some before = omega arith
+
+before_limit : (at blocks limit : ℕ) → at + 8 ≤ blocks * 4096 → 4096 * blocks ≤ limit → at + 8 ≤ limit
+before_limit at blocks limit before past = omega arith
+
+one_and : (n m : ℕ) → 1 ≤ 1 + n + m
+one_and n m = omega arith
 
 pub store-requires-clause-within : goal.store-requires-clause-within
 store-requires-clause-within g c =
     let named = sym c.is_journal_word.ensures.value ∙ c.if-not-is_journal_word.false in
-    omega (arith, (stands c.args.sup.now c.load-at.result c.requires.layout named).within, c.requires.blocks)
+    in_region _ c.args.sup.now.blocks (g.P.Pmem.region c.args.memory.now) (stands c.args.sup.now c.load-at.result c.requires.layout named).within c.requires.blocks
 
 pub returns-then-not-is_journal_word-clause-done : goal.returns-then-not-is_journal_word-clause-done
 returns-then-not-is_journal_word-clause-done g c =
@@ -35,5 +67,43 @@ returns-clause-wrote g c =
 pub returns-clause-outside : goal.returns-clause-outside
 returns-clause-outside g c =
     let lies = c.is_journal_word.ensures.lies c.if-not-is_journal_word.false in
-    outside_either _ _ _ 4096 (4096 * (system_blocks c.args.sup.now - 1)) c.load-at.result c.load-before.result lies.aligned (omega (arith, lies.behind)) (omega (arith, lies.before)) (outside_same _ _ _)
+    outside_either _ _ _ 4096 (4096 * (system_blocks c.args.sup.now - 1)) c.load-at.result c.load-before.result lies.aligned (behind_start c.load-at.result c.args.sup.now.cpus lies.behind) (before_data c.load-at.result (system_blocks c.args.sup.now) (one_and c.args.sup.now.cpus (c.args.sup.now.cpus * c.args.sup.now.table_blocks)) lies.before) (outside_same _ _ _)
     (either_of c.store.result _ _ _ _ c.store.ensures.stored c.store.ensures.refused)
+
+pub load-at-requires-clause-aligned : goal.load-at-requires-clause-aligned
+load-at-requires-clause-aligned g c = c.requires.aligned
+
+pub load-at-requires-clause-within : goal.load-at-requires-clause-within
+load-at-requires-clause-within g c = in_region _ c.args.sup.now.blocks (g.P.Pmem.region c.args.memory.now) (first_word c.args.place c.args.sup.now.blocks c.requires.inside) c.requires.blocks
+
+pub overflow_add-place : goal.overflow_add-place
+overflow_add-place g c = place_fits c.args.place c.args.sup.now.blocks c.requires.inside c.requires.layout.areas.blocks_to
+
+pub load-before-requires-clause-aligned : goal.load-before-requires-clause-aligned
+load-before-requires-clause-aligned g c = second_aligned c.args.place c.requires.aligned
+
+pub load-before-requires-clause-within : goal.load-before-requires-clause-within
+load-before-requires-clause-within g c = in_region _ c.args.sup.now.blocks (g.P.Pmem.region c.args.memory.now) (second_word c.args.place c.args.sup.now.blocks c.requires.inside) c.requires.blocks
+
+pub is_journal_word-requires : goal.is_journal_word-requires
+is_journal_word-requires g c = c.requires.layout
+
+pub returns-then-not-is_journal_word-clause-outside : goal.returns-then-not-is_journal_word-clause-outside
+returns-then-not-is_journal_word-clause-outside g c = outside_same _ _ _
+
+pub returns-then-not-is_journal_word-clause-stopped : goal.returns-then-not-is_journal_word-clause-stopped
+returns-then-not-is_journal_word-clause-stopped g c = tt
+
+pub returns-then-not-is_journal_word-clause-keeps_fuse : goal.returns-then-not-is_journal_word-clause-keeps_fuse
+returns-then-not-is_journal_word-clause-keeps_fuse g c = record { burnt = λ on. on; steady = λ on. on; stays_open = λ limit past on. on }
+
+pub store-requires-clause-aligned : goal.store-requires-clause-aligned
+store-requires-clause-aligned g c = (c.is_journal_word.ensures.lies c.if-not-is_journal_word.false).aligned
+
+pub returns-clause-stopped : goal.returns-clause-stopped
+returns-clause-stopped g c = burnt_told c.store.result c.store.ensures.stopped
+
+pub returns-clause-keeps_fuse : goal.returns-clause-keeps_fuse
+returns-clause-keeps_fuse g c =
+    let lies = c.is_journal_word.ensures.lies c.if-not-is_journal_word.false in
+    keeps_within (λ limit past. before_limit c.load-at.result (system_blocks c.args.sup.now) limit lies.before past) c.store.ensures.keeps_fuse
