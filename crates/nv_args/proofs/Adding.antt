@@ -1,42 +1,54 @@
--- What a command is once it has one argument more, and the program once it has one command more.
-use Rattle.std.proofs.Common.{◌≡◌, ◌∙◌, ℕ, ◌+◌, ◌<◌, false, refl, ap, ap₂, List, ◌∷◌, length, slice_index_or, map, drop, add-one, drop-cons}
-use Rattle.std.specs.List.{fold}
+-- What is made of a table row by row, and what a command is once it has the arguments or commands that were made.
+use Rattle.std.proofs.Common.{◌≡◌, ◌∙◌, ℕ, ◌+◌, ◌<◌, ◌≤◌, refl, sym, ap, subst, List, [], ◌∷◌, ◌++◌, length, slice_index_or, map, drop, add-one, drop-cons, append_assoc, append-nil}
+use Rattle.std.specs.List.{AllByRecursion, fold}
+use Rattle.std.proofs.lemmas.List.{drop_all, map-append}
 use Rattle.clap.specs.Walk.{rule_of}
-use Rattle.clap.specs.Simple.{App, app_of, with_rule, with_subcommand}
-use Rattle.clap.specs.Built.{AddsArg, AddsSubcommand}
+use Rattle.clap.specs.Simple.{app_of, with_rule}
+use Rattle.clap.specs.Built.{AddsArg, AddsInTurn, AddsSubcommand}
 use Rattle.clap.specs.declared.builder.arg.Arg.{Arg}
 use Rattle.clap.specs.declared.builder.command.Command.{Command}
-use Rattle.clap.specs.declared.builder.command.Command.TheViews.{out-Command}
 use Rattle.nv_args.specs.CommandLine.{with_commands}
-use Rattle.nv_args.specs.Tables.{app_by, rule_by}
-use Rattle.nv_args.specs.declared.arguments.Argument.{Argument}
-use Rattle.nv_args.specs.declared.command_line.CommandForm.{CommandForm}
+use Rattle.nv_args.specs.Tables.{HasLocals, IsLocal}
 
-pub with_command : (old sub new : Command) (app below : App) → app_of old ≡ app → app_of sub ≡ below → (out-Command sub).has_globals ≡ false
-    → AddsSubcommand old sub new → app_of new ≡ with_subcommand app below.top
-with_command old sub new app below is lower local adds = adds.shape local ∙ ap₂ with_subcommand is (ap (λ a. a.top) lower)
+one_more_behind : {X : Type 0} (P : X → Type 0) (xs : List X) (x : X) → AllByRecursion P xs → P x → AllByRecursion P (xs ++ x ∷ [])
+one_more_behind P [] x all one = (one, tt)
+one_more_behind P (y ∷ ys) x all one = (all.0, one_more_behind P ys x all.1 one)
+
+pub and_one_more : {X : Type 0} (P : X → Type 0) (made : List X) (x : X) (new : List X) → new ≡ made ++ x ∷ []
+    → AllByRecursion P made → P x → AllByRecursion P new
+and_one_more P made x new grown all one = subst (AllByRecursion P) (sym grown) (one_more_behind P made x all one)
 
 drop-next : {A : Type 0} (l : List A) (i : ℕ) (d : A) → i < length l → drop i l ≡ slice_index_or l i d ∷ drop (i + 1) l
 drop-next l i d here = rw add-one (drop-cons l i d here)
 
--- The commands of a table that are left, with one of them added.
-pub with_one_more : (forms : List CommandForm) (i : ℕ) (d : CommandForm) (old sub new : Command) (app : App) → i < length forms
-    → app_of sub ≡ app_by (slice_index_or forms i d) → (out-Command sub).has_globals ≡ false → AddsSubcommand old sub new
-    → with_commands (app_of old) (map app_by (drop i forms)) ≡ app → with_commands (app_of new) (map app_by (drop (i + 1) forms)) ≡ app
-with_one_more forms i d old sub new app here is local adds left =
-    let added : app_of new ≡ with_subcommand (app_of old) (app_by (slice_index_or forms i d)).top = with_command old sub new _ _ refl is local adds in
-    let rest : with_commands (app_of old) (app_by (slice_index_or forms i d) ∷ map app_by (drop (i + 1) forms)) ≡ app = rw (drop-next forms i d here) at left in
-    ap (λ a. with_commands a (map app_by (drop (i + 1) forms))) added ∙ rest
+-- What is made so far, before what is left of the table, with one row of it made.
+pub one_further : {A B C : Type 0} (of : A → C) (by : B → C) (made : List A) (x : A) (new : List A) → new ≡ made ++ x ∷ []
+    → (table : List B) (i : ℕ) (d : B) (all : List C) → i < length table → of x ≡ by (slice_index_or table i d)
+    → map of made ++ map by (drop i table) ≡ all → map of new ++ map by (drop (i + 1) table) ≡ all
+one_further of by made x new grown table i d all here is so_far =
+    let left = map by (drop (i + 1) table) in
+    let rest : map of made ++ by (slice_index_or table i d) ∷ left ≡ all = rw (drop-next table i d here) at so_far in
+    ap (λ l. map of l ++ left) grown ∙ ap (λ l. l ++ left) (map-append of made (x ∷ [])) ∙ append_assoc (map of made) (of x ∷ []) left
+    ∙ ap (λ o. map of made ++ o ∷ left) is ∙ rest
 
--- The arguments of a command's form that are left, with one of them added.
-pub with_one_argument_more : (arguments : List Argument) (i : ℕ) (d : Argument) (old new : Command) (a : Arg) (app : App) → i < length arguments
-    → rule_of a ≡ rule_by (slice_index_or arguments i d) → a.global ≡ false → AddsArg old a new
-    → fold with_rule (app_of old) (map rule_by (drop i arguments)) ≡ app → fold with_rule (app_of new) (map rule_by (drop (i + 1) arguments)) ≡ app
-with_one_argument_more arguments i d old new a app here is local adds left =
-    let added : app_of new ≡ with_rule (app_of old) (rule_by (slice_index_or arguments i d)) = adds.shape local ∙ ap (with_rule (app_of old)) is in
-    let rest : fold with_rule (app_of old) (rule_by (slice_index_or arguments i d) ∷ map rule_by (drop (i + 1) arguments)) ≡ app = rw (drop-next arguments i d here) at left in
-    ap (λ app. fold with_rule app (map rule_by (drop (i + 1) arguments))) added ∙ rest
+pub all_made : {A B C : Type 0} (of : A → C) (by : B → C) (made : List A) (table : List B) (i : ℕ) (all : List C)
+    → length table ≤ i → map of made ++ map by (drop i table) ≡ all → map of made ≡ all
+all_made of by made table i all past so_far =
+    let done : map of made ++ [] ≡ all = rw (drop_all i table past) at so_far in
+    sym (append-nil (map of made)) ∙ done
 
-pub stays_local : (old new : Command) (a : Arg) → (out-Command old).has_globals ≡ false → a.global ≡ false → AddsArg old a new
-    → (out-Command new).has_globals ≡ false
-stays_local old new a before local adds = rw (adds.globals, before, local) refl
+pub with_arguments : (old new : Command) (xs : List Arg) → AddsInTurn AddsArg old xs new → AllByRecursion IsLocal xs
+    → app_of new ≡ fold with_rule (app_of old) (map rule_of xs)
+with_arguments old new [] adds local = ap app_of (sym adds)
+with_arguments old new (x ∷ xs) adds local =
+    with_arguments adds.0 new xs adds.2 local.1 ∙ ap (λ app. fold with_rule app (map rule_of xs)) (adds.1.shape local.0)
+
+pub stays_local : (old new : Command) (xs : List Arg) → AddsInTurn AddsArg old xs new → AllByRecursion IsLocal xs → HasLocals old → HasLocals new
+stays_local old new [] adds local before = subst HasLocals adds before
+stays_local old new (x ∷ xs) adds local before = stays_local adds.0 new xs adds.2 local.1 (rw (adds.1.globals, before, local.0) refl)
+
+pub with_subcommands : (old new : Command) (xs : List Command) → AddsInTurn AddsSubcommand old xs new → AllByRecursion HasLocals xs
+    → app_of new ≡ with_commands (app_of old) (map app_of xs)
+with_subcommands old new [] adds local = ap app_of (sym adds)
+with_subcommands old new (x ∷ xs) adds local =
+    with_subcommands adds.0 new xs adds.2 local.1 ∙ ap (λ app. with_commands app (map app_of xs)) (adds.1.shape local.0)

@@ -1,7 +1,10 @@
 -- What the tables of commands and arguments stand for.
-use Rattle.std.specs.Prelude.{map}
+use Rattle.std.specs.Prelude.{◌≡◌, false, map}
 use Rattle.clap.specs.Walk.{Rule, Text}
 use Rattle.clap.specs.Simple.{App}
+use Rattle.clap.specs.declared.builder.arg.Arg.{Arg}
+use Rattle.clap.specs.declared.builder.command.Command.{Command}
+use Rattle.clap.specs.declared.builder.command.Command.TheViews.{out-Command}
 use Rattle.nv_args.specs.CommandLine.{command, place_rule, needed_rule, option_rule, number_rule, flag_rule, threads_rule}
 use Rattle.nv_args.specs.declared.arguments.Argument.{Argument}
 use Rattle.nv_args.specs.declared.arguments.Written.{Written}
@@ -24,3 +27,11 @@ rule_by argument = rule_as argument.written argument.name.now
 -- a command of a table
 abbrev pub app_by : CommandForm → App
 app_by form = command form.name.now (map rule_by form.arguments.now)
+
+-- the argument is its command's alone
+abbrev pub IsLocal : Arg → Type 0
+IsLocal argument = argument.global ≡ false
+
+-- and so is each argument of the command
+abbrev pub HasLocals : Command → Type 0
+HasLocals command = (out-Command command).has_globals ≡ false

@@ -1,13 +1,14 @@
 //! The command line of the program, with the help that a user reads.
 
-ghost use Rattle.std.specs.Prelude.{◌≡◌, IfOk, false};
+ghost use Rattle.std.specs.Prelude.{◌≡◌, IfOk, map};
+ghost use Rattle.std.specs.List.{AllByRecursion};
 ghost use Rattle.clap.specs.Simple.{app_of};
-ghost use Rattle.clap.specs.declared.builder.command.Command.TheViews.{out-Command};
+ghost use Rattle.clap.specs.Walk.{rule_of};
 ghost use Rattle.nv_args.specs.CommandLine.{bare_app, nova_app};
-ghost use Rattle.nv_args.specs.Tables.{app_by};
+ghost use Rattle.nv_args.specs.Tables.{HasLocals, IsLocal, app_by, rule_by};
 
 use crate::arguments::{Argument, Written, arg_of};
-use clap::Command;
+use clap::{Arg, Command};
 use std::alloc::{AllocError, Global};
 
 const RUN_NOTES: &str = "\
@@ -204,18 +205,40 @@ const COMMANDS: [CommandForm<'static>; 8] = [
     },
 ];
 
+// The arguments for `clap`.
+fn arguments_of<'a>(alloc: Global, arguments: &[Argument<'a>]) -> Result<Vec<Arg<'a>>, AllocError>
+    ensures local { IfOk result (λ made. AllByRecursion IsLocal made.items) }
+    ensures rules { IfOk result (λ made. map rule_of made.items ≡ map rule_by arguments.now) }
+{
+    let mut made = Vec::new(alloc);
+    for argument in arguments {
+        made.push(arg_of(alloc, argument))?;
+    }
+    Ok(made)
+}
+
 // The command for `clap`.
 fn command_of<'a>(alloc: Global, form: &CommandForm<'a>) -> Result<Command<'a>, AllocError>
-    ensures local { IfOk result (λ c. (out-Command c).has_globals ≡ false) }
+    ensures local { IfOk result HasLocals }
     ensures shape { IfOk result (λ c. app_of c ≡ app_by form.now) }
 {
-    let mut command = Command::new(alloc, form.name)
+    let arguments = arguments_of(alloc, form.arguments)?;
+    Command::new(alloc, form.name)
         .about(form.about)
-        .after_help(form.notes);
-    for argument in form.arguments {
-        command = command.arg(arg_of(alloc, argument))?;
+        .after_help(form.notes)
+        .args(arguments)
+}
+
+// The commands for `clap`.
+fn commands_of<'a>(alloc: Global, forms: &[CommandForm<'a>]) -> Result<Vec<Command<'a>>, AllocError>
+    ensures local { IfOk result (λ made. AllByRecursion HasLocals made.items) }
+    ensures shapes { IfOk result (λ made. map app_of made.items ≡ map app_by forms.now) }
+{
+    let mut made = Vec::new(alloc);
+    for form in forms {
+        made.push(command_of(alloc, form)?)?;
     }
-    Ok(command)
+    Ok(made)
 }
 
 // The program before its commands. Its name leads the usage of each command.
@@ -233,9 +256,6 @@ fn bare<'a>(alloc: Global) -> Result<Command<'a>, AllocError>
 pub(crate) fn nova<'a>(alloc: Global) -> Result<Command<'a>, AllocError>
     ensures { IfOk result (λ c. app_of c ≡ nova_app) }
 {
-    let mut program = bare(alloc)?;
-    for form in COMMANDS.iter() {
-        program = program.subcommand(command_of(alloc, form)?)?;
-    }
-    Ok(program)
+    let commands = commands_of(alloc, &COMMANDS)?;
+    bare(alloc)?.subcommands(commands)
 }

@@ -1,7 +1,7 @@
 //! What the program can be asked to do.
 
 /// What the program is to do.
-#[derive(Clone, Copy, Debug, PartialEq, Eq)]
+#[derive(Clone, Copy, PartialEq, Eq)]
 pub enum Todo<'a> {
     /// Run the script in a file, or the one on standard input, on the region that an image holds, or on none, and save
     /// the region that it leaves, or none.
@@ -51,7 +51,7 @@ pub enum Todo<'a> {
 }
 
 /// What a check prints.
-#[derive(Clone, Copy, Debug, PartialEq, Eq)]
+#[derive(Clone, Copy, PartialEq, Eq)]
 pub enum CheckOutput {
     /// The whole report.
     Report,

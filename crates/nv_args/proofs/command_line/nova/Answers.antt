@@ -1,7 +1,10 @@
-use Rattle.nv_args.proofs.Adding.{with_one_more}
+use Rattle.std.proofs.Common.{◌∙◌, ap₂}
+use Rattle.std.proofs.lemmas.Result.{IfOk-weaker}
+use Rattle.nv_args.specs.CommandLine.{with_commands}
+use Rattle.nv_args.proofs.Adding.{with_subcommands}
 use Rattle.nv_args.proofs.command_line.nova.Goals as goal
 
-pub loop-form-preserved : goal.loop-form-preserved
-loop-form-preserved c =
-    with_one_more _ c.loop-form.form-index _ _ _ _ _ c.loop-form-test.true c.in_ok-command_of.ensures.shape c.in_ok-command_of.ensures.local
-    c.in_ok-program-2.ensures c.loop-form.invariant
+pub returns : goal.returns
+returns c =
+    let commands = c.in_ok-commands.ensures in
+    IfOk-weaker c.subcommands.result _ _ (λ program adds. with_subcommands _ program _ adds commands.local ∙ ap₂ with_commands c.in_ok-bare.ensures commands.shapes) c.subcommands.ensures
