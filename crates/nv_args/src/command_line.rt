@@ -1,10 +1,10 @@
 //! The command line of the program, with the help that a user reads.
 
-ghost use Rattle.std.specs.Prelude.{◌≡◌, IfOk, map};
+ghost use Rattle.std.specs.Prelude.{◌≡◌, ◌∷◌, IfOk, map};
 ghost use Rattle.std.specs.List.{AllByRecursion};
 ghost use Rattle.clap.specs.Simple.{app_of};
 ghost use Rattle.clap.specs.Walk.{rule_of};
-ghost use Rattle.nv_args.specs.CommandLine.{bare_app, nova_app};
+ghost use Rattle.nv_args.specs.CommandLine.{bare_app, check_app, image_apps, nova_app, run_app};
 ghost use Rattle.nv_args.specs.Tables.{HasLocals, IsLocal, app_by, rule_by};
 
 use crate::arguments::{Argument, Written, arg_of};
@@ -205,6 +205,13 @@ const COMMANDS: [CommandForm<'static>; 8] = [
     },
 ];
 
+// The table, with what its forms stand for.
+fn forms() -> &'static [CommandForm<'static>]
+    ensures { map app_by result.now ≡ run_app ∷ check_app ∷ image_apps }
+{
+    &COMMANDS
+}
+
 // The arguments for `clap`.
 fn arguments_of<'a>(alloc: Global, arguments: &[Argument<'a>]) -> Result<Vec<Arg<'a>>, AllocError>
     ensures local { IfOk result (λ made. AllByRecursion IsLocal made.items) }
@@ -256,6 +263,6 @@ fn bare<'a>(alloc: Global) -> Result<Command<'a>, AllocError>
 pub(crate) fn nova<'a>(alloc: Global) -> Result<Command<'a>, AllocError>
     ensures { IfOk result (λ c. app_of c ≡ nova_app) }
 {
-    let commands = commands_of(alloc, &COMMANDS)?;
+    let commands = commands_of(alloc, forms())?;
     bare(alloc)?.subcommands(commands)
 }

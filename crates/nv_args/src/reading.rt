@@ -145,11 +145,11 @@ fn map_of<'a>(values: &ArgMatches<'a>) -> Option<Todo<'a>>
     Some(Todo::Map { image, svg })
 }
 
-// What the command of this name asks for with these values of its arguments.
-fn asked<'a>(name: &str, values: &ArgMatches<'a>) -> Option<Todo<'a>>
-    ensures some { IfSome result (λ todo. Asks name.now (rows_of (found_of values.now)) todo) }
-    ensures none { IsNone result → (todo : Todo) → ¬ Asks name.now (rows_of (found_of values.now)) todo }
+fn todo_of<'a>(matches: &ArgMatches<'a>) -> Option<Todo<'a>>
+    ensures some { IfSome result (λ todo. Says (subcommand_rows_of matches.now) todo) }
+    ensures none { IsNone result → (todo : Todo) → ¬ Says (subcommand_rows_of matches.now) todo }
 {
+    let (name, values) = matches.subcommand()?;
     match name {
         "run" => Some(run_of(values)),
         "check" => check_of(values),
@@ -161,14 +161,6 @@ fn asked<'a>(name: &str, values: &ArgMatches<'a>) -> Option<Todo<'a>>
         "map" => map_of(values),
         _ => None,
     }
-}
-
-fn todo_of<'a>(matches: &ArgMatches<'a>) -> Option<Todo<'a>>
-    ensures some { IfSome result (λ todo. Says (subcommand_rows_of matches.now) todo) }
-    ensures none { IsNone result → (todo : Todo) → ¬ Says (subcommand_rows_of matches.now) todo }
-{
-    let (name, values) = matches.subcommand()?;
-    asked(name, values)
 }
 
 /// What the words, which come without the program's name, ask for: one of the commands of `Todo` with its arguments. A

@@ -7,4 +7,4 @@ use Rattle.nv_args.proofs.command_line.nova.Goals as goal
 pub returns : goal.returns
 returns c =
     let commands = c.in_ok-commands.ensures in
-    IfOk-weaker c.subcommands.result _ _ (λ program adds. with_subcommands _ program _ adds commands.local ∙ ap₂ with_commands c.in_ok-bare.ensures commands.shapes) c.subcommands.ensures
+    IfOk-weaker c.subcommands.result _ _ (λ program adds. with_subcommands _ program _ adds commands.local ∙ ap₂ with_commands c.in_ok-bare.ensures (commands.shapes ∙ c.forms.ensures)) c.subcommands.ensures
