@@ -1,0 +1,67 @@
+use Rattle.nv_line.proofs.table.command_of.Goals as goal
+
+pub returns-in-Format : goal.returns-in-Format
+returns-in-Format c = rw c.in-Format.is c.format.ensures
+
+pub returns-in-Time : goal.returns-in-Time
+returns-in-Time c = rw c.in-Time.is c.time.ensures
+
+pub returns-in-Poke : goal.returns-in-Poke
+returns-in-Poke c = rw c.in-Poke.is c.poke.ensures
+
+pub returns-in-Cut : goal.returns-in-Cut
+returns-in-Cut c = rw c.in-Cut.is c.cut.ensures
+
+pub returns-in-Recover : goal.returns-in-Recover
+returns-in-Recover c = rw c.in-Recover.is c.recover.ensures
+
+pub returns-in-Replay : goal.returns-in-Replay
+returns-in-Replay c = rw c.in-Replay.is c.replay.ensures
+
+pub returns-in-ListNames : goal.returns-in-ListNames
+returns-in-ListNames c = rw c.in-ListNames.is c.list_names.ensures
+
+pub returns-in-Stat : goal.returns-in-Stat
+returns-in-Stat c = rw c.in-Stat.is c.stat.ensures
+
+pub returns-in-Read : goal.returns-in-Read
+returns-in-Read c = rw c.in-Read.is c.read.ensures
+
+pub returns-in-Create : goal.returns-in-Create
+returns-in-Create c = rw c.in-Create.is c.create.ensures
+
+pub returns-in-MakeDirectory : goal.returns-in-MakeDirectory
+returns-in-MakeDirectory c = rw c.in-MakeDirectory.is c.make_directory.ensures
+
+pub returns-in-Write : goal.returns-in-Write
+returns-in-Write c = rw c.in-Write.is c.write.ensures
+
+pub returns-in-SetSize : goal.returns-in-SetSize
+returns-in-SetSize c = rw c.in-SetSize.is c.set_size.ensures
+
+pub returns-in-SetAttributes : goal.returns-in-SetAttributes
+returns-in-SetAttributes c = rw c.in-SetAttributes.is c.set_attributes.ensures
+
+pub returns-in-Link : goal.returns-in-Link
+returns-in-Link c = rw c.in-Link.is c.link.ensures
+
+pub returns-in-Unlink : goal.returns-in-Unlink
+returns-in-Unlink c = rw c.in-Unlink.is c.unlink.ensures
+
+pub returns-in-RemoveDirectory : goal.returns-in-RemoveDirectory
+returns-in-RemoveDirectory c = rw c.in-RemoveDirectory.is c.remove_directory.ensures
+
+pub returns-in-Rename : goal.returns-in-Rename
+returns-in-Rename c = rw c.in-Rename.is c.rename.ensures
+
+pub returns-in-Tree : goal.returns-in-Tree
+returns-in-Tree c = rw c.in-Tree.is c.tree.ensures
+
+pub returns-in-Free : goal.returns-in-Free
+returns-in-Free c = rw c.in-Free.is c.free.ensures
+
+pub returns-in-Faults : goal.returns-in-Faults
+returns-in-Faults c = rw c.in-Faults.is c.faults.ensures
+
+pub returns-in-Stop : goal.returns-in-Stop
+returns-in-Stop c = rw c.in-Stop.is c.stop.ensures
