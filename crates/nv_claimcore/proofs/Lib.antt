@@ -12,6 +12,7 @@ pub mod WordRuns
 pub mod UnmarkedAt
 pub mod Parts
 pub mod Turns
+pub mod Begins
 pub mod Courses
 pub mod Single
 pub mod SpanSteps

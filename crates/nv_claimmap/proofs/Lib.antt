@@ -3,4 +3,5 @@ pub mod Keeping
 pub mod Marking
 pub mod Closing
 pub mod Seats
+pub mod Listing
 pub use Rattle.nv_claimcore.proofs as nv_claimcore

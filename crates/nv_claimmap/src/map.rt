@@ -67,11 +67,11 @@ impl ClaimMap {
         ensures count { IfOk result (λ r. vec_len r.1 ≡ sizes.workers) }
     {
         let words = words_for(sizes.blocks);
+        let first = Vec::with_capacity(alloc, words)?;
+        let second = Vec::with_capacity(alloc, words)?;
         let zeros = vec![in alloc; 0u64; table_words(words)]?;
         let (table, seat) = Table::of_words(alloc, zeros.as_slice(), &sizes)?;
         let seats = seat_all(alloc, &table.shared, seat, sizes)?;
-        let first = Vec::with_capacity(alloc, words)?;
-        let second = Vec::with_capacity(alloc, words)?;
         let map = ClaimMap {
             table,
             sizes,

@@ -1,5 +1,6 @@
-use Rattle.std.proofs.Common.{◌≡◌, ℕ, ◌+◌, ◌<◌, List, true, false, ◌≤◌, take, length, length-take, get_or, sym, ap, ◌∙◌, subst, arith}
-use Rattle.std.proofs.lemmas.List.{take_more}
+use Rattle.std.proofs.Common.{◌≡◌, ℕ, ◌+◌, ◌<◌, List, true, false, ◌≤◌, take, length, length-take, get_or, refl, sym, ap, ◌∙◌, subst, arith}
+use Rattle.std.proofs.lemmas.List.{take_more, take_all}
+use Rattle.std.proofs.lemmas.Result.{err_from_is_err_and}
 use mathlib.Core.Bool.{Bool, ◌&&◌}
 use Rattle.nv_claimcore.specs.declared.view.Sizes.{Sizes}
 use Rattle.nv_claimcore.specs.declared.event.Event.{Event}
@@ -43,3 +44,40 @@ loop-place-preserved c = let l = c.loop-place.invariant in let more = c.loop-pla
 
 pub returns-clause-legal : goal.returns-clause-legal
 returns-clause-legal c = let l = c.loop-place.invariant in legal c.args.sizes c.args.events.now c.loop-place.state c.loop-place.place l.1 l.2
+
+pub returns-in_err-state-clause-allowed : goal.returns-in_err-state-clause-allowed
+returns-in_err-state-clause-allowed c = let w = err_from_is_err_and c.from_residual.result c.from_residual.ensures.1 in rw w.1 tt
+
+pub returns-in_err-state-clause-state : goal.returns-in_err-state-clause-state
+returns-in_err-state-clause-state c = let w = err_from_is_err_and c.from_residual.result c.from_residual.ensures.1 in rw w.1 tt
+
+pub returns-in_err-state-clause-legal : goal.returns-in_err-state-clause-legal
+returns-in_err-state-clause-legal c = let w = err_from_is_err_and c.from_residual.result c.from_residual.ensures.1 in rw w.1 tt
+
+pub returns-in_err-state-clause-refused : goal.returns-in_err-state-clause-refused
+returns-in_err-state-clause-refused c = let w = err_from_is_err_and c.from_residual.result c.from_residual.ensures.1 in rw (w.1, w.2) tt
+
+pub returns-in_err-step-clause-allowed : goal.returns-in_err-step-clause-allowed
+returns-in_err-step-clause-allowed c = let w = err_from_is_err_and c.from_residual-in_err-step.result c.from_residual-in_err-step.ensures.1 in rw w.1 tt
+
+pub returns-in_err-step-clause-state : goal.returns-in_err-step-clause-state
+returns-in_err-step-clause-state c = let w = err_from_is_err_and c.from_residual-in_err-step.result c.from_residual-in_err-step.ensures.1 in rw w.1 tt
+
+pub returns-in_err-step-clause-legal : goal.returns-in_err-step-clause-legal
+returns-in_err-step-clause-legal c = let w = err_from_is_err_and c.from_residual-in_err-step.result c.from_residual-in_err-step.ensures.1 in rw w.1 tt
+
+pub returns-in_err-step-clause-refused : goal.returns-in_err-step-clause-refused
+returns-in_err-step-clause-refused c = let w = err_from_is_err_and c.from_residual-in_err-step.result c.from_residual-in_err-step.ensures.1 in rw (w.1, w.2) tt
+
+pub loop-place-init : goal.loop-place-init
+loop-place-init c = (omega arith, refl, c.in_ok-state.ensures)
+
+pub returns-clause-allowed : goal.returns-clause-allowed
+returns-clause-allowed c =
+    let done = c.loop-place-test.false in
+    ap (all_allowed c.args.sizes (start c.args.sizes)) (sym (take_all c.loop-place.place c.args.events.now (omega arith))) ∙ c.loop-place.invariant.1
+
+pub returns-clause-state : goal.returns-clause-state
+returns-clause-state c =
+    let done = c.loop-place-test.false in
+    c.loop-place.invariant.2 ∙ ap (after_all (start c.args.sizes)) (take_all c.loop-place.place c.args.events.now (omega arith))
