@@ -1,4 +1,4 @@
-use Rattle.std.proofs.Common.{◌≡◌, ◌≤◌, append-nil, sym, ap, ◌∙◌, ◌++◌, arith}
+use Rattle.std.proofs.Common.{◌≡◌, append-nil, sym, ap, ◌∙◌, ◌++◌, arith}
 use Rattle.nv_super.specs.Owners.{pairs}
 use Rattle.nv_claimmap.proofs.Listing.{page_small, pairs_more}
 use Rattle.nv_claimmap.proofs.steps.list_claims.Goals as goal
