@@ -1,7 +1,10 @@
 use Rattle.std.proofs.Common.{◌≡◌, ◌+◌, ◌<◌, ℕ, length, ◌∙◌, arith, length-set, get_or}
 use Rattle.std.proofs.lemmas.List.{length-replicate, take_all}
-use Rattle.nv_numbered.proofs.SoundLemmas.{IsSound-empty}
+use Rattle.std.proofs.lemmas.Result.{err_from_is_err_and}
+use Rattle.nv_numbered.specs.Table.{IsSound}
+use Rattle.nv_numbered.proofs.SoundLemmas.{IsSound-empty, length-slots_of}
 use Rattle.nv_numbered.proofs.MadeLemmas.{few_before, IsSound-next, value_by_place}
+use Rattle.nv_numbered.proofs.table.Numbered.from_values.Given.{Over}
 use Rattle.nv_numbered.proofs.table.Numbered.from_values.Goals as goal
 
 pub loop-index-init : goal.loop-index-init
@@ -31,11 +34,31 @@ loop-index-preserved g c =
       sound = IsSound-next c.loop-index.places.items numbers c.args.values.items c.args.limit c.loop-index.index c.requires.as_many c.requires.numbers c.loop-index.invariant.long inside c.loop-index.invariant.sound;
     })
 
-pub returns-clause-values : goal.returns-clause-values
-returns-clause-values g c number value =
+-- each value has its place at the end
+whole : (g : Over) (c : goal.After-loop-index g) → IsSound c.loop-index.places.items c.args.numbers.items c.args.values.items
+whole g c =
     let numbers = c.args.numbers.items in
     let values = c.args.values.items in
     let count : c.loop-index.index ≡ length numbers = omega (arith, c.loop-index.invariant.inside, rw c.deref-number-items.ensures.value at c.loop-index-test.false) in
     let sound = c.loop-index.invariant.sound in
-    let whole = rw (take_all c.loop-index.index numbers (omega (arith, count)), take_all c.loop-index.index values (omega (arith, count, c.requires.as_many))) at sound in
-    value_by_place c.loop-index.places.items numbers values whole number value
+    rw (take_all c.loop-index.index numbers (omega (arith, count)), take_all c.loop-index.index values (omega (arith, count, c.requires.as_many))) at sound
+
+pub invariant_of-result : goal.invariant_of-result
+invariant_of-result g c = whole g c
+
+pub returns-clause-values : goal.returns-clause-values
+returns-clause-values g c number value = value_by_place c.loop-index.places.items c.args.numbers.items c.args.values.items (whole g c) number value
+
+pub returns-in_err-places-clause-limit : goal.returns-in_err-places-clause-limit
+returns-in_err-places-clause-limit g c = let w = err_from_is_err_and c.from_residual.result c.from_residual.ensures.1 in rw w.1 tt
+
+pub returns-in_err-places-clause-values : goal.returns-in_err-places-clause-values
+returns-in_err-places-clause-values g c = let w = err_from_is_err_and c.from_residual.result c.from_residual.ensures.1 in rw w.1 tt
+
+pub returns-clause-limit : goal.returns-clause-limit
+returns-clause-limit g c = length-slots_of c.loop-index.places.items c.args.values.items ∙ c.loop-index.invariant.long
+
+pub index_mut-requires : goal.index_mut-requires
+index_mut-requires g c =
+    let inside : c.loop-index.index < length c.args.numbers.items = rw c.deref-number-items.ensures.value at c.loop-index-test.true in
+    rw c.deref-number-items.ensures.value (omega (arith, c.requires.numbers.below c.loop-index.index inside, c.loop-index.invariant.long, c.loop-index.places.ok.0))

@@ -29,3 +29,18 @@ returns-clause-values g c =
     let count : c.len.result ≡ length t.numbers.items + 1 = omega (arith, t.values.ok.0, c.self.invariant.as_many) in
     rw (c.push_reserved-2.ensures.items, count, ← c.self.view_is)
     (slots_of-insert t.places.items t.numbers.items t.values.items c.self.invariant.paired c.self.invariant.as_many c.args.number c.args.value inside)
+
+pub returns-clause-room : goal.returns-clause-room
+returns-clause-room g c = let room = rw (← c.self.view_is) at c.requires.room in rw (← c.self.view_is) (omega arith)
+
+pub index_mut-requires : goal.index_mut-requires
+index_mut-requires g c =
+    let t = c.self.inside in
+    let within = rw (← c.self.view_is) at c.requires.within in
+    omega (arith, within, length-slots_of t.places.items t.values.items, t.places.ok.0)
+
+pub push_reserved-requires : goal.push_reserved-requires
+push_reserved-requires g c = let room = rw (← c.self.view_is) at c.requires.room in omega arith
+
+pub push_reserved-requires-2 : goal.push_reserved-requires-2
+push_reserved-requires-2 g c = let room = rw (← c.self.view_is) at c.requires.room in omega arith

@@ -61,3 +61,15 @@ returns-clause-values g c =
     (slots_of-remove _ _ _ c.self.invariant.paired c.self.invariant.as_many c.args.number index place c.index-moved.result.now last _ _
     (unplaced _ _ _ c.self.invariant c.args.number index place c.place_of-place.result c.index-moved.result.now (omega arith) last)
     swapped c.swap_remove.result)
+
+pub returns-then-place-eq0-clause-value : goal.returns-then-place-eq0-clause-value
+returns-then-place-eq0-clause-value g c =
+    let t = c.self.inside in
+    let vacant = rw c.deref.ensures.value at (sym c.place_of-place.ensures ∙ c.if-place-eq0.true) in
+    rw (← c.self.view_is) (sym (slot_at_none t.places.items t.values.items c.args.number vacant))
+
+pub returns-clause-room : goal.returns-clause-room
+returns-clause-room g c = rw (← c.self.view_is) (omega arith)
+
+pub returns-clause-freed : goal.returns-clause-freed
+returns-clause-freed g c = rw (← c.self.view_is) (omega arith)
