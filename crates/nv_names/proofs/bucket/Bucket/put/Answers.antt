@@ -1,18 +1,30 @@
-use Rattle.std.proofs.Common.{Some, is_some, length, ap, sym, subst, ◌∙◌, arith}
+use Rattle.std.proofs.Common.{◌≡◌, ℕ, ◌+◌, ◌<◌, ◌≤◌, ◌^◌, cond, refl, Some, is_some, length, ap, sym, subst, ◌∙◌, arith}
 use Rattle.std.proofs.lemmas.List.Elements.{recursion_from_All}
 use Rattle.std.proofs.lemmas.Result.{IfOk-weaker, on_err_weaker, err_from_is_err_and}
+use Rattle.std.proofs.Math.Nat.{le_of_eq}
+use mathlib.Core.Bool.{Bool}
 use Rattle.nv_names.specs.Names.{inode_and_place, found_in}
 use Rattle.nv_names.specs.Bucket.{IsBucket, lines_of}
 use Rattle.nv_names.proofs.First.{key_found}
 use Rattle.nv_names.proofs.Keeping.{Changes, Puts, full_puts, full_more, put_keyed, new_put, new_had, new_more, again_put, again_had, again_more, other_puts, other_had, other_more, no_other_more, one_more, no_more}
 use Rattle.nv_names.proofs.bucket.Bucket.put.Goals as goal
 
+-- a word counts the names before, and one more
+few : (n m first others more : ℕ) → n + m < 9223372036854775807 → n ≡ first → m ≡ others → more ≤ others + 1 → first + more < 2 ^ 63
+few n m first others more room a b c = omega arith
+
+few_first : (n m first others more less : ℕ) → n + m < 9223372036854775807 → n ≡ first → m ≡ others → more ≤ first + 1 → less ≤ others → more + less < 2 ^ 63
+few_first n m first others more less room a b c d = omega arith
+
+less_or_same : (n m : ℕ) (b : Bool) → n + cond b 1 0 ≡ m → n ≤ m
+less_or_same n m b e = omega (arith, e)
+
 -- the arms that put the name among the others, where so many stand by their keys
 full : (c : goal.After-put_other) → Puts c.put_other.result c.self.inside.first.entries c.self.inside.first.entries c.self.inside.others.entries c.put_other.new.others.entries c.args.name.now (Some (inode_and_place c.args.target))
 full c =
     let room = c.if-len-ge-MOST.false in let first = c.len.ensures.len in let others = c.len-2.ensures.len in let more = c.put_other.ensures.len in
     full_puts c.put_other.result c.self.inside.first.entries c.self.inside.others.entries c.put_other.new.others.entries c.args.key c.args.name.now (Some (inode_and_place c.args.target)) c.self.invariant c.requires (c.takes.ensures c.if-not-takes.true)
-    (omega (arith, room, first, others, more)) c.put_other.ensures.ok c.put_other.ensures.err
+    (few _ _ _ _ _ room first others more) c.put_other.ensures.ok c.put_other.ensures.err
 
 -- where the key is new
 fresh : (c : goal.After-take_other) → Changes c.self.inside.first.entries c.insert.new.self.entries c.self.inside.others.entries c.take_other.new.others.entries c.args.name.now (Some (inode_and_place c.args.target))
@@ -20,7 +32,7 @@ fresh c =
     let more = one_more _ _ _ c.in_ok-insert.ensures.len in let room = c.if-len-ge-MOST.false in let first = c.len.ensures.len in let others = c.len-2.ensures.len in let less = c.take_other.ensures.len in
     new_put _ c.self.inside.first.entries c.insert.new.self.entries c.self.inside.others.entries c.take_other.new.others.entries c.args.key c.args.name.now c.in_ok-held.held (inode_and_place c.args.target) c.self.invariant c.requires c.in_ok-held.ensures
     (sym c.in-None.is ∙ c.in_ok-insert.ensures.old) c.in_ok-insert.ensures.entries c.insert.ensures.unique c.in_ok-insert.ensures.updates.0 c.take_other.ensures.names
-    (omega (arith, more, room, first, others, less))
+    (few_first _ _ _ _ _ _ room first others more (less_or_same _ _ _ less))
 
 -- where the key had the name already
 again : (c : goal.Joined-before) → Changes c.self.inside.first.entries c.insert.new.self.entries c.self.inside.others.entries c.self.inside.others.entries c.args.name.now (Some (inode_and_place c.args.target))
@@ -28,7 +40,7 @@ again c =
     let more = one_more _ _ _ c.in_ok-insert.ensures.len in let room = c.if-len-ge-MOST.false in let first = c.len.ensures.len in let others = c.len-2.ensures.len in
     again_put _ c.self.inside.first.entries c.insert.new.self.entries c.self.inside.others.entries c.args.key c.args.name.now c.in_ok-held.held c.in-Some.before (inode_and_place c.args.target) c.self.invariant c.requires c.in_ok-held.ensures
     (sym c.in-Some.is ∙ c.in_ok-insert.ensures.old) (sym c.is_of.ensures ∙ c.if-is_of.true) c.in_ok-insert.ensures.entries c.insert.ensures.unique c.in_ok-insert.ensures.updates.0
-    (omega (arith, more, room, first, others))
+    (few_first _ _ _ _ _ _ room first others more (le_of_eq refl))
 
 -- where another name has the key
 other : (c : goal.After-put_other-in-Some) → Puts c.put_other-in-Some.result c.self.inside.first.entries c.put_back.new.first.entries c.self.inside.others.entries c.put_other-in-Some.new.others.entries c.args.name.now (Some (inode_and_place c.args.target))
@@ -36,7 +48,7 @@ other c =
     let same = no_more _ _ _ (ap is_some c.in-Some.is) c.in_ok-insert.ensures.len in let back = c.put_back.ensures.len in let room = c.if-len-ge-MOST.false in let first = c.len.ensures.len in let others = c.len-2.ensures.len in let more = c.put_other-in-Some.ensures.len in
     other_puts c.put_other-in-Some.result c.self.inside.first.entries c.insert.new.self.entries c.put_back.new.first.entries c.self.inside.others.entries c.put_other-in-Some.new.others.entries c.args.key c.args.name.now c.in_ok-held.held c.in-Some.before (Some (inode_and_place c.args.target)) c.self.invariant c.requires
     (sym c.in-Some.is ∙ c.in_ok-insert.ensures.old) (sym c.is_of.ensures ∙ c.if-is_of.false) c.put_back.ensures.keyed c.put_back.ensures.once c.in_ok-insert.ensures.updates.0 c.put_back.ensures.put
-    (omega (arith, same, back, room, first, others, more))
+    (few _ _ _ _ _ room (first ∙ sym (back ∙ same)) others more)
     c.put_other-in-Some.ensures.ok c.put_other-in-Some.ensures.err
 
 pub invariant_of-self : goal.invariant_of-self

@@ -5,6 +5,13 @@ use Rattle.nv_names.specs.Names.{Names, name_at, inode_and_place}
 use Rattle.nv_names.specs.Table.{PutsAt, names_held}
 use Rattle.nv_names.proofs.index.NameIndex.put.Goals as goal
 
+-- an index with no table has no room
+no_room : (room : ℕ) → room ≡ 0 → 0 < room → ⊥
+no_room room none some = omega arith
+
+any_room : (room now : ℕ) → room ≡ 0 → room ≤ now + 1
+any_room room now none = omega arith
+
 pub returns-in_err-had-in-None-clause-ok : goal.returns-in_err-had-in-None-clause-ok
 returns-in_err-had-in-None-clause-ok c = let w = err_from_is_err_and c.from_residual.result c.from_residual.ensures.1 in rw w.1 tt
 
@@ -19,12 +26,12 @@ returns-in_err-had-in-None-clause-err c =
 pub returns-in_err-had-in-None-clause-succeeds : goal.returns-in_err-had-in-None-clause-succeeds
 returns-in_err-had-in-None-clause-succeeds c =
     let none : c.args.self.now.room ≡ 0 = sym (ap (λ (n : Names). n.room) c.self.view_is) ∙ ap (λ t. (names_held t).room) c.in-None.is in
-    λ some. absurd (omega (arith, none, some))
+    λ some. absurd (no_room c.args.self.now.room none some)
 
 pub returns-in_err-had-in-None-clause-room : goal.returns-in_err-had-in-None-clause-room
 returns-in_err-had-in-None-clause-room c =
     let none : c.args.self.now.room ≡ 0 = sym (ap (λ (n : Names). n.room) c.self.view_is) ∙ ap (λ t. (names_held t).room) c.in-None.is in
-    omega (arith, none)
+    any_room c.args.self.now.room _ none
 
 pub returns-in_err-new-in-None-clause-ok : goal.returns-in_err-new-in-None-clause-ok
 returns-in_err-new-in-None-clause-ok c = let w = err_from_is_err_and c.from_residual-in_err-new-in-None.result c.from_residual-in_err-new-in-None.ensures.1 in rw w.1 tt
@@ -40,12 +47,12 @@ returns-in_err-new-in-None-clause-err c =
 pub returns-in_err-new-in-None-clause-succeeds : goal.returns-in_err-new-in-None-clause-succeeds
 returns-in_err-new-in-None-clause-succeeds c =
     let none : c.args.self.now.room ≡ 0 = sym (ap (λ (n : Names). n.room) c.self.view_is) ∙ ap (λ t. (names_held t).room) c.in-None.is in
-    λ some. absurd (omega (arith, none, some))
+    λ some. absurd (no_room c.args.self.now.room none some)
 
 pub returns-in_err-new-in-None-clause-room : goal.returns-in_err-new-in-None-clause-room
 returns-in_err-new-in-None-clause-room c =
     let none : c.args.self.now.room ≡ 0 = sym (ap (λ (n : Names). n.room) c.self.view_is) ∙ ap (λ t. (names_held t).room) c.in-None.is in
-    omega (arith, none)
+    any_room c.args.self.now.room _ none
 
 pub returns-in-Some-clause-ok : goal.returns-in-Some-clause-ok
 returns-in-Some-clause-ok c = subst (λ (n : Names). OnOk c.put.result (PutsAt n.names c.put.new.self.names c.args.name.now (Some (c.args.inode, c.args.place)))) (c.deref_mut.ensures.value ∙ (ap names_held (sym c.in-Some.is) ∙ c.self.view_is)) c.put.ensures.ok
