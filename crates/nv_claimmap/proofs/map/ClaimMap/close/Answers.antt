@@ -42,3 +42,6 @@ returns-clause-second c = λ b. (ends c).second_has b ∙ ap (λ ps. min 1 (clai
 
 pub returns-clause-second_words : goal.returns-clause-second_words
 returns-clause-second_words c = (ends c).second_words
+
+pub returns-clause-claims : goal.returns-clause-claims
+returns-clause-claims c = claims c
