@@ -1,7 +1,8 @@
 -- Counting what is named, one after another.
 use Rattle.std.proofs.Common.{◌≡◌, ◌≢◌, ℕ, ◌+◌, ◌<◌, ◌≤◌, eqb, Bool, true, false, cond, List, [], ◌∷◌, ◌++◌, length, get_or, take, map, refl, ap, sym, ◌∙◌, arith, eq-eqb, get_or-set_same, get_or-set_other, Option, Some, None, append-nil}
 use Rattle.std.proofs.Math.ListN.{set, length-set}
-use Rattle.std.specs.List.{count_by, filter, filter_map, cons_option}
+use Rattle.std.specs.List.{count_by, filter, filter_map, flat_map, cons_option}
+use Rattle.std.proofs.lemmas.Grind.{flat_map-append}
 use Rattle.std.proofs.lemmas.List.Elements.{filter-append, filter_map-append}
 use Rattle.std.proofs.lemmas.List.Sums.{count_by_more_yes, count_by_more_no, count_by-le-length}
 use Rattle.std.proofs.lemmas.List.{length-take-le, take_more, append_assoc, map-append}
@@ -78,3 +79,15 @@ passes {A} test xs i d now new lt pass e h = e ∙ ap (λ (ys : List A). ys ++ g
 -- one more that doesn't
 pub stays : {A : Type 0} (test : A → Bool) (xs : List A) (i : ℕ) (d : A) (now new : List A) → i < length xs → test (get_or xs i d) ≡ false → new ≡ now → now ≡ filter test (take i xs) → new ≡ filter test (take (i + 1) xs)
 stays test xs i d now new lt fail e h = e ∙ h ∙ sym (append-nil (filter test (take i xs))) ∙ sym (filter_more test xs i d false lt fail)
+
+-- one element more of a copy
+pub copies : {A : Type 0} (xs : List A) (i : ℕ) (d : A) (old now new : List A) → i < length xs → new ≡ now ++ get_or xs i d ∷ [] → now ≡ old ++ take i xs → new ≡ old ++ take (i + 1) xs
+copies {A} xs i d old now new lt e h =
+    e ∙ ap (λ (ys : List A). ys ++ get_or xs i d ∷ []) h ∙ append_assoc old (take i xs) (get_or xs i d ∷ []) ∙ ap (λ (ys : List A). old ++ ys) (sym (take_more xs i d lt))
+
+-- one more list behind the others
+pub flats : {A B : Type 0} (f : A → List B) (xs : List A) (i : ℕ) (r : A) (old now new : List B) → i < length xs → r ≡ get_or xs i r → new ≡ now ++ f r → now ≡ old ++ flat_map f (take i xs) → new ≡ old ++ flat_map f (take (i + 1) xs)
+flats {A} {B} f xs i r old now new lt is e h =
+    e ∙ ap (λ (ys : List B). ys ++ f r) h ∙ append_assoc old (flat_map f (take i xs)) (f r)
+    ∙ ap (λ (ys : List B). old ++ ys) (sym (ap (flat_map f) (take_more xs i r lt) ∙ flat_map-append f (take i xs) (get_or xs i r ∷ [])
+    ∙ ap (λ (ys : List B). flat_map f (take i xs) ++ ys) (append-nil (f (get_or xs i r)) ∙ ap f (sym is))))

@@ -20,7 +20,7 @@ pub(crate) fn places_of(
     requires apart { AreNumbersBelow (inode_limit sup.now) (inodes_of listings.now) }
     ensures { IfOk result (λ table. ArePlaces listings.now table.items) }
 {
-    let mut places = vec![in alloc; None; sup.max_inode() as usize + 1]?;
+    let mut places = vec![in alloc; None; sup.inode_limit() as usize]?;
     for (place, listing) in listings.iter().enumerate() {
         places[listing.inode as usize] = Some(place);
     }

@@ -1,11 +1,30 @@
-use Rattle.std.proofs.Common.{◌≡◌, ◌∙◌, ◌<◌, ◌+◌, ℕ, sym, arith, length, get_or, Some, subst}
+use Rattle.std.proofs.Common.{rules, ◌≡◌, ◌∙◌, ◌<◌, ◌+◌, ℕ, List, Option, sym, ap, arith, length, get_or, None, Some, subst}
 use Rattle.std.proofs.Math.ListN.{set, length-set}
+use Rattle.std.proofs.lemmas.List.{length-replicate}
+use Rattle.std.proofs.lemmas.Result.{IfOk-from_err}
 use Rattle.nv_super.specs.Layout.{inode_limit}
 use Rattle.nv_check.specs.Listings.{inodes_of}
 use Rattle.nv_check.specs.Steps.{ArePlacesTo}
-use Rattle.nv_check.proofs.PlaceTable.{places_more}
+use Rattle.nv_check.proofs.PlaceTable.{places_more, places_none}
 use Rattle.nv_check.proofs.Follow.{inodes_len, inode_at, below_limit}
 use Rattle.nv_check.proofs.places.places_of.Goals as goal
+
+pub inode_limit-requires : goal.inode_limit-requires
+inode_limit-requires c = c.requires.layout.areas
+
+pub returns-in_err-places : goal.returns-in_err-places
+returns-in_err-places c = IfOk-from_err c.from_residual.result _ c.from_residual.ensures.0
+
+pub loop-place-init : goal.loop-place-init
+loop-place-init c =
+    let e = c.in_ok-places.ensures.items_if_clones_equal (λ y h. search rules) in
+    let P : List (Option ℕ) → Type 0 = λ table. ArePlacesTo (inodes_of c.args.listings.now) 0 table in (
+      ap length e ∙ length-replicate c.inode_limit.result None ∙ c.inode_limit.ensures,
+      subst P (sym e) (places_none (inodes_of c.args.listings.now) c.inode_limit.result),
+    )
+
+pub bounds-listings-place : goal.bounds-listings-place
+bounds-listings-place c = c.loop-place-test.true
 
 pub index_mut-requires : goal.index_mut-requires
 index_mut-requires c =
