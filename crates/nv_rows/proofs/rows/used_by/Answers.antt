@@ -1,10 +1,11 @@
-use Rattle.std.proofs.Common.{ℕ, ◌<◌, List, length, get_or, ap, ◌∙◌, arith, subst, sym}
+use Rattle.std.proofs.Common.{◌≡◌, ℕ, ◌<◌, List, [], length, get_or, replicate, ap, ◌∙◌, arith, subst, sym}
 use Rattle.std.proofs.lemmas.List.{take_all, take_more}
+use Rattle.nv_blockset.specs.BlockSet.{words_for}
 use Rattle.nv_blockset.proofs.Sets.{with_block_long}
 use Rattle.nv_super.specs.Layout.{inode_limit}
 use Rattle.nv_rows.specs.InUse.{HasUsed, place_of}
 use Rattle.nv_rows.proofs.Early.{if_ok_err}
-use Rattle.nv_rows.proofs.UsedPlaces.{all_written, word_there, HasUsed-more, below_front}
+use Rattle.nv_rows.proofs.UsedPlaces.{all_written, word_there, HasUsed-none, HasUsed-more, below_front}
 use Rattle.nv_rows.proofs.rows.used_by.Goals as goal
 
 pub insert-requires : goal.insert-requires
@@ -27,6 +28,13 @@ loop-number-preserved c =
     let long = ap length put ∙ with_block_long used (place_of s number) in
     rw (all_written c.loop-number.used.len used c.insert.new.words c.loop-number.used.ok.0 long, take_more numbers n 0 inside, put)
     (HasUsed-more s c.requires.layout _ used number (c.requires.numbers.below n inside) (below_front (inode_limit s) numbers n c.requires.numbers (omega (arith, inside))) c.loop-number.invariant)
+
+pub loop-number-init : goal.loop-number-init
+loop-number-init c =
+    let s = c.args.sup.now in
+    let n : c.words_for.result ≡ words_for (inode_limit s) = c.words_for.ensures ∙ ap words_for c.inode_limit.ensures in
+    subst (λ (used : List ℕ). HasUsed s [] used)
+    (sym (c.in_ok-used.ensures.items_if_clones_equal (λ y h. h) ∙ ap (λ (m : ℕ). replicate m 0) n)) (HasUsed-none s c.requires.layout)
 
 pub inode_limit-requires : goal.inode_limit-requires
 inode_limit-requires c = c.requires.layout.areas
