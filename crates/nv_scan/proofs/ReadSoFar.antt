@@ -1,15 +1,18 @@
--- What was read so far, at the head and after one entry more.
+-- What was read so far, at the head and after one entry more, and in all.
 use Rattle.std.proofs.Common.{◌≡◌, ℕ, List, [], ◌∷◌, ◌++◌, sym, subst}
 use Rattle.nv_region.specs.Region.{Region}
 use Rattle.nv_super.specs.declared.superblock.Super.{Super}
 use Rattle.nv_super.specs.declared.kind.Kind.{Kind}
+use Rattle.nv_inode.specs.declared.slot.Slot.{Slot}
 use Rattle.nv_logpage.specs.declared.found.Placed.{Placed}
 use Rattle.nv_logpage.specs.declared.found.Finding.{Finding}
-use Rattle.nv_logpage.specs.declared.found.Finding.TheVariants.{Entry}
+use Rattle.nv_logpage.specs.declared.found.Finding.TheVariants.{Entry, End}
+use Rattle.nv_logpage.specs.Reads.{Reads}
 use Rattle.nv_logpage.specs.Progress.{Progress, at_head, Leads, Continues}
 use Rattle.nv_logpage.proofs.Progress.{leads_start}
 use Rattle.nv_scan.specs.Fold.{Holds, Takes}
-use Rattle.nv_scan.specs.Reading.{IsReadSoFar}
+use Rattle.nv_scan.specs.Reading.{IsRead, IsReadSoFar}
+use Rattle.nv_scan.specs.declared.reading.Read.{Read}
 use Rattle.nv_scan.specs.declared.fold.Fold.{Fold}
 use Rattle.nv_scan.proofs.Steps.{Holds-more}
 
@@ -23,4 +26,15 @@ read_more R head s kind i created r r' old new found x so_far goes is p q t = re
   entries = so_far.entries ++ x ∷ [];
   leads = subst (λ (f : Finding). Continues R head r' so_far.entries f) is (goes head so_far.entries so_far.leads);
   holds = subst (λ (n : Super). Holds n kind i created (so_far.entries ++ x ∷ []) new) (sym q) (Holds-more (subst (λ (n : Super). Holds n kind i created so_far.entries old) p so_far.holds) t);
+}
+
+-- the whole log, once its end is found
+pub read_whole : (R : Region) (s : Super) (kind : Kind) (i : ℕ) (slot : Slot) (r r' : Progress) (found : Finding) (read : Read)
+    → IsReadSoFar R slot.head kind i slot.created r read.fold → ((h : ℕ) (es : List Placed) → Leads R h r es → Continues R h r' es found) → found ≡ End read.fault
+    → r.sup ≡ s → r'.sup ≡ s → r'.tail ≡ slot.tail → read.pages.items ≡ r'.pages → IsRead R s i kind slot read
+read_whole R s kind i slot r r' found read so_far goes is p q t pages = record {
+  entries = so_far.entries;
+  reads = subst (λ (z : Super × ℕ × List ℕ). Reads R z.0 slot.head z.1 so_far.entries z.2 read.fault) (λ k. (q k, t k, sym pages k))
+      (subst (λ (f : Finding). Continues R slot.head r' so_far.entries f) is (goes slot.head so_far.entries so_far.leads));
+  holds = subst (λ (n : Super). Holds n kind i slot.created so_far.entries read.fold) p so_far.holds;
 }

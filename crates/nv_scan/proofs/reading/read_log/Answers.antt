@@ -1,8 +1,9 @@
 use Rattle.std.proofs.Common.{◌≡◌, ap, ◌∙◌, refl}
+use Rattle.std.proofs.lemmas.Result.{IfOk-from_err}
 use Rattle.nv_logpage.specs.Progress.{Progress, after}
 use Rattle.nv_logpage.specs.declared.found.Finding.TheVariants.{Entry}
 use Rattle.nv_logpage.specs.Light.{placed_in, finding_in}
-use Rattle.nv_scan.proofs.ReadSoFar.{read_none, read_more}
+use Rattle.nv_scan.proofs.ReadSoFar.{read_none, read_more, read_whole}
 use Rattle.nv_scan.proofs.reading.read_log.Goals as goal
 
 pub reading-init : goal.reading-init
@@ -23,3 +24,33 @@ reading-preserved-in_ok-take-in-Entry g c =
       tail = ap (λ (r : Progress). r.tail) moved ∙ c.reading.invariant.tail;
       so_far = read_more _ _ c.args.sup.now _ _ _ c.reading.reader _ c.reading.fold _ (finding_in R _) (placed_in R c.in-Entry.placed) c.reading.invariant.so_far c.in_ok-placed.ensures.leads is c.reading.invariant.sup sup c.in_ok-take-in-Entry.ensures;
     }
+
+pub returns-in-End-clause-read : goal.returns-in-End-clause-read
+returns-in-End-clause-read g c =
+    let R = g.P.Pmem.region c.args.memory.now in
+    let is = ap (finding_in R) c.in-End.is in
+    let moved : c.next_light.new.self ≡ c.reading.reader = c.in_ok-placed.ensures.moves ∙ ap (after c.reading.reader) is in
+    read_whole R c.args.sup.now c.args.used.now.kind c.args.used.now.inode c.args.used.now.slot c.reading.reader c.next_light.new.self (finding_in R _) _
+    c.reading.invariant.so_far c.in_ok-placed.ensures.leads is c.reading.invariant.sup (ap (λ (r : Progress). r.sup) moved ∙ c.reading.invariant.sup) (ap (λ (r : Progress). r.tail) moved ∙ c.reading.invariant.tail)
+    (c.in_ok-from_slice-in-End.ensures.ok ∙ c.pages.ensures)
+
+pub returns-in-End-clause-reader : goal.returns-in-End-clause-reader
+returns-in-End-clause-reader g c = c.next_light.ensures.same_log.0 ∙ c.reading.invariant.sup
+
+pub returns-in_err-placed-clause-read : goal.returns-in_err-placed-clause-read
+returns-in_err-placed-clause-read g c = IfOk-from_err c.from_residual.result _ c.from_residual.ensures.0
+
+pub returns-in_err-placed-clause-reader : goal.returns-in_err-placed-clause-reader
+returns-in_err-placed-clause-reader g c = c.next_light.ensures.same_log.0 ∙ c.reading.invariant.sup
+
+pub returns-in_err-take-in-Entry-clause-read : goal.returns-in_err-take-in-Entry-clause-read
+returns-in_err-take-in-Entry-clause-read g c = IfOk-from_err c.from_residual-in_err-take-in-Entry.result _ c.from_residual-in_err-take-in-Entry.ensures.0
+
+pub returns-in_err-take-in-Entry-clause-reader : goal.returns-in_err-take-in-Entry-clause-reader
+returns-in_err-take-in-Entry-clause-reader g c = c.next_light.ensures.same_log.0 ∙ c.reading.invariant.sup
+
+pub returns-in_err-from_slice-in-End-clause-read : goal.returns-in_err-from_slice-in-End-clause-read
+returns-in_err-from_slice-in-End-clause-read g c = IfOk-from_err c.from_residual-in_err-from_slice-in-End.result _ c.from_residual-in_err-from_slice-in-End.ensures.0
+
+pub returns-in_err-from_slice-in-End-clause-reader : goal.returns-in_err-from_slice-in-End-clause-reader
+returns-in_err-from_slice-in-End-clause-reader g c = c.next_light.ensures.same_log.0 ∙ c.reading.invariant.sup

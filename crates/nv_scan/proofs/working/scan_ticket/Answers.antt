@@ -1,8 +1,9 @@
-use Rattle.std.proofs.Common.{◌≡◌, ◌∙◌, ◌+◌, ◌*◌, ◌++◌, ℕ, List, Option, sym, ap, subst, arith, refl}
+use Rattle.std.proofs.Common.{◌≡◌, ◌∙◌, ◌+◌, ◌*◌, ◌++◌, ℕ, List, Option, sym, ap, subst, refl}
+use Rattle.std.proofs.Math.Nat.{le_antisymm}
 use Rattle.std.specs.Prelude.{Vec}
 use Rattle.std.specs.declared.alloc.Global.{Global}
 use Rattle.std.specs.List.{All}
-use Rattle.nv_region.specs.Region.{Region}
+use Rattle.nv_region.specs.Region.{Region, HasBlocks}
 use Rattle.nv_super.specs.Layout.{fixed_layout}
 use Rattle.nv_super.specs.declared.superblock.Super.{Super}
 use Rattle.nv_super.specs.declared.faults.Fault.{Fault}
@@ -67,4 +68,34 @@ loop-slot-preserved g c =
     ]
 
 pub returns-clause-done : goal.returns-clause-done
-returns-clause-done g c = all_slots c.args.ticket c.loop-slot.slot (let e = c.loop-slot-test.false in let r = c.loop-slot.auto.slot-end in omega (arith, e, r)) c.loop-slot.invariant.done
+returns-clause-done g c = all_slots c.args.ticket c.loop-slot.slot (le_antisymm c.loop-slot.auto.slot-end c.loop-slot-test.false) c.loop-slot.invariant.done
+
+pub scan_place-requires-clause-blocks : goal.scan_place-requires-clause-blocks
+scan_place-requires-clause-blocks g c = subst (λ (s : Super). HasBlocks (g.P.Pmem.region c.args.memory.now) s.blocks) (sym c.loop-slot.invariant.scanner) c.requires.blocks
+
+pub claim_all-requires-clause-own : goal.claim_all-requires-clause-own
+claim_all-requires-clause-own g c = c.loop-slot.invariant.map ∙ c.requires.own
+
+pub returns-clause-scanner : goal.returns-clause-scanner
+returns-clause-scanner g c = c.loop-slot.invariant.scanner
+
+pub returns-clause-seat : goal.returns-clause-seat
+returns-clause-seat g c = let l = c.loop-slot.invariant in (l.map, l.number, l.seats)
+
+pub returns-in_err-piece-clause-scanner : goal.returns-in_err-piece-clause-scanner
+returns-in_err-piece-clause-scanner g c = c.scan_place.ensures.same ∙ c.loop-slot.invariant.scanner
+
+pub returns-in_err-piece-clause-seat : goal.returns-in_err-piece-clause-seat
+returns-in_err-piece-clause-seat g c = let l = c.loop-slot.invariant in (l.map, l.number, l.seats)
+
+pub returns-in_err-claim_all-clause-scanner : goal.returns-in_err-claim_all-clause-scanner
+returns-in_err-claim_all-clause-scanner g c = c.scan_place.ensures.same ∙ c.loop-slot.invariant.scanner
+
+pub returns-in_err-claim_all-clause-seat : goal.returns-in_err-claim_all-clause-seat
+returns-in_err-claim_all-clause-seat g c = let l = c.loop-slot.invariant in let s = c.claim_all.ensures.same in (s.0 ∙ l.map, s.1 ∙ l.number, s.2 ∙ l.seats)
+
+pub returns-in_err-keep-clause-scanner : goal.returns-in_err-keep-clause-scanner
+returns-in_err-keep-clause-scanner g c = c.reuse.ensures ∙ c.scan_place.ensures.same ∙ c.loop-slot.invariant.scanner
+
+pub returns-in_err-keep-clause-seat : goal.returns-in_err-keep-clause-seat
+returns-in_err-keep-clause-seat g c = let l = c.loop-slot.invariant in let s = c.claim_all.ensures.same in (s.0 ∙ l.map, s.1 ∙ l.number, s.2 ∙ l.seats)

@@ -1,5 +1,6 @@
 use Rattle.std.proofs.Common.{◌≡◌, ◌≢◌, ◌∙◌, sym, ap, subst, None}
 use Rattle.std.specs.Result.{IfOk}
+use Rattle.nv_region.specs.Region.{HasBlocks}
 use Rattle.nv_super.specs.declared.superblock.Super.{Super}
 use Rattle.nv_super.specs.Layout.{fixed_layout}
 use Rattle.nv_inode.specs.Slot.{kind_in, kind_of}
@@ -29,3 +30,25 @@ returns-in-BadKind-clause-piece g c = let s = c.self.inside.sup in
     (bad_kind_result (g.P.Pmem.region c.args.memory.now) s c.args.inode c.without_row-in-BadKind.result c.self.invariant.layout (rw c.self.view_is c.requires.number)
     (subst (λ (t : Slot). kind_of t ≡ None) c.read_slot-slot.ensures (sym c.state.ensures.in_use ∙ ap kind_in c.in-BadKind.is))
     (subst (λ (t : Slot). t.valid ≡ 1) c.read_slot-slot.ensures (c.state.ensures.bad_kind.0 c.in-BadKind.is).0) c.without_row-in-BadKind.ensures)
+
+pub returns-in-InUse-clause-piece : goal.returns-in-InUse-clause-piece
+returns-in-InUse-clause-piece g c =
+    subst (λ (s : Super). IfOk c.scan_log.result (λ p. IsPiece (g.P.Pmem.region c.args.memory.now) (fixed_layout s) p)) c.self.view_is c.scan_log.ensures.piece
+
+pub scan_log-requires-clause-layout : goal.scan_log-requires-clause-layout
+scan_log-requires-clause-layout g c = c.self.invariant.layout
+
+pub scan_log-requires-clause-blocks : goal.scan_log-requires-clause-blocks
+scan_log-requires-clause-blocks g c = subst (λ (s : Super). HasBlocks (g.P.Pmem.region c.args.memory.now) s.blocks) (sym c.self.view_is) c.requires.blocks
+
+pub scan_log-requires-clause-number : goal.scan_log-requires-clause-number
+scan_log-requires-clause-number g c = rw c.self.view_is c.requires.number
+
+pub scan_log-requires-clause-slot : goal.scan_log-requires-clause-slot
+scan_log-requires-clause-slot g c = c.read_slot-slot.ensures
+
+pub scan_log-requires-clause-kind : goal.scan_log-requires-clause-kind
+scan_log-requires-clause-kind g c = sym c.state.ensures.in_use ∙ ap kind_in c.in-InUse.is
+
+pub scan_log-requires-clause-reader : goal.scan_log-requires-clause-reader
+scan_log-requires-clause-reader g c = c.self.invariant.reader

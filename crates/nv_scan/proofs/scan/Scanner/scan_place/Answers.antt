@@ -1,6 +1,8 @@
-use Rattle.std.proofs.Common.{◌≡◌, ◌∙◌, ap, subst, ℕ, IsTrue, sym}
+use Rattle.std.proofs.Common.{◌≡◌, ◌∙◌, ◌<◌, ap, subst, ℕ, IsTrue, sym}
+use Rattle.std.proofs.lemmas.Result.{IfOk-from_err}
+use Rattle.nv_region.specs.Region.{HasBlocks}
 use Rattle.nv_super.specs.declared.superblock.Super.{Super}
-use Rattle.nv_super.specs.Layout.{IsLayout, is_number, fixed_layout}
+use Rattle.nv_super.specs.Layout.{IsLayout, inode_limit, is_number, fixed_layout}
 use Rattle.nv_scan.specs.Rows.{IsPiece}
 use Rattle.nv_scan.specs.Tickets.{number_at, IsBlank, HasValidWord}
 use Rattle.nv_scan.proofs.Told.{piece_tells}
@@ -28,3 +30,18 @@ returns-clause-found g c =
       piece,
       piece_tells R s (number_at s m) layout used.0 c.in_ok-scan_one.field-0 same piece used.1,
     )
+
+pub is_blank-requires-clause-layout : goal.is_blank-requires-clause-layout
+is_blank-requires-clause-layout g c = c.self.invariant.layout
+
+pub is_blank-requires-clause-blocks : goal.is_blank-requires-clause-blocks
+is_blank-requires-clause-blocks g c = subst (λ (s : Super). HasBlocks (g.P.Pmem.region c.args.memory.now) s.blocks) (sym c.self.view_is) c.requires.blocks
+
+pub is_blank-requires-clause-place : goal.is_blank-requires-clause-place
+is_blank-requires-clause-place g c = subst (λ (s : Super). c.args.place < inode_limit s) (sym c.self.view_is) c.requires.place
+
+pub scan_one-requires-clause-blocks : goal.scan_one-requires-clause-blocks
+scan_one-requires-clause-blocks g c = subst (λ (s : Super). HasBlocks (g.P.Pmem.region c.args.memory.now) s.blocks) (sym c.self.view_is) c.requires.blocks
+
+pub returns-in_err-scan_one-clause-found : goal.returns-in_err-scan_one-clause-found
+returns-in_err-scan_one-clause-found g c = IfOk-from_err c.from_residual.result _ c.from_residual.ensures.0
