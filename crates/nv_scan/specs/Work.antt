@@ -58,6 +58,11 @@ pub record IsDone (R : Region) (s : Super) (numbers : List ℕ) (v w : View) (ol
   pub rows_are : rows ≡ old_rows ++ rows_in pieces
   pub faults_are : faults ≡ old_faults ++ faults_in pieces
 
+-- The same of all tickets that were drawn, the last draw being past the end.
+pub record IsAllWork (R : Region) (s : Super) (v : View) (rows : List Row) (faults : List Fault) : Type 0 where
+  pub ended : 0 < past (ticket_count s) v.numbers
+  pub work : IsWork R s v rows faults
+
 -- What a worker gives back: its seat; and, unless it was refused memory, the rows and the faults of all tickets that the seat drew, the last draw being past the end.
 pub record Returned (R : Region) (s : Super) (m : MapId) (r : WorkerResult) : Type 0 where
   pub map : r.seat.map ≡ m

@@ -6,7 +6,7 @@ ghost use Rattle.nv_region.specs.Region.{HasBlocks};
 ghost use Rattle.nv_super.specs.Layout.{IsLayout};
 ghost use Rattle.nv_claimmap.specs.nv_claimcore.Claims.{nothing};
 ghost use Rattle.nv_scan.specs.Tickets.{ticket_count, numbers_of};
-ghost use Rattle.nv_scan.specs.Work.{IsDone, Returned};
+ghost use Rattle.nv_scan.specs.Work.{IsAllWork, IsDone, Returned};
 
 use crate::claiming::claim_all;
 use crate::piece::{Piece, Row};
@@ -65,37 +65,56 @@ pub fn worker<P: Pmem, G: Gate>(
     ensures number { result.seat.number ≡ seat.number }
     ensures refused { IsTrue result.refused → (result.rows.items ≡ []) × (result.faults.items ≡ []) }
 {
-    let mut scanner = Scanner::new(alloc, sup);
     let mut rows = Vec::new(alloc);
     let mut faults = Vec::new(alloc);
-    while let Some(ticket) = map.draw(&mut seat) {
+    let mut scanner = Scanner::new(alloc, sup);
+    match draw_all(
+        memory,
+        &mut scanner,
+        map,
+        &mut seat,
+        gate,
+        &mut rows,
+        &mut faults,
+    ) {
+        Ok(()) => WorkerResult {
+            seat,
+            rows,
+            faults,
+            refused: false,
+        },
+        Err(AllocError) => WorkerResult {
+            seat,
+            rows: Vec::new(alloc),
+            faults: Vec::new(alloc),
+            refused: true,
+        },
+    }
+}
+
+/// Does the work of one ticket after another until none is left.
+fn draw_all<P: Pmem, G: Gate>(
+    memory: &P,
+    scanner: &mut Scanner,
+    map: &ClaimMap,
+    seat: &mut ClaimSeat,
+    gate: &G,
+    rows: &mut Vec<Row>,
+    faults: &mut Vec<Fault>,
+) -> Result<(), AllocError>
+    requires layout { IsLayout scanner.old }
+    requires blocks { HasBlocks (P.region memory.now) scanner.old.blocks }
+    requires own { (seat.old.map ≡ map.now) × (seat.old.view ≡ nothing 1) }
+    requires sizes { (map.now.sizes.blocks ≡ scanner.old.blocks) × (map.now.sizes.tickets ≡ ticket_count scanner.old) }
+    requires none { (rows.old.items ≡ []) × (faults.old.items ≡ []) }
+    ensures seat { (seat.new.map ≡ map.now) × (seat.new.number ≡ seat.old.number) × (seat.new.view.seats ≡ 1) }
+    ensures done { OnOk result (IsAllWork (P.region memory.now) scanner.old seat.new.view rows.new.items faults.new.items) }
+{
+    while let Some(ticket) = map.draw(seat) {
         gate.enter(seat.number(), ticket);
-        match scan_ticket(
-            memory,
-            &mut scanner,
-            map,
-            &mut seat,
-            &mut rows,
-            &mut faults,
-            ticket,
-        ) {
-            Ok(()) => {}
-            Err(AllocError) => {
-                return WorkerResult {
-                    seat,
-                    rows: Vec::new(alloc),
-                    faults: Vec::new(alloc),
-                    refused: true,
-                };
-            }
-        }
+        scan_ticket(memory, scanner, map, seat, rows, faults, ticket)?;
     }
-    WorkerResult {
-        seat,
-        rows,
-        faults,
-        refused: false,
-    }
+    Ok(())
 }
 
 /// Does the work of one ticket: the inodes of its table block are scanned, what each owns is claimed, and its row and its

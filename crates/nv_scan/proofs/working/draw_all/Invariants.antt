@@ -1,15 +1,15 @@
 use Rattle.std.proofs.Common.{◌≡◌, ◌-◌}
 use Rattle.nv_claimmap.specs.nv_claimcore.Claims.{above}
 use Rattle.nv_scan.specs.Work.{IsWork}
-use Rattle.nv_scan.proofs.working.worker.Given as goal
+use Rattle.nv_scan.proofs.working.draw_all.Given as goal
 
 abbrev pub invariant-loop-ticket : goal.invariant-loop-ticket
 invariant-loop-ticket g l = record {
-  scanner : l.scanner ≡ l.sup;
+  scanner : l.scanner ≡ l.fn.scanner;
   map : l.seat.map ≡ l.map;
   number : l.seat.number ≡ l.fn.seat.number;
   seats : l.seat.view.seats ≡ 1;
-  work : IsWork (g.P.Pmem.region l.memory) l.sup l.seat.view l.rows.items l.faults.items;
+  work : IsWork (g.P.Pmem.region l.memory) l.fn.scanner l.seat.view l.rows.items l.faults.items;
 }
 
 abbrev pub decreases-loop-ticket : goal.decreases-loop-ticket
