@@ -1,4 +1,5 @@
-use Rattle.std.proofs.Common.{◌≡◌, ◌++◌, ◌∷◌, [], arith, sym, ◌∙◌, ◌<◌, length, ap}
+use Rattle.std.proofs.Common.{◌≡◌, ◌++◌, ◌∷◌, [], ℕ, arith, sym, ◌∙◌, ◌<◌, length, ap, subst}
+use Rattle.std.proofs.lemmas.Result.{IfOk-from_err}
 use Rattle.nv_super.specs.declared.faults.Fault.TheVariants as faults
 use Rattle.nv_check.proofs.Adds.{adds_one, adds_skip}
 use Rattle.nv_check.proofs.walk.push_unreached.Goals as goal
@@ -16,3 +17,9 @@ loop-place-preserved c =
           (let e : c.if-not-marks-place.faults.items ≡ c.loop-place.faults.items = ap (λ v. v.items) w.faults-is in
           rw e (adds_skip _ _ _ _ _ w.if-not-marks-place.false c.loop-place.invariant))
     ]
+
+pub bounds-marks-place : goal.bounds-marks-place
+bounds-marks-place c = subst (λ (n : ℕ). c.loop-place.place < n) (sym c.requires) c.loop-place-test.true
+
+pub returns-in_err-push : goal.returns-in_err-push
+returns-in_err-push c = IfOk-from_err c.from_residual.result _ c.from_residual.ensures.0
