@@ -15,6 +15,8 @@ use Rattle.nv_scan.specs.declared.numbers.Numbers.{Numbers}
 use Rattle.nv_held.specs.Held.{Held, Store, good_in}
 use Rattle.nv_held.specs.Mounted.{KeepsRow}
 use Rattle.nv_commit.specs.Extends.{extended}
+use Rattle.nv_steps.specs.Attributes.{HasAttributes}
+use Rattle.nv_steps.specs.Grown.{HasGrown}
 use Rattle.nv_steps.specs.Steps.{AppendsLog, LogFollows, ShowsRow}
 use Rattle.nv_steps.proofs.AttrEntries.{attr_clean, attr_file, attr_names, attr_numbers}
 use Rattle.nv_steps.proofs.LogGrows.{can_extend, log_follows, pages_now}
@@ -22,6 +24,21 @@ use Rattle.nv_steps.proofs.LogGrows.{can_extend, log_follows, pages_now}
 -- the numbers with what an attributes entry says
 abbrev pub numbers_with : Numbers → AttrEntry → Numbers
 numbers_with n x = record { size = x.size; mode = x.mode; owner = x.owner; group = x.group; links = n.links; time = x.time }
+
+-- The row has what the entry says, and there is nothing else new but of the log.
+pub has_attributes : {row mid : Row} {fresh : List ℕ} {end : ℕ} (x : AttrEntry) {n : Numbers} → HasGrown row fresh end mid → n ≡ numbers_with mid.numbers x → x.size ≡ row.numbers.size → HasAttributes row x (record mid { numbers = n })
+has_attributes {row} {mid} {fresh} {end} x {n} grown says size = record {
+  inode = grown.inode;
+  kind = grown.kind;
+  size = ap (λ (m : Numbers). m.size) says ∙ size;
+  mode = ap (λ (m : Numbers). m.mode) says;
+  owner = ap (λ (m : Numbers). m.owner) says;
+  group = ap (λ (m : Numbers). m.group) says;
+  links = ap (λ (m : Numbers). m.links) says ∙ ap (λ (m : Numbers). m.links) grown.numbers;
+  time = ap (λ (m : Numbers). m.time) says;
+  index = grown.index;
+  names = grown.names;
+}
 
 module _ {R S : Region} {s : Super} {held : Store} {h : Held} {row mid : Row} {free after : FreeLists} (x : AttrEntry) (shows : ShowsRow R s held h row free) (lists : free.sup ≡ s) (a : AppendsLog R S s free after row mid (Attr x ∷ [])) (mode : x.mode ≤ 4095) (size : x.size ≡ row.numbers.size) where
   abbrev now : Held

@@ -1,4 +1,5 @@
 pub mod RowOf
+pub mod Refusals
 pub mod Singles
 pub mod TakenBlocks
 pub mod LogGrows
@@ -18,6 +19,7 @@ pub mod Committed
 pub mod WriteFollows
 pub mod WrittenRow
 pub mod PlanRight
+pub mod PlanMade
 pub mod WrittenBytes
 pub mod WriteSteps
 pub mod WritesFile

@@ -1,5 +1,5 @@
 -- Numbers that calls owe, apart from all else that is known there.
-use Rattle.std.proofs.Common.{ℕ, ◌≡◌, ◌+◌, ◌<◌, ◌≤◌, List, [], ◌∷◌, ap, drop, length, length-drop, arith, IsTrue}
+use Rattle.std.proofs.Common.{ℕ, ◌≡◌, ◌+◌, ◌%◌, ◌<◌, ◌≤◌, List, [], ◌∷◌, ap, drop, length, length-drop, arith, IsTrue}
 use Rattle.std.proofs.lemmas.Bool.Decides.{nat_tests}
 use Rattle.nv_super.specs.declared.superblock.Super.{Super}
 use Rattle.nv_super.specs.Layout.{inode_limit, is_number}
@@ -24,3 +24,10 @@ others_fit len cap xs bs is room =
 -- an entry ends behind its length
 pub ends_behind : (end len : ℕ) (fresh : List ℕ) (tail : ℕ) (e : Entry) → end ≡ end_of fresh 0 tail (e ∷ []) → len ≡ entry_length e → len ≤ end
 ends_behind end len fresh tail e ends is = omega (arith, ends, is)
+
+-- what an extension stores of a slot lies inside with the slot
+pub slot_word_inside : (a slot end : ℕ) → a ≡ slot → slot + 128 ≤ end → a + 32 ≤ end
+slot_word_inside a slot end at inside = omega (arith, at, inside)
+
+pub slot_word_whole : (a slot : ℕ) → a ≡ slot → slot % 128 ≡ 0 → a % 8 ≡ 0
+slot_word_whole a slot at whole = omega (arith, at, whole)

@@ -1,8 +1,8 @@
 -- Takes of one block.
-use Rattle.std.proofs.Common.{◌≡◌, ℕ, ◌-◌, ◌<◌, ◌≤◌, inl, inr, List, [], ◌∷◌, ◌++◌, length, get_or, refl, ap, sym, ◌∙◌, subst, arith}
+use Rattle.std.proofs.Common.{◌≡◌, ℕ, ◌-◌, ◌<◌, ◌≤◌, inl, inr, List, [], ◌∷◌, ◌++◌, append_assoc, length, get_or, refl, ap, sym, ◌∙◌, subst, arith}
 use Rattle.std.proofs.Math.ListN.{set}
 use Rattle.std.proofs.lemmas.Bool.{cases_lt}
-use Rattle.std.proofs.lemmas.List.{get_or-set_same, get_or-set_other}
+use Rattle.std.proofs.lemmas.List.{append-nil, get_or-set_same, get_or-set_other}
 use Rattle.nv_super.specs.declared.owners.Run.{Run}
 use Rattle.nv_super.specs.declared.superblock.Super.{Super}
 use Rattle.nv_super.specs.Runs.{Apart, InRun}
@@ -88,6 +88,26 @@ one_given_back old mid now back cpu b below one same joins =
     let again : Joins mid (block_run b) back = record { sup = moved.sup; count = moved.count; each = moved.each } in
     let w = restores old mid back cpu 1 (block_run b ∷ []) one.before below one.took (back, again, refl) in
     record { sup = w.0; pools = w.1 }
+
+-- ---- blocks that stand behind others
+
+-- a block of the runs of one block
+pub some_runs : (runs : List Run) → blocks_in runs ≡ 1 → 0 < length runs
+some_runs [] one = absurd (omega (arith, one))
+some_runs (r ∷ runs) one = omega arith
+
+-- None were taken.
+pub onto_none : (a : FreeLists) (had : List ℕ) (n : ℕ) → n ≡ 0 → TakesOnto a had n a had
+onto_none a had n none = record { more = []; all = sym (append-nil had); count_is = sym none; takes = refl }
+
+-- One was taken and put there, and then the others.
+pub onto_more : {old mid new : FreeLists} {cpu b n : ℕ} {had now last : List ℕ} → 0 < n → TakesOne old cpu b mid → now ≡ had ++ b ∷ [] → TakesOnto mid now (n - 1) new last → TakesOnto old had n new last
+onto_more {old} {mid} {new} {cpu} {b} {n} {had} {now} {last} some one pushed rest = record {
+  more = b ∷ rest.more;
+  all = rest.all ∙ ap (λ (xs : List ℕ). xs ++ rest.more) pushed ∙ append_assoc had (b ∷ []) rest.more;
+  count_is = omega (arith, rest.count_is, some);
+  takes = (mid, record { sound = one.after; sup = one.took.sup; blocks = 1; leave = one.leave }, rest.takes);
+}
 
 -- What stands behind nothing is all that was taken.
 pub from_nothing : (old mid new : FreeLists) (count : ℕ) (had has' : List ℕ) → SamePools old mid → IsSound mid → had ≡ [] → TakesOnto mid had count new has' → TakesEach old has' new

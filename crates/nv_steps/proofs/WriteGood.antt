@@ -1,5 +1,5 @@
 -- The entries of a write behind a log: they are good, clean and quiet, and what they write was free.
-use Rattle.std.proofs.Common.{◌≡◌, ℕ, ◌+◌, ◌-◌, ◌*◌, ◌<◌, ◌≤◌, true, false, List, [], ◌∷◌, ◌++◌, append_assoc, get_or, length, refl, ap, sym, ◌∙◌, subst, arith, Some, None, inl, inr}
+use Rattle.std.proofs.Common.{◌≡◌, ℕ, ◌+◌, ◌-◌, ◌*◌, ◌<◌, ◌≤◌, nat_lt, nat_le, Bool, true, false, not, ◌||◌, ◌==◌, List, [], ◌∷◌, ◌++◌, append_assoc, get_or, length, refl, ap, sym, ◌∙◌, subst, arith, Some, None, inl, inr}
 use Rattle.std.specs.List.{All, Contains, cons_option}
 use Rattle.std.proofs.lemmas.List.{append-nil}
 use Rattle.std.proofs.lemmas.List.Elements.{Contains-get_or}
@@ -65,9 +65,22 @@ placed_count fresh k p (e ∷ entries) = (let rest = placed_count fresh (pages_a
 
 -- ---- one entry
 
+not_less : (a b : ℕ) → b ≤ a → nat_lt a b ≡ false
+not_less a b above = grind (arith, nat_tests)
+
+not_up_to : (a b : ℕ) → b < a → nat_le a b ≡ false
+not_up_to a b above = grind (arith, nat_tests)
+
+not_none : (n : ℕ) → 0 < n → (n == 0) ≡ false
+not_none n some = grind (arith, nat_tests)
+
+none_of : (a b c d e f : Bool) → a ≡ false → b ≡ false → c ≡ false → d ≡ false → e ≡ false → f ≡ false → (a || b || c || d || e || f) ≡ false
+none_of a b c d e f none_a none_b none_c none_d none_e none_f = rw (none_a, none_b, none_c, none_d, none_e, none_f) refl
+
 -- a write entry whose pages and blocks are right
 write_good : (s : Super) (w : WriteEntry) → 0 < w.count → w.offset + w.count ≤ 262144 → system_blocks s ≤ w.block → w.block + w.count ≤ s.blocks → w.size ≤ 1073741824 → (w.offset + w.count - 1) * 4096 < w.size → is_good s File (Write w) ≡ true
-write_good s w some pages from to small last = grind (arith, nat_tests)
+write_good s w some pages from to small last =
+    ap not (none_of _ _ _ _ _ _ (not_none w.count some) (not_less 262144 (w.offset + w.count) pages) (not_less w.block (system_blocks s) from) (not_less s.blocks (w.block + w.count) to) (not_less 1073741824 w.size small) (not_up_to w.size ((w.offset + w.count - 1) * 4096) last))
 
 good_content : (s : Super) (w : WriteEntry) → is_good s File (Write w) ≡ true → content_fault s File (Write w) ≡ None
 good_content s w good = (let right : is_write_out_of_range s w ≡ false = in_range s File (Write w) good in rw right refl)

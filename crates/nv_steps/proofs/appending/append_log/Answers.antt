@@ -1,7 +1,10 @@
-use Rattle.std.proofs.Common.{◌++◌, ◌∙◌, List, ℕ, ap}
+use Rattle.std.proofs.Common.{◌++◌, ◌∙◌, List, ℕ, ap, inl, inr, length, refl, subst, sym}
+use Rattle.smallvec.specs.SmallVec.{HasRoomFor}
 use Rattle.nv_region.proofs.Fuses.{keeps_within}
 use Rattle.nv_held.proofs.BytesKept.{mixed_size}
 use Rattle.nv_steps.proofs.LogGrows.{appends_log, can_append, stores_within_region}
+use Rattle.nv_steps.proofs.NumbersOwed.{slot_word_inside, slot_word_whole}
+use Rattle.nv_steps.proofs.Refusals.{no_space, memory_goes_on, no_space_goes_on}
 use Rattle.nv_steps.proofs.TakenBlocks.{taken_sup}
 use Rattle.nv_steps.proofs.appending.append_log.Goals as goal
 
@@ -43,3 +46,126 @@ returns-in-Ok-extend_log-clause-length g c = mixed_size c.extend_log.ensures.wro
 
 pub returns-clause-length : goal.returns-clause-length
 returns-clause-length g c = mixed_size c.extend_log.ensures.wrote.mixed
+
+pub slot_address-slot-requires-clause-layout : goal.slot_address-slot-requires-clause-layout
+slot_address-slot-requires-clause-layout g c = c.requires.stands.layout
+
+pub slot_address-slot-requires-clause-inode : goal.slot_address-slot-requires-clause-inode
+slot_address-slot-requires-clause-inode g c = c.requires.stands.number
+
+pub extend_log-requires-clause-inside : goal.extend_log-requires-clause-inside
+extend_log-requires-clause-inside g c = slot_word_inside c.slot_address-slot.result _ _ c.slot_address-slot.ensures c.requires.stands.inside
+
+pub settle_log-requires : goal.settle_log-requires
+settle_log-requires g c = subst (λ (blocks : List ℕ). HasRoomFor c.prepare_log.new.pages (length blocks)) (sym c.deref-in-Ok-extend_log.ensures.value) c.in-Ok.ensures.room
+
+pub returns-in-Err-NoSpace-clause-appended : goal.returns-in-Err-NoSpace-clause-appended
+returns-in-Err-NoSpace-clause-appended g c = tt
+
+pub returns-in-Err-NoSpace-clause-enough : goal.returns-in-Err-NoSpace-clause-enough
+returns-in-Err-NoSpace-clause-enough g c = tt
+
+pub returns-in-Err-NoSpace-clause-room : goal.returns-in-Err-NoSpace-clause-room
+returns-in-Err-NoSpace-clause-room g c = tt
+
+pub returns-in-Err-NoSpace-clause-settled : goal.returns-in-Err-NoSpace-clause-settled
+returns-in-Err-NoSpace-clause-settled g c = tt
+
+pub returns-in-Err-NoSpace-clause-refused : goal.returns-in-Err-NoSpace-clause-refused
+returns-in-Err-NoSpace-clause-refused g c = inr (inr (refl, no_space _ _ _ c.in-Err-NoSpace.ensures.err c.in-Err-NoSpace.field-0-is))
+
+pub returns-in-Err-NoSpace-clause-unchanged : goal.returns-in-Err-NoSpace-clause-unchanged
+returns-in-Err-NoSpace-clause-unchanged g c = λ _. record { memory = refl; free = c.in-Err-NoSpace.ensures.unchanged; row = record { inode = refl; kind = refl; numbers = refl; head = refl; tail = refl; pages = c.in-Err-NoSpace.ensures.pages; index = λ p. refl; names = λ q. refl } }
+
+pub returns-in-Err-NoSpace-clause-inode : goal.returns-in-Err-NoSpace-clause-inode
+returns-in-Err-NoSpace-clause-inode g c = refl
+
+pub returns-in-Err-NoSpace-clause-lists : goal.returns-in-Err-NoSpace-clause-lists
+returns-in-Err-NoSpace-clause-lists g c = c.in-Err-NoSpace.ensures.unchanged.sup
+
+pub returns-in-Err-NoSpace-clause-length : goal.returns-in-Err-NoSpace-clause-length
+returns-in-Err-NoSpace-clause-length g c = refl
+
+pub returns-in-Err-NoSpace-clause-keeps_fuse : goal.returns-in-Err-NoSpace-clause-keeps_fuse
+returns-in-Err-NoSpace-clause-keeps_fuse g c = record { burnt = λ was. was; steady = λ was. was; stays_open = λ limit past was. was }
+
+pub returns-in-Err-Memory-clause-appended : goal.returns-in-Err-Memory-clause-appended
+returns-in-Err-Memory-clause-appended g c = tt
+
+pub returns-in-Err-Memory-clause-enough : goal.returns-in-Err-Memory-clause-enough
+returns-in-Err-Memory-clause-enough g c = tt
+
+pub returns-in-Err-Memory-clause-room : goal.returns-in-Err-Memory-clause-room
+returns-in-Err-Memory-clause-room g c = tt
+
+pub returns-in-Err-Memory-clause-settled : goal.returns-in-Err-Memory-clause-settled
+returns-in-Err-Memory-clause-settled g c = tt
+
+pub returns-in-Err-Memory-clause-refused : goal.returns-in-Err-Memory-clause-refused
+returns-in-Err-Memory-clause-refused g c = inl refl
+
+pub returns-in-Err-Memory-clause-unchanged : goal.returns-in-Err-Memory-clause-unchanged
+returns-in-Err-Memory-clause-unchanged g c = λ _. record { memory = refl; free = c.in-Err-Memory.ensures.unchanged; row = record { inode = refl; kind = refl; numbers = refl; head = refl; tail = refl; pages = c.in-Err-Memory.ensures.pages; index = λ p. refl; names = λ q. refl } }
+
+pub returns-in-Err-Memory-clause-inode : goal.returns-in-Err-Memory-clause-inode
+returns-in-Err-Memory-clause-inode g c = refl
+
+pub returns-in-Err-Memory-clause-lists : goal.returns-in-Err-Memory-clause-lists
+returns-in-Err-Memory-clause-lists g c = c.in-Err-Memory.ensures.unchanged.sup
+
+pub returns-in-Err-Memory-clause-length : goal.returns-in-Err-Memory-clause-length
+returns-in-Err-Memory-clause-length g c = refl
+
+pub returns-in-Err-Memory-clause-keeps_fuse : goal.returns-in-Err-Memory-clause-keeps_fuse
+returns-in-Err-Memory-clause-keeps_fuse g c = record { burnt = λ was. was; steady = λ was. was; stays_open = λ limit past was. was }
+
+pub returns-in-Ok-extend_log-clause-enough : goal.returns-in-Ok-extend_log-clause-enough
+returns-in-Ok-extend_log-clause-enough g c = c.in-Ok.ensures.enough
+
+pub returns-in-Ok-extend_log-clause-room : goal.returns-in-Ok-extend_log-clause-room
+returns-in-Ok-extend_log-clause-room g c = c.in-Ok.ensures.given_back
+
+pub returns-in-Ok-extend_log-clause-settled : goal.returns-in-Ok-extend_log-clause-settled
+returns-in-Ok-extend_log-clause-settled g c = c.in-Ok-extend_log.ensures.settled
+
+pub returns-in-Ok-extend_log-clause-refused : goal.returns-in-Ok-extend_log-clause-refused
+returns-in-Ok-extend_log-clause-refused g c = tt
+
+pub returns-in-Ok-extend_log-clause-unchanged : goal.returns-in-Ok-extend_log-clause-unchanged
+returns-in-Ok-extend_log-clause-unchanged g c = tt
+
+pub returns-in-Ok-extend_log-clause-stopped : goal.returns-in-Ok-extend_log-clause-stopped
+returns-in-Ok-extend_log-clause-stopped g c = tt
+
+pub returns-in-Ok-extend_log-clause-inode : goal.returns-in-Ok-extend_log-clause-inode
+returns-in-Ok-extend_log-clause-inode g c = c.settle_log.ensures.inode
+
+pub returns-clause-appended : goal.returns-clause-appended
+returns-clause-appended g c = tt
+
+pub returns-clause-enough : goal.returns-clause-enough
+returns-clause-enough g c = tt
+
+pub returns-clause-room : goal.returns-clause-room
+returns-clause-room g c = tt
+
+pub returns-clause-settled : goal.returns-clause-settled
+returns-clause-settled g c = tt
+
+pub returns-clause-refused : goal.returns-clause-refused
+returns-clause-refused g c = inr (inl refl)
+
+pub returns-clause-unchanged : goal.returns-clause-unchanged
+returns-clause-unchanged g c = λ goes_on. absurd (goes_on refl)
+
+pub returns-clause-inode : goal.returns-clause-inode
+returns-clause-inode g c = refl
+
+pub returns-in-Err-NoSpace-clause-stopped : goal.returns-in-Err-NoSpace-clause-stopped
+returns-in-Err-NoSpace-clause-stopped g c = λ is. absurd (no_space_goes_on is)
+
+pub returns-in-Err-Memory-clause-stopped : goal.returns-in-Err-Memory-clause-stopped
+returns-in-Err-Memory-clause-stopped g c = λ is. absurd (memory_goes_on is)
+
+pub extend_log-requires-clause-whole : goal.extend_log-requires-clause-whole
+extend_log-requires-clause-whole g c = slot_word_whole c.slot_address-slot.result _ c.slot_address-slot.ensures c.requires.stands.whole

@@ -1,5 +1,91 @@
-use Rattle.nv_steps.proofs.Attributed.{attributes_follow}
+use Rattle.std.proofs.Common.{◌≡◌, ◌%◌, [], ◌∷◌, refl, IsTrue}
+use Rattle.std.proofs.lemmas.Result.{IfOk-from_err, err_from_is_err_and}
+use Rattle.nv_entry.specs.declared.entry.Entry.TheVariants.{Attr}
+use Rattle.nv_logpage.specs.Append.{needed}
+use Rattle.nv_tree.specs.declared.refusal.Refusal.{Refusal}
+use Rattle.nv_tree.specs.declared.refusal.Refusal.TheVariants.{Stopped}
+use Rattle.nv_tree.proofs.Replies.{refused_by}
+use Rattle.nv_steps.specs.Steps.{LeavesStep, RefusesStep}
+use Rattle.nv_steps.proofs.Attributed.{attributes_follow, has_attributes}
 use Rattle.nv_steps.proofs.attributes.change_attributes.Goals as goal
 
 pub returns-clause-log : goal.returns-clause-log
 returns-clause-log g c held h shows = rw c.numbers_with-row.ensures (attributes_follow c.args.attributes shows c.requires.stands.lists c.in_ok-append_log.ensures.appended c.requires.mode c.requires.size)
+
+pub append_log-requires-clause-cpu : goal.append_log-requires-clause-cpu
+append_log-requires-clause-cpu g c = c.requires.cpu
+
+pub append_log-requires-clause-stands : goal.append_log-requires-clause-stands
+append_log-requires-clause-stands g c = c.requires.stands
+
+pub append_log-requires-clause-given : goal.append_log-requires-clause-given
+append_log-requires-clause-given g c = (refl, tt)
+
+pub returns-in_err-append_log-clause-log : goal.returns-in_err-append_log-clause-log
+returns-in_err-append_log-clause-log g c held h shows = IfOk-from_err c.from_residual.result _ c.from_residual.ensures.0
+
+pub returns-in_err-append_log-clause-row : goal.returns-in_err-append_log-clause-row
+returns-in_err-append_log-clause-row g c = IfOk-from_err c.from_residual.result _ c.from_residual.ensures.0
+
+pub returns-in_err-append_log-clause-enough : goal.returns-in_err-append_log-clause-enough
+returns-in_err-append_log-clause-enough g c = IfOk-from_err c.from_residual.result _ c.from_residual.ensures.0
+
+pub returns-in_err-append_log-clause-settled : goal.returns-in_err-append_log-clause-settled
+returns-in_err-append_log-clause-settled g c = IfOk-from_err c.from_residual.result _ c.from_residual.ensures.0
+
+pub returns-in_err-append_log-clause-refused : goal.returns-in_err-append_log-clause-refused
+returns-in_err-append_log-clause-refused g c =
+    let w = err_from_is_err_and c.from_residual.result c.from_residual.ensures.1 in
+    refused_by c.from_residual.result c.in_err-append_log.field-0.0 w.0 (λ (e : Refusal). RefusesStep e (needed (c.args.row.now.tail % 4096) (Attr c.args.attributes ∷ [])) c.args.free.now) w.1 w.2 c.in_err-append_log.ensures.refused
+
+pub returns-in_err-append_log-clause-unchanged : goal.returns-in_err-append_log-clause-unchanged
+returns-in_err-append_log-clause-unchanged g c =
+    let w = err_from_is_err_and c.from_residual.result c.from_residual.ensures.1 in
+    refused_by c.from_residual.result c.in_err-append_log.field-0.0 w.0 (λ (e : Refusal). (e ≡ Stopped → ⊥) → LeavesStep c.args.memory.now c.append_log.new.memory c.args.free.now c.append_log.new.free c.args.row.now c.append_log.new.row) w.1 w.2 c.in_err-append_log.ensures.unchanged
+
+pub returns-in_err-append_log-clause-stopped : goal.returns-in_err-append_log-clause-stopped
+returns-in_err-append_log-clause-stopped g c =
+    let w = err_from_is_err_and c.from_residual.result c.from_residual.ensures.1 in
+    refused_by c.from_residual.result c.in_err-append_log.field-0.0 w.0 (λ (e : Refusal). e ≡ Stopped → IsTrue (g.P.Pmem.fuse c.append_log.new.memory).has_burnt) w.1 w.2 c.in_err-append_log.ensures.stopped
+
+pub returns-in_err-append_log-clause-inode : goal.returns-in_err-append_log-clause-inode
+returns-in_err-append_log-clause-inode g c = c.in_err-append_log.ensures.inode
+
+pub returns-in_err-append_log-clause-lists : goal.returns-in_err-append_log-clause-lists
+returns-in_err-append_log-clause-lists g c = c.in_err-append_log.ensures.lists
+
+pub returns-in_err-append_log-clause-length : goal.returns-in_err-append_log-clause-length
+returns-in_err-append_log-clause-length g c = c.in_err-append_log.ensures.length
+
+pub returns-in_err-append_log-clause-keeps_fuse : goal.returns-in_err-append_log-clause-keeps_fuse
+returns-in_err-append_log-clause-keeps_fuse g c = c.in_err-append_log.ensures.keeps_fuse
+
+pub returns-clause-row : goal.returns-clause-row
+returns-clause-row g c = has_attributes c.args.attributes c.in_ok-append_log.ensures.appended.row c.numbers_with-row.ensures c.requires.size
+
+pub returns-clause-enough : goal.returns-clause-enough
+returns-clause-enough g c = c.in_ok-append_log.ensures.enough
+
+pub returns-clause-settled : goal.returns-clause-settled
+returns-clause-settled g c = c.in_ok-append_log.ensures.settled
+
+pub returns-clause-refused : goal.returns-clause-refused
+returns-clause-refused g c = tt
+
+pub returns-clause-unchanged : goal.returns-clause-unchanged
+returns-clause-unchanged g c = tt
+
+pub returns-clause-stopped : goal.returns-clause-stopped
+returns-clause-stopped g c = tt
+
+pub returns-clause-inode : goal.returns-clause-inode
+returns-clause-inode g c = c.in_ok-append_log.ensures.inode
+
+pub returns-clause-lists : goal.returns-clause-lists
+returns-clause-lists g c = c.in_ok-append_log.ensures.lists
+
+pub returns-clause-length : goal.returns-clause-length
+returns-clause-length g c = c.in_ok-append_log.ensures.length
+
+pub returns-clause-keeps_fuse : goal.returns-clause-keeps_fuse
+returns-clause-keeps_fuse g c = c.in_ok-append_log.ensures.keeps_fuse

@@ -1,5 +1,7 @@
-use Rattle.std.proofs.Common.{◌∙◌, arith}
+use Rattle.std.proofs.Common.{◌∙◌, ◌∷◌, ◌+◌, ◌/◌, ◌≤◌, ℕ, ap, arith, is_err, subst, sym}
+use Rattle.std.proofs.lemmas.Result.{IfOk-from_err}
 use Rattle.nv_region.proofs.Fuses.{keeps_more, keeps_within}
+use Rattle.nv_logpage.specs.Append.{EndBy}
 use Rattle.nv_held.proofs.BytesKept.{mixed_size}
 use Rattle.nv_steps.proofs.CopiedEnd.{copies_end}
 use Rattle.nv_steps.proofs.copying.copy_end.Goals as goal
@@ -13,3 +15,60 @@ returns-clause-keeps_fuse g c = keeps_more (λ limit past. ((λ j below. (let in
 
 pub returns-clause-length : goal.returns-clause-length
 returns-clause-length g c = mixed_size c.extend_log.ensures.wrote.mixed ∙ mixed_size c.copy_page.ensures.wrote.mixed
+
+pub copy_page-requires-clause-from : goal.copy_page-requires-clause-from
+copy_page-requires-clause-from g c = c.requires.from
+
+pub copy_page-requires-clause-apart : goal.copy_page-requires-clause-apart
+copy_page-requires-clause-apart g c = c.requires.apart
+
+pub copy_page-requires-clause-to : goal.copy_page-requires-clause-to
+copy_page-requires-clause-to g c = c.requires.to
+
+pub copy_page-requires-clause-page : goal.copy_page-requires-clause-page
+copy_page-requires-clause-page g c = c.requires.page
+
+pub extend_log-requires-clause-can : goal.extend_log-requires-clause-can
+extend_log-requires-clause-can g c =
+    let can = c.requires.can in
+    record {
+      whole = can.whole;
+      offset = can.offset;
+      given = can.given;
+      enough = can.enough;
+      differ = can.differ;
+      inside = subst (λ (end : ℕ). EndBy (c.args.log.now.tail / 4096 ∷ c.args.log.now.fresh.now) end) (sym (mixed_size c.copy_page.ensures.wrote.mixed)) can.inside;
+    }
+
+pub extend_log-requires-clause-whole : goal.extend_log-requires-clause-whole
+extend_log-requires-clause-whole g c = c.requires.whole
+
+pub extend_log-requires-clause-inside : goal.extend_log-requires-clause-inside
+extend_log-requires-clause-inside g c = subst (λ (end : ℕ). c.args.log.now.slot + 32 ≤ end) (sym (mixed_size c.copy_page.ensures.wrote.mixed)) c.requires.inside
+
+pub returns-clause-end : goal.returns-clause-end
+returns-clause-end g c = c.extend_log.ensures.end
+
+pub returns-clause-settled : goal.returns-clause-settled
+returns-clause-settled g c = c.extend_log.ensures.settled
+
+pub returns-clause-stopped : goal.returns-clause-stopped
+returns-clause-stopped g c = c.extend_log.ensures.stopped
+
+pub returns-in_err-copy_page-clause-end : goal.returns-in_err-copy_page-clause-end
+returns-in_err-copy_page-clause-end g c = IfOk-from_err c.from_residual.result _ c.from_residual.ensures.0
+
+pub returns-in_err-copy_page-clause-copies : goal.returns-in_err-copy_page-clause-copies
+returns-in_err-copy_page-clause-copies g c = IfOk-from_err c.from_residual.result _ c.from_residual.ensures.0
+
+pub returns-in_err-copy_page-clause-settled : goal.returns-in_err-copy_page-clause-settled
+returns-in_err-copy_page-clause-settled g c = IfOk-from_err c.from_residual.result _ c.from_residual.ensures.0
+
+pub returns-in_err-copy_page-clause-stopped : goal.returns-in_err-copy_page-clause-stopped
+returns-in_err-copy_page-clause-stopped g c = c.from_residual.ensures.0 ∙ sym (ap is_err c.in_err-copy_page.was) ∙ c.copy_page.ensures.stopped
+
+pub returns-in_err-copy_page-clause-length : goal.returns-in_err-copy_page-clause-length
+returns-in_err-copy_page-clause-length g c = mixed_size c.copy_page.ensures.wrote.mixed
+
+pub returns-in_err-copy_page-clause-keeps_fuse : goal.returns-in_err-copy_page-clause-keeps_fuse
+returns-in_err-copy_page-clause-keeps_fuse g c = keeps_within (λ limit past. omega (arith, past, c.requires.to)) c.copy_page.ensures.keeps_fuse

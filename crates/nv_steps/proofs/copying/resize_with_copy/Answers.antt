@@ -1,6 +1,7 @@
 use Rattle.std.proofs.Common.{◌++◌, ◌∙◌, List, ℕ, ap, arith, refl, inl, inr}
 use Rattle.nv_steps.proofs.CopiedEnd.{copy_resizes}
 use Rattle.nv_steps.proofs.CopyOwed.{copies_as, copy_appends, end_ready, ends_as, from_joins, numbered, to_differs, to_inside}
+use Rattle.nv_steps.proofs.Refusals.{memory_goes_on, no_space_goes_on}
 use Rattle.nv_steps.proofs.TakenBlocks.{taken_sup}
 use Rattle.nv_steps.proofs.copying.resize_with_copy.Goals as goal
 
@@ -86,3 +87,66 @@ returns-clause-length g c = c.copy_end.ensures.length
 
 pub returns-clause-keeps_fuse : goal.returns-clause-keeps_fuse
 returns-clause-keeps_fuse g c = c.copy_end.ensures.keeps_fuse
+
+pub returns-in-Err-NoSpace-clause-resized : goal.returns-in-Err-NoSpace-clause-resized
+returns-in-Err-NoSpace-clause-resized g c = tt
+
+pub returns-in-Err-NoSpace-clause-enough : goal.returns-in-Err-NoSpace-clause-enough
+returns-in-Err-NoSpace-clause-enough g c = tt
+
+pub returns-in-Err-NoSpace-clause-settled : goal.returns-in-Err-NoSpace-clause-settled
+returns-in-Err-NoSpace-clause-settled g c = tt
+
+pub returns-in-Err-NoSpace-clause-unchanged : goal.returns-in-Err-NoSpace-clause-unchanged
+returns-in-Err-NoSpace-clause-unchanged g c = λ _. record { memory = refl; free = c.in-Err-NoSpace.ensures.unchanged; row = record { inode = refl; kind = refl; numbers = refl; head = refl; tail = refl; pages = c.in-Err-NoSpace.ensures.pages; index = λ p. refl; names = λ q. refl } }
+
+pub returns-in-Err-NoSpace-clause-inode : goal.returns-in-Err-NoSpace-clause-inode
+returns-in-Err-NoSpace-clause-inode g c = refl
+
+pub returns-in-Err-NoSpace-clause-length : goal.returns-in-Err-NoSpace-clause-length
+returns-in-Err-NoSpace-clause-length g c = refl
+
+pub returns-in-Err-NoSpace-clause-keeps_fuse : goal.returns-in-Err-NoSpace-clause-keeps_fuse
+returns-in-Err-NoSpace-clause-keeps_fuse g c = record { burnt = λ was. was; steady = λ was. was; stays_open = λ limit past was. was }
+
+pub returns-in-Err-NoSpace-clause-lists : goal.returns-in-Err-NoSpace-clause-lists
+returns-in-Err-NoSpace-clause-lists g c = c.in-Err-NoSpace.ensures.unchanged.sup
+
+pub returns-in-Err-Memory-clause-resized : goal.returns-in-Err-Memory-clause-resized
+returns-in-Err-Memory-clause-resized g c = tt
+
+pub returns-in-Err-Memory-clause-enough : goal.returns-in-Err-Memory-clause-enough
+returns-in-Err-Memory-clause-enough g c = tt
+
+pub returns-in-Err-Memory-clause-settled : goal.returns-in-Err-Memory-clause-settled
+returns-in-Err-Memory-clause-settled g c = tt
+
+pub returns-in-Err-Memory-clause-refused : goal.returns-in-Err-Memory-clause-refused
+returns-in-Err-Memory-clause-refused g c = inl refl
+
+pub returns-in-Err-Memory-clause-unchanged : goal.returns-in-Err-Memory-clause-unchanged
+returns-in-Err-Memory-clause-unchanged g c = λ _. record { memory = refl; free = c.in-Err-Memory.ensures.unchanged; row = record { inode = refl; kind = refl; numbers = refl; head = refl; tail = refl; pages = c.in-Err-Memory.ensures.pages; index = λ p. refl; names = λ q. refl } }
+
+pub returns-in-Err-Memory-clause-inode : goal.returns-in-Err-Memory-clause-inode
+returns-in-Err-Memory-clause-inode g c = refl
+
+pub returns-in-Err-Memory-clause-length : goal.returns-in-Err-Memory-clause-length
+returns-in-Err-Memory-clause-length g c = refl
+
+pub returns-in-Err-Memory-clause-keeps_fuse : goal.returns-in-Err-Memory-clause-keeps_fuse
+returns-in-Err-Memory-clause-keeps_fuse g c = record { burnt = λ was. was; steady = λ was. was; stays_open = λ limit past was. was }
+
+pub returns-in-Err-Memory-clause-lists : goal.returns-in-Err-Memory-clause-lists
+returns-in-Err-Memory-clause-lists g c = c.in-Err-Memory.ensures.unchanged.sup
+
+pub slot_address-slot-requires-clause-layout : goal.slot_address-slot-requires-clause-layout
+slot_address-slot-requires-clause-layout g c = c.requires.can.stands.layout
+
+pub slot_address-slot-requires-clause-inode : goal.slot_address-slot-requires-clause-inode
+slot_address-slot-requires-clause-inode g c = c.requires.can.stands.number
+
+pub returns-in-Err-NoSpace-clause-stopped : goal.returns-in-Err-NoSpace-clause-stopped
+returns-in-Err-NoSpace-clause-stopped g c = λ is. absurd (no_space_goes_on is)
+
+pub returns-in-Err-Memory-clause-stopped : goal.returns-in-Err-Memory-clause-stopped
+returns-in-Err-Memory-clause-stopped g c = λ is. absurd (memory_goes_on is)

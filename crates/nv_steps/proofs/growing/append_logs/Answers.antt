@@ -1,5 +1,5 @@
 use Rattle.std.proofs.Common.{◌∙◌, ◌+◌, ◌<◌, ◌≤◌, ℕ, List, ap, drop, length, subst, sym, take, ◌≡◌, ◌%◌, refl, inl, inr, IsTrue}
-use Rattle.std.proofs.lemmas.Result.{err_from_is_err_and}
+use Rattle.std.proofs.lemmas.Result.{err_from_is_err_and, IfOk-from_err}
 use Rattle.smallvec.specs.SmallVec.{HasRoomFor}
 use Rattle.nv_logpage.specs.Append.{needed}
 use Rattle.nv_held.specs.nv_outcome.Same.{SameRow}
@@ -175,3 +175,18 @@ returns-clause-other_inode g c = c.settle_log-2.ensures.inode ∙ c.in_ok-blocks
 
 pub returns-clause-length : goal.returns-clause-length
 returns-clause-length g c = mixed_size c.extend_two.ensures.wrote.mixed
+
+pub returns-in_err-blocks-clause-appended : goal.returns-in_err-blocks-clause-appended
+returns-in_err-blocks-clause-appended g c = IfOk-from_err c.from_residual.result _ c.from_residual.ensures.0
+
+pub returns-in_err-blocks-clause-room : goal.returns-in_err-blocks-clause-room
+returns-in_err-blocks-clause-room g c = IfOk-from_err c.from_residual.result _ c.from_residual.ensures.0
+
+pub returns-in_err-blocks-clause-enough : goal.returns-in_err-blocks-clause-enough
+returns-in_err-blocks-clause-enough g c = IfOk-from_err c.from_residual.result _ c.from_residual.ensures.0
+
+pub returns-in_err-blocks-clause-settled : goal.returns-in_err-blocks-clause-settled
+returns-in_err-blocks-clause-settled g c = IfOk-from_err c.from_residual.result _ c.from_residual.ensures.0
+
+pub returns-in_err-blocks-clause-keeps_fuse : goal.returns-in_err-blocks-clause-keeps_fuse
+returns-in_err-blocks-clause-keeps_fuse g c = record { burnt = λ was. was; steady = λ was. was; stays_open = λ limit past was. was }

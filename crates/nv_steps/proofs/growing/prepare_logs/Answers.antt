@@ -1,6 +1,7 @@
-use Rattle.std.proofs.Common.{ℕ, ◌+◌, ◌%◌, ◌≤◌, ◌∙◌, arith, subst}
+use Rattle.std.proofs.Common.{ℕ, ◌+◌, ◌%◌, ◌≤◌, ◌∙◌, arith, subst, ◌<◌, inl, inr, refl}
 use Rattle.nv_alloc.specs.Taking.{all_blocks}
 use Rattle.nv_steps.proofs.AppendedLogs.{needed_one}
+use Rattle.nv_steps.proofs.Refusals.{memory_goes_on, no_space, no_space_goes_on}
 use Rattle.nv_steps.proofs.growing.prepare_logs.Goals as goal
 
 pub overflow_add-both : goal.overflow_add-both
@@ -52,3 +53,156 @@ returns-in-Ok-take_blocks-clause-row c = c.make_room.ensures.row
 
 pub returns-in-Ok-take_blocks-clause-other : goal.returns-in-Ok-take_blocks-clause-other
 returns-in-Ok-take_blocks-clause-other c = c.make_room-2.ensures.row
+
+pub take_blocks-requires : goal.take_blocks-requires
+take_blocks-requires c = record { cpu = c.requires.cpu }
+
+pub returns-in-Err-NoSpace-clause-taken : goal.returns-in-Err-NoSpace-clause-taken
+returns-in-Err-NoSpace-clause-taken c = tt
+
+pub returns-in-Err-NoSpace-clause-count : goal.returns-in-Err-NoSpace-clause-count
+returns-in-Err-NoSpace-clause-count c = tt
+
+pub returns-in-Err-NoSpace-clause-enough : goal.returns-in-Err-NoSpace-clause-enough
+returns-in-Err-NoSpace-clause-enough c = tt
+
+pub returns-in-Err-NoSpace-clause-ready : goal.returns-in-Err-NoSpace-clause-ready
+returns-in-Err-NoSpace-clause-ready c = tt
+
+pub returns-in-Err-NoSpace-clause-other_ready : goal.returns-in-Err-NoSpace-clause-other_ready
+returns-in-Err-NoSpace-clause-other_ready c = tt
+
+pub returns-in-Err-NoSpace-clause-goes_on : goal.returns-in-Err-NoSpace-clause-goes_on
+returns-in-Err-NoSpace-clause-goes_on c = no_space_goes_on
+
+pub returns-in-Err-NoSpace-clause-refused : goal.returns-in-Err-NoSpace-clause-refused
+returns-in-Err-NoSpace-clause-refused c = inr (inr (refl, subst (λ (m : ℕ). all_blocks c.args.free.now.pools < m) (λ t. c.blocks_for-count.ensures t + c.blocks_for-more.ensures t) (no_space _ _ _ c.in-Err-NoSpace.ensures.err c.in-Err-NoSpace.field-0-is)))
+
+pub returns-in-Err-NoSpace-clause-unchanged : goal.returns-in-Err-NoSpace-clause-unchanged
+returns-in-Err-NoSpace-clause-unchanged c = c.in-Err-NoSpace.ensures.unchanged
+
+pub returns-in-Err-NoSpace-clause-row : goal.returns-in-Err-NoSpace-clause-row
+returns-in-Err-NoSpace-clause-row c = c.make_room.ensures.row
+
+pub returns-in-Err-NoSpace-clause-other : goal.returns-in-Err-NoSpace-clause-other
+returns-in-Err-NoSpace-clause-other c = c.make_room-2.ensures.row
+
+pub returns-in-Err-Memory-clause-taken : goal.returns-in-Err-Memory-clause-taken
+returns-in-Err-Memory-clause-taken c = tt
+
+pub returns-in-Err-Memory-clause-count : goal.returns-in-Err-Memory-clause-count
+returns-in-Err-Memory-clause-count c = tt
+
+pub returns-in-Err-Memory-clause-enough : goal.returns-in-Err-Memory-clause-enough
+returns-in-Err-Memory-clause-enough c = tt
+
+pub returns-in-Err-Memory-clause-ready : goal.returns-in-Err-Memory-clause-ready
+returns-in-Err-Memory-clause-ready c = tt
+
+pub returns-in-Err-Memory-clause-other_ready : goal.returns-in-Err-Memory-clause-other_ready
+returns-in-Err-Memory-clause-other_ready c = tt
+
+pub returns-in-Err-Memory-clause-goes_on : goal.returns-in-Err-Memory-clause-goes_on
+returns-in-Err-Memory-clause-goes_on c = memory_goes_on
+
+pub returns-in-Err-Memory-clause-refused : goal.returns-in-Err-Memory-clause-refused
+returns-in-Err-Memory-clause-refused c = inl refl
+
+pub returns-in-Err-Memory-clause-unchanged : goal.returns-in-Err-Memory-clause-unchanged
+returns-in-Err-Memory-clause-unchanged c = c.in-Err-Memory.ensures.unchanged
+
+pub returns-in-Err-Memory-clause-row : goal.returns-in-Err-Memory-clause-row
+returns-in-Err-Memory-clause-row c = c.make_room.ensures.row
+
+pub returns-in-Err-Memory-clause-other : goal.returns-in-Err-Memory-clause-other
+returns-in-Err-Memory-clause-other c = c.make_room-2.ensures.row
+
+pub returns-in_default-clause-taken : goal.returns-in_default-clause-taken
+returns-in_default-clause-taken c = tt
+
+pub returns-in_default-clause-count : goal.returns-in_default-clause-count
+returns-in_default-clause-count c = tt
+
+pub returns-in_default-clause-enough : goal.returns-in_default-clause-enough
+returns-in_default-clause-enough c = tt
+
+pub returns-in_default-clause-ready : goal.returns-in_default-clause-ready
+returns-in_default-clause-ready c = tt
+
+pub returns-in_default-clause-other_ready : goal.returns-in_default-clause-other_ready
+returns-in_default-clause-other_ready c = tt
+
+pub returns-in_default-clause-goes_on : goal.returns-in_default-clause-goes_on
+returns-in_default-clause-goes_on c = memory_goes_on
+
+pub returns-in_default-clause-refused : goal.returns-in_default-clause-refused
+returns-in_default-clause-refused c = inl refl
+
+pub returns-in_default-clause-unchanged : goal.returns-in_default-clause-unchanged
+returns-in_default-clause-unchanged c = record { sup = refl; pools = refl }
+
+pub returns-in_default-clause-row : goal.returns-in_default-clause-row
+returns-in_default-clause-row c = c.make_room.ensures.row
+
+pub returns-in_default-clause-other : goal.returns-in_default-clause-other
+returns-in_default-clause-other c = record { inode = refl; kind = refl; numbers = refl; head = refl; tail = refl; pages = refl; index = λ p. refl; names = λ q. refl }
+
+pub returns-in_default-make_room-clause-taken : goal.returns-in_default-make_room-clause-taken
+returns-in_default-make_room-clause-taken c = tt
+
+pub returns-in_default-make_room-clause-count : goal.returns-in_default-make_room-clause-count
+returns-in_default-make_room-clause-count c = tt
+
+pub returns-in_default-make_room-clause-enough : goal.returns-in_default-make_room-clause-enough
+returns-in_default-make_room-clause-enough c = tt
+
+pub returns-in_default-make_room-clause-ready : goal.returns-in_default-make_room-clause-ready
+returns-in_default-make_room-clause-ready c = tt
+
+pub returns-in_default-make_room-clause-other_ready : goal.returns-in_default-make_room-clause-other_ready
+returns-in_default-make_room-clause-other_ready c = tt
+
+pub returns-in_default-make_room-clause-goes_on : goal.returns-in_default-make_room-clause-goes_on
+returns-in_default-make_room-clause-goes_on c = memory_goes_on
+
+pub returns-in_default-make_room-clause-refused : goal.returns-in_default-make_room-clause-refused
+returns-in_default-make_room-clause-refused c = inl refl
+
+pub returns-in_default-make_room-clause-unchanged : goal.returns-in_default-make_room-clause-unchanged
+returns-in_default-make_room-clause-unchanged c = record { sup = refl; pools = refl }
+
+pub returns-in_default-make_room-clause-row : goal.returns-in_default-make_room-clause-row
+returns-in_default-make_room-clause-row c = c.make_room.ensures.row
+
+pub returns-in_default-make_room-clause-other : goal.returns-in_default-make_room-clause-other
+returns-in_default-make_room-clause-other c = c.make_room-2.ensures.row
+
+pub returns-then-not-are_enough-clause-taken : goal.returns-then-not-are_enough-clause-taken
+returns-then-not-are_enough-clause-taken c = tt
+
+pub returns-then-not-are_enough-clause-count : goal.returns-then-not-are_enough-clause-count
+returns-then-not-are_enough-clause-count c = tt
+
+pub returns-then-not-are_enough-clause-enough : goal.returns-then-not-are_enough-clause-enough
+returns-then-not-are_enough-clause-enough c = tt
+
+pub returns-then-not-are_enough-clause-ready : goal.returns-then-not-are_enough-clause-ready
+returns-then-not-are_enough-clause-ready c = tt
+
+pub returns-then-not-are_enough-clause-other_ready : goal.returns-then-not-are_enough-clause-other_ready
+returns-then-not-are_enough-clause-other_ready c = tt
+
+pub returns-then-not-are_enough-clause-goes_on : goal.returns-then-not-are_enough-clause-goes_on
+returns-then-not-are_enough-clause-goes_on c = no_space_goes_on
+
+pub returns-then-not-are_enough-clause-unchanged : goal.returns-then-not-are_enough-clause-unchanged
+returns-then-not-are_enough-clause-unchanged c = record { sup = refl; pools = refl }
+
+pub returns-then-not-are_enough-clause-row : goal.returns-then-not-are_enough-clause-row
+returns-then-not-are_enough-clause-row c = record { inode = refl; kind = refl; numbers = refl; head = refl; tail = refl; pages = refl; index = λ p. refl; names = λ q. refl }
+
+pub returns-then-not-are_enough-clause-other : goal.returns-then-not-are_enough-clause-other
+returns-then-not-are_enough-clause-other c = record { inode = refl; kind = refl; numbers = refl; head = refl; tail = refl; pages = refl; index = λ p. refl; names = λ q. refl }
+
+pub returns-then-not-are_enough-clause-refused : goal.returns-then-not-are_enough-clause-refused
+returns-then-not-are_enough-clause-refused c = inr (inr (refl, subst (λ (m : ℕ). all_blocks c.args.free.now.pools < m) (λ t. c.blocks_for-count.ensures t + c.blocks_for-more.ensures t) (c.are_enough.ensures.no c.if-not-are_enough.true)))

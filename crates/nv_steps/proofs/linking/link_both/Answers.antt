@@ -1,5 +1,5 @@
 use Rattle.std.proofs.Common.{◌∙◌, ◌+◌, ◌%◌, ◌∷◌, [], ap, refl, subst, arith, ◌≡◌, ◌≤◌, length, sym, IsTrue}
-use Rattle.std.proofs.lemmas.Result.{err_from_is_err_and}
+use Rattle.std.proofs.lemmas.Result.{err_from_is_err_and, IfOk-from_err}
 use Rattle.nv_entry.specs.declared.entry.Entry.{Entry}
 use Rattle.nv_entry.specs.declared.entry.Operation.TheVariants.{Add}
 use Rattle.nv_entry.specs.Spelling.{entry_length}
@@ -97,3 +97,15 @@ returns-clause-length g c = c.in_ok-append_logs.ensures.length
 
 pub returns-clause-keeps_fuse : goal.returns-clause-keeps_fuse
 returns-clause-keeps_fuse g c = c.in_ok-append_logs.ensures.keeps_fuse
+
+pub returns-in_err-append_logs-clause-linked : goal.returns-in_err-append_logs-clause-linked
+returns-in_err-append_logs-clause-linked g c = IfOk-from_err c.from_residual.result _ c.from_residual.ensures.0
+
+pub returns-in_err-append_logs-clause-enough : goal.returns-in_err-append_logs-clause-enough
+returns-in_err-append_logs-clause-enough g c = IfOk-from_err c.from_residual.result _ c.from_residual.ensures.0
+
+pub returns-in_err-append_logs-clause-settled : goal.returns-in_err-append_logs-clause-settled
+returns-in_err-append_logs-clause-settled g c = IfOk-from_err c.from_residual.result _ c.from_residual.ensures.0
+
+pub name_entry-requires : goal.name_entry-requires
+name_entry-requires g c = record { some = c.requires.name.some; fits = c.requires.name.short }

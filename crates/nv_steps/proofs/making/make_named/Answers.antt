@@ -1,5 +1,5 @@
 use Rattle.std.proofs.Common.{◌≡◌, ◌+◌, ◌-◌, ◌%◌, ◌<◌, ◌≤◌, ◌∙◌, ◌∷◌, [], List, ℕ, ap, drop, inl, inr, length, refl, subst, sym, take, IsTrue}
-use Rattle.std.proofs.lemmas.Result.{err_from_is_err_and}
+use Rattle.std.proofs.lemmas.Result.{err_from_is_err_and, IfOk-from_err}
 use Rattle.nv_region.proofs.Fuses.{keeps_within}
 use Rattle.nv_super.specs.declared.superblock.Super.{Super}
 use Rattle.nv_super.specs.Layout.{inode_limit}
@@ -171,3 +171,15 @@ returns-clause-inode g c = c.settle_name.ensures.row.inode ∙ c.in_ok-blocks.en
 
 pub returns-clause-lists : goal.returns-clause-lists
 returns-clause-lists g c = taken_sup c.in_ok-blocks.ensures.taken
+
+pub returns-in_err-blocks-clause-made : goal.returns-in_err-blocks-clause-made
+returns-in_err-blocks-clause-made g c = IfOk-from_err c.from_residual.result _ c.from_residual.ensures.0
+
+pub returns-in_err-blocks-clause-enough : goal.returns-in_err-blocks-clause-enough
+returns-in_err-blocks-clause-enough g c = IfOk-from_err c.from_residual.result _ c.from_residual.ensures.0
+
+pub returns-in_err-blocks-clause-settled : goal.returns-in_err-blocks-clause-settled
+returns-in_err-blocks-clause-settled g c = IfOk-from_err c.from_residual.result _ c.from_residual.ensures.0
+
+pub returns-in_err-blocks-clause-keeps_fuse : goal.returns-in_err-blocks-clause-keeps_fuse
+returns-in_err-blocks-clause-keeps_fuse g c = record { burnt = λ was. was; steady = λ was. was; stays_open = λ limit past was. was }

@@ -1,5 +1,5 @@
 use Rattle.std.proofs.Common.{◌≡◌, ◌+◌, ◌%◌, ◌<◌, ◌≤◌, ◌∙◌, ◌∷◌, [], ℕ, ap, inl, inr, length, refl, subst, sym, IsTrue, List}
-use Rattle.std.proofs.lemmas.Result.{err_from_is_err_and}
+use Rattle.std.proofs.lemmas.Result.{err_from_is_err_and, IfOk-from_err}
 use Rattle.smallvec.specs.SmallVec.{HasRoomFor}
 use Rattle.nv_region.specs.Region.{size}
 use Rattle.nv_region.proofs.Fuses.{keeps_within}
@@ -164,3 +164,18 @@ returns-clause-cut g c =
     cuts_name c.requires.stands c.requires.can c.in_ok-fresh.ensures.taken c.args.gone.now.name.now c.args.gone.now.time count c.in_ok-fresh.ensures.row _ c.slot_address.ensures refl (ap (λ (e : Entry). e ∷ []) c.name_entry.ensures) c.deref.ensures.value
     c.slot_address-2.result c.in-Ok.end _ c.slot_address-2.ensures c.requires.differ c.deref-2.ensures.value c.in-Ok.ensures.end c.settle_cut.ensures.row c.in_ok-fresh.ensures.once c.settle_cut.ensures.once
     (λ held h can. c.in-Ok.ensures.shows c.args.sup.now held c.prepare_cut.new.directory.inode c.args.gone.now.inode h can) c.remove_inode.ensures.wrote.mixed
+
+pub returns-in_err-fresh-clause-cut : goal.returns-in_err-fresh-clause-cut
+returns-in_err-fresh-clause-cut g c = IfOk-from_err c.from_residual.result _ c.from_residual.ensures.0
+
+pub returns-in_err-fresh-clause-room : goal.returns-in_err-fresh-clause-room
+returns-in_err-fresh-clause-room g c = IfOk-from_err c.from_residual.result _ c.from_residual.ensures.0
+
+pub returns-in_err-fresh-clause-enough : goal.returns-in_err-fresh-clause-enough
+returns-in_err-fresh-clause-enough g c = IfOk-from_err c.from_residual.result _ c.from_residual.ensures.0
+
+pub returns-in_err-fresh-clause-settled : goal.returns-in_err-fresh-clause-settled
+returns-in_err-fresh-clause-settled g c = IfOk-from_err c.from_residual.result _ c.from_residual.ensures.0
+
+pub returns-in_err-fresh-clause-keeps_fuse : goal.returns-in_err-fresh-clause-keeps_fuse
+returns-in_err-fresh-clause-keeps_fuse g c = record { burnt = λ was. was; steady = λ was. was; stays_open = λ limit past was. was }

@@ -1,5 +1,5 @@
-use Rattle.std.proofs.Common.{◌∙◌, ◌∷◌, [], ap, refl, subst, ◌≡◌, ◌≤◌, ◌%◌, sym, IsTrue}
-use Rattle.std.proofs.lemmas.Result.{err_from_is_err_and}
+use Rattle.std.proofs.Common.{◌∙◌, ◌∷◌, [], ap, refl, subst, ◌≡◌, ◌≤◌, ◌%◌, sym, IsTrue, inl}
+use Rattle.std.proofs.lemmas.Result.{err_from_is_err_and, IfOk-from_err}
 use Rattle.nv_alloc.specs.Taking.{all_blocks}
 use Rattle.nv_logpage.specs.Append.{AreGiven, needed}
 use Rattle.nv_tree.specs.declared.refusal.Refusal.{Refusal}
@@ -99,3 +99,63 @@ returns-clause-length g c = c.in_ok-append_log.ensures.length
 
 pub returns-clause-keeps_fuse : goal.returns-clause-keeps_fuse
 returns-clause-keeps_fuse g c = c.in_ok-append_log.ensures.keeps_fuse
+
+pub returns-in_err-append_log-clause-moved : goal.returns-in_err-append_log-clause-moved
+returns-in_err-append_log-clause-moved g c = IfOk-from_err c.from_residual.result _ c.from_residual.ensures.0
+
+pub returns-in_err-append_log-clause-enough : goal.returns-in_err-append_log-clause-enough
+returns-in_err-append_log-clause-enough g c = IfOk-from_err c.from_residual.result _ c.from_residual.ensures.0
+
+pub returns-in_err-append_log-clause-settled : goal.returns-in_err-append_log-clause-settled
+returns-in_err-append_log-clause-settled g c = IfOk-from_err c.from_residual.result _ c.from_residual.ensures.0
+
+pub returns-then-not-are_enough-clause-moved : goal.returns-then-not-are_enough-clause-moved
+returns-then-not-are_enough-clause-moved g c = tt
+
+pub returns-then-not-are_enough-clause-enough : goal.returns-then-not-are_enough-clause-enough
+returns-then-not-are_enough-clause-enough g c = tt
+
+pub returns-then-not-are_enough-clause-settled : goal.returns-then-not-are_enough-clause-settled
+returns-then-not-are_enough-clause-settled g c = tt
+
+pub returns-then-not-are_enough-clause-unchanged : goal.returns-then-not-are_enough-clause-unchanged
+returns-then-not-are_enough-clause-unchanged g c = λ _. record { memory = refl; free = record { sup = refl; pools = refl }; row = record { inode = refl; kind = refl; numbers = refl; head = refl; tail = refl; pages = refl; index = λ p. refl; names = λ q. refl } }
+
+pub returns-then-not-are_enough-clause-inode : goal.returns-then-not-are_enough-clause-inode
+returns-then-not-are_enough-clause-inode g c = refl
+
+pub returns-then-not-are_enough-clause-lists : goal.returns-then-not-are_enough-clause-lists
+returns-then-not-are_enough-clause-lists g c = refl
+
+pub returns-then-not-are_enough-clause-length : goal.returns-then-not-are_enough-clause-length
+returns-then-not-are_enough-clause-length g c = refl
+
+pub returns-then-not-are_enough-clause-keeps_fuse : goal.returns-then-not-are_enough-clause-keeps_fuse
+returns-then-not-are_enough-clause-keeps_fuse g c = record { burnt = λ was. was; steady = λ was. was; stays_open = λ limit past was. was }
+
+pub returns-then-is_err-clause-moved : goal.returns-then-is_err-clause-moved
+returns-then-is_err-clause-moved g c = tt
+
+pub returns-then-is_err-clause-enough : goal.returns-then-is_err-clause-enough
+returns-then-is_err-clause-enough g c = tt
+
+pub returns-then-is_err-clause-settled : goal.returns-then-is_err-clause-settled
+returns-then-is_err-clause-settled g c = tt
+
+pub returns-then-is_err-clause-refused : goal.returns-then-is_err-clause-refused
+returns-then-is_err-clause-refused g c = inl refl
+
+pub returns-then-is_err-clause-unchanged : goal.returns-then-is_err-clause-unchanged
+returns-then-is_err-clause-unchanged g c = λ _. record { memory = refl; free = record { sup = refl; pools = refl }; row = record { inode = refl; kind = refl; numbers = refl; head = refl; tail = refl; pages = refl; index = λ p. refl; names = c.reserve.ensures.names } }
+
+pub returns-then-is_err-clause-inode : goal.returns-then-is_err-clause-inode
+returns-then-is_err-clause-inode g c = refl
+
+pub returns-then-is_err-clause-lists : goal.returns-then-is_err-clause-lists
+returns-then-is_err-clause-lists g c = refl
+
+pub returns-then-is_err-clause-length : goal.returns-then-is_err-clause-length
+returns-then-is_err-clause-length g c = refl
+
+pub returns-then-is_err-clause-keeps_fuse : goal.returns-then-is_err-clause-keeps_fuse
+returns-then-is_err-clause-keeps_fuse g c = record { burnt = λ was. was; steady = λ was. was; stays_open = λ limit past was. was }

@@ -1,12 +1,14 @@
-use Rattle.std.proofs.Common.{◌∙◌, ℕ, List, length, inr, sym, subst, refl, inl}
+use Rattle.std.proofs.Common.{◌∙◌, ℕ, List, length, inr, sym, subst, refl, inl, ◌<◌}
 use Rattle.nv_region.specs.Region.{Region}
 use Rattle.nv_super.specs.declared.owners.Run.{Run}
+use Rattle.nv_super.specs.Layout.{inode_limit}
 use Rattle.nv_alloc.specs.FreeLists.{JoinAll}
 use Rattle.nv_bytes.specs.Bytes.{byte_after, file_byte}
 use Rattle.nv_logpage.specs.Append.{CanAppend}
 use Rattle.nv_radix.specs.Pages.{block_at}
 use Rattle.nv_steps.specs.Writes.{CanGive}
 use Rattle.nv_steps.proofs.PlanRight.{plan_right}
+use Rattle.nv_steps.proofs.Refusals.{memory_goes_on, no_space_goes_on}
 use Rattle.nv_steps.proofs.PreparedBlocks.{prepared_sup}
 use Rattle.nv_steps.proofs.WriteFollows.{IsRight}
 use Rattle.nv_steps.proofs.WriteSteps.{blocks_fresh, can_append_entries, can_give_replaced, entries_small, pages_settled, told}
@@ -135,3 +137,51 @@ returns-in-Err-NoSpace-clause-inode g c = c.in-Err-NoSpace.ensures.row.inode
 
 pub returns-in-Err-NoSpace-clause-length : goal.returns-in-Err-NoSpace-clause-length
 returns-in-Err-NoSpace-clause-length g c = refl
+
+pub returns-in-Err-NoSpace-clause-keeps_fuse : goal.returns-in-Err-NoSpace-clause-keeps_fuse
+returns-in-Err-NoSpace-clause-keeps_fuse g c = record { burnt = λ was. was; steady = λ was. was; stays_open = λ limit past was. was }
+
+pub returns-in-Err-NoSpace-clause-lists : goal.returns-in-Err-NoSpace-clause-lists
+returns-in-Err-NoSpace-clause-lists g c = c.in-Err-NoSpace.ensures.unchanged.sup
+
+pub returns-in-Err-Memory-clause-writes : goal.returns-in-Err-Memory-clause-writes
+returns-in-Err-Memory-clause-writes g c = tt
+
+pub returns-in-Err-Memory-clause-enough : goal.returns-in-Err-Memory-clause-enough
+returns-in-Err-Memory-clause-enough g c = tt
+
+pub returns-in-Err-Memory-clause-settled : goal.returns-in-Err-Memory-clause-settled
+returns-in-Err-Memory-clause-settled g c = tt
+
+pub returns-in-Err-Memory-clause-refused : goal.returns-in-Err-Memory-clause-refused
+returns-in-Err-Memory-clause-refused g c = inl refl
+
+pub returns-in-Err-Memory-clause-unchanged : goal.returns-in-Err-Memory-clause-unchanged
+returns-in-Err-Memory-clause-unchanged g c = λ _. record { memory = refl; free = c.in-Err-Memory.ensures.unchanged; row = c.in-Err-Memory.ensures.row }
+
+pub returns-in-Err-Memory-clause-inode : goal.returns-in-Err-Memory-clause-inode
+returns-in-Err-Memory-clause-inode g c = c.in-Err-Memory.ensures.row.inode
+
+pub returns-in-Err-Memory-clause-length : goal.returns-in-Err-Memory-clause-length
+returns-in-Err-Memory-clause-length g c = refl
+
+pub returns-in-Err-Memory-clause-keeps_fuse : goal.returns-in-Err-Memory-clause-keeps_fuse
+returns-in-Err-Memory-clause-keeps_fuse g c = record { burnt = λ was. was; steady = λ was. was; stays_open = λ limit past was. was }
+
+pub returns-in-Err-Memory-clause-lists : goal.returns-in-Err-Memory-clause-lists
+returns-in-Err-Memory-clause-lists g c = c.in-Err-Memory.ensures.unchanged.sup
+
+pub slot_address-slot-requires-clause-layout : goal.slot_address-slot-requires-clause-layout
+slot_address-slot-requires-clause-layout g c = c.requires.stands.layout
+
+pub slot_address-slot-requires-clause-inode : goal.slot_address-slot-requires-clause-inode
+slot_address-slot-requires-clause-inode g c = subst (λ (i : ℕ). i < inode_limit c.args.sup.now) (sym c.in-Ok.ensures.row.inode) c.requires.stands.number
+
+pub returns-in-Ok-commit_data-clause-inode : goal.returns-in-Ok-commit_data-clause-inode
+returns-in-Ok-commit_data-clause-inode g c = c.settle_data.ensures.inode ∙ c.in-Ok.ensures.row.inode
+
+pub returns-in-Err-NoSpace-clause-stopped : goal.returns-in-Err-NoSpace-clause-stopped
+returns-in-Err-NoSpace-clause-stopped g c = λ is. absurd (no_space_goes_on is)
+
+pub returns-in-Err-Memory-clause-stopped : goal.returns-in-Err-Memory-clause-stopped
+returns-in-Err-Memory-clause-stopped g c = λ is. absurd (memory_goes_on is)
