@@ -1,4 +1,4 @@
-use Rattle.std.proofs.Common.{◌∙◌, ◌∷◌, [], ap, refl, subst, ◌≡◌, ◌≤◌, ◌%◌, sym, IsTrue, inl}
+use Rattle.std.proofs.Common.{ℕ, ◌<◌, ◌∙◌, ◌∷◌, [], ap, refl, subst, ◌≡◌, ◌≤◌, ◌%◌, sym, IsTrue, inl, inr}
 use Rattle.std.proofs.lemmas.Result.{err_from_is_err_and, IfOk-from_err}
 use Rattle.nv_alloc.specs.Taking.{all_blocks}
 use Rattle.nv_logpage.specs.Append.{AreGiven, needed}
@@ -159,3 +159,8 @@ returns-then-is_err-clause-length g c = refl
 
 pub returns-then-is_err-clause-keeps_fuse : goal.returns-then-is_err-clause-keeps_fuse
 returns-then-is_err-clause-keeps_fuse g c = record { burnt = λ was. was; steady = λ was. was; stays_open = λ limit past was. was }
+
+pub returns-then-not-are_enough-clause-refused : goal.returns-then-not-are_enough-clause-refused
+returns-then-not-are_enough-clause-refused g c =
+    let few = subst (λ (m : ℕ). all_blocks c.args.free.now.pools < m) c.pages_needed.ensures (c.are_enough.ensures.no c.if-not-are_enough.true) in
+    inr (inr (refl, subst (λ (x : Entry). all_blocks c.args.free.now.pools < needed (c.args.directory.now.tail % 4096) (Name (record { operation = Remove; inode = c.args.moved.now.inode; time = c.args.moved.now.time; name = c.args.moved.now.name.now }) ∷ x ∷ [])) c.name_entry-2.ensures (subst (λ (x : Entry). all_blocks c.args.free.now.pools < needed (c.args.directory.now.tail % 4096) (x ∷ c.name_entry-2.result ∷ [])) c.name_entry.ensures few)))
