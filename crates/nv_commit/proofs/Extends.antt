@@ -1,5 +1,5 @@
 -- A log that grows by entries, and its tail that moves.
-use Rattle.std.proofs.Common.{◌≡◌, ℕ, ◌+◌, ◌*◌, ◌%◌, ◌≤◌, ◌<◌, ◌⊎◌, Bool, true, false, inl, inr, List, length, take, sym, ◌∙◌, subst, arith, Some}
+use Rattle.std.proofs.Common.{◌≡◌, ℕ, ◌+◌, ◌*◌, ◌%◌, ◌≤◌, ◌<◌, ◌⊎◌, Bool, true, false, inl, inr, List, ◌++◌, length, take, sym, ◌∙◌, subst, arith, Some, None, Result, Ok, Err, is_err, IfOk, OnErr, IsTrue}
 use Rattle.std.proofs.lemmas.Bool.{cases_lt, true≢false}
 use Rattle.nv_region.specs.Region.{Region, size, put}
 use Rattle.nv_region.specs.Stops.{Choices, IsMixed, LeavesOnly, NothingPending}
@@ -7,9 +7,12 @@ use Rattle.nv_region.specs.Stored.{Stored, StoresOnly}
 use Rattle.nv_region.proofs.Stops.{mixed_left, mixed_same}
 use Rattle.nv_region.proofs.Wordwise.{mixed_more, put_stored}
 use Rattle.nv_super.specs.declared.superblock.Super.{Super}
-use Rattle.nv_super.specs.Layout.{fixed_layout}
+use Rattle.nv_super.specs.Layout.{fixed_layout, is_data_address, is_page_start}
+use Rattle.nv_inode.specs.Slot.{is_right_log}
 use Rattle.nv_entry.specs.declared.entry.Entry.{Entry}
-use Rattle.nv_logpage.specs.Append.{AppendWords, appended, end_of, needed}
+use Rattle.nv_logpage.specs.declared.found.Placed.{Placed}
+use Rattle.nv_logpage.specs.Reads.{Reads}
+use Rattle.nv_logpage.specs.Append.{AppendWords, CanBePages, FreshFor, appended, end_of, needed}
 use Rattle.nv_held.proofs.nv_outcome.SuperOf.{layout_of_super}
 use Rattle.nv_held.specs.Held.{Held, Store, Shows, with_inode}
 use Rattle.nv_held.specs.Slots.{SlotsClear}
@@ -27,6 +30,20 @@ use Rattle.nv_commit.specs.Extends.{BeforeOrExtended, CanExtend, ShowsMoved, wit
 -- an append that was refused: there was an entry, and the fuse has burnt
 pub burnt_append : (count : ℕ) (burnt : Bool) → (0 < count → true ≡ burnt) → (count ≡ 0 → true ≡ false) → true ≡ burnt
 burnt_append count burnt some none = elim (cases_lt 0 count) [ inl more ↦ some more | inr least ↦ absurd (true≢false (none (omega (arith, least)))) ]
+
+-- the same, told of its result
+pub burnt_where_refused : {E : Type 0} (r : Result ℕ E) (count : ℕ) (burnt : Bool) → (0 < count → is_err r ≡ burnt) → (count ≡ 0 → is_err r ≡ false) → OnErr r (burnt ≡ true)
+burnt_where_refused (Ok new) count burnt some none = tt
+burnt_where_refused (Err e) count burnt some none = sym (burnt_append count burnt some none)
+
+-- what an append that is done promises
+pub appends_where_done : {E : Type 0} (R S : Region) (tail : ℕ) (entries : List Entry) (fresh : List ℕ) (r : Result ℕ E)
+    → ((s : Super) (head : ℕ) (es : List Placed) (all : List ℕ) → IsTrue (is_page_start s head) → FreshFor s fresh all → Reads R s head tail es all None
+    → IfOk r (λ new. Reads S s head new (es ++ appended fresh 0 tail entries) (all ++ take (needed (tail % 4096) entries) fresh) None))
+    → ((s : Super) (head : ℕ) → IsTrue (is_page_start s head) → IsTrue (is_data_address s tail) → CanBePages s fresh → (8 ≤ tail % 4096) ⊎ (0 < length entries) → IfOk r (λ new. IsTrue (is_right_log s head new)))
+    → IsMixed R (AppendWords tail fresh) S → IfOk r (λ new. Appends R S tail new entries fresh)
+appends_where_done R S tail entries fresh (Ok new) reads right wrote = record { reads = reads; right = right; wrote = wrote }
+appends_where_done R S tail entries fresh (Err e) reads right wrote = tt
 
 pub front_more : {cpus : ℕ} {R Q S : Region} → SameFront cpus R Q → SameFront cpus Q S → SameFront cpus R S
 front_more first then = record { len = then.len ∙ first.len; words = λ at whole low. then.words at whole low ∙ first.words at whole low }

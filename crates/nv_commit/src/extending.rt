@@ -1,12 +1,13 @@
 //! Entries written behind the tail of a log, and the tail moved behind them by one store.
 
-ghost use Rattle.std.specs.Prelude.{◌≡◌, ◌+◌, ◌/◌, ◌%◌, ◌≤◌, ◌∷◌, ℕ, IfOk, OnOk, is_err};
+ghost use Rattle.std.specs.Prelude.{◌≡◌, ◌+◌, ◌/◌, ◌%◌, ◌≤◌, ◌∷◌, ℕ, true, IfOk, OnErr, OnOk, is_err};
 ghost use Rattle.nv_region.specs.Region.{size};
 ghost use Rattle.nv_region.specs.Stops.{LeavesOnly, NothingPending};
 ghost use Rattle.nv_region.specs.Fuses.{KeepsFuse};
 ghost use Rattle.nv_region.specs.Stored.{StoresOnly};
 ghost use Rattle.nv_super.specs.declared.superblock.Super.{Super};
-ghost use Rattle.nv_logpage.specs.Append.{CanAppend, EndBy, end_of};
+ghost use Rattle.nv_logpage.specs.Append.{AppendWords, CanAppend, EndBy, end_of};
+ghost use Rattle.nv_held.specs.Appended.{Appends};
 ghost use Rattle.nv_held.specs.Held.{Held, Store};
 ghost use Rattle.nv_commit.specs.Extends.{BeforeOrExtended, CanExtend, ExtendWords, ShowsMoved, with_log};
 
@@ -48,8 +49,26 @@ pub fn extend_log<P: Pmem>(
 {
     // The region's length is a u64, and fewer than eight bytes stand behind the last word.
     let _length = memory.len();
-    let end = append(memory, tail, entries, fresh)?;
+    let end = append_entries(memory, tail, entries, fresh)?;
     memory.fence()?;
     commit_word(memory, slot + TAIL, end)?;
     Ok(end)
+}
+
+/// Writes entries behind a tail, of which this crate needs less than `append` promises. Answers the new tail.
+pub(crate) fn append_entries<P: Pmem>(
+    memory: &mut P,
+    tail: u64,
+    entries: &[Entry],
+    fresh: &[u64],
+) -> Result<u64, Stopped>
+    requires { CanAppend (P.region memory.old) tail entries.now fresh.now }
+    ensures appends { IfOk result (λ new. Appends (P.region memory.old) (P.region memory.new) tail new entries.now fresh.now) }
+    ensures end { IfOk result (λ new. new ≡ end_of fresh.now 0 tail entries.now) }
+    ensures wrote { StoresOnly (AppendWords tail fresh.now) (P.region memory.old) (P.region memory.new) (P.may_hold memory.old) (P.may_hold memory.new) }
+    ensures len { size (P.region memory.new) ≡ size (P.region memory.old) }
+    ensures stopped { OnErr result ((P.fuse memory.new).has_burnt ≡ true) }
+    ensures keeps_fuse { KeepsFuse (λ limit. EndBy (tail / 4096 ∷ fresh.now) limit) (P.fuse memory.old) (P.fuse memory.new) }
+{
+    append(memory, tail, entries, fresh)
 }

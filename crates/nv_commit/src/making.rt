@@ -14,12 +14,11 @@ ghost use Rattle.nv_held.specs.Held.{Held, Store};
 ghost use Rattle.nv_commit.specs.Together.{CanCommit, ShowsIdle};
 ghost use Rattle.nv_commit.specs.Makes.{BeforeOrMade, CanBegin, CanMake, MakeWords, PrepareWords, Prepares, head_of, tail_of, with_made};
 
-use crate::extending::TAIL;
+use crate::extending::{TAIL, append_entries};
 use crate::together::Extension;
 use nv_entry::Entry;
 use nv_inode::{Slot, store_slot};
 use nv_journal::change_two;
-use nv_logpage::append;
 use nv_region::{Pmem, Stopped};
 use nv_super::{BLOCK_SIZE, Kind};
 
@@ -91,8 +90,8 @@ fn prepare<P: Pmem>(
     // The region's length is a u64, and so is each address up to it.
     let _length = memory.len();
     let head = BLOCK_SIZE * inode.page;
-    let tail = append(memory, head, inode.entries, &[])?;
-    let end = append(memory, directory.tail, directory.entries, directory.fresh)?;
+    let tail = append_entries(memory, head, inode.entries, &[])?;
+    let end = append_entries(memory, directory.tail, directory.entries, directory.fresh)?;
     let slot = Slot {
         valid: 0,
         kind: inode.kind.number(),

@@ -13,10 +13,9 @@ ghost use Rattle.nv_held.specs.Held.{Held, Store};
 ghost use Rattle.nv_commit.specs.Together.{CanCommit, ShowsIdle};
 ghost use Rattle.nv_commit.specs.Removes.{BeforeOrRemoved, CanRemove, RemoveWords, with_removed};
 
-use crate::extending::TAIL;
+use crate::extending::{TAIL, append_entries};
 use crate::together::Extension;
 use nv_journal::change_two;
-use nv_logpage::append;
 use nv_region::{Pmem, Stopped};
 
 /// Writes entries behind the tail of a directory's log, and then, by the empty journal of a CPU, moves the tail behind them
@@ -51,7 +50,7 @@ pub fn remove_inode<P: Pmem>(
 {
     // The region's length is a u64, and fewer than eight bytes stand behind the last word.
     let _length = memory.len();
-    let end = append(memory, directory.tail, directory.entries, directory.fresh)?;
+    let end = append_entries(memory, directory.tail, directory.entries, directory.fresh)?;
     memory.fence()?;
     change_two(memory, cpu, directory.slot + TAIL, end, slot, 0)?;
     Ok(end)

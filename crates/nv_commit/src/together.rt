@@ -10,10 +10,9 @@ ghost use Rattle.nv_logpage.specs.Append.{CanAppend, EndBy, end_of};
 ghost use Rattle.nv_held.specs.Held.{Held, Store};
 ghost use Rattle.nv_commit.specs.Together.{AppendsBoth, BeforeOrBoth, BothWords, CanCommit, CanExtendTwo, ShowsIdle, TogetherWords, with_logs};
 
-use crate::extending::TAIL;
+use crate::extending::{TAIL, append_entries};
 use nv_entry::Entry;
 use nv_journal::change_two;
-use nv_logpage::append;
 use nv_region::{Pmem, Stopped};
 
 /// What goes behind the tail of an inode's log.
@@ -86,8 +85,8 @@ fn append_both<P: Pmem>(
     ensures stopped { is_err result ≡ (P.fuse memory.new).has_burnt }
     ensures keeps_fuse { KeepsFuse (λ limit. EndBy (first.now.tail / 4096 ∷ first.now.fresh.now) limit × EndBy (second.now.tail / 4096 ∷ second.now.fresh.now) limit) (P.fuse memory.old) (P.fuse memory.new) }
 {
-    let first_end = append(memory, first.tail, first.entries, first.fresh)?;
-    let second_end = append(memory, second.tail, second.entries, second.fresh)?;
+    let first_end = append_entries(memory, first.tail, first.entries, first.fresh)?;
+    let second_end = append_entries(memory, second.tail, second.entries, second.fresh)?;
     memory.fence()?;
     Ok((first_end, second_end))
 }
