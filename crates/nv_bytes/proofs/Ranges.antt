@@ -1,5 +1,5 @@
 -- What a function gives for numbers in a row.
-use Rattle.std.proofs.Common.{◌≡◌, ℕ, zero, suc, ◌+◌, ◌-◌, ◌<◌, ◌≤◌, List, ◌∷◌, ◌++◌, map, refl, ap, ◌∙◌, arith, append_assoc, Result, Ok, Err, OnOk, is_ok, if◌then◌else◌}
+use Rattle.std.proofs.Common.{◌≡◌, ℕ, zero, suc, ◌+◌, ◌-◌, ◌*◌, ◌/◌, ◌<◌, ◌≤◌, min, List, ◌∷◌, ◌++◌, map, refl, ap, ◌∙◌, arith, append_assoc, Result, Ok, Err, OnOk, is_ok, if◌then◌else◌}
 use Rattle.std.specs.List.{range_with_len}
 use Rattle.nv_super.proofs.Ranges.{range_more}
 
@@ -27,3 +27,21 @@ same_range f g a (suc n) same =
 pub added : {T E : Type 0} (result : Result T E) (old new piece other : List ℕ) → new ≡ (if is_ok result then old ++ piece else old) → piece ≡ other → OnOk result (new ≡ old ++ other)
 added (Ok done) old new piece other is same = is ∙ ap (λ (l : List ℕ). old ++ l) same
 added (Err refused) old new piece other is same = tt
+
+-- ---- what is read of one page: up to its end, or to that of what is wanted
+
+pub page_on : (at end stop : ℕ) → stop ≡ min end ((at / 4096 + 1) * 4096) → at < end → at ≤ stop
+page_on at end stop is more = omega arith
+
+pub page_high : (end next stop : ℕ) → stop ≡ min end next → stop ≤ end
+page_high end next stop is = omega arith
+
+pub page_smaller : (at end stop : ℕ) → stop ≡ min end ((at / 4096 + 1) * 4096) → at < end → end - stop < end - at
+page_smaller at end stop is more = omega arith
+
+pub on_page : (at end stop x : ℕ) → stop ≡ min end ((at / 4096 + 1) * 4096) → at ≤ x → x < at + (stop - at) → at / 4096 ≡ x / 4096
+on_page at end stop x is low high = omega arith
+
+-- all that is wanted
+pub all_read : (at offset count : ℕ) → offset + count ≤ at → at ≤ offset + count → at - offset ≡ count
+all_read at offset count past low = omega arith

@@ -1,5 +1,5 @@
 -- Pages stored anew: line by line, block by block, and run by run.
-use Rattle.std.proofs.Common.{◌≡◌, inl, inr, ℕ, ◌+◌, ◌-◌, ◌*◌, ◌/◌, ◌%◌, ◌<◌, ◌≤◌, Bool, true, false, nat_lt, cond, List, ◌∷◌, length, get_or, set, drop, Option, Some, None, IfSome, Result, Ok, Err, OnOk, refl, sym, ap, ◌∙◌, subst, arith, add-one}
+use Rattle.std.proofs.Common.{◌≡◌, inl, inr, ℕ, ◌+◌, ◌-◌, ◌*◌, ◌/◌, ◌%◌, ◌<◌, ◌≤◌, Bool, true, false, nat_lt, cond, List, ◌∷◌, length, get_or, set, drop, drop_of_length-le, Option, Some, None, IfSome, Result, Ok, Err, OnOk, refl, sym, ap, ◌∙◌, subst, arith, add-one}
 use Rattle.std.proofs.Math.Seq.{drop-cons}
 use Rattle.std.proofs.lemmas.Bool.{cases_eq, cases_lt}
 use Rattle.std.proofs.lemmas.Bool.Decides.{nat_tests}
@@ -153,3 +153,27 @@ pages_from runs i page total d h is =
 
 pub run_held : (runs : List Run) (i b : ℕ) (d : Run) → i < length runs → InRun (get_or runs i d) b → HasBlock runs b
 run_held runs i b d h of = (get_or runs i d, Contains-get_or runs i d h, of.0, of.1)
+
+-- ---- what the next block takes
+
+-- what holds of each block of an index holds of the one that it has for a page
+pub of_index : (m : Pages) (p : ℕ) (P : ℕ → Type 0) (o : Option ℕ) → o ≡ block_at m p → ((b : ℕ) → block_at m p ≡ Some b → P b) → IfSome o P
+of_index m p P (Some b) is each = each b (sym is)
+of_index m p P None is each = tt
+
+pub in_run_of : (r : Run) (k : ℕ) → k < r.count → InRun r (r.start + k)
+in_run_of r k low = (omega arith, omega (arith, low))
+
+-- a part of what is few is few
+pub less_of : (page : ℕ) {k count most : ℕ} → k < count → page + count ≤ most → page + k < most
+less_of page low few = omega arith
+
+pub part_of : (page count rest : ℕ) {total most : ℕ} → page + count + rest ≡ total → total ≤ most → page + count ≤ most
+part_of page count rest is few = omega arith
+
+pub none_below : (P : ℕ → Type 0) (j : ℕ) → j < 0 → P j
+none_below P j below = absurd (omega (arith, below))
+
+-- no run is left
+pub all_held : (R : Region) (bytes : ℕ → ℕ) (page : ℕ) (runs : List Run) (i : ℕ) → length runs ≤ i → HoldPages R bytes page (drop i runs)
+all_held R bytes page runs i past = subst (HoldPages R bytes page) (sym (drop_of_length-le runs past)) (λ k b given. absurd (cc))

@@ -11,6 +11,6 @@ loop-at-preserved g c =
     record {
       low = omega (arith, c.loop-at.invariant.low, on);
       high = place.1;
-      items = piece_more (byte_in (g.P.Pmem.region c.args.memory.now) c.args.block) _ _ _ _ c.args.start c.loop-at.at _ c.loop-at.invariant.low on c.loop-at.invariant.items c.in_ok-at.ensures.added
+      items = piece_more (byte_in (g.P.Pmem.region c.args.memory.now) c.args.block) c.args.bytes.now.items c.loop-at.bytes.items c.push_some.new.bytes.items (map (byte_in (g.P.Pmem.region c.args.memory.now) c.args.block) (range_with_len c.loop-at.at (c.in_ok-at.at - c.loop-at.at))) c.args.start c.loop-at.at c.in_ok-at.at c.loop-at.invariant.low on c.loop-at.invariant.items c.in_ok-at.ensures.added
           (refl {a = map (byte_in (g.P.Pmem.region c.args.memory.now) c.args.block) (range_with_len c.loop-at.at (c.in_ok-at.at - c.loop-at.at))});
     }

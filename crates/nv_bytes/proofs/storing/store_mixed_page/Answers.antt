@@ -1,15 +1,16 @@
-use Rattle.std.proofs.Common.{◌≡◌, ◌≢◌, ℕ, ◌+◌, ◌*◌, ◌<◌, arith, ap, sym, ◌∙◌, is_err, length}
-use Rattle.nv_region.specs.Region.{Region, size}
+use Rattle.std.proofs.Common.{◌≡◌, ◌≢◌, ℕ, ◌+◌, ◌*◌, ◌<◌, ◌≤◌, IfSome, arith, ap, refl, sym, ◌∙◌, subst, is_err, length}
+use Rattle.std.proofs.lemmas.Result.{err_from_is_err_and}
+use Rattle.nv_region.specs.Region.{Region, size, word}
 use Rattle.nv_region.proofs.Fuses.{keeps_more}
-use Rattle.nv_region.proofs.Wordwise.{stores_more}
+use Rattle.nv_region.proofs.Wordwise.{stores_more, stores_none}
 use Rattle.nv_region.specs.Lines.{put_words}
 use Rattle.nv_region.proofs.Lines.{put_words_size}
 use Rattle.nv_region.proofs.RowStores.{row_stores}
 use Rattle.nv_held.specs.Bytes.{byte_in}
-use Rattle.nv_bytes.specs.Bytes.{byte_after}
+use Rattle.nv_bytes.specs.Bytes.{byte_after, byte_of_word}
 use Rattle.nv_bytes.specs.Storing.{InBlocks}
 use Rattle.nv_held.proofs.BytesKept.{byte_stays}
-use Rattle.nv_bytes.proofs.StoredPages.{at_some, words_more, words_hold}
+use Rattle.nv_bytes.proofs.StoredPages.{at_some, words_more, words_hold, none_below}
 use Rattle.nv_bytes.proofs.storing.store_mixed_page.Goals as goal
 
 pub loop-k-preserved : goal.loop-k-preserved
@@ -41,3 +42,29 @@ pub returns-clause-stored : goal.returns-clause-stored
 returns-clause-stored g c =
     words_hold (g.P.Pmem.region c.loop-k.memory) (byte_after c.args.change.now.offset c.args.change.now.bytes.now c.args.change.now.size (byte_in (g.P.Pmem.region c.args.memory.now) c.args.from)) c.args.to c.args.page
     (λ j i below few. c.loop-k.invariant.made j i (omega (arith, below, c.loop-k-test.false)) few)
+
+pub returns-in_err-store_words-clause-stopped : goal.returns-in_err-store_words-clause-stopped
+returns-in_err-store_words-clause-stopped g c =
+    let error = err_from_is_err_and c.from_residual.result c.from_residual.ensures.1 in
+    ap is_err error.1 ∙ sym (ap is_err c.in_err-store_words.was) ∙ c.store_words.ensures.stopped
+
+pub returns-clause-wrote : goal.returns-clause-wrote
+returns-clause-wrote g c = c.loop-k.invariant.wrote
+
+pub returns-clause-keeps_fuse : goal.returns-clause-keeps_fuse
+returns-clause-keeps_fuse g c = c.loop-k.invariant.keeps_fuse
+
+pub next_line-line-requires-clause-inside : goal.next_line-line-requires-clause-inside
+next_line-line-requires-clause-inside g c = subst (λ (n : ℕ). IfSome c.args.from (λ b. b * 4096 + 4096 ≤ n)) (sym c.loop-k.invariant.len) c.requires.from
+
+pub next_line-line-requires-clause-small : goal.next_line-line-requires-clause-small
+next_line-line-requires-clause-small g c = c.requires.small
+
+pub loop-k-init : goal.loop-k-init
+loop-k-init g c = record {
+  made = λ j i low few. none_below (λ (j : ℕ). byte_of_word (word (g.P.Pmem.region c.args.memory.now) (c.args.to * 4096 + 8 * j)) i ≡ byte_after c.args.change.now.offset c.args.change.now.bytes.now c.args.change.now.size (byte_in (g.P.Pmem.region c.args.memory.now) c.args.from) (c.args.page * 4096 + 8 * j + i)) j low;
+  wrote = stores_none (InBlocks (λ b. b ≡ c.args.to)) (g.P.Pmem.region c.args.memory.now) (g.P.Pmem.may_hold c.args.memory.now);
+  len = refl;
+  quiet = λ some. absurd (omega (arith, some));
+  keeps_fuse = record { burnt = λ was. was; steady = λ was. was; stays_open = λ limit past was. was };
+}
