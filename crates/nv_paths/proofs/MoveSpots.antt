@@ -11,7 +11,7 @@ use Rattle.nv_tree.specs.declared.refusal.Refusal.{Refusal}
 use Rattle.nv_tree.specs.declared.refusal.Refusal.TheVariants.{BadName, Exists, IntoItself, NotFound, Stopped}
 use Rattle.nv_tree.specs.Path.{IsPath, Says}
 use Rattle.nv_tree.specs.Tree.{Node, Tree, found, is_directory, passed, walk}
-use Rattle.nv_tree.specs.Refusals.{Path, first_refusal, is_directory_at, is_into_itself, passes, refused_walk}
+use Rattle.nv_tree.specs.Refusals.{Path, Tests, first_refusal, is_bad_name, is_directory_at, is_into_itself, is_missing, is_there, passes, refused_walk, walk_tests}
 use Rattle.nv_paths.specs.MoveSpots.{rename_spot_tests}
 use Rattle.nv_paths.specs.Seen.{LeadsTo, node_of, tree_of}
 use Rattle.nv_paths.proofs.CreateTests.{said_names}
@@ -24,6 +24,16 @@ move_told w v missing into there = first_refusal ((false, BadName) ∷ (false, B
 -- the inode is a directory that the way passes
 abbrev pub passes_row : Tree → List (List ℕ) → Row → Bool
 passes_row t names row = is_directory row.kind && list_any (eqb row.inode) (passed t 1 names)
+
+-- the tests behind both of the names
+abbrev name_tests : Tree → Path → Path → Tests
+name_tests t p q = walk_tests t p ++ walk_tests t q ++ is_missing t p ∷ is_into_itself t p q ∷ is_there t q ∷ []
+
+pub bad_first : (t : Tree) (p q : Path) → is_bad_name p ≡ (true, BadName) → first_refusal (rename_spot_tests t p q) ≡ Some BadName
+bad_first t p q bad = ap (λ (x : Bool × Refusal). first_refusal (x ∷ is_bad_name q ∷ name_tests t p q)) bad
+
+pub bad_second : (t : Tree) (p q : Path) → is_bad_name p ≡ (false, BadName) → is_bad_name q ≡ (true, BadName) → first_refusal (rename_spot_tests t p q) ≡ Some BadName
+bad_second t p q good bad = ap (λ (x : Bool × Refusal). first_refusal (x ∷ is_bad_name q ∷ name_tests t p q)) good ∙ ap (λ (x : Bool × Refusal). first_refusal (x ∷ name_tests t p q)) bad
 
 module _ (R : Region) (rows : List Row) (name : List ℕ) (names : List (List ℕ)) (other : List ℕ) (others : List (List ℕ)) where
   abbrev t : Tree

@@ -10,11 +10,11 @@ use Rattle.nv_paths.specs.MoveSpots.{rename_spot_tests}
 use Rattle.nv_paths.specs.Seen.{tree_of}
 use Rattle.nv_scan.specs.declared.piece.Row.{Row}
 use Rattle.nv_rows.specs.Rows.{place_in}
-use Rattle.nv_rows.proofs.Places.{at_place}
+use Rattle.nv_rows.proofs.Places.{at_place, in_use}
 use Rattle.nv_paths.proofs.CreateTests.{last_is_name, long_text, none, none_of, row_leads, spells_names}
 use Rattle.nv_paths.proofs.LinkSpots.{found_some}
 use Rattle.nv_tree.proofs.Replies.{refused_by}
-use Rattle.nv_paths.proofs.MoveSpots.{inode_missing, into_itself, move_passes, new_way_refused, not_passed, old_way_refused, other_there, passes_row, said_two}
+use Rattle.nv_paths.proofs.MoveSpots.{bad_first, bad_second, inode_missing, into_itself, move_passes, new_way_refused, not_passed, old_way_refused, other_there, passes_row, said_two}
 use Rattle.nv_paths.proofs.NamedAt.{named_found, stands_for}
 use Rattle.nv_paths.proofs.Walks.{longer}
 use Rattle.nv_paths.proofs.moving.rename_for.Goals as goal
@@ -134,3 +134,29 @@ returns-clause-allowed c region =
     let led = row_leads region c.args.rows.now.items c.args.old.now c.in_ok-former_directory.former.now c.in_ok-former_directory.former_directory c.in_ok-former_directory.ensures.in_use c.target_at.result long (c.in_ok-former_directory.ensures.directory region) c.in_ok-former_directory.ensures.name c.target_at.ensures.row name names path c.in-Some.target c.in-Some.is in
     let into = c.is_into_itself.ensures region (other ∷ others) (spells_names c.args.new.now other others other_path) in
     move_passes region c.args.rows.now.items name names other others c.in_ok-former_directory.former_directory c.in_ok-directory.directory walked ended c.in-Some.target.now led (sym into ∙ c.if-is_into_itself.false) (found_some region c.args.rows.now.items c.args.new.now c.in_ok-directory.name.now c.in_ok-directory.directory c.in_ok-directory.ensures.in_use c.target_at-2.result long_new (c.in_ok-directory.ensures.directory region) c.in_ok-directory.ensures.name c.target_at-2.ensures.row other others other_path ∙ sym c.is_some.ensures ∙ c.if-is_some.false))
+
+pub returns-clause-from : goal.returns-clause-from
+returns-clause-from c = c.in_ok-former_directory.ensures.in_use
+
+pub returns-clause-target : goal.returns-clause-target
+returns-clause-target c = in_use c.args.rows.now.items c.in-Some.target.now.inode c.in-Some.target.now c.in-Some.ensures.held
+
+pub returns-clause-directory : goal.returns-clause-directory
+returns-clause-directory c = c.in_ok-directory.ensures.in_use
+
+pub returns-clause-paths : goal.returns-clause-paths
+returns-clause-paths c =
+    let some = c.has_name.ensures.good c.if-not-has_name.false in
+    ((some.0 ∷ some.1, some.2), c.has_name-2.ensures.good c.if-not-has_name-2.false)
+
+pub target_at-requires : goal.target_at-requires
+target_at-requires c = record { in_use = c.in_ok-former_directory.ensures.in_use }
+
+pub target_at-requires-2 : goal.target_at-requires-2
+target_at-requires-2 c = record { in_use = c.in_ok-directory.ensures.in_use }
+
+pub returns-then-not-has_name-clause-refused : goal.returns-then-not-has_name-clause-refused
+returns-then-not-has_name-clause-refused c region p q says says_new = bad_first (tree_of region c.args.rows.now.items) p q (c.has_name.ensures.bad c.if-not-has_name.true p says)
+
+pub returns-then-not-has_name-2-clause-refused : goal.returns-then-not-has_name-2-clause-refused
+returns-then-not-has_name-2-clause-refused c region p q says says_new = bad_second (tree_of region c.args.rows.now.items) p q (c.has_name.ensures.passed c.if-not-has_name.false p says) (c.has_name-2.ensures.bad c.if-not-has_name-2.true q says_new)

@@ -44,3 +44,15 @@ returns-clause-allowed c region p says =
 pub returns-clause-empty : goal.returns-clause-empty
 returns-clause-empty c row is =
     subst (λ (r : Row). (r.kind ≡ Directory) × ((q : List ℕ) → name_at r.names q ≡ None)) (some_only _ _ (sym c.row-row.ensures ∙ is)) (c.is_file.ensures.no c.if-is_file.false, c.is_empty.ensures.0 c.if-not-is_empty.false)
+
+pub returns-clause-directory : goal.returns-clause-directory
+returns-clause-directory c = c.in_ok-named.ensures.directory
+
+pub returns-clause-target : goal.returns-clause-target
+returns-clause-target c = c.in_ok-named.ensures.target
+
+pub returns-clause-name : goal.returns-clause-name
+returns-clause-name c = c.in_ok-named.ensures.name
+
+pub returns-clause-path : goal.returns-clause-path
+returns-clause-path c = c.in_ok-named.ensures.path

@@ -36,3 +36,15 @@ returns-clause-allowed c region p says =
 pub returns-clause-file : goal.returns-clause-file
 returns-clause-file c row is =
     subst (λ (r : Row). r.kind ≡ File) (some_only _ _ (sym c.row.ensures ∙ is)) (c.is_file.ensures.yes c.if-not-is_file.false)
+
+pub returns-clause-directory : goal.returns-clause-directory
+returns-clause-directory c = c.in_ok-named.ensures.directory
+
+pub returns-clause-target : goal.returns-clause-target
+returns-clause-target c = c.in_ok-named.ensures.target
+
+pub returns-clause-name : goal.returns-clause-name
+returns-clause-name c = c.in_ok-named.ensures.name
+
+pub returns-clause-path : goal.returns-clause-path
+returns-clause-path c = c.in_ok-named.ensures.path

@@ -9,7 +9,7 @@ use Rattle.nv_tree.specs.Refusals.{Path, first_refusal}
 use Rattle.nv_paths.specs.Places.{link_spot_tests}
 use Rattle.nv_paths.specs.Seen.{tree_of}
 use Rattle.nv_rows.specs.Rows.{place_in, row_of}
-use Rattle.nv_rows.proofs.Places.{at_place, row_in_use}
+use Rattle.nv_rows.proofs.Places.{at_place, in_use, row_in_use}
 use Rattle.nv_paths.proofs.CreateTests.{last_is_name, long_text, none_of, spells_names}
 use Rattle.nv_paths.proofs.LinkSpots.{few_links, file_is_directory, file_missing, found_some, is_file, link_passes, links_full, name_there, new_walk_refused, said_both}
 use Rattle.nv_tree.proofs.Replies.{refused_by}
@@ -107,3 +107,17 @@ returns-clause-allowed c region =
     c.in-Some.target.now (leads_to region c.args.rows.now.items names c.in-Some.target.now (sym (c.in_ok-file.ensures.row region names path) ∙ ap option_copied c.in-Some.is)) (sym c.is_directory.ensures ∙ c.if-is_directory.false)
     (found_some region c.args.rows.now.items c.args.new.now c.in_ok-directory.name.now c.in_ok-directory.directory c.in_ok-directory.ensures.in_use c.target_at.result long (c.in_ok-directory.ensures.directory region) c.in_ok-directory.ensures.name c.target_at.ensures.row other others other_path ∙ sym c.is_some.ensures ∙ c.if-is_some.false)
     (sym c.has_most_links.ensures ∙ c.if-has_most_links.false))
+
+pub returns-clause-directory : goal.returns-clause-directory
+returns-clause-directory c = c.in_ok-directory.ensures.in_use
+
+pub returns-clause-target : goal.returns-clause-target
+returns-clause-target c = in_use c.args.rows.now.items c.in-Some.target.now.inode c.in-Some.target.now (held_of c.args.rows.now.items c.in_ok-file.file c.in-Some.target c.in-Some.is c.in_ok-file.ensures.held)
+
+pub returns-clause-paths : goal.returns-clause-paths
+returns-clause-paths c =
+    let some_new = c.has_name.ensures.good c.if-not-has_name.false in
+    (c.is_path.ensures.some c.if-not-is_path.false, (some_new.0 ∷ some_new.1, some_new.2))
+
+pub target_at-requires : goal.target_at-requires
+target_at-requires c = record { in_use = c.in_ok-directory.ensures.in_use }

@@ -72,3 +72,6 @@ loop-row-preserved c =
                 left.3 region ∙ goes_on (tree_of region c.args.rows.now.items) c.loop-row.directory c.in-Some.target.inode left.0 c.split_name.result.0.now parts.names more.0 more.1 parts.is more.2 (sym (c.in_ok-row.ensures.reply region)) on,
           ),
     )
+
+pub loop-row-init : goal.loop-row-init
+loop-row-init c = (c.requires.some, λ names s. (names, s, refl, λ region. refl))
