@@ -1,5 +1,5 @@
 -- The rows and the faults of inodes that are scanned one after another.
-use Rattle.std.proofs.Common.{◌≡◌, ℕ, ◌+◌, ◌-◌, ◌<◌, IsTrue, List, [], ◌∷◌, ◌++◌, get_or, refl, ap, sym, ◌∙◌, subst, arith, append-nil}
+use Rattle.std.proofs.Common.{◌≡◌, ℕ, ◌+◌, ◌-◌, ◌<◌, ◌≤◌, IsTrue, List, [], ◌∷◌, ◌++◌, get_or, refl, ap, sym, ◌∙◌, subst, arith, append-nil}
 use Rattle.std.specs.List.{Contains, cons_option, range_with_len}
 use Rattle.std.specs.List.Sorted.{IsPermutation}
 use Rattle.std.proofs.lemmas.Bool.Decides.{nat_tests}
@@ -74,3 +74,19 @@ rows_apart {R} {s} {pieces} {x} layout inodes rows same = subst (AreApart s) (sy
 -- the faults between these rows, told of the same rows
 pub cross_same : (rows same : List Row) (cross : List Fault) → rows ≡ same → Lists fault_key (IsCrossFaultIn rows) cross → Lists fault_key (IsCrossFaultIn same) cross
 cross_same rows same cross is lists = subst (λ (r : List Row). Lists fault_key (IsCrossFaultIn r) cross) is lists
+
+-- ---- numbers that are counted up to an end
+
+-- where a count from 0 ends
+pub ended_at : {t end n : ℕ} → end ≡ n → end ≤ t → t ≤ end → t ≡ n
+ended_at is past low = omega arith
+
+-- where a count of inodes ends
+pub last_number : (limit : ℕ) {most inode : ℕ} → most ≡ limit - 1 → most + 1 ≤ inode → (1 ≤ most + 1 → inode ≤ most + 1) → limit - 1 + 1 ≡ inode
+last_number limit is past low = omega (arith, low (omega arith))
+
+pub before_last : (limit : ℕ) {inode : ℕ} → limit - 1 + 1 ≡ inode → inode - 1 ≡ limit - 1
+before_last limit is = omega arith
+
+pub some_number : {inode : ℕ} → 1 ≤ inode → 0 < inode
+some_number one = omega arith

@@ -5,6 +5,7 @@ ghost use Rattle.std.specs.List.{All};
 ghost use Rattle.nv_region.specs.Region.{HasBlocks};
 ghost use Rattle.nv_super.specs.Layout.{IsLayout};
 ghost use Rattle.nv_claimcore.specs.Claims.{nothing, both_views};
+ghost use Rattle.nv_claimmap.specs.Held.{Held};
 ghost use Rattle.nv_scan.specs.Tickets.{ticket_count};
 ghost use Rattle.nv_scan.specs.Work.{Returned};
 ghost use Rattle.nv_scan.specs.declared.piece.Piece.{Piece as PieceValue};
@@ -43,16 +44,36 @@ pub(crate) fn scan_by_workers<P: Pmem + Sync, G: Gate + Sync, H: Threads + Sync>
         workers: workers.min(tickets),
     };
     let (map, seats) = ClaimMap::open(alloc, sizes)?;
+    let brought = work_all(rt, alloc, memory, sup, &map, seats, gate)?;
+    Ok((brought.inodes, map.close(brought.seat)))
+}
+
+// What the workers bring, one for each seat, put together.
+fn work_all<P: Pmem + Sync, G: Gate + Sync, H: Threads + Sync>(
+    rt: &H,
+    alloc: Global,
+    memory: &P,
+    sup: &Super,
+    map: &ClaimMap,
+    seats: Vec<ClaimSeat>,
+    gate: &G,
+) -> Result<Brought, AllocError>
+    requires layout { IsLayout sup.now }
+    requires blocks { HasBlocks (P.region memory.now) sup.now.blocks }
+    requires sizes { (map.now.sizes.blocks ≡ sup.now.blocks) × (map.now.sizes.tickets ≡ ticket_count sup.now) }
+    requires some { 0 < vec_len seats }
+    requires fresh { All (λ (h : Held). (h.map ≡ map.now) × (h.view ≡ nothing 1)) seats.items }
+    ensures { IfOk result (IsBrought (P.region memory.now) sup.now map.now (vec_len seats)) }
+{
     let results = thread::map_vec(
         rt,
         seats,
         &|seat: ClaimSeat| -> WorkerResult
-            requires { (seat.map ≡ map) × (seat.view ≡ nothing 1) × (map.sizes.blocks ≡ sup.now.blocks) × (map.sizes.tickets ≡ ticket_count sup.now) × IsLayout sup.now × HasBlocks (P.region memory.now) sup.now.blocks }
-            ensures { Returned (P.region memory.entry.now) sup.entry.now map result }
-        { worker(alloc, memory, sup, &map, seat, gate) },
+            requires { (seat.map ≡ map.now) × (seat.view ≡ nothing 1) × (map.now.sizes.blocks ≡ sup.now.blocks) × (map.now.sizes.tickets ≡ ticket_count sup.now) × IsLayout sup.now × HasBlocks (P.region memory.now) sup.now.blocks }
+            ensures { Returned (P.region memory.entry.now) sup.entry.now map.entry.now result }
+        { worker(alloc, memory, sup, map, seat, gate) },
     )?;
-    let brought = join_all(memory, sup, &map, results)?;
-    Ok((brought.inodes, map.close(brought.seat)))
+    join_all(memory, sup, map, results)
 }
 
 /// What all workers brought: the seat that was joined of theirs, and their inodes, one worker's after another's.

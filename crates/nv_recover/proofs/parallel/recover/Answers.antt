@@ -1,8 +1,8 @@
-use Rattle.std.proofs.Common.{◌≡◌, ◌≢◌, [], IsTrue}
+use Rattle.std.proofs.Common.{◌≡◌, ◌≢◌, [], IsTrue, refl}
 use Rattle.nv_recover.specs.Errors.{Fails, comes_first}
 use Rattle.nv_recover.specs.declared.errors.RecoverError.{RecoverError}
-use Rattle.nv_recover.specs.declared.errors.RecoverError.TheVariants.{Stopped}
-use Rattle.nv_recover.proofs.Handed.{handed, memory_fails, memory_goes_on, memory_not_burnt, memory_not_first}
+use Rattle.nv_recover.specs.declared.errors.RecoverError.TheVariants.{Stopped, Workers}
+use Rattle.nv_recover.proofs.Handed.{goes_on, handed, memory_fails, memory_goes_on, memory_not_burnt, memory_not_first}
 use Rattle.nv_recover.proofs.Stops.{stop_before}
 use Rattle.nv_recover.proofs.parallel.recover.Goals as goal
 
@@ -110,3 +110,39 @@ returns-clause-settled g c = c.in_ok-started.ensures.settled
 
 pub returns-then-not-is_worker_count-clause-any_stop : goal.returns-then-not-is_worker_count-clause-any_stop
 returns-then-not-is_worker_count-clause-any_stop g c = λ s is none. stop_before (g.P.Pmem.region c.args.memory.now) (g.P.Pmem.may_hold c.args.memory.now) s is none
+
+pub returns-in_err-started-clause-workers : goal.returns-in_err-started-clause-workers
+returns-in_err-started-clause-workers g c = λ bad. absurd (c.is_worker_count.ensures.good c.if-not-is_worker_count.false bad)
+
+pub returns-in_err-scanned-clause-workers : goal.returns-in_err-scanned-clause-workers
+returns-in_err-scanned-clause-workers g c = λ bad. absurd (c.is_worker_count.ensures.good c.if-not-is_worker_count.false bad)
+
+pub returns-in_err-finish-clause-workers : goal.returns-in_err-finish-clause-workers
+returns-in_err-finish-clause-workers g c = λ bad. absurd (c.is_worker_count.ensures.good c.if-not-is_worker_count.false bad)
+
+pub returns-clause-workers : goal.returns-clause-workers
+returns-clause-workers g c = λ bad. absurd (c.is_worker_count.ensures.good c.if-not-is_worker_count.false bad)
+
+pub returns-then-not-is_worker_count-clause-quiet : goal.returns-then-not-is_worker_count-clause-quiet
+returns-then-not-is_worker_count-clause-quiet g c = λ s is quiet. refl
+
+pub returns-then-not-is_worker_count-clause-quiet_done : goal.returns-then-not-is_worker_count-clause-quiet_done
+returns-then-not-is_worker_count-clause-quiet_done g c = λ s is quiet. goes_on Workers tt
+
+pub returns-then-not-is_worker_count-clause-untouched : goal.returns-then-not-is_worker_count-clause-untouched
+returns-then-not-is_worker_count-clause-untouched g c = λ first. refl
+
+pub returns-then-not-is_worker_count-clause-workers : goal.returns-then-not-is_worker_count-clause-workers
+returns-then-not-is_worker_count-clause-workers g c = λ bad. (tt, refl)
+
+pub returns-then-not-is_worker_count-clause-err : goal.returns-then-not-is_worker_count-clause-err
+returns-then-not-is_worker_count-clause-err g c = (c.is_worker_count.ensures.bad c.if-not-is_worker_count.true, refl)
+
+pub returns-then-not-is_worker_count-clause-stopped : goal.returns-then-not-is_worker_count-clause-stopped
+returns-then-not-is_worker_count-clause-stopped g c = λ is. absurd (goes_on Workers tt is)
+
+pub returns-then-not-is_worker_count-clause-keeps_fuse : goal.returns-then-not-is_worker_count-clause-keeps_fuse
+returns-then-not-is_worker_count-clause-keeps_fuse g c = record { burnt = λ was. was; steady = λ was. was; stays_open = λ limit past was. was }
+
+pub returns-then-not-is_worker_count-clause-unstopped : goal.returns-then-not-is_worker_count-clause-unstopped
+returns-then-not-is_worker_count-clause-unstopped g c = λ s is free. goes_on Workers tt

@@ -1,8 +1,8 @@
-use Rattle.std.proofs.Common.{◌≡◌, ◌≢◌, IsTrue}
+use Rattle.std.proofs.Common.{◌≡◌, ◌≢◌, IsTrue, refl}
 use Rattle.nv_recover.specs.Errors.{Fails, comes_first}
 use Rattle.nv_recover.specs.declared.errors.RecoverError.{RecoverError}
-use Rattle.nv_recover.specs.declared.errors.RecoverError.TheVariants.{Stopped}
-use Rattle.nv_recover.proofs.Handed.{handed, memory_fails, memory_goes_on, memory_not_burnt, memory_not_first}
+use Rattle.nv_recover.specs.declared.errors.RecoverError.TheVariants.{Stopped, Workers, Schedule}
+use Rattle.nv_recover.proofs.Handed.{goes_on, handed, memory_fails, memory_goes_on, memory_not_burnt, memory_not_first}
 use Rattle.nv_recover.proofs.Stops.{stop_before}
 use Rattle.nv_recover.proofs.replaying.recover_replay.Goals as goal
 
@@ -113,3 +113,60 @@ returns-then-not-is_worker_count-clause-any_stop g c = λ s is none. stop_before
 
 pub returns-in-Some-clause-any_stop : goal.returns-in-Some-clause-any_stop
 returns-in-Some-clause-any_stop g c = λ s is none. stop_before (g.P.Pmem.region c.args.memory.now) (g.P.Pmem.may_hold c.args.memory.now) s is none
+
+pub returns-in_err-started-clause-workers : goal.returns-in_err-started-clause-workers
+returns-in_err-started-clause-workers g c = λ bad. absurd (c.is_worker_count.ensures.good c.if-not-is_worker_count.false bad)
+
+pub returns-in_err-scanned-clause-workers : goal.returns-in_err-scanned-clause-workers
+returns-in_err-scanned-clause-workers g c = λ bad. absurd (c.is_worker_count.ensures.good c.if-not-is_worker_count.false bad)
+
+pub returns-in_err-finish-clause-workers : goal.returns-in_err-finish-clause-workers
+returns-in_err-finish-clause-workers g c = λ bad. absurd (c.is_worker_count.ensures.good c.if-not-is_worker_count.false bad)
+
+pub returns-clause-workers : goal.returns-clause-workers
+returns-clause-workers g c = λ bad. absurd (c.is_worker_count.ensures.good c.if-not-is_worker_count.false bad)
+
+pub returns-in-Some-clause-workers : goal.returns-in-Some-clause-workers
+returns-in-Some-clause-workers g c = λ bad. absurd (c.is_worker_count.ensures.good c.if-not-is_worker_count.false bad)
+
+pub returns-then-not-is_worker_count-clause-quiet : goal.returns-then-not-is_worker_count-clause-quiet
+returns-then-not-is_worker_count-clause-quiet g c = λ s is quiet. refl
+
+pub returns-then-not-is_worker_count-clause-quiet_done : goal.returns-then-not-is_worker_count-clause-quiet_done
+returns-then-not-is_worker_count-clause-quiet_done g c = λ s is quiet. goes_on Workers tt
+
+pub returns-then-not-is_worker_count-clause-untouched : goal.returns-then-not-is_worker_count-clause-untouched
+returns-then-not-is_worker_count-clause-untouched g c = λ first. refl
+
+pub returns-then-not-is_worker_count-clause-workers : goal.returns-then-not-is_worker_count-clause-workers
+returns-then-not-is_worker_count-clause-workers g c = λ bad. (tt, refl)
+
+pub returns-then-not-is_worker_count-clause-err : goal.returns-then-not-is_worker_count-clause-err
+returns-then-not-is_worker_count-clause-err g c = (c.is_worker_count.ensures.bad c.if-not-is_worker_count.true, refl)
+
+pub returns-then-not-is_worker_count-clause-stopped : goal.returns-then-not-is_worker_count-clause-stopped
+returns-then-not-is_worker_count-clause-stopped g c = λ is. absurd (goes_on Workers tt is)
+
+pub returns-then-not-is_worker_count-clause-keeps_fuse : goal.returns-then-not-is_worker_count-clause-keeps_fuse
+returns-then-not-is_worker_count-clause-keeps_fuse g c = record { burnt = λ was. was; steady = λ was. was; stays_open = λ limit past was. was }
+
+pub returns-then-not-is_worker_count-clause-unstopped : goal.returns-then-not-is_worker_count-clause-unstopped
+returns-then-not-is_worker_count-clause-unstopped g c = λ s is free. goes_on Workers tt
+
+pub returns-in-Some-clause-quiet : goal.returns-in-Some-clause-quiet
+returns-in-Some-clause-quiet g c = λ s is quiet. refl
+
+pub returns-in-Some-clause-quiet_done : goal.returns-in-Some-clause-quiet_done
+returns-in-Some-clause-quiet_done g c = λ s is quiet. goes_on (Schedule c.in-Some.place) tt
+
+pub returns-in-Some-clause-untouched : goal.returns-in-Some-clause-untouched
+returns-in-Some-clause-untouched g c = λ first. refl
+
+pub returns-in-Some-clause-stopped : goal.returns-in-Some-clause-stopped
+returns-in-Some-clause-stopped g c = λ is. absurd (goes_on (Schedule c.in-Some.place) tt is)
+
+pub returns-in-Some-clause-keeps_fuse : goal.returns-in-Some-clause-keeps_fuse
+returns-in-Some-clause-keeps_fuse g c = record { burnt = λ was. was; steady = λ was. was; stays_open = λ limit past was. was }
+
+pub returns-in-Some-clause-unstopped : goal.returns-in-Some-clause-unstopped
+returns-in-Some-clause-unstopped g c = λ s is free. goes_on (Schedule c.in-Some.place) tt

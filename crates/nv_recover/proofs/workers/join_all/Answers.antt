@@ -36,7 +36,7 @@ loop-next-init g c =
       seats = omega (arith, one, len);
       rest = split.0;
       ended = subst (λ (h : Held). 0 < past (ticket_count s) h.view.numbers) (sym same) (first.ended whole);
-      work = same_work (ap (λ (h : Held). h.view) same) (c.reserve.ensures.items ∙ items c.in_ok-seat.ensures.rows) (items c.in_ok-seat.ensures.faults) (first.work whole);
+      work = same_work (ap (λ (h : Held). h.view) same) (◌∙◌ {A = List Row} c.reserve.ensures.items (items c.in_ok-seat.ensures.rows)) (items c.in_ok-seat.ensures.faults) (first.work whole);
     }
 
 pub join_next-requires-clause-other : goal.join_next-requires-clause-other

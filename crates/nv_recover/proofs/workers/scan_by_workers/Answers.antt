@@ -13,17 +13,20 @@ use Rattle.nv_recover.proofs.InOrder.{tickets_in_order}
 use Rattle.nv_claimmap.proofs.Seats.{fresh_all}
 use Rattle.nv_recover.proofs.workers.scan_by_workers.Goals as goal
 
-pub map_vec-requires-after_bounds : goal.map_vec-requires-after_bounds
-map_vec-requires-after_bounds g c κs within = λ i x l is.
-    let all = subst (All (λ (h : Held). (h.map ≡ c.in_ok-map.map) × (h.view ≡ nothing 1))) (sym c.in_ok-map.ensures.seats) (fresh_all c.in_ok-map.map c.min.result) in
-    let here = all i x l in (
-      ap (λ (h : Held). h.map) is ∙ here.0,
-      ap (λ (h : Held). h.view) is ∙ here.1,
-      ap (λ (z : Sizes). z.blocks) c.in_ok-map.ensures.sizes,
-      ap (λ (z : Sizes). z.tickets) c.in_ok-map.ensures.sizes ∙ c.ticket_count-tickets.ensures,
-      c.requires.layout,
-      c.requires.blocks,
-    )
+pub work_all-requires-clause-sizes : goal.work_all-requires-clause-sizes
+work_all-requires-clause-sizes g c κs within = (
+  ap (λ (z : Sizes). z.blocks) c.in_ok-map.ensures.sizes,
+  ap (λ (z : Sizes). z.tickets) c.in_ok-map.ensures.sizes ∙ c.ticket_count-tickets.ensures,
+)
+
+pub work_all-requires-clause-fresh : goal.work_all-requires-clause-fresh
+work_all-requires-clause-fresh g c κs within = subst (All (λ (h : Held). (h.map ≡ c.in_ok-map.map) × (h.view ≡ nothing 1))) (sym c.in_ok-map.ensures.seats) (fresh_all c.in_ok-map.map c.min.result)
+
+pub close-requires-clause-own : goal.close-requires-clause-own
+close-requires-clause-own g c = c.in_ok-brought.ensures.map
+
+pub close-requires-clause-all : goal.close-requires-clause-all
+close-requires-clause-all g c = c.in_ok-brought.ensures.seats ∙ c.in_ok-map.ensures.count ∙ sym (ap (λ (z : Sizes). z.workers) c.in_ok-map.ensures.sizes)
 
 pub returns : goal.returns
 returns g c =
