@@ -1,4 +1,5 @@
-use Rattle.std.proofs.Common.{◌≡◌, ◌+◌, ◌-◌, ◌++◌, ◌∷◌, [], ℕ, List, refl, ◌∙◌, arith, subst}
+use Rattle.std.proofs.Common.{◌≡◌, ◌≤◌, ◌+◌, ◌-◌, ◌*◌, ◌++◌, ◌∷◌, [], ℕ, List, refl, sym, ◌∙◌, subst}
+use Rattle.nv_region.specs.Region.{HasBlocks}
 use Rattle.nv_super.specs.declared.superblock.Super.{Super}
 use Rattle.nv_super.specs.declared.owners.Owner.{Owner}
 use Rattle.nv_super.specs.Layout.{inode_limit}
@@ -9,7 +10,7 @@ use Rattle.nv_recover.specs.Scanned.{AreWithin, IsNext}
 use Rattle.nv_recover.proofs.Claims.{claims_one_more}
 use Rattle.nv_recover.proofs.MadeMaps.{within_cover}
 use Rattle.nv_recover.proofs.Owned.{piece_within}
-use Rattle.nv_recover.proofs.Inodes.{first_none, first_more, all_first}
+use Rattle.nv_recover.proofs.Inodes.{first_none, first_more, all_first, last_number, before_last, some_number}
 use Rattle.nv_recover.proofs.one.scan_in_order.Goals as goal
 
 pub loop-inode-init : goal.loop-inode-init
@@ -37,11 +38,11 @@ loop-inode-preserved g c =
       same = c.reuse.ensures ∙ c.scan_next.ensures.same ∙ l.invariant.same;
       first = (
         pieces ++ next.piece ∷ [],
-        first_more (omega (arith, l.auto.inode)) l.invariant.first.1 next,
+        first_more (some_number l.auto.inode) l.invariant.first.1 next,
         subst (λ (claims : List (ℕ × Owner)). AreMaps claims c.claim_all.new.self.first.items c.claim_all.new.self.second.items) (claims_one_more pieces next.piece refl next.claims_are refl refl)
             (c.claim_all.ensures.maps (claims_in pieces) l.invariant.first.2),
       );
-      cover = (omega (arith, long.0, cover.0), omega (arith, long.1, cover.1));
+      cover = (subst (λ (n : ℕ). c.args.sup.now.blocks ≤ 64 * n) (sym long.0) cover.0, subst (λ (n : ℕ). c.args.sup.now.blocks ≤ 64 * n) (sym long.1) cover.1);
     }
 
 pub returns : goal.returns
@@ -49,6 +50,9 @@ returns g c =
     let s = c.args.sup.now in
     let l = c.loop-inode in
     let end = c.loop-inode-test.false in
-    let limit : inode_limit s - 1 + 1 ≡ l.inode = omega (arith, c.max_inode-inode-end.ensures, end, l.auto.inode) in
+    let limit : inode_limit s - 1 + 1 ≡ l.inode = last_number (inode_limit s) c.max_inode-inode-end.ensures end l.auto.inode-end in
     let first = l.invariant.first.1 in
-    (l.invariant.first.0, all_first c.requires.layout (omega (arith, limit)) first, record { each = first.each; rows_are = first.rows; maps = l.invariant.first.2; cover = l.invariant.cover })
+    (l.invariant.first.0, all_first c.requires.layout (before_last (inode_limit s) limit) first, record { each = first.each; rows_are = first.rows; maps = l.invariant.first.2; cover = l.invariant.cover })
+
+pub scan_next-requires-clause-blocks : goal.scan_next-requires-clause-blocks
+scan_next-requires-clause-blocks g c = subst (λ (s : Super). HasBlocks (g.P.Pmem.region c.args.memory.now) s.blocks) (sym c.loop-inode.invariant.same) c.requires.blocks
