@@ -36,7 +36,17 @@ pub bad_text : (text : List ℕ) → Says text None → (p : Path) → Says text
 bad_text text none None says = refl
 bad_text text none (Some names) says = absurd (none names says)
 
--- ---- a directory's row
+-- ---- a row on the way
+
+-- what a directory's row answers, and a file's
+told_by : (R : Region) (rows : List Row) (i : ℕ) (row : Row) (k : Kind) → row_of rows i ≡ Some row → row.kind ≡ k → cond (is_directory k) (Ok i) (Err NotDirectory) ≡ as_directory i (tree_of R rows i)
+told_by R rows i row k there kind = sym (ap (λ (o : Option Row). as_directory i (option_map (node_of R) o)) there ∙ ap (λ (k : Kind). cond (is_directory k) (Ok i) (Err NotDirectory)) kind)
+
+pub directory_told : (R : Region) (rows : List Row) (i : ℕ) (row : Row) → row_of rows i ≡ Some row → row.kind ≡ Directory → Ok i ≡ as_directory i (tree_of R rows i)
+directory_told R rows i row there kind = told_by R rows i row Directory there kind
+
+pub file_told : (R : Region) (rows : List Row) (i : ℕ) (row : Row) → row_of rows i ≡ Some row → row.kind ≡ File → Err NotDirectory ≡ as_directory i (tree_of R rows i)
+file_told R rows i row there kind = told_by R rows i row File there kind
 
 kind_told : (d : ℕ) (kind : Kind) → cond (is_directory kind) (Ok d) (Err NotDirectory) ≡ Ok d → kind ≡ Directory
 kind_told d File e = absurd (cc)

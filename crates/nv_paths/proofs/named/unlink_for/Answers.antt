@@ -27,6 +27,27 @@ returns-then-not-is_file-clause-refused c region p says =
     let held = own_row c.args.rows.now.items c.in_ok-named.named.target c.row.result.now c.row.ensures in
     unlink_directory region c.args.rows.now.items c.args.path.now c.in_ok-named.named.name.now (place_in c.args.rows.now.items c.in_ok-named.named.directory) (place_in c.args.rows.now.items c.in_ok-named.named.target) c.row.result.now held at (c.in_ok-named.ensures.spot region) p says (c.in_ok-named.ensures.allowed region p says) (c.is_file.ensures.no c.if-not-is_file.true)
 
+pub returns-then-not-is_file-clause-allowed : goal.returns-then-not-is_file-clause-allowed
+returns-then-not-is_file-clause-allowed c region p says = tt
+
+pub returns-then-not-is_file-clause-file : goal.returns-then-not-is_file-clause-file
+returns-then-not-is_file-clause-file c = tt
+
+pub returns-then-not-is_file-clause-directory : goal.returns-then-not-is_file-clause-directory
+returns-then-not-is_file-clause-directory c = tt
+
+pub returns-then-not-is_file-clause-target : goal.returns-then-not-is_file-clause-target
+returns-then-not-is_file-clause-target c = tt
+
+pub returns-then-not-is_file-clause-name : goal.returns-then-not-is_file-clause-name
+returns-then-not-is_file-clause-name c = tt
+
+pub returns-then-not-is_file-clause-path : goal.returns-then-not-is_file-clause-path
+returns-then-not-is_file-clause-path c = tt
+
+pub returns-then-not-is_file-clause-spot : goal.returns-then-not-is_file-clause-spot
+returns-then-not-is_file-clause-spot c region names path = tt
+
 pub returns-clause-allowed : goal.returns-clause-allowed
 returns-clause-allowed c region p says =
     let at = at_place c.args.rows.now.items c.in_ok-named.named.target ∙ c.row.ensures in
