@@ -1,5 +1,5 @@
 -- From what was scanned to the outcome.
-use Rattle.std.proofs.Common.{◌≡◌, ℕ, List, ◌++◌, map, ap, sym, ◌∙◌, subst, arith, append_assoc}
+use Rattle.std.proofs.Common.{◌≡◌, ℕ, ◌*◌, ◌≤◌, List, ◌++◌, length, map, ap, sym, ◌∙◌, subst, arith, append_assoc}
 use Rattle.std.specs.List.Sorted.{IsPermutation}
 use Rattle.std.proofs.lemmas.List.Sorted.{Contains-permutation, IsPermutation-sym, IsPermutation-append_left, IsPermutation-append_right}
 use Rattle.std.specs.Prelude.{Vec}
@@ -42,6 +42,10 @@ sorted_otherwise key given others sorted moved are = record {
 told_otherwise : (journal own others cross : List Fault) (doubled : List (ℕ × Owner)) (faults : List Fault) → IsPermutation others own → SortedOf fault_key (all_told journal own cross doubled) faults → SortedOf fault_key (all_told journal others cross doubled) faults
 told_otherwise journal own others cross doubled faults moved = sorted_otherwise fault_key (all_told journal own cross doubled) (all_told journal others cross doubled) faults
     (IsPermutation-append_right journal (others ++ (cross ++ map double_fault doubled)) (own ++ (cross ++ map double_fault doubled)) (IsPermutation-append_left (cross ++ map double_fault doubled) others own moved))
+
+-- words that cover some blocks, under another name
+pub covers_same : (blocks : ℕ) {here words : List ℕ} → here ≡ words → blocks ≤ 64 * length words → blocks ≤ 64 * length here
+covers_same blocks same covers = subst (λ (w : List ℕ). blocks ≤ 64 * length w) (sym same) covers
 
 -- the same, told of what is the same
 pub told_same : (journal : List Fault) {own own' cross cross' faults : List Fault} {doubled doubled' : List (ℕ × Owner)} → own ≡ own' → cross ≡ cross' → doubled ≡ doubled' → SortedOf fault_key (all_told journal own cross doubled) faults → SortedOf fault_key (all_told journal own' cross' doubled') faults

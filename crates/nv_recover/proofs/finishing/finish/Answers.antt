@@ -1,11 +1,11 @@
-use Rattle.std.proofs.Common.{List, ℕ, ap, arith, length, refl, subst}
+use Rattle.std.proofs.Common.{List, ℕ, refl, subst}
 use Rattle.nv_alloc.specs.FreeLists.{AreOutside}
-use Rattle.nv_recover.proofs.Answers.{answer_of, told_same}
+use Rattle.nv_recover.proofs.Answers.{answer_of, covers_same, told_same}
 use Rattle.nv_recover.proofs.Inodes.{rows_apart}
 use Rattle.nv_recover.proofs.finishing.finish.Goals as goal
 
 pub from_words-requires-clause-covers : goal.from_words-requires-clause-covers
-from_words-requires-clause-covers c = let cover = c.requires.scanned.1.owned.cover in let same = ap length c.deref.ensures.value in omega (arith, same, cover)
+from_words-requires-clause-covers c = covers_same _ c.deref.ensures.value c.requires.scanned.1.owned.cover
 
 pub from_rows-requires-clause-numbers : goal.from_rows-requires-clause-numbers
 from_rows-requires-clause-numbers c = let s = c.requires.scanned.1 in (rows_apart c.requires.layout s.inodes c.args.scanned.inodes.rows.items refl).apart
