@@ -1,13 +1,13 @@
 //! Worked examples. `TWO_POOLS` has the system blocks 0 to 4 and the pools 5 to 33 and 34 to 63.
 
-ghost use Rattle.std.specs.Prelude.{◌≡◌, ◌<◌, ◌≤◌, ◌+◌, ◌*◌, IfOk, length};
+ghost use Rattle.std.specs.Prelude.{◌≡◌, ◌<◌, ◌≤◌, ◌+◌, ◌*◌, length};
 ghost use Rattle.nv_super.specs.Layout.{IsLayout};
 
+use crate::checks::{check, check_at};
 use nv_alloc::{AllocRefusal, Allocators};
 use nv_super::{Run, Super};
 use std::alloc::{AllocError, Global};
 use std::process::Abort;
-use std::test::Fail;
 
 const TWO_POOLS: Super = Super {
     version: 1,
@@ -51,10 +51,22 @@ fn run(start: u64, count: u64) -> Run
 }
 
 /// Blocks 0 to 5 of two pools are in use.
-fn two_pools(alloc: Global) -> Result<Allocators, AllocError>
-    ensures { IfOk result (λ a. a.sup.cpus ≡ 2) }
+fn two_pools(rt: &impl Abort, alloc: Global) -> Allocators
+    ensures { result.sup.cpus ≡ 2 }
 {
-    Allocators::from_words(alloc, &[63], &TWO_POOLS)
+    pools(rt, alloc, &[63], &TWO_POOLS)
+}
+
+/// The pools of a superblock where these words tell the blocks in use.
+fn pools(rt: &impl Abort, alloc: Global, words: &[u64], sup: &Super) -> Allocators
+    requires layout { IsLayout sup.now }
+    requires covers { sup.now.blocks ≤ 64 * length words.now }
+    ensures { result.sup.cpus ≡ sup.now.cpus }
+{
+    match Allocators::from_words(alloc, words, sup) {
+        Ok(free) => free,
+        Err(_) => rt.panic("memory for the pools"),
+    }
 }
 
 /// The lists of two pools in which all blocks are in use once three runs are given, of which the last lies between the others.
@@ -76,38 +88,32 @@ fn lists_after(alloc: Global, low: Run, high: Run, middle: Run) -> Result<Vec<Ve
 type Pair = (u64, u64);
 
 fn assert_runs(rt: &impl Abort, runs: &[Run], wanted: &[Pair]) {
-    assert!(rt; runs.len() == wanted.len());
+    check(rt, runs.len() == wanted.len(), "the number of runs");
     for (run, (start, count)) in runs.iter().zip(wanted) {
-        assert!(rt; (run.start, run.count) == (*start, *count));
+        check_at(rt, run.start == *start, "a run's start", *start);
+        check_at(rt, run.count == *count, "a run's count", *start);
     }
 }
 
 /// The runs of each pool.
 fn assert_lists(rt: &impl Abort, lists: &[Vec<Run>], wanted: &[&[Pair]]) {
-    assert!(rt; lists.len() == wanted.len());
+    check(rt, lists.len() == wanted.len(), "the number of pools");
     for (list, runs) in lists.iter().zip(wanted) {
         assert_runs(rt, list, runs);
     }
 }
 
 /// The runs that are free in each pool.
-fn assert_free(rt: &impl Abort, free: &Allocators, wanted: &[&[Pair]]) -> Result<(), AllocError> {
-    assert_lists(rt, &free.lists()?, wanted);
-    Ok(())
+fn assert_free(rt: &impl Abort, free: &Allocators, wanted: &[&[Pair]]) {
+    let lists = free.lists().expect(rt, "memory");
+    assert_lists(rt, &lists, wanted);
 }
 
-/// So many blocks are free, in these runs.
-fn assert_counted(
-    rt: &impl Abort,
-    free: &Allocators,
-    count: u64,
-    wanted: &[&[Pair]],
-) -> Result<(), AllocError> {
-    assert!(rt; free.free_blocks() == count);
-    assert_free(rt, free, wanted)
+fn assert_count(rt: &impl Abort, free: &Allocators, count: u64) {
+    check(rt, free.free_blocks() == count, "the number of free blocks");
 }
 
-/// What is free where these words tell the blocks in use.
+/// What is free where these words tell the blocks in use: so many blocks, in these runs.
 fn assert_from(
     rt: &impl Abort,
     alloc: Global,
@@ -115,12 +121,13 @@ fn assert_from(
     sup: &Super,
     count: u64,
     wanted: &[&[Pair]],
-) -> Result<(), AllocError>
+)
     requires layout { IsLayout sup.now }
     requires covers { sup.now.blocks ≤ 64 * length words.now }
 {
-    let free = Allocators::from_words(alloc, words, sup)?;
-    assert_counted(rt, &free, count, wanted)
+    let free = pools(rt, alloc, words, sup);
+    assert_count(rt, &free, count);
+    assert_free(rt, &free, wanted);
 }
 
 const FROM_6: [&[Pair]; 2] = [&[(6, 28)], &[(34, 30)]];
@@ -131,28 +138,23 @@ const FROM_4: [&[Pair]; 1] = [&[(4, 12)]];
 
 // Blocks in use part the runs, and blocks past the end are not free.
 #[test]
-fn each_pool_lists_its_blocks_that_are_not_in_use(rt: HostRuntime) -> Result<(), AllocError> {
+fn each_pool_lists_its_blocks_that_are_not_in_use(rt: HostRuntime) {
     let parted = [0x8000_0000_0000_0020];
-    assert_from(&rt, rt.alloc(), &[63], &TWO_POOLS, 58, &FROM_6)?;
-    assert_from(&rt, rt.alloc(), &parted, &TWO_POOLS, 57, &FROM_6_TO_62)?;
-    assert_from(&rt, rt.alloc(), &[8, 0], &ONE_POOL, 12, &FROM_4)
+    assert_from(&rt, rt.alloc(), &[63], &TWO_POOLS, 58, &FROM_6);
+    assert_from(&rt, rt.alloc(), &parted, &TWO_POOLS, 57, &FROM_6_TO_62);
+    assert_from(&rt, rt.alloc(), &[8, 0], &ONE_POOL, 12, &FROM_4);
 }
 
 /// A take of two pools gives these runs.
-fn assert_taken(
-    rt: &impl Abort,
-    free: &mut Allocators,
-    cpu: u64,
-    n: u64,
-    wanted: &[Pair],
-) -> Result<(), AllocRefusal>
+fn assert_taken(rt: &impl Abort, free: &mut Allocators, cpu: u64, n: u64, wanted: &[Pair])
     requires pools { free.old.sup.cpus ≡ 2 }
     requires cpu { cpu < 2 }
     ensures { free.new.sup.cpus ≡ 2 }
 {
-    let taken = free.take(cpu, n)?;
-    assert_runs(rt, &taken, wanted);
-    Ok(())
+    match free.take(cpu, n) {
+        Ok(taken) => assert_runs(rt, &taken, wanted),
+        Err(_) => rt.panic("a take is refused"),
+    }
 }
 
 /// A take of two pools finds no space.
@@ -161,7 +163,8 @@ fn assert_no_space(rt: &impl Abort, free: &mut Allocators, cpu: u64, n: u64)
     requires cpu { cpu < 2 }
     ensures { free.new.sup.cpus ≡ 2 }
 {
-    assert!(rt; free.take(cpu, n).err() == Some(AllocRefusal::NoSpace));
+    let refusal = free.take(cpu, n).err();
+    check(rt, refusal == Some(AllocRefusal::NoSpace), "no space");
 }
 
 const FIRST_OF_0: [Pair; 2] = [(6, 28), (34, 2)];
@@ -169,60 +172,54 @@ const FIRST_OF_0: [Pair; 2] = [(6, 28), (34, 2)];
 const FIRST_OF_1: [Pair; 2] = [(34, 30), (6, 28)];
 
 /// The first take of two pools gives these runs.
-fn assert_first(
-    rt: &impl Abort,
-    alloc: Global,
-    cpu: u64,
-    n: u64,
-    wanted: &[Pair],
-) -> Result<(), Fail>
+fn assert_first(rt: &impl Abort, alloc: Global, cpu: u64, n: u64, wanted: &[Pair])
     requires { cpu < 2 }
 {
-    let mut free = two_pools(alloc)?;
-    Ok(assert_taken(rt, &mut free, cpu, n, wanted)?)
+    let mut free = two_pools(rt, alloc);
+    assert_taken(rt, &mut free, cpu, n, wanted);
 }
 
 #[test]
-fn the_own_pool_is_taken_first_and_then_the_fullest(rt: HostRuntime) -> Result<(), Fail> {
-    assert_first(&rt, rt.alloc(), 0, 30, &FIRST_OF_0)?;
-    assert_first(&rt, rt.alloc(), 1, 58, &FIRST_OF_1)
+fn the_own_pool_is_taken_first_and_then_the_fullest(rt: HostRuntime) {
+    assert_first(&rt, rt.alloc(), 0, 30, &FIRST_OF_0);
+    assert_first(&rt, rt.alloc(), 1, 58, &FIRST_OF_1);
 }
 
 const ALL: [Pair; 2] = [(6, 28), (34, 30)];
 
 /// Takes all blocks, and asks for more before and after.
-fn take_all(rt: &impl Abort, free: &mut Allocators) -> Result<(), AllocRefusal>
+fn take_all(rt: &impl Abort, free: &mut Allocators)
     requires { free.old.sup.cpus ≡ 2 }
 {
     assert_no_space(rt, free, 0, 59);
-    assert_taken(rt, free, 0, 58, &ALL)?;
-    assert!(rt; free.free_blocks() == 0);
+    assert_taken(rt, free, 0, 58, &ALL);
+    assert_count(rt, free, 0);
     assert_no_space(rt, free, 1, 1);
-    assert_taken(rt, free, 1, 0, &[])
+    assert_taken(rt, free, 1, 0, &[]);
 }
 
 #[test]
-fn more_than_all_is_refused_and_changes_nothing(rt: HostRuntime) -> Result<(), Fail> {
-    let mut free = two_pools(rt.alloc())?;
-    Ok(take_all(&rt, &mut free)?)
+fn more_than_all_is_refused_and_changes_nothing(rt: HostRuntime) {
+    let mut free = two_pools(&rt, rt.alloc());
+    take_all(&rt, &mut free);
 }
 
 const ONLY_7: [Pair; 1] = [(7, 1)];
 
 const ONLY_7_IN_THE_LAST: [&[Pair]; 3] = [&[], &[], &ONLY_7];
 
-fn assert_other(rt: &impl Abort, free: &mut Allocators) -> Result<(), Fail>
+fn assert_other(rt: &impl Abort, free: &mut Allocators)
     requires { free.old.sup.cpus ≡ 3 }
 {
-    assert_free(rt, free, &ONLY_7_IN_THE_LAST)?;
-    assert_runs(rt, &free.take(0, 1)?, &ONLY_7);
-    Ok(())
+    assert_free(rt, free, &ONLY_7_IN_THE_LAST);
+    let taken = free.take(0, 1).expect(rt, "a take");
+    assert_runs(rt, &taken, &ONLY_7);
 }
 
 #[test]
-fn an_empty_pool_takes_from_another(rt: HostRuntime) -> Result<(), Fail> {
-    let mut free = three_pools(rt.alloc())?;
-    assert_other(&rt, &mut free)
+fn an_empty_pool_takes_from_another(rt: HostRuntime) {
+    let mut free = pools(&rt, rt.alloc(), &[0], &THREE_POOLS);
+    assert_other(&rt, &mut free);
 }
 
 const BEHIND_FULL_WORDS: [&[Pair]; 1] = [&[(5000, 1), (8190, 2)]];
@@ -231,34 +228,22 @@ const THE_LAST: [&[Pair]; 1] = [&[(8191, 1)]];
 
 const FIRST_TWO: [Pair; 2] = [(5000, 1), (8190, 1)];
 
-fn assert_behind(rt: &impl Abort, free: &mut Allocators) -> Result<(), Fail>
+fn assert_behind(rt: &impl Abort, free: &mut Allocators)
     requires { free.old.sup.cpus ≡ 1 }
 {
-    assert_free(rt, free, &BEHIND_FULL_WORDS)?;
-    assert_runs(rt, &free.take(0, 2)?, &FIRST_TWO);
-    assert_free(rt, free, &THE_LAST)?;
-    Ok(())
+    assert_free(rt, free, &BEHIND_FULL_WORDS);
+    let taken = free.take(0, 2).expect(rt, "a take");
+    assert_runs(rt, &taken, &FIRST_TWO);
+    assert_free(rt, free, &THE_LAST);
 }
 
 #[test]
-fn blocks_behind_full_words_are_found(rt: HostRuntime) -> Result<(), Fail> {
+fn blocks_behind_full_words_are_found(rt: HostRuntime) {
     let mut words = [u64::MAX; 128];
     words[78] = !(1 << 8);
     words[127] = u64::MAX >> 2;
-    let mut free = wide_pool(rt.alloc(), &words)?;
-    assert_behind(&rt, &mut free)
-}
-
-fn wide_pool(alloc: Global, words: &[u64; 128]) -> Result<Allocators, AllocError>
-    ensures { IfOk result (λ a. a.sup.cpus ≡ 1) }
-{
-    Allocators::from_words(alloc, words, &WIDE_POOL)
-}
-
-fn three_pools(alloc: Global) -> Result<Allocators, AllocError>
-    ensures { IfOk result (λ a. a.sup.cpus ≡ 3) }
-{
-    Allocators::from_words(alloc, &[0], &THREE_POOLS)
+    let mut free = pools(&rt, rt.alloc(), &words, &WIDE_POOL);
+    assert_behind(&rt, &mut free);
 }
 
 /// The same runs leave these in each pool.
@@ -269,15 +254,14 @@ fn assert_given(
     high: Run,
     middle: Run,
     wanted: &[&[Pair]],
-) -> Result<(), AllocError>
+)
     requires from { 5 ≤ low.start }
     requires below { low.start + low.count ≤ middle.start }
     requires above { middle.start + middle.count ≤ high.start }
     requires to { high.start + high.count ≤ 64 }
 {
-    let lists = lists_after(alloc, low, high, middle)?;
+    let lists = lists_after(alloc, low, high, middle).expect(rt, "memory");
     assert_lists(rt, &lists, wanted);
-    Ok(())
 }
 
 const BOTH_JOINED: [&[Pair]; 2] = [&[(10, 5)], &[]];
@@ -290,19 +274,20 @@ const OVER_THE_BORDER: [&[Pair]; 2] = [&[(6, 1), (30, 4)], &[(34, 4)]];
 
 // One that goes over the border of two pools joins both.
 #[test]
-fn a_run_joins_the_two_that_it_touches(rt: HostRuntime) -> Result<(), AllocError> {
+fn a_run_joins_the_two_that_it_touches(rt: HostRuntime) {
+    let alloc: Global = rt.alloc();
     let low = run(10, 2);
-    assert_given(&rt, rt.alloc(), low, run(13, 2), run(12, 1), &BOTH_JOINED)?;
-    assert_given(&rt, rt.alloc(), low, run(14, 2), run(12, 1), &LOW_JOINED)?;
-    assert_given(&rt, rt.alloc(), low, run(14, 2), run(13, 1), &HIGH_JOINED)?;
+    assert_given(&rt, alloc, low, run(13, 2), run(12, 1), &BOTH_JOINED);
+    assert_given(&rt, alloc, low, run(14, 2), run(12, 1), &LOW_JOINED);
+    assert_given(&rt, alloc, low, run(14, 2), run(13, 1), &HIGH_JOINED);
     assert_given(
         &rt,
-        rt.alloc(),
+        alloc,
         run(6, 1),
         run(40, 0),
         run(30, 8),
         &OVER_THE_BORDER,
-    )
+    );
 }
 
 fn is_shown_as(alloc: Global, refusal: AllocRefusal, text: &str) -> Result<bool, AllocError> {
@@ -310,8 +295,9 @@ fn is_shown_as(alloc: Global, refusal: AllocRefusal, text: &str) -> Result<bool,
 }
 
 #[test]
-fn a_refusal_has_its_name(rt: HostRuntime) -> Result<(), AllocError> {
-    assert!(rt; is_shown_as(rt.alloc(), AllocRefusal::NoSpace, "NoSpace")?);
-    assert!(rt; is_shown_as(rt.alloc(), AllocRefusal::Memory, "Memory")?);
-    Ok(())
+fn a_refusal_has_its_name(rt: HostRuntime) {
+    let no_space = is_shown_as(rt.alloc(), AllocRefusal::NoSpace, "NoSpace");
+    check(&rt, no_space == Ok(true), "the name of no space");
+    let memory = is_shown_as(rt.alloc(), AllocRefusal::Memory, "Memory");
+    check(&rt, memory == Ok(true), "the name of no memory");
 }

@@ -4,6 +4,7 @@
 ghost use Rattle.std.specs.Prelude.{IfOk, ◌+◌, ◌≤◌};
 ghost use Rattle.nv_claimcore.specs.Replay.{lists, Inside};
 
+use crate::checks::{check, check_at};
 use nv_claimcore::{ClaimState, CoreRefusal, Event, Record, Sizes, Worker, replay, run};
 use nv_super::{Owner, Run};
 use std::alloc::{AllocError, Global};
@@ -42,7 +43,6 @@ const EVENTS: [Event; 7] = [
 ];
 
 // What a worker is to have at the end: the numbers that it drew, and its one record.
-#[derive(Clone, Copy)]
 struct Wanted {
     numbers: [u64; 2],
     record: Record,
@@ -63,24 +63,26 @@ const WON_DATA: Record = Record {
 };
 
 fn assert_worker(rt: &impl Abort, worker: &Worker, wanted: &Wanted) {
-    assert!(rt; worker.numbers() == wanted.numbers.as_slice());
-    assert!(rt; worker.records() == [wanted.record].as_slice());
+    let numbers = wanted.numbers.as_slice();
+    check(rt, worker.numbers() == numbers, "the numbers of a worker");
+    let records = [wanted.record];
+    check(rt, worker.records() == records.as_slice(), "its records");
 }
 
 // Both claimed block 3 of four, and drew four numbers in all.
 fn assert_state(rt: &impl Abort, state: &ClaimState, wanted: &[Wanted]) {
     assert_sets(rt, state, 8, 8);
-    assert!(rt; state.cursor() == 4);
+    check(rt, state.cursor() == 4, "the cursor");
     let workers = state.views();
-    assert!(rt; workers.len() == wanted.len());
+    check(rt, workers.len() == wanted.len(), "the number of workers");
     for (worker, wanted) in workers.iter().zip(wanted) {
         assert_worker(rt, worker, wanted);
     }
 }
 
 fn assert_sets(rt: &impl Abort, state: &ClaimState, first: u64, second: u64) {
-    assert!(rt; state.first() == [first].as_slice());
-    assert!(rt; state.second() == [second].as_slice());
+    check(rt, state.first() == [first].as_slice(), "the first set");
+    check(rt, state.second() == [second].as_slice(), "the second set");
 }
 
 const LOSES_AND_MARKS: Wanted = Wanted {
@@ -93,17 +95,19 @@ const WINS: Wanted = Wanted {
     record: WON_DATA,
 };
 
+const MARKED: [Wanted; 2] = [LOSES_AND_MARKS, WINS];
+
 #[test]
-fn the_second_claim_of_a_block_is_lost_and_marked(rt: HostRuntime) -> Result<(), CoreRefusal> {
-    let state = run(rt.alloc(), SIZES, &EVENTS)?;
-    assert_state(&rt, &state, &[LOSES_AND_MARKS, WINS]);
-    Ok(())
+fn the_second_claim_of_a_block_is_lost_and_marked(rt: HostRuntime) {
+    let state = run(rt.alloc(), SIZES, &EVENTS).expect(&rt, "a run");
+    assert_state(&rt, &state, &MARKED);
 }
 
 // The event at this place is the first that is refused.
 fn assert_refused(rt: &impl Abort, alloc: Global, events: &[Event], place: usize) {
     let refusal = run(alloc, SIZES, events).err();
-    assert!(rt; refusal == Some(CoreRefusal::NotAllowed { place }));
+    let wanted = Some(CoreRefusal::NotAllowed { place });
+    check_at(rt, refusal == wanted, "a refused event", place as u64);
 }
 
 // The winner marks the block.
@@ -140,12 +144,16 @@ fn the_first_event_that_is_not_allowed_is_refused(rt: HostRuntime) {
     assert_refused(&rt, rt.alloc(), &PAST_THE_BLOCKS, 0);
 }
 
+fn one_draw_more(alloc: Global) -> Result<Vec<Event>, AllocError> {
+    let mut events = Vec::from_array(alloc, EVENTS)?;
+    events.push(Event::Draw { worker: 0 })?;
+    Ok(events)
+}
+
 #[test]
-fn a_draw_more_is_refused(rt: HostRuntime) -> Result<(), AllocError> {
-    let mut one_draw_more = Vec::from_array(rt.alloc(), EVENTS)?;
-    one_draw_more.push(Event::Draw { worker: 0 })?;
-    assert_refused(&rt, rt.alloc(), &one_draw_more, 7);
-    Ok(())
+fn a_draw_more_is_refused(rt: HostRuntime) {
+    let events = one_draw_more(rt.alloc()).expect(&rt, "memory");
+    assert_refused(&rt, rt.alloc(), &events, 7);
 }
 
 // Ticket 0 claims block 3 for a log, ticket 1 for a file.
@@ -168,6 +176,8 @@ const DRAWS_0_AND_LOSES: Wanted = Wanted {
     record: LOST_LOG,
 };
 
+const SCHEDULED: [Wanted; 2] = [DRAWS_1_AND_WINS, DRAWS_0_AND_LOSES];
+
 // So much work is done by two workers in this order of turns.
 fn replayed(alloc: Global, turns: &[u32]) -> Result<ClaimState, CoreRefusal> {
     let work = work(alloc)?;
@@ -175,24 +185,22 @@ fn replayed(alloc: Global, turns: &[u32]) -> Result<ClaimState, CoreRefusal> {
 }
 
 #[test]
-fn a_schedule_says_which_worker_wins(rt: HostRuntime) -> Result<(), CoreRefusal> {
-    let state = replayed(rt.alloc(), &[1, 0, 0])?;
-    assert_state(&rt, &state, &[DRAWS_1_AND_WINS, DRAWS_0_AND_LOSES]);
-    Ok(())
+fn a_schedule_says_which_worker_wins(rt: HostRuntime) {
+    let state = replayed(rt.alloc(), &[1, 0, 0]).expect(&rt, "a replay");
+    assert_state(&rt, &state, &SCHEDULED);
 }
 
 #[test]
 fn a_number_that_names_no_worker_is_refused(rt: HostRuntime) {
     let refusal = replayed(rt.alloc(), &[2]).err();
-    assert!(rt; refusal == Some(CoreRefusal::NotAllowed { place: 0 }));
+    check(&rt, refusal == Some(NOT_ALLOWED), "no worker 2");
 }
 
 #[test]
-fn a_worker_past_the_end_has_no_step(rt: HostRuntime) -> Result<(), CoreRefusal> {
+fn a_worker_past_the_end_has_no_step(rt: HostRuntime) {
     let nothing = Vec::new(rt.alloc());
-    let cursor = replay(rt.alloc(), &[0, 0, 0], 0, 1, &nothing)?.cursor();
-    assert!(rt; cursor == 1);
-    Ok(())
+    let state = replay(rt.alloc(), &[0, 0, 0], 0, 1, &nothing).expect(&rt, "a replay");
+    check(&rt, state.cursor() == 1, "the cursor");
 }
 
 // One word of 64 blocks, and two workers.
@@ -228,7 +236,8 @@ fn assert_claimed(
 )
     requires { run.start + run.count ≤ 64 }
 {
-    assert!(rt; claim_of_file(state, worker, run, inode) == answer);
+    let answered = claim_of_file(state, worker, run, inode) == answer;
+    check_at(rt, answered, "a claim of an inode", inode);
 }
 
 fn mark_in_word(state: &mut ClaimState, worker: u32, mask: u64) -> Result<(), CoreRefusal> {
@@ -245,7 +254,8 @@ fn assert_marked(
     mask: u64,
     answer: Result<(), CoreRefusal>,
 ) {
-    assert!(rt; mark_in_word(state, worker, mask) == answer);
+    let answered = mark_in_word(state, worker, mask) == answer;
+    check_at(rt, answered, "a mark", mask);
 }
 
 const LAST_FOUR: Run = Run {
@@ -280,10 +290,9 @@ fn assert_spans(rt: &impl Abort, state: &mut ClaimState) {
 }
 
 #[test]
-fn a_span_gives_the_mask_of_its_lost_claims(rt: HostRuntime) -> Result<(), CoreRefusal> {
-    let mut state = run(rt.alloc(), ONE_WORD, &[])?;
+fn a_span_gives_the_mask_of_its_lost_claims(rt: HostRuntime) {
+    let mut state = run(rt.alloc(), ONE_WORD, &[]).expect(&rt, "a run");
     assert_spans(&rt, &mut state);
-    Ok(())
 }
 
 const NEXT_TO_LAST: Run = Run {
@@ -305,8 +314,7 @@ fn assert_place(rt: &impl Abort, state: &mut ClaimState) {
 }
 
 #[test]
-fn a_mark_is_refused_at_its_place_in_the_mask(rt: HostRuntime) -> Result<(), CoreRefusal> {
-    let mut state = run(rt.alloc(), ONE_WORD, &[])?;
+fn a_mark_is_refused_at_its_place_in_the_mask(rt: HostRuntime) {
+    let mut state = run(rt.alloc(), ONE_WORD, &[]).expect(&rt, "a run");
     assert_place(&rt, &mut state);
-    Ok(())
 }

@@ -4,6 +4,7 @@ ghost use Rattle.std.specs.Prelude.{◌≡◌, ◌+◌, ◌<◌, ◌≤◌, IfOk
 ghost use Rattle.nv_super.specs.Owners.{MayOwn};
 ghost use Rattle.nv_claimcore.specs.Claims.{nothing, both_views};
 
+use crate::checks::{check, check_at};
 use nv_claimcore::Sizes;
 use nv_claimmap::{ClaimMap, ClaimSeat, Claimed, steps_are_events};
 use nv_super::{Owner, Run};
@@ -96,9 +97,9 @@ fn draw_all(alloc: Global, map: &ClaimMap, seat: &mut ClaimSeat) -> Result<Vec<u
 // The tickets, sorted, are the numbers from 0 on, so many of them.
 fn assert_each_once(rt: &impl Abort, mut tickets: Vec<u64>, count: usize) {
     tickets.sort_unstable();
-    assert!(rt; tickets.len() == count);
+    check(rt, tickets.len() == count, "the number of tickets");
     for (wanted, ticket) in (0..1000u64).zip(tickets.iter()) {
-        assert!(rt; *ticket == wanted);
+        check_at(rt, *ticket == wanted, "a ticket", wanted);
     }
 }
 
@@ -204,37 +205,36 @@ const ROWS: [Row<'static>; 3] = [
 ];
 
 fn assert_claimed(rt: &impl Abort, closed: &Claimed, row: &Row) {
-    assert!(rt; closed.first.as_slice() == row.first);
-    assert!(rt; closed.second.as_slice() == row.second);
-    assert!(rt; closed.claims.len() == row.claims);
+    check(rt, closed.first.as_slice() == row.first, "the first set");
+    check(rt, closed.second.as_slice() == row.second, "the second set");
+    check(rt, closed.claims.len() == row.claims, "the claims");
 }
 
-fn is_claimed<R: Threads + Abort>(rt: &R, alloc: Global, row: &Row) -> Result<(), AllocError> {
+fn is_claimed<R: Threads + Abort>(rt: &R, alloc: Global, row: &Row) {
     let [first, second] = row.runs;
-    let closed = claimed_by_two(rt, alloc, row.blocks, first, second)?;
+    let closed = claimed_by_two(rt, alloc, row.blocks, first, second).expect(rt, "memory");
     assert_claimed(rt, &closed, row);
-    Ok(())
 }
 
 #[test]
-fn two_threads_claim_blocks_in_common(rt: HostRuntime) -> Result<(), AllocError> {
+fn two_threads_claim_blocks_in_common(rt: HostRuntime) {
     for row in ROWS.iter() {
-        is_claimed(&rt, rt.alloc(), row)?;
+        is_claimed(&rt, rt.alloc(), row);
     }
-    Ok(())
 }
 
 // One claim, of the last of 4096 words' blocks.
 fn assert_last(rt: &impl Abort, closed: &Claimed) {
-    assert!(rt; (closed.first.len(), closed.claims.len()) == (4096, 1));
-    assert!(rt; closed.first.last() == Some(&9223372036854775808));
+    check(rt, closed.first.len() == 4096, "the words of the set");
+    check(rt, closed.claims.len() == 1, "the claims");
+    let last = closed.first.last().copied();
+    check(rt, last == Some(9223372036854775808), "the last word");
 }
 
 #[test]
-fn the_last_block_of_a_large_map_is_claimed(rt: HostRuntime) -> Result<(), AllocError> {
-    let closed = claimed_by_two(&rt, rt.alloc(), 262144, &[(262143, 1)], &[])?;
+fn the_last_block_of_a_large_map_is_claimed(rt: HostRuntime) {
+    let closed = claimed_by_two(&rt, rt.alloc(), 262144, &[(262143, 1)], &[]).expect(&rt, "memory");
     assert_last(&rt, &closed);
-    Ok(())
 }
 
 // There is no ticket to draw, and the seats are numbered.
@@ -242,8 +242,9 @@ fn assert_numbered(rt: &impl Abort, map: &ClaimMap, one: &mut ClaimSeat, two: &C
     requires { one.old.map ≡ map.now }
     ensures { one.new.map ≡ one.old.map }
 {
-    assert!(rt; map.draw(one).is_none());
-    assert!(rt; (one.number(), two.number()) == (0, 1));
+    check(rt, map.draw(one).is_none(), "no ticket");
+    check(rt, one.number() == 0, "the first seat");
+    check(rt, two.number() == 1, "the second seat");
 }
 
 fn joined_number(map: &ClaimMap, one: ClaimSeat, other: ClaimSeat) -> Result<u32, AllocError>
@@ -259,7 +260,8 @@ fn seats_are_numbered_and_a_joined_one_has_the_first_number(
 ) -> Result<(), AllocError> {
     let (map, mut one, two) = opened(rt.alloc(), 64, 0)?;
     assert_numbered(&rt, &map, &mut one, &two);
-    assert!(rt; joined_number(&map, two, one) == Ok(1));
+    let number = joined_number(&map, two, one);
+    check(&rt, number == Ok(1), "the joined seat");
     Ok(())
 }
 
@@ -293,34 +295,33 @@ fn is_in(words: &[u64], block: usize) -> bool {
 // The sets have the blocks that are counted once or more, and twice or more.
 fn assert_counted(rt: &impl Abort, closed: &Claimed, counts: &[u64; 1000]) {
     for (block, count) in counts.iter().enumerate() {
-        assert!(rt;
-            (is_in(&closed.first, block), is_in(&closed.second, block)) == (*count > 0, *count > 1),
-            "block {block}"
+        let is_first = is_in(&closed.first, block);
+        check_at(rt, is_first == (*count > 0), "the first set", block as u64);
+        let is_second = is_in(&closed.second, block);
+        check_at(
+            rt,
+            is_second == (*count > 1),
+            "the second set",
+            block as u64,
         );
     }
 }
 
-fn agrees<R: Threads + Abort>(
-    rt: &R,
-    alloc: Global,
-    first: &[Pair],
-    second: &[Pair],
-) -> Result<(), AllocError> {
-    let closed = claimed_by_two(rt, alloc, 1000, first, second)?;
+fn agrees<R: Threads + Abort>(rt: &R, alloc: Global, first: &[Pair], second: &[Pair]) {
+    let closed = claimed_by_two(rt, alloc, 1000, first, second).expect(rt, "memory");
     let mut counts = [0; 1000];
     count_runs(&mut counts, first);
     count_runs(&mut counts, second);
     assert_counted(rt, &closed, &counts);
-    Ok(())
 }
 
 #[test]
-fn overlapping_runs_agree_with_a_plain_count(rt: HostRuntime) -> Result<(), AllocError> {
-    agrees(&rt, rt.alloc(), &overlapping(37), &overlapping(53))
+fn overlapping_runs_agree_with_a_plain_count(rt: HostRuntime) {
+    agrees(&rt, rt.alloc(), &overlapping(37), &overlapping(53));
 }
 
 #[test]
 fn the_law_of_steps_can_be_called(rt: HostRuntime) {
     steps_are_events();
-    assert!(rt; true);
+    check(&rt, true, "the law");
 }

@@ -1,20 +1,20 @@
 //! The spellings byte by byte, the ways to depart from them, and the bounds of what an entry can say.
 
-ghost use Rattle.std.specs.Prelude.{◌≡◌, ◌≤◌, IfOk};
+ghost use Rattle.std.specs.Prelude.{◌≡◌, ◌≤◌};
 ghost use Rattle.nv_region.specs.Region.{size};
 ghost use Rattle.nv_entry.specs.Spelling.{entry_length};
 
-use crate::small::SMALL;
+use crate::checks::{check, check_at};
+use crate::small::{SMALL, region_of};
 use nv_entry::{
     AttrEntry, ContentFault, Entry, FileName, LinksEntry, NameEntry, Operation, WriteEntry,
     an_entry_or_none_at_a_place, check_content, is_out_of_range, is_wrong_kind, length,
     no_spelling_begins_another, one_entry_at_a_place, one_spelling, read_entry, write_entry,
 };
-use nv_region::{MemRegion, RegionRefusal};
+use nv_region::MemRegion;
 use nv_super::Kind;
-use std::alloc::Global;
+use std::alloc::{AllocError, Global};
 use std::process::Abort;
-use std::test::Fail;
 
 fn write(count: u32, offset: u64, block: u64, size: u64) -> Entry {
     Entry::Write(WriteEntry {
@@ -51,89 +51,82 @@ fn links(count: u32) -> Entry {
 }
 
 /// The entry is as long as its spelling, is written as it, and is read from it.
-fn is_spelled(alloc: Global, rt: &impl Abort, entry: &Entry, spelling: &[u8]) -> Result<(), Fail> {
-    assert!(rt; length(entry) == spelling.len() as u64);
-    is_written(alloc, rt, entry, spelling)?;
-    assert!(rt; is_read_as(alloc, spelling, Some(entry))?);
-    Ok(())
+fn is_spelled(rt: &impl Abort, alloc: Global, entry: &Entry, spelling: &[u8]) {
+    check(rt, length(entry) == spelling.len() as u64, "the length");
+    is_written(rt, alloc, entry, spelling);
+    let is_read = is_read_as(rt, alloc, spelling, Some(entry));
+    check(rt, is_read, "the entry that is read");
 }
 
 fn name_is_spelled(
-    alloc: Global,
     rt: &impl Abort,
+    alloc: Global,
     operation: Operation,
     bytes: &[u8],
     inode: u64,
     spelling: &[u8],
-) -> Result<(), Fail> {
+) {
     match name(operation, bytes, inode) {
-        Some(entry) => is_spelled(alloc, rt, &entry, spelling),
-        None => Err("a name".into()),
+        Some(entry) => is_spelled(rt, alloc, &entry, spelling),
+        None => rt.panic("no name"),
     }
 }
 
 /// 512 bytes that are all 255.
-fn filled(alloc: Global) -> Result<MemRegion, Fail>
-    ensures { IfOk result (λ memory. size memory.region ≡ 512) }
+fn filled(rt: &impl Abort, alloc: Global) -> MemRegion
+    ensures { size result.region ≡ 512 }
 {
-    let bytes = vec![in alloc; 255; 512]?;
-    Ok(MemRegion::from_bytes(alloc, &bytes)?)
+    region_of(rt, alloc, &[255; 512])
 }
 
 /// The entry stands alone at 64, amid 512 bytes that were all 255.
-fn is_written(alloc: Global, rt: &impl Abort, entry: &Entry, spelling: &[u8]) -> Result<(), Fail>
+fn is_written(rt: &impl Abort, alloc: Global, entry: &Entry, spelling: &[u8])
     requires { entry_length entry.now ≤ 280 }
 {
-    let mut memory = filled(alloc)?;
-    is_written_in(rt, &mut memory, entry, spelling)
+    let mut memory = filled(rt, alloc);
+    is_written_in(rt, &mut memory, entry, spelling);
 }
 
-fn is_written_in(
-    rt: &impl Abort,
-    memory: &mut MemRegion,
-    entry: &Entry,
-    spelling: &[u8],
-) -> Result<(), Fail>
+fn is_written_in(rt: &impl Abort, memory: &mut MemRegion, entry: &Entry, spelling: &[u8])
     requires size { size memory.old.region ≡ 512 }
     requires length { entry_length entry.now ≤ 280 }
 {
-    write_entry(memory, 64, entry)?;
-    stands_alone(rt, &memory.to_bytes()?, spelling);
-    Ok(())
+    check(rt, write_entry(memory, 64, entry).is_ok(), "a write");
+    let bytes = memory.to_bytes().expect(rt, "memory");
+    stands_alone(rt, &bytes, spelling);
 }
 
 /// The bytes from 64 on are the spelling, and all others of the 512 are still 255.
 fn stands_alone(rt: &impl Abort, bytes: &[u8], spelling: &[u8]) {
-    assert!(rt; bytes.len() == 512);
+    check(rt, bytes.len() == 512, "the number of bytes");
     for (i, byte) in bytes.iter().enumerate() {
         let want = if i < 64 {
             255
         } else {
             spelling.get(i - 64).copied().unwrap_or(255)
         };
-        assert!(rt; *byte == want, "byte {i}");
+        check_at(rt, *byte == want, "a byte", i as u64);
     }
 }
 
 /// Whether these bytes, which are a region, are read as this entry, or are refused.
-fn is_read_as(alloc: Global, bytes: &[u8], entry: Option<&Entry>) -> Result<bool, RegionRefusal> {
-    let alone = MemRegion::from_bytes(alloc, bytes)?;
+fn is_read_as(rt: &impl Abort, alloc: Global, bytes: &[u8], entry: Option<&Entry>) -> bool {
+    let alone = region_of(rt, alloc, bytes);
     let read = read_entry(&alone, 0, bytes.len() as u64);
-    Ok(read.ok().as_ref() == entry)
+    read.ok().as_ref() == entry
+}
+
+/// These bytes with zeros behind.
+fn padded(alloc: Global, front: &[u8], length: usize) -> Result<Vec<u8>, AllocError> {
+    let mut bytes = front.to_vec(alloc)?;
+    bytes.resize(length, 0)?;
+    Ok(bytes)
 }
 
 /// These bytes with zeros behind, which depart from every spelling, are refused.
-fn departs(
-    alloc: Global,
-    rt: &impl Abort,
-    front: &[u8],
-    length: usize,
-    how: &str,
-) -> Result<(), Fail> {
-    let mut bytes = front.to_vec(alloc)?;
-    bytes.resize(length, 0)?;
-    assert!(rt; is_read_as(alloc, &bytes, None)?, "{how}");
-    Ok(())
+fn departs(rt: &impl Abort, alloc: Global, front: &[u8], length: usize, how: &str) {
+    let bytes = padded(alloc, front, length).expect(rt, "memory");
+    check(rt, is_read_as(rt, alloc, &bytes, None), how);
 }
 
 /// Entries with no name, and their bytes.
@@ -166,11 +159,10 @@ const SPELLINGS: [(Entry, &[u8]); 4] = [
 ];
 
 #[test]
-fn entries_have_their_worked_spellings(rt: HostRuntime) -> Result<(), Fail> {
+fn entries_have_their_worked_spellings(rt: HostRuntime) {
     for (entry, spelling) in SPELLINGS.iter() {
-        is_spelled(rt.alloc(), &rt, entry, spelling)?;
+        is_spelled(&rt, rt.alloc(), entry, spelling);
     }
-    Ok(())
 }
 
 /// Operations on names, with their inodes and the entries' bytes.
@@ -202,26 +194,25 @@ const NAME_SPELLINGS: [(Operation, &[u8], u64, &[u8]); 4] = [
 ];
 
 #[test]
-fn names_fill_whole_words(rt: HostRuntime) -> Result<(), Fail> {
+fn names_fill_whole_words(rt: HostRuntime) {
     for &(operation, bytes, inode, spelling) in NAME_SPELLINGS.iter() {
-        name_is_spelled(rt.alloc(), &rt, operation, bytes, inode, spelling)?;
+        name_is_spelled(&rt, rt.alloc(), operation, bytes, inode, spelling);
     }
-    Ok(())
 }
 
 #[test]
-fn the_largest_name_has_255_bytes(rt: HostRuntime) -> Result<(), Fail> {
+fn the_largest_name_has_255_bytes(rt: HostRuntime) {
     let mut largest = [b'n'; 280];
     let front = b"\x03\x01\x18\x01\xff\x00\x00\x00\x01\0\0\0\0\0\0\0\0\0\0\0\0\0\0\0";
     largest[..24].copy_from_slice(front);
     largest[279] = 0;
-    name_is_spelled(rt.alloc(), &rt, Operation::Add, &[b'n'; 255], 1, &largest)
+    name_is_spelled(&rt, rt.alloc(), Operation::Add, &[b'n'; 255], 1, &largest);
 }
 
 #[test]
 fn no_name_has_no_byte_or_256(rt: HostRuntime) {
-    assert!(rt; FileName::new(b"").is_none());
-    assert!(rt; FileName::new(&[b'n'; 256]).is_none());
+    check(&rt, FileName::new(b"").is_none(), "no byte");
+    check(&rt, FileName::new(&[b'n'; 256]).is_none(), "256 bytes");
 }
 
 /// Bytes that depart from every spelling: the first of them, how many there are with the zeros behind, and how.
@@ -284,11 +275,14 @@ const DEPARTURES: [(&[u8], usize, &str); 22] = [
 ];
 
 #[test]
-fn departures_are_wrong_framing(rt: HostRuntime) -> Result<(), Fail> {
+fn departures_are_wrong_framing(rt: HostRuntime) {
     for &(front, length, how) in DEPARTURES.iter() {
-        departs(rt.alloc(), &rt, front, length, how)?;
+        departs(&rt, rt.alloc(), front, length, how);
     }
-    Ok(())
+}
+
+fn is_out(kind: Kind, entry: &Entry) -> bool {
+    is_out_of_range(&SMALL, kind, entry)
 }
 
 /// Counts, offsets, blocks and sizes of writes, whether they are out of range, and what they are.
@@ -330,10 +324,7 @@ const WRITES: [(u32, u64, u64, u64, bool, &str); 17] = [
 fn writes_stay_in_range(rt: HostRuntime) {
     for &(count, offset, block, size, want, what) in WRITES.iter() {
         let entry = write(count, offset, block, size);
-        assert!(rt;
-            is_out_of_range(&SMALL, Kind::File, &entry) == want,
-            "{what}"
-        );
+        check(&rt, is_out(Kind::File, &entry) == want, what);
     }
 }
 
@@ -354,28 +345,24 @@ const ATTRIBUTES: [(u32, u64, Kind, bool); 10] = [
 #[test]
 fn attributes_stay_in_range(rt: HostRuntime) {
     for &(mode, size, kind, want) in ATTRIBUTES.iter() {
-        assert!(rt;
-            is_out_of_range(&SMALL, kind, &attr(mode, size)) == want,
-            "mode {mode} and size {size}"
-        );
+        let entry = attr(mode, size);
+        check_at(&rt, is_out(kind, &entry) == want, "a size", size);
     }
 }
 
 #[test]
 fn links_stay_in_range(rt: HostRuntime) {
     for &(count, want) in [(0, true), (1, false), (1000, false), (1001, true)].iter() {
-        let entry = Entry::Links(LinksEntry { count, time: 7 });
-        assert!(rt;
-            is_out_of_range(&SMALL, Kind::File, &entry) == want,
-            "{count} links"
-        );
+        let entry = links(count);
+        let out = is_out(Kind::File, &entry);
+        check_at(&rt, out == want, "a number of links", u64::from(count));
     }
 }
 
 /// Whether adding this name is out of range.
 fn is_refused(bytes: &[u8], inode: u64) -> Option<bool> {
     let entry = name(Operation::Add, bytes, inode)?;
-    Some(is_out_of_range(&SMALL, Kind::Directory, &entry))
+    Some(is_out(Kind::Directory, &entry))
 }
 
 /// Names, the inodes that they name, and whether adding them is out of range.
@@ -396,7 +383,8 @@ const NAMES: [(&[u8], u64, bool); 11] = [
 #[test]
 fn names_stay_in_range(rt: HostRuntime) {
     for &(bytes, inode, want) in NAMES.iter() {
-        assert!(rt; is_refused(bytes, inode) == Some(want), "inode {inode}");
+        let refused = is_refused(bytes, inode);
+        check_at(&rt, refused == Some(want), "a name of an inode", inode);
     }
 }
 
@@ -407,24 +395,34 @@ fn is_told(
     in_file: Option<ContentFault>,
     in_directory: Option<ContentFault>,
 ) {
-    assert!(rt; check_content(&SMALL, Kind::File, entry) == in_file);
-    assert!(rt; check_content(&SMALL, Kind::Directory, entry) == in_directory);
+    let told = check_content(&SMALL, Kind::File, entry);
+    check(rt, told == in_file, "the fault in a file's log");
+    let told = check_content(&SMALL, Kind::Directory, entry);
+    check(rt, told == in_directory, "the fault in a directory's");
+}
+
+const KIND: Option<ContentFault> = Some(ContentFault::WrongKind);
+
+const RANGE: Option<ContentFault> = Some(ContentFault::OutOfRange);
+
+/// A name that no entry may add.
+fn bad_name_is_told(rt: &impl Abort, entry: &Entry) {
+    is_told(rt, entry, KIND, RANGE);
+    check(
+        rt,
+        is_wrong_kind(entry, Kind::File),
+        "a name in a file's log",
+    );
 }
 
 #[test]
-fn the_wrong_kind_is_found_first(rt: HostRuntime) -> Result<(), Fail> {
-    let (kind, range) = (
-        Some(ContentFault::WrongKind),
-        Some(ContentFault::OutOfRange),
-    );
+fn the_wrong_kind_is_found_first(rt: HostRuntime) {
     is_told(&rt, &Entry::NextPage, None, None);
-    is_told(&rt, &write(0, 0, 0, 0), range, kind);
+    is_told(&rt, &write(0, 0, 0, 0), RANGE, KIND);
     is_told(&rt, &attr(0, 0), None, None);
-    is_told(&rt, &links(0), range, kind);
-    let bad_name = name(Operation::Add, b".", 1).ok_or("a name")?;
-    is_told(&rt, &bad_name, kind, range);
-    assert!(rt; is_wrong_kind(&bad_name, Kind::File));
-    Ok(())
+    is_told(&rt, &links(0), RANGE, KIND);
+    let bad_name = name(Operation::Add, b".", 1).expect(&rt, "a name");
+    bad_name_is_told(&rt, &bad_name);
 }
 
 #[test]

@@ -2,11 +2,11 @@
 
 ghost use Rattle.std.specs.Prelude.{◌<◌};
 
-use crate::file_index::{ROWS, assert_extents, numbers};
+use crate::checks::check;
+use crate::file_index::{ROWS, assert_extents, fields_of, numbers};
 use nv_radix::{ExtentMap, MAX_FILE_PAGES};
 use std::alloc::{AllocError, Global};
 use std::process::Abort;
-use std::test::Fail;
 
 /// Takes a step, if it doesn't only make pages ready.
 fn take_step(map: &mut ExtentMap, step: &[u64]) -> Result<(), AllocError> {
@@ -23,28 +23,40 @@ fn take_step(map: &mut ExtentMap, step: &[u64]) -> Result<(), AllocError> {
     Ok(())
 }
 
-/// A new map behind these steps.
-fn stepped(alloc: Global, steps: &str) -> Result<ExtentMap, Fail> {
-    let mut map = ExtentMap::new(alloc);
-    for step in numbers(alloc, steps)?.chunks_exact(3) {
-        take_step(&mut map, step)?;
+/// Takes these steps.
+fn take_steps(map: &mut ExtentMap, steps: &[u64]) -> Result<(), AllocError> {
+    for step in steps.chunks_exact(3) {
+        take_step(map, step)?;
     }
-    Ok(map)
+    Ok(())
 }
 
-fn assert_row(rt: &impl Abort, alloc: Global, row: &str) -> Result<(), Fail> {
-    let fields: Vec<&str> = row.split('|').collect(alloc)?;
-    let [_, steps, extents, ..] = *fields.as_slice() else {
-        return Err("a row has steps and extents".into());
+/// A new map behind these steps has these extents.
+fn assert_steps(rt: &impl Abort, alloc: Global, steps: &[u64], extents: &str) {
+    let mut map = ExtentMap::new(alloc);
+    check(rt, take_steps(&mut map, steps).is_ok(), "memory");
+    assert_map(rt, alloc, &map, extents);
+}
+
+fn assert_map(rt: &impl Abort, alloc: Global, map: &ExtentMap, extents: &str) {
+    let index = map.to_index(alloc).expect(rt, "memory");
+    assert_extents(rt, &index, &numbers(rt, alloc, extents), extents);
+}
+
+fn assert_fields(rt: &impl Abort, alloc: Global, fields: &[&str]) {
+    let [_, steps, extents, ..] = *fields else {
+        rt.panic("a row has steps and extents")
     };
-    let index = stepped(alloc, steps)?.to_index(alloc)?;
-    assert_extents(rt, alloc, &index, extents)
+    assert_steps(rt, alloc, &numbers(rt, alloc, steps), extents);
+}
+
+fn assert_row(rt: &impl Abort, alloc: Global, row: &str) {
+    assert_fields(rt, alloc, &fields_of(rt, alloc, row));
 }
 
 #[test]
-fn a_map_has_the_extents_of_its_steps(rt: HostRuntime) -> Result<(), Fail> {
+fn a_map_has_the_extents_of_its_steps(rt: HostRuntime) {
     for row in ROWS.lines() {
-        assert_row(&rt, rt.alloc(), row)?;
+        assert_row(&rt, rt.alloc(), row);
     }
-    Ok(())
 }

@@ -3,10 +3,10 @@
 ghost use Rattle.std.specs.Prelude.{◌+◌, ◌^◌, ◌<◌, ◌≤◌};
 ghost use Rattle.nv_radix.specs.Pages.{AreFilePages};
 
+use crate::checks::{check, check_at};
 use nv_radix::{Extent, FileIndex, MAX_FILE_PAGES};
 use std::alloc::{AllocError, Global};
 use std::process::Abort;
-use std::test::Fail;
 
 /// A row is a name, steps on a new index, and what they leave: extents, pages with their blocks, pages without a block,
 /// pages that are ready, and pages that aren't.
@@ -39,13 +39,19 @@ a cut of the last page | 0 10 100 262143 1 18446744073709551615 0 0 0 | | | | |
 all levels | 60 10 500 0 1 7 4150 20 900 8190 2 40 63 2 1 200 0 0 4159 3 77 66 1 506 65 0 0 64 70 300 130 0 0 8191 130 2000 | 0 1 7 60 3 500 63 1 1 64 66 300 8191 130 2000 | 129 365 | 130 4160 | |";
 
 /// The numbers in a text.
-pub fn numbers(alloc: Global, text: &str) -> Result<Vec<u64>, Fail> {
+pub fn numbers(rt: &impl Abort, alloc: Global, text: &str) -> Vec<u64> {
     let mut numbers = Vec::new(alloc);
     for word in text.split_whitespace() {
-        let number: u64 = word.parse().ok().ok_or("a number")?;
-        numbers.push(number)?;
+        let number = word.parse::<u64>().expect(rt, "a number");
+        numbers.push(number).expect(rt, "memory");
     }
-    Ok(numbers)
+    numbers
+}
+
+/// The fields of a row.
+pub fn fields_of<'a>(rt: &impl Abort, alloc: Global, row: &'a str) -> Vec<&'a str> {
+    let fields: Result<Vec<&'a str>, AllocError> = row.split('|').collect(alloc);
+    fields.expect(rt, "memory")
 }
 
 /// Makes a run ready, and maps it.
@@ -75,111 +81,88 @@ fn take_step(index: &mut FileIndex, step: &[u64]) -> Result<(), AllocError> {
     Ok(())
 }
 
-/// A new index behind these steps.
-fn stepped(alloc: Global, steps: &str) -> Result<FileIndex, Fail> {
-    let mut index = FileIndex::new(alloc);
-    for step in numbers(alloc, steps)?.chunks_exact(3) {
-        take_step(&mut index, step)?;
+/// Takes these steps.
+fn take_steps(index: &mut FileIndex, steps: &[u64]) -> Result<(), AllocError> {
+    for step in steps.chunks_exact(3) {
+        take_step(index, step)?;
     }
-    Ok(index)
-}
-
-fn assert_listed(rt: &impl Abort, extents: &[Extent], numbers: &[u64], wanted: &str) {
-    assert!(rt; extents.len() == numbers.len() / 3, "the extents {wanted}");
-    for (extent, numbers) in extents.iter().zip(numbers.chunks_exact(3)) {
-        assert!(rt;
-            numbers == [extent.page, extent.count, extent.block].as_slice(),
-            "the extents {wanted}"
-        );
-    }
-}
-
-pub fn assert_extents(
-    rt: &impl Abort,
-    alloc: Global,
-    index: &FileIndex,
-    wanted: &str,
-) -> Result<(), Fail> {
-    let extents = index.runs()?;
-    assert_listed(rt, &extents, &numbers(alloc, wanted)?, wanted);
     Ok(())
 }
 
-fn assert_blocks(
-    rt: &impl Abort,
-    alloc: Global,
-    index: &FileIndex,
-    mapped: &str,
-) -> Result<(), Fail> {
-    for place in numbers(alloc, mapped)?.chunks_exact(2) {
-        if let [page, block] = *place {
-            assert!(rt; index.get(page) == Some(block), "the blocks {mapped}");
+fn are_listed(extents: &[Extent], numbers: &[u64]) -> bool {
+    for (extent, numbers) in extents.iter().zip(numbers.chunks_exact(3)) {
+        if numbers != [extent.page, extent.count, extent.block].as_slice() {
+            return false;
         }
     }
-    Ok(())
+    extents.len() == numbers.len() / 3
 }
 
-fn assert_unmapped(
-    rt: &impl Abort,
-    alloc: Global,
-    index: &FileIndex,
-    unmapped: &str,
-) -> Result<(), Fail> {
-    for page in &numbers(alloc, unmapped)? {
-        assert!(rt; index.get(*page) == None, "no block at {unmapped}");
-    }
-    Ok(())
+pub fn assert_extents(rt: &impl Abort, index: &FileIndex, numbers: &[u64], wanted: &str) {
+    let extents = index.runs().expect(rt, "memory");
+    check(rt, are_listed(&extents, numbers), wanted);
 }
 
-fn assert_ready(
-    rt: &impl Abort,
-    alloc: Global,
-    index: &FileIndex,
-    pages: &str,
-    is_ready: bool,
-) -> Result<(), Fail> {
-    for page in &numbers(alloc, pages)? {
-        assert!(rt; index.ready(*page) == is_ready, "page {page}");
+fn assert_blocks(rt: &impl Abort, index: &FileIndex, mapped: &[u64]) {
+    for place in mapped.chunks_exact(2) {
+        if let [page, block] = *place {
+            check_at(rt, index.get(page) == Some(block), "a block", page);
+        }
     }
-    Ok(())
+}
+
+fn assert_unmapped(rt: &impl Abort, index: &FileIndex, unmapped: &[u64]) {
+    for page in unmapped {
+        check_at(rt, index.get(*page).is_none(), "no block", *page);
+    }
+}
+
+fn assert_ready(rt: &impl Abort, index: &FileIndex, pages: &[u64], is_ready: bool) {
+    for page in pages {
+        check_at(rt, index.ready(*page) == is_ready, "a page", *page);
+    }
 }
 
 /// The index is what the fields of a row say.
-fn assert_left(
-    rt: &impl Abort,
-    alloc: Global,
-    index: &FileIndex,
-    fields: &[&str],
-) -> Result<(), Fail> {
+fn assert_left(rt: &impl Abort, alloc: Global, index: &FileIndex, fields: &[&str]) {
     let [_, _, extents, mapped, unmapped, ready, unready] = *fields else {
-        return Err("a row has seven fields".into());
+        rt.panic("a row has seven fields")
     };
-    assert_extents(rt, alloc, index, extents)?;
-    assert_blocks(rt, alloc, index, mapped)?;
-    assert_unmapped(rt, alloc, index, unmapped)?;
-    assert_ready(rt, alloc, index, ready, true)?;
-    assert_ready(rt, alloc, index, unready, false)
+    assert_extents(rt, index, &numbers(rt, alloc, extents), extents);
+    assert_blocks(rt, index, &numbers(rt, alloc, mapped));
+    assert_unmapped(rt, index, &numbers(rt, alloc, unmapped));
+    assert_ready(rt, index, &numbers(rt, alloc, ready), true);
+    assert_ready(rt, index, &numbers(rt, alloc, unready), false);
 }
 
-fn assert_row(rt: &impl Abort, alloc: Global, row: &str) -> Result<(), Fail> {
-    let fields: Vec<&str> = row.split('|').collect(alloc)?;
-    let index = stepped(alloc, fields.get(1).copied().unwrap_or(""))?;
-    assert_left(rt, alloc, &index, &fields)
+/// The steps are taken on a new index.
+fn assert_steps(rt: &impl Abort, alloc: Global, fields: &[&str], steps: &[u64]) {
+    let mut index = FileIndex::new(alloc);
+    check(rt, take_steps(&mut index, steps).is_ok(), "memory");
+    assert_left(rt, alloc, &index, fields);
+}
+
+fn assert_row(rt: &impl Abort, alloc: Global, row: &str) {
+    let fields = fields_of(rt, alloc, row);
+    let steps = numbers(rt, alloc, fields.get(1).copied().unwrap_or(""));
+    assert_steps(rt, alloc, &fields, &steps);
 }
 
 #[test]
-fn steps_leave_their_maps(rt: HostRuntime) -> Result<(), Fail> {
+fn steps_leave_their_maps(rt: HostRuntime) {
     for row in ROWS.lines() {
-        assert_row(&rt, rt.alloc(), row)?;
+        assert_row(&rt, rt.alloc(), row);
     }
-    Ok(())
 }
 
 #[test]
-fn a_run_of_no_page_changes_nothing(rt: HostRuntime) -> Result<(), AllocError> {
+fn a_run_of_no_page_changes_nothing(rt: HostRuntime) {
     let mut index = FileIndex::new(rt.alloc());
-    index.reserve(u64::MAX, 0)?;
+    check(
+        &rt,
+        index.reserve(u64::MAX, 0).is_ok(),
+        "no page to reserve",
+    );
     index.set_run(u64::MAX, u64::MAX, 0);
-    assert!(rt; index.get(u64::MAX) == None);
-    Ok(())
+    check(&rt, index.get(u64::MAX).is_none(), "no block");
 }

@@ -1,8 +1,9 @@
 //! Regions after format: their words, the steps that it takes, and what it refuses.
 
-use crate::small::{SMALL, Word, assert_words, small_region};
+use crate::checks::{check, check_at};
+use crate::small::{SMALL, Word, assert_words, new_region, small_region};
 use nv_format::{FormatRefusal, format};
-use nv_region::{Fuse, MemRegion, RegionRefusal};
+use nv_region::{Fuse, MemRegion};
 use nv_super::{MAGIC, Super, SuperFault, read_super};
 use std::alloc::Global;
 use std::process::Abort;
@@ -82,25 +83,31 @@ fn assert_formatted(rt: &impl Abort, memory: &mut MemRegion, row: &Row<'_>) {
         ..SMALL
     };
     assert_words(rt, memory, before);
-    assert!(rt; read_super(memory) == Err(SuperFault::Magic));
-    assert!(rt; format(memory, cpus, table_blocks, time) == Ok(()));
-    assert!(rt; read_super(memory) == Ok(sup));
+    assert_super(rt, memory, Err(SuperFault::Magic));
+    check(
+        rt,
+        format(memory, cpus, table_blocks, time).is_ok(),
+        "a format",
+    );
+    assert_super(rt, memory, Ok(sup));
     assert_words(rt, memory, after);
 }
 
-fn is_formatted(rt: &impl Abort, alloc: Global, row: &Row<'_>) -> Result<(), RegionRefusal> {
-    let mut memory = small_region(alloc, row.0)?;
+fn assert_super(rt: &impl Abort, memory: &MemRegion, wanted: Result<Super, SuperFault>) {
+    check(rt, read_super(memory) == wanted, "the superblock");
+}
+
+fn is_formatted(rt: &impl Abort, alloc: Global, row: &Row<'_>) {
+    let mut memory = small_region(rt, alloc, row.0);
     assert_formatted(rt, &mut memory, row);
-    Ok(())
 }
 
 // What the region held is cleared or kept, and its superblock is accepted.
 #[test]
-fn a_formatted_region_has_the_root_alone(rt: HostRuntime) -> Result<(), RegionRefusal> {
+fn a_formatted_region_has_the_root_alone(rt: HostRuntime) {
     for row in FORMATTED.iter() {
-        is_formatted(&rt, rt.alloc(), row)?;
+        is_formatted(&rt, rt.alloc(), row);
     }
-    Ok(())
 }
 
 /// How many stores and fences are taken, the CPUs, what a format answers, what is read of the superblock then, and its
@@ -130,8 +137,10 @@ const STOPS: [Stop; 5] = [
 fn assert_stop(rt: &impl Abort, memory: &mut MemRegion, stop: &Stop) {
     let (passed, cpus, answer, fault, word) = *stop;
     memory.set_fuse(Fuse::After(passed));
-    assert!(rt; format(memory, cpus, 1, 0) == answer, "after {passed}");
-    assert!(rt; read_super(memory).err() == fault, "after {passed}");
+    let answered = format(memory, cpus, 1, 0) == answer;
+    check_at(rt, answered, "the answer", passed);
+    let told = read_super(memory).err() == fault;
+    check_at(rt, told, "the superblock's fault", passed);
     assert_words(rt, memory, &[(0, word)]);
 }
 
@@ -143,14 +152,15 @@ fn assert_stops(rt: &impl Abort, memory: &mut MemRegion) {
 
 // A refused region is as before.
 #[test]
-fn format_takes_53_stores_and_fences(rt: HostRuntime) -> Result<(), RegionRefusal> {
-    let mut memory = small_region(rt.alloc(), &[])?;
+fn format_takes_53_stores_and_fences(rt: HostRuntime) {
+    let mut memory = small_region(&rt, rt.alloc(), &[]);
     assert_stops(&rt, &mut memory);
-    Ok(())
 }
 
 /// The numbers of blocks, CPUs and table blocks, and what a format answers.
-const NUMBERS: [(u64, u64, u64, Result<(), FormatRefusal>); 9] = [
+type Numbers = (u64, u64, u64, Result<(), FormatRefusal>);
+
+const NUMBERS: [Numbers; 9] = [
     (7, 1, 1, Err(FormatRefusal::Length)),
     (7, 0, 0, Err(FormatRefusal::Length)),
     (16, 0, 1, Err(FormatRefusal::Cpus)),
@@ -162,24 +172,16 @@ const NUMBERS: [(u64, u64, u64, Result<(), FormatRefusal>); 9] = [
     (130, 64, 1, Ok(())),
 ];
 
-/// What a format of so many blocks answers.
-fn answer(
-    alloc: Global,
-    blocks: u64,
-    cpus: u64,
-    table_blocks: u64,
-) -> Result<Result<(), FormatRefusal>, RegionRefusal> {
-    let mut memory = MemRegion::new(alloc, blocks)?;
-    Ok(format(&mut memory, cpus, table_blocks, 0))
+fn assert_answer(rt: &impl Abort, alloc: Global, row: &Numbers) {
+    let (blocks, cpus, table_blocks, wanted) = *row;
+    let mut memory = new_region(rt, alloc, blocks);
+    let answer = format(&mut memory, cpus, table_blocks, 0);
+    check_at(rt, answer == wanted, "the answer, by blocks", blocks);
 }
 
 #[test]
-fn numbers_are_refused_in_their_order(rt: HostRuntime) -> Result<(), RegionRefusal> {
-    for &(blocks, cpus, table_blocks, wanted) in NUMBERS.iter() {
-        assert!(rt;
-            answer(rt.alloc(), blocks, cpus, table_blocks)? == wanted,
-            "at {blocks} {cpus} {table_blocks}"
-        );
+fn numbers_are_refused_in_their_order(rt: HostRuntime) {
+    for row in NUMBERS.iter() {
+        assert_answer(&rt, rt.alloc(), row);
     }
-    Ok(())
 }

@@ -3,14 +3,14 @@
 ghost use Rattle.std.specs.Prelude.{◌<◌};
 ghost use Rattle.nv_region.specs.Region.{HasBlocks};
 
+use crate::checks::{check, check_at};
 use crate::small::{SMALL, Word, assert_words, small_region};
 use nv_inode::{
     Slot, SlotState, is_journal_word, nth_slot, put_slot, read_slot, set_word, slot_start,
 };
-use nv_region::{Fuse, MemRegion, RegionRefusal, Stopped};
+use nv_region::{Fuse, MemRegion, Stopped};
 use nv_super::{Kind, Super};
 use std::process::Abort;
-use std::test::Fail;
 
 // Two CPUs with two table blocks each: the tables are blocks 3 and 4, and 5 and 6.
 const TWO: Super = Super {
@@ -56,24 +56,23 @@ fn validate_root(memory: &mut MemRegion) -> Result<(), Stopped>
 fn assert_slot(rt: &impl Abort, memory: &MemRegion, slot: &Slot)
     requires { HasBlocks memory.now.region 16 }
 {
-    assert!(rt; read_slot(memory, &SMALL, 1) == *slot);
+    check(rt, read_slot(memory, &SMALL, 1) == *slot, "slot 1");
 }
 
-fn is_put(rt: &impl Abort, memory: &mut MemRegion) -> Result<(), Stopped>
+fn assert_put(rt: &impl Abort, memory: &mut MemRegion)
     requires { HasBlocks memory.old.region 16 }
 {
-    put_root(memory)?;
+    check(rt, put_root(memory).is_ok(), "the root is put");
     assert_words(rt, memory, &[(8320, 0)]);
-    validate_root(memory)?;
+    check(rt, validate_root(memory).is_ok(), "it is made valid");
     assert_slot(rt, memory, &ROOT);
     assert_words(rt, memory, &ROOT_AT_8320);
-    Ok(())
 }
 
 #[test]
-fn a_slot_is_read_as_it_was_put(rt: HostRuntime) -> Result<(), Fail> {
-    let mut memory = small_region(rt.alloc(), &[])?;
-    Ok(is_put(&rt, &mut memory)?)
+fn a_slot_is_read_as_it_was_put(rt: HostRuntime) {
+    let mut memory = small_region(&rt, rt.alloc(), &[]);
+    assert_put(&rt, &mut memory);
 }
 
 /// Puts the root into a slot of the tables of two CPUs.
@@ -85,45 +84,38 @@ fn put_in_two(memory: &mut MemRegion, inode: u64) -> Result<(), Stopped>
     put_slot(memory, &TWO, inode, &ROOT)
 }
 
-fn put_both(memory: &mut MemRegion) -> Result<(), Stopped>
-    requires { HasBlocks memory.old.region 16 }
-    ensures { HasBlocks memory.new.region 16 }
-{
-    put_in_two(memory, 2)?;
-    put_in_two(memory, 3)
-}
-
 fn assert_created(rt: &impl Abort, memory: &MemRegion, inode: u64, created: u64)
     requires blocks { HasBlocks memory.now.region 16 }
     requires number { (0 < inode) × (inode < 128) }
 {
-    assert!(rt; read_slot(memory, &TWO, inode).created == created);
+    let slot = read_slot(memory, &TWO, inode);
+    check_at(rt, slot.created == created, "the time of a slot", inode);
 }
 
 const TAILS_IN_TWO: [Word; 2] = [(12416 + 24, 12320), (20608 + 24, 12320)];
 
 #[test]
 fn slots_lie_one_behind_the_other(rt: HostRuntime) {
-    assert!(rt; (slot_start(&TWO, 1), slot_start(&TWO, 2)) == (20480, 12416));
-    assert!(rt;
-        (nth_slot(&TWO, 0), nth_slot(&TWO, 1), nth_slot(&TWO, 64)) == (12288, 12416, 20480)
-    );
+    let starts = [slot_start(&TWO, 1), slot_start(&TWO, 2)];
+    check(&rt, starts == [20480, 12416], "slots 1 and 2");
+    let slots = [nth_slot(&TWO, 0), nth_slot(&TWO, 1), nth_slot(&TWO, 64)];
+    check(&rt, slots == [12288, 12416, 20480], "the tables' slots");
 }
 
-fn are_put_in_two(rt: &impl Abort, memory: &mut MemRegion) -> Result<(), Stopped>
+fn assert_put_in_two(rt: &impl Abort, memory: &mut MemRegion)
     requires { HasBlocks memory.old.region 16 }
 {
-    put_both(memory)?;
+    check(rt, put_in_two(memory, 2).is_ok(), "slot 2 is put");
+    check(rt, put_in_two(memory, 3).is_ok(), "slot 3 is put");
     assert_words(rt, memory, &TAILS_IN_TWO);
     assert_created(rt, memory, 3, 7);
     assert_created(rt, memory, 127, 0);
-    Ok(())
 }
 
 #[test]
-fn slots_alternate_between_the_tables_of_the_cpus(rt: HostRuntime) -> Result<(), Fail> {
-    let mut memory = small_region(rt.alloc(), &[])?;
-    Ok(are_put_in_two(&rt, &mut memory)?)
+fn slots_alternate_between_the_tables_of_the_cpus(rt: HostRuntime) {
+    let mut memory = small_region(&rt, rt.alloc(), &[]);
+    assert_put_in_two(&rt, &mut memory);
 }
 
 const PARTLY: Slot = Slot {
@@ -136,17 +128,16 @@ const PARTLY: Slot = Slot {
 fn is_put_partly(rt: &impl Abort, memory: &mut MemRegion)
     requires { HasBlocks memory.old.region 16 }
 {
-    assert!(rt; put_root(memory) == Err(Stopped));
+    check(rt, put_root(memory).is_err(), "the stop of a put");
     assert_slot(rt, memory, &PARTLY);
-    assert!(rt; validate_root(memory) == Err(Stopped));
+    check(rt, validate_root(memory).is_err(), "no store behind it");
 }
 
 #[test]
-fn a_slot_is_put_word_by_word_until_a_stop(rt: HostRuntime) -> Result<(), RegionRefusal> {
-    let mut memory = small_region(rt.alloc(), &[])?;
+fn a_slot_is_put_word_by_word_until_a_stop(rt: HostRuntime) {
+    let mut memory = small_region(&rt, rt.alloc(), &[]);
     memory.set_fuse(Fuse::After(2));
     is_put_partly(&rt, &mut memory);
-    Ok(())
 }
 
 const STATES: [(u64, u64, SlotState); 7] = [
@@ -161,14 +152,15 @@ const STATES: [(u64, u64, SlotState); 7] = [
 
 #[test]
 fn a_slot_is_in_use_where_it_is_valid_and_of_a_kind(rt: HostRuntime) {
-    assert!(rt; (Kind::File.number(), Kind::Directory.number()) == (1, 2));
+    let numbers = [Kind::File.number(), Kind::Directory.number()];
+    check(&rt, numbers == [1, 2], "the kinds");
     for &(valid, kind, state) in STATES.iter() {
         let slot = Slot {
             valid,
             kind,
             ..ROOT
         };
-        assert!(rt; slot.state() == state, "at {valid} {kind}");
+        check_at(&rt, slot.state() == state, "a state, by kind", kind);
     }
 }
 
@@ -190,7 +182,7 @@ const LOGS: [(u64, u64, bool); 11] = [
 fn a_log_is_right_within_the_data_blocks(rt: HostRuntime) {
     for &(head, tail, right) in LOGS.iter() {
         let slot = Slot { head, tail, ..ROOT };
-        assert!(rt; slot.has_right_log(&SMALL) == right, "at {head} {tail}");
+        check_at(&rt, slot.has_right_log(&SMALL) == right, "a log", tail);
     }
 }
 
@@ -215,6 +207,6 @@ const NAMED: [(u64, bool); 15] = [
 #[test]
 fn a_journal_may_name_valid_word_head_and_tail(rt: HostRuntime) {
     for &(at, named) in NAMED.iter() {
-        assert!(rt; is_journal_word(&SMALL, at) == named, "at {at}");
+        check_at(&rt, is_journal_word(&SMALL, at) == named, "a word", at);
     }
 }

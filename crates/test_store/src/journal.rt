@@ -7,6 +7,7 @@ ghost use Rattle.std.specs.Prelude.{◌≡◌};
 ghost use Rattle.nv_region.specs.Region.{HasBlocks};
 ghost use Rattle.nv_super.specs.Layout.{IsLayout};
 
+use crate::checks::{check, check_at};
 use crate::small::{SMALL, Word, assert_words, small_region};
 use nv_journal::{
     UndoError, one_region_is_undone, the_superblock_stays, undo, undo_again_changes_nothing,
@@ -16,7 +17,6 @@ use nv_region::{Fuse, MemRegion};
 use nv_super::{Fault, Super};
 use std::alloc::Global;
 use std::process::Abort;
-use std::test::Fail;
 
 // Two CPUs: their journals are blocks 1 and 2, the tables blocks 3 and 4. Slot 2 begins at 12416.
 const TWO: Super = Super {
@@ -58,14 +58,13 @@ fn assert_undone(
     memory: &mut MemRegion,
     sup: &Super,
     told: &[Fault],
-) -> Result<(), Fail>
+)
     requires layout { IsLayout sup.now }
     requires blocks { HasBlocks memory.old.region sup.now.blocks }
     ensures { HasBlocks memory.new.region sup.now.blocks }
 {
-    let faults = undone(alloc, memory, sup)?;
-    assert!(rt; faults.as_slice() == told);
-    Ok(())
+    let faults = undone(alloc, memory, sup).expect(rt, "an undo");
+    check(rt, faults.as_slice() == told, "the faults that are told");
 }
 
 const ROLLED_BACK: [Word; 3] = [(8344, 12320), (8336, 12288), (4096, 1)];
@@ -156,42 +155,40 @@ const OF_TWO_CPUS: [Row<'static>; 3] = [
 ];
 
 /// An undo and another one tell and leave what the row says.
-fn is_undone_twice(
+fn assert_undone_twice(
     rt: &impl Abort,
     alloc: Global,
     memory: &mut MemRegion,
     sup: &Super,
     row: &Row<'_>,
-) -> Result<(), Fail>
+)
     requires layout { IsLayout sup.now }
     requires blocks { HasBlocks memory.old.region sup.now.blocks }
 {
     let (_, fuse, told, left, again) = *row;
     memory.set_fuse(fuse);
-    assert_undone(rt, alloc, memory, sup, told)?;
+    assert_undone(rt, alloc, memory, sup, told);
     assert_words(rt, memory, left);
-    assert_undone(rt, alloc, memory, sup, again)?;
+    assert_undone(rt, alloc, memory, sup, again);
     assert_words(rt, memory, left);
-    Ok(())
 }
 
-fn is_undone(rt: &impl Abort, alloc: Global, sup: &Super, row: &Row<'_>) -> Result<(), Fail>
+fn is_undone(rt: &impl Abort, alloc: Global, sup: &Super, row: &Row<'_>)
     requires layout { IsLayout sup.now }
     requires blocks { sup.now.blocks ≡ 16 }
 {
-    let mut memory = small_region(alloc, row.0)?;
-    is_undone_twice(rt, alloc, &mut memory, sup, row)
+    let mut memory = small_region(rt, alloc, row.0);
+    assert_undone_twice(rt, alloc, &mut memory, sup, row);
 }
 
 #[test]
-fn pending_records_are_undone_and_faults_told(rt: HostRuntime) -> Result<(), Fail> {
+fn pending_records_are_undone_and_faults_told(rt: HostRuntime) {
     for row in OF_ONE_CPU.iter() {
-        is_undone(&rt, rt.alloc(), &SMALL, row)?;
+        is_undone(&rt, rt.alloc(), &SMALL, row);
     }
     for row in OF_TWO_CPUS.iter() {
-        is_undone(&rt, rt.alloc(), &TWO, row)?;
+        is_undone(&rt, rt.alloc(), &TWO, row);
     }
-    Ok(())
 }
 
 /// Why an undo ends early, where so many stores and fences are taken.
@@ -213,41 +210,32 @@ fn assert_stopped_after(rt: &impl Abort, alloc: Global, memory: &mut MemRegion, 
     } else {
         None
     };
-    assert!(rt;
-        refusal_after(alloc, memory, passed) == due,
-        "after {passed}"
-    );
+    let refusal = refusal_after(alloc, memory, passed);
+    check_at(rt, refusal == due, "the stop of an undo", passed);
 }
 
 /// An undo that so many stores and fences were too few for is finished by another.
-fn is_finished(
-    rt: &impl Abort,
-    alloc: Global,
-    memory: &mut MemRegion,
-    passed: u64,
-) -> Result<(), Fail>
+fn is_finished(rt: &impl Abort, alloc: Global, memory: &mut MemRegion, passed: u64)
     requires { HasBlocks memory.old.region 16 }
 {
     assert_stopped_after(rt, alloc, memory, passed);
     memory.set_fuse(Fuse::Off);
-    assert_undone(rt, alloc, memory, &SMALL, &[])?;
+    assert_undone(rt, alloc, memory, &SMALL, &[]);
     assert_words(rt, memory, &ROLLED_BACK);
-    Ok(())
 }
 
-fn stops_and_is_finished(rt: &impl Abort, alloc: Global, passed: u64) -> Result<(), Fail> {
-    let mut memory = small_region(alloc, &WRAPPED)?;
-    is_finished(rt, alloc, &mut memory, passed)
+fn stops_and_is_finished(rt: &impl Abort, alloc: Global, passed: u64) {
+    let mut memory = small_region(rt, alloc, &WRAPPED);
+    is_finished(rt, alloc, &mut memory, passed);
 }
 
 #[test]
-fn an_undo_that_was_stopped_is_finished_by_another(rt: HostRuntime) -> Result<(), Fail> {
+fn an_undo_that_was_stopped_is_finished_by_another(rt: HostRuntime) {
     for passed in 0..7 {
-        stops_and_is_finished(&rt, rt.alloc(), passed)?;
+        stops_and_is_finished(&rt, rt.alloc(), passed);
     }
     one_region_is_undone();
     undo_again_changes_nothing();
     undone_regions_are_quiet();
     the_superblock_stays();
-    Ok(())
 }

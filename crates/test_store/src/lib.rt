@@ -6,6 +6,8 @@
 #[cfg(test)]
 mod allocator;
 #[cfg(test)]
+mod checks;
+#[cfg(test)]
 mod claim_core;
 #[cfg(test)]
 mod claim_map;

@@ -5,6 +5,7 @@ mod appending;
 ghost use Rattle.std.specs.Prelude.{◌≡◌, ◌<◌};
 ghost use Rattle.nv_region.specs.Region.{HasBlocks};
 
+use crate::checks::check;
 use crate::small::{SMALL, Word, small_region};
 use nv_entry::{AttrEntry, Entry};
 use nv_logpage::{
@@ -16,7 +17,6 @@ use nv_logpage::{
 use nv_region::MemRegion;
 use std::alloc::{AllocError, Global};
 use std::process::Abort;
-use std::test::Fail;
 
 /// The start of block 3, where each log begins.
 const HEAD: u64 = 12288;
@@ -102,54 +102,50 @@ fn is_attributes(placed: &Placed, at: u64) -> bool {
 }
 
 /// These entries are attributes at these places.
-fn assert_attributes(rt: &impl Abort, entries: &[Placed], places: &[u64], name: &str) {
+fn are_attributes(entries: &[Placed], places: &[u64]) -> bool {
     for (placed, at) in entries.iter().zip(places) {
-        assert!(rt; is_attributes(placed, *at), "the entry at {at} of {name}");
+        if !is_attributes(placed, *at) {
+            return false;
+        }
     }
+    true
 }
 
 /// What was read is what the case says, and is found again one finding at a time.
-fn is_as_told(
-    alloc: Global,
-    rt: &impl Abort,
-    memory: &MemRegion,
-    read: &Walk,
-    case: &Case,
-) -> Result<(), AllocError>
+fn is_as_told(rt: &impl Abort, alloc: Global, memory: &MemRegion, read: &Walk, case: &Case)
     requires { HasBlocks memory.now.region 16 }
 {
-    let name = case.name;
     let is_right = is_walk(read, case.pages, case.fault, case.entries.len());
-    assert!(rt; is_right, "the pages, end and entries of {name}");
-    assert_attributes(rt, &read.entries, case.entries, name);
-    let is_same = is_found(alloc, memory, case.tail, read)?;
-    assert!(rt; is_same, "the findings of {name}");
-    Ok(())
+    check(rt, is_right, case.name);
+    check(rt, are_attributes(&read.entries, case.entries), case.name);
+    let is_same = is_found(alloc, memory, case.tail, read);
+    check(rt, is_same == Ok(true), case.name);
+}
+
+/// What is read of a log that begins at block 3.
+fn walked(rt: &impl Abort, alloc: Global, memory: &MemRegion, tail: u64) -> Walk
+    requires { HasBlocks memory.now.region 16 }
+{
+    walk(alloc, memory, &SMALL, HEAD, tail).expect(rt, "a walk")
 }
 
 /// Reads the log of a case.
-fn is_read_in(
-    alloc: Global,
-    rt: &impl Abort,
-    memory: &MemRegion,
-    case: &Case,
-) -> Result<(), AllocError>
+fn is_read_in(rt: &impl Abort, alloc: Global, memory: &MemRegion, case: &Case)
     requires { HasBlocks memory.now.region 16 }
 {
-    let read = walk(alloc, memory, &SMALL, HEAD, case.tail)?;
-    is_as_told(alloc, rt, memory, &read, case)
+    let read = walked(rt, alloc, memory, case.tail);
+    is_as_told(rt, alloc, memory, &read, case);
 }
 
-fn is_read(alloc: Global, rt: &impl Abort, case: &Case) -> Result<(), Fail> {
-    let memory = small_region(alloc, case.words)?;
-    Ok(is_read_in(alloc, rt, &memory, case)?)
+fn is_read(rt: &impl Abort, alloc: Global, case: &Case) {
+    let memory = small_region(rt, alloc, case.words);
+    is_read_in(rt, alloc, &memory, case);
 }
 
-fn are_read(alloc: Global, rt: &impl Abort, cases: &[Case]) -> Result<(), Fail> {
+fn are_read(rt: &impl Abort, alloc: Global, cases: &[Case]) {
     for case in cases {
-        is_read(alloc, rt, case)?;
+        is_read(rt, alloc, case);
     }
-    Ok(())
 }
 
 /// Logs with no fault.
@@ -203,8 +199,8 @@ const RIGHT_LOGS: [Case<'static>; 5] = [
 ];
 
 #[test]
-fn logs_end_at_their_tails(rt: HostRuntime) -> Result<(), Fail> {
-    are_read(rt.alloc(), &rt, &RIGHT_LOGS)
+fn logs_end_at_their_tails(rt: HostRuntime) {
+    are_read(&rt, rt.alloc(), &RIGHT_LOGS);
 }
 
 /// Logs that a fault ends.
@@ -295,22 +291,21 @@ const WRONG_LOGS: [Case<'static>; 7] = [
 ];
 
 #[test]
-fn a_log_ends_at_its_first_fault(rt: HostRuntime) -> Result<(), Fail> {
-    are_read(rt.alloc(), &rt, &WRONG_LOGS)
+fn a_log_ends_at_its_first_fault(rt: HostRuntime) {
+    are_read(&rt, rt.alloc(), &WRONG_LOGS);
 }
 
 /// The places of so many more entries of 32 bytes.
-fn push_places(places: &mut Vec<u64>, from: u64, count: u64) -> Result<(), Fail>
+fn push_places(rt: &impl Abort, places: &mut Vec<u64>, from: u64, count: u64)
     requires { (from < 65536) × (count < 128) }
 {
     for k in 0..count {
-        places.push(from + 32 * k)?;
+        places.push(from + 32 * k).expect(rt, "a place");
     }
-    Ok(())
 }
 
 /// Entries at these places, with a link to block 4.
-fn full_page(alloc: Global, places: &[u64]) -> Result<Vec<Word>, Fail> {
+fn full_page(alloc: Global, places: &[u64]) -> Result<Vec<Word>, AllocError> {
     let mut words = Vec::new(alloc);
     for at in places {
         words.push((*at, ATTR))?;
@@ -319,7 +314,7 @@ fn full_page(alloc: Global, places: &[u64]) -> Result<Vec<Word>, Fail> {
     Ok(words)
 }
 
-fn is_full(rt: &impl Abort, alloc: Global, entries: &[u64], words: &[Word]) -> Result<(), Fail> {
+fn is_full(rt: &impl Abort, alloc: Global, entries: &[u64], words: &[Word]) {
     let full = Case {
         name: "a full page up to its link",
         words,
@@ -334,19 +329,19 @@ fn is_full(rt: &impl Abort, alloc: Global, entries: &[u64], words: &[Word]) -> R
         pages: &[3, 4],
         ..full
     };
-    are_read(alloc, rt, &[full, linked])
+    are_read(rt, alloc, &[full, linked]);
 }
 
-fn leads_on(rt: &impl Abort, alloc: Global, places: &[u64]) -> Result<(), Fail> {
-    let words = full_page(alloc, places)?;
-    is_full(rt, alloc, places, &words)
+fn leads_on(rt: &impl Abort, alloc: Global, places: &[u64]) {
+    let words = full_page(alloc, places).expect(rt, "a page");
+    is_full(rt, alloc, places, &words);
 }
 
 #[test]
-fn a_full_page_leads_on_by_its_link_alone(rt: HostRuntime) -> Result<(), Fail> {
+fn a_full_page_leads_on_by_its_link_alone(rt: HostRuntime) {
     let mut places = Vec::new(rt.alloc());
-    push_places(&mut places, HEAD, 127)?;
-    leads_on(&rt, rt.alloc(), &places)
+    push_places(&rt, &mut places, HEAD, 127);
+    leads_on(&rt, rt.alloc(), &places);
 }
 
 const NOTHING_SET: AttrEntry = AttrEntry {
@@ -389,48 +384,44 @@ const TWO_ENTRIES: [Word; 4] = [
     (16416, ATTR),
 ];
 
-fn finds(
-    rt: &impl Abort,
-    reader: &mut LogReader,
-    memory: &MemRegion,
-    all: &[Finding],
-) -> Result<(), AllocError>
+fn finds(rt: &impl Abort, reader: &mut LogReader, memory: &MemRegion, all: &[Finding])
     requires { HasBlocks memory.now.region reader.old.sup.blocks }
     ensures { reader.new.sup ≡ reader.old.sup }
 {
     for wanted in all {
-        assert!(rt; reader.next(memory)? == *wanted);
+        let found = reader.next(memory).expect(rt, "memory");
+        check(rt, found == *wanted, "a finding");
     }
-    Ok(())
 }
 
 fn assert_pages(rt: &impl Abort, reader: &LogReader, pages: &[u64]) {
-    assert!(rt; reader.pages() == pages);
+    check(rt, reader.pages() == pages, "the pages");
 }
 
 /// The last log's pages are the next one's to read again.
-fn finds_both(rt: &impl Abort, reader: &mut LogReader, memory: &MemRegion) -> Result<(), AllocError>
+fn finds_both(rt: &impl Abort, reader: &mut LogReader, memory: &MemRegion)
     requires sup { reader.old.sup ≡ SMALL }
     requires blocks { HasBlocks memory.now.region 16 }
 {
-    finds(rt, reader, memory, &FIRST_LOG)?;
+    finds(rt, reader, memory, &FIRST_LOG);
     assert_pages(rt, reader, &[3, 4]);
     reader.restart(HEAD, 16448);
     assert_pages(rt, reader, &[3]);
-    finds(rt, reader, memory, &SECOND_LOG)
+    finds(rt, reader, memory, &SECOND_LOG);
 }
 
 fn goes_on(rt: &impl Abort, alloc: Global, memory: &MemRegion) -> Result<(), AllocError>
     requires { HasBlocks memory.now.region 16 }
 {
     let mut reader = LogReader::new(alloc, &SMALL, HEAD, 16416)?;
-    finds_both(rt, &mut reader, memory)
+    finds_both(rt, &mut reader, memory);
+    Ok(())
 }
 
 #[test]
-fn a_reader_goes_on_to_another_log(rt: HostRuntime) -> Result<(), Fail> {
-    let memory = small_region(rt.alloc(), &TWO_ENTRIES)?;
-    Ok(goes_on(&rt, rt.alloc(), &memory)?)
+fn a_reader_goes_on_to_another_log(rt: HostRuntime) {
+    let memory = small_region(&rt, rt.alloc(), &TWO_ENTRIES);
+    check(&rt, goes_on(&rt, rt.alloc(), &memory).is_ok(), "a reader");
 }
 
 #[test]

@@ -1,5 +1,6 @@
 //! Each call on its happy path with ample memory, and names at the edges.
 
+use crate::checks::{check, check_at};
 use nv_names::{NameIndex, Named, Target};
 use std::alloc::{AllocError, Global};
 use std::process::Abort;
@@ -65,36 +66,36 @@ fn remove_all(index: &mut NameIndex, names: &[Vec<u8>]) {
 
 /// Each name stands for inode 7 at its place in the list.
 fn assert_named(rt: &impl Abort, index: &NameIndex, names: &[Vec<u8>]) {
-    assert!(rt; index.len() == names.len());
+    check(rt, index.len() == names.len(), "how many names");
     for (place, name) in names.iter().enumerate() {
         let target = Target {
             inode: 7,
             place: place as u64,
         };
-        assert!(rt; index.get(name) == Some(target), "name {place}");
+        let is_found = index.get(name) == Some(target);
+        check_at(rt, is_found, "a name", place as u64);
     }
 }
 
 /// Nothing is found of texts that are no names.
 fn assert_no_names(rt: &impl Abort, index: &NameIndex) {
-    assert!(rt; index.get(b"").is_none());
-    assert!(rt; index.get(&[b'z'; 254]).is_none());
-    assert!(rt; index.get(&[b'z'; 256]).is_none());
+    check(rt, index.get(b"").is_none(), "no byte");
+    check(rt, index.get(&[b'z'; 254]).is_none(), "254 bytes");
+    check(rt, index.get(&[b'z'; 256]).is_none(), "256 bytes");
 }
 
 fn assert_rising(rt: &impl Abort, listed: &[Named]) {
-    assert!(rt; listed.len() == 7);
+    check(rt, listed.len() == 7, "how many names are listed");
     for (line, place) in listed.iter().zip(&RISING) {
-        assert!(rt; line.place == *place, "place {place}");
+        check_at(rt, line.place == *place, "a listed name", *place);
     }
 }
 
-fn are_listed(rt: &impl Abort, alloc: Global, names: &[Vec<u8>]) -> Result<(), AllocError> {
-    let index = added(alloc, names)?;
-    assert_named(rt, &index, names);
-    assert_no_names(rt, &index);
-    assert_rising(rt, &index.list()?);
-    Ok(())
+fn are_listed(rt: &impl Abort, index: &NameIndex, names: &[Vec<u8>]) {
+    assert_named(rt, index, names);
+    assert_no_names(rt, index);
+    let listed = index.list().expect(rt, "memory");
+    assert_rising(rt, &listed);
 }
 
 /// Removes the last name twice, and then all others.
@@ -105,52 +106,52 @@ fn assert_all_go(rt: &impl Abort, index: &mut NameIndex, names: &[Vec<u8>]) {
         assert_named(rt, index, others);
     }
     remove_all(index, names);
-    assert!(rt; index.is_empty());
+    check(rt, index.is_empty(), "an empty index");
 }
 
-/// The first name goes alone, and comes again.
-fn assert_told_apart(
-    rt: &impl Abort,
-    index: &mut NameIndex,
-    names: &[Vec<u8>],
-) -> Result<(), AllocError> {
-    assert_named(rt, index, names);
+/// The first name goes alone.
+fn assert_first_goes(rt: &impl Abort, index: &mut NameIndex, names: &[Vec<u8>]) {
     if let Some((first, others)) = names.split_first() {
         index.remove(first);
-        assert!(rt; index.get(first).is_none());
-        assert!(rt; index.len() == others.len());
+        check(rt, index.get(first).is_none(), "the first name");
+        check(rt, index.len() == others.len(), "how many names");
     }
-    insert_all(index, names)
+}
+
+fn assert_inserted(rt: &impl Abort, index: &mut NameIndex, names: &[Vec<u8>]) {
+    check(rt, insert_all(index, names).is_ok(), "memory");
 }
 
 /// The names are inserted where no room was made. A refused growth leaves them, one goes and comes, and all go.
-fn come_and_go(
-    rt: &impl Abort,
-    index: &mut NameIndex,
-    names: &[Vec<u8>],
-) -> Result<(), AllocError> {
-    insert_all(index, names)?;
-    assert!(rt; index.reserve(usize::MAX) == Err(AllocError));
-    assert_told_apart(rt, index, names)?;
+fn come_and_go(rt: &impl Abort, index: &mut NameIndex, names: &[Vec<u8>]) {
+    assert_inserted(rt, index, names);
+    check(rt, index.reserve(usize::MAX).is_err(), "a growth");
+    assert_named(rt, index, names);
+    assert_first_goes(rt, index, names);
+    assert_inserted(rt, index, names);
     assert_named(rt, index, names);
     assert_all_go(rt, index, names);
-    Ok(())
 }
 
-fn are_told_apart(rt: &impl Abort, alloc: Global, names: &[Vec<u8>]) -> Result<(), AllocError> {
+fn are_told_apart(rt: &impl Abort, alloc: Global, names: &[Vec<u8>]) {
     let mut index = NameIndex::new(alloc);
-    come_and_go(rt, &mut index, names)
+    come_and_go(rt, &mut index, names);
+}
+
+fn are_added(rt: &impl Abort, alloc: Global, names: &[Vec<u8>]) {
+    let index = added(alloc, names).expect(rt, "memory");
+    are_listed(rt, &index, names);
 }
 
 #[test]
-fn names_at_the_edges_are_told_apart_and_listed(rt: HostRuntime) -> Result<(), AllocError> {
-    let names = edge_names(rt.alloc())?;
-    are_listed(&rt, rt.alloc(), &names)?;
-    are_told_apart(&rt, rt.alloc(), &names)
+fn names_at_the_edges_are_told_apart_and_listed(rt: HostRuntime) {
+    let names = edge_names(rt.alloc()).expect(&rt, "memory");
+    are_added(&rt, rt.alloc(), &names);
+    are_told_apart(&rt, rt.alloc(), &names);
 }
 
 #[test]
-fn names_of_one_key_are_told_apart(rt: HostRuntime) -> Result<(), AllocError> {
-    let names = names_of_one_key(rt.alloc())?;
-    are_told_apart(&rt, rt.alloc(), &names)
+fn names_of_one_key_are_told_apart(rt: HostRuntime) {
+    let names = names_of_one_key(rt.alloc()).expect(&rt, "memory");
+    are_told_apart(&rt, rt.alloc(), &names);
 }

@@ -3,6 +3,7 @@
 ghost use Rattle.std.specs.Prelude.{◌≡◌, ◌^◌, ◌<◌};
 ghost use Rattle.nv_numbered.specs.Values.{limit_of};
 
+use crate::checks::{check, check_at};
 use nv_numbered::Numbered;
 use std::alloc::{AllocError, Global};
 use std::process::Abort;
@@ -48,13 +49,11 @@ fn assert_values(
     count: usize,
     wanted: &[(u64, Option<u64>)],
 ) {
-    assert!(rt; values.len() == count);
-    assert!(rt; values.is_empty() == (count == 0));
+    check(rt, values.len() == count, "how many have a value");
+    check(rt, values.is_empty() == (count == 0), "whether none has");
     for (number, value) in wanted {
-        assert!(rt;
-            values.get(*number).copied() == *value,
-            "at number {number}"
-        );
+        let found = values.get(*number).copied();
+        check_at(rt, found == *value, "a value", *number);
     }
 }
 
@@ -62,28 +61,28 @@ fn assert_values(
 fn assert_listed(rt: &impl Abort, values: &Numbered<u64>, wanted: &[(u64, u64)]) {
     let mut listed = values.iter();
     for (number, value) in wanted {
-        assert!(rt;
-            listed.next() == Some((*number, value)),
-            "at number {number}"
-        );
+        let is_next = listed.next() == Some((*number, value));
+        check_at(rt, is_next, "a listed value", *number);
     }
-    assert!(rt; listed.next().is_none());
+    check(rt, listed.next().is_none(), "the end of the list");
 }
 
 /// A number's value is removed, if it has one.
 fn assert_removed(rt: &impl Abort, values: &mut Numbered<u64>, number: u64, value: Option<u64>) {
-    assert!(rt; values.remove(number) == value, "at number {number}");
+    let is_removed = values.remove(number) == value;
+    check_at(rt, is_removed, "a removed value", number);
 }
 
 /// A number's value is set to 1, if it has one.
 fn assert_written(rt: &impl Abort, values: &mut Numbered<u64>, number: u64, has_value: bool) {
-    match values.get_mut(number) {
+    let is_written = match values.get_mut(number) {
         Some(value) => {
             *value = 1;
-            assert!(rt; has_value, "at number {number}");
+            true
         }
-        None => assert!(rt; !has_value, "at number {number}"),
-    }
+        None => false,
+    };
+    check_at(rt, is_written == has_value, "a write", number);
 }
 
 /// The numbers 5 and 1, each with ten times itself.
@@ -108,10 +107,9 @@ fn assert_given(rt: &impl Abort, values: &mut Numbered<u64>) {
 }
 
 #[test]
-fn given_values_stand_under_their_numbers(rt: HostRuntime) -> Result<(), AllocError> {
-    let mut values = given(rt.alloc())?;
+fn given_values_stand_under_their_numbers(rt: HostRuntime) {
+    let mut values = given(rt.alloc()).expect(&rt, "memory");
     assert_given(&rt, &mut values);
-    Ok(())
 }
 
 const NO_VALUES: [(u64, Option<u64>); 4] = [(0, None), (7, None), (8, None), (u64::MAX, None)];
@@ -123,18 +121,17 @@ fn assert_new(rt: &impl Abort, values: &mut Numbered<u64>) {
     assert_removed(rt, values, 0, None);
 }
 
-fn is_new(rt: &impl Abort, alloc: Global, limit: u64) -> Result<(), AllocError>
+fn is_new(rt: &impl Abort, alloc: Global, limit: u64)
     requires { limit < 2 ^ 32 }
 {
-    let mut values = Numbered::<u64>::new(alloc, limit)?;
+    let mut values = Numbered::<u64>::new(alloc, limit).expect(rt, "memory");
     assert_new(rt, &mut values);
-    Ok(())
 }
 
 #[test]
-fn a_new_table_has_no_value(rt: HostRuntime) -> Result<(), AllocError> {
-    is_new(&rt, rt.alloc(), 8)?;
-    is_new(&rt, rt.alloc(), 0)
+fn a_new_table_has_no_value(rt: HostRuntime) {
+    is_new(&rt, rt.alloc(), 8);
+    is_new(&rt, rt.alloc(), 0);
 }
 
 const INSERTED: [(u64, Option<u64>); 4] = [(2, None), (3, Some(30)), (7, Some(70)), (8, None)];
@@ -167,18 +164,16 @@ fn assert_writes(rt: &impl Abort, values: &mut Numbered<u64>) {
 }
 
 #[test]
-fn a_write_changes_one_value(rt: HostRuntime) -> Result<(), AllocError> {
-    let mut values = filled(rt.alloc(), &[5, 0, 7])?;
+fn a_write_changes_one_value(rt: HostRuntime) {
+    let mut values = filled(rt.alloc(), &[5, 0, 7]).expect(&rt, "memory");
     assert_writes(&rt, &mut values);
-    Ok(())
 }
 
 #[test]
-fn a_listing_rises_by_number(rt: HostRuntime) -> Result<(), AllocError> {
-    let mut values = filled(rt.alloc(), &[5, 1, 7, 0, 6])?;
+fn a_listing_rises_by_number(rt: HostRuntime) {
+    let mut values = filled(rt.alloc(), &[5, 1, 7, 0, 6]).expect(&rt, "memory");
     assert_removed(&rt, &mut values, 5, Some(50));
     assert_listed(&rt, &values, &[(0, 0), (1, 10), (6, 60), (7, 70)]);
-    Ok(())
 }
 
 /// The numbers that are removed from eight, with their values, and how many are left then.
@@ -200,18 +195,16 @@ fn assert_removals(rt: &impl Abort, values: &mut Numbered<u64>) {
 }
 
 #[test]
-fn values_are_removed_in_any_order(rt: HostRuntime) -> Result<(), AllocError> {
-    let mut values = filled(rt.alloc(), &[0, 1, 2, 3, 4, 5, 6, 7])?;
+fn values_are_removed_in_any_order(rt: HostRuntime) {
+    let mut values = filled(rt.alloc(), &[0, 1, 2, 3, 4, 5, 6, 7]).expect(&rt, "memory");
     assert_removals(&rt, &mut values);
-    Ok(())
 }
 
 #[test]
-fn a_refused_growth_leaves_the_values(rt: HostRuntime) -> Result<(), AllocError> {
-    let mut values = filled(rt.alloc(), &[1, 4])?;
-    assert!(rt; values.reserve(usize::MAX) == Err(AllocError));
+fn a_refused_growth_leaves_the_values(rt: HostRuntime) {
+    let mut values = filled(rt.alloc(), &[1, 4]).expect(&rt, "memory");
+    check(&rt, values.reserve(usize::MAX).is_err(), "a growth");
     assert_values(&rt, &values, 2, &[(1, Some(10)), (4, Some(40))]);
-    Ok(())
 }
 
 fn insert_texts(alloc: Global, values: &mut Numbered<Vec<u8>>) -> Result<(), AllocError>
@@ -236,7 +229,11 @@ fn is_text(value: Option<&Vec<u8>>, text: &[u8]) -> bool {
 fn values_that_own_memory_come_back(rt: HostRuntime) -> Result<(), AllocError> {
     let mut values = Numbered::<Vec<u8>>::new(rt.alloc(), 8)?;
     insert_texts(rt.alloc(), &mut values)?;
-    assert!(rt; is_text(values.remove(6).as_ref(), b"six!"));
-    assert!(rt; is_text(values.get(1), b"one"));
+    check(
+        &rt,
+        is_text(values.remove(6).as_ref(), b"six!"),
+        "the text of 6",
+    );
+    check(&rt, is_text(values.get(1), b"one"), "the text of 1");
     Ok(())
 }

@@ -2,52 +2,53 @@
 
 mod image;
 
-use crate::small::{Word, assert_words, is_place};
+use crate::checks::{check, check_at};
+use crate::small::{Word, assert_words, is_place, new_region, region_of};
 use nv_region::{Fuse, Keep, MemRegion, Pmem, RegionRefusal, Stopped, commit_word, store_word};
-use std::alloc::{AllocError, Global};
+use std::alloc::Global;
 use std::process::Abort;
-use std::test::Fail;
 
 /// Bytes of which neighbours differ.
-fn counted(alloc: Global, count: u64) -> Result<Vec<u8>, AllocError> {
+fn counted(rt: &impl Abort, alloc: Global, count: u64) -> Vec<u8> {
     let mut bytes = Vec::new(alloc);
     for k in 0..count {
-        bytes.push((k % 251) as u8)?;
+        bytes.push((k % 251) as u8).expect(rt, "memory");
     }
-    Ok(bytes)
+    bytes
 }
 
-/// Whether a region has so many bytes, and gives these back.
-fn holds(region: &MemRegion, bytes: &[u8], count: u64) -> Result<bool, AllocError> {
-    let back = region.to_bytes()?;
-    Ok(region.len() == count && back.as_slice() == bytes)
+/// The region has so many bytes, and gives these back.
+fn assert_held(rt: &impl Abort, region: &MemRegion, bytes: &[u8], count: u64) {
+    let back = region.to_bytes().expect(rt, "memory");
+    check_at(rt, region.len() == count, "the length", count);
+    check_at(rt, back.as_slice() == bytes, "the bytes", count);
 }
 
-fn is_given_back(alloc: Global, bytes: &[u8], count: u64) -> Result<bool, Fail> {
-    let region = MemRegion::from_bytes(alloc, bytes)?;
-    Ok(holds(&region, bytes, count)?)
+fn are_given_back(rt: &impl Abort, alloc: Global, bytes: &[u8], count: u64) {
+    let region = region_of(rt, alloc, bytes);
+    assert_held(rt, &region, bytes, count);
 }
 
-fn gives_back(rt: &impl Abort, alloc: Global, count: u64) -> Result<(), Fail> {
-    let bytes = counted(alloc, count)?;
-    assert!(rt; is_given_back(alloc, &bytes, count)?, "of {count} bytes");
-    Ok(())
+fn gives_back(rt: &impl Abort, alloc: Global, count: u64) {
+    let bytes = counted(rt, alloc, count);
+    are_given_back(rt, alloc, &bytes, count);
 }
 
 #[test]
-fn bytes_of_any_length_are_given_back(rt: HostRuntime) -> Result<(), Fail> {
+fn bytes_of_any_length_are_given_back(rt: HostRuntime) {
     for &count in [0, 1, 7, 8, 4095, 4096].iter() {
-        gives_back(&rt, rt.alloc(), count)?;
+        gives_back(&rt, rt.alloc(), count);
     }
-    Ok(())
 }
 
 #[test]
-fn words_are_little_endian(rt: HostRuntime) -> Result<(), Fail> {
-    let bytes = [1, 2, 0, 0, 0, 0, 0, 128, 255];
-    let region = MemRegion::from_bytes(rt.alloc(), &bytes)?;
-    assert!(rt; region.load(0) == 0x8000_0000_0000_0201);
-    Ok(())
+fn words_are_little_endian(rt: HostRuntime) {
+    let region = region_of(&rt, rt.alloc(), &[1, 2, 0, 0, 0, 0, 0, 128, 255]);
+    check(
+        &rt,
+        region.load(0) == 0x8000_0000_0000_0201,
+        "the word at 0",
+    );
 }
 
 fn refusal_of(alloc: Global, blocks: u64) -> Option<RegionRefusal> {
@@ -57,7 +58,13 @@ fn refusal_of(alloc: Global, blocks: u64) -> Option<RegionRefusal> {
 #[test]
 fn no_block_and_too_many_blocks_are_refused(rt: HostRuntime) {
     for &blocks in [0, 262_145].iter() {
-        assert!(rt; refusal_of(rt.alloc(), blocks) == Some(RegionRefusal::Length));
+        let refusal = refusal_of(rt.alloc(), blocks);
+        check_at(
+            &rt,
+            refusal == Some(RegionRefusal::Length),
+            "a refusal",
+            blocks,
+        );
     }
 }
 
@@ -78,7 +85,6 @@ fn commit_within<P: Pmem>(region: &mut P, at: u64, word: u64) -> Result<(), Stop
 }
 
 /// A store of a word at its address, one that is fenced, or a fence alone.
-#[derive(Clone, Copy)]
 enum Step {
     Store(u64, u64),
     Commit(u64, u64),
@@ -88,10 +94,10 @@ enum Step {
 /// A step and its answer.
 type Answered = (Step, Result<(), Stopped>);
 
-fn take<P: Pmem>(region: &mut P, step: Step) -> Result<(), Stopped> {
+fn take<P: Pmem>(region: &mut P, step: &Step) -> Result<(), Stopped> {
     match step {
-        Step::Store(at, word) => store_within(region, at, word),
-        Step::Commit(at, word) => commit_within(region, at, word),
+        Step::Store(at, word) => store_within(region, *at, *word),
+        Step::Commit(at, word) => commit_within(region, *at, *word),
         Step::Fence => region.fence(),
     }
 }
@@ -99,7 +105,7 @@ fn take<P: Pmem>(region: &mut P, step: Step) -> Result<(), Stopped> {
 /// The steps have these answers, and leave these words.
 fn assert_steps<P: Pmem>(rt: &impl Abort, region: &mut P, steps: &[Answered], words: &[Word]) {
     for (step, answer) in steps {
-        assert!(rt; take(region, *step) == *answer);
+        check(rt, take(region, step) == *answer, "a step");
     }
     assert_words(rt, region, words);
 }
@@ -140,31 +146,29 @@ const FUSES: [Row<'static>; 3] = [
     ),
 ];
 
+const ONE_STORE: [Answered; 1] = [(Step::Store(8, 7), Ok(()))];
+
 /// A new region is zeros, and takes steps as its fuse says.
 fn assert_fuse(rt: &impl Abort, region: &mut MemRegion, row: &Row<'_>) {
     let (fuse, steps, words) = *row;
-    assert!(rt; region.len() == 32_768);
+    check(rt, region.len() == 32_768, "the length");
     assert_words(rt, region, &[(32_760, 0)]);
     region.set_fuse(fuse);
     assert_steps(rt, region, steps, words);
     region.set_fuse(Fuse::Off);
-    assert_steps(rt, region, &[(Step::Store(8, 7), Ok(()))], &[]);
+    assert_steps(rt, region, &ONE_STORE, &[]);
 }
 
-fn is_fused(rt: &impl Abort, alloc: Global, row: &Row<'_>) -> Result<(), RegionRefusal> {
-    let mut region = MemRegion::new(alloc, 8)?;
+fn is_fused(rt: &impl Abort, alloc: Global, row: &Row<'_>) {
+    let mut region = new_region(rt, alloc, 8);
     assert_fuse(rt, &mut region, row);
-    Ok(())
 }
 
 #[test]
-fn a_new_region_is_zeros_and_takes_steps_until_its_fuse_burns(
-    rt: HostRuntime,
-) -> Result<(), RegionRefusal> {
+fn a_new_region_is_zeros_and_takes_steps_until_its_fuse_burns(rt: HostRuntime) {
     for row in FUSES.iter() {
-        is_fused(&rt, rt.alloc(), row)?;
+        is_fused(&rt, rt.alloc(), row);
     }
-    Ok(())
 }
 
 /// What is stored before and behind a fence. The word at 8 is as it was.
@@ -179,12 +183,11 @@ const UNFENCED: [Answered; 7] = [
 ];
 
 /// What a stop leaves of a region in which two words are fenced and further ones are not.
-fn keeps(rt: &impl Abort, alloc: Global, keep: Keep, words: &[Word]) -> Result<(), RegionRefusal> {
-    let mut region = MemRegion::new(alloc, 8)?;
+fn keeps(rt: &impl Abort, alloc: Global, keep: Keep, words: &[Word]) {
+    let mut region = new_region(rt, alloc, 8);
     assert_steps(rt, &mut region, &UNFENCED, &[]);
     region.set_fuse(Fuse::After(0));
     assert_words(rt, &region.after_stop(keep), words);
-    Ok(())
 }
 
 const KEPT: [(Keep, [Word; 5]); 3] = [
@@ -200,9 +203,8 @@ const KEPT: [(Keep, [Word; 5]); 3] = [
 ];
 
 #[test]
-fn a_stop_keeps_none_all_or_every_second_word(rt: HostRuntime) -> Result<(), RegionRefusal> {
+fn a_stop_keeps_none_all_or_every_second_word(rt: HostRuntime) {
     for (keep, words) in KEPT.iter() {
-        keeps(&rt, rt.alloc(), *keep, words)?;
+        keeps(&rt, rt.alloc(), *keep, words);
     }
-    Ok(())
 }

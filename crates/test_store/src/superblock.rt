@@ -2,13 +2,14 @@
 
 ghost use Rattle.nv_region.specs.Region.{HasBlocks};
 
-use nv_region::{MemRegion, Pmem, RegionRefusal};
+use crate::checks::{check, check_at};
+use crate::small::{new_region, region_of};
+use nv_region::{MemRegion, Pmem, Stopped};
 use nv_super::{
     Fault, Owner, Run, Super, SuperFault, read_super, sort_claims, sort_faults, write_super,
 };
 use std::alloc::AllocError;
 use std::process::Abort;
-use std::test::Fail;
 
 const MAGIC: u64 = 0x3130_4d50_4156_4f4e;
 
@@ -22,11 +23,11 @@ const TWO_CPUS: Super = Super {
 
 /// What is read of a superblock, once a word at this address was stored.
 fn assert_super(rt: &impl Abort, memory: &MemRegion, at: u64, wanted: Result<Super, SuperFault>) {
-    assert!(rt; read_super(memory) == wanted, "after word {at}");
+    check_at(rt, read_super(memory) == wanted, "after a word", at);
 }
 
 /// Stores the superblock of two CPUs.
-fn write_two(memory: &mut MemRegion) -> Result<(), Fail>
+fn write_two(memory: &mut MemRegion) -> Result<(), Stopped>
     requires { HasBlocks memory.old.region 64 }
     ensures { HasBlocks memory.new.region 64 }
 {
@@ -43,7 +44,7 @@ const FIRST_FAULTS: [(u64, u64, SuperFault); 5] = [
     (8, 2, SuperFault::Version),
 ];
 
-fn store(memory: &mut MemRegion, at: u64, word: u64) -> Result<(), Fail>
+fn store(memory: &mut MemRegion, at: u64, word: u64) -> Result<(), Stopped>
     requires { HasBlocks memory.old.region 64 }
     ensures { HasBlocks memory.new.region 64 }
 {
@@ -53,38 +54,34 @@ fn store(memory: &mut MemRegion, at: u64, word: u64) -> Result<(), Fail>
     Ok(())
 }
 
-fn faults_are_told(rt: &impl Abort, memory: &mut MemRegion) -> Result<(), Fail>
+fn faults_are_told(rt: &impl Abort, memory: &mut MemRegion)
     requires { HasBlocks memory.old.region 64 }
 {
     for &(at, word, fault) in FIRST_FAULTS.iter() {
-        store(memory, at, word)?;
+        check_at(rt, store(memory, at, word).is_ok(), "a store", at);
         assert_super(rt, memory, at, Err(fault));
     }
-    Ok(())
 }
 
-fn is_read_as_written(rt: &impl Abort, memory: &mut MemRegion) -> Result<(), Fail>
+fn is_read_as_written(rt: &impl Abort, memory: &mut MemRegion)
     requires { HasBlocks memory.old.region 64 }
 {
     assert_super(rt, memory, 0, Err(SuperFault::Magic));
-    write_two(memory)?;
+    check(rt, write_two(memory).is_ok(), "the superblock is written");
     assert_super(rt, memory, 0, Ok(TWO_CPUS));
-    faults_are_told(rt, memory)
+    faults_are_told(rt, memory);
 }
 
 #[test]
-fn a_superblock_reads_as_it_was_written_and_its_first_fault_is_told(
-    rt: HostRuntime,
-) -> Result<(), Fail> {
-    let mut region = MemRegion::new(rt.alloc(), 64)?;
-    is_read_as_written(&rt, &mut region)
+fn a_superblock_reads_as_it_was_written_and_its_first_fault_is_told(rt: HostRuntime) {
+    let mut region = new_region(&rt, rt.alloc(), 64);
+    is_read_as_written(&rt, &mut region);
 }
 
 #[test]
-fn a_region_that_is_too_short_is_told(rt: HostRuntime) -> Result<(), RegionRefusal> {
-    let short = MemRegion::from_bytes(rt.alloc(), &[0; 100])?;
+fn a_region_that_is_too_short_is_told(rt: HostRuntime) {
+    let short = region_of(&rt, rt.alloc(), &[0; 100]);
     assert_super(&rt, &short, 0, Err(SuperFault::Length));
-    Ok(())
 }
 
 /// The system blocks, the pools, slots 1 and 2, and the bounds of inodes.
@@ -107,15 +104,22 @@ fn areas() -> [u64; 9] {
 
 #[test]
 fn areas_lie_where_the_layout_says(rt: HostRuntime) {
-    assert!(rt; areas() == [5, 5, 34, 34, 64, 16384, 12416, 64, 63]);
+    let wanted = [5, 5, 34, 34, 64, 16384, 12416, 64, 63];
+    check(&rt, areas() == wanted, "the areas");
 }
 
 #[test]
 fn numbers_and_pages_are_told_from_others(rt: HostRuntime) {
     let sup = TWO_CPUS;
-    assert!(rt; sup.is_number(63) && !sup.is_number(64) && !sup.is_number(0));
-    assert!(rt; sup.is_page_start(20480) && !sup.is_page_start(16384) && !sup.is_page_start(20488));
-    assert!(rt; Run { start: 7, count: 0 }.is_empty());
+    let numbers = [sup.is_number(63), sup.is_number(64), sup.is_number(0)];
+    check(&rt, numbers == [true, false, false], "the numbers");
+    let pages = [
+        sup.is_page_start(20480),
+        sup.is_page_start(16384),
+        sup.is_page_start(20488),
+    ];
+    check(&rt, pages == [true, false, false], "the pages");
+    check(&rt, Run { start: 7, count: 0 }.is_empty(), "a run of none");
 }
 
 const LOG: Owner = Owner::Log { inode: 2, page: 0 };
@@ -161,7 +165,7 @@ const SORTED: [Fault; 5] = [
 fn faults_rise_by_class_and_fields(rt: HostRuntime) -> Result<(), AllocError> {
     let mut faults = Vec::from_array(rt.alloc(), UNSORTED)?;
     sort_faults(&mut faults);
-    assert!(rt; faults.as_slice() == SORTED.as_slice());
+    check(&rt, faults.as_slice() == SORTED.as_slice(), "the order");
     Ok(())
 }
 
@@ -171,6 +175,7 @@ fn claims_rise_by_block_and_owner(rt: HostRuntime) -> Result<(), AllocError> {
     let data = Owner::Data { inode: 2, page: 3 }.raised(1);
     let mut claims = Vec::from_array(rt.alloc(), [(9, data), (8, log), (8, data), (9, data)])?;
     sort_claims(&mut claims);
-    assert!(rt; claims.as_slice() == [(8, data), (8, log), (9, data)].as_slice());
+    let sorted = [(8, data), (8, log), (9, data)];
+    check(&rt, claims.as_slice() == sorted.as_slice(), "the order");
     Ok(())
 }

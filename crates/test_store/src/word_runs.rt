@@ -2,6 +2,7 @@
 
 ghost use Rattle.std.specs.Prelude.{◌≤◌};
 
+use crate::checks::check_at;
 use nv_blockset::word_run;
 use std::process::Abort;
 
@@ -11,7 +12,8 @@ const TWO_ONES: u64 = 0x8000_0000_0000_0020;
 fn assert_run(rt: &impl Abort, word: u64, from: u32, run: Option<(u32, u32)>)
     requires { from ≤ 64 }
 {
-    assert!(rt; word_run(word, from) == run, "from bit {from} of {word} on");
+    let found = word_run(word, from);
+    check_at(rt, found == run, "a run from a bit on", u64::from(from));
 }
 
 #[test]

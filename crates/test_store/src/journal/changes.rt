@@ -5,12 +5,12 @@ ghost use Rattle.nv_region.specs.Region.{HasBlocks};
 ghost use Rattle.nv_journal.specs.Pending.{IsEmpty};
 
 use super::assert_undone;
+use crate::checks::check;
 use crate::small::{SMALL, Word, assert_words, small_region};
 use nv_journal::{begin, change_two, commit};
 use nv_region::{MemRegion, Pmem, Stopped};
 use std::alloc::Global;
 use std::process::Abort;
-use std::test::Fail;
 
 // The head and the tail of slot 1.
 const SLOT: [Word; 2] = [(8336, 12288), (8344, 12320)];
@@ -90,28 +90,26 @@ fn begin_slot(memory: &mut MemRegion) -> Result<(), Stopped>
 }
 
 /// Two records are begun in an empty journal and committed.
-fn are_recorded(rt: &impl Abort, memory: &mut MemRegion, row: &Row<'_>) -> Result<(), Stopped>
+fn are_recorded(rt: &impl Abort, memory: &mut MemRegion, row: &Row<'_>)
     requires { HasBlocks memory.old.region 16 }
 {
     let (_, next, words) = *row;
-    begin_slot(memory)?;
+    check(rt, begin_slot(memory).is_ok(), "the records are begun");
     assert_words(rt, memory, words);
-    commit(memory, 0)?;
+    check(rt, commit(memory, 0).is_ok(), "they are committed");
     assert_words(rt, memory, &[(4096, next), (4104, next)]);
-    Ok(())
 }
 
-fn records(rt: &impl Abort, alloc: Global, row: &Row<'_>) -> Result<(), Fail> {
-    let mut memory = small_region(alloc, &[(4096, row.0), (4104, row.0)])?;
-    Ok(are_recorded(rt, &mut memory, row)?)
+fn records(rt: &impl Abort, alloc: Global, row: &Row<'_>) {
+    let mut memory = small_region(rt, alloc, &[(4096, row.0), (4104, row.0)]);
+    are_recorded(rt, &mut memory, row);
 }
 
 #[test]
-fn after_record_251_comes_0(rt: HostRuntime) -> Result<(), Fail> {
+fn after_record_251_comes_0(rt: HostRuntime) {
     for row in WRAPPING.iter() {
-        records(&rt, rt.alloc(), row)?;
+        records(&rt, rt.alloc(), row);
     }
-    Ok(())
 }
 
 // Two records were begun and committed in an empty journal.
@@ -127,18 +125,11 @@ fn change_slot(memory: &mut MemRegion) -> Result<(), Stopped>
     Ok(())
 }
 
-fn changes_together(rt: &impl Abort, memory: &mut MemRegion) -> Result<(), Stopped>
-    requires { HasBlocks memory.old.region 16 }
-{
-    change_slot(memory)?;
-    assert_words(rt, memory, &CHANGED);
-    Ok(())
-}
-
 #[test]
-fn two_words_change_together(rt: HostRuntime) -> Result<(), Fail> {
-    let mut memory = small_region(rt.alloc(), &SLOT)?;
-    Ok(changes_together(&rt, &mut memory)?)
+fn two_words_change_together(rt: HostRuntime) {
+    let mut memory = small_region(&rt, rt.alloc(), &SLOT);
+    check(&rt, change_slot(&mut memory).is_ok(), "the slot is changed");
+    assert_words(&rt, &memory, &CHANGED);
 }
 
 // The head is stored, and the tail isn't.
@@ -152,18 +143,17 @@ fn store_head(memory: &mut MemRegion) -> Result<(), Stopped>
 
 const BEGUN: [Word; 4] = [(8336, 16384), (8344, 12320), (4096, 0), (4104, 2)];
 
-fn is_rolled_back(rt: &impl Abort, alloc: Global, memory: &mut MemRegion) -> Result<(), Fail>
+fn is_rolled_back(rt: &impl Abort, alloc: Global, memory: &mut MemRegion)
     requires { HasBlocks memory.old.region 16 }
 {
-    store_head(memory)?;
+    check(rt, store_head(memory).is_ok(), "the head is stored");
     assert_words(rt, memory, &BEGUN);
-    assert_undone(rt, alloc, memory, &SMALL, &[])?;
+    assert_undone(rt, alloc, memory, &SMALL, &[]);
     assert_words(rt, memory, &SLOT);
-    Ok(())
 }
 
 #[test]
-fn a_change_that_was_begun_is_rolled_back(rt: HostRuntime) -> Result<(), Fail> {
-    let mut memory = small_region(rt.alloc(), &SLOT)?;
-    is_rolled_back(&rt, rt.alloc(), &mut memory)
+fn a_change_that_was_begun_is_rolled_back(rt: HostRuntime) {
+    let mut memory = small_region(&rt, rt.alloc(), &SLOT);
+    is_rolled_back(&rt, rt.alloc(), &mut memory);
 }

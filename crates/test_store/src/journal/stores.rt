@@ -1,17 +1,17 @@
 //! Which words an undo and a change of two words store, and in which order.
 
-ghost use Rattle.std.specs.Prelude.{◌≡◌, IfOk};
+ghost use Rattle.std.specs.Prelude.{◌≡◌};
 ghost use Rattle.std.proofs.Common.{inl, refl};
 ghost use Rattle.nv_region.specs.Region.{HasBlocks};
 ghost use Rattle.nv_region.specs.RegionState.{fenced_or_last, fuse_state, steady_unburnt};
 
 use super::TWO;
+use crate::checks::check;
 use crate::small::{Word, assert_words, small_region};
 use nv_journal::{UndoError, change_two, undo};
-use nv_region::{MemRegion, Pmem, RegionRefusal, Stopped};
+use nv_region::{MemRegion, Pmem, Stopped};
 use std::alloc::Global;
 use std::process::Abort;
-use std::test::Fail;
 
 /// A memory that counts its stores and fences, and notes the addresses of the first eight stores.
 #[derive(Drop)]
@@ -80,15 +80,15 @@ const ONE_PENDING: [(u64, u64); 10] = [
     (8264, 1),
 ];
 
-fn noted(alloc: Global, words: &[Word]) -> Result<NotedRegion, RegionRefusal>
-    ensures { IfOk result (λ m. HasBlocks m.memory.region 16) }
+fn noted(rt: &impl Abort, alloc: Global, words: &[Word]) -> NotedRegion
+    ensures { HasBlocks result.memory.region 16 }
 {
-    Ok(NotedRegion {
-        memory: small_region(alloc, words)?,
+    NotedRegion {
+        memory: small_region(rt, alloc, words),
         addresses: [0; 8],
         stores: 0,
         fences: 0,
-    })
+    }
 }
 
 /// How many faults an undo tells.
@@ -106,28 +106,23 @@ fn assert_noted(
     addresses: &[u64; 8],
     fences: usize,
 ) {
-    assert!(rt; (region.stores, region.fences) == (stores, fences));
-    assert!(rt; region.addresses == *addresses);
+    check(rt, region.stores == stores, "the number of stores");
+    check(rt, region.fences == fences, "the number of fences");
+    check(rt, region.addresses == *addresses, "their addresses");
 }
 
-fn stores_for_the_pending_one(
-    rt: &impl Abort,
-    alloc: Global,
-    region: &mut NotedRegion,
-) -> Result<(), Fail>
+fn stores_for_the_pending_one(rt: &impl Abort, alloc: Global, region: &mut NotedRegion)
     requires { HasBlocks region.old.memory.region 16 }
 {
-    let faults = undo_noted(alloc, region)?;
-    assert!(rt; faults == 0);
+    check(rt, undo_noted(alloc, region) == Ok(0), "no fault is told");
     assert_noted(rt, region, 3, &[12416, 12440, 8192, 0, 0, 0, 0, 0], 2);
     assert_words(rt, &region.memory, &[(12440, 20488)]);
-    Ok(())
 }
 
 #[test]
-fn an_empty_journal_causes_no_store_beside_a_pending_one(rt: HostRuntime) -> Result<(), Fail> {
-    let mut region = noted(rt.alloc(), &ONE_PENDING)?;
-    stores_for_the_pending_one(&rt, rt.alloc(), &mut region)
+fn an_empty_journal_causes_no_store_beside_a_pending_one(rt: HostRuntime) {
+    let mut region = noted(&rt, rt.alloc(), &ONE_PENDING);
+    stores_for_the_pending_one(&rt, rt.alloc(), &mut region);
 }
 
 /// Changes the head and the tail of slot 1, where the first journal is empty.
@@ -142,16 +137,9 @@ fn change_noted(region: &mut NotedRegion) -> Result<(), Stopped>
 
 const CHANGED: [u64; 8] = [4160, 4168, 4176, 4184, 4104, 8336, 8344, 4096];
 
-fn stores_for_a_change(rt: &impl Abort, region: &mut NotedRegion) -> Result<(), Stopped>
-    requires { HasBlocks region.old.memory.region 16 }
-{
-    change_noted(region)?;
-    assert_noted(rt, region, 8, &CHANGED, 4);
-    Ok(())
-}
-
 #[test]
-fn a_change_of_two_words_costs_eight_stores_and_four_fences(rt: HostRuntime) -> Result<(), Fail> {
-    let mut region = noted(rt.alloc(), &[])?;
-    Ok(stores_for_a_change(&rt, &mut region)?)
+fn a_change_of_two_words_costs_eight_stores_and_four_fences(rt: HostRuntime) {
+    let mut region = noted(&rt, rt.alloc(), &[]);
+    check(&rt, change_noted(&mut region).is_ok(), "the change");
+    assert_noted(&rt, &region, 8, &CHANGED, 4);
 }

@@ -8,14 +8,14 @@ ghost use Rattle.nv_region.specs.Region.{HasBlocks};
 ghost use Rattle.nv_logpage.specs.Append.{AreGiven, CanAppend};
 ghost use Rattle.nv_logpage.specs.Reads.{is_next_page};
 
-use super::{HEAD, NEXT_PAGE, is_walk, push_places};
-use crate::small::{SMALL, Word, assert_words};
+use super::{HEAD, NEXT_PAGE, is_walk, push_places, walked};
+use crate::checks::{check, check_at};
+use crate::small::{Word, assert_words, new_region};
 use nv_entry::{AttrEntry, Entry, WriteEntry};
-use nv_logpage::{Placed, append, pages_needed, walk};
-use nv_region::{Fuse, MemRegion, Pmem, RegionRefusal, Stopped};
+use nv_logpage::{Placed, append, pages_needed};
+use nv_region::{Fuse, MemRegion, Pmem, Stopped};
 use std::alloc::{AllocError, Global};
 use std::process::Abort;
-use std::test::Fail;
 
 /// What each word of the pages holds before.
 const USED: u64 = 77;
@@ -43,14 +43,14 @@ const FIRST: u64 = 493 * 4294967296 + 32 * 65536 + 2;
 const OWNERS: u64 = 8 * 4294967296 + 7;
 
 /// A region whose blocks 3, 4 and 5 hold `USED` in each word.
-fn used_region(alloc: Global) -> Result<MemRegion, RegionRefusal>
-    ensures { IfOk result (λ m. HasBlocks m.region 16) }
+fn used_region(rt: &impl Abort, alloc: Global) -> MemRegion
+    ensures { HasBlocks result.region 16 }
 {
-    let mut memory = MemRegion::new(alloc, 16)?;
+    let mut memory = new_region(rt, alloc, 16);
     for k in 0..1536 {
         let _unstopped = memory.store(HEAD + 8 * k, USED);
     }
-    Ok(memory)
+    memory
 }
 
 /// Appends the entry of 32 bytes, and answers the new tail.
@@ -149,23 +149,22 @@ fn assert_appended(rt: &impl Abort, memory: &mut MemRegion, row: &Row<'_>)
 {
     let (fuse, tail, answer, words) = *row;
     memory.set_fuse(fuse);
-    assert!(rt; append_at(memory, tail) == Some(answer), "at {tail}");
+    let answered = append_at(memory, tail) == Some(answer);
+    check_at(rt, answered, "an append", tail);
     assert_words(rt, memory, words);
 }
 
-fn is_appended(rt: &impl Abort, alloc: Global, row: &Row<'_>) -> Result<(), RegionRefusal> {
-    let mut memory = used_region(alloc)?;
+fn is_appended(rt: &impl Abort, alloc: Global, row: &Row<'_>) {
+    let mut memory = used_region(rt, alloc);
     assert_appended(rt, &mut memory, row);
-    Ok(())
 }
 
 // Each word is stored once, and the link last.
 #[test]
-fn an_entry_goes_behind_the_tail_or_to_a_fresh_page(rt: HostRuntime) -> Result<(), RegionRefusal> {
+fn an_entry_goes_behind_the_tail_or_to_a_fresh_page(rt: HostRuntime) {
     for row in APPENDS.iter() {
-        is_appended(&rt, rt.alloc(), row)?;
+        is_appended(&rt, rt.alloc(), row);
     }
-    Ok(())
 }
 
 /// Whether these entries stand at these places.
@@ -191,20 +190,14 @@ fn are_entries(read: &[Placed], entries: &[Entry]) -> bool {
 type Listed<'a> = (&'a [u64], &'a [u64], &'a [Entry]);
 
 /// What is read of a log up to this tail.
-fn lists(
-    rt: &impl Abort,
-    alloc: Global,
-    memory: &MemRegion,
-    tail: u64,
-    wanted: Listed<'_>,
-) -> Result<(), AllocError>
+fn lists(rt: &impl Abort, alloc: Global, memory: &MemRegion, tail: u64, wanted: Listed<'_>)
     requires { HasBlocks memory.now.region 16 }
 {
     let (pages, places, entries) = wanted;
-    let read = walk(alloc, memory, &SMALL, HEAD, tail)?;
-    assert!(rt; is_walk(&read, pages, None, places.len()));
-    assert!(rt; stand_at(&read.entries, places) && are_entries(&read.entries, entries));
-    Ok(())
+    let read = walked(rt, alloc, memory, tail);
+    check(rt, is_walk(&read, pages, None, places.len()), "the log");
+    check(rt, stand_at(&read.entries, places), "the places");
+    check(rt, are_entries(&read.entries, entries), "the entries");
 }
 
 /// Two entries, one appended behind the other.
@@ -218,22 +211,22 @@ fn append_two(memory: &mut MemRegion) -> Result<u64, Stopped>
 
 const TWO_SETS: [Entry; 2] = [Entry::Attr(SET), Entry::Attr(SET)];
 
-fn lists_two(rt: &impl Abort, alloc: Global, memory: &mut MemRegion) -> Result<(), AllocError>
+fn lists_two(rt: &impl Abort, alloc: Global, memory: &mut MemRegion)
     requires { HasBlocks memory.old.region 16 }
 {
-    assert!(rt; append_two(memory) == Ok(HEAD + 64));
+    check(rt, append_two(memory) == Ok(HEAD + 64), "the new tail");
     let wanted: Listed = (&[3], &[HEAD, HEAD + 32], &TWO_SETS);
-    lists(rt, alloc, memory, HEAD + 64, wanted)
+    lists(rt, alloc, memory, HEAD + 64, wanted);
 }
 
 #[test]
-fn a_new_log_has_the_entries_that_were_appended(rt: HostRuntime) -> Result<(), Fail> {
-    let mut memory = used_region(rt.alloc())?;
-    Ok(lists_two(&rt, rt.alloc(), &mut memory)?)
+fn a_new_log_has_the_entries_that_were_appended(rt: HostRuntime) {
+    let mut memory = used_region(&rt, rt.alloc());
+    lists_two(&rt, rt.alloc(), &mut memory);
 }
 
 /// One more entry.
-fn add(entries: &mut Vec<Entry>, entry: Entry) -> Result<(), Fail>
+fn add(entries: &mut Vec<Entry>, entry: Entry) -> Result<(), AllocError>
     requires given { AreGiven entries.old.items }
     requires inner { is_next_page entry ≡ false }
     ensures { OnOk result (AreGiven entries.new.items) }
@@ -243,7 +236,7 @@ fn add(entries: &mut Vec<Entry>, entry: Entry) -> Result<(), Fail>
 }
 
 /// So many more attributes entries.
-fn add_sets(entries: &mut Vec<Entry>, count: u64) -> Result<(), Fail>
+fn add_sets(entries: &mut Vec<Entry>, count: u64) -> Result<(), AllocError>
     requires { AreGiven entries.old.items }
     ensures { OnOk result (AreGiven entries.new.items) }
 {
@@ -255,7 +248,7 @@ fn add_sets(entries: &mut Vec<Entry>, count: u64) -> Result<(), Fail>
 
 /// Pages 3, 5 and 4 of a log take 126, 126 and one of these entries. At the end of the first two 32 and 24 bytes are
 /// left, too few for what comes next.
-fn entries_of_three_pages(alloc: Global) -> Result<Vec<Entry>, Fail>
+fn entries_of_three_pages(alloc: Global) -> Result<Vec<Entry>, AllocError>
     ensures { IfOk result (λ entries. AreGiven entries.items) }
 {
     let mut entries = Vec::new(alloc);
@@ -266,13 +259,13 @@ fn entries_of_three_pages(alloc: Global) -> Result<Vec<Entry>, Fail>
 }
 
 /// Where each of these entries goes.
-fn places_in_three_pages(alloc: Global) -> Result<Vec<u64>, Fail> {
+fn places_in_three_pages(rt: &impl Abort, alloc: Global) -> Vec<u64> {
     let mut places = Vec::new(alloc);
-    push_places(&mut places, HEAD, 126)?;
-    push_places(&mut places, 20480, 1)?;
-    push_places(&mut places, 20520, 125)?;
-    push_places(&mut places, 16384, 1)?;
-    Ok(places)
+    push_places(rt, &mut places, HEAD, 126);
+    push_places(rt, &mut places, 20480, 1);
+    push_places(rt, &mut places, 20520, 125);
+    push_places(rt, &mut places, 16384, 1);
+    places
 }
 
 const TURNED_TWICE: [Word; 22] = [
@@ -313,31 +306,29 @@ fn append_over_three(memory: &mut MemRegion, entries: &[Entry]) -> Option<Result
     }
 }
 
-fn turns_twice(
-    rt: &impl Abort,
-    alloc: Global,
-    memory: &mut MemRegion,
-    entries: &[Entry],
-) -> Result<(), Fail>
+fn turns_twice(rt: &impl Abort, alloc: Global, memory: &mut MemRegion, entries: &[Entry])
     requires blocks { HasBlocks memory.old.region 16 }
     requires given { AreGiven entries.now }
 {
-    assert!(rt; append_over_three(memory, entries) == Some(Ok(16416)));
+    let tail = append_over_three(memory, entries);
+    check(rt, tail == Some(Ok(16416)), "the new tail");
     assert_words(rt, memory, &TURNED_TWICE);
-    let places = places_in_three_pages(alloc)?;
+    let places = places_in_three_pages(rt, alloc);
     let wanted: Listed = (&[3, 5, 4], &places, entries);
-    Ok(lists(rt, alloc, memory, 16416, wanted)?)
+    lists(rt, alloc, memory, 16416, wanted);
 }
 
-fn fills_three_pages(rt: &impl Abort, alloc: Global, memory: &mut MemRegion) -> Result<(), Fail>
-    requires { HasBlocks memory.old.region 16 }
+fn fills_three_pages(rt: &impl Abort, alloc: Global, entries: &[Entry])
+    requires { AreGiven entries.now }
 {
-    let entries = entries_of_three_pages(alloc)?;
-    turns_twice(rt, alloc, memory, &entries)
+    let mut memory = used_region(rt, alloc);
+    turns_twice(rt, alloc, &mut memory, entries);
 }
 
 #[test]
-fn an_append_that_turns_twice_takes_the_fresh_pages_in_turn(rt: HostRuntime) -> Result<(), Fail> {
-    let mut memory = used_region(rt.alloc())?;
-    fills_three_pages(&rt, rt.alloc(), &mut memory)
+fn an_append_that_turns_twice_takes_the_fresh_pages_in_turn(rt: HostRuntime) {
+    match entries_of_three_pages(rt.alloc()) {
+        Ok(entries) => fills_three_pages(&rt, rt.alloc(), &entries),
+        Err(_) => rt.panic("memory for the entries"),
+    }
 }

@@ -1,11 +1,11 @@
 //! Regions over borrowed bytes: their lengths, and what their front takes.
 
 use super::{Answered, Step, assert_steps, counted};
+use crate::checks::check;
 use crate::small::Word;
 use nv_region::{ImageRegion, Pmem, Stopped};
 use std::alloc::Global;
 use std::process::Abort;
-use std::test::Fail;
 
 const BLOCK: u64 = 4096;
 
@@ -46,29 +46,27 @@ fn is_shared<M: Sync + Send>(_memory: &M) -> bool {
     true
 }
 
-fn assert_front(rt: &impl Abort, region: &mut ImageRegion<'_>, row: &Row<'_>) -> Result<(), Fail> {
+fn assert_front(rt: &impl Abort, region: &mut ImageRegion<'_>, row: &Row<'_>) {
     let (count, front, steps, words) = *row;
-    region.open_front(front)?;
-    assert!(rt; is_shared(region));
-    assert!(rt; region.len() == count);
+    check(rt, region.open_front(front).is_ok(), "the front");
+    check(rt, is_shared(region), "a shared region");
+    check(rt, region.len() == count, "the length");
     assert_steps(rt, region, steps, words);
-    Ok(())
 }
 
-fn is_region_over(rt: &impl Abort, alloc: Global, bytes: &[u8], row: &Row<'_>) -> Result<(), Fail> {
-    let mut region = ImageRegion::from_bytes(alloc, bytes)?;
-    assert_front(rt, &mut region, row)
+fn is_region_over(rt: &impl Abort, alloc: Global, bytes: &[u8], row: &Row<'_>) {
+    let mut region = ImageRegion::from_bytes(alloc, bytes).expect(rt, "a region");
+    assert_front(rt, &mut region, row);
 }
 
-fn is_image(rt: &impl Abort, alloc: Global, row: &Row<'_>) -> Result<(), Fail> {
-    let bytes = counted(alloc, row.0)?;
-    is_region_over(rt, alloc, &bytes, row)
+fn is_image(rt: &impl Abort, alloc: Global, row: &Row<'_>) {
+    let bytes = counted(rt, alloc, row.0);
+    is_region_over(rt, alloc, &bytes, row);
 }
 
 #[test]
-fn bytes_of_any_length_are_a_region_whose_front_takes_stores(rt: HostRuntime) -> Result<(), Fail> {
+fn bytes_of_any_length_are_a_region_whose_front_takes_stores(rt: HostRuntime) {
     for row in ROWS.iter() {
-        is_image(&rt, rt.alloc(), row)?;
+        is_image(&rt, rt.alloc(), row);
     }
-    Ok(())
 }
