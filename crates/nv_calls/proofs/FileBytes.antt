@@ -1,10 +1,11 @@
 -- What `read` stands on: where the blocks of a file lie, and why it is refused.
-use Rattle.std.proofs.Common.{◌≡◌, ℕ, ◌≤◌, Bool, true, false, not, ◌||◌, ◌==◌, nat_lt, is_none, List, [], ◌∷◌, ◌++◌, refl, sym, ◌∙◌, ap, subst, arith, Option, Some, None, Result, Ok, Err}
-use Rattle.std.specs.List.{Contains}
+use Rattle.std.proofs.Common.{◌≡◌, ℕ, ◌-◌, ◌<◌, ◌≤◌, min, inl, inr, map, Bool, true, false, not, ◌||◌, ◌==◌, nat_lt, is_none, List, [], ◌∷◌, ◌++◌, refl, sym, ◌∙◌, ap, subst, arith, Option, Some, None, Result, Ok, Err}
+use Rattle.std.specs.List.{Contains, range_with_len}
 use Rattle.std.proofs.Math.Logic.{∥∥₁_elim}
 use Rattle.std.proofs.Math.Nat.{ℕ_set}
 use Rattle.std.proofs.Props.{props}
 use Rattle.std.proofs.lemmas.Option.{same_Some}
+use Rattle.std.proofs.lemmas.Bool.{cases_lt}
 use Rattle.std.proofs.lemmas.Bool.Decides.{nat_tests}
 use Rattle.nv_region.specs.Region.{Region}
 use Rattle.nv_super.specs.declared.superblock.Super.{Super}
@@ -79,6 +80,23 @@ contains_as {P} {m} {n} row same c = subst (λ (k : Mount P). Contains k.rows ro
 
 pub runs_as : {P : Type 0} {m n : Mount P} → m ≡ n → n.stopped ≡ false → m.stopped ≡ false
 runs_as {P} {m} {n} same runs = ap (λ (k : Mount P). k.stopped) same ∙ runs
+
+-- ---- what is read
+
+-- From an offset behind the size there are no bytes.
+pub same_read : (byte : ℕ → ℕ) (offset count size from left some : ℕ) → from ≡ min offset size → left ≡ size - offset → some ≡ min count left → map byte (range_with_len from some) ≡ map byte (range_with_len offset (min count (size - offset)))
+same_read byte offset count size from left some from_is left_is some_is = elim (cases_lt offset size) [
+  | inl inside ↦ (λ k. map byte (range_with_len (here inside k) (as_many k)))
+  | inr behind ↦ (ap (λ (n : ℕ). map byte (range_with_len from n)) (none behind) ∙ ap (λ (n : ℕ). map byte (range_with_len offset n)) (sym (none behind) ∙ as_many))
+] where
+  as_many : some ≡ min count (size - offset)
+  as_many = some_is ∙ ap (min count) left_is
+
+  here : offset < size → from ≡ offset
+  here inside = omega (arith, inside, from_is)
+
+  none : size ≤ offset → some ≡ 0
+  none behind = omega (arith, behind, left_is, some_is)
 
 -- ---- refusals
 

@@ -48,3 +48,4 @@ pub mod MoveTests
 pub mod MoveCall
 pub mod MoveAt
 pub mod Early
+pub mod Asked

@@ -1,5 +1,7 @@
-use Rattle.std.proofs.Common.{◌≡◌, ◌∙◌, ◌⊎◌, ◌++◌, ◌∷◌, [], List, ℕ, Some, false, inr, ap, set, subst, sym}
+use Rattle.std.proofs.Common.{◌≡◌, ◌∙◌, ◌<◌, ◌⊎◌, ◌++◌, ◌∷◌, [], List, ℕ, Some, false, inr, ap, set, subst, sym, refl, true, ◌≤◌}
 use Rattle.std.proofs.lemmas.Result.{err_from_is_err_and}
+use Rattle.nv_region.specs.Region.{size}
+use Rattle.nv_region.specs.Fuses.{KeepsFuse}
 use Rattle.nv_super.proofs.Options.{some_only}
 use Rattle.nv_held.specs.Held.{Held, Store}
 use Rattle.nv_scan.specs.declared.piece.Row.{Row}
@@ -25,6 +27,8 @@ use Rattle.nv_calls.proofs.RowChange.{kept_after, log_grew, row_bytes, same_moun
 use Rattle.nv_calls.proofs.SetAttr.{attr_allowed, attr_changed, attr_logged, attr_refused, kept_or_stopped, late_reply, not_stop, unchanged_step, attributed_node}
 use Rattle.nv_calls.proofs.Tests.{early_reply, if_err, stat_goes_on, stat_refuses, writing_goes_on}
 use Rattle.nv_calls.proofs.TwoRows.{last_used}
+use Rattle.nv_calls.proofs.Asked.{low_bits, low_pools}
+use Rattle.nv_calls.proofs.Early.{good_reply, on_ok_err, same_fuse}
 use Rattle.nv_calls.proofs.fs.Fs.set_attr.Goals as goal
 
 pub give_back-requires : goal.give_back-requires
@@ -162,3 +166,114 @@ returns-in-Err-clause-unchanged g c off =
 
 pub returns-in-Err-clause-stopped : goal.returns-in-Err-clause-stopped
 returns-in-Err-clause-stopped g c still = late_reply c.in-Err.refusal c.is_stop-self-inside.result c.is_stop-self-inside.ensures.yes c.is_stop-self-inside.ensures.no c.in-Err.ensures.stopped
+
+pub returns-in_err-writable-clause-allowed : goal.returns-in_err-writable-clause-allowed
+returns-in_err-writable-clause-allowed g c p says = on_ok_err c.from_residual.result _ c.from_residual.ensures.0
+
+pub returns-in_err-writable-clause-changed : goal.returns-in_err-writable-clause-changed
+returns-in_err-writable-clause-changed g c names path = on_ok_err c.from_residual.result _ c.from_residual.ensures.0
+
+pub returns-in_err-writable-clause-log : goal.returns-in_err-writable-clause-log
+returns-in_err-writable-clause-log g c names i node held h path led sound is = on_ok_err c.from_residual.result _ c.from_residual.ensures.0
+
+pub returns-in_err-writable-clause-settled : goal.returns-in_err-writable-clause-settled
+returns-in_err-writable-clause-settled g c = on_ok_err c.from_residual.result _ c.from_residual.ensures.0
+
+pub returns-in_err-writable-clause-keeps : goal.returns-in_err-writable-clause-keeps
+returns-in_err-writable-clause-keeps g c = record { sup = refl; faults = refl; read_only = refl }
+
+pub returns-in_err-writable-clause-length : goal.returns-in_err-writable-clause-length
+returns-in_err-writable-clause-length g c = refl
+
+pub returns-in_err-inode-clause-allowed : goal.returns-in_err-inode-clause-allowed
+returns-in_err-inode-clause-allowed g c p says = on_ok_err c.from_residual-in_err-inode.result _ c.from_residual-in_err-inode.ensures.0
+
+pub returns-in_err-inode-clause-changed : goal.returns-in_err-inode-clause-changed
+returns-in_err-inode-clause-changed g c names path = on_ok_err c.from_residual-in_err-inode.result _ c.from_residual-in_err-inode.ensures.0
+
+pub returns-in_err-inode-clause-log : goal.returns-in_err-inode-clause-log
+returns-in_err-inode-clause-log g c names i node held h path led sound is = on_ok_err c.from_residual-in_err-inode.result _ c.from_residual-in_err-inode.ensures.0
+
+pub returns-in_err-inode-clause-settled : goal.returns-in_err-inode-clause-settled
+returns-in_err-inode-clause-settled g c = on_ok_err c.from_residual-in_err-inode.result _ c.from_residual-in_err-inode.ensures.0
+
+pub returns-in_err-inode-clause-keeps : goal.returns-in_err-inode-clause-keeps
+returns-in_err-inode-clause-keeps g c = record { sup = refl; faults = refl; read_only = refl }
+
+pub returns-in_err-inode-clause-length : goal.returns-in_err-inode-clause-length
+returns-in_err-inode-clause-length g c = refl
+
+pub returns-in_err-inode-clause-stopped_before : goal.returns-in_err-inode-clause-stopped_before
+returns-in_err-inode-clause-stopped_before g c stopped = absurd (let no : true ≡ false = sym stopped ∙ c.in_ok-writable.ensures.runs in cc)
+
+pub returns-in-Ok-clause-stopped_before : goal.returns-in-Ok-clause-stopped_before
+returns-in-Ok-clause-stopped_before g c stopped = absurd (let no : true ≡ false = sym stopped ∙ c.in_ok-writable.ensures.runs in cc)
+
+pub returns-in-Ok-clause-refused : goal.returns-in-Ok-clause-refused
+returns-in-Ok-clause-refused g c still p says = tt
+
+pub returns-in-Ok-clause-unchanged : goal.returns-in-Ok-clause-unchanged
+returns-in-Ok-clause-unchanged g c = tt
+
+pub returns-in-Ok-clause-settled : goal.returns-in-Ok-clause-settled
+returns-in-Ok-clause-settled g c = c.in-Ok.ensures.settled
+
+pub returns-in-Ok-clause-keeps : goal.returns-in-Ok-clause-keeps
+returns-in-Ok-clause-keeps g c = record { sup = ap (λ (m : Mount g.row.P.Denot). m.sup) c.self.view_is; faults = ap (λ (m : Mount g.row.P.Denot). m.faults) c.self.view_is; read_only = ap (λ (m : Mount g.row.P.Denot). m.read_only) c.self.view_is }
+
+pub returns-in-Ok-clause-length : goal.returns-in-Ok-clause-length
+returns-in-Ok-clause-length g c = subst (λ (m : Mount g.row.P.Denot). size (g.P.Pmem.region c.change_attributes-changed.new.memory) ≡ size (g.P.Pmem.region m.memory)) c.self.view_is c.change_attributes-changed.ensures.length
+
+pub returns-in-Ok-clause-keeps_fuse : goal.returns-in-Ok-clause-keeps_fuse
+returns-in-Ok-clause-keeps_fuse g c =
+    subst (λ (m : Mount g.row.P.Denot). KeepsFuse (λ limit. size (g.P.Pmem.region m.memory) ≤ limit) (g.P.Pmem.fuse m.memory) (g.P.Pmem.fuse c.change_attributes-changed.new.memory)) c.self.view_is c.change_attributes-changed.ensures.keeps_fuse
+
+pub returns-in-Err-clause-stopped_before : goal.returns-in-Err-clause-stopped_before
+returns-in-Err-clause-stopped_before g c stopped = absurd (let no : true ≡ false = sym stopped ∙ c.in_ok-writable.ensures.runs in cc)
+
+pub returns-in-Err-clause-allowed : goal.returns-in-Err-clause-allowed
+returns-in-Err-clause-allowed g c p says = tt
+
+pub returns-in-Err-clause-changed : goal.returns-in-Err-clause-changed
+returns-in-Err-clause-changed g c names path = tt
+
+pub returns-in-Err-clause-log : goal.returns-in-Err-clause-log
+returns-in-Err-clause-log g c names i node held h path led sound is = tt
+
+pub returns-in-Err-clause-settled : goal.returns-in-Err-clause-settled
+returns-in-Err-clause-settled g c = tt
+
+pub returns-in-Err-clause-keeps : goal.returns-in-Err-clause-keeps
+returns-in-Err-clause-keeps g c = record { sup = ap (λ (m : Mount g.row.P.Denot). m.sup) c.self.view_is; faults = ap (λ (m : Mount g.row.P.Denot). m.faults) c.self.view_is; read_only = ap (λ (m : Mount g.row.P.Denot). m.read_only) c.self.view_is }
+
+pub returns-in-Err-clause-length : goal.returns-in-Err-clause-length
+returns-in-Err-clause-length g c = subst (λ (m : Mount g.row.P.Denot). size (g.P.Pmem.region c.change_attributes-changed.new.memory) ≡ size (g.P.Pmem.region m.memory)) c.self.view_is c.change_attributes-changed.ensures.length
+
+pub returns-in-Err-clause-keeps_fuse : goal.returns-in-Err-clause-keeps_fuse
+returns-in-Err-clause-keeps_fuse g c =
+    subst (λ (m : Mount g.row.P.Denot). KeepsFuse (λ limit. size (g.P.Pmem.region m.memory) ≤ limit) (g.P.Pmem.fuse m.memory) (g.P.Pmem.fuse c.change_attributes-changed.new.memory)) c.self.view_is c.change_attributes-changed.ensures.keeps_fuse
+
+pub change_attributes-changed-requires-clause-cpu : goal.change_attributes-changed-requires-clause-cpu
+change_attributes-changed-requires-clause-cpu g c =
+    let low : c.args.cpu < c.self.inside.sup.cpus = subst (λ (m : Mount g.row.P.Denot). c.args.cpu < m.sup.cpus) (sym c.self.view_is) c.in_ok-writable.ensures.cpu in
+    low_pools c.self.invariant.0 c.args.cpu low
+
+pub change_attributes-changed-requires-clause-mode : goal.change_attributes-changed-requires-clause-mode
+change_attributes-changed-requires-clause-mode g c = low_bits c.args.mode
+
+pub change_attributes-changed-requires-clause-size : goal.change_attributes-changed-requires-clause-size
+change_attributes-changed-requires-clause-size g c = refl
+
+pub lend-row-requires : goal.lend-row-requires
+lend-row-requires g c = in_use c.self.inside.rows.items c.in_ok-inode.field-0.now.inode c.in_ok-inode.field-0.now c.in_ok-inode.ensures.held
+
+pub returns-in-Ok-clause-stopped : goal.returns-in-Ok-clause-stopped
+returns-in-Ok-clause-stopped g c still =
+    let runs : c.self.inside.stopped ≡ false = ap (λ (m : Mount g.row.P.Denot). m.stopped) c.self.view_is ∙ c.in_ok-writable.ensures.runs in
+    good_reply c.self.inside.stopped _ runs
+
+pub returns-in_err-writable-clause-keeps_fuse : goal.returns-in_err-writable-clause-keeps_fuse
+returns-in_err-writable-clause-keeps_fuse g c = same_fuse _ _
+
+pub returns-in_err-inode-clause-keeps_fuse : goal.returns-in_err-inode-clause-keeps_fuse
+returns-in_err-inode-clause-keeps_fuse g c = same_fuse _ _

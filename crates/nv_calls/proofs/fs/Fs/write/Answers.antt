@@ -1,6 +1,9 @@
-use Rattle.std.proofs.Common.{◌≡◌, ◌∙◌, ◌+◌, ◌≤◌, ◌⊎◌, ◌++◌, ◌∷◌, [], List, ℕ, Some, None, false, inr, length, ap, set, subst, sym, arith}
+use Rattle.std.proofs.Common.{◌≡◌, ◌∙◌, ◌+◌, ◌<◌, ◌≤◌, ◌⊎◌, ◌++◌, ◌∷◌, [], List, ℕ, Some, None, false, inr, length, ap, set, subst, sym, arith, refl, true}
 use Rattle.std.proofs.lemmas.Result.{err_from_is_err_and}
+use Rattle.nv_region.specs.Region.{size}
+use Rattle.nv_region.specs.Fuses.{KeepsFuse}
 use Rattle.nv_super.proofs.Options.{some_only}
+use Rattle.nv_radix.specs.Pages.{block_at}
 use Rattle.nv_held.specs.Held.{Held, Store}
 use Rattle.nv_scan.specs.declared.piece.Row.{Row}
 use Rattle.nv_super.specs.declared.kind.Kind.TheVariants.{File}
@@ -25,11 +28,13 @@ use Rattle.nv_rows.proofs.Places.{at_place, back_one, in_use, own_row}
 use Rattle.nv_calls.proofs.OneRow.{stands_right}
 use Rattle.nv_super.proofs.Members.{stands}
 use Rattle.nv_calls.proofs.RowChange.{kept_after, same_mount, tree_after}
-use Rattle.nv_calls.proofs.SetAttr.{kept_or_stopped, not_stop, unchanged_step}
+use Rattle.nv_calls.proofs.SetAttr.{kept_or_stopped, late_reply, not_stop, unchanged_step}
 use Rattle.nv_calls.proofs.SetSize.{front_goes_on, front_tests}
 use Rattle.nv_calls.proofs.Tests.{early_reply, if_err, writing_goes_on}
-use Rattle.nv_calls.proofs.WriteReply.{large_same, write_allowed, write_bytes, write_changed, write_front, write_log, write_logged, write_none, write_refused, written_node}
+use Rattle.nv_calls.proofs.WriteReply.{large_same, none_written, write_allowed, write_bytes, write_changed, write_front, write_log, write_logged, write_none, write_refused, written_node}
 use Rattle.nv_calls.proofs.TwoRows.{last_used}
+use Rattle.nv_calls.proofs.Asked.{ends_small, low_pools, planned}
+use Rattle.nv_calls.proofs.Early.{good_reply, on_ok_err, same_fuse}
 use Rattle.nv_calls.proofs.fs.Fs.write.Goals as goal
 
 pub give_back-requires : goal.give_back-requires
@@ -187,3 +192,176 @@ returns-in-Err-clause-unchanged g c off =
     let at = at_place rows inode ∙ c.lend-row.ensures.row in
     let put = back_one rows c.lend-row.new.self.items c.give_back.new.self.items inode c.change_bytes-changed.new.row c.lend-row.ensures.lent (c.change_bytes-changed.ensures.inode ∙ c.lend-row.ensures.number) c.give_back.ensures.rows in
     rw put (unchanged_step c.self.view_is c.change_bytes-changed.new.memory c.change_bytes-changed.new.free (place_in rows inode) c.lend-row.result c.change_bytes-changed.new.row c.is_stop-self-inside.result at runs (not_stop c.in-Err.refusal c.is_stop-self-inside.result c.is_stop-self-inside.ensures.yes off) (c.in-Err.ensures.unchanged off))
+
+pub returns-in_err-writable-clause-allowed : goal.returns-in_err-writable-clause-allowed
+returns-in_err-writable-clause-allowed g c p count says needs = on_ok_err c.from_residual.result _ c.from_residual.ensures.0
+
+pub returns-in_err-writable-clause-changed : goal.returns-in_err-writable-clause-changed
+returns-in_err-writable-clause-changed g c names path = on_ok_err c.from_residual.result _ c.from_residual.ensures.0
+
+pub returns-in_err-writable-clause-log : goal.returns-in_err-writable-clause-log
+returns-in_err-writable-clause-log g c names i node held h path led sound is some = on_ok_err c.from_residual.result _ c.from_residual.ensures.0
+
+pub returns-in_err-writable-clause-nothing : goal.returns-in_err-writable-clause-nothing
+returns-in_err-writable-clause-nothing g c none = on_ok_err c.from_residual.result _ c.from_residual.ensures.0
+
+pub returns-in_err-writable-clause-settled : goal.returns-in_err-writable-clause-settled
+returns-in_err-writable-clause-settled g c some = on_ok_err c.from_residual.result _ c.from_residual.ensures.0
+
+pub returns-in_err-writable-clause-keeps : goal.returns-in_err-writable-clause-keeps
+returns-in_err-writable-clause-keeps g c = record { sup = refl; faults = refl; read_only = refl }
+
+pub returns-in_err-writable-clause-length : goal.returns-in_err-writable-clause-length
+returns-in_err-writable-clause-length g c = refl
+
+pub returns-in_err-inode-clause-allowed : goal.returns-in_err-inode-clause-allowed
+returns-in_err-inode-clause-allowed g c p count says needs = on_ok_err c.from_residual-in_err-inode.result _ c.from_residual-in_err-inode.ensures.0
+
+pub returns-in_err-inode-clause-changed : goal.returns-in_err-inode-clause-changed
+returns-in_err-inode-clause-changed g c names path = on_ok_err c.from_residual-in_err-inode.result _ c.from_residual-in_err-inode.ensures.0
+
+pub returns-in_err-inode-clause-log : goal.returns-in_err-inode-clause-log
+returns-in_err-inode-clause-log g c names i node held h path led sound is some = on_ok_err c.from_residual-in_err-inode.result _ c.from_residual-in_err-inode.ensures.0
+
+pub returns-in_err-inode-clause-nothing : goal.returns-in_err-inode-clause-nothing
+returns-in_err-inode-clause-nothing g c none = on_ok_err c.from_residual-in_err-inode.result _ c.from_residual-in_err-inode.ensures.0
+
+pub returns-in_err-inode-clause-settled : goal.returns-in_err-inode-clause-settled
+returns-in_err-inode-clause-settled g c some = on_ok_err c.from_residual-in_err-inode.result _ c.from_residual-in_err-inode.ensures.0
+
+pub returns-in_err-inode-clause-keeps : goal.returns-in_err-inode-clause-keeps
+returns-in_err-inode-clause-keeps g c = record { sup = refl; faults = refl; read_only = refl }
+
+pub returns-in_err-inode-clause-length : goal.returns-in_err-inode-clause-length
+returns-in_err-inode-clause-length g c = refl
+
+pub returns-in_err-inode-clause-stopped_before : goal.returns-in_err-inode-clause-stopped_before
+returns-in_err-inode-clause-stopped_before g c stopped = absurd (let no : true ≡ false = sym stopped ∙ c.in_ok-writable.ensures.runs in cc)
+
+pub returns-in-Ok-clause-stopped_before : goal.returns-in-Ok-clause-stopped_before
+returns-in-Ok-clause-stopped_before g c stopped = absurd (let no : true ≡ false = sym stopped ∙ c.in_ok-writable.ensures.runs in cc)
+
+pub returns-in-Ok-clause-refused : goal.returns-in-Ok-clause-refused
+returns-in-Ok-clause-refused g c still p count says needs = tt
+
+pub returns-in-Ok-clause-unchanged : goal.returns-in-Ok-clause-unchanged
+returns-in-Ok-clause-unchanged g c = tt
+
+pub returns-in-Ok-clause-settled : goal.returns-in-Ok-clause-settled
+returns-in-Ok-clause-settled g c some = c.in-Ok.ensures.settled
+
+pub returns-in-Ok-clause-nothing : goal.returns-in-Ok-clause-nothing
+returns-in-Ok-clause-nothing g c none = absurd (c.if-count-eq0.false none)
+
+pub returns-in-Ok-clause-keeps : goal.returns-in-Ok-clause-keeps
+returns-in-Ok-clause-keeps g c = record { sup = ap (λ (m : Mount g.row.P.Denot). m.sup) c.self.view_is; faults = ap (λ (m : Mount g.row.P.Denot). m.faults) c.self.view_is; read_only = ap (λ (m : Mount g.row.P.Denot). m.read_only) c.self.view_is }
+
+pub returns-in-Ok-clause-length : goal.returns-in-Ok-clause-length
+returns-in-Ok-clause-length g c = subst (λ (m : Mount g.row.P.Denot). size (g.P.Pmem.region c.change_bytes-changed.new.memory) ≡ size (g.P.Pmem.region m.memory)) c.self.view_is c.change_bytes-changed.ensures.length
+
+pub returns-in-Ok-clause-keeps_fuse : goal.returns-in-Ok-clause-keeps_fuse
+returns-in-Ok-clause-keeps_fuse g c =
+    subst (λ (m : Mount g.row.P.Denot). KeepsFuse (λ limit. size (g.P.Pmem.region m.memory) ≤ limit) (g.P.Pmem.fuse m.memory) (g.P.Pmem.fuse c.change_bytes-changed.new.memory)) c.self.view_is c.change_bytes-changed.ensures.keeps_fuse
+
+pub returns-in-Err-clause-stopped_before : goal.returns-in-Err-clause-stopped_before
+returns-in-Err-clause-stopped_before g c stopped = absurd (let no : true ≡ false = sym stopped ∙ c.in_ok-writable.ensures.runs in cc)
+
+pub returns-in-Err-clause-allowed : goal.returns-in-Err-clause-allowed
+returns-in-Err-clause-allowed g c p count says needs = tt
+
+pub returns-in-Err-clause-changed : goal.returns-in-Err-clause-changed
+returns-in-Err-clause-changed g c names path = tt
+
+pub returns-in-Err-clause-log : goal.returns-in-Err-clause-log
+returns-in-Err-clause-log g c names i node held h path led sound is some = tt
+
+pub returns-in-Err-clause-nothing : goal.returns-in-Err-clause-nothing
+returns-in-Err-clause-nothing g c none = tt
+
+pub returns-in-Err-clause-settled : goal.returns-in-Err-clause-settled
+returns-in-Err-clause-settled g c some = tt
+
+pub returns-in-Err-clause-keeps : goal.returns-in-Err-clause-keeps
+returns-in-Err-clause-keeps g c = record { sup = ap (λ (m : Mount g.row.P.Denot). m.sup) c.self.view_is; faults = ap (λ (m : Mount g.row.P.Denot). m.faults) c.self.view_is; read_only = ap (λ (m : Mount g.row.P.Denot). m.read_only) c.self.view_is }
+
+pub returns-in-Err-clause-length : goal.returns-in-Err-clause-length
+returns-in-Err-clause-length g c = subst (λ (m : Mount g.row.P.Denot). size (g.P.Pmem.region c.change_bytes-changed.new.memory) ≡ size (g.P.Pmem.region m.memory)) c.self.view_is c.change_bytes-changed.ensures.length
+
+pub returns-in-Err-clause-keeps_fuse : goal.returns-in-Err-clause-keeps_fuse
+returns-in-Err-clause-keeps_fuse g c =
+    subst (λ (m : Mount g.row.P.Denot). KeepsFuse (λ limit. size (g.P.Pmem.region m.memory) ≤ limit) (g.P.Pmem.fuse m.memory) (g.P.Pmem.fuse c.change_bytes-changed.new.memory)) c.self.view_is c.change_bytes-changed.ensures.keeps_fuse
+
+pub returns-then-count-eq0-clause-stopped_before : goal.returns-then-count-eq0-clause-stopped_before
+returns-then-count-eq0-clause-stopped_before g c stopped = absurd (let no : true ≡ false = sym stopped ∙ c.in_ok-writable.ensures.runs in cc)
+
+pub returns-then-count-eq0-clause-refused : goal.returns-then-count-eq0-clause-refused
+returns-then-count-eq0-clause-refused g c still p count says needs = tt
+
+pub returns-then-count-eq0-clause-changed : goal.returns-then-count-eq0-clause-changed
+returns-then-count-eq0-clause-changed g c names path = none_written names c.args.offset c.args.bytes.now c.args.time (tree_of (g.P.Pmem.region c.args.self.now.memory) c.args.self.now.rows) c.if-count-eq0.true
+
+pub returns-then-count-eq0-clause-log : goal.returns-then-count-eq0-clause-log
+returns-then-count-eq0-clause-log g c names i node held h path led sound is some = absurd (omega (arith, some, c.if-count-eq0.true))
+
+pub returns-then-count-eq0-clause-nothing : goal.returns-then-count-eq0-clause-nothing
+returns-then-count-eq0-clause-nothing g c none = refl
+
+pub returns-then-count-eq0-clause-unchanged : goal.returns-then-count-eq0-clause-unchanged
+returns-then-count-eq0-clause-unchanged g c = tt
+
+pub returns-then-count-eq0-clause-stopped : goal.returns-then-count-eq0-clause-stopped
+returns-then-count-eq0-clause-stopped g c runs = good_reply c.args.self.now.stopped _ runs
+
+pub returns-then-count-eq0-clause-keeps : goal.returns-then-count-eq0-clause-keeps
+returns-then-count-eq0-clause-keeps g c = record { sup = refl; faults = refl; read_only = refl }
+
+pub returns-then-count-eq0-clause-settled : goal.returns-then-count-eq0-clause-settled
+returns-then-count-eq0-clause-settled g c some = absurd (omega (arith, some, c.if-count-eq0.true))
+
+pub returns-then-count-eq0-clause-length : goal.returns-then-count-eq0-clause-length
+returns-then-count-eq0-clause-length g c = refl
+
+pub returns-then-count-eq0-clause-keeps_fuse : goal.returns-then-count-eq0-clause-keeps_fuse
+returns-then-count-eq0-clause-keeps_fuse g c = same_fuse _ _
+
+pub lend-row-requires : goal.lend-row-requires
+lend-row-requires g c = in_use c.self.inside.rows.items c.in_ok-inode.field-0.now.inode c.in_ok-inode.field-0.now c.in_ok-inode.ensures.held
+
+pub new-plan-requires-clause-some : goal.new-plan-requires-clause-some
+new-plan-requires-clause-some g c = omega (arith, c.if-count-eq0.false)
+
+pub new-plan-requires-clause-small : goal.new-plan-requires-clause-small
+new-plan-requires-clause-small g c =
+    let ends = ends_small c.args.offset (length c.args.bytes.now) c.saturating_add.result c.saturating_add.ensures c.in_ok-inode.ensures.most in
+    omega (arith, ends)
+
+pub change_bytes-changed-requires-clause-cpu : goal.change_bytes-changed-requires-clause-cpu
+change_bytes-changed-requires-clause-cpu g c =
+    let low : c.args.cpu < c.self.inside.sup.cpus = subst (λ (m : Mount g.row.P.Denot). c.args.cpu < m.sup.cpus) (sym c.self.view_is) c.in_ok-writable.ensures.cpu in
+    low_pools c.self.invariant.0 c.args.cpu low
+
+pub change_bytes-changed-requires-clause-some : goal.change_bytes-changed-requires-clause-some
+change_bytes-changed-requires-clause-some g c = omega (arith, c.if-count-eq0.false)
+
+pub change_bytes-changed-requires-clause-fits : goal.change_bytes-changed-requires-clause-fits
+change_bytes-changed-requires-clause-fits g c = ends_small c.args.offset (length c.args.bytes.now) c.saturating_add.result c.saturating_add.ensures c.in_ok-inode.ensures.most
+
+pub change_bytes-changed-requires-clause-size : goal.change_bytes-changed-requires-clause-size
+change_bytes-changed-requires-clause-size g c = refl
+
+pub change_bytes-changed-requires-clause-plan : goal.change_bytes-changed-requires-clause-plan
+change_bytes-changed-requires-clause-plan g c = planned (block_at c.lend-row.result.index) c.lend-row.result.numbers.size c.args.offset (length c.args.bytes.now) c.args.time c.new-plan.result c.new-plan.ensures
+
+pub returns-in-Ok-clause-stopped : goal.returns-in-Ok-clause-stopped
+returns-in-Ok-clause-stopped g c still =
+    let runs : c.self.inside.stopped ≡ false = ap (λ (m : Mount g.row.P.Denot). m.stopped) c.self.view_is ∙ c.in_ok-writable.ensures.runs in
+    good_reply c.self.inside.stopped _ runs
+
+pub returns-in-Err-clause-stopped : goal.returns-in-Err-clause-stopped
+returns-in-Err-clause-stopped g c still = late_reply c.in-Err.refusal c.is_stop-self-inside.result c.is_stop-self-inside.ensures.yes c.is_stop-self-inside.ensures.no c.in-Err.ensures.stopped
+
+pub returns-in_err-writable-clause-keeps_fuse : goal.returns-in_err-writable-clause-keeps_fuse
+returns-in_err-writable-clause-keeps_fuse g c = same_fuse _ _
+
+pub returns-in_err-inode-clause-keeps_fuse : goal.returns-in_err-inode-clause-keeps_fuse
+returns-in_err-inode-clause-keeps_fuse g c = same_fuse _ _

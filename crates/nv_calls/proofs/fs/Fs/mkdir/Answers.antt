@@ -1,0 +1,35 @@
+-- What `make` says, of this kind.
+use Rattle.nv_calls.proofs.fs.Fs.mkdir.Goals as goal
+
+pub returns-clause-stopped_before : goal.returns-clause-stopped_before
+returns-clause-stopped_before g c = c.make.ensures.stopped_before
+
+pub returns-clause-allowed : goal.returns-clause-allowed
+returns-clause-allowed g c = c.make.ensures.allowed
+
+pub returns-clause-refused : goal.returns-clause-refused
+returns-clause-refused g c = c.make.ensures.refused
+
+pub returns-clause-changed : goal.returns-clause-changed
+returns-clause-changed g c = c.make.ensures.changed
+
+pub returns-clause-log : goal.returns-clause-log
+returns-clause-log g c = c.make.ensures.log
+
+pub returns-clause-unchanged : goal.returns-clause-unchanged
+returns-clause-unchanged g c = c.make.ensures.unchanged
+
+pub returns-clause-stopped : goal.returns-clause-stopped
+returns-clause-stopped g c = c.make.ensures.stopped
+
+pub returns-clause-keeps : goal.returns-clause-keeps
+returns-clause-keeps g c = c.make.ensures.keeps
+
+pub returns-clause-settled : goal.returns-clause-settled
+returns-clause-settled g c = c.make.ensures.settled
+
+pub returns-clause-length : goal.returns-clause-length
+returns-clause-length g c = c.make.ensures.length
+
+pub returns-clause-keeps_fuse : goal.returns-clause-keeps_fuse
+returns-clause-keeps_fuse g c = c.make.ensures.keeps_fuse
