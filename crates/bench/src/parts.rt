@@ -9,9 +9,7 @@ use std::io;
 use std::rt::Clock;
 
 /// Measures each part on a little.
-pub(crate) fn measure_each_part<R: AllocGlobal + Print + Eprint + Clock>(
-    rt: &R,
-) -> io::Result<()> {
+pub(crate) fn measure_each_part<R: AllocGlobal + Print + Eprint + Clock>(rt: &R) -> io::Result<()> {
     measured(measure_names(rt, 1000))?;
     measured(measure_pages(rt, 4096))?;
     measured(measure_blocks(rt, 1000, 4))?;
