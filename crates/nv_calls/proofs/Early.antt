@@ -1,15 +1,10 @@
 -- What an early reply owes, and a good one.
-use Rattle.std.proofs.Common.{◌≡◌, ℕ, Bool, true, false, IsTrue, sym, ◌∙◌, Result, Ok, Err, IsErr, OnOk}
+use Rattle.std.proofs.Common.{◌≡◌, ℕ, Bool, true, false, IsTrue, sym, ◌∙◌, Result, Ok, Err}
 use Rattle.nv_region.specs.Fuses.{FuseState, KeepsFuse}
 use Rattle.nv_tree.specs.declared.refusal.Refusal.{Refusal}
 use Rattle.nv_tree.specs.declared.refusal.Refusal.TheVariants.{Stopped}
 
--- it owes nothing of a good one
-pub on_ok_err : {A E : Type 0} (r : Result A E) (P : Type 0) → IsErr r → OnOk r P
-on_ok_err (Ok a) P err = absurd (let no : false ≡ true = err in cc)
-on_ok_err (Err e) P err = tt
-
--- and has done nothing to the fuse
+-- an early one has done nothing to the fuse
 pub same_fuse : (behind : ℕ → Type 0) (fuse : FuseState) → KeepsFuse behind fuse fuse
 same_fuse behind fuse = record { burnt = λ on. on; steady = λ on. on; stays_open = λ limit past on. on }
 

@@ -1,6 +1,6 @@
 -- How far a script has come, where the bytes of its reader are known. `left` is what is left of the input.
 use Rattle.std.proofs.Common.{◌≡◌, ℕ, List, [], ◌∷◌, ◌++◌, Option, Some, None}
-use Rattle.std.specs.Prelude.{OnErr, Result, Ok, Err}
+use Rattle.std.specs.Prelude.{Result, Err}
 use Rattle.std.specs.Io.KnownBytes.{Appends}
 use Rattle.nv_stream.specs.Known.{IfKnown}
 use Rattle.nv_stream.specs.Lines.{lines_of}
@@ -82,11 +82,6 @@ module _ (shows : List (List ℕ) → List ℕ → ℕ → Type 0) (old : Option
 pub front_from_whole : (shows : List (List ℕ) → List ℕ → ℕ → Type 0) (known old new : Option (List ℕ)) → WritesWhole shows known old new → WritesFront shows known old new
 front_from_whole shows None old new whole = tt
 front_from_whole shows (Some input) old new (count, text, status, added, shown) = (count, text, status, front_of_whole old new text added, shown)
-
--- what holds at every `Err`
-pub on_err : {T E : Type 0} (P : Type 0) (r : Result T E) → P → OnErr r P
-on_err P (Ok x) p = tt
-on_err P (Err e) p = p
 
 -- a refused write is no want of memory
 pub no_memory : {T : Type 0} (r : Result T ScriptError) (x f : ScriptError) → r ≡ Err x → x ≡ f → f ≡ errors.Write → r ≡ Err errors.Memory → ⊥

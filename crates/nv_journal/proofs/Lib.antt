@@ -15,4 +15,3 @@ pub mod OneJournal
 pub mod Both
 pub mod Emptied
 pub mod Faultless
-pub mod Answered

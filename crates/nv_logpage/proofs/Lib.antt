@@ -13,5 +13,4 @@ pub mod Written
 pub mod Writing
 pub mod Laid
 pub mod Grown
-pub mod Refused
 pub mod ReadOn

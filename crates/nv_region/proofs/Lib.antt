@@ -1,4 +1,5 @@
 pub mod Bytes
+pub mod Told
 pub mod Fuses
 pub mod Puts
 pub mod Stops

@@ -1,5 +1,5 @@
 -- Words in a row that are stored in turn.
-use Rattle.std.proofs.Common.{◌≡◌, ◌≢◌, ◌⊎◌, inl, inr, ◌+◌, ◌-◌, ◌*◌, ◌/◌, ◌%◌, ◌<◌, ◌≤◌, ℕ, zero, suc, List, length, get_or, set, refl, sym, ap, ◌∙◌, subst, arith, add-one, Result, Ok, Err, OnErr, length-set, get_or-set_same, get_or-set_other}
+use Rattle.std.proofs.Common.{◌≡◌, ◌≢◌, ◌⊎◌, inl, inr, ◌+◌, ◌-◌, ◌*◌, ◌/◌, ◌%◌, ◌<◌, ◌≤◌, ℕ, zero, suc, List, length, get_or, set, refl, sym, ap, ◌∙◌, subst, arith, add-one, length-set, get_or-set_same, get_or-set_other}
 use Rattle.std.proofs.lemmas.Bool.{cases_eq, cases_lt}
 use Rattle.std.proofs.lemmas.List.{places, ext_get_or}
 use Rattle.nv_region.specs.Region.{Region, size, put}
@@ -99,11 +99,6 @@ words_add R at words n i x aligned within is = elim (cases i) [
   where
     cases : (i : ℕ) → (at / 8 ≤ i → i < at / 8 + n → ⊥) ⊎ ((at / 8 ≤ i) × (i < at / 8 + n))
     cases i = elim (cases_lt i (at / 8)) [ inl low ↦ inl (λ from to. absurd (omega (arith, low, from))) | inr from ↦ elim (cases_lt i (at / 8 + n)) [ inl to ↦ inr (from, to) | inr past ↦ inl (λ h to. absurd (omega (arith, past, to))) ] ]
-
--- an answer that tells what is so
-pub told_err : {T E P : Type 0} (result : Result T E) → P → OnErr result P
-told_err (Ok done) p = tt
-told_err (Err stopped) p = p
 
 -- once all are stored
 pub all_added : {at n : ℕ} {words : List ℕ} {R Q : Region} {old mid : Choices} (k : ℕ) → k ≡ n → FirstStored at words k R Q old mid → Adds (Each at words n) old mid

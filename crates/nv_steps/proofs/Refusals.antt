@@ -1,5 +1,5 @@
 -- What a refused call tells its caller, and what one that wasn't refused promises.
-use Rattle.std.proofs.Common.{◌≡◌, ℕ, ◌<◌, Bool, false, true≢false, List, is_err, sym, ◌∙◌, subst, Result, Ok, Err, OnErr, OnOk}
+use Rattle.std.proofs.Common.{◌≡◌, ℕ, ◌<◌, Bool, false, true≢false, List, is_err, sym, ◌∙◌, subst, Result, Ok, Err, OnOk}
 use Rattle.nv_super.specs.declared.owners.Run.{Run}
 use Rattle.nv_alloc.specs.declared.allocators.AllocRefusal.{AllocRefusal}
 use Rattle.nv_alloc.specs.declared.allocators.AllocRefusal.TheVariants.{NoSpace as TooFew}
@@ -18,11 +18,6 @@ no_space_goes_on is = absurd (cc)
 
 pub memory_goes_on : ◌≡◌ {A = Refusal} Memory Stopped → ⊥
 memory_goes_on is = absurd (cc)
-
--- what holds also after a refusal
-pub refused_still : {A E P : Type 0} (r : Result A E) → P → OnErr r P
-refused_still (Ok x) p = tt
-refused_still (Err e) p = p
 
 -- what a call promises that wasn't refused
 pub not_refused : {A E P : Type 0} (r : Result A E) (refused : Bool) → refused ≡ is_err r → refused ≡ false → OnOk r P → P

@@ -6,7 +6,7 @@ use Rattle.nv_super.specs.declared.superblock.Super.{Super}
 use Rattle.nv_alloc.specs.Taking.{all_blocks}
 use Rattle.nv_entry.specs.declared.entry.Operation.TheVariants.{Add}
 use Rattle.nv_logpage.specs.Append.{needed}
-use Rattle.nv_rows.specs.Rows.{HasInserted, IsInUse, IsLent, row_of}
+use Rattle.nv_rows.specs.Rows.{HasInserted, IsLent, row_of}
 use Rattle.nv_rows.proofs.Places.{at_place, in_use}
 use Rattle.nv_scan.specs.declared.piece.Row.{Row}
 use Rattle.nv_tree.specs.declared.refusal.Refusal.{Refusal}

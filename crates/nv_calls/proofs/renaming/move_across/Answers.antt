@@ -1,8 +1,7 @@
-use Rattle.std.proofs.Common.{◌∙◌, ◌≤◌, ℕ, ap, subst, sym}
+use Rattle.std.proofs.Common.{◌∙◌, ◌≤◌, ℕ, subst, sym}
 use Rattle.std.proofs.lemmas.Result.{IfErr-weaker, on_ok_weaker}
 use Rattle.nv_super.proofs.Options.{some_only}
 use Rattle.nv_alloc.specs.Taking.{all_blocks}
-use Rattle.nv_rows.specs.Rows.{row_of}
 use Rattle.nv_rows.proofs.Places.{at_place, numbered, back_two, row_in_use}
 use Rattle.nv_tree.specs.declared.refusal.Refusal.{Refusal}
 use Rattle.nv_steps.specs.Steps.{RefusesStep}

@@ -1,5 +1,5 @@
 use Rattle.nv_session.specs.Machine.{state_with}
-use Rattle.nv_cli.proofs.KnownProgress.{on_err}
+use Rattle.nv_region.proofs.Told.{told_err}
 use Rattle.nv_cli.proofs.script.run_script_on.Goals as goal
 
 pub returns-clause-ok : goal.returns-clause-ok
@@ -9,4 +9,4 @@ pub returns-clause-hints : goal.returns-clause-hints
 returns-clause-hints g c = c.in_ok-status.ensures.hints (state_with c.args.region.region) c.with_region-session.ensures
 
 pub returns-in_err-status-clause-err : goal.returns-in_err-status-clause-err
-returns-in_err-status-clause-err g c = on_err _ _ (c.in_err-status.ensures.err (state_with c.args.region.region) c.with_region-session.ensures)
+returns-in_err-status-clause-err g c = told_err _ (c.in_err-status.ensures.err (state_with c.args.region.region) c.with_region-session.ensures)

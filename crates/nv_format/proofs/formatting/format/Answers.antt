@@ -2,18 +2,18 @@ use Rattle.std.proofs.Common.{inl, subst, ◌≡◌, ◌≢◌, ◌+◌, ◌≤�
 use Rattle.nv_region.proofs.Stops.{settled_left}
 use Rattle.nv_super.specs.declared.superblock.Super.{Super}
 use Rattle.nv_format.specs.Format.{FormatLeaves, IsFormatRefusal, IsFormatted, root_page}
-use Rattle.std.proofs.lemmas.Result.{err_from_is_err_and}
+use Rattle.std.proofs.lemmas.Result.{err_from_is_err_and, IfOk-from_err}
 use Rattle.nv_region.specs.Fuses.{KeepsFuse}
 use Rattle.nv_format.specs.declared.formatting.FormatRefusal.{FormatRefusal}
 use Rattle.nv_format.specs.declared.formatting.FormatRefusal.TheVariants.{Stopped}
-use Rattle.nv_format.proofs.Refused.{none_done, handed_on}
+use Rattle.nv_format.proofs.Refused.{handed_on}
 use Rattle.nv_format.proofs.formatting.format.Goals as goal
 
 pub returns-in_err-sup-clause-done : goal.returns-in_err-sup-clause-done
-returns-in_err-sup-clause-done g c = none_done _ _ c.from_residual.result c.from_residual.ensures.1
+returns-in_err-sup-clause-done g c = IfOk-from_err c.from_residual.result _ c.from_residual.ensures.0
 
 pub returns-in_err-sup-clause-settled : goal.returns-in_err-sup-clause-settled
-returns-in_err-sup-clause-settled g c = none_done _ _ c.from_residual.result c.from_residual.ensures.1
+returns-in_err-sup-clause-settled g c = IfOk-from_err c.from_residual.result _ c.from_residual.ensures.0
 
 pub returns-in_err-sup-clause-refused : goal.returns-in_err-sup-clause-refused
 returns-in_err-sup-clause-refused g c =
@@ -38,10 +38,10 @@ pub write_region-requires-clause-blocks : goal.write_region-requires-clause-bloc
 write_region-requires-clause-blocks g c = c.in_ok-sup.ensures.layout.1
 
 pub returns-in_err-write_region-clause-done : goal.returns-in_err-write_region-clause-done
-returns-in_err-write_region-clause-done g c = none_done _ _ c.from_residual-in_err-write_region.result c.from_residual-in_err-write_region.ensures.1
+returns-in_err-write_region-clause-done g c = IfOk-from_err c.from_residual-in_err-write_region.result _ c.from_residual-in_err-write_region.ensures.0
 
 pub returns-in_err-write_region-clause-settled : goal.returns-in_err-write_region-clause-settled
-returns-in_err-write_region-clause-settled g c = none_done _ _ c.from_residual-in_err-write_region.result c.from_residual-in_err-write_region.ensures.1
+returns-in_err-write_region-clause-settled g c = IfOk-from_err c.from_residual-in_err-write_region.result _ c.from_residual-in_err-write_region.ensures.0
 
 pub returns-in_err-write_region-clause-refused : goal.returns-in_err-write_region-clause-refused
 returns-in_err-write_region-clause-refused g c =

@@ -1,13 +1,13 @@
 use Rattle.std.proofs.Common.{inl, inr, arith}
-use Rattle.std.proofs.lemmas.Result.{on_ok_weaker}
+use Rattle.std.proofs.lemmas.Result.{on_ok_weaker, IfOk-from_err}
 use Rattle.nv_region.proofs.Wordwise.{stores_more, stores_within}
 use Rattle.nv_format.proofs.Root.{laid_out}
 use Rattle.nv_region.proofs.Fuses.{keeps_more, keeps_within}
-use Rattle.nv_format.proofs.Refused.{none_done, was_refused}
+use Rattle.nv_region.proofs.Told.{told_err}
 use Rattle.nv_format.proofs.formatting.lay_out.Goals as goal
 
 pub returns-in_err-clear_system-clause-done : goal.returns-in_err-clear_system-clause-done
-returns-in_err-clear_system-clause-done g c = none_done _ _ c.from_residual.result c.from_residual.ensures.1
+returns-in_err-clear_system-clause-done g c = IfOk-from_err c.from_residual.result _ c.from_residual.ensures.0
 
 pub returns-in_err-clear_system-clause-blocks : goal.returns-in_err-clear_system-clause-blocks
 returns-in_err-clear_system-clause-blocks g c = c.clear_system.ensures.blocks
@@ -16,7 +16,7 @@ pub returns-in_err-clear_system-clause-wrote : goal.returns-in_err-clear_system-
 returns-in_err-clear_system-clause-wrote g c = stores_within _ _ _ _ _ _ (λ i x system. inl system) c.clear_system.ensures.wrote
 
 pub returns-in_err-clear_system-clause-stopped : goal.returns-in_err-clear_system-clause-stopped
-returns-in_err-clear_system-clause-stopped g c = was_refused c.from_residual.result c.in_err-clear_system.ensures.stopped
+returns-in_err-clear_system-clause-stopped g c = told_err c.from_residual.result c.in_err-clear_system.ensures.stopped
 
 pub returns-in_err-clear_system-clause-keeps_fuse : goal.returns-in_err-clear_system-clause-keeps_fuse
 returns-in_err-clear_system-clause-keeps_fuse g c = keeps_within (λ limit past. omega arith) c.clear_system.ensures.keeps_fuse

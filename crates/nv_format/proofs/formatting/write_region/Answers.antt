@@ -1,28 +1,28 @@
 use Rattle.std.proofs.Common.{◌⊎◌, ℕ, arith, ap, sym, ◌∙◌, subst, ◌≡◌, length}
-use Rattle.std.proofs.lemmas.Result.{on_ok_weaker}
+use Rattle.std.proofs.lemmas.Result.{on_ok_weaker, IfOk-from_err}
 use Rattle.nv_region.specs.Region.{Region, put, HasBlocks}
 use Rattle.nv_region.specs.Stops.{IsMixed}
 use Rattle.nv_region.proofs.Fuses.{keeps_more, keeps_within}
+use Rattle.nv_region.proofs.Told.{told_err, burnt_told}
 use Rattle.nv_region.proofs.Stops.{refused_leaves}
 use Rattle.nv_super.specs.Super.{magic}
 use Rattle.nv_format.specs.Format.{AnyAt, IsSystemWord, IsRootWord, IsFormatted, FormatLeaves}
 use Rattle.nv_format.proofs.Formatted.{formatted}
 use Rattle.nv_format.proofs.Stopped.{taken_leaves, laying_leaves, magic_leaves}
 use Rattle.nv_region.proofs.Puts.{blocks_stay}
-use Rattle.nv_format.proofs.Refused.{none_done, was_refused, burnt_where}
 use Rattle.nv_format.proofs.formatting.write_region.Goals as goal
 
 pub commit_word-requires-clause-within : goal.commit_word-requires-clause-within
 commit_word-requires-clause-within g c = let size = c.requires.blocks.0 in let from = c.requires.layout.blocks_from in omega (arith, size, from)
 
 pub returns-in_err-commit_word-clause-done : goal.returns-in_err-commit_word-clause-done
-returns-in_err-commit_word-clause-done g c = none_done _ _ c.from_residual.result c.from_residual.ensures.1
+returns-in_err-commit_word-clause-done g c = IfOk-from_err c.from_residual.result _ c.from_residual.ensures.0
 
 pub returns-in_err-commit_word-clause-settled : goal.returns-in_err-commit_word-clause-settled
-returns-in_err-commit_word-clause-settled g c = none_done _ _ c.from_residual.result c.from_residual.ensures.1
+returns-in_err-commit_word-clause-settled g c = IfOk-from_err c.from_residual.result _ c.from_residual.ensures.0
 
 pub returns-in_err-commit_word-clause-stopped : goal.returns-in_err-commit_word-clause-stopped
-returns-in_err-commit_word-clause-stopped g c = was_refused c.from_residual.result (sym c.in_err-commit_word.ensures.stopped)
+returns-in_err-commit_word-clause-stopped g c = told_err c.from_residual.result (sym c.in_err-commit_word.ensures.stopped)
 
 pub returns-in_err-commit_word-clause-keeps_fuse : goal.returns-in_err-commit_word-clause-keeps_fuse
 returns-in_err-commit_word-clause-keeps_fuse g c = keeps_within (λ limit past. omega arith) c.commit_word.ensures.keeps_fuse
@@ -34,13 +34,13 @@ pub lay_out-requires-clause-blocks : goal.lay_out-requires-clause-blocks
 lay_out-requires-clause-blocks g c = blocks_stay _ _ _ _ c.commit_word.ensures.wrote.mixed c.requires.blocks
 
 pub returns-in_err-lay_out-clause-done : goal.returns-in_err-lay_out-clause-done
-returns-in_err-lay_out-clause-done g c = none_done _ _ c.from_residual-in_err-lay_out.result c.from_residual-in_err-lay_out.ensures.1
+returns-in_err-lay_out-clause-done g c = IfOk-from_err c.from_residual-in_err-lay_out.result _ c.from_residual-in_err-lay_out.ensures.0
 
 pub returns-in_err-lay_out-clause-settled : goal.returns-in_err-lay_out-clause-settled
-returns-in_err-lay_out-clause-settled g c = none_done _ _ c.from_residual-in_err-lay_out.result c.from_residual-in_err-lay_out.ensures.1
+returns-in_err-lay_out-clause-settled g c = IfOk-from_err c.from_residual-in_err-lay_out.result _ c.from_residual-in_err-lay_out.ensures.0
 
 pub returns-in_err-lay_out-clause-stopped : goal.returns-in_err-lay_out-clause-stopped
-returns-in_err-lay_out-clause-stopped g c = was_refused c.from_residual-in_err-lay_out.result c.in_err-lay_out.ensures.stopped
+returns-in_err-lay_out-clause-stopped g c = told_err c.from_residual-in_err-lay_out.result c.in_err-lay_out.ensures.stopped
 
 pub returns-in_err-lay_out-clause-keeps_fuse : goal.returns-in_err-lay_out-clause-keeps_fuse
 returns-in_err-lay_out-clause-keeps_fuse g c = keeps_more (λ limit past. past) (keeps_within (λ limit past. omega arith) c.commit_word.ensures.keeps_fuse) c.lay_out.ensures.keeps_fuse
@@ -49,13 +49,13 @@ pub returns-in_err-lay_out-clause-blocks : goal.returns-in_err-lay_out-clause-bl
 returns-in_err-lay_out-clause-blocks g c = c.lay_out.ensures.blocks
 
 pub returns-in_err-fence-clause-done : goal.returns-in_err-fence-clause-done
-returns-in_err-fence-clause-done g c = none_done _ _ c.from_residual-in_err-fence.result c.from_residual-in_err-fence.ensures.1
+returns-in_err-fence-clause-done g c = IfOk-from_err c.from_residual-in_err-fence.result _ c.from_residual-in_err-fence.ensures.0
 
 pub returns-in_err-fence-clause-settled : goal.returns-in_err-fence-clause-settled
-returns-in_err-fence-clause-settled g c = none_done _ _ c.from_residual-in_err-fence.result c.from_residual-in_err-fence.ensures.1
+returns-in_err-fence-clause-settled g c = IfOk-from_err c.from_residual-in_err-fence.result _ c.from_residual-in_err-fence.ensures.0
 
 pub returns-in_err-fence-clause-stopped : goal.returns-in_err-fence-clause-stopped
-returns-in_err-fence-clause-stopped g c = was_refused c.from_residual-in_err-fence.result (sym c.in_err-fence.ensures.stopped)
+returns-in_err-fence-clause-stopped g c = told_err c.from_residual-in_err-fence.result (sym c.in_err-fence.ensures.stopped)
 
 pub returns-in_err-fence-clause-blocks : goal.returns-in_err-fence-clause-blocks
 returns-in_err-fence-clause-blocks g c = subst (λ (r : Region). HasBlocks r c.args.sup.now.blocks) (sym c.fence.ensures.same) c.lay_out.ensures.blocks
@@ -68,7 +68,7 @@ commit_word-requires-2-clause-within g c =
     omega (arith, size, from, same)
 
 pub returns-clause-stopped : goal.returns-clause-stopped
-returns-clause-stopped g c = burnt_where c.commit_word-2.result _ c.commit_word-2.ensures.stopped
+returns-clause-stopped g c = burnt_told c.commit_word-2.result c.commit_word-2.ensures.stopped
 
 pub returns-clause-blocks : goal.returns-clause-blocks
 returns-clause-blocks g c = blocks_stay _ _ _ _ c.commit_word-2.ensures.wrote.mixed (subst (λ (r : Region). HasBlocks r c.args.sup.now.blocks) (sym c.fence.ensures.same) c.lay_out.ensures.blocks)

@@ -1,12 +1,12 @@
 use Rattle.std.proofs.Common.{◌≡◌, ◌*◌, ap, ℕ, sym, arith}
-use Rattle.std.proofs.lemmas.Result.{on_ok_weaker}
+use Rattle.std.proofs.lemmas.Result.{on_ok_weaker, IfOk-from_err}
 use Rattle.nv_region.proofs.Wordwise.{stores_more, stores_within}
 use Rattle.nv_format.specs.Format.{root_page}
 use Rattle.nv_format.proofs.Root.{root_written, entry_words, slot_words, valid_word, page_inside}
 use Rattle.nv_region.proofs.Fuses.{keeps_more, keeps_within}
+use Rattle.nv_region.proofs.Told.{told_err, burnt_told}
 use Rattle.nv_region.proofs.Puts.{blocks_stay}
 use Rattle.nv_format.proofs.Tables.{slot_to, root_below}
-use Rattle.nv_format.proofs.Refused.{none_done, was_refused, burnt_where}
 use Rattle.nv_format.proofs.formatting.write_root.Goals as goal
 
 pub write_root_entry-requires-clause-within : goal.write_root_entry-requires-clause-within
@@ -18,7 +18,7 @@ write_root_entry-requires-clause-within g c =
     omega (arith, page, inside, size)
 
 pub returns-in_err-write_root_entry-clause-done : goal.returns-in_err-write_root_entry-clause-done
-returns-in_err-write_root_entry-clause-done g c = none_done _ _ c.from_residual.result c.from_residual.ensures.1
+returns-in_err-write_root_entry-clause-done g c = IfOk-from_err c.from_residual.result _ c.from_residual.ensures.0
 
 pub returns-in_err-write_root_entry-clause-blocks : goal.returns-in_err-write_root_entry-clause-blocks
 returns-in_err-write_root_entry-clause-blocks g c = blocks_stay _ _ _ _ c.write_root_entry.ensures.wrote.mixed c.requires.blocks
@@ -30,7 +30,7 @@ returns-in_err-write_root_entry-clause-wrote g c =
     stores_within _ _ _ _ _ _ (λ i x. entry_words s c.args.time c.requires.layout (4096 * c.system_blocks-page.result) i x page) c.write_root_entry.ensures.wrote
 
 pub returns-in_err-write_root_entry-clause-stopped : goal.returns-in_err-write_root_entry-clause-stopped
-returns-in_err-write_root_entry-clause-stopped g c = was_refused c.from_residual.result c.in_err-write_root_entry.ensures.stopped
+returns-in_err-write_root_entry-clause-stopped g c = told_err c.from_residual.result c.in_err-write_root_entry.ensures.stopped
 
 pub returns-in_err-write_root_entry-clause-keeps_fuse : goal.returns-in_err-write_root_entry-clause-keeps_fuse
 returns-in_err-write_root_entry-clause-keeps_fuse g c =
@@ -42,7 +42,7 @@ pub set_word-requires-clause-within : goal.set_word-requires-clause-within
 set_word-requires-clause-within g c = let long = c.write_root_entry.ensures.wrote.mixed.as_long in let size = c.requires.blocks.0 in let inside = c.slot_start.ensures.inside in omega (arith, long, size, inside)
 
 pub returns-in_err-set_word-clause-done : goal.returns-in_err-set_word-clause-done
-returns-in_err-set_word-clause-done g c = none_done _ _ c.from_residual-in_err-set_word.result c.from_residual-in_err-set_word.ensures.1
+returns-in_err-set_word-clause-done g c = IfOk-from_err c.from_residual-in_err-set_word.result _ c.from_residual-in_err-set_word.ensures.0
 
 pub returns-in_err-set_word-clause-blocks : goal.returns-in_err-set_word-clause-blocks
 returns-in_err-set_word-clause-blocks g c = blocks_stay _ _ _ _ c.set_word.ensures.wrote.mixed (blocks_stay _ _ _ _ c.write_root_entry.ensures.wrote.mixed c.requires.blocks)
@@ -54,7 +54,7 @@ returns-in_err-set_word-clause-wrote g c =
     stores_more _ _ _ _ _ _ _ _ (λ i x. valid_word s c.args.time c.requires.layout c.slot_start.result i x c.slot_start.ensures.value) (stores_within _ _ _ _ _ _ (λ i x. entry_words s c.args.time c.requires.layout (4096 * c.system_blocks-page.result) i x page) c.write_root_entry.ensures.wrote) c.set_word.ensures.wrote
 
 pub returns-in_err-set_word-clause-stopped : goal.returns-in_err-set_word-clause-stopped
-returns-in_err-set_word-clause-stopped g c = was_refused c.from_residual-in_err-set_word.result (sym c.in_err-set_word.ensures.stopped)
+returns-in_err-set_word-clause-stopped g c = told_err c.from_residual-in_err-set_word.result (sym c.in_err-set_word.ensures.stopped)
 
 pub returns-in_err-set_word-clause-keeps_fuse : goal.returns-in_err-set_word-clause-keeps_fuse
 returns-in_err-set_word-clause-keeps_fuse g c =
@@ -70,7 +70,7 @@ pub returns-clause-blocks : goal.returns-clause-blocks
 returns-clause-blocks g c = blocks_stay _ _ _ _ c.put_slot.ensures.wrote.mixed (blocks_stay _ _ _ _ c.set_word.ensures.wrote.mixed (blocks_stay _ _ _ _ c.write_root_entry.ensures.wrote.mixed c.requires.blocks))
 
 pub returns-clause-stopped : goal.returns-clause-stopped
-returns-clause-stopped g c = burnt_where c.put_slot.result _ c.put_slot.ensures.stopped
+returns-clause-stopped g c = burnt_told c.put_slot.result c.put_slot.ensures.stopped
 
 pub returns-clause-keeps_fuse : goal.returns-clause-keeps_fuse
 returns-clause-keeps_fuse g c =

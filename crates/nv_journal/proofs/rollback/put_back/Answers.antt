@@ -2,12 +2,12 @@ use Rattle.std.proofs.Common.{◌≡◌, ◌≤◌, ◌+◌, ◌-◌, ◌*◌, �
 use Rattle.std.proofs.lemmas.Result.{on_ok_weaker}
 use Rattle.nv_region.specs.Region.{Region, HasBlocks, size}
 use Rattle.nv_region.proofs.Fuses.{keeps_within}
+use Rattle.nv_region.proofs.Told.{burnt_told}
 use Rattle.nv_region.proofs.Wordwise.{stores_none}
 use Rattle.nv_super.specs.Layout.{system_blocks}
 use Rattle.nv_inode.specs.Permitted.{is_permitted}
 use Rattle.nv_journal.proofs.Stored.{stands}
 use Rattle.nv_journal.proofs.Turns.{by_record, either_of, not_named, outside_either, outside_same, record_stored}
-use Rattle.nv_journal.proofs.Answered.{burnt_told}
 use Rattle.nv_journal.proofs.rollback.put_back.Goals as goal
 
 -- words within the blocks lie within the region

@@ -1,10 +1,10 @@
 use Rattle.std.proofs.Common.{length, refl, ◌≤◌, ◌≡◌, Bool, true, false, true≢false, IsTrue, ℕ, ◌∙◌, ap, is_err, ◌/◌, ◌∷◌, subst, sym, ◌%◌, ◌++◌, take, inl, inr, None}
+use Rattle.std.proofs.lemmas.Result.{IfOk-from_err}
 use Rattle.nv_region.proofs.Fuses.{keeps_more}
 use Rattle.nv_logpage.specs.Append.{needed, EndBy, Linked, appended}
 use Rattle.nv_logpage.specs.Reads.{Reads}
 use Rattle.nv_logpage.proofs.Written.{settled_links, entries_within, links_too}
 use Rattle.nv_logpage.proofs.Placing.{none_needed}
-use Rattle.nv_logpage.proofs.Refused.{no_value, refused_as}
 use Rattle.nv_inode.specs.Slot.{is_right_log}
 use Rattle.nv_logpage.proofs.Grown.{grown, left_unread, right_after, unread}
 use Rattle.nv_logpage.proofs.appending.append.Goals as goal
@@ -105,46 +105,46 @@ returns-clause-any_stop g c s head es all start free read =
     left_unread (g.P.Pmem.region c.args.memory.now) _ _ _ s head c.args.tail c.args.fresh.now all es c.requires.differ c.requires.offset start wrote free read
 
 pub returns-in_err-end-clause-end : goal.returns-in_err-end-clause-end
-returns-in_err-end-clause-end g c = no_value _ c.from_residual.result c.from_residual.ensures.1 _
+returns-in_err-end-clause-end g c = IfOk-from_err c.from_residual.result _ c.from_residual.ensures.0
 
 pub returns-in_err-end-clause-laid : goal.returns-in_err-end-clause-laid
-returns-in_err-end-clause-laid g c = no_value _ c.from_residual.result c.from_residual.ensures.1 _
+returns-in_err-end-clause-laid g c = IfOk-from_err c.from_residual.result _ c.from_residual.ensures.0
 
 pub returns-in_err-end-clause-linked : goal.returns-in_err-end-clause-linked
-returns-in_err-end-clause-linked g c = no_value _ c.from_residual.result c.from_residual.ensures.1 _
+returns-in_err-end-clause-linked g c = IfOk-from_err c.from_residual.result _ c.from_residual.ensures.0
 
 pub returns-in_err-end-clause-reads : goal.returns-in_err-end-clause-reads
-returns-in_err-end-clause-reads g c s head es all start free read = no_value _ c.from_residual.result c.from_residual.ensures.1 _
+returns-in_err-end-clause-reads g c s head es all start free read = IfOk-from_err c.from_residual.result _ c.from_residual.ensures.0
 
 pub returns-in_err-end-clause-right : goal.returns-in_err-end-clause-right
-returns-in_err-end-clause-right g c s head start in_data starts either = no_value _ c.from_residual.result c.from_residual.ensures.1 _
+returns-in_err-end-clause-right g c s head start in_data starts either = IfOk-from_err c.from_residual.result _ c.from_residual.ensures.0
 
 pub returns-in_err-link_pages-clause-end : goal.returns-in_err-link_pages-clause-end
-returns-in_err-link_pages-clause-end g c = no_value _ c.from_residual-in_err-link_pages.result c.from_residual-in_err-link_pages.ensures.1 _
+returns-in_err-link_pages-clause-end g c = IfOk-from_err c.from_residual-in_err-link_pages.result _ c.from_residual-in_err-link_pages.ensures.0
 
 pub returns-in_err-link_pages-clause-laid : goal.returns-in_err-link_pages-clause-laid
-returns-in_err-link_pages-clause-laid g c = no_value _ c.from_residual-in_err-link_pages.result c.from_residual-in_err-link_pages.ensures.1 _
+returns-in_err-link_pages-clause-laid g c = IfOk-from_err c.from_residual-in_err-link_pages.result _ c.from_residual-in_err-link_pages.ensures.0
 
 pub returns-in_err-link_pages-clause-linked : goal.returns-in_err-link_pages-clause-linked
-returns-in_err-link_pages-clause-linked g c = no_value _ c.from_residual-in_err-link_pages.result c.from_residual-in_err-link_pages.ensures.1 _
+returns-in_err-link_pages-clause-linked g c = IfOk-from_err c.from_residual-in_err-link_pages.result _ c.from_residual-in_err-link_pages.ensures.0
 
 pub returns-in_err-link_pages-clause-reads : goal.returns-in_err-link_pages-clause-reads
-returns-in_err-link_pages-clause-reads g c s head es all start free read = no_value _ c.from_residual-in_err-link_pages.result c.from_residual-in_err-link_pages.ensures.1 _
+returns-in_err-link_pages-clause-reads g c s head es all start free read = IfOk-from_err c.from_residual-in_err-link_pages.result _ c.from_residual-in_err-link_pages.ensures.0
 
 pub returns-in_err-link_pages-clause-right : goal.returns-in_err-link_pages-clause-right
-returns-in_err-link_pages-clause-right g c s head start in_data starts either = no_value _ c.from_residual-in_err-link_pages.result c.from_residual-in_err-link_pages.ensures.1 _
+returns-in_err-link_pages-clause-right g c s head start in_data starts either = IfOk-from_err c.from_residual-in_err-link_pages.result _ c.from_residual-in_err-link_pages.ensures.0
 
 pub returns-in_err-end-clause-nothing : goal.returns-in_err-end-clause-nothing
 returns-in_err-end-clause-nothing g c none = not_both (ap is_err c.in_err-end.was) (c.write_entries.ensures.nothing none).0
 
 pub returns-in_err-end-clause-stopped : goal.returns-in_err-end-clause-stopped
-returns-in_err-end-clause-stopped g c some = refused_as _ c.from_residual.result c.from_residual.ensures.1 (ap is_err c.in_err-end.was) (c.write_entries.ensures.stopped some)
+returns-in_err-end-clause-stopped g c some = c.from_residual.ensures.0 ∙ sym (ap is_err c.in_err-end.was) ∙ (c.write_entries.ensures.stopped some)
 
 pub returns-in_err-link_pages-clause-nothing : goal.returns-in_err-link_pages-clause-nothing
 returns-in_err-link_pages-clause-nothing g c none = not_both (ap is_err c.in_err-link_pages.was) (c.link_pages.ensures.nothing (c.in_ok-end.ensures.end.1 ∙ none_needed (c.args.tail % 4096) c.args.entries.now none)).0
 
 pub returns-in_err-link_pages-clause-stopped : goal.returns-in_err-link_pages-clause-stopped
-returns-in_err-link_pages-clause-stopped g c some = refused_as _ c.from_residual-in_err-link_pages.result c.from_residual-in_err-link_pages.ensures.1 (ap is_err c.in_err-link_pages.was) (c.link_pages.ensures.stopped (sym (c.write_entries.ensures.stopped some) ∙ ap is_err c.in_ok-end.was))
+returns-in_err-link_pages-clause-stopped g c some = c.from_residual-in_err-link_pages.ensures.0 ∙ sym (ap is_err c.in_err-link_pages.was) ∙ (c.link_pages.ensures.stopped (sym (c.write_entries.ensures.stopped some) ∙ ap is_err c.in_ok-end.was))
 
 pub link_pages-requires-clause-count : goal.link_pages-requires-clause-count
 link_pages-requires-clause-count g c = subst (λ (n : ℕ). n ≤ length c.args.fresh.now) (sym c.in_ok-end.ensures.end.1) c.requires.enough

@@ -1,11 +1,11 @@
 use Rattle.std.proofs.Common.{◌≡◌, ◌<◌, ◌≤◌, ◌+◌, ◌-◌, ◌*◌, ◌/◌, ◌%◌, ◌^◌, ◌∷◌, ℕ, List, Fits, w64, suc, get_or, length, arith, ap, refl, sym, subst, ◌∙◌, is_err}
+use Rattle.std.proofs.lemmas.Result.{IfOk-from_err}
 use Rattle.nv_region.specs.Region.{size}
 use Rattle.nv_region.proofs.Fuses.{keeps_more}
 use Rattle.nv_region.proofs.Wordwise.{stores_more, stores_none, stored_only}
 use Rattle.nv_logpage.specs.Append.{EndBy, Linked}
 use Rattle.nv_logpage.specs.Writing.{LinkWords}
 use Rattle.nv_logpage.proofs.Placing.{link_more, next_page}
-use Rattle.nv_logpage.proofs.Refused.{no_value, refused_as}
 use Rattle.nv_logpage.proofs.appending.link_pages.Goals as goal
 
 -- the link of a page lies within the region, as the page does
@@ -70,7 +70,7 @@ pub store_word-requires-clause-within : goal.store_word-requires-clause-within
 store_word-requires-clause-within g c = subst (λ (n : ℕ). c.loop-k.page * 4096 + 4064 + 8 ≤ n) (sym c.loop-k.invariant.len) (link_within c.args.first c.args.fresh.now c.args.count c.loop-k.k c.loop-k.page (size (g.P.Pmem.region c.args.memory.now)) c.requires.count c.loop-k-test.true c.loop-k.invariant.page c.requires.inside)
 
 pub returns-in_err-store_word-clause-linked : goal.returns-in_err-store_word-clause-linked
-returns-in_err-store_word-clause-linked g c = no_value _ c.from_residual.result c.from_residual.ensures.1 _
+returns-in_err-store_word-clause-linked g c = IfOk-from_err c.from_residual.result _ c.from_residual.ensures.0
 
 pub returns-in_err-store_word-clause-wrote : goal.returns-in_err-store_word-clause-wrote
 returns-in_err-store_word-clause-wrote g c = (stores_more _ _ _ _ _ _ _ _ (λ i x w. one_link c.args.first c.args.fresh.now c.args.count c.loop-k.k c.loop-k.page i c.loop-k-test.true c.loop-k.invariant.page w.0) c.loop-k.invariant.wrote
@@ -83,7 +83,7 @@ pub returns-in_err-store_word-clause-nothing : goal.returns-in_err-store_word-cl
 returns-in_err-store_word-clause-nothing g c none = some_counted c.loop-k-test.true none
 
 pub returns-in_err-store_word-clause-stopped : goal.returns-in_err-store_word-clause-stopped
-returns-in_err-store_word-clause-stopped g c was = refused_as _ c.from_residual.result c.from_residual.ensures.1 (ap is_err c.in_err-store_word.was) c.store_word.ensures.stopped
+returns-in_err-store_word-clause-stopped g c was = c.from_residual.ensures.0 ∙ sym (ap is_err c.in_err-store_word.was) ∙ c.store_word.ensures.stopped
 
 pub returns-in_err-store_word-clause-keeps_fuse : goal.returns-in_err-store_word-clause-keeps_fuse
 returns-in_err-store_word-clause-keeps_fuse g c = keeps_more (λ limit end. link_within c.args.first c.args.fresh.now c.args.count c.loop-k.k c.loop-k.page limit c.requires.count c.loop-k-test.true c.loop-k.invariant.page end) c.loop-k.invariant.keeps_fuse c.store_word.ensures.keeps_fuse

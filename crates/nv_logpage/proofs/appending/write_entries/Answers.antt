@@ -1,9 +1,9 @@
 use Rattle.std.proofs.Common.{arith, Fits, w64, ℕ, suc, refl, ap, sym, subst, ◌∙◌, ◌*◌, ◌+◌, ◌-◌, ◌%◌, ◌^◌, ◌≡◌, ◌<◌, ◌≤◌, get_or, length, is_err}
+use Rattle.std.proofs.lemmas.Result.{IfOk-from_err}
 use Rattle.nv_region.specs.Region.{size}
 use Rattle.nv_region.proofs.Fuses.{keeps_more}
 use Rattle.nv_region.proofs.Wordwise.{stores_none}
 use Rattle.nv_entry.specs.Spelling.{entry_length}
-use Rattle.nv_logpage.proofs.Refused.{no_value, refused_as}
 use Rattle.nv_logpage.proofs.Writing.{writing_fits, writing_turns, turned_words, fitted_words, page_by, page_inside, fits_by, fits_inside, page_left, next_by, ends_at, counts_all, all_fit, all_laid}
 use Rattle.nv_logpage.proofs.appending.write_entries.Goals as goal
 use Rattle.nv_logpage.proofs.appending.write_entries.Goals.{then-place-size-le-LINK+in_ok-write_entry, else-place-size-le-LINK+in_ok-write_turned}
@@ -117,13 +117,13 @@ pub write_entry-requires-clause-inside : goal.write_entry-requires-clause-inside
 write_entry-requires-clause-inside g c = fits_inside c.requires.can c.loop-entry.invariant.writing c.length-size.result (entry_length c.entry-item.result) c.length-size.ensures.value c.if-place-size-le-LINK.true
 
 pub returns-in_err-write_entry-clause-end : goal.returns-in_err-write_entry-clause-end
-returns-in_err-write_entry-clause-end g c = no_value _ c.from_residual.result c.from_residual.ensures.1 _
+returns-in_err-write_entry-clause-end g c = IfOk-from_err c.from_residual.result _ c.from_residual.ensures.0
 
 pub returns-in_err-write_entry-clause-fit : goal.returns-in_err-write_entry-clause-fit
-returns-in_err-write_entry-clause-fit g c = no_value _ c.from_residual.result c.from_residual.ensures.1 _
+returns-in_err-write_entry-clause-fit g c = IfOk-from_err c.from_residual.result _ c.from_residual.ensures.0
 
 pub returns-in_err-write_entry-clause-laid : goal.returns-in_err-write_entry-clause-laid
-returns-in_err-write_entry-clause-laid g c = no_value _ c.from_residual.result c.from_residual.ensures.1 _
+returns-in_err-write_entry-clause-laid g c = IfOk-from_err c.from_residual.result _ c.from_residual.ensures.0
 
 pub returns-in_err-write_entry-clause-len : goal.returns-in_err-write_entry-clause-len
 returns-in_err-write_entry-clause-len g c = c.write_entry.ensures.rest.len ∙ c.loop-entry.invariant.writing.len
@@ -132,16 +132,16 @@ pub returns-in_err-write_entry-clause-nothing : goal.returns-in_err-write_entry-
 returns-in_err-write_entry-clause-nothing g c none = some_before c.loop-entry-test.true none
 
 pub returns-in_err-write_entry-clause-stopped : goal.returns-in_err-write_entry-clause-stopped
-returns-in_err-write_entry-clause-stopped g c some = refused_as _ c.from_residual.result c.from_residual.ensures.1 (ap is_err c.in_err-write_entry.was) c.write_entry.ensures.stopped
+returns-in_err-write_entry-clause-stopped g c some = c.from_residual.ensures.0 ∙ sym (ap is_err c.in_err-write_entry.was) ∙ c.write_entry.ensures.stopped
 
 pub returns-in_err-write_turned-clause-end : goal.returns-in_err-write_turned-clause-end
-returns-in_err-write_turned-clause-end g c = no_value _ c.from_residual-in_err-write_turned.result c.from_residual-in_err-write_turned.ensures.1 _
+returns-in_err-write_turned-clause-end g c = IfOk-from_err c.from_residual-in_err-write_turned.result _ c.from_residual-in_err-write_turned.ensures.0
 
 pub returns-in_err-write_turned-clause-fit : goal.returns-in_err-write_turned-clause-fit
-returns-in_err-write_turned-clause-fit g c = no_value _ c.from_residual-in_err-write_turned.result c.from_residual-in_err-write_turned.ensures.1 _
+returns-in_err-write_turned-clause-fit g c = IfOk-from_err c.from_residual-in_err-write_turned.result _ c.from_residual-in_err-write_turned.ensures.0
 
 pub returns-in_err-write_turned-clause-laid : goal.returns-in_err-write_turned-clause-laid
-returns-in_err-write_turned-clause-laid g c = no_value _ c.from_residual-in_err-write_turned.result c.from_residual-in_err-write_turned.ensures.1 _
+returns-in_err-write_turned-clause-laid g c = IfOk-from_err c.from_residual-in_err-write_turned.result _ c.from_residual-in_err-write_turned.ensures.0
 
 pub returns-in_err-write_turned-clause-len : goal.returns-in_err-write_turned-clause-len
 returns-in_err-write_turned-clause-len g c = c.write_turned.ensures.len ∙ c.loop-entry.invariant.writing.len
@@ -150,7 +150,7 @@ pub returns-in_err-write_turned-clause-nothing : goal.returns-in_err-write_turne
 returns-in_err-write_turned-clause-nothing g c none = some_before c.loop-entry-test.true none
 
 pub returns-in_err-write_turned-clause-stopped : goal.returns-in_err-write_turned-clause-stopped
-returns-in_err-write_turned-clause-stopped g c some = refused_as _ c.from_residual-in_err-write_turned.result c.from_residual-in_err-write_turned.ensures.1 (ap is_err c.in_err-write_turned.was) c.write_turned.ensures.stopped
+returns-in_err-write_turned-clause-stopped g c some = c.from_residual-in_err-write_turned.ensures.0 ∙ sym (ap is_err c.in_err-write_turned.was) ∙ c.write_turned.ensures.stopped
 
 pub returns-in_err-write_entry-clause-wrote : goal.returns-in_err-write_entry-clause-wrote
 returns-in_err-write_entry-clause-wrote g c = fitted_words _ _ _ _ _ _ c.args.tail c.args.entries.now c.args.fresh.now c.loop-entry.entry-index c.loop-entry.used c.loop-entry.place c.entry-item.result c.requires.can c.loop-entry.invariant.writing c.loop-entry-test.true c.entry-item.is (subst (λ (n : ℕ). c.loop-entry.place % 4096 + n ≤ 4064) c.length-size.ensures.value c.if-place-size-le-LINK.true) c.write_entry.ensures.wrote

@@ -1,6 +1,6 @@
 use Rattle.std.proofs.Common.{arith}
 use Rattle.std.proofs.lemmas.Result.{IfOk-from_err}
-use Rattle.nv_steps.proofs.Refusals.{refused_still}
+use Rattle.nv_region.proofs.Told.{told_err}
 use Rattle.nv_steps.proofs.Singles.{one_can_join, one_given_back, onto_more, onto_none}
 use Rattle.nv_steps.proofs.blocks.+take_each.Goals as goal
 
@@ -23,10 +23,10 @@ pub returns-in_err-block-clause-room : goal.returns-in_err-block-clause-room
 returns-in_err-block-clause-room t c = IfOk-from_err c.from_residual.result _ c.from_residual.ensures.0
 
 pub returns-in_err-block-clause-err : goal.returns-in_err-block-clause-err
-returns-in_err-block-clause-err t c = let same = c.in_err-block.ensures.err in refused_still c.from_residual.result (record { sup = same.sup; pools = same.pools })
+returns-in_err-block-clause-err t c = let same = c.in_err-block.ensures.err in told_err c.from_residual.result (record { sup = same.sup; pools = same.pools })
 
 pub returns-in_err-block-clause-room_left : goal.returns-in_err-block-clause-room_left
-returns-in_err-block-clause-room_left t c = let same = c.in_err-block.ensures.err in refused_still c.from_residual.result (omega (arith, same.room))
+returns-in_err-block-clause-room_left t c = let same = c.in_err-block.ensures.err in told_err c.from_residual.result (omega (arith, same.room))
 
 pub push_reserved-requires : goal.push_reserved-requires
 push_reserved-requires t c = omega (arith, c.requires.space, c.if-count-eq0.false)

@@ -1,7 +1,7 @@
 use Rattle.std.proofs.Common.{◌++◌, ◌∙◌, ◌<◌, ℕ, List, ap, arith, length, refl, subst, sym}
 use Rattle.std.proofs.lemmas.Result.{IfOk-from_err}
+use Rattle.nv_region.proofs.Told.{told_err}
 use Rattle.nv_super.specs.declared.superblock.Super.{Super}
-use Rattle.nv_steps.proofs.Refusals.{refused_still}
 use Rattle.nv_steps.proofs.Singles.{from_nothing}
 use Rattle.nv_steps.proofs.blocks.take_enough.Goals as goal
 
@@ -38,22 +38,22 @@ pub returns-in_err-take_each-clause-room : goal.returns-in_err-take_each-clause-
 returns-in_err-take_each-clause-room c = IfOk-from_err c.from_residual-in_err-take_each.result _ c.from_residual-in_err-take_each.ensures.0
 
 pub returns-in_err-blocks-clause-unchanged : goal.returns-in_err-blocks-clause-unchanged
-returns-in_err-blocks-clause-unchanged c = refused_still c.from_residual.result (record { sup = refl; pools = refl })
+returns-in_err-blocks-clause-unchanged c = told_err c.from_residual.result (record { sup = refl; pools = refl })
 
 pub returns-in_err-blocks-clause-room_left : goal.returns-in_err-blocks-clause-room_left
-returns-in_err-blocks-clause-room_left c = refused_still c.from_residual.result (omega arith)
+returns-in_err-blocks-clause-room_left c = told_err c.from_residual.result (omega arith)
 
 pub returns-in_err-reserve-clause-unchanged : goal.returns-in_err-reserve-clause-unchanged
-returns-in_err-reserve-clause-unchanged c = let same = c.reserve.ensures.same in refused_still c.from_residual-in_err-reserve.result (record { sup = same.sup; pools = same.pools })
+returns-in_err-reserve-clause-unchanged c = let same = c.reserve.ensures.same in told_err c.from_residual-in_err-reserve.result (record { sup = same.sup; pools = same.pools })
 
 pub returns-in_err-reserve-clause-room_left : goal.returns-in_err-reserve-clause-room_left
-returns-in_err-reserve-clause-room_left c = let same = c.reserve.ensures.same in refused_still c.from_residual-in_err-reserve.result (omega (arith, same.room))
+returns-in_err-reserve-clause-room_left c = let same = c.reserve.ensures.same in told_err c.from_residual-in_err-reserve.result (omega (arith, same.room))
 
 pub returns-in_err-take_each-clause-unchanged : goal.returns-in_err-take_each-clause-unchanged
-returns-in_err-take_each-clause-unchanged c = let same = c.reserve.ensures.same in let left = c.in_err-take_each.ensures.err in refused_still c.from_residual-in_err-take_each.result (record { sup = left.sup ∙ same.sup; pools = left.pools ∙ same.pools })
+returns-in_err-take_each-clause-unchanged c = let same = c.reserve.ensures.same in let left = c.in_err-take_each.ensures.err in told_err c.from_residual-in_err-take_each.result (record { sup = left.sup ∙ same.sup; pools = left.pools ∙ same.pools })
 
 pub returns-in_err-take_each-clause-room_left : goal.returns-in_err-take_each-clause-room_left
-returns-in_err-take_each-clause-room_left c = let same = c.reserve.ensures.same in refused_still c.from_residual-in_err-take_each.result (omega (arith, same.room, c.in_err-take_each.ensures.room_left))
+returns-in_err-take_each-clause-room_left c = let same = c.reserve.ensures.same in told_err c.from_residual-in_err-take_each.result (omega (arith, same.room, c.in_err-take_each.ensures.room_left))
 
 pub take_each-requires-clause-cpu : goal.take_each-requires-clause-cpu
 take_each-requires-clause-cpu c = let same = c.reserve.ensures.same in subst (λ (s : Super). c.args.cpu < s.cpus) (sym same.sup) c.requires.cpu

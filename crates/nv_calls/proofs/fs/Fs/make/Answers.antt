@@ -1,5 +1,5 @@
 use Rattle.std.proofs.Common.{◌≡◌, ◌∙◌, ◌<◌, ◌≤◌, ◌⊎◌, ◌++◌, ◌∷◌, [], List, ℕ, Some, None, Ok, true, false, inr, ap, refl, subst, sym, slice_get}
-use Rattle.std.proofs.lemmas.Result.{err_from_is_err_and}
+use Rattle.std.proofs.lemmas.Result.{err_from_is_err_and, IfOk-from_err}
 use Rattle.nv_tree.specs.declared.refusal.Refusal.{Refusal}
 use Rattle.nv_region.specs.Region.{size}
 use Rattle.nv_region.specs.Fuses.{KeepsFuse}
@@ -29,7 +29,6 @@ use Rattle.nv_super.proofs.Members.{stands}
 use Rattle.nv_calls.proofs.RowChange.{same_mount}
 use Rattle.nv_calls.proofs.SetAttr.{late_reply, not_stop}
 use Rattle.nv_calls.proofs.Tests.{early_reply, if_err, writing_goes_on}
-use Rattle.nv_calls.proofs.Early.{on_ok_err}
 use Rattle.nv_calls.proofs.fs.Fs.make.Goals as goal
 
 pub returns-in_err-writable-clause-refused : goal.returns-in_err-writable-clause-refused
@@ -181,16 +180,16 @@ returns-in-Err-clause-stopped g c still =
     late_reply c.in-Err.refusal c.is_stop-self-inside.result c.is_stop-self-inside.ensures.yes c.is_stop-self-inside.ensures.no c.in-Err.ensures.stopped
 
 pub returns-in_err-writable-clause-allowed : goal.returns-in_err-writable-clause-allowed
-returns-in_err-writable-clause-allowed g c p says = on_ok_err c.from_residual.result _ c.from_residual.ensures.0
+returns-in_err-writable-clause-allowed g c p says = IfOk-from_err c.from_residual.result _ c.from_residual.ensures.0
 
 pub returns-in_err-writable-clause-changed : goal.returns-in_err-writable-clause-changed
-returns-in_err-writable-clause-changed g c names path = on_ok_err c.from_residual.result _ c.from_residual.ensures.0
+returns-in_err-writable-clause-changed g c names path = IfOk-from_err c.from_residual.result _ c.from_residual.ensures.0
 
 pub returns-in_err-writable-clause-log : goal.returns-in_err-writable-clause-log
-returns-in_err-writable-clause-log g c names d j held h path led number sound is = on_ok_err c.from_residual.result _ c.from_residual.ensures.0
+returns-in_err-writable-clause-log g c names d j held h path led number sound is = IfOk-from_err c.from_residual.result _ c.from_residual.ensures.0
 
 pub returns-in_err-writable-clause-settled : goal.returns-in_err-writable-clause-settled
-returns-in_err-writable-clause-settled g c = on_ok_err c.from_residual.result _ c.from_residual.ensures.0
+returns-in_err-writable-clause-settled g c = IfOk-from_err c.from_residual.result _ c.from_residual.ensures.0
 
 pub returns-in_err-writable-clause-keeps : goal.returns-in_err-writable-clause-keeps
 returns-in_err-writable-clause-keeps g c = record { sup = refl; faults = refl; read_only = refl }
@@ -199,16 +198,16 @@ pub returns-in_err-writable-clause-length : goal.returns-in_err-writable-clause-
 returns-in_err-writable-clause-length g c = refl
 
 pub returns-in_err-spot-clause-allowed : goal.returns-in_err-spot-clause-allowed
-returns-in_err-spot-clause-allowed g c p says = on_ok_err c.from_residual-in_err-spot.result _ c.from_residual-in_err-spot.ensures.0
+returns-in_err-spot-clause-allowed g c p says = IfOk-from_err c.from_residual-in_err-spot.result _ c.from_residual-in_err-spot.ensures.0
 
 pub returns-in_err-spot-clause-changed : goal.returns-in_err-spot-clause-changed
-returns-in_err-spot-clause-changed g c names path = on_ok_err c.from_residual-in_err-spot.result _ c.from_residual-in_err-spot.ensures.0
+returns-in_err-spot-clause-changed g c names path = IfOk-from_err c.from_residual-in_err-spot.result _ c.from_residual-in_err-spot.ensures.0
 
 pub returns-in_err-spot-clause-log : goal.returns-in_err-spot-clause-log
-returns-in_err-spot-clause-log g c names d j held h path led number sound is = on_ok_err c.from_residual-in_err-spot.result _ c.from_residual-in_err-spot.ensures.0
+returns-in_err-spot-clause-log g c names d j held h path led number sound is = IfOk-from_err c.from_residual-in_err-spot.result _ c.from_residual-in_err-spot.ensures.0
 
 pub returns-in_err-spot-clause-settled : goal.returns-in_err-spot-clause-settled
-returns-in_err-spot-clause-settled g c = on_ok_err c.from_residual-in_err-spot.result _ c.from_residual-in_err-spot.ensures.0
+returns-in_err-spot-clause-settled g c = IfOk-from_err c.from_residual-in_err-spot.result _ c.from_residual-in_err-spot.ensures.0
 
 pub returns-in_err-spot-clause-keeps : goal.returns-in_err-spot-clause-keeps
 returns-in_err-spot-clause-keeps g c = record { sup = refl; faults = refl; read_only = refl }

@@ -1,5 +1,5 @@
 use Rattle.std.proofs.Common.{◌≡◌, ◌∙◌, ◌<◌, ◌⊎◌, ◌++◌, ◌∷◌, [], List, ℕ, Some, false, inr, ap, set, subst, sym, refl, true, ◌≤◌}
-use Rattle.std.proofs.lemmas.Result.{err_from_is_err_and}
+use Rattle.std.proofs.lemmas.Result.{err_from_is_err_and, IfOk-from_err}
 use Rattle.nv_region.specs.Region.{size}
 use Rattle.nv_region.specs.Fuses.{KeepsFuse}
 use Rattle.nv_super.proofs.Options.{some_only}
@@ -28,7 +28,7 @@ use Rattle.nv_calls.proofs.SetAttr.{attr_allowed, attr_changed, attr_logged, att
 use Rattle.nv_calls.proofs.Tests.{early_reply, if_err, stat_goes_on, stat_refuses, writing_goes_on}
 use Rattle.nv_calls.proofs.TwoRows.{last_used}
 use Rattle.nv_calls.proofs.Asked.{low_bits, low_pools}
-use Rattle.nv_calls.proofs.Early.{good_reply, on_ok_err, same_fuse}
+use Rattle.nv_calls.proofs.Early.{good_reply, same_fuse}
 use Rattle.nv_calls.proofs.fs.Fs.set_attr.Goals as goal
 
 pub give_back-requires : goal.give_back-requires
@@ -168,16 +168,16 @@ pub returns-in-Err-clause-stopped : goal.returns-in-Err-clause-stopped
 returns-in-Err-clause-stopped g c still = late_reply c.in-Err.refusal c.is_stop-self-inside.result c.is_stop-self-inside.ensures.yes c.is_stop-self-inside.ensures.no c.in-Err.ensures.stopped
 
 pub returns-in_err-writable-clause-allowed : goal.returns-in_err-writable-clause-allowed
-returns-in_err-writable-clause-allowed g c p says = on_ok_err c.from_residual.result _ c.from_residual.ensures.0
+returns-in_err-writable-clause-allowed g c p says = IfOk-from_err c.from_residual.result _ c.from_residual.ensures.0
 
 pub returns-in_err-writable-clause-changed : goal.returns-in_err-writable-clause-changed
-returns-in_err-writable-clause-changed g c names path = on_ok_err c.from_residual.result _ c.from_residual.ensures.0
+returns-in_err-writable-clause-changed g c names path = IfOk-from_err c.from_residual.result _ c.from_residual.ensures.0
 
 pub returns-in_err-writable-clause-log : goal.returns-in_err-writable-clause-log
-returns-in_err-writable-clause-log g c names i node held h path led sound is = on_ok_err c.from_residual.result _ c.from_residual.ensures.0
+returns-in_err-writable-clause-log g c names i node held h path led sound is = IfOk-from_err c.from_residual.result _ c.from_residual.ensures.0
 
 pub returns-in_err-writable-clause-settled : goal.returns-in_err-writable-clause-settled
-returns-in_err-writable-clause-settled g c = on_ok_err c.from_residual.result _ c.from_residual.ensures.0
+returns-in_err-writable-clause-settled g c = IfOk-from_err c.from_residual.result _ c.from_residual.ensures.0
 
 pub returns-in_err-writable-clause-keeps : goal.returns-in_err-writable-clause-keeps
 returns-in_err-writable-clause-keeps g c = record { sup = refl; faults = refl; read_only = refl }
@@ -186,16 +186,16 @@ pub returns-in_err-writable-clause-length : goal.returns-in_err-writable-clause-
 returns-in_err-writable-clause-length g c = refl
 
 pub returns-in_err-inode-clause-allowed : goal.returns-in_err-inode-clause-allowed
-returns-in_err-inode-clause-allowed g c p says = on_ok_err c.from_residual-in_err-inode.result _ c.from_residual-in_err-inode.ensures.0
+returns-in_err-inode-clause-allowed g c p says = IfOk-from_err c.from_residual-in_err-inode.result _ c.from_residual-in_err-inode.ensures.0
 
 pub returns-in_err-inode-clause-changed : goal.returns-in_err-inode-clause-changed
-returns-in_err-inode-clause-changed g c names path = on_ok_err c.from_residual-in_err-inode.result _ c.from_residual-in_err-inode.ensures.0
+returns-in_err-inode-clause-changed g c names path = IfOk-from_err c.from_residual-in_err-inode.result _ c.from_residual-in_err-inode.ensures.0
 
 pub returns-in_err-inode-clause-log : goal.returns-in_err-inode-clause-log
-returns-in_err-inode-clause-log g c names i node held h path led sound is = on_ok_err c.from_residual-in_err-inode.result _ c.from_residual-in_err-inode.ensures.0
+returns-in_err-inode-clause-log g c names i node held h path led sound is = IfOk-from_err c.from_residual-in_err-inode.result _ c.from_residual-in_err-inode.ensures.0
 
 pub returns-in_err-inode-clause-settled : goal.returns-in_err-inode-clause-settled
-returns-in_err-inode-clause-settled g c = on_ok_err c.from_residual-in_err-inode.result _ c.from_residual-in_err-inode.ensures.0
+returns-in_err-inode-clause-settled g c = IfOk-from_err c.from_residual-in_err-inode.result _ c.from_residual-in_err-inode.ensures.0
 
 pub returns-in_err-inode-clause-keeps : goal.returns-in_err-inode-clause-keeps
 returns-in_err-inode-clause-keeps g c = record { sup = refl; faults = refl; read_only = refl }

@@ -1,5 +1,5 @@
 use Rattle.std.proofs.Common.{◌≡◌, ◌∙◌, ◌+◌, ◌<◌, ◌≤◌, ◌⊎◌, ◌++◌, ◌∷◌, [], List, ℕ, Some, None, false, inr, length, ap, set, subst, sym, arith, refl, true}
-use Rattle.std.proofs.lemmas.Result.{err_from_is_err_and}
+use Rattle.std.proofs.lemmas.Result.{err_from_is_err_and, IfOk-from_err}
 use Rattle.nv_region.specs.Region.{size}
 use Rattle.nv_region.specs.Fuses.{KeepsFuse}
 use Rattle.nv_super.proofs.Options.{some_only}
@@ -34,7 +34,7 @@ use Rattle.nv_calls.proofs.Tests.{early_reply, if_err, writing_goes_on}
 use Rattle.nv_calls.proofs.WriteReply.{large_same, none_written, write_allowed, write_bytes, write_changed, write_front, write_log, write_logged, write_none, write_refused, written_node}
 use Rattle.nv_calls.proofs.TwoRows.{last_used}
 use Rattle.nv_calls.proofs.Asked.{ends_small, low_pools, planned}
-use Rattle.nv_calls.proofs.Early.{good_reply, on_ok_err, same_fuse}
+use Rattle.nv_calls.proofs.Early.{good_reply, same_fuse}
 use Rattle.nv_calls.proofs.fs.Fs.write.Goals as goal
 
 pub give_back-requires : goal.give_back-requires
@@ -194,19 +194,19 @@ returns-in-Err-clause-unchanged g c off =
     rw put (unchanged_step c.self.view_is c.change_bytes-changed.new.memory c.change_bytes-changed.new.free (place_in rows inode) c.lend-row.result c.change_bytes-changed.new.row c.is_stop-self-inside.result at runs (not_stop c.in-Err.refusal c.is_stop-self-inside.result c.is_stop-self-inside.ensures.yes off) (c.in-Err.ensures.unchanged off))
 
 pub returns-in_err-writable-clause-allowed : goal.returns-in_err-writable-clause-allowed
-returns-in_err-writable-clause-allowed g c p count says needs = on_ok_err c.from_residual.result _ c.from_residual.ensures.0
+returns-in_err-writable-clause-allowed g c p count says needs = IfOk-from_err c.from_residual.result _ c.from_residual.ensures.0
 
 pub returns-in_err-writable-clause-changed : goal.returns-in_err-writable-clause-changed
-returns-in_err-writable-clause-changed g c names path = on_ok_err c.from_residual.result _ c.from_residual.ensures.0
+returns-in_err-writable-clause-changed g c names path = IfOk-from_err c.from_residual.result _ c.from_residual.ensures.0
 
 pub returns-in_err-writable-clause-log : goal.returns-in_err-writable-clause-log
-returns-in_err-writable-clause-log g c names i node held h path led sound is some = on_ok_err c.from_residual.result _ c.from_residual.ensures.0
+returns-in_err-writable-clause-log g c names i node held h path led sound is some = IfOk-from_err c.from_residual.result _ c.from_residual.ensures.0
 
 pub returns-in_err-writable-clause-nothing : goal.returns-in_err-writable-clause-nothing
-returns-in_err-writable-clause-nothing g c none = on_ok_err c.from_residual.result _ c.from_residual.ensures.0
+returns-in_err-writable-clause-nothing g c none = IfOk-from_err c.from_residual.result _ c.from_residual.ensures.0
 
 pub returns-in_err-writable-clause-settled : goal.returns-in_err-writable-clause-settled
-returns-in_err-writable-clause-settled g c some = on_ok_err c.from_residual.result _ c.from_residual.ensures.0
+returns-in_err-writable-clause-settled g c some = IfOk-from_err c.from_residual.result _ c.from_residual.ensures.0
 
 pub returns-in_err-writable-clause-keeps : goal.returns-in_err-writable-clause-keeps
 returns-in_err-writable-clause-keeps g c = record { sup = refl; faults = refl; read_only = refl }
@@ -215,19 +215,19 @@ pub returns-in_err-writable-clause-length : goal.returns-in_err-writable-clause-
 returns-in_err-writable-clause-length g c = refl
 
 pub returns-in_err-inode-clause-allowed : goal.returns-in_err-inode-clause-allowed
-returns-in_err-inode-clause-allowed g c p count says needs = on_ok_err c.from_residual-in_err-inode.result _ c.from_residual-in_err-inode.ensures.0
+returns-in_err-inode-clause-allowed g c p count says needs = IfOk-from_err c.from_residual-in_err-inode.result _ c.from_residual-in_err-inode.ensures.0
 
 pub returns-in_err-inode-clause-changed : goal.returns-in_err-inode-clause-changed
-returns-in_err-inode-clause-changed g c names path = on_ok_err c.from_residual-in_err-inode.result _ c.from_residual-in_err-inode.ensures.0
+returns-in_err-inode-clause-changed g c names path = IfOk-from_err c.from_residual-in_err-inode.result _ c.from_residual-in_err-inode.ensures.0
 
 pub returns-in_err-inode-clause-log : goal.returns-in_err-inode-clause-log
-returns-in_err-inode-clause-log g c names i node held h path led sound is some = on_ok_err c.from_residual-in_err-inode.result _ c.from_residual-in_err-inode.ensures.0
+returns-in_err-inode-clause-log g c names i node held h path led sound is some = IfOk-from_err c.from_residual-in_err-inode.result _ c.from_residual-in_err-inode.ensures.0
 
 pub returns-in_err-inode-clause-nothing : goal.returns-in_err-inode-clause-nothing
-returns-in_err-inode-clause-nothing g c none = on_ok_err c.from_residual-in_err-inode.result _ c.from_residual-in_err-inode.ensures.0
+returns-in_err-inode-clause-nothing g c none = IfOk-from_err c.from_residual-in_err-inode.result _ c.from_residual-in_err-inode.ensures.0
 
 pub returns-in_err-inode-clause-settled : goal.returns-in_err-inode-clause-settled
-returns-in_err-inode-clause-settled g c some = on_ok_err c.from_residual-in_err-inode.result _ c.from_residual-in_err-inode.ensures.0
+returns-in_err-inode-clause-settled g c some = IfOk-from_err c.from_residual-in_err-inode.result _ c.from_residual-in_err-inode.ensures.0
 
 pub returns-in_err-inode-clause-keeps : goal.returns-in_err-inode-clause-keeps
 returns-in_err-inode-clause-keeps g c = record { sup = refl; faults = refl; read_only = refl }

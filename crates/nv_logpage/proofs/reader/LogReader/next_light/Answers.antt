@@ -1,14 +1,11 @@
-use Rattle.std.proofs.Common.{refl, ap, sym, subst, ◌∙◌, Result, Ok, Err, OnErr}
+use Rattle.std.proofs.Common.{refl, ap, sym, subst, ◌∙◌}
+use Rattle.std.proofs.lemmas.Result.{IfOk-from_err}
 use Rattle.nv_region.specs.Region.{HasBlocks}
+use Rattle.nv_region.proofs.Told.{told_err}
 use Rattle.nv_blockset.specs.Listed.{Listed}
 use Rattle.nv_logpage.specs.Progress.{Progress}
-use Rattle.nv_logpage.proofs.Refused.{no_value}
 use Rattle.nv_logpage.proofs.ReadOn.{behind_fits, behind_less, behind_moves, behind_reading, end_less, end_moves, finds_so, goes_so, leads_so, page_below, page_fresh, page_less, page_moves, page_reading, refused_reading, same_log}
 use Rattle.nv_logpage.proofs.reader.LogReader.next_light.Goals as goal
-
-on_err : {T E P : Type 0} (r : Result T E) → P → OnErr r P
-on_err (Ok x) p = tt
-on_err (Err y) p = p
 
 pub look-found-requires-clause-areas : goal.look-found-requires-clause-areas
 look-found-requires-clause-areas g c = c.self.invariant.areas
@@ -41,22 +38,22 @@ pub push-requires-clause-fresh : goal.push-requires-clause-fresh
 push-requires-clause-fresh g c = page_fresh (g.P.Pmem.region c.args.memory.now) c.self.inside c.args.self.now c.look-found.result c.self.invariant c.self.view_is c.in-Page.address c.in-Page.is c.look-found.ensures.onward
 
 pub returns-in_err-push-in-Page-clause-finds : goal.returns-in_err-push-in-Page-clause-finds
-returns-in_err-push-in-Page-clause-finds g c = no_value _ c.from_residual.result c.from_residual.ensures.1 _
+returns-in_err-push-in-Page-clause-finds g c = IfOk-from_err c.from_residual.result _ c.from_residual.ensures.0
 
 pub returns-in_err-push-in-Page-clause-moves : goal.returns-in_err-push-in-Page-clause-moves
-returns-in_err-push-in-Page-clause-moves g c = no_value _ c.from_residual.result c.from_residual.ensures.1 _
+returns-in_err-push-in-Page-clause-moves g c = IfOk-from_err c.from_residual.result _ c.from_residual.ensures.0
 
 pub returns-in_err-push-in-Page-clause-onward : goal.returns-in_err-push-in-Page-clause-onward
-returns-in_err-push-in-Page-clause-onward g c = no_value _ c.from_residual.result c.from_residual.ensures.1 _
+returns-in_err-push-in-Page-clause-onward g c = IfOk-from_err c.from_residual.result _ c.from_residual.ensures.0
 
 pub returns-in_err-push-in-Page-clause-leads : goal.returns-in_err-push-in-Page-clause-leads
-returns-in_err-push-in-Page-clause-leads g c head es l = no_value _ c.from_residual.result c.from_residual.ensures.1 _
+returns-in_err-push-in-Page-clause-leads g c head es l = IfOk-from_err c.from_residual.result _ c.from_residual.ensures.0
 
 pub returns-in_err-push-in-Page-clause-less : goal.returns-in_err-push-in-Page-clause-less
-returns-in_err-push-in-Page-clause-less g c = no_value _ c.from_residual.result c.from_residual.ensures.1 _
+returns-in_err-push-in-Page-clause-less g c = IfOk-from_err c.from_residual.result _ c.from_residual.ensures.0
 
 pub returns-in_err-push-in-Page-clause-name : goal.returns-in_err-push-in-Page-clause-name
-returns-in_err-push-in-Page-clause-name g c = no_value _ c.from_residual.result c.from_residual.ensures.1 _
+returns-in_err-push-in-Page-clause-name g c = IfOk-from_err c.from_residual.result _ c.from_residual.ensures.0
 
 pub invariant_of-self-in_err-push-in-Page : goal.invariant_of-self-in_err-push-in-Page
 invariant_of-self-in_err-push-in-Page g c = refused_reading (g.P.Pmem.region c.args.memory.now) c.self.inside c.args.self.now c.look-found.result c.self.invariant c.self.view_is c.in-Page.address c.in-Page.is c.look-found.ensures.onward c.push.new.self c.in_err-push-in-Page.ensures.refused
@@ -65,7 +62,7 @@ pub returns-in_err-push-in-Page-clause-same_log : goal.returns-in_err-push-in-Pa
 returns-in_err-push-in-Page-clause-same_log g c = same_log (g.P.Pmem.region c.args.memory.now) c.self.inside c.args.self.now c.look-found.result c.self.invariant c.self.view_is
 
 pub returns-in_err-push-in-Page-clause-refused : goal.returns-in_err-push-in-Page-clause-refused
-returns-in_err-push-in-Page-clause-refused g c = on_err c.from_residual.result (ap (λ (l : Listed). record { sup = c.self.inside.sup; tail = c.self.inside.tail; place = c.self.inside.place; pages = l.blocks }) c.in_err-push-in-Page.ensures.refused ∙ c.self.view_is)
+returns-in_err-push-in-Page-clause-refused g c = told_err c.from_residual.result (ap (λ (l : Listed). record { sup = c.self.inside.sup; tail = c.self.inside.tail; place = c.self.inside.place; pages = l.blocks }) c.in_err-push-in-Page.ensures.refused ∙ c.self.view_is)
 
 pub invariant_of-self-in-Page : goal.invariant_of-self-in-Page
 invariant_of-self-in-Page g c = page_reading (g.P.Pmem.region c.args.memory.now) c.self.inside c.args.self.now c.look-found.result c.self.invariant c.self.view_is c.in-Page.address c.in-Page.is c.look-found.ensures.onward c.push.new.self c.in_ok-push-in-Page.ensures.pushed c.in_ok-push-in-Page.ensures.few

@@ -1,6 +1,7 @@
 use Rattle.std.proofs.Common.{◌+◌, length, arith, ap, sym, ◌∙◌, is_err}
 use Rattle.nv_region.proofs.Fuses.{keeps_more}
-use Rattle.nv_region.proofs.Lines.{told_err, all_added, one_more, same_stored, first_size}
+use Rattle.nv_region.proofs.Told.{told_err}
+use Rattle.nv_region.proofs.Lines.{all_added, one_more, same_stored, first_size}
 use Rattle.nv_region.proofs.AfterStores.{after_one, stays_burnt}
 use Rattle.nv_region.specs.RegionState.{RegionState}
 use Rattle.nv_region.proofs.memory.MemRegion.store_each.Goals as goal

@@ -1,6 +1,7 @@
 use Rattle.std.proofs.Common.{arith, ap, sym, ◌∙◌, is_err}
 use Rattle.nv_region.proofs.Fuses.{keeps_more}
-use Rattle.nv_region.proofs.Lines.{told_err, all_added, one_more, same_stored, first_size}
+use Rattle.nv_region.proofs.Told.{told_err}
+use Rattle.nv_region.proofs.Lines.{all_added, one_more, same_stored, first_size}
 use Rattle.nv_region.proofs.pmem.Pmem.store_words.Goals as goal
 
 pub store-requires-clause-within : goal.store-requires-clause-within
