@@ -20,9 +20,10 @@ use Rattle.nv_outcome.specs.Parts.{rows_in, faults_in}
 use Rattle.nv_outcome.proofs.RowsOf.{rows_are}
 use Rattle.nv_outcome.proofs.nv_rows.InOrder.{moved_given}
 use Rattle.nv_outcome.proofs.Tickets.{pieces_in_order, one_more_in_order, slot_number}
-use Rattle.nv_recover.specs.declared.scanned.Inodes.{Inodes}
+use Rattle.nv_scan.specs.declared.inodes.Inodes.{Inodes}
 use Rattle.nv_scan.specs.ClaimList.{ClaimList}
-use Rattle.nv_recover.specs.Scanned.{AreInodes, AreFirst, AreApart, IsNext}
+use Rattle.nv_scan.specs.Kept.{Keeps, IsPieceBy}
+use Rattle.nv_recover.specs.Scanned.{AreInodes, AreFirst, AreApart}
 
 -- ---- one inode more
 
@@ -36,9 +37,9 @@ module _ {R : Region} {s : Super} where
   pub first_none : {x : Inodes} → x.rows.items ≡ [] → x.faults.items ≡ [] → AreFirst R s 1 [] x
   first_none rows faults = record { order = refl; each = tt; rows = rows; faults = faults }
 
-  pub first_more : {n : ℕ} {ps : List Piece} {old new : Inodes} {claims : ClaimList} → 0 < n → AreFirst R s n ps old → (next : IsNext R s n old new claims) → AreFirst R s (n + 1) (ps ++ next.piece ∷ []) new
+  pub first_more : {n : ℕ} {ps : List Piece} {old new : Inodes} {claims : ClaimList} → 0 < n → AreFirst R s n ps old → (next : Keeps (IsPieceBy R s n) old new claims) → AreFirst R s (n + 1) (ps ++ next.piece ∷ []) new
   first_more {n} {ps} some first next =
-      let more = one_more_in_order R s ps next.piece (n - 1) first.order first.each (omega (arith, next.number, some)) next.is in
+      let more = one_more_in_order R s ps next.piece (n - 1) first.order first.each (let number = next.is.0 in omega (arith, number, some)) next.is.1 in
       let count : n - 1 + 1 ≡ n + 1 - 1 = omega (arith, some) in record {
         order = more.0 ∙ ap (range_with_len 1) count;
         each = more.1;

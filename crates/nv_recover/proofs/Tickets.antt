@@ -16,7 +16,7 @@ use Rattle.nv_scan.specs.declared.piece.Row.{Row}
 use Rattle.nv_scan.specs.declared.piece.Piece.{Piece}
 use Rattle.nv_scan.proofs.Work.{AtSlot, behind, claims_join, rows_join, faults_join, pieces_none, pieces_join}
 use Rattle.nv_outcome.specs.Parts.{rows_in, faults_in}
-use Rattle.nv_recover.specs.declared.scanned.Inodes.{Inodes}
+use Rattle.nv_scan.specs.declared.inodes.Inodes.{Inodes}
 use Rattle.nv_recover.specs.Scanned.{AreNext, AreOfTickets, all_claims}
 
 module _ {R : Region} {s : Super} where

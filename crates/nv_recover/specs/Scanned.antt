@@ -1,7 +1,7 @@
 -- What a scan of all inodes gives, whichever way it goes.
-use Rattle.std.specs.Prelude.{◌≡◌, ℕ, ◌*◌, ◌/◌, ◌<◌, ◌≤◌, ◌-◌, min, List, [], ◌++◌, length, map, Vec, IsTrue, if◌then◌else◌}
+use Rattle.std.specs.Prelude.{◌≡◌, ℕ, ◌*◌, ◌/◌, ◌<◌, ◌≤◌, ◌-◌, min, List, ◌++◌, length, map, Vec, IsTrue, if◌then◌else◌}
 use Rattle.std.specs.declared.alloc.Global.{Global}
-use Rattle.std.specs.List.{All, AllByRecursion, flat_map, cons_option, range_with_len}
+use Rattle.std.specs.List.{All, AllByRecursion, flat_map, range_with_len}
 use Rattle.std.specs.List.Sorted.{IsPermutation}
 use Rattle.nv_blockset.specs.BlockSet.{is_set, has, with_block}
 use Rattle.nv_region.specs.Region.{Region}
@@ -12,16 +12,15 @@ use Rattle.nv_super.specs.Layout.{inode_limit, is_number, fixed_layout}
 use Rattle.nv_super.specs.Order.{fault_key, Lists}
 use Rattle.nv_claimcore.specs.Finished.{works_of}
 use Rattle.nv_claimmap.specs.declared.map.Claimed.{Claimed}
-use Rattle.nv_scan.specs.ClaimList.{ClaimList}
 use Rattle.nv_scan.specs.Rows.{IsPiece}
 use Rattle.nv_scan.specs.Work.{numbers_in, claims_in, ArePiecesOf}
+use Rattle.nv_scan.specs.declared.inodes.Inodes.{Inodes}
 use Rattle.nv_scan.specs.declared.piece.Row.{Row}
 use Rattle.nv_scan.specs.declared.piece.Piece.{Piece}
 use Rattle.nv_outcome.specs.nv_rows.nv_numbered.Values.{AreNumbersBelow}
 use Rattle.nv_outcome.specs.nv_check.Cross.{IsCrossFaultIn}
 use Rattle.nv_outcome.specs.nv_check.Doubled.{AreDoubled}
 use Rattle.nv_outcome.specs.Parts.{ArePieces, AreMaps, rows_in, faults_in, double_fault}
-use Rattle.nv_recover.specs.declared.scanned.Inodes.{Inodes}
 use Rattle.nv_recover.specs.declared.scanned.Owned.{Owned}
 use Rattle.nv_recover.specs.declared.scanned.Scanned.{Scanned}
 
@@ -32,15 +31,6 @@ pub record AreInodes (R : Region) (s : Super) (pieces : List Piece) (x : Inodes)
   pub pieces_are : ArePieces R (fixed_layout s) pieces
   pub rows : IsPermutation (rows_in pieces) x.rows.items
   pub faults : IsPermutation (faults_in pieces) x.faults.items
-
--- A piece of this inode: its row and its faults were put behind the others, and its claims are these.
-pub record IsNext (R : Region) (s : Super) (inode : ℕ) (old new : Inodes) (claims : ClaimList) : Type 0 where
-  pub piece : Piece
-  pub is : IsPiece R (fixed_layout s) piece
-  pub number : piece.inode ≡ inode
-  pub rows : new.rows.items ≡ old.rows.items ++ cons_option piece.row []
-  pub faults : new.faults.items ≡ old.faults.items ++ piece.faults.items
-  pub claims_are : piece.claims ≡ claims
 
 -- the claims in these lists, one list after the other
 abbrev pub all_claims : List (Vec (ℕ × Owner) Global) → List (ℕ × Owner)

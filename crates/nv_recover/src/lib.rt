@@ -10,7 +10,6 @@ mod one;
 mod parallel;
 mod replaying;
 mod scanned;
-mod scanning;
 mod sets;
 mod starting;
 mod workers;

@@ -19,13 +19,12 @@ ghost use Rattle.nv_recover.specs.Scanned.{AreInodes, AreSetsOf, IsScanned};
 
 use crate::errors::RecoverError;
 use crate::finishing::finish;
-use crate::scanned::{Inodes, Scanned};
-use crate::scanning::scan_next;
+use crate::scanned::Scanned;
 use crate::sets::Sets;
 use crate::starting::start;
 use nv_outcome::{Recovered, cross_faults_one};
 use nv_region::Pmem;
-use nv_scan::Scanner;
+use nv_scan::{Inodes, Scanner};
 use nv_super::Super;
 use std::alloc::{AllocError, Global};
 
@@ -94,7 +93,7 @@ fn scan_in_order<P: Pmem>(
     let mut inodes = Inodes::new(alloc);
     let mut sets = Sets::new(alloc, sup)?;
     for inode in 1..sup.max_inode() + 1 {
-        let claims = scan_next(memory, &mut scanner, &mut inodes, inode)?;
+        let claims = scanner.scan(memory, inode, &mut inodes)?;
         sets.claim_all(&claims);
         scanner.reuse(claims);
     }

@@ -23,14 +23,14 @@ ghost use Rattle.nv_recover.specs.Scanned.{AreInodes, IsScanned, AreClaimedSets,
 
 use crate::errors::RecoverError;
 use crate::finishing::finish;
-use crate::scanned::{Inodes, Scanned};
+use crate::scanned::Scanned;
 use crate::sets::owned_of;
 use crate::starting::{is_worker_count, start};
 use nv_claimcore::{ClaimState, CoreRefusal, replay};
 use nv_claimmap::Claimed;
 use nv_outcome::{Recovered, cross_faults_one};
 use nv_region::Pmem;
-use nv_scan::{Piece, SLOTS, Scanner, ticket_count};
+use nv_scan::{Inodes, SLOTS, Scanner, ticket_count};
 use nv_super::{Owner, Super};
 use std::alloc::{AllocError, Global};
 
@@ -140,14 +140,7 @@ fn scan_ticket<P: Pmem>(
 {
     let mut list = Vec::new(alloc);
     for slot in 0..SLOTS {
-        if let Some(piece) = scanner.scan_place(memory, SLOTS * ticket + slot)? {
-            let Piece {
-                inode: _,
-                row,
-                claims,
-                faults,
-            } = piece;
-            inodes.push(row, &faults)?;
+        if let Some(claims) = scanner.scan_place(memory, SLOTS * ticket + slot, inodes)? {
             list.extend_from_slice(&claims.to_list(alloc)?)?;
             scanner.reuse(claims);
         }

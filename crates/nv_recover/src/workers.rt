@@ -12,11 +12,10 @@ ghost use Rattle.nv_scan.specs.declared.piece.Piece.{Piece as PieceValue};
 ghost use Rattle.nv_recover.specs.Scanned.{AreInodes, AreClaimed};
 ghost use Rattle.nv_recover.specs.Workers.{IsBrought};
 
-use crate::scanned::Inodes;
 use nv_claimcore::Sizes;
 use nv_claimmap::{ClaimMap, ClaimSeat, Claimed};
 use nv_region::Pmem;
-use nv_scan::{Gate, WorkerResult, ticket_count, worker};
+use nv_scan::{Gate, Inodes, WorkerResult, ticket_count, worker};
 use nv_super::Super;
 use std::alloc::{AllocError, Global};
 use std::thread;

@@ -29,12 +29,12 @@ read_more R head s kind i created r r' old new found x so_far goes is p q t = re
 }
 
 -- the whole log, once its end is found
-pub read_whole : (R : Region) (s : Super) (kind : Kind) (i : ℕ) (slot : Slot) (r r' : Progress) (found : Finding) (read : Read)
-    → IsReadSoFar R slot.head kind i slot.created r read.fold → ((h : ℕ) (es : List Placed) → Leads R h r es → Continues R h r' es found) → found ≡ End read.fault
-    → r.sup ≡ s → r'.sup ≡ s → r'.tail ≡ slot.tail → read.pages.items ≡ r'.pages → IsRead R s i kind slot read
-read_whole R s kind i slot r r' found read so_far goes is p q t pages = record {
+pub read_whole : (R : Region) (s : Super) (kind : Kind) (i : ℕ) (slot : Slot) (r r' : Progress) (fold : Fold) (found : Finding) (read : Read)
+    → IsReadSoFar R slot.head kind i slot.created r fold → ((h : ℕ) (es : List Placed) → Leads R h r es → Continues R h r' es found) → found ≡ End read.fault
+    → r.sup ≡ s → r'.sup ≡ s → r'.tail ≡ slot.tail → read.pages.items ≡ r'.pages → IsRead R s i kind slot fold read
+read_whole R s kind i slot r r' fold found read so_far goes is p q t pages = record {
   entries = so_far.entries;
   reads = subst (λ (z : Super × ℕ × List ℕ). Reads R z.0 slot.head z.1 so_far.entries z.2 read.fault) (λ k. (q k, t k, sym pages k))
       (subst (λ (f : Finding). Continues R slot.head r' so_far.entries f) is (goes slot.head so_far.entries so_far.leads));
-  holds = subst (λ (n : Super). Holds n kind i slot.created so_far.entries read.fold) p so_far.holds;
+  holds = subst (λ (n : Super). Holds n kind i slot.created so_far.entries fold) p so_far.holds;
 }

@@ -1,27 +1,36 @@
--- The steps of a scan, with the outcome that a call may have.
-use Rattle.std.proofs.Common.{◌≡◌, ◌∙◌, ℕ, ◌≢◌, true, false, List, [], refl, sym, subst, Option, Some, None, Result, IsTrue, arith}
+-- The steps of a scan, with what is kept after each.
+use Rattle.std.proofs.Common.{◌≡◌, ◌∙◌, ℕ, ◌≢◌, ◌<◌, ◌+◌, ◌-◌, ◌^◌, ◌++◌, length, slice_index_or, true, false, List, [], ap, refl, sym, subst, append-nil, Option, Some, None, Result, IsTrue, arith}
 use Rattle.std.specs.Result.{IfOk}
+use Rattle.std.specs.Option.{MatchOption}
+use Rattle.std.specs.List.{cons_option}
 use Rattle.std.proofs.lemmas.Result.{IfOk-weaker}
 use Rattle.nv_region.specs.Region.{Region, word}
 use Rattle.nv_super.specs.declared.superblock.Super.{Super}
 use Rattle.nv_super.specs.declared.kind.Kind.{Kind}
 use Rattle.nv_super.specs.declared.faults.Fault.{Fault}
 use Rattle.nv_super.specs.declared.faults.Fault.TheVariants as faults
-use Rattle.nv_super.specs.Layout.{IsLayout, HasAreas, is_number, slot_address, fixed_layout}
+use Rattle.nv_super.specs.Layout.{Layout, IsLayout, HasAreas, is_number, slot_address, fixed_layout}
 use Rattle.nv_inode.specs.declared.slot.Slot.{Slot}
 use Rattle.nv_inode.specs.Slot.{slot_at, kind_of, is_right_log}
 use Rattle.nv_logpage.specs.declared.found.Placed.{Placed}
 use Rattle.nv_radix.specs.Runs.{block_by}
+use Rattle.nv_scan.specs.ClaimList.{ClaimList}
 use Rattle.nv_scan.specs.Claims.{AreSmall}
-use Rattle.nv_scan.specs.Faults.{IsFaultOf, i1, i2}
+use Rattle.nv_scan.specs.Faults.{HasOnce, IsFaultOf, i1, i2}
 use Rattle.nv_scan.specs.Fold.{Holds}
+use Rattle.nv_scan.specs.Inode.{Log, IsInUse}
+use Rattle.nv_scan.specs.Kept.{Keeps, IsPieceBy}
+use Rattle.nv_scan.specs.Owners.{AreClaims}
 use Rattle.nv_scan.specs.Reading.{IsRead}
-use Rattle.nv_scan.specs.Rows.{IsPiece}
+use Rattle.nv_scan.specs.Rows.{IsRow, IsPiece}
 use Rattle.nv_scan.specs.Scanned.{fault_of_end, IsPieceOf, IsEmptyPiece}
 use Rattle.nv_scan.specs.declared.fold.Fold.{Fold}
+use Rattle.nv_scan.specs.declared.inodes.Inodes.{Inodes}
+use Rattle.nv_scan.specs.declared.piece.Row.{Row}
 use Rattle.nv_scan.specs.declared.piece.Piece.{Piece}
 use Rattle.nv_scan.specs.declared.reading.Read.{Read}
 use Rattle.nv_scan.proofs.Blocks.{data_pages}
+use Rattle.nv_scan.proofs.Existing.{vec_of, vec_items}
 use Rattle.nv_scan.proofs.Pieces.{slot_is, right_piece, wrong_piece, empty_piece}
 
 -- the pages and blocks of a file are small
@@ -31,42 +40,85 @@ holds_small s kind i created entries f areas h = λ p b e.
     let most = areas.blocks_to in
     (omega (arith, d.0), omega (arith, d.2, most))
 
-pub right_result : {E : Type 0} (R : Region) (s : Super) (i : ℕ) (kind : Kind) (slot : Slot) (read : Read) (fault : Option Fault) (result : Result Piece E) → IsLayout s → IsTrue (is_number s i)
-    → slot ≡ slot_at R (slot_address s i) → kind_of slot ≡ Some kind → is_right_log s slot.head slot.tail ≡ true → IsRead R s i kind slot read → fault ≡ fault_of_end i read.fault
-    → IfOk result (λ p. IsPieceOf i kind slot read.pages.items read.fold fault p) → IfOk result (λ p. IsPiece R (fixed_layout s) p)
-right_result R s i kind slot read fault result layout number words is_kind is_right r by of =
-    IfOk-weaker result (IsPieceOf i kind slot read.pages.items read.fold fault) (IsPiece R (fixed_layout s))
-    (λ p h. right_piece R s i kind slot read p layout number words is_kind is_right r (subst (λ (f : Option Fault). IsPieceOf i kind slot read.pages.items read.fold f p) by h)) of
+-- ---- the piece of an inode with its number
 
-pub wrong_result : {E : Type 0} (R : Region) (s : Super) (i : ℕ) (kind : Kind) (slot : Slot) (fold : Fold) (pages : List ℕ) (result : Result Piece E) → IsLayout s → IsTrue (is_number s i)
+pub right_one : (R : Region) (s : Super) (i : ℕ) (kind : Kind) (slot : Slot) (fold : Fold) (read : Read) (fault : Option Fault) → IsLayout s → IsTrue (is_number s i)
+    → slot ≡ slot_at R (slot_address s i) → kind_of slot ≡ Some kind → is_right_log s slot.head slot.tail ≡ true → IsRead R s i kind slot fold read → fault ≡ fault_of_end i read.fault
+    → (p : Piece) → IsPieceOf i kind slot read.pages.items fold fault p → IsPieceBy R s i p
+right_one R s i kind slot fold read fault layout number words is_kind is_right r by p of =
+    (of.inode, right_piece R s i kind slot fold read p layout number words is_kind is_right r (subst (λ (f : Option Fault). IsPieceOf i kind slot read.pages.items fold f p) by of))
+
+pub wrong_one : (R : Region) (s : Super) (i : ℕ) (kind : Kind) (slot : Slot) (fold : Fold) (pages : List ℕ) → IsLayout s → IsTrue (is_number s i)
     → slot ≡ slot_at R (slot_address s i) → kind_of slot ≡ Some kind → is_right_log s slot.head slot.tail ≡ false → Holds s kind i slot.created [] fold → pages ≡ []
-    → IfOk result (λ p. IsPieceOf i kind slot pages fold (Some (faults.I3 i)) p) → IfOk result (λ p. IsPiece R (fixed_layout s) p)
-wrong_result R s i kind slot fold pages result layout number words is_kind is_wrong h none of =
-    IfOk-weaker result (IsPieceOf i kind slot pages fold (Some (faults.I3 i))) (IsPiece R (fixed_layout s))
-    (λ p q. wrong_piece R s i kind slot fold p layout number words is_kind is_wrong h (subst (λ (ps : List ℕ). IsPieceOf i kind slot ps fold (Some (faults.I3 i)) p) none q)) of
-
-pub piece_number : {E : Type 0} (i : ℕ) (kind : Kind) (slot : Slot) (pages : List ℕ) (fold : Fold) (fault : Option Fault) (result : Result Piece E)
-    → IfOk result (λ p. IsPieceOf i kind slot pages fold fault p) → IfOk result (λ p. p.inode ≡ i)
-piece_number i kind slot pages fold fault result of = IfOk-weaker result (IsPieceOf i kind slot pages fold fault) (λ p. p.inode ≡ i) (λ p h. h.inode) of
+    → (p : Piece) → IsPieceOf i kind slot pages fold (Some (faults.I3 i)) p → IsPieceBy R s i p
+wrong_one R s i kind slot fold pages layout number words is_kind is_wrong h none p of =
+    (of.inode, wrong_piece R s i kind slot fold p layout number words is_kind is_wrong h (subst (λ (ps : List ℕ). IsPieceOf i kind slot ps fold (Some (faults.I3 i)) p) none of))
 
 -- a slot that was never used
-pub unused_result : {E : Type 0} (R : Region) (s : Super) (i : ℕ) (result : Result Piece E) → IsLayout s → IsTrue (is_number s i) → kind_of (slot_at R (slot_address s i)) ≡ None
-    → word R (slot_address s i) ≡ 0 → IfOk result (λ p. IsEmptyPiece i None p) → IfOk result (λ p. IsPiece R (fixed_layout s) p)
-unused_result R s i result layout number no_kind zero_word of = IfOk-weaker result (IsEmptyPiece i None) (IsPiece R (fixed_layout s))
-    (λ p h. empty_piece R s i None p layout number no_kind (λ f e. absurd (cc)) (λ big. absurd (omega arith)) (λ one. absurd (omega arith)) h) of
+pub unused_one : (R : Region) (s : Super) (i : ℕ) → IsLayout s → IsTrue (is_number s i) → kind_of (slot_at R (slot_address s i)) ≡ None → word R (slot_address s i) ≡ 0
+    → (p : Piece) → IsEmptyPiece i None p → IsPieceBy R s i p
+unused_one R s i layout number no_kind zero_word p e =
+    (e.inode, empty_piece R s i None p layout number no_kind (λ f e. absurd (cc)) (λ big. absurd (omega arith)) (λ one. absurd (omega arith)) e)
 
 -- a slot whose valid word is neither 0 nor 1
-pub bad_valid_result : {E : Type 0} (R : Region) (s : Super) (i : ℕ) (result : Result Piece E) → IsLayout s → IsTrue (is_number s i) → kind_of (slot_at R (slot_address s i)) ≡ None
-    → word R (slot_address s i) ≢ 0 → word R (slot_address s i) ≢ 1 → IfOk result (λ p. IsEmptyPiece i (Some (faults.I1 i)) p) → IfOk result (λ p. IsPiece R (fixed_layout s) p)
-bad_valid_result R s i result layout number no_kind not_zero not_one of = IfOk-weaker result (IsEmptyPiece i (Some (faults.I1 i))) (IsPiece R (fixed_layout s))
-    (λ p h. empty_piece R s i (Some (faults.I1 i)) p layout number no_kind
-    (λ f e. (let same : faults.I1 i ≡ f = cc in subst (IsFaultOf R (fixed_layout s) i) same (i1 (slot_is s i layout number) (omega (arith, not_zero, not_one)))))
-    (λ big. refl) (λ one. absurd (not_one one)) h) of
+pub bad_valid_one : (R : Region) (s : Super) (i : ℕ) → IsLayout s → IsTrue (is_number s i) → kind_of (slot_at R (slot_address s i)) ≡ None → word R (slot_address s i) ≢ 0 → word R (slot_address s i) ≢ 1
+    → (p : Piece) → IsEmptyPiece i (Some (faults.I1 i)) p → IsPieceBy R s i p
+bad_valid_one R s i layout number no_kind not_zero not_one p e = (
+  e.inode,
+  empty_piece R s i (Some (faults.I1 i)) p layout number no_kind
+      (λ f e. (let same : faults.I1 i ≡ f = cc in subst (IsFaultOf R (fixed_layout s) i) same (i1 (slot_is s i layout number) (omega (arith, not_zero, not_one)))))
+      (λ big. refl) (λ one. absurd (not_one one)) e,
+)
 
 -- a valid slot of no kind
-pub bad_kind_result : {E : Type 0} (R : Region) (s : Super) (i : ℕ) (result : Result Piece E) → IsLayout s → IsTrue (is_number s i) → kind_of (slot_at R (slot_address s i)) ≡ None
-    → word R (slot_address s i) ≡ 1 → IfOk result (λ p. IsEmptyPiece i (Some (faults.I2 i)) p) → IfOk result (λ p. IsPiece R (fixed_layout s) p)
-bad_kind_result R s i result layout number no_kind valid of = IfOk-weaker result (IsEmptyPiece i (Some (faults.I2 i))) (IsPiece R (fixed_layout s))
-    (λ p h. empty_piece R s i (Some (faults.I2 i)) p layout number no_kind
-    (λ f e. (let same : faults.I2 i ≡ f = cc in subst (IsFaultOf R (fixed_layout s) i) same (i2 (slot_is s i layout number) valid no_kind)))
-    (λ big. absurd (omega arith)) (λ one. refl) h) of
+pub bad_kind_one : (R : Region) (s : Super) (i : ℕ) → IsLayout s → IsTrue (is_number s i) → kind_of (slot_at R (slot_address s i)) ≡ None → word R (slot_address s i) ≡ 1
+    → (p : Piece) → IsEmptyPiece i (Some (faults.I2 i)) p → IsPieceBy R s i p
+bad_kind_one R s i layout number no_kind valid p e = (
+  e.inode,
+  empty_piece R s i (Some (faults.I2 i)) p layout number no_kind
+      (λ f e. (let same : faults.I2 i ≡ f = cc in subst (IsFaultOf R (fixed_layout s) i) same (i2 (slot_is s i layout number) valid no_kind)))
+      (λ big. absurd (omega arith)) (λ one. refl) e,
+)
+
+-- ---- what is kept of it
+
+-- what holds of a piece that is kept
+pub keeps_more : {E : Type 0} {P Q : Piece → Type 0} (result : Result ClaimList E) (old new : Inodes) → ((p : Piece) → P p → Q p) → IfOk result (Keeps P old new) → IfOk result (Keeps Q old new)
+keeps_more {P = P} {Q = Q} result old new more kept = IfOk-weaker result (Keeps P old new) (Keeps Q old new)
+    (λ claims k. record { piece = k.piece; is = more k.piece k.is; rows = k.rows; faults = k.faults; claims_are = k.claims_are }) kept
+
+-- fewer than can be told
+one_fault : (o : Option Fault) → length (cons_option o []) < 2 ^ 63
+one_fault None = omega arith
+one_fault (Some f) = omega arith
+
+-- the piece of an inode that isn't in use
+abbrev fault_piece : ℕ → Option Fault → ClaimList → Piece
+fault_piece i fault claims = record { inode = i; row = None; claims = claims; faults = vec_of (cons_option fault []) (one_fault fault) }
+
+-- its fault is kept
+pub keeps_fault : (i : ℕ) (fault : Option Fault) (old new : Inodes) (claims : ClaimList) → claims.items ≡ [] → new.rows.items ≡ old.rows.items → new.faults.items ≡ old.faults.items ++ cons_option fault []
+    → Keeps (IsEmptyPiece i fault) old new claims
+keeps_fault i fault old new claims none rows faults = record {
+  piece = fault_piece i fault claims;
+  is = record { inode = refl; row = refl; claims = none; faults = vec_items (cons_option fault []) (one_fault fault) };
+  rows = rows ∙ sym (append-nil old.rows.items);
+  faults = faults ∙ ap (λ (fs : List Fault). old.faults.items ++ fs) (sym (vec_items (cons_option fault []) (one_fault fault)));
+  claims_are = refl;
+}
+
+-- two pieces that tell the same are of the same inode
+pub same_piece : {R : Region} {l : Layout} (p q : Piece) → p.inode ≡ q.inode → p.row ≡ q.row → p.claims ≡ q.claims → p.faults.items ≡ q.faults.items → IsPiece R l p → IsPiece R l q
+same_piece {R} {l} p q inode row claims faults is = record {
+  row = subst (λ (x : ℕ × Option Row). MatchOption x.1 (IsInUse R l x.0 → ⊥) (λ r. (r.inode ≡ x.0) × (a : ℕ) × (log : Log) × IsRow R l a log r)) (λ i. (inode i, row i)) is.row;
+  claims = subst (λ (x : ℕ × ClaimList). AreClaims R l x.0 x.1.items) (λ i. (inode i, claims i)) is.claims;
+  faults = subst (λ (x : ℕ × List Fault). HasOnce (IsFaultOf R l x.0) x.1) (λ i. (inode i, faults i)) is.faults;
+}
+
+-- the one row that there may be is the last of so many
+pub last_only : (row popped : Option Row) (rows : List Row) (n m : ℕ) → n ≡ length rows → rows ≡ cons_option row [] → MatchOption popped ((n ≡ 0) × (m ≡ 0)) (λ _. m + 1 ≡ n)
+    → ((d : Row) → 0 < n → popped ≡ Some (slice_index_or rows (n - 1) d)) → row ≡ popped
+last_only None None rows n m long is cases value = refl
+last_only None (Some other) rows n m long is cases value = let none : n ≡ 0 = long ∙ ap length is in absurd (omega (arith, none, cases))
+last_only (Some row) popped rows n m long is cases value =
+    let one : n ≡ 1 = long ∙ ap length is in sym (value row (omega (arith, one)) ∙ (λ i. Some (slice_index_or (is i) (one i - 1) row)))

@@ -10,6 +10,7 @@ pub mod ClaimList
 pub mod Claims
 pub mod Scanned
 pub mod Tickets
+pub mod Kept
 pub mod Work
 pub mod Scanner
 pub mod Claiming

@@ -12,10 +12,10 @@ use Rattle.nv_scan.specs.declared.fold.Fold.{Fold}
 use Rattle.nv_scan.specs.declared.reading.Read.{Read}
 
 -- The pages and the fault are those of the slot's log, and what is kept is what its entries say.
-pub record IsRead (R : Region) (s : Super) (i : ℕ) (kind : Kind) (slot : Slot) (read : Read) : Type 0 where
+pub record IsRead (R : Region) (s : Super) (i : ℕ) (kind : Kind) (slot : Slot) (fold : Fold) (read : Read) : Type 0 where
   pub entries : List Placed
   pub reads : Reads R s slot.head slot.tail entries read.pages.items read.fault
-  pub holds : Holds s kind i slot.created entries read.fold
+  pub holds : Holds s kind i slot.created entries fold
 
 -- The entries that were read so far lead to where the reader is, and what is kept is what they say.
 pub record IsReadSoFar (R : Region) (head : ℕ) (kind : Kind) (i created : ℕ) (reader : Progress) (fold : Fold) : Type 0 where

@@ -1,6 +1,6 @@
 //! The state of an inode as its log is read: one entry at a time, of which none is kept.
 
-ghost use Rattle.std.specs.Prelude.{◌≡◌, ◌++◌, ℕ, OnOk, [], true, is_none};
+ghost use Rattle.std.specs.Prelude.{◌≡◌, ◌++◌, ℕ, OnErr, OnOk, [], true, is_none};
 ghost use Rattle.std.specs.List.{cons_option};
 ghost use Rattle.nv_entry.specs.Content.{content_fault};
 ghost use Rattle.nv_entry.specs.Light.{bare, name_in, CanBeRead, HasName};
@@ -149,7 +149,8 @@ impl Fold {
 
 /// Puts a fault behind the others, if there is one.
 pub(crate) fn push_fault(faults: &mut Vec<Fault>, fault: Option<Fault>) -> Result<(), AllocError>
-    ensures { OnOk result (faults.new.items ≡ faults.old.items ++ cons_option fault []) }
+    ensures pushed { OnOk result (faults.new.items ≡ faults.old.items ++ cons_option fault []) }
+    ensures refused { OnErr result (faults.new.items ≡ faults.old.items) }
 {
     if let Some(fault) = fault {
         faults.push(fault)?;

@@ -10,6 +10,7 @@ mod claiming;
 mod claims;
 mod fold;
 mod in_use;
+mod inodes;
 mod laws;
 mod names;
 mod numbers;
@@ -22,6 +23,7 @@ mod touching;
 mod working;
 
 pub use claims::{Claims, claims_of_rows};
+pub use inodes::Inodes;
 pub use laws::{
     directories_have_no_pages, files_have_no_names, in_use_by_the_slot, inode_alone,
     mapped_pages_begin_below_the_size, names_are_listed, one_block, one_inode,

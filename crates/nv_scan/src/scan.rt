@@ -1,22 +1,26 @@
 //! One inode: its slot and its log become its row, the blocks that it claims and its faults.
 
-ghost use Rattle.std.specs.Prelude.{◌≡◌, ◌<◌, ◌++◌, [], ℕ, IfOk, IfSome, IsTrue, None, OnOk, Some, false, true};
+ghost use Rattle.std.specs.Prelude.{◌≡◌, ◌<◌, ◌++◌, ◌∷◌, [], ℕ, IfOk, IfSome, IsTrue, OnErr, OnOk, Some, false, true};
 ghost use Rattle.std.specs.List.{cons_option};
 ghost use Rattle.nv_region.specs.Region.{HasBlocks};
 ghost use Rattle.nv_super.specs.Layout.{IsLayout, HasAreas, inode_limit, is_number, slot_address, fixed_layout};
 ghost use Rattle.nv_super.specs.Order.{Lists, owner_key};
 ghost use Rattle.nv_inode.specs.Slot.{slot_at, kind_of, is_right_log};
-ghost use Rattle.nv_logpage.specs.Progress.{at_head};
 ghost use Rattle.nv_radix.specs.Pages.{block_at};
 ghost use Rattle.nv_radix.specs.Runs.{block_by};
+ghost use Rattle.nv_logpage.specs.Progress.{at_head};
 ghost use Rattle.nv_scan.specs.Claims.{AreSmall, IsClaim};
+ghost use Rattle.nv_scan.specs.Reading.{IsRead};
+ghost use Rattle.nv_scan.specs.Fold.{Holds};
 ghost use Rattle.nv_scan.specs.Rows.{IsPiece};
 ghost use Rattle.nv_scan.specs.Scanned.{IsPieceOf, IsEmptyPiece, fault_of_end};
-ghost use Rattle.nv_scan.specs.Tickets.{IsBlank, IsFound, HasValidWord, number_at};
+ghost use Rattle.nv_scan.specs.Tickets.{IsBlank, HasValidWord, number_at};
+ghost use Rattle.nv_scan.specs.Kept.{Keeps, KeepsFound, IsPieceBy, SameInodes};
 
 use crate::claims::{Claims, claims_of};
 use crate::fold::{Fold, push_fault};
 use crate::in_use::InUse;
+use crate::inodes::Inodes;
 use crate::piece::{LogPages, Piece, Row};
 use crate::reading::{Read, read_log};
 use crate::tickets::number_at;
@@ -69,36 +73,48 @@ impl Scanner {
         }
     }
 
-    /// Scans one inode: the words of its slot, and each page of its log once. Memory is taken for the pages, the
-    /// indexes, the claims and the faults, and not for the entries; and, at the first log, for the reader. After a
-    /// refusal the scanner can be used on. It is quickest where the numbers rise.
+    /// Scans one inode: the words of its slot, and each page of its log once. Its row, if it is in use, and its faults are put
+    /// behind those that are kept, and what it claims is handed on. Memory is taken for the pages, the indexes, the claims
+    /// and the faults, and not for the entries; and, at the first log, for the reader. It is quickest where the numbers rise.
+    ///
+    /// Errors: `AllocError` where a growth was refused. What is kept stays as it was, and the scanner can be used on.
     // A caller that doesn't see into it can't leave the touching out.
     #[inline(never)]
-    pub fn scan<P: Pmem>(&mut self, memory: &P, inode: u64) -> Result<Piece, AllocError>
+    pub fn scan<P: Pmem>(
+        &mut self,
+        memory: &P,
+        inode: u64,
+        inodes: &mut Inodes,
+    ) -> Result<Claims, AllocError>
         requires blocks { HasBlocks (P.region memory.now) self.old.blocks }
         requires number { IsTrue (is_number self.old inode) }
         ensures same { self.new ≡ self.old }
-        ensures number { IfOk result (λ piece. piece.inode ≡ inode) }
-        ensures piece { IfOk result (λ piece. IsPiece (P.region memory.now) (fixed_layout self.old) piece) }
+        ensures kept { IfOk result (Keeps (IsPieceBy (P.region memory.now) self.old inode) inodes.old inodes.new) }
+        ensures refused { OnErr result (SameInodes inodes.old inodes.new) }
     {
         self.touched = touch_numbers(memory, &self.sup, inode);
-        self.scan_one(memory, inode)
+        self.scan_one(memory, inode, inodes)
     }
 
     /// The same, where the inodes come in any order.
-    fn scan_one<P: Pmem>(&mut self, memory: &P, inode: u64) -> Result<Piece, AllocError>
+    fn scan_one<P: Pmem>(
+        &mut self,
+        memory: &P,
+        inode: u64,
+        inodes: &mut Inodes,
+    ) -> Result<Claims, AllocError>
         requires blocks { HasBlocks (P.region memory.now) self.old.blocks }
         requires number { IsTrue (is_number self.old inode) }
         ensures same { self.new ≡ self.old }
-        ensures number { IfOk result (λ piece. piece.inode ≡ inode) }
-        ensures piece { IfOk result (λ piece. IsPiece (P.region memory.now) (fixed_layout self.old) piece) }
+        ensures kept { IfOk result (Keeps (IsPieceBy (P.region memory.now) self.old inode) inodes.old inodes.new) }
+        ensures refused { OnErr result (SameInodes inodes.old inodes.new) }
     {
         let alloc = self.alloc;
         let slot = read_slot(memory, &self.sup, inode);
         match slot.state() {
-            SlotState::Unused => without_row(alloc, inode, None),
-            SlotState::BadValid => without_row(alloc, inode, Some(Fault::I1 { inode })),
-            SlotState::BadKind => without_row(alloc, inode, Some(Fault::I2 { inode })),
+            SlotState::Unused => keep_fault(alloc, inode, None, inodes),
+            SlotState::BadValid => keep_fault(alloc, inode, Some(Fault::I1 { inode }), inodes),
+            SlotState::BadKind => keep_fault(alloc, inode, Some(Fault::I2 { inode }), inodes),
             SlotState::InUse(kind) => scan_log(
                 alloc,
                 memory,
@@ -106,31 +122,36 @@ impl Scanner {
                 &mut self.reader,
                 &mut self.runs,
                 &InUse { inode, kind, slot },
+                inodes,
             ),
         }
     }
 
-    /// Scans the inode whose slot has this place in the tables. None where nothing is to be told of it: at the place of
-    /// number 0, and where the valid word is 0, which is all that is read of it then. At the first place of a table block
-    /// the logs of its inodes are touched.
+    /// Scans the inode whose slot has this place in the tables, and keeps what it is. None where nothing is to be told of
+    /// it: at the place of number 0, and where the valid word is 0, which is all that is read of it then. At the first place
+    /// of a table block the logs of its inodes are touched.
+    ///
+    /// Errors: `AllocError` where a growth was refused. What is kept stays as it was, and the scanner can be used on.
     // A caller that doesn't see into it can't leave the touching out.
     #[inline(never)]
     pub fn scan_place<P: Pmem>(
         &mut self,
         memory: &P,
         place: u64,
-    ) -> Result<Option<Piece>, AllocError>
+        inodes: &mut Inodes,
+    ) -> Result<Option<Claims>, AllocError>
         requires blocks { HasBlocks (P.region memory.now) self.old.blocks }
         requires place { place < inode_limit self.old }
         ensures same { self.new ≡ self.old }
-        ensures found { IfOk result (IsFound (P.region memory.now) self.old (number_at self.old place)) }
+        ensures kept { IfOk result (KeepsFound (P.region memory.now) self.old (number_at self.old place) inodes.old inodes.new) }
+        ensures refused { OnErr result (SameInodes inodes.old inodes.new) }
     {
         self.touched = touch_block(memory, &self.sup, place);
         if is_blank(memory, &self.sup, place) {
             return Ok(None);
         }
         let inode = number_at(&self.sup, place);
-        Ok(Some(self.scan_one(memory, inode)?))
+        Ok(Some(self.scan_one(memory, inode, inodes)?))
     }
 
     /// Takes back the claims of a piece that are of no more use, so that the next piece's claims need no new memory.
@@ -170,7 +191,15 @@ pub fn scan_slot<P: Pmem>(
     ensures number { IfOk result (λ piece. piece.inode ≡ inode) }
     ensures piece { IfOk result (λ piece. IsPiece (P.region memory.now) (fixed_layout sup.now) piece) }
 {
-    Scanner::new(alloc, sup).scan_one(memory, inode)
+    let mut inodes = Inodes::new(alloc);
+    let claims = Scanner::new(alloc, sup).scan_one(memory, inode, &mut inodes)?;
+    let Inodes { mut rows, faults } = inodes;
+    Ok(Piece {
+        inode,
+        row: rows.pop(),
+        claims,
+        faults,
+    })
 }
 
 /// Scans an inode in use, by the reader of the last log, if there is one. Where its head or tail isn't right, no log is
@@ -182,7 +211,8 @@ fn scan_log<P: Pmem>(
     reader: &mut Option<LogReader>,
     room: &mut Vec<Extent>,
     used: &InUse,
-) -> Result<Piece, AllocError>
+    inodes: &mut Inodes,
+) -> Result<Claims, AllocError>
     requires layout { IsLayout sup.now }
     requires blocks { HasBlocks (P.region memory.now) sup.now.blocks }
     requires number { IsTrue (is_number sup.now used.now.inode) }
@@ -190,42 +220,78 @@ fn scan_log<P: Pmem>(
     requires kind { kind_of used.now.slot ≡ Some used.now.kind }
     requires reader { IfSome reader.old (λ r. r.sup ≡ sup.now) }
     ensures reader { IfSome reader.new (λ r. r.sup ≡ sup.now) }
-    ensures number { IfOk result (λ piece. piece.inode ≡ used.now.inode) }
-    ensures piece { IfOk result (λ piece. IsPiece (P.region memory.now) (fixed_layout sup.now) piece) }
+    ensures kept { IfOk result (Keeps (IsPieceBy (P.region memory.now) sup.now used.now.inode) inodes.old inodes.new) }
+    ensures refused { OnErr result (SameInodes inodes.old inodes.new) }
 {
     let inode = used.inode;
+    let mut fold = Fold::new(alloc, used.slot.created);
     if used.slot.has_right_log(sup) {
-        let mut at_head = reader_at(alloc, sup, reader.take(), &used.slot)?;
-        let read = read_log(alloc, memory, sup, &mut at_head, used);
-        *reader = Some(at_head);
-        let Read { pages, fault, fold } = read?;
-        piece_of(alloc, room, used, pages, fold, fault_of_end(inode, fault))
+        let Read { pages, fault } = read_right_log(alloc, memory, sup, reader, used, &mut fold)?;
+        keep(
+            alloc,
+            room,
+            used,
+            pages,
+            fold,
+            fault_of_end(inode, fault),
+            inodes,
+        )
     } else {
-        let fold = Fold::new(alloc, used.slot.created);
         let pages = LogPages::new(alloc);
-        piece_of(alloc, room, used, pages, fold, Some(Fault::I3 { inode }))
+        keep(
+            alloc,
+            room,
+            used,
+            pages,
+            fold,
+            Some(Fault::I3 { inode }),
+            inodes,
+        )
     }
 }
 
-/// A reader at the head of a slot's log, whose head and tail are right: the last one, restarted, or a new one.
-fn reader_at(
+/// Reads a log whose head and tail are right, by the reader of the last log, or by a new one, which is kept.
+fn read_right_log<P: Pmem>(
+    alloc: Global,
+    memory: &P,
+    sup: &Super,
+    reader: &mut Option<LogReader>,
+    used: &InUse,
+    fold: &mut Fold,
+) -> Result<Read, AllocError>
+    requires areas { HasAreas sup.now }
+    requires blocks { HasBlocks (P.region memory.now) sup.now.blocks }
+    requires reader { IfSome reader.old (λ r. r.sup ≡ sup.now) }
+    requires right { is_right_log sup.now used.now.slot.head used.now.slot.tail ≡ true }
+    requires none { Holds sup.now used.now.kind used.now.inode used.now.slot.created [] fold.old }
+    ensures reader { IfSome reader.new (λ r. r.sup ≡ sup.now) }
+    ensures read { IfOk result (IsRead (P.region memory.now) sup.now used.now.inode used.now.kind used.now.slot fold.new) }
+{
+    go_to_head(alloc, sup, reader, &used.slot)?;
+    let Some(at_head) = reader else {
+        unreachable!()
+    };
+    read_log(alloc, memory, sup, at_head, used, fold)
+}
+
+/// Brings the reader to the head of a slot's log, whose head and tail are right. A new one is made where there is none.
+fn go_to_head(
     alloc: Global,
     sup: &Super,
-    last: Option<LogReader>,
+    reader: &mut Option<LogReader>,
     slot: &Slot,
-) -> Result<LogReader, AllocError>
+) -> Result<(), AllocError>
     requires areas { HasAreas sup.now }
-    requires last { IfSome last (λ r. r.sup ≡ sup.now) }
+    requires reader { IfSome reader.old (λ r. r.sup ≡ sup.now) }
     requires right { is_right_log sup.now slot.now.head slot.now.tail ≡ true }
-    ensures { IfOk result (λ r. r ≡ at_head sup.now slot.now.head slot.now.tail) }
+    ensures head { OnOk result (reader.new ≡ Some (at_head sup.now slot.now.head slot.now.tail)) }
+    ensures refused { OnErr result (reader.new ≡ reader.old) }
 {
-    match last {
-        Some(mut reader) => {
-            reader.restart(slot.head, slot.tail);
-            Ok(reader)
-        }
-        None => LogReader::new(alloc, sup, slot.head, slot.tail),
+    match reader {
+        Some(last) => last.restart(slot.head, slot.tail),
+        None => *reader = Some(LogReader::new(alloc, sup, slot.head, slot.tail)?),
     }
+    Ok(())
 }
 
 /// The fault of an inode whose log ends so.
@@ -241,17 +307,19 @@ fn fault_of_end(inode: u64, end: Option<LogEnd>) -> Option<Fault>
     })
 }
 
-/// The piece of an inode in use, with one fault more, if there is one.
-fn piece_of(
+/// Keeps an inode in use, with one fault more than its log told, if there is one, and hands on what it claims.
+fn keep(
     alloc: Global,
     room: &mut Vec<Extent>,
     used: &InUse,
     pages: LogPages,
     mut fold: Fold,
     fault: Option<Fault>,
-) -> Result<Piece, AllocError>
+    inodes: &mut Inodes,
+) -> Result<Claims, AllocError>
     requires { AreSmall (block_by fold.extents) }
-    ensures { IfOk result (λ piece. IsPieceOf used.now.inode used.now.kind used.now.slot pages.items fold fault piece) }
+    ensures kept { IfOk result (Keeps (IsPieceOf used.now.inode used.now.kind used.now.slot pages.items fold fault) inodes.old inodes.new) }
+    ensures refused { OnErr result (SameInodes inodes.old inodes.new) }
 {
     let (index, claims) = closed(
         alloc,
@@ -262,7 +330,8 @@ fn piece_of(
         &mut fold.faults,
         fault,
     )?;
-    Ok(with_row(used, pages, fold, index, claims))
+    keep_row(used, pages, fold, index, inodes)?;
+    Ok(claims)
 }
 
 /// The index of the pages that are left, which is made here, once, and what the inode claims. The fault is put behind
@@ -287,11 +356,17 @@ fn closed(
     Ok((index, claims))
 }
 
-/// Puts a piece together.
-fn with_row(used: &InUse, pages: LogPages, fold: Fold, index: FileIndex, claims: Claims) -> Piece
-    requires index { (p : ℕ) → block_at index p ≡ block_by fold.extents p }
-    requires claims { Lists (λ x. owner_key x.1) (IsClaim used.now.inode pages.items index) claims.items }
-    ensures { IsPieceOf used.now.inode used.now.kind used.now.slot pages.items fold None result }
+/// Puts the row of an inode in use and its faults behind those that are kept.
+fn keep_row(
+    used: &InUse,
+    pages: LogPages,
+    fold: Fold,
+    index: FileIndex,
+    inodes: &mut Inodes,
+) -> Result<(), AllocError>
+    ensures rows { OnOk result (inodes.new.rows.items ≡ inodes.old.rows.items ++ record { inode = used.now.inode; kind = used.now.kind; numbers = fold.numbers; head = used.now.slot.head; tail = used.now.slot.tail; pages = pages; index = index; names = fold.names } ∷ []) }
+    ensures faults { OnOk result (inodes.new.faults.items ≡ inodes.old.faults.items ++ fold.faults.items) }
+    ensures refused { OnErr result (SameInodes inodes.old inodes.new) }
 {
     let Fold {
         numbers,
@@ -309,24 +384,19 @@ fn with_row(used: &InUse, pages: LogPages, fold: Fold, index: FileIndex, claims:
         index,
         names,
     };
-    Piece {
-        inode: used.inode,
-        row: Some(row),
-        claims,
-        faults,
-    }
+    inodes.push(row, &faults)
 }
 
-/// The piece of an inode that isn't in use.
-fn without_row(alloc: Global, inode: u64, fault: Option<Fault>) -> Result<Piece, AllocError>
-    ensures { IfOk result (λ piece. IsEmptyPiece inode fault piece) }
+/// Keeps the fault of an inode that isn't in use, if it has one. It claims nothing.
+fn keep_fault(
+    alloc: Global,
+    _inode: u64,
+    fault: Option<Fault>,
+    inodes: &mut Inodes,
+) -> Result<Claims, AllocError>
+    ensures kept { IfOk result (Keeps (IsEmptyPiece _inode fault) inodes.old inodes.new) }
+    ensures refused { OnErr result (SameInodes inodes.old inodes.new) }
 {
-    let mut faults = Vec::new(alloc);
-    push_fault(&mut faults, fault)?;
-    Ok(Piece {
-        inode,
-        row: None,
-        claims: Claims::new(alloc),
-        faults,
-    })
+    push_fault(&mut inodes.faults, fault)?;
+    Ok(Claims::new(alloc))
 }

@@ -38,30 +38,42 @@ pub(crate) fn touch_block<P: Pmem>(memory: &P, sup: &Super, place: u64) -> u64
     }
 }
 
-/// The logs of as many inodes as a table block has, whose numbers stand a step apart.
+/// The logs of as many inodes as a table block has, whose numbers stand a step apart. First it is seen where all of them
+/// begin, so that the loads of their words, which wait for nothing then, are under way together.
 fn touch_logs<P: Pmem>(memory: &P, sup: &Super, first: u64, step: u64) -> u64
     requires layout { IsLayout sup.now }
     requires blocks { HasBlocks (P.region memory.now) sup.now.blocks }
 {
+    let mut heads = [0; SLOTS as usize];
     let mut inode = first;
-    let mut words = 0;
-    for _ in 0..SLOTS {
-        words ^= first_lines(memory, sup, inode);
+    for head in &mut heads {
+        *head = head_of(memory, sup, inode);
         inode = inode.saturating_add(step);
+    }
+    let mut words = 0;
+    for head in heads {
+        words ^= first_lines(memory, sup, head);
     }
     words
 }
 
-/// A word of each of the first two lines of the log of an inode, if there is such an inode, and a log. Few logs of small
-/// files go on behind these.
-fn first_lines<P: Pmem>(memory: &P, sup: &Super, inode: u64) -> u64
+/// Where the log of an inode begins by its slot, 0 where there is no such inode.
+fn head_of<P: Pmem>(memory: &P, sup: &Super, inode: u64) -> u64
     requires layout { IsLayout sup.now }
     requires blocks { HasBlocks (P.region memory.now) sup.now.blocks }
 {
-    if !sup.is_number(inode) {
-        return 0;
+    if sup.is_number(inode) {
+        read_slot(memory, sup, inode).head
+    } else {
+        0
     }
-    let head = read_slot(memory, sup, inode).head;
+}
+
+/// A word of each of the first two lines of a log, if a page begins there. Few logs of small files go on behind these.
+fn first_lines<P: Pmem>(memory: &P, sup: &Super, head: u64) -> u64
+    requires layout { IsLayout sup.now }
+    requires blocks { HasBlocks (P.region memory.now) sup.now.blocks }
+{
     if sup.is_page_start(head) {
         memory.load(head) ^ memory.load(head + LINE_SIZE)
     } else {

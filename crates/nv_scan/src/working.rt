@@ -1,7 +1,6 @@
 //! A worker of a recovery: it draws tickets until none is left, scans the inodes of each and claims what they own.
 
-ghost use Rattle.std.specs.Prelude.{◌≡◌, ◌<◌, ◌++◌, IsTrue, [], OnOk};
-ghost use Rattle.std.specs.List.{cons_option};
+ghost use Rattle.std.specs.Prelude.{◌≡◌, ◌<◌, IsTrue, [], OnOk};
 ghost use Rattle.nv_region.specs.Region.{HasBlocks};
 ghost use Rattle.nv_super.specs.Layout.{IsLayout};
 ghost use Rattle.nv_claimmap.specs.nv_claimcore.Claims.{nothing};
@@ -9,7 +8,8 @@ ghost use Rattle.nv_scan.specs.Tickets.{ticket_count, numbers_of};
 ghost use Rattle.nv_scan.specs.Work.{IsAllWork, IsDone, Returned};
 
 use crate::claiming::claim_all;
-use crate::piece::{Piece, Row};
+use crate::inodes::Inodes;
+use crate::piece::Row;
 use crate::scan::Scanner;
 use crate::tickets::SLOTS;
 use nv_claimmap::{ClaimMap, ClaimSeat};
@@ -65,22 +65,13 @@ pub fn worker<P: Pmem, G: Gate>(
     ensures number { result.seat.number ≡ seat.number }
     ensures refused { IsTrue result.refused → (result.rows.items ≡ []) × (result.faults.items ≡ []) }
 {
-    let mut rows = Vec::new(alloc);
-    let mut faults = Vec::new(alloc);
+    let mut inodes = Inodes::new(alloc);
     let mut scanner = Scanner::new(alloc, sup);
-    match draw_all(
-        memory,
-        &mut scanner,
-        map,
-        &mut seat,
-        gate,
-        &mut rows,
-        &mut faults,
-    ) {
+    match draw_all(memory, &mut scanner, map, &mut seat, gate, &mut inodes) {
         Ok(()) => WorkerResult {
             seat,
-            rows,
-            faults,
+            rows: inodes.rows,
+            faults: inodes.faults,
             refused: false,
         },
         Err(AllocError) => WorkerResult {
@@ -99,20 +90,19 @@ fn draw_all<P: Pmem, G: Gate>(
     map: &ClaimMap,
     seat: &mut ClaimSeat,
     gate: &G,
-    rows: &mut Vec<Row>,
-    faults: &mut Vec<Fault>,
+    inodes: &mut Inodes,
 ) -> Result<(), AllocError>
     requires layout { IsLayout scanner.old }
     requires blocks { HasBlocks (P.region memory.now) scanner.old.blocks }
     requires own { (seat.old.map ≡ map.now) × (seat.old.view ≡ nothing 1) }
     requires sizes { (map.now.sizes.blocks ≡ scanner.old.blocks) × (map.now.sizes.tickets ≡ ticket_count scanner.old) }
-    requires none { (rows.old.items ≡ []) × (faults.old.items ≡ []) }
+    requires none { (inodes.old.rows.items ≡ []) × (inodes.old.faults.items ≡ []) }
     ensures seat { (seat.new.map ≡ map.now) × (seat.new.number ≡ seat.old.number) × (seat.new.view.seats ≡ 1) }
-    ensures done { OnOk result (IsAllWork (P.region memory.now) scanner.old seat.new.view rows.new.items faults.new.items) }
+    ensures done { OnOk result (IsAllWork (P.region memory.now) scanner.old seat.new.view inodes.new.rows.items inodes.new.faults.items) }
 {
     while let Some(ticket) = map.draw(seat) {
         gate.enter(seat.number(), ticket);
-        scan_ticket(memory, scanner, map, seat, rows, faults, ticket)?;
+        scan_ticket(memory, scanner, map, seat, inodes, ticket)?;
     }
     Ok(())
 }
@@ -124,8 +114,7 @@ fn scan_ticket<P: Pmem>(
     scanner: &mut Scanner,
     map: &ClaimMap,
     seat: &mut ClaimSeat,
-    rows: &mut Vec<Row>,
-    faults: &mut Vec<Fault>,
+    inodes: &mut Inodes,
     ticket: u64,
 ) -> Result<(), AllocError>
     requires layout { IsLayout scanner.old }
@@ -135,36 +124,13 @@ fn scan_ticket<P: Pmem>(
     requires ticket { ticket < ticket_count scanner.old }
     ensures scanner { scanner.new ≡ scanner.old }
     ensures seat { (seat.new.map ≡ seat.old.map) × (seat.new.number ≡ seat.old.number) × (seat.new.view.seats ≡ seat.old.view.seats) }
-    ensures done { OnOk result (IsDone (P.region memory.now) scanner.old (numbers_of scanner.old ticket) seat.old.view seat.new.view rows.old.items rows.new.items faults.old.items faults.new.items) }
+    ensures done { OnOk result (IsDone (P.region memory.now) scanner.old (numbers_of scanner.old ticket) seat.old.view seat.new.view inodes.old.rows.items inodes.new.rows.items inodes.old.faults.items inodes.new.faults.items) }
 {
     for slot in 0..SLOTS {
-        if let Some(piece) = scanner.scan_place(memory, SLOTS * ticket + slot)? {
-            let Piece {
-                inode: _,
-                row,
-                claims,
-                faults: own,
-            } = piece;
+        if let Some(claims) = scanner.scan_place(memory, SLOTS * ticket + slot, inodes)? {
             claim_all(map, seat, &claims)?;
             scanner.reuse(claims);
-            keep(rows, faults, row, &own)?;
         }
     }
     Ok(())
-}
-
-/// Puts what was found of one inode behind what is there.
-fn keep(
-    rows: &mut Vec<Row>,
-    faults: &mut Vec<Fault>,
-    row: Option<Row>,
-    own: &[Fault],
-) -> Result<(), AllocError>
-    ensures rows { OnOk result (rows.new.items ≡ rows.old.items ++ cons_option row []) }
-    ensures faults { OnOk result (faults.new.items ≡ faults.old.items ++ own.now) }
-{
-    if let Some(row) = row {
-        rows.push(row)?;
-    }
-    faults.extend_from_slice(own)
 }

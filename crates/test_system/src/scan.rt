@@ -8,9 +8,9 @@ use nv_claimmap::Claimed;
 use nv_names::Target;
 use nv_region::MemRegion;
 use nv_scan::{
-    Claims, NoGate, Numbers, Piece, Row, Scanner, directories_have_no_pages, files_have_no_names,
-    in_use_by_the_slot, inode_alone, mapped_pages_begin_below_the_size, names_are_listed,
-    one_block, one_inode, owned_blocks_are_data_blocks, scan_slot, ticket_count,
+    Claims, Inodes, NoGate, Numbers, Piece, Row, Scanner, directories_have_no_pages,
+    files_have_no_names, in_use_by_the_slot, inode_alone, mapped_pages_begin_below_the_size,
+    names_are_listed, one_block, one_inode, owned_blocks_are_data_blocks, scan_slot, ticket_count,
     tickets_are_table_blocks, worker,
 };
 use nv_super::{Fault, Kind, Owner};
@@ -295,29 +295,36 @@ fn reads_second(
     requires blocks { HasBlocks memory.now.region 16 }
     ensures { scanner.new ≡ scanner.old }
 {
-    let piece = scanner.scan(memory, 2)?;
-    assert_claims(rt, alloc, &piece.claims, &OWNED_BY_FILE);
-    scanner.reuse(piece.claims);
+    let mut inodes = Inodes::new(alloc);
+    let claims = scanner.scan(memory, 2, &mut inodes)?;
+    assert_claims(rt, alloc, &claims, &OWNED_BY_FILE);
+    scanner.reuse(claims);
     Ok(())
 }
 
-fn inode_of(piece: &Option<Piece>) -> Option<u64> {
-    let piece = piece.as_ref()?;
-    Some(piece.inode)
+fn first_inode(rows: &[Row]) -> Option<u64> {
+    let row = rows.first()?;
+    Some(row.inode)
 }
 
-/// The inode that is told by the slot at a place, if any is.
-fn told_at(scanner: &mut Scanner, memory: &MemRegion, place: u64) -> Result<Option<u64>, AllocError>
+/// The inode that is found by the slot at a place, if any is.
+fn found_at(
+    alloc: Global,
+    scanner: &mut Scanner,
+    memory: &MemRegion,
+    place: u64,
+) -> Result<Option<u64>, AllocError>
     requires scanner { scanner.old ≡ SMALL }
     requires blocks { HasBlocks memory.now.region 16 }
     requires place { place < 32 }
     ensures { scanner.new ≡ scanner.old }
 {
-    let piece = scanner.scan_place(memory, place)?;
-    Ok(inode_of(&piece))
+    let mut inodes = Inodes::new(alloc);
+    scanner.scan_place(memory, place, &mut inodes)?;
+    Ok(first_inode(&inodes.rows))
 }
 
-/// One log is read twice, and of the slots those in use are told.
+/// One log is read twice, and of the slots those in use are found.
 fn reads_again(
     rt: &impl Abort,
     alloc: Global,
@@ -329,12 +336,12 @@ fn reads_again(
 {
     reads_second(rt, alloc, scanner, memory)?;
     reads_second(rt, alloc, scanner, memory)?;
-    let told = [
-        told_at(scanner, memory, 0)?,
-        told_at(scanner, memory, 2)?,
-        told_at(scanner, memory, 31)?,
+    let found = [
+        found_at(alloc, scanner, memory, 0)?,
+        found_at(alloc, scanner, memory, 2)?,
+        found_at(alloc, scanner, memory, 31)?,
     ];
-    assert!(rt; told == [None, Some(2), None]);
+    assert!(rt; found == [None, Some(2), None]);
     Ok(())
 }
 

@@ -4,9 +4,10 @@ use Rattle.nv_super.specs.declared.superblock.Super.{Super}
 use Rattle.nv_super.specs.declared.owners.Owner.{Owner}
 use Rattle.nv_super.specs.Layout.{inode_limit}
 use Rattle.nv_scan.specs.ClaimList.{ClaimList}
+use Rattle.nv_scan.specs.Kept.{Keeps, IsPieceBy}
 use Rattle.nv_scan.specs.Work.{claims_in}
 use Rattle.nv_outcome.specs.Parts.{AreMaps}
-use Rattle.nv_recover.specs.Scanned.{AreWithin, IsNext}
+use Rattle.nv_recover.specs.Scanned.{AreWithin}
 use Rattle.nv_recover.proofs.Claims.{claims_one_more}
 use Rattle.nv_recover.proofs.MadeMaps.{within_cover}
 use Rattle.nv_recover.proofs.Owned.{piece_within}
@@ -23,19 +24,19 @@ loop-inode-init g c = record {
 pub claim_all-requires : goal.claim_all-requires
 claim_all-requires g c =
     let l = c.loop-inode in
-    let next = subst (λ (s : Super). IsNext (g.P.Pmem.region c.args.memory.now) s l.inode l.inodes c.scan_next.new.inodes c.in_ok-claims.claims) l.invariant.same c.in_ok-claims.ensures.next in
+    let next = subst (λ (s : Super). Keeps (IsPieceBy (g.P.Pmem.region c.args.memory.now) s l.inode) l.inodes c.scan.new.inodes c.in_ok-claims.claims) l.invariant.same c.in_ok-claims.ensures.kept in
     let claims = c.in_ok-claims.claims in
-    record { within = within_cover c.args.sup.now.blocks claims.items _ _ (subst (λ (x : ClaimList). AreWithin c.args.sup.now x.items) next.claims_are (piece_within (g.P.Pmem.region c.args.memory.now) c.args.sup.now next.piece next.is)) l.invariant.cover.0 l.invariant.cover.1 }
+    record { within = within_cover c.args.sup.now.blocks claims.items _ _ (subst (λ (x : ClaimList). AreWithin c.args.sup.now x.items) next.claims_are (piece_within (g.P.Pmem.region c.args.memory.now) c.args.sup.now next.piece next.is.1)) l.invariant.cover.0 l.invariant.cover.1 }
 
 pub loop-inode-preserved : goal.loop-inode-preserved
 loop-inode-preserved g c =
     let R = g.P.Pmem.region c.args.memory.now in
     let l = c.loop-inode in
-    let next = subst (λ (s : Super). IsNext R s l.inode l.inodes c.scan_next.new.inodes c.in_ok-claims.claims) l.invariant.same c.in_ok-claims.ensures.next in
+    let next = subst (λ (s : Super). Keeps (IsPieceBy R s l.inode) l.inodes c.scan.new.inodes c.in_ok-claims.claims) l.invariant.same c.in_ok-claims.ensures.kept in
     let pieces = l.invariant.first.0 in
     let long = c.claim_all.ensures.as_long in
     let cover = l.invariant.cover in record {
-      same = c.reuse.ensures ∙ c.scan_next.ensures.same ∙ l.invariant.same;
+      same = c.reuse.ensures ∙ c.scan.ensures.same ∙ l.invariant.same;
       first = (
         pieces ++ next.piece ∷ [],
         first_more (some_number l.auto.inode) l.invariant.first.1 next,
@@ -54,5 +55,5 @@ returns g c =
     let first = l.invariant.first.1 in
     (l.invariant.first.0, all_first c.requires.layout (before_last (inode_limit s) limit) first, record { each = first.each; rows_are = first.rows; maps = l.invariant.first.2; cover = l.invariant.cover })
 
-pub scan_next-requires-clause-blocks : goal.scan_next-requires-clause-blocks
-scan_next-requires-clause-blocks g c = subst (λ (s : Super). HasBlocks (g.P.Pmem.region c.args.memory.now) s.blocks) (sym c.loop-inode.invariant.same) c.requires.blocks
+pub scan-requires-clause-blocks : goal.scan-requires-clause-blocks
+scan-requires-clause-blocks g c = subst (λ (s : Super). HasBlocks (g.P.Pmem.region c.args.memory.now) s.blocks) (sym c.loop-inode.invariant.same) c.requires.blocks

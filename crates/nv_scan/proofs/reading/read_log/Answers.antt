@@ -10,7 +10,7 @@ pub reading-init : goal.reading-init
 reading-init g c = record {
   sup = rw c.requires.start refl;
   tail = rw c.requires.start refl;
-  so_far = rw c.requires.start (read_none _ _ _ _ _ _ _ _ (c.new-fold.ensures _ _ _));
+  so_far = rw c.requires.start (read_none _ _ _ _ _ _ _ _ c.requires.none);
 }
 
 pub reading-preserved-in_ok-take-in-Entry : goal.reading-preserved-in_ok-take-in-Entry
@@ -30,7 +30,7 @@ returns-in-End-clause-read g c =
     let R = g.P.Pmem.region c.args.memory.now in
     let is = ap (finding_in R) c.in-End.is in
     let moved : c.next_light.new.self ≡ c.reading.reader = c.in_ok-placed.ensures.moves ∙ ap (after c.reading.reader) is in
-    read_whole R c.args.sup.now c.args.used.now.kind c.args.used.now.inode c.args.used.now.slot c.reading.reader c.next_light.new.self (finding_in R _) _
+    read_whole R c.args.sup.now c.args.used.now.kind c.args.used.now.inode c.args.used.now.slot c.reading.reader c.next_light.new.self c.reading.fold (finding_in R _) _
     c.reading.invariant.so_far c.in_ok-placed.ensures.leads is c.reading.invariant.sup (ap (λ (r : Progress). r.sup) moved ∙ c.reading.invariant.sup) (ap (λ (r : Progress). r.tail) moved ∙ c.reading.invariant.tail)
     (c.in_ok-from_slice-in-End.ensures.ok ∙ c.pages.ensures)
 

@@ -15,7 +15,7 @@ loop-ticket-init g c = record {
   map = c.requires.own.0;
   number = refl;
   seats = ap (λ (v : View). v.seats) c.requires.own.1;
-  work = work_none (g.P.Pmem.region c.args.memory.now) c.args.scanner.now c.args.seat.now.view c.args.rows.now.items c.args.faults.now.items c.requires.own.1 c.requires.none.0 c.requires.none.1;
+  work = work_none (g.P.Pmem.region c.args.memory.now) c.args.scanner.now c.args.seat.now.view c.args.inodes.now.rows.items c.args.inodes.now.faults.items c.requires.own.1 c.requires.none.0 c.requires.none.1;
 }
 
 pub scan_ticket-requires-clause-layout : goal.scan_ticket-requires-clause-layout
@@ -46,8 +46,8 @@ loop-ticket-preserved g c =
     let l = c.loop-ticket.invariant in let d = c.in-Some.ensures in let t = c.in-Some.ticket in
     let R = g.P.Pmem.region c.args.memory.now in let s = c.args.scanner.now in
     let v = c.loop-ticket.seat.view in let u = c.draw.new.seat.view in let w = c.scan_ticket.new.seat.view in
-    let old = c.loop-ticket.rows.items in let new = c.scan_ticket.new.rows.items in
-    let before = c.loop-ticket.faults.items in let after = c.scan_ticket.new.faults.items in
+    let old = c.loop-ticket.inodes.rows.items in let new = c.scan_ticket.new.inodes.rows.items in
+    let before = c.loop-ticket.inodes.faults.items in let after = c.scan_ticket.new.inodes.faults.items in
     record {
       scanner = c.scan_ticket.ensures.scanner ∙ l.scanner;
       map = c.scan_ticket.ensures.seat.0 ∙ d.map ∙ l.map;
@@ -68,7 +68,7 @@ pub returns-clause-done : goal.returns-clause-done
 returns-clause-done g c =
     let l = c.loop-ticket.invariant in let d = c.in_default.ensures in
     let R = g.P.Pmem.region c.args.memory.now in let s = c.args.scanner.now in
-    let v = c.loop-ticket.seat.view in let w = c.draw.new.seat.view in let rows = c.loop-ticket.rows.items in let faults = c.loop-ticket.faults.items in
+    let v = c.loop-ticket.seat.view in let w = c.draw.new.seat.view in let rows = c.loop-ticket.inodes.rows.items in let faults = c.loop-ticket.inodes.faults.items in
     record {
       ended = subst (λ (n : ℕ). 0 < past n w.numbers) c.requires.sizes.1 d.none;
       work = ⊎_elim (λ same. subst (λ (x : View). IsWork R s x rows faults) (sym same) l.work)

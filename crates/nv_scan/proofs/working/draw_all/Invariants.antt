@@ -9,7 +9,7 @@ invariant-loop-ticket g l = record {
   map : l.seat.map ≡ l.map;
   number : l.seat.number ≡ l.fn.seat.number;
   seats : l.seat.view.seats ≡ 1;
-  work : IsWork (g.P.Pmem.region l.memory) l.fn.scanner l.seat.view l.rows.items l.faults.items;
+  work : IsWork (g.P.Pmem.region l.memory) l.fn.scanner l.seat.view l.inodes.rows.items l.inodes.faults.items;
 }
 
 abbrev pub decreases-loop-ticket : goal.decreases-loop-ticket

@@ -9,5 +9,5 @@ invariant-loop-slot g l = record {
   map : l.seat.map ≡ l.fn.seat.map;
   number : l.seat.number ≡ l.fn.seat.number;
   seats : l.seat.view.seats ≡ l.fn.seat.view.seats;
-  done : IsDone (g.P.Pmem.region l.memory) l.fn.scanner (numbers_to l.fn.scanner l.ticket l.slot) l.fn.seat.view l.seat.view l.fn.rows.items l.rows.items l.fn.faults.items l.faults.items;
+  done : IsDone (g.P.Pmem.region l.memory) l.fn.scanner (numbers_to l.fn.scanner l.ticket l.slot) l.fn.seat.view l.seat.view l.fn.inodes.rows.items l.inodes.rows.items l.fn.inodes.faults.items l.inodes.faults.items;
 }

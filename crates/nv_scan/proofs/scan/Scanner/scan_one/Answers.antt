@@ -2,38 +2,37 @@ use Rattle.std.proofs.Common.{◌≡◌, ◌≢◌, ◌∙◌, sym, ap, subst, N
 use Rattle.std.specs.Result.{IfOk}
 use Rattle.nv_region.specs.Region.{HasBlocks}
 use Rattle.nv_super.specs.declared.superblock.Super.{Super}
-use Rattle.nv_super.specs.Layout.{fixed_layout}
 use Rattle.nv_inode.specs.Slot.{kind_in, kind_of}
 use Rattle.nv_inode.specs.declared.slot.Slot.{Slot}
-use Rattle.nv_scan.specs.Rows.{IsPiece}
-use Rattle.nv_scan.proofs.Scanning.{unused_result, bad_valid_result, bad_kind_result}
+use Rattle.nv_scan.specs.Kept.{Keeps, IsPieceBy}
+use Rattle.nv_scan.proofs.Scanning.{unused_one, bad_valid_one, bad_kind_one, keeps_more}
 use Rattle.nv_scan.proofs.scan.Scanner.scan_one.Goals as goal
 
-pub returns-in-Unused-clause-piece : goal.returns-in-Unused-clause-piece
-returns-in-Unused-clause-piece g c = let s = c.self.inside.sup in
-    subst (λ (s : Super). IfOk c.without_row.result (λ p. IsPiece (g.P.Pmem.region c.args.memory.now) (fixed_layout s) p)) c.self.view_is
-    (unused_result (g.P.Pmem.region c.args.memory.now) s c.args.inode c.without_row.result c.self.invariant.layout (rw c.self.view_is c.requires.number)
+pub returns-in-Unused-clause-kept : goal.returns-in-Unused-clause-kept
+returns-in-Unused-clause-kept g c = let s = c.self.inside.sup in let R = g.P.Pmem.region c.args.memory.now in
+    subst (λ (s : Super). IfOk c.keep_fault.result (Keeps (IsPieceBy R s c.args.inode) c.args.inodes.now c.keep_fault.new.inodes)) c.self.view_is
+    (keeps_more c.keep_fault.result c.args.inodes.now c.keep_fault.new.inodes (unused_one R s c.args.inode c.self.invariant.layout (rw c.self.view_is c.requires.number)
     (subst (λ (t : Slot). kind_of t ≡ None) c.read_slot-slot.ensures (sym c.state.ensures.in_use ∙ ap kind_in c.in-Unused.is))
-    (subst (λ (t : Slot). t.valid ≡ 0) c.read_slot-slot.ensures (c.state.ensures.unused.0 c.in-Unused.is)) c.without_row.ensures)
+    (subst (λ (t : Slot). t.valid ≡ 0) c.read_slot-slot.ensures (c.state.ensures.unused.0 c.in-Unused.is))) c.keep_fault.ensures.kept)
 
-pub returns-in-BadValid-clause-piece : goal.returns-in-BadValid-clause-piece
-returns-in-BadValid-clause-piece g c = let s = c.self.inside.sup in
-    subst (λ (s : Super). IfOk c.without_row-in-BadValid.result (λ p. IsPiece (g.P.Pmem.region c.args.memory.now) (fixed_layout s) p)) c.self.view_is
-    (bad_valid_result (g.P.Pmem.region c.args.memory.now) s c.args.inode c.without_row-in-BadValid.result c.self.invariant.layout (rw c.self.view_is c.requires.number)
+pub returns-in-BadValid-clause-kept : goal.returns-in-BadValid-clause-kept
+returns-in-BadValid-clause-kept g c = let s = c.self.inside.sup in let R = g.P.Pmem.region c.args.memory.now in
+    subst (λ (s : Super). IfOk c.keep_fault-in-BadValid.result (Keeps (IsPieceBy R s c.args.inode) c.args.inodes.now c.keep_fault-in-BadValid.new.inodes)) c.self.view_is
+    (keeps_more c.keep_fault-in-BadValid.result c.args.inodes.now c.keep_fault-in-BadValid.new.inodes (bad_valid_one R s c.args.inode c.self.invariant.layout (rw c.self.view_is c.requires.number)
     (subst (λ (t : Slot). kind_of t ≡ None) c.read_slot-slot.ensures (sym c.state.ensures.in_use ∙ ap kind_in c.in-BadValid.is))
     (subst (λ (t : Slot). t.valid ≢ 0) c.read_slot-slot.ensures (c.state.ensures.bad_valid.0 c.in-BadValid.is).0)
-    (subst (λ (t : Slot). t.valid ≢ 1) c.read_slot-slot.ensures (c.state.ensures.bad_valid.0 c.in-BadValid.is).1) c.without_row-in-BadValid.ensures)
+    (subst (λ (t : Slot). t.valid ≢ 1) c.read_slot-slot.ensures (c.state.ensures.bad_valid.0 c.in-BadValid.is).1)) c.keep_fault-in-BadValid.ensures.kept)
 
-pub returns-in-BadKind-clause-piece : goal.returns-in-BadKind-clause-piece
-returns-in-BadKind-clause-piece g c = let s = c.self.inside.sup in
-    subst (λ (s : Super). IfOk c.without_row-in-BadKind.result (λ p. IsPiece (g.P.Pmem.region c.args.memory.now) (fixed_layout s) p)) c.self.view_is
-    (bad_kind_result (g.P.Pmem.region c.args.memory.now) s c.args.inode c.without_row-in-BadKind.result c.self.invariant.layout (rw c.self.view_is c.requires.number)
+pub returns-in-BadKind-clause-kept : goal.returns-in-BadKind-clause-kept
+returns-in-BadKind-clause-kept g c = let s = c.self.inside.sup in let R = g.P.Pmem.region c.args.memory.now in
+    subst (λ (s : Super). IfOk c.keep_fault-in-BadKind.result (Keeps (IsPieceBy R s c.args.inode) c.args.inodes.now c.keep_fault-in-BadKind.new.inodes)) c.self.view_is
+    (keeps_more c.keep_fault-in-BadKind.result c.args.inodes.now c.keep_fault-in-BadKind.new.inodes (bad_kind_one R s c.args.inode c.self.invariant.layout (rw c.self.view_is c.requires.number)
     (subst (λ (t : Slot). kind_of t ≡ None) c.read_slot-slot.ensures (sym c.state.ensures.in_use ∙ ap kind_in c.in-BadKind.is))
-    (subst (λ (t : Slot). t.valid ≡ 1) c.read_slot-slot.ensures (c.state.ensures.bad_kind.0 c.in-BadKind.is).0) c.without_row-in-BadKind.ensures)
+    (subst (λ (t : Slot). t.valid ≡ 1) c.read_slot-slot.ensures (c.state.ensures.bad_kind.0 c.in-BadKind.is).0)) c.keep_fault-in-BadKind.ensures.kept)
 
-pub returns-in-InUse-clause-piece : goal.returns-in-InUse-clause-piece
-returns-in-InUse-clause-piece g c =
-    subst (λ (s : Super). IfOk c.scan_log.result (λ p. IsPiece (g.P.Pmem.region c.args.memory.now) (fixed_layout s) p)) c.self.view_is c.scan_log.ensures.piece
+pub returns-in-InUse-clause-kept : goal.returns-in-InUse-clause-kept
+returns-in-InUse-clause-kept g c =
+    subst (λ (s : Super). IfOk c.scan_log.result (Keeps (IsPieceBy (g.P.Pmem.region c.args.memory.now) s c.args.inode) c.args.inodes.now c.scan_log.new.inodes)) c.self.view_is c.scan_log.ensures.kept
 
 pub scan_log-requires-clause-layout : goal.scan_log-requires-clause-layout
 scan_log-requires-clause-layout g c = c.self.invariant.layout
@@ -52,3 +51,15 @@ scan_log-requires-clause-kind g c = sym c.state.ensures.in_use ∙ ap kind_in c.
 
 pub scan_log-requires-clause-reader : goal.scan_log-requires-clause-reader
 scan_log-requires-clause-reader g c = c.self.invariant.reader
+
+pub returns-in-Unused-clause-refused : goal.returns-in-Unused-clause-refused
+returns-in-Unused-clause-refused g c = c.keep_fault.ensures.refused
+
+pub returns-in-BadValid-clause-refused : goal.returns-in-BadValid-clause-refused
+returns-in-BadValid-clause-refused g c = c.keep_fault-in-BadValid.ensures.refused
+
+pub returns-in-BadKind-clause-refused : goal.returns-in-BadKind-clause-refused
+returns-in-BadKind-clause-refused g c = c.keep_fault-in-BadKind.ensures.refused
+
+pub returns-in-InUse-clause-refused : goal.returns-in-InUse-clause-refused
+returns-in-InUse-clause-refused g c = c.scan_log.ensures.refused

@@ -1,35 +1,40 @@
-use Rattle.std.proofs.Common.{◌≡◌, ◌∙◌, ◌<◌, ap, subst, ℕ, IsTrue, sym}
+use Rattle.std.proofs.Common.{◌≡◌, ◌∙◌, ◌<◌, ap, refl, subst, ℕ, IsTrue, sym}
 use Rattle.std.proofs.lemmas.Result.{IfOk-from_err}
+use Rattle.nv_region.proofs.Told.{told_err}
 use Rattle.nv_region.specs.Region.{HasBlocks}
 use Rattle.nv_super.specs.declared.superblock.Super.{Super}
 use Rattle.nv_super.specs.Layout.{IsLayout, inode_limit, is_number, fixed_layout}
-use Rattle.nv_scan.specs.Rows.{IsPiece}
+use Rattle.nv_scan.specs.Kept.{Keeps, IsPieceBy}
 use Rattle.nv_scan.specs.Tickets.{number_at, IsBlank, HasValidWord}
 use Rattle.nv_scan.proofs.Told.{piece_tells}
 use Rattle.nv_scan.proofs.scan.Scanner.scan_place.Goals as goal
 
-pub returns-then-is_blank-clause-found : goal.returns-then-is_blank-clause-found
-returns-then-is_blank-clause-found g c =
-    subst (λ (x : Super). IsBlank (g.P.Pmem.region c.args.memory.now) (fixed_layout x) (number_at x c.args.place)) c.self.view_is (c.is_blank.ensures.blank c.if-is_blank.true)
+pub returns-then-is_blank-clause-kept : goal.returns-then-is_blank-clause-kept
+returns-then-is_blank-clause-kept g c = (
+  subst (λ (x : Super). IsBlank (g.P.Pmem.region c.args.memory.now) (fixed_layout x) (number_at x c.args.place)) c.self.view_is (c.is_blank.ensures.blank c.if-is_blank.true),
+  refl,
+)
 
 pub scan_one-requires-clause-number : goal.scan_one-requires-clause-number
 scan_one-requires-clause-number g c =
     subst (λ (i : ℕ). IsTrue (is_number c.self.inside.sup i)) (sym c.number_at-inode.ensures) (c.is_blank.ensures.told c.if-is_blank.false).0
 
-pub returns-clause-found : goal.returns-clause-found
-returns-clause-found g c =
+pub returns-clause-kept : goal.returns-clause-kept
+returns-clause-kept g c =
     let R = g.P.Pmem.region c.args.memory.now in
     let s = c.args.self.now in
     let m = c.args.place in
     let layout : IsLayout s = subst IsLayout c.self.view_is c.self.invariant.layout in
     let used : HasValidWord R s (number_at s m) = subst (λ (x : Super). HasValidWord R x (number_at x m)) c.self.view_is (c.is_blank.ensures.told c.if-is_blank.false) in
-    let piece : IsPiece R (fixed_layout s) c.in_ok-scan_one.field-0 = subst (λ (x : Super). IsPiece R (fixed_layout x) c.in_ok-scan_one.field-0) c.self.view_is c.in_ok-scan_one.ensures.piece in
-    let same : c.in_ok-scan_one.field-0.inode ≡ number_at s m = c.in_ok-scan_one.ensures.number ∙ c.number_at-inode.ensures ∙ ap (λ (x : Super). number_at x m) c.self.view_is in (
-      same,
-      used.0,
-      piece,
-      piece_tells R s (number_at s m) layout used.0 c.in_ok-scan_one.field-0 same piece used.1,
-    )
+    let number : c.number_at-inode.result ≡ number_at s m = c.number_at-inode.ensures ∙ ap (λ (x : Super). number_at x m) c.self.view_is in
+    let kept = subst (λ (x : Super). Keeps (IsPieceBy R x c.number_at-inode.result) c.args.inodes.now c.scan_one.new.inodes c.in_ok-scan_one.field-0) c.self.view_is c.in_ok-scan_one.ensures.kept in
+    let same : kept.piece.inode ≡ number_at s m = kept.is.0 ∙ number in record {
+      piece = kept.piece;
+      is = (same, used.0, kept.is.1, piece_tells R s (number_at s m) layout used.0 kept.piece same kept.is.1 used.1);
+      rows = kept.rows;
+      faults = kept.faults;
+      claims_are = kept.claims_are;
+    }
 
 pub is_blank-requires-clause-layout : goal.is_blank-requires-clause-layout
 is_blank-requires-clause-layout g c = c.self.invariant.layout
@@ -43,5 +48,8 @@ is_blank-requires-clause-place g c = subst (λ (s : Super). c.args.place < inode
 pub scan_one-requires-clause-blocks : goal.scan_one-requires-clause-blocks
 scan_one-requires-clause-blocks g c = subst (λ (s : Super). HasBlocks (g.P.Pmem.region c.args.memory.now) s.blocks) (sym c.self.view_is) c.requires.blocks
 
-pub returns-in_err-scan_one-clause-found : goal.returns-in_err-scan_one-clause-found
-returns-in_err-scan_one-clause-found g c = IfOk-from_err c.from_residual.result _ c.from_residual.ensures.0
+pub returns-in_err-scan_one-clause-kept : goal.returns-in_err-scan_one-clause-kept
+returns-in_err-scan_one-clause-kept g c = IfOk-from_err c.from_residual.result _ c.from_residual.ensures.0
+
+pub returns-in_err-scan_one-clause-refused : goal.returns-in_err-scan_one-clause-refused
+returns-in_err-scan_one-clause-refused g c = told_err c.from_residual.result c.in_err-scan_one.ensures.refused

@@ -1,0 +1,40 @@
+use Rattle.std.proofs.Common.{subst, ℕ, List, refl, Some}
+use Rattle.std.proofs.lemmas.Result.{IfOk-from_err}
+use Rattle.nv_region.proofs.Told.{told_err}
+use Rattle.nv_super.specs.declared.owners.Owner.{Owner}
+use Rattle.nv_super.specs.Order.{Lists, owner_key}
+use Rattle.nv_scan.specs.Claims.{IsClaim}
+use Rattle.nv_scan.proofs.scan.keep.Goals as goal
+
+pub returns-clause-kept : goal.returns-clause-kept
+returns-clause-kept c = let used = c.args.used.now in let fold = c.args.fold in record {
+  piece = record {
+    inode = used.inode;
+    row = Some (record { inode = used.inode; kind = used.kind; numbers = fold.numbers; head = used.slot.head; tail = used.slot.tail; pages = c.args.pages; index = c.in_ok-index.index; names = fold.names });
+    claims = c.in_ok-index.claims;
+    faults = c.closed.new.faults;
+  };
+  is = record {
+    inode = refl;
+    row = _;
+    has_row = refl;
+    is_row = (refl, refl, refl, refl, refl, refl, c.in_ok-index.ensures.index, refl);
+    claims = subst (λ (pages : List ℕ). Lists (λ (x : ℕ × Owner). owner_key x.1) (IsClaim used.inode pages c.in_ok-index.index) c.in_ok-index.claims.items) c.deref.ensures c.in_ok-index.ensures.claims;
+    faults = c.in_ok-index.ensures.faults;
+  };
+  rows = c.in_ok-keep_row.ensures.rows;
+  faults = c.in_ok-keep_row.ensures.faults;
+  claims_are = refl;
+}
+
+pub returns-in_err-index-clause-kept : goal.returns-in_err-index-clause-kept
+returns-in_err-index-clause-kept c = IfOk-from_err c.from_residual.result _ c.from_residual.ensures.0
+
+pub returns-in_err-index-clause-refused : goal.returns-in_err-index-clause-refused
+returns-in_err-index-clause-refused c = told_err c.from_residual.result (refl, refl)
+
+pub returns-in_err-keep_row-clause-kept : goal.returns-in_err-keep_row-clause-kept
+returns-in_err-keep_row-clause-kept c = IfOk-from_err c.from_residual-in_err-keep_row.result _ c.from_residual-in_err-keep_row.ensures.0
+
+pub returns-in_err-keep_row-clause-refused : goal.returns-in_err-keep_row-clause-refused
+returns-in_err-keep_row-clause-refused c = told_err c.from_residual-in_err-keep_row.result c.in_err-keep_row.ensures.refused
