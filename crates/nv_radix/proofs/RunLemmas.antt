@@ -9,21 +9,16 @@ use Rattle.std.proofs.lemmas.Bool.Decides.{nat_tests}
 use Rattle.std.proofs.lemmas.Cmp.{nat_cmp_total, eq_by_cmp_equiv}
 use Rattle.std.proofs.lemmas.Map.Keys.{IsDistinct-from_sorted}
 use Rattle.std.proofs.lemmas.Map.Views.{lookup-from_Contains, Contains-from_lookup}
+use Rattle.std.proofs.lemmas.Option.{same_Some}
 use Rattle.nv_radix.specs.declared.runs.Blocks.{Blocks}
 use Rattle.nv_radix.specs.Pages.{in_run}
 use Rattle.nv_radix.specs.Runs.{Runs, block_by, run_at, front_of, IsRun, AreRuns, Puts}
 use Rattle.nv_radix.proofs.OnlyExtents.{Contains-cons}
 
-some_only : {A : Type 0} (a b : A) → Some a ≡ Some b → a ≡ b
-some_only a b e = cc
-
 -- what holds after a success, and after an error
 pub either_way : {A E : Type 0} (r : Result A E) (P Q R : Type 0) → OnOk r P → OnErr r Q → (P → R) → (Q → R) → R
 either_way (Ok a) P Q R p q f g = f p
 either_way (Err e) P Q R p q f g = g q
-
-some_is : {A : Type 0} (a b : A) (o : Option A) → o ≡ Some a → o ≡ Some b → a ≡ b
-some_is a b o h k = some_only a b (sym h ∙ k)
 
 -- the run that maps a page to a block
 pub record HasRun (runs : Runs) (p b : ℕ) : Type 0 where
@@ -41,7 +36,7 @@ listed : (runs : Runs) (p b : ℕ) → block_by runs p ≡ Some b → Listed run
 listed [] p b h = absurd (cc)
 listed (x ∷ xs) p b h = test (listed xs p b) (in_run x.0 x.1.count p) refl h where
   test : (block_by xs p ≡ Some b → Listed xs p b) → (t : Bool) → in_run x.0 x.1.count p ≡ t → cond t (Some (x.1.start + (p - x.0))) (block_by xs p) ≡ Some b → Listed (x ∷ xs) p b
-  test more true e g = (x, (0, omega arith, refl), e, some_only _ _ g)
+  test more true e g = (x, (0, omega arith, refl), e, same_Some _ _ g)
   test more false e g = let w = more g in (w.0, (suc w.1.0, omega (arith, w.1.1), w.1.2), w.2, w.3)
 
 -- a page that maps to nothing stands in no entry
@@ -84,7 +79,7 @@ mapped runs p k b are at within = elim (block_by runs p) as (λ (o : Option ℕ)
   | Some c ↦ λ h.
       let w = found runs p c are h in
       let same : w.first ≡ k = one_run runs p w.first k w.blocks b are w.at at w.within within in
-      let blocks : w.blocks ≡ b = some_is _ _ (run_at runs k) (subst (λ (q : ℕ). run_at runs q ≡ Some w.blocks) same w.at) at in
+      let blocks : w.blocks ≡ b = same_Some _ _ (sym (subst (λ (q : ℕ). run_at runs q ≡ Some w.blocks) same w.at) ∙ at) in
       ap Some (sym w.is ∙ rw (same, blocks) refl)
 ] refl
 
@@ -125,7 +120,7 @@ front_is : (b c : Blocks) (count : ℕ) → front_of b count ≡ Some c → (c.s
 front_is b c count h = test (count == 0) refl h where
   test : (t : Bool) → (count == 0) ≡ t → cond t None (Some (record { start = b.start; count = count })) ≡ Some c → (c.start ≡ b.start) × (c.count ≡ count)
   test true e g = absurd (cc)
-  test false e g = let same = some_only _ _ g in (ap (λ (x : Blocks). x.start) (sym same), ap (λ (x : Blocks). x.count) (sym same))
+  test false e g = let same = same_Some _ _ g in (ap (λ (x : Blocks). x.start) (sym same), ap (λ (x : Blocks). x.count) (sym same))
 
 -- where the first pages of a run stay, the others map to nothing
 pub after_front : (old new : Runs) (k count : ℕ) (b : Blocks) → AreRuns old → AreRuns new → run_at old k ≡ Some b → count ≤ b.count → Puts old new k (front_of b count)
@@ -133,7 +128,7 @@ pub after_front : (old new : Runs) (k count : ℕ) (b : Blocks) → AreRuns old 
 after_front old new k count b before after at few puts p = elim (in_run (k + count) (b.count - count) p) as (λ (t : Bool). in_run (k + count) (b.count - count) p ≡ t → block_by new p ≡ cond t None (block_by old p)) [
   | true ↦ λ e. gone before after puts p b at (grind (arith, nat_tests)) (λ c h. let is = front_is b c count h in rw is.1 (grind (arith, nat_tests)))
   | false ↦ λ e. elim (in_run k b.count p) as (λ (t : Bool). in_run k b.count p ≡ t → block_by new p ≡ block_by old p) [
-    | false ↦ λ f. kept before after puts p (λ c h. rw (some_is c b _ h at) f) (λ c h. let is = front_is b c count h in rw is.1 (grind (arith, nat_tests)))
+    | false ↦ λ f. kept before after puts p (λ c h. rw (same_Some c b (sym h ∙ at)) f) (λ c h. let is = front_is b c count h in rw is.1 (grind (arith, nat_tests)))
     | true ↦ λ f. mapped new p k (record { start = b.start; count = count }) after (puts.here ∙ some_front (grind (arith, nat_tests))) (grind (arith, nat_tests)) ∙ sym (mapped old p k b before at f)
   ] refl
 ] refl
@@ -174,7 +169,7 @@ put_between old new k w before fits puts = record { rising = puts.rising; each =
 
 -- a run over pages that map to nothing stands apart from the others
 pub put_free : (old new : Runs) (k : ℕ) (b : Blocks) → AreRuns old → IsRun k b → ((p : ℕ) → in_run k b.count p ≡ true → block_by old p ≡ None) → Puts old new k (Some b) → AreRuns new
-put_free old new k b before is free puts = put_between old new k (Some b) before (λ c e. rw (some_only c b (sym e)) (record { is = is; before = ends_before; behind = begins_behind })) puts
+put_free old new k b before is free puts = put_between old new k (Some b) before (λ c e. rw (same_Some c b (sym e)) (record { is = is; before = ends_before; behind = begins_behind })) puts
   where
     ends_before : (q : ℕ) (c : Blocks) → q < k → run_at old q ≡ Some c → q + c.count ≤ k
     ends_before q c less h =
@@ -192,7 +187,7 @@ pub after_put : (old new : Runs) (k : ℕ) (b : Blocks) → AreRuns old → AreR
     → (p : ℕ) → block_by new p ≡ (if in_run k b.count p then Some (b.start + (p - k)) else block_by old p)
 after_put old new k b before after some free puts p = elim (in_run k b.count p) as (λ (t : Bool). in_run k b.count p ≡ t → block_by new p ≡ cond t (Some (b.start + (p - k))) (block_by old p)) [
   | true ↦ λ e. mapped new p k b after puts.here e
-  | false ↦ λ e. kept before after puts p none (λ c h. rw (some_only c b (sym h)) e)
+  | false ↦ λ e. kept before after puts p none (λ c h. rw (same_Some c b (sym h)) e)
 ] refl
   where
     none : Off k (run_at old k) p
@@ -218,7 +213,7 @@ front_runs old new k count b before at few puts = put_between old new k (front_o
 -- A run that takes the place of one of the very same pages.
 module _ (old new : Runs) (k : ℕ) (b c : Blocks) (before : AreRuns old) (is : IsRun k b) (at : run_at old k ≡ Some c) (same : c.count ≡ b.count) (puts : Puts old new k (Some b)) where
   pub replaced_runs : AreRuns new
-  replaced_runs = put_between old new k (Some b) before (λ d e. rw (some_only d b (sym e)) (record {
+  replaced_runs = put_between old new k (Some b) before (λ d e. rw (same_Some d b (sym e)) (record {
     is = is;
     before = λ q f less h. before.apart q k f c h at less;
     behind = λ q f more h. (let end = before.apart k q c f at h more in omega (arith, end, same));
@@ -227,7 +222,7 @@ module _ (old new : Runs) (k : ℕ) (b c : Blocks) (before : AreRuns old) (is : 
   pub replaced : (p : ℕ) → block_by new p ≡ (if in_run k b.count p then Some (b.start + (p - k)) else block_by old p)
   replaced p = elim (in_run k b.count p) as (λ (t : Bool). in_run k b.count p ≡ t → block_by new p ≡ cond t (Some (b.start + (p - k))) (block_by old p)) [
     | true ↦ λ e. mapped new p k b replaced_runs puts.here e
-    | false ↦ λ e. kept before replaced_runs puts p (λ d h. rw (some_is d c _ h at, same) e) (λ d h. rw (some_only d b (sym h)) e)
+    | false ↦ λ e. kept before replaced_runs puts p (λ d h. rw (same_Some d c (sym h ∙ at), same) e) (λ d h. rw (same_Some d b (sym h)) e)
   ] refl
 
 -- The last run is made longer by one that it goes on with.
@@ -237,7 +232,7 @@ module _ (old new : Runs) (k page : ℕ) (b c : Blocks) (before : AreRuns old) (
   joined = record { start = b.start; count = b.count + c.count }
 
   pub longer_runs : AreRuns new
-  longer_runs = put_between old new k (Some joined) before (λ d e. rw (some_only d joined (sym e)) (record {
+  longer_runs = put_between old new k (Some joined) before (λ d e. rw (same_Some d joined (sym e)) (record {
     is = record { some = omega (arith, is.some); pages = omega (arith, is.pages, ends); blocks = omega (arith, is.blocks, follows) };
     before = λ q f less h. before.apart q k f b h at less;
     behind = λ q f more h. absurd (
@@ -254,7 +249,7 @@ module _ (old new : Runs) (k page : ℕ) (b c : Blocks) (before : AreRuns old) (
         mapped new p k joined longer_runs puts.here (grind (arith, nat_tests)) ∙ ap Some (omega (arith, from, ends, follows))
     | false ↦ λ e. elim (in_run k b.count p) as (λ (t : Bool). in_run k b.count p ≡ t → block_by new p ≡ block_by old p) [
       | true ↦ λ f. mapped new p k joined longer_runs puts.here (grind (arith, nat_tests)) ∙ sym (mapped old p k b before at f)
-      | false ↦ λ f. kept before longer_runs puts p (λ d h. rw (some_is d b _ h at) f) (λ d h. rw (some_only d joined (sym h)) (grind (arith, nat_tests)))
+      | false ↦ λ f. kept before longer_runs puts p (λ d h. rw (same_Some d b (sym h ∙ at)) f) (λ d h. rw (same_Some d joined (sym h)) (grind (arith, nat_tests)))
     ] refl
   ] refl
 
