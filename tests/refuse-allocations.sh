@@ -8,7 +8,7 @@
 # takes ten minutes.
 set -u
 source "$(dirname "${BASH_SOURCE[0]}")/refusing.sh"
-refuse_each recoveries 399
+refuse_each recoveries 398
 
 mapfile -t whole < <(head -n 7 stdout)
 wanted=()
