@@ -41,12 +41,16 @@ impl Inodes {
 
     /// Puts what others found behind what is there.
     ///
-    /// Errors: `AllocError` where a growth was refused.
+    /// Errors: `AllocError` where a growth was refused; what is there stays as it was.
     pub fn append(&mut self, mut other: Inodes) -> Result<(), AllocError>
         ensures rows { OnOk result (self.new.rows.items ≡ self.old.rows.items ++ other.rows.items) }
         ensures faults { OnOk result (self.new.faults.items ≡ self.old.faults.items ++ other.faults.items) }
+        ensures refused { OnErr result (SameInodes self.old self.new) }
     {
+        // With this room the faults can't be refused once the rows are there.
+        self.faults.reserve(other.faults.len())?;
         self.rows.append(&mut other.rows)?;
-        self.faults.append(&mut other.faults)
+        self.faults.append(&mut other.faults)?;
+        Ok(())
     }
 }
