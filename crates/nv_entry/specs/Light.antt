@@ -15,9 +15,13 @@ use Rattle.nv_entry.specs.declared.light.LightEntry.TheVariants as light
 unfoldable pub text_at : Region → ℕ → ℕ → List ℕ
 text_at region a n = take n (flat_map (λ k. low_bytes 8 (word region (a + 8 * k))) (range_with_len 0 (words_for n)))
 
+-- the name entry that a light one would be with this name
+abbrev pub with_name : LightName → List ℕ → NameEntry
+with_name e name = record { operation = e.operation; inode = e.inode; time = e.time; name = name }
+
 -- the name entry that a light one stands for
 abbrev pub name_in : Region → LightName → NameEntry
-name_in region e = record { operation = e.operation; inode = e.inode; time = e.time; name = text_at region e.at e.count }
+name_in region e = with_name e (text_at region e.at e.count)
 
 -- the entry that a light one stands for
 abbrev pub entry_in : Region → LightEntry → Entry

@@ -5,11 +5,12 @@
 
 ghost use Rattle.std.specs.Prelude.{◌≡◌, ◌+◌, ◌*◌, ◌<◌, is_none, if◌then◌else◌, Some, None};
 ghost use Rattle.nv_super.specs.Layout.{HasAreas};
-ghost use Rattle.nv_entry.specs.Light.{bare};
+ghost use Rattle.nv_entry.specs.Light.{bare, with_name};
+ghost use Rattle.nv_entry.specs.declared.entry.NameEntry.{NameEntry as NameValue};
 ghost use Rattle.nv_entry.specs.Content.{is_wrong_kind, is_out_of_range, is_write_out_of_range, is_attr_out_of_range, is_name_out_of_range, is_links_out_of_range, is_dots, has_bad_byte, content_fault, is_good};
 
-use crate::entry::{AttrEntry, Entry, LinksEntry, NameEntry, WriteEntry};
-use crate::light::LightEntry;
+use crate::entry::{AttrEntry, Entry, LinksEntry, WriteEntry};
+use crate::light::{LightEntry, LightName};
 use nv_super::{BLOCK_SIZE, Kind, Super};
 
 const MOST_PAGES: u64 = 262_144;
@@ -44,15 +45,27 @@ pub fn check_content(sup: &Super, kind: Kind, entry: &Entry) -> Option<ContentFa
     }
 }
 
-/// The fault in what a name entry says, or `None` where it is good.
-pub fn check_name(sup: &Super, kind: Kind, e: &NameEntry) -> Option<ContentFault>
+/// The fault in what a name entry of this name says, or `None` where it is good.
+pub fn check_name(sup: &Super, kind: Kind, e: &LightName, name: &[u8]) -> Option<ContentFault>
     requires { HasAreas sup.now }
-    ensures fault { result ≡ content_fault sup.now kind (Entry.Name e.now) }
-    ensures good { is_none result ≡ is_good sup.now kind (Entry.Name e.now) }
+    ensures fault { result ≡ content_fault sup.now kind (Entry.Name (with_name e.now name.now)) }
+    ensures good { is_none result ≡ is_good sup.now kind (Entry.Name (with_name e.now name.now)) }
 {
     match kind {
         Kind::File => Some(ContentFault::WrongKind),
-        Kind::Directory => out_of_range_if(is_name_out_of_range(sup, e)),
+        Kind::Directory => out_of_range_if(is_name_out_of_range(sup, e.inode, name)),
+    }
+}
+
+/// The fault in what a write entry says, or `None` where it is good.
+pub fn check_write(sup: &Super, kind: Kind, e: &WriteEntry) -> Option<ContentFault>
+    requires { HasAreas sup.now }
+    ensures fault { result ≡ content_fault sup.now kind (Entry.Write e.now) }
+    ensures good { is_none result ≡ is_good sup.now kind (Entry.Write e.now) }
+{
+    match kind {
+        Kind::File => out_of_range_if(is_write_out_of_range(sup, e)),
+        Kind::Directory => Some(ContentFault::WrongKind),
     }
 }
 
@@ -64,9 +77,8 @@ pub fn check_bare(sup: &Super, kind: Kind, entry: &LightEntry) -> Option<Content
     ensures good { is_none result ≡ is_good sup.now kind (bare entry.now) }
 {
     match (entry, kind) {
-        (LightEntry::Write(_), Kind::Directory) => Some(ContentFault::WrongKind),
         (LightEntry::Links(_), Kind::Directory) => Some(ContentFault::WrongKind),
-        (LightEntry::Write(e), Kind::File) => out_of_range_if(is_write_out_of_range(sup, e)),
+        (LightEntry::Write(e), _) => check_write(sup, kind, e),
         (LightEntry::Links(e), Kind::File) => out_of_range_if(is_links_out_of_range(e)),
         (LightEntry::Attr(e), _) => out_of_range_if(is_attr_out_of_range(kind, e)),
         (LightEntry::NextPage, _) => None,
@@ -101,7 +113,7 @@ pub fn is_out_of_range(sup: &Super, kind: Kind, entry: &Entry) -> bool
         Entry::NextPage => false,
         Entry::Write(e) => is_write_out_of_range(sup, e),
         Entry::Attr(e) => is_attr_out_of_range(kind, e),
-        Entry::Name(e) => is_name_out_of_range(sup, e),
+        Entry::Name(e) => is_name_out_of_range(sup, e.inode, e.name.as_slice()),
         Entry::Links(e) => is_links_out_of_range(e),
     }
 }
@@ -132,12 +144,12 @@ fn is_attr_out_of_range(kind: Kind, e: &AttrEntry) -> bool
         }
 }
 
-fn is_name_out_of_range(sup: &Super, e: &NameEntry) -> bool
+/// Whether no path can say the name, or no inode has the number.
+fn is_name_out_of_range(sup: &Super, inode: u64, name: &[u8]) -> bool
     requires { HasAreas sup.now }
-    ensures { result ≡ is_name_out_of_range sup.now e.now }
+    ensures { (e : NameValue) → e.inode ≡ inode → e.name ≡ name.now → result ≡ is_name_out_of_range sup.now e }
 {
-    let name = e.name.as_slice();
-    has_bad_byte(name) || is_dots(name) || !sup.is_number(e.inode)
+    has_bad_byte(name) || is_dots(name) || !sup.is_number(inode)
 }
 
 /// Whether it has a byte 0 or a `/`.

@@ -14,8 +14,8 @@ mod reading;
 mod writing;
 
 pub use content::{
-    ContentFault, check_bare, check_content, check_name, has_bad_byte, is_dots, is_out_of_range,
-    is_wrong_kind,
+    ContentFault, check_bare, check_content, check_name, check_write, has_bad_byte, is_dots,
+    is_out_of_range, is_wrong_kind,
 };
 pub use entry::{AttrEntry, Entry, LinksEntry, NameEntry, Operation, WriteEntry, name_entry};
 pub use laws::{
@@ -23,5 +23,5 @@ pub use laws::{
 };
 pub use light::{LightEntry, LightName};
 pub use name::FileName;
-pub use reading::{Framing, read_entry, read_light};
+pub use reading::{Framing, read_entry, read_light, read_write};
 pub use writing::{length, write_entry};

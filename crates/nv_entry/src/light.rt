@@ -8,6 +8,7 @@ ghost use Rattle.arrayvec.specs.ArrayVec.{array_vec_len};
 ghost use Rattle.nv_super.specs.nv_region.Region.{Region, size};
 ghost use Rattle.nv_entry.specs.Spelling.{entry_length, words_for};
 ghost use Rattle.nv_entry.specs.Digits.{low_bytes};
+ghost use Rattle.nv_entry.specs.Name.{IsName};
 ghost use Rattle.nv_entry.specs.Light.{text_at, name_in, entry_in, HasName, CanBeRead};
 
 use crate::entry::{AttrEntry, Entry, LinksEntry, NameEntry, Operation, WriteEntry};
@@ -53,16 +54,26 @@ impl fmt::Debug for LightEntry {
 }
 
 impl LightName {
+    /// Reads the bytes of the name, as they stand in this region, in place of those in `bytes`.
+    pub fn read_name<P: Pmem>(&self, memory: &P, bytes: &mut ArrayVec<u8, 255>)
+        requires { HasName (P.region memory.now) self.now }
+        ensures text { bytes.new.items ≡ text_at (P.region memory.now) self.now.at self.now.count }
+        ensures is_name { IsName bytes.new.items }
+    {
+        // The region's length is a u64, and so is each address up to it.
+        let _end = memory.len();
+        bytes.clear();
+        read_text(memory, self.at, self.count as usize, bytes);
+    }
+
     /// The entry with its name, as that stands in this region.
     pub fn read<P: Pmem>(&self, memory: &P) -> NameEntry
         requires { HasName (P.region memory.now) self.now }
         ensures { result ≡ name_in (P.region memory.now) self.now }
     {
-        // The region's length is a u64, and so is each address up to it.
-        let _end = memory.len();
         // The bytes are read in place here, and so move but once, into the entry.
         let mut bytes: ArrayVec<u8, 255> = ArrayVec::new();
-        read_text(memory, self.at, self.count as usize, &mut bytes);
+        self.read_name(memory, &mut bytes);
         NameEntry {
             operation: self.operation,
             inode: self.inode,
@@ -122,6 +133,11 @@ fn push_word(bytes: &mut ArrayVec<u8, 255>, word: u64, count: usize)
     requires room { array_vec_len bytes.old + count ≤ 255 }
     ensures { bytes.new.items ≡ bytes.old.items ++ low_bytes count word }
 {
+    if count == 8 {
+        // So many bytes always fit.
+        let _fits = bytes.try_extend_from_slice(&word.to_le_bytes());
+        return;
+    }
     let mut rest = word;
     for _ in 0..count {
         bytes.push((rest % 256) as u8);

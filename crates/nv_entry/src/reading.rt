@@ -4,7 +4,7 @@
 //! Whatever departs from a spelling is wrong framing: an unknown type or operation, another length, bits behind a name,
 //! a word that should be zero, or an end past the room.
 
-ghost use Rattle.std.specs.Prelude.{◌≡◌, ◌+◌, ◌*◌, ◌/◌, ◌%◌, ◌^◌, ◌<◌, ◌≤◌, List, ℕ, length, OnErr, IfOk, IsTrue, false};
+ghost use Rattle.std.specs.Prelude.{◌≡◌, ◌+◌, ◌*◌, ◌/◌, ◌%◌, ◌^◌, ◌<◌, ◌≤◌, List, ℕ, length, OnErr, IfOk, IfSome, IfNone, IsTrue, false};
 ghost use Rattle.nv_super.specs.nv_region.Region.{size, word};
 ghost use Rattle.nv_entry.specs.Name.{IsName};
 ghost use Rattle.nv_entry.specs.Spelling.{Stands, entry_length, first_word, words_for, IsTextAt, IsWriteAt, IsAttrAt, IsNameAt, IsLinksAt};
@@ -60,12 +60,45 @@ pub fn read_light<P: Pmem>(memory: &P, at: u64, room: u64) -> Result<LightEntry,
     let first = First::from_word(memory.load(at));
     match first.kind {
         0 => read_next_page(first),
-        1 => read_write(memory, at, room, first),
+        1 => match read_write(memory, at, room) {
+            Some(e) => Ok(LightEntry::Write(e)),
+            None => Err(Framing),
+        },
         2 => read_attr(memory, at, room, first),
         3 => read_name_entry(memory, at, room, first),
         4 => read_links(memory, at, room, first),
         _ => Err(Framing),
     }
+}
+
+/// Reads the write entry that begins at the byte address `at`, a multiple of 8, and ends within `room` bytes. `None` where
+/// another entry is spelled there, or none that fits the room.
+///
+/// A caller that expects a write entry is quicker by it than by `read_light`, which finds the same.
+pub fn read_write<P: Pmem>(memory: &P, at: u64, room: u64) -> Option<WriteEntry>
+    requires aligned { at % 8 ≡ 0 }
+    requires inside { at + room ≤ size (P.region memory.now) }
+    // What is read stands there.
+    ensures found { IfSome result (λ e. IsWriteAt (P.region memory.now) at e × (40 ≤ room)) }
+    // A write entry that stands there is read.
+    ensures none { IfNone result ((e : WriteValue) → IsWriteAt (P.region memory.now) at e → 40 ≤ room → ⊥) }
+{
+    // The region's length is a u64, and so is each address up to it.
+    let _end = memory.len();
+    if room < 40 {
+        return None;
+    }
+    let first = First::from_word(memory.load(at));
+    if first.kind != 1 || first.operation != 0 || first.length != 40 {
+        return None;
+    }
+    Some(WriteEntry {
+        count: first.number,
+        offset: memory.load(at + 8),
+        block: memory.load(at + 16),
+        size: memory.load(at + 24),
+        time: memory.load(at + 32),
+    })
 }
 
 fn read_next_page(first: First) -> Result<LightEntry, Framing>
@@ -78,28 +111,6 @@ fn read_next_page(first: First) -> Result<LightEntry, Framing>
     } else {
         Err(Framing)
     }
-}
-
-fn read_write<P: Pmem>(memory: &P, at: u64, room: u64, first: First) -> Result<LightEntry, Framing>
-    requires aligned { at % 8 ≡ 0 }
-    requires inside { at + room ≤ size (P.region memory.now) }
-    requires small { at + room < 2 ^ 64 }
-    requires first { word (P.region memory.now) at ≡ first_word first.kind first.operation first.length first.number }
-    requires kind { first.kind ≡ 1 }
-    ensures found { IfOk result (λ e. Stands (P.region memory.now) at (entry_in (P.region memory.now) e) × (entry_length (entry_in (P.region memory.now) e) ≤ room)) }
-    ensures name { IfOk result (CanBeRead (P.region memory.now)) }
-    ensures none { OnErr result ((e : WriteValue) → IsWriteAt (P.region memory.now) at e → 40 ≤ room → ⊥) }
-{
-    if first.operation != 0 || first.length != 40 || room < 40 {
-        return Err(Framing);
-    }
-    Ok(LightEntry::Write(WriteEntry {
-        count: first.number,
-        offset: memory.load(at + 8),
-        block: memory.load(at + 16),
-        size: memory.load(at + 24),
-        time: memory.load(at + 32),
-    }))
 }
 
 fn read_attr<P: Pmem>(memory: &P, at: u64, room: u64, first: First) -> Result<LightEntry, Framing>

@@ -14,3 +14,4 @@ pub mod Writing
 pub mod Laid
 pub mod Grown
 pub mod ReadOn
+pub mod Writes

@@ -6,8 +6,8 @@ use Rattle.std.proofs.lemmas.Bool.Decides.{eqb_tells, leb_tells, nat_tests}
 use Rattle.std.proofs.lemmas.Grind.{one_shifted}
 use Rattle.std.proofs.lemmas.List.{take_more, length-take-le, take-append-drop}
 use Rattle.std.proofs.lemmas.Nat.{pow-add}
-use Rattle.std.proofs.lemmas.Nat.Bits.{bit_at-zero, bit_at-lt, bit_at_and, bit_at_ones, bit_at_ones_above}
-use Rattle.std.proofs.Math.Nat.{div-div-eq-div-mul}
+use Rattle.std.proofs.lemmas.Nat.Bits.{bit_at-zero, bit_at-lt, bit_at_and, bit_at_ones, bit_at_ones_above, shr_and_one}
+use Rattle.std.proofs.Math.Nat.{div-div-eq-div-mul, zero-div}
 use Rattle.nv_radix.specs.declared.extent.Extent.{Extent}
 use Rattle.nv_radix.specs.Pages.{Pages, block_at, is_ready, in_run}
 use Rattle.nv_radix.specs.Extents.{AreExtents}
@@ -49,6 +49,17 @@ low_bits mapped k p l =
       | inl w ↦ rw (w.0, bit_at_ones_above k p w.1) (omega arith)
       | inr w ↦ rw (w.0, bit_at_ones k p w.1) (let few = bit_at-lt mapped p in omega (arith, few))
     ]
+
+-- where no bit from a place on is set, they need no clearing
+pub low_only : (mapped k p : ℕ) → mapped / 2 ^ k ≤ 0 → bit_at mapped p ≡ cond (leb k p) 0 (bit_at mapped p)
+low_only mapped k p none = elim (leb_tells k p) [
+  | inl w ↦ rw w.0 (
+      let there : 2 ^ p ≡ 2 ^ k * 2 ^ (p - k) = ap (λ (n : ℕ). 2 ^ n) (omega (arith, w.1)) ∙ pow-add 2 k (p - k) in
+      let cut : mapped / 2 ^ p ≡ mapped / 2 ^ k / 2 ^ (p - k) = ap (λ (n : ℕ). mapped / n) there ∙ sym (div-div-eq-div-mul mapped (2 ^ k) (2 ^ (p - k))) in
+      let zero : mapped / 2 ^ p ≡ 0 = cut ∙ ap (λ (n : ℕ). n / 2 ^ (p - k)) (omega (arith, none)) ∙ zero-div (2 ^ (p - k)) in
+      sym (shr_and_one mapped p) ∙ ap (λ (n : ℕ). bit_and n 1) zero ∙ refl)
+  | inr w ↦ rw w.0 refl
+]
 
 -- a leaf with the bits from a place on cleared
 pub leaf_cut : (mapped new : ℕ) (blocks : List ℕ) (k p : ℕ) → bit_at new p ≡ cond (leb k p) 0 (bit_at mapped p) → block_at (leaf_pages new blocks 0) p ≡ cond (leb k p) None (block_at (leaf_pages mapped blocks 0) p)

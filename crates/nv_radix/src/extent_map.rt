@@ -48,6 +48,7 @@ impl ExtentMap {
     /// Unmaps the pages from `first_page` on, which may be any number.
     ///
     /// Errors: `AllocError` where a growth was refused; of the map nothing is said then.
+    #[inline(always)]
     pub fn cut(&mut self, first_page: u64) -> Result<(), AllocError>
         ensures { OnOk result ((p : ℕ) → block_by self.new p ≡ (if nat_le first_page p then None else block_by self.old p)) }
     {
@@ -61,6 +62,7 @@ impl ExtentMap {
     /// Maps the `count` pages from `page` on, all below `MAX_FILE_PAGES`, to as many blocks from `block` on.
     ///
     /// Errors: `AllocError` where a growth was refused; of the map nothing is said then.
+    #[inline(always)]
     pub fn set_run(&mut self, page: u64, block: u64, count: u64) -> Result<(), AllocError>
         requires pages { AreFilePages page count }
         requires blocks { 0 < count → block + count ≤ 2 ^ 64 }
@@ -74,6 +76,7 @@ impl ExtentMap {
 
     /// Maps a run that begins among the first pages: these in the leaf, and the whole run among the others where it goes on
     /// behind them.
+    #[inline(always)]
     fn set_first(&mut self, page: u64, block: u64, count: u64) -> Result<(), AllocError>
         requires first { page < 64 }
         requires pages { AreFilePages page count }

@@ -17,10 +17,7 @@ pub fn add_page(extents: &mut Vec<Extent>, page: u64, block: u64) -> Result<(), 
     if len > 0 {
         let last = extents[len - 1];
         if last.is_followed_by(page, block) {
-            extents[len - 1] = Extent {
-                count: last.count + 1,
-                ..last
-            };
+            extents[len - 1].count += 1;
             return Ok(());
         }
     }

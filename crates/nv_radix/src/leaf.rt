@@ -65,9 +65,9 @@ impl Node for Leaf {
         set_places(&mut self.mapped, &mut self.blocks, page, block, count);
     }
 
-    /// All pages stay ready.
+    /// All pages stay ready. Most cuts find no page to unmap, and store nothing.
     fn cut(&mut self, first_page: u64) {
-        if first_page < 64 {
+        if first_page < 64 && self.mapped >> first_page > 0 {
             self.mapped &= (1 << first_page) - 1;
         }
     }

@@ -51,6 +51,8 @@ impl RunMap {
     }
 
     /// Unmaps the pages from `first_page` on, which may be any number.
+    // Each entry of a log makes this call and the next, and most do nothing but compare.
+    #[inline(always)]
     pub fn cut(&mut self, first_page: u64) -> Result<(), AllocError>
         ensures { OnOk result ((p : ℕ) → block_by self.new p ≡ (if nat_le first_page p then None else block_by self.old p)) }
     {
@@ -68,6 +70,7 @@ impl RunMap {
     }
 
     /// Maps the `count` pages from `page` on to as many blocks from `block` on.
+    #[inline(always)]
     pub fn set_run(&mut self, page: u64, block: u64, count: u64) -> Result<(), AllocError>
         requires pages { AreFilePages page count }
         requires blocks { 0 < count → block + count ≤ 2 ^ 64 }

@@ -1,13 +1,15 @@
 -- What was read so far, at the head and after one entry more, and in all.
-use Rattle.std.proofs.Common.{◌≡◌, ℕ, List, [], ◌∷◌, ◌++◌, sym, subst}
+use Rattle.std.proofs.Common.{◌≡◌, ℕ, List, [], ◌∷◌, ◌++◌, refl, sym, subst}
 use Rattle.nv_region.specs.Region.{Region}
 use Rattle.nv_super.specs.declared.superblock.Super.{Super}
 use Rattle.nv_super.specs.declared.kind.Kind.{Kind}
 use Rattle.nv_inode.specs.declared.slot.Slot.{Slot}
+use Rattle.nv_entry.specs.declared.entry.WriteEntry.{WriteEntry}
+use Rattle.nv_entry.specs.declared.entry.Entry.TheVariants.{Write}
 use Rattle.nv_logpage.specs.declared.found.Placed.{Placed}
 use Rattle.nv_logpage.specs.declared.found.Finding.{Finding}
 use Rattle.nv_logpage.specs.declared.found.Finding.TheVariants.{Entry, End}
-use Rattle.nv_logpage.specs.Reads.{Reads}
+use Rattle.nv_logpage.specs.Reads.{Reads, found_write, placed}
 use Rattle.nv_logpage.specs.Progress.{Progress, at_head, Leads, Continues}
 use Rattle.nv_logpage.proofs.Progress.{leads_start}
 use Rattle.nv_scan.specs.Fold.{Holds, Takes}
@@ -27,6 +29,13 @@ read_more R head s kind i created r r' old new found x so_far goes is p q t = re
   leads = subst (λ (f : Finding). Continues R head r' so_far.entries f) is (goes head so_far.entries so_far.leads);
   holds = subst (λ (n : Super). Holds n kind i created (so_far.entries ++ x ∷ []) new) (sym q) (Holds-more (subst (λ (n : Super). Holds n kind i created so_far.entries old) p so_far.holds) t);
 }
+
+-- and after one write entry more
+pub read_write : (R : Region) (head : ℕ) (s : Super) (kind : Kind) (i created : ℕ) (r r' : Progress) (old new : Fold) (at : ℕ) (e : WriteEntry)
+    → IsReadSoFar R head kind i created r old → ((h : ℕ) (es : List Placed) → Leads R h r es → Continues R h r' es (found_write r.place e)) → at ≡ r.place
+    → r.sup ≡ s → r'.sup ≡ s → Takes s kind i (placed at (Write e)) old new → IsReadSoFar R head kind i created r' new
+read_write R head s kind i created r r' old new at e so_far goes is p q t =
+    read_more R head s kind i created r r' old new (found_write r.place e) (placed r.place (Write e)) so_far goes refl p q (subst (λ (n : ℕ). Takes s kind i (placed n (Write e)) old new) is t)
 
 -- the whole log, once its end is found
 pub read_whole : (R : Region) (s : Super) (kind : Kind) (i : ℕ) (slot : Slot) (r r' : Progress) (fold : Fold) (found : Finding) (read : Read)

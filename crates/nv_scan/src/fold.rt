@@ -3,7 +3,8 @@
 ghost use Rattle.std.specs.Prelude.{◌≡◌, ◌++◌, ℕ, OnErr, OnOk, [], true, is_none};
 ghost use Rattle.std.specs.List.{cons_option};
 ghost use Rattle.nv_entry.specs.Content.{content_fault};
-ghost use Rattle.nv_entry.specs.Light.{bare, name_in, CanBeRead, HasName};
+ghost use Rattle.nv_entry.specs.Light.{bare, name_in, with_name, CanBeRead, HasName};
+ghost use Rattle.nv_entry.specs.Name.{IsName};
 ghost use Rattle.nv_logpage.specs.Reads.{placed};
 ghost use Rattle.nv_logpage.specs.Light.{placed_in};
 ghost use Rattle.nv_super.specs.Layout.{HasAreas};
@@ -14,8 +15,9 @@ ghost use Rattle.nv_scan.specs.Light.{bare_placed};
 
 use crate::names::{apply_name, told};
 use crate::numbers::Numbers;
-use crate::pages::apply_pages;
-use nv_entry::{Entry, LightEntry, LightName, NameEntry, check_bare, check_name};
+use crate::pages::{apply_pages, write_pages};
+use arrayvec::ArrayVec;
+use nv_entry::{Entry, LightEntry, LightName, WriteEntry, check_bare, check_name, check_write};
 use nv_logpage::LightPlaced;
 use nv_names::NameIndex;
 use nv_radix::ExtentMap;
@@ -61,11 +63,52 @@ impl Fold {
     {
         match &placed.entry {
             LightEntry::Name(e) => self.take_name(memory, sup, kind, inode, placed.at, e),
-            LightEntry::NextPage
-            | LightEntry::Write(_)
-            | LightEntry::Attr(_)
-            | LightEntry::Links(_) => self.take_bare(sup, kind, inode, placed),
+            LightEntry::Write(e) => self.take_write(sup, kind, inode, placed.at, e),
+            LightEntry::NextPage | LightEntry::Attr(_) | LightEntry::Links(_) => self.take_bare(
+                sup, kind, inode, placed,
+            ),
         }
+    }
+
+    /// Takes a write entry at a place.
+    // Most entries are writes, and a call for each would cost as much as its work.
+    #[inline(always)]
+    pub(crate) fn take_write(
+        &mut self,
+        sup: &Super,
+        kind: Kind,
+        inode: u64,
+        at: u64,
+        e: &WriteEntry,
+    ) -> Result<(), AllocError>
+        requires { HasAreas sup.now }
+        ensures { OnOk result (Takes sup.now kind inode (placed at (Entry.Write e.now)) self.old self.new) }
+    {
+        match check_write(sup, kind, e) {
+            Some(fault) => {
+                self.faults.push(told(fault, inode, at))?;
+                Ok(())
+            }
+            None => self.take_good_write(sup, kind, inode, at, e),
+        }
+    }
+
+    /// Takes a good write entry.
+    #[inline(always)]
+    fn take_good_write(
+        &mut self,
+        sup: &Super,
+        _kind: Kind,
+        _inode: u64,
+        _at: u64,
+        e: &WriteEntry,
+    ) -> Result<(), AllocError>
+        requires areas { HasAreas sup.now }
+        requires good { is_none (content_fault sup.now _kind (Entry.Write e.now)) ≡ true }
+        ensures { OnOk result (Takes sup.now _kind _inode (placed _at (Entry.Write e.now)) self.old self.new) }
+    {
+        self.numbers.apply_write(e);
+        write_pages(&mut self.extents, sup, e)
     }
 
     /// Takes an entry without a name.
@@ -113,19 +156,20 @@ impl Fold {
         kind: Kind,
         inode: u64,
         at: u64,
-        light: &LightName,
+        e: &LightName,
     ) -> Result<(), AllocError>
         requires areas { HasAreas sup.now }
-        requires name { HasName (P.region memory.now) light.now }
-        ensures { OnOk result (Takes sup.now kind inode (placed at (Entry.Name (name_in (P.region memory.now) light.now))) self.old self.new) }
+        requires name { HasName (P.region memory.now) e.now }
+        ensures { OnOk result (Takes sup.now kind inode (placed at (Entry.Name (name_in (P.region memory.now) e.now))) self.old self.new) }
     {
-        let e = light.read(memory);
-        match check_name(sup, kind, &e) {
+        let mut name: ArrayVec<u8, 255> = ArrayVec::new();
+        e.read_name(memory, &mut name);
+        match check_name(sup, kind, e, &name) {
             Some(fault) => {
                 self.faults.push(told(fault, inode, at))?;
                 Ok(())
             }
-            None => self.take_good_name(sup, kind, inode, at, &e),
+            None => self.take_good_name(sup, kind, inode, at, e, &name),
         }
     }
 
@@ -136,12 +180,14 @@ impl Fold {
         _kind: Kind,
         inode: u64,
         at: u64,
-        e: &NameEntry,
+        e: &LightName,
+        name: &[u8],
     ) -> Result<(), AllocError>
-        requires { is_none (content_fault _sup.now _kind (Entry.Name e.now)) ≡ true }
-        ensures { OnOk result (Takes _sup.now _kind inode (placed at (Entry.Name e.now)) self.old self.new) }
+        requires good { is_none (content_fault _sup.now _kind (Entry.Name (with_name e.now name.now))) ≡ true }
+        requires name { IsName name.now }
+        ensures { OnOk result (Takes _sup.now _kind inode (placed at (Entry.Name (with_name e.now name.now))) self.old self.new) }
     {
-        let fault = apply_name(&mut self.names, inode, at, e)?;
+        let fault = apply_name(&mut self.names, inode, at, e, name)?;
         self.numbers.time = e.time;
         push_fault(&mut self.faults, fault)
     }

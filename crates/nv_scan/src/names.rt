@@ -2,11 +2,13 @@
 
 ghost use Rattle.std.specs.Prelude.{◌≡◌, ℕ, List, unwrap_or, if◌then◌else◌, nat_eq, None, IfOk, OnOk};
 ghost use Rattle.std.specs.Cmp.Lexicographic.{pointwise};
+ghost use Rattle.nv_entry.specs.Light.{with_name};
+ghost use Rattle.nv_entry.specs.Name.{IsName};
 ghost use Rattle.nv_names.specs.Names.{name_at};
 ghost use Rattle.nv_scan.specs.State.{name_in};
 ghost use Rattle.nv_scan.specs.Fold.{clash, name_fault, told};
 
-use nv_entry::{ContentFault, Entry, NameEntry, Operation};
+use nv_entry::{ContentFault, Entry, LightName, Operation};
 use nv_names::NameIndex;
 use nv_super::Fault;
 use std::alloc::AllocError;
@@ -17,12 +19,13 @@ pub(crate) fn apply_name(
     names: &mut NameIndex,
     inode: u64,
     at: u64,
-    e: &NameEntry,
+    e: &LightName,
+    name: &[u8],
 ) -> Result<Option<Fault>, AllocError>
-    ensures names { OnOk result ((q : List ℕ) → name_at names.new q ≡ unwrap_or (name_in q at (Entry.Name e.now)) (name_at names.old q)) }
-    ensures fault { IfOk result (λ fault. fault ≡ name_fault inode (name_at names.old) at (Entry.Name e.now)) }
+    requires { IsName name.now }
+    ensures names { OnOk result ((q : List ℕ) → name_at names.new q ≡ unwrap_or (name_in q at (Entry.Name (with_name e.now name.now))) (name_at names.old q)) }
+    ensures fault { IfOk result (λ fault. fault ≡ name_fault inode (name_at names.old) at (Entry.Name (with_name e.now name.now))) }
 {
-    let name = e.name.as_slice();
     Ok(match e.operation {
         Operation::Add => match names.put(name, e.inode, at)? {
             Some(_) => Some(Fault::E3 { inode, at }),

@@ -4,7 +4,7 @@ ghost use Rattle.std.specs.Prelude.{◌≡◌, unwrap_or};
 ghost use Rattle.nv_scan.specs.State.{says_size, says_mode, says_owner, says_group, says_links, says_time};
 ghost use Rattle.nv_scan.specs.Light.{bare_placed};
 
-use nv_entry::LightEntry;
+use nv_entry::{LightEntry, WriteEntry};
 use nv_logpage::LightPlaced;
 
 /// An inode's size in bytes, mode, owner, group, link count and time.
@@ -44,10 +44,7 @@ impl Numbers {
     {
         match &placed.entry {
             LightEntry::NextPage | LightEntry::Name(_) => {}
-            LightEntry::Write(e) => {
-                self.size = e.size;
-                self.time = e.time;
-            }
+            LightEntry::Write(e) => self.apply_write(e),
             LightEntry::Attr(e) => {
                 self.size = e.size;
                 self.mode = e.mode;
@@ -60,5 +57,12 @@ impl Numbers {
                 self.time = e.time;
             }
         }
+    }
+    /// Takes what a write entry says.
+    pub(crate) fn apply_write(&mut self, e: &WriteEntry)
+        ensures { self.new ≡ record self.old { size = e.now.size; time = e.now.time } }
+    {
+        self.size = e.size;
+        self.time = e.time;
     }
 }

@@ -33,7 +33,12 @@ pub(crate) fn apply_pages(
 }
 
 /// Cuts the pages from the entry's size on, and maps its own, each of which begins below the size.
-fn write_pages(extents: &mut ExtentMap, sup: &Super, e: &WriteEntry) -> Result<(), AllocError>
+#[inline(always)]
+pub(crate) fn write_pages(
+    extents: &mut ExtentMap,
+    sup: &Super,
+    e: &WriteEntry,
+) -> Result<(), AllocError>
     requires areas { HasAreas sup.now }
     requires good { is_write_out_of_range sup.now e.now ≡ false }
     ensures { OnOk result ((p : ℕ) → block_by extents.new p ≡ unwrap_or (block_in p (Entry.Write e.now)) (block_by extents.old p)) }

@@ -1,11 +1,11 @@
 //! Reading the log of an inode to its end, entry by entry.
 
-ghost use Rattle.std.specs.Prelude.{◌≡◌, [], IfOk};
+ghost use Rattle.std.specs.Prelude.{◌≡◌, ◌≤◌, ℕ, [], IfOk, OnOk};
 ghost use Rattle.nv_region.specs.Region.{HasBlocks};
 ghost use Rattle.nv_super.specs.Layout.{HasAreas};
-ghost use Rattle.nv_logpage.specs.Progress.{at_head};
+ghost use Rattle.nv_logpage.specs.Progress.{at_head, remaining};
 ghost use Rattle.nv_scan.specs.Fold.{Holds};
-ghost use Rattle.nv_scan.specs.Reading.{IsRead};
+ghost use Rattle.nv_scan.specs.Reading.{IsRead, IsReadSoFar};
 
 use crate::fold::Fold;
 use crate::in_use::InUse;
@@ -39,6 +39,7 @@ pub(crate) fn read_log<P: Pmem>(
     ensures read { IfOk result (IsRead (P.region memory.now) sup.now used.now.inode used.now.kind used.now.slot fold.new) }
 {
     'reading: loop {
+        take_writes(memory, sup, reader, used, fold)?;
         match reader.next_light(memory)? {
             LightFinding::Entry(placed) => fold.take(memory, sup, used.kind, used.inode, &placed)?,
             LightFinding::Page(_) => {}
@@ -50,4 +51,29 @@ pub(crate) fn read_log<P: Pmem>(
             }
         }
     }
+}
+
+/// Takes the write entries that stand at the reader's place one behind another, which is quicker than a finding at a time.
+fn take_writes<P: Pmem>(
+    memory: &P,
+    sup: &Super,
+    reader: &mut LogReader,
+    used: &InUse,
+    fold: &mut Fold,
+) -> Result<(), AllocError>
+    requires areas { HasAreas sup.now }
+    requires blocks { HasBlocks (P.region memory.now) sup.now.blocks }
+    requires sup { reader.old.sup ≡ sup.now }
+    ensures read { (head created : ℕ) → IsReadSoFar (P.region memory.now) head used.now.kind used.now.inode created reader.old fold.old → OnOk result (IsReadSoFar (P.region memory.now) head used.now.kind used.now.inode created reader.new fold.new) }
+    ensures same_log { (reader.new.sup ≡ reader.old.sup) × (reader.new.tail ≡ reader.old.tail) }
+    ensures less { remaining reader.new ≤ remaining reader.old }
+{
+    // No store can change a copy, so its numbers are loaded once.
+    let sup = *sup;
+    let mut at = reader.place();
+    while let Some(e) = reader.next_write(memory) {
+        fold.take_write(&sup, used.kind, used.inode, at, &e)?;
+        at = reader.place();
+    }
+    Ok(())
 }

@@ -4,10 +4,10 @@ use Rattle.nv_super.specs.nv_region.Region.{word}
 use Rattle.nv_entry.proofs.ByKind.{no_write, no_attr, no_links}
 use Rattle.nv_entry.proofs.reading.read_light.Goals as goal
 
-pub returns-in-1-clause-none : goal.returns-in-1-clause-none
-returns-in-1-clause-none g c =
+pub returns-in-None-clause-none : goal.returns-in-None-clause-none
+returns-in-None-clause-none g c =
     let kind : word (g.P.Pmem.region c.args.memory.now) c.args.at % 256 ≡ 1 = omega arith in
-    on_err_weaker _ (no_write _ _ c.args.room kind) c.read_write.ensures.none
+    no_write _ _ c.args.room kind c.in-None.ensures.none
 
 pub returns-in-2-clause-none : goal.returns-in-2-clause-none
 returns-in-2-clause-none g c =

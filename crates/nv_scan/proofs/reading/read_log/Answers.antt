@@ -17,40 +17,50 @@ pub reading-preserved-in_ok-take-in-Entry : goal.reading-preserved-in_ok-take-in
 reading-preserved-in_ok-take-in-Entry g c =
     let R = g.P.Pmem.region c.args.memory.now in
     let is = ap (finding_in R) c.in-Entry.is in
-    let moved : c.next_light.new.self ≡ after c.reading.reader (Entry (placed_in R c.in-Entry.placed)) = c.in_ok-placed.ensures.moves ∙ ap (after c.reading.reader) is in
-    let sup : c.next_light.new.self.sup ≡ c.args.sup.now = ap (λ (r : Progress). r.sup) moved ∙ c.reading.invariant.sup in
+    let before : c.take_writes.new.reader.sup ≡ c.args.sup.now = c.take_writes.ensures.same_log.0 ∙ c.reading.invariant.sup in
+    let moved : c.next_light.new.self ≡ after c.take_writes.new.reader (Entry (placed_in R c.in-Entry.placed)) = c.in_ok-placed.ensures.moves ∙ ap (after c.take_writes.new.reader) is in
+    let sup : c.next_light.new.self.sup ≡ c.args.sup.now = ap (λ (r : Progress). r.sup) moved ∙ before in
     record {
       sup = sup;
-      tail = ap (λ (r : Progress). r.tail) moved ∙ c.reading.invariant.tail;
-      so_far = read_more _ _ c.args.sup.now _ _ _ c.reading.reader _ c.reading.fold _ (finding_in R _) (placed_in R c.in-Entry.placed) c.reading.invariant.so_far c.in_ok-placed.ensures.leads is c.reading.invariant.sup sup c.in_ok-take-in-Entry.ensures;
+      tail = ap (λ (r : Progress). r.tail) moved ∙ c.take_writes.ensures.same_log.1 ∙ c.reading.invariant.tail;
+      so_far = read_more _ _ c.args.sup.now _ _ _ c.take_writes.new.reader _ c.take_writes.new.fold _ (finding_in R _) (placed_in R c.in-Entry.placed)
+          (c.in_ok-take_writes.ensures.read _ _ c.reading.invariant.so_far) c.in_ok-placed.ensures.leads is before sup c.in_ok-take-in-Entry.ensures;
     }
 
 pub returns-in-End-clause-read : goal.returns-in-End-clause-read
 returns-in-End-clause-read g c =
     let R = g.P.Pmem.region c.args.memory.now in
     let is = ap (finding_in R) c.in-End.is in
-    let moved : c.next_light.new.self ≡ c.reading.reader = c.in_ok-placed.ensures.moves ∙ ap (after c.reading.reader) is in
-    read_whole R c.args.sup.now c.args.used.now.kind c.args.used.now.inode c.args.used.now.slot c.reading.reader c.next_light.new.self c.reading.fold (finding_in R _) _
-    c.reading.invariant.so_far c.in_ok-placed.ensures.leads is c.reading.invariant.sup (ap (λ (r : Progress). r.sup) moved ∙ c.reading.invariant.sup) (ap (λ (r : Progress). r.tail) moved ∙ c.reading.invariant.tail)
+    let before : c.take_writes.new.reader.sup ≡ c.args.sup.now = c.take_writes.ensures.same_log.0 ∙ c.reading.invariant.sup in
+    let moved : c.next_light.new.self ≡ c.take_writes.new.reader = c.in_ok-placed.ensures.moves ∙ ap (after c.take_writes.new.reader) is in
+    read_whole R c.args.sup.now c.args.used.now.kind c.args.used.now.inode c.args.used.now.slot c.take_writes.new.reader c.next_light.new.self c.take_writes.new.fold (finding_in R _) _
+    (c.in_ok-take_writes.ensures.read _ _ c.reading.invariant.so_far) c.in_ok-placed.ensures.leads is before (ap (λ (r : Progress). r.sup) moved ∙ before)
+    (ap (λ (r : Progress). r.tail) moved ∙ c.take_writes.ensures.same_log.1 ∙ c.reading.invariant.tail)
     (c.in_ok-from_slice-in-End.ensures.ok ∙ c.pages.ensures)
 
 pub returns-in-End-clause-reader : goal.returns-in-End-clause-reader
-returns-in-End-clause-reader g c = c.next_light.ensures.same_log.0 ∙ c.reading.invariant.sup
+returns-in-End-clause-reader g c = c.next_light.ensures.same_log.0 ∙ c.take_writes.ensures.same_log.0 ∙ c.reading.invariant.sup
+
+pub returns-in_err-take_writes-clause-read : goal.returns-in_err-take_writes-clause-read
+returns-in_err-take_writes-clause-read g c = IfOk-from_err c.from_residual.result _ c.from_residual.ensures.0
+
+pub returns-in_err-take_writes-clause-reader : goal.returns-in_err-take_writes-clause-reader
+returns-in_err-take_writes-clause-reader g c = c.take_writes.ensures.same_log.0 ∙ c.reading.invariant.sup
 
 pub returns-in_err-placed-clause-read : goal.returns-in_err-placed-clause-read
-returns-in_err-placed-clause-read g c = IfOk-from_err c.from_residual.result _ c.from_residual.ensures.0
+returns-in_err-placed-clause-read g c = IfOk-from_err c.from_residual-in_err-placed.result _ c.from_residual-in_err-placed.ensures.0
 
 pub returns-in_err-placed-clause-reader : goal.returns-in_err-placed-clause-reader
-returns-in_err-placed-clause-reader g c = c.next_light.ensures.same_log.0 ∙ c.reading.invariant.sup
+returns-in_err-placed-clause-reader g c = c.next_light.ensures.same_log.0 ∙ c.take_writes.ensures.same_log.0 ∙ c.reading.invariant.sup
 
 pub returns-in_err-take-in-Entry-clause-read : goal.returns-in_err-take-in-Entry-clause-read
 returns-in_err-take-in-Entry-clause-read g c = IfOk-from_err c.from_residual-in_err-take-in-Entry.result _ c.from_residual-in_err-take-in-Entry.ensures.0
 
 pub returns-in_err-take-in-Entry-clause-reader : goal.returns-in_err-take-in-Entry-clause-reader
-returns-in_err-take-in-Entry-clause-reader g c = c.next_light.ensures.same_log.0 ∙ c.reading.invariant.sup
+returns-in_err-take-in-Entry-clause-reader g c = c.next_light.ensures.same_log.0 ∙ c.take_writes.ensures.same_log.0 ∙ c.reading.invariant.sup
 
 pub returns-in_err-from_slice-in-End-clause-read : goal.returns-in_err-from_slice-in-End-clause-read
 returns-in_err-from_slice-in-End-clause-read g c = IfOk-from_err c.from_residual-in_err-from_slice-in-End.result _ c.from_residual-in_err-from_slice-in-End.ensures.0
 
 pub returns-in_err-from_slice-in-End-clause-reader : goal.returns-in_err-from_slice-in-End-clause-reader
-returns-in_err-from_slice-in-End-clause-reader g c = c.next_light.ensures.same_log.0 ∙ c.reading.invariant.sup
+returns-in_err-from_slice-in-End-clause-reader g c = c.next_light.ensures.same_log.0 ∙ c.take_writes.ensures.same_log.0 ∙ c.reading.invariant.sup
