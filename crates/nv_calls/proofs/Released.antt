@@ -1,7 +1,7 @@
 -- What `unlink` does, by how many links the file has.
 use Rattle.std.proofs.Common.{◌≡◌, ℕ, ◌+◌, ◌-◌, ◌%◌, ◌<◌, ◌≤◌, nat_lt, Bool, true, false, cond, List, slice_get, ap, sym, ◌∙◌, subst, arith, Some}
 use Rattle.std.proofs.lemmas.Bool.Decides.{nat_tests}
-use Rattle.nv_super.proofs.Options.{some_only}
+use Rattle.std.proofs.lemmas.Option.{same_Some}
 use Rattle.nv_entry.specs.declared.entry.Operation.TheVariants.{Remove}
 use Rattle.nv_logpage.specs.Append.{needed}
 use Rattle.nv_scan.specs.declared.piece.Row.{Row}
@@ -23,10 +23,10 @@ test_last n few = grind (arith, nat_tests)
 module _ (rows : List Row) (place : ℕ) (read : Row) (read_at : slice_get rows place ≡ Some read) (b : Bool) (test : b ≡ nat_lt 1 read.numbers.links) where
   -- the row that was tested is the one at the place
   pub all_more : b ≡ true → (file : Row) → slice_get rows place ≡ Some file → 1 < file.numbers.links
-  all_more on file at = subst (λ (r : Row). 1 < r.numbers.links) (some_only _ _ (sym read_at ∙ at)) (is_more read.numbers.links (sym test ∙ on))
+  all_more on file at = subst (λ (r : Row). 1 < r.numbers.links) (same_Some _ _ (sym read_at ∙ at)) (is_more read.numbers.links (sym test ∙ on))
 
   pub all_last : b ≡ false → (file : Row) → slice_get rows place ≡ Some file → file.numbers.links ≤ 1
-  all_last off file at = subst (λ (r : Row). r.numbers.links ≤ 1) (some_only _ _ (sym read_at ∙ at)) (is_last read.numbers.links (sym test ∙ off))
+  all_last off file at = subst (λ (r : Row). r.numbers.links ≤ 1) (same_Some _ _ (sym read_at ∙ at)) (is_last read.numbers.links (sym test ∙ off))
 
 module _ (row file : Row) (name : List ℕ) (time : ℕ) where
   abbrev of_name : ℕ

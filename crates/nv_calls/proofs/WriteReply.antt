@@ -8,7 +8,6 @@ use Rattle.std.proofs.Props.{props}
 use Rattle.std.proofs.lemmas.Bool.{cases_lt}
 use Rattle.std.proofs.lemmas.Bool.Decides.{nat_tests}
 use Rattle.std.proofs.lemmas.Option.{same_Some}
-use Rattle.nv_super.proofs.Options.{some_only}
 use Rattle.nv_region.specs.Region.{Region}
 use Rattle.nv_super.specs.declared.superblock.Super.{Super}
 use Rattle.nv_super.specs.declared.faults.Fault.{Fault}
@@ -176,7 +175,7 @@ write_logged {P} region {n} {m} same {S} {after} {cpu} {plan} {offset} {new} {ro
         let shown = shows_row {free = n.free} mounted kept.lists row there in
         let v = shown.1 in
         let both : Some shown.0 ≡ Some h = sym v.holds ∙ ap held number ∙ is in
-        let one : shown.0 ≡ h = some_only _ _ both in
+        let one : shown.0 ≡ h = same_Some _ _ both in
         let told = v.told in
         let index : block_at row.index (row.numbers.size / 4096) ≡ block_of (good_in (fixed_layout n.sup) h) (row.numbers.size / 4096) = subst (λ (g : Held). block_at row.index (row.numbers.size / 4096) ≡ block_of (good_in (fixed_layout n.sup) g) (row.numbers.size / 4096)) one (told.index (row.numbers.size / 4096)) in
         let equal : plan ≡ plan_of (block_of (good_in (fixed_layout n.sup) h)) node.size offset (length new) time =

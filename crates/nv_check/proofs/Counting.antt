@@ -7,7 +7,7 @@ use Rattle.std.proofs.lemmas.List.Elements.{filter-append, filter_map-append}
 use Rattle.std.proofs.lemmas.List.Sums.{count_by_more_yes, count_by_more_no, count_by-le-length}
 use Rattle.std.proofs.lemmas.List.{length-take-le, take_more, append_assoc, map-append}
 use Rattle.std.proofs.lemmas.Bool.{ne_eqb}
-use Rattle.nv_super.proofs.Options.{some_only}
+use Rattle.std.proofs.lemmas.Option.{same_Some}
 use Rattle.nv_check.specs.Steps.{place_of, IsTable, AreCounts}
 use Rattle.nv_check.proofs.PlaceTable.{none_some, equal_or}
 
@@ -41,7 +41,7 @@ module _ (n : ℕ) (table : List (Option ℕ)) (named counts : List ℕ) (i t : 
 
     there : (j k : ℕ) → place_of table j ≡ Some k → k ≢ place → get_or (set counts place (get_or counts place 0 + 1)) k 0 ≡ count_by (λ s. eqb s j) (take (i + 1) named)
     there j k e ne = kept k (get_or counts place 0 + 1) ne ∙ h.each j k e ∙ sym (count_by_more_no (λ s. eqb s j) named i 0 lt
-        (ne_eqb (get_or named i 0) j (λ q. ne (some_only k place (sym e ∙ ap (place_of table) (sym q ∙ is) ∙ at)))))
+        (ne_eqb (get_or named i 0) j (λ q. ne (same_Some k place (sym e ∙ ap (place_of table) (sym q ∙ is) ∙ at)))))
 
   -- a count is at most the number of names so far
   pub count_small : (place : ℕ) → place_of table t ≡ Some place → get_or counts place 0 ≤ i

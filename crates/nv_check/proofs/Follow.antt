@@ -5,11 +5,11 @@ use Rattle.std.proofs.lemmas.Bool.{true≢false}
 use Rattle.std.specs.List.{Contains}
 use Rattle.std.proofs.lemmas.List.{get_or-map, get_or_default, length-replicate}
 use Rattle.std.proofs.lemmas.List.Elements.{Contains-append_left, Contains-push, Contains-push_cases}
+use Rattle.std.proofs.lemmas.Option.{same_Some}
 use Rattle.nv_blockset.proofs.Sets.{blank_at}
 use Rattle.nv_super.proofs.Rising.{Contains-cons, Contains-head}
 use Rattle.nv_super.specs.declared.kind.Kind.TheVariants.{File, Directory}
 use Rattle.nv_super.proofs.Members.{from_map, into_map}
-use Rattle.nv_super.proofs.Options.{some_only}
 use Rattle.nv_numbered.specs.Values.{AreNumbersBelow}
 use Rattle.nv_check.specs.declared.listing.Listing.{Listing}
 use Rattle.nv_check.specs.Listings.{inodes_of, target, targets, IsReached, root, step}
@@ -46,7 +46,7 @@ module _ (listings : List Listing) (table : List (Option ℕ)) (places : ArePlac
 
   -- one inode has one place
   pub same_place : (j k : ℕ) (l m : Listing) → IsAt listings j l → IsAt listings k m → l.inode ≡ m.inode → j ≡ k
-  same_place j k l m h g e = some_only j k (sym (row_place j l h) ∙ ap (place_of table) e ∙ row_place k m g)
+  same_place j k l m h g e = same_Some j k (sym (row_place j l h) ∙ ap (place_of table) e ∙ row_place k m g)
 
   pub is_table : IsTable (length listings) table
   is_table = record { within = λ i k e. (places.at i k e).0; once = λ i j k e f. sym (places.at i k e).1 ∙ (places.at j k f).1 }

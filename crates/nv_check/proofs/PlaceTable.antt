@@ -2,7 +2,7 @@
 use Rattle.std.proofs.Common.{◌≡◌, ◌≢◌, ℕ, zero, suc, ◌+◌, ◌<◌, ◌⊎◌, inl, inr, Option, Some, None, List, length, get_or, replicate, refl, ap, sym, ◌∙◌, arith, get_or-set_same, get_or-set_other}
 use Rattle.std.proofs.Math.ListN.{set}
 use Rattle.std.proofs.lemmas.Bool.{cases_order, cases_lt}
-use Rattle.nv_super.proofs.Options.{some_only}
+use Rattle.std.proofs.lemmas.Option.{same_Some}
 use Rattle.nv_check.specs.Steps.{place_of, ArePlacesTo}
 
 pub none_some : {A P : Type 0} (a : A) → None ≡ Some a → P
@@ -42,7 +42,7 @@ module _ (inodes : List ℕ) (n : ℕ) (table : List (Option ℕ)) (once : (j k 
   pub places_more : ArePlacesTo inodes (n + 1) (set table (get_or inodes n 0) (Some n))
   places_more = record {
     at = λ i k e. equal_or i (get_or inodes n 0)
-        (λ w. (let same : n ≡ k = some_only n k (sym stored ∙ sym (ap (place_of (set table (get_or inodes n 0) (Some n))) w) ∙ e) in (omega (arith, same), ap (λ (j : ℕ). get_or inodes j 0) (sym same) ∙ sym w)))
+        (λ w. (let same : n ≡ k = same_Some n k (sym stored ∙ sym (ap (place_of (set table (get_or inodes n 0) (Some n))) w) ∙ e) in (omega (arith, same), ap (λ (j : ℕ). get_or inodes j 0) (sym same) ∙ sym w)))
         (λ ne. (let v = h.at i k (sym (kept i ne) ∙ e) in let less = v.0 in (omega (arith, less), v.1)));
     all = λ k w. elim (at_most k n w) [
       | inl v ↦ kept (get_or inodes k 0) (before k v) ∙ h.all k v

@@ -7,8 +7,8 @@ use Rattle.std.proofs.lemmas.List.{length-append, get_or_default}
 use Rattle.std.proofs.lemmas.List.Elements.{Contains-append_left, Contains-append_right, Contains-append_cases, Contains-push, Contains-push_cases}
 use Rattle.nv_super.proofs.Rising.{Contains-cons, Contains-head}
 use Rattle.std.proofs.lemmas.List.{map_more}
+use Rattle.std.proofs.lemmas.Option.{same_Some}
 use Rattle.nv_super.proofs.Members.{none_in}
-use Rattle.nv_super.proofs.Options.{some_only}
 use Rattle.nv_names.specs.declared.named.Named.{Named}
 use Rattle.nv_check.specs.Listings.{target}
 use Rattle.nv_check.specs.Steps.{place_of, IsMarked, unmarked, Spreads}
@@ -47,7 +47,7 @@ only_one x y c = elim (Contains-cons x [] y c) [ inl w ↦ w | inr w ↦ absurd 
 
 -- the one place of what is named alone
 one_place : (table : List (Option ℕ)) (i place j k : ℕ) → place_of table i ≡ Some place → Contains (i ∷ []) j → place_of table j ≡ Some k → place ≡ k
-one_place table i place j k at c e = some_only place k (sym at ∙ sym (ap (place_of table) (only_one i j c)) ∙ e)
+one_place table i place j k at c e = same_Some place k (sym at ∙ sym (ap (place_of table) (only_one i j c)) ∙ e)
 
 pub spread_old : (table : List (Option ℕ)) (marks : List Bool) (todo : List ℕ) (i place : ℕ) → place_of table i ≡ Some place → IsMarked marks place → Spreads table (i ∷ []) marks todo marks todo
 spread_old table marks todo i place at h = record {

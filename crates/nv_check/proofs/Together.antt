@@ -5,13 +5,13 @@ use Rattle.std.specs.List.{Contains, filter_map, cons_option, list_any}
 use Rattle.std.proofs.lemmas.Bool.{true≢false, ne_eqb}
 use Rattle.std.proofs.lemmas.List.Folds.{list_any_at, Any-from_list_any}
 use Rattle.std.proofs.lemmas.List.Elements.{Contains-append_left, Contains-append_right, Contains-append_cases}
+use Rattle.std.proofs.lemmas.Option.{same_Some}
 use Rattle.nv_super.specs.declared.kind.Kind.{Kind}
 use Rattle.nv_super.specs.declared.kind.Kind.TheVariants.{File, Directory}
 use Rattle.nv_super.specs.declared.faults.Fault.{Fault}
 use Rattle.nv_super.specs.declared.faults.Fault.TheVariants as faults
 use Rattle.nv_super.proofs.Rising.{Contains-cons, Contains-head, Contains-tail}
 use Rattle.nv_super.proofs.Members.{from_flat, into_flat}
-use Rattle.nv_super.proofs.Options.{some_only}
 use Rattle.nv_names.specs.declared.named.Named.{Named}
 use Rattle.nv_check.specs.declared.listing.Listing.{Listing}
 use Rattle.nv_check.specs.Listings.{target, names_of, IsReached, IsUnused, IsFault, c1, c2, c2_root, c3, c4, c5}
@@ -45,7 +45,7 @@ unequal a b e q = true≢false (sym (eq-eqb a b q) ∙ e)
 -- a name of an inode that isn't in use
 unused_when : (t : Bool) (d at : ℕ) (f : Fault) → (if t then None else Some (faults.C1 d at)) ≡ Some f → (t ≡ false) × (f ≡ faults.C1 d at)
 unused_when true d at f e = none_some f e
-unused_when false d at f e = (refl, sym (some_only _ _ e))
+unused_when false d at f e = (refl, sym (same_Some _ _ e))
 
 module _ (listings : List Listing) (table : List (Option ℕ)) (places : ArePlaces listings table) where
   placed : (l : Listing) (i : ℕ) → Contains listings l → l.inode ≡ i → is_some (place_of table i) ≡ true
@@ -75,7 +75,7 @@ module _ (listings : List Listing) (table : List (Option ℕ)) (places : ArePlac
 -- a wrong number of names
 one_when : (t : Bool) (g f : Fault) → (if t then None else Some g) ≡ Some f → (t ≡ false) × (f ≡ g)
 one_when true g f e = none_some f e
-one_when false g f e = (refl, sym (some_only _ _ e))
+one_when false g f e = (refl, sym (same_Some _ _ e))
 
 dir_when : (s t u : Bool) (g f : Fault) → (if s then (if t then None else Some g) else (if u then None else Some g)) ≡ Some f → ((s ≡ true) × (t ≡ false) × (f ≡ g)) ⊎ ((s ≡ false) × (u ≡ false) × (f ≡ g))
 dir_when true t u g f e = let w = one_when t g f e in inl (refl, w.0, w.1)

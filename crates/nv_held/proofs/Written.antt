@@ -3,13 +3,12 @@ use Rattle.std.proofs.Common.{◌≡◌, ℕ, ◌+◌, ◌-◌, ◌*◌, ◌<◌
 use Rattle.std.specs.List.{Contains, cons_option}
 use Rattle.std.proofs.lemmas.Bool.{cases_lt}
 use Rattle.std.proofs.lemmas.Bool.Decides.{nat_tests}
-use Rattle.std.proofs.lemmas.Option.{none-some}
+use Rattle.std.proofs.lemmas.Option.{none-some, same_Some}
 use Rattle.nv_super.specs.declared.owners.Run.{Run}
 use Rattle.nv_super.specs.declared.superblock.Super.{Super}
 use Rattle.nv_super.specs.declared.kind.Kind.{Kind}
 use Rattle.nv_super.specs.Runs.{InRun}
 use Rattle.nv_super.proofs.Members.{none_in}
-use Rattle.nv_super.proofs.Options.{some_only}
 use Rattle.nv_super.proofs.Rising.{Contains-cons, Contains-head, Contains-tail}
 use Rattle.nv_alloc.specs.Taking.{Disjoint, HasBlock}
 use Rattle.nv_alloc.proofs.Leaving.{block_cases}
@@ -69,13 +68,13 @@ pub record MapsHere (x : Placed) (p b : ℕ) : Type 0 where
 no_cut : (size p b : ℕ) → cuts size p ≡ Some (Some b) → ⊥
 no_cut size p b = test (nat_le size (p * 4096)) where
   test : (t : Bool) → cond {A = Option (Option ℕ)} t (Some None) None ≡ Some (Some b) → ⊥
-  test true h = none-some b (some_only None (Some b) h)
+  test true h = none-some b (same_Some None (Some b) h)
   test false h = none-some (Some b) h
 
 says_maps : (x : Placed) (p b : ℕ) → says_block p x ≡ Some (Some b) → MapsHere x p b
 says_maps x p b h = by_entry x.entry refl h where
   of_write : (e : WriteEntry) → x.entry ≡ Write e → (t : Bool) → in_run e.offset e.count p ≡ t → cond t (Some (Some (e.block + (p - e.offset)))) (cuts e.size p) ≡ Some (Some b) → MapsHere x p b
-  of_write e is true run said = record { e = e; is = is; run = run; block = some_only (e.block + (p - e.offset)) b (some_only (Some (e.block + (p - e.offset))) (Some b) said) }
+  of_write e is true run said = record { e = e; is = is; run = run; block = same_Some (e.block + (p - e.offset)) b (same_Some (Some (e.block + (p - e.offset))) (Some b) said) }
   of_write e is false run said = absurd (no_cut e.size p b said)
 
   by_entry : (e : Entry) → x.entry ≡ e → block_in p e ≡ Some (Some b) → MapsHere x p b
@@ -157,8 +156,8 @@ cuts_alone x p size sized away = by_entry x.entry refl sized where
   by_entry : (e : Entry) → x.entry ≡ e → size_in e ≡ Some size → block_in p e ≡ cuts size p
   by_entry (Write e) is s = (
       let off : in_run e.offset e.count p ≡ false = page_away e p (away (record { start = e.offset; count = e.count }) (ap pages_in_entry is)) in
-      ap (λ (t : Bool). cond t (Some (Some (e.block + (p - e.offset)))) (cuts e.size p)) off ∙ ap (λ (n : ℕ). cuts n p) (some_only e.size size s))
-  by_entry (Attr e) is s = ap (λ (n : ℕ). cuts n p) (some_only e.size size s)
+      ap (λ (t : Bool). cond t (Some (Some (e.block + (p - e.offset)))) (cuts e.size p)) off ∙ ap (λ (n : ℕ). cuts n p) (same_Some e.size size s))
+  by_entry (Attr e) is s = ap (λ (n : ℕ). cuts n p) (same_Some e.size size s)
   by_entry NextPage is s = absurd (none-some size s)
   by_entry (Name e) is s = absurd (none-some size s)
   by_entry (Links e) is s = absurd (none-some size s)
@@ -231,7 +230,7 @@ page_written s k (y ∷ xs) p size m x e good sized once c is run = elim (Contai
   below : x ≡ y → p * 4096 < size
   below same =
       let right : is_good s k (Write e) ≡ true = ap (is_good s k) (sym (entry_is same)) ∙ good y (Contains-head y xs) in
-      let gives : e.size ≡ size = some_only e.size size (ap size_in (sym (entry_is same)) ∙ sized y (Contains-head y xs)) in
+      let gives : e.size ≡ size = same_Some e.size size (ap size_in (sym (entry_is same)) ∙ sized y (Contains-head y xs)) in
       subst (λ (n : ℕ). p * 4096 < n) gives (write_below s p e (in_range s k (Write e) right) run)
 
 -- a block of one of the entries is written

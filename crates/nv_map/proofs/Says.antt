@@ -3,7 +3,7 @@ use Rattle.std.proofs.Common.{◌≡◌, ◌⊎◌, inl, inr, ℕ, suc, ◌+◌,
 use Rattle.std.proofs.Math.Seq.{take-suc}
 use Rattle.std.specs.List.{Contains}
 use Rattle.std.proofs.lemmas.List.Elements.{All-contains}
-use Rattle.nv_super.proofs.Options.{some_only}
+use Rattle.std.proofs.lemmas.Option.{same_Some}
 use Rattle.nv_super.specs.declared.owners.Owner.{Owner}
 use Rattle.nv_radix.specs.declared.extent.Extent.{Extent}
 use Rattle.nv_radix.specs.Pages.{block_at}
@@ -51,7 +51,7 @@ module _ (row : Row) (extents : List Extent) (are : AreExtents row.index extents
       let lt : j < x.count = omega (arith, from, to) in
       let at = All-contains (IsMapped row.index) extents x are.mapped w.1 j lt in
       let p : x.page + j ≡ page = omega (arith, from) in
-      let e : b ≡ x.block + j = some_only b (x.block + j) (sym is ∙ ap (block_at row.index) (sym p) ∙ at) in
+      let e : b ≡ x.block + j = same_Some b (x.block + j) (sym is ∙ ap (block_at row.index) (sym p) ∙ at) in
       inr (x, w.1, ((omega (arith, e), omega (arith, e, lt)), refl))
 
   -- the pages of its log and the extents of its file say what a row says

@@ -10,6 +10,7 @@ use Rattle.std.specs.Map.{keys_of}
 use Rattle.std.specs.Cmp.Lexicographic.{pointwise, nat_list_eq_equiv, texts_ties, bytes_decides}
 use Rattle.std.proofs.lemmas.Map.Keys.{IsDistinct-head, IsDistinct-tail, IsDistinct-cons, sorted_head, sorted_tail}
 use Rattle.std.proofs.lemmas.Map.Made.{IsDistinct-keys_filter}
+use Rattle.std.proofs.lemmas.Option.{none-some}
 use Rattle.nv_names.specs.declared.target.Target.{Target}
 use Rattle.nv_names.specs.Keys.{key_of}
 use Rattle.nv_names.specs.Names.{found_in, names_of}
@@ -18,10 +19,6 @@ use Rattle.nv_names.specs.Bucket.{first_line, other_line}
 use Rattle.nv_names.proofs.Entries.{by_bytes, found_in-append}
 use Rattle.nv_names.proofs.First.{Entry, Keyed, other_names}
 use Rattle.nv_names.proofs.Listing.{each_found}
-
--- no value is none
-some_is_none : {X P : Type 0} {x : X} → Some x ≡ None → P
-some_is_none e = absurd (cc)
 
 -- nothing that is found is none
 pub not_none : {X : Type 0} {o : Option X} → IsSome o → o ≡ None → ⊥
@@ -110,7 +107,7 @@ second_lacks a d name v apart found = decide (found_in d name) refl
   where
     decide : (o : Option (ℕ × ℕ)) → found_in d name ≡ o → o ≡ None
     decide None is = refl
-    decide (Some w) is = some_is_none (sym found ∙ apart name (subst IsSome (sym is) refl))
+    decide (Some w) is = absurd (none-some _ (sym (apart name (subst IsSome (sym is) refl)) ∙ found))
 
 -- the names of a list beside the bucket
 names_of-fresh : (fs : List (List ℕ × Target)) → names_of (map fresh_line fs) ≡ keys_of fs
@@ -148,7 +145,7 @@ other_head : (x : List ℕ × ℕ × ℕ) (xs : List (List ℕ × ℕ × ℕ)) (
 other_head x xs name none = decide (pointwise nat_eq name x.0) refl
   where
     decide : (b : Bool) → pointwise nat_eq name x.0 ≡ b → (pointwise nat_eq name x.0 ≡ false) × (found_in xs name ≡ None)
-    decide true is = some_is_none (sym (ap (λ c. cond c (Some (x.1, x.2)) (found_in xs name)) is) ∙ none)
+    decide true is = absurd (none-some _ (sym none ∙ ap (λ c. cond c (Some (x.1, x.2)) (found_in xs name)) is))
     decide false is = (is, sym (ap (λ c. cond c (Some (x.1, x.2)) (found_in xs name)) is) ∙ none)
 
 -- a name that isn't found differs from each

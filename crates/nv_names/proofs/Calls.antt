@@ -4,16 +4,12 @@ use Rattle.std.specs.List.{IsDistinct, filter}
 use Rattle.std.specs.Option.{option_or}
 use Rattle.std.specs.Cmp.Lexicographic.{pointwise}
 use Rattle.std.proofs.lemmas.List.{map-append}
-use Rattle.std.proofs.lemmas.Option.{slice_get_within}
+use Rattle.std.proofs.lemmas.Option.{slice_get_within, none-some}
 use Rattle.nv_names.specs.declared.target.Target.{Target}
 use Rattle.nv_names.specs.Names.{found_in, inode_and_place}
 use Rattle.nv_names.specs.Table.{fresh_line, PutsAt, FindSame, AreBeside}
 use Rattle.nv_names.proofs.Entries.{found_in-append, fresh-removed}
 use Rattle.nv_names.proofs.Beside.{option_or-None, PutsAt-twice, PutsAt-after, PutsAt-both, PutsAt-pushed, AreBeside-removed, AreBeside-pushed, AreApart-same, found_here, moved}
-
--- no value is none
-some_is_none : {X : Type 0} {x : X} → Some x ≡ None → ⊥
-some_is_none e = cc
 
 -- no name is beside the bucket
 pub none_beside : (bucket : List (List ℕ × ℕ × ℕ)) (fs : List (List ℕ × Target)) → fs ≡ [] → AreBeside bucket (map fresh_line fs)
@@ -57,7 +53,7 @@ puts_added a b fs fn fa name n t g is made =
 
 -- a list is what stands before its last element, and that one
 pub front_last : {X : Type 0} (xs : List X) (k : ℕ) (e : X) → length xs ≡ k + 1 → slice_get xs k ≡ Some e → xs ≡ take k xs ++ e ∷ []
-front_last [] k e len at = absurd (some_is_none (sym at))
+front_last [] k e len at = absurd (none-some _ at)
 front_last (x ∷ []) zero e len at = let it : x ≡ e = cc in ap (λ y. y ∷ []) it
 front_last (x ∷ y ∷ ys) zero e len at = absurd (omega (arith, len))
 front_last (x ∷ xs) (suc k) e len at = ap (λ ys. x ∷ ys) (front_last xs k e (omega (arith, len)) at)

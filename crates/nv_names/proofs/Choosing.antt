@@ -1,6 +1,6 @@
 -- What many buckets find together, through a change of one of them.
 use Rattle.std.proofs.Common.{◌≡◌, ◌≢◌, ℕ, zero, suc, ◌+◌, ◌<◌, Bool, true, false, cond, nat_eq, List, [], ◌∷◌, ◌++◌, length, get_or, Option, Some, None, IsSome, is_some, Result, Ok, Err, IfOk, OnOk, OnErr, refl, sym, ap, subst, ◌∙◌, arith, length-append, eq-eqb}
-use Rattle.std.proofs.lemmas.Bool.{eqb-true}
+use Rattle.std.proofs.lemmas.Bool.{eqb-true, true≢false}
 use Rattle.std.proofs.lemmas.List.{append-nil, length-set}
 use Rattle.std.proofs.Math.ListN.{set, replicate}
 use Rattle.std.specs.List.{IsDistinct}
@@ -17,10 +17,6 @@ use Rattle.nv_names.proofs.Beside.{not_none, option_or-None, PutsAt-both, PutsAt
 -- the names of a bucket, with what they stand for
 abbrev pub Lines : Type 0
 Lines = List (List ℕ × ℕ × ℕ)
-
--- true is not false
-true_is_false : {b : Bool} → b ≡ true → b ≡ false → ⊥
-true_is_false t f = cc
 
 -- a bucket lacks the names of other places
 lacks : (at : List ℕ → ℕ) (place : ℕ) (t : Lines) (q : List ℕ) → StandsAt at place t → at q ≢ place → found_in t q ≡ None
@@ -208,7 +204,7 @@ not_many (t ∷ ts) n b len is true' = let zero' = eqb-true n 0 (sym is ∙ true
 
 -- there are some
 pub some_many : (many : List Lines) (n : ℕ) (b : Bool) → length many ≡ n → b ≡ nat_eq n 0 → b ≡ false → 0 < length many
-some_many [] n b len is false' = absurd (true_is_false (is ∙ eq-eqb n 0 (sym len)) false')
+some_many [] n b len is false' = absurd (true≢false (sym (is ∙ eq-eqb n 0 (sym len)) ∙ false'))
 some_many (t ∷ ts) n b len is false' = omega arith
 
 -- no bucket but the one

@@ -9,6 +9,7 @@ use Rattle.std.specs.List.{filter}
 use Rattle.std.specs.Option.{option_map, option_or}
 use Rattle.std.specs.Map.{lookup, remove_entry}
 use Rattle.std.specs.Cmp.Lexicographic.{pointwise, slice_cmp, nat_list_eq_equiv, texts_ties, bytes_decides}
+use Rattle.std.proofs.lemmas.Option.{none-some}
 use Rattle.nv_names.specs.declared.target.Target.{Target}
 use Rattle.nv_names.specs.Names.{found_in, inode_and_place}
 use Rattle.nv_names.specs.Table.{fresh_line, PutsAt}
@@ -141,14 +142,11 @@ pub fresh-lacks : (fs : List (List ℕ × Target)) (name : List ℕ) → found_i
 fresh-lacks [] name none = refl
 fresh-lacks (e ∷ fs) name none = decide (fresh-lacks fs name) (pointwise nat_eq name e.0) refl
   where
-    some_is_none : {X P : Type 0} {x : X} → Some x ≡ None → P
-    some_is_none e = absurd (cc)
-
     left : List (List ℕ × Target)
     left = filter (λ d. not (pointwise nat_eq d.0 name)) fs
 
     decide : (found_in (map fresh_line fs) name ≡ None → left ≡ fs) → (b : Bool) → pointwise nat_eq name e.0 ≡ b → filter (λ d. not (pointwise nat_eq d.0 name)) (e ∷ fs) ≡ e ∷ fs
-    decide rest true is = some_is_none (sym (ap (λ b. cond b (Some (e.1.inode, e.1.place)) (found_in (map fresh_line fs) name)) is) ∙ none)
+    decide rest true is = absurd (none-some _ (sym none ∙ ap (λ b. cond b (Some (e.1.inode, e.1.place)) (found_in (map fresh_line fs) name)) is))
     decide rest false is =
         ap (λ b. cond (not b) (e ∷ left) left) (nat_list_eq_equiv.symm e.0 name ∙ is)
         ∙ ap (λ xs. e ∷ xs) (rest (sym (ap (λ b. cond b (Some (e.1.inode, e.1.place)) (found_in (map fresh_line fs) name)) is) ∙ none))

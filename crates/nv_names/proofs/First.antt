@@ -5,11 +5,12 @@ use Rattle.std.specs.List.{AllByRecursion, IsDistinct}
 use Rattle.std.specs.List.Sorted.{IsPermutation}
 use Rattle.std.specs.Option.{MatchOption}
 use Rattle.std.specs.Cmp.Lexicographic.{pointwise, bytes_decides}
-use Rattle.std.proofs.lemmas.Bool.{eq-eqb}
+use Rattle.std.proofs.lemmas.Bool.{eq-eqb, true≢false}
 use Rattle.std.proofs.lemmas.List.Elements.{All-cons, All-from_recursion, recursion_from_All}
 use Rattle.std.proofs.lemmas.List.Sorted.{All-permutation}
 use Rattle.std.proofs.lemmas.Map.Keys.{IsDistinct-head, IsDistinct-tail}
 use Rattle.std.proofs.lemmas.Map.Views.{exact_unsigned_eq}
+use Rattle.std.proofs.lemmas.Option.{none-some}
 use Rattle.nv_names.specs.Keys.{key_of}
 use Rattle.nv_names.specs.Names.{found_in}
 use Rattle.nv_names.specs.Table.{PutsAt, FindSame}
@@ -44,14 +45,6 @@ abbrev pub at_name : List ℕ → Option (List ℕ × ℕ × ℕ) → Option (�
 at_name q None = None
 at_name q (Some h) = cond (pointwise nat_eq q h.0) (Some (h.1, h.2)) None
 
--- true is not false
-true_is_false : {b : Bool} {P : Type 0} → b ≡ true → b ≡ false → P
-true_is_false t f = absurd (cc)
-
--- no value is none
-some_is_none : {X : Type 0} {x : X} → Some x ≡ None → ⊥
-some_is_none e = cc
-
 -- two keys that are one are equal
 pub key_is : (a b : ℕ) → same_key a b ≡ true → a ≡ b
 key_is a b is = exact_unsigned_eq a b is
@@ -74,7 +67,7 @@ found_first (e ∷ es) q keyed once = decide (found_first es q keyed.1 (IsDistin
     rest = found_in (map first_line es) q
 
     other : same_key (key_of q) e.0 ≡ false → (b : Bool) → pointwise nat_eq q e.1.0 ≡ b → cond b (Some (e.1.1, e.1.2)) rest ≡ rest
-    other apart true is = true_is_false (key_self (key_of q) e.0 (ap key_of ((bytes_decides q e.1.0).0 is) ∙ sym keyed.0)) apart
+    other apart true is = absurd (true≢false (sym (key_self (key_of q) e.0 (ap key_of ((bytes_decides q e.1.0).0 is) ∙ sym keyed.0)) ∙ apart))
     other apart false is = refl
 
     decide : rest ≡ at_name q (lookup (same_key (key_of q)) es) → (b : Bool) → same_key (key_of q) e.0 ≡ b
@@ -89,7 +82,7 @@ pub other_names : (e x : Entry) → e.0 ≡ key_of e.1.0 → x.0 ≡ key_of x.1.
 other_names e x is is' apart = decide (pointwise nat_eq e.1.0 x.1.0) refl
   where
     decide : (b : Bool) → pointwise nat_eq e.1.0 x.1.0 ≡ b → b ≡ false
-    decide true same = true_is_false (key_self e.0 x.0 (is ∙ ap key_of ((bytes_decides e.1.0 x.1.0).0 same) ∙ sym is')) apart
+    decide true same = absurd (true≢false (sym (key_self e.0 x.0 (is ∙ ap key_of ((bytes_decides e.1.0 x.1.0).0 same) ∙ sym is')) ∙ apart))
     decide false same = refl
 
 -- only this name is found there
@@ -107,11 +100,11 @@ only_found name (Some h) v found = decide (pointwise nat_eq name h.0) refl
   where
     decide : (b : Bool) → pointwise nat_eq name h.0 ≡ b → Only name (Some h)
     decide true is = only_it name h (sym ((bytes_decides name h.0).0 is))
-    decide false is = absurd (let none : at_name name (Some h) ≡ None = ap (λ b. cond b (Some (h.1, h.2)) None) is in some_is_none (sym found ∙ none))
+    decide false is = absurd (let none : at_name name (Some h) ≡ None = ap (λ b. cond b (Some (h.1, h.2)) None) is in none-some _ (sym none ∙ found))
 
 -- the key of an entry that is found is that of its name
 pub key_found : (es : List Entry) (k : ℕ) (h : List ℕ × ℕ × ℕ) → Keyed es → lookup (same_key k) es ≡ Some h → k ≡ key_of h.0
-key_found [] k h keyed found = absurd (some_is_none (sym found))
+key_found [] k h keyed found = absurd (none-some _ found)
 key_found (e ∷ es) k h keyed found = decide (key_found es k h keyed.1) (same_key k e.0) refl
   where
     decide : (lookup (same_key k) es ≡ Some h → k ≡ key_of h.0) → (b : Bool) → same_key k e.0 ≡ b → k ≡ key_of h.0
@@ -136,7 +129,7 @@ first_changed es en name w keyed once keyed' once' changed new old q = found_fir
 
     there : same_key (key_of name) (key_of q) ≡ false → (c : Bool) → pointwise nat_eq q name ≡ c
         → at_name q (lookup (same_key (key_of q)) es) ≡ cond c (at_name name w) (found_in (map first_line es) q)
-    there apart true same = true_is_false (key_self (key_of name) (key_of q) (sym (ap key_of ((bytes_decides q name).0 same)))) apart
+    there apart true same = absurd (true≢false (sym (key_self (key_of name) (key_of q) (sym (ap key_of ((bytes_decides q name).0 same)))) ∙ apart))
     there apart false same = sym was
 
     decide : (b : Bool) → same_key (key_of name) (key_of q) ≡ b

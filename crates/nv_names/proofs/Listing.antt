@@ -11,17 +11,11 @@ use Rattle.std.proofs.lemmas.List.{length-map, get_or-map}
 use Rattle.std.proofs.lemmas.List.Elements.{All-from_recursion, Contains-get_or, Contains-append_right}
 use Rattle.std.proofs.lemmas.List.Sorted.{IsPermutation-map, All-permutation, Contains-permutation}
 use Rattle.std.proofs.lemmas.Map.Keys.{IsDistinct-head, IsDistinct-tail, IsDistinct-IsPermutation, apart_from_distinct, sorted_from_all_adjacent}
+use Rattle.std.proofs.lemmas.Bool.{true≢false}
+use Rattle.std.proofs.lemmas.Option.{none-some}
 use Rattle.nv_names.specs.declared.named.Named.{Named}
 use Rattle.nv_names.specs.Names.{Names, found_in, names_of, EachOnce, HasNames, ListsNames, line_of}
 use Rattle.nv_names.specs.Table.{names_held}
-
--- no value is none
-some_is_none : {X : Type 0} {x : X} → Some x ≡ None → ⊥
-some_is_none e = cc
-
--- true is not false
-true_is_false : {b : Bool} → b ≡ true → b ≡ false → ⊥
-true_is_false t f = cc
 
 -- a list of no names finds none
 pub found_in-empty : (es : List (List ℕ × ℕ × ℕ)) → length es ≡ 0 → (q : List ℕ) → found_in es q ≡ None
@@ -33,7 +27,7 @@ pub empty-found_in : (es : List (List ℕ × ℕ × ℕ)) → ((q : List ℕ) �
 empty-found_in [] none = refl
 empty-found_in (e ∷ es) none =
     let found : found_in (e ∷ es) e.0 ≡ Some (e.1, e.2) = ap (λ b. cond b (Some (e.1, e.2)) (found_in es e.0)) (nat_list_eq_equiv.refl e.0) in
-    absurd (some_is_none (sym found ∙ none e.0))
+    absurd (none-some _ (sym (none e.0) ∙ found))
 
 -- names that do not fall and differ rise
 rising : (ks : List (List ℕ)) → IsSorted (slice_cmp nat_cmp) ks → IsDistinct (pointwise nat_eq) ks → IsStrictlySortedBy (slice_cmp nat_cmp) ks
@@ -41,8 +35,8 @@ rising ks sorted distinct = sorted_from_all_adjacent nat_list_cmp_total ks [] (�
   where
     less : (k : ℕ) → k + 1 < length ks → (r : Ordering) → slice_cmp nat_cmp (get_or ks k []) (get_or ks (k + 1) []) ≡ r → slice_cmp nat_cmp (get_or ks k []) (get_or ks (k + 1) []) ≡ Less
     less k within Less e = e
-    less k within Equal e = absurd (true_is_false (texts_ties (get_or ks k []) (get_or ks (k + 1) []) ∙ ap is_eq e) (apart_from_distinct (pointwise nat_eq) ks k (k + 1) [] distinct (omega arith) within))
-    less k within Greater e = absurd (true_is_false (ap is_lt (nat_list_cmp_total.antisymm (get_or ks (k + 1) []) (get_or ks k []) ∙ ap ordering_reverse e)) (sorted k [] (omega arith) within))
+    less k within Equal e = absurd (true≢false (sym (texts_ties (get_or ks k []) (get_or ks (k + 1) []) ∙ ap is_eq e) ∙ apart_from_distinct (pointwise nat_eq) ks k (k + 1) [] distinct (omega arith) within))
+    less k within Greater e = absurd (true≢false (sym (ap is_lt (nat_list_cmp_total.antisymm (get_or ks (k + 1) []) (get_or ks k []) ∙ ap ordering_reverse e)) ∙ sorted k [] (omega arith) within))
 
 -- what holds of each entry and what holds of its name
 AllByRecursion-zip : (P R : List ℕ × ℕ × ℕ → Type 0) (Q : List ℕ → Type 0) → ((e : List ℕ × ℕ × ℕ) → P e → Q e.0 → R e)

@@ -6,6 +6,7 @@ use Rattle.std.proofs.lemmas.Bool.{true≢false}
 use Rattle.std.proofs.lemmas.Bool.Decides.{nat_tests}
 use Rattle.std.proofs.lemmas.Nat.{div_below}
 use Rattle.std.proofs.lemmas.List.Elements.{Contains-append_left, Contains-append_right, Contains-append_cases}
+use Rattle.std.proofs.lemmas.Option.{same_Some}
 use Rattle.nv_region.specs.Region.{Region, word}
 use Rattle.nv_super.specs.declared.superblock.Super.{Super}
 use Rattle.nv_super.specs.declared.kind.Kind.{Kind}
@@ -17,7 +18,7 @@ use Rattle.nv_super.specs.declared.faults.Fault.TheVariants as faults
 use Rattle.nv_super.specs.Layout.{IsLayout, is_number, slot_address, slot_of, fixed_layout, Layout}
 use Rattle.nv_super.specs.Order.{Lists, owner_key}
 use Rattle.nv_super.proofs.Rising.{Contains-cons, Contains-head}
-use Rattle.nv_super.proofs.Options.{some_is, some_only}
+use Rattle.nv_super.proofs.Options.{some_is}
 use Rattle.nv_inode.specs.declared.slot.Slot.{Slot}
 use Rattle.nv_inode.specs.Slot.{slot_at, kind_of, kind_at, is_right_log}
 use Rattle.nv_inode.proofs.Slots.{number_above, number_below}
@@ -173,7 +174,7 @@ end_is {R} {l} {i} {a} {log} is (Some end) e f h = by_class end.fault refl h
     ends_as k = e ∙ ap (λ (d : LogFault). Some (end_by end.at d)) k
 
     told_as : {c : LogFault} → end.fault ≡ c → fault_of_end i (Some end) ≡ Some f → fault_by i c end.at ≡ f
-    told_as {c} k g = some_only (fault_by i c end.at) f (ap (λ (d : LogFault). Some (fault_by i d end.at)) (sym k) ∙ g)
+    told_as {c} k g = same_Some (fault_by i c end.at) f (ap (λ (d : LogFault). Some (fault_by i d end.at)) (sym k) ∙ g)
 
     by_class : (c : LogFault) → end.fault ≡ c → fault_of_end i (Some end) ≡ Some f → IsFaultOf R l i f
     by_class logs.L1 k g = subst (IsFaultOf R l i) (told_as k g) (l1 is (ends_as k))

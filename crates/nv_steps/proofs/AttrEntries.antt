@@ -3,7 +3,7 @@ use Rattle.std.proofs.Common.{◌≡◌, ℕ, ◌*◌, ◌≤◌, true, false, L
 use Rattle.std.specs.List.{Contains}
 use Rattle.std.proofs.lemmas.Bool.{cases_lt}
 use Rattle.std.proofs.lemmas.Bool.Decides.{nat_tests}
-use Rattle.nv_super.proofs.Options.{some_only}
+use Rattle.std.proofs.lemmas.Option.{same_Some}
 use Rattle.nv_super.specs.declared.superblock.Super.{Super}
 use Rattle.nv_super.specs.declared.kind.Kind.{Kind}
 use Rattle.nv_super.specs.declared.kind.Kind.TheVariants.{File, Directory}
@@ -39,15 +39,15 @@ attr_none : (e : AttrEntry) → is_attr_out_of_range Directory e ≡ false → e
 attr_none e good = grind (arith, nat_tests)
 
 file_says : (s : Super) (e : Entry) (v : ℕ) → is_good s File e ≡ true → size_in e ≡ Some v → v ≤ most_size
-file_says s (Write e) v good h = subst (λ (n : ℕ). n ≤ most_size) (some_only _ _ h) (write_size s e (in_range s File (Write e) good))
-file_says s (Attr e) v good h = subst (λ (n : ℕ). n ≤ most_size) (some_only _ _ h) (attr_size e (in_range s File (Attr e) good))
+file_says s (Write e) v good h = subst (λ (n : ℕ). n ≤ most_size) (same_Some _ _ h) (write_size s e (in_range s File (Write e) good))
+file_says s (Attr e) v good h = subst (λ (n : ℕ). n ≤ most_size) (same_Some _ _ h) (attr_size e (in_range s File (Attr e) good))
 file_says s NextPage v good h = absurd (cc)
 file_says s (Name e) v good h = absurd (cc)
 file_says s (Links e) v good h = absurd (cc)
 
 directory_says : (s : Super) (e : Entry) (v : ℕ) → is_good s Directory e ≡ true → size_in e ≡ Some v → v ≡ 0
 directory_says s (Write e) v good h = absurd (cc)
-directory_says s (Attr e) v good h = sym (some_only _ _ h) ∙ attr_none e (in_range s Directory (Attr e) good)
+directory_says s (Attr e) v good h = sym (same_Some _ _ h) ∙ attr_none e (in_range s Directory (Attr e) good)
 directory_says s NextPage v good h = absurd (cc)
 directory_says s (Name e) v good h = absurd (cc)
 directory_says s (Links e) v good h = absurd (cc)

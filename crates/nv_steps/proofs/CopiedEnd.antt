@@ -13,7 +13,6 @@ use Rattle.nv_super.specs.declared.superblock.Super.{Super}
 use Rattle.nv_super.specs.declared.owners.Run.{Run}
 use Rattle.nv_super.specs.declared.owners.Owner.TheVariants as owners
 use Rattle.nv_super.specs.Layout.{fixed_layout, slot_address}
-use Rattle.nv_super.proofs.Options.{some_only}
 use Rattle.nv_super.proofs.Rising.{Contains-cons, Contains-head, Contains-tail}
 use Rattle.nv_alloc.specs.FreeValue.{FreeLists}
 use Rattle.nv_alloc.specs.FreeLists.{Joins}
@@ -213,7 +212,7 @@ module _ {R S : Region} {s : Super} {free mid after : FreeLists} {row grown new 
         | inl here ↦ (
             let told = shows.told in
             let e = ending_in in
-            let same : from ≡ b = some_only from b (sym e.maps ∙ ap (block_at row.index) (sym (page_is v.0 here)) ∙ told.index v.0 ∙ v.1) in
+            let same : from ≡ b = same_Some from b (sym e.maps ∙ ap (block_at row.index) (sym (page_is v.0 here)) ∙ told.index v.0 ∙ v.1) in
             (block_run from, Contains-head (block_run from) [], omega (arith, same), omega (arith, same)))
         | inr past ↦ absurd (none-some b (sym (unmapped_past v.0 past (block_of (good_in (fixed_layout s) h) v.0) refl) ∙ v.1))
       ]),
@@ -295,7 +294,7 @@ module _ {R S : Region} {s : Super} {free mid after : FreeLists} {row grown new 
     to = Some to;
     copied = ap is_some (sym ends);
     numbers = since has_grown settled.has;
-    fresh = λ held h shows b at. subst (IsUnowned (fixed_layout s) held) (some_only to b at) (to_free shows);
+    fresh = λ held h shows b at. subst (IsUnowned (fixed_layout s) held) (same_Some to b at) (to_free shows);
     follows = λ held h shows. copy_follows shows;
     bytes = λ held h shows. copy_bytes shows;
   }

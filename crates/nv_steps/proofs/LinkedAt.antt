@@ -1,7 +1,7 @@
 -- A link count and a name, once both logs have grown and the rows are settled.
 use Rattle.std.proofs.Common.{◌≡◌, ◌≢◌, ℕ, ◌+◌, ◌-◌, cond, nat_eq, List, set, slice_get, ap, sym, ◌∙◌, subst, Some}
 use Rattle.std.specs.Cmp.Lexicographic.{pointwise}
-use Rattle.nv_super.proofs.Options.{some_only}
+use Rattle.std.proofs.lemmas.Option.{same_Some}
 use Rattle.nv_region.specs.Region.{Region}
 use Rattle.nv_super.specs.declared.superblock.Super.{Super}
 use Rattle.nv_alloc.specs.FreeValue.{FreeLists}
@@ -62,7 +62,7 @@ module _ {R S : Region} {s : Super} {free after : FreeLists} {rows mid : List Ro
   grown_file : GrowsTwo R S s free after rows mid i read entries j second others (λ fresh now. GrowsSame read fresh (end_of fresh 0 read.tail entries) now) (λ more now. GrowsSame second more (end_of more 0 second.tail others) now)
   grown_file =
       let step = grew.step in
-      subst (λ (r : Row). GrowsTwo R S s free after rows mid i r entries j second others (λ fresh now. GrowsSame r fresh (end_of fresh 0 r.tail entries) now) (λ more now. GrowsSame second more (end_of more 0 second.tail others) now)) (some_only _ _ (sym step.at ∙ read_at)) grew.step
+      subst (λ (r : Row). GrowsTwo R S s free after rows mid i r entries j second others (λ fresh now. GrowsSame r fresh (end_of fresh 0 r.tail entries) now) (λ more now. GrowsSame second more (end_of more 0 second.tail others) now)) (same_Some _ _ (sym step.at ∙ read_at)) grew.step
 
   file_there : slice_get mid i ≡ Some grown_file.first_now
   file_there = ap (λ (rs : List Row). slice_get rs i) grown_file.put ∙ first_set rows i j read second grown_file.first_now grown_file.second_now grown_file.at grown_file.other_at differ
@@ -75,9 +75,9 @@ module _ {R S : Region} {s : Super} {free after : FreeLists} {rows mid : List Ro
       → AddsName b name read.inode (told.tail - len) time d → EachOnce d.names → LinksAt R S s free after rows (set (set mid i c) j d) i j name time
   links_at_places {c} {d} a b told len a_at counts told_at length_is b_at adds once_d =
       let step = grown_file in
-      let first_is : a ≡ step.first_now = some_only _ _ (sym a_at ∙ file_there) in
-      let second_is : b ≡ step.second_now = some_only _ _ (sym b_at ∙ other_set mid i j c differ ∙ directory_there) in
-      let told_is : told ≡ step.second_now = some_only _ _ (sym told_at ∙ other_set mid i j c differ ∙ directory_there) in
+      let first_is : a ≡ step.first_now = same_Some _ _ (sym a_at ∙ file_there) in
+      let second_is : b ≡ step.second_now = same_Some _ _ (sym b_at ∙ other_set mid i j c differ ∙ directory_there) in
+      let told_is : told ≡ step.second_now = same_Some _ _ (sym told_at ∙ other_set mid i j c differ ∙ directory_there) in
       let counts_now : CountsLinks step.first_now (read.numbers.links + 1) time c = subst (λ (r : Row). CountsLinks r (read.numbers.links + 1) time c) first_is counts in
       let adds_now : AddsName step.second_now name read.inode (told.tail - len) time d = subst (λ (r : Row). AddsName r name read.inode (told.tail - len) time d) second_is adds in
       let other = step.other_is in

@@ -1,6 +1,6 @@
 -- A name that went from one directory to another, once both logs have grown and the rows are settled.
 use Rattle.std.proofs.Common.{◌≡◌, ℕ, ◌-◌, List, [], ◌∷◌, refl, sym, subst}
-use Rattle.nv_super.proofs.Options.{some_only}
+use Rattle.std.proofs.lemmas.Option.{same_Some}
 use Rattle.nv_region.specs.Region.{Region}
 use Rattle.nv_super.specs.declared.superblock.Super.{Super}
 use Rattle.nv_alloc.specs.FreeValue.{FreeLists}
@@ -30,8 +30,8 @@ module _ {R S : Region} {s : Super} {free after : FreeLists} {from to a b : Row}
   grown : GrowsTwo R S s free after (from ∷ to ∷ []) (a ∷ b ∷ []) 0 from cut 1 to put (λ fresh now. GrowsSame from fresh (end_of fresh 0 from.tail cut) now) (λ more now. GrowsSame to more (end_of more 0 to.tail put) now)
   grown =
       let step = grew.step in
-      let first_is : from ≡ grew.first = some_only _ _ step.at in
-      let second_is : to ≡ grew.second = some_only _ _ step.other_at in
+      let first_is : from ≡ grew.first = same_Some _ _ step.at in
+      let second_is : to ≡ grew.second = same_Some _ _ step.other_at in
       subst (λ (r : Row). GrowsTwo R S s free after (from ∷ to ∷ []) (a ∷ b ∷ []) 0 r cut 1 to put (λ fresh now. GrowsSame r fresh (end_of fresh 0 r.tail cut) now) (λ more now. GrowsSame to more (end_of more 0 to.tail put) now)) (sym first_is)
       (subst (λ (r : Row). GrowsTwo R S s free after (from ∷ to ∷ []) (a ∷ b ∷ []) 0 grew.first cut 1 r put (λ fresh now. GrowsSame grew.first fresh (end_of fresh 0 grew.first.tail cut) now) (λ more now. GrowsSame r more (end_of more 0 r.tail put) now)) (sym second_is) grew.step)
 

@@ -1,7 +1,7 @@
 -- A name less and a link less, once both logs have grown and the rows are settled.
 use Rattle.std.proofs.Common.{◌≡◌, ◌≢◌, ℕ, ◌-◌, cond, nat_eq, List, set, slice_get, ap, sym, ◌∙◌, subst, Some, None}
 use Rattle.std.specs.Cmp.Lexicographic.{pointwise}
-use Rattle.nv_super.proofs.Options.{some_only}
+use Rattle.std.proofs.lemmas.Option.{same_Some}
 use Rattle.nv_region.specs.Region.{Region}
 use Rattle.nv_super.specs.declared.superblock.Super.{Super}
 use Rattle.nv_alloc.specs.FreeValue.{FreeLists}
@@ -47,7 +47,7 @@ module _ {R S : Region} {s : Super} {free after : FreeLists} {rows mid : List Ro
   grown_rows : GrowsTwo R S s free after rows mid i first entries j read others (λ fresh now. GrowsSame first fresh (end_of fresh 0 first.tail entries) now) (λ more now. GrowsSame read more (end_of more 0 read.tail others) now)
   grown_rows =
       let step = grew.step in
-      subst (λ (r : Row). GrowsTwo R S s free after rows mid i first entries j r others (λ fresh now. GrowsSame first fresh (end_of fresh 0 first.tail entries) now) (λ more now. GrowsSame r more (end_of more 0 r.tail others) now)) (some_only _ _ (sym step.other_at ∙ read_at)) grew.step
+      subst (λ (r : Row). GrowsTwo R S s free after rows mid i first entries j r others (λ fresh now. GrowsSame first fresh (end_of fresh 0 first.tail entries) now) (λ more now. GrowsSame r more (end_of more 0 r.tail others) now)) (same_Some _ _ (sym step.other_at ∙ read_at)) grew.step
 
   directory_there : slice_get mid i ≡ Some grown_rows.first_now
   directory_there = ap (λ (rs : List Row). slice_get rs i) grown_rows.put ∙ first_set rows i j first read grown_rows.first_now grown_rows.second_now grown_rows.at grown_rows.other_at differ
@@ -59,8 +59,8 @@ module _ {R S : Region} {s : Super} {free after : FreeLists} {rows mid : List Ro
   pub unlinks_at_places : {c d : Row} (a b : Row) → slice_get mid i ≡ Some a → DropsName a name time c → EachOnce c.names → slice_get (set mid i c) j ≡ Some b → CountsLinks b (read.numbers.links - 1) time d → UnlinksAt R S s free after rows (set (set mid i c) j d) i j name time
   unlinks_at_places {c} {d} a b a_at drops once_c b_at counts =
       let step = grown_rows in
-      let first_is : a ≡ step.first_now = some_only _ _ (sym a_at ∙ directory_there) in
-      let second_is : b ≡ step.second_now = some_only _ _ (sym b_at ∙ other_set mid i j c differ ∙ file_there) in
+      let first_is : a ≡ step.first_now = same_Some _ _ (sym a_at ∙ directory_there) in
+      let second_is : b ≡ step.second_now = same_Some _ _ (sym b_at ∙ other_set mid i j c differ ∙ file_there) in
       let drops_now : DropsName step.first_now name time c = subst (λ (r : Row). DropsName r name time c) first_is drops in
       let counts_now : CountsLinks step.second_now (read.numbers.links - 1) time d = subst (λ (r : Row). CountsLinks r (read.numbers.links - 1) time d) second_is counts in
       record {

@@ -1,6 +1,6 @@
 use Rattle.std.proofs.Common.{◌≡◌, ◌≢◌, ◌∙◌, ◌+◌, ◌%◌, ◌<◌, ◌≤◌, List, ℕ, Some, None, ap, refl, subst, sym}
 use Rattle.std.proofs.lemmas.Result.{err_from_is_err_and}
-use Rattle.nv_super.proofs.Options.{some_only}
+use Rattle.std.proofs.lemmas.Option.{same_Some}
 use Rattle.nv_super.specs.Layout.{inode_limit}
 use Rattle.nv_super.specs.declared.superblock.Super.{Super}
 use Rattle.nv_alloc.specs.Taking.{all_blocks}
@@ -46,7 +46,7 @@ returns-in_err-made-clause-refused g c row is =
     let w = err_from_is_err_and c.from_residual.result c.from_residual.ensures.1 in
     refused_by c.from_residual.result c.in_err-made.field-0.0 w.0
     (λ (e : Refusal). RefusesStep e (1 + needed (row.tail % 4096) (name_entries Add c.args.new.now.inode c.args.new.now.name.now c.args.new.now.time)) c.args.free.now) w.1 w.2
-    (subst (λ (r : Row). RefusesStep c.in_err-made.field-0.0 (1 + needed (r.tail % 4096) (name_entries Add c.args.new.now.inode c.args.new.now.name.now c.args.new.now.time)) c.args.free.now) (some_only _ _ (sym at ∙ is)) c.in_err-made.ensures.refused)
+    (subst (λ (r : Row). RefusesStep c.in_err-made.field-0.0 (1 + needed (r.tail % 4096) (name_entries Add c.args.new.now.inode c.args.new.now.name.now c.args.new.now.time)) c.args.free.now) (same_Some _ _ (sym at ∙ is)) c.in_err-made.ensures.refused)
 
 pub returns-in_err-made-clause-unchanged : goal.returns-in_err-made-clause-unchanged
 returns-in_err-made-clause-unchanged g c =
@@ -88,4 +88,4 @@ returns-clause-created g c =
 pub returns-clause-enough : goal.returns-clause-enough
 returns-clause-enough g c row is =
     let at : row_of c.args.rows.now.items c.args.directory ≡ Some c.lend-row.result = ap (λ (rows : List Row). row_of rows c.args.directory) (sym c.reserve.ensures.rows) ∙ c.lend-row.ensures.row in
-    subst (λ (r : Row). 1 + needed (r.tail % 4096) (name_entries Add c.args.new.now.inode c.args.new.now.name.now c.args.new.now.time) ≤ all_blocks c.args.free.now.pools) (some_only _ _ (sym at ∙ is)) c.in_ok-made.ensures.enough
+    subst (λ (r : Row). 1 + needed (r.tail % 4096) (name_entries Add c.args.new.now.inode c.args.new.now.name.now c.args.new.now.time) ≤ all_blocks c.args.free.now.pools) (same_Some _ _ (sym at ∙ is)) c.in_ok-made.ensures.enough

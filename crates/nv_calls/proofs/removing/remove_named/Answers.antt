@@ -1,7 +1,7 @@
 use Rattle.std.proofs.Common.{◌≡◌, ◌≢◌, ◌∙◌, ◌+◌, ◌%◌, ◌≤◌, ℕ, length, subst, sym}
 use Rattle.std.specs.Int.{div_ceil}
 use Rattle.std.proofs.lemmas.Result.{err_from_is_err_and}
-use Rattle.nv_super.proofs.Options.{some_only}
+use Rattle.std.proofs.lemmas.Option.{same_Some}
 use Rattle.nv_alloc.specs.Taking.{all_blocks}
 use Rattle.nv_entry.specs.declared.entry.Operation.TheVariants.{Remove}
 use Rattle.nv_logpage.specs.Append.{needed}
@@ -39,7 +39,7 @@ cut_name-cut-requires-clause-differ g c =
 
 pub returns-in_err-cut-clause-refused : goal.returns-in_err-cut-clause-refused
 returns-in_err-cut-clause-refused g c row gone at gone_at =
-    let row_is = some_only _ _ (sym c.lend-directory.ensures.row ∙ at) in
+    let row_is = same_Some _ _ (sym c.lend-directory.ensures.row ∙ at) in
     let number = sym (numbered c.args.rows.now.items c.args.named.now.target gone gone_at) in
     let count : needed (c.lend-directory.result.tail % 4096) (name_entries Remove c.args.named.now.target c.args.named.now.name.now c.args.time) ≡ needed (row.tail % 4096) (name_entries Remove gone.inode c.args.named.now.name.now c.args.time) = λ k. needed ((row_is k).tail % 4096) (name_entries Remove (number k) c.args.named.now.name.now c.args.time) in
     let w = err_from_is_err_and c.from_residual.result c.from_residual.ensures.1 in
@@ -74,7 +74,7 @@ give_row-requires-clause-room g c =
     let rows = c.args.rows.now.items in
     let apart : c.args.named.now.directory ≢ c.args.named.now.target = (λ same. (c.requires.can c.lend-directory.result c.row.result.now c.lend-directory.ensures.row c.row.ensures).1 (c.lend-directory.ensures.number ∙ same ∙ sym (numbered rows c.args.named.now.target c.row.result.now c.row.ensures))) in
     let there = sym (other_row rows c.lend-directory.new.self.items c.give_back.new.self.items c.args.named.now.directory c.lend-directory.result c.cut_name-cut.new.directory c.lend-directory.ensures.row c.lend-directory.ensures.lent (c.cut_name-cut.ensures.inode ∙ c.lend-directory.ensures.number) c.give_back.ensures.rows c.args.named.now.target apart) ∙ c.take.ensures.row in
-    let same : c.row.result.now ≡ c.take.result = some_only _ _ (sym c.row.ensures ∙ there) in
+    let same : c.row.result.now ≡ c.take.result = same_Some _ _ (sym c.row.ensures ∙ there) in
     subst (λ (r : Row). length r.pages.items + div_ceil r.numbers.size 4096 ≤ c.cut_name-cut.new.free.room) same (subst (λ (n : ℕ). n ≤ c.cut_name-cut.new.free.room) c.most_blocks.ensures c.in_ok-cut.ensures.room)
 
 pub returns-clause-removed : goal.returns-clause-removed
@@ -96,7 +96,7 @@ returns-clause-removed g c =
 
 pub returns-clause-enough : goal.returns-clause-enough
 returns-clause-enough g c row gone at gone_at =
-    let row_is = some_only _ _ (sym c.lend-directory.ensures.row ∙ at) in
+    let row_is = same_Some _ _ (sym c.lend-directory.ensures.row ∙ at) in
     let number = sym (numbered c.args.rows.now.items c.args.named.now.target gone gone_at) in
     let count : needed (c.lend-directory.result.tail % 4096) (name_entries Remove c.args.named.now.target c.args.named.now.name.now c.args.time) ≡ needed (row.tail % 4096) (name_entries Remove gone.inode c.args.named.now.name.now c.args.time) = λ k. needed ((row_is k).tail % 4096) (name_entries Remove (number k) c.args.named.now.name.now c.args.time) in
     subst (λ (n : ℕ). n ≤ all_blocks c.args.free.now.pools) count c.in_ok-cut.ensures.enough

@@ -1,6 +1,6 @@
 use Rattle.std.proofs.Common.{◌∙◌, ◌≤◌, ℕ, subst, sym}
 use Rattle.std.proofs.lemmas.Result.{IfErr-weaker, on_ok_weaker}
-use Rattle.nv_super.proofs.Options.{some_only}
+use Rattle.std.proofs.lemmas.Option.{same_Some}
 use Rattle.nv_alloc.specs.Taking.{all_blocks}
 use Rattle.nv_rows.proofs.Places.{at_place, numbered, back_two, row_in_use}
 use Rattle.nv_tree.specs.declared.refusal.Refusal.{Refusal}
@@ -49,7 +49,7 @@ returns-clause-enough g c from to inode at other_at inode_at =
     let rows = c.args.rows.now.items in
     let there = row_stays rows c.lend-from.new.self.items c.args.moved.now.from.directory c.args.moved.now.directory c.requires.apart c.requires.from c.lend-from.ensures.lent c.lend-to.result c.lend-to.ensures.row in
     let number = c.other_name-other.ensures.inode ∙ sym (numbered rows c.args.moved.now.from.target inode inode_at) in
-    let count = both_count (some_only _ _ (sym c.lend-from.ensures.row ∙ at)) (some_only _ _ (sym there ∙ other_at)) number c.other_name-other.ensures.name c.other_name-other.ensures.other c.other_name-other.ensures.time in
+    let count = both_count (same_Some _ _ (sym c.lend-from.ensures.row ∙ at)) (same_Some _ _ (sym there ∙ other_at)) number c.other_name-other.ensures.name c.other_name-other.ensures.other c.other_name-other.ensures.time in
     on_ok_weaker c.move_both-done.result (subst (λ (n : ℕ). n ≤ all_blocks c.args.free.now.pools) count) c.move_both-done.ensures.enough
 
 pub returns-clause-refused : goal.returns-clause-refused
@@ -57,7 +57,7 @@ returns-clause-refused g c from to inode at other_at inode_at =
     let rows = c.args.rows.now.items in
     let there = row_stays rows c.lend-from.new.self.items c.args.moved.now.from.directory c.args.moved.now.directory c.requires.apart c.requires.from c.lend-from.ensures.lent c.lend-to.result c.lend-to.ensures.row in
     let number = c.other_name-other.ensures.inode ∙ sym (numbered rows c.args.moved.now.from.target inode inode_at) in
-    let count = both_count (some_only _ _ (sym c.lend-from.ensures.row ∙ at)) (some_only _ _ (sym there ∙ other_at)) number c.other_name-other.ensures.name c.other_name-other.ensures.other c.other_name-other.ensures.time in
+    let count = both_count (same_Some _ _ (sym c.lend-from.ensures.row ∙ at)) (same_Some _ _ (sym there ∙ other_at)) number c.other_name-other.ensures.name c.other_name-other.ensures.other c.other_name-other.ensures.time in
     IfErr-weaker c.move_both-done.result _ _ (λ (e : Refusal). subst (λ (n : ℕ). RefusesStep e n c.args.free.now) count) c.move_both-done.ensures.refused
 
 pub returns-clause-unchanged : goal.returns-clause-unchanged

@@ -1,6 +1,6 @@
 use Rattle.std.proofs.Common.{◌∙◌, ◌≤◌, ℕ, ap, inr, subst, sym}
 use Rattle.std.proofs.lemmas.Result.{IfErr-weaker, on_ok_weaker}
-use Rattle.nv_super.proofs.Options.{some_only}
+use Rattle.std.proofs.lemmas.Option.{same_Some}
 use Rattle.nv_alloc.specs.Taking.{all_blocks}
 use Rattle.nv_rows.specs.Rows.{place_in, row_of}
 use Rattle.nv_rows.proofs.Places.{at_place, back_one, in_use, numbered, places_apart, row_in_use}
@@ -44,7 +44,7 @@ returns-clause-moved g c =
 pub returns-clause-enough : goal.returns-clause-enough
 returns-clause-enough g c from to inode at other_at inode_at =
     let rows = c.args.rows.now.items in
-    let one = some_only _ _ (sym c.lend-directory.ensures.row ∙ sym (ap (row_of rows) c.if-moved.false) ∙ at) in
+    let one = same_Some _ _ (sym c.lend-directory.ensures.row ∙ sym (ap (row_of rows) c.if-moved.false) ∙ at) in
     let number = c.other_name-other.ensures.inode ∙ sym (numbered rows c.args.moved.now.from.target inode inode_at) in
     let count = here_count one number c.other_name-other.ensures.name c.other_name-other.ensures.other c.other_name-other.ensures.time ∙ sym (within_count (place_in rows c.args.moved.now.from.directory) (place_in rows c.args.moved.now.directory) from to inode.inode c.args.moved.now.from.name.now c.args.moved.now.name.now c.args.time (ap (place_in rows) c.if-moved.false)) in
     on_ok_weaker c.move_within-done.result (subst (λ (n : ℕ). n ≤ all_blocks c.args.free.now.pools) count) c.move_within-done.ensures.enough
@@ -52,7 +52,7 @@ returns-clause-enough g c from to inode at other_at inode_at =
 pub returns-clause-refused : goal.returns-clause-refused
 returns-clause-refused g c from to inode at other_at inode_at =
     let rows = c.args.rows.now.items in
-    let one = some_only _ _ (sym c.lend-directory.ensures.row ∙ sym (ap (row_of rows) c.if-moved.false) ∙ at) in
+    let one = same_Some _ _ (sym c.lend-directory.ensures.row ∙ sym (ap (row_of rows) c.if-moved.false) ∙ at) in
     let number = c.other_name-other.ensures.inode ∙ sym (numbered rows c.args.moved.now.from.target inode inode_at) in
     let count = here_count one number c.other_name-other.ensures.name c.other_name-other.ensures.other c.other_name-other.ensures.time ∙ sym (within_count (place_in rows c.args.moved.now.from.directory) (place_in rows c.args.moved.now.directory) from to inode.inode c.args.moved.now.from.name.now c.args.moved.now.name.now c.args.time (ap (place_in rows) c.if-moved.false)) in
     IfErr-weaker c.move_within-done.result _ _ (λ (e : Refusal). subst (λ (n : ℕ). RefusesStep e n c.args.free.now) count) c.move_within-done.ensures.refused

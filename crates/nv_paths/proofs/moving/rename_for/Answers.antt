@@ -1,6 +1,6 @@
 use Rattle.std.proofs.Common.{◌≡◌, ◌∙◌, ◌∷◌, Some, None, IfErr, ap, slice_get, subst, sym, option_copied}
 use Rattle.std.proofs.lemmas.Result.{err_from_is_err_and}
-use Rattle.nv_super.proofs.Options.{some_only}
+use Rattle.std.proofs.lemmas.Option.{same_Some}
 use Rattle.nv_names.specs.Names.{name_at}
 use Rattle.nv_tree.specs.declared.refusal.Refusal.TheVariants.{Exists, IntoItself, NotFound}
 use Rattle.nv_tree.specs.Path.{IsPath, IsPathName}
@@ -103,7 +103,7 @@ returns-clause-spot c region names others path other_path =
     let d = c.in_ok-former_directory.former_directory in
     let e = c.in_ok-directory.directory in
     let target = c.in-Some.target in
-    let one : (row : Row) → slice_get rows (place_in rows target.now.inode) ≡ Some row → target.now ≡ row = λ row at. some_only _ _ (sym c.in-Some.ensures.held ∙ sym (at_place rows target.now.inode) ∙ at) in
+    let one : (row : Row) → slice_get rows (place_in rows target.now.inode) ≡ Some row → target.now ≡ row = λ row at. same_Some _ _ (sym c.in-Some.ensures.held ∙ sym (at_place rows target.now.inode) ∙ at) in
     record {
       from = record {
         directory = λ row at. c.in_ok-former_directory.ensures.directory region names w.3 row (sym (at_place rows d) ∙ at);

@@ -1,6 +1,6 @@
 use Rattle.std.proofs.Common.{◌≡◌, ◌∙◌, List, ℕ, Some, None, true, false, subst, sym}
 use Rattle.std.proofs.lemmas.Result.{err_from_is_err_and}
-use Rattle.nv_super.proofs.Options.{some_only}
+use Rattle.std.proofs.lemmas.Option.{same_Some}
 use Rattle.nv_super.specs.declared.kind.Kind.TheVariants.{Directory}
 use Rattle.nv_names.specs.Names.{name_at}
 use Rattle.nv_scan.specs.declared.piece.Row.{Row}
@@ -64,7 +64,7 @@ returns-clause-allowed c region p says =
 
 pub returns-clause-empty : goal.returns-clause-empty
 returns-clause-empty c row is =
-    subst (λ (r : Row). (r.kind ≡ Directory) × ((q : List ℕ) → name_at r.names q ≡ None)) (some_only _ _ (sym c.row-row.ensures ∙ is)) (c.is_file.ensures.no c.if-is_file.false, c.is_empty.ensures.0 c.if-not-is_empty.false)
+    subst (λ (r : Row). (r.kind ≡ Directory) × ((q : List ℕ) → name_at r.names q ≡ None)) (same_Some _ _ (sym c.row-row.ensures ∙ is)) (c.is_file.ensures.no c.if-is_file.false, c.is_empty.ensures.0 c.if-not-is_empty.false)
 
 pub returns-clause-directory : goal.returns-clause-directory
 returns-clause-directory c = c.in_ok-named.ensures.directory

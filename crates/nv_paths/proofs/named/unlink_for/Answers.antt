@@ -1,6 +1,6 @@
 use Rattle.std.proofs.Common.{◌≡◌, ◌∙◌, Some, subst, sym}
 use Rattle.std.proofs.lemmas.Result.{err_from_is_err_and}
-use Rattle.nv_super.proofs.Options.{some_only}
+use Rattle.std.proofs.lemmas.Option.{same_Some}
 use Rattle.nv_super.specs.declared.kind.Kind.TheVariants.{File}
 use Rattle.nv_scan.specs.declared.piece.Row.{Row}
 use Rattle.nv_tree.specs.declared.refusal.Refusal.{Refusal}
@@ -56,7 +56,7 @@ returns-clause-allowed c region p says =
 
 pub returns-clause-file : goal.returns-clause-file
 returns-clause-file c row is =
-    subst (λ (r : Row). r.kind ≡ File) (some_only _ _ (sym c.row.ensures ∙ is)) (c.is_file.ensures.yes c.if-not-is_file.false)
+    subst (λ (r : Row). r.kind ≡ File) (same_Some _ _ (sym c.row.ensures ∙ is)) (c.is_file.ensures.yes c.if-not-is_file.false)
 
 pub returns-clause-directory : goal.returns-clause-directory
 returns-clause-directory c = c.in_ok-named.ensures.directory

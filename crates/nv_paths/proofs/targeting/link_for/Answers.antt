@@ -1,6 +1,6 @@
 use Rattle.std.proofs.Common.{◌≡◌, ◌∙◌, ◌∷◌, ◌<◌, Some, None, IfErr, ap, slice_get, subst, sym, option_copied}
 use Rattle.std.proofs.lemmas.Result.{err_from_is_err_and}
-use Rattle.nv_super.proofs.Options.{some_only}
+use Rattle.std.proofs.lemmas.Option.{same_Some}
 use Rattle.nv_super.specs.declared.kind.Kind.TheVariants.{File}
 use Rattle.nv_scan.specs.declared.piece.Row.{Row}
 use Rattle.nv_tree.specs.declared.refusal.Refusal.TheVariants.{Exists, IsDirectory, LinkLimit, NotFound}
@@ -83,7 +83,7 @@ returns-clause-spot c region names others path other_path =
     let d = c.in_ok-directory.directory in
     let target = c.in-Some.target.now in
     let held : row_of rows target.inode ≡ Some target = held_of rows c.in_ok-file.file c.in-Some.target c.in-Some.is c.in_ok-file.ensures.held in
-    let one : (row : Row) → slice_get rows (place_in rows target.inode) ≡ Some row → target ≡ row = λ row at. some_only _ _ (sym held ∙ sym (at_place rows target.inode) ∙ at) in
+    let one : (row : Row) → slice_get rows (place_in rows target.inode) ≡ Some row → target ≡ row = λ row at. same_Some _ _ (sym held ∙ sym (at_place rows target.inode) ∙ at) in
     record {
       spot = record {
         directory = record {
