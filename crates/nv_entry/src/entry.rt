@@ -27,6 +27,9 @@ pub struct WriteEntry {
     pub time: u64,
 }
 
+/// The bytes that a write entry takes.
+pub const WRITE_LENGTH: u64 = 40;
+
 /// New attributes of an inode.
 #[derive(Clone, Copy, Debug, PartialEq, Eq)]
 pub struct AttrEntry {

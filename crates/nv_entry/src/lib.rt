@@ -17,7 +17,9 @@ pub use content::{
     ContentFault, check_bare, check_content, check_name, check_write, has_bad_byte, is_dots,
     is_out_of_range, is_wrong_kind,
 };
-pub use entry::{AttrEntry, Entry, LinksEntry, NameEntry, Operation, WriteEntry, name_entry};
+pub use entry::{
+    AttrEntry, Entry, LinksEntry, NameEntry, Operation, WRITE_LENGTH, WriteEntry, name_entry,
+};
 pub use laws::{
     an_entry_or_none_at_a_place, no_spelling_begins_another, one_entry_at_a_place, one_spelling,
 };

@@ -11,7 +11,7 @@ ghost use Rattle.nv_entry.specs.Digits.{low_bytes};
 ghost use Rattle.nv_entry.specs.Name.{IsName};
 ghost use Rattle.nv_entry.specs.Light.{text_at, name_in, entry_in, HasName, CanBeRead};
 
-use crate::entry::{AttrEntry, Entry, LinksEntry, NameEntry, Operation, WriteEntry};
+use crate::entry::{AttrEntry, Entry, LinksEntry, NameEntry, Operation, WRITE_LENGTH, WriteEntry};
 use crate::name::FileName;
 use arrayvec::ArrayVec;
 use nv_super::Pmem;
@@ -105,7 +105,7 @@ impl LightEntry {
     {
         match self {
             LightEntry::NextPage => 8,
-            LightEntry::Write(_) => 40,
+            LightEntry::Write(_) => WRITE_LENGTH,
             LightEntry::Attr(_) => 32,
             LightEntry::Name(e) => 24 + 8 * ((e.count as u64 + 7) / 8),
             LightEntry::Links(_) => 24,

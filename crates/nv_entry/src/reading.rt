@@ -16,7 +16,7 @@ ghost use Rattle.nv_entry.specs.declared.entry.LinksEntry.{LinksEntry as LinksVa
 ghost use Rattle.nv_entry.specs.Digits.{high_part};
 ghost use Rattle.nv_entry.specs.Light.{text_at, entry_in, CanBeRead};
 
-use crate::entry::{AttrEntry, Entry, LinksEntry, Operation, WriteEntry};
+use crate::entry::{AttrEntry, Entry, LinksEntry, Operation, WRITE_LENGTH, WriteEntry};
 use crate::first::First;
 use crate::light::{LightEntry, LightName};
 use nv_super::Pmem;
@@ -85,7 +85,7 @@ pub fn read_write<P: Pmem>(memory: &P, at: u64, room: u64) -> Option<WriteEntry>
 {
     // The region's length is a u64, and so is each address up to it.
     let _end = memory.len();
-    if room < 40 {
+    if room < WRITE_LENGTH {
         return None;
     }
     let first = First::from_word(memory.load(at));

@@ -8,7 +8,7 @@ ghost use Rattle.nv_entry.specs.Text.{text_word};
 ghost use Rattle.nv_entry.specs.Spelling.{Stands, entry_length, operation_code, words_for, IsNameAt, first_word};
 ghost use Rattle.nv_entry.specs.Written.{HoldsWords};
 
-use crate::entry::{Entry, NameEntry, Operation};
+use crate::entry::{Entry, NameEntry, Operation, WRITE_LENGTH};
 use crate::first::First;
 use byteorder::{ByteOrder, LittleEndian};
 use nv_super::{Pmem, Stopped};
@@ -25,7 +25,7 @@ pub fn length(entry: &Entry) -> u64
 {
     match entry {
         Entry::NextPage => 8,
-        Entry::Write(_) => 40,
+        Entry::Write(_) => WRITE_LENGTH,
         Entry::Attr(_) => 32,
         Entry::Name(e) => 24 + 8 * ((e.name.as_slice().len() as u64 + 7) / 8),
         Entry::Links(_) => 24,

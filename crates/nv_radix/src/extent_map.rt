@@ -48,6 +48,7 @@ impl ExtentMap {
     /// Unmaps the pages from `first_page` on, which may be any number.
     ///
     /// Errors: `AllocError` where a growth was refused; of the map nothing is said then.
+    // Each write entry of a log makes this call and the next, whose own cost is small.
     #[inline(always)]
     pub fn cut(&mut self, first_page: u64) -> Result<(), AllocError>
         ensures { OnOk result ((p : ℕ) → block_by self.new p ≡ (if nat_le first_page p then None else block_by self.old p)) }

@@ -51,7 +51,7 @@ impl RunMap {
     }
 
     /// Unmaps the pages from `first_page` on, which may be any number.
-    // Each entry of a log makes this call and the next, and most do nothing but compare.
+    // Each write entry of a log makes this call and the next, and most do little but compare.
     #[inline(always)]
     pub fn cut(&mut self, first_page: u64) -> Result<(), AllocError>
         ensures { OnOk result ((p : ℕ) → block_by self.new p ≡ (if nat_le first_page p then None else block_by self.old p)) }

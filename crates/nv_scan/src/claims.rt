@@ -101,6 +101,7 @@ pub fn claims_of_rows(alloc: Global, rows: &[Row]) -> Result<Vec<(u64, Owner)>, 
 
 /// What an inode claims, by the pages of its log and its file's index. The runs take the memory of those given, which are left
 /// empty.
+// A call would copy the claims once more.
 #[inline(always)]
 pub(crate) fn claims_of(
     alloc: Global,

@@ -58,6 +58,7 @@ impl Numbers {
             }
         }
     }
+
     /// Takes what a write entry says.
     pub(crate) fn apply_write(&mut self, e: &WriteEntry)
         ensures { self.new ≡ record self.old { size = e.now.size; time = e.now.time } }

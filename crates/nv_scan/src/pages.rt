@@ -33,6 +33,7 @@ pub(crate) fn apply_pages(
 }
 
 /// Cuts the pages from the entry's size on, and maps its own, each of which begins below the size.
+// A call for each write entry would cost as much as its work.
 #[inline(always)]
 pub(crate) fn write_pages(
     extents: &mut ExtentMap,

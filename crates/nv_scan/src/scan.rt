@@ -308,7 +308,6 @@ fn fault_of_end(inode: u64, end: Option<LogEnd>) -> Option<Fault>
 }
 
 /// Keeps an inode in use, with one fault more than its log told, if there is one, and hands on what it claims.
-#[inline(always)]
 fn keep(
     alloc: Global,
     room: &mut Vec<Extent>,
@@ -337,6 +336,7 @@ fn keep(
 
 /// The index of the pages that are left, which is made here, once, and what the inode claims. The fault is put behind
 /// the others.
+// A call would copy the index and the claims once more.
 #[inline(always)]
 fn closed(
     alloc: Global,
@@ -359,6 +359,7 @@ fn closed(
 }
 
 /// Puts the row of an inode in use and its faults behind those that are kept.
+// A call would copy the row's parts once more.
 #[inline(always)]
 fn keep_row(
     used: &InUse,
