@@ -1,7 +1,7 @@
 -- The extents of a map from pages to blocks.
-use Rattle.std.specs.Prelude.{◌≡◌, ◌≢◌, ℕ, ◌+◌, ◌<◌, ◌≤◌, List, [], ◌∷◌, Some, IsSome, All, Contains}
+use Rattle.std.specs.Prelude.{◌≡◌, ◌≢◌, ℕ, ◌+◌, ◌-◌, ◌<◌, ◌≤◌, if◌then◌else◌, List, [], ◌∷◌, Some, None, IsSome, All, Contains}
 use Rattle.nv_radix.specs.declared.extent.Extent.{Extent}
-use Rattle.nv_radix.specs.Pages.{Pages, block_at}
+use Rattle.nv_radix.specs.Pages.{Pages, block_at, in_run}
 
 -- each page of the extent maps to its block
 abbrev pub IsMapped : Pages → Extent → Type 0
@@ -21,6 +21,11 @@ abbrev pub AreApart : List Extent → Type 0
 AreApart [] = Unit {0}
 AreApart (x ∷ []) = Unit {0}
 AreApart (x ∷ y ∷ extents) = IsApart x y × AreApart (y ∷ extents)
+
+-- the second map has the pages of an extent more, which stand behind all that the first maps
+pub record HasRunBehind (m n : Pages) (x : Extent) : Type 0 where
+  pub behind : (p : ℕ) → x.page ≤ p → block_at m p ≡ None
+  pub set : (p : ℕ) → block_at n p ≡ (if in_run x.page x.count p then Some (x.block + (p - x.page)) else block_at m p)
 
 -- the longest extents of the map, rising, and nothing but them
 pub record AreExtents (m : Pages) (extents : List Extent) : Type 0 where

@@ -3,8 +3,10 @@
 ghost use Rattle.std.specs.Prelude.{◌≡◌, ℕ, ◌+◌, ◌-◌, ◌^◌, ◌<◌, ◌≤◌, if◌then◌else◌, nat_le, nat_lt, Some, None, false, IsTrue, OnOk, IfOk};
 ghost use Rattle.std.specs.Option.{option_or};
 ghost use Rattle.nv_radix.specs.Pages.{block_at, in_run, is_ready, AreFilePages};
+ghost use Rattle.nv_radix.specs.Extents.{AreExtents};
 ghost use Rattle.nv_radix.specs.Runs.{block_by};
 
+use crate::extent::Extent;
 use crate::index::FileIndex;
 use crate::leaf::{LEAF_PAGES, Leaf};
 use crate::node::Node;
@@ -93,15 +95,24 @@ impl ExtentMap {
         Ok(())
     }
 
-    /// The index of the same map. Errors: `AllocError` where a growth was refused.
-    pub fn to_index(&self, alloc: Global) -> Result<FileIndex, AllocError>
-        ensures { IfOk result (λ index. (p : ℕ) → block_at index p ≡ block_by self.now p) }
+    /// The index of the same map, and its longest extents, rising, in place of what the list had, whose room is used
+    /// again.
+    ///
+    /// Errors: `AllocError` where a growth was refused; of the list nothing is said then.
+    pub fn to_index(
+        &self,
+        alloc: Global,
+        extents: &mut Vec<Extent>,
+    ) -> Result<FileIndex, AllocError>
+        ensures index { IfOk result (λ index. (p : ℕ) → block_at index p ≡ block_by self.now p) }
+        ensures extents { IfOk result (λ index. AreExtents index extents.new.items) }
     {
-        let mut index = self.runs.to_index(alloc)?;
+        let mut index = self.runs.to_index(alloc, extents)?;
         if !self.front.is_ready(0) {
             return Ok(index);
         }
         put_leaf(&mut index, &self.front)?;
+        index.runs_into(extents)?;
         Ok(index)
     }
 }

@@ -1,30 +1,26 @@
-//! The extents of rising pages, found in one walk.
+//! The extents of rising runs of pages, found in one walk.
 
-ghost use Rattle.std.specs.Prelude.{◌^◌, ◌<◌, ◌∷◌, ◌++◌, [], OnOk, Some};
+ghost use Rattle.std.specs.Prelude.{◌+◌, ◌^◌, ◌<◌, ◌≤◌, OnOk};
 ghost use Rattle.nv_radix.specs.Pages.{Pages};
-ghost use Rattle.nv_radix.specs.Extents.{AreExtents};
-ghost use Rattle.nv_radix.specs.Rising.{Rises};
+ghost use Rattle.nv_radix.specs.Extents.{AreExtents, HasRunBehind};
 
 use crate::extent::Extent;
 use std::alloc::AllocError;
 
-/// Adds a mapped page, which stands behind all pages of the extents.
-pub fn add_page(extents: &mut Vec<Extent>, page: u64, block: u64) -> Result<(), AllocError>
-    requires { page < 2 ^ 33 }
-    ensures { OnOk result ((m : Pages) → Rises 0 page m → AreExtents m extents.old.items → AreExtents (m ++ (page, Some block) ∷ []) extents.new.items) }
+/// Adds a run of mapped pages, which stands behind all pages of the extents.
+pub fn add_run(extents: &mut Vec<Extent>, run: Extent) -> Result<(), AllocError>
+    requires some { 0 < run.count }
+    requires fits { run.page + run.count ≤ 2 ^ 33 }
+    ensures { OnOk result ((m n : Pages) → HasRunBehind m n run → AreExtents m extents.old.items → AreExtents n extents.new.items) }
 {
     let len = extents.len();
     if len > 0 {
         let last = extents[len - 1];
-        if last.is_followed_by(page, block) {
-            extents[len - 1].count += 1;
+        if last.is_followed_by(run.page, run.block) {
+            extents[len - 1].count += run.count;
             return Ok(());
         }
     }
-    extents.push(Extent {
-        page,
-        count: 1,
-        block,
-    })?;
+    extents.push(run)?;
     Ok(())
 }

@@ -8,7 +8,7 @@ ghost use Rattle.nv_radix.specs.Extents.{AreExtents};
 ghost use Rattle.nv_radix.specs.Rising.{Rises};
 
 use crate::extent::Extent;
-use crate::extents::add_page;
+use crate::extents::add_run;
 use std::alloc::AllocError;
 
 /// The block of a place, if its bit is set.
@@ -54,7 +54,15 @@ pub(crate) fn add_places(
             return Ok(());
         }
         if rest & 1 == 1 {
-            add_page(extents, base + place as u64, *block)?;
+            let page = base + place as u64;
+            add_run(
+                extents,
+                Extent {
+                    page,
+                    count: 1,
+                    block: *block,
+                },
+            )?;
         }
     }
     Ok(())

@@ -2,8 +2,11 @@
 
 ghost use Rattle.std.specs.Prelude.{◌≡◌, ℕ, ◌+◌, ◌-◌, ◌^◌, ◌<◌, ◌≤◌, if◌then◌else◌, nat_le, Some, None, OnOk, IfOk};
 ghost use Rattle.nv_radix.specs.Pages.{block_at, in_run, AreFilePages};
-ghost use Rattle.nv_radix.specs.Runs.{block_by};
+ghost use Rattle.nv_radix.specs.Extents.{AreExtents};
+ghost use Rattle.nv_radix.specs.Runs.{block_by, IsRun};
 
+use crate::extent::Extent;
+use crate::extents::add_run;
 use crate::index::FileIndex;
 use crate::runs::{Blocks, Runs, clear, goes_on, set, settle};
 use std::alloc::{AllocError, Global};
@@ -101,17 +104,48 @@ impl RunMap {
         self.end
     }
 
-    /// The index of the same map.
-    pub fn to_index(&self, alloc: Global) -> Result<FileIndex, AllocError>
-        ensures { IfOk result (λ index. (p : ℕ) → block_at index p ≡ block_by self.now p) }
+    /// The index of the same map, and its longest extents, in place of what the list had.
+    pub fn to_index(
+        &self,
+        alloc: Global,
+        extents: &mut Vec<Extent>,
+    ) -> Result<FileIndex, AllocError>
+        ensures index { IfOk result (λ index. (p : ℕ) → block_at index p ≡ block_by self.now p) }
+        ensures extents { IfOk result (λ index. AreExtents index extents.new.items) }
     {
+        extents.clear();
         let mut index = FileIndex::new(alloc);
         for (page, blocks) in &self.runs {
-            index.reserve(*page, blocks.count)?;
-            index.set_run(*page, blocks.start, blocks.count);
+            put_run(&mut index, extents, *page, *blocks)?;
         }
-        index.reserve(self.page, self.last.count)?;
-        index.set_run(self.page, self.last.start, self.last.count);
+        if self.last.count > 0 {
+            put_run(&mut index, extents, self.page, self.last)?;
+        }
         Ok(index)
     }
+}
+
+/// Maps a run that stands behind all pages of an index, and adds it to the index's extents.
+fn put_run(
+    index: &mut FileIndex,
+    extents: &mut Vec<Extent>,
+    page: u64,
+    blocks: Blocks,
+) -> Result<(), AllocError>
+    requires run { IsRun page blocks }
+    requires behind { (p : ℕ) → page ≤ p → block_at index.old p ≡ None }
+    ensures index { OnOk result ((p : ℕ) → block_at index.new p ≡ (if in_run page blocks.count p then Some (blocks.start + (p - page)) else block_at index.old p)) }
+    ensures extents { OnOk result (AreExtents index.old extents.old.items → AreExtents index.new extents.new.items) }
+{
+    let Blocks { start, count } = blocks;
+    index.reserve(page, count)?;
+    index.set_run(page, start, count);
+    add_run(
+        extents,
+        Extent {
+            page,
+            count,
+            block: start,
+        },
+    )
 }

@@ -6,18 +6,18 @@ ghost use Rattle.nv_region.specs.Region.{Region};
 ghost use Rattle.nv_super.specs.declared.superblock.Super.{Super};
 ghost use Rattle.nv_super.specs.Layout.{IsLayout, Layout, fixed_layout};
 ghost use Rattle.nv_super.specs.Order.{Lists, owner_key};
-ghost use Rattle.nv_radix.specs.Pages.{block_at};
-ghost use Rattle.nv_scan.specs.Claims.{IsClaim, log_claims, run_claims, data_claims, IsSmall, AreSmall};
+ghost use Rattle.nv_radix.specs.Extents.{AreExtents};
+ghost use Rattle.nv_radix.specs.Pages.{Pages};
+ghost use Rattle.nv_scan.specs.Claims.{IsClaim, log_claims, run_claims, data_claims, IsSmall};
 ghost use Rattle.nv_scan.specs.Rows.{IsPiece};
 ghost use Rattle.nv_scan.specs.Work.{rows_in, claims_in};
 ghost use Rattle.nv_scan.specs.declared.piece.Piece.{Piece};
 
 use crate::piece::{LogPages, Row};
-use nv_radix::{Extent, FileIndex};
+use nv_radix::Extent;
 use nv_super::Owner;
 use std::alloc::{AllocError, Global};
 use std::marker::Model;
-use std::mem;
 
 /// What an inode claims, as the pages of its log and the runs of its file. Contracts see each block with its owner: first
 /// come the pages of the log in their order, then the blocks of the file, by page.
@@ -92,29 +92,26 @@ pub fn claims_of_rows(alloc: Global, rows: &[Row]) -> Result<Vec<(u64, Owner)>, 
     let mut claims = Vec::new(alloc);
     let mut runs = Vec::new(alloc);
     for row in rows {
-        let own = claims_of(alloc, row.inode, &row.pages, &row.index, &mut runs)?;
+        row.index.runs_into(&mut runs)?;
+        let own = claims_of(alloc, row.inode, &row.pages, runs)?;
         claims.extend_from_slice(&own.to_list(alloc)?)?;
         runs = own.into_runs();
     }
     Ok(claims)
 }
 
-/// What an inode claims, by the pages of its log and its file's index. The runs take the memory of those given, which are left
-/// empty.
+/// What an inode claims, by the pages of its log and the longest extents of its file's index.
 // A call would copy the claims once more.
 #[inline(always)]
 pub(crate) fn claims_of(
     alloc: Global,
     inode: u64,
     pages: &[u64],
-    index: &FileIndex,
-    room: &mut Vec<Extent>,
+    runs: Vec<Extent>,
 ) -> Result<Claims, AllocError>
-    requires { AreSmall (block_at index.now) }
-    ensures { IfOk result (λ claims. Lists (λ x. owner_key x.1) (IsClaim inode pages.now index.now) claims.items) }
+    requires { All IsSmall runs.items }
+    ensures { (index : Pages) → AreExtents index runs.items → IfOk result (λ claims. Lists (λ x. owner_key x.1) (IsClaim inode pages.now index) claims.items) }
 {
-    let mut runs = mem::replace(room, Vec::new(alloc));
-    index.runs_into(&mut runs)?;
     let pages = LogPages::from_slice(alloc, pages)?;
     Ok(Claims { inode, pages, runs })
 }

@@ -32,9 +32,11 @@ impl Inodes {
         ensures faults { OnOk result (self.new.faults.items ≡ self.old.faults.items ++ faults.now) }
         ensures refused { OnErr result (SameInodes self.old self.new) }
     {
-        // With this room the row can't be refused once the faults are there.
-        self.rows.reserve(1)?;
-        self.faults.extend_from_slice(faults)?;
+        if !faults.is_empty() {
+            // With this room the row can't be refused once the faults are there.
+            self.rows.reserve(1)?;
+            self.faults.extend_from_slice(faults)?;
+        }
         self.rows.push(row)?;
         Ok(())
     }

@@ -32,6 +32,7 @@ use nv_region::Pmem;
 use nv_super::{Fault, Super};
 use std::alloc::{AllocError, Global};
 use std::marker::Model;
+use std::mem;
 
 /// Scans inodes one after another, with one reader for all their logs. It has a bit for each block of the region, made
 /// at the first log that is read; each later log costs what its own pages do.
@@ -334,8 +335,8 @@ fn keep(
     Ok(claims)
 }
 
-/// The index of the pages that are left, which is made here, once, and what the inode claims. The fault is put behind
-/// the others.
+/// The index of the pages that are left, which is made here, once, and what the inode claims, whose runs take the memory of
+/// those given. The fault is put behind the others.
 // A call would copy the index and the claims once more.
 #[inline(always)]
 fn closed(
@@ -353,8 +354,9 @@ fn closed(
     ensures faults { OnOk result (faults.new.items ≡ faults.old.items ++ cons_option fault []) }
 {
     push_fault(faults, fault)?;
-    let index = extents.to_index(alloc)?;
-    let claims = claims_of(alloc, inode, pages, &index, room)?;
+    let mut runs = mem::replace(room, Vec::new(alloc));
+    let index = extents.to_index(alloc, &mut runs)?;
+    let claims = claims_of(alloc, inode, pages, runs)?;
     Ok((index, claims))
 }
 

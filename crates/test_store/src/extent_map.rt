@@ -39,7 +39,8 @@ fn assert_steps(rt: &impl Abort, alloc: Global, steps: &[u64], extents: &str) {
 }
 
 fn assert_map(rt: &impl Abort, alloc: Global, map: &ExtentMap, extents: &str) {
-    let index = map.to_index(alloc).expect(rt, "memory");
+    let mut runs = Vec::new(alloc);
+    let index = map.to_index(alloc, &mut runs).expect(rt, "memory");
     assert_extents(rt, &index, &numbers(rt, alloc, extents), extents);
 }
 

@@ -1,13 +1,14 @@
 use Rattle.std.proofs.Common.{◌≡◌, ◌++◌, ◌∙◌, [], sym}
 use Rattle.std.specs.List.{cons_option}
 use Rattle.std.proofs.lemmas.Result.{IfOk-from_err}
+use Rattle.nv_scan.proofs.ClaimLists.{small_runs}
 use Rattle.nv_scan.proofs.scan.closed.Goals as goal
 
 pub claims_of-requires : goal.claims_of-requires
-claims_of-requires c = λ p b e. c.requires p b (sym (c.in_ok-index.ensures p) ∙ e)
+claims_of-requires c = small_runs _ _ (λ p b e. c.requires p b (sym (c.in_ok-index.ensures.index p) ∙ e)) c.in_ok-index.ensures.extents
 
 pub returns : goal.returns
-returns c = record { index = c.in_ok-index.ensures; claims = c.in_ok-claims.ensures; faults = c.in_ok-push_fault.ensures.pushed }
+returns c = record { index = c.in_ok-index.ensures.index; claims = c.in_ok-claims.ensures c.in_ok-index.index c.in_ok-index.ensures.extents; faults = c.in_ok-push_fault.ensures.pushed }
 
 pub returns-in_err-push_fault : goal.returns-in_err-push_fault
 returns-in_err-push_fault c = record {
