@@ -24,7 +24,7 @@ use crate::sets::Sets;
 use crate::starting::start;
 use nv_outcome::{Recovered, cross_faults_one};
 use nv_region::Pmem;
-use nv_scan::{Inodes, Scanner};
+use nv_scan::{Claims, Inodes, Scanner};
 use nv_super::Super;
 use std::alloc::{AllocError, Global};
 
@@ -91,11 +91,11 @@ fn scan_in_order<P: Pmem>(
 {
     let mut scanner = Scanner::new(alloc, sup);
     let mut inodes = Inodes::new(alloc);
+    let mut claims = Claims::new(alloc);
     let mut sets = Sets::new(alloc, sup)?;
     for inode in 1..sup.max_inode() + 1 {
-        let claims = scanner.scan(memory, inode, &mut inodes)?;
+        scanner.scan(memory, inode, &mut inodes, &mut claims)?;
         sets.claim_all(&claims);
-        scanner.reuse(claims);
     }
     Ok((inodes, sets))
 }

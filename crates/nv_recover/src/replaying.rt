@@ -30,7 +30,7 @@ use nv_claimcore::{ClaimState, CoreRefusal, replay};
 use nv_claimmap::Claimed;
 use nv_outcome::{Recovered, cross_faults_one};
 use nv_region::Pmem;
-use nv_scan::{Inodes, SLOTS, Scanner, ticket_count};
+use nv_scan::{Claims, Inodes, SLOTS, Scanner, ticket_count};
 use nv_super::{Owner, Super};
 use std::alloc::{AllocError, Global};
 
@@ -139,10 +139,11 @@ fn scan_ticket<P: Pmem>(
     ensures next { IfOk result (λ list. AreNext (P.region memory.now) scanner.old (numbers_of scanner.old ticket) inodes.old inodes.new list.items) }
 {
     let mut list = Vec::new(alloc);
+    let mut claims = Claims::new(alloc);
     for slot in 0..SLOTS {
-        if let Some(claims) = scanner.scan_place(memory, SLOTS * ticket + slot, inodes)? {
+        let found = scanner.scan_place(memory, SLOTS * ticket + slot, inodes, &mut claims)?;
+        if found {
             list.extend_from_slice(&claims.to_list(alloc)?)?;
-            scanner.reuse(claims);
         }
     }
     Ok(list)

@@ -1,9 +1,9 @@
 -- The steps of a scan, with what is kept after each.
-use Rattle.std.proofs.Common.{◌≡◌, ◌∙◌, ℕ, ◌≢◌, ◌<◌, ◌+◌, ◌-◌, ◌^◌, ◌++◌, length, slice_index_or, true, false, List, [], ap, refl, sym, subst, append-nil, Option, Some, None, Result, IsTrue, arith}
-use Rattle.std.specs.Result.{IfOk}
+use Rattle.std.proofs.Common.{◌≡◌, ◌∙◌, ℕ, ◌≢◌, ◌<◌, ◌+◌, ◌-◌, ◌^◌, ◌++◌, length, slice_index_or, true, false, List, [], ap, refl, sym, subst, append-nil, Option, Some, None, Result, Ok, Err, IsTrue, arith}
+use Rattle.std.specs.Result.{OnOk}
 use Rattle.std.specs.Option.{MatchOption}
 use Rattle.std.specs.List.{cons_option}
-use Rattle.std.proofs.lemmas.Result.{IfOk-weaker}
+use Rattle.std.proofs.lemmas.Result.{on_ok_weaker}
 use Rattle.nv_region.specs.Region.{Region, word}
 use Rattle.nv_super.specs.declared.superblock.Super.{Super}
 use Rattle.nv_super.specs.declared.kind.Kind.{Kind}
@@ -83,9 +83,14 @@ bad_kind_one R s i layout number no_kind valid p e = (
 -- ---- what is kept of it
 
 -- what holds of a piece that is kept
-pub keeps_more : {E : Type 0} {P Q : Piece → Type 0} (result : Result ClaimList E) (old new : Inodes) → ((p : Piece) → P p → Q p) → IfOk result (Keeps P old new) → IfOk result (Keeps Q old new)
-keeps_more {P = P} {Q = Q} result old new more kept = IfOk-weaker result (Keeps P old new) (Keeps Q old new)
-    (λ claims k. record { piece = k.piece; is = more k.piece k.is; rows = k.rows; faults = k.faults; claims_are = k.claims_are }) kept
+pub keeps_more : {E : Type 0} {P Q : Piece → Type 0} (old new : Inodes) (claims : ClaimList) (result : Result (Unit {0}) E) → ((p : Piece) → P p → Q p) → OnOk result (Keeps P old new claims) → OnOk result (Keeps Q old new claims)
+keeps_more old new claims result more kept = on_ok_weaker result (λ k. record { piece = k.piece; is = more k.piece k.is; rows = k.rows; faults = k.faults; claims_are = k.claims_are }) kept
+
+-- a piece whose row and faults are kept
+pub keeps_row : {E : Type 0} (P : Piece → Type 0) (old new : Inodes) (piece : Piece) (result : Result (Unit {0}) E) → P piece → OnOk result (new.rows.items ≡ old.rows.items ++ cons_option piece.row [])
+    → OnOk result (new.faults.items ≡ old.faults.items ++ piece.faults.items) → OnOk result (Keeps P old new piece.claims)
+keeps_row P old new piece (Ok done) is rows faults = record { piece = piece; is = is; rows = rows; faults = faults; claims_are = refl }
+keeps_row P old new piece (Err e) is rows faults = tt
 
 -- fewer than can be told
 one_fault : (o : Option Fault) → length (cons_option o []) < 2 ^ 63

@@ -1,5 +1,5 @@
 -- What is kept of an inode that is scanned.
-use Rattle.std.specs.Prelude.{◌≡◌, ℕ, ◌++◌, [], Option, Some, None}
+use Rattle.std.specs.Prelude.{◌≡◌, ℕ, ◌++◌, [], Bool, true, false, Some, None}
 use Rattle.std.specs.List.{cons_option}
 use Rattle.nv_region.specs.Region.{Region}
 use Rattle.nv_super.specs.declared.superblock.Super.{Super}
@@ -23,9 +23,9 @@ abbrev pub IsPieceBy : Region → Super → ℕ → Piece → Type 0
 IsPieceBy R s i p = (p.inode ≡ i) × IsPiece R (fixed_layout s) p
 
 -- What is found of an inode by its slot is kept, if there is anything to tell of it.
-abbrev pub KeepsFound : Region → Super → ℕ → Inodes → Inodes → Option ClaimList → Type 0
-KeepsFound R s i old new (Some claims) = Keeps (λ p. IsFound R s i (Some p)) old new claims
-KeepsFound R s i old new None = IsFound R s i None × (new ≡ old)
+abbrev pub KeepsFound : Region → Super → ℕ → Inodes → Inodes → ClaimList → Bool → Type 0
+KeepsFound R s i old new claims true = Keeps (λ p. IsFound R s i (Some p)) old new claims
+KeepsFound R s i old new claims false = IsFound R s i None × (new ≡ old)
 
 -- the same rows and the same faults are kept
 abbrev pub SameInodes : Inodes → Inodes → Type 0

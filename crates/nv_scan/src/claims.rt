@@ -18,6 +18,7 @@ use nv_radix::Extent;
 use nv_super::Owner;
 use std::alloc::{AllocError, Global};
 use std::marker::Model;
+use std::mem;
 
 /// What an inode claims, as the pages of its log and the runs of its file. Contracts see each block with its owner: first
 /// come the pages of the log in their order, then the blocks of the file, by page.
@@ -44,7 +45,7 @@ impl Model for Claims {
 
 impl Claims {
     /// No claims. It takes no memory.
-    pub(crate) fn new(alloc: Global) -> Claims
+    pub fn new(alloc: Global) -> Claims
         ensures { result.items ≡ [] }
     {
         Claims {
@@ -75,9 +76,37 @@ impl Claims {
         Ok(list)
     }
 
+    /// Claims nothing more. What memory there was is used again.
+    pub(crate) fn clear(&mut self)
+        ensures { self.new.items ≡ [] }
+    {
+        self.pages.clear();
+        self.runs.clear();
+    }
+
     /// Gives up the runs, whose memory those of another inode can take.
-    pub(crate) fn into_runs(self) -> Vec<Extent> {
-        self.runs
+    pub(crate) fn take_runs(&mut self) -> Vec<Extent> {
+        let alloc = *self.runs.allocator();
+        mem::replace(&mut self.runs, Vec::new(alloc))
+    }
+
+    /// Puts what an inode claims in place of what was claimed here: by the pages of its log, which take the memory of those
+    /// that were here, and the longest extents of its file.
+    ///
+    /// Errors: `AllocError` where a growth was refused; of the claims nothing is said then.
+    pub(crate) fn set(
+        &mut self,
+        inode: u64,
+        pages: &[u64],
+        runs: Vec<Extent>,
+    ) -> Result<(), AllocError>
+        requires { All IsSmall runs.items }
+        ensures { (index : Pages) → AreExtents index runs.items → OnOk result (Lists (λ x. owner_key x.1) (IsClaim inode pages.now index) self.new.items) }
+    {
+        self.inode = inode;
+        self.runs = runs;
+        self.pages.clear();
+        self.pages.extend_from_slice(pages)
     }
 }
 
@@ -90,30 +119,14 @@ pub fn claims_of_rows(alloc: Global, rows: &[Row]) -> Result<Vec<(u64, Owner)>, 
     ensures { IfOk result (λ claims. (region : Region) (l : Layout) (pieces : List Piece) → AllByRecursion (IsPiece region l) pieces → rows.now ≡ rows_in pieces → claims.items ≡ claims_in pieces) }
 {
     let mut claims = Vec::new(alloc);
-    let mut runs = Vec::new(alloc);
+    let mut own = Claims::new(alloc);
     for row in rows {
+        let mut runs = own.take_runs();
         row.index.runs_into(&mut runs)?;
-        let own = claims_of(alloc, row.inode, &row.pages, runs)?;
+        own.set(row.inode, &row.pages, runs)?;
         claims.extend_from_slice(&own.to_list(alloc)?)?;
-        runs = own.into_runs();
     }
     Ok(claims)
-}
-
-/// What an inode claims, by the pages of its log and the longest extents of its file's index.
-// A call would copy the claims once more.
-#[inline(always)]
-pub(crate) fn claims_of(
-    alloc: Global,
-    inode: u64,
-    pages: &[u64],
-    runs: Vec<Extent>,
-) -> Result<Claims, AllocError>
-    requires { All IsSmall runs.items }
-    ensures { (index : Pages) → AreExtents index runs.items → IfOk result (λ claims. Lists (λ x. owner_key x.1) (IsClaim inode pages.now index) claims.items) }
-{
-    let pages = LogPages::from_slice(alloc, pages)?;
-    Ok(Claims { inode, pages, runs })
 }
 
 fn push_pages(claims: &mut Vec<(u64, Owner)>, inode: u64, pages: &[u64]) -> Result<(), AllocError>

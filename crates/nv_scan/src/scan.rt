@@ -17,7 +17,7 @@ ghost use Rattle.nv_scan.specs.Scanned.{IsPieceOf, IsEmptyPiece, fault_of_end};
 ghost use Rattle.nv_scan.specs.Tickets.{IsBlank, HasValidWord, number_at};
 ghost use Rattle.nv_scan.specs.Kept.{Keeps, KeepsFound, IsPieceBy, SameInodes};
 
-use crate::claims::{Claims, claims_of};
+use crate::claims::Claims;
 use crate::fold::{Fold, push_fault};
 use crate::in_use::InUse;
 use crate::inodes::Inodes;
@@ -27,12 +27,11 @@ use crate::tickets::number_at;
 use crate::touching::{touch_block, touch_numbers};
 use nv_inode::{Slot, SlotState, nth_slot, read_slot};
 use nv_logpage::{LogEnd, LogFault, LogReader};
-use nv_radix::{Extent, ExtentMap, FileIndex};
+use nv_radix::{ExtentMap, FileIndex};
 use nv_region::Pmem;
 use nv_super::{Fault, Super};
 use std::alloc::{AllocError, Global};
 use std::marker::Model;
-use std::mem;
 
 /// Scans inodes one after another, with one reader for all their logs. It has a bit for each block of the region, made
 /// at the first log that is read; each later log costs what its own pages do.
@@ -41,8 +40,6 @@ pub struct Scanner {
     alloc: Global,
     sup: Super,
     reader: Option<LogReader>,
-    // Room for the runs of one file after another.
-    runs: Vec<Extent>,
     // What was touched last, which says nothing: it stands here so that it is loaded.
     touched: u64,
 }
@@ -69,16 +66,17 @@ impl Scanner {
             alloc,
             sup: *sup,
             reader: None,
-            runs: Vec::new(alloc),
             touched: 0,
         }
     }
 
     /// Scans one inode: the words of its slot, and each page of its log once. Its row, if it is in use, and its faults are put
-    /// behind those that are kept, and what it claims is handed on. Memory is taken for the pages, the indexes, the claims
-    /// and the faults, and not for the entries; and, at the first log, for the reader. It is quickest where the numbers rise.
+    /// behind those that are kept. What it claims takes the place of what is in `claims`, and its memory. More is taken for
+    /// the pages, the indexes and the faults, and not for the entries; and, at the first log, for the reader. It is quickest
+    /// where the numbers rise.
     ///
-    /// Errors: `AllocError` where a growth was refused. What is kept stays as it was, and the scanner can be used on.
+    /// Errors: `AllocError` where a growth was refused. What is kept stays as it was, of the claims nothing is said, and the
+    /// scanner can be used on.
     // A caller that doesn't see into it can't leave the touching out.
     #[inline(never)]
     pub fn scan<P: Pmem>(
@@ -86,15 +84,16 @@ impl Scanner {
         memory: &P,
         inode: u64,
         inodes: &mut Inodes,
-    ) -> Result<Claims, AllocError>
+        claims: &mut Claims,
+    ) -> Result<(), AllocError>
         requires blocks { HasBlocks (P.region memory.now) self.old.blocks }
         requires number { IsTrue (is_number self.old inode) }
         ensures same { self.new ≡ self.old }
-        ensures kept { IfOk result (Keeps (IsPieceBy (P.region memory.now) self.old inode) inodes.old inodes.new) }
+        ensures kept { OnOk result (Keeps (IsPieceBy (P.region memory.now) self.old inode) inodes.old inodes.new claims.new) }
         ensures refused { OnErr result (SameInodes inodes.old inodes.new) }
     {
         self.touched = touch_numbers(memory, &self.sup, inode);
-        self.scan_one(memory, inode, inodes)
+        self.scan_one(memory, inode, inodes, claims)
     }
 
     /// The same, where the inodes come in any order.
@@ -103,36 +102,38 @@ impl Scanner {
         memory: &P,
         inode: u64,
         inodes: &mut Inodes,
-    ) -> Result<Claims, AllocError>
+        claims: &mut Claims,
+    ) -> Result<(), AllocError>
         requires blocks { HasBlocks (P.region memory.now) self.old.blocks }
         requires number { IsTrue (is_number self.old inode) }
         ensures same { self.new ≡ self.old }
-        ensures kept { IfOk result (Keeps (IsPieceBy (P.region memory.now) self.old inode) inodes.old inodes.new) }
+        ensures kept { OnOk result (Keeps (IsPieceBy (P.region memory.now) self.old inode) inodes.old inodes.new claims.new) }
         ensures refused { OnErr result (SameInodes inodes.old inodes.new) }
     {
         let alloc = self.alloc;
         let slot = read_slot(memory, &self.sup, inode);
         match slot.state() {
-            SlotState::Unused => keep_fault(alloc, inode, None, inodes),
-            SlotState::BadValid => keep_fault(alloc, inode, Some(Fault::I1 { inode }), inodes),
-            SlotState::BadKind => keep_fault(alloc, inode, Some(Fault::I2 { inode }), inodes),
+            SlotState::Unused => keep_fault(inode, None, inodes, claims),
+            SlotState::BadValid => keep_fault(inode, Some(Fault::I1 { inode }), inodes, claims),
+            SlotState::BadKind => keep_fault(inode, Some(Fault::I2 { inode }), inodes, claims),
             SlotState::InUse(kind) => scan_log(
                 alloc,
                 memory,
                 &self.sup,
                 &mut self.reader,
-                &mut self.runs,
                 &InUse { inode, kind, slot },
                 inodes,
+                claims,
             ),
         }
     }
 
-    /// Scans the inode whose slot has this place in the tables, and keeps what it is. None where nothing is to be told of
+    /// Scans the inode whose slot has this place in the tables, and keeps what it is. False where nothing is to be told of
     /// it: at the place of number 0, and where the valid word is 0, which is all that is read of it then. At the first place
     /// of a table block the logs of its inodes are touched.
     ///
-    /// Errors: `AllocError` where a growth was refused. What is kept stays as it was, and the scanner can be used on.
+    /// Errors: `AllocError` where a growth was refused. What is kept stays as it was, of the claims nothing is said, and the
+    /// scanner can be used on.
     // A caller that doesn't see into it can't leave the touching out.
     #[inline(never)]
     pub fn scan_place<P: Pmem>(
@@ -140,26 +141,21 @@ impl Scanner {
         memory: &P,
         place: u64,
         inodes: &mut Inodes,
-    ) -> Result<Option<Claims>, AllocError>
+        claims: &mut Claims,
+    ) -> Result<bool, AllocError>
         requires blocks { HasBlocks (P.region memory.now) self.old.blocks }
         requires place { place < inode_limit self.old }
         ensures same { self.new ≡ self.old }
-        ensures kept { IfOk result (KeepsFound (P.region memory.now) self.old (number_at self.old place) inodes.old inodes.new) }
+        ensures kept { IfOk result (KeepsFound (P.region memory.now) self.old (number_at self.old place) inodes.old inodes.new claims.new) }
         ensures refused { OnErr result (SameInodes inodes.old inodes.new) }
     {
         self.touched = touch_block(memory, &self.sup, place);
         if is_blank(memory, &self.sup, place) {
-            return Ok(None);
+            return Ok(false);
         }
         let inode = number_at(&self.sup, place);
-        Ok(Some(self.scan_one(memory, inode, inodes)?))
-    }
-
-    /// Takes back the claims of a piece that are of no more use, so that the next piece's claims need no new memory.
-    pub fn reuse(&mut self, claims: Claims)
-        ensures { self.new ≡ self.old }
-    {
-        self.runs = claims.into_runs();
+        self.scan_one(memory, inode, inodes, claims)?;
+        Ok(true)
     }
 }
 
@@ -193,7 +189,8 @@ pub fn scan_slot<P: Pmem>(
     ensures piece { IfOk result (λ piece. IsPiece (P.region memory.now) (fixed_layout sup.now) piece) }
 {
     let mut inodes = Inodes::new(alloc);
-    let claims = Scanner::new(alloc, sup).scan_one(memory, inode, &mut inodes)?;
+    let mut claims = Claims::new(alloc);
+    Scanner::new(alloc, sup).scan_one(memory, inode, &mut inodes, &mut claims)?;
     let Inodes { mut rows, faults } = inodes;
     Ok(Piece {
         inode,
@@ -210,10 +207,10 @@ fn scan_log<P: Pmem>(
     memory: &P,
     sup: &Super,
     reader: &mut Option<LogReader>,
-    room: &mut Vec<Extent>,
     used: &InUse,
     inodes: &mut Inodes,
-) -> Result<Claims, AllocError>
+    claims: &mut Claims,
+) -> Result<(), AllocError>
     requires layout { IsLayout sup.now }
     requires blocks { HasBlocks (P.region memory.now) sup.now.blocks }
     requires number { IsTrue (is_number sup.now used.now.inode) }
@@ -221,7 +218,7 @@ fn scan_log<P: Pmem>(
     requires kind { kind_of used.now.slot ≡ Some used.now.kind }
     requires reader { IfSome reader.old (λ r. r.sup ≡ sup.now) }
     ensures reader { IfSome reader.new (λ r. r.sup ≡ sup.now) }
-    ensures kept { IfOk result (Keeps (IsPieceBy (P.region memory.now) sup.now used.now.inode) inodes.old inodes.new) }
+    ensures kept { OnOk result (Keeps (IsPieceBy (P.region memory.now) sup.now used.now.inode) inodes.old inodes.new claims.new) }
     ensures refused { OnErr result (SameInodes inodes.old inodes.new) }
 {
     let inode = used.inode;
@@ -230,23 +227,23 @@ fn scan_log<P: Pmem>(
         let Read { pages, fault } = read_right_log(alloc, memory, sup, reader, used, &mut fold)?;
         keep(
             alloc,
-            room,
             used,
             pages,
             fold,
             fault_of_end(inode, fault),
             inodes,
+            claims,
         )
     } else {
         let pages = LogPages::new(alloc);
         keep(
             alloc,
-            room,
             used,
             pages,
             fold,
             Some(Fault::I3 { inode }),
             inodes,
+            claims,
         )
     }
 }
@@ -308,56 +305,43 @@ fn fault_of_end(inode: u64, end: Option<LogEnd>) -> Option<Fault>
     })
 }
 
-/// Keeps an inode in use, with one fault more than its log told, if there is one, and hands on what it claims.
+/// Keeps an inode in use, with one fault more than its log told, if there is one, and what it claims.
 fn keep(
     alloc: Global,
-    room: &mut Vec<Extent>,
     used: &InUse,
     pages: LogPages,
     mut fold: Fold,
     fault: Option<Fault>,
     inodes: &mut Inodes,
-) -> Result<Claims, AllocError>
+    claims: &mut Claims,
+) -> Result<(), AllocError>
     requires { AreSmall (block_by fold.extents) }
-    ensures kept { IfOk result (Keeps (IsPieceOf used.now.inode used.now.kind used.now.slot pages.items fold fault) inodes.old inodes.new) }
+    ensures kept { OnOk result (Keeps (IsPieceOf used.now.inode used.now.kind used.now.slot pages.items fold fault) inodes.old inodes.new claims.new) }
     ensures refused { OnErr result (SameInodes inodes.old inodes.new) }
 {
-    let (index, claims) = closed(
-        alloc,
-        room,
-        used.inode,
-        &pages,
-        &fold.extents,
-        &mut fold.faults,
-        fault,
-    )?;
-    keep_row(used, pages, fold, index, inodes)?;
-    Ok(claims)
+    push_fault(&mut fold.faults, fault)?;
+    let index = closed(alloc, used.inode, &pages, &fold.extents, claims)?;
+    keep_row(used, pages, fold, index, inodes)
 }
 
-/// The index of the pages that are left, which is made here, once, and what the inode claims, whose runs take the memory of
-/// those given. The fault is put behind the others.
-// A call would copy the index and the claims once more.
+/// The index of the pages that are left, which is made here, once. What the inode claims takes the place of the claims.
+// A call would copy the index once more.
 #[inline(always)]
 fn closed(
     alloc: Global,
-    room: &mut Vec<Extent>,
     inode: u64,
     pages: &[u64],
     extents: &ExtentMap,
-    faults: &mut Vec<Fault>,
-    fault: Option<Fault>,
-) -> Result<(FileIndex, Claims), AllocError>
+    claims: &mut Claims,
+) -> Result<FileIndex, AllocError>
     requires { AreSmall (block_by extents.now) }
-    ensures index { IfOk result (λ r. (p : ℕ) → block_at r.0 p ≡ block_by extents.now p) }
-    ensures claims { IfOk result (λ r. Lists (λ x. owner_key x.1) (IsClaim inode pages.now r.0) r.1.items) }
-    ensures faults { OnOk result (faults.new.items ≡ faults.old.items ++ cons_option fault []) }
+    ensures index { IfOk result (λ index. (p : ℕ) → block_at index p ≡ block_by extents.now p) }
+    ensures claims { IfOk result (λ index. Lists (λ x. owner_key x.1) (IsClaim inode pages.now index) claims.new.items) }
 {
-    push_fault(faults, fault)?;
-    let mut runs = mem::replace(room, Vec::new(alloc));
+    let mut runs = claims.take_runs();
     let index = extents.to_index(alloc, &mut runs)?;
-    let claims = claims_of(alloc, inode, pages, runs)?;
-    Ok((index, claims))
+    claims.set(inode, pages, runs)?;
+    Ok(index)
 }
 
 /// Puts the row of an inode in use and its faults behind those that are kept.
@@ -395,14 +379,14 @@ fn keep_row(
 
 /// Keeps the fault of an inode that isn't in use, if it has one. It claims nothing.
 fn keep_fault(
-    alloc: Global,
     _inode: u64,
     fault: Option<Fault>,
     inodes: &mut Inodes,
-) -> Result<Claims, AllocError>
-    ensures kept { IfOk result (Keeps (IsEmptyPiece _inode fault) inodes.old inodes.new) }
+    claims: &mut Claims,
+) -> Result<(), AllocError>
+    ensures kept { OnOk result (Keeps (IsEmptyPiece _inode fault) inodes.old inodes.new claims.new) }
     ensures refused { OnErr result (SameInodes inodes.old inodes.new) }
 {
-    push_fault(&mut inodes.faults, fault)?;
-    Ok(Claims::new(alloc))
+    claims.clear();
+    push_fault(&mut inodes.faults, fault)
 }

@@ -8,6 +8,7 @@ ghost use Rattle.nv_scan.specs.Tickets.{ticket_count, numbers_of};
 ghost use Rattle.nv_scan.specs.Work.{IsAllWork, IsDone, Returned};
 
 use crate::claiming::claim_all;
+use crate::claims::Claims;
 use crate::inodes::Inodes;
 use crate::piece::Row;
 use crate::scan::Scanner;
@@ -67,7 +68,15 @@ pub fn worker<P: Pmem, G: Gate>(
 {
     let mut inodes = Inodes::new(alloc);
     let mut scanner = Scanner::new(alloc, sup);
-    match draw_all(memory, &mut scanner, map, &mut seat, gate, &mut inodes) {
+    match draw_all(
+        alloc,
+        memory,
+        &mut scanner,
+        map,
+        &mut seat,
+        gate,
+        &mut inodes,
+    ) {
         Ok(()) => WorkerResult {
             seat,
             rows: inodes.rows,
@@ -85,6 +94,7 @@ pub fn worker<P: Pmem, G: Gate>(
 
 /// Does the work of one ticket after another until none is left.
 fn draw_all<P: Pmem, G: Gate>(
+    alloc: Global,
     memory: &P,
     scanner: &mut Scanner,
     map: &ClaimMap,
@@ -100,21 +110,23 @@ fn draw_all<P: Pmem, G: Gate>(
     ensures seat { (seat.new.map ≡ map.now) × (seat.new.number ≡ seat.old.number) × (seat.new.view.seats ≡ 1) }
     ensures done { OnOk result (IsAllWork (P.region memory.now) scanner.old seat.new.view inodes.new.rows.items inodes.new.faults.items) }
 {
+    let mut claims = Claims::new(alloc);
     while let Some(ticket) = map.draw(seat) {
         gate.enter(seat.number(), ticket);
-        scan_ticket(memory, scanner, map, seat, inodes, ticket)?;
+        scan_ticket(memory, scanner, map, seat, inodes, &mut claims, ticket)?;
     }
     Ok(())
 }
 
 /// Does the work of one ticket: the inodes of its table block are scanned, what each owns is claimed, and its row and its
-/// faults are kept.
+/// faults are kept. The claims of one after another stand in `claims`.
 fn scan_ticket<P: Pmem>(
     memory: &P,
     scanner: &mut Scanner,
     map: &ClaimMap,
     seat: &mut ClaimSeat,
     inodes: &mut Inodes,
+    claims: &mut Claims,
     ticket: u64,
 ) -> Result<(), AllocError>
     requires layout { IsLayout scanner.old }
@@ -127,9 +139,9 @@ fn scan_ticket<P: Pmem>(
     ensures done { OnOk result (IsDone (P.region memory.now) scanner.old (numbers_of scanner.old ticket) seat.old.view seat.new.view inodes.old.rows.items inodes.new.rows.items inodes.old.faults.items inodes.new.faults.items) }
 {
     for slot in 0..SLOTS {
-        if let Some(claims) = scanner.scan_place(memory, SLOTS * ticket + slot, inodes)? {
-            claim_all(map, seat, &claims)?;
-            scanner.reuse(claims);
+        let found = scanner.scan_place(memory, SLOTS * ticket + slot, inodes, claims)?;
+        if found {
+            claim_all(map, seat, claims)?;
         }
     }
     Ok(())

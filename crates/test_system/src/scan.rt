@@ -284,7 +284,7 @@ fn a_slot_is_told_with_its_log(rt: HostRuntime) -> Result<(), Fail> {
     Ok(())
 }
 
-/// A scanner reads the log of inode 2, and takes the claims back.
+/// A scanner reads the log of inode 2, and tells its claims.
 fn reads_second(
     rt: &impl Abort,
     alloc: Global,
@@ -296,9 +296,9 @@ fn reads_second(
     ensures { scanner.new ≡ scanner.old }
 {
     let mut inodes = Inodes::new(alloc);
-    let claims = scanner.scan(memory, 2, &mut inodes)?;
+    let mut claims = Claims::new(alloc);
+    scanner.scan(memory, 2, &mut inodes, &mut claims)?;
     assert_claims(rt, alloc, &claims, &OWNED_BY_FILE);
-    scanner.reuse(claims);
     Ok(())
 }
 
@@ -320,7 +320,7 @@ fn found_at(
     ensures { scanner.new ≡ scanner.old }
 {
     let mut inodes = Inodes::new(alloc);
-    scanner.scan_place(memory, place, &mut inodes)?;
+    scanner.scan_place(memory, place, &mut inodes, &mut Claims::new(alloc))?;
     Ok(first_inode(&inodes.rows))
 }
 

@@ -24,19 +24,19 @@ loop-inode-init g c = record {
 pub claim_all-requires : goal.claim_all-requires
 claim_all-requires g c =
     let l = c.loop-inode in
-    let next = subst (λ (s : Super). Keeps (IsPieceBy (g.P.Pmem.region c.args.memory.now) s l.inode) l.inodes c.scan.new.inodes c.in_ok-claims.claims) l.invariant.same c.in_ok-claims.ensures.kept in
-    let claims = c.in_ok-claims.claims in
+    let next = subst (λ (s : Super). Keeps (IsPieceBy (g.P.Pmem.region c.args.memory.now) s l.inode) l.inodes c.scan.new.inodes c.scan.new.claims) l.invariant.same c.in_ok-scan.ensures.kept in
+    let claims = c.scan.new.claims in
     record { within = within_cover c.args.sup.now.blocks claims.items _ _ (subst (λ (x : ClaimList). AreWithin c.args.sup.now x.items) next.claims_are (piece_within (g.P.Pmem.region c.args.memory.now) c.args.sup.now next.piece next.is.1)) l.invariant.cover.0 l.invariant.cover.1 }
 
 pub loop-inode-preserved : goal.loop-inode-preserved
 loop-inode-preserved g c =
     let R = g.P.Pmem.region c.args.memory.now in
     let l = c.loop-inode in
-    let next = subst (λ (s : Super). Keeps (IsPieceBy R s l.inode) l.inodes c.scan.new.inodes c.in_ok-claims.claims) l.invariant.same c.in_ok-claims.ensures.kept in
+    let next = subst (λ (s : Super). Keeps (IsPieceBy R s l.inode) l.inodes c.scan.new.inodes c.scan.new.claims) l.invariant.same c.in_ok-scan.ensures.kept in
     let pieces = l.invariant.first.0 in
     let long = c.claim_all.ensures.as_long in
     let cover = l.invariant.cover in record {
-      same = c.reuse.ensures ∙ c.scan.ensures.same ∙ l.invariant.same;
+      same = c.scan.ensures.same ∙ l.invariant.same;
       first = (
         pieces ++ next.piece ∷ [],
         first_more (some_number l.auto.inode) l.invariant.first.1 next,

@@ -10,7 +10,7 @@ use Rattle.nv_scan.specs.declared.inodes.Inodes.{Inodes}
 use Rattle.nv_recover.specs.Scanned.{AreNext}
 use Rattle.nv_recover.proofs.Tickets.{next_none, next_slot, next_all}
 use Rattle.nv_recover.proofs.replaying.scan_ticket.Goals as goal
-use Rattle.nv_recover.proofs.replaying.scan_ticket.Goals.{in-Some+in_ok-to_list+in_ok-extend_from_slice, in_default}
+use Rattle.nv_recover.proofs.replaying.scan_ticket.Goals.{then-found+in_ok-to_list+in_ok-extend_from_slice, else-found}
 
 pub loop-slot-init : goal.loop-slot-init
 loop-slot-init g c = record { same = refl; next = next_none c.new-list.ensures.items }
@@ -23,26 +23,26 @@ loop-slot-preserved g c =
     let t = c.args.ticket in
     let k = c.loop-slot.slot in
     let old = c.args.inodes.now in
-    let found = subst (λ (x : Super). KeepsFound R x (number_at x (32 * t + k)) c.loop-slot.inodes c.scan_place.new.inodes c.in_ok-claims.field-0) l.same c.in_ok-claims.ensures.kept in
-    elim c.match-branch-2.branch [
-      | in-Some+in_ok-to_list+in_ok-extend_from_slice w ↦ (
-          let kept = subst (λ (o : Option ClaimList). KeepsFound R s (number_at s (32 * t + k)) c.loop-slot.inodes c.scan_place.new.inodes o) w.in-Some.is found in
+    let found = subst (λ (x : Super). KeepsFound R x (number_at x (32 * t + k)) c.loop-slot.inodes c.scan_place.new.inodes c.scan_place.new.claims c.in_ok-found.found) l.same c.in_ok-found.ensures.kept in
+    elim c.if-found.branch [
+      | then-found+in_ok-to_list+in_ok-extend_from_slice w ↦ (
+          let kept = subst (KeepsFound R s (number_at s (32 * t + k)) c.loop-slot.inodes c.scan_place.new.inodes c.scan_place.new.claims) w.if-found.true found in
           let p = kept.piece in
           let at = at_slot t k (32 * t + k) (Some p) refl kept.is in
           let faults = kept.faults ∙ ap (λ (fs : List Fault). c.loop-slot.inodes.faults.items ++ fs) (sym (append-nil p.faults.items)) in
           let own = w.deref.ensures.value ∙ w.in_ok-to_list.ensures ∙ ap (λ (l : ClaimList). l.items) (sym kept.claims_are) ∙ sym (append-nil p.claims.items) in
           let claims = w.in_ok-extend_from_slice.ensures.items ∙ ap (λ (cs : List (ℕ × Owner)). c.loop-slot.list.items ++ cs) own in
           record {
-            same = w.scanner-is ∙ w.reuse.ensures ∙ c.scan_place.ensures.same ∙ l.same;
+            same = c.scan_place.ensures.same ∙ l.same;
             next = subst (λ (cs : List (ℕ × Owner)). AreNext R s (numbers_to s t (k + 1)) old c.scan_place.new.inodes cs) (sym (ap (λ v. v.items) w.list-is)) (next_slot at l.next kept.rows faults claims);
           })
-      | in_default w ↦ (
-          let none = subst (λ (o : Option ClaimList). KeepsFound R s (number_at s (32 * t + k)) c.loop-slot.inodes c.scan_place.new.inodes o) w.in_default.is found in
+      | else-found w ↦ (
+          let none = subst (KeepsFound R s (number_at s (32 * t + k)) c.loop-slot.inodes c.scan_place.new.inodes c.scan_place.new.claims) w.if-found.false found in
           let at = at_slot t k (32 * t + k) None refl none.0 in
           let next = next_slot at l.next (sym (append-nil c.loop-slot.inodes.rows.items)) (sym (append-nil c.loop-slot.inodes.faults.items)) (sym (append-nil c.loop-slot.list.items)) in
           record {
-            same = w.scanner-is ∙ c.scan_place.ensures.same ∙ l.same;
-            next = subst (λ (x : Inodes). AreNext R s (numbers_to s t (k + 1)) old x c.match-branch-2.list.items) (sym none.1)
+            same = c.scan_place.ensures.same ∙ l.same;
+            next = subst (λ (x : Inodes). AreNext R s (numbers_to s t (k + 1)) old x c.if-found.list.items) (sym none.1)
                 (subst (λ (cs : List (ℕ × Owner)). AreNext R s (numbers_to s t (k + 1)) old c.loop-slot.inodes cs) (sym (ap (λ v. v.items) w.list-is)) next);
           })
     ]

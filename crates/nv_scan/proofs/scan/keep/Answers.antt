@@ -4,37 +4,39 @@ use Rattle.nv_region.proofs.Told.{told_err}
 use Rattle.nv_super.specs.declared.owners.Owner.{Owner}
 use Rattle.nv_super.specs.Order.{Lists, owner_key}
 use Rattle.nv_scan.specs.Claims.{IsClaim}
+use Rattle.nv_scan.proofs.Scanning.{keeps_row}
 use Rattle.nv_scan.proofs.scan.keep.Goals as goal
 
 pub returns-clause-kept : goal.returns-clause-kept
-returns-clause-kept c = let used = c.args.used.now in let fold = c.args.fold in record {
-  piece = record {
-    inode = used.inode;
-    row = Some (record { inode = used.inode; kind = used.kind; numbers = fold.numbers; head = used.slot.head; tail = used.slot.tail; pages = c.args.pages; index = c.in_ok-index.index; names = fold.names });
-    claims = c.in_ok-index.claims;
-    faults = c.closed.new.faults;
-  };
-  is = record {
-    inode = refl;
-    row = _;
-    has_row = refl;
-    is_row = (refl, refl, refl, refl, refl, refl, c.in_ok-index.ensures.index, refl);
-    claims = subst (λ (pages : List ℕ). Lists (λ (x : ℕ × Owner). owner_key x.1) (IsClaim used.inode pages c.in_ok-index.index) c.in_ok-index.claims.items) c.deref.ensures c.in_ok-index.ensures.claims;
-    faults = c.in_ok-index.ensures.faults;
-  };
-  rows = c.in_ok-keep_row.ensures.rows;
-  faults = c.in_ok-keep_row.ensures.faults;
-  claims_are = refl;
-}
+returns-clause-kept c =
+    let used = c.args.used.now in
+    let fold = c.args.fold in
+    let claims = c.closed.new.claims in
+    keeps_row _ c.args.inodes.now c.keep_row.new.inodes (record {
+      inode = used.inode;
+      row = Some (record { inode = used.inode; kind = used.kind; numbers = fold.numbers; head = used.slot.head; tail = used.slot.tail; pages = c.args.pages; index = c.in_ok-index.index; names = fold.names });
+      claims = claims;
+      faults = c.push_fault.new.faults;
+    }) c.keep_row.result (record {
+      inode = refl;
+      row = _;
+      has_row = refl;
+      is_row = (refl, refl, refl, refl, refl, refl, c.in_ok-index.ensures.index, refl);
+      claims = subst (λ (pages : List ℕ). Lists (λ (x : ℕ × Owner). owner_key x.1) (IsClaim used.inode pages c.in_ok-index.index) claims.items) c.deref.ensures c.in_ok-index.ensures.claims;
+      faults = c.in_ok-push_fault.ensures.pushed;
+    }) c.keep_row.ensures.rows c.keep_row.ensures.faults
+
+pub returns-clause-refused : goal.returns-clause-refused
+returns-clause-refused c = c.keep_row.ensures.refused
+
+pub returns-in_err-push_fault-clause-kept : goal.returns-in_err-push_fault-clause-kept
+returns-in_err-push_fault-clause-kept c = IfOk-from_err c.from_residual.result _ c.from_residual.ensures.0
+
+pub returns-in_err-push_fault-clause-refused : goal.returns-in_err-push_fault-clause-refused
+returns-in_err-push_fault-clause-refused c = told_err c.from_residual.result (refl, refl)
 
 pub returns-in_err-index-clause-kept : goal.returns-in_err-index-clause-kept
-returns-in_err-index-clause-kept c = IfOk-from_err c.from_residual.result _ c.from_residual.ensures.0
+returns-in_err-index-clause-kept c = IfOk-from_err c.from_residual-in_err-index.result _ c.from_residual-in_err-index.ensures.0
 
 pub returns-in_err-index-clause-refused : goal.returns-in_err-index-clause-refused
-returns-in_err-index-clause-refused c = told_err c.from_residual.result (refl, refl)
-
-pub returns-in_err-keep_row-clause-kept : goal.returns-in_err-keep_row-clause-kept
-returns-in_err-keep_row-clause-kept c = IfOk-from_err c.from_residual-in_err-keep_row.result _ c.from_residual-in_err-keep_row.ensures.0
-
-pub returns-in_err-keep_row-clause-refused : goal.returns-in_err-keep_row-clause-refused
-returns-in_err-keep_row-clause-refused c = told_err c.from_residual-in_err-keep_row.result c.in_err-keep_row.ensures.refused
+returns-in_err-index-clause-refused c = told_err c.from_residual-in_err-index.result (refl, refl)

@@ -14,12 +14,12 @@ pub keep-requires-else-has_right_log : goal.keep-requires-else-has_right_log
 keep-requires-else-has_right_log g c = λ p b e. absurd (let h = c.new-fold.ensures c.args.sup.now c.args.used.now.kind c.args.used.now.inode in let none : None ≡ Some b = sym (h.extents p) ∙ e in cc)
 
 pub returns-in_ok-pages-clause-kept : goal.returns-in_ok-pages-clause-kept
-returns-in_ok-pages-clause-kept g c = keeps_more c.keep.result c.args.inodes.now c.keep.new.inodes
+returns-in_ok-pages-clause-kept g c = keeps_more _ _ _ c.keep.result
     (right_one (g.P.Pmem.region c.args.memory.now) c.args.sup.now c.args.used.now.inode c.args.used.now.kind c.args.used.now.slot c.read_right_log.new.fold c.in_ok-pages.field-0 c.fault_of_end.result
     c.requires.layout c.requires.number c.requires.slot c.requires.kind (sym c.has_right_log.ensures ∙ c.if-has_right_log.true) c.in_ok-pages.ensures.read c.fault_of_end.ensures) c.keep.ensures.kept
 
 pub returns-else-has_right_log-clause-kept : goal.returns-else-has_right_log-clause-kept
-returns-else-has_right_log-clause-kept g c = keeps_more c.keep-else-has_right_log.result c.args.inodes.now c.keep-else-has_right_log.new.inodes
+returns-else-has_right_log-clause-kept g c = keeps_more _ _ _ c.keep-else-has_right_log.result
     (wrong_one (g.P.Pmem.region c.args.memory.now) c.args.sup.now c.args.used.now.inode c.args.used.now.kind c.args.used.now.slot c.new-fold.result c.new-pages.result.items
     c.requires.layout c.requires.number c.requires.slot c.requires.kind (sym c.has_right_log.ensures ∙ c.if-has_right_log.false) (c.new-fold.ensures c.args.sup.now c.args.used.now.kind c.args.used.now.inode) c.new-pages.ensures.items)
     c.keep-else-has_right_log.ensures.kept

@@ -11,12 +11,12 @@ use Rattle.nv_scan.proofs.scan.scan_slot.Goals as goal
 pub returns-clause-piece : goal.returns-clause-piece
 returns-clause-piece g c =
     let inodes = c.scan_one.new.inodes in
-    let kept = subst (λ (s : Super). Keeps (IsPieceBy (g.P.Pmem.region c.args.memory.now) s c.args.inode) c.new-inodes.result inodes c.in_ok-claims.claims) c.new.ensures c.in_ok-claims.ensures.kept in
+    let kept = subst (λ (s : Super). Keeps (IsPieceBy (g.P.Pmem.region c.args.memory.now) s c.args.inode) c.new-inodes.result inodes c.scan_one.new.claims) c.new.ensures c.in_ok-scan_one.ensures.kept in
     let row = last_only kept.piece.row c.pop.result inodes.rows.items (vec_len inodes.rows) (vec_len c.pop.new.self) inodes.rows.ok.0 (kept.rows ∙ ap (λ (rows : List Row). rows ++ cons_option kept.piece.row []) c.new-inodes.ensures.rows) c.pop.ensures.cases c.pop.ensures.value in
     same_piece kept.piece _ kept.is.0 row kept.claims_are (sym (kept.faults ∙ ap (λ (faults : List Fault). faults ++ kept.piece.faults.items) c.new-inodes.ensures.faults)) kept.is.1
 
-pub returns-in_err-claims-clause-number : goal.returns-in_err-claims-clause-number
-returns-in_err-claims-clause-number g c = IfOk-from_err c.from_residual.result _ c.from_residual.ensures.0
+pub returns-in_err-scan_one-clause-number : goal.returns-in_err-scan_one-clause-number
+returns-in_err-scan_one-clause-number g c = IfOk-from_err c.from_residual.result _ c.from_residual.ensures.0
 
-pub returns-in_err-claims-clause-piece : goal.returns-in_err-claims-clause-piece
-returns-in_err-claims-clause-piece g c = IfOk-from_err c.from_residual.result _ c.from_residual.ensures.0
+pub returns-in_err-scan_one-clause-piece : goal.returns-in_err-scan_one-clause-piece
+returns-in_err-scan_one-clause-piece g c = IfOk-from_err c.from_residual.result _ c.from_residual.ensures.0

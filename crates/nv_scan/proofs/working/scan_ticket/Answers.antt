@@ -16,7 +16,7 @@ use Rattle.nv_scan.specs.declared.inodes.Inodes.{Inodes}
 use Rattle.nv_scan.proofs.Runs.{claims_fit}
 use Rattle.nv_scan.proofs.Work.{all_slots, slot_kept, slot_blank}
 use Rattle.nv_scan.proofs.working.scan_ticket.Goals as goal
-use Rattle.nv_scan.proofs.working.scan_ticket.Goals.{in-Some+in_ok-claim_all, in_default}
+use Rattle.nv_scan.proofs.working.scan_ticket.Goals.{then-found+in_ok-claim_all, else-found}
 
 -- the same, told of what is the same
 in_state : {R : Region} {s : Super} {ns : List ℕ} {v : View} (old first new : Inodes) {h k : Held} → k ≡ h → new ≡ first
@@ -28,10 +28,10 @@ claim_all-requires-clause-each g c =
     let R = g.P.Pmem.region c.args.memory.now in
     let s = c.args.scanner.now in
     let m = 32 * c.args.ticket + c.loop-slot.slot in
-    let kept = subst (λ (o : Option ClaimList). KeepsFound R s (number_at s m) c.loop-slot.inodes c.scan_place.new.inodes o) c.in-Some.is
-    (subst (λ (x : Super). KeepsFound R x (number_at x m) c.loop-slot.inodes c.scan_place.new.inodes c.in_ok-claims.field-0) c.loop-slot.invariant.scanner c.in_ok-claims.ensures.kept) in
+    let kept = subst (KeepsFound R s (number_at s m) c.loop-slot.inodes c.scan_place.new.inodes c.scan_place.new.claims) c.if-found.true
+    (subst (λ (x : Super). KeepsFound R x (number_at x m) c.loop-slot.inodes c.scan_place.new.inodes c.scan_place.new.claims c.in_ok-found.found) c.loop-slot.invariant.scanner c.in_ok-found.ensures.kept) in
     let each = claims_fit R (fixed_layout s) kept.piece.inode kept.piece.claims.items kept.is.2.claims in
-    subst (λ (n : ℕ). All (IsClaimable n) c.in-Some.claims.items) (sym c.requires.sizes) (subst (λ (l : ClaimList). All (IsClaimable s.blocks) l.items) kept.claims_are each)
+    subst (λ (n : ℕ). All (IsClaimable n) c.scan_place.new.claims.items) (sym c.requires.sizes) (subst (λ (l : ClaimList). All (IsClaimable s.blocks) l.items) kept.claims_are each)
 
 pub loop-slot-preserved : goal.loop-slot-preserved
 loop-slot-preserved g c =
@@ -40,24 +40,24 @@ loop-slot-preserved g c =
     let s = c.args.scanner.now in
     let t = c.args.ticket in
     let k = c.loop-slot.slot in
-    let found = subst (λ (x : Super). KeepsFound R x (number_at x (32 * t + k)) c.loop-slot.inodes c.scan_place.new.inodes c.in_ok-claims.field-0) l.scanner c.in_ok-claims.ensures.kept in
-    elim c.match-branch-2.branch [
-      | in-Some+in_ok-claim_all w ↦ (
-          let kept = subst (λ (o : Option ClaimList). KeepsFound R s (number_at s (32 * t + k)) c.loop-slot.inodes c.scan_place.new.inodes o) w.in-Some.is found in
+    let found = subst (λ (x : Super). KeepsFound R x (number_at x (32 * t + k)) c.loop-slot.inodes c.scan_place.new.inodes c.scan_place.new.claims c.in_ok-found.found) l.scanner c.in_ok-found.ensures.kept in
+    elim c.if-found.branch [
+      | then-found+in_ok-claim_all w ↦ (
+          let kept = subst (KeepsFound R s (number_at s (32 * t + k)) c.loop-slot.inodes c.scan_place.new.inodes c.scan_place.new.claims) w.if-found.true found in
           let adds = subst (λ (cs : ClaimList). Adds cs.items c.loop-slot.seat.view w.claim_all.new.seat.view) (sym kept.claims_are) w.in_ok-claim_all.ensures.ok in
           let done = slot_kept t k (32 * t + k) kept.piece refl kept.is l.done adds kept.rows kept.faults in
           record {
-            scanner = w.scanner-is ∙ w.reuse.ensures ∙ c.scan_place.ensures.same ∙ l.scanner;
+            scanner = c.scan_place.ensures.same ∙ l.scanner;
             map = ap (λ (h : Held). h.map) w.seat-is ∙ w.claim_all.ensures.same.0 ∙ l.map;
             number = ap (λ (h : Held). h.number) w.seat-is ∙ w.claim_all.ensures.same.1 ∙ l.number;
             seats = ap (λ (h : Held). h.view.seats) w.seat-is ∙ w.claim_all.ensures.same.2 ∙ l.seats;
             done = in_state c.args.inodes.now c.scan_place.new.inodes c.scan_place.new.inodes w.seat-is refl done;
           })
-      | in_default w ↦ (
-          let none = subst (λ (o : Option ClaimList). KeepsFound R s (number_at s (32 * t + k)) c.loop-slot.inodes c.scan_place.new.inodes o) w.in_default.is found in
+      | else-found w ↦ (
+          let none = subst (KeepsFound R s (number_at s (32 * t + k)) c.loop-slot.inodes c.scan_place.new.inodes c.scan_place.new.claims) w.if-found.false found in
           let done = slot_blank t k (32 * t + k) refl none.0 l.done in
           record {
-            scanner = w.scanner-is ∙ c.scan_place.ensures.same ∙ l.scanner;
+            scanner = c.scan_place.ensures.same ∙ l.scanner;
             map = ap (λ (h : Held). h.map) w.seat-is ∙ l.map;
             number = ap (λ (h : Held). h.number) w.seat-is ∙ l.number;
             seats = ap (λ (h : Held). h.view.seats) w.seat-is ∙ l.seats;
@@ -80,11 +80,11 @@ returns-clause-scanner g c = c.loop-slot.invariant.scanner
 pub returns-clause-seat : goal.returns-clause-seat
 returns-clause-seat g c = let l = c.loop-slot.invariant in (l.map, l.number, l.seats)
 
-pub returns-in_err-claims-clause-scanner : goal.returns-in_err-claims-clause-scanner
-returns-in_err-claims-clause-scanner g c = c.scan_place.ensures.same ∙ c.loop-slot.invariant.scanner
+pub returns-in_err-found-clause-scanner : goal.returns-in_err-found-clause-scanner
+returns-in_err-found-clause-scanner g c = c.scan_place.ensures.same ∙ c.loop-slot.invariant.scanner
 
-pub returns-in_err-claims-clause-seat : goal.returns-in_err-claims-clause-seat
-returns-in_err-claims-clause-seat g c = let l = c.loop-slot.invariant in (l.map, l.number, l.seats)
+pub returns-in_err-found-clause-seat : goal.returns-in_err-found-clause-seat
+returns-in_err-found-clause-seat g c = let l = c.loop-slot.invariant in (l.map, l.number, l.seats)
 
 pub returns-in_err-claim_all-clause-scanner : goal.returns-in_err-claim_all-clause-scanner
 returns-in_err-claim_all-clause-scanner g c = c.scan_place.ensures.same ∙ c.loop-slot.invariant.scanner

@@ -1,5 +1,5 @@
 use Rattle.std.proofs.Common.{◌≡◌, ◌≢◌, ◌∙◌, sym, ap, subst, None}
-use Rattle.std.specs.Result.{IfOk}
+use Rattle.std.specs.Result.{OnOk}
 use Rattle.nv_region.specs.Region.{HasBlocks}
 use Rattle.nv_super.specs.declared.superblock.Super.{Super}
 use Rattle.nv_inode.specs.Slot.{kind_in, kind_of}
@@ -10,29 +10,29 @@ use Rattle.nv_scan.proofs.scan.Scanner.scan_one.Goals as goal
 
 pub returns-in-Unused-clause-kept : goal.returns-in-Unused-clause-kept
 returns-in-Unused-clause-kept g c = let s = c.self.inside.sup in let R = g.P.Pmem.region c.args.memory.now in
-    subst (λ (s : Super). IfOk c.keep_fault.result (Keeps (IsPieceBy R s c.args.inode) c.args.inodes.now c.keep_fault.new.inodes)) c.self.view_is
-    (keeps_more c.keep_fault.result c.args.inodes.now c.keep_fault.new.inodes (unused_one R s c.args.inode c.self.invariant.layout (rw c.self.view_is c.requires.number)
+    subst (λ (s : Super). OnOk c.keep_fault.result (Keeps (IsPieceBy R s c.args.inode) c.args.inodes.now c.keep_fault.new.inodes c.keep_fault.new.claims)) c.self.view_is
+    (keeps_more _ _ _ c.keep_fault.result (unused_one R s c.args.inode c.self.invariant.layout (rw c.self.view_is c.requires.number)
     (subst (λ (t : Slot). kind_of t ≡ None) c.read_slot-slot.ensures (sym c.state.ensures.in_use ∙ ap kind_in c.in-Unused.is))
     (subst (λ (t : Slot). t.valid ≡ 0) c.read_slot-slot.ensures (c.state.ensures.unused.0 c.in-Unused.is))) c.keep_fault.ensures.kept)
 
 pub returns-in-BadValid-clause-kept : goal.returns-in-BadValid-clause-kept
 returns-in-BadValid-clause-kept g c = let s = c.self.inside.sup in let R = g.P.Pmem.region c.args.memory.now in
-    subst (λ (s : Super). IfOk c.keep_fault-in-BadValid.result (Keeps (IsPieceBy R s c.args.inode) c.args.inodes.now c.keep_fault-in-BadValid.new.inodes)) c.self.view_is
-    (keeps_more c.keep_fault-in-BadValid.result c.args.inodes.now c.keep_fault-in-BadValid.new.inodes (bad_valid_one R s c.args.inode c.self.invariant.layout (rw c.self.view_is c.requires.number)
+    subst (λ (s : Super). OnOk c.keep_fault-in-BadValid.result (Keeps (IsPieceBy R s c.args.inode) c.args.inodes.now c.keep_fault-in-BadValid.new.inodes c.keep_fault-in-BadValid.new.claims)) c.self.view_is
+    (keeps_more _ _ _ c.keep_fault-in-BadValid.result (bad_valid_one R s c.args.inode c.self.invariant.layout (rw c.self.view_is c.requires.number)
     (subst (λ (t : Slot). kind_of t ≡ None) c.read_slot-slot.ensures (sym c.state.ensures.in_use ∙ ap kind_in c.in-BadValid.is))
     (subst (λ (t : Slot). t.valid ≢ 0) c.read_slot-slot.ensures (c.state.ensures.bad_valid.0 c.in-BadValid.is).0)
     (subst (λ (t : Slot). t.valid ≢ 1) c.read_slot-slot.ensures (c.state.ensures.bad_valid.0 c.in-BadValid.is).1)) c.keep_fault-in-BadValid.ensures.kept)
 
 pub returns-in-BadKind-clause-kept : goal.returns-in-BadKind-clause-kept
 returns-in-BadKind-clause-kept g c = let s = c.self.inside.sup in let R = g.P.Pmem.region c.args.memory.now in
-    subst (λ (s : Super). IfOk c.keep_fault-in-BadKind.result (Keeps (IsPieceBy R s c.args.inode) c.args.inodes.now c.keep_fault-in-BadKind.new.inodes)) c.self.view_is
-    (keeps_more c.keep_fault-in-BadKind.result c.args.inodes.now c.keep_fault-in-BadKind.new.inodes (bad_kind_one R s c.args.inode c.self.invariant.layout (rw c.self.view_is c.requires.number)
+    subst (λ (s : Super). OnOk c.keep_fault-in-BadKind.result (Keeps (IsPieceBy R s c.args.inode) c.args.inodes.now c.keep_fault-in-BadKind.new.inodes c.keep_fault-in-BadKind.new.claims)) c.self.view_is
+    (keeps_more _ _ _ c.keep_fault-in-BadKind.result (bad_kind_one R s c.args.inode c.self.invariant.layout (rw c.self.view_is c.requires.number)
     (subst (λ (t : Slot). kind_of t ≡ None) c.read_slot-slot.ensures (sym c.state.ensures.in_use ∙ ap kind_in c.in-BadKind.is))
     (subst (λ (t : Slot). t.valid ≡ 1) c.read_slot-slot.ensures (c.state.ensures.bad_kind.0 c.in-BadKind.is).0)) c.keep_fault-in-BadKind.ensures.kept)
 
 pub returns-in-InUse-clause-kept : goal.returns-in-InUse-clause-kept
 returns-in-InUse-clause-kept g c =
-    subst (λ (s : Super). IfOk c.scan_log.result (Keeps (IsPieceBy (g.P.Pmem.region c.args.memory.now) s c.args.inode) c.args.inodes.now c.scan_log.new.inodes)) c.self.view_is c.scan_log.ensures.kept
+    subst (λ (s : Super). OnOk c.scan_log.result (Keeps (IsPieceBy (g.P.Pmem.region c.args.memory.now) s c.args.inode) c.args.inodes.now c.scan_log.new.inodes c.scan_log.new.claims)) c.self.view_is c.scan_log.ensures.kept
 
 pub scan_log-requires-clause-layout : goal.scan_log-requires-clause-layout
 scan_log-requires-clause-layout g c = c.self.invariant.layout
