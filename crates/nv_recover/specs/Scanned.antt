@@ -36,14 +36,6 @@ pub record AreInodes (R : Region) (s : Super) (pieces : List Piece) (x : Inodes)
 abbrev pub all_claims : List (Vec (ℕ × Owner) Global) → List (ℕ × Owner)
 all_claims lists = flat_map (λ (v : Vec (ℕ × Owner) Global). v.items) lists
 
--- Pieces of the inodes with these numbers: their rows and faults were put behind the others, and these are their claims.
-pub record AreNext (R : Region) (s : Super) (numbers : List ℕ) (old new : Inodes) (claims : List (ℕ × Owner)) : Type 0 where
-  pub pieces : List Piece
-  pub are : ArePiecesOf R s numbers pieces
-  pub rows : new.rows.items ≡ old.rows.items ++ rows_in pieces
-  pub faults : new.faults.items ≡ old.faults.items ++ faults_in pieces
-  pub claims_are : claims ≡ claims_in pieces
-
 -- Pieces of the inodes of these tickets: kept are their rows and their faults, and a list of claims for each ticket.
 pub record AreOfTickets (R : Region) (s : Super) (tickets : List ℕ) (x : Inodes) (work : List (Vec (ℕ × Owner) Global)) : Type 0 where
   pub pieces : List Piece

@@ -13,13 +13,13 @@ ghost use Rattle.nv_journal.specs.Undone.{AllQuiet};
 ghost use Rattle.nv_claimcore.specs.Replay.{lists, Inside, first_stranger};
 ghost use Rattle.nv_scan.specs.declared.piece.Piece.{Piece as PieceValue};
 ghost use Rattle.nv_scan.specs.Tickets.{ticket_count, numbers_of};
-ghost use Rattle.nv_scan.specs.Work.{claims_in};
+ghost use Rattle.nv_scan.specs.Work.{AreNext, claims_in};
 ghost use Rattle.nv_outcome.specs.Outcome.{IsOutcome};
 ghost use Rattle.nv_recover.specs.declared.errors.RecoverError.TheVariants as errors;
 ghost use Rattle.nv_outcome.specs.Answer.{outcome_of, SharesBlocks};
 ghost use Rattle.nv_recover.specs.Errors.{Fails, comes_first, IsBadCount, UndoesAsBefore};
 ghost use Rattle.nv_recover.specs.Behind.{BehindSystem};
-ghost use Rattle.nv_recover.specs.Scanned.{AreInodes, IsScanned, AreClaimedSets, AreNext, all_claims};
+ghost use Rattle.nv_recover.specs.Scanned.{AreInodes, IsScanned, AreClaimedSets, all_claims};
 
 use crate::errors::RecoverError;
 use crate::finishing::finish;

@@ -1,7 +1,8 @@
 -- Claiming what a piece claims, page by page and run by run.
-use Rattle.std.proofs.Common.{◌≡◌, ℕ, zero, suc, ◌+◌, ◌<◌, ◌≤◌, List, [], ◌∷◌, ◌++◌, length, get_or, Some, refl, ap, ◌∙◌, subst, append_assoc, arith}
+use Rattle.std.proofs.Common.{◌≡◌, ℕ, zero, suc, ◌+◌, ◌<◌, ◌≤◌, List, [], ◌∷◌, ◌++◌, length, get_or, take, Some, refl, ap, sym, ◌∙◌, subst, append-nil, append_assoc, arith}
 use Rattle.std.specs.List.{Contains, All, AllByRecursion}
-use Rattle.std.proofs.lemmas.List.{map-append}
+use Rattle.std.proofs.lemmas.Grind.{flat_map-append}
+use Rattle.std.proofs.lemmas.List.{map-append, take_more}
 use Rattle.std.proofs.lemmas.Option.{slice_get-get_or}
 use Rattle.std.proofs.lemmas.List.Elements.{All-contains, All-contains_itself, All-pop, All-append, All-from_recursion, Contains-append_left, Contains-append_right}
 use Rattle.nv_region.specs.Region.{Region}
@@ -16,8 +17,10 @@ use Rattle.nv_claimmap.specs.nv_claimcore.Claims.{Settled}
 use Rattle.nv_claimmap.specs.nv_claimcore.Finished.{pair_of}
 use Rattle.nv_claimmap.specs.nv_claimcore.Spans.{Adds}
 use Rattle.nv_scan.specs.Owners.{Owns, AreClaims}
+use Rattle.nv_scan.specs.ClaimList.{ClaimList}
 use Rattle.nv_scan.specs.Claiming.{IsClaimable}
 use Rattle.nv_scan.specs.Claims.{log_claims, run_claims, data_claims}
+use Rattle.nv_scan.specs.Work.{claims_among}
 use Rattle.nv_radix.specs.declared.extent.Extent.{Extent}
 use Rattle.nv_super.proofs.Members.{into_flat}
 use Rattle.nv_scan.proofs.Blocks.{data_pages}
@@ -80,7 +83,18 @@ pub run_claimable : (blocks i k : ℕ) (runs : List Extent) (d : Extent) → k <
     → ((get_or runs k d).block + (get_or runs k d).count ≤ blocks) × MayOwn (owners.Data i (get_or runs k d).page) (get_or runs k d).count
 run_claimable blocks i k runs d less all some = let x = get_or runs k d in run_fits blocks x.block i x.page x.count some (each_run (IsClaimable blocks) i k runs d less all)
 
+-- what is so of each claim of some inodes is so of each of one inode
+pub each_among : (P : ℕ × Owner → Type 0) (each : List ClaimList) (k : ℕ) (d : ClaimList) → k < length each → All P (claims_among each) → All P (get_or each k d).items
+each_among P each k d less all = all_among P (get_or each k d).items (claims_among each) all (λ y c. into_flat (λ (x : ClaimList). x.items) each (get_or each k d) y (All-contains_itself each k d less) c)
+
 -- ---- what was claimed
+
+-- the claims of one inode more
+pub among_push : (each : List ClaimList) (x : ClaimList) → claims_among (each ++ x ∷ []) ≡ claims_among each ++ x.items
+among_push each x = flat_map-append (λ (y : ClaimList). y.items) each (x ∷ []) ∙ ap (λ (cs : List (ℕ × Owner)). claims_among each ++ cs) (append-nil x.items)
+
+pub among_more : (each : List ClaimList) (k : ℕ) (x : ClaimList) → k < length each → x ≡ get_or each k x → claims_among (take (k + 1) each) ≡ claims_among (take k each) ++ x.items
+among_more each k x less is = ap claims_among (take_more each k x less ∙ ap (λ (y : ClaimList). take k each ++ y ∷ []) (sym is)) ∙ among_push (take k each) x
 
 -- claims and then more claims
 pub adds_both : (ps qs : List (ℕ × Owner)) (v u w : View) → Adds ps v u → Adds qs u w → Adds (ps ++ qs) v w

@@ -1,10 +1,10 @@
 -- The work of a worker, ticket by ticket.
 use Rattle.std.proofs.Common.{◌≡◌, ℕ, ◌+◌, ◌-◌, ◌*◌, ◌<◌, ◌≤◌, nat_lt, Bool, true, false, cond, Some, None, List, [], ◌∷◌, ◌++◌, map, Option, refl, ap, sym, ◌∙◌, subst, append-nil, append_assoc, arith}
-use Rattle.std.specs.List.{AllByRecursion, cons_option}
+use Rattle.std.specs.List.{All, AllByRecursion, cons_option}
 use Rattle.std.proofs.lemmas.Bool.Decides.{nat_tests}
 use Rattle.std.proofs.lemmas.Grind.{flat_map-append}
 use Rattle.std.proofs.lemmas.List.{map-append}
-use Rattle.std.proofs.lemmas.List.Elements.{filter-append, filter_map-append}
+use Rattle.std.proofs.lemmas.List.Elements.{All-nil, All-append, filter-append, filter_map-append}
 use Rattle.std.proofs.lemmas.List.FromFn.{filter_of_map_range_with_len_more}
 use Rattle.nv_region.specs.Region.{Region}
 use Rattle.nv_super.specs.declared.superblock.Super.{Super}
@@ -15,15 +15,16 @@ use Rattle.nv_claimmap.specs.nv_claimcore.declared.view.View.{View}
 use Rattle.nv_claimmap.specs.nv_claimcore.Claims.{above, with_number, nothing, both_views}
 use Rattle.nv_claimmap.specs.nv_claimcore.Finished.{pair_of}
 use Rattle.nv_claimmap.specs.nv_claimcore.Spans.{Adds}
-use Rattle.nv_claimmap.proofs.nv_claimcore.Runs.{adds_none}
 use Rattle.nv_claimmap.proofs.Seats.{fewer_left}
 use Rattle.nv_inode.proofs.Slots.{number_above}
+use Rattle.nv_scan.specs.Claiming.{IsClaimable}
 use Rattle.nv_scan.specs.Rows.{IsPiece}
 use Rattle.nv_scan.specs.Tickets.{ticket_count, number_at, numbers_to, numbers_of, IsFound}
-use Rattle.nv_scan.specs.Work.{tickets_among, numbers_in, claims_in, rows_in, faults_in, ArePiecesOf, IsWork, IsDone}
+use Rattle.nv_scan.specs.Work.{tickets_among, numbers_in, claims_in, rows_in, faults_in, ArePiecesOf, AreNext, IsWork, IsDone}
+use Rattle.nv_scan.specs.declared.inodes.Inodes.{Inodes}
 use Rattle.nv_scan.specs.declared.piece.Row.{Row}
 use Rattle.nv_scan.specs.declared.piece.Piece.{Piece}
-use Rattle.nv_scan.proofs.Runs.{adds_both}
+use Rattle.nv_scan.proofs.Runs.{claims_fit}
 use Rattle.nv_scan.proofs.Told.{blank_piece}
 
 -- what holds of two lists holds of both together
@@ -73,22 +74,6 @@ module _ {R : Region} {s : Super} where
   one_piece : {i : ℕ} (p : Piece) → p.inode ≡ i → IsPiece R (fixed_layout s) p → ArePiecesOf R s (i ∷ []) (p ∷ [])
   one_piece p same is = record { each = (is, tt); order = ap (λ j. j ∷ []) same }
 
-  -- ---- some inodes are done
-
-  pub done_none : {v : View} {rows : List Row} {faults : List Fault} → IsDone R s [] v v rows rows faults faults
-  done_none {v} {rows} {faults} = record { pieces = []; are = pieces_none; claims = adds_none v; rows_are = sym (append-nil rows); faults_are = sym (append-nil faults) }
-
-  -- those, and then the others
-  done_join : {ns ms : List ℕ} {v u w : View} {old mid new : List Row} {before between after : List Fault} → IsDone R s ns v u old mid before between → IsDone R s ms u w mid new between after
-      → IsDone R s (ns ++ ms) v w old new before after
-  done_join {v = v} {u = u} {w = w} {old = old} {before = before} p q = record {
-    pieces = p.pieces ++ q.pieces;
-    are = pieces_join p.are q.are;
-    claims = subst (λ (cs : List (ℕ × Owner)). Adds cs v w) (sym (claims_join p.pieces q.pieces)) (adds_both (claims_in p.pieces) (claims_in q.pieces) v u w p.claims q.claims);
-    rows_are = behind old (rows_in p.pieces) (rows_in q.pieces) p.rows_are q.rows_are (rows_join p.pieces q.pieces);
-    faults_are = behind before (faults_in p.pieces) (faults_in q.pieces) p.faults_are q.faults_are (faults_join p.pieces q.pieces);
-  }
-
   -- ---- the slots of a ticket, one after another
 
   pub at_slot : (t k m : ℕ) (o : Option Piece) → 32 * t + k ≡ m → IsFound R s (number_at s m) o → AtSlot R s t k o
@@ -114,34 +99,44 @@ module _ {R : Region} {s : Super} where
     }
     test false e = record { numbers = []; more = numbers_more s t k m false here e; pieces = []; are = pieces_none; rows = refl; faults = refl; claims = refl }
 
-  slot_done : {t k : ℕ} {o : Option Piece} {v u w : View} {old mid new : List Row} {before between after : List Fault} → AtSlot R s t k o → IsDone R s (numbers_to s t k) v u old mid before between
-      → Adds (claims_in (cons_option o [])) u w → new ≡ mid ++ rows_in (cons_option o []) → after ≡ between ++ faults_in (cons_option o []) → IsDone R s (numbers_to s t (k + 1)) v w old new before after
-  slot_done {v = v} {u = u} {w = w} {old = old} {mid = mid} {new = new} {before = before} {between = between} {after = after} at done adds rows faults =
-      subst (λ (ns : List ℕ). IsDone R s ns v w old new before after) (sym at.more) (done_join done record {
-        pieces = at.pieces;
-        are = at.are;
-        claims = subst (λ (cs : List (ℕ × Owner)). Adds cs u w) (sym at.claims) adds;
-        rows_are = rows ∙ ap (λ (rs : List Row). mid ++ rs) (sym at.rows);
-        faults_are = faults ∙ ap (λ (fs : List Fault). between ++ fs) (sym at.faults);
-      })
+  pub next_none : {old : Inodes} {claims : List (ℕ × Owner)} → claims ≡ [] → AreNext R s [] old old claims
+  next_none {old} none = record { pieces = []; are = pieces_none; rows = sym (append-nil old.rows.items); faults = sym (append-nil old.faults.items); claims_are = none }
 
-  -- a slot of whose inode a piece is found
-  pub slot_kept : (t k m : ℕ) {v u w : View} {old mid new : List Row} {before between after : List Fault} (p : Piece) → 32 * t + k ≡ m → IsFound R s (number_at s m) (Some p)
-      → IsDone R s (numbers_to s t k) v u old mid before between → Adds p.claims.items u w → new ≡ mid ++ cons_option p.row [] → after ≡ between ++ p.faults.items
-      → IsDone R s (numbers_to s t (k + 1)) v w old new before after
-  slot_kept t k m {u = u} {w = w} {between = between} p here found done adds rows faults =
-      slot_done (at_slot t k m (Some p) here found) done (subst (λ (cs : List (ℕ × Owner)). Adds cs u w) (sym (append-nil p.claims.items)) adds) rows
-      (faults ∙ ap (λ (fs : List Fault). between ++ fs) (sym (append-nil p.faults.items)))
+  pub next_slot : {t k : ℕ} {o : Option Piece} {old mid new : Inodes} {claims all : List (ℕ × Owner)} → AtSlot R s t k o → AreNext R s (numbers_to s t k) old mid claims
+      → new.rows.items ≡ mid.rows.items ++ rows_in (cons_option o []) → new.faults.items ≡ mid.faults.items ++ faults_in (cons_option o []) → all ≡ claims ++ claims_in (cons_option o [])
+      → AreNext R s (numbers_to s t (k + 1)) old new all
+  next_slot {o = o} {old = old} {new = new} {all = all} at next rows faults claims = subst (λ (ns : List ℕ). AreNext R s ns old new all) (sym at.more) record {
+    pieces = next.pieces ++ at.pieces;
+    are = pieces_join next.are at.are;
+    rows = behind old.rows.items (rows_in next.pieces) (rows_in (cons_option o [])) next.rows rows
+        (rows_join next.pieces at.pieces ∙ ap (λ (rs : List Row). rows_in next.pieces ++ rs) at.rows);
+    faults = behind old.faults.items (faults_in next.pieces) (faults_in (cons_option o [])) next.faults faults
+        (faults_join next.pieces at.pieces ∙ ap (λ (fs : List Fault). faults_in next.pieces ++ fs) at.faults);
+    claims_are = claims ∙ (λ i. next.claims_are i ++ sym at.claims i) ∙ sym (claims_join next.pieces at.pieces);
+  }
 
-  -- a slot of which nothing is told
-  pub slot_blank : (t k m : ℕ) {v u : View} {old mid : List Row} {before between : List Fault} → 32 * t + k ≡ m → IsFound R s (number_at s m) None
-      → IsDone R s (numbers_to s t k) v u old mid before between → IsDone R s (numbers_to s t (k + 1)) v u old mid before between
-  slot_blank t k m {u = u} {mid = mid} {between = between} here found done = slot_done (at_slot t k m None here found) done (adds_none u) (sym (append-nil mid)) (sym (append-nil between))
-
-  -- all slots of its table block
-  pub all_slots : (t k : ℕ) {v w : View} {old new : List Row} {before after : List Fault} → k ≡ 32 → IsDone R s (numbers_to s t k) v w old new before after → IsDone R s (numbers_of s t) v w old new before after
+  pub next_all : (t k : ℕ) {old new : Inodes} {claims : List (ℕ × Owner)} → k ≡ 32 → AreNext R s (numbers_to s t k) old new claims → AreNext R s (numbers_of s t) old new claims
   unfolding numbers_of
-  all_slots t k {v} {w} {old} {new} {before} {after} all done = subst (λ (n : ℕ). IsDone R s (numbers_to s t n) v w old new before after) all done
+  next_all t k {old} {new} {claims} all next = subst (λ (n : ℕ). AreNext R s (numbers_to s t n) old new claims) all next
+
+  -- what they own can be claimed
+  pub next_fit : {numbers : List ℕ} {old new : Inodes} {claims : List (ℕ × Owner)} → AreNext R s numbers old new claims → All (IsClaimable s.blocks) claims
+  next_fit next = subst (All (IsClaimable s.blocks)) (sym next.claims_are) (each_fits next.pieces next.are.each)
+    where
+      each_fits : (pieces : List Piece) → AllByRecursion (IsPiece R (fixed_layout s)) pieces → All (IsClaimable s.blocks) (claims_in pieces)
+      each_fits [] each = All-nil (IsClaimable s.blocks)
+      each_fits (p ∷ pieces) each = All-append (IsClaimable s.blocks) p.claims.items (claims_in pieces) (claims_fit R (fixed_layout s) p.inode p.claims.items each.0.claims) (each_fits pieces each.1)
+
+  -- and once that is claimed they are done
+  pub next_done : {numbers : List ℕ} {old new : Inodes} {claims : List (ℕ × Owner)} {v w : View} → AreNext R s numbers old new claims → Adds claims v w
+      → IsDone R s numbers v w old.rows.items new.rows.items old.faults.items new.faults.items
+  next_done {v = v} {w = w} next adds = record {
+    pieces = next.pieces;
+    are = next.are;
+    claims = subst (λ (cs : List (ℕ × Owner)). Adds cs v w) next.claims_are adds;
+    rows_are = next.rows;
+    faults_are = next.faults;
+  }
 
 -- ---- the tickets, one after another
 

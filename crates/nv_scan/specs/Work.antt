@@ -11,8 +11,10 @@ use Rattle.nv_claimmap.specs.nv_claimcore.Claims.{past}
 use Rattle.nv_claimmap.specs.nv_claimcore.Finished.{pair_of}
 use Rattle.nv_claimmap.specs.nv_claimcore.Spans.{Adds}
 use Rattle.nv_claimmap.specs.Held.{MapId}
+use Rattle.nv_scan.specs.ClaimList.{ClaimList}
 use Rattle.nv_scan.specs.Rows.{IsPiece}
 use Rattle.nv_scan.specs.Tickets.{ticket_count, numbers_of}
+use Rattle.nv_scan.specs.declared.inodes.Inodes.{Inodes}
 use Rattle.nv_scan.specs.declared.piece.Row.{Row}
 use Rattle.nv_scan.specs.declared.piece.Piece.{Piece}
 use Rattle.nv_scan.specs.declared.working.WorkerResult.{WorkerResult}
@@ -29,6 +31,10 @@ numbers_in s tickets = flat_map (numbers_of s) tickets
 abbrev pub claims_in : List Piece → List (ℕ × Owner)
 claims_in pieces = flat_map (λ (p : Piece). p.claims.items) pieces
 
+-- the claims of some inodes, one inode after the other
+abbrev pub claims_among : List ClaimList → List (ℕ × Owner)
+claims_among each = flat_map (λ (c : ClaimList). c.items) each
+
 -- the rows of these pieces
 abbrev pub rows_in : List Piece → List Row
 rows_in pieces = filter_map (λ (p : Piece). p.row) pieces
@@ -41,6 +47,14 @@ faults_in pieces = flat_map (λ (p : Piece). p.faults.items) pieces
 pub record ArePiecesOf (R : Region) (s : Super) (numbers : List ℕ) (pieces : List Piece) : Type 0 where
   pub each : AllByRecursion (IsPiece R (fixed_layout s)) pieces
   pub order : map (λ (p : Piece). p.inode) pieces ≡ numbers
+
+-- Pieces of the inodes with these numbers: their rows and faults were put behind the others, and these are their claims.
+pub record AreNext (R : Region) (s : Super) (numbers : List ℕ) (old new : Inodes) (claims : List (ℕ × Owner)) : Type 0 where
+  pub pieces : List Piece
+  pub are : ArePiecesOf R s numbers pieces
+  pub rows : new.rows.items ≡ old.rows.items ++ rows_in pieces
+  pub faults : new.faults.items ≡ old.faults.items ++ faults_in pieces
+  pub claims_are : claims ≡ claims_in pieces
 
 -- Pieces of all inodes of the tickets that were drawn, in that order; the blocks claimed are those of the pieces, and the rows and the faults are theirs.
 pub record IsWork (R : Region) (s : Super) (v : View) (rows : List Row) (faults : List Fault) : Type 0 where

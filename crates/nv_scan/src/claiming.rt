@@ -1,10 +1,11 @@
-//! Claiming the blocks of a piece at the map of a recovery.
+//! Claiming the blocks of pieces at the map of a recovery.
 
 ghost use Rattle.std.specs.Prelude.{◌≡◌, OnOk};
 ghost use Rattle.std.specs.List.{All};
 ghost use Rattle.nv_claimmap.specs.nv_claimcore.Spans.{Adds};
 ghost use Rattle.nv_scan.specs.Claims.{log_claims, data_claims};
 ghost use Rattle.nv_scan.specs.Claiming.{IsClaimable};
+ghost use Rattle.nv_scan.specs.Work.{claims_among};
 
 use crate::claims::Claims;
 use nv_claimmap::{ClaimMap, ClaimSeat};
@@ -12,13 +13,26 @@ use nv_radix::Extent;
 use nv_super::{Owner, Run};
 use std::alloc::AllocError;
 
-/// Claims what an inode claims, in its order: the map takes a run of a file's pages in few steps. Where a growth is refused,
-/// the pages and the runs before it are claimed.
-pub(crate) fn claim_all(
+/// Claims what each of some inodes claims, one after the other. Where a growth is refused, what stands before it is claimed.
+pub(crate) fn claim_each(
     map: &ClaimMap,
     seat: &mut ClaimSeat,
-    claims: &Claims,
+    each: &[Claims],
 ) -> Result<(), AllocError>
+    requires own { seat.old.map ≡ map.now }
+    requires each { All (IsClaimable map.now.sizes.blocks) (claims_among each.now) }
+    ensures same { (seat.new.map ≡ seat.old.map) × (seat.new.number ≡ seat.old.number) × (seat.new.view.seats ≡ seat.old.view.seats) }
+    ensures ok { OnOk result (Adds (claims_among each.now) seat.old.view seat.new.view) }
+{
+    for claims in each {
+        claim_all(map, seat, claims)?;
+    }
+    Ok(())
+}
+
+/// Claims what an inode claims, in its order: the map takes a run of a file's pages in few steps. Where a growth is refused,
+/// the pages and the runs before it are claimed.
+fn claim_all(map: &ClaimMap, seat: &mut ClaimSeat, claims: &Claims) -> Result<(), AllocError>
     requires own { seat.old.map ≡ map.now }
     requires each { All (IsClaimable map.now.sizes.blocks) claims.now.items }
     ensures same { (seat.new.map ≡ seat.old.map) × (seat.new.number ≡ seat.old.number) × (seat.new.view.seats ≡ seat.old.view.seats) }

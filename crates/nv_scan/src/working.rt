@@ -1,13 +1,13 @@
 //! A worker of a recovery: it draws tickets until none is left, scans the inodes of each and claims what they own.
 
-ghost use Rattle.std.specs.Prelude.{◌≡◌, ◌<◌, IsTrue, [], OnOk};
+ghost use Rattle.std.specs.Prelude.{◌≡◌, ◌<◌, ◌≤◌, IsTrue, [], length, take, IfOk, OnOk};
 ghost use Rattle.nv_region.specs.Region.{HasBlocks};
 ghost use Rattle.nv_super.specs.Layout.{IsLayout};
 ghost use Rattle.nv_claimmap.specs.nv_claimcore.Claims.{nothing};
 ghost use Rattle.nv_scan.specs.Tickets.{ticket_count, numbers_of};
-ghost use Rattle.nv_scan.specs.Work.{IsAllWork, IsDone, Returned};
+ghost use Rattle.nv_scan.specs.Work.{AreNext, IsAllWork, IsDone, Returned, claims_among};
 
-use crate::claiming::claim_all;
+use crate::claiming::claim_each;
 use crate::claims::Claims;
 use crate::inodes::Inodes;
 use crate::piece::Row;
@@ -110,23 +110,26 @@ fn draw_all<P: Pmem, G: Gate>(
     ensures seat { (seat.new.map ≡ map.now) × (seat.new.number ≡ seat.old.number) × (seat.new.view.seats ≡ 1) }
     ensures done { OnOk result (IsAllWork (P.region memory.now) scanner.old seat.new.view inodes.new.rows.items inodes.new.faults.items) }
 {
-    let mut claims = Claims::new(alloc);
+    let mut each = room_for_ticket(alloc)?;
     while let Some(ticket) = map.draw(seat) {
         gate.enter(seat.number(), ticket);
-        scan_ticket(memory, scanner, map, seat, inodes, &mut claims, ticket)?;
+        scan_ticket(memory, scanner, map, seat, inodes, &mut each, ticket)?;
     }
     Ok(())
 }
 
-/// Does the work of one ticket: the inodes of its table block are scanned, what each owns is claimed, and its row and its
-/// faults are kept. The claims of one after another stand in `claims`.
+/// Does the work of one ticket: the inodes of its table block are scanned, their rows and faults are kept, and what they own
+/// is claimed.
+///
+/// All are scanned before the first is claimed. A step of the claim map waits for what was stored before it, and other
+/// workers want the same words: so the steps of a ticket come in a row.
 fn scan_ticket<P: Pmem>(
     memory: &P,
     scanner: &mut Scanner,
     map: &ClaimMap,
     seat: &mut ClaimSeat,
     inodes: &mut Inodes,
-    claims: &mut Claims,
+    each: &mut Vec<Claims>,
     ticket: u64,
 ) -> Result<(), AllocError>
     requires layout { IsLayout scanner.old }
@@ -134,15 +137,50 @@ fn scan_ticket<P: Pmem>(
     requires own { seat.old.map ≡ map.now }
     requires sizes { map.now.sizes.blocks ≡ scanner.old.blocks }
     requires ticket { ticket < ticket_count scanner.old }
+    requires room { length each.old.items ≡ 32 }
     ensures scanner { scanner.new ≡ scanner.old }
     ensures seat { (seat.new.map ≡ seat.old.map) × (seat.new.number ≡ seat.old.number) × (seat.new.view.seats ≡ seat.old.view.seats) }
+    ensures room { length each.new.items ≡ 32 }
     ensures done { OnOk result (IsDone (P.region memory.now) scanner.old (numbers_of scanner.old ticket) seat.old.view seat.new.view inodes.old.rows.items inodes.new.rows.items inodes.old.faults.items inodes.new.faults.items) }
 {
+    let count = scan_slots(memory, scanner, inodes, each, ticket)?;
+    claim_each(map, seat, &each[..count])
+}
+
+/// Scans the inodes of a ticket's table block, and answers how many are told of. Their claims take the first places.
+fn scan_slots<P: Pmem>(
+    memory: &P,
+    scanner: &mut Scanner,
+    inodes: &mut Inodes,
+    each: &mut Vec<Claims>,
+    ticket: u64,
+) -> Result<usize, AllocError>
+    requires layout { IsLayout scanner.old }
+    requires blocks { HasBlocks (P.region memory.now) scanner.old.blocks }
+    requires ticket { ticket < ticket_count scanner.old }
+    requires room { length each.old.items ≡ 32 }
+    ensures scanner { scanner.new ≡ scanner.old }
+    ensures room { length each.new.items ≡ 32 }
+    ensures count { IfOk result (λ count. count ≤ 32) }
+    ensures next { IfOk result (λ count. AreNext (P.region memory.now) scanner.old (numbers_of scanner.old ticket) inodes.old inodes.new (claims_among (take count each.new.items))) }
+{
+    let mut count = 0;
     for slot in 0..SLOTS {
-        let found = scanner.scan_place(memory, SLOTS * ticket + slot, inodes, claims)?;
+        let found = scanner.scan_place(memory, SLOTS * ticket + slot, inodes, &mut each[count])?;
         if found {
-            claim_all(map, seat, claims)?;
+            count += 1;
         }
     }
-    Ok(())
+    Ok(count)
+}
+
+/// Room for the claims of a ticket's inodes.
+fn room_for_ticket(alloc: Global) -> Result<Vec<Claims>, AllocError>
+    ensures { IfOk result (λ each. length each.items ≡ 32) }
+{
+    let mut each = Vec::new(alloc);
+    for _ in 0..SLOTS {
+        each.push(Claims::new(alloc))?;
+    }
+    Ok(each)
 }

@@ -5,10 +5,10 @@ use Rattle.std.proofs.lemmas.List.FromFn.{length-range_with_len}
 use Rattle.nv_region.specs.Region.{HasBlocks}
 use Rattle.nv_super.specs.declared.superblock.Super.{Super}
 use Rattle.nv_scan.specs.Tickets.{ticket_count, numbers_of}
-use Rattle.nv_scan.specs.Work.{claims_in}
+use Rattle.nv_scan.specs.Work.{claims_in, AreNext}
 use Rattle.nv_scan.proofs.Drawn.{all_times}
 use Rattle.nv_outcome.specs.Parts.{rows_in, faults_in}
-use Rattle.nv_recover.specs.Scanned.{AreNext, AreOfTickets}
+use Rattle.nv_recover.specs.Scanned.{AreOfTickets}
 use Rattle.nv_recover.proofs.Inodes.{ended_at}
 use Rattle.nv_recover.proofs.InOrder.{tickets_in_order}
 use Rattle.nv_recover.proofs.Tickets.{tickets_none, tickets_more}

@@ -5,10 +5,9 @@ use Rattle.nv_super.specs.declared.faults.Fault.{Fault}
 use Rattle.nv_scan.specs.ClaimList.{ClaimList}
 use Rattle.nv_scan.specs.Kept.{KeepsFound}
 use Rattle.nv_scan.specs.Tickets.{number_at, numbers_to}
-use Rattle.nv_scan.proofs.Work.{at_slot}
+use Rattle.nv_scan.proofs.Work.{at_slot, next_none, next_slot, next_all}
 use Rattle.nv_scan.specs.declared.inodes.Inodes.{Inodes}
-use Rattle.nv_recover.specs.Scanned.{AreNext}
-use Rattle.nv_recover.proofs.Tickets.{next_none, next_slot, next_all}
+use Rattle.nv_scan.specs.Work.{AreNext}
 use Rattle.nv_recover.proofs.replaying.scan_ticket.Goals as goal
 use Rattle.nv_recover.proofs.replaying.scan_ticket.Goals.{then-found+in_ok-to_list+in_ok-extend_from_slice, else-found}
 

@@ -1,6 +1,6 @@
 use Rattle.std.proofs.Common.{◌≡◌}
 use Rattle.nv_scan.specs.Tickets.{numbers_to}
-use Rattle.nv_recover.specs.Scanned.{AreNext}
+use Rattle.nv_scan.specs.Work.{AreNext}
 use Rattle.nv_recover.proofs.replaying.scan_ticket.Given as goal
 
 abbrev pub invariant-loop-slot : goal.invariant-loop-slot

@@ -15,6 +15,7 @@ loop-ticket-init g c = record {
   map = c.requires.own.0;
   number = refl;
   seats = ap (λ (v : View). v.seats) c.requires.own.1;
+  room = c.in_ok-each.ensures;
   work = work_none (g.P.Pmem.region c.args.memory.now) c.args.scanner.now c.args.seat.now.view c.args.inodes.now.rows.items c.args.inodes.now.faults.items c.requires.own.1 c.requires.none.0 c.requires.none.1;
 }
 
@@ -36,6 +37,9 @@ scan_ticket-requires-clause-ticket g c =
     let count : c.in-Some.ticket < ticket_count c.loop-ticket.scanner = subst (λ (s : Super). c.in-Some.ticket < ticket_count s) (sym c.loop-ticket.invariant.scanner) few in
     omega (arith, count)
 
+pub scan_ticket-requires-clause-room : goal.scan_ticket-requires-clause-room
+scan_ticket-requires-clause-room g c = c.loop-ticket.invariant.room
+
 pub loop-ticket-smaller : goal.loop-ticket-smaller
 loop-ticket-smaller g c = let d = c.in-Some.ensures in
     nearer (g.P.Pmem.region c.args.memory.now) c.loop-ticket.scanner c.args.map.now.sizes.tickets c.in-Some.ticket (numbers_of c.loop-ticket.scanner c.in-Some.ticket) c.loop-ticket.seat.view c.draw.new.seat.view c.scan_ticket.new.seat.view
@@ -53,6 +57,7 @@ loop-ticket-preserved g c =
       map = c.scan_ticket.ensures.seat.0 ∙ d.map ∙ l.map;
       number = c.scan_ticket.ensures.seat.1 ∙ d.number ∙ l.number;
       seats = c.scan_ticket.ensures.seat.2 ∙ ap (λ (x : View). x.seats) d.joins ∙ l.seats;
+      room = c.scan_ticket.ensures.room;
       work = work_more R s v u w old new before after t l.work (subst (λ (n : ℕ). t < n) c.requires.sizes.1 d.some) d.joins (subst (λ (x : Super). IsDone R x (numbers_of x t) u w old new before after) l.scanner c.in_ok-scan_ticket.ensures.done);
     }
 

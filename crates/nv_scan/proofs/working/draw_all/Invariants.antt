@@ -1,4 +1,4 @@
-use Rattle.std.proofs.Common.{◌≡◌, ◌-◌}
+use Rattle.std.proofs.Common.{◌≡◌, ◌-◌, length}
 use Rattle.nv_claimmap.specs.nv_claimcore.Claims.{above}
 use Rattle.nv_scan.specs.Work.{IsWork}
 use Rattle.nv_scan.proofs.working.draw_all.Given as goal
@@ -9,6 +9,7 @@ invariant-loop-ticket g l = record {
   map : l.seat.map ≡ l.map;
   number : l.seat.number ≡ l.fn.seat.number;
   seats : l.seat.view.seats ≡ 1;
+  room : length l.each.items ≡ 32;
   work : IsWork (g.P.Pmem.region l.memory) l.fn.scanner l.seat.view l.inodes.rows.items l.inodes.faults.items;
 }
 
