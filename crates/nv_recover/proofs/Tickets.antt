@@ -1,19 +1,16 @@
 -- The tickets of a replay, one after another.
-use Rattle.std.proofs.Common.{◌≡◌, ℕ, ◌+◌, List, [], ◌∷◌, ◌++◌, length, Option, ap, sym, ◌∙◌, subst, append-nil, arith}
+use Rattle.std.proofs.Common.{◌≡◌, ℕ, ◌+◌, List, [], ◌∷◌, ◌++◌, length, ap, sym, ◌∙◌, subst, append-nil, arith}
 use Rattle.std.specs.Prelude.{Vec}
 use Rattle.std.specs.declared.alloc.Global.{Global}
-use Rattle.std.specs.List.{cons_option, range_with_len}
+use Rattle.std.specs.List.{range_with_len}
 use Rattle.std.proofs.lemmas.Grind.{flat_map-append}
 use Rattle.std.proofs.lemmas.List.{length-append}
 use Rattle.nv_region.specs.Region.{Region}
 use Rattle.nv_super.proofs.Ranges.{one_more}
 use Rattle.nv_super.specs.declared.superblock.Super.{Super}
 use Rattle.nv_super.specs.declared.owners.Owner.{Owner}
-use Rattle.nv_super.specs.declared.faults.Fault.{Fault}
 use Rattle.nv_scan.specs.Tickets.{numbers_of}
-use Rattle.nv_scan.specs.Work.{numbers_in, claims_in, ArePiecesOf, AreNext}
-use Rattle.nv_scan.specs.declared.piece.Row.{Row}
-use Rattle.nv_scan.specs.declared.piece.Piece.{Piece}
+use Rattle.nv_scan.specs.Work.{numbers_in, ArePiecesOf, AreNext}
 use Rattle.nv_scan.proofs.Work.{behind, claims_join, rows_join, faults_join, pieces_none, pieces_join}
 use Rattle.nv_outcome.specs.Parts.{rows_in, faults_in}
 use Rattle.nv_scan.specs.declared.inodes.Inodes.{Inodes}

@@ -1,7 +1,6 @@
 //! One inode: its slot and its log become its row, the blocks that it claims and its faults.
 
 ghost use Rattle.std.specs.Prelude.{◌≡◌, ◌<◌, ◌++◌, ◌∷◌, [], ℕ, IfOk, IfSome, IsTrue, OnErr, OnOk, Some, false, true};
-ghost use Rattle.std.specs.List.{cons_option};
 ghost use Rattle.nv_region.specs.Region.{HasBlocks};
 ghost use Rattle.nv_super.specs.Layout.{IsLayout, HasAreas, inode_limit, is_number, slot_address, fixed_layout};
 ghost use Rattle.nv_super.specs.Order.{Lists, owner_key};
