@@ -4,11 +4,11 @@
 # all did, one of them, or a worker, at its second try, since the first was refused memory; or memory was refused outside
 # of them.
 #
-# Two threads make the allocations of the recoveries by workers, the last two, in an order that differs from run to run. It
-# takes ten minutes.
+# Two threads make the allocations of the recoveries by workers, the last two, in an order that differs from run to run, and
+# one or two more of them as the workers share the inodes: so the first few runs meet no refusal. It takes ten minutes.
 set -u
 source "$(dirname "${BASH_SOURCE[0]}")/refusing.sh"
-refuse_each recoveries 398
+refuse_each recoveries 414
 
 mapfile -t whole < <(head -n 7 stdout)
 wanted=()

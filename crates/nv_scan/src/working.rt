@@ -178,7 +178,7 @@ fn scan_slots<P: Pmem>(
 fn room_for_ticket(alloc: Global) -> Result<Vec<Claims>, AllocError>
     ensures { IfOk result (λ each. length each.items ≡ 32) }
 {
-    let mut each = Vec::new(alloc);
+    let mut each = Vec::with_capacity(alloc, SLOTS as usize)?;
     for _ in 0..SLOTS {
         each.push(Claims::new(alloc))?;
     }
