@@ -40,7 +40,6 @@ use Rattle.nv_scan.specs.Scanned.{fault_by, fault_of_end, IsPieceOf, IsEmptyPiec
 use Rattle.nv_scan.specs.declared.fold.Fold.{Fold}
 use Rattle.nv_scan.specs.declared.piece.Row.{Row}
 use Rattle.nv_scan.specs.declared.piece.Piece.{Piece}
-use Rattle.nv_scan.specs.declared.reading.Read.{Read}
 use Rattle.nv_scan.proofs.FaultsOnce.{IsOnce-option, IsOnce-more, end_apart, head_apart, inode_apart}
 use Rattle.nv_scan.proofs.Only.{IsInode-only, slot_in_use, kind_in_use, owned_log, owned_page}
 
@@ -222,17 +221,17 @@ wrong_faults {R} {l} {i} {a} {log} is none t = record {
     split f (entry h e) = inl (subst (λ (x : Log). IsEntryFault l.sup x.kind i x.entries f) (same_log is h) e)
 
 -- the piece of an inode whose head and tail are right
-pub right_piece : (R : Region) (s : Super) (i : ℕ) (kind : Kind) (slot : Slot) (fold : Fold) (read : Read) (p : Piece) → IsLayout s → IsTrue (is_number s i)
-    → slot ≡ slot_at R (slot_address s i) → kind_of slot ≡ Some kind → is_right_log s slot.head slot.tail ≡ true → IsRead R s i kind slot fold read
-    → IsPieceOf i kind slot read.pages.items fold (fault_of_end i read.fault) p → IsPiece R (fixed_layout s) p
-right_piece R s i kind slot fold read p layout number words is_kind is_right r of =
+pub right_piece : (R : Region) (s : Super) (i : ℕ) (kind : Kind) (slot : Slot) (fold : Fold) (pages : List ℕ) (end : Option LogEnd) (p : Piece) → IsLayout s → IsTrue (is_number s i)
+    → slot ≡ slot_at R (slot_address s i) → kind_of slot ≡ Some kind → is_right_log s slot.head slot.tail ≡ true → IsRead R s i kind slot fold pages end
+    → IsPieceOf i kind slot pages fold (fault_of_end i end) p → IsPiece R (fixed_layout s) p
+right_piece R s i kind slot fold pages end p layout number words is_kind is_right r of =
     let l : Layout = fixed_layout s in
     let a : ℕ = slot_address s i in
-    let log : Log = record { kind = kind; entries = r.entries; pages = read.pages.items; fault = read.fault } in
+    let log : Log = record { kind = kind; entries = r.entries; pages = pages; fault = end } in
     let right_at : is_right_log s (word R (a + 16)) (word R (a + 24)) ≡ true = subst (λ (t : Slot). is_right_log s t.head t.tail ≡ true) words is_right in
     let is : IsInode R l i a log = right (slot_is s i layout number) (subst (λ (t : Slot). kind_of t ≡ Some kind) words is_kind) right_at
-    (subst (λ (t : Slot). Reads R s t.head t.tail r.entries read.pages.items read.fault) words r.reads) in
-    piece_is is kind slot read.pages.items fold (fault_of_end i read.fault) p words refl refl r.holds (right_faults is right_at) of
+    (subst (λ (t : Slot). Reads R s t.head t.tail r.entries pages end) words r.reads) in
+    piece_is is kind slot pages fold (fault_of_end i end) p words refl refl r.holds (right_faults is right_at) of
 
 -- the piece of an inode whose head or tail isn't right
 pub wrong_piece : (R : Region) (s : Super) (i : ℕ) (kind : Kind) (slot : Slot) (fold : Fold) (p : Piece) → IsLayout s → IsTrue (is_number s i)

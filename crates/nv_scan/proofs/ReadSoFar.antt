@@ -1,11 +1,12 @@
 -- What was read so far, at the head and after one entry more, and in all.
-use Rattle.std.proofs.Common.{◌≡◌, ℕ, List, [], ◌∷◌, ◌++◌, refl, sym, subst}
+use Rattle.std.proofs.Common.{◌≡◌, ℕ, List, [], ◌∷◌, ◌++◌, refl, sym, subst, Option}
 use Rattle.nv_region.specs.Region.{Region}
 use Rattle.nv_super.specs.declared.superblock.Super.{Super}
 use Rattle.nv_super.specs.declared.kind.Kind.{Kind}
 use Rattle.nv_inode.specs.declared.slot.Slot.{Slot}
 use Rattle.nv_entry.specs.declared.entry.WriteEntry.{WriteEntry}
 use Rattle.nv_entry.specs.declared.entry.Entry.TheVariants.{Write}
+use Rattle.nv_logpage.specs.declared.found.LogEnd.{LogEnd}
 use Rattle.nv_logpage.specs.declared.found.Placed.{Placed}
 use Rattle.nv_logpage.specs.declared.found.Finding.{Finding}
 use Rattle.nv_logpage.specs.declared.found.Finding.TheVariants.{Entry, End}
@@ -14,7 +15,6 @@ use Rattle.nv_logpage.specs.Progress.{Progress, at_head, Leads, Continues}
 use Rattle.nv_logpage.proofs.Progress.{leads_start}
 use Rattle.nv_scan.specs.Fold.{Holds, Takes}
 use Rattle.nv_scan.specs.Reading.{IsRead, IsReadSoFar}
-use Rattle.nv_scan.specs.declared.reading.Read.{Read}
 use Rattle.nv_scan.specs.declared.fold.Fold.{Fold}
 use Rattle.nv_scan.proofs.Steps.{Holds-more}
 
@@ -38,12 +38,12 @@ read_write R head s kind i created r r' old new at e so_far goes is p q t =
     read_more R head s kind i created r r' old new (found_write r.place e) (placed r.place (Write e)) so_far goes refl p q (subst (λ (n : ℕ). Takes s kind i (placed n (Write e)) old new) is t)
 
 -- the whole log, once its end is found
-pub read_whole : (R : Region) (s : Super) (kind : Kind) (i : ℕ) (slot : Slot) (r r' : Progress) (fold : Fold) (found : Finding) (read : Read)
-    → IsReadSoFar R slot.head kind i slot.created r fold → ((h : ℕ) (es : List Placed) → Leads R h r es → Continues R h r' es found) → found ≡ End read.fault
-    → r.sup ≡ s → r'.sup ≡ s → r'.tail ≡ slot.tail → read.pages.items ≡ r'.pages → IsRead R s i kind slot fold read
-read_whole R s kind i slot r r' fold found read so_far goes is p q t pages = record {
+pub read_whole : (R : Region) (s : Super) (kind : Kind) (i : ℕ) (slot : Slot) (r r' : Progress) (fold : Fold) (found : Finding) (fault : Option LogEnd)
+    → IsReadSoFar R slot.head kind i slot.created r fold → ((h : ℕ) (es : List Placed) → Leads R h r es → Continues R h r' es found) → found ≡ End fault
+    → r.sup ≡ s → r'.sup ≡ s → r'.tail ≡ slot.tail → IsRead R s i kind slot fold r'.pages fault
+read_whole R s kind i slot r r' fold found fault so_far goes is p q t = record {
   entries = so_far.entries;
-  reads = subst (λ (z : Super × ℕ × List ℕ). Reads R z.0 slot.head z.1 so_far.entries z.2 read.fault) (λ k. (q k, t k, sym pages k))
+  reads = subst (λ (z : Super × ℕ). Reads R z.0 slot.head z.1 so_far.entries r'.pages fault) (λ k. (q k, t k))
       (subst (λ (f : Finding). Continues R slot.head r' so_far.entries f) is (goes slot.head so_far.entries so_far.leads));
   holds = subst (λ (n : Super). Holds n kind i slot.created so_far.entries fold) p so_far.holds;
 }

@@ -1,5 +1,5 @@
 -- The steps of a scan, with what is kept after each.
-use Rattle.std.proofs.Common.{◌≡◌, ◌∙◌, ℕ, ◌≢◌, ◌<◌, ◌+◌, ◌-◌, ◌^◌, ◌++◌, length, slice_index_or, true, false, List, [], ap, refl, sym, subst, append-nil, Option, Some, None, Result, Ok, Err, IsTrue, arith}
+use Rattle.std.proofs.Common.{◌≡◌, ◌∙◌, ℕ, ◌≢◌, ◌<◌, ◌+◌, ◌-◌, ◌^◌, ◌++◌, length, slice_index_or, true, false, List, [], ap, refl, sym, subst, append-nil, Option, Some, None, Result, Ok, Err, Vec, Global, IsTrue, arith}
 use Rattle.std.specs.Result.{OnOk}
 use Rattle.std.specs.Option.{MatchOption}
 use Rattle.std.specs.List.{cons_option}
@@ -12,6 +12,7 @@ use Rattle.nv_super.specs.declared.faults.Fault.TheVariants as faults
 use Rattle.nv_super.specs.Layout.{Layout, IsLayout, HasAreas, is_number, slot_address, fixed_layout}
 use Rattle.nv_inode.specs.declared.slot.Slot.{Slot}
 use Rattle.nv_inode.specs.Slot.{slot_at, kind_of, is_right_log}
+use Rattle.nv_logpage.specs.declared.found.LogEnd.{LogEnd}
 use Rattle.nv_logpage.specs.declared.found.Placed.{Placed}
 use Rattle.nv_radix.specs.Runs.{block_by}
 use Rattle.nv_scan.specs.ClaimList.{ClaimList}
@@ -23,12 +24,11 @@ use Rattle.nv_scan.specs.Kept.{Keeps, IsPieceBy}
 use Rattle.nv_scan.specs.Owners.{AreClaims}
 use Rattle.nv_scan.specs.Reading.{IsRead}
 use Rattle.nv_scan.specs.Rows.{IsRow, IsPiece}
-use Rattle.nv_scan.specs.Scanned.{fault_of_end, IsPieceOf, IsEmptyPiece}
+use Rattle.nv_scan.specs.Scanned.{AddsRow, fault_of_end, IsPieceOf, IsEmptyPiece}
 use Rattle.nv_scan.specs.declared.fold.Fold.{Fold}
 use Rattle.nv_scan.specs.declared.inodes.Inodes.{Inodes}
 use Rattle.nv_scan.specs.declared.piece.Row.{Row}
 use Rattle.nv_scan.specs.declared.piece.Piece.{Piece}
-use Rattle.nv_scan.specs.declared.reading.Read.{Read}
 use Rattle.nv_scan.proofs.Blocks.{data_pages}
 use Rattle.nv_scan.proofs.Existing.{vec_of, vec_items}
 use Rattle.nv_scan.proofs.Pieces.{slot_is, right_piece, wrong_piece, empty_piece}
@@ -42,17 +42,16 @@ holds_small s kind i created entries f areas h = λ p b e.
 
 -- ---- the piece of an inode with its number
 
-pub right_one : (R : Region) (s : Super) (i : ℕ) (kind : Kind) (slot : Slot) (fold : Fold) (read : Read) (fault : Option Fault) → IsLayout s → IsTrue (is_number s i)
-    → slot ≡ slot_at R (slot_address s i) → kind_of slot ≡ Some kind → is_right_log s slot.head slot.tail ≡ true → IsRead R s i kind slot fold read → fault ≡ fault_of_end i read.fault
-    → (p : Piece) → IsPieceOf i kind slot read.pages.items fold fault p → IsPieceBy R s i p
-right_one R s i kind slot fold read fault layout number words is_kind is_right r by p of =
-    (of.inode, right_piece R s i kind slot fold read p layout number words is_kind is_right r (subst (λ (f : Option Fault). IsPieceOf i kind slot read.pages.items fold f p) by of))
+pub right_one : (R : Region) (s : Super) (i : ℕ) (kind : Kind) (slot : Slot) (fold : Fold) (pages : List ℕ) (end : Option LogEnd) (fault : Option Fault) → IsLayout s → IsTrue (is_number s i)
+    → slot ≡ slot_at R (slot_address s i) → kind_of slot ≡ Some kind → is_right_log s slot.head slot.tail ≡ true → IsRead R s i kind slot fold pages end → fault ≡ fault_of_end i end
+    → (p : Piece) → IsPieceOf i kind slot pages fold fault p → IsPieceBy R s i p
+right_one R s i kind slot fold pages end fault layout number words is_kind is_right r by p of =
+    (of.inode, right_piece R s i kind slot fold pages end p layout number words is_kind is_right r (subst (λ (f : Option Fault). IsPieceOf i kind slot pages fold f p) by of))
 
-pub wrong_one : (R : Region) (s : Super) (i : ℕ) (kind : Kind) (slot : Slot) (fold : Fold) (pages : List ℕ) → IsLayout s → IsTrue (is_number s i)
-    → slot ≡ slot_at R (slot_address s i) → kind_of slot ≡ Some kind → is_right_log s slot.head slot.tail ≡ false → Holds s kind i slot.created [] fold → pages ≡ []
-    → (p : Piece) → IsPieceOf i kind slot pages fold (Some (faults.I3 i)) p → IsPieceBy R s i p
-wrong_one R s i kind slot fold pages layout number words is_kind is_wrong h none p of =
-    (of.inode, wrong_piece R s i kind slot fold p layout number words is_kind is_wrong h (subst (λ (ps : List ℕ). IsPieceOf i kind slot ps fold (Some (faults.I3 i)) p) none of))
+pub wrong_one : (R : Region) (s : Super) (i : ℕ) (kind : Kind) (slot : Slot) (fold : Fold) → IsLayout s → IsTrue (is_number s i)
+    → slot ≡ slot_at R (slot_address s i) → kind_of slot ≡ Some kind → is_right_log s slot.head slot.tail ≡ false → Holds s kind i slot.created [] fold
+    → (p : Piece) → IsPieceOf i kind slot [] fold (Some (faults.I3 i)) p → IsPieceBy R s i p
+wrong_one R s i kind slot fold layout number words is_kind is_wrong h p of = (of.inode, wrong_piece R s i kind slot fold p layout number words is_kind is_wrong h of)
 
 -- a slot that was never used
 pub unused_one : (R : Region) (s : Super) (i : ℕ) → IsLayout s → IsTrue (is_number s i) → kind_of (slot_at R (slot_address s i)) ≡ None → word R (slot_address s i) ≡ 0
@@ -87,10 +86,17 @@ pub keeps_more : {E : Type 0} {P Q : Piece → Type 0} (old new : Inodes) (claim
 keeps_more old new claims result more kept = on_ok_weaker result (λ k. record { piece = k.piece; is = more k.piece k.is; rows = k.rows; faults = k.faults; claims_are = k.claims_are }) kept
 
 -- a piece whose row and faults are kept
-pub keeps_row : {E : Type 0} (P : Piece → Type 0) (old new : Inodes) (piece : Piece) (result : Result (Unit {0}) E) → P piece → OnOk result (new.rows.items ≡ old.rows.items ++ cons_option piece.row [])
-    → OnOk result (new.faults.items ≡ old.faults.items ++ piece.faults.items) → OnOk result (Keeps P old new piece.claims)
-keeps_row P old new piece (Ok done) is rows faults = record { piece = piece; is = is; rows = rows; faults = faults; claims_are = refl }
-keeps_row P old new piece (Err e) is rows faults = tt
+pub keeps_row : {E : Type 0} (P : Piece → Type 0) (Q : Row → Type 0) (i : ℕ) (old new : Inodes) (claims : ClaimList) (faults : Vec Fault Global) (result : Result (Unit {0}) E)
+    → ((row : Row) → Q row → P (record { inode = i; row = Some row; claims = claims; faults = faults })) → OnOk result (AddsRow Q old.rows.items new.rows.items)
+    → OnOk result (new.faults.items ≡ old.faults.items ++ faults.items) → OnOk result (Keeps P old new claims)
+keeps_row P Q i old new claims faults (Ok done) piece added told = record {
+  piece = record { inode = i; row = Some added.row; claims = claims; faults = faults };
+  is = piece added.row added.is;
+  rows = added.rows;
+  faults = told;
+  claims_are = refl;
+}
+keeps_row P Q i old new claims faults (Err e) piece added told = tt
 
 -- fewer than can be told
 one_fault : (o : Option Fault) → length (cons_option o []) < 2 ^ 63

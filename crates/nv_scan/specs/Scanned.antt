@@ -1,5 +1,5 @@
 -- What is put together from a slot and its log.
-use Rattle.std.specs.Prelude.{◌≡◌, ℕ, ◌+◌, List, [], ◌++◌, Option, Some, None}
+use Rattle.std.specs.Prelude.{◌≡◌, ℕ, ◌+◌, List, [], ◌∷◌, ◌++◌, Option, Some, None}
 use Rattle.std.specs.List.{cons_option}
 use Rattle.nv_region.specs.Region.{Region, word}
 use Rattle.nv_super.specs.declared.kind.Kind.{Kind}
@@ -34,6 +34,12 @@ abbrev pub row_of : ℕ → Kind → Slot → List ℕ → Fold → Row → Type
 row_of i kind slot pages fold row =
     (row.inode ≡ i) × (row.kind ≡ kind) × (row.numbers ≡ fold.numbers) × (row.head ≡ slot.head) × (row.tail ≡ slot.tail)
     × (row.pages.items ≡ pages) × ((p : ℕ) → block_at row.index p ≡ block_by fold.extents p) × (row.names ≡ fold.names)
+
+-- A row of which this holds was put behind the others.
+pub record AddsRow (holds : Row → Type 0) (old new : List Row) : Type 0 where
+  pub row : Row
+  pub is : holds row
+  pub rows : new ≡ old ++ row ∷ []
 
 -- a piece of a slot in use: what its log says, and one fault more, if there is one
 pub record IsPieceOf (i : ℕ) (kind : Kind) (slot : Slot) (pages : List ℕ) (fold : Fold) (fault : Option Fault) (p : Piece) : Type 0 where

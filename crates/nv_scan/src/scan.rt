@@ -1,6 +1,6 @@
 //! One inode: its slot and its log become its row, the blocks that it claims and its faults.
 
-ghost use Rattle.std.specs.Prelude.{◌≡◌, ◌<◌, ◌++◌, ◌∷◌, [], ℕ, IfOk, IfSome, IsTrue, OnErr, OnOk, Some, false, true};
+ghost use Rattle.std.specs.Prelude.{◌≡◌, ◌<◌, ◌++◌, [], ℕ, IfOk, IfSome, IsTrue, OnErr, OnOk, Some, false, true};
 ghost use Rattle.nv_region.specs.Region.{HasBlocks};
 ghost use Rattle.nv_super.specs.Layout.{IsLayout, HasAreas, inode_limit, is_number, slot_address, fixed_layout};
 ghost use Rattle.nv_super.specs.Order.{Lists, owner_key};
@@ -9,10 +9,8 @@ ghost use Rattle.nv_radix.specs.Pages.{block_at};
 ghost use Rattle.nv_radix.specs.Runs.{block_by};
 ghost use Rattle.nv_logpage.specs.Progress.{at_head};
 ghost use Rattle.nv_scan.specs.Claims.{AreSmall, IsClaim};
-ghost use Rattle.nv_scan.specs.Reading.{IsRead};
-ghost use Rattle.nv_scan.specs.Fold.{Holds};
 ghost use Rattle.nv_scan.specs.Rows.{IsPiece};
-ghost use Rattle.nv_scan.specs.Scanned.{IsPieceOf, IsEmptyPiece, fault_of_end};
+ghost use Rattle.nv_scan.specs.Scanned.{AddsRow, IsPieceOf, IsEmptyPiece, fault_of_end, row_of};
 ghost use Rattle.nv_scan.specs.Tickets.{IsBlank, HasValidWord, number_at};
 ghost use Rattle.nv_scan.specs.Kept.{Keeps, KeepsFound, IsPieceBy, SameInodes};
 
@@ -21,16 +19,18 @@ use crate::fold::{Fold, push_fault};
 use crate::in_use::InUse;
 use crate::inodes::Inodes;
 use crate::piece::{LogPages, Piece, Row};
-use crate::reading::{Read, read_log};
+use crate::reading::read_log;
 use crate::tickets::number_at;
 use crate::touching::{touch_block, touch_numbers};
 use nv_inode::{Slot, SlotState, nth_slot, read_slot};
 use nv_logpage::{LogEnd, LogFault, LogReader};
+use nv_names::NameIndex;
 use nv_radix::{ExtentMap, FileIndex};
 use nv_region::Pmem;
 use nv_super::{Fault, Super};
 use std::alloc::{AllocError, Global};
 use std::marker::Model;
+use std::mem;
 
 /// Scans inodes one after another, with one reader for all their logs. It has a bit for each block of the region, made
 /// at the first log that is read; each later log costs what its own pages do.
@@ -220,55 +220,52 @@ fn scan_log<P: Pmem>(
     ensures kept { OnOk result (Keeps (IsPieceBy (P.region memory.now) sup.now used.now.inode) inodes.old inodes.new claims.new) }
     ensures refused { OnErr result (SameInodes inodes.old inodes.new) }
 {
-    let inode = used.inode;
-    let mut fold = Fold::new(alloc, used.slot.created);
     if used.slot.has_right_log(sup) {
-        let Read { pages, fault } = read_right_log(alloc, memory, sup, reader, used, &mut fold)?;
-        keep(
-            alloc,
-            used,
-            pages,
-            fold,
-            fault_of_end(inode, fault),
-            inodes,
-            claims,
-        )
+        go_to_head(alloc, sup, reader, &used.slot)?;
+        let Some(at_head) = reader else {
+            unreachable!()
+        };
+        scan_from_head(alloc, memory, sup, at_head, used, inodes, claims)
     } else {
-        let pages = LogPages::new(alloc);
-        keep(
-            alloc,
-            used,
-            pages,
-            fold,
-            Some(Fault::I3 { inode }),
-            inodes,
-            claims,
-        )
+        let mut fold = Fold::new(alloc, used.slot.created);
+        let fault = Fault::I3 { inode: used.inode };
+        keep(alloc, used, &[], &mut fold, Some(fault), inodes, claims)
     }
 }
 
-/// Reads a log whose head and tail are right, by the reader of the last log, or by a new one, which is kept.
-fn read_right_log<P: Pmem>(
+/// Scans an inode in use by a reader at the head of its log.
+fn scan_from_head<P: Pmem>(
     alloc: Global,
     memory: &P,
     sup: &Super,
-    reader: &mut Option<LogReader>,
+    reader: &mut LogReader,
     used: &InUse,
-    fold: &mut Fold,
-) -> Result<Read, AllocError>
-    requires areas { HasAreas sup.now }
+    inodes: &mut Inodes,
+    claims: &mut Claims,
+) -> Result<(), AllocError>
+    requires layout { IsLayout sup.now }
     requires blocks { HasBlocks (P.region memory.now) sup.now.blocks }
-    requires reader { IfSome reader.old (λ r. r.sup ≡ sup.now) }
+    requires number { IsTrue (is_number sup.now used.now.inode) }
+    requires slot { used.now.slot ≡ slot_at (P.region memory.now) (slot_address sup.now used.now.inode) }
+    requires kind { kind_of used.now.slot ≡ Some used.now.kind }
     requires right { is_right_log sup.now used.now.slot.head used.now.slot.tail ≡ true }
-    requires none { Holds sup.now used.now.kind used.now.inode used.now.slot.created [] fold.old }
-    ensures reader { IfSome reader.new (λ r. r.sup ≡ sup.now) }
-    ensures read { IfOk result (IsRead (P.region memory.now) sup.now used.now.inode used.now.kind used.now.slot fold.new) }
+    requires head { reader.old ≡ at_head sup.now used.now.slot.head used.now.slot.tail }
+    ensures reader { reader.new.sup ≡ sup.now }
+    ensures kept { OnOk result (Keeps (IsPieceBy (P.region memory.now) sup.now used.now.inode) inodes.old inodes.new claims.new) }
+    ensures refused { OnErr result (SameInodes inodes.old inodes.new) }
 {
-    go_to_head(alloc, sup, reader, &used.slot)?;
-    let Some(at_head) = reader else {
-        unreachable!()
-    };
-    read_log(alloc, memory, sup, at_head, used, fold)
+    let mut fold = Fold::new(alloc, used.slot.created);
+    let end = read_log(memory, sup, reader, used, &mut fold)?;
+    let fault = fault_of_end(used.inode, end);
+    keep(
+        alloc,
+        used,
+        reader.pages(),
+        &mut fold,
+        fault,
+        inodes,
+        claims,
+    )
 }
 
 /// Brings the reader to the head of a slot's log, whose head and tail are right. A new one is made where there is none.
@@ -308,19 +305,19 @@ fn fault_of_end(inode: u64, end: Option<LogEnd>) -> Option<Fault>
 fn keep(
     alloc: Global,
     used: &InUse,
-    pages: LogPages,
-    mut fold: Fold,
+    pages: &[u64],
+    fold: &mut Fold,
     fault: Option<Fault>,
     inodes: &mut Inodes,
     claims: &mut Claims,
 ) -> Result<(), AllocError>
-    requires { AreSmall (block_by fold.extents) }
-    ensures kept { OnOk result (Keeps (IsPieceOf used.now.inode used.now.kind used.now.slot pages.items fold fault) inodes.old inodes.new claims.new) }
+    requires { AreSmall (block_by fold.old.extents) }
+    ensures kept { OnOk result (Keeps (IsPieceOf used.now.inode used.now.kind used.now.slot pages.now fold.old fault) inodes.old inodes.new claims.new) }
     ensures refused { OnErr result (SameInodes inodes.old inodes.new) }
 {
     push_fault(&mut fold.faults, fault)?;
-    let index = closed(alloc, used.inode, &pages, &fold.extents, claims)?;
-    keep_row(used, pages, fold, index, inodes)
+    let index = closed(alloc, used.inode, pages, &fold.extents, claims)?;
+    keep_row(alloc, used, pages, fold, index, inodes)
 }
 
 /// The index of the pages that are left, which is made here, once. What the inode claims takes the place of the claims.
@@ -347,33 +344,29 @@ fn closed(
 // A call would copy the row's parts once more.
 #[inline(always)]
 fn keep_row(
+    alloc: Global,
     used: &InUse,
-    pages: LogPages,
-    fold: Fold,
+    pages: &[u64],
+    fold: &mut Fold,
     index: FileIndex,
     inodes: &mut Inodes,
 ) -> Result<(), AllocError>
-    ensures rows { OnOk result (inodes.new.rows.items ≡ inodes.old.rows.items ++ record { inode = used.now.inode; kind = used.now.kind; numbers = fold.numbers; head = used.now.slot.head; tail = used.now.slot.tail; pages = pages; index = index; names = fold.names } ∷ []) }
-    ensures faults { OnOk result (inodes.new.faults.items ≡ inodes.old.faults.items ++ fold.faults.items) }
+    requires index { (p : ℕ) → block_at index p ≡ block_by fold.old.extents p }
+    ensures rows { OnOk result (AddsRow (λ row. row_of used.now.inode used.now.kind used.now.slot pages.now fold.old row × (row.index ≡ index)) inodes.old.rows.items inodes.new.rows.items) }
+    ensures faults { OnOk result (inodes.new.faults.items ≡ inodes.old.faults.items ++ fold.old.faults.items) }
     ensures refused { OnErr result (SameInodes inodes.old inodes.new) }
 {
-    let Fold {
-        numbers,
-        extents: _,
-        names,
-        faults,
-    } = fold;
     let row = Row {
         inode: used.inode,
         kind: used.kind,
-        numbers,
+        numbers: fold.numbers,
         head: used.slot.head,
         tail: used.slot.tail,
-        pages,
+        pages: LogPages::from_slice(alloc, pages)?,
         index,
-        names,
+        names: mem::replace(&mut fold.names, NameIndex::new(alloc)),
     };
-    inodes.push(row, &faults)
+    inodes.push(row, &fold.faults)
 }
 
 /// Keeps the fault of an inode that isn't in use, if it has one. It claims nothing.

@@ -13,8 +13,8 @@ reading-init g c = record {
   so_far = rw c.requires.start (read_none _ _ _ _ _ _ _ _ c.requires.none);
 }
 
-pub reading-preserved-in_ok-take-in-Entry : goal.reading-preserved-in_ok-take-in-Entry
-reading-preserved-in_ok-take-in-Entry g c =
+pub reading-preserved-in-Continue-branch-4 : goal.reading-preserved-in-Continue-branch-4
+reading-preserved-in-Continue-branch-4 g c =
     let R = g.P.Pmem.region c.args.memory.now in
     let is = ap (finding_in R) c.in-Entry.is in
     let before : c.take_writes.new.reader.sup ≡ c.args.sup.now = c.take_writes.ensures.same_log.0 ∙ c.reading.invariant.sup in
@@ -36,7 +36,6 @@ returns-in-End-clause-read g c =
     read_whole R c.args.sup.now c.args.used.now.kind c.args.used.now.inode c.args.used.now.slot c.take_writes.new.reader c.next_light.new.self c.take_writes.new.fold (finding_in R _) _
     (c.in_ok-take_writes.ensures.read _ _ c.reading.invariant.so_far) c.in_ok-placed.ensures.leads is before (ap (λ (r : Progress). r.sup) moved ∙ before)
     (ap (λ (r : Progress). r.tail) moved ∙ c.take_writes.ensures.same_log.1 ∙ c.reading.invariant.tail)
-    (c.in_ok-from_slice-in-End.ensures.ok ∙ c.pages.ensures)
 
 pub returns-in-End-clause-reader : goal.returns-in-End-clause-reader
 returns-in-End-clause-reader g c = c.next_light.ensures.same_log.0 ∙ c.take_writes.ensures.same_log.0 ∙ c.reading.invariant.sup
@@ -58,9 +57,3 @@ returns-in_err-take-in-Entry-clause-read g c = IfOk-from_err c.from_residual-in_
 
 pub returns-in_err-take-in-Entry-clause-reader : goal.returns-in_err-take-in-Entry-clause-reader
 returns-in_err-take-in-Entry-clause-reader g c = c.next_light.ensures.same_log.0 ∙ c.take_writes.ensures.same_log.0 ∙ c.reading.invariant.sup
-
-pub returns-in_err-from_slice-in-End-clause-read : goal.returns-in_err-from_slice-in-End-clause-read
-returns-in_err-from_slice-in-End-clause-read g c = IfOk-from_err c.from_residual-in_err-from_slice-in-End.result _ c.from_residual-in_err-from_slice-in-End.ensures.0
-
-pub returns-in_err-from_slice-in-End-clause-reader : goal.returns-in_err-from_slice-in-End-clause-reader
-returns-in_err-from_slice-in-End-clause-reader g c = c.next_light.ensures.same_log.0 ∙ c.take_writes.ensures.same_log.0 ∙ c.reading.invariant.sup

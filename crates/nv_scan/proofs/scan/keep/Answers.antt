@@ -1,4 +1,4 @@
-use Rattle.std.proofs.Common.{subst, ℕ, List, refl, Some}
+use Rattle.std.proofs.Common.{subst, sym, ℕ, List, Option, refl, Some}
 use Rattle.std.proofs.lemmas.Result.{IfOk-from_err}
 use Rattle.nv_region.proofs.Told.{told_err}
 use Rattle.nv_super.specs.declared.owners.Owner.{Owner}
@@ -10,19 +10,14 @@ use Rattle.nv_scan.proofs.scan.keep.Goals as goal
 pub returns-clause-kept : goal.returns-clause-kept
 returns-clause-kept c =
     let used = c.args.used.now in
-    let fold = c.args.fold in
     let claims = c.closed.new.claims in
-    keeps_row _ c.args.inodes.now c.keep_row.new.inodes (record {
-      inode = used.inode;
-      row = Some (record { inode = used.inode; kind = used.kind; numbers = fold.numbers; head = used.slot.head; tail = used.slot.tail; pages = c.args.pages; index = c.in_ok-index.index; names = fold.names });
-      claims = claims;
-      faults = c.push_fault.new.faults;
-    }) c.keep_row.result (record {
+    keeps_row _ _ used.inode c.args.inodes.now c.keep_row.new.inodes claims c.push_fault.new.faults c.keep_row.result
+    (λ row is. record {
       inode = refl;
-      row = _;
+      row = row;
       has_row = refl;
-      is_row = (refl, refl, refl, refl, refl, refl, c.in_ok-index.ensures.index, refl);
-      claims = subst (λ (pages : List ℕ). Lists (λ (x : ℕ × Owner). owner_key x.1) (IsClaim used.inode pages c.in_ok-index.index) claims.items) c.deref.ensures c.in_ok-index.ensures.claims;
+      is_row = is.0;
+      claims = subst (λ (index : List (ℕ × Option ℕ)). Lists (λ (x : ℕ × Owner). owner_key x.1) (IsClaim used.inode c.args.pages.now index) claims.items) (sym is.1) c.in_ok-index.ensures.claims;
       faults = c.in_ok-push_fault.ensures.pushed;
     }) c.keep_row.ensures.rows c.keep_row.ensures.faults
 
