@@ -9,4 +9,4 @@ mod words;
 pub use permitted::is_journal_word;
 pub use slot::{LINK, Slot, SlotState};
 pub use tables::{nth_slot, slot_start};
-pub use words::{put_slot, read_slot, set_word, store_slot};
+pub use words::{put_slot, read_nth_slot, read_slot, set_word, store_slot};

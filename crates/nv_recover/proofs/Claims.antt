@@ -1,10 +1,9 @@
 -- The claims of all inodes.
-use Rattle.std.proofs.Common.{◌≡◌, ℕ, ◌+◌, ◌-◌, ◌<◌, ◌*◌, ◌==◌, cond, min, List, [], ◌∷◌, ◌++◌, length, get_or, refl, ap, sym, ◌∙◌, subst, arith, append-nil}
+use Rattle.std.proofs.Common.{◌≡◌, ℕ, ◌+◌, ◌-◌, ◌<◌, ◌*◌, ◌==◌, cond, min, List, [], ◌∷◌, length, get_or, refl, ap, sym, ◌∙◌, subst, arith}
 use Rattle.std.specs.Prelude.{Vec}
 use Rattle.std.specs.declared.alloc.Global.{Global}
 use Rattle.std.specs.List.{All, Contains}
 use Rattle.std.specs.List.Sorted.{IsPermutation}
-use Rattle.std.proofs.lemmas.Grind.{flat_map-append}
 use Rattle.std.proofs.lemmas.List.Sums.{sum_by-cons, sum_by-append}
 use Rattle.std.proofs.lemmas.List.Elements.{All-contains_itself}
 use Rattle.std.proofs.lemmas.List.Sorted.{Contains-permutation, IsPermutation-sym}
@@ -16,7 +15,6 @@ use Rattle.nv_super.specs.Owners.{claims_of}
 use Rattle.nv_claimcore.specs.Finished.{works_of}
 use Rattle.nv_claimcore.specs.Replay.{Inside, lists}
 use Rattle.nv_claimmap.specs.declared.map.Claimed.{Claimed}
-use Rattle.nv_scan.specs.ClaimList.{ClaimList}
 use Rattle.nv_scan.specs.Work.{claims_in}
 use Rattle.nv_scan.specs.declared.piece.Piece.{Piece}
 use Rattle.nv_scan.proofs.Owned.{owned_block}
@@ -24,15 +22,6 @@ use Rattle.nv_outcome.specs.Parts.{ArePieces, AreMaps}
 use Rattle.nv_super.proofs.Members.{from_map, into_flat}
 use Rattle.nv_outcome.proofs.Pieces.{claimed_owned}
 use Rattle.nv_recover.specs.Scanned.{AreWithin, AreClaimed, AreClaimedSets, all_claims}
-
--- the claims of one piece more
-pub claims_more : (ps : List Piece) (p : Piece) → claims_in (ps ++ p ∷ []) ≡ claims_in ps ++ p.claims.items
-claims_more ps p = flat_map-append (λ (q : Piece). q.claims.items) ps (p ∷ []) ∙ ap (λ (xs : List (ℕ × Owner)). claims_in ps ++ xs) (append-nil p.claims.items)
-
-pub claims_one_more : (ps : List Piece) (p : Piece) {now new list : List (ℕ × Owner)} {claims : ClaimList} → now ≡ claims_in ps → p.claims ≡ claims → list ≡ claims.items → new ≡ now ++ list → new ≡ claims_in (ps ++ p ∷ [])
-claims_one_more ps p {list = list} before are same is =
-    let its : list ≡ p.claims.items = same ∙ ap (λ (v : ClaimList). v.items) (sym are) in
-    is ∙ ((λ i. before i ++ its i) ∙ sym (claims_more ps p))
 
 module _ {R : Region} (s : Super) (pieces : List Piece) (scanned : ArePieces R (fixed_layout s) pieces) where
   pub claims_within : (claims : List (ℕ × Owner)) → IsPermutation (claims_in pieces) claims → AreWithin s claims

@@ -1,7 +1,7 @@
 -- Pieces in the order of inodes.
-use Rattle.std.proofs.Common.{◌≡◌, ℕ, zero, suc, ◌<◌, ◌≤◌, nat_lt, nat_cmp, Bool, true, false, cond, Some, None, List, [], ◌∷◌, ◌++◌, length, get_or, refl, ap, ◌∙◌, arith}
+use Rattle.std.proofs.Common.{◌≡◌, ℕ, zero, suc, ◌<◌, ◌≤◌, nat_lt, nat_cmp, Bool, true, false, cond, Some, None, List, [], ◌∷◌, ◌++◌, length, get_or, refl, ap, sym, subst, ◌∙◌, arith}
 use Rattle.std.specs.Ordering.{is_lt}
-use Rattle.std.specs.List.{flat_map, cons_option}
+use Rattle.std.specs.List.{flat_map, cons_option, range_with_len}
 use Rattle.std.specs.List.Sorted.{IsPermutation, IsSortedByKey}
 use native.Mathlib.Numerals.{add-one}
 use Rattle.std.proofs.lemmas.Bool.Decides.{nat_tests}
@@ -12,11 +12,14 @@ use Rattle.nv_super.specs.Layout.{IsLayout, fixed_layout}
 use Rattle.nv_claimcore.specs.Claims.{times, below}
 use Rattle.nv_scan.specs.Tickets.{ticket_count}
 use Rattle.nv_scan.specs.Work.{numbers_in, claims_in, ArePiecesOf}
+use Rattle.nv_scan.specs.declared.inodes.Inodes.{Inodes}
 use Rattle.nv_scan.specs.declared.piece.Row.{Row}
 use Rattle.nv_scan.specs.declared.piece.Piece.{Piece}
+use Rattle.nv_scan.proofs.Drawn.{all_times}
 use Rattle.nv_outcome.specs.Parts.{ArePieces, rows_in, faults_in}
 use Rattle.nv_outcome.proofs.Reordered.{flat_map_permutation}
 use Rattle.nv_outcome.proofs.Tickets.{claims_permute, tickets_cover}
+use Rattle.nv_recover.specs.Scanned.{AreFirst, AreInodes}
 
 module _ {A : Type 0} (n : A → ℕ) where
   -- ---- a list put in order
@@ -108,3 +111,16 @@ tickets_in_order R s tickets pieces layout are drawn =
       rows = rows_permute ps pieces back;
       faults = faults_permute ps pieces back;
     }
+
+-- The inodes of all tickets, in the order of inodes.
+pub first_in_order : {R : Region} {s : Super} {n : ℕ} {ps : List Piece} {x : Inodes} → IsLayout s → n ≡ ticket_count s → AreFirst R s n ps x → (order : AreInOrder R s ps) × AreInodes R s order.sorted x
+first_in_order {R} {s} {n} {ps} {x} layout all first =
+    let are = subst (λ (m : ℕ). ArePiecesOf R s (numbers_in s (range_with_len 0 m)) ps) all first.are in
+    let order = tickets_in_order R s (range_with_len 0 (ticket_count s)) ps layout are (all_times (ticket_count s)) in (
+      order,
+      record {
+        pieces_are = order.pieces_are;
+        rows = subst (IsPermutation (rows_in order.sorted)) (sym first.rows) order.rows;
+        faults = subst (IsPermutation (faults_in order.sorted)) (sym first.faults) order.faults;
+      },
+    )

@@ -1,8 +1,9 @@
 -- The blocks that are owned, and the claims of those with two owners or more.
 use Rattle.std.proofs.Common.{◌≡◌, ℕ, ◌*◌, ◌<◌, List, [], ◌∷◌, length, subst, arith}
 use Rattle.std.specs.List.{All, AllByRecursion}
+use Rattle.std.specs.List.Sorted.{IsPermutation}
 use Rattle.std.proofs.lemmas.List.Elements.{All-nil, All-append}
-use Rattle.std.proofs.lemmas.List.Sorted.{IsPermutation-refl}
+use Rattle.std.proofs.lemmas.List.Sorted.{IsPermutation-refl, IsPermutation-trans}
 use Rattle.nv_blockset.specs.BlockSet.{has}
 use Rattle.nv_region.specs.Region.{Region}
 use Rattle.nv_super.specs.declared.superblock.Super.{Super}
@@ -18,14 +19,11 @@ use Rattle.nv_outcome.specs.nv_check.Doubled.{AreDoubled}
 use Rattle.nv_recover.specs.declared.scanned.Owned.{Owned}
 use Rattle.nv_recover.specs.Scanned.{AreWithin, AreClaimed, AreOwned, AreSetsOf}
 
--- a piece claims blocks of the region
-pub piece_within : (R : Region) (s : Super) (p : Piece) → IsPiece R (fixed_layout s) p → AreWithin s p.claims.items
-piece_within R s p is = λ k d less. (claims_fit R (fixed_layout s) p.inode p.claims.items is.claims k d less).0
-
--- and so do many
-pieces_within : (R : Region) (s : Super) (pieces : List Piece) → AllByRecursion (IsPiece R (fixed_layout s)) pieces → AreWithin s (claims_in pieces)
+-- pieces claim blocks of the region
+pub pieces_within : (R : Region) (s : Super) (pieces : List Piece) → AllByRecursion (IsPiece R (fixed_layout s)) pieces → AreWithin s (claims_in pieces)
 pieces_within R s [] each = All-nil (λ (x : ℕ × Owner). x.0 < s.blocks)
-pieces_within R s (p ∷ ps) (here, each) = All-append (λ (x : ℕ × Owner). x.0 < s.blocks) p.claims.items (claims_in ps) (piece_within R s p here) (pieces_within R s ps each)
+pieces_within R s (p ∷ ps) (here, each) =
+    All-append (λ (x : ℕ × Owner). x.0 < s.blocks) p.claims.items (claims_in ps) (λ k d less. (claims_fit R (fixed_layout s) p.inode p.claims.items here.claims k d less).0) (pieces_within R s ps each)
 
 module _ {R : Region} {s : Super} {pieces : List Piece} {rows : List Row} {first second : List ℕ} where
   -- the sets of the same rows
@@ -54,6 +52,17 @@ module _ {R : Region} {s : Super} {pieces : List Piece} {rows : List Row} {first
     cover = rw same are.cover.0;
     doubled = doubled;
   }
+
+-- the same pieces in another order own the same
+pub owned_moved : (s : Super) (ps qs : List Piece) (o : Owned) → IsPermutation (claims_in ps) (claims_in qs) → AreOwned s qs o → AreOwned s ps o
+owned_moved s ps qs o moved are = record {
+  claims = are.claims;
+  second = are.second;
+  claimed = IsPermutation-trans (claims_in ps) (claims_in qs) are.claims moved are.claimed;
+  maps = are.maps;
+  cover = are.cover;
+  doubled = are.doubled;
+}
 
 -- what workers claimed is owned
 pub owned_claimed : (s : Super) (pieces : List Piece) (c : Claimed) (o : Owned) → AreClaimed s pieces c → o.blocks ≡ c.first → AreDoubled c.claims.items c.second.items o.doubled.items → AreOwned s pieces o

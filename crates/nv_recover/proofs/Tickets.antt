@@ -1,4 +1,4 @@
--- The tickets of a replay, one after another.
+-- The tickets, one after another.
 use Rattle.std.proofs.Common.{◌≡◌, ℕ, ◌+◌, List, [], ◌∷◌, ◌++◌, length, ap, sym, ◌∙◌, subst, append-nil, arith}
 use Rattle.std.specs.Prelude.{Vec}
 use Rattle.std.specs.declared.alloc.Global.{Global}
@@ -14,23 +14,37 @@ use Rattle.nv_scan.specs.Work.{numbers_in, ArePiecesOf, AreNext}
 use Rattle.nv_scan.proofs.Work.{behind, claims_join, rows_join, faults_join, pieces_none, pieces_join}
 use Rattle.nv_outcome.specs.Parts.{rows_in, faults_in}
 use Rattle.nv_scan.specs.declared.inodes.Inodes.{Inodes}
-use Rattle.nv_recover.specs.Scanned.{AreOfTickets, all_claims}
+use Rattle.nv_scan.specs.declared.piece.Piece.{Piece}
+use Rattle.nv_recover.specs.Scanned.{AreFirst, AreOfTickets, all_claims}
 
 module _ {R : Region} {s : Super} where
-  -- ---- the tickets
+  -- ---- the inodes of the tickets
 
-  pub tickets_none : {x : Inodes} {work : List (Vec (ℕ × Owner) Global)} → x.rows.items ≡ [] → x.faults.items ≡ [] → work ≡ [] → AreOfTickets R s [] x work
-  tickets_none rows faults none = record { pieces = []; are = pieces_none; rows = rows; faults = faults; lists_are = ap length none; claims_are = ap all_claims none }
+  pub first_none : {x : Inodes} → x.rows.items ≡ [] → x.faults.items ≡ [] → AreFirst R s 0 [] x
+  first_none rows faults = record { are = pieces_none; rows = rows; faults = faults }
 
-  pub tickets_more : (t : ℕ) {old new : Inodes} {work all : List (Vec (ℕ × Owner) Global)} (list : Vec (ℕ × Owner) Global) → AreOfTickets R s (range_with_len 0 t) old work
-      → AreNext R s (numbers_of s t) old new list.items → all ≡ work ++ list ∷ [] → AreOfTickets R s (range_with_len 0 (t + 1)) new all
-  tickets_more t {old} {new} {work} {all} list first next is = subst (λ (ts : List ℕ). AreOfTickets R s ts new all) (one_more 0 t) record {
-    pieces = first.pieces ++ next.pieces;
-    are = subst (λ (ns : List ℕ). ArePiecesOf R s ns (first.pieces ++ next.pieces)) (sym inodes) (pieces_join first.are next.are);
-    rows = behind [] (rows_in first.pieces) (rows_in next.pieces) first.rows next.rows (rows_join first.pieces next.pieces);
-    faults = behind [] (faults_in first.pieces) (faults_in next.pieces) first.faults next.faults (faults_join first.pieces next.pieces);
-    lists_are = ap length is ∙ length-append work (list ∷ []) ∙ ap (λ (n : ℕ). n + 1) first.lists_are ∙ sym (length-append (range_with_len 0 t) ((0 + t) ∷ []));
-    claims_are = ap all_claims is ∙ flat_map-append (λ (v : Vec (ℕ × Owner) Global). v.items) work (list ∷ []) ∙ (λ i. first.claims_are i ++ append-nil (next.claims_are i) i) ∙ sym (claims_join first.pieces next.pieces);
+  pub first_more : (t : ℕ) (ps : List Piece) {old new : Inodes} {claims : List (ℕ × Owner)} → AreFirst R s t ps old → (next : AreNext R s (numbers_of s t) old new claims) → AreFirst R s (t + 1) (ps ++ next.pieces) new
+  first_more t ps {old} {new} first next = record {
+    are = subst (λ (ns : List ℕ). ArePiecesOf R s ns (ps ++ next.pieces)) numbers (pieces_join first.are next.are);
+    rows = behind [] (rows_in ps) (rows_in next.pieces) first.rows next.rows (rows_join ps next.pieces);
+    faults = behind [] (faults_in ps) (faults_in next.pieces) first.faults next.faults (faults_join ps next.pieces);
   } where
-    inodes : numbers_in s (range_with_len 0 t ++ (0 + t) ∷ []) ≡ numbers_in s (range_with_len 0 t) ++ numbers_of s t
-    inodes = flat_map-append (numbers_of s) (range_with_len 0 t) ((0 + t) ∷ []) ∙ ap (λ (ns : List ℕ). numbers_in s (range_with_len 0 t) ++ ns) (append-nil (numbers_of s (0 + t)) ∙ ap (numbers_of s) (omega arith))
+    numbers : numbers_in s (range_with_len 0 t) ++ numbers_of s t ≡ numbers_in s (range_with_len 0 (t + 1))
+    numbers =
+        let last : numbers_of s (0 + t) ++ [] ≡ numbers_of s t = append-nil (numbers_of s (0 + t)) ∙ ap (numbers_of s) (omega arith) in
+        let joined = flat_map-append (numbers_of s) (range_with_len 0 t) ((0 + t) ∷ []) ∙ ap (λ (ns : List ℕ). numbers_in s (range_with_len 0 t) ++ ns) last in
+        sym joined ∙ ap (numbers_in s) (one_more 0 t)
+
+  -- ---- and a list of claims for each
+
+  pub tickets_none : {x : Inodes} {work : List (Vec (ℕ × Owner) Global)} → x.rows.items ≡ [] → x.faults.items ≡ [] → work ≡ [] → AreOfTickets R s 0 x work
+  tickets_none rows faults none = record { pieces = []; first = first_none rows faults; lists_are = ap length none; claims_are = ap all_claims none }
+
+  pub tickets_more : (t : ℕ) {old new : Inodes} {work all : List (Vec (ℕ × Owner) Global)} (list : Vec (ℕ × Owner) Global) → AreOfTickets R s t old work
+      → AreNext R s (numbers_of s t) old new list.items → all ≡ work ++ list ∷ [] → AreOfTickets R s (t + 1) new all
+  tickets_more t {old} {new} {work} {all} list so_far next is = record {
+    pieces = so_far.pieces ++ next.pieces;
+    first = first_more t so_far.pieces so_far.first next;
+    lists_are = ap length is ∙ length-append work (list ∷ []) ∙ ap (λ (n : ℕ). n + 1) so_far.lists_are;
+    claims_are = ap all_claims is ∙ flat_map-append (λ (v : Vec (ℕ × Owner) Global). v.items) work (list ∷ []) ∙ (λ i. so_far.claims_are i ++ append-nil (next.claims_are i) i) ∙ sym (claims_join so_far.pieces next.pieces);
+  }

@@ -36,21 +36,18 @@ pub record AreInodes (R : Region) (s : Super) (pieces : List Piece) (x : Inodes)
 abbrev pub all_claims : List (Vec (ℕ × Owner) Global) → List (ℕ × Owner)
 all_claims lists = flat_map (λ (v : Vec (ℕ × Owner) Global). v.items) lists
 
--- Pieces of the inodes of these tickets: kept are their rows and their faults, and a list of claims for each ticket.
-pub record AreOfTickets (R : Region) (s : Super) (tickets : List ℕ) (x : Inodes) (work : List (Vec (ℕ × Owner) Global)) : Type 0 where
-  pub pieces : List Piece
-  pub are : ArePiecesOf R s (numbers_in s tickets) pieces
+-- The pieces are those of the inodes of the first tickets, so many; kept are their rows and their faults.
+pub record AreFirst (R : Region) (s : Super) (tickets : ℕ) (pieces : List Piece) (x : Inodes) : Type 0 where
+  pub are : ArePiecesOf R s (numbers_in s (range_with_len 0 tickets)) pieces
   pub rows : x.rows.items ≡ rows_in pieces
   pub faults : x.faults.items ≡ faults_in pieces
-  pub lists_are : length work ≡ length tickets
-  pub claims_are : all_claims work ≡ claims_in pieces
 
--- The pieces are those of the inodes 1, 2, and so on up to this number, without it; kept are their rows and their faults.
-pub record AreFirst (R : Region) (s : Super) (number : ℕ) (pieces : List Piece) (x : Inodes) : Type 0 where
-  pub order : map (λ (p : Piece). p.inode) pieces ≡ range_with_len 1 (number - 1)
-  pub each : AllByRecursion (IsPiece R (fixed_layout s)) pieces
-  pub rows : x.rows.items ≡ rows_in pieces
-  pub faults : x.faults.items ≡ faults_in pieces
+-- Pieces of the inodes of the first tickets, with a list of claims for each ticket.
+pub record AreOfTickets (R : Region) (s : Super) (tickets : ℕ) (x : Inodes) (work : List (Vec (ℕ × Owner) Global)) : Type 0 where
+  pub pieces : List Piece
+  pub first : AreFirst R s tickets pieces x
+  pub lists_are : length work ≡ tickets
+  pub claims_are : all_claims work ≡ claims_in pieces
 
 -- Rows of numbers that an inode can have, no two of one inode.
 pub record AreApart (s : Super) (rows : List Row) : Type 0 where

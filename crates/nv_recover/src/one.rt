@@ -9,6 +9,8 @@ ghost use Rattle.nv_super.specs.Super.{IsSuper};
 ghost use Rattle.nv_super.specs.declared.superblock.Super.{Super as SuperValue};
 ghost use Rattle.nv_journal.specs.Undo.{undone};
 ghost use Rattle.nv_journal.specs.Undone.{AllQuiet};
+ghost use Rattle.std.specs.List.Sorted.{IsPermutation};
+ghost use Rattle.nv_scan.specs.Work.{claims_in};
 ghost use Rattle.nv_scan.specs.declared.piece.Piece.{Piece};
 ghost use Rattle.nv_outcome.specs.Outcome.{IsOutcome};
 ghost use Rattle.nv_recover.specs.declared.errors.RecoverError.TheVariants as errors;
@@ -24,7 +26,7 @@ use crate::sets::Sets;
 use crate::starting::start;
 use nv_outcome::{Recovered, cross_faults_one};
 use nv_region::Pmem;
-use nv_scan::{Claims, Inodes, Scanner};
+use nv_scan::{Inodes, Scanner, room_for_ticket, scan_slots, ticket_count};
 use nv_super::Super;
 use std::alloc::{AllocError, Global};
 
@@ -69,7 +71,7 @@ fn scan_all<P: Pmem>(alloc: Global, memory: &P, sup: &Super) -> Result<Scanned, 
     requires blocks { HasBlocks (P.region memory.now) sup.now.blocks }
     ensures { IfOk result (IsScanned (P.region memory.now) sup.now) }
 {
-    let (inodes, sets) = scan_in_order(alloc, memory, sup)?;
+    let (inodes, sets) = scan_tickets(alloc, memory, sup)?;
     let owned = sets.owned(alloc, sup, &inodes.rows)?;
     let cross = cross_faults_one(alloc, sup, &inodes.rows)?;
     Ok(Scanned {
@@ -79,23 +81,23 @@ fn scan_all<P: Pmem>(alloc: Global, memory: &P, sup: &Super) -> Result<Scanned, 
     })
 }
 
-// Scans each inode number, in rising order, and puts the blocks that it claims into the sets.
-fn scan_in_order<P: Pmem>(
+// Scans the inodes of one ticket after another, and puts the blocks that they claim into the sets.
+fn scan_tickets<P: Pmem>(
     alloc: Global,
     memory: &P,
     sup: &Super,
 ) -> Result<(Inodes, Sets), AllocError>
     requires layout { IsLayout sup.now }
     requires blocks { HasBlocks (P.region memory.now) sup.now.blocks }
-    ensures { IfOk result (λ r. (pieces : List Piece) × AreInodes (P.region memory.now) sup.now pieces r.0 × AreSetsOf (P.region memory.now) sup.now pieces r.0.rows.items r.1.first.items r.1.second.items) }
+    ensures { IfOk result (λ r. (pieces drawn : List Piece) × AreInodes (P.region memory.now) sup.now pieces r.0 × IsPermutation (claims_in pieces) (claims_in drawn) × AreSetsOf (P.region memory.now) sup.now drawn r.0.rows.items r.1.first.items r.1.second.items) }
 {
     let mut scanner = Scanner::new(alloc, sup);
     let mut inodes = Inodes::new(alloc);
-    let mut claims = Claims::new(alloc);
+    let mut each = room_for_ticket(alloc)?;
     let mut sets = Sets::new(alloc, sup)?;
-    for inode in 1..sup.max_inode() + 1 {
-        scanner.scan(memory, inode, &mut inodes, &mut claims)?;
-        sets.claim_all(&claims);
+    for ticket in 0..ticket_count(sup) {
+        let count = scan_slots(memory, &mut scanner, &mut inodes, &mut each, ticket)?;
+        sets.claim_each(&each[..count]);
     }
     Ok((inodes, sets))
 }

@@ -8,7 +8,7 @@ ghost use Rattle.nv_region.specs.Region.{Region};
 ghost use Rattle.nv_super.specs.declared.owners.Owner.{Owner as OwnerValue};
 ghost use Rattle.nv_super.specs.Layout.{IsLayout};
 ghost use Rattle.nv_scan.specs.Claims.{log_claims, run_claims, data_claims, IsSmall};
-ghost use Rattle.nv_scan.specs.Work.{claims_in};
+ghost use Rattle.nv_scan.specs.Work.{claims_among, claims_in};
 ghost use Rattle.nv_scan.specs.declared.piece.Piece.{Piece};
 ghost use Rattle.nv_outcome.specs.nv_check.Doubled.{AreDoubled};
 ghost use Rattle.nv_outcome.specs.Parts.{AreMaps};
@@ -43,8 +43,19 @@ impl Sets {
         })
     }
 
+    /// Puts the blocks of the claims of several inodes into the sets.
+    pub fn claim_each(&mut self, each: &[Claims])
+        requires within { All (Fits self.old.first.items self.old.second.items) (claims_among each.now) }
+        ensures maps { TakeIn (claims_among each.now) self.old.first.items self.old.second.items self.new.first.items self.new.second.items }
+        ensures as_long { (length self.new.first.items ≡ length self.old.first.items) × (length self.new.second.items ≡ length self.old.second.items) }
+    {
+        for claims in each {
+            self.claim_all(claims);
+        }
+    }
+
     /// Puts the blocks of these claims into the sets.
-    pub fn claim_all(&mut self, claims: &Claims)
+    fn claim_all(&mut self, claims: &Claims)
         requires within { All (Fits self.old.first.items self.old.second.items) claims.now.items }
         ensures maps { TakeIn claims.now.items self.old.first.items self.old.second.items self.new.first.items self.new.second.items }
         ensures as_long { (length self.new.first.items ≡ length self.old.first.items) × (length self.new.second.items ≡ length self.old.second.items) }

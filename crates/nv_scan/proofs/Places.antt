@@ -1,5 +1,5 @@
 -- The numbers of the inodes by the places of their slots: one number at each place, and each number at one.
-use Rattle.std.proofs.Common.{◌≡◌, inl, inr, ℕ, ◌+◌, ◌*◌, ◌/◌, ◌%◌, ◌<◌, ◌≤◌, IsTrue, ap, sym, ◌∙◌, arith}
+use Rattle.std.proofs.Common.{◌≡◌, inl, inr, ℕ, zero, suc, ◌+◌, ◌*◌, ◌/◌, ◌%◌, ◌<◌, ◌≤◌, IsTrue, ap, sym, ◌∙◌, arith}
 use Rattle.std.proofs.Math.Nat.{mul-le-mul_right}
 use Rattle.std.proofs.lemmas.Bool.Decides.{nat_tests}
 use Rattle.std.proofs.lemmas.Bool.{cases_eq}
@@ -8,7 +8,7 @@ use Rattle.nv_super.specs.declared.superblock.Super.{Super}
 use Rattle.nv_super.specs.Layout.{IsLayout, inode_limit, is_number, slot_address}
 use Rattle.nv_inode.specs.Slot.{nth_slot}
 use Rattle.nv_inode.proofs.Places.{place, slot_place}
-use Rattle.nv_inode.proofs.Slots.{row_below}
+use Rattle.nv_inode.proofs.Slots.{number_above, row_below}
 use Rattle.nv_scan.specs.Tickets.{ticket_count, number_at}
 
 -- ---- the place behind those of so many tickets
@@ -48,6 +48,11 @@ module _ (s : Super) (layout : IsLayout s) where
 
   pub number_first : number_at s 0 ≡ 0
   number_first = let some : 0 < inode_limit s = (let all : 32 * 1 * s.table_blocks ≤ 32 * s.cpus * s.table_blocks = mul-le-mul_right s.table_blocks (omega (arith, cpus_some)) in omega (arith, all, rows_some)) in ap (number_at s) (sym place_first) ∙ number_place 0 some
+
+  -- a number that an inode can have isn't at the first place
+  pub place_some : (m : ℕ) → IsTrue (is_number s (number_at s m)) → 0 < m
+  place_some zero number = let above = number_above s (number_at s 0) number in let first = number_first in absurd (omega (arith, above, first))
+  place_some (suc m) number = omega arith
 
   -- ---- the slot of the number at a place
 

@@ -33,4 +33,4 @@ pub use numbers::Numbers;
 pub use piece::{LogPages, Piece, Row};
 pub use scan::{Scanner, scan_slot};
 pub use tickets::{SLOTS, ticket_count};
-pub use working::{Gate, NoGate, WorkerResult, worker};
+pub use working::{Gate, NoGate, WorkerResult, room_for_ticket, scan_slots, worker};

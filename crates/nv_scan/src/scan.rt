@@ -11,7 +11,7 @@ ghost use Rattle.nv_logpage.specs.Progress.{at_head};
 ghost use Rattle.nv_scan.specs.Claims.{AreSmall, IsClaim};
 ghost use Rattle.nv_scan.specs.Rows.{IsPiece};
 ghost use Rattle.nv_scan.specs.Scanned.{AddsRow, IsPieceOf, IsEmptyPiece, fault_of_end, row_of};
-ghost use Rattle.nv_scan.specs.Tickets.{IsBlank, HasValidWord, number_at};
+ghost use Rattle.nv_scan.specs.Tickets.{IsBlank, HasValidWord, number_at, ticket_count};
 ghost use Rattle.nv_scan.specs.Kept.{Keeps, KeepsFound, IsPieceBy, SameInodes};
 
 use crate::claims::Claims;
@@ -21,8 +21,8 @@ use crate::inodes::Inodes;
 use crate::piece::{LogPages, Piece, Row};
 use crate::reading::read_log;
 use crate::tickets::number_at;
-use crate::touching::{touch_block, touch_numbers};
-use nv_inode::{Slot, SlotState, nth_slot, read_slot};
+use crate::touching::touch_ticket;
+use nv_inode::{Slot, SlotState, nth_slot, read_nth_slot, read_slot};
 use nv_logpage::{LogEnd, LogFault, LogReader};
 use nv_names::NameIndex;
 use nv_radix::{ExtentMap, FileIndex};
@@ -69,72 +69,28 @@ impl Scanner {
         }
     }
 
-    /// Scans one inode: the words of its slot, and each page of its log once. Its row, if it is in use, and its faults are put
-    /// behind those that are kept. What it claims takes the place of what is in `claims`, and its memory. More is taken for
-    /// the pages, the indexes and the faults, and not for the entries; and, at the first log, for the reader. It is quickest
-    /// where the numbers rise.
+    /// Touches the slots of a ticket's table block and the logs of their inodes, which are quicker to scan then. It changes
+    /// nothing.
+    // A caller that doesn't see into it can't leave the touching out.
+    #[inline(never)]
+    pub(crate) fn touch<P: Pmem>(&mut self, memory: &P, ticket: u64)
+        requires blocks { HasBlocks (P.region memory.now) self.old.blocks }
+        requires ticket { ticket < ticket_count self.old }
+        ensures { self.new ≡ self.old }
+    {
+        self.touched = touch_ticket(memory, &self.sup, ticket);
+    }
+
+    /// Scans the inode whose slot has this place in the tables: the words of its slot, and each page of its log once. Its
+    /// row, if it is in use, and its faults are put behind those that are kept. What it claims takes the place of what is in
+    /// `claims`, and its memory. More is taken for the pages, the indexes and the faults, and not for the entries; and, at
+    /// the first log, for the reader.
+    ///
+    /// It answers false where nothing is to be told of it: at the place of number 0, and where the valid word is 0, which is
+    /// all that is read of it then.
     ///
     /// Errors: `AllocError` where a growth was refused. What is kept stays as it was, of the claims nothing is said, and the
     /// scanner can be used on.
-    // A caller that doesn't see into it can't leave the touching out.
-    #[inline(never)]
-    pub fn scan<P: Pmem>(
-        &mut self,
-        memory: &P,
-        inode: u64,
-        inodes: &mut Inodes,
-        claims: &mut Claims,
-    ) -> Result<(), AllocError>
-        requires blocks { HasBlocks (P.region memory.now) self.old.blocks }
-        requires number { IsTrue (is_number self.old inode) }
-        ensures same { self.new ≡ self.old }
-        ensures kept { OnOk result (Keeps (IsPieceBy (P.region memory.now) self.old inode) inodes.old inodes.new claims.new) }
-        ensures refused { OnErr result (SameInodes inodes.old inodes.new) }
-    {
-        self.touched = touch_numbers(memory, &self.sup, inode);
-        self.scan_one(memory, inode, inodes, claims)
-    }
-
-    /// The same, where the inodes come in any order.
-    fn scan_one<P: Pmem>(
-        &mut self,
-        memory: &P,
-        inode: u64,
-        inodes: &mut Inodes,
-        claims: &mut Claims,
-    ) -> Result<(), AllocError>
-        requires blocks { HasBlocks (P.region memory.now) self.old.blocks }
-        requires number { IsTrue (is_number self.old inode) }
-        ensures same { self.new ≡ self.old }
-        ensures kept { OnOk result (Keeps (IsPieceBy (P.region memory.now) self.old inode) inodes.old inodes.new claims.new) }
-        ensures refused { OnErr result (SameInodes inodes.old inodes.new) }
-    {
-        let alloc = self.alloc;
-        let slot = read_slot(memory, &self.sup, inode);
-        match slot.state() {
-            SlotState::Unused => keep_fault(inode, None, inodes, claims),
-            SlotState::BadValid => keep_fault(inode, Some(Fault::I1 { inode }), inodes, claims),
-            SlotState::BadKind => keep_fault(inode, Some(Fault::I2 { inode }), inodes, claims),
-            SlotState::InUse(kind) => scan_log(
-                alloc,
-                memory,
-                &self.sup,
-                &mut self.reader,
-                &InUse { inode, kind, slot },
-                inodes,
-                claims,
-            ),
-        }
-    }
-
-    /// Scans the inode whose slot has this place in the tables, and keeps what it is. False where nothing is to be told of
-    /// it: at the place of number 0, and where the valid word is 0, which is all that is read of it then. At the first place
-    /// of a table block the logs of its inodes are touched.
-    ///
-    /// Errors: `AllocError` where a growth was refused. What is kept stays as it was, of the claims nothing is said, and the
-    /// scanner can be used on.
-    // A caller that doesn't see into it can't leave the touching out.
-    #[inline(never)]
     pub fn scan_place<P: Pmem>(
         &mut self,
         memory: &P,
@@ -148,13 +104,50 @@ impl Scanner {
         ensures kept { IfOk result (KeepsFound (P.region memory.now) self.old (number_at self.old place) inodes.old inodes.new claims.new) }
         ensures refused { OnErr result (SameInodes inodes.old inodes.new) }
     {
-        self.touched = touch_block(memory, &self.sup, place);
         if is_blank(memory, &self.sup, place) {
             return Ok(false);
         }
         let inode = number_at(&self.sup, place);
-        self.scan_one(memory, inode, inodes, claims)?;
+        let slot = read_nth_slot(memory, &self.sup, place);
+        self.scan_one(memory, inode, &slot, inodes, claims)?;
         Ok(true)
+    }
+
+    /// Scans the inode of this number, whose slot was read.
+    fn scan_one<P: Pmem>(
+        &mut self,
+        memory: &P,
+        inode: u64,
+        slot: &Slot,
+        inodes: &mut Inodes,
+        claims: &mut Claims,
+    ) -> Result<(), AllocError>
+        requires blocks { HasBlocks (P.region memory.now) self.old.blocks }
+        requires number { IsTrue (is_number self.old inode) }
+        requires slot { slot.now ≡ slot_at (P.region memory.now) (slot_address self.old inode) }
+        ensures same { self.new ≡ self.old }
+        ensures kept { OnOk result (Keeps (IsPieceBy (P.region memory.now) self.old inode) inodes.old inodes.new claims.new) }
+        ensures refused { OnErr result (SameInodes inodes.old inodes.new) }
+    {
+        let alloc = self.alloc;
+        match slot.state() {
+            SlotState::Unused => keep_fault(inode, None, inodes, claims),
+            SlotState::BadValid => keep_fault(inode, Some(Fault::I1 { inode }), inodes, claims),
+            SlotState::BadKind => keep_fault(inode, Some(Fault::I2 { inode }), inodes, claims),
+            SlotState::InUse(kind) => scan_log(
+                alloc,
+                memory,
+                &self.sup,
+                &mut self.reader,
+                &InUse {
+                    inode,
+                    kind,
+                    slot: *slot,
+                },
+                inodes,
+                claims,
+            ),
+        }
     }
 }
 
@@ -189,7 +182,8 @@ pub fn scan_slot<P: Pmem>(
 {
     let mut inodes = Inodes::new(alloc);
     let mut claims = Claims::new(alloc);
-    Scanner::new(alloc, sup).scan_one(memory, inode, &mut inodes, &mut claims)?;
+    let slot = read_slot(memory, sup, inode);
+    Scanner::new(alloc, sup).scan_one(memory, inode, &slot, &mut inodes, &mut claims)?;
     let Inodes { mut rows, faults } = inodes;
     Ok(Piece {
         inode,

@@ -3,70 +3,33 @@
 
 ghost use Rattle.std.specs.Prelude.{◌<◌};
 ghost use Rattle.nv_region.specs.Region.{HasBlocks};
-ghost use Rattle.nv_super.specs.Layout.{IsLayout, inode_limit};
+ghost use Rattle.nv_super.specs.Layout.{IsLayout};
+ghost use Rattle.nv_scan.specs.Tickets.{ticket_count};
 
-use crate::tickets::{SLOTS, number_at};
-use nv_inode::read_slot;
+use crate::tickets::SLOTS;
+use nv_inode::read_nth_slot;
 use nv_region::Pmem;
 use nv_super::Super;
 
 // The memory hands over so many bytes at once.
 const LINE_SIZE: u64 = 64;
 
-/// For a scan in the order of the numbers: at each number of so many, the logs of those from it on.
-pub(crate) fn touch_numbers<P: Pmem>(memory: &P, sup: &Super, inode: u64) -> u64
+/// The logs of the inodes whose slots stand in a ticket's table block. First it is seen where all of them begin, so that the
+/// loads of their words, which wait for nothing then, are under way together.
+pub(crate) fn touch_ticket<P: Pmem>(memory: &P, sup: &Super, ticket: u64) -> u64
     requires layout { IsLayout sup.now }
     requires blocks { HasBlocks (P.region memory.now) sup.now.blocks }
-{
-    if inode % SLOTS == 1 {
-        touch_logs(memory, sup, inode, 1)
-    } else {
-        0
-    }
-}
-
-/// For a scan in the order of the slots: at the first place of a table block, the logs of the block's inodes.
-pub(crate) fn touch_block<P: Pmem>(memory: &P, sup: &Super, place: u64) -> u64
-    requires layout { IsLayout sup.now }
-    requires blocks { HasBlocks (P.region memory.now) sup.now.blocks }
-    requires place { place < inode_limit sup.now }
-{
-    if place % SLOTS == 0 {
-        touch_logs(memory, sup, number_at(sup, place), sup.cpus)
-    } else {
-        0
-    }
-}
-
-/// The logs of as many inodes as a table block has, whose numbers stand a step apart. First it is seen where all of them
-/// begin, so that the loads of their words, which wait for nothing then, are under way together.
-fn touch_logs<P: Pmem>(memory: &P, sup: &Super, first: u64, step: u64) -> u64
-    requires layout { IsLayout sup.now }
-    requires blocks { HasBlocks (P.region memory.now) sup.now.blocks }
+    requires ticket { ticket < ticket_count sup.now }
 {
     let mut heads = [0; SLOTS as usize];
-    let mut inode = first;
-    for head in &mut heads {
-        *head = head_of(memory, sup, inode);
-        inode = inode.saturating_add(step);
+    for slot in 0..SLOTS {
+        heads[slot as usize] = read_nth_slot(memory, sup, SLOTS * ticket + slot).head;
     }
     let mut words = 0;
     for head in heads {
         words ^= first_lines(memory, sup, head);
     }
     words
-}
-
-/// Where the log of an inode begins by its slot, 0 where there is no such inode.
-fn head_of<P: Pmem>(memory: &P, sup: &Super, inode: u64) -> u64
-    requires layout { IsLayout sup.now }
-    requires blocks { HasBlocks (P.region memory.now) sup.now.blocks }
-{
-    if sup.is_number(inode) {
-        read_slot(memory, sup, inode).head
-    } else {
-        0
-    }
 }
 
 /// A word of each of the first two lines of a log, if a page begins there. Few logs of small files go on behind these.

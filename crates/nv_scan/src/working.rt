@@ -147,8 +147,11 @@ fn scan_ticket<P: Pmem>(
     claim_each(map, seat, &each[..count])
 }
 
-/// Scans the inodes of a ticket's table block, and answers how many are told of. Their claims take the first places.
-fn scan_slots<P: Pmem>(
+/// Scans the inodes of a ticket's table block, and answers how many are told of. Their rows and faults are put behind those
+/// that are kept, and their claims take the first places of the room for a ticket's.
+///
+/// Errors: `AllocError` where a growth was refused.
+pub fn scan_slots<P: Pmem>(
     memory: &P,
     scanner: &mut Scanner,
     inodes: &mut Inodes,
@@ -164,6 +167,7 @@ fn scan_slots<P: Pmem>(
     ensures count { IfOk result (λ count. count ≤ 32) }
     ensures next { IfOk result (λ count. AreNext (P.region memory.now) scanner.old (numbers_of scanner.old ticket) inodes.old inodes.new (claims_among (take count each.new.items))) }
 {
+    scanner.touch(memory, ticket);
     let mut count = 0;
     for slot in 0..SLOTS {
         let found = scanner.scan_place(memory, SLOTS * ticket + slot, inodes, &mut each[count])?;
@@ -175,7 +179,9 @@ fn scan_slots<P: Pmem>(
 }
 
 /// Room for the claims of a ticket's inodes.
-fn room_for_ticket(alloc: Global) -> Result<Vec<Claims>, AllocError>
+///
+/// Errors: `AllocError` where its memory was refused.
+pub fn room_for_ticket(alloc: Global) -> Result<Vec<Claims>, AllocError>
     ensures { IfOk result (λ each. length each.items ≡ 32) }
 {
     let mut each = Vec::with_capacity(alloc, SLOTS as usize)?;

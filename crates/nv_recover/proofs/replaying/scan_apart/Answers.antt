@@ -1,16 +1,11 @@
-use Rattle.std.proofs.Common.{◌≡◌, ◌<◌, ◌∙◌, ℕ, sym, subst}
-use Rattle.std.specs.List.{range_with_len}
+use Rattle.std.proofs.Common.{◌<◌, ◌∙◌, ℕ, sym, subst}
 use Rattle.std.specs.List.Sorted.{IsPermutation}
-use Rattle.std.proofs.lemmas.List.FromFn.{length-range_with_len}
 use Rattle.nv_region.specs.Region.{HasBlocks}
 use Rattle.nv_super.specs.declared.superblock.Super.{Super}
 use Rattle.nv_scan.specs.Tickets.{ticket_count, numbers_of}
 use Rattle.nv_scan.specs.Work.{claims_in, AreNext}
-use Rattle.nv_scan.proofs.Drawn.{all_times}
-use Rattle.nv_outcome.specs.Parts.{rows_in, faults_in}
-use Rattle.nv_recover.specs.Scanned.{AreOfTickets}
 use Rattle.nv_recover.proofs.Inodes.{ended_at}
-use Rattle.nv_recover.proofs.InOrder.{tickets_in_order}
+use Rattle.nv_recover.proofs.InOrder.{first_in_order}
 use Rattle.nv_recover.proofs.Tickets.{tickets_none, tickets_more}
 use Rattle.nv_recover.proofs.replaying.scan_apart.Goals as goal
 
@@ -33,26 +28,15 @@ loop-ticket-preserved g c =
 
 pub returns-clause-inodes : goal.returns-clause-inodes
 returns-clause-inodes g c =
-    let R = g.P.Pmem.region c.args.memory.now in
-    let s = c.args.sup.now in
     let l = c.loop-ticket in
-    let past = c.loop-ticket-test.false in
-    let last : l.ticket ≡ ticket_count s = ended_at c.ticket_count-ticket-end.ensures past l.auto.ticket-end in
-    let all = subst (λ (n : ℕ). AreOfTickets R s (range_with_len 0 n) l.inodes l.work.items) last l.invariant.first in
-    let order = tickets_in_order R s (range_with_len 0 (ticket_count s)) all.pieces c.requires.layout all.are (all_times (ticket_count s)) in (
-      order.sorted,
-      record {
-        pieces_are = order.pieces_are;
-        rows = subst (IsPermutation (rows_in order.sorted)) (sym all.rows) order.rows;
-        faults = subst (IsPermutation (faults_in order.sorted)) (sym all.faults) order.faults;
-      },
-      subst (IsPermutation (claims_in order.sorted)) (sym all.claims_are) order.claims,
-    )
+    let all = l.invariant.first in
+    let is = first_in_order c.requires.layout (ended_at c.ticket_count-ticket-end.ensures c.loop-ticket-test.false l.auto.ticket-end) all.first in
+    (is.0.sorted, is.1, subst (IsPermutation (claims_in is.0.sorted)) (sym all.claims_are) is.0.claims)
 
 pub returns-clause-tickets : goal.returns-clause-tickets
 returns-clause-tickets g c =
     let l = c.loop-ticket in
-    l.invariant.first.lists_are ∙ length-range_with_len 0 l.ticket ∙ ended_at c.ticket_count-ticket-end.ensures c.loop-ticket-test.false l.auto.ticket-end
+    l.invariant.first.lists_are ∙ ended_at c.ticket_count-ticket-end.ensures c.loop-ticket-test.false l.auto.ticket-end
 
 pub scan_ticket-requires-clause-blocks : goal.scan_ticket-requires-clause-blocks
 scan_ticket-requires-clause-blocks g c = subst (λ (s : Super). HasBlocks (g.P.Pmem.region c.args.memory.now) s.blocks) (sym c.loop-ticket.invariant.same) c.requires.blocks

@@ -1,10 +1,9 @@
 use Rattle.std.proofs.Common.{◌≡◌}
-use Rattle.std.specs.List.{range_with_len}
 use Rattle.nv_recover.specs.Scanned.{AreOfTickets}
 use Rattle.nv_recover.proofs.replaying.scan_apart.Given as goal
 
 abbrev pub invariant-loop-ticket : goal.invariant-loop-ticket
 invariant-loop-ticket g l = record {
   same : l.scanner ≡ l.sup;
-  first : AreOfTickets (g.P.Pmem.region l.memory) l.sup (range_with_len 0 l.ticket) l.inodes l.work.items;
+  first : AreOfTickets (g.P.Pmem.region l.memory) l.sup l.ticket l.inodes l.work.items;
 }

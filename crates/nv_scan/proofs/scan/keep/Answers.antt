@@ -1,4 +1,4 @@
-use Rattle.std.proofs.Common.{subst, sym, ℕ, List, Option, refl, Some}
+use Rattle.std.proofs.Common.{subst, sym, ℕ, List, Option, refl}
 use Rattle.std.proofs.lemmas.Result.{IfOk-from_err}
 use Rattle.nv_region.proofs.Told.{told_err}
 use Rattle.nv_super.specs.declared.owners.Owner.{Owner}

@@ -1,6 +1,5 @@
 use Rattle.std.proofs.Common.{refl}
-use Rattle.std.proofs.lemmas.Result.{IfOk-from_err, on_ok_weaker}
-use Rattle.nv_region.proofs.Told.{told_err}
+use Rattle.std.proofs.lemmas.Result.{on_ok_weaker}
 use Rattle.nv_scan.proofs.scan.keep_row.Goals as goal
 
 pub returns-clause-rows : goal.returns-clause-rows

@@ -1,0 +1,79 @@
+use Rattle.std.proofs.Common.{◌≤◌, ◌<◌, ◌*◌, ◌++◌, [], ℕ, List, take, sym, ap, ◌∙◌, subst}
+use Rattle.std.specs.List.{All}
+use Rattle.nv_region.specs.Region.{HasBlocks}
+use Rattle.nv_super.specs.declared.superblock.Super.{Super}
+use Rattle.nv_super.specs.declared.owners.Owner.{Owner}
+use Rattle.nv_super.specs.Layout.{IsLayout}
+use Rattle.nv_scan.specs.ClaimList.{ClaimList}
+use Rattle.nv_scan.specs.Tickets.{ticket_count, numbers_of}
+use Rattle.nv_scan.specs.Work.{AreNext, claims_among, claims_in}
+use Rattle.nv_scan.proofs.Work.{claims_join}
+use Rattle.nv_outcome.specs.Parts.{AreMaps}
+use Rattle.nv_recover.specs.Scanned.{AreWithin, Fits}
+use Rattle.nv_recover.proofs.Inodes.{ended_at}
+use Rattle.nv_recover.proofs.InOrder.{first_in_order}
+use Rattle.nv_recover.proofs.MadeMaps.{within_cover}
+use Rattle.nv_recover.proofs.Owned.{pieces_within}
+use Rattle.nv_recover.proofs.Tickets.{first_none, first_more}
+use Rattle.nv_recover.proofs.one.scan_tickets.Goals as goal
+
+pub loop-ticket-init : goal.loop-ticket-init
+loop-ticket-init g c = record {
+  same = c.new-scanner.ensures;
+  room = c.in_ok-each.ensures;
+  first = ([], first_none c.new-inodes.ensures.rows c.new-inodes.ensures.faults, c.in_ok-sets.ensures.maps);
+  cover = c.in_ok-sets.ensures.cover;
+}
+
+pub scan_slots-requires-clause-layout : goal.scan_slots-requires-clause-layout
+scan_slots-requires-clause-layout g c = subst IsLayout (sym c.loop-ticket.invariant.same) c.requires.layout
+
+pub scan_slots-requires-clause-blocks : goal.scan_slots-requires-clause-blocks
+scan_slots-requires-clause-blocks g c = subst (λ (s : Super). HasBlocks (g.P.Pmem.region c.args.memory.now) s.blocks) (sym c.loop-ticket.invariant.same) c.requires.blocks
+
+pub scan_slots-requires-clause-ticket : goal.scan_slots-requires-clause-ticket
+scan_slots-requires-clause-ticket g c =
+    let t = c.loop-ticket.ticket in
+    subst (λ (s : Super). t < ticket_count s) (sym c.loop-ticket.invariant.same) (subst (λ (n : ℕ). t < n) c.ticket_count-ticket-end.ensures c.loop-ticket-test.true)
+
+pub claim_each-requires : goal.claim_each-requires
+claim_each-requires g c =
+    let R = g.P.Pmem.region c.args.memory.now in
+    let s = c.args.sup.now in
+    let l = c.loop-ticket in
+    let n = c.in_ok-count.count in
+    let first = l.sets.first.items in
+    let second = l.sets.second.items in
+    let own = claims_among (take n c.scan_slots.new.each.items) in
+    let next = subst (λ (x : Super). AreNext R x (numbers_of x l.ticket) l.inodes c.scan_slots.new.inodes own) l.invariant.same c.in_ok-count.ensures.next in
+    let within = subst (AreWithin s) (sym next.claims_are) (pieces_within R s next.pieces next.are.each) in
+    record { within = subst (λ (each : List ClaimList). All (Fits first second) (claims_among (take n each))) (sym c.deref.ensures.value) (within_cover s.blocks own first second within l.invariant.cover.0 l.invariant.cover.1) }
+
+pub loop-ticket-preserved : goal.loop-ticket-preserved
+loop-ticket-preserved g c =
+    let R = g.P.Pmem.region c.args.memory.now in
+    let s = c.args.sup.now in
+    let l = c.loop-ticket in
+    let n = c.in_ok-count.count in
+    let own = claims_among (take n c.scan_slots.new.each.items) in
+    let next = subst (λ (x : Super). AreNext R x (numbers_of x l.ticket) l.inodes c.scan_slots.new.inodes own) l.invariant.same c.in_ok-count.ensures.next in
+    let pieces = l.invariant.first.0 in
+    let claims = ap (λ (each : List ClaimList). claims_in pieces ++ claims_among (take n each)) c.deref.ensures.value ∙ ap (λ (cs : List (ℕ × Owner)). claims_in pieces ++ cs) next.claims_are ∙ sym (claims_join pieces next.pieces) in
+    let long = c.claim_each.ensures.as_long in
+    let cover = l.invariant.cover in record {
+      same = c.scan_slots.ensures.scanner ∙ l.invariant.same;
+      room = c.scan_slots.ensures.room;
+      first = (
+        pieces ++ next.pieces,
+        first_more l.ticket pieces l.invariant.first.1 next,
+        subst (λ (claims : List (ℕ × Owner)). AreMaps claims c.claim_each.new.self.first.items c.claim_each.new.self.second.items) claims (c.claim_each.ensures.maps (claims_in pieces) l.invariant.first.2),
+      );
+      cover = (subst (λ (n : ℕ). s.blocks ≤ 64 * n) (sym long.0) cover.0, subst (λ (n : ℕ). s.blocks ≤ 64 * n) (sym long.1) cover.1);
+    }
+
+pub returns : goal.returns
+returns g c =
+    let l = c.loop-ticket in
+    let first = l.invariant.first.1 in
+    let is = first_in_order c.requires.layout (ended_at c.ticket_count-ticket-end.ensures c.loop-ticket-test.false l.auto.ticket-end) first in
+    (is.0.sorted, l.invariant.first.0, is.1, is.0.claims, record { each = first.are.each; rows_are = first.rows; maps = l.invariant.first.2; cover = l.invariant.cover })

@@ -1,0 +1,14 @@
+use Rattle.std.proofs.Common.{◌≡◌, List, length}
+use Rattle.nv_scan.specs.Work.{claims_in}
+use Rattle.nv_scan.specs.declared.piece.Piece.{Piece}
+use Rattle.nv_outcome.specs.Parts.{AreMaps}
+use Rattle.nv_recover.specs.Scanned.{AreFirst, Cover}
+use Rattle.nv_recover.proofs.one.scan_tickets.Given as goal
+
+abbrev pub invariant-loop-ticket : goal.invariant-loop-ticket
+invariant-loop-ticket g l = record {
+  same : l.scanner ≡ l.sup;
+  room : length l.each.items ≡ 32;
+  first : (pieces : List Piece) × AreFirst (g.P.Pmem.region l.memory) l.sup l.ticket pieces l.inodes × AreMaps (claims_in pieces) l.sets.first.items l.sets.second.items;
+  cover : Cover l.sup l.sets.first.items l.sets.second.items;
+}
