@@ -95,25 +95,25 @@ impl ExtentMap {
         Ok(())
     }
 
-    /// The index of the same map, and its longest extents, rising, in place of what the list had, whose room is used
-    /// again.
+    /// Maps the same pages in an index that maps none. Its longest extents, rising, take the place of what the list had,
+    /// whose room is used again.
     ///
-    /// Errors: `AllocError` where a growth was refused; of the list nothing is said then.
-    pub fn to_index(
+    /// Errors: `AllocError` where a growth was refused; of the index and the list nothing is said then.
+    pub fn fill_index(
         &self,
-        alloc: Global,
+        index: &mut FileIndex,
         extents: &mut Vec<Extent>,
-    ) -> Result<FileIndex, AllocError>
-        ensures index { IfOk result (λ index. (p : ℕ) → block_at index p ≡ block_by self.now p) }
-        ensures extents { IfOk result (λ index. AreExtents index extents.new.items) }
+    ) -> Result<(), AllocError>
+        requires none { (p : ℕ) → block_at index.old p ≡ None }
+        ensures index { OnOk result ((p : ℕ) → block_at index.new p ≡ block_by self.now p) }
+        ensures extents { OnOk result (AreExtents index.new extents.new.items) }
     {
-        let mut index = self.runs.to_index(alloc, extents)?;
+        self.runs.fill_index(index, extents)?;
         if !self.front.is_ready(0) {
-            return Ok(index);
+            return Ok(());
         }
-        put_leaf(&mut index, &self.front)?;
-        index.runs_into(extents)?;
-        Ok(index)
+        put_leaf(index, &self.front)?;
+        index.runs_into(extents)
     }
 }
 

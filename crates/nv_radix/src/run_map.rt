@@ -104,24 +104,24 @@ impl RunMap {
         self.end
     }
 
-    /// The index of the same map, and its longest extents, in place of what the list had.
-    pub fn to_index(
+    /// Maps the same pages in an index that maps none. Its longest extents take the place of what the list had.
+    pub fn fill_index(
         &self,
-        alloc: Global,
+        index: &mut FileIndex,
         extents: &mut Vec<Extent>,
-    ) -> Result<FileIndex, AllocError>
-        ensures index { IfOk result (λ index. (p : ℕ) → block_at index p ≡ block_by self.now p) }
-        ensures extents { IfOk result (λ index. AreExtents index extents.new.items) }
+    ) -> Result<(), AllocError>
+        requires none { (p : ℕ) → block_at index.old p ≡ None }
+        ensures index { OnOk result ((p : ℕ) → block_at index.new p ≡ block_by self.now p) }
+        ensures extents { OnOk result (AreExtents index.new extents.new.items) }
     {
         extents.clear();
-        let mut index = FileIndex::new(alloc);
         for (page, blocks) in &self.runs {
-            put_run(&mut index, extents, *page, *blocks)?;
+            put_run(index, extents, *page, *blocks)?;
         }
         if self.last.count > 0 {
-            put_run(&mut index, extents, self.page, self.last)?;
+            put_run(index, extents, self.page, self.last)?;
         }
-        Ok(index)
+        Ok(())
     }
 }
 

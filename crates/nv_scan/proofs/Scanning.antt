@@ -1,8 +1,10 @@
 -- The steps of a scan, with what is kept after each.
-use Rattle.std.proofs.Common.{◌≡◌, ◌∙◌, ℕ, ◌≢◌, ◌<◌, ◌+◌, ◌-◌, ◌^◌, ◌++◌, length, slice_index_or, true, false, List, [], ap, refl, sym, subst, append-nil, Option, Some, None, Result, Ok, Err, Vec, Global, IsTrue, arith}
+use Rattle.std.proofs.Common.{◌≡◌, ◌∙◌, ℕ, ◌≢◌, ◌<◌, ◌+◌, ◌-◌, ◌^◌, ◌++◌, length, slice_index_or, true, false, List, [], ◌∷◌, ap, refl, sym, subst, append-nil, Option, Some, None, Result, IsTrue, arith}
 use Rattle.std.specs.Result.{OnOk}
 use Rattle.std.specs.Option.{MatchOption}
 use Rattle.std.specs.List.{cons_option}
+use Rattle.std.proofs.Math.ListN.{set}
+use Rattle.std.proofs.Math.Seq.{set-append_seam, get_or-append_seam}
 use Rattle.std.proofs.lemmas.Result.{on_ok_weaker}
 use Rattle.nv_region.specs.Region.{Region, word}
 use Rattle.nv_super.specs.declared.superblock.Super.{Super}
@@ -24,7 +26,7 @@ use Rattle.nv_scan.specs.Kept.{Keeps, IsPieceBy}
 use Rattle.nv_scan.specs.Owners.{AreClaims}
 use Rattle.nv_scan.specs.Reading.{IsRead}
 use Rattle.nv_scan.specs.Rows.{IsRow, IsPiece}
-use Rattle.nv_scan.specs.Scanned.{AddsRow, fault_of_end, IsPieceOf, IsEmptyPiece}
+use Rattle.nv_scan.specs.Scanned.{fault_of_end, IsPieceOf, IsEmptyPiece}
 use Rattle.nv_scan.specs.declared.fold.Fold.{Fold}
 use Rattle.nv_scan.specs.declared.inodes.Inodes.{Inodes}
 use Rattle.nv_scan.specs.declared.piece.Row.{Row}
@@ -85,18 +87,13 @@ bad_kind_one R s i layout number no_kind valid p e = (
 pub keeps_more : {E : Type 0} {P Q : Piece → Type 0} (old new : Inodes) (claims : ClaimList) (result : Result (Unit {0}) E) → ((p : Piece) → P p → Q p) → OnOk result (Keeps P old new claims) → OnOk result (Keeps Q old new claims)
 keeps_more old new claims result more kept = on_ok_weaker result (λ k. record { piece = k.piece; is = more k.piece k.is; rows = k.rows; faults = k.faults; claims_are = k.claims_are }) kept
 
--- a piece whose row and faults are kept
-pub keeps_row : {E : Type 0} (P : Piece → Type 0) (Q : Row → Type 0) (i : ℕ) (old new : Inodes) (claims : ClaimList) (faults : Vec Fault Global) (result : Result (Unit {0}) E)
-    → ((row : Row) → Q row → P (record { inode = i; row = Some row; claims = claims; faults = faults })) → OnOk result (AddsRow Q old.rows.items new.rows.items)
-    → OnOk result (new.faults.items ≡ old.faults.items ++ faults.items) → OnOk result (Keeps P old new claims)
-keeps_row P Q i old new claims faults (Ok done) piece added told = record {
-  piece = record { inode = i; row = Some added.row; claims = claims; faults = faults };
-  is = piece added.row added.is;
-  rows = added.rows;
-  faults = told;
-  claims_are = refl;
-}
-keeps_row P Q i old new claims faults (Err e) piece added told = tt
+-- the last row, once it was put behind the others
+pub last_row : (pushed rows : List Row) (row at : Row) {n : ℕ} → pushed ≡ rows ++ row ∷ [] → n ≡ length rows → at ≡ slice_index_or pushed n at → at ≡ row
+last_row pushed rows row at is end value = value ∙ (λ i. slice_index_or (is i) (end i) at) ∙ get_or-append_seam rows row [] at
+
+-- and with another in its place
+pub last_set : (pushed rows : List Row) (row new : Row) {n : ℕ} → pushed ≡ rows ++ row ∷ [] → n ≡ length rows → set pushed n new ≡ rows ++ new ∷ []
+last_set pushed rows row new is end = (λ i. set (is i) (end i) new) ∙ set-append_seam rows row [] new
 
 -- fewer than can be told
 one_fault : (o : Option Fault) → length (cons_option o []) < 2 ^ 63

@@ -1,5 +1,5 @@
 -- What is put together from a slot and its log.
-use Rattle.std.specs.Prelude.{◌≡◌, ℕ, ◌+◌, List, [], ◌∷◌, ◌++◌, Option, Some, None}
+use Rattle.std.specs.Prelude.{◌≡◌, ℕ, ◌+◌, List, [], ◌++◌, Option, Some, None}
 use Rattle.std.specs.List.{cons_option}
 use Rattle.nv_region.specs.Region.{Region, word}
 use Rattle.nv_super.specs.declared.kind.Kind.{Kind}
@@ -14,7 +14,9 @@ use Rattle.nv_logpage.specs.declared.found.LogFault.TheVariants as logs
 use Rattle.nv_radix.specs.Pages.{block_at}
 use Rattle.nv_radix.specs.Runs.{block_by}
 use Rattle.nv_scan.specs.Claims.{IsClaim}
+use Rattle.nv_scan.specs.ClaimList.{ClaimList}
 use Rattle.nv_scan.specs.declared.fold.Fold.{Fold}
+use Rattle.nv_scan.specs.declared.in_use.InUse.{InUse}
 use Rattle.nv_scan.specs.declared.piece.Row.{Row}
 use Rattle.nv_scan.specs.declared.piece.Piece.{Piece}
 
@@ -29,17 +31,23 @@ abbrev pub fault_of_end : ℕ → Option LogEnd → Option Fault
 fault_of_end i None = None
 fault_of_end i (Some e) = Some (fault_by i e.fault e.at)
 
+-- the row of an inode in use, with what its log says, but for the pages
+abbrev pub IsRowOf : InUse → Fold → Row → Type 0
+IsRowOf used fold row =
+    (row.inode ≡ used.inode) × (row.kind ≡ used.kind) × (row.numbers ≡ fold.numbers) × (row.head ≡ used.slot.head) × (row.tail ≡ used.slot.tail) × (row.names ≡ fold.names)
+
+-- A row without pages has them now: those of its log, and those of its file. The claims are those of its inode.
+pub record IsFilled (pages : List ℕ) (blocks : ℕ → Option ℕ) (old new : Row) (claims : ClaimList) : Type 0 where
+  pub same : (new.inode ≡ old.inode) × (new.kind ≡ old.kind) × (new.numbers ≡ old.numbers) × (new.head ≡ old.head) × (new.tail ≡ old.tail) × (new.names ≡ old.names)
+  pub pages_are : new.pages.items ≡ pages
+  pub index : (p : ℕ) → block_at new.index p ≡ blocks p
+  pub claims_are : Lists (λ (x : ℕ × Owner). owner_key x.1) (IsClaim new.inode pages new.index) claims.items
+
 -- the row of a slot in use, with what its log says
 abbrev pub row_of : ℕ → Kind → Slot → List ℕ → Fold → Row → Type 0
 row_of i kind slot pages fold row =
     (row.inode ≡ i) × (row.kind ≡ kind) × (row.numbers ≡ fold.numbers) × (row.head ≡ slot.head) × (row.tail ≡ slot.tail)
     × (row.pages.items ≡ pages) × ((p : ℕ) → block_at row.index p ≡ block_by fold.extents p) × (row.names ≡ fold.names)
-
--- A row of which this holds was put behind the others.
-pub record AddsRow (holds : Row → Type 0) (old new : List Row) : Type 0 where
-  pub row : Row
-  pub is : holds row
-  pub rows : new ≡ old ++ row ∷ []
 
 -- a piece of a slot in use: what its log says, and one fault more, if there is one
 pub record IsPieceOf (i : ℕ) (kind : Kind) (slot : Slot) (pages : List ℕ) (fold : Fold) (fault : Option Fault) (p : Piece) : Type 0 where

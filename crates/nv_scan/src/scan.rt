@@ -3,14 +3,13 @@
 ghost use Rattle.std.specs.Prelude.{◌≡◌, ◌<◌, ◌++◌, [], ℕ, IfOk, IfSome, IsTrue, OnErr, OnOk, Some, false, true};
 ghost use Rattle.nv_region.specs.Region.{HasBlocks};
 ghost use Rattle.nv_super.specs.Layout.{IsLayout, HasAreas, inode_limit, is_number, slot_address, fixed_layout};
-ghost use Rattle.nv_super.specs.Order.{Lists, owner_key};
 ghost use Rattle.nv_inode.specs.Slot.{slot_at, kind_of, is_right_log};
 ghost use Rattle.nv_radix.specs.Pages.{block_at};
 ghost use Rattle.nv_radix.specs.Runs.{block_by};
 ghost use Rattle.nv_logpage.specs.Progress.{at_head};
-ghost use Rattle.nv_scan.specs.Claims.{AreSmall, IsClaim};
+ghost use Rattle.nv_scan.specs.Claims.{AreSmall};
 ghost use Rattle.nv_scan.specs.Rows.{IsPiece};
-ghost use Rattle.nv_scan.specs.Scanned.{AddsRow, IsPieceOf, IsEmptyPiece, fault_of_end, row_of};
+ghost use Rattle.nv_scan.specs.Scanned.{IsFilled, IsPieceOf, IsEmptyPiece, IsRowOf, fault_of_end};
 ghost use Rattle.nv_scan.specs.Tickets.{IsBlank, HasValidWord, number_at, ticket_count};
 ghost use Rattle.nv_scan.specs.Kept.{Keeps, KeepsFound, IsPieceBy, SameInodes};
 
@@ -310,57 +309,57 @@ fn keep(
     ensures refused { OnErr result (SameInodes inodes.old inodes.new) }
 {
     push_fault(&mut fold.faults, fault)?;
-    let index = closed(alloc, used.inode, pages, &fold.extents, claims)?;
-    keep_row(alloc, used, pages, fold, index, inodes)
+    let (rows, faults) = (inodes.rows.len(), inodes.faults.len());
+    inodes.push(row_without_pages(alloc, used, fold), &fold.faults)?;
+    match fill_row(pages, &fold.extents, &mut inodes.rows[rows], claims) {
+        Ok(()) => Ok(()),
+        Err(AllocError) => {
+            inodes.rows.truncate(rows);
+            inodes.faults.truncate(faults);
+            Err(AllocError)
+        }
+    }
 }
 
-/// The index of the pages that are left, which is made here, once. What the inode claims takes the place of the claims.
-// A call would copy the index once more.
+/// The row of an inode in use, but for the pages of its log and of its file, of which it has none. The names are taken out of
+/// what its log said.
+// A call would copy the row once more.
 #[inline(always)]
-fn closed(
-    alloc: Global,
-    inode: u64,
-    pages: &[u64],
-    extents: &ExtentMap,
-    claims: &mut Claims,
-) -> Result<FileIndex, AllocError>
-    requires { AreSmall (block_by extents.now) }
-    ensures index { IfOk result (λ index. (p : ℕ) → block_at index p ≡ block_by extents.now p) }
-    ensures claims { IfOk result (λ index. Lists (λ x. owner_key x.1) (IsClaim inode pages.now index) claims.new.items) }
+fn row_without_pages(alloc: Global, used: &InUse, fold: &mut Fold) -> Row
+    ensures row { IsRowOf used.now fold.old result }
+    ensures pages { result.pages.items ≡ [] }
+    ensures index { (p : ℕ) → block_at result.index p ≡ None }
+    ensures others { (fold.new.extents ≡ fold.old.extents) × (fold.new.faults ≡ fold.old.faults) }
 {
-    let mut runs = claims.take_runs();
-    let index = extents.to_index(alloc, &mut runs)?;
-    claims.set(inode, pages, runs)?;
-    Ok(index)
-}
-
-/// Puts the row of an inode in use and its faults behind those that are kept.
-// A call would copy the row's parts once more.
-#[inline(always)]
-fn keep_row(
-    alloc: Global,
-    used: &InUse,
-    pages: &[u64],
-    fold: &mut Fold,
-    index: FileIndex,
-    inodes: &mut Inodes,
-) -> Result<(), AllocError>
-    requires index { (p : ℕ) → block_at index p ≡ block_by fold.old.extents p }
-    ensures rows { OnOk result (AddsRow (λ row. row_of used.now.inode used.now.kind used.now.slot pages.now fold.old row × (row.index ≡ index)) inodes.old.rows.items inodes.new.rows.items) }
-    ensures faults { OnOk result (inodes.new.faults.items ≡ inodes.old.faults.items ++ fold.old.faults.items) }
-    ensures refused { OnErr result (SameInodes inodes.old inodes.new) }
-{
-    let row = Row {
+    Row {
         inode: used.inode,
         kind: used.kind,
         numbers: fold.numbers,
         head: used.slot.head,
         tail: used.slot.tail,
-        pages: LogPages::from_slice(alloc, pages)?,
-        index,
+        pages: LogPages::new(alloc),
+        index: FileIndex::new(alloc),
         names: mem::replace(&mut fold.names, NameIndex::new(alloc)),
-    };
-    inodes.push(row, &fold.faults)
+    }
+}
+
+/// Puts the pages of a log and of a file into their row. What the row's inode claims takes the place of the claims.
+// The index is made in the row, so that it is never copied.
+fn fill_row(
+    pages: &[u64],
+    extents: &ExtentMap,
+    row: &mut Row,
+    claims: &mut Claims,
+) -> Result<(), AllocError>
+    requires small { AreSmall (block_by extents.now) }
+    requires no_pages { row.old.pages.items ≡ [] }
+    requires no_index { (p : ℕ) → block_at row.old.index p ≡ None }
+    ensures { OnOk result (IsFilled pages.now (block_by extents.now) row.old row.new claims.new) }
+{
+    let mut runs = claims.take_runs();
+    extents.fill_index(&mut row.index, &mut runs)?;
+    row.pages.extend_from_slice(pages)?;
+    claims.set(row.inode, pages, runs)
 }
 
 /// Keeps the fault of an inode that isn't in use, if it has one. It claims nothing.

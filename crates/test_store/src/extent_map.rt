@@ -39,8 +39,9 @@ fn assert_steps(rt: &impl Abort, alloc: Global, steps: &[u64], extents: &str) {
 }
 
 fn assert_map(rt: &impl Abort, alloc: Global, map: &ExtentMap, extents: &str) {
+    let mut index = FileIndex::new(alloc);
     let mut runs = Vec::new(alloc);
-    let index = map.to_index(alloc, &mut runs).expect(rt, "memory");
+    check(rt, map.fill_index(&mut index, &mut runs).is_ok(), "memory");
     assert_extents(rt, &index, &numbers(rt, alloc, extents), extents);
 }
 

@@ -1,37 +1,45 @@
-use Rattle.std.proofs.Common.{subst, sym, ℕ, List, Option, refl}
-use Rattle.std.proofs.lemmas.Result.{IfOk-from_err}
-use Rattle.nv_region.proofs.Told.{told_err}
+use Rattle.std.proofs.Common.{◌≡◌, ◌++◌, ℕ, List, length, ap, refl, subst, ◌∙◌, Some}
 use Rattle.nv_super.specs.declared.owners.Owner.{Owner}
+use Rattle.nv_super.specs.declared.faults.Fault.{Fault}
 use Rattle.nv_super.specs.Order.{Lists, owner_key}
+use Rattle.nv_radix.specs.Runs.{block_by}
 use Rattle.nv_scan.specs.Claims.{IsClaim}
-use Rattle.nv_scan.proofs.Scanning.{keeps_row}
+use Rattle.nv_scan.specs.declared.piece.Row.{Row}
+use Rattle.nv_scan.proofs.Scanning.{last_row, last_set}
 use Rattle.nv_scan.proofs.scan.keep.Goals as goal
 
-pub returns-clause-kept : goal.returns-clause-kept
-returns-clause-kept c =
+pub returns-in-Ok-clause-kept : goal.returns-in-Ok-clause-kept
+returns-in-Ok-clause-kept c =
     let used = c.args.used.now in
-    let claims = c.closed.new.claims in
-    keeps_row _ _ used.inode c.args.inodes.now c.keep_row.new.inodes claims c.push_fault.new.faults c.keep_row.result
-    (λ row is. record {
-      inode = refl;
-      row = row;
-      has_row = refl;
-      is_row = is.0;
-      claims = subst (λ (index : List (ℕ × Option ℕ)). Lists (λ (x : ℕ × Owner). owner_key x.1) (IsClaim used.inode c.args.pages.now index) claims.items) (sym is.1) c.in_ok-index.ensures.claims;
-      faults = c.in_ok-push_fault.ensures.pushed;
-    }) c.keep_row.ensures.rows c.keep_row.ensures.faults
-
-pub returns-clause-refused : goal.returns-clause-refused
-returns-clause-refused c = c.keep_row.ensures.refused
-
-pub returns-in_err-push_fault-clause-kept : goal.returns-in_err-push_fault-clause-kept
-returns-in_err-push_fault-clause-kept c = IfOk-from_err c.from_residual.result _ c.from_residual.ensures.0
-
-pub returns-in_err-push_fault-clause-refused : goal.returns-in_err-push_fault-clause-refused
-returns-in_err-push_fault-clause-refused c = told_err c.from_residual.result (refl, refl)
-
-pub returns-in_err-index-clause-kept : goal.returns-in_err-index-clause-kept
-returns-in_err-index-clause-kept c = IfOk-from_err c.from_residual-in_err-index.result _ c.from_residual-in_err-index.ensures.0
-
-pub returns-in_err-index-clause-refused : goal.returns-in_err-index-clause-refused
-returns-in_err-index-clause-refused c = told_err c.from_residual-in_err-index.result (refl, refl)
+    let blank = c.row_without_pages.result in
+    let row = c.fill_row.new.row in
+    let claims = c.fill_row.new.claims in
+    let filled = c.in-Ok.ensures in
+    let end : c.len-rows.result ≡ length c.args.inodes.now.rows.items = c.len-rows.ensures ∙ c.args.inodes.now.rows.ok.0 in
+    let was : c.index_mut.result.now ≡ blank = last_row _ c.args.inodes.now.rows.items blank _ c.in_ok-push.ensures.rows end c.index_mut.ensures.value in
+    let is = c.row_without_pages.ensures.row in
+    let inode : row.inode ≡ used.inode = filled.same.0 ∙ ap (λ (r : Row). r.inode) was ∙ is.0 in
+    let told : c.deref.result.now ≡ c.push_fault.new.faults.items = c.deref.ensures.value ∙ ap (λ v. v.items) c.row_without_pages.ensures.others.1 in
+    record {
+      piece = record { inode = used.inode; row = Some row; claims = claims; faults = c.push_fault.new.faults };
+      is = record {
+        inode = refl;
+        row = row;
+        has_row = refl;
+        is_row = (
+          inode,
+          filled.same.1 ∙ ap (λ (r : Row). r.kind) was ∙ is.1,
+          filled.same.2 ∙ ap (λ (r : Row). r.numbers) was ∙ is.2,
+          filled.same.3 ∙ ap (λ (r : Row). r.head) was ∙ is.3,
+          filled.same.4 ∙ ap (λ (r : Row). r.tail) was ∙ is.4,
+          filled.pages_are,
+          λ p. filled.index p ∙ ap (λ extents. block_by extents p) c.row_without_pages.ensures.others.0,
+          filled.same.5 ∙ ap (λ (r : Row). r.names) was ∙ is.5,
+        );
+        claims = subst (λ (i : ℕ). Lists (λ (x : ℕ × Owner). owner_key x.1) (IsClaim i c.args.pages.now row.index) claims.items) inode filled.claims_are;
+        faults = c.in_ok-push_fault.ensures.pushed;
+      };
+      rows = last_set _ c.args.inodes.now.rows.items blank row c.in_ok-push.ensures.rows end;
+      faults = c.in_ok-push.ensures.faults ∙ ap (λ (fs : List Fault). c.args.inodes.now.faults.items ++ fs) told;
+      claims_are = refl;
+    }

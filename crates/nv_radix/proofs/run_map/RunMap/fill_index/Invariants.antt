@@ -1,6 +1,6 @@
 use Rattle.nv_radix.specs.Extents.{AreExtents}
 use Rattle.nv_radix.proofs.Indexing.{IsIndexed}
-use Rattle.nv_radix.proofs.run_map.RunMap.to_index.Given as goal
+use Rattle.nv_radix.proofs.run_map.RunMap.fill_index.Given as goal
 
 abbrev pub invariant-loop-page : goal.invariant-loop-page
 invariant-loop-page l = record {
