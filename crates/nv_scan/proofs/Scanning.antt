@@ -1,5 +1,5 @@
 -- The steps of a scan, with what is kept after each.
-use Rattle.std.proofs.Common.{◌≡◌, ◌∙◌, ℕ, ◌≢◌, ◌<◌, ◌+◌, ◌-◌, ◌^◌, ◌++◌, length, slice_index_or, true, false, List, [], ◌∷◌, ap, refl, sym, subst, append-nil, Option, Some, None, Result, IsTrue, arith}
+use Rattle.std.proofs.Common.{◌≡◌, ◌∙◌, ℕ, ◌≢◌, ◌<◌, ◌+◌, ◌-◌, ◌^◌, ◌++◌, length, slice_index_or, true, false, List, [], ◌∷◌, ap, refl, sym, subst, append-nil, Option, Some, None, Result, IsTrue, arith, Ok, Err}
 use Rattle.std.specs.Result.{OnOk}
 use Rattle.std.specs.Option.{MatchOption}
 use Rattle.std.specs.List.{cons_option}
@@ -16,9 +16,12 @@ use Rattle.nv_inode.specs.declared.slot.Slot.{Slot}
 use Rattle.nv_inode.specs.Slot.{slot_at, kind_of, is_right_log}
 use Rattle.nv_logpage.specs.declared.found.LogEnd.{LogEnd}
 use Rattle.nv_logpage.specs.declared.found.Placed.{Placed}
+use Rattle.nv_super.specs.declared.owners.Owner.{Owner}
+use Rattle.nv_super.specs.Order.{Lists, owner_key}
+use Rattle.nv_radix.specs.Pages.{block_at}
 use Rattle.nv_radix.specs.Runs.{block_by}
 use Rattle.nv_scan.specs.ClaimList.{ClaimList}
-use Rattle.nv_scan.specs.Claims.{AreSmall}
+use Rattle.nv_scan.specs.Claims.{AreSmall, IsClaim}
 use Rattle.nv_scan.specs.Faults.{HasOnce, IsFaultOf, i1, i2}
 use Rattle.nv_scan.specs.Fold.{Holds}
 use Rattle.nv_scan.specs.Inode.{Log, IsInUse}
@@ -26,7 +29,7 @@ use Rattle.nv_scan.specs.Kept.{Keeps, IsPieceBy}
 use Rattle.nv_scan.specs.Owners.{AreClaims}
 use Rattle.nv_scan.specs.Reading.{IsRead}
 use Rattle.nv_scan.specs.Rows.{IsRow, IsPiece}
-use Rattle.nv_scan.specs.Scanned.{fault_of_end, IsPieceOf, IsEmptyPiece}
+use Rattle.nv_scan.specs.Scanned.{fault_of_end, IsFilled, IsPieceOf, IsEmptyPiece}
 use Rattle.nv_scan.specs.declared.fold.Fold.{Fold}
 use Rattle.nv_scan.specs.declared.inodes.Inodes.{Inodes}
 use Rattle.nv_scan.specs.declared.piece.Row.{Row}
@@ -94,6 +97,13 @@ last_row pushed rows row at is end value = value ∙ (λ i. slice_index_or (is i
 -- and with another in its place
 pub last_set : (pushed rows : List Row) (row new : Row) {n : ℕ} → pushed ≡ rows ++ row ∷ [] → n ≡ length rows → set pushed n new ≡ rows ++ new ∷ []
 last_set pushed rows row new is end = (λ i. set (is i) (end i) new) ∙ set-append_seam rows row [] new
+
+-- what a row that was filled is
+pub filled : {E : Type 0} (pages : List ℕ) (blocks : ℕ → Option ℕ) (old new : Row) (claims : ClaimList) (result : Result (Unit {0}) E)
+    → (new.inode ≡ old.inode) × (new.kind ≡ old.kind) × (new.numbers ≡ old.numbers) × (new.head ≡ old.head) × (new.tail ≡ old.tail) × (new.names ≡ old.names) → new.pages.items ≡ pages
+    → OnOk result ((p : ℕ) → block_at new.index p ≡ blocks p) → OnOk result (Lists (λ (x : ℕ × Owner). owner_key x.1) (IsClaim new.inode pages new.index) claims.items) → OnOk result (IsFilled pages blocks old new claims)
+filled pages blocks old new claims (Ok done) same pages_are index claims_are = record { same = same; pages_are = pages_are; index = index; claims_are = claims_are }
+filled pages blocks old new claims (Err e) same pages_are index claims_are = tt
 
 -- fewer than can be told
 one_fault : (o : Option Fault) → length (cons_option o []) < 2 ^ 63

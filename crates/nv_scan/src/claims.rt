@@ -1,24 +1,23 @@
 //! The blocks that an inode claims.
 
-ghost use Rattle.std.specs.Prelude.{◌≡◌, ◌*◌, ◌+◌, ◌<◌, ◌++◌, List, [], IfOk, OnOk};
+ghost use Rattle.std.specs.Prelude.{◌≡◌, ◌*◌, ◌+◌, ◌<◌, ◌++◌, ℕ, List, [], None, IfOk, OnOk};
 ghost use Rattle.std.specs.List.{All, AllByRecursion};
 ghost use Rattle.nv_region.specs.Region.{Region};
 ghost use Rattle.nv_super.specs.declared.superblock.Super.{Super};
 ghost use Rattle.nv_super.specs.Layout.{IsLayout, Layout, fixed_layout};
 ghost use Rattle.nv_super.specs.Order.{Lists, owner_key};
-ghost use Rattle.nv_radix.specs.Extents.{AreExtents};
-ghost use Rattle.nv_radix.specs.Pages.{Pages};
-ghost use Rattle.nv_scan.specs.Claims.{IsClaim, log_claims, run_claims, data_claims, IsSmall};
+ghost use Rattle.nv_radix.specs.Pages.{block_at};
+ghost use Rattle.nv_radix.specs.Runs.{block_by};
+ghost use Rattle.nv_scan.specs.Claims.{AreSmall, IsClaim, log_claims, run_claims, data_claims, IsSmall};
 ghost use Rattle.nv_scan.specs.Rows.{IsPiece};
 ghost use Rattle.nv_scan.specs.Work.{rows_in, claims_in};
 ghost use Rattle.nv_scan.specs.declared.piece.Piece.{Piece};
 
 use crate::piece::{LogPages, Row};
-use nv_radix::Extent;
+use nv_radix::{Extent, ExtentMap, FileIndex};
 use nv_super::Owner;
 use std::alloc::{AllocError, Global};
 use std::marker::Model;
-use std::mem;
 
 /// What an inode claims, as the pages of its log and the runs of its file. Contracts see each block with its owner: first
 /// come the pages of the log in their order, then the blocks of the file, by page.
@@ -84,29 +83,45 @@ impl Claims {
         self.runs.clear();
     }
 
-    /// Gives up the runs, whose memory those of another inode can take.
-    pub(crate) fn take_runs(&mut self) -> Vec<Extent> {
-        let alloc = *self.runs.allocator();
-        mem::replace(&mut self.runs, Vec::new(alloc))
-    }
-
-    /// Puts what an inode claims in place of what was claimed here: by the pages of its log, which take the memory of those
-    /// that were here, and the longest extents of its file.
+    /// Puts what an inode claims in place of what was claimed here, and its memory: the pages of its log, and the longest
+    /// extents of its file. The pages of the file are mapped in an index that maps none.
     ///
-    /// Errors: `AllocError` where a growth was refused; of the claims nothing is said then.
+    /// Errors: `AllocError` where a growth was refused; of the claims and the index nothing is said then.
     pub(crate) fn set(
         &mut self,
         inode: u64,
         pages: &[u64],
-        runs: Vec<Extent>,
+        extents: &ExtentMap,
+        index: &mut FileIndex,
     ) -> Result<(), AllocError>
-        requires { All IsSmall runs.items }
-        ensures { (index : Pages) → AreExtents index runs.items → OnOk result (Lists (λ x. owner_key x.1) (IsClaim inode pages.now index) self.new.items) }
+        requires small { AreSmall (block_by extents.now) }
+        requires none { (p : ℕ) → block_at index.old p ≡ None }
+        ensures index { OnOk result ((p : ℕ) → block_at index.new p ≡ block_by extents.now p) }
+        ensures claims { OnOk result (Lists (λ x. owner_key x.1) (IsClaim inode pages.now index.new) self.new.items) }
     {
         self.inode = inode;
-        self.runs = runs;
         self.pages.clear();
-        self.pages.extend_from_slice(pages)
+        self.pages.extend_from_slice(pages)?;
+        // The extents are made where they stay, and moved no more.
+        match extents.fill_index(index, &mut self.runs) {
+            Ok(()) => Ok(()),
+            Err(AllocError) => {
+                self.runs.clear();
+                Err(AllocError)
+            }
+        }
+    }
+
+    /// What the inode of a row claims.
+    fn of_row(alloc: Global, row: &Row) -> Result<Claims, AllocError>
+        requires { AreSmall (block_at row.now.index) }
+        ensures { IfOk result (λ claims. Lists (λ x. owner_key x.1) (IsClaim row.now.inode row.now.pages.items row.now.index) claims.items) }
+    {
+        Ok(Claims {
+            inode: row.inode,
+            pages: LogPages::from_slice(alloc, &row.pages)?,
+            runs: row.index.runs()?,
+        })
     }
 }
 
@@ -119,11 +134,8 @@ pub fn claims_of_rows(alloc: Global, rows: &[Row]) -> Result<Vec<(u64, Owner)>, 
     ensures { IfOk result (λ claims. (region : Region) (l : Layout) (pieces : List Piece) → AllByRecursion (IsPiece region l) pieces → rows.now ≡ rows_in pieces → claims.items ≡ claims_in pieces) }
 {
     let mut claims = Vec::new(alloc);
-    let mut own = Claims::new(alloc);
     for row in rows {
-        let mut runs = own.take_runs();
-        row.index.runs_into(&mut runs)?;
-        own.set(row.inode, &row.pages, runs)?;
+        let own = Claims::of_row(alloc, row)?;
         claims.extend_from_slice(&own.to_list(alloc)?)?;
     }
     Ok(claims)

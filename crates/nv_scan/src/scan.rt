@@ -356,10 +356,8 @@ fn fill_row(
     requires no_index { (p : ℕ) → block_at row.old.index p ≡ None }
     ensures { OnOk result (IsFilled pages.now (block_by extents.now) row.old row.new claims.new) }
 {
-    let mut runs = claims.take_runs();
-    extents.fill_index(&mut row.index, &mut runs)?;
     row.pages.extend_from_slice(pages)?;
-    claims.set(row.inode, pages, runs)
+    claims.set(row.inode, pages, extents, &mut row.index)
 }
 
 /// Keeps the fault of an inode that isn't in use, if it has one. It claims nothing.
