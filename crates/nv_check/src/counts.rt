@@ -13,7 +13,7 @@ use std::alloc::{AllocError, Global};
 pub(crate) fn count_names(
     alloc: Global,
     n: usize,
-    places: &[Option<usize>],
+    places: &[Option<u32>],
     targets: &[u64],
 ) -> Result<Vec<u64>, AllocError>
     requires { IsTable n places.now }

@@ -11,7 +11,7 @@ use std::alloc::{AllocError, Global};
 /// Faults of names whose inode isn't in use.
 pub(crate) fn push_unused(
     faults: &mut Vec<Fault>,
-    places: &[Option<usize>],
+    places: &[Option<u32>],
     listings: &[Listing<'_>],
 ) -> Result<(), AllocError>
     ensures { OnOk result (faults.new.items ≡ faults.old.items ++ unused_faults places.now listings.now) }
@@ -25,7 +25,7 @@ pub(crate) fn push_unused(
 /// The same of one row.
 pub(crate) fn push_unused_of(
     faults: &mut Vec<Fault>,
-    places: &[Option<usize>],
+    places: &[Option<u32>],
     listing: &Listing<'_>,
 ) -> Result<(), AllocError>
     ensures { OnOk result (faults.new.items ≡ faults.old.items ++ unused_of places.now listing.now) }

@@ -56,7 +56,7 @@ pub fn cross_faults<H: Threads + Sync>(
 fn near_by_row<H: Threads + Sync>(
     rt: &H,
     alloc: Global,
-    places: &[Option<usize>],
+    places: &[Option<u32>],
     counts: &[u64],
     listings: &[Listing<'_>],
 ) -> Result<Vec<Vec<Fault>>, AllocError>
@@ -75,7 +75,7 @@ fn near_by_row<H: Threads + Sync>(
 /// The faults of one row's names, and of how often it is named.
 fn near_of(
     alloc: Global,
-    places: &[Option<usize>],
+    places: &[Option<u32>],
     counts: &[u64],
     listing: &Listing<'_>,
 ) -> Result<Vec<Fault>, AllocError>
@@ -90,7 +90,7 @@ fn near_of(
 }
 
 /// How often an inode is named.
-fn named_by(places: &[Option<usize>], counts: &[u64], inode: u64) -> u64
+fn named_by(places: &[Option<u32>], counts: &[u64], inode: u64) -> u64
     ensures { result ≡ named_by places.now counts.now inode }
 {
     match find(places, inode) {

@@ -10,26 +10,27 @@ use crate::listing::Listing;
 use nv_super::Super;
 use std::alloc::{AllocError, Global};
 
-/// The place of each inode's row, by the inode's number.
+/// The place of each inode's row, by the inode's number: four bytes for a place, since a region has fewer inodes.
 pub(crate) fn places_of(
     alloc: Global,
     sup: &Super,
     listings: &[Listing<'_>],
-) -> Result<Vec<Option<usize>>, AllocError>
+) -> Result<Vec<Option<u32>>, AllocError>
     requires layout { IsLayout sup.now }
     requires apart { AreNumbersBelow (inode_limit sup.now) (inodes_of listings.now) }
     ensures { IfOk result (λ table. ArePlaces listings.now table.items) }
 {
     let mut places = vec![in alloc; None; sup.inode_limit() as usize]?;
     for (place, listing) in listings.iter().enumerate() {
-        places[listing.inode as usize] = Some(place);
+        places[listing.inode as usize] = Some(place as u32);
     }
     Ok(places)
 }
 
 /// The place of an inode's row, if it is in use.
-pub(crate) fn find(places: &[Option<usize>], inode: u64) -> Option<usize>
+pub(crate) fn find(places: &[Option<u32>], inode: u64) -> Option<usize>
     ensures { result ≡ place_of places.now inode }
 {
-    places.get(inode as usize).copied().flatten()
+    let place = places.get(inode as usize).copied().flatten()?;
+    Some(place as usize)
 }

@@ -19,7 +19,7 @@ use std::alloc::{AllocError, Global};
 #[derive(Drop)]
 pub(crate) struct Tables<'a> {
     pub(crate) listings: Vec<Listing<'a>>,
-    pub(crate) places: Vec<Option<usize>>,
+    pub(crate) places: Vec<Option<u32>>,
     pub(crate) counts: Vec<u64>,
 }
 
@@ -46,7 +46,7 @@ fn places_and_counts(
     alloc: Global,
     sup: &Super,
     listings: &[Listing<'_>],
-) -> Result<(Vec<Option<usize>>, Vec<u64>), AllocError>
+) -> Result<(Vec<Option<u32>>, Vec<u64>), AllocError>
     requires layout { IsLayout sup.now }
     requires apart { AreNumbersBelow (inode_limit sup.now) (inodes_of listings.now) }
     ensures places { IfOk result (λ r. ArePlaces listings.now r.0.items) }
@@ -60,7 +60,7 @@ fn places_and_counts(
 /// How often each row's inode is named.
 fn counts_of(
     alloc: Global,
-    places: &[Option<usize>],
+    places: &[Option<u32>],
     listings: &[Listing<'_>],
 ) -> Result<Vec<u64>, AllocError>
     requires { ArePlaces listings.now places.now }

@@ -14,7 +14,7 @@ use std::alloc::{AllocError, Global};
 pub(crate) fn push_far(
     alloc: Global,
     faults: &mut Vec<Fault>,
-    places: &[Option<usize>],
+    places: &[Option<u32>],
     listings: &[Listing<'_>],
 ) -> Result<(), AllocError>
     requires { ArePlaces listings.now places.now }
@@ -29,7 +29,7 @@ pub(crate) fn push_far(
 pub(crate) fn reach(
     alloc: Global,
     listings: &[Listing<'_>],
-    places: &[Option<usize>],
+    places: &[Option<u32>],
 ) -> Result<Vec<bool>, AllocError>
     requires { ArePlaces listings.now places.now }
     ensures { IfOk result (λ marks. AreReached listings.now marks.items) }
@@ -47,7 +47,7 @@ pub(crate) fn reach(
 /// Marks the root, where it is a directory.
 fn mark_root(
     listings: &[Listing<'_>],
-    places: &[Option<usize>],
+    places: &[Option<u32>],
     marks: &mut Vec<bool>,
     todo: &mut Vec<usize>,
 ) -> Result<(), AllocError>
@@ -108,7 +108,7 @@ fn push_no_root(faults: &mut Vec<Fault>, listings: &[Listing<'_>]) -> Result<(),
 
 /// Marks what the names name, and opens it where it wasn't marked.
 fn spread(
-    places: &[Option<usize>],
+    places: &[Option<u32>],
     names: &[Named<'_>],
     marks: &mut Vec<bool>,
     todo: &mut Vec<usize>,
@@ -124,7 +124,7 @@ fn spread(
 
 /// Marks an inode, and opens it where it wasn't marked.
 fn spread_to(
-    places: &[Option<usize>],
+    places: &[Option<u32>],
     inode: u64,
     marks: &mut Vec<bool>,
     todo: &mut Vec<usize>,

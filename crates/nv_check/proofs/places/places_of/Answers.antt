@@ -5,7 +5,7 @@ use Rattle.std.proofs.lemmas.Result.{IfOk-from_err}
 use Rattle.nv_super.specs.Layout.{inode_limit}
 use Rattle.nv_check.specs.Listings.{inodes_of}
 use Rattle.nv_check.specs.Steps.{ArePlacesTo}
-use Rattle.nv_check.proofs.PlaceTable.{places_more, places_none}
+use Rattle.nv_check.proofs.PlaceTable.{places_more, places_none, small_place}
 use Rattle.nv_check.proofs.Follow.{inodes_len, inode_at, below_limit}
 use Rattle.nv_check.proofs.places.places_of.Goals as goal
 
@@ -31,6 +31,10 @@ index_mut-requires c =
     let lt = c.loop-place-test.true in
     let small : c.index-listings-place.result.inode < inode_limit c.args.sup.now = below_limit _ c.args.listings.now c.loop-place.place _ c.requires.apart (lt, sym c.index-listings-place.is) in
     omega (arith, small, c.loop-place.invariant.0)
+
+pub overflow_cast-place : goal.overflow_cast-place
+overflow_cast-place c =
+    let small = small_place c.args.sup.now (inodes_of c.args.listings.now) c.loop-place.place c.requires.layout.areas c.requires.apart (omega (arith, c.loop-place-test.true, inodes_len c.args.listings.now)) in omega (arith, small)
 
 pub loop-place-preserved : goal.loop-place-preserved
 loop-place-preserved c =
