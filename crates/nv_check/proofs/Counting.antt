@@ -4,22 +4,27 @@ use Rattle.std.proofs.Math.ListN.{set, length-set}
 use Rattle.std.specs.List.{count_by, filter, filter_map, flat_map, cons_option}
 use Rattle.std.proofs.lemmas.Grind.{flat_map-append}
 use Rattle.std.proofs.lemmas.List.Elements.{filter-append, filter_map-append}
-use Rattle.std.proofs.lemmas.List.Sums.{count_by_more_yes, count_by_more_no, count_by-le-length}
-use Rattle.std.proofs.lemmas.List.{length-take-le, take_more, append_assoc, map-append}
+use Rattle.std.proofs.lemmas.List.Sums.{sum_by_push, count_by-le-length}
+use Rattle.std.proofs.lemmas.List.{take_more, append_assoc, map-append}
 use Rattle.std.proofs.lemmas.Bool.{ne_eqb}
 use Rattle.std.proofs.lemmas.Option.{same_Some}
 use Rattle.nv_check.specs.Steps.{place_of, IsTable, AreCounts}
 use Rattle.nv_check.proofs.PlaceTable.{none_some, equal_or}
 
-module _ (n : ℕ) (table : List (Option ℕ)) (named counts : List ℕ) (i t : ℕ) (lt : i < length named) (is : get_or named i 0 ≡ t) (h : AreCounts n table (take i named) counts) where
-  pub counts_skip : place_of table t ≡ None → AreCounts n table (take (i + 1) named) counts
+module _ (n : ℕ) (table : List (Option ℕ)) (seen counts : List ℕ) (t : ℕ) (h : AreCounts n table seen counts) where
+  one_more : (j : ℕ) (b : Bool) → eqb t j ≡ b → count_by (λ s. eqb s j) (seen ++ t ∷ []) ≡ count_by (λ s. eqb s j) seen + cond b 1 0
+  one_more j b e = sum_by_push (λ s. cond (eqb s j) 1 0) seen t ∙ ap (λ (x : Bool). count_by (λ s. eqb s j) seen + cond x 1 0) e
+
+  others : (j : ℕ) → t ≢ j → count_by (λ s. eqb s j) seen ≡ count_by (λ s. eqb s j) (seen ++ t ∷ [])
+  others j ne = let e = one_more j false (ne_eqb t j ne) in omega (arith, e)
+
+  pub counts_skip : place_of table t ≡ None → AreCounts n table (seen ++ t ∷ []) counts
   counts_skip none = record {
     same = h.same;
-    each = λ j k e. h.each j k e ∙ sym (count_by_more_no (λ s. eqb s j) named i 0 lt
-        (ne_eqb (get_or named i 0) j (λ q. none_some k (sym none ∙ ap (place_of table) (sym is ∙ q) ∙ e))));
+    each = λ j k e. h.each j k e ∙ others j (λ q. none_some k (sym none ∙ ap (place_of table) q ∙ e));
   }
 
-  pub counts_add : (place : ℕ) → IsTable n table → place_of table t ≡ Some place → AreCounts n table (take (i + 1) named) (set counts place (get_or counts place 0 + 1))
+  pub counts_add : (place : ℕ) → IsTable n table → place_of table t ≡ Some place → AreCounts n table (seen ++ t ∷ []) (set counts place (get_or counts place 0 + 1))
   counts_add place w at = record {
     same = length-set counts place (get_or counts place 0 + 1) ∙ h.same;
     each = λ j k e. equal_or k place (λ q. here j k e q) (λ ne. there j k e ne);
@@ -30,22 +35,20 @@ module _ (n : ℕ) (table : List (Option ℕ)) (named counts : List ℕ) (i t : 
     stored : (m : ℕ) → get_or (set counts place m) place 0 ≡ m
     stored m = let l : place < length counts = within in rw get_or-set_same refl
 
-    here : (j k : ℕ) → place_of table j ≡ Some k → k ≡ place → get_or (set counts place (get_or counts place 0 + 1)) k 0 ≡ count_by (λ s. eqb s j) (take (i + 1) named)
+    here : (j k : ℕ) → place_of table j ≡ Some k → k ≡ place → get_or (set counts place (get_or counts place 0 + 1)) k 0 ≡ count_by (λ s. eqb s j) (seen ++ t ∷ [])
     here j k e q =
         let same : j ≡ t = w.once j t place (e ∙ ap Some q) at in
-        ap (λ p. get_or (set counts place (get_or counts place 0 + 1)) p 0) q ∙ stored (get_or counts place 0 + 1) ∙ ap (λ m. m + 1) (h.each j place (e ∙ ap Some q))
-        ∙ sym (count_by_more_yes (λ s. eqb s j) named i 0 lt (eq-eqb _ _ (is ∙ sym same)))
+        ap (λ p. get_or (set counts place (get_or counts place 0 + 1)) p 0) q ∙ stored (get_or counts place 0 + 1) ∙ ap (λ m. m + 1) (h.each j place (e ∙ ap Some q)) ∙ sym (one_more j true (eq-eqb t j (sym same)))
 
     kept : (k m : ℕ) → k ≢ place → get_or (set counts place m) k 0 ≡ get_or counts k 0
     kept k m ne = rw get_or-set_other refl
 
-    there : (j k : ℕ) → place_of table j ≡ Some k → k ≢ place → get_or (set counts place (get_or counts place 0 + 1)) k 0 ≡ count_by (λ s. eqb s j) (take (i + 1) named)
-    there j k e ne = kept k (get_or counts place 0 + 1) ne ∙ h.each j k e ∙ sym (count_by_more_no (λ s. eqb s j) named i 0 lt
-        (ne_eqb (get_or named i 0) j (λ q. ne (same_Some k place (sym e ∙ ap (place_of table) (sym q ∙ is) ∙ at)))))
+    there : (j k : ℕ) → place_of table j ≡ Some k → k ≢ place → get_or (set counts place (get_or counts place 0 + 1)) k 0 ≡ count_by (λ s. eqb s j) (seen ++ t ∷ [])
+    there j k e ne = kept k (get_or counts place 0 + 1) ne ∙ h.each j k e ∙ others j (λ q. ne (same_Some k place (sym e ∙ ap (place_of table) (sym q) ∙ at)))
 
   -- a count is at most the number of names so far
-  pub count_small : (place : ℕ) → place_of table t ≡ Some place → get_or counts place 0 ≤ i
-  count_small place at = let e = h.each t place at in let c = count_by-le-length (λ s. eqb s t) (take i named) in let l = length-take-le i named (omega arith) in omega (arith, e, c, l)
+  pub count_small : (place : ℕ) → place_of table t ≡ Some place → get_or counts place 0 ≤ length seen
+  count_small place at = let e = h.each t place at in let c = count_by-le-length (λ s. eqb s t) seen in omega (arith, e, c)
 
 pub filter_step : {A B : Type 0} (f : A → Option B) (xs : List A) (i : ℕ) (r : A) → i < length xs → r ≡ get_or xs i r → filter_map f (take (i + 1) xs) ≡ filter_map f (take i xs) ++ cons_option (f r) []
 filter_step {A} {B} f xs i r lt is = ap (filter_map f) (take_more xs i r lt) ∙ filter_map-append f (take i xs) (get_or xs i r ∷ []) ∙ ap (λ (x : A). filter_map f (take i xs) ++ cons_option (f x) []) (sym is)

@@ -1,6 +1,7 @@
 pub mod PlaceTable
 pub mod Spread
 pub mod Counting
+pub mod NamesCounted
 pub mod Follow
 pub mod Adds
 pub mod Rows

@@ -1,12 +1,13 @@
 -- The tables that the checks read.
-use Rattle.std.specs.Prelude.{List}
+use Rattle.std.specs.Prelude.{◌≡◌, List}
 use Rattle.nv_scan.specs.declared.piece.Row.{Row}
 use Rattle.nv_check.specs.declared.tables.Tables.{Tables}
 use Rattle.nv_check.specs.Listings.{AreListings}
-use Rattle.nv_check.specs.Steps.{ArePlaces, AreNumbersOfNames}
+use Rattle.nv_check.specs.Steps.{ArePlaces, AreNumbersOfNames, unused_faults}
 
 -- the tables are over these rows
 pub record AreTables (rows : List Row) (t : Tables) : Type 0 where
   pub listings : AreListings rows t.listings.items
   pub places : ArePlaces t.listings.items t.places.items
   pub counts : AreNumbersOfNames t.listings.items t.counts.items
+  pub unused : t.unused.items ≡ unused_faults t.places.items t.listings.items

@@ -1,38 +1,64 @@
 //! Whether inodes have as many names as they should.
 
-ghost use Rattle.std.specs.Prelude.{◌≡◌, ◌<◌, ◌++◌, ◌==◌, IfOk, OnOk};
+ghost use Rattle.std.specs.Prelude.{◌≡◌, ◌++◌, length, map, IfOk, OnOk};
 ghost use Rattle.std.specs.List.{filter_map};
-ghost use Rattle.nv_check.specs.Steps.{IsTable, AreCounts, AreNumbersOfNames, count_fault, count_fault_of};
+ghost use Rattle.nv_check.specs.Listings.{target};
+ghost use Rattle.nv_check.specs.Steps.{ArePlaces, IsTable, HasRoom, CountsMore, unused_of, unused_faults, AreNumbersOfNames, count_fault, count_fault_of};
 
 use crate::listing::Listing;
 use crate::places::find;
 use nv_super::{Fault, Kind};
 use std::alloc::{AllocError, Global};
 
-/// How often the inode at each of n places is named.
+/// How often each row's inode is named, and the faults of names whose inode isn't in use.
+///
+/// A count has 128 bits: each row has fewer than 2^63 names, but all together may have more than 64 bits can count.
 pub(crate) fn count_names(
     alloc: Global,
-    n: usize,
     places: &[Option<u32>],
-    targets: &[u64],
-) -> Result<Vec<u64>, AllocError>
-    requires { IsTable n places.now }
-    ensures { IfOk result (λ counts. AreCounts n places.now targets.now counts.items) }
+    listings: &[Listing<'_>],
+) -> Result<(Vec<u128>, Vec<Fault>), AllocError>
+    requires { ArePlaces listings.now places.now }
+    ensures counts { IfOk result (λ found. AreNumbersOfNames listings.now found.0.items) }
+    ensures unused { IfOk result (λ found. found.1.items ≡ unused_faults places.now listings.now) }
 {
-    let mut counts = vec![in alloc; 0; n]?;
-    for target in targets {
-        if let Some(place) = find(places, *target) {
-            counts[place] += 1;
+    let mut counts = vec![in alloc; 0; listings.len()]?;
+    let mut unused = Vec::new(alloc);
+    for listing in listings {
+        count_names_of(&mut counts, &mut unused, places, listing)?;
+    }
+    Ok((counts, unused))
+}
+
+/// Counts each name of one row at the place of its inode, or tells of it where its inode isn't in use.
+fn count_names_of(
+    counts: &mut Vec<u128>,
+    unused: &mut Vec<Fault>,
+    places: &[Option<u32>],
+    listing: &Listing<'_>,
+) -> Result<(), AllocError>
+    requires table { IsTable (length counts.old.items) places.now }
+    requires room { HasRoom places.now counts.old.items (length listing.now.names.items) }
+    ensures counts { OnOk result (CountsMore places.now (map target listing.now.names.items) counts.old.items counts.new.items) }
+    ensures unused { OnOk result (unused.new.items ≡ unused.old.items ++ unused_of places.now listing.now) }
+{
+    for name in &listing.names {
+        match find(places, name.inode) {
+            Some(place) => counts[place] += 1,
+            None => unused.push(Fault::C1 {
+                directory: listing.inode,
+                at: name.place,
+            })?,
         }
     }
-    Ok(counts)
+    Ok(())
 }
 
 /// Faults of inodes that don't have as many names as they should.
 pub(crate) fn push_counts(
     faults: &mut Vec<Fault>,
     listings: &[Listing<'_>],
-    counts: &[u64],
+    counts: &[u128],
 ) -> Result<(), AllocError>
     requires { AreNumbersOfNames listings.now counts.now }
     ensures { OnOk result (faults.new.items ≡ faults.old.items ++ filter_map (count_fault listings.now) listings.now) }
@@ -46,7 +72,7 @@ pub(crate) fn push_counts(
 }
 
 /// The fault of an inode that has so many names.
-pub(crate) fn fault_of(listing: &Listing<'_>, names: u64) -> Option<Fault>
+pub(crate) fn fault_of(listing: &Listing<'_>, names: u128) -> Option<Fault>
     ensures { result ≡ count_fault_of listing.now.kind listing.now.inode listing.now.links names }
 {
     let inode = listing.inode;
@@ -60,7 +86,7 @@ pub(crate) fn fault_of(listing: &Listing<'_>, names: u64) -> Option<Fault>
             }
         }
         Kind::File => {
-            if u64::from(listing.links) == names {
+            if u128::from(listing.links) == names {
                 None
             } else {
                 Some(Fault::C3 { inode })

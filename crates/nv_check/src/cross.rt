@@ -1,6 +1,6 @@
 //! What is wrong between inodes.
 
-ghost use Rattle.std.specs.Prelude.{◌≡◌, [], map, IfOk, IsTrue, OnOk};
+ghost use Rattle.std.specs.Prelude.{◌≡◌, ◌++◌, [], map, IfOk, IsTrue, OnOk};
 ghost use Rattle.std.specs.List.{All};
 ghost use Rattle.nv_super.specs.Layout.{IsLayout, inode_limit, is_number};
 ghost use Rattle.nv_super.specs.Order.{fault_key, Lists};
@@ -8,10 +8,9 @@ ghost use Rattle.nv_scan.specs.declared.piece.Row.{Row as RowValue};
 ghost use Rattle.nv_numbered.specs.Values.{AreNumbersBelow};
 ghost use Rattle.nv_check.specs.Cross.{IsCrossFaultIn};
 ghost use Rattle.nv_check.specs.Listings.{IsFault};
-ghost use Rattle.nv_check.specs.Steps.{ArePlaces, AreNumbersOfNames, AreFaults};
+ghost use Rattle.nv_check.specs.Steps.{ArePlaces, AreNumbersOfNames, AreFaults, unused_faults};
 
 use crate::counts::push_counts;
-use crate::names::push_unused;
 use crate::tables::{Tables, tables_of};
 use crate::walk::push_far;
 use nv_scan::Row;
@@ -39,6 +38,7 @@ pub fn cross_faults_one(alloc: Global, sup: &Super, rows: &[Row]) -> Result<Vec<
 fn sorted_faults(alloc: Global, tables: &Tables<'_>) -> Result<Vec<Fault>, AllocError>
     requires places { ArePlaces tables.now.listings.items tables.now.places.items }
     requires counts { AreNumbersOfNames tables.now.listings.items tables.now.counts.items }
+    requires unused { tables.now.unused.items ≡ unused_faults tables.now.places.items tables.now.listings.items }
     ensures { IfOk result (λ found. Lists fault_key (IsFault tables.now.listings.items) found.items) }
 {
     let mut faults = Vec::new(alloc);
@@ -51,10 +51,21 @@ fn sorted_faults(alloc: Global, tables: &Tables<'_>) -> Result<Vec<Fault>, Alloc
 fn push_all(alloc: Global, faults: &mut Vec<Fault>, tables: &Tables<'_>) -> Result<(), AllocError>
     requires places { ArePlaces tables.now.listings.items tables.now.places.items }
     requires counts { AreNumbersOfNames tables.now.listings.items tables.now.counts.items }
+    requires unused { tables.now.unused.items ≡ unused_faults tables.now.places.items tables.now.listings.items }
     requires none { faults.old.items ≡ [] }
     ensures { OnOk result (AreFaults tables.now.listings.items faults.new.items) }
 {
-    push_unused(faults, &tables.places, &tables.listings)?;
+    push_each(faults, &tables.unused)?;
     push_counts(faults, &tables.listings, &tables.counts)?;
     push_far(alloc, faults, &tables.places, &tables.listings)
+}
+
+/// Puts what was found behind other faults.
+pub(crate) fn push_each(faults: &mut Vec<Fault>, found: &[Fault]) -> Result<(), AllocError>
+    ensures { OnOk result (faults.new.items ≡ faults.old.items ++ found.now) }
+{
+    for fault in found {
+        faults.push(*fault)?;
+    }
+    Ok(())
 }

@@ -1,7 +1,7 @@
 //! The rows with their names listed, once for all checks.
 
-ghost use Rattle.std.specs.Prelude.{◌≡◌, ◌++◌, [], map, IfOk, OnOk};
-ghost use Rattle.nv_check.specs.Listings.{AddsListing, AreListings, target, targets};
+ghost use Rattle.std.specs.Prelude.{◌≡◌, [], IfOk, OnOk};
+ghost use Rattle.nv_check.specs.Listings.{AddsListing, AreListings};
 
 use nv_names::Named;
 use nv_scan::Row;
@@ -49,26 +49,5 @@ fn push_listing<'a>(listings: &mut Vec<Listing<'a>>, row: &'a Row) -> Result<(),
         links: row.numbers.links,
         names,
     })?;
-    Ok(())
-}
-
-/// The inodes named, once for each name.
-pub(crate) fn targets_of(alloc: Global, listings: &[Listing<'_>]) -> Result<Vec<u64>, AllocError>
-    ensures { IfOk result (λ found. found.items ≡ targets listings.now) }
-{
-    // Most inodes have one name.
-    let mut found = Vec::with_capacity(alloc, listings.len())?;
-    for listing in listings {
-        push_targets(&mut found, &listing.names)?;
-    }
-    Ok(found)
-}
-
-fn push_targets(found: &mut Vec<u64>, names: &[Named<'_>]) -> Result<(), AllocError>
-    ensures { OnOk result (found.new.items ≡ found.old.items ++ map target names.now) }
-{
-    for name in names {
-        found.push(name.inode)?;
-    }
     Ok(())
 }

@@ -1,28 +1,14 @@
 //! Names that lead nowhere.
 
 ghost use Rattle.std.specs.Prelude.{◌≡◌, ◌++◌, OnOk};
-ghost use Rattle.nv_check.specs.Steps.{unused_of, unused_faults};
+ghost use Rattle.nv_check.specs.Steps.{unused_of};
 
 use crate::listing::Listing;
 use crate::places::find;
 use nv_super::Fault;
 use std::alloc::{AllocError, Global};
 
-/// Faults of names whose inode isn't in use.
-pub(crate) fn push_unused(
-    faults: &mut Vec<Fault>,
-    places: &[Option<u32>],
-    listings: &[Listing<'_>],
-) -> Result<(), AllocError>
-    ensures { OnOk result (faults.new.items ≡ faults.old.items ++ unused_faults places.now listings.now) }
-{
-    for listing in listings {
-        push_unused_of(faults, places, listing)?;
-    }
-    Ok(())
-}
-
-/// The same of one row.
+/// Faults of one row's names whose inode isn't in use.
 pub(crate) fn push_unused_of(
     faults: &mut Vec<Fault>,
     places: &[Option<u32>],

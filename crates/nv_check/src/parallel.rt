@@ -10,7 +10,7 @@ ghost use Rattle.nv_check.specs.Cross.{IsCrossFaultIn};
 ghost use Rattle.nv_check.specs.Steps.{named_at, named_by, all_of, AreNear};
 
 use crate::counts::fault_of;
-use crate::cross::cross_faults_one;
+use crate::cross::{cross_faults_one, push_each};
 use crate::listing::Listing;
 use crate::names::push_unused_of;
 use crate::places::find;
@@ -57,7 +57,7 @@ fn near_by_row<H: Threads + Sync>(
     rt: &H,
     alloc: Global,
     places: &[Option<u32>],
-    counts: &[u64],
+    counts: &[u128],
     listings: &[Listing<'_>],
 ) -> Result<Vec<Vec<Fault>>, AllocError>
     ensures { IfOk result (λ near. AllZip (AreNear places.now counts.now) listings.now near.items) }
@@ -76,7 +76,7 @@ fn near_by_row<H: Threads + Sync>(
 fn near_of(
     alloc: Global,
     places: &[Option<u32>],
-    counts: &[u64],
+    counts: &[u128],
     listing: &Listing<'_>,
 ) -> Result<Vec<Fault>, AllocError>
     ensures { IfOk result (AreNear places.now counts.now listing.now) }
@@ -90,7 +90,7 @@ fn near_of(
 }
 
 /// How often an inode is named.
-fn named_by(places: &[Option<u32>], counts: &[u64], inode: u64) -> u64
+fn named_by(places: &[Option<u32>], counts: &[u128], inode: u64) -> u128
     ensures { result ≡ named_by places.now counts.now inode }
 {
     match find(places, inode) {
@@ -99,7 +99,7 @@ fn named_by(places: &[Option<u32>], counts: &[u64], inode: u64) -> u64
     }
 }
 
-fn count_at(counts: &[u64], place: usize) -> u64
+fn count_at(counts: &[u128], place: usize) -> u128
     ensures { result ≡ named_at counts.now (Some place) }
 {
     counts.get(place).copied().unwrap_or(0)
@@ -110,16 +110,7 @@ fn push_rows(faults: &mut Vec<Fault>, near: &[Vec<Fault>]) -> Result<(), AllocEr
     ensures { OnOk result (faults.new.items ≡ faults.old.items ++ all_of near.now) }
 {
     for row in near {
-        push_row(faults, row)?;
-    }
-    Ok(())
-}
-
-fn push_row(faults: &mut Vec<Fault>, row: &[Fault]) -> Result<(), AllocError>
-    ensures { OnOk result (faults.new.items ≡ faults.old.items ++ row.now) }
-{
-    for fault in row {
-        faults.push(*fault)?;
+        push_each(faults, row)?;
     }
     Ok(())
 }

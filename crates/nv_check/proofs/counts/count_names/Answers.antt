@@ -1,52 +1,31 @@
-use Rattle.std.proofs.Common.{◌≡◌, ◌+◌, ◌<◌, ℕ, List, length, get_or, subst, arith, refl, sym, ap, ◌∙◌}
-use Rattle.std.proofs.Math.ListN.{set}
-use Rattle.std.proofs.lemmas.List.{get_or_default, length-replicate, take_all}
-use Rattle.std.proofs.lemmas.Result.{IfOk-from_err}
-use Rattle.nv_blockset.proofs.Sets.{blank_at}
-use Rattle.nv_check.specs.Steps.{AreCounts}
-use Rattle.nv_check.proofs.Counting.{counts_skip, counts_add, count_small}
+use Rattle.std.proofs.Common.{◌<◌, ◌^◌, ℕ, List, [], length, subst, sym, arith}
+use Rattle.std.proofs.lemmas.List.{take_all}
+use Rattle.nv_check.specs.declared.listing.Listing.{Listing}
+use Rattle.nv_check.specs.Listings.{targets}
+use Rattle.nv_check.specs.Steps.{IsTable, AreCounts, unused_of}
+use Rattle.nv_check.proofs.Counting.{flats}
+use Rattle.nv_check.proofs.Follow.{is_table, numbers_of_names}
+use Rattle.nv_check.proofs.NamesCounted.{room_for_row, row_counted}
 use Rattle.nv_check.proofs.counts.count_names.Goals as goal
-use Rattle.nv_check.proofs.counts.count_names.Goals.{in-Some, in_default}
 
-pub overflow_add-index_mut : goal.overflow_add-index_mut
-overflow_add-index_mut c =
-    let at = sym c.find.ensures ∙ c.in-Some.is in
-    let small = count_small _ _ _ _ _ _ c.loop-target-test.true refl c.loop-target.invariant c.in-Some.place at in
-    let inside = c.requires.within _ _ at in
-    let within : c.in-Some.place < length c.loop-target.counts.items = omega (arith, inside, c.loop-target.invariant.same) in
-    let value : c.index_mut.result.now ≡ get_or c.loop-target.counts.items c.in-Some.place 0 = c.index_mut.ensures.value ∙ get_or_default _ _ _ 0 within in
-    omega (arith, small, value)
+pub count_names_of-requires-clause-room : goal.count_names_of-requires-clause-room
+count_names_of-requires-clause-room c =
+    let counts = c.loop-listing.counts in
+    let few : length c.args.listings.now < 2 ^ 63 = omega (arith, c.loop-listing.invariant.counts.same, counts.ok.0, counts.ok.1, counts.small) in
+    room_for_row c.args.listings.now c.args.places.now c.loop-listing.counts.items c.loop-listing.listing-index c.listing-item.result c.loop-listing-test.true c.listing-item.is c.loop-listing.invariant.counts few
 
-pub loop-target-preserved : goal.loop-target-preserved
-loop-target-preserved c = elim c.match-find.branch [
-  | in-Some w ↦ (
-      let at = sym c.find.ensures ∙ w.in-Some.is in
-      let inside = c.requires.within _ _ at in
-      let within : w.in-Some.place < length c.loop-target.counts.items = omega (arith, inside, c.loop-target.invariant.same) in
-      let value : w.index_mut.result.now ≡ get_or c.loop-target.counts.items w.in-Some.place 0 = w.index_mut.ensures.value ∙ get_or_default _ _ _ 0 within in
-      let e : c.match-find.counts.items ≡ set c.loop-target.counts.items w.in-Some.place (get_or c.loop-target.counts.items w.in-Some.place 0 + 1) =
-      ap (λ v. v.items) w.counts-is ∙ ap (λ n. set c.loop-target.counts.items w.in-Some.place (n + 1)) value in
-      rw e (counts_add _ _ _ _ _ _ c.loop-target-test.true refl c.loop-target.invariant w.in-Some.place c.requires at))
-  | in_default w ↦ (
-      let e : c.match-find.counts.items ≡ c.loop-target.counts.items = ap (λ v. v.items) w.counts-is in
-      rw e (counts_skip _ _ _ _ _ _ c.loop-target-test.true refl c.loop-target.invariant (sym c.find.ensures ∙ w.in_default.is)))
-]
+pub loop-listing-preserved : goal.loop-listing-preserved
+loop-listing-preserved c =
+    record {
+      counts = row_counted c.args.listings.now c.args.places.now c.loop-listing.counts.items c.loop-listing.listing-index c.listing-item.result c.loop-listing-test.true c.listing-item.is c.loop-listing.invariant.counts _ c.in_ok-count_names_of.ensures.counts;
+      unused = flats (unused_of c.args.places.now) c.args.listings.now c.loop-listing.listing-index c.listing-item.result [] _ _ c.loop-listing-test.true c.listing-item.is c.in_ok-count_names_of.ensures.unused c.loop-listing.invariant.unused;
+    }
 
-pub returns-in_err-counts : goal.returns-in_err-counts
-returns-in_err-counts c = IfOk-from_err c.from_residual.result _ c.from_residual.ensures.0
+pub count_names_of-requires-clause-table : goal.count_names_of-requires-clause-table
+count_names_of-requires-clause-table c =
+    subst (λ (n : ℕ). IsTable n c.args.places.now) (sym c.loop-listing.invariant.counts.same) (is_table c.args.listings.now c.args.places.now c.requires)
 
-pub loop-target-init : goal.loop-target-init
-loop-target-init c =
-    let e = c.in_ok-counts.ensures.items_if_clones_equal (λ y h. h) in
-    record { same = ap length e ∙ length-replicate c.args.n 0; each = λ i k at. ap (λ (counts : List ℕ). get_or counts k 0) e ∙ blank_at c.args.n k 0 }
-
-pub bounds-targets-target-index : goal.bounds-targets-target-index
-bounds-targets-target-index c = c.loop-target-test.true
-
-pub index_mut-requires : goal.index_mut-requires
-index_mut-requires c =
-    let inside = c.requires.within _ _ (sym c.find.ensures ∙ c.in-Some.is) in
-    subst (λ (n : ℕ). c.in-Some.place < n) (sym (c.loop-target.counts.ok.0 ∙ c.loop-target.invariant.same)) inside
-
-pub returns : goal.returns
-returns c = subst (λ (targets : List ℕ). AreCounts c.args.n c.args.places.now targets c.loop-target.counts.items) (take_all c.loop-target.target-index c.args.targets.now c.loop-target-test.false) c.loop-target.invariant
+pub returns-clause-counts : goal.returns-clause-counts
+returns-clause-counts c =
+    let listings = c.args.listings.now in let table = c.args.places.now in let counts = c.loop-listing.counts.items in
+    numbers_of_names listings table c.requires counts (subst (λ (ls : List Listing). AreCounts (length listings) table (targets ls) counts) (take_all c.loop-listing.listing-index listings c.loop-listing-test.false) c.loop-listing.invariant.counts)

@@ -1,6 +1,10 @@
-use Rattle.std.proofs.Common.{take}
-use Rattle.nv_check.specs.Steps.{AreCounts}
+use Rattle.std.proofs.Common.{◌≡◌, length, take}
+use Rattle.nv_check.specs.Listings.{targets}
+use Rattle.nv_check.specs.Steps.{AreCounts, unused_faults}
 use Rattle.nv_check.proofs.counts.count_names.Given as goal
 
-abbrev pub invariant-loop-target : goal.invariant-loop-target
-invariant-loop-target l = AreCounts l.n l.places (take l.target-index l.targets) l.counts.items
+abbrev pub invariant-loop-listing : goal.invariant-loop-listing
+invariant-loop-listing l = record {
+  counts : AreCounts (length l.listings) l.places (targets (take l.listing-index l.listings)) l.counts.items;
+  unused : l.unused.items ≡ unused_faults l.places (take l.listing-index l.listings);
+}

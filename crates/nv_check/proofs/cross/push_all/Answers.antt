@@ -11,19 +11,19 @@ returns c =
     let t = c.args.tables.now in
     let listings = t.listings.items in let table = t.places.items in
     let one = unused_faults table listings in let two = filter_map (count_fault listings) listings in
-    let first : c.push_unused.new.faults.items ≡ one =
-    c.in_ok-push_unused.ensures ∙ (λ i. c.requires.none i ++ unused_faults (c.deref.ensures.value i) (c.deref-2.ensures.value i)) in
+    let first : c.push_each.new.faults.items ≡ one =
+    c.in_ok-push_each.ensures ∙ (λ i. c.requires.none i ++ c.deref.ensures.value i) ∙ c.requires.unused in
     let near : c.push_counts.new.faults.items ≡ one ++ two =
-    c.in_ok-push_counts.ensures ∙ (λ i. first i ++ filter_map (count_fault (c.deref-3.ensures.value i)) (c.deref-3.ensures.value i)) in
+    c.in_ok-push_counts.ensures ∙ (λ i. first i ++ filter_map (count_fault (c.deref-2.ensures.value i)) (c.deref-2.ensures.value i)) in
     let F : List Listing → Type 0 = λ ls. Adds (IsFar ls) c.push_counts.new.faults.items c.push_far.new.faults.items in
-    on_ok_weaker c.push_far.result (λ far. all_faults listings table c.requires.places c.push_counts.new.faults.items c.push_far.new.faults.items (from_both _ one two near) (into_both _ one two near) (subst F c.deref-6.ensures.value far)) c.push_far.ensures
+    on_ok_weaker c.push_far.result (λ far. all_faults listings table c.requires.places c.push_counts.new.faults.items c.push_far.new.faults.items (from_both _ one two near) (into_both _ one two near) (subst F c.deref-5.ensures.value far)) c.push_far.ensures
 
 pub push_counts-requires : goal.push_counts-requires
 push_counts-requires c =
-    let L : List Listing → Type 0 = λ ls. AreNumbersOfNames ls c.deref-4.result.now in let N : List ℕ → Type 0 = λ ns. AreNumbersOfNames c.args.tables.now.listings.items ns in
-    subst L (sym c.deref-3.ensures.value) (subst N (sym c.deref-4.ensures.value) c.requires.counts)
+    let L : List Listing → Type 0 = λ ls. AreNumbersOfNames ls c.deref-3.result.now in let N : List ℕ → Type 0 = λ ns. AreNumbersOfNames c.args.tables.now.listings.items ns in
+    subst L (sym c.deref-2.ensures.value) (subst N (sym c.deref-3.ensures.value) c.requires.counts)
 
 pub push_far-requires : goal.push_far-requires
 push_far-requires c =
-    let L : List Listing → Type 0 = λ ls. ArePlaces ls c.deref-5.result.now in let P : List (Option ℕ) → Type 0 = λ t. ArePlaces c.args.tables.now.listings.items t in
-    subst L (sym c.deref-6.ensures.value) (subst P (sym c.deref-5.ensures.value) c.requires.places)
+    let L : List Listing → Type 0 = λ ls. ArePlaces ls c.deref-4.result.now in let P : List (Option ℕ) → Type 0 = λ t. ArePlaces c.args.tables.now.listings.items t in
+    subst L (sym c.deref-5.ensures.value) (subst P (sym c.deref-4.ensures.value) c.requires.places)
