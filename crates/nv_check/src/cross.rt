@@ -1,6 +1,6 @@
 //! What is wrong between inodes.
 
-ghost use Rattle.std.specs.Prelude.{◌≡◌, ◌++◌, [], map, IfOk, IsTrue, OnOk};
+ghost use Rattle.std.specs.Prelude.{◌≡◌, [], map, IfOk, IsTrue, OnOk};
 ghost use Rattle.std.specs.List.{All};
 ghost use Rattle.nv_super.specs.Layout.{IsLayout, inode_limit, is_number};
 ghost use Rattle.nv_super.specs.Order.{fault_key, Lists};
@@ -55,17 +55,7 @@ fn push_all(alloc: Global, faults: &mut Vec<Fault>, tables: &Tables<'_>) -> Resu
     requires none { faults.old.items ≡ [] }
     ensures { OnOk result (AreFaults tables.now.listings.items faults.new.items) }
 {
-    push_each(faults, &tables.unused)?;
+    faults.extend_from_slice(&tables.unused)?;
     push_counts(faults, &tables.listings, &tables.counts)?;
     push_far(alloc, faults, &tables.places, &tables.listings)
-}
-
-/// Puts what was found behind other faults.
-pub(crate) fn push_each(faults: &mut Vec<Fault>, found: &[Fault]) -> Result<(), AllocError>
-    ensures { OnOk result (faults.new.items ≡ faults.old.items ++ found.now) }
-{
-    for fault in found {
-        faults.push(*fault)?;
-    }
-    Ok(())
 }

@@ -10,7 +10,7 @@ ghost use Rattle.nv_check.specs.Cross.{IsCrossFaultIn};
 ghost use Rattle.nv_check.specs.Steps.{named_at, named_by, all_of, AreNear};
 
 use crate::counts::fault_of;
-use crate::cross::{cross_faults_one, push_each};
+use crate::cross::cross_faults_one;
 use crate::listing::Listing;
 use crate::names::push_unused_of;
 use crate::places::find;
@@ -110,7 +110,7 @@ fn push_rows(faults: &mut Vec<Fault>, near: &[Vec<Fault>]) -> Result<(), AllocEr
     ensures { OnOk result (faults.new.items ≡ faults.old.items ++ all_of near.now) }
 {
     for row in near {
-        push_each(faults, row)?;
+        faults.extend_from_slice(row)?;
     }
     Ok(())
 }

@@ -5,15 +5,15 @@ ghost use Rattle.std.specs.List.Sorted.{IsPermutation};
 ghost use Rattle.nv_region.specs.Region.{HasBlocks};
 ghost use Rattle.nv_region.specs.Fuses.{KeepsFuse};
 ghost use Rattle.nv_region.specs.Stops.{LeavesOnly, NothingPending};
-ghost use Rattle.nv_super.specs.Layout.{IsLayout, HasAreas, system_blocks};
+ghost use Rattle.nv_super.specs.Layout.{IsLayout, system_blocks};
 ghost use Rattle.nv_super.specs.Super.{IsSuper};
 ghost use Rattle.nv_super.specs.declared.superblock.Super.{Super as SuperValue};
 ghost use Rattle.nv_journal.specs.Undo.{undone};
 ghost use Rattle.nv_journal.specs.Undone.{AllQuiet};
 ghost use Rattle.nv_claimcore.specs.Replay.{lists, Inside, first_stranger};
 ghost use Rattle.nv_scan.specs.declared.piece.Piece.{Piece as PieceValue};
-ghost use Rattle.nv_scan.specs.Tickets.{ticket_count, numbers_of};
-ghost use Rattle.nv_scan.specs.Work.{AreNext, claims_in};
+ghost use Rattle.nv_scan.specs.Tickets.{ticket_count};
+ghost use Rattle.nv_scan.specs.Work.{claims_among, claims_in};
 ghost use Rattle.nv_outcome.specs.Outcome.{IsOutcome};
 ghost use Rattle.nv_recover.specs.declared.errors.RecoverError.TheVariants as errors;
 ghost use Rattle.nv_outcome.specs.Answer.{outcome_of, SharesBlocks};
@@ -30,7 +30,7 @@ use nv_claimcore::{ClaimState, CoreRefusal, replay};
 use nv_claimmap::Claimed;
 use nv_outcome::{Recovered, cross_faults_one};
 use nv_region::Pmem;
-use nv_scan::{Claims, Inodes, SLOTS, Scanner, ticket_count};
+use nv_scan::{Claims, Inodes, Scanner, room_for_ticket, scan_slots, ticket_count};
 use nv_super::{Owner, Super};
 use std::alloc::{AllocError, Global};
 
@@ -116,35 +116,23 @@ fn scan_apart<P: Pmem>(
 {
     let mut scanner = Scanner::new(alloc, sup);
     let mut inodes = Inodes::new(alloc);
+    let mut each = room_for_ticket(alloc)?;
     let mut work = Vec::new(alloc);
     for ticket in 0..ticket_count(sup) {
-        let list = scan_ticket(alloc, memory, &mut scanner, &mut inodes, ticket)?;
+        let count = scan_slots(memory, &mut scanner, &mut inodes, &mut each, ticket)?;
+        let list = list_of(alloc, &each[..count])?;
         work.push(list)?;
     }
     Ok((inodes, work))
 }
 
-// Scans the inodes of a ticket's table block: what each is by itself is kept, and what they claim is handed on.
-fn scan_ticket<P: Pmem>(
-    alloc: Global,
-    memory: &P,
-    scanner: &mut Scanner,
-    inodes: &mut Inodes,
-    ticket: u64,
-) -> Result<Vec<(u64, Owner)>, AllocError>
-    requires blocks { HasBlocks (P.region memory.now) scanner.old.blocks }
-    requires areas { HasAreas scanner.old }
-    requires ticket { ticket < ticket_count scanner.old }
-    ensures same { scanner.new ≡ scanner.old }
-    ensures next { IfOk result (λ list. AreNext (P.region memory.now) scanner.old (numbers_of scanner.old ticket) inodes.old inodes.new list.items) }
+// The claims of several inodes in one list.
+fn list_of(alloc: Global, each: &[Claims]) -> Result<Vec<(u64, Owner)>, AllocError>
+    ensures { IfOk result (λ list. list.items ≡ claims_among each.now) }
 {
     let mut list = Vec::new(alloc);
-    let mut claims = Claims::new(alloc);
-    for slot in 0..SLOTS {
-        let found = scanner.scan_place(memory, SLOTS * ticket + slot, inodes, &mut claims)?;
-        if found {
-            list.extend_from_slice(&claims.to_list(alloc)?)?;
-        }
+    for claims in each {
+        list.extend_from_slice(&claims.to_list(alloc)?)?;
     }
     Ok(list)
 }

@@ -297,7 +297,7 @@ fn reads_second(
 {
     let mut inodes = Inodes::new(alloc);
     let mut claims = Claims::new(alloc);
-    scanner.scan(memory, 2, &mut inodes, &mut claims)?;
+    scanner.scan_place(memory, 2, &mut inodes, &mut claims)?;
     assert_claims(rt, alloc, &claims, &OWNED_BY_FILE);
     Ok(())
 }

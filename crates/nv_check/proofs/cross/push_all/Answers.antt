@@ -11,8 +11,8 @@ returns c =
     let t = c.args.tables.now in
     let listings = t.listings.items in let table = t.places.items in
     let one = unused_faults table listings in let two = filter_map (count_fault listings) listings in
-    let first : c.push_each.new.faults.items ≡ one =
-    c.in_ok-push_each.ensures ∙ (λ i. c.requires.none i ++ c.deref.ensures.value i) ∙ c.requires.unused in
+    let first : c.extend_from_slice.new.self.items ≡ one =
+    c.in_ok-extend_from_slice.ensures.items ∙ (λ i. c.requires.none i ++ c.deref.ensures.value i) ∙ c.requires.unused in
     let near : c.push_counts.new.faults.items ≡ one ++ two =
     c.in_ok-push_counts.ensures ∙ (λ i. first i ++ filter_map (count_fault (c.deref-2.ensures.value i)) (c.deref-2.ensures.value i)) in
     let F : List Listing → Type 0 = λ ls. Adds (IsFar ls) c.push_counts.new.faults.items c.push_far.new.faults.items in

@@ -17,10 +17,10 @@ bounds-near-row-index c = c.loop-row-test.true
 pub loop-row-preserved : goal.loop-row-preserved
 loop-row-preserved c =
     flats (λ (v : Vec Fault Global). v.items) c.args.near.now c.loop-row.row-index c.row-item.result _ _ _ c.loop-row-test.true c.row-item.is
-    (c.in_ok-push_each.ensures ∙ ap (λ (fs : List Fault). c.loop-row.faults.items ++ fs) c.deref.ensures.value) c.loop-row.invariant
+    (c.in_ok-extend_from_slice.ensures.items ∙ ap (λ (fs : List Fault). c.loop-row.faults.items ++ fs) c.deref.ensures.value) c.loop-row.invariant
 
-pub returns-in_err-push_each : goal.returns-in_err-push_each
-returns-in_err-push_each c = IfOk-from_err c.from_residual.result _ c.from_residual.ensures.0
+pub returns-in_err-extend_from_slice : goal.returns-in_err-extend_from_slice
+returns-in_err-extend_from_slice c = IfOk-from_err c.from_residual.result _ c.from_residual.ensures.0
 
 pub returns : goal.returns
 returns c = c.loop-row.invariant ∙ ap (λ (near : List (Vec Fault Global)). c.args.faults.now.items ++ all_of near) (take_all c.loop-row.row-index c.args.near.now c.loop-row-test.false)

@@ -1,9 +1,11 @@
-use Rattle.std.proofs.Common.{◌<◌, ◌∙◌, ℕ, sym, subst}
+use Rattle.std.proofs.Common.{◌<◌, ◌∙◌, ℕ, sym, subst, List, ap, take, ◌≡◌}
 use Rattle.std.specs.List.Sorted.{IsPermutation}
 use Rattle.nv_region.specs.Region.{HasBlocks}
 use Rattle.nv_super.specs.declared.superblock.Super.{Super}
 use Rattle.nv_scan.specs.Tickets.{ticket_count, numbers_of}
-use Rattle.nv_scan.specs.Work.{claims_in, AreNext}
+use Rattle.nv_super.specs.Layout.{IsLayout}
+use Rattle.nv_scan.specs.ClaimList.{ClaimList}
+use Rattle.nv_scan.specs.Work.{claims_among, claims_in, AreNext}
 use Rattle.nv_recover.proofs.Inodes.{ended_at}
 use Rattle.nv_recover.proofs.InOrder.{first_in_order}
 use Rattle.nv_recover.proofs.Tickets.{tickets_none, tickets_more}
@@ -12,6 +14,7 @@ use Rattle.nv_recover.proofs.replaying.scan_apart.Goals as goal
 pub loop-ticket-init : goal.loop-ticket-init
 loop-ticket-init g c = record {
   same = c.new-scanner.ensures;
+  room = c.in_ok-each.ensures;
   first = tickets_none c.new-inodes.ensures.rows c.new-inodes.ensures.faults c.new-work.ensures.items;
 }
 
@@ -20,10 +23,15 @@ loop-ticket-preserved g c =
     let R = g.P.Pmem.region c.args.memory.now in
     let l = c.loop-ticket in
     let t = l.ticket in
+    let own = claims_among (take c.in_ok-count.count c.scan_slots.new.each.items) in
+    let next = subst (λ (s : Super). AreNext R s (numbers_of s t) l.inodes c.scan_slots.new.inodes own) l.invariant.same c.in_ok-count.ensures.next in
+    let list = c.in_ok-list.list.items in
+    let same : list ≡ own = c.in_ok-list.ensures ∙ ap (λ (each : List ClaimList). claims_among (take c.in_ok-count.count each)) c.deref.ensures.value in
     record {
-      same = c.scan_ticket.ensures.same ∙ l.invariant.same;
+      same = c.scan_slots.ensures.scanner ∙ l.invariant.same;
+      room = c.scan_slots.ensures.room;
       first = tickets_more t c.in_ok-list.list l.invariant.first
-          (subst (λ (s : Super). AreNext R s (numbers_of s t) l.inodes c.scan_ticket.new.inodes c.in_ok-list.list.items) l.invariant.same c.in_ok-list.ensures.next) c.in_ok-push.ensures.items;
+          (subst (AreNext R c.args.sup.now (numbers_of c.args.sup.now t) l.inodes c.scan_slots.new.inodes) (sym same) next) c.in_ok-push.ensures.items;
     }
 
 pub returns-clause-inodes : goal.returns-clause-inodes
@@ -38,10 +46,13 @@ returns-clause-tickets g c =
     let l = c.loop-ticket in
     l.invariant.first.lists_are ∙ ended_at c.ticket_count-ticket-end.ensures c.loop-ticket-test.false l.auto.ticket-end
 
-pub scan_ticket-requires-clause-blocks : goal.scan_ticket-requires-clause-blocks
-scan_ticket-requires-clause-blocks g c = subst (λ (s : Super). HasBlocks (g.P.Pmem.region c.args.memory.now) s.blocks) (sym c.loop-ticket.invariant.same) c.requires.blocks
+pub scan_slots-requires-clause-layout : goal.scan_slots-requires-clause-layout
+scan_slots-requires-clause-layout g c = subst IsLayout (sym c.loop-ticket.invariant.same) c.requires.layout
 
-pub scan_ticket-requires-clause-ticket : goal.scan_ticket-requires-clause-ticket
-scan_ticket-requires-clause-ticket g c =
+pub scan_slots-requires-clause-blocks : goal.scan_slots-requires-clause-blocks
+scan_slots-requires-clause-blocks g c = subst (λ (s : Super). HasBlocks (g.P.Pmem.region c.args.memory.now) s.blocks) (sym c.loop-ticket.invariant.same) c.requires.blocks
+
+pub scan_slots-requires-clause-ticket : goal.scan_slots-requires-clause-ticket
+scan_slots-requires-clause-ticket g c =
     let t = c.loop-ticket.ticket in
     subst (λ (s : Super). t < ticket_count s) (sym c.loop-ticket.invariant.same) (subst (λ (n : ℕ). t < n) c.ticket_count-ticket-end.ensures c.loop-ticket-test.true)

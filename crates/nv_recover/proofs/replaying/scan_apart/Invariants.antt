@@ -1,9 +1,10 @@
-use Rattle.std.proofs.Common.{◌≡◌}
+use Rattle.std.proofs.Common.{◌≡◌, length}
 use Rattle.nv_recover.specs.Scanned.{AreOfTickets}
 use Rattle.nv_recover.proofs.replaying.scan_apart.Given as goal
 
 abbrev pub invariant-loop-ticket : goal.invariant-loop-ticket
 invariant-loop-ticket g l = record {
   same : l.scanner ≡ l.sup;
+  room : length l.each.items ≡ 32;
   first : AreOfTickets (g.P.Pmem.region l.memory) l.sup l.ticket l.inodes l.work.items;
 }

@@ -1,0 +1,18 @@
+use Rattle.std.proofs.Common.{◌++◌, ◌∙◌, ap, sym}
+use Rattle.std.proofs.lemmas.List.{take_all}
+use Rattle.nv_scan.specs.Work.{claims_among}
+use Rattle.nv_scan.proofs.Runs.{among_more}
+use Rattle.nv_recover.proofs.replaying.list_of.Goals as goal
+
+pub loop-claims-init : goal.loop-claims-init
+loop-claims-init c = c.new-list.ensures.items
+
+pub loop-claims-preserved : goal.loop-claims-preserved
+loop-claims-preserved c =
+    let k = c.loop-claims.claims-index in
+    c.in_ok-extend_from_slice.ensures.items
+    ∙ (λ i. c.loop-claims.invariant i ++ (c.deref.ensures.value ∙ c.in_ok-to_list.ensures) i)
+    ∙ sym (among_more c.args.each.now k c.claims-item.result c.loop-claims-test.true c.claims-item.is)
+
+pub returns : goal.returns
+returns c = c.loop-claims.invariant ∙ ap claims_among (take_all c.loop-claims.claims-index c.args.each.now c.loop-claims-test.false)
