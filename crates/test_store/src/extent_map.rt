@@ -4,7 +4,7 @@ ghost use Rattle.std.specs.Prelude.{◌<◌};
 
 use crate::checks::check;
 use crate::file_index::{ROWS, assert_extents, fields_of, numbers};
-use nv_radix::{ExtentMap, MAX_FILE_PAGES};
+use nv_radix::{ExtentMap, FileIndex, MAX_FILE_PAGES};
 use std::alloc::{AllocError, Global};
 use std::process::Abort;
 
