@@ -3,7 +3,7 @@
 
 ghost use Rattle.std.specs.Prelude.{◌<◌};
 ghost use Rattle.nv_region.specs.Region.{HasBlocks};
-ghost use Rattle.nv_super.specs.Layout.{IsLayout};
+ghost use Rattle.nv_super.specs.Layout.{IsLayout, inode_limit};
 ghost use Rattle.nv_scan.specs.Tickets.{ticket_count};
 
 use crate::tickets::SLOTS;
@@ -23,13 +23,25 @@ pub(crate) fn touch_ticket<P: Pmem>(memory: &P, sup: &Super, ticket: u64) -> u64
 {
     let mut heads = [0; SLOTS as usize];
     for slot in 0..SLOTS {
-        heads[slot as usize] = read_nth_slot(memory, sup, SLOTS * ticket + slot).head;
+        heads[slot as usize] = head_at(memory, sup, SLOTS * ticket + slot);
     }
     let mut words = 0;
     for head in heads {
         words ^= first_lines(memory, sup, head);
     }
     words
+}
+
+/// Where the log begins of the inode whose slot has this place; 0 at the place of number 0, whose slot is never read.
+fn head_at<P: Pmem>(memory: &P, sup: &Super, place: u64) -> u64
+    requires layout { IsLayout sup.now }
+    requires blocks { HasBlocks (P.region memory.now) sup.now.blocks }
+    requires place { place < inode_limit sup.now }
+{
+    match place {
+        0 => 0,
+        _ => read_nth_slot(memory, sup, place).head,
+    }
 }
 
 /// A word of each of the first two lines of a log, if a page begins there. Few logs of small files go on behind these.
