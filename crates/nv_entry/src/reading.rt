@@ -43,6 +43,8 @@ pub fn read_entry<P: Pmem>(memory: &P, at: u64, room: u64) -> Result<Entry, Fram
 /// name where it stands.
 ///
 /// Errors: `Framing` exactly where no entry is spelled there that fits the room.
+// A caller that sees into it takes an entry apart without a copy of it.
+#[inline(always)]
 pub fn read_light<P: Pmem>(memory: &P, at: u64, room: u64) -> Result<LightEntry, Framing>
     requires aligned { at % 8 ≡ 0 }
     requires inside { at + room ≤ size (P.region memory.now) }
