@@ -123,10 +123,10 @@ fn is_write_out_of_range(sup: &Super, e: &WriteEntry) -> bool
     ensures { result ≡ is_write_out_of_range sup.now e.now }
 {
     let count = e.count as u64;
-    // Each sum is made where both its parts are small, so none wraps.
+    // Each sum is made where both its parts are small, so none wraps. A last page that begins below a size of at most
+    // `MOST_SIZE` is below `MOST_PAGES`, so that needs no test of its own.
     count == 0
         || e.offset > MOST_PAGES
-        || e.offset + count > MOST_PAGES
         || e.block < sup.system_blocks()
         || e.block > sup.blocks
         || e.block + count > sup.blocks
