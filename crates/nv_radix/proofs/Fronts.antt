@@ -2,13 +2,20 @@
 use Rattle.std.proofs.Common.{◌≡◌, ◌≢◌, ℕ, zero, suc, ◌+◌, ◌-◌, ◌<◌, ◌≤◌, min, Bool, true, false, cond, if◌then◌else◌, nat_le, nat_lt, [], ◌∷◌, ◌++◌, Option, Some, None, refl, ap, sym, ◌∙◌, arith, inl, inr}
 use Rattle.std.specs.Option.{option_or}
 use Rattle.std.proofs.lemmas.Bool.{cases_lt, cases_eq}
-use Rattle.std.proofs.lemmas.Bool.Decides.{nat_tests, eqb_tells}
+use Rattle.std.proofs.lemmas.Bool.Decides.{nat_tests, eqb_tells, leb_tells}
 use Rattle.nv_radix.specs.Pages.{Pages, block_at, is_ready, in_run}
 use Rattle.nv_radix.specs.Runs.{Runs, block_by, one_page, front_runs}
 
 -- below n the first pages go before what else a page maps to
 abbrev pub over : ℕ → Pages → Option ℕ → ℕ → Option ℕ
 over n m o p = if nat_lt p n then option_or (block_at m p) o else o
+
+-- which no page from n on is
+pub over_all : (n : ℕ) (m : Pages) (o : Option ℕ) (p : ℕ) → n ≤ 64 → (n ≤ p → block_at m p ≡ None) → over n m o p ≡ over 64 m o p
+over_all n m o p few none = elim (cases_lt p n) [
+  | inl l ↦ grind (arith, nat_tests, l, few)
+  | inr l ↦ rw (none l) (grind (arith, nat_tests, l))
+]
 
 page_here : (o : Option ℕ) (n p : ℕ) (rest : Option ℕ) → n ≡ p → cond (in_run n (one_page o).count p) (Some ((one_page o).start + (p - n))) rest ≡ option_or o rest
 page_here None n p rest e = grind (arith, nat_tests)
@@ -86,3 +93,16 @@ runs_alone m r none p = rw (block_by-front 64 m r p) (elim (cases_lt p 64) [
   | inl low ↦ rw (unready m p (none p low)) (grind (arith, nat_tests))
   | inr high ↦ grind (arith, nat_tests, high)
 ])
+
+-- a page that neither maps is unmapped
+pub none_from : (m : Pages) (r : Runs) (p : ℕ) → block_at m p ≡ None → block_by r p ≡ None → block_by (front_runs m 64 ++ r) p ≡ None
+none_from m r p front rest = rw (block_by-front 64 m r p, front, rest) (grind (arith, nat_tests))
+
+-- a page of the leaf is set, where no page that a write cuts is mapped
+pub set_one : (m n : Pages) (r : Runs) (page block count end : ℕ) → page < 64 → count ≡ 1
+    → ((p : ℕ) → block_at n p ≡ (if in_run page 1 p then Some (block + (p - page)) else block_at m p))
+    → ((p : ℕ) → end ≤ p → block_by (front_runs m 64 ++ r) p ≡ None)
+    → (p : ℕ) → block_by (front_runs n 64 ++ r) p ≡ (if in_run page count p then Some (block + (p - page)) else (if nat_le end p then None else block_by (front_runs m 64 ++ r) p))
+set_one m n r page block count end first one front none p =
+    set_within m n r r page block count 1 (omega (arith, first, one)) first (omega (arith, first, one)) front p
+    ∙ ap (λ (o : Option ℕ). cond (in_run page count p) (Some (block + (p - page))) o) (elim (leb_tells end p) [ inl w ↦ rw w.0 (none p w.1) | inr w ↦ rw w.0 refl ])

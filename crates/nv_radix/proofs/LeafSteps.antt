@@ -1,12 +1,14 @@
 -- What each call on a leaf makes of its pages.
-use Rattle.std.proofs.Common.{◌≡◌, ℕ, ◌+◌, ◌-◌, ◌*◌, ◌/◌, ◌%◌, ◌^◌, ◌<◌, ◌≤◌, Bool, true, false, true≢false, cond, ◌||◌, eqb, leb, ltb, List, [], ◌∷◌, ◌++◌, length, get_or, take, drop, Option, Some, None, refl, ap, sym, ◌∙◌, subst, arith, inl, inr, suc, bit_and, append_assoc}
+use Rattle.std.proofs.Common.{◌≡◌, ℕ, ◌+◌, ◌-◌, ◌*◌, ◌/◌, ◌%◌, ◌^◌, ◌<◌, ◌≤◌, Bool, true, false, true≢false, cond, ◌||◌, eqb, leb, ltb, List, [], ◌∷◌, ◌++◌, length, get_or, take, drop, Option, Some, None, refl, ap, sym, ◌∙◌, subst, arith, inl, inr, suc, bit_and, bit_or, append_assoc, w64}
+use Rattle.std.proofs.Math.ListN.{set}
 use Rattle.std.specs.Int.{bit_at}
-use Rattle.std.proofs.lemmas.Bool.{cases_lt}
+use Rattle.std.specs.Int.Count.{count_leading_zeros}
+use Rattle.std.proofs.lemmas.Bool.{cases_lt, cases_eq}
 use Rattle.std.proofs.lemmas.Bool.Decides.{eqb_tells, leb_tells, nat_tests}
 use Rattle.std.proofs.lemmas.Grind.{one_shifted}
-use Rattle.std.proofs.lemmas.List.{take_more, length-take-le, take-append-drop}
-use Rattle.std.proofs.lemmas.Nat.{pow-add}
-use Rattle.std.proofs.lemmas.Nat.Bits.{bit_at-zero, bit_at-lt, bit_at_and, bit_at_ones, bit_at_ones_above, shr_and_one}
+use Rattle.std.proofs.lemmas.List.{take_more, length-take-le, take-append-drop, length-set, get_or-set_same, get_or-set_other}
+use Rattle.std.proofs.lemmas.Nat.{pow-add, leading_length}
+use Rattle.std.proofs.lemmas.Nat.Bits.{bit_at-zero, bit_at-lt, bit_at_above, bit_at_and, bit_at_ones, bit_at_ones_above, bit_at_set_same, bit_at_set_other, shr_and_one}
 use Rattle.std.proofs.Math.Nat.{div-div-eq-div-mul, zero-div}
 use Rattle.nv_radix.specs.declared.extent.Extent.{Extent}
 use Rattle.nv_radix.specs.Pages.{Pages, block_at, is_ready, in_run}
@@ -50,6 +52,15 @@ low_bits mapped k p l =
       | inr w ↦ rw (w.0, bit_at_ones k p w.1) (let few = bit_at-lt mapped p in omega (arith, few))
     ]
 
+-- no bit is set from a place on where the number shifted by it is 0
+pub no_more_bits : (n k q : ℕ) → n / 2 ^ k ≡ 0 → k ≤ q → bit_at n q ≡ 0
+no_more_bits n k q e l =
+    let far : k + (q - k) ≡ q = omega (arith, l) in
+    ap (bit_at n) (sym far)
+    ∙ sym (ap (λ (m : ℕ). m % 2) (div-div-eq-div-mul n (2 ^ k) (2 ^ (q - k)) ∙ ap (λ (m : ℕ). n / m) (sym (pow-add 2 k (q - k)))))
+    ∙ ap (λ (m : ℕ). bit_at m (q - k)) e
+    ∙ bit_at-zero (q - k)
+
 -- where no bit from a place on is set, they need no clearing
 pub low_only : (mapped k p : ℕ) → mapped / 2 ^ k ≤ 0 → bit_at mapped p ≡ cond (leb k p) 0 (bit_at mapped p)
 low_only mapped k p none = elim (leb_tells k p) [
@@ -68,10 +79,24 @@ leaf_cut mapped new blocks k p bits = elim (cases_lt p (length blocks)) [
   | inr l ↦ rw (block_at-past_leaf new blocks p l, block_at-past_leaf mapped blocks p l) (elim (leb_tells k p) [ inl w ↦ rw w.0 refl | inr w ↦ rw w.0 refl ])
 ]
 
+-- no page behind a leaf is mapped
+pub past_leaf : (mapped : ℕ) (blocks : List ℕ) (p : ℕ) → (0 < length blocks → length blocks ≡ 64) → 64 ≤ p → block_at (leaf_pages mapped blocks 0) p ≡ None
+past_leaf mapped blocks p size past = block_at-past_leaf mapped blocks p (elim (cases_lt 0 (length blocks)) [ inl u ↦ (let full = size u in omega (arith, full, past)) | inr u ↦ omega (arith, u) ])
+
+-- nor one whose bit is not set
+pub clear_page : (mapped : ℕ) (blocks : List ℕ) (p : ℕ) → bit_at mapped p ≡ 0 → block_at (leaf_pages mapped blocks 0) p ≡ None
+clear_page mapped blocks p clear = sym (leaf_unset mapped blocks p (λ e. absurd (omega (arith, e, clear))))
+
+-- nor one behind the highest bit
+pub past_highest : (mapped : ℕ) (blocks : List ℕ) (p : ℕ) → mapped < 2 ^ 64 → 64 - count_leading_zeros 64 mapped ≤ p → block_at (leaf_pages mapped blocks 0) p ≡ None
+past_highest mapped blocks p below past =
+    let top = leading_length 64 mapped below in
+    clear_page mapped blocks p (bit_at_above mapped top.0 p top.2 (omega (arith, top.1, past)))
+
 -- a leaf ends before the pages that are cut
 pub leaf_uncut : (mapped : ℕ) (blocks : List ℕ) (k p : ℕ) → (0 < length blocks → length blocks ≡ 64) → 64 ≤ k → block_at (leaf_pages mapped blocks 0) p ≡ cond (leb k p) None (block_at (leaf_pages mapped blocks 0) p)
 leaf_uncut mapped blocks k p size past = elim (leb_tells k p) [
-  | inl w ↦ rw w.0 (block_at-past_leaf mapped blocks p (elim (cases_lt 0 (length blocks)) [ inl u ↦ (let full = size u in omega (arith, full, w.1, past)) | inr u ↦ omega (arith, u) ]))
+  | inl w ↦ rw w.0 (past_leaf mapped blocks p size (omega (arith, w.1, past)))
   | inr w ↦ rw w.0 refl
 ]
 
@@ -106,6 +131,29 @@ leaf_set mapped new blocks written page block count p same few part bits is = el
     outside : (page count p : ℕ) → page + count ≤ p → in_run page count p ≡ false
     outside page count p part = grind (arith, nat_tests)
 
+one_page : (page q : ℕ) → q ≡ page → in_run page 1 q ≡ true
+one_page page q e = grind (arith, nat_tests)
+
+other_page : (page q : ℕ) → (q ≡ page → ⊥) → in_run page 1 q ≡ false
+other_page page q n = grind (arith, nat_tests)
+
+-- the bits with that of one page
+pub one_bit : (mapped page q : ℕ) → page < 64 → bit_at (bit_or mapped (1 * 2 ^ page % 18446744073709551616)) q ≡ cond (in_run page 1 q) 1 (bit_at mapped q)
+one_bit mapped page q low = elim (cases_eq q page) [
+  | inl e ↦ rw (one_page page q e, e) (bit_at_set_same w64 mapped page (omega (arith, low)))
+  | inr n ↦ rw (other_page page q n) (bit_at_set_other w64 mapped page (omega (arith, low)) q n)
+]
+
+-- a leaf with one of its pages set
+pub leaf_set_one : (mapped : ℕ) (blocks : List ℕ) (page block p : ℕ) → page < length blocks → length blocks ≤ 64 → block_at (leaf_pages (bit_or mapped (1 * 2 ^ page % 18446744073709551616)) (set blocks page block) 0) p ≡ cond (in_run page 1 p) (Some (block + (p - page))) (block_at (leaf_pages mapped blocks 0) p)
+leaf_set_one mapped blocks page block p inside few = leaf_set mapped _ blocks (set blocks page block) page block 1 p (length-set blocks page block) few (omega (arith, inside)) (λ q l. one_bit mapped page q (omega (arith, inside, few))) is
+  where
+    is : (q : ℕ) → get_or (set blocks page block) q 0 ≡ cond (in_run page 1 q) (block + (q - page)) (get_or blocks q 0)
+    is q = elim (cases_eq q page) [
+      | inl e ↦ rw (one_page page q e, e) (get_or-set_same blocks page block 0 inside ∙ omega arith)
+      | inr n ↦ rw (other_page page q n) (get_or-set_other blocks page q block 0 n)
+    ]
+
 -- one place more of a loop that writes a run
 pub run_more : (X : Type 0) (page step p : ℕ) (new old : X) → (p ≡ page + step → ⊥) → cond (in_run page step p) new old ≡ cond (in_run page (step + 1) p) new old
 run_more X page step p new old other = ap (λ (b : Bool). cond b new old) (same page step p other)
@@ -124,15 +172,6 @@ in_run-last page step = elim (leb_tells page (page + step)) [
   | inl w ↦ elim (leb_tells (suc (page + step)) (page + (step + 1))) [ inl v ↦ rw (w.0, v.0) refl | inr v ↦ absurd (omega (arith, v.1)) ]
   | inr w ↦ absurd (omega (arith, w.1))
 ]
-
--- no bit is set from a place on where the number shifted by it is 0
-pub no_more_bits : (n k q : ℕ) → n / 2 ^ k ≡ 0 → k ≤ q → bit_at n q ≡ 0
-no_more_bits n k q e l =
-    let far : k + (q - k) ≡ q = omega (arith, l) in
-    ap (bit_at n) (sym far)
-    ∙ sym (ap (λ (m : ℕ). m % 2) (div-div-eq-div-mul n (2 ^ k) (2 ^ (q - k)) ∙ ap (λ (m : ℕ). n / m) (sym (pow-add 2 k (q - k)))))
-    ∙ ap (λ (m : ℕ). bit_at m (q - k)) e
-    ∙ bit_at-zero (q - k)
 
 -- the extents of a leaf whose pages from a place on have no block
 pub AreExtents-rest : (base i mapped : ℕ) (blocks : List ℕ) (m : Pages) (extents : List Extent) → i ≤ length blocks → mapped / 2 ^ i ≡ 0 → AreExtents (m ++ raised base (leaf_pages mapped (take i blocks) 0)) extents → AreExtents (m ++ raised base (leaf_pages mapped blocks 0)) extents

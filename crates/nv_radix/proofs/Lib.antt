@@ -12,3 +12,4 @@ pub mod Rising
 pub mod RowSteps
 pub mod Rows
 pub mod FirstPages
+pub mod RunBits

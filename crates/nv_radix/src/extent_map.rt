@@ -77,6 +77,40 @@ impl ExtentMap {
         self.runs.set_run(page, block, count)
     }
 
+    /// Unmaps the pages from `end` on, and then maps the `count` pages from `page` on, all below `MAX_FILE_PAGES`, to as
+    /// many blocks from `block` on: what a write entry says of a file's pages.
+    ///
+    /// Errors: `AllocError` where a growth was refused; of the map nothing is said then.
+    // Most write entries are of one page, which stands in the leaf, and cut nothing: for these this call is a few tests and
+    // two stores, less than a call would cost.
+    #[inline(always)]
+    pub fn write_run(
+        &mut self,
+        end: u64,
+        page: u64,
+        block: u64,
+        count: u64,
+    ) -> Result<(), AllocError>
+        requires pages { AreFilePages page count }
+        requires blocks { 0 < count → block + count ≤ 2 ^ 64 }
+        ensures { OnOk result ((p : ℕ) → block_by self.new p ≡ (if in_run page count p then Some (block + (p - page)) else (if nat_le end p then None else block_by self.old p))) }
+    {
+        if count == 1 && self.front.is_ready(page) && self.ends_by(end) {
+            self.front.set_page(page, block);
+            return Ok(());
+        }
+        self.cut(end)?;
+        self.set_run(page, block, count)
+    }
+
+    /// Whether no page from `end` on is mapped, told without a search: `false` says nothing.
+    #[inline(always)]
+    fn ends_by(&self, end: u64) -> bool
+        ensures { IsTrue result → (p : ℕ) → end ≤ p → block_by self.now p ≡ None }
+    {
+        end >= self.runs.end() && self.front.ends_by(end)
+    }
+
     /// Maps a run that begins among the first pages: these in the leaf, and the whole run among the others where it goes on
     /// behind them.
     #[inline(always)]
@@ -130,9 +164,11 @@ fn goes_first(front: &Leaf, end: u64, page: u64) -> bool
 fn put_leaf(index: &mut FileIndex, leaf: &Leaf) -> Result<(), AllocError>
     ensures { OnOk result ((p : ℕ) → block_at index.new p ≡ (if nat_lt p 64 then option_or (block_at leaf.now p) (block_at index.old p) else block_at index.old p)) }
 {
-    for page in 0..LEAF_PAGES {
+    let end = leaf.end();
+    // One growth for all pages, and none a page.
+    index.reserve(0, end)?;
+    for page in 0..end {
         if let Some(block) = leaf.get(page) {
-            index.reserve(page, 1)?;
             index.set_run(page, block, 1);
         }
     }

@@ -1,8 +1,8 @@
 //! A leaf of a file index: 64 pages that are ready together, each with its block or none.
 
-ghost use Rattle.std.specs.Prelude.{◌≡◌, ℕ, ◌+◌, ◌-◌, ◌^◌, ◌<◌, ◌≤◌, if◌then◌else◌, length, slice_index};
+ghost use Rattle.std.specs.Prelude.{◌≡◌, ℕ, ◌+◌, ◌-◌, ◌^◌, ◌<◌, ◌≤◌, if◌then◌else◌, length, slice_index, Some, None, true, IsTrue};
 ghost use Rattle.std.specs.Int.{bit_at};
-ghost use Rattle.nv_radix.specs.Pages.{in_run};
+ghost use Rattle.nv_radix.specs.Pages.{block_at, is_ready, in_run};
 
 use crate::extent::Extent;
 use crate::node::{Child, Node, Single};
@@ -31,6 +31,36 @@ impl Model for Leaf {
     ghost view = { λ a. leaf_pages a.mapped a.blocks.items 0 };
 
     ghost invariant = { λ a. 0 < length a.blocks.items → length a.blocks.items ≡ 64 };
+}
+
+impl Leaf {
+    /// Maps a page, which is ready, to a block.
+    #[inline(always)]
+    pub(crate) fn set_page(&mut self, page: u64, block: u64)
+        requires { is_ready self.old page ≡ true }
+        ensures bound { page < 64 }
+        ensures blocks { (p : ℕ) → block_at self.new p ≡ (if in_run page 1 p then Some (block + (p - page)) else block_at self.old p) }
+        ensures ready { (p : ℕ) → is_ready self.new p ≡ is_ready self.old p }
+    {
+        self.blocks[page as usize] = block;
+        self.mapped |= 1 << page;
+    }
+
+    /// The page behind the last one that is mapped, or 0 where none is.
+    pub(crate) fn end(&self) -> u64
+        ensures most { result ≤ 64 }
+        ensures end { (p : ℕ) → result ≤ p → block_at self.now p ≡ None }
+    {
+        64 - self.mapped.leading_zeros() as u64
+    }
+
+    /// Whether no page from `end` on is mapped.
+    #[inline(always)]
+    pub(crate) fn ends_by(&self, end: u64) -> bool
+        ensures { IsTrue result → (p : ℕ) → end ≤ p → block_at self.now p ≡ None }
+    {
+        end >= LEAF_PAGES || self.mapped >> end == 0
+    }
 }
 
 impl Node for Leaf {

@@ -30,10 +30,35 @@ pub(crate) fn set_places(mapped: &mut u64, blocks: &mut [u64], page: u64, block:
     ensures bits { (p : ℕ) → p < 64 → bit_at mapped.new p ≡ (if in_run page count p then 1 else bit_at mapped.old p) }
     ensures blocks { (p : ℕ) → slice_index blocks.new p ≡ (if in_run page count p then block + (p - page) else slice_index blocks.old p) }
 {
-    for step in 0..count {
-        let place = page + step;
-        *mapped |= 1 << place;
-        blocks[place as usize] = block + step;
+    // Most files have one page, and most runs too.
+    if count == 1 {
+        blocks[page as usize] = block;
+        *mapped |= 1 << page;
+        return;
+    }
+    let bits = run_bits(page, count);
+    number(&mut blocks[page as usize..(page + count) as usize], block);
+    *mapped |= bits;
+}
+
+/// The bits of the `count` places from `page` on.
+fn run_bits(page: u64, count: u64) -> u64
+    requires { page + count ≤ 64 }
+    ensures { (p : ℕ) → bit_at result p ≡ (if in_run page count p then 1 else 0) }
+{
+    if count == 0 {
+        return 0;
+    }
+    (u64::MAX >> (64 - count)) << page
+}
+
+/// Numbers places in a row from `first` on.
+fn number(places: &mut [u64], first: u64)
+    requires { first + length places.old ≤ 2 ^ 64 }
+    ensures { (p : ℕ) → p < length places.old → slice_index places.new p ≡ first + p }
+{
+    for (step, place) in places.iter_mut().enumerate() {
+        *place = first + step as u64;
     }
 }
 

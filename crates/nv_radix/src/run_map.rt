@@ -100,7 +100,9 @@ impl RunMap {
     }
 
     /// No page from here on is mapped.
-    pub fn end(&self) -> u64 {
+    pub fn end(&self) -> u64
+        ensures { (p : ℕ) → result ≤ p → block_by self.now p ≡ None }
+    {
         self.end
     }
 
