@@ -1,11 +1,10 @@
 -- Lemmas on the values with their numbers, for this crate and its callers.
-use Rattle.std.proofs.Common.{◌≡◌, ◌⊎◌, ◌↔◌, ℕ, zero, suc, ◌+◌, ◌<◌, List, [], ◌∷◌, length, get_or, Option, Some, None, is_some, cond, count_by, IsTrue, ◌==◌, refl, sym, ap, ◌∙◌, inl, inr, add-zero, zero-add, arith, Contains}
+use Rattle.std.proofs.Common.{◌≡◌, ◌⊎◌, ◌↔◌, ℕ, zero, suc, ◌+◌, ◌<◌, List, [], ◌∷◌, length, get_or, Option, Some, None, is_some, cond, count_by, refl, sym, ap, ◌∙◌, inl, inr, add-zero, zero-add, arith, Contains}
 use Rattle.std.specs.declared.cmp.Ordering.TheVariants.{Less}
 use Rattle.std.specs.Ordering.{nat_cmp}
 use Rattle.std.specs.List.{AllByRecursion}
 use Rattle.std.specs.List.Sorted.{IsStrictlySortedBy}
 use Rattle.std.specs.Map.{keys_of}
-use Rattle.std.proofs.lemmas.Bool.Decides.{nat_tests}
 use Rattle.std.proofs.lemmas.List.Sums.{sum_by-cons}
 use Rattle.nv_numbered.specs.Values.{entries_from}
 
@@ -22,6 +21,10 @@ Contains-cons_cases {X} head x rest p = by_index p.0 p.1 p.2
     by_index : (k : ℕ) → k < suc (length rest) → get_or (head ∷ rest) k x ≡ x → (head ≡ x) ⊎ Contains rest x
     by_index zero within found = inl found
     by_index (suc k) within found = inr (k, omega arith, found)
+
+no_values : {X : Type 0} (xs : List X) → length xs ≡ 0 → xs ≡ []
+no_values [] none = refl
+no_values (x ∷ xs) none = absurd (omega arith)
 
 module _ {T : Type 0} where
   -- there is one entry for each slot with a value
@@ -76,19 +79,9 @@ module _ {T : Type 0} where
     λ found. rw zero-add at (listed_from_slot 0 slots number value found),
   )
 
-  no_entries : (es : List (ℕ × T)) → length es ≡ 0 → es ≡ []
-  no_entries [] none = refl
-  no_entries (e ∷ es) none = absurd (omega arith)
-
-  -- there are no entries just where no slot has a value
-  pub is_empty-entries_from : (first : ℕ) (slots : List (Option T)) → IsTrue (count_by is_some slots == 0) ↔ (entries_from first slots ≡ [])
-  is_empty-entries_from first slots = (
-    λ none. no_entries _ (length-entries_from first slots ∙ zero_count none),
-    λ empty. none_test (sym (length-entries_from first slots) ∙ ap length empty),
+  -- there are no entries just where there are no values
+  pub is_empty-entries_from : (first : ℕ) (slots : List (Option T)) (values : List T) → count_by is_some slots ≡ length values → (values ≡ []) ↔ (entries_from first slots ≡ [])
+  is_empty-entries_from first slots values counted = (
+    λ none. no_values _ (length-entries_from first slots ∙ counted ∙ ap (λ (l : List T). length l) none),
+    λ empty. no_values _ (sym (length-entries_from first slots ∙ counted) ∙ ap (λ (l : List (ℕ × T)). length l) empty),
   )
-    where
-      zero_count : IsTrue (count_by is_some slots == 0) → count_by is_some slots ≡ 0
-      zero_count none = grind (arith, nat_tests)
-
-      none_test : count_by is_some slots ≡ 0 → IsTrue (count_by is_some slots == 0)
-      none_test none = grind (arith, nat_tests)

@@ -1,4 +1,6 @@
+pub mod ChunkLemmas
 pub mod EntryLemmas
+pub mod FilledLemmas
 pub mod ListingLemmas
 pub mod MadeLemmas
 pub mod PairLemmas

@@ -3,13 +3,8 @@ use Rattle.std.proofs.Common.{◌≡◌, ◌≢◌, ℕ, ◌+◌, ◌-◌, ◌<�
 use Rattle.std.proofs.lemmas.Bool.{cases_eq}
 use Rattle.std.proofs.lemmas.List.{get_or-set_other, get_or_past, get_or_push, get_or_append_left, get_or-replicate, length_push, length-replicate}
 use Rattle.std.proofs.lemmas.Grind.{get_or-set_at}
+use Rattle.nv_numbered.specs.Chunked.{IsSwapRemoved}
 use Rattle.nv_numbered.specs.Table.{IsPaired}
-
--- what `swap_remove` of the element at j leaves: the last one comes there
-pub record IsSwapRemoved {X : Type 0} (old new : List X) (j : ℕ) : Type 0 where
-  pub shorter : length new + 1 ≡ length old
-  pub moved : (d : X) → j + 1 < length old → get_or new j d ≡ get_or old (length old - 1) d
-  pub others : (k : ℕ) (d : X) → k ≢ j → k + 1 < length old → get_or new k d ≡ get_or old k d
 
 pub IsSwapRemoved-from_lens : {X : Type 0} (old new : List X) (j old_len new_len : ℕ) → old_len ≡ length old → new_len ≡ length new → new_len + 1 ≡ old_len → ((d : X) → j + 1 < old_len → get_or new j d ≡ get_or old (old_len - 1) d) × ((k : ℕ) (d : X) → k ≢ j → k + 1 < old_len → get_or new k d ≡ get_or old k d) → IsSwapRemoved old new j
 IsSwapRemoved-from_lens old new j old_len new_len old_is new_is shorter by_index =

@@ -6,7 +6,8 @@ use Rattle.std.proofs.Math.ListN.{get_or-map as get_or-map_default}
 use Rattle.std.proofs.lemmas.Grind.{get_or-set_at}
 use Rattle.std.proofs.lemmas.Option.{slice_get-get_or}
 use Rattle.nv_numbered.specs.Table.{IsPaired, slot_of, slots_of}
-use Rattle.nv_numbered.proofs.PairLemmas.{IsSwapRemoved, IsUnplaced, place_within, last_place, before_last, other_index}
+use Rattle.nv_numbered.specs.Chunked.{IsSwapRemoved}
+use Rattle.nv_numbered.proofs.PairLemmas.{IsUnplaced, place_within, last_place, before_last, other_index}
 
 -- a list that differs from another in one element alone
 set_from_others : {X : Type 0} (old new : List X) (n : ℕ) (x d : X) → length new ≡ length old → n < length old → get_or new n d ≡ x → ((k : ℕ) → k ≢ n → get_or new k d ≡ get_or old k d) → new ≡ set old n x

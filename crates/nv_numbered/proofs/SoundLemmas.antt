@@ -2,9 +2,10 @@
 use Rattle.std.proofs.Common.{◌≡◌, ◌≢◌, ℕ, zero, suc, ◌+◌, ◌-◌, ◌^◌, ◌<◌, List, [], ◌∷◌, ◌++◌, length, get_or, set, replicate, Option, Some, None, is_some, IsSome, cond, count_by, refl, sym, ap, subst, ◌∙◌, inl, inr, arith, length-set, true≢false}
 use Rattle.std.proofs.lemmas.List.{length-map, length_push, length-replicate, get_or_read}
 use Rattle.std.proofs.lemmas.List.Sums.{sum_by-set, sum_by-cons, count_by-le-length}
-use Rattle.std.proofs.lemmas.Option.{slice_get-get_or, slice_get_read}
+use Rattle.std.proofs.lemmas.Option.{slice_get-get_or}
 use Rattle.nv_numbered.specs.Table.{slot_of, slots_of, IsSound}
-use Rattle.nv_numbered.proofs.PairLemmas.{IsSwapRemoved, IsUnplaced, IsUnplaced-set, last_within, place_within, IsPaired-empty, IsPaired-insert, IsPaired-remove}
+use Rattle.nv_numbered.specs.Chunked.{IsSwapRemoved}
+use Rattle.nv_numbered.proofs.PairLemmas.{IsUnplaced, IsUnplaced-set, last_within, place_within, IsPaired-empty, IsPaired-insert, IsPaired-remove}
 use Rattle.nv_numbered.proofs.SlotLemmas.{slot_at_none, slot_at_index, place_cases, slots_of-insert, slots_of-write, slots_of-remove}
 
 -- there is a slot for each place
@@ -103,10 +104,6 @@ module _ {T : Type 0} where
       pub unplaced : (p m : ℕ) → p ≡ j + 1 → get_or numbers (length numbers - 1) 0 ≡ m → IsUnplaced places (set (set places m p) n 0) n m j
       unplaced p m is last =
           IsUnplaced-set places n m j p is (place_within places n j place) (last_within places numbers sound.paired n j m place last)
-
-      pub slot_is : (x : T) → x ≡ get_or values j x → get_or (slots_of places values) n None ≡ Some x
-      slot_is x read =
-          slot_at_index places values n j place ∙ slice_get_read values (length values) j x refl index_inside read
 
     module _ (j : ℕ) (place : get_or places n 0 ≡ j + 1) (x : T) where
       was_counted : in_slot (get_or (slots_of places values) n None) ≡ 1

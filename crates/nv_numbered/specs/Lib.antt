@@ -1,3 +1,5 @@
 pub mod Values
+pub mod Chunked
+pub mod Filled
 pub mod Table
 pub mod Lends

@@ -2,6 +2,7 @@
 
 ghost use Rattle.std.specs.Iterator.{YieldsFirstBy, item_count};
 
+use crate::Chunks;
 use crate::table::value_of;
 use std::marker::Model;
 
@@ -11,7 +12,7 @@ pub struct Iter<'a, T> {
     pub(crate) places: &'a [u32],
     // The number of the first of `places`.
     pub(crate) number: u64,
-    pub(crate) values: &'a [T],
+    pub(crate) values: &'a Chunks<T>,
 }
 
 impl<'a, T> Model for Iter<'a, T> {
@@ -22,7 +23,7 @@ impl<'a, T> Model for Iter<'a, T> {
     ghost use Rattle.nv_numbered.specs.Values.{entries_from};
     ghost use Rattle.nv_numbered.specs.Table.{slots_of};
 
-    ghost view = { λ it. entries_from it.number (slots_of it.places.now it.values.now) };
+    ghost view = { λ it. entries_from it.number (slots_of it.places.now it.values.now.items) };
 
     ghost invariant = { λ it. it.number + length it.places.now < 2 ^ 64 };
 }

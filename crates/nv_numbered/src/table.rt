@@ -10,7 +10,7 @@ ghost use Rattle.std.specs.Borrow.{sem};
 ghost use Rattle.nv_numbered.specs.Values.{AreNumbersBelow, value_at, limit_of, entries};
 ghost use Rattle.nv_numbered.specs.Table.{slot_of};
 
-use crate::Iter;
+use crate::{Chunks, Iter};
 use std::alloc::{AllocError, AllocFailed, Global};
 use std::marker::Model;
 
@@ -24,7 +24,7 @@ pub struct Numbered<T> {
     places: Vec<u32>,
     // The number of each value.
     numbers: Vec<u32>,
-    values: Vec<T>,
+    values: Chunks<T>,
 }
 
 impl<T> Model for Numbered<T> {
@@ -39,15 +39,15 @@ impl<T> Model for Numbered<T> {
 
     ghost view = { λ t. record {
       slots = slots_of t.places.items t.values.items;
-      room = min (vec_capacity t.numbers - vec_len t.numbers) (vec_capacity t.values - vec_len t.values);
+      room = min (vec_capacity t.numbers - vec_len t.numbers) t.values.room;
     } };
 
     ghost invariant = { λ t. IsSound t.places.items t.numbers.items t.values.items };
 }
 
 // The value that a place stands for.
-pub(crate) fn value_of<T>(values: &[T], place: u32) -> Option<&T>
-    ensures { option_copied result ≡ slot_of values.now place }
+pub(crate) fn value_of<T>(values: &Chunks<T>, place: u32) -> Option<&T>
+    ensures { option_copied result ≡ slot_of values.now.items place }
 {
     if place == 0 {
         return None;
@@ -77,7 +77,7 @@ impl<T> Numbered<T> {
         Ok(Numbered {
             places: vec![in alloc; 0; limit as usize]?,
             numbers: Vec::new(alloc),
-            values: Vec::new(alloc),
+            values: Chunks::new(alloc),
         })
     }
 
@@ -86,7 +86,7 @@ impl<T> Numbered<T> {
     /// Errors: `AllocError` where there is no memory for a place of each number below the limit.
     pub fn from_values(
         alloc: Global,
-        values: Vec<T>,
+        values: Chunks<T>,
         numbers: Vec<u32>,
         limit: u64,
     ) -> Result<Numbered<T>, AllocError>
@@ -135,7 +135,7 @@ impl<T> Numbered<T> {
         ensures value { value_at self.old number ≡ Some result.now }
     {
         let place = self.places[number as usize];
-        &mut self.values[place as usize - 1]
+        self.values.at_mut(place as usize - 1)
     }
 
     /// How many numbers have a value.

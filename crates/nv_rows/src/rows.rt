@@ -12,7 +12,7 @@ ghost use Rattle.nv_rows.specs.Unused.{unused_number};
 
 use nv_blockset::{first_clear, words_for};
 use nv_names::NameIndex;
-use nv_numbered::{Iter, Numbered};
+use nv_numbered::{Chunks, Iter, Numbered};
 use nv_radix::FileIndex;
 use nv_scan::{LogPages, Numbers, Row, SLOTS};
 use nv_super::{Kind, Super};
@@ -63,12 +63,14 @@ fn blank_row(alloc: Global, inode: u64) -> Row
 }
 
 // The number of each row.
-fn numbers_of(alloc: Global, rows: &[Row]) -> Result<Vec<u32>, AllocError>
-    requires { All (λ (row : RowValue). row.inode < 2 ^ 32) rows.now }
-    ensures { IfOk result (λ numbers. numbers.items ≡ inodes_of rows.now) }
+fn numbers_of(alloc: Global, rows: &Chunks<Row>) -> Result<Vec<u32>, AllocError>
+    requires { All (λ (row : RowValue). row.inode < 2 ^ 32) rows.now.items }
+    ensures { IfOk result (λ numbers. numbers.items ≡ inodes_of rows.now.items) }
 {
-    let mut numbers = Vec::with_capacity(alloc, rows.len())?;
-    for row in rows {
+    let count = rows.len();
+    let mut numbers = Vec::with_capacity(alloc, count)?;
+    for place in 0..count {
+        let row = rows.at(place);
         numbers.push(row.inode as u32)?;
     }
     Ok(numbers)
@@ -98,7 +100,7 @@ fn used_by(alloc: Global, sup: &Super, numbers: &[u32]) -> Result<Vec<u64>, Allo
 
 impl Rows {
     /// Rows that came in any order, for the inodes of a file system. It moves none of them.
-    pub fn from_rows(alloc: Global, rows: Vec<Row>, sup: &Super) -> Result<Rows, AllocError>
+    pub fn from_rows(alloc: Global, rows: Chunks<Row>, sup: &Super) -> Result<Rows, AllocError>
         requires layout { IsLayout sup.now }
         requires numbers { AreNumbersBelow (inode_limit sup.now) (inodes_of rows.items) }
         ensures rows { IfOk result (λ r. SortedOf row_key rows.items r.items) }

@@ -7,7 +7,7 @@ use Rattle.nv_numbered.proofs.iter.IterIterator.next.Given as goal
 abbrev pub invariant-loop-place : goal.invariant-loop-place
 invariant-loop-place g l =
     (l.self-inside.number + length l.self-inside.places.now < 2 ^ 64)
-    × (entries_from l.self-inside.number (slots_of l.self-inside.places.now l.self-inside.values.now) ≡ l.fn.self)
+    × (entries_from l.self-inside.number (slots_of l.self-inside.places.now l.self-inside.values.now.items) ≡ l.fn.self)
 
 abbrev pub decreases-loop-place : goal.decreases-loop-place
 decreases-loop-place g l = length l.self-inside.places.now

@@ -1,4 +1,5 @@
-use Rattle.std.proofs.Common.{◌≡◌, ◌+◌, ◌<◌, length, arith}
+use Rattle.std.proofs.Common.{◌≡◌, ◌+◌, ◌<◌, List, length, ap, arith}
+use Rattle.std.proofs.lemmas.List.{length_push}
 use Rattle.nv_numbered.proofs.SlotLemmas.{slots_of-insert}
 use Rattle.nv_numbered.proofs.SoundLemmas.{length-slots_of, one_is_free, IsSound-insert}
 use Rattle.nv_numbered.proofs.table.Numbered.insert.Goals as goal
@@ -9,7 +10,8 @@ overflow_cast-len g c =
     let within = rw (← c.self.view_is) at c.requires.within in
     let vacant = rw (← c.self.view_is) at c.requires.vacant in
     let inside : c.args.number < length t.places.items = omega (arith, within, length-slots_of t.places.items t.values.items) in
-    omega (arith, one_is_free t.places.items t.numbers.items t.values.items c.self.invariant c.args.number c.args.value inside vacant, c.self.invariant.few, t.values.ok.0)
+    let count : c.len.result ≡ length t.numbers.items + 1 = omega (arith, ap (λ (l : List g.row.T.Denot). length l) c.push_reserved-2.ensures.items, length_push t.values.items c.args.value, c.self.invariant.as_many) in
+    omega (arith, one_is_free t.places.items t.numbers.items t.values.items c.self.invariant c.args.number c.args.value inside vacant, c.self.invariant.few, c.self.invariant.as_many)
 
 pub invariant_of-self : goal.invariant_of-self
 invariant_of-self g c =
@@ -17,7 +19,7 @@ invariant_of-self g c =
     let within = rw (← c.self.view_is) at c.requires.within in
     let vacant = rw (← c.self.view_is) at c.requires.vacant in
     let inside : c.args.number < length t.places.items = omega (arith, within, length-slots_of t.places.items t.values.items) in
-    let count : c.len.result ≡ length t.numbers.items + 1 = omega (arith, t.values.ok.0, c.self.invariant.as_many) in
+    let count : c.len.result ≡ length t.numbers.items + 1 = omega (arith, ap (λ (l : List g.row.T.Denot). length l) c.push_reserved-2.ensures.items, length_push t.values.items c.args.value, c.self.invariant.as_many) in
     rw (c.push_reserved.ensures.items, c.push_reserved-2.ensures.items, count)
     (IsSound-insert t.places.items t.numbers.items t.values.items c.self.invariant c.args.number c.args.value inside vacant)
 
@@ -26,7 +28,7 @@ returns-clause-values g c =
     let t = c.self.inside in
     let within = rw (← c.self.view_is) at c.requires.within in
     let inside : c.args.number < length t.places.items = omega (arith, within, length-slots_of t.places.items t.values.items) in
-    let count : c.len.result ≡ length t.numbers.items + 1 = omega (arith, t.values.ok.0, c.self.invariant.as_many) in
+    let count : c.len.result ≡ length t.numbers.items + 1 = omega (arith, ap (λ (l : List g.row.T.Denot). length l) c.push_reserved-2.ensures.items, length_push t.values.items c.args.value, c.self.invariant.as_many) in
     rw (c.push_reserved-2.ensures.items, count, ← c.self.view_is)
     (slots_of-insert t.places.items t.numbers.items t.values.items c.self.invariant.paired c.self.invariant.as_many c.args.number c.args.value inside)
 

@@ -3,9 +3,9 @@ use Rattle.nv_numbered.proofs.EntryLemmas.{entries_from_rise, Contains-entries}
 use Rattle.nv_numbered.proofs.table.Numbered.iter.Goals as goal
 
 pub returns-clause-rising : goal.returns-clause-rising
-returns-clause-rising g c = entries_from_rise 0 (slots_of c.deref.result.now c.deref-2.result.now)
+returns-clause-rising g c = entries_from_rise 0 (slots_of c.deref.result.now c.self.inside.values.items)
 
 pub returns-clause-each : goal.returns-clause-each
 returns-clause-each g c = λ number value.
-    rw (c.deref.ensures.value, c.deref-2.ensures.value, ← c.self.view_is)
+    rw (c.deref.ensures.value, ← c.self.view_is)
     (Contains-entries (slots_of c.self.inside.places.items c.self.inside.values.items) number value)

@@ -6,4 +6,4 @@ use Rattle.nv_numbered.proofs.table.Numbered.len.Goals as goal
 pub returns : goal.returns
 returns g c =
     let t = c.self.inside in
-    rw (← c.self.view_is) (omega (arith, length-entries_from 0 (slots_of t.places.items t.values.items), c.self.invariant.counted, t.values.ok.0))
+    rw (← c.self.view_is) (omega (arith, length-entries_from 0 (slots_of t.places.items t.values.items), c.self.invariant.counted))

@@ -5,7 +5,7 @@ use Rattle.nv_numbered.proofs.table.Numbered.new.Goals as goal
 
 pub invariant_of-result : goal.invariant_of-result
 invariant_of-result g c =
-    rw (c.in_ok-vec.ensures.items_if_clones_equal (λ y same. same), c.new.ensures.items, c.new-2.ensures.items)
+    rw (c.in_ok-vec.ensures.items_if_clones_equal (λ y same. same), c.new.ensures.items, c.new-2.ensures)
     (IsSound-empty c.args.limit c.requires)
 
 pub returns-clause-empty : goal.returns-clause-empty

@@ -1,8 +1,8 @@
 use Rattle.std.proofs.Common.{◌-◌, sym, ◌∙◌, arith}
 use Rattle.nv_numbered.specs.Table.{slots_of}
 use Rattle.nv_numbered.proofs.PairLemmas.{IsSwapRemoved-from_lens, last_within}
-use Rattle.nv_numbered.proofs.SlotLemmas.{slot_at_none, set_none, slots_of-remove}
-use Rattle.nv_numbered.proofs.SoundLemmas.{before_place, index_inside, last_read, unplaced, slot_is, IsSound-remove}
+use Rattle.nv_numbered.proofs.SlotLemmas.{slot_at_index, slot_at_none, set_none, slots_of-remove}
+use Rattle.nv_numbered.proofs.SoundLemmas.{before_place, index_inside, last_read, unplaced, IsSound-remove}
 use Rattle.nv_numbered.proofs.table.Numbered.remove.Goals as goal
 
 pub returns-then-place-eq0-clause-values : goal.returns-then-place-eq0-clause-values
@@ -40,15 +40,14 @@ invariant_of-self g c =
     let place = before_place _ _ _ c.self.invariant c.args.number c.place_of-place.result (rw c.deref.ensures.value at c.place_of-place.ensures) c.if-place-eq0.false in
     let last = last_read _ _ _ c.self.invariant c.args.number _ place c.len.result c.index-moved.result.now (c.len.ensures ∙ t.numbers.ok.0) c.index-moved.ensures in
     let renumbered = IsSwapRemoved-from_lens t.numbers.items c.swap_remove-number.new.self.items index _ _ t.numbers.ok.0 c.swap_remove-number.new.self.ok.0 c.swap_remove-number.ensures.len c.swap_remove-number.ensures.by_index in
-    let swapped = IsSwapRemoved-from_lens t.values.items c.swap_remove.new.self.items index _ _ t.values.ok.0 c.swap_remove.new.self.ok.0 c.swap_remove.ensures.len c.swap_remove.ensures.by_index in
     IsSound-remove _ _ _ c.self.invariant c.args.number index place c.swap_remove.result c.index-moved.result.now last _ _ _
     (unplaced _ _ _ c.self.invariant c.args.number index place c.place_of-place.result c.index-moved.result.now (omega arith) last)
-    renumbered swapped
+    renumbered c.swap_remove.ensures.items
 
 pub returns-clause-value : goal.returns-clause-value
 returns-clause-value g c =
     let place = before_place _ _ _ c.self.invariant c.args.number c.place_of-place.result (rw c.deref.ensures.value at c.place_of-place.ensures) c.if-place-eq0.false in
-    rw (← c.self.view_is) (sym (slot_is _ _ _ c.self.invariant c.args.number _ place c.swap_remove.result c.swap_remove.ensures.value))
+    rw (← c.self.view_is) (sym (slot_at_index _ _ c.args.number _ place ∙ c.swap_remove.ensures.value))
 
 pub returns-clause-values : goal.returns-clause-values
 returns-clause-values g c =
@@ -56,11 +55,10 @@ returns-clause-values g c =
     let index = c.place_of-place.result - 1 in
     let place = before_place _ _ _ c.self.invariant c.args.number c.place_of-place.result (rw c.deref.ensures.value at c.place_of-place.ensures) c.if-place-eq0.false in
     let last = last_read _ _ _ c.self.invariant c.args.number _ place c.len.result c.index-moved.result.now (c.len.ensures ∙ t.numbers.ok.0) c.index-moved.ensures in
-    let swapped = IsSwapRemoved-from_lens t.values.items c.swap_remove.new.self.items index _ _ t.values.ok.0 c.swap_remove.new.self.ok.0 c.swap_remove.ensures.len c.swap_remove.ensures.by_index in
     rw (← c.self.view_is)
     (slots_of-remove _ _ _ c.self.invariant.paired c.self.invariant.as_many c.args.number index place c.index-moved.result.now last _ _
     (unplaced _ _ _ c.self.invariant c.args.number index place c.place_of-place.result c.index-moved.result.now (omega arith) last)
-    swapped c.swap_remove.result)
+    c.swap_remove.ensures.items c.swap_remove.result)
 
 pub returns-then-place-eq0-clause-value : goal.returns-then-place-eq0-clause-value
 returns-then-place-eq0-clause-value g c =
