@@ -13,6 +13,7 @@ ghost use Rattle.nv_check.specs.Steps.{ArePlaces, AreNumbersOfNames, AreFaults, 
 use crate::counts::push_counts;
 use crate::tables::{Tables, tables_of};
 use crate::walk::push_far;
+use nv_numbered::Chunks;
 use nv_scan::Row;
 use nv_super::{Fault, Super, sort_faults};
 use std::alloc::{AllocError, Global};
@@ -24,11 +25,15 @@ use std::alloc::{AllocError, Global};
 /// and a root that is no directory in use.
 ///
 /// Errors: `AllocError` where a growth was refused.
-pub fn cross_faults_one(alloc: Global, sup: &Super, rows: &[Row]) -> Result<Vec<Fault>, AllocError>
+pub fn cross_faults_one(
+    alloc: Global,
+    sup: &Super,
+    rows: &Chunks<Row>,
+) -> Result<Vec<Fault>, AllocError>
     requires layout { IsLayout sup.now }
-    requires apart { AreNumbersBelow (inode_limit sup.now) (map (λ (r : RowValue). r.inode) rows.now) }
-    requires numbers { All (λ (r : RowValue). IsTrue (is_number sup.now r.inode)) rows.now }
-    ensures { IfOk result (λ found. Lists fault_key (IsCrossFaultIn rows.now) found.items) }
+    requires apart { AreNumbersBelow (inode_limit sup.now) (map (λ (r : RowValue). r.inode) rows.now.items) }
+    requires numbers { All (λ (r : RowValue). IsTrue (is_number sup.now r.inode)) rows.now.items }
+    ensures { IfOk result (λ found. Lists fault_key (IsCrossFaultIn rows.now.items) found.items) }
 {
     let tables = tables_of(alloc, sup, rows)?;
     sorted_faults(alloc, &tables)

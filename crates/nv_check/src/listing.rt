@@ -4,6 +4,7 @@ ghost use Rattle.std.specs.Prelude.{◌≡◌, [], IfOk, OnOk};
 ghost use Rattle.nv_check.specs.Listings.{AddsListing, AreListings};
 
 use nv_names::Named;
+use nv_numbered::Chunks;
 use nv_scan::Row;
 use nv_super::Kind;
 use std::alloc::{AllocError, Global};
@@ -20,21 +21,24 @@ pub(crate) struct Listing<'a> {
 /// The rows with their names listed. A row without names takes no memory for them.
 pub(crate) fn listings_of<'a>(
     alloc: Global,
-    rows: &'a [Row],
+    rows: &'a Chunks<Row>,
 ) -> Result<Vec<Listing<'a>>, AllocError>
-    ensures { IfOk result (λ listings. AreListings rows.now listings.items) }
+    ensures { IfOk result (λ listings. AreListings rows.now.items listings.items) }
 {
     let mut listings = Vec::with_capacity(alloc, rows.len())?;
     push_listings(&mut listings, rows)?;
     Ok(listings)
 }
 
-fn push_listings<'a>(listings: &mut Vec<Listing<'a>>, rows: &'a [Row]) -> Result<(), AllocError>
+fn push_listings<'a>(
+    listings: &mut Vec<Listing<'a>>,
+    rows: &'a Chunks<Row>,
+) -> Result<(), AllocError>
     requires { listings.old.items ≡ [] }
-    ensures { OnOk result (AreListings rows.now listings.new.items) }
+    ensures { OnOk result (AreListings rows.now.items listings.new.items) }
 {
-    for row in rows {
-        push_listing(listings, row)?;
+    for place in 0..rows.len() {
+        push_listing(listings, rows.at(place))?;
     }
     Ok(())
 }

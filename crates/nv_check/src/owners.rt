@@ -1,6 +1,6 @@
 //! Blocks with two owners or more.
 
-ghost use Rattle.std.specs.Prelude.{◌<◌, ◌*◌, ℕ, length, IfOk};
+ghost use Rattle.std.specs.Prelude.{◌≡◌, ◌<◌, ◌*◌, ℕ, length, slice_index, EachIndex, IfOk, IsTrue};
 ghost use Rattle.std.specs.List.{All};
 ghost use Rattle.nv_super.specs.declared.owners.Owner.{Owner as OwnerValue};
 ghost use Rattle.nv_check.specs.Doubled.{AreDoubled};
@@ -23,6 +23,10 @@ pub fn doubled(
     ensures { IfOk result (λ found. AreDoubled claims.now second.now found.items) }
 {
     let mut found = Vec::new(alloc);
+    // Most regions have no such block, and many claims.
+    if is_empty(second) {
+        return Ok(found);
+    }
     for claim in claims {
         if contains(second, claim.0) {
             found.push(*claim)?;
@@ -30,4 +34,11 @@ pub fn doubled(
     }
     sort_claims(&mut found);
     Ok(found)
+}
+
+/// Whether no block is in the set.
+fn is_empty(words: &[u64]) -> bool
+    ensures { IsTrue result → EachIndex words.now (λ k. slice_index words.now k ≡ 0) }
+{
+    words.iter().all(|word| *word == 0)
 }

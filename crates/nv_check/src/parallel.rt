@@ -16,6 +16,7 @@ use crate::names::push_unused_of;
 use crate::places::find;
 use crate::tables::tables_of;
 use crate::walk::push_far;
+use nv_numbered::Chunks;
 use nv_scan::Row;
 use nv_super::{Fault, Super, sort_faults};
 use rayon::prelude::*;
@@ -33,12 +34,12 @@ pub fn cross_faults<H: Threads + Sync>(
     rt: &H,
     alloc: Global,
     sup: &Super,
-    rows: &[Row],
+    rows: &Chunks<Row>,
 ) -> Result<Vec<Fault>, AllocError>
     requires layout { IsLayout sup.now }
-    requires apart { AreNumbersBelow (inode_limit sup.now) (map (λ (r : RowValue). r.inode) rows.now) }
-    requires numbers { All (λ (r : RowValue). IsTrue (is_number sup.now r.inode)) rows.now }
-    ensures { IfOk result (λ found. Lists fault_key (IsCrossFaultIn rows.now) found.items) }
+    requires apart { AreNumbersBelow (inode_limit sup.now) (map (λ (r : RowValue). r.inode) rows.now.items) }
+    requires numbers { All (λ (r : RowValue). IsTrue (is_number sup.now r.inode)) rows.now.items }
+    ensures { IfOk result (λ found. Lists fault_key (IsCrossFaultIn rows.now.items) found.items) }
 {
     if rows.len() < MANY_ROWS {
         return cross_faults_one(alloc, sup, rows);

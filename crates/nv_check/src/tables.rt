@@ -9,6 +9,7 @@ ghost use Rattle.nv_check.specs.Tables.{AreTables};
 use crate::counts::count_names;
 use crate::listing::{Listing, listings_of};
 use crate::places::places_of;
+use nv_numbered::Chunks;
 use nv_scan::Row;
 use nv_super::{Fault, Super};
 use std::alloc::{AllocError, Global};
@@ -26,11 +27,11 @@ pub(crate) struct Tables<'a> {
 pub(crate) fn tables_of<'a>(
     alloc: Global,
     sup: &Super,
-    rows: &'a [Row],
+    rows: &'a Chunks<Row>,
 ) -> Result<Tables<'a>, AllocError>
     requires layout { IsLayout sup.now }
-    requires apart { AreNumbersBelow (inode_limit sup.now) (map (λ (r : RowValue). r.inode) rows.now) }
-    ensures { IfOk result (λ tables. AreTables rows.now tables) }
+    requires apart { AreNumbersBelow (inode_limit sup.now) (map (λ (r : RowValue). r.inode) rows.now.items) }
+    ensures { IfOk result (λ tables. AreTables rows.now.items tables) }
 {
     let listings = listings_of(alloc, rows)?;
     let places = places_of(alloc, sup, &listings)?;

@@ -6,13 +6,10 @@ use Rattle.std.proofs.lemmas.List.Elements.{All-contains_itself}
 use Rattle.std.proofs.lemmas.List.Sorted.{All-permutation}
 use Rattle.nv_region.specs.Region.{Region}
 use Rattle.nv_super.specs.declared.superblock.Super.{Super}
-use Rattle.nv_super.specs.declared.faults.Fault.{Fault}
 use Rattle.nv_super.specs.Layout.{IsLayout, inode_limit, is_number, fixed_layout}
-use Rattle.nv_super.specs.Order.{fault_key, Lists}
 use Rattle.nv_scan.specs.declared.piece.Row.{Row}
 use Rattle.nv_scan.specs.declared.piece.Piece.{Piece}
 use Rattle.nv_scan.proofs.Only.{slot_in_use}
-use Rattle.nv_outcome.specs.nv_check.Cross.{IsCrossFaultIn}
 use Rattle.nv_outcome.specs.Outcome.{AreRows}
 use Rattle.nv_outcome.specs.Parts.{rows_in}
 use Rattle.nv_outcome.proofs.RowsOf.{rows_are}
@@ -38,10 +35,6 @@ rows_apart {R} {s} {pieces} {x} layout inodes rows same = subst (AreApart s) (sy
 
   number : (row : Row) → Contains (rows_in pieces) row → (0 < row.inode) × (row.inode < inode_limit s)
   number row c = let w = are.each row c in slot_number s row.inode w.0 layout (slot_in_use w.2.inode)
-
--- the faults between these rows, told of the same rows
-pub cross_same : (rows same : List Row) (cross : List Fault) → rows ≡ same → Lists fault_key (IsCrossFaultIn rows) cross → Lists fault_key (IsCrossFaultIn same) cross
-cross_same rows same cross is lists = subst (λ (r : List Row). Lists fault_key (IsCrossFaultIn r) cross) is lists
 
 -- ---- numbers that are counted up to an end
 

@@ -1,5 +1,6 @@
 pub mod Handed
 pub mod MadeMaps
+pub mod RowMaps
 pub mod TwoSets
 pub mod Inodes
 pub mod Tickets

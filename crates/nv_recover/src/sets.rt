@@ -1,7 +1,7 @@
 //! The blocks that are claimed, and those that are claimed twice or more, as sets: block b is bit `b % 64` of word
 //! `b / 64`.
 
-ghost use Rattle.std.specs.Prelude.{◌≡◌, ◌/◌, ◌*◌, ◌<◌, ℕ, List, [], IfOk, length};
+ghost use Rattle.std.specs.Prelude.{◌≡◌, ◌/◌, ◌*◌, ◌<◌, ℕ, List, [], IfOk, IsTrue, length, false};
 ghost use Rattle.std.specs.List.{All};
 ghost use Rattle.nv_blockset.specs.BlockSet.{with_block};
 ghost use Rattle.nv_region.specs.Region.{Region};
@@ -15,13 +15,20 @@ ghost use Rattle.nv_outcome.specs.Parts.{AreMaps};
 ghost use Rattle.nv_recover.specs.Scanned.{AreOwned, AreSetsOf, Cover, Fits, TakeIn, second_after};
 
 use crate::scanned::Owned;
-use nv_blockset::{contains, first_set, insert, words_for};
+use nv_blockset::{contains, first_set, insert, insert_row, words_for};
 use nv_claimmap::Claimed;
+use nv_numbered::Chunks;
 use nv_outcome::doubled;
 use nv_radix::Extent;
 use nv_scan::{Claims, Row, claims_of_rows};
 use nv_super::{Owner, Super};
 use std::alloc::{AllocError, Global};
+
+/// A run of so many blocks goes into the sets by whole words.
+const LONG: u64 = 64;
+
+/// No region has more blocks.
+const MOST_BLOCKS: u64 = 262_144;
 
 /// The blocks that were claimed so far, and those that were claimed twice or more.
 #[derive(Drop)]
@@ -64,10 +71,10 @@ impl Sets {
     }
 
     /// What the inodes of these rows own, where the sets are those of their claims.
-    pub fn owned(self, alloc: Global, sup: &Super, rows: &[Row]) -> Result<Owned, AllocError>
+    pub fn owned(self, alloc: Global, sup: &Super, rows: &Chunks<Row>) -> Result<Owned, AllocError>
         requires layout { IsLayout sup.now }
-        requires sets { (region : Region) × (pieces : List Piece) × AreSetsOf region sup.now pieces rows.now self.first.items self.second.items }
-        ensures { IfOk result (λ owned. (region : Region) (pieces : List Piece) → AreSetsOf region sup.now pieces rows.now self.first.items self.second.items → AreOwned sup.now pieces owned) }
+        requires sets { (region : Region) × (pieces : List Piece) × AreSetsOf region sup.now pieces rows.now.items self.first.items self.second.items }
+        ensures { IfOk result (λ owned. (region : Region) (pieces : List Piece) → AreSetsOf region sup.now pieces rows.now.items self.first.items self.second.items → AreOwned sup.now pieces owned) }
     {
         let doubled = doubled_in(alloc, sup, rows, &self.second)?;
         Ok(Owned {
@@ -94,12 +101,12 @@ pub(crate) fn owned_of(alloc: Global, claimed: Claimed) -> Result<Owned, AllocEr
 fn doubled_in(
     alloc: Global,
     sup: &Super,
-    rows: &[Row],
+    rows: &Chunks<Row>,
     second: &[u64],
 ) -> Result<Vec<(u64, Owner)>, AllocError>
     requires layout { IsLayout sup.now }
-    requires sets { (region : Region) × (pieces : List Piece) × (first : List ℕ) × AreSetsOf region sup.now pieces rows.now first second.now }
-    ensures { IfOk result (λ found. (region : Region) (pieces : List Piece) (first : List ℕ) → AreSetsOf region sup.now pieces rows.now first second.now → AreDoubled (claims_in pieces) second.now found.items) }
+    requires sets { (region : Region) × (pieces : List Piece) × (first : List ℕ) × AreSetsOf region sup.now pieces rows.now.items first second.now }
+    ensures { IfOk result (λ found. (region : Region) (pieces : List Piece) (first : List ℕ) → AreSetsOf region sup.now pieces rows.now.items first second.now → AreDoubled (claims_in pieces) second.now found.items) }
 {
     if first_set(second, 0, sup.blocks) == sup.blocks {
         return Ok(Vec::new(alloc));
@@ -143,7 +150,39 @@ fn fill_runs(first: &mut [u64], second: &mut [u64], inode: u64, runs: &[Extent])
 }
 
 // Puts the blocks of one run into the sets.
-fn fill_run(first: &mut [u64], second: &mut [u64], _inode: u64, run: &Extent)
+fn fill_run(first: &mut [u64], second: &mut [u64], inode: u64, run: &Extent)
+    requires within { All (Fits first.old second.old) (run_claims inode run.now) }
+    requires small { IsSmall run.now }
+    ensures maps { TakeIn (run_claims inode run.now) first.old second.old first.new second.new }
+    ensures as_long { (length first.new ≡ length first.old) × (length second.new ≡ length second.old) }
+{
+    if !fill_words(first, second, inode, run) {
+        fill_blocks(first, second, inode, run);
+    }
+}
+
+// Puts the blocks of a long run that nobody claimed before into the first set, a word at a time. Where the run is short, or
+// one of its blocks is claimed, it answers false, and changes nothing.
+fn fill_words(first: &mut [u64], _second: &[u64], _inode: u64, run: &Extent) -> bool
+    requires { All (Fits first.old _second.now) (run_claims _inode run.now) }
+    ensures maps { IsTrue result → TakeIn (run_claims _inode run.now) first.old _second.now first.new _second.now }
+    ensures same { result ≡ false → first.new ≡ first.old }
+    ensures as_long { length first.new ≡ length first.old }
+{
+    if run.count < LONG || run.count > MOST_BLOCKS || run.block > MOST_BLOCKS {
+        return false;
+    }
+    let end = run.block + run.count;
+    let claimed = first_set(first, run.block, end);
+    if claimed < end {
+        return false;
+    }
+    insert_row(first, run.block, end);
+    true
+}
+
+// Puts the blocks of one run into the sets, one after the other.
+fn fill_blocks(first: &mut [u64], second: &mut [u64], _inode: u64, run: &Extent)
     requires within { All (Fits first.old second.old) (run_claims _inode run.now) }
     requires small { IsSmall run.now }
     ensures maps { TakeIn (run_claims _inode run.now) first.old second.old first.new second.new }

@@ -2,6 +2,7 @@
 
 ghost use Rattle.std.specs.Prelude.{◌≡◌, ◌<◌, ◌≤◌, ◌++◌, List, IfOk, OnOk, false, vec_len};
 ghost use Rattle.std.specs.List.{All};
+ghost use Rattle.std.specs.List.Sorted.{IsPermutation};
 ghost use Rattle.nv_region.specs.Region.{HasBlocks};
 ghost use Rattle.nv_super.specs.Layout.{IsLayout};
 ghost use Rattle.nv_claimcore.specs.Claims.{nothing, both_views};
@@ -75,14 +76,14 @@ fn work_all<P: Pmem + Sync, G: Gate + Sync, H: Threads + Sync>(
     join_all(memory, sup, map, results)
 }
 
-/// What all workers brought: the seat that was joined of theirs, and their inodes, one worker's after another's.
+/// What all workers brought: the seat that was joined of theirs, and their inodes, the rows in no order.
 #[derive(Drop)]
 pub(crate) struct Brought {
     pub seat: ClaimSeat,
     pub inodes: Inodes,
 }
 
-// Joins the seats, and moves what was scanned together: behind the rows and faults of one worker go those of the others.
+// Joins the seats, and puts what was scanned together.
 fn join_all<P: Pmem>(
     _memory: &P,
     _sup: &Super,
@@ -97,14 +98,13 @@ fn join_all<P: Pmem>(
         unreachable!()
     };
     let (mut seat, mut inodes) = take_apart(first)?;
-    inodes.rows.reserve(row_count(&results))?;
     while let Some(next) = results.pop() {
         seat = join_next(map, seat, &mut inodes, next)?;
     }
     Ok(Brought { seat, inodes })
 }
 
-// Joins one worker's seat to this one, and moves what it scanned behind what is there.
+// Joins one worker's seat to this one, and puts what it scanned to what is there.
 fn join_next(
     map: &ClaimMap,
     seat: ClaimSeat,
@@ -116,7 +116,7 @@ fn join_next(
     ensures whole { IfOk result (λ _. work.refused ≡ false) }
     ensures map { IfOk result (λ both. both.map ≡ seat.map) }
     ensures view { IfOk result (λ both. both.view ≡ both_views seat.view work.seat.view) }
-    ensures rows { OnOk result (inodes.new.rows.items ≡ inodes.old.rows.items ++ work.rows.items) }
+    ensures rows { OnOk result (IsPermutation (inodes.old.rows.items ++ work.rows.items) inodes.new.rows.items) }
     ensures faults { OnOk result (inodes.new.faults.items ≡ inodes.old.faults.items ++ work.faults.items) }
 {
     let (other, more) = take_apart(work)?;
@@ -125,15 +125,6 @@ fn join_next(
         Ok(both) => Ok(both),
         Err(_) => Err(AllocError),
     }
-}
-
-// How many rows these workers bring: so much room is made at once.
-fn row_count(results: &[WorkerResult]) -> usize {
-    let mut count = 0usize;
-    for work in results {
-        count = count.saturating_add(work.rows.len());
-    }
-    count
 }
 
 // A worker's seat, and what it scanned. A refused worker's work isn't whole, so there is no answer then.

@@ -31,11 +31,10 @@ read_more R head s kind i created r r' old new found x so_far goes is p q t = re
 }
 
 -- and after one write entry more
-pub read_write : (R : Region) (head : ℕ) (s : Super) (kind : Kind) (i created : ℕ) (r r' : Progress) (old new : Fold) (at : ℕ) (e : WriteEntry)
-    → IsReadSoFar R head kind i created r old → ((h : ℕ) (es : List Placed) → Leads R h r es → Continues R h r' es (found_write r.place e)) → at ≡ r.place
-    → r.sup ≡ s → r'.sup ≡ s → Takes s kind i (placed at (Write e)) old new → IsReadSoFar R head kind i created r' new
-read_write R head s kind i created r r' old new at e so_far goes is p q t =
-    read_more R head s kind i created r r' old new (found_write r.place e) (placed r.place (Write e)) so_far goes refl p q (subst (λ (n : ℕ). Takes s kind i (placed n (Write e)) old new) is t)
+pub read_write : (R : Region) (head : ℕ) (s : Super) (kind : Kind) (i created : ℕ) (r r' : Progress) (old new : Fold) (e : WriteEntry)
+    → IsReadSoFar R head kind i created r old → ((h : ℕ) (es : List Placed) → Leads R h r es → Continues R h r' es (found_write r.place e))
+    → r.sup ≡ s → r'.sup ≡ s → Takes s kind i (placed r.place (Write e)) old new → IsReadSoFar R head kind i created r' new
+read_write R head s kind i created r r' old new e so_far goes p q t = read_more R head s kind i created r r' old new (found_write r.place e) (placed r.place (Write e)) so_far goes refl p q t
 
 -- the whole log, once its end is found
 pub read_whole : (R : Region) (s : Super) (kind : Kind) (i : ℕ) (slot : Slot) (r r' : Progress) (fold : Fold) (found : Finding) (fault : Option LogEnd)

@@ -1,5 +1,5 @@
 -- The steps of a scan, with what is kept after each.
-use Rattle.std.proofs.Common.{◌≡◌, ◌∙◌, ℕ, ◌≢◌, ◌<◌, ◌+◌, ◌-◌, ◌^◌, ◌++◌, length, slice_index_or, true, false, List, [], ◌∷◌, ap, refl, sym, subst, append-nil, Option, Some, None, Result, IsTrue, arith, Ok, Err}
+use Rattle.std.proofs.Common.{◌≡◌, ◌∙◌, ℕ, ◌≢◌, ◌<◌, ◌-◌, ◌^◌, ◌++◌, length, slice_index_or, true, false, List, [], ◌∷◌, ap, refl, sym, subst, append-nil, Option, Some, None, IsSome, ◌↔◌, Result, IsTrue, arith, Ok, Err}
 use Rattle.std.specs.Result.{OnOk}
 use Rattle.std.specs.Option.{MatchOption}
 use Rattle.std.specs.List.{cons_option}
@@ -133,10 +133,9 @@ same_piece {R} {l} p q inode row claims faults is = record {
   faults = subst (λ (x : ℕ × List Fault). HasOnce (IsFaultOf R l x.0) x.1) (λ i. (inode i, faults i)) is.faults;
 }
 
--- the one row that there may be is the last of so many
-pub last_only : (row popped : Option Row) (rows : List Row) (n m : ℕ) → n ≡ length rows → rows ≡ cons_option row [] → MatchOption popped ((n ≡ 0) × (m ≡ 0)) (λ _. m + 1 ≡ n)
-    → ((d : Row) → 0 < n → popped ≡ Some (slice_index_or rows (n - 1) d)) → row ≡ popped
-last_only None None rows n m long is cases value = refl
-last_only None (Some other) rows n m long is cases value = let none : n ≡ 0 = long ∙ ap length is in absurd (omega (arith, none, cases))
-last_only (Some row) popped rows n m long is cases value =
-    let one : n ≡ 1 = long ∙ ap length is in sym (value row (omega (arith, one)) ∙ (λ i. Some (slice_index_or (is i) (one i - 1) row)))
+-- the one row that there may be is the last
+pub last_only : (row popped : Option Row) (rows : List Row) → rows ≡ cons_option row [] → (IsSome popped ↔ (0 < length rows)) → ((d : Row) → 0 < length rows → popped ≡ Some (slice_index_or rows (length rows - 1) d)) → row ≡ popped
+last_only None None rows is some value = refl
+last_only None (Some other) rows is some value = let none = ap length is in absurd (let more = some.0 refl in omega (arith, none, more))
+last_only (Some row) popped rows is some value =
+    let one : length rows ≡ 1 = ap length is in sym (value row (omega (arith, one)) ∙ (λ i. Some (slice_index_or (is i) (one i - 1) row)))

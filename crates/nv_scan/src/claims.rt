@@ -14,6 +14,7 @@ ghost use Rattle.nv_scan.specs.Work.{rows_in, claims_in};
 ghost use Rattle.nv_scan.specs.declared.piece.Piece.{Piece};
 
 use crate::piece::{LogPages, Row};
+use nv_numbered::Chunks;
 use nv_radix::{Extent, ExtentMap, FileIndex};
 use nv_super::Owner;
 use std::alloc::{AllocError, Global};
@@ -129,13 +130,13 @@ impl Claims {
 /// caller that kept no claims.
 ///
 /// Errors: `AllocError` where a growth was refused.
-pub fn claims_of_rows(alloc: Global, rows: &[Row]) -> Result<Vec<(u64, Owner)>, AllocError>
-    requires scanned { (region : Region) × (s : Super) × IsLayout s × (pieces : List Piece) × AllByRecursion (IsPiece region (fixed_layout s)) pieces × (rows.now ≡ rows_in pieces) }
-    ensures { IfOk result (λ claims. (region : Region) (l : Layout) (pieces : List Piece) → AllByRecursion (IsPiece region l) pieces → rows.now ≡ rows_in pieces → claims.items ≡ claims_in pieces) }
+pub fn claims_of_rows(alloc: Global, rows: &Chunks<Row>) -> Result<Vec<(u64, Owner)>, AllocError>
+    requires scanned { (region : Region) × (s : Super) × IsLayout s × (pieces : List Piece) × AllByRecursion (IsPiece region (fixed_layout s)) pieces × (rows.now.items ≡ rows_in pieces) }
+    ensures { IfOk result (λ claims. (region : Region) (l : Layout) (pieces : List Piece) → AllByRecursion (IsPiece region l) pieces → rows.now.items ≡ rows_in pieces → claims.items ≡ claims_in pieces) }
 {
     let mut claims = Vec::new(alloc);
-    for row in rows {
-        let own = Claims::of_row(alloc, row)?;
+    for place in 0..rows.len() {
+        let own = Claims::of_row(alloc, rows.at(place))?;
         claims.extend_from_slice(&own.to_list(alloc)?)?;
     }
     Ok(claims)

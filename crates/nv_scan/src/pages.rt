@@ -44,8 +44,7 @@ pub(crate) fn write_pages(
     requires good { is_write_out_of_range sup.now e.now ≡ false }
     ensures { OnOk result ((p : ℕ) → block_by extents.new p ≡ unwrap_or (block_in p (Entry.Write e.now)) (block_by extents.old p)) }
 {
-    extents.cut(first_page_past(e.size))?;
-    extents.set_run(e.offset, e.block, e.count as u64)
+    extents.write_run(first_page_past(e.size), e.offset, e.block, e.count as u64)
 }
 
 /// The first page that begins at the size or later.

@@ -13,9 +13,13 @@ pub type LogPages = SmallVec<u64, 2>;
 /// The row of an inode in use.
 #[derive(Drop)]
 pub struct Row {
+    // What the checks between inodes read of each row stands first, side by side. The kind, which doesn't fill its word, stands
+    // before single words: a row that is made is copied in odd pieces where it stands before the numbers.
     pub inode: u64,
-    pub kind: Kind,
     pub numbers: Numbers,
+    /// The names of a directory.
+    pub names: NameIndex,
+    pub kind: Kind,
     /// The byte address where the log begins.
     pub head: u64,
     /// The byte address where it ends.
@@ -24,8 +28,6 @@ pub struct Row {
     pub pages: LogPages,
     /// The blocks of a file's pages.
     pub index: FileIndex,
-    /// The names of a directory.
-    pub names: NameIndex,
 }
 
 /// All that is found of one inode by itself: its row, if it is in use, the blocks that it claims, and its faults, each once

@@ -9,9 +9,10 @@ ghost use Rattle.nv_scan.specs.Reading.{IsRead, IsReadSoFar};
 
 use crate::fold::Fold;
 use crate::in_use::InUse;
+use nv_entry::WRITE_LENGTH;
 use nv_logpage::{LightFinding, LogEnd, LogReader};
 use nv_region::Pmem;
-use nv_super::Super;
+use nv_super::{Kind, Super};
 use std::alloc::AllocError;
 
 /// Reads the log of an inode in use by a reader at its head, which has its pages then, and answers the fault that ended it,
@@ -55,12 +56,19 @@ fn take_writes<P: Pmem>(
     ensures same_log { (reader.new.sup ≡ reader.old.sup) × (reader.new.tail ≡ reader.old.tail) }
     ensures less { remaining reader.new ≤ remaining reader.old }
 {
+    // A write in a directory is a fault, which is told where all entries are looked at.
+    match used.kind {
+        Kind::Directory => return Ok(()),
+        Kind::File => {}
+    }
     // No store can change a copy, so its numbers are loaded once.
     let sup = *sup;
+    let end = reader.end();
     let mut at = reader.place();
-    while let Some(e) = reader.next_write(memory) {
-        fold.take_write(&sup, used.kind, used.inode, at, &e)?;
-        at = reader.place();
+    while let Some(e) = reader.write_at(memory, at, end) {
+        fold.take_write(&sup, Kind::File, used.inode, at, &e)?;
+        at += WRITE_LENGTH;
     }
+    reader.go_to(at);
     Ok(())
 }

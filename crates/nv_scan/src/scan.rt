@@ -311,10 +311,10 @@ fn keep(
     push_fault(&mut fold.faults, fault)?;
     let (rows, faults) = (inodes.rows.len(), inodes.faults.len());
     inodes.push(row_without_pages(alloc, used, fold), &fold.faults)?;
-    match fill_row(pages, &fold.extents, &mut inodes.rows[rows], claims) {
+    match fill_row(pages, &fold.extents, inodes.rows.at_mut(rows), claims) {
         Ok(()) => Ok(()),
         Err(AllocError) => {
-            inodes.rows.truncate(rows);
+            let _row = inodes.rows.pop();
             inodes.faults.truncate(faults);
             Err(AllocError)
         }
@@ -333,13 +333,13 @@ fn row_without_pages(alloc: Global, used: &InUse, fold: &mut Fold) -> Row
 {
     Row {
         inode: used.inode,
-        kind: used.kind,
         numbers: fold.numbers,
+        names: mem::replace(&mut fold.names, NameIndex::new(alloc)),
+        kind: used.kind,
         head: used.slot.head,
         tail: used.slot.tail,
         pages: LogPages::new(alloc),
         index: FileIndex::new(alloc),
-        names: mem::replace(&mut fold.names, NameIndex::new(alloc)),
     }
 }
 

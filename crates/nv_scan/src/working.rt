@@ -14,6 +14,7 @@ use crate::piece::Row;
 use crate::scan::Scanner;
 use crate::tickets::SLOTS;
 use nv_claimmap::{ClaimMap, ClaimSeat};
+use nv_numbered::Chunks;
 use nv_region::Pmem;
 use nv_super::{Fault, Super};
 use std::alloc::{AllocError, Global};
@@ -38,7 +39,7 @@ pub struct WorkerResult {
     /// The seat that it worked by, in every case.
     pub seat: ClaimSeat,
     /// The rows of its tickets' inodes, in the order of the draws; none where it was refused memory.
-    pub rows: Vec<Row>,
+    pub rows: Chunks<Row>,
     /// What is wrong with each of these inodes by itself, in that order; nothing where it was refused memory.
     pub faults: Vec<Fault>,
     /// Memory was refused, so the work isn't whole.
@@ -85,7 +86,7 @@ pub fn worker<P: Pmem, G: Gate>(
         },
         Err(AllocError) => WorkerResult {
             seat,
-            rows: Vec::new(alloc),
+            rows: Chunks::new(alloc),
             faults: Vec::new(alloc),
             refused: true,
         },

@@ -20,7 +20,7 @@ returns g c =
     let F : List Listing → Type 0 = λ ls. Adds (IsFar ls) c.push_rows.new.faults.items c.push_far.new.faults.items in
     let A : List Fault → Type 0 = λ fs. Adds (IsFar listings) fs c.push_far.new.faults.items in
     let far : A (all_of near) = subst A all (subst F c.deref-6.ensures.value c.in_ok-push_far.ensures) in
-    cross_listed _ c.args.rows.now listings is.listings c.requires.apart c.sort_faults.new.faults.items
+    cross_listed _ c.args.rows.now.items listings is.listings c.requires.apart c.sort_faults.new.faults.items
     (sorted_listed listings c.push_far.new.faults.items c.sort_faults.new.faults.items (all_faults listings table is.places (all_of near) c.push_far.new.faults.items
     (near_from listings table counts near is.places is.counts rows) (near_into listings table counts near is.places is.counts rows) far) c.sort_faults.ensures)
 

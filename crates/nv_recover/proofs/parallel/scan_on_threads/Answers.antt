@@ -1,14 +1,14 @@
 use Rattle.std.proofs.Common.{refl}
 use Rattle.nv_recover.proofs.Claims.{claims_covered}
-use Rattle.nv_recover.proofs.Inodes.{rows_apart, cross_same}
+use Rattle.nv_recover.proofs.Inodes.{rows_apart}
 use Rattle.nv_recover.proofs.Owned.{owned_claimed}
 use Rattle.nv_recover.proofs.parallel.scan_on_threads.Goals as goal
 
 pub cross_faults-requires-clause-apart : goal.cross_faults-requires-clause-apart
-cross_faults-requires-clause-apart g c κs within = (rows_apart c.requires.layout c.in_ok-inodes.ensures.1 c.deref.result.now c.deref.ensures.value).apart
+cross_faults-requires-clause-apart g c κs within = (rows_apart c.requires.layout c.in_ok-inodes.ensures.1 _ refl).apart
 
 pub cross_faults-requires-clause-numbers : goal.cross_faults-requires-clause-numbers
-cross_faults-requires-clause-numbers g c κs within = (rows_apart c.requires.layout c.in_ok-inodes.ensures.1 c.deref.result.now c.deref.ensures.value).numbers
+cross_faults-requires-clause-numbers g c κs within = (rows_apart c.requires.layout c.in_ok-inodes.ensures.1 _ refl).numbers
 
 pub owned_of-requires : goal.owned_of-requires
 owned_of-requires g c = let is = c.in_ok-inodes.ensures in record { covers = claims_covered c.args.sup.now is.0 c.in_ok-inodes.claimed is.1.pieces_are is.2 refl refl }
@@ -18,5 +18,5 @@ returns g c = let is = c.in_ok-inodes.ensures in record {
   pieces = is.0;
   inodes = is.1;
   owned = owned_claimed c.args.sup.now is.0 c.in_ok-inodes.claimed c.in_ok-owned.owned is.2 c.in_ok-owned.ensures.first c.in_ok-owned.ensures.doubled;
-  cross = cross_same _ _ _ c.deref.ensures.value c.in_ok-cross.ensures;
+  cross = c.in_ok-cross.ensures;
 }

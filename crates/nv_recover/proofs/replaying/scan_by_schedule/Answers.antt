@@ -1,6 +1,6 @@
 use Rattle.std.proofs.Common.{refl}
 use Rattle.nv_recover.proofs.Claims.{work_inside, claims_covered, claimed_by_sets}
-use Rattle.nv_recover.proofs.Inodes.{rows_apart, cross_same}
+use Rattle.nv_recover.proofs.Inodes.{rows_apart}
 use Rattle.nv_recover.proofs.Owned.{owned_claimed}
 use Rattle.nv_recover.proofs.replaying.scan_by_schedule.Goals as goal
 
@@ -9,10 +9,10 @@ claim_all-requires-clause-inside g c = let is = c.in_ok-inodes.ensures.inodes in
     work_inside c.args.sup.now is.0 is.1.pieces_are c.in_ok-inodes.work.items is.2
 
 pub cross_faults_one-requires-clause-apart : goal.cross_faults_one-requires-clause-apart
-cross_faults_one-requires-clause-apart g c = (rows_apart c.requires.layout c.in_ok-inodes.ensures.inodes.1 c.deref.result.now c.deref.ensures.value).apart
+cross_faults_one-requires-clause-apart g c = (rows_apart c.requires.layout c.in_ok-inodes.ensures.inodes.1 _ refl).apart
 
 pub cross_faults_one-requires-clause-numbers : goal.cross_faults_one-requires-clause-numbers
-cross_faults_one-requires-clause-numbers g c = (rows_apart c.requires.layout c.in_ok-inodes.ensures.inodes.1 c.deref.result.now c.deref.ensures.value).numbers
+cross_faults_one-requires-clause-numbers g c = (rows_apart c.requires.layout c.in_ok-inodes.ensures.inodes.1 _ refl).numbers
 
 pub owned_of-requires : goal.owned_of-requires
 owned_of-requires g c =
@@ -25,5 +25,5 @@ returns g c = let is = c.in_ok-inodes.ensures.inodes in record {
   pieces = is.0;
   inodes = is.1;
   owned = owned_claimed c.args.sup.now is.0 c.in_ok-claimed.claimed c.in_ok-owned.owned (claimed_by_sets c.args.sup.now is.0 c.in_ok-inodes.work.items c.in_ok-claimed.claimed is.2 c.in_ok-claimed.ensures.claims c.in_ok-claimed.ensures.sets) c.in_ok-owned.ensures.first c.in_ok-owned.ensures.doubled;
-  cross = cross_same _ _ _ c.deref.ensures.value c.in_ok-cross.ensures;
+  cross = c.in_ok-cross.ensures;
 }

@@ -1,23 +1,40 @@
-use Rattle.std.proofs.Common.{List, ◌≡◌, ◌+◌, ◌<◌, Some, vec_len, sym, ap, ◌∙◌, subst, arith}
+use Rattle.std.proofs.Common.{List, ◌≡◌, ◌++◌, ◌+◌, ◌<◌, Some, vec_len, sym, ap, ◌∙◌, subst, arith}
 use Rattle.std.specs.Prelude.{Vec}
 use Rattle.std.specs.declared.alloc.Global.{Global}
+use Rattle.std.specs.List.Sorted.{IsPermutation}
 use Rattle.std.proofs.lemmas.List.Elements.{All-pop}
+use Rattle.std.proofs.lemmas.List.Sorted.{IsPermutation-refl, IsPermutation-trans, IsPermutation-append_left}
+use Rattle.nv_numbered.specs.Chunked.{Chunked}
 use Rattle.nv_region.specs.Region.{Region}
 use Rattle.nv_super.specs.declared.superblock.Super.{Super}
 use Rattle.nv_super.specs.declared.faults.Fault.{Fault}
 use Rattle.nv_claimcore.specs.declared.view.View.{View}
-use Rattle.nv_claimcore.specs.Claims.{past}
+use Rattle.nv_claimcore.specs.Claims.{past, both_views}
 use Rattle.nv_claimcore.proofs.Runs.{past_both}
 use Rattle.nv_claimmap.specs.Held.{Held}
 use Rattle.nv_scan.specs.Tickets.{ticket_count}
 use Rattle.nv_scan.specs.Work.{Returned, IsWork}
 use Rattle.nv_scan.specs.declared.piece.Row.{Row}
 use Rattle.nv_scan.proofs.Work.{work_joins}
+use Rattle.nv_recover.specs.Workers.{IsKeptWork}
 use Rattle.nv_recover.proofs.workers.join_all.Goals as goal
 
--- the same work, told of what is the same
-same_work : {R : Region} {s : Super} {v w : View} {rows new : List Row} {faults after : List Fault} → w ≡ v → new ≡ rows → after ≡ faults → IsWork R s v rows faults → IsWork R s w new after
-same_work {R} {s} one two three work = subst (λ (z : View × List Row × List Fault). IsWork R s z.0 z.1 z.2) (sym (λ i. (one i, two i, three i))) work
+-- the work of one seat, with its rows as they are listed
+kept_first : {R : Region} {s : Super} {v w : View} {rows new : List Row} {faults after : List Fault} → w ≡ v → new ≡ rows → after ≡ faults → IsWork R s v rows faults → IsKeptWork R s w new after
+kept_first {R} {s} {v} {w} {rows} {new} {faults} {after} one two three work = record {
+  listed = new;
+  work = subst (λ (z : View × List Row × List Fault). IsWork R s z.0 z.1 z.2) (sym (λ i. (one i, two i, three i))) work;
+  kept = IsPermutation-refl new;
+}
+
+-- with the work of another seat, whose rows come among the others
+kept_more : {R : Region} {s : Super} {v u w : View} {rows more new : List Row} {faults others after : List Fault} → w ≡ both_views v u → IsPermutation (rows ++ more) new → after ≡ faults ++ others
+    → IsKeptWork R s v rows faults → IsWork R s u more others → IsKeptWork R s w new after
+kept_more {R} {s} {v} {u} {w} {rows} {more} {new} {faults} {others} {after} one two three work next = record {
+  listed = work.listed ++ more;
+  work = subst (λ (z : View × List Fault). IsWork R s z.0 (work.listed ++ more) z.1) (sym (λ i. (one i, three i))) (work_joins R s v u work.listed more faults others work.work next);
+  kept = IsPermutation-trans (work.listed ++ more) (rows ++ more) new (IsPermutation-append_left more work.listed rows work.kept) two;
+}
 
 items : {A : Type 0} {v w : Vec A Global} → v ≡ w → v.items ≡ w.items
 items same = ap (λ v. v.items) same
@@ -36,7 +53,7 @@ loop-next-init g c =
       seats = omega (arith, one, len);
       rest = split.0;
       ended = subst (λ (h : Held). 0 < past (ticket_count s) h.view.numbers) (sym same) (first.ended whole);
-      work = same_work (ap (λ (h : Held). h.view) same) (◌∙◌ {A = List Row} c.reserve.ensures.items (items c.in_ok-seat.ensures.rows)) (items c.in_ok-seat.ensures.faults) (first.work whole);
+      work = kept_first (ap (λ (h : Held). h.view) same) (ap (λ (rows : Chunked Row). rows.items) c.in_ok-seat.ensures.rows) (items c.in_ok-seat.ensures.faults) (first.work whole);
     }
 
 pub join_next-requires-clause-other : goal.join_next-requires-clause-other
@@ -60,6 +77,5 @@ loop-next-preserved g c =
       seats = omega (arith, seats, one, len, l.invariant.seats);
       rest = split.0;
       ended = subst (λ (v : View). 0 < past (ticket_count s) v.numbers) (sym joins.view) (let sum = past_both (ticket_count s) l.seat.view.numbers c.in-Some-pop.next.seat.view.numbers in omega (arith, sum, l.invariant.ended));
-      work = same_work joins.view joins.rows joins.faults
-          (work_joins R s l.seat.view c.in-Some-pop.next.seat.view l.inodes.rows.items c.in-Some-pop.next.rows.items l.inodes.faults.items c.in-Some-pop.next.faults.items l.invariant.work (next.work joins.whole));
+      work = kept_more joins.view joins.rows joins.faults l.invariant.work (next.work joins.whole);
     }

@@ -1,4 +1,6 @@
-use Rattle.std.proofs.Common.{List, ◌++◌, ap, ◌∙◌}
+use Rattle.std.proofs.Common.{◌++◌, ap, ◌∙◌, subst}
+use Rattle.std.specs.List.Sorted.{IsPermutation}
+use Rattle.nv_numbered.specs.Chunked.{Chunked}
 use Rattle.nv_claimcore.specs.Claims.{both_views}
 use Rattle.nv_claimmap.specs.Held.{Held}
 use Rattle.nv_scan.specs.declared.piece.Row.{Row}
@@ -11,7 +13,8 @@ pub returns-in-Ok-clause-view : goal.returns-in-Ok-clause-view
 returns-in-Ok-clause-view c = c.in-Ok.ensures.view ∙ ap (λ (h : Held). both_views c.args.seat.view h.view) c.in_ok-other.ensures.seat
 
 pub returns-in-Ok-clause-rows : goal.returns-in-Ok-clause-rows
-returns-in-Ok-clause-rows c = ◌∙◌ {A = List Row} c.in_ok-append.ensures.rows (ap (λ v. c.args.inodes.now.rows.items ++ v.items) c.in_ok-other.ensures.rows)
+returns-in-Ok-clause-rows c =
+    subst (λ (more : Chunked Row). IsPermutation (c.args.inodes.now.rows.items ++ more.items) c.append.new.self.rows.items) c.in_ok-other.ensures.rows c.in_ok-append.ensures.rows
 
 pub returns-in-Ok-clause-faults : goal.returns-in-Ok-clause-faults
 returns-in-Ok-clause-faults c = c.in_ok-append.ensures.faults ∙ ap (λ v. c.args.inodes.now.faults.items ++ v.items) c.in_ok-other.ensures.faults

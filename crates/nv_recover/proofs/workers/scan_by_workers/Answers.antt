@@ -1,6 +1,7 @@
 use Rattle.std.proofs.Common.{◌≡◌, ◌<◌, ap, sym, ◌∙◌, subst, arith}
 use Rattle.std.specs.List.{All}
 use Rattle.std.specs.List.Sorted.{IsPermutation}
+use Rattle.std.proofs.lemmas.List.Sorted.{IsPermutation-trans}
 use Rattle.nv_claimcore.specs.Claims.{nothing}
 use Rattle.nv_claimcore.specs.declared.view.Sizes.{Sizes}
 use Rattle.nv_claimcore.proofs.Runs.{all_drawn}
@@ -33,7 +34,7 @@ returns g c =
     let s = c.args.sup.now in
     let brought = c.in_ok-brought.brought in
     let is = c.in_ok-brought.ensures in
-    let work = is.work in
+    let work = is.work.work in
     let blocks : c.in_ok-map.map.sizes.blocks ≡ s.blocks = ap (λ (z : Sizes). z.blocks) c.in_ok-map.ensures.sizes in
     let numbers = c.close.ensures.numbers in
     let past_end : ticket_count s < numbers.0 = all_drawn (ticket_count s) numbers.0 brought.seat.view.numbers numbers.1 is.ended in
@@ -42,7 +43,7 @@ returns g c =
       order.sorted,
       record {
         pieces_are = order.pieces_are;
-        rows = subst (IsPermutation (rows_in order.sorted)) (sym work.rows_are) order.rows;
+        rows = IsPermutation-trans (rows_in order.sorted) is.work.listed brought.inodes.rows.items (subst (IsPermutation (rows_in order.sorted)) (sym work.rows_are) order.rows) is.work.kept;
         faults = subst (IsPermutation (faults_in order.sorted)) (sym work.faults_are) order.faults;
       },
       record {

@@ -2,5 +2,5 @@ use Rattle.std.proofs.Common.{take}
 use Rattle.nv_scan.specs.Claims.{AreClaimsOf}
 use Rattle.nv_scan.proofs.claims.claims_of_rows.Given as goal
 
-abbrev pub invariant-loop-row : goal.invariant-loop-row
-invariant-loop-row l = AreClaimsOf (take l.row-index l.rows) l.claims.items
+abbrev pub invariant-loop-place : goal.invariant-loop-place
+invariant-loop-place l = AreClaimsOf (take l.place l.rows.items) l.claims.items

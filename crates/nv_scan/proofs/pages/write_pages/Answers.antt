@@ -9,10 +9,10 @@ use Rattle.nv_radix.specs.Runs.{block_by}
 use Rattle.nv_scan.proofs.pages.write_pages.Goals as goal
 
 -- a page after the cut and the run
-by_tests : (run cut : Bool) (b : ℕ) (old mid new : Option ℕ) → mid ≡ cond cut None old → new ≡ cond run (Some b) mid → new ≡ unwrap_or (cond run (Some (Some b)) (cond cut (Some None) None)) old
-by_tests true cut b old mid new first second = second
-by_tests false true b old mid new first second = second ∙ first
-by_tests false false b old mid new first second = second ∙ first
+by_tests : (run cut test : Bool) (b : ℕ) (old new : Option ℕ) → test ≡ cut → new ≡ cond run (Some b) (cond test None old) → new ≡ unwrap_or (cond run (Some (Some b)) (cond cut (Some None) None)) old
+by_tests true cut test b old new same is = is
+by_tests false true test b old new same is = is ∙ ap (λ (t : Bool). cond t None old) same
+by_tests false false test b old new same is = is ∙ ap (λ (t : Bool). cond t None old) same
 
 -- the pages and the blocks of a write that is in range
 fits : (s : Super) (e : WriteEntry) → is_write_out_of_range s e ≡ false → (e.offset + e.count ≤ 262144) × (e.block + e.count ≤ s.blocks)
@@ -21,16 +21,15 @@ fits s e good =
     let blocks : e.block + e.count ≤ s.blocks = grind (arith, nat_tests) in
     (pages, blocks)
 
-pub set_run-requires-clause-pages : goal.set_run-requires-clause-pages
-set_run-requires-clause-pages c = λ some. (let f = (fits c.args.sup.now c.args.e.now c.requires.good).0 in omega (arith, f))
+pub write_run-requires-clause-pages : goal.write_run-requires-clause-pages
+write_run-requires-clause-pages c = λ some. (let f = (fits c.args.sup.now c.args.e.now c.requires.good).0 in omega (arith, f))
 
-pub set_run-requires-clause-blocks : goal.set_run-requires-clause-blocks
-set_run-requires-clause-blocks c = λ some. (let f = (fits c.args.sup.now c.args.e.now c.requires.good).1 in let most = c.requires.areas.blocks_to in omega (arith, f, most))
+pub write_run-requires-clause-blocks : goal.write_run-requires-clause-blocks
+write_run-requires-clause-blocks c = λ some. (let f = (fits c.args.sup.now c.args.e.now c.requires.good).1 in let most = c.requires.areas.blocks_to in omega (arith, f, most))
 
 pub returns : goal.returns
 returns c =
     let e = c.args.e.now in
     let old = c.args.extents.now in
-    on_ok_weaker c.set_run.result
-    (λ h p. by_tests (in_run e.offset e.count p) (nat_le e.size (p * 4096)) (e.block + (p - e.offset)) (block_by old p) (block_by c.cut.new.self p) _
-    (c.in_ok-cut.ensures p ∙ ap (λ (t : Bool). cond t None (block_by old p)) (c.first_page_past.ensures p)) (h p)) c.set_run.ensures
+    on_ok_weaker c.write_run.result
+    (λ h p. by_tests (in_run e.offset e.count p) (nat_le e.size (p * 4096)) (nat_le c.first_page_past.result p) (e.block + (p - e.offset)) (block_by old p) _ (c.first_page_past.ensures p) (h p)) c.write_run.ensures

@@ -1,4 +1,5 @@
-use Rattle.std.proofs.Common.{◌≡◌, ◌++◌, ℕ, List, length, ap, refl, subst, ◌∙◌, Some}
+use Rattle.std.proofs.Common.{◌≡◌, ◌++◌, ℕ, List, ap, refl, subst, sym, ◌∙◌, Some}
+use Rattle.std.proofs.lemmas.Option.{get_or_from_slice_get}
 use Rattle.nv_super.specs.declared.owners.Owner.{Owner}
 use Rattle.nv_super.specs.declared.faults.Fault.{Fault}
 use Rattle.nv_super.specs.Order.{Lists, owner_key}
@@ -15,8 +16,9 @@ returns-in-Ok-clause-kept c =
     let row = c.fill_row.new.row in
     let claims = c.fill_row.new.claims in
     let filled = c.in-Ok.ensures in
-    let end : c.len-rows.result ≡ length c.args.inodes.now.rows.items = c.len-rows.ensures ∙ c.args.inodes.now.rows.ok.0 in
-    let was : c.index_mut.result.now ≡ blank = last_row _ c.args.inodes.now.rows.items blank _ c.in_ok-push.ensures.rows end c.index_mut.ensures.value in
+    let end = c.len-rows.ensures in
+    let read = sym (get_or_from_slice_get c.push.new.self.rows.items c.len-rows.result c.at_mut.result.now c.at_mut.result.now c.at_mut.ensures.value) in
+    let was : c.at_mut.result.now ≡ blank = last_row _ c.args.inodes.now.rows.items blank _ c.in_ok-push.ensures.rows end read in
     let is = c.row_without_pages.ensures.row in
     let inode : row.inode ≡ used.inode = filled.same.0 ∙ ap (λ (r : Row). r.inode) was ∙ is.0 in
     let told : c.deref.result.now ≡ c.push_fault.new.faults.items = c.deref.ensures.value ∙ ap (λ v. v.items) c.row_without_pages.ensures.others.1 in

@@ -1,4 +1,4 @@
-use Rattle.std.proofs.Common.{◌∙◌, ◌++◌, [], List, ap, subst, sym, vec_len}
+use Rattle.std.proofs.Common.{◌∙◌, ◌++◌, [], List, ap, subst, sym}
 use Rattle.std.specs.List.{cons_option}
 use Rattle.std.proofs.lemmas.Result.{IfOk-from_err}
 use Rattle.nv_super.specs.declared.faults.Fault.{Fault}
@@ -12,7 +12,7 @@ pub returns-clause-piece : goal.returns-clause-piece
 returns-clause-piece g c =
     let inodes = c.scan_one.new.inodes in
     let kept = subst (λ (s : Super). Keeps (IsPieceBy (g.P.Pmem.region c.args.memory.now) s c.args.inode) c.new-inodes.result inodes c.scan_one.new.claims) c.new.ensures c.in_ok-scan_one.ensures.kept in
-    let row = last_only kept.piece.row c.pop.result inodes.rows.items (vec_len inodes.rows) (vec_len c.pop.new.self) inodes.rows.ok.0 (kept.rows ∙ ap (λ (rows : List Row). rows ++ cons_option kept.piece.row []) c.new-inodes.ensures.rows) c.pop.ensures.cases c.pop.ensures.value in
+    let row = last_only kept.piece.row c.pop.result inodes.rows.items (kept.rows ∙ ap (λ (rows : List Row). rows ++ cons_option kept.piece.row []) c.new-inodes.ensures.rows) c.pop.ensures.variant c.pop.ensures.value in
     same_piece kept.piece _ kept.is.0 row kept.claims_are (sym (kept.faults ∙ ap (λ (faults : List Fault). faults ++ kept.piece.faults.items) c.new-inodes.ensures.faults)) kept.is.1
 
 pub returns-in_err-scan_one-clause-number : goal.returns-in_err-scan_one-clause-number

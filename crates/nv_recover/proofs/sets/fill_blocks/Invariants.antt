@@ -3,7 +3,7 @@ use Rattle.nv_super.specs.declared.owners.Owner.{Owner}
 use Rattle.nv_super.specs.declared.owners.Owner.TheVariants.{Data}
 use Rattle.nv_super.specs.Owners.{pairs}
 use Rattle.nv_outcome.specs.Parts.{AreMaps}
-use Rattle.nv_recover.proofs.sets.fill_run.Given as goal
+use Rattle.nv_recover.proofs.sets.fill_blocks.Given as goal
 
 abbrev pub invariant-loop-by : goal.invariant-loop-by
 invariant-loop-by l = record {

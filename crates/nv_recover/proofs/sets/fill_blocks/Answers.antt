@@ -8,7 +8,7 @@ use Rattle.nv_scan.proofs.Runs.{each_block}
 use Rattle.nv_outcome.specs.Parts.{AreMaps}
 use Rattle.nv_recover.specs.Scanned.{Fits}
 use Rattle.nv_recover.proofs.TwoSets.{second_after_long, maps_behind}
-use Rattle.nv_recover.proofs.sets.fill_run.Goals as goal
+use Rattle.nv_recover.proofs.sets.fill_blocks.Goals as goal
 
 pub loop-by-init : goal.loop-by-init
 loop-by-init c = record {
