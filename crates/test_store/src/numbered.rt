@@ -4,7 +4,7 @@ ghost use Rattle.std.specs.Prelude.{◌≡◌, ◌^◌, ◌<◌};
 ghost use Rattle.nv_numbered.specs.Values.{limit_of};
 
 use crate::checks::{check, check_at};
-use nv_numbered::Numbered;
+use nv_numbered::{Chunks, Numbered};
 use std::alloc::{AllocError, Global};
 use std::process::Abort;
 
@@ -87,7 +87,9 @@ fn assert_written(rt: &impl Abort, values: &mut Numbered<u64>, number: u64, has_
 
 /// The numbers 5 and 1, each with ten times itself.
 fn given(alloc: Global) -> Result<Numbered<u64>, AllocError> {
-    let values = vec![in alloc; 50, 10]?;
+    let mut values = Chunks::new(alloc);
+    values.push(50)?;
+    values.push(10)?;
     let numbers = vec![in alloc; 5, 1]?;
     Numbered::from_values(alloc, values, numbers, 8)
 }

@@ -4,6 +4,7 @@ use crate::rows::row;
 use crate::small::SMALL;
 use nv_check::{cross_faults, cross_faults_one, doubled};
 use nv_names::NameIndex;
+use nv_numbered::Chunks;
 use nv_super::{Fault, Kind, Owner};
 use std::alloc::{AllocError, Global};
 use std::process::Abort;
@@ -45,12 +46,11 @@ fn faults_between_four_rows(rt: HostRuntime) -> Result<(), AllocError> {
     let names = root_names(alloc)?;
     let names_of_3 = one_name(alloc, 4, 16384)?;
     let names_of_4 = one_name(alloc, 3, 20480)?;
-    let rows = [
-        row(alloc, 3, Kind::Directory, 1, names_of_3),
-        row(alloc, 1, Kind::Directory, 1, names),
-        row(alloc, 4, Kind::Directory, 1, names_of_4),
-        row(alloc, 2, Kind::File, 2, NameIndex::new(alloc)),
-    ];
+    let mut rows = Chunks::new(alloc);
+    rows.push(row(alloc, 3, Kind::Directory, 1, names_of_3))?;
+    rows.push(row(alloc, 1, Kind::Directory, 1, names))?;
+    rows.push(row(alloc, 4, Kind::Directory, 1, names_of_4))?;
+    rows.push(row(alloc, 2, Kind::File, 2, NameIndex::new(alloc)))?;
     let one = cross_faults_one(alloc, &SMALL, &rows)?;
     assert_faults(&rt, &one);
     let threads = cross_faults(&rt, alloc, &SMALL, &rows)?;

@@ -5,6 +5,7 @@ ghost use Rattle.nv_super.specs.Layout.{inode_limit};
 
 use crate::small::SMALL;
 use nv_names::NameIndex;
+use nv_numbered::Chunks;
 use nv_radix::FileIndex;
 use nv_recover::Rows;
 use nv_scan::{LogPages, Numbers, Row};
@@ -45,7 +46,9 @@ fn file(alloc: Global, inode: u64) -> Row
 fn two_files(alloc: Global) -> Result<Rows, AllocError>
     ensures { IfOk result (λ rows. rows.sup ≡ SMALL) }
 {
-    let rows = vec![in alloc; file(alloc, 4), file(alloc, 2)]?;
+    let mut rows = Chunks::new(alloc);
+    rows.push(file(alloc, 4))?;
+    rows.push(file(alloc, 2))?;
     Rows::from_rows(alloc, rows, &SMALL)
 }
 

@@ -6,6 +6,7 @@ ghost use Rattle.nv_region.specs.Region.{HasBlocks};
 use crate::small::{DIRECTORY_MODE, SMALL, opened_for_one, small_region};
 use nv_claimmap::Claimed;
 use nv_names::Target;
+use nv_numbered::Chunks;
 use nv_region::MemRegion;
 use nv_scan::{
     Claims, Inodes, NoGate, Numbers, Piece, Row, Scanner, directories_have_no_pages,
@@ -302,8 +303,8 @@ fn reads_second(
     Ok(())
 }
 
-fn first_inode(rows: &[Row]) -> Option<u64> {
-    let row = rows.first()?;
+fn first_inode(rows: &Chunks<Row>) -> Option<u64> {
+    let row = rows.get(0)?;
     Some(row.inode)
 }
 
@@ -360,9 +361,14 @@ fn a_scanner_reads_a_log_again(rt: HostRuntime) -> Result<(), Fail> {
 }
 
 /// The rows of inodes 1 and 2.
-fn are_two(rows: &[Row]) -> bool {
-    match rows {
-        [one, two] => one.inode == 1 && two.inode == 2 && two.pages.as_slice() == [4].as_slice(),
+fn are_two(rows: &Chunks<Row>) -> bool {
+    match (rows.get(0), rows.get(1)) {
+        (Some(one), Some(two)) => {
+            rows.len() == 2
+                && one.inode == 1
+                && two.inode == 2
+                && two.pages.as_slice() == [4].as_slice()
+        }
         _ => false,
     }
 }
