@@ -62,3 +62,22 @@ fn a_map_has_the_extents_of_its_steps(rt: HostRuntime) {
         assert_row(&rt, rt.alloc(), row);
     }
 }
+
+/// A write that cuts, one that cuts nothing, and one of two pages that cuts.
+fn assert_writes(rt: &impl Abort, alloc: Global, map: &mut ExtentMap) -> Result<(), AllocError> {
+    map.write_run(4, 1, 50, 1)?;
+    assert_map(rt, alloc, map, "0 1 10 1 1 50 2 2 30");
+    map.write_run(4, 3, 60, 1)?;
+    assert_map(rt, alloc, map, "0 1 10 1 1 50 2 1 30 3 1 60");
+    map.write_run(3, 1, 70, 2)?;
+    assert_map(rt, alloc, map, "0 1 10 1 2 70");
+    Ok(())
+}
+
+#[test]
+fn a_write_cuts_what_lies_behind_it(rt: HostRuntime) -> Result<(), AllocError> {
+    let mut map = ExtentMap::new(rt.alloc());
+    // The second step begins in front of the first, and so makes the leaf.
+    take_steps(&mut map, &[2, 6, 20, 0, 2, 10, 2, 4, 30])?;
+    assert_writes(&rt, rt.alloc(), &mut map)
+}

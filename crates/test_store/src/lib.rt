@@ -8,6 +8,8 @@ mod allocator;
 #[cfg(test)]
 mod checks;
 #[cfg(test)]
+mod chunks;
+#[cfg(test)]
 mod claim_core;
 #[cfg(test)]
 mod claim_map;

@@ -7,7 +7,7 @@ ghost use Rattle.nv_region.specs.Region.{HasBlocks};
 
 use crate::checks::check;
 use crate::small::{SMALL, Word, small_region};
-use nv_entry::{AttrEntry, Entry};
+use nv_entry::{AttrEntry, Entry, WriteEntry};
 use nv_logpage::{
     Finding, LogEnd, LogFault, LogReader, Placed, Walk, a_log_has_the_page_of_its_tail,
     entries_stand_apart, log_pages_are_data_blocks, reads_its_pages_alone, reads_on_from_the_tail,
@@ -422,6 +422,67 @@ fn goes_on(rt: &impl Abort, alloc: Global, memory: &MemRegion) -> Result<(), All
 fn a_reader_goes_on_to_another_log(rt: HostRuntime) {
     let memory = small_region(&rt, rt.alloc(), &TWO_ENTRIES);
     check(&rt, goes_on(&rt, rt.alloc(), &memory).is_ok(), "a reader");
+}
+
+/// A write entry and one of attributes behind it.
+const A_WRITE: [Word; 6] = [
+    (12288, 2 * 4294967296 + 40 * 65536 + 1),
+    (12296, 3),
+    (12304, 4),
+    (12312, 20480),
+    (12320, 5),
+    (12328, ATTR),
+];
+
+const WRITE_AT_12288: WriteEntry = WriteEntry {
+    count: 2,
+    offset: 3,
+    block: 4,
+    size: 20480,
+    time: 5,
+};
+
+const BEHIND_THE_WRITE: [Finding; 2] = [
+    Finding::Entry(Placed {
+        at: 12328,
+        entry: Entry::Attr(NOTHING_SET),
+    }),
+    Finding::End(None),
+];
+
+/// The write is found at its place, and no other one behind it, where the reader goes on.
+fn assert_write_found(rt: &impl Abort, reader: &mut LogReader, memory: &MemRegion)
+    requires { HasBlocks memory.now.region reader.old.sup.blocks }
+    ensures { reader.new.sup ≡ reader.old.sup }
+{
+    let at = reader.place();
+    let end = reader.end();
+    check(rt, end == 12360, "the end in the tail's page");
+    let Some(found) = reader.write_at(memory, at, end) else {
+        rt.panic("a write entry")
+    };
+    check(rt, found == WRITE_AT_12288, "the write entry");
+    let next = reader.write_at(memory, at + 40, end);
+    check(rt, next.is_none(), "no write entry");
+    reader.go_to(at + 40);
+    finds(rt, reader, memory, &BEHIND_THE_WRITE);
+}
+
+/// In a page that the log leaves, its entries end by the link.
+fn finds_write(rt: &impl Abort, alloc: Global, memory: &MemRegion) -> Result<(), AllocError>
+    requires { HasBlocks memory.now.region 16 }
+{
+    let mut reader = LogReader::new(alloc, &SMALL, HEAD, 12360)?;
+    assert_write_found(rt, &mut reader, memory);
+    reader.restart(HEAD, 20480);
+    check(rt, reader.end() == 16352, "the end in another page");
+    Ok(())
+}
+
+#[test]
+fn a_write_is_found_at_its_place(rt: HostRuntime) -> Result<(), AllocError> {
+    let memory = small_region(&rt, rt.alloc(), &A_WRITE);
+    finds_write(&rt, rt.alloc(), &memory)
 }
 
 #[test]
