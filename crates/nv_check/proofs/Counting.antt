@@ -1,10 +1,10 @@
 -- Counting what is named, one after another.
-use Rattle.std.proofs.Common.{◌≡◌, ◌≢◌, ℕ, ◌+◌, ◌<◌, ◌≤◌, eqb, Bool, true, false, cond, List, [], ◌∷◌, ◌++◌, length, get_or, take, map, refl, ap, sym, ◌∙◌, arith, eq-eqb, get_or-set_same, get_or-set_other, Option, Some, None, append-nil}
+use Rattle.std.proofs.Common.{◌≡◌, ◌≢◌, ℕ, ◌+◌, ◌<◌, eqb, Bool, true, false, cond, List, [], ◌∷◌, ◌++◌, length, get_or, take, map, refl, ap, sym, ◌∙◌, arith, eq-eqb, get_or-set_same, get_or-set_other, Option, Some, None, append-nil}
 use Rattle.std.proofs.Math.ListN.{set, length-set}
 use Rattle.std.specs.List.{count_by, filter, filter_map, flat_map, cons_option}
 use Rattle.std.proofs.lemmas.Grind.{flat_map-append}
 use Rattle.std.proofs.lemmas.List.Elements.{filter-append, filter_map-append}
-use Rattle.std.proofs.lemmas.List.Sums.{sum_by_push, count_by-le-length}
+use Rattle.std.proofs.lemmas.List.Sums.{sum_by_push}
 use Rattle.std.proofs.lemmas.List.{take_more, append_assoc, map-append}
 use Rattle.std.proofs.lemmas.Bool.{ne_eqb}
 use Rattle.std.proofs.lemmas.Option.{same_Some}
@@ -45,10 +45,6 @@ module _ (n : ℕ) (table : List (Option ℕ)) (seen counts : List ℕ) (t : ℕ
 
     there : (j k : ℕ) → place_of table j ≡ Some k → k ≢ place → get_or (set counts place (get_or counts place 0 + 1)) k 0 ≡ count_by (λ s. eqb s j) (seen ++ t ∷ [])
     there j k e ne = kept k (get_or counts place 0 + 1) ne ∙ h.each j k e ∙ others j (λ q. ne (same_Some k place (sym e ∙ ap (place_of table) (sym q) ∙ at)))
-
-  -- a count is at most the number of names so far
-  pub count_small : (place : ℕ) → place_of table t ≡ Some place → get_or counts place 0 ≤ length seen
-  count_small place at = let e = h.each t place at in let c = count_by-le-length (λ s. eqb s t) seen in omega (arith, e, c)
 
 pub filter_step : {A B : Type 0} (f : A → Option B) (xs : List A) (i : ℕ) (r : A) → i < length xs → r ≡ get_or xs i r → filter_map f (take (i + 1) xs) ≡ filter_map f (take i xs) ++ cons_option (f r) []
 filter_step {A} {B} f xs i r lt is = ap (filter_map f) (take_more xs i r lt) ∙ filter_map-append f (take i xs) (get_or xs i r ∷ []) ∙ ap (λ (x : A). filter_map f (take i xs) ++ cons_option (f x) []) (sym is)

@@ -1,40 +1,21 @@
 -- Counting the names of rows, one row after another.
-use Rattle.std.proofs.Common.{◌≡◌, ℕ, ◌+◌, ◌*◌, ◌^◌, ◌<◌, ◌≤◌, List, [], ◌∷◌, ◌++◌, length, get_or, take, map, refl, ap, sym, ◌∙◌, subst, arith, Option, Some, None}
+use Rattle.std.proofs.Common.{◌≡◌, ℕ, ◌+◌, ◌<◌, List, [], ◌∷◌, ◌++◌, length, get_or, take, map, refl, ap, sym, subst, Option, Some, None}
 use Rattle.std.proofs.Math.ListN.{set}
 use Rattle.std.specs.List.{filter_map}
 use Rattle.std.specs.Prelude.{is_some, if◌then◌else◌}
-use Rattle.std.proofs.lemmas.List.{get_or_default, length-append, length-map, length-take-le}
-use Rattle.std.proofs.lemmas.List.Concat.{flat_map-cons}
+use Rattle.std.proofs.lemmas.List.{get_or_default}
 use Rattle.nv_super.specs.declared.faults.Fault.{Fault}
 use Rattle.nv_super.specs.declared.faults.Fault.TheVariants as faults
 use Rattle.nv_names.specs.declared.named.Named.{Named}
 use Rattle.nv_check.specs.declared.listing.Listing.{Listing}
 use Rattle.nv_check.specs.Listings.{target, targets}
-use Rattle.nv_check.specs.Steps.{place_of, IsTable, AreCounts, HasRoom, CountsMore, unused_fault}
-use Rattle.nv_check.proofs.Counting.{counts_skip, counts_add, count_small, maps, flats, skips, takes}
-
--- a row has fewer than 2^63 names
-few_names : (l : Listing) → length l.names.items < 2 ^ 63
-few_names l = let len = l.names.ok.0 in let cap = l.names.ok.1 in let small = l.names.small in omega (arith, len, cap, small)
-
-few_targets : (listings : List Listing) → length (targets listings) ≤ 2 ^ 63 * length listings
-few_targets [] = omega arith
-few_targets (l ∷ listings) =
-    let cut : length (targets (l ∷ listings)) ≡ length (map target l.names.items) + length (targets listings) =
-    ap length (flat_map-cons (λ (x : Listing). map target x.names.items) l listings) ∙ length-append (map target l.names.items) (targets listings) in
-    let first = length-map l.names.items target in
-    omega (arith, cut, first, few_names l, few_targets listings)
+use Rattle.nv_check.specs.Steps.{place_of, IsTable, AreCounts, CountsMore, unused_fault}
+use Rattle.nv_check.proofs.Counting.{counts_skip, counts_add, maps, flats, skips, takes}
 
 module _ (listings : List Listing) (table : List (Option ℕ)) (counts : List ℕ) (i : ℕ) (l : Listing) (lt : i < length listings) (is : l ≡ get_or listings i l)
     (h : AreCounts (length listings) table (targets (take i listings)) counts) where
   so_far : AreCounts (length counts) table (targets (take i listings)) counts
   so_far = subst (λ (n : ℕ). AreCounts n table (targets (take i listings)) counts) (sym h.same) h
-
-  -- the names of one row more can be counted
-  pub room_for_row : length listings < 2 ^ 63 → HasRoom table counts (length l.names.items)
-  room_for_row few =
-      let before = few_targets (take i listings) in let len = length-take-le i listings (omega (arith, lt)) in
-      (targets (take i listings), omega (arith, before, len, few_names l), so_far)
 
   pub row_counted : (new : List ℕ) → CountsMore table (map target l.names.items) counts new → AreCounts (length listings) table (targets (take (i + 1) listings)) new
   row_counted new more =
@@ -43,19 +24,9 @@ module _ (listings : List Listing) (table : List (Option ℕ)) (counts : List �
       subst (λ (ts : List ℕ). AreCounts (length listings) table ts new) all
       (subst (λ (n : ℕ). AreCounts n table (targets (take i listings) ++ map target l.names.items) new) h.same (more (targets (take i listings)) so_far))
 
--- there are as many counts as before
-pub as_many : (table : List (Option ℕ)) (named old new : List ℕ) (more : ℕ) → HasRoom table old more → CountsMore table named old new → length new ≡ length old
-as_many table named old new more room h = (h room.0 room.2).same
-
 module _ (table : List (Option ℕ)) (names : List Named) (i : ℕ) (d : Named) (lt : i < length names) (old counts : List ℕ) (h : CountsMore table (map target (take i names)) old counts) where
   one_named : (before : List ℕ) → (before ++ map target (take i names)) ++ target (get_or names i d) ∷ [] ≡ before ++ map target (take (i + 1) names)
   one_named before = maps target names i d before (before ++ map target (take i names)) ((before ++ map target (take i names)) ++ target (get_or names i d) ∷ []) lt refl refl
-
-  pub count_fits : (place : ℕ) → HasRoom table old (length names) → place_of table (target (get_or names i d)) ≡ Some place → get_or counts place 0 + 1 < 2 ^ 128
-  count_fits place room at =
-      let small = count_small _ _ _ _ (target (get_or names i d)) (h room.0 room.2) place at in
-      let len = length-append room.0 (map target (take i names)) in
-      omega (arith, small, len, length-map (take i names) target, length-take-le i names (omega (arith, lt)), room.1, lt)
 
   pub name_counted : (place : ℕ) → IsTable (length old) table → place_of table (target (get_or names i d)) ≡ Some place → CountsMore table (map target (take (i + 1) names)) old (set counts place (get_or counts place 0 + 1))
   name_counted place w at before b =

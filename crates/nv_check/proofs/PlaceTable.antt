@@ -1,8 +1,8 @@
 -- A table of the places of inodes.
-use Rattle.std.proofs.Common.{◌≡◌, ◌≢◌, ℕ, zero, suc, ◌+◌, ◌*◌, ◌^◌, ◌<◌, ◌≤◌, ◌⊎◌, inl, inr, eqb, Option, Some, None, List, length, get_or, replicate, refl, ap, sym, ◌∙◌, subst, arith, get_or-set_same, get_or-set_other, mul-le-mul_right}
+use Rattle.std.proofs.Common.{◌≡◌, ◌≢◌, ℕ, zero, suc, ◌+◌, ◌*◌, ◌^◌, ◌<◌, ◌≤◌, ◌⊎◌, inl, inr, eqb, Option, Some, None, List, ◌∷◌, length, get_or, replicate, refl, ap, sym, ◌∙◌, subst, arith, add-one, get_or-set_same, get_or-set_other, mul-le-mul_right}
 use Rattle.std.proofs.Math.ListN.{set}
 use Rattle.std.proofs.lemmas.Bool.{cases_order, cases_lt, ne_eqb, eqb-true}
-use Rattle.std.proofs.lemmas.List.{get_or_default}
+use Rattle.std.proofs.lemmas.List.{get_or_default, length-map, map-set}
 use Rattle.std.proofs.lemmas.Map.Keys.{IsDistinct-from_apart}
 use Rattle.std.proofs.lemmas.Map.Steps.{length-le_from_distinct_below}
 use Rattle.std.proofs.lemmas.Map.Views.{Contains-from_any}
@@ -10,6 +10,7 @@ use Rattle.std.proofs.lemmas.Option.{same_Some}
 use Rattle.nv_super.specs.declared.superblock.Super.{Super}
 use Rattle.nv_super.specs.Layout.{HasAreas, inode_limit}
 use Rattle.nv_numbered.specs.Values.{AreNumbersBelow}
+use Rattle.nv_check.specs.Words.{place_in, places_in}
 use Rattle.nv_check.specs.Steps.{place_of, ArePlacesTo}
 
 pub none_some : {A P : Type 0} (a : A) → None ≡ Some a → P
@@ -26,7 +27,7 @@ empty_at zero i = refl
 empty_at (suc m) zero = refl
 empty_at (suc m) (suc i) = empty_at m i
 
-pub places_none : (inodes : List ℕ) (m : ℕ) → ArePlacesTo inodes 0 (replicate m None)
+places_none : (inodes : List ℕ) (m : ℕ) → ArePlacesTo inodes 0 (replicate m None)
 places_none inodes m = record {
   at = λ i k e. none_some k (sym (empty_at m i) ∙ e);
   all = λ k lt. absurd (omega (arith, lt));
@@ -46,7 +47,7 @@ module _ (inodes : List ℕ) (n : ℕ) (table : List (Option ℕ)) (once : (j k 
   before : (k : ℕ) → k < n → get_or inodes k 0 ≢ get_or inodes n 0
   before k w = once k n w lt
 
-  pub places_more : ArePlacesTo inodes (n + 1) (set table (get_or inodes n 0) (Some n))
+  places_more : ArePlacesTo inodes (n + 1) (set table (get_or inodes n 0) (Some n))
   places_more = record {
     at = λ i k e. equal_or i (get_or inodes n 0)
         (λ w. (let same : n ≡ k = same_Some n k (sym stored ∙ sym (ap (place_of (set table (get_or inodes n 0) (Some n))) w) ∙ e) in (omega (arith, same), ap (λ (j : ℕ). get_or inodes j 0) (sym same) ∙ sym w)))
@@ -57,6 +58,22 @@ module _ (inodes : List ℕ) (n : ℕ) (table : List (Option ℕ)) (once : (j k 
     ];
   }
 
+all_zero : (m : ℕ) → places_in (replicate m 0) ≡ replicate m None
+all_zero zero = refl
+all_zero (suc m) = ap (λ (t : List (Option ℕ)). None ∷ t) (all_zero m)
+
+-- words of 0 stand for no places
+pub words_none : (inodes : List ℕ) (m : ℕ) → ArePlacesTo inodes 0 (places_in (replicate m 0))
+words_none inodes m = subst (λ (t : List (Option ℕ)). ArePlacesTo inodes 0 t) (sym (all_zero m)) (places_none inodes m)
+
+-- one word more is one place more
+pub words_more : (inodes : List ℕ) (n : ℕ) (words : List ℕ) → ((j k : ℕ) → j < k → k < length inodes → get_or inodes j 0 ≢ get_or inodes k 0) → n < length inodes → get_or inodes n 0 < length words → ArePlacesTo inodes n (places_in words) → ArePlacesTo inodes (n + 1) (places_in (set words (get_or inodes n 0) (n + 1)))
+words_more inodes n words once lt room h =
+    let stands : places_in (set words (get_or inodes n 0) (n + 1)) ≡ set (places_in words) (get_or inodes n 0) (Some n) =
+    map-set place_in words (get_or inodes n 0) (n + 1) ∙ ap (λ k. set (places_in words) (get_or inodes n 0) (place_in k)) (add-one n) in
+    let within : get_or inodes n 0 < length (places_in words) = omega (arith, room, length-map words place_in) in
+    subst (λ (t : List (Option ℕ)). ArePlacesTo inodes (n + 1) t) (sym stands) (places_more inodes n (places_in words) once lt within h)
+
 -- there are no more numbers below a limit, none of them twice, than the limit
 few_numbers : (limit : ℕ) (numbers : List ℕ) → AreNumbersBelow limit numbers → length numbers ≤ limit
 few_numbers limit numbers apart =
@@ -64,8 +81,8 @@ few_numbers limit numbers apart =
     (IsDistinct-from_apart eqb numbers (λ i j d less within. ne_eqb _ _ (λ e. apart.once i j less within (get_or_default numbers i 0 d (omega (arith, less, within)) ∙ e ∙ get_or_default numbers j d 0 within))))
     (λ q is. (let c = Contains-from_any eqb-true q numbers is in subst (λ (n : ℕ). n < limit) (get_or_default numbers c.0 0 q c.1 ∙ c.2) (apart.below c.0 c.1)))
 
--- a place among the numbers of a region's inodes takes four bytes
-pub small_place : (sup : Super) (numbers : List ℕ) (place : ℕ) → HasAreas sup → AreNumbersBelow (inode_limit sup) numbers → place < length numbers → place < 2 ^ 32
+-- one more than a place among the numbers of a region's inodes takes four bytes
+pub small_place : (sup : Super) (numbers : List ℕ) (place : ℕ) → HasAreas sup → AreNumbersBelow (inode_limit sup) numbers → place < length numbers → place + 1 < 2 ^ 32
 small_place sup numbers place areas apart within =
     let few = few_numbers (inode_limit sup) numbers apart in
     let most : 32 * sup.cpus * sup.table_blocks ≤ 2048 * sup.table_blocks = mul-le-mul_right sup.table_blocks (omega (arith, areas.cpus_to)) in

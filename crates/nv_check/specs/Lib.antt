@@ -3,6 +3,7 @@ pub mod Doubled
 pub mod Listings
 pub mod Steps
 pub mod Tables
+pub mod Words
 pub use Rattle.nv_numbered.specs as nv_numbered
 pub use Rattle.nv_scan.specs as nv_scan
 pub use Rattle.nv_scan.specs.nv_logpage

@@ -1,5 +1,5 @@
 -- What the checks make, step by step.
-use Rattle.std.specs.Prelude.{◌≡◌, ℕ, ◌+◌, ◌^◌, ◌<◌, ◌==◌, Bool, true, false, not, if◌then◌else◌, List, [], ◌∷◌, ◌++◌, length, count_by, Option, Some, None, is_some, unwrap_or, slice_get, slice_index, slice_index_or, ◌⊎◌}
+use Rattle.std.specs.Prelude.{◌≡◌, ℕ, ◌+◌, ◌<◌, ◌==◌, Bool, true, false, not, if◌then◌else◌, List, [], ◌∷◌, ◌++◌, length, count_by, Option, Some, None, is_some, unwrap_or, slice_get, slice_index, slice_index_or, ◌⊎◌}
 use Rattle.std.specs.List.{Contains, flat_map, filter_map, cons_option, list_any}
 use Rattle.std.specs.declared.vec.Vec.{Vec}
 use Rattle.std.specs.declared.alloc.Global.{Global}
@@ -52,10 +52,6 @@ count_fault listings l = count_fault_of l.kind l.inode l.links (names_of listing
 pub record AreCounts (n : ℕ) (table : List (Option ℕ)) (named counts : List ℕ) : Type 0 where
   pub same : length counts ≡ n
   pub each : (i k : ℕ) → place_of table i ≡ Some k → slice_index counts k ≡ count_by (λ t. t == i) named
-
--- so many names more can be counted: the counts so far are those of few enough
-abbrev pub HasRoom : List (Option ℕ) → List ℕ → ℕ → Type 0
-HasRoom table counts more = (named : List ℕ) × (length named + more < 2 ^ 128) × AreCounts (length counts) table named counts
 
 -- the new counts are the old ones, with what is named more
 abbrev pub CountsMore : List (Option ℕ) → List ℕ → List ℕ → List ℕ → Type 0

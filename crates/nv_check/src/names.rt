@@ -4,20 +4,20 @@ ghost use Rattle.std.specs.Prelude.{◌≡◌, ◌++◌, OnOk};
 ghost use Rattle.nv_check.specs.Steps.{unused_of};
 
 use crate::listing::Listing;
-use crate::places::find;
+use crate::places::Places;
 use nv_super::Fault;
 use std::alloc::{AllocError, Global};
 
 /// Faults of one row's names whose inode isn't in use.
 pub(crate) fn push_unused_of(
     faults: &mut Vec<Fault>,
-    places: &[Option<u32>],
+    places: &Places,
     listing: &Listing<'_>,
 ) -> Result<(), AllocError>
     ensures { OnOk result (faults.new.items ≡ faults.old.items ++ unused_of places.now listing.now) }
 {
     for name in &listing.names {
-        if find(places, name.inode).is_none() {
+        if places.find(name.inode).is_none() {
             faults.push(Fault::C1 {
                 directory: listing.inode,
                 at: name.place,

@@ -13,7 +13,7 @@ use crate::counts::fault_of;
 use crate::cross::cross_faults_one;
 use crate::listing::Listing;
 use crate::names::push_unused_of;
-use crate::places::find;
+use crate::places::Places;
 use crate::tables::tables_of;
 use crate::walk::push_far;
 use nv_numbered::Chunks;
@@ -57,8 +57,8 @@ pub fn cross_faults<H: Threads + Sync>(
 fn near_by_row<H: Threads + Sync>(
     rt: &H,
     alloc: Global,
-    places: &[Option<u32>],
-    counts: &[u128],
+    places: &Places,
+    counts: &[u64],
     listings: &[Listing<'_>],
 ) -> Result<Vec<Vec<Fault>>, AllocError>
     ensures { IfOk result (λ near. AllZip (AreNear places.now counts.now) listings.now near.items) }
@@ -76,8 +76,8 @@ fn near_by_row<H: Threads + Sync>(
 /// The faults of one row's names, and of how often it is named.
 fn near_of(
     alloc: Global,
-    places: &[Option<u32>],
-    counts: &[u128],
+    places: &Places,
+    counts: &[u64],
     listing: &Listing<'_>,
 ) -> Result<Vec<Fault>, AllocError>
     ensures { IfOk result (AreNear places.now counts.now listing.now) }
@@ -91,16 +91,16 @@ fn near_of(
 }
 
 /// How often an inode is named.
-fn named_by(places: &[Option<u32>], counts: &[u128], inode: u64) -> u128
+fn named_by(places: &Places, counts: &[u64], inode: u64) -> u64
     ensures { result ≡ named_by places.now counts.now inode }
 {
-    match find(places, inode) {
+    match places.find(inode) {
         Some(place) => count_at(counts, place),
         None => 0,
     }
 }
 
-fn count_at(counts: &[u128], place: usize) -> u128
+fn count_at(counts: &[u64], place: usize) -> u64
     ensures { result ≡ named_at counts.now (Some place) }
 {
     counts.get(place).copied().unwrap_or(0)

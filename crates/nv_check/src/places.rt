@@ -9,28 +9,51 @@ ghost use Rattle.nv_check.specs.Steps.{place_of, ArePlaces};
 use crate::listing::Listing;
 use nv_super::Super;
 use std::alloc::{AllocError, Global};
+use std::marker::Model;
 
 /// The place of each inode's row, by the inode's number: four bytes for a place, since a region has fewer inodes.
+#[derive(Drop)]
+pub(crate) struct Places {
+    // Of each number, one more than the place of its row, and 0 where it has none.
+    words: Vec<u32>,
+}
+
+impl Model for Places {
+    ghost use Rattle.std.specs.Prelude.{ℕ, List, Option};
+
+    ghost Value = { List (Option ℕ) };
+
+    ghost use Rattle.nv_check.specs.Words.{places_in};
+
+    ghost view = { λ p. places_in p.words.items };
+}
+
+impl Places {
+    /// The place of an inode's row, if it is in use.
+    pub(crate) fn find(&self, inode: u64) -> Option<usize>
+        ensures { result ≡ place_of self.now inode }
+    {
+        let word = self.words.get(inode as usize).copied().unwrap_or(0);
+        if word == 0 {
+            return None;
+        }
+        Some(word as usize - 1)
+    }
+}
+
+/// The places of these rows.
 pub(crate) fn places_of(
     alloc: Global,
     sup: &Super,
     listings: &[Listing<'_>],
-) -> Result<Vec<Option<u32>>, AllocError>
+) -> Result<Places, AllocError>
     requires layout { IsLayout sup.now }
     requires apart { AreNumbersBelow (inode_limit sup.now) (inodes_of listings.now) }
-    ensures { IfOk result (λ table. ArePlaces listings.now table.items) }
+    ensures { IfOk result (λ places. ArePlaces listings.now places) }
 {
-    let mut places = vec![in alloc; None; sup.inode_limit() as usize]?;
+    let mut words = vec![in alloc; 0; sup.inode_limit() as usize]?;
     for (place, listing) in listings.iter().enumerate() {
-        places[listing.inode as usize] = Some(place as u32);
+        words[listing.inode as usize] = place as u32 + 1;
     }
-    Ok(places)
-}
-
-/// The place of an inode's row, if it is in use.
-pub(crate) fn find(places: &[Option<u32>], inode: u64) -> Option<usize>
-    ensures { result ≡ place_of places.now inode }
-{
-    let place = places.get(inode as usize).copied().flatten()?;
-    Some(place as usize)
+    Ok(Places { words })
 }

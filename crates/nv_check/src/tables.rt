@@ -8,7 +8,7 @@ ghost use Rattle.nv_check.specs.Tables.{AreTables};
 
 use crate::counts::count_names;
 use crate::listing::{Listing, listings_of};
-use crate::places::places_of;
+use crate::places::{Places, places_of};
 use nv_numbered::Chunks;
 use nv_scan::Row;
 use nv_super::{Fault, Super};
@@ -18,8 +18,8 @@ use std::alloc::{AllocError, Global};
 #[derive(Drop)]
 pub(crate) struct Tables<'a> {
     pub(crate) listings: Vec<Listing<'a>>,
-    pub(crate) places: Vec<Option<u32>>,
-    pub(crate) counts: Vec<u128>,
+    pub(crate) places: Places,
+    pub(crate) counts: Vec<u64>,
     // Of names whose inode isn't in use.
     pub(crate) unused: Vec<Fault>,
 }

@@ -5,7 +5,7 @@ ghost use Rattle.nv_check.specs.Listings.{target};
 ghost use Rattle.nv_check.specs.Steps.{Spreads, IsTable, ArePlaces, AreReached, Reaching, Adds, IsUnmarkedBelow, IsFar, root_faults};
 
 use crate::listing::Listing;
-use crate::places::find;
+use crate::places::Places;
 use nv_names::Named;
 use nv_super::{Fault, Kind};
 use std::alloc::{AllocError, Global};
@@ -14,7 +14,7 @@ use std::alloc::{AllocError, Global};
 pub(crate) fn push_far(
     alloc: Global,
     faults: &mut Vec<Fault>,
-    places: &[Option<u32>],
+    places: &Places,
     listings: &[Listing<'_>],
 ) -> Result<(), AllocError>
     requires { ArePlaces listings.now places.now }
@@ -29,7 +29,7 @@ pub(crate) fn push_far(
 pub(crate) fn reach(
     alloc: Global,
     listings: &[Listing<'_>],
-    places: &[Option<u32>],
+    places: &Places,
 ) -> Result<Vec<bool>, AllocError>
     requires { ArePlaces listings.now places.now }
     ensures { IfOk result (λ marks. AreReached listings.now marks.items) }
@@ -47,7 +47,7 @@ pub(crate) fn reach(
 /// Marks the root, where it is a directory.
 fn mark_root(
     listings: &[Listing<'_>],
-    places: &[Option<u32>],
+    places: &Places,
     marks: &mut Vec<bool>,
     todo: &mut Vec<usize>,
 ) -> Result<(), AllocError>
@@ -56,7 +56,7 @@ fn mark_root(
     requires none { todo.old.items ≡ [] }
     ensures { OnOk result (Reaching listings.now places.now marks.new.items todo.new.items) }
 {
-    if let Some(place) = find(places, 1) {
+    if let Some(place) = places.find(1) {
         let root = &listings[place];
         match root.kind {
             Kind::Directory => {
@@ -108,7 +108,7 @@ fn push_no_root(faults: &mut Vec<Fault>, listings: &[Listing<'_>]) -> Result<(),
 
 /// Marks what the names name, and opens it where it wasn't marked.
 fn spread(
-    places: &[Option<u32>],
+    places: &Places,
     names: &[Named<'_>],
     marks: &mut Vec<bool>,
     todo: &mut Vec<usize>,
@@ -124,7 +124,7 @@ fn spread(
 
 /// Marks an inode, and opens it where it wasn't marked.
 fn spread_to(
-    places: &[Option<u32>],
+    places: &Places,
     inode: u64,
     marks: &mut Vec<bool>,
     todo: &mut Vec<usize>,
@@ -132,7 +132,7 @@ fn spread_to(
     requires { IsTable (length marks.old.items) places.now }
     ensures { OnOk result (Spreads places.now (inode ∷ []) marks.old.items todo.old.items marks.new.items todo.new.items) }
 {
-    if let Some(place) = find(places, inode) {
+    if let Some(place) = places.find(inode) {
         if !marks[place] {
             todo.push(place)?;
             marks[place] = true;

@@ -1,18 +1,12 @@
-use Rattle.std.proofs.Common.{◌<◌, ◌^◌, ℕ, List, [], length, subst, sym, arith}
+use Rattle.std.proofs.Common.{ℕ, List, [], length, subst, sym}
 use Rattle.std.proofs.lemmas.List.{take_all}
 use Rattle.nv_check.specs.declared.listing.Listing.{Listing}
 use Rattle.nv_check.specs.Listings.{targets}
 use Rattle.nv_check.specs.Steps.{IsTable, AreCounts, unused_of}
 use Rattle.nv_check.proofs.Counting.{flats}
 use Rattle.nv_check.proofs.Follow.{is_table, numbers_of_names}
-use Rattle.nv_check.proofs.NamesCounted.{room_for_row, row_counted}
+use Rattle.nv_check.proofs.NamesCounted.{row_counted}
 use Rattle.nv_check.proofs.counts.count_names.Goals as goal
-
-pub count_names_of-requires-clause-room : goal.count_names_of-requires-clause-room
-count_names_of-requires-clause-room c =
-    let counts = c.loop-listing.counts in
-    let few : length c.args.listings.now < 2 ^ 63 = omega (arith, c.loop-listing.invariant.counts.same, counts.ok.0, counts.ok.1, counts.small) in
-    room_for_row c.args.listings.now c.args.places.now c.loop-listing.counts.items c.loop-listing.listing-index c.listing-item.result c.loop-listing-test.true c.listing-item.is c.loop-listing.invariant.counts few
 
 pub loop-listing-preserved : goal.loop-listing-preserved
 loop-listing-preserved c =
@@ -21,8 +15,8 @@ loop-listing-preserved c =
       unused = flats (unused_of c.args.places.now) c.args.listings.now c.loop-listing.listing-index c.listing-item.result [] _ _ c.loop-listing-test.true c.listing-item.is c.in_ok-count_names_of.ensures.unused c.loop-listing.invariant.unused;
     }
 
-pub count_names_of-requires-clause-table : goal.count_names_of-requires-clause-table
-count_names_of-requires-clause-table c =
+pub count_names_of-requires : goal.count_names_of-requires
+count_names_of-requires c =
     subst (λ (n : ℕ). IsTable n c.args.places.now) (sym c.loop-listing.invariant.counts.same) (is_table c.args.listings.now c.args.places.now c.requires)
 
 pub returns-clause-counts : goal.returns-clause-counts

@@ -1,26 +1,27 @@
-use Rattle.std.proofs.Common.{rules, ◌≡◌, ◌∙◌, ◌<◌, ◌+◌, ℕ, List, Option, sym, ap, arith, length, get_or, None, Some, subst}
+use Rattle.std.proofs.Common.{rules, ◌≡◌, ◌∙◌, ◌<◌, ◌+◌, ℕ, List, sym, ap, arith, length, get_or, subst}
 use Rattle.std.proofs.Math.ListN.{set, length-set}
 use Rattle.std.proofs.lemmas.List.{length-replicate}
 use Rattle.std.proofs.lemmas.Result.{IfOk-from_err}
 use Rattle.nv_super.specs.Layout.{inode_limit}
 use Rattle.nv_check.specs.Listings.{inodes_of}
+use Rattle.nv_check.specs.Words.{places_in}
 use Rattle.nv_check.specs.Steps.{ArePlacesTo}
-use Rattle.nv_check.proofs.PlaceTable.{places_more, places_none, small_place}
+use Rattle.nv_check.proofs.PlaceTable.{words_more, words_none, small_place}
 use Rattle.nv_check.proofs.Follow.{inodes_len, inode_at, below_limit}
 use Rattle.nv_check.proofs.places.places_of.Goals as goal
 
 pub inode_limit-requires : goal.inode_limit-requires
 inode_limit-requires c = c.requires.layout.areas
 
-pub returns-in_err-places : goal.returns-in_err-places
-returns-in_err-places c = IfOk-from_err c.from_residual.result _ c.from_residual.ensures.0
+pub returns-in_err-words : goal.returns-in_err-words
+returns-in_err-words c = IfOk-from_err c.from_residual.result _ c.from_residual.ensures.0
 
 pub loop-place-init : goal.loop-place-init
 loop-place-init c =
-    let e = c.in_ok-places.ensures.items_if_clones_equal (λ y h. search rules) in
-    let P : List (Option ℕ) → Type 0 = λ table. ArePlacesTo (inodes_of c.args.listings.now) 0 table in (
-      ap length e ∙ length-replicate c.inode_limit.result None ∙ c.inode_limit.ensures,
-      subst P (sym e) (places_none (inodes_of c.args.listings.now) c.inode_limit.result),
+    let e = c.in_ok-words.ensures.items_if_clones_equal (λ y h. search rules) in
+    let P : List ℕ → Type 0 = λ words. ArePlacesTo (inodes_of c.args.listings.now) 0 (places_in words) in (
+      ap length e ∙ length-replicate c.inode_limit.result 0 ∙ c.inode_limit.ensures,
+      subst P (sym e) (words_none (inodes_of c.args.listings.now) c.inode_limit.result),
     )
 
 pub bounds-listings-place : goal.bounds-listings-place
@@ -36,20 +37,25 @@ pub overflow_cast-place : goal.overflow_cast-place
 overflow_cast-place c =
     let small = small_place c.args.sup.now (inodes_of c.args.listings.now) c.loop-place.place c.requires.layout.areas c.requires.apart (omega (arith, c.loop-place-test.true, inodes_len c.args.listings.now)) in omega (arith, small)
 
+pub overflow_add-place : goal.overflow_add-place
+overflow_add-place c =
+    let small = small_place c.args.sup.now (inodes_of c.args.listings.now) c.loop-place.place c.requires.layout.areas c.requires.apart (omega (arith, c.loop-place-test.true, inodes_len c.args.listings.now)) in omega (arith, small)
+
 pub loop-place-preserved : goal.loop-place-preserved
 loop-place-preserved c =
     let inodes = inodes_of c.args.listings.now in let l = c.index-listings-place.result in let n = c.loop-place.place in
+    let words = c.loop-place.words.items in
     let lt = c.loop-place-test.true in
     let len = inodes_len c.args.listings.now in
     let here : get_or inodes n 0 ≡ l.inode = inode_at c.args.listings.now n l (lt, sym c.index-listings-place.is) in
     let small : l.inode < inode_limit c.args.sup.now = below_limit _ c.args.listings.now n l c.requires.apart (lt, sym c.index-listings-place.is) in
-    let within : get_or inodes n 0 < length c.loop-place.places.items = omega (arith, here, small, c.loop-place.invariant.0) in
-    let P : ℕ → Type 0 = λ i. ArePlacesTo inodes (n + 1) (set c.loop-place.places.items i (Some n)) in (
-      length-set c.loop-place.places.items l.inode (Some n) ∙ c.loop-place.invariant.0,
-      subst P here (places_more inodes n c.loop-place.places.items c.requires.apart.once (omega (arith, lt, len)) within c.loop-place.invariant.1),
+    let within : get_or inodes n 0 < length words = omega (arith, here, small, c.loop-place.invariant.0) in
+    let P : ℕ → Type 0 = λ i. ArePlacesTo inodes (n + 1) (places_in (set words i (n + 1))) in (
+      length-set words l.inode (n + 1) ∙ c.loop-place.invariant.0,
+      subst P here (words_more inodes n words c.requires.apart.once (omega (arith, lt, len)) within c.loop-place.invariant.1),
     )
 
 pub returns : goal.returns
 returns c =
     let e : c.loop-place.place ≡ length c.args.listings.now = omega arith in
-    let P : ℕ → Type 0 = λ n. ArePlacesTo (inodes_of c.args.listings.now) n c.loop-place.places.items in subst P e c.loop-place.invariant.1
+    let P : ℕ → Type 0 = λ n. ArePlacesTo (inodes_of c.args.listings.now) n (places_in c.loop-place.words.items) in subst P e c.loop-place.invariant.1

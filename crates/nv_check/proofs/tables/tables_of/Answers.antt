@@ -14,14 +14,14 @@ places_of-requires-clause-apart c =
 
 pub count_names-requires : goal.count_names-requires
 count_names-requires c =
-    let listings = c.in_ok-listings.listings.items in let table = c.in_ok-places.places.items in
+    let listings = c.in_ok-listings.listings.items in let table = c.in_ok-places.places in
     let places : ArePlaces listings table = rw c.deref.ensures.value at c.in_ok-places.ensures in
-    rw (c.deref-3.ensures.value, c.deref-2.ensures.value) places
+    rw c.deref-2.ensures.value places
 
 pub returns : goal.returns
 returns c =
-    let listings = c.in_ok-listings.listings.items in let table = c.in_ok-places.places.items in
+    let listings = c.in_ok-listings.listings.items in let table = c.in_ok-places.places in
     let places : ArePlaces listings table = rw c.deref.ensures.value at c.in_ok-places.ensures in
-    let counts = rw c.deref-3.ensures.value at c.in_ok-counts.ensures.counts in
-    let unused = rw (c.deref-2.ensures.value, c.deref-3.ensures.value) at c.in_ok-counts.ensures.unused in
+    let counts = rw c.deref-2.ensures.value at c.in_ok-counts.ensures.counts in
+    let unused = rw c.deref-2.ensures.value at c.in_ok-counts.ensures.unused in
     record { listings = c.in_ok-listings.ensures; places = places; counts = counts; unused = unused }
