@@ -1,7 +1,7 @@
 -- A reader that goes on behind what it found.
-use Rattle.std.proofs.Common.{Fits, w64, false, eqb, Option, ◌≡◌, ℕ, ◌+◌, ◌-◌, ◌*◌, ◌/◌, ◌%◌, ◌^◌, ◌<◌, ◌≤◌, List, [], ◌∷◌, ◌++◌, length, length-append, IsTrue, ap, sym, ◌∙◌, subst, arith}
+use Rattle.std.proofs.Common.{Fits, w64, false, eqb, Option, ◌≡◌, ℕ, ◌+◌, ◌-◌, ◌*◌, ◌/◌, ◌%◌, ◌<◌, ◌≤◌, List, [], ◌∷◌, ◌++◌, length, length-append, IsTrue, ap, sym, ◌∙◌, subst, arith}
 use Rattle.std.specs.List.{list_any}
-use Rattle.nv_region.specs.Region.{Region, HasBlocks, size}
+use Rattle.nv_region.specs.Region.{Region}
 use Rattle.nv_blockset.specs.Listed.{Listed}
 use Rattle.nv_super.specs.Layout.{is_page_start}
 use Rattle.nv_entry.specs.Spelling.{entry_length}
@@ -50,12 +50,6 @@ start_aligned a start = omega arith
 
 start_offset : (a : ℕ) → a % 4096 ≡ 0 → a % 4096 ≤ 4064
 start_offset a start = omega arith
-
-block_in_region : (a blocks words rest : ℕ) → a % 4096 ≡ 0 → a / 4096 < blocks → words ≡ 512 * blocks → a + 4096 ≤ 8 * words + rest
-block_in_region a blocks words rest start inside many = omega arith
-
-block_fits : (a blocks : ℕ) → a / 4096 < blocks → blocks ≤ 262144 → a + 4096 ≤ 2 ^ 64
-block_fits a blocks inside few = omega arith
 
 module _ (R : Region) (s : Inside) (now : Progress) (found : LightFinding) (is : IsReading s) (view : shown s ≡ now) where
   pub finds_so : Finds R s.sup s.tail s.read.blocks s.place (finding_in R found) → Finds R now.sup now.tail now.pages now.place (finding_in R found)
@@ -117,21 +111,11 @@ module _ (R : Region) (s : Inside) (now : Progress) (found : LightFinding) (is :
     pub page_fresh : list_any (eqb (a / 4096)) s.read.blocks ≡ false
     page_fresh = turned.1
 
-    -- its words stand in the region, at addresses that a u64 holds
-    pub page_in_region : HasBlocks R s.sup.blocks → a + 4096 ≤ size R
-    page_in_region region = block_in_region a s.sup.blocks (length R.words) (length R.rest) (start_whole s.sup a turned.0) (start_inside s.sup a turned.0) region.0
-
-    pub page_words : a % 8 ≡ 0
-    page_words = start_aligned a (start_whole s.sup a turned.0)
-
-    pub page_fits : a + 4096 ≤ 2 ^ 64
-    page_fits = block_fits a s.sup.blocks (start_inside s.sup a turned.0) is.areas.blocks_to
-
-    module _ (read : Listed) (pushed : read ≡ record { bound = s.read.bound; blocks = s.read.blocks ++ a / 4096 ∷ [] }) (few : length read.blocks ≤ read.bound) (word : ℕ) where
+    module _ (read : Listed) (pushed : read ≡ record { bound = s.read.bound; blocks = s.read.blocks ++ a / 4096 ∷ [] }) (few : length read.blocks ≤ read.bound) where
       same_bound : read.bound ≡ s.sup.blocks
       same_bound = ap (λ (l : Listed). l.bound) pushed ∙ is.blocks
 
-      pub page_reading : IsReading (record s { place = a; read = read; touched = word })
+      pub page_reading : IsReading (record s { place = a; read = read })
       page_reading = record {
         areas = is.areas;
         blocks = same_bound;
@@ -143,13 +127,13 @@ module _ (R : Region) (s : Inside) (now : Progress) (found : LightFinding) (is :
         };
       }
 
-      pub page_moves : shown (record s { place = a; read = read; touched = word }) ≡ after now (finding_in R found)
+      pub page_moves : shown (record s { place = a; read = read }) ≡ after now (finding_in R found)
       page_moves = ap (λ (l : Listed). record (shown s) { place = a; pages = l.blocks }) pushed ∙ ap (λ (r : Progress). after r (finding_in R (Page a))) view ∙ sym (ap (λ (f : LightFinding). after now (finding_in R f)) page)
 
-      pub page_less : Falls now (shown (record s { place = a; read = read; touched = word })) (finding_in R found)
+      pub page_less : Falls now (shown (record s { place = a; read = read })) (finding_in R found)
       page_less =
-          subst (λ (f : LightFinding). Falls now (shown (record s { place = a; read = read; touched = word })) (finding_in R f)) (sym page)
-          (subst (λ (r : Progress). remaining (shown (record s { place = a; read = read; touched = word })) < remaining r) view
+          subst (λ (f : LightFinding). Falls now (shown (record s { place = a; read = read })) (finding_in R f)) (sym page)
+          (subst (λ (r : Progress). remaining (shown (record s { place = a; read = read })) < remaining r) view
           (less_by_page s.place a s.sup.blocks (length s.read.blocks) (length read.blocks) (start_whole s.sup a turned.0) is.place.offset
           (ap (λ (l : Listed). length l.blocks) pushed ∙ length-append s.read.blocks (a / 4096 ∷ [])) (subst (λ (n : ℕ). length read.blocks ≤ n) same_bound few)))
 

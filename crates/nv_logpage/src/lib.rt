@@ -13,7 +13,6 @@ mod laws;
 mod light;
 mod looking;
 mod reader;
-mod touching;
 mod walking;
 
 pub use appending::{append, pages_needed};
@@ -25,5 +24,4 @@ pub use laws::{
 };
 pub use light::{LightFinding, LightPlaced};
 pub use reader::LogReader;
-pub use touching::touch_page;
 pub use walking::walk;

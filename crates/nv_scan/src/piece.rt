@@ -13,8 +13,7 @@ pub type LogPages = SmallVec<u64, 2>;
 /// The row of an inode in use.
 #[derive(Drop)]
 pub struct Row {
-    // What the checks between inodes read of each row stands first, side by side. The kind, which doesn't fill its word, stands
-    // before single words: a row that is made is copied in odd pieces where it stands before the numbers.
+    // What the checks between inodes read of a row stands first, side by side.
     pub inode: u64,
     pub numbers: Numbers,
     /// The names of a directory.

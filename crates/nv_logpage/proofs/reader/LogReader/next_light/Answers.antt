@@ -4,7 +4,7 @@ use Rattle.nv_region.specs.Region.{HasBlocks}
 use Rattle.nv_region.proofs.Told.{told_err}
 use Rattle.nv_blockset.specs.Listed.{Listed}
 use Rattle.nv_logpage.specs.Progress.{Progress}
-use Rattle.nv_logpage.proofs.ReadOn.{behind_fits, behind_less, behind_moves, behind_reading, end_less, end_moves, finds_so, goes_so, leads_so, page_below, page_fits, page_fresh, page_in_region, page_less, page_moves, page_reading, page_words, refused_reading, same_log}
+use Rattle.nv_logpage.proofs.ReadOn.{behind_fits, behind_less, behind_moves, behind_reading, end_less, end_moves, finds_so, goes_so, leads_so, page_below, page_fresh, page_less, page_moves, page_reading, refused_reading, same_log}
 use Rattle.nv_logpage.proofs.reader.LogReader.next_light.Goals as goal
 
 pub look-found-requires-clause-areas : goal.look-found-requires-clause-areas
@@ -37,15 +37,6 @@ push-requires-clause-below g c = page_below (g.P.Pmem.region c.args.memory.now) 
 pub push-requires-clause-fresh : goal.push-requires-clause-fresh
 push-requires-clause-fresh g c = page_fresh (g.P.Pmem.region c.args.memory.now) c.self.inside c.args.self.now c.look-found.result c.self.invariant c.self.view_is c.in-Page.address c.in-Page.is c.look-found.ensures.onward
 
-pub touch_page-self-inside-requires-clause-aligned : goal.touch_page-self-inside-requires-clause-aligned
-touch_page-self-inside-requires-clause-aligned g c = page_words (g.P.Pmem.region c.args.memory.now) c.self.inside c.args.self.now c.look-found.result c.self.invariant c.self.view_is c.in-Page.address c.in-Page.is c.look-found.ensures.onward
-
-pub touch_page-self-inside-requires-clause-inside : goal.touch_page-self-inside-requires-clause-inside
-touch_page-self-inside-requires-clause-inside g c = page_in_region (g.P.Pmem.region c.args.memory.now) c.self.inside c.args.self.now c.look-found.result c.self.invariant c.self.view_is c.in-Page.address c.in-Page.is c.look-found.ensures.onward (subst (λ (r : Progress). HasBlocks (g.P.Pmem.region c.args.memory.now) r.sup.blocks) (sym c.self.view_is) c.requires)
-
-pub touch_page-self-inside-requires-clause-fits : goal.touch_page-self-inside-requires-clause-fits
-touch_page-self-inside-requires-clause-fits g c = page_fits (g.P.Pmem.region c.args.memory.now) c.self.inside c.args.self.now c.look-found.result c.self.invariant c.self.view_is c.in-Page.address c.in-Page.is c.look-found.ensures.onward
-
 pub returns-in_err-push-in-Page-clause-finds : goal.returns-in_err-push-in-Page-clause-finds
 returns-in_err-push-in-Page-clause-finds g c = IfOk-from_err c.from_residual.result _ c.from_residual.ensures.0
 
@@ -74,7 +65,7 @@ pub returns-in_err-push-in-Page-clause-refused : goal.returns-in_err-push-in-Pag
 returns-in_err-push-in-Page-clause-refused g c = told_err c.from_residual.result (ap (λ (l : Listed). record { sup = c.self.inside.sup; tail = c.self.inside.tail; place = c.self.inside.place; pages = l.blocks }) c.in_err-push-in-Page.ensures.refused ∙ c.self.view_is)
 
 pub invariant_of-self-in-Page : goal.invariant_of-self-in-Page
-invariant_of-self-in-Page g c = page_reading (g.P.Pmem.region c.args.memory.now) c.self.inside c.args.self.now c.look-found.result c.self.invariant c.self.view_is c.in-Page.address c.in-Page.is c.look-found.ensures.onward c.push.new.self c.in_ok-push-in-Page.ensures.pushed c.in_ok-push-in-Page.ensures.few c.touch_page-self-inside.result
+invariant_of-self-in-Page g c = page_reading (g.P.Pmem.region c.args.memory.now) c.self.inside c.args.self.now c.look-found.result c.self.invariant c.self.view_is c.in-Page.address c.in-Page.is c.look-found.ensures.onward c.push.new.self c.in_ok-push-in-Page.ensures.pushed c.in_ok-push-in-Page.ensures.few
 
 pub returns-in-Entry-clause-finds : goal.returns-in-Entry-clause-finds
 returns-in-Entry-clause-finds g c = finds_so (g.P.Pmem.region c.args.memory.now) c.self.inside c.args.self.now c.look-found.result c.self.invariant c.self.view_is c.look-found.ensures.finds
@@ -104,7 +95,7 @@ pub returns-in_ok-push-in-Page-clause-finds : goal.returns-in_ok-push-in-Page-cl
 returns-in_ok-push-in-Page-clause-finds g c = finds_so (g.P.Pmem.region c.args.memory.now) c.self.inside c.args.self.now c.look-found.result c.self.invariant c.self.view_is c.look-found.ensures.finds
 
 pub returns-in_ok-push-in-Page-clause-moves : goal.returns-in_ok-push-in-Page-clause-moves
-returns-in_ok-push-in-Page-clause-moves g c = page_moves (g.P.Pmem.region c.args.memory.now) c.self.inside c.args.self.now c.look-found.result c.self.invariant c.self.view_is c.in-Page.address c.in-Page.is c.look-found.ensures.onward c.push.new.self c.in_ok-push-in-Page.ensures.pushed c.in_ok-push-in-Page.ensures.few c.touch_page-self-inside.result
+returns-in_ok-push-in-Page-clause-moves g c = page_moves (g.P.Pmem.region c.args.memory.now) c.self.inside c.args.self.now c.look-found.result c.self.invariant c.self.view_is c.in-Page.address c.in-Page.is c.look-found.ensures.onward c.push.new.self c.in_ok-push-in-Page.ensures.pushed c.in_ok-push-in-Page.ensures.few
 
 pub returns-in_ok-push-in-Page-clause-refused : goal.returns-in_ok-push-in-Page-clause-refused
 returns-in_ok-push-in-Page-clause-refused g c = tt
@@ -116,10 +107,10 @@ pub returns-in_ok-push-in-Page-clause-onward : goal.returns-in_ok-push-in-Page-c
 returns-in_ok-push-in-Page-clause-onward g c = goes_so (g.P.Pmem.region c.args.memory.now) c.self.inside c.args.self.now c.look-found.result c.self.invariant c.self.view_is c.look-found.ensures.onward
 
 pub returns-in_ok-push-in-Page-clause-leads : goal.returns-in_ok-push-in-Page-clause-leads
-returns-in_ok-push-in-Page-clause-leads g c = leads_so (g.P.Pmem.region c.args.memory.now) c.self.inside c.args.self.now c.look-found.result c.self.invariant c.self.view_is _ (page_moves (g.P.Pmem.region c.args.memory.now) c.self.inside c.args.self.now c.look-found.result c.self.invariant c.self.view_is c.in-Page.address c.in-Page.is c.look-found.ensures.onward c.push.new.self c.in_ok-push-in-Page.ensures.pushed c.in_ok-push-in-Page.ensures.few c.touch_page-self-inside.result) c.look-found.ensures.finds
+returns-in_ok-push-in-Page-clause-leads g c = leads_so (g.P.Pmem.region c.args.memory.now) c.self.inside c.args.self.now c.look-found.result c.self.invariant c.self.view_is _ (page_moves (g.P.Pmem.region c.args.memory.now) c.self.inside c.args.self.now c.look-found.result c.self.invariant c.self.view_is c.in-Page.address c.in-Page.is c.look-found.ensures.onward c.push.new.self c.in_ok-push-in-Page.ensures.pushed c.in_ok-push-in-Page.ensures.few) c.look-found.ensures.finds
 
 pub returns-in_ok-push-in-Page-clause-less : goal.returns-in_ok-push-in-Page-clause-less
-returns-in_ok-push-in-Page-clause-less g c = page_less (g.P.Pmem.region c.args.memory.now) c.self.inside c.args.self.now c.look-found.result c.self.invariant c.self.view_is c.in-Page.address c.in-Page.is c.look-found.ensures.onward c.push.new.self c.in_ok-push-in-Page.ensures.pushed c.in_ok-push-in-Page.ensures.few c.touch_page-self-inside.result
+returns-in_ok-push-in-Page-clause-less g c = page_less (g.P.Pmem.region c.args.memory.now) c.self.inside c.args.self.now c.look-found.result c.self.invariant c.self.view_is c.in-Page.address c.in-Page.is c.look-found.ensures.onward c.push.new.self c.in_ok-push-in-Page.ensures.pushed c.in_ok-push-in-Page.ensures.few
 
 pub returns-in_ok-push-in-Page-clause-name : goal.returns-in_ok-push-in-Page-clause-name
 returns-in_ok-push-in-Page-clause-name g c = c.look-found.ensures.name
