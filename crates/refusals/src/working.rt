@@ -46,7 +46,7 @@ fn given_by(one: &WorkerResult) -> Given {
 /// What two workers gave back together.
 fn given_by_both(one: &WorkerResult, other: &WorkerResult) -> Given {
     Given {
-        rows: one.rows.len() + other.rows.len(),
+        rows: one.rows.len().saturating_add(other.rows.len()),
         faults: one.faults.len() + other.faults.len(),
     }
 }
