@@ -24,7 +24,8 @@ use std::alloc::{AllocError, Global};
 /// is named. And they are files whose link count isn't their number of names, inodes that aren't reached from the root,
 /// and a root that is no directory in use.
 ///
-/// Errors: `AllocError` where a growth was refused.
+/// Errors: `AllocError` where a growth was refused, or where 64 bits can't count the names of one inode. No memory holds
+/// so many names.
 pub fn cross_faults_one(
     alloc: Global,
     sup: &Super,

@@ -29,7 +29,8 @@ const MANY_ROWS: usize = 400_000;
 /// The faults between the rows of all inodes in use, as `cross_faults_one` gives them: from 400,000 rows on, which are
 /// more than a region can have now, each row's names are looked up, and its names counted out, in threads.
 ///
-/// Errors: `AllocError` where a growth was refused.
+/// Errors: `AllocError` where a growth was refused, or where 64 bits can't count the names of one inode. No memory holds
+/// so many names.
 pub fn cross_faults<H: Threads + Sync>(
     rt: &H,
     alloc: Global,

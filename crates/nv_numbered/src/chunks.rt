@@ -118,7 +118,8 @@ impl<T> Chunks<T> {
 
     /// Makes room for `more` calls of `push_reserved`. The values stay, whatever it answers.
     ///
-    /// Errors: `AllocError` where a growth was refused. It doesn't come where there is room already.
+    /// Errors: `AllocError` where a growth was refused, or where a `usize` can't count the places then. It doesn't come where
+    /// there is room already.
     pub fn reserve(&mut self, more: usize) -> Result<(), AllocError>
         ensures items { self.new.items ≡ self.old.items }
         ensures ready { OnOk result (more ≤ self.new.room) }
@@ -158,9 +159,10 @@ impl<T> Chunks<T> {
         self.len += 1;
     }
 
-    /// As `push_reserved`, where no room need have been made. Where a growth was refused the value is dropped.
+    /// As `push_reserved`, where no room need have been made. Where it fails the value is dropped.
     ///
-    /// Errors: `AllocError` where a growth was refused. It doesn't come where there is room already.
+    /// Errors: `AllocError` where a growth was refused, or where a `usize` can't count the places then. It doesn't come where
+    /// there is room already.
     #[inline(always)]
     pub fn push(&mut self, value: T) -> Result<(), AllocError>
     where
@@ -209,9 +211,9 @@ impl<T> Chunks<T> {
     }
 
     /// Puts the values of another list to these, chunk by chunk, so in no order that a caller can rest on. At most 255 of
-    /// them are moved. Where a growth was refused they are dropped.
+    /// them are moved. Where it fails they are dropped.
     ///
-    /// Errors: `AllocError` where a growth was refused.
+    /// Errors: `AllocError` where a growth was refused, or where a `usize` can't count the places then.
     pub fn append(&mut self, other: Chunks<T>) -> Result<(), AllocError>
     where
         T: Drop,
