@@ -1,8 +1,7 @@
 //! The program `nova`: it makes, checks and shows images of the NOVA file system, and runs scripts on them.
 //!
-//! `run` runs a script, on the region of an image or on none, and saves the region that it leaves. `check` recovers an image in
-//! memory and prints its report. `show` shows what is in an image, and `mapping` what its blocks are used for. `saving` writes
-//! files, `image` reads them.
+//! `run` runs a script, on the region of an image or on none, and saves the region that it leaves. `show` shows what is in an
+//! image, and `saving` writes one. Checks and maps of images are those of `nova_check`.
 //!
 //! Behind a bad line, and a region that is refused for its length, a line on standard error says more.
 //!
@@ -10,79 +9,57 @@
 //! can't be read or written, and output or memory that is refused end it with status 2 and a text on standard error.
 #![tactic(auto)]
 
-mod check;
-mod drawing;
-mod explain;
 mod hints;
-mod image;
-mod mapping;
 mod run;
 mod saving;
 mod show;
-mod words;
 
-ghost use Rattle.std.specs.Prelude.{◌≡◌, MatchResult};
-ghost use Rattle.std.specs.Process.{exit_status};
-
-use check::check;
-use explain::{explain, tell_classes};
-use mapping::map;
-use nv_args::{Todo, read_words};
-use nv_cli::{Failure, Reason, ScriptError, exit_of};
+use nv_args::{CheckOutput, Todo, read_words};
+use nv_checking::{Output, check_file, map_file};
+use nv_images::{Failure, Target, ended, explain, refuse_words, words_of};
 use run::{run, script_at};
-use saving::{Numbers, Target, mkfs};
+use saving::{Numbers, mkfs};
 use show::{Shown, show};
+use std::alloc::AllocError;
+use std::env::Env;
 use std::io::Read;
 use std::process;
 use std::process::ExitCode;
 use std::rt::Files;
 use std::thread::Threads;
-use words::words_of;
 
 fn main(rt: HostRuntime) -> ExitCode {
-    let alloc = rt.alloc();
-    let Ok(words) = words_of(&rt, alloc) else {
-        return ended(&rt, Err(Failure::Answer(ScriptError::Memory)));
-    };
-    let Ok(texts) = words
-        .texts
-        .iter()
-        .map(|text| text.as_str())
-        .collect::<Vec<&str>>(alloc)
-    else {
-        return ended(&rt, Err(Failure::Answer(ScriptError::Memory)));
-    };
-    match read_words(alloc, texts.as_slice()) {
-        Ok(todo) if words.are_utf8 => ended(
-            &rt,
-            answer(&rt, rt.stdin(), process::id(rt.process()), todo),
-        ),
-        // Of the words of a check only the path can be one that isn't UTF-8.
-        Ok(Todo::Check { path, .. }) => {
-            ended(&rt, Err(Failure::CannotRead(path, Reason::PathNotUtf8)))
-        }
-        Ok(_) => ended(&rt, Err(Failure::WordNotUtf8)),
-        Err(usage) => {
-            // Its text ends its last line.
-            let _ = eprint!(rt; "{usage}");
-            ExitCode::from(2)
-        }
+    match act(&rt, rt.stdin(), process::id(rt.process())) {
+        Ok(code) => code,
+        Err(error) => ended(&rt, Err(Failure::from(error))),
     }
 }
 
-// Does what is asked for, and answers the exit status. The input is that of a script with no file, and the number that of this
-// process.
+// Does what the words ask for, and ends the program. The input is that of a script with no file, and the number that of this
+// process. Fails where memory is refused for the words.
+fn act<H: Files + AllocGlobal + Print + Eprint + Env + Threads + Sync, R: Read + Drop>(
+    rt: &H,
+    input: R,
+    process: u32,
+) -> Result<ExitCode, AllocError> {
+    let alloc = rt.alloc();
+    let words = words_of(rt, alloc)?;
+    let texts = words.texts(alloc)?;
+    Ok(match read_words(alloc, &texts) {
+        Ok(todo) if words.are_utf8 => ended(rt, answer(rt, input, process, todo)),
+        Ok(todo) => ended(rt, Err(Failure::not_utf8(todo.checked_path()))),
+        Err(usage) => refuse_words(rt, &usage),
+    })
+}
+
+// Does what is asked for, and answers the exit status.
 fn answer<'a, H: Files + AllocGlobal + Print + Eprint + Threads + Sync, R: Read + Drop>(
     rt: &H,
     input: R,
     process: u32,
     todo: Todo<'a>,
 ) -> Result<u8, Failure<'a>> {
-    let over = |path| Target {
-        path,
-        force: true,
-        process,
-    };
+    let over = |path| Target::over(path, process);
     match todo {
         Todo::Run {
             script,
@@ -99,7 +76,7 @@ fn answer<'a, H: Files + AllocGlobal + Print + Eprint + Threads + Sync, R: Read 
             path,
             workers,
             output,
-        } => check(rt, path, workers, output),
+        } => check_file(rt, path, workers, output_of(output)),
         Todo::Mkfs {
             image,
             blocks,
@@ -122,31 +99,15 @@ fn answer<'a, H: Files + AllocGlobal + Print + Eprint + Threads + Sync, R: Read 
         Todo::Ls { image, path } => show(rt, image, Shown::Names(path)),
         Todo::Stat { image, path } => show(rt, image, Shown::Attributes(path)),
         Todo::Cat { image, path } => show(rt, image, Shown::Bytes(path)),
-        Todo::Map { image, svg } => map(rt, image, svg.map(over)),
+        Todo::Map { image, svg } => map_file(rt, image, svg.map(over)),
         Todo::Explain { class } => explain(rt, class),
     }
 }
 
-// Ends the program with the status that it has come to, or with 2, and then says why on standard error.
-fn ended(rt: &HostRuntime, answer: Result<u8, Failure<'_>>) -> ExitCode
-    ensures { MatchResult answer.entry (λ status. exit_status result ≡ status) (λ _. exit_status result ≡ 2) }
-{
-    let code = exit_of(&answer);
-    if let Err(failure) = answer {
-        tell(rt, failure);
-    }
-    code
-}
-
-// Says on standard error what ended the program. Why a file can't be read, and which classes there are, stands on a line of
-// its own.
-fn tell(rt: &HostRuntime, failure: Failure<'_>) {
-    let _ = eprintln!(rt; "{failure}");
-    match failure {
-        Failure::CannotRead(_, reason) => {
-            let _ = eprintln!(rt; "{reason}");
-        }
-        Failure::NoClass(_) => tell_classes(rt),
-        _ => {}
+fn output_of(output: CheckOutput) -> Output {
+    match output {
+        CheckOutput::Report => Output::Report,
+        CheckOutput::Summary => Output::Summary,
+        CheckOutput::OnlyFaults => Output::OnlyFaults,
     }
 }

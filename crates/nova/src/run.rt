@@ -1,12 +1,11 @@
 //! Running a script, on the region of an image or on none, and saving the region that it leaves.
 
 use crate::hints::ErrorOutput;
-use crate::image::{Image, image_at};
-use crate::saving::{Target, save_region};
+use crate::saving::save_region;
 use nv_cli::{
-    Ended, Failure, MemRegion, Reason, RegionRefusal, ScriptError, region_of_file, run_script_on,
-    run_script_to_end,
+    Ended, MemRegion, RegionRefusal, ScriptError, region_of_file, run_script_on, run_script_to_end,
 };
+use nv_images::{Failure, Image, Reason, Target, image_at};
 use std::io::Read;
 use std::rt::Files;
 use std::thread::Threads;

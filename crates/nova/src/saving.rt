@@ -1,7 +1,8 @@
-//! Writing files: images, and what is drawn of them.
+//! Writing images to files.
 
-use nv_cli::{Failure, Formatted, MemRegion, format_image};
-use nv_stream::{save_new, save_over, write_text};
+use nv_cli::{Formatted, MemRegion, format_image};
+use nv_images::{Failure, Target, save_file};
+use nv_stream::write_text;
 use std::io;
 use std::rt::Files;
 
@@ -11,16 +12,6 @@ pub(crate) struct Numbers {
     pub blocks: u64,
     pub cpus: u64,
     pub tables: u64,
-}
-
-/// A file that is to be written.
-#[derive(Clone, Copy, Debug)]
-pub(crate) struct Target<'a> {
-    pub path: &'a str,
-    /// Whether it may take the place of a file that is there.
-    pub force: bool,
-    /// This process's number, which tells its new files from those of others.
-    pub process: u32,
 }
 
 /// Writes the image of a formatted region to a file, or prints `refused NAME`. Answers the exit status, 0 or 2.
@@ -51,18 +42,4 @@ pub(crate) fn save_region<'a, H: Files + AllocGlobal>(
 ) -> Result<(), Failure<'a>> {
     let bytes = region.to_bytes()?;
     save_file(rt, target, &bytes)
-}
-
-/// Writes a file of these bytes.
-pub(crate) fn save_file<'a, H: Files + AllocGlobal>(
-    rt: &H,
-    target: Target<'a>,
-    bytes: &[u8],
-) -> Result<(), Failure<'a>> {
-    let saved = if target.force {
-        save_over(rt, target.path, bytes, target.process)
-    } else {
-        save_new(rt, target.path, bytes, target.process)
-    };
-    saved.map_err(|unsaved| Failure::unsaved(target.path, unsaved))
 }

@@ -1,7 +1,9 @@
 //! Showing what is in the image in a file: `ls`, `stat` and `cat`.
 
-use crate::image::{Image, image_at, refuse_length, tell_length, tell_refused_length};
-use nv_cli::{Answered, Failure, ScriptError, cat_image, list_image, stat_image};
+use nv_cli::{Answered, ScriptError, cat_image, list_image, stat_image};
+use nv_images::{
+    Failure, Image, image_at, refuse_length, tell_faults, tell_length, tell_refused_length,
+};
 use std::io;
 use std::rt::Files;
 
@@ -49,12 +51,5 @@ fn show_bytes<H: AllocGlobal + Print>(
         Shown::Names(path) => list_image(alloc, bytes, path.as_bytes(), &mut output),
         Shown::Attributes(path) => stat_image(alloc, bytes, path.as_bytes(), &mut output),
         Shown::Bytes(path) => cat_image(alloc, bytes, path.as_bytes(), &mut output),
-    }
-}
-
-/// Says on standard error that an image has faults, where it has some.
-pub(crate) fn tell_faults<H: Eprint>(rt: &H, path: &str, faults: usize) {
-    if faults > 0 {
-        let _ = eprintln!(rt; "{path} has faults, which nova check tells: {faults}");
     }
 }

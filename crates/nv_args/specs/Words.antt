@@ -44,6 +44,11 @@ command_of (Cat image path) = codes "cat"
 command_of (Explain class) = codes "explain"
 command_of (Map image svg) = codes "map"
 
+-- the path of a check
+abbrev pub checked_path : Todo → Option Text
+checked_path (Check path workers output) = Some path.now
+checked_path _ = None
+
 -- what is to be done has the values that are written for a command's arguments
 abbrev pub HasValues : List Row → Todo → Type 0
 HasValues values (Run script image save) = (first_of (codes "script") values ≡ option_map (λ text. text.now) script)

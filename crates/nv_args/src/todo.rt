@@ -50,6 +50,21 @@ pub enum Todo<'a> {
     },
 }
 
+impl<'a> Todo<'a> {
+    ghost use Rattle.std.specs.Prelude.{◌≡◌, option_map};
+    ghost use Rattle.nv_args.specs.Words.{checked_path};
+
+    /// The path of a check. Of the words of a check only this can be one that isn't UTF-8.
+    pub fn checked_path(&self) -> Option<&'a str>
+        ensures { option_map (λ path. path.now) result ≡ checked_path self.now }
+    {
+        match self {
+            Todo::Check { path, .. } => Some(path),
+            _ => None,
+        }
+    }
+}
+
 /// What a check prints.
 #[derive(Clone, Copy, PartialEq, Eq)]
 pub enum CheckOutput {

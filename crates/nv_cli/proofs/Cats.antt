@@ -18,7 +18,7 @@ use Rattle.nv_tree.specs.declared.refusal.Refusal.{Refusal}
 use Rattle.nv_tree.specs.declared.refusal.Refusal.TheVariants as refusals
 use Rattle.nv_tree.proofs.Texts.{text_says}
 use Rattle.nv_cli.specs.Looking.{GivesBytes, IsWholeFile, TellsFile, IsOpened, WritesLook, WritesLookFront, FailsCat, WritesFile, FailsFile, WritesCall, FailsCall, WritesRefusal, FailsRefusal, call_status}
-use Rattle.nv_cli.specs.declared.looking.Answered.{Answered}
+use Rattle.nv_checking.specs.declared.answered.Answered.{Answered}
 use Rattle.nv_cli.specs.declared.looking.Opened.TheVariants as opened
 use Rattle.nv_cli.proofs.Looks.{mounted_look}
 

@@ -1,5 +1,3 @@
-pub mod Checked
-pub mod OneCheck
 pub mod Progress
 pub mod KnownProgress
 pub mod LineReplies

@@ -13,9 +13,9 @@ use Rattle.nv_tree.specs.Tree.{Tree}
 use Rattle.nv_tree.specs.Refusals.{Path, Tests, first_refusal}
 use Rattle.nv_tree.specs.declared.refusal.Refusal.{Refusal}
 use Rattle.nv_tree.proofs.Texts.{text_says}
-use Rattle.nv_cli.specs.Checking.{IsRefusal}
+use Rattle.nv_checking.specs.Checking.{IsRefusal}
 use Rattle.nv_cli.specs.Looking.{Call, ByPath, IsLook, IsOpened, call_status}
-use Rattle.nv_cli.specs.declared.looking.Answered.{Answered}
+use Rattle.nv_checking.specs.declared.answered.Answered.{Answered}
 use Rattle.nv_cli.specs.declared.looking.Opened.TheVariants as opened
 
 -- the superblock isn't accepted

@@ -1,44 +1,17 @@
--- A region that is recovered on this thread and mounted, or refused.
-use Rattle.std.proofs.Common.{◌≡◌, ◌∙◌, false, [], Some, refl, ap, subst}
+-- A region that was recovered on this thread can be mounted, and the mount shows it.
+use Rattle.std.proofs.Common.{◌≡◌, ◌∙◌, false, [], Some, refl, ap}
 use Rattle.nv_region.specs.Region.{Region}
 use Rattle.nv_region.specs.ImageState.{ImageState}
 use Rattle.nv_report.specs.nv_outcome.Answer.{outcome_of}
 use Rattle.nv_report.specs.nv_outcome.declared.recovered.Recovered.{Recovered}
-use Rattle.nv_report.specs.Answering.{MayAnswer, IsOfItsSuper, RefusesRecovery}
-use Rattle.nv_report.specs.declared.recovery.Answer.{Answer}
-use Rattle.nv_report.specs.declared.recovery.Answer.TheVariants as answers
+use Rattle.nv_checking.specs.declared.recovery.Answer.TheVariants as answers
 use Rattle.nv_session.specs.nv_calls.Mount.{Mount}
 use Rattle.nv_session.specs.Sessions.{CanMount}
 use Rattle.nv_session.proofs.Moved.{can_mount}
-use Rattle.nv_text.specs.declared.refusals.Refusal.{Refusal}
-use Rattle.nv_text.specs.declared.refusals.Refusal.TheVariants as refusals
 use Rattle.nv_cli.specs.Looking.{IsOpened}
-use Rattle.nv_cli.specs.Recovering.{IsRecovered, IsSuperRefused}
-use Rattle.nv_cli.specs.declared.recovering.Image.{Image}
-use Rattle.nv_cli.specs.declared.recovering.Image.TheVariants as images
+use Rattle.nv_checking.specs.Recovering.{IsRecovered}
+use Rattle.nv_checking.specs.declared.imaging.Image.TheVariants as images
 use Rattle.nv_cli.specs.declared.looking.Opened.TheVariants as opened
-
-module _ (R S : Region) (answer : Answer) (may : MayAnswer R 1 [] answer S) where
-  -- what was found
-  pub found : (r : Recovered) (memory : ImageState) → answer ≡ answers.Recovered r → memory.region ≡ S → IsOfItsSuper (Some answer) → IsRecovered R (images.Recovered memory r)
-  found r memory is region lists =
-      let recovered : MayAnswer R 1 [] (answers.Recovered r) S = subst (λ (x : Answer). MayAnswer R 1 [] x S) is may in
-      let of : IsOfItsSuper (Some (answers.Recovered r)) = subst (λ (x : Answer). IsOfItsSuper (Some x)) is lists in
-      (recovered.2, region ∙ recovered.3, of.0, of.1)
-
-  -- one worker without a schedule is refused for the superblock alone
-  refused : (refusal : Refusal) → RefusesRecovery R 1 [] refusal → IsSuperRefused R refusal
-  refused refusals.Workers h = absurd (cc)
-  refused refusals.Schedule h = absurd (let never = h.1 in cc)
-  refused (refusals.Super fault) h = (fault, h.2, refl)
-  refused refusal h = absurd h
-
-  pub not_found : (refusal : Refusal) → answer ≡ answers.Refused refusal → IsSuperRefused R refusal
-  not_found refusal is = let told : MayAnswer R 1 [] (answers.Refused refusal) S = subst (λ (x : Answer). MayAnswer R 1 [] x S) is may in refused refusal told.0
-
--- the same of the image that it is
-pub as_found : (R : Region) (image : Image) (memory : ImageState) (r : Recovered) → image ≡ images.Recovered memory r → IsRecovered R image → IsRecovered R (images.Recovered memory r)
-as_found R image memory r is h = subst (λ (x : Image). IsRecovered R x) is h
 
 module _ (R : Region) (memory : ImageState) (r : Recovered) (is : IsRecovered R (images.Recovered memory r)) where
   -- what was found can be mounted

@@ -1,12 +1,8 @@
 pub mod Script
 pub mod Transcript
 pub mod Replies
-pub mod Checking
-pub mod Recovering
 pub mod Looking
-pub mod Mapping
 pub mod Formatting
-pub mod Failures
 pub use Rattle.nv_region.specs.Region
 pub use Rattle.nv_super.specs.Super
 pub use Rattle.nv_report.specs.nv_outcome.Outcome

@@ -16,9 +16,9 @@ use Rattle.nv_session.specs.Machine.{TellsRefusal, TellsNames, TellsStat}
 use Rattle.nv_stream.specs.declared.fault.ScriptError.{ScriptError}
 use Rattle.nv_stream.specs.declared.fault.ScriptError.TheVariants.{Read, Write, Memory}
 use Rattle.nv_stream.specs.Streams.{AppendsFront}
-use Rattle.nv_cli.specs.Checking.{IsSuperRefusal}
-use Rattle.nv_cli.specs.Recovering.{IsSuperRefused}
-use Rattle.nv_cli.specs.declared.looking.Answered.{Answered}
+use Rattle.nv_checking.specs.Checking.{IsSuperRefusal}
+use Rattle.nv_checking.specs.Recovering.{IsSuperRefused}
+use Rattle.nv_checking.specs.declared.answered.Answered.{Answered}
 use Rattle.nv_cli.specs.declared.looking.Opened.{Opened}
 use Rattle.nv_cli.specs.declared.looking.Opened.TheVariants as opened
 

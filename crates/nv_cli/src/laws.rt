@@ -1,8 +1,6 @@
-//! What holds of whole scripts and checks.
+//! What holds of whole scripts.
 
 ghost use Rattle.std.specs.Prelude.{◌≡◌, ℕ, List};
-ghost use Rattle.nv_region.specs.Region.{Region};
-ghost use Rattle.nv_cli.specs.Checking.{IsCheck};
 ghost use Rattle.nv_cli.specs.Hints.{HintsScript};
 ghost use Rattle.nv_cli.specs.Script.{SetsNoStop, ShowsScript, WritesNothing};
 
@@ -12,10 +10,4 @@ pub fn one_transcript()
     ensures text { (lines : List (List ℕ)) (text other : List ℕ) (status another : ℕ) → SetsNoStop lines → WritesNothing lines → ShowsScript lines text status → ShowsScript lines other another → text ≡ other }
     ensures status { (lines : List (List ℕ)) (text other : List ℕ) (status another : ℕ) → SetsNoStop lines → WritesNothing lines → ShowsScript lines text status → ShowsScript lines other another → status ≡ another }
     ensures hints { (lines : List (List ℕ)) (hints other : List ℕ) (status another : ℕ) → SetsNoStop lines → WritesNothing lines → HintsScript lines hints status → HintsScript lines other another → hints ≡ other }
-{}
-
-/// A check of a region by so many workers has one output and one exit status.
-pub fn one_check()
-    ensures text { (region : Region) (workers : ℕ) (text other : List ℕ) (status another : ℕ) → IsCheck region workers text status → IsCheck region workers other another → text ≡ other }
-    ensures status { (region : Region) (workers : ℕ) (text other : List ℕ) (status another : ℕ) → IsCheck region workers text status → IsCheck region workers other another → status ≡ another }
 {}

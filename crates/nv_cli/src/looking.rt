@@ -9,10 +9,10 @@ ghost use Rattle.nv_tree.specs.Path.{IsPath, Says};
 ghost use Rattle.nv_tree.specs.Refusals.{Path};
 ghost use Rattle.nv_session.specs.nv_paths.Seen.{tree_of};
 ghost use Rattle.nv_session.specs.nv_calls.Reading.{IsRead};
-ghost use Rattle.nv_cli.specs.Checking.{IsRefusal};
+ghost use Rattle.nv_checking.specs.Checking.{IsRefusal};
 ghost use Rattle.nv_cli.specs.Looking.{IsLook, IsOpened, IsSized, ListsNames, TellsNumbers, GivesBytes, WritesLook, FailsLook, FailsCat, WritesCall, FailsCall, WritesFile, FailsFile, WritesRefusal, FailsRefusal};
 
-use crate::recovering::{Image, recover_image};
+use nv_checking::{Answered, Image, recover_image};
 use nv_region::{ImageRegion, Pmem};
 use nv_report::{Last, refused_text};
 use nv_session::{CallRefusal, CallText, Fs, list_text, refused_call_text, stat_text};
@@ -23,14 +23,6 @@ use std::io::Write;
 
 /// How many bytes of a file are read at a time.
 const PIECE: u64 = 1 << 20;
-
-/// What came of looking into a region: the exit status, which is 0, or 2 where the region or the call was refused, and
-/// how many faults the region has, told as 0 where it was refused.
-#[derive(Clone, Copy, Debug, PartialEq, Eq)]
-pub struct Answered {
-    pub status: u8,
-    pub faults: usize,
-}
 
 // What is printed, and what came of it.
 #[derive(Drop)]

@@ -1,6 +1,4 @@
 pub mod TextLemmas
 pub mod ClassSums
 pub mod OneText
-pub mod Answered
-pub mod Unstopped
-pub use Rattle.nv_recover.proofs.nv_outcome
+pub use Rattle.nv_outcome.proofs as nv_outcome

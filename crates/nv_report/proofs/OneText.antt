@@ -10,15 +10,15 @@ use Rattle.nv_radix.specs.Pages.{Pages, block_at}
 use Rattle.nv_radix.specs.Extents.{AreExtents, IsMapped}
 use Rattle.nv_radix.specs.declared.extent.Extent.{Extent}
 use Rattle.nv_names.specs.Names.{Names, name_at, ListsNames}
-use Rattle.nv_recover.proofs.nv_scan.NamesListed.{names_listed}
-use Rattle.nv_recover.specs.nv_scan.declared.piece.Row.{Row}
+use Rattle.nv_scan.proofs.NamesListed.{names_listed}
+use Rattle.nv_scan.specs.declared.piece.Row.{Row}
 use Rattle.nv_alloc.specs.Taking.{all_blocks}
 use Rattle.nv_text.specs.Answers.{recovered_line}
 use Rattle.nv_text.specs.Report.{region_line, inode_line, log_line}
 use Rattle.nv_text.specs.Free.{free_lines}
 use Rattle.nv_text.specs.Faults.{faults_text}
-use Rattle.nv_recover.specs.nv_outcome.Outcome.{Outcome}
-use Rattle.nv_recover.specs.nv_outcome.Same.{SameRow, SameRows, SameOutcome}
+use Rattle.nv_outcome.specs.Outcome.{Outcome}
+use Rattle.nv_outcome.specs.Same.{SameRow, SameRows, SameOutcome}
 use Rattle.nv_report.specs.Texts.{row_head, names_text, extents_text, IsContentText, IsRowText, IsTreeText, IsReportText, IsPartText, recovered_text}
 use Rattle.nv_report.specs.declared.part.Part.{Part}
 use Rattle.nv_report.specs.declared.part.Part.TheVariants as parts

@@ -1,7 +1,7 @@
 -- One text behind another.
 use Rattle.std.proofs.Common.{◌≡◌, ℕ, List, [], ◌∷◌, ◌++◌, refl, sym, ap, ◌∙◌, append_assoc, append-nil}
-use Rattle.nv_recover.specs.nv_scan.declared.piece.Row.{Row}
-use Rattle.nv_recover.specs.nv_outcome.Outcome.{Outcome}
+use Rattle.nv_scan.specs.declared.piece.Row.{Row}
+use Rattle.nv_outcome.specs.Outcome.{Outcome}
 use Rattle.nv_text.specs.Report.{region_line}
 use Rattle.nv_text.specs.Free.{free_lines}
 use Rattle.nv_text.specs.Faults.{faults_text}

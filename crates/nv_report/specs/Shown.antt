@@ -1,6 +1,6 @@
 -- What is told of a region, as an outcome without its doubled blocks, of which no text tells.
 use Rattle.std.specs.Prelude.{[]}
-use Rattle.nv_recover.specs.nv_outcome.Outcome.{Outcome}
+use Rattle.nv_outcome.specs.Outcome.{Outcome}
 use Rattle.nv_report.specs.declared.shown.Shown.{Shown}
 
 -- as an outcome

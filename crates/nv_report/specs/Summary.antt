@@ -7,8 +7,8 @@ use Rattle.nv_super.specs.declared.faults.Fault.{Fault}
 use Rattle.nv_super.specs.FaultText.{fault_text}
 use Rattle.nv_super.specs.Layout.{system_blocks}
 use Rattle.nv_alloc.specs.Taking.{all_blocks}
-use Rattle.nv_recover.specs.nv_scan.declared.piece.Row.{Row}
-use Rattle.nv_recover.specs.nv_outcome.Outcome.{Outcome}
+use Rattle.nv_scan.specs.declared.piece.Row.{Row}
+use Rattle.nv_outcome.specs.Outcome.{Outcome}
 use Rattle.nv_text.specs.Answers.{line}
 use Rattle.nv_report.specs.declared.summary.ClassSum.{ClassSum}
 

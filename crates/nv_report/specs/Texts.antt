@@ -7,14 +7,14 @@ use Rattle.nv_radix.specs.Pages.{Pages}
 use Rattle.nv_radix.specs.Extents.{AreExtents}
 use Rattle.nv_radix.specs.declared.extent.Extent.{Extent}
 use Rattle.nv_names.specs.Names.{Names, ListsNames}
-use Rattle.nv_recover.specs.nv_scan.declared.piece.Row.{Row}
+use Rattle.nv_scan.specs.declared.piece.Row.{Row}
 use Rattle.nv_text.specs.Answers.{recovered_line}
 use Rattle.nv_text.specs.Report.{region_line, inode_line, log_line, page_line}
 use Rattle.nv_text.specs.Names.{name_line}
 use Rattle.nv_text.specs.Free.{free_lines}
 use Rattle.nv_text.specs.Faults.{faults_text}
 use Rattle.nv_text.specs.declared.inodes.Attributes.{Attributes}
-use Rattle.nv_recover.specs.nv_outcome.Outcome.{Outcome}
+use Rattle.nv_outcome.specs.Outcome.{Outcome}
 use Rattle.nv_report.specs.declared.part.Part.{Part}
 use Rattle.nv_report.specs.declared.part.Part.TheVariants.{Tree, Free, Faults, Report}
 

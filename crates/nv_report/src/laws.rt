@@ -1,9 +1,9 @@
 //! What holds of the texts of a recovery.
 
 ghost use Rattle.std.specs.Prelude.{◌≡◌, ℕ, List};
-ghost use Rattle.nv_recover.specs.nv_scan.declared.piece.Row.{Row};
-ghost use Rattle.nv_recover.specs.nv_outcome.Outcome.{Outcome};
-ghost use Rattle.nv_recover.specs.nv_outcome.Same.{SameRow, SameOutcome};
+ghost use Rattle.nv_scan.specs.declared.piece.Row.{Row};
+ghost use Rattle.nv_outcome.specs.Outcome.{Outcome};
+ghost use Rattle.nv_outcome.specs.Same.{SameRow, SameOutcome};
 ghost use Rattle.nv_report.specs.Texts.{IsRowText, IsReportText};
 
 /// Rows that say the same of their inode have one text, whatever their indexes look like.

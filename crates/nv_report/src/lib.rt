@@ -1,16 +1,13 @@
-//! A recovery as a script and a check tell it: what it answered, its texts, and the exit status that it leaves.
+//! A recovery as a script and a check tell it: its texts, and the exit status that it leaves.
 //!
-//! `recovering` recovers a region, and answers what was found or why it is refused (`recovery`); `last` has how it went.
 //! `texts` shows a part of what was found (`part`, `shown`), for which `rows` writes the inodes, and `summary` sums it up in one
-//! line. `lengths` says for a user why a region's length is refused.
+//! line. `last` has how it went. `lengths` says for a user why a region's length is refused.
 #![tactic(auto)]
 
 mod last;
 mod laws;
 mod lengths;
 mod part;
-mod recovering;
-mod recovery;
 mod rows;
 mod shown;
 mod summary;
@@ -19,10 +16,8 @@ mod texts;
 pub use last::{Last, how_it_went};
 pub use laws::{one_report, one_row_text};
 pub use lengths::{BadLength, LONGEST_REGION, is_region_length};
-pub use nv_recover::{MOST_WORKERS, Recovered};
+pub use nv_outcome::Recovered;
 pub use part::Part;
-pub use recovering::{recover_alone, recover_or_stop, recover_region, replay_or_stop};
-pub use recovery::Answer;
 pub use shown::Shown;
 pub use summary::summary_text;
 pub use texts::{part_text, recovered_text, refused_text, shown_text};

@@ -6,8 +6,9 @@ ghost use Rattle.nv_super.specs.declared.kind.Kind.TheVariants as kinds;
 ghost use Rattle.nv_report.specs.Texts.{attributes_of, row_head, names_text, extents_text, IsContentText, IsRowText, IsTreeText, AddsText};
 
 use nv_names::Named;
+use nv_outcome::Rows;
 use nv_radix::Extent;
-use nv_recover::{Row, Rows};
+use nv_scan::Row;
 use nv_super::Kind;
 use nv_text::{Attributes, push_inode_line, push_log_line, push_name_line, push_page_line};
 use std::alloc::AllocError;

@@ -1,10 +1,10 @@
 //! What is told of a recovery, or of a mounted region: its numbers, rows, free lists and faults.
 
 ghost use Rattle.std.specs.Prelude.{◌≡◌, []};
-ghost use Rattle.nv_recover.specs.nv_outcome.Answer.{outcome_of};
+ghost use Rattle.nv_outcome.specs.Answer.{outcome_of};
 
 use nv_alloc::Allocators;
-use nv_recover::{Recovered, Rows};
+use nv_outcome::{Recovered, Rows};
 use nv_super::{Fault, Super};
 
 /// What is told of a region.

@@ -4,7 +4,7 @@ ghost use Rattle.std.specs.Prelude.{◌≡◌, ◌++◌, IfOk, OnOk, string_byte
 ghost use Rattle.nv_text.specs.Answers.{refused_line};
 ghost use Rattle.nv_text.specs.Refusals.{refusal_name};
 ghost use Rattle.nv_text.specs.Free.{free_lines};
-ghost use Rattle.nv_recover.specs.nv_outcome.Answer.{outcome_of};
+ghost use Rattle.nv_outcome.specs.Answer.{outcome_of};
 ghost use Rattle.nv_report.specs.Shown.{shown_of};
 ghost use Rattle.nv_report.specs.Texts.{recovered_text, IsPartText, IsReportText, AddsText};
 
@@ -12,7 +12,7 @@ use crate::part::Part;
 use crate::rows::push_rows;
 use crate::shown::Shown;
 use nv_alloc::Allocators;
-use nv_recover::Recovered;
+use nv_outcome::Recovered;
 use nv_text::{
     Refusal, push_faults, push_free_lines, push_recovered, push_refused, push_region_line,
 };

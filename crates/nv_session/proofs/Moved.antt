@@ -18,7 +18,7 @@ use Rattle.nv_report.specs.nv_outcome.Same.{lasting_outcome}
 use Rattle.nv_report.proofs.nv_outcome.Again.{rolled_back, stays}
 use Rattle.nv_report.proofs.nv_outcome.SuperOf.{blocks_of_super, is_equal}
 use Rattle.nv_report.specs.nv_outcome.Answer.{outcome_of}
-use Rattle.nv_report.specs.nv_recover.Errors.{UndoesAsBefore}
+use Rattle.nv_checking.specs.nv_recover.Errors.{UndoesAsBefore}
 use Rattle.nv_report.specs.nv_outcome.declared.recovered.Recovered.{Recovered}
 use Rattle.nv_text.specs.Answers.{ok_line, refused_line, stopped_line}
 use Rattle.nv_text.specs.declared.refusals.Refusal.{Refusal}
@@ -30,14 +30,14 @@ use Rattle.nv_tree.specs.Refusals.{Path}
 use Rattle.nv_tree.proofs.Texts.{text_says}
 use Rattle.nv_calls.specs.Mount.{Mount, told}
 use Rattle.nv_paths.specs.Seen.{tree_of}
-use Rattle.nv_report.specs.Workers.{is_worker_count, names_stranger}
-use Rattle.nv_report.specs.Answering.{RefusesRecovery, MayEnd, IsOfItsSuper}
+use Rattle.nv_checking.specs.Workers.{is_worker_count, names_stranger}
+use Rattle.nv_checking.specs.Answering.{RefusesRecovery, MayEnd, IsOfItsSuper}
 use Rattle.nv_report.specs.Last.{how_it_went}
 use Rattle.nv_report.specs.Texts.{IsPartText}
 use Rattle.nv_report.specs.declared.part.Part.{Part}
 use Rattle.nv_report.specs.declared.last.Last.TheVariants as lasts
-use Rattle.nv_report.specs.declared.recovery.Answer.{Answer}
-use Rattle.nv_report.specs.declared.recovery.Answer.TheVariants as answers
+use Rattle.nv_checking.specs.declared.recovery.Answer.{Answer}
+use Rattle.nv_checking.specs.declared.recovery.Answer.TheVariants as answers
 use Rattle.nv_report.proofs.TextLemmas.{same_part}
 use Rattle.nv_line.specs.Request.{Request}
 use Rattle.nv_session.specs.Made.{MayMake}

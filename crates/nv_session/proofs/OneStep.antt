@@ -11,7 +11,7 @@ use Rattle.std.specs.Prelude.{MatchBool, codes, replicate}
 use Rattle.nv_region.specs.Region.{Region, size, put}
 use Rattle.nv_region.specs.declared.memory.Fuse.{Fuse}
 use Rattle.nv_region.specs.declared.memory.Keep.{Keep}
-use Rattle.nv_report.specs.Workers.{is_worker_count, names_stranger}
+use Rattle.nv_checking.specs.Workers.{is_worker_count, names_stranger}
 use Rattle.nv_super.specs.declared.superblock.SuperFault.{SuperFault}
 use Rattle.nv_journal.specs.Undo.{undone}
 use Rattle.nv_format.specs.Format as formats

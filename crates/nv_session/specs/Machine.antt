@@ -29,7 +29,7 @@ use Rattle.nv_text.specs.Names.{list_line, data_line}
 use Rattle.nv_text.specs.Report.{stat_line}
 use Rattle.nv_text.specs.declared.inodes.Attributes.{Attributes}
 use Rattle.nv_report.specs.Texts.{recovered_text, IsPartText}
-use Rattle.nv_report.specs.Workers.{is_worker_count, names_stranger}
+use Rattle.nv_checking.specs.Workers.{is_worker_count, names_stranger}
 use Rattle.nv_report.specs.Last.{how_it_went}
 use Rattle.nv_report.specs.declared.part.Part.{Part}
 use Rattle.nv_report.specs.declared.part.Part.TheVariants as parts

@@ -17,8 +17,8 @@ use Rattle.nv_text.specs.Answers.{ok_line, refused_line, stopped_line}
 use Rattle.nv_text.specs.Refusals.{refusal_name}
 use Rattle.nv_report.specs.Last.{how_it_went}
 use Rattle.nv_report.specs.Texts.{recovered_text}
-use Rattle.nv_report.specs.declared.recovery.Answer.{Answer}
-use Rattle.nv_report.specs.declared.recovery.Answer.TheVariants as answers
+use Rattle.nv_checking.specs.declared.recovery.Answer.{Answer}
+use Rattle.nv_checking.specs.declared.recovery.Answer.TheVariants as answers
 use Rattle.nv_report.specs.declared.last.Last.TheVariants as lasts
 use Rattle.nv_calls.specs.Mount.{Mount, told}
 use Rattle.nv_session.specs.Machine.{State}

@@ -13,11 +13,11 @@ use crate::stop::Stop;
 use crate::store::{Store, has_word, poked};
 use crate::texts::{ok_text, refused_format_text, stopped_text, word_text};
 use nv_calls::Fs;
+use nv_checking::{Answer, recover_or_stop, replay_or_stop};
 use nv_line::Command;
 use nv_region::{Keep, MemRegion, Pmem};
 use nv_report::{
-    Answer, Last, Part, Recovered, Shown, how_it_went, recover_or_stop, recovered_text,
-    refused_text, replay_or_stop, shown_text,
+    Last, Part, Recovered, Shown, how_it_went, recovered_text, refused_text, shown_text,
 };
 use nv_text::Refusal;
 use std::alloc::{AllocError, Global};
@@ -39,7 +39,7 @@ impl Session {
     ghost use Rattle.nv_session.specs.declared.store.Store.TheVariants as stores;
     ghost use Rattle.nv_session.specs.Machine.{first_state, state_with, SetsTime, Formats, Recovers, Replays, Pokes, Cuts, ShowsPart, Peeks, MayStop, StopsFormat, StopsRecovery, Arms, Reads, TellsNames, TellsStat, TellsBytes, Does, Step, front};
     ghost use Rattle.nv_session.specs.Machine.{State};
-    ghost use Rattle.nv_report.specs.declared.recovery.Answer.TheVariants as answers;
+    ghost use Rattle.nv_checking.specs.declared.recovery.Answer.TheVariants as answers;
     ghost use Rattle.nv_report.specs.Last.{status_of};
     ghost use Rattle.nv_line.specs.View.{view};
     ghost use Rattle.nv_region.specs.Region.{size};

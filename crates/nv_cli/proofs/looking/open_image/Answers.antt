@@ -1,8 +1,9 @@
 use Rattle.std.proofs.Common.{subst}
 use Rattle.nv_region.specs.Region.{region_of}
-use Rattle.nv_cli.specs.Recovering.{IsRecovered}
-use Rattle.nv_cli.specs.declared.recovering.Image.{Image}
-use Rattle.nv_cli.proofs.Opens.{as_found, opens, mounted}
+use Rattle.nv_checking.specs.Recovering.{IsRecovered}
+use Rattle.nv_checking.specs.declared.imaging.Image.{Image}
+use Rattle.nv_checking.proofs.Found.{as_found}
+use Rattle.nv_cli.proofs.Opens.{opens, mounted}
 use Rattle.nv_cli.proofs.looking.open_image.Goals as goal
 
 pub open-requires : goal.open-requires

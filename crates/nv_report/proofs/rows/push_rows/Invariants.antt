@@ -1,5 +1,5 @@
 use Rattle.std.proofs.Common.{◌≡◌, ◌++◌, List, map, string_bytes}
-use Rattle.nv_recover.specs.declared.Row.{Row}
+use Rattle.nv_scan.specs.declared.piece.Row.{Row}
 use Rattle.nv_report.specs.Texts.{IsTreeText, AddsText}
 use Rattle.nv_report.proofs.rows.push_rows.Given as goal
 

@@ -1,7 +1,7 @@
 use Rattle.std.proofs.Common.{◌≡◌, ◌++◌, ◌∙◌, ◌∷◌, [], true, false, not, cond, map, length, ap, sym, arith}
 use Rattle.std.proofs.lemmas.List.{append_assoc, length-append}
 use Rattle.std.proofs.lemmas.List.Sums.{sum_by-append}
-use Rattle.nv_recover.specs.declared.Row.{Row}
+use Rattle.nv_scan.specs.declared.piece.Row.{Row}
 use Rattle.nv_report.specs.Summary.{is_directory}
 use Rattle.nv_report.proofs.summary.counts_of.Goals as goal
 use Rattle.nv_report.proofs.summary.counts_of.Goals.{in-Directory, in-File}

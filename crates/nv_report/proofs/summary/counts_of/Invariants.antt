@@ -1,5 +1,5 @@
 use Rattle.std.proofs.Common.{◌≡◌, ◌≤◌, ◌+◌, ◌*◌, ◌^◌, ◌++◌, List, map, length}
-use Rattle.nv_recover.specs.declared.Row.{Row}
+use Rattle.nv_scan.specs.declared.piece.Row.{Row}
 use Rattle.nv_report.specs.Summary.{directories, files, names}
 use Rattle.nv_report.proofs.summary.counts_of.Given as goal
 

@@ -1,5 +1,5 @@
 use Rattle.std.proofs.Common.{◌≡◌, ◌++◌, ◌∙◌, ℕ, List, [], refl, ap, string_bytes}
-use Rattle.nv_recover.specs.nv_outcome.Answer.{outcome_of}
+use Rattle.nv_outcome.specs.Answer.{outcome_of}
 use Rattle.nv_report.specs.Summary.{inodes_part, blocks_part, faults_part}
 use Rattle.nv_report.proofs.summary.summary_text.Goals as goal
 

@@ -1,8 +1,8 @@
 use Rattle.std.proofs.Common.{[], subst}
 use Rattle.std.specs.Prelude.{string_bytes}
 use Rattle.std.proofs.lemmas.Result.{IfOk-weaker}
-use Rattle.nv_recover.specs.nv_outcome.Outcome.{Outcome}
-use Rattle.nv_recover.specs.nv_outcome.Answer.{outcome_of}
+use Rattle.nv_outcome.specs.Outcome.{Outcome}
+use Rattle.nv_outcome.specs.Answer.{outcome_of}
 use Rattle.nv_report.specs.Texts.{IsPartText}
 use Rattle.nv_report.proofs.TextLemmas.{same_part}
 use Rattle.nv_report.proofs.texts.part_text.Goals as goal

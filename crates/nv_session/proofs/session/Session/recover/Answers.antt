@@ -2,7 +2,7 @@ use Rattle.std.proofs.Common.{◌∙◌, [], Option, refl, sym, ap, subst, IsTru
 use Rattle.std.proofs.lemmas.Result.{IfOk-weaker}
 use Rattle.nv_region.specs.Region.{Region}
 use Rattle.nv_region.specs.RegionState.{RegionState, is_off, is_steady}
-use Rattle.nv_report.specs.Answering.{MayEnd}
+use Rattle.nv_checking.specs.Answering.{MayEnd}
 use Rattle.nv_session.specs.Sessions.{region_in, memory_in, is_armed}
 use Rattle.nv_session.specs.declared.session.Session.{Session}
 use Rattle.nv_session.specs.declared.store.Store.{Store}

@@ -1,0 +1,74 @@
+//! The program `nova_check`: it checks images of the NOVA file system, maps them, and explains what is told of them.
+//!
+//! It does what `nova check`, `nova map` and `nova explain` do, by the same code, and stands on far fewer crates: nothing of
+//! scripts and of file calls has to be proved before it answers. Any other command ends it with status 2.
+//!
+//! Its exit status is the check's, and 0 or 2 for the other two. Words that ask for nothing, a file that can't be read or written,
+//! and output or memory that is refused end it with status 2 and a text on standard error.
+#![tactic(auto)]
+
+use nv_args::{CheckOutput, Todo, read_words};
+use nv_checking::{Output, check_file, map_file};
+use nv_images::{Failure, Target, ended, explain, refuse_words, words_of};
+use std::alloc::AllocError;
+use std::env::Env;
+use std::process;
+use std::process::ExitCode;
+use std::rt::Files;
+use std::thread::Threads;
+
+const OTHER_COMMAND: u8 = 2;
+
+fn main(rt: HostRuntime) -> ExitCode {
+    match act(&rt, process::id(rt.process())) {
+        Ok(code) => code,
+        Err(error) => ended(&rt, Err(Failure::from(error))),
+    }
+}
+
+// Does what the words ask for, and ends the program. The number is that of this process. Fails where memory is refused for the
+// words.
+fn act<H: Files + AllocGlobal + Print + Eprint + Env + Threads + Sync>(
+    rt: &H,
+    process: u32,
+) -> Result<ExitCode, AllocError> {
+    let alloc = rt.alloc();
+    let words = words_of(rt, alloc)?;
+    let texts = words.texts(alloc)?;
+    Ok(match read_words(alloc, &texts) {
+        Ok(todo) if words.are_utf8 => ended(rt, answer(rt, process, todo)),
+        Ok(todo) => ended(rt, Err(Failure::not_utf8(todo.checked_path()))),
+        Err(usage) => refuse_words(rt, &usage),
+    })
+}
+
+// Does what is asked for, and answers the exit status.
+fn answer<'a, H: Files + AllocGlobal + Print + Eprint + Threads + Sync>(
+    rt: &H,
+    process: u32,
+    todo: Todo<'a>,
+) -> Result<u8, Failure<'a>> {
+    match todo {
+        Todo::Check {
+            path,
+            workers,
+            output,
+        } => check_file(rt, path, workers, output_of(output)),
+        Todo::Map { image, svg } => {
+            map_file(rt, image, svg.map(|path| Target::over(path, process)))
+        }
+        Todo::Explain { class } => explain(rt, class),
+        _ => {
+            let _ = eprintln!(rt; "nova_check has the commands check, map and explain alone");
+            Ok(OTHER_COMMAND)
+        }
+    }
+}
+
+fn output_of(output: CheckOutput) -> Output {
+    match output {
+        CheckOutput::Report => Output::Report,
+        CheckOutput::Summary => Output::Summary,
+        CheckOutput::OnlyFaults => Output::OnlyFaults,
+    }
+}

@@ -1,0 +1,5 @@
+pub mod Answering
+pub mod Unstopped
+pub mod Checked
+pub mod OneCheck
+pub mod Found

@@ -1,0 +1,6 @@
+pub mod Answering
+pub mod Workers
+pub mod Recovering
+pub mod Checking
+pub mod Mapping
+pub use Rattle.nv_recover.specs as nv_recover

@@ -1,0 +1,83 @@
+//! The map of a region that is given as bytes: it is recovered over them, and what its blocks are used for is told.
+
+ghost use Rattle.std.specs.Prelude.{◌≡◌, IfOk, IfErr, string_bytes};
+ghost use Rattle.nv_region.specs.Region.{region_of};
+ghost use Rattle.nv_checking.specs.Mapping.{IsMapped, mapped_text, mapped_answer, WritesMap, FailsMap};
+
+use crate::answered::Answered;
+use crate::imaging::{Image, recover_image};
+use nv_map::{Cells, cells_of, cells_text};
+use nv_report::{Last, refused_text};
+use nv_stream::{ScriptError, write_text};
+use nv_text::Refusal;
+use std::alloc::{AllocError, Global};
+use std::io::Write;
+
+/// What the blocks of a region are used for, or why it is refused.
+#[derive(Drop)]
+pub enum Mapped {
+    /// The cells, and how many faults the region has.
+    Cells { cells: Cells, faults: usize },
+    /// The first fault of its superblock.
+    Refused(Refusal),
+}
+
+/// Maps the region of these bytes in at most `most` cells (one, if that is 0) of as few blocks as can be.
+///
+/// Errors: `AllocError` where a growth was refused.
+pub fn map_cells(alloc: Global, bytes: &[u8], most: u64) -> Result<Mapped, AllocError>
+    ensures { IfOk result (IsMapped (region_of bytes.now) most) }
+{
+    let image = recover_image(alloc, bytes)?;
+    match image {
+        Image::Recovered(_memory, recovered) => {
+            let cells = cells_of(alloc, &recovered, most)?;
+            Ok(Mapped::Cells {
+                cells,
+                faults: recovered.faults.len(),
+            })
+        }
+        Image::Refused(refusal) => Ok(Mapped::Refused(refusal)),
+    }
+}
+
+/// Writes the text of a map, or `refused NAME`.
+///
+/// Errors: `Memory` where a growth was refused, and nothing was written then; `Write` where the writer failed, and a front
+/// of the text was written then.
+pub fn write_map<W: Write>(
+    alloc: Global,
+    mapped: &Mapped,
+    writer: &mut W,
+) -> Result<Answered, ScriptError>
+    ensures ok { IfOk result (λ answered. WritesMap mapped.now (W.contents writer.old) (W.contents writer.new) answered) }
+    ensures err { IfErr result (λ e. FailsMap mapped.now e (W.contents writer.old) (W.contents writer.new)) }
+{
+    let text = mapped_text(alloc, mapped)?;
+    write_text(writer, text.as_bytes())?;
+    Ok(answered(mapped))
+}
+
+fn mapped_text(alloc: Global, mapped: &Mapped) -> Result<String, AllocError>
+    ensures { IfOk result (λ text. string_bytes text ≡ mapped_text mapped.now) }
+{
+    match mapped {
+        Mapped::Cells { cells, .. } => cells_text(alloc, cells),
+        Mapped::Refused(refusal) => refused_text(alloc, *refusal),
+    }
+}
+
+fn answered(mapped: &Mapped) -> Answered
+    ensures { result ≡ mapped_answer mapped.now }
+{
+    match mapped {
+        Mapped::Cells { faults, .. } => Answered {
+            status: Last::Sound.status(),
+            faults: *faults,
+        },
+        Mapped::Refused(_) => Answered {
+            status: Last::Refused.status(),
+            faults: 0,
+        },
+    }
+}

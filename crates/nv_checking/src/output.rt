@@ -1,0 +1,36 @@
+//! What a check writes of a region that it recovered.
+
+ghost use Rattle.std.specs.Prelude.{IfOk, string_bytes};
+ghost use Rattle.nv_super.specs.Layout.{HasAreas};
+ghost use Rattle.nv_report.specs.nv_outcome.Answer.{outcome_of};
+ghost use Rattle.nv_checking.specs.Checking.{IsOutputText};
+
+use nv_report::{Part, Recovered, part_text, summary_text};
+use std::alloc::{AllocError, Global};
+
+/// What a check writes.
+#[derive(Clone, Copy, Debug, PartialEq, Eq)]
+pub enum Output {
+    /// The whole report.
+    Report,
+    /// One line of sums.
+    Summary,
+    /// The faults alone.
+    OnlyFaults,
+}
+
+/// The text of a recovery for such an output.
+pub fn output_text(
+    alloc: Global,
+    recovered: &Recovered,
+    output: Output,
+) -> Result<String, AllocError>
+    requires { HasAreas recovered.now.sup }
+    ensures { IfOk result (λ text. IsOutputText output (outcome_of recovered.now) (string_bytes text)) }
+{
+    match output {
+        Output::Report => part_text(alloc, recovered, Part::Report),
+        Output::Summary => summary_text(alloc, recovered),
+        Output::OnlyFaults => part_text(alloc, recovered, Part::Faults),
+    }
+}

@@ -1,0 +1,180 @@
+//! What each class of faults means. docs/FAULTS.md says the same, with an example of each.
+
+use crate::failure::Failure;
+use nv_stream::write_text;
+use std::io;
+
+/// A class of faults, or of refused superblocks.
+#[derive(Clone, Copy)]
+struct Class {
+    name: &'static str,
+    title: &'static str,
+    /// What such a fault is, and what becomes of what it is found in.
+    meaning: &'static str,
+}
+
+const REFUSED: &str =
+    "The superblock isn't accepted, so nothing is read and nothing changes. Of several that apply the first is named.";
+
+const CLASSES: [Class; 26] = [
+    Class {
+        name: "J1",
+        title: "a journal's pointer is wrong",
+        meaning: "fault J1 cpu C. The dequeue or the enqueue number of the journal of CPU C is 252 or more, so nobody can say which of its records are pending. The journal is left alone: a call on several inodes that was stopped half-way on this CPU stays half done.",
+    },
+    Class {
+        name: "J2",
+        title: "a journal's record names a wrong word",
+        meaning: "fault J2 cpu C record K. The pending record K names an address that no journal may name, so it was skipped; the other records were rolled back. Only the first recovery can tell it: then no record is pending any more.",
+    },
+    Class {
+        name: "I1",
+        title: "a slot is neither in use nor unused",
+        meaning: "fault I1 inode I. The valid word is neither 0 nor 1. The inode counts as not in use: it owns no block, and a name of it leads nowhere (C1).",
+    },
+    Class {
+        name: "I2",
+        title: "a slot is of no kind",
+        meaning: "fault I2 inode I. The slot is valid, but its kind is neither 1, a file, nor 2, a directory. The inode counts as not in use.",
+    },
+    Class {
+        name: "I3",
+        title: "an inode's log can't be found",
+        meaning: "fault I3 inode I. The head isn't the first byte of a data block, or the tail can't be a tail. The inode is in use with its kind, but nothing of its log is read: it has no page and no name, and else the defaults and its creation time.",
+    },
+    Class {
+        name: "L1",
+        title: "a log leads nowhere",
+        meaning: "fault L1 inode I at A. The link at A is to lead to the log's next page, but its value isn't the start of a data block. The log ends there; what was read before it counts.",
+    },
+    Class {
+        name: "L2",
+        title: "a log leads back into itself",
+        meaning: "fault L2 inode I at A. The link at A leads to a page that this log was read through already. The log ends there.",
+    },
+    Class {
+        name: "L3",
+        title: "something in a log is no entry",
+        meaning: "fault L3 inode I at A. At A an entry is to begin, but what stands there spells none: its type, operation, length or filling is wrong, or it leaves the page. The log ends there. A tail that is too far gives this too.",
+    },
+    Class {
+        name: "L4",
+        title: "an entry passes the tail",
+        meaning: "fault L4 inode I at A. In the tail's page the entry at A ends behind the tail, or leads to a next page. The log ends before that entry.",
+    },
+    Class {
+        name: "E1",
+        title: "an entry says what can't be",
+        meaning: "fault E1 inode I at A. The entry at A is well spelled, but a number or a name in it is out of range. It doesn't count, and the log is read on.",
+    },
+    Class {
+        name: "E2",
+        title: "an entry of the wrong kind",
+        meaning: "fault E2 inode I at A. A directory has an entry that only files have, a write or a number of links, or a file has a name. It doesn't count, and the log is read on.",
+    },
+    Class {
+        name: "E3",
+        title: "a name is added twice",
+        meaning: "fault E3 inode I at A. The directory I has the name already when the entry at A adds it. The later entry counts: the name stands for its inode.",
+    },
+    Class {
+        name: "E4",
+        title: "a name is removed that isn't there",
+        meaning: "fault E4 inode I at A. The entry at A removes a name that the directory doesn't have at that point. No name changes.",
+    },
+    Class {
+        name: "C1",
+        title: "a name of nothing",
+        meaning: "fault C1 inode D at A. Directory D has a name, added by the entry at A, for an inode that isn't in use. The name is shown all the same.",
+    },
+    Class {
+        name: "C2",
+        title: "a directory with no name, or more than one",
+        meaning: "fault C2 inode I. A directory other than the root has to be named exactly once, and the root nowhere. A directory without a name also isn't reached (C4).",
+    },
+    Class {
+        name: "C3",
+        title: "a file with another number of links than names",
+        meaning: "fault C3 inode I. The file's link count isn't the number of its names, over all directories in use. After a file was lost from its directory both C3 and C4 are told of it.",
+    },
+    Class {
+        name: "C4",
+        title: "an inode that no path reaches",
+        meaning: "fault C4 inode I. The inode is in use, but no way of names leads from the root to it. It holds its blocks.",
+    },
+    Class {
+        name: "C5",
+        title: "there is no root",
+        meaning: "fault C5. Inode 1 isn't a directory in use. So nothing is reached, and each inode in use has C4 as well.",
+    },
+    Class {
+        name: "B1",
+        title: "a block with two owners",
+        meaning: "fault B1 block B log I K, or data I P. Block B has several owners, and there is a line for each: page K of the log of inode I, or page P of the file I. What one of them stored there the other may have overwritten, and nothing says which is right.",
+    },
+    Class {
+        name: "S1",
+        title: "the length can't be a region's: a file that was cut, or no image at all",
+        meaning: REFUSED,
+    },
+    Class {
+        name: "S2",
+        title: "the magic is another: no image, or format was stopped",
+        meaning: REFUSED,
+    },
+    Class {
+        name: "S3",
+        title: "another version of the format",
+        meaning: REFUSED,
+    },
+    Class {
+        name: "S4",
+        title: "the number of CPUs isn't 1 to 64",
+        meaning: REFUSED,
+    },
+    Class {
+        name: "S5",
+        title: "the number of blocks isn't that of the file: it was cut or made longer by whole blocks",
+        meaning: REFUSED,
+    },
+    Class {
+        name: "S6",
+        title: "the number of table blocks isn't 1 to 64, or leaves no data block",
+        meaning: REFUSED,
+    },
+    Class {
+        name: "S7",
+        title: "the state is neither 0 nor 1",
+        meaning: REFUSED,
+    },
+];
+
+/// Prints what the class of this name means, in upper or lower case. Answers the exit status 0.
+///
+/// Errors: `NoClass` where there is no such class, and want of memory or of a place to write to.
+pub fn explain<'a, H: AllocGlobal + Print>(rt: &H, name: &'a str) -> Result<u8, Failure<'a>> {
+    let Some(class) = class_of(name) else {
+        return Err(Failure::NoClass(name));
+    };
+    let text = format!(in rt.alloc(); "{}: {}\n{}\n", class.name, class.title, class.meaning)?;
+    write_text(&mut io::writer(rt), text.as_bytes())?;
+    Ok(0)
+}
+
+/// Prints the names of all classes on a line of standard error.
+pub(crate) fn tell_classes<H: Eprint>(rt: &H) {
+    let _ = eprint!(rt; "the classes are");
+    for class in &CLASSES {
+        let _ = eprint!(rt; " {}", class.name);
+    }
+    let _ = eprintln!(rt; "");
+}
+
+fn class_of(name: &str) -> Option<Class> {
+    for class in &CLASSES {
+        if class.name.eq_ignore_ascii_case(name) {
+            return Some(*class);
+        }
+    }
+    None
+}
