@@ -7,8 +7,7 @@ use Rattle.std.specs.Io.KnownBytes.{Appends}
 use Rattle.nv_text.specs.Answers.{bad_line}
 use Rattle.nv_stream.specs.Known.{IfKnown}
 use Rattle.nv_report.specs.Last.{status_of}
-use Rattle.nv_stream.specs.Lines.{lines_of}
-use Rattle.nv_line.specs.Lines.{line_limit}
+use Rattle.nv_stream.specs.Lines.{lines_of, line_limit}
 use Rattle.nv_line.specs.Spelling.{Says}
 use Rattle.nv_line.specs.View.{view}
 use Rattle.nv_line.specs.declared.commands.Command.{Command}

@@ -1,6 +1,7 @@
 -- A script has one transcript, and one list of hints.
 use Rattle.std.proofs.Common.{◌≡◌, false, ◌+◌, inl, inr, ℕ, List, [], ◌∷◌, ◌++◌, length, sym, ◌∙◌, subst, arith}
 use Rattle.std.specs.Prelude.{◌≤◌}
+use Rattle.nv_stream.specs.Lines.{line_limit}
 use Rattle.nv_line.specs.Request.{Request, Stop}
 use Rattle.nv_region.specs.declared.memory.Fuse.{Fuse}
 use Rattle.nv_region.specs.declared.memory.Keep.{Keep}

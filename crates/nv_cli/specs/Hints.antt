@@ -3,7 +3,8 @@ use Rattle.std.specs.Prelude.{◌≡◌, ◌⊎◌, ◌≤◌, ◌+◌, ℕ, Lis
 use Rattle.nv_region.specs.Region.{size}
 use Rattle.nv_super.specs.declared.superblock.SuperFault.TheVariants as SuperFault
 use Rattle.nv_super.specs.FaultText.{super_fault_name}
-use Rattle.nv_line.specs.Lines.{IsSkipped, IsBad, line_limit}
+use Rattle.nv_stream.specs.Lines.{line_limit}
+use Rattle.nv_line.specs.Lines.{IsSkipped, IsBad}
 use Rattle.nv_line.specs.Reasons.{reason_of, reason_text}
 use Rattle.nv_text.specs.Answers.{refused_line}
 use Rattle.nv_report.specs.Lengths.{length_text}

@@ -2,7 +2,7 @@
 use Rattle.std.specs.Prelude.{◌≡◌, ℕ, ◌≤◌, List, ◌∷◌, [], length, Option, string_bytes}
 use Rattle.nv_line.specs.Lines.{IsSkipped, IsBad}
 use Rattle.nv_stream.specs.Known.{IfKnown}
-use Rattle.nv_stream.specs.Lines.{lines_of}
+use Rattle.nv_stream.specs.Lines.{lines_of, line_limit}
 use Rattle.nv_line.specs.Lines.{line_limit}
 use Rattle.nv_line.specs.Reasons.{reason_of}
 use Rattle.nv_session.specs.Machine.{State}

@@ -4,6 +4,7 @@ use Rattle.nv_region.specs.Region.{Region}
 use Rattle.std.specs.List.{AllByRecursion}
 use Rattle.nv_region.specs.declared.memory.Fuse.{Fuse}
 use Rattle.nv_region.specs.declared.memory.Keep.{Keep}
+use Rattle.nv_stream.specs.Lines.{line_limit}
 use Rattle.nv_line.specs.Request.{Request, Stop}
 use Rattle.nv_line.specs.Spelling.{Says}
 use Rattle.nv_line.specs.Lines.{IsSkipped, IsBad}

@@ -1,14 +1,11 @@
 -- What a line of a script is: skipped, a command, or bad.
 use Rattle.std.specs.Prelude.{◌≡◌, ℕ, ◌<◌, ◌≤◌, ◌⊎◌, List, [], ◌∷◌, length, ⊤}
+use Rattle.nv_stream.specs.Lines.{line_limit}
 use Rattle.nv_line.specs.Request.{Request}
 use Rattle.nv_line.specs.Spelling.{Says}
 use Rattle.nv_line.specs.View.{view}
 use Rattle.nv_line.specs.declared.commands.Line.{Line}
 use Rattle.nv_line.specs.declared.commands.Line.TheVariants.{Skipped, Command, Bad}
-
--- the most bytes of a line, without the byte 10 that ends it
-abbrev pub line_limit : ℕ
-line_limit = 4096
 
 -- empty, or begun with '#'
 abbrev pub IsSkipped : List ℕ → Type 0

@@ -1,7 +1,7 @@
 -- Why a line is bad, and the text that says so.
 use Rattle.std.specs.Prelude.{◌==◌, ℕ, List, [], ◌∷◌, ◌++◌, length, nat_lt, if◌then◌else◌, Option, Some, None, bytes_eq, codes}
 use Rattle.std.specs.List.{slice_split, ends_with}
-use Rattle.nv_line.specs.Lines.{line_limit}
+use Rattle.nv_stream.specs.Lines.{line_limit}
 use Rattle.nv_line.specs.Table.{Row, rows}
 use Rattle.nv_line.specs.declared.reasons.Form.{Form}
 use Rattle.nv_line.specs.declared.reasons.Form.TheVariants as forms

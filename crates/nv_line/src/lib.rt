@@ -16,7 +16,7 @@ mod shapes;
 mod table;
 
 pub use commands::{Command, Line};
-pub use lines::{LINE_LIMIT, classify, no_skipped_command};
+pub use lines::{classify, no_skipped_command};
 pub use numeral::number;
 pub use parsing::{one_reading, parse};
 pub use reasons::{Form, Reason, why_bad};

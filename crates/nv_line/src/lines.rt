@@ -8,10 +8,8 @@ ghost use Rattle.nv_line.specs.Lines.{IsSkipped, ReadsAs};
 
 use crate::commands::Line;
 use crate::parsing::parse;
+use nv_stream::LINE_LIMIT;
 use std::alloc::{AllocError, Global};
-
-/// The most bytes that a line may have. The byte 10 that ends it is not counted.
-pub const LINE_LIMIT: usize = 4096;
 
 fn is_skipped(line: &[u8]) -> bool
     ensures { IsTrue result ↔ IsSkipped line.now }

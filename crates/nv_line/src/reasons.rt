@@ -3,9 +3,9 @@
 ghost use Rattle.std.specs.Prelude.{◌≡◌, Some, IfOk, map};
 ghost use Rattle.nv_line.specs.Reasons.{form_text, reason_of_words, reason_of, reason_text};
 
-use crate::lines::LINE_LIMIT;
 use crate::parsing::words;
 use crate::table::form_named;
+use nv_stream::LINE_LIMIT;
 use std::alloc::{AllocError, Global};
 use std::fmt;
 

@@ -2,8 +2,7 @@
 use Rattle.std.specs.Prelude.{◌≡◌, ℕ, ◌<◌, ◌≤◌, List, [], ◌∷◌, length, take, Option, Some, None}
 use Rattle.std.specs.Io.KnownBytes.{Appends, Consumes, IsAtEnd}
 use Rattle.nv_stream.specs.Known.{IfKnown}
-use Rattle.nv_stream.specs.Lines.{lines_of}
-use Rattle.nv_line.specs.Lines.{line_limit}
+use Rattle.nv_stream.specs.Lines.{lines_of, line_limit}
 use Rattle.nv_stream.specs.declared.reading.Next.{Next}
 use Rattle.nv_stream.specs.declared.reading.Next.TheVariants.{Line, TooLong, End}
 

@@ -13,6 +13,6 @@ mod writing;
 
 pub use contents::{Contents, Unread, contents_at, read_whole};
 pub use fault::ScriptError;
-pub use reading::{Next, read_line};
+pub use reading::{LINE_LIMIT, Next, read_line};
 pub use saving::{Unsaved, save_new, save_over};
 pub use writing::write_text;

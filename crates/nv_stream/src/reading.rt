@@ -5,12 +5,14 @@
 
 ghost use Rattle.std.specs.Prelude.{◌≡◌, ◌≢◌, ◌≤◌, IfOk, IfErr, IsErrOf};
 ghost use Rattle.std.specs.Vec.{vec_capacity};
-ghost use Rattle.nv_line.specs.Lines.{line_limit};
+ghost use Rattle.nv_stream.specs.Lines.{line_limit};
 ghost use Rattle.nv_stream.specs.Streams.{GivesByte, TakesKnownLine};
 
 use crate::fault::ScriptError;
-use nv_line::LINE_LIMIT;
 use std::io::{ErrorKind, Read};
+
+/// The most bytes that a line may have. The byte 10 that ends it is not counted.
+pub const LINE_LIMIT: usize = 4096;
 
 /// What came next from a reader.
 #[derive(Clone, Copy, Debug, PartialEq, Eq)]
