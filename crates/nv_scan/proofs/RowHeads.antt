@@ -1,5 +1,5 @@
 -- Heads of rows: of one more row, and of all.
-use Rattle.std.proofs.Common.{◌≡◌, ◌≢◌, ℕ, ◌+◌, ◌<◌, ◌≤◌, Bool, true, false, not, nat_lt, IsTrue, ◌↔◌, List, [], ◌∷◌, ◌++◌, length, take, slice_get, Some, None, refl, sym, ap, ◌∙◌, arith, length-take}
+use Rattle.std.proofs.Common.{◌≡◌, ◌≢◌, ℕ, ◌+◌, ◌<◌, ◌≤◌, Bool, true, false, not, nat_lt, IsTrue, ◌↔◌, List, [], ◌∷◌, ◌++◌, length, take, slice_get, Some, None, refl, sym, ap, ◌∙◌, arith, length-take, zero, suc}
 use Rattle.std.proofs.lemmas.Bool.{true≢false}
 use Rattle.std.proofs.lemmas.Bool.Decides.{nat_tests}
 use Rattle.std.proofs.lemmas.List.{length-map, map-append, take_all, take_more}
@@ -36,3 +36,9 @@ has_names-is names true says = let none : length names.names ≡ 0 = empty-found
 has_names-is names false says = grind (arith, nat_tests, some) where
   some : length names.names ≢ 0
   some none = absurd (true≢false (sym (says.1 (found_in-empty names.names none))))
+
+-- a head is that of the row at its place
+pub row_of_head : (rows : List Row) (i : ℕ) (head : RowHead) → slice_get (heads_of rows) i ≡ Some head → (row : Row) × (slice_get rows i ≡ Some row) × (head ≡ head_of row)
+row_of_head [] i head is = absurd (let none : None ≡ Some head = is in cc)
+row_of_head (row ∷ rows) zero head is = (row, refl, cc)
+row_of_head (row ∷ rows) (suc i) head is = row_of_head rows i head is
