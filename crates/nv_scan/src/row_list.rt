@@ -114,6 +114,13 @@ impl RowList {
         }
     }
 
+    /// The rows by themselves, lent.
+    pub fn as_rows(&self) -> &Chunks<Row>
+        ensures { result.now.items ≡ self.now.items }
+    {
+        &self.rows
+    }
+
     /// The rows by themselves.
     pub fn into_rows(self) -> Chunks<Row>
         ensures { result.items ≡ self.items }
