@@ -5,6 +5,7 @@ pub mod NamesCounted
 pub mod Follow
 pub mod Adds
 pub mod Rows
+pub mod Heads
 pub mod Together
 pub mod CrossRows
 pub mod Near

@@ -13,8 +13,7 @@ ghost use Rattle.nv_check.specs.Steps.{ArePlaces, AreNumbersOfNames, AreFaults, 
 use crate::counts::push_counts;
 use crate::tables::{Tables, tables_of};
 use crate::walk::push_far;
-use nv_numbered::Chunks;
-use nv_scan::Row;
+use nv_scan::RowList;
 use nv_super::{Fault, Super, sort_faults};
 use std::alloc::{AllocError, Global};
 
@@ -29,7 +28,7 @@ use std::alloc::{AllocError, Global};
 pub fn cross_faults_one(
     alloc: Global,
     sup: &Super,
-    rows: &Chunks<Row>,
+    rows: &RowList,
 ) -> Result<Vec<Fault>, AllocError>
     requires layout { IsLayout sup.now }
     requires apart { AreNumbersBelow (inode_limit sup.now) (map (λ (r : RowValue). r.inode) rows.now.items) }

@@ -16,8 +16,7 @@ use crate::names::push_unused_of;
 use crate::places::Places;
 use crate::tables::tables_of;
 use crate::walk::push_far;
-use nv_numbered::Chunks;
-use nv_scan::Row;
+use nv_scan::RowList;
 use nv_super::{Fault, Super, sort_faults};
 use rayon::prelude::*;
 use std::alloc::{AllocError, Global};
@@ -35,7 +34,7 @@ pub fn cross_faults<H: Threads + Sync>(
     rt: &H,
     alloc: Global,
     sup: &Super,
-    rows: &Chunks<Row>,
+    rows: &RowList,
 ) -> Result<Vec<Fault>, AllocError>
     requires layout { IsLayout sup.now }
     requires apart { AreNumbersBelow (inode_limit sup.now) (map (λ (r : RowValue). r.inode) rows.now.items) }

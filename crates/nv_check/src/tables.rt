@@ -9,8 +9,7 @@ ghost use Rattle.nv_check.specs.Tables.{AreTables};
 use crate::counts::count_names;
 use crate::listing::{Listing, listings_of};
 use crate::places::{Places, places_of};
-use nv_numbered::Chunks;
-use nv_scan::Row;
+use nv_scan::RowList;
 use nv_super::{Fault, Super};
 use std::alloc::{AllocError, Global};
 
@@ -27,7 +26,7 @@ pub(crate) struct Tables<'a> {
 pub(crate) fn tables_of<'a>(
     alloc: Global,
     sup: &Super,
-    rows: &'a Chunks<Row>,
+    rows: &'a RowList,
 ) -> Result<Tables<'a>, AllocError>
     requires layout { IsLayout sup.now }
     requires apart { AreNumbersBelow (inode_limit sup.now) (map (λ (r : RowValue). r.inode) rows.now.items) }

@@ -1,3 +1,4 @@
+pub mod ByChunks
 pub mod ChunkLemmas
 pub mod EntryLemmas
 pub mod FilledLemmas

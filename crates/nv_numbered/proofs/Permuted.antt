@@ -1,10 +1,10 @@
 -- Numbers and values in another order.
-use Rattle.std.proofs.Common.{◌≡◌, ℕ, ◌<◌, ◌≢◌, eqb, List, [], ◌∷◌, ◌++◌, length, append_assoc, arith}
+use Rattle.std.proofs.Common.{◌≡◌, ℕ, ◌<◌, ◌≢◌, eqb, List, length, arith}
 use Rattle.std.specs.List.{AllPairs}
 use Rattle.std.specs.List.Sorted.{IsPermutation}
 use Rattle.std.proofs.lemmas.Bool.Decides.{Decides-eqb, nat_tests}
 use Rattle.std.proofs.lemmas.Grind.{get_or_default_zero}
-use Rattle.std.proofs.lemmas.List.Sorted.{All-permutation, IsPermutation-append_comm, IsPermutation-append_left, IsPermutation-append_right, IsPermutation-to_front}
+use Rattle.std.proofs.lemmas.List.Sorted.{All-permutation}
 use Rattle.std.proofs.lemmas.Map.Keys.{IsDistinct-IsPermutation}
 use Rattle.std.proofs.lemmas.Map.Made.{AllPairs-from_IsDistinct, IsDistinct-from_AllPairs}
 use Rattle.nv_numbered.specs.Values.{AreNumbersBelow}
@@ -23,14 +23,3 @@ numbers_permute limit xs ys moved are = record {
 
   apart : AllPairs (λ x y. x ≢ y) ys
   apart = AllPairs-from_IsDistinct Decides-eqb ys (IsDistinct-IsPermutation eqb flips xs ys moved (IsDistinct-from_AllPairs Decides-eqb xs differ))
-
-module _ {X : Type 0} where
-  -- the last of some values goes in front of them
-  pub last_moved : (old rest : List X) (x : X) → IsPermutation (old ++ (rest ++ x ∷ [])) ((old ++ x ∷ []) ++ rest)
-  last_moved old rest x =
-      rw (append_assoc old (x ∷ []) rest) (IsPermutation-append_right old (rest ++ x ∷ []) (x ∷ rest) (IsPermutation-to_front rest x))
-
-  -- the first of some values go in front of others
-  pub front_moved : (old front rest : List X) → IsPermutation (old ++ (front ++ rest)) ((front ++ old) ++ rest)
-  front_moved old front rest =
-      rw (← append_assoc old front rest) (IsPermutation-append_left rest (old ++ front) (front ++ old) (IsPermutation-append_comm old front))

@@ -4,9 +4,8 @@
 ghost use Rattle.std.specs.Prelude.{◌≡◌, ◌+◌, ◌-◌, ◌<◌, ◌≤◌, ◌↔◌, [], ◌∷◌, ◌++◌, length, take, IsTrue, IsOk, IsSome, MatchOption, OnOk, OnErr, OnSome, Some, option_copied, slice_get, slice_index_or};
 ghost use Rattle.std.specs.Borrow.{sem};
 ghost use Rattle.std.specs.List.{All};
-ghost use Rattle.std.specs.List.Sorted.{IsPermutation};
 ghost use Rattle.std.specs.Option.{option_to_list};
-ghost use Rattle.nv_numbered.specs.Chunked.{IsSwapRemoved};
+ghost use Rattle.nv_numbered.specs.Chunked.{IsSwapRemoved, by_chunks};
 ghost use Rattle.nv_numbered.specs.Filled.{joined, lists_of, IsFullChunk};
 
 use std::alloc::{AllocError, Global};
@@ -210,14 +209,14 @@ impl<T> Chunks<T> {
         mem::replace(self.at_mut(place), last)
     }
 
-    /// Puts the values of another list to these, chunk by chunk, so in no order that a caller can rest on. At most 255 of
-    /// them are moved. Where it fails they are dropped.
+    /// Puts the values of another list to these: its full chunks of 256 values in front, and the rest behind, in their order.
+    /// At most 255 values are moved. Where it fails the values of the other list are dropped.
     ///
     /// Errors: `AllocError` where a growth was refused, or where a `usize` can't count the places then.
     pub fn append(&mut self, other: Chunks<T>) -> Result<(), AllocError>
     where
         T: Drop,
-        ensures ok { OnOk result (IsPermutation (self.old.items ++ other.items) self.new.items) }
+        ensures ok { OnOk result (self.new.items ≡ by_chunks self.old.items other.items) }
         ensures err { OnErr result (self.new.items ≡ self.old.items) }
     {
         let Chunks { mut chunks, len } = other;
@@ -250,14 +249,15 @@ impl<T> Chunks<T> {
         Ok(())
     }
 
-    // Puts values to the end, the last one first.
+    // Puts values to the end, in their order.
     fn push_all(&mut self, values: Vec<T>)
     where
         T: Drop,
         requires { length values.items ≤ self.old.room }
-        ensures { IsPermutation (self.old.items ++ values.items) self.new.items }
+        ensures { self.new.items ≡ self.old.items ++ values.items }
     {
         let mut values = values;
+        values.reverse();
         while let Some(value) = values.pop() {
             self.push_reserved(value);
         }

@@ -13,6 +13,7 @@ use Rattle.nv_claimcore.specs.Claims.{times, below}
 use Rattle.nv_scan.specs.Tickets.{ticket_count}
 use Rattle.nv_scan.specs.Work.{numbers_in, claims_in, ArePiecesOf}
 use Rattle.nv_scan.specs.declared.inodes.Inodes.{Inodes}
+use Rattle.nv_scan.specs.declared.inodes.ListedInodes.{ListedInodes}
 use Rattle.nv_scan.specs.declared.piece.Row.{Row}
 use Rattle.nv_scan.specs.declared.piece.Piece.{Piece}
 use Rattle.nv_scan.proofs.Drawn.{all_times}
@@ -113,14 +114,15 @@ tickets_in_order R s tickets pieces layout are drawn =
     }
 
 -- The inodes of all tickets, in the order of inodes.
-pub first_in_order : {R : Region} {s : Super} {n : ℕ} {ps : List Piece} {x : Inodes} → IsLayout s → n ≡ ticket_count s → AreFirst R s n ps x → (order : AreInOrder R s ps) × AreInodes R s order.sorted x
-first_in_order {R} {s} {n} {ps} {x} layout all first =
+pub first_in_order : {R : Region} {s : Super} {n : ℕ} {ps : List Piece} {x : Inodes} {y : ListedInodes} → IsLayout s → n ≡ ticket_count s → AreFirst R s n ps x → y.rows.items ≡ x.rows.items → y.faults.items ≡ x.faults.items
+    → (order : AreInOrder R s ps) × AreInodes R s order.sorted y
+first_in_order {R} {s} {n} {ps} {x} {y} layout all first rows faults =
     let are = subst (λ (m : ℕ). ArePiecesOf R s (numbers_in s (range_with_len 0 m)) ps) all first.are in
     let order = tickets_in_order R s (range_with_len 0 (ticket_count s)) ps layout are (all_times (ticket_count s)) in (
       order,
       record {
         pieces_are = order.pieces_are;
-        rows = subst (IsPermutation (rows_in order.sorted)) (sym first.rows) order.rows;
-        faults = subst (IsPermutation (faults_in order.sorted)) (sym first.faults) order.faults;
+        rows = subst (IsPermutation (rows_in order.sorted)) (sym (rows ∙ first.rows)) order.rows;
+        faults = subst (IsPermutation (faults_in order.sorted)) (sym (faults ∙ first.faults)) order.faults;
       },
     )

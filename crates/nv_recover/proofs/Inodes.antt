@@ -15,7 +15,7 @@ use Rattle.nv_outcome.specs.Parts.{rows_in}
 use Rattle.nv_outcome.proofs.RowsOf.{rows_are}
 use Rattle.nv_outcome.proofs.nv_rows.InOrder.{moved_given}
 use Rattle.nv_outcome.proofs.Tickets.{slot_number}
-use Rattle.nv_scan.specs.declared.inodes.Inodes.{Inodes}
+use Rattle.nv_scan.specs.declared.inodes.ListedInodes.{ListedInodes}
 use Rattle.nv_recover.specs.Scanned.{AreInodes, AreApart}
 
 -- ---- all rows
@@ -23,7 +23,7 @@ use Rattle.nv_recover.specs.Scanned.{AreInodes, AreApart}
 numbered : (s : Super) (i : ℕ) → 0 < i → i < inode_limit s → IsTrue (is_number s i)
 numbered s i some below = grind (arith, nat_tests)
 
-pub rows_apart : {R : Region} {s : Super} {pieces : List Piece} {x : Inodes} → IsLayout s → AreInodes R s pieces x → (rows : List Row) → rows ≡ x.rows.items → AreApart s rows
+pub rows_apart : {R : Region} {s : Super} {pieces : List Piece} {x : ListedInodes} → IsLayout s → AreInodes R s pieces x → (rows : List Row) → rows ≡ x.rows.items → AreApart s rows
 rows_apart {R} {s} {pieces} {x} layout inodes rows same = subst (AreApart s) (sym same) record {
   apart = moved_given (inode_limit s) (rows_in pieces) x.rows.items are.rising (λ row c. (number row c).1) inodes.rows;
   numbers = All-permutation (λ (r : Row). IsTrue (is_number s r.inode)) (rows_in pieces) x.rows.items inodes.rows (λ k d less. (

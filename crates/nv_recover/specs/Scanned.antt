@@ -15,6 +15,7 @@ use Rattle.nv_claimmap.specs.declared.map.Claimed.{Claimed}
 use Rattle.nv_scan.specs.Rows.{IsPiece}
 use Rattle.nv_scan.specs.Work.{numbers_in, claims_in, ArePiecesOf}
 use Rattle.nv_scan.specs.declared.inodes.Inodes.{Inodes}
+use Rattle.nv_scan.specs.declared.inodes.ListedInodes.{ListedInodes}
 use Rattle.nv_scan.specs.declared.piece.Row.{Row}
 use Rattle.nv_scan.specs.declared.piece.Piece.{Piece}
 use Rattle.nv_outcome.specs.nv_rows.nv_numbered.Values.{AreNumbersBelow}
@@ -27,7 +28,7 @@ use Rattle.nv_recover.specs.declared.scanned.Scanned.{Scanned}
 -- ---- the inodes by themselves
 
 -- The pieces are those of all inodes of the region; kept are their rows and their faults, in any order.
-pub record AreInodes (R : Region) (s : Super) (pieces : List Piece) (x : Inodes) : Type 0 where
+pub record AreInodes (R : Region) (s : Super) (pieces : List Piece) (x : ListedInodes) : Type 0 where
   pub pieces_are : ArePieces R (fixed_layout s) pieces
   pub rows : IsPermutation (rows_in pieces) x.rows.items
   pub faults : IsPermutation (faults_in pieces) x.faults.items

@@ -24,9 +24,12 @@ use crate::finishing::finish;
 use crate::scanned::Scanned;
 use crate::sets::Sets;
 use crate::starting::start;
+use nv_numbered::Chunks;
 use nv_outcome::{Recovered, cross_faults_one};
 use nv_region::Pmem;
-use nv_scan::{Inodes, Scanner, room_for_ticket, scan_slots, ticket_count};
+use nv_scan::{
+    Inodes, ListedInodes, Scanner, push_heads, room_for_ticket, scan_slots, ticket_count,
+};
 use nv_super::Super;
 use std::alloc::{AllocError, Global};
 
@@ -72,7 +75,7 @@ fn scan_all<P: Pmem>(alloc: Global, memory: &P, sup: &Super) -> Result<Scanned, 
     ensures { IfOk result (IsScanned (P.region memory.now) sup.now) }
 {
     let (inodes, sets) = scan_tickets(alloc, memory, sup)?;
-    let owned = sets.owned(alloc, sup, &inodes.rows)?;
+    let owned = sets.owned(alloc, sup, inodes.rows.as_rows())?;
     let cross = cross_faults_one(alloc, sup, &inodes.rows)?;
     Ok(Scanned {
         inodes,
@@ -86,18 +89,20 @@ fn scan_tickets<P: Pmem>(
     alloc: Global,
     memory: &P,
     sup: &Super,
-) -> Result<(Inodes, Sets), AllocError>
+) -> Result<(ListedInodes, Sets), AllocError>
     requires layout { IsLayout sup.now }
     requires blocks { HasBlocks (P.region memory.now) sup.now.blocks }
     ensures { IfOk result (λ r. (pieces drawn : List Piece) × AreInodes (P.region memory.now) sup.now pieces r.0 × IsPermutation (claims_in pieces) (claims_in drawn) × AreSetsOf (P.region memory.now) sup.now drawn r.0.rows.items r.1.first.items r.1.second.items) }
 {
     let mut scanner = Scanner::new(alloc, sup);
     let mut inodes = Inodes::new(alloc);
+    let mut heads = Chunks::new(alloc);
     let mut each = room_for_ticket(alloc)?;
     let mut sets = Sets::new(alloc, sup)?;
     for ticket in 0..ticket_count(sup) {
         let count = scan_slots(memory, &mut scanner, &mut inodes, &mut each, ticket)?;
+        push_heads(&mut heads, &inodes.rows)?;
         sets.claim_each(&each[..count]);
     }
-    Ok((inodes, sets))
+    Ok((inodes.with_heads(heads), sets))
 }

@@ -28,9 +28,12 @@ use crate::sets::owned_of;
 use crate::starting::{is_worker_count, start};
 use nv_claimcore::{ClaimState, CoreRefusal, replay};
 use nv_claimmap::Claimed;
+use nv_numbered::Chunks;
 use nv_outcome::{Recovered, cross_faults_one};
 use nv_region::Pmem;
-use nv_scan::{Claims, Inodes, Scanner, room_for_ticket, scan_slots, ticket_count};
+use nv_scan::{
+    Claims, Inodes, ListedInodes, Scanner, push_heads, room_for_ticket, scan_slots, ticket_count,
+};
 use nv_super::{Owner, Super};
 use std::alloc::{AllocError, Global};
 
@@ -108,7 +111,7 @@ fn scan_apart<P: Pmem>(
     alloc: Global,
     memory: &P,
     sup: &Super,
-) -> Result<(Inodes, Vec<Vec<(u64, Owner)>>), AllocError>
+) -> Result<(ListedInodes, Vec<Vec<(u64, Owner)>>), AllocError>
     requires layout { IsLayout sup.now }
     requires blocks { HasBlocks (P.region memory.now) sup.now.blocks }
     ensures inodes { IfOk result (λ r. (pieces : List PieceValue) × AreInodes (P.region memory.now) sup.now pieces r.0 × IsPermutation (claims_in pieces) (all_claims r.1.items)) }
@@ -116,14 +119,16 @@ fn scan_apart<P: Pmem>(
 {
     let mut scanner = Scanner::new(alloc, sup);
     let mut inodes = Inodes::new(alloc);
+    let mut heads = Chunks::new(alloc);
     let mut each = room_for_ticket(alloc)?;
     let mut work = Vec::new(alloc);
     for ticket in 0..ticket_count(sup) {
         let count = scan_slots(memory, &mut scanner, &mut inodes, &mut each, ticket)?;
+        push_heads(&mut heads, &inodes.rows)?;
         let list = list_of(alloc, &each[..count])?;
         work.push(list)?;
     }
-    Ok((inodes, work))
+    Ok((inodes.with_heads(heads), work))
 }
 
 // The claims of several inodes in one list.

@@ -1,6 +1,6 @@
 //! What a scan of all inodes gives, whichever way it goes.
 
-use nv_scan::Inodes;
+use nv_scan::ListedInodes;
 use nv_super::{Fault, Owner};
 
 /// The blocks that are claimed, and all claims of those that are claimed twice or more, in order. Block b is bit `b % 64`
@@ -14,7 +14,7 @@ pub(crate) struct Owned {
 /// All inodes by themselves, the blocks that they own, and what is wrong between them.
 #[derive(Drop)]
 pub(crate) struct Scanned {
-    pub inodes: Inodes,
+    pub inodes: ListedInodes,
     pub owned: Owned,
     pub cross: Vec<Fault>,
 }

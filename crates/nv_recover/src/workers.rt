@@ -2,11 +2,11 @@
 
 ghost use Rattle.std.specs.Prelude.{◌≡◌, ◌<◌, ◌≤◌, ◌++◌, List, IfOk, OnOk, false, vec_len};
 ghost use Rattle.std.specs.List.{All};
-ghost use Rattle.std.specs.List.Sorted.{IsPermutation};
 ghost use Rattle.nv_region.specs.Region.{HasBlocks};
 ghost use Rattle.nv_super.specs.Layout.{IsLayout};
 ghost use Rattle.nv_claimcore.specs.Claims.{nothing, both_views};
 ghost use Rattle.nv_claimmap.specs.Held.{Held};
+ghost use Rattle.nv_numbered.specs.Chunked.{by_chunks};
 ghost use Rattle.nv_scan.specs.Tickets.{ticket_count};
 ghost use Rattle.nv_scan.specs.Work.{Returned};
 ghost use Rattle.nv_scan.specs.declared.piece.Piece.{Piece as PieceValue};
@@ -16,7 +16,7 @@ ghost use Rattle.nv_recover.specs.Workers.{IsBrought};
 use nv_claimcore::Sizes;
 use nv_claimmap::{ClaimMap, ClaimSeat, Claimed};
 use nv_region::Pmem;
-use nv_scan::{Gate, Inodes, WorkerResult, ticket_count, worker};
+use nv_scan::{Gate, ListedInodes, WorkerResult, ticket_count, worker};
 use nv_super::Super;
 use std::alloc::{AllocError, Global};
 use std::thread;
@@ -31,7 +31,7 @@ pub(crate) fn scan_by_workers<P: Pmem + Sync, G: Gate + Sync, H: Threads + Sync>
     sup: &Super,
     workers: u64,
     gate: &G,
-) -> Result<(Inodes, Claimed), AllocError>
+) -> Result<(ListedInodes, Claimed), AllocError>
     requires layout { IsLayout sup.now }
     requires blocks { HasBlocks (P.region memory.now) sup.now.blocks }
     requires workers { (0 < workers) × (workers ≤ 64) }
@@ -80,7 +80,7 @@ fn work_all<P: Pmem + Sync, G: Gate + Sync, H: Threads + Sync>(
 #[derive(Drop)]
 pub(crate) struct Brought {
     pub seat: ClaimSeat,
-    pub inodes: Inodes,
+    pub inodes: ListedInodes,
 }
 
 // Joins the seats, and puts what was scanned together.
@@ -108,7 +108,7 @@ fn join_all<P: Pmem>(
 fn join_next(
     map: &ClaimMap,
     seat: ClaimSeat,
-    inodes: &mut Inodes,
+    inodes: &mut ListedInodes,
     work: WorkerResult,
 ) -> Result<ClaimSeat, AllocError>
     requires own { seat.map ≡ map.now }
@@ -116,7 +116,7 @@ fn join_next(
     ensures whole { IfOk result (λ _. work.refused ≡ false) }
     ensures map { IfOk result (λ both. both.map ≡ seat.map) }
     ensures view { IfOk result (λ both. both.view ≡ both_views seat.view work.seat.view) }
-    ensures rows { OnOk result (IsPermutation (inodes.old.rows.items ++ work.rows.items) inodes.new.rows.items) }
+    ensures rows { OnOk result (inodes.new.rows.items ≡ by_chunks inodes.old.rows.items work.rows.items) }
     ensures faults { OnOk result (inodes.new.faults.items ≡ inodes.old.faults.items ++ work.faults.items) }
 {
     let (other, more) = take_apart(work)?;
@@ -128,7 +128,7 @@ fn join_next(
 }
 
 // A worker's seat, and what it scanned. A refused worker's work isn't whole, so there is no answer then.
-fn take_apart(work: WorkerResult) -> Result<(ClaimSeat, Inodes), AllocError>
+fn take_apart(work: WorkerResult) -> Result<(ClaimSeat, ListedInodes), AllocError>
     ensures whole { IfOk result (λ _. work.refused ≡ false) }
     ensures seat { IfOk result (λ r. r.0 ≡ work.seat) }
     ensures rows { IfOk result (λ r. r.1.rows ≡ work.rows) }
@@ -143,5 +143,5 @@ fn take_apart(work: WorkerResult) -> Result<(ClaimSeat, Inodes), AllocError>
         faults,
         refused: _,
     } = work;
-    Ok((seat, Inodes { rows, faults }))
+    Ok((seat, ListedInodes { rows, faults }))
 }

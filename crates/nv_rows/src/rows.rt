@@ -12,9 +12,9 @@ ghost use Rattle.nv_rows.specs.Unused.{unused_number};
 
 use nv_blockset::{first_clear, words_for};
 use nv_names::NameIndex;
-use nv_numbered::{Chunks, Iter, Numbered};
+use nv_numbered::{Iter, Numbered};
 use nv_radix::FileIndex;
-use nv_scan::{LogPages, Numbers, Row, SLOTS};
+use nv_scan::{LogPages, Numbers, Row, RowList, SLOTS};
 use nv_super::{Kind, Super};
 use std::alloc::{AllocError, Global};
 use std::marker::Model;
@@ -63,15 +63,14 @@ fn blank_row(alloc: Global, inode: u64) -> Row
 }
 
 // The number of each row.
-fn numbers_of(alloc: Global, rows: &Chunks<Row>) -> Result<Vec<u32>, AllocError>
+fn numbers_of(alloc: Global, rows: &RowList) -> Result<Vec<u32>, AllocError>
     requires { All (λ (row : RowValue). row.inode < 2 ^ 32) rows.now.items }
     ensures { IfOk result (λ numbers. numbers.items ≡ inodes_of rows.now.items) }
 {
     let count = rows.len();
     let mut numbers = Vec::with_capacity(alloc, count)?;
     for place in 0..count {
-        let row = rows.at(place);
-        numbers.push(row.inode as u32)?;
+        numbers.push(rows.head(place).inode as u32)?;
     }
     Ok(numbers)
 }
@@ -99,8 +98,8 @@ fn used_by(alloc: Global, sup: &Super, numbers: &[u32]) -> Result<Vec<u64>, Allo
 }
 
 impl Rows {
-    /// Rows that came in any order, for the inodes of a file system. It moves none of them.
-    pub fn from_rows(alloc: Global, rows: Chunks<Row>, sup: &Super) -> Result<Rows, AllocError>
+    /// Rows that came in any order, for the inodes of a file system. It moves none of them, and reads their heads alone.
+    pub fn from_rows(alloc: Global, rows: RowList, sup: &Super) -> Result<Rows, AllocError>
         requires layout { IsLayout sup.now }
         requires numbers { AreNumbersBelow (inode_limit sup.now) (inodes_of rows.items) }
         ensures rows { IfOk result (λ r. SortedOf row_key rows.items r.items) }
@@ -109,7 +108,7 @@ impl Rows {
         let numbers = numbers_of(alloc, &rows)?;
         let used = used_by(alloc, sup, &numbers)?;
         Ok(Rows {
-            rows: Numbered::from_values(alloc, rows, numbers, sup.inode_limit())?,
+            rows: Numbered::from_values(alloc, rows.into_rows(), numbers, sup.inode_limit())?,
             used,
             sup: *sup,
         })

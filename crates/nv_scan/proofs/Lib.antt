@@ -22,3 +22,4 @@ pub mod Drawn
 pub mod Work
 pub mod RowKeys
 pub mod RowClaims
+pub mod RowHeads

@@ -17,3 +17,4 @@ pub mod Claiming
 pub mod Light
 pub use Rattle.nv_logpage.specs as nv_logpage
 pub use Rattle.nv_claimmap.specs.nv_claimcore
+pub mod Heads

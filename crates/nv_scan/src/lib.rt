@@ -17,13 +17,14 @@ mod numbers;
 mod pages;
 mod piece;
 mod reading;
+mod row_list;
 mod scan;
 mod tickets;
 mod touching;
 mod working;
 
 pub use claims::{Claims, claims_of_rows};
-pub use inodes::Inodes;
+pub use inodes::{Inodes, ListedInodes};
 pub use laws::{
     directories_have_no_pages, files_have_no_names, in_use_by_the_slot, inode_alone,
     mapped_pages_begin_below_the_size, names_are_listed, one_block, one_inode,
@@ -31,6 +32,7 @@ pub use laws::{
 };
 pub use numbers::Numbers;
 pub use piece::{LogPages, Piece, Row};
+pub use row_list::{RowHead, RowList, push_heads};
 pub use scan::{Scanner, scan_slot};
 pub use tickets::{SLOTS, ticket_count};
 pub use working::{Gate, NoGate, WorkerResult, room_for_ticket, scan_slots, worker};

@@ -9,8 +9,8 @@ ghost use Rattle.nv_scan.specs.Work.{AreNext, IsAllWork, IsDone, Returned, claim
 
 use crate::claiming::claim_each;
 use crate::claims::Claims;
-use crate::inodes::Inodes;
-use crate::piece::Row;
+use crate::inodes::{Inodes, ListedInodes};
+use crate::row_list::{RowList, push_heads};
 use crate::scan::Scanner;
 use crate::tickets::SLOTS;
 use nv_claimmap::{ClaimMap, ClaimSeat};
@@ -39,7 +39,7 @@ pub struct WorkerResult {
     /// The seat that it worked by, in every case.
     pub seat: ClaimSeat,
     /// The rows of its tickets' inodes, in the order of the draws; none where it was refused memory.
-    pub rows: Chunks<Row>,
+    pub rows: RowList,
     /// What is wrong with each of these inodes by itself, in that order; nothing where it was refused memory.
     pub faults: Vec<Fault>,
     /// Memory was refused, so the work isn't whole.
@@ -67,18 +67,9 @@ pub fn worker<P: Pmem, G: Gate>(
     ensures number { result.seat.number ≡ seat.number }
     ensures refused { IsTrue result.refused → (result.rows.items ≡ []) × (result.faults.items ≡ []) }
 {
-    let mut inodes = Inodes::new(alloc);
     let mut scanner = Scanner::new(alloc, sup);
-    match draw_all(
-        alloc,
-        memory,
-        &mut scanner,
-        map,
-        &mut seat,
-        gate,
-        &mut inodes,
-    ) {
-        Ok(()) => WorkerResult {
+    match draw_all(alloc, memory, &mut scanner, map, &mut seat, gate) {
+        Ok(inodes) => WorkerResult {
             seat,
             rows: inodes.rows,
             faults: inodes.faults,
@@ -86,14 +77,14 @@ pub fn worker<P: Pmem, G: Gate>(
         },
         Err(AllocError) => WorkerResult {
             seat,
-            rows: Chunks::new(alloc),
+            rows: RowList::new(alloc),
             faults: Vec::new(alloc),
             refused: true,
         },
     }
 }
 
-/// Does the work of one ticket after another until none is left.
+/// Does the work of one ticket after another until none is left, and answers the inodes of all.
 fn draw_all<P: Pmem, G: Gate>(
     alloc: Global,
     memory: &P,
@@ -101,22 +92,24 @@ fn draw_all<P: Pmem, G: Gate>(
     map: &ClaimMap,
     seat: &mut ClaimSeat,
     gate: &G,
-    inodes: &mut Inodes,
-) -> Result<(), AllocError>
+) -> Result<ListedInodes, AllocError>
     requires layout { IsLayout scanner.old }
     requires blocks { HasBlocks (P.region memory.now) scanner.old.blocks }
     requires own { (seat.old.map ≡ map.now) × (seat.old.view ≡ nothing 1) }
     requires sizes { (map.now.sizes.blocks ≡ scanner.old.blocks) × (map.now.sizes.tickets ≡ ticket_count scanner.old) }
-    requires none { (inodes.old.rows.items ≡ []) × (inodes.old.faults.items ≡ []) }
     ensures seat { (seat.new.map ≡ map.now) × (seat.new.number ≡ seat.old.number) × (seat.new.view.seats ≡ 1) }
-    ensures done { OnOk result (IsAllWork (P.region memory.now) scanner.old seat.new.view inodes.new.rows.items inodes.new.faults.items) }
+    ensures done { IfOk result (λ inodes. IsAllWork (P.region memory.now) scanner.old seat.new.view inodes.rows.items inodes.faults.items) }
 {
+    let mut inodes = Inodes::new(alloc);
+    let mut heads = Chunks::new(alloc);
     let mut each = room_for_ticket(alloc)?;
     while let Some(ticket) = map.draw(seat) {
         gate.enter(seat.number(), ticket);
-        scan_ticket(memory, scanner, map, seat, inodes, &mut each, ticket)?;
+        scan_ticket(memory, scanner, map, seat, &mut inodes, &mut each, ticket)?;
+        // Now, while the ticket's rows are in the processor's cache.
+        push_heads(&mut heads, &inodes.rows)?;
     }
-    Ok(())
+    Ok(inodes.with_heads(heads))
 }
 
 /// Does the work of one ticket: the inodes of its table block are scanned, their rows and faults are kept, and what they own

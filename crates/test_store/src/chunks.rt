@@ -65,21 +65,38 @@ fn the_last_value_comes_to_the_place_of_a_removed_one(rt: HostRuntime) -> Result
     Ok(())
 }
 
-fn sum_of(values: &Chunks<u64>) -> u64 {
-    let mut sum = 0u64;
-    for place in 0..values.len() {
-        sum = sum.wrapping_add(*values.at(place));
-    }
-    sum
-}
+/// The second list's full chunks of 256 values, the first list, and then the second's rest.
+const JOINED: [Place; 7] = [
+    (0, Some(300)),
+    (511, Some(811)),
+    (512, Some(0)),
+    (811, Some(299)),
+    (812, Some(812)),
+    (999, Some(999)),
+    (1000, None),
+];
 
-// In which order isn't told.
 #[test]
-fn a_list_has_the_values_that_joined_it(rt: HostRuntime) -> Result<(), AllocError> {
+fn full_chunks_come_in_front_of_the_list_that_they_join(rt: HostRuntime) -> Result<(), AllocError> {
     let mut values = numbers(rt.alloc(), 0, 300)?;
     values.append(numbers(rt.alloc(), 300, 1000)?)?;
-    check(&rt, values.len() == 1000, "how many values");
-    check(&rt, sum_of(&values) == 499500, "their sum");
+    assert_values(&rt, &values, 1000, &JOINED);
+    Ok(())
+}
+
+/// The first list, and then the second, which has no full chunk.
+const BEHIND: [Place; 4] = [
+    (299, Some(299)),
+    (300, Some(300)),
+    (554, Some(554)),
+    (555, None),
+];
+
+#[test]
+fn fewer_values_than_fill_a_chunk_come_behind(rt: HostRuntime) -> Result<(), AllocError> {
+    let mut values = numbers(rt.alloc(), 0, 300)?;
+    values.append(numbers(rt.alloc(), 300, 555)?)?;
+    assert_values(&rt, &values, 555, &BEHIND);
     Ok(())
 }
 

@@ -5,6 +5,7 @@ use crate::small::SMALL;
 use nv_check::{cross_faults, cross_faults_one, doubled};
 use nv_names::NameIndex;
 use nv_numbered::Chunks;
+use nv_scan::RowList;
 use nv_super::{Fault, Kind, Owner};
 use std::alloc::{AllocError, Global};
 use std::process::Abort;
@@ -51,6 +52,7 @@ fn faults_between_four_rows(rt: HostRuntime) -> Result<(), AllocError> {
     rows.push(row(alloc, 1, Kind::Directory, 1, names))?;
     rows.push(row(alloc, 4, Kind::Directory, 1, names_of_4))?;
     rows.push(row(alloc, 2, Kind::File, 2, NameIndex::new(alloc)))?;
+    let rows = RowList::of(alloc, rows)?;
     let one = cross_faults_one(alloc, &SMALL, &rows)?;
     assert_faults(&rt, &one);
     let threads = cross_faults(&rt, alloc, &SMALL, &rows)?;

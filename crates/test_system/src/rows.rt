@@ -8,7 +8,7 @@ use nv_names::NameIndex;
 use nv_numbered::Chunks;
 use nv_radix::FileIndex;
 use nv_recover::Rows;
-use nv_scan::{LogPages, Numbers, Row};
+use nv_scan::{LogPages, Numbers, Row, RowList};
 use nv_super::Kind;
 use std::alloc::{AllocError, Global};
 use std::process::Abort;
@@ -49,7 +49,7 @@ fn two_files(alloc: Global) -> Result<Rows, AllocError>
     let mut rows = Chunks::new(alloc);
     rows.push(file(alloc, 4))?;
     rows.push(file(alloc, 2))?;
-    Rows::from_rows(alloc, rows, &SMALL)
+    Rows::from_rows(alloc, RowList::of(alloc, rows)?, &SMALL)
 }
 
 /// Puts in the row of a file, where its number has none.

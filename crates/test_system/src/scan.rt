@@ -9,7 +9,7 @@ use nv_names::Target;
 use nv_numbered::Chunks;
 use nv_region::MemRegion;
 use nv_scan::{
-    Claims, Inodes, NoGate, Numbers, Piece, Row, Scanner, directories_have_no_pages,
+    Claims, Inodes, NoGate, Numbers, Piece, Row, RowList, Scanner, directories_have_no_pages,
     files_have_no_names, in_use_by_the_slot, inode_alone, mapped_pages_begin_below_the_size,
     names_are_listed, one_block, one_inode, owned_blocks_are_data_blocks, scan_slot, ticket_count,
     tickets_are_table_blocks, worker,
@@ -361,7 +361,8 @@ fn a_scanner_reads_a_log_again(rt: HostRuntime) -> Result<(), Fail> {
 }
 
 /// The rows of inodes 1 and 2.
-fn are_two(rows: &Chunks<Row>) -> bool {
+fn are_two(list: &RowList) -> bool {
+    let rows = list.as_rows();
     match (rows.get(0), rows.get(1)) {
         (Some(one), Some(two)) => {
             rows.len() == 2

@@ -11,15 +11,15 @@ use Rattle.nv_check.proofs.listing.push_listings.Goals as goal
 pub loop-place-init : goal.loop-place-init
 loop-place-init c = subst (λ (ls : List Listing). AreListings [] ls) (sym c.requires) tt
 
-pub at-requires : goal.at-requires
-at-requires c = subst (λ n. c.loop-place.place < n) c.len-place-end.ensures c.loop-place-test.true
+pub push_listing-requires : goal.push_listing-requires
+push_listing-requires c = subst (λ n. c.loop-place.place < n) c.len-place-end.ensures c.loop-place-test.true
 
 pub loop-place-preserved : goal.loop-place-preserved
 loop-place-preserved c =
     let within = subst (λ n. c.loop-place.place < n) c.len-place-end.ensures c.loop-place-test.true in
-    let read = get_or_from_slice_get c.args.rows.now.items c.loop-place.place c.at.result.now c.at.result.now c.at.ensures in
     let w = c.in_ok-push_listing.ensures in
-    listed_more _ _ _ _ _ _ within (sym read) c.loop-place.invariant w.1 w.2
+    let read = get_or_from_slice_get c.args.rows.now.items c.loop-place.place w.0 w.0 w.1 in
+    listed_more _ _ _ _ _ _ within (sym read) c.loop-place.invariant w.2.1 w.2.2
 
 pub returns-in_err-push_listing : goal.returns-in_err-push_listing
 returns-in_err-push_listing c = IfOk-from_err c.from_residual.result _ c.from_residual.ensures.0

@@ -1,4 +1,4 @@
-use Rattle.std.proofs.Common.{◌≤◌, ◌<◌, ◌*◌, ◌++◌, [], ℕ, List, take, sym, ap, ◌∙◌, subst}
+use Rattle.std.proofs.Common.{refl, ◌≤◌, ◌<◌, ◌*◌, ◌++◌, [], ℕ, List, take, sym, ap, ◌∙◌, subst}
 use Rattle.std.specs.List.{All}
 use Rattle.nv_region.specs.Region.{HasBlocks}
 use Rattle.nv_super.specs.declared.superblock.Super.{Super}
@@ -6,7 +6,8 @@ use Rattle.nv_super.specs.declared.owners.Owner.{Owner}
 use Rattle.nv_super.specs.Layout.{IsLayout}
 use Rattle.nv_scan.specs.ClaimList.{ClaimList}
 use Rattle.nv_scan.specs.Tickets.{ticket_count, numbers_of}
-use Rattle.nv_scan.specs.Work.{AreNext, claims_among, claims_in}
+use Rattle.nv_scan.specs.Work.{AreNext, claims_among, claims_in, rows_in}
+use Rattle.nv_scan.proofs.RowHeads.{heads_first}
 use Rattle.nv_scan.proofs.Work.{claims_join}
 use Rattle.nv_outcome.specs.Parts.{AreMaps}
 use Rattle.nv_recover.specs.Scanned.{AreWithin, Fits}
@@ -23,6 +24,7 @@ loop-ticket-init g c = record {
   room = c.in_ok-each.ensures;
   first = ([], first_none c.new-inodes.ensures.rows c.new-inodes.ensures.faults, c.in_ok-sets.ensures.maps);
   cover = c.in_ok-sets.ensures.cover;
+  heads = rw (c.new-heads.ensures, c.new-inodes.ensures.rows) refl;
 }
 
 pub scan_slots-requires-clause-layout : goal.scan_slots-requires-clause-layout
@@ -35,6 +37,12 @@ pub scan_slots-requires-clause-ticket : goal.scan_slots-requires-clause-ticket
 scan_slots-requires-clause-ticket g c =
     let t = c.loop-ticket.ticket in
     subst (λ (s : Super). t < ticket_count s) (sym c.loop-ticket.invariant.same) (subst (λ (n : ℕ). t < n) c.ticket_count-ticket-end.ensures c.loop-ticket-test.true)
+
+pub push_heads-requires : goal.push_heads-requires
+push_heads-requires g c =
+    let l = c.loop-ticket in
+    let next = c.in_ok-count.ensures.next in
+    heads_first l.heads.items l.inodes.rows.items (rows_in next.pieces) c.scan_slots.new.inodes.rows.items l.invariant.heads next.rows
 
 pub claim_each-requires : goal.claim_each-requires
 claim_each-requires g c =
@@ -69,11 +77,12 @@ loop-ticket-preserved g c =
         subst (λ (claims : List (ℕ × Owner)). AreMaps claims c.claim_each.new.self.first.items c.claim_each.new.self.second.items) claims (c.claim_each.ensures.maps (claims_in pieces) l.invariant.first.2),
       );
       cover = (subst (λ (n : ℕ). s.blocks ≤ 64 * n) (sym long.0) cover.0, subst (λ (n : ℕ). s.blocks ≤ 64 * n) (sym long.1) cover.1);
+      heads = c.in_ok-push_heads.ensures;
     }
 
 pub returns : goal.returns
 returns g c =
     let l = c.loop-ticket in
     let first = l.invariant.first.1 in
-    let is = first_in_order c.requires.layout (ended_at c.ticket_count-ticket-end.ensures c.loop-ticket-test.false l.auto.ticket-end) first in
-    (is.0.sorted, l.invariant.first.0, is.1, is.0.claims, record { each = first.are.each; rows_are = first.rows; maps = l.invariant.first.2; cover = l.invariant.cover })
+    let is = first_in_order c.requires.layout (ended_at c.ticket_count-ticket-end.ensures c.loop-ticket-test.false l.auto.ticket-end) first c.with_heads.ensures.rows c.with_heads.ensures.faults in
+    (is.0.sorted, l.invariant.first.0, is.1, is.0.claims, record { each = first.are.each; rows_are = c.with_heads.ensures.rows ∙ first.rows; maps = l.invariant.first.2; cover = l.invariant.cover })

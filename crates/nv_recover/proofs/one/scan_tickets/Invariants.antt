@@ -1,4 +1,5 @@
 use Rattle.std.proofs.Common.{◌≡◌, List, length}
+use Rattle.nv_scan.specs.Heads.{heads_of}
 use Rattle.nv_scan.specs.Work.{claims_in}
 use Rattle.nv_scan.specs.declared.piece.Piece.{Piece}
 use Rattle.nv_outcome.specs.Parts.{AreMaps}
@@ -10,5 +11,6 @@ invariant-loop-ticket g l = record {
   same : l.scanner ≡ l.sup;
   room : length l.each.items ≡ 32;
   first : (pieces : List Piece) × AreFirst (g.P.Pmem.region l.memory) l.sup l.ticket pieces l.inodes × AreMaps (claims_in pieces) l.sets.first.items l.sets.second.items;
+  heads : l.heads.items ≡ heads_of l.inodes.rows.items;
   cover : Cover l.sup l.sets.first.items l.sets.second.items;
 }

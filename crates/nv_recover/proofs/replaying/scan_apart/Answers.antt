@@ -1,11 +1,12 @@
-use Rattle.std.proofs.Common.{◌<◌, ◌∙◌, ℕ, sym, subst, List, ap, take, ◌≡◌}
+use Rattle.std.proofs.Common.{refl, ◌<◌, ◌∙◌, ℕ, sym, subst, List, ap, take, ◌≡◌}
 use Rattle.std.specs.List.Sorted.{IsPermutation}
 use Rattle.nv_region.specs.Region.{HasBlocks}
 use Rattle.nv_super.specs.declared.superblock.Super.{Super}
 use Rattle.nv_scan.specs.Tickets.{ticket_count, numbers_of}
 use Rattle.nv_super.specs.Layout.{IsLayout}
 use Rattle.nv_scan.specs.ClaimList.{ClaimList}
-use Rattle.nv_scan.specs.Work.{claims_among, claims_in, AreNext}
+use Rattle.nv_scan.specs.Work.{claims_among, claims_in, rows_in, AreNext}
+use Rattle.nv_scan.proofs.RowHeads.{heads_first}
 use Rattle.nv_recover.proofs.Inodes.{ended_at}
 use Rattle.nv_recover.proofs.InOrder.{first_in_order}
 use Rattle.nv_recover.proofs.Tickets.{tickets_none, tickets_more}
@@ -16,7 +17,14 @@ loop-ticket-init g c = record {
   same = c.new-scanner.ensures;
   room = c.in_ok-each.ensures;
   first = tickets_none c.new-inodes.ensures.rows c.new-inodes.ensures.faults c.new-work.ensures.items;
+  heads = rw (c.new-heads.ensures, c.new-inodes.ensures.rows) refl;
 }
+
+pub push_heads-requires : goal.push_heads-requires
+push_heads-requires g c =
+    let l = c.loop-ticket in
+    let next = c.in_ok-count.ensures.next in
+    heads_first l.heads.items l.inodes.rows.items (rows_in next.pieces) c.scan_slots.new.inodes.rows.items l.invariant.heads next.rows
 
 pub loop-ticket-preserved : goal.loop-ticket-preserved
 loop-ticket-preserved g c =
@@ -32,13 +40,14 @@ loop-ticket-preserved g c =
       room = c.scan_slots.ensures.room;
       first = tickets_more t c.in_ok-list.list l.invariant.first
           (subst (AreNext R c.args.sup.now (numbers_of c.args.sup.now t) l.inodes c.scan_slots.new.inodes) (sym same) next) c.in_ok-push.ensures.items;
+      heads = c.in_ok-push_heads.ensures;
     }
 
 pub returns-clause-inodes : goal.returns-clause-inodes
 returns-clause-inodes g c =
     let l = c.loop-ticket in
     let all = l.invariant.first in
-    let is = first_in_order c.requires.layout (ended_at c.ticket_count-ticket-end.ensures c.loop-ticket-test.false l.auto.ticket-end) all.first in
+    let is = first_in_order c.requires.layout (ended_at c.ticket_count-ticket-end.ensures c.loop-ticket-test.false l.auto.ticket-end) all.first c.with_heads.ensures.rows c.with_heads.ensures.faults in
     (is.0.sorted, is.1, subst (IsPermutation (claims_in is.0.sorted)) (sym all.claims_are) is.0.claims)
 
 pub returns-clause-tickets : goal.returns-clause-tickets

@@ -1,4 +1,5 @@
 use Rattle.std.proofs.Common.{◌≡◌, length}
+use Rattle.nv_scan.specs.Heads.{heads_of}
 use Rattle.nv_recover.specs.Scanned.{AreOfTickets}
 use Rattle.nv_recover.proofs.replaying.scan_apart.Given as goal
 
@@ -6,5 +7,6 @@ abbrev pub invariant-loop-ticket : goal.invariant-loop-ticket
 invariant-loop-ticket g l = record {
   same : l.scanner ≡ l.sup;
   room : length l.each.items ≡ 32;
+  heads : l.heads.items ≡ heads_of l.inodes.rows.items;
   first : AreOfTickets (g.P.Pmem.region l.memory) l.sup l.ticket l.inodes l.work.items;
 }

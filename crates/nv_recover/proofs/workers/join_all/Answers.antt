@@ -4,7 +4,8 @@ use Rattle.std.specs.declared.alloc.Global.{Global}
 use Rattle.std.specs.List.Sorted.{IsPermutation}
 use Rattle.std.proofs.lemmas.List.Elements.{All-pop}
 use Rattle.std.proofs.lemmas.List.Sorted.{IsPermutation-refl, IsPermutation-trans, IsPermutation-append_left}
-use Rattle.nv_numbered.specs.Chunked.{Chunked}
+use Rattle.nv_numbered.specs.Chunked.{Chunked, by_chunks}
+use Rattle.nv_numbered.proofs.ByChunks.{by_chunks-permutes}
 use Rattle.nv_region.specs.Region.{Region}
 use Rattle.nv_super.specs.declared.superblock.Super.{Super}
 use Rattle.nv_super.specs.declared.faults.Fault.{Fault}
@@ -28,12 +29,12 @@ kept_first {R} {s} {v} {w} {rows} {new} {faults} {after} one two three work = re
 }
 
 -- with the work of another seat, whose rows come among the others
-kept_more : {R : Region} {s : Super} {v u w : View} {rows more new : List Row} {faults others after : List Fault} → w ≡ both_views v u → IsPermutation (rows ++ more) new → after ≡ faults ++ others
+kept_more : {R : Region} {s : Super} {v u w : View} {rows more new : List Row} {faults others after : List Fault} → w ≡ both_views v u → new ≡ by_chunks rows more → after ≡ faults ++ others
     → IsKeptWork R s v rows faults → IsWork R s u more others → IsKeptWork R s w new after
 kept_more {R} {s} {v} {u} {w} {rows} {more} {new} {faults} {others} {after} one two three work next = record {
   listed = work.listed ++ more;
   work = subst (λ (z : View × List Fault). IsWork R s z.0 (work.listed ++ more) z.1) (sym (λ i. (one i, three i))) (work_joins R s v u work.listed more faults others work.work next);
-  kept = IsPermutation-trans (work.listed ++ more) (rows ++ more) new (IsPermutation-append_left more work.listed rows work.kept) two;
+  kept = IsPermutation-trans (work.listed ++ more) (rows ++ more) new (IsPermutation-append_left more work.listed rows work.kept) (subst (IsPermutation (rows ++ more)) (sym two) (by_chunks-permutes rows more));
 }
 
 items : {A : Type 0} {v w : Vec A Global} → v ≡ w → v.items ≡ w.items

@@ -1,6 +1,5 @@
-use Rattle.std.proofs.Common.{◌++◌, ap, ◌∙◌, subst}
-use Rattle.std.specs.List.Sorted.{IsPermutation}
-use Rattle.nv_numbered.specs.Chunked.{Chunked}
+use Rattle.std.proofs.Common.{◌≡◌, ◌++◌, ap, ◌∙◌, subst}
+use Rattle.nv_numbered.specs.Chunked.{Chunked, by_chunks}
 use Rattle.nv_claimcore.specs.Claims.{both_views}
 use Rattle.nv_claimmap.specs.Held.{Held}
 use Rattle.nv_scan.specs.declared.piece.Row.{Row}
@@ -14,7 +13,7 @@ returns-in-Ok-clause-view c = c.in-Ok.ensures.view ∙ ap (λ (h : Held). both_v
 
 pub returns-in-Ok-clause-rows : goal.returns-in-Ok-clause-rows
 returns-in-Ok-clause-rows c =
-    subst (λ (more : Chunked Row). IsPermutation (c.args.inodes.now.rows.items ++ more.items) c.append.new.self.rows.items) c.in_ok-other.ensures.rows c.in_ok-append.ensures.rows
+    subst (λ (more : Chunked Row). c.append.new.self.rows.items ≡ by_chunks c.args.inodes.now.rows.items more.items) c.in_ok-other.ensures.rows c.in_ok-append.ensures.rows
 
 pub returns-in-Ok-clause-faults : goal.returns-in-Ok-clause-faults
 returns-in-Ok-clause-faults c = c.in_ok-append.ensures.faults ∙ ap (λ v. c.args.inodes.now.faults.items ++ v.items) c.in_ok-other.ensures.faults

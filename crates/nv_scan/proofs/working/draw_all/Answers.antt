@@ -5,7 +5,8 @@ use Rattle.nv_super.specs.declared.superblock.Super.{Super}
 use Rattle.nv_claimmap.specs.nv_claimcore.declared.view.View.{View}
 use Rattle.nv_claimmap.specs.nv_claimcore.Claims.{past}
 use Rattle.nv_scan.specs.Tickets.{ticket_count, numbers_of}
-use Rattle.nv_scan.specs.Work.{IsWork, IsDone}
+use Rattle.nv_scan.specs.Work.{IsWork, IsDone, rows_in}
+use Rattle.nv_scan.proofs.RowHeads.{heads_first}
 use Rattle.nv_scan.proofs.Work.{work_none, work_past, work_more, nearer}
 use Rattle.nv_scan.proofs.working.draw_all.Goals as goal
 
@@ -16,7 +17,8 @@ loop-ticket-init g c = record {
   number = refl;
   seats = ap (λ (v : View). v.seats) c.requires.own.1;
   room = c.in_ok-each.ensures;
-  work = work_none (g.P.Pmem.region c.args.memory.now) c.args.scanner.now c.args.seat.now.view c.args.inodes.now.rows.items c.args.inodes.now.faults.items c.requires.own.1 c.requires.none.0 c.requires.none.1;
+  work = work_none (g.P.Pmem.region c.args.memory.now) c.args.scanner.now c.args.seat.now.view c.new-inodes.result.rows.items c.new-inodes.result.faults.items c.requires.own.1 c.new-inodes.ensures.rows c.new-inodes.ensures.faults;
+  heads = rw (c.new-heads.ensures, c.new-inodes.ensures.rows) refl;
 }
 
 pub scan_ticket-requires-clause-layout : goal.scan_ticket-requires-clause-layout
@@ -40,6 +42,11 @@ scan_ticket-requires-clause-ticket g c =
 pub scan_ticket-requires-clause-room : goal.scan_ticket-requires-clause-room
 scan_ticket-requires-clause-room g c = c.loop-ticket.invariant.room
 
+pub push_heads-requires : goal.push_heads-requires
+push_heads-requires g c =
+    let done = c.in_ok-scan_ticket.ensures.done in
+    heads_first c.loop-ticket.heads.items c.loop-ticket.inodes.rows.items (rows_in done.pieces) c.scan_ticket.new.inodes.rows.items c.loop-ticket.invariant.heads done.rows_are
+
 pub loop-ticket-smaller : goal.loop-ticket-smaller
 loop-ticket-smaller g c = let d = c.in-Some.ensures in
     nearer (g.P.Pmem.region c.args.memory.now) c.loop-ticket.scanner c.args.map.now.sizes.tickets c.in-Some.ticket (numbers_of c.loop-ticket.scanner c.in-Some.ticket) c.loop-ticket.seat.view c.draw.new.seat.view c.scan_ticket.new.seat.view
@@ -58,6 +65,7 @@ loop-ticket-preserved g c =
       number = c.scan_ticket.ensures.seat.1 ∙ d.number ∙ l.number;
       seats = c.scan_ticket.ensures.seat.2 ∙ ap (λ (x : View). x.seats) d.joins ∙ l.seats;
       room = c.scan_ticket.ensures.room;
+      heads = c.in_ok-push_heads.ensures;
       work = work_more R s v u w old new before after t l.work (subst (λ (n : ℕ). t < n) c.requires.sizes.1 d.some) d.joins (subst (λ (x : Super). IsDone R x (numbers_of x t) u w old new before after) l.scanner c.in_ok-scan_ticket.ensures.done);
     }
 
@@ -74,6 +82,7 @@ returns-clause-done g c =
     let l = c.loop-ticket.invariant in let d = c.in_default.ensures in
     let R = g.P.Pmem.region c.args.memory.now in let s = c.args.scanner.now in
     let v = c.loop-ticket.seat.view in let w = c.draw.new.seat.view in let rows = c.loop-ticket.inodes.rows.items in let faults = c.loop-ticket.inodes.faults.items in
+    rw (c.with_heads.ensures.rows, c.with_heads.ensures.faults)
     record {
       ended = subst (λ (n : ℕ). 0 < past n w.numbers) c.requires.sizes.1 d.none;
       work = ⊎_elim (λ same. subst (λ (x : View). IsWork R s x rows faults) (sym same) l.work)

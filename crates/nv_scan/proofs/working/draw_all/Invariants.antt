@@ -1,5 +1,6 @@
 use Rattle.std.proofs.Common.{◌≡◌, ◌-◌, length}
 use Rattle.nv_claimmap.specs.nv_claimcore.Claims.{above}
+use Rattle.nv_scan.specs.Heads.{heads_of}
 use Rattle.nv_scan.specs.Work.{IsWork}
 use Rattle.nv_scan.proofs.working.draw_all.Given as goal
 
@@ -10,6 +11,7 @@ invariant-loop-ticket g l = record {
   number : l.seat.number ≡ l.fn.seat.number;
   seats : l.seat.view.seats ≡ 1;
   room : length l.each.items ≡ 32;
+  heads : l.heads.items ≡ heads_of l.inodes.rows.items;
   work : IsWork (g.P.Pmem.region l.memory) l.fn.scanner l.seat.view l.inodes.rows.items l.inodes.faults.items;
 }
 

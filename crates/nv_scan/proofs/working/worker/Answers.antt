@@ -23,11 +23,11 @@ returns-in-Ok-clause-returned g c = let v = c.draw_all.new.seat.view in record {
   map = c.draw_all.ensures.seat.0;
   seats = c.draw_all.ensures.seat.2;
   ended = λ _. subst (λ (s : Super). 0 < past (ticket_count s) v.numbers) c.new-scanner.ensures c.in-Ok.ensures.done.ended;
-  work = λ _. subst (λ (s : Super). IsWork (g.P.Pmem.region c.args.memory.now) s v c.draw_all.new.inodes.rows.items c.draw_all.new.inodes.faults.items) c.new-scanner.ensures c.in-Ok.ensures.done.work;
+  work = λ _. subst (λ (s : Super). IsWork (g.P.Pmem.region c.args.memory.now) s v c.in-Ok.inodes.rows.items c.in-Ok.inodes.faults.items) c.new-scanner.ensures c.in-Ok.ensures.done.work;
 }
 
-pub returns-in-Err-clause-returned : goal.returns-in-Err-clause-returned
-returns-in-Err-clause-returned g c = record {
+pub returns-clause-returned : goal.returns-clause-returned
+returns-clause-returned g c = record {
   map = c.draw_all.ensures.seat.0;
   seats = c.draw_all.ensures.seat.2;
   ended = λ e. absurd (true≢false e);

@@ -16,7 +16,7 @@ once a b first second j (suc (suc k)) order inside same = absurd (omega (arith, 
 
 pub from_rows-requires-clause-numbers : goal.from_rows-requires-clause-numbers
 from_rows-requires-clause-numbers c =
-    rw (c.in_ok-push-2.ensures.ok, c.in_ok-push.ensures.ok, c.new-rows.ensures)
+    rw (c.in_ok-of.ensures, c.in_ok-push-2.ensures.ok, c.in_ok-push.ensures.ok, c.new-rows.ensures)
     (record {
       below = below c.file.result c.file-2.result c.file.ensures c.file-2.ensures;
       once = once c.file.result c.file-2.result c.file.ensures c.file-2.ensures;

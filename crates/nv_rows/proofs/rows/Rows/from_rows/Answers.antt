@@ -17,7 +17,7 @@ invariant_of-result c =
     let s = c.args.sup.now in
     let rows = c.args.rows.items in
     let slots = c.in_ok-from_values.field-0.slots in
-    let each = rw c.in_ok-numbers.ensures at c.in_ok-from_values.ensures.values in
+    let each = rw (c.in_ok-numbers.ensures, c.into_rows.ensures) at c.in_ok-from_values.ensures.values in
     record {
       layout = c.requires.layout;
       stand = given_stand rows slots each;
@@ -28,7 +28,7 @@ invariant_of-result c =
 pub returns-clause-rows : goal.returns-clause-rows
 returns-clause-rows c =
     given_sorted c.args.rows.items c.in_ok-from_values.field-0.slots
-    (rw c.in_ok-numbers.ensures at c.in_ok-from_values.ensures.values)
+    (rw (c.in_ok-numbers.ensures, c.into_rows.ensures) at c.in_ok-from_values.ensures.values)
 
 pub returns-in_err-numbers-clause-rows : goal.returns-in_err-numbers-clause-rows
 returns-in_err-numbers-clause-rows c = if_ok_err c.from_residual.result _ c.from_residual.ensures.0
@@ -62,7 +62,7 @@ pub from_values-requires-clause-limit : goal.from_values-requires-clause-limit
 from_values-requires-clause-limit c = subst (λ (limit : ℕ). limit < 2 ^ 32) (sym c.inode_limit.ensures) (few_inodes c.args.sup.now c.requires.layout.areas)
 
 pub from_values-requires-clause-as_many : goal.from_values-requires-clause-as_many
-from_values-requires-clause-as_many c = sym (ap length (c.in_ok-numbers.ensures) ∙ many_numbers c.args.rows.items)
+from_values-requires-clause-as_many c = ap length c.into_rows.ensures ∙ sym (ap length (c.in_ok-numbers.ensures) ∙ many_numbers c.args.rows.items)
 
 pub from_values-requires-clause-numbers : goal.from_values-requires-clause-numbers
 from_values-requires-clause-numbers c =
