@@ -1,7 +1,0 @@
--- What a contract sees of the claims of an inode.
-use Rattle.std.specs.Prelude.{ℕ, List}
-use Rattle.nv_super.specs.declared.owners.Owner.{Owner}
-
--- the blocks that it claims, each with its owner
-pub record ClaimList : Type 0 where
-  pub items : List (ℕ × Owner)
