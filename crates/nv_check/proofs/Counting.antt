@@ -71,14 +71,6 @@ filter_one test x false h = rw h refl
 filter_more : {A : Type 0} (test : A → Bool) (xs : List A) (i : ℕ) (d : A) (b : Bool) → i < length xs → test (get_or xs i d) ≡ b → filter test (take (i + 1) xs) ≡ filter test (take i xs) ++ cond b (get_or xs i d ∷ []) []
 filter_more {A} test xs i d b lt is = ap (filter test) (take_more xs i d lt) ∙ filter-append test (take i xs) (get_or xs i d ∷ []) ∙ ap (λ (ys : List A). filter test (take i xs) ++ ys) (filter_one test (get_or xs i d) b is)
 
--- one element more that passes
-pub passes : {A : Type 0} (test : A → Bool) (xs : List A) (i : ℕ) (d : A) (now new : List A) → i < length xs → test (get_or xs i d) ≡ true → new ≡ now ++ get_or xs i d ∷ [] → now ≡ filter test (take i xs) → new ≡ filter test (take (i + 1) xs)
-passes {A} test xs i d now new lt pass e h = e ∙ ap (λ (ys : List A). ys ++ get_or xs i d ∷ []) h ∙ sym (filter_more test xs i d true lt pass)
-
--- one more that doesn't
-pub stays : {A : Type 0} (test : A → Bool) (xs : List A) (i : ℕ) (d : A) (now new : List A) → i < length xs → test (get_or xs i d) ≡ false → new ≡ now → now ≡ filter test (take i xs) → new ≡ filter test (take (i + 1) xs)
-stays test xs i d now new lt fail e h = e ∙ h ∙ sym (append-nil (filter test (take i xs))) ∙ sym (filter_more test xs i d false lt fail)
-
 -- one element more of a copy
 pub copies : {A : Type 0} (xs : List A) (i : ℕ) (d : A) (old now new : List A) → i < length xs → new ≡ now ++ get_or xs i d ∷ [] → now ≡ old ++ take i xs → new ≡ old ++ take (i + 1) xs
 copies {A} xs i d old now new lt e h =

@@ -1,6 +1,6 @@
 //! Recovery whose claims are made in a written order, with no thread.
 
-ghost use Rattle.std.specs.Prelude.{◌≡◌, ◌*◌, ◌≢◌, ◌<◌, ℕ, List, Some, None, [], IfOk, IfErr, IsTrue, length};
+ghost use Rattle.std.specs.Prelude.{◌≡◌, ◌*◌, ◌≢◌, ◌<◌, ◌++◌, ℕ, List, Some, None, [], IfOk, IfErr, OnOk, IsTrue, length};
 ghost use Rattle.std.specs.List.Sorted.{IsPermutation};
 ghost use Rattle.nv_region.specs.Region.{HasBlocks};
 ghost use Rattle.nv_region.specs.Fuses.{KeepsFuse};
@@ -27,11 +27,11 @@ use crate::scanned::Scanned;
 use crate::sets::owned_of;
 use crate::starting::{is_worker_count, start};
 use nv_claimcore::{ClaimState, CoreRefusal, replay};
-use nv_claimmap::Claimed;
+use nv_claimmap::{Claimed, ClaimedRuns};
 use nv_outcome::{Recovered, cross_faults_one};
 use nv_region::Pmem;
 use nv_scan::{Claims, Inodes, Scanner, room_for_ticket, scan_slots, ticket_count};
-use nv_super::{Owner, Super};
+use nv_super::{Owner, Run, Super};
 use std::alloc::{AllocError, Global};
 
 /// Recovers a region as `recover` does, on one thread: the workers' claims are made in the order of the schedule, of
@@ -179,15 +179,29 @@ fn replay_all(
     }
 }
 
-// All claims in one list. Each list is given back once it is copied.
-fn join_claims(alloc: Global, work: Vec<Vec<(u64, Owner)>>) -> Result<Vec<(u64, Owner)>, AllocError>
+// All claims, each a run of one block. Each list is given back once its claims are taken over.
+fn join_claims(alloc: Global, work: Vec<Vec<(u64, Owner)>>) -> Result<ClaimedRuns, AllocError>
     ensures { IfOk result (λ claims. claims.items ≡ all_claims work.items) }
 {
-    let mut claims = Vec::new(alloc);
+    let mut claims = ClaimedRuns::new(alloc);
     for list in work {
-        claims.extend_from_slice(&list)?;
+        push_claims(&mut claims, &list)?;
     }
     Ok(claims)
+}
+
+// Puts these claims to the end of others.
+fn push_claims(claims: &mut ClaimedRuns, list: &[(u64, Owner)]) -> Result<(), AllocError>
+    ensures { OnOk result (claims.new.items ≡ claims.old.items ++ list.now) }
+{
+    for (block, owner) in list {
+        let run = Run {
+            start: *block,
+            count: 1,
+        };
+        claims.push(run, *owner)?;
+    }
+    Ok(())
 }
 
 // The place of the first number that names no worker.
