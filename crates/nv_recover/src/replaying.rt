@@ -1,6 +1,6 @@
 //! Recovery whose claims are made in a written order, with no thread.
 
-ghost use Rattle.std.specs.Prelude.{◌≡◌, ◌*◌, ◌≢◌, ◌<◌, ◌++◌, ℕ, List, Some, None, [], IfOk, IfErr, OnOk, IsTrue, length};
+ghost use Rattle.std.specs.Prelude.{◌≡◌, ◌*◌, ◌≢◌, ◌<◌, ℕ, List, Some, None, [], IfOk, IfErr, IsTrue, length};
 ghost use Rattle.std.specs.List.Sorted.{IsPermutation};
 ghost use Rattle.nv_region.specs.Region.{HasBlocks};
 ghost use Rattle.nv_region.specs.Fuses.{KeepsFuse};
@@ -31,7 +31,7 @@ use nv_claimmap::{Claimed, ClaimedRuns};
 use nv_outcome::{Recovered, cross_faults_one};
 use nv_region::Pmem;
 use nv_scan::{Claims, Inodes, Scanner, room_for_ticket, scan_slots, ticket_count};
-use nv_super::{Owner, Run, Super};
+use nv_super::{Owner, Super};
 use std::alloc::{AllocError, Global};
 
 /// Recovers a region as `recover` does, on one thread: the workers' claims are made in the order of the schedule, of
@@ -92,8 +92,8 @@ fn scan_by_schedule<P: Pmem>(
     requires named { first_stranger workers schedule.now ≡ None }
     ensures { IfOk result (IsScanned (P.region memory.now) sup.now) }
 {
-    let (inodes, work) = scan_apart(alloc, memory, sup)?;
-    let claimed = claim_all(alloc, sup, workers, schedule, work)?;
+    let (inodes, work, claims) = scan_apart(alloc, memory, sup)?;
+    let claimed = claim_all(alloc, sup, workers, schedule, work, claims)?;
     let owned = owned_of(alloc, claimed)?;
     let cross = cross_faults_one(alloc, sup, &inodes.rows)?;
     Ok(Scanned {
@@ -103,38 +103,41 @@ fn scan_by_schedule<P: Pmem>(
     })
 }
 
-// Scans the inodes of each ticket, and keeps a list of claims for each.
+// Scans the inodes of each ticket, and keeps a list of claims for each, and all claims as runs.
 fn scan_apart<P: Pmem>(
     alloc: Global,
     memory: &P,
     sup: &Super,
-) -> Result<(Inodes, Vec<Vec<(u64, Owner)>>), AllocError>
+) -> Result<(Inodes, Vec<Vec<(u64, Owner)>>, ClaimedRuns), AllocError>
     requires layout { IsLayout sup.now }
     requires blocks { HasBlocks (P.region memory.now) sup.now.blocks }
     ensures inodes { IfOk result (λ r. (pieces : List PieceValue) × AreInodes (P.region memory.now) sup.now pieces r.0 × IsPermutation (claims_in pieces) (all_claims r.1.items)) }
     ensures tickets { IfOk result (λ r. length r.1.items ≡ ticket_count sup.now) }
+    ensures claims { IfOk result (λ r. r.2.items ≡ all_claims r.1.items) }
 {
     let mut scanner = Scanner::new(alloc, sup);
     let mut inodes = Inodes::new(alloc);
     let mut each = room_for_ticket(alloc)?;
     let mut work = Vec::new(alloc);
+    let mut claims = ClaimedRuns::new(alloc);
     for ticket in 0..ticket_count(sup) {
         let count = scan_slots(memory, &mut scanner, &mut inodes, &mut each, ticket)?;
-        let list = list_of(alloc, &each[..count])?;
-        work.push(list)?;
+        let mut runs = runs_of(alloc, &each[..count])?;
+        work.push(runs.to_list(alloc)?)?;
+        claims.append(&mut runs)?;
     }
-    Ok((inodes, work))
+    Ok((inodes, work, claims))
 }
 
-// The claims of several inodes in one list.
-fn list_of(alloc: Global, each: &[Claims]) -> Result<Vec<(u64, Owner)>, AllocError>
-    ensures { IfOk result (λ list. list.items ≡ claims_among each.now) }
+// The claims of several inodes together.
+fn runs_of(alloc: Global, each: &[Claims]) -> Result<ClaimedRuns, AllocError>
+    ensures { IfOk result (λ runs. runs.items ≡ claims_among each.now) }
 {
-    let mut list = Vec::new(alloc);
+    let mut runs = ClaimedRuns::new(alloc);
     for claims in each {
-        list.extend_from_slice(&claims.to_list(alloc)?)?;
+        claims.add_to(&mut runs)?;
     }
-    Ok(list)
+    Ok(runs)
 }
 
 // The claims of this work, made in the order of the schedule.
@@ -144,10 +147,12 @@ fn claim_all(
     workers: u32,
     schedule: &[u32],
     work: Vec<Vec<(u64, Owner)>>,
+    claims: ClaimedRuns,
 ) -> Result<Claimed, AllocError>
     requires workers { 0 < workers }
     requires named { first_stranger workers schedule.now ≡ None }
     requires inside { Inside sup.now.blocks (lists work.items) }
+    requires same { claims.items ≡ all_claims work.items }
     ensures sets { IfOk result (λ claimed. AreClaimedSets sup.now (lists work.items) claimed.first.items claimed.second.items) }
     ensures claims { IfOk result (λ claimed. claimed.claims.items ≡ all_claims work.items) }
 {
@@ -155,7 +160,7 @@ fn claim_all(
     Ok(Claimed {
         first: state.first().to_vec(alloc)?,
         second: state.second().to_vec(alloc)?,
-        claims: join_claims(alloc, work)?,
+        claims,
     })
 }
 
@@ -177,31 +182,6 @@ fn replay_all(
         Err(CoreRefusal::Memory) => Err(AllocError),
         Err(CoreRefusal::NotAllowed { .. }) => unreachable!(),
     }
-}
-
-// All claims, each a run of one block. Each list is given back once its claims are taken over.
-fn join_claims(alloc: Global, work: Vec<Vec<(u64, Owner)>>) -> Result<ClaimedRuns, AllocError>
-    ensures { IfOk result (λ claims. claims.items ≡ all_claims work.items) }
-{
-    let mut claims = ClaimedRuns::new(alloc);
-    for list in work {
-        push_claims(&mut claims, &list)?;
-    }
-    Ok(claims)
-}
-
-// Puts these claims to the end of others.
-fn push_claims(claims: &mut ClaimedRuns, list: &[(u64, Owner)]) -> Result<(), AllocError>
-    ensures { OnOk result (claims.new.items ≡ claims.old.items ++ list.now) }
-{
-    for (block, owner) in list {
-        let run = Run {
-            start: *block,
-            count: 1,
-        };
-        claims.push(run, *owner)?;
-    }
-    Ok(())
 }
 
 // The place of the first number that names no worker.

@@ -76,8 +76,10 @@ impl Claims {
         runs.to_list(alloc)
     }
 
-    // Puts the claims to the end of others, where each page is a run of one block.
-    fn add_to(&self, others: &mut ClaimedRuns) -> Result<(), AllocError>
+    /// Puts the claims to the end of others. Each page of the log is a run of one block there.
+    ///
+    /// Errors: `AllocError` where a growth was refused; of the others nothing is said then.
+    pub fn add_to(&self, others: &mut ClaimedRuns) -> Result<(), AllocError>
         ensures { OnOk result (others.new.items ≡ others.old.items ++ self.now.items) }
     {
         add_pages(others, self.inode, &self.pages)?;
