@@ -1,5 +1,5 @@
 use Rattle.std.proofs.Common.{◌≡◌, length}
-use Rattle.nv_recover.specs.Scanned.{AreOfTickets}
+use Rattle.nv_recover.specs.Scanned.{AreOfTickets, all_claims}
 use Rattle.nv_recover.proofs.replaying.scan_apart.Given as goal
 
 abbrev pub invariant-loop-ticket : goal.invariant-loop-ticket
@@ -7,4 +7,5 @@ invariant-loop-ticket g l = record {
   same : l.scanner ≡ l.sup;
   room : length l.each.items ≡ 32;
   first : AreOfTickets (g.P.Pmem.region l.memory) l.sup l.ticket l.inodes l.work.items;
+  claims : l.claims.items ≡ all_claims l.work.items;
 }
