@@ -1,9 +1,9 @@
 -- Counting what is named, one after another.
 use Rattle.std.proofs.Common.{◌≡◌, ◌≢◌, ℕ, ◌+◌, ◌<◌, eqb, Bool, true, false, cond, List, [], ◌∷◌, ◌++◌, length, get_or, take, map, refl, ap, sym, ◌∙◌, arith, eq-eqb, get_or-set_same, get_or-set_other, Option, Some, None, append-nil}
 use Rattle.std.proofs.Math.ListN.{set, length-set}
-use Rattle.std.specs.List.{count_by, filter, filter_map, flat_map, cons_option}
+use Rattle.std.specs.List.{count_by, filter_map, flat_map, cons_option}
 use Rattle.std.proofs.lemmas.Grind.{flat_map-append}
-use Rattle.std.proofs.lemmas.List.Elements.{filter-append, filter_map-append}
+use Rattle.std.proofs.lemmas.List.Elements.{filter_map-append}
 use Rattle.std.proofs.lemmas.List.Sums.{sum_by_push}
 use Rattle.std.proofs.lemmas.List.{take_more, append_assoc, map-append}
 use Rattle.std.proofs.lemmas.Bool.{ne_eqb}
@@ -63,21 +63,6 @@ pub maps : {A B : Type 0} (f : A → B) (xs : List A) (i : ℕ) (d : A) (old now
 maps {A} {B} f xs i d old now new lt e h =
     e ∙ ap (λ (ys : List B). ys ++ f (get_or xs i d) ∷ []) h ∙ append_assoc old (map f (take i xs)) (f (get_or xs i d) ∷ [])
     ∙ ap (λ (ys : List B). old ++ ys) (sym (ap (map f) (take_more xs i d lt) ∙ map-append f (take i xs) (get_or xs i d ∷ [])))
-
-filter_one : {A : Type 0} (test : A → Bool) (x : A) (b : Bool) → test x ≡ b → filter test (x ∷ []) ≡ cond b (x ∷ []) []
-filter_one test x true h = rw h refl
-filter_one test x false h = rw h refl
-
-filter_more : {A : Type 0} (test : A → Bool) (xs : List A) (i : ℕ) (d : A) (b : Bool) → i < length xs → test (get_or xs i d) ≡ b → filter test (take (i + 1) xs) ≡ filter test (take i xs) ++ cond b (get_or xs i d ∷ []) []
-filter_more {A} test xs i d b lt is = ap (filter test) (take_more xs i d lt) ∙ filter-append test (take i xs) (get_or xs i d ∷ []) ∙ ap (λ (ys : List A). filter test (take i xs) ++ ys) (filter_one test (get_or xs i d) b is)
-
--- one element more that passes
-pub passes : {A : Type 0} (test : A → Bool) (xs : List A) (i : ℕ) (d : A) (now new : List A) → i < length xs → test (get_or xs i d) ≡ true → new ≡ now ++ get_or xs i d ∷ [] → now ≡ filter test (take i xs) → new ≡ filter test (take (i + 1) xs)
-passes {A} test xs i d now new lt pass e h = e ∙ ap (λ (ys : List A). ys ++ get_or xs i d ∷ []) h ∙ sym (filter_more test xs i d true lt pass)
-
--- one more that doesn't
-pub stays : {A : Type 0} (test : A → Bool) (xs : List A) (i : ℕ) (d : A) (now new : List A) → i < length xs → test (get_or xs i d) ≡ false → new ≡ now → now ≡ filter test (take i xs) → new ≡ filter test (take (i + 1) xs)
-stays test xs i d now new lt fail e h = e ∙ h ∙ sym (append-nil (filter test (take i xs))) ∙ sym (filter_more test xs i d false lt fail)
 
 -- one element more of a copy
 pub copies : {A : Type 0} (xs : List A) (i : ℕ) (d : A) (old now new : List A) → i < length xs → new ≡ now ++ get_or xs i d ∷ [] → now ≡ old ++ take i xs → new ≡ old ++ take (i + 1) xs

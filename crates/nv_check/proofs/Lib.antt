@@ -1,6 +1,7 @@
 pub mod PlaceTable
 pub mod Spread
 pub mod Counting
+pub mod FoundInRuns
 pub mod NamesCounted
 pub mod Follow
 pub mod Adds

@@ -1,4 +1,6 @@
 pub mod Held
+pub mod ClaimList
+pub mod ClaimedRuns
 pub mod Inside
 pub mod Rule
 pub mod Events

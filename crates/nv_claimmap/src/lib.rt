@@ -8,6 +8,7 @@
 //! that were claimed twice or more, whichever worker came first.
 #![tactic(auto)]
 
+mod claimed_runs;
 mod laws;
 mod map;
 mod places;
@@ -15,6 +16,7 @@ mod rule;
 mod seat;
 mod steps;
 
+pub use claimed_runs::{ClaimedRuns, OwnedRun};
 pub use laws::steps_are_events;
 pub use map::{ClaimMap, Claimed};
 pub use seat::ClaimSeat;

@@ -12,10 +12,11 @@ ghost use Rattle.nv_claimcore.specs.Spans.{Adds};
 ghost use Rattle.nv_claimmap.specs.Held.{MapId, map_id, fresh};
 ghost use Rattle.nv_claimmap.specs.Inside.{IsMap};
 
+use crate::claimed_runs::ClaimedRuns;
 use crate::places::{CURSOR, FIRST, second_from, table_words};
 use crate::rule::{Both, Draw, Law, Look};
 use crate::seat::{ClaimSeat, seat_all};
-use crate::steps::{claim_words, list_claims};
+use crate::steps::claim_words;
 use atomic_table::{Closed, Table};
 use nv_blockset::words_for;
 use nv_claimcore::{Sizes, View};
@@ -51,7 +52,7 @@ pub struct Claimed {
     /// The blocks that were claimed twice or more.
     pub second: Vec<u64>,
     /// All claims: a block, and the owner that it was claimed for.
-    pub claims: Vec<(u64, Owner)>,
+    pub claims: ClaimedRuns,
 }
 
 impl ClaimMap {
@@ -134,9 +135,9 @@ impl ClaimMap {
         if run.is_empty() {
             return Ok(());
         }
-        seat.claims.reserve(run.count as usize)?;
+        // The steps can't be taken back, so the memory comes first.
+        seat.claims.push(run, owner)?;
         claim_words(&self.table.shared, &mut seat.seat, self.words, run, owner);
-        list_claims(&mut seat.claims, run, owner);
         Ok(())
     }
 
@@ -146,7 +147,7 @@ impl ClaimMap {
     pub fn join(
         &self,
         mut one: ClaimSeat,
-        other: ClaimSeat,
+        mut other: ClaimSeat,
     ) -> Result<ClaimSeat, (ClaimSeat, ClaimSeat)>
         requires own { one.map ≡ self.now }
         requires other { other.map ≡ self.now }
@@ -158,7 +159,7 @@ impl ClaimMap {
         ensures first { IfErr result (λ r. r.0 ≡ one) }
         ensures second { IfErr result (λ r. r.1 ≡ other) }
     {
-        if one.claims.reserve(other.claims.len()).is_err() {
+        if one.claims.append(&mut other.claims).is_err() {
             return Err((one, other));
         }
         let ClaimSeat {
@@ -166,11 +167,10 @@ impl ClaimMap {
             sizes: _,
             number: _,
             ended,
-            claims,
+            claims: _,
         } = other;
         self.table.shared.join_seat::<Both>(&mut one.seat, seat);
         self.table.shared.load::<Look>(&mut one.seat, CURSOR);
-        append(&mut one.claims, &claims);
         one.ended = one.ended || ended;
         Ok(one)
     }
@@ -222,15 +222,5 @@ fn copy_words(closed: &Closed<u8, Global>, from: usize, count: usize, to: &mut V
 {
     for i in 0..count {
         to.push_reserved(closed.word(from + i));
-    }
-}
-
-// Copies claims behind those that are there. The room is there.
-fn append(to: &mut Vec<(u64, Owner)>, from: &Vec<(u64, Owner)>)
-    requires { vec_len to.old + vec_len from.now ≤ vec_capacity to.old }
-    ensures { to.new.items ≡ to.old.items ++ from.now.items }
-{
-    for i in 0..from.len() {
-        to.push_reserved(from[i]);
     }
 }

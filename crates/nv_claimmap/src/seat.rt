@@ -6,10 +6,10 @@ ghost use Rattle.nv_claimcore.specs.Claims.{nothing};
 ghost use Rattle.nv_claimmap.specs.Held.{Held, held, map_id, fresh};
 ghost use Rattle.nv_claimmap.specs.Inside.{IsSeat};
 
+use crate::claimed_runs::ClaimedRuns;
 use crate::rule::{Cut, Law};
 use atomic_table::{Seat, Shared};
 use nv_claimcore::{Sizes, View};
-use nv_super::Owner;
 use std::alloc::{AllocError, Global};
 use std::marker::Model;
 
@@ -21,8 +21,8 @@ pub struct ClaimSeat {
     pub(crate) number: u32,
     // A number past the end of the tickets was drawn.
     pub(crate) ended: bool,
-    // The blocks claimed, each with its owner, in the order of the claims.
-    pub(crate) claims: Vec<(u64, Owner)>,
+    // What was claimed, in the order of the claims.
+    pub(crate) claims: ClaimedRuns,
 }
 
 impl Model for ClaimSeat {
@@ -51,7 +51,7 @@ impl ClaimSeat {
             sizes,
             number,
             ended: false,
-            claims: Vec::new(alloc),
+            claims: ClaimedRuns::new(alloc),
         }
     }
 }

@@ -4,7 +4,6 @@
 
 ghost use Rattle.std.specs.Prelude.{◌≡◌, ℕ, ◌+◌, ◌-◌, ◌/◌, ◌%◌, ◌^◌, ◌<◌, ◌≤◌, ◌++◌, bit_and};
 ghost use Rattle.std.specs.List.{All};
-ghost use Rattle.std.specs.Vec.{vec_len, vec_capacity};
 ghost use Rattle.nv_blockset.specs.BlockSet.{words_for};
 ghost use Rattle.nv_super.specs.Owners.{MayOwn, pairs};
 ghost use Rattle.nv_claimcore.specs.Claims.{Settled};
@@ -114,16 +113,5 @@ pub(crate) fn claim_words(
         let count = (run.count - done).min(64 - start % 64);
         claim_part(shared, seat, words, start, count, owner.raised(done));
         done += count;
-    }
-}
-
-// Lists the blocks of a run, each with its owner. The room is there.
-pub(crate) fn list_claims(claims: &mut Vec<(u64, Owner)>, run: Run, owner: Owner)
-    requires run { (run.start + run.count < 2 ^ 64) × MayOwn owner run.count }
-    requires room { vec_len claims.old + run.count ≤ vec_capacity claims.old }
-    ensures { claims.new.items ≡ claims.old.items ++ pairs run.start owner run.count }
-{
-    for j in 0..run.count {
-        claims.push_reserved((run.start + j, owner.raised(j)));
     }
 }

@@ -48,3 +48,9 @@ module _ {R : Region} {s : Super} where
     lists_are = ap length is ∙ length-append work (list ∷ []) ∙ ap (λ (n : ℕ). n + 1) so_far.lists_are;
     claims_are = ap all_claims is ∙ flat_map-append (λ (v : Vec (ℕ × Owner) Global). v.items) work (list ∷ []) ∙ (λ i. so_far.claims_are i ++ append-nil (next.claims_are i) i) ∙ sym (claims_join so_far.pieces next.pieces);
   }
+
+-- all claims, as runs, keep up with the lists
+pub claims_keep_up : (work : List (Vec (ℕ × Owner) Global)) (all : List (Vec (ℕ × Owner) Global)) (list : Vec (ℕ × Owner) Global) {claims now : List (ℕ × Owner)} → claims ≡ all_claims work → now ≡ claims ++ list.items → all ≡ work ++ list ∷ [] → now ≡ all_claims all
+claims_keep_up work all list so_far more is =
+    let each : Vec (ℕ × Owner) Global → List (ℕ × Owner) = λ v. v.items in
+    more ∙ (λ i. so_far i ++ sym (append-nil list.items) i) ∙ sym (flat_map-append each work (list ∷ [])) ∙ ap all_claims (sym is)

@@ -27,7 +27,7 @@ use crate::scanned::Scanned;
 use crate::sets::owned_of;
 use crate::starting::{is_worker_count, start};
 use nv_claimcore::{ClaimState, CoreRefusal, replay};
-use nv_claimmap::Claimed;
+use nv_claimmap::{Claimed, ClaimedRuns};
 use nv_numbered::Chunks;
 use nv_outcome::{Recovered, cross_faults_one};
 use nv_region::Pmem;
@@ -95,8 +95,8 @@ fn scan_by_schedule<P: Pmem>(
     requires named { first_stranger workers schedule.now ≡ None }
     ensures { IfOk result (IsScanned (P.region memory.now) sup.now) }
 {
-    let (inodes, work) = scan_apart(alloc, memory, sup)?;
-    let claimed = claim_all(alloc, sup, workers, schedule, work)?;
+    let (inodes, work, claims) = scan_apart(alloc, memory, sup)?;
+    let claimed = claim_all(alloc, sup, workers, schedule, work, claims)?;
     let owned = owned_of(alloc, claimed)?;
     let cross = cross_faults_one(alloc, sup, &inodes.rows)?;
     Ok(Scanned {
@@ -106,40 +106,43 @@ fn scan_by_schedule<P: Pmem>(
     })
 }
 
-// Scans the inodes of each ticket, and keeps a list of claims for each.
+// Scans the inodes of each ticket, and keeps a list of claims for each, and all claims as runs.
 fn scan_apart<P: Pmem>(
     alloc: Global,
     memory: &P,
     sup: &Super,
-) -> Result<(ListedInodes, Vec<Vec<(u64, Owner)>>), AllocError>
+) -> Result<(ListedInodes, Vec<Vec<(u64, Owner)>>, ClaimedRuns), AllocError>
     requires layout { IsLayout sup.now }
     requires blocks { HasBlocks (P.region memory.now) sup.now.blocks }
     ensures inodes { IfOk result (λ r. (pieces : List PieceValue) × AreInodes (P.region memory.now) sup.now pieces r.0 × IsPermutation (claims_in pieces) (all_claims r.1.items)) }
     ensures tickets { IfOk result (λ r. length r.1.items ≡ ticket_count sup.now) }
+    ensures claims { IfOk result (λ r. r.2.items ≡ all_claims r.1.items) }
 {
     let mut scanner = Scanner::new(alloc, sup);
     let mut inodes = Inodes::new(alloc);
     let mut heads = Chunks::new(alloc);
     let mut each = room_for_ticket(alloc)?;
     let mut work = Vec::new(alloc);
+    let mut claims = ClaimedRuns::new(alloc);
     for ticket in 0..ticket_count(sup) {
         let count = scan_slots(memory, &mut scanner, &mut inodes, &mut each, ticket)?;
         push_heads(&mut heads, &inodes.rows)?;
-        let list = list_of(alloc, &each[..count])?;
-        work.push(list)?;
+        let mut runs = runs_of(alloc, &each[..count])?;
+        work.push(runs.to_list(alloc)?)?;
+        claims.append(&mut runs)?;
     }
-    Ok((inodes.with_heads(heads), work))
+    Ok((inodes.with_heads(heads), work, claims))
 }
 
-// The claims of several inodes in one list.
-fn list_of(alloc: Global, each: &[Claims]) -> Result<Vec<(u64, Owner)>, AllocError>
-    ensures { IfOk result (λ list. list.items ≡ claims_among each.now) }
+// The claims of several inodes together.
+fn runs_of(alloc: Global, each: &[Claims]) -> Result<ClaimedRuns, AllocError>
+    ensures { IfOk result (λ runs. runs.items ≡ claims_among each.now) }
 {
-    let mut list = Vec::new(alloc);
+    let mut runs = ClaimedRuns::new(alloc);
     for claims in each {
-        list.extend_from_slice(&claims.to_list(alloc)?)?;
+        claims.add_to(&mut runs)?;
     }
-    Ok(list)
+    Ok(runs)
 }
 
 // The claims of this work, made in the order of the schedule.
@@ -149,10 +152,12 @@ fn claim_all(
     workers: u32,
     schedule: &[u32],
     work: Vec<Vec<(u64, Owner)>>,
+    claims: ClaimedRuns,
 ) -> Result<Claimed, AllocError>
     requires workers { 0 < workers }
     requires named { first_stranger workers schedule.now ≡ None }
     requires inside { Inside sup.now.blocks (lists work.items) }
+    requires same { claims.items ≡ all_claims work.items }
     ensures sets { IfOk result (λ claimed. AreClaimedSets sup.now (lists work.items) claimed.first.items claimed.second.items) }
     ensures claims { IfOk result (λ claimed. claimed.claims.items ≡ all_claims work.items) }
 {
@@ -160,7 +165,7 @@ fn claim_all(
     Ok(Claimed {
         first: state.first().to_vec(alloc)?,
         second: state.second().to_vec(alloc)?,
-        claims: join_claims(alloc, work)?,
+        claims,
     })
 }
 
@@ -182,17 +187,6 @@ fn replay_all(
         Err(CoreRefusal::Memory) => Err(AllocError),
         Err(CoreRefusal::NotAllowed { .. }) => unreachable!(),
     }
-}
-
-// All claims in one list. Each list is given back once it is copied.
-fn join_claims(alloc: Global, work: Vec<Vec<(u64, Owner)>>) -> Result<Vec<(u64, Owner)>, AllocError>
-    ensures { IfOk result (λ claims. claims.items ≡ all_claims work.items) }
-{
-    let mut claims = Vec::new(alloc);
-    for list in work {
-        claims.extend_from_slice(&list)?;
-    }
-    Ok(claims)
 }
 
 // The place of the first number that names no worker.

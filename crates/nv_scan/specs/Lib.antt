@@ -6,7 +6,6 @@ pub mod Faults
 pub mod Rows
 pub mod Fold
 pub mod Reading
-pub mod ClaimList
 pub mod Claims
 pub mod Scanned
 pub mod Tickets
@@ -16,5 +15,6 @@ pub mod Scanner
 pub mod Claiming
 pub mod Light
 pub use Rattle.nv_logpage.specs as nv_logpage
+pub use Rattle.nv_claimmap.specs.ClaimList
 pub use Rattle.nv_claimmap.specs.nv_claimcore
 pub mod Heads

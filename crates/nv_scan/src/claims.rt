@@ -8,15 +8,16 @@ ghost use Rattle.nv_super.specs.Layout.{IsLayout, Layout, fixed_layout};
 ghost use Rattle.nv_super.specs.Order.{Lists, owner_key};
 ghost use Rattle.nv_radix.specs.Pages.{block_at};
 ghost use Rattle.nv_radix.specs.Runs.{block_by};
-ghost use Rattle.nv_scan.specs.Claims.{AreSmall, IsClaim, log_claims, run_claims, data_claims, IsSmall};
+ghost use Rattle.nv_scan.specs.Claims.{AreSmall, IsClaim, log_claims, data_claims, IsSmall};
 ghost use Rattle.nv_scan.specs.Rows.{IsPiece};
 ghost use Rattle.nv_scan.specs.Work.{rows_in, claims_in};
 ghost use Rattle.nv_scan.specs.declared.piece.Piece.{Piece};
 
 use crate::piece::{LogPages, Row};
+use nv_claimmap::ClaimedRuns;
 use nv_numbered::Chunks;
 use nv_radix::{Extent, ExtentMap, FileIndex};
-use nv_super::Owner;
+use nv_super::{Owner, Run};
 use std::alloc::{AllocError, Global};
 use std::marker::Model;
 
@@ -70,10 +71,19 @@ impl Claims {
     pub fn to_list(&self, alloc: Global) -> Result<Vec<(u64, Owner)>, AllocError>
         ensures { IfOk result (λ list. list.items ≡ self.now.items) }
     {
-        let mut list = Vec::new(alloc);
-        push_pages(&mut list, self.inode, &self.pages)?;
-        push_runs(&mut list, self.inode, &self.runs)?;
-        Ok(list)
+        let mut runs = ClaimedRuns::new(alloc);
+        self.add_to(&mut runs)?;
+        runs.to_list(alloc)
+    }
+
+    /// Puts the claims to the end of others. Each page of the log is a run of one block there.
+    ///
+    /// Errors: `AllocError` where a growth was refused; of the others nothing is said then.
+    pub fn add_to(&self, others: &mut ClaimedRuns) -> Result<(), AllocError>
+        ensures { OnOk result (others.new.items ≡ others.old.items ++ self.now.items) }
+    {
+        add_pages(others, self.inode, &self.pages)?;
+        add_runs(others, self.inode, &self.runs)
     }
 
     /// Claims nothing more. What memory there was is used again.
@@ -130,51 +140,47 @@ impl Claims {
 /// caller that kept no claims.
 ///
 /// Errors: `AllocError` where a growth was refused.
-pub fn claims_of_rows(alloc: Global, rows: &Chunks<Row>) -> Result<Vec<(u64, Owner)>, AllocError>
+pub fn claims_of_rows(alloc: Global, rows: &Chunks<Row>) -> Result<ClaimedRuns, AllocError>
     requires scanned { (region : Region) × (s : Super) × IsLayout s × (pieces : List Piece) × AllByRecursion (IsPiece region (fixed_layout s)) pieces × (rows.now.items ≡ rows_in pieces) }
     ensures { IfOk result (λ claims. (region : Region) (l : Layout) (pieces : List Piece) → AllByRecursion (IsPiece region l) pieces → rows.now.items ≡ rows_in pieces → claims.items ≡ claims_in pieces) }
 {
-    let mut claims = Vec::new(alloc);
+    let mut claims = ClaimedRuns::new(alloc);
     for place in 0..rows.len() {
         let own = Claims::of_row(alloc, rows.at(place))?;
-        claims.extend_from_slice(&own.to_list(alloc)?)?;
+        own.add_to(&mut claims)?;
     }
     Ok(claims)
 }
 
-fn push_pages(claims: &mut Vec<(u64, Owner)>, inode: u64, pages: &[u64]) -> Result<(), AllocError>
+fn add_pages(claims: &mut ClaimedRuns, inode: u64, pages: &[u64]) -> Result<(), AllocError>
     ensures { OnOk result (claims.new.items ≡ claims.old.items ++ log_claims inode 0 pages.now) }
 {
     let mut page = 0;
     for block in pages {
-        claims.push((*block, Owner::Log { inode, page }))?;
+        let run = Run {
+            start: *block,
+            count: 1,
+        };
+        claims.push(run, Owner::Log { inode, page })?;
         page += 1;
     }
     Ok(())
 }
 
-fn push_runs(claims: &mut Vec<(u64, Owner)>, inode: u64, runs: &[Extent]) -> Result<(), AllocError>
+fn add_runs(claims: &mut ClaimedRuns, inode: u64, runs: &[Extent]) -> Result<(), AllocError>
     requires { All IsSmall runs.now }
     ensures { OnOk result (claims.new.items ≡ claims.old.items ++ data_claims inode runs.now) }
 {
-    for run in runs {
-        push_run(claims, inode, run)?;
-    }
-    Ok(())
-}
-
-fn push_run(claims: &mut Vec<(u64, Owner)>, inode: u64, run: &Extent) -> Result<(), AllocError>
-    requires { IsSmall run.now }
-    ensures { OnOk result (claims.new.items ≡ claims.old.items ++ run_claims inode run.now) }
-{
-    for by in 0..run.count {
-        claims.push((
-            run.block + by,
-            Owner::Data {
-                inode,
-                page: run.page + by,
-            },
-        ))?;
+    for extent in runs {
+        let run = Run {
+            start: extent.block,
+            count: extent.count,
+        };
+        let owner = Owner::Data {
+            inode,
+            page: extent.page,
+        };
+        claims.push(run, owner)?;
     }
     Ok(())
 }

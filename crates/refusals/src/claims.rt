@@ -69,10 +69,11 @@ fn claim_both(
     Ok(one_again || other_again)
 }
 
-fn is_right(claimed: &Claimed) -> bool {
-    claimed.first.as_slice() == FIRST.as_slice()
+fn is_right(alloc: Global, claimed: &Claimed) -> Result<bool, AllocError> {
+    let claims = claimed.claims.to_list(alloc)?;
+    Ok(claimed.first.as_slice() == FIRST.as_slice()
         && claimed.second.as_slice() == SECOND.as_slice()
-        && claimed.claims.len() == CLAIMS
+        && claims.len() == CLAIMS)
 }
 
 /// How the claims and the join ended.
@@ -85,6 +86,7 @@ pub(crate) struct Told {
 
 /// Joins two seats, and tells how their claims ended, where one of them was made again or not.
 fn joined_and_told(
+    alloc: Global,
     map: ClaimMap,
     one: ClaimSeat,
     other: ClaimSeat,
@@ -97,7 +99,7 @@ fn joined_and_told(
     Ok(Told {
         claim_again,
         join_again,
-        is_right: is_right(&map.close(both)),
+        is_right: is_right(alloc, &map.close(both))?,
     })
 }
 
@@ -105,5 +107,5 @@ fn joined_and_told(
 pub(crate) fn claim_and_join(alloc: Global) -> Result<Told, AllocError> {
     let (map, mut one, mut two) = opened(alloc, SIZES)?;
     let claim_again = claim_both(&map, &mut one, &mut two)?;
-    joined_and_told(map, one, two, claim_again)
+    joined_and_told(alloc, map, one, two, claim_again)
 }

@@ -65,12 +65,17 @@ fn given_apart(one: &WorkerResult, other: &WorkerResult) -> (Option<Given>, Give
 }
 
 /// The claims of two seats together.
-fn claims_of(map: ClaimMap, one: ClaimSeat, other: ClaimSeat) -> Result<usize, AllocError>
+fn claims_of(
+    alloc: Global,
+    map: ClaimMap,
+    one: ClaimSeat,
+    other: ClaimSeat,
+) -> Result<usize, AllocError>
     requires own { (one.map ≡ map) × (other.map ≡ map) }
     requires all { one.view.seats + other.view.seats ≡ map.sizes.workers }
 {
     let (both, _) = joined(&map, one, other)?;
-    Ok(map.close(both).claims.len())
+    Ok(map.close(both).claims.to_list(alloc)?.len())
 }
 
 fn seat_of(worker: WorkerResult) -> ClaimSeat
@@ -87,7 +92,7 @@ pub(crate) fn work_in_turn(alloc: Global, memory: &MemRegion) -> Result<Work, Al
     let one = worker(alloc, memory, &STOPPED, &map, one, &NoGate);
     let two = worker(alloc, memory, &STOPPED, &map, two, &NoGate);
     let (refused, whole) = given_apart(&one, &two);
-    let claims = claims_of(map, seat_of(one), seat_of(two))?;
+    let claims = claims_of(alloc, map, seat_of(one), seat_of(two))?;
     Ok(Work {
         refused,
         whole,

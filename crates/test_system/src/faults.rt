@@ -3,10 +3,11 @@
 use crate::rows::row;
 use crate::small::SMALL;
 use nv_check::{cross_faults, cross_faults_one, doubled};
+use nv_claimmap::ClaimedRuns;
 use nv_names::NameIndex;
 use nv_numbered::Chunks;
 use nv_scan::RowList;
-use nv_super::{Fault, Kind, Owner};
+use nv_super::{Fault, Kind, Owner, Run};
 use std::alloc::{AllocError, Global};
 use std::process::Abort;
 
@@ -60,13 +61,15 @@ fn faults_between_four_rows(rt: HostRuntime) -> Result<(), AllocError> {
     Ok(())
 }
 
-/// Block 5 is in the second set, and block 6 isn't.
+/// Block 5 is in the second set, and blocks 4 and 6 aren't.
 #[test]
 fn both_owners_of_a_block_are_told(rt: HostRuntime) -> Result<(), AllocError> {
-    let first = (5, Owner::Log { inode: 2, page: 0 });
-    let other = (6, Owner::Data { inode: 2, page: 0 });
-    let second = (5, Owner::Data { inode: 3, page: 1 });
-    let found = doubled(rt.alloc(), &[second, other, first], &[32])?;
-    assert!(rt; found.as_slice() == &[first, second][..]);
+    let first = Owner::Log { inode: 2, page: 0 };
+    let mut claims = ClaimedRuns::new(rt.alloc());
+    claims.push(Run { start: 4, count: 3 }, Owner::Data { inode: 3, page: 1 })?;
+    claims.push(Run { start: 5, count: 1 }, first)?;
+    let found = doubled(rt.alloc(), &claims, &[32])?;
+    let second = Owner::Data { inode: 3, page: 2 };
+    assert!(rt; found.as_slice() == &[(5, first), (5, second)][..]);
     Ok(())
 }

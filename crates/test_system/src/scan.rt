@@ -381,15 +381,16 @@ fn works(rt: &impl Abort, alloc: Global, memory: &MemRegion) -> Result<(), Fail>
     let (map, seat) = opened_for_one(alloc)?;
     let done = worker(alloc, memory, &SMALL, &map, seat, &NoGate);
     assert!(rt; !done.refused && are_two(&done.rows));
-    assert_closed(rt, &map.close(done.seat));
-    Ok(())
+    assert_closed(rt, alloc, &map.close(done.seat))
 }
 
-fn assert_closed(rt: &impl Abort, closed: &Claimed) {
+fn assert_closed(rt: &impl Abort, alloc: Global, closed: &Claimed) -> Result<(), Fail> {
+    let claims = closed.claims.to_list(alloc)?;
     assert!(rt; closed.first.as_slice() == [632].as_slice());
     assert!(rt; closed.second.as_slice() == [0].as_slice());
-    assert!(rt; closed.claims.len() == 5);
-    assert!(rt; closed.claims[1..] == OWNED_BY_FILE[..]);
+    assert!(rt; claims.len() == 5);
+    assert!(rt; claims[1..] == OWNED_BY_FILE[..]);
+    Ok(())
 }
 
 #[test]

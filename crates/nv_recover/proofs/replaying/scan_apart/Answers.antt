@@ -1,4 +1,4 @@
-use Rattle.std.proofs.Common.{refl, ◌<◌, ◌∙◌, ℕ, sym, subst, List, ap, take, ◌≡◌}
+use Rattle.std.proofs.Common.{refl, ◌<◌, ◌∙◌, ℕ, sym, subst, List, ap, take, ◌≡◌, ◌++◌}
 use Rattle.std.specs.List.Sorted.{IsPermutation}
 use Rattle.nv_region.specs.Region.{HasBlocks}
 use Rattle.nv_super.specs.declared.superblock.Super.{Super}
@@ -7,9 +7,11 @@ use Rattle.nv_super.specs.Layout.{IsLayout}
 use Rattle.nv_scan.specs.ClaimList.{ClaimList}
 use Rattle.nv_scan.specs.Work.{claims_among, claims_in, rows_in, AreNext}
 use Rattle.nv_scan.proofs.RowHeads.{heads_first}
+use Rattle.nv_recover.specs.Scanned.{all_claims}
+use Rattle.nv_super.specs.declared.owners.Owner.{Owner}
 use Rattle.nv_recover.proofs.Inodes.{ended_at}
 use Rattle.nv_recover.proofs.InOrder.{first_in_order}
-use Rattle.nv_recover.proofs.Tickets.{tickets_none, tickets_more}
+use Rattle.nv_recover.proofs.Tickets.{tickets_none, tickets_more, claims_keep_up}
 use Rattle.nv_recover.proofs.replaying.scan_apart.Goals as goal
 
 pub loop-ticket-init : goal.loop-ticket-init
@@ -18,6 +20,7 @@ loop-ticket-init g c = record {
   room = c.in_ok-each.ensures;
   first = tickets_none c.new-inodes.ensures.rows c.new-inodes.ensures.faults c.new-work.ensures.items;
   heads = rw (c.new-heads.ensures, c.new-inodes.ensures.rows) refl;
+  claims = c.new-claims.ensures ∙ sym (ap all_claims c.new-work.ensures.items);
 }
 
 pub push_heads-requires : goal.push_heads-requires
@@ -33,14 +36,15 @@ loop-ticket-preserved g c =
     let t = l.ticket in
     let own = claims_among (take c.in_ok-count.count c.scan_slots.new.each.items) in
     let next = subst (λ (s : Super). AreNext R s (numbers_of s t) l.inodes c.scan_slots.new.inodes own) l.invariant.same c.in_ok-count.ensures.next in
-    let list = c.in_ok-list.list.items in
-    let same : list ≡ own = c.in_ok-list.ensures ∙ ap (λ (each : List ClaimList). claims_among (take c.in_ok-count.count each)) c.deref.ensures.value in
+    let list = c.in_ok-to_list.field-0 in
+    let same : list.items ≡ own = c.in_ok-to_list.ensures ∙ c.in_ok-runs.ensures ∙ ap (λ (each : List ClaimList). claims_among (take c.in_ok-count.count each)) c.deref.ensures.value in
     record {
       same = c.scan_slots.ensures.scanner ∙ l.invariant.same;
       room = c.scan_slots.ensures.room;
-      first = tickets_more t c.in_ok-list.list l.invariant.first
+      first = tickets_more t list l.invariant.first
           (subst (AreNext R c.args.sup.now (numbers_of c.args.sup.now t) l.inodes c.scan_slots.new.inodes) (sym same) next) c.in_ok-push.ensures.items;
       heads = c.in_ok-push_heads.ensures;
+      claims = claims_keep_up l.work.items c.push.new.self.items list l.invariant.claims (c.in_ok-append.ensures.ok ∙ ap (λ (ps : List (ℕ × Owner)). l.claims.items ++ ps) (sym c.in_ok-to_list.ensures)) c.in_ok-push.ensures.items;
     }
 
 pub returns-clause-inodes : goal.returns-clause-inodes

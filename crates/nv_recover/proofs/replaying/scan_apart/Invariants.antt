@@ -1,6 +1,6 @@
 use Rattle.std.proofs.Common.{◌≡◌, length}
 use Rattle.nv_scan.specs.Heads.{heads_of}
-use Rattle.nv_recover.specs.Scanned.{AreOfTickets}
+use Rattle.nv_recover.specs.Scanned.{AreOfTickets, all_claims}
 use Rattle.nv_recover.proofs.replaying.scan_apart.Given as goal
 
 abbrev pub invariant-loop-ticket : goal.invariant-loop-ticket
@@ -9,4 +9,5 @@ invariant-loop-ticket g l = record {
   room : length l.each.items ≡ 32;
   heads : l.heads.items ≡ heads_of l.inodes.rows.items;
   first : AreOfTickets (g.P.Pmem.region l.memory) l.sup l.ticket l.inodes l.work.items;
+  claims : l.claims.items ≡ all_claims l.work.items;
 }

@@ -1,4 +1,4 @@
-use Rattle.std.proofs.Common.{ℕ, List, ◌∙◌, arith, sym, subst}
+use Rattle.std.proofs.Common.{ℕ, List, arith, sym, subst}
 use Rattle.std.proofs.lemmas.Result.{IfOk-weaker}
 use Rattle.nv_super.specs.declared.owners.Owner.{Owner}
 use Rattle.nv_scan.specs.Work.{claims_in}
@@ -17,7 +17,7 @@ pub claims_of_rows-requires : goal.claims_of_rows-requires
 claims_of_rows-requires c = let given = c.requires.sets in record { scanned = (given.0, c.args.sup.now, c.requires.layout, given.1, given.3.each, given.3.rows_are) }
 
 pub doubled-requires : goal.doubled-requires
-doubled-requires c = let given = c.requires.sets in record { covers = second_covers given.3 (c.deref.ensures.value ∙ c.in_ok-claims.ensures given.0 _ given.1 given.3.each given.3.rows_are) }
+doubled-requires c = let given = c.requires.sets in record { covers = second_covers given.3 (c.in_ok-claims.ensures given.0 _ given.1 given.3.each given.3.rows_are) }
 
 pub returns-then-first_set-sup : goal.returns-then-first_set-sup
 returns-then-first_set-sup c = λ region pieces first are. subst (AreDoubled (claims_in pieces) c.args.second.now) (sym c.new.ensures.items)
@@ -25,4 +25,4 @@ returns-then-first_set-sup c = λ region pieces first are. subst (AreDoubled (cl
 
 pub returns : goal.returns
 returns c = IfOk-weaker c.doubled.result _ _ (λ found are region pieces first sets.
-    (subst (λ (claims : List (ℕ × Owner)). AreDoubled claims c.args.second.now found.items) (c.deref.ensures.value ∙ c.in_ok-claims.ensures region _ pieces sets.each sets.rows_are) are)) c.doubled.ensures
+    (subst (λ (claims : List (ℕ × Owner)). AreDoubled claims c.args.second.now found.items) (c.in_ok-claims.ensures region _ pieces sets.each sets.rows_are) are)) c.doubled.ensures

@@ -1,7 +1,6 @@
-use Rattle.std.proofs.Common.{◌≡◌, ◌+◌, ◌<◌, ◌≤◌, ◌++◌, ◌∷◌, [], List, ℕ, ap, take, sym, ◌∙◌, subst}
+use Rattle.std.proofs.Common.{◌≡◌, ◌+◌, ◌<◌, ◌≤◌, ◌++◌, ◌∷◌, [], List, ap, take, sym, ◌∙◌, subst}
 use Rattle.std.proofs.lemmas.List.{take_more, take_all}
 use Rattle.std.proofs.lemmas.Option.{get_or_from_slice_get}
-use Rattle.nv_super.specs.declared.owners.Owner.{Owner}
 use Rattle.nv_scan.specs.Claims.{AreClaimsOf, AreRowClaims}
 use Rattle.nv_scan.specs.declared.piece.Row.{Row}
 use Rattle.nv_scan.proofs.RowClaims.{HasSmall, all_small, by_rows, one_row_more}
@@ -19,7 +18,7 @@ of_row-requires c =
     subst HasSmall (get_or_from_slice_get rows c.loop-place.place row row c.at.ensures) (all c.loop-place.place row (subst (λ n. c.loop-place.place < n) c.len-place-end.ensures c.loop-place-test.true))
 
 pub loop-place-init : goal.loop-place-init
-loop-place-init c = c.new-claims.ensures.items
+loop-place-init c = c.new-claims.ensures
 
 pub loop-place-preserved : goal.loop-place-preserved
 loop-place-preserved c =
@@ -31,7 +30,7 @@ loop-place-preserved c =
     let own_claims : AreRowClaims row own.items = c.in_ok-own.ensures in
     let read : take (i + 1) rows ≡ take i rows ++ row ∷ [] = take_more rows i row within ∙ ap (λ (x : Row). take i rows ++ x ∷ []) (get_or_from_slice_get rows i row row c.at.ensures) in
     let claims = c.loop-place.claims.items in
-    let listed : c.extend_from_slice.new.self.items ≡ claims ++ own.items = c.in_ok-extend_from_slice.ensures.items ∙ ap (λ (xs : List (ℕ × Owner)). claims ++ xs) (c.deref.ensures.value ∙ c.in_ok-to_list.ensures) in
+    let listed : c.add_to.new.others.items ≡ claims ++ own.items = c.in_ok-add_to.ensures in
     subst (AreClaimsOf (take (i + 1) rows)) (sym listed)
     (subst (λ (rs : List Row). AreClaimsOf rs (claims ++ own.items)) (sym read) (one_row_more (take i rows) row claims own.items c.loop-place.invariant own_claims))
 

@@ -1,4 +1,4 @@
-use Rattle.std.proofs.Common.{◌≡◌, ◌+◌, ◌<◌, ◌≤◌, [], append-nil, refl, sym, ap, ◌∙◌, subst, arith, rules}
+use Rattle.std.proofs.Common.{◌≡◌, ◌+◌, ◌<◌, ◌≤◌, ◌^◌, [], append-nil, refl, sym, ap, ◌∙◌, subst, arith, rules}
 use Rattle.std.proofs.lemmas.Bool.{eqb-true, eqb-false}
 use Rattle.std.proofs.lemmas.Result.{err_from_is_err_and}
 use Rattle.std.proofs.lemmas.List.Elements.{All-nil}
@@ -8,7 +8,7 @@ use Rattle.nv_claimcore.specs.declared.view.Sizes.{Sizes}
 use Rattle.nv_claimcore.specs.Claims.{past, Settled}
 use Rattle.nv_claimcore.specs.Spans.{Adds}
 use Rattle.nv_claimmap.specs.Held.{MapId, Held, map_id}
-use Rattle.nv_claimmap.proofs.Listing.{records_added}
+use Rattle.nv_claimmap.proofs.Listing.{page_small, records_added}
 use Rattle.nv_claimmap.proofs.map.ClaimMap.claim.Goals as goal
 
 pub returns-then-is_empty-clause-ok : goal.returns-then-is_empty-clause-ok
@@ -23,20 +23,29 @@ invariant_of-seat c = let i = c.seat.invariant in record {
   going = i.going;
   ended = i.ended;
   settled = i.settled;
-  claims = c.reserve.ensures.items ∙ i.claims;
+  claims = c.in_err-push.ensures.err ∙ i.claims;
 }
 
-pub returns-in_err-reserve-clause-map : goal.returns-in_err-reserve-clause-map
-returns-in_err-reserve-clause-map c = ap (λ (h : Held). h.map) c.seat.view_is
+pub returns-in_err-push-clause-map : goal.returns-in_err-push-clause-map
+returns-in_err-push-clause-map c = ap (λ (h : Held). h.map) c.seat.view_is
 
-pub returns-in_err-reserve-clause-number : goal.returns-in_err-reserve-clause-number
-returns-in_err-reserve-clause-number c = ap (λ (h : Held). h.number) c.seat.view_is
+pub returns-in_err-push-clause-number : goal.returns-in_err-push-clause-number
+returns-in_err-push-clause-number c = ap (λ (h : Held). h.number) c.seat.view_is
 
-pub returns-in_err-reserve-clause-ok : goal.returns-in_err-reserve-clause-ok
-returns-in_err-reserve-clause-ok c = let w = err_from_is_err_and c.from_residual.result c.from_residual.ensures.1 in rw w.1 tt
+pub returns-in_err-push-clause-ok : goal.returns-in_err-push-clause-ok
+returns-in_err-push-clause-ok c = let w = err_from_is_err_and c.from_residual.result c.from_residual.ensures.1 in rw w.1 tt
 
-pub returns-in_err-reserve-clause-err : goal.returns-in_err-reserve-clause-err
-returns-in_err-reserve-clause-err c = let w = err_from_is_err_and c.from_residual.result c.from_residual.ensures.1 in rw w.1 (ap (λ (h : Held). h.view) c.seat.view_is)
+pub returns-in_err-push-clause-err : goal.returns-in_err-push-clause-err
+returns-in_err-push-clause-err c = let w = err_from_is_err_and c.from_residual.result c.from_residual.ensures.1 in rw w.1 (ap (λ (h : Held). h.view) c.seat.view_is)
+
+pub push-requires : goal.push-requires
+push-requires c =
+    let some : 0 < c.args.run.count = (let other = eqb-false c.args.run.count 0 (sym c.is_empty.ensures ∙ c.if-is_empty.false) in omega arith) in
+    let pages = page_small c.args.owner c.args.run.count c.args.run.count (c.requires.owner some) (omega arith) in
+    let inside = c.requires.blocks some in
+    let same : c.seat.inside.sizes.blocks ≡ c.args.self.now.sizes.blocks = ap (λ (h : Held). h.map.sizes.blocks) c.seat.view_is ∙ ap (λ (m : MapId). m.sizes.blocks) c.requires.own in
+    let small : c.seat.inside.sizes.blocks < 2 ^ 64 = search rules in
+    (omega arith, omega arith)
 
 pub claim_words-requires-clause-own : goal.claim_words-requires-clause-own
 claim_words-requires-clause-own c =
@@ -59,15 +68,6 @@ claim_words-requires-clause-run c =
 pub claim_words-requires-clause-seat : goal.claim_words-requires-clause-seat
 claim_words-requires-clause-seat c = (c.seat.invariant.seats, c.seat.invariant.settled)
 
-pub list_claims-requires-clause-run : goal.list_claims-requires-clause-run
-list_claims-requires-clause-run c =
-    let some : 0 < c.args.run.count = (let other = eqb-false c.args.run.count 0 (sym c.is_empty.ensures ∙ c.if-is_empty.false) in omega arith) in
-    let inside = c.requires.blocks some in
-    (search rules, c.requires.owner some)
-
-pub list_claims-requires-clause-room : goal.list_claims-requires-clause-room
-list_claims-requires-clause-room c = omega (arith, c.in_ok-reserve.ensures.ok, c.in_ok-reserve.ensures.len)
-
 pub invariant_of-seat-2 : goal.invariant_of-seat-2
 invariant_of-seat-2 c = let i = c.seat.invariant in let v = c.claim_words.ensures.view in record {
   slots = c.claim_words.ensures.same.2 ∙ i.slots;
@@ -75,7 +75,7 @@ invariant_of-seat-2 c = let i = c.seat.invariant in let v = c.claim_words.ensure
   going = λ e. subst (λ ns. past c.seat.inside.sizes.tickets ns ≡ 0) (sym v.1) (i.going e);
   ended = λ e. subst (λ ns. 0 < past c.seat.inside.sizes.tickets ns) (sym v.1) (i.ended e);
   settled = c.claim_words.ensures.settled;
-  claims = records_added (pairs c.args.run.start c.args.owner c.args.run.count) c.seat.inside.seat.me.0 c.claim_words.new.seat.me.0 c.reserve.new.self.items c.list_claims.new.claims.items v (c.reserve.ensures.items ∙ i.claims) c.list_claims.ensures;
+  claims = records_added (pairs c.args.run.start c.args.owner c.args.run.count) c.seat.inside.seat.me.0 c.claim_words.new.seat.me.0 c.seat.inside.claims.items c.push.new.self.items v i.claims c.in_ok-push.ensures.ok;
 }
 
 pub returns-clause-map : goal.returns-clause-map

@@ -1,4 +1,4 @@
-use Rattle.std.proofs.Common.{◌≡◌, ◌+◌, ◌<◌, ◌≤◌, ◌++◌, map, sym, ap, ◌∙◌, subst, arith}
+use Rattle.std.proofs.Common.{◌≡◌, ◌+◌, ◌<◌, ◌≤◌, ◌++◌, map, sym, ap, ◌∙◌, subst, arith, false, Result, Ok, Err, OnOk, is_err}
 use Rattle.std.specs.List.{All}
 use Rattle.std.proofs.lemmas.List.Elements.{All-append}
 use Rattle.std.proofs.lemmas.Bool.{false≢true}
@@ -10,6 +10,11 @@ use Rattle.nv_claimmap.specs.Held.{MapId, Held}
 use Rattle.nv_claimmap.proofs.Keeping.{both_allowed, look_allowed}
 use Rattle.nv_claimmap.proofs.map.ClaimMap.join.Goals.{then-one, else-one}
 use Rattle.nv_claimmap.proofs.map.ClaimMap.join.Goals as goal
+
+-- what a call did that failed not
+given_ok : {P E : Type 0} (r : Result (Unit {0}) E) → OnOk r P → is_err r ≡ false → P
+given_ok (Ok x) p e = p
+given_ok (Err x) p e = cc
 
 pub join_seat-requires : goal.join_seat-requires
 join_seat-requires c = let words = c.self.invariant.table_words in (
@@ -46,7 +51,7 @@ invariant_of-one-2 c =
         | else-one w ↦ (let y : 0 < past c.other.inside.sizes.tickets c.other.inside.seat.me.0.numbers = c.other.invariant.ended (sym w.one-is ∙ e) in omega (arith, sum))
       ];
       settled = subst (All Settled) (sym (ap (λ m. m.0.records) me)) (All-append Settled v.records u.records c.one.invariant.settled c.other.invariant.settled);
-      claims = c.append.ensures ∙ ((λ i. c.reserve.ensures.items i ++ c.other.inside.claims.items) ∙ ((λ i. c.one.invariant.claims i ++ c.other.invariant.claims i) ∙ (sym (pairs_both v.records u.records) ∙ ap (λ m. map pair_of m.0.records) (sym me))));
+      claims = given_ok c.append.result c.append.ensures.ok (sym c.is_err.ensures.value ∙ c.if-is_err.false) ∙ ((λ i. c.one.invariant.claims i ++ c.other.invariant.claims i) ∙ (sym (pairs_both v.records u.records) ∙ ap (λ m. map pair_of m.0.records) (sym me)));
     }
 
 pub returns-clause-map : goal.returns-clause-map

@@ -16,7 +16,7 @@ invariant_of-result c = let me = c.requires in record {
   going = λ _. ap (λ (m : Me ℕ View). past c.args.sizes.tickets m.0.numbers) me;
   ended = λ e. absurd (false≢true e);
   settled = subst (λ (m : Me ℕ View). All Settled m.0.records) (sym me) (All-nil Settled);
-  claims = c.new.ensures.items ∙ ap (λ (m : Me ℕ View). map pair_of m.0.records) (sym me);
+  claims = c.new.ensures ∙ ap (λ (m : Me ℕ View). map pair_of m.0.records) (sym me);
 }
 
 pub returns : goal.returns

@@ -1,6 +1,6 @@
 use Rattle.std.proofs.Common.{◌≡◌, ◌++◌, take}
 use Rattle.nv_scan.specs.Claims.{log_claims}
-use Rattle.nv_scan.proofs.claims.push_pages.Given as goal
+use Rattle.nv_scan.proofs.claims.add_pages.Given as goal
 
 abbrev pub invariant-loop-block : goal.invariant-loop-block
 invariant-loop-block l = record {
