@@ -1,6 +1,6 @@
 //! The program `nova_check`: it checks images of the NOVA file system, maps them, and explains what is told of them.
 //!
-//! It does what `nova check`, `nova map` and `nova explain` do, by the same code, and stands on far fewer crates: nothing of
+//! It does what `nova check`, `nova map` and `nova explain` do, by the same code, and stands on fewer crates: nothing of
 //! scripts and of file calls has to be proved before it answers. Any other command ends it with status 2.
 //!
 //! Its exit status is the check's, and 0 or 2 for the other two. Words that ask for nothing, a file that can't be read or written,
