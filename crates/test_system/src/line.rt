@@ -1,6 +1,7 @@
 //! Lines with what each is, as the format's text has them.
 
-use nv_line::{LINE_LIMIT, classify, no_skipped_command, number, one_reading, parse};
+use nv_line::{classify, no_skipped_command, number, one_reading, parse};
+use nv_stream::LINE_LIMIT;
 use std::alloc::Global;
 use std::process::Abort;
 use std::test::Fail;
