@@ -71,9 +71,11 @@ fn claim_both(
 
 fn is_right(alloc: Global, claimed: &Claimed) -> Result<bool, AllocError> {
     let claims = claimed.claims.to_list(alloc)?;
-    Ok(claimed.first.as_slice() == FIRST.as_slice()
-        && claimed.second.as_slice() == SECOND.as_slice()
-        && claims.len() == CLAIMS)
+    Ok(
+        claimed.first.as_slice() == FIRST.as_slice()
+            && claimed.second.as_slice() == SECOND.as_slice()
+            && claims.len() == CLAIMS,
+    )
 }
 
 /// How the claims and the join ended.

@@ -64,7 +64,10 @@ fn faults_between_four_rows(rt: HostRuntime) -> Result<(), AllocError> {
 fn both_owners_of_a_block_are_told(rt: HostRuntime) -> Result<(), AllocError> {
     let first = Owner::Log { inode: 2, page: 0 };
     let mut claims = ClaimedRuns::new(rt.alloc());
-    claims.push(Run { start: 4, count: 3 }, Owner::Data { inode: 3, page: 1 })?;
+    claims.push(
+        Run { start: 4, count: 3 },
+        Owner::Data { inode: 3, page: 1 },
+    )?;
     claims.push(Run { start: 5, count: 1 }, first)?;
     let found = doubled(rt.alloc(), &claims, &[32])?;
     let second = Owner::Data { inode: 3, page: 2 };
