@@ -8,7 +8,6 @@ use Rattle.nv_region.specs.declared.memory.Keep.{Keep}
 use Rattle.nv_line.specs.Spelling.{Says}
 use Rattle.nv_line.specs.Lines.{IsSkipped, IsBad}
 use Rattle.nv_line.proofs.Grammar.{one_request, skipped_says}
-use Rattle.nv_line.specs.Lines.{line_limit}
 use Rattle.nv_session.specs.Machine.{State, Step, writes}
 use Rattle.nv_session.proofs.OneStep.{IsOne, step_one, does_unarmed}
 use Rattle.nv_cli.specs.Hints.{Hinted, answer_hint}

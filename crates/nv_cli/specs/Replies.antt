@@ -3,7 +3,6 @@ use Rattle.std.specs.Prelude.{◌≡◌, ℕ, ◌≤◌, List, ◌∷◌, [], le
 use Rattle.nv_line.specs.Lines.{IsSkipped, IsBad}
 use Rattle.nv_stream.specs.Known.{IfKnown}
 use Rattle.nv_stream.specs.Lines.{lines_of, line_limit}
-use Rattle.nv_line.specs.Lines.{line_limit}
 use Rattle.nv_line.specs.Reasons.{reason_of}
 use Rattle.nv_session.specs.Machine.{State}
 use Rattle.nv_cli.specs.Script.{Runs}

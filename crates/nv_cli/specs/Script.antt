@@ -9,7 +9,6 @@ use Rattle.nv_line.specs.Request.{Request, Stop}
 use Rattle.nv_line.specs.Spelling.{Says}
 use Rattle.nv_line.specs.Lines.{IsSkipped, IsBad}
 use Rattle.nv_text.specs.Answers.{bad_line}
-use Rattle.nv_line.specs.Lines.{line_limit}
 use Rattle.nv_report.specs.Last.{status_of}
 use Rattle.nv_session.specs.Machine.{State, first_state, Step, writes}
 use Rattle.nv_session.specs.Sessions.{StandsFor}
