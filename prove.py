@@ -10,6 +10,7 @@ each other: the more waits for a crate, the less it yields to others. What is pr
 It ends with 0 where the program is built. What it tells of its work goes to standard error.
 """
 
+import contextlib
 import fcntl
 import hashlib
 import os
@@ -20,6 +21,7 @@ import subprocess
 import sys
 import tempfile
 import time
+from collections import namedtuple
 from pathlib import Path
 
 HERE = Path(__file__).resolve().parent
@@ -151,6 +153,10 @@ def crates_of(program):
     return crates
 
 
+# A proof that is under way: the crate, the sum of what it began with, when that was, and the prover.
+Proof = namedtuple("Proof", "crate sum begun prover")
+
+
 class Build:
     """The proofs that are under way, and what is told of them."""
 
@@ -158,7 +164,7 @@ class Build:
         self.kit, self.crates, self.logs = kit, crates, logs
         self.todo = [crate for crate in crates if not self.is_kept(crate)]
         self.count = len(self.todo)
-        # by the number of the process: the crate, the sum of what it began with, and when
+        # by the numbers of their processes
         self.running = {}
         self.begun = 0
         self.started = time.monotonic()
@@ -171,14 +177,14 @@ class Build:
 
     def next(self):
         """The crate that the most waits for, of those whose lower crates are all proved."""
-        waiting = {*self.todo, *(crate for crate, _, _ in self.running.values())}
+        waiting = {*self.todo, *(proof.crate for proof in self.running.values())}
         ready = [crate for crate in self.todo if waiting.isdisjoint(crate.below)]
         return max(ready, key=lambda crate: crate.waiting, default=None)
 
     def processes_for(self, crate):
         """More than one for a crate that the whole build waits for, or nearly so."""
         now = time.monotonic()
-        most = max((other.waiting - (now - begun) for other, _, begun in self.running.values()), default=0)
+        most = max((it.crate.waiting - (now - it.begun) for it in self.running.values()), default=0)
         return PROCESSES if crate.waiting > most else 2 if crate.waiting > 0.9 * most else 1
 
     def begin(self, crate, processes):
@@ -192,7 +198,7 @@ class Build:
         yields = round(19 - 19 * crate.waiting / most)
         total = crate.sum(self.kit)
         with open(self.logs / crate.name, "wb") as log:
-            process = subprocess.Popen(
+            prover = subprocess.Popen(
                 ["nice", "-n", str(yields), f"{self.kit.at}/bin/rattle", *crate.words(self.kit, processes)],
                 cwd=crate.folder,
                 stdin=subprocess.DEVNULL,
@@ -200,7 +206,7 @@ class Build:
                 stderr=subprocess.STDOUT,
                 preexec_fn=os.setpgrp,
             )
-        self.running[process.pid] = crate, total, time.monotonic()
+        self.running[prover.pid] = Proof(crate, total, time.monotonic(), prover)
 
     def tell(self):
         passed = int(time.monotonic() - self.started)
@@ -212,9 +218,9 @@ class Build:
 
     def wait(self):
         """Waits for the next proof that ends, and keeps it with the sum of what it began with."""
-        pid, status = os.wait()
-        crate, total, _ = self.running.pop(pid)
-        if status or (crate.is_program and self.link(crate)):
+        pid = os.waitid(os.P_ALL, 0, os.WEXITED | os.WNOWAIT).si_pid
+        crate, total, _, prover = self.running.pop(pid)
+        if prover.wait() or (crate.is_program and self.link(crate)):
             self.fail(crate)
         crate.sum_file().write_text(total)
 
@@ -234,7 +240,8 @@ class Build:
 
     def end(self):
         for pid in self.running:
-            os.killpg(pid, signal.SIGKILL)
+            with contextlib.suppress(ProcessLookupError):
+                os.killpg(pid, signal.SIGKILL)
 
     def run(self):
         if sys.stderr.isatty():

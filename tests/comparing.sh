@@ -1,5 +1,5 @@
-# What the scripts that compare the program's answers share: a folder of their own, and the counts. `readme.sh` and
-# `save-files.sh` source it.
+# What the scripts that compare the program's answers share: a folder of their own, and the counts. `readme.sh`,
+# `save-files.sh` and `front-door.sh` source it.
 
 folder=$(mktemp -d)
 trap 'rm -rf "$folder"' EXIT
