@@ -240,3 +240,20 @@ full_more es os on n second = omega (arith, second, lines_count es os, lines_cou
 pub other_had : (es : List Entry) (os : Others) (key : ℕ) (name : List ℕ) (before : List ℕ × ℕ × ℕ) (had : Option (ℕ × ℕ)) → IsBucket es os → key ≡ key_of name → Some before ≡ lookup (same_key key) es → pointwise nat_eq name before.0 ≡ false
     → had ≡ found_in (map other_line os) name → had ≡ found_in (lines_of es os) name
 other_had es os key name before had bucket is was apart found = found_in-second (map first_line es) (map other_line os) name had (sym (other_there es os key name before bucket is was apart)) found
+
+-- Where each key finds what it did, the map of keys and the others are a bucket again, of the same names.
+pub record Stays (es en : List Entry) (os : Others) : Type 0 where
+  pub bucket : IsBucket en os
+  pub names : FindSame (lines_of es os) (lines_of en os)
+
+pub first_stays : (es en : List Entry) (os : Others) → IsBucket es os → AreKeyed en → Once en → length en ≡ length es → ((k : ℕ) → lookup (same_key k) en ≡ lookup (same_key k) es) → Stays es en os
+first_stays es en os bucket keyed once len same =
+    let first : FindSame (map first_line es) (map first_line en) = first_same es en (recursion_from_All _ _ bucket.keyed) bucket.once (recursion_from_All _ _ keyed) once same in record {
+      bucket = record {
+        keyed = keyed;
+        once = once;
+        apart = AreApart-same (map first_line es) (map first_line en) (map other_line os) first bucket.apart;
+        few = let few = bucket.few in omega (arith, few, len);
+      };
+      names = FindSame-front (map first_line es) (map first_line en) (map other_line os) first;
+    }

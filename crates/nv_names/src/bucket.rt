@@ -27,6 +27,9 @@ type Others = BTreeMap<Vec<u8>, Target>;
 /// names, if somebody picked them for that.
 pub(crate) const MOST_BY_KEY: usize = 4096;
 
+/// A map of fewer names by their keys grows to four times its size, and a larger one to twice its size.
+const FEW: usize = 64;
+
 /// From here on the bucket takes no name: no memory holds so many, and their number still fits a word.
 const MOST: usize = 0x7FFF_FFFF_FFFF_FFFF;
 
@@ -75,6 +78,33 @@ impl Bucket {
 
     /// Puts a name into the bucket, in place of what it stood for, which it answers.
     pub(crate) fn put(
+        &mut self,
+        alloc: Global,
+        key: u64,
+        name: &[u8],
+        target: Target,
+    ) -> Result<Option<Target>, AllocError>
+        requires { key ≡ key_of name.now }
+        ensures had { IfOk result (λ had. option_map inode_and_place had ≡ found_in self.old name.now) }
+        ensures ok { OnOk result (PutsAt self.old self.new name.now (Some (inode_and_place target))) }
+        ensures err { OnErr result (FindSame self.old self.new) }
+        ensures more { IfOk result (λ had. length self.new ≡ length self.old + (if is_some had then 0 else 1)) }
+        ensures no_more { OnErr result (length self.new ≡ length self.old) }
+    {
+        self.make_room()?;
+        self.put_by_key(alloc, key, name, target)
+    }
+
+    /// Makes room for names by their keys, where there is none.
+    fn make_room(&mut self) -> Result<(), AllocError>
+        ensures names { FindSame self.old self.new }
+        ensures len { length self.new ≡ length self.old }
+    {
+        grow(&mut self.first)
+    }
+
+    /// Puts a name into the bucket, by its key or among the others, and answers what it stood for.
+    fn put_by_key(
         &mut self,
         alloc: Global,
         key: u64,
@@ -141,6 +171,22 @@ impl Bucket {
     }
 }
 
+/// Makes room for more names, where there is room for none: the fewer times a map grows, the fewer times names move. A small one
+/// grows faster, since each growth asks for memory four times.
+fn grow(first: &mut First) -> Result<(), AllocError>
+    requires keyed { AreKeyed first.old.entries }
+    ensures keyed { AreKeyed first.new.entries }
+    ensures once { IsDistinct nat_eq (keys_of first.new.entries) }
+    ensures len { length first.new.entries ≡ length first.old.entries }
+    ensures same { (k : ℕ) → lookup (nat_eq k) first.new.entries ≡ lookup (nat_eq k) first.old.entries }
+{
+    if first.len() < first.capacity() {
+        return Ok(());
+    }
+    let len = first.len();
+    first.reserve(if len < FEW { 3 * len } else { len })
+}
+
 /// Whether a name may stand by this key: the map has it already, or takes one more.
 fn takes(first: &First, key: u64) -> bool
     ensures { result ≡ false → lookup (nat_eq key) first.now.entries ≡ None }
@@ -187,6 +233,7 @@ fn take_first(first: &mut First, key: u64)
 }
 
 /// Gives a key its name again, where another was put.
+#[inline(never)]
 fn put_back(first: &mut First, key: u64, before: Held)
     requires keyed { AreKeyed first.old.entries }
     requires key { key ≡ key_of before.0 }
@@ -201,7 +248,21 @@ fn put_back(first: &mut First, key: u64, before: Held)
 }
 
 /// Takes a name out of the others, and answers what it stood for.
+#[inline(always)]
 fn take_other(others: &mut Others, name: &[u8]) -> Option<Target>
+    ensures had { option_map inode_and_place result ≡ found_in (map other_line others.old.entries) name.now }
+    ensures names { PutsAt (map other_line others.old.entries) (map other_line others.new.entries) name.now None }
+    ensures len { length others.new.entries + (if is_some result then 1 else 0) ≡ length others.old.entries }
+{
+    if others.is_empty() {
+        return None;
+    }
+    remove_other(others, name)
+}
+
+/// Takes a name out of the others, of which there are some mostly.
+#[inline(never)]
+fn remove_other(others: &mut Others, name: &[u8]) -> Option<Target>
     ensures had { option_map inode_and_place result ≡ found_in (map other_line others.old.entries) name.now }
     ensures names { PutsAt (map other_line others.old.entries) (map other_line others.new.entries) name.now None }
     ensures len { length others.new.entries + (if is_some result then 1 else 0) ≡ length others.old.entries }
@@ -210,6 +271,7 @@ fn take_other(others: &mut Others, name: &[u8]) -> Option<Target>
 }
 
 /// Puts a name among the others, and answers what it stood for.
+#[inline(never)]
 fn put_other(
     alloc: Global,
     others: &mut Others,

@@ -30,6 +30,8 @@ pub(crate) fn make_room(
 }
 
 /// Many buckets that have the names of one.
+// It is called once for a directory, and its locals would be cleared for each name.
+#[inline(never)]
 fn spread(alloc: Global, one: &Bucket) -> Result<Vec<Bucket>, AllocError>
     ensures many { IfOk result (λ many. AreMany many.items) }
     ensures names { IfOk result (λ many. FindSame one.now (all_lines many.items)) }

@@ -73,6 +73,8 @@ impl Table {
     }
 
     /// Gives a name its inode and the place of its entry. It takes no memory.
+    // Its locals would be cleared in each `put`.
+    #[inline(never)]
     pub(crate) fn add(&mut self, name: &[u8], inode: u64, place: u64)
         requires name { IsName name.now }
         requires room { 0 < self.old.room }

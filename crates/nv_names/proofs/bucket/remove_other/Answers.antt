@@ -2,7 +2,7 @@ use Rattle.std.proofs.Common.{ap, sym, ◌∙◌}
 use Rattle.std.specs.Option.{option_map}
 use Rattle.nv_names.specs.Names.{inode_and_place}
 use Rattle.nv_names.proofs.Entries.{found_other, other_taken}
-use Rattle.nv_names.proofs.bucket.take_other.Goals as goal
+use Rattle.nv_names.proofs.bucket.remove_other.Goals as goal
 
 pub returns-clause-had : goal.returns-clause-had
 returns-clause-had c = ap (option_map inode_and_place) c.remove.ensures.value ∙ sym (found_other c.args.others.now.entries c.args.name.now)

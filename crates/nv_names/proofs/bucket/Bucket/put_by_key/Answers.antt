@@ -7,7 +7,7 @@ use Rattle.nv_names.specs.Names.{inode_and_place, found_in}
 use Rattle.nv_names.specs.Bucket.{IsBucket, lines_of}
 use Rattle.nv_names.proofs.First.{key_found}
 use Rattle.nv_names.proofs.Keeping.{Changes, Puts, full_puts, full_more, put_keyed, new_put, new_had, new_more, again_put, again_had, again_more, other_puts, other_had, other_more, no_other_more, one_more, no_more}
-use Rattle.nv_names.proofs.bucket.Bucket.put.Goals as goal
+use Rattle.nv_names.proofs.bucket.Bucket.put_by_key.Goals as goal
 
 -- a word counts the names before, and one more
 few : (n m first others more : ℕ) → n + m < 9223372036854775807 → n ≡ first → m ≡ others → more ≤ others + 1 → first + more < 2 ^ 63
