@@ -25,6 +25,9 @@ use nv_region::Pmem;
 use nv_super::{Fault, Kind, Super};
 use std::alloc::{AllocError, Global};
 
+/// Where a name is read. Whoever reads many logs keeps one, since to clear a new one costs more than most names do.
+pub(crate) type NameRoom = ArrayVec<u8, 255>;
+
 /// What the entries read so far say, by the last word of each, and what is wrong with them.
 #[derive(Drop)]
 pub(crate) struct Fold {
@@ -47,8 +50,8 @@ impl Fold {
         }
     }
 
-    /// Takes one entry more, and reads its name, if it has one. An entry that says what can't be is told as a fault, and
-    /// changes nothing else.
+    /// Takes one entry more, and reads its name, if it has one, in place of what is in `name`. An entry that says what can't
+    /// be is told as a fault, and changes nothing else.
     pub(crate) fn take<P: Pmem>(
         &mut self,
         memory: &P,
@@ -56,13 +59,14 @@ impl Fold {
         kind: Kind,
         inode: u64,
         placed: &LightPlaced,
+        name: &mut NameRoom,
     ) -> Result<(), AllocError>
         requires areas { HasAreas sup.now }
         requires name { CanBeRead (P.region memory.now) placed.now.entry }
         ensures { OnOk result (Takes sup.now kind inode (placed_in (P.region memory.now) placed.now) self.old self.new) }
     {
         match &placed.entry {
-            LightEntry::Name(e) => self.take_name(memory, sup, kind, inode, placed.at, e),
+            LightEntry::Name(e) => self.take_name(memory, sup, kind, inode, placed.at, e, name),
             LightEntry::Write(e) => self.take_write(sup, kind, inode, placed.at, e),
             LightEntry::NextPage | LightEntry::Attr(_) | LightEntry::Links(_) => self.take_bare(
                 sup, kind, inode, placed,
@@ -147,8 +151,7 @@ impl Fold {
         apply_pages(&mut self.extents, sup, kind, placed)
     }
 
-    /// Takes a name entry at a place, and reads its name. Room for a name is taken here alone, so that other entries
-    /// don't pay for it.
+    /// Takes a name entry at a place, and reads its name in place of what is in `name`.
     fn take_name<P: Pmem>(
         &mut self,
         memory: &P,
@@ -157,19 +160,19 @@ impl Fold {
         inode: u64,
         at: u64,
         e: &LightName,
+        name: &mut NameRoom,
     ) -> Result<(), AllocError>
         requires areas { HasAreas sup.now }
         requires name { HasName (P.region memory.now) e.now }
         ensures { OnOk result (Takes sup.now kind inode (placed at (Entry.Name (name_in (P.region memory.now) e.now))) self.old self.new) }
     {
-        let mut name: ArrayVec<u8, 255> = ArrayVec::new();
-        e.read_name(memory, &mut name);
-        match check_name(sup, kind, e, &name) {
+        e.read_name(memory, name);
+        match check_name(sup, kind, e, name) {
             Some(fault) => {
                 self.faults.push(told(fault, inode, at))?;
                 Ok(())
             }
-            None => self.take_good_name(sup, kind, inode, at, e, &name),
+            None => self.take_good_name(sup, kind, inode, at, e, name),
         }
     }
 

@@ -7,7 +7,7 @@ ghost use Rattle.nv_logpage.specs.Progress.{at_head, remaining};
 ghost use Rattle.nv_scan.specs.Fold.{Holds};
 ghost use Rattle.nv_scan.specs.Reading.{IsRead, IsReadSoFar};
 
-use crate::fold::Fold;
+use crate::fold::{Fold, NameRoom};
 use crate::in_use::InUse;
 use nv_entry::WRITE_LENGTH;
 use nv_logpage::{LightFinding, LogEnd, LogReader};
@@ -16,13 +16,14 @@ use nv_super::{Kind, Super};
 use std::alloc::AllocError;
 
 /// Reads the log of an inode in use by a reader at its head, which has its pages then, and answers the fault that ended it,
-/// unless it ended at its tail. Its entries are taken by the fold, and none is kept.
+/// unless it ended at its tail. Its entries are taken by the fold, and none is kept; names are read in `name`.
 pub(crate) fn read_log<P: Pmem>(
     memory: &P,
     sup: &Super,
     reader: &mut LogReader,
     used: &InUse,
     fold: &mut Fold,
+    name: &mut NameRoom,
 ) -> Result<Option<LogEnd>, AllocError>
     requires areas { HasAreas sup.now }
     requires blocks { HasBlocks (P.region memory.now) sup.now.blocks }
@@ -34,7 +35,9 @@ pub(crate) fn read_log<P: Pmem>(
     'reading: loop {
         take_writes(memory, sup, reader, used, fold)?;
         match reader.next_light(memory)? {
-            LightFinding::Entry(placed) => fold.take(memory, sup, used.kind, used.inode, &placed)?,
+            LightFinding::Entry(placed) => {
+                fold.take(memory, sup, used.kind, used.inode, &placed, name)?;
+            }
             LightFinding::Page(_) => {}
             LightFinding::End(fault) => return Ok(fault),
         }

@@ -14,7 +14,7 @@ ghost use Rattle.nv_scan.specs.Tickets.{IsBlank, HasValidWord, number_at, ticket
 ghost use Rattle.nv_scan.specs.Kept.{Keeps, KeepsFound, IsPieceBy, SameInodes};
 
 use crate::claims::Claims;
-use crate::fold::{Fold, push_fault};
+use crate::fold::{Fold, NameRoom, push_fault};
 use crate::in_use::InUse;
 use crate::inodes::Inodes;
 use crate::piece::{LogPages, Piece, Row};
@@ -38,6 +38,7 @@ pub struct Scanner {
     alloc: Global,
     sup: Super,
     reader: Option<LogReader>,
+    name: NameRoom,
     // What was touched last, which says nothing: it stands here so that it is loaded.
     touched: u64,
 }
@@ -64,6 +65,7 @@ impl Scanner {
             alloc,
             sup: *sup,
             reader: None,
+            name: NameRoom::new(),
             touched: 0,
         }
     }
@@ -138,6 +140,7 @@ impl Scanner {
                 memory,
                 &self.sup,
                 &mut self.reader,
+                &mut self.name,
                 &InUse {
                     inode,
                     kind,
@@ -199,6 +202,7 @@ fn scan_log<P: Pmem>(
     memory: &P,
     sup: &Super,
     reader: &mut Option<LogReader>,
+    name: &mut NameRoom,
     used: &InUse,
     inodes: &mut Inodes,
     claims: &mut Claims,
@@ -218,7 +222,7 @@ fn scan_log<P: Pmem>(
         let Some(at_head) = reader else {
             unreachable!()
         };
-        scan_from_head(alloc, memory, sup, at_head, used, inodes, claims)
+        scan_from_head(alloc, memory, sup, at_head, name, used, inodes, claims)
     } else {
         let mut fold = Fold::new(alloc, used.slot.created);
         let fault = Fault::I3 { inode: used.inode };
@@ -232,6 +236,7 @@ fn scan_from_head<P: Pmem>(
     memory: &P,
     sup: &Super,
     reader: &mut LogReader,
+    name: &mut NameRoom,
     used: &InUse,
     inodes: &mut Inodes,
     claims: &mut Claims,
@@ -248,7 +253,7 @@ fn scan_from_head<P: Pmem>(
     ensures refused { OnErr result (SameInodes inodes.old inodes.new) }
 {
     let mut fold = Fold::new(alloc, used.slot.created);
-    let end = read_log(memory, sup, reader, used, &mut fold)?;
+    let end = read_log(memory, sup, reader, used, &mut fold, name)?;
     let fault = fault_of_end(used.inode, end);
     keep(
         alloc,
