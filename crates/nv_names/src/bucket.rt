@@ -27,8 +27,11 @@ type Others = BTreeMap<Vec<u8>, Target>;
 /// names, if somebody picked them for that.
 pub(crate) const MOST_BY_KEY: usize = 4096;
 
-/// A map of fewer names by their keys grows to four times its size, and a larger one to twice its size.
-const FEW: usize = 64;
+/// A map of fewer names by their keys is small: it grows to four times its size, and a larger one to twice its size.
+const FEW: usize = 128;
+
+/// A small map gets room for at least so many names more, where it has some.
+const LEAST_MORE: usize = 63;
 
 /// From here on the bucket takes no name: no memory holds so many, and their number still fits a word.
 const MOST: usize = 0x7FFF_FFFF_FFFF_FFFF;
@@ -171,8 +174,8 @@ impl Bucket {
     }
 }
 
-/// Makes room for more names, where there is room for none: the fewer times a map grows, the fewer times names move. A small one
-/// grows faster, since each growth asks for memory four times.
+/// Makes room for more names, where there are some and room for no more: the fewer times a map grows, the fewer times names move.
+/// A small one grows faster, since each growth asks for memory four times.
 fn grow(first: &mut First) -> Result<(), AllocError>
     requires keyed { AreKeyed first.old.entries }
     ensures keyed { AreKeyed first.new.entries }
@@ -180,11 +183,16 @@ fn grow(first: &mut First) -> Result<(), AllocError>
     ensures len { length first.new.entries ≡ length first.old.entries }
     ensures same { (k : ℕ) → lookup (nat_eq k) first.new.entries ≡ lookup (nat_eq k) first.old.entries }
 {
-    if first.len() < first.capacity() {
+    let len = first.len();
+    if len == 0 || len < first.capacity() {
         return Ok(());
     }
-    let len = first.len();
-    first.reserve(if len < FEW { 3 * len } else { len })
+    let more = if len < FEW {
+        (3 * len).max(LEAST_MORE)
+    } else {
+        len
+    };
+    first.reserve(more)
 }
 
 /// Whether a name may stand by this key: the map has it already, or takes one more.
