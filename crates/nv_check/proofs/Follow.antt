@@ -9,11 +9,12 @@ use Rattle.std.proofs.lemmas.Option.{same_Some}
 use Rattle.nv_blockset.proofs.Sets.{blank_at}
 use Rattle.nv_super.proofs.Rising.{Contains-cons, Contains-head}
 use Rattle.nv_super.specs.declared.kind.Kind.TheVariants.{File, Directory}
-use Rattle.nv_super.proofs.Members.{from_map, into_map}
+use Rattle.nv_super.proofs.Members.{from_map, into_map, none_in}
 use Rattle.nv_numbered.specs.Values.{AreNumbersBelow}
+use Rattle.nv_names.specs.declared.named.Named.{Named}
 use Rattle.nv_check.specs.declared.listing.Listing.{Listing}
 use Rattle.nv_check.specs.Listings.{inodes_of, target, targets, IsReached, root, step}
-use Rattle.nv_check.specs.Steps.{place_of, ArePlaces, IsTable, IsMarked, Spreads, Reaching, AreReached, IsAt, NamesMarked, AreCounts, AreNumbersOfNames}
+use Rattle.nv_check.specs.Steps.{place_of, ArePlaces, IsTable, IsMarked, IsNameless, Spreads, Reaching, AreReached, IsAt, NamesMarked, AreCounts, AreNumbersOfNames}
 use Rattle.nv_check.proofs.PlaceTable.{none_some, equal_or}
 use Rattle.nv_check.proofs.Spread.{marked_at, marked_else}
 
@@ -55,7 +56,7 @@ module _ (listings : List Listing) (table : List (Option ℕ)) (places : ArePlac
   numbers_of_names counts h = record { same = h.same; each = λ k l lt is. h.each l.inode k (row_place k l (lt, is)) }
 
 pub reaching_step : (listings : List Listing) (table : List (Option ℕ)) (places : ArePlaces listings table) (marks marks' : List Bool) (todo todo' : List ℕ) (place : ℕ) (d : Listing) → IsAt listings place d
-    → Reaching listings table marks (todo ++ place ∷ []) → Spreads table (map target d.names.items) marks todo marks' todo' → Reaching listings table marks' todo'
+    → Reaching listings table marks (todo ++ place ∷ []) → Spreads listings table (map target d.names.items) marks todo marks' todo' → Reaching listings table marks' todo'
 reaching_step listings table places marks marks' todo todo' place d at h s = record {
   same = s.same ∙ h.same;
   sound = λ k l is m. elim (s.from k m) [
@@ -78,10 +79,14 @@ reaching_step listings table places marks marks' todo todo' place d at h s = rec
       ]
       | inr v ↦ inr (λ x c j e. s.kept j (v x c j e))
     ]
-    | inr w ↦ inl w.0
+    | inr w ↦ elim w.0 [ inl v ↦ inl v | inr v ↦ inr (nameless_marked k l is v) ]
   ];
   root = λ k l is one dir. s.kept k (h.root k l is one dir);
 } where
+  -- all that a row without names names is marked, since it names nothing
+  nameless_marked : (k : ℕ) (l : Listing) → IsAt listings k l → IsNameless listings k → NamesMarked table marks' l
+  nameless_marked k l is none x c j e = absurd (none_in x (subst (λ (xs : List Named). Contains xs x) (none l is) c))
+
   here : IsMarked marks place × (place < length listings)
   here = h.todo_marked place (Contains-push todo place)
 

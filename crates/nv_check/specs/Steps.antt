@@ -1,5 +1,5 @@
 -- What the checks make, step by step.
-use Rattle.std.specs.Prelude.{◌≡◌, ℕ, ◌+◌, ◌<◌, ◌==◌, Bool, true, false, not, if◌then◌else◌, List, [], ◌∷◌, ◌++◌, length, count_by, Option, Some, None, is_some, unwrap_or, slice_get, slice_index, slice_index_or, ◌⊎◌}
+use Rattle.std.specs.Prelude.{◌≡◌, ℕ, ◌+◌, ◌<◌, ◌≤◌, ◌==◌, Bool, true, false, not, if◌then◌else◌, List, [], ◌∷◌, ◌++◌, length, count_by, Option, Some, None, is_some, unwrap_or, slice_get, slice_index, slice_index_or, ◌⊎◌}
 use Rattle.std.specs.List.{Contains, flat_map, filter_map, cons_option, list_any}
 use Rattle.std.specs.declared.vec.Vec.{Vec}
 use Rattle.std.specs.declared.alloc.Global.{Global}
@@ -69,19 +69,23 @@ IsMarked marks k = slice_index_or marks k false ≡ true
 abbrev pub unmarked : List Bool → ℕ
 unmarked marks = count_by not marks
 
--- What marking the inodes that are named here does to the marks and the places that are open.
-pub record Spreads (table : List (Option ℕ)) (named : List ℕ) (marks : List Bool) (todo : List ℕ) (marks' : List Bool) (todo' : List ℕ) : Type 0 where
-  pub same : length marks' ≡ length marks
-  pub kept : (k : ℕ) → IsMarked marks k → IsMarked marks' k
-  pub from : (k : ℕ) → IsMarked marks' k → IsMarked marks k ⊎ (Contains todo' k × (i : ℕ) × Contains named i × (place_of table i ≡ Some k))
-  pub all : (i k : ℕ) → Contains named i → place_of table i ≡ Some k → IsMarked marks' k
-  pub todo_kept : (k : ℕ) → Contains todo k → Contains todo' k
-  pub todo_from : (k : ℕ) → Contains todo' k → Contains todo k ⊎ (IsMarked marks' k × (k < length marks))
-  pub work : length todo' + unmarked marks' ≡ length todo + unmarked marks
-
 -- l is the row at place k
 abbrev pub IsAt : List Listing → ℕ → Listing → Type 0
 IsAt listings k l = (k < length listings) × (slice_index_or listings k l ≡ l)
+
+-- the row at place k has no names
+abbrev pub IsNameless : List Listing → ℕ → Type 0
+IsNameless listings k = (l : Listing) → IsAt listings k l → l.names.items ≡ []
+
+-- What marking the inodes that are named here does to the marks and the places that are open. A row without names needn't be opened.
+pub record Spreads (listings : List Listing) (table : List (Option ℕ)) (named : List ℕ) (marks : List Bool) (todo : List ℕ) (marks' : List Bool) (todo' : List ℕ) : Type 0 where
+  pub same : length marks' ≡ length marks
+  pub kept : (k : ℕ) → IsMarked marks k → IsMarked marks' k
+  pub from : (k : ℕ) → IsMarked marks' k → IsMarked marks k ⊎ ((Contains todo' k ⊎ IsNameless listings k) × (i : ℕ) × Contains named i × (place_of table i ≡ Some k))
+  pub all : (i k : ℕ) → Contains named i → place_of table i ≡ Some k → IsMarked marks' k
+  pub todo_kept : (k : ℕ) → Contains todo k → Contains todo' k
+  pub todo_from : (k : ℕ) → Contains todo' k → Contains todo k ⊎ (IsMarked marks' k × (k < length marks))
+  pub work : length todo' + unmarked marks' ≤ length todo + unmarked marks
 
 -- what the row's names name is marked
 abbrev pub NamesMarked : List (Option ℕ) → List Bool → Listing → Type 0

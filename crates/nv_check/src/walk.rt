@@ -35,11 +35,16 @@ pub(crate) fn reach(
     ensures { IfOk result (λ marks. AreReached listings.now marks.items) }
 {
     let mut marks = vec![in alloc; false; listings.len()]?;
-    // Each row is opened once at most.
-    let mut todo = Vec::with_capacity(alloc, listings.len())?;
+    let mut todo = Vec::new(alloc);
     mark_root(listings, places, &mut marks, &mut todo)?;
     while let Some(place) = todo.pop() {
-        spread(places, &listings[place].names, &mut marks, &mut todo)?;
+        spread(
+            listings,
+            places,
+            &listings[place].names,
+            &mut marks,
+            &mut todo,
+        )?;
     }
     Ok(marks)
 }
@@ -106,36 +111,42 @@ fn push_no_root(faults: &mut Vec<Fault>, listings: &[Listing<'_>]) -> Result<(),
     Ok(())
 }
 
-/// Marks what the names name, and opens it where it wasn't marked.
+/// Marks what the names name, and opens it where it wasn't marked and has names.
 fn spread(
+    listings: &[Listing<'_>],
     places: &Places,
     names: &[Named<'_>],
     marks: &mut Vec<bool>,
     todo: &mut Vec<usize>,
 ) -> Result<(), AllocError>
-    requires { IsTable (length marks.old.items) places.now }
-    ensures { OnOk result (Spreads places.now (map target names.now) marks.old.items todo.old.items marks.new.items todo.new.items) }
+    requires table { IsTable (length marks.old.items) places.now }
+    requires same { length marks.old.items ≡ length listings.now }
+    ensures { OnOk result (Spreads listings.now places.now (map target names.now) marks.old.items todo.old.items marks.new.items todo.new.items) }
 {
     for name in names {
-        spread_to(places, name.inode, marks, todo)?;
+        spread_to(listings, places, name.inode, marks, todo)?;
     }
     Ok(())
 }
 
-/// Marks an inode, and opens it where it wasn't marked.
+/// Marks an inode, and opens it where it wasn't marked and has names. A row without names leads nowhere.
 fn spread_to(
+    listings: &[Listing<'_>],
     places: &Places,
     inode: u64,
     marks: &mut Vec<bool>,
     todo: &mut Vec<usize>,
 ) -> Result<(), AllocError>
-    requires { IsTable (length marks.old.items) places.now }
-    ensures { OnOk result (Spreads places.now (inode ∷ []) marks.old.items todo.old.items marks.new.items todo.new.items) }
+    requires table { IsTable (length marks.old.items) places.now }
+    requires same { length marks.old.items ≡ length listings.now }
+    ensures { OnOk result (Spreads listings.now places.now (inode ∷ []) marks.old.items todo.old.items marks.new.items todo.new.items) }
 {
     if let Some(place) = places.find(inode) {
         if !marks[place] {
-            todo.push(place)?;
             marks[place] = true;
+            if !listings[place].names.is_empty() {
+                todo.push(place)?;
+            }
         }
     }
     Ok(())

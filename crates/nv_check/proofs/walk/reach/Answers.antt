@@ -21,12 +21,15 @@ pub offset_bounds-listings-place : goal.offset_bounds-listings-place
 offset_bounds-listings-place c = let lt = place_below _ _ c.loop-place.invariant c.in-Some.ensures.items in omega (arith, lt)
 
 pub spread-requires : goal.spread-requires
-spread-requires c = let P : ℕ → Type 0 = λ n. IsTable n c.args.places.now in subst P (sym c.loop-place.invariant.same) (is_table c.args.listings.now c.args.places.now c.requires)
+spread-requires c = let P : ℕ → Type 0 = λ n. IsTable n c.args.places.now in record {
+  table = subst P (sym c.loop-place.invariant.same) (is_table c.args.listings.now c.args.places.now c.requires);
+  same = c.loop-place.invariant.same;
+}
 
 pub loop-place-preserved : goal.loop-place-preserved
 loop-place-preserved c =
     let at : IsAt c.args.listings.now c.in-Some.place c.index-listings-place.result = (place_below _ _ c.loop-place.invariant c.in-Some.ensures.items, sym c.index-listings-place.is) in
-    let S : List Named → Type 0 = λ ns. Spreads c.args.places.now (map target ns) c.loop-place.marks.items c.pop.new.self.items c.spread.new.marks.items c.spread.new.todo.items in
+    let S : List Named → Type 0 = λ ns. Spreads c.args.listings.now c.args.places.now (map target ns) c.loop-place.marks.items c.pop.new.self.items c.spread.new.marks.items c.spread.new.todo.items in
     let L : Listing → Type 0 = λ l. S l.names.items in
     let one : S c.index-listings-place.result.names.items = subst L (sym c.index-listings-place.is) (subst S c.deref.ensures.value c.in_ok-spread.ensures) in
     reaching_step c.args.listings.now c.args.places.now c.requires _ _ _ _ _ _ at (stands_in _ _ c.loop-place.invariant c.in-Some.ensures.items) one

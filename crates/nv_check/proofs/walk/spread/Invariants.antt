@@ -4,4 +4,4 @@ use Rattle.nv_check.specs.Steps.{Spreads}
 use Rattle.nv_check.proofs.walk.spread.Given as goal
 
 abbrev pub invariant-loop-name : goal.invariant-loop-name
-invariant-loop-name l = Spreads l.places (map target (take l.name-index l.names)) l.initial.marks.items l.initial.todo.items l.marks.items l.todo.items
+invariant-loop-name l = Spreads l.listings l.places (map target (take l.name-index l.names)) l.initial.marks.items l.initial.todo.items l.marks.items l.todo.items
