@@ -13,7 +13,7 @@ ghost use Rattle.nv_scan.specs.Rows.{IsPiece};
 ghost use Rattle.nv_scan.specs.Work.{rows_in, claims_in};
 ghost use Rattle.nv_scan.specs.declared.piece.Piece.{Piece};
 
-use crate::piece::{LogPages, Row};
+use crate::piece::{LogPages, Row, extend_pages};
 use nv_claimmap::ClaimedRuns;
 use nv_numbered::Chunks;
 use nv_radix::{Extent, ExtentMap, FileIndex};
@@ -112,7 +112,7 @@ impl Claims {
     {
         self.inode = inode;
         self.pages.clear();
-        self.pages.extend_from_slice(pages)?;
+        extend_pages(&mut self.pages, pages)?;
         // The extents are made where they stay, and moved no more.
         match extents.fill_index(index, &mut self.runs) {
             Ok(()) => Ok(()),

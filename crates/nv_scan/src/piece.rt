@@ -1,14 +1,30 @@
 //! What a scan finds of one inode.
 
+ghost use Rattle.std.specs.Prelude.{◌≡◌, ◌++◌, OnOk};
+
 use crate::claims::Claims;
 use crate::numbers::Numbers;
 use nv_names::NameIndex;
 use nv_radix::FileIndex;
 use nv_super::{Fault, Kind};
 use smallvec::SmallVec;
+use std::alloc::AllocError;
 
 /// The blocks of a log's pages. Most logs have one page, and two take no memory of their own.
 pub type LogPages = SmallVec<u64, 2>;
+
+/// Puts blocks of a log behind others.
+// Most logs have one page, and a copy of a list costs more than to store its block.
+#[inline(always)]
+pub(crate) fn extend_pages(pages: &mut LogPages, blocks: &[u64]) -> Result<(), AllocError>
+    ensures { OnOk result (pages.new.items ≡ pages.old.items ++ blocks.now) }
+{
+    if blocks.len() == 1 {
+        pages.push(blocks[0])?;
+        return Ok(());
+    }
+    pages.extend_from_slice(blocks)
+}
 
 /// The row of an inode in use.
 #[derive(Drop)]

@@ -17,7 +17,7 @@ use crate::claims::Claims;
 use crate::fold::{Fold, NameRoom, push_fault};
 use crate::in_use::InUse;
 use crate::inodes::Inodes;
-use crate::piece::{LogPages, Piece, Row};
+use crate::piece::{LogPages, Piece, Row, extend_pages};
 use crate::reading::read_log;
 use crate::tickets::number_at;
 use crate::touching::touch_ticket;
@@ -361,7 +361,7 @@ fn fill_row(
     requires no_index { (p : ℕ) → block_at row.old.index p ≡ None }
     ensures { OnOk result (IsFilled pages.now (block_by extents.now) row.old row.new claims.new) }
 {
-    row.pages.extend_from_slice(pages)?;
+    extend_pages(&mut row.pages, pages)?;
     claims.set(row.inode, pages, extents, &mut row.index)
 }
 

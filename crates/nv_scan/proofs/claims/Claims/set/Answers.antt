@@ -11,7 +11,7 @@ returns-in-Ok-clause-claims c =
     let given = c.args.pages.now in
     let index = c.fill_index.new.index in
     let runs = c.fill_index.new.extents.items in
-    subst (λ (pages : List ℕ). Lists (λ (x : ℕ × Owner). owner_key x.1) (IsClaim i given index) (log_claims i 0 pages ++ data_claims i runs)) (sym (c.in_ok-extend_from_slice.ensures.ok ∙ ap (λ (pages : List ℕ). pages ++ given) c.clear.ensures.items))
+    subst (λ (pages : List ℕ). Lists (λ (x : ℕ × Owner). owner_key x.1) (IsClaim i given index) (log_claims i 0 pages ++ data_claims i runs)) (sym (c.in_ok-extend_pages.ensures ∙ ap (λ (pages : List ℕ). pages ++ given) c.clear.ensures.items))
     (are_claims i given index runs c.in-Ok.ensures.extents)
 
 pub invariant_of-self-in-Ok : goal.invariant_of-self-in-Ok
