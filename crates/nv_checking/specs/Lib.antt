@@ -3,4 +3,5 @@ pub mod Workers
 pub mod Recovering
 pub mod Checking
 pub mod Mapping
+pub mod Files
 pub use Rattle.nv_recover.specs as nv_recover

@@ -1,1 +1,4 @@
+pub mod Drawing
+pub mod Explaining
 pub mod Failures
+pub mod Images

@@ -1,8 +1,9 @@
 //! The bytes of the image in a file.
 
-ghost use Rattle.std.specs.Prelude.{◌≡◌, OnOk, OnErr, IfOk, IfErr, codes};
+ghost use Rattle.std.specs.Prelude.{◌≡◌, OnOk, OnErr, IfOk, IfErr, IfSome, IsNone, codes};
 ghost use Rattle.std.specs.Io.KnownBytes.{Appends};
 ghost use Rattle.nv_stream.specs.Streams.{AppendsFront};
+ghost use Rattle.nv_images.specs.Images.{IsRegionLength, KeepsLongest, IsUnread, length_of};
 
 use crate::failure::Failure;
 use nv_report::{BadLength, LONGEST_REGION, is_region_length};
@@ -24,7 +25,10 @@ pub enum Image {
 /// Reads the image in the file at a path, once.
 ///
 /// Errors: `CannotRead` where the file can't be opened or read, and want of memory.
-pub fn image_at<'a, H: Files + AllocGlobal>(rt: &H, path: &'a str) -> Result<Image, Failure<'a>> {
+pub fn image_at<'a, H: Files + AllocGlobal>(rt: &H, path: &'a str) -> Result<Image, Failure<'a>>
+    ensures longest { IfOk result KeepsLongest }
+    ensures error { IfErr result (IsUnread path.entry) }
+{
     match contents_at(rt, path, LONGEST_REGION) {
         Ok(Contents::Whole(bytes)) => Ok(Image::Bytes(bytes)),
         Ok(Contents::Longer(told)) => Ok(Image::TooLong(length_of(told))),
@@ -50,13 +54,27 @@ pub fn tell_length<H: Eprint>(rt: &H, length: BadLength) {
 
 /// The same, where an answer of this status may be such a refusal of an image of so many bytes.
 pub fn tell_refused_length<H: Eprint>(rt: &H, status: u8, length: u64) {
+    if let Some(told) = told_length(status, length) {
+        tell_length(rt, told);
+    }
+}
+
+// The length for which an image of so many bytes was refused, where an answer of this status may be such a refusal.
+fn told_length(status: u8, length: u64) -> Option<BadLength>
+    ensures told { IfSome result (λ told. (status ≡ 2) × (told ≡ BadLength.Bytes length) × (¬ IsRegionLength length)) }
+    ensures none { IsNone result → status ≡ 2 → IsRegionLength length }
+{
     if status == REFUSED_STATUS && !is_region_length(length) {
-        tell_length(rt, BadLength::Bytes(length));
+        Some(BadLength::Bytes(length))
+    } else {
+        None
     }
 }
 
 // The length of a file that is too long, where it tells one.
-fn length_of(told: Option<u64>) -> BadLength {
+fn length_of(told: Option<u64>) -> BadLength
+    ensures { result ≡ length_of told }
+{
     match told {
         Some(length) => BadLength::Bytes(length),
         None => BadLength::MoreThan(LONGEST_REGION as u64),

@@ -1,5 +1,8 @@
 //! Writing files: images, and what is drawn of them.
 
+ghost use Rattle.std.specs.Prelude.{IfErr};
+ghost use Rattle.nv_images.specs.Images.{IsUnsaved};
+
 use crate::failure::Failure;
 use nv_stream::{save_new, save_over};
 use std::rt::Files;
@@ -36,7 +39,9 @@ pub fn save_file<'a, H: Files + AllocGlobal>(
     rt: &H,
     target: Target<'a>,
     bytes: &[u8],
-) -> Result<(), Failure<'a>> {
+) -> Result<(), Failure<'a>>
+    ensures { IfErr result (IsUnsaved target.entry.path) }
+{
     let saved = if target.force {
         save_over(rt, target.path, bytes, target.process)
     } else {
