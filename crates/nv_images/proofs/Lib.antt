@@ -1,3 +1,4 @@
 pub mod Classes
 pub mod Lengths
 pub mod Squares
+pub mod OneWord

@@ -2,3 +2,4 @@ pub mod Drawing
 pub mod Explaining
 pub mod Failures
 pub mod Images
+pub mod Words
