@@ -13,8 +13,8 @@ const FIRST_BYTES: usize = 256;
 /// Words as text.
 #[derive(Drop)]
 pub struct Words {
-    // In each word that isn't UTF-8, U+FFFD stands for what isn't.
-    texts: Vec<String>,
+    /// In each word that isn't UTF-8, U+FFFD stands for what isn't.
+    pub texts: Vec<String>,
     /// Whether all texts are the words themselves.
     pub are_utf8: bool,
 }
