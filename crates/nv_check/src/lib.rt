@@ -15,6 +15,5 @@ mod tables;
 mod walk;
 
 pub use cross::cross_faults_one;
-pub use nv_scan::Row;
 pub use owners::doubled;
 pub use parallel::cross_faults;
