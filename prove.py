@@ -32,7 +32,8 @@ TARGET = "x86_64-unknown-linux-gnu"
 
 # A crate that the whole build waits for shares its work among so many processes, which together take a third longer.
 PROCESSES = min(os.cpu_count() or 1, 4)
-# So many crates are proved at a time: those that less waits for yield the processors to the others.
+# So many crates are proved at a time at most, and fewer where none of those that are ready is waited for so. Those that less
+# waits for yield the processors to the others.
 MOST_CRATES = 2 * PROCESSES
 # What a proof takes, in seconds: some for the crate by itself and for each of its clauses, and as much again for so many
 # crates below it, which are loaded. This decides nothing but the order.
@@ -250,8 +251,11 @@ class Build:
             signal.setitimer(signal.ITIMER_REAL, 5, 5)
         try:
             while self.todo or self.running:
-                while len(self.running) < MOST_CRATES and (crate := self.next()):
-                    self.begin(crate, self.processes_for(crate))
+                while crate := self.next():
+                    processes = self.processes_for(crate)
+                    if len(self.running) >= (MOST_CRATES if processes > 1 else PROCESSES):
+                        break
+                    self.begin(crate, processes)
                 self.wait()
         finally:
             signal.setitimer(signal.ITIMER_REAL, 0)

@@ -5,7 +5,7 @@ use Rattle.std.proofs.lemmas.Bool.{true≢false}
 use Rattle.std.proofs.lemmas.List.Elements.{Contains-append_left, Contains-push, Contains-push_cases}
 use Rattle.nv_super.specs.declared.faults.Fault.{Fault}
 use Rattle.nv_super.specs.declared.faults.Fault.TheVariants as faults
-use Rattle.nv_check.specs.declared.listing.Listing.{Listing}
+use Rattle.nv_check.specs.Listing.{Listing}
 use Rattle.nv_check.specs.Steps.{Adds, IsAt, IsUnmarkedBelow}
 use Rattle.nv_check.proofs.PlaceTable.{at_most}
 use Rattle.nv_check.proofs.Follow.{same_row}

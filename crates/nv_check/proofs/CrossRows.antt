@@ -13,7 +13,7 @@ use Rattle.nv_names.specs.Names.{name_at, line_of}
 use Rattle.nv_names.specs.declared.named.Named.{Named}
 use Rattle.nv_scan.specs.declared.piece.Row.{Row}
 use Rattle.nv_numbered.specs.Values.{AreNumbersBelow}
-use Rattle.nv_check.specs.declared.listing.Listing.{Listing}
+use Rattle.nv_check.specs.Listing.{Listing}
 use Rattle.nv_check.specs.Cross as cross
 use Rattle.nv_check.specs.Cross.{HasNameIn, IsUnusedIn, AreNamesIn, IsReachedIn, IsCrossFaultIn}
 use Rattle.nv_check.specs.Listings as listed
@@ -29,7 +29,7 @@ abbrev name_of : Line → List ℕ
 name_of x = x.0
 
 abbrev lines : Listing → List Line
-lines l = map line_of l.names.items
+lines l = map line_of l.names
 
 abbrev pair_key : ℕ × List ℕ → List ℕ
 pair_key x = x.0 ∷ x.1
@@ -84,29 +84,29 @@ row_count i d (x ∷ xs) = test (eqb x.inode i) refl (row_count i d xs) where
 pairs_count : (i : ℕ) (listings : List Listing) → length (pairs_in i listings) ≡ names_of listings i
 pairs_count i [] = refl
 pairs_count i (l ∷ listings) =
-    let n = length-append (pairs_of i l) (pairs_in i listings) in let one = row_count i l.inode l.names.items in let rest = pairs_count i listings in
-    let s = sum_by-append (λ t. cond (eqb t i) 1 0) (map target l.names.items) (targets listings) in omega (arith, n, one, rest, s)
+    let n = length-append (pairs_of i l) (pairs_in i listings) in let one = row_count i l.inode l.names in let rest = pairs_count i listings in
+    let s = sum_by-append (λ t. cond (eqb t i) 1 0) (map target l.names) (targets listings) in omega (arith, n, one, rest, s)
 
 module _ (rows : List Row) (listings : List Listing) (are : AreListings rows listings) (apart : Apart listing_key listings) where
   names_in : (r : Row) (l : Listing) → IsListing r l → Walked r.names (lines l)
   names_in r l h = names_walked r.names (lines l) h.names
 
-  has_name : (r : Row) (l : Listing) (x : Named) → IsListing r l → Contains l.names.items x → name_at r.names x.name.now ≡ Some (x.inode, x.place)
-  has_name r l x h c = (names_in r l h).each (line_of x) (into_map line_of l.names.items x c)
+  has_name : (r : Row) (l : Listing) (x : Named) → IsListing r l → Contains l.names x → name_at r.names x.name.now ≡ Some (x.inode, x.place)
+  has_name r l x h c = (names_in r l h).each (line_of x) (into_map line_of l.names x c)
 
   -- the listing of a name
   record Found (d i at : ℕ) (name : List ℕ) : Type 0 where
     listing : Listing
     here : Contains listings listing
     line : Named
-    has : Contains listing.names.items line
+    has : Contains listing.names line
     inode : listing.inode ≡ d
     is : (name, i, at) ≡ line_of line
 
   found : (d i at : ℕ) (name : List ℕ) → HasNameIn rows d name i at → Found d i at name
   found d i at name h =
       let w = listing_of IsListing rows listings h.0 are h.1 in
-      let m = from_map line_of w.0.names.items (name, i, at) ((names_in h.0 w.0 w.2).all (name, i, at) h.3) in
+      let m = from_map line_of w.0.names (name, i, at) ((names_in h.0 w.0 w.2).all (name, i, at) h.3) in
       record { listing = w.0; here = w.1; line = m.0; has = m.1; inode = w.2.inode ∙ h.2; is = m.2 }
 
   listing : (r : Row) → Contains rows r → (l : Listing) × Contains listings l × IsListing r l
@@ -122,7 +122,7 @@ module _ (rows : List Row) (listings : List Listing) (are : AreListings rows lis
   unused_back i un l c e = let w = row l c in un w.0 w.1 (sym w.2.inode ∙ e)
 
   -- what a listed name says of its row
-  says : (d : Listing) (x : Named) (i : ℕ) → Contains listings d → Contains d.names.items x → i ≡ target x → HasNameIn rows d.inode x.name.now i x.place
+  says : (d : Listing) (x : Named) (i : ℕ) → Contains listings d → Contains d.names x → i ≡ target x → HasNameIn rows d.inode x.name.now i x.place
   says d x i dc xc e = let w = row d dc in (w.0, w.1, sym w.2.inode, has_name w.0 d x w.2 xc ∙ ap (λ (j : ℕ). Some (j, x.place)) (sym e))
 
   reached_there : (i : ℕ) → IsReached listings i → IsReachedIn rows i
@@ -168,7 +168,7 @@ module _ (rows : List Row) (listings : List Listing) (are : AreListings rows lis
     rising = (sorted i).1.sorted.rising;
     each = λ y c. (
         let f = from_flat (pairs_of i) listings y ((sorted i).1.sorted.from y c) in let m = pair_from i f.0.inode (lines f.0) y f.2 in
-        let x = from_map line_of f.0.names.items m.0 m.1 in
+        let x = from_map line_of f.0.names m.0 m.1 in
         let P : ℕ × List ℕ → Type 0 = λ z. (at : ℕ) × HasNameIn rows z.0 z.1 i at in
         let N : List ℕ → Type 0 = λ q. HasNameIn rows f.0.inode q i x.0.place in
         subst P (sym m.3) (x.0.place, subst N (sym (ap name_of x.2)) (says f.0 x.0 i f.1 x.1 (sym m.2 ∙ ap (λ (z : Line). z.1) x.2))));
@@ -177,7 +177,7 @@ module _ (rows : List Row) (listings : List Listing) (are : AreListings rows lis
         let e : (s.listing.inode, y.1) ≡ y = (λ j. (s.inode j, y.1)) in
         let P : ℕ × List ℕ → Type 0 = λ z. Contains (pairs_in i listings) z in
         let L : Line → Type 0 = λ z. Contains (lines s.listing) z in
-        let line : Contains (lines s.listing) (y.1, i, h.0) = subst L (sym s.is) (into_map line_of s.listing.names.items s.line s.has) in
+        let line : Contains (lines s.listing) (y.1, i, h.0) = subst L (sym s.is) (into_map line_of s.listing.names s.line s.has) in
         (sorted i).1.sorted.kept y (subst P e (into_flat (pairs_of i) listings s.listing (s.listing.inode, y.1) s.here
         (into_map (λ (x : Line). (s.listing.inode, x.0)) (filter (λ (x : Line). eqb x.1 i) (lines s.listing)) (y.1, i, h.0) (into_filter (λ (x : Line). eqb x.1 i) (lines s.listing) (y.1, i, h.0) line (eq-eqb i i refl))))));
   }

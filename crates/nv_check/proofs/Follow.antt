@@ -12,9 +12,10 @@ use Rattle.nv_super.specs.declared.kind.Kind.TheVariants.{File, Directory}
 use Rattle.nv_super.proofs.Members.{from_map, into_map, none_in}
 use Rattle.nv_numbered.specs.Values.{AreNumbersBelow}
 use Rattle.nv_names.specs.declared.named.Named.{Named}
-use Rattle.nv_check.specs.declared.listing.Listing.{Listing}
+use Rattle.nv_scan.specs.declared.row_list.RowHead.{RowHead}
+use Rattle.nv_check.specs.Listing.{Listing}
 use Rattle.nv_check.specs.Listings.{inodes_of, target, targets, IsReached, root, step}
-use Rattle.nv_check.specs.Steps.{place_of, ArePlaces, IsTable, IsMarked, IsNameless, Spreads, Reaching, AreReached, IsAt, NamesMarked, AreCounts, AreNumbersOfNames}
+use Rattle.nv_check.specs.Steps.{HasHead, place_of, ArePlaces, IsTable, IsMarked, IsNameless, Spreads, Reaching, AreReached, IsAt, NamesMarked, AreCounts, AreNumbersOfNames}
 use Rattle.nv_check.proofs.PlaceTable.{none_some, equal_or}
 use Rattle.nv_check.proofs.Spread.{marked_at, marked_else}
 
@@ -29,6 +30,20 @@ inode_at listings k l h = get_or-map (λ (x : Listing). x.inode) listings k l 0 
 -- each row's number is below the limit
 pub below_limit : (limit : ℕ) (listings : List Listing) (k : ℕ) (l : Listing) → AreNumbersBelow limit (inodes_of listings) → IsAt listings k l → l.inode < limit
 below_limit limit listings k l apart at = subst (λ i. i < limit) (inode_at listings k l at) (apart.below k (omega (arith, at.0, inodes_len listings)))
+
+-- the number of the row at a place, by its head
+pub head_at : (listings : List Listing) (k : ℕ) (h : RowHead) → HasHead listings k h → get_or (inodes_of listings) k 0 ≡ h.inode
+head_at listings k h here = inode_at listings k here.0 here.1 ∙ sym here.2
+
+pub head_below : (limit : ℕ) (listings : List Listing) (k : ℕ) (h : RowHead) → AreNumbersBelow limit (inodes_of listings) → HasHead listings k h → h.inode < limit
+head_below limit listings k h apart here = subst (λ i. i < limit) (sym here.2) (below_limit limit listings k here.0 apart here.1)
+
+blank : Listing
+blank = record { inode = 0; kind = File; links = 0; names = [] }
+
+-- each place has a row
+pub some_row : (listings : List Listing) (k : ℕ) → k < length listings → (l : Listing) × IsAt listings k l
+some_row listings k lt = (get_or listings k blank, (lt, get_or_default listings k (get_or listings k blank) blank lt))
 
 -- one place has one row
 pub same_row : (listings : List Listing) (k : ℕ) (l m : Listing) → IsAt listings k l → IsAt listings k m → l ≡ m
@@ -56,12 +71,12 @@ module _ (listings : List Listing) (table : List (Option ℕ)) (places : ArePlac
   numbers_of_names counts h = record { same = h.same; each = λ k l lt is. h.each l.inode k (row_place k l (lt, is)) }
 
 pub reaching_step : (listings : List Listing) (table : List (Option ℕ)) (places : ArePlaces listings table) (marks marks' : List Bool) (todo todo' : List ℕ) (place : ℕ) (d : Listing) → IsAt listings place d
-    → Reaching listings table marks (todo ++ place ∷ []) → Spreads listings table (map target d.names.items) marks todo marks' todo' → Reaching listings table marks' todo'
+    → Reaching listings table marks (todo ++ place ∷ []) → Spreads listings table (map target d.names) marks todo marks' todo' → Reaching listings table marks' todo'
 reaching_step listings table places marks marks' todo todo' place d at h s = record {
   same = s.same ∙ h.same;
   sound = λ k l is m. elim (s.from k m) [
     | inl w ↦ h.sound k l is w
-    | inr w ↦ (let x = from_map target d.names.items w.1 w.2 in
+    | inr w ↦ (let x = from_map target d.names w.1 w.2 in
         step d l x.0 (h.sound place d at here.0) (place, at.0, at.1) x.1 (k, is.0, is.1) (place_row listings table places w.1 k l w.3 is ∙ x.2))
   ];
   todo_marked = λ k c. elim (s.todo_from k c) [
@@ -75,7 +90,7 @@ reaching_step listings table places marks marks' todo todo' place d at h s = rec
         | inr u ↦ inr (let P : ℕ → Type 0 = λ j. IsAt listings j d in
             let same : l ≡ d = same_row listings k l d is (subst P u at) in
             let Q : Listing → Type 0 = λ q. NamesMarked table marks' q in
-            subst Q (sym same) (λ x c j e. s.all (target x) j (into_map target d.names.items x c) e))
+            subst Q (sym same) (λ x c j e. s.all (target x) j (into_map target d.names x c) e))
       ]
       | inr v ↦ inr (λ x c j e. s.kept j (v x c j e))
     ]

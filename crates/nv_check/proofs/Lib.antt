@@ -7,6 +7,7 @@ pub mod Follow
 pub mod Adds
 pub mod Rows
 pub mod Heads
+pub mod Listed
 pub mod Together
 pub mod CrossRows
 pub mod Near

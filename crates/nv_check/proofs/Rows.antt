@@ -1,24 +1,11 @@
 -- The rows, and the same with their names listed.
-use Rattle.std.proofs.Common.{◌≡◌, ℕ, ◌+◌, ◌<◌, inl, inr, List, [], ◌∷◌, ◌++◌, length, get_or, map, take, refl, ap, sym, ◌∙◌, subst, arith}
+use Rattle.std.proofs.Common.{◌≡◌, ℕ, inl, inr, List, [], ◌∷◌, map, refl, sym, subst, arith}
 use Rattle.std.specs.List.{Contains, AllZip}
-use Rattle.std.proofs.lemmas.List.{take_more}
 use Rattle.nv_super.proofs.Rising.{Contains-cons, Contains-head, Contains-tail}
 use Rattle.nv_scan.specs.declared.piece.Row.{Row}
 use Rattle.nv_numbered.specs.Values.{AreNumbersBelow}
-use Rattle.nv_check.specs.declared.listing.Listing.{Listing}
-use Rattle.nv_check.specs.Listings.{IsListing, AreListings, inodes_of}
-
-zip_push : {A B : Type 0} (R : A → B → Type 0) (xs : List A) (ys : List B) (x : A) (y : B) → AllZip R xs ys → R x y → AllZip R (xs ++ x ∷ []) (ys ++ y ∷ [])
-zip_push R [] [] x y h r = (r, tt)
-zip_push R [] (b ∷ ys) x y h r = absurd h
-zip_push R (a ∷ xs) [] x y h r = absurd h
-zip_push R (a ∷ xs) (b ∷ ys) x y h r = (h.0, zip_push R xs ys x y h.1 r)
-
-pub listed_more : (rows : List Row) (n : ℕ) (r : Row) (old new : List Listing) (l : Listing) → n < length rows → r ≡ get_or rows n r → AreListings (take n rows) old → new ≡ old ++ l ∷ [] → IsListing r l → AreListings (take (n + 1) rows) new
-listed_more rows n r old new l lt is h e one =
-    let more : take (n + 1) rows ≡ take n rows ++ r ∷ [] = take_more rows n r lt ∙ ap (λ (x : Row). take n rows ++ x ∷ []) (sym is) in
-    let P : List Row → Type 0 = λ rs. AreListings rs new in let Q : List Listing → Type 0 = λ ls. AreListings (take n rows ++ r ∷ []) ls in
-    subst P (sym more) (subst Q (sym e) (zip_push IsListing (take n rows) old r l h one))
+use Rattle.nv_check.specs.Listing.{Listing}
+use Rattle.nv_check.specs.Listings.{AreListings, inodes_of}
 
 -- each row is listed
 pub listing_of : {A B : Type 0} (R : A → B → Type 0) (xs : List A) (ys : List B) (x : A) → AllZip R xs ys → Contains xs x → (y : B) × Contains ys y × R x y

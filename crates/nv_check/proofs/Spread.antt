@@ -1,16 +1,16 @@
 -- Marking what is named, one after another.
-use Rattle.std.proofs.Common.{◌≡◌, ◌≢◌, ℕ, ◌+◌, ◌<◌, ◌≤◌, ◌⊎◌, inl, inr, Bool, true, false, not, cond, Option, Some, None, List, [], ◌∷◌, ◌++◌, length, vec_len, get_or, map, take, refl, ap, sym, ◌∙◌, subst, arith, get_or-set_same, get_or-set_other, add-zero}
+use Rattle.std.proofs.Common.{◌≡◌, ◌≢◌, ℕ, ◌+◌, ◌<◌, ◌≤◌, ◌⊎◌, inl, inr, Bool, true, false, not, cond, Option, Some, None, List, [], ◌∷◌, ◌++◌, length, get_or, map, take, refl, ap, sym, ◌∙◌, subst, arith, get_or-set_same, get_or-set_other, add-zero}
 use Rattle.std.proofs.Math.ListN.{set, length-set}
 use Rattle.std.specs.List.{Contains}
 use Rattle.std.proofs.lemmas.List.Sums.{sum_by-set}
-use Rattle.std.proofs.lemmas.List.{length-append, get_or_default, nil_from_length}
+use Rattle.std.proofs.lemmas.List.{length-append, get_or_default}
 use Rattle.std.proofs.lemmas.List.Elements.{Contains-append_left, Contains-append_right, Contains-append_cases, Contains-push, Contains-push_cases}
 use Rattle.nv_super.proofs.Rising.{Contains-cons, Contains-head}
 use Rattle.std.proofs.lemmas.List.{map_more}
 use Rattle.std.proofs.lemmas.Option.{same_Some}
 use Rattle.nv_super.proofs.Members.{none_in}
 use Rattle.nv_names.specs.declared.named.Named.{Named}
-use Rattle.nv_check.specs.declared.listing.Listing.{Listing}
+use Rattle.nv_check.specs.Listing.{Listing}
 use Rattle.nv_check.specs.Listings.{target}
 use Rattle.nv_check.specs.Steps.{place_of, IsMarked, unmarked, IsNameless, Spreads}
 use Rattle.nv_check.proofs.PlaceTable.{none_some, equal_or}
@@ -119,12 +119,6 @@ module _ (listings : List Listing) (table : List (Option ℕ)) (marks : List Boo
   -- the place has no names to follow
   pub spread_nameless : (todo : List ℕ) → IsNameless listings place → Spreads listings table (i ∷ []) marks todo (set marks place true) todo
   spread_nameless todo none = spread_by todo todo (λ k c. c) (λ k c. inl c) (inr none) (omega arith)
-
--- a row that was read and has no names
-pub nameless_at : (listings : List Listing) (k : ℕ) (d : Listing) → vec_len (get_or listings k d).names ≡ 0 → IsNameless listings k
-nameless_at listings k d none l at =
-    let names = (get_or listings k d).names in
-    ap (λ (z : Listing). z.names.items) (sym at.1 ∙ get_or_default listings k l d at.0) ∙ nil_from_length names.items (omega (arith, names.ok.0, none))
 
 pub read_at : {A : Type 0} (xs : List A) (i : ℕ) (r b d : A) → i < length xs → r ≡ get_or xs i r → r ≡ b → get_or xs i d ≡ b
 read_at xs i r b d lt is e = get_or_default xs i d r lt ∙ sym is ∙ e

@@ -13,10 +13,10 @@ use Rattle.nv_super.specs.declared.faults.Fault.TheVariants as faults
 use Rattle.nv_super.proofs.Rising.{Contains-cons, Contains-head, Contains-tail}
 use Rattle.nv_super.proofs.Members.{from_flat, into_flat}
 use Rattle.nv_names.specs.declared.named.Named.{Named}
-use Rattle.nv_check.specs.declared.listing.Listing.{Listing}
+use Rattle.nv_check.specs.Listing.{Listing}
 use Rattle.nv_check.specs.Listings.{target, names_of, IsReached, IsUnused, IsFault, c1, c2, c2_root, c3, c4, c5}
-use Rattle.nv_check.specs.Steps.{place_of, ArePlaces, unused_fault, unused_of, unused_faults, count_fault, count_fault_of, is_root, is_root_of, root_faults, Adds, IsUnmarkedBelow, IsFar, unreached, no_root, AreReached}
-use Rattle.nv_check.proofs.Follow.{inode_at, row_at, row_place}
+use Rattle.nv_check.specs.Steps.{IsAt, place_of, ArePlaces, unused_fault, unused_of, unused_faults, count_fault, count_fault_of, is_root, is_root_of, root_faults, Adds, IsUnmarkedBelow, IsFar, unreached, no_root, AreReached}
+use Rattle.nv_check.proofs.Follow.{inode_at, row_at, row_place, place_row, same_place, same_row}
 use Rattle.nv_check.proofs.PlaceTable.{none_some}
 
 pub from_options : {A B : Type 0} (f : A → Option B) (xs : List A) (y : B) → Contains (filter_map f xs) y → (x : A) × Contains xs x × (f x ≡ Some y)
@@ -61,16 +61,16 @@ module _ (listings : List Listing) (table : List (Option ℕ)) (places : ArePlac
   unused_is : (f : Fault) → Contains (unused_faults table listings) f → IsFault listings f
   unused_is f c =
       let d = from_flat (unused_of table) listings f c in
-      let x = from_options (unused_fault table d.0.inode) d.0.names.items f d.2 in
+      let x = from_options (unused_fault table d.0.inode) d.0.names f d.2 in
       let u = unused_when (is_some (place_of table x.0.inode)) d.0.inode x.0.place f x.2 in
       let P : Fault → Type 0 = λ g. IsFault listings g in
       subst P (sym u.1) (c1 d.0 x.0 d.1 x.1 (λ l lc e. true≢false (sym (placed l x.0.inode lc e) ∙ u.0)))
 
-  is_unused : (d : Listing) (x : Named) → Contains listings d → Contains d.names.items x → IsUnused listings (target x) → Contains (unused_faults table listings) (faults.C1 d.inode x.place)
+  is_unused : (d : Listing) (x : Named) → Contains listings d → Contains d.names x → IsUnused listings (target x) → Contains (unused_faults table listings) (faults.C1 d.inode x.place)
   is_unused d x dc xc un =
       let off : is_some (place_of table x.inode) ≡ false = unplaced d x.inode un in
       let e : unused_fault table d.inode x ≡ Some (faults.C1 d.inode x.place) = ap (λ (t : Bool). if t then None else Some (faults.C1 d.inode x.place)) off in
-      into_flat (unused_of table) listings d _ dc (into_options (unused_fault table d.inode) d.names.items x _ xc e)
+      into_flat (unused_of table) listings d _ dc (into_options (unused_fault table d.inode) d.names x _ xc e)
 
 -- a wrong number of names
 one_when : (t : Bool) (g f : Fault) → (if t then None else Some g) ≡ Some f → (t ≡ false) × (f ≡ g)
@@ -195,3 +195,26 @@ from_both near one two e f c = Contains-append_cases one two f (let P : List Fau
 
 pub into_both : (near one two : List Fault) → near ≡ one ++ two → (f : Fault) → Contains one f ⊎ Contains two f → Contains near f
 into_both near one two e f c = let P : List Fault → Type 0 = λ xs. Contains xs f in subst P (sym e) (elim c [ inl w ↦ Contains-append_left one two f w | inr w ↦ Contains-append_right one two f w ])
+
+-- whether there is a root
+module _ (listings : List Listing) (table : List (Option ℕ)) (places : ArePlaces listings table) where
+  pub root_there : (k : ℕ) (l : Listing) → IsAt listings k l → place_of table 1 ≡ Some k → l.kind ≡ Directory → true ≡ list_any is_root listings
+  root_there k l at e dir = sym (list_any_at is_root listings k l at.0 (ap is_root at.1 ∙ root_test l dir (place_row listings table places 1 k l e at)))
+
+  no_root_any : ((l : Listing) (k : ℕ) → IsAt listings k l → l.inode ≡ 1 → l.kind ≡ Directory → ⊥) → false ≡ list_any is_root listings
+  no_root_any h = test (list_any is_root listings) refl where
+    test : (t : Bool) → list_any is_root listings ≡ t → false ≡ list_any is_root listings
+    test true e = absurd (let w = Any-from_list_any is_root listings e in let k = root_of w.1.kind w.1.inode w.4 in h w.1 w.0 (w.2, w.3) k.1 k.0)
+    test false e = sym e
+
+  -- inode 1 is a file
+  pub root_a_file : (k : ℕ) (l : Listing) → IsAt listings k l → place_of table 1 ≡ Some k → l.kind ≡ File → false ≡ list_any is_root listings
+  root_a_file k l at e file = no_root_any (λ q j here one dir. (
+      let same : j ≡ k = same_place listings table places j k q l here at (one ∙ sym (place_row listings table places 1 k l e at)) in
+      let P : ℕ → Type 0 = λ i. IsAt listings i q in
+      let row : q ≡ l = same_row listings k q l (subst P same here) at in
+      let clash : Directory ≡ File = sym dir ∙ ap (λ (z : Listing). z.kind) row ∙ file in cc))
+
+  -- inode 1 isn't in use
+  pub root_unused : place_of table 1 ≡ None → false ≡ list_any is_root listings
+  root_unused e = no_root_any (λ q j here one dir. none_some j (sym e ∙ ap (place_of table) (sym one) ∙ row_place listings table places j q here))

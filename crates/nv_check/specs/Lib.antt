@@ -1,6 +1,8 @@
 pub mod Cross
 pub mod Doubled
+pub mod Listing
 pub mod Listings
+pub mod NameLists
 pub mod Steps
 pub mod Tables
 pub mod Words

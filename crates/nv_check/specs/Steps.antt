@@ -1,6 +1,6 @@
 -- What the checks make, step by step.
 use Rattle.std.specs.Prelude.{◌≡◌, ℕ, ◌+◌, ◌<◌, ◌≤◌, ◌==◌, Bool, true, false, not, if◌then◌else◌, List, [], ◌∷◌, ◌++◌, length, count_by, Option, Some, None, is_some, unwrap_or, slice_get, slice_index, slice_index_or, ◌⊎◌}
-use Rattle.std.specs.List.{Contains, flat_map, filter_map, cons_option, list_any}
+use Rattle.std.specs.List.{AllZip, Contains, flat_map, filter_map, cons_option, list_any, range_with_len}
 use Rattle.std.specs.declared.vec.Vec.{Vec}
 use Rattle.std.specs.declared.alloc.Global.{Global}
 use Rattle.nv_super.specs.declared.kind.Kind.{Kind}
@@ -8,7 +8,8 @@ use Rattle.nv_super.specs.declared.kind.Kind.TheVariants.{File, Directory}
 use Rattle.nv_super.specs.declared.faults.Fault.{Fault}
 use Rattle.nv_super.specs.declared.faults.Fault.TheVariants as faults
 use Rattle.nv_names.specs.declared.named.Named.{Named}
-use Rattle.nv_check.specs.declared.listing.Listing.{Listing}
+use Rattle.nv_scan.specs.declared.row_list.RowHead.{RowHead}
+use Rattle.nv_check.specs.Listing.{Listing}
 use Rattle.nv_check.specs.Listings.{inodes_of, target, names_of, IsReached, IsFault}
 
 -- where the row of an inode stands, by a table
@@ -34,7 +35,7 @@ abbrev pub unused_fault : List (Option ℕ) → ℕ → Named → Option Fault
 unused_fault table d x = if is_some (place_of table (target x)) then None else Some (faults.C1 d x.place)
 
 abbrev pub unused_of : List (Option ℕ) → Listing → List Fault
-unused_of table l = filter_map (unused_fault table l.inode) l.names.items
+unused_of table l = filter_map (unused_fault table l.inode) l.names
 
 abbrev pub unused_faults : List (Option ℕ) → List Listing → List Fault
 unused_faults table listings = flat_map (unused_of table) listings
@@ -73,9 +74,17 @@ unmarked marks = count_by not marks
 abbrev pub IsAt : List Listing → ℕ → Listing → Type 0
 IsAt listings k l = (k < length listings) × (slice_index_or listings k l ≡ l)
 
+-- what the head of the row at place k says is what its listing says
+abbrev pub HasHead : List Listing → ℕ → RowHead → Type 0
+HasHead listings k h = (l : Listing) × IsAt listings k l × (h.inode ≡ l.inode) × (h.kind ≡ l.kind) × (h.links ≡ l.links)
+
+-- the names of the row at place k
+abbrev pub HasNamesAt : List Listing → ℕ → List Named → Type 0
+HasNamesAt listings k names = (l : Listing) × IsAt listings k l × (names ≡ l.names)
+
 -- the row at place k has no names
 abbrev pub IsNameless : List Listing → ℕ → Type 0
-IsNameless listings k = (l : Listing) → IsAt listings k l → l.names.items ≡ []
+IsNameless listings k = (l : Listing) → IsAt listings k l → l.names ≡ []
 
 -- What marking the inodes that are named here does to the marks and the places that are open. A row without names needn't be opened.
 pub record Spreads (listings : List Listing) (table : List (Option ℕ)) (named : List ℕ) (marks : List Bool) (todo : List ℕ) (marks' : List Bool) (todo' : List ℕ) : Type 0 where
@@ -89,7 +98,7 @@ pub record Spreads (listings : List Listing) (table : List (Option ℕ)) (named 
 
 -- what the row's names name is marked
 abbrev pub NamesMarked : List (Option ℕ) → List Bool → Listing → Type 0
-NamesMarked table marks l = (x : Named) → Contains l.names.items x → (j : ℕ) → place_of table (target x) ≡ Some j → IsMarked marks j
+NamesMarked table marks l = (x : Named) → Contains l.names x → (j : ℕ) → place_of table (target x) ≡ Some j → IsMarked marks j
 
 -- The marks so far, when the names of these places are still to be followed.
 pub record Reaching (listings : List Listing) (table : List (Option ℕ)) (marks : List Bool) (todo : List ℕ) : Type 0 where
@@ -147,8 +156,13 @@ named_by table counts i = named_at counts (place_of table i)
 abbrev pub near_of : List (Option ℕ) → List ℕ → Listing → List Fault
 near_of table counts l = unused_of table l ++ cons_option (count_fault_of l.kind l.inode l.links (named_by table counts l.inode)) []
 
-abbrev pub AreNear : List (Option ℕ) → List ℕ → Listing → Vec Fault Global → Type 0
-AreNear table counts l found = found.items ≡ near_of table counts l
+-- the faults of the row at place k
+abbrev pub IsNearAt : List (Option ℕ) → List ℕ → List Listing → ℕ → Vec Fault Global → Type 0
+IsNearAt table counts listings k found = (l : Listing) → IsAt listings k l → found.items ≡ near_of table counts l
+
+-- the faults of all rows, place by place
+abbrev pub AreNear : List (Option ℕ) → List ℕ → List Listing → List (Vec Fault Global) → Type 0
+AreNear table counts listings near = AllZip (IsNearAt table counts listings) (range_with_len 0 (length listings)) near
 
 -- the faults of all rows, one behind another
 abbrev pub all_of : List (Vec Fault Global) → List Fault

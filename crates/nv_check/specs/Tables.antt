@@ -7,7 +7,7 @@ use Rattle.nv_check.specs.Steps.{ArePlaces, AreNumbersOfNames, unused_faults}
 
 -- the tables are over these rows
 pub record AreTables (rows : List Row) (t : Tables) : Type 0 where
-  pub listings : AreListings rows t.listings.items
-  pub places : ArePlaces t.listings.items t.places
-  pub counts : AreNumbersOfNames t.listings.items t.counts.items
-  pub unused : t.unused.items ≡ unused_faults t.places t.listings.items
+  pub listings : AreListings rows t.listings
+  pub places : ArePlaces t.listings t.places
+  pub counts : AreNumbersOfNames t.listings t.counts.items
+  pub unused : t.unused.items ≡ unused_faults t.places t.listings

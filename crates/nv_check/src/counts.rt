@@ -1,12 +1,14 @@
 //! Whether inodes have as many names as they should.
 
-ghost use Rattle.std.specs.Prelude.{◌≡◌, ◌+◌, ◌++◌, length, map, IfOk, OnOk};
+ghost use Rattle.std.specs.Prelude.{◌≡◌, ◌+◌, ◌++◌, ◌<◌, length, map, IfOk, OnOk};
 ghost use Rattle.std.specs.List.{filter_map};
+ghost use Rattle.nv_check.specs.Listing.{Listing};
 ghost use Rattle.nv_check.specs.Listings.{target};
-ghost use Rattle.nv_check.specs.Steps.{ArePlaces, IsTable, CountsMore, unused_of, unused_faults, AreNumbersOfNames, count_fault, count_fault_of};
+ghost use Rattle.nv_check.specs.Steps.{IsAt, ArePlaces, IsTable, CountsMore, unused_of, unused_faults, AreNumbersOfNames, count_fault, count_fault_of};
 
-use crate::listing::Listing;
+use crate::listing::Listings;
 use crate::places::Places;
+use nv_scan::RowHead;
 use nv_super::{Fault, Kind};
 use std::alloc::{AllocError, Global};
 
@@ -16,7 +18,7 @@ use std::alloc::{AllocError, Global};
 pub(crate) fn count_names(
     alloc: Global,
     places: &Places,
-    listings: &[Listing<'_>],
+    listings: &Listings<'_>,
 ) -> Result<(Vec<u64>, Vec<Fault>), AllocError>
     requires { ArePlaces listings.now places.now }
     ensures counts { IfOk result (λ found. AreNumbersOfNames listings.now found.0.items) }
@@ -24,28 +26,30 @@ pub(crate) fn count_names(
 {
     let mut counts = vec![in alloc; 0; listings.len()]?;
     let mut unused = Vec::new(alloc);
-    for listing in listings {
-        count_names_of(&mut counts, &mut unused, places, listing)?;
+    for place in 0..listings.len() {
+        count_names_of(&mut counts, &mut unused, places, listings, place)?;
     }
     Ok((counts, unused))
 }
 
-/// Counts each name of one row at the place of its inode, or tells of it where its inode isn't in use.
+/// Counts each name of the row at a place at the place of its inode, or tells of it where its inode isn't in use.
 fn count_names_of(
     counts: &mut Vec<u64>,
     unused: &mut Vec<Fault>,
     places: &Places,
-    listing: &Listing<'_>,
+    listings: &Listings<'_>,
+    place: usize,
 ) -> Result<(), AllocError>
-    requires { IsTable (length counts.old.items) places.now }
-    ensures counts { OnOk result (CountsMore places.now (map target listing.now.names.items) counts.old.items counts.new.items) }
-    ensures unused { OnOk result (unused.new.items ≡ unused.old.items ++ unused_of places.now listing.now) }
+    requires table { IsTable (length counts.old.items) places.now }
+    requires within { place < length listings.now }
+    ensures counts { OnOk result ((l : Listing) → IsAt listings.now place l → CountsMore places.now (map target l.names) counts.old.items counts.new.items) }
+    ensures unused { OnOk result ((l : Listing) → IsAt listings.now place l → unused.new.items ≡ unused.old.items ++ unused_of places.now l) }
 {
-    for name in &listing.names {
+    for name in listings.names(place) {
         match places.find(name.inode) {
-            Some(place) => counts[place] = one_more(counts[place])?,
+            Some(named) => counts[named] = one_more(counts[named])?,
             None => unused.push(Fault::C1 {
-                directory: listing.inode,
+                directory: listings.head(place).inode,
                 at: name.place,
             })?,
         }
@@ -65,14 +69,14 @@ fn one_more(count: u64) -> Result<u64, AllocError>
 /// Faults of inodes that don't have as many names as they should.
 pub(crate) fn push_counts(
     faults: &mut Vec<Fault>,
-    listings: &[Listing<'_>],
+    listings: &Listings<'_>,
     counts: &[u64],
 ) -> Result<(), AllocError>
     requires { AreNumbersOfNames listings.now counts.now }
     ensures { OnOk result (faults.new.items ≡ faults.old.items ++ filter_map (count_fault listings.now) listings.now) }
 {
-    for (place, listing) in listings.iter().enumerate() {
-        if let Some(fault) = fault_of(listing, counts[place]) {
+    for place in 0..listings.len() {
+        if let Some(fault) = fault_of(listings.head(place), counts[place]) {
             faults.push(fault)?;
         }
     }
@@ -80,11 +84,11 @@ pub(crate) fn push_counts(
 }
 
 /// The fault of an inode that has so many names.
-pub(crate) fn fault_of(listing: &Listing<'_>, names: u64) -> Option<Fault>
-    ensures { result ≡ count_fault_of listing.now.kind listing.now.inode listing.now.links names }
+pub(crate) fn fault_of(head: RowHead, names: u64) -> Option<Fault>
+    ensures { result ≡ count_fault_of head.kind head.inode head.links names }
 {
-    let inode = listing.inode;
-    match listing.kind {
+    let inode = head.inode;
+    match head.kind {
         Kind::Directory => {
             let wanted = if inode == 1 { 0 } else { 1 };
             if names == wanted {
@@ -94,7 +98,7 @@ pub(crate) fn fault_of(listing: &Listing<'_>, names: u64) -> Option<Fault>
             }
         }
         Kind::File => {
-            if u64::from(listing.links) == names {
+            if u64::from(head.links) == names {
                 None
             } else {
                 Some(Fault::C3 { inode })

@@ -41,10 +41,10 @@ pub fn cross_faults_one(
 
 /// The faults between the rows of these tables, rising.
 fn sorted_faults(alloc: Global, tables: &Tables<'_>) -> Result<Vec<Fault>, AllocError>
-    requires places { ArePlaces tables.now.listings.items tables.now.places }
-    requires counts { AreNumbersOfNames tables.now.listings.items tables.now.counts.items }
-    requires unused { tables.now.unused.items ≡ unused_faults tables.now.places tables.now.listings.items }
-    ensures { IfOk result (λ found. Lists fault_key (IsFault tables.now.listings.items) found.items) }
+    requires places { ArePlaces tables.now.listings tables.now.places }
+    requires counts { AreNumbersOfNames tables.now.listings tables.now.counts.items }
+    requires unused { tables.now.unused.items ≡ unused_faults tables.now.places tables.now.listings }
+    ensures { IfOk result (λ found. Lists fault_key (IsFault tables.now.listings) found.items) }
 {
     let mut faults = Vec::new(alloc);
     push_all(alloc, &mut faults, tables)?;
@@ -54,11 +54,11 @@ fn sorted_faults(alloc: Global, tables: &Tables<'_>) -> Result<Vec<Fault>, Alloc
 
 /// The faults between the rows, kind by kind.
 fn push_all(alloc: Global, faults: &mut Vec<Fault>, tables: &Tables<'_>) -> Result<(), AllocError>
-    requires places { ArePlaces tables.now.listings.items tables.now.places }
-    requires counts { AreNumbersOfNames tables.now.listings.items tables.now.counts.items }
-    requires unused { tables.now.unused.items ≡ unused_faults tables.now.places tables.now.listings.items }
+    requires places { ArePlaces tables.now.listings tables.now.places }
+    requires counts { AreNumbersOfNames tables.now.listings tables.now.counts.items }
+    requires unused { tables.now.unused.items ≡ unused_faults tables.now.places tables.now.listings }
     requires none { faults.old.items ≡ [] }
-    ensures { OnOk result (AreFaults tables.now.listings.items faults.new.items) }
+    ensures { OnOk result (AreFaults tables.now.listings faults.new.items) }
 {
     faults.extend_from_slice(&tables.unused)?;
     push_counts(faults, &tables.listings, &tables.counts)?;

@@ -1,25 +1,28 @@
 //! Names that lead nowhere.
 
-ghost use Rattle.std.specs.Prelude.{◌≡◌, ◌++◌, OnOk};
-ghost use Rattle.nv_check.specs.Steps.{unused_of};
+ghost use Rattle.std.specs.Prelude.{◌≡◌, ◌<◌, ◌++◌, length, OnOk};
+ghost use Rattle.nv_check.specs.Listing.{Listing};
+ghost use Rattle.nv_check.specs.Steps.{IsAt, unused_of};
 
-use crate::listing::Listing;
+use crate::listing::Listings;
 use crate::places::Places;
 use nv_super::Fault;
 use std::alloc::{AllocError, Global};
 
-/// Faults of one row's names whose inode isn't in use.
+/// Faults of the names of the row at a place whose inode isn't in use.
 pub(crate) fn push_unused_of(
     faults: &mut Vec<Fault>,
     places: &Places,
-    listing: &Listing<'_>,
+    listings: &Listings<'_>,
+    place: usize,
 ) -> Result<(), AllocError>
-    ensures { OnOk result (faults.new.items ≡ faults.old.items ++ unused_of places.now listing.now) }
+    requires { place < length listings.now }
+    ensures { OnOk result ((l : Listing) → IsAt listings.now place l → faults.new.items ≡ faults.old.items ++ unused_of places.now l) }
 {
-    for name in &listing.names {
+    for name in listings.names(place) {
         if places.find(name.inode).is_none() {
             faults.push(Fault::C1 {
-                directory: listing.inode,
+                directory: listings.head(place).inode,
                 at: name.place,
             })?;
         }

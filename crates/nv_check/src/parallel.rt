@@ -1,17 +1,17 @@
 //! The same faults, with the work on each row shared among threads.
 
-ghost use Rattle.std.specs.Prelude.{◌≡◌, ◌++◌, map, IfOk, IsTrue, OnOk, Some};
-ghost use Rattle.std.specs.List.{All, AllZip};
+ghost use Rattle.std.specs.Prelude.{◌≡◌, ◌<◌, ◌++◌, length, map, IfOk, IsTrue, OnOk, Some};
+ghost use Rattle.std.specs.List.{All};
 ghost use Rattle.nv_super.specs.Layout.{IsLayout, inode_limit, is_number};
 ghost use Rattle.nv_super.specs.Order.{fault_key, Lists};
 ghost use Rattle.nv_scan.specs.declared.piece.Row.{Row as RowValue};
 ghost use Rattle.nv_numbered.specs.Values.{AreNumbersBelow};
 ghost use Rattle.nv_check.specs.Cross.{IsCrossFaultIn};
-ghost use Rattle.nv_check.specs.Steps.{named_at, named_by, all_of, AreNear};
+ghost use Rattle.nv_check.specs.Steps.{named_at, named_by, all_of, AreNear, IsNearAt};
 
 use crate::counts::fault_of;
 use crate::cross::cross_faults_one;
-use crate::listing::Listing;
+use crate::listing::Listings;
 use crate::names::push_unused_of;
 use crate::places::Places;
 use crate::tables::tables_of;
@@ -59,32 +59,36 @@ fn near_by_row<H: Threads + Sync>(
     alloc: Global,
     places: &Places,
     counts: &[u64],
-    listings: &[Listing<'_>],
+    listings: &Listings<'_>,
 ) -> Result<Vec<Vec<Fault>>, AllocError>
-    ensures { IfOk result (λ near. AllZip (AreNear places.now counts.now) listings.now near.items) }
+    ensures { IfOk result (λ near. AreNear places.now counts.now listings.now near.items) }
 {
-    listings
-        .par_iter()
+    (0..listings.len())
+        .into_par_iter()
         .map(
-            |listing: &Listing<'_>| -> Result<Vec<Fault>, AllocError>
-                ensures { IfOk result (AreNear places.entry.now counts.entry.now listing.now) }
-            { near_of(alloc, places, counts, listing) },
+            |place: usize| -> Result<Vec<Fault>, AllocError>
+                requires { place < length listings.now }
+                ensures { IfOk result (IsNearAt places.entry.now counts.entry.now listings.entry.now place) }
+            { near_of(alloc, places, counts, listings, place) },
         )
         .collect::<Result<Vec<Vec<Fault>>, AllocError>>(rt, alloc)?
 }
 
-/// The faults of one row's names, and of how often it is named.
+/// The faults of the names of the row at a place, and of how often it is named.
 fn near_of(
     alloc: Global,
     places: &Places,
     counts: &[u64],
-    listing: &Listing<'_>,
+    listings: &Listings<'_>,
+    place: usize,
 ) -> Result<Vec<Fault>, AllocError>
-    ensures { IfOk result (AreNear places.now counts.now listing.now) }
+    requires { place < length listings.now }
+    ensures { IfOk result (IsNearAt places.now counts.now listings.now place) }
 {
     let mut faults = Vec::new(alloc);
-    push_unused_of(&mut faults, places, listing)?;
-    if let Some(fault) = fault_of(listing, named_by(places, counts, listing.inode)) {
+    push_unused_of(&mut faults, places, listings, place)?;
+    let head = listings.head(place);
+    if let Some(fault) = fault_of(head, named_by(places, counts, head.inode)) {
         faults.push(fault)?;
     }
     Ok(faults)

@@ -6,7 +6,7 @@ ghost use Rattle.nv_numbered.specs.Values.{AreNumbersBelow};
 ghost use Rattle.nv_check.specs.Listings.{inodes_of};
 ghost use Rattle.nv_check.specs.Steps.{place_of, ArePlaces};
 
-use crate::listing::Listing;
+use crate::listing::Listings;
 use nv_super::Super;
 use std::alloc::{AllocError, Global};
 use std::marker::Model;
@@ -45,15 +45,15 @@ impl Places {
 pub(crate) fn places_of(
     alloc: Global,
     sup: &Super,
-    listings: &[Listing<'_>],
+    listings: &Listings<'_>,
 ) -> Result<Places, AllocError>
     requires layout { IsLayout sup.now }
     requires apart { AreNumbersBelow (inode_limit sup.now) (inodes_of listings.now) }
     ensures { IfOk result (λ places. ArePlaces listings.now places) }
 {
     let mut words = vec![in alloc; 0; sup.inode_limit() as usize]?;
-    for (place, listing) in listings.iter().enumerate() {
-        words[listing.inode as usize] = place as u32 + 1;
+    for place in 0..listings.len() {
+        words[listings.head(place).inode as usize] = place as u32 + 1;
     }
     Ok(Places { words })
 }

@@ -7,7 +7,7 @@ ghost use Rattle.nv_numbered.specs.Values.{AreNumbersBelow};
 ghost use Rattle.nv_check.specs.Tables.{AreTables};
 
 use crate::counts::count_names;
-use crate::listing::{Listing, listings_of};
+use crate::listing::{Listings, listings_of};
 use crate::places::{Places, places_of};
 use nv_scan::RowList;
 use nv_super::{Fault, Super};
@@ -16,7 +16,7 @@ use std::alloc::{AllocError, Global};
 /// Three tables over the same rows, and the faults that are found as the names are counted.
 #[derive(Drop)]
 pub(crate) struct Tables<'a> {
-    pub(crate) listings: Vec<Listing<'a>>,
+    pub(crate) listings: Listings<'a>,
     pub(crate) places: Places,
     pub(crate) counts: Vec<u64>,
     // Of names whose inode isn't in use.

@@ -1,10 +1,11 @@
 //! Which inodes are reached by names from the root.
 
 ghost use Rattle.std.specs.Prelude.{◌≡◌, ◌<◌, ◌++◌, [], ◌∷◌, length, map, replicate, false, OnOk, IfOk};
+ghost use Rattle.std.specs.List.{list_any};
 ghost use Rattle.nv_check.specs.Listings.{target};
-ghost use Rattle.nv_check.specs.Steps.{Spreads, IsTable, ArePlaces, AreReached, Reaching, Adds, IsUnmarkedBelow, IsFar, root_faults};
+ghost use Rattle.nv_check.specs.Steps.{Spreads, IsTable, ArePlaces, AreReached, Reaching, Adds, IsUnmarkedBelow, IsFar, is_root, root_faults};
 
-use crate::listing::Listing;
+use crate::listing::Listings;
 use crate::places::Places;
 use nv_names::Named;
 use nv_super::{Fault, Kind};
@@ -15,20 +16,20 @@ pub(crate) fn push_far(
     alloc: Global,
     faults: &mut Vec<Fault>,
     places: &Places,
-    listings: &[Listing<'_>],
+    listings: &Listings<'_>,
 ) -> Result<(), AllocError>
     requires { ArePlaces listings.now places.now }
     ensures { OnOk result (Adds (IsFar listings.now) faults.old.items faults.new.items) }
 {
     let marks = reach(alloc, listings, places)?;
     push_unreached(faults, listings, &marks)?;
-    push_no_root(faults, listings)
+    push_no_root(faults, places, listings)
 }
 
 /// Which of the rows are reached by names from the root. Each row's names are followed once at most.
 pub(crate) fn reach(
     alloc: Global,
-    listings: &[Listing<'_>],
+    listings: &Listings<'_>,
     places: &Places,
 ) -> Result<Vec<bool>, AllocError>
     requires { ArePlaces listings.now places.now }
@@ -41,7 +42,7 @@ pub(crate) fn reach(
         spread(
             listings,
             places,
-            &listings[place].names,
+            listings.names(place),
             &mut marks,
             &mut todo,
         )?;
@@ -51,7 +52,7 @@ pub(crate) fn reach(
 
 /// Marks the root, where it is a directory.
 fn mark_root(
-    listings: &[Listing<'_>],
+    listings: &Listings<'_>,
     places: &Places,
     marks: &mut Vec<bool>,
     todo: &mut Vec<usize>,
@@ -62,8 +63,7 @@ fn mark_root(
     ensures { OnOk result (Reaching listings.now places.now marks.new.items todo.new.items) }
 {
     if let Some(place) = places.find(1) {
-        let root = &listings[place];
-        match root.kind {
+        match listings.head(place).kind {
             Kind::Directory => {
                 todo.push(place)?;
                 marks[place] = true;
@@ -77,16 +77,16 @@ fn mark_root(
 /// Faults of inodes that aren't marked.
 pub(crate) fn push_unreached(
     faults: &mut Vec<Fault>,
-    listings: &[Listing<'_>],
+    listings: &Listings<'_>,
     marks: &[bool],
 ) -> Result<(), AllocError>
     requires { length marks.now ≡ length listings.now }
     ensures { OnOk result (Adds (IsUnmarkedBelow listings.now marks.now (length listings.now)) faults.old.items faults.new.items) }
 {
-    for (place, listing) in listings.iter().enumerate() {
+    for place in 0..listings.len() {
         if !marks[place] {
             faults.push(Fault::C4 {
-                inode: listing.inode,
+                inode: listings.head(place).inode,
             })?;
         }
     }
@@ -94,26 +94,37 @@ pub(crate) fn push_unreached(
 }
 
 /// The fault of a region whose inode 1 isn't a directory in use.
-fn push_no_root(faults: &mut Vec<Fault>, listings: &[Listing<'_>]) -> Result<(), AllocError>
+fn push_no_root(
+    faults: &mut Vec<Fault>,
+    places: &Places,
+    listings: &Listings<'_>,
+) -> Result<(), AllocError>
+    requires { ArePlaces listings.now places.now }
     ensures { OnOk result (faults.new.items ≡ faults.old.items ++ root_faults listings.now) }
 {
-    for listing in listings {
-        match listing.kind {
-            Kind::Directory => {
-                if listing.inode == 1 {
-                    return Ok(());
-                }
-            }
-            Kind::File => {}
-        }
+    if !has_root(places, listings) {
+        faults.push(Fault::C5)?;
     }
-    faults.push(Fault::C5)?;
     Ok(())
+}
+
+/// Whether inode 1 is a directory in use.
+fn has_root(places: &Places, listings: &Listings<'_>) -> bool
+    requires { ArePlaces listings.now places.now }
+    ensures { result ≡ list_any is_root listings.now }
+{
+    match places.find(1) {
+        Some(place) => match listings.head(place).kind {
+            Kind::Directory => true,
+            Kind::File => false,
+        },
+        None => false,
+    }
 }
 
 /// Marks what the names name, and opens it where it wasn't marked and has names.
 fn spread(
-    listings: &[Listing<'_>],
+    listings: &Listings<'_>,
     places: &Places,
     names: &[Named<'_>],
     marks: &mut Vec<bool>,
@@ -131,7 +142,7 @@ fn spread(
 
 /// Marks an inode, and opens it where it wasn't marked and has names. A row without names leads nowhere.
 fn spread_to(
-    listings: &[Listing<'_>],
+    listings: &Listings<'_>,
     places: &Places,
     inode: u64,
     marks: &mut Vec<bool>,
@@ -144,7 +155,7 @@ fn spread_to(
     if let Some(place) = places.find(inode) {
         if !marks[place] {
             marks[place] = true;
-            if !listings[place].names.is_empty() {
+            if listings.has_names(place) {
                 todo.push(place)?;
             }
         }

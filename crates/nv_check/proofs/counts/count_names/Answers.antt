@@ -1,25 +1,28 @@
-use Rattle.std.proofs.Common.{ℕ, List, [], length, subst, sym}
+use Rattle.std.proofs.Common.{ℕ, ◌≤◌, ◌<◌, List, [], length, subst, sym}
 use Rattle.std.proofs.lemmas.List.{take_all}
-use Rattle.nv_check.specs.declared.listing.Listing.{Listing}
+use Rattle.nv_check.specs.Listing.{Listing}
 use Rattle.nv_check.specs.Listings.{targets}
 use Rattle.nv_check.specs.Steps.{IsTable, AreCounts, unused_of}
 use Rattle.nv_check.proofs.Counting.{flats}
-use Rattle.nv_check.proofs.Follow.{is_table, numbers_of_names}
+use Rattle.nv_check.proofs.Follow.{is_table, numbers_of_names, some_row}
 use Rattle.nv_check.proofs.NamesCounted.{row_counted}
 use Rattle.nv_check.proofs.counts.count_names.Goals as goal
 
-pub loop-listing-preserved : goal.loop-listing-preserved
-loop-listing-preserved c =
+pub loop-place-preserved : goal.loop-place-preserved
+loop-place-preserved c =
+    let within = subst (λ n. c.loop-place.place < n) c.len-place-end.ensures c.loop-place-test.true in
+    let row = some_row c.args.listings.now c.loop-place.place within in
     record {
-      counts = row_counted c.args.listings.now c.args.places.now c.loop-listing.counts.items c.loop-listing.listing-index c.listing-item.result c.loop-listing-test.true c.listing-item.is c.loop-listing.invariant.counts _ c.in_ok-count_names_of.ensures.counts;
-      unused = flats (unused_of c.args.places.now) c.args.listings.now c.loop-listing.listing-index c.listing-item.result [] _ _ c.loop-listing-test.true c.listing-item.is c.in_ok-count_names_of.ensures.unused c.loop-listing.invariant.unused;
+      counts = row_counted c.args.listings.now c.args.places.now c.loop-place.counts.items c.loop-place.place row.0 within (sym row.1.1) c.loop-place.invariant.counts _ (c.in_ok-count_names_of.ensures.counts row.0 row.1);
+      unused = flats (unused_of c.args.places.now) c.args.listings.now c.loop-place.place row.0 [] _ _ within (sym row.1.1) (c.in_ok-count_names_of.ensures.unused row.0 row.1) c.loop-place.invariant.unused;
     }
 
-pub count_names_of-requires : goal.count_names_of-requires
-count_names_of-requires c =
-    subst (λ (n : ℕ). IsTable n c.args.places.now) (sym c.loop-listing.invariant.counts.same) (is_table c.args.listings.now c.args.places.now c.requires)
+pub count_names_of-requires-clause-table : goal.count_names_of-requires-clause-table
+count_names_of-requires-clause-table c =
+    subst (λ (n : ℕ). IsTable n c.args.places.now) (sym c.loop-place.invariant.counts.same) (is_table c.args.listings.now c.args.places.now c.requires)
 
 pub returns-clause-counts : goal.returns-clause-counts
 returns-clause-counts c =
-    let listings = c.args.listings.now in let table = c.args.places.now in let counts = c.loop-listing.counts.items in
-    numbers_of_names listings table c.requires counts (subst (λ (ls : List Listing). AreCounts (length listings) table (targets ls) counts) (take_all c.loop-listing.listing-index listings c.loop-listing-test.false) c.loop-listing.invariant.counts)
+    let listings = c.args.listings.now in let table = c.args.places.now in let counts = c.loop-place.counts.items in
+    let past = subst (λ n. n ≤ c.loop-place.place) c.len-place-end.ensures c.loop-place-test.false in
+    numbers_of_names listings table c.requires counts (subst (λ (ls : List Listing). AreCounts (length listings) table (targets ls) counts) (take_all c.loop-place.place listings past) c.loop-place.invariant.counts)

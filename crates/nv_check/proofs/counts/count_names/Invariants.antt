@@ -3,8 +3,8 @@ use Rattle.nv_check.specs.Listings.{targets}
 use Rattle.nv_check.specs.Steps.{AreCounts, unused_faults}
 use Rattle.nv_check.proofs.counts.count_names.Given as goal
 
-abbrev pub invariant-loop-listing : goal.invariant-loop-listing
-invariant-loop-listing l = record {
-  counts : AreCounts (length l.listings) l.places (targets (take l.listing-index l.listings)) l.counts.items;
-  unused : l.unused.items ≡ unused_faults l.places (take l.listing-index l.listings);
+abbrev pub invariant-loop-place : goal.invariant-loop-place
+invariant-loop-place l = record {
+  counts : AreCounts (length l.listings) l.places (targets (take l.place l.listings)) l.counts.items;
+  unused : l.unused.items ≡ unused_faults l.places (take l.place l.listings);
 }

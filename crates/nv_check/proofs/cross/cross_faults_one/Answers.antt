@@ -10,6 +10,6 @@ use Rattle.nv_check.proofs.cross.cross_faults_one.Goals as goal
 
 pub returns : goal.returns
 returns c =
-    let listings = c.in_ok-tables.tables.listings.items in
+    let listings = c.in_ok-tables.tables.listings in
     IfOk-weaker c.sorted_faults.result (λ (found : Vec Fault Global). Lists fault_key (IsFault listings) found.items) (λ (found : Vec Fault Global). Lists fault_key (IsCrossFaultIn c.args.rows.now.items) found.items)
     (λ found l. cross_listed _ c.args.rows.now.items listings c.in_ok-tables.ensures.listings c.requires.apart found.items l) c.sorted_faults.ensures

@@ -7,7 +7,7 @@ use Rattle.nv_check.specs.Listings.{inodes_of}
 use Rattle.nv_check.specs.Words.{places_in}
 use Rattle.nv_check.specs.Steps.{ArePlacesTo}
 use Rattle.nv_check.proofs.PlaceTable.{words_more, words_none, small_place}
-use Rattle.nv_check.proofs.Follow.{inodes_len, inode_at, below_limit}
+use Rattle.nv_check.proofs.Follow.{inodes_len, head_at, head_below}
 use Rattle.nv_check.proofs.places.places_of.Goals as goal
 
 pub inode_limit-requires : goal.inode_limit-requires
@@ -24,35 +24,30 @@ loop-place-init c =
       subst P (sym e) (words_none (inodes_of c.args.listings.now) c.inode_limit.result),
     )
 
-pub bounds-listings-place : goal.bounds-listings-place
-bounds-listings-place c = c.loop-place-test.true
-
 pub index_mut-requires : goal.index_mut-requires
 index_mut-requires c =
-    let lt = c.loop-place-test.true in
-    let small : c.index-listings-place.result.inode < inode_limit c.args.sup.now = below_limit _ c.args.listings.now c.loop-place.place _ c.requires.apart (lt, sym c.index-listings-place.is) in
+    let small = head_below _ c.args.listings.now c.loop-place.place c.head.result c.requires.apart c.head.ensures in
     omega (arith, small, c.loop-place.invariant.0)
 
 pub overflow_cast-place : goal.overflow_cast-place
 overflow_cast-place c =
-    let small = small_place c.args.sup.now (inodes_of c.args.listings.now) c.loop-place.place c.requires.layout.areas c.requires.apart (omega (arith, c.loop-place-test.true, inodes_len c.args.listings.now)) in omega (arith, small)
+    let small = small_place c.args.sup.now (inodes_of c.args.listings.now) c.loop-place.place c.requires.layout.areas c.requires.apart (omega (arith, c.loop-place-test.true, c.len-place-end.ensures, inodes_len c.args.listings.now)) in omega (arith, small)
 
 pub overflow_add-place : goal.overflow_add-place
 overflow_add-place c =
-    let small = small_place c.args.sup.now (inodes_of c.args.listings.now) c.loop-place.place c.requires.layout.areas c.requires.apart (omega (arith, c.loop-place-test.true, inodes_len c.args.listings.now)) in omega (arith, small)
+    let small = small_place c.args.sup.now (inodes_of c.args.listings.now) c.loop-place.place c.requires.layout.areas c.requires.apart (omega (arith, c.loop-place-test.true, c.len-place-end.ensures, inodes_len c.args.listings.now)) in omega (arith, small)
 
 pub loop-place-preserved : goal.loop-place-preserved
 loop-place-preserved c =
-    let inodes = inodes_of c.args.listings.now in let l = c.index-listings-place.result in let n = c.loop-place.place in
+    let inodes = inodes_of c.args.listings.now in let h = c.head.result in let n = c.loop-place.place in
     let words = c.loop-place.words.items in
-    let lt = c.loop-place-test.true in
     let len = inodes_len c.args.listings.now in
-    let here : get_or inodes n 0 ≡ l.inode = inode_at c.args.listings.now n l (lt, sym c.index-listings-place.is) in
-    let small : l.inode < inode_limit c.args.sup.now = below_limit _ c.args.listings.now n l c.requires.apart (lt, sym c.index-listings-place.is) in
+    let here : get_or inodes n 0 ≡ h.inode = head_at c.args.listings.now n h c.head.ensures in
+    let small : h.inode < inode_limit c.args.sup.now = head_below _ c.args.listings.now n h c.requires.apart c.head.ensures in
     let within : get_or inodes n 0 < length words = omega (arith, here, small, c.loop-place.invariant.0) in
     let P : ℕ → Type 0 = λ i. ArePlacesTo inodes (n + 1) (places_in (set words i (n + 1))) in (
-      length-set words l.inode (n + 1) ∙ c.loop-place.invariant.0,
-      subst P here (words_more inodes n words c.requires.apart.once (omega (arith, lt, len)) within c.loop-place.invariant.1),
+      length-set words h.inode (n + 1) ∙ c.loop-place.invariant.0,
+      subst P here (words_more inodes n words c.requires.apart.once (omega (arith, c.head.ensures.1.0, len)) within c.loop-place.invariant.1),
     )
 
 pub returns : goal.returns
