@@ -12,6 +12,7 @@ use Rattle.nv_check.specs.Listing.{Listing}
 abbrev pub NameLists : Type 0
 NameLists = List (Vec Named Global)
 
+-- the names of a list, if there is one
 abbrev pub items_of : Option (Vec Named Global) → List Named
 items_of None = []
 items_of (Some list) = list.items

@@ -34,9 +34,11 @@ pub record IsTable (n : ℕ) (table : List (Option ℕ)) : Type 0 where
 abbrev pub unused_fault : List (Option ℕ) → ℕ → Named → Option Fault
 unused_fault table d x = if is_some (place_of table (target x)) then None else Some (faults.C1 d x.place)
 
+-- the faults of a row's names whose inodes aren't in use
 abbrev pub unused_of : List (Option ℕ) → Listing → List Fault
 unused_of table l = filter_map (unused_fault table l.inode) l.names
 
+-- the same of all rows
 abbrev pub unused_faults : List (Option ℕ) → List Listing → List Fault
 unused_faults table listings = flat_map (unused_of table) listings
 
@@ -67,6 +69,7 @@ pub record AreNumbersOfNames (listings : List Listing) (counts : List ℕ) : Typ
 abbrev pub IsMarked : List Bool → ℕ → Type 0
 IsMarked marks k = slice_index_or marks k false ≡ true
 
+-- how many marks aren't set
 abbrev pub unmarked : List Bool → ℕ
 unmarked marks = count_by not marks
 
@@ -133,10 +136,12 @@ pub data IsFar (listings : List Listing) : Fault → Type 0 where
   unreached : (l : Listing) → Contains listings l → (IsReached listings l.inode → ⊥) → IsFar listings (faults.C4 l.inode)
   no_root : ((l : Listing) → Contains listings l → l.inode ≡ 1 → l.kind ≡ Directory → ⊥) → IsFar listings faults.C5
 
+-- inode 1 as a directory
 abbrev pub is_root_of : Kind → ℕ → Bool
 is_root_of Directory i = i == 1
 is_root_of File i = false
 
+-- the row is that of the root directory
 abbrev pub is_root : Listing → Bool
 is_root l = is_root_of l.kind l.inode
 
@@ -149,6 +154,7 @@ abbrev pub named_at : List ℕ → Option ℕ → ℕ
 named_at counts None = 0
 named_at counts (Some k) = unwrap_or (slice_get counts k) 0
 
+-- how often an inode is named, by the counts and the table
 abbrev pub named_by : List (Option ℕ) → List ℕ → ℕ → ℕ
 named_by table counts i = named_at counts (place_of table i)
 

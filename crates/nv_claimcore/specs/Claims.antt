@@ -47,9 +47,11 @@ is_marked b r = (not r.won && r.marked) && (r.block == b)
 abbrev pub won : ℕ → View → ℕ
 won b v = count_by (is_won b) v.records
 
+-- how many it has lost
 abbrev pub lost : ℕ → View → ℕ
 lost b v = count_by (is_lost b) v.records
 
+-- how many it has lost and marked
 abbrev pub marked : ℕ → View → ℕ
 marked b v = count_by (is_marked b) v.records
 

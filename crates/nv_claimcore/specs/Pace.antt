@@ -31,6 +31,7 @@ pub record Reached (z : Sizes) (s : State) : Type 0 where
 abbrev pub no_pace : Pace
 no_pace = record { ticket = 0; made = 0; lost = None; ended = false }
 
+-- how far a worker has come
 abbrev pub pace_of : List Pace → ℕ → Pace
 pace_of paces w = slice_index_or paces w no_pace
 

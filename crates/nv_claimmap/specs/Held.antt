@@ -16,9 +16,11 @@ pub record Held : Type 0 where
   pub number : ℕ
   pub view : View
 
+-- the map of this table, with these sizes
 abbrev pub map_id : TableId → Sizes → MapId
 map_id t z = record { table = t; sizes = z }
 
+-- the seat of this map with this number and view
 abbrev pub held : MapId → ℕ → View → Held
 held m k v = record { map = m; number = k; view = v }
 

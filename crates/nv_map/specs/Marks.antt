@@ -40,9 +40,11 @@ SaysOne {X} says xs b other = (x : X) × Contains xs x × says x b other
 abbrev pub SaysPage : ℕ → ℕ → BlockUse → Type 0
 SaysPage page b other = AreUsed page 1 Log b other
 
+-- what an extent of a file says
 abbrev pub SaysExtent : Extent → ℕ → BlockUse → Type 0
 SaysExtent extent b other = AreUsed extent.block extent.count Data b other
 
+-- what a claim of a doubled block says
 abbrev pub SaysClaim : ℕ × Owner → ℕ → BlockUse → Type 0
 SaysClaim claim b other = AreUsed claim.0 1 Doubled b other
 

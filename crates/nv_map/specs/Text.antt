@@ -14,6 +14,7 @@ letter Data = codes "D"
 letter Log = codes "L"
 letter Doubled = codes "!"
 
+-- the letters of cells
 abbrev pub letters : List BlockUse → List ℕ
 letters uses = flat_map letter uses
 
@@ -21,6 +22,7 @@ letters uses = flat_map letter uses
 abbrev pub line_at : List BlockUse → ℕ → List ℕ
 line_at uses k = letters (take 64 (drop (64 * k) uses)) ++ codes "\n"
 
+-- all lines of a map
 abbrev pub lines_of : List BlockUse → List ℕ
 lines_of uses = flat_map (line_at uses) (range_with_len 0 (div_ceil (length uses) 64))
 

@@ -22,6 +22,7 @@ use Rattle.nv_check.specs.nv_scan.declared.piece.Piece.{Piece}
 use Rattle.nv_check.specs.Cross.{IsCrossFaultIn}
 use Rattle.nv_check.specs.Doubled.{AreDoubled}
 
+-- by inode
 abbrev pub piece_key : Piece → List ℕ
 piece_key p = p.inode ∷ []
 

@@ -17,6 +17,7 @@ pub record IsNamedAt (t : Tree) (rows : List Row) (names : List (List ℕ)) (pla
 
 -- ---- tests, between those of every writing call and that for space
 
+-- of a name that is there: the path, the way, and that it leads to an inode
 abbrev pub named_tests : Tree → Path → Tests
 named_tests t p = is_bad_name p ∷ walk_tests t p ++ is_missing t p ∷ []
 

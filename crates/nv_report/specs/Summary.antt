@@ -74,25 +74,32 @@ sums_text (x ∷ xs) = codes " (" ++ sum_text x ++ more_text xs ++ codes ")"
 
 -- ---- the line
 
+-- the first part: inodes, directories, files and names
 abbrev pub inodes_text : ℕ → ℕ → ℕ → ℕ → List ℕ
 inodes_text inodes directories files names = codes "inodes " ++ decimal inodes ++ codes ", directories " ++ decimal directories
     ++ codes ", files " ++ decimal files ++ codes ", names " ++ decimal names
 
+-- the blocks in use
 abbrev pub used_text : ℕ → List ℕ
 used_text used = codes ", blocks in use " ++ decimal used
 
+-- the free blocks
 abbrev pub free_text : ℕ → List ℕ
 free_text free = codes ", free " ++ decimal free
 
+-- the number of faults
 abbrev pub count_text : ℕ → List ℕ
 count_text faults = codes ", faults " ++ decimal faults
 
+-- the first part, of these rows
 abbrev pub inodes_part : List Row → List ℕ
 inodes_part rows = inodes_text (length rows) (directories rows) (files rows) (names rows)
 
+-- the blocks of an outcome, in use and free
 abbrev pub blocks_part : Outcome → List ℕ
 blocks_part o = used_text (used_blocks o) ++ free_text (all_blocks o.free)
 
+-- how many faults there are, and how many of each class
 abbrev pub faults_part : List Fault → List ℕ
 faults_part faults = count_text (length faults) ++ sums_text (class_sums faults)
 
