@@ -23,7 +23,7 @@ pub mixed_size : {R S : Region} {these : Choices} → IsMixed R these S → size
 mixed_size mixed k = 8 * mixed.as_long k + length (mixed.same_rest k)
 
 -- a byte is read from one word of its page's block
-same_byte : (R S : Region) (o : Option ℕ) (x : ℕ) → ((b : ℕ) → o ≡ Some b → word S (b * 4096 + x % 4096 / 8 * 8) ≡ word R (b * 4096 + x % 4096 / 8 * 8)) → byte_in S o x ≡ byte_in R o x
+pub same_byte : (R S : Region) (o : Option ℕ) (x : ℕ) → ((b : ℕ) → o ≡ Some b → word S (b * 4096 + x % 4096 / 8 * 8) ≡ word R (b * 4096 + x % 4096 / 8 * 8)) → byte_in S o x ≡ byte_in R o x
 same_byte R S None x same = refl
 same_byte R S (Some b) x same = ap (λ (w : ℕ). w / 256 ^ (x % 8) % 256) (same b refl)
 

@@ -30,7 +30,7 @@ pub page_owned : {l : Layout} {held : Store} {i p b : ℕ} → OwnsIn l held b (
 page_owned (by_page {h = h} is maps) = (h, is, maps)
 
 -- a place of a list of numbers that differ
-one_place : (xs : List ℕ) (j k b : ℕ) → IsDistinct eqb xs → slice_get xs j ≡ Some b → slice_get xs k ≡ Some b → j ≡ k
+pub one_place : (xs : List ℕ) (j k b : ℕ) → IsDistinct eqb xs → slice_get xs j ≡ Some b → slice_get xs k ≡ Some b → j ≡ k
 one_place xs j k b once e f = elim (cases_eq j k) [
   | inl same ↦ same
   | inr differ ↦ absurd (elim (cases_lt j k) [

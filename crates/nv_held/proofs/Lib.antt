@@ -15,6 +15,9 @@ pub mod Faultless
 pub mod RowsKept
 pub mod ListsKept
 pub mod ShownGraph
+pub mod Cleaning
+pub mod Unlinking
+pub mod Cleaned
 pub mod Opens
 pub mod Closes
 pub use Rattle.nv_named.proofs as nv_named

@@ -10,6 +10,7 @@ pub mod Lists
 pub mod Writes
 pub mod Bytes
 pub mod Appended
+pub mod Cleaned
 pub use Rattle.nv_named.specs as nv_named
 pub use Rattle.nv_named.specs.nv_outcome
 pub use Rattle.nv_named.specs.nv_check

@@ -12,6 +12,7 @@ mod names;
 mod outcomes;
 mod owners;
 mod rows;
+mod shorter;
 mod stores;
 
 pub use appends::{appended_log_grows, appended_log_is_sound, free_blocks_can_become_pages};
@@ -27,6 +28,7 @@ pub use owners::{
     still_undoubled,
 };
 pub use rows::{rows_follow, rows_less, rows_more};
+pub use shorter::{page_is_unlinked, unlinked_page_is_free};
 pub use stores::{
     inode_comes, inode_goes, loose_words_are_not_shown, loose_words_leave_it_sound,
     one_slot_changes, shown_behind, slots_are_clear, slots_lie_behind, sound_moves, tail_moves,

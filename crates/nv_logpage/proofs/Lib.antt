@@ -15,3 +15,5 @@ pub mod Laid
 pub mod Grown
 pub mod ReadOn
 pub mod Writes
+pub mod Turning
+pub mod Unlinked

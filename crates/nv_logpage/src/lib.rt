@@ -13,6 +13,7 @@ mod laws;
 mod light;
 mod looking;
 mod reader;
+mod unlinking;
 mod walking;
 
 pub use appending::{append, pages_needed};
@@ -24,4 +25,5 @@ pub use laws::{
 };
 pub use light::{LightFinding, LightPlaced};
 pub use reader::LogReader;
+pub use unlinking::unlink_page;
 pub use walking::walk;

@@ -106,3 +106,17 @@ pub set_one : (m n : Pages) (r : Runs) (page block count end : ℕ) → page < 6
 set_one m n r page block count end first one front none p =
     set_within m n r r page block count 1 (omega (arith, first, one)) first (omega (arith, first, one)) front p
     ∙ ap (λ (o : Option ℕ). cond (in_run page count p) (Some (block + (p - page))) o) (elim (leb_tells end p) [ inl w ↦ rw w.0 (none p w.1) | inr w ↦ rw w.0 refl ])
+
+-- ---- what one page maps to
+
+-- a page behind the first ones is mapped by the runs
+pub got_behind : (m : Pages) (r : Runs) (p : ℕ) → 64 ≤ p → block_by (front_runs m 64 ++ r) p ≡ block_by r p
+got_behind m r p from = rw (block_by-front 64 m r p) (grind (arith, nat_tests, from))
+
+-- a first page has the leaf's block
+pub got_first : (m : Pages) (r : Runs) (p b : ℕ) → p < 64 → block_at m p ≡ Some b → block_by (front_runs m 64 ++ r) p ≡ Some b
+got_first m r p b low here = rw (block_by-front 64 m r p, here) (grind (arith, nat_tests, low))
+
+-- or else that of the runs
+pub got_other : (m : Pages) (r : Runs) (p : ℕ) → block_at m p ≡ None → block_by (front_runs m 64 ++ r) p ≡ block_by r p
+got_other m r p here = rw (block_by-front 64 m r p, here) (grind (arith, nat_tests))

@@ -103,6 +103,19 @@ impl ExtentMap {
         self.set_run(page, block, count)
     }
 
+    /// The block of a page, which may be any number, if it is mapped. It costs the logarithm of the number of runs.
+    pub fn get(&self, page: u64) -> Option<u64>
+        ensures { result ≡ block_by self.now page }
+    {
+        if page >= LEAF_PAGES {
+            return self.runs.get(page);
+        }
+        match self.front.get(page) {
+            Some(block) => Some(block),
+            None => self.runs.get(page),
+        }
+    }
+
     /// Whether no page from `end` on is mapped, told without a search: `false` says nothing.
     #[inline(always)]
     fn ends_by(&self, end: u64) -> bool

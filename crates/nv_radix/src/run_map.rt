@@ -8,7 +8,7 @@ ghost use Rattle.nv_radix.specs.Runs.{block_by, IsRun};
 use crate::extent::Extent;
 use crate::extents::add_run;
 use crate::index::FileIndex;
-use crate::runs::{Blocks, Runs, clear, goes_on, set, settle};
+use crate::runs::{Blocks, Runs, block_of, clear, goes_on, set, settle};
 use std::alloc::{AllocError, Global};
 use std::collections::BTreeMap;
 use std::marker::Model;
@@ -97,6 +97,19 @@ impl RunMap {
         }
         self.end = self.end.max(page + count);
         Ok(())
+    }
+
+    /// The block of a page, which may be any number, if it is mapped.
+    pub fn get(&self, page: u64) -> Option<u64>
+        ensures { result ≡ block_by self.now page }
+    {
+        if page >= self.end {
+            return None;
+        }
+        if page >= self.page && page - self.page < self.last.count {
+            return Some(self.last.start + (page - self.page));
+        }
+        block_of(&self.runs, page)
     }
 
     /// No page from here on is mapped.

@@ -1,6 +1,6 @@
 //! Runs of pages in the order of their first pages, of which no two have a page in common.
 
-ghost use Rattle.std.specs.Prelude.{◌≡◌, ℕ, ◌+◌, ◌-◌, ◌<◌, ◌≤◌, ◌&&◌, ◌∷◌, if◌then◌else◌, nat_le, nat_lt, Some, None, IfSome, IfNone, IsTrue, false, OnOk, OnErr};
+ghost use Rattle.std.specs.Prelude.{◌≡◌, ℕ, ◌+◌, ◌-◌, ◌^◌, ◌<◌, ◌≤◌, ◌&&◌, ◌∷◌, if◌then◌else◌, nat_le, nat_lt, Some, None, IfSome, IfNone, IsTrue, false, OnOk, OnErr};
 ghost use Rattle.nv_radix.specs.Pages.{in_run};
 ghost use Rattle.nv_radix.specs.Runs.{block_by, run_at, front_of, AreRuns, HasRunOf, IsRun, IsLastBefore, Puts};
 
@@ -161,6 +161,19 @@ fn last_before(runs: &Runs, page: u64) -> Option<(u64, Blocks)>
 {
     let (first, blocks) = runs.range(..page).next_back()?;
     Some((*first, *blocks))
+}
+
+/// The block that a page maps to, if it maps to one.
+pub(crate) fn block_of(runs: &Runs, page: u64) -> Option<u64>
+    requires runs { AreRuns runs.now.entries }
+    requires number { page + 1 < 2 ^ 64 }
+    ensures { result ≡ block_by runs.now.entries page }
+{
+    let (first, blocks) = last_before(runs, page + 1)?;
+    if page - first < blocks.count {
+        return Some(blocks.start + (page - first));
+    }
+    None
 }
 
 /// Gives the run that begins at a page these blocks, in place of those that it had.

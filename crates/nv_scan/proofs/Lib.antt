@@ -1,4 +1,12 @@
 pub mod Words
+pub mod ReadWithout
+pub mod SameIndexes
+pub mod Deciding
+pub mod Unspared
+pub mod Standing
+pub mod Pairing
+pub mod Stamping
+pub mod Changing
 pub mod EntryFaults
 pub mod FaultsOnce
 pub mod Steps

@@ -27,6 +27,7 @@ pub data IsInode (R : Region) (l : Layout) (i : ℕ) : ℕ → Log → Type 0 wh
   wrong : {a : ℕ} {kind : Kind} → slot_of l i ≡ Some a → kind_at R a ≡ Some kind → is_right_log l.sup (word R (a + 16)) (word R (a + 24)) ≡ false
       → IsInode R l i a (empty_log kind)
 
+-- the inode is in use, at some address and with some log
 abbrev pub IsInUse : Region → Layout → ℕ → Type 0
 IsInUse R l i = (a : ℕ) × (log : Log) × IsInode R l i a log
 

@@ -14,6 +14,13 @@ pub mod Work
 pub mod Scanner
 pub mod Claiming
 pub mod Light
+pub mod Dead
+pub mod Needed
+pub mod Standing
+pub mod Pairs
+pub mod Stamps
+pub mod Changes
+pub mod ReadingWithout
 pub use Rattle.nv_logpage.specs as nv_logpage
 pub use Rattle.nv_claimmap.specs.ClaimList
 pub use Rattle.nv_claimmap.specs.nv_claimcore

@@ -16,6 +16,7 @@ pub data Owns (R : Region) (l : Layout) : ℕ → Owner → Type 0 where
   -- page p of the file maps to it
   by_page : {i a p b : ℕ} {log : Log} → IsInode R l i a log → block_of (good_of l log) p ≡ Some b → Owns R l b (owners.Data i p)
 
+-- the inode that an owner is of
 abbrev pub inode_of : Owner → ℕ
 inode_of (owners.Log i k) = i
 inode_of (owners.Data i p) = i

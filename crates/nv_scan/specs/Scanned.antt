@@ -27,6 +27,7 @@ fault_by i logs.L2 at = faults.L2 i at
 fault_by i logs.L3 at = faults.L3 i at
 fault_by i logs.L4 at = faults.L4 i at
 
+-- the same of a log that may have ended without a fault
 abbrev pub fault_of_end : ℕ → Option LogEnd → Option Fault
 fault_of_end i None = None
 fault_of_end i (Some e) = Some (fault_by i e.fault e.at)

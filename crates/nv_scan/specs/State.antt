@@ -82,27 +82,35 @@ name_in n at (Write e) = None
 name_in n at (Attr e) = None
 name_in n at (Links e) = None
 
+-- what an entry at its place says of the size
 abbrev pub says_size : Placed → Option ℕ
 says_size x = size_in x.entry
 
+-- what it says of the mode
 abbrev pub says_mode : Placed → Option ℕ
 says_mode x = mode_in x.entry
 
+-- what it says of the owner
 abbrev pub says_owner : Placed → Option ℕ
 says_owner x = owner_in x.entry
 
+-- what it says of the group
 abbrev pub says_group : Placed → Option ℕ
 says_group x = group_in x.entry
 
+-- what it says of the link count
 abbrev pub says_links : Placed → Option ℕ
 says_links x = links_in x.entry
 
+-- what it says of the time
 abbrev pub says_time : Placed → Option ℕ
 says_time x = time_in x.entry
 
+-- what it says of a page
 abbrev pub says_block : ℕ → Placed → Option (Option ℕ)
 says_block p x = block_in p x.entry
 
+-- what it says of a name
 abbrev pub says_name : List ℕ → Placed → Option (Option (ℕ × ℕ))
 says_name n x = name_in n x.at x.entry
 

@@ -6,24 +6,31 @@
 //! all inodes can be made in any order, and on any thread, before they are put together.
 #![tactic(auto)]
 
+mod changes;
 mod claiming;
 mod claims;
+mod dead;
 mod fold;
 mod in_use;
 mod inodes;
 mod laws;
+mod marks;
 mod names;
+mod needed;
 mod numbers;
 mod pages;
+mod pairs;
 mod piece;
 mod reading;
 mod row_list;
 mod scan;
+mod stamps;
 mod tickets;
 mod touching;
 mod working;
 
 pub use claims::{Claims, claims_of_rows};
+pub use dead::first_dead_page;
 pub use inodes::{Inodes, ListedInodes};
 pub use laws::{
     directories_have_no_pages, files_have_no_names, in_use_by_the_slot, inode_alone,

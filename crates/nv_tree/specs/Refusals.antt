@@ -175,3 +175,7 @@ list_tests t p = is_bad p ∷ walk_tests t p ++ is_missing t p ∷ is_no_dir t p
 -- `stat`
 abbrev pub stat_tests : Tree → Path → Tests
 stat_tests t p = is_bad p ∷ walk_tests t p ++ is_missing t p ∷ []
+
+-- `clean`, which names no CPU
+abbrev pub clean_tests : World → Tree → Path → Tests
+clean_tests w t p = (w.read_only, ReadOnly) ∷ stat_tests t p
