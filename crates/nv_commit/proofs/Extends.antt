@@ -1,10 +1,10 @@
 -- A log that grows by entries, and its tail that moves.
-use Rattle.std.proofs.Common.{◌≡◌, ℕ, ◌+◌, ◌*◌, ◌%◌, ◌≤◌, ◌<◌, ◌⊎◌, Bool, true, false, inl, inr, List, ◌++◌, length, take, sym, ◌∙◌, subst, arith, Some, None, Result, Ok, Err, is_err, IfOk, OnErr, IsTrue}
+use Rattle.std.proofs.Common.{◌≡◌, ℕ, ◌+◌, ◌*◌, ◌%◌, ◌≤◌, ◌<◌, ◌⊎◌, Bool, true, false, inl, inr, List, ◌++◌, length, take, refl, sym, ◌∙◌, subst, arith, Some, None, Result, Ok, Err, is_err, IfOk, OnErr, IsTrue}
 use Rattle.std.proofs.lemmas.Bool.{cases_lt, true≢false}
 use Rattle.nv_region.specs.Region.{Region, size, put}
-use Rattle.nv_region.specs.Stops.{Choices, IsMixed, LeavesOnly, NothingPending}
+use Rattle.nv_region.specs.Stops.{Choices, IsMixed, LeavesOnly, NothingPending, PendingOnly}
 use Rattle.nv_region.specs.Stored.{Stored, StoresOnly}
-use Rattle.nv_region.proofs.Stops.{mixed_left, mixed_same}
+use Rattle.nv_region.proofs.Stops.{mixed_left, mixed_put, mixed_same}
 use Rattle.nv_region.proofs.Wordwise.{mixed_more, put_stored}
 use Rattle.nv_super.specs.declared.superblock.Super.{Super}
 use Rattle.nv_super.specs.Layout.{fixed_layout, is_data_address, is_page_start}
@@ -25,7 +25,8 @@ use Rattle.nv_held.proofs.Clear.{slots_clear}
 use Rattle.nv_held.proofs.Fronts.{loose_front, loose_sound, slot_front}
 use Rattle.nv_held.proofs.Commits.{stored_outside}
 use Rattle.nv_held.proofs.Appending.{append_loose, has_behind, tail_follows}
-use Rattle.nv_commit.specs.Extends.{BeforeOrExtended, CanExtend, ShowsMoved, with_log}
+use Rattle.nv_commit.specs.Extends.{BeforeOrExtended, CanExtend, ExtendWords, LooseOrExtended, ShowsMoved, with_log}
+use Rattle.nv_commit.proofs.Left.{mixed_pending}
 
 -- an append that was refused: there was an entry, and the fuse has burnt
 pub burnt_append : (count : ℕ) (burnt : Bool) → (0 < count → true ≡ burnt) → (count ≡ 0 → true ≡ false) → true ≡ burnt
@@ -65,6 +66,12 @@ module _ {R : Region} {s : Super} {held : Store} {i : ℕ} {h : Held} {slot tail
   pub left_before : (now : Region) (old new : Choices) → StoresOnly (AppendWords tail fresh) R now old new → NothingPending R old → LeavesOnly now new (BeforeOrExtended R s held i h entries fresh)
   left_before now old new wrote settled left may = inl (sound_before left (mixed_left R now (AppendWords tail fresh) old new wrote.mixed.as_long wrote.mixed.same_rest settled wrote.adds left may))
 
+  -- the same where loose words were pending
+  pub loose_left : (now : Region) (old new : Choices) → StoresOnly (AppendWords tail fresh) R now old new → PendingOnly R old (Loose (fixed_layout s) held) → LeavesOnly now new (LooseOrExtended R s held i h slot tail entries fresh)
+  loose_left now old new wrote pending left may =
+      let both = mixed_pending R now (Loose (fixed_layout s) held) (AppendWords tail fresh) old new wrote.mixed.as_long wrote.mixed.same_rest pending wrote.adds left may in
+      inl (mixed_more (Loose (fixed_layout s) held) (λ k x. Loose (fixed_layout s) held k x ⊎ AppendWords tail fresh k x) R R left (λ k x w. elim w [ inl loose ↦ loose | inr one ↦ loose_there k x one ]) (mixed_same R (Loose (fixed_layout s) held)) both)
+
   module _ (Q : Region) (new : ℕ) (is : new ≡ end_of fresh 0 tail entries) (appends : Appends R Q tail new entries fresh) where
     here : Appends R Q h.tail new entries fresh
     here = subst (λ (t : ℕ). Appends R Q t new entries fresh) (sym can.tail_is) appends
@@ -97,3 +104,13 @@ module _ {R : Region} {s : Super} {held : Store} {i : ℕ} {h : Held} {slot tail
     pub once_committed : slot % 8 ≡ 0 → slot + 32 ≤ size R → length R.rest < 8 → (left : Region) → (left ≡ Q) ⊎ (left ≡ put Q (slot + 24) new) → BeforeOrExtended R s held i h entries fresh left
     once_committed whole inside short left (inl same) = inl (subst (λ (X : Region). ShowsSound X s held) (sym same) (sound_before Q appends.wrote))
     once_committed whole inside short left (inr moved) = inr (subst (λ (X : Region). ShowsMoved R s (with_log held i h entries fresh) X) (sym moved) (put_after whole inside short))
+
+    -- and by what was stored
+    pub then_committed : slot % 8 ≡ 0 → slot + 32 ≤ size R → length R.rest < 8 → (left : Region) → (left ≡ Q) ⊎ (left ≡ put Q (slot + 24) new) → LooseOrExtended R s held i h slot tail entries fresh left
+    then_committed whole inside short left (inl same) = inl (subst (λ (X : Region). IsMixed R (Loose (fixed_layout s) held) X) (sym same) (all_loose Q appends.wrote))
+    then_committed whole inside short left (inr moved) = inr (
+      subst (λ (X : Region). ShowsMoved R s (with_log held i h entries fresh) X) (sym moved) (put_after whole inside short),
+      subst (λ (X : Region). IsMixed R (ExtendWords slot tail entries fresh) X) (sym moved)
+          (mixed_put R Q (ExtendWords slot tail entries fresh) (slot + 24) new
+          (mixed_more (ExtendWords slot tail entries fresh) (AppendWords tail fresh) R R Q (λ k x w. inl w) (mixed_same R (ExtendWords slot tail entries fresh)) appends.wrote) (inr (refl, is))),
+    )

@@ -1,3 +1,5 @@
+pub mod Left
+pub mod LeftUndone
 pub mod Extends
 pub mod Permitted
 pub mod TwoWords

@@ -1,13 +1,14 @@
 -- A log that grows by entries, up to a tail that is moved behind them.
 use Rattle.std.specs.Prelude.{◌≡◌, ◌⊎◌, ℕ, ◌+◌, ◌%◌, ◌<◌, ◌≤◌, List, length, take, Some}
 use Rattle.nv_region.specs.Region.{Region}
-use Rattle.nv_region.specs.Stops.{Choices, One}
+use Rattle.nv_region.specs.Stops.{Choices, IsMixed, One}
 use Rattle.nv_super.specs.declared.superblock.Super.{Super}
 use Rattle.nv_super.specs.Layout.{fixed_layout, slot_of}
 use Rattle.nv_entry.specs.declared.entry.Entry.{Entry}
 use Rattle.nv_logpage.specs.Append.{AllDiffer, AppendWords, AreGiven, appended, end_of, needed}
 use Rattle.nv_held.specs.Held.{Held, Store, Shows, with_inode}
 use Rattle.nv_held.specs.Front.{SameFront}
+use Rattle.nv_held.specs.Loose.{Loose}
 use Rattle.nv_held.specs.Grows.{AreFree, grown}
 use Rattle.nv_held.specs.Mounted.{ShowsSound}
 
@@ -43,3 +44,7 @@ BeforeOrExtended R s held i h entries fresh left = ShowsSound left s held ⊎ Sh
 -- what an append may store, and the new tail in its word
 abbrev pub ExtendWords : ℕ → ℕ → List Entry → List ℕ → Choices
 ExtendWords slot tail entries fresh i x = AppendWords tail fresh i x ⊎ One (slot + 24) (end_of fresh 0 tail entries) i x
+
+-- Other values stand in loose words, or the tail is moved behind the entries, and nothing else was stored.
+abbrev pub LooseOrExtended : Region → Super → Store → ℕ → Held → ℕ → ℕ → List Entry → List ℕ → Region → Type 0
+LooseOrExtended R s held i h slot tail entries fresh left = IsMixed R (Loose (fixed_layout s) held) left ⊎ (ShowsMoved R s (with_log held i h entries fresh) left × IsMixed R (ExtendWords slot tail entries fresh) left)

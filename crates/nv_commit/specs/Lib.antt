@@ -3,3 +3,4 @@ pub mod Together
 pub mod Removes
 pub mod Makes
 pub mod Pages
+pub mod Stopped

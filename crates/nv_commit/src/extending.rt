@@ -2,14 +2,16 @@
 
 ghost use Rattle.std.specs.Prelude.{◌≡◌, ◌+◌, ◌/◌, ◌%◌, ◌≤◌, ◌∷◌, ℕ, true, IfOk, OnErr, OnOk, is_err};
 ghost use Rattle.nv_region.specs.Region.{size};
-ghost use Rattle.nv_region.specs.Stops.{LeavesOnly, NothingPending};
+ghost use Rattle.nv_region.specs.Stops.{LeavesOnly, NothingPending, PendingOnly};
 ghost use Rattle.nv_region.specs.Fuses.{KeepsFuse};
 ghost use Rattle.nv_region.specs.Stored.{StoresOnly};
 ghost use Rattle.nv_super.specs.declared.superblock.Super.{Super};
+ghost use Rattle.nv_super.specs.Layout.{fixed_layout};
 ghost use Rattle.nv_logpage.specs.Append.{AppendWords, CanAppend, EndBy, end_of};
 ghost use Rattle.nv_held.specs.Appended.{Appends};
 ghost use Rattle.nv_held.specs.Held.{Held, Store};
-ghost use Rattle.nv_commit.specs.Extends.{BeforeOrExtended, CanExtend, ExtendWords, ShowsMoved, with_log};
+ghost use Rattle.nv_held.specs.Loose.{Loose};
+ghost use Rattle.nv_commit.specs.Extends.{BeforeOrExtended, CanExtend, ExtendWords, LooseOrExtended, ShowsMoved, with_log};
 
 use nv_entry::Entry;
 use nv_logpage::append;
@@ -46,6 +48,9 @@ pub fn extend_log<P: Pmem>(
         → BeforeOrExtended (P.region memory.old) s held i h entries.now fresh.now (P.region memory.new) }
     ensures any_stop { (s : Super) (held : Store) (i : ℕ) (h : Held) → CanExtend (P.region memory.old) s held i h slot tail entries.now fresh.now → NothingPending (P.region memory.old) (P.may_hold memory.old)
         → LeavesOnly (P.region memory.new) (P.may_hold memory.new) (BeforeOrExtended (P.region memory.old) s held i h entries.now fresh.now) }
+    // So it is too where loose words were pending, as those of data that the entries write.
+    ensures loose_stop { (s : Super) (held : Store) (i : ℕ) (h : Held) → CanExtend (P.region memory.old) s held i h slot tail entries.now fresh.now → PendingOnly (P.region memory.old) (P.may_hold memory.old) (Loose (fixed_layout s) held)
+        → LeavesOnly (P.region memory.new) (P.may_hold memory.new) (LooseOrExtended (P.region memory.old) s held i h slot tail entries.now fresh.now) }
 {
     // The region's length is a u64, and fewer than eight bytes stand behind the last word.
     let _length = memory.len();

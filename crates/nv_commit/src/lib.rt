@@ -11,6 +11,7 @@ mod laws;
 mod making;
 mod owning;
 mod removing;
+mod stopped;
 mod together;
 
 pub use extending::extend_log;
@@ -22,4 +23,8 @@ pub use laws::shown_is_sound;
 pub use making::{NewInode, make_inode};
 pub use owning::{begun_log_owns, gone_blocks_are_free, no_page_is_said};
 pub use removing::remove_inode;
+pub use stopped::{
+    later_recoveries_find_the_same, loose_words_are_not_recovered, one_thing_is_shown,
+    stopped_outcome,
+};
 pub use together::{Extension, extend_two};

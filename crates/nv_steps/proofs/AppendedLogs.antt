@@ -1,11 +1,14 @@
 -- Two logs that were grown and whose rows were settled: what is owed before the commit, and what was done.
-use Rattle.std.proofs.Common.{◌≡◌, refl, ◌≢◌, ℕ, ◌+◌, ◌/◌, ◌%◌, ◌≤◌, List, [], ◌∷◌, ◌++◌, length, take, drop, ap, sym, ◌∙◌, subst, arith, Bool, true, false, cond}
+use Rattle.std.proofs.Common.{◌≡◌, refl, ◌≢◌, ℕ, ◌+◌, ◌/◌, ◌%◌, ◌≤◌, List, [], ◌∷◌, ◌++◌, length, take, drop, ap, sym, ◌∙◌, subst, arith, Bool, true, false, cond, inl, inr, Some}
 use Rattle.std.proofs.lemmas.List.{length-drop, length-take-le, take-append-drop}
 use Rattle.smallvec.specs.SmallVec.{HasRoomFor}
 use Rattle.nv_region.specs.Region.{Region, size}
-use Rattle.nv_region.specs.Stops.{IsMixed}
+use Rattle.nv_region.specs.Stops.{Choices, IsMixed, LeavesOnly, MayBeLeft, NothingPending}
+use Rattle.nv_region.specs.Stored.{StoresOnly}
+use Rattle.nv_region.proofs.Stops.{mixed_left}
 use Rattle.nv_super.specs.declared.superblock.Super.{Super}
-use Rattle.nv_super.specs.Layout.{slot_address}
+use Rattle.nv_super.specs.Layout.{fixed_layout, slot_address}
+use Rattle.nv_journal.specs.Undo.{undone}
 use Rattle.nv_alloc.specs.FreeValue.{FreeLists}
 use Rattle.nv_entry.specs.declared.entry.Entry.{Entry}
 use Rattle.nv_logpage.specs.Append.{AreGiven, EndBy, end_of, needed}
@@ -16,13 +19,18 @@ use Rattle.nv_scan.specs.declared.piece.Row.{Row}
 use Rattle.nv_held.specs.Held.{Held, Store}
 use Rattle.nv_commit.specs.declared.together.Extension.{Extension}
 use Rattle.nv_commit.specs.Extends.{with_log}
-use Rattle.nv_commit.specs.Together.{CanCommit, CanExtendTwo, ShowsIdle, TogetherWords, with_logs}
+use Rattle.nv_commit.specs.Together.{BeforeOrBoth, CanCommit, CanExtendTwo, ShowsIdle, TogetherWords, UndoneShows, with_logs}
+use Rattle.nv_commit.specs.Stopped.{LeavesEither}
 use Rattle.nv_commit.proofs.BytesStay.{together_bytes}
+use Rattle.nv_commit.proofs.Left.{one_held}
+use Rattle.nv_commit.proofs.LeftUndone.{undone_can, undone_files, undone_idle, undone_recovers}
 use Rattle.nv_steps.specs.Grown.{HasGrown, StandsRight}
 use Rattle.nv_steps.specs.MoreNames.{AppendsLogs, GrowsSame, NamesOnce, ReadiesRow}
-use Rattle.nv_steps.specs.NewNames.{CanName}
+use Rattle.nv_steps.specs.NewNames.{CanName, ShowsNamed}
 use Rattle.nv_steps.specs.Steps.{ShowsRow}
+use Rattle.nv_steps.specs.Stopped.{AppendedBoth}
 use Rattle.nv_steps.specs.Taken.{TakesEach}
+use Rattle.nv_steps.proofs.Stopped.{grown_row, grown_row_has}
 use Rattle.nv_steps.proofs.TwoLogs.{as_extension, can_extend_two, cut_each, row_commits, stands_after}
 
 -- one entry takes a page at most
@@ -128,10 +136,10 @@ module _ {R : Region} {s : Super} {free after : FreeLists} {first second row oth
           (let inside = b.inside in omega (arith, inside, past)),
         )
 
-    -- Both logs have grown, and both rows.
-    pub appends_logs : {S : Region} {end last : ℕ} {c d : Row} {bs cs : List ℕ} → bs ≡ fresh → cs ≡ more → end ≡ end_of x.fresh.now 0 x.tail x.entries.now → last ≡ end_of y.fresh.now 0 y.tail y.entries.now → HasGrown row bs end c → HasGrown other cs last d
-        → ((held : Store) (a b : ℕ) (h g : Held) → CanExtendTwo R s held cpu a h x b g y → ShowsIdle S s (with_logs held a h x b g y)) → IsMixed R (TogetherWords cpu x y) S → AppendsLogs R S s free after (first ∷ second ∷ []) (c ∷ d ∷ []) 0 entries 1 others
-    appends_logs {S} {end} {last} {c} {d} {bs} {cs} settled other_settled ends other_ends grown other_grown shows mixed = record {
+    -- Both logs have grown, and both rows, in a region that shows it.
+    appends_by : {S : Region} {end last : ℕ} {c d : Row} {bs cs : List ℕ} → bs ≡ fresh → cs ≡ more → end ≡ end_of x.fresh.now 0 x.tail x.entries.now → last ≡ end_of y.fresh.now 0 y.tail y.entries.now → HasGrown row bs end c → HasGrown other cs last d
+        → ((held : Store) (h g : Held) → ShowsRow R s held h first free → ShowsRow R s held g second free → ShowsNamed R S s held (with_log (with_log held first.inode h entries fresh) second.inode g others more)) → AppendsLogs R S s free after (first ∷ second ∷ []) (c ∷ d ∷ []) 0 entries 1 others
+    appends_by {S} {end} {last} {c} {d} {bs} {cs} settled other_settled ends other_ends grown other_grown shows = record {
       first = first;
       second = second;
       step = record {
@@ -149,9 +157,44 @@ module _ {R : Region} {s : Super} {free after : FreeLists} {first second row oth
         once = once_still first ready.once grown;
         other_once = once_still second other_ready.once other_grown;
         put = refl;
-        shows = λ held h g seen seen_other. record {
-          idle = subst (λ (st : Store). ShowsIdle S s st) (λ t. with_log (with_log held first.inode h (es t) (blocks t)) second.inode g (other_es t) (other_blocks t)) (shows held first.inode second.inode h g (extends_two held h g seen seen_other));
-          bytes = together_bytes (extends_two held h g seen seen_other) S mixed;
-        };
+        shows = shows;
       };
     }
+
+    pub appends_logs : {S : Region} {end last : ℕ} {c d : Row} {bs cs : List ℕ} → bs ≡ fresh → cs ≡ more → end ≡ end_of x.fresh.now 0 x.tail x.entries.now → last ≡ end_of y.fresh.now 0 y.tail y.entries.now → HasGrown row bs end c → HasGrown other cs last d
+        → ((held : Store) (a b : ℕ) (h g : Held) → CanExtendTwo R s held cpu a h x b g y → ShowsIdle S s (with_logs held a h x b g y)) → IsMixed R (TogetherWords cpu x y) S → AppendsLogs R S s free after (first ∷ second ∷ []) (c ∷ d ∷ []) 0 entries 1 others
+    appends_logs {S} settled other_settled ends other_ends grown other_grown shows mixed = appends_by settled other_settled ends other_ends grown other_grown
+        (λ held h g seen seen_other. record {
+          idle = subst (λ (st : Store). ShowsIdle S s st) (λ t. with_log (with_log held first.inode h (es t) (blocks t)) second.inode g (other_es t) (other_blocks t)) (shows held first.inode second.inode h g (extends_two held h g seen seen_other));
+          bytes = together_bytes (extends_two held h g seen seen_other) S mixed;
+        })
+
+    -- What a stop leaves of both.
+    module _ {held : Store} {h k : Held} (here : ShowsRow R s held h first free) (there : ShowsRow R s held k second free) (now : Region) (old new : Choices) (wrote : StoresOnly (TogetherWords cpu x y) R now old new) (settled : NothingPending R old) where
+      mixed : (left : Region) → MayBeLeft now new left → IsMixed R (TogetherWords cpu x y) left
+      mixed left may = let stored = wrote.mixed in mixed_left R now (TogetherWords cpu x y) old new stored.as_long stored.same_rest settled wrote.adds left may
+
+      shows_both : (left : Region) → IsMixed R (TogetherWords cpu x y) left → UndoneShows s (with_logs held first.inode h x second.inode k y) left
+          → (any : Store) (f g : Held) → ShowsRow R s any f first free → ShowsRow R s any g second free → ShowsNamed R (undone s left) s any (with_log (with_log any first.inode f entries fresh) second.inode g others more)
+      shows_both left stored both any f g seen seen_other =
+          let a = here.sound in
+          let b = seen.sound in
+          let same : held ≡ any = one_held a.shows b.shows in
+          let firsts : Some h ≡ Some f = sym here.holds ∙ ap (λ (st : Store). st first.inode) same ∙ seen.holds in
+          let seconds : Some k ≡ Some g = sym there.holds ∙ ap (λ (st : Store). st second.inode) same ∙ seen_other.holds in
+          let one : h ≡ f = cc in
+          let two : k ≡ g = cc in
+          record {
+            idle = subst (λ (st : Store). ShowsIdle (undone s left) s st) (λ t. with_log (with_log (same t) first.inode (one t) (es t) (blocks t)) second.inode (two t) (other_es t) (other_blocks t)) (undone_idle both);
+            bytes = undone_files both R (together_bytes (extends_two any f g seen seen_other) left stored);
+          }
+
+      left_by : (left : Region) → IsMixed R (TogetherWords cpu x y) left → BeforeOrBoth s held first.inode h x second.inode k y left → LeavesEither R (fixed_layout s) held (AppendedBoth R s free first entries second others) left
+      left_by left stored (inl before) = inl (undone_recovers before R (together_bytes (extends_two held h k here there) left stored) (let sound = here.sound in sound.faultless))
+      left_by left stored (inr both) =
+          let end = end_of x.fresh.now 0 x.tail x.entries.now in
+          let last = end_of y.fresh.now 0 y.tail y.entries.now in
+          inr (undone_can both, (after, grown_row row fresh end, grown_row other more last, appends_by refl refl refl refl (grown_row_has row fresh end) (grown_row_has other more last) (shows_both left stored both)))
+
+      pub left_logs : ((a b : ℕ) (f g : Held) → CanExtendTwo R s held cpu a f x b g y → NothingPending R old → LeavesOnly now new (BeforeOrBoth s held a f x b g y)) → LeavesOnly now new (LeavesEither R (fixed_layout s) held (AppendedBoth R s free first entries second others))
+      left_logs stops left may = left_by left (mixed left may) (stops first.inode second.inode h k (extends_two held h k here there) settled left may)

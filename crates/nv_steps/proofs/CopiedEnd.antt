@@ -50,9 +50,10 @@ use Rattle.nv_steps.specs.Grown.{HasGrown}
 use Rattle.nv_steps.specs.Sizes.{CanResize, CopiesEnd, Resizes, SameBytes, end_block, resizing}
 use Rattle.nv_steps.specs.Steps.{LogFollows, ShowsRow}
 use Rattle.nv_steps.specs.Taken.{TakesEach, block_run, single_takes}
-use Rattle.nv_steps.proofs.CutFile.{Settled, file_held, maps_below, mode_held, since}
+use Rattle.nv_steps.proofs.CutFile.{Settled, file_held, lists_any, maps_below, mode_held, since}
 use Rattle.nv_steps.proofs.SizedEntries.{data_names, data_numbers}
-use Rattle.nv_steps.proofs.DataFollows.{data_follows, data_lists}
+use Rattle.nv_steps.proofs.DataFollows.{data_bytes, data_follows, data_lists, data_sound}
+use Rattle.nv_steps.proofs.WriteStops.{some_kept}
 use Rattle.nv_steps.proofs.LogGrows.{slot_there}
 use Rattle.nv_steps.proofs.ResizeEntries.{copy_writes, two_end}
 use Rattle.nv_steps.proofs.TakenBlocks.{all_differ, are_free, is_taken, single_is, taken_apart, was_taken}
@@ -76,16 +77,16 @@ pub copies_end : {E : Type 0} {R M S : Region} (from to size : ℕ) {slot tail :
 copies_end {E} {R} {M} {S} from to size (Ok a) page wrote moved extends = record { mid = M; page = page; wrote = wrote; moved = moved; extends = extends }
 copies_end from to size (Err e) page wrote moved extends = tt
 
-run_of_one : (p q : ℕ) → p ≡ q → in_run q 1 p ≡ true
+pub run_of_one : (p q : ℕ) → p ≡ q → in_run q 1 p ≡ true
 run_of_one p q same = grind (arith, nat_tests)
 
-not_in_run : (p q : ℕ) → (p ≡ q → ⊥) → in_run q 1 p ≡ false
+pub not_in_run : (p q : ℕ) → (p ≡ q → ⊥) → in_run q 1 p ≡ false
 not_in_run p q differs = grind (arith, nat_tests)
 
-module _ {R S : Region} {s : Super} {free mid after : FreeLists} {row grown new : Row} {fresh : List ℕ} (x : AttrEntry) (can : CanResize R s free row x) (from to end : ℕ)
+module _ {R S : Region} {s : Super} {free mid : FreeLists} {row grown new : Row} {fresh : List ℕ} (x : AttrEntry) (can : CanResize R s free row x) (from to end : ℕ)
     (ends : end_block (block_at row.index) row.numbers.size x.size ≡ Some from) (taken : TakesEach free (to ∷ fresh) mid) (enough : length fresh ≡ needed (row.tail % 4096) (resizing row.numbers.size x (Some to)))
     (copies : CopiesEnd R S from to row.numbers.size (slot_address s row.inode) row.tail (resizing row.numbers.size x (Some to)) fresh)
-    (ending : end ≡ end_of fresh 0 row.tail (resizing row.numbers.size x (Some to))) (has_grown : HasGrown row fresh end grown) (joins : Joins mid (block_run from) after)
+    (ending : end ≡ end_of fresh 0 row.tail (resizing row.numbers.size x (Some to))) (has_grown : HasGrown row fresh end grown)
     (settled : Settled grown x new) (index : (p : ℕ) → block_at new.index p ≡ cond (in_run (row.numbers.size / 4096) 1 p) (Some (to + (p - row.numbers.size / 4096))) (block_at grown.index p)) where
   abbrev entries : List Entry
   entries = resizing row.numbers.size x (Some to)
@@ -224,15 +225,15 @@ module _ {R S : Region} {s : Super} {free mid after : FreeLists} {row grown new 
       (λ either. was_taken (to ∷ fresh) b (elim either [ inl c ↦ Contains-tail to fresh b c | inr here ↦ subst (λ (n : ℕ). Contains (to ∷ fresh) n) (sym (single_is to b here)) (Contains-head to fresh) ])),
     )
 
-    lists_now : KeepsFree (fixed_layout s) (with_log held row.inode h entries fresh) after.pools
-    lists_now =
+    lists_now : {after : FreeLists} → Joins mid (block_run from) after → KeepsFree (fixed_layout s) (with_log held row.inode h entries fresh) after.pools
+    lists_now {after} joins =
         let from_same = taken.same in
         let kept_lists = shows.lists in
         data_lists entries x.size count shows stored extends moved copies.extends writes taken.from mid after (single_takes (to ∷ fresh)) (block_run from ∷ [])
         (subst (λ (pools : List (List Run)). KeepsFree (fixed_layout s) held pools) (sym from_same.pools) kept_lists) (from_same.sup ∙ lists) taken.takes (after, joins, refl) (omega arith) took gave
 
-    pub copy_follows : LogFollows R S s held h entries row new after
-    copy_follows = let has = settled.has in data_follows entries x.size count shows stored extends moved copies.extends writes new after (has.inode ∙ has_grown.inode) told_now lists_now
+    pub copy_follows : (after : FreeLists) → KeepsFree (fixed_layout s) (with_log held row.inode h entries fresh) after.pools → LogFollows R S s held h entries row new after
+    copy_follows after lists_then = let has = settled.has in data_follows entries x.size count shows stored extends moved copies.extends writes new after (has.inode ∙ has_grown.inode) told_now lists_then
 
     -- ---- the bytes
 
@@ -269,10 +270,9 @@ module _ {R S : Region} {s : Super} {free mid after : FreeLists} {row grown new 
           ∙ ap (λ (o : Option ℕ). cond (nat_lt y row.numbers.size) (byte_in R o y) 0) (sym was))
       | inr differs ↦ (
           let told = shows.told in
-          let f = copy_follows in
           let off : in_run (row.numbers.size / 4096) 1 (y / 4096) ≡ false = not_in_run (y / 4096) (row.numbers.size / 4096) differs in
           let here : block_at new.index (y / 4096) ≡ block_at row.index (y / 4096) = index (y / 4096) ∙ ap (λ (t : Bool). cond t (Some (to + (y / 4096 - row.numbers.size / 4096))) (block_at grown.index (y / 4096))) off ∙ ap (λ (m : Pages). block_at m (y / 4096)) has_grown.index in
-          let same_bytes : byte_in S (block_at row.index (y / 4096)) y ≡ byte_in R (block_at row.index (y / 4096)) y = ap (λ (o : Option ℕ). byte_in S o y) (told.index (y / 4096)) ∙ f.bytes row.inode h shows.holds y ∙ ap (λ (o : Option ℕ). byte_in R o y) (sym (told.index (y / 4096))) in
+          let same_bytes : byte_in S (block_at row.index (y / 4096)) y ≡ byte_in R (block_at row.index (y / 4096)) y = ap (λ (o : Option ℕ). byte_in S o y) (told.index (y / 4096)) ∙ data_bytes entries x.size count shows stored extends moved copies.extends writes row.inode h shows.holds y ∙ ap (λ (o : Option ℕ). byte_in R o y) (sym (told.index (y / 4096))) in
           ap (λ (o : Option ℕ). byte_in S o y) here ∙ same_bytes ∙ (elim (cases_lt y row.numbers.size) [
             | inl low ↦ (let less = lt-ltb y row.numbers.size low in sym (ap (λ (t : Bool). cond t (byte_in R (block_at row.index (y / 4096)) y) 0) less))
             | inr high ↦ (let past = le-ltb y row.numbers.size high in zeros y high differs (block_at row.index (y / 4096)) refl ∙ sym (ap (λ (t : Bool). cond t (byte_in R (block_at row.index (y / 4096)) y) 0) past))
@@ -289,12 +289,29 @@ module _ {R S : Region} {s : Super} {free mid after : FreeLists} {row grown new 
       zeros y past differs (Some b) at = absurd (let begins = maps_below x can shows (y / 4096) b at in omega (arith, begins, past, differs))
 
   -- What the call makes of the file.
-  pub copy_resizes : Resizes R S s free row x new after
-  copy_resizes = record {
+  pub copy_resizes : {after : FreeLists} → Joins mid (block_run from) after → Resizes R S s free row x new after
+  copy_resizes {after} joins = record {
     to = Some to;
     copied = ap is_some (sym ends);
     numbers = since has_grown settled.has;
     fresh = λ held h shows b at. subst (IsUnowned (fixed_layout s) held) (same_Some to b at) (to_free shows);
-    follows = λ held h shows. copy_follows shows;
+    follows = λ held h shows. copy_follows shows after (lists_now shows joins);
     bytes = λ held h shows. copy_bytes shows;
   }
+
+  -- There are free lists for it, whatever was given back.
+  pub copy_some : {held : Store} {h : Held} → ShowsRow R s held h row free → (after : FreeLists) × Resizes R S s free row x new after × (after.sup ≡ free.sup)
+  copy_some {held} {h} shows =
+      let w = some_kept (data_sound entries x.size (count shows) shows (stored shows) (extends shows) (moved shows) copies.extends (writes shows)) in
+      let keeps = w.2 in (
+        record free { pools = w.1 },
+        record {
+          to = Some to;
+          copied = ap is_some (sym ends);
+          numbers = since has_grown settled.has;
+          fresh = λ st g seen b at. subst (IsUnowned (fixed_layout s) st) (same_Some to b at) (to_free seen);
+          follows = λ st g seen. copy_follows seen (record free { pools = w.1 }) (lists_any shows seen entries fresh w.1 keeps.in_lists);
+          bytes = λ st g seen. copy_bytes seen;
+        },
+        refl,
+      )

@@ -1,5 +1,5 @@
 -- A file whose size is set with no page copied: its log, its row, its free blocks and its bytes.
-use Rattle.std.proofs.Common.{◌≡◌, ◌↔◌, ℕ, ◌+◌, ◌*◌, ◌/◌, ◌%◌, ◌<◌, ◌≤◌, ◌⊎◌, inl, inr, Bool, false, cond, nat_le, nat_eq, not, ◌&&◌, min, is_some, List, [], ◌∷◌, ◌++◌, length, take, refl, ap, sym, ◌∙◌, subst, arith, Option, Some, None}
+use Rattle.std.proofs.Common.{◌≡◌, ◌↔◌, ℕ, ◌+◌, ◌*◌, ◌/◌, ◌%◌, ◌<◌, ◌≤◌, ◌⊎◌, inl, inr, Bool, true, false, cond, ◌==◌, nat_le, nat_eq, not, ◌&&◌, min, is_some, List, [], ◌∷◌, ◌++◌, length, take, refl, ap, sym, ◌∙◌, subst, arith, Option, Some, None}
 use Rattle.std.specs.Int.{div_ceil}
 use Rattle.std.specs.List.{Contains}
 use Rattle.std.proofs.lemmas.Bool.{cases_lt, le-leb, le-ltb, lt-leb, lt-ltb}
@@ -34,6 +34,8 @@ use Rattle.nv_held.specs.Loose.{Loose}
 use Rattle.nv_held.specs.Mounted.{KeepsRow}
 use Rattle.nv_held.specs.Writes.{IsReplaced, WritesData}
 use Rattle.nv_held.proofs.DataGrows.{cut, kept}
+use Rattle.nv_commit.specs.Stopped.{LeavesEither}
+use Rattle.nv_commit.proofs.Left.{one_held}
 use Rattle.nv_commit.specs.Extends.{CanExtend, ShowsMoved, extended, with_log}
 use Rattle.nv_steps.specs.Given.{GivesPages, MapsOwn}
 use Rattle.nv_steps.specs.Grown.{HasGrown, StandsRight}
@@ -42,7 +44,9 @@ use Rattle.nv_steps.specs.Steps.{AppendsLog, LogFollows, ShowsRow}
 use Rattle.nv_steps.specs.Taken.{SamePools, single_takes}
 use Rattle.nv_steps.proofs.AttrEntries.{attr_writes, one_ends}
 use Rattle.nv_steps.proofs.SizedEntries.{data_names, data_numbers}
-use Rattle.nv_steps.proofs.DataFollows.{data_follows, data_lists}
+use Rattle.nv_steps.specs.Stopped.{Appended, Resized}
+use Rattle.nv_steps.proofs.WriteStops.{some_kept}
+use Rattle.nv_steps.proofs.DataFollows.{data_bytes, data_follows, data_lists, data_sound}
 use Rattle.nv_steps.proofs.GivenPages.{own_taken}
 use Rattle.nv_steps.proofs.LogGrows.{can_extend, count_held, pages_now}
 use Rattle.nv_steps.proofs.ResizeEntries.{file_attr, small_mode}
@@ -120,11 +124,21 @@ module _ {R : Region} {s : Super} {held : Store} {h : Held} {row : Row} {free : 
   pub shows_with : {reserved : FreeLists} → SamePools free reserved → ShowsRow R s held h row reserved
   shows_with {reserved} same = record { sound = shows.sound; holds = shows.holds; told = shows.told; lists = subst (λ (pools : List (List Run)). KeepsFree (fixed_layout s) held pools) (sym same.pools) shows.lists }
 
+-- The free lists are of whatever is held of the region.
+pub lists_any : {R : Region} {s : Super} {row : Row} {free : FreeLists} {held st : Store} {h g : Held} → ShowsRow R s held h row free → ShowsRow R s st g row free → (entries : List Entry) (fresh : List ℕ) (pools : List (List Run))
+    → KeepsFree (fixed_layout s) (with_log held row.inode h entries fresh) pools → KeepsFree (fixed_layout s) (with_log st row.inode g entries fresh) pools
+lists_any {s = s} {row = row} {held = held} {st = st} {h = h} {g = g} shows seen entries fresh pools lists =
+    let a = shows.sound in
+    let b = seen.sound in
+    let same : held ≡ st = one_held a.shows b.shows in
+    let both : Some h ≡ Some g = sym shows.holds ∙ ap (λ (z : Store). z row.inode) same ∙ seen.holds in
+    let one : h ≡ g = cc in
+    subst (λ (z : Store). KeepsFree (fixed_layout s) z pools) (λ t. with_log (same t) row.inode (one t) entries fresh) lists
+
 -- ---- the file
 
-module _ {R S : Region} {s : Super} {free reserved mid after : FreeLists} {row grown new : Row} (x : AttrEntry) (can : CanResize R s free row x) (stays : end_block (block_at row.index) row.numbers.size x.size ≡ None)
+module _ {R S : Region} {s : Super} {free reserved mid : FreeLists} {row grown new : Row} (x : AttrEntry) (can : CanResize R s free row x) (stays : end_block (block_at row.index) row.numbers.size x.size ≡ None)
     (same : SamePools free reserved) (a : AppendsLog R S s reserved mid row grown (Attr x ∷ []))
-    (given : GivesPages mid grown.index (div_ceil x.size 4096) (div_ceil row.numbers.size 4096) after)
     (settled : Settled grown x new) (index : (p : ℕ) → block_at new.index p ≡ cond (nat_le (div_ceil x.size 4096) p) None (block_at grown.index p)) where
   module _ {held : Store} {h : Held} (shows : ShowsRow R s held h row free) where
     with_room : ShowsRow R s held h row reserved
@@ -186,8 +200,8 @@ module _ {R S : Region} {s : Super} {free reserved mid after : FreeLists} {row g
         }
 
     -- the blocks that are given back are those of the pages that are cut
-    gave : (b : ℕ) → HasBlock given.runs b ↔ IsReplaced (fixed_layout s) h (placed at (Attr x) ∷ []) x.size b
-    gave b = (
+    gave : {after : FreeLists} (given : GivesPages mid grown.index (div_ceil x.size 4096) (div_ceil row.numbers.size 4096) after) (b : ℕ) → HasBlock given.runs b ↔ IsReplaced (fixed_layout s) h (placed at (Attr x) ∷ []) x.size b
+    gave given b = (
       (λ has. (let w = (given.blocks b).0 has in (w.0, sym (same_index w.0) ∙ w.3, inr (past_end x.size w.0 w.1)))),
       (λ w. (given.blocks b).1 (w.0, from_end x.size w.0 (past w), before_end row.numbers.size w.0 (maps_below x can shows w.0 b (let told = shows.told in told.index w.0 ∙ w.1)), same_index w.0 ∙ w.1)),
     ) where
@@ -197,17 +211,17 @@ module _ {R S : Region} {s : Super} {free reserved mid after : FreeLists} {row g
     took : (b : ℕ) → WasTaken (single_takes a.fresh) b ↔ (Contains a.fresh b ⊎ HasBlock [] b)
     took b = ((λ w. inl (is_taken a.fresh b w)), (λ either. elim either [ inl c ↦ was_taken a.fresh b c | inr none ↦ absurd (none_in none.0 none.1) ]))
 
-    lists_now : KeepsFree (fixed_layout s) (with_log held row.inode h (Attr x ∷ []) a.fresh) after.pools
-    lists_now =
+    lists_now : {after : FreeLists} (given : GivesPages mid grown.index (div_ceil x.size 4096) (div_ceil row.numbers.size 4096) after) → KeepsFree (fixed_layout s) (with_log held row.inode h (Attr x ∷ []) a.fresh) after.pools
+    lists_now {after} given =
         let taken = a.taken in
         let from_same = taken.same in
         let kept_lists = with_room.lists in
         data_lists (Attr x ∷ []) x.size count shows (mixed_same R (Loose (fixed_layout s) held)) extends moved a.mixed writes taken.from mid after (single_takes a.fresh) given.runs
-        (subst (λ (pools : List (List Run)). KeepsFree (fixed_layout s) held pools) (sym from_same.pools) kept_lists) (from_same.sup ∙ lists) taken.takes given.joined (omega arith) took gave
+        (subst (λ (pools : List (List Run)). KeepsFree (fixed_layout s) held pools) (sym from_same.pools) kept_lists) (from_same.sup ∙ lists) taken.takes given.joined (omega arith) took (gave given)
 
-    pub cut_follows : LogFollows R S s held h (Attr x ∷ []) row new after
-    cut_follows = (let has = settled.has in let row_grown = a.row in
-        data_follows (Attr x ∷ []) x.size count shows (mixed_same R (Loose (fixed_layout s) held)) extends moved a.mixed writes new after (has.inode ∙ row_grown.inode) told_now lists_now)
+    pub cut_follows : (after : FreeLists) → KeepsFree (fixed_layout s) (with_log held row.inode h (Attr x ∷ []) a.fresh) after.pools → LogFollows R S s held h (Attr x ∷ []) row new after
+    cut_follows after lists_then = (let has = settled.has in let row_grown = a.row in
+        data_follows (Attr x ∷ []) x.size count shows (mixed_same R (Loose (fixed_layout s) held)) extends moved a.mixed writes new after (has.inode ∙ row_grown.inode) told_now lists_then)
 
     -- a byte at the old end or behind it is zero
     zeros : (y : ℕ) → y < x.size → row.numbers.size ≤ y → (o : Option ℕ) → block_at row.index (y / 4096) ≡ o → byte_in R o y ≡ 0
@@ -226,26 +240,42 @@ module _ {R S : Region} {s : Super} {free reserved mid after : FreeLists} {row g
     pub cut_bytes : SameBytes R S row new x.size
     cut_bytes y below =
         let told = shows.told in
-        let f = cut_follows in
         let row_grown = a.row in
         let off = lt-leb (div_ceil x.size 4096) (y / 4096) (before_end x.size (y / 4096) (omega (arith, below))) in
         let here : block_at new.index (y / 4096) ≡ block_at row.index (y / 4096) = index (y / 4096) ∙ ap (λ (t : Bool). cond t None (block_at grown.index (y / 4096))) off ∙ ap (λ (m : Pages). block_at m (y / 4096)) row_grown.index in
-        let stored : byte_in S (block_at row.index (y / 4096)) y ≡ byte_in R (block_at row.index (y / 4096)) y = ap (λ (o : Option ℕ). byte_in S o y) (told.index (y / 4096)) ∙ f.bytes row.inode h shows.holds y ∙ ap (λ (o : Option ℕ). byte_in R o y) (sym (told.index (y / 4096))) in
+        let stored : byte_in S (block_at row.index (y / 4096)) y ≡ byte_in R (block_at row.index (y / 4096)) y = ap (λ (o : Option ℕ). byte_in S o y) (told.index (y / 4096)) ∙ data_bytes (Attr x ∷ []) x.size count shows (mixed_same R (Loose (fixed_layout s) held)) extends moved a.mixed writes row.inode h shows.holds y ∙ ap (λ (o : Option ℕ). byte_in R o y) (sym (told.index (y / 4096))) in
         ap (λ (o : Option ℕ). byte_in S o y) here ∙ stored ∙ (elim (cases_lt y row.numbers.size) [
           | inl low ↦ (let on = lt-ltb y row.numbers.size low in sym (ap (λ (t : Bool). cond t (byte_in R (block_at row.index (y / 4096)) y) 0) on))
           | inr high ↦ (let none = le-ltb y row.numbers.size high in zeros y below high (block_at row.index (y / 4096)) refl ∙ sym (ap (λ (t : Bool). cond t (byte_in R (block_at row.index (y / 4096)) y) 0) none))
         ])
 
   -- What the call makes of the file.
-  pub cut_resizes : Resizes R S s free row x new after
-  cut_resizes = record {
+  pub cut_resizes : {after : FreeLists} → GivesPages mid grown.index (div_ceil x.size 4096) (div_ceil row.numbers.size 4096) after → Resizes R S s free row x new after
+  cut_resizes {after} given = record {
     to = None;
     copied = ap is_some (sym stays);
     numbers = (let row_grown = a.row in since row_grown settled.has);
     fresh = λ held h shows b at. absurd (none-some b at);
-    follows = λ held h shows. cut_follows shows;
+    follows = λ held h shows. cut_follows shows after (lists_now shows given);
     bytes = λ held h shows. cut_bytes shows;
   }
+
+  -- There are free lists for it, whatever was given back.
+  pub cut_some : {held : Store} {h : Held} → ShowsRow R s held h row free → (after : FreeLists) × Resizes R S s free row x new after × (after.sup ≡ free.sup)
+  cut_some {held} {h} shows =
+      let w = some_kept (data_sound (Attr x ∷ []) x.size (count shows) shows (mixed_same R (Loose (fixed_layout s) held)) (extends shows) (moved shows) a.mixed (writes shows)) in
+      let keeps = w.2 in (
+        record free { pools = w.1 },
+        record {
+          to = None;
+          copied = ap is_some (sym stays);
+          numbers = (let row_grown = a.row in since row_grown settled.has);
+          fresh = λ st g seen b at. absurd (none-some b at);
+          follows = λ st g seen. cut_follows seen (record free { pools = w.1 }) (lists_any shows seen (Attr x ∷ []) a.fresh w.1 keeps.in_lists);
+          bytes = λ st g seen. cut_bytes seen;
+        },
+        refl,
+      )
 
 -- ---- what is owed
 
@@ -281,3 +311,39 @@ gives_as {old} {new} {m} {first} {end} {from} {to} same_first same_end given = s
 -- what is left of the pages, by where they were cut
 pub cut_as : (old new : Pages) {first from : ℕ} → first ≡ from → ((p : ℕ) → block_at new p ≡ cond (nat_le first p) None (block_at old p)) → (p : ℕ) → block_at new p ≡ cond (nat_le from p) None (block_at old p)
 cut_as old new {first} {from} same cut_there = subst (λ (n : ℕ). (p : ℕ) → block_at new p ≡ cond (nat_le n p) None (block_at old p)) same cut_there
+
+-- ---- a stop
+
+-- the pages in front of one
+abbrev pub cut_pages : ℕ → Pages → Pages
+cut_pages first [] = []
+cut_pages first (y ∷ m) = (y.0, cond (nat_le first y.0) None y.1) ∷ cut_pages first m
+
+pub cut_at : (first : ℕ) (m : Pages) (p : ℕ) → block_at (cut_pages first m) p ≡ cond (nat_le first p) None (block_at m p)
+cut_at first [] p = by (nat_le first p) where
+  by : (b : Bool) → block_at [] p ≡ cond b None (block_at [] p)
+  by true = refl
+  by false = refl
+cut_at first (y ∷ m) p = step (y.0 == p) refl (cut_at first m p) where
+  step : (b : Bool) → (y.0 == p) ≡ b → block_at (cut_pages first m) p ≡ cond (nat_le first p) None (block_at m p) → cond b (cond (nat_le first y.0) None y.1) (block_at (cut_pages first m) p) ≡ cond (nat_le first p) None (cond b y.1 (block_at m p))
+  step true here rest = let one : y.0 ≡ p = grind (arith, nat_tests) in ap (λ (n : ℕ). cond (nat_le first n) None y.1) one
+  step false other rest = rest
+
+-- the row of a file of a new size, by the row with its log grown
+abbrev pub sized_row : Row → AttrEntry → Pages → Row
+sized_row grown x index = record grown { numbers = record { size = x.size; mode = x.mode; owner = x.owner; group = x.group; links = grown.numbers.links; time = x.time }; index = index }
+
+pub sized_settled : (grown : Row) (x : AttrEntry) (index : Pages) → Settled grown x (sized_row grown x index)
+sized_settled grown x index = record { has = record { inode = refl; kind = refl; size = refl; mode = refl; owner = refl; group = refl; links = refl; time = refl; names = refl }; head = refl; tail = refl; pages = refl }
+
+-- What a stop leaves of a size, by what it leaves of the log.
+pub left_sized : {R : Region} {s : Super} {free reserved : FreeLists} {row : Row} (x : AttrEntry) (can : CanResize R s free row x) (stays : end_block (block_at row.index) row.numbers.size x.size ≡ None) (same : SamePools free reserved) {held : Store} {h : Held} (shows : ShowsRow R s held h row free)
+    → (left : Region) → LeavesEither R (fixed_layout s) held (Appended R s reserved row (Attr x ∷ [])) left → LeavesEither R (fixed_layout s) held (Resized R s free row x) left
+left_sized x can stays same shows left (inl was) = inl was
+left_sized {R} {s} {free} {reserved} {row} x can stays same shows left (inr w) =
+    let made = w.1 in
+    let grown = made.1 in
+    let first = div_ceil x.size 4096 in
+    let new = sized_row grown x (cut_pages first grown.index) in
+    let v = cut_some {new = new} x can stays same made.2 (sized_settled grown x (cut_pages first grown.index)) (cut_at first grown.index) shows in
+    inr (w.0, (v.0, new, v.1, v.2))

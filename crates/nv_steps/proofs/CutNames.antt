@@ -1,13 +1,15 @@
 -- The removal of a name and its inode, once they are committed and the directory's row is settled.
-use Rattle.std.proofs.Common.{◌≡◌, ◌≢◌, ℕ, ◌+◌, ◌*◌, ◌/◌, ◌%◌, ◌≤◌, cond, nat_eq, List, ◌∷◌, ◌++◌, length, refl, ap, sym, ◌∙◌, subst, arith, Some, None}
+use Rattle.std.proofs.Common.{◌≡◌, ◌≢◌, ℕ, ◌+◌, ◌*◌, ◌/◌, ◌%◌, ◌≤◌, cond, nat_eq, inl, inr, Option, List, ◌∷◌, ◌++◌, length, refl, ap, sym, ◌∙◌, subst, arith, Some, None}
 use Rattle.std.specs.Cmp.Lexicographic.{pointwise}
 use Rattle.nv_region.specs.Region.{Region, size}
-use Rattle.nv_region.specs.Stops.{IsMixed}
+use Rattle.nv_region.specs.Stops.{Choices, IsMixed, LeavesOnly, MayBeLeft, NothingPending}
+use Rattle.nv_region.specs.Stored.{StoresOnly}
+use Rattle.nv_region.proofs.Stops.{mixed_left}
 use Rattle.nv_super.specs.declared.superblock.Super.{Super}
 use Rattle.nv_super.specs.Layout.{fixed_layout, slot_address, slot_of}
 use Rattle.nv_super.proofs.Slots.{slots_apart}
 use Rattle.nv_scan.proofs.Pieces.{slot_is}
-use Rattle.nv_journal.specs.Undo.{journal}
+use Rattle.nv_journal.specs.Undo.{journal, undone}
 use Rattle.nv_alloc.specs.FreeValue.{FreeLists}
 use Rattle.nv_entry.specs.declared.entry.Entry.{Entry}
 use Rattle.nv_entry.specs.declared.entry.Operation.TheVariants.{Remove}
@@ -17,17 +19,24 @@ use Rattle.nv_scan.specs.declared.numbers.Numbers.{Numbers}
 use Rattle.nv_scan.specs.declared.piece.Row.{Row}
 use Rattle.nv_held.specs.nv_outcome.Same.{SameRow}
 use Rattle.nv_held.specs.Held.{Held, Store, with_inode}
+use Rattle.nv_held.specs.Bytes.{byte_of}
+use Rattle.nv_held.proofs.nv_outcome.SuperOf.{layout_of_super}
 use Rattle.nv_commit.specs.declared.together.Extension.{Extension}
 use Rattle.nv_commit.specs.Extends.{with_log}
-use Rattle.nv_commit.specs.Together.{CanCommit, ShowsIdle}
-use Rattle.nv_commit.specs.Removes.{CanRemove, RemoveWords, with_removed}
+use Rattle.nv_commit.specs.Together.{CanCommit, ShowsIdle, UndoneShows}
+use Rattle.nv_commit.specs.Stopped.{LeavesEither}
+use Rattle.nv_commit.specs.Removes.{BeforeOrRemoved, CanRemove, RemoveWords, with_removed}
 use Rattle.nv_commit.proofs.BytesStay.{removed_bytes}
+use Rattle.nv_commit.proofs.Left.{one_held}
+use Rattle.nv_commit.proofs.LeftUndone.{undone_bytes, undone_can, undone_idle, undone_recovers}
 use Rattle.nv_steps.specs.Grown.{StandsRight}
 use Rattle.nv_steps.specs.LessNames.{CutsName, HasLost}
 use Rattle.nv_steps.specs.NameEntries.{name_entries, with_gone}
 use Rattle.nv_steps.specs.NewNames.{CanName}
 use Rattle.nv_steps.specs.Steps.{ShowsRow}
+use Rattle.nv_steps.specs.Stopped.{Cut}
 use Rattle.nv_steps.specs.Taken.{TakesEach}
+use Rattle.nv_steps.proofs.LessName.{found_without, once_without, without}
 use Rattle.nv_steps.proofs.LogGrows.{can_extend, stores_within_region}
 use Rattle.nv_steps.proofs.TwoLogs.{as_extension, row_commits}
 
@@ -42,6 +51,22 @@ lost_after {old} {mid} {new} {fresh} {others} {end} {last} name time same lost b
   pages = lost.pages ∙ (λ t. same.pages t ++ blocks t);
   index = λ p. lost.index p ∙ same.index p;
   names = λ q. lost.names q ∙ (λ t. cond (pointwise nat_eq q name) None (same.names q t));
+}
+
+-- the directory's row without the name, as it was before it was made ready
+abbrev lost_row : Row → Row → List ℕ → ℕ → List ℕ → ℕ → Row
+lost_row old mid fresh end name time = record mid { numbers = record mid.numbers { time = time }; tail = end; pages = record mid.pages { items = mid.pages.items ++ fresh }; names = record old.names { names = without name old.names.names } }
+
+lost_row_has : (old mid : Row) (fresh : List ℕ) (end : ℕ) (name : List ℕ) (time : ℕ) → SameRow old mid → HasLost mid fresh end name time (lost_row old mid fresh end name time)
+lost_row_has old mid fresh end name time same = record {
+  inode = refl;
+  kind = refl;
+  numbers = refl;
+  head = refl;
+  tail = refl;
+  pages = refl;
+  index = λ p. refl;
+  names = λ q. found_without old.names.names name q ∙ ap (λ (o : Option (ℕ × ℕ)). cond (pointwise nat_eq q name) None o) (sym (same.names q));
 }
 
 module _ {R : Region} {s : Super} {free after : FreeLists} {old mid : Row} {cpu j : ℕ} {fresh : List ℕ} (stands : StandsRight R s free old) (can : CanName R s cpu j old) (taken : TakesEach free fresh after) (name : List ℕ) (time : ℕ)
@@ -95,9 +120,10 @@ module _ {R : Region} {s : Super} {free after : FreeLists} {old mid : Row} {cpu 
     store_as : (held : Store) (d : ℕ) (h : Held) → with_removed held d h x j ≡ with_gone held d h entries fresh j
     store_as held d h = λ t. with_inode (with_log held d h (more t) (blocks t)) j None
 
-    pub cuts_name : {S : Region} {new : Row} (gone end : ℕ) (bs : List ℕ) → gone ≡ slot_address s j → old.inode ≢ j → bs ≡ fresh → end ≡ end_of x.fresh.now 0 x.tail x.entries.now → HasLost mid bs end name time new → EachOnce old.names → EachOnce new.names
-        → ((held : Store) (h : Held) → CanRemove R s held cpu mid.inode h x j gone → ShowsIdle S s (with_removed held mid.inode h x j)) → IsMixed R (RemoveWords cpu x gone) S → CutsName R S s free after old new j time name
-    cuts_name {S} {new} gone end bs there differ others ends lost once once_now shows mixed = record {
+    cuts_name_by : {S : Region} {new : Row} (gone end : ℕ) (bs : List ℕ) → gone ≡ slot_address s j → old.inode ≢ j → bs ≡ fresh → end ≡ end_of x.fresh.now 0 x.tail x.entries.now → HasLost mid bs end name time new → EachOnce old.names → EachOnce new.names
+        → ((held : Store) (h : Held) → CanRemove R s held cpu mid.inode h x j gone → ShowsIdle S s (with_removed held mid.inode h x j))
+        → ((held : Store) (h : Held) → CanRemove R s held cpu mid.inode h x j gone → (i : ℕ) (g : Held) → held i ≡ Some g → (y : ℕ) → byte_of S (fixed_layout s) g y ≡ byte_of R (fixed_layout s) g y) → CutsName R S s free after old new j time name
+    cuts_name_by {S} {new} gone end bs there differ others ends lost once once_now shows bytes = record {
       fresh = fresh;
       taken = taken;
       count = count;
@@ -106,9 +132,50 @@ module _ {R : Region} {s : Super} {free after : FreeLists} {old mid : Row} {cpu 
       once_now = once_now;
       shows = λ held h seen. record {
         idle = subst (λ (st : Store). ShowsIdle S s st) (store_as held old.inode h) (subst (λ (d : ℕ). ShowsIdle S s (with_removed held d h x j)) same.inode (shows held h (can_remove gone there differ held h seen)));
-        bytes = removed_bytes (can_remove gone there differ held h seen) S mixed;
+        bytes = bytes held h (can_remove gone there differ held h seen);
       };
     }
+
+    pub cuts_name : {S : Region} {new : Row} (gone end : ℕ) (bs : List ℕ) → gone ≡ slot_address s j → old.inode ≢ j → bs ≡ fresh → end ≡ end_of x.fresh.now 0 x.tail x.entries.now → HasLost mid bs end name time new → EachOnce old.names → EachOnce new.names
+        → ((held : Store) (h : Held) → CanRemove R s held cpu mid.inode h x j gone → ShowsIdle S s (with_removed held mid.inode h x j)) → IsMixed R (RemoveWords cpu x gone) S → CutsName R S s free after old new j time name
+    cuts_name {S} gone end bs there differ others ends lost once once_now shows mixed = cuts_name_by gone end bs there differ others ends lost once once_now shows (λ held h can. removed_bytes can S mixed)
+
+    -- What a stop leaves: the row that the directory would have is as it was but for the name, the time and the log.
+    module _ (gone : ℕ) (there : gone ≡ slot_address s j) (differ : old.inode ≢ j) {held : Store} {h : Held} (shows : ShowsRow R s held h old free) (once : EachOnce old.names) (now : Region) (first_may last_may : Choices) (wrote : StoresOnly (RemoveWords cpu x gone) R now first_may last_may) (settled : NothingPending R first_may) where
+      removes : CanRemove R s held cpu mid.inode h x j gone
+      removes = can_remove gone there differ held h shows
+
+      mixed : (left : Region) → MayBeLeft now last_may left → IsMixed R (RemoveWords cpu x gone) left
+      mixed left may = let stored = wrote.mixed in mixed_left R now (RemoveWords cpu x gone) first_may last_may stored.as_long stored.same_rest settled wrote.adds left may
+
+      any_idle : (left : Region) → UndoneShows s (with_removed held mid.inode h x j) left → (other : Store) (g : Held) → CanRemove R s other cpu mid.inode g x j gone → ShowsIdle (undone s left) s (with_removed other mid.inode g x j)
+      any_idle left w other g here =
+          let parent = here.parent in
+          let one = shows.sound in
+          let two = parent.sound in
+          let equal : held ≡ other = one_held one.shows two.shows in
+          let both : Some h ≡ Some g = sym shows.holds ∙ ap held (sym same.inode) ∙ ap (λ (st : Store). st mid.inode) equal ∙ parent.holds in
+          let is : h ≡ g = cc in
+          subst (λ (k : Held). ShowsIdle (undone s left) s (with_removed other mid.inode k x j)) is (subst (λ (st : Store). ShowsIdle (undone s left) s (with_removed st mid.inode h x j)) equal (undone_idle w))
+
+      any_bytes : (left : Region) → IsMixed R (RemoveWords cpu x gone) left → (other : Store) (g : Held) → CanRemove R s other cpu mid.inode g x j gone → (i : ℕ) (f : Held) → other i ≡ Some f → (y : ℕ) → byte_of (undone s left) (fixed_layout s) f y ≡ byte_of R (fixed_layout s) f y
+      any_bytes left stored other g here i f is y = let parent = here.parent in let sound = parent.sound in undone_bytes s left f (layout_of_super R s sound.sup) y ∙ removed_bytes here left stored i f is y
+
+      cut_by : (left : Region) → IsMixed R (RemoveWords cpu x gone) left → BeforeOrRemoved s held mid.inode h x j left → LeavesEither R (fixed_layout s) held (Cut R s free old j time name) left
+      cut_by left stored (inl w) = inl (undone_recovers w R (removed_bytes removes left stored) (let sound = shows.sound in sound.faultless))
+      cut_by left stored (inr w) =
+          let end = end_of x.fresh.now 0 x.tail x.entries.now in
+          inr (
+            undone_can w,
+            (
+              after,
+              lost_row old mid fresh end name time,
+              cuts_name_by {S = undone s left} gone end fresh there differ refl refl (lost_row_has old mid fresh end name time same) once (once_without old.names.names name once) (any_idle left w) (any_bytes left stored),
+            ),
+          )
+
+      pub left_cut : (CanRemove R s held cpu mid.inode h x j gone → NothingPending R first_may → LeavesOnly now last_may (BeforeOrRemoved s held mid.inode h x j)) → LeavesOnly now last_may (LeavesEither R (fixed_layout s) held (Cut R s free old j time name))
+      left_cut stops left may = cut_by left (mixed left may) (stops removes settled left may)
 
   -- Memory that is open past the region is open past all that is stored.
   pub cuts_within : (a b t : ℕ) (bs : List ℕ) → a ≡ slot_address s j → b ≡ slot_address s mid.inode → t ≡ mid.tail → bs ≡ fresh → (limit : ℕ) → size R ≤ limit

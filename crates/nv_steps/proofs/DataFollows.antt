@@ -74,6 +74,12 @@ module _ {R M S : Region} {s : Super} {held : Store} {h : Held} {row : Row} {fre
       extended_bytes can mixed i g is x
       ∙ loose_data (fixed_layout s) held R M i g (slots_clear R s held (layout_of_super R s was.sup) was.shows) right.undoubled was.shows stored is x
 
+  pub data_sound : ShowsSound S s (with_log held row.inode h entries fresh)
+  data_sound = sound
+
+  pub data_bytes : (i : ℕ) (g : Held) → held i ≡ Some g → (x : ℕ) → byte_of S (fixed_layout s) g x ≡ byte_of R (fixed_layout s) g x
+  data_bytes = bytes
+
   -- The log has grown, and its row and the free lists are what is said of them.
   pub data_follows : (new : Row) (after : FreeLists) → new.inode ≡ row.inode → KeepsRow (fixed_layout s) (extended h entries fresh) new
       → KeepsFree (fixed_layout s) (with_log held row.inode h entries fresh) after.pools → LogFollows R S s held h entries row new after

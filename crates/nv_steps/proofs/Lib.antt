@@ -1,3 +1,4 @@
+pub mod CleanedLog
 pub mod RowOf
 pub mod Refusals
 pub mod Singles
@@ -6,6 +7,7 @@ pub mod LogGrows
 pub mod AttrEntries
 pub mod RowsAt
 pub mod Attributed
+pub mod Stopped
 pub mod RunEntries
 pub mod DataEntries
 pub mod Takes
@@ -23,6 +25,7 @@ pub mod PlanMade
 pub mod WrittenBytes
 pub mod WriteSteps
 pub mod WritesFile
+pub mod WriteStops
 pub mod SizedEntries
 pub mod DataFollows
 pub mod GivenPages
@@ -30,6 +33,7 @@ pub mod ResizeEntries
 pub mod CutFile
 pub mod CopiedEnd
 pub mod CopyOwed
+pub mod CopyStops
 pub mod Inserted
 pub mod NamesCounted
 pub mod NewLogs
@@ -42,6 +46,7 @@ pub mod AppendedLogs
 pub mod LinksEntries
 pub mod LinkedAt
 pub mod GivenBlocks
+pub mod LessName
 pub mod CutNames
 pub mod NumbersOwed
 pub mod UnlinkedAt

@@ -1,5 +1,6 @@
 -- A link count and a name, once both logs have grown and the rows are settled.
-use Rattle.std.proofs.Common.{◌≡◌, ◌≢◌, ℕ, ◌+◌, ◌-◌, cond, nat_eq, List, set, slice_get, ap, sym, ◌∙◌, subst, Some}
+use Rattle.std.proofs.Common.{◌≡◌, ◌≢◌, ℕ, ◌+◌, ◌-◌, cond, nat_eq, inl, inr, List, [], ◌∷◌, set, slice_get, refl, ap, sym, ◌∙◌, subst, arith, Some, None}
+use Rattle.nv_super.specs.Layout.{fixed_layout}
 use Rattle.std.specs.Cmp.Lexicographic.{pointwise}
 use Rattle.std.proofs.lemmas.Option.{same_Some}
 use Rattle.nv_region.specs.Region.{Region}
@@ -14,10 +15,13 @@ use Rattle.nv_names.specs.Names.{EachOnce, name_at}
 use Rattle.nv_radix.specs.Pages.{block_at}
 use Rattle.nv_scan.specs.declared.numbers.Numbers.{Numbers}
 use Rattle.nv_scan.specs.declared.piece.Row.{Row}
+use Rattle.nv_held.specs.Held.{Store}
+use Rattle.nv_commit.specs.Stopped.{LeavesEither}
 use Rattle.nv_steps.specs.NameEntries.{links_entries, name_entries}
 use Rattle.nv_steps.specs.MoreNames.{AddsName, AppendsLogs, CountsLinks, GrowsSame, GrowsTwo, HasCounted, LinksAt}
 use Rattle.nv_steps.specs.NewNames.{HasNamed}
-use Rattle.nv_steps.proofs.MadeNamed.{place_is}
+use Rattle.nv_steps.specs.Stopped.{AppendedBoth, Linked}
+use Rattle.nv_steps.proofs.MadeNamed.{named_once, place_is}
 use Rattle.nv_steps.proofs.SetRows.{both_twice, first_set, second_set}
 use Rattle.nv_steps.proofs.RowsAt.{other_set}
 
@@ -103,3 +107,43 @@ module _ {R S : Region} {s : Super} {free after : FreeLists} {rows mid : List Ro
           shows = step.shows;
         };
       }
+
+-- ---- a stop
+
+-- a row with so many links
+abbrev pub counted_row : Row → ℕ → ℕ → Row
+counted_row row links time = record row { numbers = record row.numbers { links = links; time = time } }
+
+-- and one with a name more
+abbrev pub added_row : Row → List ℕ → ℕ → ℕ → ℕ → Row
+added_row row name j place time = record row { numbers = record row.numbers { time = time }; names = record row.names { names = (name, j, place) ∷ row.names.names } }
+
+-- What a stop leaves of a link and a name, by what it leaves of both logs.
+pub left_linked : {R : Region} {s : Super} {free : FreeLists} {held : Store} (file directory : Row) (name : List ℕ) (time : ℕ) → name_at directory.names name ≡ None
+    → (left : Region) → LeavesEither R (fixed_layout s) held (AppendedBoth R s free file (links_entries (file.numbers.links + 1) time) directory (name_entries Add file.inode name time)) left → LeavesEither R (fixed_layout s) held (Linked R s free file directory name time) left
+left_linked file directory name time absent left (inl same) = inl same
+left_linked {R} {s} {free} file directory name time absent left (inr w) =
+    let made = w.1 in
+    let one = made.1 in
+    let two = made.2 in
+    let grew = made.3 in
+    let step = grew.step in
+    let other = step.other_is in
+    let len = entry_length (Name (record { operation = Add; inode = file.inode; time = time; name = name })) in
+    let second_is : step.second_now ≡ two = at_second step.put in
+    let same_names : name_at two.names name ≡ name_at directory.names name = ap (λ (r : Row). name_at r.names name) (sym second_is) ∙ other.names name ∙ ap (λ (r : Row). name_at r.names name) (same_Some _ _ (sym step.other_at)) in
+    inr (
+      w.0,
+      (
+        made.0,
+        counted_row one (file.numbers.links + 1) time,
+        added_row two name file.inode (two.tail - len) time,
+        links_at_places file grew refl (λ e. omega (arith, e)) one two two len refl
+            (record { rest = record { inode = refl; kind = refl; head = refl; tail = refl; pages = refl; index = refl }; numbers = refl; names = refl }) refl refl refl
+            (record { rest = record { inode = refl; kind = refl; head = refl; tail = refl; pages = refl; index = refl }; numbers = refl; names = λ q. refl })
+            (named_once two name file.inode (two.tail - len) (subst (λ (r : Row). EachOnce r.names) second_is step.other_once.1) (same_names ∙ absent)),
+      ),
+    )
+  where
+    at_second : {a b c d : Row} → (c ∷ d ∷ []) ≡ (a ∷ b ∷ []) → b ≡ d
+    at_second same = sym (same_Some _ _ (ap (λ (rs : List Row). slice_get rs 1) same))

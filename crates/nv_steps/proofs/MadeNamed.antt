@@ -1,34 +1,92 @@
 -- A new inode and its name, once they are committed and the rows settled.
-use Rattle.std.proofs.Common.{◌≡◌, ℕ, zero, suc, ◌+◌, ◌-◌, ◌*◌, ◌/◌, ◌%◌, ◌<◌, ◌≤◌, cond, nat_eq, List, [], ◌∷◌, ◌++◌, drop, take, take_all, length, get_or, refl, ap, sym, ◌∙◌, subst, arith, Some, None}
+use Rattle.std.proofs.Common.{◌≡◌, ℕ, zero, suc, ◌+◌, ◌-◌, ◌*◌, ◌/◌, ◌%◌, ◌<◌, ◌≤◌, cond, nat_eq, Bool, true, false, inl, inr, Option, List, [], ◌∷◌, ◌++◌, drop, take, take_all, length, get_or, refl, ap, sym, ◌∙◌, subst, arith, Some, None}
 use Rattle.std.specs.Cmp.Lexicographic.{pointwise}
+use Rattle.std.specs.List.{AllByRecursion}
+use Rattle.std.proofs.lemmas.Map.Keys.{IsDistinct-cons}
 use Rattle.nv_region.specs.Region.{Region, size}
-use Rattle.nv_region.specs.Stops.{IsMixed}
+use Rattle.nv_region.specs.Stops.{Choices, IsMixed, LeavesOnly, NothingPending}
+use Rattle.nv_region.specs.Stored.{StoresOnly}
+use Rattle.nv_region.proofs.Stops.{mixed_left}
 use Rattle.nv_super.specs.declared.superblock.Super.{Super}
 use Rattle.nv_super.specs.declared.kind.Kind.{Kind}
-use Rattle.nv_super.specs.Layout.{slot_address}
+use Rattle.nv_super.specs.Layout.{fixed_layout, slot_address}
+use Rattle.nv_journal.specs.Undo.{undone}
 use Rattle.nv_alloc.specs.FreeValue.{FreeLists}
 use Rattle.nv_entry.specs.declared.entry.Entry.{Entry}
 use Rattle.nv_entry.specs.declared.entry.Entry.TheVariants.{Name}
 use Rattle.nv_entry.specs.declared.entry.Operation.TheVariants.{Add}
 use Rattle.nv_entry.specs.Spelling.{entry_length}
 use Rattle.nv_logpage.specs.Append.{EndBy, appended, end_of, needed}
-use Rattle.nv_names.specs.Names.{EachOnce}
+use Rattle.nv_names.specs.Names.{EachOnce, found_in, name_at, names_of}
 use Rattle.nv_scan.specs.declared.numbers.Numbers.{Numbers}
 use Rattle.nv_scan.specs.declared.piece.Row.{Row}
 use Rattle.nv_held.specs.nv_outcome.Same.{SameRow}
 use Rattle.nv_held.specs.Held.{Held, Store, with_inode}
+use Rattle.nv_held.specs.Bytes.{byte_of}
+use Rattle.nv_held.proofs.nv_outcome.SuperOf.{layout_of_super}
 use Rattle.nv_commit.specs.declared.together.Extension.{Extension}
 use Rattle.nv_commit.specs.declared.making.NewInode.{NewInode}
 use Rattle.nv_commit.specs.Extends.{with_log}
-use Rattle.nv_commit.specs.Together.{CanCommit, ShowsIdle}
-use Rattle.nv_commit.specs.Makes.{CanBegin, CanMake, MakeWords, begun, tail_of, with_made}
+use Rattle.nv_commit.specs.Together.{CanCommit, ShowsIdle, UndoneShows}
+use Rattle.nv_commit.specs.Makes.{BeforeOrMade, CanBegin, CanMake, MakeWords, begun, tail_of, with_made}
+use Rattle.nv_commit.specs.Stopped.{LeavesEither}
 use Rattle.nv_commit.proofs.BytesStay.{made_bytes}
+use Rattle.nv_commit.proofs.Left.{one_held}
+use Rattle.nv_commit.proofs.LeftUndone.{undone_bytes, undone_can, undone_idle, undone_recovers}
 use Rattle.nv_steps.specs.Grown.{StandsRight}
 use Rattle.nv_steps.specs.NameEntries.{first_entries, name_entries, new_held, with_named}
 use Rattle.nv_steps.specs.NewNames.{CanName, HasNamed, IsNewRow, MakesNamed, place_named}
 use Rattle.nv_steps.specs.Steps.{ShowsRow}
+use Rattle.nv_steps.specs.Stopped.{Named}
 use Rattle.nv_steps.specs.Taken.{TakesEach}
 use Rattle.nv_steps.proofs.NewLogs.{can_begin, can_commit, can_make, first_append, second_append, slot_inside}
+
+-- ---- rows that a stop keeps from being settled
+
+-- the directory's row with the name, as it was before it was made ready
+abbrev pub named_row : Row → Row → List ℕ → ℕ → List ℕ → ℕ → ℕ → ℕ → Row
+named_row old mid fresh end name j place time = record mid { numbers = record mid.numbers { time = time }; tail = end; pages = record mid.pages { items = mid.pages.items ++ fresh }; names = record old.names { names = (name, j, place) ∷ old.names.names } }
+
+named_row_has : (old mid : Row) (fresh : List ℕ) (end : ℕ) (name : List ℕ) (j place time : ℕ) → SameRow old mid → HasNamed mid fresh end name j place time (named_row old mid fresh end name j place time)
+named_row_has old mid fresh end name j place time same = record {
+  inode = refl;
+  kind = refl;
+  numbers = refl;
+  head = refl;
+  tail = refl;
+  pages = refl;
+  index = λ p. refl;
+  names = λ q. ap (λ (o : Option (ℕ × ℕ)). cond (pointwise nat_eq q name) (Some (j, place)) o) (sym (same.names q));
+}
+
+lacks : (es : List (List ℕ × ℕ × ℕ)) (name : List ℕ) → found_in es name ≡ None → AllByRecursion (λ y. pointwise nat_eq name y ≡ false) (names_of es)
+lacks [] name none = tt
+lacks (e ∷ es) name none = by (pointwise nat_eq name e.0) refl none (lacks es name) where
+  by : (b : Bool) → pointwise nat_eq name e.0 ≡ b → cond b (Some (e.1, e.2)) (found_in es name) ≡ None → (found_in es name ≡ None → AllByRecursion (λ y. pointwise nat_eq name y ≡ false) (names_of es)) → AllByRecursion (λ y. pointwise nat_eq name y ≡ false) (names_of (e ∷ es))
+  by true is clash others = absurd (cc)
+  by false is rest others = (is, others rest)
+
+-- no name is twice in it
+pub named_once : (old : Row) (name : List ℕ) (j place : ℕ) → EachOnce old.names → name_at old.names name ≡ None → EachOnce (record old.names { names = (name, j, place) ∷ old.names.names })
+named_once old name j place once absent = IsDistinct-cons (pointwise nat_eq) name (names_of old.names.names) (lacks old.names.names name absent) once
+
+-- the row of the new inode
+abbrev pub new_row : ℕ → Kind → ℕ → ℕ → ℕ → ℕ → Row
+new_row j kind mode time page tail = record {
+  inode = j;
+  numbers = record { size = 0; mode = mode % 4096; owner = 0; group = 0; links = 1; time = time };
+  names = record { names = []; room = 0 };
+  kind = kind;
+  head = 4096 * page;
+  tail = tail;
+  pages = record { items = page ∷ []; capacity = 2 };
+  index = [];
+}
+
+new_row_is : (j : ℕ) (kind : Kind) (mode time page tail : ℕ) → IsNewRow j kind mode time page tail (new_row j kind mode time page tail)
+new_row_is j kind mode time page tail = record { inode = refl; is_of_kind = refl; numbers = refl; head = refl; tail_is = refl; pages = refl; index = λ p. refl; names = λ q. refl }
+
+-- ---- blocks
 
 -- blocks as the first and the others
 pub cut_first : (xs : List ℕ) (n d : ℕ) → length xs ≡ 1 + n → xs ≡ get_or xs 0 d ∷ drop 1 xs
@@ -108,14 +166,15 @@ module _ {R : Region} {s : Super} {free after : FreeLists} {old mid : Row} {cpu 
     commits = can_commit entries stands can both_taken count (refl, tt) old_slot old_tail more blocks
 
     module _ (kind : Kind) (mode : ℕ) (n : NewInode) (new_slot : n.slot ≡ slot_address s j) (of_kind : n.kind ≡ kind) (created : n.created ≡ time) (page_is : n.page ≡ page) (first : n.entries.now ≡ first_entries mode time) where
-      can_make_it : (held : Store) (h : Held) → ShowsRow R s held h old free → held j ≡ None → CanMake R s held cpu j n mid.inode h x
+      pub can_make_it : (held : Store) (h : Held) → ShowsRow R s held h old free → held j ≡ None → CanMake R s held cpu j n mid.inode h x
       can_make_it held h shows unused = subst (λ (d : ℕ). CanMake R s held cpu j n d h x) (sym same.inode) (can_make entries stands can both_taken count (refl, tt) shows unused (omega arith) mode time new_slot page_is first old_slot old_tail more blocks)
 
-      pub makes_named : {S : Region} {new row : Row} (end tail_now place first_page : ℕ) (bs : List ℕ) → bs ≡ fresh → tail_now ≡ tail_of n → end ≡ end_of x.fresh.now 0 x.tail x.entries.now → HasNamed mid bs end name j place time new → place ≡ place_named fresh old.tail j name time
+      pub makes_named_by : {S : Region} {new row : Row} (end tail_now place first_page : ℕ) (bs : List ℕ) → bs ≡ fresh → tail_now ≡ tail_of n → end ≡ end_of x.fresh.now 0 x.tail x.entries.now → HasNamed mid bs end name j place time new → place ≡ place_named fresh old.tail j name time
           → EachOnce old.names → EachOnce new.names → first_page ≡ page → IsNewRow j kind mode time first_page tail_now row
-          → ((held : Store) (h : Held) → CanMake R s held cpu j n mid.inode h x → ShowsIdle S s (with_made held j n mid.inode h x)) → IsMixed R (MakeWords cpu n x) S
+          → ((held : Store) (h : Held) → CanMake R s held cpu j n mid.inode h x → ShowsIdle S s (with_made held j n mid.inode h x))
+          → ((held : Store) (h : Held) → CanMake R s held cpu j n mid.inode h x → (i : ℕ) (g : Held) → held i ≡ Some g → (y : ℕ) → byte_of S (fixed_layout s) g y ≡ byte_of R (fixed_layout s) g y)
           → MakesNamed R S s free after old new kind mode time j name row
-      makes_named {S} {new} {row} end tail_now place first_page bs others tails ends named at once once_now paged made shows mixed = record {
+      makes_named_by {S} {new} {row} end tail_now place first_page bs others tails ends named at once once_now paged made shows bytes = record {
         page = page;
         fresh = fresh;
         taken = both_taken;
@@ -126,9 +185,52 @@ module _ {R : Region} {s : Super} {free after : FreeLists} {old mid : Row} {cpu 
         row = new_row_as j kind mode time paged (tails ∙ (λ t. end_of [] 0 (4096 * page_is t) (first t))) made;
         shows = λ held h seen unused. record {
           idle = subst (λ (st : Store). ShowsIdle S s st) (made_store held n x kind mode time j old.inode h name page fresh of_kind created page_is first more blocks) (subst (λ (d : ℕ). ShowsIdle S s (with_made held j n d h x)) same.inode (shows held h (can_make_it held h seen unused)));
-          bytes = made_bytes (can_make_it held h seen unused) S mixed;
+          bytes = bytes held h (can_make_it held h seen unused);
         };
       }
+
+      pub makes_named : {S : Region} {new row : Row} (end tail_now place first_page : ℕ) (bs : List ℕ) → bs ≡ fresh → tail_now ≡ tail_of n → end ≡ end_of x.fresh.now 0 x.tail x.entries.now → HasNamed mid bs end name j place time new → place ≡ place_named fresh old.tail j name time
+          → EachOnce old.names → EachOnce new.names → first_page ≡ page → IsNewRow j kind mode time first_page tail_now row
+          → ((held : Store) (h : Held) → CanMake R s held cpu j n mid.inode h x → ShowsIdle S s (with_made held j n mid.inode h x)) → IsMixed R (MakeWords cpu n x) S
+          → MakesNamed R S s free after old new kind mode time j name row
+      makes_named {S} end tail_now place first_page bs others tails ends named at once once_now paged made shows mixed =
+          makes_named_by end tail_now place first_page bs others tails ends named at once once_now paged made shows (λ held h can. made_bytes can S mixed)
+
+      -- What a stop leaves: the row that the directory would have is as it was but for the name, the time and the log.
+      pub left_named : {held : Store} {h : Held} → ShowsRow R s held h old free → held j ≡ None → EachOnce old.names → name_at old.names name ≡ None → (now : Region) (first_may last_may : Choices) → StoresOnly (MakeWords cpu n x) R now first_may last_may → NothingPending R first_may
+          → (CanMake R s held cpu j n mid.inode h x → NothingPending R first_may → LeavesOnly now last_may (BeforeOrMade s held j n mid.inode h x)) → LeavesOnly now last_may (LeavesEither R (fixed_layout s) held (Named R s free old kind mode time j name))
+      left_named {held} {h} shows out once absent now first_may last_may wrote settled stops left may = by (stops made_can settled left may) where
+        made_can : CanMake R s held cpu j n mid.inode h x
+        made_can = can_make_it held h shows out
+
+        mixed : IsMixed R (MakeWords cpu n x) left
+        mixed = let stored = wrote.mixed in mixed_left R now (MakeWords cpu n x) first_may last_may stored.as_long stored.same_rest settled wrote.adds left may
+
+        any_idle : (w : UndoneShows s (with_made held j n mid.inode h x) left) (other : Store) (g : Held) → CanMake R s other cpu j n mid.inode g x → ShowsIdle (undone s left) s (with_made other j n mid.inode g x)
+        any_idle w other g there =
+            let parent = there.parent in
+            let one = shows.sound in
+            let two = parent.sound in
+            let equal : held ≡ other = one_held one.shows two.shows in
+            let both : Some h ≡ Some g = sym shows.holds ∙ ap held (sym same.inode) ∙ ap (λ (st : Store). st mid.inode) equal ∙ parent.holds in
+            let is : h ≡ g = cc in
+            subst (λ (k : Held). ShowsIdle (undone s left) s (with_made other j n mid.inode k x)) is (subst (λ (st : Store). ShowsIdle (undone s left) s (with_made st j n mid.inode h x)) equal (undone_idle w))
+
+        any_bytes : (other : Store) (g : Held) → CanMake R s other cpu j n mid.inode g x → (i : ℕ) (f : Held) → other i ≡ Some f → (y : ℕ) → byte_of (undone s left) (fixed_layout s) f y ≡ byte_of R (fixed_layout s) f y
+        any_bytes other g there i f is y = let parent = there.parent in let sound = parent.sound in undone_bytes s left f (layout_of_super R s sound.sup) y ∙ made_bytes there left mixed i f is y
+
+        by : BeforeOrMade s held j n mid.inode h x left → LeavesEither R (fixed_layout s) held (Named R s free old kind mode time j name) left
+        by (inl w) = inl (undone_recovers w R (made_bytes made_can left mixed) (let sound = shows.sound in sound.faultless))
+        by (inr w) = inr (
+          undone_can w,
+          (
+            after,
+            named_row old mid fresh (end_of x.fresh.now 0 x.tail x.entries.now) name j (place_named fresh old.tail j name time) time,
+            new_row j kind mode time page (tail_of n),
+            makes_named_by {S = undone s left} (end_of x.fresh.now 0 x.tail x.entries.now) (tail_of n) (place_named fresh old.tail j name time) page fresh refl refl refl (named_row_has old mid fresh (end_of x.fresh.now 0 x.tail x.entries.now) name j (place_named fresh old.tail j name time) time same) refl
+                once (named_once old name j (place_named fresh old.tail j name time) once absent) refl (new_row_is j kind mode time page (tail_of n)) (any_idle w) any_bytes,
+          ),
+        )
 
   -- Memory that is open past the region is open past all that is stored.
   pub makes_within : (p a b t : ℕ) (bs : List ℕ) → p ≡ page → a ≡ slot_address s j → b ≡ slot_address s mid.inode → t ≡ mid.tail → bs ≡ fresh → (limit : ℕ) → size R ≤ limit

@@ -1,5 +1,6 @@
 -- A name that went from one directory to another, once both logs have grown and the rows are settled.
-use Rattle.std.proofs.Common.{◌≡◌, ℕ, ◌-◌, List, [], ◌∷◌, refl, sym, subst}
+use Rattle.std.proofs.Common.{◌≡◌, ℕ, ◌-◌, inl, inr, List, [], ◌∷◌, slice_get, refl, ap, sym, ◌∙◌, subst, None}
+use Rattle.nv_super.specs.Layout.{fixed_layout}
 use Rattle.std.proofs.lemmas.Option.{same_Some}
 use Rattle.nv_region.specs.Region.{Region}
 use Rattle.nv_super.specs.declared.superblock.Super.{Super}
@@ -9,14 +10,18 @@ use Rattle.nv_entry.specs.declared.entry.Entry.TheVariants.{Name}
 use Rattle.nv_entry.specs.declared.entry.Operation.TheVariants.{Add, Remove}
 use Rattle.nv_entry.specs.Spelling.{entry_length}
 use Rattle.nv_logpage.specs.Append.{end_of}
-use Rattle.nv_names.specs.Names.{EachOnce}
+use Rattle.nv_names.specs.Names.{EachOnce, name_at}
+use Rattle.nv_held.specs.Held.{Store}
+use Rattle.nv_commit.specs.Stopped.{LeavesEither}
 use Rattle.nv_scan.specs.declared.piece.Row.{Row}
 use Rattle.nv_steps.specs.MoreNames.{AddsName, AppendsLogs, GetsName, GrowsSame, GrowsTwo}
 use Rattle.nv_steps.specs.NameEntries.{name_entries}
+use Rattle.nv_steps.specs.Stopped.{AppendedBoth, MovedOver}
 use Rattle.nv_steps.specs.Unlinks.{DropsName, LosesName}
-use Rattle.nv_steps.proofs.LinkedAt.{adds_after}
-use Rattle.nv_steps.proofs.MadeNamed.{place_is}
-use Rattle.nv_steps.proofs.UnlinkedAt.{drops_after}
+use Rattle.nv_steps.proofs.LessName.{found_without, once_without}
+use Rattle.nv_steps.proofs.LinkedAt.{added_row, adds_after}
+use Rattle.nv_steps.proofs.MadeNamed.{named_once, place_is}
+use Rattle.nv_steps.proofs.UnlinkedAt.{dropped_row, drops_after}
 
 module _ {R S : Region} {s : Super} {free after : FreeLists} {from to a b : Row} {i time : ℕ} {name other : List ℕ}
     (grew : AppendsLogs R S s free after (from ∷ to ∷ []) (a ∷ b ∷ []) 0 (name_entries Remove i name time) 1 (name_entries Add i other time)) where
@@ -62,3 +67,40 @@ module _ {R S : Region} {s : Super} {free after : FreeLists} {from to a b : Row}
         put = refl;
         shows = step.shows;
       }
+
+-- ---- a stop
+
+-- What a stop leaves of a name that goes over, by what it leaves of both logs.
+pub left_over : {R : Region} {s : Super} {free : FreeLists} {held : Store} (from to : Row) (i : ℕ) (name other : List ℕ) (time : ℕ) → name_at to.names other ≡ None
+    → (left : Region) → LeavesEither R (fixed_layout s) held (AppendedBoth R s free from (name_entries Remove i name time) to (name_entries Add i other time)) left → LeavesEither R (fixed_layout s) held (MovedOver R s free from to i name other time) left
+left_over from to i name other time absent left (inl same) = inl same
+left_over {R} {s} {free} from to i name other time absent left (inr w) =
+    let made = w.1 in
+    let a = made.1 in
+    let b = made.2 in
+    let grew = made.3 in
+    let step = grew.step in
+    let got = step.other_is in
+    let len = entry_length (Name (record { operation = Add; inode = i; time = time; name = other })) in
+    let first_is : step.first_now ≡ a = at_first step.put in
+    let second_is : step.second_now ≡ b = at_second step.put in
+    let same_names : name_at b.names other ≡ name_at to.names other = ap (λ (r : Row). name_at r.names other) (sym second_is) ∙ got.names other ∙ ap (λ (r : Row). name_at r.names other) (same_Some _ _ (sym step.other_at)) in
+    inr (
+      w.0,
+      (
+        made.0,
+        dropped_row a name time,
+        added_row b other i (b.tail - len) time,
+        moves_both grew len
+            (record { rest = record { inode = refl; kind = refl; head = refl; tail = refl; pages = refl; index = refl }; numbers = refl; names = λ q. found_without a.names.names name q })
+            (once_without a.names.names name (subst (λ (r : Row). EachOnce r.names) first_is step.once.1)) refl
+            (record { rest = record { inode = refl; kind = refl; head = refl; tail = refl; pages = refl; index = refl }; numbers = refl; names = λ q. refl })
+            (named_once b other i (b.tail - len) (subst (λ (r : Row). EachOnce r.names) second_is step.other_once.1) (same_names ∙ absent)),
+      ),
+    )
+  where
+    at_first : {x y z w : Row} → (z ∷ w ∷ []) ≡ (x ∷ y ∷ []) → x ≡ z
+    at_first same = sym (same_Some _ _ (ap (λ (rs : List Row). slice_get rs 0) same))
+
+    at_second : {x y z w : Row} → (z ∷ w ∷ []) ≡ (x ∷ y ∷ []) → y ≡ w
+    at_second same = sym (same_Some _ _ (ap (λ (rs : List Row). slice_get rs 1) same))

@@ -1,10 +1,10 @@
 -- A name that became another in its directory, once its log has grown and its row is settled.
-use Rattle.std.proofs.Common.{◌≡◌, ℕ, ◌+◌, ◌-◌, ◌/◌, ◌%◌, ◌≤◌, cond, nat_eq, List, ◌++◌, ap, sym, ◌∙◌, subst, arith, Some, None}
+use Rattle.std.proofs.Common.{◌≡◌, ℕ, ◌+◌, ◌-◌, ◌/◌, ◌%◌, ◌≤◌, cond, nat_eq, inl, inr, Option, List, ◌++◌, refl, ap, sym, ◌∙◌, subst, arith, Some, None}
 use Rattle.std.specs.Cmp.Lexicographic.{pointwise}
 use Rattle.nv_region.specs.Region.{Region, size}
 use Rattle.nv_region.specs.Stops.{IsMixed}
 use Rattle.nv_super.specs.declared.superblock.Super.{Super}
-use Rattle.nv_super.specs.Layout.{slot_address}
+use Rattle.nv_super.specs.Layout.{fixed_layout, slot_address}
 use Rattle.nv_alloc.specs.FreeValue.{FreeLists}
 use Rattle.nv_alloc.specs.FreeLists.{IsFreeIn}
 use Rattle.nv_entry.specs.declared.entry.Entry.{Entry}
@@ -17,12 +17,19 @@ use Rattle.nv_held.specs.nv_outcome.Same.{SameRow}
 use Rattle.nv_radix.specs.Pages.{Pages, block_at}
 use Rattle.nv_scan.specs.declared.numbers.Numbers.{Numbers}
 use Rattle.nv_scan.specs.declared.piece.Row.{Row}
+use Rattle.nv_held.specs.Held.{Held, Store, good_in}
+use Rattle.nv_commit.specs.Stopped.{LeavesEither}
 use Rattle.nv_commit.specs.Extends.{CanExtend, ExtendWords, ShowsMoved, with_log}
+use Rattle.nv_scan.specs.Rows.{AreNumbers}
 use Rattle.nv_steps.specs.Grown.{StandsRight}
 use Rattle.nv_steps.specs.MoreNames.{AddsName}
 use Rattle.nv_steps.specs.Moves.{MovesWithin, move_entries, move_place}
-use Rattle.nv_steps.specs.Steps.{AppendsLog, LeavesStep}
+use Rattle.nv_steps.specs.Steps.{AppendsLog, LeavesStep, ShowsRow}
+use Rattle.nv_steps.specs.Stopped.{Appended, MovedHere}
 use Rattle.nv_steps.specs.Unlinks.{DropsName}
+use Rattle.nv_steps.proofs.LessName.{absent_without, found_without, once_without, without}
+use Rattle.nv_steps.proofs.LinkedAt.{added_row}
+use Rattle.nv_steps.proofs.MadeNamed.{named_once}
 
 -- what is known of a row is known of it with more room
 pub stands_same : {R : Region} {s : Super} {free : FreeLists} {old new : Row} → SameRow old new → StandsRight R s free old → StandsRight R s free new
@@ -96,3 +103,52 @@ module _ {R S : Region} {s : Super} {free after : FreeLists} {old mid grown : Ro
             (grew.moved held h (subst (λ (n : ℕ). CanExtend R s held n h (slot_address s n) mid.tail entries grew.fresh) (sym same.inode) (subst (λ (t : ℕ). CanExtend R s held old.inode h (slot_address s old.inode) t entries grew.fresh) (sym same.tail) can)));
         mixed = subst (λ (n : ℕ). IsMixed R (ExtendWords (slot_address s n) old.tail entries grew.fresh) S) same.inode (subst (λ (t : ℕ). IsMixed R (ExtendWords (slot_address s mid.inode) t entries grew.fresh) S) same.tail grew.mixed);
       }
+
+-- ---- a stop
+
+-- what a region shows of a row it shows of it with more room
+pub shows_same : {R : Region} {s : Super} {held : Store} {h : Held} {free : FreeLists} {old new : Row} → SameRow old new → ShowsRow R s held h old free → ShowsRow R s held h new free
+shows_same {s = s} {held = held} {h = h} same shows =
+    let told = shows.told in
+    record {
+      sound = shows.sound;
+      holds = ap held same.inode ∙ shows.holds;
+      told = record {
+        kind = same.kind ∙ told.kind;
+        numbers = subst (λ (n : Numbers). AreNumbers h.created (good_in (fixed_layout s) h) n) (sym same.numbers) told.numbers;
+        head = same.head ∙ told.head;
+        tail = same.tail ∙ told.tail;
+        pages = same.pages ∙ told.pages;
+        index = λ p. same.index p ∙ told.index p;
+        names = λ q. same.names q ∙ told.names q;
+      };
+      lists = shows.lists;
+    }
+
+-- the row without the name, by the names of before
+abbrev less_row : Row → Row → List ℕ → ℕ → Row
+less_row old grown name time = record grown { numbers = record grown.numbers { time = time }; names = record old.names { names = without name old.names.names } }
+
+-- What a stop leaves of another name in the same directory, by what it leaves of its log.
+pub left_here : {R : Region} {s : Super} {free : FreeLists} {held : Store} (old mid : Row) (i : ℕ) (name other : List ℕ) (time : ℕ) → SameRow old mid → EachOnce old.names → name_at old.names other ≡ None
+    → (left : Region) → LeavesEither R (fixed_layout s) held (Appended R s free mid (move_entries i name other time)) left → LeavesEither R (fixed_layout s) held (MovedHere R s free old i name other time) left
+left_here old mid i name other time same once absent left (inl stays) = inl stays
+left_here old mid i name other time same once absent left (inr w) =
+    let made = w.1 in
+    let grown = made.1 in
+    let grew = made.2 in
+    let row = grew.row in
+    let len = entry_length (Name (record { operation = Add; inode = i; time = time; name = other })) in
+    let less = less_row old grown name time in
+    inr (
+      w.0,
+      (
+        made.0,
+        added_row less other i (grown.tail - len) time,
+        moves_within i name other time same grew {less = less} {new = added_row less other i (grown.tail - len) time} len refl
+            (record { rest = record { inode = refl; kind = refl; head = refl; tail = refl; pages = refl; index = refl }; numbers = refl; names = λ q. found_without old.names.names name q ∙ ap (λ (o : Option (ℕ × ℕ)). cond (pointwise nat_eq q name) None o) (sym (ap (λ (m : Names). name_at m q) row.names ∙ same.names q)) })
+            (once_without old.names.names name once)
+            (record { rest = record { inode = refl; kind = refl; head = refl; tail = refl; pages = refl; index = refl }; numbers = refl; names = λ q. refl })
+            (named_once less other i (grown.tail - len) (once_without old.names.names name once) (absent_without old.names.names name other absent)) once,
+      ),
+    )

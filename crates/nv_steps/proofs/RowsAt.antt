@@ -8,7 +8,7 @@ at_set [] place new inside = absurd (omega (arith, inside))
 at_set (x ∷ rows) zero new inside = refl
 at_set (x ∷ rows) (suc place) new inside = at_set rows place new (omega (arith, inside))
 
-same_row : (r : Row) → SameRow r r
+pub same_row : (r : Row) → SameRow r r
 same_row r = record { inode = refl; kind = refl; numbers = refl; head = refl; tail = refl; pages = refl; index = λ p. refl; names = λ q. refl }
 
 pub same_rows : (rows : List Row) → SameRows rows rows

@@ -1,5 +1,6 @@
 -- A name less and a link less, once both logs have grown and the rows are settled.
-use Rattle.std.proofs.Common.{◌≡◌, ◌≢◌, ℕ, ◌-◌, cond, nat_eq, List, set, slice_get, ap, sym, ◌∙◌, subst, Some, None}
+use Rattle.std.proofs.Common.{◌≡◌, ◌≢◌, ℕ, ◌-◌, cond, nat_eq, inl, inr, List, [], ◌∷◌, set, slice_get, refl, ap, sym, ◌∙◌, subst, arith, Some, None}
+use Rattle.nv_super.specs.Layout.{fixed_layout}
 use Rattle.std.specs.Cmp.Lexicographic.{pointwise}
 use Rattle.std.proofs.lemmas.Option.{same_Some}
 use Rattle.nv_region.specs.Region.{Region}
@@ -12,11 +13,15 @@ use Rattle.nv_names.specs.Names.{EachOnce}
 use Rattle.nv_radix.specs.Pages.{block_at}
 use Rattle.nv_scan.specs.declared.numbers.Numbers.{Numbers}
 use Rattle.nv_scan.specs.declared.piece.Row.{Row}
+use Rattle.nv_held.specs.Held.{Store}
+use Rattle.nv_commit.specs.Stopped.{LeavesEither}
+use Rattle.nv_steps.specs.Stopped.{AppendedBoth, Unlinked}
 use Rattle.nv_steps.specs.LessNames.{HasLost}
 use Rattle.nv_steps.specs.NameEntries.{links_entries, name_entries}
 use Rattle.nv_steps.specs.MoreNames.{AppendsLogs, CountsLinks, GrowsSame, GrowsTwo}
 use Rattle.nv_steps.specs.Unlinks.{DropsName, UnlinksAt}
-use Rattle.nv_steps.proofs.LinkedAt.{counted_after}
+use Rattle.nv_steps.proofs.LessName.{found_without, once_without, without}
+use Rattle.nv_steps.proofs.LinkedAt.{counted_after, counted_row}
 use Rattle.nv_steps.proofs.SetRows.{both_twice, first_set, second_set}
 use Rattle.nv_steps.proofs.RowsAt.{other_set}
 
@@ -84,3 +89,36 @@ module _ {R S : Region} {s : Super} {free after : FreeLists} {rows mid : List Ro
           shows = step.shows;
         };
       }
+
+-- ---- a stop
+
+-- a row with a name less
+abbrev pub dropped_row : Row → List ℕ → ℕ → Row
+dropped_row row name time = record row { numbers = record row.numbers { time = time }; names = record row.names { names = without name row.names.names } }
+
+-- What a stop leaves of a name less and a link less, by what it leaves of both logs.
+pub left_unlinked : {R : Region} {s : Super} {free : FreeLists} {held : Store} (directory file : Row) (name : List ℕ) (time : ℕ)
+    → (left : Region) → LeavesEither R (fixed_layout s) held (AppendedBoth R s free directory (name_entries Remove file.inode name time) file (links_entries (file.numbers.links - 1) time)) left → LeavesEither R (fixed_layout s) held (Unlinked R s free directory file name time) left
+left_unlinked directory file name time left (inl same) = inl same
+left_unlinked {R} {s} {free} directory file name time left (inr w) =
+    let made = w.1 in
+    let one = made.1 in
+    let two = made.2 in
+    let grew = made.3 in
+    let step = grew.step in
+    let first_is : step.first_now ≡ one = at_first step.put in
+    inr (
+      w.0,
+      (
+        made.0,
+        dropped_row one name time,
+        counted_row two (file.numbers.links - 1) time,
+        unlinks_at_places file grew refl (λ e. omega (arith, e)) one two refl
+            (record { rest = record { inode = refl; kind = refl; head = refl; tail = refl; pages = refl; index = refl }; numbers = refl; names = λ q. found_without one.names.names name q })
+            (once_without one.names.names name (subst (λ (r : Row). EachOnce r.names) first_is step.once.1)) refl
+            (record { rest = record { inode = refl; kind = refl; head = refl; tail = refl; pages = refl; index = refl }; numbers = refl; names = refl }),
+      ),
+    )
+  where
+    at_first : {a b c d : Row} → (c ∷ d ∷ []) ≡ (a ∷ b ∷ []) → a ≡ c
+    at_first same = sym (same_Some _ _ (ap (λ (rs : List Row). slice_get rs 0) same))

@@ -139,13 +139,13 @@ module _ {R S : Region} {s : Super} {held : Store} {h : Held} {row : Row} {free 
   abbrev pub new : Held
   new = extended h entries fresh
 
-  writes : WritesData l held h more others plan.size
+  pub writes : WritesData l held h more others plan.size
   writes = writes_data l held h kind plan p.runs entries described fresh others runs_free others_apart right.small right.top right.last h.tail
 
   pub names : SameNames l h new
   names = quiet_grown l h (end_of fresh 0 h.tail entries) more others (all_quiet s more (good_writes l held h kind plan p.runs entries described fresh others runs_free others_apart right.small right.top right.last h.tail))
 
-  some_placed : 0 < length more
+  pub some_placed : 0 < length more
   some_placed = (let count = placed_count fresh 0 h.tail entries in let there = described.there in omega (arith, count, there))
 
   size_held : row.numbers.size ≡ size_of (good_in l h)

@@ -22,11 +22,12 @@ use Rattle.nv_scan.specs.declared.numbers.Numbers.{Numbers}
 use Rattle.nv_scan.specs.declared.piece.Row.{Row}
 use Rattle.nv_scan.specs.Rows.{AreNumbers}
 use Rattle.nv_held.specs.Held.{Held, Store, good_in}
+use Rattle.nv_held.specs.Blocks.{KeepsFree}
 use Rattle.nv_held.specs.Bytes.{byte_in}
 use Rattle.nv_held.specs.Mounted.{KeepsRow}
 use Rattle.nv_held.proofs.Written.{EntryOf, in_runs, page_entry}
 use Rattle.nv_held.proofs.BytesKept.{byte_stays}
-use Rattle.nv_commit.specs.Extends.{ExtendWords, extended}
+use Rattle.nv_commit.specs.Extends.{ExtendWords, extended, with_log}
 use Rattle.nv_commit.proofs.Extends.{slots}
 use Rattle.nv_steps.specs.Grown.{StandsRight}
 use Rattle.nv_steps.specs.Steps.{LogFollows, ShowsRow}
@@ -62,15 +63,15 @@ module _ {R S : Region} {s : Super} {row now : Row} {free after : FreeLists} {cp
           names = λ q. ap (λ (n : Names). name_at n q) has.names ∙ told.names q ∙ sym (names.names q);
         }
 
-    log : (given : FreeLists) → JoinAll after (replaced_blocks row.index plan) given → LogFollows R S s held h entries row now given
-    log given joins = record {
+    log : (given : FreeLists) → KeepsFree (fixed_layout s) (with_log held row.inode h entries fresh) given.pools → LogFollows R S s held h entries row now given
+    log given in_lists = record {
       fresh = fresh;
       blocks = made.fresh_free shows stands.lists is_file below right p c;
       count = p.count ∙ ap (λ (t : ℕ). needed (t % 4096) entries) tails;
       sound = made.sound_after shows stands.lists is_file below right p c;
       told = kept;
       inode = has.inode;
-      lists = made.lists_after shows stands.lists is_file below right p c given joins;
+      lists = in_lists;
       bytes = made.bytes_before shows stands.lists is_file below right p c;
     }
 
@@ -126,20 +127,25 @@ module _ {R S : Region} {s : Super} {row now : Row} {free after : FreeLists} {cp
           other_byte x none ∙ sym (unwritten_byte R row.index row.numbers.size offset time x new some file.below within unwritten)
     ]
 
-  -- All of it.
-  pub writes_file : (given : FreeLists) → JoinAll after (replaced_blocks row.index plan) given → (offset time : ℕ) (new : List ℕ) → 0 < length new → plan ≡ plan_of (block_at row.index) row.numbers.size offset (length new) time → ((x : ℕ) → bytes x ≡ byte_after offset new row.numbers.size (file_byte R row.index) x)
+  -- All of it, over these free lists.
+  pub writes_file_by : (given : FreeLists) → ((held : Store) (h : Held) → ShowsRow R s held h row free → KeepsFree (fixed_layout s) (with_log held row.inode h entries fresh) given.pools) → (offset time : ℕ) (new : List ℕ) → 0 < length new → plan ≡ plan_of (block_at row.index) row.numbers.size offset (length new) time → ((x : ℕ) → bytes x ≡ byte_after offset new row.numbers.size (file_byte R row.index) x)
       → WritesFile R S s free given cpu plan offset new row now
-  writes_file given joins offset time new some planned after_is = record {
+  writes_file_by given in_lists offset time new some planned after_is = record {
     runs = p.runs;
     rest = p.mid.pools;
     taken = subst (λ (pools : List (List Run)). Takes pools cpu (data_blocks plan) p.runs p.mid.pools) p.same.pools p.took.takes;
-    follows = λ held h shows. subst (λ (es : List Entry). LogFollows R S s held h es row now given) p.says (log shows given joins);
+    follows = λ held h shows. subst (λ (es : List Entry). LogFollows R S s held h es row now given) p.says (log shows given (in_lists held h shows));
     inode = has.inode;
     kind = has.kind;
     numbers = has.numbers;
     names = has.names;
     bytes = λ held h shows x inside. all_bytes shows offset time new some planned after_is x inside;
   }
+
+  -- The same where the blocks that were replaced are given back.
+  pub writes_file : (given : FreeLists) → JoinAll after (replaced_blocks row.index plan) given → (offset time : ℕ) (new : List ℕ) → 0 < length new → plan ≡ plan_of (block_at row.index) row.numbers.size offset (length new) time → ((x : ℕ) → bytes x ≡ byte_after offset new row.numbers.size (file_byte R row.index) x)
+      → WritesFile R S s free given cpu plan offset new row now
+  writes_file given joins = writes_file_by given (λ held h shows. made.lists_after shows stands.lists is_file below right p c given joins)
 
 -- ---- what the steps did, told of the row before
 

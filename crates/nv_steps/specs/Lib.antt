@@ -12,3 +12,5 @@ pub mod MoreNames
 pub mod LessNames
 pub mod Unlinks
 pub mod Moves
+pub mod Stopped
+pub mod Cleans

@@ -47,6 +47,7 @@ abbrev pub ended_entries : Plan → Option ℕ → List Run → List Entry
 ended_entries plan None runs = run_entries plan plan.first runs
 ended_entries plan (Some page) runs = run_entries plan page (taken 1 runs) ++ run_entries plan plan.first (left 1 runs)
 
+-- all entries of a write over the blocks that it got
 abbrev pub data_entries : Plan → List Run → List Entry
 data_entries plan runs = ended_entries plan plan.ending runs
 
@@ -64,6 +65,7 @@ NeedsBlocks pools cpu tail plan count = ((all_blocks pools < data_blocks plan) �
 abbrev pub page_blocks : Pages → ℕ → ℕ → List Run
 page_blocks m first count = filter_map (λ p. option_map block_run (block_at m p)) (range_with_len first count)
 
+-- the block of the page where the file ended, if the write replaces it
 abbrev pub ended_blocks : Pages → Option ℕ → List Run
 ended_blocks m None = []
 ended_blocks m (Some page) = page_blocks m page 1

@@ -1,14 +1,18 @@
 //! Entries written behind the log of a row: all growths first, then the commit, then the row.
 
 ghost use Rattle.std.specs.Prelude.{◌≡◌, ◌<◌, ◌≤◌, ◌%◌, length, IsTrue, IfErr, OnOk};
+ghost use Rattle.nv_super.specs.Layout.{fixed_layout};
 ghost use Rattle.nv_region.specs.Region.{size};
-ghost use Rattle.nv_region.specs.Stops.{NothingPending};
+ghost use Rattle.nv_region.specs.Stops.{LeavesOnly, NothingPending};
 ghost use Rattle.nv_region.specs.Fuses.{KeepsFuse};
 ghost use Rattle.nv_alloc.specs.Taking.{all_blocks};
 ghost use Rattle.nv_logpage.specs.Append.{AreGiven, needed};
+ghost use Rattle.nv_held.specs.Held.{Held, Store};
+ghost use Rattle.nv_commit.specs.Stopped.{LeavesEither};
 ghost use Rattle.nv_tree.specs.declared.refusal.Refusal.{Refusal as RefusalValue};
 ghost use Rattle.nv_steps.specs.Grown.{StandsRight};
-ghost use Rattle.nv_steps.specs.Steps.{AppendsLog, LeavesStep, RefusesStep};
+ghost use Rattle.nv_steps.specs.Steps.{AppendsLog, LeavesStep, RefusesStep, ShowsRow};
+ghost use Rattle.nv_steps.specs.Stopped.{Appended};
 
 use crate::preparing::prepare_log;
 use crate::settling::settle_log;
@@ -49,6 +53,9 @@ pub(crate) fn append_log<P: Pmem>(
     ensures lists { free.new.sup ≡ free.old.sup }
     ensures length { size (P.region memory.new) ≡ size (P.region memory.old) }
     ensures keeps_fuse { KeepsFuse (λ limit. size (P.region memory.old) ≤ limit) (P.fuse memory.old) (P.fuse memory.new) }
+    // What a stop leaves, at any exit.
+    ensures any_stop { (held : Store) (h : Held) → ShowsRow (P.region memory.old) sup.now held h row.old free.old → 0 < length entries.now → NothingPending (P.region memory.old) (P.may_hold memory.old)
+        → LeavesOnly (P.region memory.new) (P.may_hold memory.new) (LeavesEither (P.region memory.old) (fixed_layout sup.now) held (Appended (P.region memory.old) sup.now free.old row.old entries.now)) }
 {
     let slot = sup.slot_address(row.inode);
     let tail = row.tail;

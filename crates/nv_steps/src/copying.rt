@@ -1,9 +1,9 @@
 //! A file that gets longer, and ends in a page that has a block: that page goes to a fresh block, with zeros behind the end.
 
-ghost use Rattle.std.specs.Prelude.{◌≡◌, ◌<◌, ◌≤◌, ◌+◌, ◌*◌, ◌/◌, ◌%◌, ◌∷◌, [], ◌^◌, length, IfOk, IfErr, OnOk, OnErr, Option, IsTrue, is_err, suc};
+ghost use Rattle.std.specs.Prelude.{◌≡◌, ℕ, ◌<◌, ◌≤◌, ◌+◌, ◌*◌, ◌/◌, ◌%◌, ◌∷◌, [], ◌^◌, length, IfOk, IfErr, OnOk, OnErr, Option, IsTrue, is_err, suc};
 ghost use Rattle.smallvec.specs.SmallVec.{HasRoomFor};
 ghost use Rattle.nv_region.specs.Region.{size};
-ghost use Rattle.nv_region.specs.Stops.{NothingPending};
+ghost use Rattle.nv_region.specs.Stops.{LeavesOnly, NothingPending};
 ghost use Rattle.nv_region.specs.Stored.{StoresOnly};
 ghost use Rattle.nv_region.specs.Fuses.{KeepsFuse};
 ghost use Rattle.nv_alloc.specs.Taking.{all_blocks};
@@ -13,9 +13,16 @@ ghost use Rattle.nv_radix.specs.Pages.{block_at};
 ghost use Rattle.nv_held.specs.Bytes.{byte_in};
 ghost use Rattle.nv_bytes.specs.Bytes.{byte_after};
 ghost use Rattle.nv_bytes.specs.Storing.{HoldsPage, InBlocks};
+ghost use Rattle.nv_super.specs.declared.superblock.Super.{Super as SuperValue};
+ghost use Rattle.nv_super.specs.Layout.{fixed_layout};
+ghost use Rattle.nv_held.specs.Held.{Held, Store};
+ghost use Rattle.nv_held.specs.Blocks.{IsUnowned};
+ghost use Rattle.nv_commit.specs.Extends.{CanExtend};
+ghost use Rattle.nv_commit.specs.Stopped.{LeavesEither};
 ghost use Rattle.nv_tree.specs.declared.refusal.Refusal.{Refusal as RefusalValue};
 ghost use Rattle.nv_steps.specs.Sizes.{CanResize, CopiesEnd, Resizes, blocks_from, end_block, resizing};
-ghost use Rattle.nv_steps.specs.Steps.{LeavesStep, RefusesStep};
+ghost use Rattle.nv_steps.specs.Steps.{LeavesStep, RefusesStep, ShowsRow};
+ghost use Rattle.nv_steps.specs.Stopped.{Resized};
 ghost use Rattle.nv_steps.specs.Taken.{SamePools, TakesEach};
 
 use crate::blocks::take_blocks;
@@ -57,6 +64,9 @@ pub(crate) fn resize_with_copy<P: Pmem>(
     ensures lists { free.new.sup ≡ free.old.sup }
     ensures length { size (P.region memory.new) ≡ size (P.region memory.old) }
     ensures keeps_fuse { KeepsFuse (λ limit. size (P.region memory.old) ≤ limit) (P.fuse memory.old) (P.fuse memory.new) }
+    // Whatever a stop leaves: recovery finds what is held, or it with the file's new size, without faults.
+    ensures any_stop { (held : Store) (h : Held) → ShowsRow (P.region memory.old) sup.now held h row.old free.old → NothingPending (P.region memory.old) (P.may_hold memory.old)
+        → LeavesOnly (P.region memory.new) (P.may_hold memory.new) (LeavesEither (P.region memory.old) (fixed_layout sup.now) held (Resized (P.region memory.old) sup.now free.old row.old attributes)) }
 {
     let bytes = row.numbers.size;
     let slot = sup.slot_address(row.inode);
@@ -156,6 +166,9 @@ fn copy_end<P: Pmem>(
     ensures stopped { is_err result ≡ (P.fuse memory.new).has_burnt }
     ensures length { size (P.region memory.new) ≡ size (P.region memory.old) }
     ensures keeps_fuse { KeepsFuse (λ limit. size (P.region memory.old) ≤ limit) (P.fuse memory.old) (P.fuse memory.new) }
+    // Whatever a stop leaves: recovery finds what is held, or it with the page copied and the log grown, without faults.
+    ensures any_stop { (s : SuperValue) (held : Store) (i : ℕ) (h : Held) → CanExtend (P.region memory.old) s held i h log.now.slot log.now.tail log.now.entries.now log.now.fresh.now → IsUnowned (fixed_layout s) held to → NothingPending (P.region memory.old) (P.may_hold memory.old)
+        → LeavesOnly (P.region memory.new) (P.may_hold memory.new) (LeavesEither (P.region memory.old) (fixed_layout s) held (λ S. CopiesEnd (P.region memory.old) S from to bytes log.now.slot log.now.tail log.now.entries.now log.now.fresh.now)) }
 {
     copy_page(memory, from, to, bytes)?;
     extend_log(memory, log.slot, log.tail, log.entries, log.fresh)

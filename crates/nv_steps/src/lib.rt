@@ -8,6 +8,7 @@
 mod appending;
 mod attributes;
 mod blocks;
+mod cleaning;
 mod copying;
 mod giving;
 mod growing;
@@ -27,6 +28,7 @@ mod unlinking;
 mod writing;
 
 pub use attributes::change_attributes;
+pub use cleaning::clean_log;
 pub use giving::give_row;
 pub use linking::link_both;
 pub use making::{NewName, make_named};

@@ -1,21 +1,25 @@
 //! Another name for an inode, by the rows of one directory or of two.
 
-ghost use Rattle.std.specs.Prelude.{◌≡◌, ◌≢◌, ◌+◌, ◌%◌, ◌<◌, ◌≤◌, [], ◌∷◌, Result, IsTrue, IfErr, OnOk};
+ghost use Rattle.std.specs.Prelude.{◌≡◌, ◌≢◌, ◌+◌, ◌%◌, ◌<◌, ◌≤◌, [], ◌∷◌, Option, Result, IsTrue, IfErr, OnOk};
+ghost use Rattle.nv_super.specs.Layout.{fixed_layout};
 ghost use Rattle.nv_region.specs.Region.{size};
-ghost use Rattle.nv_region.specs.Stops.{NothingPending};
+ghost use Rattle.nv_region.specs.Stops.{LeavesOnly, NothingPending};
 ghost use Rattle.nv_region.specs.Fuses.{KeepsFuse};
 ghost use Rattle.nv_alloc.specs.Taking.{all_blocks};
 ghost use Rattle.nv_entry.specs.declared.entry.Operation.TheVariants.{Add, Remove};
 ghost use Rattle.nv_logpage.specs.Append.{needed};
-ghost use Rattle.nv_names.specs.Names.{IsName};
+ghost use Rattle.nv_names.specs.Names.{IsName, name_at};
 ghost use Rattle.nv_held.specs.nv_outcome.Same.{SameRow};
+ghost use Rattle.nv_held.specs.Held.{Held, Store};
+ghost use Rattle.nv_commit.specs.Stopped.{LeavesEither};
 ghost use Rattle.nv_tree.specs.declared.refusal.Refusal.{Refusal as RefusalValue};
 ghost use Rattle.nv_steps.specs.Grown.{StandsRight};
 ghost use Rattle.nv_steps.specs.Moves.{MovesWithin, move_entries};
 ghost use Rattle.nv_steps.specs.MoreNames.{GetsName, GrowsTwo};
 ghost use Rattle.nv_steps.specs.NameEntries.{name_entries};
 ghost use Rattle.nv_steps.specs.NewNames.{CanName};
-ghost use Rattle.nv_steps.specs.Steps.{LeavesStep, RefusesStep};
+ghost use Rattle.nv_steps.specs.Steps.{LeavesStep, RefusesStep, ShowsRow};
+ghost use Rattle.nv_steps.specs.Stopped.{MovedHere, MovedOver};
 ghost use Rattle.nv_steps.specs.Unlinks.{LosesName};
 
 use crate::appending::append_log;
@@ -67,6 +71,9 @@ pub fn move_within<P: Pmem>(
     ensures lists { free.new.sup ≡ free.old.sup }
     ensures length { size (P.region memory.new) ≡ size (P.region memory.old) }
     ensures keeps_fuse { KeepsFuse (λ limit. size (P.region memory.old) ≤ limit) (P.fuse memory.old) (P.fuse memory.new) }
+    // Whatever a stop leaves: recovery finds what is held, or it with the other name, without faults.
+    ensures any_stop { (held : Store) (h : Held) → ShowsRow (P.region memory.old) sup.now held h directory.old free.old → name_at directory.old.names moved.now.other.now ≡ Option.None → NothingPending (P.region memory.old) (P.may_hold memory.old)
+        → LeavesOnly (P.region memory.new) (P.may_hold memory.new) (LeavesEither (P.region memory.old) (fixed_layout sup.now) held (MovedHere (P.region memory.old) sup.now free.old directory.old moved.now.inode moved.now.name.now moved.now.other.now moved.now.time)) }
 {
     let entries = [
         name_entry(Operation::Remove, moved.inode, moved.name, moved.time),
@@ -117,6 +124,9 @@ pub fn move_both<P: Pmem>(
     ensures lists { free.new.sup ≡ free.old.sup }
     ensures length { size (P.region memory.new) ≡ size (P.region memory.old) }
     ensures keeps_fuse { KeepsFuse (λ limit. size (P.region memory.old) ≤ limit) (P.fuse memory.old) (P.fuse memory.new) }
+    // Whatever a stop leaves: recovery finds what is held, or it with the name in the other directory, without faults.
+    ensures any_stop { (held : Store) (h g : Held) → ShowsRow (P.region memory.old) sup.now held h from.old free.old → ShowsRow (P.region memory.old) sup.now held g to.old free.old → name_at to.old.names moved.now.other.now ≡ Option.None → NothingPending (P.region memory.old) (P.may_hold memory.old)
+        → LeavesOnly (P.region memory.new) (P.may_hold memory.new) (LeavesEither (P.region memory.old) (fixed_layout sup.now) held (MovedOver (P.region memory.old) sup.now free.old from.old to.old moved.now.inode moved.now.name.now moved.now.other.now moved.now.time)) }
 {
     let removal = [name_entry(Operation::Remove, moved.inode, moved.name, moved.time)];
     let addition = [name_entry(Operation::Add, moved.inode, moved.other, moved.time)];

@@ -1,14 +1,18 @@
 //! A file's new size: its log grows by the attributes, and the pages behind the new end are cut.
 
 ghost use Rattle.std.specs.Prelude.{◌≡◌, ◌<◌, ◌≤◌, IfErr, OnOk, Option, IsTrue};
+ghost use Rattle.nv_super.specs.Layout.{fixed_layout};
 ghost use Rattle.nv_region.specs.Region.{size};
-ghost use Rattle.nv_region.specs.Stops.{NothingPending};
+ghost use Rattle.nv_region.specs.Stops.{LeavesOnly, NothingPending};
 ghost use Rattle.nv_region.specs.Fuses.{KeepsFuse};
 ghost use Rattle.nv_alloc.specs.Taking.{all_blocks};
 ghost use Rattle.nv_radix.specs.Pages.{block_at};
+ghost use Rattle.nv_held.specs.Held.{Held, Store};
+ghost use Rattle.nv_commit.specs.Stopped.{LeavesEither};
 ghost use Rattle.nv_tree.specs.declared.refusal.Refusal.{Refusal as RefusalValue};
 ghost use Rattle.nv_steps.specs.Sizes.{CanResize, Resizes, blocks_from, end_block};
-ghost use Rattle.nv_steps.specs.Steps.{LeavesStep, RefusesStep};
+ghost use Rattle.nv_steps.specs.Steps.{LeavesStep, RefusesStep, ShowsRow};
+ghost use Rattle.nv_steps.specs.Stopped.{Resized};
 
 use crate::appending::append_log;
 use crate::copying::resize_with_copy;
@@ -47,6 +51,9 @@ pub fn resize<P: Pmem>(
     ensures lists { free.new.sup ≡ free.old.sup }
     ensures length { size (P.region memory.new) ≡ size (P.region memory.old) }
     ensures keeps_fuse { KeepsFuse (λ limit. size (P.region memory.old) ≤ limit) (P.fuse memory.old) (P.fuse memory.new) }
+    // Whatever a stop leaves: recovery finds what is held, or it with the file's new size, without faults.
+    ensures any_stop { (held : Store) (h : Held) → ShowsRow (P.region memory.old) sup.now held h row.old free.old → NothingPending (P.region memory.old) (P.may_hold memory.old)
+        → LeavesOnly (P.region memory.new) (P.may_hold memory.new) (LeavesEither (P.region memory.old) (fixed_layout sup.now) held (Resized (P.region memory.old) sup.now free.old row.old attributes)) }
 {
     match end_block(row, attributes.size) {
         Some(from) => resize_with_copy(alloc, memory, sup, free, cpu, row, attributes, from),
@@ -90,6 +97,9 @@ fn resize_in_place<P: Pmem>(
     ensures lists { free.new.sup ≡ free.old.sup }
     ensures length { size (P.region memory.new) ≡ size (P.region memory.old) }
     ensures keeps_fuse { KeepsFuse (λ limit. size (P.region memory.old) ≤ limit) (P.fuse memory.old) (P.fuse memory.new) }
+    // Whatever a stop leaves: recovery finds what is held, or it with the file's new size, without faults.
+    ensures any_stop { (held : Store) (h : Held) → ShowsRow (P.region memory.old) sup.now held h row.old free.old → NothingPending (P.region memory.old) (P.may_hold memory.old)
+        → LeavesOnly (P.region memory.new) (P.may_hold memory.new) (LeavesEither (P.region memory.old) (fixed_layout sup.now) held (Resized (P.region memory.old) sup.now free.old row.old attributes)) }
 {
     let first = attributes.size.div_ceil(BLOCK_SIZE);
     let end = row.numbers.size.div_ceil(BLOCK_SIZE);

@@ -7,8 +7,13 @@ ghost use Rattle.nv_region.specs.Fuses.{KeepsFuse};
 ghost use Rattle.nv_alloc.specs.Taking.{HasBlock};
 ghost use Rattle.nv_bytes.specs.Bytes.{byte_after, file_byte, LieInside};
 ghost use Rattle.nv_bytes.specs.Storing.{AreFresh, InBlocks};
-ghost use Rattle.nv_region.specs.Stops.{NothingPending};
+ghost use Rattle.nv_region.specs.Stops.{LeavesOnly, NothingPending};
 ghost use Rattle.nv_super.specs.declared.superblock.Super.{Super};
+ghost use Rattle.nv_super.specs.Layout.{fixed_layout};
+ghost use Rattle.nv_held.specs.Held.{Held, Store};
+ghost use Rattle.nv_held.specs.Blocks.{IsUnowned};
+ghost use Rattle.nv_commit.specs.Extends.{CanExtend};
+ghost use Rattle.nv_commit.specs.Stopped.{LeavesEither};
 ghost use Rattle.nv_logpage.specs.Append.{CanAppend, end_of};
 ghost use Rattle.nv_steps.specs.Written.{AreSmall, Commits, HoldEntries, entry_blocks};
 
@@ -76,6 +81,10 @@ pub(crate) fn commit_data<P: Pmem>(
     ensures stopped { (P.fuse memory.old).has_burnt ≡ false → is_err result ≡ (P.fuse memory.new).has_burnt }
     ensures length { size (P.region memory.new) ≡ size (P.region memory.old) }
     ensures keeps_fuse { KeepsFuse (λ limit. size (P.region memory.old) ≤ limit) (P.fuse memory.old) (P.fuse memory.new) }
+    // What a stop leaves, at any exit: the data are stored where nothing is read from, and count once the tail has moved.
+    ensures any_stop { (s : Super) (held : Store) (inode : ℕ) (h : Held) → CanExtend (P.region memory.old) s held inode h slot tail log.now.entries.items log.now.fresh.items → ((b : ℕ) → HasBlock (entry_blocks log.now.entries.items) b → IsUnowned (fixed_layout s) held b)
+        → NothingPending (P.region memory.old) (P.may_hold memory.old) → LeavesOnly (P.region memory.new) (P.may_hold memory.new) (LeavesEither (P.region memory.old) (fixed_layout s) held
+        (λ S. Commits (P.region memory.old) S s inode slot tail (byte_after change.now.offset change.now.bytes.now change.now.size (file_byte (P.region memory.old) index.now)) log.now.entries.items log.now.fresh.items)) }
 {
     store_data(memory, index, &log.entries, change)?;
     extend_log(memory, slot, tail, &log.entries, &log.fresh)

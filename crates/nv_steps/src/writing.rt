@@ -1,15 +1,19 @@
 //! New bytes of a file, by its row: all growths first, then the commit, then the row and the free lists.
 
 ghost use Rattle.std.specs.Prelude.{◌≡◌, ◌<◌, ◌≤◌, ◌+◌, ℕ, Result, length, IsTrue, IfErr, OnOk};
+ghost use Rattle.nv_super.specs.Layout.{fixed_layout};
 ghost use Rattle.nv_region.specs.Region.{size};
-ghost use Rattle.nv_region.specs.Stops.{NothingPending};
+ghost use Rattle.nv_region.specs.Stops.{LeavesOnly, NothingPending};
 ghost use Rattle.nv_region.specs.Fuses.{KeepsFuse};
 ghost use Rattle.nv_super.specs.declared.kind.Kind.{Kind as KindValue};
 ghost use Rattle.nv_alloc.specs.Taking.{all_blocks};
 ghost use Rattle.nv_radix.specs.Pages.{block_at};
+ghost use Rattle.nv_held.specs.Held.{Held, Store};
+ghost use Rattle.nv_commit.specs.Stopped.{LeavesEither};
 ghost use Rattle.nv_tree.specs.declared.refusal.Refusal.{Refusal as RefusalValue};
 ghost use Rattle.nv_steps.specs.Grown.{StandsRight};
-ghost use Rattle.nv_steps.specs.Steps.{LeavesStep};
+ghost use Rattle.nv_steps.specs.Steps.{LeavesStep, ShowsRow};
+ghost use Rattle.nv_steps.specs.Stopped.{Wrote};
 ghost use Rattle.nv_steps.specs.Writes.{NeedsBlocks, plan_of};
 ghost use Rattle.nv_steps.specs.Written.{FileStands, RefusesWrite, WritesFile};
 
@@ -59,6 +63,9 @@ pub fn change_bytes<P: Pmem>(
     ensures lists { free.new.sup ≡ free.old.sup }
     ensures length { size (P.region memory.new) ≡ size (P.region memory.old) }
     ensures keeps_fuse { KeepsFuse (λ limit. size (P.region memory.old) ≤ limit) (P.fuse memory.old) (P.fuse memory.new) }
+    // What a stop leaves, at any exit.
+    ensures any_stop { (held : Store) (h : Held) → ShowsRow (P.region memory.old) sup.now held h row.old free.old → NothingPending (P.region memory.old) (P.may_hold memory.old)
+        → LeavesOnly (P.region memory.new) (P.may_hold memory.new) (LeavesEither (P.region memory.old) (fixed_layout sup.now) held (Wrote (P.region memory.old) sup.now free.old cpu plan.now change.now.offset change.now.bytes.now row.old)) }
 {
     let ready = match prepare_data(alloc, free, cpu, row, plan) {
         Ok(ready) => ready,

@@ -7,8 +7,8 @@ use Rattle.nv_region.proofs.Stops.{refused_leaves}
 use Rattle.nv_region.proofs.Wordwise.{fenced_stores, stores_more, stores_within}
 use Rattle.nv_logpage.specs.Append.{AppendWords}
 use Rattle.nv_held.specs.Appended.{Appends}
-use Rattle.nv_commit.specs.Extends.{BeforeOrExtended, ExtendWords, ShowsMoved, with_log}
-use Rattle.nv_commit.proofs.Extends.{left_before, once_committed, put_after, sound_before}
+use Rattle.nv_commit.specs.Extends.{BeforeOrExtended, ExtendWords, LooseOrExtended, ShowsMoved, with_log}
+use Rattle.nv_commit.proofs.Extends.{left_before, loose_left, once_committed, put_after, sound_before, then_committed}
 use Rattle.nv_commit.proofs.extending.extend_log.Goals as goal
 
 pub returns-in_err-end-clause-reads : goal.returns-in_err-end-clause-reads
@@ -96,3 +96,21 @@ returns-clause-settled g c = c.in_ok-commit_word.ensures.settled
 
 pub returns-clause-stopped : goal.returns-clause-stopped
 returns-clause-stopped g c = sym (ap is_err c.in_ok-commit_word.was) ∙ c.commit_word.ensures.stopped
+
+pub returns-in_err-end-clause-loose_stop : goal.returns-in_err-end-clause-loose_stop
+returns-in_err-end-clause-loose_stop g c s held i h can pending =
+    loose_left can _ _ _ c.append_entries.ensures.wrote pending
+
+pub returns-in_err-fence-clause-loose_stop : goal.returns-in_err-fence-clause-loose_stop
+returns-in_err-fence-clause-loose_stop g c s held i h can pending =
+    refused_leaves _ _ _ _ (LooseOrExtended (g.P.Pmem.region c.args.memory.now) s held i h c.args.slot c.args.tail c.args.entries.now c.args.fresh.now) c.fence.ensures.same c.in_err-fence.ensures.refused_keep (loose_left can _ _ _ c.append_entries.ensures.wrote pending)
+
+pub returns-in_err-commit_word-clause-loose_stop : goal.returns-in_err-commit_word-clause-loose_stop
+returns-in_err-commit_word-clause-loose_stop g c s held i h can pending left may =
+    let appends : Appends (g.P.Pmem.region c.args.memory.now) (g.P.Pmem.region c.fence.new.self) c.args.tail c.in_ok-end.end c.args.entries.now c.args.fresh.now = subst (λ (X : Region). Appends (g.P.Pmem.region c.args.memory.now) X c.args.tail c.in_ok-end.end c.args.entries.now c.args.fresh.now) (sym c.in_ok-fence.ensures.same) c.in_ok-end.ensures.appends in
+    then_committed can (g.P.Pmem.region c.fence.new.self) c.in_ok-end.end c.in_ok-end.ensures.end appends c.requires.whole c.requires.inside c.len-length.ensures.short left (c.commit_word.ensures.any_stop c.in_ok-fence.ensures.fenced left may)
+
+pub returns-clause-loose_stop : goal.returns-clause-loose_stop
+returns-clause-loose_stop g c s held i h can pending left may =
+    let appends : Appends (g.P.Pmem.region c.args.memory.now) (g.P.Pmem.region c.fence.new.self) c.args.tail c.in_ok-end.end c.args.entries.now c.args.fresh.now = subst (λ (X : Region). Appends (g.P.Pmem.region c.args.memory.now) X c.args.tail c.in_ok-end.end c.args.entries.now c.args.fresh.now) (sym c.in_ok-fence.ensures.same) c.in_ok-end.ensures.appends in
+    then_committed can (g.P.Pmem.region c.fence.new.self) c.in_ok-end.end c.in_ok-end.ensures.end appends c.requires.whole c.requires.inside c.len-length.ensures.short left (c.commit_word.ensures.any_stop c.in_ok-fence.ensures.fenced left may)

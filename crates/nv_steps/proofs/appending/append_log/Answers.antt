@@ -2,9 +2,12 @@ use Rattle.std.proofs.Common.{◌++◌, ◌∙◌, List, ℕ, ap, inl, inr, leng
 use Rattle.smallvec.specs.SmallVec.{HasRoomFor}
 use Rattle.nv_region.proofs.Fuses.{keeps_within}
 use Rattle.nv_held.proofs.BytesKept.{mixed_size}
+use Rattle.nv_commit.proofs.Left.{still}
+use Rattle.nv_steps.specs.Stopped.{Appended}
 use Rattle.nv_steps.proofs.LogGrows.{appends_log, can_append, stores_within_region}
 use Rattle.nv_steps.proofs.NumbersOwed.{slot_word_inside, slot_word_whole}
 use Rattle.nv_steps.proofs.Refusals.{no_space, memory_goes_on, no_space_goes_on}
+use Rattle.nv_steps.proofs.Stopped.{left_log}
 use Rattle.nv_steps.proofs.TakenBlocks.{taken_sup}
 use Rattle.nv_steps.proofs.appending.append_log.Goals as goal
 
@@ -169,3 +172,19 @@ returns-in-Err-Memory-clause-stopped g c = λ is. absurd (memory_goes_on is)
 
 pub extend_log-requires-clause-whole : goal.extend_log-requires-clause-whole
 extend_log-requires-clause-whole g c = slot_word_whole c.slot_address-slot.result _ c.slot_address-slot.ensures c.requires.stands.whole
+
+pub returns-in-Err-NoSpace-clause-any_stop : goal.returns-in-Err-NoSpace-clause-any_stop
+returns-in-Err-NoSpace-clause-any_stop g c held h shows some settled = still _ _ c.args.sup.now held (Appended (g.P.Pmem.region c.args.memory.now) c.args.sup.now c.args.free.now c.args.row.now c.args.entries.now) shows.sound settled
+
+pub returns-in-Err-Memory-clause-any_stop : goal.returns-in-Err-Memory-clause-any_stop
+returns-in-Err-Memory-clause-any_stop g c held h shows some settled = still _ _ c.args.sup.now held (Appended (g.P.Pmem.region c.args.memory.now) c.args.sup.now c.args.free.now c.args.row.now c.args.entries.now) shows.sound settled
+
+pub returns-in-Ok-extend_log-clause-any_stop : goal.returns-in-Ok-extend_log-clause-any_stop
+returns-in-Ok-extend_log-clause-any_stop g c held h shows some settled =
+    left_log c.args.entries.now c.in-Ok.fresh.items c.deref.result.now c.slot_address-slot.result c.deref.ensures.value c.slot_address-slot.ensures shows c.requires.stands.lists c.in-Ok.ensures.taken c.in-Ok.ensures.count c.requires.given some
+    _ _ _ c.extend_log.ensures.wrote settled (c.extend_log.ensures.any_stop c.args.sup.now held c.args.row.now.inode h)
+
+pub returns-clause-any_stop : goal.returns-clause-any_stop
+returns-clause-any_stop g c held h shows some settled =
+    left_log c.args.entries.now c.in-Ok.fresh.items c.deref.result.now c.slot_address-slot.result c.deref.ensures.value c.slot_address-slot.ensures shows c.requires.stands.lists c.in-Ok.ensures.taken c.in-Ok.ensures.count c.requires.given some
+    _ _ _ c.extend_log.ensures.wrote settled (c.extend_log.ensures.any_stop c.args.sup.now held c.args.row.now.inode h)

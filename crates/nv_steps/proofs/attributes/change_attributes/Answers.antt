@@ -1,4 +1,4 @@
-use Rattle.std.proofs.Common.{◌≡◌, ◌%◌, [], ◌∷◌, refl, IsTrue}
+use Rattle.std.proofs.Common.{◌≡◌, ◌%◌, [], ◌∷◌, refl, IsTrue, arith}
 use Rattle.std.proofs.lemmas.Result.{IfOk-from_err, err_from_is_err_and}
 use Rattle.nv_entry.specs.declared.entry.Entry.TheVariants.{Attr}
 use Rattle.nv_logpage.specs.Append.{needed}
@@ -7,6 +7,7 @@ use Rattle.nv_tree.specs.declared.refusal.Refusal.TheVariants.{Stopped}
 use Rattle.nv_tree.proofs.Replies.{refused_by}
 use Rattle.nv_steps.specs.Steps.{LeavesStep, RefusesStep}
 use Rattle.nv_steps.proofs.Attributed.{attributes_follow, has_attributes}
+use Rattle.nv_steps.proofs.Stopped.{left_attributes}
 use Rattle.nv_steps.proofs.attributes.change_attributes.Goals as goal
 
 pub returns-clause-log : goal.returns-clause-log
@@ -89,3 +90,11 @@ returns-clause-length g c = c.in_ok-append_log.ensures.length
 
 pub returns-clause-keeps_fuse : goal.returns-clause-keeps_fuse
 returns-clause-keeps_fuse g c = c.in_ok-append_log.ensures.keeps_fuse
+
+pub returns-in_err-append_log-clause-any_stop : goal.returns-in_err-append_log-clause-any_stop
+returns-in_err-append_log-clause-any_stop g c held h shows settled left may =
+    left_attributes c.args.attributes c.requires.stands.lists c.requires.mode c.requires.size left (c.in_err-append_log.ensures.any_stop held h shows (omega arith) settled left may)
+
+pub returns-clause-any_stop : goal.returns-clause-any_stop
+returns-clause-any_stop g c held h shows settled left may =
+    left_attributes c.args.attributes c.requires.stands.lists c.requires.mode c.requires.size left (c.in_ok-append_log.ensures.any_stop held h shows (omega arith) settled left may)

@@ -3,7 +3,10 @@ use Rattle.std.proofs.lemmas.Result.{IfOk-from_err}
 use Rattle.nv_region.proofs.Fuses.{keeps_more, keeps_within}
 use Rattle.nv_logpage.specs.Append.{EndBy}
 use Rattle.nv_held.proofs.BytesKept.{mixed_size}
+use Rattle.nv_region.specs.Region.{Region}
+use Rattle.nv_steps.specs.Sizes.{CopiesEnd}
 use Rattle.nv_steps.proofs.CopiedEnd.{copies_end}
+use Rattle.nv_steps.proofs.CopyStops.{end_left, page_left}
 use Rattle.nv_steps.proofs.copying.copy_end.Goals as goal
 
 pub returns-clause-copies : goal.returns-clause-copies
@@ -72,3 +75,11 @@ returns-in_err-copy_page-clause-length g c = mixed_size c.copy_page.ensures.wrot
 
 pub returns-in_err-copy_page-clause-keeps_fuse : goal.returns-in_err-copy_page-clause-keeps_fuse
 returns-in_err-copy_page-clause-keeps_fuse g c = keeps_within (λ limit past. omega (arith, past, c.requires.to)) c.copy_page.ensures.keeps_fuse
+
+pub returns-in_err-copy_page-clause-any_stop : goal.returns-in_err-copy_page-clause-any_stop
+returns-in_err-copy_page-clause-any_stop g c s held i h can free settled =
+    page_left c.args.from c.args.to c.args.bytes can free _ settled _ _ (λ (S : Region). CopiesEnd (g.P.Pmem.region c.args.memory.now) S c.args.from c.args.to c.args.bytes c.args.log.now.slot c.args.log.now.tail c.args.log.now.entries.now c.args.log.now.fresh.now) c.copy_page.ensures.wrote
+
+pub returns-clause-any_stop : goal.returns-clause-any_stop
+returns-clause-any_stop g c s held i h can free settled =
+    end_left c.args.from c.args.to c.args.bytes can free _ settled _ c.copy_page.ensures.wrote c.in_ok-copy_page.ensures.stored _ _ (λ there pending. c.extend_log.ensures.loose_stop s held i h there pending)

@@ -1,5 +1,8 @@
 use Rattle.std.proofs.Common.{◌++◌, ◌∙◌, List, ℕ, ap, arith, refl, inl, inr}
+use Rattle.nv_commit.proofs.Left.{still}
+use Rattle.nv_steps.specs.Stopped.{Resized}
 use Rattle.nv_steps.proofs.CopiedEnd.{copy_resizes}
+use Rattle.nv_steps.proofs.CopyStops.{left_copied}
 use Rattle.nv_steps.proofs.CopyOwed.{copies_as, copy_appends, end_ready, ends_as, from_joins, numbered, to_differs, to_inside}
 use Rattle.nv_steps.proofs.Refusals.{memory_goes_on, no_space_goes_on}
 use Rattle.nv_steps.proofs.TakenBlocks.{taken_sup}
@@ -35,7 +38,7 @@ returns-in-Ok-copy_end-clause-resized g c =
       pages = settled.pages ∙ ap (λ (pages : List ℕ). pages ++ c.deref-in-Ok-copy_end.result.now) c.in-Ok.ensures.pages ∙ ap (λ (more : List ℕ). c.args.row.now.pages.items ++ more) c.deref-in-Ok-copy_end.ensures.value;
       index = settled.index;
       names = settled.names;
-    }) c.give_block.ensures.given (record { has = numbered c.numbers_with-row.ensures; head = refl; tail = refl; pages = refl }) c.set_run.ensures.blocks
+    }) (record { has = numbered c.numbers_with-row.ensures; head = refl; tail = refl; pages = refl }) c.set_run.ensures.blocks c.give_block.ensures.given
 
 pub returns-in-Ok-copy_end-clause-lists : goal.returns-in-Ok-copy_end-clause-lists
 returns-in-Ok-copy_end-clause-lists g c = c.give_block.ensures.lists ∙ taken_sup c.in-Ok.ensures.taken
@@ -150,3 +153,19 @@ returns-in-Err-NoSpace-clause-stopped g c = λ is. absurd (no_space_goes_on is)
 
 pub returns-in-Err-Memory-clause-stopped : goal.returns-in-Err-Memory-clause-stopped
 returns-in-Err-Memory-clause-stopped g c = λ is. absurd (memory_goes_on is)
+
+pub returns-in-Err-NoSpace-clause-any_stop : goal.returns-in-Err-NoSpace-clause-any_stop
+returns-in-Err-NoSpace-clause-any_stop g c held h shows settled = still _ _ c.args.sup.now held (Resized (g.P.Pmem.region c.args.memory.now) c.args.sup.now c.args.free.now c.args.row.now c.args.attributes) shows.sound settled
+
+pub returns-in-Err-Memory-clause-any_stop : goal.returns-in-Err-Memory-clause-any_stop
+returns-in-Err-Memory-clause-any_stop g c held h shows settled = still _ _ c.args.sup.now held (Resized (g.P.Pmem.region c.args.memory.now) c.args.sup.now c.args.free.now c.args.row.now c.args.attributes) shows.sound settled
+
+pub returns-in-Ok-copy_end-clause-any_stop : goal.returns-in-Ok-copy_end-clause-any_stop
+returns-in-Ok-copy_end-clause-any_stop g c held h shows settled =
+    left_copied c.args.attributes c.requires.can c.args.from _ c.requires.ends c.in-Ok.ensures.taken (let count = c.in-Ok.ensures.count in omega (arith, count)) shows c.slot_address-slot.ensures c.copy_entries-entries.ensures c.deref.ensures.value _ _
+    (λ can free. c.copy_end.ensures.any_stop c.args.sup.now held c.args.row.now.inode h can free settled)
+
+pub returns-clause-any_stop : goal.returns-clause-any_stop
+returns-clause-any_stop g c held h shows settled =
+    left_copied c.args.attributes c.requires.can c.args.from _ c.requires.ends c.in-Ok.ensures.taken (let count = c.in-Ok.ensures.count in omega (arith, count)) shows c.slot_address-slot.ensures c.copy_entries-entries.ensures c.deref.ensures.value _ _
+    (λ can free. c.copy_end.ensures.any_stop c.args.sup.now held c.args.row.now.inode h can free settled)

@@ -7,11 +7,13 @@ use Rattle.nv_held.proofs.BytesKept.{mixed_size}
 use Rattle.nv_tree.specs.declared.refusal.Refusal.{Refusal}
 use Rattle.nv_tree.specs.declared.refusal.Refusal.TheVariants.{Stopped}
 use Rattle.nv_tree.proofs.Replies.{refused_by}
+use Rattle.nv_commit.proofs.Left.{still}
+use Rattle.nv_steps.specs.Stopped.{AppendedBoth}
 use Rattle.nv_steps.specs.Steps.{LeavesStep, RefusesStep}
 use Rattle.nv_names.specs.Names.{Names}
 use Rattle.nv_region.proofs.Fuses.{keeps_within}
 use Rattle.nv_super.specs.declared.superblock.Super.{Super}
-use Rattle.nv_steps.proofs.AppendedLogs.{appends_logs, both_within, count_is, first_commits, first_room, second_commits, second_room}
+use Rattle.nv_steps.proofs.AppendedLogs.{appends_logs, both_within, count_is, first_commits, first_room, left_logs, second_commits, second_room}
 use Rattle.nv_steps.proofs.TakenBlocks.{taken_sup}
 use Rattle.nv_steps.proofs.growing.append_logs.Goals as goal
 
@@ -190,3 +192,24 @@ returns-in_err-blocks-clause-settled g c = IfOk-from_err c.from_residual.result 
 
 pub returns-in_err-blocks-clause-keeps_fuse : goal.returns-in_err-blocks-clause-keeps_fuse
 returns-in_err-blocks-clause-keeps_fuse g c = record { burnt = λ was. was; steady = λ was. was; stays_open = λ limit past was. was }
+
+pub returns-in_err-blocks-clause-any_stop : goal.returns-in_err-blocks-clause-any_stop
+returns-in_err-blocks-clause-any_stop g c held h k here there settled = still _ _ c.args.sup.now held (AppendedBoth (g.P.Pmem.region c.args.memory.now) c.args.sup.now c.args.free.now c.args.row.now c.args.first.now.entries.now c.args.other.now c.args.second.now.entries.now) here.sound settled
+
+pub returns-in_default-clause-any_stop : goal.returns-in_default-clause-any_stop
+returns-in_default-clause-any_stop g c held h k here there settled =
+    let ready = c.in_ok-blocks.ensures.ready in
+    let count = count_is ready c.in_ok-blocks.ensures.other_ready c.requires.stands c.requires.other_stands c.in_ok-blocks.ensures.taken c.in_ok-blocks.ensures.count c.requires.apart c.requires.given.0 c.requires.more_given.0 c.requires.given.1 c.requires.more_given.1 c.blocks_for-count.result c.blocks_for-count.ensures in
+    let front = c.split_at.ensures.front ∙ ap (λ (bs : List ℕ). take c.blocks_for-count.result bs) c.deref.ensures.value ∙ ap (λ (m : ℕ). take m c.in_ok-blocks.blocks.items) count in
+    let back = c.split_at.ensures.back ∙ ap (λ (bs : List ℕ). drop c.blocks_for-count.result bs) c.deref.ensures.value ∙ ap (λ (m : ℕ). drop m c.in_ok-blocks.blocks.items) count in
+    left_logs ready c.in_ok-blocks.ensures.other_ready c.requires.stands c.requires.other_stands c.in_ok-blocks.ensures.taken c.in_ok-blocks.ensures.count c.requires.apart c.requires.given.0 c.requires.more_given.0 c.requires.given.1 c.requires.more_given.1 c.extension-one.result c.extension-two.result c.extension-one.ensures.slot c.extension-one.ensures.tail c.extension-one.ensures.entries (c.extension-one.ensures.fresh ∙ front) c.extension-two.ensures.slot c.extension-two.ensures.tail c.extension-two.ensures.entries (c.extension-two.ensures.fresh ∙ back)
+    here there _ _ _ c.extend_two.ensures.wrote settled (λ a b f e can pending. c.extend_two.ensures.any_stop c.args.sup.now held a b f e can pending)
+
+pub returns-clause-any_stop : goal.returns-clause-any_stop
+returns-clause-any_stop g c held h k here there settled =
+    let ready = c.in_ok-blocks.ensures.ready in
+    let count = count_is ready c.in_ok-blocks.ensures.other_ready c.requires.stands c.requires.other_stands c.in_ok-blocks.ensures.taken c.in_ok-blocks.ensures.count c.requires.apart c.requires.given.0 c.requires.more_given.0 c.requires.given.1 c.requires.more_given.1 c.blocks_for-count.result c.blocks_for-count.ensures in
+    let front = c.split_at.ensures.front ∙ ap (λ (bs : List ℕ). take c.blocks_for-count.result bs) c.deref.ensures.value ∙ ap (λ (m : ℕ). take m c.in_ok-blocks.blocks.items) count in
+    let back = c.split_at.ensures.back ∙ ap (λ (bs : List ℕ). drop c.blocks_for-count.result bs) c.deref.ensures.value ∙ ap (λ (m : ℕ). drop m c.in_ok-blocks.blocks.items) count in
+    left_logs ready c.in_ok-blocks.ensures.other_ready c.requires.stands c.requires.other_stands c.in_ok-blocks.ensures.taken c.in_ok-blocks.ensures.count c.requires.apart c.requires.given.0 c.requires.more_given.0 c.requires.given.1 c.requires.more_given.1 c.extension-one.result c.extension-two.result c.extension-one.ensures.slot c.extension-one.ensures.tail c.extension-one.ensures.entries (c.extension-one.ensures.fresh ∙ front) c.extension-two.ensures.slot c.extension-two.ensures.tail c.extension-two.ensures.entries (c.extension-two.ensures.fresh ∙ back)
+    here there _ _ _ c.extend_two.ensures.wrote settled (λ a b f e can pending. c.extend_two.ensures.any_stop c.args.sup.now held a b f e can pending)

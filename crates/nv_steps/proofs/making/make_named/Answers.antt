@@ -15,7 +15,9 @@ use Rattle.nv_tree.proofs.Replies.{refused_by}
 use Rattle.nv_steps.specs.NameEntries.{name_entries}
 use Rattle.nv_steps.specs.Steps.{LeavesStep, RefusesStep}
 use Rattle.nv_steps.proofs.AppendedLogs.{needed_one}
-use Rattle.nv_steps.proofs.MadeNamed.{all_others, begins, commits, first_is, makes_named, makes_within, place_is}
+use Rattle.nv_commit.proofs.Left.{still}
+use Rattle.nv_steps.specs.Stopped.{Named}
+use Rattle.nv_steps.proofs.MadeNamed.{all_others, begins, commits, first_is, left_named, makes_named, makes_within, place_is}
 use Rattle.nv_steps.proofs.NumbersOwed.{ends_behind, has_one, number_below, others_fit}
 use Rattle.nv_steps.proofs.TakenBlocks.{taken_sup}
 use Rattle.nv_steps.proofs.making.make_named.Goals as goal
@@ -183,3 +185,23 @@ returns-in_err-blocks-clause-settled g c = IfOk-from_err c.from_residual.result 
 
 pub returns-in_err-blocks-clause-keeps_fuse : goal.returns-in_err-blocks-clause-keeps_fuse
 returns-in_err-blocks-clause-keeps_fuse g c = record { burnt = λ was. was; steady = λ was. was; stays_open = λ limit past was. was }
+
+pub returns-in_err-blocks-clause-any_stop : goal.returns-in_err-blocks-clause-any_stop
+returns-in_err-blocks-clause-any_stop g c held h shows out absent settled =
+    still _ _ c.args.sup.now held (Named (g.P.Pmem.region c.args.memory.now) c.args.sup.now c.args.free.now c.args.directory.now c.args.new.now.kind c.args.new.now.mode c.args.new.now.time c.args.new.now.inode c.args.new.now.name.now) shows.sound settled
+
+pub returns-in_default-clause-any_stop : goal.returns-in_default-clause-any_stop
+returns-in_default-clause-any_stop g c held h shows out absent settled =
+    let count : length c.in_ok-blocks.blocks.items ≡ 1 + needed (c.args.directory.now.tail % 4096) (name_entries Add c.args.new.now.inode c.args.new.now.name.now c.args.new.now.time) = c.in_ok-blocks.ensures.count ∙ ap (λ (e : Entry). 1 + needed (c.args.directory.now.tail % 4096) (e ∷ [])) c.name_entry.ensures in
+    let blocks = all_others c.deref.result.now (length c.deref.result.now) refl ∙ ap (drop 1) c.deref.ensures.value in
+    left_named c.requires.stands c.requires.can c.in_ok-blocks.ensures.taken c.args.new.now.name.now c.args.new.now.time count c.in_ok-blocks.ensures.row _ c.slot_address-2.ensures refl (ap (λ (e : Entry). e ∷ []) c.name_entry.ensures) blocks c.args.new.now.kind c.args.new.now.mode _ c.slot_address.ensures refl refl
+    (first_is c.in_ok-blocks.blocks.items _ c.index.result.now count c.index.ensures) c.first_attributes.ensures shows out c.in_ok-blocks.ensures.once absent _ _ _ c.make_inode.ensures.wrote settled
+    (c.make_inode.ensures.any_stop c.args.sup.now held c.args.new.now.inode c.prepare_name.new.directory.inode h)
+
+pub returns-clause-any_stop : goal.returns-clause-any_stop
+returns-clause-any_stop g c held h shows out absent settled =
+    let count : length c.in_ok-blocks.blocks.items ≡ 1 + needed (c.args.directory.now.tail % 4096) (name_entries Add c.args.new.now.inode c.args.new.now.name.now c.args.new.now.time) = c.in_ok-blocks.ensures.count ∙ ap (λ (e : Entry). 1 + needed (c.args.directory.now.tail % 4096) (e ∷ [])) c.name_entry.ensures in
+    let blocks = all_others c.deref.result.now (length c.deref.result.now) refl ∙ ap (drop 1) c.deref.ensures.value in
+    left_named c.requires.stands c.requires.can c.in_ok-blocks.ensures.taken c.args.new.now.name.now c.args.new.now.time count c.in_ok-blocks.ensures.row _ c.slot_address-2.ensures refl (ap (λ (e : Entry). e ∷ []) c.name_entry.ensures) blocks c.args.new.now.kind c.args.new.now.mode _ c.slot_address.ensures refl refl
+    (first_is c.in_ok-blocks.blocks.items _ c.index.result.now count c.index.ensures) c.first_attributes.ensures shows out c.in_ok-blocks.ensures.once absent _ _ _ c.make_inode.ensures.wrote settled
+    (c.make_inode.ensures.any_stop c.args.sup.now held c.args.new.now.inode c.prepare_name.new.directory.inode h)

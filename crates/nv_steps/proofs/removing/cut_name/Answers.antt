@@ -16,7 +16,9 @@ use Rattle.nv_tree.specs.declared.refusal.Refusal.TheVariants.{Stopped}
 use Rattle.nv_tree.proofs.Replies.{refused_by}
 use Rattle.nv_steps.specs.NameEntries.{name_entries}
 use Rattle.nv_steps.specs.Steps.{LeavesStep, RefusesStep}
-use Rattle.nv_steps.proofs.CutNames.{commits, cuts_name, cuts_within, slot_behind, slot_inside, slot_whole}
+use Rattle.nv_commit.proofs.Left.{still}
+use Rattle.nv_steps.specs.Stopped.{Cut}
+use Rattle.nv_steps.proofs.CutNames.{commits, cuts_name, cuts_within, left_cut, slot_behind, slot_inside, slot_whole}
 use Rattle.nv_steps.proofs.NumbersOwed.{number_below}
 use Rattle.nv_steps.proofs.TakenBlocks.{taken_sup}
 use Rattle.nv_steps.proofs.removing.cut_name.Goals as goal
@@ -179,3 +181,21 @@ returns-in_err-fresh-clause-settled g c = IfOk-from_err c.from_residual.result _
 
 pub returns-in_err-fresh-clause-keeps_fuse : goal.returns-in_err-fresh-clause-keeps_fuse
 returns-in_err-fresh-clause-keeps_fuse g c = record { burnt = λ was. was; steady = λ was. was; stays_open = λ limit past was. was }
+
+pub returns-in_err-fresh-clause-any_stop : goal.returns-in_err-fresh-clause-any_stop
+returns-in_err-fresh-clause-any_stop g c held h shows settled =
+    still _ _ c.args.sup.now held (Cut (g.P.Pmem.region c.args.memory.now) c.args.sup.now c.args.free.now c.args.directory.now c.args.gone.now.inode c.args.gone.now.time c.args.gone.now.name.now) shows.sound settled
+
+pub returns-in_default-clause-any_stop : goal.returns-in_default-clause-any_stop
+returns-in_default-clause-any_stop g c held h shows settled =
+    let count : length c.in_ok-fresh.fresh.items ≡ needed (c.args.directory.now.tail % 4096) (name_entries Remove c.args.gone.now.inode c.args.gone.now.name.now c.args.gone.now.time) = c.in_ok-fresh.ensures.count ∙ ap (λ (e : Entry). needed (c.args.directory.now.tail % 4096) (e ∷ [])) c.name_entry.ensures in
+    left_cut c.requires.stands c.requires.can c.in_ok-fresh.ensures.taken c.args.gone.now.name.now c.args.gone.now.time count c.in_ok-fresh.ensures.row _ c.slot_address.ensures refl (ap (λ (e : Entry). e ∷ []) c.name_entry.ensures) c.deref.ensures.value
+    c.slot_address-2.result c.slot_address-2.ensures c.requires.differ shows c.in_ok-fresh.ensures.once _ _ _ c.remove_inode.ensures.wrote settled
+    (λ can pending. c.remove_inode.ensures.any_stop c.args.sup.now held c.prepare_cut.new.directory.inode c.args.gone.now.inode h can pending)
+
+pub returns-clause-any_stop : goal.returns-clause-any_stop
+returns-clause-any_stop g c held h shows settled =
+    let count : length c.in_ok-fresh.fresh.items ≡ needed (c.args.directory.now.tail % 4096) (name_entries Remove c.args.gone.now.inode c.args.gone.now.name.now c.args.gone.now.time) = c.in_ok-fresh.ensures.count ∙ ap (λ (e : Entry). needed (c.args.directory.now.tail % 4096) (e ∷ [])) c.name_entry.ensures in
+    left_cut c.requires.stands c.requires.can c.in_ok-fresh.ensures.taken c.args.gone.now.name.now c.args.gone.now.time count c.in_ok-fresh.ensures.row _ c.slot_address.ensures refl (ap (λ (e : Entry). e ∷ []) c.name_entry.ensures) c.deref.ensures.value
+    c.slot_address-2.result c.slot_address-2.ensures c.requires.differ shows c.in_ok-fresh.ensures.once _ _ _ c.remove_inode.ensures.wrote settled
+    (λ can pending. c.remove_inode.ensures.any_stop c.args.sup.now held c.prepare_cut.new.directory.inode c.args.gone.now.inode h can pending)

@@ -1,4 +1,5 @@
 use Rattle.std.proofs.Common.{◌∙◌, ◌+◌, ◌%◌, ◌∷◌, [], ap, subst, ◌≡◌, ◌≤◌, length, sym, refl, IsTrue}
+use Rattle.nv_super.specs.Layout.{fixed_layout}
 use Rattle.std.proofs.lemmas.Result.{err_from_is_err_and, IfOk-from_err}
 use Rattle.nv_entry.specs.declared.entry.Entry.{Entry}
 use Rattle.nv_entry.specs.declared.entry.Operation.TheVariants.{Add, Remove}
@@ -10,9 +11,11 @@ use Rattle.nv_tree.specs.declared.refusal.Refusal.TheVariants.{Stopped}
 use Rattle.nv_tree.specs.declared.refusal.Refusal.{Refusal}
 use Rattle.nv_steps.specs.MoreNames.{AppendsLogs}
 use Rattle.nv_steps.specs.NameEntries.{name_entries}
+use Rattle.nv_commit.specs.Stopped.{LeavesEither}
+use Rattle.nv_steps.specs.Stopped.{AppendedBoth}
 use Rattle.nv_steps.specs.Steps.{LeavesStep, RefusesStep}
 use Rattle.nv_tree.proofs.Replies.{refused_by}
-use Rattle.nv_steps.proofs.MovedAt.{moves_both}
+use Rattle.nv_steps.proofs.MovedAt.{left_over, moves_both}
 use Rattle.nv_steps.proofs.renaming.move_both.Goals as goal
 
 pub returns-in_err-append_logs-clause-refused : goal.returns-in_err-append_logs-clause-refused
@@ -115,3 +118,17 @@ name_entry-requires g c = record { some = c.requires.name.some; fits = c.require
 
 pub name_entry-requires-2 : goal.name_entry-requires-2
 name_entry-requires-2 g c = record { some = c.requires.other.some; fits = c.requires.other.short }
+
+pub returns-in_err-append_logs-clause-any_stop : goal.returns-in_err-append_logs-clause-any_stop
+returns-in_err-append_logs-clause-any_stop g c held h k here there absent settled left may =
+    let both = c.append_logs.ensures.any_stop held h k here there settled left may in
+    let one = subst (λ (x : Entry). LeavesEither (g.P.Pmem.region c.args.memory.now) (fixed_layout c.args.sup.now) held (AppendedBoth (g.P.Pmem.region c.args.memory.now) c.args.sup.now c.args.free.now c.args.from.now (x ∷ []) c.args.to.now (c.name_entry-2.result ∷ [])) left) c.name_entry.ensures both in
+    left_over c.args.from.now c.args.to.now c.args.moved.now.inode c.args.moved.now.name.now c.args.moved.now.other.now c.args.moved.now.time absent left
+    (subst (λ (x : Entry). LeavesEither (g.P.Pmem.region c.args.memory.now) (fixed_layout c.args.sup.now) held (AppendedBoth (g.P.Pmem.region c.args.memory.now) c.args.sup.now c.args.free.now c.args.from.now (name_entries Remove c.args.moved.now.inode c.args.moved.now.name.now c.args.moved.now.time) c.args.to.now (x ∷ [])) left) c.name_entry-2.ensures one)
+
+pub returns-clause-any_stop : goal.returns-clause-any_stop
+returns-clause-any_stop g c held h k here there absent settled left may =
+    let both = c.append_logs.ensures.any_stop held h k here there settled left may in
+    let one = subst (λ (x : Entry). LeavesEither (g.P.Pmem.region c.args.memory.now) (fixed_layout c.args.sup.now) held (AppendedBoth (g.P.Pmem.region c.args.memory.now) c.args.sup.now c.args.free.now c.args.from.now (x ∷ []) c.args.to.now (c.name_entry-2.result ∷ [])) left) c.name_entry.ensures both in
+    left_over c.args.from.now c.args.to.now c.args.moved.now.inode c.args.moved.now.name.now c.args.moved.now.other.now c.args.moved.now.time absent left
+    (subst (λ (x : Entry). LeavesEither (g.P.Pmem.region c.args.memory.now) (fixed_layout c.args.sup.now) held (AppendedBoth (g.P.Pmem.region c.args.memory.now) c.args.sup.now c.args.free.now c.args.from.now (name_entries Remove c.args.moved.now.inode c.args.moved.now.name.now c.args.moved.now.time) c.args.to.now (x ∷ [])) left) c.name_entry-2.ensures one)

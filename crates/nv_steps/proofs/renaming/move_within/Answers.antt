@@ -1,4 +1,5 @@
-use Rattle.std.proofs.Common.{ℕ, ◌<◌, ◌∙◌, ◌∷◌, [], ap, refl, subst, ◌≡◌, ◌≤◌, ◌%◌, sym, IsTrue, inl, inr}
+use Rattle.std.proofs.Common.{ℕ, ◌<◌, ◌∙◌, ◌∷◌, [], ap, refl, subst, ◌≡◌, ◌≤◌, ◌%◌, sym, IsTrue, inl, inr, arith}
+use Rattle.nv_super.specs.Layout.{fixed_layout}
 use Rattle.std.proofs.lemmas.Result.{err_from_is_err_and, IfOk-from_err}
 use Rattle.nv_alloc.specs.Taking.{all_blocks}
 use Rattle.nv_logpage.specs.Append.{AreGiven, needed}
@@ -11,8 +12,11 @@ use Rattle.nv_entry.specs.declared.entry.Entry.TheVariants.{Name}
 use Rattle.nv_entry.specs.declared.entry.Operation.TheVariants.{Remove}
 use Rattle.nv_entry.specs.Spelling.{entry_length}
 use Rattle.nv_held.specs.nv_outcome.Same.{SameRow}
+use Rattle.nv_commit.specs.Stopped.{LeavesEither}
+use Rattle.nv_commit.proofs.Left.{still}
+use Rattle.nv_steps.specs.Stopped.{Appended, MovedHere}
 use Rattle.nv_steps.specs.Steps.{AppendsLog, RefusesStep}
-use Rattle.nv_steps.proofs.MovedRow.{moves_within}
+use Rattle.nv_steps.proofs.MovedRow.{left_here, moves_within, shows_same}
 use Rattle.nv_steps.proofs.renaming.move_within.Goals as goal
 
 pub returns-clause-moved : goal.returns-clause-moved
@@ -164,3 +168,43 @@ pub returns-then-not-are_enough-clause-refused : goal.returns-then-not-are_enoug
 returns-then-not-are_enough-clause-refused g c =
     let few = subst (λ (m : ℕ). all_blocks c.args.free.now.pools < m) c.pages_needed.ensures (c.are_enough.ensures.no c.if-not-are_enough.true) in
     inr (inr (refl, subst (λ (x : Entry). all_blocks c.args.free.now.pools < needed (c.args.directory.now.tail % 4096) (Name (record { operation = Remove; inode = c.args.moved.now.inode; time = c.args.moved.now.time; name = c.args.moved.now.name.now }) ∷ x ∷ [])) c.name_entry-2.ensures (subst (λ (x : Entry). all_blocks c.args.free.now.pools < needed (c.args.directory.now.tail % 4096) (x ∷ c.name_entry-2.result ∷ [])) c.name_entry.ensures few)))
+
+pub returns-then-not-are_enough-clause-any_stop : goal.returns-then-not-are_enough-clause-any_stop
+returns-then-not-are_enough-clause-any_stop g c held h shows absent settled = still _ _ c.args.sup.now held (MovedHere (g.P.Pmem.region c.args.memory.now) c.args.sup.now c.args.free.now c.args.directory.now c.args.moved.now.inode c.args.moved.now.name.now c.args.moved.now.other.now c.args.moved.now.time) shows.sound settled
+
+pub returns-then-is_err-clause-any_stop : goal.returns-then-is_err-clause-any_stop
+returns-then-is_err-clause-any_stop g c held h shows absent settled = still _ _ c.args.sup.now held (MovedHere (g.P.Pmem.region c.args.memory.now) c.args.sup.now c.args.free.now c.args.directory.now c.args.moved.now.inode c.args.moved.now.name.now c.args.moved.now.other.now c.args.moved.now.time) shows.sound settled
+
+pub returns-in_err-append_log-clause-any_stop : goal.returns-in_err-append_log-clause-any_stop
+returns-in_err-append_log-clause-any_stop g c held h shows absent settled left may =
+    let same : SameRow c.args.directory.now (record c.args.directory.now { names = c.reserve.new.self }) = record {
+      inode = refl;
+      kind = refl;
+      numbers = refl;
+      head = refl;
+      tail = refl;
+      pages = refl;
+      index = λ p. refl;
+      names = c.reserve.ensures.names;
+    } in
+    let there = c.append_log.ensures.any_stop held h (shows_same same shows) (omega arith) settled left may in
+    let one = subst (λ (x : Entry). LeavesEither (g.P.Pmem.region c.args.memory.now) (fixed_layout c.args.sup.now) held (Appended (g.P.Pmem.region c.args.memory.now) c.args.sup.now c.args.free.now (record c.args.directory.now { names = c.reserve.new.self }) (x ∷ c.name_entry-2.result ∷ [])) left) c.name_entry.ensures there in
+    left_here c.args.directory.now (record c.args.directory.now { names = c.reserve.new.self }) c.args.moved.now.inode c.args.moved.now.name.now c.args.moved.now.other.now c.args.moved.now.time same c.len-names.ensures.each_once absent left
+    (subst (λ (x : Entry). LeavesEither (g.P.Pmem.region c.args.memory.now) (fixed_layout c.args.sup.now) held (Appended (g.P.Pmem.region c.args.memory.now) c.args.sup.now c.args.free.now (record c.args.directory.now { names = c.reserve.new.self }) (Name (record { operation = Remove; inode = c.args.moved.now.inode; time = c.args.moved.now.time; name = c.args.moved.now.name.now }) ∷ x ∷ [])) left) c.name_entry-2.ensures one)
+
+pub returns-clause-any_stop : goal.returns-clause-any_stop
+returns-clause-any_stop g c held h shows absent settled left may =
+    let same : SameRow c.args.directory.now (record c.args.directory.now { names = c.reserve.new.self }) = record {
+      inode = refl;
+      kind = refl;
+      numbers = refl;
+      head = refl;
+      tail = refl;
+      pages = refl;
+      index = λ p. refl;
+      names = c.reserve.ensures.names;
+    } in
+    let there = c.append_log.ensures.any_stop held h (shows_same same shows) (omega arith) settled left may in
+    let one = subst (λ (x : Entry). LeavesEither (g.P.Pmem.region c.args.memory.now) (fixed_layout c.args.sup.now) held (Appended (g.P.Pmem.region c.args.memory.now) c.args.sup.now c.args.free.now (record c.args.directory.now { names = c.reserve.new.self }) (x ∷ c.name_entry-2.result ∷ [])) left) c.name_entry.ensures there in
+    left_here c.args.directory.now (record c.args.directory.now { names = c.reserve.new.self }) c.args.moved.now.inode c.args.moved.now.name.now c.args.moved.now.other.now c.args.moved.now.time same c.len-names.ensures.each_once absent left
+    (subst (λ (x : Entry). LeavesEither (g.P.Pmem.region c.args.memory.now) (fixed_layout c.args.sup.now) held (Appended (g.P.Pmem.region c.args.memory.now) c.args.sup.now c.args.free.now (record c.args.directory.now { names = c.reserve.new.self }) (Name (record { operation = Remove; inode = c.args.moved.now.inode; time = c.args.moved.now.time; name = c.args.moved.now.name.now }) ∷ x ∷ [])) left) c.name_entry-2.ensures one)

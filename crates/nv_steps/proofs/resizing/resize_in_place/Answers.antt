@@ -1,11 +1,14 @@
-use Rattle.std.proofs.Common.{refl, ◌≡◌, ◌<◌, subst, sym, IsTrue, inl}
+use Rattle.std.proofs.Common.{refl, ◌≡◌, ◌<◌, subst, sym, IsTrue, inl, arith}
 use Rattle.std.proofs.lemmas.Result.{err_from_is_err_and, IfOk-from_err}
 use Rattle.nv_super.specs.declared.superblock.Super.{Super}
 use Rattle.nv_tree.specs.declared.refusal.Refusal.{Refusal}
 use Rattle.nv_tree.specs.declared.refusal.Refusal.TheVariants.{Stopped}
 use Rattle.nv_tree.proofs.Replies.{refused_by}
+use Rattle.nv_commit.proofs.Left.{still}
+use Rattle.nv_steps.specs.Stopped.{Resized}
+use Rattle.nv_steps.specs.Taken.{SamePools}
 use Rattle.nv_steps.proofs.CopyOwed.{numbered}
-use Rattle.nv_steps.proofs.CutFile.{cut_as, cut_resizes, gives_as, own_grown, stands_with}
+use Rattle.nv_steps.proofs.CutFile.{cut_as, cut_resizes, gives_as, left_sized, own_grown, shows_with, stands_with}
 use Rattle.nv_steps.proofs.resizing.resize_in_place.Goals as goal
 
 pub append_log-requires-clause-stands : goal.append_log-requires-clause-stands
@@ -17,8 +20,8 @@ give_pages-requires-clause-own g c = own_grown c.reserve.ensures.same c.in_ok-ap
 pub returns-clause-resized : goal.returns-clause-resized
 returns-clause-resized g c =
     let same = c.reserve.ensures.same in
-    cut_resizes c.args.attributes c.requires.can c.requires.stays (record { sup = same.sup; pools = same.pools }) c.in_ok-append_log.ensures.appended (gives_as c.div_ceil-first.ensures c.div_ceil-end.ensures c.give_pages.ensures.given)
-    (record { has = numbered c.numbers_with-row.ensures; head = refl; tail = refl; pages = refl }) (cut_as c.append_log.new.row.index c.cut.new.self c.div_ceil-first.ensures c.cut.ensures.blocks)
+    cut_resizes c.args.attributes c.requires.can c.requires.stays (record { sup = same.sup; pools = same.pools }) c.in_ok-append_log.ensures.appended
+    (record { has = numbered c.numbers_with-row.ensures; head = refl; tail = refl; pages = refl }) (cut_as c.append_log.new.row.index c.cut.new.self c.div_ceil-first.ensures c.cut.ensures.blocks) (gives_as c.div_ceil-first.ensures c.div_ceil-end.ensures c.give_pages.ensures.given)
 
 pub append_log-requires-clause-cpu : goal.append_log-requires-clause-cpu
 append_log-requires-clause-cpu g c = let same = c.reserve.ensures.same in subst (λ (s : Super). c.args.cpu < s.cpus) (sym same.sup) c.requires.cpu
@@ -96,3 +99,18 @@ returns-then-is_err-clause-keeps_fuse g c = record { burnt = λ was. was; steady
 
 pub returns-then-is_err-clause-lists : goal.returns-then-is_err-clause-lists
 returns-then-is_err-clause-lists g c = c.reserve.ensures.same.sup
+
+pub returns-then-is_err-clause-any_stop : goal.returns-then-is_err-clause-any_stop
+returns-then-is_err-clause-any_stop g c held h shows settled = still _ _ c.args.sup.now held (Resized (g.P.Pmem.region c.args.memory.now) c.args.sup.now c.args.free.now c.args.row.now c.args.attributes) shows.sound settled
+
+pub returns-in_err-append_log-clause-any_stop : goal.returns-in_err-append_log-clause-any_stop
+returns-in_err-append_log-clause-any_stop g c held h shows settled left may =
+    let lists = c.reserve.ensures.same in
+    let same : SamePools c.args.free.now c.reserve.new.self = record { sup = lists.sup; pools = lists.pools } in
+    left_sized c.args.attributes c.requires.can c.requires.stays same shows left (c.append_log.ensures.any_stop held h (shows_with c.args.attributes c.requires.can shows same) (omega arith) settled left may)
+
+pub returns-clause-any_stop : goal.returns-clause-any_stop
+returns-clause-any_stop g c held h shows settled left may =
+    let lists = c.reserve.ensures.same in
+    let same : SamePools c.args.free.now c.reserve.new.self = record { sup = lists.sup; pools = lists.pools } in
+    left_sized c.args.attributes c.requires.can c.requires.stays same shows left (c.append_log.ensures.any_stop held h (shows_with c.args.attributes c.requires.can shows same) (omega arith) settled left may)

@@ -1,8 +1,10 @@
-use Rattle.std.proofs.Common.{◌∙◌, ℕ, sym, subst}
+use Rattle.std.proofs.Common.{◌∙◌, ℕ, refl, sym, subst}
 use Rattle.nv_held.proofs.BytesKept.{mixed_size}
 use Rattle.nv_bytes.specs.Bytes.{byte_after, file_byte}
-use Rattle.nv_steps.specs.Written.{AreSmall}
+use Rattle.nv_region.specs.Region.{Region}
+use Rattle.nv_steps.specs.Written.{AreSmall, Commits}
 use Rattle.nv_steps.proofs.Committed.{commits}
+use Rattle.nv_steps.proofs.Stopped.{commit_left, data_left}
 use Rattle.nv_steps.proofs.storing_data.commit_data.Goals as goal
 
 pub store_data-requires-clause-pages : goal.store_data-requires-clause-pages
@@ -16,3 +18,14 @@ returns-clause-commits g c s inode =
 
 pub returns-clause-length : goal.returns-clause-length
 returns-clause-length g c = mixed_size c.extend_log.ensures.wrote.mixed ∙ mixed_size c.store_data.ensures.wrote.mixed
+
+pub returns-in_err-store_data-clause-any_stop : goal.returns-in_err-store_data-clause-any_stop
+returns-in_err-store_data-clause-any_stop g c s held inode h can free settled =
+    data_left (byte_after c.args.change.now.offset c.args.change.now.bytes.now c.args.change.now.size (file_byte (g.P.Pmem.region c.args.memory.now) c.args.index.now)) c.args.log.now.entries.items c.deref.result.now c.args.log.now.entries.items c.args.log.now.fresh.items c.args.log.now.fresh.items
+    c.deref.ensures.value refl refl can free _ settled _ _
+    (λ (S : Region). Commits (g.P.Pmem.region c.args.memory.now) S s inode c.args.slot c.args.tail (byte_after c.args.change.now.offset c.args.change.now.bytes.now c.args.change.now.size (file_byte (g.P.Pmem.region c.args.memory.now) c.args.index.now)) c.args.log.now.entries.items c.args.log.now.fresh.items) c.store_data.ensures.wrote
+
+pub returns-clause-any_stop : goal.returns-clause-any_stop
+returns-clause-any_stop g c s held inode h can free settled =
+    commit_left (byte_after c.args.change.now.offset c.args.change.now.bytes.now c.args.change.now.size (file_byte (g.P.Pmem.region c.args.memory.now) c.args.index.now)) c.args.log.now.entries.items c.deref.result.now c.deref-2.result.now c.args.log.now.fresh.items c.deref-3.result.now
+    c.deref.ensures.value c.deref-2.ensures.value c.deref-3.ensures.value can free _ settled _ c.store_data.ensures.wrote c.in_ok-store_data.ensures.stored _ _ (λ there pending. c.extend_log.ensures.loose_stop s held inode h there pending)

@@ -1,4 +1,5 @@
 use Rattle.std.proofs.Common.{◌+◌, ◌-◌, ◌%◌, ◌∷◌, [], refl, subst, arith, ◌∙◌, ◌≡◌, ◌≤◌, length, sym, IsTrue}
+use Rattle.nv_super.specs.Layout.{fixed_layout}
 use Rattle.std.proofs.lemmas.Result.{err_from_is_err_and, IfOk-from_err}
 use Rattle.nv_entry.specs.declared.entry.Entry.{Entry}
 use Rattle.nv_entry.specs.declared.entry.Operation.TheVariants.{Remove}
@@ -9,9 +10,11 @@ use Rattle.nv_tree.specs.declared.refusal.Refusal.TheVariants.{Stopped}
 use Rattle.nv_tree.specs.declared.refusal.Refusal.{Refusal}
 use Rattle.nv_steps.specs.NameEntries.{links_entries, name_entries}
 use Rattle.nv_steps.specs.MoreNames.{AppendsLogs}
+use Rattle.nv_commit.specs.Stopped.{LeavesEither}
+use Rattle.nv_steps.specs.Stopped.{AppendedBoth}
 use Rattle.nv_steps.specs.Steps.{LeavesStep, RefusesStep}
 use Rattle.nv_tree.proofs.Replies.{refused_by}
-use Rattle.nv_steps.proofs.UnlinkedAt.{unlinks_at_places}
+use Rattle.nv_steps.proofs.UnlinkedAt.{left_unlinked, unlinks_at_places}
 use Rattle.nv_steps.proofs.unlinking.unlink_both.Goals as goal
 
 pub returns-in_err-append_logs-clause-refused : goal.returns-in_err-append_logs-clause-refused
@@ -108,3 +111,15 @@ returns-in_err-append_logs-clause-settled g c = IfOk-from_err c.from_residual.re
 
 pub name_entry-requires : goal.name_entry-requires
 name_entry-requires g c = record { some = c.requires.name.some; fits = c.requires.name.short }
+
+pub returns-in_err-append_logs-clause-any_stop : goal.returns-in_err-append_logs-clause-any_stop
+returns-in_err-append_logs-clause-any_stop g c held h f here there settled left may =
+    left_unlinked c.args.directory.now c.args.file.now c.args.name.now c.args.time left
+    (subst (λ (x : Entry). LeavesEither (g.P.Pmem.region c.args.memory.now) (fixed_layout c.args.sup.now) held (AppendedBoth (g.P.Pmem.region c.args.memory.now) c.args.sup.now c.args.free.now c.args.directory.now (x ∷ []) c.args.file.now (links_entries (c.args.file.now.numbers.links - 1) c.args.time)) left) c.name_entry.ensures
+    (c.append_logs.ensures.any_stop held h f here there settled left may))
+
+pub returns-clause-any_stop : goal.returns-clause-any_stop
+returns-clause-any_stop g c held h f here there settled left may =
+    left_unlinked c.args.directory.now c.args.file.now c.args.name.now c.args.time left
+    (subst (λ (x : Entry). LeavesEither (g.P.Pmem.region c.args.memory.now) (fixed_layout c.args.sup.now) held (AppendedBoth (g.P.Pmem.region c.args.memory.now) c.args.sup.now c.args.free.now c.args.directory.now (x ∷ []) c.args.file.now (links_entries (c.args.file.now.numbers.links - 1) c.args.time)) left) c.name_entry.ensures
+    (c.append_logs.ensures.any_stop held h f here there settled left may))

@@ -12,6 +12,9 @@ use Rattle.nv_steps.proofs.Refusals.{memory_goes_on, no_space_goes_on}
 use Rattle.nv_steps.proofs.PreparedBlocks.{prepared_sup}
 use Rattle.nv_steps.proofs.WriteFollows.{IsRight}
 use Rattle.nv_steps.proofs.WriteSteps.{blocks_fresh, can_append_entries, can_give_replaced, entries_small, pages_settled, told}
+use Rattle.nv_commit.proofs.Left.{still}
+use Rattle.nv_steps.specs.Stopped.{Wrote}
+use Rattle.nv_steps.proofs.WriteStops.{can_there, data_free, left_write}
 use Rattle.nv_steps.proofs.WritesFile.{bytes_as, commits_as, has_written, inside_as, writes_file}
 use Rattle.nv_steps.proofs.writing.change_bytes.Goals as goal
 
@@ -185,3 +188,35 @@ returns-in-Err-NoSpace-clause-stopped g c = λ is. absurd (no_space_goes_on is)
 
 pub returns-in-Err-Memory-clause-stopped : goal.returns-in-Err-Memory-clause-stopped
 returns-in-Err-Memory-clause-stopped g c = λ is. absurd (memory_goes_on is)
+
+pub returns-in-Err-NoSpace-clause-any_stop : goal.returns-in-Err-NoSpace-clause-any_stop
+returns-in-Err-NoSpace-clause-any_stop g c held h shows settled = still _ _ c.args.sup.now held (Wrote (g.P.Pmem.region c.args.memory.now) c.args.sup.now c.args.free.now c.args.cpu c.args.plan.now c.args.change.now.offset c.args.change.now.bytes.now c.args.row.now) shows.sound settled
+
+pub returns-in-Err-Memory-clause-any_stop : goal.returns-in-Err-Memory-clause-any_stop
+returns-in-Err-Memory-clause-any_stop g c held h shows settled = still _ _ c.args.sup.now held (Wrote (g.P.Pmem.region c.args.memory.now) c.args.sup.now c.args.free.now c.args.cpu c.args.plan.now c.args.change.now.offset c.args.change.now.bytes.now c.args.row.now) shows.sound settled
+
+pub returns-in-Ok-commit_data-clause-any_stop : goal.returns-in-Ok-commit_data-clause-any_stop
+returns-in-Ok-commit_data-clause-any_stop g c held h shows settled left may =
+    let R : Region = g.P.Pmem.region c.args.memory.now in
+    let row = c.args.row.now in
+    let mid = c.prepare_data.new.row in
+    let same = c.prepare_data.ensures.row in
+    let n = c.args.change.now in
+    let right = subst (IsRight row) (sym c.requires.plan) (plan_right row (block_at row.index) n.offset (length n.bytes.now) c.args.plan.now.time c.requires.file.small c.requires.some c.requires.fits) in
+    let p = c.in-Ok.ensures.prepared in
+    left_write c.requires.stands c.requires.kind c.requires.file c.requires.cpu right p shows c.slot_address-slot.result mid.tail mid.inode same.inode same.tail c.slot_address-slot.ensures
+    (byte_after n.offset n.bytes.now n.size (file_byte R mid.index)) n.offset c.args.plan.now.time n.bytes.now c.requires.some c.requires.plan (λ x. bytes_as R row.index mid.index n.offset n.size row.numbers.size n.bytes.now same.index c.requires.size x) left
+    (c.commit_data.ensures.any_stop c.args.sup.now held row.inode h (can_there c.requires.stands c.requires.kind c.requires.file c.requires.cpu right p shows c.slot_address-slot.result mid.tail mid.inode same.inode same.tail c.slot_address-slot.ensures) (data_free shows c.requires.stands.lists c.requires.cpu right p) settled left may)
+
+pub returns-clause-any_stop : goal.returns-clause-any_stop
+returns-clause-any_stop g c held h shows settled left may =
+    let R : Region = g.P.Pmem.region c.args.memory.now in
+    let row = c.args.row.now in
+    let mid = c.prepare_data.new.row in
+    let same = c.prepare_data.ensures.row in
+    let n = c.args.change.now in
+    let right = subst (IsRight row) (sym c.requires.plan) (plan_right row (block_at row.index) n.offset (length n.bytes.now) c.args.plan.now.time c.requires.file.small c.requires.some c.requires.fits) in
+    let p = c.in-Ok.ensures.prepared in
+    left_write c.requires.stands c.requires.kind c.requires.file c.requires.cpu right p shows c.slot_address-slot.result mid.tail mid.inode same.inode same.tail c.slot_address-slot.ensures
+    (byte_after n.offset n.bytes.now n.size (file_byte R mid.index)) n.offset c.args.plan.now.time n.bytes.now c.requires.some c.requires.plan (λ x. bytes_as R row.index mid.index n.offset n.size row.numbers.size n.bytes.now same.index c.requires.size x) left
+    (c.commit_data.ensures.any_stop c.args.sup.now held row.inode h (can_there c.requires.stands c.requires.kind c.requires.file c.requires.cpu right p shows c.slot_address-slot.result mid.tail mid.inode same.inode same.tail c.slot_address-slot.ensures) (data_free shows c.requires.stands.lists c.requires.cpu right p) settled left may)

@@ -1,0 +1,90 @@
+use Rattle.std.proofs.Common.{◌≡◌, ◌⊎◌, refl, ◌+◌, ◌<◌, ap, sym, ◌∙◌, subst, arith, get_or, length, List, ℕ, Option}
+use Rattle.nv_region.specs.Region.{put}
+use Rattle.nv_region.specs.Stops.{LeavesOnly}
+use Rattle.nv_region.proofs.Fuses.{keeps_within}
+use Rattle.nv_alloc.specs.FreeLists.{CanJoin}
+use Rattle.nv_logpage.specs.Unlinked.{page_behind, word_to}
+use Rattle.nv_scan.specs.Dead.{IsFirstDead}
+use Rattle.nv_commit.proofs.Left.{still}
+use Rattle.nv_steps.specs.Stopped.{PageLess}
+use Rattle.nv_steps.specs.Taken.{block_run}
+use Rattle.nv_steps.proofs.CleanedLog as made
+use Rattle.nv_steps.proofs.cleaning.clean_log.Goals as goal
+
+pub returns-in-None-clause-log : goal.returns-in-None-clause-log
+returns-in-None-clause-log g c held h shows = (
+  subst (λ (o : Option ℕ). IsFirstDead c.args.sup.now h.kind c.args.row.now.inode h.created h.entries h.pages o) c.in-None.is
+      (made.first_held shows c.load-created.result c.slot_address-slot.result c.in-Ok.found c.load-created.ensures c.slot_address-slot.ensures (c.in-Ok.ensures.first h.entries)),
+  made.nothing_lost _ _ _,
+)
+
+pub returns-in_default-unlink_page-clause-keeps_fuse : goal.returns-in_default-unlink_page-clause-keeps_fuse
+returns-in_default-unlink_page-clause-keeps_fuse g c = keeps_within (λ limit long. made.within_region _ c.slot_address-slot.result limit c.requires.stands c.requires.inside c.deref-3.ensures c.slot_address-slot.ensures long) c.unlink_page.ensures.keeps_fuse
+
+pub returns-clause-keeps_fuse : goal.returns-clause-keeps_fuse
+returns-clause-keeps_fuse g c = keeps_within (λ limit long. made.within_region _ c.slot_address-slot.result limit c.requires.stands c.requires.inside c.deref-3.ensures c.slot_address-slot.ensures long) c.unlink_page.ensures.keeps_fuse
+
+pub give_block-requires-clause-can : goal.give_block-requires-clause-can
+give_block-requires-clause-can g c =
+    let more = made.there_is c.in-Ok.found (λ (k : ℕ). k + 1 < length c.args.row.now.pages.items) c.in-Some.place c.in-Some.is c.in-Ok.ensures.before_last in
+    subst (λ (ps : List ℕ). CanJoin c.reserve.new.self (block_run (get_or ps c.in-Some.place 0))) (sym c.deref.ensures)
+    (made.can_give c.args.free.now c.reserve.new.self c.args.row.now.pages.items c.in-Some.place c.requires.own c.reserve.ensures.same.pools c.reserve.ensures.same.sup (omega (arith, more)))
+
+pub returns-clause-log : goal.returns-clause-log
+returns-clause-log g c held h shows =
+    let R = g.P.Pmem.region c.args.memory.now in
+    let S = g.P.Pmem.region c.unlink_page.new.memory in
+    let k = c.in-Some.place in
+    let more = made.there_is c.in-Ok.found (λ (n : ℕ). n + 1 < length c.args.row.now.pages.items) k c.in-Some.is c.in-Ok.ensures.before_last in
+    let first = subst (λ (o : Option ℕ). IsFirstDead c.args.sup.now h.kind c.args.row.now.inode h.created h.entries h.pages o) c.in-Some.is
+    (made.first_held shows c.load-created.result c.slot_address-slot.result c.in-Ok.found c.load-created.ensures c.slot_address-slot.ensures (c.in-Ok.ensures.first h.entries)) in
+    let fits = made.word_fits c.slot_address-slot.result k c.requires.stands c.requires.inside c.slot_address-slot.ensures more in
+    let done = subst (λ (ps : List ℕ). S ≡ put R (word_to (c.slot_address-slot.result + 16) ps k) (page_behind ps k)) c.deref-3.ensures c.in-Ok-unlink_page.ensures.done in
+    let stored = made.word_stored k c.slot_address-slot.result shows c.slot_address-slot.ensures done fits.0 fits.1 (let none = c.requires.blocks.1 in omega (arith, none)) in
+    let told = shows.told in (
+      k,
+      first,
+      made.page_lost shows S c.leave_page.new.row c.reserve.new.self c.give_block.new.free k _ first stored c.leave_page.ensures
+          (ap (λ (ps : List ℕ). get_or ps k 0) (c.deref.ensures ∙ told.pages)) c.reserve.ensures.same.pools (c.reserve.ensures.same.sup ∙ c.requires.stands.lists) c.give_block.ensures.given,
+    )
+
+pub returns-in_default-unlink_page-clause-any_stop : goal.returns-in_default-unlink_page-clause-any_stop
+returns-in_default-unlink_page-clause-any_stop g c held h shows none =
+    let R = g.P.Pmem.region c.args.memory.now in
+    let now = g.P.Pmem.region c.unlink_page.new.memory in
+    let choices = g.P.Pmem.may_hold c.unlink_page.new.memory in
+    let k = c.in-Some.place in
+    let at = c.slot_address-slot.result + 16 in
+    let pages = c.args.row.now.pages.items in
+    let more = made.there_is c.in-Ok.found (λ (n : ℕ). n + 1 < length pages) k c.in-Some.is c.in-Ok.ensures.before_last in
+    let first = subst (λ (o : Option ℕ). IsFirstDead c.args.sup.now h.kind c.args.row.now.inode h.created h.entries h.pages o) c.in-Some.is
+    (made.first_held shows c.load-created.result c.slot_address-slot.result c.in-Ok.found c.load-created.ensures c.slot_address-slot.ensures (c.in-Ok.ensures.first h.entries)) in
+    let fits = made.word_fits c.slot_address-slot.result k c.requires.stands c.requires.inside c.slot_address-slot.ensures more in
+    let stored = made.word_stored k c.slot_address-slot.result shows c.slot_address-slot.ensures refl fits.0 fits.1 (let none_behind = c.requires.blocks.1 in omega (arith, none_behind)) in
+    let leaves = subst (λ (ps : List ℕ). LeavesOnly now choices (λ left. (left ≡ R) ⊎ (left ≡ put R (word_to at ps k) (page_behind ps k)))) c.deref-3.ensures (c.unlink_page.ensures.any_stop none) in
+    made.left_cleaned shows (put R (word_to at pages k) (page_behind pages k)) k first stored now choices leaves
+
+pub returns-clause-any_stop : goal.returns-clause-any_stop
+returns-clause-any_stop g c held h shows none =
+    let R = g.P.Pmem.region c.args.memory.now in
+    let now = g.P.Pmem.region c.unlink_page.new.memory in
+    let choices = g.P.Pmem.may_hold c.unlink_page.new.memory in
+    let k = c.in-Some.place in
+    let at = c.slot_address-slot.result + 16 in
+    let pages = c.args.row.now.pages.items in
+    let more = made.there_is c.in-Ok.found (λ (n : ℕ). n + 1 < length pages) k c.in-Some.is c.in-Ok.ensures.before_last in
+    let first = subst (λ (o : Option ℕ). IsFirstDead c.args.sup.now h.kind c.args.row.now.inode h.created h.entries h.pages o) c.in-Some.is
+    (made.first_held shows c.load-created.result c.slot_address-slot.result c.in-Ok.found c.load-created.ensures c.slot_address-slot.ensures (c.in-Ok.ensures.first h.entries)) in
+    let fits = made.word_fits c.slot_address-slot.result k c.requires.stands c.requires.inside c.slot_address-slot.ensures more in
+    let stored = made.word_stored k c.slot_address-slot.result shows c.slot_address-slot.ensures refl fits.0 fits.1 (let none_behind = c.requires.blocks.1 in omega (arith, none_behind)) in
+    let leaves = subst (λ (ps : List ℕ). LeavesOnly now choices (λ left. (left ≡ R) ⊎ (left ≡ put R (word_to at ps k) (page_behind ps k)))) c.deref-3.ensures (c.unlink_page.ensures.any_stop none) in
+    made.left_cleaned shows (put R (word_to at pages k) (page_behind pages k)) k first stored now choices leaves
+
+pub returns-in_default-clause-any_stop : goal.returns-in_default-clause-any_stop
+returns-in_default-clause-any_stop g c held h shows none = still (g.P.Pmem.region c.args.memory.now) (g.P.Pmem.may_hold c.args.memory.now) c.args.sup.now held (PageLess (g.P.Pmem.region c.args.memory.now) c.args.sup.now c.args.free.now c.args.row.now) shows.sound none
+
+pub returns-in_default-reserve-clause-any_stop : goal.returns-in_default-reserve-clause-any_stop
+returns-in_default-reserve-clause-any_stop g c held h shows none = still (g.P.Pmem.region c.args.memory.now) (g.P.Pmem.may_hold c.args.memory.now) c.args.sup.now held (PageLess (g.P.Pmem.region c.args.memory.now) c.args.sup.now c.args.free.now c.args.row.now) shows.sound none
+
+pub returns-in-None-clause-any_stop : goal.returns-in-None-clause-any_stop
+returns-in-None-clause-any_stop g c held h shows none = still (g.P.Pmem.region c.args.memory.now) (g.P.Pmem.may_hold c.args.memory.now) c.args.sup.now held (PageLess (g.P.Pmem.region c.args.memory.now) c.args.sup.now c.args.free.now c.args.row.now) shows.sound none

@@ -1,0 +1,57 @@
+-- A page that was taken out of the log of a row.
+use Rattle.std.specs.Prelude.{◌≡◌, ℕ, Option, Some, None, get_or}
+use Rattle.std.specs.List.{remove}
+use Rattle.nv_region.specs.Region.{Region}
+use Rattle.nv_super.specs.declared.superblock.Super.{Super}
+use Rattle.nv_super.specs.Layout.{fixed_layout}
+use Rattle.nv_alloc.specs.FreeValue.{FreeLists}
+use Rattle.nv_logpage.specs.Unlinked.{head_without}
+use Rattle.nv_scan.specs.declared.piece.Row.{Row}
+use Rattle.nv_held.specs.nv_scan.Dead.{IsFirstDead}
+use Rattle.nv_held.specs.Held.{Held, Store, with_inode}
+use Rattle.nv_held.specs.Blocks.{KeepsFree}
+use Rattle.nv_held.specs.Bytes.{byte_of}
+use Rattle.nv_held.specs.Cleaned.{cleaned}
+use Rattle.nv_held.specs.Mounted.{KeepsRow, ShowsSound}
+use Rattle.nv_held.specs.nv_outcome.Same.{SameRow}
+use Rattle.nv_steps.specs.Taken.{SamePools}
+
+-- The row's log has no longer the page of this place, and there is nothing else new.
+pub record HasLess (old : Row) (k : ℕ) (new : Row) : Type 0 where
+  pub inode : new.inode ≡ old.inode
+  pub kind : new.kind ≡ old.kind
+  pub numbers : new.numbers ≡ old.numbers
+  pub head : new.head ≡ head_without old.head old.pages.items k
+  pub tail : new.tail ≡ old.tail
+  pub pages : new.pages.items ≡ remove old.pages.items k
+  pub index : new.index ≡ old.index
+  pub names : new.names ≡ old.names
+
+-- What the file or directory of the row is hasn't changed.
+pub record KeepsFile (old new : Row) : Type 0 where
+  pub inode : new.inode ≡ old.inode
+  pub kind : new.kind ≡ old.kind
+  pub numbers : new.numbers ≡ old.numbers
+  pub index : new.index ≡ old.index
+  pub names : new.names ≡ old.names
+
+-- The page of this place went, which is the first that the log can do without: the region shows the log without it, its block is
+-- free, the row and the free lists are of what is held, and each byte of each file is where it was.
+pub record LosesPageAt (R S : Region) (s : Super) (held : Store) (h : Held) (old new : Row) (free : FreeLists) (k b : ℕ) : Type 0 where
+  pub block : b ≡ get_or h.pages k 0
+  pub sound : ShowsSound S s (with_inode held old.inode (Some (cleaned h k)))
+  pub told : KeepsRow (fixed_layout s) (cleaned h k) new
+  pub inode : new.inode ≡ old.inode
+  pub lists : KeepsFree (fixed_layout s) (with_inode held old.inode (Some (cleaned h k))) free.pools
+  pub bytes : (i : ℕ) (g : Held) → held i ≡ Some g → (x : ℕ) → byte_of S (fixed_layout s) g x ≡ byte_of R (fixed_layout s) g x
+
+-- Nothing went, since the log needs each of its pages.
+pub record LosesNone (R S : Region) (old new : Row) (before after : FreeLists) : Type 0 where
+  pub region : S ≡ R
+  pub row : SameRow old new
+  pub free : SamePools before after
+
+-- the answer: the block of the page that went, or none
+abbrev pub Cleans : Region → Region → Super → Store → Held → Row → Row → FreeLists → FreeLists → Option ℕ → Type 0
+Cleans R S s held h old new before after None = IsFirstDead s h.kind old.inode h.created h.entries h.pages None × LosesNone R S old new before after
+Cleans R S s held h old new before after (Some b) = (k : ℕ) × IsFirstDead s h.kind old.inode h.created h.entries h.pages (Some k) × LosesPageAt R S s held h old new after k b

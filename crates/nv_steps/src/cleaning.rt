@@ -1,0 +1,100 @@
+//! The first page that the log of a row can do without, taken out of it.
+
+ghost use Rattle.std.specs.Prelude.{◌≡◌, ◌⊎◌, ◌+◌, ◌<◌, ◌≤◌, length, true, IsTrue, IfOk, IfErr, OnOk};
+ghost use Rattle.nv_region.specs.Region.{HasBlocks, size};
+ghost use Rattle.nv_region.specs.Stops.{LeavesOnly, NothingPending};
+ghost use Rattle.nv_region.specs.Fuses.{KeepsFuse};
+ghost use Rattle.nv_super.specs.Layout.{fixed_layout};
+ghost use Rattle.nv_inode.specs.Slot.{is_right_log};
+ghost use Rattle.nv_logpage.specs.Append.{EndBy};
+ghost use Rattle.nv_logpage.specs.Unlinked.{page_behind};
+ghost use Rattle.nv_held.specs.Held.{Held, Store};
+ghost use Rattle.nv_tree.specs.declared.refusal.Refusal.{Refusal as RefusalValue};
+ghost use Rattle.nv_commit.specs.Stopped.{LeavesEither};
+ghost use Rattle.nv_steps.specs.Cleans.{Cleans, HasLess, KeepsFile};
+ghost use Rattle.nv_steps.specs.Grown.{StandsRight};
+ghost use Rattle.nv_steps.specs.LessNames.{AreOwn};
+ghost use Rattle.nv_steps.specs.Steps.{LeavesStep, ShowsRow};
+ghost use Rattle.nv_steps.specs.Stopped.{PageLess};
+ghost use Rattle.nv_steps.specs.Taken.{SamePools};
+
+use crate::giving::give_block;
+use nv_alloc::Allocators;
+use nv_logpage::unlink_page;
+use nv_region::Pmem;
+use nv_scan::{Row, first_dead_page};
+use nv_super::{BLOCK_SIZE, Super};
+use nv_tree::Refusal;
+use std::alloc::Global;
+
+// The words of a slot, by their places in it.
+const HEAD: u64 = 16;
+
+const CREATED: u64 = 32;
+
+/// Takes the first page out of the log of a row that it can do without, and gives its block back. Answers the block, or `None`
+/// where the log needs each of its pages; then nothing is stored.
+///
+/// `Memory` where a growth was refused, which changes nothing. `Stopped` where the fuse has burnt.
+pub fn clean_log<P: Pmem>(
+    alloc: Global,
+    memory: &mut P,
+    sup: &Super,
+    free: &mut Allocators,
+    row: &mut Row,
+) -> Result<Option<u64>, Refusal>
+    requires stands { StandsRight (P.region memory.old) sup.now free.old row.old }
+    requires blocks { HasBlocks (P.region memory.old) sup.now.blocks }
+    requires right { is_right_log sup.now row.old.head row.old.tail ≡ true }
+    requires inside { EndBy row.old.pages.items (size (P.region memory.old)) }
+    requires own { AreOwn free.old row.old.pages.items }
+    ensures log { (held : Store) (h : Held) → ShowsRow (P.region memory.old) sup.now held h row.old free.old → IfOk result (Cleans (P.region memory.old) (P.region memory.new) sup.now held h row.old row.new free.old free.new) }
+    ensures settled { NothingPending (P.region memory.old) (P.may_hold memory.old) → OnOk result (NothingPending (P.region memory.new) (P.may_hold memory.new)) }
+    ensures refused { IfErr result (λ e. (e ≡ RefusalValue.Memory) ⊎ (e ≡ RefusalValue.Stopped)) }
+    // A block is given back once no log leads to it.
+    ensures not_given { IfErr result (λ e. SamePools free.old free.new) }
+    ensures unchanged { IfErr result (λ e. (e ≡ RefusalValue.Stopped → ⊥) → LeavesStep memory.old memory.new free.old free.new row.old row.new) }
+    ensures stopped { IfErr result (λ e. e ≡ RefusalValue.Stopped → IsTrue (P.fuse memory.new).has_burnt) }
+    // Whatever a stop leaves: recovery finds what is held, or it without the page, without faults.
+    ensures any_stop { (held : Store) (h : Held) → ShowsRow (P.region memory.old) sup.now held h row.old free.old → NothingPending (P.region memory.old) (P.may_hold memory.old)
+        → LeavesOnly (P.region memory.new) (P.may_hold memory.new) (LeavesEither (P.region memory.old) (fixed_layout sup.now) held (PageLess (P.region memory.old) sup.now free.old row.old)) }
+    ensures file { KeepsFile row.old row.new }
+    ensures lists { free.new.sup ≡ free.old.sup }
+    ensures length { size (P.region memory.new) ≡ size (P.region memory.old) }
+    ensures keeps_fuse { KeepsFuse (λ limit. size (P.region memory.old) ≤ limit) (P.fuse memory.old) (P.fuse memory.new) }
+{
+    // The region's length is a u64, and so is each address up to it.
+    let _end = memory.len();
+    let slot = sup.slot_address(row.inode);
+    let created = memory.load(slot + CREATED);
+    let Ok(found) = first_dead_page(alloc, &*memory, sup, row, created) else {
+        return Err(Refusal::Memory);
+    };
+    let place = match found {
+        Some(place) => place,
+        None => return Ok(None),
+    };
+    let Ok(()) = free.reserve(1) else {
+        return Err(Refusal::Memory);
+    };
+    let block = row.pages[place];
+    let next = row.pages[place + 1] * BLOCK_SIZE;
+    let Ok(()) = unlink_page(memory, slot + HEAD, &row.pages, place) else {
+        return Err(Refusal::Stopped);
+    };
+    leave_page(row, place, next);
+    give_block(free, Some(block));
+    Ok(Some(block))
+}
+
+/// Takes the page of a place out of the log of a row. It isn't the last one, and the page behind it has this address.
+fn leave_page(row: &mut Row, place: usize, next: u64)
+    requires not_last { place + 1 < length row.old.pages.items }
+    requires next { next ≡ page_behind row.old.pages.items place }
+    ensures { HasLess row.old place row.new }
+{
+    if place == 0 {
+        row.head = next;
+    }
+    let _block = row.pages.remove(place);
+}
