@@ -75,7 +75,7 @@ module _ {R S : Region} {s : Super} {rows news : List Row} {free after : FreeLis
         both_sound entries others step.fresh step.more shows shows_other differ (right.stays held f shows) (right.other_stays held h shows_other) kept.lists step.taken count more_count seen.idle (right.faultless held f h m shows shows_other mine others_own)
 
     -- The rows and the free lists are those of what is held.
-    mounted_then : IsMounted S s then news after.pools
+    pub mounted_then : IsMounted S s then news after.pools
     mounted_then = record {
       sound = sound_then;
       keeps = record {

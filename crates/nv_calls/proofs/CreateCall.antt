@@ -38,7 +38,7 @@ use Rattle.nv_paths.specs.Seen.{node_of, tree_of}
 use Rattle.nv_steps.specs.Steps.{RefusesStep}
 use Rattle.nv_rows.specs.Unused.{unused_number}
 use Rattle.nv_calls.specs.World.{world_of}
-use Rattle.nv_calls.proofs.CreatedRows.{bytes_kept, kept_then, name_absent, was_created}
+use Rattle.nv_calls.proofs.CreatedRows.{bytes_kept, kept_then, mounted_then, name_absent, was_created}
 use Rattle.nv_calls.proofs.CreatedTree.{created_by, made_tree, named_node, new_node_is, tree_then}
 use Rattle.nv_paths.proofs.CreateTests.{good_name, spot_allows}
 use Rattle.nv_calls.proofs.Kept.{rows_rise}
@@ -66,6 +66,10 @@ module _ {R S : Region} {s : Super} {rows news : List Row} {free after : FreeLis
 
   absent : IsNoneNamed rows step.row name
   absent = spot.absent step.row step.at
+
+  -- What is mounted, for what is held of the region of before.
+  pub created_mounted : (held : Store) (m : IsMounted R s held rows free.pools) → (then : Store) × IsMounted S s then news after.pools
+  created_mounted held m = (_, mounted_then kept runs writes step directory good unused absent held m)
 
   -- What is kept.
   pub created_kept : (now : Bool) → IsKept S s news after faults read_only now

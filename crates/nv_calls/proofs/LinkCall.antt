@@ -18,7 +18,7 @@ use Rattle.nv_held.specs.nv_named.Read.{row_of}
 use Rattle.nv_held.specs.nv_named.Step.{IsGoodName}
 use Rattle.nv_held.specs.Held.{Held, Store}
 use Rattle.nv_held.specs.Bytes.{byte_in}
-use Rattle.nv_held.specs.Mounted.{ShowsSound}
+use Rattle.nv_held.specs.Mounted.{IsMounted, ShowsSound}
 use Rattle.nv_tree.specs.declared.refusal.Refusal.{Refusal}
 use Rattle.nv_tree.specs.declared.refusal.Refusal.TheVariants.{Memory, Stopped}
 use Rattle.nv_tree.specs.Path.{IsPath, IsPathName, Says, last_name}
@@ -35,7 +35,7 @@ use Rattle.nv_paths.specs.Places.{IsLinkSpot, link_spot_tests}
 use Rattle.nv_paths.specs.Seen.{LeadsTo, tree_of}
 use Rattle.nv_steps.specs.Steps.{RefusesStep}
 use Rattle.nv_calls.specs.World.{world_of}
-use Rattle.nv_calls.proofs.BothMounted.{both_bytes, both_kept, both_logs}
+use Rattle.nv_calls.proofs.BothMounted.{both_bytes, both_kept, both_logs, mounted_then}
 use Rattle.nv_calls.proofs.BothTree.{both_tree}
 use Rattle.nv_paths.proofs.CreateTests.{good_name}
 use Rattle.nv_calls.proofs.CreatedRows.{name_absent}
@@ -90,6 +90,10 @@ module _ {R S : Region} {s : Super} {rows news : List Row} {free after : FreeLis
 
   differ : file.inode ≢ directory.inode
   differ = kinds_differ rows target place file directory rising at directory_at is_file is_directory
+
+  -- What is mounted, for what is held of the region of before.
+  pub linked_mounted : (held : Store) (m : IsMounted R s held rows free.pools) → (then : Store) × IsMounted S s then news after.pools
+  linked_mounted held m = (_, mounted_then kept runs writes step.step differ (link_right step is_file is_directory few good absent) held m)
 
   -- What is kept.
   pub linked_kept : (now : Bool) → IsKept S s news after faults read_only now

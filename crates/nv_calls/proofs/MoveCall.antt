@@ -16,7 +16,7 @@ use Rattle.nv_held.specs.nv_check.Cross.{row_key}
 use Rattle.nv_held.specs.nv_named.Read.{row_of}
 use Rattle.nv_held.specs.nv_named.Step.{IsGoodName}
 use Rattle.nv_held.specs.Held.{Held, Store}
-use Rattle.nv_held.specs.Mounted.{ShowsSound}
+use Rattle.nv_held.specs.Mounted.{IsMounted, ShowsSound}
 use Rattle.nv_tree.specs.declared.refusal.Refusal.{Refusal}
 use Rattle.nv_tree.specs.declared.refusal.Refusal.TheVariants.{Memory, Stopped}
 use Rattle.nv_tree.specs.Path.{IsPath, IsPathName, Says, last_name}
@@ -37,8 +37,8 @@ use Rattle.nv_calls.specs.World.{world_of}
 use Rattle.nv_paths.proofs.CreateTests.{good_name}
 use Rattle.nv_calls.proofs.Kept.{rows_rise}
 use Rattle.nv_calls.proofs.MoveTests.{rename_allows}
-use Rattle.nv_calls.proofs.MovedAcross.{across_kept, across_logs, across_tree}
-use Rattle.nv_calls.proofs.MovedWithin.{within_kept, within_log, within_tree}
+use Rattle.nv_calls.proofs.MovedAcross.{across_kept, across_logs, across_mounted, across_tree}
+use Rattle.nv_calls.proofs.MovedWithin.{within_kept, within_log, within_mounted, within_tree}
 use Rattle.nv_super.proofs.Members.{stands}
 use Rattle.nv_calls.proofs.RowNumbers.{row_number}
 use Rattle.nv_calls.proofs.Tests.{space_allows, space_refuses}
@@ -71,6 +71,16 @@ module _ {R : Region} {s : Super} {rows : List Row} {free : FreeLists} {faults :
   moved_kept {S} {news} {after} {time} (inr w) now =
       let step = w.1 in
       across_kept kept runs writes step names first rest spot (good name spelled step.moved step.moved_at) (good other spelled_other step.moved step.moved_at) (apart step w.0) now
+
+  -- What is mounted, for what is held of the region of before.
+  pub moved_mounted : {S : Region} {news : List Row} {after : FreeLists} {time : ℕ} → MovesAt R S s free after rows news place target end name other time → (held : Store) (m : IsMounted R s held rows free.pools) → (then : Store) × IsMounted S s then news after.pools
+  moved_mounted {S} {news} {after} {time} (inl w) held m =
+      let step = w.1 in
+      subst (λ (rs : List Row). (then : Store) × IsMounted S s then rs after.pools) (sym step.put)
+      (within_mounted kept runs writes step.moved step.at step.moved_at step.step names first rest (spot_here w.0) (good name spelled step.moved step.moved_at) (good other spelled_other step.moved step.moved_at) held m)
+  moved_mounted {S} {news} {after} {time} (inr w) held m =
+      let step = w.1 in
+      across_mounted kept runs writes step names first rest spot (good name spelled step.moved step.moved_at) (good other spelled_other step.moved step.moved_at) (apart step w.0) held m
 
   -- The tree is what the call makes of that of before.
   pub moved_tree : {S : Region} {news : List Row} {after : FreeLists} {time : ℕ} → MovesAt R S s free after rows news place target end name other time → SameTree (tree_of S news) (renamed names (first ∷ rest) time (tree_of R rows))

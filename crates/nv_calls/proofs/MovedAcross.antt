@@ -38,7 +38,7 @@ use Rattle.nv_steps.specs.NameEntries.{name_entries}
 use Rattle.nv_steps.specs.NewNames.{place_named}
 use Rattle.nv_paths.specs.Seen.{tree_of}
 use Rattle.nv_steps.specs.Steps.{ShowsRow}
-use Rattle.nv_calls.proofs.BothMounted.{IsRight, both_bytes, both_kept, both_logs}
+use Rattle.nv_calls.proofs.BothMounted.{IsRight, both_bytes, both_kept, both_logs, mounted_then}
 use Rattle.nv_calls.proofs.BothTree.{both_tree}
 use Rattle.nv_calls.proofs.CreatedRows.{in_rows, name_absent}
 use Rattle.nv_calls.proofs.CreatedTree.{named_node}
@@ -143,6 +143,10 @@ module _ {R S : Region} {s : Super} {rows news : List Row} {free after : FreeLis
     (spot : IsMoveSpot (tree_of R rows) rows names (first ∷ rest) place name target end other) (good : IsGoodName s step.moved.inode name) (good_other : IsGoodName s step.moved.inode other) (differ : step.from.inode ≢ step.to.inode) where
   right : IsRight R s free rows step.from (name_entries Remove step.moved.inode name time) step.step.fresh step.step.first_now step.to (name_entries Add step.moved.inode other time) step.step.more step.step.second_now
   right = moved_right step names first rest spot good good_other differ
+
+  -- What is mounted, for what is held of the region of before.
+  pub across_mounted : (held : Store) (m : IsMounted R s held rows free.pools) → (then : Store) × IsMounted S s then news after.pools
+  across_mounted held m = (_, mounted_then kept runs writes step.step differ right held m)
 
   -- What is kept.
   pub across_kept : (now : Bool) → IsKept S s news after faults read_only now

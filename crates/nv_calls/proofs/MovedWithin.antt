@@ -55,7 +55,7 @@ use Rattle.nv_calls.proofs.Mounts.{mounted_with}
 use Rattle.nv_steps.proofs.NamesCounted.{one_less, one_more}
 use Rattle.nv_super.proofs.Members.{stands}
 use Rattle.nv_calls.proofs.RemovedTree.{none_of}
-use Rattle.nv_calls.proofs.RowChange.{kept_after, log_grew, row_bytes, tree_after}
+use Rattle.nv_calls.proofs.RowChange.{kept_after, log_grew, mounted_after, row_bytes, tree_after}
 use Rattle.nv_steps.proofs.TakenBlocks.{lists_without, taken_sup}
 
 module _ {R S : Region} {s : Super} {rows : List Row} {free after : FreeLists} {faults : List Fault} {read_only stopped : Bool} (kept : IsKept R s rows free faults read_only stopped) (runs : stopped ≡ false) (writes : read_only ≡ false)
@@ -171,6 +171,10 @@ module _ {R S : Region} {s : Super} {rows : List Row} {free after : FreeLists} {
               (moved_file l h of_kind i name other good good_other removal_place addition_place time end pages));
           bytes = extended_bytes can step.mixed;
         }
+
+  -- What is mounted, for what is held of the region of before.
+  pub within_mounted : (held : Store) → IsMounted R s held rows free.pools → (then : Store) × IsMounted S s then (set rows place new) after.pools
+  within_mounted = mounted_after kept runs writes place row new at entries follows
 
   -- What is kept.
   pub within_kept : (now : Bool) → IsKept S s (set rows place new) after faults read_only now

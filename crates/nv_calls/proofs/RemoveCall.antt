@@ -13,13 +13,15 @@ use Rattle.nv_scan.specs.declared.piece.Row.{Row}
 use Rattle.nv_held.specs.nv_named.Read.{row_of}
 use Rattle.nv_held.specs.nv_named.Step.{IsGoodName}
 use Rattle.nv_held.specs.Held.{Held, Store}
-use Rattle.nv_held.specs.Mounted.{ShowsSound}
+use Rattle.nv_held.specs.Mounted.{IsMounted, ShowsSound}
 use Rattle.nv_tree.specs.declared.refusal.Refusal.{Refusal}
 use Rattle.nv_tree.specs.Path.{IsPath, IsPathName, Says, last_name}
 use Rattle.nv_tree.specs.Tree.{Node, SameTree, Tree, walk}
 use Rattle.nv_tree.specs.Calls.{removed}
 use Rattle.nv_tree.specs.Refusals.{Path, Tests, first_refusal, has_no_space, rmdir_tests, writing}
-use Rattle.nv_calls.specs.AtPlaces.{CanGo, RemovesAt}
+use Rattle.nv_calls.specs.AtPlaces.{CanGo, CutsAt}
+use Rattle.nv_super.specs.declared.owners.Run.{Run}
+use Rattle.nv_steps.specs.LessNames.{GivesRow}
 use Rattle.nv_calls.specs.Mount.{IsKept, Mount}
 use Rattle.nv_calls.specs.NameCalls.{ended_row, name_blocks, row_blocks}
 use Rattle.nv_steps.specs.NameEntries.{name_entries}
@@ -33,13 +35,13 @@ use Rattle.nv_calls.proofs.Kept.{rows_rise}
 use Rattle.nv_calls.proofs.NewNumbers.{can_name}
 use Rattle.nv_super.proofs.Members.{stands}
 use Rattle.nv_calls.proofs.RowNumbers.{row_number}
-use Rattle.nv_calls.proofs.RemovedRows.{bytes_kept, kept_then, numbers_differ, was_removed}
+use Rattle.nv_calls.proofs.RemovedRows.{bytes_kept, kept_then, mounted_some, numbers_differ, was_removed}
 use Rattle.nv_calls.proofs.RemovedTree.{lost_node, removed_by, removed_tree, tree_less}
 use Rattle.nv_paths.proofs.RemoveTests.{rmdir_allows}
 use Rattle.nv_steps.proofs.RowOf.{row_at}
 
-module _ {R S : Region} {s : Super} {rows news : List Row} {free after : FreeLists} {faults : List Fault} {read_only stopped : Bool} (kept : IsKept R s rows free faults read_only stopped) (runs : stopped ≡ false) (writes : read_only ≡ false)
-    {place target : ℕ} {name : List ℕ} {time : ℕ} (step : RemovesAt R S s free after rows news place target name time) (spelled : IsPathName name) (can_go : CanGo step.gone) (names : List (List ℕ)) (spot : IsNamedAt (tree_of R rows) rows names place name target) where
+module _ {R S : Region} {s : Super} {rows news : List Row} {free mid : FreeLists} {faults : List Fault} {read_only stopped : Bool} (kept : IsKept R s rows free faults read_only stopped) (runs : stopped ≡ false) (writes : read_only ≡ false)
+    {place target : ℕ} {name : List ℕ} {time : ℕ} (step : CutsAt R S s free mid rows news place target name time) (spelled : IsPathName name) (can_go : CanGo step.gone) (names : List (List ℕ)) (spot : IsNamedAt (tree_of R rows) rows names place name target) where
   directory : step.row.kind ≡ Directory
   directory = (spot.directory step.row step.at).1
 
@@ -53,8 +55,12 @@ module _ {R S : Region} {s : Super} {rows news : List Row} {free after : FreeLis
   named = spot.named step.row step.gone step.at step.gone_at
 
   -- What is kept.
-  pub removed_kept : (now : Bool) → IsKept S s news after faults read_only now
-  removed_kept = kept_then kept runs writes step directory good named can_go
+  pub removed_kept : {after : FreeLists} → GivesRow mid step.gone after → (now : Bool) → IsKept S s news after faults read_only now
+  removed_kept given = kept_then kept runs writes step directory good named can_go given
+
+  -- What is mounted, for what is held of the region of before.
+  pub removed_mounted : (held : Store) (m : IsMounted R s held rows free.pools) → (then : Store) × (lists : List (List Run)) × IsMounted S s then news lists
+  removed_mounted held m = let w = mounted_some kept runs writes step directory good named can_go held m in (_, w.0, w.1)
 
   -- The tree without the name and without what it stood for.
   pub tree_is : SameTree (tree_of S news) (removed_tree R rows step.row step.gone.inode time name)

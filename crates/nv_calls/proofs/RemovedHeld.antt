@@ -41,9 +41,9 @@ use Rattle.nv_steps.specs.Taken.{TakesEach, single_takes}
 use Rattle.nv_steps.proofs.NameEntries.{name_file}
 use Rattle.nv_steps.proofs.TakenBlocks.{are_free, is_taken, was_taken}
 
-module _ {R : Region} {s : Super} {held : Store} {h f : Held} {row gone : Row} {free mid after : FreeLists} (time : ℕ) (name : List ℕ) (fresh : List ℕ) (shows : ShowsRow R s held h row free) (shows_gone : ShowsRow R s held f gone free)
+module _ {R : Region} {s : Super} {held : Store} {h f : Held} {row gone : Row} {free mid : FreeLists} (time : ℕ) (name : List ℕ) (fresh : List ℕ) (shows : ShowsRow R s held h row free) (shows_gone : ShowsRow R s held f gone free)
     (directory : h.kind ≡ Directory) (good : IsGoodName s gone.inode name) (named : (graph_in (fixed_layout s) held).name row.inode name ≡ Some gone.inode) (can_go : CanGo gone)
-    (lists : free.sup ≡ s) (taken : TakesEach free fresh mid) (given : GivesRow mid gone after) (count : length fresh ≡ needed (h.tail % 4096) (name_entries Remove gone.inode name time)) where
+    (lists : free.sup ≡ s) (taken : TakesEach free fresh mid) (count : length fresh ≡ needed (h.tail % 4096) (name_entries Remove gone.inode name time)) where
   abbrev l : Layout
   l = fixed_layout s
 
@@ -108,13 +108,13 @@ module _ {R : Region} {s : Super} {held : Store} {h f : Held} {row gone : Row} {
   but = free_but l held row.inode h grown_log shows.holds fresh pages_now fresh_free file_stays
 
   -- the blocks of what goes, by its row
-  gone_has : (b : ℕ) → HasBlock given.runs b → Contains f.pages b ⊎ Maps l f b
-  gone_has b w =
+  gone_has : {after : FreeLists} (given : GivesRow mid gone after) (b : ℕ) → HasBlock given.runs b → Contains f.pages b ⊎ Maps l f b
+  gone_has given b w =
       let told = shows_gone.told in
       elim ((given.blocks b).0 w) [ inl log ↦ inl (subst (λ (ps : List ℕ). Contains ps b) told.pages log) | inr mapped ↦ inr (mapped.0, sym (told.index mapped.0) ∙ mapped.1) ]
 
-  has_gone : (b : ℕ) → Contains f.pages b ⊎ Maps l f b → HasBlock given.runs b
-  has_gone b w =
+  has_gone : {after : FreeLists} (given : GivesRow mid gone after) (b : ℕ) → Contains f.pages b ⊎ Maps l f b → HasBlock given.runs b
+  has_gone given b w =
       let told = shows_gone.told in
       (given.blocks b).1 (elim w [ inl log ↦ inl (subst (λ (ps : List ℕ). Contains ps b) (sym told.pages) log) | inr mapped ↦ inr (mapped.0, told.index mapped.0 ∙ mapped.1) ])
 
@@ -139,8 +139,8 @@ module _ {R : Region} {s : Super} {held : Store} {h f : Held} {row gone : Row} {
     less_undoubled = still_undoubled l held row.inode (Some grown_log) own was.undoubled
 
     -- The free lists are those of the free blocks: without the ones that were taken, and with those that were given back.
-    pub removed_lists : KeepsFree l then after.pools
-    removed_lists =
+    pub removed_lists : {after : FreeLists} (given : GivesRow mid gone after) → KeepsFree l then after.pools
+    removed_lists {after} given =
         let same = taken.same in
         lists_change l held then taken.from mid after (single_takes fresh) given.runs (subst (λ (pools : List (List Run)). KeepsFree l held pools) (sym same.pools) shows.lists) (same.sup ∙ lists) taken.takes given.joined (λ b. (to b, from b))
       where
@@ -148,11 +148,11 @@ module _ {R : Region} {s : Super} {held : Store} {h f : Held} {row gone : Row} {
         left = gone_free l less i f there less_undoubled pages_inside
 
         to : (b : ℕ) → IsUnowned l then b → (IsUnowned l held b × (WasTaken (single_takes fresh) b → ⊥)) ⊎ HasBlock given.runs b
-        to b now = elim ((left b).0 now) [ inl stays ↦ (let w = (but b).0 stays in inl (w.0, λ t. w.1 (is_taken fresh b t))) | inr went ↦ inr (has_gone b went) ]
+        to b now = elim ((left b).0 now) [ inl stays ↦ (let w = (but b).0 stays in inl (w.0, λ t. w.1 (is_taken fresh b t))) | inr went ↦ inr (has_gone given b went) ]
 
         from : (b : ℕ) → (IsUnowned l held b × (WasTaken (single_takes fresh) b → ⊥)) ⊎ HasBlock given.runs b → IsUnowned l then b
         from b (inl w) = (left b).1 (inl ((but b).1 (w.0, λ c. w.1 (was_taken fresh b c))))
-        from b (inr w) = (left b).1 (inr (gone_has b w))
+        from b (inr w) = (left b).1 (inr (gone_has given b w))
 
     -- The region is sound.
     pub removed_sound : ShowsSound S s then

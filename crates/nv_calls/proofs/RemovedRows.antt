@@ -22,9 +22,13 @@ use Rattle.nv_held.specs.Held.{Held, Store}
 use Rattle.nv_held.specs.Bytes.{byte_in, byte_of}
 use Rattle.nv_held.specs.Graph.{graph_in, target_in}
 use Rattle.nv_held.specs.Mounted.{IsMounted, KeepsRows, ShowsSound}
+use Rattle.nv_held.proofs.Closes.{outcome_kept}
+use Rattle.nv_held.proofs.nv_outcome.Exists.{has_outcome}
 use Rattle.nv_held.proofs.RowsKept.{rows_follow, rows_less}
+use Rattle.nv_super.specs.declared.owners.Run.{Run}
+use Rattle.nv_steps.specs.LessNames.{GivesRow}
 use Rattle.nv_commit.specs.Extends.{extended, with_log}
-use Rattle.nv_calls.specs.AtPlaces.{CanGo, RemovesAt}
+use Rattle.nv_calls.specs.AtPlaces.{CanGo, CutsAt}
 use Rattle.nv_calls.specs.Mount.{IsKept}
 use Rattle.nv_steps.specs.NameEntries.{name_entries, with_gone}
 use Rattle.nv_calls.specs.RemoveCalls.{ShowsRemoved, WasRemoved}
@@ -40,8 +44,8 @@ use Rattle.nv_steps.proofs.TakenBlocks.{taken_sup}
 use Rattle.nv_calls.proofs.TakenOut.{another, places_differ, stays_there, still_rise, was_there}
 use Rattle.nv_steps.proofs.RowsAt.{other_set}
 
-module _ {R S : Region} {s : Super} {rows news : List Row} {free after : FreeLists} {faults : List Fault} {read_only stopped : Bool} (kept : IsKept R s rows free faults read_only stopped) (runs : stopped ≡ false) (writes : read_only ≡ false)
-    {place target : ℕ} {name : List ℕ} {time : ℕ} (step : RemovesAt R S s free after rows news place target name time) (directory : step.row.kind ≡ Directory) (good : IsGoodName s step.gone.inode name)
+module _ {R S : Region} {s : Super} {rows news : List Row} {free mid : FreeLists} {faults : List Fault} {read_only stopped : Bool} (kept : IsKept R s rows free faults read_only stopped) (runs : stopped ≡ false) (writes : read_only ≡ false)
+    {place target : ℕ} {name : List ℕ} {time : ℕ} (step : CutsAt R S s free mid rows news place target name time) (directory : step.row.kind ≡ Directory) (good : IsGoodName s step.gone.inode name)
     (named : option_map (λ (x : ℕ × ℕ). x.0) (name_at step.row.names name) ≡ Some step.gone.inode) (can_go : CanGo step.gone) where
   abbrev row : Row
   row = step.row
@@ -81,7 +85,7 @@ module _ {R S : Region} {s : Super} {rows news : List Row} {free after : FreeLis
     count = let cuts = step.step in let told = shows.told in cuts.count ∙ ap (λ (t : ℕ). needed (t % 4096) (name_entries Remove gone.inode name time)) told.tail
 
     pub apart : row.inode ≢ gone.inode
-    apart = let cuts = step.step in differ time name cuts.fresh shows shows_gone of_kind good is_named can_go kept.lists cuts.taken step.given count
+    apart = let cuts = step.step in differ time name cuts.fresh shows shows_gone of_kind good is_named can_go kept.lists cuts.taken count
 
     abbrev then : Store
     then = with_gone held row.inode h (name_entries Remove gone.inode name time) cuts_fresh gone.inode
@@ -90,7 +94,7 @@ module _ {R S : Region} {s : Super} {rows news : List Row} {free after : FreeLis
     sound_then =
         let cuts = step.step in
         let seen = cuts.shows held h shows in
-        removed_sound time name cuts.fresh shows shows_gone of_kind good is_named can_go kept.lists cuts.taken step.given count seen.idle
+        removed_sound time name cuts.fresh shows shows_gone of_kind good is_named can_go kept.lists cuts.taken count seen.idle
 
     bytes_then : (i : ℕ) (g : Held) → held i ≡ Some g → (x : ℕ) → byte_of S (fixed_layout s) g x ≡ byte_of R (fixed_layout s) g x
     bytes_then = let cuts = step.step in let seen = cuts.shows held h shows in seen.bytes
@@ -109,24 +113,31 @@ module _ {R S : Region} {s : Super} {rows news : List Row} {free after : FreeLis
         subst (λ (rs : List Row). KeepsRows (fixed_layout s) then rs) (sym step.put) left
 
     -- The rows and the free lists are those of what is held.
-    pub mounted_then : IsMounted S s then news after.pools
-    mounted_then =
+    pub mounted_then : {after : FreeLists} → GivesRow mid gone after → IsMounted S s then news after.pools
+    mounted_then given =
         let cuts = step.step in
         let seen = cuts.shows held h shows in
         record {
           sound = sound_then;
           keeps = record {
             in_rows = rows_then;
-            in_lists = removed_lists time name cuts.fresh shows shows_gone of_kind good is_named can_go kept.lists cuts.taken step.given count seen.idle;
+            in_lists = removed_lists time name cuts.fresh shows shows_gone of_kind good is_named can_go kept.lists cuts.taken count seen.idle given;
           };
         }
 
-  lists_stay : after.sup ≡ s
-  lists_stay = let cuts = step.step in let given = step.given in joined_sup step.mid after given.runs given.joined ∙ taken_sup cuts.taken ∙ kept.lists
+    -- And there are such free lists.
+    pub mounted_some : (lists : List (List Run)) × IsMounted S s then news lists
+    mounted_some =
+        let w = has_outcome S s sound_then.sup in
+        let keeps = outcome_kept sound_then w.0 w.2 in
+        (w.0.free, record { sound = sound_then; keeps = record { in_rows = rows_then; in_lists = keeps.in_lists } })
+
+  lists_stay : {after : FreeLists} → GivesRow mid gone after → after.sup ≡ s
+  lists_stay {after} given = let cuts = step.step in joined_sup mid after given.runs given.joined ∙ taken_sup cuts.taken ∙ kept.lists
 
   -- What is kept then.
-  pub kept_then : (now : Bool) → IsKept S s news after faults read_only now
-  kept_then now = kept_of_mounted S s news after faults read_only now kept.writes writes lists_stay (∥∥₁_map (mounted_of_kept kept runs writes) (λ w. (with_gone w.0 row.inode (h w.0 w.1) (name_entries Remove gone.inode name time) cuts_fresh gone.inode, mounted_then w.0 w.1)))
+  pub kept_then : {after : FreeLists} → GivesRow mid gone after → (now : Bool) → IsKept S s news after faults read_only now
+  kept_then {after} given now = kept_of_mounted S s news after faults read_only now kept.writes writes (lists_stay given) (∥∥₁_map (mounted_of_kept kept runs writes) (λ w. (with_gone w.0 row.inode (h w.0 w.1) (name_entries Remove gone.inode name time) cuts_fresh gone.inode, mounted_then w.0 w.1 given)))
 
   -- Each byte that a row's file had is where it was.
   pub bytes_kept : (r : Row) → Contains rows r → (x : ℕ) → byte_in S (block_at r.index (x / 4096)) x ≡ byte_in R (block_at r.index (x / 4096)) x
@@ -144,7 +155,7 @@ module _ {R S : Region} {s : Super} {rows news : List Row} {free after : FreeLis
       let same : h held m ≡ g = cc in
       subst (λ (k : Held). WasRemoved S s held row.inode k (name_entries Remove gone.inode name time) gone.inode) same (record {
         fresh = cuts_fresh;
-        free = (let cuts = step.step in fresh_free time name cuts.fresh shown (shows_gone held m) (of_kind held m) good (is_named held m) can_go kept.lists cuts.taken step.given (count held m));
+        free = (let cuts = step.step in fresh_free time name cuts.fresh shown (shows_gone held m) (of_kind held m) good (is_named held m) can_go kept.lists cuts.taken (count held m));
         count = count held m;
         sound = sound_then held m;
       }))

@@ -100,25 +100,27 @@ same_store held i h is = λ t j. (each j) t where
 
 module _ {R : Region} {s : Super} {rows : List Row} {free after : FreeLists} {faults : List Fault} {read_only stopped : Bool} (kept : IsKept R s rows free faults read_only stopped) (runs : stopped ≡ false) (writes : read_only ≡ false)
     (place : ℕ) (row new : Row) (at : slice_get rows place ≡ Some row) where
-  -- What is kept stays where nothing has changed but room.
+  -- What is held stays where nothing has changed but room.
+  pub mounted_same : SameRow row new → SamePools free after → (held : Store) → IsMounted R s held rows free.pools → IsMounted R s held (set rows place new) after.pools
+  mounted_same same pools held m =
+      let keeps = m.keeps in
+      let in_rows = keeps.in_rows in
+      let w = in_rows.each row (stands rows place row at) in
+      let follow = rows_follow (fixed_layout s) held row.inode w.0 rows in_rows place (slice_get_within rows place row at) new (number_at rows place row new at) same.inode (keeps_same s w.0 row new same w.2) in
+      record {
+        sound = m.sound;
+        keeps = record {
+          in_rows = subst (λ (st : Store). KeepsRows (fixed_layout s) st (set rows place new)) (same_store held row.inode w.0 w.1) follow;
+          in_lists = subst (λ (lists : List (List Run)). KeepsFree (fixed_layout s) held lists) (sym pools.pools) keeps.in_lists;
+        };
+      }
+
+  -- What is kept stays too.
   pub kept_same : SameRow row new → SamePools free after → (now : Bool) → IsKept R s (set rows place new) after faults read_only now
-  kept_same same pools now = kept_of_mounted R s (set rows place new) after faults read_only now kept.writes writes (pools.sup ∙ kept.lists) (∥∥₁_map (mounted_of_kept kept runs writes) (λ w. (w.0, mounted_same w.0 w.1))) where
-    mounted_same : (held : Store) → IsMounted R s held rows free.pools → IsMounted R s held (set rows place new) after.pools
-    mounted_same held m =
-        let keeps = m.keeps in
-        let in_rows = keeps.in_rows in
-        let w = in_rows.each row (stands rows place row at) in
-        let follow = rows_follow (fixed_layout s) held row.inode w.0 rows in_rows place (slice_get_within rows place row at) new (number_at rows place row new at) same.inode (keeps_same s w.0 row new same w.2) in
-        record {
-          sound = m.sound;
-          keeps = record {
-            in_rows = subst (λ (st : Store). KeepsRows (fixed_layout s) st (set rows place new)) (same_store held row.inode w.0 w.1) follow;
-            in_lists = subst (λ (lists : List (List Run)). KeepsFree (fixed_layout s) held lists) (sym pools.pools) keeps.in_lists;
-          };
-        }
+  kept_same same pools now = kept_of_mounted R s (set rows place new) after faults read_only now kept.writes writes (pools.sup ∙ kept.lists) (∥∥₁_map (mounted_of_kept kept runs writes) (λ w. (w.0, mounted_same same pools w.0 w.1)))
 
   module _ {S : Region} (entries : List Entry) (follows : (held : Store) (h : Held) → ShowsRow R s held h row free → LogFollows R S s held h entries row new after) where
-    mounted_after : (held : Store) → IsMounted R s held rows free.pools → (then : Store) × IsMounted S s then (set rows place new) after.pools
+    pub mounted_after : (held : Store) → IsMounted R s held rows free.pools → (then : Store) × IsMounted S s then (set rows place new) after.pools
     mounted_after held m =
         let keeps = m.keeps in
         let w = shows_row m kept.lists row (stands rows place row at) in

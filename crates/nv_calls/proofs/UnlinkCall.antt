@@ -18,7 +18,7 @@ use Rattle.nv_held.specs.nv_named.Read.{row_of}
 use Rattle.nv_held.specs.nv_named.Step.{IsGoodName}
 use Rattle.nv_held.specs.Held.{Held, Store}
 use Rattle.nv_held.specs.Bytes.{byte_in}
-use Rattle.nv_held.specs.Mounted.{ShowsSound}
+use Rattle.nv_held.specs.Mounted.{IsMounted, ShowsSound}
 use Rattle.nv_tree.specs.declared.refusal.Refusal.{Refusal}
 use Rattle.nv_tree.specs.Path.{IsPath, IsPathName, Says, last_name}
 use Rattle.nv_tree.specs.Tree.{Node, SameTree, Tree, found, walk}
@@ -33,9 +33,9 @@ use Rattle.nv_calls.specs.RemoveCalls.{ShowsRemoved}
 use Rattle.nv_paths.specs.Seen.{LeadsTo, tree_of}
 use Rattle.nv_calls.specs.UnlinkCalls.{has_more_links, unlink_blocks}
 use Rattle.nv_steps.specs.Unlinks.{UnlinksAt}
-use Rattle.nv_calls.specs.AtPlaces.{Releases, release_blocks}
+use Rattle.nv_calls.specs.AtPlaces.{Releases, ReleasesAt, cut_of, release_blocks}
 use Rattle.nv_calls.specs.World.{world_of}
-use Rattle.nv_calls.proofs.BothMounted.{both_bytes, both_kept, both_logs}
+use Rattle.nv_calls.proofs.BothMounted.{both_bytes, both_kept, both_logs, mounted_then}
 use Rattle.nv_calls.proofs.BothTree.{both_tree}
 use Rattle.nv_paths.proofs.CreateTests.{good_name}
 use Rattle.nv_calls.proofs.Kept.{rows_rise}
@@ -88,13 +88,16 @@ module _ {R S : Region} {s : Super} {rows news : List Row} {free after : FreeLis
   counted : links_at (tree_of R rows) file.inode ≡ file.numbers.links
   counted = links_told R rows file (row_at rows target file rising file_at)
 
+  pub more_mounted : (held : Store) (m : IsMounted R s held rows free.pools) → (then : Store) × IsMounted S s then news after.pools
+  more_mounted held m = (_, mounted_then kept runs writes step.step differ (unlink_right step is_directory is_file some good named) held m)
+
   more_kept : (now : Bool) → IsKept S s news after faults read_only now
   more_kept = both_kept kept runs writes step.step differ (unlink_right step is_directory is_file some good named)
 
   bytes : (r : Row) → Contains rows r → (x : ℕ) → byte_in S (block_at r.index (x / 4096)) x ≡ byte_in R (block_at r.index (x / 4096)) x
   bytes = both_bytes kept runs writes step.step differ (unlink_right step is_directory is_file some good named)
 
-  more_tree : SameTree (tree_of S news) (unlinked names time (tree_of R rows))
+  pub more_tree : SameTree (tree_of S news) (unlinked names time (tree_of R rows))
   more_tree =
       let both = step.step in
       let lost = both.is in
@@ -122,6 +125,38 @@ module _ {R S : Region} {s : Super} {rows news : List Row} {free after : FreeLis
 
 -- ---- in both cases
 
+-- what a name's going leaves, without what was given back
+pub released_at : {R S : Region} {s : Super} {rows news : List Row} {free after : FreeLists} {place target : ℕ} {name : List ℕ} {time : ℕ} → Releases R S s free after rows news place target name time → ReleasesAt R S s free rows news place target name time
+released_at {after = after} (inl w) = inl (w.0, (after, w.1))
+released_at (inr w) = inr (w.0, ((w.1).mid, cut_of w.1))
+
+module _ {R S : Region} {s : Super} {rows news : List Row} {free : FreeLists} {faults : List Fault} {read_only stopped : Bool} (kept : IsKept R s rows free faults read_only stopped) (runs : stopped ≡ false) (writes : read_only ≡ false)
+    {place target : ℕ} {name : List ℕ} {time : ℕ} (done : ReleasesAt R S s free rows news place target name time) (spelled : IsPathName name) (files : (row : Row) → slice_get rows target ≡ Some row → row.kind ≡ File) (names : List (List ℕ)) (spot : IsNamedAt (tree_of R rows) rows names place name target) where
+  file_there : {after : FreeLists} (step : UnlinksAt R S s free after rows news place target name time) → slice_get rows target ≡ Some step.file
+  file_there step = let both = step.step in both.other_at
+
+  -- how many links the file had
+  links_are : (i : ℕ) (node : Node) (row : Row) → LeadsTo (tree_of R rows) names i node → slice_get rows target ≡ Some row → row.numbers.links ≡ node.links
+  links_are i node row led at =
+      let numbers : Some row.inode ≡ Some i = sym (spot.leads row at) ∙ led.leads in
+      let one : row.inode ≡ i = cc in
+      sym (links_told R rows row (row_at rows target row (rows_rise R s rows free faults read_only stopped kept runs) at)) ∙ ap (λ (k : ℕ). links_at (tree_of R rows) k) one ∙ ap (λ (o : Option Node). option_map_or (λ (n : Node). n.links) o 0) led.shows
+
+  -- Both logs, where it had others.
+  pub unlink_logs : (i d : ℕ) (node : Node) (held : Store) (h f : Held) → LeadsTo (tree_of R rows) names i node → walk (tree_of R rows) 1 names ≡ Ok d → ShowsSound R s held → held d ≡ Some h → held i ≡ Some f → 1 < node.links
+      → ShowsBothGrew S s held d h (name_entries Remove i (last_name names) time) i f (links_entries (node.links - 1) time)
+  unlink_logs i d node held h f led ended sound is other_is some = by done where
+    by : ReleasesAt R S s free rows news place target name time → ShowsBothGrew S s held d h (name_entries Remove i (last_name names) time) i f (links_entries (node.links - 1) time)
+    by (inl w) = let step = w.1.1 in more_logs kept runs writes step spelled (files step.file (file_there step)) (w.0 step.file (file_there step)) names spot i d node held h f led ended sound is other_is
+    by (inr w) = absurd (let step = w.1.1 in let few = w.0 step.gone step.gone_at in let count = links_are i node step.gone led step.gone_at in omega (arith, some, few, count))
+
+  -- The directory's log, where it went.
+  pub unlink_last : (i d : ℕ) (node : Node) (held : Store) (h : Held) → LeadsTo (tree_of R rows) names i node → walk (tree_of R rows) 1 names ≡ Ok d → ShowsSound R s held → held d ≡ Some h → node.links ≤ 1 → ShowsRemoved S s held d h (name_entries Remove i (last_name names) time) i
+  unlink_last i d node held h led ended sound is few = by done where
+    by : ReleasesAt R S s free rows news place target name time → ShowsRemoved S s held d h (name_entries Remove i (last_name names) time) i
+    by (inl w) = absurd (let step = w.1.1 in let some = w.0 step.file (file_there step) in let count = links_are i node step.file led (file_there step) in omega (arith, some, few, count))
+    by (inr w) = let step = w.1.1 in removed_log kept runs writes step spelled (inr (files step.gone step.gone_at, w.0 step.gone step.gone_at)) names spot i d node held h led ended sound is
+
 module _ {R S : Region} {s : Super} {rows news : List Row} {free after : FreeLists} {faults : List Fault} {read_only stopped : Bool} (kept : IsKept R s rows free faults read_only stopped) (runs : stopped ≡ false) (writes : read_only ≡ false)
     {place target : ℕ} {name : List ℕ} {time : ℕ} (done : Releases R S s free after rows news place target name time) (spelled : IsPathName name) (files : (row : Row) → slice_get rows target ≡ Some row → row.kind ≡ File) (names : List (List ℕ)) (spot : IsNamedAt (tree_of R rows) rows names place name target) where
   rises : Rises row_key rows
@@ -135,7 +170,7 @@ module _ {R S : Region} {s : Super} {rows news : List Row} {free after : FreeLis
   unlink_kept now = by done where
     by : Releases R S s free after rows news place target name time → IsKept S s news after faults read_only now
     by (inl w) = more_kept kept runs writes w.1 spelled (files w.1.file (at_file w.1)) (w.0 w.1.file (at_file w.1)) names spot now
-    by (inr w) = removed_kept kept runs writes w.1 spelled (inr (files w.1.gone w.1.gone_at, w.0 w.1.gone w.1.gone_at)) names spot now
+    by (inr w) = removed_kept kept runs writes (cut_of w.1) spelled (inr (files w.1.gone w.1.gone_at, w.0 w.1.gone w.1.gone_at)) names spot w.1.given now
 
   -- The tree is what the call makes of that of before.
   pub unlink_tree : SameTree (tree_of S news) (unlinked names time (tree_of R rows))
@@ -148,29 +183,7 @@ module _ {R S : Region} {s : Super} {rows news : List Row} {free after : FreeLis
         let count = links_told R rows step.gone (row_at rows target step.gone rises step.gone_at) in
         subst (λ (t : Tree). SameTree (tree_of S news) t)
         (sym (unlinked_last names time (tree_of R rows) step.gone.inode step.row.inode name (spot.leads step.gone step.gone_at) (spot.directory step.row step.at).0 spot.name_is step.gone.numbers.links count few))
-        (tree_is kept runs writes step spelled (inr (files step.gone step.gone_at, few)) names spot)
-
-  -- how many links the file had
-  links_are : (i : ℕ) (node : Node) (row : Row) → LeadsTo (tree_of R rows) names i node → slice_get rows target ≡ Some row → row.numbers.links ≡ node.links
-  links_are i node row led at =
-      let numbers : Some row.inode ≡ Some i = sym (spot.leads row at) ∙ led.leads in
-      let one : row.inode ≡ i = cc in
-      sym (links_told R rows row (row_at rows target row rises at)) ∙ ap (λ (k : ℕ). links_at (tree_of R rows) k) one ∙ ap (λ (o : Option Node). option_map_or (λ (n : Node). n.links) o 0) led.shows
-
-  -- Both logs, where it had others.
-  pub unlink_logs : (i d : ℕ) (node : Node) (held : Store) (h f : Held) → LeadsTo (tree_of R rows) names i node → walk (tree_of R rows) 1 names ≡ Ok d → ShowsSound R s held → held d ≡ Some h → held i ≡ Some f → 1 < node.links
-      → ShowsBothGrew S s held d h (name_entries Remove i (last_name names) time) i f (links_entries (node.links - 1) time)
-  unlink_logs i d node held h f led ended sound is other_is some = by done where
-    by : Releases R S s free after rows news place target name time → ShowsBothGrew S s held d h (name_entries Remove i (last_name names) time) i f (links_entries (node.links - 1) time)
-    by (inl w) = more_logs kept runs writes w.1 spelled (files w.1.file (at_file w.1)) (w.0 w.1.file (at_file w.1)) names spot i d node held h f led ended sound is other_is
-    by (inr w) = absurd (let few = w.0 w.1.gone w.1.gone_at in let count = links_are i node w.1.gone led w.1.gone_at in omega (arith, some, few, count))
-
-  -- The directory's log, where it went.
-  pub unlink_last : (i d : ℕ) (node : Node) (held : Store) (h : Held) → LeadsTo (tree_of R rows) names i node → walk (tree_of R rows) 1 names ≡ Ok d → ShowsSound R s held → held d ≡ Some h → node.links ≤ 1 → ShowsRemoved S s held d h (name_entries Remove i (last_name names) time) i
-  unlink_last i d node held h led ended sound is few = by done where
-    by : Releases R S s free after rows news place target name time → ShowsRemoved S s held d h (name_entries Remove i (last_name names) time) i
-    by (inl w) = absurd (let some = w.0 w.1.file (at_file w.1) in let count = links_are i node w.1.file led (at_file w.1) in omega (arith, some, few, count))
-    by (inr w) = removed_log kept runs writes w.1 spelled (inr (files w.1.gone w.1.gone_at, w.0 w.1.gone w.1.gone_at)) names spot i d node held h led ended sound is
+        (tree_is kept runs writes (cut_of step) spelled (inr (files step.gone step.gone_at, few)) names spot)
 
 -- ---- why it is refused
 

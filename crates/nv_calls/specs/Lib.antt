@@ -17,3 +17,6 @@ pub mod RemoveCalls
 pub mod AtPlaces
 pub mod GrownLogs
 pub mod SizeCall
+pub mod CleanCall
+pub mod Effects
+pub mod Stopped

@@ -2,7 +2,7 @@
 
 ghost use Rattle.std.specs.Prelude.{◌≡◌, ◌⊎◌, ◌<◌, ◌≤◌, ◌%◌, ℕ, List, Option, Result, IsTrue, IfErr, OnOk, false};
 ghost use Rattle.nv_region.specs.Region.{size};
-ghost use Rattle.nv_region.specs.Stops.{NothingPending};
+ghost use Rattle.nv_region.specs.Stops.{LeavesOnly, NothingPending};
 ghost use Rattle.nv_region.specs.Fuses.{KeepsFuse};
 ghost use Rattle.nv_held.specs.Held.{Held, Store};
 ghost use Rattle.nv_held.specs.Mounted.{ShowsSound};
@@ -15,6 +15,8 @@ ghost use Rattle.nv_steps.specs.Attributes.{attributes};
 ghost use Rattle.nv_calls.specs.AttributesCall.{attributes_blocks};
 ghost use Rattle.nv_calls.specs.GrownLogs.{ShowsGrownLog};
 ghost use Rattle.nv_calls.specs.Same.{KeepsMount, SameMount};
+ghost use Rattle.nv_calls.specs.Effects.{logs_attributes, makes_attributes};
+ghost use Rattle.nv_calls.specs.Stopped.{LeavesCall};
 ghost use Rattle.nv_paths.specs.Seen.{LeadsTo, tree_of};
 ghost use Rattle.nv_calls.specs.World.{world_of};
 
@@ -66,6 +68,13 @@ impl<P: Pmem + Drop> Fs<P> {
         ensures settled { OnOk result (NothingPending (P.region self.new.memory) (P.may_hold self.new.memory)) }
         ensures length { size (P.region self.new.memory) ≡ size (P.region self.old.memory) }
         ensures keeps_fuse { KeepsFuse (λ limit. size (P.region self.old.memory) ≤ limit) (P.fuse self.old.memory) (P.fuse self.new.memory) }
+        // Where the text is no path, all stays as it was.
+        ensures bad_text { ((names : List (List ℕ)) → IsPath path.now names → ⊥) → SameMount self.old self.new }
+        // What was mounted with faults stays as it was.
+        ensures read_only { IsTrue self.old.read_only → SameMount self.old self.new }
+        // Whatever a stop leaves, at any exit: recovery finds what was mounted, or what the call makes, without faults.
+        ensures any_stop { (names : List (List ℕ)) → IsPath path.now names → self.old.stopped ≡ false → self.old.read_only ≡ false
+            → LeavesOnly (P.region self.new.memory) (P.may_hold self.new.memory) (LeavesCall (makes_attributes mode owner group time) (logs_attributes mode owner group time) (P.region self.old.memory) self.old names) }
     {
         self.writable(cpu)?;
         let inode = row_at(&self.rows, path)?.inode;

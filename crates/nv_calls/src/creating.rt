@@ -2,18 +2,19 @@
 
 ghost use Rattle.std.specs.Prelude.{◌≡◌, ◌⊎◌, ◌+◌, ◌<◌, ◌≤◌, ◌%◌, ℕ, List, Option, Result, IsTrue, IfErr, OnOk, false};
 ghost use Rattle.nv_region.specs.Region.{size};
-ghost use Rattle.nv_region.specs.Stops.{NothingPending};
+ghost use Rattle.nv_region.specs.Stops.{LeavesOnly, NothingPending};
 ghost use Rattle.nv_region.specs.Fuses.{KeepsFuse};
-ghost use Rattle.nv_super.specs.Layout.{inode_limit};
+ghost use Rattle.nv_super.specs.Layout.{fixed_layout, inode_limit};
 ghost use Rattle.nv_super.specs.declared.kind.Kind.TheVariants.{File, Directory};
 ghost use Rattle.nv_alloc.specs.Taking.{all_blocks};
 ghost use Rattle.nv_entry.specs.declared.entry.Operation.{Operation as OperationValue};
 ghost use Rattle.nv_logpage.specs.Append.{needed};
-ghost use Rattle.nv_names.specs.Names.{IsName};
 ghost use Rattle.nv_scan.specs.declared.piece.Row.{Row as RowValue};
 ghost use Rattle.nv_rows.specs.Rows.{IsInUse, place_in, row_of};
 ghost use Rattle.nv_held.specs.Held.{Held, Store};
 ghost use Rattle.nv_held.specs.Mounted.{ShowsSound};
+ghost use Rattle.nv_commit.specs.Stopped.{LeavesEither};
+ghost use Rattle.nv_names.specs.Names.{IsName, name_at};
 ghost use Rattle.nv_tree.specs.Path.{IsPath, Says, last_name};
 ghost use Rattle.nv_tree.specs.Tree.{SameTree, walk};
 ghost use Rattle.nv_tree.specs.Calls.{created};
@@ -25,8 +26,11 @@ ghost use Rattle.nv_steps.specs.NameEntries.{name_entries};
 ghost use Rattle.nv_steps.specs.NewNames.{CanName};
 ghost use Rattle.nv_calls.specs.AtPlaces.{CreatesAt, LeavesRows};
 ghost use Rattle.nv_calls.specs.Same.{KeepsMount, SameMount};
+ghost use Rattle.nv_calls.specs.Effects.{logs_inode, makes_inode};
+ghost use Rattle.nv_calls.specs.Stopped.{LeavesCall};
+ghost use Rattle.nv_steps.specs.Stopped.{Named};
 ghost use Rattle.nv_paths.specs.Seen.{tree_of};
-ghost use Rattle.nv_steps.specs.Steps.{RefusesStep};
+ghost use Rattle.nv_steps.specs.Steps.{RefusesStep, ShowsRow};
 ghost use Rattle.nv_rows.specs.Unused.{unused_number};
 ghost use Rattle.nv_calls.specs.World.{world_of};
 
@@ -73,6 +77,9 @@ fn create_at<P: Pmem>(
     ensures lists { free.new.sup ≡ free.old.sup }
     ensures length { size (P.region memory.new) ≡ size (P.region memory.old) }
     ensures keeps_fuse { KeepsFuse (λ limit. size (P.region memory.old) ≤ limit) (P.fuse memory.old) (P.fuse memory.new) }
+    // Whatever a stop leaves: recovery finds what is held, or it with the new inode and its name, without faults.
+    ensures any_stop { (row : RowValue) (held : Store) (h : Held) → row_of rows.old.items directory ≡ Option.Some row → ShowsRow (P.region memory.old) sup.now held h row free.old → held new.now.inode ≡ Option.None → name_at row.names new.now.name.now ≡ Option.None → NothingPending (P.region memory.old) (P.may_hold memory.old)
+        → LeavesOnly (P.region memory.new) (P.may_hold memory.new) (LeavesEither (P.region memory.old) (fixed_layout sup.now) held (Named (P.region memory.old) sup.now free.old row new.now.kind new.now.mode new.now.time new.now.inode new.now.name.now)) }
 {
     let entries = [name_entry(Operation::Add, new.inode, new.name, new.time)];
     if free.free_blocks() < 1 + pages_needed(rows.row(directory).tail, &entries) {
@@ -121,6 +128,13 @@ impl<P: Pmem + Drop> Fs<P> {
         ensures settled { OnOk result (NothingPending (P.region self.new.memory) (P.may_hold self.new.memory)) }
         ensures length { size (P.region self.new.memory) ≡ size (P.region self.old.memory) }
         ensures keeps_fuse { KeepsFuse (λ limit. size (P.region self.old.memory) ≤ limit) (P.fuse self.old.memory) (P.fuse self.new.memory) }
+        // Where the text is no path, all stays as it was.
+        ensures bad_text { ((names : List (List ℕ)) → IsPath path.now names → ⊥) → SameMount self.old self.new }
+        // What was mounted with faults stays as it was.
+        ensures read_only { IsTrue self.old.read_only → SameMount self.old self.new }
+        // Whatever a stop leaves, at any exit: recovery finds what was mounted, or what the call makes, without faults.
+        ensures any_stop { (names : List (List ℕ)) → IsPath path.now names → self.old.stopped ≡ false → self.old.read_only ≡ false
+            → LeavesOnly (P.region self.new.memory) (P.may_hold self.new.memory) (LeavesCall (makes_inode File cpu mode time) (logs_inode File cpu mode time) (P.region self.old.memory) self.old names) }
     {
         self.make(cpu, path, Kind::File, mode, time)
     }
@@ -144,6 +158,13 @@ impl<P: Pmem + Drop> Fs<P> {
         ensures settled { OnOk result (NothingPending (P.region self.new.memory) (P.may_hold self.new.memory)) }
         ensures length { size (P.region self.new.memory) ≡ size (P.region self.old.memory) }
         ensures keeps_fuse { KeepsFuse (λ limit. size (P.region self.old.memory) ≤ limit) (P.fuse self.old.memory) (P.fuse self.new.memory) }
+        // Where the text is no path, all stays as it was.
+        ensures bad_text { ((names : List (List ℕ)) → IsPath path.now names → ⊥) → SameMount self.old self.new }
+        // What was mounted with faults stays as it was.
+        ensures read_only { IsTrue self.old.read_only → SameMount self.old self.new }
+        // Whatever a stop leaves, at any exit: recovery finds what was mounted, or what the call makes, without faults.
+        ensures any_stop { (names : List (List ℕ)) → IsPath path.now names → self.old.stopped ≡ false → self.old.read_only ≡ false
+            → LeavesOnly (P.region self.new.memory) (P.may_hold self.new.memory) (LeavesCall (makes_inode Directory cpu mode time) (logs_inode Directory cpu mode time) (P.region self.old.memory) self.old names) }
     {
         self.make(cpu, path, Kind::Directory, mode, time)
     }
@@ -174,6 +195,13 @@ impl<P: Pmem + Drop> Fs<P> {
         ensures settled { OnOk result (NothingPending (P.region self.new.memory) (P.may_hold self.new.memory)) }
         ensures length { size (P.region self.new.memory) ≡ size (P.region self.old.memory) }
         ensures keeps_fuse { KeepsFuse (λ limit. size (P.region self.old.memory) ≤ limit) (P.fuse self.old.memory) (P.fuse self.new.memory) }
+        // Where the text is no path, all stays as it was.
+        ensures bad_text { ((names : List (List ℕ)) → IsPath path.now names → ⊥) → SameMount self.old self.new }
+        // What was mounted with faults stays as it was.
+        ensures read_only { IsTrue self.old.read_only → SameMount self.old self.new }
+        // Whatever a stop leaves, at any exit: recovery finds what was mounted, or what the call makes, without faults.
+        ensures any_stop { (names : List (List ℕ)) → IsPath path.now names → self.old.stopped ≡ false → self.old.read_only ≡ false
+            → LeavesOnly (P.region self.new.memory) (P.may_hold self.new.memory) (LeavesCall (makes_inode kind cpu mode time) (logs_inode kind cpu mode time) (P.region self.old.memory) self.old names) }
     {
         self.writable(cpu)?;
         let spot = spot_for(&self.rows, cpu, path)?;

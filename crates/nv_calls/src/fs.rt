@@ -3,6 +3,7 @@
 ghost use Rattle.std.specs.Prelude.{◌≡◌, ℕ, List, IsTrue, IfOk, Result, false};
 ghost use Rattle.std.specs.Result.{result_err};
 ghost use Rattle.std.specs.List.{Contains};
+ghost use Rattle.nv_region.specs.Stops.{LeavesOnly, NothingPending};
 ghost use Rattle.nv_journal.specs.Undo.{undone};
 ghost use Rattle.nv_held.specs.nv_outcome.Outcome.{IsOutcome};
 ghost use Rattle.nv_held.specs.nv_outcome.Same.{lasting_outcome};
@@ -12,6 +13,7 @@ ghost use Rattle.nv_tree.specs.Refusals.{Path, first_refusal, stat_tests};
 ghost use Rattle.nv_tree.specs.declared.refusal.Refusal.{Refusal as RefusalValue};
 ghost use Rattle.nv_paths.specs.Seen.{node_of, tree_of, LeadsTo};
 ghost use Rattle.nv_calls.specs.Mount.{IsKept, has_faults};
+ghost use Rattle.nv_calls.specs.Stopped.{LeavesMounted};
 
 use nv_alloc::Allocators;
 use nv_held::Recovered;
@@ -27,7 +29,8 @@ use std::marker::Model;
 /// A mounted file system.
 ///
 /// Until a call answers `Stopped`, its rows, free lists and faults are what recovery would find in its region, but for the
-/// faults of pending records, which the recovery that it was opened with has rolled back.
+/// faults of pending records, which the recovery that it was opened with has rolled back. Between calls nothing is pending:
+/// a power cut then leaves the region as it reads.
 #[derive(Drop)]
 pub struct Fs<P: Pmem + Drop> {
     pub(crate) alloc: Global,
@@ -41,23 +44,26 @@ pub struct Fs<P: Pmem + Drop> {
 }
 
 impl<P: Pmem + Drop> Model for Fs<P> {
-    ghost use Rattle.std.specs.Prelude.{◌≡◌};
+    ghost use Rattle.std.specs.Prelude.{◌≡◌, false};
+    ghost use Rattle.nv_region.specs.Stops.{NothingPending};
     ghost use Rattle.nv_calls.specs.Mount.{Mount, IsKept};
 
     ghost Value = { Mount P };
 
     ghost view = { λ a. record { memory = a.memory; sup = a.sup; rows = a.rows.items; free = a.free; faults = a.faults.items; read_only = a.read_only; stopped = a.stopped } };
 
-    ghost invariant = { λ a. IsKept (P.region a.memory) a.sup a.rows.items a.free a.faults.items a.read_only a.stopped × (a.rows.sup ≡ a.sup) };
+    ghost invariant = { λ a. IsKept (P.region a.memory) a.sup a.rows.items a.free a.faults.items a.read_only a.stopped × (a.rows.sup ≡ a.sup) × (a.stopped ≡ false → NothingPending (P.region a.memory) (P.may_hold a.memory)) };
 }
 
 impl<P: Pmem + Drop> Fs<P> {
-    /// Mounts a region that was recovered: read-only where faults were found. It takes no memory.
+    /// Mounts a region that was recovered, and of which nothing is pending: read-only where faults were found. It takes no
+    /// memory.
     pub fn open(alloc: Global, memory: P, recovered: Recovered) -> Fs<P>
         requires outcome { IsOutcome (P.region memory) (lasting_outcome (outcome_of recovered)) }
         requires lists { recovered.free.sup ≡ recovered.sup }
         requires numbers { recovered.rows.sup ≡ recovered.sup }
         requires own { undone recovered.sup (P.region memory) ≡ P.region memory }
+        requires settled { NothingPending (P.region memory) (P.may_hold memory) }
         ensures memory { result.memory ≡ memory }
         ensures sup { result.sup ≡ recovered.sup }
         ensures rows { result.rows ≡ recovered.rows.items }
@@ -134,6 +140,22 @@ impl<P: Pmem + Drop> Fs<P> {
     {
         // Its type's promise is known where a field is used.
         let _ = &self.sup;
+    }
+
+    /// Between calls nothing is pending. It does nothing.
+    pub fn nothing_is_pending(&self)
+        ensures { self.now.stopped ≡ false → NothingPending (P.region self.now.memory) (P.may_hold self.now.memory) }
+    {
+        let _ = &self.sup;
+    }
+
+    /// Whatever a stop leaves between calls, as after one that answered `Ok`: recovery finds what is mounted, without faults.
+    /// It does nothing.
+    pub fn recovers_as_mounted(&self)
+        ensures { self.now.stopped ≡ false → self.now.read_only ≡ false → LeavesOnly (P.region self.now.memory) (P.may_hold self.now.memory) (LeavesMounted (P.region self.now.memory) self.now) }
+    {
+        self.keeps();
+        self.nothing_is_pending();
     }
 
     /// The row of the inode in use that a path leads to, or the refusal that `stat` has.

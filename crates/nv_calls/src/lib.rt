@@ -2,6 +2,7 @@
 #![tactic(auto)]
 
 mod attributes;
+mod cleaning;
 mod creating;
 mod fs;
 mod linking;
@@ -12,6 +13,7 @@ mod removing_directory;
 mod renaming;
 mod sizes;
 mod stating;
+mod stops;
 mod unlinking;
 mod write;
 mod writing;
@@ -19,3 +21,4 @@ mod writing;
 pub use fs::Fs;
 pub use nv_format::{FormatRefusal, format};
 pub use stating::Stat;
+pub use stops::{stopped_format, stopped_recoveries_change_nothing};

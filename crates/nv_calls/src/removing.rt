@@ -1,9 +1,10 @@
 //! An inode that goes with its name: all growths first, then the commit, then the rows and the free lists.
 
 ghost use Rattle.std.specs.Prelude.{◌≡◌, ◌≢◌, ◌+◌, ◌%◌, ◌<◌, ◌≤◌, length, Option, IsTrue, IfErr, OnOk};
+ghost use Rattle.nv_super.specs.Layout.{fixed_layout};
 ghost use Rattle.std.specs.Int.{div_ceil};
 ghost use Rattle.nv_region.specs.Region.{size};
-ghost use Rattle.nv_region.specs.Stops.{NothingPending};
+ghost use Rattle.nv_region.specs.Stops.{LeavesOnly, NothingPending};
 ghost use Rattle.nv_region.specs.Fuses.{KeepsFuse};
 ghost use Rattle.nv_alloc.specs.Taking.{all_blocks};
 ghost use Rattle.nv_entry.specs.declared.entry.Operation.{Operation as OperationValue};
@@ -11,13 +12,16 @@ ghost use Rattle.nv_logpage.specs.Append.{needed};
 ghost use Rattle.nv_names.specs.Names.{IsName};
 ghost use Rattle.nv_scan.specs.declared.piece.Row.{Row as RowValue};
 ghost use Rattle.nv_rows.specs.Rows.{IsInUse, place_in, row_of};
+ghost use Rattle.nv_held.specs.Held.{Held, Store};
+ghost use Rattle.nv_commit.specs.Stopped.{LeavesEither};
 ghost use Rattle.nv_tree.specs.declared.refusal.Refusal.{Refusal as RefusalValue};
 ghost use Rattle.nv_steps.specs.Grown.{StandsRight};
 ghost use Rattle.nv_steps.specs.LessNames.{OwnsBlocks};
 ghost use Rattle.nv_steps.specs.NameEntries.{name_entries};
 ghost use Rattle.nv_steps.specs.NewNames.{CanName};
 ghost use Rattle.nv_calls.specs.AtPlaces.{LeavesRows, RemovesAt};
-ghost use Rattle.nv_steps.specs.Steps.{RefusesStep};
+ghost use Rattle.nv_steps.specs.Steps.{RefusesStep, ShowsRow};
+ghost use Rattle.nv_steps.specs.Stopped.{Cut};
 
 use nv_alloc::Allocators;
 use nv_paths::Named;
@@ -60,6 +64,9 @@ pub(crate) fn remove_named<P: Pmem>(
     ensures lists { free.new.sup ≡ free.old.sup }
     ensures length { size (P.region memory.new) ≡ size (P.region memory.old) }
     ensures keeps_fuse { KeepsFuse (λ limit. size (P.region memory.old) ≤ limit) (P.fuse memory.old) (P.fuse memory.new) }
+    // Whatever a stop leaves: recovery finds what is held, or it without the name and the inode, without faults.
+    ensures any_stop { (row gone : RowValue) (held : Store) (h : Held) → row_of rows.old.items named.now.directory ≡ Option.Some row → row_of rows.old.items named.now.target ≡ Option.Some gone → ShowsRow (P.region memory.old) sup.now held h row free.old → NothingPending (P.region memory.old) (P.may_hold memory.old)
+        → LeavesOnly (P.region memory.new) (P.may_hold memory.new) (LeavesEither (P.region memory.old) (fixed_layout sup.now) held (Cut (P.region memory.old) sup.now free.old row gone.inode time named.now.name.now)) }
 {
     let gone = Gone {
         inode: named.target,

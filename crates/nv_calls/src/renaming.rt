@@ -1,17 +1,19 @@
 //! `rename`: another name for an inode.
 
 ghost use Rattle.std.specs.Prelude.{◌≡◌, ◌≢◌, ◌⊎◌, ◌+◌, ◌%◌, ◌<◌, ◌≤◌, ℕ, List, Option, Result, IsTrue, IfErr, OnOk, false};
+ghost use Rattle.nv_super.specs.Layout.{fixed_layout};
 ghost use Rattle.nv_region.specs.Region.{size};
-ghost use Rattle.nv_region.specs.Stops.{NothingPending};
+ghost use Rattle.nv_region.specs.Stops.{LeavesOnly, NothingPending};
 ghost use Rattle.nv_region.specs.Fuses.{KeepsFuse};
 ghost use Rattle.nv_alloc.specs.Taking.{all_blocks};
 ghost use Rattle.nv_entry.specs.declared.entry.Operation.TheVariants.{Add, Remove};
 ghost use Rattle.nv_logpage.specs.Append.{needed};
-ghost use Rattle.nv_names.specs.Names.{IsName};
+ghost use Rattle.nv_names.specs.Names.{IsName, name_at};
 ghost use Rattle.nv_scan.specs.declared.piece.Row.{Row as RowValue};
 ghost use Rattle.nv_rows.specs.Rows.{IsInUse, place_in, row_of};
 ghost use Rattle.nv_held.specs.Held.{Held, Store};
 ghost use Rattle.nv_held.specs.Mounted.{ShowsSound};
+ghost use Rattle.nv_commit.specs.Stopped.{LeavesEither};
 ghost use Rattle.nv_tree.specs.Path.{IsPath, Says, last_name};
 ghost use Rattle.nv_tree.specs.Tree.{Node, SameTree, walk};
 ghost use Rattle.nv_tree.specs.Calls.{renamed};
@@ -26,8 +28,11 @@ ghost use Rattle.nv_steps.specs.NameEntries.{name_entries};
 ghost use Rattle.nv_steps.specs.NewNames.{CanName};
 ghost use Rattle.nv_calls.specs.AtPlaces.{LeavesRows};
 ghost use Rattle.nv_calls.specs.Same.{KeepsMount, SameMount};
+ghost use Rattle.nv_calls.specs.Effects.{logs_rename, makes_rename};
+ghost use Rattle.nv_calls.specs.Stopped.{LeavesCall, Renamed};
+ghost use Rattle.nv_steps.specs.Stopped.{MovedOver};
 ghost use Rattle.nv_paths.specs.Seen.{LeadsTo, tree_of};
-ghost use Rattle.nv_steps.specs.Steps.{RefusesStep};
+ghost use Rattle.nv_steps.specs.Steps.{RefusesStep, ShowsRow};
 ghost use Rattle.nv_calls.specs.World.{world_of};
 
 use crate::Fs;
@@ -73,6 +78,10 @@ fn move_across<P: Pmem>(
     ensures lists { free.new.sup ≡ free.old.sup }
     ensures length { size (P.region memory.new) ≡ size (P.region memory.old) }
     ensures keeps_fuse { KeepsFuse (λ limit. size (P.region memory.old) ≤ limit) (P.fuse memory.old) (P.fuse memory.new) }
+    // Whatever a stop leaves: recovery finds what is held, or it with the other name, without faults.
+    ensures any_stop { (from to inode : RowValue) (held : Store) (h k : Held) → row_of rows.old.items moved.now.from.directory ≡ Option.Some from → row_of rows.old.items moved.now.directory ≡ Option.Some to → row_of rows.old.items moved.now.from.target ≡ Option.Some inode
+        → ShowsRow (P.region memory.old) sup.now held h from free.old → ShowsRow (P.region memory.old) sup.now held k to free.old → name_at to.names moved.now.name.now ≡ Option.None → NothingPending (P.region memory.old) (P.may_hold memory.old)
+        → LeavesOnly (P.region memory.new) (P.may_hold memory.new) (LeavesEither (P.region memory.old) (fixed_layout sup.now) held (MovedOver (P.region memory.old) sup.now free.old from to inode.inode moved.now.from.name.now moved.now.name.now time)) }
 {
     let mut from = rows.lend(alloc, moved.from.directory);
     let mut to = rows.lend(alloc, moved.directory);
@@ -130,6 +139,10 @@ fn move_at<P: Pmem>(
     ensures lists { free.new.sup ≡ free.old.sup }
     ensures length { size (P.region memory.new) ≡ size (P.region memory.old) }
     ensures keeps_fuse { KeepsFuse (λ limit. size (P.region memory.old) ≤ limit) (P.fuse memory.old) (P.fuse memory.new) }
+    // Whatever a stop leaves: recovery finds what is held, or it with the other name, without faults.
+    ensures any_stop { (from to inode : RowValue) (held : Store) (h k : Held) → row_of rows.old.items moved.now.from.directory ≡ Option.Some from → row_of rows.old.items moved.now.directory ≡ Option.Some to → row_of rows.old.items moved.now.from.target ≡ Option.Some inode
+        → ShowsRow (P.region memory.old) sup.now held h from free.old → ShowsRow (P.region memory.old) sup.now held k to free.old → name_at to.names moved.now.name.now ≡ Option.None → NothingPending (P.region memory.old) (P.may_hold memory.old)
+        → LeavesOnly (P.region memory.new) (P.may_hold memory.new) (LeavesEither (P.region memory.old) (fixed_layout sup.now) held (Renamed (P.region memory.old) sup.now free.old (place_in rows.old.items moved.now.from.directory) (place_in rows.old.items moved.now.directory) from to inode.inode moved.now.from.name.now moved.now.name.now time)) }
 {
     if moved.from.directory != moved.directory {
         return move_across(alloc, memory, sup, free, cpu, rows, moved, time);
@@ -180,6 +193,13 @@ impl<P: Pmem + Drop> Fs<P> {
         ensures settled { OnOk result (NothingPending (P.region self.new.memory) (P.may_hold self.new.memory)) }
         ensures length { size (P.region self.new.memory) ≡ size (P.region self.old.memory) }
         ensures keeps_fuse { KeepsFuse (λ limit. size (P.region self.old.memory) ≤ limit) (P.fuse self.old.memory) (P.fuse self.new.memory) }
+        // Where one of the texts is no path, all stays as it was.
+        ensures bad_text { ((names others : List (List ℕ)) → IsPath old.now names → IsPath new.now others → ⊥) → SameMount self.old self.new }
+        // What was mounted with faults stays as it was.
+        ensures read_only { IsTrue self.old.read_only → SameMount self.old self.new }
+        // Whatever a stop leaves, at any exit: recovery finds what was mounted, or what the call makes, without faults.
+        ensures any_stop { (names others : List (List ℕ)) → IsPath old.now names → IsPath new.now others → self.old.stopped ≡ false → self.old.read_only ≡ false
+            → LeavesOnly (P.region self.new.memory) (P.may_hold self.new.memory) (LeavesCall (makes_rename time (Option.Some others)) (logs_rename time (Option.Some others)) (P.region self.old.memory) self.old names) }
     {
         self.writable(cpu)?;
         let moved = rename_for(&self.rows, old, new)?;

@@ -1,8 +1,10 @@
 //! The tests that every writing call begins with.
 
 ghost use Rattle.std.specs.Prelude.{◌≡◌, ◌<◌, IsTrue, IfErr, OnOk, Option, Result, false};
+ghost use Rattle.nv_region.specs.Stops.{NothingPending};
 ghost use Rattle.nv_tree.specs.Refusals.{Tests, first_refusal, writing};
 ghost use Rattle.nv_tree.specs.declared.refusal.Refusal.{Refusal as RefusalValue};
+ghost use Rattle.nv_calls.specs.Mount.{IsKept};
 ghost use Rattle.nv_calls.specs.World.{world_of};
 
 use crate::Fs;
@@ -26,6 +28,8 @@ impl<P: Pmem + Drop> Fs<P> {
         ensures cpu { OnOk result (cpu < self.now.sup.cpus) }
         ensures writes { OnOk result (self.now.read_only ≡ false) }
         ensures passed { (tests : Tests) → OnOk result (first_refusal (writing (world_of self.now) cpu tests) ≡ first_refusal tests) }
+        ensures kept { IsKept (P.region self.now.memory) self.now.sup self.now.rows self.now.free self.now.faults self.now.read_only self.now.stopped }
+        ensures settled { self.now.stopped ≡ false → NothingPending (P.region self.now.memory) (P.may_hold self.now.memory) }
         ensures refused { self.now.stopped ≡ false → (tests : Tests) → IfErr result (λ e. first_refusal (writing (world_of self.now) cpu tests) ≡ Option.Some e) }
     {
         if self.stopped {

@@ -1,7 +1,7 @@
 use Rattle.std.proofs.Common.{◌≡◌, ◌≢◌, ◌∙◌, ◌+◌, ◌%◌, ◌<◌, ◌≤◌, List, ℕ, Some, None, ap, refl, subst, sym}
 use Rattle.std.proofs.lemmas.Result.{err_from_is_err_and}
 use Rattle.std.proofs.lemmas.Option.{same_Some}
-use Rattle.nv_super.specs.Layout.{inode_limit}
+use Rattle.nv_super.specs.Layout.{fixed_layout, inode_limit}
 use Rattle.nv_super.specs.declared.superblock.Super.{Super}
 use Rattle.nv_alloc.specs.Taking.{all_blocks}
 use Rattle.nv_entry.specs.declared.entry.Operation.TheVariants.{Add}
@@ -13,7 +13,12 @@ use Rattle.nv_tree.specs.declared.refusal.Refusal.{Refusal}
 use Rattle.nv_tree.specs.declared.refusal.Refusal.TheVariants.{Stopped}
 use Rattle.nv_steps.specs.NameEntries.{name_entries}
 use Rattle.nv_calls.specs.AtPlaces.{LeavesRows}
-use Rattle.nv_steps.specs.Steps.{RefusesStep}
+use Rattle.nv_region.specs.Stops.{LeavesOnly}
+use Rattle.nv_names.specs.Names.{name_at}
+use Rattle.nv_commit.specs.Stopped.{LeavesEither}
+use Rattle.nv_commit.proofs.Left.{still}
+use Rattle.nv_steps.specs.Stopped.{Named}
+use Rattle.nv_steps.specs.Steps.{RefusesStep, ShowsRow}
 use Rattle.nv_tree.proofs.Replies.{refused_by}
 use Rattle.nv_calls.proofs.OneOut.{back, left_one, other_row}
 use Rattle.nv_calls.proofs.PutRow.{leaves_all}
@@ -89,3 +94,23 @@ pub returns-clause-enough : goal.returns-clause-enough
 returns-clause-enough g c row is =
     let at : row_of c.args.rows.now.items c.args.directory ≡ Some c.lend-row.result = ap (λ (rows : List Row). row_of rows c.args.directory) (sym c.reserve.ensures.rows) ∙ c.lend-row.ensures.row in
     subst (λ (r : Row). 1 + needed (r.tail % 4096) (name_entries Add c.args.new.now.inode c.args.new.now.name.now c.args.new.now.time) ≤ all_blocks c.args.free.now.pools) (same_Some _ _ (sym at ∙ is)) c.in_ok-made.ensures.enough
+
+pub returns-then-free_blocks-pages_needed-clause-any_stop : goal.returns-then-free_blocks-pages_needed-clause-any_stop
+returns-then-free_blocks-pages_needed-clause-any_stop g c row held h is shows out absent settled = still _ _ c.args.sup.now held (Named (g.P.Pmem.region c.args.memory.now) c.args.sup.now c.args.free.now row c.args.new.now.kind c.args.new.now.mode c.args.new.now.time c.args.new.now.inode c.args.new.now.name.now) shows.sound settled
+
+pub returns-then-is_err-clause-any_stop : goal.returns-then-is_err-clause-any_stop
+returns-then-is_err-clause-any_stop g c row held h is shows out absent settled = still _ _ c.args.sup.now held (Named (g.P.Pmem.region c.args.memory.now) c.args.sup.now c.args.free.now row c.args.new.now.kind c.args.new.now.mode c.args.new.now.time c.args.new.now.inode c.args.new.now.name.now) shows.sound settled
+
+pub returns-in_err-made-clause-any_stop : goal.returns-in_err-made-clause-any_stop
+returns-in_err-made-clause-any_stop g c row held h is shows out absent settled =
+    let at : row_of c.args.rows.now.items c.args.directory ≡ Some c.lend-row.result = ap (λ (rows : List Row). row_of rows c.args.directory) (sym c.reserve.ensures.rows) ∙ c.lend-row.ensures.row in
+    subst (λ (r : Row). ShowsRow (g.P.Pmem.region c.args.memory.now) c.args.sup.now held h r c.args.free.now → name_at r.names c.args.new.now.name.now ≡ None
+    → LeavesOnly (g.P.Pmem.region c.make_named-made.new.memory) (g.P.Pmem.may_hold c.make_named-made.new.memory) (LeavesEither (g.P.Pmem.region c.args.memory.now) (fixed_layout c.args.sup.now) held (Named (g.P.Pmem.region c.args.memory.now) c.args.sup.now c.args.free.now r c.args.new.now.kind c.args.new.now.mode c.args.new.now.time c.args.new.now.inode c.args.new.now.name.now))) (same_Some _ _ (sym at ∙ is))
+    (λ seen none. c.make_named-made.ensures.any_stop held h seen out none settled) shows absent
+
+pub returns-clause-any_stop : goal.returns-clause-any_stop
+returns-clause-any_stop g c row held h is shows out absent settled =
+    let at : row_of c.args.rows.now.items c.args.directory ≡ Some c.lend-row.result = ap (λ (rows : List Row). row_of rows c.args.directory) (sym c.reserve.ensures.rows) ∙ c.lend-row.ensures.row in
+    subst (λ (r : Row). ShowsRow (g.P.Pmem.region c.args.memory.now) c.args.sup.now held h r c.args.free.now → name_at r.names c.args.new.now.name.now ≡ None
+    → LeavesOnly (g.P.Pmem.region c.make_named-made.new.memory) (g.P.Pmem.may_hold c.make_named-made.new.memory) (LeavesEither (g.P.Pmem.region c.args.memory.now) (fixed_layout c.args.sup.now) held (Named (g.P.Pmem.region c.args.memory.now) c.args.sup.now c.args.free.now r c.args.new.now.kind c.args.new.now.mode c.args.new.now.time c.args.new.now.inode c.args.new.now.name.now))) (same_Some _ _ (sym at ∙ is))
+    (λ seen none. c.make_named-made.ensures.any_stop held h seen out none settled) shows absent

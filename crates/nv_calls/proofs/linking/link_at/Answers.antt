@@ -1,4 +1,5 @@
-use Rattle.std.proofs.Common.{◌≡◌, ◌∙◌, ◌+◌, ◌%◌, ◌≤◌, ◌∷◌, [], ℕ, ap, subst, sym}
+use Rattle.std.proofs.Common.{◌≡◌, ◌∙◌, ◌+◌, ◌%◌, ◌≤◌, ◌∷◌, [], ℕ, ap, subst, sym, None}
+use Rattle.nv_super.specs.Layout.{fixed_layout}
 use Rattle.std.proofs.lemmas.Result.{IfErr-weaker, on_ok_weaker}
 use Rattle.std.proofs.lemmas.Option.{same_Some}
 use Rattle.nv_alloc.specs.Taking.{all_blocks}
@@ -9,7 +10,11 @@ use Rattle.nv_rows.proofs.Places.{back_two}
 use Rattle.nv_tree.specs.declared.refusal.Refusal.{Refusal}
 use Rattle.nv_steps.specs.NameEntries.{links_entries, name_entries}
 use Rattle.nv_steps.specs.MoreNames.{LinksAt}
-use Rattle.nv_steps.specs.Steps.{RefusesStep}
+use Rattle.nv_region.specs.Stops.{LeavesOnly}
+use Rattle.nv_names.specs.Names.{name_at}
+use Rattle.nv_commit.specs.Stopped.{LeavesEither}
+use Rattle.nv_steps.specs.Stopped.{Linked}
+use Rattle.nv_steps.specs.Steps.{RefusesStep, ShowsRow}
 use Rattle.nv_calls.proofs.TwoRows.{first_used, last_used, left_two, lifted, row_stays, used_still}
 use Rattle.nv_calls.proofs.linking.link_at.Goals as goal
 
@@ -61,3 +66,12 @@ returns-clause-unchanged g c =
     let put = back_two c.args.rows.now.items c.lend-file.new.self.items c.lend-directory.new.self.items c.give_back.new.self.items c.give_back-2.new.self.items c.args.named.now.target c.args.named.now.directory c.link_both-done.new.file c.link_both-done.new.directory c.requires.apart c.requires.target c.requires.directory
     c.lend-file.ensures.lent c.lend-directory.ensures.lent (c.link_both-done.ensures.directory_inode ∙ c.lend-directory.ensures.number) c.give_back.ensures.rows (c.link_both-done.ensures.inode ∙ c.lend-file.ensures.number) c.give_back-2.ensures.rows in
     IfErr-weaker c.link_both-done.result _ _ (λ (e : Refusal) told off. (let left = told off in left_two c.args.rows.now.items c.give_back-2.new.self.items c.args.named.now.target c.args.named.now.directory c.lend-file.result c.lend-directory.result c.link_both-done.new.file c.link_both-done.new.directory c.requires.apart c.lend-file.ensures.row there put c.args.memory.now c.link_both-done.new.memory c.args.free.now c.link_both-done.new.free left.0 left.1)) c.link_both-done.ensures.unchanged
+
+pub returns-clause-any_stop : goal.returns-clause-any_stop
+returns-clause-any_stop g c file directory held f h at other_at here other absent settled =
+    let there = row_stays c.args.rows.now.items c.lend-file.new.self.items c.args.named.now.target c.args.named.now.directory c.requires.apart c.requires.target c.lend-file.ensures.lent c.lend-directory.result c.lend-directory.ensures.row in
+    let same : c.lend-file.result ≡ file = same_Some _ _ (sym c.lend-file.ensures.row ∙ at) in
+    let other_same : c.lend-directory.result ≡ directory = same_Some _ _ (sym there ∙ other_at) in
+    subst (λ (r : Row). ShowsRow (g.P.Pmem.region c.args.memory.now) c.args.sup.now held f r c.args.free.now → LeavesOnly (g.P.Pmem.region c.link_both-done.new.memory) (g.P.Pmem.may_hold c.link_both-done.new.memory) (LeavesEither (g.P.Pmem.region c.args.memory.now) (fixed_layout c.args.sup.now) held (Linked (g.P.Pmem.region c.args.memory.now) c.args.sup.now c.args.free.now r directory c.args.named.now.name.now c.args.time))) same
+    (λ seen. subst (λ (d : Row). ShowsRow (g.P.Pmem.region c.args.memory.now) c.args.sup.now held h d c.args.free.now → name_at d.names c.args.named.now.name.now ≡ None → LeavesOnly (g.P.Pmem.region c.link_both-done.new.memory) (g.P.Pmem.may_hold c.link_both-done.new.memory) (LeavesEither (g.P.Pmem.region c.args.memory.now) (fixed_layout c.args.sup.now) held (Linked (g.P.Pmem.region c.args.memory.now) c.args.sup.now c.args.free.now c.lend-file.result d c.args.named.now.name.now c.args.time))) other_same
+    (λ seen_other none. c.link_both-done.ensures.any_stop held f h seen seen_other none settled) other absent) here

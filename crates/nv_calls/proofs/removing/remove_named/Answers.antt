@@ -1,4 +1,5 @@
 use Rattle.std.proofs.Common.{◌≡◌, ◌≢◌, ◌∙◌, ◌+◌, ◌%◌, ◌≤◌, ℕ, length, subst, sym}
+use Rattle.nv_super.specs.Layout.{fixed_layout}
 use Rattle.std.specs.Int.{div_ceil}
 use Rattle.std.proofs.lemmas.Result.{err_from_is_err_and}
 use Rattle.std.proofs.lemmas.Option.{same_Some}
@@ -13,7 +14,10 @@ use Rattle.nv_steps.specs.LessNames.{CutsName}
 use Rattle.nv_steps.specs.NameEntries.{name_entries}
 use Rattle.nv_steps.specs.NewNames.{CanName}
 use Rattle.nv_calls.specs.AtPlaces.{LeavesRows}
-use Rattle.nv_steps.specs.Steps.{RefusesStep}
+use Rattle.nv_region.specs.Stops.{LeavesOnly}
+use Rattle.nv_commit.specs.Stopped.{LeavesEither}
+use Rattle.nv_steps.specs.Stopped.{Cut}
+use Rattle.nv_steps.specs.Steps.{RefusesStep, ShowsRow}
 use Rattle.nv_tree.proofs.Replies.{refused_by}
 use Rattle.nv_calls.proofs.OneOut.{left_one, other_out, other_row, other_used}
 use Rattle.nv_calls.proofs.OwnedRow.{owns_taken}
@@ -100,3 +104,19 @@ returns-clause-enough g c row gone at gone_at =
     let number = sym (numbered c.args.rows.now.items c.args.named.now.target gone gone_at) in
     let count : needed (c.lend-directory.result.tail % 4096) (name_entries Remove c.args.named.now.target c.args.named.now.name.now c.args.time) ≡ needed (row.tail % 4096) (name_entries Remove gone.inode c.args.named.now.name.now c.args.time) = λ k. needed ((row_is k).tail % 4096) (name_entries Remove (number k) c.args.named.now.name.now c.args.time) in
     subst (λ (n : ℕ). n ≤ all_blocks c.args.free.now.pools) count c.in_ok-cut.ensures.enough
+
+pub returns-in_err-cut-clause-any_stop : goal.returns-in_err-cut-clause-any_stop
+returns-in_err-cut-clause-any_stop g c row gone held h at gone_at shows settled =
+    let same : c.lend-directory.result ≡ row = same_Some _ _ (sym c.lend-directory.ensures.row ∙ at) in
+    let number = sym (numbered c.args.rows.now.items c.args.named.now.target gone gone_at) in
+    subst (λ (i : ℕ). LeavesOnly (g.P.Pmem.region c.cut_name-cut.new.memory) (g.P.Pmem.may_hold c.cut_name-cut.new.memory) (LeavesEither (g.P.Pmem.region c.args.memory.now) (fixed_layout c.args.sup.now) held (Cut (g.P.Pmem.region c.args.memory.now) c.args.sup.now c.args.free.now row i c.args.time c.args.named.now.name.now))) number
+    (subst (λ (r : Row). ShowsRow (g.P.Pmem.region c.args.memory.now) c.args.sup.now held h r c.args.free.now → LeavesOnly (g.P.Pmem.region c.cut_name-cut.new.memory) (g.P.Pmem.may_hold c.cut_name-cut.new.memory) (LeavesEither (g.P.Pmem.region c.args.memory.now) (fixed_layout c.args.sup.now) held (Cut (g.P.Pmem.region c.args.memory.now) c.args.sup.now c.args.free.now r c.args.named.now.target c.args.time c.args.named.now.name.now))) same
+    (λ seen. c.cut_name-cut.ensures.any_stop held h seen settled) shows)
+
+pub returns-clause-any_stop : goal.returns-clause-any_stop
+returns-clause-any_stop g c row gone held h at gone_at shows settled =
+    let same : c.lend-directory.result ≡ row = same_Some _ _ (sym c.lend-directory.ensures.row ∙ at) in
+    let number = sym (numbered c.args.rows.now.items c.args.named.now.target gone gone_at) in
+    subst (λ (i : ℕ). LeavesOnly (g.P.Pmem.region c.cut_name-cut.new.memory) (g.P.Pmem.may_hold c.cut_name-cut.new.memory) (LeavesEither (g.P.Pmem.region c.args.memory.now) (fixed_layout c.args.sup.now) held (Cut (g.P.Pmem.region c.args.memory.now) c.args.sup.now c.args.free.now row i c.args.time c.args.named.now.name.now))) number
+    (subst (λ (r : Row). ShowsRow (g.P.Pmem.region c.args.memory.now) c.args.sup.now held h r c.args.free.now → LeavesOnly (g.P.Pmem.region c.cut_name-cut.new.memory) (g.P.Pmem.may_hold c.cut_name-cut.new.memory) (LeavesEither (g.P.Pmem.region c.args.memory.now) (fixed_layout c.args.sup.now) held (Cut (g.P.Pmem.region c.args.memory.now) c.args.sup.now c.args.free.now r c.args.named.now.target c.args.time c.args.named.now.name.now))) same
+    (λ seen. c.cut_name-cut.ensures.any_stop held h seen settled) shows)

@@ -1,10 +1,17 @@
-use Rattle.std.proofs.Common.{◌∙◌, ◌≤◌, ℕ, subst, sym}
+use Rattle.std.proofs.Common.{◌≡◌, ◌∙◌, ◌≤◌, ℕ, ap, subst, sym, None}
+use Rattle.nv_super.specs.Layout.{fixed_layout}
 use Rattle.std.proofs.lemmas.Result.{IfErr-weaker, on_ok_weaker}
 use Rattle.std.proofs.lemmas.Option.{same_Some}
 use Rattle.nv_alloc.specs.Taking.{all_blocks}
 use Rattle.nv_rows.proofs.Places.{at_place, numbered, back_two, row_in_use}
 use Rattle.nv_tree.specs.declared.refusal.Refusal.{Refusal}
-use Rattle.nv_steps.specs.Steps.{RefusesStep}
+use Rattle.nv_region.specs.Stops.{LeavesOnly}
+use Rattle.nv_names.specs.Names.{name_at}
+use Rattle.nv_scan.specs.declared.piece.Row.{Row}
+use Rattle.nv_commit.specs.Stopped.{LeavesEither}
+use Rattle.nv_steps.specs.Stopped.{MovedOver}
+use Rattle.nv_steps.specs.Steps.{RefusesStep, ShowsRow}
+use Rattle.nv_calls.proofs.StoppedMoves.{over_as}
 use Rattle.nv_calls.proofs.MoveAt.{both_count, moves_across}
 use Rattle.nv_calls.proofs.TwoRows.{first_used, last_used, left_two, lifted, row_stays, used_still}
 use Rattle.nv_calls.proofs.renaming.move_across.Goals as goal
@@ -67,3 +74,15 @@ returns-clause-unchanged g c =
     let put = back_two rows c.lend-from.new.self.items c.lend-to.new.self.items c.give_back.new.self.items c.give_back-2.new.self.items c.args.moved.now.from.directory c.args.moved.now.directory c.move_both-done.new.from c.move_both-done.new.to c.requires.apart c.requires.from c.requires.directory
     c.lend-from.ensures.lent c.lend-to.ensures.lent (c.move_both-done.ensures.to_inode ∙ c.lend-to.ensures.number) c.give_back.ensures.rows (c.move_both-done.ensures.inode ∙ c.lend-from.ensures.number) c.give_back-2.ensures.rows in
     IfErr-weaker c.move_both-done.result _ _ (λ (e : Refusal) told off. (let left = told off in left_two rows c.give_back-2.new.self.items c.args.moved.now.from.directory c.args.moved.now.directory c.lend-from.result c.lend-to.result c.move_both-done.new.from c.move_both-done.new.to c.requires.apart c.lend-from.ensures.row there put c.args.memory.now c.move_both-done.new.memory c.args.free.now c.move_both-done.new.free left.0 left.1)) c.move_both-done.ensures.unchanged
+
+pub returns-clause-any_stop : goal.returns-clause-any_stop
+returns-clause-any_stop g c from to inode held h k at other_at inode_at here other absent settled =
+    let rows = c.args.rows.now.items in
+    let there = row_stays rows c.lend-from.new.self.items c.args.moved.now.from.directory c.args.moved.now.directory c.requires.apart c.requires.from c.lend-from.ensures.lent c.lend-to.result c.lend-to.ensures.row in
+    let same : c.lend-from.result ≡ from = same_Some _ _ (sym c.lend-from.ensures.row ∙ at) in
+    let other_same : c.lend-to.result ≡ to = same_Some _ _ (sym there ∙ other_at) in
+    let number = c.other_name-other.ensures.inode ∙ sym (numbered rows c.args.moved.now.from.target inode inode_at) in
+    subst (λ (r : Row). ShowsRow (g.P.Pmem.region c.args.memory.now) c.args.sup.now held h r c.args.free.now → LeavesOnly (g.P.Pmem.region c.move_both-done.new.memory) (g.P.Pmem.may_hold c.move_both-done.new.memory) (LeavesEither (g.P.Pmem.region c.args.memory.now) (fixed_layout c.args.sup.now) held (MovedOver (g.P.Pmem.region c.args.memory.now) c.args.sup.now c.args.free.now r to inode.inode c.args.moved.now.from.name.now c.args.moved.now.name.now c.args.time))) same
+    (λ seen. subst (λ (d : Row). ShowsRow (g.P.Pmem.region c.args.memory.now) c.args.sup.now held k d c.args.free.now → name_at d.names c.args.moved.now.name.now ≡ None → LeavesOnly (g.P.Pmem.region c.move_both-done.new.memory) (g.P.Pmem.may_hold c.move_both-done.new.memory) (LeavesEither (g.P.Pmem.region c.args.memory.now) (fixed_layout c.args.sup.now) held (MovedOver (g.P.Pmem.region c.args.memory.now) c.args.sup.now c.args.free.now c.lend-from.result d inode.inode c.args.moved.now.from.name.now c.args.moved.now.name.now c.args.time))) other_same
+    (λ seen_other none. over_as c.lend-from.result c.lend-to.result (g.P.Pmem.region c.move_both-done.new.memory) (g.P.Pmem.may_hold c.move_both-done.new.memory) number c.other_name-other.ensures.name c.other_name-other.ensures.other c.other_name-other.ensures.time
+    (c.move_both-done.ensures.any_stop held h k seen seen_other (ap (name_at c.lend-to.result.names) c.other_name-other.ensures.other ∙ none) settled)) other absent) here

@@ -1,11 +1,17 @@
-use Rattle.std.proofs.Common.{◌∙◌, ◌≤◌, ℕ, ap, inr, subst, sym}
+use Rattle.std.proofs.Common.{◌≡◌, ◌∙◌, ◌≤◌, ℕ, ap, inl, inr, subst, sym, None}
 use Rattle.std.proofs.lemmas.Result.{IfErr-weaker, on_ok_weaker}
 use Rattle.std.proofs.lemmas.Option.{same_Some}
 use Rattle.nv_alloc.specs.Taking.{all_blocks}
 use Rattle.nv_rows.specs.Rows.{place_in, row_of}
 use Rattle.nv_rows.proofs.Places.{at_place, back_one, in_use, numbered, places_apart, row_in_use}
 use Rattle.nv_tree.specs.declared.refusal.Refusal.{Refusal}
-use Rattle.nv_steps.specs.Steps.{RefusesStep}
+use Rattle.nv_names.specs.Names.{name_at}
+use Rattle.nv_scan.specs.declared.piece.Row.{Row}
+use Rattle.nv_steps.specs.Stopped.{MovedHere, MovedOver}
+use Rattle.nv_steps.specs.Steps.{RefusesStep, ShowsRow}
+use Rattle.nv_calls.specs.Stopped.{Renamed}
+use Rattle.nv_calls.proofs.Stopped.{left_made}
+use Rattle.nv_calls.proofs.StoppedMoves.{here_as}
 use Rattle.nv_calls.proofs.MoveAt.{across_count, here_count, moves_here, within_count}
 use Rattle.nv_calls.proofs.OneOut.{left_one}
 use Rattle.nv_calls.proofs.TwoRows.{last_used}
@@ -61,3 +67,20 @@ pub returns-clause-unchanged : goal.returns-clause-unchanged
 returns-clause-unchanged g c =
     IfErr-weaker c.move_within-done.result _ _ (λ (e : Refusal) told off. left_one c.args.rows.now.items c.lend-directory.new.self.items c.give_back.new.self.items c.args.moved.now.directory c.lend-directory.result c.move_within-done.new.directory c.lend-directory.ensures.row c.lend-directory.ensures.lent (c.move_within-done.ensures.inode ∙ c.lend-directory.ensures.number) c.give_back.ensures.rows
     c.args.memory.now c.move_within-done.new.memory c.args.free.now c.move_within-done.new.free (told off)) c.move_within-done.ensures.unchanged
+
+pub returns-then-moved-clause-any_stop : goal.returns-then-moved-clause-any_stop
+returns-then-moved-clause-any_stop g c from to inode held h k at other_at inode_at here other absent settled left may =
+    let apart = places_apart c.args.rows.now.items c.args.moved.now.from.directory c.args.moved.now.directory c.requires.from c.requires.directory c.if-moved.true in
+    left_made (MovedOver (g.P.Pmem.region c.args.memory.now) c.args.sup.now c.args.free.now from to inode.inode c.args.moved.now.from.name.now c.args.moved.now.name.now c.args.time) (Renamed (g.P.Pmem.region c.args.memory.now) c.args.sup.now c.args.free.now (place_in c.args.rows.now.items c.args.moved.now.from.directory) (place_in c.args.rows.now.items c.args.moved.now.directory) from to inode.inode c.args.moved.now.from.name.now c.args.moved.now.name.now c.args.time) (λ S w. inr (apart, w)) left (c.move_across.ensures.any_stop from to inode held h k at other_at inode_at here other absent settled left may)
+
+pub returns-clause-any_stop : goal.returns-clause-any_stop
+returns-clause-any_stop g c from to inode held h k at other_at inode_at here other absent settled left may =
+    let rows = c.args.rows.now.items in
+    let one = same_Some _ _ (sym c.lend-directory.ensures.row ∙ sym (ap (row_of rows) c.if-moved.false) ∙ at) in
+    let two : c.lend-directory.result ≡ to = same_Some _ _ (sym c.lend-directory.ensures.row ∙ other_at) in
+    let number = c.other_name-other.ensures.inode ∙ sym (numbered rows c.args.moved.now.from.target inode inode_at) in
+    let shown = subst (λ (r : Row). ShowsRow (g.P.Pmem.region c.args.memory.now) c.args.sup.now held k r c.args.free.now) (sym two) other in
+    let none : name_at c.lend-directory.result.names c.args.moved.now.name.now ≡ None = subst (λ (r : Row). name_at r.names c.args.moved.now.name.now ≡ None) (sym two) absent in
+    let step = here_as (g.P.Pmem.region c.move_within-done.new.memory) (g.P.Pmem.may_hold c.move_within-done.new.memory) one number c.other_name-other.ensures.name c.other_name-other.ensures.other c.other_name-other.ensures.time
+    (c.move_within-done.ensures.any_stop held k shown (ap (name_at c.lend-directory.result.names) c.other_name-other.ensures.other ∙ none) settled) in
+    left_made (MovedHere (g.P.Pmem.region c.args.memory.now) c.args.sup.now c.args.free.now from inode.inode c.args.moved.now.from.name.now c.args.moved.now.name.now c.args.time) (Renamed (g.P.Pmem.region c.args.memory.now) c.args.sup.now c.args.free.now (place_in c.args.rows.now.items c.args.moved.now.from.directory) (place_in c.args.rows.now.items c.args.moved.now.directory) from to inode.inode c.args.moved.now.from.name.now c.args.moved.now.name.now c.args.time) (λ S w. inl (ap (place_in rows) c.if-moved.false, w)) left (step left may)

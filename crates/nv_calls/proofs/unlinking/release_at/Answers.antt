@@ -4,7 +4,10 @@ use Rattle.nv_alloc.specs.Taking.{all_blocks}
 use Rattle.nv_rows.specs.Rows.{place_in}
 use Rattle.nv_rows.proofs.Places.{at_place}
 use Rattle.nv_tree.specs.declared.refusal.Refusal.{Refusal}
+use Rattle.nv_steps.specs.Stopped.{Cut, Unlinked}
 use Rattle.nv_steps.specs.Steps.{RefusesStep}
+use Rattle.nv_calls.specs.Stopped.{Released}
+use Rattle.nv_calls.proofs.Stopped.{left_made}
 use Rattle.nv_calls.proofs.Released.{all_last, all_more, blocks_last, blocks_more}
 use Rattle.nv_calls.proofs.unlinking.release_at.Goals as goal
 
@@ -36,3 +39,13 @@ pub returns-else-has_more_links-clause-refused : goal.returns-else-has_more_link
 returns-else-has_more_links-clause-refused g c row file at there =
     let same = blocks_last row file c.args.named.now.name.now c.args.time (all_last c.args.rows.now.items (place_in c.args.rows.now.items c.args.named.now.target) c.row.result.now (at_place c.args.rows.now.items c.args.named.now.target ∙ c.row.ensures) c.has_more_links.result c.has_more_links.ensures c.if-has_more_links.false file (at_place c.args.rows.now.items c.args.named.now.target ∙ there)) in
     IfErr-weaker c.remove_named.result _ _ (λ (e : Refusal) refused. subst (λ (n : ℕ). RefusesStep e n c.args.free.now) same refused) (c.remove_named.ensures.refused row file at there)
+
+pub returns-then-has_more_links-clause-any_stop : goal.returns-then-has_more_links-clause-any_stop
+returns-then-has_more_links-clause-any_stop g c row file held h f at there here other settled left may =
+    let links = all_more c.args.rows.now.items (place_in c.args.rows.now.items c.args.named.now.target) c.row.result.now (at_place c.args.rows.now.items c.args.named.now.target ∙ c.row.ensures) c.has_more_links.result c.has_more_links.ensures c.if-has_more_links.true file (at_place c.args.rows.now.items c.args.named.now.target ∙ there) in
+    left_made (Unlinked (g.P.Pmem.region c.args.memory.now) c.args.sup.now c.args.free.now row file c.args.named.now.name.now c.args.time) (Released (g.P.Pmem.region c.args.memory.now) c.args.sup.now c.args.free.now row file c.args.named.now.name.now c.args.time) (λ S w. inl (links, w)) left (c.unlink_at.ensures.any_stop row file held h f at there here other settled left may)
+
+pub returns-else-has_more_links-clause-any_stop : goal.returns-else-has_more_links-clause-any_stop
+returns-else-has_more_links-clause-any_stop g c row file held h f at there here other settled left may =
+    let links = all_last c.args.rows.now.items (place_in c.args.rows.now.items c.args.named.now.target) c.row.result.now (at_place c.args.rows.now.items c.args.named.now.target ∙ c.row.ensures) c.has_more_links.result c.has_more_links.ensures c.if-has_more_links.false file (at_place c.args.rows.now.items c.args.named.now.target ∙ there) in
+    left_made (Cut (g.P.Pmem.region c.args.memory.now) c.args.sup.now c.args.free.now row file.inode c.args.time c.args.named.now.name.now) (Released (g.P.Pmem.region c.args.memory.now) c.args.sup.now c.args.free.now row file c.args.named.now.name.now c.args.time) (λ S w. inr (links, w)) left (c.remove_named.ensures.any_stop row file held h at there here settled left may)

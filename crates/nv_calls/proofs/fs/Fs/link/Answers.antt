@@ -1,4 +1,4 @@
-use Rattle.std.proofs.Common.{◌≡◌, ◌∙◌, ◌<◌, ◌⊎◌, ◌++◌, ◌+◌, ◌∷◌, [], List, ℕ, Some, None, Ok, false, inr, ap, subst, sym}
+use Rattle.std.proofs.Common.{◌≡◌, ◌∙◌, ◌<◌, ◌⊎◌, ◌++◌, ◌+◌, ◌∷◌, [], List, ℕ, Some, None, Ok, false, true, inr, ap, subst, sym}
 use Rattle.std.proofs.lemmas.Result.{err_from_is_err_and}
 use Rattle.nv_rows.specs.Rows.{place_in}
 use Rattle.nv_rows.proofs.Places.{at_place, own_row, row_in_use}
@@ -12,12 +12,15 @@ use Rattle.nv_tree.specs.Tree.{SameTree, walk}
 use Rattle.nv_tree.specs.Calls.{linked}
 use Rattle.nv_tree.specs.Refusals.{first_refusal, has_most_links, has_no_space, is_bad, is_bad_name, is_dir, is_missing, is_there, link_tests, walk_tests}
 use Rattle.nv_tree.proofs.Texts.{text_says}
+use Rattle.nv_calls.specs.Effects.{logs_link, makes_link}
 use Rattle.nv_calls.specs.LinkCalls.{ShowsBothGrew, link_blocks}
 use Rattle.nv_steps.specs.NameEntries.{links_entries, name_entries}
 use Rattle.nv_calls.specs.Mount.{Mount}
 use Rattle.nv_paths.specs.Places.{IsLinkSpot, link_spot_tests}
 use Rattle.nv_paths.specs.Seen.{LeadsTo, tree_of}
 use Rattle.nv_calls.specs.World.{world_of}
+use Rattle.nv_calls.proofs.Stopped.{call_stays, settled_or_stopped}
+use Rattle.nv_calls.proofs.StoppedLinks.{link_left}
 use Rattle.nv_calls.proofs.CreateCall.{kept_or_stopped, unchanged_rows}
 use Rattle.nv_calls.proofs.LinkCall.{link_allowed, link_refused, linked_kept, linked_logs, linked_tree}
 use Rattle.nv_paths.proofs.LinkSpots.{link_goes_on}
@@ -110,13 +113,16 @@ invariant_of-self g c =
     let spot : (names others : List (List ℕ)) → IsPath c.args.old.now names → IsPath c.args.new.now others → IsLinkSpot (tree_of (g.P.Pmem.region c.self.inside.memory) c.self.inside.rows.items) c.self.inside.rows.items names others (place_in c.self.inside.rows.items c.in_ok-named.named.directory) c.in_ok-named.named.name.now (place_in c.self.inside.rows.items c.in_ok-named.named.target) =
     λ names others path other_path. c.in_ok-named.ensures.spot (g.P.Pmem.region c.self.inside.memory) names others path other_path in
     let paths = c.in_ok-named.ensures.paths in
-    (linked_kept c.self.invariant.0 runs writes c.in-Ok.ensures.linked c.in_ok-named.ensures.name paths.0.0 paths.1.0 (spot paths.0.0 paths.1.0 paths.0.1 paths.1.1) c.self.inside.stopped, c.link_at.ensures.limit ∙ c.self.invariant.1)
+    (linked_kept c.self.invariant.0 runs writes c.in-Ok.ensures.linked c.in_ok-named.ensures.name paths.0.0 paths.1.0 (spot paths.0.0 paths.1.0 paths.0.1 paths.1.1) c.self.inside.stopped, c.link_at.ensures.limit ∙ c.self.invariant.1, λ on. c.in-Ok.ensures.settled)
 
 pub invariant_of-self-in-Err : goal.invariant_of-self-in-Err
 invariant_of-self-in-Err g c =
     let runs : c.self.inside.stopped ≡ false = ap (λ (m : Mount g.row.P.Denot). m.stopped) c.self.view_is ∙ c.in_ok-writable.ensures.runs in
-    let writes : c.self.inside.read_only ≡ false = ap (λ (m : Mount g.row.P.Denot). m.read_only) c.self.view_is ∙ c.in_ok-writable.ensures.writes in
-    (kept_or_stopped g.P.Pmem.region c.self.invariant.0 runs writes c.in-Err.refusal c.is_stop-self-inside.result c.is_stop-self-inside.ensures.yes c.is_stop-self-inside.ensures.no c.link_at.ensures.lists c.in-Err.ensures.unchanged, c.link_at.ensures.limit ∙ c.self.invariant.1)
+    let writes : c.self.inside.read_only ≡ false = ap (λ (m : Mount g.row.P.Denot). m.read_only) c.self.view_is ∙ c.in_ok-writable.ensures.writes in (
+      kept_or_stopped g.P.Pmem.region c.self.invariant.0 runs writes c.in-Err.refusal c.is_stop-self-inside.result c.is_stop-self-inside.ensures.yes c.is_stop-self-inside.ensures.no c.link_at.ensures.lists c.in-Err.ensures.unchanged,
+      c.link_at.ensures.limit ∙ c.self.invariant.1,
+      settled_or_stopped g.P.Pmem.region g.P.Pmem.may_hold c.in-Err.refusal c.is_stop-self-inside.result c.is_stop-self-inside.ensures.no (λ off. (c.in-Err.ensures.unchanged off).memory) (c.self.invariant.2 runs),
+    )
 
 pub returns-in-Ok-clause-allowed : goal.returns-in-Ok-clause-allowed
 returns-in-Ok-clause-allowed g c p q says says_new =
@@ -171,3 +177,53 @@ returns-in-Err-clause-unchanged g c off =
 pub returns-in-Err-clause-stopped : goal.returns-in-Err-clause-stopped
 returns-in-Err-clause-stopped g c still =
     late_reply c.in-Err.refusal c.is_stop-self-inside.result c.is_stop-self-inside.ensures.yes c.is_stop-self-inside.ensures.no c.in-Err.ensures.stopped
+
+pub returns-in_err-writable-clause-read_only : goal.returns-in_err-writable-clause-read_only
+returns-in_err-writable-clause-read_only g c only = same_mount c.args.self.now
+
+pub returns-in_err-named-clause-read_only : goal.returns-in_err-named-clause-read_only
+returns-in_err-named-clause-read_only g c only = absurd (let no : true ≡ false = sym only ∙ c.in_ok-writable.ensures.writes in cc)
+
+pub returns-in-Ok-clause-read_only : goal.returns-in-Ok-clause-read_only
+returns-in-Ok-clause-read_only g c only = absurd (let no : true ≡ false = sym only ∙ c.in_ok-writable.ensures.writes in cc)
+
+pub returns-in-Err-clause-read_only : goal.returns-in-Err-clause-read_only
+returns-in-Err-clause-read_only g c only = absurd (let no : true ≡ false = sym only ∙ c.in_ok-writable.ensures.writes in cc)
+
+pub returns-in_err-writable-clause-any_stop : goal.returns-in_err-writable-clause-any_stop
+returns-in_err-writable-clause-any_stop g c names others path other_path on able = call_stays g.P.Pmem.region c.args.self.now (makes_link c.args.time (Some others)) (logs_link c.args.time (Some others)) names c.in_err-writable.ensures.kept on able _ (c.in_err-writable.ensures.settled on)
+
+pub returns-in_err-named-clause-any_stop : goal.returns-in_err-named-clause-any_stop
+returns-in_err-named-clause-any_stop g c names others path other_path on able = call_stays g.P.Pmem.region c.args.self.now (makes_link c.args.time (Some others)) (logs_link c.args.time (Some others)) names c.in_ok-writable.ensures.kept on able _ (c.in_ok-writable.ensures.settled on)
+
+pub returns-in-Ok-clause-any_stop : goal.returns-in-Ok-clause-any_stop
+returns-in-Ok-clause-any_stop g c names others path other_path on able =
+    let runs : c.self.inside.stopped ≡ false = ap (λ (m : Mount g.row.P.Denot). m.stopped) c.self.view_is ∙ c.in_ok-writable.ensures.runs in
+    let writes : c.self.inside.read_only ≡ false = ap (λ (m : Mount g.row.P.Denot). m.read_only) c.self.view_is ∙ c.in_ok-writable.ensures.writes in
+    let file = row_in_use c.self.inside.rows.items c.in_ok-named.named.target c.in_ok-named.ensures.target in
+    let directory = row_in_use c.self.inside.rows.items c.in_ok-named.named.directory c.in_ok-named.ensures.directory in
+    link_left g.P.Pmem.region c.self.view_is c.self.invariant.0 runs writes c.in_ok-named.named.target c.in_ok-named.named.directory file.0 directory.0 file.1 directory.1 c.in_ok-named.named.name.now c.args.time c.in_ok-named.ensures.name names others
+    (c.in_ok-named.ensures.spot (g.P.Pmem.region c.self.inside.memory) names others path other_path) _ _ _
+    (λ held f h here other absent pending. c.link_at.ensures.any_stop file.0 directory.0 held f h file.1 directory.1 here other absent pending) (c.self.invariant.2 runs)
+
+pub returns-in-Err-clause-any_stop : goal.returns-in-Err-clause-any_stop
+returns-in-Err-clause-any_stop g c names others path other_path on able =
+    let runs : c.self.inside.stopped ≡ false = ap (λ (m : Mount g.row.P.Denot). m.stopped) c.self.view_is ∙ c.in_ok-writable.ensures.runs in
+    let writes : c.self.inside.read_only ≡ false = ap (λ (m : Mount g.row.P.Denot). m.read_only) c.self.view_is ∙ c.in_ok-writable.ensures.writes in
+    let file = row_in_use c.self.inside.rows.items c.in_ok-named.named.target c.in_ok-named.ensures.target in
+    let directory = row_in_use c.self.inside.rows.items c.in_ok-named.named.directory c.in_ok-named.ensures.directory in
+    link_left g.P.Pmem.region c.self.view_is c.self.invariant.0 runs writes c.in_ok-named.named.target c.in_ok-named.named.directory file.0 directory.0 file.1 directory.1 c.in_ok-named.named.name.now c.args.time c.in_ok-named.ensures.name names others
+    (c.in_ok-named.ensures.spot (g.P.Pmem.region c.self.inside.memory) names others path other_path) _ _ _
+    (λ held f h here other absent pending. c.link_at.ensures.any_stop file.0 directory.0 held f h file.1 directory.1 here other absent pending) (c.self.invariant.2 runs)
+
+pub returns-in_err-writable-clause-bad_text : goal.returns-in_err-writable-clause-bad_text
+returns-in_err-writable-clause-bad_text g c bad = same_mount c.args.self.now
+
+pub returns-in_err-named-clause-bad_text : goal.returns-in_err-named-clause-bad_text
+returns-in_err-named-clause-bad_text g c bad = same_mount c.args.self.now
+
+pub returns-in-Ok-clause-bad_text : goal.returns-in-Ok-clause-bad_text
+returns-in-Ok-clause-bad_text g c bad = absurd (let paths = c.in_ok-named.ensures.paths in bad paths.0.0 paths.1.0 paths.0.1 paths.1.1)
+
+pub returns-in-Err-clause-bad_text : goal.returns-in-Err-clause-bad_text
+returns-in-Err-clause-bad_text g c bad = absurd (let paths = c.in_ok-named.ensures.paths in bad paths.0.0 paths.1.0 paths.0.1 paths.1.1)

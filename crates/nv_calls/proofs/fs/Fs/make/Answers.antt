@@ -14,12 +14,15 @@ use Rattle.nv_tree.specs.Tree.{SameTree, walk}
 use Rattle.nv_tree.specs.Calls.{created}
 use Rattle.nv_tree.specs.Refusals.{create_tests, first_refusal, has_no_slot, has_no_space, is_bad_name, is_there, walk_tests}
 use Rattle.nv_tree.proofs.Texts.{text_says}
+use Rattle.nv_calls.specs.Effects.{logs_inode, makes_inode}
 use Rattle.nv_calls.specs.Mount.{Mount}
 use Rattle.nv_calls.specs.NameCalls.{ShowsCreated, create_blocks}
 use Rattle.nv_paths.specs.Spots.{IsSpot, spot_tests}
 use Rattle.nv_paths.specs.Seen.{tree_of}
 use Rattle.nv_rows.specs.Unused.{unused_number}
 use Rattle.nv_calls.specs.World.{world_of}
+use Rattle.nv_calls.proofs.Stopped.{call_stays, settled_or_stopped}
+use Rattle.nv_calls.proofs.StoppedNames.{create_left}
 use Rattle.nv_calls.proofs.CreateCall.{create_allowed, create_refused, created_kept, created_log, created_tree, kept_or_stopped, unchanged_rows}
 use Rattle.nv_paths.proofs.CreateTests.{spot_goes_on, spot_refuses}
 use Rattle.nv_tree.proofs.Replies.{refused_by}
@@ -118,13 +121,16 @@ invariant_of-self g c =
     let spot : (names : List (List ℕ)) → IsPath c.args.path.now names → IsSpot (tree_of (g.P.Pmem.region c.self.inside.memory) c.self.inside.rows.items) c.self.inside.rows.items c.self.inside.sup c.args.cpu names (place_in c.self.inside.rows.items c.in_ok-spot.spot.directory) c.in_ok-spot.spot.name.now c.in_ok-spot.spot.inode =
     λ names path. subst (λ (s : Super). IsSpot (tree_of (g.P.Pmem.region c.self.inside.memory) c.self.inside.rows.items) c.self.inside.rows.items s c.args.cpu names (place_in c.self.inside.rows.items c.in_ok-spot.spot.directory) c.in_ok-spot.spot.name.now c.in_ok-spot.spot.inode) c.self.invariant.1 (c.in_ok-spot.ensures.spot (g.P.Pmem.region c.self.inside.memory) names path) in
     let path = c.in_ok-spot.ensures.path in
-    (created_kept c.self.invariant.0 runs writes c.in-Ok.ensures.created c.args.cpu low c.in_ok-spot.ensures.name path.0 (spot path.0 path.1) c.self.inside.stopped, c.create_at.ensures.limit ∙ c.self.invariant.1)
+    (created_kept c.self.invariant.0 runs writes c.in-Ok.ensures.created c.args.cpu low c.in_ok-spot.ensures.name path.0 (spot path.0 path.1) c.self.inside.stopped, c.create_at.ensures.limit ∙ c.self.invariant.1, λ on. c.in-Ok.ensures.settled)
 
 pub invariant_of-self-in-Err : goal.invariant_of-self-in-Err
 invariant_of-self-in-Err g c =
     let runs : c.self.inside.stopped ≡ false = ap (λ (m : Mount g.row.P.Denot). m.stopped) c.self.view_is ∙ c.in_ok-writable.ensures.runs in
-    let writes : c.self.inside.read_only ≡ false = ap (λ (m : Mount g.row.P.Denot). m.read_only) c.self.view_is ∙ c.in_ok-writable.ensures.writes in
-    (kept_or_stopped g.P.Pmem.region c.self.invariant.0 runs writes c.in-Err.refusal c.is_stop-self-inside.result c.is_stop-self-inside.ensures.yes c.is_stop-self-inside.ensures.no c.create_at.ensures.lists c.in-Err.ensures.unchanged, c.create_at.ensures.limit ∙ c.self.invariant.1)
+    let writes : c.self.inside.read_only ≡ false = ap (λ (m : Mount g.row.P.Denot). m.read_only) c.self.view_is ∙ c.in_ok-writable.ensures.writes in (
+      kept_or_stopped g.P.Pmem.region c.self.invariant.0 runs writes c.in-Err.refusal c.is_stop-self-inside.result c.is_stop-self-inside.ensures.yes c.is_stop-self-inside.ensures.no c.create_at.ensures.lists c.in-Err.ensures.unchanged,
+      c.create_at.ensures.limit ∙ c.self.invariant.1,
+      settled_or_stopped g.P.Pmem.region g.P.Pmem.may_hold c.in-Err.refusal c.is_stop-self-inside.result c.is_stop-self-inside.ensures.no (λ off. (c.in-Err.ensures.unchanged off).memory) (c.self.invariant.2 runs),
+    )
 
 pub returns-in-Ok-clause-allowed : goal.returns-in-Ok-clause-allowed
 returns-in-Ok-clause-allowed g c p says =
@@ -267,3 +273,57 @@ returns-in-Err-clause-length g c = subst (λ (m : Mount g.row.P.Denot). size (g.
 pub returns-in-Err-clause-keeps_fuse : goal.returns-in-Err-clause-keeps_fuse
 returns-in-Err-clause-keeps_fuse g c =
     subst (λ (m : Mount g.row.P.Denot). KeepsFuse (λ limit. size (g.P.Pmem.region m.memory) ≤ limit) (g.P.Pmem.fuse m.memory) (g.P.Pmem.fuse c.create_at.new.memory)) c.self.view_is c.create_at.ensures.keeps_fuse
+
+pub returns-in_err-writable-clause-any_stop : goal.returns-in_err-writable-clause-any_stop
+returns-in_err-writable-clause-any_stop g c names path on able = call_stays g.P.Pmem.region c.args.self.now (makes_inode c.args.kind c.args.cpu c.args.mode c.args.time) (logs_inode c.args.kind c.args.cpu c.args.mode c.args.time) names c.in_err-writable.ensures.kept on able _ (c.in_err-writable.ensures.settled on)
+
+pub returns-in_err-spot-clause-any_stop : goal.returns-in_err-spot-clause-any_stop
+returns-in_err-spot-clause-any_stop g c names path on able = call_stays g.P.Pmem.region c.args.self.now (makes_inode c.args.kind c.args.cpu c.args.mode c.args.time) (logs_inode c.args.kind c.args.cpu c.args.mode c.args.time) names c.in_ok-writable.ensures.kept on able _ (c.in_ok-writable.ensures.settled on)
+
+pub returns-in-Ok-clause-any_stop : goal.returns-in-Ok-clause-any_stop
+returns-in-Ok-clause-any_stop g c names path on able =
+    let runs : c.self.inside.stopped ≡ false = ap (λ (m : Mount g.row.P.Denot). m.stopped) c.self.view_is ∙ c.in_ok-writable.ensures.runs in
+    let writes : c.self.inside.read_only ≡ false = ap (λ (m : Mount g.row.P.Denot). m.read_only) c.self.view_is ∙ c.in_ok-writable.ensures.writes in
+    let low : c.args.cpu < c.self.inside.sup.cpus = subst (λ (m : Mount g.row.P.Denot). c.args.cpu < m.sup.cpus) (sym c.self.view_is) c.in_ok-writable.ensures.cpu in
+    let spot : IsSpot (tree_of (g.P.Pmem.region c.self.inside.memory) c.self.inside.rows.items) c.self.inside.rows.items c.self.inside.sup c.args.cpu names (place_in c.self.inside.rows.items c.in_ok-spot.spot.directory) c.in_ok-spot.spot.name.now c.in_ok-spot.spot.inode =
+    subst (λ (s : Super). IsSpot (tree_of (g.P.Pmem.region c.self.inside.memory) c.self.inside.rows.items) c.self.inside.rows.items s c.args.cpu names (place_in c.self.inside.rows.items c.in_ok-spot.spot.directory) c.in_ok-spot.spot.name.now c.in_ok-spot.spot.inode) c.self.invariant.1 (c.in_ok-spot.ensures.spot (g.P.Pmem.region c.self.inside.memory) names path) in
+    let r = row_in_use c.self.inside.rows.items c.in_ok-spot.spot.directory c.in_ok-spot.ensures.in_use in
+    let at : slice_get c.self.inside.rows.items (place_in c.self.inside.rows.items c.in_ok-spot.spot.directory) ≡ Some r.0 = at_place c.self.inside.rows.items c.in_ok-spot.spot.directory ∙ r.1 in
+    create_left g.P.Pmem.region c.self.view_is c.self.invariant.0 runs writes (place_in c.self.inside.rows.items c.in_ok-spot.spot.directory) r.0 at c.args.kind c.args.mode c.args.time c.in_ok-spot.spot.inode c.in_ok-spot.spot.name.now c.args.cpu low c.in_ok-spot.ensures.name names spot _ _ _
+    (λ held h shows out absent pending. c.create_at.ensures.any_stop r.0 held h r.1 shows out absent pending) (c.self.invariant.2 runs)
+
+pub returns-in-Err-clause-any_stop : goal.returns-in-Err-clause-any_stop
+returns-in-Err-clause-any_stop g c names path on able =
+    let runs : c.self.inside.stopped ≡ false = ap (λ (m : Mount g.row.P.Denot). m.stopped) c.self.view_is ∙ c.in_ok-writable.ensures.runs in
+    let writes : c.self.inside.read_only ≡ false = ap (λ (m : Mount g.row.P.Denot). m.read_only) c.self.view_is ∙ c.in_ok-writable.ensures.writes in
+    let low : c.args.cpu < c.self.inside.sup.cpus = subst (λ (m : Mount g.row.P.Denot). c.args.cpu < m.sup.cpus) (sym c.self.view_is) c.in_ok-writable.ensures.cpu in
+    let spot : IsSpot (tree_of (g.P.Pmem.region c.self.inside.memory) c.self.inside.rows.items) c.self.inside.rows.items c.self.inside.sup c.args.cpu names (place_in c.self.inside.rows.items c.in_ok-spot.spot.directory) c.in_ok-spot.spot.name.now c.in_ok-spot.spot.inode =
+    subst (λ (s : Super). IsSpot (tree_of (g.P.Pmem.region c.self.inside.memory) c.self.inside.rows.items) c.self.inside.rows.items s c.args.cpu names (place_in c.self.inside.rows.items c.in_ok-spot.spot.directory) c.in_ok-spot.spot.name.now c.in_ok-spot.spot.inode) c.self.invariant.1 (c.in_ok-spot.ensures.spot (g.P.Pmem.region c.self.inside.memory) names path) in
+    let r = row_in_use c.self.inside.rows.items c.in_ok-spot.spot.directory c.in_ok-spot.ensures.in_use in
+    let at : slice_get c.self.inside.rows.items (place_in c.self.inside.rows.items c.in_ok-spot.spot.directory) ≡ Some r.0 = at_place c.self.inside.rows.items c.in_ok-spot.spot.directory ∙ r.1 in
+    create_left g.P.Pmem.region c.self.view_is c.self.invariant.0 runs writes (place_in c.self.inside.rows.items c.in_ok-spot.spot.directory) r.0 at c.args.kind c.args.mode c.args.time c.in_ok-spot.spot.inode c.in_ok-spot.spot.name.now c.args.cpu low c.in_ok-spot.ensures.name names spot _ _ _
+    (λ held h shows out absent pending. c.create_at.ensures.any_stop r.0 held h r.1 shows out absent pending) (c.self.invariant.2 runs)
+
+pub returns-in_err-writable-clause-read_only : goal.returns-in_err-writable-clause-read_only
+returns-in_err-writable-clause-read_only g c only = same_mount c.args.self.now
+
+pub returns-in_err-spot-clause-read_only : goal.returns-in_err-spot-clause-read_only
+returns-in_err-spot-clause-read_only g c only = absurd (let no : true ≡ false = sym only ∙ c.in_ok-writable.ensures.writes in cc)
+
+pub returns-in-Ok-clause-read_only : goal.returns-in-Ok-clause-read_only
+returns-in-Ok-clause-read_only g c only = absurd (let no : true ≡ false = sym only ∙ c.in_ok-writable.ensures.writes in cc)
+
+pub returns-in-Err-clause-read_only : goal.returns-in-Err-clause-read_only
+returns-in-Err-clause-read_only g c only = absurd (let no : true ≡ false = sym only ∙ c.in_ok-writable.ensures.writes in cc)
+
+pub returns-in_err-writable-clause-bad_text : goal.returns-in_err-writable-clause-bad_text
+returns-in_err-writable-clause-bad_text g c bad = same_mount c.args.self.now
+
+pub returns-in_err-spot-clause-bad_text : goal.returns-in_err-spot-clause-bad_text
+returns-in_err-spot-clause-bad_text g c bad = same_mount c.args.self.now
+
+pub returns-in-Ok-clause-bad_text : goal.returns-in-Ok-clause-bad_text
+returns-in-Ok-clause-bad_text g c bad = absurd (let path = c.in_ok-spot.ensures.path in bad path.0 path.1)
+
+pub returns-in-Err-clause-bad_text : goal.returns-in-Err-clause-bad_text
+returns-in-Err-clause-bad_text g c bad = absurd (let path = c.in_ok-spot.ensures.path in bad path.0 path.1)

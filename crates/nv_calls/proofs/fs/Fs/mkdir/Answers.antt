@@ -33,3 +33,12 @@ returns-clause-length g c = c.make.ensures.length
 
 pub returns-clause-keeps_fuse : goal.returns-clause-keeps_fuse
 returns-clause-keeps_fuse g c = c.make.ensures.keeps_fuse
+
+pub returns-clause-any_stop : goal.returns-clause-any_stop
+returns-clause-any_stop g c = c.make.ensures.any_stop
+
+pub returns-clause-read_only : goal.returns-clause-read_only
+returns-clause-read_only g c = c.make.ensures.read_only
+
+pub returns-clause-bad_text : goal.returns-clause-bad_text
+returns-clause-bad_text g c = c.make.ensures.bad_text

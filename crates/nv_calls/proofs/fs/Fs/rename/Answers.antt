@@ -1,4 +1,4 @@
-use Rattle.std.proofs.Common.{◌≡◌, ◌∙◌, ◌<◌, ◌⊎◌, ◌++◌, ◌∷◌, [], List, ℕ, Some, Ok, false, inr, ap, subst, sym, slice_get}
+use Rattle.std.proofs.Common.{◌≡◌, ◌∙◌, ◌<◌, ◌⊎◌, ◌++◌, ◌∷◌, [], List, ℕ, Some, Ok, false, true, inr, ap, subst, sym, slice_get}
 use Rattle.std.proofs.lemmas.Result.{err_from_is_err_and}
 use Rattle.nv_tree.specs.declared.refusal.Refusal.{Refusal}
 use Rattle.nv_tree.specs.declared.refusal.Refusal.TheVariants.{Memory, Stopped}
@@ -11,6 +11,8 @@ use Rattle.nv_tree.specs.Tree.{SameTree, walk}
 use Rattle.nv_tree.specs.Calls.{renamed}
 use Rattle.nv_tree.specs.Refusals.{first_refusal, has_no_space, is_bad_name, is_into_itself, is_missing, is_there, rename_tests, walk_tests}
 use Rattle.nv_tree.proofs.Texts.{text_says}
+use Rattle.nv_calls.specs.Stopped.{LeavesCall}
+use Rattle.nv_calls.specs.Effects.{logs_rename, makes_rename}
 use Rattle.nv_calls.specs.GrownLogs.{ShowsGrownLog}
 use Rattle.nv_calls.specs.LinkCalls.{ShowsBothGrew}
 use Rattle.nv_calls.specs.MoveCalls.{rename_blocks}
@@ -19,7 +21,10 @@ use Rattle.nv_steps.specs.Moves.{move_entries}
 use Rattle.nv_calls.specs.Mount.{Mount}
 use Rattle.nv_steps.specs.NameEntries.{name_entries}
 use Rattle.nv_paths.specs.Seen.{LeadsTo, tree_of}
+use Rattle.nv_region.specs.Stops.{LeavesOnly}
 use Rattle.nv_calls.specs.World.{world_of}
+use Rattle.nv_calls.proofs.Stopped.{call_stays, settled_or_stopped}
+use Rattle.nv_calls.proofs.StoppedMoves.{rename_left}
 use Rattle.nv_calls.proofs.CreateCall.{kept_or_stopped, unchanged_rows}
 use Rattle.nv_paths.proofs.CreateTests.{long_text}
 use Rattle.nv_calls.proofs.Kept.{rows_rise}
@@ -95,13 +100,16 @@ invariant_of-self g c =
     let paths = c.in_ok-moved.ensures.paths in
     let old_path = paths.0 in
     let new_path = paths.1 in
-    (moved_kept c.self.invariant.0 runs writes c.in_ok-moved.ensures.former c.in_ok-moved.ensures.name old_path.0 new_path.0 new_path.1 (spot old_path.0 (new_path.0 ∷ new_path.1) old_path.1 new_path.2) c.in-Ok.ensures.moved c.self.inside.stopped, c.move_at.ensures.limit ∙ c.self.invariant.1)
+    (moved_kept c.self.invariant.0 runs writes c.in_ok-moved.ensures.former c.in_ok-moved.ensures.name old_path.0 new_path.0 new_path.1 (spot old_path.0 (new_path.0 ∷ new_path.1) old_path.1 new_path.2) c.in-Ok.ensures.moved c.self.inside.stopped, c.move_at.ensures.limit ∙ c.self.invariant.1, λ on. c.in-Ok.ensures.settled)
 
 pub invariant_of-self-in-Err : goal.invariant_of-self-in-Err
 invariant_of-self-in-Err g c =
     let runs : c.self.inside.stopped ≡ false = ap (λ (m : Mount g.row.P.Denot). m.stopped) c.self.view_is ∙ c.in_ok-writable.ensures.runs in
-    let writes : c.self.inside.read_only ≡ false = ap (λ (m : Mount g.row.P.Denot). m.read_only) c.self.view_is ∙ c.in_ok-writable.ensures.writes in
-    (kept_or_stopped g.P.Pmem.region c.self.invariant.0 runs writes c.in-Err.refusal c.is_stop-self-inside.result c.is_stop-self-inside.ensures.yes c.is_stop-self-inside.ensures.no c.move_at.ensures.lists c.in-Err.ensures.unchanged, c.move_at.ensures.limit ∙ c.self.invariant.1)
+    let writes : c.self.inside.read_only ≡ false = ap (λ (m : Mount g.row.P.Denot). m.read_only) c.self.view_is ∙ c.in_ok-writable.ensures.writes in (
+      kept_or_stopped g.P.Pmem.region c.self.invariant.0 runs writes c.in-Err.refusal c.is_stop-self-inside.result c.is_stop-self-inside.ensures.yes c.is_stop-self-inside.ensures.no c.move_at.ensures.lists c.in-Err.ensures.unchanged,
+      c.move_at.ensures.limit ∙ c.self.invariant.1,
+      settled_or_stopped g.P.Pmem.region g.P.Pmem.may_hold c.in-Err.refusal c.is_stop-self-inside.result c.is_stop-self-inside.ensures.no (λ off. (c.in-Err.ensures.unchanged off).memory) (c.self.invariant.2 runs),
+    )
 
 pub returns-in-Ok-clause-allowed : goal.returns-in-Ok-clause-allowed
 returns-in-Ok-clause-allowed g c p q says says_new =
@@ -178,3 +186,63 @@ returns-in-Err-clause-unchanged g c off =
 pub returns-in-Err-clause-stopped : goal.returns-in-Err-clause-stopped
 returns-in-Err-clause-stopped g c still =
     late_reply c.in-Err.refusal c.is_stop-self-inside.result c.is_stop-self-inside.ensures.yes c.is_stop-self-inside.ensures.no c.in-Err.ensures.stopped
+
+pub returns-in_err-writable-clause-read_only : goal.returns-in_err-writable-clause-read_only
+returns-in_err-writable-clause-read_only g c only = same_mount c.args.self.now
+
+pub returns-in_err-moved-clause-read_only : goal.returns-in_err-moved-clause-read_only
+returns-in_err-moved-clause-read_only g c only = absurd (let no : true ≡ false = sym only ∙ c.in_ok-writable.ensures.writes in cc)
+
+pub returns-in-Ok-clause-read_only : goal.returns-in-Ok-clause-read_only
+returns-in-Ok-clause-read_only g c only = absurd (let no : true ≡ false = sym only ∙ c.in_ok-writable.ensures.writes in cc)
+
+pub returns-in-Err-clause-read_only : goal.returns-in-Err-clause-read_only
+returns-in-Err-clause-read_only g c only = absurd (let no : true ≡ false = sym only ∙ c.in_ok-writable.ensures.writes in cc)
+
+pub returns-in_err-writable-clause-any_stop : goal.returns-in_err-writable-clause-any_stop
+returns-in_err-writable-clause-any_stop g c names others path other_path on able = call_stays g.P.Pmem.region c.args.self.now (makes_rename c.args.time (Some others)) (logs_rename c.args.time (Some others)) names c.in_err-writable.ensures.kept on able _ (c.in_err-writable.ensures.settled on)
+
+pub returns-in_err-moved-clause-any_stop : goal.returns-in_err-moved-clause-any_stop
+returns-in_err-moved-clause-any_stop g c names others path other_path on able = call_stays g.P.Pmem.region c.args.self.now (makes_rename c.args.time (Some others)) (logs_rename c.args.time (Some others)) names c.in_ok-writable.ensures.kept on able _ (c.in_ok-writable.ensures.settled on)
+
+pub returns-in-Ok-clause-any_stop : goal.returns-in-Ok-clause-any_stop
+returns-in-Ok-clause-any_stop g c names others path other_path on able =
+    let runs : c.self.inside.stopped ≡ false = ap (λ (m : Mount g.row.P.Denot). m.stopped) c.self.view_is ∙ c.in_ok-writable.ensures.runs in
+    let writes : c.self.inside.read_only ≡ false = ap (λ (m : Mount g.row.P.Denot). m.read_only) c.self.view_is ∙ c.in_ok-writable.ensures.writes in
+    let long = long_text c.args.new.now c.in_ok-moved.ensures.paths.1 in
+    let v = longer c.args.new.now others other_path long in
+    let others_path : IsPath c.args.new.now (v.0 ∷ v.1) = subst (IsPath c.args.new.now) v.2 other_path in
+    let from = row_in_use c.self.inside.rows.items c.in_ok-moved.moved.from.directory c.in_ok-moved.ensures.from in
+    let to = row_in_use c.self.inside.rows.items c.in_ok-moved.moved.directory c.in_ok-moved.ensures.directory in
+    let inode = row_in_use c.self.inside.rows.items c.in_ok-moved.moved.from.target c.in_ok-moved.ensures.target in
+    subst (λ (xs : List (List ℕ)). LeavesOnly (g.P.Pmem.region c.move_at.new.memory) (g.P.Pmem.may_hold c.move_at.new.memory) (LeavesCall (makes_rename c.args.time (Some xs)) (logs_rename c.args.time (Some xs)) (g.P.Pmem.region c.args.self.now.memory) c.args.self.now names)) (sym v.2)
+    (rename_left g.P.Pmem.region c.self.view_is c.self.invariant.0 runs writes c.in_ok-moved.moved.from.directory c.in_ok-moved.moved.from.target c.in_ok-moved.moved.directory from.0 inode.0 to.0 from.1 inode.1 to.1 c.in_ok-moved.moved.from.name.now c.in_ok-moved.moved.name.now c.args.time c.in_ok-moved.ensures.former c.in_ok-moved.ensures.name
+    names v.0 v.1 (c.in_ok-moved.ensures.spot (g.P.Pmem.region c.self.inside.memory) names (v.0 ∷ v.1) path others_path) _ _ _
+    (λ held h k here other absent pending. c.move_at.ensures.any_stop from.0 to.0 inode.0 held h k from.1 to.1 inode.1 here other absent pending) (c.self.invariant.2 runs))
+
+pub returns-in-Err-clause-any_stop : goal.returns-in-Err-clause-any_stop
+returns-in-Err-clause-any_stop g c names others path other_path on able =
+    let runs : c.self.inside.stopped ≡ false = ap (λ (m : Mount g.row.P.Denot). m.stopped) c.self.view_is ∙ c.in_ok-writable.ensures.runs in
+    let writes : c.self.inside.read_only ≡ false = ap (λ (m : Mount g.row.P.Denot). m.read_only) c.self.view_is ∙ c.in_ok-writable.ensures.writes in
+    let long = long_text c.args.new.now c.in_ok-moved.ensures.paths.1 in
+    let v = longer c.args.new.now others other_path long in
+    let others_path : IsPath c.args.new.now (v.0 ∷ v.1) = subst (IsPath c.args.new.now) v.2 other_path in
+    let from = row_in_use c.self.inside.rows.items c.in_ok-moved.moved.from.directory c.in_ok-moved.ensures.from in
+    let to = row_in_use c.self.inside.rows.items c.in_ok-moved.moved.directory c.in_ok-moved.ensures.directory in
+    let inode = row_in_use c.self.inside.rows.items c.in_ok-moved.moved.from.target c.in_ok-moved.ensures.target in
+    subst (λ (xs : List (List ℕ)). LeavesOnly (g.P.Pmem.region c.move_at.new.memory) (g.P.Pmem.may_hold c.move_at.new.memory) (LeavesCall (makes_rename c.args.time (Some xs)) (logs_rename c.args.time (Some xs)) (g.P.Pmem.region c.args.self.now.memory) c.args.self.now names)) (sym v.2)
+    (rename_left g.P.Pmem.region c.self.view_is c.self.invariant.0 runs writes c.in_ok-moved.moved.from.directory c.in_ok-moved.moved.from.target c.in_ok-moved.moved.directory from.0 inode.0 to.0 from.1 inode.1 to.1 c.in_ok-moved.moved.from.name.now c.in_ok-moved.moved.name.now c.args.time c.in_ok-moved.ensures.former c.in_ok-moved.ensures.name
+    names v.0 v.1 (c.in_ok-moved.ensures.spot (g.P.Pmem.region c.self.inside.memory) names (v.0 ∷ v.1) path others_path) _ _ _
+    (λ held h k here other absent pending. c.move_at.ensures.any_stop from.0 to.0 inode.0 held h k from.1 to.1 inode.1 here other absent pending) (c.self.invariant.2 runs))
+
+pub returns-in_err-writable-clause-bad_text : goal.returns-in_err-writable-clause-bad_text
+returns-in_err-writable-clause-bad_text g c bad = same_mount c.args.self.now
+
+pub returns-in_err-moved-clause-bad_text : goal.returns-in_err-moved-clause-bad_text
+returns-in_err-moved-clause-bad_text g c bad = same_mount c.args.self.now
+
+pub returns-in-Ok-clause-bad_text : goal.returns-in-Ok-clause-bad_text
+returns-in-Ok-clause-bad_text g c bad = absurd (let paths = c.in_ok-moved.ensures.paths in let old_path = paths.0 in let new_path = paths.1 in bad old_path.0 (new_path.0 ∷ new_path.1) old_path.1 new_path.2)
+
+pub returns-in-Err-clause-bad_text : goal.returns-in-Err-clause-bad_text
+returns-in-Err-clause-bad_text g c bad = absurd (let paths = c.in_ok-moved.ensures.paths in let old_path = paths.0 in let new_path = paths.1 in bad old_path.0 (new_path.0 ∷ new_path.1) old_path.1 new_path.2)

@@ -1,4 +1,4 @@
-use Rattle.std.proofs.Common.{◌≡◌, ◌∙◌, ◌<◌, ◌%◌, ◌⊎◌, ◌++◌, ◌∷◌, [], Some, Ok, false, inl, inr, ap, slice_get, subst, sym}
+use Rattle.std.proofs.Common.{◌≡◌, ◌∙◌, ◌<◌, ◌%◌, ◌⊎◌, ◌++◌, ◌∷◌, [], Some, Ok, false, true, inl, inr, ap, slice_get, subst, sym}
 use Rattle.std.proofs.lemmas.Result.{err_from_is_err_and}
 use Rattle.nv_entry.specs.declared.entry.Operation.TheVariants.{Remove}
 use Rattle.nv_logpage.specs.Append.{needed}
@@ -13,7 +13,8 @@ use Rattle.nv_tree.specs.Tree.{SameTree, walk}
 use Rattle.nv_tree.specs.Calls.{removed}
 use Rattle.nv_tree.specs.Refusals.{first_refusal, has_names, has_no_space, is_bad_name, is_missing, is_no_dir, rmdir_tests, walk_tests}
 use Rattle.nv_tree.proofs.Texts.{text_says}
-use Rattle.nv_calls.specs.AtPlaces.{CanGo}
+use Rattle.nv_calls.specs.Effects.{logs_removal, makes_removal}
+use Rattle.nv_calls.specs.AtPlaces.{CanGo, cut_of}
 use Rattle.nv_calls.specs.Mount.{Mount}
 use Rattle.nv_calls.specs.NameCalls.{name_blocks}
 use Rattle.nv_steps.specs.NameEntries.{name_entries}
@@ -21,6 +22,8 @@ use Rattle.nv_paths.specs.NamedAt.{rmdir_spot_tests}
 use Rattle.nv_calls.specs.RemoveCalls.{ShowsRemoved}
 use Rattle.nv_paths.specs.Seen.{LeadsTo, tree_of}
 use Rattle.nv_calls.specs.World.{world_of}
+use Rattle.nv_calls.proofs.Stopped.{call_stays, settled_or_stopped}
+use Rattle.nv_calls.proofs.StoppedRemovals.{rmdir_left}
 use Rattle.nv_calls.proofs.CreateCall.{kept_or_stopped, unchanged_rows}
 use Rattle.nv_tree.proofs.Replies.{refused_by}
 use Rattle.nv_calls.proofs.OneRow.{stands_right}
@@ -104,13 +107,16 @@ invariant_of-self g c =
     let path = c.in_ok-named.ensures.path in
     let can_go : (gone : Row) → slice_get c.self.inside.rows.items (place_in c.self.inside.rows.items c.in_ok-named.named.target) ≡ Some gone → CanGo gone = λ gone at. inl (c.in_ok-named.ensures.empty gone (sym (at_place c.self.inside.rows.items c.in_ok-named.named.target) ∙ at)) in
     let step = c.in-Ok.ensures.removed in
-    (removed_kept c.self.invariant.0 runs writes step c.in_ok-named.ensures.name (can_go step.gone step.gone_at) path.0 (spot path.0 path.1) c.self.inside.stopped, c.remove_named.ensures.limit ∙ c.self.invariant.1)
+    (removed_kept c.self.invariant.0 runs writes (cut_of step) c.in_ok-named.ensures.name (can_go step.gone step.gone_at) path.0 (spot path.0 path.1) step.given c.self.inside.stopped, c.remove_named.ensures.limit ∙ c.self.invariant.1, λ on. c.in-Ok.ensures.settled)
 
 pub invariant_of-self-in-Err : goal.invariant_of-self-in-Err
 invariant_of-self-in-Err g c =
     let runs : c.self.inside.stopped ≡ false = ap (λ (m : Mount g.row.P.Denot). m.stopped) c.self.view_is ∙ c.in_ok-writable.ensures.runs in
-    let writes : c.self.inside.read_only ≡ false = ap (λ (m : Mount g.row.P.Denot). m.read_only) c.self.view_is ∙ c.in_ok-writable.ensures.writes in
-    (kept_or_stopped g.P.Pmem.region c.self.invariant.0 runs writes c.in-Err.refusal c.is_stop-self-inside.result c.is_stop-self-inside.ensures.yes c.is_stop-self-inside.ensures.no c.remove_named.ensures.lists c.in-Err.ensures.unchanged, c.remove_named.ensures.limit ∙ c.self.invariant.1)
+    let writes : c.self.inside.read_only ≡ false = ap (λ (m : Mount g.row.P.Denot). m.read_only) c.self.view_is ∙ c.in_ok-writable.ensures.writes in (
+      kept_or_stopped g.P.Pmem.region c.self.invariant.0 runs writes c.in-Err.refusal c.is_stop-self-inside.result c.is_stop-self-inside.ensures.yes c.is_stop-self-inside.ensures.no c.remove_named.ensures.lists c.in-Err.ensures.unchanged,
+      c.remove_named.ensures.limit ∙ c.self.invariant.1,
+      settled_or_stopped g.P.Pmem.region g.P.Pmem.may_hold c.in-Err.refusal c.is_stop-self-inside.result c.is_stop-self-inside.ensures.no (λ off. (c.in-Err.ensures.unchanged off).memory) (c.self.invariant.2 runs),
+    )
 
 pub returns-in-Ok-clause-allowed : goal.returns-in-Ok-clause-allowed
 returns-in-Ok-clause-allowed g c p says =
@@ -133,7 +139,7 @@ returns-in-Ok-clause-changed g c names path =
     let can_go : (gone : Row) → slice_get c.self.inside.rows.items (place_in c.self.inside.rows.items c.in_ok-named.named.target) ≡ Some gone → CanGo gone = λ gone at. inl (c.in_ok-named.ensures.empty gone (sym (at_place c.self.inside.rows.items c.in_ok-named.named.target) ∙ at)) in
     let step = c.in-Ok.ensures.removed in
     subst (λ (m : Mount g.row.P.Denot). SameTree (tree_of (g.P.Pmem.region c.remove_named.new.memory) c.remove_named.new.rows.items) (removed names c.args.time (tree_of (g.P.Pmem.region m.memory) m.rows))) c.self.view_is
-    (rmdir_tree c.self.invariant.0 runs writes step c.in_ok-named.ensures.name (can_go step.gone step.gone_at) names (spot names path))
+    (rmdir_tree c.self.invariant.0 runs writes (cut_of step) c.in_ok-named.ensures.name (can_go step.gone step.gone_at) names (spot names path))
 
 pub returns-in-Ok-clause-log : goal.returns-in-Ok-clause-log
 returns-in-Ok-clause-log g c names i d node held h path led ended sound is =
@@ -143,7 +149,7 @@ returns-in-Ok-clause-log g c names i d node held h path led ended sound is =
     let can_go : (gone : Row) → slice_get c.self.inside.rows.items (place_in c.self.inside.rows.items c.in_ok-named.named.target) ≡ Some gone → CanGo gone = λ gone at. inl (c.in_ok-named.ensures.empty gone (sym (at_place c.self.inside.rows.items c.in_ok-named.named.target) ∙ at)) in
     let step = c.in-Ok.ensures.removed in
     subst (λ (m : Mount g.row.P.Denot). LeadsTo (tree_of (g.P.Pmem.region m.memory) m.rows) names i node → walk (tree_of (g.P.Pmem.region m.memory) m.rows) 1 names ≡ Ok d → ShowsSound (g.P.Pmem.region m.memory) m.sup held → ShowsRemoved (g.P.Pmem.region c.remove_named.new.memory) m.sup held d h (name_entries Remove i (last_name names) c.args.time) i) c.self.view_is
-    (λ leads walked shown. removed_log c.self.invariant.0 runs writes step c.in_ok-named.ensures.name (can_go step.gone step.gone_at) names (spot names path) i d node held h leads walked shown is) led ended sound
+    (λ leads walked shown. removed_log c.self.invariant.0 runs writes (cut_of step) c.in_ok-named.ensures.name (can_go step.gone step.gone_at) names (spot names path) i d node held h leads walked shown is) led ended sound
 
 pub returns-in-Err-clause-refused : goal.returns-in-Err-clause-refused
 returns-in-Err-clause-refused g c still p says =
@@ -166,3 +172,53 @@ returns-in-Err-clause-unchanged g c off =
 pub returns-in-Err-clause-stopped : goal.returns-in-Err-clause-stopped
 returns-in-Err-clause-stopped g c still =
     late_reply c.in-Err.refusal c.is_stop-self-inside.result c.is_stop-self-inside.ensures.yes c.is_stop-self-inside.ensures.no c.in-Err.ensures.stopped
+
+pub returns-in_err-writable-clause-read_only : goal.returns-in_err-writable-clause-read_only
+returns-in_err-writable-clause-read_only g c only = same_mount c.args.self.now
+
+pub returns-in_err-named-clause-read_only : goal.returns-in_err-named-clause-read_only
+returns-in_err-named-clause-read_only g c only = absurd (let no : true ≡ false = sym only ∙ c.in_ok-writable.ensures.writes in cc)
+
+pub returns-in-Ok-clause-read_only : goal.returns-in-Ok-clause-read_only
+returns-in-Ok-clause-read_only g c only = absurd (let no : true ≡ false = sym only ∙ c.in_ok-writable.ensures.writes in cc)
+
+pub returns-in-Err-clause-read_only : goal.returns-in-Err-clause-read_only
+returns-in-Err-clause-read_only g c only = absurd (let no : true ≡ false = sym only ∙ c.in_ok-writable.ensures.writes in cc)
+
+pub returns-in_err-writable-clause-any_stop : goal.returns-in_err-writable-clause-any_stop
+returns-in_err-writable-clause-any_stop g c names path on able = call_stays g.P.Pmem.region c.args.self.now (makes_removal c.args.time) (logs_removal c.args.time) names c.in_err-writable.ensures.kept on able _ (c.in_err-writable.ensures.settled on)
+
+pub returns-in_err-named-clause-any_stop : goal.returns-in_err-named-clause-any_stop
+returns-in_err-named-clause-any_stop g c names path on able = call_stays g.P.Pmem.region c.args.self.now (makes_removal c.args.time) (logs_removal c.args.time) names c.in_ok-writable.ensures.kept on able _ (c.in_ok-writable.ensures.settled on)
+
+pub returns-in-Ok-clause-any_stop : goal.returns-in-Ok-clause-any_stop
+returns-in-Ok-clause-any_stop g c names path on able =
+    let runs : c.self.inside.stopped ≡ false = ap (λ (m : Mount g.row.P.Denot). m.stopped) c.self.view_is ∙ c.in_ok-writable.ensures.runs in
+    let writes : c.self.inside.read_only ≡ false = ap (λ (m : Mount g.row.P.Denot). m.read_only) c.self.view_is ∙ c.in_ok-writable.ensures.writes in
+    let r = row_in_use c.self.inside.rows.items c.in_ok-named.named.directory c.in_ok-named.ensures.directory in
+    let i = row_in_use c.self.inside.rows.items c.in_ok-named.named.target c.in_ok-named.ensures.target in
+    rmdir_left g.P.Pmem.region c.self.view_is c.self.invariant.0 runs writes c.in_ok-named.named.directory c.in_ok-named.named.target r.0 i.0 r.1 i.1 c.in_ok-named.named.name.now c.args.time c.in_ok-named.ensures.name names
+    (c.in_ok-named.ensures.spot (g.P.Pmem.region c.self.inside.memory) names path) (inl (c.in_ok-named.ensures.empty i.0 i.1)) _ _ _
+    (λ held h here pending. c.remove_named.ensures.any_stop r.0 i.0 held h r.1 i.1 here pending) (c.self.invariant.2 runs)
+
+pub returns-in-Err-clause-any_stop : goal.returns-in-Err-clause-any_stop
+returns-in-Err-clause-any_stop g c names path on able =
+    let runs : c.self.inside.stopped ≡ false = ap (λ (m : Mount g.row.P.Denot). m.stopped) c.self.view_is ∙ c.in_ok-writable.ensures.runs in
+    let writes : c.self.inside.read_only ≡ false = ap (λ (m : Mount g.row.P.Denot). m.read_only) c.self.view_is ∙ c.in_ok-writable.ensures.writes in
+    let r = row_in_use c.self.inside.rows.items c.in_ok-named.named.directory c.in_ok-named.ensures.directory in
+    let i = row_in_use c.self.inside.rows.items c.in_ok-named.named.target c.in_ok-named.ensures.target in
+    rmdir_left g.P.Pmem.region c.self.view_is c.self.invariant.0 runs writes c.in_ok-named.named.directory c.in_ok-named.named.target r.0 i.0 r.1 i.1 c.in_ok-named.named.name.now c.args.time c.in_ok-named.ensures.name names
+    (c.in_ok-named.ensures.spot (g.P.Pmem.region c.self.inside.memory) names path) (inl (c.in_ok-named.ensures.empty i.0 i.1)) _ _ _
+    (λ held h here pending. c.remove_named.ensures.any_stop r.0 i.0 held h r.1 i.1 here pending) (c.self.invariant.2 runs)
+
+pub returns-in_err-writable-clause-bad_text : goal.returns-in_err-writable-clause-bad_text
+returns-in_err-writable-clause-bad_text g c bad = same_mount c.args.self.now
+
+pub returns-in_err-named-clause-bad_text : goal.returns-in_err-named-clause-bad_text
+returns-in_err-named-clause-bad_text g c bad = same_mount c.args.self.now
+
+pub returns-in-Ok-clause-bad_text : goal.returns-in-Ok-clause-bad_text
+returns-in-Ok-clause-bad_text g c bad = absurd (let path = c.in_ok-named.ensures.path in bad path.0 path.1)
+
+pub returns-in-Err-clause-bad_text : goal.returns-in-Err-clause-bad_text
+returns-in-Err-clause-bad_text g c bad = absurd (let path = c.in_ok-named.ensures.path in bad path.0 path.1)

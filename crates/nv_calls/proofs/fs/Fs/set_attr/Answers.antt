@@ -12,6 +12,7 @@ use Rattle.nv_tree.specs.Path.{IsPath}
 use Rattle.nv_tree.specs.Refusals.{first_refusal, has_no_space, is_bad, is_missing, set_attr_tests, walk_tests}
 use Rattle.nv_tree.proofs.Texts.{text_says}
 use Rattle.nv_steps.specs.Attributes.{attributes}
+use Rattle.nv_calls.specs.Effects.{logs_attributes, makes_attributes}
 use Rattle.nv_calls.specs.AttributesCall.{attributes_blocks}
 use Rattle.nv_calls.specs.Mount.{Mount}
 use Rattle.nv_paths.specs.Seen.{LeadsTo, node_of, tree_of}
@@ -24,11 +25,13 @@ use Rattle.nv_rows.proofs.Places.{at_place, back_one, in_use, own_row}
 use Rattle.nv_calls.proofs.OneRow.{stands_right}
 use Rattle.nv_super.proofs.Members.{stands}
 use Rattle.nv_calls.proofs.RowChange.{kept_after, log_grew, row_bytes, same_mount, tree_after}
+use Rattle.nv_calls.proofs.Stopped.{attributes_left, call_stays, settled_or_stopped}
 use Rattle.nv_calls.proofs.SetAttr.{attr_allowed, attr_changed, attr_logged, attr_refused, kept_or_stopped, late_reply, not_stop, unchanged_step, attributed_node}
 use Rattle.nv_calls.proofs.Tests.{early_reply, if_err, stat_goes_on, stat_refuses, writing_goes_on}
 use Rattle.nv_calls.proofs.TwoRows.{last_used}
 use Rattle.nv_calls.proofs.Asked.{low_bits, low_pools}
 use Rattle.nv_calls.proofs.Early.{good_reply, same_fuse}
+use Rattle.nv_calls.proofs.TextPaths.{stat_path}
 use Rattle.nv_calls.proofs.fs.Fs.set_attr.Goals as goal
 
 pub give_back-requires : goal.give_back-requires
@@ -90,7 +93,7 @@ invariant_of-self g c =
     let inode = c.in_ok-inode.field-0.now.inode in
     let at = at_place rows inode ∙ c.lend-row.ensures.row in
     let put = back_one rows c.lend-row.new.self.items c.give_back.new.self.items inode c.change_attributes-changed.new.row c.lend-row.ensures.lent (c.change_attributes-changed.ensures.inode ∙ c.lend-row.ensures.number) c.give_back.ensures.rows in
-    (rw put (kept_after c.self.invariant.0 runs writes (place_in rows inode) c.lend-row.result c.change_attributes-changed.new.row at (attributes c.lend-row.result.numbers.size c.args.mode c.args.owner c.args.group c.args.time) (λ held h shows. c.in-Ok.ensures.log held h shows) c.change_attributes-changed.ensures.lists c.self.inside.stopped), c.give_back.ensures.sup ∙ c.lend-row.ensures.sup ∙ c.self.invariant.1)
+    (rw put (kept_after c.self.invariant.0 runs writes (place_in rows inode) c.lend-row.result c.change_attributes-changed.new.row at (attributes c.lend-row.result.numbers.size c.args.mode c.args.owner c.args.group c.args.time) (λ held h shows. c.in-Ok.ensures.log held h shows) c.change_attributes-changed.ensures.lists c.self.inside.stopped), c.give_back.ensures.sup ∙ c.lend-row.ensures.sup ∙ c.self.invariant.1, λ on. c.in-Ok.ensures.settled)
 
 pub invariant_of-self-in-Err : goal.invariant_of-self-in-Err
 invariant_of-self-in-Err g c =
@@ -99,8 +102,11 @@ invariant_of-self-in-Err g c =
     let rows = c.self.inside.rows.items in
     let inode = c.in_ok-inode.field-0.now.inode in
     let at = at_place rows inode ∙ c.lend-row.ensures.row in
-    let put = back_one rows c.lend-row.new.self.items c.give_back.new.self.items inode c.change_attributes-changed.new.row c.lend-row.ensures.lent (c.change_attributes-changed.ensures.inode ∙ c.lend-row.ensures.number) c.give_back.ensures.rows in
-    (rw put (kept_or_stopped g.P.Pmem.region c.self.invariant.0 runs writes (place_in rows inode) c.lend-row.result c.change_attributes-changed.new.row at c.in-Err.refusal c.is_stop-self-inside.result c.is_stop-self-inside.ensures.yes c.is_stop-self-inside.ensures.no c.change_attributes-changed.ensures.lists c.in-Err.ensures.unchanged), c.give_back.ensures.sup ∙ c.lend-row.ensures.sup ∙ c.self.invariant.1)
+    let put = back_one rows c.lend-row.new.self.items c.give_back.new.self.items inode c.change_attributes-changed.new.row c.lend-row.ensures.lent (c.change_attributes-changed.ensures.inode ∙ c.lend-row.ensures.number) c.give_back.ensures.rows in (
+      rw put (kept_or_stopped g.P.Pmem.region c.self.invariant.0 runs writes (place_in rows inode) c.lend-row.result c.change_attributes-changed.new.row at c.in-Err.refusal c.is_stop-self-inside.result c.is_stop-self-inside.ensures.yes c.is_stop-self-inside.ensures.no c.change_attributes-changed.ensures.lists c.in-Err.ensures.unchanged),
+      c.give_back.ensures.sup ∙ c.lend-row.ensures.sup ∙ c.self.invariant.1,
+      settled_or_stopped g.P.Pmem.region g.P.Pmem.may_hold c.in-Err.refusal c.is_stop-self-inside.result c.is_stop-self-inside.ensures.no (λ off. (c.in-Err.ensures.unchanged off).memory) (c.self.invariant.2 runs),
+    )
 
 pub returns-in-Ok-clause-allowed : goal.returns-in-Ok-clause-allowed
 returns-in-Ok-clause-allowed g c p says =
@@ -277,3 +283,55 @@ returns-in_err-writable-clause-keeps_fuse g c = same_fuse _ _
 
 pub returns-in_err-inode-clause-keeps_fuse : goal.returns-in_err-inode-clause-keeps_fuse
 returns-in_err-inode-clause-keeps_fuse g c = same_fuse _ _
+
+pub returns-in_err-writable-clause-any_stop : goal.returns-in_err-writable-clause-any_stop
+returns-in_err-writable-clause-any_stop g c names path on able = call_stays g.P.Pmem.region c.args.self.now (makes_attributes c.args.mode c.args.owner c.args.group c.args.time) (logs_attributes c.args.mode c.args.owner c.args.group c.args.time) names c.in_err-writable.ensures.kept on able _ (c.in_err-writable.ensures.settled on)
+
+pub returns-in_err-inode-clause-any_stop : goal.returns-in_err-inode-clause-any_stop
+returns-in_err-inode-clause-any_stop g c names path on able = call_stays g.P.Pmem.region c.args.self.now (makes_attributes c.args.mode c.args.owner c.args.group c.args.time) (logs_attributes c.args.mode c.args.owner c.args.group c.args.time) names c.in_ok-writable.ensures.kept on able _ (c.in_ok-writable.ensures.settled on)
+
+pub returns-in-Ok-clause-any_stop : goal.returns-in-Ok-clause-any_stop
+returns-in-Ok-clause-any_stop g c names path on able =
+    let runs : c.self.inside.stopped ≡ false = ap (λ (m : Mount g.row.P.Denot). m.stopped) c.self.view_is ∙ c.in_ok-writable.ensures.runs in
+    let writes : c.self.inside.read_only ≡ false = ap (λ (m : Mount g.row.P.Denot). m.read_only) c.self.view_is ∙ c.in_ok-writable.ensures.writes in
+    let rows = c.self.inside.rows.items in
+    let inode = c.in_ok-inode.field-0.now.inode in
+    let at = at_place rows inode ∙ c.lend-row.ensures.row in
+    let leads : LeadsTo (tree_of (g.P.Pmem.region c.self.inside.memory) rows) names c.lend-row.result.inode (node_of (g.P.Pmem.region c.self.inside.memory) c.lend-row.result) = subst (λ (r : Row). LeadsTo (tree_of (g.P.Pmem.region c.self.inside.memory) rows) names r.inode (node_of (g.P.Pmem.region c.self.inside.memory) r)) (same_Some _ _ (sym c.in_ok-inode.ensures.held ∙ c.lend-row.ensures.row)) (c.in_ok-inode.ensures.row (g.P.Pmem.region c.self.inside.memory) names path) in
+    attributes_left g.P.Pmem.region c.self.view_is c.self.invariant.0 runs writes (place_in rows inode) c.lend-row.result at c.args.mode c.args.owner c.args.group c.args.time names leads _ _ _
+    (λ held h shows pending. c.change_attributes-changed.ensures.any_stop held h shows pending) (c.self.invariant.2 runs)
+
+pub returns-in-Err-clause-any_stop : goal.returns-in-Err-clause-any_stop
+returns-in-Err-clause-any_stop g c names path on able =
+    let runs : c.self.inside.stopped ≡ false = ap (λ (m : Mount g.row.P.Denot). m.stopped) c.self.view_is ∙ c.in_ok-writable.ensures.runs in
+    let writes : c.self.inside.read_only ≡ false = ap (λ (m : Mount g.row.P.Denot). m.read_only) c.self.view_is ∙ c.in_ok-writable.ensures.writes in
+    let rows = c.self.inside.rows.items in
+    let inode = c.in_ok-inode.field-0.now.inode in
+    let at = at_place rows inode ∙ c.lend-row.ensures.row in
+    let leads : LeadsTo (tree_of (g.P.Pmem.region c.self.inside.memory) rows) names c.lend-row.result.inode (node_of (g.P.Pmem.region c.self.inside.memory) c.lend-row.result) = subst (λ (r : Row). LeadsTo (tree_of (g.P.Pmem.region c.self.inside.memory) rows) names r.inode (node_of (g.P.Pmem.region c.self.inside.memory) r)) (same_Some _ _ (sym c.in_ok-inode.ensures.held ∙ c.lend-row.ensures.row)) (c.in_ok-inode.ensures.row (g.P.Pmem.region c.self.inside.memory) names path) in
+    attributes_left g.P.Pmem.region c.self.view_is c.self.invariant.0 runs writes (place_in rows inode) c.lend-row.result at c.args.mode c.args.owner c.args.group c.args.time names leads _ _ _
+    (λ held h shows pending. c.change_attributes-changed.ensures.any_stop held h shows pending) (c.self.invariant.2 runs)
+
+pub returns-in_err-writable-clause-read_only : goal.returns-in_err-writable-clause-read_only
+returns-in_err-writable-clause-read_only g c only = same_mount c.args.self.now
+
+pub returns-in_err-inode-clause-read_only : goal.returns-in_err-inode-clause-read_only
+returns-in_err-inode-clause-read_only g c only = absurd (let no : true ≡ false = sym only ∙ c.in_ok-writable.ensures.writes in cc)
+
+pub returns-in-Ok-clause-read_only : goal.returns-in-Ok-clause-read_only
+returns-in-Ok-clause-read_only g c only = absurd (let no : true ≡ false = sym only ∙ c.in_ok-writable.ensures.writes in cc)
+
+pub returns-in-Err-clause-read_only : goal.returns-in-Err-clause-read_only
+returns-in-Err-clause-read_only g c only = absurd (let no : true ≡ false = sym only ∙ c.in_ok-writable.ensures.writes in cc)
+
+pub returns-in_err-writable-clause-bad_text : goal.returns-in_err-writable-clause-bad_text
+returns-in_err-writable-clause-bad_text g c bad = same_mount c.args.self.now
+
+pub returns-in_err-inode-clause-bad_text : goal.returns-in_err-inode-clause-bad_text
+returns-in_err-inode-clause-bad_text g c bad = same_mount c.args.self.now
+
+pub returns-in-Ok-clause-bad_text : goal.returns-in-Ok-clause-bad_text
+returns-in-Ok-clause-bad_text g c bad = absurd (let said = text_says c.args.path.now in let path = stat_path (tree_of (g.P.Pmem.region c.self.inside.memory) c.self.inside.rows.items) c.args.path.now said.0 said.1 (c.in_ok-inode.ensures.refused (g.P.Pmem.region c.self.inside.memory) said.0 said.1) in bad path.0 path.1)
+
+pub returns-in-Err-clause-bad_text : goal.returns-in-Err-clause-bad_text
+returns-in-Err-clause-bad_text g c bad = absurd (let said = text_says c.args.path.now in let path = stat_path (tree_of (g.P.Pmem.region c.self.inside.memory) c.self.inside.rows.items) c.args.path.now said.0 said.1 (c.in_ok-inode.ensures.refused (g.P.Pmem.region c.self.inside.memory) said.0 said.1) in bad path.0 path.1)

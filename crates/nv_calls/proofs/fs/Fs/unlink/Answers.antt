@@ -1,4 +1,4 @@
-use Rattle.std.proofs.Common.{◌≡◌, ◌∙◌, ◌<◌, ◌-◌, ◌⊎◌, ◌++◌, ◌∷◌, [], List, ℕ, Some, None, Ok, false, inr, ap, slice_get, subst, sym}
+use Rattle.std.proofs.Common.{◌≡◌, ◌∙◌, ◌<◌, ◌-◌, ◌⊎◌, ◌++◌, ◌∷◌, [], List, ℕ, Some, None, Ok, false, true, inr, ap, slice_get, subst, sym}
 use Rattle.std.proofs.lemmas.Result.{err_from_is_err_and}
 use Rattle.nv_super.specs.declared.kind.Kind.TheVariants.{File}
 use Rattle.nv_entry.specs.declared.entry.Operation.TheVariants.{Remove}
@@ -13,6 +13,7 @@ use Rattle.nv_tree.specs.Tree.{SameTree, walk}
 use Rattle.nv_tree.specs.Calls.{unlinked}
 use Rattle.nv_tree.specs.Refusals.{first_refusal, has_no_space, is_bad_name, is_dir, is_missing, unlink_tests, walk_tests}
 use Rattle.nv_tree.proofs.Texts.{text_says}
+use Rattle.nv_calls.specs.Effects.{LogsUnlink, makes_unlink}
 use Rattle.nv_calls.specs.Mount.{Mount}
 use Rattle.nv_paths.specs.NamedAt.{IsNamedAt, unlink_spot_tests}
 use Rattle.nv_calls.specs.LinkCalls.{ShowsBothGrew}
@@ -22,6 +23,8 @@ use Rattle.nv_calls.specs.UnlinkCalls.{unlink_blocks}
 use Rattle.nv_calls.specs.AtPlaces.{release_blocks}
 use Rattle.nv_paths.specs.Seen.{LeadsTo, tree_of}
 use Rattle.nv_calls.specs.World.{world_of}
+use Rattle.nv_calls.proofs.Stopped.{call_stays, settled_or_stopped}
+use Rattle.nv_calls.proofs.StoppedRemovals.{unlink_left}
 use Rattle.nv_calls.proofs.CreateCall.{kept_or_stopped, unchanged_rows}
 use Rattle.nv_calls.proofs.Kept.{rows_rise}
 use Rattle.nv_tree.proofs.Replies.{refused_by}
@@ -31,7 +34,7 @@ use Rattle.nv_calls.proofs.LinkedHeld.{kinds_apart, kinds_differ}
 use Rattle.nv_calls.proofs.NewNumbers.{can_name}
 use Rattle.nv_calls.proofs.RowNumbers.{row_commits, row_number}
 use Rattle.nv_calls.proofs.Tests.{space_allows, space_refuses}
-use Rattle.nv_calls.proofs.UnlinkCall.{unlink_kept, unlink_last, unlink_last_test, unlink_logs, unlink_refusal, unlink_tree}
+use Rattle.nv_calls.proofs.UnlinkCall.{released_at, unlink_kept, unlink_last, unlink_last_test, unlink_logs, unlink_refusal, unlink_tree}
 use Rattle.nv_paths.proofs.RemoveTests.{unlink_goes_on, unlink_refuses}
 use Rattle.nv_calls.proofs.RowChange.{same_mount}
 use Rattle.nv_calls.proofs.SetAttr.{late_reply, not_stop}
@@ -114,13 +117,16 @@ invariant_of-self g c =
     λ names path. c.in_ok-named.ensures.spot (g.P.Pmem.region c.self.inside.memory) names path in
     let path = c.in_ok-named.ensures.path in
     let files : (row : Row) → slice_get c.self.inside.rows.items (place_in c.self.inside.rows.items c.in_ok-named.named.target) ≡ Some row → row.kind ≡ File = λ row at. c.in_ok-named.ensures.file row (sym (at_place c.self.inside.rows.items c.in_ok-named.named.target) ∙ at) in
-    (unlink_kept c.self.invariant.0 runs writes c.in-Ok.ensures.released c.in_ok-named.ensures.name files path.0 (spot path.0 path.1) c.self.inside.stopped, c.release_at.ensures.limit ∙ c.self.invariant.1)
+    (unlink_kept c.self.invariant.0 runs writes c.in-Ok.ensures.released c.in_ok-named.ensures.name files path.0 (spot path.0 path.1) c.self.inside.stopped, c.release_at.ensures.limit ∙ c.self.invariant.1, λ on. c.in-Ok.ensures.settled)
 
 pub invariant_of-self-in-Err : goal.invariant_of-self-in-Err
 invariant_of-self-in-Err g c =
     let runs : c.self.inside.stopped ≡ false = ap (λ (m : Mount g.row.P.Denot). m.stopped) c.self.view_is ∙ c.in_ok-writable.ensures.runs in
-    let writes : c.self.inside.read_only ≡ false = ap (λ (m : Mount g.row.P.Denot). m.read_only) c.self.view_is ∙ c.in_ok-writable.ensures.writes in
-    (kept_or_stopped g.P.Pmem.region c.self.invariant.0 runs writes c.in-Err.refusal c.is_stop-self-inside.result c.is_stop-self-inside.ensures.yes c.is_stop-self-inside.ensures.no c.release_at.ensures.lists c.in-Err.ensures.unchanged, c.release_at.ensures.limit ∙ c.self.invariant.1)
+    let writes : c.self.inside.read_only ≡ false = ap (λ (m : Mount g.row.P.Denot). m.read_only) c.self.view_is ∙ c.in_ok-writable.ensures.writes in (
+      kept_or_stopped g.P.Pmem.region c.self.invariant.0 runs writes c.in-Err.refusal c.is_stop-self-inside.result c.is_stop-self-inside.ensures.yes c.is_stop-self-inside.ensures.no c.release_at.ensures.lists c.in-Err.ensures.unchanged,
+      c.release_at.ensures.limit ∙ c.self.invariant.1,
+      settled_or_stopped g.P.Pmem.region g.P.Pmem.may_hold c.in-Err.refusal c.is_stop-self-inside.result c.is_stop-self-inside.ensures.no (λ off. (c.in-Err.ensures.unchanged off).memory) (c.self.invariant.2 runs),
+    )
 
 pub returns-in-Ok-clause-allowed : goal.returns-in-Ok-clause-allowed
 returns-in-Ok-clause-allowed g c p says =
@@ -155,7 +161,7 @@ returns-in-Ok-clause-log g c names i d node held h f path led ended sound is oth
     let files : (row : Row) → slice_get c.self.inside.rows.items (place_in c.self.inside.rows.items c.in_ok-named.named.target) ≡ Some row → row.kind ≡ File = λ row at. c.in_ok-named.ensures.file row (sym (at_place c.self.inside.rows.items c.in_ok-named.named.target) ∙ at) in
     subst (λ (m : Mount g.row.P.Denot). LeadsTo (tree_of (g.P.Pmem.region m.memory) m.rows) names i node → walk (tree_of (g.P.Pmem.region m.memory) m.rows) 1 names ≡ Ok d → ShowsSound (g.P.Pmem.region m.memory) m.sup held
     → ShowsBothGrew (g.P.Pmem.region c.release_at.new.memory) m.sup held d h (name_entries Remove i (last_name names) c.args.time) i f (links_entries (node.links - 1) c.args.time)) c.self.view_is
-    (λ leads walked shown. unlink_logs c.self.invariant.0 runs writes c.in-Ok.ensures.released c.in_ok-named.ensures.name files names (spot names path) i d node held h f leads walked shown is other_is some) led ended sound
+    (λ leads walked shown. unlink_logs c.self.invariant.0 runs writes (released_at c.in-Ok.ensures.released) c.in_ok-named.ensures.name files names (spot names path) i d node held h f leads walked shown is other_is some) led ended sound
 
 pub returns-in-Err-clause-refused : goal.returns-in-Err-clause-refused
 returns-in-Err-clause-refused g c still p says =
@@ -207,4 +213,54 @@ returns-in-Ok-clause-last g c names i d node held h path led ended sound is few 
     λ names path. c.in_ok-named.ensures.spot (g.P.Pmem.region c.self.inside.memory) names path in
     let files : (row : Row) → slice_get c.self.inside.rows.items (place_in c.self.inside.rows.items c.in_ok-named.named.target) ≡ Some row → row.kind ≡ File = λ row at. c.in_ok-named.ensures.file row (sym (at_place c.self.inside.rows.items c.in_ok-named.named.target) ∙ at) in
     subst (λ (m : Mount g.row.P.Denot). LeadsTo (tree_of (g.P.Pmem.region m.memory) m.rows) names i node → walk (tree_of (g.P.Pmem.region m.memory) m.rows) 1 names ≡ Ok d → ShowsSound (g.P.Pmem.region m.memory) m.sup held → ShowsRemoved (g.P.Pmem.region c.release_at.new.memory) m.sup held d h (name_entries Remove i (last_name names) c.args.time) i) c.self.view_is
-    (λ leads walked shown. unlink_last c.self.invariant.0 runs writes c.in-Ok.ensures.released c.in_ok-named.ensures.name files names (spot names path) i d node held h leads walked shown is few) led ended sound
+    (λ leads walked shown. unlink_last c.self.invariant.0 runs writes (released_at c.in-Ok.ensures.released) c.in_ok-named.ensures.name files names (spot names path) i d node held h leads walked shown is few) led ended sound
+
+pub returns-in_err-writable-clause-read_only : goal.returns-in_err-writable-clause-read_only
+returns-in_err-writable-clause-read_only g c only = same_mount c.args.self.now
+
+pub returns-in_err-named-clause-read_only : goal.returns-in_err-named-clause-read_only
+returns-in_err-named-clause-read_only g c only = absurd (let no : true ≡ false = sym only ∙ c.in_ok-writable.ensures.writes in cc)
+
+pub returns-in-Ok-clause-read_only : goal.returns-in-Ok-clause-read_only
+returns-in-Ok-clause-read_only g c only = absurd (let no : true ≡ false = sym only ∙ c.in_ok-writable.ensures.writes in cc)
+
+pub returns-in-Err-clause-read_only : goal.returns-in-Err-clause-read_only
+returns-in-Err-clause-read_only g c only = absurd (let no : true ≡ false = sym only ∙ c.in_ok-writable.ensures.writes in cc)
+
+pub returns-in_err-writable-clause-any_stop : goal.returns-in_err-writable-clause-any_stop
+returns-in_err-writable-clause-any_stop g c names path on able = call_stays g.P.Pmem.region c.args.self.now (makes_unlink c.args.time) (LogsUnlink c.args.time) names c.in_err-writable.ensures.kept on able _ (c.in_err-writable.ensures.settled on)
+
+pub returns-in_err-named-clause-any_stop : goal.returns-in_err-named-clause-any_stop
+returns-in_err-named-clause-any_stop g c names path on able = call_stays g.P.Pmem.region c.args.self.now (makes_unlink c.args.time) (LogsUnlink c.args.time) names c.in_ok-writable.ensures.kept on able _ (c.in_ok-writable.ensures.settled on)
+
+pub returns-in-Ok-clause-any_stop : goal.returns-in-Ok-clause-any_stop
+returns-in-Ok-clause-any_stop g c names path on able =
+    let runs : c.self.inside.stopped ≡ false = ap (λ (m : Mount g.row.P.Denot). m.stopped) c.self.view_is ∙ c.in_ok-writable.ensures.runs in
+    let writes : c.self.inside.read_only ≡ false = ap (λ (m : Mount g.row.P.Denot). m.read_only) c.self.view_is ∙ c.in_ok-writable.ensures.writes in
+    let r = row_in_use c.self.inside.rows.items c.in_ok-named.named.directory c.in_ok-named.ensures.directory in
+    let i = row_in_use c.self.inside.rows.items c.in_ok-named.named.target c.in_ok-named.ensures.target in
+    unlink_left g.P.Pmem.region c.self.view_is c.self.invariant.0 runs writes c.in_ok-named.named.directory c.in_ok-named.named.target r.0 i.0 r.1 i.1 c.in_ok-named.named.name.now c.args.time c.in_ok-named.ensures.name names
+    (c.in_ok-named.ensures.spot (g.P.Pmem.region c.self.inside.memory) names path) (c.in_ok-named.ensures.file i.0 i.1) _ _ _
+    (λ held h f here other pending. c.release_at.ensures.any_stop r.0 i.0 held h f r.1 i.1 here other pending) (c.self.invariant.2 runs)
+
+pub returns-in-Err-clause-any_stop : goal.returns-in-Err-clause-any_stop
+returns-in-Err-clause-any_stop g c names path on able =
+    let runs : c.self.inside.stopped ≡ false = ap (λ (m : Mount g.row.P.Denot). m.stopped) c.self.view_is ∙ c.in_ok-writable.ensures.runs in
+    let writes : c.self.inside.read_only ≡ false = ap (λ (m : Mount g.row.P.Denot). m.read_only) c.self.view_is ∙ c.in_ok-writable.ensures.writes in
+    let r = row_in_use c.self.inside.rows.items c.in_ok-named.named.directory c.in_ok-named.ensures.directory in
+    let i = row_in_use c.self.inside.rows.items c.in_ok-named.named.target c.in_ok-named.ensures.target in
+    unlink_left g.P.Pmem.region c.self.view_is c.self.invariant.0 runs writes c.in_ok-named.named.directory c.in_ok-named.named.target r.0 i.0 r.1 i.1 c.in_ok-named.named.name.now c.args.time c.in_ok-named.ensures.name names
+    (c.in_ok-named.ensures.spot (g.P.Pmem.region c.self.inside.memory) names path) (c.in_ok-named.ensures.file i.0 i.1) _ _ _
+    (λ held h f here other pending. c.release_at.ensures.any_stop r.0 i.0 held h f r.1 i.1 here other pending) (c.self.invariant.2 runs)
+
+pub returns-in_err-writable-clause-bad_text : goal.returns-in_err-writable-clause-bad_text
+returns-in_err-writable-clause-bad_text g c bad = same_mount c.args.self.now
+
+pub returns-in_err-named-clause-bad_text : goal.returns-in_err-named-clause-bad_text
+returns-in_err-named-clause-bad_text g c bad = same_mount c.args.self.now
+
+pub returns-in-Ok-clause-bad_text : goal.returns-in-Ok-clause-bad_text
+returns-in-Ok-clause-bad_text g c bad = absurd (let path = c.in_ok-named.ensures.path in bad path.0 path.1)
+
+pub returns-in-Err-clause-bad_text : goal.returns-in-Err-clause-bad_text
+returns-in-Err-clause-bad_text g c bad = absurd (let path = c.in_ok-named.ensures.path in bad path.0 path.1)

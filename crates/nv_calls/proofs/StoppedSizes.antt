@@ -1,0 +1,79 @@
+-- What recovery finds in a region that a stop within `set_size` has left.
+use Rattle.std.proofs.Common.{◌≡◌, ◌⊎◌, ℕ, false, inl, inr, List, set, slice_get, ap, sym, refl, subst, Option, Some}
+use Rattle.nv_super.specs.Layout.{fixed_layout}
+use Rattle.std.proofs.Math.Logic.{∥∥₁_map}
+use Rattle.nv_region.specs.Region.{Region}
+use Rattle.nv_region.specs.Stops.{Choices, LeavesOnly, NothingPending}
+use Rattle.nv_super.specs.declared.superblock.Super.{Super}
+use Rattle.nv_super.proofs.Members.{stands}
+use Rattle.nv_journal.specs.Undo.{undone}
+use Rattle.nv_alloc.specs.FreeValue.{FreeLists}
+use Rattle.nv_scan.specs.declared.piece.Row.{Row}
+use Rattle.nv_held.specs.Held.{Held, Store}
+use Rattle.nv_held.specs.Mounted.{IsMounted}
+use Rattle.nv_commit.specs.Stopped.{LeavesEither}
+use Rattle.nv_tree.specs.Tree.{SameTree, Tree, found}
+use Rattle.nv_tree.specs.Calls.{edit, on_some, resized, with_size}
+use Rattle.nv_paths.specs.Seen.{LeadsTo, node_of, tree_of}
+use Rattle.nv_steps.specs.Sizes.{resizing, sized}
+use Rattle.nv_steps.specs.Steps.{ShowsRow}
+use Rattle.nv_steps.specs.Stopped.{Resized}
+use Rattle.nv_calls.specs.Mount.{IsKept, Mount}
+use Rattle.nv_calls.specs.Effects.{logs_size, makes_size}
+use Rattle.nv_calls.specs.Stopped.{IsAsMade, IsAsMounted, LeavesCall}
+use Rattle.nv_calls.proofs.Mounts.{mounted_of_kept}
+use Rattle.nv_calls.proofs.OneRow.{shows_row}
+use Rattle.nv_calls.proofs.RowChange.{mounted_after, tree_after}
+use Rattle.nv_calls.proofs.SetSize.{resized_node, size_logged}
+use Rattle.nv_calls.proofs.SizeKept.{bytes_after, log_after}
+use Rattle.nv_calls.proofs.Stopped.{recovers_to, still_mounted}
+
+-- The tree with the file changed is what the call makes of it.
+pub sized_by : (t : Tree) (names : List (List ℕ)) (i size time : ℕ) → found t names ≡ Some i → (u : Tree) → SameTree u (edit i (with_size size time) t) → SameTree u (resized names size time t)
+sized_by t names i size time leads u is =
+    let made : resized names size time t ≡ edit i (with_size size time) t = ap (λ (o : Option ℕ). on_some o (λ j. edit j (with_size size time) t) t) leads in
+    subst (λ (v : Tree). SameTree u v) (sym made) is
+
+module _ {P : Type 0} (region : P → Region) {n m : Mount P} (same : n ≡ m) (kept : IsKept (region n.memory) n.sup n.rows n.free n.faults n.read_only n.stopped) (runs : n.stopped ≡ false) (writes : n.read_only ≡ false)
+    (place : ℕ) (row : Row) (at : slice_get n.rows place ≡ Some row) (size time : ℕ) (names : List (List ℕ)) (leads : LeadsTo (tree_of (region n.memory) n.rows) names row.inode (node_of (region n.memory) row)) where
+  abbrev R : Region
+  R = region n.memory
+
+  abbrev s : Super
+  s = n.sup
+
+  abbrev rows : List Row
+  rows = n.rows
+
+  abbrev free : FreeLists
+  free = n.free
+
+  size_by : (left : Region) (held : Store) (mounted : IsMounted R s held rows free.pools) → LeavesEither R (fixed_layout s) held (Resized R s free row (sized (node_of R row) size time)) left
+      → IsAsMounted R s rows free.pools left ⊎ IsAsMade s (resized names size time (tree_of R rows)) (logs_size size time R n names) left
+  size_by left held mounted (inl as_before) = inl (still_mounted mounted as_before)
+  size_by left held mounted (inr w) =
+      let step = w.1 in
+      let now = step.1 in
+      let resizes = step.2 in
+      let has = resizes.numbers in
+      let entries = resizing row.numbers.size (sized (node_of R row) size time) resizes.to in
+      let then = mounted_after kept runs writes place row now at entries (λ st g shows. resizes.follows st g shows) held mounted in
+      inr (record {
+        rows = set rows place now;
+        free = (step.0).pools;
+        recovers = recovers_to w.0 then.1;
+        tree = sized_by (tree_of R rows) names row.inode size time leads.leads (tree_of (undone s left) (set rows place now))
+            (tree_after kept runs writes place row now at entries (λ st g shows. resizes.follows st g shows) (with_size size time) has.inode
+            (resized_node R (undone s left) size time has (bytes_after kept runs writes place row at size time resizes)));
+        logs = λ i node st h led sound is. size_logged region {n = n} {m = n} refl (undone s left) names row size time i node st h leads (log_after kept runs writes place row at size time resizes) led sound is;
+      })
+
+  -- What a stop leaves within the call.
+  pub size_left : (S : Region) (old last : Choices)
+      → ((held : Store) (h : Held) → ShowsRow R s held h row free → NothingPending R old → LeavesOnly S last (LeavesEither R (fixed_layout s) held (Resized R s free row (sized (node_of R row) size time)))) → NothingPending R old
+      → LeavesOnly S last (LeavesCall (makes_size size time) (logs_size size time) (region m.memory) m names)
+  size_left S old last step settled =
+      subst (λ (k : Mount P). LeavesOnly S last (LeavesCall (makes_size size time) (logs_size size time) (region k.memory) k names)) same
+      (λ left may. ∥∥₁_map (mounted_of_kept kept runs writes) (λ w.
+      let v = shows_row w.1 kept.lists row (stands rows place row at) in
+      size_by left w.0 w.1 (step w.0 v.0 v.1 settled left may)))

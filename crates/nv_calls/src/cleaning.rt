@@ -1,0 +1,150 @@
+//! `clean`: the first page that the log of an inode can do without is taken out of it.
+
+ghost use Rattle.std.specs.Prelude.{◌≡◌, ◌⊎◌, ◌≤◌, ◌∷◌, ℕ, List, Option, Result, IsTrue, IfOk, IfErr, OnOk, false};
+ghost use Rattle.nv_region.specs.Region.{size};
+ghost use Rattle.nv_region.specs.Stops.{LeavesOnly, NothingPending};
+ghost use Rattle.nv_region.specs.Fuses.{KeepsFuse};
+ghost use Rattle.nv_held.specs.Held.{Held, Store};
+ghost use Rattle.nv_held.specs.Mounted.{ShowsSound};
+ghost use Rattle.nv_tree.specs.Path.{IsPath, Says};
+ghost use Rattle.nv_tree.specs.Tree.{Node, SameTree};
+ghost use Rattle.nv_tree.specs.Refusals.{Path, Tests, clean_tests, first_refusal};
+ghost use Rattle.nv_tree.specs.declared.refusal.Refusal.{Refusal as RefusalValue};
+ghost use Rattle.nv_rows.specs.Rows.{IsInUse, row_of};
+ghost use Rattle.nv_calls.specs.CleanCall.{LosesPage, ShowsCleaned, clean_inode_tests};
+ghost use Rattle.nv_calls.specs.Effects.{logs_page_less, makes_no_change};
+ghost use Rattle.nv_calls.specs.Mount.{IsKept};
+ghost use Rattle.nv_calls.specs.Same.{KeepsMount, SameMount};
+ghost use Rattle.nv_calls.specs.Stopped.{LeavesCall, StopLeaves};
+ghost use Rattle.nv_paths.specs.Seen.{LeadsTo, tree_of};
+ghost use Rattle.nv_calls.specs.World.{world_of};
+
+use crate::Fs;
+use crate::writing::is_stop;
+use nv_paths::row_at;
+use nv_region::Pmem;
+use nv_steps::clean_log;
+use nv_tree::Refusal;
+
+impl<P: Pmem + Drop> Fs<P> {
+    /// Takes the first page out of the log of the inode that a path leads to without which its state is the same and nothing
+    /// is wrong with an entry. Answers its block, which is free then, or `None` where the log needs each of its pages: nothing
+    /// is stored then. No entry is written, and no time changes.
+    ///
+    /// Errors, the first that applies:
+    /// - `Stopped` after a stop
+    /// - `ReadOnly` where the region was mounted with faults
+    /// - `BadName` where the text is no path
+    /// - `NotFound` or `NotDirectory` for an inode on the way
+    /// - `NotFound` for the last name
+    ///
+    /// Besides these `Memory` where a growth was refused, and `Stopped` where the fuse burns. All but `Stopped` leave
+    /// everything as it was.
+    pub fn clean(&mut self, path: &[u8]) -> Result<Option<u64>, Refusal>
+        ensures stopped_before { IsTrue self.old.stopped → (result ≡ Result.Err RefusalValue.Stopped) × (self.new ≡ self.old) }
+        ensures allowed { (p : Path) → Says path.now p → OnOk result (first_refusal (clean_tests (world_of self.old) (tree_of (P.region self.old.memory) self.old.rows) p) ≡ Option.None) }
+        ensures refused { self.old.stopped ≡ false → (p : Path) → Says path.now p
+            → IfErr result (λ e. (e ≡ RefusalValue.Memory) ⊎ ((e ≡ RefusalValue.Stopped) ⊎ (first_refusal (clean_tests (world_of self.old) (tree_of (P.region self.old.memory) self.old.rows) p) ≡ Option.Some e))) }
+        ensures same_tree { OnOk result (SameTree (tree_of (P.region self.new.memory) self.new.rows) (tree_of (P.region self.old.memory) self.old.rows)) }
+        // Which page went, by the log of the inode.
+        ensures log { (names : List (List ℕ)) (i : ℕ) (node : Node) (held : Store) (h : Held) → IsPath path.now names → LeadsTo (tree_of (P.region self.old.memory) self.old.rows) names i node
+            → ShowsSound (P.region self.old.memory) self.old.sup held → held i ≡ Option.Some h → IfOk result (ShowsCleaned (P.region self.old.memory) (P.region self.new.memory) self.old.sup held i h) }
+        ensures unchanged { IfErr result (λ e. (e ≡ RefusalValue.Stopped → ⊥) → SameMount self.old self.new) }
+        ensures stopped { self.old.stopped ≡ false → (IsTrue self.new.stopped → (result ≡ Result.Err RefusalValue.Stopped) × IsTrue (P.fuse self.new.memory).has_burnt) × (result ≡ Result.Err RefusalValue.Stopped → IsTrue self.new.stopped) }
+        ensures keeps { KeepsMount self.old self.new }
+        ensures settled { OnOk result (NothingPending (P.region self.new.memory) (P.may_hold self.new.memory)) }
+        ensures length { size (P.region self.new.memory) ≡ size (P.region self.old.memory) }
+        ensures keeps_fuse { KeepsFuse (λ limit. size (P.region self.old.memory) ≤ limit) (P.fuse self.old.memory) (P.fuse self.new.memory) }
+        // Where the text is no path, all stays as it was.
+        ensures bad_text { ((names : List (List ℕ)) → IsPath path.now names → ⊥) → SameMount self.old self.new }
+        // What was mounted with faults stays as it was.
+        ensures read_only { IsTrue self.old.read_only → SameMount self.old self.new }
+        // Whatever a stop leaves, at any exit: recovery finds what was mounted, or it without the page, without faults.
+        ensures any_stop { (names : List (List ℕ)) → IsPath path.now names → self.old.stopped ≡ false → self.old.read_only ≡ false
+            → LeavesOnly (P.region self.new.memory) (P.may_hold self.new.memory) (LeavesCall makes_no_change logs_page_less (P.region self.old.memory) self.old names) }
+    {
+        self.cleanable()?;
+        let inode = row_at(&self.rows, path)?.inode;
+        self.clean_inode(inode)
+    }
+
+    /// Does what `clean` does, for the inode of this number.
+    ///
+    /// Errors, the first that applies:
+    /// - `Stopped` after a stop
+    /// - `ReadOnly` where the region was mounted with faults
+    /// - `NotFound` where no inode in use has the number
+    ///
+    /// Besides these `Memory` where a growth was refused, and `Stopped` where the fuse burns. All but `Stopped` leave
+    /// everything as it was.
+    pub fn clean_inode(&mut self, inode: u64) -> Result<Option<u64>, Refusal>
+        ensures stopped_before { IsTrue self.old.stopped → (result ≡ Result.Err RefusalValue.Stopped) × (self.new ≡ self.old) }
+        ensures allowed { OnOk result (first_refusal (clean_inode_tests (world_of self.old) (tree_of (P.region self.old.memory) self.old.rows) inode) ≡ Option.None) }
+        ensures refused { self.old.stopped ≡ false
+            → IfErr result (λ e. (e ≡ RefusalValue.Memory) ⊎ ((e ≡ RefusalValue.Stopped) ⊎ (first_refusal (clean_inode_tests (world_of self.old) (tree_of (P.region self.old.memory) self.old.rows) inode) ≡ Option.Some e))) }
+        ensures same_tree { OnOk result (SameTree (tree_of (P.region self.new.memory) self.new.rows) (tree_of (P.region self.old.memory) self.old.rows)) }
+        // Which page went, by the log of the inode.
+        ensures log { (held : Store) (h : Held) → ShowsSound (P.region self.old.memory) self.old.sup held → held inode ≡ Option.Some h → IfOk result (ShowsCleaned (P.region self.old.memory) (P.region self.new.memory) self.old.sup held inode h) }
+        ensures unchanged { IfErr result (λ e. (e ≡ RefusalValue.Stopped → ⊥) → SameMount self.old self.new) }
+        ensures stopped { self.old.stopped ≡ false → (IsTrue self.new.stopped → (result ≡ Result.Err RefusalValue.Stopped) × IsTrue (P.fuse self.new.memory).has_burnt) × (result ≡ Result.Err RefusalValue.Stopped → IsTrue self.new.stopped) }
+        ensures keeps { KeepsMount self.old self.new }
+        ensures settled { OnOk result (NothingPending (P.region self.new.memory) (P.may_hold self.new.memory)) }
+        ensures length { size (P.region self.new.memory) ≡ size (P.region self.old.memory) }
+        ensures keeps_fuse { KeepsFuse (λ limit. size (P.region self.old.memory) ≤ limit) (P.fuse self.old.memory) (P.fuse self.new.memory) }
+        // What was mounted with faults stays as it was.
+        ensures read_only { IsTrue self.old.read_only → SameMount self.old self.new }
+        // Whatever a stop leaves, at any exit: recovery finds what was mounted, or it without the page, without faults.
+        ensures any_stop { self.old.stopped ≡ false → self.old.read_only ≡ false
+            → LeavesOnly (P.region self.new.memory) (P.may_hold self.new.memory) (StopLeaves (P.region self.old.memory) self.old.sup self.old.rows self.old.free.pools (tree_of (P.region self.old.memory) self.old.rows) (LosesPage (P.region self.old.memory) self.old.sup inode)) }
+    {
+        self.cleanable()?;
+        self.in_use(inode)?;
+        // No byte stands behind the last block then.
+        let _end = self.memory.len();
+        let mut row = self.rows.lend(self.alloc, inode);
+        let cleaned = clean_log(
+            self.alloc,
+            &mut self.memory,
+            &self.sup,
+            &mut self.free,
+            &mut row,
+        );
+        self.rows.give_back(row);
+        match cleaned {
+            Ok(block) => Ok(block),
+            Err(refusal) => {
+                self.stopped = is_stop(refusal);
+                Err(refusal)
+            }
+        }
+    }
+
+    // `NotFound` where no inode in use has this number.
+    fn in_use(&self, inode: u64) -> Result<(), Refusal>
+        ensures found { OnOk result (IsInUse self.now.rows inode) }
+        ensures missing { IfErr result (λ e. (e ≡ RefusalValue.NotFound) × (row_of self.now.rows inode ≡ Option.None)) }
+    {
+        match self.rows.get(inode) {
+            Some(_) => Ok(()),
+            None => Err(Refusal::NotFound),
+        }
+    }
+
+    // Whether a call that names no CPU may write: `Stopped` and `ReadOnly` come in this order, before all other tests.
+    fn cleanable(&self) -> Result<(), Refusal>
+        ensures stopped { IsTrue self.now.stopped → result ≡ Result.Err RefusalValue.Stopped }
+        ensures runs { OnOk result (self.now.stopped ≡ false) }
+        ensures writes { OnOk result (self.now.read_only ≡ false) }
+        ensures kept { IsKept (P.region self.now.memory) self.now.sup self.now.rows self.now.free self.now.faults self.now.read_only self.now.stopped }
+        ensures settled { self.now.stopped ≡ false → NothingPending (P.region self.now.memory) (P.may_hold self.now.memory) }
+        ensures refused { self.now.stopped ≡ false → (tests : Tests) → IfErr result (λ e. first_refusal ((self.now.read_only, RefusalValue.ReadOnly) ∷ tests) ≡ Option.Some e) }
+    {
+        if self.stopped {
+            return Err(Refusal::Stopped);
+        }
+        if self.read_only {
+            return Err(Refusal::ReadOnly);
+        }
+        Ok(())
+    }
+}
