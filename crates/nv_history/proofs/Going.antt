@@ -1,0 +1,161 @@
+-- What holds while calls are made one after the other, and where a run is halted.
+use Rattle.std.proofs.Common.{◌≡◌, ◌⊎◌, ◌+◌, ◌<◌, ◌≤◌, ℕ, Bool, true, false, IsTrue, inl, inr, List, length, take, get_or, refl, sym, Some, ◌∙◌, subst, arith, Result, Ok, Err}
+use Rattle.std.specs.Prelude.{slice_get, ⊤}
+use Rattle.std.proofs.Math.Logic.{∥∥₁_map}
+use Rattle.std.proofs.lemmas.List.{take_all, take_more}
+use Rattle.std.proofs.lemmas.Option.{slice_get-get_or}
+use Rattle.nv_region.specs.Region.{Region, size}
+use Rattle.nv_region.specs.Fuses.{FuseState, KeepsFuse}
+use Rattle.nv_region.specs.Stops.{Choices, LeavesOnly}
+use Rattle.nv_region.proofs.Fuses.{keeps_more}
+use Rattle.nv_super.specs.declared.superblock.Super.{Super}
+use Rattle.nv_journal.specs.Undo.{undone}
+use Rattle.nv_tree.specs.declared.refusal.Refusal.{Refusal}
+use Rattle.nv_tree.specs.declared.refusal.Refusal.TheVariants.{Memory, Stopped}
+use Rattle.nv_tree.specs.Tree.{SameTree, Tree}
+use Rattle.nv_tree.proofs.Same.{same_itself}
+use Rattle.nv_paths.specs.Seen.{tree_of}
+use Rattle.nv_calls.specs.Mount.{Mount}
+use Rattle.nv_calls.specs.Same.{KeepsMount, SameMount}
+use Rattle.nv_calls.specs.Stopped.{IsAsMounted, LeavesMounted}
+use Rattle.nv_history.specs.declared.calls.Call.{Call}
+use Rattle.nv_history.specs.Making.{AreMade, none, IsMadeBy}
+use Rattle.nv_history.specs.Asking.{RefusesCall}
+use Rattle.nv_history.specs.Halting.{HaltsAt}
+use Rattle.nv_history.specs.Stopping.{BeforeOrMade, RunLeaves, MayBeDone, RecoversMade, RecoversTree}
+use Rattle.nv_history.proofs.MadeTrees.{made_shown, one_more}
+use Rattle.nv_history.proofs.Recoveries.{always}
+
+-- So many calls were made, and the mount runs on as it did.
+pub record Going {P : Type 0} (region : P → Region) (fuse : P → FuseState) (calls : List Call) (old now : Mount P) (made : ℕ) : Type 0 where
+  pub trees : AreMade old.sup (take made calls) (tree_of (region old.memory) old.rows) (tree_of (region now.memory) now.rows)
+  pub runs : now.stopped ≡ old.stopped
+  pub begun : made ≡ 0 → now ≡ old
+  pub stands : IsTrue old.stopped → made ≡ 0
+  pub keeps : KeepsMount old now
+  pub as_long : size (region now.memory) ≡ size (region old.memory)
+  pub burns : KeepsFuse (λ limit. size (region old.memory) ≤ limit) (fuse old.memory) (fuse now.memory)
+
+pub begins : {P : Type 0} (region : P → Region) (fuse : P → FuseState) (calls : List Call) (old : Mount P) → Going region fuse calls old old 0
+begins region fuse calls old = record {
+  trees = (let t = tree_of (region old.memory) old.rows in none t t (same_itself t));
+  runs = refl;
+  begun = λ zero. refl;
+  stands = λ on. refl;
+  keeps = record { sup = refl; faults = refl; read_only = refl };
+  as_long = refl;
+  burns = record { burnt = λ on. on; steady = λ on. on; stays_open = λ limit past on. on };
+}
+
+off_or_on : (b : Bool) → (IsTrue b → ⊥) → b ≡ false
+off_or_on true off = absurd (off refl)
+off_or_on false off = refl
+
+pub one_refusal : (a b : Refusal) → ◌≡◌ {A = Result ⊤ Refusal} (Err a) (Err b) → a ≡ b
+one_refusal a b same = cc
+
+-- ---- behind the last call
+
+-- What a stop leaves shows what was made.
+shows_made : {P : Type 0} (region : P → Region) (m : Mount P) (s : Super) (done : List Call) (t : Tree) → m.sup ≡ s → AreMade s done t (tree_of (region m.memory) m.rows) → (left : Region) → IsAsMounted (region m.memory) m.sup m.rows m.free.pools left
+    → RecoversMade s done t left
+shows_made region m s done t same made left w =
+    subst (λ (v : Super). RecoversMade v done t left) same
+    (record {
+      rows = m.rows;
+      free = m.free.pools;
+      recovers = always left m.sup m.rows m.free.pools w.0;
+      made = subst (λ (v : Super). AreMade v done t (tree_of (undone m.sup left) m.rows)) (sym same) (made_shown made (tree_of (undone m.sup left) m.rows) w.1);
+    })
+
+-- All calls were made.
+all_made : {P : Type 0} (region : P → Region) (fuse : P → FuseState) (calls : List Call) (old now : Mount P) (made : ℕ) → Going region fuse calls old now made → length calls ≤ made
+    → AreMade old.sup calls (tree_of (region old.memory) old.rows) (tree_of (region now.memory) now.rows)
+all_made region fuse calls old now made going all = subst (λ (done : List Call). AreMade old.sup done (tree_of (region old.memory) old.rows) (tree_of (region now.memory) now.rows)) (take_all made calls all) going.trees
+
+-- What a stop leaves then.
+pub left_whole : {P : Type 0} (region : P → Region) (may_hold : P → Choices) (fuse : P → FuseState) (calls : List Call) (old now : Mount P) (made : ℕ) → Going region fuse calls old now made → length calls ≤ made
+    → LeavesOnly (region now.memory) (may_hold now.memory) (LeavesMounted (region now.memory) now)
+    → LeavesOnly (region now.memory) (may_hold now.memory) (RunLeaves old.sup calls (tree_of (region old.memory) old.rows) (Ok tt))
+left_whole region may_hold fuse calls old now made going all still left may =
+    ∥∥₁_map (still left may) (λ w. (calls, refl, shows_made region now old.sup calls (tree_of (region old.memory) old.rows) going.keeps.sup (all_made region fuse calls old now made going all) left w))
+
+-- ---- one call more
+
+module _ {P : Type 0} (region : P → Region) (may_hold : P → Choices) (fuse : P → FuseState) (calls : List Call) (old now next : Mount P) (made : ℕ) (going : Going region fuse calls old now made) (d : Call) (more : made < length calls) where
+  abbrev s : Super
+  s = old.sup
+
+  abbrev call : Call
+  call = get_or calls made d
+
+  abbrev first : Tree
+  first = tree_of (region old.memory) old.rows
+
+  abbrev t : Tree
+  t = tree_of (region now.memory) now.rows
+
+  keeps_on : KeepsMount now next → KeepsMount old next
+  keeps_on keeps = record { sup = keeps.sup ∙ going.keeps.sup; faults = keeps.faults ∙ going.keeps.faults; read_only = keeps.read_only ∙ going.keeps.read_only }
+
+  burns_on : KeepsFuse (λ limit. size (region now.memory) ≤ limit) (fuse now.memory) (fuse next.memory) → KeepsFuse (λ limit. size (region old.memory) ≤ limit) (fuse old.memory) (fuse next.memory)
+  burns_on burns = keeps_more (λ limit past. subst (λ n. n ≤ limit) (sym going.as_long) past) going.burns burns
+
+  -- the calls with this one
+  made_more : (u : Tree) → IsMadeBy s call t u → AreMade s (take (made + 1) calls) first u
+  made_more u is = subst (λ (done : List Call). AreMade s done first u) (sym (take_more calls made d more)) (one_more going.trees call u is)
+
+  pub goes_on : IsMadeBy now.sup call t (tree_of (region next.memory) next.rows) → (IsTrue now.stopped → ⊥) → (now.stopped ≡ false → IsTrue next.stopped → ⊥) → KeepsMount now next → size (region next.memory) ≡ size (region now.memory)
+      → KeepsFuse (λ limit. size (region now.memory) ≤ limit) (fuse now.memory) (fuse next.memory) → Going region fuse calls old next (made + 1)
+  goes_on is ran runs keeps as_long burns =
+      let off = off_or_on now.stopped ran in
+      record {
+        trees = made_more (tree_of (region next.memory) next.rows) (subst (λ (v : Super). IsMadeBy v call t (tree_of (region next.memory) next.rows)) going.keeps.sup is);
+        runs = off_or_on next.stopped (runs off) ∙ sym off ∙ going.runs;
+        begun = λ zero. absurd (omega (arith, zero));
+        stands = λ on. absurd (ran (going.runs ∙ on));
+        keeps = keeps_on keeps;
+        as_long = as_long ∙ going.as_long;
+        burns = burns_on burns;
+      }
+
+  -- ---- the refused call
+
+  pub halts : (e : Refusal) → (e ≡ Stopped → ⊥) → (IsTrue now.stopped → e ≡ Stopped) → SameMount now next → (now.stopped ≡ false → (e ≡ Memory) ⊎ ((e ≡ Stopped) ⊎ RefusesCall (region now.memory) now call e))
+      → HaltsAt s first calls (record { made = made; refusal = e }) (region next.memory) next
+  halts e runs before same why = record {
+    asked = now;
+    made = subst (λ (p : P). AreMade s (take made calls) first (tree_of (region p) now.rows)) (sym same.memory) going.trees;
+    same = same;
+    why = by (why (off_or_on now.stopped (λ on. runs (before on))));
+  }
+    where
+      by : (e ≡ Memory) ⊎ ((e ≡ Stopped) ⊎ RefusesCall (region now.memory) now call e) → (e ≡ Memory) ⊎ ((c : Call) × (slice_get calls made ≡ Some c) × RefusesCall (region next.memory) now c e)
+      by (inl memory) = inl memory
+      by (inr (inl stop)) = absurd (runs stop)
+      by (inr (inr refuses)) = inr (call, slice_get-get_or calls made d more, subst (λ (p : P). RefusesCall (region p) now call e) (sym same.memory) refuses)
+
+  -- What a stop leaves where the call was refused by its tests or for want of memory.
+  stays : (e : Refusal) → SameMount now next → LeavesOnly (region now.memory) (may_hold now.memory) (LeavesMounted (region now.memory) now)
+      → LeavesOnly (region next.memory) (may_hold next.memory) (RunLeaves s calls first (Err (record { made = made; refusal = e })))
+  stays e same still =
+      subst (λ (p : P). LeavesOnly (region p) (may_hold p) (RunLeaves s calls first (Err (record { made = made; refusal = e })))) (sym same.memory)
+      (λ left may. ∥∥₁_map (still left may) (λ w. (take made calls, inl refl, shows_made region now s (take made calls) first going.keeps.sup going.trees left w)))
+
+  by_trees : (e : Refusal) → e ≡ Stopped → (left : Region) → RecoversTree s (λ u. SameTree u t) left ⊎ RecoversTree s (λ u. IsMadeBy s call t u) left
+      → (done : List Call) × MayBeDone calls (Err (record { made = made; refusal = e })) done × RecoversMade s done first left
+  by_trees e stop left (inl w) =
+      (take made calls, inl refl, record { rows = w.rows; free = w.free; recovers = always left s w.rows w.free w.recovers; made = made_shown going.trees (tree_of (undone s left) w.rows) w.shows })
+  by_trees e stop left (inr w) =
+      (take (made + 1) calls, inr (stop, refl), record { rows = w.rows; free = w.free; recovers = always left s w.rows w.free w.recovers; made = made_more (tree_of (undone s left) w.rows) w.shows })
+
+  -- What a stop leaves at any exit of the call.
+  pub left_halted : (e : Refusal) → (IsTrue next.stopped → e ≡ Stopped) → (e ≡ Stopped → IsTrue next.stopped) → ((e ≡ Stopped → ⊥) → SameMount now next)
+      → LeavesOnly (region now.memory) (may_hold now.memory) (LeavesMounted (region now.memory) now)
+      → LeavesOnly (region next.memory) (may_hold next.memory) (BeforeOrMade now.sup call t)
+      → LeavesOnly (region next.memory) (may_hold next.memory) (RunLeaves s calls first (Err (record { made = made; refusal = e })))
+  left_halted e stop only same still leaves = by next.stopped refl
+    where
+      by : (b : Bool) → next.stopped ≡ b → LeavesOnly (region next.memory) (may_hold next.memory) (RunLeaves s calls first (Err (record { made = made; refusal = e })))
+      by true on = λ left may. ∥∥₁_map (subst (λ (v : Super). BeforeOrMade v call t left) going.keeps.sup (leaves left may)) (λ w. by_trees e (stop on) left w)
+      by false off = stays e (same (λ is. absurd (let clash : true ≡ false = sym (only is) ∙ off in cc))) still

@@ -1,0 +1,4 @@
+pub mod MadeTrees
+pub mod Recoveries
+pub mod OneCall
+pub mod Going

@@ -1,0 +1,43 @@
+-- What each call is asked of a mounted file system before it is made.
+use Rattle.std.specs.Prelude.{◌≡◌, ℕ, ◌+◌, List, length, Some}
+use Rattle.nv_region.specs.Region.{Region}
+use Rattle.nv_tree.specs.declared.refusal.Refusal.{Refusal}
+use Rattle.nv_tree.specs.Path.{Says}
+use Rattle.nv_tree.specs.Refusals.{Path, Tests, first_refusal, clean_tests, create_tests, link_tests, rename_tests, rmdir_tests, set_attr_tests, set_size_tests, unlink_tests, write_tests}
+use Rattle.nv_paths.specs.Seen.{tree_of}
+use Rattle.nv_calls.specs.Mount.{Mount}
+use Rattle.nv_calls.specs.World.{world_of}
+use Rattle.nv_calls.specs.AttributesCall.{attributes_blocks}
+use Rattle.nv_calls.specs.LinkCalls.{link_blocks}
+use Rattle.nv_calls.specs.MoveCalls.{rename_blocks}
+use Rattle.nv_calls.specs.NameCalls.{create_blocks, name_blocks}
+use Rattle.nv_calls.specs.SizeCall.{resized_blocks}
+use Rattle.nv_calls.specs.UnlinkCalls.{unlink_blocks}
+use Rattle.nv_calls.specs.WriteCall.{WriteNeeds}
+use Rattle.nv_history.specs.declared.calls.Call.{Call}
+use Rattle.nv_history.specs.declared.calls.Call.TheVariants.{Create, MakeDirectory, Write, SetSize, SetAttributes, Link, Unlink, RemoveDirectory, Rename, Clean}
+
+-- these are the tests by what the text says
+abbrev pub AskedBy : List ℕ → (Path → Tests) → Tests → Type 0
+AskedBy text asked tests = (p : Path) × Says text p × (tests ≡ asked p)
+
+-- the same by two texts
+abbrev pub AskedByBoth : List ℕ → List ℕ → (Path → Path → Tests) → Tests → Type 0
+AskedByBoth old new asked tests = (p : Path) × (q : Path) × Says old p × Says new q × (tests ≡ asked p q)
+
+-- The tests of a call, where this region is mounted so: with how many blocks it needs.
+abbrev pub AreTestsOf : {P : Type 0} → Region → Mount P → Call → Tests → Type 0
+AreTestsOf R m (Create cpu path mode time) tests = AskedBy path.now (λ p. create_tests (world_of m) (tree_of R m.rows) cpu p (create_blocks m.rows (tree_of R m.rows) p)) tests
+AreTestsOf R m (MakeDirectory cpu path mode time) tests = AskedBy path.now (λ p. create_tests (world_of m) (tree_of R m.rows) cpu p (create_blocks m.rows (tree_of R m.rows) p)) tests
+AreTestsOf R m (Write cpu path offset bytes time) tests = (p : Path) × (count : ℕ) × Says path.now p × WriteNeeds R m cpu p offset (length bytes.now) time count × (tests ≡ write_tests (world_of m) (tree_of R m.rows) cpu p (offset + length bytes.now) count)
+AreTestsOf R m (SetSize cpu path size time) tests = AskedBy path.now (λ p. set_size_tests (world_of m) (tree_of R m.rows) cpu p size (resized_blocks m.rows (tree_of R m.rows) p size)) tests
+AreTestsOf R m (SetAttributes cpu path mode owner group time) tests = AskedBy path.now (λ p. set_attr_tests (world_of m) (tree_of R m.rows) cpu p (attributes_blocks m.rows (tree_of R m.rows) p)) tests
+AreTestsOf R m (Link cpu old new time) tests = AskedByBoth old.now new.now (λ p q. link_tests (world_of m) (tree_of R m.rows) cpu p q (link_blocks m.rows (tree_of R m.rows) p q)) tests
+AreTestsOf R m (Unlink cpu path time) tests = AskedBy path.now (λ p. unlink_tests (world_of m) (tree_of R m.rows) cpu p (unlink_blocks m.rows (tree_of R m.rows) p)) tests
+AreTestsOf R m (RemoveDirectory cpu path time) tests = AskedBy path.now (λ p. rmdir_tests (world_of m) (tree_of R m.rows) cpu p (name_blocks m.rows (tree_of R m.rows) p)) tests
+AreTestsOf R m (Rename cpu old new time) tests = AskedByBoth old.now new.now (λ p q. rename_tests (world_of m) (tree_of R m.rows) cpu p q (rename_blocks m.rows (tree_of R m.rows) p q)) tests
+AreTestsOf R m (Clean path) tests = AskedBy path.now (λ p. clean_tests (world_of m) (tree_of R m.rows) p) tests
+
+-- the refusal is that of the first of its tests that holds
+abbrev pub RefusesCall : {P : Type 0} → Region → Mount P → Call → Refusal → Type 0
+RefusesCall R m call refusal = (tests : Tests) × AreTestsOf R m call tests × (first_refusal tests ≡ Some refusal)

@@ -1,0 +1,4 @@
+pub mod Making
+pub mod Asking
+pub mod Halting
+pub mod Stopping

@@ -1,0 +1,160 @@
+//! The calls that write, as values.
+
+ghost use Rattle.std.specs.Prelude.{◌≡◌, ◌⊎◌, ◌≤◌, IsTrue, IfErr, OnOk, Result, false};
+ghost use Rattle.nv_region.specs.Region.{size};
+ghost use Rattle.nv_region.specs.Stops.{LeavesOnly};
+ghost use Rattle.nv_region.specs.Fuses.{KeepsFuse};
+ghost use Rattle.nv_tree.specs.declared.refusal.Refusal.{Refusal as RefusalValue};
+ghost use Rattle.nv_paths.specs.Seen.{tree_of};
+ghost use Rattle.nv_calls.specs.Same.{KeepsMount, SameMount};
+ghost use Rattle.nv_history.specs.Making.{IsMadeBy};
+ghost use Rattle.nv_history.specs.Asking.{RefusesCall};
+ghost use Rattle.nv_history.specs.Stopping.{BeforeOrMade};
+
+use nv_calls::Fs;
+use nv_region::Pmem;
+use nv_tree::Refusal;
+
+/// A call that writes, with what it is asked: as the methods of `Fs` have them.
+#[derive(Clone, Copy, Debug)]
+pub enum Call<'a> {
+    /// Make a file.
+    Create {
+        cpu: u64,
+        path: &'a [u8],
+        mode: u32,
+        time: u64,
+    },
+    /// Make a directory.
+    MakeDirectory {
+        cpu: u64,
+        path: &'a [u8],
+        mode: u32,
+        time: u64,
+    },
+    /// Write bytes into a file, from an offset on.
+    Write {
+        cpu: u64,
+        path: &'a [u8],
+        offset: u64,
+        bytes: &'a [u8],
+        time: u64,
+    },
+    /// Cut a file, or lengthen it by zeros.
+    SetSize {
+        cpu: u64,
+        path: &'a [u8],
+        size: u64,
+        time: u64,
+    },
+    /// Set the mode, owner and group of an inode.
+    SetAttributes {
+        cpu: u64,
+        path: &'a [u8],
+        mode: u32,
+        owner: u32,
+        group: u32,
+        time: u64,
+    },
+    /// Give a file one more name.
+    Link {
+        cpu: u64,
+        old: &'a [u8],
+        new: &'a [u8],
+        time: u64,
+    },
+    /// Take a name of a file away, and with the last one the file.
+    Unlink {
+        cpu: u64,
+        path: &'a [u8],
+        time: u64,
+    },
+    /// Take a directory without names away.
+    RemoveDirectory {
+        cpu: u64,
+        path: &'a [u8],
+        time: u64,
+    },
+    /// Give an inode another name in place of one.
+    Rename {
+        cpu: u64,
+        old: &'a [u8],
+        new: &'a [u8],
+        time: u64,
+    },
+    /// Take the first page that it can do without out of the log of an inode. Which one that is isn't answered.
+    Clean {
+        path: &'a [u8],
+    },
+}
+
+/// Makes a call.
+pub(crate) fn make_call<P: Pmem + Drop>(mount: &mut Fs<P>, call: &Call<'_>) -> Result<(), Refusal>
+    ensures stopped_before { IsTrue mount.old.stopped → (result ≡ Result.Err RefusalValue.Stopped) × (mount.new ≡ mount.old) }
+    ensures made { OnOk result (IsMadeBy mount.old.sup call.now (tree_of (P.region mount.old.memory) mount.old.rows) (tree_of (P.region mount.new.memory) mount.new.rows)) }
+    ensures refused { mount.old.stopped ≡ false → IfErr result (λ e. (e ≡ RefusalValue.Memory) ⊎ ((e ≡ RefusalValue.Stopped) ⊎ RefusesCall (P.region mount.old.memory) mount.old call.now e)) }
+    ensures unchanged { IfErr result (λ e. (e ≡ RefusalValue.Stopped → ⊥) → SameMount mount.old mount.new) }
+    ensures stopped { mount.old.stopped ≡ false → (IsTrue mount.new.stopped → (result ≡ Result.Err RefusalValue.Stopped) × IsTrue (P.fuse mount.new.memory).has_burnt) × (result ≡ Result.Err RefusalValue.Stopped → IsTrue mount.new.stopped) }
+    ensures keeps { KeepsMount mount.old mount.new }
+    ensures length { size (P.region mount.new.memory) ≡ size (P.region mount.old.memory) }
+    ensures keeps_fuse { KeepsFuse (λ limit. size (P.region mount.old.memory) ≤ limit) (P.fuse mount.old.memory) (P.fuse mount.new.memory) }
+    // Whatever a stop leaves, at any exit: recovery finds what was mounted, or what the call makes, without faults.
+    ensures any_stop { mount.old.stopped ≡ false → mount.old.read_only ≡ false
+        → LeavesOnly (P.region mount.new.memory) (P.may_hold mount.new.memory) (BeforeOrMade mount.old.sup call.now (tree_of (P.region mount.old.memory) mount.old.rows)) }
+{
+    // What a stop leaves of a call that stores nothing.
+    mount.recovers_as_mounted();
+    match *call {
+        Call::Create {
+            cpu,
+            path,
+            mode,
+            time,
+        } => mount.create(cpu, path, mode, time),
+        Call::MakeDirectory {
+            cpu,
+            path,
+            mode,
+            time,
+        } => mount.mkdir(cpu, path, mode, time),
+        Call::Write {
+            cpu,
+            path,
+            offset,
+            bytes,
+            time,
+        } => mount.write(cpu, path, offset, bytes, time),
+        Call::SetSize {
+            cpu,
+            path,
+            size,
+            time,
+        } => mount.set_size(cpu, path, size, time),
+        Call::SetAttributes {
+            cpu,
+            path,
+            mode,
+            owner,
+            group,
+            time,
+        } => mount.set_attr(cpu, path, mode, owner, group, time),
+        Call::Link {
+            cpu,
+            old,
+            new,
+            time,
+        } => mount.link(cpu, old, new, time),
+        Call::Unlink { cpu, path, time } => mount.unlink(cpu, path, time),
+        Call::RemoveDirectory { cpu, path, time } => mount.rmdir(cpu, path, time),
+        Call::Rename {
+            cpu,
+            old,
+            new,
+            time,
+        } => mount.rename(cpu, old, new, time),
+        Call::Clean { path } => match mount.clean(path) {
+            Ok(_) => Ok(()),
+            Err(refusal) => Err(refusal),
+        },
+    }
+}

@@ -1,0 +1,73 @@
+//! Runs of calls.
+
+ghost use Rattle.std.specs.Prelude.{◌≡◌, ◌<◌, ◌≤◌, ◌↔◌, [], length, IsTrue, IfErr, OnOk, MatchResult, Result, false};
+ghost use Rattle.nv_region.specs.Region.{size};
+ghost use Rattle.nv_region.specs.Stops.{LeavesOnly};
+ghost use Rattle.nv_region.specs.Fuses.{KeepsFuse};
+ghost use Rattle.nv_tree.specs.declared.refusal.Refusal.{Refusal as RefusalValue};
+ghost use Rattle.nv_paths.specs.Seen.{tree_of};
+ghost use Rattle.nv_calls.specs.Same.{KeepsMount, SameMount};
+ghost use Rattle.nv_history.specs.Making.{AreMade};
+ghost use Rattle.nv_history.specs.Halting.{HaltsAt};
+ghost use Rattle.nv_history.specs.Stopping.{RunLeaves};
+
+use crate::calls::{Call, make_call};
+use nv_calls::Fs;
+use nv_region::Pmem;
+use nv_tree::Refusal;
+use std::fmt;
+
+/// Where a run of calls was halted: how many were made in front of the one that was refused, and why it was.
+#[derive(Clone, Copy, Debug, PartialEq, Eq)]
+pub struct Halted {
+    pub made: usize,
+    pub refusal: Refusal,
+}
+
+impl fmt::Display for Halted {
+    fn fmt<W: fmt::Write>(&self, f: &mut fmt::Formatter<W>) -> fmt::Result {
+        write!(
+            f,
+            "the call at index {} was refused: {}",
+            self.made, self.refusal
+        )
+    }
+}
+
+/// Makes calls, one after the other, up to the first that is refused.
+///
+/// A refused call leaves what the calls before it have made, unless the refusal is `Stopped`. The mount is stopped then, and a
+/// recovery finds what was made with that call or without it.
+pub fn make_calls<P: Pmem + Drop>(mount: &mut Fs<P>, calls: &[Call<'_>]) -> Result<(), Halted>
+    // All were made, or one after those that were made is refused.
+    ensures made { OnOk result (AreMade mount.old.sup calls.now (tree_of (P.region mount.old.memory) mount.old.rows) (tree_of (P.region mount.new.memory) mount.new.rows)) }
+    ensures before { IfErr result (λ halted. halted.made < length calls.now) }
+    ensures halted { IfErr result (λ halted. (halted.refusal ≡ RefusalValue.Stopped → ⊥)
+        → HaltsAt mount.old.sup (tree_of (P.region mount.old.memory) mount.old.rows) calls.now halted (P.region mount.new.memory) mount.new) }
+    ensures unchanged { IfErr result (λ halted. (halted.refusal ≡ RefusalValue.Stopped → ⊥) → halted.made ≡ 0 → SameMount mount.old mount.new) }
+
+    // A mount that was stopped before stays as it was, and no call is made.
+    ensures stopped_before { IsTrue mount.old.stopped → mount.new ≡ mount.old }
+    ensures none_made { IsTrue mount.old.stopped → MatchResult result (λ _. calls.now ≡ []) (λ halted. halted.made ≡ 0) }
+    ensures runs { OnOk result (mount.new.stopped ≡ mount.old.stopped) }
+    ensures stopped { IfErr result (λ halted. (halted.refusal ≡ RefusalValue.Stopped) ↔ IsTrue mount.new.stopped) }
+    ensures burnt { mount.old.stopped ≡ false → IsTrue mount.new.stopped → IsTrue (P.fuse mount.new.memory).has_burnt }
+    ensures keeps { KeepsMount mount.old mount.new }
+    ensures length { size (P.region mount.new.memory) ≡ size (P.region mount.old.memory) }
+    ensures keeps_fuse { KeepsFuse (λ limit. size (P.region mount.old.memory) ≤ limit) (P.fuse mount.old.memory) (P.fuse mount.new.memory) }
+
+    // Whatever a power cut leaves, at any store of any of the calls: recovery finds what the calls that were made make, or
+    // what they make with the one that was stopped, without faults, however often recoveries are stopped too.
+    ensures any_stop { mount.old.stopped ≡ false → mount.old.read_only ≡ false
+        → LeavesOnly (P.region mount.new.memory) (P.may_hold mount.new.memory) (RunLeaves mount.old.sup calls.now (tree_of (P.region mount.old.memory) mount.old.rows) result) }
+{
+    for (made, call) in calls.iter().enumerate() {
+        // What a stop leaves where the call is refused.
+        mount.recovers_as_mounted();
+        if let Err(refusal) = make_call(mount, call) {
+            return Err(Halted { made, refusal });
+        }
+    }
+    mount.recovers_as_mounted();
+    Ok(())
+}
