@@ -1,13 +1,15 @@
 -- What a recovery's clauses say as an answer, and the numbers of a schedule in 32 bits, which name the same workers.
-use Rattle.std.proofs.Common.{◌≡◌, ℕ, ◌≤◌, ◌-◌, ◌^◌, Bool, true, false, nat_le, nat_lt, min, List, [], ◌∷◌, length, map, Option, Some, None, ◌≢◌, refl, sym, subst, ◌∙◌, arith}
+use Rattle.std.proofs.Common.{◌≡◌, ℕ, ◌≤◌, ◌-◌, ◌^◌, Bool, true, false, nat_le, nat_lt, min, List, [], ◌∷◌, length, map, Option, Some, None, OnSome, ◌≢◌, IsTrue, refl, sym, subst, ◌∙◌, arith}
 use Rattle.std.specs.List.{list_any, position_or_len}
 use Rattle.nv_region.specs.Region.{Region}
+use Rattle.nv_super.specs.Super.{IsSuper}
+use Rattle.nv_super.specs.declared.superblock.Super.{Super}
 use Rattle.nv_claimcore.specs.Replay.{first_stranger}
 use Rattle.nv_journal.specs.Undo.{undone}
 use Rattle.nv_recover.specs.nv_outcome.Outcome.{IsOutcome}
 use Rattle.nv_recover.specs.nv_outcome.Answer.{outcome_of}
 use Rattle.nv_recover.specs.nv_outcome.declared.recovered.Recovered.{Recovered}
-use Rattle.nv_recover.specs.Errors.{Fails, IsBadCount}
+use Rattle.nv_recover.specs.Errors.{Fails, IsBadCount, UndoesAsBefore, comes_first}
 use Rattle.nv_recover.specs.declared.errors.RecoverError.{RecoverError}
 use Rattle.nv_recover.specs.declared.errors.RecoverError.TheVariants as errors
 use Rattle.nv_text.specs.declared.refusals.Refusal.{Refusal}
@@ -140,3 +142,27 @@ pub no_lists : (e : RecoverError) (answer : Option Answer) → EndsAs e answer �
 no_lists e None told = tt
 no_lists e (Some (answers.Recovered r)) told = absurd told
 no_lists e (Some (answers.Refused refusal)) told = tt
+
+-- ---- what is pending
+
+-- an error that is told as a refusal is found before anything is stored
+told_first : (e : RecoverError) (answer : Answer) → IsToldAs e answer → IsTrue (comes_first e)
+told_first e (answers.Recovered r) told = absurd told
+told_first (errors.Super fault) (answers.Refused refusal) told = refl
+told_first errors.Workers (answers.Refused refusal) told = refl
+told_first (errors.Schedule place) (answers.Refused refusal) told = refl
+told_first errors.Memory (answers.Refused refusal) told = absurd (cc)
+told_first errors.Stopped (answers.Refused refusal) told = absurd (cc)
+
+-- so what holds of a memory before it holds behind the refusal
+pub refusal_keeps : {P : Type 0} (Holds : P → Type 0) (old new : P) (e : RecoverError) → (IsTrue (comes_first e) → new ≡ old) → Holds old → (answer : Answer) → IsToldAs e answer → Holds new
+refusal_keeps Holds old new e same before answer told = subst Holds (sym (same (told_first e answer told))) before
+
+-- the same where a stop is told as no answer
+pub refused_keeps : {P : Type 0} (Holds : P → Type 0) (old new : P) (e : RecoverError) → (IsTrue (comes_first e) → new ≡ old) → Holds old → (answer : Option Answer) → EndsAs e answer → OnSome answer (Holds new)
+refused_keeps Holds old new e same before None ends = tt
+refused_keeps Holds old new e same before (Some answer) ends = refusal_keeps Holds old new e same before answer ends
+
+-- a region rolls back as itself
+pub undoes_itself : (R left : Region) (s : Super) → IsSuper R s → left ≡ R → UndoesAsBefore R left
+undoes_itself R left s is same = subst (UndoesAsBefore R) (sym same) (s, is, is, refl)

@@ -58,17 +58,22 @@ FailsCheckAs output bytes workers Memory old new = Keeps old new
 
 -- ---- the same of a check that writes the whole report
 
+-- the output is the report of the region
 abbrev pub IsReport : Region → List ℕ → ℕ → Type 0
 IsReport = IsOutput Report
 
+-- a check with so many workers
 abbrev pub IsCheck : Region → ℕ → List ℕ → ℕ → Type 0
 IsCheck = IsCheckAs Report
 
+-- its text was written
 abbrev pub WritesCheck : List ℕ → ℕ → Option (List ℕ) → Option (List ℕ) → Type 0
 WritesCheck = WritesCheckAs Report
 
+-- its text was written, and its status is this
 abbrev pub EndsCheck : List ℕ → ℕ → Option (List ℕ) → Option (List ℕ) → ℕ → Type 0
 EndsCheck = EndsCheckAs Report
 
+-- what an error leaves of its text
 abbrev pub FailsCheck : List ℕ → ℕ → ScriptError → Option (List ℕ) → Option (List ℕ) → Type 0
 FailsCheck = FailsCheckAs Report

@@ -1,9 +1,12 @@
 //! Recoveries of a region, as the commands see them: nothing but want of memory, or the memory's fuse, prevents an answer.
 
-ghost use Rattle.std.specs.Prelude.{◌≡◌, ◌≢◌, ◌⊎◌, [], None, Some, IfOk, OnErr, IsTrue, map};
+ghost use Rattle.std.specs.Prelude.{◌≡◌, ◌≢◌, ◌⊎◌, [], None, Some, IfOk, OnErr, OnSome, IsTrue, map};
 ghost use Rattle.nv_region.specs.Fuses.{KeepsFuse};
+ghost use Rattle.nv_region.specs.Stops.{LeavesOnly, NothingPending};
+ghost use Rattle.nv_super.specs.declared.superblock.Super.{Super as SuperValue};
+ghost use Rattle.nv_super.specs.Super.{IsSuper};
 ghost use Rattle.nv_recover.specs.Behind.{BehindSystem};
-ghost use Rattle.nv_recover.specs.Errors.{AsBeforeOrUndone};
+ghost use Rattle.nv_recover.specs.Errors.{AsBeforeOrUndone, UndoesAsBefore};
 ghost use Rattle.nv_recover.specs.declared.errors.RecoverError.TheVariants as errors;
 ghost use Rattle.nv_checking.specs.Answering.{TakesRecovery, MayAnswer, MayEnd, IsOfItsSuper, IsToldAs, EndsAs, refusal_of, worker_number};
 
@@ -47,6 +50,9 @@ pub fn recover_alone<P: Pmem>(alloc: Global, memory: &mut P) -> Result<Answer, A
     ensures lists { IfOk result (λ answer. IsOfItsSuper (Some answer)) }
     // Only want of memory prevents an answer.
     ensures err { OnErr result (AsBeforeOrUndone (P.region memory.old) (P.region memory.new)) }
+    // Nothing is pending behind an answer, where nothing was before.
+    ensures settled { NothingPending (P.region memory.old) (P.may_hold memory.old) → IfOk result (λ _. NothingPending (P.region memory.new) (P.may_hold memory.new)) }
+    ensures keeps_fuse { KeepsFuse (BehindSystem (P.region memory.old)) (P.fuse memory.old) (P.fuse memory.new) }
 {
     match recover_one(alloc, memory) {
         Ok(recovered) => Ok(Answer::Recovered(recovered)),
@@ -68,6 +74,11 @@ pub fn recover_or_stop<P: Pmem + Sync, H: Threads + Sync>(
     ensures lists { IfOk result IsOfItsSuper }
     ensures err { OnErr result (AsBeforeOrUndone (P.region memory.old) (P.region memory.new)) }
     ensures unstopped { IsTrue (P.fuse memory.old).is_steady → IfOk result (λ answer. answer ≢ None) }
+    // Nothing is pending behind an answer, where nothing was before.
+    ensures settled { NothingPending (P.region memory.old) (P.may_hold memory.old) → IfOk result (λ answer. OnSome answer (NothingPending (P.region memory.new) (P.may_hold memory.new))) }
+    // Whatever a stop leaves has the same undone region.
+    ensures any_stop { (s : SuperValue) → IsSuper (P.region memory.old) s → NothingPending (P.region memory.old) (P.may_hold memory.old)
+        → LeavesOnly (P.region memory.new) (P.may_hold memory.new) (UndoesAsBefore (P.region memory.old)) }
 {
     match recover(rt, alloc, memory, workers, &NoGate) {
         Ok(recovered) => Ok(Some(Answer::Recovered(recovered))),
@@ -89,6 +100,11 @@ pub fn replay_or_stop<P: Pmem>(
     ensures lists { IfOk result IsOfItsSuper }
     ensures err { OnErr result ((P.region memory.new ≡ P.region memory.old) ⊎ AsBeforeOrUndone (P.region memory.old) (P.region memory.new)) }
     ensures unstopped { IsTrue (P.fuse memory.old).is_steady → IfOk result (λ answer. answer ≢ None) }
+    // Nothing is pending behind an answer, where nothing was before.
+    ensures settled { NothingPending (P.region memory.old) (P.may_hold memory.old) → IfOk result (λ answer. OnSome answer (NothingPending (P.region memory.new) (P.may_hold memory.new))) }
+    // Whatever a stop leaves has the same undone region.
+    ensures any_stop { (s : SuperValue) → IsSuper (P.region memory.old) s → NothingPending (P.region memory.old) (P.may_hold memory.old)
+        → LeavesOnly (P.region memory.new) (P.may_hold memory.new) (UndoesAsBefore (P.region memory.old)) }
 {
     let numbers = worker_numbers(alloc, schedule)?;
     match recover_replay(alloc, memory, workers, &numbers) {

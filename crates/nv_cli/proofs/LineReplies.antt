@@ -22,6 +22,7 @@ use Rattle.nv_region.specs.Region.{Region}
 use Rattle.nv_cli.specs.Script.{ShowsTo, ShowsEndFrom}
 use Rattle.nv_cli.specs.Replies.{Replies, KnownReplies, RepliesTo}
 use Rattle.nv_stream.specs.Streams.{AppendsFront, TakesKnownLine, TakesLine}
+use Rattle.nv_cli.specs.declared.script.Reply.{Reply}
 use Rattle.nv_cli.specs.declared.script.Reply.TheVariants.{End, Skipped, Text, Bad}
 use Rattle.nv_cli.proofs.KnownProgress.{GoesOn, Ends, EndsInside}
 use Rattle.std.proofs.lemmas.Bool.Decides.{nat_tests}
@@ -95,3 +96,10 @@ too_long line long = let over : nat_lt line_limit (length line) ≡ true = grind
 
 pub long_replies : (left after : Option (List ℕ)) (line : List ℕ) (state : State) → TakesKnownLine left after nexts.TooLong line → KnownReplies left after state (Bad reasons.TooLong) state
 long_replies left after line state taken = known_map left after _ _ (λ input rest (t : TakesLine input rest nexts.TooLong line). (t.0, t.1, t.2, inl t.3, too_long t.0 t.3, refl)) taken
+
+-- a line that was read is answered as such a line
+pub line_replies : (left after : Option (List ℕ)) (line : List ℕ) (old new : State) (reply : Reply) → TakesKnownLine left after nexts.Line line → RepliesTo line old reply new → KnownReplies left after old reply new
+line_replies left after line old new End taken replies = absurd replies
+line_replies left after line old new Skipped taken replies = known_map left after _ _ (λ input rest (t : TakesLine input rest nexts.Line line). (line, t.0, replies.0, replies.1, replies.2)) taken
+line_replies left after line old new (Text text) taken replies = known_map left after _ _ (λ input rest (t : TakesLine input rest nexts.Line line). (line, t.0, replies.0, replies.1)) taken
+line_replies left after line old new (Bad reason) taken replies = known_map left after _ _ (λ input rest (t : TakesLine input rest nexts.Line line). (line, lines_of rest, t.0, replies.0, replies.1, replies.2)) taken

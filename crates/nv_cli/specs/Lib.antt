@@ -6,6 +6,7 @@ pub mod Formatting
 pub use Rattle.nv_region.specs.Region
 pub use Rattle.nv_super.specs.Super
 pub use Rattle.nv_report.specs.nv_outcome.Outcome
+pub use Rattle.nv_session.specs.Sessions
 pub use Rattle.nv_stream.specs.Lines
 pub use Rattle.nv_stream.specs.Streams
 pub mod Hints

@@ -103,6 +103,7 @@ pub record IsSized (t : Tree) (names : List (List ℕ)) (size : ℕ) : Type 0 wh
 abbrev pub WritesFile : Tree → List (List ℕ) → Option (List ℕ) → Option (List ℕ) → Type 0
 WritesFile t names old new = (bytes : List ℕ) × IsWholeFile t names bytes × Appends old new bytes
 
+-- what an error leaves of the bytes of the file
 abbrev pub FailsFile : Tree → List (List ℕ) → ScriptError → Option (List ℕ) → Option (List ℕ) → Type 0
 FailsFile t names Read old new = ⊥
 FailsFile t names Write old new = (bytes : List ℕ) × IsWholeFile t names bytes × AppendsFront old new bytes
@@ -112,6 +113,7 @@ FailsFile t names Memory old new = Keeps old new ⊎ ((bytes : List ℕ) × IsWh
 abbrev pub WritesRefusal : Refusal → Option (List ℕ) → Option (List ℕ) → ℕ → Type 0
 WritesRefusal refusal old new status = (refusal ≢ calls.Memory) × (status ≡ 2) × Appends old new (refused_line (refusal_word refusal))
 
+-- what an error leaves of the text of a refusal
 abbrev pub FailsRefusal : Refusal → ScriptError → Option (List ℕ) → Option (List ℕ) → Type 0
 FailsRefusal refusal Read old new = ⊥
 FailsRefusal refusal Write old new = (refusal ≢ calls.Memory) × AppendsFront old new (refused_line (refusal_word refusal))
@@ -121,6 +123,7 @@ FailsRefusal refusal Memory old new = Keeps old new
 abbrev pub WritesCall : Tree → Path → Option (List ℕ) → Option (List ℕ) → ℕ → Type 0
 WritesCall t p old new status = (text : List ℕ) × TellsFile t p text × (status ≡ call_status (first_refusal (read_tests t p))) × Appends old new text
 
+-- what an error leaves of a call that may be refused
 abbrev pub FailsCall : Tree → Path → ScriptError → Option (List ℕ) → Option (List ℕ) → Type 0
 FailsCall t p Read old new = ⊥
 FailsCall t p Write old new = (text : List ℕ) × TellsFile t p text × AppendsFront old new text

@@ -2,6 +2,7 @@
 
 ghost use Rattle.std.specs.Prelude.{◌≡◌, ◌<◌, ◌↔◌, ◌^◌, false, length, IfOk, IsErrOf};
 ghost use Rattle.nv_region.specs.Region.{region_of, bytes_of};
+ghost use Rattle.nv_session.specs.Sessions.{IsSettled};
 ghost use Rattle.nv_region.specs.declared.memory.Fuse.TheVariants as fuses;
 ghost use Rattle.nv_region.specs.declared.memory.RegionRefusal.TheVariants as refusals;
 
@@ -17,6 +18,7 @@ use std::alloc::Global;
 pub fn region_of_file(alloc: Global, bytes: Vec<u8>) -> Result<MemRegion, RegionRefusal>
     ensures region { IfOk result (λ m. m.region ≡ region_of bytes.items) }
     ensures bytes { IfOk result (λ m. bytes_of m.region ≡ bytes.items) }
+    ensures settled { IfOk result (λ m. IsSettled m) }
     ensures fuse { IfOk result (λ m. (m.fuse ≡ fuses.Off) × (m.burnt ≡ false)) }
     ensures length { IsErrOf result refusals.Length ↔ (2 ^ 30 < length bytes.items) }
 {

@@ -83,6 +83,7 @@ request_as forms.Link words = request_by cpu_and_two_paths request.Link words
 request_as forms.Unlink words = request_by cpu_and_path request.Unlink words
 request_as forms.RemoveDirectory words = request_by cpu_and_path request.RemoveDirectory words
 request_as forms.Rename words = request_by cpu_and_two_paths request.Rename words
+request_as forms.Clean words = request_by one_path request.Clean words
 
 -- The form of the command of this name, and the request that the words after it make of it, if there is one.
 unfoldable pub read_by : List Row → List ℕ → List (List ℕ) → Option (Form × Option Request)

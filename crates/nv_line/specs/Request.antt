@@ -23,6 +23,7 @@ pub data Request : Type 0 where
   Unlink : (cpu : ℕ) (path : List ℕ) → Request
   RemoveDirectory : (cpu : ℕ) (path : List ℕ) → Request
   Rename : (cpu : ℕ) (old new : List ℕ) → Request
+  Clean : (path : List ℕ) → Request
   Tree : Request
   Free : Request
   Faults : Request

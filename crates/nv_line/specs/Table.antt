@@ -1,7 +1,7 @@
 -- The commands of a script, a row for each.
 use Rattle.std.specs.Prelude.{ℕ, List, [], ◌∷◌, codes}
 use Rattle.nv_region.specs.declared.memory.Keep.{Keep}
-use Rattle.nv_line.specs.Request.{Request, Format, Time, Poke, Cut, Recover, Replay, ListNames, Stat, Read, Create, MakeDirectory, Write, SetSize, SetAttributes, Link, Unlink, RemoveDirectory, Rename, Tree, Free, Faults, Report, Peek, Stop}
+use Rattle.nv_line.specs.Request.{Request, Format, Time, Poke, Cut, Recover, Replay, ListNames, Stat, Read, Create, MakeDirectory, Write, SetSize, SetAttributes, Link, Unlink, RemoveDirectory, Rename, Clean, Tree, Free, Faults, Report, Peek, Stop}
 use Rattle.nv_line.specs.declared.reasons.Form.{Form}
 use Rattle.nv_line.specs.declared.reasons.Form.TheVariants as forms
 use Rattle.nv_line.specs.Shapes.{Moment, Shape, End, Numbers, Then, Number, UpTo, Path, When, Keeping, Makes, fuse_by}
@@ -21,9 +21,11 @@ row name form shape make = record { name = name; form = form; shape = shape; mak
 abbrev pub one_number : Shape
 one_number = Then Number End
 
+-- two numbers
 abbrev pub two_numbers : Shape
 two_numbers = Then Number one_number
 
+-- three numbers
 abbrev pub three_numbers : Shape
 three_numbers = Then Number two_numbers
 
@@ -82,6 +84,7 @@ writing_rows = row (codes "create") forms.Create cpu_and_path Create
     ∷ row (codes "write") forms.Write write_words Write
     ∷ row (codes "size") forms.SetSize cpu_path_and_number SetSize
     ∷ row (codes "attr") forms.SetAttributes attribute_words SetAttributes
+    ∷ row (codes "clean") forms.Clean one_path Clean
     ∷ naming_rows
 
 -- the rows of stops and of the file calls

@@ -102,6 +102,10 @@ pub enum Command<'a> {
         old: &'a [u8],
         new: &'a [u8],
     },
+    /// Take the first page out of an inode's log that it can do without.
+    Clean {
+        path: &'a [u8],
+    },
     /// Print the inodes in use.
     Tree,
     /// Print the free blocks of each CPU.

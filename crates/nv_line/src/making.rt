@@ -190,6 +190,13 @@ pub(crate) fn remove_directory<'a>(words: &[&'a [u8]]) -> Option<Command<'a>>
     Some(Command::RemoveDirectory { cpu, path })
 }
 
+pub(crate) fn clean<'a>(words: &[&'a [u8]]) -> Option<Command<'a>>
+    ensures { option_map view result ≡ request_as forms.Clean (map (λ word. word.now) words.now) }
+{
+    let path = one_path(words)?;
+    Some(Command::Clean { path })
+}
+
 pub(crate) fn rename<'a>(words: &[&'a [u8]]) -> Option<Command<'a>>
     ensures { option_map view result ≡ request_as forms.Rename (map (λ word. word.now) words.now) }
 {

@@ -30,6 +30,7 @@ pub enum Form {
     Unlink,
     RemoveDirectory,
     Rename,
+    Clean,
     Tree,
     Free,
     Faults,
@@ -75,6 +76,7 @@ impl Form {
             Form::Unlink => "unlink CPU PATH",
             Form::RemoveDirectory => "rmdir CPU PATH",
             Form::Rename => "rename CPU OLD NEW",
+            Form::Clean => "clean PATH",
             Form::Tree => "tree",
             Form::Free => "free",
             Form::Faults => "faults",
@@ -124,7 +126,7 @@ impl fmt::Display for Reason {
                 f.write_str("it ends with a carriage return, byte 13; byte 10 alone ends a line")
             }
             Reason::NoCommand => f.write_str(
-                "expected time, format, recover, replay, poke, cut, list, stat, read, create, mkdir, write, size, attr, link, unlink, rmdir, rename, tree, free, faults, report, peek or stop",
+                "expected time, format, recover, replay, poke, cut, list, stat, read, create, mkdir, write, size, attr, link, unlink, rmdir, rename, clean, tree, free, faults, report, peek or stop",
             ),
             Reason::Form(form) => write!(
                 f,

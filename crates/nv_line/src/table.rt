@@ -96,6 +96,8 @@ fn writing_form(name: &[u8]) -> Option<Form>
         Some(Form::SetSize)
     } else if name == b"attr".as_slice() {
         Some(Form::SetAttributes)
+    } else if name == b"clean".as_slice() {
+        Some(Form::Clean)
     } else {
         naming_form(name)
     }
@@ -147,6 +149,7 @@ pub(crate) fn command_of<'a>(
         Form::Unlink => Ok(making::unlink(words)),
         Form::RemoveDirectory => Ok(making::remove_directory(words)),
         Form::Rename => Ok(making::rename(words)),
+        Form::Clean => Ok(making::clean(words)),
         Form::Tree => Ok(making::tree(words)),
         Form::Free => Ok(making::free(words)),
         Form::Faults => Ok(making::faults(words)),

@@ -1,17 +1,21 @@
 -- The tests of each file call that writes, and what it leaves of the logs, by what the contract of the call says of them.
-use Rattle.std.proofs.Common.{◌≡◌, ◌≢◌, ◌⊎◌, ℕ, ◌+◌, ◌-◌, ◌<◌, ◌≤◌, Bool, true, false, not, nat_lt, List, ◌∷◌, Some, None, Result, Ok, Err, IfErr, OnOk, refl, sym, ap, subst, ◌∙◌}
+use Rattle.std.proofs.Common.{◌≡◌, ◌≢◌, ◌⊎◌, inl, inr, ℕ, ◌+◌, ◌-◌, ◌<◌, ◌≤◌, Bool, true, false, not, nat_lt, List, ◌∷◌, length, Some, None, Result, Ok, Err, IfErr, OnOk, refl, sym, ap, subst, ◌∙◌}
 use Rattle.std.proofs.Math.Logic.{∥∥₁_map}
 use Rattle.std.specs.Prelude.{⊤}
 use Rattle.nv_region.specs.Region.{Region}
 use Rattle.nv_region.specs.RegionState.{RegionState}
 use Rattle.nv_super.specs.declared.kind.Kind.{Kind}
+use Rattle.nv_super.specs.declared.owners.Run.{Run}
+use Rattle.nv_super.specs.declared.superblock.Super.{Super}
+use Rattle.nv_journal.specs.Undo.{undone}
+use Rattle.nv_report.specs.nv_scan.declared.piece.Row.{Row}
 use Rattle.nv_super.specs.Layout.{fixed_layout}
 use Rattle.nv_report.specs.nv_scan.State.{block_of}
 use Rattle.nv_calls.specs.nv_held.Held.{Held, Store, good_in}
 use Rattle.nv_calls.specs.nv_held.Mounted.{ShowsSound}
 use Rattle.nv_entry.specs.declared.entry.Operation.TheVariants.{Add, Remove}
 use Rattle.nv_tree.specs.Path.{IsPath, Says, last_name}
-use Rattle.nv_tree.specs.Tree.{Node, SameTree, walk}
+use Rattle.nv_tree.specs.Tree.{Node, SameTree, Tree, walk}
 use Rattle.nv_tree.specs.Calls.{linked, renamed}
 use Rattle.nv_tree.specs.Refusals.{Path, Tests, World, first_refusal, writing, create_tests, write_tests, set_size_tests, set_attr_tests, link_tests, unlink_tests, rmdir_tests, rename_tests}
 use Rattle.nv_tree.specs.declared.refusal.Refusal.{Refusal}
@@ -34,7 +38,10 @@ use Rattle.nv_calls.specs.World.{world_of}
 use Rattle.nv_calls.specs.WriteCall.{ShowsLogWrite, WriteNeeds}
 use Rattle.nv_calls.proofs.NeedsExist.{write_needs}
 use Rattle.nv_steps.specs.Writes.{plan_of}
-use Rattle.nv_session.specs.Calls.{LogsBytes, LogsUnlink, asks_create, asks_write, asks_size, asks_attributes, asks_link, asks_unlink, asks_remove, asks_rename, makes_link, makes_rename, logs_inode, logs_size, logs_attributes, logs_link, logs_removal, logs_rename}
+use Rattle.nv_steps.specs.declared.planning.Plan.{Plan}
+use Rattle.nv_calls.specs.Effects.{LogsBytes, LogsMove, LogsUnlink, logs_attributes, logs_inode, logs_link, logs_removal, logs_rename, logs_size, makes_bytes, makes_link, makes_rename, makes_unlink}
+use Rattle.nv_session.specs.Calls.{asks_create, asks_write, asks_size, asks_attributes, asks_link, asks_unlink, asks_remove, asks_rename}
+use Rattle.nv_calls.specs.Stopped.{IsAsMade, IsAsMounted, LeavesCall, StopLeaves}
 use Rattle.nv_session.proofs.Calling.{Answers, can_write, seen}
 
 -- a text that is no path is refused
@@ -55,10 +62,10 @@ no_other w cpu x e tests all is none = by (not (nat_lt cpu w.cpus)) w.read_only 
   by false false false none = (cc)
 
 -- what a contract says of a call's tests
-abbrev pub Allows : Result (Unit {0}) Refusal → Tests → Type 0
+abbrev pub Allows : {A : Type 0} → Result A Refusal → Tests → Type 0
 Allows answer tests = OnOk answer (first_refusal tests ≡ None)
 
-abbrev pub Refuses : Result (Unit {0}) Refusal → Tests → Type 0
+abbrev pub Refuses : {A : Type 0} → Result A Refusal → Tests → Type 0
 Refuses answer tests = IfErr answer (λ e. (e ≡ Memory) ⊎ ((e ≡ Stopped) ⊎ (first_refusal tests ≡ Some e)))
 
 module _ (m : Mount RegionState) (answer : Result (Unit {0}) Refusal) (cpu : ℕ) where
@@ -225,6 +232,10 @@ module _ (S T : Region) (m : Mount ⊤) (names : List (List ℕ)) where
   moved_logged time others (Ok done) across within = record { across = across; within = within }
   moved_logged time others (Err e) across within = tt
 
+-- the same of the mount without its memory
+write_seen : (T : Region) (m : Mount RegionState) (cpu : ℕ) (held : Store) (i : ℕ) (h : Held) (plan : Plan) → ShowsLogWrite T m cpu held i h plan → ShowsLogWrite T (seen m) cpu held i h plan
+write_seen T m cpu held i h plan known = ∥∥₁_map known (λ w. record { runs = w.runs; rest = w.rest; taken = w.taken; grew = w.grew })
+
 -- A write, by the mount with its memory.
 pub bytes_logged : (m n : Mount RegionState) (names : List (List ℕ)) (cpu offset bytes time : ℕ) (answer : Result (Unit {0}) Refusal)
     → ((i : ℕ) (node : Node) (held : Store) (h : Held) → LeadsTo (tree_of m.memory.region m.rows) names i node → ShowsSound m.memory.region m.sup held → held i ≡ Some h → 0 < bytes
@@ -232,7 +243,7 @@ pub bytes_logged : (m n : Mount RegionState) (names : List (List ℕ)) (cpu offs
     → (bytes ≡ 0 → OnOk answer (n ≡ m)) → OnOk answer (LogsBytes cpu offset bytes time m.memory.region (seen m) names n.memory.region)
 bytes_logged m n names cpu offset bytes time (Err e) log nothing = tt
 bytes_logged m n names cpu offset bytes time (Ok done) log nothing = record {
-  some = λ i node held h leads sound at pos. ∥∥₁_map (log i node held h leads sound at pos) (λ w. record { runs = w.runs; rest = w.rest; taken = w.taken; grew = w.grew });
+  some = λ i node held h leads sound at pos. write_seen n.memory.region m cpu held i h _ (log i node held h leads sound at pos);
   none = λ zero. ap (λ (k : Mount RegionState). k.memory.region) (nothing zero);
 }
 
@@ -274,3 +285,41 @@ module _ (m n : Mount RegionState) (answer : Result (Unit {0}) Refusal) (cpu tim
       → OnOk answer (logs_rename time q m.memory.region (seen m) names n.memory.region)
   rename_logged allowed across within = by_other answer other renaming (λ q. logs_rename time q m.memory.region (seen m) names n.memory.region) (no_other (world_of m) cpu _ _ _ (renaming None) refl)
       (λ others is. moved_logged m.memory.region n.memory.region (seen m) names time others answer (λ i d e node held h k. across others i d e node held h k is) (λ i d node held h. within others i d node held h is)) q says allowed
+
+-- ---- what a stop may leave, by the mount without its memory
+
+stop_seen : (R : Region) (s : Super) (rows : List Row) (free : List (List Run)) (made : Tree) (First Second : Region → Type 0) → ((T : Region) → First T → Second T) → (left : Region) → StopLeaves R s rows free made First left → StopLeaves R s rows free made Second left
+stop_seen R s rows free made First Second weaker left known = ∥∥₁_map known by where
+  by : IsAsMounted R s rows free left ⊎ IsAsMade s made First left → IsAsMounted R s rows free left ⊎ IsAsMade s made Second left
+  by (inl mounted) = inl mounted
+  by (inr made) = inr (record { rows = made.rows; free = made.free; recovers = made.recovers; tree = made.tree; logs = weaker (undone s left) made.logs })
+
+module _ (m : Mount RegionState) (time : ℕ) (names : List (List ℕ)) where
+  abbrev R : Region
+  R = m.memory.region
+
+  pub write_stops : (cpu offset : ℕ) (bytes : List ℕ) (left : Region) → LeavesCall (makes_bytes offset bytes time) (LogsBytes cpu offset (length bytes) time) R m names left
+      → LeavesCall (makes_bytes offset bytes time) (LogsBytes cpu offset (length bytes) time) R (seen m) names left
+  write_stops cpu offset bytes = stop_seen R m.sup m.rows m.free.pools (makes_bytes offset bytes time R m names) (LogsBytes cpu offset (length bytes) time R m names) (LogsBytes cpu offset (length bytes) time R (seen m) names)
+      (λ T logs. record { some = λ i node held h leads sound at pos. write_seen T m cpu held i h _ (logs.some i node held h leads sound at pos); none = logs.none })
+
+  pub unlink_stops : (left : Region) → LeavesCall (makes_unlink time) (LogsUnlink time) R m names left → LeavesCall (makes_unlink time) (LogsUnlink time) R (seen m) names left
+  unlink_stops = stop_seen R m.sup m.rows m.free.pools (makes_unlink time R m names) (LogsUnlink time R m names) (LogsUnlink time R (seen m) names) (λ T logs. record { more = logs.more; last = logs.last })
+
+  module _ (other : List ℕ) (q : Path) (says : Says other q) (left : Region) where
+    -- what holds of each second path holds of what the text says, which is one
+    by_path : (holds : Path → Type 0) → (((others : List (List ℕ)) → IsPath other others → ⊥) → ⊥) → ((others : List (List ℕ)) → IsPath other others → holds (Some others)) → holds q
+    by_path holds some each = by q says where
+      by : (q : Path) → Says other q → holds q
+      by None says = absurd (some says)
+      by (Some others) says = each others says
+
+    pub link_stops : (((others : List (List ℕ)) → IsPath other others → ⊥) → ⊥) → ((others : List (List ℕ)) → IsPath other others → LeavesCall (makes_link time (Some others)) (logs_link time (Some others)) R m names left)
+        → LeavesCall (makes_link time q) (logs_link time q) R (seen m) names left
+    link_stops = by_path (λ p. LeavesCall (makes_link time p) (logs_link time p) R (seen m) names left)
+
+    pub rename_stops : (((others : List (List ℕ)) → IsPath other others → ⊥) → ⊥) → ((others : List (List ℕ)) → IsPath other others → LeavesCall (makes_rename time (Some others)) (logs_rename time (Some others)) R m names left)
+        → LeavesCall (makes_rename time q) (logs_rename time q) R (seen m) names left
+    rename_stops some each = by_path (λ p. LeavesCall (makes_rename time p) (logs_rename time p) R (seen m) names left) some
+        (λ others is. stop_seen R m.sup m.rows m.free.pools (makes_rename time (Some others) R m names) (LogsMove time others R m names) (LogsMove time others R (seen m) names)
+        (λ T logs. record { across = logs.across; within = logs.within }) left (each others is))

@@ -1,10 +1,11 @@
 -- What a file call that writes leaves, for each state that the session stands for.
-use Rattle.std.proofs.Common.{◌≡◌, ◌⊎◌, inl, inr, ℕ, Bool, true, false, not, ◌&&◌, nat_lt, IsTrue, List, [], ◌∷◌, Option, Some, None, Result, Ok, Err, IfErr, OnOk, refl, sym, ap, subst, ◌∙◌}
+use Rattle.std.proofs.Common.{◌≡◌, ◌⊎◌, inl, inr, ℕ, Bool, true, false, not, ◌&&◌, nat_lt, IsTrue, List, [], ◌∷◌, Option, Some, None, Result, Ok, Err, IfErr, IfOk, OnOk, refl, sym, ap, subst, ◌∙◌}
 use Rattle.std.specs.Prelude.{⊤, codes}
 use Rattle.std.specs.List.{filter}
 use Rattle.std.proofs.Math.Logic.{∥∥₁_map}
 use Rattle.nv_region.specs.Region.{Region, size}
-use Rattle.nv_region.specs.RegionState.{RegionState, is_off, is_steady, steady_unburnt}
+use Rattle.nv_region.specs.RegionState.{RegionState, fenced_or_last, is_off, is_steady, steady_unburnt}
+use Rattle.nv_region.specs.Stops.{LeavesOnly, MayBeLeft}
 use Rattle.nv_region.specs.declared.memory.Fuse.{Fuse}
 use Rattle.nv_region.specs.declared.memory.Fuse.TheVariants as fuses
 use Rattle.nv_super.specs.declared.superblock.Super.{Super}
@@ -23,15 +24,17 @@ use Rattle.nv_tree.proofs.Texts.{text_says}
 use Rattle.nv_text.specs.Answers.{ok_line, refused_line, stopped_line}
 use Rattle.nv_calls.specs.Mount.{IsKept, Mount, has_faults, told}
 use Rattle.nv_calls.specs.Same.{KeepsMount, SameMount}
+use Rattle.nv_calls.specs.Stopped.{LeavesCall}
 use Rattle.nv_paths.specs.Seen.{tree_of}
 use Rattle.nv_calls.proofs.Mounts.{faultless}
-use Rattle.nv_session.specs.Calls.{Asks, Makes, Logs, Asked, LeavesTree}
-use Rattle.nv_session.specs.Machine.{State, Calls, CallsByTwo, CallsMounted, DoesCall, StopsMounted}
-use Rattle.nv_session.specs.Sessions.{StandsFor, Moves, ShowsOutcome, IsMountOf, SettlesCall, TakesMount, PutsMount, region_in, mount_in, memory_in, with_fuse}
+use Rattle.nv_calls.specs.Effects.{Makes, Logs}
+use Rattle.nv_session.specs.Calls.{Asks, Asked, LeavesTree}
+use Rattle.nv_session.specs.Machine.{State, Calls, CallsByTwo, CallsMounted, CallsTelling, DoesCall, StopsCall, StopsMounted}
+use Rattle.nv_session.specs.Sessions.{StandsFor, Moves, ShowsOutcome, IsMountOf, IsSettled, SettlesCall, TakesMount, PutsMount, region_in, mount_in, memory_in, with_fuse}
 use Rattle.nv_session.specs.declared.store.Store.{Store}
 use Rattle.nv_session.specs.declared.store.Store.TheVariants as stores
 use Rattle.nv_session.specs.declared.session.Session.{Session}
-use Rattle.nv_session.proofs.Moved.{can_burn}
+use Rattle.nv_session.proofs.Moved.{can_burn, left_size}
 use Rattle.nv_session.proofs.SameShown.{with_rows}
 use Rattle.nv_session.proofs.Settled.{settled}
 
@@ -40,7 +43,7 @@ abbrev pub seen : Mount RegionState → Mount ⊤
 seen m = record { memory = tt; sup = m.sup; rows = m.rows; free = record { sup = m.sup; pools = m.free.pools; room = 0 }; faults = filter is_lasting m.faults; read_only = m.read_only; stopped = false }
 
 -- What a call answers, by its tests of a path.
-pub record Answers (asks : Asks) (m : Mount RegionState) (answer : Result (Unit {0}) Refusal) (p : Path) : Type 0 where
+pub record Answers {A : Type 0} (asks : Asks) (m : Mount RegionState) (answer : Result A Refusal) (p : Path) : Type 0 where
   pub tests : Tests
   pub are : asks m.memory.region (seen m) p tests
   pub allowed : OnOk answer (first_refusal tests ≡ None)
@@ -51,15 +54,19 @@ pub record Answers (asks : Asks) (m : Mount RegionState) (answer : Result (Unit 
   pub named : first_refusal tests ≡ None → p ≡ None → ⊥
 
 -- What the contract of a call says of the mount before and after it.
-pub record Called (asks : Asks) (makes : Makes) (logs : Logs) (path : List ℕ) (m n : Mount RegionState) (answer : Result (Unit {0}) Refusal) : Type 0 where
+pub record Called {A : Type 0} (asks : Asks) (makes : Makes ⊤) (logs : A → Logs ⊤) (stops : Logs ⊤) (path : List ℕ) (m n : Mount RegionState) (answer : Result A Refusal) : Type 0 where
   pub answers : (p : Path) → Says path p → Answers asks m answer p
   pub changed : (names : List (List ℕ)) → IsPath path names → OnOk answer (SameTree (tree_of n.memory.region n.rows) (makes m.memory.region (seen m) names))
-  pub logged : (names : List (List ℕ)) → IsPath path names → OnOk answer (logs m.memory.region (seen m) names n.memory.region)
+  pub logged : (names : List (List ℕ)) → IsPath path names → IfOk answer (λ x. logs x m.memory.region (seen m) names n.memory.region)
   pub unchanged : IfErr answer (λ e. (e ≡ Stopped → ⊥) → SameMount m n)
   pub stopped : m.stopped ≡ false → (IsTrue n.stopped → (answer ≡ Err Stopped) × IsTrue n.memory.burnt) × (answer ≡ Err Stopped → IsTrue n.stopped)
   pub keeps : KeepsMount m n
   pub as_long : size n.memory.region ≡ size m.memory.region
   pub steady : IsTrue (is_steady m.memory) → IsTrue (is_steady n.memory)
+  pub read_only : IsTrue m.read_only → SameMount m n
+  pub bad_text : ((names : List (List ℕ)) → IsPath path names → ⊥) → SameMount m n
+  pub any_stop : (names : List (List ℕ)) → IsPath path names → m.stopped ≡ false → m.read_only ≡ false → IsTrue n.stopped → LeavesOnly n.memory.region (fenced_or_last n.memory) (LeavesCall makes stops m.memory.region (seen m) names)
+  pub settled : n.stopped ≡ false → IsSettled n.memory
   pub kept : IsKept n.memory.region n.sup n.rows n.free n.faults n.read_only n.stopped
 
 -- ---- the mount before and after a call
@@ -72,9 +79,13 @@ can_write w cpu tests all is none = by (not (nat_lt cpu w.cpus)) w.read_only (ap
   by false true none = absurd (cc)
   by false false none = refl
 
-not_true : (b : Bool) → (IsTrue b → ⊥) → b ≡ false
+pub not_true : (b : Bool) → (IsTrue b → ⊥) → b ≡ false
 not_true true never = absurd (never refl)
 not_true false never = refl
+
+-- a call that leaves the mount as it was hasn't been stopped
+pub not_stopped : {m n : Mount RegionState} → SameMount m n → m.stopped ≡ false → IsTrue n.stopped → ⊥
+not_stopped same runs stops = (let no : true ≡ false = sym stops ∙ same.stopped ∙ runs in cc)
 
 -- A mount without a fault shows the outcome of its own region.
 shows_own : (n : Mount RegionState) → IsKept n.memory.region n.sup n.rows n.free n.faults n.read_only n.stopped → n.stopped ≡ false → n.faults ≡ [] → ShowsOutcome n.memory.region n
@@ -119,16 +130,16 @@ region_of_mount None m at = absurd (cc)
 region_of_mount (Some (stores.Alone memory)) m at = absurd (cc)
 region_of_mount (Some (stores.Mounted n)) m at = (let same : n ≡ m = cc in ap (λ (k : Mount RegionState). Some k.memory.region) same)
 
-module _ (asks : ℕ → Asks) (makes : ℕ → Makes) (logs : ℕ → Logs) (path : List ℕ) where
+module _ {A : Type 0} (line : A → List ℕ) (asks : ℕ → Asks) (makes : ℕ → Makes ⊤) (logs : ℕ → A → Logs ⊤) (stops : ℕ → Logs ⊤) (path : List ℕ) where
   -- the call in a state
   abbrev CallsNow : Bool → State → List ℕ → State → Type 0
-  CallsNow armed state text next = Calls armed (asks state.time) (makes state.time) (logs state.time) path state text next
+  CallsNow armed state text next = CallsTelling line armed (asks state.time) (makes state.time) (logs state.time) (stops state.time) path state text next
 
-  pub uncalled_moves : (armed : Bool) (fuse : Fuse) (old new : Session) (text : List ℕ) → TakesMount fuse old None new → text ≡ refused_line (codes "NotMounted") → Moves (CallsNow armed) old text new
-  uncalled_moves armed fuse old new text takes said = λ state stands.
+  pub untold_moves : (armed : Bool) (fuse : Fuse) (old new : Session) (text : List ℕ) → TakesMount fuse old None new → text ≡ refused_line (codes "NotMounted") → Moves (CallsNow armed) old text new
+  untold_moves armed fuse old new text takes said = λ state stands.
       let none : IsMountOf state.mounted None = subst (λ (o : Option (Mount RegionState)). IsMountOf state.mounted o) takes.0 stands.mounted in
       (state, inl (by state.mounted none state.region state), subst (λ (s : Session). StandsFor s state) (sym takes.1) stands) where
-        by : (mounted : Option Region) → IsMountOf mounted None → (region : Option Region) (state : State) → CallsMounted (asks state.time) (makes state.time) (logs state.time) path mounted region state text state
+        by : (mounted : Option Region) → IsMountOf mounted None → (region : Option Region) (state : State) → CallsMounted (asks state.time) (makes state.time) (logs state.time) line path mounted region state text state
         by None is region state = (said, refl)
         by (Some R) is region state = absurd is
 
@@ -146,24 +157,18 @@ module _ (asks : ℕ → Asks) (makes : ℕ → Makes) (logs : ℕ → Logs) (pa
       by (Some R) is = fused fuse R takes.0 is
 
     -- the session that is left stands for a state, by what it has in store
-    stands_with : (store : Store) (next : State) → new ≡ record mid { store = Some store } → next.region ≡ Some (memory_in store).region → IsMountOf next.mounted (mount_in (Some store)) → next.time ≡ state.time → next.last ≡ state.last → next.armed ≡ state.armed → StandsFor new next
-    stands_with store next is region mounted time last armed =
+    stands_with : (store : Store) (next : State) → new ≡ record mid { store = Some store } → next.region ≡ Some (memory_in store).region → IsMountOf next.mounted (mount_in (Some store)) → next.time ≡ state.time → next.last ≡ state.last → next.armed ≡ state.armed → IsSettled (memory_in store) → StandsFor new next
+    stands_with store next is region mounted time last armed settled =
         subst (λ (s : Session). StandsFor s next) (sym (is ∙ ap (λ (s : Session). record s { store = Some store }) takes.3)) (record {
           region = region;
           mounted = mounted;
           time = time ∙ stands.time;
           last = last ∙ stands.last;
           armed = armed ∙ stands.armed;
+          settled = settled;
         })
 
-    stopped_here : (memory : RegionState) (text : List ℕ) → size memory.region ≡ size m.memory.region → text ≡ stopped_line → (next : State) → next ≡ record state { region = Some memory.region; mounted = None } → StopsMounted state.mounted state.region state text next
-    stopped_here memory text long said next is = by state.mounted is_mounted state.region here where
-      by : (mounted : Option Region) → IsMountOf mounted (Some m) → (region : Option Region) → region ≡ Some m.memory.region → StopsMounted mounted region state text next
-      by None is region at = absurd is
-      by (Some R) shows None at = absurd (cc)
-      by (Some R) shows (Some S) at = (let same : S ≡ m.memory.region = cc in (memory.region, long ∙ ap size (sym same), said, is))
-
-    module _ (answer : Result (Unit {0}) Refusal) (called : Called (asks state.time) (makes state.time) (logs state.time) path m n answer) where
+    module _ (answer : Result A Refusal) (called : Called (asks state.time) (makes state.time) (logs state.time) (stops state.time) path m n answer) where
       read_only : m.read_only ≡ has_faults m.faults
       read_only = sym called.keeps.read_only ∙ called.kept.writes ∙ ap has_faults called.keeps.faults
 
@@ -187,8 +192,8 @@ module _ (asks : ℕ → Asks) (makes : ℕ → Makes) (logs : ℕ → Logs) (pa
       same_seen = λ i. record (seen m) { read_only = read_only i }
 
       -- what the call leaves, where it was done
-      leaves : answer ≡ Ok tt → n.stopped ≡ false → n.faults ≡ [] → (names : List (List ℕ)) → IsPath path names → LeavesTree m.memory.region n.memory.region seen_here (makes state.time m.memory.region seen_here names)
-      leaves is runs clear names says = (let own = shows_own n called.kept runs clear in record {
+      leaves : (x : A) → answer ≡ Ok x → n.stopped ≡ false → n.faults ≡ [] → (names : List (List ℕ)) → IsPath path names → LeavesTree m.memory.region n.memory.region seen_here (makes state.time m.memory.region seen_here names)
+      leaves x is runs clear names says = (let own = shows_own n called.kept runs clear in record {
         as_long = called.as_long;
         after = told n.sup n.rows n.free own.doubled n.faults;
         shown = own.shown;
@@ -199,19 +204,20 @@ module _ (asks : ℕ → Asks) (makes : ℕ → Makes) (logs : ℕ → Logs) (pa
             (subst (λ r. OnOk r (SameTree (tree_of n.memory.region n.rows) (makes state.time m.memory.region (seen m) names))) is (called.changed names says));
       })
 
-      does : (R : Region) (shows : ShowsOutcome R m) → answer ≡ Ok tt → n.stopped ≡ false → n.faults ≡ [] → (p : Path) (says : Says path p) → (p ≡ None → ⊥) → first_refusal (called.answers p says).tests ≡ None → (next : State) (text : List ℕ) → text ≡ ok_line
-          → next ≡ record state { region = Some n.memory.region; mounted = Some n.memory.region } → DoesCall (asks state.time) (makes state.time) (logs state.time) R m.memory.region path state text next
+      does : (x : A) (R : Region) (shows : ShowsOutcome R m) → answer ≡ Ok x → n.stopped ≡ false → n.faults ≡ [] → (p : Path) (says : Says path p) → (p ≡ None → ⊥) → first_refusal (called.answers p says).tests ≡ None → (next : State) (text : List ℕ) → text ≡ line x
+          → next ≡ record state { region = Some n.memory.region; mounted = Some n.memory.region } → DoesCall (asks state.time) (makes state.time) (logs state.time) line R m.memory.region path state text next
       unfolding asked
-      does R shows is runs clear None says named none next text said left = absurd (named refl)
-      does R shows is runs clear (Some names) says named none next text said left = (
+      does x R shows is runs clear None says named none next text said left = absurd (named refl)
+      does x R shows is runs clear (Some names) says named none next text said left = (
         asked R shows (Some names) says,
         none,
         names,
         refl,
         n.memory.region,
-        leaves is runs clear names says,
-        subst (λ (k : Mount ⊤). logs state.time m.memory.region k names n.memory.region) same_seen
-            (subst (λ r. OnOk r (logs state.time m.memory.region (seen m) names n.memory.region)) is (called.logged names says)),
+        leaves x is runs clear names says,
+        x,
+        subst (λ (k : Mount ⊤). logs state.time x m.memory.region k names n.memory.region) same_seen
+            (subst (λ r. IfOk r (λ y. logs state.time y m.memory.region (seen m) names n.memory.region)) is (called.logged names says)),
         said,
         left,
       )
@@ -223,32 +229,32 @@ module _ (asks : ℕ → Asks) (makes : ℕ → Makes) (logs : ℕ → Logs) (pa
         by (Some R) shows = shows.runs
 
       -- a call that was done leaves a mount that runs, without a fault
-      clear_after : answer ≡ Ok tt → (p : Path) (says : Says path p) → (first_refusal (called.answers p says).tests ≡ None) × (n.stopped ≡ false) × (n.faults ≡ [])
-      clear_after is p says =
+      clear_after : (x : A) → answer ≡ Ok x → (p : Path) (says : Says path p) → (first_refusal (called.answers p says).tests ≡ None) × (n.stopped ≡ false) × (n.faults ≡ [])
+      clear_after x is p says =
           let answers = called.answers p says in
           let none : first_refusal answers.tests ≡ None = subst (λ r. OnOk r (first_refusal answers.tests ≡ None)) is answers.allowed in
-          let runs : n.stopped ≡ false = not_true n.stopped (λ stops. (let wrong : Ok tt ≡ Err Stopped = sym is ∙ ((called.stopped runs_before).0 stops).0 in cc)) in
+          let runs : n.stopped ≡ false = not_true n.stopped (λ stops. (let wrong : Ok x ≡ Err Stopped = sym is ∙ ((called.stopped runs_before).0 stops).0 in cc)) in
           (none, runs, faultless called.kept (called.keeps.read_only ∙ answers.writes none))
 
       -- the call on what is mounted
-      by_mount : (text : List ℕ) (next : State) → ((R : Region) → ShowsOutcome R m → CallsMounted (asks state.time) (makes state.time) (logs state.time) path (Some R) (Some m.memory.region) state text next)
-          → CallsMounted (asks state.time) (makes state.time) (logs state.time) path state.mounted state.region state text next
-      by_mount text next call = subst (λ (x : Option Region). CallsMounted (asks state.time) (makes state.time) (logs state.time) path state.mounted x state text next) (sym here) (by state.mounted is_mounted) where
-        by : (mounted : Option Region) → IsMountOf mounted (Some m) → CallsMounted (asks state.time) (makes state.time) (logs state.time) path mounted (Some m.memory.region) state text next
+      by_mount : (text : List ℕ) (next : State) → ((R : Region) → ShowsOutcome R m → CallsMounted (asks state.time) (makes state.time) (logs state.time) line path (Some R) (Some m.memory.region) state text next)
+          → CallsMounted (asks state.time) (makes state.time) (logs state.time) line path state.mounted state.region state text next
+      by_mount text next call = subst (λ (x : Option Region). CallsMounted (asks state.time) (makes state.time) (logs state.time) line path state.mounted x state text next) (sym here) (by state.mounted is_mounted) where
+        by : (mounted : Option Region) → IsMountOf mounted (Some m) → CallsMounted (asks state.time) (makes state.time) (logs state.time) line path mounted (Some m.memory.region) state text next
         by None is = absurd is
         by (Some R) shows = call R shows
 
       abbrev Moved : Bool → List ℕ → Type 0
-      Moved armed text = (next : State) × Calls armed (asks state.time) (makes state.time) (logs state.time) path state text next × StandsFor new next
+      Moved armed text = (next : State) × CallsTelling line armed (asks state.time) (makes state.time) (logs state.time) (stops state.time) path state text next × StandsFor new next
 
-      done_moves : (armed : Bool) (text : List ℕ) → answer ≡ Ok tt → text ≡ ok_line → PutsMount n mid new → Moved armed text
-      done_moves armed text is said puts =
+      done_moves : (armed : Bool) (x : A) (text : List ℕ) → answer ≡ Ok x → text ≡ line x → PutsMount n mid new → Moved armed text
+      done_moves armed x text is said puts =
           let w = text_says path in
-          let clear = clear_after is w.0 w.1 in
+          let clear = clear_after x is w.0 w.1 in
           let next : State = record state { region = Some n.memory.region; mounted = Some n.memory.region } in (
             next,
-            inl (by_mount text next (λ R shows. inr (does R shows is clear.1 clear.2 w.0 w.1 ((called.answers w.0 w.1).named clear.0) clear.0 next text said refl))),
-            stands_with (stores.Mounted (with_fuse fuses.Off n)) next puts refl (fused fuses.Off n.memory.region n (shows_own n called.kept clear.1 clear.2)) refl refl refl,
+            inl (by_mount text next (λ R shows. inr (does x R shows is clear.1 clear.2 w.0 w.1 ((called.answers w.0 w.1).named clear.0) clear.0 next text said refl))),
+            stands_with (stores.Mounted (with_fuse fuses.Off n)) next puts refl (fused fuses.Off n.memory.region n (shows_own n called.kept clear.1 clear.2)) refl refl refl (called.settled clear.1),
           )
 
       refused_moves : (armed : Bool) (text : List ℕ) (e : Refusal) → answer ≡ Err e → (e ≡ Stopped → ⊥) → (e ≡ Memory → ⊥) → text ≡ refused_line (refusal_word e) → PutsMount n mid new → Moved armed text
@@ -259,7 +265,7 @@ module _ (asks : ℕ → Asks) (makes : ℕ → Makes) (logs : ℕ → Logs) (pa
           let same : SameMount m n = subst (λ r. IfErr r (λ e. (e ≡ Stopped → ⊥) → SameMount m n)) is called.unchanged running in (
             state,
             inl (by_mount text state (λ R shows. inl (asked R shows w.0 w.1, (e, first answers.tests (subst (λ r. IfErr r (λ e. (e ≡ Memory) ⊎ ((e ≡ Stopped) ⊎ (first_refusal answers.tests ≡ Some e)))) is (answers.refused shows.runs)), said), refl))),
-            stands_with (stores.Mounted (with_fuse fuses.Off n)) state puts (here ∙ ap (λ (x : RegionState). Some x.region) (sym same.memory)) (still same state.mounted is_mounted) refl refl refl,
+            stands_with (stores.Mounted (with_fuse fuses.Off n)) state puts (here ∙ ap (λ (x : RegionState). Some x.region) (sym same.memory)) (still same state.mounted is_mounted) refl refl refl (called.settled (same.stopped ∙ runs_before)),
           ) where
             first : (tests : Tests) → (e ≡ Memory) ⊎ ((e ≡ Stopped) ⊎ (first_refusal tests ≡ Some e)) → first_refusal tests ≡ Some e
             first tests (inl memory) = absurd (fits memory)
@@ -270,15 +276,49 @@ module _ (asks : ℕ → Asks) (makes : ℕ → Makes) (logs : ℕ → Logs) (pa
             still same None is = absurd is
             still same (Some R) shows = fused fuses.Off R n (shows_still R m n same shows)
 
-      stopped_moves : (text : List ℕ) → answer ≡ Err Stopped → text ≡ stopped_line → (memory : RegionState) → size memory.region ≡ size n.memory.region → new ≡ record mid { store = Some (stores.Alone memory) } → Moved (not (is_off fuse)) text
-      stopped_moves text is said memory long puts =
-          let next : State = record state { region = Some memory.region; mounted = None } in (
+      -- a call that was stopped is one by a path, on a mount that may be written
+      writable : IsTrue n.stopped → m.read_only ≡ false
+      writable stops = not_true m.read_only (λ locked. not_stopped (called.read_only locked) runs_before stops)
+
+      -- what it leaves
+      stopped_call : (R : Region) (shows : ShowsOutcome R m) → IsTrue n.stopped → (left : RegionState) → MayBeLeft n.memory.region (fenced_or_last n.memory) left.region → (text : List ℕ) → text ≡ stopped_line → (next : State) → next ≡ record state { region = Some left.region; mounted = None }
+          → StopsCall (asks state.time) (makes state.time) (stops state.time) R m.memory.region path state text next
+      unfolding asked
+      stopped_call R shows stopped left may text said next is = by (text_says path) where
+        by : (p : Path) × Says path p → StopsCall (asks state.time) (makes state.time) (stops state.time) R m.memory.region path state text next
+        by (None, says) = absurd (not_stopped (called.bad_text says) runs_before stopped)
+        by (Some names, says) = (
+          asked R shows (Some names) says,
+          sym read_only ∙ writable stopped,
+          names,
+          refl,
+          left.region,
+          left_size n.memory.region (fenced_or_last n.memory) left.region may ∙ called.as_long,
+          subst (λ (k : Mount ⊤). LeavesCall (makes state.time) (stops state.time) m.memory.region k names left.region) same_seen
+              (called.any_stop names says runs_before (writable stopped) stopped left.region may),
+          said,
+          is,
+        )
+
+      by_stopped : IsTrue n.stopped → (left : RegionState) → MayBeLeft n.memory.region (fenced_or_last n.memory) left.region → (text : List ℕ) → text ≡ stopped_line → (next : State) → next ≡ record state { region = Some left.region; mounted = None }
+          → StopsMounted (asks state.time) (makes state.time) (stops state.time) path state.mounted state.region state text next
+      by_stopped stopped left may text said next is = subst (λ (x : Option Region). StopsMounted (asks state.time) (makes state.time) (stops state.time) path state.mounted x state text next) (sym here) (by state.mounted is_mounted) where
+        by : (mounted : Option Region) → IsMountOf mounted (Some m) → StopsMounted (asks state.time) (makes state.time) (stops state.time) path mounted (Some m.memory.region) state text next
+        by None is = absurd is
+        by (Some R) shows = stopped_call R shows stopped left may text said next is
+
+      stopped_moves : (text : List ℕ) → answer ≡ Err Stopped → text ≡ stopped_line → (left : RegionState) → MayBeLeft n.memory.region (fenced_or_last n.memory) left.region → IsSettled left → new ≡ record mid { store = Some (stores.Alone left) } → Moved (not (is_off fuse)) text
+      stopped_moves text is said left may settled puts =
+          let next : State = record state { region = Some left.region; mounted = None } in (
             next,
-            inr (armed, stopped_here memory text (long ∙ called.as_long) said next refl),
-            stands_with (stores.Alone memory) next puts refl tt refl refl refl,
+            inr (armed, by_stopped stopped left may text said next refl),
+            stands_with (stores.Alone left) next puts refl tt refl refl refl settled,
           ) where
+            stopped : IsTrue n.stopped
+            stopped = (called.stopped runs_before).1 is
+
             burnt : n.memory.burnt ≡ true
-            burnt = (let stops = (called.stopped runs_before).1 is in ((called.stopped runs_before).0 stops).1)
+            burnt = ((called.stopped runs_before).0 stopped).1
 
             armed : IsTrue (not (is_off fuse))
             armed = can_burn (is_off fuse) (λ off. (
@@ -286,20 +326,47 @@ module _ (asks : ℕ → Asks) (makes : ℕ → Makes) (logs : ℕ → Logs) (pa
                 let after = steady_unburnt n.memory (called.steady before) in
                 let wrong : true ≡ false = sym burnt ∙ after in cc))
 
-      by_answer : (r : Result (Unit {0}) Refusal) → answer ≡ r → (text : List ℕ) → SettlesCall n r mid text new → Moved (not (is_off fuse)) text
-      by_answer (Ok done) is text settles = done_moves (not (is_off fuse)) text is settles.0 settles.1
-      by_answer (Err e) is text (inl s) = stopped_moves text (is ∙ ap (λ (x : Refusal). Err x) s.0) s.1 s.2 s.3 s.4
+      by_answer : (r : Result A Refusal) → answer ≡ r → (text : List ℕ) → SettlesCall line n r mid text new → Moved (not (is_off fuse)) text
+      by_answer (Ok x) is text settles = done_moves (not (is_off fuse)) x text is settles.0 settles.1
+      by_answer (Err e) is text (inl s) = stopped_moves text (is ∙ ap (λ (x : Refusal). Err x) s.0) s.1 s.2 s.3 s.4 s.5
       by_answer (Err e) is text (inr s) = refused_moves (not (is_off fuse)) text e is s.0 s.1 s.2 s.3
 
   -- A call on what is mounted, by what its contract says.
-  pub called_moves : (fuse : Fuse) (old mid new : Session) (m n : Mount RegionState) (answer : Result (Unit {0}) Refusal) (text : List ℕ) → TakesMount fuse old (Some m) mid → Called (asks mid.time) (makes mid.time) (logs mid.time) path m n answer
-      → SettlesCall n answer mid text new → Moves (CallsNow (not (is_off fuse))) old text new
-  called_moves fuse old mid new m n answer text takes called settles = λ state stands.
+  pub telling_moves : (fuse : Fuse) (old mid new : Session) (m n : Mount RegionState) (answer : Result A Refusal) (text : List ℕ) → TakesMount fuse old (Some m) mid → Called (asks mid.time) (makes mid.time) (logs mid.time) (stops mid.time) path m n answer
+      → SettlesCall line n answer mid text new → Moves (CallsNow (not (is_off fuse))) old text new
+  telling_moves fuse old mid new m n answer text takes called settles = λ state stands.
       by_answer fuse old mid new m n takes state stands answer
-      (subst (λ (time : ℕ). Called (asks time) (makes time) (logs time) path m n answer) (at_time fuse old mid new m n takes state stands) called) answer refl text settles
+      (subst (λ (time : ℕ). Called (asks time) (makes time) (logs time) (stops time) path m n answer) (at_time fuse old mid new m n takes state stands) called) answer refl text settles
+
+-- A call that answers `ok`.
+module _ (asks : ℕ → Asks) (makes : ℕ → Makes ⊤) (logs : ℕ → Logs ⊤) (path : List ℕ) where
+  abbrev CallsSo : Bool → State → List ℕ → State → Type 0
+  CallsSo armed state text next = Calls armed (asks state.time) (makes state.time) (logs state.time) path state text next
+
+  pub uncalled_moves : (armed : Bool) (fuse : Fuse) (old new : Session) (text : List ℕ) → TakesMount fuse old None new → text ≡ refused_line (codes "NotMounted") → Moves (CallsSo armed) old text new
+  uncalled_moves = untold_moves (λ (done : Unit {0}). ok_line) asks makes (λ time done. logs time) logs path
+
+  pub called_moves : (fuse : Fuse) (old mid new : Session) (m n : Mount RegionState) (answer : Result (Unit {0}) Refusal) (text : List ℕ) → TakesMount fuse old (Some m) mid → Called (asks mid.time) (makes mid.time) (λ done. logs mid.time) (logs mid.time) path m n answer
+      → SettlesCall (λ done. ok_line) n answer mid text new → Moves (CallsSo (not (is_off fuse))) old text new
+  called_moves = telling_moves (λ (done : Unit {0}). ok_line) asks makes (λ time done. logs time) logs path
+
+  -- a call that no fuse could stop moves as one that a fuse could
+  pub calm_moves : (armed : Bool) (old new : Session) (text : List ℕ) → Moves (CallsSo false) old text new → Moves (CallsSo armed) old text new
+  calm_moves armed old new text moves = λ state stands. (let w = moves state stands in (w.0, calm state w.0 w.1, w.2)) where
+    calm : (state next : State) → CallsSo false state text next → CallsSo armed state text next
+    calm state next (inl done) = inl done
+    calm state next (inr ends) = absurd (let never = ends.0 in cc)
+
+-- without a fuse nothing is stopped
+pub never_stops : (there m n : Mount RegionState) → m ≡ with_fuse fuses.Off there → (IsTrue (is_steady m.memory) → IsTrue (is_steady n.memory)) → (IsTrue n.stopped → IsTrue n.memory.burnt) → IsTrue n.stopped → ⊥
+never_stops there m n is steady burns stops =
+    let before : IsTrue (is_steady m.memory) = subst (λ (k : Mount RegionState). IsTrue (is_steady k.memory)) (sym is) refl in
+    let after : n.memory.burnt ≡ false = steady_unburnt n.memory (steady before) in
+    let burnt : n.memory.burnt ≡ true = burns stops in
+    (cc)
 
 -- A call by two paths, where it is one by the first for whatever the second says.
-pub two_moves : (asks : Path → Asks) (makes : ℕ → Path → Makes) (logs : ℕ → Path → Logs) (path other : List ℕ) (armed : Bool) (old new : Session) (text : List ℕ)
+pub two_moves : (asks : Path → Asks) (makes : ℕ → Path → Makes ⊤) (logs : ℕ → Path → Logs ⊤) (path other : List ℕ) (armed : Bool) (old new : Session) (text : List ℕ)
     → ((q : Path) → Says other q → Moves (λ state said next. Calls armed (asks q) (makes state.time q) (logs state.time q) path state said next) old text new)
     → Moves (λ state said next. CallsByTwo armed asks (makes state.time) (logs state.time) path other state said next) old text new
 two_moves asks makes logs path other armed old new text moves = λ state stands. (let w = text_says other in let moved = moves w.0 w.1 state stands in (moved.0, (w.0, w.1, moved.1), moved.2))

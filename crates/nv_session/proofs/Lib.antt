@@ -3,8 +3,10 @@ pub mod Told
 pub mod Alike
 pub mod OneStep
 mod SameShown
-mod Settled
+pub mod Settled
 mod Calling
 mod Asking
+pub mod Cleaned
 mod OneCall
+mod OneClean
 mod WriteTests

@@ -4,6 +4,7 @@ use Rattle.std.specs.Prelude.{codes}
 use Rattle.std.specs.Option.{MatchOption}
 use Rattle.nv_region.specs.Region.{Region, size, put}
 use Rattle.nv_region.specs.RegionState.{RegionState, is_off, fenced_or_last}
+use Rattle.nv_region.specs.declared.memory.Fuse.{Fuse}
 use Rattle.nv_region.specs.Stops.{Choices, MayBeLeft, LeavesOnly}
 use Rattle.nv_super.specs.Super.{IsSuper}
 use Rattle.nv_super.specs.declared.superblock.Super.{Super}
@@ -43,7 +44,7 @@ use Rattle.nv_line.specs.Request.{Request}
 use Rattle.nv_session.specs.Made.{MayMake}
 use Rattle.nv_session.specs.Machine as machine
 use Rattle.nv_session.specs.Machine.{State, zeros, Formats, StopsFormat, StopsRecovery, StopsRegion, MayStop, Cuts, Replays, Pokes, ShowsPart, ShowsMounted, Reads, ReadsMounted, has_word, RecoversRegion, RefusesSuper, Unmounts, front, Does, Step}
-use Rattle.nv_session.specs.Sessions.{StandsFor, Moves, Fails, Settles, CanMount, ShowsOutcome, IsMountOf, region_in, mount_in, is_armed}
+use Rattle.nv_session.specs.Sessions.{StandsFor, Moves, Fails, Settles, CanMount, ShowsOutcome, IsMountOf, HoldsSettled, IsSettled, memory_in, region_in, mount_in, is_armed}
 use Rattle.nv_session.specs.declared.making.Made.TheVariants as made
 use Rattle.nv_session.specs.declared.store.Store.{Store}
 use Rattle.nv_session.specs.declared.store.Store.TheVariants as stores
@@ -54,14 +55,15 @@ use Rattle.nv_session.specs.declared.session.Session.{Session}
 abbrev alone : Session → RegionState → Session
 alone old memory = record old { store = Some (stores.Alone memory) }
 
-alone_stands : (R : Region) (memory : RegionState) (old new : Session) (state : State) → StandsFor old state → memory.region ≡ R → new ≡ alone old memory
+alone_stands : (R : Region) (memory : RegionState) (old new : Session) (state : State) → StandsFor old state → memory.region ≡ R → IsSettled memory → new ≡ alone old memory
     → StandsFor new (record state { region = Some R; mounted = None })
-alone_stands R memory old new state stands here is = subst (λ (s : Session). StandsFor s (record state { region = Some R; mounted = None })) (sym is) (record {
+alone_stands R memory old new state stands here settled is = subst (λ (s : Session). StandsFor s (record state { region = Some R; mounted = None })) (sym is) (record {
   region = ap (λ (x : Region). Some x) (sym here);
   mounted = tt;
   time = stands.time;
   last = stands.last;
   armed = stands.armed;
+  settled = settled;
 })
 
 -- ---- a command runs with the stop that was set
@@ -75,6 +77,7 @@ disarmed_moves stop request old mid new text was is none moves = λ state stands
       time = stands.time;
       last = stands.last;
       armed = sym none;
+      settled = stands.settled;
     }) in
     let w = moves (record state { armed = false }) at in
     let same : is_armed stop ≡ state.armed = ap is_armed was ∙ sym stands.armed in
@@ -82,12 +85,12 @@ disarmed_moves stop request old mid new text was is none moves = λ state stands
 
 -- ---- a new region
 
-pub makes_moves : (armed : Bool) (cpus blocks tables : ℕ) (memory : RegionState) (old new : Session) (text : List ℕ) → IsFormatted (zeros blocks) memory.region (fresh_super (zeros blocks) cpus tables) old.time
+pub makes_moves : (armed : Bool) (cpus blocks tables : ℕ) (memory : RegionState) (old new : Session) (text : List ℕ) → IsFormatted (zeros blocks) memory.region (fresh_super (zeros blocks) cpus tables) old.time → IsSettled memory
     → new ≡ alone old memory → text ≡ ok_line → Moves (MayStop armed (Formats cpus blocks tables) (StopsFormat cpus blocks tables)) old text new
-makes_moves armed cpus blocks tables memory old new text formatted is said = λ state stands. (
+makes_moves armed cpus blocks tables memory old new text formatted settled is said = λ state stands. (
   record state { region = Some memory.region; mounted = None },
   inl (inr (memory.region, rw stands.time formatted, said, refl)),
-  alone_stands memory.region memory old new state stands refl is,
+  alone_stands memory.region memory old new state stands refl settled is,
 )
 
 pub format_refused_moves : (armed : Bool) (cpus blocks tables : ℕ) (refusal : FormatRefusal) (old new : Session) (text : List ℕ) → IsFormatRefusal (zeros blocks) cpus tables refusal → refusal ≢ Stopped
@@ -100,7 +103,7 @@ pub format_stopped_moves : (armed : Bool) (cpus blocks tables : ℕ) (memory : R
 format_stopped_moves armed cpus blocks tables memory old new text may is said = λ state stands. (
   record state { region = Some memory.region; mounted = None },
   inr (may.0, (may.1, memory.region, may.2, rw stands.time may.3, said, refl)),
-  alone_stands memory.region memory old new state stands refl is,
+  alone_stands memory.region memory old new state stands refl may.4 is,
 )
 
 -- what a stop leaves is as long
@@ -114,13 +117,14 @@ can_burn false burns = refl
 
 -- what is kept where a format of zeros was stopped
 pub may_stop : (stop : stops.Stop) (cpus blocks tables time : ℕ) (old new left : RegionState) → old.region ≡ zeros blocks → (is_off stop.fuse ≡ true → ⊥) → IsFormatRefusal old.region cpus tables Stopped
-    → size new.region ≡ size old.region → LeavesOnly new.region (fenced_or_last new) (FormatLeaves old.region (fresh_super old.region cpus tables) time) → MayBeLeft new.region (fenced_or_last new) left.region
+    → size new.region ≡ size old.region → LeavesOnly new.region (fenced_or_last new) (FormatLeaves old.region (fresh_super old.region cpus tables) time) → MayBeLeft new.region (fenced_or_last new) left.region → IsSettled left
     → MayMake (is_armed stop) cpus blocks tables time (made.Stopped left)
-may_stop stop cpus blocks tables time old new left is burns refused long only may = (
+may_stop stop cpus blocks tables time old new left is burns refused long only may settled = (
   can_burn (is_off stop.fuse) burns,
   subst (λ (R : Region). CanFormat R cpus tables) is refused.first,
   left_size new.region (fenced_or_last new) left.region may ∙ long ∙ ap size is,
   subst (λ (R : Region). FormatLeaves R (fresh_super R cpus tables) time left.region) is (only left.region may),
+  settled,
 )
 
 -- ---- a recovery
@@ -132,7 +136,7 @@ no_region_moves armed workers schedule old new store text none taken is said = �
     let gone : state.region ≡ None = stands.region ∙ ap region_in none in (
       record state { mounted = None; last = lasts.Refused },
       inl (rw gone (said, refl)),
-      subst (λ (s : Session). StandsFor s (record state { mounted = None; last = lasts.Refused })) (sym (is ∙ ap (λ (x : Option Store). record old { store = x; last = lasts.Refused }) taken)) (record { region = gone; mounted = tt; time = stands.time; last = refl; armed = stands.armed }),
+      subst (λ (s : Session). StandsFor s (record state { mounted = None; last = lasts.Refused })) (sym (is ∙ ap (λ (x : Option Store). record old { store = x; last = lasts.Refused }) taken)) (record { region = gone; mounted = tt; time = stands.time; last = refl; armed = stands.armed; settled = tt }),
     )
 
 there : (region : Option Region) (R : Region) (workers : ℕ) (schedule : List ℕ) (state : State) (text : List ℕ) (next : State) → region ≡ Some R
@@ -180,58 +184,67 @@ shows_outcome R S r m came left here is runs = record {
   runs = runs;
 }
 
+-- the memory that was in the store has nothing pending with another fuse either
+pub fused_settled : (store : Option Store) (held : Store) (memory fused : RegionState) (fuse : Fuse) → store ≡ Some held → HoldsSettled store → memory ≡ memory_in held → fused ≡ record memory { fuse = fuse; burnt = false } → IsSettled fused
+fused_settled store held memory fused fuse there settled is with_fuse =
+    let here : IsSettled (memory_in held) = subst HoldsSettled there settled in
+    let taken : IsSettled memory = subst IsSettled (sym is) here in
+    subst IsSettled (sym with_fuse) taken
+
 -- what is put back after it
-module _ (armed : Bool) (R S : Region) (workers : ℕ) (schedule : List ℕ) (old mid new : Session) (text : List ℕ) (here : region_in old.store ≡ Some R) (taken : mid ≡ record old { store = None }) where
-  failed_stands : (T : Region) (memory : RegionState) (state : State) → StandsFor old state → memory.region ≡ T → Fails memory mid new → StandsFor new (record state { region = Some T; mounted = None; last = lasts.Refused })
-  failed_stands T memory state stands left fails = subst (λ (s : Session). StandsFor s (record state { region = Some T; mounted = None; last = lasts.Refused })) (sym (fails ∙ (λ i. record (taken i) { store = Some (stores.Alone memory); last = lasts.Refused }))) (record {
+module _ (armed : Bool) (R : Region) (S : RegionState) (workers : ℕ) (schedule : List ℕ) (old mid new : Session) (text : List ℕ) (here : region_in old.store ≡ Some R) (taken : mid ≡ record old { store = None }) where
+  failed_stands : (T : Region) (memory : RegionState) (state : State) → StandsFor old state → memory.region ≡ T → IsSettled memory → Fails memory mid new → StandsFor new (record state { region = Some T; mounted = None; last = lasts.Refused })
+  failed_stands T memory state stands left settled fails = subst (λ (s : Session). StandsFor s (record state { region = Some T; mounted = None; last = lasts.Refused })) (sym (fails ∙ (λ i. record (taken i) { store = Some (stores.Alone memory); last = lasts.Refused }))) (record {
     region = ap (λ (x : Region). Some x) (sym left);
     mounted = tt;
     time = stands.time;
     last = refl;
     armed = stands.armed;
+    settled = settled;
   })
 
-  pub settles_moves : (answer : Option Answer) → MayEnd R workers schedule answer S → (answer ≡ None → IsTrue armed) → Settles S answer mid text new → Moves (MayStop armed (Replays workers schedule) (StopsRecovery workers schedule)) old text new
-  settles_moves None may burnt is = λ state stands. (
+  pub settles_moves : (answer : Option Answer) → MayEnd R workers schedule answer S.region → (answer ≡ None → IsTrue armed) → ((s : Super) → IsSuper R s → LeavesOnly S.region (fenced_or_last S) (UndoesAsBefore R)) → Settles S answer mid text new → Moves (MayStop armed (Replays workers schedule) (StopsRecovery workers schedule)) old text new
+  settles_moves None may burnt stops is = λ state stands. (
     record state { region = Some is.1.region; mounted = None; last = lasts.Refused },
     inr (
       burnt refl,
       subst (λ x. StopsRegion x workers schedule state text (record state { region = Some is.1.region; mounted = None; last = lasts.Refused })) (sym (stands.region ∙ here))
-          (may.0, may.1, is.1.region, is.2 ∙ same_size R S (may.2), is.0, refl),
+          (let undoes : UndoesAsBefore R is.1.region = stops may.2.0 may.2.1 is.1.region is.2 in (may.0, may.1, is.1.region, same_size R is.1.region undoes, undoes, is.0, refl)),
     ),
-    failed_stands is.1.region is.1 state stands refl is.3,
+    failed_stands is.1.region is.1 state stands refl is.3 is.4,
   )
-  settles_moves (Some (answers.Refused refusal)) may burnt is = λ state stands. (
+  settles_moves (Some (answers.Refused refusal)) may burnt stops is = λ state stands. (
     record state { mounted = None; last = lasts.Refused },
     inl (there state.region R workers schedule state text _ (stands.region ∙ here) (refused_step R workers schedule refusal state text _ may.0 (is.0, refl))),
-    subst (λ (x : Option Region). StandsFor new (record state { region = x; mounted = None; last = lasts.Refused })) (sym (stands.region ∙ here)) (failed_stands R is.1 state stands (is.2 ∙ may.1) is.3),
+    subst (λ (x : Option Region). StandsFor new (record state { region = x; mounted = None; last = lasts.Refused })) (sym (stands.region ∙ here)) (failed_stands R is.1 state stands (is.2 ∙ may.1) is.3 is.4),
   )
-  settles_moves (Some (answers.Recovered r)) may burnt is = λ state stands. (
-    record state { region = Some S; mounted = Some R; last = how_it_went r.faults.items },
+  settles_moves (Some (answers.Recovered r)) may burnt stops is = λ state stands. (
+    record state { region = Some S.region; mounted = Some R; last = how_it_went r.faults.items },
     inl (there state.region R workers schedule state text _ (stands.region ∙ here) (accepted R workers schedule state text _ may.0 may.1
         (inr (outcome_of r, may.2, is.0, (λ i. record { region = Some (may.3 i); mounted = Some R; time = state.time; last = how_it_went r.faults.items; armed = state.armed }))))),
     (let m = is.1 in record {
       region = ap (λ (x : Region). Some x) (sym m.region) ∙ sym (ap region_in m.store);
-      mounted = rw m.store (shows_outcome R S r m.mount may.2 (left_outcome R S r may.2 may.3) m.region m.told m.runs);
+      mounted = rw m.store (shows_outcome R S.region r m.mount may.2 (left_outcome R S.region r may.2 may.3) m.region m.told m.runs);
       time = stands.time ∙ ap (λ (s : Session). s.time) (sym taken) ∙ sym m.time;
       last = sym m.last;
       armed = stands.armed ∙ ap (λ (s : Session). is_armed s.stop) (sym taken) ∙ ap is_armed (sym m.stop);
+      settled = rw m.store m.settled;
     }),
   )
 
 -- ---- a cut
 
 pub cuts_moves : (R : Region) (length : ℕ) (memory : RegionState) (old new : Session) (text : List ℕ) → region_in old.store ≡ Some R → nat_le length (size R) ≡ true
-    → memory.region ≡ front R length → new ≡ alone old memory → text ≡ ok_line → Moves (Cuts length) old text new
-cuts_moves R length memory old new text here within cut is said = λ state stands.
-    (record state { region = Some (front R length); mounted = None }, rw (stands.region, here, within) (said, refl), alone_stands (front R length) memory old new state stands cut is)
+    → memory.region ≡ front R length → IsSettled memory → new ≡ alone old memory → text ≡ ok_line → Moves (Cuts length) old text new
+cuts_moves R length memory old new text here within cut settled is said = λ state stands.
+    (record state { region = Some (front R length); mounted = None }, rw (stands.region, here, within) (said, refl), alone_stands (front R length) memory old new state stands cut settled is)
 
 -- ---- a store
 
-pub pokes_moves : (R : Region) (at value : ℕ) (memory : RegionState) (old new : Session) (text : List ℕ) → region_in old.store ≡ Some R → has_word R at ≡ true → memory.region ≡ put R at value
+pub pokes_moves : (R : Region) (at value : ℕ) (memory : RegionState) (old new : Session) (text : List ℕ) → region_in old.store ≡ Some R → has_word R at ≡ true → memory.region ≡ put R at value → IsSettled memory
     → new ≡ alone old memory → text ≡ ok_line → Moves (Pokes at value) old text new
-pokes_moves R at value memory old new text here word stored is said = λ state stands.
-    (record state { region = Some (put R at value); mounted = None }, rw (stands.region, here, word) (said, refl), alone_stands (put R at value) memory old new state stands stored is)
+pokes_moves R at value memory old new text here word stored settled is said = λ state stands.
+    (record state { region = Some (put R at value); mounted = None }, rw (stands.region, here, word) (said, refl), alone_stands (put R at value) memory old new state stands stored settled is)
 
 -- ---- what is shown
 

@@ -19,7 +19,7 @@ use Rattle.nv_calls.specs.nv_named.Read.{row_of}
 use Rattle.nv_tree.specs.Path.{last_name}
 use Rattle.nv_tree.specs.Calls.{links_at}
 use Rattle.nv_tree.specs.Tree.{Tree, found, in_use, last_in, walk}
-use Rattle.nv_tree.specs.Refusals.{Path, Tests, World, first_refusal, refusal_word, target, writing, count_at, is_bad, is_dir, is_directory_at, is_missing, is_too_large, has_no_space, passes, walk_tests, create_tests, write_tests, set_size_tests, set_attr_tests, link_tests, unlink_tests, rmdir_tests, rename_tests}
+use Rattle.nv_tree.specs.Refusals.{Path, Tests, World, first_refusal, refusal_word, target, writing, count_at, is_bad, is_dir, is_directory_at, is_missing, is_too_large, has_no_space, passes, walk_tests, clean_tests, create_tests, write_tests, set_size_tests, set_attr_tests, link_tests, unlink_tests, rmdir_tests, rename_tests}
 use Rattle.nv_tree.specs.declared.refusal.Refusal.{Refusal}
 use Rattle.nv_tree.specs.declared.refusal.Refusal.TheVariants.{BadCpu, ReadOnly}
 use Rattle.nv_tree.proofs.Texts.{says_one}
@@ -42,7 +42,8 @@ use Rattle.nv_calls.specs.WriteCall.{WriteNeeds}
 use Rattle.nv_steps.specs.Writes.{NeedsBlocks, data_blocks, data_entries, plan_of}
 use Rattle.nv_steps.proofs.Takes.{takes_less, takes_once}
 use Rattle.nv_logpage.specs.Append.{needed}
-use Rattle.nv_session.specs.Calls.{Asks, Makes, Logs, Asked, asks_create, asks_write, asks_size, asks_attributes, asks_link, asks_unlink, asks_remove, asks_rename, seen_in}
+use Rattle.nv_calls.specs.Effects.{Makes, Logs}
+use Rattle.nv_session.specs.Calls.{Asks, Asked, asks_create, asks_write, asks_size, asks_attributes, asks_link, asks_unlink, asks_remove, asks_rename, asks_clean, seen_in}
 use Rattle.nv_session.specs.Machine.{State, CallsMounted}
 use Rattle.nv_session.proofs.Alike.{Alike, AreSame, alike_rows, rows_at, walk_alike, found_alike, passed_alike, directory_alike}
 
@@ -240,6 +241,14 @@ module _ (S : Region) (m k : Mount ⊤) (same : SameSeen m k) where
       ∙ ap (λ (w : World). first_refusal (rename_tests w (tree_of S k.rows) cpu p q (rename_blocks k.rows (tree_of S k.rows) p q))) world_same
       ∙ ap (λ (n : ℕ). first_refusal (rename_tests (world_of m) (tree_of S k.rows) cpu p q n)) (rename_needs p q) ∙ rename_front (world_of m) cpu p q _ ∙ ap first_refusal (sym is)
 
+  clean_front : (w : World) (p : Path) → first_refusal (clean_tests w (tree_of S k.rows) p) ≡ first_refusal (clean_tests w (tree_of S m.rows) p)
+  clean_front w None = refl
+  clean_front w (Some names) = rw (walk_alike (tree_of S m.rows) (tree_of S k.rows) alike names 1, found_alike (tree_of S m.rows) (tree_of S k.rows) alike names) refl
+
+  pub clean_one : (p : Path) (tests others : Tests) → asks_clean S m p tests → asks_clean S k p others → first_refusal others ≡ first_refusal tests
+  clean_one p tests others is other = ap first_refusal other
+      ∙ ap (λ (w : World). first_refusal (clean_tests w (tree_of S k.rows) p)) world_same ∙ clean_front (world_of m) p ∙ ap first_refusal (sym is)
+
   -- ---- a write
 
   -- what a write needs of the one it needs of the other
@@ -363,12 +372,16 @@ write_one S m k same count cpu offset bytes time p tests others (a, needs, is) (
 abbrev pub AskedOnce : Asks → Type 0
 AskedOnce asks = (S : Region) (m k : Mount ⊤) → SameSeen m k → length m.free.pools ≡ m.sup.cpus → (p : Path) (tests others : Tests) → asks S m p tests → asks S k p others → first_refusal others ≡ first_refusal tests
 
-module _ (asks : Asks) (makes : Makes) (logs : Logs) (path : List ℕ) (one : AskedOnce asks) where
+-- and what is left of the logs of such mounts is answered by one line
+abbrev pub AnsweredOnce : {A : Type 0} → (A → List ℕ) → (A → Logs ⊤) → Type 0
+AnsweredOnce {A} line logs = (S : Region) (m k : Mount ⊤) → SameSeen m k → (names : List (List ℕ)) (T U : Region) (x y : A) → logs x S m names T → logs y S k names U → line x ≡ line y
+
+module _ {A : Type 0} (line : A → List ℕ) (asks : Asks) (makes : Makes ⊤) (logs : A → Logs ⊤) (path : List ℕ) (one : AskedOnce asks) (answered : AnsweredOnce line logs) where
   asked_one : (R S : Region) (a b : Asked asks R S path) → first_refusal b.tests ≡ first_refusal a.tests
   asked_one R S a b = one S (seen_in a) (seen_in b) (same_seen asks R S path a b) a.of_here.free.pools a.path_is a.tests b.tests a.are
       (subst (λ (p : Path). asks S (seen_in b) p b.tests) (says_one path b.path_is a.path_is b.says a.says) b.are)
 
-  pub called_text : (mounted region : Option Region) (old m n : State) (s t : List ℕ) → CallsMounted asks makes logs path mounted region old s m → CallsMounted asks makes logs path mounted region old t n → s ≡ t
+  pub called_text : (mounted region : Option Region) (old m n : State) (s t : List ℕ) → CallsMounted asks makes logs line path mounted region old s m → CallsMounted asks makes logs line path mounted region old t n → s ≡ t
   called_text None region old m n s t p q = p.0 ∙ sym q.0
   called_text (Some R) None old m n s t p q = absurd p
   called_text (Some R) (Some S) old m n s t (inl p) (inl q) =
@@ -379,4 +392,8 @@ module _ (asks : Asks) (makes : Makes) (logs : Logs) (path : List ℕ) (one : As
       p.1.2 ∙ ap (λ (r : Refusal). refused_line (refusal_word r)) same ∙ sym q.1.2
   called_text (Some R) (Some S) old m n s t (inl p) (inr q) = absurd (let clash : Some p.1.0 ≡ None = sym p.1.1 ∙ sym (asked_one R S p.0 q.0) ∙ q.1 in cc)
   called_text (Some R) (Some S) old m n s t (inr p) (inl q) = absurd (let clash : Some q.1.0 ≡ None = sym q.1.1 ∙ asked_one R S p.0 q.0 ∙ p.1 in cc)
-  called_text (Some R) (Some S) old m n s t (inr p) (inr q) = p.7 ∙ sym q.7
+  called_text (Some R) (Some S) old m n s t (inr p) (inr q) =
+      let asked = p.0 in
+      let other = q.0 in
+      let names : q.2 ≡ p.2 = (let both : Some q.2 ≡ Some p.2 = sym q.3 ∙ says_one path other.path_is asked.path_is other.says asked.says ∙ p.3 in cc) in
+      p.8 ∙ answered S (seen_in asked) (seen_in other) (same_seen asks R S path asked other) p.2 p.4 q.4 p.6 q.6 p.7 (subst (λ (ns : List (List ℕ)). logs q.6 S (seen_in other) ns q.4) names q.7) ∙ sym q.8

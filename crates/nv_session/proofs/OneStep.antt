@@ -6,8 +6,9 @@ use Rattle.nv_super.specs.declared.kind.Kind.TheVariants.{File, Directory}
 use Rattle.nv_tree.proofs.Texts.{says_one}
 use Rattle.nv_paths.specs.Seen.{tree_of}
 use Rattle.nv_session.proofs.Alike.{Alike, alike_rows, stat_one, names_one, bytes_one}
-use Rattle.nv_session.proofs.OneCall.{AskedOnce, called_text, create_one, write_one, size_one, attributes_one, link_one, unlink_one, remove_one, rename_one}
-use Rattle.std.specs.Prelude.{MatchBool, codes, replicate}
+use Rattle.nv_session.proofs.OneCall.{AskedOnce, AnsweredOnce, called_text, clean_one, create_one, write_one, size_one, attributes_one, link_one, unlink_one, remove_one, rename_one}
+use Rattle.nv_session.proofs.OneClean.{clean_answered}
+use Rattle.std.specs.Prelude.{⊤, MatchBool, codes, replicate}
 use Rattle.nv_region.specs.Region.{Region, size, put}
 use Rattle.nv_region.specs.declared.memory.Fuse.{Fuse}
 use Rattle.nv_region.specs.declared.memory.Keep.{Keep}
@@ -18,19 +19,20 @@ use Rattle.nv_format.specs.Format as formats
 use Rattle.nv_format.specs.declared.formatting.FormatRefusal.{FormatRefusal}
 use Rattle.nv_format.proofs.OneAnswer.{one_refusal, not_prevented}
 use Rattle.nv_format.proofs.Determined.{formatted_only}
-use Rattle.nv_line.specs.Request.{Request, Format, Time, Poke, Cut, Recover, Replay, ListNames, Stat, Read, Create, MakeDirectory, Write, SetSize, SetAttributes, Link, Unlink, RemoveDirectory, Rename, Tree, Free, Faults, Report, Peek, Stop}
+use Rattle.nv_line.specs.Request.{Request, Format, Time, Poke, Cut, Recover, Replay, ListNames, Stat, Read, Create, MakeDirectory, Write, SetSize, SetAttributes, Link, Unlink, RemoveDirectory, Rename, Clean, Tree, Free, Faults, Report, Peek, Stop}
 use Rattle.nv_report.specs.nv_outcome.Outcome.{Outcome}
 use Rattle.nv_report.specs.nv_outcome.Same.{SameOutcome}
 use Rattle.nv_report.proofs.nv_outcome.OnlyOne.{same_outcome}
 use Rattle.nv_report.proofs.nv_outcome.SuperOf.{one_fault}
 use Rattle.nv_super.specs.FaultText.{super_fault_name}
-use Rattle.nv_text.specs.Answers.{refused_line}
+use Rattle.nv_text.specs.Answers.{cleaned_line, ok_line, refused_line}
 use Rattle.nv_report.specs.Last.{how_it_went}
 use Rattle.nv_report.specs.declared.part.Part.{Part}
 use Rattle.nv_report.specs.declared.part.Part.TheVariants as parts
 use Rattle.nv_report.proofs.OneText.{recovered_one, part_one}
-use Rattle.nv_session.specs.Machine.{State, Step, Does, IsRefusedAs, Replaces, Unmounts, front, MayStop, has_word, StopsRegion, StopsFormat, StopsRecovery, Recovers, Replays, ReadsMounted, TellsNames, TellsStat, TellsBytes, RefusesSuper, Mounts, RecoversRegion, ShowsMounted, PokesRegion, CutsRegion, Formats, Calls, CallsByTwo, CallsMounted, StopsMounted, file_mode, directory_mode, writes}
-use Rattle.nv_session.specs.Calls.{Asks, Makes, Logs, LogsBytes, LogsUnlink, asks_create, asks_write, asks_size, asks_attributes, asks_link, asks_unlink, asks_remove, asks_rename, makes_inode, makes_bytes, makes_size, makes_attributes, makes_link, makes_unlink, makes_removal, makes_rename, logs_inode, logs_size, logs_attributes, logs_link, logs_removal, logs_rename}
+use Rattle.nv_session.specs.Machine.{State, Step, Does, IsRefusedAs, Replaces, Unmounts, front, MayStop, has_word, StopsRegion, StopsFormat, StopsRecovery, Recovers, Replays, ReadsMounted, TellsNames, TellsStat, TellsBytes, RefusesSuper, Mounts, RecoversRegion, ShowsMounted, PokesRegion, CutsRegion, Formats, Calls, CallsByTwo, CallsMounted, CallsTelling, StopsMounted, file_mode, directory_mode, writes}
+use Rattle.nv_calls.specs.Effects.{logs_page_less, Makes, Logs, LogsBytes, LogsUnlink, makes_inode, makes_bytes, makes_size, makes_attributes, makes_link, makes_unlink, makes_removal, makes_rename, makes_no_change, logs_inode, logs_size, logs_attributes, logs_link, logs_removal, logs_rename}
+use Rattle.nv_session.specs.Calls.{Asks, asks_create, asks_write, asks_size, asks_attributes, asks_link, asks_unlink, asks_remove, asks_rename, asks_clean, finds_page}
 
 -- one text and one state are told
 abbrev pub IsOne : (List ℕ → State → Type 0) → Type 0
@@ -129,6 +131,7 @@ does_one old (Link cpu path other) reads = absurd (cc)
 does_one old (Unlink cpu path) reads = absurd (cc)
 does_one old (RemoveDirectory cpu path) reads = absurd (cc)
 does_one old (Rename cpu path other) reads = absurd (cc)
+does_one old (Clean path) reads = absurd (cc)
 does_one old Tree reads = mounted_one old.mounted parts.Tree old
 does_one old Free reads = mounted_one old.mounted parts.Free old
 does_one old Faults reads = mounted_one old.mounted parts.Faults old
@@ -143,12 +146,15 @@ step_one old request unarmed reads = subst (λ (b : Bool). IsOne (λ s m. Does b
 -- ---- the text of any command
 
 -- without a stop, a call prints one text
-call_text : (asks : Asks) (makes : Makes) (logs : Logs) (path : List ℕ) → AskedOnce asks → (old m n : State) (s t : List ℕ) → Calls false asks makes logs path old s m → Calls false asks makes logs path old t n → s ≡ t
-call_text asks makes logs path one old m n s t (inl p) (inl q) = called_text asks makes logs path one old.mounted old.region old m n s t p q
-call_text asks makes logs path one old m n s t (inl p) (inr q) = absurd (let never = q.0 in cc)
-call_text asks makes logs path one old m n s t (inr p) q = absurd (let never = p.0 in cc)
+telling_text : {A : Type 0} (line : A → List ℕ) (asks : Asks) (makes : Makes ⊤) (logs : A → Logs ⊤) (stops : Logs ⊤) (path : List ℕ) → AskedOnce asks → AnsweredOnce line logs → (old m n : State) (s t : List ℕ) → CallsTelling line false asks makes logs stops path old s m → CallsTelling line false asks makes logs stops path old t n → s ≡ t
+telling_text line asks makes logs stops path one answered old m n s t (inl p) (inl q) = called_text line asks makes logs path one answered old.mounted old.region old m n s t p q
+telling_text line asks makes logs stops path one answered old m n s t (inl p) (inr q) = absurd (let never = q.0 in cc)
+telling_text line asks makes logs stops path one answered old m n s t (inr p) q = absurd (let never = p.0 in cc)
 
-call_text_by_two : (asks : Path → Asks) (makes : Path → Makes) (logs : Path → Logs) (path other : List ℕ) → ((q : Path) → AskedOnce (asks q)) → (old m n : State) (s t : List ℕ) → CallsByTwo false asks makes logs path other old s m → CallsByTwo false asks makes logs path other old t n → s ≡ t
+call_text : (asks : Asks) (makes : Makes ⊤) (logs : Logs ⊤) (path : List ℕ) → AskedOnce asks → (old m n : State) (s t : List ℕ) → Calls false asks makes logs path old s m → Calls false asks makes logs path old t n → s ≡ t
+call_text asks makes logs path one = telling_text (λ (done : Unit {0}). ok_line) asks makes (λ done. logs) logs path one (λ S m k same names T U x y p q. refl)
+
+call_text_by_two : (asks : Path → Asks) (makes : Path → Makes ⊤) (logs : Path → Logs ⊤) (path other : List ℕ) → ((q : Path) → AskedOnce (asks q)) → (old m n : State) (s t : List ℕ) → CallsByTwo false asks makes logs path other old s m → CallsByTwo false asks makes logs path other old t n → s ≡ t
 call_text_by_two asks makes logs path other one old m n s t p q =
     call_text (asks p.0) (makes p.0) (logs p.0) path (one p.0) old m n s t p.2 (subst (λ (x : Path). Calls false (asks x) (makes x) (logs x) path old t n) (says_one other q.0 p.0 q.1 p.1) q.2)
 
@@ -162,6 +168,7 @@ does_text old (Link cpu path other) m n s t p q = call_text_by_two (asks_link cp
 does_text old (Unlink cpu path) m n s t p q = call_text (asks_unlink cpu) (makes_unlink old.time) (LogsUnlink old.time) path (λ S m k same count. unlink_one S m k same cpu) old m n s t p q
 does_text old (RemoveDirectory cpu path) m n s t p q = call_text (asks_remove cpu) (makes_removal old.time) (logs_removal old.time) path (λ S m k same count. remove_one S m k same cpu) old m n s t p q
 does_text old (Rename cpu path other) m n s t p q = call_text_by_two (asks_rename cpu) (makes_rename old.time) (logs_rename old.time) path other (λ r S m k same count. rename_one S m k same cpu r) old m n s t p q
+does_text old (Clean path) m n s t p q = telling_text cleaned_line asks_clean makes_no_change finds_page logs_page_less path (λ S m k same count. clean_one S m k same) clean_answered old m n s t p q
 does_text old (Format cpus blocks tables) m n s t p q = (does_one old (Format cpus blocks tables) refl s t m n p q).0
 does_text old (Time time) m n s t p q = (does_one old (Time time) refl s t m n p q).0
 does_text old (Poke at value) m n s t p q = (does_one old (Poke at value) refl s t m n p q).0
@@ -197,20 +204,23 @@ read_unarmed Tells None region path old m s h = ap armed_of h.1
 read_unarmed Tells (Some R) None path old m s h = absurd h
 read_unarmed Tells (Some R) (Some S) path old m s h = ap armed_of h.5
 
-called_unarmed : (asks : Asks) (makes : Makes) (logs : Logs) (path : List ℕ) (mounted region : Option Region) (old m : State) (s : List ℕ) → CallsMounted asks makes logs path mounted region old s m → m.armed ≡ old.armed
-called_unarmed asks makes logs path None region old m s h = ap armed_of h.1
-called_unarmed asks makes logs path (Some R) None old m s h = absurd h
-called_unarmed asks makes logs path (Some R) (Some S) old m s (inl h) = ap armed_of h.2
-called_unarmed asks makes logs path (Some R) (Some S) old m s (inr h) = ap armed_of h.8
+called_unarmed : {A : Type 0} (line : A → List ℕ) (asks : Asks) (makes : Makes ⊤) (logs : A → Logs ⊤) (path : List ℕ) (mounted region : Option Region) (old m : State) (s : List ℕ) → CallsMounted asks makes logs line path mounted region old s m → m.armed ≡ old.armed
+called_unarmed line asks makes logs path None region old m s h = ap armed_of h.1
+called_unarmed line asks makes logs path (Some R) None old m s h = absurd h
+called_unarmed line asks makes logs path (Some R) (Some S) old m s (inl h) = ap armed_of h.2
+called_unarmed line asks makes logs path (Some R) (Some S) old m s (inr h) = ap armed_of h.9
 
-ended_unarmed : (mounted region : Option Region) (old m : State) (s : List ℕ) → StopsMounted mounted region old s m → m.armed ≡ old.armed
-ended_unarmed None region old m s h = absurd h
-ended_unarmed (Some R) None old m s h = absurd h
-ended_unarmed (Some R) (Some S) old m s h = ap armed_of h.3
+ended_unarmed : (asks : Asks) (makes : Makes ⊤) (stops : Logs ⊤) (path : List ℕ) (mounted region : Option Region) (old m : State) (s : List ℕ) → StopsMounted asks makes stops path mounted region old s m → m.armed ≡ old.armed
+ended_unarmed asks makes stops path None region old m s h = absurd h
+ended_unarmed asks makes stops path (Some R) None old m s h = absurd h
+ended_unarmed asks makes stops path (Some R) (Some S) old m s h = ap armed_of h.8
 
-call_unarmed : (a : Bool) (asks : Asks) (makes : Makes) (logs : Logs) (path : List ℕ) (old m : State) (s : List ℕ) → Calls a asks makes logs path old s m → m.armed ≡ old.armed
-call_unarmed a asks makes logs path old m s (inl h) = called_unarmed asks makes logs path old.mounted old.region old m s h
-call_unarmed a asks makes logs path old m s (inr h) = ended_unarmed old.mounted old.region old m s h.1
+telling_unarmed : {A : Type 0} (line : A → List ℕ) (a : Bool) (asks : Asks) (makes : Makes ⊤) (logs : A → Logs ⊤) (stops : Logs ⊤) (path : List ℕ) (old m : State) (s : List ℕ) → CallsTelling line a asks makes logs stops path old s m → m.armed ≡ old.armed
+telling_unarmed line a asks makes logs stops path old m s (inl h) = called_unarmed line asks makes logs path old.mounted old.region old m s h
+telling_unarmed line a asks makes logs stops path old m s (inr h) = ended_unarmed asks makes stops path old.mounted old.region old m s h.1
+
+call_unarmed : (a : Bool) (asks : Asks) (makes : Makes ⊤) (logs : Logs ⊤) (path : List ℕ) (old m : State) (s : List ℕ) → Calls a asks makes logs path old s m → m.armed ≡ old.armed
+call_unarmed a asks makes logs = telling_unarmed (λ (done : Unit {0}). ok_line) a asks makes (λ done. logs) logs
 
 formatted_unarmed : (a : Bool) (cpus blocks tables : ℕ) (old m : State) (s : List ℕ) → MayStop a (Formats cpus blocks tables) (StopsFormat cpus blocks tables) old s m → m.armed ≡ old.armed
 formatted_unarmed a cpus blocks tables old m s (inl (inl h)) = ap armed_of h.3.1
@@ -242,7 +252,7 @@ recovered_unarmed (Some R) workers schedule old m s h =
 
 stopped_unarmed : (region : Option Region) (workers : ℕ) (schedule : List ℕ) (old m : State) (s : List ℕ) → StopsRegion region workers schedule old s m → m.armed ≡ old.armed
 stopped_unarmed None workers schedule old m s h = absurd h
-stopped_unarmed (Some R) workers schedule old m s h = ap armed_of h.5
+stopped_unarmed (Some R) workers schedule old m s h = ap armed_of h.6
 
 recovery_unarmed : (a : Bool) (workers : ℕ) (schedule : List ℕ) (old m : State) (s : List ℕ) → MayStop a (Replays workers schedule) (StopsRecovery workers schedule) old s m → m.armed ≡ old.armed
 recovery_unarmed a workers schedule old m s (inl h) = recovered_unarmed old.region workers schedule old m s h
@@ -268,6 +278,7 @@ does_unarmed a (Link cpu path new) other old m s h = call_unarmed a (asks_link c
 does_unarmed a (Unlink cpu path) other old m s h = call_unarmed a (asks_unlink cpu) (makes_unlink old.time) (LogsUnlink old.time) path old m s h
 does_unarmed a (RemoveDirectory cpu path) other old m s h = call_unarmed a (asks_remove cpu) (makes_removal old.time) (logs_removal old.time) path old m s h
 does_unarmed a (Rename cpu path new) other old m s h = call_unarmed a (asks_rename cpu h.0) (makes_rename old.time h.0) (logs_rename old.time h.0) path old m s h.2
+does_unarmed a (Clean path) other old m s h = telling_unarmed cleaned_line a asks_clean makes_no_change finds_page logs_page_less path old m s h
 does_unarmed a Tree other old m s h = shown_unarmed old.mounted parts.Tree old m s h
 does_unarmed a Free other old m s h = shown_unarmed old.mounted parts.Free old m s h
 does_unarmed a Faults other old m s h = shown_unarmed old.mounted parts.Faults old m s h

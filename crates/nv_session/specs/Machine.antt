@@ -1,5 +1,5 @@
 -- The machine that a script runs: its state, and what each command may print and leave.
-use Rattle.std.specs.Prelude.{IsTrue, true, false, not, flat_map, ◌≡◌, ◌≢◌, ◌⊎◌, ◌+◌, ◌*◌, ◌%◌, ℕ, Bool, ◌&&◌, ◌==◌, nat_le, MatchBool, if◌then◌else◌, List, [], replicate, take, Option, Some, None, codes}
+use Rattle.std.specs.Prelude.{IsTrue, true, false, not, flat_map, ◌≡◌, ◌≢◌, ◌⊎◌, ◌+◌, ◌*◌, ◌%◌, ℕ, Bool, ◌&&◌, ◌==◌, nat_le, MatchBool, ⊤, if◌then◌else◌, List, [], replicate, take, Option, Some, None, codes}
 use Rattle.nv_region.specs.Region.{Region, size, word, put, region_of, bytes_of}
 use Rattle.nv_region.specs.RegionState.{is_off}
 use Rattle.nv_region.specs.declared.memory.Fuse.{Fuse}
@@ -11,9 +11,12 @@ use Rattle.nv_format.specs.Format.{IsFormatRefusal, CanFormat, IsFormatted, Form
 use Rattle.nv_format.specs.Format as formats
 use Rattle.nv_format.specs.declared.formatting.FormatRefusal.{FormatRefusal}
 use Rattle.nv_format.specs.declared.formatting.FormatRefusal.TheVariants.{Stopped}
-use Rattle.nv_line.specs.Request.{Request, Format, Time, Poke, Cut, Recover, Replay, ListNames, Stat, Read, Create, MakeDirectory, Write, SetSize, SetAttributes, Link, Unlink, RemoveDirectory, Rename, Tree, Free, Faults, Report, Peek, Stop}
+use Rattle.nv_line.specs.Request.{Request, Format, Time, Poke, Cut, Recover, Replay, ListNames, Stat, Read, Create, MakeDirectory, Write, SetSize, SetAttributes, Link, Unlink, RemoveDirectory, Rename, Clean, Tree, Free, Faults, Report, Peek, Stop}
 use Rattle.nv_super.specs.declared.kind.Kind.TheVariants.{File, Directory}
-use Rattle.nv_session.specs.Calls.{Asks, Makes, Logs, Asked, LeavesTree, LogsBytes, LogsUnlink, seen_in, asks_create, asks_write, asks_size, asks_attributes, asks_link, asks_unlink, asks_remove, asks_rename, makes_inode, makes_bytes, makes_size, makes_attributes, makes_link, makes_unlink, makes_removal, makes_rename, logs_inode, logs_size, logs_attributes, logs_link, logs_removal, logs_rename}
+use Rattle.nv_calls.specs.Mount.{has_faults}
+use Rattle.nv_calls.specs.Stopped.{LeavesCall}
+use Rattle.nv_calls.specs.Effects.{logs_page_less, Makes, Logs, LogsBytes, LogsUnlink, makes_inode, makes_bytes, makes_size, makes_attributes, makes_link, makes_unlink, makes_removal, makes_rename, makes_no_change, logs_inode, logs_size, logs_attributes, logs_link, logs_removal, logs_rename}
+use Rattle.nv_session.specs.Calls.{Asks, Asked, LeavesTree, seen_in, asks_create, asks_write, asks_size, asks_attributes, asks_link, asks_unlink, asks_remove, asks_rename, asks_clean, finds_page}
 use Rattle.nv_super.specs.FaultText.{super_fault_name}
 use Rattle.nv_tree.specs.Path.{Says}
 use Rattle.nv_tree.specs.Tree as trees
@@ -24,11 +27,12 @@ use Rattle.nv_calls.specs.Stat.{IsStat}
 use Rattle.nv_calls.specs.Reading.{IsRead}
 use Rattle.nv_calls.specs.Listing.{ListsNamesIn}
 use Rattle.nv_calls.specs.declared.stating.Stat as stats
-use Rattle.nv_text.specs.Answers.{ok_line, refused_line, stopped_line, word_line}
+use Rattle.nv_text.specs.Answers.{ok_line, refused_line, stopped_line, word_line, cleaned_line}
 use Rattle.nv_text.specs.Names.{list_line, data_line}
 use Rattle.nv_text.specs.Report.{stat_line}
 use Rattle.nv_text.specs.declared.inodes.Attributes.{Attributes}
 use Rattle.nv_report.specs.Texts.{recovered_text, IsPartText}
+use Rattle.nv_checking.specs.nv_recover.Errors.{UndoesAsBefore}
 use Rattle.nv_checking.specs.Workers.{is_worker_count, names_stranger}
 use Rattle.nv_report.specs.Last.{how_it_went}
 use Rattle.nv_report.specs.declared.part.Part.{Part}
@@ -178,12 +182,12 @@ StopsFormat cpus blocks tables old text new = CanFormat (zeros blocks) cpus tabl
     × FormatLeaves (zeros blocks) (fresh_super (zeros blocks) cpus tables) old.time R
     × (text ≡ stopped_line) × (new ≡ record old { region = Some R; mounted = None })
 
--- A recovery of the region that there is, which isn't refused for its workers or its schedule, is stopped: it leaves a region
--- of the same length, and nothing is mounted.
+-- A recovery of the region that there is, which isn't refused for its workers or its schedule, is stopped: the region that it
+-- leaves has the same superblock, and rolls back to the same region. Nothing is mounted.
 abbrev pub StopsRegion : Option Region → ℕ → List ℕ → State → List ℕ → State → Type 0
 StopsRegion None workers schedule old text new = ⊥
 StopsRegion (Some R) workers schedule old text new = (is_worker_count workers ≡ true) × (names_stranger workers schedule ≡ false)
-    × (S : Region) × (size S ≡ size R) × (text ≡ stopped_line) × (new ≡ record old { region = Some S; mounted = None; last = Refused })
+    × (S : Region) × (size S ≡ size R) × UndoesAsBefore R S × (text ≡ stopped_line) × (new ≡ record old { region = Some S; mounted = None; last = Refused })
 
 -- the same of the region of a state
 abbrev pub StopsRecovery : ℕ → List ℕ → State → List ℕ → State → Type 0
@@ -235,38 +239,50 @@ Reads Tells path old text new = ReadsMounted Tells old.mounted old.region path o
 abbrev pub RefusesCall : Asks → Region → Region → List ℕ → State → List ℕ → State → Type 0
 RefusesCall asks R S path old text new = (a : Asked asks R S path) × TellsRefusal a.tests text × (new ≡ old)
 
--- No test holds: the call is done, and the region that it leaves is mounted.
-abbrev pub DoesCall : Asks → Makes → Logs → Region → Region → List ℕ → State → List ℕ → State → Type 0
-DoesCall asks makes logs R S path old text new = (a : Asked asks R S path) × (first_refusal a.tests ≡ None) × (names : List (List ℕ)) × (a.path_is ≡ Some names)
-    × (T : Region) × LeavesTree S T (seen_in a) (makes S (seen_in a) names) × logs S (seen_in a) names T × (text ≡ ok_line) × (new ≡ record old { region = Some T; mounted = Some T })
+-- No test holds: the call is done, the line of its answer is told, and the region that it leaves is mounted.
+abbrev pub DoesCall : {A : Type 0} → Asks → Makes ⊤ → (A → Logs ⊤) → (A → List ℕ) → Region → Region → List ℕ → State → List ℕ → State → Type 0
+DoesCall {A} asks makes logs line R S path old text new = (a : Asked asks R S path) × (first_refusal a.tests ≡ None) × (names : List (List ℕ)) × (a.path_is ≡ Some names)
+    × (T : Region) × LeavesTree S T (seen_in a) (makes S (seen_in a) names) × (answer : A) × logs answer S (seen_in a) names T × (text ≡ line answer) × (new ≡ record old { region = Some T; mounted = Some T })
 
 -- A call on what is mounted, if something is: of the mounted region, which came to the last recovery or which a call
 -- left, and of the one that there is.
-abbrev pub CallsMounted : Asks → Makes → Logs → List ℕ → Option Region → Option Region → State → List ℕ → State → Type 0
-CallsMounted asks makes logs path None region old text new = IsRefusedAs (codes "NotMounted") old text new
-CallsMounted asks makes logs path (Some R) None old text new = ⊥
-CallsMounted asks makes logs path (Some R) (Some S) old text new = RefusesCall asks R S path old text new ⊎ DoesCall asks makes logs R S path old text new
+abbrev pub CallsMounted : {A : Type 0} → Asks → Makes ⊤ → (A → Logs ⊤) → (A → List ℕ) → List ℕ → Option Region → Option Region → State → List ℕ → State → Type 0
+CallsMounted asks makes logs line path None region old text new = IsRefusedAs (codes "NotMounted") old text new
+CallsMounted asks makes logs line path (Some R) None old text new = ⊥
+CallsMounted asks makes logs line path (Some R) (Some S) old text new = RefusesCall asks R S path old text new ⊎ DoesCall asks makes logs line R S path old text new
 
--- A call on a mounted region is stopped: it leaves a region of the same length, and nothing is mounted.
-abbrev pub StopsMounted : Option Region → Option Region → State → List ℕ → State → Type 0
-StopsMounted None region old text new = ⊥
-StopsMounted (Some R) None old text new = ⊥
-StopsMounted (Some R) (Some S) old text new = (T : Region) × (size T ≡ size S) × (text ≡ stopped_line) × (new ≡ record old { region = Some T; mounted = None })
+-- The call is stopped, which comes only of a path, and where no faults were found. Recovery of the region that it leaves finds,
+-- without faults, what was mounted or what the call makes of it. Nothing is mounted.
+abbrev pub StopsCall : Asks → Makes ⊤ → Logs ⊤ → Region → Region → List ℕ → State → List ℕ → State → Type 0
+StopsCall asks makes stops R S path old text new = (a : Asked asks R S path) × (has_faults a.shown.faults ≡ false) × (names : List (List ℕ)) × (a.path_is ≡ Some names)
+    × (T : Region) × (size T ≡ size S) × LeavesCall makes stops S (seen_in a) names T × (text ≡ stopped_line) × (new ≡ record old { region = Some T; mounted = None })
 
--- a call that writes, which is done or refused, or stopped where it may be
-abbrev pub Calls : Bool → Asks → Makes → Logs → List ℕ → State → List ℕ → State → Type 0
-Calls armed asks makes logs path old text new = MayStop armed
-    (λ old text new. CallsMounted asks makes logs path old.mounted old.region old text new)
-    (λ old text new. StopsMounted old.mounted old.region old text new) old text new
+-- the same of what is mounted
+abbrev pub StopsMounted : Asks → Makes ⊤ → Logs ⊤ → List ℕ → Option Region → Option Region → State → List ℕ → State → Type 0
+StopsMounted asks makes stops path None region old text new = ⊥
+StopsMounted asks makes stops path (Some R) None old text new = ⊥
+StopsMounted asks makes stops path (Some R) (Some S) old text new = StopsCall asks makes stops R S path old text new
+
+-- A call that writes, which is done and tells the line of its answer, or refused, or stopped where it may be: by what a
+-- call that is done leaves of the logs, and what one that is stopped may leave of them.
+abbrev pub CallsTelling : {A : Type 0} → (A → List ℕ) → Bool → Asks → Makes ⊤ → (A → Logs ⊤) → Logs ⊤ → List ℕ → State → List ℕ → State → Type 0
+CallsTelling line armed asks makes logs stops path old text new = MayStop armed
+    (λ old text new. CallsMounted asks makes logs line path old.mounted old.region old text new)
+    (λ old text new. StopsMounted asks makes stops path old.mounted old.region old text new) old text new
+
+-- the same where there is nothing to answer but `ok`
+abbrev pub Calls : Bool → Asks → Makes ⊤ → Logs ⊤ → List ℕ → State → List ℕ → State → Type 0
+Calls armed asks makes logs path old text new = CallsTelling (λ (done : Unit {0}). ok_line) armed asks makes (λ done. logs) logs path old text new
 
 -- a call that writes by two paths: what the second says, and the call by the first
-abbrev pub CallsByTwo : Bool → (Path → Asks) → (Path → Makes) → (Path → Logs) → List ℕ → List ℕ → State → List ℕ → State → Type 0
+abbrev pub CallsByTwo : Bool → (Path → Asks) → (Path → Makes ⊤) → (Path → Logs ⊤) → List ℕ → List ℕ → State → List ℕ → State → Type 0
 CallsByTwo armed asks makes logs path other old text new = (q : Path) × Says other q × Calls armed (asks q) (makes q) (logs q) path old text new
 
 -- the modes of what `create` and `mkdir` make
 abbrev pub file_mode : ℕ
 file_mode = 420
 
+-- the mode of what `mkdir` makes
 abbrev pub directory_mode : ℕ
 directory_mode = 493
 
@@ -306,6 +322,10 @@ RemovesDirectory armed cpu path old text new = Calls armed (asks_remove cpu) (ma
 abbrev pub Renames : Bool → ℕ → List ℕ → List ℕ → State → List ℕ → State → Type 0
 Renames armed cpu path other old text new = CallsByTwo armed (asks_rename cpu) (makes_rename old.time) (logs_rename old.time) path other old text new
 
+-- `clean` takes the first page out of an inode's log that the log can do without, and tells which, or that it needs each
+abbrev pub Cleans : Bool → List ℕ → State → List ℕ → State → Type 0
+Cleans armed path old text new = CallsTelling cleaned_line armed asks_clean makes_no_change finds_page logs_page_less path old text new
+
 -- ---- commands
 
 -- What a command may print and leave, where it may be stopped or not.
@@ -328,6 +348,7 @@ Does armed (Link cpu path other) old text new = Links armed cpu path other old t
 Does armed (Unlink cpu path) old text new = Unlinks armed cpu path old text new
 Does armed (RemoveDirectory cpu path) old text new = RemovesDirectory armed cpu path old text new
 Does armed (Rename cpu path other) old text new = Renames armed cpu path other old text new
+Does armed (Clean path) old text new = Cleans armed path old text new
 Does armed Tree old text new = ShowsPart parts.Tree old text new
 Does armed Free old text new = ShowsPart parts.Free old text new
 Does armed Faults old text new = ShowsPart parts.Faults old text new
@@ -350,4 +371,5 @@ writes (Link cpu path other) = true
 writes (Unlink cpu path) = true
 writes (RemoveDirectory cpu path) = true
 writes (Rename cpu path other) = true
+writes (Clean path) = true
 writes _ = false

@@ -1,7 +1,8 @@
 -- The states that a session may stand for, and how a command leads from one to the next.
 use Rattle.std.specs.Prelude.{◌≡◌, ◌≢◌, ◌⊎◌, ℕ, Bool, not, false, List, Option, Some, None, Result, Ok, Err, ⊤}
-use Rattle.nv_region.specs.Region.{Region, size}
-use Rattle.nv_region.specs.RegionState.{RegionState, is_off}
+use Rattle.nv_region.specs.Region.{Region}
+use Rattle.nv_region.specs.RegionState.{RegionState, fenced_or_last, is_off}
+use Rattle.nv_region.specs.Stops.{MayBeLeft, NothingPending}
 use Rattle.nv_region.specs.declared.memory.Fuse.{Fuse}
 use Rattle.nv_region.specs.declared.memory.Fuse.TheVariants as fuses
 use Rattle.nv_super.specs.declared.owners.Owner.{Owner}
@@ -13,7 +14,7 @@ use Rattle.nv_report.specs.nv_outcome.declared.recovered.Recovered.{Recovered}
 use Rattle.nv_tree.specs.Refusals.{refusal_word}
 use Rattle.nv_tree.specs.declared.refusal.Refusal.{Refusal as CallRefusal}
 use Rattle.nv_tree.specs.declared.refusal.Refusal.TheVariants as refusals
-use Rattle.nv_text.specs.Answers.{ok_line, refused_line, stopped_line}
+use Rattle.nv_text.specs.Answers.{refused_line, stopped_line}
 use Rattle.nv_text.specs.Refusals.{refusal_name}
 use Rattle.nv_report.specs.Last.{how_it_went}
 use Rattle.nv_report.specs.Texts.{recovered_text}
@@ -43,6 +44,15 @@ mount_in None = None
 mount_in (Some (stores.Alone memory)) = None
 mount_in (Some (stores.Mounted mount)) = Some mount
 
+-- a stop leaves the memory as it reads
+abbrev pub IsSettled : RegionState → Type 0
+IsSettled memory = NothingPending memory.region (fenced_or_last memory)
+
+-- the same of the memory that there is
+abbrev pub HoldsSettled : Option Store → Type 0
+HoldsSettled None = ⊤
+HoldsSettled (Some store) = IsSettled (memory_in store)
+
 -- it may come
 abbrev pub is_armed : stops.Stop → Bool
 is_armed stop = not (is_off stop.fuse)
@@ -62,13 +72,19 @@ IsMountOf (Some R) None = ⊥
 IsMountOf (Some R) (Some m) = ShowsOutcome R m
 
 -- The session has the state's region, time, last recovery and stop, and shows the outcome of the region that is mounted. That
--- region itself isn't kept: the session stands for each state whose mounted region has the outcome that is shown.
+-- region itself isn't kept: the session stands for each state whose mounted region has the outcome that is shown. Between two
+-- commands nothing is pending in its memory.
 pub record StandsFor (s : Session) (state : State) : Type 0 where
   pub region : state.region ≡ region_in s.store
   pub mounted : IsMountOf state.mounted (mount_in s.store)
   pub time : state.time ≡ s.time
   pub last : state.last ≡ s.last
   pub armed : state.armed ≡ is_armed s.stop
+  pub settled : HoldsSettled s.store
+
+-- it stands for some state
+abbrev pub HasState : Session → Type 0
+HasState s = (state : State) × StandsFor s state
 
 -- from each state that the first session stands for, such a step leads to one that the second stands for
 abbrev pub Leads : (State → State → Type 0) → Session → Session → Type 0
@@ -99,10 +115,11 @@ TakesMount fuse old (Some m) new = (there : Mount RegionState) × (mount_in old.
 abbrev pub PutsMount : Mount RegionState → Session → Session → Type 0
 PutsMount m old new = new ≡ record old { store = Some (stores.Mounted (with_fuse fuses.Off m)) }
 
--- What a call answered is told, and the mount is put in. After a stop a region of its length is, of which nothing is mounted.
-abbrev pub SettlesCall : {A : Type 0} → Mount RegionState → Result A CallRefusal → Session → List ℕ → Session → Type 0
-SettlesCall m (Ok done) old said new = (said ≡ ok_line) × PutsMount m old new
-SettlesCall m (Err refusal) old said new = ((refusal ≡ refusals.Stopped) × (said ≡ stopped_line) × (memory : RegionState) × (size memory.region ≡ size m.memory.region) × (new ≡ record old { store = Some (stores.Alone memory) }))
+-- What a call answered is told by this line, and the mount is put in. After a stop one of the regions is that it may leave, of
+-- which nothing is mounted.
+abbrev pub SettlesCall : {A : Type 0} → (A → List ℕ) → Mount RegionState → Result A CallRefusal → Session → List ℕ → Session → Type 0
+SettlesCall line m (Ok answer) old said new = (said ≡ line answer) × PutsMount m old new
+SettlesCall line m (Err refusal) old said new = ((refusal ≡ refusals.Stopped) × (said ≡ stopped_line) × (left : RegionState) × MayBeLeft m.memory.region (fenced_or_last m.memory) left.region × IsSettled left × (new ≡ record old { store = Some (stores.Alone left) }))
     ⊎ ((refusal ≢ refusals.Stopped) × (refusal ≢ refusals.Memory) × (said ≡ refused_line (refusal_word refusal)) × PutsMount m old new)
 
 -- ---- recoveries
@@ -112,6 +129,7 @@ pub record Mounts (R : Region) (r : Recovered) (old new : Session) : Type 0 wher
   pub mount : Mount RegionState
   pub store : new.store ≡ Some (stores.Mounted mount)
   pub region : mount.memory.region ≡ R
+  pub settled : IsSettled mount.memory
   pub told : told mount.sup mount.rows mount.free r.doubled.items mount.faults ≡ outcome_of r
   pub runs : mount.stopped ≡ false
   pub time : new.time ≡ old.time
@@ -122,8 +140,9 @@ pub record Mounts (R : Region) (r : Recovered) (old new : Session) : Type 0 wher
 abbrev pub Fails : RegionState → Session → Session → Type 0
 Fails memory old new = new ≡ record old { store = Some (stores.Alone memory); last = lasts.Refused }
 
--- The region is put back behind a recovery, and the answer is mounted and printed. After a stop another of its length is.
-abbrev pub Settles : Region → Option Answer → Session → List ℕ → Session → Type 0
-Settles R (Some (answers.Recovered r)) old said new = (said ≡ recovered_text (outcome_of r)) × Mounts R r old new
-Settles R (Some (answers.Refused refusal)) old said new = (said ≡ refused_line (refusal_name refusal)) × (memory : RegionState) × (memory.region ≡ R) × Fails memory old new
-Settles R None old said new = (said ≡ stopped_line) × (memory : RegionState) × (size memory.region ≡ size R) × Fails memory old new
+-- The memory is put back behind a recovery, and the answer is mounted and printed. After a stop one of the regions is that it
+-- may leave.
+abbrev pub Settles : RegionState → Option Answer → Session → List ℕ → Session → Type 0
+Settles m (Some (answers.Recovered r)) old said new = (said ≡ recovered_text (outcome_of r)) × Mounts m.region r old new
+Settles m (Some (answers.Refused refusal)) old said new = (said ≡ refused_line (refusal_name refusal)) × (memory : RegionState) × (memory.region ≡ m.region) × IsSettled memory × Fails memory old new
+Settles m None old said new = (said ≡ stopped_line) × (left : RegionState) × MayBeLeft m.region (fenced_or_last m) left.region × IsSettled left × Fails left old new

@@ -1,10 +1,10 @@
 //! The commands that are file calls which write. Each takes the mount out of the session, with the fuse that was set, makes its
 //! call, and puts back the mount, or what a stop has left.
 
-ghost use Rattle.std.specs.Prelude.{◌≡◌, ◌⊎◌, ◌+◌, ℕ, false, IsTrue, IfOk, IfErr, OnOk, Some, Err};
+ghost use Rattle.std.specs.Prelude.{◌≡◌, ◌⊎◌, ◌+◌, ℕ, List, false, IsTrue, IfOk, IfErr, OnOk, Some, Err};
 ghost use Rattle.nv_region.specs.Region.{size};
 ghost use Rattle.nv_region.specs.RegionState.{is_steady};
-ghost use Rattle.nv_tree.specs.Path.{Says};
+ghost use Rattle.nv_tree.specs.Path.{IsPath, Says};
 ghost use Rattle.nv_tree.specs.Refusals.{Path, first_refusal, write_tests};
 ghost use Rattle.nv_tree.specs.declared.refusal.Refusal.TheVariants as refusals;
 ghost use Rattle.nv_calls.specs.Mount.{IsKept};
@@ -17,7 +17,7 @@ use crate::files::refused_call_text;
 use crate::session::Session;
 use crate::stop::Stop;
 use crate::store::Store;
-use crate::texts::{ok_text, stopped_text};
+use crate::texts::{cleaned_text, ok_text, stopped_text};
 use nv_calls::Fs;
 use nv_region::{Fuse, Keep, MemRegion};
 use nv_report::refused_text;
@@ -33,8 +33,9 @@ const DIRECTORY_MODE: u32 = 493;
 
 impl Session {
     ghost use Rattle.std.specs.Prelude.{string_bytes};
-    ghost use Rattle.nv_session.specs.Sessions.{Moves, TakesMount, PutsMount, SettlesCall, is_armed};
-    ghost use Rattle.nv_session.specs.Machine.{Creates, MakesDirectory, Writes, SetsSize, SetsAttributes, Links, Unlinks, RemovesDirectory, Renames};
+    ghost use Rattle.nv_session.specs.Sessions.{IsSettled, Moves, TakesMount, PutsMount, SettlesCall, is_armed};
+    ghost use Rattle.nv_session.specs.Machine.{Creates, MakesDirectory, Writes, SetsSize, SetsAttributes, Links, Unlinks, RemovesDirectory, Renames, Cleans};
+    ghost use Rattle.nv_text.specs.Answers.{cleaned_line, ok_line};
 
     pub(crate) fn create(
         &mut self,
@@ -80,11 +81,13 @@ impl Session {
     ) -> Result<String, AllocError>
         ensures { IfOk result (λ text. Moves (Writes (is_armed stop) cpu path.now offset count byte) self.old (string_bytes text) self.new) }
     {
-        let Some(mut mount) = self.take_mount(stop.fuse) else {
+        // Without a fuse the test isn't stopped.
+        let Some(mut mount) = self.take_mount(Fuse::Off) else {
             return refused_text(alloc, Refusal::NotMounted);
         };
         match test_write(&mut mount, cpu, path, offset, count, self.time) {
             Ok(()) => {
+                mount.set_fuse(stop.fuse);
                 let bytes = vec![in alloc; byte; count as usize]?;
                 let answer = mount.write(cpu, path, offset, &bytes, self.time);
                 self.settle_call(alloc, mount, answer, stop.keep)
@@ -195,6 +198,23 @@ impl Session {
         self.settle_call(alloc, mount, answer, stop.keep)
     }
 
+    pub(crate) fn clean(
+        &mut self,
+        alloc: Global,
+        path: &[u8],
+        stop: Stop,
+    ) -> Result<String, AllocError>
+        ensures { IfOk result (λ text. Moves (Cleans (is_armed stop) path.now) self.old (string_bytes text) self.new) }
+    {
+        let Some(mut mount) = self.take_mount(stop.fuse) else {
+            return refused_text(alloc, Refusal::NotMounted);
+        };
+        // Which page can go is said by what the mount keeps before the call.
+        mount.keeps();
+        let answer = mount.clean(path);
+        self.settle_clean(alloc, mount, answer, stop.keep)
+    }
+
     // Takes out what is mounted, with this fuse for what is stored next.
     fn take_mount(&mut self, fuse: Fuse) -> Option<Fs<MemRegion>>
         ensures { TakesMount fuse self.old result self.new }
@@ -220,10 +240,12 @@ impl Session {
         answer: Result<(), CallRefusal>,
         keep: Keep,
     ) -> Result<String, AllocError>
-        ensures settles { IfOk result (λ text. SettlesCall mount answer self.old (string_bytes text) self.new) }
+        ensures settles { IfOk result (λ text. SettlesCall (λ done. ok_line) mount answer self.old (string_bytes text) self.new) }
         ensures keeps { IsKept mount.memory.region mount.sup mount.rows mount.free mount.faults mount.read_only mount.stopped }
+        ensures settled { mount.stopped ≡ false → IsSettled mount.memory }
     {
         mount.keeps();
+        mount.nothing_is_pending();
         match answer {
             Ok(()) => {
                 self.put_mount(mount);
@@ -237,6 +259,29 @@ impl Session {
                 self.put_mount(mount);
                 refused_call_text(alloc, refusal)
             }
+        }
+    }
+
+    // The same after `clean`, whose answer is told by a line of its own.
+    fn settle_clean(
+        &mut self,
+        alloc: Global,
+        mount: Fs<MemRegion>,
+        answer: Result<Option<u64>, CallRefusal>,
+        keep: Keep,
+    ) -> Result<String, AllocError>
+        ensures settles { IfOk result (λ text. SettlesCall cleaned_line mount answer self.old (string_bytes text) self.new) }
+        ensures keeps { IsKept mount.memory.region mount.sup mount.rows mount.free mount.faults mount.read_only mount.stopped }
+        ensures settled { mount.stopped ≡ false → IsSettled mount.memory }
+    {
+        mount.keeps();
+        mount.nothing_is_pending();
+        match answer {
+            Ok(block) => {
+                self.put_mount(mount);
+                cleaned_text(alloc, block)
+            }
+            Err(refusal) => self.settle_call(alloc, mount, Err(refusal), keep),
         }
     }
 
@@ -265,6 +310,8 @@ fn test_write(
     ensures unchanged { IfErr result (λ e. (e ≡ refusals.Stopped → ⊥) → SameMount mount.old mount.new) }
     ensures stopped { mount.old.stopped ≡ false → (IsTrue mount.new.stopped → (result ≡ Err refusals.Stopped) × IsTrue mount.new.memory.burnt) × (result ≡ Err refusals.Stopped → IsTrue mount.new.stopped) }
     ensures keeps { KeepsMount mount.old mount.new }
+    ensures read_only { IsTrue mount.old.read_only → SameMount mount.old mount.new }
+    ensures bad_text { ((names : List (List ℕ)) → IsPath path.now names → ⊥) → SameMount mount.old mount.new }
     ensures length { size mount.new.memory.region ≡ size mount.old.memory.region }
     ensures steady { IsTrue (is_steady mount.old.memory) → IsTrue (is_steady mount.new.memory) }
 {

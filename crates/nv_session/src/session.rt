@@ -3,7 +3,7 @@
 //! A method answers the text that its command prints, whole, and leaves what the command leaves. After want of memory the
 //! script ends, and what the session holds is of no use.
 
-ghost use Rattle.std.specs.Prelude.{◌≡◌, ◌≤◌, IfOk, None, Some, [], option_map, false};
+ghost use Rattle.std.specs.Prelude.{◌≡◌, ◌≤◌, IfOk, IfSome, OnSome, None, Some, [], option_map, false};
 ghost use Rattle.nv_calls.specs.Mount.{told};
 ghost use Rattle.nv_report.specs.Shown.{shown_of};
 
@@ -35,7 +35,7 @@ pub struct Session {
 
 impl Session {
     ghost use Rattle.std.specs.Prelude.{string_bytes};
-    ghost use Rattle.nv_session.specs.Sessions.{StandsFor, Moves, CanMount, Fails, Settles, region_in, mount_in, is_armed};
+    ghost use Rattle.nv_session.specs.Sessions.{StandsFor, Moves, CanMount, Fails, Settles, IsSettled, HoldsSettled, HasState, region_in, mount_in, is_armed};
     ghost use Rattle.nv_session.specs.declared.store.Store.TheVariants as stores;
     ghost use Rattle.nv_session.specs.Machine.{first_state, state_with, SetsTime, Formats, Recovers, Replays, Pokes, Cuts, ShowsPart, Peeks, MayStop, StopsFormat, StopsRecovery, Arms, Reads, TellsNames, TellsStat, TellsBytes, Does, Step, front};
     ghost use Rattle.nv_session.specs.Machine.{State};
@@ -58,8 +58,9 @@ impl Session {
         }
     }
 
-    /// Nothing made yet but this region, at time 0.
+    /// Nothing made yet but this region, of which nothing is pending, at time 0.
     pub fn with_region(memory: MemRegion) -> Session
+        requires { IsSettled memory }
         ensures { StandsFor result (state_with memory.region) }
     {
         Session {
@@ -72,7 +73,8 @@ impl Session {
 
     /// The region that there is at the end, if there is one.
     pub fn into_region(self) -> Option<MemRegion>
-        ensures { option_map (λ memory. memory.region) result ≡ region_in self.store }
+        ensures region { option_map (λ memory. memory.region) result ≡ region_in self.store }
+        ensures settled { HasState self → IfSome result (λ memory. IsSettled memory) }
     {
         match self.store {
             Some(store) => Some(store.into_memory()),
@@ -88,7 +90,7 @@ impl Session {
         self.last.status()
     }
 
-    /// Runs one command, and answers what it prints.
+    /// Runs one command, and answers what it prints. After an error no other command can be run.
     ///
     /// Errors: `AllocError` where a growth was refused; of the session nothing is said then.
     pub fn execute<H: Threads + Sync>(
@@ -97,6 +99,7 @@ impl Session {
         alloc: Global,
         command: Command<'_>,
     ) -> Result<String, AllocError>
+        requires { HasState self.old }
         ensures { IfOk result (λ text. Moves (λ old said new. Step old (view command.entry) said new) self.old (string_bytes text) self.new) }
     {
         let stop = self.disarm();
@@ -122,6 +125,7 @@ impl Session {
         command: Command<'_>,
         stop: Stop,
     ) -> Result<String, AllocError>
+        requires { HoldsSettled self.old.store }
         ensures { IfOk result (λ text. Moves (Does (is_armed stop) (view command.entry)) self.old (string_bytes text) self.new) }
     {
         match command {
@@ -163,6 +167,7 @@ impl Session {
             Command::Unlink { cpu, path } => self.unlink(alloc, cpu, path, stop),
             Command::RemoveDirectory { cpu, path } => self.remove_directory(alloc, cpu, path, stop),
             Command::Rename { cpu, old, new } => self.rename(alloc, cpu, old, new, stop),
+            Command::Clean { path } => self.clean(alloc, path, stop),
             Command::Tree => self.show(alloc, Part::Tree),
             Command::Free => self.show(alloc, Part::Free),
             Command::Faults => self.show(alloc, Part::Faults),
@@ -244,7 +249,7 @@ impl Session {
         length: u64,
     ) -> Result<String, AllocError>
         requires { length ≤ size memory.region }
-        ensures { IfOk result (λ text. (string_bytes text ≡ ok_line) × (m : RegionState) × (m.region ≡ front memory.region length) × (self.new ≡ record self.old { store = Some (stores.Alone m) })) }
+        ensures { IfOk result (λ text. (string_bytes text ≡ ok_line) × (m : RegionState) × (m.region ≡ front memory.region length) × IsSettled m × (self.new ≡ record self.old { store = Some (stores.Alone m) })) }
     {
         let front = memory.cut(length)?;
         self.put(front);
@@ -258,6 +263,7 @@ impl Session {
         workers: u64,
         stop: Stop,
     ) -> Result<String, AllocError>
+        requires { HoldsSettled self.old.store }
         ensures { IfOk result (λ text. Moves (MayStop (is_armed stop) (Recovers workers) (StopsRecovery workers [])) self.old (string_bytes text) self.new) }
     {
         let Some(store) = self.store.take() else {
@@ -277,6 +283,7 @@ impl Session {
         schedule: &[u64],
         stop: Stop,
     ) -> Result<String, AllocError>
+        requires { HoldsSettled self.old.store }
         ensures { IfOk result (λ text. Moves (MayStop (is_armed stop) (Replays workers schedule.now) (StopsRecovery workers schedule.now)) self.old (string_bytes text) self.new) }
     {
         let Some(store) = self.store.take() else {
@@ -372,8 +379,9 @@ impl Session {
         answer: Option<Answer>,
         keep: Keep,
     ) -> Result<String, AllocError>
-        requires { CanMount memory.region answer }
-        ensures { IfOk result (λ text. Settles memory.region answer self.old (string_bytes text) self.new) }
+        requires mounts { CanMount memory.region answer }
+        requires settled { OnSome answer (IsSettled memory) }
+        ensures { IfOk result (λ text. Settles memory answer self.old (string_bytes text) self.new) }
     {
         match answer {
             Some(Answer::Recovered(recovered)) => self.mount_region(alloc, memory, recovered),
@@ -395,8 +403,9 @@ impl Session {
         memory: MemRegion,
         recovered: Recovered,
     ) -> Result<String, AllocError>
-        requires { CanMount memory.region (Some (answers.Recovered recovered)) }
-        ensures { IfOk result (λ text. Settles memory.region (Some (answers.Recovered recovered)) self.old (string_bytes text) self.new) }
+        requires mounts { CanMount memory.region (Some (answers.Recovered recovered)) }
+        requires settled { IsSettled memory }
+        ensures { IfOk result (λ text. Settles memory (Some (answers.Recovered recovered)) self.old (string_bytes text) self.new) }
     {
         let text = recovered_text(alloc, &recovered)?;
         self.last = how_it_went(&recovered.faults);

@@ -3,6 +3,7 @@
 ghost use Rattle.std.specs.Prelude.{◌≡◌, true};
 ghost use Rattle.nv_region.specs.Region.{put};
 ghost use Rattle.nv_session.specs.Machine.{has_word};
+ghost use Rattle.nv_session.specs.Sessions.{IsSettled};
 
 use nv_calls::Fs;
 use nv_region::{Fuse, MemRegion, Pmem, commit_word};
@@ -50,7 +51,8 @@ pub fn has_word(memory: &MemRegion, at: u64) -> bool
 /// The memory with a word stored and fenced.
 pub fn poked(mut memory: MemRegion, at: u64, value: u64) -> MemRegion
     requires { has_word memory.region at ≡ true }
-    ensures { result.region ≡ put memory.region at value }
+    ensures region { result.region ≡ put memory.region at value }
+    ensures settled { IsSettled result }
 {
     memory.set_fuse(Fuse::Off);
     if commit_word(&mut memory, at, value).is_err() {

@@ -1,11 +1,11 @@
 //! The texts of the commands that tell of no recovery.
 
 ghost use Rattle.std.specs.Prelude.{◌≡◌, IfOk, string_bytes};
-ghost use Rattle.nv_text.specs.Answers.{ok_line, refused_line, stopped_line, word_line};
+ghost use Rattle.nv_text.specs.Answers.{ok_line, refused_line, stopped_line, word_line, cleaned_line};
 ghost use Rattle.nv_format.specs.Format as formats;
 
 use nv_calls::FormatRefusal;
-use nv_text::{push_ok, push_stopped, push_word};
+use nv_text::{push_cleaned, push_ok, push_stopped, push_word};
 use std::alloc::{AllocError, Global};
 use std::fmt::Write;
 
@@ -38,5 +38,13 @@ pub fn word_text(alloc: Global, word: u64) -> Result<String, AllocError>
 {
     let mut text = String::new(alloc);
     push_word(&mut text, word)?;
+    Ok(text)
+}
+
+pub fn cleaned_text(alloc: Global, block: Option<u64>) -> Result<String, AllocError>
+    ensures { IfOk result (λ text. string_bytes text ≡ cleaned_line block) }
+{
+    let mut text = String::new(alloc);
+    push_cleaned(&mut text, block)?;
     Ok(text)
 }

@@ -1,5 +1,5 @@
 -- The lines that answer a command.
-use Rattle.std.specs.Prelude.{ℕ, List, ◌++◌, codes, decimal}
+use Rattle.std.specs.Prelude.{ℕ, List, Option, Some, None, ◌++◌, codes, decimal}
 
 -- a text as a line
 abbrev pub line : List ℕ → List ℕ
@@ -28,3 +28,8 @@ recovered_line inodes free faults = line (codes "recovered inodes " ++ decimal i
 -- a word of the region
 abbrev pub word_line : ℕ → List ℕ
 word_line word = line (codes "word " ++ decimal word)
+
+-- the page that was taken out of a log, or that it needs each of its pages
+abbrev pub cleaned_line : Option ℕ → List ℕ
+cleaned_line None = line (codes "nothing")
+cleaned_line (Some block) = line (codes "cleaned " ++ decimal block)

@@ -1,7 +1,7 @@
 //! What a command answers in one line.
 
 ghost use Rattle.std.specs.Prelude.{◌≡◌, ◌++◌, OnOk, string_bytes};
-ghost use Rattle.nv_text.specs.Answers.{ok_line, stopped_line, bad_line, refused_line, recovered_line, word_line};
+ghost use Rattle.nv_text.specs.Answers.{ok_line, stopped_line, bad_line, refused_line, recovered_line, word_line, cleaned_line};
 ghost use Rattle.nv_text.specs.Refusals.{refusal_name};
 
 use crate::refusals::Refusal;
@@ -53,4 +53,14 @@ pub fn push_word(out: &mut String, word: u64) -> Result<(), AllocError>
     ensures { OnOk result (string_bytes out.new ≡ string_bytes out.old ++ word_line word) }
 {
     writeln!(out, "word {word}")
+}
+
+/// `cleaned B`: the page that was taken out of a log; or `nothing`, since the log needs each of its pages.
+pub fn push_cleaned(out: &mut String, block: Option<u64>) -> Result<(), AllocError>
+    ensures { OnOk result (string_bytes out.new ≡ string_bytes out.old ++ cleaned_line block) }
+{
+    match block {
+        Some(block) => writeln!(out, "cleaned {block}"),
+        None => out.push_str("nothing\n"),
+    }
 }

@@ -13,7 +13,9 @@ mod names;
 mod refusals;
 mod region;
 
-pub use answers::{push_bad_line, push_ok, push_recovered, push_refused, push_stopped, push_word};
+pub use answers::{
+    push_bad_line, push_cleaned, push_ok, push_recovered, push_refused, push_stopped, push_word,
+};
 pub use faults::{push_fault_line, push_faults};
 pub use free::{push_free_line, push_free_lines};
 pub use inodes::{Attributes, push_inode_line, push_log_line, push_page_line, push_stat_line};

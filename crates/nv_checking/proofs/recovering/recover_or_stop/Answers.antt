@@ -1,6 +1,7 @@
 use Rattle.std.proofs.Common.{◌≡◌, [], false, IsTrue}
 use Rattle.std.proofs.lemmas.Result.{IfOk-weaker}
-use Rattle.nv_checking.proofs.Answering.{ends, no_lists, no_stop}
+use Rattle.nv_region.specs.Stops.{NothingPending}
+use Rattle.nv_checking.proofs.Answering.{ends, no_lists, no_stop, refused_keeps}
 use Rattle.nv_checking.proofs.recovering.recover_or_stop.Goals as goal
 
 pub returns-in-Err-clause-ok : goal.returns-in-Err-clause-ok
@@ -16,3 +17,6 @@ returns-in-Err-clause-unstopped g c =
     let is = c.recover.new.memory in
     λ steady. IfOk-weaker c.stopped_or_refused.result _ _ (λ answer told. no_stop c.in-Err.error answer
     (λ same. let burnt : IsTrue (g.P.Pmem.fuse is).has_burnt = c.in-Err.ensures.stopped same in let still : IsTrue (g.P.Pmem.fuse is).is_steady = c.in-Err.ensures.keeps_fuse.steady steady in let unburnt : (g.P.Pmem.fuse is).has_burnt ≡ false = laws.unburnt is still in cc) told) c.stopped_or_refused.ensures.ok
+
+pub returns-in-Err-clause-settled : goal.returns-in-Err-clause-settled
+returns-in-Err-clause-settled g c none = IfOk-weaker c.stopped_or_refused.result _ _ (refused_keeps (λ m. NothingPending (g.P.Pmem.region m) (g.P.Pmem.may_hold m)) c.args.memory.now c.recover.new.memory c.in-Err.error c.in-Err.ensures.untouched none) c.stopped_or_refused.ensures.ok

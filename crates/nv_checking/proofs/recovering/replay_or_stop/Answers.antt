@@ -1,6 +1,8 @@
 use Rattle.std.proofs.Common.{◌≡◌, ◌∙◌, false, IsTrue}
 use Rattle.std.proofs.lemmas.Result.{IfOk-weaker}
-use Rattle.nv_checking.proofs.Answering.{replayed, replay_ends, no_lists, no_stop}
+use Rattle.nv_region.specs.Stops.{NothingPending}
+use Rattle.nv_region.proofs.Stops.{settled_left}
+use Rattle.nv_checking.proofs.Answering.{replayed, replay_ends, no_lists, no_stop, refused_keeps, undoes_itself}
 use Rattle.nv_checking.proofs.recovering.replay_or_stop.Goals as goal
 
 pub returns-in-Ok-clause-ok : goal.returns-in-Ok-clause-ok
@@ -20,3 +22,11 @@ returns-clause-unstopped g c =
     let is = c.recover_replay.new.memory in
     λ steady. IfOk-weaker c.stopped_or_refused.result _ _ (λ answer told. no_stop c.in-Err.error answer
     (λ same. let burnt : IsTrue (g.P.Pmem.fuse is).has_burnt = c.in-Err.ensures.stopped same in let still : IsTrue (g.P.Pmem.fuse is).is_steady = c.in-Err.ensures.keeps_fuse.steady steady in let unburnt : (g.P.Pmem.fuse is).has_burnt ≡ false = laws.unburnt is still in cc) told) c.stopped_or_refused.ensures.ok
+
+pub returns-clause-settled : goal.returns-clause-settled
+returns-clause-settled g c none = IfOk-weaker c.stopped_or_refused.result _ _ (refused_keeps (λ m. NothingPending (g.P.Pmem.region m) (g.P.Pmem.may_hold m)) c.args.memory.now c.recover_replay.new.memory c.in-Err.error c.in-Err.ensures.untouched none) c.stopped_or_refused.ensures.ok
+
+pub returns-in_err-numbers-clause-any_stop : goal.returns-in_err-numbers-clause-any_stop
+returns-in_err-numbers-clause-any_stop g c s is none left may =
+    let R = g.P.Pmem.region c.args.memory.now in
+    undoes_itself R left s is (settled_left R (g.P.Pmem.may_hold c.args.memory.now) none left may)

@@ -54,6 +54,9 @@ returns-in-RemoveDirectory c = rw c.in-RemoveDirectory.is c.remove_directory.ens
 pub returns-in-Rename : goal.returns-in-Rename
 returns-in-Rename c = rw c.in-Rename.is c.rename.ensures
 
+pub returns-in-Clean : goal.returns-in-Clean
+returns-in-Clean c = rw c.in-Clean.is c.clean.ensures
+
 pub returns-in-Tree : goal.returns-in-Tree
 returns-in-Tree c = rw c.in-Tree.is c.tree.ensures
 

@@ -1,7 +1,8 @@
 use Rattle.std.proofs.Common.{string_bytes}
 use Rattle.std.proofs.lemmas.Result.{IfOk-weaker}
 use Rattle.nv_super.specs.declared.kind.Kind.TheVariants.{File}
-use Rattle.nv_session.specs.Calls.{asks_create, makes_inode, logs_inode}
+use Rattle.nv_calls.specs.Effects.{makes_inode, logs_inode}
+use Rattle.nv_session.specs.Calls.{asks_create}
 use Rattle.nv_session.specs.Machine.{file_mode}
 use Rattle.nv_session.proofs.Calling.{called_moves, seen}
 use Rattle.nv_session.proofs.Asking.{create_answers, inode_logged}
@@ -18,5 +19,9 @@ returns c = IfOk-weaker c.settle_call.result _ _ (λ text settles. called_moves 
       keeps = c.create-answer.ensures.keeps;
       as_long = c.create-answer.ensures.length;
       steady = c.create-answer.ensures.keeps_fuse.steady;
+      read_only = c.create-answer.ensures.read_only;
+      bad_text = c.create-answer.ensures.bad_text;
+      any_stop = λ names is runs writes stops. c.create-answer.ensures.any_stop names is runs writes;
+      settled = c.settle_call.ensures.settled;
       kept = c.settle_call.ensures.keeps;
     }) settles) c.settle_call.ensures.settles

@@ -13,7 +13,7 @@ use Rattle.nv_session.proofs.session.Session.cut.Goals as goal
 pub returns : goal.returns
 returns c = IfOk-weaker c.put_front.result _ _ (λ text w. cuts_moves (memory_in c.in-Some.store).region c.args.length w.1 c.args.self.now c.put_front.new.self _ (ap region_in (sym c.in-Some.ensures.value))
     (le-leb _ _ (let bytes = c.len.ensures.bytes in let within = c.if-length-len.false in let same = ap (λ (m : RegionState). size m.region) c.memory.ensures in omega (arith, bytes, within, same)))
-    (w.2 ∙ ap (λ (m : RegionState). front m.region c.args.length) c.into_memory.ensures) w.3 w.0) c.put_front.ensures
+    (w.2 ∙ ap (λ (m : RegionState). front m.region c.args.length) c.into_memory.ensures) w.3 w.4 w.0) c.put_front.ensures
 
 pub returns-then-length-len : goal.returns-then-length-len
 returns-then-length-len c =

@@ -6,7 +6,7 @@ use Rattle.nv_session.proofs.session.Session.format.Goals as goal
 pub returns-in-Region : goal.returns-in-Region
 returns-in-Region c =
     let made = rw c.in-Region.is at c.in_ok-memory.ensures in
-    IfOk-weaker c.ok_text.result _ _ (λ text said. makes_moves (is_armed c.args.stop) c.args.cpus c.args.blocks c.args.table_blocks c.in-Region.memory c.args.self.now c.put.new.self _ made c.put.ensures said) c.ok_text.ensures
+    IfOk-weaker c.ok_text.result _ _ (λ text said. makes_moves (is_armed c.args.stop) c.args.cpus c.args.blocks c.args.table_blocks c.in-Region.memory c.args.self.now c.put.new.self _ made.0 made.1 c.put.ensures said) c.ok_text.ensures
 
 pub returns-in-Stopped : goal.returns-in-Stopped
 returns-in-Stopped c =

@@ -1,10 +1,11 @@
 use Rattle.std.proofs.Common.{string_bytes}
 use Rattle.std.specs.Prelude.{Some}
 use Rattle.std.proofs.lemmas.Result.{IfOk-weaker}
-use Rattle.nv_session.specs.Calls.{asks_link, makes_link, logs_link}
+use Rattle.nv_calls.specs.Effects.{makes_link, logs_link}
+use Rattle.nv_session.specs.Calls.{asks_link}
 use Rattle.nv_session.specs.Sessions.{is_armed}
-use Rattle.nv_session.proofs.Calling.{called_moves, two_moves, uncalled_moves}
-use Rattle.nv_session.proofs.Asking.{link_answers, link_changed, link_logged}
+use Rattle.nv_session.proofs.Calling.{called_moves, not_stopped, two_moves, uncalled_moves}
+use Rattle.nv_session.proofs.Asking.{link_answers, link_changed, link_logged, link_stops}
 use Rattle.nv_session.proofs.session.Session.link.Goals as goal
 
 pub returns : goal.returns
@@ -19,6 +20,10 @@ returns c = IfOk-weaker c.settle_call.result _ _ (λ text settles. two_moves (as
       keeps = c.link-answer.ensures.keeps;
       as_long = c.link-answer.ensures.length;
       steady = c.link-answer.ensures.keeps_fuse.steady;
+      read_only = c.link-answer.ensures.read_only;
+      bad_text = λ bad. c.link-answer.ensures.bad_text (λ names others is is_other. bad names is);
+      any_stop = λ names is runs writes stops left may. link_stops c.in-Some.mount c.take_mount.new.self.time names c.args.new.now q says_q left (λ none. not_stopped (c.link-answer.ensures.bad_text (λ names others is is_other. none others is_other)) runs stops) (λ others is_other. c.link-answer.ensures.any_stop names others is is_other runs writes left may);
+      settled = c.settle_call.ensures.settled;
       kept = c.settle_call.ensures.keeps;
     }) settles)) c.settle_call.ensures.settles
 

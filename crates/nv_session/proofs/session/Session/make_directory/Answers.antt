@@ -1,7 +1,8 @@
 use Rattle.std.proofs.Common.{string_bytes}
 use Rattle.std.proofs.lemmas.Result.{IfOk-weaker}
 use Rattle.nv_super.specs.declared.kind.Kind.TheVariants.{Directory}
-use Rattle.nv_session.specs.Calls.{asks_create, makes_inode, logs_inode}
+use Rattle.nv_calls.specs.Effects.{makes_inode, logs_inode}
+use Rattle.nv_session.specs.Calls.{asks_create}
 use Rattle.nv_session.specs.Machine.{directory_mode}
 use Rattle.nv_session.proofs.Calling.{called_moves, seen}
 use Rattle.nv_session.proofs.Asking.{create_answers, inode_logged}
@@ -18,5 +19,9 @@ returns c = IfOk-weaker c.settle_call.result _ _ (λ text settles. called_moves 
       keeps = c.mkdir-answer.ensures.keeps;
       as_long = c.mkdir-answer.ensures.length;
       steady = c.mkdir-answer.ensures.keeps_fuse.steady;
+      read_only = c.mkdir-answer.ensures.read_only;
+      bad_text = c.mkdir-answer.ensures.bad_text;
+      any_stop = λ names is runs writes stops. c.mkdir-answer.ensures.any_stop names is runs writes;
+      settled = c.settle_call.ensures.settled;
       kept = c.settle_call.ensures.keeps;
     }) settles) c.settle_call.ensures.settles

@@ -1,8 +1,8 @@
-use Rattle.std.proofs.Common.{◌∙◌, ap, refl}
+use Rattle.std.proofs.Common.{◌∙◌, ap, refl, subst, sym}
 use Rattle.nv_region.specs.RegionState.{RegionState}
 use Rattle.nv_region.specs.declared.memory.Fuse.TheVariants as fuses
 use Rattle.nv_report.specs.Last.{how_it_went}
-use Rattle.nv_session.specs.Sessions.{with_fuse}
+use Rattle.nv_session.specs.Sessions.{IsSettled, with_fuse}
 use Rattle.nv_session.specs.declared.session.Session.{Session}
 use Rattle.nv_session.proofs.session.Session.mount_region.Goals as goal
 
@@ -15,6 +15,7 @@ returns c =
         mount = with_fuse fuses.Off c.open.result;
         store = ap (λ (s : Session). s.store) puts;
         region = ap (λ (m : RegionState). m.region) opens.memory;
+        settled = subst (λ (m : RegionState). IsSettled m) (sym opens.memory) c.requires.settled;
         told = rw (opens.sup, opens.rows, opens.free, opens.faults) refl;
         runs = opens.stopped;
         time = ap (λ (s : Session). s.time) puts;

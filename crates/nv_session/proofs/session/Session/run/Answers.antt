@@ -51,6 +51,9 @@ returns-in-RemoveDirectory g c = rw c.in-RemoveDirectory.is c.remove_directory.e
 pub returns-in-Rename : goal.returns-in-Rename
 returns-in-Rename g c = rw c.in-Rename.is c.rename.ensures
 
+pub returns-in-Clean : goal.returns-in-Clean
+returns-in-Clean g c = rw c.in-Clean.is c.clean.ensures
+
 pub returns-in-Tree : goal.returns-in-Tree
 returns-in-Tree g c = rw c.in-Tree.is c.show.ensures
 

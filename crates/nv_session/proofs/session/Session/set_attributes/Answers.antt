@@ -1,6 +1,7 @@
 use Rattle.std.proofs.Common.{string_bytes}
 use Rattle.std.proofs.lemmas.Result.{IfOk-weaker}
-use Rattle.nv_session.specs.Calls.{asks_attributes, makes_attributes, logs_attributes}
+use Rattle.nv_calls.specs.Effects.{makes_attributes, logs_attributes}
+use Rattle.nv_session.specs.Calls.{asks_attributes}
 use Rattle.nv_session.proofs.Calling.{called_moves, seen}
 use Rattle.nv_session.proofs.Asking.{attributes_answers, attributes_logged}
 use Rattle.nv_session.proofs.session.Session.set_attributes.Goals as goal
@@ -16,5 +17,9 @@ returns c = IfOk-weaker c.settle_call.result _ _ (λ text settles. called_moves 
       keeps = c.set_attr-answer.ensures.keeps;
       as_long = c.set_attr-answer.ensures.length;
       steady = c.set_attr-answer.ensures.keeps_fuse.steady;
+      read_only = c.set_attr-answer.ensures.read_only;
+      bad_text = c.set_attr-answer.ensures.bad_text;
+      any_stop = λ names is runs writes stops. c.set_attr-answer.ensures.any_stop names is runs writes;
+      settled = c.settle_call.ensures.settled;
       kept = c.settle_call.ensures.keeps;
     }) settles) c.settle_call.ensures.settles

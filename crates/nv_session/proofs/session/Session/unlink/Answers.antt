@@ -1,8 +1,9 @@
 use Rattle.std.proofs.Common.{string_bytes}
 use Rattle.std.proofs.lemmas.Result.{IfOk-weaker}
-use Rattle.nv_session.specs.Calls.{LogsUnlink, asks_unlink, makes_unlink}
+use Rattle.nv_calls.specs.Effects.{LogsUnlink, makes_unlink}
+use Rattle.nv_session.specs.Calls.{asks_unlink}
 use Rattle.nv_session.proofs.Calling.{called_moves, seen}
-use Rattle.nv_session.proofs.Asking.{unlink_answers, unlink_logged}
+use Rattle.nv_session.proofs.Asking.{unlink_answers, unlink_logged, unlink_stops}
 use Rattle.nv_session.proofs.session.Session.unlink.Goals as goal
 
 pub returns : goal.returns
@@ -16,5 +17,9 @@ returns c = IfOk-weaker c.settle_call.result _ _ (λ text settles. called_moves 
       keeps = c.unlink-answer.ensures.keeps;
       as_long = c.unlink-answer.ensures.length;
       steady = c.unlink-answer.ensures.keeps_fuse.steady;
+      read_only = c.unlink-answer.ensures.read_only;
+      bad_text = c.unlink-answer.ensures.bad_text;
+      any_stop = λ names is runs writes stops left may. unlink_stops c.in-Some.mount c.take_mount.new.self.time names left (c.unlink-answer.ensures.any_stop names is runs writes left may);
+      settled = c.settle_call.ensures.settled;
       kept = c.settle_call.ensures.keeps;
     }) settles) c.settle_call.ensures.settles
