@@ -112,9 +112,9 @@ pub(crate) fn measure_blocks<R: AllocGlobal + Print + Eprint + Clock>(
     rt: &R,
     blocks: u64,
     cpus: u64,
-) -> Option<()> {
+) -> io::Result<()> {
     match layout(blocks, cpus) {
-        Some(sup) => measure(rt, &sup).ok(),
-        None => eprintln!(rt; "a region has 200 to 65536 blocks and 1 to 64 CPUs").ok(),
+        Some(sup) => measure(rt, &sup),
+        None => eprintln!(rt; "a region has 200 to 65536 blocks and 1 to 64 CPUs"),
     }
 }

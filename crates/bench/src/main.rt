@@ -1,28 +1,22 @@
-//! Measures what the project stands for, and what that stands on: recovery (`recovery`) and the calls of a mounted file
-//! system (`calls`); the name index (`names`), the file index (`pages`), the allocator (`blocks`), the reading of a log
-//! (`logs`), and what a call stores (`appends`).
+//! Measures what the project stands for, and what that stands on: recovery (`recovery`), the calls of a mounted file system
+//! (`calls`), and the allocator (`blocks`).
 //!
 //! The first word names one of them, and the others are its numbers, and for recovery the path of an image. Without any, each
 //! runs on a little.
 #![tactic(auto)]
 
-mod appends;
 mod blocks;
 mod calls;
 mod entries;
 mod hold;
-mod logs;
 mod measuring;
 mod mounting;
-mod names;
-mod pages;
-mod parts;
 mod recovery;
 mod shapes;
 mod times;
 
+use blocks::measure_blocks;
 use measuring::measure_calls;
-use parts::{measure_each_part, measure_part};
 use recovery::measure_recovery;
 use std::rt::{Clock, Files};
 use std::thread::Threads;
@@ -35,7 +29,7 @@ fn number_at(words: &[String], at: usize) -> Option<u64> {
 
 fn tell_usage<R: Eprint>(rt: &R) -> io::Result<()> {
     eprintln!(rt;
-        "usage: bench [recovery RUNS [PATH] | calls BLOCKS FILES NAMES | names COUNT | pages PAGES | blocks BLOCKS CPUS | logs PAGES ENTRIES | appends COUNT]"
+        "usage: bench [recovery RUNS [PATH] | calls BLOCKS FILES NAMES | blocks BLOCKS CPUS]"
     )
 }
 
@@ -54,6 +48,16 @@ fn measure_calls_by<R: AllocGlobal + Print + Eprint + Clock>(
     }
 }
 
+fn measure_blocks_by<R: AllocGlobal + Print + Eprint + Clock>(
+    rt: &R,
+    words: &[String],
+) -> io::Result<()> {
+    match (number_at(words, 1), number_at(words, 2)) {
+        (Some(blocks), Some(cpus)) => measure_blocks(rt, blocks, cpus),
+        _ => tell_usage(rt),
+    }
+}
+
 fn measure_recovery_by<R: AllocGlobal + Print + Eprint + Clock + Files + Threads + Sync>(
     rt: &R,
     words: &[String],
@@ -67,7 +71,7 @@ fn measure_recovery_by<R: AllocGlobal + Print + Eprint + Clock + Files + Threads
 fn measure_all<R: AllocGlobal + Print + Eprint + Clock + Files + Threads + Sync>(
     rt: &R,
 ) -> io::Result<()> {
-    measure_each_part(rt)?;
+    measure_blocks(rt, 1000, 4)?;
     measure_recovery(rt, 1, None)?;
     measure_calls(rt, 8192, 8, 42)
 }
@@ -82,13 +86,8 @@ fn measure_by<R: AllocGlobal + Print + Eprint + Clock + Files + Threads + Sync>(
     match part.as_str() {
         "recovery" => measure_recovery_by(rt, words),
         "calls" => measure_calls_by(rt, words),
-        part => {
-            let (count, other) = (number_at(words, 1), number_at(words, 2));
-            match measure_part(rt, part, count.unwrap_or(0), other.unwrap_or(0)) {
-                Some(measured) => measured,
-                None => tell_usage(rt),
-            }
-        }
+        "blocks" => measure_blocks_by(rt, words),
+        _ => tell_usage(rt),
     }
 }
 

@@ -4,15 +4,6 @@ use std::io;
 use std::rt::Clock;
 use std::time::Instant;
 
-/// The seconds since the start.
-pub(crate) fn print_seconds<R: Eprint + Clock>(
-    rt: &R,
-    what: &str,
-    start: Instant,
-) -> io::Result<()> {
-    eprintln!(rt; "{what}: {:.4}", start.elapsed(rt)?.as_secs_f64())
-}
-
 /// The nanoseconds that each of so many took since the start.
 pub(crate) fn print_each<R: Eprint + Clock>(
     rt: &R,

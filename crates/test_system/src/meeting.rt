@@ -12,8 +12,8 @@ use std::sync::atomic::{AtomicBool, Ordering};
 use std::test::Fail;
 use std::thread::Threads;
 
-/// The most turns that a party waits for the other.
-const TURNS: u64 = 10_000_000;
+/// The most turns that a party waits for the other: seconds of them, since the other may wait for a processor meanwhile.
+const TURNS: u64 = 1_000_000_000;
 
 /// Where two parties meet: each shows that it came, and waits for the other.
 #[derive(Drop)]

@@ -11,8 +11,9 @@ use nv_region::{MemRegion, Pmem};
 use std::alloc::Global;
 use std::test::Fail;
 
-/// Recovers a region and mounts it.
+/// Fences what was stored in a region, recovers it, and mounts it.
 pub fn mount(alloc: Global, mut memory: MemRegion) -> Result<Fs<MemRegion>, Fail> {
+    memory.fence()?;
     let recovered = recover_one(alloc, &mut memory)?;
     rolled_back_outcome();
     Ok(Fs::open(alloc, memory, recovered))

@@ -15,3 +15,6 @@ pub open-requires-clause-own : goal.open-requires-clause-own
 open-requires-clause-own c =
     subst (λ (R : Region). undone c.in-Ok.recovered.sup R ≡ R) (sym c.in-Ok.ensures.undone)
     (c.rolled_back_outcome.ensures.same c.args.memory.region (outcome_of c.in-Ok.recovered) c.in-Ok.ensures.ok)
+
+pub open-requires-clause-settled : goal.open-requires-clause-settled
+open-requires-clause-settled c = c.in-Ok.ensures.settled c.requires.settled
