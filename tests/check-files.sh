@@ -77,7 +77,7 @@ expect_script "a cut region and 65 workers" 2 "ok${newline}ok${newline}refused W
 expect_script "a number too few" 2 "ok${newline}bad line 3" "line 3: expected poke AT VALUE, $words" 'time 7\n\npoke 8\ntree\n'
 expect_script "a space behind a command" 2 "bad line 1" "line 1: expected tree, $words" 'tree \n'
 expect_script "no command" 2 "bad line 1" \
-    "line 1: expected time, format, recover, replay, poke, cut, list, stat, read, create, mkdir, write, size, attr, link, unlink, rmdir, rename, tree, free, faults, report, peek or stop" 'move 0 /a /b\n'
+    "line 1: expected time, format, recover, replay, poke, cut, list, stat, read, create, mkdir, write, size, attr, link, unlink, rmdir, rename, clean, tree, free, faults, report, peek or stop" 'move 0 /a /b\n'
 expect_script "a carriage return" 2 "bad line 1" \
     "line 1: it ends with a carriage return, byte 13; byte 10 alone ends a line" 'recover 1\r\n'
 expect_script "a line of 4097 bytes" 2 "bad line 1" "line 1: it has more than 4096 bytes" '#%4096d\n'

@@ -17,6 +17,12 @@ same() {
     fi
 }
 
+# count PASSED FAILED: adds the counts of another script; one that said none has failed.
+count() {
+    passed=$((passed + ${1:-0}))
+    failed=$((failed + ${2:-1}))
+}
+
 # needs_program PROGRAM: ends where it isn't built.
 needs_program() {
     if [ ! -x "$1" ]; then

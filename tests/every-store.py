@@ -4,10 +4,11 @@
 usage: tests/every-store.py [PROGRAM] [--judge JUDGE] [--only WORD]
 
 A stop keeps of the words that are pending none, all, or each second one. Those three ways can't tell that a fence is missing
-between two stores, so of the pending words each subset is tried too where they are at most 6, and else 64 of them, the same
-in each run. What the recovery then shows (tree, free lists, faults, and the bytes of files) is what was there before the
-call or what is there after it, without faults. A recovery that stores is stopped at each of its stores in the same ways, and
-the one after it once more; what the last one shows is what the first would have shown.
+between two stores, so of the pending words each subset is tried too where they are at most 6, and else 64 of them at random,
+the same in each run. What the recovery then shows (tree, free lists, faults, and the bytes of files) is what was there before
+the call or what is there after it, without faults. A recovery that stores is stopped at each of its stores in the same ways,
+and the one after it once more; what the last one shows is what the first would have shown. Each writing call is tried in a
+region of 1 CPU and in one of 64.
 
 JUDGE, a program that takes the same scripts, leaves the same words behind each stop, and recovers the same of them. WORD
 leaves out the calls that don't have it in their names. Calls that the program doesn't have yet are left out, and counted.
@@ -15,7 +16,6 @@ JOBS=2 processes are run at a time; it takes minutes. The last line counts the c
 """
 
 import random
-import re
 import sys
 import time
 from collections import Counter
@@ -29,15 +29,25 @@ DEPTH = 3
 # The steps that one process stops a call at, and a recovery.
 BATCH = 16
 BATCH_OF_RECOVERY = 6
-# No call of the scripts reaches a block behind these, and no recovery one behind the table.
-BLOCKS_OF_CALLS = 16
-BLOCKS_OF_RECOVERY = 5
+
+
+def on_cpu(last, commands):
+    """The commands, with the number of the last CPU put in."""
+    return [command.format(last=last) for command in commands]
+
 
 RECOVER = lines("recover 1")
 BASE2 = lines("format 2 64 1", "recover 1")
 SMALL = lines("format 1 16 1", "recover 1")
+# Each CPU has a pool of 5 or 6 blocks.
+BASE64 = lines("format 64 512 1", "recover 1")
 MOVED = ["mkdir 0 /d", "mkdir 0 /e", "create 0 /d/x", "rename 0 /d/x /e/x"]
 FULL_OF_NAMES = ["create 0 /n0", *(f"link 0 /n0 /n{k}" for k in range(1, 127))]
+# Each writing call but `clean`, made by the last CPU and some by the first.
+EACH_CALL = ["mkdir 0 /d", "mkdir {last} /e", "create {last} /a", "write {last} /a 0 5000 65", "size 0 /a 3", "attr {last} /a 448 1 2"]
+EACH_CALL += ["link {last} /a /d/b", "rename {last} /a /c", "rename {last} /d/b /e/b", "rename 0 /c /d/c"]
+EACH_CALL += ["unlink {last} /e/b", "unlink {last} /d/c", "rmdir {last} /d"]
+DEAD_PAGE = ["create {last} /a", *["attr {last} /a 420 0 0"] * 127]
 # By name: the region that the calls begin with, and the calls.
 SCRIPTS = {
     "a file of two pages": (BASE2, ["create 0 /a", "write 0 /a 0 5000 65"]),
@@ -46,7 +56,10 @@ SCRIPTS = {
     "a log that goes on": (BASE2, FULL_OF_NAMES),
     "a file cut and lengthened": (SMALL, ["create 0 /a", "write 0 /a 0 6 65", "size 0 /a 3", "size 0 /a 6"]),
     "names that go": (SMALL, ["mkdir 0 /d", "create 0 /a", "link 0 /a /d/b", "unlink 0 /a", "rename 0 /d/b /c", "unlink 0 /c", "rmdir 0 /d"]),
-    "a log with a dead page": (SMALL + lines("create 0 /a", *["attr 0 /a 420 0 0"] * 127), ["clean /a"]),
+    "each call, of 1 CPU": (SMALL, on_cpu(0, EACH_CALL)),
+    "each call, of 64 CPUs": (BASE64, on_cpu(63, EACH_CALL)),
+    "a log with a dead page": (SMALL + lines(*on_cpu(0, DEAD_PAGE)), ["clean /a"]),
+    "a log with a dead page, of 64 CPUs": (BASE64 + lines(*on_cpu(63, DEAD_PAGE)), ["clean /a"]),
     "a region of version 1, with words where links come": (lines("format 2 64 1", "poke 4112 7", "poke 8208 9", "recover 1", "create 0 /a"), ["upgrade"]),
     "overwritten pages": (lines("time 7", "format 1 16 1", "recover 1"), ["create 0 /a", "write 0 /a 0 5000 65", "attr 0 /a 448 1 2", "write 0 /a 4000 200 66"]),
 }
@@ -89,19 +102,38 @@ def calls(missing, only):
     return found, left_out
 
 
-def blocks_of(build):
-    """The blocks of the region that a script makes."""
-    return int(re.search(rb"format [0-9]+ ([0-9]+)", build)[1])
-
-
 def poked(words):
     return b"".join(b"poke %d %d\n" % word for word in sorted(words.items()))
 
 
-def is_pending(base, words):
-    """Whether a journal of the region has records to roll back."""
-    starts = [BLOCK * (1 + cpu) for cpu in range(min(base[2], BLOCKS_OF_RECOVERY - 1))]
-    return any(words.get(at, base[at // 8]) != words.get(at + 8, base[at // 8 + 1]) for at in starts)
+def words_in(runner, build, blocks):
+    """The words of some blocks of the region that a script makes, by their addresses."""
+    addresses = [BLOCK * block + at for block in blocks for at in range(0, BLOCK, 8)]
+    return dict(zip(addresses, words_of(runner.answer(build, peeks_of(blocks)))))
+
+
+def peeks_of(blocks):
+    return b"".join(peeks(block, block + 1) for block in blocks)
+
+
+class Blocks:
+    """The blocks that a call may store to, and those of them that the recovery behind it may: all but the data blocks."""
+
+    def __init__(self, runner, call):
+        self.cpus, blocks, tables = words_of(runner.answer(call.build, lines("peek 16", "peek 24", "peek 32")))
+        first_data = 1 + self.cpus + self.cpus * tables
+        if call.command.startswith(b"format"):
+            # What it doesn't store it leaves as zeros.
+            self.of_call = list(range(blocks))
+        else:
+            before, after = (words_in(runner, build, range(blocks)) for build in (call.build, call.build + call.command))
+            self.of_call = sorted({at // BLOCK for at in before if before[at] != after[at]})
+        self.of_recovery = [block for block in self.of_call if block < first_data]
+
+    def is_pending(self, base, words):
+        """Whether a journal has records to roll back."""
+        starts = [BLOCK * block for block in self.of_recovery if 1 <= block <= self.cpus]
+        return any(words.get(at, base[at]) != words.get(at + 8, base[at + 8]) for at in starts)
 
 
 class Stops:
@@ -118,19 +150,16 @@ class Stops:
             for build, seen in [(call.build, before), (call.build + call.command, after)]:
                 if ask(build, call.shown) != seen.split(b"\n", 1)[1]:
                     raise Wrong(Case(build, call.shown), "what is mounted isn't what a recovery finds")
-            rest = ask(call.build + call.command, peeks(BLOCKS_OF_CALLS, blocks_of(call.build)))
-            if rest.strip(b"word 0\n"):
-                raise Wrong(Case(call.build, call.command), f"a block from {BLOCKS_OF_CALLS} on is stored to")
         if b"no faults" not in after:
             raise Wrong(Case(call.build, call.command), "there are faults behind it")
-        blocks = BLOCKS_OF_RECOVERY if call.command == RECOVER else BLOCKS_OF_CALLS
-        self.steps = self.explore(call.build, call.command, {before, after}, 1, blocks)
+        self.blocks = Blocks(self.runner, call)
+        self.steps = self.explore(call.build, call.command, {before, after}, 1, self.blocks.of_call)
         if self.steps != STEPS.get(call.name, self.steps):
             raise Wrong(Case(call.build, call.command), f"it has {self.steps} stores and fences, wanted {STEPS[call.name]}")
 
     def explore(self, build, command, allowed, depth, blocks):
         """Stops a command at each of its steps, sees that each region that is left shows an allowed text, and answers the steps."""
-        base, met, after = words_of(self.runner.answer(build, peeks(0, blocks))), set(), -1
+        base, met, after = words_in(self.runner, build, blocks), set(), -1
         for after, left in self.stopped(build, command, base, allowed):
             tried = self.subsets(after, base, left)
             self.cases[depth] += len(KEEPS) + len(tried)
@@ -140,8 +169,8 @@ class Stops:
             regions = [build + poked(words) for words in fresh.values()]
             for words, region, seen in zip(fresh.values(), regions, self.runner.answers([Case(r, self.call.seen) for r in regions])):
                 self.see(Case(region, self.call.seen), seen, allowed, f"after {after} steps some words are kept")
-                if depth < DEPTH and is_pending(base, words):
-                    self.explore(region, RECOVER, {seen}, depth + 1, BLOCKS_OF_RECOVERY)
+                if depth < DEPTH and self.blocks.is_pending(base, words):
+                    self.explore(region, RECOVER, {seen}, depth + 1, self.blocks.of_recovery)
         return after + 1
 
     def see(self, case, seen, allowed, when):
@@ -152,7 +181,7 @@ class Stops:
     def stopped(self, build, command, base, allowed):
         """For each number of steps after which the command is stopped: by KEEP, the words that differ from the base."""
         step, count = 0, len(base)
-        look = command + peeks(0, 8 * count // BLOCK) + self.call.seen
+        look = command + b"".join(b"peek %d\n" % at for at in base) + self.call.seen
         batch = BATCH_OF_RECOVERY if command == RECOVER else BATCH
         while True:
             stops = [(after, keep) for after in range(step, step + batch) for keep in KEEPS]
@@ -163,7 +192,7 @@ class Stops:
                 if answer != b"stopped":
                     return
                 self.see(case, words.pop(), allowed, f"it is stopped after {after} steps, {keep} kept")
-                left[keep] = {8 * at: int(line[5:]) for at, (word, line) in enumerate(zip(base, words)) if line != b"word %d" % word}
+                left[keep] = {at: int(line[5:]) for (at, word), line in zip(base.items(), words) if line != b"word %d" % word}
                 if keep == KEEPS[-1]:
                     yield after, dict(left)
             step += batch
@@ -171,11 +200,11 @@ class Stops:
     def subsets(self, after, base, left):
         """The regions that a stop may leave, by the words that none keeps and those that all keeps: all of them, or some."""
         def value(keep, at):
-            return left[keep].get(at, base[at // 8])
+            return left[keep].get(at, base[at])
 
         def kept(mask):
             words = {**left["none"], **{at: value("all", at) for place, at in enumerate(pending) if mask >> place & 1}}
-            return {at: word for at, word in words.items() if word != base[at // 8]}
+            return {at: word for at, word in words.items() if word != base[at]}
 
         pending = [at for at in sorted(left["none"].keys() | left["all"].keys()) if value("none", at) != value("all", at)]
         if left["alternate"] != kept(sum(1 << place for place in range(0, len(pending), 2))):

@@ -1,6 +1,6 @@
 #!/usr/bin/env bash
-# Runs the commands and scripts that README.md and docs/ show on the built program, and compares what they print; and looks
-# up in the sources what README.md and docs/ quote of them. Builds and the gate are left out.
+# Runs the commands and scripts that README.md and docs/ show on the built program, and compares what they print; and calls
+# `reference.py --check`, which compares what they say of the sources. Builds and the gate are left out.
 #
 #     tests/readme.sh                      prints a line for each difference, and closes with 'N passed, M failed'
 #     tests/readme.sh --scripts FOLDER     also keeps the scripts, with what they print and their status, for rows-on-workers.py
@@ -116,39 +116,9 @@ else
 fi
 same "the output of mount_and_list" "$(cat crates/mount_and_list/stdout)" "$(grep -xFf crates/mount_and_list/stdout README.md)"
 
-# Clauses and definitions that are quoted stand in the sources.
-while IFS= read -r line; do
-    grep -rqF -- "$line" crates/*/src crates/*/specs
-    same "quoted: $line" 0 $?
-done < <(awk '/^```/ { inside = !inside; next } inside && /^(ensures |outcome_of |pub record |  pub )/' README.md docs/READING.md)
-
-# Each row of docs/PROVED.md names files that are there, and clauses or functions that stand in one of them.
-while IFS='|' read -r crate clauses files; do
-    paths=()
-    for file in $(grep -oE '[a-z_/]*(src|specs)(/[A-Za-z_]+\.(rt|antt))?' <<<"$files"); do
-        [ -e "crates/$file" ] || file=$crate/$file
-        [ -e "crates/$file" ]
-        same "docs/PROVED.md: crates/$file" 0 $?
-        paths+=("crates/$file")
-    done
-    for word in $(grep -o '`[^`]*`' <<<"$clauses" | tr -d '`'); do
-        grep -rqw -- "$word" "${paths[@]:-crates/$crate/src}"
-        same "docs/PROVED.md: $word in ${paths[*]:-$crate}" 0 $?
-    done
-done < <(awk -F'|' '/^## / { crate = $0; sub(/^## /, "", crate); sub(/[ :,].*/, "", crate) }
-    /^\| / && !/^\| promise/ { print crate "|" $3 "|" $4 }' docs/PROVED.md)
-
-# In the picture of the crates each stands above those that its line of crates.txt names.
-declare -A height=()
-while read -r at name; do
-    height[$name]=$at
-done < <(sed -n 's/.* y="\([0-9]*\)" .*font-weight="bold">\([a-z_]*\)<.*/\1 \2/p' docs/crates.svg)
-while IFS=: read -r name lower; do
-    [ -n "${height[$name]-}" ] || continue
-    for other in $lower; do
-        [ -z "${height[$other]-}" ] || [ "${height[$name]}" -lt "${height[$other]}" ]
-        same "docs/crates.svg: $name above $other" 0 $?
-    done
-done < <(grep -E '^[a-z_]+:' crates.txt)
+# What README.md and docs/ say of the sources: links, quoted clauses and names, fault classes, numbers, the pages of crates.
+compared=$(tests/reference.py --check)
+grep -v ' passed, ' <<<"$compared"
+count "$(sed -n 's/^\([0-9]*\) passed, .*/\1/p' <<<"$compared")" "$(sed -n 's/.* passed, \([0-9]*\) failed$/\1/p' <<<"$compared")"
 
 close
