@@ -9,19 +9,14 @@
 # directory of many names, and files of many overwrites. Both keep the memory that they free, so that a recovery doesn't
 # wait for the system to clear it again, and both have huge pages. Nothing else should run meanwhile.
 set -eu
-here=$(cd "$(dirname "${BASH_SOURCE[0]}")/.." && pwd)
-if [ $# -lt 1 ] || [ ! -f "$1/Cargo.toml" ]; then
-    sed -n '2,11s/^# \{0,1\}//p' "${BASH_SOURCE[0]}"
-    exit 2
-fi
+source "$(dirname "${BASH_SOURCE[0]}")/parts.sh" || exit 2
+[ $# -ge 1 ] && [ -f "$1/Cargo.toml" ] || usage
 rounds=${2:-5}
 # 32 MiB is the most that the C library takes as the second.
 export MALLOC_TRIM_THRESHOLD_=1073741824 MALLOC_MMAP_THRESHOLD_=33554432
 export GLIBC_TUNABLES=glibc.malloc.hugetlb=1
-folder=$(mktemp -d)
-trap 'rm -rf "$folder"' EXIT
-(cd "$1" && CARGO_TARGET_DIR=$folder/peer cargo build --release --offline -q)
-peer=$folder/peer/release/nova_ref
+needs_native "$1"
+peer=$NOVA_NATIVE
 (cd "$here/crates/bench" && rt run >"$folder/built" 2>&1) || { tail -n 20 "$folder/built"; exit 2; }
 ours=$here/crates/bench/out/bench
 

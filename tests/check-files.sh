@@ -1,14 +1,13 @@
 #!/usr/bin/env bash
 # Runs `nova check` on files that hold no region, or that can't be read, and scripts with a bad line or a cut region, and
 # compares what they write, what they say on standard error, and their exit status.
-# Needs the built program (`./nova` builds it), and root for the file without permission, which else is left out.
+# Needs the built program (`./nova` builds it). The file without permission needs root, and is left out for others.
+# Prints a line for each difference, and closes with 'N passed, M failed'.
 set -u
-here=$(cd "$(dirname "${BASH_SOURCE[0]}")/.." && pwd)
-program=$here/crates/nova/out/nova
-folder=$(mktemp -d)
-trap 'rm -rf "$folder"' EXIT
+source "$(dirname "${BASH_SOURCE[0]}")/parts.sh" || exit 2
+program=$built
+needs_program "$program"
 chmod 755 "$folder"
-wrong=0
 newline=$'\n'
 # U+FFFD, which stands for bytes that aren't UTF-8.
 replacement=$'\xef\xbf\xbd'
@@ -21,12 +20,8 @@ expect() {
     found_output=$("$@" 2>"$folder/error" </dev/null)
     found_status=$?
     found_error=$(cat "$folder/error")
-    if [ "$found_status" = "$status" ] && [ "$found_output" = "$output" ] && [ "$found_error" = "$error" ]; then
-        echo "ok: $name"
-    else
-        echo "WRONG: $name: status $found_status, wrote '$found_output', said '$found_error'"
-        wrong=1
-    fi
+    [ "$found_status" = "$status" ] && [ "$found_output" = "$output" ] && [ "$found_error" = "$error" ]
+    holds "$name: status $found_status, wrote '$found_output', said '$found_error'" $?
 }
 
 : >"$folder/empty"
@@ -60,25 +55,26 @@ expect "a file in the place of a folder" 2 "" "cannot read $folder/short/a${newl
     "$program" check "$folder/short/a"
 expect "a path that isn't UTF-8" 2 "" "cannot read $folder/a${replacement}b${newline}its path isn't UTF-8" \
     "$program" check "$not_utf8" --workers 2
-if [ "$(id -u)" = 0 ]; then
-    # The program is copied, since others may not reach the folder that it stands in.
-    cp "$program" "$folder/nova"
+# The program is copied, since others may not reach the folder that it stands in.
+cp "$program" "$folder/nova"
+as_other=(setpriv --reuid 65534 --regid 65534 --clear-groups)
+if "${as_other[@]}" test -x "$folder/nova" 2>/dev/null; then
     : >"$folder/closed"
     chmod 600 "$folder/closed"
     expect "a file without permission" 2 "" "cannot read $folder/closed${newline}no permission to read it" \
-        setpriv --reuid 65534 --regid 65534 --clear-groups "$folder/nova" check "$folder/closed"
+        "${as_other[@]}" "$folder/nova" check "$folder/closed"
 else
-    echo "left out: a file without permission (needs root)"
+    echo "left out: a file without permission; no other user can run the program"
 fi
 
 expect_script "a region that was cut" 2 "ok${newline}ok${newline}refused S1" "it has 65535 bytes; $lengths" \
     'format 1 16 1\ncut 65535\nrecover 1\n'
 expect_script "a cut region and 65 workers" 2 "ok${newline}ok${newline}refused Workers" "" 'format 1 16 1\ncut 65535\nrecover 65\n'
 expect_script "a number too few" 2 "ok${newline}bad line 3" "line 3: expected poke AT VALUE, $words" 'time 7\n\npoke 8\ntree\n'
-expect_script "a space behind a command" 2 "bad line 1" "line 1: expected tree, $words" 'tree \n'
+expect_script "a space after a command" 2 "bad line 1" "line 1: expected tree, $words" 'tree \n'
 expect_script "no command" 2 "bad line 1" \
     "line 1: expected time, format, recover, replay, poke, cut, list, stat, read, create, mkdir, write, size, attr, link, unlink, rmdir, rename, clean, tree, free, faults, report, peek or stop" 'move 0 /a /b\n'
 expect_script "a carriage return" 2 "bad line 1" \
     "line 1: it ends with a carriage return, byte 13; byte 10 alone ends a line" 'recover 1\r\n'
 expect_script "a line of 4097 bytes" 2 "bad line 1" "line 1: it has more than 4096 bytes" '#%4096d\n'
-exit $wrong
+close

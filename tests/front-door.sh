@@ -1,14 +1,17 @@
 #!/usr/bin/env bash
 # Tries the script `nova` and `prove.py` on a copy of the sources, with a kit of stubs that proves nothing and takes no time:
-# what is built and in which order, what is built again, two runs at once, interrupts, and a crate that fails. It takes
-# seconds. Prints a line for each difference, and closes with 'N passed, M failed'.
+# what is built and in which order, what is built again, two runs at once, interrupts, a crate that fails, and a check by the
+# unproved program. It takes seconds. Prints a line for each difference, and closes with 'N passed, M failed'.
+#
+# Nothing here rests on how long something takes: a stub that is to be slow goes on when the file `go` is there, and what is
+# waited for is looked for again and again.
 set -u
-here=$(cd "$(dirname "${BASH_SOURCE[0]}")/.." && pwd)
-source "$(dirname "${BASH_SOURCE[0]}")/comparing.sh"
+source "$(dirname "${BASH_SOURCE[0]}")/parts.sh" || exit 2
 
 kit=$folder/kit
 copy=$folder/copy
 log=$folder/log
+go=$folder/go
 mkdir -p "$kit/bin" "$copy/crates"
 echo stubs >"$kit/KIT-ID"
 cp "$here/nova" "$here/prove.py" "$here/crates.txt" "$copy/"
@@ -16,15 +19,18 @@ for crate in "$here"/crates/*; do
     mkdir "$copy/crates/${crate##*/}"
     cp -r "$crate/src" "$copy/crates/${crate##*/}/"
 done
-# The prover writes which crate it begins with and ends; it fails for $FAILS, and takes $DELAY seconds for $SLOW.
+# The prover writes which crate it begins with and ends; it fails for $FAILS, and waits for $GO with $SLOW, $MOST seconds.
 cat >"$kit/bin/rattle" <<'STUB'
 #!/usr/bin/env bash
 while [ $# -gt 0 ]; do
     case $1 in --crate-name) name=$2 ;; -o) to=$2 ;; esac
     shift
 done
+[ "$name" != "${SLOW-}" ] || echo $$ >"$GO.pid"
 echo "begin $name" >>"$LOG"
-[ "$name" != "${SLOW-}" ] || sleep "$DELAY"
+if [ "$name" = "${SLOW-}" ]; then
+    until [ -e "$GO" ] || [ "$SECONDS" -ge "$MOST" ]; do sleep 0.05; done
+fi
 [ "$name" != "${FAILS-}" ] || { echo "why $name fails"; exit 1; }
 case $to in *.o) echo object >"$to" ;; *) mkdir -p "$to" ;; esac
 echo "end $name" >>"$LOG"
@@ -35,10 +41,37 @@ while [ "$1" != -o ]; do shift; done
 printf '#!/bin/sh\necho %s "$@"\n' "$(basename "$2" .new)" >"$2"
 chmod +x "$2"
 STUB
-printf '#!/bin/sh\n' >"$kit/bin/rt"
+# `rt try` says where it runs and with which words, and ends as $TRIED has it.
+cat >"$kit/bin/rt" <<'STUB'
+#!/usr/bin/env bash
+echo "${PWD##*/}: rt $*"
+[ -z "${TRIED-}" ] || echo "run=ended status=$TRIED runners=1 races=unchecked proved=no" >&2
+exit "${TRIED:-1}"
+STUB
 chmod +x "$kit"/bin/*
-export LOG=$log PATH=$kit/bin:$PATH
+export LOG=$log GO=$go MOST=300 PATH=$kit/bin:$PATH
 
+# within COMMAND..: whether the command succeeds before long, tried again and again.
+within() {
+    local began=$SECONDS
+    until "$@" 2>/dev/null; do
+        [ $((SECONDS - began)) -lt "$MOST" ] || return 1
+        sleep 0.05
+    done
+}
+# says TEXT FILE: whether a file has the text.
+says() {
+    grep -qF -- "$1" "$2"
+}
+# edit CRATE FILE: adds a line to a source. All stamps are made older before, since a file system may count by seconds.
+edit() {
+    find "$copy/crates" \( -name '*.started' -o -name '*.next' \) -exec touch -d '1 minute ago' {} +
+    echo '// more' >>"$copy/crates/$1/src/$2"
+}
+# ended PID: whether no process has this number, or one that has ended and isn't waited for.
+ended() {
+    [ -z "$(tr -d '\0' <"/proc/$1/cmdline")" ]
+}
 # What a run prints on standard output, and its status; what it says goes to a file.
 run() {
     "$copy/nova" "$@" 2>"$folder/said"
@@ -79,8 +112,9 @@ while read -r what name; do
         [ "$lower" = "$name" ] || [ -n "${ended[$lower]-}" ] || wrong="$wrong $name"
     done
 done <"$log"
-same "each behind those that it stands on" "" "$wrong"
-same "how far it is" "nova: proving nova_check (26 of 26" "$(grep -o 'nova: proving nova_check ([0-9]* of [0-9]*' "$folder/said")"
+same "each after those that it stands on" "" "$wrong"
+all=$(crates_of nova_check | wc -l)
+same "how far it is" "nova: proving nova_check ($all of $all" "$(grep -o 'nova: proving nova_check ([0-9]* of [0-9]*' "$folder/said")"
 
 : >"$log"
 same "a second check" "nova_check check x status 0" "$(run check x | xargs)"
@@ -88,8 +122,7 @@ same "proves nothing" "" "$(cat "$log" "$folder/said")"
 ln -s "$copy/nova" "$folder/link"
 same "by a link" "nova_check explain S1" "$("$folder/link" explain S1)"
 
-sleep 0.01
-echo '// more' >>"$copy/crates/nv_text/src/lib.rt"
+edit nv_text lib.rt
 same "help waits for nothing" "nova_check --help status 0" "$(run --help | xargs)"
 same "and proves nothing" "" "$(cat "$log")"
 run check x >/dev/null
@@ -102,44 +135,72 @@ same "which then checks too" "nova check x status 0" "$(run check x | xargs)"
 
 # A crate that is edited while it is proved is proved again.
 : >"$log"
-echo '// more' >>"$copy/crates/nova/src/main.rt"
-SLOW=nova DELAY=1 run run </dev/null >/dev/null &
-sleep 0.5
-echo '// and more' >>"$copy/crates/nova/src/main.rt"
+edit nova main.rt
+SLOW=nova run run </dev/null >/dev/null &
+within says "begin nova" "$log"
+edit nova main.rt
+: >"$go"
 wait
 run run </dev/null >/dev/null
 same "an edit meanwhile" "nova nova" "$(begun | xargs)"
+rm "$go"
 
 # Two runs at once.
 : >"$log"
-echo '// more' >>"$copy/crates/nova/src/main.rt"
-SLOW=nova DELAY=1 "$copy/nova" run </dev/null >"$folder/one" 2>/dev/null &
-sleep 0.3
-same "the second run waits" "nova run status 0" "$(run run </dev/null | xargs)"
-same "and says so" "nova: another run is building; this one waits for it" "$(head -n 1 "$folder/said")"
+edit nova main.rt
+SLOW=nova "$copy/nova" run </dev/null >"$folder/one" 2>/dev/null &
+within says "begin nova" "$log"
+"$copy/nova" run </dev/null >"$folder/two" 2>"$folder/waits" &
+within says "waits for it" "$folder/waits"
+same "the second run waits" "nova: another run is building; this one waits for it" "$(cat "$folder/waits")"
+: >"$go"
 wait
 same "and only one proves" "nova" "$(begun)"
-same "both answer" "nova run" "$(cat "$folder/one")"
+same "both answer" "nova run nova run" "$(cat "$folder/one" "$folder/two" | xargs)"
+rm "$go"
 
 # An interrupt ends the provers, and keeps what is proved.
 : >"$log"
-echo '// more' >>"$copy/crates/nv_cli/src/lib.rt"
-SLOW=nova DELAY=60 "$copy/prove.py" nova 2>/dev/null &
-sleep 1
+edit nv_cli lib.rt
+SLOW=nova "$copy/prove.py" nova 2>/dev/null &
+within says "begin nova" "$log"
+prover=$(cat "$go.pid")
 kill "$!"
 wait
-same "no prover is left" "" "$(pgrep -f "$kit/bin/rattle ")"
+within ended "$prover"
+same "no prover is left" 0 $?
 : >"$log"
 run run </dev/null >/dev/null
 same "what was proved stays" "nova" "$(begun)"
 
 # A crate that isn't proved.
 : >"$log"
-echo '// more' >>"$copy/crates/nv_cli/src/lib.rt"
+edit nv_cli lib.rt
 same "a crate that fails" "status 2" "$(FAILS=nv_cli run run </dev/null)"
-same "tells why" "why nv_cli fails" "$(head -n 5 "$folder/said" | grep why)"
+same "says why" "why nv_cli fails" "$(grep why "$folder/said")"
 same "and nothing above it is proved" "nv_cli" "$(begun)"
-same "no kit" "status 2" "$(PATH=/usr/bin:/bin run run </dev/null)"
+
+# Without the kit, a folder of the tools that are needed is all that is on the path.
+mkdir "$folder/tools"
+for tool in bash env find dirname readlink; do
+    ln -s "$(command -v "$tool")" "$folder/tools/"
+done
+# What is named python3 on the path may be a script that needs further tools.
+ln -s "$(python3 -c 'import sys; print(sys.executable)')" "$folder/tools/python3"
+same "no kit" "status 2" "$(PATH=$folder/tools run run </dev/null)"
 same "what is missing" "nova: the command rt of the Rattle kit isn't on the path; the kit proves and builds the program" "$(cat "$folder/said")"
+
+# A check by the unproved program proves nothing, and answers what that answers.
+: >"$log"
+echo region >"$folder/an image"
+tried="nova_check: rt try --steps 1 --data image=$folder/an image -- check image --workers 4"
+same "a try" "$tried status 1" "$(cd "$folder" && TRIED=1 run try check "an image" --workers 4 | xargs)"
+same "says that nothing is proved" "nova: nothing of this answer is proved yet: the program runs unproved, by the kit's rt try" "$(head -n 1 "$folder/said")"
+same "with the image as the last word" "${tried% -- *} -- check --workers 4 image status 0" "$(cd "$folder" && TRIED=0 run try check --workers 4 "an image" | xargs)"
+same "an image that isn't there" "nova_check: rt try --steps 1 -- check none status 2" "$(cd "$folder" && TRIED=2 run try check none | xargs)"
+same "a try that fails itself" "status 2" "$(run try check none | tail -n 1)"
+same "a try of another command" "status 2" "$(run try run)"
+same "says what can be tried" "usage: ./nova try check IMAGE [--workers N] [--summary | --only-faults]" "$(cat "$folder/said")"
+same "and nothing is proved" "" "$(cat "$log")"
 
 close

@@ -8,16 +8,14 @@
 # In docs/ a block `script` is run by `nova run`, and the block `output` behind it is what it prints but for lines `ok`.
 # Commands on indented lines print the next block. `parallel` and `man` are left out where they aren't installed.
 set -u
-here=$(cd "$(dirname "${BASH_SOURCE[0]}")/.." && pwd)
-program=$here/crates/nova/out/nova
+source "$(dirname "${BASH_SOURCE[0]}")/parts.sh" || exit 2
+program=$built
 kept=
 if [ "${1-}" = --scripts ] && [ $# -eq 2 ]; then
     mkdir -p "$2" && kept=$(cd "$2" && pwd)
 elif [ $# -ne 0 ]; then
-    sed -n 's/^# \{0,1\}//p' "${BASH_SOURCE[0]}" | sed -n 2,9p >&2
-    exit 2
+    usage
 fi
-source "$(dirname "${BASH_SOURCE[0]}")/comparing.sh"
 needs_program "$program"
 cd "$here" || exit 2
 

@@ -4,8 +4,7 @@
 # One build of `rt try` refuses the allocation of the same number in all its runs. So run K takes K blocks of memory first:
 # run 0 meets no refusal, in the last the first allocation is refused.
 
-folder=$(mktemp -d)
-trap 'rm -rf "$folder"' EXIT
+source "$(dirname "${BASH_SOURCE[0]}")/parts.sh" || exit 2
 # How each run ended, a line for each.
 ends=$folder/ends
 wrong=0
@@ -24,7 +23,7 @@ refuse_each() {
         : >"$folder/cases/$blocks"
         printf '%s\n%s\n' "$1" "$blocks" >"$folder/cases/$blocks.args"
     done
-    cd "$(dirname "${BASH_SOURCE[0]}")/../crates/refusals" || exit 1
+    cd "$here/crates/refusals" || exit 1
     rt try --steps 1 --fail-alloc "$2" --cases "$folder/cases" >"$folder/log" 2>&1
 
     # Each run on one line.

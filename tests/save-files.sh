@@ -7,9 +7,8 @@
 #
 # What needs strace, a file system of its own or another user is left out where it can't be had, and a line says so.
 set -u
-here=$(cd "$(dirname "${BASH_SOURCE[0]}")/.." && pwd)
-program=${1:-$here/crates/nova/out/nova}
-source "$(dirname "${BASH_SOURCE[0]}")/comparing.sh"
+source "$(dirname "${BASH_SOURCE[0]}")/parts.sh" || exit 2
+program=${1:-$built}
 needs_program "$program"
 disk=
 trap '[ -z "$disk" ] || umount "$disk"; chmod -R u+w "$folder"; rm -rf "$folder"' EXIT
@@ -137,7 +136,7 @@ as_other=()
 if [ "$(id -u)" = 0 ]; then
     as_other=(setpriv --reuid 65534 --regid 65534 --clear-groups)
 fi
-if "${as_other[@]}" true 2>/dev/null; then
+if "${as_other[@]}" test -x "$program" 2>/dev/null; then
     for words in "run $grown --save" "mkfs --blocks 8 --cpus 1 --tables 1 --force"; do
         # shellcheck disable=SC2086
         "${as_other[@]}" "$program" $words "$room/image" >/dev/null 2>"$folder/err"
@@ -146,7 +145,7 @@ if "${as_other[@]}" true 2>/dev/null; then
         unchanged "in a folder that can't be written"
     done
 else
-    echo "left out: a folder that can't be written; there is no setpriv"
+    echo "left out: a folder that can't be written; no other user can run the program"
 fi
 chmod 755 "$room"
 told "in no folder" 2 ok "cannot write $room/none/image: no such directory" run "$grown" --save "$room/none/image"
