@@ -17,7 +17,7 @@ Exit status:
   1  the last recovery showed faults
   2  a bad line; the last recovery was refused; the script, the image or the output failed; or memory ran out
 
-docs/SCRIPT.md tells the commands of a script and the lines that they print.";
+docs/SCRIPT.md has the commands of a script and the lines that they print.";
 
 const CHECK_NOTES: &str = "\
 Exit status:
@@ -25,7 +25,7 @@ Exit status:
   1  the report shows faults
   2  the image was refused; the file can't be read; the output failed; or memory ran out
 
-docs/SCRIPT.md tells the lines of a report, docs/FAULTS.md what each fault means.";
+docs/SCRIPT.md has the lines of a report, docs/FAULTS.md what each fault means.";
 
 const NOTES: &str = "\
 Exit status:
@@ -52,7 +52,7 @@ const COMMANDS: [CommandForm<'static>; 8] = [
             Argument {
                 written: Written::ByPlace,
                 name: "script",
-                help: "The file that holds the script; standard input where left out",
+                help: "The file that holds the script; standard input if left out",
             },
             Argument {
                 written: Written::Option,
@@ -79,7 +79,7 @@ const COMMANDS: [CommandForm<'static>; 8] = [
             Argument {
                 written: Written::Workers,
                 name: "workers",
-                help: "The number of threads that recover it, from 1 to 64; 1 where left out",
+                help: "The number of threads that recover it, from 1 to 64; 1 if left out",
             },
             Argument {
                 written: Written::Flag,
@@ -138,13 +138,13 @@ const COMMANDS: [CommandForm<'static>; 8] = [
             Argument {
                 written: Written::ByPlace,
                 name: "path",
-                help: "The path of the directory; / where left out",
+                help: "The path of the directory; / if left out",
             },
         ],
     },
     CommandForm {
         name: "stat",
-        about: "Tells the attributes of a file or directory of an image",
+        about: "Prints the attributes of a file or directory of an image",
         notes: NOTES,
         arguments: &[
             Argument {
@@ -178,7 +178,7 @@ const COMMANDS: [CommandForm<'static>; 8] = [
     },
     CommandForm {
         name: "explain",
-        about: "Tells what a class of faults means",
+        about: "Prints what a class of faults means",
         notes: NOTES,
         arguments: &[Argument {
             written: Written::Needed,

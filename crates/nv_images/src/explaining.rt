@@ -31,7 +31,7 @@ const CLASSES: [Class; 26] = [
     Class {
         name: "J2",
         title: "a journal's record names a wrong word",
-        meaning: "fault J2 cpu C record K. The pending record K names an address that no journal may name, so it was skipped; the other records were rolled back. Only the first recovery can tell it: then no record is pending any more.",
+        meaning: "fault J2 cpu C record K. The pending record K names an address that no journal may name, so it was skipped; the other records were rolled back. Only the first recovery shows it: then no record is pending any more.",
     },
     Class {
         name: "I1",
@@ -66,7 +66,7 @@ const CLASSES: [Class; 26] = [
     Class {
         name: "L4",
         title: "an entry passes the tail",
-        meaning: "fault L4 inode I at A. In the tail's page the entry at A ends behind the tail, or leads to a next page. The log ends before that entry.",
+        meaning: "fault L4 inode I at A. In the tail's page the entry at A ends past the tail, or leads to a next page. The log ends before that entry.",
     },
     Class {
         name: "E1",
@@ -101,7 +101,7 @@ const CLASSES: [Class; 26] = [
     Class {
         name: "C3",
         title: "a file with another number of links than names",
-        meaning: "fault C3 inode I. The file's link count isn't the number of its names, over all directories in use. After a file was lost from its directory both C3 and C4 are told of it.",
+        meaning: "fault C3 inode I. The file's link count isn't the number of its names, over all directories in use. A file that was lost from its directory has both C3 and C4.",
     },
     Class {
         name: "C4",

@@ -30,7 +30,7 @@ pub fn refuse_words<H: Eprint, U: Display>(rt: &H, usage: &U) -> ExitCode
 /// Says on standard error that an image has faults, where it has some.
 pub fn tell_faults<H: Eprint>(rt: &H, path: &str, faults: usize) {
     if faults > 0 {
-        let _ = eprintln!(rt; "{path} has faults, which nova check tells: {faults}");
+        let _ = eprintln!(rt; "{path} has faults, which nova check shows: {faults}");
     }
 }
 
