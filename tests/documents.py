@@ -1,4 +1,4 @@
-"""What README.md and docs/ say of the sources, compared with them: links, clauses, names, numbers, fault classes, scripts.
+"""What README.md and docs/ name and quote of the sources, compared with them: links, names, clauses, fault classes.
 
 `reference.py --check` calls it. What the documents show of a program's output is compared by `readme.sh`.
 """
@@ -6,7 +6,6 @@
 import re
 
 from sources import CRATES, ROOT
-from unfolding import Library, count_of, unfold_beyond
 
 CODE = re.compile(r"`([^`\n]+)`")
 LINK = re.compile(r"\[((?:[^\[\]]|`[^`]*`)+)\]\(([^()\s]+)\)")
@@ -138,6 +137,12 @@ def fault_classes():
     return names, faults
 
 
+def fault_sections():
+    """The sections of docs/FAULTS.md, each with its name, its anchor and its title."""
+    found = re.findall(r"^## ([A-Z]\d(?: to [A-Z]\d)?): (.+)$", (ROOT / "docs/FAULTS.md").read_text(), re.M)
+    return [(name, anchor(f"{name}: {title}"), title) for name, title in found]
+
+
 def check_faults(report):
     """The fault classes of the documents are those of the sources."""
     of_super, faults = fault_classes()
@@ -155,71 +160,9 @@ def check_faults(report):
         report(not missing, f"docs/nova.1 lacks {missing} under FAULTS")
 
 
-# ---- numbers
-
-
-def count_edits(folder):
-    """The number of wrong bodies in the folders of this name."""
-    return len(list(ROOT.glob(f"crates/*/{folder}/*.edit")))
-
-
-def numbers_of():
-    """The numbers that README.md tells, by the first cell of their rows."""
-    return {
-        "wrong bodies that the gate tries": count_edits("must-fail"),
-        "further ones": count_edits("wrong-bodies"),
-    }
-
-
-def check_numbers(report):
-    """The numbers of README.md that can be counted."""
-    rows = dict(re.findall(r"^\| ([^|]+?) \| ([\d,]+) \|", (ROOT / "README.md").read_text(), re.M))
-    for title, number in numbers_of().items():
-        wanted = f"{number:,}"
-        report(rows.get(title) == wanted, f"README.md: the row '{title}' says {rows.get(title)}, and there are {wanted}")
-
-
-# ---- how many definitions
-
-COUNT = re.compile(r"[\d,]+ definitions in [\d,]+ lines")
-COMMAND = re.compile(r"`tests/trusted-definitions ([^`]+)`")
-
-
-def unfolded(library, words):
-    """What `trusted-definitions` says at its end of the clauses that these words name."""
-    words = [word for word in words if word != "--names"]
-    place = words.index("--beyond") if "--beyond" in words else len(words)
-    return count_of(unfold_beyond(library, words[:place], words[place + 1 :]).definitions.values())
-
-
-def check_counts(report):
-    """A line with `tests/trusted-definitions ..` and 'N definitions in M lines' says what that prints."""
-    library = Library()
-    for document in documents():
-        for line in document.read_text().splitlines():
-            commands, counts = COMMAND.findall(line), COUNT.findall(line)
-            if len(commands) == len(counts) == 1:
-                wanted = unfolded(library, commands[0].split())
-                report(wanted.startswith(counts[0].replace(",", "")), f"{document.relative_to(ROOT)}: {commands[0]} has {wanted}, not {counts[0]}")
-
-
-# ---- scripts
-
-
-def check_scripts(report):
-    """docs/MAP.md has each script of tests/."""
-    text = (ROOT / "docs/MAP.md").read_text()
-    for path in sorted((ROOT / "tests").iterdir()):
-        if path.is_file():
-            report(f"`{path.name}`" in text, f"docs/MAP.md says nothing of tests/{path.name}")
-
-
 def check_documents(crates, files, report):
     """All of it; `files` are the pages that are made, and `report` takes whether something holds, and what to say if not."""
     check_links(files, report)
     check_names(crates, report)
     check_quotes(report)
     check_faults(report)
-    check_numbers(report)
-    check_counts(report)
-    check_scripts(report)

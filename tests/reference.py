@@ -1,8 +1,8 @@
 #!/usr/bin/env python3
 """Makes docs/reference/ from the sources, and compares the documents with them.
 
-    tests/reference.py            writes docs/reference/README.md, a page for each crate, the table of docs/MAP.md, and the
-                                  picture of the crates
+    tests/reference.py            writes docs/reference/README.md, a page for each crate, the tables of docs/MAP.md and
+                                  docs/FAULTS.md, and the picture of the crates
     tests/reference.py --check    writes nothing: says what is out of date, which definitions have no caption, and what a
                                   document says that the sources don't; ends with 'N passed, M failed', and 1 on a failure
 
@@ -14,16 +14,15 @@ crates, and the layers where it has lines `# ...`, are those of crates.txt.
 import re
 import sys
 
-from documents import check_documents
+from claims import check_claims
+from documents import check_documents, fault_sections
 from picture import picture
-from sources import CRATES, ROOT, crate_lines, layers, read_crates
+from sources import ROOT, crate_lines, layers, read_crates
+from wording import check_wording
 
 REFERENCE = ROOT / "docs" / "reference"
 INTRODUCTIONS = REFERENCE / "introductions.md"
-MAP = ROOT / "docs" / "MAP.md"
 PICTURE = ROOT / "docs" / "crates.svg"
-MADE = "<!-- The table is made by tests/reference.py. -->"
-END = "<!-- Here the table ends. -->"
 
 
 # ---- introductions
@@ -161,7 +160,7 @@ def page(crate, crates, introduction):
     return "\n\n".join(parts) + "\n"
 
 
-# ---- the tables of the crates
+# ---- the tables
 
 
 def stands_on(lines, name):
@@ -208,13 +207,34 @@ def index(crates, texts):
     return head + table(crates, texts, "") + "\n"
 
 
-def map_page(crates, texts):
-    """docs/MAP.md with its table."""
-    text = MAP.read_text()
-    if MADE not in text:
-        return text
-    before, _, rest = text.partition(MADE)
-    return f"{before}{MADE}\n\n{table(crates, texts, 'reference/')}\n\n{END}{rest.partition(END)[2]}"
+def head_sentence(path):
+    """The first sentence of a script's head."""
+    head = re.match(r'(?:#!.*\n)?(?:"""([^"]*)"""|((?:#.*\n)+))', path.read_text())
+    text = head[1] or re.sub(r"^# ?", "", head[2], flags=re.M)
+    return re.split(r"\.(?:\s|$)", text, maxsplit=1)[0].replace("\n", " ")
+
+
+def scripts_table():
+    """The table of the scripts of tests/."""
+    paths = sorted(path for path in (ROOT / "tests").iterdir() if path.is_file())
+    return "\n".join(["| script | does |", "|---|---|", *(f"| `{path.name}` | {head_sentence(path)} |" for path in paths)])
+
+
+def faults_table():
+    """The table of the fault classes, from the headings of docs/FAULTS.md."""
+    rows = [f"| [{name}](#{place}) | {title} |" for name, title, place in fault_sections()]
+    return "\n".join(["| fault | means |", "|---|---|", *rows])
+
+
+def with_tables(name, tables):
+    """A document with the tables that are made, each between two lines that say so."""
+    text = (ROOT / "docs" / name).read_text()
+    for what, rows in tables.items():
+        begin, end = f"<!-- The table of {what} is made by tests/reference.py. -->", "<!-- Here the table ends. -->"
+        before, found, rest = text.partition(begin)
+        if found:
+            text = f"{before}{begin}\n\n{rows}\n\n{end}{rest.partition(end)[2]}"
+    return text
 
 
 def made(crates):
@@ -222,7 +242,8 @@ def made(crates):
     lines, texts = crate_lines(), introductions()
     drawn = [name for name in crates if is_drawn(crates[name], lines)]
     files = {
-        MAP: map_page(crates, texts),
+        ROOT / "docs/MAP.md": with_tables("MAP.md", {"crates": table(crates, texts, "reference/"), "scripts": scripts_table()}),
+        ROOT / "docs/FAULTS.md": with_tables("FAULTS.md", {"faults": faults_table()}),
         PICTURE: picture(lines, drawn, {name: first_sentence(texts.get(name, "")) for name in drawn}),
         REFERENCE / "README.md": index(crates, texts),
     }
@@ -263,8 +284,7 @@ def check_words(crates, report):
         report(name in texts, f"docs/reference/introductions.md: nothing is said of {name}")
         for one in crate.definitions():
             report(bool(one.caption), f"crates/{name}/specs/{one.module}.antt: {one.name} has no caption")
-    for name in texts:
-        report(name in crates, f"docs/reference/introductions.md: there is no crate {name}")
+    report(list(texts) == list(crates), "docs/reference/introductions.md: its crates aren't those of crates.txt, in that order")
 
 
 def check(crates, files):
@@ -279,6 +299,8 @@ def check(crates, files):
     check_pages(files, report)
     check_words(crates, report)
     check_documents(crates, files, report)
+    check_claims(crates, report)
+    check_wording(report)
     print(f"{counts[0]} passed, {counts[1]} failed")
     return 1 if counts[1] else 0
 

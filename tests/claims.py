@@ -1,0 +1,169 @@
+"""What README.md and docs/ say in numbers and lists, compared with the sources. `reference.py --check` calls it."""
+
+import re
+
+from documents import documents
+from sources import CRATES, ROOT, crate_lines
+from unfolding import Library, count_of, unfold_beyond
+
+# The crates that hold tests, or measure.
+TESTING = ("test_store", "test_system", "refusals", "bench")
+
+
+def text_of(name):
+    """The text of a file of the repository."""
+    return (ROOT / name).read_text()
+
+
+# ---- how many there are
+
+
+def count_edits(folder):
+    """The number of wrong bodies in the folders of this name."""
+    return len(list(ROOT.glob(f"crates/*/{folder}/*.edit")))
+
+
+def all_below(lines, name):
+    """The crates that a crate stands on, and itself."""
+    found = {name}
+    for lower in lines[name]:
+        if lower in lines:
+            found |= all_below(lines, lower)
+    return found
+
+
+def check_rows(crates, report):
+    """The rows of README.md with numbers that can be counted."""
+    product = [one for name, crate in crates.items() if name not in TESTING for one in crate.functions()]
+    wanted = {
+        "functions in the sources of the product": len(product),
+        "clauses of their contracts": sum(len(one.clauses) for one in product),
+        "wrong bodies that the gate tries": count_edits("must-fail"),
+        "further ones": count_edits("wrong-bodies"),
+    }
+    rows = dict(re.findall(r"^\| ([^|]+?) \| ([\d,]+) \|", text_of("README.md"), re.M))
+    for title, number in wanted.items():
+        report(rows.get(title) == f"{number:,}", f"README.md: the row '{title}' says {rows.get(title)}, and there are {number:,}")
+
+
+def check_crates(report):
+    """How many crates README.md says that the programs stand on."""
+    lines = crate_lines()
+    checker = all_below(lines, "nova_check")
+    further = all_below(lines, "nova") - checker
+    text = text_of("README.md")
+    for words, number in ((r"proves the (\d+) crates of the checker", len(checker)), (r"stand on (\d+) crates more", len(further))):
+        found = re.search(words, text)
+        report(found and int(found[1]) == number, f"README.md: '{words}' is {found and found[1]}, and there are {number}")
+
+
+# ---- how many definitions
+
+COUNT = re.compile(r"[\d,]+ definitions in [\d,]+ lines")
+COMMAND = re.compile(r"`tests/trusted-definitions ([^`]+)`")
+HEADLINE = ["nv_recover", "recover", "ok"]
+
+
+def unfolded(library, words):
+    """What `trusted-definitions` says at its end of the clauses that these words name."""
+    words = [word for word in words if word != "--names"]
+    place = words.index("--beyond") if "--beyond" in words else len(words)
+    return count_of(unfold_beyond(library, words[:place], words[place + 1 :]).definitions.values())
+
+
+def check_counts(report):
+    """A line with `tests/trusted-definitions ..` and 'N definitions in M lines' says what that prints."""
+    library = Library()
+    for document in documents():
+        for line in document.read_text().splitlines():
+            commands, counts = COMMAND.findall(line), COUNT.findall(line)
+            if len(commands) == len(counts) == 1:
+                wanted = unfolded(library, commands[0].split())
+                report(wanted.startswith(counts[0].replace(",", "")), f"{document.relative_to(ROOT)}: {commands[0]} has {wanted}, not {counts[0]}")
+    found = re.search(r"That definition has (\d+) lines", text_of("README.md"))
+    wanted = unfolded(library, HEADLINE)
+    report(found and f"in {found[1]} lines" in wanted, f"README.md: that definition has {found and found[1]} lines, not {wanted}")
+
+
+# ---- limits
+
+
+def limit(crate, file, name):
+    """A number that a definition stands for."""
+    return int(re.search(rf"^{name} = (\d+)$", (CRATES / crate / "specs" / file).read_text(), re.M)[1])
+
+
+def check_limits(report):
+    """The limits of README.md are those of the definitions."""
+    blocks, pages, size = (limit(*one) for one in (("nv_super", "Layout.antt", "most_blocks"), ("nv_entry", "Content.antt", "most_pages"), ("nv_entry", "Content.antt", "most_size")))
+    wanted = (
+        f"| blocks of 4096 bytes | 8 | {blocks:,} ({blocks * 4096 // 2**20} MiB) |",
+        f"| pages of a file; its size in bytes | 0 | {pages:,}; {size:,} |",
+    )
+    for row in wanted:
+        report(row in text_of("README.md"), f"README.md lacks the row {row}")
+    for number in (blocks, pages, size):
+        report(f"{number:,}" in text_of("docs/LAYOUT.md"), f"docs/LAYOUT.md doesn't name the limit {number:,}")
+
+
+# ---- commands and refusals
+
+
+def program_commands():
+    """The commands of the program."""
+    return re.findall(r'CommandForm \{\s+name: "(\w+)"', text_of("crates/nv_args/src/command_line.rt"))
+
+
+def script_commands():
+    """The commands of a script."""
+    return set(re.findall(r'name == b"(\w+)"', text_of("crates/nv_line/src/table.rt")))
+
+
+def check_commands(report):
+    """The commands are those of the sources: in the manual, in README.md, in the script `nova`, and in docs/SCRIPT.md."""
+    commands = program_commands()
+    named = re.findall(r"^\.SS nova (\w+)$", text_of("docs/nova.1"), re.M)
+    report(sorted(named) == sorted(commands), f"docs/nova.1 has the commands {named}, the sources {commands}")
+    launched = re.search(r"^ +((?:\w+ \| )+\w+)\) ;;$", text_of("nova"), re.M)[1].split(" | ")
+    report(sorted(launched) == sorted(commands), f"nova names the commands {launched}, the sources {commands}")
+    rows = "\n".join(line for line in text_of("README.md").splitlines() if line.startswith("| `./nova "))
+    for command in commands:
+        report(re.search(rf"`(?:\./nova )?{command}\b", rows), f"README.md: no row has the command {command}")
+    table = set(re.findall(r"^\| `(\w+)|^\|.*, `(stop) at", text_of("docs/SCRIPT.md").partition("## Refusals")[0], re.M))
+    found = {one or other for one, other in table}
+    report(found == script_commands(), f"docs/SCRIPT.md has the commands {sorted(found)}, the sources {sorted(script_commands())}")
+
+
+def check_refusals(report):
+    """docs/SCRIPT.md has each refusal that a command prints, and no other."""
+    wanted = set()
+    for file in ("crates/nv_text/src/refusals.rt", "crates/nv_tree/src/refusal.rt"):
+        body = re.search(r"pub enum \w*Refusal[^{]*\{(.*?)^\}", text_of(file), re.M | re.S)
+        wanted |= set(re.findall(r"^    ([A-Z]\w+),?$", body[1], re.M))
+    wanted -= {"Memory", "Stopped"}
+    section = text_of("docs/SCRIPT.md").partition("## Refusals")[2].partition("\n## ")[0]
+    cells = re.findall(r"^\| ([^|]+) \|", section, re.M)
+    found = {name for cell in cells for name in re.findall(r"`([A-Z][a-z]\w*)`", cell)}
+    report(found == wanted, f"docs/SCRIPT.md has the refusals {sorted(found ^ wanted)} more or less than the sources")
+
+
+# ---- entries
+
+
+def check_spellings(report):
+    """The entries that docs/LAYOUT.md spells begin with words that scripts of docs/FAULTS.md store as such entries."""
+    stored = {int(word) % 2**32 for word in re.findall(r"^poke \d+ (\d+)$", text_of("docs/FAULTS.md"), re.M)}
+    for spelled in re.findall(r"^\| .* \| `([0-9a-f]{16})[^`]*` \|$", text_of("docs/LAYOUT.md"), re.M):
+        word = int.from_bytes(bytes.fromhex(spelled), "little")
+        report(word % 2**32 in stored, f"docs/LAYOUT.md spells {spelled}, which no script of docs/FAULTS.md stores")
+
+
+def check_claims(crates, report):
+    """All of it; `report` takes whether something holds, and what to say if not."""
+    check_rows(crates, report)
+    check_crates(report)
+    check_counts(report)
+    check_limits(report)
+    check_commands(report)
+    check_refusals(report)
+    check_spellings(report)
