@@ -16,9 +16,11 @@ JOBS=2 processes are run at a time; it takes minutes. The last line counts the c
 """
 
 import random
+import re
 import sys
 import time
 from collections import Counter
+from pathlib import Path
 
 from driver import BLOCK, Case, Runner, Wrong, each, lines, peeks, told, words_of
 
@@ -224,6 +226,12 @@ def try_call(given):
     return stops, None
 
 
+def number_of_readme():
+    """How many power cuts README.md says that there are at least."""
+    text = (Path(__file__).resolve().parent.parent / "README.md").read_text()
+    return int(re.search(r"^\| power cuts .*more than \| ([\d,]+) \|", text, re.M)[1].replace(",", ""))
+
+
 def main():
     words = told(__doc__)
     runner = Runner(words.program, words.judge)
@@ -241,6 +249,9 @@ def main():
         print(f"left out: {count} calls, since the program has no {name} yet")
     minutes = (time.monotonic() - began) / 60
     told_cases = ", ".join(f"{cases[depth]} cases of {depth} stop{'s' if depth > 1 else ''}" for depth in range(1, DEPTH + 1))
+    if not words.only and not left_out and sum(cases.values()) <= number_of_readme():
+        wrong += 1
+        print(f"WRONG: README.md says more than {number_of_readme()} power cuts")
     print(f"{len(found)} calls of {steps} steps, {told_cases}, {recovered} regions recovered, {wrong} wrong; {minutes:.1f} min")
     sys.exit(1 if wrong or not found else 0)
 
