@@ -1,4 +1,4 @@
-"""What the calls on names have to answer and to leave, told a second time: a model of a mounted region's directories, links and
+"""What the calls on names have to answer and to leave, said a second time: a model of a mounted region's directories, links and
 log pages, for names.py. It is no script itself.
 
 Of blocks it knows how many are free and not which, of files their links and not their bytes.

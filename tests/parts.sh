@@ -4,6 +4,8 @@
 here=$(cd "$(dirname "${BASH_SOURCE[0]}")/.." && pwd)
 # Where `./nova` and the gate leave the program that is tried.
 built=$here/crates/nova/out/nova
+# Documents and sources are UTF-8, whatever the caller's locale is.
+export PYTHONUTF8=1
 folder=$(mktemp -d) || exit 2
 trap 'rm -rf "$folder"' EXIT
 passed=0

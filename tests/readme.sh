@@ -5,8 +5,8 @@
 #     tests/readme.sh                      prints a line for each difference, and closes with 'N passed, M failed'
 #     tests/readme.sh --scripts FOLDER     also keeps the scripts, with what they print and their status, for rows-on-workers.py
 #
-# In docs/ a block `script` is run by `nova run`, and the block `output` behind it is what it prints but for lines `ok`.
-# Commands on indented lines print the next block. `parallel` and `man` are left out where they aren't installed.
+# In docs/ a block `script` is run by `nova run`, and the block `output` after it is what it prints but for lines `ok`.
+# Commands on indented lines print the next block. `parallel` and `man` are left out if they aren't installed.
 set -u
 source "$(dirname "${BASH_SOURCE[0]}")/parts.sh" || exit 2
 program=$built
@@ -58,7 +58,7 @@ for kind in "$folder"/*.kind; do
     fi
 done
 
-# Statuses that README.md tells.
+# Statuses that README.md has.
 "$program" run <examples/first.nova >/dev/null
 same "status of the first example" 0 $?
 "$program" check examples/ring.img >/dev/null
@@ -96,7 +96,7 @@ for class in $classes; do
     same "nova explain ${class,,}" "$said" "$("$program" explain "${class,,}")"
 done
 
-if command -v parallel >/dev/null; then
+if parallel --version 2>/dev/null </dev/null | grep -q '^GNU parallel'; then
     mkdir "$folder/images"
     cp examples/ring.img "$folder/images/one"
     cp examples/ring.img "$folder/images/two"
@@ -105,9 +105,10 @@ if command -v parallel >/dev/null; then
     same "status of parallel over two images with faults" 2 $?
     same "parallel over two images" "$wanted" "$(sort -s -k1,1 <<<"$found")"
 else
-    echo "left out: parallel isn't installed"
+    echo "left out: GNU parallel isn't installed"
 fi
-if command -v man >/dev/null; then
+# Some systems have a program of this name that only says that there are no pages.
+if man --version 2>/dev/null </dev/null | grep -q '^man [0-9]'; then
     same "man ./docs/nova.1" "NOVA(1)" "$(man ./docs/nova.1 2>/dev/null | head -n 1 | grep -o '^NOVA(1)')"
 else
     echo "left out: man isn't installed"

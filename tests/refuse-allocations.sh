@@ -1,5 +1,5 @@
 #!/usr/bin/env bash
-# Runs the recoveries of the program refusals with each of their allocations refused in turn (`refusing.sh` tells how). It
+# Runs the recoveries of the program refusals with each of their allocations refused in turn (`refusing.sh` says how). It
 # ends with status 1, and says why, where a run faults, hangs, or ends in any way but these: all recoveries found the whole;
 # all did, one of them, or a worker, at its second try, since the first was refused memory; or memory was refused outside
 # of them.

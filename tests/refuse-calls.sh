@@ -1,5 +1,5 @@
 #!/usr/bin/env bash
-# Runs the calls of the program refusals with each of their allocations refused in turn (`refusing.sh` tells how). It ends
+# Runs the calls of the program refusals with each of their allocations refused in turn (`refusing.sh` says how). It ends
 # with status 1, and says why, where a run faults, hangs, or ends in any way but these: all calls, claims and joins were
 # done; all were, one of them at its second try, since the first was refused memory and changed nothing; or memory was
 # refused outside of them.
