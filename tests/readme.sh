@@ -115,6 +115,10 @@ else
 fi
 same "the output of mount_and_list" "$(cat crates/mount_and_list/stdout)" "$(grep -xFf crates/mount_and_list/stdout README.md)"
 
+if command -v rt >/dev/null; then
+    same "the kit of README.md" "$(rt version </dev/null)" "$(sed -n 's/^| evidence, with `\(.*\)` | number .*/\1/p' README.md)"
+fi
+
 # What README.md and docs/ say of the sources: links, quoted clauses and names, fault classes, numbers, the pages of crates.
 compared=$(tests/reference.py --check)
 grep -v ' passed, ' <<<"$compared"
