@@ -190,6 +190,8 @@ ln -s "$(python3 -c 'import sys; print(sys.executable)')" "$folder/tools/python3
 same "no kit" "status 2" "$(PATH=$folder/tools run run </dev/null)"
 same "what is missing" "nova: the command rt of the Rattle kit isn't on the path; the kit proves and builds the program" "$(cat "$folder/said")"
 
+same "no kit for a try" "status 2" "$(PATH=$folder/tools run try check "$folder/log")"
+
 # A check by the unproved program proves nothing, and answers what that answers.
 : >"$log"
 echo region >"$folder/an image"
