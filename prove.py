@@ -5,9 +5,10 @@ usage: ./prove.py PROGRAM
 
 The crates that the program is made of are proved from nothing, several side by side, in the order in which they stand on
 each other: the more waits for a crate, the less it yields to others. What is proved stays in `out/proved/` of the crate
-`nova`. So an interrupted run goes on where it was, and a later run proves what changed since and the crates above.
+`nova`. So an interrupted run goes on where it was, and a later run proves what changed since and the crates above. What the
+prover said of each crate stays in `out/proved/logs/` there: its last line says what is trusted.
 
-It ends with 0 where the program is built. What it tells of its work goes to standard error.
+It ends with 0 if the program is built. What it says of its work goes to standard error.
 """
 
 import contextlib
@@ -19,7 +20,6 @@ import shutil
 import signal
 import subprocess
 import sys
-import tempfile
 import time
 from collections import namedtuple
 from pathlib import Path
@@ -27,6 +27,8 @@ from pathlib import Path
 HERE = Path(__file__).resolve().parent
 OUT = HERE / "crates/nova/out"
 PROVED = OUT / "proved"
+LOGS = PROVED / "logs"
+PROGRAMS = ("nova", "nova_check")
 PARTS = ("src", "specs", "proofs")
 TARGET = "x86_64-unknown-linux-gnu"
 
@@ -161,8 +163,8 @@ Proof = namedtuple("Proof", "crate sum begun prover")
 class Build:
     """The proofs that are under way, and what is told of them."""
 
-    def __init__(self, kit, crates, logs):
-        self.kit, self.crates, self.logs = kit, crates, logs
+    def __init__(self, kit, crates):
+        self.kit, self.crates = kit, crates
         self.todo = [crate for crate in crates if not self.is_kept(crate)]
         self.count = len(self.todo)
         # by the numbers of their processes
@@ -198,7 +200,7 @@ class Build:
         most = max(it.waiting for it in self.crates)
         yields = round(19 - 19 * crate.waiting / most)
         total = crate.sum(self.kit)
-        with open(self.logs / crate.name, "wb") as log:
+        with open(LOGS / crate.name, "wb") as log:
             prover = subprocess.Popen(
                 ["nice", "-n", str(yields), f"{self.kit.at}/bin/rattle", *crate.words(self.kit, processes)],
                 cwd=crate.folder,
@@ -226,7 +228,7 @@ class Build:
         crate.sum_file().write_text(total)
 
     def link(self, crate):
-        with open(self.logs / crate.name, "ab") as log:
+        with open(LOGS / crate.name, "ab") as log:
             status = subprocess.call(crate.link_words(self.kit), stdout=log, stderr=subprocess.STDOUT)
         if not status:
             os.replace(f"{crate.program()}.new", crate.program())
@@ -234,7 +236,7 @@ class Build:
         return status
 
     def fail(self, crate):
-        log = self.logs / crate.name
+        log = LOGS / crate.name
         print(*log.read_text(errors="replace").splitlines()[-30:], sep="\n", file=sys.stderr)
         say(f"the crate {crate.name} was not built; what was said is in {log}")
         sys.exit(1)
@@ -272,9 +274,11 @@ def stop(*_):
 
 
 def main():
+    if sys.argv[1:] not in ([program] for program in PROGRAMS):
+        sys.exit(__doc__)
     kit = Kit()
     program = sys.argv[1]
-    PROVED.mkdir(parents=True, exist_ok=True)
+    LOGS.mkdir(parents=True, exist_ok=True)
     with open(OUT / "nova.lock", "w") as lock:
         try:
             fcntl.flock(lock, fcntl.LOCK_EX | fcntl.LOCK_NB)
@@ -286,15 +290,13 @@ def main():
         stamp.parent.mkdir(exist_ok=True)
         began = stamp.with_suffix(".next")
         began.touch()
-        logs = Path(tempfile.mkdtemp())
-        build = Build(kit, crates, logs)
+        build = Build(kit, crates)
         if build.todo:
             say("proving and building the program. Each crate's contracts are proved from nothing, which takes many")
-            say(f"minutes; later runs start at once. What the prover says is kept in {logs}")
+            say(f"minutes; later runs start at once. What the prover says is kept in {LOGS}")
         for ends in (signal.SIGINT, signal.SIGTERM):
             signal.signal(ends, stop)
         build.run()
-        shutil.rmtree(logs)
         os.replace(began, stamp)
 
 
