@@ -239,7 +239,7 @@ def main():
         print(f"{count:6} {answer}")
     for name, count in sorted(left_out.items()):
         print(f"left out: {count} cases, since the program has no {name} yet")
-    print(f"{answers.total()} cases, {wrong} wrong; {(time.monotonic() - began) / 60:.1f} min")
+    print(f"{sum(answers.values())} cases, {wrong} wrong; {(time.monotonic() - began) / 60:.1f} min")
     sys.exit(1 if wrong or not answers else 0)
 
 

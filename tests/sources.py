@@ -328,7 +328,7 @@ def doc_above(lines, number):
         number -= 1
         line = lines[number].strip()
         if line.startswith("///"):
-            found.insert(0, line[3:].removeprefix(" "))
+            found.insert(0, re.sub(r"^ ", "", line[3:]))
     return "\n".join(found)
 
 
