@@ -195,11 +195,11 @@ same "no kit for a try" "status 2" "$(PATH=$folder/tools run try check "$folder/
 # A check by the unproved program proves nothing, and answers what that answers.
 : >"$log"
 echo region >"$folder/an image"
-tried="nova_check: rt try --steps 1 --data image=$folder/an image -- check image --workers 4"
+tried="nova_check: rt try --data image=$folder/an image -- check image --workers 4"
 same "a try" "$tried status 1" "$(cd "$folder" && TRIED=1 run try check "an image" --workers 4 | xargs)"
 same "says that nothing is proved" "nova: nothing of this answer is proved yet: the program runs unproved, by the kit's rt try" "$(head -n 1 "$folder/said")"
 same "with the image as the last word" "${tried% -- *} -- check --workers 4 image status 0" "$(cd "$folder" && TRIED=0 run try check --workers 4 "an image" | xargs)"
-same "an image that isn't there" "nova_check: rt try --steps 1 -- check none status 2" "$(cd "$folder" && TRIED=2 run try check none | xargs)"
+same "an image that isn't there" "nova_check: rt try -- check none status 2" "$(cd "$folder" && TRIED=2 run try check none | xargs)"
 same "a try that fails itself" "status 2" "$(run try check none | tail -n 1)"
 same "a try of another command" "status 2" "$(run try run)"
 same "says what can be tried" "usage: ./nova try check IMAGE [--workers N] [--summary | --only-faults]" "$(cat "$folder/said")"
