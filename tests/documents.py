@@ -137,9 +137,15 @@ def fault_classes():
     return names, faults
 
 
-def fault_sections():
+def explained():
+    """What `nova explain` says of each class of a report: its name, its title, and what it means."""
+    text = (CRATES / "nv_images/src/explaining.rt").read_text()
+    return re.findall(r'name: "(\w+)",\s+title: "([^"]*)",\s+meaning: "([^"]*)"', text)
+
+
+def fault_sections(text):
     """The sections of docs/FAULTS.md, each with its name, its anchor and its title."""
-    found = re.findall(r"^## ([A-Z]\d(?: to [A-Z]\d)?): (.+)$", (ROOT / "docs/FAULTS.md").read_text(), re.M)
+    found = re.findall(r"^## ([A-Z]\d(?: to [A-Z]\d)?): (.+)$", text, re.M)
     return [(name, anchor(f"{name}: {title}"), title) for name, title in found]
 
 

@@ -2,7 +2,7 @@
 """Makes docs/reference/ from the sources, and compares the documents with them.
 
     tests/reference.py            writes docs/reference/README.md, a page for each crate, the tables of docs/MAP.md and
-                                  docs/FAULTS.md, and the picture of the crates
+                                  docs/FAULTS.md, what the latter says first of each class, and the picture of the crates
     tests/reference.py --check    writes nothing: says what is out of date, which definitions have no caption, and what a
                                   document says that the sources don't; ends with 'N passed, M failed', and 1 on a failure
 
@@ -15,13 +15,15 @@ import re
 import sys
 
 from claims import check_claims
-from documents import check_documents, fault_sections
+from documents import check_documents, explained, fault_sections
 from picture import picture
 from sources import ROOT, crate_lines, layers, read_crates
 from wording import check_wording
 
 REFERENCE = ROOT / "docs" / "reference"
 INTRODUCTIONS = REFERENCE / "introductions.md"
+MAP = ROOT / "docs" / "MAP.md"
+FAULTS = ROOT / "docs" / "FAULTS.md"
 PICTURE = ROOT / "docs" / "crates.svg"
 
 
@@ -220,15 +222,17 @@ def scripts_table():
     return "\n".join(["| script | does |", "|---|---|", *(f"| `{path.name}` | {head_sentence(path)} |" for path in paths)])
 
 
-def faults_table():
-    """The table of the fault classes, from the headings of docs/FAULTS.md."""
-    rows = [f"| [{name}](#{place}) | {title} |" for name, title, place in fault_sections()]
-    return "\n".join(["| fault | means |", "|---|---|", *rows])
+def with_meanings(text):
+    """docs/FAULTS.md with what `nova explain` says of each class: its title, and the first paragraph of its section."""
+    for name, title, meaning in explained():
+        fault, _, rest = meaning.partition(". ")
+        shown = "`" + fault.replace(", or ", "`, or `") + f"`. {rest}"
+        text = re.sub(rf"^## {name}: .*\n\n.*$", lambda _: f"## {name}: {title}\n\n{shown}", text, flags=re.M)
+    return text
 
 
-def with_tables(name, tables):
+def with_tables(text, tables):
     """A document with the tables that are made, each between two lines that say so."""
-    text = (ROOT / "docs" / name).read_text()
     for what, rows in tables.items():
         begin, end = f"<!-- The table of {what} is made by tests/reference.py. -->", "<!-- Here the table ends. -->"
         before, found, rest = text.partition(begin)
@@ -237,13 +241,20 @@ def with_tables(name, tables):
     return text
 
 
+def faults_page(text):
+    """docs/FAULTS.md with the table of the classes, from its headings."""
+    text = with_meanings(text)
+    rows = [f"| [{name}](#{place}) | {title} |" for name, place, title in fault_sections(text)]
+    return with_tables(text, {"faults": "\n".join(["| fault | means |", "|---|---|", *rows])})
+
+
 def made(crates):
     """All files that are made, each with its text."""
     lines, texts = crate_lines(), introductions()
     drawn = [name for name in crates if is_drawn(crates[name], lines)]
     files = {
-        ROOT / "docs/MAP.md": with_tables("MAP.md", {"crates": table(crates, texts, "reference/"), "scripts": scripts_table()}),
-        ROOT / "docs/FAULTS.md": with_tables("FAULTS.md", {"faults": faults_table()}),
+        MAP: with_tables(MAP.read_text(), {"crates": table(crates, texts, "reference/"), "scripts": scripts_table()}),
+        FAULTS: faults_page(FAULTS.read_text()),
         PICTURE: picture(lines, drawn, {name: first_sentence(texts.get(name, "")) for name in drawn}),
         REFERENCE / "README.md": index(crates, texts),
     }
