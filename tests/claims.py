@@ -32,17 +32,21 @@ def all_below(lines, name):
     return found
 
 
-def check_rows(crates, report):
-    """The rows of README.md with numbers that can be counted."""
+def row_numbers(crates):
+    """The numbers of README.md that can be counted, by the first cells of their rows."""
     product = [one for name, crate in crates.items() if name not in TESTING for one in crate.functions()]
-    wanted = {
+    return {
         "functions in the sources of the product": len(product),
         "clauses of their contracts": sum(len(one.clauses) for one in product),
         "wrong bodies that the gate tries": count_edits("must-fail"),
         "further ones": count_edits("wrong-bodies"),
     }
+
+
+def check_rows(crates, report):
+    """The rows of README.md with numbers that can be counted."""
     rows = dict(re.findall(r"^\| ([^|]+?) \| ([\d,]+) \|", text_of("README.md"), re.M))
-    for title, number in wanted.items():
+    for title, number in row_numbers(crates).items():
         report(rows.get(title) == f"{number:,}", f"README.md: the row '{title}' says {rows.get(title)}, and there are {number:,}")
 
 

@@ -1,7 +1,8 @@
 #!/usr/bin/env bash
-# Tries the script `nova` and `prove.py` on a copy of the sources, with a kit of stubs that proves nothing and takes no time:
-# what is built and in which order, what is built again, two runs at once, interrupts, a crate that fails, and a check by the
-# unproved program. It takes seconds. Prints a line for each difference, and closes with 'N passed, M failed'.
+# Tries the script `nova` and `prove.py` on a copy of the sources, with a kit of stubs that proves nothing and takes no time.
+#
+# It tries what is built and in which order, what is built again, two runs at once, interrupts, a crate that fails, and a
+# check by the unproved program. It takes seconds. Prints a line for each difference, and closes with 'N passed, M failed'.
 #
 # Nothing here rests on how long something takes: a stub that is to be slow goes on when the file `go` is there, and what is
 # waited for is looked for again and again.

@@ -2,7 +2,8 @@
 """Makes docs/reference/ from the sources, and compares the documents with them.
 
     tests/reference.py            writes docs/reference/README.md, a page for each crate, the tables of docs/MAP.md and
-                                  docs/FAULTS.md, what the latter says first of each class, and the picture of the crates
+                                  docs/FAULTS.md, what the latter says first of each class, the numbers of README.md that
+                                  can be counted, and the picture of the crates
     tests/reference.py --check    writes nothing: says what is out of date, which definitions have no caption, and what a
                                   document says that the sources don't; ends with 'N passed, M failed', and 1 on a failure
 
@@ -14,7 +15,7 @@ crates, and the layers where it has lines `# ...`, are those of crates.txt.
 import re
 import sys
 
-from claims import check_claims
+from claims import check_claims, row_numbers
 from documents import check_documents, explained, fault_sections
 from picture import picture
 from sources import ROOT, crate_lines, layers, read_crates
@@ -22,6 +23,7 @@ from wording import check_wording
 
 REFERENCE = ROOT / "docs" / "reference"
 INTRODUCTIONS = REFERENCE / "introductions.md"
+README = ROOT / "README.md"
 MAP = ROOT / "docs" / "MAP.md"
 FAULTS = ROOT / "docs" / "FAULTS.md"
 PICTURE = ROOT / "docs" / "crates.svg"
@@ -248,11 +250,19 @@ def faults_page(text):
     return with_tables(text, {"faults": "\n".join(["| fault | means |", "|---|---|", *rows])})
 
 
+def with_numbers(text, crates):
+    """README.md with the numbers that can be counted, in the second cells of their rows."""
+    for title, number in row_numbers(crates).items():
+        text = re.sub(rf"^\| {title} \| [\d,]+ \|", f"| {title} | {number:,} |", text, flags=re.M)
+    return text
+
+
 def made(crates):
     """All files that are made, each with its text."""
     lines, texts = crate_lines(), introductions()
     drawn = [name for name in crates if is_drawn(crates[name], lines)]
     files = {
+        README: with_numbers(README.read_text(), crates),
         MAP: with_tables(MAP.read_text(), {"crates": table(crates, texts, "reference/"), "scripts": scripts_table()}),
         FAULTS: faults_page(FAULTS.read_text()),
         PICTURE: picture(lines, drawn, {name: first_sentence(texts.get(name, "")) for name in drawn}),

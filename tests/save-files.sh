@@ -1,7 +1,7 @@
 #!/usr/bin/env bash
-# Tries that `nova mkfs`, `nova run --save` and `nova map --svg` write a file whole or leave what was there: on a full disk, past
-# a limit of the system, where the last step is refused, in a folder that can't be written, on what is no file, and with a stop at
-# each system call that writes.
+# Tries that `nova mkfs`, `nova run --save` and `nova map --svg` write a file whole or leave what was there. So it is on a full
+# disk, past a limit of the system, where the last step is refused, in a folder that can't be written, on what is no file, and
+# with a stop at each system call that writes.
 #
 #     tests/save-files.sh [PROGRAM]     prints a line for each difference, and closes with 'N passed, M failed'
 #
