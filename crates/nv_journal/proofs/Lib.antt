@@ -9,6 +9,8 @@ pub mod Listed
 pub mod Words
 pub mod Pointers
 pub mod SuperKept
+pub mod High
+pub mod Front
 pub mod Recording
 pub mod Begins
 pub mod OneJournal

@@ -16,6 +16,8 @@ pub mod Again
 pub mod Reordered
 pub mod Tickets
 pub mod Exists
+pub mod SameInodes
+pub mod Metadata
 pub use Rattle.nv_check.proofs as nv_check
 pub use Rattle.nv_check.proofs.nv_scan
 pub use Rattle.nv_journal.proofs as nv_journal

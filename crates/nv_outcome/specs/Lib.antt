@@ -3,6 +3,7 @@ pub mod Same
 pub mod Shared
 pub mod Answer
 pub mod Parts
+pub mod Metadata
 pub use Rattle.nv_check.specs as nv_check
 pub use Rattle.nv_check.specs.nv_scan
 pub use Rattle.nv_journal.specs as nv_journal

@@ -16,6 +16,7 @@ ghost use Rattle.nv_check.specs.Cross.{IsCrossFaultIn};
 ghost use Rattle.nv_outcome.specs.Outcome.{AreRows, IsCrossFault, Outcome, IsOutcome};
 ghost use Rattle.nv_outcome.specs.Same.{SameOutcome, ShowsAgain, lasting_outcome};
 ghost use Rattle.nv_outcome.specs.Shared.{SharesAll};
+ghost use Rattle.nv_outcome.specs.Metadata.{SameMetadata};
 ghost use Rattle.nv_outcome.specs.Parts.{AreParts, rows_in};
 
 /// Two outcomes of a region are the same, where an index is compared by what each page and each name stands for. So
@@ -57,4 +58,10 @@ pub fn recovered_again()
 pub fn rolled_back_outcome()
     ensures outcome { (region : Region) (o : Outcome) → IsOutcome region o → IsOutcome (undone o.sup region) (lasting_outcome o) }
     ensures same { (region : Region) (o : Outcome) → IsOutcome region o → undone o.sup (undone o.sup region) ≡ undone o.sup region }
+{}
+
+/// The outcome of a region depends on its superblock, journals and tables and on the pages of its logs, and on nothing
+/// else: a region of the same length with the same words there has the same outcome.
+pub fn outcome_reads_metadata_alone()
+    ensures { (region other : Region) (o : Outcome) → SameMetadata o.sup region other → IsOutcome region o → IsOutcome other o }
 {}

@@ -1,0 +1,120 @@
+-- The outcome of a region is read from its metadata alone.
+use Rattle.std.proofs.Common.{◌≡◌, ℕ, ◌+◌, ◌*◌, ◌/◌, ◌%◌, ◌<◌, ◌≤◌, length, ap, sym, ◌∙◌, subst, arith, Some}
+use Rattle.std.specs.List.{Contains}
+use Rattle.std.proofs.lemmas.Option.{slice_get-get_or}
+use Rattle.nv_region.specs.Region.{Region, size, word}
+use Rattle.nv_super.specs.declared.superblock.Super.{Super}
+use Rattle.nv_super.specs.declared.owners.Owner.{Owner}
+use Rattle.nv_super.specs.declared.owners.Owner.TheVariants as owners
+use Rattle.nv_super.specs.declared.faults.Fault.{Fault}
+use Rattle.nv_super.specs.Layout.{Layout, IsLayout, SlotsApart, fixed_layout, slot_of, system_blocks}
+use Rattle.nv_super.specs.Order.{claim_key, fault_key}
+use Rattle.nv_super.specs.Super.{IsSuper}
+use Rattle.nv_super.proofs.Accepted.{super_stays}
+use Rattle.nv_super.proofs.Rising.{Lists-same}
+use Rattle.nv_super.proofs.Slots.{slots_apart}
+use Rattle.nv_journal.specs.Permitted.{is_permitted}
+use Rattle.nv_journal.specs.Undo.{undone}
+use Rattle.nv_journal.specs.Undone.{SameBefore}
+use Rattle.nv_journal.proofs.Front.{journal_fault_same, same_undone}
+use Rattle.nv_journal.proofs.High.{data_word}
+use Rattle.nv_journal.proofs.Partly.{low_rule}
+use Rattle.nv_check.specs.nv_logpage.Grows.{SamePage}
+use Rattle.nv_check.specs.nv_scan.Inode.{Log, IsInode}
+use Rattle.nv_check.specs.nv_scan.Owners.{by_log}
+use Rattle.nv_check.proofs.nv_scan.Alone.{IsInode-same}
+use Rattle.nv_check.proofs.nv_scan.InUse.{has_log}
+use Rattle.nv_check.proofs.nv_scan.Only.{IsInode-only, kind_in_use, slot_in_use}
+use Rattle.nv_check.proofs.nv_scan.Owned.{owned_block}
+use Rattle.nv_outcome.specs.Outcome.{IsDoubled, IsFaulty, journal, inode, cross, double, Outcome, IsOutcome}
+use Rattle.nv_outcome.specs.Metadata.{SameMetadata}
+use Rattle.nv_outcome.proofs.SameInodes.{SameInodes, SameSlotWords, turned, rows_there, free_there, doubled_there, fault_there, cross_there}
+use Rattle.nv_outcome.proofs.SuperOf.{layout_of_super}
+
+module _ (s : Super) (R S : Region) (is : IsSuper R s) (same : SameMetadata s R S) where
+  abbrev l : Layout
+  l = fixed_layout s
+
+  abbrev U : Region
+  U = undone s R
+
+  abbrev V : Region
+  V = undone s S
+
+  layout : IsLayout s
+  layout = layout_of_super R s is
+
+  -- a word in front of the data blocks, once the journals are rolled back
+  front_word : SameBefore (4096 * system_blocks s) (undone s R) (undone s S)
+  front_word at aligned before = same_undone (is_permitted s) s.cpus R S (λ a whole low. same.front a whole (omega (arith, low))) (low_rule s layout) same.as_long at aligned (same.front at aligned before)
+
+  slot_words : (i a : ℕ) → slot_of l i ≡ Some a → SameSlotWords (undone s R) (undone s S) a
+  slot_words i a slot = record {
+    valid = front_word a (omega (arith, whole)) (omega (arith, before));
+    kind = front_word (a + 8) (omega (arith, whole)) (omega (arith, before));
+    head = front_word (a + 16) (omega (arith, whole)) (omega (arith, before));
+    tail = front_word (a + 24) (omega (arith, whole)) (omega (arith, before));
+    created = front_word (a + 32) (omega (arith, whole)) (omega (arith, before));
+  } where
+    apart : SlotsApart (fixed_layout s)
+    apart = slots_apart s layout
+
+    whole : a % 128 ≡ 0
+    whole = apart.whole i a slot
+
+    before : a + 128 ≤ 4096 * system_blocks s
+    before = apart.before i a slot
+
+  -- the pages of a log, once the journals are rolled back
+  log_page : {i a : ℕ} {log : Log} → IsInode (undone s R) l i a log → (b : ℕ) → Contains log.pages b → SamePage (undone s R) (undone s S) b
+  log_page {i} {a} {log} h b c at aligned here =
+      let owned = owned_block (undone s R) l b (owners.Log i c.0) (by_log h (slice_get-get_or log.pages c.0 b c.1 ∙ ap Some c.2)) in
+      let high : 4096 * system_blocks s ≤ at = (let low = owned.0 in omega (arith, low, here)) in
+      data_word s S layout at aligned high ∙ same.pages i a log b h c at aligned here ∙ sym (data_word s R layout at aligned high)
+
+  there : {i a : ℕ} {log : Log} → IsInode (undone s R) l i a log → IsInode (undone s S) l i a log
+  there {i} {a} h = let e = slot_words i a (slot_in_use h) in IsInode-same (undone s S) (record { valid = e.valid; kind = e.kind; head = e.head; tail = e.tail }) (log_page h) h
+
+  back : {i a : ℕ} {log : Log} → IsInode (undone s S) l i a log → IsInode (undone s R) l i a log
+  back {i} {a} {log} h =
+      let e = slot_words i a (slot_in_use h) in
+      let mine = has_log (undone s R) l i a log.kind (slot_in_use h) (rw (sym e.valid, sym e.kind) (kind_in_use h)) in
+      subst (λ (x : Log). IsInode (undone s R) l i a x) (IsInode-only (there mine.2) h).1 mine.2
+
+  pub same_inodes : SameInodes (fixed_layout s) (undone s R) (undone s S)
+  same_inodes = record { slots = slot_words; there = λ h. there h; back = λ h. back h }
+
+  -- ---- all of it
+
+  before_tables : SameBefore ((1 + s.cpus) * 4096) R S
+  before_tables at aligned low = same.front at aligned (omega (arith, low))
+
+  faulty_there : (f : Fault) → IsFaulty R s f → IsFaulty S s f
+  faulty_there f (journal h) = journal (journal_fault_same (is_permitted s) s.cpus R S before_tables f h)
+  faulty_there f (inode i h) = inode i (fault_there same_inodes h)
+  faulty_there f (cross h) = cross (cross_there same_inodes h)
+  faulty_there _ (double h) = double (doubled_there same_inodes h)
+
+  faulty_back : (f : Fault) → IsFaulty S s f → IsFaulty R s f
+  faulty_back f (journal h) = journal (journal_fault_same (is_permitted s) s.cpus S R (λ at aligned low. sym (before_tables at aligned low)) f h)
+  faulty_back f (inode i h) = inode i (fault_there (turned same_inodes) h)
+  faulty_back f (cross h) = cross (cross_there (turned same_inodes) h)
+  faulty_back _ (double h) = double (doubled_there (turned same_inodes) h)
+
+  size_same : size S ≡ size R
+  size_same = λ i. 8 * same.as_long i + same.rest_as_long i
+
+  super_there : IsSuper S s
+  super_there = super_stays R S size_same (λ at aligned low. same.front at aligned (omega (arith, low))) s is
+
+pub metadata_alone : (R S : Region) (o : Outcome) → SameMetadata o.sup R S → IsOutcome R o → IsOutcome S o
+metadata_alone R S o same is = record {
+  sup = super_there o.sup R S is.sup same;
+  rows = rows_there inodes is.rows;
+  free = free_there inodes is.free;
+  doubled = Lists-same claim_key (λ (x : ℕ × Owner). IsDoubled (undone o.sup R) (fixed_layout o.sup) x.0 x.1) (λ x. IsDoubled (undone o.sup S) (fixed_layout o.sup) x.0 x.1) o.doubled
+      (λ x h. doubled_there inodes h) (λ x h. doubled_there (turned inodes) h) is.doubled;
+  faults = Lists-same fault_key (IsFaulty R o.sup) (IsFaulty S o.sup) o.faults (faulty_there o.sup R S is.sup same) (faulty_back o.sup R S is.sup same) is.faults;
+} where
+  inodes : SameInodes (fixed_layout o.sup) (undone o.sup R) (undone o.sup S)
+  inodes = same_inodes o.sup R S is.sup same
