@@ -5,13 +5,16 @@ usage: tests/every-byte.py [PROGRAM] [--judge JUDGE]
 
 The region has 8 blocks, a file and its root. Each byte of the blocks 0 to 4 is changed by exclusive or with 1 and with 255.
 The recovery on one thread and that by a schedule of three workers print the same report and leave the same words, and so
-do 2 and 8 workers where the byte is a word's first. JUDGE, a program that takes the same scripts, prints the same too. Then
+do 2 and 8 workers where the byte is a word's first. `nova map` of the changed image, whose recovery has no worker at all,
+shows the blocks of that report and counts its faults. JUDGE, a program that takes the same scripts, prints the same too. Then
 come regions that were cut, and scripts whose output is known. JOBS=2 processes are run at a time; it takes minutes. The last
 line counts the cases, and the status is 1 where one was wrong.
 """
 
 import re
+import subprocess
 import sys
+import tempfile
 import time
 from collections import Counter
 
@@ -62,35 +65,82 @@ def kind_of(text):
     return "+".join(classes) or "no faults"
 
 
+def map_of(report):
+    """What `nova map` prints for a region of one block in a cell, and its number of faults, by what a recovery reported."""
+    lines = report.decode().splitlines()
+    if lines[0].startswith("refused"):
+        return lines[0] + "\n", 0
+    region = next(line.split() for line in lines if line.startswith("region "))
+    cpus, blocks, tables = (int(region[place]) for place in (4, 6, 8))
+    letters = ["S"] * (1 + cpus + cpus * tables) + ["."] * (blocks - 1 - cpus - cpus * tables)
+    # Of a block's uses the last of these is shown: data, log, doubled.
+    uses = {"D": [], "L": [], "!": []}
+    for line in lines:
+        words = line.split()
+        if line.startswith("  page "):
+            uses["D"] += range(int(words[3]), int(words[3]) + int(words[2]))
+        elif line.startswith("  log "):
+            uses["L"] += map(int, words[1 : words.index("tail")])
+        elif line.startswith("fault B1 "):
+            uses["!"].append(int(words[3]))
+    for letter, used in uses.items():
+        for block in used:
+            letters[block] = letter
+    shown = "".join(letters) + "\nblocks in a cell 1: . free, S system, D data, L log, ! doubled\n"
+    return shown, int(lines[0].split()[-1])
+
+
+def mapped(program, image):
+    """What `nova map` prints of an image, and the faults that it counts."""
+    done = subprocess.run([program, "map", image], capture_output=True, text=True)
+    told = re.search(r"has faults, which nova check tells: (\d+)", done.stderr)
+    return done.stdout, int(told[1]) if told else 0
+
+
 class Bytes:
-    """The cases of a batch of bytes: each with its recoveries, all of which print one text."""
+    """The cases of a batch of bytes: each with its recoveries, all of which print one text, and its map."""
 
     def __init__(self, runner, words):
         self.runner, self.words = runner, words
 
     def __call__(self, start):
-        kinds, wrong, ran = Counter(), [], 0
+        kinds, wrong, ran, maps = Counter(), [], 0, 0
         for at in range(start, start + BATCH, 8):
             try:
                 texts = self.texts_of(at)
             except Wrong as found:
                 wrong.append(str(found))
                 continue
-            for case, ways in texts:
+            for case, image, ways in texts:
                 ran += len(ways)
+                maps += 1
+                if self.mapped(image) != map_of(ways[0]):
+                    wrong.append(str(Wrong(case, "the image's map isn't that of the report")))
                 kinds[kind_of(ways[0])] += 1
                 wrong += [str(Wrong(case, f"another recovery prints another text: {first_difference(ways[0], text)}")) for text in ways if text != ways[0]]
-        return kinds, wrong, ran
+        return kinds, wrong, ran, maps
+
+    def mapped(self, image):
+        with tempfile.NamedTemporaryFile(suffix=".img") as file:
+            file.write(image)
+            file.flush()
+            return mapped(self.runner.program, file.name)
+
+    def image(self, at, word):
+        words = [*self.words[: at // 8], word, *self.words[at // 8 + 1 :]]
+        return b"".join(word.to_bytes(8, "little") for word in words)
 
     def texts_of(self, at):
-        """What is printed for each change of a word's bytes by each recovery that is tried of it, beside its first case."""
-        groups = []
+        """For each change of a word's bytes its first case, its image, and what each recovery prints that is tried of it."""
+        groups, images = [], []
         for byte in range(at, at + 8):
             for mask in MASKS:
-                build = BUILD + b"poke %d %d\n" % (at, self.words[at // 8] ^ mask << 8 * (byte - at))
+                word = self.words[at // 8] ^ mask << 8 * (byte - at)
+                build = BUILD + b"poke %d %d\n" % (at, word)
+                images.append(self.image(at, word))
                 groups.append([Case(build, way + SEEN) for way in (WAYS_OF_WORDS if byte == at else WAYS)])
         texts = iter(self.runner.answers([case for cases in groups for case in cases]))
-        return [(cases[0], [next(texts) for _ in cases]) for cases in groups]
+        return [(cases[0], image, [next(texts) for _ in cases]) for cases, image in zip(groups, images)]
 
 
 def cut(runner, words):
@@ -117,10 +167,11 @@ def main():
     runner = Runner(words.program, words.judge)
     began = time.monotonic()
     base = words_of(runner.answer(BUILD, peeks(0, BLOCKS)))
-    kinds, wrong, ran = Counter(), [], 0
-    for counted, found, number in each(Bytes(runner, base), range(0, CHANGED_BLOCKS * BLOCK, BATCH)):
+    kinds, wrong, ran, maps = Counter(), [], 0, 0
+    for counted, found, number, shown in each(Bytes(runner, base), range(0, CHANGED_BLOCKS * BLOCK, BATCH)):
         kinds += counted
         ran += number
+        maps += shown
         wrong += found
         print("\n".join(found), end="\n" if found else "", flush=True)
     for found in [*cut(runner, base), *known(runner)]:
@@ -129,7 +180,7 @@ def main():
     for kind, count in sorted(kinds.items()):
         print(f"{count:6} {kind}")
     minutes = (time.monotonic() - began) / 60
-    print(f"{kinds.total()} bytes changed, {ran} recoveries of them, 64 cuts, {len(KNOWN)} known scripts, {len(wrong)} wrong; {minutes:.1f} min")
+    print(f"{kinds.total()} bytes changed, {ran} recoveries of them, {maps} maps, 64 cuts, {len(KNOWN)} known scripts, {len(wrong)} wrong; {minutes:.1f} min")
     sys.exit(1 if wrong else 0)
 
 

@@ -1,4 +1,5 @@
 pub mod Format
+pub mod Root
 pub use Rattle.nv_region.specs.Region
 pub use Rattle.nv_region.specs.Stops
 pub use Rattle.nv_super.specs.Layout

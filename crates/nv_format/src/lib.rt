@@ -3,5 +3,7 @@
 
 mod clearing;
 mod formatting;
+mod laws;
 
 pub use formatting::{FormatRefusal, format, format_is_determined};
+pub use laws::the_root_has_an_attributes_entry;

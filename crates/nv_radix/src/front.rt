@@ -87,7 +87,8 @@ impl Front {
         set_places(&mut self.mapped, &mut self.blocks, page, block, count);
     }
 
-    /// Unmaps the pages from `first_page` on, and gives back the memory that they had. Those before it stay ready.
+    /// Unmaps the pages from `first_page` on. Those before it stay ready. It takes no memory, and gives back what it had once
+    /// no more pages are ready than lie in the value itself.
     pub(crate) fn cut(&mut self, first_page: u64)
         requires { first_page < 64 }
         ensures blocks { (p : ℕ) → block_at self.new p ≡ (if nat_le first_page p then None else block_at self.old p) }
@@ -97,7 +98,7 @@ impl Front {
     {
         self.mapped &= (1 << first_page) - 1;
         self.blocks.truncate(first_page as usize);
-        self.blocks.shrink_to_fit();
+        give_back(&mut self.blocks);
     }
 
     /// The extents of the mapped pages, added to none.
@@ -105,5 +106,14 @@ impl Front {
         ensures { OnOk result (AreExtents [] extents.old.items → AreExtents self.now extents.new.items) }
     {
         add_places(self.mapped, &self.blocks, extents, 0)
+    }
+}
+
+// Gives the memory of the blocks back if they fit in the value itself. A smaller memory in place of theirs would be taken anew.
+fn give_back(blocks: &mut SmallVec<u64, INLINE>)
+    ensures { blocks.new.items ≡ blocks.old.items }
+{
+    if blocks.len() <= INLINE {
+        blocks.shrink_to_fit();
     }
 }

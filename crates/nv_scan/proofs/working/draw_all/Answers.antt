@@ -5,9 +5,10 @@ use Rattle.nv_super.specs.declared.superblock.Super.{Super}
 use Rattle.nv_claimmap.specs.nv_claimcore.declared.view.View.{View}
 use Rattle.nv_claimmap.specs.nv_claimcore.Claims.{past}
 use Rattle.nv_scan.specs.Tickets.{ticket_count, numbers_of}
-use Rattle.nv_scan.specs.Work.{IsWork, IsDone, rows_in}
+use Rattle.std.specs.List.{All}
+use Rattle.nv_scan.specs.Work.{IsWork, IsDone, rows_in, tickets_among}
 use Rattle.nv_scan.proofs.RowHeads.{heads_first}
-use Rattle.nv_scan.proofs.Work.{work_none, work_past, work_more, nearer}
+use Rattle.nv_scan.proofs.Work.{work_none, work_past, work_more, each_none, each_past, each_more, nearer}
 use Rattle.nv_scan.proofs.working.draw_all.Goals as goal
 
 pub loop-ticket-init : goal.loop-ticket-init
@@ -19,6 +20,7 @@ loop-ticket-init g c = record {
   room = c.in_ok-each.ensures;
   work = work_none (g.P.Pmem.region c.args.memory.now) c.args.scanner.now c.args.seat.now.view c.new-inodes.result.rows.items c.new-inodes.result.faults.items c.requires.own.1 c.new-inodes.ensures.rows c.new-inodes.ensures.faults;
   heads = rw (c.new-heads.ensures, c.new-inodes.ensures.rows) refl;
+  entered = each_none (g.G.Gate.entered c.args.gate.now c.args.seat.now.number) (ticket_count c.args.scanner.now) c.args.seat.now.view c.requires.own.1;
 }
 
 pub scan_ticket-requires-clause-layout : goal.scan_ticket-requires-clause-layout
@@ -67,6 +69,9 @@ loop-ticket-preserved g c =
       room = c.scan_ticket.ensures.room;
       heads = c.in_ok-push_heads.ensures;
       work = work_more R s v u w old new before after t l.work (subst (λ (n : ℕ). t < n) c.requires.sizes.1 d.some) d.joins (subst (λ (x : Super). IsDone R x (numbers_of x t) u w old new before after) l.scanner c.in_ok-scan_ticket.ensures.done);
+      entered = each_more (g.G.Gate.entered c.args.gate.now c.args.seat.now.number) R s v u w (numbers_of s t) t l.entered
+          (subst (λ (n : ℕ). g.G.Gate.entered c.args.gate.now n t) (c.number.ensures ∙ d.number ∙ l.number) c.enter.ensures)
+          (subst (λ (n : ℕ). t < n) c.requires.sizes.1 d.some) d.joins (subst (λ (x : Super). IsDone R x (numbers_of x t) u w old new before after) l.scanner c.in_ok-scan_ticket.ensures.done);
     }
 
 pub returns-clause-seat : goal.returns-clause-seat
@@ -88,3 +93,11 @@ returns-clause-done g c =
       work = ⊎_elim (λ same. subst (λ (x : View). IsWork R s x rows faults) (sym same) l.work)
           (λ more. work_past R s v w rows faults more.0 l.work (subst (λ (n : ℕ). n ≤ more.0) c.requires.sizes.1 more.1) more.2) d.last;
     }
+
+pub returns-clause-entered : goal.returns-clause-entered
+returns-clause-entered g c =
+    let l = c.loop-ticket.invariant in let d = c.in_default.ensures in
+    let s = c.args.scanner.now in let v = c.loop-ticket.seat.view in let w = c.draw.new.seat.view in
+    let P : ℕ → Type 0 = g.G.Gate.entered c.args.gate.now c.args.seat.now.number in
+    ⊎_elim (λ same. subst (λ (x : View). All P (tickets_among (ticket_count s) x.numbers)) (sym same) l.entered)
+    (λ more. each_past P (ticket_count s) v w more.0 l.entered (subst (λ (n : ℕ). n ≤ more.0) c.requires.sizes.1 more.1) more.2) d.last
