@@ -4,6 +4,7 @@ pub mod Leaving
 pub mod TakeExists
 pub mod Changed
 pub mod Sound
+pub mod Singly
 pub mod GivenBack
 pub mod RunsWhere
 pub mod SetParts

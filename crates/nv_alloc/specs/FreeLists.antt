@@ -9,7 +9,7 @@ use Rattle.nv_super.specs.Runs.{InRun, Apart, AreRuns}
 use Rattle.nv_alloc.specs.declared.allocators.AllocRefusal.{AllocRefusal}
 use Rattle.nv_alloc.specs.declared.allocators.AllocRefusal.TheVariants.{NoSpace, Memory}
 use Rattle.nv_alloc.specs.FreeValue.{FreeLists}
-use Rattle.nv_alloc.specs.Taking.{HasBlock, Disjoint, blocks_in, all_blocks, pool_at, Takes}
+use Rattle.nv_alloc.specs.Taking.{HasBlock, Disjoint, blocks_in, all_blocks, pool_at, Takes, TakesSingly, LeaveSingly}
 
 -- the block is free in the pool of this CPU
 abbrev pub IsFreeIn : FreeLists → ℕ → ℕ → Type 0
@@ -85,3 +85,7 @@ TakenCanJoin = (old mid now : FreeLists) (cpu n : ℕ) (before : List Run) (run 
 -- The free blocks of each pool determine the lists.
 abbrev pub SetsDetermineLists : Type 0
 SetsDetermineLists = (a b : FreeLists) → IsSound a → IsSound b → a.sup ≡ b.sup → ((cpu block : ℕ) → (IsFreeIn a cpu block → IsFreeIn b cpu block) × (IsFreeIn b cpu block → IsFreeIn a cpu block)) → a.pools ≡ b.pools
+
+-- From sound lists, blocks that are taken one by one were free, no two are the same, and just they aren't free any more.
+abbrev pub SingleTakesLeave : Type 0
+SingleTakesLeave = (a : FreeLists) (cpu : ℕ) (blocks : List ℕ) (after : List (List Run)) → IsSound a → cpu < a.sup.cpus → TakesSingly a.pools cpu blocks after → LeaveSingly a.pools blocks after

@@ -34,8 +34,8 @@ use Rattle.nv_steps.proofs.TwoLogs.{cut_each, taken_apart}
 shown_once : (l : Layout) (S : Region) (held : Store) (i : ℕ) (h : Held) → Shows S l held → held i ≡ Some h → IsDistinct eqb h.pages
 shown_once l S held i h shows is = let v = stands_at shows i h is in let all = pages_are (one_page l.sup h.head (head_starts l.sup h.head h.tail v.is.right)) v.is.reads in all.once
 
-module _ {R : Region} {s : Super} {held : Store} {f h : Held} {first second : Row} {free after : FreeLists} (entries others : List Entry) (fresh more : List ℕ) (shows : ShowsRow R s held f first free) (shows_other : ShowsRow R s held h second free) (differ : first.inode ≢ second.inode)
-    (stays : SameFile (fixed_layout s) f (extended f entries fresh)) (other_stays : SameFile (fixed_layout s) h (extended h others more)) (lists : free.sup ≡ s) (taken : TakesEach free (fresh ++ more) after)
+module _ {R : Region} {s : Super} {held : Store} {f h : Held} {first second : Row} {free after : FreeLists} {cpu : ℕ} (entries others : List Entry) (fresh more : List ℕ) (shows : ShowsRow R s held f first free) (shows_other : ShowsRow R s held h second free) (differ : first.inode ≢ second.inode)
+    (stays : SameFile (fixed_layout s) f (extended f entries fresh)) (other_stays : SameFile (fixed_layout s) h (extended h others more)) (lists : free.sup ≡ s) (taken : TakesEach free cpu (fresh ++ more) after)
     (count : length fresh ≡ needed (f.tail % 4096) entries) (more_count : length more ≡ needed (h.tail % 4096) others) where
   abbrev l : Layout
   l = fixed_layout s

@@ -28,6 +28,7 @@ use Rattle.nv_calls.proofs.OneRow.{shows_row}
 use Rattle.nv_super.proofs.Members.{stands}
 use Rattle.nv_calls.proofs.TakenOut.{places_differ}
 use Rattle.nv_steps.proofs.TakenBlocks.{taken_sup}
+use Rattle.nv_steps.proofs.OneByOne.{by_rule}
 
 -- What is owed of a call on two logs: its entries leave the files' blocks, both rows are of the new logs, and nothing is wrong
 -- with what is held then, where both inodes own what was theirs or free.
@@ -42,7 +43,7 @@ pub record IsRight (R : Region) (s : Super) (free : FreeLists) (rows : List Row)
       → OwnsNew (fixed_layout s) (with_log held first.inode f entries fresh) second.inode (Some (extended h others more)) → IsFaultless (fixed_layout s) (with_log (with_log held first.inode f entries fresh) second.inode h others more)
 
 module _ {R S : Region} {s : Super} {rows news : List Row} {free after : FreeLists} {faults : List Fault} {read_only stopped : Bool} (kept : IsKept R s rows free faults read_only stopped) (runs : stopped ≡ false) (writes : read_only ≡ false)
-    {i j : ℕ} {first second : Row} {entries others : List Entry} {Becomes Other : List ℕ → Row → Type 0} (step : GrowsTwo R S s free after rows news i first entries j second others Becomes Other) (differ : first.inode ≢ second.inode)
+    {cpu i j : ℕ} {first second : Row} {entries others : List Entry} {Becomes Other : List ℕ → Row → Type 0} (step : GrowsTwo R S s free after cpu rows news i first entries j second others Becomes Other) (differ : first.inode ≢ second.inode)
     (right : IsRight R s free rows first entries step.fresh step.first_now second others step.more step.second_now) where
   -- what is held, and what it shows of both
   module _ (held : Store) (m : IsMounted R s held rows free.pools) where
@@ -95,7 +96,7 @@ module _ {R S : Region} {s : Super} {rows news : List Row} {free after : FreeLis
   both_bytes = bytes_stay kept runs writes S (λ held m. (let seen = step.shows held (f held m) (h held m) (shows held m) (shows_other held m) in seen.bytes))
 
   -- Both logs, for whatever is held of the region.
-  pub both_logs : (held : Store) (a b : Held) → ShowsSound R s held → held first.inode ≡ Some a → held second.inode ≡ Some b → ShowsBothGrew S s held first.inode a entries second.inode b others
+  pub both_logs : (held : Store) (a b : Held) → ShowsSound R s held → held first.inode ≡ Some a → held second.inode ≡ Some b → ShowsBothGrew S s free.pools cpu held first.inode a entries second.inode b others
   both_logs held a b sound is other_is = ∥∥₁_map (mounted_with kept runs held sound) (λ m.
       let shown = shows held m in
       let shown_other = shows_other held m in
@@ -103,10 +104,12 @@ module _ {R S : Region} {s : Super} {rows news : List Row} {free after : FreeLis
       let both_other : Some (h held m) ≡ Some b = sym shown_other.holds ∙ other_is in
       let same : f held m ≡ a = cc in
       let same_other : h held m ≡ b = cc in
-      subst (λ (k : Held). BothGrew S s held first.inode k entries second.inode b others) same
-      (subst (λ (k : Held). BothGrew S s held first.inode (f held m) entries second.inode k others) same_other (record {
+      subst (λ (k : Held). BothGrew S s free.pools cpu held first.inode k entries second.inode b others) same
+      (subst (λ (k : Held). BothGrew S s free.pools cpu held first.inode (f held m) entries second.inode k others) same_other (record {
         fresh = step.fresh;
         more = step.more;
+        rest = after.pools;
+        taken = by_rule step.taken;
         free = fresh_free entries others step.fresh step.more shown shown_other differ (right.stays held (f held m) shown) (right.other_stays held (h held m) shown_other) kept.lists step.taken (count held m) (more_count held m);
         more_free = more_free entries others step.fresh step.more shown shown_other differ (right.stays held (f held m) shown) (right.other_stays held (h held m) shown_other) kept.lists step.taken (count held m) (more_count held m);
         apart = apart entries others step.fresh step.more shown shown_other differ (right.stays held (f held m) shown) (right.other_stays held (h held m) shown_other) kept.lists step.taken (count held m) (more_count held m);

@@ -9,7 +9,7 @@ use Rattle.nv_held.specs.Mounted.{ShowsSound}
 use Rattle.nv_tree.specs.declared.refusal.Refusal.{Refusal}
 use Rattle.nv_tree.specs.declared.refusal.Refusal.TheVariants.{Memory, NotFound, ReadOnly, Stopped}
 use Rattle.nv_tree.specs.Tree.{SameTree}
-use Rattle.nv_tree.specs.Refusals.{Path, clean_tests, first_refusal, stat_tests}
+use Rattle.nv_tree.specs.Refusals.{Path, clean_tests, first_refusal, stat_tests, IsRefusedBy}
 use Rattle.nv_paths.specs.Seen.{node_of, tree_of}
 use Rattle.nv_calls.specs.CleanCall.{ShowsCleaned, clean_inode_tests}
 use Rattle.nv_calls.specs.Mount.{Mount}
@@ -52,7 +52,7 @@ number_told {P} region {n} {m} same S row i held h block number told sound is =
     subst (λ (k : Mount P). ShowsSound (region k.memory) k.sup held → ShowsCleaned (region k.memory) S k.sup held i h block) same
     (λ shows. subst (λ (k : ℕ). ShowsCleaned (region n.memory) S n.sup held k h block) number (told held h shows (subst (λ (k : ℕ). held k ≡ Some h) (sym number) is))) sound
 
--- A step that was refused is so for memory, or since it was stopped.
-pub step_refused : (e : Refusal) (C : Type 0) → (e ≡ Memory) ⊎ (e ≡ Stopped) → (e ≡ Memory) ⊎ ((e ≡ Stopped) ⊎ C)
-step_refused e C (inl memory) = inl memory
-step_refused e C (inr stopped) = inr (inl stopped)
+-- A step that was refused is so for memory, where no test holds, or since it was stopped.
+pub step_refused : (first : Option Refusal) (e : Refusal) → first ≡ None → (e ≡ Memory) ⊎ (e ≡ Stopped) → IsRefusedBy first e
+step_refused first e none (inl memory) = inl (memory, inl none)
+step_refused first e none (inr stopped) = inr (inl stopped)

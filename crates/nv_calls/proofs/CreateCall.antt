@@ -1,5 +1,5 @@
 -- What `create` and `mkdir` answer, and what they leave.
-use Rattle.std.proofs.Common.{◌≡◌, ℕ, ◌+◌, ◌%◌, ◌<◌, ◌≤◌, ◌⊎◌, Bool, true, false, IsTrue, List, [], ◌∷◌, refl, ap, sym, ◌∙◌, subst, Option, Some, None, Result, Ok, slice_get}
+use Rattle.std.proofs.Common.{◌≡◌, ℕ, ◌+◌, ◌%◌, ◌<◌, ◌≤◌, Bool, true, false, IsTrue, List, [], ◌∷◌, refl, ap, sym, ◌∙◌, subst, Option, Some, None, Result, Ok, slice_get}
 use Rattle.std.proofs.Math.Logic.{∥∥₁_map}
 use Rattle.nv_region.specs.Region.{Region}
 use Rattle.nv_super.specs.declared.superblock.Super.{Super}
@@ -23,11 +23,11 @@ use Rattle.nv_held.specs.Held.{Held, Store}
 use Rattle.nv_held.specs.Blocks.{KeepsFree}
 use Rattle.nv_held.specs.Mounted.{IsMounted, ShowsSound}
 use Rattle.nv_tree.specs.declared.refusal.Refusal.{Refusal}
-use Rattle.nv_tree.specs.declared.refusal.Refusal.TheVariants.{Memory, Stopped}
+use Rattle.nv_tree.specs.declared.refusal.Refusal.TheVariants.{Stopped}
 use Rattle.nv_tree.specs.Path.{IsPath, IsPathName, Says, last_name}
 use Rattle.nv_tree.specs.Tree.{SameNode, SameTree, Tree, walk}
 use Rattle.nv_tree.specs.Calls.{created, with_name}
-use Rattle.nv_tree.specs.Refusals.{Path, Tests, create_tests, first_refusal, has_no_space, writing}
+use Rattle.nv_tree.specs.Refusals.{Path, Tests, create_tests, first_refusal, has_no_space, writing, IsRefusedBy}
 use Rattle.nv_calls.specs.Mount.{IsKept, Mount}
 use Rattle.nv_calls.specs.NameCalls.{ShowsCreated, create_blocks, ended_row, row_blocks}
 use Rattle.nv_steps.specs.NameEntries.{name_entries}
@@ -48,7 +48,7 @@ use Rattle.nv_calls.proofs.RowChange.{keeps_same}
 use Rattle.nv_calls.proofs.Tests.{space_allows, space_refuses}
 
 module _ {R S : Region} {s : Super} {rows news : List Row} {free after : FreeLists} {faults : List Fault} {read_only stopped : Bool} (kept : IsKept R s rows free faults read_only stopped) (runs : stopped ≡ false) (writes : read_only ≡ false)
-    {place : ℕ} {kind : Kind} {mode time j : ℕ} {name : List ℕ} (step : CreatesAt R S s free after rows news place kind mode time j name) (cpu : ℕ) (low : cpu < s.cpus) (spelled : IsPathName name) (names : List (List ℕ)) (spot : IsSpot (tree_of R rows) rows s cpu names place name j) where
+    {place : ℕ} {kind : Kind} {cpu mode time j : ℕ} {name : List ℕ} (step : CreatesAt R S s free after cpu rows news place kind mode time j name) (low : cpu < s.cpus) (spelled : IsPathName name) (names : List (List ℕ)) (spot : IsSpot (tree_of R rows) rows s cpu names place name j) where
   directory : step.row.kind ≡ Directory
   directory = (spot.directory step.row step.at).1
 
@@ -93,15 +93,15 @@ module _ {R S : Region} {s : Super} {rows news : List Row} {free after : FreeLis
       number_stays = let made = step.step in let dir = made.directory in dir.inode
 
   -- The logs, for whatever is held of the region.
-  pub created_log : (d i : ℕ) (held : Store) (h : Held) → walk (tree_of R rows) 1 names ≡ Ok d → unused_number s rows cpu ≡ Some i → ShowsSound R s held → held d ≡ Some h → ShowsCreated S s held kind mode time i d h (last_name names)
+  pub created_log : (d i : ℕ) (held : Store) (h : Held) → walk (tree_of R rows) 1 names ≡ Ok d → unused_number s rows cpu ≡ Some i → ShowsSound R s held → held d ≡ Some h → ShowsCreated S s free.pools cpu held kind mode time i d h (last_name names)
   created_log d i held h ended free_number sound is =
       let both : Ok step.row.inode ≡ Ok d = sym walked ∙ ended in
       let same : step.row.inode ≡ d = cc in
       let numbers : Some j ≡ Some i = sym spot.unused ∙ free_number in
       let one : j ≡ i = cc in
-      subst (λ (k : ℕ). ShowsCreated S s held kind mode time k d h (last_name names)) one
-      (subst (λ (q : List ℕ). ShowsCreated S s held kind mode time j d h q) spot.name_is
-      (subst (λ (k : ℕ). ShowsCreated S s held kind mode time j k h name) same
+      subst (λ (k : ℕ). ShowsCreated S s free.pools cpu held kind mode time k d h (last_name names)) one
+      (subst (λ (q : List ℕ). ShowsCreated S s free.pools cpu held kind mode time j d h q) spot.name_is
+      (subst (λ (k : ℕ). ShowsCreated S s free.pools cpu held kind mode time j k h name) same
       (was_created kept runs writes step directory good unused absent held h sound (ap held same ∙ is))))
 
 -- ---- why it is refused
@@ -137,7 +137,7 @@ module _ {P : Type 0} (region : P → Region) {n m : Mount P} (same : n ≡ m) (
   create_allowed = space_allows same tests count at_last
 
   -- Where its step was refused, so is the call.
-  pub create_refused : (e : Refusal) → RefusesStep e count n.free → (e ≡ Memory) ⊎ ((e ≡ Stopped) ⊎ (tests m ≡ Some e))
+  pub create_refused : (e : Refusal) → RefusesStep e count n.free → IsRefusedBy (tests m) e
   create_refused = space_refuses same tests count at_last
 
 -- ---- a step that was refused

@@ -37,9 +37,9 @@ use Rattle.nv_steps.specs.Taken.{TakesEach}
 use Rattle.nv_steps.proofs.NameEntries.{first, first_in_range, at_page, name_file, new_maps_nothing, new_names, new_numbers}
 use Rattle.nv_steps.proofs.TakenBlocks.{are_free, lists_without}
 
-module _ {R : Region} {s : Super} {held : Store} {h : Held} {row : Row} {free after : FreeLists} (kind : Kind) (mode time j : ℕ) (name : List ℕ) (page : ℕ) (fresh : List ℕ)
+module _ {R : Region} {s : Super} {held : Store} {h : Held} {row : Row} {free after : FreeLists} {cpu : ℕ} (kind : Kind) (mode time j : ℕ) (name : List ℕ) (page : ℕ) (fresh : List ℕ)
     (shows : ShowsRow R s held h row free) (unused : held j ≡ None) (directory : h.kind ≡ Directory) (good : IsGoodName s j name) (absent : (graph_in (fixed_layout s) held).name row.inode name ≡ None)
-    (lists : free.sup ≡ s) (taken : TakesEach free (page ∷ fresh) after) (apart : Contains fresh page → ⊥) (count : length fresh ≡ needed (h.tail % 4096) (name_entries Add j name time)) where
+    (lists : free.sup ≡ s) (taken : TakesEach free cpu (page ∷ fresh) after) (apart : Contains fresh page → ⊥) (count : length fresh ≡ needed (h.tail % 4096) (name_entries Add j name time)) where
   abbrev l : Layout
   l = fixed_layout s
 

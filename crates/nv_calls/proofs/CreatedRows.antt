@@ -48,6 +48,7 @@ use Rattle.nv_super.proofs.Members.{stands}
 use Rattle.nv_rows.proofs.Places.{number_at}
 use Rattle.nv_steps.proofs.RowOf.{row_at}
 use Rattle.nv_steps.proofs.TakenBlocks.{all_differ, taken_sup}
+use Rattle.nv_steps.proofs.OneByOne.{by_rule}
 
 -- an element that was put in stands there
 is_inserted : (rows : List Row) (p : ℕ) (row : Row) → Contains (insert rows p row) row
@@ -119,7 +120,7 @@ two_changes held i j a b differ = λ t k. (each k) t where
   ]
 
 module _ {R S : Region} {s : Super} {rows news : List Row} {free after : FreeLists} {faults : List Fault} {read_only stopped : Bool} (kept : IsKept R s rows free faults read_only stopped) (runs : stopped ≡ false) (writes : read_only ≡ false)
-    {place : ℕ} {kind : Kind} {mode time j : ℕ} {name : List ℕ} (step : CreatesAt R S s free after rows news place kind mode time j name) (directory : step.row.kind ≡ Directory) (good : IsGoodName s j name)
+    {place : ℕ} {kind : Kind} {cpu mode time j : ℕ} {name : List ℕ} (step : CreatesAt R S s free after cpu rows news place kind mode time j name) (directory : step.row.kind ≡ Directory) (good : IsGoodName s j name)
     (unused : row_of rows j ≡ None) (absent : IsNoneNamed rows step.row name) where
   abbrev row : Row
   row = step.row
@@ -218,14 +219,16 @@ module _ {R S : Region} {s : Super} {rows news : List Row} {free after : FreeLis
   bytes_kept = bytes_stay kept runs writes S bytes_then
 
   -- The new inode and its name, for whatever is held of the region.
-  pub was_created : (held : Store) (g : Held) → ShowsSound R s held → held row.inode ≡ Some g → ShowsCreated S s held kind mode time j row.inode g name
+  pub was_created : (held : Store) (g : Held) → ShowsSound R s held → held row.inode ≡ Some g → ShowsCreated S s free.pools cpu held kind mode time j row.inode g name
   was_created held g sound is = ∥∥₁_map (mounted_with kept runs held sound) (λ m.
       let shown = shows held m in
       let both : Some (h held m) ≡ Some g = sym shown.holds ∙ is in
       let same : h held m ≡ g = cc in
-      subst (λ (k : Held). WasCreated S s held kind mode time j row.inode k name) same (record {
+      subst (λ (k : Held). WasCreated S s free.pools cpu held kind mode time j row.inode k name) same (record {
         page = makes_page;
         fresh = makes_fresh;
+        rest = after.pools;
+        taken = (let made = step.step in by_rule made.taken);
         free = (let made = step.step in all_free kind mode time j name made.page made.fresh shown (out held m) (of_kind held m) good (not_there held m) kept.lists made.taken apart (count held m));
         apart = apart;
         count = count held m;

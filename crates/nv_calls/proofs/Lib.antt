@@ -51,6 +51,7 @@ pub mod GraphPaths
 pub mod MovedEntries
 pub mod MovedAcross
 pub mod MovedWithin
+pub mod FrontsKept
 pub mod OneOut
 pub mod MoveTests
 pub mod MoveCall
@@ -62,3 +63,4 @@ pub mod CleanedRow
 pub mod CleanedMount
 pub mod CleanCall
 pub mod StoppedCleaning
+pub mod Decided

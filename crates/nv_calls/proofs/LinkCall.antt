@@ -1,5 +1,5 @@
 -- What `link` answers, and what it leaves.
-use Rattle.std.proofs.Common.{◌≡◌, ◌≢◌, ℕ, ◌+◌, ◌%◌, ◌<◌, ◌≤◌, ◌/◌, ◌⊎◌, Bool, false, List, [], ◌∷◌, ap, sym, ◌∙◌, subst, Option, Some, None, Result, Ok, slice_get}
+use Rattle.std.proofs.Common.{◌≡◌, ◌≢◌, ℕ, ◌+◌, ◌%◌, ◌<◌, ◌≤◌, ◌/◌, Bool, false, List, [], ◌∷◌, ap, sym, ◌∙◌, subst, Option, Some, None, Result, Ok, slice_get}
 use Rattle.std.specs.List.{Contains}
 use Rattle.std.specs.Option.{option_map_or}
 use Rattle.nv_region.specs.Region.{Region}
@@ -20,11 +20,10 @@ use Rattle.nv_held.specs.Held.{Held, Store}
 use Rattle.nv_held.specs.Bytes.{byte_in}
 use Rattle.nv_held.specs.Mounted.{IsMounted, ShowsSound}
 use Rattle.nv_tree.specs.declared.refusal.Refusal.{Refusal}
-use Rattle.nv_tree.specs.declared.refusal.Refusal.TheVariants.{Memory, Stopped}
 use Rattle.nv_tree.specs.Path.{IsPath, IsPathName, Says, last_name}
 use Rattle.nv_tree.specs.Tree.{Node, SameTree, Tree, found, walk}
 use Rattle.nv_tree.specs.Calls.{edit, linked, links_at, with_links, with_name}
-use Rattle.nv_tree.specs.Refusals.{Path, Tests, first_refusal, has_no_space, link_tests, writing}
+use Rattle.nv_tree.specs.Refusals.{Path, Tests, first_refusal, has_no_space, link_tests, writing, IsRefusedBy}
 use Rattle.nv_calls.specs.LinkCalls.{ShowsBothGrew, link_blocks}
 use Rattle.nv_steps.specs.NameEntries.{links_entries, name_entries}
 use Rattle.nv_steps.specs.MoreNames.{LinksAt}
@@ -51,7 +50,7 @@ use Rattle.nv_steps.proofs.RowOf.{row_at}
 use Rattle.nv_calls.proofs.Tests.{space_allows, space_refuses}
 
 module _ {R S : Region} {s : Super} {rows news : List Row} {free after : FreeLists} {faults : List Fault} {read_only stopped : Bool} (kept : IsKept R s rows free faults read_only stopped) (runs : stopped ≡ false) (writes : read_only ≡ false)
-    {target place : ℕ} {name : List ℕ} {time : ℕ} (step : LinksAt R S s free after rows news target place name time) (spelled : IsPathName name) (names others : List (List ℕ)) (spot : IsLinkSpot (tree_of R rows) rows names others place name target) where
+    {cpu target place : ℕ} {name : List ℕ} {time : ℕ} (step : LinksAt R S s free after cpu rows news target place name time) (spelled : IsPathName name) (names others : List (List ℕ)) (spot : IsLinkSpot (tree_of R rows) rows names others place name target) where
   abbrev file : Row
   file = step.file
 
@@ -118,7 +117,7 @@ module _ {R S : Region} {s : Super} {rows news : List Row} {free after : FreeLis
 
   -- The logs, for whatever is held of the region.
   pub linked_logs : (i d : ℕ) (node : Node) (held : Store) (f h : Held) → LeadsTo (tree_of R rows) names i node → walk (tree_of R rows) 1 others ≡ Ok d → ShowsSound R s held → held i ≡ Some f → held d ≡ Some h
-      → ShowsBothGrew S s held i f (links_entries (node.links + 1) time) d h (name_entries Add i (last_name others) time)
+      → ShowsBothGrew S s free.pools cpu held i f (links_entries (node.links + 1) time) d h (name_entries Add i (last_name others) time)
   linked_logs i d node held f h led ended sound is other_is =
       let both : Ok directory.inode ≡ Ok d = sym walked ∙ ended in
       let same : directory.inode ≡ d = cc in
@@ -126,10 +125,10 @@ module _ {R S : Region} {s : Super} {rows news : List Row} {free after : FreeLis
       let one : file.inode ≡ i = cc in
       let links : file.numbers.links ≡ node.links = sym (links_told R rows file (row_at rows target file rising at)) ∙ ap (λ (k : ℕ). links_at (tree_of R rows) k) one ∙ ap (λ (o : Option Node). option_map_or (λ (n : Node). n.links) o 0) led.shows in
       let grew = both_logs kept runs writes step.step differ (link_right step is_file is_directory few good absent) held f h sound (ap held one ∙ is) (ap held same ∙ other_is) in
-      subst (λ (k : ℕ). ShowsBothGrew S s held k f (links_entries (node.links + 1) time) d h (name_entries Add k (last_name others) time)) one
-      (subst (λ (n : ℕ). ShowsBothGrew S s held file.inode f (links_entries (n + 1) time) d h (name_entries Add file.inode (last_name others) time)) links
-      (subst (λ (q : List ℕ). ShowsBothGrew S s held file.inode f (links_entries (file.numbers.links + 1) time) d h (name_entries Add file.inode q time)) name_is
-      (subst (λ (k : ℕ). ShowsBothGrew S s held file.inode f (links_entries (file.numbers.links + 1) time) k h (name_entries Add file.inode name time)) same grew)))
+      subst (λ (k : ℕ). ShowsBothGrew S s free.pools cpu held k f (links_entries (node.links + 1) time) d h (name_entries Add k (last_name others) time)) one
+      (subst (λ (n : ℕ). ShowsBothGrew S s free.pools cpu held file.inode f (links_entries (n + 1) time) d h (name_entries Add file.inode (last_name others) time)) links
+      (subst (λ (q : List ℕ). ShowsBothGrew S s free.pools cpu held file.inode f (links_entries (file.numbers.links + 1) time) d h (name_entries Add file.inode q time)) name_is
+      (subst (λ (k : ℕ). ShowsBothGrew S s free.pools cpu held file.inode f (links_entries (file.numbers.links + 1) time) k h (name_entries Add file.inode name time)) same grew)))
 
 -- ---- why it is refused
 
@@ -171,5 +170,5 @@ module _ {P : Type 0} (region : P → Region) {n m : Mount P} (same : n ≡ m) (
   link_allowed = space_allows same tests count at_last
 
   -- Where its step was refused, so is the call.
-  pub link_refused : (e : Refusal) → RefusesStep e count n.free → (e ≡ Memory) ⊎ ((e ≡ Stopped) ⊎ (tests m ≡ Some e))
+  pub link_refused : (e : Refusal) → RefusesStep e count n.free → IsRefusedBy (tests m) e
   link_refused = space_refuses same tests count at_last

@@ -94,7 +94,7 @@ kinds_apart rows i j file directory at other_at is_file is_directory same =
     let clash : File ≡ Directory = sym is_file ∙ ap (λ (r : Row). r.kind) one ∙ is_directory in
     cc
 
-module _ {R S : Region} {s : Super} {rows news : List Row} {free after : FreeLists} {target place : ℕ} {name : List ℕ} {time : ℕ} (step : LinksAt R S s free after rows news target place name time)
+module _ {R S : Region} {s : Super} {rows news : List Row} {free after : FreeLists} {cpu target place : ℕ} {name : List ℕ} {time : ℕ} (step : LinksAt R S s free after cpu rows news target place name time)
     (is_file : step.file.kind ≡ File) (is_directory : step.directory.kind ≡ Directory) (few : step.file.numbers.links < 1000) (good : IsGoodName s step.file.inode name) (absent : IsNoneNamed rows step.directory name) where
   abbrev i : ℕ
   i = step.file.inode

@@ -1,5 +1,5 @@
 -- What `rename` answers, and what it leaves.
-use Rattle.std.proofs.Common.{◌≡◌, ◌≢◌, ℕ, ◌+◌, ◌%◌, ◌≤◌, ◌⊎◌, cond, inl, inr, nat_eq, Bool, true, false, List, [], ◌∷◌, slice_get, ap, sym, ◌∙◌, subst, arith, refl, Option, Some, None, Ok}
+use Rattle.std.proofs.Common.{◌≡◌, ◌≢◌, ℕ, ◌+◌, ◌%◌, ◌≤◌, cond, inl, inr, nat_eq, Bool, true, false, List, [], ◌∷◌, slice_get, ap, sym, ◌∙◌, subst, arith, refl, Option, Some, None, Ok}
 use Rattle.std.proofs.lemmas.Bool.Decides.{nat_tests}
 use Rattle.std.proofs.lemmas.Option.{get_or_from_slice_get, slice_get_within}
 use Rattle.nv_region.specs.Region.{Region}
@@ -18,11 +18,10 @@ use Rattle.nv_held.specs.nv_named.Step.{IsGoodName}
 use Rattle.nv_held.specs.Held.{Held, Store}
 use Rattle.nv_held.specs.Mounted.{IsMounted, ShowsSound}
 use Rattle.nv_tree.specs.declared.refusal.Refusal.{Refusal}
-use Rattle.nv_tree.specs.declared.refusal.Refusal.TheVariants.{Memory, Stopped}
 use Rattle.nv_tree.specs.Path.{IsPath, IsPathName, Says, last_name}
 use Rattle.nv_tree.specs.Tree.{Node, SameTree, Tree, walk}
 use Rattle.nv_tree.specs.Calls.{renamed}
-use Rattle.nv_tree.specs.Refusals.{Path, Tests, first_refusal, has_no_space, rename_tests, writing}
+use Rattle.nv_tree.specs.Refusals.{Path, Tests, first_refusal, has_no_space, rename_tests, writing, IsRefusedBy}
 use Rattle.nv_calls.specs.GrownLogs.{ShowsGrownLog}
 use Rattle.nv_calls.specs.LinkCalls.{ShowsBothGrew}
 use Rattle.nv_calls.specs.MoveCalls.{MovesAcross, MovesAt, end_together, move_blocks, rename_blocks}
@@ -59,36 +58,36 @@ module _ {R : Region} {s : Super} {rows : List Row} {free : FreeLists} {faults :
   spot_here : place ≡ end → IsMoveSpot (tree_of R rows) rows names (first ∷ rest) place name target place other
   spot_here same = subst (λ (k : ℕ). IsMoveSpot (tree_of R rows) rows names (first ∷ rest) place name target k other) (sym same) spot
 
-  apart : {S : Region} {news : List Row} {after : FreeLists} {time : ℕ} (step : MovesAcross R S s free after rows news place target end name other time) → place ≢ end → step.from.inode ≢ step.to.inode
+  apart : {S : Region} {news : List Row} {after : FreeLists} {cpu time : ℕ} (step : MovesAcross R S s free after cpu rows news place target end name other time) → place ≢ end → step.from.inode ≢ step.to.inode
   apart step differ = let both = step.step in places_numbers rows place end step.from step.to rising both.at both.other_at differ
 
   -- What is kept.
-  pub moved_kept : {S : Region} {news : List Row} {after : FreeLists} {time : ℕ} → MovesAt R S s free after rows news place target end name other time → (now : Bool) → IsKept S s news after faults read_only now
-  moved_kept {S} {news} {after} {time} (inl w) now =
+  pub moved_kept : {S : Region} {news : List Row} {after : FreeLists} {cpu time : ℕ} → MovesAt R S s free after cpu rows news place target end name other time → (now : Bool) → IsKept S s news after faults read_only now
+  moved_kept {S} {news} {after} {cpu} {time} (inl w) now =
       let step = w.1 in
       subst (λ (rs : List Row). IsKept S s rs after faults read_only now) (sym step.put)
       (within_kept kept runs writes step.moved step.at step.moved_at step.step names first rest (spot_here w.0) (good name spelled step.moved step.moved_at) (good other spelled_other step.moved step.moved_at) now)
-  moved_kept {S} {news} {after} {time} (inr w) now =
+  moved_kept {S} {news} {after} {cpu} {time} (inr w) now =
       let step = w.1 in
       across_kept kept runs writes step names first rest spot (good name spelled step.moved step.moved_at) (good other spelled_other step.moved step.moved_at) (apart step w.0) now
 
   -- What is mounted, for what is held of the region of before.
-  pub moved_mounted : {S : Region} {news : List Row} {after : FreeLists} {time : ℕ} → MovesAt R S s free after rows news place target end name other time → (held : Store) (m : IsMounted R s held rows free.pools) → (then : Store) × IsMounted S s then news after.pools
-  moved_mounted {S} {news} {after} {time} (inl w) held m =
+  pub moved_mounted : {S : Region} {news : List Row} {after : FreeLists} {cpu time : ℕ} → MovesAt R S s free after cpu rows news place target end name other time → (held : Store) (m : IsMounted R s held rows free.pools) → (then : Store) × IsMounted S s then news after.pools
+  moved_mounted {S} {news} {after} {cpu} {time} (inl w) held m =
       let step = w.1 in
       subst (λ (rs : List Row). (then : Store) × IsMounted S s then rs after.pools) (sym step.put)
       (within_mounted kept runs writes step.moved step.at step.moved_at step.step names first rest (spot_here w.0) (good name spelled step.moved step.moved_at) (good other spelled_other step.moved step.moved_at) held m)
-  moved_mounted {S} {news} {after} {time} (inr w) held m =
+  moved_mounted {S} {news} {after} {cpu} {time} (inr w) held m =
       let step = w.1 in
       across_mounted kept runs writes step names first rest spot (good name spelled step.moved step.moved_at) (good other spelled_other step.moved step.moved_at) (apart step w.0) held m
 
   -- The tree is what the call makes of that of before.
-  pub moved_tree : {S : Region} {news : List Row} {after : FreeLists} {time : ℕ} → MovesAt R S s free after rows news place target end name other time → SameTree (tree_of S news) (renamed names (first ∷ rest) time (tree_of R rows))
-  moved_tree {S} {news} {after} {time} (inl w) =
+  pub moved_tree : {S : Region} {news : List Row} {after : FreeLists} {cpu time : ℕ} → MovesAt R S s free after cpu rows news place target end name other time → SameTree (tree_of S news) (renamed names (first ∷ rest) time (tree_of R rows))
+  moved_tree {S} {news} {after} {cpu} {time} (inl w) =
       let step = w.1 in
       subst (λ (rs : List Row). SameTree (tree_of S rs) (renamed names (first ∷ rest) time (tree_of R rows))) (sym step.put)
       (within_tree kept runs writes step.moved step.at step.moved_at step.step names first rest (spot_here w.0) (good name spelled step.moved step.moved_at) (good other spelled_other step.moved step.moved_at))
-  moved_tree {S} {news} {after} {time} (inr w) =
+  moved_tree {S} {news} {after} {cpu} {time} (inr w) =
       let step = w.1 in
       across_tree kept runs writes step names first rest spot (good name spelled step.moved step.moved_at) (good other spelled_other step.moved step.moved_at) (apart step w.0)
 
@@ -100,13 +99,13 @@ module _ {R : Region} {s : Super} {rows : List Row} {free : FreeLists} {faults :
   to_ends row at = let free_name = spot.spot in let in_directory = free_name.directory in (in_directory.row row at).0
 
   -- The logs of two directories, for whatever is held of the region.
-  pub moved_logs : {S : Region} {news : List Row} {after : FreeLists} {time : ℕ} → MovesAt R S s free after rows news place target end name other time → (i d e : ℕ) (node : Node) (held : Store) (h k : Held) → LeadsTo (tree_of R rows) names i node → walk (tree_of R rows) 1 names ≡ Ok d → walk (tree_of R rows) 1 (first ∷ rest) ≡ Ok e → d ≢ e → ShowsSound R s held → held d ≡ Some h → held e ≡ Some k
-      → ShowsBothGrew S s held d h (name_entries Remove i (last_name names) time) e k (name_entries Add i (last_name (first ∷ rest)) time)
-  moved_logs {S} {news} {after} {time} (inl w) i d e node held h k led walked ended differ sound is other_is =
+  pub moved_logs : {S : Region} {news : List Row} {after : FreeLists} {cpu time : ℕ} → MovesAt R S s free after cpu rows news place target end name other time → (i d e : ℕ) (node : Node) (held : Store) (h k : Held) → LeadsTo (tree_of R rows) names i node → walk (tree_of R rows) 1 names ≡ Ok d → walk (tree_of R rows) 1 (first ∷ rest) ≡ Ok e → d ≢ e → ShowsSound R s held → held d ≡ Some h → held e ≡ Some k
+      → ShowsBothGrew S s free.pools cpu held d h (name_entries Remove i (last_name names) time) e k (name_entries Add i (last_name (first ∷ rest)) time)
+  moved_logs {S} {news} {after} {cpu} {time} (inl w) i d e node held h k led walked ended differ sound is other_is =
       let step = w.1 in
       let both : Ok d ≡ Ok e = sym walked ∙ from_ends step.row step.at ∙ sym (to_ends step.row (subst (λ (m : ℕ). slice_get rows m ≡ Some step.row) w.0 step.at)) ∙ ended in
       absurd (differ (cc))
-  moved_logs {S} {news} {after} {time} (inr w) i d e node held h k led walked ended differ sound is other_is =
+  moved_logs {S} {news} {after} {cpu} {time} (inr w) i d e node held h k led walked ended differ sound is other_is =
       let step = w.1 in
       let both = step.step in
       let there = spot.from in
@@ -119,16 +118,16 @@ module _ {R : Region} {s : Super} {rows : List Row} {free : FreeLists} {faults :
       let to_is : step.to.inode ≡ e = cc in
       let moved_is : step.moved.inode ≡ i = cc in
       let grew = across_logs kept runs writes step names first rest spot (good name spelled step.moved step.moved_at) (good other spelled_other step.moved step.moved_at) (apart step w.0) held h k sound (ap held from_is ∙ is) (ap held to_is ∙ other_is) in
-      subst (λ (m : ℕ). ShowsBothGrew S s held d h (name_entries Remove m (last_name names) time) e k (name_entries Add m (last_name (first ∷ rest)) time)) moved_is
-      (subst (λ (q : List ℕ). ShowsBothGrew S s held d h (name_entries Remove step.moved.inode q time) e k (name_entries Add step.moved.inode (last_name (first ∷ rest)) time)) there.name_is
-      (subst (λ (q : List ℕ). ShowsBothGrew S s held d h (name_entries Remove step.moved.inode name time) e k (name_entries Add step.moved.inode q time)) in_directory.name_is
-      (subst (λ (m : ℕ). ShowsBothGrew S s held m h (name_entries Remove step.moved.inode name time) e k (name_entries Add step.moved.inode other time)) from_is
-      (subst (λ (m : ℕ). ShowsBothGrew S s held step.from.inode h (name_entries Remove step.moved.inode name time) m k (name_entries Add step.moved.inode other time)) to_is grew))))
+      subst (λ (m : ℕ). ShowsBothGrew S s free.pools cpu held d h (name_entries Remove m (last_name names) time) e k (name_entries Add m (last_name (first ∷ rest)) time)) moved_is
+      (subst (λ (q : List ℕ). ShowsBothGrew S s free.pools cpu held d h (name_entries Remove step.moved.inode q time) e k (name_entries Add step.moved.inode (last_name (first ∷ rest)) time)) there.name_is
+      (subst (λ (q : List ℕ). ShowsBothGrew S s free.pools cpu held d h (name_entries Remove step.moved.inode name time) e k (name_entries Add step.moved.inode q time)) in_directory.name_is
+      (subst (λ (m : ℕ). ShowsBothGrew S s free.pools cpu held m h (name_entries Remove step.moved.inode name time) e k (name_entries Add step.moved.inode other time)) from_is
+      (subst (λ (m : ℕ). ShowsBothGrew S s free.pools cpu held step.from.inode h (name_entries Remove step.moved.inode name time) m k (name_entries Add step.moved.inode other time)) to_is grew))))
 
   -- The log of the only directory.
-  pub moved_log : {S : Region} {news : List Row} {after : FreeLists} {time : ℕ} → MovesAt R S s free after rows news place target end name other time → (i d : ℕ) (node : Node) (held : Store) (h : Held) → LeadsTo (tree_of R rows) names i node → walk (tree_of R rows) 1 names ≡ Ok d → walk (tree_of R rows) 1 (first ∷ rest) ≡ Ok d → ShowsSound R s held → held d ≡ Some h
-      → ShowsGrownLog S s held d h (move_entries i (last_name names) (last_name (first ∷ rest)) time)
-  moved_log {S} {news} {after} {time} (inl w) i d node held h led walked ended sound is =
+  pub moved_log : {S : Region} {news : List Row} {after : FreeLists} {cpu time : ℕ} → MovesAt R S s free after cpu rows news place target end name other time → (i d : ℕ) (node : Node) (held : Store) (h : Held) → LeadsTo (tree_of R rows) names i node → walk (tree_of R rows) 1 names ≡ Ok d → walk (tree_of R rows) 1 (first ∷ rest) ≡ Ok d → ShowsSound R s held → held d ≡ Some h
+      → ShowsGrownLog S s free.pools cpu held d h (move_entries i (last_name names) (last_name (first ∷ rest)) time)
+  moved_log {S} {news} {after} {cpu} {time} (inl w) i d node held h led walked ended sound is =
       let step = w.1 in
       let there = spot.from in
       let free_name = spot.spot in
@@ -138,11 +137,11 @@ module _ {R : Region} {s : Super} {rows : List Row} {free : FreeLists} {faults :
       let row_is : step.row.inode ≡ d = cc in
       let moved_is : step.moved.inode ≡ i = cc in
       let grew = within_log kept runs writes step.moved step.at step.moved_at step.step names first rest (spot_here w.0) (good name spelled step.moved step.moved_at) (good other spelled_other step.moved step.moved_at) held h sound (ap held row_is ∙ is) in
-      subst (λ (m : ℕ). ShowsGrownLog S s held d h (move_entries m (last_name names) (last_name (first ∷ rest)) time)) moved_is
-      (subst (λ (q : List ℕ). ShowsGrownLog S s held d h (move_entries step.moved.inode q (last_name (first ∷ rest)) time)) there.name_is
-      (subst (λ (q : List ℕ). ShowsGrownLog S s held d h (move_entries step.moved.inode name q time)) in_directory.name_is
-      (subst (λ (m : ℕ). ShowsGrownLog S s held m h (move_entries step.moved.inode name other time)) row_is grew)))
-  moved_log {S} {news} {after} {time} (inr w) i d node held h led walked ended sound is =
+      subst (λ (m : ℕ). ShowsGrownLog S s free.pools cpu held d h (move_entries m (last_name names) (last_name (first ∷ rest)) time)) moved_is
+      (subst (λ (q : List ℕ). ShowsGrownLog S s free.pools cpu held d h (move_entries step.moved.inode q (last_name (first ∷ rest)) time)) there.name_is
+      (subst (λ (q : List ℕ). ShowsGrownLog S s free.pools cpu held d h (move_entries step.moved.inode name q time)) in_directory.name_is
+      (subst (λ (m : ℕ). ShowsGrownLog S s free.pools cpu held m h (move_entries step.moved.inode name other time)) row_is grew)))
+  moved_log {S} {news} {after} {cpu} {time} (inr w) i d node held h led walked ended sound is =
       let step = w.1 in
       let both = step.step in
       let one : Ok step.from.inode ≡ Ok step.to.inode = sym (from_ends step.from both.at) ∙ walked ∙ sym ended ∙ to_ends step.to both.other_at in
@@ -203,5 +202,5 @@ module _ {P : Type 0} (region : P → Region) {n m : Mount P} (same : n ≡ m) (
   rename_allowed = space_allows same tests count at_last
 
   -- Where its step was refused, so is the call.
-  pub rename_refused : (e : Refusal) → RefusesStep e count n.free → (e ≡ Memory) ⊎ ((e ≡ Stopped) ⊎ (tests m ≡ Some e))
+  pub rename_refused : (e : Refusal) → RefusesStep e count n.free → IsRefusedBy (tests m) e
   rename_refused = space_refuses same tests count at_last

@@ -49,7 +49,7 @@ use Rattle.nv_steps.proofs.NamedLogs.{lost_told, named_file, named_told}
 use Rattle.nv_super.proofs.Members.{stands}
 use Rattle.nv_calls.proofs.RemovedTree.{lost_node}
 
-module _ {R S : Region} {s : Super} {rows news : List Row} {free after : FreeLists} {place target end : ℕ} {name other : List ℕ} {time : ℕ} (step : MovesAcross R S s free after rows news place target end name other time) (names : List (List ℕ)) (first : List ℕ) (rest : List (List ℕ))
+module _ {R S : Region} {s : Super} {rows news : List Row} {free after : FreeLists} {cpu place target end : ℕ} {name other : List ℕ} {time : ℕ} (step : MovesAcross R S s free after cpu rows news place target end name other time) (names : List (List ℕ)) (first : List ℕ) (rest : List (List ℕ))
     (spot : IsMoveSpot (tree_of R rows) rows names (first ∷ rest) place name target end other) (good : IsGoodName s step.moved.inode name) (good_other : IsGoodName s step.moved.inode other) (differ : step.from.inode ≢ step.to.inode) where
   abbrev i : ℕ
   i = step.moved.inode
@@ -139,7 +139,7 @@ renamed_by names others time t i d e name other leads walked ended is other_is =
     ∙ ap (λ (q : List ℕ). edit e (with_name q i time) (edit d (without_name name time) t)) (sym other_is)
 
 module _ {R S : Region} {s : Super} {rows news : List Row} {free after : FreeLists} {faults : List Fault} {read_only stopped : Bool} (kept : IsKept R s rows free faults read_only stopped) (runs : stopped ≡ false) (writes : read_only ≡ false)
-    {place target end : ℕ} {name other : List ℕ} {time : ℕ} (step : MovesAcross R S s free after rows news place target end name other time) (names : List (List ℕ)) (first : List ℕ) (rest : List (List ℕ))
+    {cpu place target end : ℕ} {name other : List ℕ} {time : ℕ} (step : MovesAcross R S s free after cpu rows news place target end name other time) (names : List (List ℕ)) (first : List ℕ) (rest : List (List ℕ))
     (spot : IsMoveSpot (tree_of R rows) rows names (first ∷ rest) place name target end other) (good : IsGoodName s step.moved.inode name) (good_other : IsGoodName s step.moved.inode other) (differ : step.from.inode ≢ step.to.inode) where
   right : IsRight R s free rows step.from (name_entries Remove step.moved.inode name time) step.step.fresh step.step.first_now step.to (name_entries Add step.moved.inode other time) step.step.more step.step.second_now
   right = moved_right step names first rest spot good good_other differ
@@ -172,5 +172,5 @@ module _ {R S : Region} {s : Super} {rows news : List Row} {free after : FreeLis
       subst (λ (t : Tree). SameTree (tree_of S news) t) (sym made) (subst (λ (rs : List Row). SameTree (tree_of S rs) (edit step.to.inode (with_name other step.moved.inode time) (edit step.from.inode (without_name name time) (tree_of R rows)))) (sym both.put) same)
 
   -- The logs, for whatever is held of the region.
-  pub across_logs : (held : Store) (h k : Held) → ShowsSound R s held → held step.from.inode ≡ Some h → held step.to.inode ≡ Some k → ShowsBothGrew S s held step.from.inode h (name_entries Remove step.moved.inode name time) step.to.inode k (name_entries Add step.moved.inode other time)
+  pub across_logs : (held : Store) (h k : Held) → ShowsSound R s held → held step.from.inode ≡ Some h → held step.to.inode ≡ Some k → ShowsBothGrew S s free.pools cpu held step.from.inode h (name_entries Remove step.moved.inode name time) step.to.inode k (name_entries Add step.moved.inode other time)
   across_logs held h k sound is other_is = both_logs kept runs writes step.step differ right held h k sound is other_is

@@ -57,9 +57,10 @@ use Rattle.nv_super.proofs.Members.{stands}
 use Rattle.nv_calls.proofs.RemovedTree.{none_of}
 use Rattle.nv_calls.proofs.RowChange.{kept_after, log_grew, mounted_after, row_bytes, tree_after}
 use Rattle.nv_steps.proofs.TakenBlocks.{lists_without, taken_sup}
+use Rattle.nv_steps.proofs.OneByOne.{by_rule}
 
 module _ {R S : Region} {s : Super} {rows : List Row} {free after : FreeLists} {faults : List Fault} {read_only stopped : Bool} (kept : IsKept R s rows free faults read_only stopped) (runs : stopped ≡ false) (writes : read_only ≡ false)
-    {place target : ℕ} {name other : List ℕ} {time : ℕ} {row new : Row} (moved : Row) (at : slice_get rows place ≡ Some row) (moved_at : slice_get rows target ≡ Some moved) (step : MovesWithin R S s free after row new moved.inode name other time) (names : List (List ℕ)) (first : List ℕ) (rest : List (List ℕ))
+    {cpu place target : ℕ} {name other : List ℕ} {time : ℕ} {row new : Row} (moved : Row) (at : slice_get rows place ≡ Some row) (moved_at : slice_get rows target ≡ Some moved) (step : MovesWithin R S s free after cpu row new moved.inode name other time) (names : List (List ℕ)) (first : List ℕ) (rest : List (List ℕ))
     (spot : IsMoveSpot (tree_of R rows) rows names (first ∷ rest) place name target place other) (good : IsGoodName s moved.inode name) (good_other : IsGoodName s moved.inode other) where
   abbrev i : ℕ
   i = moved.inode
@@ -155,12 +156,14 @@ module _ {R S : Region} {s : Super} {rows : List Row} {free after : FreeLists} {
         }
 
     -- The log has grown by both entries.
-    follows : LogFollows R S s held h entries row new after
+    follows : LogFollows R S s held h entries free.pools cpu row new after
     follows =
         let shown = step.moved held h can in
         let has = step.row in
         record {
           fresh = fresh;
+          rest = after.pools;
+          taken = by_rule step.taken;
           blocks = fresh_free entries shows kept.lists step.taken step.count given (omega arith);
           count = count_held entries shows kept.lists step.taken step.count given (omega arith);
           sound = sound_moves R S s held (with_log held row.inode h entries fresh) shows.sound shown.front shown.shows faultless;
@@ -181,7 +184,7 @@ module _ {R S : Region} {s : Super} {rows : List Row} {free after : FreeLists} {
   within_kept = kept_after kept runs writes place row new at entries follows (taken_sup step.taken)
 
   -- The log, for whatever is held of the region.
-  pub within_log : (held : Store) (h : Held) → ShowsSound R s held → held row.inode ≡ Some h → ShowsGrownLog S s held row.inode h entries
+  pub within_log : (held : Store) (h : Held) → ShowsSound R s held → held row.inode ≡ Some h → ShowsGrownLog S s free.pools cpu held row.inode h entries
   within_log = log_grew kept runs writes place row new at entries follows
 
   bytes : (r : Row) → Contains rows r → (x : ℕ) → byte_in S (block_at r.index (x / 4096)) x ≡ byte_in R (block_at r.index (x / 4096)) x

@@ -105,13 +105,13 @@ module _ {R : Region} {s : Super} {rows : List Row} {free : FreeLists} {faults :
 -- ---- once blocks were taken
 
 -- Its blocks are its own also then.
-pub owns_taken : {old new : FreeLists} {fresh : List ℕ} {row : Row} → TakesEach old fresh new → OwnsBlocks old row → OwnsBlocks new row
-owns_taken {old} {new} {fresh} {row} taken own =
+pub owns_taken : {old new : FreeLists} {cpu : ℕ} {fresh : List ℕ} {row : Row} → TakesEach old cpu fresh new → OwnsBlocks old row → OwnsBlocks new row
+owns_taken {old} {new} {cpu} {fresh} {row} taken own =
     let log = own.log in
     record {
       log = record {
         in_data = λ b at. subst (λ (s : Super). (system_blocks s ≤ b) × (b < s.blocks)) (sym (taken_sup taken)) (log.in_data b at);
-        used = λ b cpu at there. log.used b cpu at (was_free taken cpu b there);
+        used = λ b c at there. log.used b c at (was_free taken c b there);
         once = log.once;
       };
       maps = own_taken taken own.maps;

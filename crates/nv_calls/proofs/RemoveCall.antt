@@ -41,7 +41,7 @@ use Rattle.nv_paths.proofs.RemoveTests.{rmdir_allows}
 use Rattle.nv_steps.proofs.RowOf.{row_at}
 
 module _ {R S : Region} {s : Super} {rows news : List Row} {free mid : FreeLists} {faults : List Fault} {read_only stopped : Bool} (kept : IsKept R s rows free faults read_only stopped) (runs : stopped ≡ false) (writes : read_only ≡ false)
-    {place target : ℕ} {name : List ℕ} {time : ℕ} (step : CutsAt R S s free mid rows news place target name time) (spelled : IsPathName name) (can_go : CanGo step.gone) (names : List (List ℕ)) (spot : IsNamedAt (tree_of R rows) rows names place name target) where
+    {cpu place target : ℕ} {name : List ℕ} {time : ℕ} (step : CutsAt R S s free mid cpu rows news place target name time) (spelled : IsPathName name) (can_go : CanGo step.gone) (names : List (List ℕ)) (spot : IsNamedAt (tree_of R rows) rows names place name target) where
   directory : step.row.kind ≡ Directory
   directory = (spot.directory step.row step.at).1
 
@@ -77,15 +77,15 @@ module _ {R S : Region} {s : Super} {rows news : List Row} {free mid : FreeLists
   rmdir_tree = subst (λ (t : Tree). SameTree (tree_of S news) t) (sym (removed_by names time (tree_of R rows) step.gone.inode step.row.inode name (spot.leads step.gone step.gone_at) walked spot.name_is)) tree_is
 
   -- The logs, for whatever is held of the region.
-  pub removed_log : (i d : ℕ) (node : Node) (held : Store) (h : Held) → LeadsTo (tree_of R rows) names i node → walk (tree_of R rows) 1 names ≡ Ok d → ShowsSound R s held → held d ≡ Some h → ShowsRemoved S s held d h (name_entries Remove i (last_name names) time) i
+  pub removed_log : (i d : ℕ) (node : Node) (held : Store) (h : Held) → LeadsTo (tree_of R rows) names i node → walk (tree_of R rows) 1 names ≡ Ok d → ShowsSound R s held → held d ≡ Some h → ShowsRemoved S s free.pools cpu held d h (name_entries Remove i (last_name names) time) i
   removed_log i d node held h led ended sound is =
       let both : Ok step.row.inode ≡ Ok d = sym walked ∙ ended in
       let same : step.row.inode ≡ d = cc in
       let numbers : Some step.gone.inode ≡ Some i = sym (spot.leads step.gone step.gone_at) ∙ led.leads in
       let one : step.gone.inode ≡ i = cc in
-      subst (λ (k : ℕ). ShowsRemoved S s held d h (name_entries Remove k (last_name names) time) k) one
-      (subst (λ (q : List ℕ). ShowsRemoved S s held d h (name_entries Remove step.gone.inode q time) step.gone.inode) spot.name_is
-      (subst (λ (k : ℕ). ShowsRemoved S s held k h (name_entries Remove step.gone.inode name time) step.gone.inode) same
+      subst (λ (k : ℕ). ShowsRemoved S s free.pools cpu held d h (name_entries Remove k (last_name names) time) k) one
+      (subst (λ (q : List ℕ). ShowsRemoved S s free.pools cpu held d h (name_entries Remove step.gone.inode q time) step.gone.inode) spot.name_is
+      (subst (λ (k : ℕ). ShowsRemoved S s free.pools cpu held k h (name_entries Remove step.gone.inode name time) step.gone.inode) same
       (was_removed kept runs writes step directory good named can_go held h sound (ap held same ∙ is))))
 
 -- ---- what is owed before

@@ -37,13 +37,14 @@ use Rattle.nv_steps.specs.LessNames.{GivesRow}
 use Rattle.nv_calls.specs.AtPlaces.{CanGo}
 use Rattle.nv_steps.specs.NameEntries.{name_entries, with_gone}
 use Rattle.nv_steps.specs.Steps.{ShowsRow}
-use Rattle.nv_steps.specs.Taken.{TakesEach, single_takes}
+use Rattle.nv_steps.specs.Taken.{TakesEach}
 use Rattle.nv_steps.proofs.NameEntries.{name_file}
 use Rattle.nv_steps.proofs.TakenBlocks.{are_free, is_taken, was_taken}
+use Rattle.nv_steps.proofs.OneByOne.{single_takes, takes_of}
 
-module _ {R : Region} {s : Super} {held : Store} {h f : Held} {row gone : Row} {free mid : FreeLists} (time : ℕ) (name : List ℕ) (fresh : List ℕ) (shows : ShowsRow R s held h row free) (shows_gone : ShowsRow R s held f gone free)
+module _ {R : Region} {s : Super} {held : Store} {h f : Held} {row gone : Row} {free mid : FreeLists} {cpu : ℕ} (time : ℕ) (name : List ℕ) (fresh : List ℕ) (shows : ShowsRow R s held h row free) (shows_gone : ShowsRow R s held f gone free)
     (directory : h.kind ≡ Directory) (good : IsGoodName s gone.inode name) (named : (graph_in (fixed_layout s) held).name row.inode name ≡ Some gone.inode) (can_go : CanGo gone)
-    (lists : free.sup ≡ s) (taken : TakesEach free fresh mid) (count : length fresh ≡ needed (h.tail % 4096) (name_entries Remove gone.inode name time)) where
+    (lists : free.sup ≡ s) (taken : TakesEach free cpu fresh mid) (count : length fresh ≡ needed (h.tail % 4096) (name_entries Remove gone.inode name time)) where
   abbrev l : Layout
   l = fixed_layout s
 
@@ -142,7 +143,7 @@ module _ {R : Region} {s : Super} {held : Store} {h f : Held} {row gone : Row} {
     pub removed_lists : {after : FreeLists} (given : GivesRow mid gone after) → KeepsFree l then after.pools
     removed_lists {after} given =
         let same = taken.same in
-        lists_change l held then taken.from mid after (single_takes fresh) given.runs (subst (λ (pools : List (List Run)). KeepsFree l held pools) (sym same.pools) shows.lists) (same.sup ∙ lists) taken.takes given.joined (λ b. (to b, from b))
+        lists_change l held then taken.from mid after (single_takes fresh) given.runs (subst (λ (pools : List (List Run)). KeepsFree l held pools) (sym same.pools) shows.lists) (same.sup ∙ lists) (takes_of taken) given.joined (λ b. (to b, from b))
       where
         left : (b : ℕ) → IsUnowned l then b ↔ (IsUnowned l less b ⊎ (Contains f.pages b ⊎ Maps l f b))
         left = gone_free l less i f there less_undoubled pages_inside

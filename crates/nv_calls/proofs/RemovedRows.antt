@@ -43,9 +43,10 @@ use Rattle.nv_rows.proofs.Places.{number_at}
 use Rattle.nv_steps.proofs.TakenBlocks.{taken_sup}
 use Rattle.nv_calls.proofs.TakenOut.{another, places_differ, stays_there, still_rise, was_there}
 use Rattle.nv_steps.proofs.RowsAt.{other_set}
+use Rattle.nv_steps.proofs.OneByOne.{by_rule}
 
 module _ {R S : Region} {s : Super} {rows news : List Row} {free mid : FreeLists} {faults : List Fault} {read_only stopped : Bool} (kept : IsKept R s rows free faults read_only stopped) (runs : stopped ≡ false) (writes : read_only ≡ false)
-    {place target : ℕ} {name : List ℕ} {time : ℕ} (step : CutsAt R S s free mid rows news place target name time) (directory : step.row.kind ≡ Directory) (good : IsGoodName s step.gone.inode name)
+    {cpu place target : ℕ} {name : List ℕ} {time : ℕ} (step : CutsAt R S s free mid cpu rows news place target name time) (directory : step.row.kind ≡ Directory) (good : IsGoodName s step.gone.inode name)
     (named : option_map (λ (x : ℕ × ℕ). x.0) (name_at step.row.names name) ≡ Some step.gone.inode) (can_go : CanGo step.gone) where
   abbrev row : Row
   row = step.row
@@ -148,13 +149,15 @@ module _ {R S : Region} {s : Super} {rows news : List Row} {free mid : FreeLists
   numbers_differ = ∥∥₁_elim (mounted_of_kept kept runs writes) (hlevel (props, ℕ_set)) (λ w. apart w.0 w.1)
 
   -- The name and its inode are gone, for whatever is held of the region.
-  pub was_removed : (held : Store) (g : Held) → ShowsSound R s held → held row.inode ≡ Some g → ShowsRemoved S s held row.inode g (name_entries Remove gone.inode name time) gone.inode
+  pub was_removed : (held : Store) (g : Held) → ShowsSound R s held → held row.inode ≡ Some g → ShowsRemoved S s free.pools cpu held row.inode g (name_entries Remove gone.inode name time) gone.inode
   was_removed held g sound is = ∥∥₁_map (mounted_with kept runs held sound) (λ m.
       let shown = shows held m in
       let both : Some (h held m) ≡ Some g = sym shown.holds ∙ is in
       let same : h held m ≡ g = cc in
-      subst (λ (k : Held). WasRemoved S s held row.inode k (name_entries Remove gone.inode name time) gone.inode) same (record {
+      subst (λ (k : Held). WasRemoved S s free.pools cpu held row.inode k (name_entries Remove gone.inode name time) gone.inode) same (record {
         fresh = cuts_fresh;
+        rest = mid.pools;
+        taken = (let cuts = step.step in by_rule cuts.taken);
         free = (let cuts = step.step in fresh_free time name cuts.fresh shown (shows_gone held m) (of_kind held m) good (is_named held m) can_go kept.lists cuts.taken (count held m));
         count = count held m;
         sound = sound_then held m;

@@ -119,7 +119,7 @@ module _ {R : Region} {s : Super} {rows : List Row} {free after : FreeLists} {fa
   pub kept_same : SameRow row new → SamePools free after → (now : Bool) → IsKept R s (set rows place new) after faults read_only now
   kept_same same pools now = kept_of_mounted R s (set rows place new) after faults read_only now kept.writes writes (pools.sup ∙ kept.lists) (∥∥₁_map (mounted_of_kept kept runs writes) (λ w. (w.0, mounted_same same pools w.0 w.1)))
 
-  module _ {S : Region} (entries : List Entry) (follows : (held : Store) (h : Held) → ShowsRow R s held h row free → LogFollows R S s held h entries row new after) where
+  module _ {S : Region} {pools : List (List Run)} {cpu : ℕ} (entries : List Entry) (follows : (held : Store) (h : Held) → ShowsRow R s held h row free → LogFollows R S s held h entries pools cpu row new after) where
     pub mounted_after : (held : Store) → IsMounted R s held rows free.pools → (then : Store) × IsMounted S s then (set rows place new) after.pools
     mounted_after held m =
         let keeps = m.keeps in
@@ -147,14 +147,14 @@ module _ {R : Region} {s : Super} {rows : List Row} {free after : FreeLists} {fa
     rising = rows_rise R s rows free faults read_only stopped kept runs
 
     -- The log of its inode, for whatever is held of the region.
-    pub log_grew : (held : Store) (h : Held) → ShowsSound R s held → held row.inode ≡ Some h → ∥ (LogGrew S s held row.inode h entries) ∥₁
+    pub log_grew : (held : Store) (h : Held) → ShowsSound R s held → held row.inode ≡ Some h → ∥ (LogGrew S s pools cpu held row.inode h entries) ∥₁
     log_grew held h sound is = ∥∥₁_map (mounted_with kept runs held sound) (λ m.
         let w = shows_row m kept.lists row (stands rows place row at) in
         let shown = w.1 in
         let both : Some w.0 ≡ Some h = sym shown.holds ∙ is in
         let same : w.0 ≡ h = cc in
         let f = follows held h (subst (λ (g : Held). ShowsRow R s held g row free) same shown) in
-        record { fresh = f.fresh; free = f.blocks; count = f.count; sound = f.sound })
+        record { fresh = f.fresh; rest = f.rest; taken = f.taken; free = f.blocks; count = f.count; sound = f.sound })
 
     -- The tree is as before, with the node of the row changed.
     pub tree_after : (change : Node → Node) → new.inode ≡ row.inode → SameNode (node_of S new) (change (node_of R row)) → SameTree (tree_of S (set rows place new)) (edit row.inode change (tree_of R rows))

@@ -1,5 +1,5 @@
 -- What `set_attr` answers, and what it leaves.
-use Rattle.std.proofs.Common.{◌≡◌, ℕ, ◌%◌, ◌≤◌, ◌⊎◌, inl, inr, Bool, true, false, IsTrue, List, [], ◌∷◌, refl, ap, sym, ◌∙◌, subst, Option, Some, None, Result, Err, slice_get, set, ◌/◌, length}
+use Rattle.std.proofs.Common.{◌≡◌, ℕ, ◌%◌, ◌≤◌, inl, inr, Bool, true, false, IsTrue, List, [], ◌∷◌, refl, ap, sym, ◌∙◌, subst, Option, Some, None, Result, Err, slice_get, set, ◌/◌, length}
 use Rattle.std.proofs.lemmas.Option.{same_Some}
 use Rattle.nv_region.specs.Region.{Region}
 use Rattle.nv_super.specs.declared.superblock.Super.{Super}
@@ -12,11 +12,11 @@ use Rattle.nv_held.specs.nv_named.Read.{row_of}
 use Rattle.nv_held.specs.Held.{Held, Store}
 use Rattle.nv_held.specs.Mounted.{ShowsSound}
 use Rattle.nv_tree.specs.declared.refusal.Refusal.{Refusal}
-use Rattle.nv_tree.specs.declared.refusal.Refusal.TheVariants.{Memory, Stopped}
+use Rattle.nv_tree.specs.declared.refusal.Refusal.TheVariants.{Stopped}
 use Rattle.nv_tree.specs.Path.{IsPath, Says}
 use Rattle.nv_tree.specs.Tree.{Node, SameTree, Tree, found, SameNode}
 use Rattle.nv_tree.specs.Calls.{attributed, edit, on_some, with_attributes}
-use Rattle.nv_tree.specs.Refusals.{Path, Tests, first_refusal, has_no_space, set_attr_tests, stat_tests, writing}
+use Rattle.nv_tree.specs.Refusals.{Path, Tests, first_refusal, has_no_space, set_attr_tests, stat_tests, writing, IsRefusedBy, MayWantMemory}
 use Rattle.nv_steps.specs.Attributes.{attributes, HasAttributes}
 use Rattle.nv_calls.specs.AttributesCall.{attributes_blocks}
 use Rattle.nv_calls.specs.GrownLogs.{ShowsGrownLog}
@@ -28,7 +28,7 @@ use Rattle.nv_calls.specs.World.{world_of}
 use Rattle.nv_calls.proofs.Mounts.{kept_when_stopped}
 use Rattle.nv_calls.proofs.RowChange.{kept_same}
 use Rattle.nv_steps.proofs.RowsAt.{set_same_rows}
-use Rattle.nv_calls.proofs.Tests.{blocks_there, enough_space, stat_allows, too_few}
+use Rattle.nv_calls.proofs.Tests.{blocks_there, enough_space, stat_allows, too_few, space_last}
 use Rattle.std.specs.Option.{option_map}
 use Rattle.nv_radix.specs.Pages.{block_at}
 use Rattle.nv_names.specs.Names.{Names, name_at}
@@ -53,8 +53,8 @@ module _ {P : Type 0} (region : P → Region) {n m : Mount P} (same : n ≡ m) (
   attr_allowed enough = subst (λ (k : Mount P). tests k ≡ None) same (at_last ∙ enough_space (world_of n) (needed (row.tail % 4096) (attributes row.numbers.size 0 0 0 0)) enough)
 
   -- Where its step was refused, so is the call.
-  pub attr_refused : (e : Refusal) → RefusesStep e (needed (row.tail % 4096) (attributes row.numbers.size 0 0 0 0)) n.free → (e ≡ Memory) ⊎ ((e ≡ Stopped) ⊎ (tests m ≡ Some e))
-  attr_refused e (inl memory) = inl memory
+  pub attr_refused : (e : Refusal) → RefusesStep e (needed (row.tail % 4096) (attributes row.numbers.size 0 0 0 0)) n.free → IsRefusedBy (tests m) e
+  attr_refused e (inl memory) = inl (memory, subst (λ (k : Mount P). MayWantMemory (tests k)) same (subst MayWantMemory (sym at_last) (space_last (world_of n) (needed (row.tail % 4096) (attributes row.numbers.size 0 0 0 0)))))
   attr_refused e (inr (inl stopped)) = inr (inl stopped)
   attr_refused e (inr (inr w)) = inr (inr (subst (λ (k : Mount P). tests k ≡ Some e) same (at_last ∙ too_few (world_of n) (needed (row.tail % 4096) (attributes row.numbers.size 0 0 0 0)) w.1 ∙ ap (λ (r : Refusal). Some r) (sym w.0))))
 
@@ -69,18 +69,18 @@ attr_changed {P} region {n} {m} same names i mode owner group time u leads is =
     subst (λ (k : Mount P). SameTree u (attributed names mode owner group time (tree_of (region k.memory) k.rows))) same (subst (λ (v : Tree). SameTree u v) (sym made) is)
 
 -- The log of the inode that the path leads to has grown.
-pub attr_logged : {P : Type 0} (region : P → Region) {n m : Mount P} → n ≡ m → (S : Region) (names : List (List ℕ)) (row : Row) (mode owner group time i : ℕ) (node : Node) (held : Store) (h : Held)
-    → LeadsTo (tree_of (region n.memory) n.rows) names row.inode (node_of (region n.memory) row) → ((st : Store) (g : Held) → ShowsSound (region n.memory) n.sup st → st row.inode ≡ Some g → ShowsGrownLog S n.sup st row.inode g (attributes row.numbers.size mode owner group time))
-    → LeadsTo (tree_of (region m.memory) m.rows) names i node → ShowsSound (region m.memory) m.sup held → held i ≡ Some h → ShowsGrownLog S m.sup held i h (attributes node.size mode owner group time)
-attr_logged {P} region {n} {m} same S names row mode owner group time i node held h own grew led sound is =
-    subst (λ (k : Mount P). LeadsTo (tree_of (region k.memory) k.rows) names i node → ShowsSound (region k.memory) k.sup held → ShowsGrownLog S k.sup held i h (attributes node.size mode owner group time)) same here led sound
+pub attr_logged : {P : Type 0} (region : P → Region) {n m : Mount P} {cpu : ℕ} → n ≡ m → (S : Region) (names : List (List ℕ)) (row : Row) (mode owner group time i : ℕ) (node : Node) (held : Store) (h : Held)
+    → LeadsTo (tree_of (region n.memory) n.rows) names row.inode (node_of (region n.memory) row) → ((st : Store) (g : Held) → ShowsSound (region n.memory) n.sup st → st row.inode ≡ Some g → ShowsGrownLog S n.sup n.free.pools cpu st row.inode g (attributes row.numbers.size mode owner group time))
+    → LeadsTo (tree_of (region m.memory) m.rows) names i node → ShowsSound (region m.memory) m.sup held → held i ≡ Some h → ShowsGrownLog S m.sup m.free.pools cpu held i h (attributes node.size mode owner group time)
+attr_logged {P} region {n} {m} {cpu} same S names row mode owner group time i node held h own grew led sound is =
+    subst (λ (k : Mount P). LeadsTo (tree_of (region k.memory) k.rows) names i node → ShowsSound (region k.memory) k.sup held → ShowsGrownLog S k.sup k.free.pools cpu held i h (attributes node.size mode owner group time)) same here led sound
   where
-    here : LeadsTo (tree_of (region n.memory) n.rows) names i node → ShowsSound (region n.memory) n.sup held → ShowsGrownLog S n.sup held i h (attributes node.size mode owner group time)
+    here : LeadsTo (tree_of (region n.memory) n.rows) names i node → ShowsSound (region n.memory) n.sup held → ShowsGrownLog S n.sup n.free.pools cpu held i h (attributes node.size mode owner group time)
     here led sound =
         let number : row.inode ≡ i = same_Some _ _ (sym own.leads ∙ led.leads) in
         let node_is : node_of (region n.memory) row ≡ node = same_Some _ _ (sym own.shows ∙ ap (tree_of (region n.memory) n.rows) number ∙ led.shows) in
-        subst (λ (k : ℕ). ShowsGrownLog S n.sup held k h (attributes node.size mode owner group time)) number
-        (subst (λ (nd : Node). ShowsGrownLog S n.sup held row.inode h (attributes nd.size mode owner group time)) node_is (grew held h sound (subst (λ (k : ℕ). held k ≡ Some h) (sym number) is)))
+        subst (λ (k : ℕ). ShowsGrownLog S n.sup n.free.pools cpu held k h (attributes node.size mode owner group time)) number
+        (subst (λ (nd : Node). ShowsGrownLog S n.sup n.free.pools cpu held row.inode h (attributes nd.size mode owner group time)) node_is (grew held h sound (subst (λ (k : ℕ). held k ≡ Some h) (sym number) is)))
 
 -- ---- a step that was refused
 

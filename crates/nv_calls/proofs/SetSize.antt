@@ -1,5 +1,5 @@
 -- What `set_size` answers, and what it leaves.
-use Rattle.std.proofs.Common.{◌≡◌, ℕ, ◌<◌, ◌≤◌, ◌⊎◌, inl, inr, Bool, true, false, cond, nat_lt, List, [], ◌∷◌, ◌++◌, append_assoc, length, refl, ap, sym, ◌∙◌, subst, Option, Some, None}
+use Rattle.std.proofs.Common.{◌≡◌, ℕ, ◌<◌, ◌≤◌, inl, inr, Bool, true, false, cond, nat_lt, List, [], ◌∷◌, ◌++◌, append_assoc, length, refl, ap, sym, ◌∙◌, subst, Option, Some, None}
 use Rattle.std.specs.Option.{option_and_then, option_map, option_map_or}
 use Rattle.std.proofs.lemmas.Option.{same_Some}
 use Rattle.nv_region.specs.Region.{Region}
@@ -12,18 +12,18 @@ use Rattle.nv_held.specs.nv_named.Read.{row_of}
 use Rattle.nv_held.specs.Held.{Held, Store}
 use Rattle.nv_held.specs.Mounted.{ShowsSound}
 use Rattle.nv_tree.specs.declared.refusal.Refusal.{Refusal}
-use Rattle.nv_tree.specs.declared.refusal.Refusal.TheVariants.{IsDirectory, Memory, Stopped, TooLarge}
+use Rattle.nv_tree.specs.declared.refusal.Refusal.TheVariants.{IsDirectory, Stopped, TooLarge}
 use Rattle.nv_tree.specs.Path.{IsPath, Says}
 use Rattle.nv_tree.specs.Tree.{Node, SameNode, SameTree, Tree, found, is_directory}
 use Rattle.nv_tree.specs.Calls.{edit, on_some, resized, with_size}
-use Rattle.nv_tree.specs.Refusals.{Path, Tests, first_refusal, has_no_space, is_bad, is_dir, is_directory_at, is_missing, is_too_large, set_size_tests, stat_tests, walk_tests, writing}
+use Rattle.nv_tree.specs.Refusals.{Path, Tests, first_refusal, has_no_space, is_bad, is_dir, is_directory_at, is_missing, is_too_large, set_size_tests, stat_tests, walk_tests, writing, IsRefusedBy, MayWantMemory}
 use Rattle.nv_calls.specs.Mount.{Mount}
 use Rattle.nv_paths.specs.Seen.{LeadsTo, node_of, tree_of}
 use Rattle.nv_steps.specs.Sizes.{HasSize, SameBytes, sized}
 use Rattle.nv_calls.specs.SizeCall.{ShowsResizedLog, resized_blocks, size_blocks}
 use Rattle.nv_steps.specs.Steps.{RefusesStep}
 use Rattle.nv_calls.specs.World.{world_of}
-use Rattle.nv_calls.proofs.Tests.{enough_space, stat_first, stat_goes_on, too_few}
+use Rattle.nv_calls.proofs.Tests.{enough_space, stat_first, stat_goes_on, too_few, space_last}
 use Rattle.nv_paths.proofs.Refusing.{passed_before, refused_before}
 
 -- ---- the tests before that of the space
@@ -107,8 +107,8 @@ module _ {P : Type 0} (region : P → Region) {n m : Mount P} (same : n ≡ m) (
     size_allowed enough = subst (λ (k : Mount P). tests k ≡ None) same (at_last ∙ enough_space (world_of n) (size_blocks row size) enough)
 
     -- Where its step was refused, so is the call.
-    pub size_refused : (e : Refusal) → RefusesStep e (size_blocks row size) n.free → (e ≡ Memory) ⊎ ((e ≡ Stopped) ⊎ (tests m ≡ Some e))
-    size_refused e (inl memory) = inl memory
+    pub size_refused : (e : Refusal) → RefusesStep e (size_blocks row size) n.free → IsRefusedBy (tests m) e
+    size_refused e (inl memory) = inl (memory, subst (λ (k : Mount P). MayWantMemory (tests k)) same (subst MayWantMemory (sym at_last) (space_last (world_of n) (size_blocks row size))))
     size_refused e (inr (inl stopped)) = inr (inl stopped)
     size_refused e (inr (inr w)) = inr (inr (subst (λ (k : Mount P). tests k ≡ Some e) same (at_last ∙ too_few (world_of n) (size_blocks row size) w.1 ∙ ap (λ (r : Refusal). Some r) (sym w.0))))
 
@@ -138,16 +138,16 @@ resized_node R S {row} {new} size time has bytes = record {
 }
 
 -- The log of the inode that the path leads to has grown.
-pub size_logged : {P : Type 0} (region : P → Region) {n m : Mount P} → n ≡ m → (S : Region) (names : List (List ℕ)) (row : Row) (size time i : ℕ) (node : Node) (held : Store) (h : Held)
+pub size_logged : {P : Type 0} (region : P → Region) {n m : Mount P} {cpu : ℕ} → n ≡ m → (S : Region) (names : List (List ℕ)) (row : Row) (size time i : ℕ) (node : Node) (held : Store) (h : Held)
     → LeadsTo (tree_of (region n.memory) n.rows) names row.inode (node_of (region n.memory) row)
-    → ((st : Store) (g : Held) → ShowsSound (region n.memory) n.sup st → st row.inode ≡ Some g → ShowsResizedLog S n.sup st row.inode g (node_of (region n.memory) row) size time)
-    → LeadsTo (tree_of (region m.memory) m.rows) names i node → ShowsSound (region m.memory) m.sup held → held i ≡ Some h → ShowsResizedLog S m.sup held i h node size time
-size_logged {P} region {n} {m} same S names row size time i node held h own grew led sound is =
-    subst (λ (k : Mount P). LeadsTo (tree_of (region k.memory) k.rows) names i node → ShowsSound (region k.memory) k.sup held → ShowsResizedLog S k.sup held i h node size time) same here led sound
+    → ((st : Store) (g : Held) → ShowsSound (region n.memory) n.sup st → st row.inode ≡ Some g → ShowsResizedLog S n.sup n.free.pools cpu st row.inode g (node_of (region n.memory) row) size time)
+    → LeadsTo (tree_of (region m.memory) m.rows) names i node → ShowsSound (region m.memory) m.sup held → held i ≡ Some h → ShowsResizedLog S m.sup m.free.pools cpu held i h node size time
+size_logged {P} region {n} {m} {cpu} same S names row size time i node held h own grew led sound is =
+    subst (λ (k : Mount P). LeadsTo (tree_of (region k.memory) k.rows) names i node → ShowsSound (region k.memory) k.sup held → ShowsResizedLog S k.sup k.free.pools cpu held i h node size time) same here led sound
   where
-    here : LeadsTo (tree_of (region n.memory) n.rows) names i node → ShowsSound (region n.memory) n.sup held → ShowsResizedLog S n.sup held i h node size time
+    here : LeadsTo (tree_of (region n.memory) n.rows) names i node → ShowsSound (region n.memory) n.sup held → ShowsResizedLog S n.sup n.free.pools cpu held i h node size time
     here led sound =
         let number : row.inode ≡ i = same_Some _ _ (sym own.leads ∙ led.leads) in
         let node_is : node_of (region n.memory) row ≡ node = same_Some _ _ (sym own.shows ∙ ap (tree_of (region n.memory) n.rows) number ∙ led.shows) in
-        subst (λ (k : ℕ). ShowsResizedLog S n.sup held k h node size time) number
-        (subst (λ (nd : Node). ShowsResizedLog S n.sup held row.inode h nd size time) node_is (grew held h sound (subst (λ (k : ℕ). held k ≡ Some h) (sym number) is)))
+        subst (λ (k : ℕ). ShowsResizedLog S n.sup n.free.pools cpu held k h node size time) number
+        (subst (λ (nd : Node). ShowsResizedLog S n.sup n.free.pools cpu held row.inode h nd size time) node_is (grew held h sound (subst (λ (k : ℕ). held k ≡ Some h) (sym number) is)))

@@ -42,7 +42,7 @@ module _ {R : Region} {s : Super} {rows : List Row} {free : FreeLists} {faults :
     most = most;
   }
 
-  module _ {S : Region} {new : Row} {after : FreeLists} (resized : Resizes R S s free row (sized (node_of R row) size time) new after) where
+  module _ {S : Region} {cpu : ℕ} {new : Row} {after : FreeLists} (resized : Resizes R S s free cpu row (sized (node_of R row) size time) new after) where
     -- It has the bytes of before.
     pub bytes_after : SameBytes R S row new size
     bytes_after y below = ∥∥₁_elim (mounted_of_kept kept runs writes) prop (λ w. (let v = shows_row w.1 kept.lists row (stands rows place row at) in resized.bytes w.0 v.0 v.1 y below)) where
@@ -50,7 +50,7 @@ module _ {R : Region} {s : Super} {rows : List Row} {free : FreeLists} {faults :
       prop = hlevel (props, ℕ_set)
 
     -- Its log has grown by the entries for it.
-    pub log_after : (held : Store) (h : Held) → ShowsSound R s held → held row.inode ≡ Some h → ShowsResizedLog S s held row.inode h (node_of R row) size time
+    pub log_after : (held : Store) (h : Held) → ShowsSound R s held → held row.inode ≡ Some h → ShowsResizedLog S s free.pools cpu held row.inode h (node_of R row) size time
     log_after held h sound is = ∥∥₁_map (mounted_with kept runs held sound) (λ m.
         let w = shows_row m kept.lists row (stands rows place row at) in
         let shown = w.1 in
@@ -62,6 +62,8 @@ module _ {R : Region} {s : Super} {rows : List Row} {free : FreeLists} {faults :
         record {
           to = resized.to;
           copied = resized.copied ∙ ap (λ (o : Option ℕ). is_some (cond (nat_lt row.numbers.size size && not (nat_eq (row.numbers.size % 4096) 0)) o None)) (told.index (row.numbers.size / 4096));
+          between = resized.between;
+          taken = resized.taken;
           free = resized.fresh held h here;
-          grew = record { fresh = f.fresh; free = f.blocks; count = f.count; sound = f.sound };
+          grew = record { fresh = f.fresh; rest = f.rest; taken = f.taken; free = f.blocks; count = f.count; sound = f.sound };
         })

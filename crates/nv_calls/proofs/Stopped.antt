@@ -97,7 +97,7 @@ attributed_by t names i mode owner group time leads u is =
     subst (λ (v : Tree). SameTree u v) (sym made) is
 
 module _ {P : Type 0} (region : P → Region) {n m : Mount P} (same : n ≡ m) (kept : IsKept (region n.memory) n.sup n.rows n.free n.faults n.read_only n.stopped) (runs : n.stopped ≡ false) (writes : n.read_only ≡ false)
-    (place : ℕ) (row : Row) (at : slice_get n.rows place ≡ Some row) (mode owner group time : ℕ) (names : List (List ℕ)) (leads : LeadsTo (tree_of (region n.memory) n.rows) names row.inode (node_of (region n.memory) row)) where
+    (place : ℕ) (row : Row) (at : slice_get n.rows place ≡ Some row) (cpu mode owner group time : ℕ) (names : List (List ℕ)) (leads : LeadsTo (tree_of (region n.memory) n.rows) names row.inode (node_of (region n.memory) row)) where
   abbrev R : Region
   R = region n.memory
 
@@ -113,8 +113,8 @@ module _ {P : Type 0} (region : P → Region) {n m : Mount P} (same : n ≡ m) (
   abbrev x : AttrEntry
   x = record { mode = mode % 4096; size = row.numbers.size; time = time; owner = owner; group = group }
 
-  attributes_by : (left : Region) (held : Store) (mounted : IsMounted R s held rows free.pools) → LeavesEither R (fixed_layout s) held (Attributed R s free row x) left
-      → IsAsMounted R s rows free.pools left ⊎ IsAsMade s (attributed names mode owner group time (tree_of R rows)) (logs_attributes mode owner group time R n names) left
+  attributes_by : (left : Region) (held : Store) (mounted : IsMounted R s held rows free.pools) → LeavesEither R (fixed_layout s) held (Attributed R s free cpu row x) left
+      → IsAsMounted R s rows free.pools left ⊎ IsAsMade s (attributed names mode owner group time (tree_of R rows)) (logs_attributes cpu mode owner group time R n names) left
   attributes_by left held mounted (inl as_before) = inl (still_mounted mounted as_before)
   attributes_by left held mounted (inr w) =
       let step = w.1 in
@@ -136,10 +136,10 @@ module _ {P : Type 0} (region : P → Region) {n m : Mount P} (same : n ≡ m) (
 
   -- What a stop within the call leaves.
   pub attributes_left : (S : Region) (old new : Choices)
-      → ((held : Store) (h : Held) → ShowsRow R s held h row free → NothingPending R old → LeavesOnly S new (LeavesEither R (fixed_layout s) held (Attributed R s free row x))) → NothingPending R old
-      → LeavesOnly S new (LeavesCall (makes_attributes mode owner group time) (logs_attributes mode owner group time) (region m.memory) m names)
+      → ((held : Store) (h : Held) → ShowsRow R s held h row free → NothingPending R old → LeavesOnly S new (LeavesEither R (fixed_layout s) held (Attributed R s free cpu row x))) → NothingPending R old
+      → LeavesOnly S new (LeavesCall (makes_attributes mode owner group time) (logs_attributes cpu mode owner group time) (region m.memory) m names)
   attributes_left S old new step settled =
-      subst (λ (k : Mount P). LeavesOnly S new (LeavesCall (makes_attributes mode owner group time) (logs_attributes mode owner group time) (region k.memory) k names)) same
+      subst (λ (k : Mount P). LeavesOnly S new (LeavesCall (makes_attributes mode owner group time) (logs_attributes cpu mode owner group time) (region k.memory) k names)) same
       (λ left may. ∥∥₁_map (mounted_of_kept kept runs writes) (λ w.
       let v = shows_row w.1 kept.lists row (stands rows place row at) in
       attributes_by left w.0 w.1 (step w.0 v.0 v.1 settled left may)))

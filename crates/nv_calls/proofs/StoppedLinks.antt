@@ -35,7 +35,7 @@ use Rattle.nv_calls.proofs.Stopped.{recovers_to, still_mounted}
 use Rattle.nv_calls.proofs.TwoRows.{lifted}
 
 module _ {P : Type 0} (region : P → Region) {n m : Mount P} (same : n ≡ m) (kept : IsKept (region n.memory) n.sup n.rows n.free n.faults n.read_only n.stopped) (runs : n.stopped ≡ false) (writes : n.read_only ≡ false)
-    (i j : ℕ) (file directory : Row) (at : row_of n.rows i ≡ Some file) (other_at : row_of n.rows j ≡ Some directory) (name : List ℕ) (time : ℕ) (spelled : IsPathName name) (names others : List (List ℕ))
+    (i j : ℕ) (file directory : Row) (at : row_of n.rows i ≡ Some file) (other_at : row_of n.rows j ≡ Some directory) (name : List ℕ) (cpu time : ℕ) (spelled : IsPathName name) (names others : List (List ℕ))
     (spot : IsLinkSpot (tree_of (region n.memory) n.rows) n.rows names others (place_in n.rows j) name (place_in n.rows i)) where
   abbrev R : Region
   R = region n.memory
@@ -61,8 +61,8 @@ module _ {P : Type 0} (region : P → Region) {n m : Mount P} (same : n ≡ m) (
       let in_directory = free_name.directory in
       kinds_apart rows (place_in rows i) (place_in rows j) file directory file_at directory_at (spot.file file file_at).0 (in_directory.row directory directory_at).1 (ap (place_in rows) is)
 
-  link_by : (left : Region) (held : Store) (mounted : IsMounted R s held rows free.pools) → LeavesEither R (fixed_layout s) held (Linked R s free file directory name time) left
-      → IsAsMounted R s rows free.pools left ⊎ IsAsMade s (linked names others time (tree_of R rows)) (logs_link time (Some others) R n names) left
+  link_by : (left : Region) (held : Store) (mounted : IsMounted R s held rows free.pools) → LeavesEither R (fixed_layout s) held (Linked R s free cpu file directory name time) left
+      → IsAsMounted R s rows free.pools left ⊎ IsAsMade s (linked names others time (tree_of R rows)) (logs_link cpu time (Some others) R n names) left
   link_by left held mounted (inl as_before) = inl (still_mounted mounted as_before)
   link_by left held mounted (inr w) =
       let after = w.1.0 in
@@ -70,7 +70,7 @@ module _ {P : Type 0} (region : P → Region) {n m : Mount P} (same : n ≡ m) (
       let two = w.1.2 in
       let both = w.1.3 in
       let news = set (set rows (place_in rows i) one) (place_in rows j) two in
-      let step : LinksAt R (undone s left) s free after rows news (place_in rows i) (place_in rows j) name time = record { file = both.file; directory = both.directory; step = lifted rows news i j file directory one two apart at other_at refl both.step } in
+      let step : LinksAt R (undone s left) s free after cpu rows news (place_in rows i) (place_in rows j) name time = record { file = both.file; directory = both.directory; step = lifted rows news i j file directory one two apart at other_at refl both.step } in
       inr (record {
         rows = news;
         free = after.pools;
@@ -81,10 +81,10 @@ module _ {P : Type 0} (region : P → Region) {n m : Mount P} (same : n ≡ m) (
 
   -- What a stop leaves within the call.
   pub link_left : (S : Region) (old last : Choices)
-      → ((held : Store) (f h : Held) → ShowsRow R s held f file free → ShowsRow R s held h directory free → name_at directory.names name ≡ None → NothingPending R old → LeavesOnly S last (LeavesEither R (fixed_layout s) held (Linked R s free file directory name time)))
-      → NothingPending R old → LeavesOnly S last (LeavesCall (makes_link time (Some others)) (logs_link time (Some others)) (region m.memory) m names)
+      → ((held : Store) (f h : Held) → ShowsRow R s held f file free → ShowsRow R s held h directory free → name_at directory.names name ≡ None → NothingPending R old → LeavesOnly S last (LeavesEither R (fixed_layout s) held (Linked R s free cpu file directory name time)))
+      → NothingPending R old → LeavesOnly S last (LeavesCall (makes_link time (Some others)) (logs_link cpu time (Some others)) (region m.memory) m names)
   link_left S old last step settled =
-      subst (λ (k : Mount P). LeavesOnly S last (LeavesCall (makes_link time (Some others)) (logs_link time (Some others)) (region k.memory) k names)) same
+      subst (λ (k : Mount P). LeavesOnly S last (LeavesCall (makes_link time (Some others)) (logs_link cpu time (Some others)) (region k.memory) k names)) same
       (λ left may. ∥∥₁_map (mounted_of_kept kept runs writes) (λ w.
       let there = stands rows (place_in rows j) directory directory_at in
       let v = shows_row w.1 kept.lists file (stands rows (place_in rows i) file file_at) in

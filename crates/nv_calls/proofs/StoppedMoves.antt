@@ -34,20 +34,20 @@ use Rattle.nv_calls.proofs.Stopped.{recovers_to, still_mounted}
 use Rattle.nv_calls.proofs.TwoRows.{lifted}
 
 -- the same by another's words for it
-pub over_as : {R : Region} {s : Super} {free : FreeLists} {held : Store} (from to : Row) {i j : ℕ} {n name o other : List ℕ} {t time : ℕ} (S : Region) (choices : Choices) → i ≡ j → n ≡ name → o ≡ other → t ≡ time
-    → LeavesOnly S choices (LeavesEither R (fixed_layout s) held (MovedOver R s free from to i n o t)) → LeavesOnly S choices (LeavesEither R (fixed_layout s) held (MovedOver R s free from to j name other time))
-over_as {R} {s} {free} {held} from to {i} {j} {n} {name} {o} {other} {t} {time} S choices number name_is other_is time_is =
+pub over_as : {R : Region} {s : Super} {free : FreeLists} {cpu : ℕ} {held : Store} (from to : Row) {i j : ℕ} {n name o other : List ℕ} {t time : ℕ} (S : Region) (choices : Choices) → i ≡ j → n ≡ name → o ≡ other → t ≡ time
+    → LeavesOnly S choices (LeavesEither R (fixed_layout s) held (MovedOver R s free cpu from to i n o t)) → LeavesOnly S choices (LeavesEither R (fixed_layout s) held (MovedOver R s free cpu from to j name other time))
+over_as {R} {s} {free} {cpu} {held} from to {i} {j} {n} {name} {o} {other} {t} {time} S choices number name_is other_is time_is =
     let same : (i, n, o, t) ≡ (j, name, other, time) = λ k. (number k, name_is k, other_is k, time_is k) in
-    subst (λ (w : ℕ × List ℕ × List ℕ × ℕ). LeavesOnly S choices (LeavesEither R (fixed_layout s) held (MovedOver R s free from to w.0 w.1 w.2 w.3))) same
+    subst (λ (w : ℕ × List ℕ × List ℕ × ℕ). LeavesOnly S choices (LeavesEither R (fixed_layout s) held (MovedOver R s free cpu from to w.0 w.1 w.2 w.3))) same
 
-pub here_as : {R : Region} {s : Super} {free : FreeLists} {held : Store} {a row : Row} {i j : ℕ} {n name o other : List ℕ} {t time : ℕ} (S : Region) (choices : Choices) → a ≡ row → i ≡ j → n ≡ name → o ≡ other → t ≡ time
-    → LeavesOnly S choices (LeavesEither R (fixed_layout s) held (MovedHere R s free a i n o t)) → LeavesOnly S choices (LeavesEither R (fixed_layout s) held (MovedHere R s free row j name other time))
-here_as {R} {s} {free} {held} {a} {row} {i} {j} {n} {name} {o} {other} {t} {time} S choices row_is number name_is other_is time_is =
+pub here_as : {R : Region} {s : Super} {free : FreeLists} {cpu : ℕ} {held : Store} {a row : Row} {i j : ℕ} {n name o other : List ℕ} {t time : ℕ} (S : Region) (choices : Choices) → a ≡ row → i ≡ j → n ≡ name → o ≡ other → t ≡ time
+    → LeavesOnly S choices (LeavesEither R (fixed_layout s) held (MovedHere R s free cpu a i n o t)) → LeavesOnly S choices (LeavesEither R (fixed_layout s) held (MovedHere R s free cpu row j name other time))
+here_as {R} {s} {free} {cpu} {held} {a} {row} {i} {j} {n} {name} {o} {other} {t} {time} S choices row_is number name_is other_is time_is =
     let same : (a, i, n, o, t) ≡ (row, j, name, other, time) = λ k. (row_is k, number k, name_is k, other_is k, time_is k) in
-    subst (λ (w : Row × ℕ × List ℕ × List ℕ × ℕ). LeavesOnly S choices (LeavesEither R (fixed_layout s) held (MovedHere R s free w.0 w.1 w.2 w.3 w.4))) same
+    subst (λ (w : Row × ℕ × List ℕ × List ℕ × ℕ). LeavesOnly S choices (LeavesEither R (fixed_layout s) held (MovedHere R s free cpu w.0 w.1 w.2 w.3 w.4))) same
 
 module _ {P : Type 0} (region : P → Region) {n m : Mount P} (same : n ≡ m) (kept : IsKept (region n.memory) n.sup n.rows n.free n.faults n.read_only n.stopped) (runs : n.stopped ≡ false) (writes : n.read_only ≡ false)
-    (i j e : ℕ) (from moved to : Row) (at : row_of n.rows i ≡ Some from) (moved_at : row_of n.rows j ≡ Some moved) (other_at : row_of n.rows e ≡ Some to) (name other : List ℕ) (time : ℕ) (spelled : IsPathName name) (spelled_other : IsPathName other)
+    (i j e : ℕ) (from moved to : Row) (at : row_of n.rows i ≡ Some from) (moved_at : row_of n.rows j ≡ Some moved) (other_at : row_of n.rows e ≡ Some to) (name other : List ℕ) (cpu time : ℕ) (spelled : IsPathName name) (spelled_other : IsPathName other)
     (names : List (List ℕ)) (first : List ℕ) (rest : List (List ℕ)) (spot : IsMoveSpot (tree_of (region n.memory) n.rows) n.rows names (first ∷ rest) (place_in n.rows i) name (place_in n.rows j) (place_in n.rows e) other) where
   abbrev R : Region
   R = region n.memory
@@ -70,14 +70,14 @@ module _ {P : Type 0} (region : P → Region) {n m : Mount P} (same : n ≡ m) (
   moved_there : slice_get rows (place_in rows j) ≡ Some moved
   moved_there = at_place rows j ∙ moved_at
 
-  moves : (S : Region) → Renamed R s free (place_in rows i) (place_in rows e) from to moved.inode name other time S → (news : List Row) × (after : FreeLists) × MovesAt R S s free after rows news (place_in rows i) (place_in rows j) (place_in rows e) name other time
+  moves : (S : Region) → Renamed R s free cpu (place_in rows i) (place_in rows e) from to moved.inode name other time S → (news : List Row) × (after : FreeLists) × MovesAt R S s free after cpu rows news (place_in rows i) (place_in rows j) (place_in rows e) name other time
   moves S (inl w) = (set rows (place_in rows i) w.1.1, w.1.0, inl (w.0, record { row = from; now = w.1.1; moved = moved; at = from_there; moved_at = moved_there; step = w.1.2; put = refl }))
   moves S (inr w) =
       let news = set (set rows (place_in rows i) w.1.1) (place_in rows e) w.1.2 in
       (news, w.1.0, inr (w.0, record { from = from; to = to; moved = moved; moved_at = moved_there; step = lifted rows news i e from to w.1.1 w.1.2 (λ is. w.0 (ap (place_in rows) is)) at other_at refl w.1.3 }))
 
-  rename_by : (left : Region) (held : Store) (mounted : IsMounted R s held rows free.pools) → LeavesEither R (fixed_layout s) held (Renamed R s free (place_in rows i) (place_in rows e) from to moved.inode name other time) left
-      → IsAsMounted R s rows free.pools left ⊎ IsAsMade s (renamed names (first ∷ rest) time (tree_of R rows)) (LogsMove time (first ∷ rest) R n names) left
+  rename_by : (left : Region) (held : Store) (mounted : IsMounted R s held rows free.pools) → LeavesEither R (fixed_layout s) held (Renamed R s free cpu (place_in rows i) (place_in rows e) from to moved.inode name other time) left
+      → IsAsMounted R s rows free.pools left ⊎ IsAsMade s (renamed names (first ∷ rest) time (tree_of R rows)) (LogsMove cpu time (first ∷ rest) R n names) left
   rename_by left held mounted (inl as_before) = inl (still_mounted mounted as_before)
   rename_by left held mounted (inr w) =
       let v = moves (undone s left) w.1 in
@@ -95,10 +95,10 @@ module _ {P : Type 0} (region : P → Region) {n m : Mount P} (same : n ≡ m) (
   -- What a stop leaves within the call.
   pub rename_left : (S : Region) (old last : Choices)
       → ((held : Store) (h k : Held) → ShowsRow R s held h from free → ShowsRow R s held k to free → name_at to.names other ≡ None → NothingPending R old
-      → LeavesOnly S last (LeavesEither R (fixed_layout s) held (Renamed R s free (place_in rows i) (place_in rows e) from to moved.inode name other time)))
-      → NothingPending R old → LeavesOnly S last (LeavesCall (makes_rename time (Some (first ∷ rest))) (logs_rename time (Some (first ∷ rest))) (region m.memory) m names)
+      → LeavesOnly S last (LeavesEither R (fixed_layout s) held (Renamed R s free cpu (place_in rows i) (place_in rows e) from to moved.inode name other time)))
+      → NothingPending R old → LeavesOnly S last (LeavesCall (makes_rename time (Some (first ∷ rest))) (logs_rename cpu time (Some (first ∷ rest))) (region m.memory) m names)
   rename_left S old last step settled =
-      subst (λ (k : Mount P). LeavesOnly S last (LeavesCall (makes_rename time (Some (first ∷ rest))) (logs_rename time (Some (first ∷ rest))) (region k.memory) k names)) same
+      subst (λ (k : Mount P). LeavesOnly S last (LeavesCall (makes_rename time (Some (first ∷ rest))) (logs_rename cpu time (Some (first ∷ rest))) (region k.memory) k names)) same
       (λ left may. ∥∥₁_map (mounted_of_kept kept runs writes) (λ w.
       let there = stands rows (place_in rows e) to to_there in
       let v = shows_row w.1 kept.lists from (stands rows (place_in rows i) from from_there) in

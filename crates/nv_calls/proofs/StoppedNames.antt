@@ -90,7 +90,7 @@ module _ {P : Type 0} (region : P → Region) {n m : Mount P} (same : n ≡ m) (
   unused = (unused_is s rows cpu j low spot.unused).0
 
   -- the rows with the new one
-  puts : (S : Region) (after : FreeLists) (now new : Row) → MakesNamed R S s free after row now kind mode time j name new → (news : List Row) × CreatesAt R S s free after rows news place kind mode time j name
+  puts : (S : Region) (after : FreeLists) (now new : Row) → MakesNamed R S s free after cpu row now kind mode time j name new → (news : List Row) × CreatesAt R S s free after cpu rows news place kind mode time j name
   puts S after now new makes =
       let dir = makes.directory in
       let own = makes.row in
@@ -103,7 +103,7 @@ module _ {P : Type 0} (region : P → Region) {n m : Mount P} (same : n ≡ m) (
       row_there : Rises row_key rows → row_of rows row.inode ≡ Some row
       row_there up = row_at rows place row up at
 
-  create_by : (left : Region) (held : Store) (mounted : IsMounted R s held rows free.pools) → LeavesEither R (fixed_layout s) held (Named R s free row kind mode time j name) left
+  create_by : (left : Region) (held : Store) (mounted : IsMounted R s held rows free.pools) → LeavesEither R (fixed_layout s) held (Named R s free cpu row kind mode time j name) left
       → IsAsMounted R s rows free.pools left ⊎ IsAsMade s (created kind (unused_number s rows cpu) names mode time (tree_of R rows)) (logs_inode kind cpu mode time R n names) left
   create_by left held mounted (inl as_before) = inl (still_mounted mounted as_before)
   create_by left held mounted (inr w) =
@@ -112,14 +112,14 @@ module _ {P : Type 0} (region : P → Region) {n m : Mount P} (same : n ≡ m) (
       inr (record {
         rows = put.0;
         free = (step.0).pools;
-        recovers = recovers_to w.0 (created_mounted kept runs writes put.1 cpu low spelled names spot held mounted).1;
-        tree = created_tree kept runs writes put.1 cpu low spelled names spot;
-        logs = λ d i st h ended number sound is. created_log kept runs writes put.1 cpu low spelled names spot d i st h ended number sound is;
+        recovers = recovers_to w.0 (created_mounted kept runs writes put.1 low spelled names spot held mounted).1;
+        tree = created_tree kept runs writes put.1 low spelled names spot;
+        logs = λ d i st h ended number sound is. created_log kept runs writes put.1 low spelled names spot d i st h ended number sound is;
       })
 
   -- What a stop within the call leaves.
   pub create_left : (S : Region) (old last : Choices)
-      → ((held : Store) (h : Held) → ShowsRow R s held h row free → held j ≡ None → name_at row.names name ≡ None → NothingPending R old → LeavesOnly S last (LeavesEither R (fixed_layout s) held (Named R s free row kind mode time j name)))
+      → ((held : Store) (h : Held) → ShowsRow R s held h row free → held j ≡ None → name_at row.names name ≡ None → NothingPending R old → LeavesOnly S last (LeavesEither R (fixed_layout s) held (Named R s free cpu row kind mode time j name)))
       → NothingPending R old → LeavesOnly S last (LeavesCall (makes_inode kind cpu mode time) (logs_inode kind cpu mode time) (region m.memory) m names)
   create_left S old last step settled =
       subst (λ (k : Mount P). LeavesOnly S last (LeavesCall (makes_inode kind cpu mode time) (logs_inode kind cpu mode time) (region k.memory) k names)) same

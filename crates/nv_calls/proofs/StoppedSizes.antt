@@ -35,7 +35,7 @@ sized_by t names i size time leads u is =
     subst (λ (v : Tree). SameTree u v) (sym made) is
 
 module _ {P : Type 0} (region : P → Region) {n m : Mount P} (same : n ≡ m) (kept : IsKept (region n.memory) n.sup n.rows n.free n.faults n.read_only n.stopped) (runs : n.stopped ≡ false) (writes : n.read_only ≡ false)
-    (place : ℕ) (row : Row) (at : slice_get n.rows place ≡ Some row) (size time : ℕ) (names : List (List ℕ)) (leads : LeadsTo (tree_of (region n.memory) n.rows) names row.inode (node_of (region n.memory) row)) where
+    (place : ℕ) (row : Row) (at : slice_get n.rows place ≡ Some row) (cpu size time : ℕ) (names : List (List ℕ)) (leads : LeadsTo (tree_of (region n.memory) n.rows) names row.inode (node_of (region n.memory) row)) where
   abbrev R : Region
   R = region n.memory
 
@@ -48,8 +48,8 @@ module _ {P : Type 0} (region : P → Region) {n m : Mount P} (same : n ≡ m) (
   abbrev free : FreeLists
   free = n.free
 
-  size_by : (left : Region) (held : Store) (mounted : IsMounted R s held rows free.pools) → LeavesEither R (fixed_layout s) held (Resized R s free row (sized (node_of R row) size time)) left
-      → IsAsMounted R s rows free.pools left ⊎ IsAsMade s (resized names size time (tree_of R rows)) (logs_size size time R n names) left
+  size_by : (left : Region) (held : Store) (mounted : IsMounted R s held rows free.pools) → LeavesEither R (fixed_layout s) held (Resized R s free cpu row (sized (node_of R row) size time)) left
+      → IsAsMounted R s rows free.pools left ⊎ IsAsMade s (resized names size time (tree_of R rows)) (logs_size cpu size time R n names) left
   size_by left held mounted (inl as_before) = inl (still_mounted mounted as_before)
   size_by left held mounted (inr w) =
       let step = w.1 in
@@ -70,10 +70,10 @@ module _ {P : Type 0} (region : P → Region) {n m : Mount P} (same : n ≡ m) (
 
   -- What a stop leaves within the call.
   pub size_left : (S : Region) (old last : Choices)
-      → ((held : Store) (h : Held) → ShowsRow R s held h row free → NothingPending R old → LeavesOnly S last (LeavesEither R (fixed_layout s) held (Resized R s free row (sized (node_of R row) size time)))) → NothingPending R old
-      → LeavesOnly S last (LeavesCall (makes_size size time) (logs_size size time) (region m.memory) m names)
+      → ((held : Store) (h : Held) → ShowsRow R s held h row free → NothingPending R old → LeavesOnly S last (LeavesEither R (fixed_layout s) held (Resized R s free cpu row (sized (node_of R row) size time)))) → NothingPending R old
+      → LeavesOnly S last (LeavesCall (makes_size size time) (logs_size cpu size time) (region m.memory) m names)
   size_left S old last step settled =
-      subst (λ (k : Mount P). LeavesOnly S last (LeavesCall (makes_size size time) (logs_size size time) (region k.memory) k names)) same
+      subst (λ (k : Mount P). LeavesOnly S last (LeavesCall (makes_size size time) (logs_size cpu size time) (region k.memory) k names)) same
       (λ left may. ∥∥₁_map (mounted_of_kept kept runs writes) (λ w.
       let v = shows_row w.1 kept.lists row (stands rows place row at) in
       size_by left w.0 w.1 (step w.0 v.0 v.1 settled left may)))

@@ -1,5 +1,5 @@
 -- The tests of writing calls on one path, by those of `stat` and by what is needed.
-use Rattle.std.proofs.Common.{◌≡◌, ◌⊎◌, inl, inr, ℕ, ◌%◌, ◌<◌, ◌≤◌, nat_lt, Bool, true, false, cond, List, [], ◌∷◌, ◌++◌, append_assoc, ap, sym, ◌∙◌, subst, arith, Option, Some, None, Result, Ok, Err, IfErr, IsTrue, is_none, not}
+use Rattle.std.proofs.Common.{◌≡◌, inl, inr, ℕ, ◌%◌, ◌<◌, ◌≤◌, nat_lt, Bool, true, false, cond, List, [], ◌∷◌, ◌++◌, append_assoc, refl, ap, sym, ◌∙◌, subst, arith, Option, Some, None, Result, Ok, Err, IfErr, IsTrue, is_none, not}
 use Rattle.std.specs.Option.{option_and_then, option_map_or}
 use Rattle.std.proofs.lemmas.Bool.Decides.{nat_tests}
 use Rattle.nv_alloc.specs.Taking.{all_blocks}
@@ -8,10 +8,10 @@ use Rattle.nv_logpage.specs.Append.{needed}
 use Rattle.nv_scan.specs.declared.piece.Row.{Row}
 use Rattle.nv_held.specs.nv_named.Read.{row_of}
 use Rattle.nv_tree.specs.declared.refusal.Refusal.{Refusal}
-use Rattle.nv_tree.specs.declared.refusal.Refusal.TheVariants.{BadCpu, Memory, NoSpace, NotFound, ReadOnly, Stopped}
+use Rattle.nv_tree.specs.declared.refusal.Refusal.TheVariants.{BadCpu, NoSpace, NotFound, ReadOnly, Stopped}
 use Rattle.nv_tree.specs.Path.{IsPath, Says}
 use Rattle.nv_tree.specs.Tree.{Node, Tree, found, walk}
-use Rattle.nv_tree.specs.Refusals.{Path, Tests, World, first_refusal, has_no_space, is_bad, is_missing, refused_walk, stat_tests, walk_tests, writing}
+use Rattle.nv_tree.specs.Refusals.{Path, Tests, World, first_refusal, has_no_space, is_bad, is_missing, refused_walk, stat_tests, walk_tests, writing, IsRefusedBy, MayWantMemory}
 use Rattle.nv_calls.specs.GrownLogs.{log_blocks}
 use Rattle.nv_calls.specs.Mount.{Mount}
 use Rattle.nv_paths.specs.Seen.{LeadsTo}
@@ -42,6 +42,13 @@ pub too_few : (w : World) (count : ℕ) → w.free < count → first_refusal (ha
 too_few w count few = ap (λ (b : Bool). cond b (Some NoSpace) None) on where
   on : nat_lt w.free count ≡ true
   on = grind (arith, nat_tests)
+
+-- Where only the space is left to test, memory may be wanted.
+pub space_last : (w : World) (count : ℕ) → MayWantMemory (first_refusal (has_no_space w count ∷ []))
+space_last w count = by (nat_lt w.free count) where
+  by : (b : Bool) → MayWantMemory (cond b (Some NoSpace) None)
+  by true = inr refl
+  by false = inl refl
 
 -- What a log needs of the row that a path leads to.
 pub blocks_there : (rows : List Row) (t : Tree) (entries : Row → List Entry) (row : Row) (node : Node) (text : List ℕ) → row_of rows row.inode ≡ Some row → ((names : List (List ℕ)) → IsPath text names → LeadsTo t names row.inode node)
@@ -89,7 +96,7 @@ module _ {P : Type 0} {n m : Mount P} (same : n ≡ m) (tests : Mount P → Opti
   pub space_allows : count ≤ all_blocks n.free.pools → tests m ≡ None
   space_allows enough = subst (λ (k : Mount P). tests k ≡ None) same (at_last ∙ enough_space (world_of n) count enough)
 
-  pub space_refuses : (e : Refusal) → RefusesStep e count n.free → (e ≡ Memory) ⊎ ((e ≡ Stopped) ⊎ (tests m ≡ Some e))
-  space_refuses e (inl memory) = inl memory
+  pub space_refuses : (e : Refusal) → RefusesStep e count n.free → IsRefusedBy (tests m) e
+  space_refuses e (inl memory) = inl (memory, subst (λ (k : Mount P). MayWantMemory (tests k)) same (subst MayWantMemory (sym at_last) (space_last (world_of n) count)))
   space_refuses e (inr (inl stopped)) = inr (inl stopped)
   space_refuses e (inr (inr w)) = inr (inr (subst (λ (k : Mount P). tests k ≡ Some e) same (at_last ∙ too_few (world_of n) count w.1 ∙ ap (λ (r : Refusal). Some r) (sym w.0))))

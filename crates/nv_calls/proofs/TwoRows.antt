@@ -44,8 +44,8 @@ first_used rows mid rest one i j row other apart used other_used lent other_lent
 
 module _ (rows news : List Row) (i j : ℕ) (a b c d : Row) (apart : i ≢ j) (at : row_of rows i ≡ Some a) (other_at : row_of rows j ≡ Some b) (put : news ≡ set (set rows (place_in rows i) c) (place_in rows j) d) where
   -- what was done to the two is done at their places
-  pub lifted : {R S : Region} {s : Super} {free after : FreeLists} {first second : Row} {entries others : List Entry} {Becomes Other : List ℕ → Row → Type 0} → GrowsTwo R S s free after (a ∷ b ∷ []) (c ∷ d ∷ []) 0 first entries 1 second others Becomes Other
-      → GrowsTwo R S s free after rows news (place_in rows i) first entries (place_in rows j) second others Becomes Other
+  pub lifted : {R S : Region} {s : Super} {free after : FreeLists} {cpu : ℕ} {first second : Row} {entries others : List Entry} {Becomes Other : List ℕ → Row → Type 0} → GrowsTwo R S s free after cpu (a ∷ b ∷ []) (c ∷ d ∷ []) 0 first entries 1 second others Becomes Other
+      → GrowsTwo R S s free after cpu rows news (place_in rows i) first entries (place_in rows j) second others Becomes Other
   lifted step =
       let first_is : c ≡ step.first_now = (let e = step.put in cc) in
       let second_is : d ≡ step.second_now = (let e = step.put in cc) in

@@ -54,7 +54,7 @@ use Rattle.nv_calls.proofs.UnlinkedTree.{swapped, unlinked_last, unlinked_more}
 -- ---- where the file has other names
 
 module _ {R S : Region} {s : Super} {rows news : List Row} {free after : FreeLists} {faults : List Fault} {read_only stopped : Bool} (kept : IsKept R s rows free faults read_only stopped) (runs : stopped ≡ false) (writes : read_only ≡ false)
-    {place target : ℕ} {name : List ℕ} {time : ℕ} (step : UnlinksAt R S s free after rows news place target name time) (spelled : IsPathName name) (is_file : step.file.kind ≡ File) (some : 1 < step.file.numbers.links) (names : List (List ℕ)) (spot : IsNamedAt (tree_of R rows) rows names place name target) where
+    {cpu place target : ℕ} {name : List ℕ} {time : ℕ} (step : UnlinksAt R S s free after cpu rows news place target name time) (spelled : IsPathName name) (is_file : step.file.kind ≡ File) (some : 1 < step.file.numbers.links) (names : List (List ℕ)) (spot : IsNamedAt (tree_of R rows) rows names place name target) where
   abbrev file : Row
   file = step.file
 
@@ -110,7 +110,7 @@ module _ {R S : Region} {s : Super} {rows news : List Row} {free after : FreeLis
       (swapped (tree_of S news) (tree_of R rows) directory.inode file.inode (without_name name time) (with_links (file.numbers.links - 1) time) differ here)
 
   more_logs : (i d : ℕ) (node : Node) (held : Store) (h f : Held) → LeadsTo (tree_of R rows) names i node → walk (tree_of R rows) 1 names ≡ Ok d → ShowsSound R s held → held d ≡ Some h → held i ≡ Some f
-      → ShowsBothGrew S s held d h (name_entries Remove i (last_name names) time) i f (links_entries (node.links - 1) time)
+      → ShowsBothGrew S s free.pools cpu held d h (name_entries Remove i (last_name names) time) i f (links_entries (node.links - 1) time)
   more_logs i d node held h f led ended sound is other_is =
       let both : Ok directory.inode ≡ Ok d = sym walked ∙ ended in
       let same : directory.inode ≡ d = cc in
@@ -118,21 +118,21 @@ module _ {R S : Region} {s : Super} {rows news : List Row} {free after : FreeLis
       let one : file.inode ≡ i = cc in
       let links : file.numbers.links ≡ node.links = sym counted ∙ ap (λ (k : ℕ). links_at (tree_of R rows) k) one ∙ ap (λ (o : Option Node). option_map_or (λ (n : Node). n.links) o 0) led.shows in
       let grew = both_logs kept runs writes step.step differ (unlink_right step is_directory is_file some good named) held h f sound (ap held same ∙ is) (ap held one ∙ other_is) in
-      subst (λ (k : ℕ). ShowsBothGrew S s held d h (name_entries Remove k (last_name names) time) k f (links_entries (node.links - 1) time)) one
-      (subst (λ (n : ℕ). ShowsBothGrew S s held d h (name_entries Remove file.inode (last_name names) time) file.inode f (links_entries (n - 1) time)) links
-      (subst (λ (q : List ℕ). ShowsBothGrew S s held d h (name_entries Remove file.inode q time) file.inode f (links_entries (file.numbers.links - 1) time)) spot.name_is
-      (subst (λ (k : ℕ). ShowsBothGrew S s held k h (name_entries Remove file.inode name time) file.inode f (links_entries (file.numbers.links - 1) time)) same grew)))
+      subst (λ (k : ℕ). ShowsBothGrew S s free.pools cpu held d h (name_entries Remove k (last_name names) time) k f (links_entries (node.links - 1) time)) one
+      (subst (λ (n : ℕ). ShowsBothGrew S s free.pools cpu held d h (name_entries Remove file.inode (last_name names) time) file.inode f (links_entries (n - 1) time)) links
+      (subst (λ (q : List ℕ). ShowsBothGrew S s free.pools cpu held d h (name_entries Remove file.inode q time) file.inode f (links_entries (file.numbers.links - 1) time)) spot.name_is
+      (subst (λ (k : ℕ). ShowsBothGrew S s free.pools cpu held k h (name_entries Remove file.inode name time) file.inode f (links_entries (file.numbers.links - 1) time)) same grew)))
 
 -- ---- in both cases
 
 -- what a name's going leaves, without what was given back
-pub released_at : {R S : Region} {s : Super} {rows news : List Row} {free after : FreeLists} {place target : ℕ} {name : List ℕ} {time : ℕ} → Releases R S s free after rows news place target name time → ReleasesAt R S s free rows news place target name time
+pub released_at : {R S : Region} {s : Super} {rows news : List Row} {free after : FreeLists} {cpu place target : ℕ} {name : List ℕ} {time : ℕ} → Releases R S s free after cpu rows news place target name time → ReleasesAt R S s free cpu rows news place target name time
 released_at {after = after} (inl w) = inl (w.0, (after, w.1))
 released_at (inr w) = inr (w.0, ((w.1).mid, cut_of w.1))
 
 module _ {R S : Region} {s : Super} {rows news : List Row} {free : FreeLists} {faults : List Fault} {read_only stopped : Bool} (kept : IsKept R s rows free faults read_only stopped) (runs : stopped ≡ false) (writes : read_only ≡ false)
-    {place target : ℕ} {name : List ℕ} {time : ℕ} (done : ReleasesAt R S s free rows news place target name time) (spelled : IsPathName name) (files : (row : Row) → slice_get rows target ≡ Some row → row.kind ≡ File) (names : List (List ℕ)) (spot : IsNamedAt (tree_of R rows) rows names place name target) where
-  file_there : {after : FreeLists} (step : UnlinksAt R S s free after rows news place target name time) → slice_get rows target ≡ Some step.file
+    {cpu place target : ℕ} {name : List ℕ} {time : ℕ} (done : ReleasesAt R S s free cpu rows news place target name time) (spelled : IsPathName name) (files : (row : Row) → slice_get rows target ≡ Some row → row.kind ≡ File) (names : List (List ℕ)) (spot : IsNamedAt (tree_of R rows) rows names place name target) where
+  file_there : {after : FreeLists} (step : UnlinksAt R S s free after cpu rows news place target name time) → slice_get rows target ≡ Some step.file
   file_there step = let both = step.step in both.other_at
 
   -- how many links the file had
@@ -144,38 +144,38 @@ module _ {R S : Region} {s : Super} {rows news : List Row} {free : FreeLists} {f
 
   -- Both logs, where it had others.
   pub unlink_logs : (i d : ℕ) (node : Node) (held : Store) (h f : Held) → LeadsTo (tree_of R rows) names i node → walk (tree_of R rows) 1 names ≡ Ok d → ShowsSound R s held → held d ≡ Some h → held i ≡ Some f → 1 < node.links
-      → ShowsBothGrew S s held d h (name_entries Remove i (last_name names) time) i f (links_entries (node.links - 1) time)
+      → ShowsBothGrew S s free.pools cpu held d h (name_entries Remove i (last_name names) time) i f (links_entries (node.links - 1) time)
   unlink_logs i d node held h f led ended sound is other_is some = by done where
-    by : ReleasesAt R S s free rows news place target name time → ShowsBothGrew S s held d h (name_entries Remove i (last_name names) time) i f (links_entries (node.links - 1) time)
+    by : ReleasesAt R S s free cpu rows news place target name time → ShowsBothGrew S s free.pools cpu held d h (name_entries Remove i (last_name names) time) i f (links_entries (node.links - 1) time)
     by (inl w) = let step = w.1.1 in more_logs kept runs writes step spelled (files step.file (file_there step)) (w.0 step.file (file_there step)) names spot i d node held h f led ended sound is other_is
     by (inr w) = absurd (let step = w.1.1 in let few = w.0 step.gone step.gone_at in let count = links_are i node step.gone led step.gone_at in omega (arith, some, few, count))
 
   -- The directory's log, where it went.
-  pub unlink_last : (i d : ℕ) (node : Node) (held : Store) (h : Held) → LeadsTo (tree_of R rows) names i node → walk (tree_of R rows) 1 names ≡ Ok d → ShowsSound R s held → held d ≡ Some h → node.links ≤ 1 → ShowsRemoved S s held d h (name_entries Remove i (last_name names) time) i
+  pub unlink_last : (i d : ℕ) (node : Node) (held : Store) (h : Held) → LeadsTo (tree_of R rows) names i node → walk (tree_of R rows) 1 names ≡ Ok d → ShowsSound R s held → held d ≡ Some h → node.links ≤ 1 → ShowsRemoved S s free.pools cpu held d h (name_entries Remove i (last_name names) time) i
   unlink_last i d node held h led ended sound is few = by done where
-    by : ReleasesAt R S s free rows news place target name time → ShowsRemoved S s held d h (name_entries Remove i (last_name names) time) i
+    by : ReleasesAt R S s free cpu rows news place target name time → ShowsRemoved S s free.pools cpu held d h (name_entries Remove i (last_name names) time) i
     by (inl w) = absurd (let step = w.1.1 in let some = w.0 step.file (file_there step) in let count = links_are i node step.file led (file_there step) in omega (arith, some, few, count))
     by (inr w) = let step = w.1.1 in removed_log kept runs writes step spelled (inr (files step.gone step.gone_at, w.0 step.gone step.gone_at)) names spot i d node held h led ended sound is
 
 module _ {R S : Region} {s : Super} {rows news : List Row} {free after : FreeLists} {faults : List Fault} {read_only stopped : Bool} (kept : IsKept R s rows free faults read_only stopped) (runs : stopped ≡ false) (writes : read_only ≡ false)
-    {place target : ℕ} {name : List ℕ} {time : ℕ} (done : Releases R S s free after rows news place target name time) (spelled : IsPathName name) (files : (row : Row) → slice_get rows target ≡ Some row → row.kind ≡ File) (names : List (List ℕ)) (spot : IsNamedAt (tree_of R rows) rows names place name target) where
+    {cpu place target : ℕ} {name : List ℕ} {time : ℕ} (done : Releases R S s free after cpu rows news place target name time) (spelled : IsPathName name) (files : (row : Row) → slice_get rows target ≡ Some row → row.kind ≡ File) (names : List (List ℕ)) (spot : IsNamedAt (tree_of R rows) rows names place name target) where
   rises : Rises row_key rows
   rises = rows_rise R s rows free faults read_only stopped kept runs
 
-  at_file : (step : UnlinksAt R S s free after rows news place target name time) → slice_get rows target ≡ Some step.file
+  at_file : (step : UnlinksAt R S s free after cpu rows news place target name time) → slice_get rows target ≡ Some step.file
   at_file step = let both = step.step in both.other_at
 
   -- What is kept.
   pub unlink_kept : (now : Bool) → IsKept S s news after faults read_only now
   unlink_kept now = by done where
-    by : Releases R S s free after rows news place target name time → IsKept S s news after faults read_only now
+    by : Releases R S s free after cpu rows news place target name time → IsKept S s news after faults read_only now
     by (inl w) = more_kept kept runs writes w.1 spelled (files w.1.file (at_file w.1)) (w.0 w.1.file (at_file w.1)) names spot now
     by (inr w) = removed_kept kept runs writes (cut_of w.1) spelled (inr (files w.1.gone w.1.gone_at, w.0 w.1.gone w.1.gone_at)) names spot w.1.given now
 
   -- The tree is what the call makes of that of before.
   pub unlink_tree : SameTree (tree_of S news) (unlinked names time (tree_of R rows))
   unlink_tree = by done where
-    by : Releases R S s free after rows news place target name time → SameTree (tree_of S news) (unlinked names time (tree_of R rows))
+    by : Releases R S s free after cpu rows news place target name time → SameTree (tree_of S news) (unlinked names time (tree_of R rows))
     by (inl w) = more_tree kept runs writes w.1 spelled (files w.1.file (at_file w.1)) (w.0 w.1.file (at_file w.1)) names spot
     by (inr w) =
         let step = w.1 in

@@ -30,7 +30,7 @@ use Rattle.nv_steps.proofs.NamedLogs.{lost_told, named_file}
 few_links : {R : Region} {s : Super} {held : Store} {f : Held} {file : Row} {free : FreeLists} → ShowsRow R s held f file free → file.numbers.links ≤ 1000
 few_links {s = s} {f = f} shows = let told = shows.told in let numbers = told.numbers in subst (λ (n : ℕ). n ≤ 1000) (sym numbers.links) (links_small s f.kind f.entries)
 
-module _ {R S : Region} {s : Super} {rows news : List Row} {free after : FreeLists} {place target : ℕ} {name : List ℕ} {time : ℕ} (step : UnlinksAt R S s free after rows news place target name time)
+module _ {R S : Region} {s : Super} {rows news : List Row} {free after : FreeLists} {cpu place target : ℕ} {name : List ℕ} {time : ℕ} (step : UnlinksAt R S s free after cpu rows news place target name time)
     (is_directory : step.directory.kind ≡ Directory) (is_file : step.file.kind ≡ File) (some : 1 < step.file.numbers.links) (good : IsGoodName s step.file.inode name) (named : option_map (λ (x : ℕ × ℕ). x.0) (name_at step.directory.names name) ≡ Some step.file.inode) where
   abbrev i : ℕ
   i = step.file.inode

@@ -1,5 +1,5 @@
 -- What `write` answers, and what it leaves.
-use Rattle.std.proofs.Common.{◌≡◌, ℕ, ◌+◌, ◌/◌, ◌<◌, ◌≤◌, ◌⊎◌, inl, inr, min, Bool, true, false, nat_lt, List, [], ◌∷◌, ◌++◌, append_assoc, length, ap, sym, ◌∙◌, subst, arith, Option, Some, None, slice_get}
+use Rattle.std.proofs.Common.{◌≡◌, ℕ, ◌+◌, ◌/◌, ◌<◌, ◌≤◌, inl, inr, min, Bool, true, false, nat_lt, List, [], ◌∷◌, ◌++◌, append_assoc, length, ap, sym, ◌∙◌, subst, arith, Option, Some, None, slice_get}
 use Rattle.std.specs.List.{Contains}
 use Rattle.std.specs.Option.{option_and_then, option_map}
 use Rattle.std.proofs.Math.Logic.{∥∥₁_elim, ∥∥₁_map}
@@ -24,11 +24,10 @@ use Rattle.nv_held.specs.nv_named.Read.{row_of}
 use Rattle.nv_held.specs.Held.{Held, Store, good_in}
 use Rattle.nv_held.specs.Mounted.{ShowsSound}
 use Rattle.nv_tree.specs.declared.refusal.Refusal.{Refusal}
-use Rattle.nv_tree.specs.declared.refusal.Refusal.TheVariants.{Memory, Stopped}
 use Rattle.nv_tree.specs.Path.{IsPath, Says}
 use Rattle.nv_tree.specs.Tree.{Node, SameNode, SameTree, Tree, found}
 use Rattle.nv_tree.specs.Calls.{edit, on_some, with_bytes, written}
-use Rattle.nv_tree.specs.Refusals.{Path, Tests, first_refusal, has_no_space, is_bad, is_dir, is_missing, is_too_large, stat_tests, target, walk_tests, write_tests, writing}
+use Rattle.nv_tree.specs.Refusals.{Path, Tests, first_refusal, has_no_space, is_bad, is_dir, is_missing, is_too_large, stat_tests, target, walk_tests, write_tests, writing, IsRefusedBy, MayWantMemory}
 use Rattle.nv_tree.proofs.Same.{same_itself}
 use Rattle.nv_calls.specs.GrownLogs.{LogGrew}
 use Rattle.nv_calls.specs.Mount.{IsKept, Mount}
@@ -43,7 +42,7 @@ use Rattle.nv_calls.proofs.OneRow.{shows_row}
 use Rattle.nv_super.proofs.Members.{stands}
 use Rattle.nv_calls.proofs.RowChange.{log_grew}
 use Rattle.nv_calls.proofs.SetSize.{front_tests}
-use Rattle.nv_calls.proofs.Tests.{enough_space, stat_first, too_few}
+use Rattle.nv_calls.proofs.Tests.{enough_space, stat_first, too_few, space_last}
 use Rattle.nv_paths.proofs.Refusing.{passed_before, refused_before}
 
 -- ---- the tests
@@ -103,8 +102,8 @@ module _ {P : Type 0} (region : P → Region) {n m : Mount P} (same : n ≡ m) (
       write_allowed enough = subst (λ (k : Mount P). tests k ≡ None) same (at_last ∙ enough_space (world_of n) count (enough count needed_here))
 
       -- Where its step was refused, so is the call.
-      pub write_refused : (e : Refusal) → RefusesWrite e n.free cpu row.tail plan → (e ≡ Memory) ⊎ ((e ≡ Stopped) ⊎ (tests m ≡ Some e))
-      write_refused e (inl memory) = inl memory
+      pub write_refused : (e : Refusal) → RefusesWrite e n.free cpu row.tail plan → IsRefusedBy (tests m) e
+      write_refused e (inl memory) = inl (memory, subst (λ (k : Mount P). MayWantMemory (tests k)) same (subst MayWantMemory (sym at_last) (space_last (world_of n) count)))
       write_refused e (inr (inl stopped)) = inr (inl stopped)
       write_refused e (inr (inr w)) = inr (inr (subst (λ (k : Mount P). tests k ≡ Some e) same (at_last ∙ too_few (world_of n) count (w.1 count needed_here) ∙ ap (λ (r : Refusal). Some r) (sym w.0))))
 
@@ -133,7 +132,7 @@ module _ {R S : Region} {s : Super} {rows : List Row} {free after : FreeLists} {
     prop = hlevel (props, ℕ_set)
 
   -- The log of its inode, for whatever is held of the region.
-  pub write_log : (held : Store) (h : Held) → ShowsSound R s held → held row.inode ≡ Some h → ∥ (LogGrew S s held row.inode h (data_entries plan w.runs)) ∥₁
+  pub write_log : (held : Store) (h : Held) → ShowsSound R s held → held row.inode ≡ Some h → ∥ (LogGrew S s w.rest cpu held row.inode h (data_entries plan w.runs)) ∥₁
   write_log held h sound is = log_grew kept runs writes place row now at (data_entries plan w.runs) (λ st g shows. w.follows st g shows) held h sound is
 
 -- The node has the new bytes.
@@ -160,7 +159,7 @@ plan_same f g size offset count time same = ap (λ (o : Option ℕ). plan_of (λ
 pub write_logged : {P : Type 0} (region : P → Region) {n m : Mount P} → n ≡ m → {S : Region} {after : FreeLists} {cpu : ℕ} {plan : Plan} {offset : ℕ} {new : List ℕ} {row now : Row} (names : List (List ℕ)) (time i : ℕ) (node : Node) (held : Store) (h : Held)
     → IsKept (region n.memory) n.sup n.rows n.free n.faults n.read_only n.stopped → n.stopped ≡ false → Contains n.rows row → LeadsTo (tree_of (region n.memory) n.rows) names row.inode (node_of (region n.memory) row)
     → (w : WritesFile (region n.memory) S n.sup n.free after cpu plan offset new row now) → plan ≡ plan_of (block_at row.index) row.numbers.size offset (length new) time
-    → ((st : Store) (g : Held) → ShowsSound (region n.memory) n.sup st → st row.inode ≡ Some g → ∥ (LogGrew S n.sup st row.inode g (data_entries plan w.runs)) ∥₁)
+    → ((st : Store) (g : Held) → ShowsSound (region n.memory) n.sup st → st row.inode ≡ Some g → ∥ (LogGrew S n.sup w.rest cpu st row.inode g (data_entries plan w.runs)) ∥₁)
     → LeadsTo (tree_of (region m.memory) m.rows) names i node → ShowsSound (region m.memory) m.sup held → held i ≡ Some h
     → ShowsLogWrite S m cpu held i h (plan_of (block_of (good_in (fixed_layout m.sup) h)) node.size offset (length new) time)
 write_logged {P} region {n} {m} same {S} {after} {cpu} {plan} {offset} {new} {row} {now} names time i node held h kept runs there own w planned grew led sound is =
@@ -184,6 +183,6 @@ write_logged {P} region {n} {m} same {S} {after} {cpu} {plan} {offset} {new} {ro
           runs = w.runs;
           rest = w.rest;
           taken = subst (λ (q : Plan). Takes n.free.pools cpu (data_blocks q) w.runs w.rest) equal w.taken;
-          grew = subst (λ (k : ℕ). ∥ (LogGrew S n.sup held k h (data_entries (plan_of (block_of (good_in (fixed_layout n.sup) h)) node.size offset (length new) time) w.runs)) ∥₁) number
-              (subst (λ (q : Plan). ∥ (LogGrew S n.sup held row.inode h (data_entries q w.runs)) ∥₁) equal (grew held h sound (ap held number ∙ is)));
+          grew = subst (λ (k : ℕ). ∥ (LogGrew S n.sup w.rest cpu held k h (data_entries (plan_of (block_of (good_in (fixed_layout n.sup) h)) node.size offset (length new) time) w.runs)) ∥₁) number
+              (subst (λ (q : Plan). ∥ (LogGrew S n.sup w.rest cpu held row.inode h (data_entries q w.runs)) ∥₁) equal (grew held h sound (ap held number ∙ is)));
         }))

@@ -4,7 +4,9 @@ use Rattle.std.specs.Option.{option_map_or, option_and_then}
 use Rattle.nv_region.specs.Region.{Region}
 use Rattle.nv_super.specs.declared.superblock.Super.{Super}
 use Rattle.nv_super.specs.Layout.{fixed_layout}
+use Rattle.nv_super.specs.declared.owners.Run.{Run}
 use Rattle.nv_entry.specs.declared.entry.Entry.{Entry}
+use Rattle.nv_alloc.specs.Taking.{TakesSingly}
 use Rattle.nv_logpage.specs.Append.{needed}
 use Rattle.nv_scan.specs.declared.piece.Row.{Row}
 use Rattle.nv_held.specs.Held.{Held, Store}
@@ -19,13 +21,16 @@ use Rattle.nv_tree.specs.Refusals.{Path, target}
 abbrev pub log_blocks : List Row → Tree → Path → (Row → List Entry) → ℕ
 log_blocks rows t p entries = option_map_or (λ (row : Row). needed (row.tail % 4096) (entries row)) (option_and_then (row_of rows) (target t p)) 0
 
--- The region is sound and shows what was held, with the log of one inode grown by these entries, over free blocks.
-pub record LogGrew (S : Region) (s : Super) (held : Store) (i : ℕ) (h : Held) (entries : List Entry) : Type 0 where
+-- The region is sound and shows what was held, with the log of one inode grown by these entries, over free blocks: those that
+-- are taken one by one from these pools, by a CPU.
+pub record LogGrew (S : Region) (s : Super) (pools : List (List Run)) (cpu : ℕ) (held : Store) (i : ℕ) (h : Held) (entries : List Entry) : Type 0 where
   pub fresh : List ℕ
+  pub rest : List (List Run)
+  pub taken : TakesSingly pools cpu fresh rest
   pub free : AreFree (fixed_layout s) held fresh
   pub count : length fresh ≡ needed (h.tail % 4096) entries
   pub sound : ShowsSound S s (with_log held i h entries fresh)
 
--- there are free blocks over which it has grown so
-abbrev pub ShowsGrownLog : Region → Super → Store → ℕ → Held → List Entry → Type 0
-ShowsGrownLog S s held i h entries = ∥ (LogGrew S s held i h entries) ∥₁
+-- there are such blocks
+abbrev pub ShowsGrownLog : Region → Super → List (List Run) → ℕ → Store → ℕ → Held → List Entry → Type 0
+ShowsGrownLog S s pools cpu held i h entries = ∥ (LogGrew S s pools cpu held i h entries) ∥₁

@@ -19,4 +19,5 @@ pub mod GrownLogs
 pub mod SizeCall
 pub mod CleanCall
 pub mod Effects
+pub mod Decided
 pub mod Stopped

@@ -1,11 +1,13 @@
 -- How many blocks `link` takes, and what `link` and `rename` leave of the logs.
-use Rattle.std.specs.Prelude.{◌≡◌, ℕ, ◌+◌, ◌%◌, List, length}
+use Rattle.std.specs.Prelude.{◌≡◌, ℕ, ◌+◌, ◌%◌, List, ◌++◌, length}
 use Rattle.std.specs.List.{Contains}
 use Rattle.std.specs.Option.{option_map_or}
 use Rattle.nv_region.specs.Region.{Region}
 use Rattle.nv_super.specs.declared.superblock.Super.{Super}
 use Rattle.nv_super.specs.Layout.{fixed_layout}
+use Rattle.nv_super.specs.declared.owners.Run.{Run}
 use Rattle.nv_entry.specs.declared.entry.Entry.{Entry}
+use Rattle.nv_alloc.specs.Taking.{TakesSingly}
 use Rattle.nv_logpage.specs.Append.{needed}
 use Rattle.nv_scan.specs.declared.piece.Row.{Row}
 use Rattle.nv_held.specs.Held.{Held, Store}
@@ -26,10 +28,13 @@ links_blocks rows t p = option_map_or (λ i. row_blocks (row_of rows i) (links_e
 abbrev pub link_blocks : List Row → Tree → Path → Path → ℕ
 link_blocks rows t p q = links_blocks rows t p + name_blocks rows t q
 
--- The region is sound, and shows what was held with these entries behind two logs, over free blocks.
-pub record BothGrew (S : Region) (s : Super) (held : Store) (i : ℕ) (h : Held) (entries : List Entry) (j : ℕ) (g : Held) (others : List Entry) : Type 0 where
+-- The region is sound, and shows what was held with these entries behind two logs, over free blocks: those that are taken one by
+-- one from these pools, by a CPU, the first log's first.
+pub record BothGrew (S : Region) (s : Super) (pools : List (List Run)) (cpu : ℕ) (held : Store) (i : ℕ) (h : Held) (entries : List Entry) (j : ℕ) (g : Held) (others : List Entry) : Type 0 where
   pub fresh : List ℕ
   pub more : List ℕ
+  pub rest : List (List Run)
+  pub taken : TakesSingly pools cpu (fresh ++ more) rest
   pub free : AreFree (fixed_layout s) held fresh
   pub more_free : AreFree (fixed_layout s) held more
   pub apart : (b : ℕ) → Contains fresh b → Contains more b → ⊥
@@ -37,6 +42,6 @@ pub record BothGrew (S : Region) (s : Super) (held : Store) (i : ℕ) (h : Held)
   pub more_count : length more ≡ needed (g.tail % 4096) others
   pub sound : ShowsSound S s (with_log (with_log held i h entries fresh) j g others more)
 
--- there are free blocks over which both have grown so
-abbrev pub ShowsBothGrew : Region → Super → Store → ℕ → Held → List Entry → ℕ → Held → List Entry → Type 0
-ShowsBothGrew S s held i h entries j g others = ∥ (BothGrew S s held i h entries j g others) ∥₁
+-- there are such blocks
+abbrev pub ShowsBothGrew : Region → Super → List (List Run) → ℕ → Store → ℕ → Held → List Entry → ℕ → Held → List Entry → Type 0
+ShowsBothGrew S s pools cpu held i h entries j g others = ∥ (BothGrew S s pools cpu held i h entries j g others) ∥₁

@@ -6,8 +6,10 @@ use Rattle.nv_region.specs.Region.{Region}
 use Rattle.nv_super.specs.declared.superblock.Super.{Super}
 use Rattle.nv_super.specs.declared.kind.Kind.{Kind}
 use Rattle.nv_super.specs.Layout.{fixed_layout}
+use Rattle.nv_super.specs.declared.owners.Run.{Run}
 use Rattle.nv_entry.specs.declared.entry.Operation.TheVariants.{Add}
 use Rattle.nv_entry.specs.declared.entry.Entry.{Entry}
+use Rattle.nv_alloc.specs.Taking.{TakesSingly}
 use Rattle.nv_logpage.specs.Append.{needed}
 use Rattle.nv_scan.specs.declared.piece.Row.{Row}
 use Rattle.nv_held.specs.Held.{Held, Store}
@@ -38,15 +40,18 @@ name_blocks rows t (Some names) = row_blocks (ended_row rows (walk t 1 names)) (
 abbrev pub create_blocks : List Row → Tree → Path → ℕ
 create_blocks rows t p = 1 + name_blocks rows t p
 
--- The region is sound, and shows what was held with a new inode of this number and its name in the directory's log.
-pub record WasCreated (S : Region) (s : Super) (held : Store) (kind : Kind) (mode time j d : ℕ) (h : Held) (name : List ℕ) : Type 0 where
+-- The region is sound, and shows what was held with a new inode of this number and its name in the directory's log, over free
+-- blocks: those that are taken one by one from these pools, by a CPU, the new log's page first.
+pub record WasCreated (S : Region) (s : Super) (pools : List (List Run)) (cpu : ℕ) (held : Store) (kind : Kind) (mode time j d : ℕ) (h : Held) (name : List ℕ) : Type 0 where
   pub page : ℕ
   pub fresh : List ℕ
+  pub rest : List (List Run)
+  pub taken : TakesSingly pools cpu (page ∷ fresh) rest
   pub free : AreFree (fixed_layout s) held (page ∷ fresh)
   pub apart : Contains fresh page → ⊥
   pub count : length fresh ≡ needed (h.tail % 4096) (name_entries Add j name time)
   pub sound : ShowsSound S s (with_named held kind mode time j d h name page fresh)
 
--- there are free blocks over which it was made so
-abbrev pub ShowsCreated : Region → Super → Store → Kind → ℕ → ℕ → ℕ → ℕ → Held → List ℕ → Type 0
-ShowsCreated S s held kind mode time j d h name = ∥ (WasCreated S s held kind mode time j d h name) ∥₁
+-- there are such blocks
+abbrev pub ShowsCreated : Region → Super → List (List Run) → ℕ → Store → Kind → ℕ → ℕ → ℕ → ℕ → Held → List ℕ → Type 0
+ShowsCreated S s pools cpu held kind mode time j d h name = ∥ (WasCreated S s pools cpu held kind mode time j d h name) ∥₁

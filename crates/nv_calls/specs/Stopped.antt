@@ -52,9 +52,9 @@ abbrev pub LeavesFormat : Region → Super → ℕ → Region → Type 0
 LeavesFormat old s time left = (left ≡ old) ⊎ ((IsRefused left Magic × ((o : Outcome) → IsOutcome left o → ⊥)) ⊎ IsFormatted old left s time)
 
 -- A name of a file went, and a link where it has others. Else the file went with the name.
-abbrev pub Released : Region → Super → FreeLists → Row → Row → List ℕ → ℕ → Region → Type 0
-Released R s free row file name time S = ((1 < file.numbers.links) × Unlinked R s free row file name time S) ⊎ ((file.numbers.links ≤ 1) × Cut R s free row file.inode time name S)
+abbrev pub Released : Region → Super → FreeLists → ℕ → Row → Row → List ℕ → ℕ → Region → Type 0
+Released R s free cpu row file name time S = ((1 < file.numbers.links) × Unlinked R s free cpu row file name time S) ⊎ ((file.numbers.links ≤ 1) × Cut R s free cpu row file.inode time name S)
 
 -- An inode got another name: in its directory, or in another.
-abbrev pub Renamed : Region → Super → FreeLists → ℕ → ℕ → Row → Row → ℕ → List ℕ → List ℕ → ℕ → Region → Type 0
-Renamed R s free place end from to i name other time S = ((place ≡ end) × MovedHere R s free from i name other time S) ⊎ ((place ≢ end) × MovedOver R s free from to i name other time S)
+abbrev pub Renamed : Region → Super → FreeLists → ℕ → ℕ → ℕ → Row → Row → ℕ → List ℕ → List ℕ → ℕ → Region → Type 0
+Renamed R s free cpu place end from to i name other time S = ((place ≡ end) × MovedHere R s free cpu from i name other time S) ⊎ ((place ≢ end) × MovedOver R s free cpu from to i name other time S)

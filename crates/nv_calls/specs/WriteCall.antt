@@ -21,12 +21,13 @@ pub record WriteNeeds {P : Type 0} (R : Region) (m : Mount P) (cpu : ℕ) (p : P
   pub none : bytes ≡ 0 → count ≡ 0
   pub some : 0 < bytes → (row : Row) → option_and_then (row_of m.rows) (target (tree_of R m.rows) p) ≡ Some row → NeedsBlocks m.free.pools cpu row.tail (plan_of (block_at row.index) row.numbers.size offset bytes time) count
 
--- The log has grown by the entries over the blocks that a take of this CPU gives.
+-- The log has grown by the entries over the blocks that a take of this CPU gives, all of them at once, over those that it then
+-- takes one by one.
 pub record LogsWrite {P : Type 0} (S : Region) (m : Mount P) (cpu : ℕ) (held : Store) (i : ℕ) (h : Held) (plan : Plan) : Type 0 where
   pub runs : List Run
   pub rest : List (List Run)
   pub taken : Takes m.free.pools cpu (data_blocks plan) runs rest
-  pub grew : ShowsGrownLog S m.sup held i h (data_entries plan runs)
+  pub grew : ShowsGrownLog S m.sup rest cpu held i h (data_entries plan runs)
 
 -- there are such runs
 abbrev pub ShowsLogWrite : {P : Type 0} → Region → Mount P → ℕ → Store → ℕ → Held → Plan → Type 0

@@ -1,6 +1,6 @@
 //! `set_attr`: the mode, owner, group and time of an inode.
 
-ghost use Rattle.std.specs.Prelude.{◌≡◌, ◌⊎◌, ◌<◌, ◌≤◌, ◌%◌, ℕ, List, Option, Result, IsTrue, IfErr, OnOk, false};
+ghost use Rattle.std.specs.Prelude.{◌≡◌, ◌<◌, ◌≤◌, ◌%◌, ℕ, List, Option, Result, IsTrue, IfErr, OnOk, false};
 ghost use Rattle.nv_region.specs.Region.{size};
 ghost use Rattle.nv_region.specs.Stops.{LeavesOnly, NothingPending};
 ghost use Rattle.nv_region.specs.Fuses.{KeepsFuse};
@@ -9,7 +9,7 @@ ghost use Rattle.nv_held.specs.Mounted.{ShowsSound};
 ghost use Rattle.nv_tree.specs.Path.{IsPath, Says};
 ghost use Rattle.nv_tree.specs.Tree.{Node, SameTree};
 ghost use Rattle.nv_tree.specs.Calls.{attributed};
-ghost use Rattle.nv_tree.specs.Refusals.{Path, first_refusal, set_attr_tests};
+ghost use Rattle.nv_tree.specs.Refusals.{Path, first_refusal, set_attr_tests, IsRefusedBy};
 ghost use Rattle.nv_tree.specs.declared.refusal.Refusal.{Refusal as RefusalValue};
 ghost use Rattle.nv_steps.specs.Attributes.{attributes};
 ghost use Rattle.nv_calls.specs.AttributesCall.{attributes_blocks};
@@ -55,13 +55,12 @@ impl<P: Pmem + Drop> Fs<P> {
         ensures allowed { (p : Path) → Says path.now p
             → OnOk result (first_refusal (set_attr_tests (world_of self.old) (tree_of (P.region self.old.memory) self.old.rows) cpu p (attributes_blocks self.old.rows (tree_of (P.region self.old.memory) self.old.rows) p)) ≡ Option.None) }
         ensures refused { self.old.stopped ≡ false → (p : Path) → Says path.now p
-            → IfErr result (λ e. (e ≡ RefusalValue.Memory) ⊎ ((e ≡ RefusalValue.Stopped)
-            ⊎ (first_refusal (set_attr_tests (world_of self.old) (tree_of (P.region self.old.memory) self.old.rows) cpu p (attributes_blocks self.old.rows (tree_of (P.region self.old.memory) self.old.rows) p)) ≡ Option.Some e))) }
+            → IfErr result (IsRefusedBy (first_refusal (set_attr_tests (world_of self.old) (tree_of (P.region self.old.memory) self.old.rows) cpu p (attributes_blocks self.old.rows (tree_of (P.region self.old.memory) self.old.rows) p)))) }
         ensures changed { (names : List (List ℕ)) → IsPath path.now names
             → OnOk result (SameTree (tree_of (P.region self.new.memory) self.new.rows) (attributed names mode owner group time (tree_of (P.region self.old.memory) self.old.rows))) }
         // The log of the inode has one entry more, and no other log has changed.
         ensures log { (names : List (List ℕ)) (i : ℕ) (node : Node) (held : Store) (h : Held) → IsPath path.now names → LeadsTo (tree_of (P.region self.old.memory) self.old.rows) names i node
-            → ShowsSound (P.region self.old.memory) self.old.sup held → held i ≡ Option.Some h → OnOk result (ShowsGrownLog (P.region self.new.memory) self.old.sup held i h (attributes node.size mode owner group time)) }
+            → ShowsSound (P.region self.old.memory) self.old.sup held → held i ≡ Option.Some h → OnOk result (ShowsGrownLog (P.region self.new.memory) self.old.sup self.old.free.pools cpu held i h (attributes node.size mode owner group time)) }
         ensures unchanged { IfErr result (λ e. (e ≡ RefusalValue.Stopped → ⊥) → SameMount self.old self.new) }
         ensures stopped { self.old.stopped ≡ false → (IsTrue self.new.stopped → (result ≡ Result.Err RefusalValue.Stopped) × IsTrue (P.fuse self.new.memory).has_burnt) × (result ≡ Result.Err RefusalValue.Stopped → IsTrue self.new.stopped) }
         ensures keeps { KeepsMount self.old self.new }
@@ -74,7 +73,7 @@ impl<P: Pmem + Drop> Fs<P> {
         ensures read_only { IsTrue self.old.read_only → SameMount self.old self.new }
         // Whatever a stop leaves, at any exit: recovery finds what was mounted, or what the call makes, without faults.
         ensures any_stop { (names : List (List ℕ)) → IsPath path.now names → self.old.stopped ≡ false → self.old.read_only ≡ false
-            → LeavesOnly (P.region self.new.memory) (P.may_hold self.new.memory) (LeavesCall (makes_attributes mode owner group time) (logs_attributes mode owner group time) (P.region self.old.memory) self.old names) }
+            → LeavesOnly (P.region self.new.memory) (P.may_hold self.new.memory) (LeavesCall (makes_attributes mode owner group time) (logs_attributes cpu mode owner group time) (P.region self.old.memory) self.old names) }
     {
         self.writable(cpu)?;
         let inode = row_at(&self.rows, path)?.inode;

@@ -1,6 +1,6 @@
 //! `clean`: the first page that the log of an inode can do without is taken out of it.
 
-ghost use Rattle.std.specs.Prelude.{◌≡◌, ◌⊎◌, ◌≤◌, ◌∷◌, ℕ, List, Option, Result, IsTrue, IfOk, IfErr, OnOk, false};
+ghost use Rattle.std.specs.Prelude.{◌≡◌, ◌≤◌, ◌∷◌, ℕ, List, Option, Result, IsTrue, IfOk, IfErr, OnOk, false};
 ghost use Rattle.nv_region.specs.Region.{size};
 ghost use Rattle.nv_region.specs.Stops.{LeavesOnly, NothingPending};
 ghost use Rattle.nv_region.specs.Fuses.{KeepsFuse};
@@ -8,7 +8,7 @@ ghost use Rattle.nv_held.specs.Held.{Held, Store};
 ghost use Rattle.nv_held.specs.Mounted.{ShowsSound};
 ghost use Rattle.nv_tree.specs.Path.{IsPath, Says};
 ghost use Rattle.nv_tree.specs.Tree.{Node, SameTree};
-ghost use Rattle.nv_tree.specs.Refusals.{Path, Tests, clean_tests, first_refusal};
+ghost use Rattle.nv_tree.specs.Refusals.{Path, Tests, clean_tests, first_refusal, IsRefusedBy};
 ghost use Rattle.nv_tree.specs.declared.refusal.Refusal.{Refusal as RefusalValue};
 ghost use Rattle.nv_rows.specs.Rows.{IsInUse, row_of};
 ghost use Rattle.nv_calls.specs.CleanCall.{LosesPage, ShowsCleaned, clean_inode_tests};
@@ -44,7 +44,7 @@ impl<P: Pmem + Drop> Fs<P> {
         ensures stopped_before { IsTrue self.old.stopped → (result ≡ Result.Err RefusalValue.Stopped) × (self.new ≡ self.old) }
         ensures allowed { (p : Path) → Says path.now p → OnOk result (first_refusal (clean_tests (world_of self.old) (tree_of (P.region self.old.memory) self.old.rows) p) ≡ Option.None) }
         ensures refused { self.old.stopped ≡ false → (p : Path) → Says path.now p
-            → IfErr result (λ e. (e ≡ RefusalValue.Memory) ⊎ ((e ≡ RefusalValue.Stopped) ⊎ (first_refusal (clean_tests (world_of self.old) (tree_of (P.region self.old.memory) self.old.rows) p) ≡ Option.Some e))) }
+            → IfErr result (IsRefusedBy (first_refusal (clean_tests (world_of self.old) (tree_of (P.region self.old.memory) self.old.rows) p))) }
         ensures same_tree { OnOk result (SameTree (tree_of (P.region self.new.memory) self.new.rows) (tree_of (P.region self.old.memory) self.old.rows)) }
         // Which page went, by the log of the inode.
         ensures log { (names : List (List ℕ)) (i : ℕ) (node : Node) (held : Store) (h : Held) → IsPath path.now names → LeadsTo (tree_of (P.region self.old.memory) self.old.rows) names i node
@@ -81,7 +81,7 @@ impl<P: Pmem + Drop> Fs<P> {
         ensures stopped_before { IsTrue self.old.stopped → (result ≡ Result.Err RefusalValue.Stopped) × (self.new ≡ self.old) }
         ensures allowed { OnOk result (first_refusal (clean_inode_tests (world_of self.old) (tree_of (P.region self.old.memory) self.old.rows) inode) ≡ Option.None) }
         ensures refused { self.old.stopped ≡ false
-            → IfErr result (λ e. (e ≡ RefusalValue.Memory) ⊎ ((e ≡ RefusalValue.Stopped) ⊎ (first_refusal (clean_inode_tests (world_of self.old) (tree_of (P.region self.old.memory) self.old.rows) inode) ≡ Option.Some e))) }
+            → IfErr result (IsRefusedBy (first_refusal (clean_inode_tests (world_of self.old) (tree_of (P.region self.old.memory) self.old.rows) inode))) }
         ensures same_tree { OnOk result (SameTree (tree_of (P.region self.new.memory) self.new.rows) (tree_of (P.region self.old.memory) self.old.rows)) }
         // Which page went, by the log of the inode.
         ensures log { (held : Store) (h : Held) → ShowsSound (P.region self.old.memory) self.old.sup held → held inode ≡ Option.Some h → IfOk result (ShowsCleaned (P.region self.old.memory) (P.region self.new.memory) self.old.sup held inode h) }

@@ -1,6 +1,6 @@
 //! `create` and `mkdir`: a new inode and its name.
 
-ghost use Rattle.std.specs.Prelude.{◌≡◌, ◌⊎◌, ◌+◌, ◌<◌, ◌≤◌, ◌%◌, ℕ, List, Option, Result, IsTrue, IfErr, OnOk, false};
+ghost use Rattle.std.specs.Prelude.{◌≡◌, ◌+◌, ◌<◌, ◌≤◌, ◌%◌, ℕ, List, Option, Result, IsTrue, IfErr, OnOk, false};
 ghost use Rattle.nv_region.specs.Region.{size};
 ghost use Rattle.nv_region.specs.Stops.{LeavesOnly, NothingPending};
 ghost use Rattle.nv_region.specs.Fuses.{KeepsFuse};
@@ -18,7 +18,7 @@ ghost use Rattle.nv_names.specs.Names.{IsName, name_at};
 ghost use Rattle.nv_tree.specs.Path.{IsPath, Says, last_name};
 ghost use Rattle.nv_tree.specs.Tree.{SameTree, walk};
 ghost use Rattle.nv_tree.specs.Calls.{created};
-ghost use Rattle.nv_tree.specs.Refusals.{Path, create_tests, first_refusal};
+ghost use Rattle.nv_tree.specs.Refusals.{Path, create_tests, first_refusal, IsRefusedBy};
 ghost use Rattle.nv_tree.specs.declared.refusal.Refusal.{Refusal as RefusalValue};
 ghost use Rattle.nv_steps.specs.Grown.{StandsRight};
 ghost use Rattle.nv_calls.specs.NameCalls.{ShowsCreated, create_blocks};
@@ -31,6 +31,7 @@ ghost use Rattle.nv_calls.specs.Stopped.{LeavesCall};
 ghost use Rattle.nv_steps.specs.Stopped.{Named};
 ghost use Rattle.nv_paths.specs.Seen.{tree_of};
 ghost use Rattle.nv_steps.specs.Steps.{RefusesStep, ShowsRow};
+ghost use Rattle.nv_steps.specs.Fronts.{SameFrontBut};
 ghost use Rattle.nv_rows.specs.Unused.{unused_number};
 ghost use Rattle.nv_calls.specs.World.{world_of};
 
@@ -67,7 +68,7 @@ fn create_at<P: Pmem>(
     requires stands { (row : RowValue) → row_of rows.old.items directory ≡ Option.Some row → StandsRight (P.region memory.old) sup.now free.old row }
     requires can { (row : RowValue) → row_of rows.old.items directory ≡ Option.Some row → CanName (P.region memory.old) sup.now cpu new.now.inode row }
     requires name { IsName new.now.name.now }
-    ensures created { OnOk result (CreatesAt (P.region memory.old) (P.region memory.new) sup.now free.old free.new rows.old.items rows.new.items (place_in rows.old.items directory) new.now.kind new.now.mode new.now.time new.now.inode new.now.name.now) }
+    ensures created { OnOk result (CreatesAt (P.region memory.old) (P.region memory.new) sup.now free.old free.new cpu rows.old.items rows.new.items (place_in rows.old.items directory) new.now.kind new.now.mode new.now.time new.now.inode new.now.name.now) }
     ensures enough { (row : RowValue) → row_of rows.old.items directory ≡ Option.Some row → OnOk result (1 + needed (row.tail % 4096) (name_entries OperationValue.Add new.now.inode new.now.name.now new.now.time) ≤ all_blocks free.old.pools) }
     ensures settled { OnOk result (NothingPending (P.region memory.new) (P.may_hold memory.new)) }
     ensures refused { (row : RowValue) → row_of rows.old.items directory ≡ Option.Some row → IfErr result (λ e. RefusesStep e (1 + needed (row.tail % 4096) (name_entries OperationValue.Add new.now.inode new.now.name.now new.now.time)) free.old) }
@@ -79,7 +80,7 @@ fn create_at<P: Pmem>(
     ensures keeps_fuse { KeepsFuse (λ limit. size (P.region memory.old) ≤ limit) (P.fuse memory.old) (P.fuse memory.new) }
     // Whatever a stop leaves: recovery finds what is held, or it with the new inode and its name, without faults.
     ensures any_stop { (row : RowValue) (held : Store) (h : Held) → row_of rows.old.items directory ≡ Option.Some row → ShowsRow (P.region memory.old) sup.now held h row free.old → held new.now.inode ≡ Option.None → name_at row.names new.now.name.now ≡ Option.None → NothingPending (P.region memory.old) (P.may_hold memory.old)
-        → LeavesOnly (P.region memory.new) (P.may_hold memory.new) (LeavesEither (P.region memory.old) (fixed_layout sup.now) held (Named (P.region memory.old) sup.now free.old row new.now.kind new.now.mode new.now.time new.now.inode new.now.name.now)) }
+        → LeavesOnly (P.region memory.new) (P.may_hold memory.new) (LeavesEither (P.region memory.old) (fixed_layout sup.now) held (Named (P.region memory.old) sup.now free.old cpu row new.now.kind new.now.mode new.now.time new.now.inode new.now.name.now)) }
 {
     let entries = [name_entry(Operation::Add, new.inode, new.name, new.time)];
     if free.free_blocks() < 1 + pages_needed(rows.row(directory).tail, &entries) {
@@ -115,16 +116,17 @@ impl<P: Pmem + Drop> Fs<P> {
         ensures allowed { (p : Path) → Says path.now p
             → OnOk result (first_refusal (create_tests (world_of self.old) (tree_of (P.region self.old.memory) self.old.rows) cpu p (create_blocks self.old.rows (tree_of (P.region self.old.memory) self.old.rows) p)) ≡ Option.None) }
         ensures refused { self.old.stopped ≡ false → (p : Path) → Says path.now p
-            → IfErr result (λ e. (e ≡ RefusalValue.Memory) ⊎ ((e ≡ RefusalValue.Stopped)
-            ⊎ (first_refusal (create_tests (world_of self.old) (tree_of (P.region self.old.memory) self.old.rows) cpu p (create_blocks self.old.rows (tree_of (P.region self.old.memory) self.old.rows) p)) ≡ Option.Some e))) }
+            → IfErr result (IsRefusedBy (first_refusal (create_tests (world_of self.old) (tree_of (P.region self.old.memory) self.old.rows) cpu p (create_blocks self.old.rows (tree_of (P.region self.old.memory) self.old.rows) p)))) }
         ensures changed { (names : List (List ℕ)) → IsPath path.now names
             → OnOk result (SameTree (tree_of (P.region self.new.memory) self.new.rows) (created File (unused_number self.old.sup self.old.rows cpu) names mode time (tree_of (P.region self.old.memory) self.old.rows))) }
         // The log of the directory has one entry more, the new inode's log is one entry, and no other log has changed.
         ensures log { (names : List (List ℕ)) (d j : ℕ) (held : Store) (h : Held) → IsPath path.now names → walk (tree_of (P.region self.old.memory) self.old.rows) 1 names ≡ Result.Ok d → unused_number self.old.sup self.old.rows cpu ≡ Option.Some j
-            → ShowsSound (P.region self.old.memory) self.old.sup held → held d ≡ Option.Some h → OnOk result (ShowsCreated (P.region self.new.memory) self.old.sup held File mode time j d h (last_name names)) }
+            → ShowsSound (P.region self.old.memory) self.old.sup held → held d ≡ Option.Some h → OnOk result (ShowsCreated (P.region self.new.memory) self.old.sup self.old.free.pools cpu held File mode time j d h (last_name names)) }
         ensures unchanged { IfErr result (λ e. (e ≡ RefusalValue.Stopped → ⊥) → SameMount self.old self.new) }
         ensures stopped { self.old.stopped ≡ false → (IsTrue self.new.stopped → (result ≡ Result.Err RefusalValue.Stopped) × IsTrue (P.fuse self.new.memory).has_burnt) × (result ≡ Result.Err RefusalValue.Stopped → IsTrue self.new.stopped) }
         ensures keeps { KeepsMount self.old self.new }
+        // The superblock and all journals but that of the CPU are as they were.
+        ensures journals { OnOk result (SameFrontBut self.old.sup.cpus cpu (P.region self.old.memory) (P.region self.new.memory)) }
         ensures settled { OnOk result (NothingPending (P.region self.new.memory) (P.may_hold self.new.memory)) }
         ensures length { size (P.region self.new.memory) ≡ size (P.region self.old.memory) }
         ensures keeps_fuse { KeepsFuse (λ limit. size (P.region self.old.memory) ≤ limit) (P.fuse self.old.memory) (P.fuse self.new.memory) }
@@ -145,16 +147,17 @@ impl<P: Pmem + Drop> Fs<P> {
         ensures allowed { (p : Path) → Says path.now p
             → OnOk result (first_refusal (create_tests (world_of self.old) (tree_of (P.region self.old.memory) self.old.rows) cpu p (create_blocks self.old.rows (tree_of (P.region self.old.memory) self.old.rows) p)) ≡ Option.None) }
         ensures refused { self.old.stopped ≡ false → (p : Path) → Says path.now p
-            → IfErr result (λ e. (e ≡ RefusalValue.Memory) ⊎ ((e ≡ RefusalValue.Stopped)
-            ⊎ (first_refusal (create_tests (world_of self.old) (tree_of (P.region self.old.memory) self.old.rows) cpu p (create_blocks self.old.rows (tree_of (P.region self.old.memory) self.old.rows) p)) ≡ Option.Some e))) }
+            → IfErr result (IsRefusedBy (first_refusal (create_tests (world_of self.old) (tree_of (P.region self.old.memory) self.old.rows) cpu p (create_blocks self.old.rows (tree_of (P.region self.old.memory) self.old.rows) p)))) }
         ensures changed { (names : List (List ℕ)) → IsPath path.now names
             → OnOk result (SameTree (tree_of (P.region self.new.memory) self.new.rows) (created Directory (unused_number self.old.sup self.old.rows cpu) names mode time (tree_of (P.region self.old.memory) self.old.rows))) }
         // The log of the directory has one entry more, the new inode's log is one entry, and no other log has changed.
         ensures log { (names : List (List ℕ)) (d j : ℕ) (held : Store) (h : Held) → IsPath path.now names → walk (tree_of (P.region self.old.memory) self.old.rows) 1 names ≡ Result.Ok d → unused_number self.old.sup self.old.rows cpu ≡ Option.Some j
-            → ShowsSound (P.region self.old.memory) self.old.sup held → held d ≡ Option.Some h → OnOk result (ShowsCreated (P.region self.new.memory) self.old.sup held Directory mode time j d h (last_name names)) }
+            → ShowsSound (P.region self.old.memory) self.old.sup held → held d ≡ Option.Some h → OnOk result (ShowsCreated (P.region self.new.memory) self.old.sup self.old.free.pools cpu held Directory mode time j d h (last_name names)) }
         ensures unchanged { IfErr result (λ e. (e ≡ RefusalValue.Stopped → ⊥) → SameMount self.old self.new) }
         ensures stopped { self.old.stopped ≡ false → (IsTrue self.new.stopped → (result ≡ Result.Err RefusalValue.Stopped) × IsTrue (P.fuse self.new.memory).has_burnt) × (result ≡ Result.Err RefusalValue.Stopped → IsTrue self.new.stopped) }
         ensures keeps { KeepsMount self.old self.new }
+        // The superblock and all journals but that of the CPU are as they were.
+        ensures journals { OnOk result (SameFrontBut self.old.sup.cpus cpu (P.region self.old.memory) (P.region self.new.memory)) }
         ensures settled { OnOk result (NothingPending (P.region self.new.memory) (P.may_hold self.new.memory)) }
         ensures length { size (P.region self.new.memory) ≡ size (P.region self.old.memory) }
         ensures keeps_fuse { KeepsFuse (λ limit. size (P.region self.old.memory) ≤ limit) (P.fuse self.old.memory) (P.fuse self.new.memory) }
@@ -182,16 +185,17 @@ impl<P: Pmem + Drop> Fs<P> {
         ensures allowed { (p : Path) → Says path.now p
             → OnOk result (first_refusal (create_tests (world_of self.old) (tree_of (P.region self.old.memory) self.old.rows) cpu p (create_blocks self.old.rows (tree_of (P.region self.old.memory) self.old.rows) p)) ≡ Option.None) }
         ensures refused { self.old.stopped ≡ false → (p : Path) → Says path.now p
-            → IfErr result (λ e. (e ≡ RefusalValue.Memory) ⊎ ((e ≡ RefusalValue.Stopped)
-            ⊎ (first_refusal (create_tests (world_of self.old) (tree_of (P.region self.old.memory) self.old.rows) cpu p (create_blocks self.old.rows (tree_of (P.region self.old.memory) self.old.rows) p)) ≡ Option.Some e))) }
+            → IfErr result (IsRefusedBy (first_refusal (create_tests (world_of self.old) (tree_of (P.region self.old.memory) self.old.rows) cpu p (create_blocks self.old.rows (tree_of (P.region self.old.memory) self.old.rows) p)))) }
         ensures changed { (names : List (List ℕ)) → IsPath path.now names
             → OnOk result (SameTree (tree_of (P.region self.new.memory) self.new.rows) (created kind (unused_number self.old.sup self.old.rows cpu) names mode time (tree_of (P.region self.old.memory) self.old.rows))) }
         // The log of the directory has one entry more, the new inode's log is one entry, and no other log has changed.
         ensures log { (names : List (List ℕ)) (d j : ℕ) (held : Store) (h : Held) → IsPath path.now names → walk (tree_of (P.region self.old.memory) self.old.rows) 1 names ≡ Result.Ok d → unused_number self.old.sup self.old.rows cpu ≡ Option.Some j
-            → ShowsSound (P.region self.old.memory) self.old.sup held → held d ≡ Option.Some h → OnOk result (ShowsCreated (P.region self.new.memory) self.old.sup held kind mode time j d h (last_name names)) }
+            → ShowsSound (P.region self.old.memory) self.old.sup held → held d ≡ Option.Some h → OnOk result (ShowsCreated (P.region self.new.memory) self.old.sup self.old.free.pools cpu held kind mode time j d h (last_name names)) }
         ensures unchanged { IfErr result (λ e. (e ≡ RefusalValue.Stopped → ⊥) → SameMount self.old self.new) }
         ensures stopped { self.old.stopped ≡ false → (IsTrue self.new.stopped → (result ≡ Result.Err RefusalValue.Stopped) × IsTrue (P.fuse self.new.memory).has_burnt) × (result ≡ Result.Err RefusalValue.Stopped → IsTrue self.new.stopped) }
         ensures keeps { KeepsMount self.old self.new }
+        // The superblock and all journals but that of the CPU are as they were.
+        ensures journals { OnOk result (SameFrontBut self.old.sup.cpus cpu (P.region self.old.memory) (P.region self.new.memory)) }
         ensures settled { OnOk result (NothingPending (P.region self.new.memory) (P.may_hold self.new.memory)) }
         ensures length { size (P.region self.new.memory) ≡ size (P.region self.old.memory) }
         ensures keeps_fuse { KeepsFuse (λ limit. size (P.region self.old.memory) ≤ limit) (P.fuse self.old.memory) (P.fuse self.new.memory) }

@@ -5,6 +5,7 @@ mod attributes;
 mod cleaning;
 mod creating;
 mod fs;
+mod laws;
 mod linking;
 mod listing;
 mod reading;
@@ -19,6 +20,7 @@ mod write;
 mod writing;
 
 pub use fs::Fs;
+pub use laws::calls_are_decided;
 pub use nv_format::{FormatRefusal, format};
 pub use stating::Stat;
 pub use stops::{stopped_format, stopped_recoveries_change_nothing};

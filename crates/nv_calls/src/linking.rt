@@ -1,6 +1,6 @@
 //! `link`: one more name of a file.
 
-ghost use Rattle.std.specs.Prelude.{◌≡◌, ◌≢◌, ◌⊎◌, ◌+◌, ◌%◌, ◌<◌, ◌≤◌, ℕ, List, Option, Result, IsTrue, IfErr, OnOk, false};
+ghost use Rattle.std.specs.Prelude.{◌≡◌, ◌≢◌, ◌+◌, ◌%◌, ◌<◌, ◌≤◌, ℕ, List, Option, Result, IsTrue, IfErr, OnOk, false};
 ghost use Rattle.nv_super.specs.Layout.{fixed_layout};
 ghost use Rattle.nv_region.specs.Region.{size};
 ghost use Rattle.nv_region.specs.Stops.{LeavesOnly, NothingPending};
@@ -17,7 +17,7 @@ ghost use Rattle.nv_commit.specs.Stopped.{LeavesEither};
 ghost use Rattle.nv_tree.specs.Path.{IsPath, Says, last_name};
 ghost use Rattle.nv_tree.specs.Tree.{Node, SameTree, walk};
 ghost use Rattle.nv_tree.specs.Calls.{linked};
-ghost use Rattle.nv_tree.specs.Refusals.{Path, first_refusal, link_tests};
+ghost use Rattle.nv_tree.specs.Refusals.{Path, first_refusal, link_tests, IsRefusedBy};
 ghost use Rattle.nv_tree.specs.declared.refusal.Refusal.{Refusal as RefusalValue};
 ghost use Rattle.nv_steps.specs.Grown.{StandsRight};
 ghost use Rattle.nv_calls.specs.LinkCalls.{ShowsBothGrew, link_blocks};
@@ -31,6 +31,7 @@ ghost use Rattle.nv_calls.specs.Stopped.{LeavesCall};
 ghost use Rattle.nv_steps.specs.Stopped.{Linked};
 ghost use Rattle.nv_paths.specs.Seen.{LeadsTo, tree_of};
 ghost use Rattle.nv_steps.specs.Steps.{RefusesStep, ShowsRow};
+ghost use Rattle.nv_steps.specs.Fronts.{SameFrontBut};
 ghost use Rattle.nv_calls.specs.World.{world_of};
 
 use crate::Fs;
@@ -65,7 +66,7 @@ fn link_at<P: Pmem>(
     requires stands { (row : RowValue) → row_of rows.old.items named.now.target ≡ Option.Some row → StandsRight (P.region memory.old) sup.now free.old row × CanName (P.region memory.old) sup.now cpu row.inode row }
     requires directory_stands { (directory : RowValue) → row_of rows.old.items named.now.directory ≡ Option.Some directory → StandsRight (P.region memory.old) sup.now free.old directory × CanName (P.region memory.old) sup.now cpu directory.inode directory }
     requires name { IsName named.now.name.now }
-    ensures linked { OnOk result (LinksAt (P.region memory.old) (P.region memory.new) sup.now free.old free.new rows.old.items rows.new.items (place_in rows.old.items named.now.target) (place_in rows.old.items named.now.directory) named.now.name.now time) }
+    ensures linked { OnOk result (LinksAt (P.region memory.old) (P.region memory.new) sup.now free.old free.new cpu rows.old.items rows.new.items (place_in rows.old.items named.now.target) (place_in rows.old.items named.now.directory) named.now.name.now time) }
     ensures enough { (row directory : RowValue) → row_of rows.old.items named.now.target ≡ Option.Some row → row_of rows.old.items named.now.directory ≡ Option.Some directory → OnOk result (needed (row.tail % 4096) (links_entries (row.numbers.links + 1) time) + needed (directory.tail % 4096) (name_entries Add row.inode named.now.name.now time) ≤ all_blocks free.old.pools) }
     ensures settled { OnOk result (NothingPending (P.region memory.new) (P.may_hold memory.new)) }
     ensures refused { (row directory : RowValue) → row_of rows.old.items named.now.target ≡ Option.Some row → row_of rows.old.items named.now.directory ≡ Option.Some directory → IfErr result (λ e. RefusesStep e (needed (row.tail % 4096) (links_entries (row.numbers.links + 1) time) + needed (directory.tail % 4096) (name_entries Add row.inode named.now.name.now time)) free.old) }
@@ -78,7 +79,7 @@ fn link_at<P: Pmem>(
     // Whatever a stop leaves: recovery finds what is held, or it with the link and the name, without faults.
     ensures any_stop { (file directory : RowValue) (held : Store) (f h : Held) → row_of rows.old.items named.now.target ≡ Option.Some file → row_of rows.old.items named.now.directory ≡ Option.Some directory → ShowsRow (P.region memory.old) sup.now held f file free.old → ShowsRow (P.region memory.old) sup.now held h directory free.old
         → name_at directory.names named.now.name.now ≡ Option.None → NothingPending (P.region memory.old) (P.may_hold memory.old)
-        → LeavesOnly (P.region memory.new) (P.may_hold memory.new) (LeavesEither (P.region memory.old) (fixed_layout sup.now) held (Linked (P.region memory.old) sup.now free.old file directory named.now.name.now time)) }
+        → LeavesOnly (P.region memory.new) (P.may_hold memory.new) (LeavesEither (P.region memory.old) (fixed_layout sup.now) held (Linked (P.region memory.old) sup.now free.old cpu file directory named.now.name.now time)) }
 {
     let mut file = rows.lend(alloc, named.target);
     let mut directory = rows.lend(alloc, named.directory);
@@ -120,17 +121,18 @@ impl<P: Pmem + Drop> Fs<P> {
         ensures allowed { (p q : Path) → Says old.now p → Says new.now q
             → OnOk result (first_refusal (link_tests (world_of self.old) (tree_of (P.region self.old.memory) self.old.rows) cpu p q (link_blocks self.old.rows (tree_of (P.region self.old.memory) self.old.rows) p q)) ≡ Option.None) }
         ensures refused { self.old.stopped ≡ false → (p q : Path) → Says old.now p → Says new.now q
-            → IfErr result (λ e. (e ≡ RefusalValue.Memory) ⊎ ((e ≡ RefusalValue.Stopped)
-            ⊎ (first_refusal (link_tests (world_of self.old) (tree_of (P.region self.old.memory) self.old.rows) cpu p q (link_blocks self.old.rows (tree_of (P.region self.old.memory) self.old.rows) p q)) ≡ Option.Some e))) }
+            → IfErr result (IsRefusedBy (first_refusal (link_tests (world_of self.old) (tree_of (P.region self.old.memory) self.old.rows) cpu p q (link_blocks self.old.rows (tree_of (P.region self.old.memory) self.old.rows) p q)))) }
         ensures changed { (names others : List (List ℕ)) → IsPath old.now names → IsPath new.now others
             → OnOk result (SameTree (tree_of (P.region self.new.memory) self.new.rows) (linked names others time (tree_of (P.region self.old.memory) self.old.rows))) }
         // The log of the file and that of the directory have one entry more, and no other log has changed.
         ensures log { (names others : List (List ℕ)) (i d : ℕ) (node : Node) (held : Store) (f h : Held) → IsPath old.now names → IsPath new.now others → LeadsTo (tree_of (P.region self.old.memory) self.old.rows) names i node → walk (tree_of (P.region self.old.memory) self.old.rows) 1 others ≡ Result.Ok d
             → ShowsSound (P.region self.old.memory) self.old.sup held → held i ≡ Option.Some f → held d ≡ Option.Some h
-            → OnOk result (ShowsBothGrew (P.region self.new.memory) self.old.sup held i f (links_entries (node.links + 1) time) d h (name_entries Add i (last_name others) time)) }
+            → OnOk result (ShowsBothGrew (P.region self.new.memory) self.old.sup self.old.free.pools cpu held i f (links_entries (node.links + 1) time) d h (name_entries Add i (last_name others) time)) }
         ensures unchanged { IfErr result (λ e. (e ≡ RefusalValue.Stopped → ⊥) → SameMount self.old self.new) }
         ensures stopped { self.old.stopped ≡ false → (IsTrue self.new.stopped → (result ≡ Result.Err RefusalValue.Stopped) × IsTrue (P.fuse self.new.memory).has_burnt) × (result ≡ Result.Err RefusalValue.Stopped → IsTrue self.new.stopped) }
         ensures keeps { KeepsMount self.old self.new }
+        // The superblock and all journals but that of the CPU are as they were.
+        ensures journals { OnOk result (SameFrontBut self.old.sup.cpus cpu (P.region self.old.memory) (P.region self.new.memory)) }
         ensures settled { OnOk result (NothingPending (P.region self.new.memory) (P.may_hold self.new.memory)) }
         ensures length { size (P.region self.new.memory) ≡ size (P.region self.old.memory) }
         ensures keeps_fuse { KeepsFuse (λ limit. size (P.region self.old.memory) ≤ limit) (P.fuse self.old.memory) (P.fuse self.new.memory) }
@@ -140,7 +142,7 @@ impl<P: Pmem + Drop> Fs<P> {
         ensures read_only { IsTrue self.old.read_only → SameMount self.old self.new }
         // Whatever a stop leaves, at any exit: recovery finds what was mounted, or what the call makes, without faults.
         ensures any_stop { (names others : List (List ℕ)) → IsPath old.now names → IsPath new.now others → self.old.stopped ≡ false → self.old.read_only ≡ false
-            → LeavesOnly (P.region self.new.memory) (P.may_hold self.new.memory) (LeavesCall (makes_link time (Option.Some others)) (logs_link time (Option.Some others)) (P.region self.old.memory) self.old names) }
+            → LeavesOnly (P.region self.new.memory) (P.may_hold self.new.memory) (LeavesCall (makes_link time (Option.Some others)) (logs_link cpu time (Option.Some others)) (P.region self.old.memory) self.old names) }
     {
         self.writable(cpu)?;
         let named = link_for(&self.rows, old, new)?;

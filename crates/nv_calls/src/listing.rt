@@ -1,8 +1,8 @@
 //! `list`: the names of a directory.
 
-ghost use Rattle.std.specs.Prelude.{◌≡◌, ℕ, List, map, ◌⊎◌, IsTrue, IfOk, IfErr, OnOk, Option, Result, false};
+ghost use Rattle.std.specs.Prelude.{◌≡◌, ℕ, List, map, IsTrue, IfOk, IfErr, OnOk, Option, Result, false};
 ghost use Rattle.nv_tree.specs.Path.{IsPath, Says};
-ghost use Rattle.nv_tree.specs.Refusals.{Path, first_refusal, list_tests};
+ghost use Rattle.nv_tree.specs.Refusals.{Path, first_refusal, list_tests, IsReadRefusedBy};
 ghost use Rattle.nv_tree.specs.declared.refusal.Refusal.{Refusal};
 ghost use Rattle.nv_paths.specs.Seen.{tree_of};
 ghost use Rattle.nv_calls.specs.Listing.{name_and_inode, ListsNamesIn};
@@ -25,7 +25,7 @@ impl<P: Pmem + Drop> Fs<P> {
             → IfOk result (λ listed. ListsNamesIn (tree_of (P.region self.now.memory) self.now.rows) names (map name_and_inode listed.items)) }
         ensures allowed { (p : Path) → Says path.now p → OnOk result (first_refusal (list_tests (tree_of (P.region self.now.memory) self.now.rows) p) ≡ Option.None) }
         ensures refused { self.now.stopped ≡ false → (p : Path) → Says path.now p
-            → IfErr result (λ e. (e ≡ Refusal.Memory) ⊎ (first_refusal (list_tests (tree_of (P.region self.now.memory) self.now.rows) p) ≡ Option.Some e)) }
+            → IfErr result (IsReadRefusedBy (first_refusal (list_tests (tree_of (P.region self.now.memory) self.now.rows) p))) }
     {
         let row = self.target(path)?;
         if row.kind == Kind::File {

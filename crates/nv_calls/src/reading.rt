@@ -1,10 +1,10 @@
 //! `read`: the bytes of a file.
 
-ghost use Rattle.std.specs.Prelude.{◌≡◌, ℕ, List, ◌⊎◌, IsTrue, IfOk, IfErr, OnOk, Option, Result, false};
+ghost use Rattle.std.specs.Prelude.{◌≡◌, ℕ, List, IsTrue, IfOk, IfErr, OnOk, Option, Result, false};
 ghost use Rattle.std.specs.List.{Contains};
 ghost use Rattle.nv_tree.specs.Path.{IsPath, Says};
 ghost use Rattle.nv_tree.specs.Calls.{bytes_read};
-ghost use Rattle.nv_tree.specs.Refusals.{Path, first_refusal, read_tests};
+ghost use Rattle.nv_tree.specs.Refusals.{Path, first_refusal, read_tests, IsReadRefusedBy};
 ghost use Rattle.nv_tree.specs.declared.refusal.Refusal.{Refusal};
 ghost use Rattle.nv_paths.specs.Seen.{node_of, tree_of};
 ghost use Rattle.nv_calls.specs.Reading.{IsRead};
@@ -29,7 +29,7 @@ impl<P: Pmem + Drop> Fs<P> {
             → IfOk result (λ bytes. IsRead (tree_of (P.region self.now.memory) self.now.rows) names offset count bytes.items) }
         ensures allowed { (p : Path) → Says path.now p → OnOk result (first_refusal (read_tests (tree_of (P.region self.now.memory) self.now.rows) p) ≡ Option.None) }
         ensures refused { self.now.stopped ≡ false → (p : Path) → Says path.now p
-            → IfErr result (λ e. (e ≡ Refusal.Memory) ⊎ (first_refusal (read_tests (tree_of (P.region self.now.memory) self.now.rows) p) ≡ Option.Some e)) }
+            → IfErr result (IsReadRefusedBy (first_refusal (read_tests (tree_of (P.region self.now.memory) self.now.rows) p))) }
     {
         let row = self.target(path)?;
         if row.kind == Kind::Directory {

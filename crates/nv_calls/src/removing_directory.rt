@@ -1,6 +1,6 @@
 //! `rmdir`: a directory without names goes, and its name.
 
-ghost use Rattle.std.specs.Prelude.{◌≡◌, ◌⊎◌, ◌≤◌, ℕ, List, Option, Result, IsTrue, IfErr, OnOk, false};
+ghost use Rattle.std.specs.Prelude.{◌≡◌, ◌≤◌, ℕ, List, Option, Result, IsTrue, IfErr, OnOk, false};
 ghost use Rattle.nv_region.specs.Region.{size};
 ghost use Rattle.nv_region.specs.Stops.{LeavesOnly, NothingPending};
 ghost use Rattle.nv_region.specs.Fuses.{KeepsFuse};
@@ -10,10 +10,11 @@ ghost use Rattle.nv_held.specs.Mounted.{ShowsSound};
 ghost use Rattle.nv_tree.specs.Path.{IsPath, Says, last_name};
 ghost use Rattle.nv_tree.specs.Tree.{Node, SameTree, walk};
 ghost use Rattle.nv_tree.specs.Calls.{removed};
-ghost use Rattle.nv_tree.specs.Refusals.{Path, first_refusal, rmdir_tests};
+ghost use Rattle.nv_tree.specs.Refusals.{Path, first_refusal, rmdir_tests, IsRefusedBy};
 ghost use Rattle.nv_tree.specs.declared.refusal.Refusal.{Refusal as RefusalValue};
 ghost use Rattle.nv_calls.specs.NameCalls.{name_blocks};
 ghost use Rattle.nv_steps.specs.NameEntries.{name_entries};
+ghost use Rattle.nv_steps.specs.Fronts.{SameFrontBut};
 ghost use Rattle.nv_calls.specs.RemoveCalls.{ShowsRemoved};
 ghost use Rattle.nv_calls.specs.Same.{KeepsMount, SameMount};
 ghost use Rattle.nv_calls.specs.Effects.{logs_removal, makes_removal};
@@ -49,17 +50,18 @@ impl<P: Pmem + Drop> Fs<P> {
         ensures allowed { (p : Path) → Says path.now p
             → OnOk result (first_refusal (rmdir_tests (world_of self.old) (tree_of (P.region self.old.memory) self.old.rows) cpu p (name_blocks self.old.rows (tree_of (P.region self.old.memory) self.old.rows) p)) ≡ Option.None) }
         ensures refused { self.old.stopped ≡ false → (p : Path) → Says path.now p
-            → IfErr result (λ e. (e ≡ RefusalValue.Memory) ⊎ ((e ≡ RefusalValue.Stopped)
-            ⊎ (first_refusal (rmdir_tests (world_of self.old) (tree_of (P.region self.old.memory) self.old.rows) cpu p (name_blocks self.old.rows (tree_of (P.region self.old.memory) self.old.rows) p)) ≡ Option.Some e))) }
+            → IfErr result (IsRefusedBy (first_refusal (rmdir_tests (world_of self.old) (tree_of (P.region self.old.memory) self.old.rows) cpu p (name_blocks self.old.rows (tree_of (P.region self.old.memory) self.old.rows) p)))) }
         ensures changed { (names : List (List ℕ)) → IsPath path.now names
             → OnOk result (SameTree (tree_of (P.region self.new.memory) self.new.rows) (removed names time (tree_of (P.region self.old.memory) self.old.rows))) }
         // The log of the directory in which it stood has one entry more, and no other log has changed.
         ensures log { (names : List (List ℕ)) (i d : ℕ) (node : Node) (held : Store) (h : Held) → IsPath path.now names → LeadsTo (tree_of (P.region self.old.memory) self.old.rows) names i node → walk (tree_of (P.region self.old.memory) self.old.rows) 1 names ≡ Result.Ok d
             → ShowsSound (P.region self.old.memory) self.old.sup held → held d ≡ Option.Some h
-            → OnOk result (ShowsRemoved (P.region self.new.memory) self.old.sup held d h (name_entries Remove i (last_name names) time) i) }
+            → OnOk result (ShowsRemoved (P.region self.new.memory) self.old.sup self.old.free.pools cpu held d h (name_entries Remove i (last_name names) time) i) }
         ensures unchanged { IfErr result (λ e. (e ≡ RefusalValue.Stopped → ⊥) → SameMount self.old self.new) }
         ensures stopped { self.old.stopped ≡ false → (IsTrue self.new.stopped → (result ≡ Result.Err RefusalValue.Stopped) × IsTrue (P.fuse self.new.memory).has_burnt) × (result ≡ Result.Err RefusalValue.Stopped → IsTrue self.new.stopped) }
         ensures keeps { KeepsMount self.old self.new }
+        // The superblock and all journals but that of the CPU are as they were.
+        ensures journals { OnOk result (SameFrontBut self.old.sup.cpus cpu (P.region self.old.memory) (P.region self.new.memory)) }
         ensures settled { OnOk result (NothingPending (P.region self.new.memory) (P.may_hold self.new.memory)) }
         ensures length { size (P.region self.new.memory) ≡ size (P.region self.old.memory) }
         ensures keeps_fuse { KeepsFuse (λ limit. size (P.region self.old.memory) ≤ limit) (P.fuse self.old.memory) (P.fuse self.new.memory) }
@@ -69,7 +71,7 @@ impl<P: Pmem + Drop> Fs<P> {
         ensures read_only { IsTrue self.old.read_only → SameMount self.old self.new }
         // Whatever a stop leaves, at any exit: recovery finds what was mounted, or what the call makes, without faults.
         ensures any_stop { (names : List (List ℕ)) → IsPath path.now names → self.old.stopped ≡ false → self.old.read_only ≡ false
-            → LeavesOnly (P.region self.new.memory) (P.may_hold self.new.memory) (LeavesCall (makes_removal time) (logs_removal time) (P.region self.old.memory) self.old names) }
+            → LeavesOnly (P.region self.new.memory) (P.may_hold self.new.memory) (LeavesCall (makes_removal time) (logs_removal cpu time) (P.region self.old.memory) self.old names) }
     {
         self.writable(cpu)?;
         let named = rmdir_for(&self.rows, path)?;

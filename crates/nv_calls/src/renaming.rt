@@ -1,6 +1,6 @@
 //! `rename`: another name for an inode.
 
-ghost use Rattle.std.specs.Prelude.{◌≡◌, ◌≢◌, ◌⊎◌, ◌+◌, ◌%◌, ◌<◌, ◌≤◌, ℕ, List, Option, Result, IsTrue, IfErr, OnOk, false};
+ghost use Rattle.std.specs.Prelude.{◌≡◌, ◌≢◌, ◌+◌, ◌%◌, ◌<◌, ◌≤◌, ℕ, List, Option, Result, IsTrue, IfErr, OnOk, false};
 ghost use Rattle.nv_super.specs.Layout.{fixed_layout};
 ghost use Rattle.nv_region.specs.Region.{size};
 ghost use Rattle.nv_region.specs.Stops.{LeavesOnly, NothingPending};
@@ -17,7 +17,7 @@ ghost use Rattle.nv_commit.specs.Stopped.{LeavesEither};
 ghost use Rattle.nv_tree.specs.Path.{IsPath, Says, last_name};
 ghost use Rattle.nv_tree.specs.Tree.{Node, SameTree, walk};
 ghost use Rattle.nv_tree.specs.Calls.{renamed};
-ghost use Rattle.nv_tree.specs.Refusals.{Path, first_refusal, rename_tests};
+ghost use Rattle.nv_tree.specs.Refusals.{Path, first_refusal, rename_tests, IsRefusedBy};
 ghost use Rattle.nv_tree.specs.declared.refusal.Refusal.{Refusal as RefusalValue};
 ghost use Rattle.nv_steps.specs.Grown.{StandsRight};
 ghost use Rattle.nv_calls.specs.GrownLogs.{ShowsGrownLog};
@@ -33,6 +33,7 @@ ghost use Rattle.nv_calls.specs.Stopped.{LeavesCall, Renamed};
 ghost use Rattle.nv_steps.specs.Stopped.{MovedOver};
 ghost use Rattle.nv_paths.specs.Seen.{LeadsTo, tree_of};
 ghost use Rattle.nv_steps.specs.Steps.{RefusesStep, ShowsRow};
+ghost use Rattle.nv_steps.specs.Fronts.{SameFrontBut};
 ghost use Rattle.nv_calls.specs.World.{world_of};
 
 use crate::Fs;
@@ -68,7 +69,7 @@ fn move_across<P: Pmem>(
     requires other_stands { (row : RowValue) → row_of rows.old.items moved.now.directory ≡ Option.Some row → StandsRight (P.region memory.old) sup.now free.old row × CanName (P.region memory.old) sup.now cpu row.inode row }
     requires name { IsName moved.now.from.name.now }
     requires other { IsName moved.now.name.now }
-    ensures moved { OnOk result (MovesAcross (P.region memory.old) (P.region memory.new) sup.now free.old free.new rows.old.items rows.new.items (place_in rows.old.items moved.now.from.directory) (place_in rows.old.items moved.now.from.target) (place_in rows.old.items moved.now.directory) moved.now.from.name.now moved.now.name.now time) }
+    ensures moved { OnOk result (MovesAcross (P.region memory.old) (P.region memory.new) sup.now free.old free.new cpu rows.old.items rows.new.items (place_in rows.old.items moved.now.from.directory) (place_in rows.old.items moved.now.from.target) (place_in rows.old.items moved.now.directory) moved.now.from.name.now moved.now.name.now time) }
     ensures enough { (from to inode : RowValue) → row_of rows.old.items moved.now.from.directory ≡ Option.Some from → row_of rows.old.items moved.now.directory ≡ Option.Some to → row_of rows.old.items moved.now.from.target ≡ Option.Some inode → OnOk result (needed (from.tail % 4096) (name_entries Remove inode.inode moved.now.from.name.now time) + needed (to.tail % 4096) (name_entries Add inode.inode moved.now.name.now time) ≤ all_blocks free.old.pools) }
     ensures settled { OnOk result (NothingPending (P.region memory.new) (P.may_hold memory.new)) }
     ensures refused { (from to inode : RowValue) → row_of rows.old.items moved.now.from.directory ≡ Option.Some from → row_of rows.old.items moved.now.directory ≡ Option.Some to → row_of rows.old.items moved.now.from.target ≡ Option.Some inode → IfErr result (λ e. RefusesStep e (needed (from.tail % 4096) (name_entries Remove inode.inode moved.now.from.name.now time) + needed (to.tail % 4096) (name_entries Add inode.inode moved.now.name.now time)) free.old) }
@@ -81,7 +82,7 @@ fn move_across<P: Pmem>(
     // Whatever a stop leaves: recovery finds what is held, or it with the other name, without faults.
     ensures any_stop { (from to inode : RowValue) (held : Store) (h k : Held) → row_of rows.old.items moved.now.from.directory ≡ Option.Some from → row_of rows.old.items moved.now.directory ≡ Option.Some to → row_of rows.old.items moved.now.from.target ≡ Option.Some inode
         → ShowsRow (P.region memory.old) sup.now held h from free.old → ShowsRow (P.region memory.old) sup.now held k to free.old → name_at to.names moved.now.name.now ≡ Option.None → NothingPending (P.region memory.old) (P.may_hold memory.old)
-        → LeavesOnly (P.region memory.new) (P.may_hold memory.new) (LeavesEither (P.region memory.old) (fixed_layout sup.now) held (MovedOver (P.region memory.old) sup.now free.old from to inode.inode moved.now.from.name.now moved.now.name.now time)) }
+        → LeavesOnly (P.region memory.new) (P.may_hold memory.new) (LeavesEither (P.region memory.old) (fixed_layout sup.now) held (MovedOver (P.region memory.old) sup.now free.old cpu from to inode.inode moved.now.from.name.now moved.now.name.now time)) }
 {
     let mut from = rows.lend(alloc, moved.from.directory);
     let mut to = rows.lend(alloc, moved.directory);
@@ -129,7 +130,7 @@ fn move_at<P: Pmem>(
     requires other_stands { (row : RowValue) → row_of rows.old.items moved.now.directory ≡ Option.Some row → StandsRight (P.region memory.old) sup.now free.old row × CanName (P.region memory.old) sup.now cpu row.inode row }
     requires name { IsName moved.now.from.name.now }
     requires other { IsName moved.now.name.now }
-    ensures moved { OnOk result (MovesAt (P.region memory.old) (P.region memory.new) sup.now free.old free.new rows.old.items rows.new.items (place_in rows.old.items moved.now.from.directory) (place_in rows.old.items moved.now.from.target) (place_in rows.old.items moved.now.directory) moved.now.from.name.now moved.now.name.now time) }
+    ensures moved { OnOk result (MovesAt (P.region memory.old) (P.region memory.new) sup.now free.old free.new cpu rows.old.items rows.new.items (place_in rows.old.items moved.now.from.directory) (place_in rows.old.items moved.now.from.target) (place_in rows.old.items moved.now.directory) moved.now.from.name.now moved.now.name.now time) }
     ensures enough { (from to inode : RowValue) → row_of rows.old.items moved.now.from.directory ≡ Option.Some from → row_of rows.old.items moved.now.directory ≡ Option.Some to → row_of rows.old.items moved.now.from.target ≡ Option.Some inode → OnOk result (move_blocks (place_in rows.old.items moved.now.from.directory) (place_in rows.old.items moved.now.directory) from to inode.inode moved.now.from.name.now moved.now.name.now time ≤ all_blocks free.old.pools) }
     ensures settled { OnOk result (NothingPending (P.region memory.new) (P.may_hold memory.new)) }
     ensures refused { (from to inode : RowValue) → row_of rows.old.items moved.now.from.directory ≡ Option.Some from → row_of rows.old.items moved.now.directory ≡ Option.Some to → row_of rows.old.items moved.now.from.target ≡ Option.Some inode → IfErr result (λ e. RefusesStep e (move_blocks (place_in rows.old.items moved.now.from.directory) (place_in rows.old.items moved.now.directory) from to inode.inode moved.now.from.name.now moved.now.name.now time) free.old) }
@@ -142,7 +143,7 @@ fn move_at<P: Pmem>(
     // Whatever a stop leaves: recovery finds what is held, or it with the other name, without faults.
     ensures any_stop { (from to inode : RowValue) (held : Store) (h k : Held) → row_of rows.old.items moved.now.from.directory ≡ Option.Some from → row_of rows.old.items moved.now.directory ≡ Option.Some to → row_of rows.old.items moved.now.from.target ≡ Option.Some inode
         → ShowsRow (P.region memory.old) sup.now held h from free.old → ShowsRow (P.region memory.old) sup.now held k to free.old → name_at to.names moved.now.name.now ≡ Option.None → NothingPending (P.region memory.old) (P.may_hold memory.old)
-        → LeavesOnly (P.region memory.new) (P.may_hold memory.new) (LeavesEither (P.region memory.old) (fixed_layout sup.now) held (Renamed (P.region memory.old) sup.now free.old (place_in rows.old.items moved.now.from.directory) (place_in rows.old.items moved.now.directory) from to inode.inode moved.now.from.name.now moved.now.name.now time)) }
+        → LeavesOnly (P.region memory.new) (P.may_hold memory.new) (LeavesEither (P.region memory.old) (fixed_layout sup.now) held (Renamed (P.region memory.old) sup.now free.old cpu (place_in rows.old.items moved.now.from.directory) (place_in rows.old.items moved.now.directory) from to inode.inode moved.now.from.name.now moved.now.name.now time)) }
 {
     if moved.from.directory != moved.directory {
         return move_across(alloc, memory, sup, free, cpu, rows, moved, time);
@@ -175,21 +176,22 @@ impl<P: Pmem + Drop> Fs<P> {
         ensures allowed { (p q : Path) → Says old.now p → Says new.now q
             → OnOk result (first_refusal (rename_tests (world_of self.old) (tree_of (P.region self.old.memory) self.old.rows) cpu p q (rename_blocks self.old.rows (tree_of (P.region self.old.memory) self.old.rows) p q)) ≡ Option.None) }
         ensures refused { self.old.stopped ≡ false → (p q : Path) → Says old.now p → Says new.now q
-            → IfErr result (λ e. (e ≡ RefusalValue.Memory) ⊎ ((e ≡ RefusalValue.Stopped)
-            ⊎ (first_refusal (rename_tests (world_of self.old) (tree_of (P.region self.old.memory) self.old.rows) cpu p q (rename_blocks self.old.rows (tree_of (P.region self.old.memory) self.old.rows) p q)) ≡ Option.Some e))) }
+            → IfErr result (IsRefusedBy (first_refusal (rename_tests (world_of self.old) (tree_of (P.region self.old.memory) self.old.rows) cpu p q (rename_blocks self.old.rows (tree_of (P.region self.old.memory) self.old.rows) p q)))) }
         ensures changed { (names others : List (List ℕ)) → IsPath old.now names → IsPath new.now others
             → OnOk result (SameTree (tree_of (P.region self.new.memory) self.new.rows) (renamed names others time (tree_of (P.region self.old.memory) self.old.rows))) }
         // The log of each of two directories has one entry more.
         ensures log { (names others : List (List ℕ)) (i d e : ℕ) (node : Node) (held : Store) (h k : Held) → IsPath old.now names → IsPath new.now others → LeadsTo (tree_of (P.region self.old.memory) self.old.rows) names i node → walk (tree_of (P.region self.old.memory) self.old.rows) 1 names ≡ Result.Ok d → walk (tree_of (P.region self.old.memory) self.old.rows) 1 others ≡ Result.Ok e → d ≢ e
             → ShowsSound (P.region self.old.memory) self.old.sup held → held d ≡ Option.Some h → held e ≡ Option.Some k
-            → OnOk result (ShowsBothGrew (P.region self.new.memory) self.old.sup held d h (name_entries Remove i (last_name names) time) e k (name_entries Add i (last_name others) time)) }
+            → OnOk result (ShowsBothGrew (P.region self.new.memory) self.old.sup self.old.free.pools cpu held d h (name_entries Remove i (last_name names) time) e k (name_entries Add i (last_name others) time)) }
         // The log of the only directory has both entries. In both cases no other log has changed.
         ensures within { (names others : List (List ℕ)) (i d : ℕ) (node : Node) (held : Store) (h : Held) → IsPath old.now names → IsPath new.now others → LeadsTo (tree_of (P.region self.old.memory) self.old.rows) names i node → walk (tree_of (P.region self.old.memory) self.old.rows) 1 names ≡ Result.Ok d → walk (tree_of (P.region self.old.memory) self.old.rows) 1 others ≡ Result.Ok d
             → ShowsSound (P.region self.old.memory) self.old.sup held → held d ≡ Option.Some h
-            → OnOk result (ShowsGrownLog (P.region self.new.memory) self.old.sup held d h (move_entries i (last_name names) (last_name others) time)) }
+            → OnOk result (ShowsGrownLog (P.region self.new.memory) self.old.sup self.old.free.pools cpu held d h (move_entries i (last_name names) (last_name others) time)) }
         ensures unchanged { IfErr result (λ e. (e ≡ RefusalValue.Stopped → ⊥) → SameMount self.old self.new) }
         ensures stopped { self.old.stopped ≡ false → (IsTrue self.new.stopped → (result ≡ Result.Err RefusalValue.Stopped) × IsTrue (P.fuse self.new.memory).has_burnt) × (result ≡ Result.Err RefusalValue.Stopped → IsTrue self.new.stopped) }
         ensures keeps { KeepsMount self.old self.new }
+        // The superblock and all journals but that of the CPU are as they were.
+        ensures journals { OnOk result (SameFrontBut self.old.sup.cpus cpu (P.region self.old.memory) (P.region self.new.memory)) }
         ensures settled { OnOk result (NothingPending (P.region self.new.memory) (P.may_hold self.new.memory)) }
         ensures length { size (P.region self.new.memory) ≡ size (P.region self.old.memory) }
         ensures keeps_fuse { KeepsFuse (λ limit. size (P.region self.old.memory) ≤ limit) (P.fuse self.old.memory) (P.fuse self.new.memory) }
@@ -199,7 +201,7 @@ impl<P: Pmem + Drop> Fs<P> {
         ensures read_only { IsTrue self.old.read_only → SameMount self.old self.new }
         // Whatever a stop leaves, at any exit: recovery finds what was mounted, or what the call makes, without faults.
         ensures any_stop { (names others : List (List ℕ)) → IsPath old.now names → IsPath new.now others → self.old.stopped ≡ false → self.old.read_only ≡ false
-            → LeavesOnly (P.region self.new.memory) (P.may_hold self.new.memory) (LeavesCall (makes_rename time (Option.Some others)) (logs_rename time (Option.Some others)) (P.region self.old.memory) self.old names) }
+            → LeavesOnly (P.region self.new.memory) (P.may_hold self.new.memory) (LeavesCall (makes_rename time (Option.Some others)) (logs_rename cpu time (Option.Some others)) (P.region self.old.memory) self.old names) }
     {
         self.writable(cpu)?;
         let moved = rename_for(&self.rows, old, new)?;

@@ -1,6 +1,6 @@
 //! `set_size`: the size of a file.
 
-ghost use Rattle.std.specs.Prelude.{◌≡◌, ◌⊎◌, ◌<◌, ◌≤◌, ◌∷◌, ◌++◌, [], ℕ, List, Option, Result, IsTrue, IfOk, IfErr, OnOk, false};
+ghost use Rattle.std.specs.Prelude.{◌≡◌, ◌<◌, ◌≤◌, ◌∷◌, ◌++◌, [], ℕ, List, Option, Result, IsTrue, IfOk, IfErr, OnOk, false};
 ghost use Rattle.std.specs.Result.{result_err};
 ghost use Rattle.nv_region.specs.Region.{Region, size as bytes_in};
 ghost use Rattle.nv_region.specs.Stops.{LeavesOnly, NothingPending};
@@ -13,7 +13,7 @@ ghost use Rattle.nv_held.specs.Mounted.{ShowsSound};
 ghost use Rattle.nv_tree.specs.Path.{IsPath, Says};
 ghost use Rattle.nv_tree.specs.Tree.{Node, SameTree, is_directory};
 ghost use Rattle.nv_tree.specs.Calls.{resized};
-ghost use Rattle.nv_tree.specs.Refusals.{Path, first_refusal, is_dir, is_too_large, set_size_tests, stat_tests};
+ghost use Rattle.nv_tree.specs.Refusals.{Path, first_refusal, is_dir, is_too_large, set_size_tests, stat_tests, IsRefusedBy};
 ghost use Rattle.nv_tree.specs.declared.refusal.Refusal.{Refusal as RefusalValue};
 ghost use Rattle.nv_calls.specs.Same.{KeepsMount, SameMount};
 ghost use Rattle.nv_calls.specs.Effects.{logs_size, makes_size};
@@ -57,13 +57,12 @@ impl<P: Pmem + Drop> Fs<P> {
         ensures allowed { (p : Path) → Says path.now p
             → OnOk result (first_refusal (set_size_tests (world_of self.old) (tree_of (P.region self.old.memory) self.old.rows) cpu p size (resized_blocks self.old.rows (tree_of (P.region self.old.memory) self.old.rows) p size)) ≡ Option.None) }
         ensures refused { self.old.stopped ≡ false → (p : Path) → Says path.now p
-            → IfErr result (λ e. (e ≡ RefusalValue.Memory) ⊎ ((e ≡ RefusalValue.Stopped)
-            ⊎ (first_refusal (set_size_tests (world_of self.old) (tree_of (P.region self.old.memory) self.old.rows) cpu p size (resized_blocks self.old.rows (tree_of (P.region self.old.memory) self.old.rows) p size)) ≡ Option.Some e))) }
+            → IfErr result (IsRefusedBy (first_refusal (set_size_tests (world_of self.old) (tree_of (P.region self.old.memory) self.old.rows) cpu p size (resized_blocks self.old.rows (tree_of (P.region self.old.memory) self.old.rows) p size)))) }
         ensures changed { (names : List (List ℕ)) → IsPath path.now names
             → OnOk result (SameTree (tree_of (P.region self.new.memory) self.new.rows) (resized names size time (tree_of (P.region self.old.memory) self.old.rows))) }
         // The log of the file has the entries for its size, and no other log has changed.
         ensures log { (names : List (List ℕ)) (i : ℕ) (node : Node) (held : Store) (h : Held) → IsPath path.now names → LeadsTo (tree_of (P.region self.old.memory) self.old.rows) names i node
-            → ShowsSound (P.region self.old.memory) self.old.sup held → held i ≡ Option.Some h → OnOk result (ShowsResizedLog (P.region self.new.memory) self.old.sup held i h node size time) }
+            → ShowsSound (P.region self.old.memory) self.old.sup held → held i ≡ Option.Some h → OnOk result (ShowsResizedLog (P.region self.new.memory) self.old.sup self.old.free.pools cpu held i h node size time) }
         ensures unchanged { IfErr result (λ e. (e ≡ RefusalValue.Stopped → ⊥) → SameMount self.old self.new) }
         ensures stopped { self.old.stopped ≡ false → (IsTrue self.new.stopped → (result ≡ Result.Err RefusalValue.Stopped) × IsTrue (P.fuse self.new.memory).has_burnt) × (result ≡ Result.Err RefusalValue.Stopped → IsTrue self.new.stopped) }
         ensures keeps { KeepsMount self.old self.new }
@@ -76,7 +75,7 @@ impl<P: Pmem + Drop> Fs<P> {
         ensures read_only { IsTrue self.old.read_only → SameMount self.old self.new }
         // Whatever a stop leaves, at any exit: recovery finds what was mounted, or what the call makes, without faults.
         ensures any_stop { (names : List (List ℕ)) → IsPath path.now names → self.old.stopped ≡ false → self.old.read_only ≡ false
-            → LeavesOnly (P.region self.new.memory) (P.may_hold self.new.memory) (LeavesCall (makes_size size time) (logs_size size time) (P.region self.old.memory) self.old names) }
+            → LeavesOnly (P.region self.new.memory) (P.may_hold self.new.memory) (LeavesCall (makes_size size time) (logs_size cpu size time) (P.region self.old.memory) self.old names) }
     {
         self.writable(cpu)?;
         let inode = resizable_at(&self.rows, path, size)?.inode;

@@ -1,6 +1,6 @@
 //! `unlink`: a name of a file less, and with the last one the file.
 
-ghost use Rattle.std.specs.Prelude.{◌≡◌, ◌≢◌, ◌⊎◌, ◌+◌, ◌-◌, ◌%◌, ◌<◌, ◌≤◌, nat_lt, ℕ, List, Option, Result, IsTrue, IfErr, OnOk, false};
+ghost use Rattle.std.specs.Prelude.{◌≡◌, ◌≢◌, ◌+◌, ◌-◌, ◌%◌, ◌<◌, ◌≤◌, nat_lt, ℕ, List, Option, Result, IsTrue, IfErr, OnOk, false};
 ghost use Rattle.nv_super.specs.Layout.{fixed_layout};
 ghost use Rattle.nv_region.specs.Region.{size};
 ghost use Rattle.nv_region.specs.Stops.{LeavesOnly, NothingPending};
@@ -17,7 +17,7 @@ ghost use Rattle.nv_commit.specs.Stopped.{LeavesEither};
 ghost use Rattle.nv_tree.specs.Path.{IsPath, Says, last_name};
 ghost use Rattle.nv_tree.specs.Tree.{Node, SameTree, walk};
 ghost use Rattle.nv_tree.specs.Calls.{unlinked};
-ghost use Rattle.nv_tree.specs.Refusals.{Path, first_refusal, unlink_tests};
+ghost use Rattle.nv_tree.specs.Refusals.{Path, first_refusal, unlink_tests, IsRefusedBy};
 ghost use Rattle.nv_tree.specs.declared.refusal.Refusal.{Refusal as RefusalValue};
 ghost use Rattle.nv_steps.specs.Grown.{StandsRight};
 ghost use Rattle.nv_steps.specs.LessNames.{OwnsBlocks};
@@ -34,6 +34,7 @@ ghost use Rattle.nv_paths.specs.Seen.{LeadsTo, tree_of};
 ghost use Rattle.nv_steps.specs.Steps.{RefusesStep, ShowsRow};
 ghost use Rattle.nv_calls.specs.UnlinkCalls.{unlink_blocks};
 ghost use Rattle.nv_steps.specs.Unlinks.{UnlinksAt};
+ghost use Rattle.nv_steps.specs.Fronts.{SameFrontBut};
 ghost use Rattle.nv_calls.specs.World.{world_of};
 
 use crate::Fs;
@@ -71,7 +72,7 @@ fn unlink_at<P: Pmem>(
     requires stands { (row : RowValue) → row_of rows.old.items named.now.directory ≡ Option.Some row → StandsRight (P.region memory.old) sup.now free.old row × CanName (P.region memory.old) sup.now cpu row.inode row }
     requires file_stands { (file : RowValue) → row_of rows.old.items named.now.target ≡ Option.Some file → StandsRight (P.region memory.old) sup.now free.old file × CanName (P.region memory.old) sup.now cpu file.inode file }
     requires name { IsName named.now.name.now }
-    ensures unlinked { OnOk result (UnlinksAt (P.region memory.old) (P.region memory.new) sup.now free.old free.new rows.old.items rows.new.items (place_in rows.old.items named.now.directory) (place_in rows.old.items named.now.target) named.now.name.now time) }
+    ensures unlinked { OnOk result (UnlinksAt (P.region memory.old) (P.region memory.new) sup.now free.old free.new cpu rows.old.items rows.new.items (place_in rows.old.items named.now.directory) (place_in rows.old.items named.now.target) named.now.name.now time) }
     ensures enough { (row file : RowValue) → row_of rows.old.items named.now.directory ≡ Option.Some row → row_of rows.old.items named.now.target ≡ Option.Some file → OnOk result (needed (row.tail % 4096) (name_entries Remove file.inode named.now.name.now time) + needed (file.tail % 4096) (links_entries (file.numbers.links - 1) time) ≤ all_blocks free.old.pools) }
     ensures settled { OnOk result (NothingPending (P.region memory.new) (P.may_hold memory.new)) }
     ensures refused { (row file : RowValue) → row_of rows.old.items named.now.directory ≡ Option.Some row → row_of rows.old.items named.now.target ≡ Option.Some file → IfErr result (λ e. RefusesStep e (needed (row.tail % 4096) (name_entries Remove file.inode named.now.name.now time) + needed (file.tail % 4096) (links_entries (file.numbers.links - 1) time)) free.old) }
@@ -83,7 +84,7 @@ fn unlink_at<P: Pmem>(
     ensures keeps_fuse { KeepsFuse (λ limit. size (P.region memory.old) ≤ limit) (P.fuse memory.old) (P.fuse memory.new) }
     // Whatever a stop leaves: recovery finds what is held, or it without the name and the link, without faults.
     ensures any_stop { (row file : RowValue) (held : Store) (h f : Held) → row_of rows.old.items named.now.directory ≡ Option.Some row → row_of rows.old.items named.now.target ≡ Option.Some file → ShowsRow (P.region memory.old) sup.now held h row free.old → ShowsRow (P.region memory.old) sup.now held f file free.old → NothingPending (P.region memory.old) (P.may_hold memory.old)
-        → LeavesOnly (P.region memory.new) (P.may_hold memory.new) (LeavesEither (P.region memory.old) (fixed_layout sup.now) held (Unlinked (P.region memory.old) sup.now free.old row file named.now.name.now time)) }
+        → LeavesOnly (P.region memory.new) (P.may_hold memory.new) (LeavesEither (P.region memory.old) (fixed_layout sup.now) held (Unlinked (P.region memory.old) sup.now free.old cpu row file named.now.name.now time)) }
 {
     let mut directory = rows.lend(alloc, named.directory);
     let mut file = rows.lend(alloc, named.target);
@@ -130,7 +131,7 @@ fn release_at<P: Pmem>(
     requires can { (row file : RowValue) → row_of rows.old.items named.now.directory ≡ Option.Some row → row_of rows.old.items named.now.target ≡ Option.Some file → CanName (P.region memory.old) sup.now cpu file.inode row × (row.inode ≢ file.inode) }
     requires owns { (file : RowValue) → row_of rows.old.items named.now.target ≡ Option.Some file → OwnsBlocks free.old file }
     requires name { IsName named.now.name.now }
-    ensures released { OnOk result (Releases (P.region memory.old) (P.region memory.new) sup.now free.old free.new rows.old.items rows.new.items (place_in rows.old.items named.now.directory) (place_in rows.old.items named.now.target) named.now.name.now time) }
+    ensures released { OnOk result (Releases (P.region memory.old) (P.region memory.new) sup.now free.old free.new cpu rows.old.items rows.new.items (place_in rows.old.items named.now.directory) (place_in rows.old.items named.now.target) named.now.name.now time) }
     ensures enough { (row file : RowValue) → row_of rows.old.items named.now.directory ≡ Option.Some row → row_of rows.old.items named.now.target ≡ Option.Some file → OnOk result (release_blocks row file named.now.name.now time ≤ all_blocks free.old.pools) }
     ensures settled { OnOk result (NothingPending (P.region memory.new) (P.may_hold memory.new)) }
     ensures refused { (row file : RowValue) → row_of rows.old.items named.now.directory ≡ Option.Some row → row_of rows.old.items named.now.target ≡ Option.Some file → IfErr result (λ e. RefusesStep e (release_blocks row file named.now.name.now time) free.old) }
@@ -142,7 +143,7 @@ fn release_at<P: Pmem>(
     ensures keeps_fuse { KeepsFuse (λ limit. size (P.region memory.old) ≤ limit) (P.fuse memory.old) (P.fuse memory.new) }
     // Whatever a stop leaves: recovery finds what is held, or it without the name and the link or the file, without faults.
     ensures any_stop { (row file : RowValue) (held : Store) (h f : Held) → row_of rows.old.items named.now.directory ≡ Option.Some row → row_of rows.old.items named.now.target ≡ Option.Some file → ShowsRow (P.region memory.old) sup.now held h row free.old → ShowsRow (P.region memory.old) sup.now held f file free.old → NothingPending (P.region memory.old) (P.may_hold memory.old)
-        → LeavesOnly (P.region memory.new) (P.may_hold memory.new) (LeavesEither (P.region memory.old) (fixed_layout sup.now) held (Released (P.region memory.old) sup.now free.old row file named.now.name.now time)) }
+        → LeavesOnly (P.region memory.new) (P.may_hold memory.new) (LeavesEither (P.region memory.old) (fixed_layout sup.now) held (Released (P.region memory.old) sup.now free.old cpu row file named.now.name.now time)) }
 {
     if has_more_links(rows.row(named.target)) {
         unlink_at(alloc, memory, sup, free, cpu, rows, named, time)
@@ -171,21 +172,22 @@ impl<P: Pmem + Drop> Fs<P> {
         ensures allowed { (p : Path) → Says path.now p
             → OnOk result (first_refusal (unlink_tests (world_of self.old) (tree_of (P.region self.old.memory) self.old.rows) cpu p (unlink_blocks self.old.rows (tree_of (P.region self.old.memory) self.old.rows) p)) ≡ Option.None) }
         ensures refused { self.old.stopped ≡ false → (p : Path) → Says path.now p
-            → IfErr result (λ e. (e ≡ RefusalValue.Memory) ⊎ ((e ≡ RefusalValue.Stopped)
-            ⊎ (first_refusal (unlink_tests (world_of self.old) (tree_of (P.region self.old.memory) self.old.rows) cpu p (unlink_blocks self.old.rows (tree_of (P.region self.old.memory) self.old.rows) p)) ≡ Option.Some e))) }
+            → IfErr result (IsRefusedBy (first_refusal (unlink_tests (world_of self.old) (tree_of (P.region self.old.memory) self.old.rows) cpu p (unlink_blocks self.old.rows (tree_of (P.region self.old.memory) self.old.rows) p)))) }
         ensures changed { (names : List (List ℕ)) → IsPath path.now names
             → OnOk result (SameTree (tree_of (P.region self.new.memory) self.new.rows) (unlinked names time (tree_of (P.region self.old.memory) self.old.rows))) }
         // Where there are more links, the log of the directory and that of the file have one entry more.
         ensures log { (names : List (List ℕ)) (i d : ℕ) (node : Node) (held : Store) (h f : Held) → IsPath path.now names → LeadsTo (tree_of (P.region self.old.memory) self.old.rows) names i node → walk (tree_of (P.region self.old.memory) self.old.rows) 1 names ≡ Result.Ok d
             → ShowsSound (P.region self.old.memory) self.old.sup held → held d ≡ Option.Some h → held i ≡ Option.Some f → 1 < node.links
-            → OnOk result (ShowsBothGrew (P.region self.new.memory) self.old.sup held d h (name_entries Remove i (last_name names) time) i f (links_entries (node.links - 1) time)) }
+            → OnOk result (ShowsBothGrew (P.region self.new.memory) self.old.sup self.old.free.pools cpu held d h (name_entries Remove i (last_name names) time) i f (links_entries (node.links - 1) time)) }
         // With its last name the file goes too. In both cases no other log has changed.
         ensures last { (names : List (List ℕ)) (i d : ℕ) (node : Node) (held : Store) (h : Held) → IsPath path.now names → LeadsTo (tree_of (P.region self.old.memory) self.old.rows) names i node → walk (tree_of (P.region self.old.memory) self.old.rows) 1 names ≡ Result.Ok d
             → ShowsSound (P.region self.old.memory) self.old.sup held → held d ≡ Option.Some h → node.links ≤ 1
-            → OnOk result (ShowsRemoved (P.region self.new.memory) self.old.sup held d h (name_entries Remove i (last_name names) time) i) }
+            → OnOk result (ShowsRemoved (P.region self.new.memory) self.old.sup self.old.free.pools cpu held d h (name_entries Remove i (last_name names) time) i) }
         ensures unchanged { IfErr result (λ e. (e ≡ RefusalValue.Stopped → ⊥) → SameMount self.old self.new) }
         ensures stopped { self.old.stopped ≡ false → (IsTrue self.new.stopped → (result ≡ Result.Err RefusalValue.Stopped) × IsTrue (P.fuse self.new.memory).has_burnt) × (result ≡ Result.Err RefusalValue.Stopped → IsTrue self.new.stopped) }
         ensures keeps { KeepsMount self.old self.new }
+        // The superblock and all journals but that of the CPU are as they were.
+        ensures journals { OnOk result (SameFrontBut self.old.sup.cpus cpu (P.region self.old.memory) (P.region self.new.memory)) }
         ensures settled { OnOk result (NothingPending (P.region self.new.memory) (P.may_hold self.new.memory)) }
         ensures length { size (P.region self.new.memory) ≡ size (P.region self.old.memory) }
         ensures keeps_fuse { KeepsFuse (λ limit. size (P.region self.old.memory) ≤ limit) (P.fuse self.old.memory) (P.fuse self.new.memory) }
@@ -195,7 +197,7 @@ impl<P: Pmem + Drop> Fs<P> {
         ensures read_only { IsTrue self.old.read_only → SameMount self.old self.new }
         // Whatever a stop leaves, at any exit: recovery finds what was mounted, or what the call makes, without faults.
         ensures any_stop { (names : List (List ℕ)) → IsPath path.now names → self.old.stopped ≡ false → self.old.read_only ≡ false
-            → LeavesOnly (P.region self.new.memory) (P.may_hold self.new.memory) (LeavesCall (makes_unlink time) (LogsUnlink time) (P.region self.old.memory) self.old names) }
+            → LeavesOnly (P.region self.new.memory) (P.may_hold self.new.memory) (LeavesCall (makes_unlink time) (LogsUnlink cpu time) (P.region self.old.memory) self.old names) }
     {
         self.writable(cpu)?;
         let named = unlink_for(&self.rows, path)?;

@@ -1,6 +1,6 @@
 //! `write`: new bytes of a file.
 
-ghost use Rattle.std.specs.Prelude.{◌≡◌, ◌⊎◌, ◌<◌, ◌≤◌, ◌+◌, ℕ, List, Option, Result, length, IsTrue, IfErr, OnOk, false};
+ghost use Rattle.std.specs.Prelude.{◌≡◌, ◌<◌, ◌≤◌, ◌+◌, ℕ, List, Option, Result, length, IsTrue, IfErr, OnOk, false};
 ghost use Rattle.nv_region.specs.Region.{size};
 ghost use Rattle.nv_region.specs.Stops.{LeavesOnly, NothingPending};
 ghost use Rattle.nv_region.specs.Fuses.{KeepsFuse};
@@ -11,7 +11,7 @@ ghost use Rattle.nv_held.specs.Mounted.{ShowsSound};
 ghost use Rattle.nv_tree.specs.Path.{IsPath, Says};
 ghost use Rattle.nv_tree.specs.Tree.{Node, SameTree};
 ghost use Rattle.nv_tree.specs.Calls.{written};
-ghost use Rattle.nv_tree.specs.Refusals.{Path, first_refusal, write_tests};
+ghost use Rattle.nv_tree.specs.Refusals.{Path, first_refusal, write_tests, IsRefusedBy};
 ghost use Rattle.nv_tree.specs.declared.refusal.Refusal.{Refusal as RefusalValue};
 ghost use Rattle.nv_steps.specs.Writes.{plan_of};
 ghost use Rattle.nv_calls.specs.Same.{KeepsMount, SameMount};
@@ -64,8 +64,7 @@ impl<P: Pmem + Drop> Fs<P> {
         ensures allowed { (p : Path) (count : ℕ) → Says path.now p → WriteNeeds (P.region self.old.memory) self.old cpu p offset (length bytes.now) time count
             → OnOk result (first_refusal (write_tests (world_of self.old) (tree_of (P.region self.old.memory) self.old.rows) cpu p (offset + length bytes.now) count) ≡ Option.None) }
         ensures refused { self.old.stopped ≡ false → (p : Path) (count : ℕ) → Says path.now p → WriteNeeds (P.region self.old.memory) self.old cpu p offset (length bytes.now) time count
-            → IfErr result (λ e. (e ≡ RefusalValue.Memory) ⊎ ((e ≡ RefusalValue.Stopped)
-            ⊎ (first_refusal (write_tests (world_of self.old) (tree_of (P.region self.old.memory) self.old.rows) cpu p (offset + length bytes.now) count) ≡ Option.Some e))) }
+            → IfErr result (IsRefusedBy (first_refusal (write_tests (world_of self.old) (tree_of (P.region self.old.memory) self.old.rows) cpu p (offset + length bytes.now) count))) }
         ensures changed { (names : List (List ℕ)) → IsPath path.now names
             → OnOk result (SameTree (tree_of (P.region self.new.memory) self.new.rows) (written names offset bytes.now time (tree_of (P.region self.old.memory) self.old.rows))) }
         // The log of the inode has the write's entries more, and no other log has changed.

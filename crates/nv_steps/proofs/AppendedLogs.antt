@@ -17,6 +17,7 @@ use Rattle.nv_held.specs.nv_outcome.Same.{SameRow}
 use Rattle.nv_radix.specs.Pages.{Pages, block_at}
 use Rattle.nv_scan.specs.declared.piece.Row.{Row}
 use Rattle.nv_held.specs.Held.{Held, Store}
+use Rattle.nv_held.proofs.nv_outcome.SuperOf.{layout_of_super}
 use Rattle.nv_commit.specs.declared.together.Extension.{Extension}
 use Rattle.nv_commit.specs.Extends.{with_log}
 use Rattle.nv_commit.specs.Together.{BeforeOrBoth, CanCommit, CanExtendTwo, ShowsIdle, TogetherWords, UndoneShows, with_logs}
@@ -32,6 +33,7 @@ use Rattle.nv_steps.specs.Stopped.{AppendedBoth}
 use Rattle.nv_steps.specs.Taken.{TakesEach}
 use Rattle.nv_steps.proofs.Stopped.{grown_row, grown_row_has}
 use Rattle.nv_steps.proofs.TwoLogs.{as_extension, can_extend_two, cut_each, row_commits, stands_after}
+use Rattle.nv_steps.proofs.OtherJournals.{together_front, undone_front}
 
 -- one entry takes a page at most
 pub needed_one : (offset : ℕ) (es : List Entry) → length es ≡ 1 → needed offset es ≤ 1
@@ -59,7 +61,7 @@ once_still : (old : Row) {mid new : Row} {blocks : List ℕ} {last : ℕ} → Na
 once_still old once grown = (once.0, subst EachOnce (sym grown.names) once.1)
 
 module _ {R : Region} {s : Super} {free after : FreeLists} {first second row other : Row} {cpu : ℕ} {items : List ℕ} {entries others : List Entry} {names more_names : ℕ} (ready : ReadiesRow first row entries names) (other_ready : ReadiesRow second other others more_names)
-    (stands : StandsRight R s free first × CanName R s cpu first.inode first) (other_stands : StandsRight R s free second × CanName R s cpu second.inode second) (taken : TakesEach free items after) (counted : length items ≡ needed (first.tail % 4096) entries + needed (second.tail % 4096) others)
+    (stands : StandsRight R s free first × CanName R s cpu first.inode first) (other_stands : StandsRight R s free second × CanName R s cpu second.inode second) (taken : TakesEach free cpu items after) (counted : length items ≡ needed (first.tail % 4096) entries + needed (second.tail % 4096) others)
     (apart : first.inode ≢ second.inode) (given : AreGiven entries) (more_given : AreGiven others) (some : length entries ≡ 1) (more_some : length others ≡ 1) where
   abbrev n : ℕ
   n = needed (first.tail % 4096) entries
@@ -70,8 +72,8 @@ module _ {R : Region} {s : Super} {free after : FreeLists} {first second row oth
   abbrev more : List ℕ
   more = drop n items
 
-  all : TakesEach free (fresh ++ more) after
-  all = subst (λ (xs : List ℕ). TakesEach free xs after) (sym (take-append-drop n items)) taken
+  all : TakesEach free cpu (fresh ++ more) after
+  all = subst (λ (xs : List ℕ). TakesEach free cpu xs after) (sym (take-append-drop n items)) taken
 
   count : length fresh ≡ n
   count = length-take-le n items (omega (arith, counted))
@@ -79,10 +81,10 @@ module _ {R : Region} {s : Super} {free after : FreeLists} {first second row oth
   more_count : length more ≡ needed (second.tail % 4096) others
   more_count = length-drop n items ∙ omega (arith, counted)
 
-  first_taken : TakesEach free fresh (cut_each fresh more all).0
+  first_taken : TakesEach free cpu fresh (cut_each fresh more all).0
   first_taken = (cut_each fresh more all).1
 
-  more_taken : TakesEach (cut_each fresh more all).0 more after
+  more_taken : TakesEach (cut_each fresh more all).0 cpu more after
   more_taken = (cut_each fresh more all).2
 
   two : StandsRight R s (cut_each fresh more all).0 second
@@ -138,7 +140,7 @@ module _ {R : Region} {s : Super} {free after : FreeLists} {first second row oth
 
     -- Both logs have grown, and both rows, in a region that shows it.
     appends_by : {S : Region} {end last : ℕ} {c d : Row} {bs cs : List ℕ} → bs ≡ fresh → cs ≡ more → end ≡ end_of x.fresh.now 0 x.tail x.entries.now → last ≡ end_of y.fresh.now 0 y.tail y.entries.now → HasGrown row bs end c → HasGrown other cs last d
-        → ((held : Store) (h g : Held) → ShowsRow R s held h first free → ShowsRow R s held g second free → ShowsNamed R S s held (with_log (with_log held first.inode h entries fresh) second.inode g others more)) → AppendsLogs R S s free after (first ∷ second ∷ []) (c ∷ d ∷ []) 0 entries 1 others
+        → ((held : Store) (h g : Held) → ShowsRow R s held h first free → ShowsRow R s held g second free → ShowsNamed R S s cpu held (with_log (with_log held first.inode h entries fresh) second.inode g others more)) → AppendsLogs R S s free after cpu (first ∷ second ∷ []) (c ∷ d ∷ []) 0 entries 1 others
     appends_by {S} {end} {last} {c} {d} {bs} {cs} settled other_settled ends other_ends grown other_grown shows = record {
       first = first;
       second = second;
@@ -162,11 +164,12 @@ module _ {R : Region} {s : Super} {free after : FreeLists} {first second row oth
     }
 
     pub appends_logs : {S : Region} {end last : ℕ} {c d : Row} {bs cs : List ℕ} → bs ≡ fresh → cs ≡ more → end ≡ end_of x.fresh.now 0 x.tail x.entries.now → last ≡ end_of y.fresh.now 0 y.tail y.entries.now → HasGrown row bs end c → HasGrown other cs last d
-        → ((held : Store) (a b : ℕ) (h g : Held) → CanExtendTwo R s held cpu a h x b g y → ShowsIdle S s (with_logs held a h x b g y)) → IsMixed R (TogetherWords cpu x y) S → AppendsLogs R S s free after (first ∷ second ∷ []) (c ∷ d ∷ []) 0 entries 1 others
+        → ((held : Store) (a b : ℕ) (h g : Held) → CanExtendTwo R s held cpu a h x b g y → ShowsIdle S s (with_logs held a h x b g y)) → IsMixed R (TogetherWords cpu x y) S → AppendsLogs R S s free after cpu (first ∷ second ∷ []) (c ∷ d ∷ []) 0 entries 1 others
     appends_logs {S} settled other_settled ends other_ends grown other_grown shows mixed = appends_by settled other_settled ends other_ends grown other_grown
         (λ held h g seen seen_other. record {
           idle = subst (λ (st : Store). ShowsIdle S s st) (λ t. with_log (with_log held first.inode h (es t) (blocks t)) second.inode g (other_es t) (other_blocks t)) (shows held first.inode second.inode h g (extends_two held h g seen seen_other));
           bytes = together_bytes (extends_two held h g seen seen_other) S mixed;
+          front = together_front (extends_two held h g seen seen_other) S mixed;
         })
 
     -- What a stop leaves of both.
@@ -175,7 +178,7 @@ module _ {R : Region} {s : Super} {free after : FreeLists} {first second row oth
       mixed left may = let stored = wrote.mixed in mixed_left R now (TogetherWords cpu x y) old new stored.as_long stored.same_rest settled wrote.adds left may
 
       shows_both : (left : Region) → IsMixed R (TogetherWords cpu x y) left → UndoneShows s (with_logs held first.inode h x second.inode k y) left
-          → (any : Store) (f g : Held) → ShowsRow R s any f first free → ShowsRow R s any g second free → ShowsNamed R (undone s left) s any (with_log (with_log any first.inode f entries fresh) second.inode g others more)
+          → (any : Store) (f g : Held) → ShowsRow R s any f first free → ShowsRow R s any g second free → ShowsNamed R (undone s left) s cpu any (with_log (with_log any first.inode f entries fresh) second.inode g others more)
       shows_both left stored both any f g seen seen_other =
           let a = here.sound in
           let b = seen.sound in
@@ -187,14 +190,15 @@ module _ {R : Region} {s : Super} {free after : FreeLists} {first second row oth
           record {
             idle = subst (λ (st : Store). ShowsIdle (undone s left) s st) (λ t. with_log (with_log (same t) first.inode (one t) (es t) (blocks t)) second.inode (two t) (other_es t) (other_blocks t)) (undone_idle both);
             bytes = undone_files both R (together_bytes (extends_two any f g seen seen_other) left stored);
+            front = undone_front s cpu R left (layout_of_super R s b.sup) b.idle (together_front (extends_two any f g seen seen_other) left stored);
           }
 
-      left_by : (left : Region) → IsMixed R (TogetherWords cpu x y) left → BeforeOrBoth s held first.inode h x second.inode k y left → LeavesEither R (fixed_layout s) held (AppendedBoth R s free first entries second others) left
+      left_by : (left : Region) → IsMixed R (TogetherWords cpu x y) left → BeforeOrBoth s held first.inode h x second.inode k y left → LeavesEither R (fixed_layout s) held (AppendedBoth R s free cpu first entries second others) left
       left_by left stored (inl before) = inl (undone_recovers before R (together_bytes (extends_two held h k here there) left stored) (let sound = here.sound in sound.faultless))
       left_by left stored (inr both) =
           let end = end_of x.fresh.now 0 x.tail x.entries.now in
           let last = end_of y.fresh.now 0 y.tail y.entries.now in
           inr (undone_can both, (after, grown_row row fresh end, grown_row other more last, appends_by refl refl refl refl (grown_row_has row fresh end) (grown_row_has other more last) (shows_both left stored both)))
 
-      pub left_logs : ((a b : ℕ) (f g : Held) → CanExtendTwo R s held cpu a f x b g y → NothingPending R old → LeavesOnly now new (BeforeOrBoth s held a f x b g y)) → LeavesOnly now new (LeavesEither R (fixed_layout s) held (AppendedBoth R s free first entries second others))
+      pub left_logs : ((a b : ℕ) (f g : Held) → CanExtendTwo R s held cpu a f x b g y → NothingPending R old → LeavesOnly now new (BeforeOrBoth s held a f x b g y)) → LeavesOnly now new (LeavesEither R (fixed_layout s) held (AppendedBoth R s free cpu first entries second others))
       left_logs stops left may = left_by left (mixed left may) (stops first.inode second.inode h k (extends_two held h k here there) settled left may)

@@ -40,7 +40,7 @@ has_attributes {row} {mid} {fresh} {end} x {n} grown says size = record {
   names = grown.names;
 }
 
-module _ {R S : Region} {s : Super} {held : Store} {h : Held} {row mid : Row} {free after : FreeLists} (x : AttrEntry) (shows : ShowsRow R s held h row free) (lists : free.sup ≡ s) (a : AppendsLog R S s free after row mid (Attr x ∷ [])) (mode : x.mode ≤ 4095) (size : x.size ≡ row.numbers.size) where
+module _ {R S : Region} {s : Super} {held : Store} {h : Held} {row mid : Row} {free after : FreeLists} {cpu : ℕ} (x : AttrEntry) (shows : ShowsRow R s held h row free) (lists : free.sup ≡ s) (a : AppendsLog R S s free after cpu row mid (Attr x ∷ [])) (mode : x.mode ≤ 4095) (size : x.size ≡ row.numbers.size) where
   abbrev now : Held
   now = extended h (Attr x ∷ []) a.fresh
 
@@ -74,7 +74,7 @@ module _ {R S : Region} {s : Super} {held : Store} {h : Held} {row mid : Row} {f
       }
 
   -- The log has the entry, and the row what it says.
-  pub attributes_follow : LogFollows R S s held h (Attr x ∷ []) row new after
+  pub attributes_follow : LogFollows R S s held h (Attr x ∷ []) free.pools cpu row new after
   attributes_follow =
       let sound = shows.sound in
       let right = sound.faultless in

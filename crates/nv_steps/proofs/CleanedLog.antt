@@ -13,7 +13,7 @@ use Rattle.nv_super.specs.declared.owners.Run.{Run}
 use Rattle.nv_super.specs.Layout.{fixed_layout, slot_address, slot_of, system_blocks}
 use Rattle.nv_alloc.specs.FreeValue.{FreeLists}
 use Rattle.nv_alloc.specs.FreeLists.{CanJoin, Joins}
-use Rattle.nv_alloc.specs.Taking.{HasBlock, pool_at}
+use Rattle.nv_alloc.specs.Taking.{HasBlock, pool_at, block_run}
 use Rattle.nv_radix.specs.Pages.{block_at}
 use Rattle.nv_names.specs.Names.{name_at}
 use Rattle.nv_logpage.specs.Append.{EndBy}
@@ -37,7 +37,6 @@ use Rattle.nv_steps.specs.Grown.{StandsRight}
 use Rattle.nv_steps.specs.LessNames.{AreOwn}
 use Rattle.nv_steps.specs.Steps.{ShowsRow}
 use Rattle.nv_steps.specs.Stopped.{PageLess}
-use Rattle.nv_steps.specs.Taken.{block_run}
 use Rattle.nv_steps.proofs.LogGrows.{slot_there}
 use Rattle.nv_steps.proofs.RowsAt.{same_row}
 use Rattle.nv_steps.proofs.WriteStops.{some_kept}

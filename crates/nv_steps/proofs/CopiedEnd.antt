@@ -16,7 +16,8 @@ use Rattle.nv_super.specs.Layout.{fixed_layout, slot_address}
 use Rattle.nv_super.proofs.Rising.{Contains-cons, Contains-head, Contains-tail}
 use Rattle.nv_alloc.specs.FreeValue.{FreeLists}
 use Rattle.nv_alloc.specs.FreeLists.{Joins}
-use Rattle.nv_alloc.specs.Taking.{HasBlock}
+use Rattle.nv_alloc.specs.Taking.{HasBlock, block_run, TakesSingly}
+use Rattle.nv_alloc.proofs.Singly.{single_is}
 use Rattle.nv_entry.specs.declared.entry.AttrEntry.{AttrEntry}
 use Rattle.nv_entry.specs.declared.entry.WriteEntry.{WriteEntry}
 use Rattle.nv_entry.specs.declared.entry.Entry.{Entry}
@@ -49,14 +50,15 @@ use Rattle.nv_bytes.specs.Storing.{HoldsPage, InBlocks}
 use Rattle.nv_steps.specs.Grown.{HasGrown}
 use Rattle.nv_steps.specs.Sizes.{CanResize, CopiesEnd, Resizes, SameBytes, end_block, resizing}
 use Rattle.nv_steps.specs.Steps.{LogFollows, ShowsRow}
-use Rattle.nv_steps.specs.Taken.{TakesEach, block_run, single_takes}
+use Rattle.nv_steps.specs.Taken.{TakesEach}
 use Rattle.nv_steps.proofs.CutFile.{Settled, file_held, lists_any, maps_below, mode_held, since}
 use Rattle.nv_steps.proofs.SizedEntries.{data_names, data_numbers}
 use Rattle.nv_steps.proofs.DataFollows.{data_bytes, data_follows, data_lists, data_sound}
 use Rattle.nv_steps.proofs.WriteStops.{some_kept}
 use Rattle.nv_steps.proofs.LogGrows.{slot_there}
 use Rattle.nv_steps.proofs.ResizeEntries.{copy_writes, two_end}
-use Rattle.nv_steps.proofs.TakenBlocks.{all_differ, are_free, is_taken, single_is, taken_apart, was_taken}
+use Rattle.nv_steps.proofs.TakenBlocks.{all_differ, are_free, is_taken, taken_apart, was_taken}
+use Rattle.nv_steps.proofs.OneByOne.{single_takes, by_rule, takes_of}
 
 -- What a file that ends in a page with a block, and gets longer, has there.
 pub record EndsIn (m : Pages) (old new from : ℕ) : Type 0 where
@@ -83,8 +85,8 @@ run_of_one p q same = grind (arith, nat_tests)
 pub not_in_run : (p q : ℕ) → (p ≡ q → ⊥) → in_run q 1 p ≡ false
 not_in_run p q differs = grind (arith, nat_tests)
 
-module _ {R S : Region} {s : Super} {free mid : FreeLists} {row grown new : Row} {fresh : List ℕ} (x : AttrEntry) (can : CanResize R s free row x) (from to end : ℕ)
-    (ends : end_block (block_at row.index) row.numbers.size x.size ≡ Some from) (taken : TakesEach free (to ∷ fresh) mid) (enough : length fresh ≡ needed (row.tail % 4096) (resizing row.numbers.size x (Some to)))
+module _ {R S : Region} {s : Super} {free mid : FreeLists} {cpu : ℕ} {row grown new : Row} {fresh : List ℕ} (x : AttrEntry) (can : CanResize R s free row x) (from to end : ℕ)
+    (ends : end_block (block_at row.index) row.numbers.size x.size ≡ Some from) (taken : TakesEach free cpu (to ∷ fresh) mid) (enough : length fresh ≡ needed (row.tail % 4096) (resizing row.numbers.size x (Some to)))
     (copies : CopiesEnd R S from to row.numbers.size (slot_address s row.inode) row.tail (resizing row.numbers.size x (Some to)) fresh)
     (ending : end ≡ end_of fresh 0 row.tail (resizing row.numbers.size x (Some to))) (has_grown : HasGrown row fresh end grown)
     (settled : Settled grown x new) (index : (p : ℕ) → block_at new.index p ≡ cond (in_run (row.numbers.size / 4096) 1 p) (Some (to + (p - row.numbers.size / 4096))) (block_at grown.index p)) where
@@ -97,6 +99,17 @@ module _ {R S : Region} {s : Super} {free mid : FreeLists} {row grown new : Row}
   ending_in : EndsIn row.index row.numbers.size x.size from
   ending_in = ends_in row.index row.numbers.size x.size from ends
 
+  -- what the take of the copied page's block leaves
+  abbrev between : List (List Run)
+  between = (by_rule taken).0
+
+  -- the block is taken first, and then those of the log
+  taken_first : TakesSingly free.pools cpu (to ∷ []) between
+  taken_first = ((by_rule taken).0, (by_rule taken).1, refl)
+
+  taken_then : TakesSingly between cpu fresh mid.pools
+  taken_then = (by_rule taken).2
+
   module _ {held : Store} {h : Held} (shows : ShowsRow R s held h row free) where
     lists : free.sup ≡ s
     lists = let stands = can.stands in stands.lists
@@ -108,7 +121,7 @@ module _ {R S : Region} {s : Super} {free mid : FreeLists} {row grown new : Row}
     to_free = all_free to (Contains-head to fresh)
 
     to_apart : Contains fresh to → ⊥
-    to_apart c = taken_apart taken.from mid to fresh taken.takes c
+    to_apart c = taken_apart taken.from mid to fresh (takes_of taken) c
 
     tails : row.tail ≡ h.tail
     tails = let told = shows.told in told.tail
@@ -230,10 +243,10 @@ module _ {R S : Region} {s : Super} {free mid : FreeLists} {row grown new : Row}
         let from_same = taken.same in
         let kept_lists = shows.lists in
         data_lists entries x.size count shows stored extends moved copies.extends writes taken.from mid after (single_takes (to ∷ fresh)) (block_run from ∷ [])
-        (subst (λ (pools : List (List Run)). KeepsFree (fixed_layout s) held pools) (sym from_same.pools) kept_lists) (from_same.sup ∙ lists) taken.takes (after, joins, refl) (omega arith) took gave
+        (subst (λ (pools : List (List Run)). KeepsFree (fixed_layout s) held pools) (sym from_same.pools) kept_lists) (from_same.sup ∙ lists) (takes_of taken) (after, joins, refl) (omega arith) took gave
 
-    pub copy_follows : (after : FreeLists) → KeepsFree (fixed_layout s) (with_log held row.inode h entries fresh) after.pools → LogFollows R S s held h entries row new after
-    copy_follows after lists_then = let has = settled.has in data_follows entries x.size count shows stored extends moved copies.extends writes new after (has.inode ∙ has_grown.inode) told_now lists_then
+    pub copy_follows : (after : FreeLists) → KeepsFree (fixed_layout s) (with_log held row.inode h entries fresh) after.pools → LogFollows R S s held h entries between cpu row new after
+    copy_follows after lists_then = let has = settled.has in data_follows entries x.size count shows stored extends moved copies.extends writes between mid.pools cpu taken_then new after (has.inode ∙ has_grown.inode) told_now lists_then
 
     -- ---- the bytes
 
@@ -289,10 +302,12 @@ module _ {R S : Region} {s : Super} {free mid : FreeLists} {row grown new : Row}
       zeros y past differs (Some b) at = absurd (let begins = maps_below x can shows (y / 4096) b at in omega (arith, begins, past, differs))
 
   -- What the call makes of the file.
-  pub copy_resizes : {after : FreeLists} → Joins mid (block_run from) after → Resizes R S s free row x new after
+  pub copy_resizes : {after : FreeLists} → Joins mid (block_run from) after → Resizes R S s free cpu row x new after
   copy_resizes {after} joins = record {
     to = Some to;
     copied = ap is_some (sym ends);
+    between = between;
+    taken = taken_first;
     numbers = since has_grown settled.has;
     fresh = λ held h shows b at. subst (IsUnowned (fixed_layout s) held) (same_Some to b at) (to_free shows);
     follows = λ held h shows. copy_follows shows after (lists_now shows joins);
@@ -300,7 +315,7 @@ module _ {R S : Region} {s : Super} {free mid : FreeLists} {row grown new : Row}
   }
 
   -- There are free lists for it, whatever was given back.
-  pub copy_some : {held : Store} {h : Held} → ShowsRow R s held h row free → (after : FreeLists) × Resizes R S s free row x new after × (after.sup ≡ free.sup)
+  pub copy_some : {held : Store} {h : Held} → ShowsRow R s held h row free → (after : FreeLists) × Resizes R S s free cpu row x new after × (after.sup ≡ free.sup)
   copy_some {held} {h} shows =
       let w = some_kept (data_sound entries x.size (count shows) shows (stored shows) (extends shows) (moved shows) copies.extends (writes shows)) in
       let keeps = w.2 in (
@@ -308,6 +323,8 @@ module _ {R S : Region} {s : Super} {free mid : FreeLists} {row grown new : Row}
         record {
           to = Some to;
           copied = ap is_some (sym ends);
+          between = between;
+          taken = taken_first;
           numbers = since has_grown settled.has;
           fresh = λ st g seen b at. subst (IsUnowned (fixed_layout s) st) (same_Some to b at) (to_free seen);
           follows = λ st g seen. copy_follows seen (record free { pools = w.1 }) (lists_any shows seen entries fresh w.1 keeps.in_lists);

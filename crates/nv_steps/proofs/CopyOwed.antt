@@ -8,6 +8,7 @@ use Rattle.nv_super.specs.declared.superblock.Super.{Super}
 use Rattle.nv_super.proofs.Rising.{Contains-head, Contains-tail}
 use Rattle.nv_alloc.specs.FreeValue.{FreeLists}
 use Rattle.nv_alloc.specs.FreeLists.{CanJoin}
+use Rattle.nv_alloc.specs.Taking.{block_run}
 use Rattle.nv_entry.specs.declared.entry.AttrEntry.{AttrEntry}
 use Rattle.nv_entry.specs.declared.entry.Entry.{Entry}
 use Rattle.nv_logpage.specs.Append.{AreGiven, CanAppend, EndBy, end_of, needed}
@@ -15,7 +16,7 @@ use Rattle.nv_radix.specs.Pages.{Pages, block_at, is_ready}
 use Rattle.nv_scan.specs.declared.numbers.Numbers.{Numbers}
 use Rattle.nv_scan.specs.declared.piece.Row.{Row}
 use Rattle.nv_steps.specs.Sizes.{CanResize, CopiesEnd, HasSize, end_block}
-use Rattle.nv_steps.specs.Taken.{TakesEach, block_run}
+use Rattle.nv_steps.specs.Taken.{TakesEach}
 use Rattle.nv_steps.proofs.CopiedEnd.{ends_in}
 use Rattle.nv_steps.proofs.GivenPages.{gives_none, next_joins, own_taken}
 use Rattle.nv_steps.proofs.TakenBlocks.{differ_rest, differ_with, each_in_data, each_was_free}
@@ -28,7 +29,7 @@ mapped_ready (y ∷ m) p b at = by (y.0 == p) (mapped_ready m p b) at where
   by true rest at = refl
   by false rest at = rest at
 
-module _ {R : Region} {s : Super} {free mid : FreeLists} {row : Row} {x : AttrEntry} {to : ℕ} {fresh : List ℕ} (can : CanResize R s free row x) (taken : TakesEach free (to ∷ fresh) mid) where
+module _ {R : Region} {s : Super} {free mid : FreeLists} {cpu : ℕ} {row : Row} {x : AttrEntry} {to : ℕ} {fresh : List ℕ} (can : CanResize R s free row x) (taken : TakesEach free cpu (to ∷ fresh) mid) where
   data_end : (b : ℕ) → Contains (to ∷ fresh) b → b * 4096 + 4096 ≤ size R
   data_end b c =
       let stands = can.stands in

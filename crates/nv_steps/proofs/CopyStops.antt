@@ -110,7 +110,7 @@ module _ {R : Region} {s : Super} {held : Store} {inode : ℕ} {h : Held} {slot 
         }),
       )
 
-module _ {R : Region} {s : Super} {free mid : FreeLists} {row : Row} {fresh : List ℕ} (x : AttrEntry) (can : CanResize R s free row x) (from to : ℕ) (ends : end_block (block_at row.index) row.numbers.size x.size ≡ Some from) (taken : TakesEach free (to ∷ fresh) mid)
+module _ {R : Region} {s : Super} {free mid : FreeLists} {cpu : ℕ} {row : Row} {fresh : List ℕ} (x : AttrEntry) (can : CanResize R s free row x) (from to : ℕ) (ends : end_block (block_at row.index) row.numbers.size x.size ≡ Some from) (taken : TakesEach free cpu (to ∷ fresh) mid)
     (enough : length fresh ≡ needed (row.tail % 4096) (resizing row.numbers.size x (Some to))) {held : Store} {h : Held} (shows : ShowsRow R s held h row free) where
   abbrev entries : List Entry
   entries = resizing row.numbers.size x (Some to)
@@ -131,7 +131,7 @@ module _ {R : Region} {s : Super} {free mid : FreeLists} {row : Row} {fresh : Li
     some = omega arith;
   }
 
-  copied_by : (left : Region) → LeavesEither R (fixed_layout s) held (λ S. CopiesEnd R S from to row.numbers.size (slot_address s row.inode) row.tail entries fresh) left → LeavesEither R (fixed_layout s) held (Resized R s free row x) left
+  copied_by : (left : Region) → LeavesEither R (fixed_layout s) held (λ S. CopiesEnd R S from to row.numbers.size (slot_address s row.inode) row.tail entries fresh) left → LeavesEither R (fixed_layout s) held (Resized R s free cpu row x) left
   copied_by left (inl same) = inl same
   copied_by left (inr w) =
       let end = end_of fresh 0 row.tail entries in
@@ -144,7 +144,7 @@ module _ {R : Region} {s : Super} {free mid : FreeLists} {row : Row} {fresh : Li
   -- What a stop leaves of the size, by what it leaves of the page and the log.
   pub left_copied : {slot : ℕ} {es : List Entry} {given : List ℕ} → slot ≡ slot_address s row.inode → es ≡ entries → given ≡ fresh → (now : Region) (last : Choices)
       → (CanExtend R s held row.inode h slot row.tail es given → IsUnowned (fixed_layout s) held to → LeavesOnly now last (LeavesEither R (fixed_layout s) held (λ S. CopiesEnd R S from to row.numbers.size slot row.tail es given)))
-      → LeavesOnly now last (LeavesEither R (fixed_layout s) held (Resized R s free row x))
+      → LeavesOnly now last (LeavesEither R (fixed_layout s) held (Resized R s free cpu row x))
   left_copied {slot} {es} {given} at same_entries same_pages now last stops left may =
       let can_there : CanExtend R s held row.inode h slot row.tail es given =
       subst (λ (a : ℕ). CanExtend R s held row.inode h a row.tail es given) (sym at)

@@ -14,7 +14,7 @@ use Rattle.nv_super.specs.Layout.{fixed_layout, slot_address, system_blocks}
 use Rattle.nv_super.proofs.Members.{none_in}
 use Rattle.nv_alloc.specs.FreeValue.{FreeLists}
 use Rattle.nv_alloc.specs.FreeLists.{SameLists}
-use Rattle.nv_alloc.specs.Taking.{HasBlock, pool_at}
+use Rattle.nv_alloc.specs.Taking.{HasBlock, pool_at, TakesSingly}
 use Rattle.nv_entry.specs.declared.entry.AttrEntry.{AttrEntry}
 use Rattle.nv_entry.specs.declared.entry.Entry.{Entry}
 use Rattle.nv_entry.specs.declared.entry.Entry.TheVariants.{Attr}
@@ -41,7 +41,7 @@ use Rattle.nv_steps.specs.Given.{GivesPages, MapsOwn}
 use Rattle.nv_steps.specs.Grown.{HasGrown, StandsRight}
 use Rattle.nv_steps.specs.Sizes.{CanResize, HasSize, Resizes, SameBytes, end_block}
 use Rattle.nv_steps.specs.Steps.{AppendsLog, LogFollows, ShowsRow}
-use Rattle.nv_steps.specs.Taken.{SamePools, single_takes}
+use Rattle.nv_steps.specs.Taken.{SamePools}
 use Rattle.nv_steps.proofs.AttrEntries.{attr_writes, one_ends}
 use Rattle.nv_steps.proofs.SizedEntries.{data_names, data_numbers}
 use Rattle.nv_steps.specs.Stopped.{Appended, Resized}
@@ -51,6 +51,7 @@ use Rattle.nv_steps.proofs.GivenPages.{own_taken}
 use Rattle.nv_steps.proofs.LogGrows.{can_extend, count_held, pages_now}
 use Rattle.nv_steps.proofs.ResizeEntries.{file_attr, small_mode}
 use Rattle.nv_steps.proofs.TakenBlocks.{is_taken, was_taken}
+use Rattle.nv_steps.proofs.OneByOne.{single_takes, by_rule, takes_of}
 
 -- ---- pages and sizes
 
@@ -137,9 +138,13 @@ lists_any {s = s} {row = row} {held = held} {st = st} {h = h} {g = g} shows seen
 
 -- ---- the file
 
-module _ {R S : Region} {s : Super} {free reserved mid : FreeLists} {row grown new : Row} (x : AttrEntry) (can : CanResize R s free row x) (stays : end_block (block_at row.index) row.numbers.size x.size ≡ None)
-    (same : SamePools free reserved) (a : AppendsLog R S s reserved mid row grown (Attr x ∷ []))
+module _ {R S : Region} {s : Super} {free reserved mid : FreeLists} {cpu : ℕ} {row grown new : Row} (x : AttrEntry) (can : CanResize R s free row x) (stays : end_block (block_at row.index) row.numbers.size x.size ≡ None)
+    (same : SamePools free reserved) (a : AppendsLog R S s reserved mid cpu row grown (Attr x ∷ []))
     (settled : Settled grown x new) (index : (p : ℕ) → block_at new.index p ≡ cond (nat_le (div_ceil x.size 4096) p) None (block_at grown.index p)) where
+  -- the log's blocks are taken one by one from the pools before
+  taken_singly : TakesSingly free.pools cpu a.fresh mid.pools
+  taken_singly = subst (λ (pools : List (List Run)). TakesSingly pools cpu a.fresh mid.pools) same.pools (by_rule a.taken)
+
   module _ {held : Store} {h : Held} (shows : ShowsRow R s held h row free) where
     with_room : ShowsRow R s held h row reserved
     with_room = shows_with x can shows same
@@ -217,11 +222,11 @@ module _ {R S : Region} {s : Super} {free reserved mid : FreeLists} {row grown n
         let from_same = taken.same in
         let kept_lists = with_room.lists in
         data_lists (Attr x ∷ []) x.size count shows (mixed_same R (Loose (fixed_layout s) held)) extends moved a.mixed writes taken.from mid after (single_takes a.fresh) given.runs
-        (subst (λ (pools : List (List Run)). KeepsFree (fixed_layout s) held pools) (sym from_same.pools) kept_lists) (from_same.sup ∙ lists) taken.takes given.joined (omega arith) took (gave given)
+        (subst (λ (pools : List (List Run)). KeepsFree (fixed_layout s) held pools) (sym from_same.pools) kept_lists) (from_same.sup ∙ lists) (takes_of taken) given.joined (omega arith) took (gave given)
 
-    pub cut_follows : (after : FreeLists) → KeepsFree (fixed_layout s) (with_log held row.inode h (Attr x ∷ []) a.fresh) after.pools → LogFollows R S s held h (Attr x ∷ []) row new after
+    pub cut_follows : (after : FreeLists) → KeepsFree (fixed_layout s) (with_log held row.inode h (Attr x ∷ []) a.fresh) after.pools → LogFollows R S s held h (Attr x ∷ []) free.pools cpu row new after
     cut_follows after lists_then = (let has = settled.has in let row_grown = a.row in
-        data_follows (Attr x ∷ []) x.size count shows (mixed_same R (Loose (fixed_layout s) held)) extends moved a.mixed writes new after (has.inode ∙ row_grown.inode) told_now lists_then)
+        data_follows (Attr x ∷ []) x.size count shows (mixed_same R (Loose (fixed_layout s) held)) extends moved a.mixed writes free.pools mid.pools cpu taken_singly new after (has.inode ∙ row_grown.inode) told_now lists_then)
 
     -- a byte at the old end or behind it is zero
     zeros : (y : ℕ) → y < x.size → row.numbers.size ≤ y → (o : Option ℕ) → block_at row.index (y / 4096) ≡ o → byte_in R o y ≡ 0
@@ -250,10 +255,12 @@ module _ {R S : Region} {s : Super} {free reserved mid : FreeLists} {row grown n
         ])
 
   -- What the call makes of the file.
-  pub cut_resizes : {after : FreeLists} → GivesPages mid grown.index (div_ceil x.size 4096) (div_ceil row.numbers.size 4096) after → Resizes R S s free row x new after
+  pub cut_resizes : {after : FreeLists} → GivesPages mid grown.index (div_ceil x.size 4096) (div_ceil row.numbers.size 4096) after → Resizes R S s free cpu row x new after
   cut_resizes {after} given = record {
     to = None;
     copied = ap is_some (sym stays);
+    between = free.pools;
+    taken = refl;
     numbers = (let row_grown = a.row in since row_grown settled.has);
     fresh = λ held h shows b at. absurd (none-some b at);
     follows = λ held h shows. cut_follows shows after (lists_now shows given);
@@ -261,7 +268,7 @@ module _ {R S : Region} {s : Super} {free reserved mid : FreeLists} {row grown n
   }
 
   -- There are free lists for it, whatever was given back.
-  pub cut_some : {held : Store} {h : Held} → ShowsRow R s held h row free → (after : FreeLists) × Resizes R S s free row x new after × (after.sup ≡ free.sup)
+  pub cut_some : {held : Store} {h : Held} → ShowsRow R s held h row free → (after : FreeLists) × Resizes R S s free cpu row x new after × (after.sup ≡ free.sup)
   cut_some {held} {h} shows =
       let w = some_kept (data_sound (Attr x ∷ []) x.size (count shows) shows (mixed_same R (Loose (fixed_layout s) held)) (extends shows) (moved shows) a.mixed (writes shows)) in
       let keeps = w.2 in (
@@ -269,6 +276,8 @@ module _ {R S : Region} {s : Super} {free reserved mid : FreeLists} {row grown n
         record {
           to = None;
           copied = ap is_some (sym stays);
+          between = free.pools;
+          taken = refl;
           numbers = (let row_grown = a.row in since row_grown settled.has);
           fresh = λ st g seen b at. absurd (none-some b at);
           follows = λ st g seen. cut_follows seen (record free { pools = w.1 }) (lists_any shows seen (Attr x ∷ []) a.fresh w.1 keeps.in_lists);
@@ -295,12 +304,12 @@ stands_with {R} {s} {free} {reserved} {row} same stands = record {
 }
 
 -- The blocks of its pages are in use once its log has grown.
-pub own_grown : {R S : Region} {s : Super} {free reserved mid : FreeLists} {row grown : Row} {entries : List Entry} → SameLists free reserved → AppendsLog R S s reserved mid row grown entries → MapsOwn free row.index → MapsOwn mid grown.index
-own_grown {R} {S} {s} {free} {reserved} {mid} {row} {grown} same a own =
+pub own_grown : {R S : Region} {s : Super} {free reserved mid : FreeLists} {cpu : ℕ} {row grown : Row} {entries : List Entry} → SameLists free reserved → AppendsLog R S s reserved mid cpu row grown entries → MapsOwn free row.index → MapsOwn mid grown.index
+own_grown {R} {S} {s} {free} {reserved} {mid} {cpu} {row} {grown} same a own =
     let row_grown = a.row in
     subst (λ (m : Pages). MapsOwn mid m) (sym row_grown.index) (own_taken a.taken (record {
       in_data = λ p b at. subst (λ (t : Super). (system_blocks t ≤ b) × (b < t.blocks)) (sym same.sup) (own.in_data p b at);
-      used = λ p b cpu at there. own.used p b cpu at (subst (λ (pools : List (List Run)). HasBlock (pool_at pools cpu) b) same.pools there);
+      used = λ p b c at there. own.used p b c at (subst (λ (pools : List (List Run)). HasBlock (pool_at pools c) b) same.pools there);
       once = own.once;
     }))
 
@@ -337,10 +346,10 @@ pub sized_settled : (grown : Row) (x : AttrEntry) (index : Pages) → Settled gr
 sized_settled grown x index = record { has = record { inode = refl; kind = refl; size = refl; mode = refl; owner = refl; group = refl; links = refl; time = refl; names = refl }; head = refl; tail = refl; pages = refl }
 
 -- What a stop leaves of a size, by what it leaves of the log.
-pub left_sized : {R : Region} {s : Super} {free reserved : FreeLists} {row : Row} (x : AttrEntry) (can : CanResize R s free row x) (stays : end_block (block_at row.index) row.numbers.size x.size ≡ None) (same : SamePools free reserved) {held : Store} {h : Held} (shows : ShowsRow R s held h row free)
-    → (left : Region) → LeavesEither R (fixed_layout s) held (Appended R s reserved row (Attr x ∷ [])) left → LeavesEither R (fixed_layout s) held (Resized R s free row x) left
+pub left_sized : {R : Region} {s : Super} {free reserved : FreeLists} {cpu : ℕ} {row : Row} (x : AttrEntry) (can : CanResize R s free row x) (stays : end_block (block_at row.index) row.numbers.size x.size ≡ None) (same : SamePools free reserved) {held : Store} {h : Held} (shows : ShowsRow R s held h row free)
+    → (left : Region) → LeavesEither R (fixed_layout s) held (Appended R s reserved cpu row (Attr x ∷ [])) left → LeavesEither R (fixed_layout s) held (Resized R s free cpu row x) left
 left_sized x can stays same shows left (inl was) = inl was
-left_sized {R} {s} {free} {reserved} {row} x can stays same shows left (inr w) =
+left_sized {R} {s} {free} {reserved} {cpu} {row} x can stays same shows left (inr w) =
     let made = w.1 in
     let grown = made.1 in
     let first = div_ceil x.size 4096 in

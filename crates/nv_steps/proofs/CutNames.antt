@@ -39,6 +39,8 @@ use Rattle.nv_steps.specs.Taken.{TakesEach}
 use Rattle.nv_steps.proofs.LessName.{found_without, once_without, without}
 use Rattle.nv_steps.proofs.LogGrows.{can_extend, stores_within_region}
 use Rattle.nv_steps.proofs.TwoLogs.{as_extension, row_commits}
+use Rattle.nv_steps.specs.Fronts.{SameFrontBut}
+use Rattle.nv_steps.proofs.OtherJournals.{removed_front, undone_front}
 
 -- a row that was made ready and then settled
 lost_after : {old mid new : Row} {fresh others : List ℕ} {end last : ℕ} (name : List ℕ) (time : ℕ) → SameRow old mid → HasLost mid fresh end name time new → fresh ≡ others → end ≡ last → HasLost old others last name time new
@@ -69,7 +71,7 @@ lost_row_has old mid fresh end name time same = record {
   names = λ q. found_without old.names.names name q ∙ ap (λ (o : Option (ℕ × ℕ)). cond (pointwise nat_eq q name) None o) (sym (same.names q));
 }
 
-module _ {R : Region} {s : Super} {free after : FreeLists} {old mid : Row} {cpu j : ℕ} {fresh : List ℕ} (stands : StandsRight R s free old) (can : CanName R s cpu j old) (taken : TakesEach free fresh after) (name : List ℕ) (time : ℕ)
+module _ {R : Region} {s : Super} {free after : FreeLists} {old mid : Row} {cpu j : ℕ} {fresh : List ℕ} (stands : StandsRight R s free old) (can : CanName R s cpu j old) (taken : TakesEach free cpu fresh after) (name : List ℕ) (time : ℕ)
     (count : length fresh ≡ needed (old.tail % 4096) (name_entries Remove j name time)) (same : SameRow old mid) where
   abbrev entries : List Entry
   entries = name_entries Remove j name time
@@ -122,8 +124,9 @@ module _ {R : Region} {s : Super} {free after : FreeLists} {old mid : Row} {cpu 
 
     cuts_name_by : {S : Region} {new : Row} (gone end : ℕ) (bs : List ℕ) → gone ≡ slot_address s j → old.inode ≢ j → bs ≡ fresh → end ≡ end_of x.fresh.now 0 x.tail x.entries.now → HasLost mid bs end name time new → EachOnce old.names → EachOnce new.names
         → ((held : Store) (h : Held) → CanRemove R s held cpu mid.inode h x j gone → ShowsIdle S s (with_removed held mid.inode h x j))
-        → ((held : Store) (h : Held) → CanRemove R s held cpu mid.inode h x j gone → (i : ℕ) (g : Held) → held i ≡ Some g → (y : ℕ) → byte_of S (fixed_layout s) g y ≡ byte_of R (fixed_layout s) g y) → CutsName R S s free after old new j time name
-    cuts_name_by {S} {new} gone end bs there differ others ends lost once once_now shows bytes = record {
+        → ((held : Store) (h : Held) → CanRemove R s held cpu mid.inode h x j gone → (i : ℕ) (g : Held) → held i ≡ Some g → (y : ℕ) → byte_of S (fixed_layout s) g y ≡ byte_of R (fixed_layout s) g y)
+        → ((held : Store) (h : Held) → CanRemove R s held cpu mid.inode h x j gone → SameFrontBut s.cpus cpu R S) → CutsName R S s free after cpu old new j time name
+    cuts_name_by {S} {new} gone end bs there differ others ends lost once once_now shows bytes front = record {
       fresh = fresh;
       taken = taken;
       count = count;
@@ -133,12 +136,13 @@ module _ {R : Region} {s : Super} {free after : FreeLists} {old mid : Row} {cpu 
       shows = λ held h seen. record {
         idle = subst (λ (st : Store). ShowsIdle S s st) (store_as held old.inode h) (subst (λ (d : ℕ). ShowsIdle S s (with_removed held d h x j)) same.inode (shows held h (can_remove gone there differ held h seen)));
         bytes = bytes held h (can_remove gone there differ held h seen);
+        front = front held h (can_remove gone there differ held h seen);
       };
     }
 
     pub cuts_name : {S : Region} {new : Row} (gone end : ℕ) (bs : List ℕ) → gone ≡ slot_address s j → old.inode ≢ j → bs ≡ fresh → end ≡ end_of x.fresh.now 0 x.tail x.entries.now → HasLost mid bs end name time new → EachOnce old.names → EachOnce new.names
-        → ((held : Store) (h : Held) → CanRemove R s held cpu mid.inode h x j gone → ShowsIdle S s (with_removed held mid.inode h x j)) → IsMixed R (RemoveWords cpu x gone) S → CutsName R S s free after old new j time name
-    cuts_name {S} gone end bs there differ others ends lost once once_now shows mixed = cuts_name_by gone end bs there differ others ends lost once once_now shows (λ held h can. removed_bytes can S mixed)
+        → ((held : Store) (h : Held) → CanRemove R s held cpu mid.inode h x j gone → ShowsIdle S s (with_removed held mid.inode h x j)) → IsMixed R (RemoveWords cpu x gone) S → CutsName R S s free after cpu old new j time name
+    cuts_name {S} gone end bs there differ others ends lost once once_now shows mixed = cuts_name_by gone end bs there differ others ends lost once once_now shows (λ held h can. removed_bytes can S mixed) (λ held h can. removed_front can S mixed)
 
     -- What a stop leaves: the row that the directory would have is as it was but for the name, the time and the log.
     module _ (gone : ℕ) (there : gone ≡ slot_address s j) (differ : old.inode ≢ j) {held : Store} {h : Held} (shows : ShowsRow R s held h old free) (once : EachOnce old.names) (now : Region) (first_may last_may : Choices) (wrote : StoresOnly (RemoveWords cpu x gone) R now first_may last_may) (settled : NothingPending R first_may) where
@@ -161,7 +165,10 @@ module _ {R : Region} {s : Super} {free after : FreeLists} {old mid : Row} {cpu 
       any_bytes : (left : Region) → IsMixed R (RemoveWords cpu x gone) left → (other : Store) (g : Held) → CanRemove R s other cpu mid.inode g x j gone → (i : ℕ) (f : Held) → other i ≡ Some f → (y : ℕ) → byte_of (undone s left) (fixed_layout s) f y ≡ byte_of R (fixed_layout s) f y
       any_bytes left stored other g here i f is y = let parent = here.parent in let sound = parent.sound in undone_bytes s left f (layout_of_super R s sound.sup) y ∙ removed_bytes here left stored i f is y
 
-      cut_by : (left : Region) → IsMixed R (RemoveWords cpu x gone) left → BeforeOrRemoved s held mid.inode h x j left → LeavesEither R (fixed_layout s) held (Cut R s free old j time name) left
+      any_front : (left : Region) → IsMixed R (RemoveWords cpu x gone) left → (other : Store) (g : Held) → CanRemove R s other cpu mid.inode g x j gone → SameFrontBut s.cpus cpu R (undone s left)
+      any_front left stored other g here = let parent = here.parent in let sound = parent.sound in undone_front s cpu R left (layout_of_super R s sound.sup) sound.idle (removed_front here left stored)
+
+      cut_by : (left : Region) → IsMixed R (RemoveWords cpu x gone) left → BeforeOrRemoved s held mid.inode h x j left → LeavesEither R (fixed_layout s) held (Cut R s free cpu old j time name) left
       cut_by left stored (inl w) = inl (undone_recovers w R (removed_bytes removes left stored) (let sound = shows.sound in sound.faultless))
       cut_by left stored (inr w) =
           let end = end_of x.fresh.now 0 x.tail x.entries.now in
@@ -170,11 +177,11 @@ module _ {R : Region} {s : Super} {free after : FreeLists} {old mid : Row} {cpu 
             (
               after,
               lost_row old mid fresh end name time,
-              cuts_name_by {S = undone s left} gone end fresh there differ refl refl (lost_row_has old mid fresh end name time same) once (once_without old.names.names name once) (any_idle left w) (any_bytes left stored),
+              cuts_name_by {S = undone s left} gone end fresh there differ refl refl (lost_row_has old mid fresh end name time same) once (once_without old.names.names name once) (any_idle left w) (any_bytes left stored) (any_front left stored),
             ),
           )
 
-      pub left_cut : (CanRemove R s held cpu mid.inode h x j gone → NothingPending R first_may → LeavesOnly now last_may (BeforeOrRemoved s held mid.inode h x j)) → LeavesOnly now last_may (LeavesEither R (fixed_layout s) held (Cut R s free old j time name))
+      pub left_cut : (CanRemove R s held cpu mid.inode h x j gone → NothingPending R first_may → LeavesOnly now last_may (BeforeOrRemoved s held mid.inode h x j)) → LeavesOnly now last_may (LeavesEither R (fixed_layout s) held (Cut R s free cpu old j time name))
       left_cut stops left may = cut_by left (mixed left may) (stops removes settled left may)
 
   -- Memory that is open past the region is open past all that is stored.

@@ -8,7 +8,7 @@ use Rattle.nv_super.specs.declared.owners.Run.{Run}
 use Rattle.nv_super.specs.Runs.{InRun}
 use Rattle.nv_super.proofs.Rising.{Contains-cons, Contains-head, Contains-tail}
 use Rattle.nv_super.proofs.Members.{none_in}
-use Rattle.nv_alloc.specs.Taking.{Disjoint, HasBlock, blocks_in, left}
+use Rattle.nv_alloc.specs.Taking.{Disjoint, HasBlock, blocks_in, left, block_run}
 use Rattle.nv_alloc.proofs.Fronts.{blocks_cons}
 use Rattle.nv_alloc.proofs.Leaving.{block_cases, block_left, block_right, block_sides, disjoint_append, first_block, later_block}
 use Rattle.nv_entry.specs.declared.entry.WriteEntry.{WriteEntry}
@@ -16,7 +16,6 @@ use Rattle.nv_entry.specs.declared.entry.Entry.{Entry}
 use Rattle.nv_entry.specs.declared.entry.Entry.TheVariants.{Write}
 use Rattle.nv_logpage.specs.Append.{AreGiven}
 use Rattle.nv_held.specs.Writes.{blocks_in_entry, pages_in_entry}
-use Rattle.nv_steps.specs.Taken.{block_run}
 use Rattle.nv_steps.specs.Writes.{data_blocks, data_entries, ended_entries, run_entries}
 use Rattle.nv_steps.specs.Written.{entry_blocks, entry_pages}
 use Rattle.nv_steps.specs.declared.planning.Plan.{Plan}

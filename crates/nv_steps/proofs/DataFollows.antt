@@ -8,7 +8,7 @@ use Rattle.nv_super.specs.declared.owners.Run.{Run}
 use Rattle.nv_super.specs.Layout.{fixed_layout, slot_address}
 use Rattle.nv_alloc.specs.FreeValue.{FreeLists}
 use Rattle.nv_alloc.specs.FreeLists.{JoinAll}
-use Rattle.nv_alloc.specs.Taking.{HasBlock}
+use Rattle.nv_alloc.specs.Taking.{HasBlock, TakesSingly}
 use Rattle.nv_entry.specs.declared.entry.Entry.{Entry}
 use Rattle.nv_logpage.specs.declared.found.Placed.{Placed}
 use Rattle.nv_logpage.specs.Append.{appended, end_of, needed}
@@ -81,9 +81,9 @@ module _ {R M S : Region} {s : Super} {held : Store} {h : Held} {row : Row} {fre
   data_bytes = bytes
 
   -- The log has grown, and its row and the free lists are what is said of them.
-  pub data_follows : (new : Row) (after : FreeLists) → new.inode ≡ row.inode → KeepsRow (fixed_layout s) (extended h entries fresh) new
-      → KeepsFree (fixed_layout s) (with_log held row.inode h entries fresh) after.pools → LogFollows R S s held h entries row new after
-  data_follows new after same told lists = record { fresh = fresh; blocks = can.free; count = count; sound = sound; told = told; inode = same; lists = lists; bytes = bytes }
+  pub data_follows : (pools rest : List (List Run)) (cpu : ℕ) → TakesSingly pools cpu fresh rest → (new : Row) (after : FreeLists) → new.inode ≡ row.inode → KeepsRow (fixed_layout s) (extended h entries fresh) new
+      → KeepsFree (fixed_layout s) (with_log held row.inode h entries fresh) after.pools → LogFollows R S s held h entries pools cpu row new after
+  data_follows pools rest cpu taken new after same told lists = record { fresh = fresh; rest = rest; taken = taken; blocks = can.free; count = count; sound = sound; told = told; inode = same; lists = lists; bytes = bytes }
 
   -- The free lists once the blocks that were written and the log's pages were taken, and the blocks that the file let go given back.
   pub data_lists : (from mid after : FreeLists) (takes : List (List Run)) (runs : List Run) → KeepsFree (fixed_layout s) held from.pools → from.sup ≡ s → TakeAll from takes mid → JoinAll mid runs after → 0 < length more

@@ -11,7 +11,7 @@ use Rattle.nv_super.proofs.Members.{none_in}
 use Rattle.nv_super.proofs.Rising.{Contains-cons, Contains-tail}
 use Rattle.nv_alloc.specs.FreeValue.{FreeLists}
 use Rattle.nv_alloc.specs.FreeLists.{CanJoin, Joins}
-use Rattle.nv_alloc.specs.Taking.{Disjoint, HasBlock}
+use Rattle.nv_alloc.specs.Taking.{Disjoint, HasBlock, block_run}
 use Rattle.nv_alloc.proofs.Leaving.{first_block, later_block}
 use Rattle.nv_alloc.proofs.Sound.{joins_from}
 use Rattle.nv_entry.specs.declared.entry.WriteEntry.{WriteEntry}
@@ -19,7 +19,6 @@ use Rattle.nv_entry.specs.declared.entry.Entry.{Entry}
 use Rattle.nv_entry.specs.declared.entry.Entry.TheVariants.{Write}
 use Rattle.nv_radix.specs.Pages.{Pages, block_at, in_run, is_ready}
 use Rattle.nv_held.proofs.DataGrows.{in_run_from}
-use Rattle.nv_steps.specs.Taken.{block_run}
 use Rattle.nv_steps.specs.Writes.{CanGive, page_blocks}
 use Rattle.nv_steps.specs.Written.{AreSettled, MapsEntries, entry_pages}
 use Rattle.nv_steps.proofs.StoredEntries.{no_pages, some_write}

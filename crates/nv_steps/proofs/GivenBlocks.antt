@@ -12,16 +12,15 @@ use Rattle.nv_super.proofs.Members.{none_in}
 use Rattle.nv_super.proofs.Rising.{Contains-cons, Contains-head, Contains-tail}
 use Rattle.nv_alloc.specs.FreeValue.{FreeLists}
 use Rattle.nv_alloc.specs.FreeLists.{CanJoin, JoinAll, Joins}
-use Rattle.nv_alloc.specs.Taking.{HasBlock}
+use Rattle.nv_alloc.specs.Taking.{HasBlock, block_run}
 use Rattle.nv_alloc.proofs.Leaving.{block_left, block_right, block_sides}
+use Rattle.nv_alloc.proofs.Singly.{block_is}
 use Rattle.nv_radix.specs.Pages.{block_at}
 use Rattle.nv_scan.specs.declared.piece.Row.{Row}
 use Rattle.nv_steps.specs.Given.{GivesPages, MapsOwn}
 use Rattle.nv_steps.specs.LessNames.{AreOwn, GivesBlocks, GivesRow, OwnsBlocks}
-use Rattle.nv_steps.specs.Taken.{block_run}
 use Rattle.nv_steps.proofs.CutFile.{before_end}
 use Rattle.nv_steps.proofs.GivenPages.{joined_from, joined_more, joined_sup}
-use Rattle.nv_steps.proofs.TakenBlocks.{block_is}
 
 -- ---- blocks as runs
 

@@ -9,13 +9,14 @@ use Rattle.nv_super.proofs.Members.{none_in}
 use Rattle.nv_super.proofs.Rising.{Contains-cons, Contains-head, Contains-tail}
 use Rattle.nv_alloc.specs.FreeValue.{FreeLists}
 use Rattle.nv_alloc.specs.FreeLists.{CanJoin, IsFreeIn, JoinAll, Joins, SameLists}
-use Rattle.nv_alloc.specs.Taking.{HasBlock, pool_at}
+use Rattle.nv_alloc.specs.Taking.{HasBlock, pool_at, block_run}
 use Rattle.nv_alloc.proofs.Sound.{free_within}
+use Rattle.nv_alloc.proofs.Singly.{block_is}
 use Rattle.nv_radix.specs.Pages.{Pages, block_at}
-use Rattle.nv_held.specs.Lists.{TakeAll}
 use Rattle.nv_steps.specs.Given.{GivesBlock, GivesPages, MapsOwn}
-use Rattle.nv_steps.specs.Taken.{TakesEach, block_run, single_takes}
-use Rattle.nv_steps.proofs.TakenBlocks.{block_is, stays_free, taken_sup}
+use Rattle.nv_steps.specs.Taken.{TakesEach, TakesInTurn}
+use Rattle.nv_steps.proofs.TakenBlocks.{stays_free, taken_sup}
+use Rattle.nv_steps.proofs.OneByOne.{takes_of}
 
 -- ---- runs given back
 
@@ -124,14 +125,14 @@ gives_end {old} {now} {m} {first} {page} {end} given past (inr none) = record {
 -- ---- the index of a row
 
 -- what is free once blocks were taken was free
-pub was_free : {old new : FreeLists} {fresh : List ℕ} → TakesEach old fresh new → (cpu b : ℕ) → IsFreeIn new cpu b → IsFreeIn old cpu b
-was_free {old} {new} {fresh} taken cpu b there = subst (λ (pools : List (List Run)). HasBlock (pool_at pools cpu) b) taken.same.pools (stays_free taken.from new fresh taken.takes cpu b there)
+pub was_free : {old new : FreeLists} {cpu : ℕ} {fresh : List ℕ} → TakesEach old cpu fresh new → (c b : ℕ) → IsFreeIn new c b → IsFreeIn old c b
+was_free {old} {new} {cpu} {fresh} taken c b there = subst (λ (pools : List (List Run)). HasBlock (pool_at pools c) b) taken.same.pools (stays_free taken.from new fresh (takes_of taken) c b there)
 
 -- The blocks of an index are in use also once others were taken.
-pub own_taken : {old new : FreeLists} {fresh : List ℕ} {m : Pages} → TakesEach old fresh new → MapsOwn old m → MapsOwn new m
-own_taken {old} {new} {fresh} {m} taken own = record {
+pub own_taken : {old new : FreeLists} {cpu : ℕ} {fresh : List ℕ} {m : Pages} → TakesEach old cpu fresh new → MapsOwn old m → MapsOwn new m
+own_taken {old} {new} {cpu} {fresh} {m} taken own = record {
   in_data = λ p b at. subst (λ (s : Super). (system_blocks s ≤ b) × (b < s.blocks)) (sym (taken_sup taken)) (own.in_data p b at);
-  used = λ p b cpu at there. own.used p b cpu at (was_free taken cpu b there);
+  used = λ p b c at there. own.used p b c at (was_free taken c b there);
   once = own.once;
 }
 
@@ -140,11 +141,11 @@ first_of [] a rest some at is = absurd (omega (arith, some))
 first_of (x ∷ xs) a rest some at is = ap (λ (y : ℕ). y ∷ xs) (sym at) ∙ ap (λ (ys : List ℕ). a ∷ ys) (sym is)
 
 -- Blocks that were taken once there was more room, the first of them by itself.
-pub first_taken : {old from new : FreeLists} {blocks rest : List ℕ} {a : ℕ} → SameLists old from → TakesEach from blocks new → 0 < length blocks → a ≡ get_or blocks 0 a → rest ≡ remove blocks 0 → TakesEach old (a ∷ rest) new
-first_taken {old} {from} {new} {blocks} {rest} {a} same taken some at is =
+pub first_taken : {old from new : FreeLists} {cpu : ℕ} {blocks rest : List ℕ} {a : ℕ} → SameLists old from → TakesEach from cpu blocks new → 0 < length blocks → a ≡ get_or blocks 0 a → rest ≡ remove blocks 0 → TakesEach old cpu (a ∷ rest) new
+first_taken {old} {from} {new} {cpu} {blocks} {rest} {a} same taken some at is =
     let there = taken.same in record {
       from = taken.from;
       same = record { sup = there.sup ∙ same.sup; pools = there.pools ∙ same.pools };
       sound = taken.sound;
-      takes = subst (λ (xs : List ℕ). TakeAll taken.from (single_takes xs) new) (first_of blocks a rest some at is) taken.takes;
+      each = subst (λ (xs : List ℕ). TakesInTurn taken.from cpu xs new) (first_of blocks a rest some at is) taken.each;
     }

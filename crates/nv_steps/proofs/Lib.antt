@@ -1,6 +1,7 @@
 pub mod CleanedLog
 pub mod RowOf
 pub mod Refusals
+pub mod OneByOne
 pub mod Singles
 pub mod TakenBlocks
 pub mod LogGrows
@@ -42,6 +43,7 @@ pub mod NamedLogs
 pub mod MadeNamed
 pub mod SetRows
 pub mod TwoLogs
+pub mod OtherJournals
 pub mod AppendedLogs
 pub mod LinksEntries
 pub mod LinkedAt

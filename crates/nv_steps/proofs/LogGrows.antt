@@ -35,13 +35,14 @@ use Rattle.nv_steps.specs.Grown.{HasGrown, StandsRight}
 use Rattle.nv_steps.specs.Steps.{AppendsLog, LogFollows, ShowsRow}
 use Rattle.nv_steps.specs.Taken.{TakesEach}
 use Rattle.nv_steps.proofs.TakenBlocks.{all_differ, are_free, differ_with, each_in_data, lists_without}
+use Rattle.nv_steps.proofs.OneByOne.{by_rule}
 
 -- ---- what is owed
 
 -- Entries can be written behind the tail of a row's log.
-pub can_append : {R : Region} {s : Super} {free after : FreeLists} {row : Row} {fresh : List ℕ} (entries : List Entry) → StandsRight R s free row → TakesEach free fresh after → length fresh ≡ needed (row.tail % 4096) entries → AreGiven entries
+pub can_append : {R : Region} {s : Super} {free after : FreeLists} {cpu : ℕ} {row : Row} {fresh : List ℕ} (entries : List Entry) → StandsRight R s free row → TakesEach free cpu fresh after → length fresh ≡ needed (row.tail % 4096) entries → AreGiven entries
     → CanAppend R row.tail entries fresh
-can_append {R} {s} {free} {after} {row} {fresh} entries stands taken count given = record {
+can_append {R} {s} {free} {after} {cpu} {row} {fresh} entries stands taken count given = record {
   whole = stands.aligned;
   offset = stands.offset;
   given = given;
@@ -62,8 +63,8 @@ can_append {R} {s} {free} {after} {row} {fresh} entries stands taken count given
 pub slot_there : {R : Region} {s : Super} {held : Store} (i : ℕ) (h : Held) → Shows R (fixed_layout s) held → held i ≡ Some h → slot_of (fixed_layout s) i ≡ Some (slot_address s i)
 slot_there {R} {s} {held} i h shows is = let v = stands_at shows i h is in v.at ∙ ap (λ (a : ℕ). Some a) (slot_is s i v.a v.at).is
 
-module _ {R : Region} {s : Super} {held : Store} {h : Held} {row : Row} {free after : FreeLists} {fresh : List ℕ} (entries : List Entry)
-    (shows : ShowsRow R s held h row free) (lists : free.sup ≡ s) (taken : TakesEach free fresh after) (count : length fresh ≡ needed (row.tail % 4096) entries) (given : AreGiven entries) (some : 0 < length entries) where
+module _ {R : Region} {s : Super} {held : Store} {h : Held} {row : Row} {free after : FreeLists} {cpu : ℕ} {fresh : List ℕ} (entries : List Entry)
+    (shows : ShowsRow R s held h row free) (lists : free.sup ≡ s) (taken : TakesEach free cpu fresh after) (count : length fresh ≡ needed (row.tail % 4096) entries) (given : AreGiven entries) (some : 0 < length entries) where
   l : Layout
   l = fixed_layout s
 
@@ -133,8 +134,8 @@ module _ {R S : Region} {s : Super} {held : Store} {i : ℕ} {h : Held} {slot ta
 
 -- ---- where names and blocks stay
 
-module _ {R S : Region} {s : Super} {held : Store} {h : Held} {row : Row} {free after : FreeLists} {fresh : List ℕ} (entries : List Entry)
-    (shows : ShowsRow R s held h row free) (lists : free.sup ≡ s) (taken : TakesEach free fresh after) (count : length fresh ≡ needed (row.tail % 4096) entries) (given : AreGiven entries) (some : 0 < length entries)
+module _ {R S : Region} {s : Super} {held : Store} {h : Held} {row : Row} {free after : FreeLists} {cpu : ℕ} {fresh : List ℕ} (entries : List Entry)
+    (shows : ShowsRow R s held h row free) (lists : free.sup ≡ s) (taken : TakesEach free cpu fresh after) (count : length fresh ≡ needed (row.tail % 4096) entries) (given : AreGiven entries) (some : 0 < length entries)
     (moved : ShowsMoved R s (with_log held row.inode h entries fresh) S) (mixed : IsMixed R (ExtendWords (slot_address s row.inode) row.tail entries fresh) S)
     (names : SameNames (fixed_layout s) h (extended h entries fresh)) (file : SameFile (fixed_layout s) h (extended h entries fresh))
     (clean : NoEntryFault s h.kind row.inode (extended h entries fresh).entries) where
@@ -152,9 +153,11 @@ module _ {R S : Region} {s : Super} {held : Store} {h : Held} {row : Row} {free 
   sound = sound_moves R S s held (with_log held row.inode h entries fresh) shows.sound moved.front moved.shows faultless
 
   -- The log has grown, and nothing else has changed.
-  pub log_follows : (new : Row) → new.inode ≡ row.inode → KeepsRow (fixed_layout s) (extended h entries fresh) new → LogFollows R S s held h entries row new after
+  pub log_follows : (new : Row) → new.inode ≡ row.inode → KeepsRow (fixed_layout s) (extended h entries fresh) new → LogFollows R S s held h entries free.pools cpu row new after
   log_follows new same kept = record {
     fresh = fresh;
+    rest = after.pools;
+    taken = by_rule taken;
     blocks = fresh_free entries shows lists taken count given some;
     count = count_held entries shows lists taken count given some;
     sound = sound;
@@ -168,11 +171,11 @@ module _ {R S : Region} {s : Super} {held : Store} {h : Held} {row : Row} {free 
 -- ---- what an appended log is made of
 
 -- An extension of a log that was prepared, and its row settled.
-pub appends_log : {R S : Region} {s : Super} {free after : FreeLists} {old new : Row} (entries : List Entry) (fresh given : List ℕ) (slot end : ℕ) → given ≡ fresh → slot ≡ slot_address s old.inode → TakesEach free fresh after → length fresh ≡ needed (old.tail % 4096) entries
+pub appends_log : {R S : Region} {s : Super} {free after : FreeLists} {cpu : ℕ} {old new : Row} (entries : List Entry) (fresh given : List ℕ) (slot end : ℕ) → given ≡ fresh → slot ≡ slot_address s old.inode → TakesEach free cpu fresh after → length fresh ≡ needed (old.tail % 4096) entries
     → end ≡ end_of given 0 old.tail entries → HasGrown old fresh end new
     → ((held : Store) (h : Held) → CanExtend R s held old.inode h slot old.tail entries given → ShowsMoved R s (with_log held old.inode h entries given) S) → IsMixed R (ExtendWords slot old.tail entries given) S
-    → AppendsLog R S s free after old new entries
-appends_log {R} {S} {s} {free} {after} {old} {new} entries fresh given slot end same at taken count ends grown shows mixed = record {
+    → AppendsLog R S s free after cpu old new entries
+appends_log {R} {S} {s} {free} {after} {cpu} {old} {new} entries fresh given slot end same at taken count ends grown shows mixed = record {
   fresh = fresh;
   taken = taken;
   count = count;
@@ -183,9 +186,9 @@ appends_log {R} {S} {s} {free} {after} {old} {new} entries fresh given slot end 
 }
 
 -- Memory that is open past the region is open past all that is stored.
-pub stores_within_region : {R : Region} {s : Super} {free after : FreeLists} {row : Row} {fresh : List ℕ} (entries : List Entry) (given : List ℕ) (slot : ℕ) → StandsRight R s free row → TakesEach free fresh after → length fresh ≡ needed (row.tail % 4096) entries → AreGiven entries → given ≡ fresh → slot ≡ slot_address s row.inode
+pub stores_within_region : {R : Region} {s : Super} {free after : FreeLists} {cpu : ℕ} {row : Row} {fresh : List ℕ} (entries : List Entry) (given : List ℕ) (slot : ℕ) → StandsRight R s free row → TakesEach free cpu fresh after → length fresh ≡ needed (row.tail % 4096) entries → AreGiven entries → given ≡ fresh → slot ≡ slot_address s row.inode
     → (limit : ℕ) → size R ≤ limit → EndBy (row.tail / 4096 ∷ given) limit × (slot + 32 ≤ limit)
-stores_within_region {R} {s} {free} {after} {row} {fresh} entries given slot stands taken count allowed same at limit past = (
+stores_within_region {R} {s} {free} {after} {cpu} {row} {fresh} entries given slot stands taken count allowed same at limit past = (
   subst (λ (blocks : List ℕ). EndBy (row.tail / 4096 ∷ blocks) limit) (sym same) (λ j below. (let can = can_append entries stands taken count allowed in let inside = can.inside j below in omega (arith, inside, past))),
   (let inside = stands.inside in omega (arith, inside, at, past)),
 )

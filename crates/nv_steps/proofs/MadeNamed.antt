@@ -40,6 +40,8 @@ use Rattle.nv_steps.specs.Steps.{ShowsRow}
 use Rattle.nv_steps.specs.Stopped.{Named}
 use Rattle.nv_steps.specs.Taken.{TakesEach}
 use Rattle.nv_steps.proofs.NewLogs.{can_begin, can_commit, can_make, first_append, second_append, slot_inside}
+use Rattle.nv_steps.specs.Fronts.{SameFrontBut}
+use Rattle.nv_steps.proofs.OtherJournals.{made_front, undone_front}
 
 -- ---- rows that a stop keeps from being settled
 
@@ -132,7 +134,7 @@ named_after {old} {mid} {new} {fresh} {others} {end} {last} {place} {spot} name 
 pub new_row_as : {p page t tail : ℕ} {row : Row} (j : ℕ) (kind : Kind) (mode time : ℕ) → p ≡ page → t ≡ tail → IsNewRow j kind mode time p t row → IsNewRow j kind mode time page tail row
 new_row_as {p} {page} {t} {tail} {row} j kind mode time same ends is = subst (λ (m : ℕ). IsNewRow j kind mode time page m row) ends (subst (λ (m : ℕ). IsNewRow j kind mode time m t row) same is)
 
-module _ {R : Region} {s : Super} {free after : FreeLists} {old mid : Row} {cpu j : ℕ} {items : List ℕ} (stands : StandsRight R s free old) (can : CanName R s cpu j old) (taken : TakesEach free items after) (name : List ℕ) (time : ℕ)
+module _ {R : Region} {s : Super} {free after : FreeLists} {old mid : Row} {cpu j : ℕ} {items : List ℕ} (stands : StandsRight R s free old) (can : CanName R s cpu j old) (taken : TakesEach free cpu items after) (name : List ℕ) (time : ℕ)
     (counted : length items ≡ 1 + needed (old.tail % 4096) (name_entries Add j name time)) (same : SameRow old mid) where
   abbrev entries : List Entry
   entries = name_entries Add j name time
@@ -146,8 +148,8 @@ module _ {R : Region} {s : Super} {free after : FreeLists} {old mid : Row} {cpu 
   all : items ≡ page ∷ fresh
   all = cut_first items (needed (old.tail % 4096) entries) 0 counted
 
-  both_taken : TakesEach free (page ∷ fresh) after
-  both_taken = subst (λ (xs : List ℕ). TakesEach free xs after) all taken
+  both_taken : TakesEach free cpu (page ∷ fresh) after
+  both_taken = subst (λ (xs : List ℕ). TakesEach free cpu xs after) all taken
 
   count : length fresh ≡ needed (old.tail % 4096) entries
   count = others_count items (needed (old.tail % 4096) entries) counted
@@ -173,8 +175,9 @@ module _ {R : Region} {s : Super} {free after : FreeLists} {old mid : Row} {cpu 
           → EachOnce old.names → EachOnce new.names → first_page ≡ page → IsNewRow j kind mode time first_page tail_now row
           → ((held : Store) (h : Held) → CanMake R s held cpu j n mid.inode h x → ShowsIdle S s (with_made held j n mid.inode h x))
           → ((held : Store) (h : Held) → CanMake R s held cpu j n mid.inode h x → (i : ℕ) (g : Held) → held i ≡ Some g → (y : ℕ) → byte_of S (fixed_layout s) g y ≡ byte_of R (fixed_layout s) g y)
-          → MakesNamed R S s free after old new kind mode time j name row
-      makes_named_by {S} {new} {row} end tail_now place first_page bs others tails ends named at once once_now paged made shows bytes = record {
+          → ((held : Store) (h : Held) → CanMake R s held cpu j n mid.inode h x → SameFrontBut s.cpus cpu R S)
+          → MakesNamed R S s free after cpu old new kind mode time j name row
+      makes_named_by {S} {new} {row} end tail_now place first_page bs others tails ends named at once once_now paged made shows bytes front = record {
         page = page;
         fresh = fresh;
         taken = both_taken;
@@ -186,19 +189,20 @@ module _ {R : Region} {s : Super} {free after : FreeLists} {old mid : Row} {cpu 
         shows = λ held h seen unused. record {
           idle = subst (λ (st : Store). ShowsIdle S s st) (made_store held n x kind mode time j old.inode h name page fresh of_kind created page_is first more blocks) (subst (λ (d : ℕ). ShowsIdle S s (with_made held j n d h x)) same.inode (shows held h (can_make_it held h seen unused)));
           bytes = bytes held h (can_make_it held h seen unused);
+          front = front held h (can_make_it held h seen unused);
         };
       }
 
       pub makes_named : {S : Region} {new row : Row} (end tail_now place first_page : ℕ) (bs : List ℕ) → bs ≡ fresh → tail_now ≡ tail_of n → end ≡ end_of x.fresh.now 0 x.tail x.entries.now → HasNamed mid bs end name j place time new → place ≡ place_named fresh old.tail j name time
           → EachOnce old.names → EachOnce new.names → first_page ≡ page → IsNewRow j kind mode time first_page tail_now row
           → ((held : Store) (h : Held) → CanMake R s held cpu j n mid.inode h x → ShowsIdle S s (with_made held j n mid.inode h x)) → IsMixed R (MakeWords cpu n x) S
-          → MakesNamed R S s free after old new kind mode time j name row
+          → MakesNamed R S s free after cpu old new kind mode time j name row
       makes_named {S} end tail_now place first_page bs others tails ends named at once once_now paged made shows mixed =
-          makes_named_by end tail_now place first_page bs others tails ends named at once once_now paged made shows (λ held h can. made_bytes can S mixed)
+          makes_named_by end tail_now place first_page bs others tails ends named at once once_now paged made shows (λ held h can. made_bytes can S mixed) (λ held h can. made_front can S mixed)
 
       -- What a stop leaves: the row that the directory would have is as it was but for the name, the time and the log.
       pub left_named : {held : Store} {h : Held} → ShowsRow R s held h old free → held j ≡ None → EachOnce old.names → name_at old.names name ≡ None → (now : Region) (first_may last_may : Choices) → StoresOnly (MakeWords cpu n x) R now first_may last_may → NothingPending R first_may
-          → (CanMake R s held cpu j n mid.inode h x → NothingPending R first_may → LeavesOnly now last_may (BeforeOrMade s held j n mid.inode h x)) → LeavesOnly now last_may (LeavesEither R (fixed_layout s) held (Named R s free old kind mode time j name))
+          → (CanMake R s held cpu j n mid.inode h x → NothingPending R first_may → LeavesOnly now last_may (BeforeOrMade s held j n mid.inode h x)) → LeavesOnly now last_may (LeavesEither R (fixed_layout s) held (Named R s free cpu old kind mode time j name))
       left_named {held} {h} shows out once absent now first_may last_may wrote settled stops left may = by (stops made_can settled left may) where
         made_can : CanMake R s held cpu j n mid.inode h x
         made_can = can_make_it held h shows out
@@ -219,7 +223,10 @@ module _ {R : Region} {s : Super} {free after : FreeLists} {old mid : Row} {cpu 
         any_bytes : (other : Store) (g : Held) → CanMake R s other cpu j n mid.inode g x → (i : ℕ) (f : Held) → other i ≡ Some f → (y : ℕ) → byte_of (undone s left) (fixed_layout s) f y ≡ byte_of R (fixed_layout s) f y
         any_bytes other g there i f is y = let parent = there.parent in let sound = parent.sound in undone_bytes s left f (layout_of_super R s sound.sup) y ∙ made_bytes there left mixed i f is y
 
-        by : BeforeOrMade s held j n mid.inode h x left → LeavesEither R (fixed_layout s) held (Named R s free old kind mode time j name) left
+        any_front : (other : Store) (g : Held) → CanMake R s other cpu j n mid.inode g x → SameFrontBut s.cpus cpu R (undone s left)
+        any_front other g there = let parent = there.parent in let sound = parent.sound in undone_front s cpu R left (layout_of_super R s sound.sup) sound.idle (made_front there left mixed)
+
+        by : BeforeOrMade s held j n mid.inode h x left → LeavesEither R (fixed_layout s) held (Named R s free cpu old kind mode time j name) left
         by (inl w) = inl (undone_recovers w R (made_bytes made_can left mixed) (let sound = shows.sound in sound.faultless))
         by (inr w) = inr (
           undone_can w,
@@ -228,7 +235,7 @@ module _ {R : Region} {s : Super} {free after : FreeLists} {old mid : Row} {cpu 
             named_row old mid fresh (end_of x.fresh.now 0 x.tail x.entries.now) name j (place_named fresh old.tail j name time) time,
             new_row j kind mode time page (tail_of n),
             makes_named_by {S = undone s left} (end_of x.fresh.now 0 x.tail x.entries.now) (tail_of n) (place_named fresh old.tail j name time) page fresh refl refl refl (named_row_has old mid fresh (end_of x.fresh.now 0 x.tail x.entries.now) name j (place_named fresh old.tail j name time) time same) refl
-                once (named_once old name j (place_named fresh old.tail j name time) once absent) refl (new_row_is j kind mode time page (tail_of n)) (any_idle w) any_bytes,
+                once (named_once old name j (place_named fresh old.tail j name time) once absent) refl (new_row_is j kind mode time page (tail_of n)) (any_idle w) any_bytes any_front,
           ),
         )
 

@@ -23,8 +23,8 @@ use Rattle.nv_steps.proofs.LinkedAt.{added_row, adds_after}
 use Rattle.nv_steps.proofs.MadeNamed.{named_once, place_is}
 use Rattle.nv_steps.proofs.UnlinkedAt.{dropped_row, drops_after}
 
-module _ {R S : Region} {s : Super} {free after : FreeLists} {from to a b : Row} {i time : ℕ} {name other : List ℕ}
-    (grew : AppendsLogs R S s free after (from ∷ to ∷ []) (a ∷ b ∷ []) 0 (name_entries Remove i name time) 1 (name_entries Add i other time)) where
+module _ {R S : Region} {s : Super} {free after : FreeLists} {cpu : ℕ} {from to a b : Row} {i time : ℕ} {name other : List ℕ}
+    (grew : AppendsLogs R S s free after cpu (from ∷ to ∷ []) (a ∷ b ∷ []) 0 (name_entries Remove i name time) 1 (name_entries Add i other time)) where
   abbrev cut : List Entry
   cut = name_entries Remove i name time
 
@@ -32,17 +32,17 @@ module _ {R S : Region} {s : Super} {free after : FreeLists} {from to a b : Row}
   put = name_entries Add i other time
 
   -- by the rows that were there
-  grown : GrowsTwo R S s free after (from ∷ to ∷ []) (a ∷ b ∷ []) 0 from cut 1 to put (λ fresh now. GrowsSame from fresh (end_of fresh 0 from.tail cut) now) (λ more now. GrowsSame to more (end_of more 0 to.tail put) now)
+  grown : GrowsTwo R S s free after cpu (from ∷ to ∷ []) (a ∷ b ∷ []) 0 from cut 1 to put (λ fresh now. GrowsSame from fresh (end_of fresh 0 from.tail cut) now) (λ more now. GrowsSame to more (end_of more 0 to.tail put) now)
   grown =
       let step = grew.step in
       let first_is : from ≡ grew.first = same_Some _ _ step.at in
       let second_is : to ≡ grew.second = same_Some _ _ step.other_at in
-      subst (λ (r : Row). GrowsTwo R S s free after (from ∷ to ∷ []) (a ∷ b ∷ []) 0 r cut 1 to put (λ fresh now. GrowsSame r fresh (end_of fresh 0 r.tail cut) now) (λ more now. GrowsSame to more (end_of more 0 to.tail put) now)) (sym first_is)
-      (subst (λ (r : Row). GrowsTwo R S s free after (from ∷ to ∷ []) (a ∷ b ∷ []) 0 grew.first cut 1 r put (λ fresh now. GrowsSame grew.first fresh (end_of fresh 0 grew.first.tail cut) now) (λ more now. GrowsSame r more (end_of more 0 r.tail put) now)) (sym second_is) grew.step)
+      subst (λ (r : Row). GrowsTwo R S s free after cpu (from ∷ to ∷ []) (a ∷ b ∷ []) 0 r cut 1 to put (λ fresh now. GrowsSame r fresh (end_of fresh 0 r.tail cut) now) (λ more now. GrowsSame to more (end_of more 0 to.tail put) now)) (sym first_is)
+      (subst (λ (r : Row). GrowsTwo R S s free after cpu (from ∷ to ∷ []) (a ∷ b ∷ []) 0 grew.first cut 1 r put (λ fresh now. GrowsSame grew.first fresh (end_of fresh 0 grew.first.tail cut) now) (λ more now. GrowsSame r more (end_of more 0 r.tail put) now)) (sym second_is) grew.step)
 
   -- Both rows are settled.
   pub moves_both : {c d : Row} (len : ℕ) → DropsName a name time c → EachOnce c.names → len ≡ entry_length (Name (record { operation = Add; inode = i; time = time; name = other })) → AddsName b other i (b.tail - len) time d → EachOnce d.names
-      → GrowsTwo R S s free after (from ∷ to ∷ []) (c ∷ d ∷ []) 0 from cut 1 to put (λ fresh now. LosesName from name i time fresh now) (λ more now. GetsName to other i time more now)
+      → GrowsTwo R S s free after cpu (from ∷ to ∷ []) (c ∷ d ∷ []) 0 from cut 1 to put (λ fresh now. LosesName from name i time fresh now) (λ more now. GetsName to other i time more now)
   moves_both {c} {d} len drops once_c length_is adds once_d =
       let step = grown in
       let first_is : a ≡ step.first_now = (let e = step.put in cc) in
@@ -71,8 +71,8 @@ module _ {R S : Region} {s : Super} {free after : FreeLists} {from to a b : Row}
 -- ---- a stop
 
 -- What a stop leaves of a name that goes over, by what it leaves of both logs.
-pub left_over : {R : Region} {s : Super} {free : FreeLists} {held : Store} (from to : Row) (i : ℕ) (name other : List ℕ) (time : ℕ) → name_at to.names other ≡ None
-    → (left : Region) → LeavesEither R (fixed_layout s) held (AppendedBoth R s free from (name_entries Remove i name time) to (name_entries Add i other time)) left → LeavesEither R (fixed_layout s) held (MovedOver R s free from to i name other time) left
+pub left_over : {R : Region} {s : Super} {free : FreeLists} {cpu : ℕ} {held : Store} (from to : Row) (i : ℕ) (name other : List ℕ) (time : ℕ) → name_at to.names other ≡ None
+    → (left : Region) → LeavesEither R (fixed_layout s) held (AppendedBoth R s free cpu from (name_entries Remove i name time) to (name_entries Add i other time)) left → LeavesEither R (fixed_layout s) held (MovedOver R s free cpu from to i name other time) left
 left_over from to i name other time absent left (inl same) = inl same
 left_over {R} {s} {free} from to i name other time absent left (inr w) =
     let made = w.1 in

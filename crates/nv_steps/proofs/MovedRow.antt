@@ -64,7 +64,7 @@ leaves_after {P} {memory} {now} {free} {after} {old} {mid} {new} same left =
       };
     }
 
-module _ {R S : Region} {s : Super} {free after : FreeLists} {old mid grown : Row} (i : ℕ) (name other : List ℕ) (time : ℕ) (same : SameRow old mid) (grew : AppendsLog R S s free after mid grown (move_entries i name other time)) where
+module _ {R S : Region} {s : Super} {free after : FreeLists} {cpu : ℕ} {old mid grown : Row} (i : ℕ) (name other : List ℕ) (time : ℕ) (same : SameRow old mid) (grew : AppendsLog R S s free after cpu mid grown (move_entries i name other time)) where
   abbrev entries : List Entry
   entries = move_entries i name other time
 
@@ -75,7 +75,7 @@ module _ {R S : Region} {s : Super} {free after : FreeLists} {old mid grown : Ro
       omega (arith, ends, is)
 
   -- The row is settled.
-  pub moves_within : {less new : Row} (len : ℕ) → len ≡ entry_length (Name (record { operation = Add; inode = i; time = time; name = other })) → DropsName grown name time less → EachOnce less.names → AddsName less other i (grown.tail - len) time new → EachOnce new.names → EachOnce old.names → MovesWithin R S s free after old new i name other time
+  pub moves_within : {less new : Row} (len : ℕ) → len ≡ entry_length (Name (record { operation = Add; inode = i; time = time; name = other })) → DropsName grown name time less → EachOnce less.names → AddsName less other i (grown.tail - len) time new → EachOnce new.names → EachOnce old.names → MovesWithin R S s free after cpu old new i name other time
   moves_within {less} {new} len length_is drops once_less adds once_new once_old =
       let row = grew.row in
       let lost = drops.rest in
@@ -130,8 +130,8 @@ abbrev less_row : Row → Row → List ℕ → ℕ → Row
 less_row old grown name time = record grown { numbers = record grown.numbers { time = time }; names = record old.names { names = without name old.names.names } }
 
 -- What a stop leaves of another name in the same directory, by what it leaves of its log.
-pub left_here : {R : Region} {s : Super} {free : FreeLists} {held : Store} (old mid : Row) (i : ℕ) (name other : List ℕ) (time : ℕ) → SameRow old mid → EachOnce old.names → name_at old.names other ≡ None
-    → (left : Region) → LeavesEither R (fixed_layout s) held (Appended R s free mid (move_entries i name other time)) left → LeavesEither R (fixed_layout s) held (MovedHere R s free old i name other time) left
+pub left_here : {R : Region} {s : Super} {free : FreeLists} {cpu : ℕ} {held : Store} (old mid : Row) (i : ℕ) (name other : List ℕ) (time : ℕ) → SameRow old mid → EachOnce old.names → name_at old.names other ≡ None
+    → (left : Region) → LeavesEither R (fixed_layout s) held (Appended R s free cpu mid (move_entries i name other time)) left → LeavesEither R (fixed_layout s) held (MovedHere R s free cpu old i name other time) left
 left_here old mid i name other time same once absent left (inl stays) = inl stays
 left_here old mid i name other time same once absent left (inr w) =
     let made = w.1 in

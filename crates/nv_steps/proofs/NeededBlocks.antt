@@ -12,6 +12,7 @@ use Rattle.nv_alloc.specs.Taking.{HasBlock, Takes, all_blocks, blocks_in, left, 
 use Rattle.nv_alloc.proofs.Fronts.{blocks_cons}
 use Rattle.nv_alloc.proofs.GivenBack.{restores}
 use Rattle.nv_alloc.proofs.Sound.{data_block}
+use Rattle.nv_alloc.proofs.Singly.{takes_once}
 use Rattle.nv_entry.specs.declared.entry.Entry.{Entry}
 use Rattle.nv_entry.specs.Spelling.{entry_length}
 use Rattle.nv_logpage.specs.Append.{needed}
@@ -20,7 +21,7 @@ use Rattle.nv_steps.specs.Writes.{CanGive, NeedsBlocks, data_blocks, data_entrie
 use Rattle.nv_steps.specs.declared.planning.Plan.{Plan}
 use Rattle.nv_steps.proofs.DataEntries.{rest_is}
 use Rattle.nv_steps.proofs.RunEntries.{entries_count, first_is}
-use Rattle.nv_steps.proofs.Takes.{takes_less, takes_once, takes_some}
+use Rattle.nv_steps.proofs.Takes.{takes_less, takes_some}
 
 -- entries take at most a page each
 pub needed_few : (offset : ℕ) (entries : List Entry) → needed offset entries ≤ length entries
@@ -106,7 +107,7 @@ module _ (pools : List (List Run)) (cpu tail : ℕ) (plan : Plan) where
 
     counts : (count : ℕ) → NeedsBlocks pools cpu tail plan count → data_blocks plan ≤ all_blocks pools → count ≡ data_blocks plan + log
     counts count (inl w) enough = absurd (let few = w.0 in omega (arith, few, enough))
-    counts count (inr w) enough = w.3 ∙ ap (λ (xs : List Run). data_blocks plan + needed (tail % 4096) (data_entries plan xs)) (takes_once pools cpu (data_blocks plan) w.0 runs w.1 after w.2 takes)
+    counts count (inr w) enough = w.3 ∙ ap (λ (xs : List Run). data_blocks plan + needed (tail % 4096) (data_entries plan xs)) (takes_once pools cpu (data_blocks plan) w.0 runs w.1 after w.2 takes).0
 
     less : all_blocks after + data_blocks plan ≡ all_blocks pools
     less = takes_less pools cpu (data_blocks plan) runs after inside takes

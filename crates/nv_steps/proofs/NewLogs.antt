@@ -36,7 +36,7 @@ pub fits_alone : (mode time : ℕ) → needed 0 (first_entries mode time) ≡ 0
 fits_alone mode time = refl
 
 module _ {R : Region} {s : Super} {free after : FreeLists} {row : Row} {cpu j page : ℕ} {fresh : List ℕ} (entries : List Entry) (stands : StandsRight R s free row) (can : CanName R s cpu j row)
-    (taken : TakesEach free (page ∷ fresh) after) (count : length fresh ≡ needed (row.tail % 4096) entries) (given : AreGiven entries) where
+    (taken : TakesEach free cpu (page ∷ fresh) after) (count : length fresh ≡ needed (row.tail % 4096) entries) (given : AreGiven entries) where
   lists : free.sup ≡ s
   lists = stands.lists
 

@@ -13,13 +13,13 @@ use Rattle.nv_held.specs.Held.{Store}
 use Rattle.nv_held.specs.Blocks.{KeepsFree}
 use Rattle.nv_held.specs.Blocks as blocks
 use Rattle.nv_held.specs.Lists.{TakeAll}
-use Rattle.nv_steps.specs.Taken.{single_takes}
 use Rattle.nv_steps.specs.Writes.{data_blocks}
 use Rattle.nv_steps.specs.Written.{Prepared}
 use Rattle.nv_steps.specs.declared.planning.Plan.{Plan}
 use Rattle.nv_steps.proofs.DataEntries.{Fits}
 use Rattle.nv_steps.proofs.TakenBlocks.{each_was_free, stays_free, taken_sup}
 use Rattle.nv_steps.proofs.Takes.{takes_some}
+use Rattle.nv_steps.proofs.OneByOne.{single_takes, takes_of}
 
 -- a free block of what is held
 pub free_held : (l : Layout) (held : Store) (old : FreeLists) → KeepsFree l held old.pools → (cpu b : ℕ) → IsFreeIn old cpu b → blocks.IsUnowned l held b
@@ -42,7 +42,7 @@ module _ {old new : FreeLists} {cpu tail : ℕ} {plan : Plan} {entries : List En
 
   pub free_before : (c b : ℕ) → IsFreeIn new c b → IsFreeIn old c b
   free_before c b free =
-      let first = stays_free p.taken.from new fresh p.taken.takes c b free in
+      let first = stays_free p.taken.from new fresh (takes_of p.taken) c b free in
       from_before c b (p.leave.stays c b (subst (λ (pools : List (List Run)). HasBlock (pool_at pools c) b) p.taken.same.pools first))
 
   pub prepared_sup : new.sup ≡ old.sup
@@ -72,4 +72,4 @@ module _ {old new : FreeLists} {cpu tail : ℕ} {plan : Plan} {entries : List En
       record { blocks = moved.blocks; free = moved.free; disjoint = moved.disjoint; gone = moved.gone; stays = moved.stays; rest = moved.rest }
 
   pub all_taken : TakeAll p.from (p.runs ∷ single_takes fresh) new
-  all_taken = (p.taken.from, record { sound = p.taken.sound; sup = p.taken.same.sup ∙ p.took.sup; blocks = data_blocks plan; leave = leaves_next }, p.taken.takes)
+  all_taken = (p.taken.from, record { sound = p.taken.sound; sup = p.taken.same.sup ∙ p.took.sup; blocks = data_blocks plan; leave = leaves_next }, takes_of p.taken)

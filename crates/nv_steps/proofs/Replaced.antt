@@ -6,14 +6,13 @@ use Rattle.std.proofs.lemmas.Bool.{cases_eq}
 use Rattle.std.proofs.lemmas.Option.{same_Some}
 use Rattle.nv_super.specs.declared.owners.Run.{Run}
 use Rattle.nv_super.proofs.Members.{none_in}
-use Rattle.nv_alloc.specs.Taking.{Disjoint, HasBlock}
+use Rattle.nv_alloc.specs.Taking.{Disjoint, HasBlock, block_run}
 use Rattle.nv_alloc.proofs.Leaving.{block_cases, block_left, block_right, block_sides, disjoint_append, first_block, later_block}
+use Rattle.nv_alloc.proofs.Singly.{block_is}
 use Rattle.nv_radix.specs.Pages.{Pages, block_at}
-use Rattle.nv_steps.specs.Taken.{block_run}
 use Rattle.nv_steps.specs.Writes.{ended_blocks, page_blocks, replaced_blocks}
 use Rattle.nv_steps.specs.declared.planning.Plan.{Plan}
 use Rattle.nv_steps.proofs.DataEntries.{IsWritten}
-use Rattle.nv_steps.proofs.TakenBlocks.{block_is}
 
 -- a page from one on, of so many, with this block
 pub record IsPageBlock (m : Pages) (first count b : ℕ) : Type 0 where

@@ -14,6 +14,7 @@ use Rattle.nv_entry.specs.declared.entry.WriteEntry.{WriteEntry}
 use Rattle.nv_entry.specs.declared.entry.Entry.{Entry}
 use Rattle.nv_entry.specs.declared.entry.Entry.TheVariants.{NextPage, Write, Attr, Name, Links}
 use Rattle.nv_entry.specs.Content.{is_attr_out_of_range, is_good, most_size}
+use Rattle.nv_alloc.proofs.Singly.{single_is}
 use Rattle.nv_logpage.specs.declared.found.Placed.{Placed}
 use Rattle.nv_logpage.specs.Reads.{placed}
 use Rattle.nv_logpage.specs.Good.{good_entries}
@@ -24,7 +25,6 @@ use Rattle.nv_held.specs.Blocks.{IsUnowned}
 use Rattle.nv_held.specs.Writes.{WritesData}
 use Rattle.nv_steps.proofs.AttrEntries.{Allows, attr_allowed, one_there}
 use Rattle.nv_steps.proofs.SizedEntries.{EndsWith}
-use Rattle.nv_steps.proofs.TakenBlocks.{single_is}
 
 -- ---- entries that count
 

@@ -5,14 +5,13 @@ use Rattle.std.proofs.lemmas.Bool.{cases_lt}
 use Rattle.nv_super.specs.declared.owners.Run.{Run}
 use Rattle.nv_super.proofs.Members.{none_in}
 use Rattle.nv_super.proofs.Rising.{Contains-cons, Contains-head, Contains-tail}
-use Rattle.nv_alloc.specs.Taking.{Disjoint, HasBlock, blocks_in, left, taken}
+use Rattle.nv_alloc.specs.Taking.{Disjoint, HasBlock, blocks_in, left, taken, block_run}
 use Rattle.nv_alloc.proofs.Fronts.{blocks_cons, left_none, left_part, left_whole, taken_none, taken_part, taken_whole}
 use Rattle.nv_alloc.proofs.Leaving.{block_cases, first_block, later_block}
 use Rattle.nv_entry.specs.declared.entry.WriteEntry.{WriteEntry}
 use Rattle.nv_entry.specs.declared.entry.Entry.{Entry}
 use Rattle.nv_entry.specs.declared.entry.Entry.TheVariants.{Write}
 use Rattle.nv_logpage.specs.Append.{AreGiven}
-use Rattle.nv_steps.specs.Taken.{block_run}
 use Rattle.nv_steps.specs.Writes.{run_entries}
 use Rattle.nv_steps.specs.Written.{entry_blocks, entry_pages}
 use Rattle.nv_steps.specs.declared.planning.Plan.{Plan}

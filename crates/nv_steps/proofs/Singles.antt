@@ -9,15 +9,14 @@ use Rattle.nv_super.specs.Runs.{Apart, InRun}
 use Rattle.nv_super.specs.Layout.{system_blocks}
 use Rattle.nv_super.proofs.Rising.{Contains-head}
 use Rattle.nv_super.proofs.Runs.{some_blocks}
-use Rattle.nv_alloc.specs.Taking.{HasBlock, blocks_in, taken, pool_at, Takes, ends, goes_on}
+use Rattle.nv_alloc.specs.Taking.{HasBlock, blocks_in, taken, pool_at, Takes, ends, goes_on, block_run}
 use Rattle.nv_alloc.proofs.Fronts.{taken_none, taken_whole, taken_part, taken_over}
 use Rattle.nv_alloc.proofs.GivenBack.{restores}
 use Rattle.nv_alloc.proofs.Leaving.{one_of}
 use Rattle.nv_alloc.proofs.Sound.{data_block}
 use Rattle.nv_alloc.specs.FreeValue.{FreeLists}
 use Rattle.nv_alloc.specs.FreeLists.{IsSound, Took, Leave, CanJoin, Joins}
-use Rattle.nv_held.specs.Lists.{TakeAll}
-use Rattle.nv_steps.specs.Taken.{block_run, single_takes, SamePools, TakesOne, TakesEach, TakesOnto}
+use Rattle.nv_steps.specs.Taken.{SamePools, TakesOne, TakesEach, TakesOnto, TakesInTurn}
 
 -- one block of runs
 one_taken : (rs : List Run) → Apart rs → 1 ≤ blocks_in rs → (b : ℕ) × (taken 1 rs ≡ block_run b ∷ [])
@@ -97,23 +96,23 @@ some_runs [] one = absurd (omega (arith, one))
 some_runs (r ∷ runs) one = omega arith
 
 -- None were taken.
-pub onto_none : (a : FreeLists) (had : List ℕ) (n : ℕ) → n ≡ 0 → TakesOnto a had n a had
-onto_none a had n none = record { more = []; all = sym (append-nil had); count_is = sym none; takes = refl }
+pub onto_none : (a : FreeLists) (cpu : ℕ) (had : List ℕ) (n : ℕ) → n ≡ 0 → TakesOnto a cpu had n a had
+onto_none a cpu had n none = record { more = []; all = sym (append-nil had); count_is = sym none; each = refl }
 
 -- One was taken and put there, and then the others.
-pub onto_more : {old mid new : FreeLists} {cpu b n : ℕ} {had now last : List ℕ} → 0 < n → TakesOne old cpu b mid → now ≡ had ++ b ∷ [] → TakesOnto mid now (n - 1) new last → TakesOnto old had n new last
+pub onto_more : {old mid new : FreeLists} {cpu b n : ℕ} {had now last : List ℕ} → 0 < n → TakesOne old cpu b mid → now ≡ had ++ b ∷ [] → TakesOnto mid cpu now (n - 1) new last → TakesOnto old cpu had n new last
 onto_more {old} {mid} {new} {cpu} {b} {n} {had} {now} {last} some one pushed rest = record {
   more = b ∷ rest.more;
   all = rest.all ∙ ap (λ (xs : List ℕ). xs ++ rest.more) pushed ∙ append_assoc had (b ∷ []) rest.more;
   count_is = omega (arith, rest.count_is, some);
-  takes = (mid, record { sound = one.after; sup = one.took.sup; blocks = 1; leave = one.leave }, rest.takes);
+  each = (mid, one, rest.each);
 }
 
 -- What stands behind nothing is all that was taken.
-pub from_nothing : (old mid new : FreeLists) (count : ℕ) (had has' : List ℕ) → SamePools old mid → IsSound mid → had ≡ [] → TakesOnto mid had count new has' → TakesEach old has' new
-from_nothing old mid new count had has' same sound none w = record {
+pub from_nothing : (old mid new : FreeLists) (cpu count : ℕ) (had has' : List ℕ) → SamePools old mid → IsSound mid → had ≡ [] → TakesOnto mid cpu had count new has' → TakesEach old cpu has' new
+from_nothing old mid new cpu count had has' same sound none w = record {
   from = mid;
   same = same;
   sound = sound;
-  takes = subst (λ (blocks : List ℕ). TakeAll mid (single_takes blocks) new) (sym (w.all ∙ ap (λ (xs : List ℕ). xs ++ w.more) none)) w.takes;
+  each = subst (λ (blocks : List ℕ). TakesInTurn mid cpu blocks new) (sym (w.all ∙ ap (λ (xs : List ℕ). xs ++ w.more) none)) w.each;
 }

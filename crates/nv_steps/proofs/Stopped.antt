@@ -62,10 +62,10 @@ for_any {R} {left} {s} {held} {i} {h} {slot} {tail} {entries} {fresh} sound is m
     let one : h ≡ g = cc in
     subst (λ (k : Held). ShowsMoved R s (with_log other i k entries fresh) left) one (subst (λ (st : Store). ShowsMoved R s (with_log st i h entries fresh) left) same moved)
 
-module _ {R : Region} {s : Super} {held : Store} {h : Held} {row : Row} {free after : FreeLists} (entries : List Entry) (fresh given : List ℕ) (slot : ℕ) (same : given ≡ fresh) (at : slot ≡ slot_address s row.inode)
-    (shows : ShowsRow R s held h row free) (lists : free.sup ≡ s) (taken : TakesEach free fresh after) (count : length fresh ≡ needed (row.tail % 4096) entries) (allowed : AreGiven entries) (some : 0 < length entries) where
-  abbrev taken_there : TakesEach free given after
-  taken_there = subst (λ (blocks : List ℕ). TakesEach free blocks after) (sym same) taken
+module _ {R : Region} {s : Super} {held : Store} {h : Held} {row : Row} {free after : FreeLists} {cpu : ℕ} (entries : List Entry) (fresh given : List ℕ) (slot : ℕ) (same : given ≡ fresh) (at : slot ≡ slot_address s row.inode)
+    (shows : ShowsRow R s held h row free) (lists : free.sup ≡ s) (taken : TakesEach free cpu fresh after) (count : length fresh ≡ needed (row.tail % 4096) entries) (allowed : AreGiven entries) (some : 0 < length entries) where
+  abbrev taken_there : TakesEach free cpu given after
+  taken_there = subst (λ (blocks : List ℕ). TakesEach free cpu blocks after) (sym same) taken
 
   abbrev count_there : length given ≡ needed (row.tail % 4096) entries
   count_there = ap (λ (blocks : List ℕ). length blocks) same ∙ count
@@ -76,18 +76,18 @@ module _ {R : Region} {s : Super} {held : Store} {h : Held} {row : Row} {free af
   -- What a stop leaves of their commit.
   pub left_log : (now : Region) (old new : Choices) → StoresOnly (ExtendWords slot row.tail entries given) R now old new → NothingPending R old
       → (CanExtend R s held row.inode h slot row.tail entries given → NothingPending R old → LeavesOnly now new (BeforeOrExtended R s held row.inode h entries given))
-      → LeavesOnly now new (LeavesEither R (fixed_layout s) held (Appended R s free row entries))
+      → LeavesOnly now new (LeavesEither R (fixed_layout s) held (Appended R s free cpu row entries))
   left_log now old new wrote settled stops left may = by (stops (subst (λ (a : ℕ). CanExtend R s held row.inode h a row.tail entries given) (sym at) can) settled left may) where
     mixed : IsMixed R (ExtendWords (slot_address s row.inode) row.tail entries given) left
     mixed =
         let stored = wrote.mixed in
         subst (λ (a : ℕ). IsMixed R (ExtendWords a row.tail entries given) left) at (mixed_left R now (ExtendWords slot row.tail entries given) old new stored.as_long stored.same_rest settled wrote.adds left may)
 
-    by : BeforeOrExtended R s held row.inode h entries given left → LeavesEither R (fixed_layout s) held (Appended R s free row entries) left
+    by : BeforeOrExtended R s held row.inode h entries given left → LeavesEither R (fixed_layout s) held (Appended R s free cpu row entries) left
     by (inl sound) = inl (sound_recovers R left s held held sound (extended_bytes can mixed))
     by (inr moved) = inr (
       moved_can shows.sound moved,
-      subst (Appended R s free row entries) (sym (moved_undo shows.sound moved)) (
+      subst (Appended R s free cpu row entries) (sym (moved_undo shows.sound moved)) (
         after,
         grown_row row given (end_of given 0 row.tail entries),
         record {
@@ -102,7 +102,7 @@ module _ {R : Region} {s : Super} {held : Store} {h : Held} {row : Row} {free af
     )
 
 -- The same of an attributes entry, with what it says.
-pub left_attributes : {R : Region} {s : Super} {held : Store} {free : FreeLists} {row : Row} (x : AttrEntry) → free.sup ≡ s → x.mode ≤ 4095 → x.size ≡ row.numbers.size → (left : Region) → LeavesEither R (fixed_layout s) held (Appended R s free row (Attr x ∷ [])) left → LeavesEither R (fixed_layout s) held (Attributed R s free row x) left
+pub left_attributes : {R : Region} {s : Super} {held : Store} {free : FreeLists} {cpu : ℕ} {row : Row} (x : AttrEntry) → free.sup ≡ s → x.mode ≤ 4095 → x.size ≡ row.numbers.size → (left : Region) → LeavesEither R (fixed_layout s) held (Appended R s free cpu row (Attr x ∷ [])) left → LeavesEither R (fixed_layout s) held (Attributed R s free cpu row x) left
 left_attributes x lists mode size left (inl same) = inl same
 left_attributes {s = s} x lists mode size left (inr w) =
     let made = w.1 in

@@ -1,5 +1,5 @@
 -- Blocks that were taken one by one: they were free, they differ, and the free lists are those of before without them.
-use Rattle.std.proofs.Common.{◌≡◌, ◌↔◌, ℕ, zero, suc, ◌+◌, ◌<◌, ◌≤◌, inl, inr, List, [], ◌∷◌, ap, sym, ◌∙◌, subst, arith}
+use Rattle.std.proofs.Common.{◌≡◌, ◌↔◌, ℕ, zero, suc, ◌<◌, ◌≤◌, inl, inr, List, [], ◌∷◌, ap, sym, ◌∙◌, subst, arith}
 use Rattle.std.specs.List.{Contains}
 use Rattle.std.proofs.lemmas.List.{get_or_default}
 use Rattle.nv_super.specs.declared.superblock.Super.{Super}
@@ -7,11 +7,11 @@ use Rattle.nv_super.specs.declared.owners.Run.{Run}
 use Rattle.nv_super.specs.Layout.{Layout, system_blocks}
 use Rattle.nv_super.proofs.Members.{none_in}
 use Rattle.nv_super.proofs.Rising.{Contains-cons, Contains-head, Contains-tail}
-use Rattle.nv_super.specs.Runs.{InRun}
 use Rattle.nv_alloc.specs.FreeValue.{FreeLists}
 use Rattle.nv_alloc.specs.FreeLists.{IsFreeIn}
-use Rattle.nv_alloc.specs.Taking.{HasBlock, pool_at}
+use Rattle.nv_alloc.specs.Taking.{HasBlock, pool_at, block_run}
 use Rattle.nv_alloc.proofs.Sound.{data_block, free_within}
+use Rattle.nv_alloc.proofs.Singly.{in_single, single_is}
 use Rattle.nv_logpage.specs.Append.{AllDiffer}
 use Rattle.nv_held.specs.Held.{Store}
 use Rattle.nv_held.specs.Blocks.{KeepsFree}
@@ -19,20 +19,8 @@ use Rattle.nv_held.specs.Blocks as blocks
 use Rattle.nv_held.specs.Grows.{AreFree}
 use Rattle.nv_held.specs.Lists.{TakeAll, WasTaken}
 use Rattle.nv_held.proofs.ListsKept.{pools_all_taken, pools_same}
-use Rattle.nv_steps.specs.Taken.{TakesEach, block_run, single_takes}
-
-pub in_single : (b : ℕ) → HasBlock (block_run b ∷ []) b
-in_single b = (block_run b, Contains-head (block_run b) [], omega arith, omega arith)
-
--- a block of one block's run is that block
-pub block_is : (b c : ℕ) → InRun (block_run b) c → c ≡ b
-block_is b c here = let from = here.0 in let to = here.1 in omega (arith, from, to)
-
-pub single_is : (b c : ℕ) → HasBlock (block_run b ∷ []) c → c ≡ b
-single_is b c w = elim (Contains-cons (block_run b) [] w.0 w.1) [
-  | inl same ↦ (let P : Run → Type 0 = λ r. (r.start ≤ c) × (c < r.start + r.count) in let inside = subst P same (w.2, w.3) in omega (arith, inside.0, inside.1))
-  | inr none ↦ absurd (none_in w.0 none)
-]
+use Rattle.nv_steps.specs.Taken.{TakesEach}
+use Rattle.nv_steps.proofs.OneByOne.{single_takes, takes_of}
 
 -- each of them was taken, and no other
 pub was_taken : (blocks : List ℕ) (b : ℕ) → Contains blocks b → WasTaken (single_takes blocks) b
@@ -79,20 +67,20 @@ same_sup : (old new : FreeLists) (blocks : List ℕ) → TakeAll old (single_tak
 same_sup old new [] e = ap (λ (a : FreeLists). a.sup) (sym e)
 same_sup old new (a ∷ blocks) w = same_sup w.0 new blocks w.2 ∙ w.1.sup
 
-module _ {old new : FreeLists} {fresh : List ℕ} (taken : TakesEach old fresh new) where
+module _ {old new : FreeLists} {cpu : ℕ} {fresh : List ℕ} (taken : TakesEach old cpu fresh new) where
   pub each_was_free : (b : ℕ) → Contains fresh b → (cpu : ℕ) × IsFreeIn old cpu b
-  each_was_free b c = let f = taken_free taken.from new fresh taken.takes b c in (f.0, subst (λ (pools : List (List Run)). HasBlock (pool_at pools f.0) b) taken.same.pools f.1)
+  each_was_free b c = let f = taken_free taken.from new fresh (takes_of taken) b c in (f.0, subst (λ (pools : List (List Run)). HasBlock (pool_at pools f.0) b) taken.same.pools f.1)
 
   pub taken_sup : new.sup ≡ old.sup
-  taken_sup = same_sup taken.from new fresh taken.takes ∙ taken.same.sup
+  taken_sup = same_sup taken.from new fresh (takes_of taken) ∙ taken.same.sup
 
   pub all_differ : AllDiffer fresh
-  all_differ = taken_differ taken.from new fresh taken.takes
+  all_differ = taken_differ taken.from new fresh (takes_of taken)
 
   -- they are data blocks
   pub each_in_data : (b : ℕ) → Contains fresh b → (system_blocks old.sup ≤ b) × (b < old.sup.blocks)
   each_in_data b c =
-      let f = taken_free taken.from new fresh taken.takes b c in
+      let f = taken_free taken.from new fresh (takes_of taken) b c in
       subst (λ (s : Super). (system_blocks s ≤ b) × (b < s.blocks)) taken.same.sup (data_block taken.from taken.sound f.0 b f.1)
 
   -- with another page that isn't free they differ too
@@ -117,6 +105,6 @@ module _ {old new : FreeLists} {fresh : List ℕ} (taken : TakesEach old fresh n
     -- The free lists are those of the free blocks without them.
     pub lists_without : (after : Store) → ((b : ℕ) → blocks.IsUnowned l after b ↔ (blocks.IsUnowned l held b × (Contains fresh b → ⊥))) → KeepsFree l after new.pools
     lists_without after free =
-        let w = pools_all_taken l (blocks.IsUnowned l held) taken.from new (single_takes fresh) from_kept (taken.same.sup ∙ sup) taken.takes in
+        let w = pools_all_taken l (blocks.IsUnowned l held) taken.from new (single_takes fresh) from_kept (taken.same.sup ∙ sup) (takes_of taken) in
         pools_same l (λ b. blocks.IsUnowned l held b × (WasTaken (single_takes fresh) b → ⊥)) (blocks.IsUnowned l after) new.pools
         (λ b. ((λ v. (free b).1 (v.0, λ c. v.1 (was_taken fresh b c))), (λ v. (let u = (free b).0 v in (u.0, λ t. u.1 (is_taken fresh b t)))))) w.0

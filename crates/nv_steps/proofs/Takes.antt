@@ -1,5 +1,5 @@
--- What a take gives: runs that aren't empty, the same whenever it is asked, of as many blocks.
-use Rattle.std.proofs.Common.{◌≡◌, ℕ, ◌+◌, ◌-◌, ◌<◌, inl, inr, List, [], ◌∷◌, ◌++◌, length, refl, ap, ◌∙◌, subst, arith}
+-- What a take gives: runs that aren't empty, of as many blocks.
+use Rattle.std.proofs.Common.{◌≡◌, ℕ, ◌+◌, ◌-◌, ◌<◌, inl, inr, List, [], ◌∷◌, length, ap, ◌∙◌, subst, arith}
 use Rattle.std.specs.List.{Contains}
 use Rattle.std.proofs.Math.ListN.{set}
 use Rattle.std.proofs.lemmas.Bool.{cases_lt}
@@ -9,7 +9,7 @@ use Rattle.nv_super.specs.Runs.{Apart}
 use Rattle.nv_super.proofs.Members.{none_in}
 use Rattle.nv_super.proofs.Rising.{Contains-cons}
 use Rattle.nv_super.proofs.Runs.{some_blocks, tail_apart}
-use Rattle.nv_alloc.specs.Taking.{IsFullest, Takes, all_blocks, blocks_in, ends, goes_on, left, pool_at, taken}
+use Rattle.nv_alloc.specs.Taking.{Takes, all_blocks, blocks_in, ends, goes_on, left, pool_at, taken}
 use Rattle.nv_alloc.proofs.Fronts.{left_blocks, taken_none, taken_part, taken_whole}
 use Rattle.nv_alloc.proofs.Pools.{blocks_set}
 use Rattle.nv_steps.proofs.Singles.{emptied_apart}
@@ -44,25 +44,6 @@ takes_some pools cpu n runs after apart inside (goes_on d more after' few fulles
   | inl first ↦ apart_some (pool_at pools cpu) (apart cpu) r first
   | inr later ↦ takes_some (set pools cpu []) d (n - blocks_in (pool_at pools cpu)) more after' (emptied_apart pools cpu inside apart) fullest.within rest r later
 ]
-
--- there is one fullest pool
-one_fullest : (pools : List (List Run)) (c d : ℕ) → IsFullest pools c → IsFullest pools d → c ≡ d
-one_fullest pools c d first second = elim (cases_lt c d) [
-  | inl below ↦ absurd (let less = second.lowest c below in let most = first.most d second.within in omega (arith, less, most))
-  | inr above ↦ elim (cases_lt d c) [
-    | inl below ↦ absurd (let less = first.lowest d below in let most = second.most c first.within in omega (arith, less, most))
-    | inr same ↦ omega (arith, above, same)
-  ]
-]
-
--- What a take gives is decided.
-pub takes_once : (pools : List (List Run)) (cpu n : ℕ) (runs others : List Run) (after rest : List (List Run)) → Takes pools cpu n runs after → Takes pools cpu n others rest → runs ≡ others
-takes_once pools cpu n runs others after rest (ends some) (ends again) = refl
-takes_once pools cpu n runs others after rest (ends some) (goes_on d more after' few fullest on) = absurd (omega (arith, some, few))
-takes_once pools cpu n runs others after rest (goes_on d more after' few fullest on) (ends some) = absurd (omega (arith, some, few))
-takes_once pools cpu n runs others after rest (goes_on d more after' few fullest on) (goes_on d' more' rest' few' fullest' on') =
-    let same : d' ≡ d = one_fullest (set pools cpu []) d' d fullest' fullest in
-    ap (λ (xs : List Run). pool_at pools cpu ++ xs) (takes_once (set pools cpu []) d (n - blocks_in (pool_at pools cpu)) more more' after' rest' on (subst (λ (e : ℕ). Takes (set pools cpu []) e (n - blocks_in (pool_at pools cpu)) more' rest') same on'))
 
 -- So many blocks fewer are free then.
 pub takes_less : (pools : List (List Run)) (cpu n : ℕ) (runs : List Run) (after : List (List Run)) → cpu < length pools → Takes pools cpu n runs after → all_blocks after + n ≡ all_blocks pools

@@ -13,7 +13,8 @@ use Rattle.nv_super.proofs.Rising.{Contains-cons}
 use Rattle.nv_journal.specs.Undo.{journal}
 use Rattle.nv_alloc.specs.FreeValue.{FreeLists}
 use Rattle.nv_alloc.specs.FreeLists.{IsFreeIn, IsSound}
-use Rattle.nv_alloc.specs.Taking.{HasBlock, pool_at}
+use Rattle.nv_alloc.specs.Taking.{HasBlock, pool_at, block_run}
+use Rattle.nv_alloc.proofs.Singly.{in_single}
 use Rattle.nv_entry.specs.declared.entry.Entry.{Entry}
 use Rattle.nv_logpage.specs.Append.{AreGiven, CanAppend, needed}
 use Rattle.nv_scan.specs.declared.piece.Row.{Row}
@@ -25,22 +26,23 @@ use Rattle.nv_commit.specs.Together.{BeginFrom, CanCommit, CanExtendTwo}
 use Rattle.nv_steps.specs.Grown.{StandsRight}
 use Rattle.nv_steps.specs.NewNames.{CanName}
 use Rattle.nv_steps.specs.Steps.{ShowsRow}
-use Rattle.nv_steps.specs.Taken.{TakesEach, block_run, single_takes}
+use Rattle.nv_steps.specs.Taken.{TakesEach, TakesInTurn}
 use Rattle.nv_steps.proofs.LogGrows.{can_append, can_extend, slot_there}
-use Rattle.nv_steps.proofs.TakenBlocks.{all_differ, are_free, each_in_data, each_was_free, in_single, stays_free, taken_sup}
+use Rattle.nv_steps.proofs.TakenBlocks.{all_differ, are_free, each_in_data, each_was_free, stays_free, taken_sup}
+use Rattle.nv_steps.proofs.OneByOne.{single_takes, takes_of}
 
 -- ---- blocks that were taken for one log, and then for another
 
-cut_takes : (old new : FreeLists) (xs ys : List ℕ) → IsSound old → TakeAll old (single_takes (xs ++ ys)) new → (mid : FreeLists) × IsSound mid × TakeAll old (single_takes xs) mid × TakeAll mid (single_takes ys) new
-cut_takes old new [] ys sound w = (old, sound, refl, w)
-cut_takes old new (a ∷ xs) ys sound w = let c = cut_takes w.0 new xs ys w.1.sound w.2 in (c.0, c.1, (w.0, w.1, c.2), c.3)
+cut_takes : (old new : FreeLists) (cpu : ℕ) (xs ys : List ℕ) → IsSound old → TakesInTurn old cpu (xs ++ ys) new → (mid : FreeLists) × IsSound mid × TakesInTurn old cpu xs mid × TakesInTurn mid cpu ys new
+cut_takes old new cpu [] ys sound w = (old, sound, refl, w)
+cut_takes old new cpu (a ∷ xs) ys sound w = let c = cut_takes w.0 new cpu xs ys w.1.after w.2 in (c.0, c.1, (w.0, w.1, c.2), c.3)
 
-pub cut_each : {old new : FreeLists} (xs ys : List ℕ) → TakesEach old (xs ++ ys) new → (mid : FreeLists) × TakesEach old xs mid × TakesEach mid ys new
-cut_each {old} {new} xs ys taken =
-    let c = cut_takes taken.from new xs ys taken.sound taken.takes in (
+pub cut_each : {old new : FreeLists} {cpu : ℕ} (xs ys : List ℕ) → TakesEach old cpu (xs ++ ys) new → (mid : FreeLists) × TakesEach old cpu xs mid × TakesEach mid cpu ys new
+cut_each {old} {new} {cpu} xs ys taken =
+    let c = cut_takes taken.from new cpu xs ys taken.sound taken.each in (
       c.0,
-      record { from = taken.from; same = taken.same; sound = taken.sound; takes = c.2 },
-      record { from = c.0; same = record { sup = refl; pools = refl }; sound = c.1; takes = c.3 },
+      record { from = taken.from; same = taken.same; sound = taken.sound; each = c.2 },
+      record { from = c.0; same = record { sup = refl; pools = refl }; sound = c.1; each = c.3 },
     )
 
 -- what was taken is free no more
@@ -52,12 +54,12 @@ gone_all old new (a ∷ xs) w b c cpu free = elim (Contains-cons a xs b c) [
 ]
 
 -- so no block is one of both
-pub taken_apart : {old mid new : FreeLists} {xs ys : List ℕ} → TakesEach old xs mid → TakesEach mid ys new → (b : ℕ) → Contains xs b → Contains ys b → ⊥
-taken_apart {old} {mid} {new} {xs} {ys} first second b one other = let f = each_was_free second b other in gone_all first.from mid xs first.takes b one f.0 f.1
+pub taken_apart : {old mid new : FreeLists} {cpu : ℕ} {xs ys : List ℕ} → TakesEach old cpu xs mid → TakesEach mid cpu ys new → (b : ℕ) → Contains xs b → Contains ys b → ⊥
+taken_apart {old} {mid} {new} {cpu} {xs} {ys} first second b one other = let f = each_was_free second b other in gone_all first.from mid xs (takes_of first) b one f.0 f.1
 
 -- What is known of a row stands once blocks were taken.
-pub stands_after : {R : Region} {s : Super} {free mid : FreeLists} {row : Row} {xs : List ℕ} → StandsRight R s free row → TakesEach free xs mid → StandsRight R s mid row
-stands_after {R} {s} {free} {mid} {row} {xs} stands taken = record {
+pub stands_after : {R : Region} {s : Super} {free mid : FreeLists} {row : Row} {cpu : ℕ} {xs : List ℕ} → StandsRight R s free row → TakesEach free cpu xs mid → StandsRight R s mid row
+stands_after {R} {s} {free} {mid} {row} {cpu} {xs} stands taken = record {
   layout = stands.layout;
   lists = taken_sup taken ∙ stands.lists;
   number = stands.number;
@@ -67,12 +69,12 @@ stands_after {R} {s} {free} {mid} {row} {xs} stands taken = record {
   offset = stands.offset;
   blocks = stands.blocks;
   in_blocks = stands.in_blocks;
-  used = λ cpu now. stands.used cpu (subst (λ (pools : List (List Run)). HasBlock (pool_at pools cpu) (row.tail / 4096)) taken.same.pools (stays_free taken.from mid xs taken.takes cpu (row.tail / 4096) now));
+  used = λ c now. stands.used c (subst (λ (pools : List (List Run)). HasBlock (pool_at pools c) (row.tail / 4096)) taken.same.pools (stays_free taken.from mid xs (takes_of taken) c (row.tail / 4096) now));
 }
 
 -- ---- one of the logs
 
-module _ {R : Region} {s : Super} {free after : FreeLists} {row : Row} {cpu j : ℕ} {fresh : List ℕ} (entries : List Entry) (stands : StandsRight R s free row) (can : CanName R s cpu j row) (taken : TakesEach free fresh after)
+module _ {R : Region} {s : Super} {free after : FreeLists} {row : Row} {cpu j : ℕ} {fresh : List ℕ} (entries : List Entry) (stands : StandsRight R s free row) (can : CanName R s cpu j row) (taken : TakesEach free cpu fresh after)
     (count : length fresh ≡ needed (row.tail % 4096) entries) (given : AreGiven entries) where
   fresh_from : (k : ℕ) → k < length fresh → system_blocks s ≤ get_or fresh k 0
   fresh_from k below =
@@ -110,16 +112,16 @@ module _ {R : Region} {s : Super} {free after : FreeLists} {row : Row} {cpu j : 
 
 -- ---- both of them, where what is held shows both rows
 
-module _ {R : Region} {s : Super} {free after : FreeLists} {row other : Row} (entries others : List Entry) (fresh more : List ℕ) (lists : free.sup ≡ s) (taken : TakesEach free (fresh ++ more) after)
+module _ {R : Region} {s : Super} {free after : FreeLists} {row other : Row} {cpu : ℕ} (entries others : List Entry) (fresh more : List ℕ) (lists : free.sup ≡ s) (taken : TakesEach free cpu (fresh ++ more) after)
     (count : length fresh ≡ needed (row.tail % 4096) entries) (more_count : length more ≡ needed (other.tail % 4096) others) (given : AreGiven entries) (more_given : AreGiven others) (some : 0 < length entries) (more_some : 0 < length others)
     {held : Store} {h g : Held} (shows : ShowsRow R s held h row free) (shows_other : ShowsRow R s held g other free) where
   abbrev mid : FreeLists
   mid = (cut_each fresh more taken).0
 
-  first_taken : TakesEach free fresh mid
+  first_taken : TakesEach free cpu fresh mid
   first_taken = (cut_each fresh more taken).1
 
-  then_taken : TakesEach mid more after
+  then_taken : TakesEach mid cpu more after
   then_taken = (cut_each fresh more taken).2
 
   first_extends : CanExtend R s held row.inode h (slot_address s row.inode) row.tail entries fresh
@@ -138,11 +140,11 @@ module _ {R : Region} {s : Super} {free after : FreeLists} {row other : Row} (en
     some = more_some;
   }
 
-  pub can_extend_two : {cpu : ℕ} {x y : Extension} → cpu < s.cpus → row.inode ≢ other.inode → x.fresh.now ≡ fresh → y.fresh.now ≡ more
+  pub can_extend_two : {x y : Extension} → cpu < s.cpus → row.inode ≢ other.inode → x.fresh.now ≡ fresh → y.fresh.now ≡ more
       → (CanExtend R s held row.inode h (slot_address s row.inode) row.tail entries fresh → CanExtend R s held row.inode h x.slot x.tail x.entries.now x.fresh.now)
       → (CanExtend R s held other.inode g (slot_address s other.inode) other.tail others more → CanExtend R s held other.inode g y.slot y.tail y.entries.now y.fresh.now)
       → CanExtendTwo R s held cpu row.inode h x other.inode g y
-  can_extend_two {cpu} {x} {y} below differ blocks more_blocks as_first as_second = record {
+  can_extend_two {x} {y} below differ blocks more_blocks as_first as_second = record {
     journals = below;
     first = as_first first_extends;
     second = as_second second_extends;

@@ -39,7 +39,7 @@ drops_after {old} {mid} {new} {fresh} {end} name time grew drops =
       names = λ q. drops.names q ∙ (λ t. cond (pointwise nat_eq q name) None (grew.names q t));
     }
 
-module _ {R S : Region} {s : Super} {free after : FreeLists} {rows mid : List Row} {i j time : ℕ} {name : List ℕ} (read : Row) (grew : AppendsLogs R S s free after rows mid i (name_entries Remove read.inode name time) j (links_entries (read.numbers.links - 1) time)) (read_at : slice_get rows j ≡ Some read) (differ : i ≢ j) where
+module _ {R S : Region} {s : Super} {free after : FreeLists} {cpu : ℕ} {rows mid : List Row} {i j time : ℕ} {name : List ℕ} (read : Row) (grew : AppendsLogs R S s free after cpu rows mid i (name_entries Remove read.inode name time) j (links_entries (read.numbers.links - 1) time)) (read_at : slice_get rows j ≡ Some read) (differ : i ≢ j) where
   abbrev entries : List Entry
   entries = name_entries Remove read.inode name time
 
@@ -49,10 +49,10 @@ module _ {R S : Region} {s : Super} {free after : FreeLists} {rows mid : List Ro
   abbrev first : Row
   first = grew.first
 
-  grown_rows : GrowsTwo R S s free after rows mid i first entries j read others (λ fresh now. GrowsSame first fresh (end_of fresh 0 first.tail entries) now) (λ more now. GrowsSame read more (end_of more 0 read.tail others) now)
+  grown_rows : GrowsTwo R S s free after cpu rows mid i first entries j read others (λ fresh now. GrowsSame first fresh (end_of fresh 0 first.tail entries) now) (λ more now. GrowsSame read more (end_of more 0 read.tail others) now)
   grown_rows =
       let step = grew.step in
-      subst (λ (r : Row). GrowsTwo R S s free after rows mid i first entries j r others (λ fresh now. GrowsSame first fresh (end_of fresh 0 first.tail entries) now) (λ more now. GrowsSame r more (end_of more 0 r.tail others) now)) (same_Some _ _ (sym step.other_at ∙ read_at)) grew.step
+      subst (λ (r : Row). GrowsTwo R S s free after cpu rows mid i first entries j r others (λ fresh now. GrowsSame first fresh (end_of fresh 0 first.tail entries) now) (λ more now. GrowsSame r more (end_of more 0 r.tail others) now)) (same_Some _ _ (sym step.other_at ∙ read_at)) grew.step
 
   directory_there : slice_get mid i ≡ Some grown_rows.first_now
   directory_there = ap (λ (rs : List Row). slice_get rs i) grown_rows.put ∙ first_set rows i j first read grown_rows.first_now grown_rows.second_now grown_rows.at grown_rows.other_at differ
@@ -61,7 +61,7 @@ module _ {R S : Region} {s : Super} {free after : FreeLists} {rows mid : List Ro
   file_there = ap (λ (rs : List Row). slice_get rs j) grown_rows.put ∙ second_set rows i j first read grown_rows.first_now grown_rows.second_now grown_rows.at grown_rows.other_at differ
 
   -- Both rows are settled.
-  pub unlinks_at_places : {c d : Row} (a b : Row) → slice_get mid i ≡ Some a → DropsName a name time c → EachOnce c.names → slice_get (set mid i c) j ≡ Some b → CountsLinks b (read.numbers.links - 1) time d → UnlinksAt R S s free after rows (set (set mid i c) j d) i j name time
+  pub unlinks_at_places : {c d : Row} (a b : Row) → slice_get mid i ≡ Some a → DropsName a name time c → EachOnce c.names → slice_get (set mid i c) j ≡ Some b → CountsLinks b (read.numbers.links - 1) time d → UnlinksAt R S s free after cpu rows (set (set mid i c) j d) i j name time
   unlinks_at_places {c} {d} a b a_at drops once_c b_at counts =
       let step = grown_rows in
       let first_is : a ≡ step.first_now = same_Some _ _ (sym a_at ∙ directory_there) in
@@ -97,8 +97,8 @@ abbrev pub dropped_row : Row → List ℕ → ℕ → Row
 dropped_row row name time = record row { numbers = record row.numbers { time = time }; names = record row.names { names = without name row.names.names } }
 
 -- What a stop leaves of a name less and a link less, by what it leaves of both logs.
-pub left_unlinked : {R : Region} {s : Super} {free : FreeLists} {held : Store} (directory file : Row) (name : List ℕ) (time : ℕ)
-    → (left : Region) → LeavesEither R (fixed_layout s) held (AppendedBoth R s free directory (name_entries Remove file.inode name time) file (links_entries (file.numbers.links - 1) time)) left → LeavesEither R (fixed_layout s) held (Unlinked R s free directory file name time) left
+pub left_unlinked : {R : Region} {s : Super} {free : FreeLists} {cpu : ℕ} {held : Store} (directory file : Row) (name : List ℕ) (time : ℕ)
+    → (left : Region) → LeavesEither R (fixed_layout s) held (AppendedBoth R s free cpu directory (name_entries Remove file.inode name time) file (links_entries (file.numbers.links - 1) time)) left → LeavesEither R (fixed_layout s) held (Unlinked R s free cpu directory file name time) left
 left_unlinked directory file name time left (inl same) = inl same
 left_unlinked {R} {s} {free} directory file name time left (inr w) =
     let made = w.1 in

@@ -43,7 +43,6 @@ use Rattle.nv_held.proofs.ListsKept.{lists_change}
 use Rattle.nv_commit.specs.Extends.{CanExtend, ShowsMoved, extended, with_log}
 use Rattle.nv_held.proofs.nv_outcome.SuperOf.{layout_of_super}
 use Rattle.nv_steps.specs.Steps.{ShowsRow}
-use Rattle.nv_steps.specs.Taken.{single_takes}
 use Rattle.nv_steps.specs.Writes.{replaced_blocks}
 use Rattle.nv_steps.specs.Written.{Commits, MapsEntries, Prepared, entry_blocks}
 use Rattle.nv_steps.specs.declared.planning.Plan.{Plan}
@@ -55,6 +54,7 @@ use Rattle.nv_steps.proofs.StoredEntries.{some_write}
 use Rattle.nv_steps.proofs.TakenBlocks.{all_differ, is_taken, was_taken}
 use Rattle.nv_steps.proofs.WriteGood.{all_clean, all_quiet, good_writes, placed_blocks, placed_count, placed_pages, timed, writes_data}
 use Rattle.nv_steps.proofs.WrittenRow.{written_index, written_numbers}
+use Rattle.nv_steps.proofs.OneByOne.{single_takes}
 
 -- a block is free in a pool
 abbrev pub IsFreeAt : FreeLists → ℕ → ℕ → Type 0

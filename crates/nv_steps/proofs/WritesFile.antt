@@ -40,6 +40,7 @@ use Rattle.nv_steps.proofs.WriteFollows as made
 use Rattle.nv_steps.proofs.WriteFollows.{IsRight}
 use Rattle.nv_steps.proofs.WriteGood.{placed_entry, placed_pages}
 use Rattle.nv_steps.proofs.WrittenBytes.{unwritten_byte}
+use Rattle.nv_steps.proofs.OneByOne.{by_rule}
 
 module _ {R S : Region} {s : Super} {row now : Row} {free after : FreeLists} {cpu : ℕ} {plan : Plan} {entries : List Entry} {fresh : List ℕ} {bytes : ℕ → ℕ}
     (stands : StandsRight R s free row) (is_file : row.kind ≡ File) (file : FileStands R s free row) (below : cpu < free.sup.cpus) (right : IsRight row plan)
@@ -63,9 +64,11 @@ module _ {R S : Region} {s : Super} {row now : Row} {free after : FreeLists} {cp
           names = λ q. ap (λ (n : Names). name_at n q) has.names ∙ told.names q ∙ sym (names.names q);
         }
 
-    log : (given : FreeLists) → KeepsFree (fixed_layout s) (with_log held row.inode h entries fresh) given.pools → LogFollows R S s held h entries row now given
+    log : (given : FreeLists) → KeepsFree (fixed_layout s) (with_log held row.inode h entries fresh) given.pools → LogFollows R S s held h entries p.mid.pools cpu row now given
     log given in_lists = record {
       fresh = fresh;
+      rest = after.pools;
+      taken = by_rule p.taken;
       blocks = made.fresh_free shows stands.lists is_file below right p c;
       count = p.count ∙ ap (λ (t : ℕ). needed (t % 4096) entries) tails;
       sound = made.sound_after shows stands.lists is_file below right p c;
@@ -134,7 +137,7 @@ module _ {R S : Region} {s : Super} {row now : Row} {free after : FreeLists} {cp
     runs = p.runs;
     rest = p.mid.pools;
     taken = subst (λ (pools : List (List Run)). Takes pools cpu (data_blocks plan) p.runs p.mid.pools) p.same.pools p.took.takes;
-    follows = λ held h shows. subst (λ (es : List Entry). LogFollows R S s held h es row now given) p.says (log shows given (in_lists held h shows));
+    follows = λ held h shows. subst (λ (es : List Entry). LogFollows R S s held h es p.mid.pools cpu row now given) p.says (log shows given (in_lists held h shows));
     inode = has.inode;
     kind = has.kind;
     numbers = has.numbers;

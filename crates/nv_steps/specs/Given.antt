@@ -4,9 +4,8 @@ use Rattle.nv_super.specs.declared.owners.Run.{Run}
 use Rattle.nv_super.specs.Layout.{system_blocks}
 use Rattle.nv_alloc.specs.FreeValue.{FreeLists}
 use Rattle.nv_alloc.specs.FreeLists.{IsFreeIn, JoinAll, Joins}
-use Rattle.nv_alloc.specs.Taking.{HasBlock}
+use Rattle.nv_alloc.specs.Taking.{HasBlock, block_run}
 use Rattle.nv_radix.specs.Pages.{Pages, block_at}
-use Rattle.nv_steps.specs.Taken.{block_run}
 
 -- The blocks of an index are data blocks, none of them free, and no two pages have the same.
 pub record MapsOwn (free : FreeLists) (m : Pages) : Type 0 where

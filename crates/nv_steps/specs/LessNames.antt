@@ -8,7 +8,7 @@ use Rattle.nv_super.specs.declared.owners.Run.{Run}
 use Rattle.nv_super.specs.Layout.{system_blocks}
 use Rattle.nv_alloc.specs.FreeValue.{FreeLists}
 use Rattle.nv_alloc.specs.FreeLists.{IsFreeIn, JoinAll}
-use Rattle.nv_alloc.specs.Taking.{HasBlock}
+use Rattle.nv_alloc.specs.Taking.{HasBlock, block_run}
 use Rattle.nv_entry.specs.declared.entry.Operation.TheVariants.{Remove}
 use Rattle.nv_logpage.specs.Append.{AllDiffer, end_of, needed}
 use Rattle.nv_names.specs.Names.{EachOnce, name_at}
@@ -19,7 +19,7 @@ use Rattle.nv_steps.specs.Given.{MapsOwn}
 use Rattle.nv_steps.specs.NameEntries.{name_entries, with_gone}
 use Rattle.nv_steps.specs.NewNames.{ShowsNamed}
 use Rattle.nv_steps.specs.Steps.{ShowsRow}
-use Rattle.nv_steps.specs.Taken.{TakesEach, block_run}
+use Rattle.nv_steps.specs.Taken.{TakesEach}
 
 -- ---- rows
 
@@ -61,13 +61,13 @@ pub record GivesRow (old : FreeLists) (row : Row) (new : FreeLists) : Type 0 whe
 
 -- ---- the step
 
--- The removal of a name was put behind the log of its directory's row, over blocks that were taken one by one, and the inode
+-- The removal of a name was put behind the log of its directory's row, over blocks that a CPU took one by one, and the inode
 -- that it stood for is gone.
-pub record CutsName (R S : Region) (s : Super) (free after : FreeLists) (old new : Row) (j time : ℕ) (name : List ℕ) : Type 0 where
+pub record CutsName (R S : Region) (s : Super) (free after : FreeLists) (cpu : ℕ) (old new : Row) (j time : ℕ) (name : List ℕ) : Type 0 where
   pub fresh : List ℕ
-  pub taken : TakesEach free fresh after
+  pub taken : TakesEach free cpu fresh after
   pub count : length fresh ≡ needed (old.tail % 4096) (name_entries Remove j name time)
   pub directory : HasLost old fresh (end_of fresh 0 old.tail (name_entries Remove j name time)) name time new
   pub once : EachOnce old.names
   pub once_now : EachOnce new.names
-  pub shows : (held : Store) (h : Held) → ShowsRow R s held h old free → ShowsNamed R S s held (with_gone held old.inode h (name_entries Remove j name time) fresh j)
+  pub shows : (held : Store) (h : Held) → ShowsRow R s held h old free → ShowsNamed R S s cpu held (with_gone held old.inode h (name_entries Remove j name time) fresh j)

@@ -6,6 +6,7 @@ pub mod Writes
 pub mod Written
 pub mod Given
 pub mod Sizes
+pub mod Fronts
 pub mod NewNames
 pub mod NameEntries
 pub mod MoreNames

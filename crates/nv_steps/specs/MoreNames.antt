@@ -79,16 +79,16 @@ pub record ReadiesRow (old new : Row) (entries : List Entry) (names : ℕ) : Typ
 
 -- ---- the step of two logs
 
--- Entries were written behind the logs of the rows at two places, over blocks that were taken one by one, the first log's
+-- Entries were written behind the logs of the rows at two places, over blocks that a CPU took one by one, the first log's
 -- first. What each row has become is said by its blocks.
-pub record GrowsTwo (R S : Region) (s : Super) (free after : FreeLists) (rows news : List Row) (i : ℕ) (first : Row) (entries : List Entry) (j : ℕ) (second : Row) (others : List Entry) (Becomes Other : List ℕ → Row → Type 0) : Type 0 where
+pub record GrowsTwo (R S : Region) (s : Super) (free after : FreeLists) (cpu : ℕ) (rows news : List Row) (i : ℕ) (first : Row) (entries : List Entry) (j : ℕ) (second : Row) (others : List Entry) (Becomes Other : List ℕ → Row → Type 0) : Type 0 where
   pub first_now : Row
   pub second_now : Row
   pub at : slice_get rows i ≡ Some first
   pub other_at : slice_get rows j ≡ Some second
   pub fresh : List ℕ
   pub more : List ℕ
-  pub taken : TakesEach free (fresh ++ more) after
+  pub taken : TakesEach free cpu (fresh ++ more) after
   pub count : length fresh ≡ needed (first.tail % 4096) entries
   pub more_count : length more ≡ needed (second.tail % 4096) others
   pub is : Becomes fresh first_now
@@ -96,13 +96,13 @@ pub record GrowsTwo (R S : Region) (s : Super) (free after : FreeLists) (rows ne
   pub once : NamesOnce first first_now
   pub other_once : NamesOnce second second_now
   pub put : news ≡ set (set rows i first_now) j second_now
-  pub shows : (held : Store) (h g : Held) → ShowsRow R s held h first free → ShowsRow R s held g second free → ShowsNamed R S s held (with_log (with_log held first.inode h entries fresh) second.inode g others more)
+  pub shows : (held : Store) (h g : Held) → ShowsRow R s held h first free → ShowsRow R s held g second free → ShowsNamed R S s cpu held (with_log (with_log held first.inode h entries fresh) second.inode g others more)
 
 -- Both rows have their new tails and pages.
-pub record AppendsLogs (R S : Region) (s : Super) (free after : FreeLists) (rows news : List Row) (i : ℕ) (entries : List Entry) (j : ℕ) (others : List Entry) : Type 0 where
+pub record AppendsLogs (R S : Region) (s : Super) (free after : FreeLists) (cpu : ℕ) (rows news : List Row) (i : ℕ) (entries : List Entry) (j : ℕ) (others : List Entry) : Type 0 where
   pub first : Row
   pub second : Row
-  pub step : GrowsTwo R S s free after rows news i first entries j second others (λ fresh now. GrowsSame first fresh (end_of fresh 0 first.tail entries) now) (λ more now. GrowsSame second more (end_of more 0 second.tail others) now)
+  pub step : GrowsTwo R S s free after cpu rows news i first entries j second others (λ fresh now. GrowsSame first fresh (end_of fresh 0 first.tail entries) now) (λ more now. GrowsSame second more (end_of more 0 second.tail others) now)
 
 -- what a file's row becomes that counts so many links
 abbrev pub GetsCount : Row → ℕ → ℕ → List ℕ → Row → Type 0
@@ -113,7 +113,7 @@ abbrev pub GetsName : Row → List ℕ → ℕ → ℕ → List ℕ → Row → 
 GetsName directory name j time more now = HasNamed directory more (end_of more 0 directory.tail (name_entries Add j name time)) name j (place_named more directory.tail j name time) time now
 
 -- The file of a row counts a link more, and the directory of another has a name more for it.
-pub record LinksAt (R S : Region) (s : Super) (free after : FreeLists) (rows news : List Row) (target place : ℕ) (name : List ℕ) (time : ℕ) : Type 0 where
+pub record LinksAt (R S : Region) (s : Super) (free after : FreeLists) (cpu : ℕ) (rows news : List Row) (target place : ℕ) (name : List ℕ) (time : ℕ) : Type 0 where
   pub file : Row
   pub directory : Row
-  pub step : GrowsTwo R S s free after rows news target file (links_entries (file.numbers.links + 1) time) place directory (name_entries Add file.inode name time) (λ fresh now. GetsCount file (file.numbers.links + 1) time fresh now) (λ more now. GetsName directory name file.inode time more now)
+  pub step : GrowsTwo R S s free after cpu rows news target file (links_entries (file.numbers.links + 1) time) place directory (name_entries Add file.inode name time) (λ fresh now. GetsCount file (file.numbers.links + 1) time fresh now) (λ more now. GetsName directory name file.inode time more now)

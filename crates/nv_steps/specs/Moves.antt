@@ -45,10 +45,10 @@ pub record HasMoved (old : Row) (fresh : List ℕ) (end : ℕ) (name other : Lis
   pub once_between : EachOnce between
   pub once_now : EachOnce new.names
 
--- Both entries were written behind the log of a directory's row, over blocks that were taken for them one by one.
-pub record MovesWithin (R S : Region) (s : Super) (free after : FreeLists) (old new : Row) (i : ℕ) (name other : List ℕ) (time : ℕ) : Type 0 where
+-- Both entries were written behind the log of a directory's row, over blocks that a CPU took for them one by one.
+pub record MovesWithin (R S : Region) (s : Super) (free after : FreeLists) (cpu : ℕ) (old new : Row) (i : ℕ) (name other : List ℕ) (time : ℕ) : Type 0 where
   pub fresh : List ℕ
-  pub taken : TakesEach free fresh after
+  pub taken : TakesEach free cpu fresh after
   pub count : length fresh ≡ needed (old.tail % 4096) (move_entries i name other time)
   pub row : HasMoved old fresh (end_of fresh 0 old.tail (move_entries i name other time)) name other i (move_place fresh old.tail i name other time) time new
   pub moved : (held : Store) (h : Held) → CanExtend R s held old.inode h (slot_address s old.inode) old.tail (move_entries i name other time) fresh → ShowsMoved R s (with_log held old.inode h (move_entries i name other time) fresh) S

@@ -19,6 +19,7 @@ use Rattle.nv_commit.specs.Together.{ShowsIdle}
 use Rattle.nv_steps.specs.NameEntries.{first_entries, name_entries, with_named}
 use Rattle.nv_steps.specs.Steps.{ShowsRow}
 use Rattle.nv_steps.specs.Taken.{TakesEach}
+use Rattle.nv_steps.specs.Fronts.{SameFrontBut}
 
 -- ---- where a new inode goes
 
@@ -56,24 +57,26 @@ pub record IsNewRow (j : ℕ) (kind : Kind) (mode time page tail : ℕ) (row : R
 
 -- ---- the step
 
--- The region shows this, with nothing in its journals, and each byte that a file had is where it was.
-pub record ShowsNamed (R S : Region) (s : Super) (held after : Store) : Type 0 where
+-- The region shows this, with nothing in its journals, each byte that a file had is where it was, and of the journals that of
+-- the CPU alone was used.
+pub record ShowsNamed (R S : Region) (s : Super) (cpu : ℕ) (held after : Store) : Type 0 where
   pub idle : ShowsIdle S s after
   pub bytes : (i : ℕ) (g : Held) → held i ≡ Some g → (x : ℕ) → byte_of S (fixed_layout s) g x ≡ byte_of R (fixed_layout s) g x
+  pub front : SameFrontBut s.cpus cpu R S
 
 -- where the entry of a new name goes
 abbrev pub place_named : List ℕ → ℕ → ℕ → List ℕ → ℕ → ℕ
 place_named fresh tail j name time = place_of fresh 0 tail (Name (record { operation = Add; inode = j; time = time; name = name }))
 
--- A new inode was made over one block, and its name was put behind the log of its directory's row, over further ones that
--- were taken one by one.
-pub record MakesNamed (R S : Region) (s : Super) (free after : FreeLists) (old new : Row) (kind : Kind) (mode time j : ℕ) (name : List ℕ) (made : Row) : Type 0 where
+-- A new inode was made over one block, and its name was put behind the log of its directory's row, over further ones. They were
+-- taken one by one by a CPU, that of the new log first.
+pub record MakesNamed (R S : Region) (s : Super) (free after : FreeLists) (cpu : ℕ) (old new : Row) (kind : Kind) (mode time j : ℕ) (name : List ℕ) (made : Row) : Type 0 where
   pub page : ℕ
   pub fresh : List ℕ
-  pub taken : TakesEach free (page ∷ fresh) after
+  pub taken : TakesEach free cpu (page ∷ fresh) after
   pub count : length fresh ≡ needed (old.tail % 4096) (name_entries Add j name time)
   pub directory : HasNamed old fresh (end_of fresh 0 old.tail (name_entries Add j name time)) name j (place_named fresh old.tail j name time) time new
   pub once : EachOnce old.names
   pub once_now : EachOnce new.names
   pub row : IsNewRow j kind mode time page (end_of [] 0 (4096 * page) (first_entries mode time)) made
-  pub shows : (held : Store) (h : Held) → ShowsRow R s held h old free → held j ≡ None → ShowsNamed R S s held (with_named held kind mode time j old.inode h name page fresh)
+  pub shows : (held : Store) (h : Held) → ShowsRow R s held h old free → held j ≡ None → ShowsNamed R S s cpu held (with_named held kind mode time j old.inode h name page fresh)

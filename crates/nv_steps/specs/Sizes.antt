@@ -5,7 +5,9 @@ use Rattle.nv_region.specs.Stops.{IsMixed}
 use Rattle.nv_super.specs.declared.superblock.Super.{Super}
 use Rattle.nv_super.specs.declared.kind.Kind.TheVariants.{File}
 use Rattle.nv_super.specs.Layout.{fixed_layout}
+use Rattle.nv_super.specs.declared.owners.Run.{Run}
 use Rattle.nv_alloc.specs.FreeValue.{FreeLists}
+use Rattle.nv_alloc.specs.Taking.{TakesSingly}
 use Rattle.nv_entry.specs.declared.entry.AttrEntry.{AttrEntry}
 use Rattle.nv_entry.specs.declared.entry.Entry.{Entry}
 use Rattle.nv_entry.specs.declared.entry.Entry.TheVariants.{Attr, Write}
@@ -54,6 +56,11 @@ blocks_from tail x (Some b) = suc (needed (tail % 4096) (resizing 0 x (Some b)))
 
 -- ---- what is made of the file
 
+-- the block of a page that is copied, if one is
+abbrev pub copied_to : Option ℕ → List ℕ
+copied_to None = []
+copied_to (Some b) = b ∷ []
+
 -- The numbers are those of the entry, and there is nothing else new but of the log and the pages.
 pub record HasSize (old : Row) (x : AttrEntry) (new : Row) : Type 0 where
   pub inode : new.inode ≡ old.inode
@@ -70,13 +77,16 @@ pub record HasSize (old : Row) (x : AttrEntry) (new : Row) : Type 0 where
 abbrev pub SameBytes : Region → Region → Row → Row → ℕ → Type 0
 SameBytes R S old new size = (y : ℕ) → y < size → byte_in S (block_at new.index (y / 4096)) y ≡ (if nat_lt y old.numbers.size then byte_in R (block_at old.index (y / 4096)) y else 0)
 
--- The log has the entries, the row what they say, and the file the bytes of before up to the new size.
-pub record Resizes (R S : Region) (s : Super) (free : FreeLists) (old : Row) (x : AttrEntry) (new : Row) (after : FreeLists) : Type 0 where
+-- The log has the entries, the row what they say, and the file the bytes of before up to the new size. A CPU took the block of
+-- the copied page, and then those of the log, each by itself.
+pub record Resizes (R S : Region) (s : Super) (free : FreeLists) (cpu : ℕ) (old : Row) (x : AttrEntry) (new : Row) (after : FreeLists) : Type 0 where
   pub to : Option ℕ
   pub copied : is_some to ≡ is_some (end_block (block_at old.index) old.numbers.size x.size)
+  pub between : List (List Run)
+  pub taken : TakesSingly free.pools cpu (copied_to to) between
   pub numbers : HasSize old x new
   pub fresh : (held : Store) (h : Held) → ShowsRow R s held h old free → (b : ℕ) → to ≡ Some b → IsUnowned (fixed_layout s) held b
-  pub follows : (held : Store) (h : Held) → ShowsRow R s held h old free → LogFollows R S s held h (resizing old.numbers.size x to) old new after
+  pub follows : (held : Store) (h : Held) → ShowsRow R s held h old free → LogFollows R S s held h (resizing old.numbers.size x to) between cpu old new after
   pub bytes : (held : Store) (h : Held) → ShowsRow R s held h old free → SameBytes R S old new x.size
 
 -- ---- a page that is copied

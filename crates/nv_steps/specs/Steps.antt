@@ -4,8 +4,9 @@ use Rattle.nv_region.specs.Region.{Region}
 use Rattle.nv_super.specs.declared.superblock.Super.{Super}
 use Rattle.nv_region.specs.Stops.{IsMixed}
 use Rattle.nv_super.specs.Layout.{fixed_layout, slot_address}
+use Rattle.nv_super.specs.declared.owners.Run.{Run}
 use Rattle.nv_alloc.specs.FreeValue.{FreeLists}
-use Rattle.nv_alloc.specs.Taking.{all_blocks}
+use Rattle.nv_alloc.specs.Taking.{all_blocks, TakesSingly}
 use Rattle.nv_entry.specs.declared.entry.Entry.{Entry}
 use Rattle.nv_logpage.specs.Append.{end_of, needed}
 use Rattle.nv_scan.specs.declared.piece.Row.{Row}
@@ -28,10 +29,12 @@ pub record ShowsRow (R : Region) (s : Super) (held : Store) (h : Held) (row : Ro
   pub told : KeepsRow (fixed_layout s) h row
   pub lists : KeepsFree (fixed_layout s) held free.pools
 
--- Then the log has grown by these entries, over free blocks: the region is sound, the row and the free lists are of what is
--- held, and each byte that a file had is where it was.
-pub record LogFollows (R S : Region) (s : Super) (held : Store) (h : Held) (entries : List Entry) (old new : Row) (free : FreeLists) : Type 0 where
+-- Then the log has grown by these entries, over free blocks that are taken one by one from these pools by a CPU: the region is
+-- sound, the row and the free lists are of what is held, and each byte that a file had is where it was.
+pub record LogFollows (R S : Region) (s : Super) (held : Store) (h : Held) (entries : List Entry) (pools : List (List Run)) (cpu : ℕ) (old new : Row) (free : FreeLists) : Type 0 where
   pub fresh : List ℕ
+  pub rest : List (List Run)
+  pub taken : TakesSingly pools cpu fresh rest
   pub blocks : AreFree (fixed_layout s) held fresh
   pub count : length fresh ≡ needed (h.tail % 4096) entries
   pub sound : ShowsSound S s (with_log held old.inode h entries fresh)
@@ -40,11 +43,11 @@ pub record LogFollows (R S : Region) (s : Super) (held : Store) (h : Held) (entr
   pub lists : KeepsFree (fixed_layout s) (with_log held old.inode h entries fresh) free.pools
   pub bytes : (i : ℕ) (g : Held) → held i ≡ Some g → (x : ℕ) → byte_of S (fixed_layout s) g x ≡ byte_of R (fixed_layout s) g x
 
--- Entries were written behind the log of a row, over blocks that were taken for them one by one, and the row has its new
--- tail and its new pages.
-pub record AppendsLog (R S : Region) (s : Super) (free after : FreeLists) (old new : Row) (entries : List Entry) : Type 0 where
+-- Entries were written behind the log of a row, over blocks that a CPU took for them one by one, and the row has its new tail
+-- and its new pages.
+pub record AppendsLog (R S : Region) (s : Super) (free after : FreeLists) (cpu : ℕ) (old new : Row) (entries : List Entry) : Type 0 where
   pub fresh : List ℕ
-  pub taken : TakesEach free fresh after
+  pub taken : TakesEach free cpu fresh after
   pub count : length fresh ≡ needed (old.tail % 4096) entries
   pub row : HasGrown old fresh (end_of fresh 0 old.tail entries) new
   pub moved : (held : Store) (h : Held) → CanExtend R s held old.inode h (slot_address s old.inode) old.tail entries fresh → ShowsMoved R s (with_log held old.inode h entries fresh) S

@@ -23,7 +23,7 @@ abbrev pub LosesName : Row → List ℕ → ℕ → ℕ → List ℕ → Row →
 LosesName directory name j time fresh now = HasLost directory fresh (end_of fresh 0 directory.tail (name_entries Remove j name time)) name time now
 
 -- The directory of one row has a name less, and the file of another counts a link less.
-pub record UnlinksAt (R S : Region) (s : Super) (free after : FreeLists) (rows news : List Row) (place target : ℕ) (name : List ℕ) (time : ℕ) : Type 0 where
+pub record UnlinksAt (R S : Region) (s : Super) (free after : FreeLists) (cpu : ℕ) (rows news : List Row) (place target : ℕ) (name : List ℕ) (time : ℕ) : Type 0 where
   pub directory : Row
   pub file : Row
-  pub step : GrowsTwo R S s free after rows news place directory (name_entries Remove file.inode name time) target file (links_entries (file.numbers.links - 1) time) (λ fresh now. LosesName directory name file.inode time fresh now) (λ more now. GetsCount file (file.numbers.links - 1) time more now)
+  pub step : GrowsTwo R S s free after cpu rows news place directory (name_entries Remove file.inode name time) target file (links_entries (file.numbers.links - 1) time) (λ fresh now. LosesName directory name file.inode time fresh now) (λ more now. GetsCount file (file.numbers.links - 1) time more now)

@@ -6,12 +6,11 @@ use Rattle.nv_super.specs.declared.owners.Run.{Run}
 use Rattle.nv_super.specs.Layout.{system_blocks}
 use Rattle.nv_alloc.specs.FreeValue.{FreeLists}
 use Rattle.nv_alloc.specs.FreeLists.{IsFreeIn}
-use Rattle.nv_alloc.specs.Taking.{Disjoint, HasBlock, Takes, all_blocks, left, taken}
+use Rattle.nv_alloc.specs.Taking.{Disjoint, HasBlock, Takes, all_blocks, left, taken, block_run}
 use Rattle.nv_entry.specs.declared.entry.Entry.{Entry}
 use Rattle.nv_entry.specs.declared.entry.Entry.TheVariants.{Write}
 use Rattle.nv_logpage.specs.Append.{needed}
 use Rattle.nv_radix.specs.Pages.{Pages, block_at}
-use Rattle.nv_steps.specs.Taken.{block_run}
 use Rattle.nv_steps.specs.declared.planning.Plan.{Plan}
 
 -- ---- which pages

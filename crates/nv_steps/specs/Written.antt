@@ -61,7 +61,7 @@ pub record FileStands (R : Region) (s : Super) (free : FreeLists) (row : Row) : 
   pub below : (p b : ℕ) → block_at row.index p ≡ Some b → p * 4096 < row.numbers.size
   pub small : row.numbers.size ≤ 1073741824
 
--- Blocks were taken for the pages of a write, and then pages for its entries, one by one.
+-- A CPU took blocks for the pages of a write, and then pages for its entries, one by one.
 pub record Prepared (old : FreeLists) (cpu tail : ℕ) (plan : Plan) (entries : List Entry) (fresh : List ℕ) (new : FreeLists) : Type 0 where
   pub from : FreeLists
   pub same : SamePools old from
@@ -72,7 +72,7 @@ pub record Prepared (old : FreeLists) (cpu tail : ℕ) (plan : Plan) (entries : 
   pub leave : Leave from (data_blocks plan) runs mid
   pub between : IsSound mid
   pub says : entries ≡ data_entries plan runs
-  pub taken : TakesEach mid fresh new
+  pub taken : TakesEach mid cpu fresh new
   pub count : length fresh ≡ needed (tail % 4096) entries
 
 -- The new bytes were stored into the entries' blocks, and then the entries written behind the log's tail.
@@ -98,13 +98,13 @@ pub record HasWritten (old : Row) (plan : Plan) (entries : List Entry) (fresh : 
   pub index : MapsEntries old.index entries new.index
   pub names : new.names ≡ old.names
 
--- What a write makes of the row of its file: the blocks that it takes decide its entries, by which the log grows, and each
--- byte is the new one, or what it was, or zero.
+-- What a write makes of the row of its file: the blocks that a CPU takes at once decide its entries, by which the log grows over
+-- blocks that it takes from the rest. Each byte is the new one, or what it was, or zero.
 pub record WritesFile (R S : Region) (s : Super) (free after : FreeLists) (cpu : ℕ) (plan : Plan) (offset : ℕ) (new : List ℕ) (old now : Row) : Type 0 where
   pub runs : List Run
   pub rest : List (List Run)
   pub taken : Takes free.pools cpu (data_blocks plan) runs rest
-  pub follows : (held : Store) (h : Held) → ShowsRow R s held h old free → LogFollows R S s held h (data_entries plan runs) old now after
+  pub follows : (held : Store) (h : Held) → ShowsRow R s held h old free → LogFollows R S s held h (data_entries plan runs) rest cpu old now after
   pub inode : now.inode ≡ old.inode
   pub kind : now.kind ≡ old.kind
   pub numbers : now.numbers ≡ record old.numbers { size = plan.size; time = plan.time }

@@ -42,7 +42,7 @@ pub(crate) fn append_log<P: Pmem>(
     requires cpu { cpu < free.old.sup.cpus }
     requires stands { StandsRight (P.region memory.old) sup.now free.old row.old }
     requires given { AreGiven entries.now }
-    ensures appended { OnOk result (AppendsLog (P.region memory.old) (P.region memory.new) sup.now free.old free.new row.old row.new entries.now) }
+    ensures appended { OnOk result (AppendsLog (P.region memory.old) (P.region memory.new) sup.now free.old free.new cpu row.old row.new entries.now) }
     ensures enough { OnOk result (needed (row.old.tail % 4096) entries.now ≤ all_blocks free.old.pools) }
     ensures room { OnOk result (free.old.room ≤ free.new.room) }
     ensures settled { OnOk result (NothingPending (P.region memory.new) (P.may_hold memory.new)) }
@@ -55,7 +55,7 @@ pub(crate) fn append_log<P: Pmem>(
     ensures keeps_fuse { KeepsFuse (λ limit. size (P.region memory.old) ≤ limit) (P.fuse memory.old) (P.fuse memory.new) }
     // What a stop leaves, at any exit.
     ensures any_stop { (held : Store) (h : Held) → ShowsRow (P.region memory.old) sup.now held h row.old free.old → 0 < length entries.now → NothingPending (P.region memory.old) (P.may_hold memory.old)
-        → LeavesOnly (P.region memory.new) (P.may_hold memory.new) (LeavesEither (P.region memory.old) (fixed_layout sup.now) held (Appended (P.region memory.old) sup.now free.old row.old entries.now)) }
+        → LeavesOnly (P.region memory.new) (P.may_hold memory.new) (LeavesEither (P.region memory.old) (fixed_layout sup.now) held (Appended (P.region memory.old) sup.now free.old cpu row.old entries.now)) }
 {
     let slot = sup.slot_address(row.inode);
     let tail = row.tail;

@@ -44,7 +44,7 @@ pub fn change_attributes<P: Pmem>(
     requires mode { attributes.mode ≤ 4095 }
     requires size { attributes.size ≡ row.old.numbers.size }
     ensures log { (held : Store) (h : Held) → ShowsRow (P.region memory.old) sup.now held h row.old free.old
-        → OnOk result (LogFollows (P.region memory.old) (P.region memory.new) sup.now held h (Attr attributes ∷ []) row.old row.new free.new) }
+        → OnOk result (LogFollows (P.region memory.old) (P.region memory.new) sup.now held h (Attr attributes ∷ []) free.old.pools cpu row.old row.new free.new) }
     ensures row { OnOk result (HasAttributes row.old attributes row.new) }
     ensures enough { OnOk result (needed (row.old.tail % 4096) (Attr attributes ∷ []) ≤ all_blocks free.old.pools) }
     ensures settled { OnOk result (NothingPending (P.region memory.new) (P.may_hold memory.new)) }
@@ -57,7 +57,7 @@ pub fn change_attributes<P: Pmem>(
     ensures keeps_fuse { KeepsFuse (λ limit. size (P.region memory.old) ≤ limit) (P.fuse memory.old) (P.fuse memory.new) }
     // What a stop leaves, at any exit.
     ensures any_stop { (held : Store) (h : Held) → ShowsRow (P.region memory.old) sup.now held h row.old free.old → NothingPending (P.region memory.old) (P.may_hold memory.old)
-        → LeavesOnly (P.region memory.new) (P.may_hold memory.new) (LeavesEither (P.region memory.old) (fixed_layout sup.now) held (Attributed (P.region memory.old) sup.now free.old row.old attributes)) }
+        → LeavesOnly (P.region memory.new) (P.may_hold memory.new) (LeavesEither (P.region memory.old) (fixed_layout sup.now) held (Attributed (P.region memory.old) sup.now free.old cpu row.old attributes)) }
 {
     let entries = [Entry::Attr(attributes)];
     append_log(alloc, memory, sup, free, cpu, row, &entries)?;

@@ -27,7 +27,7 @@ pub(crate) fn take_blocks(
     count: u64,
 ) -> Result<Vec<u64>, AllocRefusal>
     requires cpu { cpu < free.old.sup.cpus }
-    ensures taken { IfOk result (λ blocks. TakesEach free.old blocks.items free.new) }
+    ensures taken { IfOk result (λ blocks. TakesEach free.old cpu blocks.items free.new) }
     ensures count { IfOk result (λ blocks. length blocks.items ≡ count) }
     ensures enough { OnOk result (count ≤ all_blocks free.old.pools) }
     ensures room { OnOk result (free.old.room ≤ free.new.room) }
@@ -52,7 +52,7 @@ fn take_enough(
     count: u64,
 ) -> Result<Vec<u64>, AllocError>
     requires cpu { cpu < free.old.sup.cpus }
-    ensures taken { IfOk result (λ blocks. TakesEach free.old blocks.items free.new) }
+    ensures taken { IfOk result (λ blocks. TakesEach free.old cpu blocks.items free.new) }
     ensures count { IfOk result (λ blocks. length blocks.items ≡ count) }
     ensures room { OnOk result (free.old.room ≤ free.new.room) }
     ensures unchanged { OnErr result (SamePools free.old free.new) }
@@ -75,7 +75,7 @@ fn take_each(
     requires cpu { cpu < free.old.sup.cpus }
     requires room { count ≤ free.old.room }
     requires space { vec_len blocks.old + count ≤ vec_capacity blocks.old }
-    ensures ok { OnOk result (TakesOnto free.old blocks.old.items count free.new blocks.new.items) }
+    ensures ok { OnOk result (TakesOnto free.old cpu blocks.old.items count free.new blocks.new.items) }
     ensures room { OnOk result (free.old.room ≤ free.new.room) }
     ensures err { OnErr result (SamePools free.old free.new) }
     ensures room_left { OnErr result (free.old.room ≤ free.new.room + count) }

@@ -54,7 +54,7 @@ pub(crate) fn resize_with_copy<P: Pmem>(
     requires cpu { cpu < free.old.sup.cpus }
     requires can { CanResize (P.region memory.old) sup.now free.old row.old attributes }
     requires ends { end_block (block_at row.old.index) row.old.numbers.size attributes.size ≡ Option.Some from }
-    ensures resized { OnOk result (Resizes (P.region memory.old) (P.region memory.new) sup.now free.old row.old attributes row.new free.new) }
+    ensures resized { OnOk result (Resizes (P.region memory.old) (P.region memory.new) sup.now free.old cpu row.old attributes row.new free.new) }
     ensures enough { OnOk result (blocks_from row.old.tail attributes (Option.Some from) ≤ all_blocks free.old.pools) }
     ensures settled { OnOk result (NothingPending (P.region memory.new) (P.may_hold memory.new)) }
     ensures refused { IfErr result (λ e. RefusesStep e (blocks_from row.old.tail attributes (Option.Some from)) free.old) }
@@ -66,7 +66,7 @@ pub(crate) fn resize_with_copy<P: Pmem>(
     ensures keeps_fuse { KeepsFuse (λ limit. size (P.region memory.old) ≤ limit) (P.fuse memory.old) (P.fuse memory.new) }
     // Whatever a stop leaves: recovery finds what is held, or it with the file's new size, without faults.
     ensures any_stop { (held : Store) (h : Held) → ShowsRow (P.region memory.old) sup.now held h row.old free.old → NothingPending (P.region memory.old) (P.may_hold memory.old)
-        → LeavesOnly (P.region memory.new) (P.may_hold memory.new) (LeavesEither (P.region memory.old) (fixed_layout sup.now) held (Resized (P.region memory.old) sup.now free.old row.old attributes)) }
+        → LeavesOnly (P.region memory.new) (P.may_hold memory.new) (LeavesEither (P.region memory.old) (fixed_layout sup.now) held (Resized (P.region memory.old) sup.now free.old cpu row.old attributes)) }
 {
     let bytes = row.numbers.size;
     let slot = sup.slot_address(row.inode);
@@ -108,7 +108,7 @@ fn prepare_copy(
     attributes: AttrEntry,
 ) -> Result<(u64, Vec<u64>), AllocRefusal>
     requires cpu { cpu < free.old.sup.cpus }
-    ensures taken { IfOk result (λ blocks. TakesEach free.old (blocks.0 ∷ blocks.1.items) free.new) }
+    ensures taken { IfOk result (λ blocks. TakesEach free.old cpu (blocks.0 ∷ blocks.1.items) free.new) }
     ensures count { IfOk result (λ blocks. suc (length blocks.1.items) ≡ blocks_from tail attributes (Option.Some 0)) }
     ensures room { IfOk result (λ blocks. HasRoomFor pages.new (length blocks.1.items)) }
     ensures given_back { OnOk result (0 < free.new.room) }

@@ -4,9 +4,9 @@
 ghost use Rattle.std.specs.Prelude.{◌≡◌, ◌<◌, ◌≤◌, ◌+◌, ◌-◌, length, IfSome};
 ghost use Rattle.std.specs.Int.{div_ceil};
 ghost use Rattle.nv_alloc.specs.FreeLists.{CanJoin, JoinAll};
+ghost use Rattle.nv_alloc.specs.Taking.{block_run};
 ghost use Rattle.nv_steps.specs.Given.{GivesBlock, GivesPages, MapsOwn};
 ghost use Rattle.nv_steps.specs.LessNames.{AreOwn, GivesBlocks, GivesRow, OwnsBlocks};
-ghost use Rattle.nv_steps.specs.Taken.{block_run};
 ghost use Rattle.nv_steps.specs.Writes.{CanGive};
 
 use nv_alloc::Allocators;

@@ -62,7 +62,7 @@ pub(crate) fn append_logs<P: Pmem>(
     requires other_stands { StandsRight (P.region memory.old) sup.now free.old other.old × CanName (P.region memory.old) sup.now cpu other.old.inode other.old }
     requires given { AreGiven first.now.entries.now × (length first.now.entries.now ≡ 1) }
     requires more_given { AreGiven second.now.entries.now × (length second.now.entries.now ≡ 1) }
-    ensures appended { OnOk result (AppendsLogs (P.region memory.old) (P.region memory.new) sup.now free.old free.new (row.old ∷ other.old ∷ []) (row.new ∷ other.new ∷ []) 0 first.now.entries.now 1 second.now.entries.now) }
+    ensures appended { OnOk result (AppendsLogs (P.region memory.old) (P.region memory.new) sup.now free.old free.new cpu (row.old ∷ other.old ∷ []) (row.new ∷ other.new ∷ []) 0 first.now.entries.now 1 second.now.entries.now) }
     ensures room { OnOk result (second.now.names ≤ other.new.names.room) }
     ensures enough { OnOk result (needed (row.old.tail % 4096) first.now.entries.now + needed (other.old.tail % 4096) second.now.entries.now ≤ all_blocks free.old.pools) }
     ensures settled { OnOk result (NothingPending (P.region memory.new) (P.may_hold memory.new)) }
@@ -76,7 +76,7 @@ pub(crate) fn append_logs<P: Pmem>(
     ensures keeps_fuse { KeepsFuse (λ limit. size (P.region memory.old) ≤ limit) (P.fuse memory.old) (P.fuse memory.new) }
     // Whatever a stop leaves: recovery finds what is held, or it with both logs grown, without faults.
     ensures any_stop { (held : Store) (h g : Held) → ShowsRow (P.region memory.old) sup.now held h row.old free.old → ShowsRow (P.region memory.old) sup.now held g other.old free.old → NothingPending (P.region memory.old) (P.may_hold memory.old)
-        → LeavesOnly (P.region memory.new) (P.may_hold memory.new) (LeavesEither (P.region memory.old) (fixed_layout sup.now) held (AppendedBoth (P.region memory.old) sup.now free.old row.old first.now.entries.now other.old second.now.entries.now)) }
+        → LeavesOnly (P.region memory.new) (P.may_hold memory.new) (LeavesEither (P.region memory.old) (fixed_layout sup.now) held (AppendedBoth (P.region memory.old) sup.now free.old cpu row.old first.now.entries.now other.old second.now.entries.now)) }
 {
     let blocks = prepare_logs(alloc, free, cpu, row, first, other, second)?;
     let count = blocks_for(row, first) as usize;
@@ -130,7 +130,7 @@ fn prepare_logs(
     requires cpu { cpu < free.old.sup.cpus }
     requires one { length first.now.entries.now ≡ 1 }
     requires other_one { length second.now.entries.now ≡ 1 }
-    ensures taken { IfOk result (λ blocks. TakesEach free.old blocks.items free.new) }
+    ensures taken { IfOk result (λ blocks. TakesEach free.old cpu blocks.items free.new) }
     ensures count { IfOk result (λ blocks. length blocks.items ≡ needed (row.old.tail % 4096) first.now.entries.now + needed (other.old.tail % 4096) second.now.entries.now) }
     ensures enough { OnOk result (needed (row.old.tail % 4096) first.now.entries.now + needed (other.old.tail % 4096) second.now.entries.now ≤ all_blocks free.old.pools) }
     ensures refused { IfErr result (λ e. RefusesStep e (needed (row.old.tail % 4096) first.now.entries.now + needed (other.old.tail % 4096) second.now.entries.now) free.old) }

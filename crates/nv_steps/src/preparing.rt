@@ -26,7 +26,7 @@ pub(crate) fn prepare_log(
     entries: &[Entry],
 ) -> Result<Vec<u64>, AllocRefusal>
     requires cpu { cpu < free.old.sup.cpus }
-    ensures taken { IfOk result (λ fresh. TakesEach free.old fresh.items free.new) }
+    ensures taken { IfOk result (λ fresh. TakesEach free.old cpu fresh.items free.new) }
     ensures count { IfOk result (λ fresh. length fresh.items ≡ needed (tail % 4096) entries.now) }
     ensures room { IfOk result (λ fresh. HasRoomFor pages.new (length fresh.items)) }
     ensures given_back { OnOk result (free.old.room ≤ free.new.room) }

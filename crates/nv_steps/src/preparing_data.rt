@@ -126,7 +126,7 @@ fn prepare_entries(
     requires pages { plan.now.first + plan.now.pages ≤ 262144 }
     requires count { blocks_in runs.now ≡ data_blocks plan.now }
     ensures entries { IfOk result (λ log. log.entries.items ≡ data_entries plan.now runs.now) }
-    ensures taken { IfOk result (λ log. TakesEach free.old log.fresh.items free.new) }
+    ensures taken { IfOk result (λ log. TakesEach free.old cpu log.fresh.items free.new) }
     ensures count { IfOk result (λ log. length log.fresh.items ≡ needed (row.old.tail % 4096) log.entries.items) }
     ensures pages { IfOk result (λ log. HasRoomFor row.new.pages (length log.fresh.items)) }
     ensures enough { OnOk result (needed (row.old.tail % 4096) (data_entries plan.now runs.now) ≤ all_blocks free.old.pools) }

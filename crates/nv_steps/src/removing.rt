@@ -61,7 +61,7 @@ pub fn cut_name<P: Pmem>(
     requires can { CanName (P.region memory.old) sup.now cpu gone.now.inode directory.old }
     requires differ { directory.old.inode ≢ gone.now.inode }
     requires name { IsName gone.now.name.now }
-    ensures cut { OnOk result (CutsName (P.region memory.old) (P.region memory.new) sup.now free.old free.new directory.old directory.new gone.now.inode gone.now.time gone.now.name.now) }
+    ensures cut { OnOk result (CutsName (P.region memory.old) (P.region memory.new) sup.now free.old free.new cpu directory.old directory.new gone.now.inode gone.now.time gone.now.name.now) }
     ensures room { OnOk result (gone.now.blocks ≤ free.new.room) }
     ensures enough { OnOk result (needed (directory.old.tail % 4096) (name_entries OperationValue.Remove gone.now.inode gone.now.name.now gone.now.time) ≤ all_blocks free.old.pools) }
     ensures settled { OnOk result (NothingPending (P.region memory.new) (P.may_hold memory.new)) }
@@ -74,7 +74,7 @@ pub fn cut_name<P: Pmem>(
     ensures keeps_fuse { KeepsFuse (λ limit. size (P.region memory.old) ≤ limit) (P.fuse memory.old) (P.fuse memory.new) }
     // Whatever a stop leaves: recovery finds what is held, or it without the name and the inode, without faults.
     ensures any_stop { (held : Store) (h : Held) → ShowsRow (P.region memory.old) sup.now held h directory.old free.old → NothingPending (P.region memory.old) (P.may_hold memory.old)
-        → LeavesOnly (P.region memory.new) (P.may_hold memory.new) (LeavesEither (P.region memory.old) (fixed_layout sup.now) held (Cut (P.region memory.old) sup.now free.old directory.old gone.now.inode gone.now.time gone.now.name.now)) }
+        → LeavesOnly (P.region memory.new) (P.may_hold memory.new) (LeavesEither (P.region memory.old) (fixed_layout sup.now) held (Cut (P.region memory.old) sup.now free.old cpu directory.old gone.now.inode gone.now.time gone.now.name.now)) }
 {
     let entries = [name_entry(Operation::Remove, gone.inode, gone.name, gone.time)];
     let fresh = prepare_cut(alloc, free, cpu, directory, &entries, gone.blocks)?;
@@ -104,7 +104,7 @@ fn prepare_cut(
     coming: usize,
 ) -> Result<Vec<u64>, Refusal>
     requires cpu { cpu < free.old.sup.cpus }
-    ensures taken { IfOk result (λ blocks. TakesEach free.old blocks.items free.new) }
+    ensures taken { IfOk result (λ blocks. TakesEach free.old cpu blocks.items free.new) }
     ensures count { IfOk result (λ blocks. length blocks.items ≡ needed (directory.old.tail % 4096) entries.now) }
     ensures pages_room { IfOk result (λ blocks. HasRoomFor directory.new.pages (length blocks.items)) }
     ensures room { OnOk result (coming ≤ free.new.room) }

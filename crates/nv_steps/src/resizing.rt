@@ -41,7 +41,7 @@ pub fn resize<P: Pmem>(
 ) -> Result<(), Refusal>
     requires cpu { cpu < free.old.sup.cpus }
     requires can { CanResize (P.region memory.old) sup.now free.old row.old attributes }
-    ensures resized { OnOk result (Resizes (P.region memory.old) (P.region memory.new) sup.now free.old row.old attributes row.new free.new) }
+    ensures resized { OnOk result (Resizes (P.region memory.old) (P.region memory.new) sup.now free.old cpu row.old attributes row.new free.new) }
     ensures enough { OnOk result (blocks_from row.old.tail attributes (end_block (block_at row.old.index) row.old.numbers.size attributes.size) ≤ all_blocks free.old.pools) }
     ensures settled { OnOk result (NothingPending (P.region memory.new) (P.may_hold memory.new)) }
     ensures refused { IfErr result (λ e. RefusesStep e (blocks_from row.old.tail attributes (end_block (block_at row.old.index) row.old.numbers.size attributes.size)) free.old) }
@@ -53,7 +53,7 @@ pub fn resize<P: Pmem>(
     ensures keeps_fuse { KeepsFuse (λ limit. size (P.region memory.old) ≤ limit) (P.fuse memory.old) (P.fuse memory.new) }
     // Whatever a stop leaves: recovery finds what is held, or it with the file's new size, without faults.
     ensures any_stop { (held : Store) (h : Held) → ShowsRow (P.region memory.old) sup.now held h row.old free.old → NothingPending (P.region memory.old) (P.may_hold memory.old)
-        → LeavesOnly (P.region memory.new) (P.may_hold memory.new) (LeavesEither (P.region memory.old) (fixed_layout sup.now) held (Resized (P.region memory.old) sup.now free.old row.old attributes)) }
+        → LeavesOnly (P.region memory.new) (P.may_hold memory.new) (LeavesEither (P.region memory.old) (fixed_layout sup.now) held (Resized (P.region memory.old) sup.now free.old cpu row.old attributes)) }
 {
     match end_block(row, attributes.size) {
         Some(from) => resize_with_copy(alloc, memory, sup, free, cpu, row, attributes, from),
@@ -87,7 +87,7 @@ fn resize_in_place<P: Pmem>(
     requires cpu { cpu < free.old.sup.cpus }
     requires can { CanResize (P.region memory.old) sup.now free.old row.old attributes }
     requires stays { end_block (block_at row.old.index) row.old.numbers.size attributes.size ≡ Option.None }
-    ensures resized { OnOk result (Resizes (P.region memory.old) (P.region memory.new) sup.now free.old row.old attributes row.new free.new) }
+    ensures resized { OnOk result (Resizes (P.region memory.old) (P.region memory.new) sup.now free.old cpu row.old attributes row.new free.new) }
     ensures enough { OnOk result (blocks_from row.old.tail attributes Option.None ≤ all_blocks free.old.pools) }
     ensures settled { OnOk result (NothingPending (P.region memory.new) (P.may_hold memory.new)) }
     ensures refused { IfErr result (λ e. RefusesStep e (blocks_from row.old.tail attributes Option.None) free.old) }
@@ -99,7 +99,7 @@ fn resize_in_place<P: Pmem>(
     ensures keeps_fuse { KeepsFuse (λ limit. size (P.region memory.old) ≤ limit) (P.fuse memory.old) (P.fuse memory.new) }
     // Whatever a stop leaves: recovery finds what is held, or it with the file's new size, without faults.
     ensures any_stop { (held : Store) (h : Held) → ShowsRow (P.region memory.old) sup.now held h row.old free.old → NothingPending (P.region memory.old) (P.may_hold memory.old)
-        → LeavesOnly (P.region memory.new) (P.may_hold memory.new) (LeavesEither (P.region memory.old) (fixed_layout sup.now) held (Resized (P.region memory.old) sup.now free.old row.old attributes)) }
+        → LeavesOnly (P.region memory.new) (P.may_hold memory.new) (LeavesEither (P.region memory.old) (fixed_layout sup.now) held (Resized (P.region memory.old) sup.now free.old cpu row.old attributes)) }
 {
     let first = attributes.size.div_ceil(BLOCK_SIZE);
     let end = row.numbers.size.div_ceil(BLOCK_SIZE);

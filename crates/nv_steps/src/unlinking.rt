@@ -52,7 +52,7 @@ pub fn unlink_both<P: Pmem>(
     requires file_stands { StandsRight (P.region memory.old) sup.now free.old file.old × CanName (P.region memory.old) sup.now cpu file.old.inode file.old }
     requires more { 1 < file.old.numbers.links }
     requires name { IsName name.now }
-    ensures unlinked { OnOk result (UnlinksAt (P.region memory.old) (P.region memory.new) sup.now free.old free.new (directory.old ∷ file.old ∷ []) (directory.new ∷ file.new ∷ []) 0 1 name.now time) }
+    ensures unlinked { OnOk result (UnlinksAt (P.region memory.old) (P.region memory.new) sup.now free.old free.new cpu (directory.old ∷ file.old ∷ []) (directory.new ∷ file.new ∷ []) 0 1 name.now time) }
     ensures enough { OnOk result (needed (directory.old.tail % 4096) (name_entries Remove file.old.inode name.now time) + needed (file.old.tail % 4096) (links_entries (file.old.numbers.links - 1) time) ≤ all_blocks free.old.pools) }
     ensures settled { OnOk result (NothingPending (P.region memory.new) (P.may_hold memory.new)) }
     ensures refused { IfErr result (λ e. RefusesStep e (needed (directory.old.tail % 4096) (name_entries Remove file.old.inode name.now time) + needed (file.old.tail % 4096) (links_entries (file.old.numbers.links - 1) time)) free.old) }
@@ -65,7 +65,7 @@ pub fn unlink_both<P: Pmem>(
     ensures keeps_fuse { KeepsFuse (λ limit. size (P.region memory.old) ≤ limit) (P.fuse memory.old) (P.fuse memory.new) }
     // Whatever a stop leaves: recovery finds what is held, or it without the name and the link, without faults.
     ensures any_stop { (held : Store) (h f : Held) → ShowsRow (P.region memory.old) sup.now held h directory.old free.old → ShowsRow (P.region memory.old) sup.now held f file.old free.old → NothingPending (P.region memory.old) (P.may_hold memory.old)
-        → LeavesOnly (P.region memory.new) (P.may_hold memory.new) (LeavesEither (P.region memory.old) (fixed_layout sup.now) held (Unlinked (P.region memory.old) sup.now free.old directory.old file.old name.now time)) }
+        → LeavesOnly (P.region memory.new) (P.may_hold memory.new) (LeavesEither (P.region memory.old) (fixed_layout sup.now) held (Unlinked (P.region memory.old) sup.now free.old cpu directory.old file.old name.now time)) }
 {
     let count = file.numbers.links - 1;
     let names = [name_entry(Operation::Remove, file.inode, name, time)];

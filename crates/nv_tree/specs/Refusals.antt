@@ -1,5 +1,5 @@
 -- The tests of each call in their order: the first that holds names the refusal.
-use Rattle.std.specs.Prelude.{ℕ, Bool, true, false, not, nat_lt, nat_le, ◌&&◌, if◌then◌else◌, is_some, is_none, List, [], ◌∷◌, ◌++◌, Option, Some, None, Result, Ok, Err, codes, eqb}
+use Rattle.std.specs.Prelude.{◌≡◌, ◌⊎◌, ℕ, Bool, true, false, not, nat_lt, nat_le, ◌&&◌, if◌then◌else◌, is_some, is_none, List, [], ◌∷◌, ◌++◌, Option, Some, None, Result, Ok, Err, codes, eqb}
 use Rattle.std.specs.List.{list_any}
 use Rattle.std.specs.Option.{option_map_or}
 use Rattle.nv_tree.specs.declared.refusal.Refusal.{Refusal}
@@ -33,6 +33,19 @@ Tests = List (Bool × Refusal)
 abbrev pub first_refusal : Tests → Option Refusal
 first_refusal [] = None
 first_refusal (x ∷ tests) = if x.0 then Some x.1 else first_refusal tests
+
+-- Want of memory comes last: no refusal applies, or the first is that of the space, for which some memory is wanted before.
+abbrev pub MayWantMemory : Option Refusal → Type 0
+MayWantMemory first = (first ≡ None) ⊎ (first ≡ Some NoSpace)
+
+-- why a call that writes is refused, by the first refusal that applies: want of memory, where that comes last; a stop; or that
+-- refusal
+abbrev pub IsRefusedBy : Option Refusal → Refusal → Type 0
+IsRefusedBy first e = ((e ≡ Memory) × MayWantMemory first) ⊎ ((e ≡ Stopped) ⊎ (first ≡ Some e))
+
+-- the same of a call that reads, which takes no space, and which no stop refuses
+abbrev pub IsReadRefusedBy : Option Refusal → Refusal → Type 0
+IsReadRefusedBy first e = ((e ≡ Memory) × (first ≡ None)) ⊎ (first ≡ Some e)
 
 -- What stands beside the tree: the CPUs, whether it was mounted with faults, the number of each CPU's lowest unused slot,
 -- and how many blocks are free.

@@ -96,21 +96,21 @@ returns-clause-enough g c row is =
     subst (λ (r : Row). 1 + needed (r.tail % 4096) (name_entries Add c.args.new.now.inode c.args.new.now.name.now c.args.new.now.time) ≤ all_blocks c.args.free.now.pools) (same_Some _ _ (sym at ∙ is)) c.in_ok-made.ensures.enough
 
 pub returns-then-free_blocks-pages_needed-clause-any_stop : goal.returns-then-free_blocks-pages_needed-clause-any_stop
-returns-then-free_blocks-pages_needed-clause-any_stop g c row held h is shows out absent settled = still _ _ c.args.sup.now held (Named (g.P.Pmem.region c.args.memory.now) c.args.sup.now c.args.free.now row c.args.new.now.kind c.args.new.now.mode c.args.new.now.time c.args.new.now.inode c.args.new.now.name.now) shows.sound settled
+returns-then-free_blocks-pages_needed-clause-any_stop g c row held h is shows out absent settled = still _ _ c.args.sup.now held (Named (g.P.Pmem.region c.args.memory.now) c.args.sup.now c.args.free.now c.args.cpu row c.args.new.now.kind c.args.new.now.mode c.args.new.now.time c.args.new.now.inode c.args.new.now.name.now) shows.sound settled
 
 pub returns-then-is_err-clause-any_stop : goal.returns-then-is_err-clause-any_stop
-returns-then-is_err-clause-any_stop g c row held h is shows out absent settled = still _ _ c.args.sup.now held (Named (g.P.Pmem.region c.args.memory.now) c.args.sup.now c.args.free.now row c.args.new.now.kind c.args.new.now.mode c.args.new.now.time c.args.new.now.inode c.args.new.now.name.now) shows.sound settled
+returns-then-is_err-clause-any_stop g c row held h is shows out absent settled = still _ _ c.args.sup.now held (Named (g.P.Pmem.region c.args.memory.now) c.args.sup.now c.args.free.now c.args.cpu row c.args.new.now.kind c.args.new.now.mode c.args.new.now.time c.args.new.now.inode c.args.new.now.name.now) shows.sound settled
 
 pub returns-in_err-made-clause-any_stop : goal.returns-in_err-made-clause-any_stop
 returns-in_err-made-clause-any_stop g c row held h is shows out absent settled =
     let at : row_of c.args.rows.now.items c.args.directory ≡ Some c.lend-row.result = ap (λ (rows : List Row). row_of rows c.args.directory) (sym c.reserve.ensures.rows) ∙ c.lend-row.ensures.row in
     subst (λ (r : Row). ShowsRow (g.P.Pmem.region c.args.memory.now) c.args.sup.now held h r c.args.free.now → name_at r.names c.args.new.now.name.now ≡ None
-    → LeavesOnly (g.P.Pmem.region c.make_named-made.new.memory) (g.P.Pmem.may_hold c.make_named-made.new.memory) (LeavesEither (g.P.Pmem.region c.args.memory.now) (fixed_layout c.args.sup.now) held (Named (g.P.Pmem.region c.args.memory.now) c.args.sup.now c.args.free.now r c.args.new.now.kind c.args.new.now.mode c.args.new.now.time c.args.new.now.inode c.args.new.now.name.now))) (same_Some _ _ (sym at ∙ is))
+    → LeavesOnly (g.P.Pmem.region c.make_named-made.new.memory) (g.P.Pmem.may_hold c.make_named-made.new.memory) (LeavesEither (g.P.Pmem.region c.args.memory.now) (fixed_layout c.args.sup.now) held (Named (g.P.Pmem.region c.args.memory.now) c.args.sup.now c.args.free.now c.args.cpu r c.args.new.now.kind c.args.new.now.mode c.args.new.now.time c.args.new.now.inode c.args.new.now.name.now))) (same_Some _ _ (sym at ∙ is))
     (λ seen none. c.make_named-made.ensures.any_stop held h seen out none settled) shows absent
 
 pub returns-clause-any_stop : goal.returns-clause-any_stop
 returns-clause-any_stop g c row held h is shows out absent settled =
     let at : row_of c.args.rows.now.items c.args.directory ≡ Some c.lend-row.result = ap (λ (rows : List Row). row_of rows c.args.directory) (sym c.reserve.ensures.rows) ∙ c.lend-row.ensures.row in
     subst (λ (r : Row). ShowsRow (g.P.Pmem.region c.args.memory.now) c.args.sup.now held h r c.args.free.now → name_at r.names c.args.new.now.name.now ≡ None
-    → LeavesOnly (g.P.Pmem.region c.make_named-made.new.memory) (g.P.Pmem.may_hold c.make_named-made.new.memory) (LeavesEither (g.P.Pmem.region c.args.memory.now) (fixed_layout c.args.sup.now) held (Named (g.P.Pmem.region c.args.memory.now) c.args.sup.now c.args.free.now r c.args.new.now.kind c.args.new.now.mode c.args.new.now.time c.args.new.now.inode c.args.new.now.name.now))) (same_Some _ _ (sym at ∙ is))
+    → LeavesOnly (g.P.Pmem.region c.make_named-made.new.memory) (g.P.Pmem.may_hold c.make_named-made.new.memory) (LeavesEither (g.P.Pmem.region c.args.memory.now) (fixed_layout c.args.sup.now) held (Named (g.P.Pmem.region c.args.memory.now) c.args.sup.now c.args.free.now c.args.cpu r c.args.new.now.kind c.args.new.now.mode c.args.new.now.time c.args.new.now.inode c.args.new.now.name.now))) (same_Some _ _ (sym at ∙ is))
     (λ seen none. c.make_named-made.ensures.any_stop held h seen out none settled) shows absent

@@ -93,7 +93,7 @@ returns-clause-removed g c =
       mid = c.cut_name-cut.new.free;
       at = at_place rows c.args.named.now.directory ∙ c.lend-directory.ensures.row;
       gone_at = at_place rows c.args.named.now.target ∙ there;
-      step = subst (λ (i : ℕ). CutsName (g.P.Pmem.region c.args.memory.now) (g.P.Pmem.region c.cut_name-cut.new.memory) c.args.sup.now c.args.free.now c.cut_name-cut.new.free c.lend-directory.result c.cut_name-cut.new.directory i c.args.time c.args.named.now.name.now) (sym c.take.ensures.number) c.in_ok-cut.ensures.cut;
+      step = subst (λ (i : ℕ). CutsName (g.P.Pmem.region c.args.memory.now) (g.P.Pmem.region c.cut_name-cut.new.memory) c.args.sup.now c.args.free.now c.cut_name-cut.new.free c.args.cpu c.lend-directory.result c.cut_name-cut.new.directory i c.args.time c.args.named.now.name.now) (sym c.take.ensures.number) c.in_ok-cut.ensures.cut;
       given = c.give_row.ensures.given;
       put = other_out rows c.lend-directory.new.self.items c.give_back.new.self.items c.args.named.now.directory c.lend-directory.result c.cut_name-cut.new.directory c.lend-directory.ensures.row c.lend-directory.ensures.lent (c.cut_name-cut.ensures.inode ∙ c.lend-directory.ensures.number) c.give_back.ensures.rows c.args.named.now.target apart c.take.ensures.rows;
     }
@@ -109,14 +109,14 @@ pub returns-in_err-cut-clause-any_stop : goal.returns-in_err-cut-clause-any_stop
 returns-in_err-cut-clause-any_stop g c row gone held h at gone_at shows settled =
     let same : c.lend-directory.result ≡ row = same_Some _ _ (sym c.lend-directory.ensures.row ∙ at) in
     let number = sym (numbered c.args.rows.now.items c.args.named.now.target gone gone_at) in
-    subst (λ (i : ℕ). LeavesOnly (g.P.Pmem.region c.cut_name-cut.new.memory) (g.P.Pmem.may_hold c.cut_name-cut.new.memory) (LeavesEither (g.P.Pmem.region c.args.memory.now) (fixed_layout c.args.sup.now) held (Cut (g.P.Pmem.region c.args.memory.now) c.args.sup.now c.args.free.now row i c.args.time c.args.named.now.name.now))) number
-    (subst (λ (r : Row). ShowsRow (g.P.Pmem.region c.args.memory.now) c.args.sup.now held h r c.args.free.now → LeavesOnly (g.P.Pmem.region c.cut_name-cut.new.memory) (g.P.Pmem.may_hold c.cut_name-cut.new.memory) (LeavesEither (g.P.Pmem.region c.args.memory.now) (fixed_layout c.args.sup.now) held (Cut (g.P.Pmem.region c.args.memory.now) c.args.sup.now c.args.free.now r c.args.named.now.target c.args.time c.args.named.now.name.now))) same
+    subst (λ (i : ℕ). LeavesOnly (g.P.Pmem.region c.cut_name-cut.new.memory) (g.P.Pmem.may_hold c.cut_name-cut.new.memory) (LeavesEither (g.P.Pmem.region c.args.memory.now) (fixed_layout c.args.sup.now) held (Cut (g.P.Pmem.region c.args.memory.now) c.args.sup.now c.args.free.now c.args.cpu row i c.args.time c.args.named.now.name.now))) number
+    (subst (λ (r : Row). ShowsRow (g.P.Pmem.region c.args.memory.now) c.args.sup.now held h r c.args.free.now → LeavesOnly (g.P.Pmem.region c.cut_name-cut.new.memory) (g.P.Pmem.may_hold c.cut_name-cut.new.memory) (LeavesEither (g.P.Pmem.region c.args.memory.now) (fixed_layout c.args.sup.now) held (Cut (g.P.Pmem.region c.args.memory.now) c.args.sup.now c.args.free.now c.args.cpu r c.args.named.now.target c.args.time c.args.named.now.name.now))) same
     (λ seen. c.cut_name-cut.ensures.any_stop held h seen settled) shows)
 
 pub returns-clause-any_stop : goal.returns-clause-any_stop
 returns-clause-any_stop g c row gone held h at gone_at shows settled =
     let same : c.lend-directory.result ≡ row = same_Some _ _ (sym c.lend-directory.ensures.row ∙ at) in
     let number = sym (numbered c.args.rows.now.items c.args.named.now.target gone gone_at) in
-    subst (λ (i : ℕ). LeavesOnly (g.P.Pmem.region c.cut_name-cut.new.memory) (g.P.Pmem.may_hold c.cut_name-cut.new.memory) (LeavesEither (g.P.Pmem.region c.args.memory.now) (fixed_layout c.args.sup.now) held (Cut (g.P.Pmem.region c.args.memory.now) c.args.sup.now c.args.free.now row i c.args.time c.args.named.now.name.now))) number
-    (subst (λ (r : Row). ShowsRow (g.P.Pmem.region c.args.memory.now) c.args.sup.now held h r c.args.free.now → LeavesOnly (g.P.Pmem.region c.cut_name-cut.new.memory) (g.P.Pmem.may_hold c.cut_name-cut.new.memory) (LeavesEither (g.P.Pmem.region c.args.memory.now) (fixed_layout c.args.sup.now) held (Cut (g.P.Pmem.region c.args.memory.now) c.args.sup.now c.args.free.now r c.args.named.now.target c.args.time c.args.named.now.name.now))) same
+    subst (λ (i : ℕ). LeavesOnly (g.P.Pmem.region c.cut_name-cut.new.memory) (g.P.Pmem.may_hold c.cut_name-cut.new.memory) (LeavesEither (g.P.Pmem.region c.args.memory.now) (fixed_layout c.args.sup.now) held (Cut (g.P.Pmem.region c.args.memory.now) c.args.sup.now c.args.free.now c.args.cpu row i c.args.time c.args.named.now.name.now))) number
+    (subst (λ (r : Row). ShowsRow (g.P.Pmem.region c.args.memory.now) c.args.sup.now held h r c.args.free.now → LeavesOnly (g.P.Pmem.region c.cut_name-cut.new.memory) (g.P.Pmem.may_hold c.cut_name-cut.new.memory) (LeavesEither (g.P.Pmem.region c.args.memory.now) (fixed_layout c.args.sup.now) held (Cut (g.P.Pmem.region c.args.memory.now) c.args.sup.now c.args.free.now c.args.cpu r c.args.named.now.target c.args.time c.args.named.now.name.now))) same
     (λ seen. c.cut_name-cut.ensures.any_stop held h seen settled) shows)

@@ -82,7 +82,7 @@ returns-clause-any_stop g c from to inode held h k at other_at inode_at here oth
     let same : c.lend-from.result ≡ from = same_Some _ _ (sym c.lend-from.ensures.row ∙ at) in
     let other_same : c.lend-to.result ≡ to = same_Some _ _ (sym there ∙ other_at) in
     let number = c.other_name-other.ensures.inode ∙ sym (numbered rows c.args.moved.now.from.target inode inode_at) in
-    subst (λ (r : Row). ShowsRow (g.P.Pmem.region c.args.memory.now) c.args.sup.now held h r c.args.free.now → LeavesOnly (g.P.Pmem.region c.move_both-done.new.memory) (g.P.Pmem.may_hold c.move_both-done.new.memory) (LeavesEither (g.P.Pmem.region c.args.memory.now) (fixed_layout c.args.sup.now) held (MovedOver (g.P.Pmem.region c.args.memory.now) c.args.sup.now c.args.free.now r to inode.inode c.args.moved.now.from.name.now c.args.moved.now.name.now c.args.time))) same
-    (λ seen. subst (λ (d : Row). ShowsRow (g.P.Pmem.region c.args.memory.now) c.args.sup.now held k d c.args.free.now → name_at d.names c.args.moved.now.name.now ≡ None → LeavesOnly (g.P.Pmem.region c.move_both-done.new.memory) (g.P.Pmem.may_hold c.move_both-done.new.memory) (LeavesEither (g.P.Pmem.region c.args.memory.now) (fixed_layout c.args.sup.now) held (MovedOver (g.P.Pmem.region c.args.memory.now) c.args.sup.now c.args.free.now c.lend-from.result d inode.inode c.args.moved.now.from.name.now c.args.moved.now.name.now c.args.time))) other_same
+    subst (λ (r : Row). ShowsRow (g.P.Pmem.region c.args.memory.now) c.args.sup.now held h r c.args.free.now → LeavesOnly (g.P.Pmem.region c.move_both-done.new.memory) (g.P.Pmem.may_hold c.move_both-done.new.memory) (LeavesEither (g.P.Pmem.region c.args.memory.now) (fixed_layout c.args.sup.now) held (MovedOver (g.P.Pmem.region c.args.memory.now) c.args.sup.now c.args.free.now c.args.cpu r to inode.inode c.args.moved.now.from.name.now c.args.moved.now.name.now c.args.time))) same
+    (λ seen. subst (λ (d : Row). ShowsRow (g.P.Pmem.region c.args.memory.now) c.args.sup.now held k d c.args.free.now → name_at d.names c.args.moved.now.name.now ≡ None → LeavesOnly (g.P.Pmem.region c.move_both-done.new.memory) (g.P.Pmem.may_hold c.move_both-done.new.memory) (LeavesEither (g.P.Pmem.region c.args.memory.now) (fixed_layout c.args.sup.now) held (MovedOver (g.P.Pmem.region c.args.memory.now) c.args.sup.now c.args.free.now c.args.cpu c.lend-from.result d inode.inode c.args.moved.now.from.name.now c.args.moved.now.name.now c.args.time))) other_same
     (λ seen_other none. over_as c.lend-from.result c.lend-to.result (g.P.Pmem.region c.move_both-done.new.memory) (g.P.Pmem.may_hold c.move_both-done.new.memory) number c.other_name-other.ensures.name c.other_name-other.ensures.other c.other_name-other.ensures.time
     (c.move_both-done.ensures.any_stop held h k seen seen_other (ap (name_at c.lend-to.result.names) c.other_name-other.ensures.other ∙ none) settled)) other absent) here

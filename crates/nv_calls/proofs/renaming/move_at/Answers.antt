@@ -71,7 +71,7 @@ returns-clause-unchanged g c =
 pub returns-then-moved-clause-any_stop : goal.returns-then-moved-clause-any_stop
 returns-then-moved-clause-any_stop g c from to inode held h k at other_at inode_at here other absent settled left may =
     let apart = places_apart c.args.rows.now.items c.args.moved.now.from.directory c.args.moved.now.directory c.requires.from c.requires.directory c.if-moved.true in
-    left_made (MovedOver (g.P.Pmem.region c.args.memory.now) c.args.sup.now c.args.free.now from to inode.inode c.args.moved.now.from.name.now c.args.moved.now.name.now c.args.time) (Renamed (g.P.Pmem.region c.args.memory.now) c.args.sup.now c.args.free.now (place_in c.args.rows.now.items c.args.moved.now.from.directory) (place_in c.args.rows.now.items c.args.moved.now.directory) from to inode.inode c.args.moved.now.from.name.now c.args.moved.now.name.now c.args.time) (λ S w. inr (apart, w)) left (c.move_across.ensures.any_stop from to inode held h k at other_at inode_at here other absent settled left may)
+    left_made (MovedOver (g.P.Pmem.region c.args.memory.now) c.args.sup.now c.args.free.now c.args.cpu from to inode.inode c.args.moved.now.from.name.now c.args.moved.now.name.now c.args.time) (Renamed (g.P.Pmem.region c.args.memory.now) c.args.sup.now c.args.free.now c.args.cpu (place_in c.args.rows.now.items c.args.moved.now.from.directory) (place_in c.args.rows.now.items c.args.moved.now.directory) from to inode.inode c.args.moved.now.from.name.now c.args.moved.now.name.now c.args.time) (λ S w. inr (apart, w)) left (c.move_across.ensures.any_stop from to inode held h k at other_at inode_at here other absent settled left may)
 
 pub returns-clause-any_stop : goal.returns-clause-any_stop
 returns-clause-any_stop g c from to inode held h k at other_at inode_at here other absent settled left may =
@@ -83,4 +83,4 @@ returns-clause-any_stop g c from to inode held h k at other_at inode_at here oth
     let none : name_at c.lend-directory.result.names c.args.moved.now.name.now ≡ None = subst (λ (r : Row). name_at r.names c.args.moved.now.name.now ≡ None) (sym two) absent in
     let step = here_as (g.P.Pmem.region c.move_within-done.new.memory) (g.P.Pmem.may_hold c.move_within-done.new.memory) one number c.other_name-other.ensures.name c.other_name-other.ensures.other c.other_name-other.ensures.time
     (c.move_within-done.ensures.any_stop held k shown (ap (name_at c.lend-directory.result.names) c.other_name-other.ensures.other ∙ none) settled) in
-    left_made (MovedHere (g.P.Pmem.region c.args.memory.now) c.args.sup.now c.args.free.now from inode.inode c.args.moved.now.from.name.now c.args.moved.now.name.now c.args.time) (Renamed (g.P.Pmem.region c.args.memory.now) c.args.sup.now c.args.free.now (place_in c.args.rows.now.items c.args.moved.now.from.directory) (place_in c.args.rows.now.items c.args.moved.now.directory) from to inode.inode c.args.moved.now.from.name.now c.args.moved.now.name.now c.args.time) (λ S w. inl (ap (place_in rows) c.if-moved.false, w)) left (step left may)
+    left_made (MovedHere (g.P.Pmem.region c.args.memory.now) c.args.sup.now c.args.free.now c.args.cpu from inode.inode c.args.moved.now.from.name.now c.args.moved.now.name.now c.args.time) (Renamed (g.P.Pmem.region c.args.memory.now) c.args.sup.now c.args.free.now c.args.cpu (place_in c.args.rows.now.items c.args.moved.now.from.directory) (place_in c.args.rows.now.items c.args.moved.now.directory) from to inode.inode c.args.moved.now.from.name.now c.args.moved.now.name.now c.args.time) (λ S w. inl (ap (place_in rows) c.if-moved.false, w)) left (step left may)

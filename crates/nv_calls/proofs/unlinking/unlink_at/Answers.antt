@@ -48,7 +48,7 @@ returns-clause-unlinked g c =
     let there = row_stays c.args.rows.now.items c.lend-directory.new.self.items c.args.named.now.directory c.args.named.now.target c.requires.apart c.requires.directory c.lend-directory.ensures.lent c.lend-file.result c.lend-file.ensures.row in
     let put = back_two c.args.rows.now.items c.lend-directory.new.self.items c.lend-file.new.self.items c.give_back.new.self.items c.give_back-2.new.self.items c.args.named.now.directory c.args.named.now.target c.unlink_both-done.new.directory c.unlink_both-done.new.file c.requires.apart c.requires.directory c.requires.target
     c.lend-directory.ensures.lent c.lend-file.ensures.lent (c.unlink_both-done.ensures.file_inode ∙ c.lend-file.ensures.number) c.give_back.ensures.rows (c.unlink_both-done.ensures.inode ∙ c.lend-directory.ensures.number) c.give_back-2.ensures.rows in
-    on_ok_weaker c.unlink_both-done.result (λ (step : UnlinksAt (g.P.Pmem.region c.args.memory.now) (g.P.Pmem.region c.unlink_both-done.new.memory) c.args.sup.now c.args.free.now c.unlink_both-done.new.free (c.lend-directory.result ∷ c.lend-file.result ∷ []) (c.unlink_both-done.new.directory ∷ c.unlink_both-done.new.file ∷ []) 0 1 c.args.named.now.name.now c.args.time). record { directory = step.directory; file = step.file; step = lifted c.args.rows.now.items c.give_back-2.new.self.items c.args.named.now.directory c.args.named.now.target c.lend-directory.result c.lend-file.result c.unlink_both-done.new.directory c.unlink_both-done.new.file c.requires.apart c.lend-directory.ensures.row there put step.step }) c.unlink_both-done.ensures.unlinked
+    on_ok_weaker c.unlink_both-done.result (λ (step : UnlinksAt (g.P.Pmem.region c.args.memory.now) (g.P.Pmem.region c.unlink_both-done.new.memory) c.args.sup.now c.args.free.now c.unlink_both-done.new.free c.args.cpu (c.lend-directory.result ∷ c.lend-file.result ∷ []) (c.unlink_both-done.new.directory ∷ c.unlink_both-done.new.file ∷ []) 0 1 c.args.named.now.name.now c.args.time). record { directory = step.directory; file = step.file; step = lifted c.args.rows.now.items c.give_back-2.new.self.items c.args.named.now.directory c.args.named.now.target c.lend-directory.result c.lend-file.result c.unlink_both-done.new.directory c.unlink_both-done.new.file c.requires.apart c.lend-directory.ensures.row there put step.step }) c.unlink_both-done.ensures.unlinked
 
 pub returns-clause-enough : goal.returns-clause-enough
 returns-clause-enough g c row file at other_at =
@@ -76,6 +76,6 @@ returns-clause-any_stop g c row file held h f at other_at here other settled =
     let there = row_stays c.args.rows.now.items c.lend-directory.new.self.items c.args.named.now.directory c.args.named.now.target c.requires.apart c.requires.directory c.lend-directory.ensures.lent c.lend-file.result c.lend-file.ensures.row in
     let same : c.lend-directory.result ≡ row = same_Some _ _ (sym c.lend-directory.ensures.row ∙ at) in
     let other_same : c.lend-file.result ≡ file = same_Some _ _ (sym there ∙ other_at) in
-    subst (λ (r : Row). ShowsRow (g.P.Pmem.region c.args.memory.now) c.args.sup.now held h r c.args.free.now → LeavesOnly (g.P.Pmem.region c.unlink_both-done.new.memory) (g.P.Pmem.may_hold c.unlink_both-done.new.memory) (LeavesEither (g.P.Pmem.region c.args.memory.now) (fixed_layout c.args.sup.now) held (Unlinked (g.P.Pmem.region c.args.memory.now) c.args.sup.now c.args.free.now r file c.args.named.now.name.now c.args.time))) same
-    (λ seen. subst (λ (d : Row). ShowsRow (g.P.Pmem.region c.args.memory.now) c.args.sup.now held f d c.args.free.now → LeavesOnly (g.P.Pmem.region c.unlink_both-done.new.memory) (g.P.Pmem.may_hold c.unlink_both-done.new.memory) (LeavesEither (g.P.Pmem.region c.args.memory.now) (fixed_layout c.args.sup.now) held (Unlinked (g.P.Pmem.region c.args.memory.now) c.args.sup.now c.args.free.now c.lend-directory.result d c.args.named.now.name.now c.args.time))) other_same
+    subst (λ (r : Row). ShowsRow (g.P.Pmem.region c.args.memory.now) c.args.sup.now held h r c.args.free.now → LeavesOnly (g.P.Pmem.region c.unlink_both-done.new.memory) (g.P.Pmem.may_hold c.unlink_both-done.new.memory) (LeavesEither (g.P.Pmem.region c.args.memory.now) (fixed_layout c.args.sup.now) held (Unlinked (g.P.Pmem.region c.args.memory.now) c.args.sup.now c.args.free.now c.args.cpu r file c.args.named.now.name.now c.args.time))) same
+    (λ seen. subst (λ (d : Row). ShowsRow (g.P.Pmem.region c.args.memory.now) c.args.sup.now held f d c.args.free.now → LeavesOnly (g.P.Pmem.region c.unlink_both-done.new.memory) (g.P.Pmem.may_hold c.unlink_both-done.new.memory) (LeavesEither (g.P.Pmem.region c.args.memory.now) (fixed_layout c.args.sup.now) held (Unlinked (g.P.Pmem.region c.args.memory.now) c.args.sup.now c.args.free.now c.args.cpu c.lend-directory.result d c.args.named.now.name.now c.args.time))) other_same
     (λ seen_other. c.unlink_both-done.ensures.any_stop held h f seen seen_other settled) other) here

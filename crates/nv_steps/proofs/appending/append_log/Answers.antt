@@ -174,10 +174,10 @@ pub extend_log-requires-clause-whole : goal.extend_log-requires-clause-whole
 extend_log-requires-clause-whole g c = slot_word_whole c.slot_address-slot.result _ c.slot_address-slot.ensures c.requires.stands.whole
 
 pub returns-in-Err-NoSpace-clause-any_stop : goal.returns-in-Err-NoSpace-clause-any_stop
-returns-in-Err-NoSpace-clause-any_stop g c held h shows some settled = still _ _ c.args.sup.now held (Appended (g.P.Pmem.region c.args.memory.now) c.args.sup.now c.args.free.now c.args.row.now c.args.entries.now) shows.sound settled
+returns-in-Err-NoSpace-clause-any_stop g c held h shows some settled = still _ _ c.args.sup.now held (Appended (g.P.Pmem.region c.args.memory.now) c.args.sup.now c.args.free.now c.args.cpu c.args.row.now c.args.entries.now) shows.sound settled
 
 pub returns-in-Err-Memory-clause-any_stop : goal.returns-in-Err-Memory-clause-any_stop
-returns-in-Err-Memory-clause-any_stop g c held h shows some settled = still _ _ c.args.sup.now held (Appended (g.P.Pmem.region c.args.memory.now) c.args.sup.now c.args.free.now c.args.row.now c.args.entries.now) shows.sound settled
+returns-in-Err-Memory-clause-any_stop g c held h shows some settled = still _ _ c.args.sup.now held (Appended (g.P.Pmem.region c.args.memory.now) c.args.sup.now c.args.free.now c.args.cpu c.args.row.now c.args.entries.now) shows.sound settled
 
 pub returns-in-Ok-extend_log-clause-any_stop : goal.returns-in-Ok-extend_log-clause-any_stop
 returns-in-Ok-extend_log-clause-any_stop g c held h shows some settled =

@@ -5,7 +5,7 @@ use Rattle.nv_steps.proofs.Singles.{one_can_join, one_given_back, onto_more, ont
 use Rattle.nv_steps.proofs.blocks.+take_each.Goals as goal
 
 pub returns-then-count-eq0-clause-ok : goal.returns-then-count-eq0-clause-ok
-returns-then-count-eq0-clause-ok t c = onto_none c.args.free.now c.args.blocks.now.items c.args.count c.if-count-eq0.true
+returns-then-count-eq0-clause-ok t c = onto_none c.args.free.now c.args.cpu c.args.blocks.now.items c.args.count c.if-count-eq0.true
 
 pub returns-then-count-eq0-clause-err : goal.returns-then-count-eq0-clause-err
 returns-then-count-eq0-clause-err t c = tt

@@ -155,10 +155,10 @@ pub returns-in-Err-Memory-clause-stopped : goal.returns-in-Err-Memory-clause-sto
 returns-in-Err-Memory-clause-stopped g c = λ is. absurd (memory_goes_on is)
 
 pub returns-in-Err-NoSpace-clause-any_stop : goal.returns-in-Err-NoSpace-clause-any_stop
-returns-in-Err-NoSpace-clause-any_stop g c held h shows settled = still _ _ c.args.sup.now held (Resized (g.P.Pmem.region c.args.memory.now) c.args.sup.now c.args.free.now c.args.row.now c.args.attributes) shows.sound settled
+returns-in-Err-NoSpace-clause-any_stop g c held h shows settled = still _ _ c.args.sup.now held (Resized (g.P.Pmem.region c.args.memory.now) c.args.sup.now c.args.free.now c.args.cpu c.args.row.now c.args.attributes) shows.sound settled
 
 pub returns-in-Err-Memory-clause-any_stop : goal.returns-in-Err-Memory-clause-any_stop
-returns-in-Err-Memory-clause-any_stop g c held h shows settled = still _ _ c.args.sup.now held (Resized (g.P.Pmem.region c.args.memory.now) c.args.sup.now c.args.free.now c.args.row.now c.args.attributes) shows.sound settled
+returns-in-Err-Memory-clause-any_stop g c held h shows settled = still _ _ c.args.sup.now held (Resized (g.P.Pmem.region c.args.memory.now) c.args.sup.now c.args.free.now c.args.cpu c.args.row.now c.args.attributes) shows.sound settled
 
 pub returns-in-Ok-copy_end-clause-any_stop : goal.returns-in-Ok-copy_end-clause-any_stop
 returns-in-Ok-copy_end-clause-any_stop g c held h shows settled =

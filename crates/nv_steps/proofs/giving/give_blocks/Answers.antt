@@ -1,5 +1,5 @@
 use Rattle.std.proofs.Common.{arith, map, refl, take, slice_index_or}
-use Rattle.nv_steps.specs.Taken.{block_run}
+use Rattle.nv_alloc.specs.Taking.{block_run}
 use Rattle.nv_steps.proofs.GivenBlocks.{gives_more, next_block}
 use Rattle.nv_steps.proofs.GivenPages.{joined_sup}
 use Rattle.nv_steps.proofs.giving.give_blocks.Goals as goal

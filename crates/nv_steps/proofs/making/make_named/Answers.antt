@@ -188,7 +188,7 @@ returns-in_err-blocks-clause-keeps_fuse g c = record { burnt = λ was. was; stea
 
 pub returns-in_err-blocks-clause-any_stop : goal.returns-in_err-blocks-clause-any_stop
 returns-in_err-blocks-clause-any_stop g c held h shows out absent settled =
-    still _ _ c.args.sup.now held (Named (g.P.Pmem.region c.args.memory.now) c.args.sup.now c.args.free.now c.args.directory.now c.args.new.now.kind c.args.new.now.mode c.args.new.now.time c.args.new.now.inode c.args.new.now.name.now) shows.sound settled
+    still _ _ c.args.sup.now held (Named (g.P.Pmem.region c.args.memory.now) c.args.sup.now c.args.free.now c.args.cpu c.args.directory.now c.args.new.now.kind c.args.new.now.mode c.args.new.now.time c.args.new.now.inode c.args.new.now.name.now) shows.sound settled
 
 pub returns-in_default-clause-any_stop : goal.returns-in_default-clause-any_stop
 returns-in_default-clause-any_stop g c held h shows out absent settled =

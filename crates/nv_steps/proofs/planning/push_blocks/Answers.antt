@@ -4,7 +4,7 @@ use Rattle.std.specs.List.{cons_option}
 use Rattle.std.specs.Option.{option_map}
 use Rattle.nv_super.specs.declared.owners.Run.{Run}
 use Rattle.nv_radix.specs.Pages.{block_at}
-use Rattle.nv_steps.specs.Taken.{block_run}
+use Rattle.nv_alloc.specs.Taking.{block_run}
 use Rattle.nv_steps.specs.Writes.{page_blocks}
 use Rattle.nv_steps.proofs.EntrySteps.{page_more}
 use Rattle.nv_steps.proofs.planning.push_blocks.Goals as goal

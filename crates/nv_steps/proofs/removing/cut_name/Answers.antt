@@ -184,7 +184,7 @@ returns-in_err-fresh-clause-keeps_fuse g c = record { burnt = λ was. was; stead
 
 pub returns-in_err-fresh-clause-any_stop : goal.returns-in_err-fresh-clause-any_stop
 returns-in_err-fresh-clause-any_stop g c held h shows settled =
-    still _ _ c.args.sup.now held (Cut (g.P.Pmem.region c.args.memory.now) c.args.sup.now c.args.free.now c.args.directory.now c.args.gone.now.inode c.args.gone.now.time c.args.gone.now.name.now) shows.sound settled
+    still _ _ c.args.sup.now held (Cut (g.P.Pmem.region c.args.memory.now) c.args.sup.now c.args.free.now c.args.cpu c.args.directory.now c.args.gone.now.inode c.args.gone.now.time c.args.gone.now.name.now) shows.sound settled
 
 pub returns-in_default-clause-any_stop : goal.returns-in_default-clause-any_stop
 returns-in_default-clause-any_stop g c held h shows settled =

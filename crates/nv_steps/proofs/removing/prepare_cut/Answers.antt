@@ -10,7 +10,7 @@ pub prepare_log-requires : goal.prepare_log-requires
 prepare_log-requires c = record { cpu = subst (λ (s : Super). c.args.cpu < s.cpus) (sym c.reserve.ensures.same.sup) c.requires.cpu }
 
 pub returns-in-Ok-clause-taken : goal.returns-in-Ok-clause-taken
-returns-in-Ok-clause-taken c = let taken = c.in-Ok.ensures.taken in let same = c.reserve.ensures.same in record { from = taken.from; same = record { sup = taken.same.sup ∙ same.sup; pools = taken.same.pools ∙ same.pools }; sound = taken.sound; takes = taken.takes }
+returns-in-Ok-clause-taken c = let taken = c.in-Ok.ensures.taken in let same = c.reserve.ensures.same in record { from = taken.from; same = record { sup = taken.same.sup ∙ same.sup; pools = taken.same.pools ∙ same.pools }; sound = taken.sound; each = taken.each }
 
 pub returns-in-Ok-clause-count : goal.returns-in-Ok-clause-count
 returns-in-Ok-clause-count c = c.in-Ok.ensures.count

@@ -31,8 +31,8 @@ returns-clause-moved g c =
       index = λ p. refl;
       names = c.reserve.ensures.names;
     } in
-    let one = subst (λ (x : Entry). AppendsLog (g.P.Pmem.region c.args.memory.now) (g.P.Pmem.region c.append_log.new.memory) c.args.sup.now c.args.free.now c.append_log.new.free (record c.args.directory.now { names = c.reserve.new.self }) c.append_log.new.row (x ∷ c.name_entry-2.result ∷ [])) c.name_entry.ensures c.in_ok-append_log.ensures.appended in
-    let both = subst (λ (x : Entry). AppendsLog (g.P.Pmem.region c.args.memory.now) (g.P.Pmem.region c.append_log.new.memory) c.args.sup.now c.args.free.now c.append_log.new.free (record c.args.directory.now { names = c.reserve.new.self }) c.append_log.new.row (Name (record { operation = Remove; inode = c.args.moved.now.inode; time = c.args.moved.now.time; name = c.args.moved.now.name.now }) ∷ x ∷ [])) c.name_entry-2.ensures one in
+    let one = subst (λ (x : Entry). AppendsLog (g.P.Pmem.region c.args.memory.now) (g.P.Pmem.region c.append_log.new.memory) c.args.sup.now c.args.free.now c.append_log.new.free c.args.cpu (record c.args.directory.now { names = c.reserve.new.self }) c.append_log.new.row (x ∷ c.name_entry-2.result ∷ [])) c.name_entry.ensures c.in_ok-append_log.ensures.appended in
+    let both = subst (λ (x : Entry). AppendsLog (g.P.Pmem.region c.args.memory.now) (g.P.Pmem.region c.append_log.new.memory) c.args.sup.now c.args.free.now c.append_log.new.free c.args.cpu (record c.args.directory.now { names = c.reserve.new.self }) c.append_log.new.row (Name (record { operation = Remove; inode = c.args.moved.now.inode; time = c.args.moved.now.time; name = c.args.moved.now.name.now }) ∷ x ∷ [])) c.name_entry-2.ensures one in
     moves_within c.args.moved.now.inode c.args.moved.now.name.now c.args.moved.now.other.now c.args.moved.now.time same both c.length.result (c.length.ensures.value ∙ ap entry_length c.name_entry-2.ensures) c.remove_name.ensures.row c.remove_name.ensures.once c.add_name.ensures.row c.add_name.ensures.once c.len-names.ensures.each_once
 
 pub name_entry-requires : goal.name_entry-requires
@@ -170,10 +170,10 @@ returns-then-not-are_enough-clause-refused g c =
     inr (inr (refl, subst (λ (x : Entry). all_blocks c.args.free.now.pools < needed (c.args.directory.now.tail % 4096) (Name (record { operation = Remove; inode = c.args.moved.now.inode; time = c.args.moved.now.time; name = c.args.moved.now.name.now }) ∷ x ∷ [])) c.name_entry-2.ensures (subst (λ (x : Entry). all_blocks c.args.free.now.pools < needed (c.args.directory.now.tail % 4096) (x ∷ c.name_entry-2.result ∷ [])) c.name_entry.ensures few)))
 
 pub returns-then-not-are_enough-clause-any_stop : goal.returns-then-not-are_enough-clause-any_stop
-returns-then-not-are_enough-clause-any_stop g c held h shows absent settled = still _ _ c.args.sup.now held (MovedHere (g.P.Pmem.region c.args.memory.now) c.args.sup.now c.args.free.now c.args.directory.now c.args.moved.now.inode c.args.moved.now.name.now c.args.moved.now.other.now c.args.moved.now.time) shows.sound settled
+returns-then-not-are_enough-clause-any_stop g c held h shows absent settled = still _ _ c.args.sup.now held (MovedHere (g.P.Pmem.region c.args.memory.now) c.args.sup.now c.args.free.now c.args.cpu c.args.directory.now c.args.moved.now.inode c.args.moved.now.name.now c.args.moved.now.other.now c.args.moved.now.time) shows.sound settled
 
 pub returns-then-is_err-clause-any_stop : goal.returns-then-is_err-clause-any_stop
-returns-then-is_err-clause-any_stop g c held h shows absent settled = still _ _ c.args.sup.now held (MovedHere (g.P.Pmem.region c.args.memory.now) c.args.sup.now c.args.free.now c.args.directory.now c.args.moved.now.inode c.args.moved.now.name.now c.args.moved.now.other.now c.args.moved.now.time) shows.sound settled
+returns-then-is_err-clause-any_stop g c held h shows absent settled = still _ _ c.args.sup.now held (MovedHere (g.P.Pmem.region c.args.memory.now) c.args.sup.now c.args.free.now c.args.cpu c.args.directory.now c.args.moved.now.inode c.args.moved.now.name.now c.args.moved.now.other.now c.args.moved.now.time) shows.sound settled
 
 pub returns-in_err-append_log-clause-any_stop : goal.returns-in_err-append_log-clause-any_stop
 returns-in_err-append_log-clause-any_stop g c held h shows absent settled left may =
@@ -188,9 +188,9 @@ returns-in_err-append_log-clause-any_stop g c held h shows absent settled left m
       names = c.reserve.ensures.names;
     } in
     let there = c.append_log.ensures.any_stop held h (shows_same same shows) (omega arith) settled left may in
-    let one = subst (λ (x : Entry). LeavesEither (g.P.Pmem.region c.args.memory.now) (fixed_layout c.args.sup.now) held (Appended (g.P.Pmem.region c.args.memory.now) c.args.sup.now c.args.free.now (record c.args.directory.now { names = c.reserve.new.self }) (x ∷ c.name_entry-2.result ∷ [])) left) c.name_entry.ensures there in
+    let one = subst (λ (x : Entry). LeavesEither (g.P.Pmem.region c.args.memory.now) (fixed_layout c.args.sup.now) held (Appended (g.P.Pmem.region c.args.memory.now) c.args.sup.now c.args.free.now c.args.cpu (record c.args.directory.now { names = c.reserve.new.self }) (x ∷ c.name_entry-2.result ∷ [])) left) c.name_entry.ensures there in
     left_here c.args.directory.now (record c.args.directory.now { names = c.reserve.new.self }) c.args.moved.now.inode c.args.moved.now.name.now c.args.moved.now.other.now c.args.moved.now.time same c.len-names.ensures.each_once absent left
-    (subst (λ (x : Entry). LeavesEither (g.P.Pmem.region c.args.memory.now) (fixed_layout c.args.sup.now) held (Appended (g.P.Pmem.region c.args.memory.now) c.args.sup.now c.args.free.now (record c.args.directory.now { names = c.reserve.new.self }) (Name (record { operation = Remove; inode = c.args.moved.now.inode; time = c.args.moved.now.time; name = c.args.moved.now.name.now }) ∷ x ∷ [])) left) c.name_entry-2.ensures one)
+    (subst (λ (x : Entry). LeavesEither (g.P.Pmem.region c.args.memory.now) (fixed_layout c.args.sup.now) held (Appended (g.P.Pmem.region c.args.memory.now) c.args.sup.now c.args.free.now c.args.cpu (record c.args.directory.now { names = c.reserve.new.self }) (Name (record { operation = Remove; inode = c.args.moved.now.inode; time = c.args.moved.now.time; name = c.args.moved.now.name.now }) ∷ x ∷ [])) left) c.name_entry-2.ensures one)
 
 pub returns-clause-any_stop : goal.returns-clause-any_stop
 returns-clause-any_stop g c held h shows absent settled left may =
@@ -205,6 +205,6 @@ returns-clause-any_stop g c held h shows absent settled left may =
       names = c.reserve.ensures.names;
     } in
     let there = c.append_log.ensures.any_stop held h (shows_same same shows) (omega arith) settled left may in
-    let one = subst (λ (x : Entry). LeavesEither (g.P.Pmem.region c.args.memory.now) (fixed_layout c.args.sup.now) held (Appended (g.P.Pmem.region c.args.memory.now) c.args.sup.now c.args.free.now (record c.args.directory.now { names = c.reserve.new.self }) (x ∷ c.name_entry-2.result ∷ [])) left) c.name_entry.ensures there in
+    let one = subst (λ (x : Entry). LeavesEither (g.P.Pmem.region c.args.memory.now) (fixed_layout c.args.sup.now) held (Appended (g.P.Pmem.region c.args.memory.now) c.args.sup.now c.args.free.now c.args.cpu (record c.args.directory.now { names = c.reserve.new.self }) (x ∷ c.name_entry-2.result ∷ [])) left) c.name_entry.ensures there in
     left_here c.args.directory.now (record c.args.directory.now { names = c.reserve.new.self }) c.args.moved.now.inode c.args.moved.now.name.now c.args.moved.now.other.now c.args.moved.now.time same c.len-names.ensures.each_once absent left
-    (subst (λ (x : Entry). LeavesEither (g.P.Pmem.region c.args.memory.now) (fixed_layout c.args.sup.now) held (Appended (g.P.Pmem.region c.args.memory.now) c.args.sup.now c.args.free.now (record c.args.directory.now { names = c.reserve.new.self }) (Name (record { operation = Remove; inode = c.args.moved.now.inode; time = c.args.moved.now.time; name = c.args.moved.now.name.now }) ∷ x ∷ [])) left) c.name_entry-2.ensures one)
+    (subst (λ (x : Entry). LeavesEither (g.P.Pmem.region c.args.memory.now) (fixed_layout c.args.sup.now) held (Appended (g.P.Pmem.region c.args.memory.now) c.args.sup.now c.args.free.now c.args.cpu (record c.args.directory.now { names = c.reserve.new.self }) (Name (record { operation = Remove; inode = c.args.moved.now.inode; time = c.args.moved.now.time; name = c.args.moved.now.name.now }) ∷ x ∷ [])) left) c.name_entry-2.ensures one)

@@ -27,7 +27,7 @@ returns-in_err-append_logs-clause-refused g c =
 pub returns-clause-unlinked : goal.returns-clause-unlinked
 returns-clause-unlinked g c =
     let grew = c.in_ok-append_logs.ensures.appended in
-    let both = subst (λ (x : Entry). AppendsLogs (g.P.Pmem.region c.args.memory.now) (g.P.Pmem.region c.append_logs.new.memory) c.args.sup.now c.args.free.now c.append_logs.new.free (c.args.directory.now ∷ c.args.file.now ∷ []) (c.append_logs.new.row ∷ c.append_logs.new.other ∷ []) 0 (x ∷ []) 1 (links_entries (c.args.file.now.numbers.links - 1) c.args.time)) c.name_entry.ensures grew in
+    let both = subst (λ (x : Entry). AppendsLogs (g.P.Pmem.region c.args.memory.now) (g.P.Pmem.region c.append_logs.new.memory) c.args.sup.now c.args.free.now c.append_logs.new.free c.args.cpu (c.args.directory.now ∷ c.args.file.now ∷ []) (c.append_logs.new.row ∷ c.append_logs.new.other ∷ []) 0 (x ∷ []) 1 (links_entries (c.args.file.now.numbers.links - 1) c.args.time)) c.name_entry.ensures grew in
     unlinks_at_places c.args.file.now both refl (λ e. omega (arith, e)) c.append_logs.new.row c.append_logs.new.other refl c.remove_name.ensures.row c.remove_name.ensures.once refl c.set_links.ensures
 
 pub append_logs-requires-clause-apart : goal.append_logs-requires-clause-apart
@@ -115,11 +115,11 @@ name_entry-requires g c = record { some = c.requires.name.some; fits = c.require
 pub returns-in_err-append_logs-clause-any_stop : goal.returns-in_err-append_logs-clause-any_stop
 returns-in_err-append_logs-clause-any_stop g c held h f here there settled left may =
     left_unlinked c.args.directory.now c.args.file.now c.args.name.now c.args.time left
-    (subst (λ (x : Entry). LeavesEither (g.P.Pmem.region c.args.memory.now) (fixed_layout c.args.sup.now) held (AppendedBoth (g.P.Pmem.region c.args.memory.now) c.args.sup.now c.args.free.now c.args.directory.now (x ∷ []) c.args.file.now (links_entries (c.args.file.now.numbers.links - 1) c.args.time)) left) c.name_entry.ensures
+    (subst (λ (x : Entry). LeavesEither (g.P.Pmem.region c.args.memory.now) (fixed_layout c.args.sup.now) held (AppendedBoth (g.P.Pmem.region c.args.memory.now) c.args.sup.now c.args.free.now c.args.cpu c.args.directory.now (x ∷ []) c.args.file.now (links_entries (c.args.file.now.numbers.links - 1) c.args.time)) left) c.name_entry.ensures
     (c.append_logs.ensures.any_stop held h f here there settled left may))
 
 pub returns-clause-any_stop : goal.returns-clause-any_stop
 returns-clause-any_stop g c held h f here there settled left may =
     left_unlinked c.args.directory.now c.args.file.now c.args.name.now c.args.time left
-    (subst (λ (x : Entry). LeavesEither (g.P.Pmem.region c.args.memory.now) (fixed_layout c.args.sup.now) held (AppendedBoth (g.P.Pmem.region c.args.memory.now) c.args.sup.now c.args.free.now c.args.directory.now (x ∷ []) c.args.file.now (links_entries (c.args.file.now.numbers.links - 1) c.args.time)) left) c.name_entry.ensures
+    (subst (λ (x : Entry). LeavesEither (g.P.Pmem.region c.args.memory.now) (fixed_layout c.args.sup.now) held (AppendedBoth (g.P.Pmem.region c.args.memory.now) c.args.sup.now c.args.free.now c.args.cpu c.args.directory.now (x ∷ []) c.args.file.now (links_entries (c.args.file.now.numbers.links - 1) c.args.time)) left) c.name_entry.ensures
     (c.append_logs.ensures.any_stop held h f here there settled left may))

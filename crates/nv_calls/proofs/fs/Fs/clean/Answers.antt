@@ -1,9 +1,8 @@
-use Rattle.std.proofs.Common.{◌≡◌, ◌∙◌, ◌⊎◌, [], ℕ, Some, false, true, inr, ap, subst, sym, refl, IfOk}
+use Rattle.std.proofs.Common.{◌≡◌, ◌∙◌, [], ℕ, Some, false, true, inr, ap, subst, sym, refl, IfOk}
 use Rattle.std.proofs.lemmas.Option.{same_Some}
 use Rattle.std.proofs.lemmas.Result.{err_from_is_err_and, IfOk-from_err}
 use Rattle.nv_tree.specs.declared.refusal.Refusal.{Refusal}
-use Rattle.nv_tree.specs.declared.refusal.Refusal.TheVariants.{Memory, Stopped}
-use Rattle.nv_tree.specs.Refusals.{clean_tests, first_refusal, stat_tests}
+use Rattle.nv_tree.specs.Refusals.{clean_tests, first_refusal, stat_tests, IsRefusedBy}
 use Rattle.nv_tree.proofs.Replies.{refused_by}
 use Rattle.nv_tree.proofs.Texts.{text_says}
 use Rattle.nv_paths.specs.Seen.{LeadsTo, node_of, tree_of}
@@ -24,7 +23,7 @@ pub returns-in_err-cleanable-clause-refused : goal.returns-in_err-cleanable-clau
 returns-in_err-cleanable-clause-refused g c runs p says =
     let tree = tree_of (g.P.Pmem.region c.args.self.now.memory) c.args.self.now.rows in
     let w = err_from_is_err_and c.from_residual.result c.from_residual.ensures.1 in
-    refused_by c.from_residual.result c.in_err-cleanable.field-0.0 w.0 (λ (e : Refusal). (e ≡ Memory) ⊎ ((e ≡ Stopped) ⊎ (first_refusal (clean_tests (world_of c.args.self.now) tree p) ≡ Some e))) w.1 w.2 (inr (inr (c.in_err-cleanable.ensures.refused runs (stat_tests tree p))))
+    refused_by c.from_residual.result c.in_err-cleanable.field-0.0 w.0 (IsRefusedBy (first_refusal (clean_tests (world_of c.args.self.now) tree p))) w.1 w.2 (inr (inr (c.in_err-cleanable.ensures.refused runs (stat_tests tree p))))
 
 pub returns-in_err-cleanable-clause-unchanged : goal.returns-in_err-cleanable-clause-unchanged
 returns-in_err-cleanable-clause-unchanged g c = if_err c.from_residual.result _ (λ e on. same_mount c.args.self.now)
@@ -40,7 +39,7 @@ returns-in_err-inode-clause-refused g c runs p says =
     let writes : c.self.inside.read_only ≡ false = ap (λ (m : Mount g.row.P.Denot). m.read_only) c.self.view_is ∙ c.in_ok-cleanable.ensures.writes in
     let w = err_from_is_err_and c.from_residual-in_err-inode.result c.from_residual-in_err-inode.ensures.1 in
     let told = c.in_err-inode.ensures.refused (g.P.Pmem.region c.self.inside.memory) p says in
-    refused_by c.from_residual-in_err-inode.result c.in_err-inode.field-0.0 w.0 (λ (e : Refusal). (e ≡ Memory) ⊎ ((e ≡ Stopped) ⊎ (first_refusal (clean_tests (world_of c.args.self.now) tree p) ≡ Some e))) w.1 w.2 (inr (inr (tests_said g.P.Pmem.region c.self.view_is writes p (Some c.in_err-inode.field-0.0) told)))
+    refused_by c.from_residual-in_err-inode.result c.in_err-inode.field-0.0 w.0 (IsRefusedBy (first_refusal (clean_tests (world_of c.args.self.now) tree p))) w.1 w.2 (inr (inr (tests_said g.P.Pmem.region c.self.view_is writes p (Some c.in_err-inode.field-0.0) told)))
 
 pub returns-in_err-inode-clause-unchanged : goal.returns-in_err-inode-clause-unchanged
 returns-in_err-inode-clause-unchanged g c = if_err c.from_residual-in_err-inode.result _ (λ e on. same_mount c.args.self.now)

@@ -1,11 +1,11 @@
-use Rattle.std.proofs.Common.{◌≡◌, ◌∙◌, ◌≤◌, ◌⊎◌, [], ◌∷◌, Some, false, true, inr, ap, set, subst, sym, refl, is_none}
+use Rattle.std.proofs.Common.{◌≡◌, ◌∙◌, ◌≤◌, [], ◌∷◌, Some, false, true, inr, ap, set, subst, sym, refl, is_none}
 use Rattle.std.proofs.lemmas.Result.{err_from_is_err_and, IfOk-from_err}
 use Rattle.nv_region.specs.Region.{size}
 use Rattle.nv_region.specs.Fuses.{KeepsFuse}
 use Rattle.nv_super.proofs.Members.{stands}
 use Rattle.nv_tree.specs.declared.refusal.Refusal.{Refusal}
-use Rattle.nv_tree.specs.declared.refusal.Refusal.TheVariants.{Memory, NotFound, Stopped}
-use Rattle.nv_tree.specs.Refusals.{first_refusal}
+use Rattle.nv_tree.specs.declared.refusal.Refusal.TheVariants.{NotFound, Stopped}
+use Rattle.nv_tree.specs.Refusals.{first_refusal, IsRefusedBy}
 use Rattle.nv_tree.proofs.Replies.{refused_by}
 use Rattle.nv_rows.specs.Rows.{IsInUse, place_in}
 use Rattle.nv_rows.proofs.Places.{at_place, back_one, in_use}
@@ -106,7 +106,7 @@ pub returns-in_err-cleanable-clause-refused : goal.returns-in_err-cleanable-clau
 returns-in_err-cleanable-clause-refused g c runs =
     let tree = tree_of (g.P.Pmem.region c.args.self.now.memory) c.args.self.now.rows in
     let w = err_from_is_err_and c.from_residual.result c.from_residual.ensures.1 in
-    refused_by c.from_residual.result c.in_err-cleanable.field-0.0 w.0 (λ (e : Refusal). (e ≡ Memory) ⊎ ((e ≡ Stopped) ⊎ (first_refusal (clean_inode_tests (world_of c.args.self.now) tree c.args.inode) ≡ Some e))) w.1 w.2 (inr (inr (c.in_err-cleanable.ensures.refused runs ((is_none (tree c.args.inode), NotFound) ∷ []))))
+    refused_by c.from_residual.result c.in_err-cleanable.field-0.0 w.0 (IsRefusedBy (first_refusal (clean_inode_tests (world_of c.args.self.now) tree c.args.inode))) w.1 w.2 (inr (inr (c.in_err-cleanable.ensures.refused runs ((is_none (tree c.args.inode), NotFound) ∷ []))))
 
 pub returns-in_err-cleanable-clause-unchanged : goal.returns-in_err-cleanable-clause-unchanged
 returns-in_err-cleanable-clause-unchanged g c = if_err c.from_residual.result _ (λ e on. same_mount c.args.self.now)
@@ -122,7 +122,7 @@ returns-in_err-in_use-clause-refused g c runs =
     let writes : c.self.inside.read_only ≡ false = ap (λ (m : Mount g.row.P.Denot). m.read_only) c.self.view_is ∙ c.in_ok-cleanable.ensures.writes in
     let w = err_from_is_err_and c.from_residual-in_err-in_use.result c.from_residual-in_err-in_use.ensures.1 in
     let missing = inode_missing g.P.Pmem.region {n = c.args.self.now} {m = c.args.self.now} refl c.in_ok-cleanable.ensures.writes c.args.inode c.in_err-in_use.ensures.missing.1 in
-    refused_by c.from_residual-in_err-in_use.result c.in_err-in_use.field-0.0 w.0 (λ (e : Refusal). (e ≡ Memory) ⊎ ((e ≡ Stopped) ⊎ (first_refusal (clean_inode_tests (world_of c.args.self.now) tree c.args.inode) ≡ Some e))) w.1 w.2
+    refused_by c.from_residual-in_err-in_use.result c.in_err-in_use.field-0.0 w.0 (IsRefusedBy (first_refusal (clean_inode_tests (world_of c.args.self.now) tree c.args.inode))) w.1 w.2
     (inr (inr (missing ∙ ap (λ (e : Refusal). Some e) (sym c.in_err-in_use.ensures.missing.0))))
 
 pub returns-in_err-in_use-clause-unchanged : goal.returns-in_err-in_use-clause-unchanged
@@ -248,7 +248,8 @@ returns-in-Err-clause-keeps_fuse g c =
 
 pub returns-in-Err-clause-refused : goal.returns-in-Err-clause-refused
 returns-in-Err-clause-refused g c still =
-    step_refused c.in-Err.refusal _ c.in-Err.ensures.refused
+    let writes : c.self.inside.read_only ≡ false = ap (λ (m : Mount g.row.P.Denot). m.read_only) c.self.view_is ∙ c.in_ok-cleanable.ensures.writes in
+    step_refused _ c.in-Err.refusal (inode_there g.P.Pmem.region c.self.view_is writes c.args.inode c.lend-row.result c.lend-row.ensures.row) c.in-Err.ensures.refused
 
 pub returns-in-Err-clause-unchanged : goal.returns-in-Err-clause-unchanged
 returns-in-Err-clause-unchanged g c off =

@@ -1,20 +1,20 @@
-use Rattle.std.proofs.Common.{◌≡◌, ◌∙◌, ◌<◌, ◌⊎◌, ◌++◌, ◌+◌, ◌∷◌, [], List, ℕ, Some, None, Ok, false, true, inr, ap, subst, sym}
+use Rattle.std.proofs.Common.{◌≡◌, ◌∙◌, ◌<◌, ◌++◌, ◌+◌, ◌∷◌, [], List, ℕ, Some, None, Ok, false, true, inr, ap, subst, sym}
 use Rattle.std.proofs.lemmas.Result.{err_from_is_err_and}
 use Rattle.nv_rows.specs.Rows.{place_in}
 use Rattle.nv_rows.proofs.Places.{at_place, own_row, row_in_use}
 use Rattle.nv_held.specs.nv_named.Read.{row_of}
 use Rattle.nv_tree.specs.declared.refusal.Refusal.{Refusal}
-use Rattle.nv_tree.specs.declared.refusal.Refusal.TheVariants.{Memory, Stopped}
 use Rattle.nv_held.specs.Mounted.{ShowsSound}
 use Rattle.nv_entry.specs.declared.entry.Operation.TheVariants.{Add}
 use Rattle.nv_tree.specs.Path.{IsPath, last_name}
 use Rattle.nv_tree.specs.Tree.{SameTree, walk}
 use Rattle.nv_tree.specs.Calls.{linked}
-use Rattle.nv_tree.specs.Refusals.{first_refusal, has_most_links, has_no_space, is_bad, is_bad_name, is_dir, is_missing, is_there, link_tests, walk_tests}
+use Rattle.nv_tree.specs.Refusals.{first_refusal, has_most_links, has_no_space, is_bad, is_bad_name, is_dir, is_missing, is_there, link_tests, walk_tests, IsRefusedBy}
 use Rattle.nv_tree.proofs.Texts.{text_says}
 use Rattle.nv_calls.specs.Effects.{logs_link, makes_link}
 use Rattle.nv_calls.specs.LinkCalls.{ShowsBothGrew, link_blocks}
 use Rattle.nv_steps.specs.NameEntries.{links_entries, name_entries}
+use Rattle.nv_steps.specs.Fronts.{SameFrontBut}
 use Rattle.nv_calls.specs.Mount.{Mount}
 use Rattle.nv_paths.specs.Places.{IsLinkSpot, link_spot_tests}
 use Rattle.nv_paths.specs.Seen.{LeadsTo, tree_of}
@@ -33,11 +33,12 @@ use Rattle.nv_calls.proofs.RowNumbers.{row_commits}
 use Rattle.nv_calls.proofs.SetAttr.{late_reply, not_stop}
 use Rattle.nv_calls.proofs.Tests.{early_reply, if_err, writing_goes_on}
 use Rattle.nv_calls.proofs.fs.Fs.link.Goals as goal
+use Rattle.nv_calls.proofs.FrontsKept.{both_front}
 
 pub returns-in_err-writable-clause-refused : goal.returns-in_err-writable-clause-refused
 returns-in_err-writable-clause-refused g c runs p q says says_new =
     let w = err_from_is_err_and c.from_residual.result c.from_residual.ensures.1 in
-    refused_by c.from_residual.result c.in_err-writable.field-0.0 w.0 (λ (e : Refusal). (e ≡ Memory) ⊎ ((e ≡ Stopped) ⊎ (first_refusal (link_tests (world_of c.args.self.now) (tree_of (g.P.Pmem.region c.args.self.now.memory) c.args.self.now.rows) c.args.cpu p q (link_blocks c.args.self.now.rows (tree_of (g.P.Pmem.region c.args.self.now.memory) c.args.self.now.rows) p q)) ≡ Some e))) w.1 w.2
+    refused_by c.from_residual.result c.in_err-writable.field-0.0 w.0 (IsRefusedBy (first_refusal (link_tests (world_of c.args.self.now) (tree_of (g.P.Pmem.region c.args.self.now.memory) c.args.self.now.rows) c.args.cpu p q (link_blocks c.args.self.now.rows (tree_of (g.P.Pmem.region c.args.self.now.memory) c.args.self.now.rows) p q)))) w.1 w.2
     (inr (inr (c.in_err-writable.ensures.refused runs (is_bad p ∷ is_bad_name q ∷ walk_tests (tree_of (g.P.Pmem.region c.args.self.now.memory) c.args.self.now.rows) p ++ walk_tests (tree_of (g.P.Pmem.region c.args.self.now.memory) c.args.self.now.rows) q ++ is_missing (tree_of (g.P.Pmem.region c.args.self.now.memory) c.args.self.now.rows) p ∷ is_dir (tree_of (g.P.Pmem.region c.args.self.now.memory) c.args.self.now.rows) p ∷ is_there (tree_of (g.P.Pmem.region c.args.self.now.memory) c.args.self.now.rows) q ∷ has_most_links (tree_of (g.P.Pmem.region c.args.self.now.memory) c.args.self.now.rows) p ∷ has_no_space (world_of c.args.self.now) (link_blocks c.args.self.now.rows (tree_of (g.P.Pmem.region c.args.self.now.memory) c.args.self.now.rows) p q) ∷ []))))
 
 pub returns-in_err-writable-clause-unchanged : goal.returns-in_err-writable-clause-unchanged
@@ -56,7 +57,7 @@ returns-in_err-named-clause-refused g c still p q says says_new =
     subst (λ (m : Mount g.row.P.Denot). first_refusal (link_spot_tests (tree_of (g.P.Pmem.region m.memory) m.rows) p q) ≡ Some c.in_err-named.field-0.0) c.self.view_is
     (c.in_err-named.ensures.refused (g.P.Pmem.region c.self.inside.memory) p q says says_new) in
     let w = err_from_is_err_and c.from_residual-in_err-named.result c.from_residual-in_err-named.ensures.1 in
-    refused_by c.from_residual-in_err-named.result c.in_err-named.field-0.0 w.0 (λ (e : Refusal). (e ≡ Memory) ⊎ ((e ≡ Stopped) ⊎ (first_refusal (link_tests (world_of c.args.self.now) (tree_of (g.P.Pmem.region c.args.self.now.memory) c.args.self.now.rows) c.args.cpu p q (link_blocks c.args.self.now.rows (tree_of (g.P.Pmem.region c.args.self.now.memory) c.args.self.now.rows) p q)) ≡ Some e))) w.1 w.2
+    refused_by c.from_residual-in_err-named.result c.in_err-named.field-0.0 w.0 (IsRefusedBy (first_refusal (link_tests (world_of c.args.self.now) (tree_of (g.P.Pmem.region c.args.self.now.memory) c.args.self.now.rows) c.args.cpu p q (link_blocks c.args.self.now.rows (tree_of (g.P.Pmem.region c.args.self.now.memory) c.args.self.now.rows) p q)))) w.1 w.2
     (inr (inr (link_refuses (world_of c.args.self.now) (tree_of (g.P.Pmem.region c.args.self.now.memory) c.args.self.now.rows) c.args.cpu c.in_ok-writable.ensures.passed p q (link_blocks c.args.self.now.rows (tree_of (g.P.Pmem.region c.args.self.now.memory) c.args.self.now.rows) p q) c.in_err-named.field-0.0 told)))
 
 pub returns-in_err-named-clause-unchanged : goal.returns-in_err-named-clause-unchanged
@@ -153,8 +154,16 @@ returns-in-Ok-clause-log g c names others i d node held f h path other_path led 
     let spot : (names others : List (List ℕ)) → IsPath c.args.old.now names → IsPath c.args.new.now others → IsLinkSpot (tree_of (g.P.Pmem.region c.self.inside.memory) c.self.inside.rows.items) c.self.inside.rows.items names others (place_in c.self.inside.rows.items c.in_ok-named.named.directory) c.in_ok-named.named.name.now (place_in c.self.inside.rows.items c.in_ok-named.named.target) =
     λ names others path other_path. c.in_ok-named.ensures.spot (g.P.Pmem.region c.self.inside.memory) names others path other_path in
     subst (λ (m : Mount g.row.P.Denot). LeadsTo (tree_of (g.P.Pmem.region m.memory) m.rows) names i node → walk (tree_of (g.P.Pmem.region m.memory) m.rows) 1 others ≡ Ok d → ShowsSound (g.P.Pmem.region m.memory) m.sup held
-    → ShowsBothGrew (g.P.Pmem.region c.link_at.new.memory) m.sup held i f (links_entries (node.links + 1) c.args.time) d h (name_entries Add i (last_name others) c.args.time)) c.self.view_is
+    → ShowsBothGrew (g.P.Pmem.region c.link_at.new.memory) m.sup m.free.pools c.args.cpu held i f (links_entries (node.links + 1) c.args.time) d h (name_entries Add i (last_name others) c.args.time)) c.self.view_is
     (λ leads walked shown. linked_logs c.self.invariant.0 runs writes c.in-Ok.ensures.linked c.in_ok-named.ensures.name names others (spot names others path other_path) i d node held f h leads walked shown is other_is) led ended sound
+
+pub returns-in-Ok-clause-journals : goal.returns-in-Ok-clause-journals
+returns-in-Ok-clause-journals g c =
+    let runs : c.self.inside.stopped ≡ false = ap (λ (m : Mount g.row.P.Denot). m.stopped) c.self.view_is ∙ c.in_ok-writable.ensures.runs in
+    let writes : c.self.inside.read_only ≡ false = ap (λ (m : Mount g.row.P.Denot). m.read_only) c.self.view_is ∙ c.in_ok-writable.ensures.writes in
+    let linked = c.in-Ok.ensures.linked in
+    subst (λ (m : Mount g.row.P.Denot). SameFrontBut m.sup.cpus c.args.cpu (g.P.Pmem.region m.memory) (g.P.Pmem.region c.link_at.new.memory)) c.self.view_is
+    (both_front c.self.invariant.0 runs writes linked.step)
 
 pub returns-in-Err-clause-refused : goal.returns-in-Err-clause-refused
 returns-in-Err-clause-refused g c still p q says says_new =
@@ -191,10 +200,10 @@ pub returns-in-Err-clause-read_only : goal.returns-in-Err-clause-read_only
 returns-in-Err-clause-read_only g c only = absurd (let no : true ≡ false = sym only ∙ c.in_ok-writable.ensures.writes in cc)
 
 pub returns-in_err-writable-clause-any_stop : goal.returns-in_err-writable-clause-any_stop
-returns-in_err-writable-clause-any_stop g c names others path other_path on able = call_stays g.P.Pmem.region c.args.self.now (makes_link c.args.time (Some others)) (logs_link c.args.time (Some others)) names c.in_err-writable.ensures.kept on able _ (c.in_err-writable.ensures.settled on)
+returns-in_err-writable-clause-any_stop g c names others path other_path on able = call_stays g.P.Pmem.region c.args.self.now (makes_link c.args.time (Some others)) (logs_link c.args.cpu c.args.time (Some others)) names c.in_err-writable.ensures.kept on able _ (c.in_err-writable.ensures.settled on)
 
 pub returns-in_err-named-clause-any_stop : goal.returns-in_err-named-clause-any_stop
-returns-in_err-named-clause-any_stop g c names others path other_path on able = call_stays g.P.Pmem.region c.args.self.now (makes_link c.args.time (Some others)) (logs_link c.args.time (Some others)) names c.in_ok-writable.ensures.kept on able _ (c.in_ok-writable.ensures.settled on)
+returns-in_err-named-clause-any_stop g c names others path other_path on able = call_stays g.P.Pmem.region c.args.self.now (makes_link c.args.time (Some others)) (logs_link c.args.cpu c.args.time (Some others)) names c.in_ok-writable.ensures.kept on able _ (c.in_ok-writable.ensures.settled on)
 
 pub returns-in-Ok-clause-any_stop : goal.returns-in-Ok-clause-any_stop
 returns-in-Ok-clause-any_stop g c names others path other_path on able =
@@ -202,7 +211,7 @@ returns-in-Ok-clause-any_stop g c names others path other_path on able =
     let writes : c.self.inside.read_only ≡ false = ap (λ (m : Mount g.row.P.Denot). m.read_only) c.self.view_is ∙ c.in_ok-writable.ensures.writes in
     let file = row_in_use c.self.inside.rows.items c.in_ok-named.named.target c.in_ok-named.ensures.target in
     let directory = row_in_use c.self.inside.rows.items c.in_ok-named.named.directory c.in_ok-named.ensures.directory in
-    link_left g.P.Pmem.region c.self.view_is c.self.invariant.0 runs writes c.in_ok-named.named.target c.in_ok-named.named.directory file.0 directory.0 file.1 directory.1 c.in_ok-named.named.name.now c.args.time c.in_ok-named.ensures.name names others
+    link_left g.P.Pmem.region c.self.view_is c.self.invariant.0 runs writes c.in_ok-named.named.target c.in_ok-named.named.directory file.0 directory.0 file.1 directory.1 c.in_ok-named.named.name.now c.args.cpu c.args.time c.in_ok-named.ensures.name names others
     (c.in_ok-named.ensures.spot (g.P.Pmem.region c.self.inside.memory) names others path other_path) _ _ _
     (λ held f h here other absent pending. c.link_at.ensures.any_stop file.0 directory.0 held f h file.1 directory.1 here other absent pending) (c.self.invariant.2 runs)
 
@@ -212,7 +221,7 @@ returns-in-Err-clause-any_stop g c names others path other_path on able =
     let writes : c.self.inside.read_only ≡ false = ap (λ (m : Mount g.row.P.Denot). m.read_only) c.self.view_is ∙ c.in_ok-writable.ensures.writes in
     let file = row_in_use c.self.inside.rows.items c.in_ok-named.named.target c.in_ok-named.ensures.target in
     let directory = row_in_use c.self.inside.rows.items c.in_ok-named.named.directory c.in_ok-named.ensures.directory in
-    link_left g.P.Pmem.region c.self.view_is c.self.invariant.0 runs writes c.in_ok-named.named.target c.in_ok-named.named.directory file.0 directory.0 file.1 directory.1 c.in_ok-named.named.name.now c.args.time c.in_ok-named.ensures.name names others
+    link_left g.P.Pmem.region c.self.view_is c.self.invariant.0 runs writes c.in_ok-named.named.target c.in_ok-named.named.directory file.0 directory.0 file.1 directory.1 c.in_ok-named.named.name.now c.args.cpu c.args.time c.in_ok-named.ensures.name names others
     (c.in_ok-named.ensures.spot (g.P.Pmem.region c.self.inside.memory) names others path other_path) _ _ _
     (λ held f h here other absent pending. c.link_at.ensures.any_stop file.0 directory.0 held f h file.1 directory.1 here other absent pending) (c.self.invariant.2 runs)
 

@@ -1,4 +1,4 @@
-use Rattle.std.proofs.Common.{◌≡◌, ◌∙◌, ◌<◌, ◌≤◌, ◌⊎◌, ◌++◌, ◌∷◌, [], List, ℕ, Some, None, Ok, true, false, inr, ap, refl, subst, sym, slice_get}
+use Rattle.std.proofs.Common.{◌≡◌, ◌∙◌, ◌<◌, ◌≤◌, ◌++◌, ◌∷◌, [], List, ℕ, Some, None, Ok, true, false, inr, ap, refl, subst, sym, slice_get}
 use Rattle.std.proofs.lemmas.Result.{err_from_is_err_and, IfOk-from_err}
 use Rattle.nv_tree.specs.declared.refusal.Refusal.{Refusal}
 use Rattle.nv_region.specs.Region.{size}
@@ -7,13 +7,13 @@ use Rattle.nv_super.specs.declared.superblock.Super.{Super}
 use Rattle.nv_super.specs.Layout.{inode_limit}
 use Rattle.nv_rows.specs.Rows.{place_in}
 use Rattle.nv_rows.proofs.Places.{at_place, own_row, row_in_use}
-use Rattle.nv_tree.specs.declared.refusal.Refusal.TheVariants.{Memory, Stopped}
 use Rattle.nv_held.specs.Mounted.{ShowsSound}
 use Rattle.nv_tree.specs.Path.{IsPath, last_name}
 use Rattle.nv_tree.specs.Tree.{SameTree, walk}
 use Rattle.nv_tree.specs.Calls.{created}
-use Rattle.nv_tree.specs.Refusals.{create_tests, first_refusal, has_no_slot, has_no_space, is_bad_name, is_there, walk_tests}
+use Rattle.nv_tree.specs.Refusals.{create_tests, first_refusal, has_no_slot, has_no_space, is_bad_name, is_there, walk_tests, IsRefusedBy}
 use Rattle.nv_tree.proofs.Texts.{text_says}
+use Rattle.nv_steps.specs.Fronts.{SameFrontBut}
 use Rattle.nv_calls.specs.Effects.{logs_inode, makes_inode}
 use Rattle.nv_calls.specs.Mount.{Mount}
 use Rattle.nv_calls.specs.NameCalls.{ShowsCreated, create_blocks}
@@ -33,13 +33,14 @@ use Rattle.nv_calls.proofs.RowChange.{same_mount}
 use Rattle.nv_calls.proofs.SetAttr.{late_reply, not_stop}
 use Rattle.nv_calls.proofs.Tests.{early_reply, if_err, writing_goes_on}
 use Rattle.nv_calls.proofs.fs.Fs.make.Goals as goal
+use Rattle.nv_calls.proofs.FrontsKept.{created_front}
 
 pub returns-in_err-writable-clause-refused : goal.returns-in_err-writable-clause-refused
 returns-in_err-writable-clause-refused g c runs p says =
     let tree = tree_of (g.P.Pmem.region c.args.self.now.memory) c.args.self.now.rows in
     let count = create_blocks c.args.self.now.rows tree p in
     let w = err_from_is_err_and c.from_residual.result c.from_residual.ensures.1 in
-    refused_by c.from_residual.result c.in_err-writable.field-0.0 w.0 (λ (e : Refusal). (e ≡ Memory) ⊎ ((e ≡ Stopped) ⊎ (first_refusal (create_tests (world_of c.args.self.now) tree c.args.cpu p count) ≡ Some e))) w.1 w.2
+    refused_by c.from_residual.result c.in_err-writable.field-0.0 w.0 (IsRefusedBy (first_refusal (create_tests (world_of c.args.self.now) tree c.args.cpu p count))) w.1 w.2
     (inr (inr (c.in_err-writable.ensures.refused runs (is_bad_name p ∷ walk_tests tree p ++ is_there tree p ∷ has_no_slot (world_of c.args.self.now) c.args.cpu ∷ has_no_space (world_of c.args.self.now) count ∷ []))))
 
 pub returns-in_err-writable-clause-unchanged : goal.returns-in_err-writable-clause-unchanged
@@ -64,7 +65,7 @@ returns-in_err-spot-clause-refused g c still p says =
     let tree = tree_of (g.P.Pmem.region c.args.self.now.memory) c.args.self.now.rows in
     let count = create_blocks c.args.self.now.rows tree p in
     let w = err_from_is_err_and c.from_residual-in_err-spot.result c.from_residual-in_err-spot.ensures.1 in
-    refused_by c.from_residual-in_err-spot.result c.in_err-spot.field-0.0 w.0 (λ (e : Refusal). (e ≡ Memory) ⊎ ((e ≡ Stopped) ⊎ (first_refusal (create_tests (world_of c.args.self.now) tree c.args.cpu p count) ≡ Some e))) w.1 w.2
+    refused_by c.from_residual-in_err-spot.result c.in_err-spot.field-0.0 w.0 (IsRefusedBy (first_refusal (create_tests (world_of c.args.self.now) tree c.args.cpu p count))) w.1 w.2
     (inr (inr (spot_refuses (world_of c.args.self.now) tree c.args.cpu c.in_ok-writable.ensures.passed p count c.in_err-spot.field-0.0 told)))
 
 pub returns-in_err-spot-clause-unchanged : goal.returns-in_err-spot-clause-unchanged
@@ -121,7 +122,7 @@ invariant_of-self g c =
     let spot : (names : List (List ℕ)) → IsPath c.args.path.now names → IsSpot (tree_of (g.P.Pmem.region c.self.inside.memory) c.self.inside.rows.items) c.self.inside.rows.items c.self.inside.sup c.args.cpu names (place_in c.self.inside.rows.items c.in_ok-spot.spot.directory) c.in_ok-spot.spot.name.now c.in_ok-spot.spot.inode =
     λ names path. subst (λ (s : Super). IsSpot (tree_of (g.P.Pmem.region c.self.inside.memory) c.self.inside.rows.items) c.self.inside.rows.items s c.args.cpu names (place_in c.self.inside.rows.items c.in_ok-spot.spot.directory) c.in_ok-spot.spot.name.now c.in_ok-spot.spot.inode) c.self.invariant.1 (c.in_ok-spot.ensures.spot (g.P.Pmem.region c.self.inside.memory) names path) in
     let path = c.in_ok-spot.ensures.path in
-    (created_kept c.self.invariant.0 runs writes c.in-Ok.ensures.created c.args.cpu low c.in_ok-spot.ensures.name path.0 (spot path.0 path.1) c.self.inside.stopped, c.create_at.ensures.limit ∙ c.self.invariant.1, λ on. c.in-Ok.ensures.settled)
+    (created_kept c.self.invariant.0 runs writes c.in-Ok.ensures.created low c.in_ok-spot.ensures.name path.0 (spot path.0 path.1) c.self.inside.stopped, c.create_at.ensures.limit ∙ c.self.invariant.1, λ on. c.in-Ok.ensures.settled)
 
 pub invariant_of-self-in-Err : goal.invariant_of-self-in-Err
 invariant_of-self-in-Err g c =
@@ -152,7 +153,7 @@ returns-in-Ok-clause-changed g c names path =
     let spot : (names : List (List ℕ)) → IsPath c.args.path.now names → IsSpot (tree_of (g.P.Pmem.region c.self.inside.memory) c.self.inside.rows.items) c.self.inside.rows.items c.self.inside.sup c.args.cpu names (place_in c.self.inside.rows.items c.in_ok-spot.spot.directory) c.in_ok-spot.spot.name.now c.in_ok-spot.spot.inode =
     λ names path. subst (λ (s : Super). IsSpot (tree_of (g.P.Pmem.region c.self.inside.memory) c.self.inside.rows.items) c.self.inside.rows.items s c.args.cpu names (place_in c.self.inside.rows.items c.in_ok-spot.spot.directory) c.in_ok-spot.spot.name.now c.in_ok-spot.spot.inode) c.self.invariant.1 (c.in_ok-spot.ensures.spot (g.P.Pmem.region c.self.inside.memory) names path) in
     subst (λ (m : Mount g.row.P.Denot). SameTree (tree_of (g.P.Pmem.region c.create_at.new.memory) c.create_at.new.rows.items) (created c.args.kind (unused_number m.sup m.rows c.args.cpu) names c.args.mode c.args.time (tree_of (g.P.Pmem.region m.memory) m.rows))) c.self.view_is
-    (created_tree c.self.invariant.0 runs writes c.in-Ok.ensures.created c.args.cpu low c.in_ok-spot.ensures.name names (spot names path))
+    (created_tree c.self.invariant.0 runs writes c.in-Ok.ensures.created low c.in_ok-spot.ensures.name names (spot names path))
 
 pub returns-in-Ok-clause-log : goal.returns-in-Ok-clause-log
 returns-in-Ok-clause-log g c names d j held h path led number sound is =
@@ -161,8 +162,8 @@ returns-in-Ok-clause-log g c names d j held h path led number sound is =
     let low : c.args.cpu < c.self.inside.sup.cpus = subst (λ (m : Mount g.row.P.Denot). c.args.cpu < m.sup.cpus) (sym c.self.view_is) c.in_ok-writable.ensures.cpu in
     let spot : (names : List (List ℕ)) → IsPath c.args.path.now names → IsSpot (tree_of (g.P.Pmem.region c.self.inside.memory) c.self.inside.rows.items) c.self.inside.rows.items c.self.inside.sup c.args.cpu names (place_in c.self.inside.rows.items c.in_ok-spot.spot.directory) c.in_ok-spot.spot.name.now c.in_ok-spot.spot.inode =
     λ names path. subst (λ (s : Super). IsSpot (tree_of (g.P.Pmem.region c.self.inside.memory) c.self.inside.rows.items) c.self.inside.rows.items s c.args.cpu names (place_in c.self.inside.rows.items c.in_ok-spot.spot.directory) c.in_ok-spot.spot.name.now c.in_ok-spot.spot.inode) c.self.invariant.1 (c.in_ok-spot.ensures.spot (g.P.Pmem.region c.self.inside.memory) names path) in
-    subst (λ (m : Mount g.row.P.Denot). walk (tree_of (g.P.Pmem.region m.memory) m.rows) 1 names ≡ Ok d → unused_number m.sup m.rows c.args.cpu ≡ Some j → ShowsSound (g.P.Pmem.region m.memory) m.sup held → ShowsCreated (g.P.Pmem.region c.create_at.new.memory) m.sup held c.args.kind c.args.mode c.args.time j d h (last_name names)) c.self.view_is
-    (λ walked free_number shown. created_log c.self.invariant.0 runs writes c.in-Ok.ensures.created c.args.cpu low c.in_ok-spot.ensures.name names (spot names path) d j held h walked free_number shown is) led number sound
+    subst (λ (m : Mount g.row.P.Denot). walk (tree_of (g.P.Pmem.region m.memory) m.rows) 1 names ≡ Ok d → unused_number m.sup m.rows c.args.cpu ≡ Some j → ShowsSound (g.P.Pmem.region m.memory) m.sup held → ShowsCreated (g.P.Pmem.region c.create_at.new.memory) m.sup m.free.pools c.args.cpu held c.args.kind c.args.mode c.args.time j d h (last_name names)) c.self.view_is
+    (λ walked free_number shown. created_log c.self.invariant.0 runs writes c.in-Ok.ensures.created low c.in_ok-spot.ensures.name names (spot names path) d j held h walked free_number shown is) led number sound
 
 pub returns-in-Err-clause-refused : goal.returns-in-Err-clause-refused
 returns-in-Err-clause-refused g c still p says =
@@ -194,6 +195,9 @@ returns-in_err-writable-clause-changed g c names path = IfOk-from_err c.from_res
 pub returns-in_err-writable-clause-log : goal.returns-in_err-writable-clause-log
 returns-in_err-writable-clause-log g c names d j held h path led number sound is = IfOk-from_err c.from_residual.result _ c.from_residual.ensures.0
 
+pub returns-in_err-writable-clause-journals : goal.returns-in_err-writable-clause-journals
+returns-in_err-writable-clause-journals g c = IfOk-from_err c.from_residual.result _ c.from_residual.ensures.0
+
 pub returns-in_err-writable-clause-settled : goal.returns-in_err-writable-clause-settled
 returns-in_err-writable-clause-settled g c = IfOk-from_err c.from_residual.result _ c.from_residual.ensures.0
 
@@ -211,6 +215,9 @@ returns-in_err-spot-clause-changed g c names path = IfOk-from_err c.from_residua
 
 pub returns-in_err-spot-clause-log : goal.returns-in_err-spot-clause-log
 returns-in_err-spot-clause-log g c names d j held h path led number sound is = IfOk-from_err c.from_residual-in_err-spot.result _ c.from_residual-in_err-spot.ensures.0
+
+pub returns-in_err-spot-clause-journals : goal.returns-in_err-spot-clause-journals
+returns-in_err-spot-clause-journals g c = IfOk-from_err c.from_residual-in_err-spot.result _ c.from_residual-in_err-spot.ensures.0
 
 pub returns-in_err-spot-clause-settled : goal.returns-in_err-spot-clause-settled
 returns-in_err-spot-clause-settled g c = IfOk-from_err c.from_residual-in_err-spot.result _ c.from_residual-in_err-spot.ensures.0
@@ -239,6 +246,17 @@ returns-in-Ok-clause-refused g c still p says = tt
 pub returns-in-Ok-clause-unchanged : goal.returns-in-Ok-clause-unchanged
 returns-in-Ok-clause-unchanged g c = tt
 
+pub returns-in-Ok-clause-journals : goal.returns-in-Ok-clause-journals
+returns-in-Ok-clause-journals g c =
+    let runs : c.self.inside.stopped ≡ false = ap (λ (m : Mount g.row.P.Denot). m.stopped) c.self.view_is ∙ c.in_ok-writable.ensures.runs in
+    let writes : c.self.inside.read_only ≡ false = ap (λ (m : Mount g.row.P.Denot). m.read_only) c.self.view_is ∙ c.in_ok-writable.ensures.writes in
+    let low : c.args.cpu < c.self.inside.sup.cpus = subst (λ (m : Mount g.row.P.Denot). c.args.cpu < m.sup.cpus) (sym c.self.view_is) c.in_ok-writable.ensures.cpu in
+    let spot : (names : List (List ℕ)) → IsPath c.args.path.now names → IsSpot (tree_of (g.P.Pmem.region c.self.inside.memory) c.self.inside.rows.items) c.self.inside.rows.items c.self.inside.sup c.args.cpu names (place_in c.self.inside.rows.items c.in_ok-spot.spot.directory) c.in_ok-spot.spot.name.now c.in_ok-spot.spot.inode =
+    λ names path. subst (λ (s : Super). IsSpot (tree_of (g.P.Pmem.region c.self.inside.memory) c.self.inside.rows.items) c.self.inside.rows.items s c.args.cpu names (place_in c.self.inside.rows.items c.in_ok-spot.spot.directory) c.in_ok-spot.spot.name.now c.in_ok-spot.spot.inode) c.self.invariant.1 (c.in_ok-spot.ensures.spot (g.P.Pmem.region c.self.inside.memory) names path) in
+    let path = c.in_ok-spot.ensures.path in
+    subst (λ (m : Mount g.row.P.Denot). SameFrontBut m.sup.cpus c.args.cpu (g.P.Pmem.region m.memory) (g.P.Pmem.region c.create_at.new.memory)) c.self.view_is
+    (created_front c.self.invariant.0 runs writes c.in-Ok.ensures.created (unused_is c.self.inside.sup c.self.inside.rows.items c.args.cpu c.in_ok-spot.spot.inode low (spot path.0 path.1).unused).0)
+
 pub returns-in-Ok-clause-settled : goal.returns-in-Ok-clause-settled
 returns-in-Ok-clause-settled g c = c.in-Ok.ensures.settled
 
@@ -250,6 +268,9 @@ returns-in-Err-clause-changed g c names path = tt
 
 pub returns-in-Err-clause-log : goal.returns-in-Err-clause-log
 returns-in-Err-clause-log g c names d j held h path led number sound is = tt
+
+pub returns-in-Err-clause-journals : goal.returns-in-Err-clause-journals
+returns-in-Err-clause-journals g c = tt
 
 pub returns-in-Err-clause-settled : goal.returns-in-Err-clause-settled
 returns-in-Err-clause-settled g c = tt

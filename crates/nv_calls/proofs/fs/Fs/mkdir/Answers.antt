@@ -25,6 +25,9 @@ returns-clause-stopped g c = c.make.ensures.stopped
 pub returns-clause-keeps : goal.returns-clause-keeps
 returns-clause-keeps g c = c.make.ensures.keeps
 
+pub returns-clause-journals : goal.returns-clause-journals
+returns-clause-journals g c = c.make.ensures.journals
+
 pub returns-clause-settled : goal.returns-clause-settled
 returns-clause-settled g c = c.make.ensures.settled
 

@@ -1,7 +1,6 @@
-use Rattle.std.proofs.Common.{◌≡◌, ◌∙◌, ◌<◌, ◌⊎◌, ◌++◌, ◌∷◌, [], List, ℕ, Some, Ok, false, true, inr, ap, subst, sym, slice_get}
+use Rattle.std.proofs.Common.{◌≡◌, ◌∙◌, ◌<◌, ◌++◌, ◌∷◌, [], List, ℕ, Some, Ok, false, true, inr, ap, subst, sym, slice_get}
 use Rattle.std.proofs.lemmas.Result.{err_from_is_err_and}
 use Rattle.nv_tree.specs.declared.refusal.Refusal.{Refusal}
-use Rattle.nv_tree.specs.declared.refusal.Refusal.TheVariants.{Memory, Stopped}
 use Rattle.nv_held.specs.Mounted.{ShowsSound}
 use Rattle.nv_rows.specs.Rows.{place_in}
 use Rattle.nv_rows.proofs.Places.{at_place, own_row, row_in_use}
@@ -9,7 +8,7 @@ use Rattle.nv_entry.specs.declared.entry.Operation.TheVariants.{Add, Remove}
 use Rattle.nv_tree.specs.Path.{IsPath, last_name}
 use Rattle.nv_tree.specs.Tree.{SameTree, walk}
 use Rattle.nv_tree.specs.Calls.{renamed}
-use Rattle.nv_tree.specs.Refusals.{first_refusal, has_no_space, is_bad_name, is_into_itself, is_missing, is_there, rename_tests, walk_tests}
+use Rattle.nv_tree.specs.Refusals.{first_refusal, has_no_space, is_bad_name, is_into_itself, is_missing, is_there, rename_tests, walk_tests, IsRefusedBy}
 use Rattle.nv_tree.proofs.Texts.{text_says}
 use Rattle.nv_calls.specs.Stopped.{LeavesCall}
 use Rattle.nv_calls.specs.Effects.{logs_rename, makes_rename}
@@ -20,6 +19,7 @@ use Rattle.nv_paths.specs.MoveSpots.{rename_spot_tests}
 use Rattle.nv_steps.specs.Moves.{move_entries}
 use Rattle.nv_calls.specs.Mount.{Mount}
 use Rattle.nv_steps.specs.NameEntries.{name_entries}
+use Rattle.nv_steps.specs.Fronts.{SameFrontBut}
 use Rattle.nv_paths.specs.Seen.{LeadsTo, tree_of}
 use Rattle.nv_region.specs.Stops.{LeavesOnly}
 use Rattle.nv_calls.specs.World.{world_of}
@@ -39,11 +39,12 @@ use Rattle.nv_calls.proofs.SetAttr.{late_reply, not_stop}
 use Rattle.nv_calls.proofs.Tests.{early_reply, if_err, writing_goes_on}
 use Rattle.nv_paths.proofs.Walks.{longer}
 use Rattle.nv_calls.proofs.fs.Fs.rename.Goals as goal
+use Rattle.nv_calls.proofs.FrontsKept.{moved_front}
 
 pub returns-in_err-writable-clause-refused : goal.returns-in_err-writable-clause-refused
 returns-in_err-writable-clause-refused g c runs p q says says_new =
     let w = err_from_is_err_and c.from_residual.result c.from_residual.ensures.1 in
-    refused_by c.from_residual.result c.in_err-writable.field-0.0 w.0 (λ (e : Refusal). (e ≡ Memory) ⊎ ((e ≡ Stopped) ⊎ (first_refusal (rename_tests (world_of c.args.self.now) (tree_of (g.P.Pmem.region c.args.self.now.memory) c.args.self.now.rows) c.args.cpu p q (rename_blocks c.args.self.now.rows (tree_of (g.P.Pmem.region c.args.self.now.memory) c.args.self.now.rows) p q)) ≡ Some e))) w.1 w.2
+    refused_by c.from_residual.result c.in_err-writable.field-0.0 w.0 (IsRefusedBy (first_refusal (rename_tests (world_of c.args.self.now) (tree_of (g.P.Pmem.region c.args.self.now.memory) c.args.self.now.rows) c.args.cpu p q (rename_blocks c.args.self.now.rows (tree_of (g.P.Pmem.region c.args.self.now.memory) c.args.self.now.rows) p q)))) w.1 w.2
     (inr (inr (c.in_err-writable.ensures.refused runs (is_bad_name p ∷ is_bad_name q ∷ walk_tests (tree_of (g.P.Pmem.region c.args.self.now.memory) c.args.self.now.rows) p ++ walk_tests (tree_of (g.P.Pmem.region c.args.self.now.memory) c.args.self.now.rows) q ++ is_missing (tree_of (g.P.Pmem.region c.args.self.now.memory) c.args.self.now.rows) p ∷ is_into_itself (tree_of (g.P.Pmem.region c.args.self.now.memory) c.args.self.now.rows) p q ∷ is_there (tree_of (g.P.Pmem.region c.args.self.now.memory) c.args.self.now.rows) q ∷ has_no_space (world_of c.args.self.now) (rename_blocks c.args.self.now.rows (tree_of (g.P.Pmem.region c.args.self.now.memory) c.args.self.now.rows) p q) ∷ []))))
 
 pub returns-in_err-writable-clause-unchanged : goal.returns-in_err-writable-clause-unchanged
@@ -62,7 +63,7 @@ returns-in_err-moved-clause-refused g c still p q says says_new =
     subst (λ (m : Mount g.row.P.Denot). first_refusal (rename_spot_tests (tree_of (g.P.Pmem.region m.memory) m.rows) p q) ≡ Some c.in_err-moved.field-0.0) c.self.view_is
     (c.in_err-moved.ensures.refused (g.P.Pmem.region c.self.inside.memory) p q says says_new) in
     let w = err_from_is_err_and c.from_residual-in_err-moved.result c.from_residual-in_err-moved.ensures.1 in
-    refused_by c.from_residual-in_err-moved.result c.in_err-moved.field-0.0 w.0 (λ (e : Refusal). (e ≡ Memory) ⊎ ((e ≡ Stopped) ⊎ (first_refusal (rename_tests (world_of c.args.self.now) (tree_of (g.P.Pmem.region c.args.self.now.memory) c.args.self.now.rows) c.args.cpu p q (rename_blocks c.args.self.now.rows (tree_of (g.P.Pmem.region c.args.self.now.memory) c.args.self.now.rows) p q)) ≡ Some e))) w.1 w.2
+    refused_by c.from_residual-in_err-moved.result c.in_err-moved.field-0.0 w.0 (IsRefusedBy (first_refusal (rename_tests (world_of c.args.self.now) (tree_of (g.P.Pmem.region c.args.self.now.memory) c.args.self.now.rows) c.args.cpu p q (rename_blocks c.args.self.now.rows (tree_of (g.P.Pmem.region c.args.self.now.memory) c.args.self.now.rows) p q)))) w.1 w.2
     (inr (inr (rename_refuses (world_of c.args.self.now) (tree_of (g.P.Pmem.region c.args.self.now.memory) c.args.self.now.rows) c.args.cpu c.in_ok-writable.ensures.passed p q (rename_blocks c.args.self.now.rows (tree_of (g.P.Pmem.region c.args.self.now.memory) c.args.self.now.rows) p q) c.in_err-moved.field-0.0 told)))
 
 pub returns-in_err-moved-clause-unchanged : goal.returns-in_err-moved-clause-unchanged
@@ -145,10 +146,17 @@ returns-in-Ok-clause-log g c names others i d e node held h k path other_path le
     let long = long_text c.args.new.now c.in_ok-moved.ensures.paths.1 in
     let v = longer c.args.new.now others other_path long in
     let others_path : IsPath c.args.new.now (v.0 ∷ v.1) = subst (IsPath c.args.new.now) v.2 other_path in
-    subst (λ (xs : List (List ℕ)). walk (tree_of (g.P.Pmem.region c.args.self.now.memory) c.args.self.now.rows) 1 xs ≡ Ok e → ShowsBothGrew (g.P.Pmem.region c.move_at.new.memory) c.args.self.now.sup held d h (name_entries Remove i (last_name names) c.args.time) e k (name_entries Add i (last_name xs) c.args.time)) (sym v.2)
+    subst (λ (xs : List (List ℕ)). walk (tree_of (g.P.Pmem.region c.args.self.now.memory) c.args.self.now.rows) 1 xs ≡ Ok e → ShowsBothGrew (g.P.Pmem.region c.move_at.new.memory) c.args.self.now.sup c.args.self.now.free.pools c.args.cpu held d h (name_entries Remove i (last_name names) c.args.time) e k (name_entries Add i (last_name xs) c.args.time)) (sym v.2)
     (subst (λ (m : Mount g.row.P.Denot). LeadsTo (tree_of (g.P.Pmem.region m.memory) m.rows) names i node → walk (tree_of (g.P.Pmem.region m.memory) m.rows) 1 names ≡ Ok d → ShowsSound (g.P.Pmem.region m.memory) m.sup held → walk (tree_of (g.P.Pmem.region m.memory) m.rows) 1 (v.0 ∷ v.1) ≡ Ok e
-    → ShowsBothGrew (g.P.Pmem.region c.move_at.new.memory) m.sup held d h (name_entries Remove i (last_name names) c.args.time) e k (name_entries Add i (last_name (v.0 ∷ v.1)) c.args.time)) c.self.view_is
+    → ShowsBothGrew (g.P.Pmem.region c.move_at.new.memory) m.sup m.free.pools c.args.cpu held d h (name_entries Remove i (last_name names) c.args.time) e k (name_entries Add i (last_name (v.0 ∷ v.1)) c.args.time)) c.self.view_is
     (λ leads first shown second. moved_logs c.self.invariant.0 runs writes c.in_ok-moved.ensures.former c.in_ok-moved.ensures.name names v.0 v.1 (spot names (v.0 ∷ v.1) path others_path) c.in-Ok.ensures.moved i d e node held h k leads first second differ shown is other_is) led walked sound) ended
+
+pub returns-in-Ok-clause-journals : goal.returns-in-Ok-clause-journals
+returns-in-Ok-clause-journals g c =
+    let runs : c.self.inside.stopped ≡ false = ap (λ (m : Mount g.row.P.Denot). m.stopped) c.self.view_is ∙ c.in_ok-writable.ensures.runs in
+    let writes : c.self.inside.read_only ≡ false = ap (λ (m : Mount g.row.P.Denot). m.read_only) c.self.view_is ∙ c.in_ok-writable.ensures.writes in
+    subst (λ (m : Mount g.row.P.Denot). SameFrontBut m.sup.cpus c.args.cpu (g.P.Pmem.region m.memory) (g.P.Pmem.region c.move_at.new.memory)) c.self.view_is
+    (moved_front c.self.invariant.0 runs writes c.in-Ok.ensures.moved)
 
 pub returns-in-Ok-clause-within : goal.returns-in-Ok-clause-within
 returns-in-Ok-clause-within g c names others i d node held h path other_path led walked ended sound is =
@@ -158,9 +166,9 @@ returns-in-Ok-clause-within g c names others i d node held h path other_path led
     let long = long_text c.args.new.now c.in_ok-moved.ensures.paths.1 in
     let v = longer c.args.new.now others other_path long in
     let others_path : IsPath c.args.new.now (v.0 ∷ v.1) = subst (IsPath c.args.new.now) v.2 other_path in
-    subst (λ (xs : List (List ℕ)). walk (tree_of (g.P.Pmem.region c.args.self.now.memory) c.args.self.now.rows) 1 xs ≡ Ok d → ShowsGrownLog (g.P.Pmem.region c.move_at.new.memory) c.args.self.now.sup held d h (move_entries i (last_name names) (last_name xs) c.args.time)) (sym v.2)
+    subst (λ (xs : List (List ℕ)). walk (tree_of (g.P.Pmem.region c.args.self.now.memory) c.args.self.now.rows) 1 xs ≡ Ok d → ShowsGrownLog (g.P.Pmem.region c.move_at.new.memory) c.args.self.now.sup c.args.self.now.free.pools c.args.cpu held d h (move_entries i (last_name names) (last_name xs) c.args.time)) (sym v.2)
     (subst (λ (m : Mount g.row.P.Denot). LeadsTo (tree_of (g.P.Pmem.region m.memory) m.rows) names i node → walk (tree_of (g.P.Pmem.region m.memory) m.rows) 1 names ≡ Ok d → ShowsSound (g.P.Pmem.region m.memory) m.sup held → walk (tree_of (g.P.Pmem.region m.memory) m.rows) 1 (v.0 ∷ v.1) ≡ Ok d
-    → ShowsGrownLog (g.P.Pmem.region c.move_at.new.memory) m.sup held d h (move_entries i (last_name names) (last_name (v.0 ∷ v.1)) c.args.time)) c.self.view_is
+    → ShowsGrownLog (g.P.Pmem.region c.move_at.new.memory) m.sup m.free.pools c.args.cpu held d h (move_entries i (last_name names) (last_name (v.0 ∷ v.1)) c.args.time)) c.self.view_is
     (λ leads first shown second. moved_log c.self.invariant.0 runs writes c.in_ok-moved.ensures.former c.in_ok-moved.ensures.name names v.0 v.1 (spot names (v.0 ∷ v.1) path others_path) c.in-Ok.ensures.moved i d node held h leads first second shown is) led walked sound) ended
 
 pub returns-in-Err-clause-refused : goal.returns-in-Err-clause-refused
@@ -200,10 +208,10 @@ pub returns-in-Err-clause-read_only : goal.returns-in-Err-clause-read_only
 returns-in-Err-clause-read_only g c only = absurd (let no : true ≡ false = sym only ∙ c.in_ok-writable.ensures.writes in cc)
 
 pub returns-in_err-writable-clause-any_stop : goal.returns-in_err-writable-clause-any_stop
-returns-in_err-writable-clause-any_stop g c names others path other_path on able = call_stays g.P.Pmem.region c.args.self.now (makes_rename c.args.time (Some others)) (logs_rename c.args.time (Some others)) names c.in_err-writable.ensures.kept on able _ (c.in_err-writable.ensures.settled on)
+returns-in_err-writable-clause-any_stop g c names others path other_path on able = call_stays g.P.Pmem.region c.args.self.now (makes_rename c.args.time (Some others)) (logs_rename c.args.cpu c.args.time (Some others)) names c.in_err-writable.ensures.kept on able _ (c.in_err-writable.ensures.settled on)
 
 pub returns-in_err-moved-clause-any_stop : goal.returns-in_err-moved-clause-any_stop
-returns-in_err-moved-clause-any_stop g c names others path other_path on able = call_stays g.P.Pmem.region c.args.self.now (makes_rename c.args.time (Some others)) (logs_rename c.args.time (Some others)) names c.in_ok-writable.ensures.kept on able _ (c.in_ok-writable.ensures.settled on)
+returns-in_err-moved-clause-any_stop g c names others path other_path on able = call_stays g.P.Pmem.region c.args.self.now (makes_rename c.args.time (Some others)) (logs_rename c.args.cpu c.args.time (Some others)) names c.in_ok-writable.ensures.kept on able _ (c.in_ok-writable.ensures.settled on)
 
 pub returns-in-Ok-clause-any_stop : goal.returns-in-Ok-clause-any_stop
 returns-in-Ok-clause-any_stop g c names others path other_path on able =
@@ -215,8 +223,8 @@ returns-in-Ok-clause-any_stop g c names others path other_path on able =
     let from = row_in_use c.self.inside.rows.items c.in_ok-moved.moved.from.directory c.in_ok-moved.ensures.from in
     let to = row_in_use c.self.inside.rows.items c.in_ok-moved.moved.directory c.in_ok-moved.ensures.directory in
     let inode = row_in_use c.self.inside.rows.items c.in_ok-moved.moved.from.target c.in_ok-moved.ensures.target in
-    subst (λ (xs : List (List ℕ)). LeavesOnly (g.P.Pmem.region c.move_at.new.memory) (g.P.Pmem.may_hold c.move_at.new.memory) (LeavesCall (makes_rename c.args.time (Some xs)) (logs_rename c.args.time (Some xs)) (g.P.Pmem.region c.args.self.now.memory) c.args.self.now names)) (sym v.2)
-    (rename_left g.P.Pmem.region c.self.view_is c.self.invariant.0 runs writes c.in_ok-moved.moved.from.directory c.in_ok-moved.moved.from.target c.in_ok-moved.moved.directory from.0 inode.0 to.0 from.1 inode.1 to.1 c.in_ok-moved.moved.from.name.now c.in_ok-moved.moved.name.now c.args.time c.in_ok-moved.ensures.former c.in_ok-moved.ensures.name
+    subst (λ (xs : List (List ℕ)). LeavesOnly (g.P.Pmem.region c.move_at.new.memory) (g.P.Pmem.may_hold c.move_at.new.memory) (LeavesCall (makes_rename c.args.time (Some xs)) (logs_rename c.args.cpu c.args.time (Some xs)) (g.P.Pmem.region c.args.self.now.memory) c.args.self.now names)) (sym v.2)
+    (rename_left g.P.Pmem.region c.self.view_is c.self.invariant.0 runs writes c.in_ok-moved.moved.from.directory c.in_ok-moved.moved.from.target c.in_ok-moved.moved.directory from.0 inode.0 to.0 from.1 inode.1 to.1 c.in_ok-moved.moved.from.name.now c.in_ok-moved.moved.name.now c.args.cpu c.args.time c.in_ok-moved.ensures.former c.in_ok-moved.ensures.name
     names v.0 v.1 (c.in_ok-moved.ensures.spot (g.P.Pmem.region c.self.inside.memory) names (v.0 ∷ v.1) path others_path) _ _ _
     (λ held h k here other absent pending. c.move_at.ensures.any_stop from.0 to.0 inode.0 held h k from.1 to.1 inode.1 here other absent pending) (c.self.invariant.2 runs))
 
@@ -230,8 +238,8 @@ returns-in-Err-clause-any_stop g c names others path other_path on able =
     let from = row_in_use c.self.inside.rows.items c.in_ok-moved.moved.from.directory c.in_ok-moved.ensures.from in
     let to = row_in_use c.self.inside.rows.items c.in_ok-moved.moved.directory c.in_ok-moved.ensures.directory in
     let inode = row_in_use c.self.inside.rows.items c.in_ok-moved.moved.from.target c.in_ok-moved.ensures.target in
-    subst (λ (xs : List (List ℕ)). LeavesOnly (g.P.Pmem.region c.move_at.new.memory) (g.P.Pmem.may_hold c.move_at.new.memory) (LeavesCall (makes_rename c.args.time (Some xs)) (logs_rename c.args.time (Some xs)) (g.P.Pmem.region c.args.self.now.memory) c.args.self.now names)) (sym v.2)
-    (rename_left g.P.Pmem.region c.self.view_is c.self.invariant.0 runs writes c.in_ok-moved.moved.from.directory c.in_ok-moved.moved.from.target c.in_ok-moved.moved.directory from.0 inode.0 to.0 from.1 inode.1 to.1 c.in_ok-moved.moved.from.name.now c.in_ok-moved.moved.name.now c.args.time c.in_ok-moved.ensures.former c.in_ok-moved.ensures.name
+    subst (λ (xs : List (List ℕ)). LeavesOnly (g.P.Pmem.region c.move_at.new.memory) (g.P.Pmem.may_hold c.move_at.new.memory) (LeavesCall (makes_rename c.args.time (Some xs)) (logs_rename c.args.cpu c.args.time (Some xs)) (g.P.Pmem.region c.args.self.now.memory) c.args.self.now names)) (sym v.2)
+    (rename_left g.P.Pmem.region c.self.view_is c.self.invariant.0 runs writes c.in_ok-moved.moved.from.directory c.in_ok-moved.moved.from.target c.in_ok-moved.moved.directory from.0 inode.0 to.0 from.1 inode.1 to.1 c.in_ok-moved.moved.from.name.now c.in_ok-moved.moved.name.now c.args.cpu c.args.time c.in_ok-moved.ensures.former c.in_ok-moved.ensures.name
     names v.0 v.1 (c.in_ok-moved.ensures.spot (g.P.Pmem.region c.self.inside.memory) names (v.0 ∷ v.1) path others_path) _ _ _
     (λ held h k here other absent pending. c.move_at.ensures.any_stop from.0 to.0 inode.0 held h k from.1 to.1 inode.1 here other absent pending) (c.self.invariant.2 runs))
 

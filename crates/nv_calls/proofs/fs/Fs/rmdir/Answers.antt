@@ -1,4 +1,4 @@
-use Rattle.std.proofs.Common.{◌≡◌, ◌∙◌, ◌<◌, ◌%◌, ◌⊎◌, ◌++◌, ◌∷◌, [], Some, Ok, false, true, inl, inr, ap, slice_get, subst, sym}
+use Rattle.std.proofs.Common.{◌≡◌, ◌∙◌, ◌<◌, ◌%◌, ◌++◌, ◌∷◌, [], Some, Ok, false, true, inl, inr, ap, slice_get, subst, sym}
 use Rattle.std.proofs.lemmas.Result.{err_from_is_err_and}
 use Rattle.nv_entry.specs.declared.entry.Operation.TheVariants.{Remove}
 use Rattle.nv_logpage.specs.Append.{needed}
@@ -6,18 +6,18 @@ use Rattle.nv_scan.specs.declared.piece.Row.{Row}
 use Rattle.nv_rows.specs.Rows.{place_in}
 use Rattle.nv_rows.proofs.Places.{at_place, own_row, row_in_use}
 use Rattle.nv_tree.specs.declared.refusal.Refusal.{Refusal}
-use Rattle.nv_tree.specs.declared.refusal.Refusal.TheVariants.{Memory, Stopped}
 use Rattle.nv_held.specs.Mounted.{ShowsSound}
 use Rattle.nv_tree.specs.Path.{last_name}
 use Rattle.nv_tree.specs.Tree.{SameTree, walk}
 use Rattle.nv_tree.specs.Calls.{removed}
-use Rattle.nv_tree.specs.Refusals.{first_refusal, has_names, has_no_space, is_bad_name, is_missing, is_no_dir, rmdir_tests, walk_tests}
+use Rattle.nv_tree.specs.Refusals.{first_refusal, has_names, has_no_space, is_bad_name, is_missing, is_no_dir, rmdir_tests, walk_tests, IsRefusedBy}
 use Rattle.nv_tree.proofs.Texts.{text_says}
 use Rattle.nv_calls.specs.Effects.{logs_removal, makes_removal}
 use Rattle.nv_calls.specs.AtPlaces.{CanGo, cut_of}
 use Rattle.nv_calls.specs.Mount.{Mount}
 use Rattle.nv_calls.specs.NameCalls.{name_blocks}
 use Rattle.nv_steps.specs.NameEntries.{name_entries}
+use Rattle.nv_steps.specs.Fronts.{SameFrontBut}
 use Rattle.nv_paths.specs.NamedAt.{rmdir_spot_tests}
 use Rattle.nv_calls.specs.RemoveCalls.{ShowsRemoved}
 use Rattle.nv_paths.specs.Seen.{LeadsTo, tree_of}
@@ -36,13 +36,14 @@ use Rattle.nv_calls.proofs.SetAttr.{late_reply, not_stop}
 use Rattle.nv_calls.proofs.Tests.{early_reply, if_err, writing_goes_on}
 use Rattle.nv_calls.proofs.Tests.{space_allows, space_refuses}
 use Rattle.nv_calls.proofs.fs.Fs.rmdir.Goals as goal
+use Rattle.nv_calls.proofs.FrontsKept.{cut_front}
 
 pub returns-in_err-writable-clause-refused : goal.returns-in_err-writable-clause-refused
 returns-in_err-writable-clause-refused g c runs p says =
     let tree = tree_of (g.P.Pmem.region c.args.self.now.memory) c.args.self.now.rows in
     let count = name_blocks c.args.self.now.rows tree p in
     let w = err_from_is_err_and c.from_residual.result c.from_residual.ensures.1 in
-    refused_by c.from_residual.result c.in_err-writable.field-0.0 w.0 (λ (e : Refusal). (e ≡ Memory) ⊎ ((e ≡ Stopped) ⊎ (first_refusal (rmdir_tests (world_of c.args.self.now) tree c.args.cpu p count) ≡ Some e))) w.1 w.2
+    refused_by c.from_residual.result c.in_err-writable.field-0.0 w.0 (IsRefusedBy (first_refusal (rmdir_tests (world_of c.args.self.now) tree c.args.cpu p count))) w.1 w.2
     (inr (inr (c.in_err-writable.ensures.refused runs (is_bad_name p ∷ walk_tests tree p ++ is_missing tree p ∷ is_no_dir tree p ∷ has_names tree p ∷ has_no_space (world_of c.args.self.now) count ∷ []))))
 
 pub returns-in_err-writable-clause-unchanged : goal.returns-in_err-writable-clause-unchanged
@@ -62,7 +63,7 @@ returns-in_err-named-clause-refused g c still p says =
     let tree = tree_of (g.P.Pmem.region c.args.self.now.memory) c.args.self.now.rows in
     let count = name_blocks c.args.self.now.rows tree p in
     let w = err_from_is_err_and c.from_residual-in_err-named.result c.from_residual-in_err-named.ensures.1 in
-    refused_by c.from_residual-in_err-named.result c.in_err-named.field-0.0 w.0 (λ (e : Refusal). (e ≡ Memory) ⊎ ((e ≡ Stopped) ⊎ (first_refusal (rmdir_tests (world_of c.args.self.now) tree c.args.cpu p count) ≡ Some e))) w.1 w.2
+    refused_by c.from_residual-in_err-named.result c.in_err-named.field-0.0 w.0 (IsRefusedBy (first_refusal (rmdir_tests (world_of c.args.self.now) tree c.args.cpu p count))) w.1 w.2
     (inr (inr (rmdir_refuses tree p (world_of c.args.self.now) c.args.cpu c.in_ok-writable.ensures.passed count c.in_err-named.field-0.0 told)))
 
 pub returns-in_err-named-clause-unchanged : goal.returns-in_err-named-clause-unchanged
@@ -148,8 +149,15 @@ returns-in-Ok-clause-log g c names i d node held h path led ended sound is =
     let spot = c.in_ok-named.ensures.spot (g.P.Pmem.region c.self.inside.memory) in
     let can_go : (gone : Row) → slice_get c.self.inside.rows.items (place_in c.self.inside.rows.items c.in_ok-named.named.target) ≡ Some gone → CanGo gone = λ gone at. inl (c.in_ok-named.ensures.empty gone (sym (at_place c.self.inside.rows.items c.in_ok-named.named.target) ∙ at)) in
     let step = c.in-Ok.ensures.removed in
-    subst (λ (m : Mount g.row.P.Denot). LeadsTo (tree_of (g.P.Pmem.region m.memory) m.rows) names i node → walk (tree_of (g.P.Pmem.region m.memory) m.rows) 1 names ≡ Ok d → ShowsSound (g.P.Pmem.region m.memory) m.sup held → ShowsRemoved (g.P.Pmem.region c.remove_named.new.memory) m.sup held d h (name_entries Remove i (last_name names) c.args.time) i) c.self.view_is
+    subst (λ (m : Mount g.row.P.Denot). LeadsTo (tree_of (g.P.Pmem.region m.memory) m.rows) names i node → walk (tree_of (g.P.Pmem.region m.memory) m.rows) 1 names ≡ Ok d → ShowsSound (g.P.Pmem.region m.memory) m.sup held → ShowsRemoved (g.P.Pmem.region c.remove_named.new.memory) m.sup m.free.pools c.args.cpu held d h (name_entries Remove i (last_name names) c.args.time) i) c.self.view_is
     (λ leads walked shown. removed_log c.self.invariant.0 runs writes (cut_of step) c.in_ok-named.ensures.name (can_go step.gone step.gone_at) names (spot names path) i d node held h leads walked shown is) led ended sound
+
+pub returns-in-Ok-clause-journals : goal.returns-in-Ok-clause-journals
+returns-in-Ok-clause-journals g c =
+    let runs : c.self.inside.stopped ≡ false = ap (λ (m : Mount g.row.P.Denot). m.stopped) c.self.view_is ∙ c.in_ok-writable.ensures.runs in
+    let writes : c.self.inside.read_only ≡ false = ap (λ (m : Mount g.row.P.Denot). m.read_only) c.self.view_is ∙ c.in_ok-writable.ensures.writes in
+    subst (λ (m : Mount g.row.P.Denot). SameFrontBut m.sup.cpus c.args.cpu (g.P.Pmem.region m.memory) (g.P.Pmem.region c.remove_named.new.memory)) c.self.view_is
+    (cut_front c.self.invariant.0 runs writes (cut_of c.in-Ok.ensures.removed))
 
 pub returns-in-Err-clause-refused : goal.returns-in-Err-clause-refused
 returns-in-Err-clause-refused g c still p says =
@@ -186,10 +194,10 @@ pub returns-in-Err-clause-read_only : goal.returns-in-Err-clause-read_only
 returns-in-Err-clause-read_only g c only = absurd (let no : true ≡ false = sym only ∙ c.in_ok-writable.ensures.writes in cc)
 
 pub returns-in_err-writable-clause-any_stop : goal.returns-in_err-writable-clause-any_stop
-returns-in_err-writable-clause-any_stop g c names path on able = call_stays g.P.Pmem.region c.args.self.now (makes_removal c.args.time) (logs_removal c.args.time) names c.in_err-writable.ensures.kept on able _ (c.in_err-writable.ensures.settled on)
+returns-in_err-writable-clause-any_stop g c names path on able = call_stays g.P.Pmem.region c.args.self.now (makes_removal c.args.time) (logs_removal c.args.cpu c.args.time) names c.in_err-writable.ensures.kept on able _ (c.in_err-writable.ensures.settled on)
 
 pub returns-in_err-named-clause-any_stop : goal.returns-in_err-named-clause-any_stop
-returns-in_err-named-clause-any_stop g c names path on able = call_stays g.P.Pmem.region c.args.self.now (makes_removal c.args.time) (logs_removal c.args.time) names c.in_ok-writable.ensures.kept on able _ (c.in_ok-writable.ensures.settled on)
+returns-in_err-named-clause-any_stop g c names path on able = call_stays g.P.Pmem.region c.args.self.now (makes_removal c.args.time) (logs_removal c.args.cpu c.args.time) names c.in_ok-writable.ensures.kept on able _ (c.in_ok-writable.ensures.settled on)
 
 pub returns-in-Ok-clause-any_stop : goal.returns-in-Ok-clause-any_stop
 returns-in-Ok-clause-any_stop g c names path on able =
@@ -197,7 +205,7 @@ returns-in-Ok-clause-any_stop g c names path on able =
     let writes : c.self.inside.read_only ≡ false = ap (λ (m : Mount g.row.P.Denot). m.read_only) c.self.view_is ∙ c.in_ok-writable.ensures.writes in
     let r = row_in_use c.self.inside.rows.items c.in_ok-named.named.directory c.in_ok-named.ensures.directory in
     let i = row_in_use c.self.inside.rows.items c.in_ok-named.named.target c.in_ok-named.ensures.target in
-    rmdir_left g.P.Pmem.region c.self.view_is c.self.invariant.0 runs writes c.in_ok-named.named.directory c.in_ok-named.named.target r.0 i.0 r.1 i.1 c.in_ok-named.named.name.now c.args.time c.in_ok-named.ensures.name names
+    rmdir_left g.P.Pmem.region c.self.view_is c.self.invariant.0 runs writes c.in_ok-named.named.directory c.in_ok-named.named.target r.0 i.0 r.1 i.1 c.in_ok-named.named.name.now c.args.cpu c.args.time c.in_ok-named.ensures.name names
     (c.in_ok-named.ensures.spot (g.P.Pmem.region c.self.inside.memory) names path) (inl (c.in_ok-named.ensures.empty i.0 i.1)) _ _ _
     (λ held h here pending. c.remove_named.ensures.any_stop r.0 i.0 held h r.1 i.1 here pending) (c.self.invariant.2 runs)
 
@@ -207,7 +215,7 @@ returns-in-Err-clause-any_stop g c names path on able =
     let writes : c.self.inside.read_only ≡ false = ap (λ (m : Mount g.row.P.Denot). m.read_only) c.self.view_is ∙ c.in_ok-writable.ensures.writes in
     let r = row_in_use c.self.inside.rows.items c.in_ok-named.named.directory c.in_ok-named.ensures.directory in
     let i = row_in_use c.self.inside.rows.items c.in_ok-named.named.target c.in_ok-named.ensures.target in
-    rmdir_left g.P.Pmem.region c.self.view_is c.self.invariant.0 runs writes c.in_ok-named.named.directory c.in_ok-named.named.target r.0 i.0 r.1 i.1 c.in_ok-named.named.name.now c.args.time c.in_ok-named.ensures.name names
+    rmdir_left g.P.Pmem.region c.self.view_is c.self.invariant.0 runs writes c.in_ok-named.named.directory c.in_ok-named.named.target r.0 i.0 r.1 i.1 c.in_ok-named.named.name.now c.args.cpu c.args.time c.in_ok-named.ensures.name names
     (c.in_ok-named.ensures.spot (g.P.Pmem.region c.self.inside.memory) names path) (inl (c.in_ok-named.ensures.empty i.0 i.1)) _ _ _
     (λ held h here pending. c.remove_named.ensures.any_stop r.0 i.0 held h r.1 i.1 here pending) (c.self.invariant.2 runs)
 

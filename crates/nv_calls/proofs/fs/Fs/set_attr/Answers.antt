@@ -1,4 +1,4 @@
-use Rattle.std.proofs.Common.{◌≡◌, ◌∙◌, ◌<◌, ◌⊎◌, ◌++◌, ◌∷◌, [], List, ℕ, Some, false, inr, ap, set, subst, sym, refl, true, ◌≤◌}
+use Rattle.std.proofs.Common.{◌≡◌, ◌∙◌, ◌<◌, ◌++◌, ◌∷◌, [], List, ℕ, Some, false, inr, ap, set, subst, sym, refl, true, ◌≤◌}
 use Rattle.std.proofs.lemmas.Result.{err_from_is_err_and, IfOk-from_err}
 use Rattle.std.proofs.lemmas.Option.{same_Some}
 use Rattle.nv_region.specs.Region.{size}
@@ -6,10 +6,9 @@ use Rattle.nv_region.specs.Fuses.{KeepsFuse}
 use Rattle.nv_held.specs.Held.{Held, Store}
 use Rattle.nv_scan.specs.declared.piece.Row.{Row}
 use Rattle.nv_tree.specs.declared.refusal.Refusal.{Refusal}
-use Rattle.nv_tree.specs.declared.refusal.Refusal.TheVariants.{Memory, Stopped}
 use Rattle.nv_tree.specs.Calls.{with_attributes}
 use Rattle.nv_tree.specs.Path.{IsPath}
-use Rattle.nv_tree.specs.Refusals.{first_refusal, has_no_space, is_bad, is_missing, set_attr_tests, walk_tests}
+use Rattle.nv_tree.specs.Refusals.{first_refusal, has_no_space, is_bad, is_missing, set_attr_tests, walk_tests, IsRefusedBy}
 use Rattle.nv_tree.proofs.Texts.{text_says}
 use Rattle.nv_steps.specs.Attributes.{attributes}
 use Rattle.nv_calls.specs.Effects.{logs_attributes, makes_attributes}
@@ -43,7 +42,7 @@ returns-in_err-writable-clause-refused g c runs p says =
     let tree = tree_of (g.P.Pmem.region c.args.self.now.memory) c.args.self.now.rows in
     let count = attributes_blocks c.args.self.now.rows tree p in
     let w = err_from_is_err_and c.from_residual.result c.from_residual.ensures.1 in
-    refused_by c.from_residual.result c.in_err-writable.field-0.0 w.0 (λ (e : Refusal). (e ≡ Memory) ⊎ ((e ≡ Stopped) ⊎ (first_refusal (set_attr_tests (world_of c.args.self.now) tree c.args.cpu p count) ≡ Some e))) w.1 w.2
+    refused_by c.from_residual.result c.in_err-writable.field-0.0 w.0 (IsRefusedBy (first_refusal (set_attr_tests (world_of c.args.self.now) tree c.args.cpu p count))) w.1 w.2
     (inr (inr (c.in_err-writable.ensures.refused runs (is_bad p ∷ walk_tests tree p ++ is_missing tree p ∷ has_no_space (world_of c.args.self.now) count ∷ []))))
 
 pub returns-in_err-writable-clause-unchanged : goal.returns-in_err-writable-clause-unchanged
@@ -62,7 +61,7 @@ returns-in_err-inode-clause-refused g c runs p says =
     let w = err_from_is_err_and c.from_residual-in_err-inode.result c.from_residual-in_err-inode.ensures.1 in
     let told = c.in_err-inode.ensures.refused (g.P.Pmem.region c.self.inside.memory) p says in
     let refused = refused_as g.P.Pmem.region p (Some c.in_err-inode.field-0.0) c.self.view_is told in
-    refused_by c.from_residual-in_err-inode.result c.in_err-inode.field-0.0 w.0 (λ (e : Refusal). (e ≡ Memory) ⊎ ((e ≡ Stopped) ⊎ (first_refusal (set_attr_tests (world_of c.args.self.now) tree c.args.cpu p count) ≡ Some e))) w.1 w.2
+    refused_by c.from_residual-in_err-inode.result c.in_err-inode.field-0.0 w.0 (IsRefusedBy (first_refusal (set_attr_tests (world_of c.args.self.now) tree c.args.cpu p count))) w.1 w.2
     (inr (inr (stat_refuses (world_of c.args.self.now) tree c.args.cpu c.in_ok-writable.ensures.passed p (has_no_space (world_of c.args.self.now) count ∷ []) c.in_err-inode.field-0.0 refused)))
 
 pub returns-in_err-inode-clause-unchanged : goal.returns-in_err-inode-clause-unchanged
@@ -285,10 +284,10 @@ pub returns-in_err-inode-clause-keeps_fuse : goal.returns-in_err-inode-clause-ke
 returns-in_err-inode-clause-keeps_fuse g c = same_fuse _ _
 
 pub returns-in_err-writable-clause-any_stop : goal.returns-in_err-writable-clause-any_stop
-returns-in_err-writable-clause-any_stop g c names path on able = call_stays g.P.Pmem.region c.args.self.now (makes_attributes c.args.mode c.args.owner c.args.group c.args.time) (logs_attributes c.args.mode c.args.owner c.args.group c.args.time) names c.in_err-writable.ensures.kept on able _ (c.in_err-writable.ensures.settled on)
+returns-in_err-writable-clause-any_stop g c names path on able = call_stays g.P.Pmem.region c.args.self.now (makes_attributes c.args.mode c.args.owner c.args.group c.args.time) (logs_attributes c.args.cpu c.args.mode c.args.owner c.args.group c.args.time) names c.in_err-writable.ensures.kept on able _ (c.in_err-writable.ensures.settled on)
 
 pub returns-in_err-inode-clause-any_stop : goal.returns-in_err-inode-clause-any_stop
-returns-in_err-inode-clause-any_stop g c names path on able = call_stays g.P.Pmem.region c.args.self.now (makes_attributes c.args.mode c.args.owner c.args.group c.args.time) (logs_attributes c.args.mode c.args.owner c.args.group c.args.time) names c.in_ok-writable.ensures.kept on able _ (c.in_ok-writable.ensures.settled on)
+returns-in_err-inode-clause-any_stop g c names path on able = call_stays g.P.Pmem.region c.args.self.now (makes_attributes c.args.mode c.args.owner c.args.group c.args.time) (logs_attributes c.args.cpu c.args.mode c.args.owner c.args.group c.args.time) names c.in_ok-writable.ensures.kept on able _ (c.in_ok-writable.ensures.settled on)
 
 pub returns-in-Ok-clause-any_stop : goal.returns-in-Ok-clause-any_stop
 returns-in-Ok-clause-any_stop g c names path on able =
@@ -298,7 +297,7 @@ returns-in-Ok-clause-any_stop g c names path on able =
     let inode = c.in_ok-inode.field-0.now.inode in
     let at = at_place rows inode ∙ c.lend-row.ensures.row in
     let leads : LeadsTo (tree_of (g.P.Pmem.region c.self.inside.memory) rows) names c.lend-row.result.inode (node_of (g.P.Pmem.region c.self.inside.memory) c.lend-row.result) = subst (λ (r : Row). LeadsTo (tree_of (g.P.Pmem.region c.self.inside.memory) rows) names r.inode (node_of (g.P.Pmem.region c.self.inside.memory) r)) (same_Some _ _ (sym c.in_ok-inode.ensures.held ∙ c.lend-row.ensures.row)) (c.in_ok-inode.ensures.row (g.P.Pmem.region c.self.inside.memory) names path) in
-    attributes_left g.P.Pmem.region c.self.view_is c.self.invariant.0 runs writes (place_in rows inode) c.lend-row.result at c.args.mode c.args.owner c.args.group c.args.time names leads _ _ _
+    attributes_left g.P.Pmem.region c.self.view_is c.self.invariant.0 runs writes (place_in rows inode) c.lend-row.result at c.args.cpu c.args.mode c.args.owner c.args.group c.args.time names leads _ _ _
     (λ held h shows pending. c.change_attributes-changed.ensures.any_stop held h shows pending) (c.self.invariant.2 runs)
 
 pub returns-in-Err-clause-any_stop : goal.returns-in-Err-clause-any_stop
@@ -309,7 +308,7 @@ returns-in-Err-clause-any_stop g c names path on able =
     let inode = c.in_ok-inode.field-0.now.inode in
     let at = at_place rows inode ∙ c.lend-row.ensures.row in
     let leads : LeadsTo (tree_of (g.P.Pmem.region c.self.inside.memory) rows) names c.lend-row.result.inode (node_of (g.P.Pmem.region c.self.inside.memory) c.lend-row.result) = subst (λ (r : Row). LeadsTo (tree_of (g.P.Pmem.region c.self.inside.memory) rows) names r.inode (node_of (g.P.Pmem.region c.self.inside.memory) r)) (same_Some _ _ (sym c.in_ok-inode.ensures.held ∙ c.lend-row.ensures.row)) (c.in_ok-inode.ensures.row (g.P.Pmem.region c.self.inside.memory) names path) in
-    attributes_left g.P.Pmem.region c.self.view_is c.self.invariant.0 runs writes (place_in rows inode) c.lend-row.result at c.args.mode c.args.owner c.args.group c.args.time names leads _ _ _
+    attributes_left g.P.Pmem.region c.self.view_is c.self.invariant.0 runs writes (place_in rows inode) c.lend-row.result at c.args.cpu c.args.mode c.args.owner c.args.group c.args.time names leads _ _ _
     (λ held h shows pending. c.change_attributes-changed.ensures.any_stop held h shows pending) (c.self.invariant.2 runs)
 
 pub returns-in_err-writable-clause-read_only : goal.returns-in_err-writable-clause-read_only

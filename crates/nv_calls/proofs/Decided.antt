@@ -1,0 +1,119 @@
+-- What a call leaves is decided: the blocks that it takes are.
+use Rattle.std.proofs.Common.{◌≡◌, ℕ, suc, List, ◌∷◌, length, get_or, remove, ap, sym, ◌∙◌, subst, arith, refl, Option, Some, None, is_some}
+use Rattle.std.specs.Prelude.{⊤}
+use Rattle.std.proofs.Math.Logic.{∥∥₁_elim, ∥∥₁_map, ∥∥₁_prop}
+use Rattle.nv_region.specs.Region.{Region}
+use Rattle.nv_super.specs.declared.superblock.Super.{Super}
+use Rattle.nv_super.specs.declared.owners.Run.{Run}
+use Rattle.nv_super.specs.declared.kind.Kind.{Kind}
+use Rattle.nv_alloc.specs.Taking.{TakesSingly}
+use Rattle.nv_alloc.proofs.Singly.{single_takes_are_one, singly_cut, takes_once}
+use Rattle.nv_entry.specs.declared.entry.Entry.{Entry}
+use Rattle.nv_held.specs.Held.{Held, Store}
+use Rattle.nv_held.specs.Mounted.{ShowsSound}
+use Rattle.nv_commit.specs.Extends.{with_log}
+use Rattle.nv_tree.specs.Tree.{Node}
+use Rattle.nv_steps.specs.declared.planning.Plan.{Plan}
+use Rattle.nv_steps.specs.NameEntries.{with_gone, with_named}
+use Rattle.nv_steps.specs.Sizes.{copied_to, resizing, sized}
+use Rattle.nv_steps.specs.Writes.{data_blocks, data_entries}
+use Rattle.nv_calls.specs.Decided.{IsDecided, ShowSame}
+use Rattle.nv_calls.specs.GrownLogs.{LogGrew, ShowsGrownLog}
+use Rattle.nv_calls.specs.LinkCalls.{BothGrew, ShowsBothGrew}
+use Rattle.nv_calls.specs.Mount.{Mount}
+use Rattle.nv_calls.specs.NameCalls.{ShowsCreated, WasCreated}
+use Rattle.nv_calls.specs.RemoveCalls.{ShowsRemoved, WasRemoved}
+use Rattle.nv_calls.specs.SizeCall.{LogResized, ShowsResizedLog}
+use Rattle.nv_calls.specs.WriteCall.{LogsWrite, ShowsLogWrite}
+
+-- both show the same
+abbrev Same : Super → Region → Region → Type 0
+Same s S T = (held : Store) × ShowsSound S s held × ShowsSound T s held
+
+-- what holds of two regions by what is known of them
+by_both : (s : Super) (S T : Region) {A B : Type 0} → ∥ A ∥₁ → ∥ B ∥₁ → (A → B → Same s S T) → ShowSame s S T
+by_both s S T first second same = ∥∥₁_elim first ∥∥₁_prop (λ a. ∥∥₁_map second (λ b. same a b))
+
+-- ---- one log
+
+grew_same : {S T : Region} {s : Super} {pools : List (List Run)} {cpu : ℕ} {held : Store} {i : ℕ} {h : Held} {entries : List Entry} → LogGrew S s pools cpu held i h entries → LogGrew T s pools cpu held i h entries → Same s S T
+grew_same {S} {T} {s} {pools} {cpu} {held} {i} {h} {entries} a b =
+    let one = single_takes_are_one pools cpu a.fresh b.fresh a.rest b.rest (a.count ∙ sym b.count) a.taken b.taken in
+    (with_log held i h entries a.fresh, a.sound, subst (λ (blocks : List ℕ). ShowsSound T s (with_log held i h entries blocks)) (sym one.0) b.sound)
+
+pub grown_decided : (s : Super) (pools : List (List Run)) (cpu : ℕ) (held : Store) (i : ℕ) (h : Held) (entries : List Entry) → IsDecided s (λ S. ShowsGrownLog S s pools cpu held i h entries)
+grown_decided s pools cpu held i h entries S T first second = by_both s S T first second (λ a b. grew_same a b)
+
+-- ---- two logs
+
+both_same : {S T : Region} {s : Super} {pools : List (List Run)} {cpu : ℕ} {held : Store} {i : ℕ} {h : Held} {entries : List Entry} {j : ℕ} {g : Held} {others : List Entry}
+    → BothGrew S s pools cpu held i h entries j g others → BothGrew T s pools cpu held i h entries j g others → Same s S T
+both_same {S} {T} {s} {pools} {cpu} {held} {i} {h} {entries} {j} {g} {others} a b =
+    let c = singly_cut pools cpu a.fresh a.more a.rest a.taken in
+    let d = singly_cut pools cpu b.fresh b.more b.rest b.taken in
+    let one = single_takes_are_one pools cpu a.fresh b.fresh c.0 d.0 (a.count ∙ sym b.count) c.1 d.1 in
+    let two = single_takes_are_one c.0 cpu a.more b.more a.rest b.rest (a.more_count ∙ sym b.more_count) c.2 (subst (λ (ps : List (List Run)). TakesSingly ps cpu b.more b.rest) (sym one.1) d.2) in
+    let first = subst (λ (blocks : List ℕ). ShowsSound T s (with_log (with_log held i h entries b.fresh) j g others blocks)) (sym two.0) b.sound in
+    (with_log (with_log held i h entries a.fresh) j g others a.more, a.sound, subst (λ (blocks : List ℕ). ShowsSound T s (with_log (with_log held i h entries blocks) j g others a.more)) (sym one.0) first)
+
+pub both_decided : (s : Super) (pools : List (List Run)) (cpu : ℕ) (held : Store) (i : ℕ) (h : Held) (entries : List Entry) (j : ℕ) (g : Held) (others : List Entry) → IsDecided s (λ S. ShowsBothGrew S s pools cpu held i h entries j g others)
+both_decided s pools cpu held i h entries j g others S T first second = by_both s S T first second (λ a b. both_same a b)
+
+-- ---- a new inode
+
+created_same : {S T : Region} {s : Super} {pools : List (List Run)} {cpu : ℕ} {held : Store} {kind : Kind} {mode time j d : ℕ} {h : Held} {name : List ℕ}
+    → WasCreated S s pools cpu held kind mode time j d h name → WasCreated T s pools cpu held kind mode time j d h name → Same s S T
+created_same {S} {T} {s} {pools} {cpu} {held} {kind} {mode} {time} {j} {d} {h} {name} a b =
+    let count : length a.fresh ≡ length b.fresh = a.count ∙ sym b.count in
+    let one = single_takes_are_one pools cpu (a.page ∷ a.fresh) (b.page ∷ b.fresh) a.rest b.rest (ap suc count) a.taken b.taken in
+    (with_named held kind mode time j d h name a.page a.fresh, a.sound, subst (λ (blocks : List ℕ). ShowsSound T s (with_named held kind mode time j d h name (get_or blocks 0 0) (remove blocks 0))) (sym one.0) b.sound)
+
+pub created_decided : (s : Super) (pools : List (List Run)) (cpu : ℕ) (held : Store) (kind : Kind) (mode time j d : ℕ) (h : Held) (name : List ℕ) → IsDecided s (λ S. ShowsCreated S s pools cpu held kind mode time j d h name)
+created_decided s pools cpu held kind mode time j d h name S T first second = by_both s S T first second (λ a b. created_same a b)
+
+-- ---- an inode less
+
+removed_same : {S T : Region} {s : Super} {pools : List (List Run)} {cpu : ℕ} {held : Store} {d : ℕ} {h : Held} {entries : List Entry} {i : ℕ} → WasRemoved S s pools cpu held d h entries i → WasRemoved T s pools cpu held d h entries i → Same s S T
+removed_same {S} {T} {s} {pools} {cpu} {held} {d} {h} {entries} {i} a b =
+    let one = single_takes_are_one pools cpu a.fresh b.fresh a.rest b.rest (a.count ∙ sym b.count) a.taken b.taken in
+    (with_gone held d h entries a.fresh i, a.sound, subst (λ (blocks : List ℕ). ShowsSound T s (with_gone held d h entries blocks i)) (sym one.0) b.sound)
+
+pub removed_decided : (s : Super) (pools : List (List Run)) (cpu : ℕ) (held : Store) (d : ℕ) (h : Held) (entries : List Entry) (i : ℕ) → IsDecided s (λ S. ShowsRemoved S s pools cpu held d h entries i)
+removed_decided s pools cpu held d h entries i S T first second = by_both s S T first second (λ a b. removed_same a b)
+
+-- ---- another size
+
+-- a page is copied or not
+as_many : (a b : Option ℕ) → is_some a ≡ is_some b → length (copied_to a) ≡ length (copied_to b)
+as_many None None same = refl
+as_many None (Some y) same = absurd (cc)
+as_many (Some x) None same = absurd (cc)
+as_many (Some x) (Some y) same = refl
+
+same_copy : (a b : Option ℕ) → copied_to a ≡ copied_to b → a ≡ b
+same_copy None None same = refl
+same_copy None (Some y) same = absurd (let n = ap (λ (xs : List ℕ). length xs) same in omega (arith, n))
+same_copy (Some x) None same = absurd (let n = ap (λ (xs : List ℕ). length xs) same in omega (arith, n))
+same_copy (Some x) (Some y) same = ap (λ (xs : List ℕ). Some (get_or xs 0 0)) same
+
+resized_same : {S T : Region} {s : Super} {pools : List (List Run)} {cpu : ℕ} {held : Store} {i : ℕ} {h : Held} {node : Node} {size time : ℕ}
+    → LogResized S s pools cpu held i h node size time → LogResized T s pools cpu held i h node size time → Same s S T
+resized_same {S} {T} {s} {pools} {cpu} {held} {i} {h} {node} {size} {time} a b =
+    let one = single_takes_are_one pools cpu (copied_to a.to) (copied_to b.to) a.between b.between (as_many a.to b.to (a.copied ∙ sym b.copied)) a.taken b.taken in
+    let to = same_copy a.to b.to one.0 in
+    let grew = subst (λ (ps : List (List Run)). LogGrew T s ps cpu held i h (resizing node.size (sized node size time) b.to)) (sym one.1) b.grew in
+    grew_same a.grew (subst (λ (o : Option ℕ). LogGrew T s a.between cpu held i h (resizing node.size (sized node size time) o)) (sym to) grew)
+
+pub resized_decided : (s : Super) (pools : List (List Run)) (cpu : ℕ) (held : Store) (i : ℕ) (h : Held) (node : Node) (size time : ℕ) → IsDecided s (λ S. ShowsResizedLog S s pools cpu held i h node size time)
+resized_decided s pools cpu held i h node size time S T first second = by_both s S T first second (λ a b. resized_same a b)
+
+-- ---- new bytes
+
+written_same : {P : Type 0} {S T : Region} {m : Mount P} {cpu : ℕ} {held : Store} {i : ℕ} {h : Held} {plan : Plan} → LogsWrite S m cpu held i h plan → LogsWrite T m cpu held i h plan → ShowSame m.sup S T
+written_same {P} {S} {T} {m} {cpu} {held} {i} {h} {plan} a b =
+    let one = takes_once m.free.pools cpu (data_blocks plan) a.runs b.runs a.rest b.rest a.taken b.taken in
+    let grew = subst (λ (ps : List (List Run)). ShowsGrownLog T m.sup ps cpu held i h (data_entries plan b.runs)) (sym one.1) b.grew in
+    grown_decided m.sup a.rest cpu held i h (data_entries plan a.runs) S T a.grew (subst (λ (runs : List Run). ShowsGrownLog T m.sup a.rest cpu held i h (data_entries plan runs)) (sym one.0) grew)
+
+pub written_decided : (m : Mount ⊤) (cpu : ℕ) (held : Store) (i : ℕ) (h : Held) (plan : Plan) → IsDecided m.sup (λ S. ShowsLogWrite S m cpu held i h plan)
+written_decided m cpu held i h plan S T first second = ∥∥₁_elim first ∥∥₁_prop (λ a. ∥∥₁_elim second ∥∥₁_prop (λ b. written_same {S = S} {T = T} {m = m} a b))
