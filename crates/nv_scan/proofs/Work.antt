@@ -4,7 +4,7 @@ use Rattle.std.specs.List.{All, AllByRecursion, cons_option}
 use Rattle.std.proofs.lemmas.Bool.Decides.{nat_tests}
 use Rattle.std.proofs.lemmas.Grind.{flat_map-append}
 use Rattle.std.proofs.lemmas.List.{map-append}
-use Rattle.std.proofs.lemmas.List.Elements.{All-nil, All-append, filter-append, filter_map-append}
+use Rattle.std.proofs.lemmas.List.Elements.{All-nil, All-append, All-push, filter-append, filter_map-append}
 use Rattle.std.proofs.lemmas.List.FromFn.{filter_of_map_range_with_len_more}
 use Rattle.nv_region.specs.Region.{Region}
 use Rattle.nv_super.specs.declared.superblock.Super.{Super}
@@ -188,6 +188,26 @@ work_more R s v u w old new before after t work low is done =
 pub nearer : (R : Region) (s : Super) (tickets t : ℕ) (ns : List ℕ) (v u w : View) {old new : List Row} {before after : List Fault} → above v.numbers ≤ t → t < tickets → u ≡ with_number v t
     → IsDone R s ns u w old new before after → tickets - above w.numbers < tickets - above v.numbers
 nearer R s tickets t ns v u w low l is done = subst (λ (ns : List ℕ). tickets - above ns < tickets - above v.numbers) (sym done.claims.1) (fewer_left tickets t v u low l is)
+
+-- ---- what is true of each ticket that was drawn
+
+pub each_none : (P : ℕ → Type 0) (tickets : ℕ) (v : View) → v ≡ nothing 1 → All P (tickets_among tickets v.numbers)
+each_none P tickets v is = subst (λ (u : View). All P (tickets_among tickets u.numbers)) (sym is) (All-nil P)
+
+pub each_past : (P : ℕ → Type 0) (tickets : ℕ) (v w : View) (n : ℕ) → All P (tickets_among tickets v.numbers) → tickets ≤ n → w ≡ with_number v n → All P (tickets_among tickets w.numbers)
+each_past P tickets v w n each past is =
+    let not_below : nat_lt n tickets ≡ false = grind (arith, nat_tests, past) in
+    let same : tickets_among tickets w.numbers ≡ tickets_among tickets v.numbers =
+    ap (λ (u : View). tickets_among tickets u.numbers) is ∙ among_more tickets v.numbers n false not_below ∙ append-nil (tickets_among tickets v.numbers) in
+    subst (All P) (sym same) each
+
+pub each_more : (P : ℕ → Type 0) (R : Region) (s : Super) (v u w : View) (numbers : List ℕ) (t : ℕ) {old new : List Row} {before after : List Fault} → All P (tickets_among (ticket_count s) v.numbers) → P t → t < ticket_count s → u ≡ with_number v t
+    → IsDone R s numbers u w old new before after → All P (tickets_among (ticket_count s) w.numbers)
+each_more P R s v u w numbers t each one low is done =
+    let below : nat_lt t (ticket_count s) ≡ true = grind (arith, nat_tests, low) in
+    let same : tickets_among (ticket_count s) w.numbers ≡ tickets_among (ticket_count s) v.numbers ++ t ∷ [] =
+    ap (tickets_among (ticket_count s)) (done.claims.1 ∙ ap (λ (x : View). x.numbers) is) ∙ among_more (ticket_count s) v.numbers t true below in
+    subst (All P) (sym same) (All-push P (tickets_among (ticket_count s) v.numbers) t each one)
 
 -- ---- works that are brought together
 

@@ -1,11 +1,12 @@
 //! A worker of a recovery: it draws tickets until none is left, scans the inodes of each and claims what they own.
 
-ghost use Rattle.std.specs.Prelude.{◌≡◌, ◌<◌, ◌≤◌, IsTrue, [], length, take, IfOk, OnOk};
+ghost use Rattle.std.specs.Prelude.{◌≡◌, ◌<◌, ◌≤◌, ℕ, IsTrue, false, [], length, take, IfOk, OnOk};
+ghost use Rattle.std.specs.List.{All};
 ghost use Rattle.nv_region.specs.Region.{HasBlocks};
 ghost use Rattle.nv_super.specs.Layout.{IsLayout};
 ghost use Rattle.nv_claimmap.specs.nv_claimcore.Claims.{nothing};
 ghost use Rattle.nv_scan.specs.Tickets.{ticket_count, numbers_of};
-ghost use Rattle.nv_scan.specs.Work.{AreNext, IsAllWork, IsDone, Returned, claims_among};
+ghost use Rattle.nv_scan.specs.Work.{AreNext, IsAllWork, IsDone, Returned, claims_among, tickets_among};
 
 use crate::claiming::claim_each;
 use crate::claims::Claims;
@@ -21,8 +22,12 @@ use std::alloc::{AllocError, Global};
 
 /// What a worker passes between drawing a ticket and its work, so that a caller can watch or hold workers.
 pub trait Gate {
+    /// The worker of this number has entered with this ticket. Code that takes any gate has this from `enter` alone.
+    ghost entered: { Self → ℕ → ℕ → Type 0 };
+
     /// The worker of this number has drawn this ticket.
-    fn enter(&self, worker: u32, ticket: u64);
+    fn enter(&self, worker: u32, ticket: u64)
+        ensures { entered self.now worker ticket };
 }
 
 /// A gate that holds nobody.
@@ -30,6 +35,8 @@ pub trait Gate {
 pub struct NoGate;
 
 impl Gate for NoGate {
+    ghost entered = { λ gate worker ticket. Unit {0} };
+
     fn enter(&self, _worker: u32, _ticket: u64) {}
 }
 
@@ -66,6 +73,8 @@ pub fn worker<P: Pmem, G: Gate>(
     ensures returned { Returned (P.region memory.now) sup.now map.now result }
     ensures number { result.seat.number ≡ seat.number }
     ensures refused { IsTrue result.refused → (result.rows.items ≡ []) × (result.faults.items ≡ []) }
+    // It has entered the gate with each ticket that its seat drew, by the seat's number.
+    ensures entered { result.refused ≡ false → All (G.entered gate.now seat.number) (tickets_among (ticket_count sup.now) result.seat.view.numbers) }
 {
     let mut scanner = Scanner::new(alloc, sup);
     match draw_all(alloc, memory, &mut scanner, map, &mut seat, gate) {
@@ -99,13 +108,23 @@ fn draw_all<P: Pmem, G: Gate>(
     requires sizes { (map.now.sizes.blocks ≡ scanner.old.blocks) × (map.now.sizes.tickets ≡ ticket_count scanner.old) }
     ensures seat { (seat.new.map ≡ map.now) × (seat.new.number ≡ seat.old.number) × (seat.new.view.seats ≡ 1) }
     ensures done { IfOk result (λ inodes. IsAllWork (P.region memory.now) scanner.old seat.new.view inodes.rows.items inodes.faults.items) }
+    ensures entered { IfOk result (λ _. All (G.entered gate.now seat.old.number) (tickets_among (ticket_count scanner.old) seat.new.view.numbers)) }
 {
     let mut inodes = Inodes::new(alloc);
     let mut heads = Chunks::new(alloc);
     let mut each = room_for_ticket(alloc)?;
     while let Some(ticket) = map.draw(seat) {
         gate.enter(seat.number(), ticket);
-        scan_ticket(memory, scanner, map, seat, &mut inodes, &mut each, ticket)?;
+        scan_ticket(
+            memory,
+            scanner,
+            map,
+            seat,
+            &mut inodes,
+            &mut each,
+            ticket,
+            gate,
+        )?;
         // Now, while the ticket's rows are in the processor's cache.
         push_heads(&mut heads, &inodes.rows)?;
     }
@@ -116,8 +135,8 @@ fn draw_all<P: Pmem, G: Gate>(
 /// is claimed.
 ///
 /// All are scanned before the first is claimed. A step of the claim map waits for what was stored before it, and other
-/// workers want the same words: so the steps of a ticket come in a row.
-fn scan_ticket<P: Pmem>(
+/// workers want the same words: so the steps of a ticket come in a row. The gate has been entered with the ticket before.
+fn scan_ticket<P: Pmem, G: Gate>(
     memory: &P,
     scanner: &mut Scanner,
     map: &ClaimMap,
@@ -125,7 +144,9 @@ fn scan_ticket<P: Pmem>(
     inodes: &mut Inodes,
     each: &mut Vec<Claims>,
     ticket: u64,
+    _gate: &G,
 ) -> Result<(), AllocError>
+    requires entered { G.entered _gate.now seat.old.number ticket }
     requires layout { IsLayout scanner.old }
     requires blocks { HasBlocks (P.region memory.now) scanner.old.blocks }
     requires own { seat.old.map ≡ map.now }

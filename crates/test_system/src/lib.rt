@@ -39,6 +39,8 @@ mod mounted;
 #[cfg(test)]
 mod names;
 #[cfg(test)]
+mod own_pool;
+#[cfg(test)]
 mod read_only;
 #[cfg(test)]
 mod reading;

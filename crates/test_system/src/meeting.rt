@@ -8,7 +8,7 @@ use nv_scan::{Gate, NoGate};
 use nv_super::MAGIC;
 use std::alloc::Global;
 use std::process::Abort;
-use std::sync::atomic::{AtomicBool, Ordering};
+use std::sync::atomic::{AtomicBool, AtomicU64, Ordering};
 use std::test::Fail;
 use std::thread::Threads;
 
@@ -54,17 +54,48 @@ fn wait_for(mine: &AtomicBool, other: &AtomicBool, met: &AtomicBool) {
     }
 }
 
-/// A gate at which the workers that drew tickets 0 and 1 meet.
+/// The numbers of workers that are tried: as many as there are tickets, and more.
+const WORKERS: [u64; 3] = [2, 3, 64];
+
+/// No worker has this number.
+const NOBODY: u64 = 64;
+
+/// A gate at which the workers that drew tickets 0 and 1 meet. It notes their numbers.
 #[derive(Drop)]
 struct MeetingGate {
     meeting: Meeting,
+    numbers: [AtomicU64; 2],
+}
+
+impl MeetingGate {
+    fn new() -> MeetingGate {
+        MeetingGate {
+            meeting: Meeting::new(),
+            numbers: [AtomicU64::new(NOBODY), AtomicU64::new(NOBODY)],
+        }
+    }
+
+    /// Two workers came, which are all that there are.
+    fn has_two_numbers(&self) -> bool {
+        let one = self.numbers[0].load(Ordering::SeqCst);
+        let two = self.numbers[1].load(Ordering::SeqCst);
+        one < 2 && two < 2 && one != two
+    }
 }
 
 impl Gate for MeetingGate {
-    fn enter(&self, _worker: u32, ticket: u64) {
+    ghost entered = { λ gate worker ticket. Unit {0} };
+
+    fn enter(&self, worker: u32, ticket: u64) {
         match ticket {
-            0 => self.meeting.first(),
-            1 => self.meeting.second(),
+            0 => {
+                self.numbers[0].store(u64::from(worker), Ordering::SeqCst);
+                self.meeting.first();
+            }
+            1 => {
+                self.numbers[1].store(u64::from(worker), Ordering::SeqCst);
+                self.meeting.second();
+            }
             _ => {}
         }
     }
@@ -76,18 +107,37 @@ const FIRST_SLOT: u64 = 16384;
 /// The valid word of inode 2.
 const SECOND_SLOT: u64 = 12416;
 
-/// A meeting of the workers that load the valid words of inodes 1 and 2.
+/// The log of inode 1.
+const FIRST_LOG: u64 = 20480;
+
+/// The log of inode 2, if it is in use.
+const SECOND_LOG: u64 = 24576;
+
+/// A meeting of the workers that load these words.
 #[derive(Drop)]
 struct MeetingLoads {
     meeting: Meeting,
+    first: u64,
+    second: u64,
+}
+
+impl MeetingLoads {
+    fn at(first: u64, second: u64) -> MeetingLoads {
+        MeetingLoads {
+            meeting: Meeting::new(),
+            first,
+            second,
+        }
+    }
 }
 
 impl Watch for MeetingLoads {
     fn loads(&self, at: u64) {
-        match at {
-            FIRST_SLOT => self.meeting.first(),
-            SECOND_SLOT => self.meeting.second(),
-            _ => {}
+        if at == self.first {
+            self.meeting.first();
+        }
+        if at == self.second {
+            self.meeting.second();
         }
     }
 }
@@ -101,54 +151,90 @@ const WORDS: [Word; 10] = [
     (32, 1),
     (FIRST_SLOT, 1),
     (FIRST_SLOT + 8, 2),
-    (FIRST_SLOT + 16, 20480),
-    (FIRST_SLOT + 24, 20512),
-    (20480, DIRECTORY_MODE),
+    (FIRST_SLOT + 16, FIRST_LOG),
+    (FIRST_SLOT + 24, FIRST_LOG + 32),
+    (FIRST_LOG, DIRECTORY_MODE),
 ];
 
-fn region_of_two(rt: HostRuntime) -> Result<MemRegion, RegionRefusal> {
-    let mut memory = MemRegion::new(rt.alloc(), 64)?;
-    for &(at, word) in WORDS.iter() {
+/// Inode 2 is a directory that no name leads to.
+const LOST: [Word; 5] = [
+    (SECOND_SLOT, 1),
+    (SECOND_SLOT + 8, 2),
+    (SECOND_SLOT + 16, SECOND_LOG),
+    (SECOND_SLOT + 24, SECOND_LOG + 32),
+    (SECOND_LOG, DIRECTORY_MODE),
+];
+
+fn store_all(memory: &mut MemRegion, words: &[Word]) {
+    for &(at, word) in words {
         if at % 8 == 0 && memory.len().saturating_sub(at) >= 8 {
             let _unstopped = memory.store(at, word);
         }
     }
+}
+
+fn region_of_two(alloc: Global) -> Result<MemRegion, RegionRefusal> {
+    let mut memory = MemRegion::new(alloc, 64)?;
+    store_all(&mut memory, &WORDS);
     Ok(memory)
 }
 
-/// Two workers find one inode and nothing wrong.
-fn recover_root_alone<P: Pmem + Sync, G: Gate + Sync, R: Threads + Abort + Sync>(
+fn region_with_both(alloc: Global) -> Result<MemRegion, RegionRefusal> {
+    let mut memory = region_of_two(alloc)?;
+    store_all(&mut memory, &LOST);
+    Ok(memory)
+}
+
+/// The workers find so many inodes and faults.
+fn recover_all<P: Pmem + Sync, G: Gate + Sync, R: Threads + Abort + Sync>(
     rt: &R,
     alloc: Global,
     memory: &mut P,
+    workers: u64,
     gate: &G,
+    found: (usize, usize),
 ) -> Result<(), RecoverError> {
-    let recovered = recover(rt, alloc, memory, 2, gate)?;
-    assert!(rt; recovered.rows.len() == 1);
-    assert!(rt; recovered.faults.len() == 0);
+    let recovered = recover(rt, alloc, memory, workers, gate)?;
+    assert!(rt; recovered.rows.len() == found.0);
+    assert!(rt; recovered.faults.len() == found.1);
     Ok(())
 }
 
 #[test]
 fn two_tickets_at_once(rt: HostRuntime) -> Result<(), Fail> {
-    let mut memory = region_of_two(rt)?;
-    let gate = MeetingGate {
-        meeting: Meeting::new(),
-    };
-    recover_root_alone(&rt, rt.alloc(), &mut memory, &gate)?;
-    assert!(rt; gate.meeting.both_met());
+    for workers in &WORKERS {
+        let mut memory = region_of_two(rt.alloc())?;
+        let gate = MeetingGate::new();
+        recover_all(&rt, rt.alloc(), &mut memory, *workers, &gate, (1, 0))?;
+        assert!(rt; gate.meeting.both_met());
+        assert!(rt; gate.has_two_numbers());
+    }
     Ok(())
 }
 
 #[test]
 fn two_inodes_are_read_at_once(rt: HostRuntime) -> Result<(), Fail> {
-    let mut memory = WatchedRegion {
-        memory: region_of_two(rt)?,
-        watch: MeetingLoads {
-            meeting: Meeting::new(),
-        },
-    };
-    recover_root_alone(&rt, rt.alloc(), &mut memory, &NoGate)?;
-    assert!(rt; memory.watch.meeting.both_met());
+    for workers in &WORKERS {
+        let mut memory = WatchedRegion {
+            memory: region_of_two(rt.alloc())?,
+            watch: MeetingLoads::at(FIRST_SLOT, SECOND_SLOT),
+        };
+        recover_all(&rt, rt.alloc(), &mut memory, *workers, &NoGate, (1, 0))?;
+        assert!(rt; memory.watch.meeting.both_met());
+    }
+    Ok(())
+}
+
+/// The second word of a log is loaded by the scan alone. What is touched ahead of it are a log's first word and its ninth.
+#[test]
+fn two_logs_are_read_at_once(rt: HostRuntime) -> Result<(), Fail> {
+    for workers in &WORKERS {
+        let mut memory = WatchedRegion {
+            memory: region_with_both(rt.alloc())?,
+            watch: MeetingLoads::at(FIRST_LOG + 8, SECOND_LOG + 8),
+        };
+        recover_all(&rt, rt.alloc(), &mut memory, *workers, &NoGate, (2, 2))?;
+        assert!(rt; memory.watch.meeting.both_met());
+    }
     Ok(())
 }

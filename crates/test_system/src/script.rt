@@ -367,7 +367,8 @@ const STOPS: [(&str, &str, u8); 8] = [
     ),
 ];
 
-fn check_row<H: AllocGlobal + Abort + Threads + Sync>(
+/// A script prints this, and ends with this status.
+pub fn check_row<H: AllocGlobal + Abort + Threads + Sync>(
     rt: &H,
     script: &[u8],
     output: &str,

@@ -67,6 +67,8 @@ fn bit_of(number: u64) -> u64 {
 }
 
 impl Gate for Seen {
+    ghost entered = { λ gate worker ticket. Unit {0} };
+
     fn enter(&self, worker: u32, ticket: u64) {
         self.enter_once(worker, ticket);
     }

@@ -1,7 +1,9 @@
 use Rattle.std.proofs.Common.{◌≡◌, ◌-◌, length}
 use Rattle.nv_claimmap.specs.nv_claimcore.Claims.{above}
 use Rattle.nv_scan.specs.Heads.{heads_of}
-use Rattle.nv_scan.specs.Work.{IsWork}
+use Rattle.std.specs.List.{All}
+use Rattle.nv_scan.specs.Tickets.{ticket_count}
+use Rattle.nv_scan.specs.Work.{IsWork, tickets_among}
 use Rattle.nv_scan.proofs.working.draw_all.Given as goal
 
 abbrev pub invariant-loop-ticket : goal.invariant-loop-ticket
@@ -13,6 +15,7 @@ invariant-loop-ticket g l = record {
   room : length l.each.items ≡ 32;
   heads : l.heads.items ≡ heads_of l.inodes.rows.items;
   work : IsWork (g.P.Pmem.region l.memory) l.fn.scanner l.seat.view l.inodes.rows.items l.inodes.faults.items;
+  entered : All (g.G.Gate.entered l.gate l.fn.seat.number) (tickets_among (ticket_count l.fn.scanner) l.seat.view.numbers);
 }
 
 abbrev pub decreases-loop-ticket : goal.decreases-loop-ticket

@@ -5,7 +5,8 @@ use Rattle.nv_super.specs.Layout.{IsLayout}
 use Rattle.nv_super.specs.declared.superblock.Super.{Super}
 use Rattle.nv_claimmap.specs.nv_claimcore.Claims.{past}
 use Rattle.nv_scan.specs.Tickets.{ticket_count}
-use Rattle.nv_scan.specs.Work.{IsWork}
+use Rattle.std.specs.List.{All}
+use Rattle.nv_scan.specs.Work.{IsWork, tickets_among}
 use Rattle.nv_scan.proofs.working.worker.Goals as goal
 
 pub draw_all-requires-clause-layout : goal.draw_all-requires-clause-layout
@@ -33,3 +34,11 @@ returns-clause-returned g c = record {
   ended = λ e. absurd (true≢false e);
   work = λ e. absurd (true≢false e);
 }
+
+pub returns-in-Ok-clause-entered : goal.returns-in-Ok-clause-entered
+returns-in-Ok-clause-entered g c whole =
+    let v = c.draw_all.new.seat.view in
+    subst (λ (s : Super). All (g.G.Gate.entered c.args.gate.now c.args.seat.number) (tickets_among (ticket_count s) v.numbers)) c.new-scanner.ensures c.in-Ok.ensures.entered
+
+pub returns-clause-entered : goal.returns-clause-entered
+returns-clause-entered g c e = absurd (true≢false e)
