@@ -1,8 +1,5 @@
 //! Running a script, on the region of an image or on none, and saving the region that it leaves.
 
-ghost use Rattle.std.specs.Prelude.{IfOk, IfSome};
-ghost use Rattle.nv_cli.specs.Sessions.{IsSettled};
-
 use crate::hints::ErrorOutput;
 use crate::saving::save_region;
 use nv_cli::{
@@ -49,9 +46,7 @@ fn run_from<H: AllocGlobal + Print + Eprint + Threads + Sync, R: Read + Drop>(
     rt: &H,
     script: R,
     region: Option<MemRegion>,
-) -> Result<Ended, ScriptError>
-    requires { IfSome region (λ memory. IsSettled memory) }
-{
+) -> Result<Ended, ScriptError> {
     let alloc = rt.alloc();
     let mut output = io::writer(rt);
     let mut hints = ErrorOutput { rt };
@@ -67,9 +62,7 @@ pub(crate) fn script_at<'a, H: Files>(rt: &H, path: &'a str) -> Result<H::File, 
 }
 
 // The region of the image in a file.
-fn region_at<'a, H: Files + AllocGlobal>(rt: &H, path: &'a str) -> Result<MemRegion, Failure<'a>>
-    ensures { IfOk result (λ memory. IsSettled memory) }
-{
+fn region_at<'a, H: Files + AllocGlobal>(rt: &H, path: &'a str) -> Result<MemRegion, Failure<'a>> {
     match image_at(rt, path)? {
         Image::Bytes(bytes) => match region_of_file(rt.alloc(), bytes) {
             Ok(region) => Ok(region),

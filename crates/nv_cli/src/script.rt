@@ -11,7 +11,7 @@ ghost use Rattle.nv_cli.specs.Script.{ShowsScript, ShowsFrom, ShowsEnd, FromEach
 ghost use Rattle.nv_cli.specs.Hints.{HintsScript, HintsFrom, answer_hint};
 ghost use Rattle.nv_cli.specs.Replies.{KnownReplies, RepliesTo};
 ghost use Rattle.nv_session.specs.Machine.{State, first_state, state_with};
-ghost use Rattle.nv_session.specs.Sessions.{HasState, IsSettled, Leads, StandsFor, region_in};
+ghost use Rattle.nv_session.specs.Sessions.{IsSettled, Leads, StandsFor, region_in};
 ghost use Rattle.nv_cli.specs.Transcript.{WritesAll, WritesFront, WritesWhole};
 
 use crate::hinting::{Hint, Hints, LENGTH_REFUSED, NoHints};
@@ -95,8 +95,8 @@ pub struct Ended {
     pub region: Option<MemRegion>,
 }
 
-/// `run_script_with_hints`, where a region is there from the start, of which nothing is mounted and nothing is pending. Answers
-/// the region that there is at the end, too.
+/// `run_script_with_hints`, where a region is there from the start, as it reads, of which nothing is mounted. Answers the
+/// region that there is at the end, too.
 ///
 /// Errors: those of `run_script`; the region is gone then.
 pub fn run_script_on<H: Threads + Sync, R: Read + Drop, W: Write, N: Hints>(
@@ -107,7 +107,6 @@ pub fn run_script_on<H: Threads + Sync, R: Read + Drop, W: Write, N: Hints>(
     writer: &mut W,
     hints: &mut N,
 ) -> Result<Ended, ScriptError>
-    requires { IsSettled region }
     // The region is that of the state in which these lines may end.
     ensures ok { IfOk result (λ ended. WritesAll (ShowsEnd (state_with region.region) (option_map (λ memory. memory.region) ended.region)) (R.remaining reader) (W.contents writer.old) (W.contents writer.new) ended.status) }
     // Nothing is pending in it.
@@ -134,9 +133,7 @@ fn run_in<H: Threads + Sync, R: Read + Drop, W: Write, N: Hints>(
     writer: &mut W,
     hints: &mut N,
 ) -> Result<u8, ScriptError>
-    requires { HasState session.old }
     ensures ok { IfOk result (λ status. FromEach session.old (λ begin. WritesAll (ShowsEnd begin (region_in session.new.store)) (R.remaining reader) (W.contents writer.old) (W.contents writer.new) status)) }
-    ensures stands { IfOk result (λ _. HasState session.new) }
     ensures err { OnErr result (FromEach session.old (λ begin. WritesFront (ShowsFrom begin) (R.remaining reader) (W.contents writer.old) (W.contents writer.new))) }
     ensures memory { IsErrOf result ScriptError.Memory → FromEach session.old (λ begin. WritesWhole (ShowsFrom begin) (R.remaining reader) (W.contents writer.old) (W.contents writer.new)) }
     ensures hints { IfOk result (λ status. FromEach session.old (λ begin. WritesAll (HintsFrom begin) (R.remaining reader) (N.told hints.old) (N.told hints.new) status)) }
@@ -159,9 +156,7 @@ fn run_lines<H: Threads + Sync, R: Read, W: Write, N: Hints>(
     writer: &mut W,
     hints: &mut N,
 ) -> Result<u8, ScriptError>
-    requires { HasState session.old }
     ensures ok { IfOk result (λ status. FromEach session.old (λ begin. WritesAll (ShowsEnd begin (region_in session.new.store)) (R.remaining reader.old) (W.contents writer.old) (W.contents writer.new) status)) }
-    ensures stands { IfOk result (λ _. HasState session.new) }
     ensures err { OnErr result (FromEach session.old (λ begin. WritesFront (ShowsFrom begin) (R.remaining reader.old) (W.contents writer.old) (W.contents writer.new))) }
     ensures memory { IsErrOf result ScriptError.Memory → FromEach session.old (λ begin. WritesWhole (ShowsFrom begin) (R.remaining reader.old) (W.contents writer.old) (W.contents writer.new)) }
     ensures hints { IfOk result (λ status. FromEach session.old (λ begin. WritesAll (HintsFrom begin) (R.remaining reader.old) (N.told hints.old) (N.told hints.new) status)) }
@@ -193,7 +188,6 @@ fn next_reply<H: Threads + Sync, R: Read>(
     line: &mut Vec<u8>,
     reader: &mut R,
 ) -> Result<Reply, ScriptError>
-    requires { HasState session.old }
     ensures { IfOk result (λ reply. Leads (λ old new. KnownReplies (R.remaining reader.old) (R.remaining reader.new) old reply new) session.old session.new) }
 {
     match read_line(reader, line)? {
@@ -209,7 +203,6 @@ fn answer_line<H: Threads + Sync>(
     session: &mut Session,
     line: &[u8],
 ) -> Result<Reply, ScriptError>
-    requires { HasState session.old }
     ensures replies { IfOk result (λ reply. Leads (λ old new. RepliesTo line.now old reply new) session.old session.new) }
     ensures kind { IfErr result (λ e. e ≡ ScriptError.Memory) }
 {

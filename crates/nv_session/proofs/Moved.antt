@@ -44,7 +44,7 @@ use Rattle.nv_line.specs.Request.{Request}
 use Rattle.nv_session.specs.Made.{MayMake}
 use Rattle.nv_session.specs.Machine as machine
 use Rattle.nv_session.specs.Machine.{State, zeros, Formats, StopsFormat, StopsRecovery, StopsRegion, MayStop, Cuts, Replays, Pokes, ShowsPart, ShowsMounted, Reads, ReadsMounted, has_word, RecoversRegion, RefusesSuper, Unmounts, front, Does, Step}
-use Rattle.nv_session.specs.Sessions.{StandsFor, Moves, Fails, Settles, CanMount, ShowsOutcome, IsMountOf, HoldsSettled, IsSettled, memory_in, region_in, mount_in, is_armed}
+use Rattle.nv_session.specs.Sessions.{StandsFor, Moves, Fails, Settles, CanMount, ShowsOutcome, IsMountOf, IsSettled, region_in, mount_in, is_armed}
 use Rattle.nv_session.specs.declared.making.Made.TheVariants as made
 use Rattle.nv_session.specs.declared.store.Store.{Store}
 use Rattle.nv_session.specs.declared.store.Store.TheVariants as stores
@@ -184,12 +184,9 @@ shows_outcome R S r m came left here is runs = record {
   runs = runs;
 }
 
--- the memory that was in the store has nothing pending with another fuse either
-pub fused_settled : (store : Option Store) (held : Store) (memory fused : RegionState) (fuse : Fuse) → store ≡ Some held → HoldsSettled store → memory ≡ memory_in held → fused ≡ record memory { fuse = fuse; burnt = false } → IsSettled fused
-fused_settled store held memory fused fuse there settled is with_fuse =
-    let here : IsSettled (memory_in held) = subst HoldsSettled there settled in
-    let taken : IsSettled memory = subst IsSettled (sym is) here in
-    subst IsSettled (sym with_fuse) taken
+-- nothing is pending in a memory with another fuse either
+pub fused_settled : (memory fused : RegionState) (fuse : Fuse) → IsSettled memory → fused ≡ record memory { fuse = fuse; burnt = false } → IsSettled fused
+fused_settled memory fused fuse settled with_fuse = subst IsSettled (sym with_fuse) settled
 
 -- what is put back after it
 module _ (armed : Bool) (R : Region) (S : RegionState) (workers : ℕ) (schedule : List ℕ) (old mid new : Session) (text : List ℕ) (here : region_in old.store ≡ Some R) (taken : mid ≡ record old { store = None }) where

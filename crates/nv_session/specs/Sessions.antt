@@ -82,10 +82,6 @@ pub record StandsFor (s : Session) (state : State) : Type 0 where
   pub armed : state.armed ≡ is_armed s.stop
   pub settled : HoldsSettled s.store
 
--- it stands for some state
-abbrev pub HasState : Session → Type 0
-HasState s = (state : State) × StandsFor s state
-
 -- from each state that the first session stands for, such a step leads to one that the second stands for
 abbrev pub Leads : (State → State → Type 0) → Session → Session → Type 0
 Leads step old new = (state : State) → StandsFor old state → (next : State) × step state next × StandsFor new next

@@ -21,3 +21,4 @@ pub use nv_calls::{FormatRefusal, Fs};
 pub use nv_tree::Refusal as CallRefusal;
 pub use session::Session;
 pub use stop::Stop;
+pub use store::keep_all;

@@ -10,7 +10,7 @@ ghost use Rattle.nv_report.specs.Shown.{shown_of};
 use crate::files::{list_text, read_text, stat_text};
 use crate::making::{Made, new_region};
 use crate::stop::Stop;
-use crate::store::{Store, has_word, poked};
+use crate::store::{Store, has_word, keep_all, poked};
 use crate::texts::{ok_text, refused_format_text, stopped_text, word_text};
 use nv_calls::Fs;
 use nv_checking::{Answer, recover_or_stop, replay_or_stop};
@@ -35,7 +35,7 @@ pub struct Session {
 
 impl Session {
     ghost use Rattle.std.specs.Prelude.{string_bytes};
-    ghost use Rattle.nv_session.specs.Sessions.{StandsFor, Moves, CanMount, Fails, Settles, IsSettled, HoldsSettled, HasState, region_in, mount_in, is_armed};
+    ghost use Rattle.nv_session.specs.Sessions.{StandsFor, Moves, CanMount, Fails, Settles, IsSettled, region_in, mount_in, is_armed};
     ghost use Rattle.nv_session.specs.declared.store.Store.TheVariants as stores;
     ghost use Rattle.nv_session.specs.Machine.{first_state, state_with, SetsTime, Formats, Recovers, Replays, Pokes, Cuts, ShowsPart, Peeks, MayStop, StopsFormat, StopsRecovery, Arms, Reads, TellsNames, TellsStat, TellsBytes, Does, Step, front};
     ghost use Rattle.nv_session.specs.Machine.{State};
@@ -58,26 +58,25 @@ impl Session {
         }
     }
 
-    /// Nothing made yet but this region, of which nothing is pending, at time 0.
+    /// Nothing made yet but this region as it reads, at time 0. What is pending in the memory is kept.
     pub fn with_region(memory: MemRegion) -> Session
-        requires { IsSettled memory }
         ensures { StandsFor result (state_with memory.region) }
     {
         Session {
-            store: Some(Store::Alone(memory)),
+            store: Some(Store::Alone(keep_all(memory))),
             time: 0,
             last: Last::Sound,
             stop: Stop::none(),
         }
     }
 
-    /// The region that there is at the end, if there is one.
+    /// The region that there is at the end, if there is one. Nothing is pending in it.
     pub fn into_region(self) -> Option<MemRegion>
         ensures region { option_map (λ memory. memory.region) result ≡ region_in self.store }
-        ensures settled { HasState self → IfSome result (λ memory. IsSettled memory) }
+        ensures settled { IfSome result (λ memory. IsSettled memory) }
     {
         match self.store {
-            Some(store) => Some(store.into_memory()),
+            Some(store) => Some(keep_all(store.into_memory())),
             None => None,
         }
     }
@@ -99,7 +98,6 @@ impl Session {
         alloc: Global,
         command: Command<'_>,
     ) -> Result<String, AllocError>
-        requires { HasState self.old }
         ensures { IfOk result (λ text. Moves (λ old said new. Step old (view command.entry) said new) self.old (string_bytes text) self.new) }
     {
         let stop = self.disarm();
@@ -125,7 +123,6 @@ impl Session {
         command: Command<'_>,
         stop: Stop,
     ) -> Result<String, AllocError>
-        requires { HoldsSettled self.old.store }
         ensures { IfOk result (λ text. Moves (Does (is_armed stop) (view command.entry)) self.old (string_bytes text) self.new) }
     {
         match command {
@@ -263,14 +260,14 @@ impl Session {
         workers: u64,
         stop: Stop,
     ) -> Result<String, AllocError>
-        requires { HoldsSettled self.old.store }
         ensures { IfOk result (λ text. Moves (MayStop (is_armed stop) (Recovers workers) (StopsRecovery workers [])) self.old (string_bytes text) self.new) }
     {
         let Some(store) = self.store.take() else {
             self.last = Last::Refused;
             return refused_text(alloc, Refusal::NoRegion);
         };
-        let mut memory = store.into_memory();
+        // Between commands nothing is pending, so this changes no word. No caller has to promise it.
+        let mut memory = keep_all(store.into_memory());
         memory.set_fuse(stop.fuse);
         let answer = recover_or_stop(rt, alloc, &mut memory, workers)?;
         self.settle(alloc, memory, answer, stop.keep)
@@ -283,14 +280,14 @@ impl Session {
         schedule: &[u64],
         stop: Stop,
     ) -> Result<String, AllocError>
-        requires { HoldsSettled self.old.store }
         ensures { IfOk result (λ text. Moves (MayStop (is_armed stop) (Replays workers schedule.now) (StopsRecovery workers schedule.now)) self.old (string_bytes text) self.new) }
     {
         let Some(store) = self.store.take() else {
             self.last = Last::Refused;
             return refused_text(alloc, Refusal::NoRegion);
         };
-        let mut memory = store.into_memory();
+        // Between commands nothing is pending, so this changes no word. No caller has to promise it.
+        let mut memory = keep_all(store.into_memory());
         memory.set_fuse(stop.fuse);
         let answer = replay_or_stop(alloc, &mut memory, workers, schedule)?;
         self.settle(alloc, memory, answer, stop.keep)

@@ -1,12 +1,13 @@
 //! The region that a script has made: alone, or mounted as a file system.
 
-ghost use Rattle.std.specs.Prelude.{◌≡◌, true};
+ghost use Rattle.std.specs.Prelude.{◌≡◌, true, false};
 ghost use Rattle.nv_region.specs.Region.{put};
+ghost use Rattle.nv_region.specs.declared.memory.Fuse.TheVariants as fuses;
 ghost use Rattle.nv_session.specs.Machine.{has_word};
 ghost use Rattle.nv_session.specs.Sessions.{IsSettled};
 
 use nv_calls::Fs;
-use nv_region::{Fuse, MemRegion, Pmem, commit_word};
+use nv_region::{Fuse, Keep, MemRegion, Pmem, commit_word};
 
 /// A region in memory. A command that stores something sets the memory's fuse first.
 #[derive(Drop)]
@@ -39,6 +40,15 @@ impl Store {
             Store::Mounted(mount) => mount.into_region(),
         }
     }
+}
+
+/// The memory with each word as it reads: nothing is pending in it, and it has no fuse. It costs what was pending.
+pub fn keep_all(memory: MemRegion) -> MemRegion
+    ensures region { result.region ≡ memory.region }
+    ensures settled { IsSettled result }
+    ensures fuse { (result.fuse ≡ fuses.Off) × (result.burnt ≡ false) }
+{
+    memory.after_stop(Keep::All)
 }
 
 /// Whether a word begins at the byte address, and is in the region.

@@ -13,25 +13,6 @@ use Rattle.nv_cli.proofs.script.run_lines.Goals.{in-Skipped, in-Text+in_ok-write
 pub lines-init : goal.lines-init
 lines-init g c = λ begin stands. (begin, stands, (λ region. known_begins (ShowsEnd begin region) _ _), known_begins (HintsFrom begin) _ _)
 
-pub next_reply-requires : goal.next_reply-requires
-next_reply-requires g c =
-    let at = c.lines.invariant c.requires.0 c.requires.1 in
-    (c.type_bounds.sync-H, (at.0, at.1))
-
--- ---- the session that is left
-
-pub returns-in-End-clause-stands : goal.returns-in-End-clause-stands
-returns-in-End-clause-stands g c =
-    let at = c.lines.invariant c.requires.0 c.requires.1 in
-    let next = c.in_ok-next_reply.ensures at.0 at.1 in
-    (next.0, next.2)
-
-pub returns-in-Bad-clause-stands : goal.returns-in-Bad-clause-stands
-returns-in-Bad-clause-stands g c =
-    let at = c.lines.invariant c.requires.0 c.requires.1 in
-    let next = c.in_ok-next_reply.ensures at.0 at.1 in
-    (next.0, next.2)
-
 -- ---- what was written
 
 pub returns-in_err-next_reply-clause-err : goal.returns-in_err-next_reply-clause-err

@@ -2,12 +2,6 @@ use Rattle.nv_session.specs.Machine.{state_with}
 use Rattle.nv_region.proofs.Told.{told_err}
 use Rattle.nv_cli.proofs.script.run_script_on.Goals as goal
 
-pub run_in-requires : goal.run_in-requires
-run_in-requires g c = (c.type_bounds.sync-H, (state_with c.args.region.region, c.with_region-session.ensures))
-
-pub returns-clause-settled : goal.returns-clause-settled
-returns-clause-settled g c = c.into_region.ensures.settled c.in_ok-status.ensures.stands
-
 pub returns-clause-ok : goal.returns-clause-ok
 returns-clause-ok g c = rw c.into_region.ensures.region (c.in_ok-status.ensures.ok (state_with c.args.region.region) c.with_region-session.ensures)
 

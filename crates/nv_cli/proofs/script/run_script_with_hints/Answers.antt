@@ -5,9 +5,6 @@ use Rattle.nv_cli.specs.Script.{ShowsEnd, ShowsScript}
 use Rattle.nv_cli.proofs.Ending.{any_region, all_weaker}
 use Rattle.nv_cli.proofs.script.run_script_with_hints.Goals as goal
 
-pub run_in-requires : goal.run_in-requires
-run_in-requires g c = (c.type_bounds.sync-H, (first_state, c.new-session.ensures))
-
 pub returns-clause-ok : goal.returns-clause-ok
 returns-clause-ok g c =
     let region = region_in c.run_in.new.session.store in

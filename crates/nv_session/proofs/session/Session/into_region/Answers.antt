@@ -1,10 +1,10 @@
-use Rattle.std.proofs.Common.{◌≡◌, ◌∙◌, ap, subst, sym}
+use Rattle.std.proofs.Common.{◌∙◌, Some, ap, sym}
+use Rattle.nv_region.specs.Region.{Region}
 use Rattle.nv_region.specs.RegionState.{RegionState}
-use Rattle.nv_session.specs.Sessions.{HoldsSettled, IsSettled, memory_in}
+use Rattle.nv_session.specs.Sessions.{memory_in, region_in}
+use Rattle.nv_session.specs.declared.store.Store.{Store}
 use Rattle.nv_session.proofs.session.Session.into_region.Goals as goal
 
-pub returns-in-Some-clause-settled : goal.returns-in-Some-clause-settled
-returns-in-Some-clause-settled c = λ state.
-    let here : IsSettled (memory_in c.in-Some.store) = subst HoldsSettled c.in-Some.is state.1.settled in
-    let is : c.into_memory.result ≡ memory_in c.in-Some.store = c.into_memory.ensures ∙ ap memory_in c.in-Some.store-is in
-    subst (λ (m : RegionState). IsSettled m) (sym is) here
+pub returns-in-Some-clause-region : goal.returns-in-Some-clause-region
+returns-in-Some-clause-region c =
+    ap (λ (R : Region). Some R) (c.keep_all.ensures.region ∙ ap (λ (m : RegionState). m.region) c.into_memory.ensures) ∙ ap (λ (s : Store). Some (memory_in s).region) c.in-Some.store-is ∙ ap region_in (sym c.in-Some.is)

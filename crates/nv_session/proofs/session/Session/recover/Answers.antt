@@ -14,7 +14,7 @@ use Rattle.nv_session.proofs.Moved.{no_region_moves, settles_moves, can_mount, c
 use Rattle.nv_session.proofs.session.Session.recover.Goals as goal
 
 pub settle-requires-clause-settled : goal.settle-requires-clause-settled
-settle-requires-clause-settled g c = c.in_ok-answer.ensures.settled (fused_settled c.args.self.now.store c.in-Some.store c.into_memory-memory.result c.set_fuse.new.self c.args.stop.fuse (sym c.in-Some.ensures.value) c.requires c.into_memory-memory.ensures c.set_fuse.ensures)
+settle-requires-clause-settled g c = c.in_ok-answer.ensures.settled (fused_settled c.keep_all-memory.result c.set_fuse.new.self c.args.stop.fuse c.keep_all-memory.ensures.settled c.set_fuse.ensures)
 
 pub settle-requires-clause-mounts : goal.settle-requires-clause-mounts
 settle-requires-clause-mounts g c = can_mount c.set_fuse.new.self.region c.recover_or_stop.new.memory.region c.args.workers [] c.in_ok-answer.answer c.in_ok-answer.ensures.ok c.in_ok-answer.ensures.lists
@@ -24,9 +24,9 @@ returns-in_default g c = IfOk-weaker c.refused_text.result _ _ (λ text said. no
 
 pub returns : goal.returns
 returns g c =
-    let same = ap (λ (m : RegionState). m.region) c.set_fuse.ensures ∙ ap (λ (m : RegionState). m.region) c.into_memory-memory.ensures in
+    let same = ap (λ (m : RegionState). m.region) c.set_fuse.ensures ∙ c.keep_all-memory.ensures.region ∙ ap (λ (m : RegionState). m.region) c.into_memory.ensures in
     let may = subst (λ (T : Region). MayEnd T c.args.workers [] c.in_ok-answer.answer c.recover_or_stop.new.memory.region) same c.in_ok-answer.ensures.ok in
-    let before = fused_settled c.args.self.now.store c.in-Some.store c.into_memory-memory.result c.set_fuse.new.self c.args.stop.fuse (sym c.in-Some.ensures.value) c.requires c.into_memory-memory.ensures c.set_fuse.ensures in
+    let before = fused_settled c.keep_all-memory.result c.set_fuse.new.self c.args.stop.fuse c.keep_all-memory.ensures.settled c.set_fuse.ensures in
     let stops = subst (λ (T : Region). (s : Super) → IsSuper T s → LeavesOnly c.recover_or_stop.new.memory.region (fenced_or_last c.recover_or_stop.new.memory) (UndoesAsBefore T)) same (λ s is. c.in_ok-answer.ensures.any_stop s is before) in
     let mid : Session = record c.args.self.now { store = c.take.new.self } in
     IfOk-weaker c.settle.result _ _ (λ text settles. settles_moves (is_armed c.args.stop) (memory_in c.in-Some.store).region c.recover_or_stop.new.memory c.args.workers [] c.args.self.now mid c.settle.new.self (string_bytes text)
