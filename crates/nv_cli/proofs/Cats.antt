@@ -1,5 +1,5 @@
 -- What writing a file tells, by what was written.
-use Rattle.std.proofs.Common.{◌≡◌, ◌≢◌, ◌⊎◌, ◌∙◌, inl, inr, ℕ, List, length, Option, Some, None, refl, sym, ap}
+use Rattle.std.proofs.Common.{◌≡◌, ◌≢◌, ◌∙◌, inl, inr, ℕ, List, length, Option, Some, None, refl, sym, ap}
 use Rattle.std.specs.Prelude.{Result, Ok, Err, IfOk, IfErr, OnOk}
 use Rattle.nv_region.specs.Region.{region_of}
 use Rattle.nv_region.specs.ImageState.{ImageState}
@@ -13,7 +13,7 @@ use Rattle.nv_stream.specs.declared.fault.ScriptError.{ScriptError}
 use Rattle.nv_stream.specs.declared.fault.ScriptError.TheVariants.{Read, Write, Memory}
 use Rattle.nv_tree.specs.Path.{IsPath, Says}
 use Rattle.nv_tree.specs.Tree.{Tree}
-use Rattle.nv_tree.specs.Refusals.{Path, first_refusal, refusal_word, read_tests}
+use Rattle.nv_tree.specs.Refusals.{IsReadRefusedBy, Path, first_refusal, refusal_word, read_tests}
 use Rattle.nv_tree.specs.declared.refusal.Refusal.{Refusal}
 use Rattle.nv_tree.specs.declared.refusal.Refusal.TheVariants as refusals
 use Rattle.nv_tree.proofs.Texts.{text_says}
@@ -57,7 +57,7 @@ module _ (t : Tree) (path : List ℕ) (p : Path) (says : Says path p) (old new :
 
   -- ---- a call that is refused says so
 
-  module _ (refusal : Refusal) (first : (refusal ≡ refusals.Memory) ⊎ (first_refusal (read_tests t p) ≡ Some refusal)) where
+  module _ (refusal : Refusal) (first : IsReadRefusedBy (first_refusal (read_tests t p)) refusal) where
     told : refusal ≢ refusals.Memory → TellsRefusal (read_tests t p) (refused_line (refusal_word refusal))
     told other = refusal_told (read_tests t p) refusal (refused_line (refusal_word refusal)) other first refl
 

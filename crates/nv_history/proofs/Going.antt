@@ -1,6 +1,6 @@
 -- What holds while calls are made one after the other, and where a run is halted.
-use Rattle.std.proofs.Common.{◌≡◌, ◌⊎◌, ◌+◌, ◌<◌, ◌≤◌, ℕ, Bool, true, false, IsTrue, inl, inr, List, length, take, get_or, refl, sym, Some, ◌∙◌, subst, arith, Result, Ok, Err}
-use Rattle.std.specs.Prelude.{slice_get, ⊤}
+use Rattle.std.proofs.Common.{◌≡◌, ◌⊎◌, ◌+◌, ◌<◌, ◌≤◌, ℕ, Bool, true, false, IsTrue, inl, inr, List, length, take, get_or, refl, sym, ◌∙◌, subst, arith, Result, Ok, Err}
+use Rattle.std.specs.Prelude.{⊤}
 use Rattle.std.proofs.Math.Logic.{∥∥₁_map}
 use Rattle.std.proofs.lemmas.List.{take_all, take_more}
 use Rattle.std.proofs.lemmas.Option.{slice_get-get_or}
@@ -11,7 +11,7 @@ use Rattle.nv_region.proofs.Fuses.{keeps_more}
 use Rattle.nv_super.specs.declared.superblock.Super.{Super}
 use Rattle.nv_journal.specs.Undo.{undone}
 use Rattle.nv_tree.specs.declared.refusal.Refusal.{Refusal}
-use Rattle.nv_tree.specs.declared.refusal.Refusal.TheVariants.{Memory, Stopped}
+use Rattle.nv_tree.specs.declared.refusal.Refusal.TheVariants.{Stopped}
 use Rattle.nv_tree.specs.Tree.{SameTree, Tree}
 use Rattle.nv_tree.proofs.Same.{same_itself}
 use Rattle.nv_paths.specs.Seen.{tree_of}
@@ -121,19 +121,14 @@ module _ {P : Type 0} (region : P → Region) (may_hold : P → Choices) (fuse :
 
   -- ---- the refused call
 
-  pub halts : (e : Refusal) → (e ≡ Stopped → ⊥) → (IsTrue now.stopped → e ≡ Stopped) → SameMount now next → (now.stopped ≡ false → (e ≡ Memory) ⊎ ((e ≡ Stopped) ⊎ RefusesCall (region now.memory) now call e))
+  pub halts : (e : Refusal) → (e ≡ Stopped → ⊥) → (IsTrue now.stopped → e ≡ Stopped) → SameMount now next → (now.stopped ≡ false → RefusesCall (region now.memory) now call e)
       → HaltsAt s first calls (record { made = made; refusal = e }) (region next.memory) next
   halts e runs before same why = record {
     asked = now;
     made = subst (λ (p : P). AreMade s (take made calls) first (tree_of (region p) now.rows)) (sym same.memory) going.trees;
     same = same;
-    why = by (why (off_or_on now.stopped (λ on. runs (before on))));
+    why = (call, slice_get-get_or calls made d more, subst (λ (p : P). RefusesCall (region p) now call e) (sym same.memory) (why (off_or_on now.stopped (λ on. runs (before on)))));
   }
-    where
-      by : (e ≡ Memory) ⊎ ((e ≡ Stopped) ⊎ RefusesCall (region now.memory) now call e) → (e ≡ Memory) ⊎ ((c : Call) × (slice_get calls made ≡ Some c) × RefusesCall (region next.memory) now c e)
-      by (inl memory) = inl memory
-      by (inr (inl stop)) = absurd (runs stop)
-      by (inr (inr refuses)) = inr (call, slice_get-get_or calls made d more, subst (λ (p : P). RefusesCall (region p) now call e) (sym same.memory) refuses)
 
   -- What a stop leaves where the call was refused by its tests or for want of memory.
   stays : (e : Refusal) → SameMount now next → LeavesOnly (region now.memory) (may_hold now.memory) (LeavesMounted (region now.memory) now)

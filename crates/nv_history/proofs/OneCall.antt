@@ -5,10 +5,10 @@ use Rattle.nv_region.specs.Region.{Region}
 use Rattle.nv_region.specs.Stops.{Choices, LeavesOnly}
 use Rattle.nv_journal.specs.Undo.{undone}
 use Rattle.nv_tree.specs.declared.refusal.Refusal.{Refusal}
-use Rattle.nv_tree.specs.declared.refusal.Refusal.TheVariants.{BadCpu, BadName, Memory, ReadOnly, Stopped}
+use Rattle.nv_tree.specs.declared.refusal.Refusal.TheVariants.{BadCpu, BadName, ReadOnly}
 use Rattle.nv_tree.specs.Path.{IsPath, Says}
 use Rattle.nv_tree.specs.Tree.{SameTree, Tree}
-use Rattle.nv_tree.specs.Refusals.{Path, Tests, World, first_refusal, is_bad_name, writing}
+use Rattle.nv_tree.specs.Refusals.{Path, Tests, World, first_refusal, is_bad_name, writing, IsRefusedBy}
 use Rattle.nv_tree.proofs.Texts.{text_says}
 use Rattle.nv_paths.specs.Seen.{tree_of}
 use Rattle.nv_calls.specs.Effects.{Logs, Makes}
@@ -65,31 +65,24 @@ by_paths (Ok a) old new asked made u bad worse allowed changed = by (text_says o
 
 -- ---- why it is refused
 
--- by its tests, for which is this
-abbrev pub IsWhy : (Refusal → Type 0) → Refusal → Type 0
-IsWhy Tested e = (e ≡ Memory) ⊎ ((e ≡ Stopped) ⊎ Tested e)
+-- by the first of these tests that applies
+pub refused_so : {A : Type 0} (answer : Result A Refusal) (tests : Tests) (Asked : Tests → Type 0) → Asked tests → IfErr answer (IsRefusedBy (first_refusal tests))
+    → IfErr answer (λ e. (tests : Tests) × Asked tests × IsRefusedBy (first_refusal tests) e)
+refused_so (Ok a) tests Asked asked why = tt
+refused_so (Err e) tests Asked asked why = (tests, asked, why)
 
-why_by : (First Then : Refusal → Type 0) → ((e : Refusal) → First e → Then e) → (e : Refusal) → IsWhy First e → IsWhy Then e
-why_by First Then f e (inl memory) = inl memory
-why_by First Then f e (inr (inl stop)) = inr (inl stop)
-why_by First Then f e (inr (inr tested)) = inr (inr (f e tested))
-
-pub refused_by : {A : Type 0} (answer : Result A Refusal) (First Then : Refusal → Type 0) → ((e : Refusal) → First e → Then e) → IfErr answer (IsWhy First) → IfErr answer (IsWhy Then)
-refused_by (Ok a) First Then f why = tt
-refused_by (Err e) First Then f why = why_by First Then f e why
-
-pub refused_path : {A : Type 0} (answer : Result A Refusal) (text : List ℕ) (asked : Path → Tests) → ((p : Path) → Says text p → IfErr answer (IsWhy (λ e. first_refusal (asked p) ≡ Some e)))
-    → IfErr answer (IsWhy (λ e. (tests : Tests) × AskedBy text asked tests × (first_refusal tests ≡ Some e)))
+pub refused_path : {A : Type 0} (answer : Result A Refusal) (text : List ℕ) (asked : Path → Tests) → ((p : Path) → Says text p → IfErr answer (IsRefusedBy (first_refusal (asked p))))
+    → IfErr answer (λ e. (tests : Tests) × AskedBy text asked tests × IsRefusedBy (first_refusal tests) e)
 refused_path answer text asked why =
     let p = text_says text in
-    refused_by answer (λ e. first_refusal (asked p.0) ≡ Some e) (λ e. (tests : Tests) × AskedBy text asked tests × (first_refusal tests ≡ Some e)) (λ e first. (asked p.0, (p.0, p.1, refl), first)) (why p.0 p.1)
+    refused_so answer (asked p.0) (AskedBy text asked) (p.0, p.1, refl) (why p.0 p.1)
 
-pub refused_paths : {A : Type 0} (answer : Result A Refusal) (old new : List ℕ) (asked : Path → Path → Tests) → ((p q : Path) → Says old p → Says new q → IfErr answer (IsWhy (λ e. first_refusal (asked p q) ≡ Some e)))
-    → IfErr answer (IsWhy (λ e. (tests : Tests) × AskedByBoth old new asked tests × (first_refusal tests ≡ Some e)))
+pub refused_paths : {A : Type 0} (answer : Result A Refusal) (old new : List ℕ) (asked : Path → Path → Tests) → ((p q : Path) → Says old p → Says new q → IfErr answer (IsRefusedBy (first_refusal (asked p q))))
+    → IfErr answer (λ e. (tests : Tests) × AskedByBoth old new asked tests × IsRefusedBy (first_refusal tests) e)
 refused_paths answer old new asked why =
     let p = text_says old in
     let q = text_says new in
-    refused_by answer (λ e. first_refusal (asked p.0 q.0) ≡ Some e) (λ e. (tests : Tests) × AskedByBoth old new asked tests × (first_refusal tests ≡ Some e)) (λ e first. (asked p.0 q.0, (p.0, q.0, p.1, q.1, refl), first)) (why p.0 q.0 p.1 q.1)
+    refused_so answer (asked p.0 q.0) (AskedByBoth old new asked) (p.0, q.0, p.1, q.1, refl) (why p.0 q.0 p.1 q.1)
 
 -- ---- what a stop leaves
 

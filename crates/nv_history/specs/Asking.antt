@@ -1,9 +1,9 @@
 -- What each call is asked of a mounted file system before it is made.
-use Rattle.std.specs.Prelude.{◌≡◌, ℕ, ◌+◌, List, length, Some}
+use Rattle.std.specs.Prelude.{◌≡◌, ℕ, ◌+◌, List, length}
 use Rattle.nv_region.specs.Region.{Region}
 use Rattle.nv_tree.specs.declared.refusal.Refusal.{Refusal}
 use Rattle.nv_tree.specs.Path.{Says}
-use Rattle.nv_tree.specs.Refusals.{Path, Tests, first_refusal, clean_tests, create_tests, link_tests, rename_tests, rmdir_tests, set_attr_tests, set_size_tests, unlink_tests, write_tests}
+use Rattle.nv_tree.specs.Refusals.{Path, Tests, first_refusal, clean_tests, create_tests, link_tests, rename_tests, rmdir_tests, set_attr_tests, set_size_tests, unlink_tests, write_tests, IsRefusedBy}
 use Rattle.nv_paths.specs.Seen.{tree_of}
 use Rattle.nv_calls.specs.Mount.{Mount}
 use Rattle.nv_calls.specs.World.{world_of}
@@ -38,6 +38,6 @@ AreTestsOf R m (RemoveDirectory cpu path time) tests = AskedBy path.now (λ p. r
 AreTestsOf R m (Rename cpu old new time) tests = AskedByBoth old.now new.now (λ p q. rename_tests (world_of m) (tree_of R m.rows) cpu p q (rename_blocks m.rows (tree_of R m.rows) p q)) tests
 AreTestsOf R m (Clean path) tests = AskedBy path.now (λ p. clean_tests (world_of m) (tree_of R m.rows) p) tests
 
--- the refusal is that of the first of its tests that holds
+-- the refusal comes of a stop, is that of the first of its tests that holds, or is want of memory, where that comes last
 abbrev pub RefusesCall : {P : Type 0} → Region → Mount P → Call → Refusal → Type 0
-RefusesCall R m call refusal = (tests : Tests) × AreTestsOf R m call tests × (first_refusal tests ≡ Some refusal)
+RefusesCall R m call refusal = (tests : Tests) × AreTestsOf R m call tests × IsRefusedBy (first_refusal tests) refusal

@@ -1,8 +1,7 @@
 -- Where a run of calls was halted, and why.
-use Rattle.std.specs.Prelude.{◌≡◌, ◌⊎◌, List, slice_get, take, Some}
+use Rattle.std.specs.Prelude.{◌≡◌, List, slice_get, take, Some}
 use Rattle.nv_region.specs.Region.{Region}
 use Rattle.nv_super.specs.declared.superblock.Super.{Super}
-use Rattle.nv_tree.specs.declared.refusal.Refusal.TheVariants.{Memory}
 use Rattle.nv_tree.specs.Tree.{Tree}
 use Rattle.nv_paths.specs.Seen.{tree_of}
 use Rattle.nv_calls.specs.Mount.{Mount}
@@ -12,14 +11,14 @@ use Rattle.nv_history.specs.declared.runs.Halted.{Halted}
 use Rattle.nv_history.specs.Making.{AreMade}
 use Rattle.nv_history.specs.Asking.{RefusesCall}
 
--- the call behind those that were made is refused by the first of its tests that holds
+-- the call after those that were made is refused by its tests, or for want of memory where that comes last
 abbrev pub RefusesNext : {P : Type 0} → Region → Mount P → List Call → Halted → Type 0
 RefusesNext R m calls halted = (call : Call) × (slice_get calls halted.made ≡ Some call) × RefusesCall R m call halted.refusal
 
 -- The calls in front of the refused one have made the tree that was mounted when it was asked. It left the mount as it was, and
--- was refused by its tests or for want of memory.
+-- was refused so.
 pub record HaltsAt {P : Type 0} (s : Super) (t : Tree) (calls : List Call) (halted : Halted) (R : Region) (new : Mount P) : Type 0 where
   pub asked : Mount P
   pub made : AreMade s (take halted.made calls) t (tree_of R asked.rows)
   pub same : SameMount asked new
-  pub why : (halted.refusal ≡ Memory) ⊎ RefusesNext R asked calls halted
+  pub why : RefusesNext R asked calls halted

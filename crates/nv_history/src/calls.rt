@@ -1,6 +1,6 @@
 //! The calls that write, as values.
 
-ghost use Rattle.std.specs.Prelude.{◌≡◌, ◌⊎◌, ◌≤◌, IsTrue, IfErr, OnOk, Result, false};
+ghost use Rattle.std.specs.Prelude.{◌≡◌, ◌≤◌, IsTrue, IfErr, OnOk, Result, false};
 ghost use Rattle.nv_region.specs.Region.{size};
 ghost use Rattle.nv_region.specs.Stops.{LeavesOnly};
 ghost use Rattle.nv_region.specs.Fuses.{KeepsFuse};
@@ -92,7 +92,7 @@ pub enum Call<'a> {
 pub(crate) fn make_call<P: Pmem + Drop>(mount: &mut Fs<P>, call: &Call<'_>) -> Result<(), Refusal>
     ensures stopped_before { IsTrue mount.old.stopped → (result ≡ Result.Err RefusalValue.Stopped) × (mount.new ≡ mount.old) }
     ensures made { OnOk result (IsMadeBy mount.old.sup call.now (tree_of (P.region mount.old.memory) mount.old.rows) (tree_of (P.region mount.new.memory) mount.new.rows)) }
-    ensures refused { mount.old.stopped ≡ false → IfErr result (λ e. (e ≡ RefusalValue.Memory) ⊎ ((e ≡ RefusalValue.Stopped) ⊎ RefusesCall (P.region mount.old.memory) mount.old call.now e)) }
+    ensures refused { mount.old.stopped ≡ false → IfErr result (RefusesCall (P.region mount.old.memory) mount.old call.now) }
     ensures unchanged { IfErr result (λ e. (e ≡ RefusalValue.Stopped → ⊥) → SameMount mount.old mount.new) }
     ensures stopped { mount.old.stopped ≡ false → (IsTrue mount.new.stopped → (result ≡ Result.Err RefusalValue.Stopped) × IsTrue (P.fuse mount.new.memory).has_burnt) × (result ≡ Result.Err RefusalValue.Stopped → IsTrue mount.new.stopped) }
     ensures keeps { KeepsMount mount.old mount.new }

@@ -17,7 +17,7 @@ use Rattle.nv_entry.specs.declared.entry.Operation.TheVariants.{Add, Remove}
 use Rattle.nv_tree.specs.Path.{IsPath, Says, last_name}
 use Rattle.nv_tree.specs.Tree.{Node, SameTree, Tree, walk}
 use Rattle.nv_tree.specs.Calls.{linked, renamed}
-use Rattle.nv_tree.specs.Refusals.{Path, Tests, World, first_refusal, writing, create_tests, write_tests, set_size_tests, set_attr_tests, link_tests, unlink_tests, rmdir_tests, rename_tests}
+use Rattle.nv_tree.specs.Refusals.{Path, Tests, World, first_refusal, writing, create_tests, write_tests, set_size_tests, set_attr_tests, link_tests, unlink_tests, rmdir_tests, rename_tests, IsRefusedBy}
 use Rattle.nv_tree.specs.declared.refusal.Refusal.{Refusal}
 use Rattle.nv_tree.specs.declared.refusal.Refusal.TheVariants.{BadCpu, ReadOnly, Memory, Stopped}
 use Rattle.nv_steps.specs.Attributes.{attributes}
@@ -66,7 +66,7 @@ abbrev pub Allows : {A : Type 0} → Result A Refusal → Tests → Type 0
 Allows answer tests = OnOk answer (first_refusal tests ≡ None)
 
 abbrev pub Refuses : {A : Type 0} → Result A Refusal → Tests → Type 0
-Refuses answer tests = IfErr answer (λ e. (e ≡ Memory) ⊎ ((e ≡ Stopped) ⊎ (first_refusal tests ≡ Some e)))
+Refuses answer tests = IfErr answer (IsRefusedBy (first_refusal tests))
 
 module _ (m : Mount RegionState) (answer : Result (Unit {0}) Refusal) (cpu : ℕ) where
   abbrev tests_of_create : Path → Tests
@@ -183,54 +183,54 @@ module _ (m : Mount RegionState) (answer : Result (Unit {0}) Refusal) (cpu : ℕ
 
 module _ (S T : Region) (m : Mount ⊤) (names : List (List ℕ)) where
   pub inode_logged : (kind : Kind) (cpu mode time : ℕ) (answer : Result (Unit {0}) Refusal)
-      → ((d j : ℕ) (held : Store) (h : Held) → walk (tree_of S m.rows) 1 names ≡ Ok d → unused_number m.sup m.rows cpu ≡ Some j → ShowsSound S m.sup held → held d ≡ Some h → OnOk answer (ShowsCreated T m.sup held kind mode time j d h (last_name names)))
+      → ((d j : ℕ) (held : Store) (h : Held) → walk (tree_of S m.rows) 1 names ≡ Ok d → unused_number m.sup m.rows cpu ≡ Some j → ShowsSound S m.sup held → held d ≡ Some h → OnOk answer (ShowsCreated T m.sup m.free.pools cpu held kind mode time j d h (last_name names)))
       → OnOk answer (logs_inode kind cpu mode time S m names T)
   inode_logged kind cpu mode time (Ok done) log = log
   inode_logged kind cpu mode time (Err e) log = tt
 
-  pub size_logged : (bytes time : ℕ) (answer : Result (Unit {0}) Refusal)
-      → ((i : ℕ) (node : Node) (held : Store) (h : Held) → LeadsTo (tree_of S m.rows) names i node → ShowsSound S m.sup held → held i ≡ Some h → OnOk answer (ShowsResizedLog T m.sup held i h node bytes time))
-      → OnOk answer (logs_size bytes time S m names T)
-  size_logged bytes time (Ok done) log = log
-  size_logged bytes time (Err e) log = tt
+  pub size_logged : (cpu bytes time : ℕ) (answer : Result (Unit {0}) Refusal)
+      → ((i : ℕ) (node : Node) (held : Store) (h : Held) → LeadsTo (tree_of S m.rows) names i node → ShowsSound S m.sup held → held i ≡ Some h → OnOk answer (ShowsResizedLog T m.sup m.free.pools cpu held i h node bytes time))
+      → OnOk answer (logs_size cpu bytes time S m names T)
+  size_logged cpu bytes time (Ok done) log = log
+  size_logged cpu bytes time (Err e) log = tt
 
-  pub attributes_logged : (mode owner group time : ℕ) (answer : Result (Unit {0}) Refusal)
-      → ((i : ℕ) (node : Node) (held : Store) (h : Held) → LeadsTo (tree_of S m.rows) names i node → ShowsSound S m.sup held → held i ≡ Some h → OnOk answer (ShowsGrownLog T m.sup held i h (attributes node.size mode owner group time)))
-      → OnOk answer (logs_attributes mode owner group time S m names T)
-  attributes_logged mode owner group time (Ok done) log = log
-  attributes_logged mode owner group time (Err e) log = tt
+  pub attributes_logged : (cpu mode owner group time : ℕ) (answer : Result (Unit {0}) Refusal)
+      → ((i : ℕ) (node : Node) (held : Store) (h : Held) → LeadsTo (tree_of S m.rows) names i node → ShowsSound S m.sup held → held i ≡ Some h → OnOk answer (ShowsGrownLog T m.sup m.free.pools cpu held i h (attributes node.size mode owner group time)))
+      → OnOk answer (logs_attributes cpu mode owner group time S m names T)
+  attributes_logged cpu mode owner group time (Ok done) log = log
+  attributes_logged cpu mode owner group time (Err e) log = tt
 
-  linked_logged : (time : ℕ) (others : List (List ℕ)) (answer : Result (Unit {0}) Refusal)
+  linked_logged : (cpu time : ℕ) (others : List (List ℕ)) (answer : Result (Unit {0}) Refusal)
       → ((i d : ℕ) (node : Node) (held : Store) (f h : Held) → LeadsTo (tree_of S m.rows) names i node → walk (tree_of S m.rows) 1 others ≡ Ok d → ShowsSound S m.sup held → held i ≡ Some f → held d ≡ Some h
-      → OnOk answer (ShowsBothGrew T m.sup held i f (links_entries (node.links + 1) time) d h (name_entries Add i (last_name others) time)))
-      → OnOk answer (logs_link time (Some others) S m names T)
-  linked_logged time others (Ok done) log = log
-  linked_logged time others (Err e) log = tt
+      → OnOk answer (ShowsBothGrew T m.sup m.free.pools cpu held i f (links_entries (node.links + 1) time) d h (name_entries Add i (last_name others) time)))
+      → OnOk answer (logs_link cpu time (Some others) S m names T)
+  linked_logged cpu time others (Ok done) log = log
+  linked_logged cpu time others (Err e) log = tt
 
-  pub unlink_logged : (time : ℕ) (answer : Result (Unit {0}) Refusal)
+  pub unlink_logged : (cpu time : ℕ) (answer : Result (Unit {0}) Refusal)
       → ((i d : ℕ) (node : Node) (held : Store) (h f : Held) → LeadsTo (tree_of S m.rows) names i node → walk (tree_of S m.rows) 1 names ≡ Ok d → ShowsSound S m.sup held → held d ≡ Some h → held i ≡ Some f → 1 < node.links
-      → OnOk answer (ShowsBothGrew T m.sup held d h (name_entries Remove i (last_name names) time) i f (links_entries (node.links - 1) time)))
+      → OnOk answer (ShowsBothGrew T m.sup m.free.pools cpu held d h (name_entries Remove i (last_name names) time) i f (links_entries (node.links - 1) time)))
       → ((i d : ℕ) (node : Node) (held : Store) (h : Held) → LeadsTo (tree_of S m.rows) names i node → walk (tree_of S m.rows) 1 names ≡ Ok d → ShowsSound S m.sup held → held d ≡ Some h → node.links ≤ 1
-      → OnOk answer (ShowsRemoved T m.sup held d h (name_entries Remove i (last_name names) time) i))
-      → OnOk answer (LogsUnlink time S m names T)
-  unlink_logged time (Ok done) more last = record { more = more; last = last }
-  unlink_logged time (Err e) more last = tt
+      → OnOk answer (ShowsRemoved T m.sup m.free.pools cpu held d h (name_entries Remove i (last_name names) time) i))
+      → OnOk answer (LogsUnlink cpu time S m names T)
+  unlink_logged cpu time (Ok done) more last = record { more = more; last = last }
+  unlink_logged cpu time (Err e) more last = tt
 
-  pub removal_logged : (time : ℕ) (answer : Result (Unit {0}) Refusal)
+  pub removal_logged : (cpu time : ℕ) (answer : Result (Unit {0}) Refusal)
       → ((i d : ℕ) (node : Node) (held : Store) (h : Held) → LeadsTo (tree_of S m.rows) names i node → walk (tree_of S m.rows) 1 names ≡ Ok d → ShowsSound S m.sup held → held d ≡ Some h
-      → OnOk answer (ShowsRemoved T m.sup held d h (name_entries Remove i (last_name names) time) i))
-      → OnOk answer (logs_removal time S m names T)
-  removal_logged time (Ok done) log = log
-  removal_logged time (Err e) log = tt
+      → OnOk answer (ShowsRemoved T m.sup m.free.pools cpu held d h (name_entries Remove i (last_name names) time) i))
+      → OnOk answer (logs_removal cpu time S m names T)
+  removal_logged cpu time (Ok done) log = log
+  removal_logged cpu time (Err e) log = tt
 
-  moved_logged : (time : ℕ) (others : List (List ℕ)) (answer : Result (Unit {0}) Refusal)
+  moved_logged : (cpu time : ℕ) (others : List (List ℕ)) (answer : Result (Unit {0}) Refusal)
       → ((i d e : ℕ) (node : Node) (held : Store) (h k : Held) → LeadsTo (tree_of S m.rows) names i node → walk (tree_of S m.rows) 1 names ≡ Ok d → walk (tree_of S m.rows) 1 others ≡ Ok e → d ≢ e → ShowsSound S m.sup held → held d ≡ Some h → held e ≡ Some k
-      → OnOk answer (ShowsBothGrew T m.sup held d h (name_entries Remove i (last_name names) time) e k (name_entries Add i (last_name others) time)))
+      → OnOk answer (ShowsBothGrew T m.sup m.free.pools cpu held d h (name_entries Remove i (last_name names) time) e k (name_entries Add i (last_name others) time)))
       → ((i d : ℕ) (node : Node) (held : Store) (h : Held) → LeadsTo (tree_of S m.rows) names i node → walk (tree_of S m.rows) 1 names ≡ Ok d → walk (tree_of S m.rows) 1 others ≡ Ok d → ShowsSound S m.sup held → held d ≡ Some h
-      → OnOk answer (ShowsGrownLog T m.sup held d h (move_entries i (last_name names) (last_name others) time)))
-      → OnOk answer (logs_rename time (Some others) S m names T)
-  moved_logged time others (Ok done) across within = record { across = across; within = within }
-  moved_logged time others (Err e) across within = tt
+      → OnOk answer (ShowsGrownLog T m.sup m.free.pools cpu held d h (move_entries i (last_name names) (last_name others) time)))
+      → OnOk answer (logs_rename cpu time (Some others) S m names T)
+  moved_logged cpu time others (Ok done) across within = record { across = across; within = within }
+  moved_logged cpu time others (Err e) across within = tt
 
 -- the same of the mount without its memory
 write_seen : (T : Region) (m : Mount RegionState) (cpu : ℕ) (held : Store) (i : ℕ) (h : Held) (plan : Plan) → ShowsLogWrite T m cpu held i h plan → ShowsLogWrite T (seen m) cpu held i h plan
@@ -265,10 +265,10 @@ module _ (m n : Mount RegionState) (answer : Result (Unit {0}) Refusal) (cpu tim
 
   pub link_logged : Allows answer (linking q)
       → ((others : List (List ℕ)) (i d : ℕ) (node : Node) (held : Store) (f h : Held) → IsPath other others → LeadsTo (tree_of m.memory.region m.rows) names i node → walk (tree_of m.memory.region m.rows) 1 others ≡ Ok d → ShowsSound m.memory.region m.sup held → held i ≡ Some f → held d ≡ Some h
-      → OnOk answer (ShowsBothGrew n.memory.region m.sup held i f (links_entries (node.links + 1) time) d h (name_entries Add i (last_name others) time)))
-      → OnOk answer (logs_link time q m.memory.region (seen m) names n.memory.region)
-  link_logged allowed log = by_other answer other linking (λ q. logs_link time q m.memory.region (seen m) names n.memory.region) (no_other (world_of m) cpu _ _ _ (linking None) refl)
-      (λ others is. linked_logged m.memory.region n.memory.region (seen m) names time others answer (λ i d node held f h. log others i d node held f h is)) q says allowed
+      → OnOk answer (ShowsBothGrew n.memory.region m.sup m.free.pools cpu held i f (links_entries (node.links + 1) time) d h (name_entries Add i (last_name others) time)))
+      → OnOk answer (logs_link cpu time q m.memory.region (seen m) names n.memory.region)
+  link_logged allowed log = by_other answer other linking (λ q. logs_link cpu time q m.memory.region (seen m) names n.memory.region) (no_other (world_of m) cpu _ _ _ (linking None) refl)
+      (λ others is. linked_logged m.memory.region n.memory.region (seen m) names cpu time others answer (λ i d node held f h. log others i d node held f h is)) q says allowed
 
   abbrev renaming : Path → Tests
   renaming q = tests_of_rename m answer cpu (Some names) q
@@ -279,12 +279,12 @@ module _ (m n : Mount RegionState) (answer : Result (Unit {0}) Refusal) (cpu tim
 
   pub rename_logged : Allows answer (renaming q)
       → ((others : List (List ℕ)) (i d e : ℕ) (node : Node) (held : Store) (h k : Held) → IsPath other others → LeadsTo (tree_of m.memory.region m.rows) names i node → walk (tree_of m.memory.region m.rows) 1 names ≡ Ok d → walk (tree_of m.memory.region m.rows) 1 others ≡ Ok e → d ≢ e → ShowsSound m.memory.region m.sup held → held d ≡ Some h → held e ≡ Some k
-      → OnOk answer (ShowsBothGrew n.memory.region m.sup held d h (name_entries Remove i (last_name names) time) e k (name_entries Add i (last_name others) time)))
+      → OnOk answer (ShowsBothGrew n.memory.region m.sup m.free.pools cpu held d h (name_entries Remove i (last_name names) time) e k (name_entries Add i (last_name others) time)))
       → ((others : List (List ℕ)) (i d : ℕ) (node : Node) (held : Store) (h : Held) → IsPath other others → LeadsTo (tree_of m.memory.region m.rows) names i node → walk (tree_of m.memory.region m.rows) 1 names ≡ Ok d → walk (tree_of m.memory.region m.rows) 1 others ≡ Ok d → ShowsSound m.memory.region m.sup held → held d ≡ Some h
-      → OnOk answer (ShowsGrownLog n.memory.region m.sup held d h (move_entries i (last_name names) (last_name others) time)))
-      → OnOk answer (logs_rename time q m.memory.region (seen m) names n.memory.region)
-  rename_logged allowed across within = by_other answer other renaming (λ q. logs_rename time q m.memory.region (seen m) names n.memory.region) (no_other (world_of m) cpu _ _ _ (renaming None) refl)
-      (λ others is. moved_logged m.memory.region n.memory.region (seen m) names time others answer (λ i d e node held h k. across others i d e node held h k is) (λ i d node held h. within others i d node held h is)) q says allowed
+      → OnOk answer (ShowsGrownLog n.memory.region m.sup m.free.pools cpu held d h (move_entries i (last_name names) (last_name others) time)))
+      → OnOk answer (logs_rename cpu time q m.memory.region (seen m) names n.memory.region)
+  rename_logged allowed across within = by_other answer other renaming (λ q. logs_rename cpu time q m.memory.region (seen m) names n.memory.region) (no_other (world_of m) cpu _ _ _ (renaming None) refl)
+      (λ others is. moved_logged m.memory.region n.memory.region (seen m) names cpu time others answer (λ i d e node held h k. across others i d e node held h k is) (λ i d node held h. within others i d node held h is)) q says allowed
 
 -- ---- what a stop may leave, by the mount without its memory
 
@@ -303,8 +303,8 @@ module _ (m : Mount RegionState) (time : ℕ) (names : List (List ℕ)) where
   write_stops cpu offset bytes = stop_seen R m.sup m.rows m.free.pools (makes_bytes offset bytes time R m names) (LogsBytes cpu offset (length bytes) time R m names) (LogsBytes cpu offset (length bytes) time R (seen m) names)
       (λ T logs. record { some = λ i node held h leads sound at pos. write_seen T m cpu held i h _ (logs.some i node held h leads sound at pos); none = logs.none })
 
-  pub unlink_stops : (left : Region) → LeavesCall (makes_unlink time) (LogsUnlink time) R m names left → LeavesCall (makes_unlink time) (LogsUnlink time) R (seen m) names left
-  unlink_stops = stop_seen R m.sup m.rows m.free.pools (makes_unlink time R m names) (LogsUnlink time R m names) (LogsUnlink time R (seen m) names) (λ T logs. record { more = logs.more; last = logs.last })
+  pub unlink_stops : (cpu : ℕ) (left : Region) → LeavesCall (makes_unlink time) (LogsUnlink cpu time) R m names left → LeavesCall (makes_unlink time) (LogsUnlink cpu time) R (seen m) names left
+  unlink_stops cpu = stop_seen R m.sup m.rows m.free.pools (makes_unlink time R m names) (LogsUnlink cpu time R m names) (LogsUnlink cpu time R (seen m) names) (λ T logs. record { more = logs.more; last = logs.last })
 
   module _ (other : List ℕ) (q : Path) (says : Says other q) (left : Region) where
     -- what holds of each second path holds of what the text says, which is one
@@ -314,12 +314,12 @@ module _ (m : Mount RegionState) (time : ℕ) (names : List (List ℕ)) where
       by None says = absurd (some says)
       by (Some others) says = each others says
 
-    pub link_stops : (((others : List (List ℕ)) → IsPath other others → ⊥) → ⊥) → ((others : List (List ℕ)) → IsPath other others → LeavesCall (makes_link time (Some others)) (logs_link time (Some others)) R m names left)
-        → LeavesCall (makes_link time q) (logs_link time q) R (seen m) names left
-    link_stops = by_path (λ p. LeavesCall (makes_link time p) (logs_link time p) R (seen m) names left)
+    pub link_stops : (cpu : ℕ) → (((others : List (List ℕ)) → IsPath other others → ⊥) → ⊥) → ((others : List (List ℕ)) → IsPath other others → LeavesCall (makes_link time (Some others)) (logs_link cpu time (Some others)) R m names left)
+        → LeavesCall (makes_link time q) (logs_link cpu time q) R (seen m) names left
+    link_stops cpu = by_path (λ p. LeavesCall (makes_link time p) (logs_link cpu time p) R (seen m) names left)
 
-    pub rename_stops : (((others : List (List ℕ)) → IsPath other others → ⊥) → ⊥) → ((others : List (List ℕ)) → IsPath other others → LeavesCall (makes_rename time (Some others)) (logs_rename time (Some others)) R m names left)
-        → LeavesCall (makes_rename time q) (logs_rename time q) R (seen m) names left
-    rename_stops some each = by_path (λ p. LeavesCall (makes_rename time p) (logs_rename time p) R (seen m) names left) some
-        (λ others is. stop_seen R m.sup m.rows m.free.pools (makes_rename time (Some others) R m names) (LogsMove time others R m names) (LogsMove time others R (seen m) names)
+    pub rename_stops : (cpu : ℕ) → (((others : List (List ℕ)) → IsPath other others → ⊥) → ⊥) → ((others : List (List ℕ)) → IsPath other others → LeavesCall (makes_rename time (Some others)) (logs_rename cpu time (Some others)) R m names left)
+        → LeavesCall (makes_rename time q) (logs_rename cpu time q) R (seen m) names left
+    rename_stops cpu some each = by_path (λ p. LeavesCall (makes_rename time p) (logs_rename cpu time p) R (seen m) names left) some
+        (λ others is. stop_seen R m.sup m.rows m.free.pools (makes_rename time (Some others) R m names) (LogsMove cpu time others R m names) (LogsMove cpu time others R (seen m) names)
         (λ T logs. record { across = logs.across; within = logs.within }) left (each others is))

@@ -17,7 +17,7 @@ use Rattle.nv_report.specs.nv_outcome.Outcome.{IsOutcome}
 use Rattle.nv_report.specs.nv_outcome.Same.{is_lasting, lasting_outcome}
 use Rattle.nv_tree.specs.Path.{IsPath, Says}
 use Rattle.nv_tree.specs.Tree.{SameTree}
-use Rattle.nv_tree.specs.Refusals.{Path, Tests, World, first_refusal, refusal_word, writing}
+use Rattle.nv_tree.specs.Refusals.{Path, Tests, World, first_refusal, refusal_word, writing, IsRefusedBy}
 use Rattle.nv_tree.specs.declared.refusal.Refusal.{Refusal}
 use Rattle.nv_tree.specs.declared.refusal.Refusal.TheVariants.{BadCpu, ReadOnly, Memory, Stopped}
 use Rattle.nv_tree.proofs.Texts.{text_says}
@@ -47,7 +47,7 @@ pub record Answers {A : Type 0} (asks : Asks) (m : Mount RegionState) (answer : 
   pub tests : Tests
   pub are : asks m.memory.region (seen m) p tests
   pub allowed : OnOk answer (first_refusal tests ≡ None)
-  pub refused : m.stopped ≡ false → IfErr answer (λ e. (e ≡ Memory) ⊎ ((e ≡ Stopped) ⊎ (first_refusal tests ≡ Some e)))
+  pub refused : m.stopped ≡ false → IfErr answer (IsRefusedBy (first_refusal tests))
   -- it writes only where that is allowed
   pub writes : first_refusal tests ≡ None → m.read_only ≡ false
   -- and only by a path
@@ -264,11 +264,11 @@ module _ {A : Type 0} (line : A → List ℕ) (asks : ℕ → Asks) (makes : ℕ
           let answers = called.answers w.0 w.1 in
           let same : SameMount m n = subst (λ r. IfErr r (λ e. (e ≡ Stopped → ⊥) → SameMount m n)) is called.unchanged running in (
             state,
-            inl (by_mount text state (λ R shows. inl (asked R shows w.0 w.1, (e, first answers.tests (subst (λ r. IfErr r (λ e. (e ≡ Memory) ⊎ ((e ≡ Stopped) ⊎ (first_refusal answers.tests ≡ Some e)))) is (answers.refused shows.runs)), said), refl))),
+            inl (by_mount text state (λ R shows. inl (asked R shows w.0 w.1, (e, first answers.tests (subst (λ r. IfErr r (IsRefusedBy (first_refusal answers.tests))) is (answers.refused shows.runs)), said), refl))),
             stands_with (stores.Mounted (with_fuse fuses.Off n)) state puts (here ∙ ap (λ (x : RegionState). Some x.region) (sym same.memory)) (still same state.mounted is_mounted) refl refl refl (called.settled (same.stopped ∙ runs_before)),
           ) where
-            first : (tests : Tests) → (e ≡ Memory) ⊎ ((e ≡ Stopped) ⊎ (first_refusal tests ≡ Some e)) → first_refusal tests ≡ Some e
-            first tests (inl memory) = absurd (fits memory)
+            first : (tests : Tests) → IsRefusedBy (first_refusal tests) e → first_refusal tests ≡ Some e
+            first tests (inl want) = absurd (fits want.0)
             first tests (inr (inl stopped)) = absurd (running stopped)
             first tests (inr (inr refused)) = refused
 

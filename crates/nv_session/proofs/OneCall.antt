@@ -9,6 +9,7 @@ use Rattle.nv_region.specs.Region.{Region}
 use Rattle.nv_super.specs.declared.superblock.Super.{Super}
 use Rattle.nv_super.specs.declared.owners.Run.{Run}
 use Rattle.nv_alloc.specs.Taking.{all_blocks}
+use Rattle.nv_alloc.proofs.Singly.{takes_once}
 use Rattle.nv_entry.specs.declared.entry.Operation.TheVariants.{Add}
 use Rattle.nv_entry.specs.declared.entry.Entry.{Entry}
 use Rattle.nv_radix.specs.Pages.{block_at}
@@ -40,7 +41,7 @@ use Rattle.nv_calls.specs.nv_rows.Unused.{numbers_in_table, unused_number}
 use Rattle.nv_calls.specs.World.{world_of}
 use Rattle.nv_calls.specs.WriteCall.{WriteNeeds}
 use Rattle.nv_steps.specs.Writes.{NeedsBlocks, data_blocks, data_entries, plan_of}
-use Rattle.nv_steps.proofs.Takes.{takes_less, takes_once}
+use Rattle.nv_steps.proofs.Takes.{takes_less}
 use Rattle.nv_logpage.specs.Append.{needed}
 use Rattle.nv_calls.specs.Effects.{Makes, Logs}
 use Rattle.nv_session.specs.Calls.{Asks, Asked, asks_create, asks_write, asks_size, asks_attributes, asks_link, asks_unlink, asks_remove, asks_rename, asks_clean, seen_in}
@@ -301,7 +302,7 @@ needs_one pools cpu tail mapped size offset bytes time a b inside (inl p) (inl q
 needs_one pools cpu tail mapped size offset bytes time a b inside (inl p) (inr q) = absurd (let less = takes_less pools cpu _ q.0 q.1 inside q.2 in let few = p.0 in omega (arith, less, few))
 needs_one pools cpu tail mapped size offset bytes time a b inside (inr p) (inl q) = absurd (let less = takes_less pools cpu _ p.0 p.1 inside p.2 in let few = q.0 in omega (arith, less, few))
 needs_one pools cpu tail mapped size offset bytes time a b inside (inr p) (inr q) =
-    let runs : p.0 ≡ q.0 = takes_once pools cpu _ p.0 q.0 p.1 q.1 p.2 q.2 in
+    let runs : p.0 ≡ q.0 = (takes_once pools cpu _ p.0 q.0 p.1 q.1 p.2 q.2).0 in
     p.3 ∙ ap (λ (r : List Run). data_blocks (plan_of mapped size offset bytes time) + needed (tail % 4096) (data_entries (plan_of mapped size offset bytes time) r)) runs ∙ sym q.3
 
 in_use_there : (t : Tree) (o : Option ℕ) (i : ℕ) → in_use t o ≡ Some i → is_some (t i) ≡ true

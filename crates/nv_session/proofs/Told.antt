@@ -2,7 +2,7 @@
 use Rattle.std.proofs.Common.{◌≡◌, ◌≢◌, ◌⊎◌, inl, inr, ℕ, List, Some, None, Bool, true, is_some, refl}
 use Rattle.nv_tree.specs.Path.{IsPath, Says}
 use Rattle.nv_tree.specs.Tree.{Tree}
-use Rattle.nv_tree.specs.Refusals.{Path, Tests, first_refusal, refusal_word, list_tests, stat_tests, read_tests}
+use Rattle.nv_tree.specs.Refusals.{Path, Tests, first_refusal, refusal_word, list_tests, stat_tests, read_tests, IsReadRefusedBy}
 use Rattle.nv_tree.specs.declared.refusal.Refusal.{Refusal}
 use Rattle.nv_tree.specs.declared.refusal.Refusal.TheVariants.{BadName, Memory}
 use Rattle.nv_text.specs.Answers.{refused_line}
@@ -15,13 +15,13 @@ use Rattle.nv_calls.specs.declared.stating.Stat.{Stat}
 use Rattle.nv_session.specs.Machine.{attributes_of, list_lines, TellsRefusal, TellsNames, TellsStat, TellsBytes}
 
 -- a refusal that isn't want of memory
-pub refusal_told : (tests : Tests) (e : Refusal) (text : List ℕ) → e ≢ Memory → (e ≡ Memory) ⊎ (first_refusal tests ≡ Some e) → text ≡ refused_line (refusal_word e) → TellsRefusal tests text
-refusal_told tests e text other (inl want) said = absurd (other want)
+pub refusal_told : (tests : Tests) (e : Refusal) (text : List ℕ) → e ≢ Memory → IsReadRefusedBy (first_refusal tests) e → text ≡ refused_line (refusal_word e) → TellsRefusal tests text
+refusal_told tests e text other (inl want) said = absurd (other want.0)
 refusal_told tests e text other (inr first) said = (e, first, said)
 
 -- and says that it is one
-pub refusal_is_some : (tests : Tests) (e : Refusal) (is_refused : Bool) → e ≢ Memory → (e ≡ Memory) ⊎ (first_refusal tests ≡ Some e) → is_refused ≡ true → is_refused ≡ is_some (first_refusal tests)
-refusal_is_some tests e is_refused other (inl want) told = absurd (other want)
+pub refusal_is_some : (tests : Tests) (e : Refusal) (is_refused : Bool) → e ≢ Memory → IsReadRefusedBy (first_refusal tests) e → is_refused ≡ true → is_refused ≡ is_some (first_refusal tests)
+refusal_is_some tests e is_refused other (inl want) told = absurd (other want.0)
 refusal_is_some tests e is_refused other (inr first) told = rw (told, first) refl
 
 module _ (t : Tree) (path : List ℕ) (text : List ℕ) where

@@ -1,5 +1,5 @@
 -- What refuses a write, before its bytes are there.
-use Rattle.std.proofs.Common.{◌≡◌, ◌⊎◌, inl, inr, ℕ, ◌+◌, ◌-◌, ◌/◌, ◌<◌, ◌≤◌, min, Bool, true, false, not, cond, nat_lt, is_none, is_some, List, [], ◌∷◌, ◌++◌, append_assoc, Option, Some, None, refl, sym, ap, ◌∙◌, arith}
+use Rattle.std.proofs.Common.{◌≡◌, ◌⊎◌, inl, inr, ℕ, ◌+◌, ◌-◌, ◌/◌, ◌<◌, ◌≤◌, min, Bool, true, false, not, cond, nat_lt, is_none, is_some, List, [], ◌∷◌, ◌++◌, append_assoc, Option, Some, None, refl, sym, ap, subst, ◌∙◌, arith}
 use Rattle.std.specs.Option.{option_and_then, option_map}
 use Rattle.nv_region.specs.Region.{Region}
 use Rattle.nv_region.specs.RegionState.{RegionState}
@@ -9,16 +9,16 @@ use Rattle.nv_radix.specs.Pages.{block_at}
 use Rattle.nv_report.specs.nv_scan.declared.piece.Row.{Row}
 use Rattle.nv_calls.specs.nv_named.Read.{row_of}
 use Rattle.nv_tree.specs.Tree.{Tree}
-use Rattle.nv_tree.specs.Refusals.{Path, Tests, World, first_refusal, has_no_space, is_bad, is_dir, is_missing, is_too_large, stat_tests, target, walk_tests, write_tests, writing}
+use Rattle.nv_tree.specs.Refusals.{IsRefusedBy, MayWantMemory, Path, Tests, World, first_refusal, has_no_space, is_bad, is_dir, is_missing, is_too_large, stat_tests, target, walk_tests, write_tests, writing}
 use Rattle.nv_tree.specs.declared.refusal.Refusal.{Refusal}
-use Rattle.nv_tree.specs.declared.refusal.Refusal.TheVariants.{BadCpu, Memory, NoSpace, ReadOnly, Stopped}
+use Rattle.nv_tree.specs.declared.refusal.Refusal.TheVariants.{BadCpu, NoSpace, ReadOnly}
 use Rattle.nv_calls.specs.Mount.{Mount}
 use Rattle.nv_calls.specs.World.{world_of}
 use Rattle.nv_paths.specs.Seen.{node_of, tree_of}
 use Rattle.nv_calls.specs.WriteCall.{WriteNeeds}
 use Rattle.nv_steps.specs.Writes.{NeedsBlocks, data_blocks, plan_of}
 use Rattle.nv_calls.proofs.SetSize.{front_tests}
-use Rattle.nv_calls.proofs.Tests.{enough_space, stat_first, too_few}
+use Rattle.nv_calls.proofs.Tests.{enough_space, space_last, stat_first, too_few}
 use Rattle.nv_paths.proofs.Refusing.{passed_before, refused_before}
 use Rattle.nv_calls.proofs.WriteReply.{large_same}
 use Rattle.nv_session.proofs.OneCall.{first_passes, later_passes, target_there}
@@ -68,6 +68,11 @@ module _ (w : World) (t : Tree) (cpu : ℕ) (p : Path) where
     pub no_space : (blocks : ℕ) → first_refusal (write_tests w t cpu p (far + 0) 0) ≡ None → w.free < blocks → first_refusal (write_tests w t cpu p (offset + count) blocks) ≡ Some NoSpace
     no_space blocks none few = ap first_refusal (whole (offset + count) blocks) ∙ passed_before (before (offset + count)) (has_no_space w blocks ∷ []) (before_passes none) ∙ too_few w blocks few
 
+    -- What leaves the last word to memory there does so here.
+    pub last_too : (blocks : ℕ) → MayWantMemory (first_refusal (write_tests w t cpu p (far + 0) 0)) → MayWantMemory (first_refusal (write_tests w t cpu p (offset + count) blocks))
+    last_too blocks (inl none) = subst MayWantMemory (sym (ap first_refusal (whole (offset + count) blocks) ∙ passed_before (before (offset + count)) (has_no_space w blocks ∷ []) (before_passes none))) (space_last w blocks)
+    last_too blocks (inr full) = inr (refused_too NoSpace blocks full)
+
 -- ---- how many blocks they need at least
 
 pages_hold : (offset count : ℕ) → 0 < count → count / 4096 ≤ (offset + count - 1) / 4096 + 1 - offset / 4096
@@ -115,8 +120,7 @@ full S m cpu p offset count far time blocks is none few needs =
 
 -- What refuses no bytes where these would end refuses these.
 pub told_too : (S : Region) (m : Mount RegionState) (cpu : ℕ) (p : Path) (offset count far blocks : ℕ) (e : Refusal) → far ≡ min (offset + count) 18446744073709551615
-    → (e ≡ Memory) ⊎ ((e ≡ Stopped) ⊎ (first_refusal (write_tests (world_of m) (tree_of S m.rows) cpu p (far + 0) 0) ≡ Some e))
-    → (e ≡ Memory) ⊎ ((e ≡ Stopped) ⊎ (first_refusal (write_tests (world_of m) (tree_of S m.rows) cpu p (offset + count) blocks) ≡ Some e))
-told_too S m cpu p offset count far blocks e is (inl memory) = inl memory
+    → IsRefusedBy (first_refusal (write_tests (world_of m) (tree_of S m.rows) cpu p (far + 0) 0)) e → IsRefusedBy (first_refusal (write_tests (world_of m) (tree_of S m.rows) cpu p (offset + count) blocks)) e
+told_too S m cpu p offset count far blocks e is (inl memory) = inl (memory.0, last_too (world_of m) (tree_of S m.rows) cpu p offset count far is blocks memory.1)
 told_too S m cpu p offset count far blocks e is (inr (inl stopped)) = inr (inl stopped)
 told_too S m cpu p offset count far blocks e is (inr (inr first)) = inr (inr (refused_too (world_of m) (tree_of S m.rows) cpu p offset count far is e blocks first))

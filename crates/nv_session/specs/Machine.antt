@@ -300,27 +300,27 @@ Writes armed cpu path offset count byte old text new = Calls armed (asks_write c
 
 -- `size` cuts a file, or lengthens it
 abbrev pub SetsSize : Bool → ℕ → List ℕ → ℕ → State → List ℕ → State → Type 0
-SetsSize armed cpu path bytes old text new = Calls armed (asks_size cpu bytes) (makes_size bytes old.time) (logs_size bytes old.time) path old text new
+SetsSize armed cpu path bytes old text new = Calls armed (asks_size cpu bytes) (makes_size bytes old.time) (logs_size cpu bytes old.time) path old text new
 
 -- `attr` sets mode, owner and group
 abbrev pub SetsAttributes : Bool → ℕ → List ℕ → ℕ → ℕ → ℕ → State → List ℕ → State → Type 0
-SetsAttributes armed cpu path mode owner group old text new = Calls armed (asks_attributes cpu) (makes_attributes mode owner group old.time) (logs_attributes mode owner group old.time) path old text new
+SetsAttributes armed cpu path mode owner group old text new = Calls armed (asks_attributes cpu) (makes_attributes mode owner group old.time) (logs_attributes cpu mode owner group old.time) path old text new
 
 -- `link` gives a file one more name
 abbrev pub Links : Bool → ℕ → List ℕ → List ℕ → State → List ℕ → State → Type 0
-Links armed cpu path other old text new = CallsByTwo armed (asks_link cpu) (makes_link old.time) (logs_link old.time) path other old text new
+Links armed cpu path other old text new = CallsByTwo armed (asks_link cpu) (makes_link old.time) (logs_link cpu old.time) path other old text new
 
 -- `unlink` takes a name of a file away, and the file with its last one
 abbrev pub Unlinks : Bool → ℕ → List ℕ → State → List ℕ → State → Type 0
-Unlinks armed cpu path old text new = Calls armed (asks_unlink cpu) (makes_unlink old.time) (LogsUnlink old.time) path old text new
+Unlinks armed cpu path old text new = Calls armed (asks_unlink cpu) (makes_unlink old.time) (LogsUnlink cpu old.time) path old text new
 
 -- `rmdir` takes a directory without names away
 abbrev pub RemovesDirectory : Bool → ℕ → List ℕ → State → List ℕ → State → Type 0
-RemovesDirectory armed cpu path old text new = Calls armed (asks_remove cpu) (makes_removal old.time) (logs_removal old.time) path old text new
+RemovesDirectory armed cpu path old text new = Calls armed (asks_remove cpu) (makes_removal old.time) (logs_removal cpu old.time) path old text new
 
 -- `rename` gives an inode another name in place of one
 abbrev pub Renames : Bool → ℕ → List ℕ → List ℕ → State → List ℕ → State → Type 0
-Renames armed cpu path other old text new = CallsByTwo armed (asks_rename cpu) (makes_rename old.time) (logs_rename old.time) path other old text new
+Renames armed cpu path other old text new = CallsByTwo armed (asks_rename cpu) (makes_rename old.time) (logs_rename cpu old.time) path other old text new
 
 -- `clean` takes the first page out of an inode's log that the log can do without, and tells which, or that it needs each
 abbrev pub Cleans : Bool → List ℕ → State → List ℕ → State → Type 0

@@ -1,11 +1,11 @@
 //! The commands that are file calls which write. Each takes the mount out of the session, with the fuse that was set, makes its
 //! call, and puts back the mount, or what a stop has left.
 
-ghost use Rattle.std.specs.Prelude.{◌≡◌, ◌⊎◌, ◌+◌, ℕ, List, false, IsTrue, IfOk, IfErr, OnOk, Some, Err};
+ghost use Rattle.std.specs.Prelude.{◌≡◌, ◌+◌, ℕ, List, false, IsTrue, IfOk, IfErr, OnOk, Err};
 ghost use Rattle.nv_region.specs.Region.{size};
 ghost use Rattle.nv_region.specs.RegionState.{is_steady};
 ghost use Rattle.nv_tree.specs.Path.{IsPath, Says};
-ghost use Rattle.nv_tree.specs.Refusals.{Path, first_refusal, write_tests};
+ghost use Rattle.nv_tree.specs.Refusals.{IsRefusedBy, Path, first_refusal, write_tests};
 ghost use Rattle.nv_tree.specs.declared.refusal.Refusal.TheVariants as refusals;
 ghost use Rattle.nv_calls.specs.Mount.{IsKept};
 ghost use Rattle.nv_calls.specs.Same.{KeepsMount, SameMount};
@@ -306,7 +306,7 @@ fn test_write(
 ) -> Result<(), CallRefusal>
     ensures passed { OnOk result (mount.new ≡ mount.old) }
     ensures refused { mount.old.stopped ≡ false → (p : Path) (blocks : ℕ) → Says path.now p → WriteNeeds mount.old.memory.region mount.old cpu p offset count time blocks
-        → IfErr result (λ e. (e ≡ refusals.Memory) ⊎ ((e ≡ refusals.Stopped) ⊎ (first_refusal (write_tests (world_of mount.old) (tree_of mount.old.memory.region mount.old.rows) cpu p (offset + count) blocks) ≡ Some e))) }
+        → IfErr result (IsRefusedBy (first_refusal (write_tests (world_of mount.old) (tree_of mount.old.memory.region mount.old.rows) cpu p (offset + count) blocks))) }
     ensures unchanged { IfErr result (λ e. (e ≡ refusals.Stopped → ⊥) → SameMount mount.old mount.new) }
     ensures stopped { mount.old.stopped ≡ false → (IsTrue mount.new.stopped → (result ≡ Err refusals.Stopped) × IsTrue mount.new.memory.burnt) × (result ≡ Err refusals.Stopped → IsTrue mount.new.stopped) }
     ensures keeps { KeepsMount mount.old mount.new }

@@ -1,10 +1,10 @@
 -- What each call is asked, makes and leaves, by its texts.
-use Rattle.std.proofs.Common.{◌≡◌, ◌+◌, ℕ, length, IfErr, OnOk, Option, Some, Ok, Err, refl, sym, subst}
+use Rattle.std.proofs.Common.{◌+◌, ℕ, length, IfErr, OnOk, Option, Some, Ok, Err, refl, sym, subst}
 use Rattle.nv_region.specs.Stops.{LeavesOnly}
 use Rattle.nv_super.specs.declared.kind.Kind.TheVariants.{File, Directory}
 use Rattle.nv_tree.specs.Tree.{SameTree}
 use Rattle.nv_tree.specs.Calls.{attributed, created, linked, removed, renamed, resized, unlinked, written}
-use Rattle.nv_tree.specs.Refusals.{Tests, clean_tests, create_tests, first_refusal, link_tests, rename_tests, rmdir_tests, set_attr_tests, set_size_tests, unlink_tests, write_tests}
+use Rattle.nv_tree.specs.Refusals.{clean_tests, create_tests, link_tests, rename_tests, rmdir_tests, set_attr_tests, set_size_tests, unlink_tests, write_tests}
 use Rattle.nv_tree.proofs.Texts.{text_says}
 use Rattle.nv_paths.specs.Seen.{tree_of}
 use Rattle.nv_calls.specs.AttributesCall.{attributes_blocks}
@@ -22,7 +22,7 @@ use Rattle.nv_history.specs.Making.{ByPath, ByPaths, IsMadeBy, lowest_unused}
 use Rattle.nv_history.specs.Asking.{AreTestsOf, RefusesCall}
 use Rattle.nv_history.specs.Stopping.{BeforeOrMade}
 use Rattle.nv_history.proofs.MadeTrees.{lowest_is}
-use Rattle.nv_history.proofs.OneCall.{IsWhy, by_path, by_paths, left_by_path, left_by_paths, refused_by, refused_path, refused_paths, refuses_bad, refuses_clean, refuses_second}
+use Rattle.nv_history.proofs.OneCall.{by_path, by_paths, left_by_path, left_by_paths, refused_path, refused_paths, refused_so, refuses_bad, refuses_clean, refuses_second}
 use Rattle.nv_history.proofs.calls.make_call.Goals as goal
 
 -- ---- `create`
@@ -42,7 +42,7 @@ returns-in-Create-clause-refused g c = λ runs.
     let m = c.args.mount.now in
     let a = c.in-Create in
     let t = tree_of (g.P.Pmem.region m.memory) m.rows in
-    subst (λ (call : Call). IfErr c.create.result (IsWhy (RefusesCall (g.P.Pmem.region m.memory) m call))) (sym a.is)
+    subst (λ (call : Call). IfErr c.create.result (RefusesCall (g.P.Pmem.region m.memory) m call)) (sym a.is)
     (refused_path c.create.result a.path.now (λ p. create_tests (world_of m) t a.cpu p (create_blocks m.rows t p)) (λ p says. c.create.ensures.refused runs p says))
 
 pub returns-in-Create-clause-any_stop : goal.returns-in-Create-clause-any_stop
@@ -72,7 +72,7 @@ returns-in-MakeDirectory-clause-refused g c = λ runs.
     let m = c.args.mount.now in
     let a = c.in-MakeDirectory in
     let t = tree_of (g.P.Pmem.region m.memory) m.rows in
-    subst (λ (call : Call). IfErr c.mkdir.result (IsWhy (RefusesCall (g.P.Pmem.region m.memory) m call))) (sym a.is)
+    subst (λ (call : Call). IfErr c.mkdir.result (RefusesCall (g.P.Pmem.region m.memory) m call)) (sym a.is)
     (refused_path c.mkdir.result a.path.now (λ p. create_tests (world_of m) t a.cpu p (create_blocks m.rows t p)) (λ p says. c.mkdir.ensures.refused runs p says))
 
 pub returns-in-MakeDirectory-clause-any_stop : goal.returns-in-MakeDirectory-clause-any_stop
@@ -101,7 +101,7 @@ returns-in-SetSize-clause-refused g c = λ runs.
     let m = c.args.mount.now in
     let a = c.in-SetSize in
     let t = tree_of (g.P.Pmem.region m.memory) m.rows in
-    subst (λ (call : Call). IfErr c.set_size.result (IsWhy (RefusesCall (g.P.Pmem.region m.memory) m call))) (sym a.is)
+    subst (λ (call : Call). IfErr c.set_size.result (RefusesCall (g.P.Pmem.region m.memory) m call)) (sym a.is)
     (refused_path c.set_size.result a.path.now (λ p. set_size_tests (world_of m) t a.cpu p a.size (resized_blocks m.rows t p a.size)) (λ p says. c.set_size.ensures.refused runs p says))
 
 pub returns-in-SetSize-clause-any_stop : goal.returns-in-SetSize-clause-any_stop
@@ -111,7 +111,7 @@ returns-in-SetSize-clause-any_stop g c = λ runs writes.
     let t = tree_of (g.P.Pmem.region m.memory) m.rows in
     let n = c.set_size.new.self in
     subst (λ (call : Call). LeavesOnly (g.P.Pmem.region n.memory) (g.P.Pmem.may_hold n.memory) (BeforeOrMade m.sup call t)) (sym a.is)
-    (left_by_path g.P.Pmem.region g.P.Pmem.may_hold m n (ByPath a.path.now (λ names. resized names a.size a.time t)) a.path.now (makes_size a.size a.time) (logs_size a.size a.time) (λ names u is same. (names, is, same))
+    (left_by_path g.P.Pmem.region g.P.Pmem.may_hold m n (ByPath a.path.now (λ names. resized names a.size a.time t)) a.path.now (makes_size a.size a.time) (logs_size a.cpu a.size a.time) (λ names u is same. (names, is, same))
     (c.recovers_as_mounted.ensures runs writes) c.set_size.ensures.bad_text (λ names is. c.set_size.ensures.any_stop names is runs writes))
 
 -- ---- `set_attr`
@@ -130,7 +130,7 @@ returns-in-SetAttributes-clause-refused g c = λ runs.
     let m = c.args.mount.now in
     let a = c.in-SetAttributes in
     let t = tree_of (g.P.Pmem.region m.memory) m.rows in
-    subst (λ (call : Call). IfErr c.set_attr.result (IsWhy (RefusesCall (g.P.Pmem.region m.memory) m call))) (sym a.is)
+    subst (λ (call : Call). IfErr c.set_attr.result (RefusesCall (g.P.Pmem.region m.memory) m call)) (sym a.is)
     (refused_path c.set_attr.result a.path.now (λ p. set_attr_tests (world_of m) t a.cpu p (attributes_blocks m.rows t p)) (λ p says. c.set_attr.ensures.refused runs p says))
 
 pub returns-in-SetAttributes-clause-any_stop : goal.returns-in-SetAttributes-clause-any_stop
@@ -140,7 +140,7 @@ returns-in-SetAttributes-clause-any_stop g c = λ runs writes.
     let t = tree_of (g.P.Pmem.region m.memory) m.rows in
     let n = c.set_attr.new.self in
     subst (λ (call : Call). LeavesOnly (g.P.Pmem.region n.memory) (g.P.Pmem.may_hold n.memory) (BeforeOrMade m.sup call t)) (sym a.is)
-    (left_by_path g.P.Pmem.region g.P.Pmem.may_hold m n (ByPath a.path.now (λ names. attributed names a.mode a.owner a.group a.time t)) a.path.now (makes_attributes a.mode a.owner a.group a.time) (logs_attributes a.mode a.owner a.group a.time) (λ names u is same. (names, is, same))
+    (left_by_path g.P.Pmem.region g.P.Pmem.may_hold m n (ByPath a.path.now (λ names. attributed names a.mode a.owner a.group a.time t)) a.path.now (makes_attributes a.mode a.owner a.group a.time) (logs_attributes a.cpu a.mode a.owner a.group a.time) (λ names u is same. (names, is, same))
     (c.recovers_as_mounted.ensures runs writes) c.set_attr.ensures.bad_text (λ names is. c.set_attr.ensures.any_stop names is runs writes))
 
 -- ---- `unlink`
@@ -159,7 +159,7 @@ returns-in-Unlink-clause-refused g c = λ runs.
     let m = c.args.mount.now in
     let a = c.in-Unlink in
     let t = tree_of (g.P.Pmem.region m.memory) m.rows in
-    subst (λ (call : Call). IfErr c.unlink.result (IsWhy (RefusesCall (g.P.Pmem.region m.memory) m call))) (sym a.is)
+    subst (λ (call : Call). IfErr c.unlink.result (RefusesCall (g.P.Pmem.region m.memory) m call)) (sym a.is)
     (refused_path c.unlink.result a.path.now (λ p. unlink_tests (world_of m) t a.cpu p (unlink_blocks m.rows t p)) (λ p says. c.unlink.ensures.refused runs p says))
 
 pub returns-in-Unlink-clause-any_stop : goal.returns-in-Unlink-clause-any_stop
@@ -169,7 +169,7 @@ returns-in-Unlink-clause-any_stop g c = λ runs writes.
     let t = tree_of (g.P.Pmem.region m.memory) m.rows in
     let n = c.unlink.new.self in
     subst (λ (call : Call). LeavesOnly (g.P.Pmem.region n.memory) (g.P.Pmem.may_hold n.memory) (BeforeOrMade m.sup call t)) (sym a.is)
-    (left_by_path g.P.Pmem.region g.P.Pmem.may_hold m n (ByPath a.path.now (λ names. unlinked names a.time t)) a.path.now (makes_unlink a.time) (LogsUnlink a.time) (λ names u is same. (names, is, same))
+    (left_by_path g.P.Pmem.region g.P.Pmem.may_hold m n (ByPath a.path.now (λ names. unlinked names a.time t)) a.path.now (makes_unlink a.time) (LogsUnlink a.cpu a.time) (λ names u is same. (names, is, same))
     (c.recovers_as_mounted.ensures runs writes) c.unlink.ensures.bad_text (λ names is. c.unlink.ensures.any_stop names is runs writes))
 
 -- ---- `rmdir`
@@ -188,7 +188,7 @@ returns-in-RemoveDirectory-clause-refused g c = λ runs.
     let m = c.args.mount.now in
     let a = c.in-RemoveDirectory in
     let t = tree_of (g.P.Pmem.region m.memory) m.rows in
-    subst (λ (call : Call). IfErr c.rmdir.result (IsWhy (RefusesCall (g.P.Pmem.region m.memory) m call))) (sym a.is)
+    subst (λ (call : Call). IfErr c.rmdir.result (RefusesCall (g.P.Pmem.region m.memory) m call)) (sym a.is)
     (refused_path c.rmdir.result a.path.now (λ p. rmdir_tests (world_of m) t a.cpu p (name_blocks m.rows t p)) (λ p says. c.rmdir.ensures.refused runs p says))
 
 pub returns-in-RemoveDirectory-clause-any_stop : goal.returns-in-RemoveDirectory-clause-any_stop
@@ -198,7 +198,7 @@ returns-in-RemoveDirectory-clause-any_stop g c = λ runs writes.
     let t = tree_of (g.P.Pmem.region m.memory) m.rows in
     let n = c.rmdir.new.self in
     subst (λ (call : Call). LeavesOnly (g.P.Pmem.region n.memory) (g.P.Pmem.may_hold n.memory) (BeforeOrMade m.sup call t)) (sym a.is)
-    (left_by_path g.P.Pmem.region g.P.Pmem.may_hold m n (ByPath a.path.now (λ names. removed names a.time t)) a.path.now (makes_removal a.time) (logs_removal a.time) (λ names u is same. (names, is, same))
+    (left_by_path g.P.Pmem.region g.P.Pmem.may_hold m n (ByPath a.path.now (λ names. removed names a.time t)) a.path.now (makes_removal a.time) (logs_removal a.cpu a.time) (λ names u is same. (names, is, same))
     (c.recovers_as_mounted.ensures runs writes) c.rmdir.ensures.bad_text (λ names is. c.rmdir.ensures.any_stop names is runs writes))
 
 -- ---- `write`
@@ -222,9 +222,8 @@ returns-in-Write-clause-refused g c = λ runs.
     let t = tree_of R m.rows in
     let p = text_says a.path.now in
     let count = write_needs R m a.cpu p.0 a.offset (length a.bytes.now) a.time in
-    subst (λ (call : Call). IfErr c.write.result (IsWhy (RefusesCall (g.P.Pmem.region m.memory) m call))) (sym a.is)
-    (refused_by c.write.result (λ e. first_refusal (write_tests (world_of m) t a.cpu p.0 (a.offset + length a.bytes.now) count.0) ≡ Some e) (λ e. (tests : Tests) × AreTestsOf R m (Write a.cpu a.path a.offset a.bytes a.time) tests × (first_refusal tests ≡ Some e))
-    (λ e first. (write_tests (world_of m) t a.cpu p.0 (a.offset + length a.bytes.now) count.0, (p.0, count.0, p.1, count.1, refl), first)) (c.write.ensures.refused runs p.0 count.0 p.1 count.1))
+    subst (λ (call : Call). IfErr c.write.result (RefusesCall (g.P.Pmem.region m.memory) m call)) (sym a.is)
+    (refused_so c.write.result (write_tests (world_of m) t a.cpu p.0 (a.offset + length a.bytes.now) count.0) (AreTestsOf R m (Write a.cpu a.path a.offset a.bytes a.time)) (p.0, count.0, p.1, count.1, refl) (c.write.ensures.refused runs p.0 count.0 p.1 count.1))
 
 pub returns-in-Write-clause-any_stop : goal.returns-in-Write-clause-any_stop
 returns-in-Write-clause-any_stop g c = λ runs writes.
@@ -252,7 +251,7 @@ returns-in-Link-clause-refused g c = λ runs.
     let m = c.args.mount.now in
     let a = c.in-Link in
     let t = tree_of (g.P.Pmem.region m.memory) m.rows in
-    subst (λ (call : Call). IfErr c.link.result (IsWhy (RefusesCall (g.P.Pmem.region m.memory) m call))) (sym a.is)
+    subst (λ (call : Call). IfErr c.link.result (RefusesCall (g.P.Pmem.region m.memory) m call)) (sym a.is)
     (refused_paths c.link.result a.old.now a.new.now (λ p q. link_tests (world_of m) t a.cpu p q (link_blocks m.rows t p q)) (λ p q says are. c.link.ensures.refused runs p q says are))
 
 pub returns-in-Link-clause-any_stop : goal.returns-in-Link-clause-any_stop
@@ -262,7 +261,7 @@ returns-in-Link-clause-any_stop g c = λ runs writes.
     let t = tree_of (g.P.Pmem.region m.memory) m.rows in
     let n = c.link.new.self in
     subst (λ (call : Call). LeavesOnly (g.P.Pmem.region n.memory) (g.P.Pmem.may_hold n.memory) (BeforeOrMade m.sup call t)) (sym a.is)
-    (left_by_paths g.P.Pmem.region g.P.Pmem.may_hold m n (ByPaths a.old.now a.new.now (λ names others. linked names others a.time t)) a.old.now a.new.now (λ others. makes_link a.time (Some others)) (λ others. logs_link a.time (Some others)) (λ names others u is are same. (names, others, is, are, same))
+    (left_by_paths g.P.Pmem.region g.P.Pmem.may_hold m n (ByPaths a.old.now a.new.now (λ names others. linked names others a.time t)) a.old.now a.new.now (λ others. makes_link a.time (Some others)) (λ others. logs_link a.cpu a.time (Some others)) (λ names others u is are same. (names, others, is, are, same))
     (c.recovers_as_mounted.ensures runs writes) c.link.ensures.bad_text (λ names others is are. c.link.ensures.any_stop names others is are runs writes))
 
 -- ---- `rename`
@@ -281,7 +280,7 @@ returns-in-Rename-clause-refused g c = λ runs.
     let m = c.args.mount.now in
     let a = c.in-Rename in
     let t = tree_of (g.P.Pmem.region m.memory) m.rows in
-    subst (λ (call : Call). IfErr c.rename.result (IsWhy (RefusesCall (g.P.Pmem.region m.memory) m call))) (sym a.is)
+    subst (λ (call : Call). IfErr c.rename.result (RefusesCall (g.P.Pmem.region m.memory) m call)) (sym a.is)
     (refused_paths c.rename.result a.old.now a.new.now (λ p q. rename_tests (world_of m) t a.cpu p q (rename_blocks m.rows t p q)) (λ p q says are. c.rename.ensures.refused runs p q says are))
 
 pub returns-in-Rename-clause-any_stop : goal.returns-in-Rename-clause-any_stop
@@ -291,7 +290,7 @@ returns-in-Rename-clause-any_stop g c = λ runs writes.
     let t = tree_of (g.P.Pmem.region m.memory) m.rows in
     let n = c.rename.new.self in
     subst (λ (call : Call). LeavesOnly (g.P.Pmem.region n.memory) (g.P.Pmem.may_hold n.memory) (BeforeOrMade m.sup call t)) (sym a.is)
-    (left_by_paths g.P.Pmem.region g.P.Pmem.may_hold m n (ByPaths a.old.now a.new.now (λ names others. renamed names others a.time t)) a.old.now a.new.now (λ others. makes_rename a.time (Some others)) (λ others. logs_rename a.time (Some others)) (λ names others u is are same. (names, others, is, are, same))
+    (left_by_paths g.P.Pmem.region g.P.Pmem.may_hold m n (ByPaths a.old.now a.new.now (λ names others. renamed names others a.time t)) a.old.now a.new.now (λ others. makes_rename a.time (Some others)) (λ others. logs_rename a.cpu a.time (Some others)) (λ names others u is are same. (names, others, is, are, same))
     (c.recovers_as_mounted.ensures runs writes) c.rename.ensures.bad_text (λ names others is are. c.rename.ensures.any_stop names others is are runs writes))
 
 -- ---- `clean`
@@ -311,7 +310,7 @@ returns-in-Err-clause-refused g c = λ runs.
     let m = c.args.mount.now in
     let a = c.in-Clean in
     let t = tree_of (g.P.Pmem.region m.memory) m.rows in
-    subst (λ (call : Call). IsWhy (RefusesCall (g.P.Pmem.region m.memory) m call) c.in-Err.refusal) (sym a.is)
+    subst (λ (call : Call). RefusesCall (g.P.Pmem.region m.memory) m call c.in-Err.refusal) (sym a.is)
     (refused_path {A = Option ℕ} (Err c.in-Err.refusal) a.path.now (λ p. clean_tests (world_of m) t p) (λ p says. c.in-Err.ensures.refused runs p says))
 
 pub returns-in-Ok-clause-any_stop : goal.returns-in-Ok-clause-any_stop

@@ -1,11 +1,9 @@
-use Rattle.std.proofs.Common.{◌≡◌, ◌⊎◌, inr, ◌+◌, Some, refl, sym, ap, subst, arith}
+use Rattle.std.proofs.Common.{◌≡◌, inr, ◌+◌, refl, sym, ap, subst, arith}
 use Rattle.std.proofs.lemmas.Result.{err_from_is_err_and}
 use Rattle.nv_region.specs.RegionState.{RegionState}
 use Rattle.nv_alloc.specs.FreeValue.{FreeLists}
 use Rattle.nv_alloc.specs.Taking.{all_blocks}
-use Rattle.nv_tree.specs.Refusals.{first_refusal, write_tests}
-use Rattle.nv_tree.specs.declared.refusal.Refusal.{Refusal}
-use Rattle.nv_tree.specs.declared.refusal.Refusal.TheVariants.{Memory, Stopped}
+use Rattle.nv_tree.specs.Refusals.{IsRefusedBy, first_refusal, write_tests}
 use Rattle.nv_calls.specs.Mount.{Mount}
 use Rattle.nv_calls.specs.Same.{SameMount}
 use Rattle.nv_paths.specs.Seen.{tree_of}
@@ -19,7 +17,7 @@ pub returns-in_err-write-clause-refused : goal.returns-in_err-write-clause-refus
 returns-in_err-write-clause-refused c = λ runs p blocks says needs. (
     let m = c.args.mount.now in
     let w = err_from_is_err_and c.from_residual.result c.from_residual.ensures.1 in
-    refused_by c.from_residual.result c.in_err-write.field-0.0 w.0 (λ (e : Refusal). (e ≡ Memory) ⊎ ((e ≡ Stopped) ⊎ (first_refusal (write_tests (world_of m) (tree_of m.memory.region m.rows) c.args.cpu p (c.args.offset + c.args.count) blocks) ≡ Some e))) w.1 w.2
+    refused_by c.from_residual.result c.in_err-write.field-0.0 w.0 (IsRefusedBy (first_refusal (write_tests (world_of m) (tree_of m.memory.region m.rows) c.args.cpu p (c.args.offset + c.args.count) blocks))) w.1 w.2
     (told_too m.memory.region m c.args.cpu p c.args.offset c.args.count c.saturating_add.result blocks c.in_err-write.field-0.0 c.saturating_add.ensures
     (c.in_err-write.ensures.refused runs p 0 says (no_needs m.memory.region m c.args.cpu p c.saturating_add.result c.args.time))))
 

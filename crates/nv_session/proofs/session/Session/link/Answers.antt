@@ -9,8 +9,8 @@ use Rattle.nv_session.proofs.Asking.{link_answers, link_changed, link_logged, li
 use Rattle.nv_session.proofs.session.Session.link.Goals as goal
 
 pub returns : goal.returns
-returns c = IfOk-weaker c.settle_call.result _ _ (λ text settles. two_moves (asks_link c.args.cpu) makes_link logs_link c.args.old.now c.args.new.now (is_armed c.args.stop) c.args.self.now c.settle_call.new.self (string_bytes text)
-    (λ q says_q. called_moves (λ time. asks_link c.args.cpu q) (λ time. makes_link time q) (λ time. logs_link time q)
+returns c = IfOk-weaker c.settle_call.result _ _ (λ text settles. two_moves (asks_link c.args.cpu) makes_link (logs_link c.args.cpu) c.args.old.now c.args.new.now (is_armed c.args.stop) c.args.self.now c.settle_call.new.self (string_bytes text)
+    (λ q says_q. called_moves (λ time. asks_link c.args.cpu q) (λ time. makes_link time q) (λ time. logs_link c.args.cpu time q)
     c.args.old.now c.args.stop.fuse c.args.self.now c.take_mount.new.self c.settle_call.new.self c.in-Some.mount c.link-answer.new.self c.link-answer.result (string_bytes text) (rw c.in-Some.is at c.take_mount.ensures) (record {
       answers = λ p says. link_answers c.in-Some.mount c.link-answer.result c.args.cpu q p (c.link-answer.ensures.allowed p q says says_q) (λ runs. c.link-answer.ensures.refused runs p q says says_q);
       changed = λ names is. link_changed c.in-Some.mount c.link-answer.new.self c.link-answer.result c.args.cpu c.take_mount.new.self.time names c.args.new.now q says_q (c.link-answer.ensures.allowed (Some names) q is says_q) (λ others is_other. c.link-answer.ensures.changed names others is is_other);
@@ -22,12 +22,12 @@ returns c = IfOk-weaker c.settle_call.result _ _ (λ text settles. two_moves (as
       steady = c.link-answer.ensures.keeps_fuse.steady;
       read_only = c.link-answer.ensures.read_only;
       bad_text = λ bad. c.link-answer.ensures.bad_text (λ names others is is_other. bad names is);
-      any_stop = λ names is runs writes stops left may. link_stops c.in-Some.mount c.take_mount.new.self.time names c.args.new.now q says_q left (λ none. not_stopped (c.link-answer.ensures.bad_text (λ names others is is_other. none others is_other)) runs stops) (λ others is_other. c.link-answer.ensures.any_stop names others is is_other runs writes left may);
+      any_stop = λ names is runs writes stops left may. link_stops c.in-Some.mount c.take_mount.new.self.time names c.args.new.now q says_q left c.args.cpu (λ none. not_stopped (c.link-answer.ensures.bad_text (λ names others is is_other. none others is_other)) runs stops) (λ others is_other. c.link-answer.ensures.any_stop names others is is_other runs writes left may);
       settled = c.settle_call.ensures.settled;
       kept = c.settle_call.ensures.keeps;
     }) settles)) c.settle_call.ensures.settles
 
 pub returns-in_default : goal.returns-in_default
-returns-in_default c = IfOk-weaker c.refused_text.result _ _ (λ text said. two_moves (asks_link c.args.cpu) makes_link logs_link c.args.old.now c.args.new.now (is_armed c.args.stop) c.args.self.now c.take_mount.new.self (string_bytes text)
-    (λ q says_q. uncalled_moves (λ time. asks_link c.args.cpu q) (λ time. makes_link time q) (λ time. logs_link time q)
+returns-in_default c = IfOk-weaker c.refused_text.result _ _ (λ text said. two_moves (asks_link c.args.cpu) makes_link (logs_link c.args.cpu) c.args.old.now c.args.new.now (is_armed c.args.stop) c.args.self.now c.take_mount.new.self (string_bytes text)
+    (λ q says_q. uncalled_moves (λ time. asks_link c.args.cpu q) (λ time. makes_link time q) (λ time. logs_link c.args.cpu time q)
     c.args.old.now (is_armed c.args.stop) c.args.stop.fuse c.args.self.now c.take_mount.new.self (string_bytes text) (rw c.in_default.is at c.take_mount.ensures) said)) c.refused_text.ensures

@@ -7,11 +7,11 @@ use Rattle.nv_session.proofs.Asking.{removal_answers, removal_logged}
 use Rattle.nv_session.proofs.session.Session.remove_directory.Goals as goal
 
 pub returns : goal.returns
-returns c = IfOk-weaker c.settle_call.result _ _ (λ text settles. called_moves (λ time. asks_remove c.args.cpu) makes_removal logs_removal
+returns c = IfOk-weaker c.settle_call.result _ _ (λ text settles. called_moves (λ time. asks_remove c.args.cpu) makes_removal (logs_removal c.args.cpu)
     c.args.path.now c.args.stop.fuse c.args.self.now c.take_mount.new.self c.settle_call.new.self c.in-Some.mount c.rmdir-answer.new.self c.rmdir-answer.result (string_bytes text) (rw c.in-Some.is at c.take_mount.ensures) (record {
       answers = λ p says. removal_answers c.in-Some.mount c.rmdir-answer.result c.args.cpu p (c.rmdir-answer.ensures.allowed p says) (λ runs. c.rmdir-answer.ensures.refused runs p says);
       changed = c.rmdir-answer.ensures.changed;
-      logged = λ names is. removal_logged c.in-Some.mount.memory.region c.rmdir-answer.new.self.memory.region (seen c.in-Some.mount) names c.take_mount.new.self.time c.rmdir-answer.result (λ i d node held h. c.rmdir-answer.ensures.log names i d node held h is);
+      logged = λ names is. removal_logged c.in-Some.mount.memory.region c.rmdir-answer.new.self.memory.region (seen c.in-Some.mount) names c.args.cpu c.take_mount.new.self.time c.rmdir-answer.result (λ i d node held h. c.rmdir-answer.ensures.log names i d node held h is);
       unchanged = c.rmdir-answer.ensures.unchanged;
       stopped = c.rmdir-answer.ensures.stopped;
       keeps = c.rmdir-answer.ensures.keeps;
