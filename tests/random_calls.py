@@ -16,11 +16,15 @@ class Calls:
         self.folders, self.files = ["", ""], []
         self.cpus, self.blocks = rng.choice([1, 1, 2, 3]), rng.choice([8, 12, 16, 40, 64])
         self.lines = [f"format {self.cpus} {max(self.blocks, 8)} 1", "recover 1"]
+        # In some scripts logs grow by many entries, and are cleaned between all calls.
+        self.cleans = rng.random() < 0.3
 
     def script(self):
         rng = self.rng
         for _ in range(rng.choice([3, 10, 30, 80])):
-            self.lines += self.some_lines()
+            self.lines += self.many_entries() if self.cleans and rng.random() < 0.15 else self.some_lines()
+            if self.cleans:
+                self.lines.append(self.cleaning())
         self.lines += ["report", "recover 2", "report"]
         return "\n".join(line for line in self.lines if line.split(" ")[0] not in self.missing).encode("latin-1") + b"\n"
 
@@ -42,8 +46,25 @@ class Calls:
             ])]  # fmt: skip
         return [f"poke {8 * rng.randrange(1024, BLOCK * 8 // 8)} {rng.choice([0, 1, 2, 8 << 16, rng.getrandbits(64)])}", f"recover {rng.choice(WORKERS)}", "report"]
 
+    def many_entries(self):
+        """Calls that fill one or two pages of a log: with attributes, bytes, or a long name that comes and goes."""
+        rng = self.rng
+        path, cpu = self.a_file(), rng.randrange(self.cpus)
+        what = rng.random()
+        if what < 0.4:
+            return [f"attr {cpu} {path} {rng.choice([420, 384])} 0 0" for _ in range(rng.choice([62, 126, 127, 128, 200]))]
+        if what < 0.7:
+            return [f"write {cpu} {path} {rng.choice(self.OFFSETS[:5])} 1 {rng.randrange(256)}" for _ in range(rng.choice([60, 101, 102, 130]))]
+        name = f"{self.a_folder()}/{'n' * 255}"
+        return [line for _ in range(rng.choice([7, 8, 15])) for line in (f"create {cpu} {name}", f"unlink {cpu} {name}")]
+
+    def cleaning(self):
+        return f"clean {self.rng.choice([self.a_file(), self.a_folder() or '/'])}"
+
     def writes(self):
         rng = self.rng
+        if self.cleans and rng.random() < 0.2:
+            return self.cleaning()
         cpu = rng.randrange(4) if rng.random() < 0.05 else rng.randrange(self.cpus)
         what = rng.choice(["create", "create", "create", "mkdir", "write", "write", "write", "size", "attr", "link", "unlink", "rmdir", "rename", "rename"])
         if what in ("create", "mkdir"):

@@ -18,7 +18,7 @@ from pathlib import Path
 
 COMMANDS = (
     "format time recover replay tree free faults report poke cut peek stop list stat read"
-    " create mkdir write size attr link unlink rmdir rename"
+    " create mkdir write size attr link unlink rmdir rename clean"
 ).split()
 BLOCK = 4096
 MOST_BLOCKS = 65536
