@@ -1,5 +1,5 @@
 #!/usr/bin/env python3
-"""Proves and builds a program of this repository: `nova`, or `nova_check`, its checker alone.
+"""Proves and builds a program of this repository: `nova`, or `nova_check`, its checker alone, or one of the others.
 
 usage: ./prove.py PROGRAM
 
@@ -8,7 +8,8 @@ each other: the more waits for a crate, the less it yields to others. What is pr
 `nova`. So an interrupted run goes on where it was, and a later run proves what changed since and the crates above. What the
 prover said of each crate stays in `out/proved/logs/` there: its last line says what is trusted.
 
-It ends with 0 if the program is built. What it says of its work goes to standard error.
+It ends with 0 if the program is built, which is then at `crates/PROGRAM/out/PROGRAM`. If all is built already, the kit isn't
+needed. What it says of its work goes to standard error.
 """
 
 import contextlib
@@ -28,7 +29,6 @@ HERE = Path(__file__).resolve().parent
 OUT = HERE / "crates/nova/out"
 PROVED = OUT / "proved"
 LOGS = PROVED / "logs"
-PROGRAMS = ("nova", "nova_check")
 PARTS = ("src", "specs", "proofs")
 TARGET = "x86_64-unknown-linux-gnu"
 
@@ -42,6 +42,9 @@ MOST_CRATES = 2 * PROCESSES
 CRATE_SECONDS = 20
 CLAUSE_SECONDS = 0.5
 CRATES_TO_DOUBLE = 20
+# The lines of a log that are shown of a crate that isn't proved, and how many at most.
+FAILURE = re.compile(r"^fn \S+: (?:not proved|no proof)|^error|^ *--> ")
+MOST_LINES = 30
 CLAUSE = re.compile(rb"^\s*(?:ensures|requires)", re.MULTILINE)
 
 
@@ -50,14 +53,26 @@ def say(text):
 
 
 class Kit:
-    """Where the Rattle kit has its prover and its libraries."""
+    """Where the Rattle kit has its prover and its libraries. If it isn't there, only its identity is known, by the last
+    run, which is enough to see that nothing is to be done."""
+
+    KEPT = PROVED / "KIT-ID"
 
     def __init__(self):
         command = shutil.which("rt")
-        if not command:
-            sys.exit("nova: the command rt of the Rattle kit isn't on the path; the kit proves and builds the program")
-        self.at = Path(command).resolve().parent.parent
-        self.identity = (self.at / "KIT-ID").read_bytes()
+        if command:
+            self.at = Path(command).resolve().parent.parent
+            self.identity = (self.at / "KIT-ID").read_bytes()
+            self.KEPT.write_bytes(self.identity)
+        elif self.KEPT.exists():
+            self.at = None
+            self.identity = self.KEPT.read_bytes()
+        else:
+            self.miss()
+
+    @staticmethod
+    def miss():
+        sys.exit("nova: the command rt of the Rattle kit isn't on the path; the kit proves and builds the program")
 
     def library(self, name):
         return self.at / f"rlibs/{name}.rlib"
@@ -131,13 +146,19 @@ class Crate:
         return [*words, f"{kit.at}/c/libos_c.a", f"{kit.at}/c/liblibc_c.a"]
 
 
-def crates_of(program):
-    """The crates that a program is made of, each behind those that it stands on, and itself as the last."""
+def lines_of_crates():
+    """The line of each crate, with the names of those that it stands on."""
     lines = {}
     for line in (HERE / "crates.txt").read_text().splitlines():
         names, colon, lower = line.partition(":")
         if colon and not line.startswith("#"):
             lines[names.split()[0]] = line, lower.split()
+    return lines
+
+
+def crates_of(program):
+    """The crates that a program is made of, each behind those that it stands on, and itself as the last."""
+    lines = lines_of_crates()
     found = {}
 
     def find(name):
@@ -237,8 +258,8 @@ class Build:
 
     def fail(self, crate):
         log = LOGS / crate.name
-        print(*log.read_text(errors="replace").splitlines()[-30:], sep="\n", file=sys.stderr)
-        say(f"the crate {crate.name} was not built; what was said is in {log}")
+        print(*failures(log.read_text(errors="replace")), sep="\n", file=sys.stderr)
+        say(f"the crate {crate.name} was not built; all that was said is in {log}")
         sys.exit(1)
 
     def end(self):
@@ -269,16 +290,34 @@ class Build:
             say(f"built in {passed // 60} min {passed % 60} s")
 
 
+def failures(said):
+    """The lines of a log that say which clause of which function isn't proved, or what else is wrong; else its last ones."""
+    lines = said.splitlines()
+    told = [line for line in lines if FAILURE.search(line)]
+    return told[:MOST_LINES] or lines[-MOST_LINES:]
+
+
 def stop(*_):
     sys.exit(1)
 
 
+def program_asked_for(words):
+    """The program that the words name. Words that name none end the run by a sentence."""
+    if words in (["--help"], ["-h"]):
+        print(__doc__.strip())
+        sys.exit(0)
+    programs = [name for name in lines_of_crates() if (HERE / "crates" / name / "src/main.rt").is_file()]
+    if len(words) != 1:
+        sys.exit(f"nova: name one program, as in ./prove.py nova; there are {', '.join(programs)}")
+    if words[0] not in programs:
+        sys.exit(f"nova: no program is named {words[0]}; there are {', '.join(programs)}")
+    return words[0]
+
+
 def main():
-    if sys.argv[1:] not in ([program] for program in PROGRAMS):
-        sys.exit(__doc__)
-    kit = Kit()
-    program = sys.argv[1]
+    program = program_asked_for(sys.argv[1:])
     LOGS.mkdir(parents=True, exist_ok=True)
+    kit = Kit()
     with open(OUT / "nova.lock", "w") as lock:
         try:
             fcntl.flock(lock, fcntl.LOCK_EX | fcntl.LOCK_NB)
@@ -292,6 +331,8 @@ def main():
         began.touch()
         build = Build(kit, crates)
         if build.todo:
+            if not kit.at:
+                kit.miss()
             say("proving and building the program. Each crate's contracts are proved from nothing, which takes many")
             say(f"minutes; later runs start at once. What the prover says is kept in {LOGS}")
         for ends in (signal.SIGINT, signal.SIGTERM):

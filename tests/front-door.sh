@@ -32,7 +32,12 @@ echo "begin $name" >>"$LOG"
 if [ "$name" = "${SLOW-}" ]; then
     until [ -e "$GO" ] || [ "$SECONDS" -ge "$MOST" ]; do sleep 0.05; done
 fi
-[ "$name" != "${FAILS-}" ] || { echo "why $name fails"; exit 1; }
+if [ "$name" = "${FAILS-}" ]; then
+    echo "fn why::$name: not proved: clause ok"
+    printf 'chatter %d\n' {1..40}
+    exit 1
+fi
+echo "logic=proved $name"
 case $to in *.o) echo object >"$to" ;; *) mkdir -p "$to" ;; esac
 echo "end $name" >>"$LOG"
 STUB
@@ -64,9 +69,13 @@ within() {
 says() {
     grep -qF -- "$1" "$2"
 }
-# edit CRATE FILE: adds a line to a source. All stamps are made older before, since a file system may count by seconds.
+# age FOLDER: makes all stamps of a copy older than its sources, since a file system may count by seconds.
+age() {
+    find "$1/crates" \( -name '*.started' -o -name '*.next' \) -exec touch -d '1 minute ago' {} +
+}
+# edit CRATE FILE: adds a line to a source, which is newer than all stamps.
 edit() {
-    find "$copy/crates" \( -name '*.started' -o -name '*.next' \) -exec touch -d '1 minute ago' {} +
+    age "$copy"
     echo '// more' >>"$copy/crates/$1/src/$2"
 }
 # ended PID: whether no process has this number, or one that has ended and isn't waited for.
@@ -178,7 +187,9 @@ same "what was proved stays" "nova" "$(begun)"
 : >"$log"
 edit nv_cli lib.rt
 same "a crate that fails" "status 2" "$(FAILS=nv_cli run run </dev/null)"
-same "says why" "why nv_cli fails" "$(grep why "$folder/said")"
+same "says the clause" "fn why::nv_cli: not proved: clause ok" "$(grep '^fn' "$folder/said")"
+same "and not all" 0 "$(grep -c chatter "$folder/said")"
+same "what was said is kept" 40 "$(grep -c chatter "$copy/crates/nova/out/proved/logs/nv_cli")"
 same "and nothing above it is proved" "nv_cli" "$(begun)"
 
 # Without the kit, a folder of the tools that are needed is all that is on the path.
@@ -205,5 +216,25 @@ same "a try that fails itself" "status 2" "$(run try check none | tail -n 1)"
 same "a try of another command" "status 2" "$(run try run)"
 same "says what can be tried" "usage: ./nova try check IMAGE [--workers N] [--summary | --only-faults]" "$(cat "$folder/said")"
 same "and nothing is proved" "" "$(cat "$log")"
+
+# Words that name no program, and help.
+same "no program is named so" "status 1" "$("$copy/prove.py" novel 2>"$folder/said"; echo "status $?")"
+same "which ones there are" "nova: no program is named novel; there are nova_check, nova, mount_and_list, refusals, bench" "$(cat "$folder/said")"
+same "no words" "status 1" "$("$copy/prove.py" 2>"$folder/said"; echo "status $?")"
+same "what to name" "nova: name one program, as in ./prove.py nova; there are nova_check, nova, mount_and_list, refusals, bench" "$(cat "$folder/said")"
+same "help" "usage: ./prove.py PROGRAM status 0" "$("$copy/prove.py" --help | grep usage: | xargs) status $?"
+
+# Where all is built, the kit isn't needed, also in a copy whose sources are newer than the build; the verdicts stay.
+run run </dev/null >/dev/null
+same "the verdicts stay" "logic=proved nova" "$(tail -n 1 "$copy/crates/nova/out/proved/logs/nova")"
+cp -r "$copy" "$folder/second"
+age "$folder/second"
+run_second() {
+    PATH=$folder/tools "$folder/second/nova" run </dev/null 2>"$folder/said"
+    echo "status $?"
+}
+same "a copy without the kit" "nova run status 0" "$(run_second | xargs)"
+echo '// more' >>"$folder/second/crates/nv_cli/src/lib.rt"
+same "an edit without the kit" "status 2" "$(run_second)"
 
 close
