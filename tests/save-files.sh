@@ -1,7 +1,7 @@
 #!/usr/bin/env bash
-# Tries that `nova mkfs`, `nova run --save` and `nova map --svg` write a file whole or leave what was there. So it is on a full
-# disk, past a limit of the system, where the last step is refused, in a folder that can't be written, on what is no file, and
-# with a stop at each system call that writes.
+# Tries that `nova mkfs`, `nova run --save`, `nova clean` and `nova map --svg` write a file whole or leave what was there. So it
+# is on a full disk, past a limit of the system, where the last step is refused, in a folder that can't be written, on what is
+# no file, and with a stop at each system call that writes.
 #
 #     tests/save-files.sh [PROGRAM]     prints a line for each difference, and closes with 'N passed, M failed'
 #
@@ -72,6 +72,59 @@ same "map: the drawing" "3 #7f7f7f 2 #59a14f 1 #4c8ed9 10 #e6e6e6" "$(sed -n 's/
 told "map of no region" 2 "refused S1" "it has 4 bytes; a region has a multiple of 4096, from 32768 to 268435456" map "$folder/short" --svg "$folder/none"
 same "map of no region: the drawing" "" "$(ls "$folder/none" 2>/dev/null)"
 unchanged "map"
+
+# Pages go out of logs that can do without them. The image is written where one went, and only there.
+{
+    printf 'recover 1\ncreate 0 /a\n'
+    yes 'attr 0 /a 420 0 0' | head -n 127
+} >"$folder/overwriting.nova"
+
+# overwritten BLOCKS IMAGE: makes an image in which the log of /a has a page that it can do without.
+overwritten() {
+    "$program" mkfs "$2" --force --blocks "$1" --cpus 1 --tables 1
+    "$program" run "$here/examples/hello.nova" --image "$2" --save "$2" >/dev/null
+    "$program" run "$folder/overwriting.nova" --image "$2" --save "$2" >/dev/null
+}
+
+# Makes a folder with such an image, and keeps its sum.
+begin_overwritten() {
+    begin
+    overwritten 16 "$room/image"
+    old=$(sum "$room/image")
+}
+
+begin_overwritten
+listed=$("$program" ls "$room/image")
+free=$("$program" check "$room/image" | grep '^free')
+told "clean of a log that needs its pages" 0 "cleaned pages 0" "" clean "$room/image" /hello
+told "clean of what isn't there" 2 "refused NotFound" "" clean "$room/image" /none
+told "clean of no directory" 2 "refused NotDirectory" "" clean "$room/image" /hello/a
+told "clean of no path" 2 "refused BadName" "" clean "$room/image" a
+unchanged "clean of other logs"
+told "clean of a log" 0 "cleaned pages 1" "" clean "$room/image" /a
+same "clean of a log: the folder" image "$(ls "$room")"
+same "clean of a log: ls" "$listed" "$("$program" ls "$room/image")"
+"$program" check "$room/image" >"$folder/checked"
+same "clean of a log: check" 0 $?
+same "clean of a log: the free blocks" "free 0 8-15, then free 0 6 8-15" "$free, then $(grep '^free' "$folder/checked")"
+cleaned=$(sum "$room/image")
+begin_overwritten
+told "clean" 0 "cleaned pages 1" "" clean "$room/image"
+same "clean: the image" "$cleaned" "$(sum "$room/image")"
+touch -d @1000000000 "$room/image"
+old=$cleaned
+told "clean again" 0 "cleaned pages 0" "" clean "$room/image"
+same "clean again: the file's time" 1000000000 "$(stat -c %Y "$room/image")"
+unchanged "clean again"
+cp "$here/examples/ring.img" "$room/image"
+old=$(sum "$room/image")
+told "clean of an image with faults" 2 "refused ReadOnly" "" clean "$room/image"
+unchanged "clean of an image with faults"
+told "clean of an image with faults by a path" 2 "refused ReadOnly" "" clean "$room/image" a
+unchanged "clean of an image with faults by a path"
+told "clean of no region" 2 "refused S1" "it has 4 bytes; a region has a multiple of 4096, from 32768 to 268435456" clean "$folder/short"
+told "clean of what isn't there" 2 "" "cannot read $room/none
+no such file" clean "$room/none"
 
 # What is there stays.
 begin
@@ -164,6 +217,11 @@ if mount -t tmpfs -o size=128k none "$folder/disk" 2>/dev/null; then
     unchanged "mkfs on a full disk"
     told "a new image on a full disk" 2 "" "cannot write $disk/other: the disk is full" mkfs "$disk/other" --blocks 64 --cpus 1 --tables 1
     unchanged "a new image on a full disk"
+    overwritten 24 "$folder/larger"
+    cp "$folder/larger" "$disk/image"
+    old=$(sum "$disk/image")
+    told "clean on a full disk" 2 "" "cannot write $disk/image: the disk is full" clean "$disk/image"
+    unchanged "clean on a full disk"
 else
     echo "left out: a full disk; no file system can be mounted"
 fi
@@ -192,6 +250,19 @@ if strace -o /dev/null true 2>/dev/null; then
     found=$(sum "$room/image")
     [ "$found" = "$old" ] || [ "$found" = "$new" ]
     same "killed as it is put in its place" 0 $?
+    for call in openat write fsync fchmod rename; do
+        begin_overwritten
+        when=1
+        [ "$call" != openat ] || when=$(strace -e trace=openat "$program" clean "$room/image" 2>&1 >/dev/null | grep -n 'image.new-' | cut -d: -f1)
+        begin_overwritten
+        strace -qq -o /dev/null -e trace="$call" -e inject="$call:error=EIO:when=$when" "$program" clean "$room/image" >"$folder/out" 2>"$folder/err"
+        same "clean, $call is refused: status" 2 $?
+        same "clean, $call is refused: output" "" "$(cat "$folder/out")"
+        same "clean, $call is refused: errors" "cannot write $room/image: Input/output error (os error 5)" "$(cat "$folder/err")"
+        unchanged "clean, $call is refused"
+        strace -qq -o /dev/null -e trace="$call" -e inject="$call:error=EIO:signal=KILL:when=$when" "$program" clean "$room/image" >/dev/null 2>&1
+        same "clean, killed at $call: the image" "$old" "$(sum "$room/image")"
+    done
     for call in link linkat; do
         begin
         strace -qq -o /dev/null -e trace="$call" -e inject="$call:error=EIO:signal=KILL" "$program" mkfs "$room/other" --blocks 64 --cpus 1 --tables 1 >/dev/null 2>&1

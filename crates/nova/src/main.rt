@@ -1,7 +1,7 @@
-//! The program `nova`: it makes, checks and shows images of the NOVA file system, and runs scripts on them.
+//! The program `nova`: it makes, checks, cleans and shows images of the NOVA file system, and runs scripts on them.
 //!
 //! `run` runs a script, on the region of an image or on none, and saves the region that it leaves. `show` shows what is in an
-//! image, and `saving` writes one. Checks and maps of images are those of `nova_check`.
+//! image, `cleaning` shortens its logs, and `saving` writes one. Checks and maps of images are those of `nova_check`.
 //!
 //! Behind a bad line, and a region that is refused for its length, a line on standard error says more.
 //!
@@ -9,11 +9,13 @@
 //! can't be read or written, and output or memory that is refused end it with status 2 and a text on standard error.
 #![tactic(auto)]
 
+mod cleaning;
 mod hints;
 mod run;
 mod saving;
 mod show;
 
+use cleaning::clean;
 use nv_args::{CheckOutput, Todo, read_words};
 use nv_checking::{Output, check_file, map_file};
 use nv_images::{Failure, Target, ended, explain, refuse_words, words_of};
@@ -96,6 +98,7 @@ fn answer<'a, H: Files + AllocGlobal + Print + Eprint + Threads + Sync, R: Read 
             };
             mkfs(rt, target, numbers)
         }
+        Todo::Clean { image, path } => clean(rt, over(image), path),
         Todo::Ls { image, path } => show(rt, image, Shown::Names(path)),
         Todo::Stat { image, path } => show(rt, image, Shown::Attributes(path)),
         Todo::Cat { image, path } => show(rt, image, Shown::Bytes(path)),

@@ -1,10 +1,8 @@
 //! Running a script, on the region of an image or on none, and saving the region that it leaves.
 
 use crate::hints::ErrorOutput;
-use crate::saving::save_region;
-use nv_cli::{
-    Ended, MemRegion, RegionRefusal, ScriptError, region_of_file, run_script_on, run_script_to_end,
-};
+use crate::saving::{region_of, save_region};
+use nv_cli::{Ended, MemRegion, ScriptError, run_script_on, run_script_to_end};
 use nv_images::{Failure, Image, Reason, Target, image_at};
 use std::io::Read;
 use std::rt::Files;
@@ -64,13 +62,7 @@ pub(crate) fn script_at<'a, H: Files>(rt: &H, path: &'a str) -> Result<H::File, 
 // The region of the image in a file.
 fn region_at<'a, H: Files + AllocGlobal>(rt: &H, path: &'a str) -> Result<MemRegion, Failure<'a>> {
     match image_at(rt, path)? {
-        Image::Bytes(bytes) => match region_of_file(rt.alloc(), bytes) {
-            Ok(region) => Ok(region),
-            // No image that was read is as long as that.
-            Err(RegionRefusal::Length) | Err(RegionRefusal::Memory) => {
-                Err(Failure::Answer(ScriptError::Memory))
-            }
-        },
+        Image::Bytes(bytes) => Ok(region_of(rt.alloc(), bytes)?),
         Image::TooLong(length) => Err(Failure::CannotRead(path, Reason::Length(length))),
     }
 }

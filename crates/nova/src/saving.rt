@@ -1,8 +1,9 @@
-//! Writing images to files.
+//! Images as regions, and writing them to files.
 
-use nv_cli::{Formatted, MemRegion, format_image};
+use nv_cli::{Formatted, MemRegion, RegionRefusal, ScriptError, format_image, region_of_file};
 use nv_images::{Failure, Target, save_file};
 use nv_stream::write_text;
+use std::alloc::Global;
 use std::io;
 use std::rt::Files;
 
@@ -31,6 +32,15 @@ pub(crate) fn mkfs<'a, H: Files + AllocGlobal + Print>(
             write_text(&mut io::writer(rt), text.as_bytes())?;
             Ok(2)
         }
+    }
+}
+
+/// The region of an image's bytes.
+pub(crate) fn region_of(alloc: Global, bytes: Vec<u8>) -> Result<MemRegion, ScriptError> {
+    match region_of_file(alloc, bytes) {
+        Ok(region) => Ok(region),
+        // No image that was read is as long as that.
+        Err(RegionRefusal::Length) | Err(RegionRefusal::Memory) => Err(ScriptError::Memory),
     }
 }
 

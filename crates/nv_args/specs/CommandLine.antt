@@ -50,9 +50,9 @@ check_app = command (codes "check") (needed_rule (codes "path") ∷ workers_rule
 abbrev pub mkfs_app : App
 mkfs_app = command (codes "mkfs") (needed_rule (codes "image") ∷ number_rule (codes "blocks") ∷ number_rule (codes "cpus") ∷ number_rule (codes "tables") ∷ flag_rule (codes "force") ∷ [])
 
--- `ls`: an image's file, and a directory in it
-abbrev pub ls_app : App
-ls_app = command (codes "ls") (needed_rule (codes "image") ∷ place_rule (codes "path") ∷ [])
+-- a command on what one path of an image leads to, which can be left out: `clean` and `ls`
+abbrev pub may_path_app : Text → App
+may_path_app name = command name (needed_rule (codes "image") ∷ place_rule (codes "path") ∷ [])
 
 -- a command on what one path of an image leads to: `stat` and `cat`
 abbrev pub path_app : Text → App
@@ -76,7 +76,7 @@ with_commands program apps = fold (λ app sub. with_subcommand app sub.top) prog
 
 -- the commands that read an image, or write one
 abbrev pub image_apps : List App
-image_apps = mkfs_app ∷ ls_app ∷ path_app (codes "stat") ∷ path_app (codes "cat") ∷ explain_app ∷ map_app ∷ []
+image_apps = mkfs_app ∷ may_path_app (codes "clean") ∷ may_path_app (codes "ls") ∷ path_app (codes "stat") ∷ path_app (codes "cat") ∷ explain_app ∷ map_app ∷ []
 
 -- the program with its commands
 abbrev pub nova_app : App

@@ -8,7 +8,7 @@ use Rattle.nv_args.specs.CommandLine.{nova_app}
 use Rattle.nv_args.specs.declared.todo.CheckOutput.{CheckOutput}
 use Rattle.nv_args.specs.declared.todo.CheckOutput.TheVariants.{Report, Summary, OnlyFaults}
 use Rattle.nv_args.specs.declared.todo.Todo.{Todo}
-use Rattle.nv_args.specs.declared.todo.Todo.TheVariants.{Run, Check, Mkfs, Ls, Stat, Cat, Explain, Map}
+use Rattle.nv_args.specs.declared.todo.Todo.TheVariants.{Run, Check, Mkfs, Clean, Ls, Stat, Cat, Explain, Map}
 use Rattle.nv_args.specs.UsageValue.{UsageTold}
 
 -- the written text is a decimal number below 2^64, which may have a plus sign and leading zeros
@@ -38,6 +38,7 @@ abbrev pub command_of : Todo → Text
 command_of (Run script image save) = codes "run"
 command_of (Check path workers output) = codes "check"
 command_of (Mkfs image blocks cpus tables force) = codes "mkfs"
+command_of (Clean image path) = codes "clean"
 command_of (Ls image path) = codes "ls"
 command_of (Stat image path) = codes "stat"
 command_of (Cat image path) = codes "cat"
@@ -59,6 +60,7 @@ HasValues values (Check path workers output) = (first_of (codes "path") values �
 HasValues values (Mkfs image blocks cpus tables force) = (first_of (codes "image") values ≡ Some image.now)
     × IsNumber (first_of (codes "blocks") values) blocks × IsNumber (first_of (codes "cpus") values) cpus
     × IsNumber (first_of (codes "tables") values) tables × (IsTrue force ↔ IsGiven (codes "force") values)
+HasValues values (Clean image path) = (first_of (codes "image") values ≡ Some image.now) × (first_of (codes "path") values ≡ option_map (λ text. text.now) path)
 -- the root, where no path is written
 HasValues values (Ls image path) = (first_of (codes "image") values ≡ Some image.now)
     × (path.now ≡ unwrap_or (first_of (codes "path") values) (codes "/"))

@@ -43,7 +43,7 @@ struct CommandForm<'a> {
 }
 
 // In the order in which help lists them.
-const COMMANDS: [CommandForm<'static>; 8] = [
+const COMMANDS: [CommandForm<'static>; 9] = [
     CommandForm {
         name: "run",
         about: "Runs a script and prints its answers",
@@ -122,6 +122,23 @@ const COMMANDS: [CommandForm<'static>; 8] = [
                 written: Written::Flag,
                 name: "force",
                 help: "Put the image in the place of a file that is there",
+            },
+        ],
+    },
+    CommandForm {
+        name: "clean",
+        about: "Takes the pages out of the logs of an image that they can do without",
+        notes: NOTES,
+        arguments: &[
+            Argument {
+                written: Written::Needed,
+                name: "image",
+                help: "The file that holds the image, which is written anew if a page went",
+            },
+            Argument {
+                written: Written::ByPlace,
+                name: "path",
+                help: "The path of the file or directory whose log is cleaned; all logs where left out",
             },
         ],
     },

@@ -101,6 +101,15 @@ fn mkfs_of<'a>(values: &ArgMatches<'a>) -> Option<Todo<'a>>
     })
 }
 
+fn clean_of<'a>(values: &ArgMatches<'a>) -> Option<Todo<'a>>
+    ensures some { IfSome result (λ todo. Asks (codes "clean") (rows_of (found_of values.now)) todo) }
+    ensures none { IsNone result → (todo : Todo) → ¬ Asks (codes "clean") (rows_of (found_of values.now)) todo }
+{
+    let image = text_of(values, "image")?;
+    let path = text_of(values, "path");
+    Some(Todo::Clean { image, path })
+}
+
 fn ls_of<'a>(values: &ArgMatches<'a>) -> Option<Todo<'a>>
     ensures some { IfSome result (λ todo. Asks (codes "ls") (rows_of (found_of values.now)) todo) }
     ensures none { IsNone result → (todo : Todo) → ¬ Asks (codes "ls") (rows_of (found_of values.now)) todo }
@@ -154,6 +163,7 @@ fn todo_of<'a>(matches: &ArgMatches<'a>) -> Option<Todo<'a>>
         "run" => Some(run_of(values)),
         "check" => check_of(values),
         "mkfs" => mkfs_of(values),
+        "clean" => clean_of(values),
         "ls" => ls_of(values),
         "stat" => stat_of(values),
         "cat" => cat_of(values),

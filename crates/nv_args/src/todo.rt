@@ -24,6 +24,11 @@ pub enum Todo<'a> {
         tables: u64,
         force: bool,
     },
+    /// Take the pages out of the logs of an image that they can do without: of the inode that a path leads to, or of all.
+    Clean {
+        image: &'a str,
+        path: Option<&'a str>,
+    },
     /// List a directory of an image.
     Ls {
         image: &'a str,

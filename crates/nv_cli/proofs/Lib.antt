@@ -8,3 +8,6 @@ pub mod Pieces
 pub mod Looks
 pub mod Opens
 pub mod Cats
+pub mod FreedPages
+pub mod Cleanings
+pub mod CleanedImage

@@ -3,7 +3,9 @@ pub mod Transcript
 pub mod Replies
 pub mod Looking
 pub mod Formatting
+pub mod Cleaning
 pub use Rattle.nv_region.specs.Region
+pub use Rattle.nv_region.specs.RegionState
 pub use Rattle.nv_super.specs.Super
 pub use Rattle.nv_report.specs.nv_outcome.Outcome
 pub use Rattle.nv_session.specs.Sessions

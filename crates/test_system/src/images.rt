@@ -57,8 +57,8 @@ fn bytes_behind<H: AllocGlobal + Abort + Threads + Sync>(
     bytes_of(rt.alloc(), &ended.region)
 }
 
-// They, where this is printed.
-fn run_on<H: AllocGlobal + Abort + Threads + Sync>(
+/// The bytes of the region that a script ends with, which begins with these, where this is printed.
+pub fn run_on<H: AllocGlobal + Abort + Threads + Sync>(
     rt: &H,
     bytes: &[u8],
     script: &[u8],

@@ -1,7 +1,7 @@
 //! Tests of the scan of inodes, of rows by number, of the faults between inodes, and of recovery; of a mounted file system:
-//! of what is read of it, of each call that changes it, and of stops; and of the lines of a script, the texts that it prints,
-//! the streams that it reads and writes, the words of the command line, and whole scripts. They stand here since a crate that
-//! has tests is proved twice, once with them and once without.
+//! of what is read of it, of each call that changes it, of stops and of cleaning; and of the lines of a script, the texts that
+//! it prints, the streams that it reads and writes, the words of the command line, and whole scripts. They stand here since a
+//! crate that has tests is proved twice, once with them and once without.
 #![tactic(auto)]
 
 #[cfg(test)]
@@ -10,6 +10,8 @@ mod asking;
 mod broken_streams;
 #[cfg(test)]
 mod checking;
+#[cfg(test)]
+mod cleaning;
 #[cfg(test)]
 mod contents;
 #[cfg(test)]

@@ -29,7 +29,7 @@ const REFUSED: [&[&str]; 13] = [
 ];
 
 /// Words, and what they ask for.
-const ASKED: [(&[&str], Todo<'static>); 13] = [
+const ASKED: [(&[&str], Todo<'static>); 15] = [
     (
         &["run"],
         Todo::Run {
@@ -88,6 +88,20 @@ const ASKED: [(&[&str], Todo<'static>); 13] = [
             cpus: 2,
             tables: 3,
             force: true,
+        },
+    ),
+    (
+        &["clean", "i"],
+        Todo::Clean {
+            image: "i",
+            path: None,
+        },
+    ),
+    (
+        &["clean", "i", "/a"],
+        Todo::Clean {
+            image: "i",
+            path: Some("/a"),
         },
     ),
     (

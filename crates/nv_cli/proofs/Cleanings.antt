@@ -1,0 +1,358 @@
+-- What cleaning leaves of a mount, a page after another.
+use Rattle.std.proofs.Common.{◌≡◌, ◌≢◌, ◌∙◌, ◌<◌, ◌≤◌, ℕ, ◌+◌, ◌++◌, Bool, true, false, is_none, is_some, not, IsTrue, List, [], ◌∷◌, length, ◌⊎◌, IfErr, Option, Some, None, Result, Ok, Err, refl, sym, ap, subst, inl, inr, arith}
+use Rattle.std.proofs.Math.Logic.{∥∥₁_elim, ∥∥₁_map}
+use Rattle.std.proofs.Math.Nat.{ℕ_set}
+use Rattle.std.proofs.Props.{props}
+use Rattle.std.proofs.lemmas.Bool.{cases_eq, true≢false}
+use Rattle.std.proofs.lemmas.List.{length-append}
+use Rattle.std.proofs.lemmas.List.Edits.{length-remove}
+use Rattle.std.proofs.lemmas.Option.{slice_get-get_or}
+use Rattle.std.specs.List.{filter, remove}
+use Rattle.std.specs.Option.{option_map}
+use Rattle.nv_region.specs.Region.{Region, size}
+use Rattle.nv_region.specs.RegionState.{RegionState, is_steady, steady_unburnt}
+use Rattle.nv_super.specs.declared.faults.Fault.{Fault}
+use Rattle.nv_super.specs.declared.superblock.Super.{Super}
+use Rattle.nv_super.specs.declared.owners.Owner.{Owner}
+use Rattle.nv_super.specs.Layout.{IsLayout, Layout, fixed_layout, inode_limit}
+use Rattle.nv_report.specs.nv_outcome.Outcome.{IsFree, IsOutcome}
+use Rattle.nv_report.specs.nv_outcome.Same.{is_lasting}
+use Rattle.nv_report.proofs.nv_outcome.SuperOf.{layout_of_super}
+use Rattle.nv_report.proofs.nv_outcome.Tickets.{slot_number}
+use Rattle.nv_tree.specs.Tree.{Node, SameNodes, SameTree, Tree}
+use Rattle.nv_tree.specs.Refusals.{first_refusal}
+use Rattle.nv_tree.specs.declared.refusal.Refusal.{Refusal}
+use Rattle.nv_tree.specs.declared.refusal.Refusal.TheVariants.{Memory, NotFound, ReadOnly, Stopped}
+use Rattle.nv_tree.proofs.Same.{same_itself, same_transitive}
+use Rattle.nv_scan.specs.Dead.{IsDead, IsFirstDead}
+use Rattle.nv_scan.specs.declared.piece.Row.{Row}
+use Rattle.nv_held.specs.Held.{Held, Store, with_inode}
+use Rattle.nv_held.specs.Cleaned.{cleaned}
+use Rattle.nv_held.specs.Mounted.{IsMounted, ShowsSound}
+use Rattle.nv_held.proofs.Owning.{other_held, same_held}
+use Rattle.nv_held.proofs.Shown.{stands_at}
+use Rattle.nv_rows.specs.Rows.{place_in, row_of}
+use Rattle.nv_rows.proofs.Places.{at_place, numbered}
+use Rattle.nv_super.proofs.Members.{stands}
+use Rattle.nv_steps.proofs.RowOf.{row_at}
+use Rattle.nv_commit.proofs.Left.{one_held}
+use Rattle.nv_calls.specs.CleanCall.{PageWent, ShowsCleaned, clean_inode_tests}
+use Rattle.nv_calls.specs.Mount.{IsKept, Mount}
+use Rattle.nv_calls.specs.Same.{KeepsMount}
+use Rattle.nv_calls.specs.World.{world_of}
+use Rattle.nv_calls.proofs.Mounts.{faultless, mounted_of_kept, mounted_with}
+use Rattle.nv_paths.specs.Seen.{node_of, tree_of}
+use Rattle.nv_session.proofs.Cleaned.{row_there}
+use Rattle.nv_session.proofs.Settled.{settled}
+use Rattle.nv_cli.specs.declared.cleaning.Logs.TheVariants as which
+use Rattle.nv_cli.specs.Cleaning.{AreShort, CameBack, CanClean, HasAtMost, IsPageOf, LogAfter, LosesPages, NeedsPages, page_count}
+use Rattle.nv_cli.proofs.FreedPages.{came_of_all, few_came, freed, more_came, none_came, one_came, page_before, was_page}
+
+abbrev tree : Mount RegionState → Tree
+tree m = tree_of m.memory.region m.rows
+
+abbrev Keeps : Mount RegionState → Type 0
+Keeps m = IsKept m.memory.region m.sup m.rows m.free m.faults m.read_only m.stopped
+
+-- ---- pages that go
+
+pub loses_none : (m : Mount RegionState) (Asked : ℕ → Type 0) → CanClean m → LosesPages m m Asked 0
+loses_none m Asked can = record {
+  can = can;
+  as_long = refl;
+  sup = refl;
+  faults = refl;
+  tree = same_itself (tree m);
+  blocks = [];
+  count = refl;
+  came_back = none_came m.memory.region m.sup Asked;
+  none = λ _. refl;
+  needs = λ i needs. needs;
+}
+
+pub loses_more : (a b c : Mount RegionState) (Asked : ℕ → Type 0) (j k n : ℕ) → j + k ≡ n → LosesPages a b Asked j → LosesPages b c Asked k → LosesPages a c Asked n
+loses_more a b c Asked j k n is s r = record {
+  can = r.can;
+  as_long = r.as_long ∙ s.as_long;
+  sup = r.sup ∙ s.sup;
+  faults = r.faults ∙ s.faults;
+  tree = same_transitive (tree c) (tree b) (tree a) r.tree s.tree;
+  blocks = s.blocks ++ r.blocks;
+  count = (let long = length-append s.blocks r.blocks in let first = s.count in let second = r.count in omega (arith, long, first, second, is));
+  came_back = more_came a.memory.region b.memory.region c.memory.region a.sup Asked s.blocks r.blocks s.came_back (subst (λ (x : Super). CameBack b.memory.region c.memory.region x Asked r.blocks) s.sup r.came_back);
+  none = λ e. r.none (omega (arith, is, e)) ∙ s.none (omega (arith, is, e));
+  needs = λ i needs. r.needs i (s.needs i needs);
+}
+
+pub loses_of_all : (a b : Mount RegionState) (Few Many : ℕ → Type 0) (n : ℕ) → ((i : ℕ) → Few i → Many i) → LosesPages a b Few n → LosesPages a b Many n
+loses_of_all a b Few Many n wider s = record {
+  can = s.can;
+  as_long = s.as_long;
+  sup = s.sup;
+  faults = s.faults;
+  tree = s.tree;
+  blocks = s.blocks;
+  count = s.count;
+  came_back = came_of_all a.memory.region b.memory.region a.sup Few Many s.blocks wider s.came_back;
+  none = s.none;
+  needs = s.needs;
+}
+
+-- an inode in use stays so
+used_by : (o p : Option Node) → SameNodes o p → is_none p ≡ false → is_none o ≡ false
+used_by None None same e = e
+used_by None (Some b) same e = absurd same
+used_by (Some a) p same e = refl
+
+pub used_still : (m n : Mount RegionState) (Asked : ℕ → Type 0) (pages i : ℕ) → LosesPages m n Asked pages → is_none (tree m i) ≡ false → is_none (tree n i) ≡ false
+used_still m n Asked pages i loses used = used_by (tree n i) (tree m i) (loses.tree i) used
+
+-- no more go than there are blocks
+pub few_lost : (a b : Mount RegionState) (Asked : ℕ → Type 0) (n : ℕ) → LosesPages a b Asked n → n ≤ a.sup.blocks
+few_lost a b Asked n s = (let few = few_came a.memory.region b.memory.region a.sup Asked s.blocks s.came_back in let count = s.count in omega (arith, few, count))
+
+-- ---- one page
+
+-- a call that was done hasn't been stopped
+pub runs_after : {A B : Type 0} (x : A) (stopped : Bool) → (IsTrue stopped → (Ok x ≡ Err Stopped) × B) → stopped ≡ false
+runs_after x true done = absurd (let wrong : Ok x ≡ Err Stopped = (done refl).0 in cc)
+runs_after x false done = refl
+
+passes : (faulty missing : Bool) (e : Refusal) → faulty ≡ false → missing ≡ false → first_refusal ((faulty, ReadOnly) ∷ (missing, NotFound) ∷ []) ≡ Some e → ⊥
+passes true missing e sound there refused = cc
+passes false true e sound there refused = cc
+passes false false e sound there refused = cc
+
+-- One that may be made is refused for want of memory alone.
+pub wants_memory : (m n : Mount RegionState) (i : ℕ) (r : Result (Option ℕ) Refusal) (e : Refusal) → r ≡ Err e → CanClean m → is_none (tree m i) ≡ false
+    → (m.stopped ≡ false → IfErr r (λ e. (e ≡ Memory) ⊎ ((e ≡ Stopped) ⊎ (first_refusal (clean_inode_tests (world_of m) (tree m) i) ≡ Some e))))
+    → (m.stopped ≡ false → (IsTrue n.stopped → (r ≡ Err Stopped) × IsTrue n.memory.burnt) × (r ≡ Err Stopped → IsTrue n.stopped)) → IsTrue (is_steady n.memory) → e ≡ Memory
+wants_memory m n i r e is can used refused stopped steady =
+    let told = subst (λ (x : Result (Option ℕ) Refusal). IfErr x (λ e. (e ≡ Memory) ⊎ ((e ≡ Stopped) ⊎ (first_refusal (clean_inode_tests (world_of m) (tree m) i) ≡ Some e)))) is (refused can.runs) in
+    elim told [
+      | inl memory ↦ memory
+      | inr rest ↦ elim rest [
+        | inl stops ↦ absurd (
+            let said = stopped can.runs in
+            let burnt = (said.0 (said.1 (is ∙ ap Err stops))).1 in
+            true≢false (sym burnt ∙ steady_unburnt n.memory steady))
+        | inr test ↦ absurd (passes m.read_only (is_none (tree m i)) e can.writes used test)
+      ]
+    ]
+
+-- the number of pages of what is held
+abbrev pages_of : Option Held → ℕ
+pages_of None = 0
+pages_of (Some h) = length h.pages
+
+-- a log that has no page at all needs each
+pub no_page : (m : Mount RegionState) (i : ℕ) → HasAtMost m i 0 → NeedsPages m.memory.region m.sup i
+no_page m i most held h shown there k dead = let few = most held h shown there in omega (arith, few, dead.more)
+
+regions_prop : (R S : Region) → IsProp (S ≡ R)
+regions_prop R S = hlevel (props, ℕ_set)
+
+free_prop : (R : Region) (l : Layout) (q : ℕ) → IsProp (IsFree R l q)
+free_prop R l q = hlevel (props, ℕ_set)
+
+page_prop : (R : Region) (s : Super) (i b : ℕ) → IsProp (IsPageOf R s i b)
+page_prop R s i b = hlevel props
+
+module _ (m : Mount RegionState) (kept : Keeps m) (can : CanClean m) where
+  -- where the log needs each of its pages, the region is as before
+  none_went : (S : Region) (i : ℕ) → is_none (tree m i) ≡ false
+      → ((held : Store) (h : Held) → ShowsSound m.memory.region m.sup held → held i ≡ Some h → ShowsCleaned m.memory.region S m.sup held i h None) → S ≡ m.memory.region
+  none_went S i used log = by (tree m i) refl used where
+    by : (o : Option Node) → tree m i ≡ o → is_none o ≡ false → S ≡ m.memory.region
+    by None at there = absurd (cc)
+    by (Some node) at there = ∥∥₁_elim (mounted_of_kept kept can.runs can.writes) (regions_prop m.memory.region S) (λ w. holds w.0 w.1) where
+      holds : (held : Store) → IsMounted m.memory.region m.sup held m.rows m.free.pools → S ≡ m.memory.region
+      holds held mounted =
+          let row = row_there m.memory.region m.rows i node at in
+          let keeps = mounted.keeps in
+          let rows = keeps.in_rows in
+          let told = rows.each row.0 row.1 in
+          let there : held i ≡ Some told.0 = subst (λ (k : ℕ). held k ≡ Some told.0) row.2 told.1 in
+          (log held told.0 mounted.sound there).1
+
+  as_before : (S : Region) (s : Super) → S ≡ m.memory.region → s ≡ m.sup → (j : ℕ) → NeedsPages m.memory.region m.sup j → NeedsPages S s j
+  as_before S s same super j needs = subst (λ (x : Super). NeedsPages S x j) (sym super) (subst (λ (T : Region). NeedsPages T m.sup j) (sym same) needs)
+
+  -- a log has as many pages as its row
+  pub as_in_row : (i : ℕ) (row : Row) → row_of m.rows i ≡ Some row → HasAtMost m i (length row.pages.items)
+  as_in_row i row at held h shown there = ∥∥₁_elim (mounted_with kept can.runs held shown) (hlevel (props, ℕ_set)) (λ mounted. (
+      let keeps = mounted.keeps in
+      let rows = keeps.in_rows in
+      let told = rows.each row (stands m.rows (place_in m.rows i) row (at_place m.rows i ∙ at)) in
+      let here : held i ≡ Some told.0 = subst (λ (k : ℕ). held k ≡ Some told.0) (numbered m.rows i row at) told.1 in
+      let keeps_row = told.2 in
+      let same : Some told.0 ≡ Some h = sym here ∙ there in
+      let pages : length told.0.pages ≡ length h.pages = ap pages_of same in
+      omega (arith, pages, ap (λ (xs : List ℕ). length xs) keeps_row.pages)))
+
+  -- an inode without a row has no log
+  pub no_row : (i : ℕ) → row_of m.rows i ≡ None → NeedsPages m.memory.region m.sup i
+  no_row i none held h shown there = ∥∥₁_elim (mounted_with kept can.runs held shown) (hlevel props) (λ mounted. absurd (
+      let keeps = mounted.keeps in
+      let rows = keeps.in_rows in
+      let w = rows.all i h there in
+      let place = w.1 in
+      let has : row_of m.rows w.0.inode ≡ Some w.0 = row_at m.rows place.0 w.0 rows.rising (slice_get-get_or m.rows place.0 w.0 place.1 ∙ ap Some place.2) in
+      let no : None ≡ Some w.0 = sym none ∙ ap (row_of m.rows) (sym w.2) ∙ has in
+      cc))
+
+  -- what is held of a region that a page left, by what was held of it before
+  module _ (n : Mount RegionState) (i : ℕ) (b : ℕ) (super : n.sup ≡ m.sup)
+      (log : (held : Store) (h : Held) → ShowsSound m.memory.region m.sup held → held i ≡ Some h → ShowsCleaned m.memory.region n.memory.region m.sup held i h (Some b)) (used : is_none (tree m i) ≡ false) where
+    -- Something that is a proposition holds of what was held and went.
+    by_page : (A : Type 0) → IsProp A → ((held : Store) (h : Held) (k : ℕ) → ShowsSound m.memory.region m.sup held → held i ≡ Some h → PageWent n.memory.region m.sup held i h b k → A) → A
+    by_page A prop then = by (tree m i) refl used where
+      by : (o : Option Node) → tree m i ≡ o → is_none o ≡ false → A
+      by None at there = absurd (cc)
+      by (Some node) at there = ∥∥₁_elim (mounted_of_kept kept can.runs can.writes) prop (λ w. holds w.0 w.1) where
+        holds : (held : Store) → IsMounted m.memory.region m.sup held m.rows m.free.pools → A
+        holds held mounted =
+            let row = row_there m.memory.region m.rows i node at in
+            let keeps = mounted.keeps in
+            let rows = keeps.in_rows in
+            let told = rows.each row.0 row.1 in
+            let there : held i ≡ Some told.0 = subst (λ (k : ℕ). held k ≡ Some told.0) row.2 told.1 in
+            ∥∥₁_elim (log held told.0 mounted.sound there) prop (λ v. then held told.0 v.0 mounted.sound there v.1)
+
+    -- and what is held now is that without the page
+    held_now : (held other : Store) (h : Held) (k : ℕ) → PageWent n.memory.region m.sup held i h b k → ShowsSound n.memory.region n.sup other → other ≡ with_inode held i (Some (cleaned h k))
+    held_now held other h k went sound =
+        let before = went.sound in
+        let now : ShowsSound n.memory.region m.sup other = subst (λ (s : Super). ShowsSound n.memory.region s other) super sound in
+        one_held now.shows before.shows
+
+    others : (j : ℕ) → NeedsPages m.memory.region m.sup j → NeedsPages n.memory.region n.sup j
+    others j needs other g sound is = by_page (IsFirstDead n.sup g.kind j g.created g.entries g.pages None) (hlevel props) (λ held h k shown there went.
+        elim (cases_eq j i) [
+          | inl same ↦ absurd (let first = went.first in needs_none held h k shown there first.0 same)
+          | inr apart ↦ (
+              let still : held j ≡ Some g = sym (other_held held i j (Some (cleaned h k)) apart) ∙ sym (ap (λ (st : Store). st j) (held_now held other h k went sound)) ∙ is in
+              subst (λ (s : Super). IsFirstDead s g.kind j g.created g.entries g.pages None) (sym super) (needs held g shown still)
+              )
+        ]) where
+          needs_none : (held : Store) (h : Held) (k : ℕ) → ShowsSound m.memory.region m.sup held → held i ≡ Some h → IsDead m.sup h.kind i h.created h.entries h.pages k → j ≡ i → ⊥
+          needs_none held h k shown there dead same = needs held h shown (ap held same ∙ there) k (subst (λ (x : ℕ). IsDead m.sup h.kind x h.created h.entries h.pages k) (sym same) dead)
+
+    one_fewer : (count : ℕ) → HasAtMost m i (count + 1) → HasAtMost n i count
+    one_fewer count most other g sound is = by_page (length g.pages ≤ count) (hlevel (props, ℕ_set)) (λ held h k shown there went. (
+        let same : Some g ≡ Some (cleaned h k) = sym is ∙ ap (λ (st : Store). st i) (held_now held other h k went sound) ∙ same_held held i (Some (cleaned h k)) in
+        let pages : length g.pages ≡ length (remove h.pages k) = ap pages_of same in
+        let first = went.first in
+        let dead = first.0 in
+        let before = most held h shown there in
+        let fewer : length (remove h.pages k) + 1 ≡ length h.pages = length-remove h.pages k (omega (arith, dead.more)) in
+        omega (arith, pages, before, fewer)))
+
+    -- the page came back, and no other block
+    page_came : CameBack m.memory.region n.memory.region m.sup (λ j. j ≡ i) (b ∷ [])
+    page_came = one_came m.memory.region n.memory.region m.sup i b
+        (λ q differs free. by_page (IsFree m.memory.region (fixed_layout m.sup) q) (free_prop m.memory.region (fixed_layout m.sup) q) (λ held h k shown there went.
+        elim ((freed m.memory.region n.memory.region m.sup held i b k h shown there went q).0 free) [ inl old ↦ old | inr same ↦ absurd (differs (same ∙ sym went.block)) ]))
+        (λ q free. by_page (IsFree n.memory.region (fixed_layout m.sup) q) (free_prop n.memory.region (fixed_layout m.sup) q) (λ held h k shown there went.
+        (freed m.memory.region n.memory.region m.sup held i b k h shown there went q).1 (inl free)))
+        (by_page (IsFree n.memory.region (fixed_layout m.sup) b) (free_prop n.memory.region (fixed_layout m.sup) b) (λ held h k shown there went.
+        (freed m.memory.region n.memory.region m.sup held i b k h shown there went b).1 (inr went.block)))
+        (by_page (IsPageOf m.memory.region m.sup i b) (page_prop m.memory.region m.sup i b) (λ held h k shown there went.
+        subst (λ (x : ℕ). IsPageOf m.memory.region m.sup i x) (sym went.block) (was_page m.memory.region n.memory.region m.sup held i b k h shown there went)))
+        (λ j q page. by_page (IsPageOf m.memory.region m.sup j q) (page_prop m.memory.region m.sup j q) (λ held h k shown there went.
+        page_before m.memory.region n.memory.region m.sup held i b k h shown there went j q page))
+
+  -- what one call leaves, by its answer
+  pub page_lost : (n : Mount RegionState) (i : ℕ) (answer : Option ℕ) → is_none (tree m i) ≡ false → n.stopped ≡ false → IsTrue (is_steady n.memory) → KeepsMount m n → size n.memory.region ≡ size m.memory.region → SameTree (tree n) (tree m)
+      → ((held : Store) (h : Held) → ShowsSound m.memory.region m.sup held → held i ≡ Some h → ShowsCleaned m.memory.region n.memory.region m.sup held i h answer) → LosesPages m n (λ j. j ≡ i) (page_count answer)
+  page_lost n i None used runs steady keeps long same log = record {
+    can = record { runs = runs; writes = keeps.read_only ∙ can.writes; steady = steady };
+    as_long = long;
+    sup = keeps.sup;
+    faults = keeps.faults;
+    tree = same;
+    blocks = [];
+    count = refl;
+    came_back = subst (λ (S : Region). CameBack m.memory.region S m.sup (λ j. j ≡ i) []) (sym (none_went n.memory.region i used log)) (none_came m.memory.region m.sup (λ j. j ≡ i));
+    none = λ e. none_went n.memory.region i used log;
+    needs = λ j each. as_before n.memory.region n.sup (none_went n.memory.region i used log) keeps.sup j each;
+  }
+  page_lost n i (Some block) used runs steady keeps long same log = record {
+    can = record { runs = runs; writes = keeps.read_only ∙ can.writes; steady = steady };
+    as_long = long;
+    sup = keeps.sup;
+    faults = keeps.faults;
+    tree = same;
+    blocks = block ∷ [];
+    count = refl;
+    came_back = page_came n i block keeps.sup log used;
+    none = λ e. absurd (omega (arith, e));
+    needs = others n i block keeps.sup log used;
+  }
+
+  pub log_after : (n : Mount RegionState) (i : ℕ) (answer : Option ℕ) → is_none (tree m i) ≡ false → KeepsMount m n
+      → ((held : Store) (h : Held) → ShowsSound m.memory.region m.sup held → held i ≡ Some h → ShowsCleaned m.memory.region n.memory.region m.sup held i h answer) → LogAfter m n i answer
+  log_after n i None used keeps log = as_before n.memory.region n.sup (none_went n.memory.region i used log) keeps.sup i (λ held h shown there. (log held h shown there).0)
+  log_after n i (Some block) used keeps log = one_fewer n i block keeps.sup log used
+
+  -- it shows an outcome without a fault
+  pub shows_now : (doubled : List (ℕ × Owner)) × IsOutcome m.memory.region (record { sup = m.sup; rows = m.rows; free = m.free.pools; doubled = doubled; faults = [] })
+  shows_now =
+      let none : m.faults ≡ [] = faultless kept can.writes in
+      let lasting : filter is_lasting m.faults ≡ [] = ap (filter is_lasting) none in
+      settled m.memory.region m.sup m.rows m.free.pools
+      (∥∥₁_map (kept.shown can.runs) (λ w. (w.0, subst (λ (fs : List Fault). IsOutcome m.memory.region (record { sup = m.sup; rows = m.rows; free = m.free.pools; doubled = w.0; faults = fs })) lasting w.1)))
+
+  -- so its superblock's numbers are those of a layout
+  pub layout_here : IsLayout m.sup
+  layout_here = layout_of_super m.memory.region m.sup shows_now.1.sup
+
+-- ---- a log
+
+pub row_used : (m : Mount RegionState) (i : ℕ) (row : Row) → row_of m.rows i ≡ Some row → is_none (tree m i) ≡ false
+row_used m i row some = ap (λ (o : Option Row). is_none (option_map (node_of m.memory.region) o)) some
+
+-- what a test of an answer tells
+pub is_there : (o : Option ℕ) (b : Bool) → is_some o ≡ not b → is_none o ≡ b
+is_there None true e = refl
+is_there None false e = absurd (cc)
+is_there (Some block) true e = absurd (cc)
+is_there (Some block) false e = refl
+
+-- where no page went, all is as it was before
+pub pages_none : (a b c : Mount RegionState) (Asked : ℕ → Type 0) (n : ℕ) (block : Option ℕ) → is_none block ≡ true → LosesPages a b Asked n → LosesPages b c Asked (page_count block) → LosesPages a c Asked n
+pages_none a b c Asked n None is lost more = loses_more a b c Asked n 0 n (omega arith) lost more
+pages_none a b c Asked n (Some block) is lost more = absurd (cc)
+
+pub pages_some : (a b c : Mount RegionState) (Asked : ℕ → Type 0) (n : ℕ) (block : Option ℕ) → is_none block ≡ false → LosesPages a b Asked n → LosesPages b c Asked (page_count block) → LosesPages a c Asked (n + 1)
+pages_some a b c Asked n None is lost more = absurd (cc)
+pages_some a b c Asked n (Some block) is lost more = loses_more a b c Asked n 1 (n + 1) refl lost more
+
+pub log_none : (b c : Mount RegionState) (i : ℕ) (block : Option ℕ) → is_none block ≡ true → LogAfter b c i block → NeedsPages c.memory.region c.sup i
+log_none b c i None is log = log
+log_none b c i (Some block) is log = absurd (cc)
+
+-- as many turns are left as the log may have pages
+pub left_some : (b c : Mount RegionState) (i gone pages : ℕ) (block : Option ℕ) → is_none block ≡ false → LogAfter b c i block → ((n : ℕ) → gone + n ≡ pages → HasAtMost b i n) → (n : ℕ) → gone + 1 + n ≡ pages → HasAtMost c i n
+left_some b c i gone pages None is log left n e = absurd (cc)
+left_some b c i gone pages (Some block) is log left n e = log n (left (n + 1) (omega (arith, e)))
+
+pub left_first : (m : Mount RegionState) (kept : Keeps m) (can : CanClean m) (i pages : ℕ) (row : Row) → row_of m.rows i ≡ Some row → pages ≡ length row.pages.items → (n : ℕ) → 0 + n ≡ pages → HasAtMost m i n
+left_first m kept can i pages row some is n e held h shown there = let most = as_in_row m kept can i row some held h shown there in omega (arith, most, is, e)
+
+pub short_one : (m : Mount RegionState) (i : ℕ) → NeedsPages m.memory.region m.sup i → AreShort m (which.Of i)
+short_one m i needs j same = subst (λ (x : ℕ). NeedsPages m.memory.region m.sup x) (sym same) needs
+
+-- ---- all logs
+
+pub all_done : (b c : Mount RegionState) (Asked : ℕ → Type 0) (k i : ℕ) → LosesPages b c Asked k → ((x : ℕ) → x < i → NeedsPages b.memory.region b.sup x) → NeedsPages c.memory.region c.sup i → (x : ℕ) → x < i + 1 → NeedsPages c.memory.region c.sup x
+all_done b c Asked k i more done here x below = elim (cases_eq x i) [
+  | inl same ↦ subst (λ (y : ℕ). NeedsPages c.memory.region c.sup y) (sym same) here
+  | inr apart ↦ more.needs x (done x (omega (arith, below, apart)))
+]
+
+-- only an inode of the tables has a log
+pub all_needed : (m : Mount RegionState) → IsLayout m.sup → ((x : ℕ) → x < inode_limit m.sup → NeedsPages m.memory.region m.sup x) → (i : ℕ) → NeedsPages m.memory.region m.sup i
+all_needed m layout done i held h sound is =
+    let w = stands_at sound.shows i h is in
+    done i (slot_number m.sup i w.a layout w.at).1 held h sound is
