@@ -1,0 +1,12 @@
+pub mod Turned
+pub mod Linked
+pub mod Same
+pub mod Paged
+pub mod Held
+pub mod Shown
+pub mod Walked
+pub mod Refused
+pub mod SameLogs
+pub mod Ready
+pub mod Whole
+pub use Rattle.nv_outcome.proofs as nv_outcome

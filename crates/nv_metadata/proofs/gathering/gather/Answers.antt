@@ -1,0 +1,45 @@
+use Rattle.std.proofs.Common.{◌≡◌, ◌≢◌, ◌⊎◌, inl, inr, ◌<◌, ◌+◌, ◌/◌, ◌%◌, ℕ, List, length, drop, refl, sym, ap, ◌∙◌, subst, arith}
+use Rattle.byteorder.specs.Endian.{little_number}
+use Rattle.nv_region.specs.Region.{region_of, word}
+use Rattle.nv_region.proofs.Bytes.{size_of_bytes}
+use Rattle.nv_metadata.proofs.Refused.{length_refused, refused_there}
+use Rattle.nv_metadata.proofs.Ready.{says}
+use Rattle.nv_metadata.proofs.Shown.{word_read}
+use Rattle.nv_metadata.proofs.gathering.gather.Goals as goal
+
+pub returns-then-length-ne0-clause-gathered : goal.returns-then-length-ne0-clause-gathered
+returns-then-length-ne0-clause-gathered g c image known =
+    let P : ℕ → Type 0 = λ n. (n % 4096 ≢ 0) ⊎ ((n / 4096 < 8) ⊎ (65536 < n / 4096)) in
+    length_refused (region_of image) (subst P (c.in_ok-length.ensures image known ∙ sym (size_of_bytes image)) (elim c.then-length-ne0.either [
+      | inl cut ↦ inl cut
+      | inr other ↦ elim other [ inl few ↦ inr (inl few.1) | inr many ↦ inr (inr many.2) ]
+    ]))
+
+pub gather_metadata-requires-clause-superblock : goal.gather_metadata-requires-clause-superblock
+gather_metadata-requires-clause-superblock g c =
+    let made = c.in_ok-alone.ensures in
+    let items = c.deref.ensures.value in
+    says c.in-Ok.sup c.in_ok-first.first.items c.in_ok-alone.alone.memory.region c.in_ok-first.ensures.count c.in-Ok.ensures.blocks
+    (λ at aligned within. made.front at aligned (omega (arith, within, ap length items)) ∙ ap (λ (l : List ℕ). little_number 8 (drop at l)) items) c.in-Ok.ensures.accepted
+
+pub returns-in-Ok-clause-gathered : goal.returns-in-Ok-clause-gathered
+returns-in-Ok-clause-gathered g c image known =
+    let as_long : c.in_ok-length.length ≡ length image = c.in_ok-length.ensures image known in
+    let has = c.in-Ok.ensures.blocks in
+    let made = c.in_ok-alone.ensures.blocks in
+    let words = has.0 in
+    let same_words = made.0 in
+    c.gather_metadata.ensures.gathered image known (omega (arith, as_long, words, same_words, c.if-length-ne0.false)) (c.in_ok-first.ensures.read image known)
+
+pub returns-in-Err-clause-gathered : goal.returns-in-Err-clause-gathered
+returns-in-Err-clause-gathered g c image known =
+    let as_long : c.in_ok-length.length ≡ length image = c.in_ok-length.ensures image known in
+    let made = c.in_ok-alone.ensures in
+    let words = made.blocks.0 in
+    let rest = made.blocks.1 in
+    let items = c.deref.ensures.value in
+    let count : length c.deref.result.now ≡ 4096 = omega (arith, ap length items, c.in_ok-first.ensures.count) in
+    refused_there (region_of image) c.in_ok-alone.alone.memory.region (omega (arith, as_long, words, rest, size_of_bytes image, c.if-length-ne0.false))
+    (λ at aligned low. made.front at aligned (omega (arith, low, aligned, count)) ∙ ap (λ (l : List ℕ). little_number 8 (drop at l)) items
+    ∙ word_read image c.in_ok-first.first.items 0 at (c.in_ok-first.ensures.read image known) refl aligned (omega (arith, low, aligned, c.in_ok-first.ensures.count)) ∙ ap (word (region_of image)) (let same : 0 + at ≡ at = omega arith in same))
+    c.in-Err.fault c.in-Err.ensures.refused

@@ -1,0 +1,6 @@
+pub mod Blocks
+pub mod Memory
+pub mod Linked
+pub mod Walk
+pub mod Gathered
+pub use Rattle.nv_outcome.specs as nv_outcome

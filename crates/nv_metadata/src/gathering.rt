@@ -1,0 +1,111 @@
+//! The metadata of an image, gathered by a reader of its bytes.
+//!
+//! First the superblock is read, and then all blocks in front of the data blocks in one read. A copy of these is rolled back:
+//! it says where logs begin and end. From each head on the links lead to the pages, each of which is read once.
+
+ghost use Rattle.std.specs.Prelude.{◌≡◌, ◌≤◌, ◌*◌, ◌^◌, ℕ, List, Some, IfOk, IsTrue, length};
+ghost use Rattle.std.specs.List.{Contains};
+ghost use Rattle.nv_region.specs.Region.{region_of};
+ghost use Rattle.nv_super.specs.Layout.{IsLayout, is_page_start, system_blocks};
+ghost use Rattle.nv_journal.specs.Undo.{undone};
+ghost use Rattle.nv_metadata.specs.Blocks.{AreBytesAt};
+ghost use Rattle.nv_metadata.specs.Gathered.{AreGathered, IsOpen, SaysSuper};
+ghost use Rattle.nv_metadata.specs.Walk.{AreLogs};
+ghost use Rattle.nv_metadata.specs.declared.logs.LogEnds.{LogEnds as LogEndsValue};
+
+use crate::blocks::Blocks;
+use crate::errors::GatherError;
+use crate::logs::{LogEnds, right_logs};
+use crate::memory::MetadataRegion;
+use crate::walking::fetch_logs;
+use nv_journal::undo;
+use nv_super::{BLOCK_SIZE, LEAST_BLOCKS, MOST_BLOCKS, Super, SuperFault, read_super};
+use std::alloc::Global;
+
+/// What was read of an image.
+#[derive(Drop)]
+pub enum Gathered {
+    /// The superblock's numbers, and the region of the metadata as the image has them: nothing is rolled back in it.
+    Metadata(Super, MetadataRegion),
+    /// The first fault of the superblock, for which no more than the first block was read.
+    Refused(SuperFault),
+}
+
+/// Reads the metadata of an image: the superblock, the journals, the tables and the pages of logs, each block once. The
+/// region that they make has zeros elsewhere, and takes stores in front of the data blocks.
+///
+/// Where the bytes are known, that region has the same outcome as all of them, or the superblock is refused for the same fault.
+///
+/// Errors: `Read` where the length isn't told or bytes can't be read, which is never taken for an answer; `Memory` where a
+/// growth was refused.
+pub fn gather<B: Blocks>(alloc: Global, source: &B) -> Result<Gathered, GatherError>
+    ensures gathered { (image : List ℕ) → B.bytes source.now ≡ Some image → IfOk result (AreGathered (region_of image)) }
+    ensures open { IfOk result IsOpen }
+{
+    let length = source.len()?;
+    let blocks = length / BLOCK_SIZE;
+    if length % BLOCK_SIZE != 0 || blocks < LEAST_BLOCKS || blocks > MOST_BLOCKS {
+        return Ok(Gathered::Refused(SuperFault::Length));
+    }
+    let first = read_bytes(alloc, source, 0, BLOCK_SIZE)?;
+    let alone = MetadataRegion::new(alloc, blocks, &first)?;
+    match read_super(&alone) {
+        Ok(sup) => gather_metadata(alloc, source, sup, first),
+        Err(fault) => Ok(Gathered::Refused(fault)),
+    }
+}
+
+// The metadata of an image whose first block was read, and says these numbers.
+fn gather_metadata<B: Blocks>(
+    alloc: Global,
+    source: &B,
+    sup: Super,
+    first: Vec<u8>,
+) -> Result<Gathered, GatherError>
+    requires layout { IsLayout sup }
+    requires first { length first.items ≡ 4096 }
+    requires superblock { SaysSuper first.items sup }
+    ensures gathered { (image : List ℕ) → B.bytes source.now ≡ Some image → length image ≡ 4096 * sup.blocks → AreBytesAt image 0 first.items → IfOk result (AreGathered (region_of image)) }
+    ensures open { IfOk result IsOpen }
+{
+    let rest = read_bytes(
+        alloc,
+        source,
+        BLOCK_SIZE,
+        (sup.system_blocks() - 1) * BLOCK_SIZE,
+    )?;
+    let mut front = first;
+    front.extend_from_slice(&rest)?;
+    let logs = logs_rolled_back(alloc, &sup, &front)?;
+    let mut memory = MetadataRegion::new(alloc, sup.blocks, &front)?;
+    fetch_logs(alloc, &mut memory, source, &sup, &logs)?;
+    Ok(Gathered::Metadata(sup, memory))
+}
+
+// So many bytes of the image from one on.
+fn read_bytes<B: Blocks>(
+    alloc: Global,
+    source: &B,
+    at: u64,
+    count: u64,
+) -> Result<Vec<u8>, GatherError>
+    requires { count ≤ 2 ^ 32 }
+    ensures count { IfOk result (λ bytes. length bytes.items ≡ count) }
+    ensures read { (image : List ℕ) → B.bytes source.now ≡ Some image → IfOk result (λ bytes. AreBytesAt image at bytes.items) }
+{
+    let mut bytes = vec![in alloc; 0; count as usize]?;
+    source.read(at, &mut bytes)?;
+    Ok(bytes)
+}
+
+// Where logs begin and end, once the journals in the blocks of the front are rolled back.
+fn logs_rolled_back(alloc: Global, sup: &Super, front: &[u8]) -> Result<Vec<LogEnds>, GatherError>
+    requires layout { IsLayout sup.now }
+    requires front { length front.now ≡ 4096 * system_blocks sup.now }
+    ensures logs { (image : List ℕ) → AreBytesAt image 0 front.now → length image ≡ 4096 * sup.now.blocks → IfOk result (λ logs. AreLogs (undone sup.now (region_of image)) sup.now logs.items) }
+    ensures heads { IfOk result (λ logs. (log : LogEndsValue) → Contains logs.items log → IsTrue (is_page_start sup.now log.head)) }
+{
+    let mut memory = MetadataRegion::new(alloc, sup.blocks, front)?;
+    undo(alloc, &mut memory, sup)?;
+    Ok(right_logs(alloc, &memory, sup)?)
+}

@@ -1,0 +1,19 @@
+//! The metadata of an image alone: superblock, journals, tables and log pages are read, and nothing else.
+//!
+//! The outcome of a region is read from these words alone. So the region of the image in which every other word is 0 has the
+//! same outcome as the whole image.
+#![tactic(auto)]
+
+mod blocks;
+mod errors;
+mod gathering;
+mod laws;
+mod logs;
+mod memory;
+mod walking;
+
+pub use blocks::{Blocks, HeldBytes};
+pub use errors::GatherError;
+pub use gathering::{Gathered, gather};
+pub use laws::{a_gathered_region_has_the_metadata, a_gathered_region_has_the_same_outcome};
+pub use memory::MetadataRegion;

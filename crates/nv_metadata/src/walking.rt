@@ -1,0 +1,132 @@
+//! The pages of logs, fetched one after another as the links lead to them.
+
+ghost use Rattle.std.specs.Prelude.{◌≡◌, ◌≢◌, ◌≤◌, ◌<◌, ◌/◌, ◌*◌, ◌⊎◌, ◌∷◌, [], ℕ, List, Some, IfOk, OnOk, OnSome, IfSome, IfNone, IsTrue, true, false, eqb, length};
+ghost use Rattle.std.specs.List.{Contains, list_any};
+ghost use Rattle.nv_region.specs.Region.{HasBlocks, region_of};
+ghost use Rattle.nv_super.specs.Layout.{HasAreas, is_page_start, system_blocks};
+ghost use Rattle.nv_metadata.specs.Linked.{IsLinked, link_in};
+ghost use Rattle.nv_metadata.specs.Memory.{Shows, IsReady, holds};
+ghost use Rattle.nv_metadata.specs.Walk.{IsFetched, AreFetched};
+ghost use Rattle.nv_metadata.specs.declared.logs.LogEnds.{LogEnds as LogEndsValue};
+
+use crate::blocks::Blocks;
+use crate::errors::GatherError;
+use crate::logs::LogEnds;
+use crate::memory::MetadataRegion;
+use nv_blockset::BlockList;
+use nv_inode::LINK;
+use nv_region::Pmem;
+use nv_super::{BLOCK_SIZE, Super};
+use std::alloc::Global;
+
+const PAGE: usize = 4096;
+
+/// Fetches the pages of these logs, each block once. The head of each is the start of a data block.
+///
+/// Errors: `Read` where a block can't be read, and `Memory` where a growth was refused.
+pub(crate) fn fetch_logs<B: Blocks>(
+    alloc: Global,
+    memory: &mut MetadataRegion,
+    source: &B,
+    sup: &Super,
+    logs: &[LogEnds],
+) -> Result<(), GatherError>
+    requires areas { HasAreas sup.now }
+    requires ready { IsReady sup.now memory.old }
+    requires heads { (log : LogEndsValue) → Contains logs.now log → IsTrue (is_page_start sup.now log.head) }
+    ensures ready { IsReady sup.now memory.new }
+    ensures fetched { (image : List ℕ) → B.bytes source.now ≡ Some image → Shows (system_blocks sup.now) (region_of image) memory.old → OnOk result (AreFetched sup.now (region_of image) logs.now memory.old memory.new) }
+{
+    let mut walked = BlockList::new(alloc, sup.blocks)?;
+    for log in logs {
+        fetch_log(memory, source, sup, *log, &mut walked)?;
+    }
+    Ok(())
+}
+
+// Fetches the pages of a log from its head's on, until that of its tail, or until a link isn't right or leads to a page of it.
+fn fetch_log<B: Blocks>(
+    memory: &mut MetadataRegion,
+    source: &B,
+    sup: &Super,
+    log: LogEnds,
+    walked: &mut BlockList,
+) -> Result<(), GatherError>
+    requires areas { HasAreas sup.now }
+    requires ready { IsReady sup.now memory.old }
+    requires head { IsTrue (is_page_start sup.now log.head) }
+    requires all_blocks { walked.old.bound ≡ sup.now.blocks }
+    ensures ready { IsReady sup.now memory.new }
+    ensures all_blocks { walked.new.bound ≡ sup.now.blocks }
+    ensures fetched { (image : List ℕ) → B.bytes source.now ≡ Some image → Shows (system_blocks sup.now) (region_of image) memory.old → OnOk result (IsFetched sup.now (region_of image) log.head log.tail memory.old memory.new) }
+{
+    let mut block = log.head / BLOCK_SIZE;
+    walked.restart(block);
+    'pages: loop {
+        fetch(memory, source, sup, block)?;
+        match next_page(memory, sup, log.tail, walked, block) {
+            Some(next) => {
+                walked.push(next)?;
+                block = next;
+            }
+            None => return Ok(()),
+        }
+    }
+}
+
+// Where the page in a block leads: to a data block that wasn't walked to, and nowhere from the page of the tail.
+fn next_page(
+    memory: &MetadataRegion,
+    sup: &Super,
+    tail: u64,
+    walked: &BlockList,
+    block: u64,
+) -> Option<u64>
+    requires areas { HasAreas sup.now }
+    requires ready { IsReady sup.now memory.now }
+    requires inside { block < sup.now.blocks }
+    requires all_blocks { walked.now.bound ≡ sup.now.blocks }
+    ensures apart { IfSome result (λ _. block ≢ tail / 4096) }
+    ensures start { IfSome result (λ _. is_page_start sup.now (link_in memory.now.memory.region block) ≡ true) }
+    ensures next { IfSome result (λ next. next ≡ link_in memory.now.memory.region block / 4096) }
+    ensures fresh { IfSome result (λ next. list_any (eqb next) walked.now.blocks ≡ false) }
+    ensures none { IfNone result (block ≢ tail / 4096 → is_page_start sup.now (link_in memory.now.memory.region block) ≡ true → Contains walked.now.blocks (link_in memory.now.memory.region block / 4096)) }
+{
+    if block == tail / BLOCK_SIZE {
+        return None;
+    }
+    let next = memory.load(BLOCK_SIZE * block + LINK);
+    if !sup.is_page_start(next) {
+        return None;
+    }
+    if walked.contains(next / BLOCK_SIZE) {
+        return None;
+    }
+    Some(next / BLOCK_SIZE)
+}
+
+// Reads a data block, if it isn't held.
+fn fetch<B: Blocks>(
+    memory: &mut MetadataRegion,
+    source: &B,
+    sup: &Super,
+    block: u64,
+) -> Result<(), GatherError>
+    requires areas { HasAreas sup.now }
+    requires ready { IsReady sup.now memory.old }
+    requires behind { system_blocks sup.now ≤ block }
+    requires inside { block < sup.now.blocks }
+    ensures ready { IsReady sup.now memory.new }
+    ensures holds { OnOk result (IsTrue (holds memory.new block)) }
+    ensures keeps { OnOk result ((b : ℕ) → IsTrue (holds memory.old b) → IsTrue (holds memory.new b)) }
+    ensures only { OnOk result ((b : ℕ) → IsTrue (holds memory.new b) → IsTrue (holds memory.old b) ⊎ (b ≡ block)) }
+    ensures shows { (image : List ℕ) → B.bytes source.now ≡ Some image → Shows (system_blocks sup.now) (region_of image) memory.old → OnOk result (Shows (system_blocks sup.now) (region_of image) memory.new) }
+{
+    if memory.holds(block) {
+        return Ok(());
+    }
+    let mut page = [0; PAGE];
+    source.read(BLOCK_SIZE * block, &mut page)?;
+    memory.hold(block, &page)?;
+    Ok(())
+}
