@@ -1,82 +1,60 @@
-//! Makes a region in memory, formats it, recovers it, and lists its inodes and its free blocks, by the calls that a program
-//! of one's own would make. What `mount` answers is proved to be an outcome of the region that `format` made.
+//! A file system in memory is made, mounted, written and listed; the power fails within a call, and it is mounted again.
 #![tactic(auto)]
 
-ghost use Rattle.std.specs.Prelude.{IfOk};
-ghost use Rattle.nv_outcome.specs.Answer.{outcome_of};
-ghost use Rattle.mount_and_list.specs.Mounted.{IsFreshOutcome};
-
-use nv_format::{FormatRefusal, format};
-use nv_recover::{RecoverError, Recovered, Rows, recover_one};
-use nv_region::{MemRegion, RegionRefusal};
-use nv_super::Run;
-use std::alloc::{AllocError, Global};
+use indiumlark::{
+    FormatRefusal, Fs, Fuse, Keep, MemRegion, RecoverError, Refusal, RegionRefusal, format,
+};
+use std::alloc::Global;
 use std::io;
 use thiserror::Error;
 
-const BLOCKS: u64 = 64;
-
-const CPUS: u64 = 2;
-
-const TABLE_BLOCKS: u64 = 1;
-
-const TIME: u64 = 0;
-
-/// Why no region was mounted.
 #[derive(Debug, Drop, Error)]
-enum MountError {
+enum Failure {
     #[error("no region was made: {0:?}")]
     Region(#[from] RegionRefusal),
-    #[error("format refused: {0}")]
+    #[error("it was not formatted: {0}")]
     Format(#[from] FormatRefusal),
-    #[error("recovery refused: {0}")]
-    Recovery(#[from] RecoverError),
+    #[error("it was not mounted: {0}")]
+    Mount(#[from] RecoverError),
+    #[error("a call was refused: {0}")]
+    Call(#[from] Refusal),
+    #[error("nothing was printed: {0}")]
+    Print(#[from] io::Error),
 }
 
-/// The outcome of a region of zeros that was formatted.
-fn mount(alloc: Global) -> Result<Recovered, MountError>
-    ensures { IfOk result (λ found. IsFreshOutcome BLOCKS CPUS TABLE_BLOCKS TIME (outcome_of found)) }
-{
-    let mut memory = MemRegion::new(alloc, BLOCKS)?;
-    format(&mut memory, CPUS, TABLE_BLOCKS, TIME)?;
-    Ok(recover_one(alloc, &mut memory)?)
+fn made(alloc: Global) -> Result<Fs<MemRegion>, Failure> {
+    let mut memory = MemRegion::new(alloc, 64)?;
+    format(&mut memory, 2, 1, 0)?;
+    let mut fs = Fs::mount(alloc, memory).map_err(|(_memory, error)| error)?;
+    fs.mkdir(0, b"/notes", 493, 1)?;
+    fs.create(0, b"/notes/first", 420, 2)?;
+    fs.write(0, b"/notes/first", 0, b"hi there\n", 3)?;
+    Ok(fs)
 }
 
-fn list_rows<R: Print>(rt: &R, rows: &Rows) -> io::Result<()> {
-    for (_, row) in rows.iter() {
-        println!(rt;
-            "inode {} is a {} with its log in the blocks {:?}, up to byte {}",
-            row.inode, row.kind, row.pages, row.tail
-        )?;
+fn list<R: Print>(rt: &R, fs: &Fs<MemRegion>) -> Result<(), Failure> {
+    for entry in &fs.list(b"/notes")? {
+        println!(rt; "inode {} is {}", entry.inode, entry.name.escape_ascii())?;
     }
-    Ok(())
+    let bytes = fs.read(b"/notes/first", 0, 100)?;
+    Ok(println!(rt; "it holds {}", bytes.escape_ascii())?)
 }
 
-fn list_runs<R: Print>(rt: &R, cpu: usize, runs: &[Run]) -> io::Result<()> {
-    for run in runs {
-        println!(rt;
-            "CPU {cpu} has {} free blocks from {} on",
-            run.count, run.start
-        )?;
+fn run<R: Print>(rt: &R, alloc: Global) -> Result<(), Failure> {
+    let mut fs = made(alloc)?;
+    list(rt, &fs)?;
+    fs.set_fuse(Fuse::After(2));
+    if let Err(refusal) = fs.rename(0, b"/notes/first", b"/second", 4) {
+        println!(rt; "rename: {refusal}")?;
     }
-    Ok(())
-}
-
-fn list_free<R: Print>(rt: &R, lists: &[Vec<Run>]) -> io::Result<()> {
-    for (cpu, runs) in lists.iter().enumerate() {
-        list_runs(rt, cpu, runs)?;
-    }
-    Ok(())
-}
-
-fn list<R: Print>(rt: &R, found: &Recovered) -> io::Result<()> {
-    list_rows(rt, &found.rows)?;
-    list_free(rt, &found.free.lists()?)
+    let left = fs.into_region().after_stop(Keep::Alternate);
+    let fs = Fs::mount(alloc, left).map_err(|(_memory, error)| error)?;
+    list(rt, &fs)
 }
 
 fn main(rt: HostRuntime) -> io::Result<()> {
-    match mount(rt.alloc()) {
-        Ok(found) => list(&rt, &found),
-        Err(error) => eprintln!(rt; "{error}"),
+    match run(&rt, rt.alloc()) {
+        Ok(()) => Ok(()),
+        Err(failure) => eprintln!(rt; "{failure}"),
     }
 }

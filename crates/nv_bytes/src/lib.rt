@@ -4,9 +4,11 @@
 #![tactic(auto)]
 
 mod change;
+mod filling;
 mod reading;
 mod storing;
 
 pub use change::NewBytes;
+pub use filling::fill_bytes;
 pub use reading::read_bytes;
 pub use storing::{store_page, store_pages};

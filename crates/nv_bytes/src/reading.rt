@@ -82,7 +82,7 @@ fn push_some<P: Pmem>(
 }
 
 /// The 64 bytes of a line of a page.
-fn line_at<P: Pmem>(memory: &P, block: Option<u64>, x: u64) -> [u8; 64]
+pub(crate) fn line_at<P: Pmem>(memory: &P, block: Option<u64>, x: u64) -> [u8; 64]
     requires inside { IfSome block (λ b. b * 4096 + 4096 ≤ size (P.region memory.now)) }
     requires whole { x % 8 ≡ 0 }
     requires small { x + 64 ≤ 2 ^ 62 }

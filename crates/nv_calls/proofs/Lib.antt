@@ -64,3 +64,4 @@ pub mod CleanedMount
 pub mod CleanCall
 pub mod StoppedCleaning
 pub mod Decided
+pub mod Mounted

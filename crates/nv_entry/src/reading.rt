@@ -20,9 +20,11 @@ use crate::entry::{AttrEntry, Entry, LinksEntry, Operation, WRITE_LENGTH, WriteE
 use crate::first::First;
 use crate::light::{LightEntry, LightName};
 use nv_super::Pmem;
+use thiserror::Error;
 
 /// No entry is spelled here.
-#[derive(Clone, Copy, Debug, PartialEq, Eq)]
+#[derive(Clone, Copy, Debug, PartialEq, Eq, Error)]
+#[error("no entry is spelled here")]
 pub struct Framing;
 
 /// Reads the entry that begins at the byte address `at`, a multiple of 8, and ends within `room` bytes.

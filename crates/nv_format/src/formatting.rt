@@ -17,6 +17,7 @@ use nv_region::{Pmem, Stopped, commit_word};
 use nv_super::{
     BLOCK_SIZE, Kind, LEAST_BLOCKS, MAGIC, MOST_BLOCKS, MOST_CPUS, MOST_TABLE_BLOCKS, Super,
 };
+use std::error::Error;
 use std::fmt;
 
 const ROOT: u64 = 1;
@@ -49,20 +50,31 @@ impl From<Stopped> for FormatRefusal {
     }
 }
 
+impl FormatRefusal {
+    /// The name that scripts print.
+    pub fn name(self) -> &'static str
+        ensures { result.now ≡ refusal_name self }
+    {
+        match self {
+            FormatRefusal::Length => "Length",
+            FormatRefusal::Cpus => "Cpus",
+            FormatRefusal::Tables => "Tables",
+            FormatRefusal::Stopped => "Stopped",
+        }
+    }
+}
+
 impl fmt::Display for FormatRefusal {
     ghost use Rattle.std.specs.Prelude.{Some};
 
     ghost output = { λ refusal. Some (refusal_name refusal) };
 
     fn fmt<W: fmt::Write>(&self, f: &mut fmt::Formatter<W>) -> fmt::Result {
-        f.write_str(match self {
-            FormatRefusal::Length => "Length",
-            FormatRefusal::Cpus => "Cpus",
-            FormatRefusal::Tables => "Tables",
-            FormatRefusal::Stopped => "Stopped",
-        })
+        f.write_str(self.name())
     }
 }
+
+impl Error for FormatRefusal {}
 
 /// Makes the region a file system of version 1 that holds the root directory alone, made at `time`: for each CPU an
 /// empty journal and `table_blocks` blocks of slots.

@@ -24,6 +24,7 @@ use crate::{Pmem, Stopped};
 use byteorder::{ByteOrder, LittleEndian};
 use std::alloc::{AllocError, Global};
 use std::marker::Model;
+use thiserror::Error;
 
 const WORDS_IN_BLOCK: usize = 512;
 
@@ -55,11 +56,13 @@ pub enum Keep {
 }
 
 /// Why no region was made.
-#[derive(Clone, Copy, Debug, PartialEq, Eq)]
+#[derive(Clone, Copy, Debug, PartialEq, Eq, Error)]
 pub enum RegionRefusal {
     /// No block, more than 262,144 blocks, or more than 1,073,741,824 bytes.
+    #[error("a region has 1 to 262,144 blocks, or up to 1,073,741,824 bytes")]
     Length,
     /// A growth was refused.
+    #[error("out of memory")]
     Memory,
 }
 

@@ -6,8 +6,11 @@ ghost use Rattle.nv_region.specs.Stops.{Adds, One, NoneAdded, NothingPending};
 ghost use Rattle.nv_region.specs.Lines.{Each, StoppedAmong, put_words};
 ghost use Rattle.nv_region.specs.Fuses.{FuseState, KeepsFuse};
 
+use thiserror::Error;
+
 /// The memory has been stopped: its fuse has burnt, and nothing is stored any more.
-#[derive(Clone, Copy, Debug, PartialEq, Eq)]
+#[derive(Clone, Copy, Debug, PartialEq, Eq, Error)]
+#[error("the memory has been stopped")]
 pub struct Stopped;
 
 /// A region of 8-byte words at byte addresses, of which a stop may lose what was stored since the last fence.

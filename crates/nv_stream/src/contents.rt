@@ -4,10 +4,11 @@ ghost use Rattle.std.specs.Prelude.{◌<◌, ◌≤◌, ◌^◌, IfOk, IfSome};
 ghost use Rattle.nv_stream.specs.Contents.{AreRead, KeepsLimit};
 
 use std::alloc::{AllocError, Global};
-use std::fs;
 use std::fs::OpenFile;
-use std::io::{Error, ErrorKind, Read};
+use std::io::{ErrorKind, Read};
 use std::rt::Files;
+use std::{fs, io};
+use thiserror::Error;
 
 /// What a file holds.
 #[derive(Debug, Drop)]
@@ -19,21 +20,23 @@ pub enum Contents {
 }
 
 /// Why a file's bytes are not there.
-#[derive(Clone, Copy, Debug)]
+#[derive(Clone, Copy, Debug, Error)]
 pub enum Unread {
     /// The file is missing, isn't a file, or can't be read, as the system's error says.
-    Unreadable(Error),
+    #[error("not read: {0}")]
+    Unreadable(io::Error),
     /// Memory was refused.
+    #[error("out of memory")]
     Memory,
 }
 
-impl From<Error> for Unread {
+impl From<io::Error> for Unread {
     ghost use Rattle.std.specs.Prelude.{◌≡◌};
     ghost use Rattle.nv_stream.specs.Contents.{unread_of};
 
     ghost from_gives = { λ error e. e ≡ unread_of error };
 
-    fn from(error: Error) -> Unread {
+    fn from(error: io::Error) -> Unread {
         match error.kind() {
             ErrorKind::OutOfMemory => Unread::Memory,
             _ => Unread::Unreadable(error),

@@ -8,33 +8,39 @@ ghost use Rattle.std.specs.Io.KnownBytes.{Appends};
 ghost use Rattle.nv_stream.specs.declared.saving.Unsaved.TheVariants.{Unwritable, Memory};
 
 use std::alloc::{AllocError, AllocFailed};
-use std::fs;
 use std::fs::{File, OpenFile, Permissions};
-use std::io::{Error, ErrorKind, Write};
+use std::io::{ErrorKind, Write};
 use std::rt::Files;
+use std::{fs, io};
+use thiserror::Error;
 
 // How many names for the new file are tried, where files of such names are there.
 const NAMES: u32 = 1000;
 
 /// Why a file was not written. What was at its path is as before.
-#[derive(Clone, Copy, Debug)]
+#[derive(Clone, Copy, Debug, Error)]
 pub enum Unsaved {
     /// There is something at the path, which was not to be replaced.
+    #[error("there is something at the path already")]
     Exists,
     /// What is at the path is no file.
+    #[error("what is at the path is no file")]
     NotFile,
     /// All names for a new file beside it are taken.
+    #[error("all names for a new file beside it are taken")]
     NoName,
     /// The system's error.
-    Unwritable(Error),
+    #[error("not written: {0}")]
+    Unwritable(io::Error),
     /// Memory was refused.
+    #[error("out of memory")]
     Memory,
 }
 
-impl From<Error> for Unsaved {
+impl From<io::Error> for Unsaved {
     ghost from_gives = { λ error e. e ≡ Unwritable error };
 
-    fn from(error: Error) -> Unsaved {
+    fn from(error: io::Error) -> Unsaved {
         Unsaved::Unwritable(error)
     }
 }
@@ -95,7 +101,7 @@ pub fn save_over<H: Files + AllocGlobal>(
 }
 
 // Whether there is something at the path, also a link that leads nowhere.
-fn is_taken<H: Files>(rt: &H, path: &str) -> Result<bool, Error> {
+fn is_taken<H: Files>(rt: &H, path: &str) -> Result<bool, io::Error> {
     match fs::symlink_metadata(rt, path) {
         Ok(_) => Ok(true),
         Err(error) if error.kind() == ErrorKind::NotFound => Ok(false),
@@ -153,7 +159,7 @@ fn fill<F: Write + OpenFile>(
     file: &mut F,
     bytes: &[u8],
     permissions: Option<Permissions>,
-) -> Result<(), Error>
+) -> Result<(), io::Error>
     ensures { OnOk result (Appends (F.contents file.old) (F.contents file.new) bytes.now) }
 {
     file.write_all(bytes)?;

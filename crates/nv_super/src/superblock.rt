@@ -12,6 +12,7 @@ ghost use Rattle.nv_super.specs.Layout.{system_blocks, pool_start, slot_address,
 ghost use Rattle.nv_super.specs.Super.{IsSuper, IsRefused, with_numbers};
 
 use nv_region::{Pmem, Stopped};
+use thiserror::Error;
 
 /// The bytes of a block.
 pub const BLOCK_SIZE: u64 = 4096;
@@ -46,21 +47,28 @@ pub struct Super {
 }
 
 /// Why a region is no file system, in the order in which the faults are looked for.
-#[derive(Clone, Copy, Debug, PartialEq, Eq)]
+#[derive(Clone, Copy, Debug, PartialEq, Eq, Error)]
 pub enum SuperFault {
     /// The length isn't a multiple of 4096 bytes, or isn't of 8 to 65,536 blocks.
+    #[error("S1, the length isn't that of 8 to 65,536 blocks of 4096 bytes")]
     Length,
     /// The magic word is another.
+    #[error("S2, the magic word is another")]
     Magic,
     /// The version isn't 1.
+    #[error("S3, the version isn't 1")]
     Version,
     /// There aren't 1 to 64 CPUs.
+    #[error("S4, there aren't 1 to 64 CPUs")]
     Cpus,
     /// The number of blocks isn't that of the region.
+    #[error("S5, the number of blocks isn't that of the region")]
     Blocks,
     /// There aren't 1 to 64 table blocks for each CPU, or no data block is left behind the tables.
+    #[error("S6, there aren't 1 to 64 table blocks for each CPU, or no data block is left")]
     Tables,
     /// The state is neither 0 nor 1.
+    #[error("S7, the state is neither 0 nor 1")]
     State,
 }
 

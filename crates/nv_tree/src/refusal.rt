@@ -1,5 +1,9 @@
 //! Why a file call was refused.
 
+ghost use Rattle.std.specs.Prelude.{◌≡◌};
+ghost use Rattle.nv_tree.specs.Refusals.{refusal_word};
+
+use std::error::Error;
 use std::fmt;
 
 /// Why a file call was refused. All but `Stopped` leave everything as it was.
@@ -37,14 +41,12 @@ pub enum Refusal {
     Stopped,
 }
 
-impl fmt::Display for Refusal {
-    ghost use Rattle.std.specs.Prelude.{Some};
-    ghost use Rattle.nv_tree.specs.Refusals.{refusal_word};
-
-    ghost output = { λ refusal. Some (refusal_word refusal) };
-
-    fn fmt<W: fmt::Write>(&self, f: &mut fmt::Formatter<W>) -> fmt::Result {
-        f.write_str(match self {
+impl Refusal {
+    /// The name that scripts print.
+    pub fn name(self) -> &'static str
+        ensures { result.now ≡ refusal_word self }
+    {
+        match self {
             Refusal::NotFound => "NotFound",
             Refusal::Exists => "Exists",
             Refusal::NotDirectory => "NotDirectory",
@@ -60,6 +62,18 @@ impl fmt::Display for Refusal {
             Refusal::BadCpu => "BadCpu",
             Refusal::Memory => "Memory",
             Refusal::Stopped => "Stopped",
-        })
+        }
     }
 }
+
+impl fmt::Display for Refusal {
+    ghost use Rattle.std.specs.Prelude.{Some};
+
+    ghost output = { λ refusal. Some (refusal_word refusal) };
+
+    fn fmt<W: fmt::Write>(&self, f: &mut fmt::Formatter<W>) -> fmt::Result {
+        f.write_str(self.name())
+    }
+}
+
+impl Error for Refusal {}

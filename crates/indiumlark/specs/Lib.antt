@@ -1,0 +1,12 @@
+pub use Rattle.nv_region.specs as nv_region
+pub use Rattle.nv_super.specs as nv_super
+pub use Rattle.nv_journal.specs as nv_journal
+pub use Rattle.nv_format.specs as nv_format
+pub use Rattle.nv_scan.specs as nv_scan
+pub use Rattle.nv_rows.specs as nv_rows
+pub use Rattle.nv_alloc.specs as nv_alloc
+pub use Rattle.nv_outcome.specs as nv_outcome
+pub use Rattle.nv_recover.specs as nv_recover
+pub use Rattle.nv_tree.specs as nv_tree
+pub use Rattle.nv_paths.specs as nv_paths
+pub use Rattle.nv_calls.specs as nv_calls

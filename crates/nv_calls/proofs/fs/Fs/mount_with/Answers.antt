@@ -1,0 +1,32 @@
+use Rattle.std.proofs.Common.{◌∙◌, subst, sym}
+use Rattle.nv_region.specs.Stops.{LeavesOnly}
+use Rattle.nv_recover.specs.Errors.{UndoesAsBefore}
+use Rattle.nv_held.specs.nv_outcome.Answer.{outcome_of}
+use Rattle.nv_calls.proofs.Mounted.{opens, rolls_back_once, tells}
+use Rattle.nv_calls.proofs.fs.Fs.mount_with.Goals as goal
+
+pub open-requires-clause-outcome : goal.open-requires-clause-outcome
+open-requires-clause-outcome g c =
+    opens (g.P.Pmem.region c.args.memory) _ c.in-Ok.found c.in-Ok.ensures.undone
+    (c.rolled_back_outcome.ensures.outcome (g.P.Pmem.region c.args.memory) (outcome_of c.in-Ok.found) c.in-Ok.ensures.ok)
+
+pub open-requires-clause-own : goal.open-requires-clause-own
+open-requires-clause-own g c =
+    rolls_back_once (g.P.Pmem.region c.args.memory) _ c.in-Ok.found c.in-Ok.ensures.undone
+    (c.rolled_back_outcome.ensures.same (g.P.Pmem.region c.args.memory) (outcome_of c.in-Ok.found) c.in-Ok.ensures.ok)
+
+pub open-requires-clause-settled : goal.open-requires-clause-settled
+open-requires-clause-settled g c = c.in-Ok.ensures.settled c.requires.settled
+
+pub returns-in-Ok-clause-outcome : goal.returns-in-Ok-clause-outcome
+returns-in-Ok-clause-outcome g c = tells (g.P.Pmem.region c.args.memory) c.open.result c.in-Ok.found c.open.ensures.sup c.open.ensures.rows c.open.ensures.free c.open.ensures.faults c.in-Ok.ensures.ok
+
+pub returns-in-Ok-clause-quiet : goal.returns-in-Ok-clause-quiet
+returns-in-Ok-clause-quiet g c s is quiet = c.open.ensures.memory ∙ c.in-Ok.ensures.quiet s is quiet
+
+pub returns-in-Ok-clause-any_stop : goal.returns-in-Ok-clause-any_stop
+returns-in-Ok-clause-any_stop g c s is =
+    subst (λ (m : g.row.P.Denot). LeavesOnly (g.P.Pmem.region m) (g.P.Pmem.may_hold m) (UndoesAsBefore (g.P.Pmem.region c.args.memory))) (sym c.open.ensures.memory) (c.in-Ok.ensures.any_stop s is c.requires.settled)
+
+pub returns-in-Err-clause-any_stop : goal.returns-in-Err-clause-any_stop
+returns-in-Err-clause-any_stop g c s is = c.in-Err.ensures.any_stop s is c.requires.settled
