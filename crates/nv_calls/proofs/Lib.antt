@@ -64,3 +64,5 @@ pub mod CleanedMount
 pub mod CleanCall
 pub mod StoppedCleaning
 pub mod Decided
+pub mod InOrder
+pub mod Stores

@@ -21,3 +21,4 @@ pub mod CleanCall
 pub mod Effects
 pub mod Decided
 pub mod Stopped
+pub mod InOrder
