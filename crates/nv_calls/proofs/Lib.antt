@@ -65,3 +65,5 @@ pub mod CleanCall
 pub mod StoppedCleaning
 pub mod Decided
 pub mod Mounted
+pub mod InOrder
+pub mod Stores

@@ -65,5 +65,6 @@ module _ {R : Region} {s : Super} {rows : List Row} {free : FreeLists} {faults :
           between = resized.between;
           taken = resized.taken;
           free = resized.fresh held h here;
+          zeros = resized.zeros held h here;
           grew = record { fresh = f.fresh; rest = f.rest; taken = f.taken; free = f.blocks; count = f.count; sound = f.sound };
         })

@@ -34,6 +34,7 @@ use Rattle.nv_calls.specs.Mount.{IsKept, Mount}
 use Rattle.nv_paths.specs.Seen.{LeadsTo, node_of, tree_of}
 use Rattle.nv_calls.specs.World.{world_of}
 use Rattle.nv_steps.specs.Writes.{NeedsBlocks, data_blocks, data_entries, plan_of}
+use Rattle.nv_steps.specs.Zeros.{ZerosFrom}
 use Rattle.nv_steps.specs.Written.{RefusesWrite, WritesFile}
 use Rattle.nv_calls.specs.WriteCall.{ShowsLogWrite, WriteNeeds}
 use Rattle.nv_steps.specs.declared.planning.Plan.{Plan}
@@ -183,6 +184,7 @@ write_logged {P} region {n} {m} same {S} {after} {cpu} {plan} {offset} {new} {ro
           runs = w.runs;
           rest = w.rest;
           taken = subst (λ (q : Plan). Takes n.free.pools cpu (data_blocks q) w.runs w.rest) equal w.taken;
+          zeros = subst (λ (q : Plan). ZerosFrom S q.size (data_entries q w.runs)) equal (w.zeros held shown.0 v);
           grew = subst (λ (k : ℕ). ∥ (LogGrew S n.sup w.rest cpu held k h (data_entries (plan_of (block_of (good_in (fixed_layout n.sup) h)) node.size offset (length new) time) w.runs)) ∥₁) number
               (subst (λ (q : Plan). ∥ (LogGrew S n.sup w.rest cpu held row.inode h (data_entries q w.runs)) ∥₁) equal (grew held h sound (ap held number ∙ is)));
         }))

@@ -22,3 +22,4 @@ pub mod Effects
 pub mod Decided
 pub mod Stopped
 pub mod Mounting
+pub mod InOrder

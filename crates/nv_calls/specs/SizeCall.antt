@@ -16,6 +16,7 @@ use Rattle.nv_tree.specs.Tree.{Node, Tree}
 use Rattle.nv_tree.specs.Refusals.{Path, target}
 use Rattle.nv_calls.specs.GrownLogs.{LogGrew}
 use Rattle.nv_steps.specs.Sizes.{blocks_from, end_block, resizing, sized, copied_to}
+use Rattle.nv_steps.specs.Zeros.{ZerosFrom}
 
 -- for a row and a size
 abbrev pub size_blocks : Row → ℕ → ℕ
@@ -26,7 +27,7 @@ abbrev pub resized_blocks : List Row → Tree → Path → ℕ → ℕ
 resized_blocks rows t p size = option_map_or (λ (row : Row). size_blocks row size) (option_and_then (row_of rows) (target t p)) 0
 
 -- The log of an inode has grown by the entries that give it a size. A page that had to be copied went to a free block: the one
--- that a CPU takes first from these pools, before those of the log.
+-- that a CPU takes first from these pools, before those of the log. What it has past the old end is zeros.
 pub record LogResized (S : Region) (s : Super) (pools : List (List Run)) (cpu : ℕ) (held : Store) (i : ℕ) (h : Held) (node : Node) (size time : ℕ) : Type 0 where
   pub to : Option ℕ
   pub copied : is_some to ≡ is_some (end_block (block_of (good_in (fixed_layout s) h)) node.size size)
@@ -34,6 +35,7 @@ pub record LogResized (S : Region) (s : Super) (pools : List (List Run)) (cpu : 
   pub taken : TakesSingly pools cpu (copied_to to) between
   pub free : (b : ℕ) → to ≡ Some b → IsUnowned (fixed_layout s) held b
   pub grew : LogGrew S s between cpu held i h (resizing node.size (sized node size time) to)
+  pub zeros : ZerosFrom S node.size (resizing node.size (sized node size time) to)
 
 -- there is such a block, or none is wanted
 abbrev pub ShowsResizedLog : Region → Super → List (List Run) → ℕ → Store → ℕ → Held → Node → ℕ → ℕ → Type 0

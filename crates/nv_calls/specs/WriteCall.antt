@@ -13,6 +13,7 @@ use Rattle.nv_calls.specs.GrownLogs.{ShowsGrownLog}
 use Rattle.nv_calls.specs.Mount.{Mount}
 use Rattle.nv_paths.specs.Seen.{tree_of}
 use Rattle.nv_steps.specs.Writes.{NeedsBlocks, data_blocks, data_entries, plan_of}
+use Rattle.nv_steps.specs.Zeros.{ZerosFrom}
 use Rattle.nv_steps.specs.declared.planning.Plan.{Plan}
 
 -- How many blocks a write of so many bytes takes: none where there are no bytes, and else those that the file of the path
@@ -22,12 +23,13 @@ pub record WriteNeeds {P : Type 0} (R : Region) (m : Mount P) (cpu : ℕ) (p : P
   pub some : 0 < bytes → (row : Row) → option_and_then (row_of m.rows) (target (tree_of R m.rows) p) ≡ Some row → NeedsBlocks m.free.pools cpu row.tail (plan_of (block_at row.index) row.numbers.size offset bytes time) count
 
 -- The log has grown by the entries over the blocks that a take of this CPU gives, all of them at once, over those that it then
--- takes one by one.
+-- takes one by one. What these blocks have past the file's end is zeros.
 pub record LogsWrite {P : Type 0} (S : Region) (m : Mount P) (cpu : ℕ) (held : Store) (i : ℕ) (h : Held) (plan : Plan) : Type 0 where
   pub runs : List Run
   pub rest : List (List Run)
   pub taken : Takes m.free.pools cpu (data_blocks plan) runs rest
   pub grew : ShowsGrownLog S m.sup rest cpu held i h (data_entries plan runs)
+  pub zeros : ZerosFrom S plan.size (data_entries plan runs)
 
 -- there are such runs
 abbrev pub ShowsLogWrite : {P : Type 0} → Region → Mount P → ℕ → Store → ℕ → Held → Plan → Type 0

@@ -4,7 +4,8 @@ ghost use Rattle.std.specs.Prelude.{◌≡◌, ◌+◌, ◌<◌, ◌≤◌, ◌%
 ghost use Rattle.nv_region.specs.Region.{size};
 ghost use Rattle.nv_region.specs.Stops.{LeavesOnly, NothingPending};
 ghost use Rattle.nv_region.specs.Fuses.{KeepsFuse};
-ghost use Rattle.nv_super.specs.Layout.{fixed_layout, inode_limit};
+ghost use Rattle.nv_super.specs.Layout.{fixed_layout, inode_limit, slot_address};
+ghost use Rattle.nv_journal.specs.InOrder.{FirstIsFirst};
 ghost use Rattle.nv_super.specs.declared.kind.Kind.TheVariants.{File, Directory};
 ghost use Rattle.nv_alloc.specs.Taking.{all_blocks};
 ghost use Rattle.nv_entry.specs.declared.entry.Operation.{Operation as OperationValue};
@@ -31,9 +32,12 @@ ghost use Rattle.nv_calls.specs.Stopped.{LeavesCall};
 ghost use Rattle.nv_steps.specs.Stopped.{Named};
 ghost use Rattle.nv_paths.specs.Seen.{tree_of};
 ghost use Rattle.nv_steps.specs.Steps.{RefusesStep, ShowsRow};
+ghost use Rattle.nv_steps.specs.InOrder.{tail_address};
+ghost use Rattle.nv_calls.specs.InOrder.{ShowsValidFirst};
 ghost use Rattle.nv_steps.specs.Fronts.{SameFrontBut};
 ghost use Rattle.nv_rows.specs.Unused.{unused_number};
 ghost use Rattle.nv_calls.specs.World.{world_of};
+ghost use Rattle.nv_steps.specs.Stores.{StoresIn, one_more};
 
 use crate::Fs;
 use crate::writing::is_stop;
@@ -78,6 +82,12 @@ fn create_at<P: Pmem>(
     ensures lists { free.new.sup ≡ free.old.sup }
     ensures length { size (P.region memory.new) ≡ size (P.region memory.old) }
     ensures keeps_fuse { KeepsFuse (λ limit. size (P.region memory.old) ≤ limit) (P.fuse memory.old) (P.fuse memory.new) }
+    // Every word outside these places is as it was.
+    ensures wrote { (row : RowValue) (held : Store) (h : Held) → row_of rows.old.items directory ≡ Option.Some row → ShowsRow (P.region memory.old) sup.now held h row free.old → held new.now.inode ≡ Option.None
+        → StoresIn sup.now held (one_more sup.now cpu new.now.inode row.inode) (P.region memory.old) (P.region memory.new) }
+    // The new inode's valid word is stored first.
+    ensures in_order { (row : RowValue) (held : Store) (h : Held) → row_of rows.old.items directory ≡ Option.Some row → ShowsRow (P.region memory.old) sup.now held h row free.old → held new.now.inode ≡ Option.None
+        → FirstIsFirst (P.region memory.old) (slot_address sup.now new.now.inode) 1 (tail_address sup.now row.inode) (P.region memory.new) }
     // Whatever a stop leaves: recovery finds what is held, or it with the new inode and its name, without faults.
     ensures any_stop { (row : RowValue) (held : Store) (h : Held) → row_of rows.old.items directory ≡ Option.Some row → ShowsRow (P.region memory.old) sup.now held h row free.old → held new.now.inode ≡ Option.None → name_at row.names new.now.name.now ≡ Option.None → NothingPending (P.region memory.old) (P.may_hold memory.old)
         → LeavesOnly (P.region memory.new) (P.may_hold memory.new) (LeavesEither (P.region memory.old) (fixed_layout sup.now) held (Named (P.region memory.old) sup.now free.old cpu row new.now.kind new.now.mode new.now.time new.now.inode new.now.name.now)) }
@@ -134,6 +144,12 @@ impl<P: Pmem + Drop> Fs<P> {
         ensures bad_text { ((names : List (List ℕ)) → IsPath path.now names → ⊥) → SameMount self.old self.new }
         // What was mounted with faults stays as it was.
         ensures read_only { IsTrue self.old.read_only → SameMount self.old self.new }
+        // Every word outside these places is as it was.
+        ensures wrote { (names : List (List ℕ)) (d j : ℕ) (held : Store) → IsPath path.now names → walk (tree_of (P.region self.old.memory) self.old.rows) 1 names ≡ Result.Ok d → unused_number self.old.sup self.old.rows cpu ≡ Option.Some j → ShowsSound (P.region self.old.memory) self.old.sup held
+            → StoresIn self.old.sup held (one_more self.old.sup cpu j d) (P.region self.old.memory) (P.region self.new.memory) }
+        // The new inode's valid word is stored first.
+        ensures in_order { (names : List (List ℕ)) (d j : ℕ) → IsPath path.now names → walk (tree_of (P.region self.old.memory) self.old.rows) 1 names ≡ Result.Ok d → unused_number self.old.sup self.old.rows cpu ≡ Option.Some j
+            → ShowsValidFirst (P.region self.old.memory) (P.region self.new.memory) self.old.sup j d }
         // Whatever a stop leaves, at any exit: recovery finds what was mounted, or what the call makes, without faults.
         ensures any_stop { (names : List (List ℕ)) → IsPath path.now names → self.old.stopped ≡ false → self.old.read_only ≡ false
             → LeavesOnly (P.region self.new.memory) (P.may_hold self.new.memory) (LeavesCall (makes_inode File cpu mode time) (logs_inode File cpu mode time) (P.region self.old.memory) self.old names) }
@@ -165,6 +181,12 @@ impl<P: Pmem + Drop> Fs<P> {
         ensures bad_text { ((names : List (List ℕ)) → IsPath path.now names → ⊥) → SameMount self.old self.new }
         // What was mounted with faults stays as it was.
         ensures read_only { IsTrue self.old.read_only → SameMount self.old self.new }
+        // Every word outside these places is as it was.
+        ensures wrote { (names : List (List ℕ)) (d j : ℕ) (held : Store) → IsPath path.now names → walk (tree_of (P.region self.old.memory) self.old.rows) 1 names ≡ Result.Ok d → unused_number self.old.sup self.old.rows cpu ≡ Option.Some j → ShowsSound (P.region self.old.memory) self.old.sup held
+            → StoresIn self.old.sup held (one_more self.old.sup cpu j d) (P.region self.old.memory) (P.region self.new.memory) }
+        // The new inode's valid word is stored first.
+        ensures in_order { (names : List (List ℕ)) (d j : ℕ) → IsPath path.now names → walk (tree_of (P.region self.old.memory) self.old.rows) 1 names ≡ Result.Ok d → unused_number self.old.sup self.old.rows cpu ≡ Option.Some j
+            → ShowsValidFirst (P.region self.old.memory) (P.region self.new.memory) self.old.sup j d }
         // Whatever a stop leaves, at any exit: recovery finds what was mounted, or what the call makes, without faults.
         ensures any_stop { (names : List (List ℕ)) → IsPath path.now names → self.old.stopped ≡ false → self.old.read_only ≡ false
             → LeavesOnly (P.region self.new.memory) (P.may_hold self.new.memory) (LeavesCall (makes_inode Directory cpu mode time) (logs_inode Directory cpu mode time) (P.region self.old.memory) self.old names) }
@@ -203,6 +225,12 @@ impl<P: Pmem + Drop> Fs<P> {
         ensures bad_text { ((names : List (List ℕ)) → IsPath path.now names → ⊥) → SameMount self.old self.new }
         // What was mounted with faults stays as it was.
         ensures read_only { IsTrue self.old.read_only → SameMount self.old self.new }
+        // Every word outside these places is as it was.
+        ensures wrote { (names : List (List ℕ)) (d j : ℕ) (held : Store) → IsPath path.now names → walk (tree_of (P.region self.old.memory) self.old.rows) 1 names ≡ Result.Ok d → unused_number self.old.sup self.old.rows cpu ≡ Option.Some j → ShowsSound (P.region self.old.memory) self.old.sup held
+            → StoresIn self.old.sup held (one_more self.old.sup cpu j d) (P.region self.old.memory) (P.region self.new.memory) }
+        // The new inode's valid word is stored first.
+        ensures in_order { (names : List (List ℕ)) (d j : ℕ) → IsPath path.now names → walk (tree_of (P.region self.old.memory) self.old.rows) 1 names ≡ Result.Ok d → unused_number self.old.sup self.old.rows cpu ≡ Option.Some j
+            → ShowsValidFirst (P.region self.old.memory) (P.region self.new.memory) self.old.sup j d }
         // Whatever a stop leaves, at any exit: recovery finds what was mounted, or what the call makes, without faults.
         ensures any_stop { (names : List (List ℕ)) → IsPath path.now names → self.old.stopped ≡ false → self.old.read_only ≡ false
             → LeavesOnly (P.region self.new.memory) (P.may_hold self.new.memory) (LeavesCall (makes_inode kind cpu mode time) (logs_inode kind cpu mode time) (P.region self.old.memory) self.old names) }

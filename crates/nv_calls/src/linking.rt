@@ -31,8 +31,11 @@ ghost use Rattle.nv_calls.specs.Stopped.{LeavesCall};
 ghost use Rattle.nv_steps.specs.Stopped.{Linked};
 ghost use Rattle.nv_paths.specs.Seen.{LeadsTo, tree_of};
 ghost use Rattle.nv_steps.specs.Steps.{RefusesStep, ShowsRow};
+ghost use Rattle.nv_steps.specs.InOrder.{TailIsFirst, tail_address};
+ghost use Rattle.nv_calls.specs.InOrder.{ShowsTailFirst};
 ghost use Rattle.nv_steps.specs.Fronts.{SameFrontBut};
 ghost use Rattle.nv_calls.specs.World.{world_of};
+ghost use Rattle.nv_steps.specs.Stores.{StoresIn, two_logs};
 
 use crate::Fs;
 use crate::writing::is_stop;
@@ -76,6 +79,12 @@ fn link_at<P: Pmem>(
     ensures lists { free.new.sup ≡ free.old.sup }
     ensures length { size (P.region memory.new) ≡ size (P.region memory.old) }
     ensures keeps_fuse { KeepsFuse (λ limit. size (P.region memory.old) ≤ limit) (P.fuse memory.old) (P.fuse memory.new) }
+    // Every word outside these places is as it was.
+    ensures wrote { (file directory : RowValue) (held : Store) (f h : Held) → row_of rows.old.items named.now.target ≡ Option.Some file → row_of rows.old.items named.now.directory ≡ Option.Some directory → ShowsRow (P.region memory.old) sup.now held f file free.old → ShowsRow (P.region memory.old) sup.now held h directory free.old
+        → StoresIn sup.now held (two_logs sup.now cpu file.inode directory.inode) (P.region memory.old) (P.region memory.new) }
+    // The file's tail is stored first.
+    ensures in_order { (file directory : RowValue) (held : Store) (f h : Held) → row_of rows.old.items named.now.target ≡ Option.Some file → row_of rows.old.items named.now.directory ≡ Option.Some directory → ShowsRow (P.region memory.old) sup.now held f file free.old → ShowsRow (P.region memory.old) sup.now held h directory free.old
+        → TailIsFirst (P.region memory.old) (P.region memory.new) sup.now free.old.pools cpu file.inode file.tail (links_entries (file.numbers.links + 1) time) (tail_address sup.now directory.inode) }
     // Whatever a stop leaves: recovery finds what is held, or it with the link and the name, without faults.
     ensures any_stop { (file directory : RowValue) (held : Store) (f h : Held) → row_of rows.old.items named.now.target ≡ Option.Some file → row_of rows.old.items named.now.directory ≡ Option.Some directory → ShowsRow (P.region memory.old) sup.now held f file free.old → ShowsRow (P.region memory.old) sup.now held h directory free.old
         → name_at directory.names named.now.name.now ≡ Option.None → NothingPending (P.region memory.old) (P.may_hold memory.old)
@@ -140,6 +149,13 @@ impl<P: Pmem + Drop> Fs<P> {
         ensures bad_text { ((names others : List (List ℕ)) → IsPath old.now names → IsPath new.now others → ⊥) → SameMount self.old self.new }
         // What was mounted with faults stays as it was.
         ensures read_only { IsTrue self.old.read_only → SameMount self.old self.new }
+        // Every word outside these places is as it was.
+        ensures wrote { (names others : List (List ℕ)) (i d : ℕ) (node : Node) (held : Store) → IsPath old.now names → IsPath new.now others → LeadsTo (tree_of (P.region self.old.memory) self.old.rows) names i node → walk (tree_of (P.region self.old.memory) self.old.rows) 1 others ≡ Result.Ok d
+            → ShowsSound (P.region self.old.memory) self.old.sup held
+            → StoresIn self.old.sup held (two_logs self.old.sup cpu i d) (P.region self.old.memory) (P.region self.new.memory) }
+        // The file's tail is stored first.
+        ensures in_order { (names others : List (List ℕ)) (i d : ℕ) (node : Node) (held : Store) (f : Held) → IsPath old.now names → IsPath new.now others → LeadsTo (tree_of (P.region self.old.memory) self.old.rows) names i node → walk (tree_of (P.region self.old.memory) self.old.rows) 1 others ≡ Result.Ok d
+            → ShowsSound (P.region self.old.memory) self.old.sup held → held i ≡ Option.Some f → ShowsTailFirst (P.region self.old.memory) (P.region self.new.memory) self.old.sup self.old.free.pools cpu i f (links_entries (node.links + 1) time) (tail_address self.old.sup d) }
         // Whatever a stop leaves, at any exit: recovery finds what was mounted, or what the call makes, without faults.
         ensures any_stop { (names others : List (List ℕ)) → IsPath old.now names → IsPath new.now others → self.old.stopped ≡ false → self.old.read_only ≡ false
             → LeavesOnly (P.region self.new.memory) (P.may_hold self.new.memory) (LeavesCall (makes_link time (Option.Some others)) (logs_link cpu time (Option.Some others)) (P.region self.old.memory) self.old names) }

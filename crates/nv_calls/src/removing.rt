@@ -1,7 +1,7 @@
 //! An inode that goes with its name: all growths first, then the commit, then the rows and the free lists.
 
 ghost use Rattle.std.specs.Prelude.{◌≡◌, ◌≢◌, ◌+◌, ◌%◌, ◌<◌, ◌≤◌, length, Option, IsTrue, IfErr, OnOk};
-ghost use Rattle.nv_super.specs.Layout.{fixed_layout};
+ghost use Rattle.nv_super.specs.Layout.{fixed_layout, slot_address};
 ghost use Rattle.std.specs.Int.{div_ceil};
 ghost use Rattle.nv_region.specs.Region.{size};
 ghost use Rattle.nv_region.specs.Stops.{LeavesOnly, NothingPending};
@@ -21,7 +21,9 @@ ghost use Rattle.nv_steps.specs.NameEntries.{name_entries};
 ghost use Rattle.nv_steps.specs.NewNames.{CanName};
 ghost use Rattle.nv_calls.specs.AtPlaces.{LeavesRows, RemovesAt};
 ghost use Rattle.nv_steps.specs.Steps.{RefusesStep, ShowsRow};
+ghost use Rattle.nv_steps.specs.InOrder.{TailIsFirst};
 ghost use Rattle.nv_steps.specs.Stopped.{Cut};
+ghost use Rattle.nv_steps.specs.Stores.{StoresIn, one_less};
 
 use nv_alloc::Allocators;
 use nv_paths::Named;
@@ -64,6 +66,12 @@ pub(crate) fn remove_named<P: Pmem>(
     ensures lists { free.new.sup ≡ free.old.sup }
     ensures length { size (P.region memory.new) ≡ size (P.region memory.old) }
     ensures keeps_fuse { KeepsFuse (λ limit. size (P.region memory.old) ≤ limit) (P.fuse memory.old) (P.fuse memory.new) }
+    // Every word outside these places is as it was.
+    ensures wrote { (row gone : RowValue) (held : Store) (h : Held) → row_of rows.old.items named.now.directory ≡ Option.Some row → row_of rows.old.items named.now.target ≡ Option.Some gone → ShowsRow (P.region memory.old) sup.now held h row free.old
+        → StoresIn sup.now held (one_less sup.now cpu row.inode gone.inode) (P.region memory.old) (P.region memory.new) }
+    // The directory's tail is stored first.
+    ensures in_order { (row gone : RowValue) (held : Store) (h : Held) → row_of rows.old.items named.now.directory ≡ Option.Some row → row_of rows.old.items named.now.target ≡ Option.Some gone → ShowsRow (P.region memory.old) sup.now held h row free.old
+        → TailIsFirst (P.region memory.old) (P.region memory.new) sup.now free.old.pools cpu row.inode row.tail (name_entries OperationValue.Remove gone.inode named.now.name.now time) (slot_address sup.now gone.inode) }
     // Whatever a stop leaves: recovery finds what is held, or it without the name and the inode, without faults.
     ensures any_stop { (row gone : RowValue) (held : Store) (h : Held) → row_of rows.old.items named.now.directory ≡ Option.Some row → row_of rows.old.items named.now.target ≡ Option.Some gone → ShowsRow (P.region memory.old) sup.now held h row free.old → NothingPending (P.region memory.old) (P.may_hold memory.old)
         → LeavesOnly (P.region memory.new) (P.may_hold memory.new) (LeavesEither (P.region memory.old) (fixed_layout sup.now) held (Cut (P.region memory.old) sup.now free.old cpu row gone.inode time named.now.name.now)) }

@@ -14,6 +14,8 @@ ghost use Rattle.nv_tree.specs.Refusals.{Path, first_refusal, rmdir_tests, IsRef
 ghost use Rattle.nv_tree.specs.declared.refusal.Refusal.{Refusal as RefusalValue};
 ghost use Rattle.nv_calls.specs.NameCalls.{name_blocks};
 ghost use Rattle.nv_steps.specs.NameEntries.{name_entries};
+ghost use Rattle.nv_super.specs.Layout.{slot_address};
+ghost use Rattle.nv_calls.specs.InOrder.{ShowsTailFirst};
 ghost use Rattle.nv_steps.specs.Fronts.{SameFrontBut};
 ghost use Rattle.nv_calls.specs.RemoveCalls.{ShowsRemoved};
 ghost use Rattle.nv_calls.specs.Same.{KeepsMount, SameMount};
@@ -21,6 +23,7 @@ ghost use Rattle.nv_calls.specs.Effects.{logs_removal, makes_removal};
 ghost use Rattle.nv_calls.specs.Stopped.{LeavesCall};
 ghost use Rattle.nv_paths.specs.Seen.{LeadsTo, tree_of};
 ghost use Rattle.nv_calls.specs.World.{world_of};
+ghost use Rattle.nv_steps.specs.Stores.{StoresIn, one_less};
 
 use crate::Fs;
 use crate::removing::remove_named;
@@ -69,6 +72,13 @@ impl<P: Pmem + Drop> Fs<P> {
         ensures bad_text { ((names : List (List ℕ)) → IsPath path.now names → ⊥) → SameMount self.old self.new }
         // What was mounted with faults stays as it was.
         ensures read_only { IsTrue self.old.read_only → SameMount self.old self.new }
+        // Every word outside these places is as it was.
+        ensures wrote { (names : List (List ℕ)) (i d : ℕ) (node : Node) (held : Store) → IsPath path.now names → LeadsTo (tree_of (P.region self.old.memory) self.old.rows) names i node → walk (tree_of (P.region self.old.memory) self.old.rows) 1 names ≡ Result.Ok d
+            → ShowsSound (P.region self.old.memory) self.old.sup held
+            → StoresIn self.old.sup held (one_less self.old.sup cpu d i) (P.region self.old.memory) (P.region self.new.memory) }
+        // The tail of the directory above is stored first.
+        ensures in_order { (names : List (List ℕ)) (i d : ℕ) (node : Node) (held : Store) (h : Held) → IsPath path.now names → LeadsTo (tree_of (P.region self.old.memory) self.old.rows) names i node → walk (tree_of (P.region self.old.memory) self.old.rows) 1 names ≡ Result.Ok d
+            → ShowsSound (P.region self.old.memory) self.old.sup held → held d ≡ Option.Some h → ShowsTailFirst (P.region self.old.memory) (P.region self.new.memory) self.old.sup self.old.free.pools cpu d h (name_entries Remove i (last_name names) time) (slot_address self.old.sup i) }
         // Whatever a stop leaves, at any exit: recovery finds what was mounted, or what the call makes, without faults.
         ensures any_stop { (names : List (List ℕ)) → IsPath path.now names → self.old.stopped ≡ false → self.old.read_only ≡ false
             → LeavesOnly (P.region self.new.memory) (P.may_hold self.new.memory) (LeavesCall (makes_removal time) (logs_removal cpu time) (P.region self.old.memory) self.old names) }

@@ -6,6 +6,7 @@ pub mod TwoWords
 pub mod BothTails
 pub mod Removes
 pub mod Makes
+pub mod InOrder
 pub mod Called
 pub mod BlocksOf
 pub mod BytesStay

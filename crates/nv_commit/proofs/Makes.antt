@@ -131,7 +131,7 @@ module _ {R : Region} {s : Super} {held : Store} {cpu j : ℕ} {n : NewInode} {i
   pub left_undone : (now : Region) (old new : Choices) → StoresOnly (PrepareWords n x) R now old new → NothingPending R old → LeavesOnly now new (BeforeOrMade s held j n i h x)
   left_undone now old new wrote settled left may = inl (sound_undone (sound_before left (mixed_left R now (PrepareWords n x) old new wrote.mixed.as_long wrote.mixed.same_rest settled wrote.adds left may)))
 
-  differ : i ≢ j
+  pub differ : i ≢ j
   differ same = let e : Some h ≡ None = sym can.parent.holds ∙ ap held same ∙ can.unused in cc
 
   module _ {S : Region} {new last : ℕ} (done : Prepares R S n x new last) where

@@ -9,6 +9,7 @@ ghost use Rattle.nv_region.specs.Stored.{StoresOnly, Within};
 ghost use Rattle.nv_super.specs.declared.superblock.Super.{Super};
 ghost use Rattle.nv_inode.specs.Slot.{with_slot};
 ghost use Rattle.nv_journal.specs.Pending.{IsEmpty};
+ghost use Rattle.nv_journal.specs.InOrder.{FirstIsFirst};
 ghost use Rattle.nv_logpage.specs.Append.{CanAppend, EndBy, end_of};
 ghost use Rattle.nv_held.specs.Held.{Held, Store};
 ghost use Rattle.nv_commit.specs.Together.{CanCommit, ShowsIdle};
@@ -58,6 +59,9 @@ pub fn make_inode<P: Pmem>(
     ensures wrote { StoresOnly (MakeWords cpu inode.now directory.now) (P.region memory.old) (P.region memory.new) (P.may_hold memory.old) (P.may_hold memory.new) }
     ensures stopped { is_err result ≡ (P.fuse memory.new).has_burnt }
     ensures keeps_fuse { KeepsFuse (λ limit. EndBy (inode.now.page ∷ []) limit × EndBy (directory.now.tail / 4096 ∷ directory.now.fresh.now) limit × (inode.now.slot + 40 ≤ limit) × (directory.now.slot + 32 ≤ limit)) (P.fuse memory.old) (P.fuse memory.new) }
+    // The valid word is stored before the tail.
+    ensures in_order { (s : Super) (held : Store) (j i : ℕ) (h : Held) → CanMake (P.region memory.old) s held cpu j inode.now i h directory.now
+        → FirstIsFirst (P.region memory.old) inode.now.slot 1 (directory.now.slot + 24) (P.region memory.new) }
     // The region as it reads, also after a stop, and each that a stop leaves.
     ensures reads { (s : Super) (held : Store) (j i : ℕ) (h : Held) → CanMake (P.region memory.old) s held cpu j inode.now i h directory.now
         → BeforeOrMade s held j inode.now i h directory.now (P.region memory.new) }

@@ -7,6 +7,7 @@ ghost use Rattle.nv_region.specs.Fuses.{KeepsFuse};
 ghost use Rattle.nv_region.specs.Stored.{StoresOnly};
 ghost use Rattle.nv_super.specs.declared.superblock.Super.{Super};
 ghost use Rattle.nv_journal.specs.Pending.{IsEmpty};
+ghost use Rattle.nv_journal.specs.InOrder.{FirstIsFirst};
 ghost use Rattle.nv_journal.specs.Undo.{journal};
 ghost use Rattle.nv_logpage.specs.Append.{EndBy, end_of};
 ghost use Rattle.nv_held.specs.Held.{Held, Store};
@@ -42,6 +43,9 @@ pub fn remove_inode<P: Pmem>(
     ensures wrote { StoresOnly (RemoveWords cpu directory.now slot) (P.region memory.old) (P.region memory.new) (P.may_hold memory.old) (P.may_hold memory.new) }
     ensures stopped { is_err result ≡ (P.fuse memory.new).has_burnt }
     ensures keeps_fuse { KeepsFuse (λ limit. EndBy (directory.now.tail / 4096 ∷ directory.now.fresh.now) limit × (directory.now.slot + 32 ≤ limit) × (slot + 8 ≤ limit)) (P.fuse memory.old) (P.fuse memory.new) }
+    // The tail is stored before the valid word.
+    ensures in_order { (s : Super) (held : Store) (i j : ℕ) (h : Held) → CanRemove (P.region memory.old) s held cpu i h directory.now j slot
+        → FirstIsFirst (P.region memory.old) (directory.now.slot + 24) (end_of directory.now.fresh.now 0 directory.now.tail directory.now.entries.now) slot (P.region memory.new) }
     // The region as it reads, also after a stop, and each that a stop leaves.
     ensures reads { (s : Super) (held : Store) (i j : ℕ) (h : Held) → CanRemove (P.region memory.old) s held cpu i h directory.now j slot
         → BeforeOrRemoved s held i h directory.now j (P.region memory.new) }

@@ -6,6 +6,7 @@ ghost use Rattle.nv_region.specs.Fuses.{KeepsFuse};
 ghost use Rattle.nv_region.specs.Stored.{StoresOnly};
 ghost use Rattle.nv_super.specs.declared.superblock.Super.{Super};
 ghost use Rattle.nv_journal.specs.Pending.{IsEmpty};
+ghost use Rattle.nv_journal.specs.InOrder.{FirstIsFirst};
 ghost use Rattle.nv_logpage.specs.Append.{CanAppend, EndBy, end_of};
 ghost use Rattle.nv_held.specs.Held.{Held, Store};
 ghost use Rattle.nv_commit.specs.Together.{AppendsBoth, BeforeOrBoth, BothWords, CanCommit, CanExtendTwo, ShowsIdle, TogetherWords, with_logs};
@@ -28,8 +29,8 @@ pub struct Extension<'a> {
     pub fresh: &'a [u64],
 }
 
-/// Writes entries behind the tails of two inodes, and moves both tails together by the empty journal of a CPU. Answers the
-/// new tails.
+/// Writes entries behind the tails of two inodes, and moves both tails together by the empty journal of a CPU, the first one
+/// first. Answers the new tails.
 ///
 /// After a stop at any moment of the call, the undone region has both logs as they were, or both with all of their
 /// entries, and nothing is wrong with the journals. It costs five fences and takes no memory. Answers `Stopped` exactly
@@ -50,6 +51,9 @@ pub fn extend_two<P: Pmem>(
     ensures wrote { StoresOnly (TogetherWords cpu first.now second.now) (P.region memory.old) (P.region memory.new) (P.may_hold memory.old) (P.may_hold memory.new) }
     ensures stopped { is_err result ≡ (P.fuse memory.new).has_burnt }
     ensures keeps_fuse { KeepsFuse (λ limit. EndBy (first.now.tail / 4096 ∷ first.now.fresh.now) limit × EndBy (second.now.tail / 4096 ∷ second.now.fresh.now) limit × (first.now.slot + 32 ≤ limit) × (second.now.slot + 32 ≤ limit)) (P.fuse memory.old) (P.fuse memory.new) }
+    // The first tail is stored first.
+    ensures in_order { (s : Super) (held : Store) (i j : ℕ) (h g : Held) → CanExtendTwo (P.region memory.old) s held cpu i h first.now j g second.now
+        → FirstIsFirst (P.region memory.old) (first.now.slot + 24) (end_of first.now.fresh.now 0 first.now.tail first.now.entries.now) (second.now.slot + 24) (P.region memory.new) }
     // The region as it reads, also after a stop, and each that a stop leaves: rolled back, it shows what was held, or that
     // with both logs grown. Its journals have no faults.
     ensures reads { (s : Super) (held : Store) (i j : ℕ) (h g : Held) → CanExtendTwo (P.region memory.old) s held cpu i h first.now j g second.now

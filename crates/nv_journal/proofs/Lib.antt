@@ -15,5 +15,6 @@ pub mod Recording
 pub mod Begins
 pub mod OneJournal
 pub mod Both
+pub mod InOrder
 pub mod Emptied
 pub mod Faultless

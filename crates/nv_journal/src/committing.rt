@@ -4,7 +4,7 @@
 //! words are fenced before the journal is emptied. So where all stores before the call were fenced, a stop at any
 //! moment leaves all records of a call or none, and undo gives the words from before, or all of them changed.
 
-ghost use Rattle.std.specs.Prelude.{◌≡◌, ◌⊎◌, ◌≤◌, ◌<◌, ◌+◌, ◌%◌, ◌^◌, ℕ, Bool, IsTrue, OnOk, OnErr, is_err, length};
+ghost use Rattle.std.specs.Prelude.{◌≡◌, ◌≢◌, ◌⊎◌, ◌≤◌, ◌<◌, ◌+◌, ◌%◌, ◌^◌, ℕ, Bool, IsTrue, OnOk, OnErr, is_err, length};
 ghost use Rattle.nv_region.specs.Region.{put, size, word};
 ghost use Rattle.nv_region.specs.Stops.{NothingPending, LeavesOnly, One};
 ghost use Rattle.nv_region.specs.Fuses.{KeepsFuse};
@@ -12,6 +12,7 @@ ghost use Rattle.nv_region.specs.Stored.{SameOutside, StoresOnly, Within};
 ghost use Rattle.nv_journal.specs.Undo.{journal, enqueue};
 ghost use Rattle.nv_journal.specs.Pending.{BeforeOrAfter, Begun, CanUndo, HasRecords, IsEmpty};
 ghost use Rattle.nv_journal.specs.Recorded.{Recorded, Changes, Two};
+ghost use Rattle.nv_journal.specs.InOrder.{FirstIsFirst};
 ghost use Rattle.nv_journal.specs.Faults.{NoJournalFault};
 
 use crate::pending::{Pending, dequeue_word, enqueue_word};
@@ -106,7 +107,7 @@ pub fn commit<P: Pmem>(memory: &mut P, cpu: u64) -> Result<(), Stopped>
     commit_word(memory, dequeue_word(cpu), pending.enqueue)
 }
 
-/// Changes the words at two byte addresses together, by the empty journal of a CPU.
+/// Changes the words at two byte addresses together, the first one first, by the empty journal of a CPU.
 ///
 /// Where both addresses are permitted and no journal has anything to roll back, the undone region has then both words
 /// as they were, or both changed. So it is with each region that a stop at any moment of the call leaves, where all
@@ -133,6 +134,8 @@ pub fn change_two<P: Pmem>(
     ensures stopped { is_err result ≡ (P.fuse memory.new).has_burnt }
     ensures keeps_fuse { KeepsFuse (λ limit. (journal cpu + 4096 ≤ limit) × (first + 8 ≤ limit) × (second + 8 ≤ limit)) (P.fuse memory.old) (P.fuse memory.new) }
     ensures settled { OnOk result (NothingPending (P.region memory.new) (P.may_hold memory.new)) }
+    // The first word is stored first.
+    ensures in_order { first ≢ second → FirstIsFirst (P.region memory.old) first first_value second (P.region memory.new) }
     // The region as it reads and each that a stop leaves, of any number of CPUs: rolled back, both words are as they
     // were, or both changed.
     ensures reads { (permits : ℕ → Bool) (cpus : ℕ) → CanUndo permits cpus (P.region memory.old) cpu first second
@@ -155,7 +158,7 @@ pub fn change_two<P: Pmem>(
     commit(memory, cpu)
 }
 
-/// Stores two words and fences them.
+/// Stores two words, the first one first, and fences them.
 fn store_both<P: Pmem>(
     memory: &mut P,
     first: u64,
@@ -170,7 +173,10 @@ fn store_both<P: Pmem>(
     ensures keeps_fuse { KeepsFuse (λ limit. (first + 8 ≤ limit) × (second + 8 ≤ limit)) (P.fuse memory.old) (P.fuse memory.new) }
     ensures settled { OnOk result (NothingPending (P.region memory.new) (P.may_hold memory.new)) }
     ensures wrote { StoresOnly (Two first first_value second second_value) (P.region memory.old) (P.region memory.new) (P.may_hold memory.old) (P.may_hold memory.new) }
+    ensures in_order { first ≢ second → FirstIsFirst (P.region memory.old) first first_value second (P.region memory.new) }
 {
+    // Fewer than eight bytes stand behind the last word.
+    let _end = memory.len();
     memory.store(first, first_value)?;
     memory.store(second, second_value)?;
     memory.fence()

@@ -234,7 +234,7 @@ module _ (S T : Region) (m : Mount ⊤) (names : List (List ℕ)) where
 
 -- the same of the mount without its memory
 write_seen : (T : Region) (m : Mount RegionState) (cpu : ℕ) (held : Store) (i : ℕ) (h : Held) (plan : Plan) → ShowsLogWrite T m cpu held i h plan → ShowsLogWrite T (seen m) cpu held i h plan
-write_seen T m cpu held i h plan known = ∥∥₁_map known (λ w. record { runs = w.runs; rest = w.rest; taken = w.taken; grew = w.grew })
+write_seen T m cpu held i h plan known = ∥∥₁_map known (λ w. record { runs = w.runs; rest = w.rest; taken = w.taken; grew = w.grew; zeros = w.zeros })
 
 -- A write, by the mount with its memory.
 pub bytes_logged : (m n : Mount RegionState) (names : List (List ℕ)) (cpu offset bytes time : ℕ) (answer : Result (Unit {0}) Refusal)

@@ -2,13 +2,14 @@
 use Rattle.std.proofs.Common.{◌≡◌, refl, ◌≢◌, ℕ, ◌+◌, ◌/◌, ◌%◌, ◌≤◌, List, [], ◌∷◌, ◌++◌, length, take, drop, ap, sym, ◌∙◌, subst, arith, Bool, true, false, cond, inl, inr, Some}
 use Rattle.std.proofs.lemmas.List.{length-drop, length-take-le, take-append-drop}
 use Rattle.smallvec.specs.SmallVec.{HasRoomFor}
-use Rattle.nv_region.specs.Region.{Region, size}
+use Rattle.nv_region.specs.Region.{Region, size, word}
 use Rattle.nv_region.specs.Stops.{Choices, IsMixed, LeavesOnly, MayBeLeft, NothingPending}
 use Rattle.nv_region.specs.Stored.{StoresOnly}
 use Rattle.nv_region.proofs.Stops.{mixed_left}
 use Rattle.nv_super.specs.declared.superblock.Super.{Super}
 use Rattle.nv_super.specs.Layout.{fixed_layout, slot_address}
 use Rattle.nv_journal.specs.Undo.{undone}
+use Rattle.nv_journal.specs.InOrder.{FirstIsFirst}
 use Rattle.nv_alloc.specs.FreeValue.{FreeLists}
 use Rattle.nv_entry.specs.declared.entry.Entry.{Entry}
 use Rattle.nv_logpage.specs.Append.{AreGiven, EndBy, end_of, needed}
@@ -31,9 +32,13 @@ use Rattle.nv_steps.specs.NewNames.{CanName, ShowsNamed}
 use Rattle.nv_steps.specs.Steps.{ShowsRow}
 use Rattle.nv_steps.specs.Stopped.{AppendedBoth}
 use Rattle.nv_steps.specs.Taken.{TakesEach}
+use Rattle.nv_steps.specs.InOrder.{TailIsFirst}
+use Rattle.nv_steps.proofs.OneByOne.{by_rule}
 use Rattle.nv_steps.proofs.Stopped.{grown_row, grown_row_has}
 use Rattle.nv_steps.proofs.TwoLogs.{as_extension, can_extend_two, cut_each, row_commits, stands_after}
 use Rattle.nv_steps.proofs.OtherJournals.{together_front, undone_front}
+use Rattle.nv_steps.specs.Stores.{StoresIn, two_logs}
+use Rattle.nv_steps.proofs.Stores.{two_stores}
 
 -- one entry takes a page at most
 pub needed_one : (offset : ℕ) (es : List Entry) → length es ≡ 1 → needed offset es ≤ 1
@@ -171,6 +176,24 @@ module _ {R : Region} {s : Super} {free after : FreeLists} {first second row oth
           bytes = together_bytes (extends_two held h g seen seen_other) S mixed;
           front = together_front (extends_two held h g seen seen_other) S mixed;
         })
+
+    -- Nothing else is stored.
+    pub logs_store : {S : Region} {held : Store} {h k : Held} → ShowsRow R s held h first free → ShowsRow R s held k second free → IsMixed R (TogetherWords cpu x y) S → StoresIn s held (two_logs s cpu first.inode second.inode) R S
+    logs_store {S} {held} {h} {k} here there mixed = two_stores (extends_two held h k here there) slot_is other_slot_is mixed
+
+    -- The second tail is stored after the first.
+    pub logs_in_order : {S : Region} {held : Store} {h k : Held} → ShowsRow R s held h first free → ShowsRow R s held k second free
+        → ((a b : ℕ) (f g : Held) → CanExtendTwo R s held cpu a f x b g y → FirstIsFirst R (x.slot + 24) (end_of x.fresh.now 0 x.tail x.entries.now) (y.slot + 24) S) → TailIsFirst R S s free.pools cpu first.inode first.tail entries (slot_address s second.inode + 24)
+    logs_in_order {S} {held} {h} {k} here there orders = elim (orders first.inode second.inode h k (extends_two held h k here there)) [
+      | inl still ↦ inl (subst (λ (a : ℕ). word S (a + 24) ≡ word R (a + 24)) other_slot_is still)
+      | inr stored ↦ inr (record {
+        fresh = fresh;
+        rest = (cut_each fresh more all).0.pools;
+        taken = by_rule first_taken;
+        count = count;
+        moved = subst (λ (a : ℕ). word S (a + 24) ≡ end_of fresh 0 first.tail entries) slot_is (stored ∙ (λ t. end_of (blocks t) 0 (tail_is t) (es t)));
+      })
+    ]
 
     -- What a stop leaves of both.
     module _ {held : Store} {h k : Held} (here : ShowsRow R s held h first free) (there : ShowsRow R s held k second free) (now : Region) (old new : Choices) (wrote : StoresOnly (TogetherWords cpu x y) R now old new) (settled : NothingPending R old) where

@@ -59,6 +59,8 @@ use Rattle.nv_steps.proofs.LogGrows.{slot_there}
 use Rattle.nv_steps.proofs.ResizeEntries.{copy_writes, two_end}
 use Rattle.nv_steps.proofs.TakenBlocks.{all_differ, are_free, is_taken, taken_apart, was_taken}
 use Rattle.nv_steps.proofs.OneByOne.{single_takes, by_rule, takes_of}
+use Rattle.nv_steps.proofs.Zeros.{one_page_zeros, zero_after}
+use Rattle.nv_steps.specs.Zeros.{ZerosFrom}
 
 -- What a file that ends in a page with a block, and gets longer, has there.
 pub record EndsIn (m : Pages) (old new from : ℕ) : Type 0 where
@@ -270,6 +272,10 @@ module _ {R S : Region} {s : Super} {free mid : FreeLists} {cpu : ℕ} {row grow
     page_stays : (y : ℕ) → byte_in S (Some to) y ≡ byte_in copies.mid (Some to) y
     page_stays y = byte_stays copies.mid S (ExtendWords (slot_address s row.inode) row.tail entries fresh) (Some to) y copies.extends (λ b is k v at here. away k v (at ∙ sym (same_Some to b is)) here)
 
+    -- the copied page has zeros behind the old end
+    pub copy_zeros : ZerosFrom S row.numbers.size entries
+    copy_zeros = one_page_zeros S row.numbers.size w x refl (λ y page_is past. page_stays y ∙ copies.page y page_is ∙ zero_after 0 [] row.numbers.size (byte_in R (Some from)) y (omega arith) past)
+
     pub copy_bytes : SameBytes R S row new x.size
     copy_bytes y below = elim (cases_eq (y / 4096) (row.numbers.size / 4096)) [
       | inl same ↦ (
@@ -312,6 +318,7 @@ module _ {R S : Region} {s : Super} {free mid : FreeLists} {cpu : ℕ} {row grow
     fresh = λ held h shows b at. subst (IsUnowned (fixed_layout s) held) (same_Some to b at) (to_free shows);
     follows = λ held h shows. copy_follows shows after (lists_now shows joins);
     bytes = λ held h shows. copy_bytes shows;
+    zeros = λ held h shows. copy_zeros shows;
   }
 
   -- There are free lists for it, whatever was given back.
@@ -329,6 +336,7 @@ module _ {R S : Region} {s : Super} {free mid : FreeLists} {cpu : ℕ} {row grow
           fresh = λ st g seen b at. subst (IsUnowned (fixed_layout s) st) (same_Some to b at) (to_free seen);
           follows = λ st g seen. copy_follows seen (record free { pools = w.1 }) (lists_any shows seen entries fresh w.1 keeps.in_lists);
           bytes = λ st g seen. copy_bytes seen;
+          zeros = λ st g seen. copy_zeros seen;
         },
         refl,
       )

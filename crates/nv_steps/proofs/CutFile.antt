@@ -42,6 +42,7 @@ use Rattle.nv_steps.specs.Grown.{HasGrown, StandsRight}
 use Rattle.nv_steps.specs.Sizes.{CanResize, HasSize, Resizes, SameBytes, end_block}
 use Rattle.nv_steps.specs.Steps.{AppendsLog, LogFollows, ShowsRow}
 use Rattle.nv_steps.specs.Taken.{SamePools}
+use Rattle.nv_steps.proofs.Zeros.{no_zeros}
 use Rattle.nv_steps.proofs.AttrEntries.{attr_writes, one_ends}
 use Rattle.nv_steps.proofs.SizedEntries.{data_names, data_numbers}
 use Rattle.nv_steps.specs.Stopped.{Appended, Resized}
@@ -265,6 +266,7 @@ module _ {R S : Region} {s : Super} {free reserved mid : FreeLists} {cpu : ℕ} 
     fresh = λ held h shows b at. absurd (none-some b at);
     follows = λ held h shows. cut_follows shows after (lists_now shows given);
     bytes = λ held h shows. cut_bytes shows;
+    zeros = λ held h shows. no_zeros S row.numbers.size x;
   }
 
   -- There are free lists for it, whatever was given back.
@@ -282,6 +284,7 @@ module _ {R S : Region} {s : Super} {free reserved mid : FreeLists} {cpu : ℕ} 
           fresh = λ st g seen b at. absurd (none-some b at);
           follows = λ st g seen. cut_follows seen (record free { pools = w.1 }) (lists_any shows seen (Attr x ∷ []) a.fresh w.1 keeps.in_lists);
           bytes = λ st g seen. cut_bytes seen;
+          zeros = λ st g seen. no_zeros S row.numbers.size x;
         },
         refl,
       )

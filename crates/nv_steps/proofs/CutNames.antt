@@ -1,7 +1,7 @@
 -- The removal of a name and its inode, once they are committed and the directory's row is settled.
 use Rattle.std.proofs.Common.{◌≡◌, ◌≢◌, ℕ, ◌+◌, ◌*◌, ◌/◌, ◌%◌, ◌≤◌, cond, nat_eq, inl, inr, Option, List, ◌∷◌, ◌++◌, length, refl, ap, sym, ◌∙◌, subst, arith, Some, None}
 use Rattle.std.specs.Cmp.Lexicographic.{pointwise}
-use Rattle.nv_region.specs.Region.{Region, size}
+use Rattle.nv_region.specs.Region.{Region, size, word}
 use Rattle.nv_region.specs.Stops.{Choices, IsMixed, LeavesOnly, MayBeLeft, NothingPending}
 use Rattle.nv_region.specs.Stored.{StoresOnly}
 use Rattle.nv_region.proofs.Stops.{mixed_left}
@@ -37,10 +37,15 @@ use Rattle.nv_steps.specs.Steps.{ShowsRow}
 use Rattle.nv_steps.specs.Stopped.{Cut}
 use Rattle.nv_steps.specs.Taken.{TakesEach}
 use Rattle.nv_steps.proofs.LessName.{found_without, once_without, without}
+use Rattle.nv_journal.specs.InOrder.{FirstIsFirst}
+use Rattle.nv_steps.specs.InOrder.{TailIsFirst}
+use Rattle.nv_steps.proofs.OneByOne.{by_rule}
 use Rattle.nv_steps.proofs.LogGrows.{can_extend, stores_within_region}
 use Rattle.nv_steps.proofs.TwoLogs.{as_extension, row_commits}
 use Rattle.nv_steps.specs.Fronts.{SameFrontBut}
 use Rattle.nv_steps.proofs.OtherJournals.{removed_front, undone_front}
+use Rattle.nv_steps.specs.Stores.{StoresIn, one_less}
+use Rattle.nv_steps.proofs.Stores.{less_stores}
 
 -- a row that was made ready and then settled
 lost_after : {old mid new : Row} {fresh others : List ℕ} {end last : ℕ} (name : List ℕ) (time : ℕ) → SameRow old mid → HasLost mid fresh end name time new → fresh ≡ others → end ≡ last → HasLost old others last name time new
@@ -118,6 +123,30 @@ module _ {R : Region} {s : Super} {free after : FreeLists} {old mid : Row} {cpu 
       at = gone_slot ∙ ap (λ (a : ℕ). Some a) (sym there);
       differ = differ;
     })
+
+    -- Nothing else is stored.
+    cut_stores : (S : Region) (gone : ℕ) → gone ≡ slot_address s j → old.inode ≢ j → {held : Store} {h : Held} → ShowsRow R s held h old free → IsMixed R (RemoveWords cpu x gone) S → StoresIn s held (one_less s cpu old.inode j) R S
+    cut_stores S gone there differ {held} {h} shows mixed = subst (λ (d : ℕ). StoresIn s held (one_less s cpu d j) R S) same.inode (less_stores (can_remove gone there differ held h shows) slot there mixed)
+
+    -- The valid word is stored after the directory's tail.
+    cut_in_order : (S : Region) (gone : ℕ) → gone ≡ slot_address s j → old.inode ≢ j → {held : Store} {h : Held} → ShowsRow R s held h old free
+        → (CanRemove R s held cpu mid.inode h x j gone → FirstIsFirst R (x.slot + 24) (end_of x.fresh.now 0 x.tail x.entries.now) gone S) → TailIsFirst R S s free.pools cpu old.inode old.tail entries (slot_address s j)
+    cut_in_order S gone there differ {held} {h} shows orders = elim (orders (can_remove gone there differ held h shows)) [
+      | inl still ↦ inl (subst (λ (a : ℕ). word S a ≡ word R a) there still)
+      | inr stored ↦ inr (record {
+        fresh = fresh;
+        rest = after.pools;
+        taken = by_rule taken;
+        count = count;
+        moved = subst (λ (a : ℕ). word S (a + 24) ≡ end_of fresh 0 old.tail entries) old_slot (stored ∙ (λ t. end_of (blocks t) 0 (old_tail t) (more t)));
+      })
+    ]
+
+    -- Both.
+    pub cut_told : (S : Region) (gone : ℕ) → gone ≡ slot_address s j → old.inode ≢ j → {held : Store} {h : Held} → ShowsRow R s held h old free
+        → (CanRemove R s held cpu mid.inode h x j gone → FirstIsFirst R (x.slot + 24) (end_of x.fresh.now 0 x.tail x.entries.now) gone S) → IsMixed R (RemoveWords cpu x gone) S
+        → TailIsFirst R S s free.pools cpu old.inode old.tail entries (slot_address s j) × StoresIn s held (one_less s cpu old.inode j) R S
+    cut_told S gone there differ shows orders mixed = (cut_in_order S gone there differ shows orders, cut_stores S gone there differ shows mixed)
 
     store_as : (held : Store) (d : ℕ) (h : Held) → with_removed held d h x j ≡ with_gone held d h entries fresh j
     store_as held d h = λ t. with_inode (with_log held d h (more t) (blocks t)) j None

@@ -26,6 +26,8 @@ pub mod PlanMade
 pub mod WrittenBytes
 pub mod WriteSteps
 pub mod WritesFile
+pub mod Zeros
+pub mod Stores
 pub mod WriteStops
 pub mod SizedEntries
 pub mod DataFollows

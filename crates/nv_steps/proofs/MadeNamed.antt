@@ -11,6 +11,7 @@ use Rattle.nv_super.specs.declared.superblock.Super.{Super}
 use Rattle.nv_super.specs.declared.kind.Kind.{Kind}
 use Rattle.nv_super.specs.Layout.{fixed_layout, slot_address}
 use Rattle.nv_journal.specs.Undo.{undone}
+use Rattle.nv_journal.specs.InOrder.{FirstIsFirst}
 use Rattle.nv_alloc.specs.FreeValue.{FreeLists}
 use Rattle.nv_entry.specs.declared.entry.Entry.{Entry}
 use Rattle.nv_entry.specs.declared.entry.Entry.TheVariants.{Name}
@@ -42,6 +43,8 @@ use Rattle.nv_steps.specs.Taken.{TakesEach}
 use Rattle.nv_steps.proofs.NewLogs.{can_begin, can_commit, can_make, first_append, second_append, slot_inside}
 use Rattle.nv_steps.specs.Fronts.{SameFrontBut}
 use Rattle.nv_steps.proofs.OtherJournals.{made_front, undone_front}
+use Rattle.nv_steps.specs.Stores.{StoresIn, one_more}
+use Rattle.nv_steps.proofs.Stores.{more_stores}
 
 -- ---- rows that a stop keeps from being settled
 
@@ -201,6 +204,21 @@ module _ {R : Region} {s : Super} {free after : FreeLists} {old mid : Row} {cpu 
           makes_named_by end tail_now place first_page bs others tails ends named at once once_now paged made shows (λ held h can. made_bytes can S mixed) (λ held h can. made_front can S mixed)
 
       -- What a stop leaves: the row that the directory would have is as it was but for the name, the time and the log.
+      -- Nothing else is stored than what the new inode and its name take.
+      named_stores : (S : Region) {held : Store} {h : Held} → ShowsRow R s held h old free → held j ≡ None → IsMixed R (MakeWords cpu n x) S → StoresIn s held (one_more s cpu j old.inode) R S
+      named_stores S {held} {h} shows unused mixed = subst (λ (d : ℕ). StoresIn s held (one_more s cpu j d) R S) same.inode (more_stores (can_make_it held h shows unused) new_slot slot mixed)
+
+      -- The directory's tail is stored after the valid word.
+      named_in_order : (S : Region) {held : Store} {h : Held} → ShowsRow R s held h old free → held j ≡ None → (CanMake R s held cpu j n mid.inode h x → FirstIsFirst R n.slot 1 (x.slot + 24) S) → FirstIsFirst R (slot_address s j) 1 (slot_address s old.inode + 24) S
+      named_in_order S {held} {h} shows unused orders =
+          subst (λ (a : ℕ). FirstIsFirst R a 1 (slot_address s old.inode + 24) S) new_slot
+          (subst (λ (a : ℕ). FirstIsFirst R n.slot 1 (a + 24) S) old_slot (orders (can_make_it held h shows unused)))
+
+      -- Both.
+      pub named_told : (S : Region) {held : Store} {h : Held} → ShowsRow R s held h old free → held j ≡ None → (CanMake R s held cpu j n mid.inode h x → FirstIsFirst R n.slot 1 (x.slot + 24) S) → IsMixed R (MakeWords cpu n x) S
+          → FirstIsFirst R (slot_address s j) 1 (slot_address s old.inode + 24) S × StoresIn s held (one_more s cpu j old.inode) R S
+      named_told S shows unused orders mixed = (named_in_order S shows unused orders, named_stores S shows unused mixed)
+
       pub left_named : {held : Store} {h : Held} → ShowsRow R s held h old free → held j ≡ None → EachOnce old.names → name_at old.names name ≡ None → (now : Region) (first_may last_may : Choices) → StoresOnly (MakeWords cpu n x) R now first_may last_may → NothingPending R first_may
           → (CanMake R s held cpu j n mid.inode h x → NothingPending R first_may → LeavesOnly now last_may (BeforeOrMade s held j n mid.inode h x)) → LeavesOnly now last_may (LeavesEither R (fixed_layout s) held (Named R s free cpu old kind mode time j name))
       left_named {held} {h} shows out once absent now first_may last_may wrote settled stops left may = by (stops made_can settled left may) where

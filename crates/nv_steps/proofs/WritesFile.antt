@@ -1,5 +1,5 @@
 -- What a write makes of the row of its file.
-use Rattle.std.proofs.Common.{◌≡◌, ℕ, ◌+◌, ◌-◌, ◌*◌, ◌/◌, ◌%◌, ◌<◌, inl, inr, max, List, ◌++◌, length, ap, sym, ◌∙◌, subst, arith, Option, Some}
+use Rattle.std.proofs.Common.{◌≡◌, ℕ, ◌+◌, ◌-◌, ◌*◌, ◌/◌, ◌%◌, ◌<◌, ◌≤◌, inl, inr, max, List, ◌++◌, length, ap, sym, ◌∙◌, subst, arith, Option, Some}
 use Rattle.std.specs.List.{Contains}
 use Rattle.std.proofs.lemmas.List.{get_or_default}
 use Rattle.std.proofs.lemmas.Option.{same_Some}
@@ -32,6 +32,7 @@ use Rattle.nv_commit.proofs.Extends.{slots}
 use Rattle.nv_steps.specs.Grown.{StandsRight}
 use Rattle.nv_steps.specs.Steps.{LogFollows, ShowsRow}
 use Rattle.nv_steps.specs.Writes.{data_blocks, plan_of, replaced_blocks}
+use Rattle.nv_steps.specs.Zeros.{ZerosFrom}
 use Rattle.nv_steps.specs.Written.{Commits, FileStands, HasWritten, Prepared, WritesFile, entry_pages}
 use Rattle.nv_steps.specs.declared.planning.Plan.{Plan}
 use Rattle.nv_steps.proofs.DataEntries.{IsWritten}
@@ -41,6 +42,7 @@ use Rattle.nv_steps.proofs.WriteFollows.{IsRight}
 use Rattle.nv_steps.proofs.WriteGood.{placed_entry, placed_pages}
 use Rattle.nv_steps.proofs.WrittenBytes.{unwritten_byte}
 use Rattle.nv_steps.proofs.OneByOne.{by_rule}
+use Rattle.nv_steps.proofs.Zeros.{zero_after}
 
 module _ {R S : Region} {s : Super} {row now : Row} {free after : FreeLists} {cpu : ℕ} {plan : Plan} {entries : List Entry} {fresh : List ℕ} {bytes : ℕ → ℕ}
     (stands : StandsRight R s free row) (is_file : row.kind ≡ File) (file : FileStands R s free row) (below : cpu < free.sup.cpus) (right : IsRight row plan)
@@ -117,6 +119,14 @@ module _ {R S : Region} {s : Super} {row now : Row} {free after : FreeLists} {cp
         ∙ made.bytes_before shows stands.lists is_file below right p c row.inode h shows.holds x
         ∙ ap (λ (o : Option ℕ). byte_in R o x) (sym (told.index (x / 4096)))
 
+    -- the bytes of a page that an entry wrote, past the new end
+    all_zeros : (offset time : ℕ) (new : List ℕ) → plan ≡ plan_of (block_at row.index) row.numbers.size offset (length new) time → ((x : ℕ) → bytes x ≡ byte_after offset new row.numbers.size (file_byte R row.index) x) → ZerosFrom S plan.size entries
+    all_zeros offset time new planned after_is e there k x low page past =
+        let taken = made.entry_block_taken shows stands.lists is_file below right p c e there k low in
+        let behind : max row.numbers.size (offset + length new) ≤ x = subst (λ (q : Plan). q.size ≤ x) planned past in
+        byte_stays c.mid S (ExtendWords (slot_address s row.inode) row.tail entries fresh) (Some (e.block + k)) x c.mixed (λ b is i v at w. untouched (e.block + k) taken i v (at ∙ sym (same_Some _ _ is)) w)
+        ∙ c.holds e there k low x page ∙ after_is x ∙ zero_after offset new row.numbers.size (file_byte R row.index) x (omega (arith, behind)) (omega (arith, behind))
+
     all_bytes : (offset time : ℕ) (new : List ℕ) → 0 < length new → plan ≡ plan_of (block_at row.index) row.numbers.size offset (length new) time → ((x : ℕ) → bytes x ≡ byte_after offset new row.numbers.size (file_byte R row.index) x)
         → (x : ℕ) → x < plan.size → file_byte S now.index x ≡ byte_after offset new row.numbers.size (file_byte R row.index) x
     all_bytes offset time new some planned after_is x inside = elim (in_runs (made.pages_there shows stands.lists is_file below right p c) (x / 4096)) [
@@ -143,6 +153,7 @@ module _ {R S : Region} {s : Super} {row now : Row} {free after : FreeLists} {cp
     numbers = has.numbers;
     names = has.names;
     bytes = λ held h shows x inside. all_bytes shows offset time new some planned after_is x inside;
+    zeros = λ held h shows. subst (λ (es : List Entry). ZerosFrom S plan.size es) p.says (all_zeros shows offset time new planned after_is);
   }
 
   -- The same where the blocks that were replaced are given back.

@@ -1,8 +1,11 @@
 pub mod Taken
 pub mod Grown
 pub mod Steps
+pub mod InOrder
+pub mod Stores
 pub mod Attributes
 pub mod Writes
+pub mod Zeros
 pub mod Written
 pub mod Given
 pub mod Sizes

@@ -25,6 +25,7 @@ use Rattle.nv_tree.specs.Tree.{Node}
 use Rattle.nv_steps.specs.Given.{MapsOwn}
 use Rattle.nv_steps.specs.Grown.{StandsRight}
 use Rattle.nv_steps.specs.Steps.{LogFollows, ShowsRow}
+use Rattle.nv_steps.specs.Zeros.{ZerosFrom}
 
 -- The block of the page in which a file ends, where the file gets longer and has bytes of that page.
 abbrev pub end_block : (ℕ → Option ℕ) → ℕ → ℕ → Option ℕ
@@ -78,7 +79,7 @@ abbrev pub SameBytes : Region → Region → Row → Row → ℕ → Type 0
 SameBytes R S old new size = (y : ℕ) → y < size → byte_in S (block_at new.index (y / 4096)) y ≡ (if nat_lt y old.numbers.size then byte_in R (block_at old.index (y / 4096)) y else 0)
 
 -- The log has the entries, the row what they say, and the file the bytes of before up to the new size. A CPU took the block of
--- the copied page, and then those of the log, each by itself.
+-- the copied page, and then those of the log, each by itself. Behind the old end that page is zeros.
 pub record Resizes (R S : Region) (s : Super) (free : FreeLists) (cpu : ℕ) (old : Row) (x : AttrEntry) (new : Row) (after : FreeLists) : Type 0 where
   pub to : Option ℕ
   pub copied : is_some to ≡ is_some (end_block (block_at old.index) old.numbers.size x.size)
@@ -88,6 +89,7 @@ pub record Resizes (R S : Region) (s : Super) (free : FreeLists) (cpu : ℕ) (ol
   pub fresh : (held : Store) (h : Held) → ShowsRow R s held h old free → (b : ℕ) → to ≡ Some b → IsUnowned (fixed_layout s) held b
   pub follows : (held : Store) (h : Held) → ShowsRow R s held h old free → LogFollows R S s held h (resizing old.numbers.size x to) between cpu old new after
   pub bytes : (held : Store) (h : Held) → ShowsRow R s held h old free → SameBytes R S old new x.size
+  pub zeros : (held : Store) (h : Held) → ShowsRow R s held h old free → ZerosFrom S old.numbers.size (resizing old.numbers.size x to)
 
 -- ---- a page that is copied
 

@@ -25,6 +25,7 @@ use Rattle.nv_steps.specs.Taken.{SamePools, TakesEach}
 use Rattle.nv_tree.specs.declared.refusal.Refusal.{Refusal}
 use Rattle.nv_tree.specs.declared.refusal.Refusal.TheVariants.{Memory, NoSpace, Stopped}
 use Rattle.nv_steps.specs.Writes.{NeedsBlocks, data_blocks, data_entries}
+use Rattle.nv_steps.specs.Zeros.{ZerosFrom}
 use Rattle.nv_steps.specs.declared.planning.Plan.{Plan}
 
 -- the blocks that these entries write, run by run
@@ -99,7 +100,8 @@ pub record HasWritten (old : Row) (plan : Plan) (entries : List Entry) (fresh : 
   pub names : new.names ≡ old.names
 
 -- What a write makes of the row of its file: the blocks that a CPU takes at once decide its entries, by which the log grows over
--- blocks that it takes from the rest. Each byte is the new one, or what it was, or zero.
+-- blocks that it takes from the rest. Each byte is the new one, or what it was, or zero, and behind the file's end all that was
+-- stored is zeros.
 pub record WritesFile (R S : Region) (s : Super) (free after : FreeLists) (cpu : ℕ) (plan : Plan) (offset : ℕ) (new : List ℕ) (old now : Row) : Type 0 where
   pub runs : List Run
   pub rest : List (List Run)
@@ -110,3 +112,4 @@ pub record WritesFile (R S : Region) (s : Super) (free after : FreeLists) (cpu :
   pub numbers : now.numbers ≡ record old.numbers { size = plan.size; time = plan.time }
   pub names : now.names ≡ old.names
   pub bytes : (held : Store) (h : Held) → ShowsRow R s held h old free → (x : ℕ) → x < plan.size → file_byte S now.index x ≡ byte_after offset new old.numbers.size (file_byte R old.index) x
+  pub zeros : (held : Store) (h : Held) → ShowsRow R s held h old free → ZerosFrom S plan.size (data_entries plan runs)

@@ -18,7 +18,9 @@ ghost use Rattle.nv_steps.specs.MoreNames.{AppendsLogs, NamesOnce, ReadiesRow};
 ghost use Rattle.nv_steps.specs.NewNames.{CanName};
 ghost use Rattle.nv_steps.specs.Steps.{LeavesStep, RefusesStep, ShowsRow};
 ghost use Rattle.nv_steps.specs.Stopped.{AppendedBoth};
+ghost use Rattle.nv_steps.specs.InOrder.{TailIsFirst, tail_address};
 ghost use Rattle.nv_steps.specs.Taken.{SamePools, TakesEach};
+ghost use Rattle.nv_steps.specs.Stores.{StoresIn, two_logs};
 
 use crate::blocks::{are_enough, take_blocks};
 use crate::settling::settle_log;
@@ -74,6 +76,12 @@ pub(crate) fn append_logs<P: Pmem>(
     ensures lists { free.new.sup ≡ free.old.sup }
     ensures length { size (P.region memory.new) ≡ size (P.region memory.old) }
     ensures keeps_fuse { KeepsFuse (λ limit. size (P.region memory.old) ≤ limit) (P.fuse memory.old) (P.fuse memory.new) }
+    // Every word outside these places is as it was.
+    ensures wrote { (held : Store) (h g : Held) → ShowsRow (P.region memory.old) sup.now held h row.old free.old → ShowsRow (P.region memory.old) sup.now held g other.old free.old
+        → StoresIn sup.now held (two_logs sup.now cpu row.old.inode other.old.inode) (P.region memory.old) (P.region memory.new) }
+    // The first log's tail is stored first.
+    ensures in_order { (held : Store) (h g : Held) → ShowsRow (P.region memory.old) sup.now held h row.old free.old → ShowsRow (P.region memory.old) sup.now held g other.old free.old
+        → TailIsFirst (P.region memory.old) (P.region memory.new) sup.now free.old.pools cpu row.old.inode row.old.tail first.now.entries.now (tail_address sup.now other.old.inode) }
     // Whatever a stop leaves: recovery finds what is held, or it with both logs grown, without faults.
     ensures any_stop { (held : Store) (h g : Held) → ShowsRow (P.region memory.old) sup.now held h row.old free.old → ShowsRow (P.region memory.old) sup.now held g other.old free.old → NothingPending (P.region memory.old) (P.may_hold memory.old)
         → LeavesOnly (P.region memory.new) (P.may_hold memory.new) (LeavesEither (P.region memory.old) (fixed_layout sup.now) held (AppendedBoth (P.region memory.old) sup.now free.old cpu row.old first.now.entries.now other.old second.now.entries.now)) }

@@ -20,6 +20,8 @@ ghost use Rattle.nv_steps.specs.MoreNames.{LinksAt};
 ghost use Rattle.nv_steps.specs.NewNames.{CanName};
 ghost use Rattle.nv_steps.specs.Steps.{LeavesStep, RefusesStep, ShowsRow};
 ghost use Rattle.nv_steps.specs.Stopped.{Linked};
+ghost use Rattle.nv_steps.specs.InOrder.{TailIsFirst, tail_address};
+ghost use Rattle.nv_steps.specs.Stores.{StoresIn, two_logs};
 
 use crate::growing::{Growth, append_logs};
 use crate::settling_names::{add_name, set_links};
@@ -62,6 +64,12 @@ pub fn link_both<P: Pmem>(
     ensures lists { free.new.sup ≡ free.old.sup }
     ensures length { size (P.region memory.new) ≡ size (P.region memory.old) }
     ensures keeps_fuse { KeepsFuse (λ limit. size (P.region memory.old) ≤ limit) (P.fuse memory.old) (P.fuse memory.new) }
+    // Every word outside these places is as it was.
+    ensures wrote { (held : Store) (h g : Held) → ShowsRow (P.region memory.old) sup.now held h file.old free.old → ShowsRow (P.region memory.old) sup.now held g directory.old free.old
+        → StoresIn sup.now held (two_logs sup.now cpu file.old.inode directory.old.inode) (P.region memory.old) (P.region memory.new) }
+    // The file's tail is stored first.
+    ensures in_order { (held : Store) (h g : Held) → ShowsRow (P.region memory.old) sup.now held h file.old free.old → ShowsRow (P.region memory.old) sup.now held g directory.old free.old
+        → TailIsFirst (P.region memory.old) (P.region memory.new) sup.now free.old.pools cpu file.old.inode file.old.tail (links_entries (file.old.numbers.links + 1) time) (tail_address sup.now directory.old.inode) }
     // Whatever a stop leaves: recovery finds what is held, or it with the link and the name, without faults.
     ensures any_stop { (held : Store) (h g : Held) → ShowsRow (P.region memory.old) sup.now held h file.old free.old → ShowsRow (P.region memory.old) sup.now held g directory.old free.old → name_at directory.old.names name.now ≡ Option.None → NothingPending (P.region memory.old) (P.may_hold memory.old)
         → LeavesOnly (P.region memory.new) (P.may_hold memory.new) (LeavesEither (P.region memory.old) (fixed_layout sup.now) held (Linked (P.region memory.old) sup.now free.old cpu file.old directory.old name.now time)) }

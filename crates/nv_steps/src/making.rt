@@ -1,7 +1,8 @@
 //! A new inode and its name, over blocks that are taken for both logs: all growths first, then the commit, then the rows.
 
 ghost use Rattle.std.specs.Prelude.{◌≡◌, ◌+◌, ◌*◌, ◌<◌, ◌≤◌, ◌%◌, ◌^◌, [], ◌∷◌, length, IsTrue, IfOk, IfErr, OnOk, OnErr, None};
-ghost use Rattle.nv_super.specs.Layout.{fixed_layout};
+ghost use Rattle.nv_super.specs.Layout.{fixed_layout, slot_address};
+ghost use Rattle.nv_journal.specs.InOrder.{FirstIsFirst};
 ghost use Rattle.smallvec.specs.SmallVec.{HasRoomFor};
 ghost use Rattle.nv_region.specs.Region.{size};
 ghost use Rattle.nv_region.specs.Stops.{LeavesOnly, NothingPending};
@@ -20,7 +21,9 @@ ghost use Rattle.nv_steps.specs.NameEntries.{first_entries, name_entries};
 ghost use Rattle.nv_steps.specs.NewNames.{CanName, HasNamed, IsNewRow, MakesNamed};
 ghost use Rattle.nv_steps.specs.Steps.{LeavesStep, RefusesStep, ShowsRow};
 ghost use Rattle.nv_steps.specs.Stopped.{Named};
+ghost use Rattle.nv_steps.specs.InOrder.{tail_address};
 ghost use Rattle.nv_steps.specs.Taken.{SamePools, TakesEach};
+ghost use Rattle.nv_steps.specs.Stores.{StoresIn, one_more};
 
 use crate::blocks::take_blocks;
 use crate::settling::settle_log;
@@ -75,6 +78,12 @@ pub fn make_named<P: Pmem>(
     ensures lists { free.new.sup ≡ free.old.sup }
     ensures length { size (P.region memory.new) ≡ size (P.region memory.old) }
     ensures keeps_fuse { KeepsFuse (λ limit. size (P.region memory.old) ≤ limit) (P.fuse memory.old) (P.fuse memory.new) }
+    // Every word outside these places is as it was.
+    ensures wrote { (held : Store) (h : Held) → ShowsRow (P.region memory.old) sup.now held h directory.old free.old → held new.now.inode ≡ None
+        → StoresIn sup.now held (one_more sup.now cpu new.now.inode directory.old.inode) (P.region memory.old) (P.region memory.new) }
+    // The new inode's valid word is stored first.
+    ensures in_order { (held : Store) (h : Held) → ShowsRow (P.region memory.old) sup.now held h directory.old free.old → held new.now.inode ≡ None
+        → FirstIsFirst (P.region memory.old) (slot_address sup.now new.now.inode) 1 (tail_address sup.now directory.old.inode) (P.region memory.new) }
     // What a stop leaves, at any exit.
     ensures any_stop { (held : Store) (h : Held) → ShowsRow (P.region memory.old) sup.now held h directory.old free.old → held new.now.inode ≡ None → name_at directory.old.names new.now.name.now ≡ None → NothingPending (P.region memory.old) (P.may_hold memory.old)
         → LeavesOnly (P.region memory.new) (P.may_hold memory.new) (LeavesEither (P.region memory.old) (fixed_layout sup.now) held (Named (P.region memory.old) sup.now free.old cpu directory.old new.now.kind new.now.mode new.now.time new.now.inode new.now.name.now)) }

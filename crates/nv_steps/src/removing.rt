@@ -1,7 +1,7 @@
 //! A name that goes with its inode, by its directory's row: all growths first, then the commit, then the row.
 
 ghost use Rattle.std.specs.Prelude.{◌≡◌, ◌≢◌, ◌%◌, ◌<◌, ◌≤◌, length, IsTrue, IfOk, IfErr, OnOk, OnErr};
-ghost use Rattle.nv_super.specs.Layout.{fixed_layout};
+ghost use Rattle.nv_super.specs.Layout.{fixed_layout, slot_address};
 ghost use Rattle.smallvec.specs.SmallVec.{HasRoomFor};
 ghost use Rattle.nv_region.specs.Region.{size};
 ghost use Rattle.nv_region.specs.Stops.{LeavesOnly, NothingPending};
@@ -20,7 +20,9 @@ ghost use Rattle.nv_steps.specs.NameEntries.{name_entries};
 ghost use Rattle.nv_steps.specs.NewNames.{CanName};
 ghost use Rattle.nv_steps.specs.Steps.{LeavesStep, RefusesStep, ShowsRow};
 ghost use Rattle.nv_steps.specs.Stopped.{Cut};
+ghost use Rattle.nv_steps.specs.InOrder.{TailIsFirst};
 ghost use Rattle.nv_steps.specs.Taken.{SamePools, TakesEach};
+ghost use Rattle.nv_steps.specs.Stores.{StoresIn, one_less};
 
 use crate::preparing::prepare_log;
 use crate::settling::settle_log;
@@ -72,6 +74,12 @@ pub fn cut_name<P: Pmem>(
     ensures lists { free.new.sup ≡ free.old.sup }
     ensures length { size (P.region memory.new) ≡ size (P.region memory.old) }
     ensures keeps_fuse { KeepsFuse (λ limit. size (P.region memory.old) ≤ limit) (P.fuse memory.old) (P.fuse memory.new) }
+    // Every word outside these places is as it was.
+    ensures wrote { (held : Store) (h : Held) → ShowsRow (P.region memory.old) sup.now held h directory.old free.old
+        → StoresIn sup.now held (one_less sup.now cpu directory.old.inode gone.now.inode) (P.region memory.old) (P.region memory.new) }
+    // The directory's tail is stored first.
+    ensures in_order { (held : Store) (h : Held) → ShowsRow (P.region memory.old) sup.now held h directory.old free.old
+        → TailIsFirst (P.region memory.old) (P.region memory.new) sup.now free.old.pools cpu directory.old.inode directory.old.tail (name_entries OperationValue.Remove gone.now.inode gone.now.name.now gone.now.time) (slot_address sup.now gone.now.inode) }
     // Whatever a stop leaves: recovery finds what is held, or it without the name and the inode, without faults.
     ensures any_stop { (held : Store) (h : Held) → ShowsRow (P.region memory.old) sup.now held h directory.old free.old → NothingPending (P.region memory.old) (P.may_hold memory.old)
         → LeavesOnly (P.region memory.new) (P.may_hold memory.new) (LeavesEither (P.region memory.old) (fixed_layout sup.now) held (Cut (P.region memory.old) sup.now free.old cpu directory.old gone.now.inode gone.now.time gone.now.name.now)) }

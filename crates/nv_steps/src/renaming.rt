@@ -20,7 +20,9 @@ ghost use Rattle.nv_steps.specs.NameEntries.{name_entries};
 ghost use Rattle.nv_steps.specs.NewNames.{CanName};
 ghost use Rattle.nv_steps.specs.Steps.{LeavesStep, RefusesStep, ShowsRow};
 ghost use Rattle.nv_steps.specs.Stopped.{MovedHere, MovedOver};
+ghost use Rattle.nv_steps.specs.InOrder.{TailIsFirst, tail_address};
 ghost use Rattle.nv_steps.specs.Unlinks.{LosesName};
+ghost use Rattle.nv_steps.specs.Stores.{StoresIn, two_logs};
 
 use crate::appending::append_log;
 use crate::blocks::are_enough;
@@ -124,6 +126,12 @@ pub fn move_both<P: Pmem>(
     ensures lists { free.new.sup ≡ free.old.sup }
     ensures length { size (P.region memory.new) ≡ size (P.region memory.old) }
     ensures keeps_fuse { KeepsFuse (λ limit. size (P.region memory.old) ≤ limit) (P.fuse memory.old) (P.fuse memory.new) }
+    // Every word outside these places is as it was.
+    ensures wrote { (held : Store) (h g : Held) → ShowsRow (P.region memory.old) sup.now held h from.old free.old → ShowsRow (P.region memory.old) sup.now held g to.old free.old
+        → StoresIn sup.now held (two_logs sup.now cpu from.old.inode to.old.inode) (P.region memory.old) (P.region memory.new) }
+    // The old directory's tail is stored first.
+    ensures in_order { (held : Store) (h g : Held) → ShowsRow (P.region memory.old) sup.now held h from.old free.old → ShowsRow (P.region memory.old) sup.now held g to.old free.old
+        → TailIsFirst (P.region memory.old) (P.region memory.new) sup.now free.old.pools cpu from.old.inode from.old.tail (name_entries Remove moved.now.inode moved.now.name.now moved.now.time) (tail_address sup.now to.old.inode) }
     // Whatever a stop leaves: recovery finds what is held, or it with the name in the other directory, without faults.
     ensures any_stop { (held : Store) (h g : Held) → ShowsRow (P.region memory.old) sup.now held h from.old free.old → ShowsRow (P.region memory.old) sup.now held g to.old free.old → name_at to.old.names moved.now.other.now ≡ Option.None → NothingPending (P.region memory.old) (P.may_hold memory.old)
         → LeavesOnly (P.region memory.new) (P.may_hold memory.new) (LeavesEither (P.region memory.old) (fixed_layout sup.now) held (MovedOver (P.region memory.old) sup.now free.old cpu from.old to.old moved.now.inode moved.now.name.now moved.now.other.now moved.now.time)) }

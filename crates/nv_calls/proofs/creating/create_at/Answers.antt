@@ -1,7 +1,9 @@
-use Rattle.std.proofs.Common.{◌≡◌, ◌≢◌, ◌∙◌, ◌+◌, ◌%◌, ◌<◌, ◌≤◌, List, ℕ, Some, None, ap, refl, subst, sym}
+use Rattle.std.proofs.Common.{◌≡◌, ◌≢◌, ◌∙◌, ◌+◌, ◌%◌, ◌<◌, ◌≤◌, List, ℕ, Some, None, ap, refl, subst, sym, inl}
+use Rattle.nv_steps.specs.InOrder.{tail_address}
+use Rattle.nv_journal.specs.InOrder.{FirstIsFirst}
 use Rattle.std.proofs.lemmas.Result.{err_from_is_err_and}
 use Rattle.std.proofs.lemmas.Option.{same_Some}
-use Rattle.nv_super.specs.Layout.{fixed_layout, inode_limit}
+use Rattle.nv_super.specs.Layout.{fixed_layout, inode_limit, slot_address}
 use Rattle.nv_super.specs.declared.superblock.Super.{Super}
 use Rattle.nv_alloc.specs.Taking.{all_blocks}
 use Rattle.nv_entry.specs.declared.entry.Operation.TheVariants.{Add}
@@ -24,6 +26,8 @@ use Rattle.nv_calls.proofs.OneOut.{back, left_one, other_row}
 use Rattle.nv_calls.proofs.PutRow.{leaves_all}
 use Rattle.nv_calls.proofs.TwoRows.{last_used}
 use Rattle.nv_calls.proofs.creating.create_at.Goals as goal
+use Rattle.nv_steps.specs.Stores.{StoresIn, one_more}
+use Rattle.nv_steps.proofs.Stores.{stores_nothing}
 
 pub give_back-requires : goal.give_back-requires
 give_back-requires g c =
@@ -114,3 +118,39 @@ returns-clause-any_stop g c row held h is shows out absent settled =
     subst (λ (r : Row). ShowsRow (g.P.Pmem.region c.args.memory.now) c.args.sup.now held h r c.args.free.now → name_at r.names c.args.new.now.name.now ≡ None
     → LeavesOnly (g.P.Pmem.region c.make_named-made.new.memory) (g.P.Pmem.may_hold c.make_named-made.new.memory) (LeavesEither (g.P.Pmem.region c.args.memory.now) (fixed_layout c.args.sup.now) held (Named (g.P.Pmem.region c.args.memory.now) c.args.sup.now c.args.free.now c.args.cpu r c.args.new.now.kind c.args.new.now.mode c.args.new.now.time c.args.new.now.inode c.args.new.now.name.now))) (same_Some _ _ (sym at ∙ is))
     (λ seen none. c.make_named-made.ensures.any_stop held h seen out none settled) shows absent
+
+pub returns-then-free_blocks-pages_needed-clause-in_order : goal.returns-then-free_blocks-pages_needed-clause-in_order
+returns-then-free_blocks-pages_needed-clause-in_order g c row held h is shows out = inl refl
+
+pub returns-then-is_err-clause-in_order : goal.returns-then-is_err-clause-in_order
+returns-then-is_err-clause-in_order g c row held h is shows out = inl refl
+
+pub returns-in_err-made-clause-in_order : goal.returns-in_err-made-clause-in_order
+returns-in_err-made-clause-in_order g c row held h is shows out =
+    let at : row_of c.args.rows.now.items c.args.directory ≡ Some c.lend-row.result = ap (λ (rows : List Row). row_of rows c.args.directory) (sym c.reserve.ensures.rows) ∙ c.lend-row.ensures.row in
+    subst (λ (r : Row). ShowsRow (g.P.Pmem.region c.args.memory.now) c.args.sup.now held h r c.args.free.now → FirstIsFirst (g.P.Pmem.region c.args.memory.now) (slot_address c.args.sup.now c.args.new.now.inode) 1 (tail_address c.args.sup.now r.inode) (g.P.Pmem.region c.make_named-made.new.memory)) (same_Some _ _ (sym at ∙ is))
+    (λ seen. c.make_named-made.ensures.in_order held h seen out) shows
+
+pub returns-clause-in_order : goal.returns-clause-in_order
+returns-clause-in_order g c row held h is shows out =
+    let at : row_of c.args.rows.now.items c.args.directory ≡ Some c.lend-row.result = ap (λ (rows : List Row). row_of rows c.args.directory) (sym c.reserve.ensures.rows) ∙ c.lend-row.ensures.row in
+    subst (λ (r : Row). ShowsRow (g.P.Pmem.region c.args.memory.now) c.args.sup.now held h r c.args.free.now → FirstIsFirst (g.P.Pmem.region c.args.memory.now) (slot_address c.args.sup.now c.args.new.now.inode) 1 (tail_address c.args.sup.now r.inode) (g.P.Pmem.region c.make_named-made.new.memory)) (same_Some _ _ (sym at ∙ is))
+    (λ seen. c.make_named-made.ensures.in_order held h seen out) shows
+
+pub returns-then-free_blocks-pages_needed-clause-wrote : goal.returns-then-free_blocks-pages_needed-clause-wrote
+returns-then-free_blocks-pages_needed-clause-wrote g c row held h is shows out = stores_nothing c.args.sup.now held (one_more c.args.sup.now c.args.cpu c.args.new.now.inode row.inode) (g.P.Pmem.region c.args.memory.now)
+
+pub returns-then-is_err-clause-wrote : goal.returns-then-is_err-clause-wrote
+returns-then-is_err-clause-wrote g c row held h is shows out = stores_nothing c.args.sup.now held (one_more c.args.sup.now c.args.cpu c.args.new.now.inode row.inode) (g.P.Pmem.region c.args.memory.now)
+
+pub returns-in_err-made-clause-wrote : goal.returns-in_err-made-clause-wrote
+returns-in_err-made-clause-wrote g c row held h is shows out =
+    let at : row_of c.args.rows.now.items c.args.directory ≡ Some c.lend-row.result = ap (λ (rows : List Row). row_of rows c.args.directory) (sym c.reserve.ensures.rows) ∙ c.lend-row.ensures.row in
+    subst (λ (r : Row). ShowsRow (g.P.Pmem.region c.args.memory.now) c.args.sup.now held h r c.args.free.now → StoresIn c.args.sup.now held (one_more c.args.sup.now c.args.cpu c.args.new.now.inode r.inode) (g.P.Pmem.region c.args.memory.now) (g.P.Pmem.region c.make_named-made.new.memory)) (same_Some _ _ (sym at ∙ is))
+    (λ seen. c.make_named-made.ensures.wrote held h seen out) shows
+
+pub returns-clause-wrote : goal.returns-clause-wrote
+returns-clause-wrote g c row held h is shows out =
+    let at : row_of c.args.rows.now.items c.args.directory ≡ Some c.lend-row.result = ap (λ (rows : List Row). row_of rows c.args.directory) (sym c.reserve.ensures.rows) ∙ c.lend-row.ensures.row in
+    subst (λ (r : Row). ShowsRow (g.P.Pmem.region c.args.memory.now) c.args.sup.now held h r c.args.free.now → StoresIn c.args.sup.now held (one_more c.args.sup.now c.args.cpu c.args.new.now.inode r.inode) (g.P.Pmem.region c.args.memory.now) (g.P.Pmem.region c.make_named-made.new.memory)) (same_Some _ _ (sym at ∙ is))
+    (λ seen. c.make_named-made.ensures.wrote held h seen out) shows

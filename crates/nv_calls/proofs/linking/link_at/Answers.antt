@@ -1,4 +1,5 @@
 use Rattle.std.proofs.Common.{◌≡◌, ◌∙◌, ◌+◌, ◌%◌, ◌≤◌, ◌∷◌, [], ℕ, ap, subst, sym, None}
+use Rattle.nv_steps.specs.InOrder.{TailIsFirst, tail_address}
 use Rattle.nv_super.specs.Layout.{fixed_layout}
 use Rattle.std.proofs.lemmas.Result.{IfErr-weaker, on_ok_weaker}
 use Rattle.std.proofs.lemmas.Option.{same_Some}
@@ -17,6 +18,7 @@ use Rattle.nv_steps.specs.Stopped.{Linked}
 use Rattle.nv_steps.specs.Steps.{RefusesStep, ShowsRow}
 use Rattle.nv_calls.proofs.TwoRows.{first_used, last_used, left_two, lifted, row_stays, used_still}
 use Rattle.nv_calls.proofs.linking.link_at.Goals as goal
+use Rattle.nv_steps.specs.Stores.{StoresIn, two_logs}
 
 pub lend-directory-requires : goal.lend-directory-requires
 lend-directory-requires g c = used_still c.args.rows.now.items c.lend-file.new.self.items c.args.named.now.target c.args.named.now.directory c.requires.apart c.requires.target c.lend-file.ensures.lent c.requires.directory
@@ -75,3 +77,21 @@ returns-clause-any_stop g c file directory held f h at other_at here other absen
     subst (λ (r : Row). ShowsRow (g.P.Pmem.region c.args.memory.now) c.args.sup.now held f r c.args.free.now → LeavesOnly (g.P.Pmem.region c.link_both-done.new.memory) (g.P.Pmem.may_hold c.link_both-done.new.memory) (LeavesEither (g.P.Pmem.region c.args.memory.now) (fixed_layout c.args.sup.now) held (Linked (g.P.Pmem.region c.args.memory.now) c.args.sup.now c.args.free.now c.args.cpu r directory c.args.named.now.name.now c.args.time))) same
     (λ seen. subst (λ (d : Row). ShowsRow (g.P.Pmem.region c.args.memory.now) c.args.sup.now held h d c.args.free.now → name_at d.names c.args.named.now.name.now ≡ None → LeavesOnly (g.P.Pmem.region c.link_both-done.new.memory) (g.P.Pmem.may_hold c.link_both-done.new.memory) (LeavesEither (g.P.Pmem.region c.args.memory.now) (fixed_layout c.args.sup.now) held (Linked (g.P.Pmem.region c.args.memory.now) c.args.sup.now c.args.free.now c.args.cpu c.lend-file.result d c.args.named.now.name.now c.args.time))) other_same
     (λ seen_other none. c.link_both-done.ensures.any_stop held f h seen seen_other none settled) other absent) here
+
+pub returns-clause-in_order : goal.returns-clause-in_order
+returns-clause-in_order g c file directory held f h at other_at here other =
+    let there = row_stays c.args.rows.now.items c.lend-file.new.self.items c.args.named.now.target c.args.named.now.directory c.requires.apart c.requires.target c.lend-file.ensures.lent c.lend-directory.result c.lend-directory.ensures.row in
+    let same : c.lend-file.result ≡ file = same_Some _ _ (sym c.lend-file.ensures.row ∙ at) in
+    let other_same : c.lend-directory.result ≡ directory = same_Some _ _ (sym there ∙ other_at) in
+    subst (λ (r : Row). ShowsRow (g.P.Pmem.region c.args.memory.now) c.args.sup.now held f r c.args.free.now → TailIsFirst (g.P.Pmem.region c.args.memory.now) (g.P.Pmem.region c.link_both-done.new.memory) c.args.sup.now c.args.free.now.pools c.args.cpu r.inode r.tail (links_entries (r.numbers.links + 1) c.args.time) (tail_address c.args.sup.now directory.inode)) same
+    (λ seen. subst (λ (d : Row). ShowsRow (g.P.Pmem.region c.args.memory.now) c.args.sup.now held h d c.args.free.now → TailIsFirst (g.P.Pmem.region c.args.memory.now) (g.P.Pmem.region c.link_both-done.new.memory) c.args.sup.now c.args.free.now.pools c.args.cpu c.lend-file.result.inode c.lend-file.result.tail (links_entries (c.lend-file.result.numbers.links + 1) c.args.time) (tail_address c.args.sup.now d.inode)) other_same
+    (λ seen_other. c.link_both-done.ensures.in_order held f h seen seen_other) other) here
+
+pub returns-clause-wrote : goal.returns-clause-wrote
+returns-clause-wrote g c file directory held f h at other_at here other =
+    let there = row_stays c.args.rows.now.items c.lend-file.new.self.items c.args.named.now.target c.args.named.now.directory c.requires.apart c.requires.target c.lend-file.ensures.lent c.lend-directory.result c.lend-directory.ensures.row in
+    let same : c.lend-file.result ≡ file = same_Some _ _ (sym c.lend-file.ensures.row ∙ at) in
+    let other_same : c.lend-directory.result ≡ directory = same_Some _ _ (sym there ∙ other_at) in
+    subst (λ (r : Row). ShowsRow (g.P.Pmem.region c.args.memory.now) c.args.sup.now held f r c.args.free.now → StoresIn c.args.sup.now held (two_logs c.args.sup.now c.args.cpu r.inode directory.inode) (g.P.Pmem.region c.args.memory.now) (g.P.Pmem.region c.link_both-done.new.memory)) same
+    (λ seen. subst (λ (d : Row). ShowsRow (g.P.Pmem.region c.args.memory.now) c.args.sup.now held h d c.args.free.now → StoresIn c.args.sup.now held (two_logs c.args.sup.now c.args.cpu c.lend-file.result.inode d.inode) (g.P.Pmem.region c.args.memory.now) (g.P.Pmem.region c.link_both-done.new.memory)) other_same
+    (λ seen_other. c.link_both-done.ensures.wrote held f h seen seen_other) other) here

@@ -1,5 +1,6 @@
 use Rattle.std.proofs.Common.{◌≡◌, ◌≢◌, ◌∙◌, ◌+◌, ◌%◌, ◌≤◌, ℕ, length, subst, sym}
-use Rattle.nv_super.specs.Layout.{fixed_layout}
+use Rattle.nv_steps.specs.InOrder.{TailIsFirst}
+use Rattle.nv_super.specs.Layout.{fixed_layout, slot_address}
 use Rattle.std.specs.Int.{div_ceil}
 use Rattle.std.proofs.lemmas.Result.{err_from_is_err_and}
 use Rattle.std.proofs.lemmas.Option.{same_Some}
@@ -23,6 +24,7 @@ use Rattle.nv_calls.proofs.OneOut.{left_one, other_out, other_row, other_used}
 use Rattle.nv_calls.proofs.OwnedRow.{owns_taken}
 use Rattle.nv_calls.proofs.TwoRows.{last_used}
 use Rattle.nv_calls.proofs.removing.remove_named.Goals as goal
+use Rattle.nv_steps.specs.Stores.{StoresIn, one_less}
 
 pub give_back-requires : goal.give_back-requires
 give_back-requires g c =
@@ -120,3 +122,35 @@ returns-clause-any_stop g c row gone held h at gone_at shows settled =
     subst (λ (i : ℕ). LeavesOnly (g.P.Pmem.region c.cut_name-cut.new.memory) (g.P.Pmem.may_hold c.cut_name-cut.new.memory) (LeavesEither (g.P.Pmem.region c.args.memory.now) (fixed_layout c.args.sup.now) held (Cut (g.P.Pmem.region c.args.memory.now) c.args.sup.now c.args.free.now c.args.cpu row i c.args.time c.args.named.now.name.now))) number
     (subst (λ (r : Row). ShowsRow (g.P.Pmem.region c.args.memory.now) c.args.sup.now held h r c.args.free.now → LeavesOnly (g.P.Pmem.region c.cut_name-cut.new.memory) (g.P.Pmem.may_hold c.cut_name-cut.new.memory) (LeavesEither (g.P.Pmem.region c.args.memory.now) (fixed_layout c.args.sup.now) held (Cut (g.P.Pmem.region c.args.memory.now) c.args.sup.now c.args.free.now c.args.cpu r c.args.named.now.target c.args.time c.args.named.now.name.now))) same
     (λ seen. c.cut_name-cut.ensures.any_stop held h seen settled) shows)
+
+pub returns-in_err-cut-clause-in_order : goal.returns-in_err-cut-clause-in_order
+returns-in_err-cut-clause-in_order g c row gone held h at gone_at shows =
+    let same : c.lend-directory.result ≡ row = same_Some _ _ (sym c.lend-directory.ensures.row ∙ at) in
+    let number = sym (numbered c.args.rows.now.items c.args.named.now.target gone gone_at) in
+    subst (λ (i : ℕ). TailIsFirst (g.P.Pmem.region c.args.memory.now) (g.P.Pmem.region c.cut_name-cut.new.memory) c.args.sup.now c.args.free.now.pools c.args.cpu row.inode row.tail (name_entries Remove i c.args.named.now.name.now c.args.time) (slot_address c.args.sup.now i)) number
+    (subst (λ (r : Row). ShowsRow (g.P.Pmem.region c.args.memory.now) c.args.sup.now held h r c.args.free.now → TailIsFirst (g.P.Pmem.region c.args.memory.now) (g.P.Pmem.region c.cut_name-cut.new.memory) c.args.sup.now c.args.free.now.pools c.args.cpu r.inode r.tail (name_entries Remove c.args.named.now.target c.args.named.now.name.now c.args.time) (slot_address c.args.sup.now c.args.named.now.target)) same
+    (λ seen. c.cut_name-cut.ensures.in_order held h seen) shows)
+
+pub returns-clause-in_order : goal.returns-clause-in_order
+returns-clause-in_order g c row gone held h at gone_at shows =
+    let same : c.lend-directory.result ≡ row = same_Some _ _ (sym c.lend-directory.ensures.row ∙ at) in
+    let number = sym (numbered c.args.rows.now.items c.args.named.now.target gone gone_at) in
+    subst (λ (i : ℕ). TailIsFirst (g.P.Pmem.region c.args.memory.now) (g.P.Pmem.region c.cut_name-cut.new.memory) c.args.sup.now c.args.free.now.pools c.args.cpu row.inode row.tail (name_entries Remove i c.args.named.now.name.now c.args.time) (slot_address c.args.sup.now i)) number
+    (subst (λ (r : Row). ShowsRow (g.P.Pmem.region c.args.memory.now) c.args.sup.now held h r c.args.free.now → TailIsFirst (g.P.Pmem.region c.args.memory.now) (g.P.Pmem.region c.cut_name-cut.new.memory) c.args.sup.now c.args.free.now.pools c.args.cpu r.inode r.tail (name_entries Remove c.args.named.now.target c.args.named.now.name.now c.args.time) (slot_address c.args.sup.now c.args.named.now.target)) same
+    (λ seen. c.cut_name-cut.ensures.in_order held h seen) shows)
+
+pub returns-in_err-cut-clause-wrote : goal.returns-in_err-cut-clause-wrote
+returns-in_err-cut-clause-wrote g c row gone held h at gone_at shows =
+    let same : c.lend-directory.result ≡ row = same_Some _ _ (sym c.lend-directory.ensures.row ∙ at) in
+    let number = sym (numbered c.args.rows.now.items c.args.named.now.target gone gone_at) in
+    subst (λ (i : ℕ). StoresIn c.args.sup.now held (one_less c.args.sup.now c.args.cpu row.inode i) (g.P.Pmem.region c.args.memory.now) (g.P.Pmem.region c.cut_name-cut.new.memory)) number
+    (subst (λ (r : Row). ShowsRow (g.P.Pmem.region c.args.memory.now) c.args.sup.now held h r c.args.free.now → StoresIn c.args.sup.now held (one_less c.args.sup.now c.args.cpu r.inode c.args.named.now.target) (g.P.Pmem.region c.args.memory.now) (g.P.Pmem.region c.cut_name-cut.new.memory)) same
+    (λ seen. c.cut_name-cut.ensures.wrote held h seen) shows)
+
+pub returns-clause-wrote : goal.returns-clause-wrote
+returns-clause-wrote g c row gone held h at gone_at shows =
+    let same : c.lend-directory.result ≡ row = same_Some _ _ (sym c.lend-directory.ensures.row ∙ at) in
+    let number = sym (numbered c.args.rows.now.items c.args.named.now.target gone gone_at) in
+    subst (λ (i : ℕ). StoresIn c.args.sup.now held (one_less c.args.sup.now c.args.cpu row.inode i) (g.P.Pmem.region c.args.memory.now) (g.P.Pmem.region c.cut_name-cut.new.memory)) number
+    (subst (λ (r : Row). ShowsRow (g.P.Pmem.region c.args.memory.now) c.args.sup.now held h r c.args.free.now → StoresIn c.args.sup.now held (one_less c.args.sup.now c.args.cpu r.inode c.args.named.now.target) (g.P.Pmem.region c.args.memory.now) (g.P.Pmem.region c.cut_name-cut.new.memory)) same
+    (λ seen. c.cut_name-cut.ensures.wrote held h seen) shows)

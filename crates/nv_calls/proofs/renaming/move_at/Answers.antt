@@ -84,3 +84,15 @@ returns-clause-any_stop g c from to inode held h k at other_at inode_at here oth
     let step = here_as (g.P.Pmem.region c.move_within-done.new.memory) (g.P.Pmem.may_hold c.move_within-done.new.memory) one number c.other_name-other.ensures.name c.other_name-other.ensures.other c.other_name-other.ensures.time
     (c.move_within-done.ensures.any_stop held k shown (ap (name_at c.lend-directory.result.names) c.other_name-other.ensures.other ∙ none) settled) in
     left_made (MovedHere (g.P.Pmem.region c.args.memory.now) c.args.sup.now c.args.free.now c.args.cpu from inode.inode c.args.moved.now.from.name.now c.args.moved.now.name.now c.args.time) (Renamed (g.P.Pmem.region c.args.memory.now) c.args.sup.now c.args.free.now c.args.cpu (place_in c.args.rows.now.items c.args.moved.now.from.directory) (place_in c.args.rows.now.items c.args.moved.now.directory) from to inode.inode c.args.moved.now.from.name.now c.args.moved.now.name.now c.args.time) (λ S w. inl (ap (place_in rows) c.if-moved.false, w)) left (step left may)
+
+pub returns-then-moved-clause-in_order : goal.returns-then-moved-clause-in_order
+returns-then-moved-clause-in_order g c from to inode held h k at other_at inode_at here other apart = c.move_across.ensures.in_order from to inode held h k at other_at inode_at here other
+
+pub returns-clause-in_order : goal.returns-clause-in_order
+returns-clause-in_order g c from to inode held h k at other_at inode_at here other apart = absurd (apart (ap (place_in c.args.rows.now.items) c.if-moved.false))
+
+pub returns-then-moved-clause-wrote : goal.returns-then-moved-clause-wrote
+returns-then-moved-clause-wrote g c from to inode held h k at other_at inode_at here other apart = c.move_across.ensures.wrote from to inode held h k at other_at inode_at here other
+
+pub returns-clause-wrote : goal.returns-clause-wrote
+returns-clause-wrote g c from to inode held h k at other_at inode_at here other apart = absurd (apart (ap (place_in c.args.rows.now.items) c.if-moved.false))

@@ -1,4 +1,4 @@
-use Rattle.std.proofs.Common.{◌∙◌, ◌≤◌, ℕ, inl, inr, subst}
+use Rattle.std.proofs.Common.{◌∙◌, ◌≤◌, ℕ, inl, inr, subst, arith}
 use Rattle.std.proofs.lemmas.Result.{IfErr-weaker, on_ok_weaker}
 use Rattle.nv_alloc.specs.Taking.{all_blocks}
 use Rattle.nv_rows.specs.Rows.{place_in}
@@ -49,3 +49,35 @@ pub returns-else-has_more_links-clause-any_stop : goal.returns-else-has_more_lin
 returns-else-has_more_links-clause-any_stop g c row file held h f at there here other settled left may =
     let links = all_last c.args.rows.now.items (place_in c.args.rows.now.items c.args.named.now.target) c.row.result.now (at_place c.args.rows.now.items c.args.named.now.target ∙ c.row.ensures) c.has_more_links.result c.has_more_links.ensures c.if-has_more_links.false file (at_place c.args.rows.now.items c.args.named.now.target ∙ there) in
     left_made (Cut (g.P.Pmem.region c.args.memory.now) c.args.sup.now c.args.free.now c.args.cpu row file.inode c.args.time c.args.named.now.name.now) (Released (g.P.Pmem.region c.args.memory.now) c.args.sup.now c.args.free.now c.args.cpu row file c.args.named.now.name.now c.args.time) (λ S w. inr (links, w)) left (c.remove_named.ensures.any_stop row file held h at there here settled left may)
+
+pub returns-then-has_more_links-clause-in_order : goal.returns-then-has_more_links-clause-in_order
+returns-then-has_more_links-clause-in_order g c row file held h f at there here other some = c.unlink_at.ensures.in_order row file held h f at there here other
+
+pub returns-then-has_more_links-clause-last_in_order : goal.returns-then-has_more_links-clause-last_in_order
+returns-then-has_more_links-clause-last_in_order g c row file held h f at there here other few =
+    let links = all_more c.args.rows.now.items (place_in c.args.rows.now.items c.args.named.now.target) c.row.result.now (at_place c.args.rows.now.items c.args.named.now.target ∙ c.row.ensures) c.has_more_links.result c.has_more_links.ensures c.if-has_more_links.true file (at_place c.args.rows.now.items c.args.named.now.target ∙ there) in
+    absurd (omega (arith, links, few))
+
+pub returns-else-has_more_links-clause-in_order : goal.returns-else-has_more_links-clause-in_order
+returns-else-has_more_links-clause-in_order g c row file held h f at there here other some =
+    let links = all_last c.args.rows.now.items (place_in c.args.rows.now.items c.args.named.now.target) c.row.result.now (at_place c.args.rows.now.items c.args.named.now.target ∙ c.row.ensures) c.has_more_links.result c.has_more_links.ensures c.if-has_more_links.false file (at_place c.args.rows.now.items c.args.named.now.target ∙ there) in
+    absurd (omega (arith, links, some))
+
+pub returns-else-has_more_links-clause-last_in_order : goal.returns-else-has_more_links-clause-last_in_order
+returns-else-has_more_links-clause-last_in_order g c row file held h f at there here other few = c.remove_named.ensures.in_order row file held h at there here
+
+pub returns-then-has_more_links-clause-wrote : goal.returns-then-has_more_links-clause-wrote
+returns-then-has_more_links-clause-wrote g c row file held h f at there here other some = c.unlink_at.ensures.wrote row file held h f at there here other
+
+pub returns-else-has_more_links-clause-wrote : goal.returns-else-has_more_links-clause-wrote
+returns-else-has_more_links-clause-wrote g c row file held h f at there here other some =
+    let links = all_last c.args.rows.now.items (place_in c.args.rows.now.items c.args.named.now.target) c.row.result.now (at_place c.args.rows.now.items c.args.named.now.target ∙ c.row.ensures) c.has_more_links.result c.has_more_links.ensures c.if-has_more_links.false file (at_place c.args.rows.now.items c.args.named.now.target ∙ there) in
+    absurd (omega (arith, links, some))
+
+pub returns-then-has_more_links-clause-last_wrote : goal.returns-then-has_more_links-clause-last_wrote
+returns-then-has_more_links-clause-last_wrote g c row file held h f at there here other few =
+    let links = all_more c.args.rows.now.items (place_in c.args.rows.now.items c.args.named.now.target) c.row.result.now (at_place c.args.rows.now.items c.args.named.now.target ∙ c.row.ensures) c.has_more_links.result c.has_more_links.ensures c.if-has_more_links.true file (at_place c.args.rows.now.items c.args.named.now.target ∙ there) in
+    absurd (omega (arith, links, few))
+
+pub returns-else-has_more_links-clause-last_wrote : goal.returns-else-has_more_links-clause-last_wrote
+returns-else-has_more_links-clause-last_wrote g c row file held h f at there here other few = c.remove_named.ensures.wrote row file held h at there here

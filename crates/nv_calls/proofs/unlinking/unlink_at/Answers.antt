@@ -1,4 +1,5 @@
 use Rattle.std.proofs.Common.{◌≡◌, ◌∙◌, ◌+◌, ◌-◌, ◌%◌, ◌≤◌, ◌∷◌, [], ℕ, ap, subst, sym}
+use Rattle.nv_steps.specs.InOrder.{TailIsFirst, tail_address}
 use Rattle.nv_super.specs.Layout.{fixed_layout}
 use Rattle.std.proofs.lemmas.Result.{IfErr-weaker, on_ok_weaker}
 use Rattle.std.proofs.lemmas.Option.{same_Some}
@@ -16,6 +17,7 @@ use Rattle.nv_steps.specs.Stopped.{Unlinked}
 use Rattle.nv_steps.specs.Steps.{RefusesStep, ShowsRow}
 use Rattle.nv_calls.proofs.TwoRows.{first_used, last_used, left_two, lifted, row_stays, used_still}
 use Rattle.nv_calls.proofs.unlinking.unlink_at.Goals as goal
+use Rattle.nv_steps.specs.Stores.{StoresIn, two_logs}
 
 pub lend-file-requires : goal.lend-file-requires
 lend-file-requires g c = used_still c.args.rows.now.items c.lend-directory.new.self.items c.args.named.now.directory c.args.named.now.target c.requires.apart c.requires.directory c.lend-directory.ensures.lent c.requires.target
@@ -79,3 +81,21 @@ returns-clause-any_stop g c row file held h f at other_at here other settled =
     subst (λ (r : Row). ShowsRow (g.P.Pmem.region c.args.memory.now) c.args.sup.now held h r c.args.free.now → LeavesOnly (g.P.Pmem.region c.unlink_both-done.new.memory) (g.P.Pmem.may_hold c.unlink_both-done.new.memory) (LeavesEither (g.P.Pmem.region c.args.memory.now) (fixed_layout c.args.sup.now) held (Unlinked (g.P.Pmem.region c.args.memory.now) c.args.sup.now c.args.free.now c.args.cpu r file c.args.named.now.name.now c.args.time))) same
     (λ seen. subst (λ (d : Row). ShowsRow (g.P.Pmem.region c.args.memory.now) c.args.sup.now held f d c.args.free.now → LeavesOnly (g.P.Pmem.region c.unlink_both-done.new.memory) (g.P.Pmem.may_hold c.unlink_both-done.new.memory) (LeavesEither (g.P.Pmem.region c.args.memory.now) (fixed_layout c.args.sup.now) held (Unlinked (g.P.Pmem.region c.args.memory.now) c.args.sup.now c.args.free.now c.args.cpu c.lend-directory.result d c.args.named.now.name.now c.args.time))) other_same
     (λ seen_other. c.unlink_both-done.ensures.any_stop held h f seen seen_other settled) other) here
+
+pub returns-clause-in_order : goal.returns-clause-in_order
+returns-clause-in_order g c row file held h f at other_at here other =
+    let there = row_stays c.args.rows.now.items c.lend-directory.new.self.items c.args.named.now.directory c.args.named.now.target c.requires.apart c.requires.directory c.lend-directory.ensures.lent c.lend-file.result c.lend-file.ensures.row in
+    let same : c.lend-directory.result ≡ row = same_Some _ _ (sym c.lend-directory.ensures.row ∙ at) in
+    let other_same : c.lend-file.result ≡ file = same_Some _ _ (sym there ∙ other_at) in
+    subst (λ (r : Row). ShowsRow (g.P.Pmem.region c.args.memory.now) c.args.sup.now held h r c.args.free.now → TailIsFirst (g.P.Pmem.region c.args.memory.now) (g.P.Pmem.region c.unlink_both-done.new.memory) c.args.sup.now c.args.free.now.pools c.args.cpu r.inode r.tail (name_entries Remove file.inode c.args.named.now.name.now c.args.time) (tail_address c.args.sup.now file.inode)) same
+    (λ seen. subst (λ (d : Row). ShowsRow (g.P.Pmem.region c.args.memory.now) c.args.sup.now held f d c.args.free.now → TailIsFirst (g.P.Pmem.region c.args.memory.now) (g.P.Pmem.region c.unlink_both-done.new.memory) c.args.sup.now c.args.free.now.pools c.args.cpu c.lend-directory.result.inode c.lend-directory.result.tail (name_entries Remove d.inode c.args.named.now.name.now c.args.time) (tail_address c.args.sup.now d.inode)) other_same
+    (λ seen_other. c.unlink_both-done.ensures.in_order held h f seen seen_other) other) here
+
+pub returns-clause-wrote : goal.returns-clause-wrote
+returns-clause-wrote g c row file held h f at other_at here other =
+    let there = row_stays c.args.rows.now.items c.lend-directory.new.self.items c.args.named.now.directory c.args.named.now.target c.requires.apart c.requires.directory c.lend-directory.ensures.lent c.lend-file.result c.lend-file.ensures.row in
+    let same : c.lend-directory.result ≡ row = same_Some _ _ (sym c.lend-directory.ensures.row ∙ at) in
+    let other_same : c.lend-file.result ≡ file = same_Some _ _ (sym there ∙ other_at) in
+    subst (λ (r : Row). ShowsRow (g.P.Pmem.region c.args.memory.now) c.args.sup.now held h r c.args.free.now → StoresIn c.args.sup.now held (two_logs c.args.sup.now c.args.cpu r.inode file.inode) (g.P.Pmem.region c.args.memory.now) (g.P.Pmem.region c.unlink_both-done.new.memory)) same
+    (λ seen. subst (λ (d : Row). ShowsRow (g.P.Pmem.region c.args.memory.now) c.args.sup.now held f d c.args.free.now → StoresIn c.args.sup.now held (two_logs c.args.sup.now c.args.cpu c.lend-directory.result.inode d.inode) (g.P.Pmem.region c.args.memory.now) (g.P.Pmem.region c.unlink_both-done.new.memory)) other_same
+    (λ seen_other. c.unlink_both-done.ensures.wrote held h f seen seen_other) other) here

@@ -1,4 +1,4 @@
-use Rattle.std.proofs.Common.{ℕ, ◌+◌, inr, subst, ◌≡◌, inl, arith}
+use Rattle.std.proofs.Common.{ℕ, ◌+◌, inr, subst, ◌≡◌, ◌∙◌, sym, inl, arith}
 use Rattle.nv_region.specs.Region.{size}
 use Rattle.nv_region.proofs.Fuses.{keeps_more, keeps_within}
 use Rattle.nv_region.proofs.Wordwise.{stores_more, stores_within}
@@ -7,7 +7,10 @@ use Rattle.nv_journal.specs.Recorded.{Changes}
 use Rattle.nv_commit.specs.Makes.{MakeWords, PrepareWords}
 use Rattle.nv_held.proofs.BytesKept.{mixed_size}
 use Rattle.nv_commit.proofs.BothTails.{sound_undone}
-use Rattle.nv_commit.proofs.Makes.{can_undo, faultless, journal_waits, left_undone, made_idle, made_undone, sound_before}
+use Rattle.nv_commit.proofs.Makes.{can_undo, differ, faultless, journal_waits, left_undone, made_idle, made_undone, sound_before}
+use Rattle.nv_journal.proofs.InOrder.{first_since}
+use Rattle.nv_commit.proofs.Extends.{slots}
+use Rattle.nv_commit.proofs.InOrder.{slots_differ, tail_same}
 use Rattle.nv_commit.proofs.making.make_inode.Goals as goal
 
 pub prepare-requires : goal.prepare-requires
@@ -86,3 +89,22 @@ returns-clause-ends g c = (c.in_ok-ends.ensures.prepared.first_end, c.in_ok-ends
 pub returns-clause-shows : goal.returns-clause-shows
 returns-clause-shows g c s held j i h can =
     made_idle can c.in_ok-ends.ensures.prepared c.requires.inode.inside c.requires.directory.inside c.len-length.ensures.short _ c.in_ok-change_two.ensures.done c.in_ok-change_two.ensures.empty
+
+pub returns-in_err-ends-clause-in_order : goal.returns-in_err-ends-clause-in_order
+returns-in_err-ends-clause-in_order g c s held j i h can = inl (tail_same can.parent.sound (sound_before can (g.P.Pmem.region c.prepare.new.memory) c.prepare.ensures.wrote.mixed) can.parent.at can.parent.holds)
+
+pub returns-in_err-change_two-clause-in_order : goal.returns-in_err-change_two-clause-in_order
+returns-in_err-change_two-clause-in_order g c s held j i h can =
+    let clear = slots can.parent in
+    let same = tail_same can.parent.sound (sound_before can (g.P.Pmem.region c.prepare.new.memory) c.prepare.ensures.wrote.mixed) can.parent.at can.parent.holds in
+    let none : c.args.inode.now.slot + 0 ≡ c.args.inode.now.slot = omega arith in
+    let apart = slots_differ clear.stand j i c.args.inode.now.slot c.args.directory.now.slot can.at can.parent.at (λ e. differ can (sym e)) 0 24 (omega arith) (omega arith) in
+    first_since (g.P.Pmem.region c.args.memory.now) (g.P.Pmem.region c.prepare.new.memory) (g.P.Pmem.region c.change_two.new.memory) c.args.inode.now.slot 1 (c.args.directory.now.slot + 24) same (c.change_two.ensures.in_order (λ e. apart (none ∙ e)))
+
+pub returns-clause-in_order : goal.returns-clause-in_order
+returns-clause-in_order g c s held j i h can =
+    let clear = slots can.parent in
+    let same = tail_same can.parent.sound (sound_before can (g.P.Pmem.region c.prepare.new.memory) c.prepare.ensures.wrote.mixed) can.parent.at can.parent.holds in
+    let none : c.args.inode.now.slot + 0 ≡ c.args.inode.now.slot = omega arith in
+    let apart = slots_differ clear.stand j i c.args.inode.now.slot c.args.directory.now.slot can.at can.parent.at (λ e. differ can (sym e)) 0 24 (omega arith) (omega arith) in
+    first_since (g.P.Pmem.region c.args.memory.now) (g.P.Pmem.region c.prepare.new.memory) (g.P.Pmem.region c.change_two.new.memory) c.args.inode.now.slot 1 (c.args.directory.now.slot + 24) same (c.change_two.ensures.in_order (λ e. apart (none ∙ e)))

@@ -1,6 +1,6 @@
 use Rattle.std.proofs.Common.{ℕ, ◌+◌, inr, ◌≡◌, ◌∙◌, ap, inl, is_err, sym, subst, arith}
 use Rattle.std.proofs.lemmas.Result.{err_from_is_err_and}
-use Rattle.nv_region.specs.Region.{Region, size}
+use Rattle.nv_region.specs.Region.{Region, size, word}
 use Rattle.nv_region.proofs.Fuses.{keeps_more, keeps_within}
 use Rattle.nv_region.proofs.Stops.{refused_leaves}
 use Rattle.nv_region.proofs.Wordwise.{fenced_stores, stores_more, stores_within}
@@ -11,8 +11,11 @@ use Rattle.nv_logpage.specs.Append.{AppendWords}
 use Rattle.nv_held.specs.Appended.{Appends}
 use Rattle.nv_commit.specs.Removes.{BeforeOrRemoved, RemoveWords}
 use Rattle.nv_commit.proofs.BothTails.{sound_undone}
-use Rattle.nv_commit.proofs.Extends.{sound_before}
+use Rattle.nv_commit.proofs.Extends.{slots, sound_before}
 use Rattle.nv_commit.proofs.Removes.{can_undo, empty_there, faultless, left_undone, removed_idle, removed_undone}
+use Rattle.nv_journal.specs.InOrder.{FirstIsFirst}
+use Rattle.nv_journal.proofs.InOrder.{first_since}
+use Rattle.nv_commit.proofs.InOrder.{slots_differ, valid_same}
 use Rattle.nv_commit.proofs.removing.remove_inode.Goals as goal
 
 pub append_entries-requires : goal.append_entries-requires
@@ -113,3 +116,27 @@ pub returns-clause-wrote : goal.returns-clause-wrote
 returns-clause-wrote g c =
     stores_more (RemoveWords c.args.cpu c.args.directory.now c.args.slot) (Changes c.args.cpu (c.args.directory.now.slot + 24) c.in_ok-end.end c.args.slot 0) _ _ _ _ _ _
     (λ k v w. inr (subst (λ (n : ℕ). Changes c.args.cpu (c.args.directory.now.slot + 24) n c.args.slot 0 k v) c.in_ok-end.ensures.end w)) (fenced_stores c.fence.result _ _ _ _ _ _ _ (stores_within (RemoveWords c.args.cpu c.args.directory.now c.args.slot) (AppendWords c.args.directory.now.tail c.args.directory.now.fresh.now) _ _ _ _ (λ k v w. inl w) c.append_entries.ensures.wrote) c.fence.ensures.same c.fence.ensures.fenced c.fence.ensures.refused_keep (g.met.P.Pmem.holds_now _)) c.change_two.ensures.wrote
+
+pub returns-in_err-end-clause-in_order : goal.returns-in_err-end-clause-in_order
+returns-in_err-end-clause-in_order g c s held i j h can = inl (valid_same can.parent (g.P.Pmem.region c.append_entries.new.memory) j c.args.slot can.at c.append_entries.ensures.wrote.mixed)
+
+pub returns-in_err-fence-clause-in_order : goal.returns-in_err-fence-clause-in_order
+returns-in_err-fence-clause-in_order g c s held i j h can = inl (ap (λ (S : Region). word S c.args.slot) c.in_err-fence.ensures.same ∙ valid_same can.parent (g.P.Pmem.region c.append_entries.new.memory) j c.args.slot can.at c.append_entries.ensures.wrote.mixed)
+
+pub returns-in_err-change_two-clause-in_order : goal.returns-in_err-change_two-clause-in_order
+returns-in_err-change_two-clause-in_order g c s held i j h can =
+    let clear = slots can.parent in
+    let same : word (g.P.Pmem.region c.fence.new.self) c.args.slot ≡ word (g.P.Pmem.region c.args.memory.now) c.args.slot = ap (λ (S : Region). word S c.args.slot) c.in_ok-fence.ensures.same ∙ valid_same can.parent (g.P.Pmem.region c.append_entries.new.memory) j c.args.slot can.at c.append_entries.ensures.wrote.mixed in
+    let none : c.args.slot + 0 ≡ c.args.slot = omega arith in
+    let apart = slots_differ clear.stand i j c.args.directory.now.slot c.args.slot can.parent.at can.at can.differ 24 0 (omega arith) (omega arith) in
+    subst (λ (v : ℕ). FirstIsFirst (g.P.Pmem.region c.args.memory.now) (c.args.directory.now.slot + 24) v c.args.slot (g.P.Pmem.region c.change_two.new.memory)) c.in_ok-end.ensures.end
+    (first_since (g.P.Pmem.region c.args.memory.now) (g.P.Pmem.region c.fence.new.self) (g.P.Pmem.region c.change_two.new.memory) (c.args.directory.now.slot + 24) c.in_ok-end.end c.args.slot same (c.change_two.ensures.in_order (λ e. apart (e ∙ sym none))))
+
+pub returns-clause-in_order : goal.returns-clause-in_order
+returns-clause-in_order g c s held i j h can =
+    let clear = slots can.parent in
+    let same : word (g.P.Pmem.region c.fence.new.self) c.args.slot ≡ word (g.P.Pmem.region c.args.memory.now) c.args.slot = ap (λ (S : Region). word S c.args.slot) c.in_ok-fence.ensures.same ∙ valid_same can.parent (g.P.Pmem.region c.append_entries.new.memory) j c.args.slot can.at c.append_entries.ensures.wrote.mixed in
+    let none : c.args.slot + 0 ≡ c.args.slot = omega arith in
+    let apart = slots_differ clear.stand i j c.args.directory.now.slot c.args.slot can.parent.at can.at can.differ 24 0 (omega arith) (omega arith) in
+    subst (λ (v : ℕ). FirstIsFirst (g.P.Pmem.region c.args.memory.now) (c.args.directory.now.slot + 24) v c.args.slot (g.P.Pmem.region c.change_two.new.memory)) c.in_ok-end.ensures.end
+    (first_since (g.P.Pmem.region c.args.memory.now) (g.P.Pmem.region c.fence.new.self) (g.P.Pmem.region c.change_two.new.memory) (c.args.directory.now.slot + 24) c.in_ok-end.end c.args.slot same (c.change_two.ensures.in_order (λ e. apart (e ∙ sym none))))

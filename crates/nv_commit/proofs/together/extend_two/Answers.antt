@@ -8,6 +8,10 @@ use Rattle.nv_logpage.specs.Append.{end_of}
 use Rattle.nv_held.proofs.BytesKept.{mixed_size}
 use Rattle.nv_commit.specs.Together.{BothWords, TogetherWords}
 use Rattle.nv_commit.proofs.BothTails.{both_before, both_idle, both_left, can_undo, faultless, sound_undone, still_empty, undone_either}
+use Rattle.nv_journal.specs.InOrder.{FirstIsFirst}
+use Rattle.nv_journal.proofs.InOrder.{first_since}
+use Rattle.nv_commit.proofs.Extends.{slots}
+use Rattle.nv_commit.proofs.InOrder.{slots_differ, tail_same}
 use Rattle.nv_commit.proofs.together.extend_two.Goals as goal
 
 pub append_both-requires : goal.append_both-requires
@@ -86,3 +90,22 @@ returns-clause-wrote g c =
     stores_more (TogetherWords c.args.cpu c.args.first.now c.args.second.now) (Changes c.args.cpu (c.args.first.now.slot + 24) c.in_ok-ends.ends.0 (c.args.second.now.slot + 24) c.in_ok-ends.ends.1) _ _ _ _ _ _
     (λ k v w. inr (subst (λ (n : ℕ). Changes c.args.cpu (c.args.first.now.slot + 24) n (c.args.second.now.slot + 24) (end_of c.args.second.now.fresh.now 0 c.args.second.now.tail c.args.second.now.entries.now) k v) c.in_ok-ends.ensures.appended.first_end (subst (λ (n : ℕ). Changes c.args.cpu (c.args.first.now.slot + 24) c.in_ok-ends.ends.0 (c.args.second.now.slot + 24) n k v) c.in_ok-ends.ensures.appended.second_end w)))
     (stores_within (TogetherWords c.args.cpu c.args.first.now c.args.second.now) (BothWords c.args.first.now c.args.second.now) _ _ _ _ (λ k v w. inl w) c.append_both.ensures.wrote) c.change_two.ensures.wrote
+
+pub returns-in_err-ends-clause-in_order : goal.returns-in_err-ends-clause-in_order
+returns-in_err-ends-clause-in_order g c s held i j h k can = inl (tail_same can.second.sound (both_before can (g.P.Pmem.region c.append_both.new.memory) c.append_both.ensures.wrote.mixed) can.second.at can.second.holds)
+
+pub returns-in_err-change_two-clause-in_order : goal.returns-in_err-change_two-clause-in_order
+returns-in_err-change_two-clause-in_order g c s held i j h k can =
+    let clear = slots can.first in
+    let same = tail_same can.second.sound (both_before can (g.P.Pmem.region c.append_both.new.memory) c.append_both.ensures.wrote.mixed) can.second.at can.second.holds in
+    let differ = slots_differ clear.stand i j c.args.first.now.slot c.args.second.now.slot can.first.at can.second.at can.differ 24 24 (omega arith) (omega arith) in
+    subst (λ (v : ℕ). FirstIsFirst (g.P.Pmem.region c.args.memory.now) (c.args.first.now.slot + 24) v (c.args.second.now.slot + 24) (g.P.Pmem.region c.change_two.new.memory)) c.in_ok-ends.ensures.appended.first_end
+    (first_since (g.P.Pmem.region c.args.memory.now) (g.P.Pmem.region c.append_both.new.memory) (g.P.Pmem.region c.change_two.new.memory) (c.args.first.now.slot + 24) c.in_ok-ends.ends.0 (c.args.second.now.slot + 24) same (c.change_two.ensures.in_order differ))
+
+pub returns-clause-in_order : goal.returns-clause-in_order
+returns-clause-in_order g c s held i j h k can =
+    let clear = slots can.first in
+    let same = tail_same can.second.sound (both_before can (g.P.Pmem.region c.append_both.new.memory) c.append_both.ensures.wrote.mixed) can.second.at can.second.holds in
+    let differ = slots_differ clear.stand i j c.args.first.now.slot c.args.second.now.slot can.first.at can.second.at can.differ 24 24 (omega arith) (omega arith) in
+    subst (λ (v : ℕ). FirstIsFirst (g.P.Pmem.region c.args.memory.now) (c.args.first.now.slot + 24) v (c.args.second.now.slot + 24) (g.P.Pmem.region c.change_two.new.memory)) c.in_ok-ends.ensures.appended.first_end
+    (first_since (g.P.Pmem.region c.args.memory.now) (g.P.Pmem.region c.append_both.new.memory) (g.P.Pmem.region c.change_two.new.memory) (c.args.first.now.slot + 24) c.in_ok-ends.ends.0 (c.args.second.now.slot + 24) same (c.change_two.ensures.in_order differ))

@@ -9,6 +9,7 @@ use Rattle.nv_region.proofs.Wordwise.{stores_more, stores_within, within_one}
 use Rattle.nv_journal.specs.Undo.{journal, enqueue}
 use Rattle.nv_journal.specs.Recorded.{Changes, Two}
 use Rattle.nv_journal.proofs.Both.{while_begun, while_pending, once_stored, still_small, changed}
+use Rattle.nv_journal.proofs.InOrder.{behind_journal, first_later, first_since}
 use Rattle.nv_journal.proofs.Faultless.{begun_faultless, pending_faultless, emptied_faultless}
 use Rattle.nv_journal.proofs.committing.change_two.Goals as goal
 
@@ -87,3 +88,14 @@ returns-clause-faultless g c permits cpus can none = emptied_faultless permits c
 
 pub returns-clause-stop_is_faultless : goal.returns-clause-stop_is_faultless
 returns-clause-stop_is_faultless g c permits cpus can none settled left may = emptied_faultless permits cpus _ c.args.cpu c.args.first c.args.first_value c.args.second c.args.second_value _ _ can none _ c.begin.ensures.reads _ c.store_both.ensures.wrote.mixed c.in_ok-begin.ensures.pending left (c.commit.ensures.any_stop c.in_ok-store_both.ensures.settled left may)
+
+pub returns-in_err-begin-clause-in_order : goal.returns-in_err-begin-clause-in_order
+returns-in_err-begin-clause-in_order g c differ = inl (c.begin.ensures.reads.others.behind c.args.second c.requires.second.0 c.requires.behind.1)
+
+pub returns-in_err-store_both-clause-in_order : goal.returns-in_err-store_both-clause-in_order
+returns-in_err-store_both-clause-in_order g c differ = first_since (g.P.Pmem.region c.args.memory.now) (g.P.Pmem.region c.begin.new.memory) (g.P.Pmem.region c.store_both.new.memory) c.args.first c.args.first_value c.args.second (c.begin.ensures.reads.others.behind c.args.second c.requires.second.0 c.requires.behind.1) (c.store_both.ensures.in_order differ)
+
+pub returns-clause-in_order : goal.returns-clause-in_order
+returns-clause-in_order g c differ =
+    let stored = first_since (g.P.Pmem.region c.args.memory.now) (g.P.Pmem.region c.begin.new.memory) (g.P.Pmem.region c.store_both.new.memory) c.args.first c.args.first_value c.args.second (c.begin.ensures.reads.others.behind c.args.second c.requires.second.0 c.requires.behind.1) (c.store_both.ensures.in_order differ) in
+    first_later (g.P.Pmem.region c.args.memory.now) (g.P.Pmem.region c.store_both.new.memory) (g.P.Pmem.region c.commit.new.memory) c.args.first c.args.first_value c.args.second (behind_journal (g.P.Pmem.region c.store_both.new.memory) (g.P.Pmem.region c.commit.new.memory) c.args.cpu (enqueue (g.P.Pmem.region c.store_both.new.memory) c.args.cpu) c.args.first c.commit.ensures.reads c.requires.behind.0) (behind_journal (g.P.Pmem.region c.store_both.new.memory) (g.P.Pmem.region c.commit.new.memory) c.args.cpu (enqueue (g.P.Pmem.region c.store_both.new.memory) c.args.cpu) c.args.second c.commit.ensures.reads c.requires.behind.1) stored

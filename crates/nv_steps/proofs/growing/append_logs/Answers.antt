@@ -13,9 +13,11 @@ use Rattle.nv_steps.specs.Steps.{LeavesStep, RefusesStep}
 use Rattle.nv_names.specs.Names.{Names}
 use Rattle.nv_region.proofs.Fuses.{keeps_within}
 use Rattle.nv_super.specs.declared.superblock.Super.{Super}
-use Rattle.nv_steps.proofs.AppendedLogs.{appends_logs, both_within, count_is, first_commits, first_room, left_logs, second_commits, second_room}
+use Rattle.nv_steps.proofs.AppendedLogs.{appends_logs, both_within, count_is, first_commits, first_room, left_logs, logs_in_order, logs_store, second_commits, second_room}
 use Rattle.nv_steps.proofs.TakenBlocks.{taken_sup}
 use Rattle.nv_steps.proofs.growing.append_logs.Goals as goal
+use Rattle.nv_steps.specs.Stores.{two_logs}
+use Rattle.nv_steps.proofs.Stores.{stores_nothing}
 
 pub prepare_logs-requires-clause-cpu : goal.prepare_logs-requires-clause-cpu
 prepare_logs-requires-clause-cpu g c =
@@ -213,3 +215,41 @@ returns-clause-any_stop g c held h k here there settled =
     let back = c.split_at.ensures.back ∙ ap (λ (bs : List ℕ). drop c.blocks_for-count.result bs) c.deref.ensures.value ∙ ap (λ (m : ℕ). drop m c.in_ok-blocks.blocks.items) count in
     left_logs ready c.in_ok-blocks.ensures.other_ready c.requires.stands c.requires.other_stands c.in_ok-blocks.ensures.taken c.in_ok-blocks.ensures.count c.requires.apart c.requires.given.0 c.requires.more_given.0 c.requires.given.1 c.requires.more_given.1 c.extension-one.result c.extension-two.result c.extension-one.ensures.slot c.extension-one.ensures.tail c.extension-one.ensures.entries (c.extension-one.ensures.fresh ∙ front) c.extension-two.ensures.slot c.extension-two.ensures.tail c.extension-two.ensures.entries (c.extension-two.ensures.fresh ∙ back)
     here there _ _ _ c.extend_two.ensures.wrote settled (λ a b f e can pending. c.extend_two.ensures.any_stop c.args.sup.now held a b f e can pending)
+
+pub returns-in_err-blocks-clause-in_order : goal.returns-in_err-blocks-clause-in_order
+returns-in_err-blocks-clause-in_order g c held h k here there = inl refl
+
+pub returns-in_default-clause-in_order : goal.returns-in_default-clause-in_order
+returns-in_default-clause-in_order g c held h k here there =
+    let ready = c.in_ok-blocks.ensures.ready in
+    let count = count_is ready c.in_ok-blocks.ensures.other_ready c.requires.stands c.requires.other_stands c.in_ok-blocks.ensures.taken c.in_ok-blocks.ensures.count c.requires.apart c.requires.given.0 c.requires.more_given.0 c.requires.given.1 c.requires.more_given.1 c.blocks_for-count.result c.blocks_for-count.ensures in
+    let front = c.split_at.ensures.front ∙ ap (λ (bs : List ℕ). take c.blocks_for-count.result bs) c.deref.ensures.value ∙ ap (λ (m : ℕ). take m c.in_ok-blocks.blocks.items) count in
+    let back = c.split_at.ensures.back ∙ ap (λ (bs : List ℕ). drop c.blocks_for-count.result bs) c.deref.ensures.value ∙ ap (λ (m : ℕ). drop m c.in_ok-blocks.blocks.items) count in
+    logs_in_order ready c.in_ok-blocks.ensures.other_ready c.requires.stands c.requires.other_stands c.in_ok-blocks.ensures.taken c.in_ok-blocks.ensures.count c.requires.apart c.requires.given.0 c.requires.more_given.0 c.requires.given.1 c.requires.more_given.1 c.extension-one.result c.extension-two.result c.extension-one.ensures.slot c.extension-one.ensures.tail c.extension-one.ensures.entries (c.extension-one.ensures.fresh ∙ front) c.extension-two.ensures.slot c.extension-two.ensures.tail c.extension-two.ensures.entries (c.extension-two.ensures.fresh ∙ back) here there (λ a b f e can. c.extend_two.ensures.in_order c.args.sup.now held a b f e can)
+
+pub returns-clause-in_order : goal.returns-clause-in_order
+returns-clause-in_order g c held h k here there =
+    let ready = c.in_ok-blocks.ensures.ready in
+    let count = count_is ready c.in_ok-blocks.ensures.other_ready c.requires.stands c.requires.other_stands c.in_ok-blocks.ensures.taken c.in_ok-blocks.ensures.count c.requires.apart c.requires.given.0 c.requires.more_given.0 c.requires.given.1 c.requires.more_given.1 c.blocks_for-count.result c.blocks_for-count.ensures in
+    let front = c.split_at.ensures.front ∙ ap (λ (bs : List ℕ). take c.blocks_for-count.result bs) c.deref.ensures.value ∙ ap (λ (m : ℕ). take m c.in_ok-blocks.blocks.items) count in
+    let back = c.split_at.ensures.back ∙ ap (λ (bs : List ℕ). drop c.blocks_for-count.result bs) c.deref.ensures.value ∙ ap (λ (m : ℕ). drop m c.in_ok-blocks.blocks.items) count in
+    logs_in_order ready c.in_ok-blocks.ensures.other_ready c.requires.stands c.requires.other_stands c.in_ok-blocks.ensures.taken c.in_ok-blocks.ensures.count c.requires.apart c.requires.given.0 c.requires.more_given.0 c.requires.given.1 c.requires.more_given.1 c.extension-one.result c.extension-two.result c.extension-one.ensures.slot c.extension-one.ensures.tail c.extension-one.ensures.entries (c.extension-one.ensures.fresh ∙ front) c.extension-two.ensures.slot c.extension-two.ensures.tail c.extension-two.ensures.entries (c.extension-two.ensures.fresh ∙ back) here there (λ a b f e can. c.extend_two.ensures.in_order c.args.sup.now held a b f e can)
+
+pub returns-in_err-blocks-clause-wrote : goal.returns-in_err-blocks-clause-wrote
+returns-in_err-blocks-clause-wrote g c held h k here there = stores_nothing c.args.sup.now held (two_logs c.args.sup.now c.args.cpu c.args.row.now.inode c.args.other.now.inode) (g.P.Pmem.region c.args.memory.now)
+
+pub returns-in_default-clause-wrote : goal.returns-in_default-clause-wrote
+returns-in_default-clause-wrote g c held h k here there =
+    let ready = c.in_ok-blocks.ensures.ready in
+    let count = count_is ready c.in_ok-blocks.ensures.other_ready c.requires.stands c.requires.other_stands c.in_ok-blocks.ensures.taken c.in_ok-blocks.ensures.count c.requires.apart c.requires.given.0 c.requires.more_given.0 c.requires.given.1 c.requires.more_given.1 c.blocks_for-count.result c.blocks_for-count.ensures in
+    let front = c.split_at.ensures.front ∙ ap (λ (bs : List ℕ). take c.blocks_for-count.result bs) c.deref.ensures.value ∙ ap (λ (m : ℕ). take m c.in_ok-blocks.blocks.items) count in
+    let back = c.split_at.ensures.back ∙ ap (λ (bs : List ℕ). drop c.blocks_for-count.result bs) c.deref.ensures.value ∙ ap (λ (m : ℕ). drop m c.in_ok-blocks.blocks.items) count in
+    logs_store ready c.in_ok-blocks.ensures.other_ready c.requires.stands c.requires.other_stands c.in_ok-blocks.ensures.taken c.in_ok-blocks.ensures.count c.requires.apart c.requires.given.0 c.requires.more_given.0 c.requires.given.1 c.requires.more_given.1 c.extension-one.result c.extension-two.result c.extension-one.ensures.slot c.extension-one.ensures.tail c.extension-one.ensures.entries (c.extension-one.ensures.fresh ∙ front) c.extension-two.ensures.slot c.extension-two.ensures.tail c.extension-two.ensures.entries (c.extension-two.ensures.fresh ∙ back) here there c.extend_two.ensures.wrote.mixed
+
+pub returns-clause-wrote : goal.returns-clause-wrote
+returns-clause-wrote g c held h k here there =
+    let ready = c.in_ok-blocks.ensures.ready in
+    let count = count_is ready c.in_ok-blocks.ensures.other_ready c.requires.stands c.requires.other_stands c.in_ok-blocks.ensures.taken c.in_ok-blocks.ensures.count c.requires.apart c.requires.given.0 c.requires.more_given.0 c.requires.given.1 c.requires.more_given.1 c.blocks_for-count.result c.blocks_for-count.ensures in
+    let front = c.split_at.ensures.front ∙ ap (λ (bs : List ℕ). take c.blocks_for-count.result bs) c.deref.ensures.value ∙ ap (λ (m : ℕ). take m c.in_ok-blocks.blocks.items) count in
+    let back = c.split_at.ensures.back ∙ ap (λ (bs : List ℕ). drop c.blocks_for-count.result bs) c.deref.ensures.value ∙ ap (λ (m : ℕ). drop m c.in_ok-blocks.blocks.items) count in
+    logs_store ready c.in_ok-blocks.ensures.other_ready c.requires.stands c.requires.other_stands c.in_ok-blocks.ensures.taken c.in_ok-blocks.ensures.count c.requires.apart c.requires.given.0 c.requires.more_given.0 c.requires.given.1 c.requires.more_given.1 c.extension-one.result c.extension-two.result c.extension-one.ensures.slot c.extension-one.ensures.tail c.extension-one.ensures.entries (c.extension-one.ensures.fresh ∙ front) c.extension-two.ensures.slot c.extension-two.ensures.tail c.extension-two.ensures.entries (c.extension-two.ensures.fresh ∙ back) here there c.extend_two.ensures.wrote.mixed

@@ -124,3 +124,15 @@ returns-clause-any_stop g c held h k here there absent settled left may =
     left_linked c.args.file.now c.args.directory.now c.args.name.now c.args.time absent left
     (subst (λ (x : Entry). LeavesEither (g.P.Pmem.region c.args.memory.now) (fixed_layout c.args.sup.now) held (AppendedBoth (g.P.Pmem.region c.args.memory.now) c.args.sup.now c.args.free.now c.args.cpu c.args.file.now (links_entries (c.args.file.now.numbers.links + 1) c.args.time) c.args.directory.now (x ∷ [])) left) c.name_entry.ensures
     (c.append_logs.ensures.any_stop held h k here there settled left may))
+
+pub returns-in_err-append_logs-clause-in_order : goal.returns-in_err-append_logs-clause-in_order
+returns-in_err-append_logs-clause-in_order g c held h k here there = c.append_logs.ensures.in_order held h k here there
+
+pub returns-clause-in_order : goal.returns-clause-in_order
+returns-clause-in_order g c held h k here there = c.append_logs.ensures.in_order held h k here there
+
+pub returns-in_err-append_logs-clause-wrote : goal.returns-in_err-append_logs-clause-wrote
+returns-in_err-append_logs-clause-wrote g c held h k here there = c.append_logs.ensures.wrote held h k here there
+
+pub returns-clause-wrote : goal.returns-clause-wrote
+returns-clause-wrote g c held h k here there = c.append_logs.ensures.wrote held h k here there

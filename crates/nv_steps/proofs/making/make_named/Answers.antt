@@ -17,10 +17,12 @@ use Rattle.nv_steps.specs.Steps.{LeavesStep, RefusesStep}
 use Rattle.nv_steps.proofs.AppendedLogs.{needed_one}
 use Rattle.nv_commit.proofs.Left.{still}
 use Rattle.nv_steps.specs.Stopped.{Named}
-use Rattle.nv_steps.proofs.MadeNamed.{all_others, begins, commits, first_is, left_named, makes_named, makes_within, place_is}
+use Rattle.nv_steps.proofs.MadeNamed.{all_others, begins, commits, first_is, left_named, makes_named, makes_within, named_told, place_is}
 use Rattle.nv_steps.proofs.NumbersOwed.{ends_behind, has_one, number_below, others_fit}
 use Rattle.nv_steps.proofs.TakenBlocks.{taken_sup}
 use Rattle.nv_steps.proofs.making.make_named.Goals as goal
+use Rattle.nv_steps.specs.Stores.{one_more}
+use Rattle.nv_steps.proofs.Stores.{stores_nothing}
 
 pub name_entry-requires : goal.name_entry-requires
 name_entry-requires g c = record { some = c.requires.name.some; fits = c.requires.name.short }
@@ -205,3 +207,37 @@ returns-clause-any_stop g c held h shows out absent settled =
     left_named c.requires.stands c.requires.can c.in_ok-blocks.ensures.taken c.args.new.now.name.now c.args.new.now.time count c.in_ok-blocks.ensures.row _ c.slot_address-2.ensures refl (ap (λ (e : Entry). e ∷ []) c.name_entry.ensures) blocks c.args.new.now.kind c.args.new.now.mode _ c.slot_address.ensures refl refl
     (first_is c.in_ok-blocks.blocks.items _ c.index.result.now count c.index.ensures) c.first_attributes.ensures shows out c.in_ok-blocks.ensures.once absent _ _ _ c.make_inode.ensures.wrote settled
     (c.make_inode.ensures.any_stop c.args.sup.now held c.args.new.now.inode c.prepare_name.new.directory.inode h)
+
+pub returns-in_err-blocks-clause-in_order : goal.returns-in_err-blocks-clause-in_order
+returns-in_err-blocks-clause-in_order g c held h shows out = inl refl
+
+pub returns-in_default-clause-in_order : goal.returns-in_default-clause-in_order
+returns-in_default-clause-in_order g c held h shows out =
+    let count : length c.in_ok-blocks.blocks.items ≡ 1 + needed (c.args.directory.now.tail % 4096) (name_entries Add c.args.new.now.inode c.args.new.now.name.now c.args.new.now.time) = c.in_ok-blocks.ensures.count ∙ ap (λ (e : Entry). 1 + needed (c.args.directory.now.tail % 4096) (e ∷ [])) c.name_entry.ensures in
+    let blocks = all_others c.deref.result.now (length c.deref.result.now) refl ∙ ap (drop 1) c.deref.ensures.value in
+    (named_told c.requires.stands c.requires.can c.in_ok-blocks.ensures.taken c.args.new.now.name.now c.args.new.now.time count c.in_ok-blocks.ensures.row _ c.slot_address-2.ensures refl (ap (λ (e : Entry). e ∷ []) c.name_entry.ensures) blocks c.args.new.now.kind c.args.new.now.mode _ c.slot_address.ensures refl refl
+    (first_is c.in_ok-blocks.blocks.items _ c.index.result.now count c.index.ensures) c.first_attributes.ensures (g.P.Pmem.region c.make_inode.new.memory) shows out (c.make_inode.ensures.in_order c.args.sup.now held c.args.new.now.inode c.prepare_name.new.directory.inode h) c.make_inode.ensures.wrote.mixed).0
+
+pub returns-clause-in_order : goal.returns-clause-in_order
+returns-clause-in_order g c held h shows out =
+    let count : length c.in_ok-blocks.blocks.items ≡ 1 + needed (c.args.directory.now.tail % 4096) (name_entries Add c.args.new.now.inode c.args.new.now.name.now c.args.new.now.time) = c.in_ok-blocks.ensures.count ∙ ap (λ (e : Entry). 1 + needed (c.args.directory.now.tail % 4096) (e ∷ [])) c.name_entry.ensures in
+    let blocks = all_others c.deref.result.now (length c.deref.result.now) refl ∙ ap (drop 1) c.deref.ensures.value in
+    (named_told c.requires.stands c.requires.can c.in_ok-blocks.ensures.taken c.args.new.now.name.now c.args.new.now.time count c.in_ok-blocks.ensures.row _ c.slot_address-2.ensures refl (ap (λ (e : Entry). e ∷ []) c.name_entry.ensures) blocks c.args.new.now.kind c.args.new.now.mode _ c.slot_address.ensures refl refl
+    (first_is c.in_ok-blocks.blocks.items _ c.index.result.now count c.index.ensures) c.first_attributes.ensures (g.P.Pmem.region c.make_inode.new.memory) shows out (c.make_inode.ensures.in_order c.args.sup.now held c.args.new.now.inode c.prepare_name.new.directory.inode h) c.make_inode.ensures.wrote.mixed).0
+
+pub returns-in_err-blocks-clause-wrote : goal.returns-in_err-blocks-clause-wrote
+returns-in_err-blocks-clause-wrote g c held h shows out = stores_nothing c.args.sup.now held (one_more c.args.sup.now c.args.cpu c.args.new.now.inode c.args.directory.now.inode) (g.P.Pmem.region c.args.memory.now)
+
+pub returns-in_default-clause-wrote : goal.returns-in_default-clause-wrote
+returns-in_default-clause-wrote g c held h shows out =
+    let count : length c.in_ok-blocks.blocks.items ≡ 1 + needed (c.args.directory.now.tail % 4096) (name_entries Add c.args.new.now.inode c.args.new.now.name.now c.args.new.now.time) = c.in_ok-blocks.ensures.count ∙ ap (λ (e : Entry). 1 + needed (c.args.directory.now.tail % 4096) (e ∷ [])) c.name_entry.ensures in
+    let blocks = all_others c.deref.result.now (length c.deref.result.now) refl ∙ ap (drop 1) c.deref.ensures.value in
+    (named_told c.requires.stands c.requires.can c.in_ok-blocks.ensures.taken c.args.new.now.name.now c.args.new.now.time count c.in_ok-blocks.ensures.row _ c.slot_address-2.ensures refl (ap (λ (e : Entry). e ∷ []) c.name_entry.ensures) blocks c.args.new.now.kind c.args.new.now.mode _ c.slot_address.ensures refl refl
+    (first_is c.in_ok-blocks.blocks.items _ c.index.result.now count c.index.ensures) c.first_attributes.ensures (g.P.Pmem.region c.make_inode.new.memory) shows out (c.make_inode.ensures.in_order c.args.sup.now held c.args.new.now.inode c.prepare_name.new.directory.inode h) c.make_inode.ensures.wrote.mixed).1
+
+pub returns-clause-wrote : goal.returns-clause-wrote
+returns-clause-wrote g c held h shows out =
+    let count : length c.in_ok-blocks.blocks.items ≡ 1 + needed (c.args.directory.now.tail % 4096) (name_entries Add c.args.new.now.inode c.args.new.now.name.now c.args.new.now.time) = c.in_ok-blocks.ensures.count ∙ ap (λ (e : Entry). 1 + needed (c.args.directory.now.tail % 4096) (e ∷ [])) c.name_entry.ensures in
+    let blocks = all_others c.deref.result.now (length c.deref.result.now) refl ∙ ap (drop 1) c.deref.ensures.value in
+    (named_told c.requires.stands c.requires.can c.in_ok-blocks.ensures.taken c.args.new.now.name.now c.args.new.now.time count c.in_ok-blocks.ensures.row _ c.slot_address-2.ensures refl (ap (λ (e : Entry). e ∷ []) c.name_entry.ensures) blocks c.args.new.now.kind c.args.new.now.mode _ c.slot_address.ensures refl refl
+    (first_is c.in_ok-blocks.blocks.items _ c.index.result.now count c.index.ensures) c.first_attributes.ensures (g.P.Pmem.region c.make_inode.new.memory) shows out (c.make_inode.ensures.in_order c.args.sup.now held c.args.new.now.inode c.prepare_name.new.directory.inode h) c.make_inode.ensures.wrote.mixed).1

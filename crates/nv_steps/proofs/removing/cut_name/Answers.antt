@@ -18,10 +18,12 @@ use Rattle.nv_steps.specs.NameEntries.{name_entries}
 use Rattle.nv_steps.specs.Steps.{LeavesStep, RefusesStep}
 use Rattle.nv_commit.proofs.Left.{still}
 use Rattle.nv_steps.specs.Stopped.{Cut}
-use Rattle.nv_steps.proofs.CutNames.{commits, cuts_name, cuts_within, left_cut, slot_behind, slot_inside, slot_whole}
+use Rattle.nv_steps.proofs.CutNames.{cut_told, commits, cuts_name, cuts_within, left_cut, slot_behind, slot_inside, slot_whole}
 use Rattle.nv_steps.proofs.NumbersOwed.{number_below}
 use Rattle.nv_steps.proofs.TakenBlocks.{taken_sup}
 use Rattle.nv_steps.proofs.removing.cut_name.Goals as goal
+use Rattle.nv_steps.specs.Stores.{one_less}
+use Rattle.nv_steps.proofs.Stores.{stores_nothing}
 
 pub name_entry-requires : goal.name_entry-requires
 name_entry-requires g c = record { some = c.requires.name.some; fits = c.requires.name.short }
@@ -199,3 +201,33 @@ returns-clause-any_stop g c held h shows settled =
     left_cut c.requires.stands c.requires.can c.in_ok-fresh.ensures.taken c.args.gone.now.name.now c.args.gone.now.time count c.in_ok-fresh.ensures.row _ c.slot_address.ensures refl (ap (λ (e : Entry). e ∷ []) c.name_entry.ensures) c.deref.ensures.value
     c.slot_address-2.result c.slot_address-2.ensures c.requires.differ shows c.in_ok-fresh.ensures.once _ _ _ c.remove_inode.ensures.wrote settled
     (λ can pending. c.remove_inode.ensures.any_stop c.args.sup.now held c.prepare_cut.new.directory.inode c.args.gone.now.inode h can pending)
+
+pub returns-in_err-fresh-clause-in_order : goal.returns-in_err-fresh-clause-in_order
+returns-in_err-fresh-clause-in_order g c held h shows = inl refl
+
+pub returns-in_default-clause-in_order : goal.returns-in_default-clause-in_order
+returns-in_default-clause-in_order g c held h shows =
+    let count : length c.in_ok-fresh.fresh.items ≡ needed (c.args.directory.now.tail % 4096) (name_entries Remove c.args.gone.now.inode c.args.gone.now.name.now c.args.gone.now.time) = c.in_ok-fresh.ensures.count ∙ ap (λ (e : Entry). needed (c.args.directory.now.tail % 4096) (e ∷ [])) c.name_entry.ensures in
+    (cut_told c.requires.stands c.requires.can c.in_ok-fresh.ensures.taken c.args.gone.now.name.now c.args.gone.now.time count c.in_ok-fresh.ensures.row _ c.slot_address.ensures refl (ap (λ (e : Entry). e ∷ []) c.name_entry.ensures) c.deref.ensures.value
+    (g.P.Pmem.region c.remove_inode.new.memory) c.slot_address-2.result c.slot_address-2.ensures c.requires.differ shows (c.remove_inode.ensures.in_order c.args.sup.now held c.prepare_cut.new.directory.inode c.args.gone.now.inode h) c.remove_inode.ensures.wrote.mixed).0
+
+pub returns-clause-in_order : goal.returns-clause-in_order
+returns-clause-in_order g c held h shows =
+    let count : length c.in_ok-fresh.fresh.items ≡ needed (c.args.directory.now.tail % 4096) (name_entries Remove c.args.gone.now.inode c.args.gone.now.name.now c.args.gone.now.time) = c.in_ok-fresh.ensures.count ∙ ap (λ (e : Entry). needed (c.args.directory.now.tail % 4096) (e ∷ [])) c.name_entry.ensures in
+    (cut_told c.requires.stands c.requires.can c.in_ok-fresh.ensures.taken c.args.gone.now.name.now c.args.gone.now.time count c.in_ok-fresh.ensures.row _ c.slot_address.ensures refl (ap (λ (e : Entry). e ∷ []) c.name_entry.ensures) c.deref.ensures.value
+    (g.P.Pmem.region c.remove_inode.new.memory) c.slot_address-2.result c.slot_address-2.ensures c.requires.differ shows (c.remove_inode.ensures.in_order c.args.sup.now held c.prepare_cut.new.directory.inode c.args.gone.now.inode h) c.remove_inode.ensures.wrote.mixed).0
+
+pub returns-in_err-fresh-clause-wrote : goal.returns-in_err-fresh-clause-wrote
+returns-in_err-fresh-clause-wrote g c held h shows = stores_nothing c.args.sup.now held (one_less c.args.sup.now c.args.cpu c.args.directory.now.inode c.args.gone.now.inode) (g.P.Pmem.region c.args.memory.now)
+
+pub returns-in_default-clause-wrote : goal.returns-in_default-clause-wrote
+returns-in_default-clause-wrote g c held h shows =
+    let count : length c.in_ok-fresh.fresh.items ≡ needed (c.args.directory.now.tail % 4096) (name_entries Remove c.args.gone.now.inode c.args.gone.now.name.now c.args.gone.now.time) = c.in_ok-fresh.ensures.count ∙ ap (λ (e : Entry). needed (c.args.directory.now.tail % 4096) (e ∷ [])) c.name_entry.ensures in
+    (cut_told c.requires.stands c.requires.can c.in_ok-fresh.ensures.taken c.args.gone.now.name.now c.args.gone.now.time count c.in_ok-fresh.ensures.row _ c.slot_address.ensures refl (ap (λ (e : Entry). e ∷ []) c.name_entry.ensures) c.deref.ensures.value
+    (g.P.Pmem.region c.remove_inode.new.memory) c.slot_address-2.result c.slot_address-2.ensures c.requires.differ shows (c.remove_inode.ensures.in_order c.args.sup.now held c.prepare_cut.new.directory.inode c.args.gone.now.inode h) c.remove_inode.ensures.wrote.mixed).1
+
+pub returns-clause-wrote : goal.returns-clause-wrote
+returns-clause-wrote g c held h shows =
+    let count : length c.in_ok-fresh.fresh.items ≡ needed (c.args.directory.now.tail % 4096) (name_entries Remove c.args.gone.now.inode c.args.gone.now.name.now c.args.gone.now.time) = c.in_ok-fresh.ensures.count ∙ ap (λ (e : Entry). needed (c.args.directory.now.tail % 4096) (e ∷ [])) c.name_entry.ensures in
+    (cut_told c.requires.stands c.requires.can c.in_ok-fresh.ensures.taken c.args.gone.now.name.now c.args.gone.now.time count c.in_ok-fresh.ensures.row _ c.slot_address.ensures refl (ap (λ (e : Entry). e ∷ []) c.name_entry.ensures) c.deref.ensures.value
+    (g.P.Pmem.region c.remove_inode.new.memory) c.slot_address-2.result c.slot_address-2.ensures c.requires.differ shows (c.remove_inode.ensures.in_order c.args.sup.now held c.prepare_cut.new.directory.inode c.args.gone.now.inode h) c.remove_inode.ensures.wrote.mixed).1

@@ -13,6 +13,7 @@ use Rattle.nv_steps.specs.MoreNames.{AppendsLogs}
 use Rattle.nv_steps.specs.NameEntries.{name_entries}
 use Rattle.nv_commit.specs.Stopped.{LeavesEither}
 use Rattle.nv_steps.specs.Stopped.{AppendedBoth}
+use Rattle.nv_steps.specs.InOrder.{TailIsFirst, tail_address}
 use Rattle.nv_steps.specs.Steps.{LeavesStep, RefusesStep}
 use Rattle.nv_tree.proofs.Replies.{refused_by}
 use Rattle.nv_steps.proofs.MovedAt.{left_over, moves_both}
@@ -132,3 +133,15 @@ returns-clause-any_stop g c held h k here there absent settled left may =
     let one = subst (λ (x : Entry). LeavesEither (g.P.Pmem.region c.args.memory.now) (fixed_layout c.args.sup.now) held (AppendedBoth (g.P.Pmem.region c.args.memory.now) c.args.sup.now c.args.free.now c.args.cpu c.args.from.now (x ∷ []) c.args.to.now (c.name_entry-2.result ∷ [])) left) c.name_entry.ensures both in
     left_over c.args.from.now c.args.to.now c.args.moved.now.inode c.args.moved.now.name.now c.args.moved.now.other.now c.args.moved.now.time absent left
     (subst (λ (x : Entry). LeavesEither (g.P.Pmem.region c.args.memory.now) (fixed_layout c.args.sup.now) held (AppendedBoth (g.P.Pmem.region c.args.memory.now) c.args.sup.now c.args.free.now c.args.cpu c.args.from.now (name_entries Remove c.args.moved.now.inode c.args.moved.now.name.now c.args.moved.now.time) c.args.to.now (x ∷ [])) left) c.name_entry-2.ensures one)
+
+pub returns-in_err-append_logs-clause-in_order : goal.returns-in_err-append_logs-clause-in_order
+returns-in_err-append_logs-clause-in_order g c held h k here there = subst (λ (x : Entry). TailIsFirst (g.P.Pmem.region c.args.memory.now) (g.P.Pmem.region c.append_logs.new.memory) c.args.sup.now c.args.free.now.pools c.args.cpu c.args.from.now.inode c.args.from.now.tail (x ∷ []) (tail_address c.args.sup.now c.args.to.now.inode)) c.name_entry.ensures (c.append_logs.ensures.in_order held h k here there)
+
+pub returns-clause-in_order : goal.returns-clause-in_order
+returns-clause-in_order g c held h k here there = subst (λ (x : Entry). TailIsFirst (g.P.Pmem.region c.args.memory.now) (g.P.Pmem.region c.append_logs.new.memory) c.args.sup.now c.args.free.now.pools c.args.cpu c.args.from.now.inode c.args.from.now.tail (x ∷ []) (tail_address c.args.sup.now c.args.to.now.inode)) c.name_entry.ensures (c.append_logs.ensures.in_order held h k here there)
+
+pub returns-in_err-append_logs-clause-wrote : goal.returns-in_err-append_logs-clause-wrote
+returns-in_err-append_logs-clause-wrote g c held h k here there = c.append_logs.ensures.wrote held h k here there
+
+pub returns-clause-wrote : goal.returns-clause-wrote
+returns-clause-wrote g c held h k here there = c.append_logs.ensures.wrote held h k here there

@@ -12,6 +12,7 @@ use Rattle.nv_steps.specs.NameEntries.{links_entries, name_entries}
 use Rattle.nv_steps.specs.MoreNames.{AppendsLogs}
 use Rattle.nv_commit.specs.Stopped.{LeavesEither}
 use Rattle.nv_steps.specs.Stopped.{AppendedBoth}
+use Rattle.nv_steps.specs.InOrder.{TailIsFirst, tail_address}
 use Rattle.nv_steps.specs.Steps.{LeavesStep, RefusesStep}
 use Rattle.nv_tree.proofs.Replies.{refused_by}
 use Rattle.nv_steps.proofs.UnlinkedAt.{left_unlinked, unlinks_at_places}
@@ -123,3 +124,15 @@ returns-clause-any_stop g c held h f here there settled left may =
     left_unlinked c.args.directory.now c.args.file.now c.args.name.now c.args.time left
     (subst (λ (x : Entry). LeavesEither (g.P.Pmem.region c.args.memory.now) (fixed_layout c.args.sup.now) held (AppendedBoth (g.P.Pmem.region c.args.memory.now) c.args.sup.now c.args.free.now c.args.cpu c.args.directory.now (x ∷ []) c.args.file.now (links_entries (c.args.file.now.numbers.links - 1) c.args.time)) left) c.name_entry.ensures
     (c.append_logs.ensures.any_stop held h f here there settled left may))
+
+pub returns-in_err-append_logs-clause-in_order : goal.returns-in_err-append_logs-clause-in_order
+returns-in_err-append_logs-clause-in_order g c held h f here there = subst (λ (x : Entry). TailIsFirst (g.P.Pmem.region c.args.memory.now) (g.P.Pmem.region c.append_logs.new.memory) c.args.sup.now c.args.free.now.pools c.args.cpu c.args.directory.now.inode c.args.directory.now.tail (x ∷ []) (tail_address c.args.sup.now c.args.file.now.inode)) c.name_entry.ensures (c.append_logs.ensures.in_order held h f here there)
+
+pub returns-clause-in_order : goal.returns-clause-in_order
+returns-clause-in_order g c held h f here there = subst (λ (x : Entry). TailIsFirst (g.P.Pmem.region c.args.memory.now) (g.P.Pmem.region c.append_logs.new.memory) c.args.sup.now c.args.free.now.pools c.args.cpu c.args.directory.now.inode c.args.directory.now.tail (x ∷ []) (tail_address c.args.sup.now c.args.file.now.inode)) c.name_entry.ensures (c.append_logs.ensures.in_order held h f here there)
+
+pub returns-in_err-append_logs-clause-wrote : goal.returns-in_err-append_logs-clause-wrote
+returns-in_err-append_logs-clause-wrote g c held h f here there = c.append_logs.ensures.wrote held h f here there
+
+pub returns-clause-wrote : goal.returns-clause-wrote
+returns-clause-wrote g c held h f here there = c.append_logs.ensures.wrote held h f here there

@@ -45,3 +45,9 @@ returns-clause-read_only g c = c.make.ensures.read_only
 
 pub returns-clause-bad_text : goal.returns-clause-bad_text
 returns-clause-bad_text g c = c.make.ensures.bad_text
+
+pub returns-clause-in_order : goal.returns-clause-in_order
+returns-clause-in_order g c = c.make.ensures.in_order
+
+pub returns-clause-wrote : goal.returns-clause-wrote
+returns-clause-wrote g c = c.make.ensures.wrote

@@ -1,4 +1,4 @@
-use Rattle.std.proofs.Common.{◌≡◌, ◌∙◌, ◌<◌, ◌++◌, ◌+◌, ◌∷◌, [], List, ℕ, Some, None, Ok, false, true, inr, ap, subst, sym}
+use Rattle.std.proofs.Common.{◌≡◌, ◌∙◌, ◌<◌, ◌++◌, ◌+◌, ◌∷◌, [], List, ℕ, Some, None, Ok, false, true, inr, ap, subst, sym, inl, refl}
 use Rattle.std.proofs.lemmas.Result.{err_from_is_err_and}
 use Rattle.nv_rows.specs.Rows.{place_in}
 use Rattle.nv_rows.proofs.Places.{at_place, own_row, row_in_use}
@@ -20,7 +20,7 @@ use Rattle.nv_paths.specs.Places.{IsLinkSpot, link_spot_tests}
 use Rattle.nv_paths.specs.Seen.{LeadsTo, tree_of}
 use Rattle.nv_calls.specs.World.{world_of}
 use Rattle.nv_calls.proofs.Stopped.{call_stays, settled_or_stopped}
-use Rattle.nv_calls.proofs.StoppedLinks.{link_left}
+use Rattle.nv_calls.proofs.StoppedLinks.{link_left, link_ordered, link_stored}
 use Rattle.nv_calls.proofs.CreateCall.{kept_or_stopped, unchanged_rows}
 use Rattle.nv_calls.proofs.LinkCall.{link_allowed, link_refused, linked_kept, linked_logs, linked_tree}
 use Rattle.nv_paths.proofs.LinkSpots.{link_goes_on}
@@ -236,3 +236,55 @@ returns-in-Ok-clause-bad_text g c bad = absurd (let paths = c.in_ok-named.ensure
 
 pub returns-in-Err-clause-bad_text : goal.returns-in-Err-clause-bad_text
 returns-in-Err-clause-bad_text g c bad = absurd (let paths = c.in_ok-named.ensures.paths in bad paths.0.0 paths.1.0 paths.0.1 paths.1.1)
+
+pub returns-in_err-writable-clause-in_order : goal.returns-in_err-writable-clause-in_order
+returns-in_err-writable-clause-in_order g c names others i d node held f path other_path led ended sound is = ∣ inl refl ∣₁
+
+pub returns-in_err-named-clause-in_order : goal.returns-in_err-named-clause-in_order
+returns-in_err-named-clause-in_order g c names others i d node held f path other_path led ended sound is = ∣ inl refl ∣₁
+
+pub returns-in-Ok-clause-in_order : goal.returns-in-Ok-clause-in_order
+returns-in-Ok-clause-in_order g c names others i d node held f path other_path led ended sound is =
+    let runs : c.self.inside.stopped ≡ false = ap (λ (m : Mount g.row.P.Denot). m.stopped) c.self.view_is ∙ c.in_ok-writable.ensures.runs in
+    let writes : c.self.inside.read_only ≡ false = ap (λ (m : Mount g.row.P.Denot). m.read_only) c.self.view_is ∙ c.in_ok-writable.ensures.writes in
+    let file = row_in_use c.self.inside.rows.items c.in_ok-named.named.target c.in_ok-named.ensures.target in
+    let directory = row_in_use c.self.inside.rows.items c.in_ok-named.named.directory c.in_ok-named.ensures.directory in
+    link_ordered g.P.Pmem.region c.self.view_is c.self.invariant.0 runs writes c.in_ok-named.named.target c.in_ok-named.named.directory file.0 directory.0 file.1 directory.1 c.in_ok-named.named.name.now c.args.cpu c.args.time c.in_ok-named.ensures.name names others
+    (c.in_ok-named.ensures.spot (g.P.Pmem.region c.self.inside.memory) names others path other_path) (g.P.Pmem.region c.link_at.new.memory)
+    (λ st a b here other. c.link_at.ensures.in_order file.0 directory.0 st a b file.1 directory.1 here other) i d node held f led ended sound is
+
+pub returns-in-Err-clause-in_order : goal.returns-in-Err-clause-in_order
+returns-in-Err-clause-in_order g c names others i d node held f path other_path led ended sound is =
+    let runs : c.self.inside.stopped ≡ false = ap (λ (m : Mount g.row.P.Denot). m.stopped) c.self.view_is ∙ c.in_ok-writable.ensures.runs in
+    let writes : c.self.inside.read_only ≡ false = ap (λ (m : Mount g.row.P.Denot). m.read_only) c.self.view_is ∙ c.in_ok-writable.ensures.writes in
+    let file = row_in_use c.self.inside.rows.items c.in_ok-named.named.target c.in_ok-named.ensures.target in
+    let directory = row_in_use c.self.inside.rows.items c.in_ok-named.named.directory c.in_ok-named.ensures.directory in
+    link_ordered g.P.Pmem.region c.self.view_is c.self.invariant.0 runs writes c.in_ok-named.named.target c.in_ok-named.named.directory file.0 directory.0 file.1 directory.1 c.in_ok-named.named.name.now c.args.cpu c.args.time c.in_ok-named.ensures.name names others
+    (c.in_ok-named.ensures.spot (g.P.Pmem.region c.self.inside.memory) names others path other_path) (g.P.Pmem.region c.link_at.new.memory)
+    (λ st a b here other. c.link_at.ensures.in_order file.0 directory.0 st a b file.1 directory.1 here other) i d node held f led ended sound is
+
+pub returns-in_err-writable-clause-wrote : goal.returns-in_err-writable-clause-wrote
+returns-in_err-writable-clause-wrote g c names others i d node held path other_path led ended sound = λ at whole away. refl
+
+pub returns-in_err-named-clause-wrote : goal.returns-in_err-named-clause-wrote
+returns-in_err-named-clause-wrote g c names others i d node held path other_path led ended sound = λ at whole away. refl
+
+pub returns-in-Ok-clause-wrote : goal.returns-in-Ok-clause-wrote
+returns-in-Ok-clause-wrote g c names others i d node held path other_path led ended sound =
+    let runs : c.self.inside.stopped ≡ false = ap (λ (m : Mount g.row.P.Denot). m.stopped) c.self.view_is ∙ c.in_ok-writable.ensures.runs in
+    let writes : c.self.inside.read_only ≡ false = ap (λ (m : Mount g.row.P.Denot). m.read_only) c.self.view_is ∙ c.in_ok-writable.ensures.writes in
+    let file = row_in_use c.self.inside.rows.items c.in_ok-named.named.target c.in_ok-named.ensures.target in
+    let directory = row_in_use c.self.inside.rows.items c.in_ok-named.named.directory c.in_ok-named.ensures.directory in
+    link_stored g.P.Pmem.region c.self.view_is c.self.invariant.0 runs writes c.in_ok-named.named.target c.in_ok-named.named.directory file.0 directory.0 file.1 directory.1 c.in_ok-named.named.name.now c.args.cpu c.args.time c.in_ok-named.ensures.name names others
+    (c.in_ok-named.ensures.spot (g.P.Pmem.region c.self.inside.memory) names others path other_path) (g.P.Pmem.region c.link_at.new.memory)
+    (λ st a b here other. c.link_at.ensures.wrote file.0 directory.0 st a b file.1 directory.1 here other) i d node held led ended sound
+
+pub returns-in-Err-clause-wrote : goal.returns-in-Err-clause-wrote
+returns-in-Err-clause-wrote g c names others i d node held path other_path led ended sound =
+    let runs : c.self.inside.stopped ≡ false = ap (λ (m : Mount g.row.P.Denot). m.stopped) c.self.view_is ∙ c.in_ok-writable.ensures.runs in
+    let writes : c.self.inside.read_only ≡ false = ap (λ (m : Mount g.row.P.Denot). m.read_only) c.self.view_is ∙ c.in_ok-writable.ensures.writes in
+    let file = row_in_use c.self.inside.rows.items c.in_ok-named.named.target c.in_ok-named.ensures.target in
+    let directory = row_in_use c.self.inside.rows.items c.in_ok-named.named.directory c.in_ok-named.ensures.directory in
+    link_stored g.P.Pmem.region c.self.view_is c.self.invariant.0 runs writes c.in_ok-named.named.target c.in_ok-named.named.directory file.0 directory.0 file.1 directory.1 c.in_ok-named.named.name.now c.args.cpu c.args.time c.in_ok-named.ensures.name names others
+    (c.in_ok-named.ensures.spot (g.P.Pmem.region c.self.inside.memory) names others path other_path) (g.P.Pmem.region c.link_at.new.memory)
+    (λ st a b here other. c.link_at.ensures.wrote file.0 directory.0 st a b file.1 directory.1 here other) i d node held led ended sound

@@ -1,4 +1,4 @@
-use Rattle.std.proofs.Common.{◌≡◌, ◌∙◌, ◌<◌, ◌++◌, ◌∷◌, [], List, ℕ, Some, Ok, false, true, inr, ap, subst, sym, slice_get}
+use Rattle.std.proofs.Common.{◌≡◌, ◌∙◌, ◌<◌, ◌++◌, ◌∷◌, [], List, ℕ, Some, Ok, false, true, inr, ap, subst, sym, slice_get, inl, refl}
 use Rattle.std.proofs.lemmas.Result.{err_from_is_err_and}
 use Rattle.nv_tree.specs.declared.refusal.Refusal.{Refusal}
 use Rattle.nv_held.specs.Mounted.{ShowsSound}
@@ -24,7 +24,7 @@ use Rattle.nv_paths.specs.Seen.{LeadsTo, tree_of}
 use Rattle.nv_region.specs.Stops.{LeavesOnly}
 use Rattle.nv_calls.specs.World.{world_of}
 use Rattle.nv_calls.proofs.Stopped.{call_stays, settled_or_stopped}
-use Rattle.nv_calls.proofs.StoppedMoves.{rename_left}
+use Rattle.nv_calls.proofs.StoppedMoves.{rename_left, rename_ordered, rename_stored}
 use Rattle.nv_calls.proofs.CreateCall.{kept_or_stopped, unchanged_rows}
 use Rattle.nv_paths.proofs.CreateTests.{long_text}
 use Rattle.nv_calls.proofs.Kept.{rows_rise}
@@ -254,3 +254,75 @@ returns-in-Ok-clause-bad_text g c bad = absurd (let paths = c.in_ok-moved.ensure
 
 pub returns-in-Err-clause-bad_text : goal.returns-in-Err-clause-bad_text
 returns-in-Err-clause-bad_text g c bad = absurd (let paths = c.in_ok-moved.ensures.paths in let old_path = paths.0 in let new_path = paths.1 in bad old_path.0 (new_path.0 ∷ new_path.1) old_path.1 new_path.2)
+
+pub returns-in_err-writable-clause-in_order : goal.returns-in_err-writable-clause-in_order
+returns-in_err-writable-clause-in_order g c names others i d e node held h path other_path led walked ended differ sound is = ∣ inl refl ∣₁
+
+pub returns-in_err-moved-clause-in_order : goal.returns-in_err-moved-clause-in_order
+returns-in_err-moved-clause-in_order g c names others i d e node held h path other_path led walked ended differ sound is = ∣ inl refl ∣₁
+
+pub returns-in-Ok-clause-in_order : goal.returns-in-Ok-clause-in_order
+returns-in-Ok-clause-in_order g c names others i d e node held h path other_path led walked ended differ sound is =
+    let runs : c.self.inside.stopped ≡ false = ap (λ (m : Mount g.row.P.Denot). m.stopped) c.self.view_is ∙ c.in_ok-writable.ensures.runs in
+    let writes : c.self.inside.read_only ≡ false = ap (λ (m : Mount g.row.P.Denot). m.read_only) c.self.view_is ∙ c.in_ok-writable.ensures.writes in
+    let long = long_text c.args.new.now c.in_ok-moved.ensures.paths.1 in
+    let v = longer c.args.new.now others other_path long in
+    let others_path : IsPath c.args.new.now (v.0 ∷ v.1) = subst (IsPath c.args.new.now) v.2 other_path in
+    let from = row_in_use c.self.inside.rows.items c.in_ok-moved.moved.from.directory c.in_ok-moved.ensures.from in
+    let to = row_in_use c.self.inside.rows.items c.in_ok-moved.moved.directory c.in_ok-moved.ensures.directory in
+    let inode = row_in_use c.self.inside.rows.items c.in_ok-moved.moved.from.target c.in_ok-moved.ensures.target in
+    let ended_there : walk (tree_of (g.P.Pmem.region c.args.self.now.memory) c.args.self.now.rows) 1 (v.0 ∷ v.1) ≡ Ok e = subst (λ (xs : List (List ℕ)). walk (tree_of (g.P.Pmem.region c.args.self.now.memory) c.args.self.now.rows) 1 xs ≡ Ok e) v.2 ended in
+    rename_ordered g.P.Pmem.region c.self.view_is c.self.invariant.0 runs writes c.in_ok-moved.moved.from.directory c.in_ok-moved.moved.from.target c.in_ok-moved.moved.directory from.0 inode.0 to.0 from.1 inode.1 to.1 c.in_ok-moved.moved.from.name.now c.in_ok-moved.moved.name.now c.args.cpu c.args.time c.in_ok-moved.ensures.former c.in_ok-moved.ensures.name
+    names v.0 v.1 (c.in_ok-moved.ensures.spot (g.P.Pmem.region c.self.inside.memory) names (v.0 ∷ v.1) path others_path) (g.P.Pmem.region c.move_at.new.memory)
+    (λ st a b here other apart. c.move_at.ensures.in_order from.0 to.0 inode.0 st a b from.1 to.1 inode.1 here other apart) i d e node held h led walked ended_there differ sound is
+
+pub returns-in-Err-clause-in_order : goal.returns-in-Err-clause-in_order
+returns-in-Err-clause-in_order g c names others i d e node held h path other_path led walked ended differ sound is =
+    let runs : c.self.inside.stopped ≡ false = ap (λ (m : Mount g.row.P.Denot). m.stopped) c.self.view_is ∙ c.in_ok-writable.ensures.runs in
+    let writes : c.self.inside.read_only ≡ false = ap (λ (m : Mount g.row.P.Denot). m.read_only) c.self.view_is ∙ c.in_ok-writable.ensures.writes in
+    let long = long_text c.args.new.now c.in_ok-moved.ensures.paths.1 in
+    let v = longer c.args.new.now others other_path long in
+    let others_path : IsPath c.args.new.now (v.0 ∷ v.1) = subst (IsPath c.args.new.now) v.2 other_path in
+    let from = row_in_use c.self.inside.rows.items c.in_ok-moved.moved.from.directory c.in_ok-moved.ensures.from in
+    let to = row_in_use c.self.inside.rows.items c.in_ok-moved.moved.directory c.in_ok-moved.ensures.directory in
+    let inode = row_in_use c.self.inside.rows.items c.in_ok-moved.moved.from.target c.in_ok-moved.ensures.target in
+    let ended_there : walk (tree_of (g.P.Pmem.region c.args.self.now.memory) c.args.self.now.rows) 1 (v.0 ∷ v.1) ≡ Ok e = subst (λ (xs : List (List ℕ)). walk (tree_of (g.P.Pmem.region c.args.self.now.memory) c.args.self.now.rows) 1 xs ≡ Ok e) v.2 ended in
+    rename_ordered g.P.Pmem.region c.self.view_is c.self.invariant.0 runs writes c.in_ok-moved.moved.from.directory c.in_ok-moved.moved.from.target c.in_ok-moved.moved.directory from.0 inode.0 to.0 from.1 inode.1 to.1 c.in_ok-moved.moved.from.name.now c.in_ok-moved.moved.name.now c.args.cpu c.args.time c.in_ok-moved.ensures.former c.in_ok-moved.ensures.name
+    names v.0 v.1 (c.in_ok-moved.ensures.spot (g.P.Pmem.region c.self.inside.memory) names (v.0 ∷ v.1) path others_path) (g.P.Pmem.region c.move_at.new.memory)
+    (λ st a b here other apart. c.move_at.ensures.in_order from.0 to.0 inode.0 st a b from.1 to.1 inode.1 here other apart) i d e node held h led walked ended_there differ sound is
+
+pub returns-in_err-writable-clause-wrote : goal.returns-in_err-writable-clause-wrote
+returns-in_err-writable-clause-wrote g c names others i d e node held path other_path led walked ended differ sound = λ at whole away. refl
+
+pub returns-in_err-moved-clause-wrote : goal.returns-in_err-moved-clause-wrote
+returns-in_err-moved-clause-wrote g c names others i d e node held path other_path led walked ended differ sound = λ at whole away. refl
+
+pub returns-in-Ok-clause-wrote : goal.returns-in-Ok-clause-wrote
+returns-in-Ok-clause-wrote g c names others i d e node held path other_path led walked ended differ sound =
+    let runs : c.self.inside.stopped ≡ false = ap (λ (m : Mount g.row.P.Denot). m.stopped) c.self.view_is ∙ c.in_ok-writable.ensures.runs in
+    let writes : c.self.inside.read_only ≡ false = ap (λ (m : Mount g.row.P.Denot). m.read_only) c.self.view_is ∙ c.in_ok-writable.ensures.writes in
+    let long = long_text c.args.new.now c.in_ok-moved.ensures.paths.1 in
+    let v = longer c.args.new.now others other_path long in
+    let others_path : IsPath c.args.new.now (v.0 ∷ v.1) = subst (IsPath c.args.new.now) v.2 other_path in
+    let from = row_in_use c.self.inside.rows.items c.in_ok-moved.moved.from.directory c.in_ok-moved.ensures.from in
+    let to = row_in_use c.self.inside.rows.items c.in_ok-moved.moved.directory c.in_ok-moved.ensures.directory in
+    let inode = row_in_use c.self.inside.rows.items c.in_ok-moved.moved.from.target c.in_ok-moved.ensures.target in
+    let ended_there : walk (tree_of (g.P.Pmem.region c.args.self.now.memory) c.args.self.now.rows) 1 (v.0 ∷ v.1) ≡ Ok e = subst (λ (xs : List (List ℕ)). walk (tree_of (g.P.Pmem.region c.args.self.now.memory) c.args.self.now.rows) 1 xs ≡ Ok e) v.2 ended in
+    rename_stored g.P.Pmem.region c.self.view_is c.self.invariant.0 runs writes c.in_ok-moved.moved.from.directory c.in_ok-moved.moved.from.target c.in_ok-moved.moved.directory from.0 inode.0 to.0 from.1 inode.1 to.1 c.in_ok-moved.moved.from.name.now c.in_ok-moved.moved.name.now c.args.cpu c.args.time c.in_ok-moved.ensures.former c.in_ok-moved.ensures.name
+    names v.0 v.1 (c.in_ok-moved.ensures.spot (g.P.Pmem.region c.self.inside.memory) names (v.0 ∷ v.1) path others_path) (g.P.Pmem.region c.move_at.new.memory)
+    (λ st a b here other apart. c.move_at.ensures.wrote from.0 to.0 inode.0 st a b from.1 to.1 inode.1 here other apart) i d e node held led walked ended_there differ sound
+
+pub returns-in-Err-clause-wrote : goal.returns-in-Err-clause-wrote
+returns-in-Err-clause-wrote g c names others i d e node held path other_path led walked ended differ sound =
+    let runs : c.self.inside.stopped ≡ false = ap (λ (m : Mount g.row.P.Denot). m.stopped) c.self.view_is ∙ c.in_ok-writable.ensures.runs in
+    let writes : c.self.inside.read_only ≡ false = ap (λ (m : Mount g.row.P.Denot). m.read_only) c.self.view_is ∙ c.in_ok-writable.ensures.writes in
+    let long = long_text c.args.new.now c.in_ok-moved.ensures.paths.1 in
+    let v = longer c.args.new.now others other_path long in
+    let others_path : IsPath c.args.new.now (v.0 ∷ v.1) = subst (IsPath c.args.new.now) v.2 other_path in
+    let from = row_in_use c.self.inside.rows.items c.in_ok-moved.moved.from.directory c.in_ok-moved.ensures.from in
+    let to = row_in_use c.self.inside.rows.items c.in_ok-moved.moved.directory c.in_ok-moved.ensures.directory in
+    let inode = row_in_use c.self.inside.rows.items c.in_ok-moved.moved.from.target c.in_ok-moved.ensures.target in
+    let ended_there : walk (tree_of (g.P.Pmem.region c.args.self.now.memory) c.args.self.now.rows) 1 (v.0 ∷ v.1) ≡ Ok e = subst (λ (xs : List (List ℕ)). walk (tree_of (g.P.Pmem.region c.args.self.now.memory) c.args.self.now.rows) 1 xs ≡ Ok e) v.2 ended in
+    rename_stored g.P.Pmem.region c.self.view_is c.self.invariant.0 runs writes c.in_ok-moved.moved.from.directory c.in_ok-moved.moved.from.target c.in_ok-moved.moved.directory from.0 inode.0 to.0 from.1 inode.1 to.1 c.in_ok-moved.moved.from.name.now c.in_ok-moved.moved.name.now c.args.cpu c.args.time c.in_ok-moved.ensures.former c.in_ok-moved.ensures.name
+    names v.0 v.1 (c.in_ok-moved.ensures.spot (g.P.Pmem.region c.self.inside.memory) names (v.0 ∷ v.1) path others_path) (g.P.Pmem.region c.move_at.new.memory)
+    (λ st a b here other apart. c.move_at.ensures.wrote from.0 to.0 inode.0 st a b from.1 to.1 inode.1 here other apart) i d e node held led walked ended_there differ sound

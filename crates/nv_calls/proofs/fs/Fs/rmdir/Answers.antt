@@ -1,4 +1,4 @@
-use Rattle.std.proofs.Common.{◌≡◌, ◌∙◌, ◌<◌, ◌%◌, ◌++◌, ◌∷◌, [], Some, Ok, false, true, inl, inr, ap, slice_get, subst, sym}
+use Rattle.std.proofs.Common.{◌≡◌, ◌∙◌, ◌<◌, ◌%◌, ◌++◌, ◌∷◌, [], Some, Ok, false, true, inl, inr, ap, slice_get, subst, sym, refl}
 use Rattle.std.proofs.lemmas.Result.{err_from_is_err_and}
 use Rattle.nv_entry.specs.declared.entry.Operation.TheVariants.{Remove}
 use Rattle.nv_logpage.specs.Append.{needed}
@@ -23,7 +23,7 @@ use Rattle.nv_calls.specs.RemoveCalls.{ShowsRemoved}
 use Rattle.nv_paths.specs.Seen.{LeadsTo, tree_of}
 use Rattle.nv_calls.specs.World.{world_of}
 use Rattle.nv_calls.proofs.Stopped.{call_stays, settled_or_stopped}
-use Rattle.nv_calls.proofs.StoppedRemovals.{rmdir_left}
+use Rattle.nv_calls.proofs.StoppedRemovals.{rmdir_left, rmdir_ordered, rmdir_stored}
 use Rattle.nv_calls.proofs.CreateCall.{kept_or_stopped, unchanged_rows}
 use Rattle.nv_tree.proofs.Replies.{refused_by}
 use Rattle.nv_calls.proofs.OneRow.{stands_right}
@@ -230,3 +230,55 @@ returns-in-Ok-clause-bad_text g c bad = absurd (let path = c.in_ok-named.ensures
 
 pub returns-in-Err-clause-bad_text : goal.returns-in-Err-clause-bad_text
 returns-in-Err-clause-bad_text g c bad = absurd (let path = c.in_ok-named.ensures.path in bad path.0 path.1)
+
+pub returns-in_err-writable-clause-in_order : goal.returns-in_err-writable-clause-in_order
+returns-in_err-writable-clause-in_order g c names k d node held h path led ended sound is = ∣ inl refl ∣₁
+
+pub returns-in_err-named-clause-in_order : goal.returns-in_err-named-clause-in_order
+returns-in_err-named-clause-in_order g c names k d node held h path led ended sound is = ∣ inl refl ∣₁
+
+pub returns-in-Ok-clause-in_order : goal.returns-in-Ok-clause-in_order
+returns-in-Ok-clause-in_order g c names k d node held h path led ended sound is =
+    let runs : c.self.inside.stopped ≡ false = ap (λ (m : Mount g.row.P.Denot). m.stopped) c.self.view_is ∙ c.in_ok-writable.ensures.runs in
+    let writes : c.self.inside.read_only ≡ false = ap (λ (m : Mount g.row.P.Denot). m.read_only) c.self.view_is ∙ c.in_ok-writable.ensures.writes in
+    let r = row_in_use c.self.inside.rows.items c.in_ok-named.named.directory c.in_ok-named.ensures.directory in
+    let i = row_in_use c.self.inside.rows.items c.in_ok-named.named.target c.in_ok-named.ensures.target in
+    rmdir_ordered g.P.Pmem.region c.self.view_is c.self.invariant.0 runs writes c.in_ok-named.named.directory c.in_ok-named.named.target r.0 i.0 r.1 i.1 c.in_ok-named.named.name.now c.args.cpu c.args.time c.in_ok-named.ensures.name names
+    (c.in_ok-named.ensures.spot (g.P.Pmem.region c.self.inside.memory) names path) (g.P.Pmem.region c.remove_named.new.memory)
+    (λ st a here. c.remove_named.ensures.in_order r.0 i.0 st a r.1 i.1 here) k d node held h led ended sound is
+
+pub returns-in-Err-clause-in_order : goal.returns-in-Err-clause-in_order
+returns-in-Err-clause-in_order g c names k d node held h path led ended sound is =
+    let runs : c.self.inside.stopped ≡ false = ap (λ (m : Mount g.row.P.Denot). m.stopped) c.self.view_is ∙ c.in_ok-writable.ensures.runs in
+    let writes : c.self.inside.read_only ≡ false = ap (λ (m : Mount g.row.P.Denot). m.read_only) c.self.view_is ∙ c.in_ok-writable.ensures.writes in
+    let r = row_in_use c.self.inside.rows.items c.in_ok-named.named.directory c.in_ok-named.ensures.directory in
+    let i = row_in_use c.self.inside.rows.items c.in_ok-named.named.target c.in_ok-named.ensures.target in
+    rmdir_ordered g.P.Pmem.region c.self.view_is c.self.invariant.0 runs writes c.in_ok-named.named.directory c.in_ok-named.named.target r.0 i.0 r.1 i.1 c.in_ok-named.named.name.now c.args.cpu c.args.time c.in_ok-named.ensures.name names
+    (c.in_ok-named.ensures.spot (g.P.Pmem.region c.self.inside.memory) names path) (g.P.Pmem.region c.remove_named.new.memory)
+    (λ st a here. c.remove_named.ensures.in_order r.0 i.0 st a r.1 i.1 here) k d node held h led ended sound is
+
+pub returns-in_err-writable-clause-wrote : goal.returns-in_err-writable-clause-wrote
+returns-in_err-writable-clause-wrote g c names k d node held path led ended sound = λ at whole away. refl
+
+pub returns-in_err-named-clause-wrote : goal.returns-in_err-named-clause-wrote
+returns-in_err-named-clause-wrote g c names k d node held path led ended sound = λ at whole away. refl
+
+pub returns-in-Ok-clause-wrote : goal.returns-in-Ok-clause-wrote
+returns-in-Ok-clause-wrote g c names k d node held path led ended sound =
+    let runs : c.self.inside.stopped ≡ false = ap (λ (m : Mount g.row.P.Denot). m.stopped) c.self.view_is ∙ c.in_ok-writable.ensures.runs in
+    let writes : c.self.inside.read_only ≡ false = ap (λ (m : Mount g.row.P.Denot). m.read_only) c.self.view_is ∙ c.in_ok-writable.ensures.writes in
+    let r = row_in_use c.self.inside.rows.items c.in_ok-named.named.directory c.in_ok-named.ensures.directory in
+    let i = row_in_use c.self.inside.rows.items c.in_ok-named.named.target c.in_ok-named.ensures.target in
+    rmdir_stored g.P.Pmem.region c.self.view_is c.self.invariant.0 runs writes c.in_ok-named.named.directory c.in_ok-named.named.target r.0 i.0 r.1 i.1 c.in_ok-named.named.name.now c.args.cpu c.args.time c.in_ok-named.ensures.name names
+    (c.in_ok-named.ensures.spot (g.P.Pmem.region c.self.inside.memory) names path) (g.P.Pmem.region c.remove_named.new.memory)
+    (λ st a here. c.remove_named.ensures.wrote r.0 i.0 st a r.1 i.1 here) k d node held led ended sound
+
+pub returns-in-Err-clause-wrote : goal.returns-in-Err-clause-wrote
+returns-in-Err-clause-wrote g c names k d node held path led ended sound =
+    let runs : c.self.inside.stopped ≡ false = ap (λ (m : Mount g.row.P.Denot). m.stopped) c.self.view_is ∙ c.in_ok-writable.ensures.runs in
+    let writes : c.self.inside.read_only ≡ false = ap (λ (m : Mount g.row.P.Denot). m.read_only) c.self.view_is ∙ c.in_ok-writable.ensures.writes in
+    let r = row_in_use c.self.inside.rows.items c.in_ok-named.named.directory c.in_ok-named.ensures.directory in
+    let i = row_in_use c.self.inside.rows.items c.in_ok-named.named.target c.in_ok-named.ensures.target in
+    rmdir_stored g.P.Pmem.region c.self.view_is c.self.invariant.0 runs writes c.in_ok-named.named.directory c.in_ok-named.named.target r.0 i.0 r.1 i.1 c.in_ok-named.named.name.now c.args.cpu c.args.time c.in_ok-named.ensures.name names
+    (c.in_ok-named.ensures.spot (g.P.Pmem.region c.self.inside.memory) names path) (g.P.Pmem.region c.remove_named.new.memory)
+    (λ st a here. c.remove_named.ensures.wrote r.0 i.0 st a r.1 i.1 here) k d node held led ended sound

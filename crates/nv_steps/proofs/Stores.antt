@@ -1,0 +1,104 @@
+-- Which words a call stores: what the commits store, told of places.
+use Rattle.std.proofs.Common.{◌≡◌, ℕ, ◌+◌, ◌*◌, ◌/◌, ◌%◌, inl, inr, List, [], ◌∷◌, get_or, refl, ap, sym, ◌∙◌, subst, arith}
+use Rattle.std.specs.List.{Contains}
+use Rattle.std.proofs.lemmas.List.{get_or_default}
+use Rattle.nv_region.specs.Region.{Region, word}
+use Rattle.nv_region.specs.Stops.{Choices, IsMixed}
+use Rattle.nv_region.proofs.Wordwise.{mixed_word}
+use Rattle.nv_super.specs.declared.superblock.Super.{Super}
+use Rattle.nv_super.specs.Layout.{fixed_layout, slot_address}
+use Rattle.nv_super.proofs.Rising.{Contains-head, Contains-tail}
+use Rattle.nv_journal.specs.Undo.{journal}
+use Rattle.nv_journal.specs.Recorded.{Changes}
+use Rattle.nv_entry.specs.declared.entry.Entry.{Entry}
+use Rattle.nv_logpage.specs.Append.{AppendWords, end_of}
+use Rattle.nv_held.specs.Held.{Held, Store}
+use Rattle.nv_held.specs.Blocks.{IsUnowned}
+use Rattle.nv_commit.specs.declared.together.Extension.{Extension}
+use Rattle.nv_commit.specs.declared.making.NewInode.{NewInode}
+use Rattle.nv_commit.specs.Extends.{CanExtend, ExtendWords}
+use Rattle.nv_commit.specs.Together.{CanExtendTwo, TogetherWords}
+use Rattle.nv_commit.specs.Makes.{CanMake, MakeWords}
+use Rattle.nv_commit.specs.Removes.{CanRemove, RemoveWords}
+use Rattle.nv_commit.proofs.Extends.{slots}
+use Rattle.nv_steps.specs.Stores.{MayStore, Places, StoresIn, at_commit, behind_tail, in_free, in_journal, in_slot, one_less, one_log, one_more, two_logs}
+
+-- where nothing was stored
+pub stores_nothing : (s : Super) (held : Store) (p : Places) (R : Region) → StoresIn s held p R R
+stores_nothing s held p R at whole away = refl
+
+module _ {s : Super} {held : Store} (p : Places) where
+  -- words that are all of these places
+  pub stores_in : (R S : Region) (these : Choices) → IsMixed R these S → ((k v : ℕ) → these k v → MayStore s held p (8 * k)) → StoresIn s held p R S
+  stores_in R S these mixed covers at whole away = mixed_word R S these at whole mixed (λ v w. away (subst (MayStore s held p) (let same : 8 * (at / 8) ≡ at = omega (arith, whole) in same) (covers (at / 8) v w)))
+
+  -- what an append stores
+  pub append_in : {R : Region} {i : ℕ} {h : Held} {slot tail : ℕ} {entries : List Entry} {fresh : List ℕ} → CanExtend R s held i h slot tail entries fresh → Contains p.logs i → (k v : ℕ) → AppendWords tail fresh k v → MayStore s held p (8 * k)
+  append_in {i = i} {h = h} {tail = tail} can there k v (inl w) = let is = can.tail_is in behind_tail (8 * k) i h there can.holds (w.0 ∙ ap (λ (t : ℕ). t / 4096) (sym is)) (omega (arith, is, w.1))
+  append_in {fresh = fresh} can there k v (inr w) = in_free (8 * k) (subst (IsUnowned (fixed_layout s) held) (sym w.2) (can.free (get_or fresh w.0 0) (w.0, w.1, get_or_default fresh w.0 (get_or fresh w.0 0) 0 w.1)))
+
+  -- one word
+  pub word_in : (a : ℕ) → a % 8 ≡ 0 → Contains p.words a → (k : ℕ) → k ≡ a / 8 → MayStore s held p (8 * k)
+  word_in a whole there k is = at_commit (8 * k) (subst (Contains p.words) (let same : a ≡ 8 * k = omega (arith, whole, is) in same) there)
+
+  -- two words that change together, and the journal
+  pub changes_in : (cpu a v b w : ℕ) → Contains p.journals cpu → a % 8 ≡ 0 → b % 8 ≡ 0 → Contains p.words a → Contains p.words b → (k x : ℕ) → Changes cpu a v b w k x → MayStore s held p (8 * k)
+  changes_in cpu a v b w own whole also one two k x (inl c) = in_journal (8 * k) cpu own c.0 c.1
+  changes_in cpu a v b w own whole also one two k x (inr (inl c)) = word_in a whole one k c.0
+  changes_in cpu a v b w own whole also one two k x (inr (inr c)) = word_in b also two k c.0
+
+second_in : (a b : ℕ) → Contains (a ∷ b ∷ []) b
+second_in a b = Contains-tail a (b ∷ []) b (Contains-head b [])
+
+-- one log
+pub one_stores : {R S : Region} {s : Super} {held : Store} {i : ℕ} {h : Held} {tail : ℕ} {entries : List Entry} {fresh : List ℕ} → CanExtend R s held i h (slot_address s i) tail entries fresh → IsMixed R (ExtendWords (slot_address s i) tail entries fresh) S → StoresIn s held (one_log s i) R S
+one_stores {R} {S} {s} {held} {i} {h} {tail} {entries} {fresh} can mixed = stores_in (one_log s i) R S (ExtendWords (slot_address s i) tail entries fresh) mixed (λ k v w. elim w [
+  | inl a ↦ append_in (one_log s i) can (Contains-head i []) k v a
+  | inr b ↦ (let clear = slots can in let whole = clear.whole i (slot_address s i) can.at in word_in (one_log s i) (slot_address s i + 24) (omega (arith, whole)) (Contains-head (slot_address s i + 24) []) k b.0)
+])
+
+-- two logs
+pub two_stores : {R S : Region} {s : Super} {held : Store} {cpu i : ℕ} {h : Held} {x : Extension} {j : ℕ} {g : Held} {y : Extension} → CanExtendTwo R s held cpu i h x j g y → x.slot ≡ slot_address s i → y.slot ≡ slot_address s j → IsMixed R (TogetherWords cpu x y) S → StoresIn s held (two_logs s cpu i j) R S
+two_stores {R} {S} {s} {held} {cpu} {i} {h} {x} {j} {g} {y} can one two mixed =
+    let p = two_logs s cpu i j in
+    let clear = slots can.first in
+    let whole = clear.whole i x.slot can.first.at in
+    let also = clear.whole j y.slot can.second.at in
+    stores_in p R S (TogetherWords cpu x y) mixed (λ k v w. elim w [
+      | inl (inl a) ↦ append_in p can.first (Contains-head i (j ∷ [])) k v a
+      | inl (inr b) ↦ append_in p can.second (second_in i j) k v b
+      | inr c ↦ changes_in p cpu (x.slot + 24) (end_of x.fresh.now 0 x.tail x.entries.now) (y.slot + 24) (end_of y.fresh.now 0 y.tail y.entries.now) (Contains-head cpu []) (omega (arith, whole)) (omega (arith, also))
+          (subst (λ (a : ℕ). Contains p.words (a + 24)) (sym one) (Contains-head (slot_address s i + 24) ((slot_address s j + 24) ∷ [])))
+          (subst (λ (a : ℕ). Contains p.words (a + 24)) (sym two) (second_in (slot_address s i + 24) (slot_address s j + 24))) k v c
+    ])
+
+-- an inode that comes
+pub more_stores : {R S : Region} {s : Super} {held : Store} {cpu j : ℕ} {n : NewInode} {i : ℕ} {h : Held} {x : Extension} → CanMake R s held cpu j n i h x → n.slot ≡ slot_address s j → x.slot ≡ slot_address s i → IsMixed R (MakeWords cpu n x) S → StoresIn s held (one_more s cpu j i) R S
+more_stores {R} {S} {s} {held} {cpu} {j} {n} {i} {h} {x} can one two mixed =
+    let p = one_more s cpu j i in
+    let clear = slots can.parent in
+    let whole = clear.whole j n.slot can.at in
+    let also = clear.whole i x.slot can.parent.at in
+    stores_in p R S (MakeWords cpu n x) mixed (λ k v w. elim w [
+      | inl (inl (inl (inl a))) ↦ in_free (8 * k) (subst (IsUnowned (fixed_layout s) held) (let here = a.0 in let same : n.page ≡ 8 * k / 4096 = omega (arith, here) in same) can.page)
+      | inl (inl (inl (inr a))) ↦ absurd (let none = a.1 in omega (arith, none))
+      | inl (inl (inr a)) ↦ in_slot (8 * k) j (Contains-head j []) (let from = a.0 in omega (arith, from, one)) (let below = a.1 in omega (arith, below, one))
+      | inl (inr a) ↦ append_in p can.parent (Contains-head i []) k v a
+      | inr c ↦ changes_in p cpu n.slot 1 (x.slot + 24) (end_of x.fresh.now 0 x.tail x.entries.now) (Contains-head cpu []) (omega (arith, whole)) (omega (arith, also))
+          (subst (Contains p.words) (sym one) (Contains-head (slot_address s j) ((slot_address s i + 24) ∷ [])))
+          (subst (λ (a : ℕ). Contains p.words (a + 24)) (sym two) (second_in (slot_address s j) (slot_address s i + 24))) k v c
+    ])
+
+-- an inode that goes
+pub less_stores : {R S : Region} {s : Super} {held : Store} {cpu i : ℕ} {h : Held} {x : Extension} {j slot : ℕ} → CanRemove R s held cpu i h x j slot → x.slot ≡ slot_address s i → slot ≡ slot_address s j → IsMixed R (RemoveWords cpu x slot) S → StoresIn s held (one_less s cpu i j) R S
+less_stores {R} {S} {s} {held} {cpu} {i} {h} {x} {j} {slot} can one two mixed =
+    let p = one_less s cpu i j in
+    let clear = slots can.parent in
+    let whole = clear.whole i x.slot can.parent.at in
+    let also = clear.whole j slot can.at in
+    stores_in p R S (RemoveWords cpu x slot) mixed (λ k v w. elim w [
+      | inl a ↦ append_in p can.parent (Contains-head i []) k v a
+      | inr c ↦ changes_in p cpu (x.slot + 24) (end_of x.fresh.now 0 x.tail x.entries.now) slot 0 (Contains-head cpu []) (omega (arith, whole)) (omega (arith, also))
+          (subst (λ (a : ℕ). Contains p.words (a + 24)) (sym one) (Contains-head (slot_address s i + 24) (slot_address s j ∷ [])))
+          (subst (Contains p.words) (sym two) (second_in (slot_address s i + 24) (slot_address s j))) k v c
+    ])
