@@ -1,0 +1,16 @@
+//! Makes a file system in memory, writes a file, and reads it.
+#![tactic(auto)]
+
+use anyhow::Result;
+use indiumlark::{Fs, MemRegion, format};
+
+fn main(rt: HostRuntime) -> Result<()> {
+    let mut memory = MemRegion::new(rt.alloc(), 64)?;
+    format(&mut memory, 2, 1, 0)?;
+    let mut fs = Fs::mount(rt.alloc(), memory).map_err(|(_memory, error)| error)?;
+    fs.create(0, b"/hello", 420, 1)?;
+    fs.write(0, b"/hello", 0, b"hi there", 2)?;
+    let bytes = fs.read(b"/hello", 0, 100)?;
+    println!(rt; "{}", bytes.escape_ascii())?;
+    Ok(())
+}
