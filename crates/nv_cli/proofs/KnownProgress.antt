@@ -1,15 +1,13 @@
 -- How far a script has come, where the bytes of its reader are known. `left` is what is left of the input.
-use Rattle.std.proofs.Common.{◌≡◌, ℕ, List, [], ◌∷◌, ◌++◌, Option, Some, None}
-use Rattle.std.specs.Prelude.{Result, Err}
+use Rattle.std.proofs.Common.{◌≡◌, ◌≢◌, ℕ, List, [], ◌∷◌, ◌++◌, Option, Some, None, sym, subst, ◌∙◌}
 use Rattle.std.specs.Io.KnownBytes.{Appends}
 use Rattle.nv_stream.specs.Known.{IfKnown}
 use Rattle.nv_stream.specs.Lines.{lines_of}
-use Rattle.nv_stream.specs.Streams.{AppendsFront}
-use Rattle.nv_cli.specs.Transcript.{WritesAll, WritesFront, WritesWhole}
+use Rattle.nv_stream.specs.Streams.{AppendsShort}
+use Rattle.nv_cli.specs.Transcript.{WritesAll, WritesShort, WritesWhole, FailsScript}
 use Rattle.nv_stream.specs.declared.fault.ScriptError.{ScriptError}
 use Rattle.nv_stream.specs.declared.fault.ScriptError.TheVariants as errors
-use Rattle.nv_cli.proofs.Progress.{Progress, begins, goes_on, all_here, whole_here, front_there}
-use Rattle.nv_stream.proofs.StreamLemmas.{front_of_whole}
+use Rattle.nv_cli.proofs.Progress.{Progress, begins, goes_on, all_here, whole_here, short_there}
 
 abbrev pub KnownProgress : (shows here : List (List ℕ) → List ℕ → ℕ → Type 0) → (known left old now : Option (List ℕ)) → Type 0
 KnownProgress shows here known left old now = IfKnown known left (λ input rest. Progress shows here (lines_of input) (lines_of rest) old now)
@@ -28,14 +26,14 @@ pub record Ends (here : List (List ℕ) → List ℕ → ℕ → Type 0) (now th
   pub added : Appends now then text
   pub shown : here (lines_of input) text status
 
--- The next line of the input shows a text, of which a front was added.
+-- The next line of the input shows a text, of which a front was added, and not all.
 pub record EndsInside (here : List (List ℕ) → List ℕ → ℕ → Type 0) (now then : Option (List ℕ)) (input : List ℕ) : Type 0 where
   pub line : List ℕ
   pub behind : List (List ℕ)
   pub text : List ℕ
   pub status : ℕ
   pub read : lines_of input ≡ line ∷ behind
-  pub added : AppendsFront now then text
+  pub added : AppendsShort now then text
   pub shown : here (line ∷ []) text status
 
 module _ (shows : List (List ℕ) → List ℕ → ℕ → Type 0) (old : Option (List ℕ)) where
@@ -70,19 +68,19 @@ module _ (shows : List (List ℕ) → List ℕ → ℕ → Type 0) (old : Option
     known_whole (Some input) (Some left) status p ended = whole_here shows here (lines_of input) (lines_of left) old now status p ended
 
     -- an error while a line was answered
-    pub known_front : (known left after then : Option (List ℕ)) → KnownProgress shows here known left old now
-        → IfKnown left after (λ input rest. EndsInside here now then input) → WritesFront shows known old then
-    known_front None left after then p end = tt
-    known_front (Some input) None after then p end = absurd p
-    known_front (Some input) (Some left) None then p end = absurd end
-    known_front (Some input) (Some left) (Some after) then p end =
-        front_there shows here (lines_of input) end.behind old now end.line then end.text end.status (rw end.read at p) end.shown end.added
+    pub known_short : (known left after then : Option (List ℕ)) → KnownProgress shows here known left old now
+        → IfKnown left after (λ input rest. EndsInside here now then input) → WritesShort shows known old then
+    known_short None left after then p end = tt
+    known_short (Some input) None after then p end = absurd p
+    known_short (Some input) (Some left) None then p end = absurd end
+    known_short (Some input) (Some left) (Some after) then p end =
+        short_there shows here (lines_of input) end.behind old now end.line then end.text end.status (rw end.read at p) end.shown end.added
 
--- a whole transcript is a front of one
-pub front_from_whole : (shows : List (List ℕ) → List ℕ → ℕ → Type 0) (known old new : Option (List ℕ)) → WritesWhole shows known old new → WritesFront shows known old new
-front_from_whole shows None old new whole = tt
-front_from_whole shows (Some input) old new (count, text, status, added, shown) = (count, text, status, front_of_whole old new text added, shown)
+-- what an error leaves that isn't the writer's, and what the writer's leaves
+pub fails_whole : (shows : List (List ℕ) → List ℕ → ℕ → Type 0) (e f : ScriptError) (known old new : Option (List ℕ)) → e ≡ f → f ≢ errors.Write → WritesWhole shows known old new → FailsScript shows e known old new
+fails_whole shows errors.Read f known old new is other whole = whole
+fails_whole shows errors.Memory f known old new is other whole = whole
+fails_whole shows errors.Write f known old new is other whole = absurd (other (sym is))
 
--- a refused write is no want of memory
-pub no_memory : {T : Type 0} (r : Result T ScriptError) (x f : ScriptError) → r ≡ Err x → x ≡ f → f ≡ errors.Write → r ≡ Err errors.Memory → ⊥
-no_memory r x f a b d e = let bad : errors.Write ≡ errors.Memory = cc in cc
+pub fails_short : (shows : List (List ℕ) → List ℕ → ℕ → Type 0) (e f : ScriptError) (known old new : Option (List ℕ)) → e ≡ f → f ≡ errors.Write → WritesShort shows known old new → FailsScript shows e known old new
+fails_short shows e f known old new is write short = subst (λ (x : ScriptError). FailsScript shows x known old new) (sym (is ∙ write)) short

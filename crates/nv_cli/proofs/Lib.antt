@@ -1,9 +1,11 @@
+pub mod Buffered
 pub mod Progress
 pub mod KnownProgress
 pub mod LineReplies
 pub mod OneTranscript
 pub mod HintReplies
 pub mod Ending
+pub mod ShellLines
 pub mod Pieces
 pub mod Looks
 pub mod Opens

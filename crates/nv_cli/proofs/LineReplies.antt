@@ -1,7 +1,7 @@
 -- What the answer to a line says of the lines that are reached: `number` is the line's number, and `state` and `mid` are
 -- the states before and after it.
-use Rattle.std.proofs.Common.{◌≡◌, ◌<◌, ◌≤◌, ℕ, ◌+◌, nat_lt, true, List, [], length, Option, refl, inl, inr, subst, ap, sym, ◌∙◌, append-nil, arith, string_bytes}
-use Rattle.std.specs.Prelude.{String}
+use Rattle.std.proofs.Common.{◌≡◌, ◌⊎◌, ◌<◌, ◌≤◌, ℕ, ◌+◌, nat_lt, Bool, true, false, List, [], length, Option, refl, inl, inr, subst, ap, sym, ◌∙◌, append-nil, arith, string_bytes}
+use Rattle.std.specs.Prelude.{String, MatchBool}
 use Rattle.std.specs.declared.alloc.Global.{Global}
 use Rattle.std.specs.Io.KnownBytes.{Appends}
 use Rattle.nv_text.specs.Answers.{bad_line}
@@ -19,50 +19,71 @@ use Rattle.nv_session.specs.Sessions.{Moves, Leads}
 use Rattle.nv_session.specs.declared.session.Session.{Session}
 use Rattle.nv_session.specs.Machine.{State, Step}
 use Rattle.nv_region.specs.Region.{Region}
-use Rattle.nv_cli.specs.Script.{ShowsTo, ShowsEndFrom}
+use Rattle.nv_cli.specs.Strict.{IsLast, ShowsBy, ShowsByFrom}
+use Rattle.nv_cli.specs.declared.script.Rule.{Rule}
 use Rattle.nv_cli.specs.Replies.{Replies, KnownReplies, RepliesTo}
-use Rattle.nv_stream.specs.Streams.{AppendsFront, TakesKnownLine, TakesLine}
+use Rattle.nv_stream.specs.Streams.{AppendsShort, TakesKnownLine, TakesLine}
 use Rattle.nv_cli.specs.declared.script.Reply.{Reply}
 use Rattle.nv_cli.specs.declared.script.Reply.TheVariants.{End, Skipped, Text, Bad}
 use Rattle.nv_cli.proofs.KnownProgress.{GoesOn, Ends, EndsInside}
+use Rattle.std.proofs.lemmas.Bool.{MatchBool-at_true, MatchBool-at_false}
 use Rattle.std.proofs.lemmas.Bool.Decides.{nat_tests}
 use Rattle.nv_stream.proofs.KnownFacts.{known_map}
 use Rattle.nv_stream.proofs.StreamLemmas.{appends_none}
 
-module _ (left after now then : Option (List ℕ)) (number : ℕ) (state mid : State) where
+-- the answer ends the script, or it doesn't
+abbrev pub MayBeLast : Rule → List ℕ → Type 0
+MayBeLast rule said = IsLast rule said ⊎ (IsLast rule said → ⊥)
+
+pub may_be_last : (rule : Rule) (said : List ℕ) (b : Bool) → MatchBool b (IsLast rule said) (IsLast rule said → ⊥) → MayBeLast rule said
+may_be_last rule said true is = inl is
+may_be_last rule said false is = inr is
+
+pub is_last_behind : (rule : Rule) (said : List ℕ) (b : Bool) → b ≡ true → MatchBool b (IsLast rule said) (IsLast rule said → ⊥) → IsLast rule said
+is_last_behind rule said b is known = MatchBool-at_true (IsLast rule said) (IsLast rule said → ⊥) is known
+
+pub goes_on_behind : (rule : Rule) (said : List ℕ) (b : Bool) → b ≡ false → MatchBool b (IsLast rule said) (IsLast rule said → ⊥) → IsLast rule said → ⊥
+goes_on_behind rule said b is known = MatchBool-at_false (IsLast rule said) (IsLast rule said → ⊥) is known
+
+module _ (rule : Rule) (left after now then : Option (List ℕ)) (number : ℕ) (state mid : State) where
   module _ (region : Option Region) where
-    pub skipped_goes_on : KnownReplies left after state Skipped mid → IfKnown left after (λ input rest. GoesOn (ShowsEndFrom number state region) (ShowsEndFrom (number + 1) mid region) now now input rest)
+    pub skipped_goes_on : KnownReplies left after state Skipped mid → IfKnown left after (λ input rest. GoesOn (ShowsByFrom rule number state region) (ShowsByFrom rule (number + 1) mid region) now now input rest)
     skipped_goes_on replies = known_map left after _ _ (λ input rest (r : Replies input rest state Skipped mid). record {
       line = r.0;
       first = [];
       read = r.1;
       added = appends_none now;
-      step = λ more text status shown. (shown.0, inl (r.2, r.3, subst (λ (s : State). ShowsTo (number + 1) s more text status shown.0) r.4 shown.1), shown.2);
+      step = λ more text status shown. (shown.0, inl (r.2, r.3, subst (λ (s : State). ShowsBy rule (number + 1) s more text status shown.0) r.4 shown.1), shown.2);
     }) replies
 
-    pub end_ends : (status : ℕ) → KnownReplies left after state End mid → status ≡ status_of mid.last → mid.region ≡ region → IfKnown left after (λ input rest. Ends (ShowsEndFrom number state region) now now input status)
+    pub end_ends : (status : ℕ) → KnownReplies left after state End mid → status ≡ status_of mid.last → mid.region ≡ region → IfKnown left after (λ input rest. Ends (ShowsByFrom rule number state region) now now input status)
     end_ends status replies is there = known_map left after _ _ (λ input rest (r : Replies input rest state End mid).
         let none : lines_of input ≡ [] = ap lines_of r.0 in
         let last : status ≡ status_of state.last = is ∙ ap (λ (s : State). status_of s.last) r.1 in
         let here : state.region ≡ region = ap (λ (s : State). s.region) (sym r.1) ∙ there in
         record { text = []; added = appends_none now; shown = rw none (state, (refl, last, refl), here) }) replies
 
-    pub bad_ends : (reason : Reason) → KnownReplies left after state (Bad reason) mid → Appends now then (bad_line number) → mid.region ≡ region → IfKnown left after (λ input rest. Ends (ShowsEndFrom number state region) now then input 2)
+    pub bad_ends : (reason : Reason) → KnownReplies left after state (Bad reason) mid → Appends now then (bad_line number) → mid.region ≡ region → IfKnown left after (λ input rest. Ends (ShowsByFrom rule number state region) now then input 2)
     bad_ends reason replies added there = known_map left after _ _ (λ input rest (r : Replies input rest state (Bad reason) mid).
         let here : state.region ≡ region = ap (λ (s : State). s.region) (sym r.5) ∙ there in
-        record { text = bad_line number; added = added; shown = rw r.2 (state, inr (inr (r.3, refl, refl, refl)), here) }) replies
+        record { text = bad_line number; added = added; shown = rw r.2 (state, inr (inr (inl (r.3, refl, refl, refl))), here) }) replies
 
-    pub text_goes_on : (text : String Global) → KnownReplies left after state (Text text) mid → Appends now then (string_bytes text)
-        → IfKnown left after (λ input rest. GoesOn (ShowsEndFrom number state region) (ShowsEndFrom (number + 1) mid region) now then input rest)
-    text_goes_on text replies added = known_map left after _ _ (λ input rest (r : Replies input rest state (Text text) mid). record {
+    pub text_goes_on : (text : String Global) → KnownReplies left after state (Text text) mid → (IsLast rule (string_bytes text) → ⊥) → Appends now then (string_bytes text)
+        → IfKnown left after (λ input rest. GoesOn (ShowsByFrom rule number state region) (ShowsByFrom rule (number + 1) mid region) now then input rest)
+    text_goes_on text replies goes added = known_map left after _ _ (λ input rest (r : Replies input rest state (Text text) mid). record {
       line = r.0;
       first = string_bytes text;
       read = r.1;
       added = added;
-      step = λ more others status shown. (shown.0, inr (inl (r.2, string_bytes text, others, mid, r.3, shown.1, refl)), shown.2);
+      step = λ more others status shown. (shown.0, inr (inl (r.2, string_bytes text, others, mid, r.3, goes, shown.1, refl)), shown.2);
     }) replies
 
-  pub bad_ends_inside : (reason : Reason) → KnownReplies left after state (Bad reason) mid → AppendsFront now then (bad_line number) → IfKnown left after (λ input rest. EndsInside (ShowsEndFrom number state state.region) now then input)
+    pub last_ends : (text : String Global) → KnownReplies left after state (Text text) mid → IsLast rule (string_bytes text) → Appends now then (string_bytes text) → mid.region ≡ region
+        → IfKnown left after (λ input rest. Ends (ShowsByFrom rule number state region) now then input 2)
+    last_ends text replies last added there = known_map left after _ _ (λ input rest (r : Replies input rest state (Text text) mid).
+        record { text = string_bytes text; added = added; shown = rw r.1 (mid, inr (inr (inr (r.2, r.3, last, refl))), there) }) replies
+
+  pub bad_ends_inside : (reason : Reason) → KnownReplies left after state (Bad reason) mid → AppendsShort now then (bad_line number) → IfKnown left after (λ input rest. EndsInside (ShowsByFrom rule number state state.region) now then input)
   bad_ends_inside reason replies added = known_map left after _ _ (λ input rest (r : Replies input rest state (Bad reason) mid). record {
     line = r.0;
     behind = r.1;
@@ -70,18 +91,27 @@ module _ (left after now then : Option (List ℕ)) (number : ℕ) (state mid : S
     status = 2;
     read = r.2;
     added = added;
-    shown = (state, inr (inr (r.3, refl, refl, refl)), refl);
+    shown = (state, inr (inr (inl (r.3, refl, refl, refl))), refl);
   }) replies
 
-  pub text_ends_inside : (text : String Global) → KnownReplies left after state (Text text) mid → AppendsFront now then (string_bytes text) → IfKnown left after (λ input rest. EndsInside (ShowsEndFrom number state mid.region) now then input)
-  text_ends_inside text replies added = known_map left after _ _ (λ input rest (r : Replies input rest state (Text text) mid). record {
+  pub text_ends_inside : (text : String Global) → KnownReplies left after state (Text text) mid → MayBeLast rule (string_bytes text) → AppendsShort now then (string_bytes text) → IfKnown left after (λ input rest. EndsInside (ShowsByFrom rule number state mid.region) now then input)
+  text_ends_inside text replies (inl last) added = known_map left after _ _ (λ input rest (r : Replies input rest state (Text text) mid). record {
+    line = r.0;
+    behind = lines_of rest;
+    text = string_bytes text;
+    status = 2;
+    read = r.1;
+    added = added;
+    shown = (mid, inr (inr (inr (r.2, r.3, last, refl))), refl);
+  }) replies
+  text_ends_inside text replies (inr more) added = known_map left after _ _ (λ input rest (r : Replies input rest state (Text text) mid). record {
     line = r.0;
     behind = lines_of rest;
     text = string_bytes text;
     status = status_of mid.last;
     read = r.1;
     added = added;
-    shown = (mid, inr (inl (r.2, string_bytes text, [], mid, r.3, (refl, refl, refl), sym (append-nil (string_bytes text)))), refl);
+    shown = (mid, inr (inl (r.2, string_bytes text, [], mid, r.3, more, (refl, refl, refl), sym (append-nil (string_bytes text)))), refl);
   }) replies
 
 -- a command was run

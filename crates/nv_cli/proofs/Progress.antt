@@ -4,8 +4,8 @@
 use Rattle.std.proofs.Common.{◌≡◌, ℕ, ◌+◌, List, [], ◌∷◌, ◌++◌, length, take, Option, refl, sym, ap, ◌∙◌, append_assoc, append-nil}
 use Rattle.std.proofs.Math.Seq.{take-append-add, take-append_seam}
 use Rattle.std.specs.Io.KnownBytes.{Appends}
-use Rattle.nv_stream.specs.Streams.{AppendsFront}
-use Rattle.nv_stream.proofs.StreamLemmas.{appends_none, appends_both, appends_front}
+use Rattle.nv_stream.specs.Streams.{AppendsShort}
+use Rattle.nv_stream.proofs.StreamLemmas.{appends_none, appends_both, appends_short}
 
 -- the lines were `done`, then `rest`, and `written` was added
 pub record Progress (shows here : List (List ℕ) → List ℕ → ℕ → Type 0) (lines rest : List (List ℕ)) (old now : Option (List ℕ)) : Type 0 where
@@ -46,9 +46,9 @@ module _ (shows here : List (List ℕ) → List ℕ → ℕ → Type 0) (lines r
       let first : take (length p.done) lines ≡ p.done ++ [] = ap (take (length p.done)) p.whole ∙ take-append_seam p.done rest ∙ sym (append-nil p.done) in
       (length p.done, p.written ++ [], status, rw (append-nil) p.added, rw first (p.completes [] [] status ended))
 
-  -- the next line shows this text, of which a front was added
-  pub front_there : (l : List ℕ) (then : Option (List ℕ)) (text : List ℕ) (status : ℕ) → Progress shows here lines (l ∷ rest) old now → here (l ∷ []) text status → AppendsFront now then text
-      → (count : ℕ) × (text : List ℕ) × (status : ℕ) × AppendsFront old then text × shows (take count lines) text status
-  front_there l then text status p shown added =
+  -- the next line shows this text, of which a front was added, and not all
+  pub short_there : (l : List ℕ) (then : Option (List ℕ)) (text : List ℕ) (status : ℕ) → Progress shows here lines (l ∷ rest) old now → here (l ∷ []) text status → AppendsShort now then text
+      → (count : ℕ) × (text : List ℕ) × (status : ℕ) × AppendsShort old then text × shows (take count lines) text status
+  short_there l then text status p shown added =
       let first : take (length p.done + 1) lines ≡ p.done ++ l ∷ [] = ap (take (length p.done + 1)) p.whole ∙ take-append-add p.done (l ∷ rest) 1 in
-      (length p.done + 1, p.written ++ text, status, appends_front old now then p.written text p.added added, rw first (p.completes (l ∷ []) text status shown))
+      (length p.done + 1, p.written ++ text, status, appends_short old now then p.written text p.added added, rw first (p.completes (l ∷ []) text status shown))

@@ -1,5 +1,7 @@
 pub mod Script
 pub mod Transcript
+pub mod Strict
+pub mod Shell
 pub mod Replies
 pub mod Looking
 pub mod Formatting

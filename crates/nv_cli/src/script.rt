@@ -2,17 +2,18 @@
 //!
 //! Each line's whole text is made before a byte of it is written, so a line for which memory is wanted prints nothing.
 
-ghost use Rattle.std.specs.Prelude.{◌≡◌, IfOk, IfErr, IfSome, OnErr, IsErrOf, option_map, bytes_eq, string_bytes};
+ghost use Rattle.std.specs.Prelude.{◌≡◌, ◌≢◌, IfOk, IfErr, IfSome, OnErr, MatchBool, option_map, bytes_eq, string_bytes};
 ghost use Rattle.std.specs.Io.KnownBytes.{Appends};
 ghost use Rattle.nv_super.specs.declared.superblock.SuperFault.TheVariants as SuperFault;
 ghost use Rattle.nv_text.specs.Answers.{bad_line, refused_line};
 ghost use Rattle.nv_super.specs.FaultText.{super_fault_name};
 ghost use Rattle.nv_cli.specs.Script.{ShowsScript, ShowsFrom, ShowsEnd, FromEach};
+ghost use Rattle.nv_cli.specs.Strict.{IsLast, ShowsEndBy, ShowsFromBy, HintsFromBy, ShowsStrictEnd, ShowsStrictFrom, HintsStrictFrom, state_from};
 ghost use Rattle.nv_cli.specs.Hints.{HintsScript, HintsFrom, answer_hint};
 ghost use Rattle.nv_cli.specs.Replies.{KnownReplies, RepliesTo};
 ghost use Rattle.nv_session.specs.Machine.{State, first_state, state_with};
 ghost use Rattle.nv_session.specs.Sessions.{IsSettled, Leads, StandsFor, region_in};
-ghost use Rattle.nv_cli.specs.Transcript.{WritesAll, WritesFront, WritesWhole};
+ghost use Rattle.nv_cli.specs.Transcript.{WritesAll, WritesWhole, FailsScript};
 
 use crate::hinting::{Hint, Hints, LENGTH_REFUSED, NoHints};
 use nv_line::{Line, Reason, classify, why_bad};
@@ -20,7 +21,7 @@ use nv_region::MemRegion;
 use nv_report::BadLength;
 use nv_session::Session;
 use nv_stream::{Next, ScriptError, read_line, write_text};
-use nv_text::push_bad_line;
+use nv_text::{is_refusal_line, push_bad_line};
 use std::alloc::{AllocError, Global};
 use std::io::{BufReader, Read, Write};
 use std::thread::Threads;
@@ -28,6 +29,17 @@ use std::thread::Threads;
 const BUFFER_SIZE: usize = 4096;
 
 const BAD_LINE_STATUS: u8 = 2;
+
+const REFUSED_STATUS: u8 = 2;
+
+/// What ends a script before its last line.
+#[derive(Clone, Copy, Debug, PartialEq, Eq)]
+enum Rule {
+    /// A bad line alone.
+    Lenient,
+    /// A bad line, or the first command that is refused.
+    Strict,
+}
 
 /// What a line is answered with.
 #[derive(Drop)]
@@ -48,8 +60,8 @@ enum Reply {
 /// Reads to the end of the input or to the first bad line.
 ///
 /// Errors: `Read` where the reader failed, `Write` where the writer failed, and `Memory` where a growth was refused.
-/// With each a front of the output of the lines so far was written, and with `Memory` the whole output of the lines
-/// before.
+/// With `Read` and `Memory` the whole output of the lines before was written, and with `Write` a front of it that lacks a
+/// byte at least.
 pub fn run_script<H: Threads + Sync, R: Read + Drop, W: Write>(
     rt: &H,
     alloc: Global,
@@ -58,10 +70,8 @@ pub fn run_script<H: Threads + Sync, R: Read + Drop, W: Write>(
 ) -> Result<u8, ScriptError>
     // What is written is what these lines may print, and the status the one with which they may end.
     ensures ok { IfOk result (λ status. WritesAll ShowsScript (R.remaining reader) (W.contents writer.old) (W.contents writer.new) status) }
-    // A front of what the first lines may print was written.
-    ensures err { OnErr result (WritesFront ShowsScript (R.remaining reader) (W.contents writer.old) (W.contents writer.new)) }
-    // A line whose memory was refused prints nothing.
-    ensures memory { IsErrOf result ScriptError.Memory → WritesWhole ShowsScript (R.remaining reader) (W.contents writer.old) (W.contents writer.new) }
+    // Where the writer failed, less was written than the first lines may print; with each other error all that they may print.
+    ensures err { IfErr result (λ e. FailsScript ShowsScript e (R.remaining reader) (W.contents writer.old) (W.contents writer.new)) }
 {
     run_script_with_hints(rt, alloc, reader, writer, &mut NoHints)
 }
@@ -78,14 +88,21 @@ pub fn run_script_with_hints<H: Threads + Sync, R: Read + Drop, W: Write, N: Hin
     hints: &mut N,
 ) -> Result<u8, ScriptError>
     ensures ok { IfOk result (λ status. WritesAll ShowsScript (R.remaining reader) (W.contents writer.old) (W.contents writer.new) status) }
-    ensures err { OnErr result (WritesFront ShowsScript (R.remaining reader) (W.contents writer.old) (W.contents writer.new)) }
-    ensures memory { IsErrOf result ScriptError.Memory → WritesWhole ShowsScript (R.remaining reader) (W.contents writer.old) (W.contents writer.new) }
+    ensures err { IfErr result (λ e. FailsScript ShowsScript e (R.remaining reader) (W.contents writer.old) (W.contents writer.new)) }
     // What was given is the hints of these lines, or after an error those of the first lines.
     ensures hints { IfOk result (λ status. WritesAll HintsScript (R.remaining reader) (N.told hints.old) (N.told hints.new) status) }
     ensures first_hints { OnErr result (WritesWhole HintsScript (R.remaining reader) (N.told hints.old) (N.told hints.new)) }
 {
     let mut session = Session::new();
-    run_in(rt, alloc, &mut session, reader, writer, hints)
+    run_in(
+        rt,
+        alloc,
+        Rule::Lenient,
+        &mut session,
+        reader,
+        writer,
+        hints,
+    )
 }
 
 /// How a script has ended: its exit status, and the region that there is then, if there is one.
@@ -111,13 +128,20 @@ pub fn run_script_on<H: Threads + Sync, R: Read + Drop, W: Write, N: Hints>(
     ensures ok { IfOk result (λ ended. WritesAll (ShowsEnd (state_with region.region) (option_map (λ memory. memory.region) ended.region)) (R.remaining reader) (W.contents writer.old) (W.contents writer.new) ended.status) }
     // Nothing is pending in it.
     ensures settled { IfOk result (λ ended. IfSome ended.region (λ memory. IsSettled memory)) }
-    ensures err { OnErr result (WritesFront (ShowsFrom (state_with region.region)) (R.remaining reader) (W.contents writer.old) (W.contents writer.new)) }
-    ensures memory { IsErrOf result ScriptError.Memory → WritesWhole (ShowsFrom (state_with region.region)) (R.remaining reader) (W.contents writer.old) (W.contents writer.new) }
+    ensures err { IfErr result (λ e. FailsScript (ShowsFrom (state_with region.region)) e (R.remaining reader) (W.contents writer.old) (W.contents writer.new)) }
     ensures hints { IfOk result (λ ended. WritesAll (HintsFrom (state_with region.region)) (R.remaining reader) (N.told hints.old) (N.told hints.new) ended.status) }
     ensures first_hints { OnErr result (WritesWhole (HintsFrom (state_with region.region)) (R.remaining reader) (N.told hints.old) (N.told hints.new)) }
 {
     let mut session = Session::with_region(region);
-    let status = run_in(rt, alloc, &mut session, reader, writer, hints)?;
+    let status = run_in(
+        rt,
+        alloc,
+        Rule::Lenient,
+        &mut session,
+        reader,
+        writer,
+        hints,
+    )?;
     Ok(Ended {
         status,
         region: session.into_region(),
@@ -128,47 +152,60 @@ pub fn run_script_on<H: Threads + Sync, R: Read + Drop, W: Write, N: Hints>(
 fn run_in<H: Threads + Sync, R: Read + Drop, W: Write, N: Hints>(
     rt: &H,
     alloc: Global,
+    rule: Rule,
     session: &mut Session,
     reader: R,
     writer: &mut W,
     hints: &mut N,
 ) -> Result<u8, ScriptError>
-    ensures ok { IfOk result (λ status. FromEach session.old (λ begin. WritesAll (ShowsEnd begin (region_in session.new.store)) (R.remaining reader) (W.contents writer.old) (W.contents writer.new) status)) }
-    ensures err { OnErr result (FromEach session.old (λ begin. WritesFront (ShowsFrom begin) (R.remaining reader) (W.contents writer.old) (W.contents writer.new))) }
-    ensures memory { IsErrOf result ScriptError.Memory → FromEach session.old (λ begin. WritesWhole (ShowsFrom begin) (R.remaining reader) (W.contents writer.old) (W.contents writer.new)) }
-    ensures hints { IfOk result (λ status. FromEach session.old (λ begin. WritesAll (HintsFrom begin) (R.remaining reader) (N.told hints.old) (N.told hints.new) status)) }
-    ensures first_hints { OnErr result (FromEach session.old (λ begin. WritesWhole (HintsFrom begin) (R.remaining reader) (N.told hints.old) (N.told hints.new))) }
+    ensures ok { IfOk result (λ status. FromEach session.old (λ begin. WritesAll (ShowsEndBy rule begin (region_in session.new.store)) (R.remaining reader) (W.contents writer.old) (W.contents writer.new) status)) }
+    ensures err { IfErr result (λ e. FromEach session.old (λ begin. FailsScript (ShowsFromBy rule begin) e (R.remaining reader) (W.contents writer.old) (W.contents writer.new))) }
+    ensures hints { IfOk result (λ status. FromEach session.old (λ begin. WritesAll (HintsFromBy rule begin) (R.remaining reader) (N.told hints.old) (N.told hints.new) status)) }
+    ensures first_hints { OnErr result (FromEach session.old (λ begin. WritesWhole (HintsFromBy rule begin) (R.remaining reader) (N.told hints.old) (N.told hints.new))) }
 {
     let Ok(mut reader) = BufReader::with_capacity(alloc, BUFFER_SIZE, reader) else {
         return Err(ScriptError::Memory);
     };
     let mut line = Vec::new(alloc);
-    run_lines(rt, alloc, session, &mut line, &mut reader, writer, hints)
+    run_lines(
+        rt,
+        alloc,
+        rule,
+        session,
+        &mut line,
+        &mut reader,
+        writer,
+        hints,
+    )
 }
 
 // Runs the lines of a script in a session. The line is for the bytes of one after another.
 fn run_lines<H: Threads + Sync, R: Read, W: Write, N: Hints>(
     rt: &H,
     alloc: Global,
+    rule: Rule,
     session: &mut Session,
     line: &mut Vec<u8>,
     reader: &mut R,
     writer: &mut W,
     hints: &mut N,
 ) -> Result<u8, ScriptError>
-    ensures ok { IfOk result (λ status. FromEach session.old (λ begin. WritesAll (ShowsEnd begin (region_in session.new.store)) (R.remaining reader.old) (W.contents writer.old) (W.contents writer.new) status)) }
-    ensures err { OnErr result (FromEach session.old (λ begin. WritesFront (ShowsFrom begin) (R.remaining reader.old) (W.contents writer.old) (W.contents writer.new))) }
-    ensures memory { IsErrOf result ScriptError.Memory → FromEach session.old (λ begin. WritesWhole (ShowsFrom begin) (R.remaining reader.old) (W.contents writer.old) (W.contents writer.new)) }
-    ensures hints { IfOk result (λ status. FromEach session.old (λ begin. WritesAll (HintsFrom begin) (R.remaining reader.old) (N.told hints.old) (N.told hints.new) status)) }
-    ensures first_hints { OnErr result (FromEach session.old (λ begin. WritesWhole (HintsFrom begin) (R.remaining reader.old) (N.told hints.old) (N.told hints.new))) }
+    ensures ok { IfOk result (λ status. FromEach session.old (λ begin. WritesAll (ShowsEndBy rule begin (region_in session.new.store)) (R.remaining reader.old) (W.contents writer.old) (W.contents writer.new) status)) }
+    ensures err { IfErr result (λ e. FromEach session.old (λ begin. FailsScript (ShowsFromBy rule begin) e (R.remaining reader.old) (W.contents writer.old) (W.contents writer.new))) }
+    ensures hints { IfOk result (λ status. FromEach session.old (λ begin. WritesAll (HintsFromBy rule begin) (R.remaining reader.old) (N.told hints.old) (N.told hints.new) status)) }
+    ensures first_hints { OnErr result (FromEach session.old (λ begin. WritesWhole (HintsFromBy rule begin) (R.remaining reader.old) (N.told hints.old) (N.told hints.new))) }
 {
     'lines: for number in 1..u64::MAX {
         match next_reply(rt, alloc, session, line, reader)? {
             Reply::End => return Ok(session.status()),
             Reply::Skipped => {}
             Reply::Text(text) => {
+                let ends = is_last(rule, &text);
                 write_text(writer, text.as_bytes())?;
                 hint_length(session, &text, hints);
+                if ends {
+                    return Ok(REFUSED_STATUS);
+                }
             }
             Reply::Bad(reason) => {
                 let text = bad_line_text(alloc, number)?;
@@ -188,7 +225,8 @@ fn next_reply<H: Threads + Sync, R: Read>(
     line: &mut Vec<u8>,
     reader: &mut R,
 ) -> Result<Reply, ScriptError>
-    ensures { IfOk result (λ reply. Leads (λ old new. KnownReplies (R.remaining reader.old) (R.remaining reader.new) old reply new) session.old session.new) }
+    ensures replies { IfOk result (λ reply. Leads (λ old new. KnownReplies (R.remaining reader.old) (R.remaining reader.new) old reply new) session.old session.new) }
+    ensures kind { IfErr result (λ e. e ≢ ScriptError.Write) }
 {
     match read_line(reader, line)? {
         Next::End => Ok(Reply::End),
@@ -213,7 +251,17 @@ fn answer_line<H: Threads + Sync>(
     }
 }
 
-fn bad_line_text(alloc: Global, number: u64) -> Result<String, AllocError>
+// Whether a command with this answer is the last line of the script.
+fn is_last(rule: Rule, text: &str) -> bool
+    ensures { MatchBool result (IsLast rule text.now) (IsLast rule text.now → ⊥) }
+{
+    match rule {
+        Rule::Lenient => false,
+        Rule::Strict => is_refusal_line(text.as_bytes()),
+    }
+}
+
+pub(crate) fn bad_line_text(alloc: Global, number: u64) -> Result<String, AllocError>
     ensures { IfOk result (λ text. string_bytes text ≡ bad_line number) }
 {
     let mut text = String::new(alloc);
@@ -251,15 +299,57 @@ pub fn run_script_to_end<H: Threads + Sync, R: Read + Drop, W: Write, N: Hints>(
 ) -> Result<Ended, ScriptError>
     ensures ok { IfOk result (λ ended. WritesAll (ShowsEnd first_state (option_map (λ memory. memory.region) ended.region)) (R.remaining reader) (W.contents writer.old) (W.contents writer.new) ended.status) }
     ensures settled { IfOk result (λ ended. IfSome ended.region (λ memory. IsSettled memory)) }
-    ensures err { OnErr result (WritesFront ShowsScript (R.remaining reader) (W.contents writer.old) (W.contents writer.new)) }
-    ensures memory { IsErrOf result ScriptError.Memory → WritesWhole ShowsScript (R.remaining reader) (W.contents writer.old) (W.contents writer.new) }
+    ensures err { IfErr result (λ e. FailsScript ShowsScript e (R.remaining reader) (W.contents writer.old) (W.contents writer.new)) }
     ensures hints { IfOk result (λ ended. WritesAll HintsScript (R.remaining reader) (N.told hints.old) (N.told hints.new) ended.status) }
     ensures first_hints { OnErr result (WritesWhole HintsScript (R.remaining reader) (N.told hints.old) (N.told hints.new)) }
 {
     let mut session = Session::new();
-    let status = run_in(rt, alloc, &mut session, reader, writer, hints)?;
+    let status = run_in(
+        rt,
+        alloc,
+        Rule::Lenient,
+        &mut session,
+        reader,
+        writer,
+        hints,
+    )?;
     Ok(Ended {
         status,
         region: session.into_region(),
     })
+}
+
+/// `run_script_with_hints`, where a region may be there from the start, and which ends at the first command that is refused:
+/// its exit status is 2 then. Answers the region that there is at the end, too.
+///
+/// Errors: those of `run_script`; the region is gone then.
+pub fn run_script_strictly<H: Threads + Sync, R: Read + Drop, W: Write, N: Hints>(
+    rt: &H,
+    alloc: Global,
+    region: Option<MemRegion>,
+    reader: R,
+    writer: &mut W,
+    hints: &mut N,
+) -> Result<Ended, ScriptError>
+    ensures ok { IfOk result (λ ended. WritesAll (ShowsStrictEnd (state_from (option_map (λ memory. memory.region) region)) (option_map (λ memory. memory.region) ended.region)) (R.remaining reader) (W.contents writer.old) (W.contents writer.new) ended.status) }
+    ensures settled { IfOk result (λ ended. IfSome ended.region (λ memory. IsSettled memory)) }
+    ensures err { IfErr result (λ e. FailsScript (ShowsStrictFrom (state_from (option_map (λ memory. memory.region) region))) e (R.remaining reader) (W.contents writer.old) (W.contents writer.new)) }
+    ensures hints { IfOk result (λ ended. WritesAll (HintsStrictFrom (state_from (option_map (λ memory. memory.region) region))) (R.remaining reader) (N.told hints.old) (N.told hints.new) ended.status) }
+    ensures first_hints { OnErr result (WritesWhole (HintsStrictFrom (state_from (option_map (λ memory. memory.region) region))) (R.remaining reader) (N.told hints.old) (N.told hints.new)) }
+{
+    let mut session = session_with(region);
+    let status = run_in(rt, alloc, Rule::Strict, &mut session, reader, writer, hints)?;
+    Ok(Ended {
+        status,
+        region: session.into_region(),
+    })
+}
+
+fn session_with(region: Option<MemRegion>) -> Session
+    ensures { StandsFor result (state_from (option_map (λ memory. memory.region) region)) }
+{
+    match region {
+        Some(region) => Session::with_region(region),
+        None => Session::new(),
+    }
 }

@@ -357,6 +357,16 @@ impl Session {
         }
     }
 
+    /// The region that there is, where there is one. Between two commands nothing is pending in it.
+    pub fn region(&self) -> Option<&MemRegion>
+        ensures { option_map (λ memory. memory.now.region) result ≡ region_in self.now.store }
+    {
+        match &self.store {
+            Some(store) => Some(store.memory()),
+            None => None,
+        }
+    }
+
     // What is mounted.
     fn mount(&self) -> Option<&Fs<MemRegion>>
         ensures { option_map (λ mount. mount.now) result ≡ mount_in self.now.store }

@@ -1,9 +1,9 @@
 -- One write after another, and what it adds.
-use Rattle.std.proofs.Common.{◌≡◌, ℕ, ◌+◌, ◌-◌, List, [], ◌++◌, length, take, drop, Option, Some, None, sym, ap, ◌∙◌, arith, append_assoc, append-nil, length-drop}
+use Rattle.std.proofs.Common.{◌≡◌, ℕ, ◌+◌, ◌-◌, List, [], ◌++◌, length, take, drop, Option, Some, None, sym, ap, ◌∙◌, arith, append_assoc, append-nil, length-drop, length-append}
 use Rattle.std.proofs.Math.Seq.{take-add, take-append-add, take-length}
 use Rattle.std.proofs.lemmas.List.{take_all}
 use Rattle.std.specs.Io.KnownBytes.{Appends}
-use Rattle.nv_stream.specs.Streams.{AppendsFront}
+use Rattle.nv_stream.specs.Streams.{AppendsFront, AppendsShort}
 
 -- the second write is of the rest of the text, as `&text[m..]`
 pub appends_more : (a b c : Option (List ℕ)) (text : List ℕ) (m n : ℕ) → Appends a b (take m text) → Appends b c (take n (take (length text - m) (drop m text))) → Appends a c (take (m + n) text)
@@ -30,6 +30,10 @@ appends_both (Some xs) (Some ys) (Some zs) x y p q = q ∙ ap (λ front. front +
 -- a text, and then a front of another
 pub appends_front : (a b c : Option (List ℕ)) (x y : List ℕ) → Appends a b x → AppendsFront b c y → AppendsFront a c (x ++ y)
 appends_front a b c x y p (n, q) = (length x + n, rw take-append-add (appends_both a b c x (take n y) p q))
+
+-- the same, and not all of the other
+pub appends_short : (a b c : Option (List ℕ)) (x y : List ℕ) → Appends a b x → AppendsShort b c y → AppendsShort a c (x ++ y)
+appends_short a b c x y p (n, less, q) = (length x + n, simp length-append (omega arith), rw take-append-add (appends_both a b c x (take n y) p q))
 
 -- a whole text is a front of itself
 pub front_of_whole : (old new : Option (List ℕ)) (text : List ℕ) → Appends old new text → AppendsFront old new text

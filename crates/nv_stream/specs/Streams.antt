@@ -15,6 +15,10 @@ GivesByte old new (Some b) = Consumes old new (b ∷ [])
 abbrev pub AppendsFront : Option (List ℕ) → Option (List ℕ) → List ℕ → Type 0
 AppendsFront old new text = (n : ℕ) × Appends old new (take n text)
 
+-- known bytes grow by a front of the text that lacks a byte at least
+abbrev pub AppendsShort : Option (List ℕ) → Option (List ℕ) → List ℕ → Type 0
+AppendsShort old new text = (n : ℕ) × (n < length text) × Appends old new (take n text)
+
 -- the input's first line is this one and leads to the other input, or it is too long, or there is none
 abbrev pub TakesLine : List ℕ → List ℕ → Next → List ℕ → Type 0
 TakesLine input rest Line line = (lines_of input ≡ line ∷ lines_of rest) × (length line ≤ line_limit)

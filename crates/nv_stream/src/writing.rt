@@ -2,7 +2,7 @@
 
 ghost use Rattle.std.specs.Prelude.{◌≡◌, ◌≤◌, length, take, OnOk, OnErr, IfOk, IfErr};
 ghost use Rattle.std.specs.Io.KnownBytes.{Appends, Keeps};
-ghost use Rattle.nv_stream.specs.Streams.{AppendsFront};
+ghost use Rattle.nv_stream.specs.Streams.{AppendsFront, AppendsShort};
 
 use crate::fault::ScriptError;
 use std::io::{ErrorKind, Write};
@@ -22,10 +22,11 @@ fn write_some<W: Write>(writer: &mut W, text: &[u8]) -> Result<usize, ScriptErro
     }
 }
 
-/// Writes a text. After an `Err`, which is `Write`, a front of it was written.
+/// Writes a text. After an `Err`, which is `Write`, a front of it was written, and not all of it.
 pub fn write_text<W: Write>(writer: &mut W, text: &[u8]) -> Result<(), ScriptError>
     ensures ok { OnOk result (Appends (W.contents writer.old) (W.contents writer.new) text.now) }
     ensures err { OnErr result (AppendsFront (W.contents writer.old) (W.contents writer.new) text.now) }
+    ensures short { OnErr result (AppendsShort (W.contents writer.old) (W.contents writer.new) text.now) }
     ensures kind { IfErr result (λ e. e ≡ ScriptError.Write) }
 {
     let mut written = 0;
@@ -35,5 +36,9 @@ pub fn write_text<W: Write>(writer: &mut W, text: &[u8]) -> Result<(), ScriptErr
         }
         written += write_some(writer, &text[written..])?;
     }
-    Err(ScriptError::Write)
+    if written == text.len() {
+        Ok(())
+    } else {
+        Err(ScriptError::Write)
+    }
 }

@@ -1,1 +1,4 @@
 pub mod FreeLines
+pub mod Spellings
+pub mod RefusalNames
+pub mod ListLines

@@ -1,8 +1,8 @@
 use Rattle.std.specs.Prelude.{Option}
 use Rattle.nv_region.specs.Region.{Region}
 use Rattle.nv_session.specs.Machine.{State}
-use Rattle.nv_cli.specs.Hints.{HintsFrom}
-use Rattle.nv_cli.specs.Script.{ShowsEnd, ShowsEndFrom, FromEach}
+use Rattle.nv_cli.specs.Script.{FromEach}
+use Rattle.nv_cli.specs.Strict.{ShowsEndBy, ShowsByFrom, HintsFromBy}
 use Rattle.nv_session.specs.Sessions.{StandsFor}
 use Rattle.nv_cli.proofs.HintReplies.{hints_from}
 use Rattle.nv_cli.proofs.KnownProgress.{KnownProgress}
@@ -10,7 +10,7 @@ use Rattle.nv_cli.proofs.script.run_lines.Given as goal
 
 abbrev pub invariant-lines : goal.invariant-lines
 invariant-lines g l = FromEach l.initial.session (λ begin. (state : State) × StandsFor l.session state
-    × ((region : Option Region) → KnownProgress (ShowsEnd begin region) (ShowsEndFrom l.number state region) (g.R.Read.remaining l.initial.reader) (g.R.Read.remaining l.reader)
+    × ((region : Option Region) → KnownProgress (ShowsEndBy l.rule begin region) (ShowsByFrom l.rule l.number state region) (g.R.Read.remaining l.initial.reader) (g.R.Read.remaining l.reader)
     (g.W.Write.contents l.initial.writer) (g.W.Write.contents l.writer))
-    × KnownProgress (HintsFrom begin) (hints_from l.number state) (g.R.Read.remaining l.initial.reader) (g.R.Read.remaining l.reader)
+    × KnownProgress (HintsFromBy l.rule begin) (hints_from l.rule l.number state) (g.R.Read.remaining l.initial.reader) (g.R.Read.remaining l.reader)
     (g.N.Hints.told l.initial.hints) (g.N.Hints.told l.hints))

@@ -1,0 +1,135 @@
+-- What the answer to a line of a shell says of the lines that are reached: `number` is the line's number, and `state` and `mid`
+-- are the states before and after it.
+use Rattle.std.proofs.Common.{◌≡◌, ◌+◌, ◌++◌, ℕ, List, [], ◌∷◌, Option, Some, None, refl, inl, inr, ap, sym, ◌∙◌, append-nil, string_bytes}
+use Rattle.std.specs.Prelude.{String}
+use Rattle.std.specs.declared.alloc.Global.{Global}
+use Rattle.std.specs.Io.KnownBytes.{Appends, Keeps}
+use Rattle.nv_region.specs.Region.{Region}
+use Rattle.nv_stream.specs.Known.{IfKnown}
+use Rattle.nv_stream.specs.Lines.{lines_of}
+use Rattle.nv_stream.specs.Streams.{AppendsShort, TakesKnownLine, TakesLine}
+use Rattle.nv_stream.specs.declared.reading.Next.TheVariants as nexts
+use Rattle.nv_stream.specs.declared.fault.ScriptError.{ScriptError}
+use Rattle.nv_stream.specs.declared.fault.ScriptError.TheVariants as errors
+use Rattle.nv_stream.proofs.KnownFacts.{known_map}
+use Rattle.nv_stream.proofs.StreamLemmas.{appends_none, appends_both, appends_short}
+use Rattle.nv_text.specs.Answers.{bad_line}
+use Rattle.nv_report.specs.Last.{status_of}
+use Rattle.nv_line.specs.Request.{Recover}
+use Rattle.nv_session.specs.Machine.{State, Step, state_with}
+use Rattle.nv_cli.specs.Transcript.{WritesAll, WritesShort, WritesWhole, FailsScript}
+use Rattle.nv_cli.specs.Shell.{ShowsLinesEnd, ShowsAnyLines, ShowsShell, ShowsAnyShell, Answers, KnownAnswers, AnswersLine}
+use Rattle.nv_cli.specs.declared.shell.Answer.{Answer}
+use Rattle.nv_cli.specs.declared.shell.Answer.TheVariants.{End, Text, TooLong}
+use Rattle.nv_cli.proofs.Ending.{Weaker}
+use Rattle.nv_cli.proofs.KnownProgress.{GoesOn, Ends, EndsInside}
+
+module _ (left after now then : Option (List ℕ)) (number : ℕ) (state mid : State) where
+  module _ (region : Option Region) where
+    pub shell_goes_on : (text : String Global) → KnownAnswers number left after state (Text text) mid → Appends now then (string_bytes text)
+        → IfKnown left after (λ input rest. GoesOn (ShowsLinesEnd number state region) (ShowsLinesEnd (number + 1) mid region) now then input rest)
+    shell_goes_on text answers added = known_map left after _ _ (λ input rest (r : Answers number input rest state (Text text) mid). record {
+      line = r.0;
+      first = string_bytes text;
+      read = r.1;
+      added = added;
+      step = λ more others status shown. (shown.0, inr (inr (r.2, string_bytes text, others, mid, r.3, shown.1, refl)), shown.2);
+    }) answers
+
+    ends_with : (status : ℕ) (input rest : List ℕ) → Answers number input rest state End mid → status ≡ status_of mid.last → mid.region ≡ region → Ends (ShowsLinesEnd number state region) now now input status
+    ends_with status input rest (inl none, same) is there =
+        let lines : lines_of input ≡ [] = ap lines_of none in
+        let last : status ≡ status_of state.last = is ∙ ap (λ (s : State). status_of s.last) same in
+        let here : state.region ≡ region = ap (λ (s : State). s.region) (sym same) ∙ there in
+        record { text = []; added = appends_none now; shown = rw lines (state, (refl, last, refl), here) }
+    ends_with status input rest (inr quit, same) is there =
+        let last : status ≡ status_of state.last = is ∙ ap (λ (s : State). status_of s.last) same in
+        let here : state.region ≡ region = ap (λ (s : State). s.region) (sym same) ∙ there in
+        record { text = []; added = appends_none now; shown = rw quit.1 (state, inl (refl, refl, last, refl), here) }
+
+    pub shell_ends : (status : ℕ) → KnownAnswers number left after state End mid → status ≡ status_of mid.last → mid.region ≡ region → IfKnown left after (λ input rest. Ends (ShowsLinesEnd number state region) now now input status)
+    shell_ends status answers is there = known_map left after _ _ (λ input rest (r : Answers number input rest state End mid). ends_with status input rest r is there) answers
+
+    pub too_long_ends : KnownAnswers number left after state TooLong mid → Appends now then (bad_line number) → mid.region ≡ region → IfKnown left after (λ input rest. Ends (ShowsLinesEnd number state region) now then input 2)
+    too_long_ends answers added there = known_map left after _ _ (λ input rest (r : Answers number input rest state TooLong mid).
+        let here : state.region ≡ region = ap (λ (s : State). s.region) (sym r.4) ∙ there in
+        record { text = bad_line number; added = added; shown = rw r.2 (state, inr (inl (r.3, refl, refl, refl)), here) }) answers
+
+  pub shell_ends_inside : (text : String Global) → KnownAnswers number left after state (Text text) mid → AppendsShort now then (string_bytes text) → IfKnown left after (λ input rest. EndsInside (ShowsLinesEnd number state mid.region) now then input)
+  shell_ends_inside text answers added = known_map left after _ _ (λ input rest (r : Answers number input rest state (Text text) mid). record {
+    line = r.0;
+    behind = lines_of rest;
+    text = string_bytes text;
+    status = status_of mid.last;
+    read = r.1;
+    added = added;
+    shown = (mid, inr (inr (r.2, string_bytes text, [], mid, r.3, (refl, refl, refl), sym (append-nil (string_bytes text)))), refl);
+  }) answers
+
+  pub too_long_ends_inside : KnownAnswers number left after state TooLong mid → AppendsShort now then (bad_line number) → IfKnown left after (λ input rest. EndsInside (ShowsLinesEnd number state state.region) now then input)
+  too_long_ends_inside answers added = known_map left after _ _ (λ input rest (r : Answers number input rest state TooLong mid). record {
+    line = r.0;
+    behind = r.1;
+    text = bad_line number;
+    status = 2;
+    read = r.2;
+    added = added;
+    shown = (state, inr (inl (r.3, refl, refl, refl)), refl);
+  }) answers
+
+-- ---- a line that was read
+
+pub long_line : (number : ℕ) (left after : Option (List ℕ)) (line : List ℕ) (state : State) → TakesKnownLine left after nexts.TooLong line → KnownAnswers number left after state TooLong state
+long_line number left after line state taken = known_map left after _ _ (λ input rest (t : TakesLine input rest nexts.TooLong line). (t.0, t.1, t.2, t.3, refl)) taken
+
+pub no_line : (number : ℕ) (left after : Option (List ℕ)) (line : List ℕ) (state : State) → TakesKnownLine left after nexts.End line → KnownAnswers number left after state End state
+no_line number left after line state taken = known_map left after _ _ (λ input rest (t : TakesLine input rest nexts.End line). (inl t, refl)) taken
+
+pub line_answers : (number : ℕ) (left after : Option (List ℕ)) (line : List ℕ) (old new : State) (answer : Answer) → TakesKnownLine left after nexts.Line line → AnswersLine number line old answer new → KnownAnswers number left after old answer new
+line_answers number left after line old new End taken answers = known_map left after _ _ (λ input rest (t : TakesLine input rest nexts.Line line). (inr (lines_of rest, t.0 ∙ ap (λ x. x ∷ lines_of rest) answers.0), answers.1)) taken
+line_answers number left after line old new (Text text) taken answers = known_map left after _ _ (λ input rest (t : TakesLine input rest nexts.Line line). (line, t.0, t.1, answers)) taken
+line_answers number left after line old new TooLong taken answers = absurd answers
+
+-- ---- behind the first answer
+
+pub any_lines : (begin : State) (region : Option Region) → Weaker (ShowsLinesEnd 1 begin region) (ShowsAnyLines 1 begin)
+any_lines begin region lines text status s = (s.0, s.1)
+
+-- a transcript that goes on behind a text
+abbrev Behind : List ℕ → (first second : List (List ℕ) → List ℕ → ℕ → Type 0) → Type 0
+Behind front first second = (lines : List (List ℕ)) (text : List ℕ) (status : ℕ) → first lines text status → second lines (front ++ text) status
+
+pub shell_behind : (R : Region) (workers : ℕ) (region : Option Region) (mid : State) (front : List ℕ) → Step (state_with R) (Recover workers) front mid → Behind front (ShowsLinesEnd 1 mid region) (ShowsShell R workers region)
+shell_behind R workers region mid front step lines text status s = (front, text, mid, step, s, refl)
+
+pub any_behind : (R : Region) (workers : ℕ) (mid : State) (front : List ℕ) → Step (state_with R) (Recover workers) front mid → Behind front (ShowsAnyLines 1 mid) (ShowsAnyShell R workers)
+any_behind R workers mid front step lines text status s = (s.0.region, (front, text, mid, step, (s.0, s.1, refl), refl))
+
+module _ (front : List ℕ) (first second : List (List ℕ) → List ℕ → ℕ → Type 0) (behind : Behind front first second) (old mid : Option (List ℕ)) (added : Appends old mid front) where
+  pub all_behind : (known new : Option (List ℕ)) (status : ℕ) → WritesAll first known mid new status → WritesAll second known old new status
+  all_behind None new status w = tt
+  all_behind (Some input) new status w = (front ++ w.0, appends_both old mid new front w.0 added w.1, behind _ w.0 status w.2)
+
+  short_behind : (known new : Option (List ℕ)) → WritesShort first known mid new → WritesShort second known old new
+  short_behind None new w = tt
+  short_behind (Some input) new w = (w.0, front ++ w.1, w.2, appends_short old mid new front w.1 added w.3, behind _ w.1 w.2 w.4)
+
+  whole_behind : (known new : Option (List ℕ)) → WritesWhole first known mid new → WritesWhole second known old new
+  whole_behind None new w = tt
+  whole_behind (Some input) new w = (w.0, front ++ w.1, w.2, appends_both old mid new front w.1 added w.3, behind _ w.1 w.2 w.4)
+
+  pub fails_behind : (e : ScriptError) (known new : Option (List ℕ)) → FailsScript first e known mid new → FailsScript second e known old new
+  fails_behind errors.Read known new w = whole_behind known new w
+  fails_behind errors.Write known new w = short_behind known new w
+  fails_behind errors.Memory known new w = whole_behind known new w
+
+-- the first answer wasn't written whole
+pub first_short : (R : Region) (workers : ℕ) (mid : State) (front : List ℕ) → Step (state_with R) (Recover workers) front mid → (known old new : Option (List ℕ)) → AppendsShort old new front → WritesShort (ShowsAnyShell R workers) known old new
+first_short R workers mid front step None old new added = tt
+first_short R workers mid front step (Some input) old new added =
+    (0, front, status_of mid.last, added, (mid.region, (front, [], mid, step, (mid, (refl, refl, refl), refl), sym (append-nil front))))
+
+-- nothing was written
+pub keeps_same : (known : Option (List ℕ)) → Keeps known known
+keeps_same None = tt
+keeps_same (Some bytes) = refl
