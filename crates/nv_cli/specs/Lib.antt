@@ -1,6 +1,7 @@
 pub mod Script
 pub mod Transcript
 pub mod Replies
+pub mod Sent
 pub mod Looking
 pub mod Formatting
 pub mod Cleaning

@@ -15,7 +15,7 @@ mod script;
 
 pub use cleaning::{Cleaned, clean_image};
 pub use files::region_of_file;
-pub use formatting::{Formatted, format_image};
+pub use formatting::{Formatted, format_image, format_limits};
 pub use hinting::{Hint, Hints, LENGTH_REFUSED};
 pub use laws::one_transcript;
 pub use looking::{cat_image, list_image, stat_image};
