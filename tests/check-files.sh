@@ -5,7 +5,7 @@
 # Prints a line for each difference, and closes with 'N passed, M failed'.
 set -u
 source "$(dirname "${BASH_SOURCE[0]}")/parts.sh" || exit 2
-program=$built
+program=${NOVA:-$built}
 needs_program "$program"
 chmod 755 "$folder"
 newline=$'\n'
@@ -44,7 +44,8 @@ expect_script() {
 expect "an empty file" 2 "refused S1" "it has 0 bytes; $lengths" "$program" check "$folder/empty"
 expect "100 bytes" 2 "refused S1" "it has 100 bytes; $lengths" "$program" check "$folder/short"
 expect "100 bytes, 64 workers" 2 "refused S1" "it has 100 bytes; $lengths" "$program" check "$folder/short" --workers 64
-expect "a file of zeros as long as the longest region" 2 "refused S2" "" "$program" check "$folder/longest"
+magic="that of a region is 3544417913829478222, the text NOVAPM01"
+expect "a file of zeros as long as the longest region" 2 "refused S2" "its first word is 0; $magic" "$program" check "$folder/longest"
 expect "a file longer than a region can be" 2 "refused S1" "it has 268435457 bytes; $lengths" "$program" check "$folder/longer"
 expect "a path of more than 600 bytes" 2 "refused S1" "it has 100 bytes; $lengths" "$program" check "$folder/${long_way}short"
 expect "a pipe that is longer than a region can be" 2 "refused S1" "it has more than 268435456 bytes; $lengths" \
@@ -55,6 +56,66 @@ expect "a file in the place of a folder" 2 "" "cannot read $folder/short/a${newl
     "$program" check "$folder/short/a"
 expect "a path that isn't UTF-8" 2 "" "cannot read $folder/a${replacement}b${newline}its path isn't UTF-8" \
     "$program" check "$not_utf8" --workers 2
+# What an image is refused for: what was found, and what is taken.
+"$program" mkfs "$folder/region" --blocks 16 --cpus 1 --tables 1
+# word AT VALUE: the region, with this word of less than 256 there.
+word() {
+    cp "$folder/region" "$folder/changed"
+    # shellcheck disable=SC2059
+    printf "\\$(printf '%o' "$2")\\0\\0\\0\\0\\0\\0\\0" | dd of="$folder/changed" bs=1 seek="$1" conv=notrunc status=none
+}
+word 0 1
+expect "another magic" 2 "refused S2" "its first word is 1; $magic" "$program" check "$folder/changed"
+word 8 9
+expect "another version" 2 "refused S3" "its version is 9; 1 is taken" "$program" check "$folder/changed"
+word 16 65
+expect "too many CPUs" 2 "refused S4" "it has 65 CPUs; a region has 1 to 64" "$program" check "$folder/changed"
+word 24 17
+expect "another number of blocks" 2 "refused S5" "it was cut or made longer: it tells 17 blocks, and has 16" "$program" check "$folder/changed"
+word 32 14
+expect "too many table blocks" 2 "refused S6" \
+    "a CPU has 1 to 64 table blocks, and a block is left for data; it has 1 CPUs, 14 table blocks for each, and 16 blocks" \
+    "$program" check "$folder/changed"
+word 40 2
+expect "another state" 2 "refused S7" "its state is 2; 0 and 1 are taken" "$program" check "$folder/changed"
+expect "another state, listed" 2 "" "refused S7${newline}its state is 2; 0 and 1 are taken" "$program" ls "$folder/changed"
+expect "another state, mapped" 2 "" "refused S7${newline}its state is 2; 0 and 1 are taken" "$program" map "$folder/changed"
+head -c 65536 /dev/zero >"$folder/other"
+printf '\123\357' | dd of="$folder/other" bs=1 seek=1080 conv=notrunc status=none
+expect "an image of ext4" 2 "refused S2" "its first word is 0; $magic${newline}by its first bytes it is an image of ext2, ext3 or ext4" \
+    "$program" check "$folder/other"
+printf 'XFSB' | dd of="$folder/other" bs=1 conv=notrunc status=none
+expect "an image of XFS" 2 "refused S2" "its first word is 1112753752; $magic${newline}by its first bytes it is an image of XFS" \
+    "$program" check "$folder/other"
+gzip -c "$folder/region" >"$folder/packed"
+expect "a compressed image" 2 "refused S1" \
+    "it has $(stat -c %s "$folder/packed") bytes; $lengths${newline}by its first bytes it is compressed by gzip" "$program" check "$folder/packed"
+expect "a name that isn't there" 2 "" "refused NotFound" "$program" cat "$folder/region" /none
+
+# Numbers that no region has.
+expect "too few blocks" 2 "" "refused Length${newline}a region has 8 to 65536 blocks" "$program" mkfs "$folder/new" --blocks 7 --cpus 1 --tables 1
+expect "65 CPUs" 2 "" "refused Cpus${newline}a region has 1 to 64 CPUs" "$program" mkfs "$folder/new" --blocks 8 --cpus 65 --tables 1
+expect "no room for the tables" 2 "" \
+    "refused Tables${newline}a CPU has 1 to 64 table blocks, and a region more blocks than 1 + CPUs + CPUs * table blocks" \
+    "$program" mkfs "$folder/new" --blocks 8 --cpus 1 --tables 6
+
+# Control characters are shown as escapes, and other letters as they are.
+expect "a path with control characters" 2 "" "cannot read $folder/\\x1b[31mred\\x0a\\x7f\\xc2\\x9bö${newline}no such file" \
+    "$program" check "$folder/"$'\e[31mred\n\x7f\xc2\x9bö'
+expect "a path with letters of several bytes" 2 "" "cannot read $folder/ö©${newline}no such file" "$program" check "$folder/ö©"
+
+# Standard input and output by `-`.
+expect "an image on standard input" 0 "no faults" "" bash -c '"$1" check - --only-faults <"$2"' bash "$program" "$folder/region"
+expect "an image from a pipe" 0 "no faults" "" bash -c 'cat "$2" | "$1" check - --only-faults' bash "$program" "$folder/region"
+expect "a file named -" 2 "" "cannot read ./-${newline}no such file" "$program" check ./-
+expect "a script on standard input" 0 "ok" "" bash -c 'echo "time 7" | "$1" run -' bash "$program"
+expect "a region on standard output" 0 "32768" "ok" bash -c 'echo "format 1 8 1" | "$1" run --save - | wc -c' bash "$program"
+expect "a drawing on standard output" 0 "<svg </svg>" "" bash -c '"$1" map "$2" --svg - | sed -n "1s/ .*/ /p; \$p" | tr -d "\n"' bash "$program" "$folder/region"
+expect "a new image on standard output" 0 "same" "" bash -c '"$1" mkfs - --blocks 16 --cpus 1 --tables 1 | cmp - "$2" && echo same' bash "$program" "$folder/region"
+expect "a clean image from input to output" 0 "same" "cleaned pages 0" \
+    bash -c '"$1" clean - <"$2" | cmp - "$2" && echo same' bash "$program" "$folder/region"
+expect "cleaning another state" 2 "" "refused S7${newline}its state is 2; 0 and 1 are taken" "$program" clean "$folder/changed"
+
 # The program is copied, since others may not reach the folder that it stands in.
 cp "$program" "$folder/nova"
 as_other=(setpriv --reuid 65534 --regid 65534 --clear-groups)

@@ -93,7 +93,7 @@ def map_of(report):
 def mapped(program, image):
     """What `nova map` prints of an image, and the faults that it counts."""
     done = subprocess.run([program, "map", image], capture_output=True, text=True)
-    told = re.search(r"has faults, which nova check tells: (\d+)", done.stderr)
+    told = re.search(r"has faults, which nova check shows: (\d+)", done.stderr)
     return done.stdout, int(told[1]) if told else 0
 
 

@@ -78,6 +78,30 @@ for command in run check mkfs clean ls stat cat map explain; do
     done < <("$program" $command --help 2>&1 | sed -nE '1p; s/^ +(-[^ ]+|<[a-z]+>|\[[a-z]+\])( <[a-z]+>)?  +//p' | grep -v '^Print help')
 done
 
+# The version, on standard output; and the help of a command, asked for in the other way.
+for word in --version -V; do
+    same "nova $word" "$(sed -n 's/^pub const VERSION: &str = "\(.*\)";$/\1/p' crates/nv_args/src/version.rt | sed 's/\\n/\n/')" "$("$program" $word 2>/dev/null)"
+    "$program" $word >/dev/null
+    same "status of nova $word" 0 $?
+done
+if command -v rt >/dev/null; then
+    kit=$(cut -d' ' -f1 "$(dirname "$(dirname "$(readlink -f "$(command -v rt)")")")/KIT-ID")
+    same "the kit of the version" "proved by $kit" "$("$program" -V | tail -n 1)"
+fi
+same "nova help" "$("$program" --help 2>&1)" "$("$program" help 2>&1)"
+same "nova help check" "$("$program" check --help 2>&1)" "$("$program" help check 2>&1)"
+
+# The completions of bash are made from the help, and complete commands, options, classes and files.
+same "docs/nova.bash" "$(tests/completions.py "$program")" "$(cat docs/nova.bash)"
+completed() {
+    bash -c 'source docs/nova.bash; COMP_WORDS=("$@"); COMP_CWORD=$(($# - 1)); _nova; printf "%s\n" "${COMPREPLY[@]}"' bash "$@" | sort | xargs
+}
+same "completions of ma" map "$(completed nova ma)"
+same "completions of an option" "--summary" "$(completed nova check d.img --s)"
+same "completions of a class" "L1 L2 L3 L4" "$(completed nova explain L)"
+same "completions of a file" "examples/first.nova" "$(completed nova run examples/fi)"
+same "completions of a number" "" "$(completed nova check --workers "")"
+
 # What `nova explain` says of each class stands in docs/FAULTS.md: its title, and what it means.
 sections=$(tr -d '`' <docs/FAULTS.md)
 classes=$("$program" explain none 2>&1 | sed -n 's/^the classes are //p')

@@ -1,7 +1,8 @@
 #!/usr/bin/env bash
 # Tries that `nova mkfs`, `nova run --save`, `nova clean` and `nova map --svg` write a file whole or leave what was there. So it
 # is on a full disk, past a limit of the system, where the last step is refused, in a folder that can't be written, on what is
-# no file, and with a stop at each system call that writes.
+# no file, on what the command reads, over what was changed meanwhile, by several runs at once, and with a stop at each system
+# call that writes.
 #
 #     tests/save-files.sh [PROGRAM]     prints a line for each difference, and closes with 'N passed, M failed'
 #
@@ -59,17 +60,18 @@ same "cat" hi "$("$program" cat "$room/image" /hello)"
 same "ls" "hello 2" "$("$program" ls "$room/image")"
 told "no file is written without --save" 0 ok "" run "$grown" --image "$room/image"
 unchanged "no file is written without --save"
-told "a script's own region is saved" 0 ok "" run "$grown" --save "$room/image"
+told "a script's own region is saved by force" 0 ok "" run "$grown" --force --save "$room/image"
 same "a script's own region is saved: its length" 262144 "$(stat -c %s "$room/image")"
 same "a script's own region is saved: the folder" image "$(ls "$room")"
 
-# A drawing has the cells of the text, and takes the place of a file that is there.
+# A drawing has the cells of the text, and takes the place of a file that is there by force.
 begin
 echo old >"$folder/drawing"
 told "map" 0 "SSSLLD..........
-blocks in a cell 1: . free, S system, D data, L log, ! doubled" "" map "$room/image" --svg "$folder/drawing"
+blocks in a cell 1: . free, S system, D data, L log, ! doubled" "" map "$room/image" --svg "$folder/drawing" --force
 same "map: the drawing" "3 #7f7f7f 2 #59a14f 1 #4c8ed9 10 #e6e6e6" "$(sed -n 's/^<rect .*fill="\(.*\)".*/\1/p' "$folder/drawing" | head -n 16 | uniq -c | xargs)"
-told "map of no region" 2 "refused S1" "it has 4 bytes; a region has a multiple of 4096, from 32768 to 268435456" map "$folder/short" --svg "$folder/none"
+told "map of no region" 2 "" "refused S1
+it has 4 bytes; a region has a multiple of 4096, from 32768 to 268435456" map "$folder/short" --svg "$folder/none"
 same "map of no region: the drawing" "" "$(ls "$folder/none" 2>/dev/null)"
 unchanged "map"
 
@@ -97,9 +99,9 @@ begin_overwritten
 listed=$("$program" ls "$room/image")
 free=$("$program" check "$room/image" | grep '^free')
 told "clean of a log that needs its pages" 0 "cleaned pages 0" "" clean "$room/image" /hello
-told "clean of what isn't there" 2 "refused NotFound" "" clean "$room/image" /none
-told "clean of no directory" 2 "refused NotDirectory" "" clean "$room/image" /hello/a
-told "clean of no path" 2 "refused BadName" "" clean "$room/image" a
+told "clean of what isn't there" 2 "" "refused NotFound" clean "$room/image" /none
+told "clean of no directory" 2 "" "refused NotDirectory" clean "$room/image" /hello/a
+told "clean of no path" 2 "" "refused BadName" clean "$room/image" a
 unchanged "clean of other logs"
 told "clean of a log" 0 "cleaned pages 1" "" clean "$room/image" /a
 same "clean of a log: the folder" image "$(ls "$room")"
@@ -118,11 +120,12 @@ same "clean again: the file's time" 1000000000 "$(stat -c %Y "$room/image")"
 unchanged "clean again"
 cp "$here/examples/ring.img" "$room/image"
 old=$(sum "$room/image")
-told "clean of an image with faults" 2 "refused ReadOnly" "" clean "$room/image"
+told "clean of an image with faults" 2 "" "refused ReadOnly" clean "$room/image"
 unchanged "clean of an image with faults"
-told "clean of an image with faults by a path" 2 "refused ReadOnly" "" clean "$room/image" a
+told "clean of an image with faults by a path" 2 "" "refused ReadOnly" clean "$room/image" a
 unchanged "clean of an image with faults by a path"
-told "clean of no region" 2 "refused S1" "it has 4 bytes; a region has a multiple of 4096, from 32768 to 268435456" clean "$folder/short"
+told "clean of no region" 2 "" "refused S1
+it has 4 bytes; a region has a multiple of 4096, from 32768 to 268435456" clean "$folder/short"
 told "clean of what isn't there" 2 "" "cannot read $room/none
 no such file" clean "$room/none"
 
@@ -130,11 +133,13 @@ no such file" clean "$room/none"
 begin
 told "mkfs over a file" 2 "" "cannot write $room/image: it is there already; --force replaces it" mkfs "$room/image" --blocks 8 --cpus 1 --tables 1
 unchanged "mkfs over a file"
-told "mkfs of no region" 2 "refused Cpus" "" mkfs "$room/image" --force --blocks 8 --cpus 65 --tables 1
+told "mkfs of no region" 2 "" "refused Cpus
+a region has 1 to 64 CPUs" mkfs "$room/image" --force --blocks 8 --cpus 65 --tables 1
 unchanged "mkfs of no region"
-told "mkfs of no length" 2 "refused Length" "" mkfs "$room/other" --blocks 7 --cpus 65 --tables 0
+told "mkfs of no length" 2 "" "refused Length
+a region has 8 to 65536 blocks" mkfs "$room/other" --blocks 7 --cpus 65 --tables 0
 unchanged "mkfs of no length"
-told "saving no region" 2 "" "cannot write $room/image: there is no region" run /dev/null --save "$room/image"
+told "saving no region" 2 "" "cannot write $room/image: there is no region" run /dev/null --force --save "$room/image"
 unchanged "saving no region"
 told "an image that isn't there" 2 "" "cannot read $room/none
 no such file" run "$grown" --image "$room/none" --save "$room/image"
@@ -153,14 +158,15 @@ mkfifo "$room/pipe"
 ln -s none "$room/link"
 for target in folder pipe; do
     told "mkfs --force over a $target" 2 "" "cannot write $room/$target: it isn't a file" mkfs "$room/$target" --force --blocks 8 --cpus 1 --tables 1
-    told "saving over a $target" 2 ok "cannot write $room/$target: it isn't a file" run "$grown" --save "$room/$target"
+    told "saving over a $target" 2 "" "cannot write $room/$target: it isn't a file" run "$grown" --save "$room/$target"
 done
 told "mkfs over a link" 2 "" "cannot write $room/link: it is there already; --force replaces it" mkfs "$room/link" --blocks 8 --cpus 1 --tables 1
 same "nothing but a file is replaced" "folder image link pipe" "$(cd "$room" && echo *)"
 rm -r "${room:?}/folder" "$room/pipe" "$room/link"
 ln "$room/image" "$room/second"
 ln -s image "$room/link"
-told "saving over a link" 0 ok "" run "$grown" --save "$room/link"
+told "saving over a link" 2 "" "cannot write $room/link: it is there already; --force replaces it" run "$grown" --save "$room/link"
+told "saving over a link by force" 0 ok "" run "$grown" --force --save "$room/link"
 same "saving over a link: what it led to" "$old" "$(sum "$room/image")"
 told "mkfs --force over a file with two names" 0 "" "" mkfs "$room/image" --force --blocks 8 --cpus 1 --tables 1
 same "mkfs --force over a file with two names: the other" "$old" "$(sum "$room/second")"
@@ -170,7 +176,7 @@ begin
 (
     trap '' XFSZ
     ulimit -f 128
-    "$program" run "$grown" --save "$room/image" >/dev/null 2>"$folder/err"
+    "$program" run "$grown" --force --save "$room/image" >/dev/null 2>"$folder/err"
 )
 same "past a limit: status" 2 $?
 same "past a limit: errors" "cannot write $room/image: File too large (os error 27)" "$(cat "$folder/err")"
@@ -178,7 +184,7 @@ unchanged "past a limit"
 (
     ulimit -c 0
     ulimit -f 128
-    "$program" run "$grown" --save "$room/image"
+    "$program" run "$grown" --force --save "$room/image"
 ) >/dev/null 2>&1
 same "killed at a limit: the image" "$old" "$(sum "$room/image")"
 
@@ -190,7 +196,7 @@ if [ "$(id -u)" = 0 ]; then
     as_other=(setpriv --reuid 65534 --regid 65534 --clear-groups)
 fi
 if "${as_other[@]}" test -x "$program" 2>/dev/null; then
-    for words in "run $grown --save" "mkfs --blocks 8 --cpus 1 --tables 1 --force"; do
+    for words in "run $grown --force --save" "mkfs --blocks 8 --cpus 1 --tables 1 --force"; do
         # shellcheck disable=SC2086
         "${as_other[@]}" "$program" $words "$room/image" >/dev/null 2>"$folder/err"
         same "in a folder that can't be written: status" 2 $?
@@ -201,7 +207,7 @@ else
     echo "left out: a folder that can't be written; no other user can run the program"
 fi
 chmod 755 "$room"
-told "in no folder" 2 ok "cannot write $room/none/image: no such directory" run "$grown" --save "$room/none/image"
+told "in no folder" 2 "" "cannot write $room/none/image: no such directory" run "$grown" --save "$room/none/image"
 unchanged "in no folder"
 
 # A full disk.
@@ -211,7 +217,7 @@ if mount -t tmpfs -o size=128k none "$folder/disk" 2>/dev/null; then
     "$program" mkfs "$disk/image" --blocks 16 --cpus 1 --tables 1
     old=$(sum "$disk/image")
     room=$disk
-    told "on a full disk" 2 ok "cannot write $disk/image: the disk is full" run "$grown" --save "$disk/image"
+    told "on a full disk" 2 ok "cannot write $disk/image: the disk is full" run "$grown" --force --save "$disk/image"
     unchanged "on a full disk"
     told "mkfs on a full disk" 2 "" "cannot write $disk/image: the disk is full" mkfs "$disk/image" --force --blocks 64 --cpus 1 --tables 1
     unchanged "mkfs on a full disk"
@@ -226,34 +232,179 @@ else
     echo "left out: a full disk; no file system can be mounted"
 fi
 
+# No command puts a file in the place of one that it reads, by whatever name; nothing is done then.
+begin
+ln "$room/image" "$room/second"
+ln -s image "$room/link"
+for target in image second link; do
+    for force in "" --force; do
+        # shellcheck disable=SC2086
+        told "a drawing over its image, $target $force" 2 "" "cannot write $room/$target: this command reads it; give another name" map "$room/image" --svg "$room/$target" $force
+    done
+done
+same "a drawing over its image" "$old$old" "$(sum "$room/image")$(sum "$room/second")"
+cp "$grown" "$room/script"
+script=$(sum "$room/script")
+told "saving over the script" 2 "" "cannot write $room/script: this command reads it; give another name" run "$room/script" --save "$room/script" --force
+"$program" run --save "$room/script" --force <"$room/script" >"$folder/out" 2>"$folder/err"
+same "saving over a script on standard input: status" 2 $?
+same "saving over a script on standard input: errors" "cannot write $room/script: this command reads it; give another name" "$(cat "$folder/err")"
+same "saving over the script: nothing is done" "$script" "$(cat "$folder/out")$(sum "$room/script")"
+same "no command replaces what it reads" "image link script second" "$(cd "$room" && echo *)"
+
+# Another file is replaced by force alone, and the image that the region comes from without.
+begin
+echo old >"$room/other"
+told "saving over another file" 2 "" "cannot write $room/other: it is there already; --force replaces it" run "$grown" --save "$room/other"
+told "a drawing over another file" 2 "" "cannot write $room/other: it is there already; --force replaces it" map "$room/image" --svg "$room/other"
+same "another file" old "$(cat "$room/other")"
+told "saving over the image" 0 ok "" run "$grown" --image "$room/image" --save "$room/image"
+same "saving over the image: its length" 262144 "$(stat -c %s "$room/image")"
+
+# waiting SCRIPT WORD..: a run whose script ends only when `go_on` is called.
+waiting() {
+    local script=$1
+    shift
+    rm -f "$folder/pipe" "$folder/first"
+    mkfifo "$folder/pipe"
+    "$program" run "$@" <"$folder/pipe" >"$folder/first" 2>"$folder/first-err" &
+    first=$!
+    exec 9>"$folder/pipe"
+    echo "$script" >&9
+    while [ ! -s "$folder/first" ] && kill -0 "$first" 2>/dev/null; do sleep 0.01; done
+}
+go_on() {
+    exec 9>&-
+    wait "$first"
+}
+
+# Of two runs that are to replace one image the second is refused, by whatever name.
+begin
+ln -s image "$room/link"
+waiting 'recover 1' --image "$room/image" --save "$room/image"
+told "an image in use" 2 "" "cannot write $room/image: in use by another run, which is to replace it" run "$grown" --image "$room/image" --save "$room/image"
+told "an image in use by a link" 2 "" "cannot write $room/link: in use by another run, which is to replace it" run "$grown" --force --save "$room/link"
+told "mkfs of an image in use" 2 "" "cannot write $room/image: in use by another run, which is to replace it" mkfs "$room/image" --force --blocks 8 --cpus 1 --tables 1
+told "clean of an image in use" 2 "" "cannot write $room/image: in use by another run, which is to replace it" clean "$room/image"
+told "an image in use is read" 0 "hello 2" "" ls "$room/image"
+echo 'mkdir 0 /d' >&9
+go_on
+same "an image in use: status of the first" 0 $?
+same "an image in use: what the first saved" "d 3 hello 2" "$("$program" ls "$room/image" | xargs)"
+rm "$room/link"
+same "an image in use: the folder" image "$(ls "$room")"
+
+# Eight at once, each with a name of its own: as many names are there as runs ended with status 0.
+begin
+for number in 1 2 3 4 5 6 7 8; do
+    printf 'recover 1\ncreate 0 /n%d\n' $number >"$folder/s$number"
+    (
+        "$program" run "$folder/s$number" --image "$room/image" --save "$room/image" >/dev/null 2>"$folder/e$number"
+        echo $? >"$folder/status$number"
+    ) &
+done
+wait
+ended=$(cat "$folder"/status? | grep -cx 0)
+same "eight at once: those that are done" "$ended" "$("$program" ls "$room/image" | grep -c '^n')"
+same "eight at once: the others" "$((8 - ended))" "$(cat "$folder"/e? | grep -cE 'in use|changed meanwhile')"
+same "eight at once: one is done" 1 "$((ended > 0))"
+
+# An image that is changed meanwhile is not replaced, and the new one stays beside it.
+begin
+waiting 'format 1 64 1' --image "$room/image" --save "$room/image"
+cp "$folder/drawing" "$room/moved"
+mv "$room/moved" "$room/image"
+go_on
+same "an image is replaced meanwhile: status" 2 $?
+same "an image is replaced meanwhile: errors" "cannot write $room/image: changed meanwhile; the new file is $room/image.new-0" "$(cat "$folder/first-err")"
+same "an image is replaced meanwhile: what is there" "$(sum "$folder/drawing")" "$(sum "$room/image")"
+same "an image is replaced meanwhile: the new one" 262144 "$(stat -c %s "$room/image.new-0")"
+begin
+waiting 'format 1 64 1' --image "$room/image" --save "$room/image"
+printf x | dd of="$room/image" bs=1 conv=notrunc status=none
+changed=$(sum "$room/image")
+go_on
+same "an image is written to meanwhile" "cannot write $room/image: changed meanwhile; the new file is $room/image.new-0" "$(cat "$folder/first-err")"
+same "an image is written to meanwhile: what is there" "$changed" "$(sum "$room/image")"
+begin
+waiting 'format 1 64 1' --save "$room/new"
+echo other >"$room/new"
+go_on
+same "a file comes meanwhile" "cannot write $room/new: changed meanwhile; the new file is $room/new.new-0" "$(cat "$folder/first-err")"
+same "a file comes meanwhile: what is there" other "$(cat "$room/new")"
+
+# What a killed run has left is named by the next one, which goes round it, and one that is empty isn't.
+begin
+echo left >"$room/image.new-0"
+: >"$room/other.new-0"
+told "a file is left" 0 ok "$room/image.new-0 was left by a run that was stopped; it can be removed" run "$grown" --image "$room/image" --save "$room/image"
+told "an empty file is left" 0 ok "" run "$grown" --save "$room/other"
+same "a file is left: the folder" "image image.new-0 other other.new-0" "$(cd "$room" && echo *)"
+begin_overwritten
+echo left >"$room/image.new-0"
+told "a file is left where an image is cleaned" 0 "cleaned pages 1" "$room/image.new-0 was left by a run that was stopped; it can be removed" clean "$room/image"
+
+# Names of up to 255 bytes, also where a letter of several bytes would be cut.
+begin
+for longest in "$(printf 'a%.0s' {1..255})" "$(printf 'a%.0s' {1..246})$(printf '\303\251%.0s' {1..4})"; do
+    told "a name of ${#longest} letters" 0 ok "" run "$grown" --save "$room/$longest"
+    told "a name of ${#longest} letters again" 0 ok "" run "$grown" --image "$room/$longest" --save "$room/$longest"
+    same "a name of ${#longest} letters: its length" 262144 "$(stat -c %s "$room/$longest")"
+    rm "$room/$longest"
+done
+unchanged "names of 255 bytes"
+
+# Refusals stand among the errors, so that none ends in what is redirected.
+begin
+told "cat of nothing" 2 "" "refused NotFound" cat "$room/image" /none
+told "ls of a file" 2 "" "refused NotDirectory" ls "$room/image" /hello
+told "stat of nothing" 2 "" "refused NotFound" stat "$room/image" /none
+told "cat of a directory" 2 "" "refused IsDirectory" cat "$room/image" /
+told "cat of no region" 2 "" "refused S1
+it has 4 bytes; a region has a multiple of 4096, from 32768 to 268435456" cat "$folder/short" /a
+
 # Each system call that writes is refused, and then the program is killed there. $new is what it would have written.
 begin
 "$program" run "$grown" --save "$folder/new" >/dev/null
 new=$(sum "$folder/new")
 if strace -o /dev/null true 2>/dev/null; then
-    for call in openat write fsync fchmod rename; do
-        begin
+    save=(run "$grown" --force --save "$room/image")
+    opened=$(strace -e trace=openat "$program" "${save[@]}" 2>&1 >/dev/null | grep -n 'image.new-' | cut -d: -f1)
+    # The first is opened before the script runs, to see whether it can be.
+    same "how often a new file is opened" 2 "$(wc -w <<<"$opened")"
+    for call in openat-first openat-last write fsync fchmod rename; do
         # Of `write` and `openat` those on the new file: the second `write`, since the script's answer is the first.
         when=1
-        [ "$call" != write ] || when=2
-        [ "$call" != openat ] || when=$(strace -e trace=openat "$program" run "$grown" --save "$room/image" 2>&1 >/dev/null | grep -n 'image.new-' | cut -d: -f1)
+        case $call in
+            write) when=2 ;;
+            openat-first) when=$(head -n 1 <<<"$opened") ;;
+            openat-last) when=$(tail -n 1 <<<"$opened") ;;
+        esac
+        call=${call%-*}
         begin
-        strace -qq -o /dev/null -e trace="$call" -e inject="$call:error=EIO:when=$when" "$program" run "$grown" --save "$room/image" >/dev/null 2>"$folder/err"
+        strace -qq -o /dev/null -e trace="$call" -e inject="$call:error=EIO:when=$when" "$program" "${save[@]}" >/dev/null 2>"$folder/err"
         same "$call is refused: status" 2 $?
         same "$call is refused: errors" "cannot write $room/image: Input/output error (os error 5)" "$(cat "$folder/err")"
         unchanged "$call is refused"
-        strace -qq -o /dev/null -e trace="$call" -e inject="$call:error=EIO:signal=KILL:when=$when" "$program" run "$grown" --save "$room/image" >/dev/null 2>&1
+        strace -qq -o /dev/null -e trace="$call" -e inject="$call:error=EIO:signal=KILL:when=$when" "$program" "${save[@]}" >/dev/null 2>&1
         same "killed at $call: the image" "$old" "$(sum "$room/image")"
     done
     begin
-    strace -qq -o /dev/null -e trace=rename -e inject=rename:delay_exit=1:signal=KILL "$program" run "$grown" --save "$room/image" >/dev/null 2>&1
+    strace -qq -o /dev/null -e trace=rename -e inject=rename:delay_exit=1:signal=KILL "$program" "${save[@]}" >/dev/null 2>&1
     found=$(sum "$room/image")
     [ "$found" = "$old" ] || [ "$found" = "$new" ]
     same "killed as it is put in its place" 0 $?
-    for call in openat write fsync fchmod rename; do
-        begin_overwritten
+    begin_overwritten
+    opened=$(strace -e trace=openat "$program" clean "$room/image" 2>&1 >/dev/null | grep -n 'image.new-' | cut -d: -f1)
+    same "how often clean opens a new file" 2 "$(wc -w <<<"$opened")"
+    for call in openat-first openat-last write fsync fchmod rename; do
+        # Its answer is written after the new file.
         when=1
-        [ "$call" != openat ] || when=$(strace -e trace=openat "$program" clean "$room/image" 2>&1 >/dev/null | grep -n 'image.new-' | cut -d: -f1)
+        case $call in
+            openat-first) when=$(head -n 1 <<<"$opened") ;;
+            openat-last) when=$(tail -n 1 <<<"$opened") ;;
+        esac
+        call=${call%-*}
         begin_overwritten
         strace -qq -o /dev/null -e trace="$call" -e inject="$call:error=EIO:when=$when" "$program" clean "$room/image" >"$folder/out" 2>"$folder/err"
         same "clean, $call is refused: status" 2 $?

@@ -1,52 +1,73 @@
 //! Cleaning the logs of the image in a file.
 
 use crate::saving::{region_of, save_region};
-use nv_cli::{Cleaned, MemRegion, clean_image};
+use nv_cli::{Cleaned, clean_image};
 use nv_images::{
-    Failure, Image, Target, image_at, refuse_length, tell_length, tell_refused_length,
+    Failure, Held, Image, Lock, Target, hold, image_at, refuse_length, see_ready, tell_length,
+    tell_unaccepted, why_refused,
 };
 use nv_stream::write_text;
 use std::io;
+use std::io::Write;
 use std::rt::Files;
 
 /// Takes the pages out of the logs of an image that they can do without, of the inode that a path leads to or of all, and
-/// prints how many went, or why none may go. Where some went, the image is written to its place; else the file isn't touched.
-/// Answers the exit status, 0 or 2.
-pub(crate) fn clean<'a, H: Files + AllocGlobal + Print + Eprint>(
+/// prints how many went, or says among the errors why none may go. Where some went, the image is written to its place, which is
+/// held from the start; else the file isn't touched. An image on standard input is written to standard output in any case, and
+/// what is printed goes to the errors. Answers the exit status, 0 or 2.
+pub(crate) fn clean<'a, H: Files + AllocGlobal + Print + Eprint, E: Write>(
     rt: &H,
-    target: Target<'a>,
+    errors: &mut E,
+    image: &'a str,
     path: Option<&'a str>,
-) -> Result<u8, Failure<'a>> {
-    match image_at(rt, target.path)? {
+) -> Result<u8, Failure<'a>>
+where
+    H::File: Lock,
+{
+    let target = Target {
+        path: image,
+        force: true,
+    };
+    let held = hold(rt, target)?;
+    match image_at(rt, image)? {
         Image::Bytes(bytes) => {
-            let length = bytes.len() as u64;
+            let why = why_refused(rt.alloc(), &bytes);
             let region = region_of(rt.alloc(), bytes)?;
-            let status = clean_region(rt, target, region, path)?;
-            tell_refused_length(rt, status, length);
-            Ok(status)
+            let cleaned = clean_image(rt.alloc(), region, path.map(|path| path.as_bytes()))?;
+            end_cleaning(rt, errors, &held, &cleaned)?;
+            tell_unaccepted(rt, why);
+            Ok(cleaned.status())
         }
         Image::TooLong(length) => {
-            let status = refuse_length(&mut io::writer(rt))?;
+            let status = refuse_length(errors)?;
             tell_length(rt, length);
             Ok(status)
         }
     }
 }
 
-fn clean_region<'a, H: Files + AllocGlobal + Print>(
+// Writes the region that is left, where pages went, and then prints what came of it.
+fn end_cleaning<'a, H: Files + AllocGlobal + Print + Eprint, E: Write>(
     rt: &H,
-    target: Target<'a>,
-    region: MemRegion,
-    path: Option<&str>,
-) -> Result<u8, Failure<'a>> {
-    let alloc = rt.alloc();
-    let cleaned = clean_image(alloc, region, path.map(|path| path.as_bytes()))?;
-    let text = cleaned.text(alloc)?;
-    if let Cleaned::Region { region, pages } = &cleaned {
-        if *pages > 0 {
-            save_region(rt, target, region)?;
-        }
+    errors: &mut E,
+    held: &Held<'a, H::File>,
+    cleaned: &Cleaned,
+) -> Result<(), Failure<'a>>
+where
+    H::File: Lock,
+{
+    let text = cleaned.text(rt.alloc())?;
+    let Cleaned::Region { region, pages } = cleaned else {
+        return Ok(write_text(errors, text.as_bytes())?);
+    };
+    if *pages > 0 || held.is_output() {
+        see_ready(rt, held, None, None)?;
+        save_region(rt, held, region)?;
     }
-    write_text(&mut io::writer(rt), text.as_bytes())?;
-    Ok(cleaned.status())
+    if held.is_output() {
+        write_text(errors, text.as_bytes())?;
+    } else {
+        write_text(&mut io::writer(rt), text.as_bytes())?;
+    }
+    Ok(())
 }

@@ -16,62 +16,68 @@ mod saving;
 mod show;
 
 use cleaning::clean;
-use nv_args::{CheckOutput, Todo, read_words};
+use nv_args::{CheckOutput, Todo, VERSION, read_words};
 use nv_checking::{Output, check_file, map_file};
-use nv_images::{Failure, Target, ended, explain, refuse_words, words_of};
-use run::{run, script_at};
+use nv_images::{Failure, Lock, Target, ended, explain, print_line, refuse_words, words_of};
+use run::{run, script_at, script_on};
 use saving::{Numbers, mkfs};
 use show::{Shown, show};
 use std::alloc::AllocError;
 use std::env::Env;
-use std::io::Read;
-use std::process;
+use std::io::{Read, Write};
 use std::process::ExitCode;
 use std::rt::Files;
 use std::thread::Threads;
 
 fn main(rt: HostRuntime) -> ExitCode {
-    match act(&rt, rt.stdin(), process::id(rt.process())) {
+    match act(&rt, rt.stdin(), rt.stderr()) {
         Ok(code) => code,
         Err(error) => ended(&rt, Err(Failure::from(error))),
     }
 }
 
-// Does what the words ask for, and ends the program. The input is that of a script with no file, and the number that of this
-// process. Fails where memory is refused for the words.
-fn act<H: Files + AllocGlobal + Print + Eprint + Env + Threads + Sync, R: Read + Drop>(
-    rt: &H,
-    input: R,
-    process: u32,
-) -> Result<ExitCode, AllocError> {
+// Does what the words ask for, and ends the program. The input is that of a script with no file, and refusals go to the errors.
+// Fails where memory is refused for the words.
+fn act<
+    H: Files + AllocGlobal + Print + Eprint + Env + Threads + Sync,
+    R: Read + Drop,
+    E: Write + Drop,
+>(rt: &H, input: R, errors: E) -> Result<ExitCode, AllocError>
+where
+    H::File: Lock,
+{
     let alloc = rt.alloc();
     let words = words_of(rt, alloc)?;
     let texts = words.texts(alloc)?;
     Ok(match read_words(alloc, &texts) {
-        Ok(todo) if words.are_utf8 => ended(rt, answer(rt, input, process, todo)),
+        Ok(todo) if words.are_utf8 => ended(rt, answer(rt, input, errors, todo)),
         Ok(todo) => ended(rt, Err(Failure::not_utf8(todo.checked_path()))),
         Err(usage) => refuse_words(rt, &usage),
     })
 }
 
 // Does what is asked for, and answers the exit status.
-fn answer<'a, H: Files + AllocGlobal + Print + Eprint + Threads + Sync, R: Read + Drop>(
-    rt: &H,
-    input: R,
-    process: u32,
-    todo: Todo<'a>,
-) -> Result<u8, Failure<'a>> {
-    let over = |path| Target::over(path, process);
+fn answer<
+    'a,
+    H: Files + AllocGlobal + Print + Eprint + Threads + Sync,
+    R: Read + Drop,
+    E: Write + Drop,
+>(rt: &H, input: R, mut errors: E, todo: Todo<'a>) -> Result<u8, Failure<'a>>
+where
+    H::File: Lock,
+{
     match todo {
+        Todo::Version => print_line(rt, VERSION),
         Todo::Run {
             script,
             image,
             save,
+            force,
         } => {
-            let save = save.map(over);
+            let save = save.map(|path| Target { path, force });
             match script {
-                Some(path) => run(rt, script_at(rt, path)?, image, save),
-                None => run(rt, input, image, save),
+                None | Some("-") => run(rt, &mut errors, script_on(rt, input), image, save),
+                Some(path) => run(rt, &mut errors, script_at(rt, path)?, image, save),
             }
         }
         Todo::Check {
@@ -86,11 +92,7 @@ fn answer<'a, H: Files + AllocGlobal + Print + Eprint + Threads + Sync, R: Read 
             tables,
             force,
         } => {
-            let target = Target {
-                path: image,
-                force,
-                process,
-            };
+            let target = Target { path: image, force };
             let numbers = Numbers {
                 blocks,
                 cpus,
@@ -98,11 +100,13 @@ fn answer<'a, H: Files + AllocGlobal + Print + Eprint + Threads + Sync, R: Read 
             };
             mkfs(rt, target, numbers)
         }
-        Todo::Clean { image, path } => clean(rt, over(image), path),
-        Todo::Ls { image, path } => show(rt, image, Shown::Names(path)),
-        Todo::Stat { image, path } => show(rt, image, Shown::Attributes(path)),
-        Todo::Cat { image, path } => show(rt, image, Shown::Bytes(path)),
-        Todo::Map { image, svg } => map_file(rt, image, svg.map(over)),
+        Todo::Clean { image, path } => clean(rt, &mut errors, image, path),
+        Todo::Ls { image, path } => show(rt, &mut errors, image, Shown::Names(path)),
+        Todo::Stat { image, path } => show(rt, &mut errors, image, Shown::Attributes(path)),
+        Todo::Cat { image, path } => show(rt, &mut errors, image, Shown::Bytes(path)),
+        Todo::Map { image, svg, force } => {
+            map_file(rt, image, svg.map(|path| Target { path, force }))
+        }
         Todo::Explain { class } => explain(rt, class),
     }
 }

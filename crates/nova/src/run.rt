@@ -3,65 +3,148 @@
 use crate::hints::ErrorOutput;
 use crate::saving::{region_of, save_region};
 use nv_cli::{Ended, MemRegion, ScriptError, run_script_on, run_script_to_end};
-use nv_images::{Failure, Image, Reason, Target, image_at};
-use std::io::Read;
+use nv_images::{
+    Failure, Held, Image, ImageFile, Lock, Reason, Stamp, Target, hold, open_image, read_image,
+    see_ready,
+};
+use nv_stream::{Opened, open_at};
+use std::io::{Read, Write};
 use std::rt::Files;
 use std::thread::Threads;
 use std::{fs, io};
 
+// The path of the file that is standard input, where the system has such paths.
+const STANDARD_INPUT: &str = "/dev/stdin";
+
+/// A script, and the stamp of its file where it comes from one.
+#[derive(Drop)]
+pub(crate) struct Script<R: Drop> {
+    pub reader: R,
+    pub stamp: Option<Stamp>,
+}
+
 /// Runs a script, prints what its commands answer on standard output, and answers its exit status. It begins with the region of
 /// the image in a file, or with none. The region that is there at its end is written to the file `save`; without that no file
-/// is written.
-pub(crate) fn run<'a, H: Files + AllocGlobal + Print + Eprint + Threads + Sync, R: Read + Drop>(
+/// is written. The place of that file is held from the start. Where that is standard output, the answers go to the errors.
+pub(crate) fn run<
+    'a,
+    H: Files + AllocGlobal + Print + Eprint + Threads + Sync,
+    R: Read + Drop,
+    E: Write,
+>(
     rt: &H,
-    script: R,
+    errors: &mut E,
+    script: Script<R>,
     image: Option<&'a str>,
     save: Option<Target<'a>>,
-) -> Result<u8, Failure<'a>> {
-    let region = match image {
-        Some(path) => Some(region_at(rt, path)?),
+) -> Result<u8, Failure<'a>>
+where
+    H::File: Lock,
+{
+    let Script { reader, stamp } = script;
+    let held = match save {
+        Some(target) => Some(hold(rt, target)?),
         None => None,
     };
-    let Ended { status, region } = run_from(rt, script, region)?;
-    save_end(rt, save, region)?;
+    let file = match image {
+        Some(path) => Some(open_image(rt, path)?),
+        None => None,
+    };
+    if let Some(held) = &held {
+        see_save_ready(rt, held, stamp, &file)?;
+    }
+    let region = match file {
+        Some(file) => Some(region_in(rt, file)?),
+        None => None,
+    };
+    let is_saved_there = held.as_ref().is_some_and(|held| held.is_output());
+    let Ended { status, region } = if is_saved_there {
+        run_from(rt, reader, region, errors)?
+    } else {
+        run_from(rt, reader, region, &mut io::writer(rt))?
+    };
+    if let Some(held) = &held {
+        save_end(rt, held, region)?;
+    }
     Ok(status)
 }
 
-// Writes the region that is there at the end of a script to a file, where there is to be one.
-fn save_end<'a, H: Files + AllocGlobal>(
+// Sees that the region at a script's end can be written: over the image that it begins with, but not over the script.
+fn see_save_ready<'a, H: Files + AllocGlobal + Eprint>(
     rt: &H,
-    save: Option<Target<'a>>,
-    region: Option<MemRegion>,
-) -> Result<(), Failure<'a>> {
-    let Some(target) = save else { return Ok(()) };
-    let Some(region) = region else {
-        return Err(Failure::NothingToWrite(target.path));
-    };
-    save_region(rt, target, &region)
+    held: &Held<'a, H::File>,
+    script: Option<Stamp>,
+    image: &Option<ImageFile<'_, H::File>>,
+) -> Result<(), Failure<'a>>
+where
+    H::File: Lock,
+{
+    let image = image.as_ref().map(|file| file.opened.stamp);
+    see_ready(rt, held, script, image)
 }
 
-fn run_from<H: AllocGlobal + Print + Eprint + Threads + Sync, R: Read + Drop>(
+// Writes the region that is there at the end of a script to a file.
+fn save_end<'a, H: Files + AllocGlobal + Print>(
+    rt: &H,
+    held: &Held<'a, H::File>,
+    region: Option<MemRegion>,
+) -> Result<(), Failure<'a>>
+where
+    H::File: Lock,
+{
+    match region {
+        Some(region) => save_region(rt, held, &region),
+        None => Err(Failure::NothingToWrite(held.target.path)),
+    }
+}
+
+fn run_from<H: AllocGlobal + Eprint + Threads + Sync, R: Read + Drop, W: Write>(
     rt: &H,
     script: R,
     region: Option<MemRegion>,
+    output: &mut W,
 ) -> Result<Ended, ScriptError> {
     let alloc = rt.alloc();
-    let mut output = io::writer(rt);
     let mut hints = ErrorOutput { rt };
     match region {
-        Some(region) => run_script_on(rt, alloc, region, script, &mut output, &mut hints),
-        None => run_script_to_end(rt, alloc, script, &mut output, &mut hints),
+        Some(region) => run_script_on(rt, alloc, region, script, output, &mut hints),
+        None => run_script_to_end(rt, alloc, script, output, &mut hints),
     }
 }
 
 /// The script in a file.
-pub(crate) fn script_at<'a, H: Files>(rt: &H, path: &'a str) -> Result<H::File, Failure<'a>> {
-    fs::open(rt, path).map_err(|error| Failure::CannotRead(path, Reason::System(error)))
+pub(crate) fn script_at<'a, H: Files>(
+    rt: &H,
+    path: &'a str,
+) -> Result<Script<H::File>, Failure<'a>> {
+    match open_at(rt, path) {
+        Ok(Opened { file, stamp }) => Ok(Script {
+            reader: file,
+            stamp: Some(stamp),
+        }),
+        Err(error) => Err(Failure::CannotRead(path, Reason::System(error))),
+    }
+}
+
+/// The script on standard input, which may come from a file.
+pub(crate) fn script_on<H: Files, R: Read + Drop>(rt: &H, input: R) -> Script<R> {
+    let stamp = match fs::metadata(rt, STANDARD_INPUT) {
+        Ok(found) if found.is_file() => Some(Stamp::of(&found)),
+        _ => None,
+    };
+    Script {
+        reader: input,
+        stamp,
+    }
 }
 
 // The region of the image in a file.
-fn region_at<'a, H: Files + AllocGlobal>(rt: &H, path: &'a str) -> Result<MemRegion, Failure<'a>> {
-    match image_at(rt, path)? {
+fn region_in<'a, H: AllocGlobal, F: Read + Drop>(
+    rt: &H,
+    file: ImageFile<'a, F>,
+) -> Result<MemRegion, Failure<'a>> {
+    let path = file.path;
+    match read_image(rt.alloc(), file)? {
         Image::Bytes(bytes) => Ok(region_of(rt.alloc(), bytes)?),
         Image::TooLong(length) => Err(Failure::CannotRead(path, Reason::Length(length))),
     }

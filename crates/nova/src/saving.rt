@@ -1,11 +1,14 @@
 //! Images as regions, and writing them to files.
 
-use nv_cli::{Formatted, MemRegion, RegionRefusal, ScriptError, format_image, region_of_file};
-use nv_images::{Failure, Target, save_file};
-use nv_stream::write_text;
+use nv_cli::{
+    Formatted, MemRegion, RegionRefusal, ScriptError, format_image, format_limits, region_of_file,
+};
+use nv_images::{Failure, Held, Lock, Target, hold, save_file, see_ready};
 use std::alloc::Global;
-use std::io;
 use std::rt::Files;
+
+// The status of a region that is refused.
+const REFUSED_STATUS: u8 = 2;
 
 /// The numbers of an image that is to be made.
 #[derive(Clone, Copy, Debug)]
@@ -15,22 +18,25 @@ pub(crate) struct Numbers {
     pub tables: u64,
 }
 
-/// Writes the image of a formatted region to a file, or prints `refused NAME`. Answers the exit status, 0 or 2.
-pub(crate) fn mkfs<'a, H: Files + AllocGlobal + Print>(
+/// Writes the image of a formatted region to a file, or says `refused NAME` on standard error. Answers the exit status, 0 or 2.
+pub(crate) fn mkfs<'a, H: Files + AllocGlobal + Print + Eprint>(
     rt: &H,
     target: Target<'a>,
     numbers: Numbers,
-) -> Result<u8, Failure<'a>> {
-    let alloc = rt.alloc();
-    match format_image(alloc, numbers.cpus, numbers.blocks, numbers.tables)? {
+) -> Result<u8, Failure<'a>>
+where
+    H::File: Lock,
+{
+    let held = hold(rt, target)?;
+    see_ready(rt, &held, None, None)?;
+    match format_image(rt.alloc(), numbers.cpus, numbers.blocks, numbers.tables)? {
         Formatted::Region(region) => {
-            save_region(rt, target, &region)?;
+            save_region(rt, &held, &region)?;
             Ok(0)
         }
         Formatted::Refused(refusal) => {
-            let text = format!(in alloc; "refused {refusal}\n")?;
-            write_text(&mut io::writer(rt), text.as_bytes())?;
-            Ok(2)
+            let _ = eprintln!(rt; "refused {refusal}\n{}", format_limits(refusal));
+            Ok(REFUSED_STATUS)
         }
     }
 }
@@ -44,12 +50,15 @@ pub(crate) fn region_of(alloc: Global, bytes: Vec<u8>) -> Result<MemRegion, Scri
     }
 }
 
-/// Writes the bytes of a region to a file.
-pub(crate) fn save_region<'a, H: Files + AllocGlobal>(
+/// Writes the bytes of a region to a file, whose place is held.
+pub(crate) fn save_region<'a, H: Files + AllocGlobal + Print>(
     rt: &H,
-    target: Target<'a>,
+    held: &Held<'a, H::File>,
     region: &MemRegion,
-) -> Result<(), Failure<'a>> {
+) -> Result<(), Failure<'a>>
+where
+    H::File: Lock,
+{
     let bytes = region.to_bytes()?;
-    save_file(rt, target, &bytes)
+    save_file(rt, held, &bytes)
 }

@@ -7,12 +7,11 @@
 //! and output or memory that is refused end it with status 2 and a text on standard error.
 #![tactic(auto)]
 
-use nv_args::{CheckOutput, Todo, read_words};
+use nv_args::{CheckOutput, Todo, VERSION, read_words};
 use nv_checking::{Output, check_file, map_file};
-use nv_images::{Failure, Target, ended, explain, refuse_words, words_of};
+use nv_images::{Failure, Lock, Target, ended, explain, print_line, refuse_words, words_of};
 use std::alloc::AllocError;
 use std::env::Env;
-use std::process;
 use std::process::ExitCode;
 use std::rt::Files;
 use std::thread::Threads;
@@ -20,23 +19,24 @@ use std::thread::Threads;
 const OTHER_COMMAND: u8 = 2;
 
 fn main(rt: HostRuntime) -> ExitCode {
-    match act(&rt, process::id(rt.process())) {
+    match act(&rt) {
         Ok(code) => code,
         Err(error) => ended(&rt, Err(Failure::from(error))),
     }
 }
 
-// Does what the words ask for, and ends the program. The number is that of this process. Fails where memory is refused for the
-// words.
+// Does what the words ask for, and ends the program. Fails where memory is refused for the words.
 fn act<H: Files + AllocGlobal + Print + Eprint + Env + Threads + Sync>(
     rt: &H,
-    process: u32,
-) -> Result<ExitCode, AllocError> {
+) -> Result<ExitCode, AllocError>
+where
+    H::File: Lock,
+{
     let alloc = rt.alloc();
     let words = words_of(rt, alloc)?;
     let texts = words.texts(alloc)?;
     Ok(match read_words(alloc, &texts) {
-        Ok(todo) if words.are_utf8 => ended(rt, answer(rt, process, todo)),
+        Ok(todo) if words.are_utf8 => ended(rt, answer(rt, todo)),
         Ok(todo) => ended(rt, Err(Failure::not_utf8(todo.checked_path()))),
         Err(usage) => refuse_words(rt, &usage),
     })
@@ -45,17 +45,20 @@ fn act<H: Files + AllocGlobal + Print + Eprint + Env + Threads + Sync>(
 // Does what is asked for, and answers the exit status.
 fn answer<'a, H: Files + AllocGlobal + Print + Eprint + Threads + Sync>(
     rt: &H,
-    process: u32,
     todo: Todo<'a>,
-) -> Result<u8, Failure<'a>> {
+) -> Result<u8, Failure<'a>>
+where
+    H::File: Lock,
+{
     match todo {
+        Todo::Version => print_line(rt, VERSION),
         Todo::Check {
             path,
             workers,
             output,
         } => check_file(rt, path, workers, output_of(output)),
-        Todo::Map { image, svg } => {
-            map_file(rt, image, svg.map(|path| Target::over(path, process)))
+        Todo::Map { image, svg, force } => {
+            map_file(rt, image, svg.map(|path| Target { path, force }))
         }
         Todo::Explain { class } => explain(rt, class),
         _ => {

@@ -12,7 +12,7 @@ use Rattle.clap.specs.declared.error.kind.ErrorKind.TheVariants.{OutOfMemory}
 use Rattle.clap.specs.declared.parser.matches.ArgMatches.{ArgMatches}
 use Rattle.nv_args.specs.CommandLine.{nova_app}
 use Rattle.nv_args.specs.UsageValue.{is_memory}
-use Rattle.nv_args.specs.Words.{Says, WordsSay}
+use Rattle.nv_args.specs.Words.{Says, CommandSays}
 use Rattle.nv_args.specs.declared.todo.Todo.{Todo}
 
 -- `clap` tells in full what it takes
@@ -34,7 +34,7 @@ only_memory app words e is kinds none =
 
 -- words that are taken ask for what the command that was met asks for
 pub taken_say : (app : App) (words : List Text) (m : ArgMatches) → app ≡ nova_app → (is_simple_and_free app ≡ true → fault_of app words ≡ [])
-    → HasMatchesOf app words m → (todo : Todo) → Says (subcommand_rows_of m) todo → WordsSay words todo
+    → HasMatchesOf app words m → (todo : Todo) → Says (subcommand_rows_of m) todo → CommandSays words todo
 taken_say app words m is kinds matches todo says =
     let none = subst (λ app. is_simple_and_free app ≡ true → fault_of app words ≡ []) is kinds nova_is_free in
     let rows = subst (λ app. HasMatchesOf app words m) is matches nova_is_simple in
@@ -42,7 +42,7 @@ taken_say app words m is kinds matches todo says =
 
 -- and for nothing else
 pub say_taken : (app : App) (words : List Text) (m : ArgMatches) → app ≡ nova_app → HasMatchesOf app words m
-    → (todo : Todo) → WordsSay words todo → Says (subcommand_rows_of m) todo
+    → (todo : Todo) → CommandSays words todo → Says (subcommand_rows_of m) todo
 say_taken app words m is matches todo says =
     let rows = subst (λ app. HasMatchesOf app words m) is matches nova_is_simple in
     subst (λ met. Says met todo) (sym rows.1) says.1

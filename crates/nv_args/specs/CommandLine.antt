@@ -38,9 +38,9 @@ workers_rule = threads_rule (codes "workers")
 abbrev pub command : Text → List Rule → App
 command name rules = fold with_rule (new_app name) rules
 
--- `run`: a script's file, and the images that it begins with and ends with
+-- `run`: a script's file, the images that it begins with and ends with, and whether another file may be replaced
 abbrev pub run_app : App
-run_app = command (codes "run") (place_rule (codes "script") ∷ option_rule (codes "image") ∷ option_rule (codes "save") ∷ [])
+run_app = command (codes "run") (place_rule (codes "script") ∷ option_rule (codes "image") ∷ option_rule (codes "save") ∷ flag_rule (codes "force") ∷ [])
 
 -- `check`: an image's file, a number of workers, and what is printed in place of the report
 abbrev pub check_app : App
@@ -62,9 +62,9 @@ path_app name = command name (needed_rule (codes "image") ∷ needed_rule (codes
 abbrev pub explain_app : App
 explain_app = command (codes "explain") (needed_rule (codes "class") ∷ [])
 
--- `map`: an image's file, and the file of a drawing
+-- `map`: an image's file, the file of a drawing, and whether a file may be replaced
 abbrev pub map_app : App
-map_app = command (codes "map") (needed_rule (codes "image") ∷ option_rule (codes "svg") ∷ [])
+map_app = command (codes "map") (needed_rule (codes "image") ∷ option_rule (codes "svg") ∷ flag_rule (codes "force") ∷ [])
 
 -- the program before its commands: its own name isn't among the words, and one of the commands has to be
 abbrev pub bare_app : App

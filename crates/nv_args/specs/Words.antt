@@ -1,5 +1,5 @@
 -- What the words of a command line ask for.
-use Rattle.std.specs.Prelude.{◌≡◌, ◌^◌, ℕ, ◌≤◌, ◌<◌, ◌↔◌, List, [], Option, Some, None, IsTrue, codes, option_map, unwrap_or}
+use Rattle.std.specs.Prelude.{◌≡◌, ◌⊎◌, ◌^◌, ℕ, ◌≤◌, ◌<◌, ◌↔◌, List, [], ◌∷◌, Option, Some, None, IsTrue, codes, option_map, unwrap_or}
 use Rattle.std.specs.Str.Parse.{IsNumeral, digits_value, without_leading_plus}
 use Rattle.clap.specs.Walk.{Row, Text, first_of}
 use Rattle.clap.specs.Simple.{subcommand_of}
@@ -8,7 +8,7 @@ use Rattle.nv_args.specs.CommandLine.{nova_app}
 use Rattle.nv_args.specs.declared.todo.CheckOutput.{CheckOutput}
 use Rattle.nv_args.specs.declared.todo.CheckOutput.TheVariants.{Report, Summary, OnlyFaults}
 use Rattle.nv_args.specs.declared.todo.Todo.{Todo}
-use Rattle.nv_args.specs.declared.todo.Todo.TheVariants.{Run, Check, Mkfs, Clean, Ls, Stat, Cat, Explain, Map}
+use Rattle.nv_args.specs.declared.todo.Todo.TheVariants.{Version, Run, Check, Mkfs, Clean, Ls, Stat, Cat, Explain, Map}
 use Rattle.nv_args.specs.UsageValue.{UsageTold}
 
 -- the written text is a decimal number below 2^64, which may have a plus sign and leading zeros
@@ -35,7 +35,8 @@ IsOutput values OnlyFaults = (¬ IsGiven (codes "summary") values) × IsGiven (c
 
 -- the name of the command that is to be done
 abbrev pub command_of : Todo → Text
-command_of (Run script image save) = codes "run"
+command_of Version = []
+command_of (Run script image save force) = codes "run"
 command_of (Check path workers output) = codes "check"
 command_of (Mkfs image blocks cpus tables force) = codes "mkfs"
 command_of (Clean image path) = codes "clean"
@@ -43,7 +44,7 @@ command_of (Ls image path) = codes "ls"
 command_of (Stat image path) = codes "stat"
 command_of (Cat image path) = codes "cat"
 command_of (Explain class) = codes "explain"
-command_of (Map image svg) = codes "map"
+command_of (Map image svg force) = codes "map"
 
 -- the path of a check
 abbrev pub checked_path : Todo → Option Text
@@ -52,9 +53,10 @@ checked_path _ = None
 
 -- what is to be done has the values that are written for a command's arguments
 abbrev pub HasValues : List Row → Todo → Type 0
-HasValues values (Run script image save) = (first_of (codes "script") values ≡ option_map (λ text. text.now) script)
+HasValues values Version = ⊥
+HasValues values (Run script image save force) = (first_of (codes "script") values ≡ option_map (λ text. text.now) script)
     × (first_of (codes "image") values ≡ option_map (λ text. text.now) image)
-    × (first_of (codes "save") values ≡ option_map (λ text. text.now) save)
+    × (first_of (codes "save") values ≡ option_map (λ text. text.now) save) × (IsTrue force ↔ IsGiven (codes "force") values)
 HasValues values (Check path workers output) = (first_of (codes "path") values ≡ Some path.now)
     × AreWorkers (first_of (codes "workers") values) workers × IsOutput values output
 HasValues values (Mkfs image blocks cpus tables force) = (first_of (codes "image") values ≡ Some image.now)
@@ -67,8 +69,8 @@ HasValues values (Ls image path) = (first_of (codes "image") values ≡ Some ima
 HasValues values (Stat image path) = (first_of (codes "image") values ≡ Some image.now) × (first_of (codes "path") values ≡ Some path.now)
 HasValues values (Cat image path) = (first_of (codes "image") values ≡ Some image.now) × (first_of (codes "path") values ≡ Some path.now)
 HasValues values (Explain class) = first_of (codes "class") values ≡ Some class.now
-HasValues values (Map image svg) = (first_of (codes "image") values ≡ Some image.now)
-    × (first_of (codes "svg") values ≡ option_map (λ text. text.now) svg)
+HasValues values (Map image svg force) = (first_of (codes "image") values ≡ Some image.now)
+    × (first_of (codes "svg") values ≡ option_map (λ text. text.now) svg) × (IsTrue force ↔ IsGiven (codes "force") values)
 
 -- this command, with the values written for its arguments, asks for this
 abbrev pub Asks : Text → List Row → Todo → Type 0
@@ -80,8 +82,22 @@ Says None todo = ⊥
 Says (Some met) todo = Asks met.0 met.1 todo
 
 -- these words are without fault on the program's command line, and the command that they name asks for this
+abbrev pub CommandSays : List Text → Todo → Type 0
+CommandSays words todo = (fault_of nova_app words ≡ []) × Says (subcommand_of nova_app words) todo
+
+-- the word asks for the version
+abbrev pub IsVersion : Text → Type 0
+IsVersion word = (word ≡ codes "--version") ⊎ (word ≡ codes "-V")
+
+-- there is one word, which asks for the version
+abbrev pub AskVersion : List Text → Type 0
+AskVersion [] = ⊥
+AskVersion (word ∷ []) = IsVersion word
+AskVersion (word ∷ other ∷ words) = ⊥
+
+-- the words ask for the version, or they are those of a command, which asks for this
 abbrev pub WordsSay : List Text → Todo → Type 0
-WordsSay words todo = (fault_of nova_app words ≡ []) × Says (subcommand_of nova_app words) todo
+WordsSay words todo = (AskVersion words × (todo ≡ Version)) ⊎ ((AskVersion words → ⊥) × CommandSays words todo)
 
 -- it tells of want of memory
 abbrev pub WantsMemory : UsageTold → Type 0

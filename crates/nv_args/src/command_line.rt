@@ -34,6 +34,9 @@ Exit status:
 
 const IMAGE: &str = "The file that holds the image";
 
+const SAVE_FORCE: &str =
+    "Put the region in the place of a file that is there; over the one of --image that isn't needed";
+
 /// A command, what a user reads of it, and its arguments.
 struct CommandForm<'a> {
     name: &'a str,
@@ -63,6 +66,11 @@ const COMMANDS: [CommandForm<'static>; 9] = [
                 written: Written::Option,
                 name: "save",
                 help: "The file that the region at the script's end is written to; without it no file is written",
+            },
+            Argument {
+                written: Written::Flag,
+                name: "force",
+                help: SAVE_FORCE,
             },
         ],
     },
@@ -138,7 +146,7 @@ const COMMANDS: [CommandForm<'static>; 9] = [
             Argument {
                 written: Written::ByPlace,
                 name: "path",
-                help: "The path of the file or directory whose log is cleaned; all logs where left out",
+                help: "The path of the file or directory whose log is cleaned; all logs if it is left out",
             },
         ],
     },
@@ -218,6 +226,11 @@ const COMMANDS: [CommandForm<'static>; 9] = [
                 name: "svg",
                 help: "The file to write a drawing of it to",
             },
+            Argument {
+                written: Written::Flag,
+                name: "force",
+                help: "Put the drawing in the place of a file that is there",
+            },
         ],
     },
 ];
@@ -270,7 +283,10 @@ fn bare<'a>(alloc: Global) -> Result<Command<'a>, AllocError>
     ensures { IfOk result (λ c. app_of c ≡ bare_app) }
 {
     Command::new(alloc, "nova")
-        .about("Makes, checks and shows images of the NOVA file system, and runs scripts on them")
+        .about(
+            "Makes, checks, cleans and shows images of the NOVA file system, and runs scripts on them",
+        )
+        .after_help("nova --version, or -V alone, prints the version. docs/nova.1 is the manual.")
         .no_binary_name(true)
         .subcommand_required(true)
         .bin_name("nova")

@@ -4,7 +4,7 @@ ghost use Rattle.std.specs.Prelude.{◌≡◌, ◌↔◌, ℕ, IfOk, IfErr, IfSo
 ghost use Rattle.clap.specs.Walk.{first_of, rows_of};
 ghost use Rattle.clap.specs.Simple.{subcommand_rows_of};
 ghost use Rattle.clap.specs.Matches.{found_of};
-ghost use Rattle.nv_args.specs.Words.{AreWorkers, Asks, IsGiven, IsNumber, IsOutput, Says, WordsSay, WantsMemory};
+ghost use Rattle.nv_args.specs.Words.{AreWorkers, AskVersion, Asks, CommandSays, IsGiven, IsNumber, IsOutput, IsVersion, Says, WordsSay, WantsMemory};
 
 use crate::command_line::nova;
 use crate::todo::{CheckOutput, Todo};
@@ -66,6 +66,7 @@ fn run_of<'a>(values: &ArgMatches<'a>) -> Todo<'a>
         script: text_of(values, "script"),
         image: text_of(values, "image"),
         save: text_of(values, "save"),
+        force: is_given(values, "force"),
     }
 }
 
@@ -151,7 +152,8 @@ fn map_of<'a>(values: &ArgMatches<'a>) -> Option<Todo<'a>>
 {
     let image = text_of(values, "image")?;
     let svg = text_of(values, "svg");
-    Some(Todo::Map { image, svg })
+    let force = is_given(values, "force");
+    Some(Todo::Map { image, svg, force })
 }
 
 fn todo_of<'a>(matches: &ArgMatches<'a>) -> Option<Todo<'a>>
@@ -173,15 +175,43 @@ fn todo_of<'a>(matches: &ArgMatches<'a>) -> Option<Todo<'a>>
     }
 }
 
+// Whether the words ask for the version, and nothing else.
+fn ask_version(words: &[&str]) -> bool
+    ensures { IsTrue result ↔ AskVersion (map (λ word. word.now) words.now) }
+{
+    match words {
+        [word] => is_version(word),
+        _ => false,
+    }
+}
+
+fn is_version(word: &str) -> bool
+    ensures { IsTrue result ↔ IsVersion word.now }
+{
+    word == "--version" || word == "-V"
+}
+
 /// What the words, which come without the program's name, ask for: one of the commands of `Todo` with its arguments. A
 /// number is decimal, and may have a plus sign and leading zeros: `+5` and `05` are 5. It is below 2^64, and a number of
 /// workers, which is 1 where it is left out, from 1 to 64.
 ///
-/// All other words are answered by the text for the user, and so are words that ask for help, and want of memory.
+/// `--version` and `-V` alone ask for the version. All other words are answered by the text for the user, and so are words that
+/// ask for help, and want of memory.
 pub fn read_words<'a>(alloc: Global, words: &'a [&'a str]) -> Result<Todo<'a>, Usage>
     ensures ok { IfOk result (λ todo. WordsSay (map (λ word. word.now) words.entry.now) todo) }
     // Words that ask for something are refused only for want of memory.
     ensures err { IfErr result (λ usage. (todo : Todo) → WordsSay (map (λ word. word.now) words.entry.now) todo → WantsMemory usage) }
+{
+    if ask_version(words) {
+        return Ok(Todo::Version);
+    }
+    read_command(alloc, words)
+}
+
+// What the words of a command ask for.
+fn read_command<'a>(alloc: Global, words: &'a [&'a str]) -> Result<Todo<'a>, Usage>
+    ensures ok { IfOk result (λ todo. CommandSays (map (λ word. word.now) words.entry.now) todo) }
+    ensures err { IfErr result (λ usage. (todo : Todo) → CommandSays (map (λ word. word.now) words.entry.now) todo → WantsMemory usage) }
 {
     let Ok(command) = nova(alloc) else {
         return Err(Usage {

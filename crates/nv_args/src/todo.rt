@@ -3,12 +3,15 @@
 /// What the program is to do.
 #[derive(Clone, Copy, PartialEq, Eq)]
 pub enum Todo<'a> {
+    /// Tell the version.
+    Version,
     /// Run the script in a file, or the one on standard input, on the region that an image holds, or on none, and save
-    /// the region that it leaves, or none.
+    /// the region that it leaves, or none: over the file of the image, and over another only by force.
     Run {
         script: Option<&'a str>,
         image: Option<&'a str>,
         save: Option<&'a str>,
+        force: bool,
     },
     /// Recover the image in the file at this path on so many threads, from 1 to 64, and print this of what it shows.
     Check {
@@ -48,10 +51,11 @@ pub enum Todo<'a> {
     Explain {
         class: &'a str,
     },
-    /// Show which blocks of an image are what, and draw it in a file, or nowhere.
+    /// Show which blocks of an image are what, and draw it in a file, over one that is there only by force, or nowhere.
     Map {
         image: &'a str,
         svg: Option<&'a str>,
+        force: bool,
     },
 }
 

@@ -1,7 +1,7 @@
 -- What checks and maps of images write that may be too long for a region, and why those of files fail.
 use Rattle.std.specs.Prelude.{◌≡◌, ◌≢◌, ℕ, List, Option, Some, codes}
 use Rattle.std.specs.Borrow.{Bor}
-use Rattle.std.specs.Io.KnownBytes.{Appends, Keeps}
+use Rattle.std.specs.Io.KnownBytes.{Appends}
 use Rattle.nv_region.specs.Region.{region_of}
 use Rattle.nv_super.specs.declared.superblock.SuperFault.TheVariants as faults
 use Rattle.nv_text.specs.declared.refusals.Refusal.TheVariants as refusals
@@ -19,7 +19,7 @@ use Rattle.nv_checking.specs.declared.output.Output.{Output}
 use Rattle.nv_checking.specs.declared.mapping.Mapped.{Mapped}
 use Rattle.nv_checking.specs.declared.mapping.Mapped.TheVariants as maps
 use Rattle.nv_checking.specs.Checking.{WritesCheckAs, EndsCheckAs, FailsCheckAs}
-use Rattle.nv_checking.specs.Mapping.{IsMapped, mapped_text}
+use Rattle.nv_checking.specs.Mapping.{IsMapped}
 
 -- the line that refuses an image for its length
 abbrev pub length_refused : List ℕ
@@ -44,17 +44,6 @@ FailsImageCheck output (images.TooLong length) workers e old new = (e ≡ Write)
 abbrev pub IsImageMapped : Image → ℕ → Mapped → Type 0
 IsImageMapped (images.Bytes bytes) most mapped = IsMapped (region_of bytes.items) most mapped
 IsImageMapped (images.TooLong length) most mapped = mapped ≡ maps.Refused (refusals.Super faults.Length)
-
--- After an error of a map of bytes: a front of its text where the writer failed, and nothing where memory was refused.
-abbrev pub FailsBytesMap : List ℕ → ℕ → ScriptError → Option (List ℕ) → Option (List ℕ) → Type 0
-FailsBytesMap bytes most Read old new = ⊥
-FailsBytesMap bytes most Write old new = (mapped : Mapped) × IsMapped (region_of bytes) most mapped × AppendsFront old new (mapped_text mapped)
-FailsBytesMap bytes most Memory old new = Keeps old new
-
--- After an error: as of a map of the bytes. A front of the refusal was written where the writer failed.
-abbrev pub FailsImageMap : Image → ℕ → ScriptError → Option (List ℕ) → Option (List ℕ) → Type 0
-FailsImageMap (images.Bytes bytes) most e old new = FailsBytesMap bytes.items most e old new
-FailsImageMap (images.TooLong length) most e old new = (e ≡ Write) × AppendsFront old new length_refused
 
 -- why the image at a path was not checked: its file can't be read, or the answer failed, for which no stream is read
 abbrev pub IsUnchecked : Bor (List ℕ) → Failure → Type 0

@@ -1,10 +1,8 @@
 -- The map of the region of some bytes, and what is written of it.
-use Rattle.std.specs.Prelude.{◌≡◌, ℕ, List, length, Option}
+use Rattle.std.specs.Prelude.{◌≡◌, ℕ, List, [], length, Option}
 use Rattle.std.specs.Io.KnownBytes.{Appends, Keeps}
 use Rattle.nv_region.specs.Region.{Region}
 use Rattle.nv_report.specs.nv_outcome.Outcome.{Outcome, IsOutcome}
-use Rattle.nv_text.specs.Answers.{refused_line}
-use Rattle.nv_text.specs.Refusals.{refusal_name}
 use Rattle.nv_stream.specs.declared.fault.ScriptError.{ScriptError}
 use Rattle.nv_stream.specs.declared.fault.ScriptError.TheVariants.{Read, Write, Memory}
 use Rattle.nv_stream.specs.Streams.{AppendsFront}
@@ -20,10 +18,10 @@ abbrev pub IsMapped : Region → ℕ → Mapped → Type 0
 IsMapped R most (maps.Cells cells faults) = (o : Outcome) × IsOutcome R o × IsMap o most cells × (faults ≡ length o.faults)
 IsMapped R most (maps.Refused refusal) = IsSuperRefused R refusal
 
--- the lines of the cells and what they mean, or the refusal
+-- the lines of the cells and what they mean; nothing of a region that is refused
 abbrev pub mapped_text : Mapped → List ℕ
 mapped_text (maps.Cells cells faults) = map_text cells
-mapped_text (maps.Refused refusal) = refused_line (refusal_name refusal)
+mapped_text (maps.Refused refusal) = []
 
 -- the exit status 0 and the number of faults, or 2 where it was refused
 abbrev pub mapped_answer : Mapped → Answered

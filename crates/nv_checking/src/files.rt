@@ -1,22 +1,24 @@
 //! The check of the image in a file, and its map as text and as a drawing.
 
-ghost use Rattle.std.specs.Prelude.{◌≡◌, ◌⊎◌, ◌≤◌, IfOk, IfErr};
+ghost use Rattle.std.specs.Prelude.{◌≡◌, ◌≢◌, ◌⊎◌, ◌≤◌, IfOk, IfErr};
 ghost use Rattle.nv_images.specs.Images.{IsUnsaved};
-ghost use Rattle.nv_checking.specs.Mapping.{WritesMap};
-ghost use Rattle.nv_checking.specs.Files.{WritesImageCheck, EndsImageCheck, FailsImageCheck, IsImageMapped, FailsImageMap, IsUnchecked, IsUnmapped};
+ghost use Rattle.nv_checking.specs.Mapping.{mapped_answer};
+ghost use Rattle.nv_checking.specs.Files.{WritesImageCheck, EndsImageCheck, FailsImageCheck, IsImageMapped, IsUnchecked, IsUnmapped};
 
 use crate::answered::Answered;
 use crate::checking::check_region_as;
-use crate::mapping::{Mapped, map_cells, write_map};
+use crate::mapping::{Mapped, answered, map_cells, write_map};
 use crate::output::Output;
 use nv_images::{
-    Failure, Image, Target, image_at, refuse_length, save_file, svg_text, tell_faults, tell_length,
-    tell_refused_length,
+    Failure, Held, Image, Lock, Stamp, Target, hold, image_at, open_image, read_image,
+    refuse_length, save_file, see_ready, svg_text, tell_explain, tell_faults, tell_length,
+    tell_refused,
 };
+use nv_report::Last;
 use nv_stream::ScriptError;
 use nv_super::SuperFault;
 use nv_text::Refusal;
-use std::alloc::Global;
+use std::alloc::{AllocError, Global};
 use std::io;
 use std::io::Write;
 use std::rt::Files;
@@ -42,12 +44,16 @@ pub fn check_file<'a, H: Files + AllocGlobal + Print + Eprint + Threads + Sync>(
     let image = image_at(rt, path)?;
     let writer = &mut io::writer(rt);
     let status = check_image(rt, rt.alloc(), &image, u64::from(workers), output, writer)?;
-    tell_image_length(rt, &image, status);
+    tell_image_refused(rt, &image, status);
+    if status == Last::Faulty.status() {
+        tell_explain(rt);
+    }
     Ok(status)
 }
 
 /// Recovers the image in a file in memory, and prints what its blocks are used for, or why that can't be told. With `svg` the
-/// cells are drawn in that file too, unless the image is refused. Answers the exit status, 0 or 2.
+/// cells are drawn in that file too, unless the image is refused; it can't be the image. A drawing on standard output stands
+/// there alone. Answers the exit status, 0 or 2.
 ///
 /// Errors: a file that can't be read or written, and want of memory or of a place to write to.
 pub fn map_file<'a, H: Files + AllocGlobal + Print + Eprint>(
@@ -55,17 +61,43 @@ pub fn map_file<'a, H: Files + AllocGlobal + Print + Eprint>(
     path: &'a str,
     svg: Option<Target<'a>>,
 ) -> Result<u8, Failure<'a>>
+where
+    H::File: Lock,
     ensures status { IfOk result (λ status. (status ≡ 0) ⊎ (status ≡ 2)) }
     ensures error { IfErr result (IsUnmapped path.entry svg.entry) }
 {
-    let image = image_at(rt, path)?;
-    let (mapped, answered) = map_image(rt.alloc(), &image, MOST_CELLS, &mut io::writer(rt))?;
-    tell_image_length(rt, &image, answered.status);
+    let file = open_image(rt, path)?;
+    let held = match svg {
+        Some(target) => Some(hold_drawing(rt, target, file.opened.stamp)?),
+        None => None,
+    };
+    let image = read_image(rt.alloc(), file)?;
+    let mapped = map_image(rt.alloc(), &image, MOST_CELLS)?;
+    let is_drawn_there = held.as_ref().is_some_and(|held| held.is_output());
+    let answered = print_map(rt, &mapped, is_drawn_there)?;
+    tell_refusal(rt, &mapped);
+    tell_image_refused(rt, &image, answered.status);
     tell_faults(rt, path, answered.faults);
-    if let Some(target) = svg {
-        draw(rt, &mapped, target)?;
+    if let Some(held) = &held {
+        draw(rt, &mapped, held)?;
     }
     Ok(answered.status)
+}
+
+// Holds the place of the drawing of an image, and sees that it can be written.
+fn hold_drawing<'a, H: Files + AllocGlobal + Eprint>(
+    rt: &H,
+    svg: Target<'a>,
+    image: Stamp,
+) -> Result<Held<'a, H::File>, Failure<'a>>
+where
+    H::File: Lock,
+    ensures target { IfOk result (λ held. held.target ≡ svg.entry) }
+    ensures error { IfErr result (IsUnsaved svg.entry.path) }
+{
+    let held = hold(rt, svg)?;
+    see_ready(rt, &held, Some(image), None)?;
+    Ok(held)
 }
 
 // Checks the region of an image as `check_region_as` does. An image that is longer than a region can be is refused as `S1`.
@@ -87,51 +119,61 @@ fn check_image<H: Threads + Sync, W: Write>(
     }
 }
 
-// Maps the region of an image, and writes the text of that. An image that is longer than a region can be is refused as `S1`.
-fn map_image<W: Write>(
-    alloc: Global,
-    image: &Image,
-    most: u64,
-    writer: &mut W,
-) -> Result<(Mapped, Answered), ScriptError>
-    ensures mapped { IfOk result (λ r. IsImageMapped image.now most r.0) }
-    ensures ok { IfOk result (λ r. WritesMap r.0 (W.contents writer.old) (W.contents writer.new) r.1) }
-    ensures err { IfErr result (λ e. FailsImageMap image.now most e (W.contents writer.old) (W.contents writer.new)) }
+// Maps the region of an image. An image that is longer than a region can be is refused as `S1`.
+fn map_image(alloc: Global, image: &Image, most: u64) -> Result<Mapped, AllocError>
+    ensures { IfOk result (IsImageMapped image.now most) }
 {
     match image {
-        Image::Bytes(bytes) => {
-            let mapped = map_cells(alloc, bytes, most)?;
-            let answered = write_map(alloc, &mapped, writer)?;
-            Ok((mapped, answered))
-        }
-        Image::TooLong(_) => {
-            let status = refuse_length(writer)?;
-            let refusal = Refusal::Super(SuperFault::Length);
-            Ok((Mapped::Refused(refusal), Answered { status, faults: 0 }))
-        }
+        Image::Bytes(bytes) => map_cells(alloc, bytes, most),
+        Image::TooLong(_) => Ok(Mapped::Refused(Refusal::Super(SuperFault::Length))),
     }
 }
 
-// Says on standard error for which length an image was refused, where an answer of this status may be that.
-fn tell_image_length<H: Eprint>(rt: &H, image: &Image, status: u8) {
+// Prints the text of a map, unless the drawing goes to standard output.
+fn print_map<H: AllocGlobal + Print>(
+    rt: &H,
+    mapped: &Mapped,
+    is_drawn_there: bool,
+) -> Result<Answered, ScriptError>
+    ensures answered { IfOk result (λ answered. answered ≡ mapped_answer mapped.now) }
+    ensures error { IfErr result (λ e. e ≢ ScriptError.Read) }
+{
+    if is_drawn_there {
+        Ok(answered(mapped))
+    } else {
+        write_map(rt.alloc(), mapped, &mut io::writer(rt))
+    }
+}
+
+// Says on standard error for what an image was refused, where an answer of this status may be that.
+fn tell_image_refused<H: Eprint + AllocGlobal>(rt: &H, image: &Image, status: u8) {
     match image {
-        Image::Bytes(bytes) => tell_refused_length(rt, status, bytes.len() as u64),
+        Image::Bytes(bytes) => tell_refused(rt, status, bytes),
         Image::TooLong(length) => tell_length(rt, *length),
     }
 }
 
+// Says on standard error that a region is refused, where it is.
+fn tell_refusal<H: Eprint>(rt: &H, mapped: &Mapped) {
+    if let Mapped::Refused(refusal) = mapped {
+        let _ = eprintln!(rt; "refused {refusal}");
+    }
+}
+
 // Draws the cells in a file, where there are any.
-fn draw<'a, H: Files + AllocGlobal>(
+fn draw<'a, H: Files + AllocGlobal + Print>(
     rt: &H,
     mapped: &Mapped,
-    svg: Target<'a>,
+    held: &Held<'a, H::File>,
 ) -> Result<(), Failure<'a>>
-    ensures { IfErr result (IsUnsaved svg.entry.path) }
+where
+    H::File: Lock,
+    ensures { IfErr result (IsUnsaved held.now.target.path) }
 {
     match mapped {
         Mapped::Cells { cells, .. } => {
             let text = svg_text(rt.alloc(), cells)?;
-            save_file(rt, svg, text.as_bytes())
+            save_file(rt, held, text.as_bytes())
         }
         Mapped::Refused(_) => Ok(()),
     }

@@ -7,7 +7,7 @@ ghost use Rattle.nv_checking.specs.Mapping.{IsMapped, mapped_text, mapped_answer
 use crate::answered::Answered;
 use crate::imaging::{Image, recover_image};
 use nv_map::{Cells, cells_of, cells_text};
-use nv_report::{Last, refused_text};
+use nv_report::Last;
 use nv_stream::{ScriptError, write_text};
 use nv_text::Refusal;
 use std::alloc::{AllocError, Global};
@@ -41,7 +41,7 @@ pub fn map_cells(alloc: Global, bytes: &[u8], most: u64) -> Result<Mapped, Alloc
     }
 }
 
-/// Writes the text of a map, or `refused NAME`.
+/// Writes the text of a map, and nothing of a region that is refused.
 ///
 /// Errors: `Memory` where a growth was refused, and nothing was written then; `Write` where the writer failed, and a front
 /// of the text was written then.
@@ -63,11 +63,12 @@ fn mapped_text(alloc: Global, mapped: &Mapped) -> Result<String, AllocError>
 {
     match mapped {
         Mapped::Cells { cells, .. } => cells_text(alloc, cells),
-        Mapped::Refused(refusal) => refused_text(alloc, *refusal),
+        Mapped::Refused(_) => Ok(String::new(alloc)),
     }
 }
 
-fn answered(mapped: &Mapped) -> Answered
+/// What comes of a map.
+pub(crate) fn answered(mapped: &Mapped) -> Answered
     ensures { result ≡ mapped_answer mapped.now }
 {
     match mapped {

@@ -3,6 +3,7 @@ pub mod Transcript
 pub mod Strict
 pub mod Shell
 pub mod Replies
+pub mod Sent
 pub mod Looking
 pub mod Formatting
 pub mod Cleaning

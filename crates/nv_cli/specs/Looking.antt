@@ -19,6 +19,7 @@ use Rattle.nv_stream.specs.Streams.{AppendsFront}
 use Rattle.nv_checking.specs.Checking.{IsSuperRefusal}
 use Rattle.nv_checking.specs.Recovering.{IsSuperRefused}
 use Rattle.nv_checking.specs.declared.answered.Answered.{Answered}
+use Rattle.nv_cli.specs.Sent.{Written, Sends, SendsFront, KeepsBoth}
 use Rattle.nv_cli.specs.declared.looking.Opened.{Opened}
 use Rattle.nv_cli.specs.declared.looking.Opened.TheVariants as opened
 
@@ -65,25 +66,25 @@ abbrev pub IsLook : Call → Region → List ℕ → Answered → Type 0
 IsLook Tells R text answered = (IsSuperRefusal R text answered.status × (answered.faults ≡ 0))
     ⊎ ((o : Outcome) × IsOutcome R o × Tells (tree_of (undone o.sup R) o.rows) text answered.status × (answered.faults ≡ length o.faults))
 
--- the text of such a look was written
-abbrev pub WritesLook : Call → List ℕ → Option (List ℕ) → Option (List ℕ) → Answered → Type 0
-WritesLook Tells bytes old new answered = (text : List ℕ) × IsLook Tells (region_of bytes) text answered × Appends old new text
+-- the text of such a look was written, to the errors where it is a refusal
+abbrev pub WritesLook : Call → List ℕ → Written → Written → Answered → Type 0
+WritesLook Tells bytes old new answered = (text : List ℕ) × IsLook Tells (region_of bytes) text answered × Sends answered.status old new text
 
 -- a front of the text of such a look was written
-abbrev pub WritesLookFront : Call → List ℕ → Option (List ℕ) → Option (List ℕ) → Type 0
-WritesLookFront Tells bytes old new = (text : List ℕ) × (answered : Answered) × IsLook Tells (region_of bytes) text answered × AppendsFront old new text
+abbrev pub WritesLookFront : Call → List ℕ → Written → Written → Type 0
+WritesLookFront Tells bytes old new = (text : List ℕ) × (answered : Answered) × IsLook Tells (region_of bytes) text answered × SendsFront answered.status old new text
 
 -- After an error: a front of the text where the writer failed, and nothing where memory was refused.
-abbrev pub FailsLook : Call → List ℕ → ScriptError → Option (List ℕ) → Option (List ℕ) → Type 0
+abbrev pub FailsLook : Call → List ℕ → ScriptError → Written → Written → Type 0
 FailsLook Tells bytes Read old new = ⊥
 FailsLook Tells bytes Write old new = WritesLookFront Tells bytes old new
-FailsLook Tells bytes Memory old new = Keeps old new
+FailsLook Tells bytes Memory old new = KeepsBoth old new
 
 -- The same where the text is written in pieces: a front of it, or nothing, where memory was refused.
-abbrev pub FailsCat : Call → List ℕ → ScriptError → Option (List ℕ) → Option (List ℕ) → Type 0
+abbrev pub FailsCat : Call → List ℕ → ScriptError → Written → Written → Type 0
 FailsCat Tells bytes Read old new = ⊥
 FailsCat Tells bytes Write old new = WritesLookFront Tells bytes old new
-FailsCat Tells bytes Memory old new = Keeps old new ⊎ WritesLookFront Tells bytes old new
+FailsCat Tells bytes Memory old new = KeepsBoth old new ⊎ WritesLookFront Tells bytes old new
 
 -- ---- within
 
@@ -120,11 +121,15 @@ FailsRefusal refusal Write old new = (refusal ≢ calls.Memory) × AppendsFront 
 FailsRefusal refusal Memory old new = Keeps old new
 
 -- the same where the call may be refused
-abbrev pub WritesCall : Tree → Path → Option (List ℕ) → Option (List ℕ) → ℕ → Type 0
-WritesCall t p old new status = (text : List ℕ) × TellsFile t p text × (status ≡ call_status (first_refusal (read_tests t p))) × Appends old new text
+abbrev pub WritesCall : Tree → Path → Written → Written → ℕ → Type 0
+WritesCall t p old new status = (text : List ℕ) × TellsFile t p text × (status ≡ call_status (first_refusal (read_tests t p))) × Sends status old new text
+
+-- a front of what such a call tells was written
+abbrev pub WritesCallFront : Tree → Path → Written → Written → Type 0
+WritesCallFront t p old new = (text : List ℕ) × TellsFile t p text × SendsFront (call_status (first_refusal (read_tests t p))) old new text
 
 -- what an error leaves of a call that may be refused
-abbrev pub FailsCall : Tree → Path → ScriptError → Option (List ℕ) → Option (List ℕ) → Type 0
+abbrev pub FailsCall : Tree → Path → ScriptError → Written → Written → Type 0
 FailsCall t p Read old new = ⊥
-FailsCall t p Write old new = (text : List ℕ) × TellsFile t p text × AppendsFront old new text
-FailsCall t p Memory old new = Keeps old new ⊎ ((text : List ℕ) × TellsFile t p text × AppendsFront old new text)
+FailsCall t p Write old new = WritesCallFront t p old new
+FailsCall t p Memory old new = KeepsBoth old new ⊎ WritesCallFront t p old new

@@ -1,11 +1,25 @@
 //! A new region, formatted.
 
-ghost use Rattle.std.specs.Prelude.{IfOk};
-ghost use Rattle.nv_cli.specs.Formatting.{IsFormattedImage};
+ghost use Rattle.std.specs.Prelude.{◌≡◌, IfOk};
+ghost use Rattle.nv_cli.specs.Formatting.{IsFormattedImage, format_limits};
 
 use nv_region::MemRegion;
 use nv_session::{FormatRefusal, Made, Stop, new_region};
 use std::alloc::{AllocError, Global};
+
+/// The numbers that are taken, for a user whose region was refused so.
+pub fn format_limits(refusal: FormatRefusal) -> &'static str
+    ensures { result.now ≡ format_limits refusal }
+{
+    match refusal {
+        FormatRefusal::Length => "a region has 8 to 65536 blocks",
+        FormatRefusal::Cpus => "a region has 1 to 64 CPUs",
+        FormatRefusal::Tables => {
+            "a CPU has 1 to 64 table blocks, and a region more blocks than 1 + CPUs + CPUs * table blocks"
+        }
+        FormatRefusal::Stopped => "it was stopped",
+    }
+}
 
 /// A formatted region, or why none was made.
 #[derive(Drop)]

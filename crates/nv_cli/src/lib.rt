@@ -16,7 +16,7 @@ mod shell;
 
 pub use cleaning::{Cleaned, clean_image};
 pub use files::region_of_file;
-pub use formatting::{Formatted, format_image};
+pub use formatting::{Formatted, format_image, format_limits};
 pub use hinting::{Hint, Hints, LENGTH_REFUSED};
 pub use laws::{one_transcript, strict_shows_first_lines};
 pub use looking::{cat_image, list_image, stat_image};

@@ -2,7 +2,7 @@
 //!
 //! What is found wrong doesn't keep the calls from being made; the answer tells of it.
 
-ghost use Rattle.std.specs.Prelude.{◌≡◌, ℕ, false, if◌then◌else◌, IfOk, IfErr, OnOk, List, string_bytes};
+ghost use Rattle.std.specs.Prelude.{◌≡◌, ℕ, false, if◌then◌else◌, IfOk, IfErr, OnOk, OnErr, List, string_bytes};
 ghost use Rattle.nv_region.specs.Region.{region_of};
 ghost use Rattle.nv_text.specs.Refusals.{refusal_name};
 ghost use Rattle.nv_tree.specs.Path.{IsPath, Says};
@@ -10,6 +10,7 @@ ghost use Rattle.nv_tree.specs.Refusals.{Path};
 ghost use Rattle.nv_session.specs.nv_paths.Seen.{tree_of};
 ghost use Rattle.nv_session.specs.nv_calls.Reading.{IsRead};
 ghost use Rattle.nv_checking.specs.Checking.{IsRefusal};
+ghost use Rattle.nv_cli.specs.Sent.{Sends, SendsFront, written};
 ghost use Rattle.nv_cli.specs.Looking.{IsLook, IsOpened, IsSized, ListsNames, TellsNumbers, GivesBytes, WritesLook, FailsLook, FailsCat, WritesCall, FailsCall, WritesFile, FailsFile, WritesRefusal, FailsRefusal};
 
 use nv_checking::{Answered, Image, recover_image};
@@ -39,58 +40,61 @@ enum Opened<'a> {
 }
 
 /// Writes the names of the directory in the region of these bytes that a path leads to, a line each as a script prints them,
-/// or `refused NAME`.
+/// or `refused NAME` to the errors.
 ///
 /// Errors: `Memory` where a growth was refused, and nothing was written then; `Write` where the writer failed, and a front
 /// of the text was written then.
-pub fn list_image<W: Write>(
+pub fn list_image<W: Write, E: Write>(
     alloc: Global,
     bytes: &[u8],
     path: &[u8],
     writer: &mut W,
+    errors: &mut E,
 ) -> Result<Answered, ScriptError>
-    ensures ok { IfOk result (λ answered. WritesLook (ListsNames path.now) bytes.now (W.contents writer.old) (W.contents writer.new) answered) }
-    ensures err { IfErr result (λ e. FailsLook (ListsNames path.now) bytes.now e (W.contents writer.old) (W.contents writer.new)) }
+    ensures ok { IfOk result (λ answered. WritesLook (ListsNames path.now) bytes.now (written (W.contents writer.old) (E.contents errors.old)) (written (W.contents writer.new) (E.contents errors.new)) answered) }
+    ensures err { IfErr result (λ e. FailsLook (ListsNames path.now) bytes.now e (written (W.contents writer.old) (E.contents errors.old)) (written (W.contents writer.new) (E.contents errors.new))) }
 {
     let look = look_at_names(alloc, bytes, path)?;
-    write_text(writer, look.text.as_bytes())?;
+    write_look(&look, writer, errors)?;
     Ok(look.answered)
 }
 
 /// Writes the numbers of the inode in the region of these bytes that a path leads to, as a script prints them, or
-/// `refused NAME`. Errors as of `list_image`.
-pub fn stat_image<W: Write>(
+/// `refused NAME` to the errors. Errors as of `list_image`.
+pub fn stat_image<W: Write, E: Write>(
     alloc: Global,
     bytes: &[u8],
     path: &[u8],
     writer: &mut W,
+    errors: &mut E,
 ) -> Result<Answered, ScriptError>
-    ensures ok { IfOk result (λ answered. WritesLook (TellsNumbers path.now) bytes.now (W.contents writer.old) (W.contents writer.new) answered) }
-    ensures err { IfErr result (λ e. FailsLook (TellsNumbers path.now) bytes.now e (W.contents writer.old) (W.contents writer.new)) }
+    ensures ok { IfOk result (λ answered. WritesLook (TellsNumbers path.now) bytes.now (written (W.contents writer.old) (E.contents errors.old)) (written (W.contents writer.new) (E.contents errors.new)) answered) }
+    ensures err { IfErr result (λ e. FailsLook (TellsNumbers path.now) bytes.now e (written (W.contents writer.old) (E.contents errors.old)) (written (W.contents writer.new) (E.contents errors.new))) }
 {
     let look = look_at_numbers(alloc, bytes, path)?;
-    write_text(writer, look.text.as_bytes())?;
+    write_look(&look, writer, errors)?;
     Ok(look.answered)
 }
 
 /// Writes the bytes of the file in the region of these bytes that a path leads to, from the first to the last, or
-/// `refused NAME`. Holes are zeros.
+/// `refused NAME` to the errors. Holes are zeros.
 ///
 /// It holds a piece of the file at a time. Errors: `Memory` where a growth was refused, and `Write` where the writer
 /// failed; a front of the bytes, or of the refusal, was written then, or nothing.
-pub fn cat_image<W: Write>(
+pub fn cat_image<W: Write, E: Write>(
     alloc: Global,
     bytes: &[u8],
     path: &[u8],
     writer: &mut W,
+    errors: &mut E,
 ) -> Result<Answered, ScriptError>
-    ensures ok { IfOk result (λ answered. WritesLook (GivesBytes path.now) bytes.now (W.contents writer.old) (W.contents writer.new) answered) }
-    ensures err { IfErr result (λ e. FailsCat (GivesBytes path.now) bytes.now e (W.contents writer.old) (W.contents writer.new)) }
+    ensures ok { IfOk result (λ answered. WritesLook (GivesBytes path.now) bytes.now (written (W.contents writer.old) (E.contents errors.old)) (written (W.contents writer.new) (E.contents errors.new)) answered) }
+    ensures err { IfErr result (λ e. FailsCat (GivesBytes path.now) bytes.now e (written (W.contents writer.old) (E.contents errors.old)) (written (W.contents writer.new) (E.contents errors.new))) }
 {
     let opened = open_image(alloc, bytes)?;
     match opened {
         Opened::Mounted(mount) => {
-            let status = cat_file(alloc, &mount, path, writer)?;
+            let status = cat_file(alloc, &mount, path, writer, errors)?;
             Ok(Answered {
                 status,
                 faults: mount.faults().len(),
@@ -98,9 +102,26 @@ pub fn cat_image<W: Write>(
         }
         Opened::Refused(refusal) => {
             let look = refused_look(alloc, refusal)?;
-            write_text(writer, look.text.as_bytes())?;
+            write_text(errors, look.text.as_bytes())?;
             Ok(look.answered)
         }
+    }
+}
+
+// Writes what is told of a look: a refusal to the errors, and all else to the writer.
+fn write_look<W: Write, E: Write>(
+    look: &Look,
+    writer: &mut W,
+    errors: &mut E,
+) -> Result<(), ScriptError>
+    ensures ok { OnOk result (Sends look.now.answered.status (written (W.contents writer.old) (E.contents errors.old)) (written (W.contents writer.new) (E.contents errors.new)) (string_bytes look.now.text)) }
+    ensures err { OnErr result (SendsFront look.now.answered.status (written (W.contents writer.old) (E.contents errors.old)) (written (W.contents writer.new) (E.contents errors.new)) (string_bytes look.now.text)) }
+    ensures kind { IfErr result (λ e. e ≡ ScriptError.Write) }
+{
+    if look.answered.status == Last::Sound.status() {
+        write_text(writer, look.text.as_bytes())
+    } else {
+        write_text(errors, look.text.as_bytes())
     }
 }
 
@@ -179,20 +200,21 @@ fn status_of(is_refused: bool) -> u8
 }
 
 // Writes the bytes of the file that a path leads to, or why they aren't read. Answers the exit status.
-fn cat_file<P: Pmem + Drop, W: Write>(
+fn cat_file<P: Pmem + Drop, W: Write, E: Write>(
     alloc: Global,
     mount: &Fs<P>,
     path: &[u8],
     writer: &mut W,
+    errors: &mut E,
 ) -> Result<u8, ScriptError>
     requires { mount.now.stopped ≡ false }
-    ensures ok { (p : Path) → Says path.now p → IfOk result (λ status. WritesCall (tree_of (P.region mount.now.memory) mount.now.rows) p (W.contents writer.old) (W.contents writer.new) status) }
-    ensures err { (p : Path) → Says path.now p → IfErr result (λ e. FailsCall (tree_of (P.region mount.now.memory) mount.now.rows) p e (W.contents writer.old) (W.contents writer.new)) }
+    ensures ok { (p : Path) → Says path.now p → IfOk result (λ status. WritesCall (tree_of (P.region mount.now.memory) mount.now.rows) p (written (W.contents writer.old) (E.contents errors.old)) (written (W.contents writer.new) (E.contents errors.new)) status) }
+    ensures err { (p : Path) → Says path.now p → IfErr result (λ e. FailsCall (tree_of (P.region mount.now.memory) mount.now.rows) p e (written (W.contents writer.old) (E.contents errors.old)) (written (W.contents writer.new) (E.contents errors.new))) }
 {
     // No bytes: the same tests.
     match mount.read(path, 0, 0) {
         Ok(_no_bytes) => write_file(mount, path, writer),
-        Err(refusal) => write_refusal(alloc, refusal, writer),
+        Err(refusal) => write_refusal(alloc, refusal, errors),
     }
 }
 

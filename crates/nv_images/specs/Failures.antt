@@ -1,8 +1,9 @@
 -- What the failures of a command stand for, and their texts.
-use Rattle.std.specs.Prelude.{ℕ, List, ◌++◌, codes, Option, Some, None}
+use Rattle.std.specs.Prelude.{ℕ, List, ◌++◌, codes, Option, Some, None, option_map}
 use Rattle.std.specs.IoError.{error_kind}
 use Rattle.std.specs.declared.io.ErrorKind.{ErrorKind}
 use Rattle.std.specs.declared.io.ErrorKind.TheVariants.{NotFound, IsADirectory, PermissionDenied}
+use Rattle.nv_images.specs.Shown.{shown_text}
 use Rattle.nv_images.specs.declared.reason.Reason.{Reason}
 use Rattle.nv_images.specs.declared.reason.Reason.TheVariants.{PathNotUtf8, System}
 use Rattle.nv_images.specs.declared.failure.Failure.{Failure}
@@ -21,10 +22,10 @@ reason_text PathNotUtf8 = Some (codes "its path isn't UTF-8")
 reason_text (System error) = kind_text (error_kind error)
 reason_text _ = None
 
--- the text for a failure; no text is promised of an answer's own error, and of a file that can't be written
+-- the text for a failure; no text is promised of an answer's own error, of a file that can't be written, and of words with control characters
 abbrev pub failure_text : Failure → Option (List ℕ)
-failure_text (CannotRead path reason) = Some (codes "cannot read " ++ path.now)
-failure_text (NothingToWrite path) = Some (codes "cannot write " ++ path.now ++ codes ": there is no region")
+failure_text (CannotRead path reason) = option_map (λ shown. codes "cannot read " ++ shown) (shown_text path.now)
+failure_text (NothingToWrite path) = option_map (λ shown. codes "cannot write " ++ shown ++ codes ": there is no region") (shown_text path.now)
 failure_text WordNotUtf8 = Some (codes "a word of the command line isn't UTF-8")
-failure_text (NoClass name) = Some (codes "no class of faults is named " ++ name.now)
+failure_text (NoClass name) = option_map (λ shown. codes "no class of faults is named " ++ shown) (shown_text name.now)
 failure_text _ = None

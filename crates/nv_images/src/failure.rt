@@ -4,6 +4,7 @@ ghost use Rattle.std.specs.Prelude.{◌≡◌, MatchResult};
 ghost use Rattle.std.specs.Process.{exit_status};
 
 use crate::reason::{Reason, WriteReason};
+use crate::shown::Shown;
 use nv_stream::{ScriptError, Unread, Unsaved};
 use std::alloc::AllocError;
 use std::fmt;
@@ -109,13 +110,17 @@ impl fmt::Display for Failure<'_> {
 
     fn fmt<W: fmt::Write>(&self, f: &mut fmt::Formatter<W>) -> fmt::Result {
         match self {
-            Failure::CannotRead(path, _) => write!(f, "cannot read {path}"),
+            Failure::CannotRead(path, _) => write!(f, "cannot read {}", Shown(path)),
             Failure::CannotWrite(path, unsaved) => {
-                write!(f, "cannot write {path}: {}", WriteReason(*unsaved))
+                let (path, unsaved) = (*path, *unsaved);
+                let shown = Shown(path);
+                write!(f, "cannot write {shown}: {}", WriteReason { path, unsaved })
             }
-            Failure::NothingToWrite(path) => write!(f, "cannot write {path}: there is no region"),
+            Failure::NothingToWrite(path) => {
+                write!(f, "cannot write {}: there is no region", Shown(path))
+            }
             Failure::WordNotUtf8 => f.write_str("a word of the command line isn't UTF-8"),
-            Failure::NoClass(name) => write!(f, "no class of faults is named {name}"),
+            Failure::NoClass(name) => write!(f, "no class of faults is named {}", Shown(name)),
             Failure::Answer(error) => write!(f, "{error}"),
         }
     }

@@ -1,14 +1,21 @@
 //! The bytes of the image in a file.
 
-ghost use Rattle.std.specs.Prelude.{◌≡◌, OnOk, OnErr, IfOk, IfErr, IfSome, IsNone, codes};
+ghost use Rattle.std.specs.Prelude.{◌≡◌, OnOk, OnErr, IfOk, IfErr, IfSome, IsNone, Some, codes, length};
+ghost use Rattle.nv_region.specs.Region.{region_of};
+ghost use Rattle.nv_super.specs.Super.{IsRefused};
+ghost use Rattle.nv_super.specs.declared.superblock.SuperFault.{SuperFault};
+ghost use Rattle.nv_images.specs.Superblocks.{said_of, known_content};
 ghost use Rattle.std.specs.Io.KnownBytes.{Appends};
 ghost use Rattle.nv_stream.specs.Streams.{AppendsFront};
 ghost use Rattle.nv_images.specs.Images.{IsRegionLength, KeepsLongest, IsUnread, length_of};
 
 use crate::failure::Failure;
+use crate::superblock::{BadSuper, Content, bad_super, known_content};
+use nv_region::ImageRegion;
 use nv_report::{BadLength, LONGEST_REGION, is_region_length};
-use nv_stream::{Contents, ScriptError, contents_at, write_text};
-use std::io::Write;
+use nv_stream::{Contents, Opened, ScriptError, Unread, contents_of, open_at, write_text};
+use std::alloc::Global;
+use std::io::{Read, Write};
 use std::rt::Files;
 
 // The status of an image that is refused.
@@ -22,6 +29,45 @@ pub enum Image {
     TooLong(BadLength),
 }
 
+/// The file of an image, which is open and not read yet.
+#[derive(Drop)]
+pub struct ImageFile<'a, F: Drop> {
+    pub path: &'a str,
+    pub opened: Opened<F>,
+}
+
+/// Opens the file of an image. Errors: `CannotRead`.
+pub fn open_image<'a, H: Files>(
+    rt: &H,
+    path: &'a str,
+) -> Result<ImageFile<'a, H::File>, Failure<'a>>
+    ensures path { IfOk result (λ file. file.path ≡ path.entry) }
+    ensures error { IfErr result (IsUnread path.entry) }
+{
+    match open_at(rt, path) {
+        Ok(opened) => Ok(ImageFile { path, opened }),
+        Err(error) => Err(Failure::unread(path, Unread::from(error))),
+    }
+}
+
+/// Reads an image, once.
+///
+/// Errors: `CannotRead` where the file can't be read, and want of memory.
+pub fn read_image<'a, F: Read + Drop>(
+    alloc: Global,
+    file: ImageFile<'a, F>,
+) -> Result<Image, Failure<'a>>
+    ensures longest { IfOk result KeepsLongest }
+    ensures error { IfErr result (IsUnread file.entry.path) }
+{
+    let ImageFile { path, opened } = file;
+    match contents_of(alloc, opened, LONGEST_REGION) {
+        Ok(Contents::Whole(bytes)) => Ok(Image::Bytes(bytes)),
+        Ok(Contents::Longer(told)) => Ok(Image::TooLong(length_of(told))),
+        Err(unread) => Err(Failure::unread(path, unread)),
+    }
+}
+
 /// Reads the image in the file at a path, once.
 ///
 /// Errors: `CannotRead` where the file can't be opened or read, and want of memory.
@@ -29,11 +75,7 @@ pub fn image_at<'a, H: Files + AllocGlobal>(rt: &H, path: &'a str) -> Result<Ima
     ensures longest { IfOk result KeepsLongest }
     ensures error { IfErr result (IsUnread path.entry) }
 {
-    match contents_at(rt, path, LONGEST_REGION) {
-        Ok(Contents::Whole(bytes)) => Ok(Image::Bytes(bytes)),
-        Ok(Contents::Longer(told)) => Ok(Image::TooLong(length_of(told))),
-        Err(unread) => Err(Failure::unread(path, unread)),
-    }
+    read_image(rt.alloc(), open_image(rt, path)?)
 }
 
 /// Writes the answer to bytes that are too many for a region, and gives its exit status. Errors: `Write` where the writer failed.
@@ -52,22 +94,83 @@ pub fn tell_length<H: Eprint>(rt: &H, length: BadLength) {
     let _ = eprintln!(rt; "{length}");
 }
 
-/// The same, where an answer of this status may be such a refusal of an image of so many bytes.
-pub fn tell_refused_length<H: Eprint>(rt: &H, status: u8, length: u64) {
-    if let Some(told) = told_length(status, length) {
-        tell_length(rt, told);
+/// Why an image isn't accepted: for its length, or for the words of its superblock; and what else its bytes are, where that is
+/// recognized.
+#[derive(Clone, Copy, Debug)]
+pub struct Unaccepted {
+    length: Option<BadLength>,
+    words: Option<BadSuper>,
+    content: Option<Content>,
+}
+
+/// Why an image of these bytes isn't accepted, where that is told.
+pub fn why_refused(alloc: Global, bytes: &[u8]) -> Option<Unaccepted>
+    ensures length { IfSome result (λ why. IfSome why.length (λ told. (told ≡ BadLength.Bytes (length bytes.now)) × (¬ IsRegionLength (length bytes.now)))) }
+    ensures words { IfSome result (λ why. IfSome why.words (λ words. (fault : SuperFault) × IsRefused (region_of bytes.now) fault × (said_of (region_of bytes.now) fault ≡ Some words))) }
+    ensures content { IfSome result (λ why. why.content ≡ known_content bytes.now) }
+    ensures none { IsNone result → IsRegionLength (length bytes.now) }
+{
+    let length = told_length(bytes.len() as u64);
+    let words = told_words(alloc, bytes);
+    if length.is_none() && words.is_none() {
+        return None;
+    }
+    Some(Unaccepted {
+        length,
+        words,
+        content: known_content(bytes),
+    })
+}
+
+/// Says on standard error for what the image of these bytes was refused, where an answer of this status may be that.
+pub fn tell_refused<H: Eprint + AllocGlobal>(rt: &H, status: u8, bytes: &[u8]) {
+    if status == REFUSED_STATUS {
+        tell_unaccepted(rt, why_refused(rt.alloc(), bytes));
     }
 }
 
-// The length for which an image of so many bytes was refused, where an answer of this status may be such a refusal.
-fn told_length(status: u8, length: u64) -> Option<BadLength>
-    ensures told { IfSome result (λ told. (status ≡ 2) × (told ≡ BadLength.Bytes length) × (¬ IsRegionLength length)) }
-    ensures none { IsNone result → status ≡ 2 → IsRegionLength length }
+/// Says on standard error why an image wasn't accepted, where it wasn't.
+pub fn tell_unaccepted<H: Eprint>(rt: &H, why: Option<Unaccepted>) {
+    let Some(
+        Unaccepted {
+            length,
+            words,
+            content,
+        },
+    ) = why
+    else {
+        return;
+    };
+    if let Some(length) = length {
+        tell_length(rt, length);
+    }
+    if let Some(words) = words {
+        let _ = eprintln!(rt; "{words}");
+    }
+    if let Some(content) = content {
+        let _ = eprintln!(rt; "{content}");
+    }
+}
+
+// What isn't accepted of the superblock of an image.
+fn told_words(alloc: Global, bytes: &[u8]) -> Option<BadSuper>
+    ensures { IfSome result (λ words. (fault : SuperFault) × IsRefused (region_of bytes.now) fault × (said_of (region_of bytes.now) fault ≡ Some words)) }
 {
-    if status == REFUSED_STATUS && !is_region_length(length) {
-        Some(BadLength::Bytes(length))
-    } else {
+    match ImageRegion::from_bytes(alloc, bytes) {
+        Ok(memory) => bad_super(&memory),
+        Err(_) => None,
+    }
+}
+
+// The length of an image, where no region has so many bytes.
+fn told_length(length: u64) -> Option<BadLength>
+    ensures told { IfSome result (λ told. (told ≡ BadLength.Bytes length) × (¬ IsRegionLength length)) }
+    ensures none { IsNone result → IsRegionLength length }
+{
+    if is_region_length(length) {
         None
+    } else {
+        Some(BadLength::Bytes(length))
     }
 }
 

@@ -1,7 +1,8 @@
 //! Why a file can't be read or written, for the user.
 
+use crate::shown::ShownBeside;
 use nv_report::BadLength;
-use nv_stream::Unsaved;
+use nv_stream::{Beside, Unsaved};
 use std::fmt;
 use std::io::{Error, ErrorKind};
 
@@ -36,15 +37,21 @@ impl fmt::Display for Reason {
     }
 }
 
-/// Why a file was not written.
+/// Why the file at a path was not written.
 #[derive(Clone, Copy, Debug)]
-pub(crate) struct WriteReason(pub Unsaved);
+pub(crate) struct WriteReason<'a> {
+    pub path: &'a str,
+    pub unsaved: Unsaved,
+}
 
-impl fmt::Display for WriteReason {
+impl fmt::Display for WriteReason<'_> {
     fn fmt<W: fmt::Write>(&self, f: &mut fmt::Formatter<W>) -> fmt::Result {
-        let error = match &self.0 {
+        let error = match &self.unsaved {
             Unsaved::Exists => return f.write_str("it is there already; --force replaces it"),
             Unsaved::NotFile => return f.write_str("it isn't a file"),
+            Unsaved::IsRead => return f.write_str("this command reads it; give another name"),
+            Unsaved::InUse => return f.write_str("in use by another run, which is to replace it"),
+            Unsaved::Changed(number) => return self.write_changed(*number, f),
             Unsaved::NoName => return f.write_str("no name is left for a new file beside it"),
             Unsaved::Memory => return f.write_str("memory ran out"),
             Unsaved::Unwritable(error) => error,
@@ -55,5 +62,13 @@ impl fmt::Display for WriteReason {
             ErrorKind::StorageFull => f.write_str("the disk is full"),
             _ => write!(f, "{error}"),
         }
+    }
+}
+
+impl WriteReason<'_> {
+    fn write_changed<W: fmt::Write>(&self, number: u32, f: &mut fmt::Formatter<W>) -> fmt::Result {
+        let path = self.path;
+        let new = ShownBeside(Beside { path, number });
+        write!(f, "changed meanwhile; the new file is {new}")
     }
 }

@@ -1,10 +1,12 @@
 //! Writing files: images, and what is drawn of them.
 
-ghost use Rattle.std.specs.Prelude.{IfErr};
+ghost use Rattle.std.specs.Prelude.{◌≡◌, IfErr, IfOk};
 ghost use Rattle.nv_images.specs.Images.{IsUnsaved};
 
 use crate::failure::Failure;
-use nv_stream::{save_new, save_over};
+use crate::telling::tell_left;
+use nv_stream::{Allowed, Lock, Place, Stamp, hold_place, save_at, try_beside, write_text};
+use std::io;
 use std::rt::Files;
 
 /// A file that is to be written.
@@ -13,39 +15,99 @@ pub struct Target<'a> {
     pub path: &'a str,
     /// Whether it may take the place of a file that is there.
     pub force: bool,
-    /// This process's number, which tells its new files from those of others.
-    pub process: u32,
 }
 
-impl<'a> Target<'a> {
-    ghost use Rattle.std.specs.Prelude.{◌≡◌, true};
+/// A file that is to be written, whose place is held: what is there has this run's lock, as long as this is kept.
+#[derive(Drop)]
+pub struct Held<'a, F: Drop> {
+    pub target: Target<'a>,
+    /// None for standard output, which `-` stands for.
+    pub place: Option<Place<F>>,
+}
 
-    /// The file at this path, in the place of what is there.
-    pub fn over(path: &'a str, process: u32) -> Target<'a>
-        ensures { result ≡ record { path = path.entry; force = true; process = process } }
+impl<F: Drop> Held<'_, F> {
+    ghost use Rattle.std.specs.Prelude.{◌≡◌, is_none};
+
+    /// Whether the bytes go to standard output.
+    pub fn is_output(&self) -> bool
+        ensures { result ≡ is_none self.now.place }
     {
-        Target {
-            path,
-            force: true,
-            process,
-        }
+        self.place.is_none()
     }
 }
 
-/// Writes a file of these bytes.
+/// Holds the place of a file that is to be written.
 ///
-/// Errors: `CannotWrite`, and want of memory; what was at its place is as before.
-pub fn save_file<'a, H: Files + AllocGlobal>(
+/// Errors: `CannotWrite`, where what is there is no file, or is held by another run.
+pub fn hold<'a, H: Files>(rt: &H, target: Target<'a>) -> Result<Held<'a, H::File>, Failure<'a>>
+where
+    H::File: Lock,
+    ensures target { IfOk result (λ held. held.target ≡ target.entry) }
+    ensures error { IfErr result (IsUnsaved target.entry.path) }
+{
+    if target.path == "-" {
+        return Ok(Held {
+            target,
+            place: None,
+        });
+    }
+    match hold_place(rt, target.path) {
+        Ok(place) => Ok(Held {
+            target,
+            place: Some(place),
+        }),
+        Err(unsaved) => Err(Failure::unsaved(target.path, unsaved)),
+    }
+}
+
+/// Sees that a file can be written at its place, before anything is done for it: it doesn't replace what the command
+/// reads, and another file only by force or where that is the image which is read; and a new file can be made beside
+/// it. What a run that was stopped has left there is named on standard error.
+///
+/// Errors: `CannotWrite`, and want of memory.
+pub fn see_ready<'a, H: Files + AllocGlobal + Eprint>(
     rt: &H,
-    target: Target<'a>,
+    held: &Held<'a, H::File>,
+    read: Option<Stamp>,
+    image: Option<Stamp>,
+) -> Result<(), Failure<'a>>
+where
+    H::File: Lock,
+    ensures { IfErr result (IsUnsaved held.now.target.path) }
+{
+    let Target { path, force } = held.target;
+    let Some(place) = &held.place else {
+        return Ok(());
+    };
+    let allowed = Allowed { read, image, force };
+    if let Some(unsaved) = place.refusal(allowed) {
+        return Err(Failure::unsaved(path, unsaved));
+    }
+    match try_beside(rt, path) {
+        Ok(left) => {
+            tell_left(rt, path, left);
+            Ok(())
+        }
+        Err(unsaved) => Err(Failure::unsaved(path, unsaved)),
+    }
+}
+
+/// Writes a file of these bytes at its place, or the bytes to standard output.
+///
+/// Errors: `CannotWrite`, and want of memory; what was at its place is as before. Standard output that can't be written.
+pub fn save_file<'a, H: Files + AllocGlobal + Print>(
+    rt: &H,
+    held: &Held<'a, H::File>,
     bytes: &[u8],
 ) -> Result<(), Failure<'a>>
-    ensures { IfErr result (IsUnsaved target.entry.path) }
+where
+    H::File: Lock,
+    ensures { IfErr result (IsUnsaved held.now.target.path) }
 {
-    let saved = if target.force {
-        save_over(rt, target.path, bytes, target.process)
-    } else {
-        save_new(rt, target.path, bytes, target.process)
+    let path = held.target.path;
+    let Some(place) = &held.place else {
+        write_text(&mut io::writer(rt), bytes)?;
+        return Ok(());
     };
-    saved.map_err(|unsaved| Failure::unsaved(target.path, unsaved))
+    save_at(rt, path, place, bytes).map_err(|unsaved| Failure::unsaved(path, unsaved))
 }

@@ -1,5 +1,5 @@
 -- What is read of a file that may be too long, and why nothing is.
-use Rattle.std.specs.Prelude.{◌≡◌, ◌≤◌, ◌<◌, ℕ, List, length, Some, None, ⊤}
+use Rattle.std.specs.Prelude.{◌≡◌, ◌≤◌, ◌<◌, ℕ, if◌then◌else◌, List, length, Some, None, ⊤, bytes_eq, codes}
 use Rattle.std.specs.IoError.{error_kind}
 use Rattle.std.specs.declared.io.Error.{Error}
 use Rattle.std.specs.declared.io.ErrorKind.{ErrorKind}
@@ -8,6 +8,10 @@ use Rattle.nv_stream.specs.declared.contents.Contents.{Contents}
 use Rattle.nv_stream.specs.declared.contents.Contents.TheVariants.{Whole, Longer}
 use Rattle.nv_stream.specs.declared.contents.Unread.{Unread}
 use Rattle.nv_stream.specs.declared.contents.Unread.TheVariants.{Unreadable, Memory}
+
+-- the path by which the system opens a file: `-` stands for standard input
+abbrev pub system_path : List ℕ → List ℕ
+system_path path = if bytes_eq path (codes "-") then codes "/dev/stdin" else path
 
 -- these bytes were read whole, or there are more of them than the limit
 abbrev pub AreRead : ℕ → List ℕ → Contents → Type 0

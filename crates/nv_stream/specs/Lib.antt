@@ -1,4 +1,5 @@
-pub mod Lines
-pub mod Known
-pub mod Streams
 pub mod Contents
+pub mod Known
+pub mod Lines
+pub mod Places
+pub mod Streams

@@ -1,8 +1,9 @@
 //! The bytes of a file, where it isn't longer than a limit.
 
-ghost use Rattle.std.specs.Prelude.{◌<◌, ◌≤◌, ◌^◌, IfOk, IfSome};
-ghost use Rattle.nv_stream.specs.Contents.{AreRead, KeepsLimit};
+ghost use Rattle.std.specs.Prelude.{◌≡◌, ◌<◌, ◌≤◌, ◌^◌, IfOk, IfSome};
+ghost use Rattle.nv_stream.specs.Contents.{AreRead, KeepsLimit, system_path};
 
+use crate::place::Stamp;
 use std::alloc::{AllocError, Global};
 use std::fs::OpenFile;
 use std::io::{ErrorKind, Read};
@@ -81,20 +82,42 @@ pub fn read_whole<R: Read + Drop>(
     }
 }
 
-/// What the file at a path holds, where that are no more than `limit` bytes. A file that says that it is longer isn't
-/// read. Errors as of `read_whole`.
-pub fn contents_at<H: Files + AllocGlobal>(
-    rt: &H,
-    path: &str,
+/// A file that is open, and not read yet.
+#[derive(Drop)]
+pub struct Opened<F: Drop> {
+    pub file: F,
+    /// Of the file when it was opened.
+    pub stamp: Stamp,
+}
+
+// The path by which the system opens a file.
+fn system_path(path: &str) -> &str
+    ensures { result.now ≡ system_path path.now }
+{
+    if path == "-" { "/dev/stdin" } else { path }
+}
+
+/// Opens the file at a path for reading, which is standard input for `-`. Errors: the system's.
+pub fn open_at<H: Files>(rt: &H, path: &str) -> Result<Opened<H::File>, Error> {
+    let file = fs::open(rt, system_path(path))?;
+    let stamp = Stamp::of(&file.metadata()?);
+    Ok(Opened { file, stamp })
+}
+
+/// What an open file holds, where that are no more than `limit` bytes. A file that says that it is longer isn't read.
+/// Errors as of `read_whole`.
+pub fn contents_of<F: Read + Drop>(
+    alloc: Global,
+    opened: Opened<F>,
     limit: usize,
 ) -> Result<Contents, Unread>
     requires { limit < 2 ^ 62 }
     ensures { IfOk result (KeepsLimit limit) }
 {
-    let file = fs::open(rt, path)?;
-    let told = file.metadata()?.len();
+    let Opened { file, stamp } = opened;
+    let told = stamp.length;
     match usize::try_from(told) {
-        Ok(length) if length <= limit => read_whole(rt.alloc(), file, length, limit),
+        Ok(length) if length <= limit => read_whole(alloc, file, length, limit),
         _ => Ok(Contents::Longer(Some(told))),
     }
 }

@@ -1,15 +1,18 @@
 //! Writing a file whole or not at all: a new file is written beside its place, and then moved there.
 //!
-//! A stop at any time leaves what was there before or the whole new file, and at most a file `PATH.new-TAG-N` beside it. Only
-//! tested: no contract can say what a file holds.
+//! A stop at any time leaves what was there before or the whole new file, and at most the new one beside it, which a later
+//! run tells of. Only tested: no contract can say what a file holds.
 
 ghost use Rattle.std.specs.Prelude.{◌≡◌, OnOk};
 ghost use Rattle.std.specs.Io.KnownBytes.{Appends};
 ghost use Rattle.nv_stream.specs.declared.saving.Unsaved.TheVariants.{Unwritable, Memory};
 
+use crate::beside::Beside;
+use crate::place::{Lock, Place, is_as_held, is_locked_now};
 use std::alloc::{AllocError, AllocFailed};
 use std::fs::{File, OpenFile, Permissions};
 use std::io::{ErrorKind, Write};
+use std::os::unix::fs::PermissionsExt;
 use std::rt::Files;
 use std::{fs, io};
 use thiserror::Error;
@@ -26,6 +29,15 @@ pub enum Unsaved {
     /// What is at the path is no file.
     #[error("what is at the path is no file")]
     NotFile,
+    /// What is at the path is read by the command that is to write it.
+    #[error("what is at the path is read meanwhile")]
+    IsRead,
+    /// Another run holds the file at the path, to replace it.
+    #[error("another run holds the file at the path")]
+    InUse,
+    /// What was at the path was changed or replaced since. The new file is beside it, with this number in its name.
+    #[error("the file at the path changed meanwhile")]
+    Changed(u32),
     /// All names for a new file beside it are taken.
     #[error("all names for a new file beside it are taken")]
     NoName,
@@ -61,110 +73,141 @@ impl<T: Drop> From<AllocFailed<T>> for Unsaved {
     }
 }
 
-/// Writes a file of these bytes where nothing is. The tag tells the new file's name from that of other programs.
-pub fn save_new<H: Files + AllocGlobal>(
+// A new file beside a place.
+#[derive(Drop)]
+struct New<F: Drop> {
+    file: F,
+    name: String,
+    number: u32,
+}
+
+/// Makes a new file beside the place of a file, and takes it away again. Answers the number of a file that a run which was
+/// stopped has left there.
+///
+/// Errors: `NoName`, the system's error where no file can be made there, and want of memory.
+pub fn try_beside<H: Files + AllocGlobal>(rt: &H, path: &str) -> Result<Option<u32>, Unsaved>
+where
+    H::File: Lock,
+{
+    let (new, left) = open_beside(rt, path)?;
+    fs::remove_file(rt, new.name.as_str())?;
+    Ok(left)
+}
+
+/// Writes a file of these bytes at a place that is held: where nothing was, or over what was there, whose permissions it gets.
+///
+/// Errors: `Changed` where that isn't there any more as it was, and the new file stays beside it; `NoName`, the system's error
+/// and want of memory.
+pub fn save_at<H: Files + AllocGlobal>(
     rt: &H,
     path: &str,
+    place: &Place<H::File>,
     bytes: &[u8],
-    tag: u32,
-) -> Result<(), Unsaved> {
-    if is_taken(rt, path)? {
-        return Err(Unsaved::Exists);
+) -> Result<(), Unsaved>
+where
+    H::File: Lock,
+{
+    let (mut new, _left) = open_beside(rt, path)?;
+    match fill_and_put(rt, path, place, bytes, &mut new) {
+        Ok(()) => Ok(()),
+        Err(Unsaved::Changed(number)) => Err(Unsaved::Changed(number)),
+        Err(unsaved) => {
+            let _ = fs::remove_file(rt, new.name.as_str());
+            Err(unsaved)
+        }
     }
-    let beside = write_beside(rt, path, bytes, tag, None)?;
+}
+
+// Fills a new file, and moves it to its place.
+fn fill_and_put<H: Files>(
+    rt: &H,
+    path: &str,
+    place: &Place<H::File>,
+    bytes: &[u8],
+    new: &mut New<H::File>,
+) -> Result<(), Unsaved> {
+    fill(&mut new.file, bytes, place.mode)?;
+    if !is_as_held(rt, path, place.named, place.file)? {
+        return Err(Unsaved::Changed(new.number));
+    }
+    if place.named.is_some() {
+        fs::rename(rt, new.name.as_str(), path)?;
+        return Ok(());
+    }
+    put_where_nothing_is(rt, path, new)
+}
+
+// Moves a new file to a place where nothing is.
+fn put_where_nothing_is<H: Files>(rt: &H, path: &str, new: &New<H::File>) -> Result<(), Unsaved> {
     // Unlike a rename, a link never takes the place of a file that has come in between.
-    let linked = fs::hard_link(rt, beside.as_str(), path);
-    let _ = fs::remove_file(rt, beside.as_str());
-    match linked {
-        Ok(()) => Ok(()),
-        Err(error) if error.kind() == ErrorKind::AlreadyExists => Err(Unsaved::Exists),
-        Err(error) => Err(Unsaved::Unwritable(error)),
-    }
-}
-
-/// Writes a file of these bytes, in the place of the file that is there, whose permissions it gets, or where nothing is.
-pub fn save_over<H: Files + AllocGlobal>(
-    rt: &H,
-    path: &str,
-    bytes: &[u8],
-    tag: u32,
-) -> Result<(), Unsaved> {
-    let permissions = permissions_at(rt, path)?;
-    let beside = write_beside(rt, path, bytes, tag, permissions)?;
-    match fs::rename(rt, beside.as_str(), path) {
-        Ok(()) => Ok(()),
-        Err(error) => {
-            let _ = fs::remove_file(rt, beside.as_str());
-            Err(Unsaved::Unwritable(error))
+    match fs::hard_link(rt, new.name.as_str(), path) {
+        Ok(()) => {
+            let _ = fs::remove_file(rt, new.name.as_str());
+            Ok(())
+        }
+        Err(error) if error.kind() == ErrorKind::AlreadyExists => {
+            Err(Unsaved::Changed(new.number))
+        }
+        // The file system may have no links.
+        Err(_) => {
+            fs::rename(rt, new.name.as_str(), path)?;
+            Ok(())
         }
     }
 }
 
-// Whether there is something at the path, also a link that leads nowhere.
-fn is_taken<H: Files>(rt: &H, path: &str) -> Result<bool, io::Error> {
-    match fs::symlink_metadata(rt, path) {
-        Ok(_) => Ok(true),
-        Err(error) if error.kind() == ErrorKind::NotFound => Ok(false),
-        Err(error) => Err(error),
-    }
-}
-
-// The permissions of the file at the path, where there is one.
-fn permissions_at<H: Files>(rt: &H, path: &str) -> Result<Option<Permissions>, Unsaved> {
-    match fs::metadata(rt, path) {
-        Ok(found) if found.is_file() => Ok(Some(found.permissions())),
-        Ok(_) => Err(Unsaved::NotFile),
-        Err(error) if error.kind() == ErrorKind::NotFound => Ok(None),
-        Err(error) => Err(Unsaved::Unwritable(error)),
-    }
-}
-
-// Writes a new file of these bytes beside the path, and answers its name. After an `Err` there is none.
-fn write_beside<H: Files + AllocGlobal>(
-    rt: &H,
-    path: &str,
-    bytes: &[u8],
-    tag: u32,
-    permissions: Option<Permissions>,
-) -> Result<String, Unsaved> {
-    let (name, mut file) = open_beside(rt, path, tag)?;
-    match fill(&mut file, bytes, permissions) {
-        Ok(()) => Ok(name),
-        Err(error) => {
-            let _ = fs::remove_file(rt, name.as_str());
-            Err(Unsaved::Unwritable(error))
-        }
-    }
-}
-
-// Makes a new file beside the path, with a name that no file has.
+// Makes a new file beside the path, locked, with a name that no file has. With it comes the number of the first file of such
+// a name that a run which was stopped has left.
 fn open_beside<H: Files + AllocGlobal>(
     rt: &H,
     path: &str,
-    tag: u32,
-) -> Result<(String, H::File), Unsaved> {
+) -> Result<(New<H::File>, Option<u32>), Unsaved>
+where
+    H::File: Lock,
+{
+    let mut left = None;
     for number in 0..NAMES {
-        let name = format!(in rt.alloc(); "{path}.new-{tag}-{number}")?;
+        let name = format!(in rt.alloc(); "{}", Beside { path, number })?;
         match File::create_new(rt, name.as_str()) {
-            Ok(file) => return Ok((name, file)),
-            Err(error) if error.kind() == ErrorKind::AlreadyExists => {}
+            Ok(file) if is_locked_now(&file) => return Ok((New { file, name, number }, left)),
+            // Another run looks whether this was left, and takes the next name as well.
+            Ok(_) => fs::remove_file(rt, name.as_str())?,
+            Err(error) if error.kind() == ErrorKind::AlreadyExists => {
+                if left.is_none() && is_left(rt, name.as_str()) {
+                    left = Some(number);
+                }
+            }
             Err(error) => return Err(Unsaved::Unwritable(error)),
         }
     }
     Err(Unsaved::NoName)
 }
 
-// Writes all bytes into a file, and waits until they are kept.
-fn fill<F: Write + OpenFile>(
-    file: &mut F,
-    bytes: &[u8],
-    permissions: Option<Permissions>,
-) -> Result<(), io::Error>
+// Whether no run is writing the file of this name, which has bytes. A run locks its new file before it writes to it.
+fn is_left<H: Files>(rt: &H, name: &str) -> bool
+where
+    H::File: Lock,
+{
+    match fs::open(rt, name) {
+        Ok(file) => is_locked_now(&file) && has_bytes(&file),
+        Err(_) => false,
+    }
+}
+
+fn has_bytes<F: OpenFile>(file: &F) -> bool {
+    match file.metadata() {
+        Ok(found) => found.len() > 0,
+        Err(_) => false,
+    }
+}
+
+// Writes all bytes into a file, gives it these permissions, and waits until they are kept.
+fn fill<F: Write + OpenFile>(file: &mut F, bytes: &[u8], mode: Option<u32>) -> Result<(), io::Error>
     ensures { OnOk result (Appends (F.contents file.old) (F.contents file.new) bytes.now) }
 {
     file.write_all(bytes)?;
-    if let Some(permissions) = permissions {
-        file.set_permissions(permissions)?;
+    if let Some(mode) = mode {
+        file.set_permissions(Permissions::from_mode(mode))?;
     }
     file.sync_all()
 }

@@ -3,7 +3,9 @@
 use nv_args::{CheckOutput, Todo, read_words};
 use std::alloc::Global;
 
-const REFUSED: [&[&str]; 13] = [
+const REFUSED: [&[&str]; 15] = [
+    &["--version", "-V"],
+    &["version"],
     &["check", "a", "--workers", "65"],
     &["check", "a", "--workers", "0"],
     &["check", "a", "--summary", "--only-faults"],
@@ -29,21 +31,25 @@ const REFUSED: [&[&str]; 13] = [
 ];
 
 /// Words, and what they ask for.
-const ASKED: [(&[&str], Todo<'static>); 15] = [
+const ASKED: [(&[&str], Todo<'static>); 17] = [
+    (&["--version"], Todo::Version),
+    (&["-V"], Todo::Version),
     (
         &["run"],
         Todo::Run {
             script: None,
             image: None,
             save: None,
+            force: false,
         },
     ),
     (
-        &["run", "--image", "i", "--save=s", "a"],
+        &["run", "--image", "i", "--save=s", "--force", "a"],
         Todo::Run {
             script: Some("a"),
             image: Some("i"),
             save: Some("s"),
+            force: true,
         },
     ),
     (
@@ -130,13 +136,15 @@ const ASKED: [(&[&str], Todo<'static>); 15] = [
         Todo::Map {
             image: "i",
             svg: None,
+            force: false,
         },
     ),
     (
-        &["map", "--svg", "s", "i"],
+        &["map", "--svg", "s", "i", "--force"],
         Todo::Map {
             image: "i",
             svg: Some("s"),
+            force: true,
         },
     ),
     (&["explain", "l2"], Todo::Explain { class: "l2" }),

@@ -2,4 +2,4 @@ use Rattle.std.proofs.Common.{refl}
 use Rattle.nv_args.proofs.reading.map_of.Goals as goal
 
 pub returns-clause-some : goal.returns-clause-some
-returns-clause-some c = (refl, (rw c.in_ok-image.was at c.text_of.ensures, c.text_of-svg.ensures))
+returns-clause-some c = (refl, (rw c.in_ok-image.was at c.text_of.ensures, c.text_of-svg.ensures, c.is_given-force.ensures))

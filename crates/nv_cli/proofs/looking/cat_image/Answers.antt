@@ -1,9 +1,10 @@
-use Rattle.std.proofs.Common.{ap, length, string_bytes}
+use Rattle.std.proofs.Common.{ap, inr, length, string_bytes}
+use Rattle.std.proofs.KnownBytes.{Keeps-refl}
 use Rattle.std.proofs.lemmas.Result.{err_from_is_err_and}
 use Rattle.nv_region.specs.Region.{region_of}
 use Rattle.nv_cli.specs.Looking.{GivesBytes}
 use Rattle.nv_cli.proofs.Looks.{refused_look}
-use Rattle.nv_cli.proofs.Cats.{cat_looks, cat_fails}
+use Rattle.nv_cli.proofs.Cats.{cat_looks, cat_fails, no_zero}
 use Rattle.nv_cli.proofs.looking.cat_image.Goals as goal
 
 pub cat_file-requires : goal.cat_file-requires
@@ -24,7 +25,7 @@ returns-in_ok-write_text-in-Refused-clause-ok g c =
     let look = c.in_ok-look-in-Refused.look in (
       string_bytes look.text,
       refused_look (GivesBytes c.args.path.now) (region_of c.args.bytes.now) c.in-Refused.refusal (string_bytes look.text) look.answered (rw c.in-Refused.is at c.in_ok-opened.ensures) c.in_ok-look-in-Refused.ensures,
-      rw c.as_bytes.ensures.value at c.in_ok-write_text-in-Refused.ensures.ok,
+      inr (no_zero look.answered.status c.in_ok-look-in-Refused.ensures.0.1, Keeps-refl _, rw c.as_bytes.ensures.value at c.in_ok-write_text-in-Refused.ensures.ok),
     )
 
 pub returns-in_err-write_text-in-Refused-clause-err : goal.returns-in_err-write_text-in-Refused-clause-err
@@ -35,5 +36,5 @@ returns-in_err-write_text-in-Refused-clause-err g c =
       string_bytes look.text,
       look.answered,
       refused_look (GivesBytes c.args.path.now) (region_of c.args.bytes.now) c.in-Refused.refusal (string_bytes look.text) look.answered (rw c.in-Refused.is at c.in_ok-opened.ensures) c.in_ok-look-in-Refused.ensures,
-      rw c.as_bytes.ensures.value at c.in_err-write_text-in-Refused.ensures.err,
+      inr (no_zero look.answered.status c.in_ok-look-in-Refused.ensures.0.1, Keeps-refl _, rw c.as_bytes.ensures.value at c.in_err-write_text-in-Refused.ensures.err),
     )
