@@ -273,7 +273,7 @@ def read_source(crate, path):
     functions, types, values = [], [], {}
     owner, trait, open_to_all = "", "", False
     for number, line in enumerate(lines):
-        if line.startswith(("impl", "pub trait", "trait")):
+        if line.startswith(("impl", "pub trait", "trait")) and not line.endswith("{}"):
             owner, trait, open_to_all = owner_of(line)
         elif line.startswith("}"):
             owner, trait, open_to_all = "", "", False
