@@ -98,7 +98,7 @@ fn system_path(path: &str) -> &str
 }
 
 /// Opens the file at a path for reading, which is standard input for `-`. Errors: the system's.
-pub fn open_at<H: Files>(rt: &H, path: &str) -> Result<Opened<H::File>, Error> {
+pub fn open_at<H: Files>(rt: &H, path: &str) -> Result<Opened<H::File>, io::Error> {
     let file = fs::open(rt, system_path(path))?;
     let stamp = Stamp::of(&file.metadata()?);
     Ok(Opened { file, stamp })
