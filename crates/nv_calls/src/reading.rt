@@ -57,10 +57,10 @@ impl<P: Pmem + Drop> Fs<P> {
         ensures unchanged { OnErr result (buffer.new ≡ buffer.old) }
     {
         let row = self.target(path)?;
-        if row.kind == Kind::Directory {
-            return Err(Refusal::IsDirectory);
+        match row.kind {
+            Kind::File => Ok(self.fill_from(row, offset, buffer)),
+            Kind::Directory => Err(Refusal::IsDirectory),
         }
-        Ok(self.fill_from(row, offset, buffer))
     }
 
     /// Puts the bytes of an inode, by its row, into a buffer, and answers how many these are.
