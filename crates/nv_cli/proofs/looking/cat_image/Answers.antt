@@ -3,6 +3,7 @@ use Rattle.std.proofs.KnownBytes.{Keeps-refl}
 use Rattle.std.proofs.lemmas.Result.{err_from_is_err_and}
 use Rattle.nv_region.specs.Region.{region_of}
 use Rattle.nv_cli.specs.Looking.{GivesBytes}
+use Rattle.nv_cli.specs.Sent.{written}
 use Rattle.nv_cli.proofs.Looks.{refused_look}
 use Rattle.nv_cli.proofs.Cats.{cat_looks, cat_fails, no_zero}
 use Rattle.nv_cli.proofs.looking.cat_image.Goals as goal
@@ -12,7 +13,8 @@ cat_file-requires g c = let is = rw c.in-Mounted.is at c.in_ok-opened.ensures in
 
 pub returns-in_ok-status-in-Mounted-clause-ok : goal.returns-in_ok-status-in-Mounted-clause-ok
 returns-in_ok-status-in-Mounted-clause-ok g c = let is = rw c.in-Mounted.is at c.in_ok-opened.ensures in
-    cat_looks c.args.bytes.now c.args.path.now c.in-Mounted.mount is _ _ _ (λ p says. c.in_ok-status-in-Mounted.ensures.ok p says) (ap length c.faults.ensures)
+    cat_looks c.args.bytes.now c.args.path.now c.in-Mounted.mount is (written (g.W.Write.contents c.args.writer.now) (g.E.Write.contents c.args.errors.now))
+    (written (g.W.Write.contents c.cat_file.new.writer) (g.E.Write.contents c.cat_file.new.errors)) _ (λ p says. c.in_ok-status-in-Mounted.ensures.ok p says) (ap length c.faults.ensures)
 
 pub returns-in_err-status-in-Mounted-clause-err : goal.returns-in_err-status-in-Mounted-clause-err
 returns-in_err-status-in-Mounted-clause-err g c =
