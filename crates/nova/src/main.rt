@@ -17,7 +17,7 @@ mod show;
 
 use cleaning::clean;
 use nv_args::{CheckOutput, Todo, read_words};
-use nv_checking::{Output, check_file, map_file};
+use nv_checking::{Blocks, Output, check_file, map_file};
 use nv_images::{Failure, Target, ended, explain, refuse_words, words_of};
 use run::{run, script_at};
 use saving::{Numbers, mkfs};
@@ -43,7 +43,10 @@ fn act<H: Files + AllocGlobal + Print + Eprint + Env + Threads + Sync, R: Read +
     rt: &H,
     input: R,
     process: u32,
-) -> Result<ExitCode, AllocError> {
+) -> Result<ExitCode, AllocError>
+where
+    H::File: Blocks,
+{
     let alloc = rt.alloc();
     let words = words_of(rt, alloc)?;
     let texts = words.texts(alloc)?;
@@ -60,7 +63,10 @@ fn answer<'a, H: Files + AllocGlobal + Print + Eprint + Threads + Sync, R: Read 
     input: R,
     process: u32,
     todo: Todo<'a>,
-) -> Result<u8, Failure<'a>> {
+) -> Result<u8, Failure<'a>>
+where
+    H::File: Blocks,
+{
     let over = |path| Target::over(path, process);
     match todo {
         Todo::Run {

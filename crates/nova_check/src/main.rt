@@ -8,7 +8,7 @@
 #![tactic(auto)]
 
 use nv_args::{CheckOutput, Todo, read_words};
-use nv_checking::{Output, check_file, map_file};
+use nv_checking::{Blocks, Output, check_file, map_file};
 use nv_images::{Failure, Target, ended, explain, refuse_words, words_of};
 use std::alloc::AllocError;
 use std::env::Env;
@@ -31,7 +31,10 @@ fn main(rt: HostRuntime) -> ExitCode {
 fn act<H: Files + AllocGlobal + Print + Eprint + Env + Threads + Sync>(
     rt: &H,
     process: u32,
-) -> Result<ExitCode, AllocError> {
+) -> Result<ExitCode, AllocError>
+where
+    H::File: Blocks,
+{
     let alloc = rt.alloc();
     let words = words_of(rt, alloc)?;
     let texts = words.texts(alloc)?;
@@ -47,7 +50,10 @@ fn answer<'a, H: Files + AllocGlobal + Print + Eprint + Threads + Sync>(
     rt: &H,
     process: u32,
     todo: Todo<'a>,
-) -> Result<u8, Failure<'a>> {
+) -> Result<u8, Failure<'a>>
+where
+    H::File: Blocks,
+{
     match todo {
         Todo::Check {
             path,

@@ -9,10 +9,12 @@ use crate::answered::Answered;
 use crate::checking::check_region_as;
 use crate::mapping::{Mapped, map_cells, write_map};
 use crate::output::Output;
+use crate::plain::check_plain_file;
 use nv_images::{
     Failure, Image, Target, image_at, refuse_length, save_file, svg_text, tell_faults, tell_length,
     tell_refused_length,
 };
+use nv_metadata::Blocks;
 use nv_stream::ScriptError;
 use nv_super::SuperFault;
 use nv_text::Refusal;
@@ -27,7 +29,8 @@ const MOST_CELLS: u64 = 1024;
 
 /// Recovers the image in the file at a path in memory, on so many threads, prints its report on standard output, or its sums or
 /// faults alone, and answers the exit status: 0 where it has no faults, 1 where it does, and 2 where the image is refused, as
-/// each is that is longer than a region can be. The file is read once, and never written.
+/// each is that is longer than a region can be. The file is never written. Of a plain file whose superblock is accepted the
+/// metadata alone are read, and each other one is read whole.
 ///
 /// Errors: a file that can't be read, and want of memory or of a place to write to.
 pub fn check_file<'a, H: Files + AllocGlobal + Print + Eprint + Threads + Sync>(
@@ -36,9 +39,14 @@ pub fn check_file<'a, H: Files + AllocGlobal + Print + Eprint + Threads + Sync>(
     workers: u32,
     output: Output,
 ) -> Result<u8, Failure<'a>>
+where
+    H::File: Blocks,
     ensures status { IfOk result (λ status. status ≤ 2) }
     ensures error { IfErr result (IsUnchecked path.entry) }
 {
+    if let Some(status) = check_plain_file(rt, path, workers, output)? {
+        return Ok(status);
+    }
     let image = image_at(rt, path)?;
     let writer = &mut io::writer(rt);
     let status = check_image(rt, rt.alloc(), &image, u64::from(workers), output, writer)?;
