@@ -17,7 +17,7 @@ mod show;
 
 use cleaning::clean;
 use nv_args::{CheckOutput, Todo, VERSION, read_words};
-use nv_checking::{Output, check_file, map_file};
+use nv_checking::{Blocks, Output, check_file, map_file};
 use nv_images::{Failure, Lock, Target, ended, explain, print_line, refuse_words, words_of};
 use run::{run, script_at, script_on};
 use saving::{Numbers, mkfs};
@@ -44,7 +44,7 @@ fn act<
     E: Write + Drop,
 >(rt: &H, input: R, errors: E) -> Result<ExitCode, AllocError>
 where
-    H::File: Lock,
+    H::File: Blocks + Lock,
 {
     let alloc = rt.alloc();
     let words = words_of(rt, alloc)?;
@@ -64,7 +64,7 @@ fn answer<
     E: Write + Drop,
 >(rt: &H, input: R, mut errors: E, todo: Todo<'a>) -> Result<u8, Failure<'a>>
 where
-    H::File: Lock,
+    H::File: Blocks + Lock,
 {
     match todo {
         Todo::Version => print_line(rt, VERSION),

@@ -8,7 +8,7 @@
 #![tactic(auto)]
 
 use nv_args::{CheckOutput, Todo, VERSION, read_words};
-use nv_checking::{Output, check_file, map_file};
+use nv_checking::{Blocks, Output, check_file, map_file};
 use nv_images::{Failure, Lock, Target, ended, explain, print_line, refuse_words, words_of};
 use std::alloc::AllocError;
 use std::env::Env;
@@ -30,7 +30,7 @@ fn act<H: Files + AllocGlobal + Print + Eprint + Env + Threads + Sync>(
     rt: &H,
 ) -> Result<ExitCode, AllocError>
 where
-    H::File: Lock,
+    H::File: Blocks + Lock,
 {
     let alloc = rt.alloc();
     let words = words_of(rt, alloc)?;
@@ -48,7 +48,7 @@ fn answer<'a, H: Files + AllocGlobal + Print + Eprint + Threads + Sync>(
     todo: Todo<'a>,
 ) -> Result<u8, Failure<'a>>
 where
-    H::File: Lock,
+    H::File: Blocks + Lock,
 {
     match todo {
         Todo::Version => print_line(rt, VERSION),

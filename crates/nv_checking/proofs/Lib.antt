@@ -3,3 +3,4 @@ pub mod Unstopped
 pub mod Checked
 pub mod OneCheck
 pub mod Found
+pub mod Metadata

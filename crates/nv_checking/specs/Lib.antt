@@ -4,4 +4,5 @@ pub mod Recovering
 pub mod Checking
 pub mod Mapping
 pub mod Files
+pub mod Gathered
 pub use Rattle.nv_recover.specs as nv_recover

@@ -26,9 +26,9 @@ use std::thread::Threads;
 
 /// What a check prints, and its exit status.
 #[derive(Drop)]
-struct Checked {
-    text: String,
-    status: u8,
+pub(crate) struct Checked {
+    pub text: String,
+    pub status: u8,
 }
 
 /// Recovers the region of these bytes in memory by 1 to 64 workers on threads of their own, and writes its report, or
@@ -106,8 +106,8 @@ pub(crate) fn open_system(image: &mut ImageRegion) -> Result<(), AllocError>
     }
 }
 
-// Checks the region that a memory holds whose blocks in front of the data blocks take stores.
-fn check_memory<P: Pmem + Sync, H: Threads + Sync>(
+/// Checks the region that a memory holds whose blocks in front of the data blocks take stores.
+pub(crate) fn check_memory<P: Pmem + Sync, H: Threads + Sync>(
     rt: &H,
     alloc: Global,
     memory: &mut P,
@@ -134,7 +134,8 @@ fn status_of(faults: &[Fault]) -> u8
     how_it_went(faults).status()
 }
 
-fn refused(alloc: Global, refusal: Refusal) -> Result<Checked, AllocError>
+/// That a check is refused.
+pub(crate) fn refused(alloc: Global, refusal: Refusal) -> Result<Checked, AllocError>
     ensures { IfOk result (λ checked. IsRefusal (refusal_name refusal) (string_bytes checked.text) checked.status) }
 {
     Ok(Checked {
@@ -143,7 +144,8 @@ fn refused(alloc: Global, refusal: Refusal) -> Result<Checked, AllocError>
     })
 }
 
-fn is_worker_count(workers: u64) -> bool
+/// Whether there can be so many workers.
+pub(crate) fn is_worker_count(workers: u64) -> bool
     ensures { result ≡ is_worker_count workers }
 {
     1 <= workers && workers <= MOST_WORKERS

@@ -9,11 +9,13 @@ use crate::answered::Answered;
 use crate::checking::check_region_as;
 use crate::mapping::{Mapped, answered, map_cells, write_map};
 use crate::output::Output;
+use crate::plain::check_plain_file;
 use nv_images::{
     Failure, Held, Image, Lock, Stamp, Target, hold, image_at, open_image, read_image,
     refuse_length, save_file, see_ready, svg_text, tell_explain, tell_faults, tell_length,
     tell_refused,
 };
+use nv_metadata::Blocks;
 use nv_report::Last;
 use nv_stream::ScriptError;
 use nv_super::SuperFault;
@@ -29,10 +31,33 @@ const MOST_CELLS: u64 = 1024;
 
 /// Recovers the image in the file at a path in memory, on so many threads, prints its report on standard output, or its sums or
 /// faults alone, and answers the exit status: 0 where it has no faults, 1 where it does, and 2 where the image is refused, as
-/// each is that is longer than a region can be. The file is read once, and never written.
+/// each is that is longer than a region can be. The file is never written. Of a plain file whose superblock is accepted the
+/// metadata alone are read, and each other one is read whole.
 ///
 /// Errors: a file that can't be read, and want of memory or of a place to write to.
 pub fn check_file<'a, H: Files + AllocGlobal + Print + Eprint + Threads + Sync>(
+    rt: &H,
+    path: &'a str,
+    workers: u32,
+    output: Output,
+) -> Result<u8, Failure<'a>>
+where
+    H::File: Blocks,
+    ensures status { IfOk result (λ status. status ≤ 2) }
+    ensures error { IfErr result (IsUnchecked path.entry) }
+{
+    let status = match check_plain_file(rt, path, workers, output)? {
+        Some(status) => status,
+        None => check_whole_file(rt, path, workers, output)?,
+    };
+    if status == Last::Faulty.status() {
+        tell_explain(rt);
+    }
+    Ok(status)
+}
+
+// The same of a file that is read whole.
+fn check_whole_file<'a, H: Files + AllocGlobal + Print + Eprint + Threads + Sync>(
     rt: &H,
     path: &'a str,
     workers: u32,
@@ -45,9 +70,6 @@ pub fn check_file<'a, H: Files + AllocGlobal + Print + Eprint + Threads + Sync>(
     let writer = &mut io::writer(rt);
     let status = check_image(rt, rt.alloc(), &image, u64::from(workers), output, writer)?;
     tell_image_refused(rt, &image, status);
-    if status == Last::Faulty.status() {
-        tell_explain(rt);
-    }
     Ok(status)
 }
 

@@ -1,26 +1,31 @@
 //! Recoveries of a region as the commands see them, and checks and maps of images.
 //!
 //! `recovering` recovers a region, and answers what was found or why it is refused (`recovery`). `checking` recovers the bytes of
-//! a region, and writes its report, or another `output`. `imaging` recovers them on this thread, for looks into them, whose answer
-//! is in `answered`, and for `mapping`, which tells what the blocks are used for. `files` checks and maps images in files.
+//! a region, and writes its report, or another `output`. `gathered` does so from the metadata alone. `imaging` recovers them on this thread, for looks into them, whose answer
+//! is in `answered`, and for `mapping`, which tells what the blocks are used for. `files` checks and maps images in
+//! files, and `plain` checks those in plain files by their metadata.
 #![tactic(auto)]
 
 mod answered;
 mod checking;
 mod files;
+mod gathered;
 mod imaging;
 mod laws;
 mod mapping;
 mod output;
+mod plain;
 mod recovering;
 mod recovery;
 
 pub use answered::Answered;
 pub use checking::{check_region, check_region_as};
 pub use files::{check_file, map_file};
+pub use gathered::{BlocksError, check_blocks, check_gathered};
 pub use imaging::{Image, recover_image};
 pub use laws::one_check;
 pub use mapping::{Mapped, map_cells, write_map};
+pub use nv_metadata::Blocks;
 pub use output::Output;
 pub use recovering::{recover_alone, recover_or_stop, recover_region, replay_or_stop};
 pub use recovery::Answer;

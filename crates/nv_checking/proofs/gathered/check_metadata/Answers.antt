@@ -1,0 +1,11 @@
+use Rattle.std.proofs.Common.{string_bytes, subst}
+use Rattle.std.proofs.lemmas.Result.{IfOk-weaker}
+use Rattle.nv_metadata.specs.Gathered.{AreGathered}
+use Rattle.nv_checking.proofs.Metadata.{check_of_whole}
+use Rattle.nv_checking.proofs.gathered.check_metadata.Goals as goal
+
+pub returns-in-Metadata-clause-checked : goal.returns-in-Metadata-clause-checked
+returns-in-Metadata-clause-checked g c R gathered =
+    let are = subst (AreGathered R) c.in-Metadata.is gathered in
+    IfOk-weaker c.check_memory.result _ _ (λ checked said. check_of_whole c.in-Metadata.field-0 R c.in-Metadata.memory.memory.region are.0 are.1
+    c.args.output (string_bytes checked.text) checked.status c.args.workers said) c.check_memory.ensures

@@ -1,0 +1,20 @@
+-- What a check of an image that is read piece by piece leaves after an error.
+use Rattle.std.specs.Prelude.{ℕ, List, Option}
+use Rattle.std.specs.Io.KnownBytes.{Keeps}
+use Rattle.nv_metadata.specs.declared.errors.GatherError.{GatherError}
+use Rattle.nv_metadata.specs.declared.errors.GatherError.TheVariants as gatherings
+use Rattle.nv_stream.specs.declared.fault.ScriptError.TheVariants as errors
+use Rattle.nv_checking.specs.declared.gathered.BlocksError.{BlocksError}
+use Rattle.nv_checking.specs.declared.gathered.BlocksError.TheVariants.{Read, Answer}
+use Rattle.nv_checking.specs.declared.output.Output.{Output}
+use Rattle.nv_checking.specs.Checking.{FailsCheckAs}
+
+-- what an error of gathering is told as
+abbrev pub ungathered : GatherError → BlocksError
+ungathered (gatherings.Read error) = Read error
+ungathered gatherings.Memory = Answer errors.Memory
+
+-- After an error: nothing was written where the reader failed, and else what a check of the bytes leaves.
+abbrev pub FailsBlocksCheck : Output → List ℕ → ℕ → BlocksError → Option (List ℕ) → Option (List ℕ) → Type 0
+FailsBlocksCheck output bytes workers (Read error) old new = Keeps old new
+FailsBlocksCheck output bytes workers (Answer error) old new = FailsCheckAs output bytes workers error old new
