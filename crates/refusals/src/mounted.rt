@@ -1,35 +1,18 @@
 //! A mounted region, and whether it is what a recovery finds in the region's bytes.
 
-ghost use Rattle.nv_region.specs.Stops.{NothingPending};
-ghost use Rattle.nv_region.specs.RegionState.{fenced_or_last};
-
 use nv_alloc::Allocators;
 use nv_calls::{Fs, format};
-use nv_outcome::rolled_back_outcome;
 use nv_recover::{Recovered, Rows, recover_one};
 use nv_region::MemRegion;
 use nv_scan::Row;
 use nv_super::Run;
 use std::alloc::{AllocError, Global};
 
-/// Recovers a region and mounts it.
-fn mount(alloc: Global, mut memory: MemRegion) -> Option<Fs<MemRegion>>
-    requires settled { NothingPending memory.region (fenced_or_last memory) }
-{
-    match recover_one(alloc, &mut memory) {
-        Ok(recovered) => {
-            rolled_back_outcome();
-            Some(Fs::open(alloc, memory, recovered))
-        }
-        Err(_) => None,
-    }
-}
-
 /// A region of 24 blocks for two CPUs, formatted and mounted; `None` where memory is refused.
 pub(crate) fn mounted(alloc: Global) -> Option<Fs<MemRegion>> {
     let mut memory = MemRegion::new(alloc, 24).ok()?;
     match format(&mut memory, 2, 1, 0) {
-        Ok(()) => mount(alloc, memory),
+        Ok(()) => Fs::mount(alloc, memory).ok(),
         Err(_) => None,
     }
 }

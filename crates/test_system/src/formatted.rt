@@ -36,3 +36,13 @@ const STORIES: [Story<'static>; 3] = [(39, 7, &[ROOT]), (31, 2, &[ROOT]), (8, 2,
 fn there_is_the_root_alone(rt: HostRuntime) -> Result<(), Fail> {
     follow_each(&rt, rt.alloc(), &STORIES)
 }
+
+#[test]
+fn two_workers_mount_the_root_alone(rt: HostRuntime) -> Result<(), Fail> {
+    let mut memory = MemRegion::new(rt.alloc(), 39)?;
+    format(&mut memory, 7, 1, 1000)?;
+    let fs = Fs::mount_with(&rt, rt.alloc(), memory, 2).map_err(|(_memory, error)| error)?;
+    assert!(rt; fs.rows().len() == 1);
+    assert!(rt; fs.faults().is_empty());
+    Ok(())
+}

@@ -9,6 +9,8 @@ mod asking;
 #[cfg(test)]
 mod broken_streams;
 #[cfg(test)]
+mod by_hand;
+#[cfg(test)]
 mod checking;
 #[cfg(test)]
 mod cleaning;
@@ -34,6 +36,8 @@ mod line;
 mod lines;
 #[cfg(test)]
 mod looking;
+#[cfg(test)]
+mod many_rows;
 #[cfg(test)]
 mod meeting;
 #[cfg(test)]

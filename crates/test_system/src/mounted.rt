@@ -5,18 +5,14 @@ ghost use Rattle.nv_region.specs.Region.{size};
 
 use crate::regions::{EMPTY_FILE, TWO_PAGES, Word};
 use nv_calls::Fs;
-use nv_outcome::rolled_back_outcome;
-use nv_recover::recover_one;
 use nv_region::{MemRegion, Pmem};
 use std::alloc::Global;
 use std::test::Fail;
 
-/// Fences what was stored in a region, recovers it, and mounts it.
+/// Fences what was stored in a region, and mounts it.
 pub fn mount(alloc: Global, mut memory: MemRegion) -> Result<Fs<MemRegion>, Fail> {
     memory.fence()?;
-    let recovered = recover_one(alloc, &mut memory)?;
-    rolled_back_outcome();
-    Ok(Fs::open(alloc, memory, recovered))
+    Ok(Fs::mount(alloc, memory).map_err(|(_memory, error)| error)?)
 }
 
 /// Stores words into a region of sixteen blocks, and fences them.
