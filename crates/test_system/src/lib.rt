@@ -27,6 +27,8 @@ mod formatted;
 #[cfg(test)]
 mod full;
 #[cfg(test)]
+mod gathered;
+#[cfg(test)]
 mod images;
 #[cfg(test)]
 mod limits;
