@@ -27,8 +27,6 @@ mod formatted;
 #[cfg(test)]
 mod full;
 #[cfg(test)]
-mod gathered;
-#[cfg(test)]
 mod images;
 #[cfg(test)]
 mod limits;
