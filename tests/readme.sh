@@ -85,8 +85,7 @@ for word in --version -V; do
     same "status of nova $word" 0 $?
 done
 if command -v rt >/dev/null; then
-    kit=$(cut -d' ' -f1 "$(dirname "$(dirname "$(readlink -f "$(command -v rt)")")")/KIT-ID")
-    same "the kit of the version" "proved by $kit" "$("$program" -V | tail -n 1)"
+    same "the logic of the version" "proved by $(rt version </dev/null | grep -o 'logic [0-9a-f]*')" "$("$program" -V | tail -n 1)"
 fi
 same "nova help" "$("$program" --help 2>&1)" "$("$program" help 2>&1)"
 same "nova help check" "$("$program" check --help 2>&1)" "$("$program" help check 2>&1)"
