@@ -1,0 +1,139 @@
+/* Makes every call of nova.h, those that are refused too, and prints what it answers: tests/bindings.sh compares that.
+ *
+ *     calls IMAGE REPORT        these files get what was made, and the report of it
+ */
+#include <stdbool.h>
+#include <stdio.h>
+#include <stdlib.h>
+#include <string.h>
+
+#include "nova.h"
+
+enum { BLOCKS = 32, LENGTH = BLOCKS * 4096 };
+
+#define BYTES(text) (const uint8_t *)(text), strlen(text)
+#define SAYS(call) printf("%s: %u\n", #call, call)
+
+static nova_fs fs;
+static uint8_t image[LENGTH], room[1 << 16];
+static uint64_t lent[512];
+static size_t used;
+
+static void stat_of(const char *path)
+{
+    nova_numbers n;
+    uint32_t status = nova_stat(&fs, BYTES(path), &n);
+    printf("stat %s: %u", path, status);
+    if (!status)
+        printf(" inode %ju size %ju time %ju directory %u mode %o owner %u group %u links %u", (uintmax_t)n.inode,
+               (uintmax_t)n.size, (uintmax_t)n.time, n.is_directory, n.mode, n.owner, n.group, n.links);
+    printf("\n");
+}
+
+static void names_of(const char *path)
+{
+    uint32_t status = nova_list(&fs, BYTES(path), room, sizeof room, &used);
+    printf("list %s: %u", path, status);
+    for (size_t at = 0; !status && at < used;) {
+        uint64_t inode, length;
+        memcpy(&inode, room + at, 8);
+        memcpy(&length, room + at + 8, 8);
+        printf(" %.*s %ju", (int)length, room + at + 16, (uintmax_t)inode);
+        at += 16 + length;
+    }
+    printf("\n");
+}
+
+static void space_of(void)
+{
+    nova_space s;
+    SAYS(nova_space_of(&fs, &s));
+    printf("blocks %ju free %ju cpus %ju tables %ju inodes %ju faults %ju\n", (uintmax_t)s.blocks, (uintmax_t)s.free_blocks,
+           (uintmax_t)s.cpus, (uintmax_t)s.table_blocks, (uintmax_t)s.inodes, (uintmax_t)s.faults);
+}
+
+/* A closed handle, and what can't be opened or formatted. */
+static void refusals(void)
+{
+    nova_numbers n;
+    SAYS(nova_stat(&fs, BYTES("/"), &n));
+    SAYS(nova_close(&fs));
+    SAYS(nova_format(&fs, 7, 1, 1, 0));
+    SAYS(nova_format(&fs, BLOCKS, 65, 1, 0));
+    SAYS(nova_format(&fs, BLOCKS, 1, 0, 0));
+    SAYS(nova_open(&fs, image, LENGTH));
+    SAYS(nova_open(&fs, image, LENGTH - 1));
+    SAYS(nova_map(&fs, (nova_image){lent, 512}));
+}
+
+/* The calls that write. */
+static void changes(void)
+{
+    nova_cleaned cleaned;
+    SAYS(nova_format(&fs, BLOCKS, 2, 1, 0));
+    SAYS(nova_format(&fs, BLOCKS, 2, 1, 0));
+    SAYS(nova_mkdir(&fs, 0, BYTES("/d"), 0755, 1));
+    SAYS(nova_create(&fs, 1, BYTES("/d/a"), 0644, 2));
+    SAYS(nova_create(&fs, 1, BYTES("/d/a"), 0644, 2));
+    SAYS(nova_create(&fs, 2, BYTES("/d/b"), 0644, 2));
+    SAYS(nova_write(&fs, 0, BYTES("/d/a"), 4, BYTES("hi there"), 3));
+    SAYS(nova_set_size(&fs, 0, BYTES("/d/a"), 10, 4));
+    SAYS(nova_set_attr(&fs, 0, BYTES("/d/a"), 0600, 7, 8, 5));
+    SAYS(nova_link(&fs, 0, BYTES("/d/a"), BYTES("/b"), 6));
+    SAYS(nova_rename(&fs, 0, BYTES("/b"), BYTES("/d/c"), 7));
+    SAYS(nova_rename(&fs, 0, BYTES("/d/a"), BYTES("/d/c"), 7));
+    SAYS(nova_rename(&fs, 0, BYTES("/d"), BYTES("/d/e"), 7));
+    SAYS(nova_unlink(&fs, 0, BYTES("/d/a"), 8));
+    SAYS(nova_rmdir(&fs, 0, BYTES("/d"), 9));
+    SAYS(nova_clean(&fs, BYTES("/d/c"), &cleaned));
+    printf("freed %u\n", cleaned.has_freed);
+}
+
+/* The calls that read. */
+static void looks(void)
+{
+    stat_of("/d");
+    stat_of("/d/c");
+    stat_of("/none");
+    names_of("/d");
+    names_of("/d/c");
+    SAYS(nova_list(&fs, BYTES("/"), room, 5, &used));
+    printf("takes %zu\n", used);
+    SAYS(nova_read(&fs, BYTES("/d/c"), 4, room, 100, &used));
+    printf("read %.*s\n", (int)used, room);
+    space_of();
+}
+
+static bool is_written(const char *path, const uint8_t *bytes, size_t length)
+{
+    FILE *file = fopen(path, "wb");
+    return file && fwrite(bytes, 1, length, file) == length && !fclose(file);
+}
+
+/* The saved image again, over words that are lent: a store is there at once. */
+static void over_words(void)
+{
+    uint64_t *words = aligned_alloc(4096, LENGTH);
+    memcpy(words, image, LENGTH);
+    SAYS(nova_map(&fs, (nova_image){words, LENGTH / 8}));
+    SAYS(nova_create(&fs, 0, BYTES("/later"), 0600, 9));
+    SAYS(nova_save(&fs, image, LENGTH));
+    printf("the words are %s\n", memcmp(words, image, LENGTH) ? "others" : "those of the mount");
+    SAYS(nova_close(&fs));
+    free(words);
+}
+
+int main(int count, char **words)
+{
+    refusals();
+    changes();
+    looks();
+    SAYS(nova_report(&fs, room, sizeof room, &used));
+    SAYS(nova_save(&fs, image, LENGTH - 1));
+    SAYS(nova_save(&fs, image, LENGTH));
+    SAYS(nova_close(&fs));
+    if (count != 3 || !is_written(words[1], image, LENGTH) || !is_written(words[2], room, used))
+        return 2;
+    over_words();
+    return 0;
+}

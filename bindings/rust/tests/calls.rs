@@ -1,0 +1,81 @@
+//! Tries each call once, and what refuses some.
+
+use nova::{Fs, Refused};
+
+fn names(fs: &mut Fs, path: &[u8]) -> Vec<Vec<u8>> {
+    fs.list(path)
+        .unwrap()
+        .into_iter()
+        .map(|it| it.name)
+        .collect()
+}
+
+#[test]
+fn a_file_is_written_and_read() -> Result<(), Refused> {
+    let mut fs = Fs::format(64, 2, 1, 0)?;
+    fs.create(1, b"/hello", 0o640, 3)?;
+    fs.write(0, b"/hello", 2, b"hi there", 4)?;
+    assert_eq!(fs.read(b"/hello", 0, 100)?, b"\0\0hi there");
+    assert_eq!(fs.read(b"/hello", 5, 2)?, b"th");
+    fs.set_size(0, b"/hello", 4, 5)?;
+    let found = fs.stat(b"/hello")?;
+    assert_eq!((found.size, found.time, found.mode), (4, 5, 0o640));
+    Ok(())
+}
+
+#[test]
+fn names_are_listed_whatever_room_they_take() -> Result<(), Refused> {
+    let mut fs = Fs::format(64, 2, 1, 0)?;
+    fs.mkdir(0, b"/d", 0o755, 1)?;
+    let made: Vec<Vec<u8>> = (0..30)
+        .map(|n| format!("name {n:03} {}", "x".repeat(190)).into())
+        .collect();
+    for name in &made {
+        fs.create(0, &[b"/d/", name.as_slice()].concat(), 0o644, 2)?;
+    }
+    assert_eq!(names(&mut fs, b"/d"), made);
+    Ok(())
+}
+
+#[test]
+fn names_go_and_move() -> Result<(), Refused> {
+    let mut fs = Fs::format(64, 2, 1, 0)?;
+    fs.mkdir(0, b"/d", 0o755, 1)?;
+    fs.create(0, b"/d/a", 0o644, 2)?;
+    fs.link(0, b"/d/a", b"/b", 3)?;
+    fs.unlink(0, b"/d/a", 4)?;
+    fs.rename(0, b"/b", b"/c", 5)?;
+    fs.rmdir(0, b"/d", 6)?;
+    fs.set_attr(0, b"/c", 0o400, 7, 8, 9)?;
+    let found = fs.stat(b"/c")?;
+    assert_eq!(
+        (found.owner, found.group, found.links, found.time),
+        (7, 8, 1, 9)
+    );
+    assert_eq!(fs.clean(b"/c")?, None);
+    assert_eq!(names(&mut fs, b"/"), [b"c"]);
+    Ok(())
+}
+
+#[test]
+fn refusals_have_their_status() -> Result<(), Refused> {
+    let mut fs = Fs::format(64, 2, 1, 0)?;
+    assert_eq!(fs.stat(b"/none"), Err(Refused(1)));
+    assert_eq!(fs.create(2, b"/a", 0o644, 1), Err(Refused(13)));
+    assert_eq!(fs.create(0, b"no path", 0o644, 1), Err(Refused(6)));
+    assert_eq!(Fs::format(7, 1, 1, 0).err(), Some(Refused(30)));
+    assert_eq!(Fs::open(&[0; 8 * 4096]).err(), Some(Refused(21)));
+    Ok(())
+}
+
+#[test]
+fn an_image_is_opened_again() -> Result<(), Refused> {
+    let mut fs = Fs::format(64, 2, 1, 0)?;
+    fs.create(0, b"/hello", 0o644, 1)?;
+    fs.write(0, b"/hello", 0, &[7; 9000], 2)?;
+    let mut other = Fs::open(&fs.image()?)?;
+    assert_eq!(other.read(b"/hello", 0, 10000)?, [7; 9000]);
+    assert_eq!(other.report()?, fs.report()?);
+    assert_eq!(other.space()?, fs.space()?);
+    Ok(())
+}

@@ -1,0 +1,56 @@
+-- Calls over a handle: what a call on the mount says, by the mounts that the handle owns before and after it. The memory has no
+-- fuse, so it is never stopped, and a refused call leaves all as it was.
+use Rattle.std.proofs.Common.{◌≡◌, ◌∙◌, inl, inr, ℕ, List, Bool, false, IsTrue, Option, Result, Err, sym, subst, ap}
+use Rattle.std.proofs.lemmas.Bool.{cases_Bool, false≢true}
+use Rattle.nv_region.specs.Region.{Region}
+use Rattle.nv_region.specs.Stops.{LeavesOnly}
+use Rattle.nv_tree.specs.Refusals.{IsRefusedBy}
+use Rattle.nv_tree.specs.declared.refusal.Refusal.{Refusal}
+use Rattle.nv_tree.specs.declared.refusal.Refusal.TheVariants.{Stopped}
+use Rattle.nv_calls.specs.Effects.{Logs, Makes}
+use Rattle.nv_calls.specs.Mount.{Mount}
+use Rattle.nv_calls.specs.Same.{SameMount}
+use Rattle.nv_calls.specs.Stopped.{LeavesCall}
+use Rattle.nv_calls.proofs.RowChange.{same_mount}
+use Rattle.nv_lent.specs.WordsState.{as_it_reads}
+use Rattle.nova_c.specs.Codes.{TellsRefusal, status_of}
+
+-- a call that is refused by a stop of a mount that ran would have burnt a fuse
+pub never_stopped : {A : Type 0} (result : Result A Refusal) (e : Refusal) (old new : Bool) → result ≡ Err e
+    → (old ≡ false → (IsTrue new → (result ≡ Err Stopped) × IsTrue false) × (result ≡ Err Stopped → IsTrue new)) → old ≡ false → e ≡ Stopped → ⊥
+never_stopped result e old new is stopped runs same =
+    let both = stopped runs in
+    false≢true (both.0 (both.1 (is ∙ ap Err same))).1
+
+as_before : (old new : Mount Region) (e : Refusal) → (IsTrue old.stopped → new ≡ old) → (old.stopped ≡ false → e ≡ Stopped → ⊥)
+    → ((e ≡ Stopped → ⊥) → SameMount old new) → SameMount old new
+as_before old new e stays runs leaves = elim (cases_Bool old.stopped) [
+  | inl stopped ↦ subst (λ (m : Mount Region). SameMount old m) (sym (stays stopped)) (same_mount old)
+  | inr running ↦ leaves (runs running)
+]
+
+-- of a mount that the handle owned before (b), as the call takes it (a), and as it leaves it (m), which the handle owns then (n)
+module _ (a b m n : Mount Region) (before : a ≡ b) (after : n ≡ m) where
+  pub unchanged_by : {A : Type 0} (result : Result A Refusal) (e : Refusal) → result ≡ Err e → (IsTrue a.stopped → (result ≡ Err Stopped) × (m ≡ a))
+      → (a.stopped ≡ false → (IsTrue m.stopped → (result ≡ Err Stopped) × IsTrue false) × (result ≡ Err Stopped → IsTrue m.stopped))
+      → ((e ≡ Stopped → ⊥) → SameMount a m) → SameMount b n
+  unchanged_by result e is stays stopped leaves =
+      let same : SameMount a m = as_before a m e (λ s. (stays s).1) (never_stopped result e a.stopped m.stopped is stopped) leaves in
+      subst (λ (k : Mount Region). SameMount k n) before (subst (λ (k : Mount Region). SameMount a k) (sym after) same)
+
+  pub any_stop_of : (makes : Makes Region) (logs : Logs Region) (names : List (List ℕ))
+      → (a.stopped ≡ false → a.read_only ≡ false → LeavesOnly m.memory (as_it_reads m.memory) (LeavesCall makes logs a.memory a names))
+      → b.stopped ≡ false → b.read_only ≡ false → LeavesOnly n.memory (as_it_reads n.memory) (LeavesCall makes logs b.memory b names)
+  any_stop_of makes logs names leaves =
+      subst (λ (k : Mount Region). k.stopped ≡ false → k.read_only ≡ false → LeavesOnly n.memory (as_it_reads n.memory) (LeavesCall makes logs k.memory k names)) before
+      (subst (λ (k : Mount Region). a.stopped ≡ false → a.read_only ≡ false → LeavesOnly k.memory (as_it_reads k.memory) (LeavesCall makes logs a.memory a names)) (sym after) leaves)
+
+  pub logs_of : (logs : Logs Region) (names : List (List ℕ)) → logs a.memory a names m.memory → logs b.memory b names n.memory
+  logs_of logs names is =
+      subst (λ (k : Mount Region). logs k.memory k names n.memory) before (subst (λ (k : Mount Region). logs a.memory a names k.memory) (sym after) is)
+
+-- the status of a refusal, by what comes first on the mount that the handle owns
+pub refused_by : (first : Mount Region → Option Refusal) (a b : Mount Region) (e : Refusal) (status : ℕ) → a ≡ b → status ≡ status_of e
+    → (a.stopped ≡ false → IsRefusedBy (first a) e) → b.stopped ≡ false → TellsRefusal (IsRefusedBy (first b)) status
+refused_by first a b e status before is refused =
+    subst (λ (k : Mount Region). k.stopped ≡ false → TellsRefusal (IsRefusedBy (first k)) status) before (λ runs. (e, is, refused runs))

@@ -1,0 +1,4 @@
+pub mod Values
+pub mod Walks
+mod Refusals
+mod Calls

@@ -1,0 +1,62 @@
+-- Why each call on a mount is refused: the first refusal that applies.
+use Rattle.std.specs.Prelude.{ℕ, Option}
+use Rattle.nv_region.specs.Region.{Region}
+use Rattle.nv_tree.specs.Refusals.{Path, first_refusal, clean_tests, create_tests, link_tests, list_tests, read_tests, rename_tests, rmdir_tests, set_attr_tests, set_size_tests, stat_tests, unlink_tests, write_tests}
+use Rattle.nv_tree.specs.declared.refusal.Refusal.{Refusal}
+use Rattle.nv_calls.specs.Mount.{Mount}
+use Rattle.nv_calls.specs.World.{world_of}
+use Rattle.nv_calls.specs.AttributesCall.{attributes_blocks}
+use Rattle.nv_calls.specs.LinkCalls.{link_blocks}
+use Rattle.nv_calls.specs.MoveCalls.{rename_blocks}
+use Rattle.nv_calls.specs.NameCalls.{create_blocks, name_blocks}
+use Rattle.nv_calls.specs.SizeCall.{resized_blocks}
+use Rattle.nv_calls.specs.UnlinkCalls.{unlink_blocks}
+use Rattle.nova_c.specs.Handles.{shown}
+
+-- of `create` and `mkdir`
+abbrev pub create_refusal : Mount Region → ℕ → Path → Option Refusal
+create_refusal m cpu p = first_refusal (create_tests (world_of m) (shown m) cpu p (create_blocks m.rows (shown m) p))
+
+-- of `write` up to this end, which takes so many blocks
+abbrev pub write_refusal : Mount Region → ℕ → Path → ℕ → ℕ → Option Refusal
+write_refusal m cpu p end blocks = first_refusal (write_tests (world_of m) (shown m) cpu p end blocks)
+
+-- of `set_size`
+abbrev pub set_size_refusal : Mount Region → ℕ → Path → ℕ → Option Refusal
+set_size_refusal m cpu p size = first_refusal (set_size_tests (world_of m) (shown m) cpu p size (resized_blocks m.rows (shown m) p size))
+
+-- of `set_attr`
+abbrev pub set_attr_refusal : Mount Region → ℕ → Path → Option Refusal
+set_attr_refusal m cpu p = first_refusal (set_attr_tests (world_of m) (shown m) cpu p (attributes_blocks m.rows (shown m) p))
+
+-- of `link`, by the file's path and the new one
+abbrev pub link_refusal : Mount Region → ℕ → Path → Path → Option Refusal
+link_refusal m cpu p q = first_refusal (link_tests (world_of m) (shown m) cpu p q (link_blocks m.rows (shown m) p q))
+
+-- of `unlink`
+abbrev pub unlink_refusal : Mount Region → ℕ → Path → Option Refusal
+unlink_refusal m cpu p = first_refusal (unlink_tests (world_of m) (shown m) cpu p (unlink_blocks m.rows (shown m) p))
+
+-- of `rmdir`
+abbrev pub rmdir_refusal : Mount Region → ℕ → Path → Option Refusal
+rmdir_refusal m cpu p = first_refusal (rmdir_tests (world_of m) (shown m) cpu p (name_blocks m.rows (shown m) p))
+
+-- of `rename`, by the old path and the new one
+abbrev pub rename_refusal : Mount Region → ℕ → Path → Path → Option Refusal
+rename_refusal m cpu p q = first_refusal (rename_tests (world_of m) (shown m) cpu p q (rename_blocks m.rows (shown m) p q))
+
+-- of `clean`
+abbrev pub clean_refusal : Mount Region → Path → Option Refusal
+clean_refusal m p = first_refusal (clean_tests (world_of m) (shown m) p)
+
+-- of `stat`
+abbrev pub stat_refusal : Mount Region → Path → Option Refusal
+stat_refusal m p = first_refusal (stat_tests (shown m) p)
+
+-- of `read`
+abbrev pub read_refusal : Mount Region → Path → Option Refusal
+read_refusal m p = first_refusal (read_tests (shown m) p)
+
+-- of `list`
+abbrev pub list_refusal : Mount Region → Path → Option Refusal
+list_refusal m p = first_refusal (list_tests (shown m) p)

@@ -1,0 +1,220 @@
+#!/usr/bin/env bash
+# Mounts images by mount/out/novafuse, lets programs work in them, and kills it in the midst.
+#
+#     tests/mount.sh [--kills N]        prints a line for each difference, and closes with 'N passed, M failed'
+#
+# mount/build makes the program. Where /dev/fuse isn't there or isn't allowed, nothing is tried, and it says so; programs that
+# aren't installed (git, sqlite3, fio) are left out with a word. After each part the image is given to `nova check`.
+set -u
+source "$(dirname "${BASH_SOURCE[0]}")/parts.sh" || exit 2
+kills=100
+if [ "${1-}" = --kills ] && [ $# -eq 2 ]; then
+    kills=$2
+elif [ $# -ne 0 ]; then
+    usage
+fi
+novafuse=$here/mount/out/novafuse
+if [ ! -x "$novafuse" ]; then
+    echo "there is no program at $novafuse; mount/build builds it" >&2
+    exit 2
+fi
+needs_program "$built"
+cd "$folder" || exit 2
+
+# ---- the library by itself
+
+compile() {
+    "${CC:-cc}" -O2 -Wall -Wextra -I"$here/bindings/c" "$@" || exit 2
+}
+libraries=$here/mount/out
+compile "$here/mount/tests/stops.c" "$libraries/libnova_c.a" "$libraries/liblibc_c.a" -o stops
+./stops >stops.said 2>&1
+status=$?
+holds "calls stopped at the machine's stores: $(tail -n 1 stops.said)" $status
+compile -fsanitize=address "$here/mount/tests/tries.c" "$libraries/libnova_c.a" -o tries
+"$built" mkfs small.img --blocks 64 --cpus 2 --tables 1 >/dev/null &&
+    "$built" run "$here/examples/hello.nova" --image small.img --save small.img >/dev/null
+./tries small.img 5000 1 >tries.said 2>&1
+status=$?
+holds "damaged images and refused allocations: $(tail -n 1 tries.said)" $status
+
+# ---- mounts
+
+if [ ! -w /dev/fuse ] || ! command -v fusermount3 >/dev/null; then
+    echo "left out: all (/dev/fuse or fusermount3 isn't there)"
+    close
+    exit
+fi
+mkdir mnt other
+at=$folder/mnt
+trap 'fusermount3 -u -z "$at" 2>/dev/null; rm -rf "$folder"' EXIT
+
+has() {
+    command -v "$1" >/dev/null || { echo "left out: $1 (it isn't installed)"; return 1; }
+}
+
+# make IMAGE BLOCKS [TABLES]
+make() {
+    "$built" mkfs "$1" --blocks "$2" --cpus 4 --tables "${3:-16}" --force >/dev/null || exit 2
+}
+
+# refused IMAGE: what novafuse says of an image that it doesn't mount, and its status.
+refused() {
+    "$novafuse" "$1" "$folder/other" 2>&1
+    echo "status $?"
+}
+
+# mounted IMAGE [OPTION..]: mounts it, and says what went wrong.
+mounted() {
+    local image=$1
+    shift
+    "$novafuse" "$image" "$at" "$@" 2>mount.said || { cat mount.said; return 1; }
+}
+
+# unmounted: unmounts, and waits until the program has saved the image and let go of it.
+unmounted() {
+    fusermount3 -u "$at"
+    local status=$?
+    for image in *.img; do
+        flock "$image" true
+    done
+    return $status
+}
+
+# sound NAME IMAGE: the image is unmounted, and has no faults.
+sound() {
+    unmounted
+    holds "$1: it is unmounted" $?
+    "$built" check "$2" --summary >checked 2>&1
+    local status=$?
+    holds "$1: no faults: $(cat checked)" $status
+}
+
+# ---- programs
+
+# copies OPTION..: files that are copied are the same, also after another mount.
+copies() {
+    make copies.img 16384
+    mounted copies.img "$@" && cp -r "$here/docs" "$here/crates/nv_region/src" "$at/" && diff -r "$here/docs" "$at/docs"
+    holds "cp and diff $*" $?
+    sound "cp $*" copies.img
+    mounted copies.img "$@" && diff -r "$here/docs" "$at/docs" && diff -r "$here/crates/nv_region/src" "$at/src"
+    holds "diff after another mount $*" $?
+    rm -rf "$at/docs" && [ "$(ls "$at")" = src ]
+    holds "rm -rf $*" $?
+    sound "rm $*" copies.img
+}
+
+git_works() {
+    make git.img 65536
+    mounted git.img --mapped || return 1
+    (
+        export GIT_CONFIG_GLOBAL=/dev/null GIT_AUTHOR_NAME=a GIT_AUTHOR_EMAIL=a@b GIT_COMMITTER_NAME=a GIT_COMMITTER_EMAIL=a@b
+        git init -q "$folder/origin" && cp -r "$here/crates/nv_region" "$here/docs" "$folder/origin/" && rm -rf "$folder/origin/nv_region/out" &&
+            git -C "$folder/origin" add . && git -C "$folder/origin" commit -qm one &&
+            git clone -q --no-local "$folder/origin" "$at/clone" && cd "$at/clone" && echo more >>docs/MAP.md && git commit -qam two &&
+            git checkout -q HEAD~1 && git checkout -q - && git gc -q && git fsck --strict && git diff --quiet HEAD
+    ) >git.said 2>&1 || { cat git.said; return 1; }
+}
+
+# sqlite_works MODE: transactions in a journal mode, and the database is whole.
+sqlite_works() {
+    sqlite3 "$at/$1.db" "pragma journal_mode=$1; create table t(a integer primary key, b blob);" >/dev/null &&
+        for k in 1 2 3 4 5 6 7 8 9 10; do
+            echo "begin; insert into t(b) select randomblob(700) from (select 1 union select 2 union select 3); delete from t where a % 7 = 3; commit;"
+            echo "update t set b = randomblob(900) where a % 3 = 1;"
+        done | sqlite3 "$at/$1.db" && [ "$(sqlite3 "$at/$1.db" 'pragma integrity_check')" = ok ]
+}
+
+for options in "" --mapped; do
+    # shellcheck disable=SC2086
+    copies $options
+done
+if has git; then
+    git_works
+    holds "git clone, commit, checkout, gc, fsck" $?
+    sound git git.img
+fi
+if has sqlite3; then
+    make sqlite.img 16384
+    mounted sqlite.img --mapped
+    for mode in delete truncate persist memory off; do
+        sqlite_works $mode
+        holds "sqlite3, journal_mode=$mode" $?
+    done
+    sound sqlite3 sqlite.img
+fi
+if has fio; then
+    make fio.img 16384
+    mounted fio.img --mapped && fio --name=verify --directory="$at" --rw=randwrite --bs=4k --size=16m --verify=crc32c --do_verify=1 \
+        --loops=2 --minimal >fio.said 2>&1
+    holds "fio" $?
+    sound fio fio.img
+fi
+
+# ---- one file beside a copy
+
+compile "$here/mount/tests/fsx.c" -o fsx
+make fsx.img 16384
+mounted fsx.img --mapped && ./fsx "$at/file" 15000 1
+holds "15,000 steps in one file" $?
+sound fsx fsx.img
+
+# ---- what it says of itself
+
+make said.img 256
+mounted said.img
+same "statfs" "4096 256 186 255" "$(stat -f -c '%S %b %f %l' "$at")"
+echo text >"$at/file" && touch -d @1000000000 "$at/file"
+same "one time" "1000000000 1000000000" "$(stat -c '%Y %X' "$at/file")"
+ln -s to "$at/symbolic" 2>/dev/null
+holds "a symbolic link is refused" $((!$?))
+same "a second mount is refused" "novafuse: $folder/said.img: it is mounted already status 2" "$(refused said.img | xargs)"
+# fsync puts the image in its place.
+sync "$at/file"
+"$built" cat said.img /file >synced 2>&1
+same "fsync is durable" "text" "$(cat synced)"
+sound "said" said.img
+
+# ---- an image that is full
+
+make full.img 64 1
+mounted full.img --mapped
+head -c 1000000 /dev/zero >"$at/file" 2>full.said
+holds "a full image refuses" $((!$?))
+grep -q 'No space left on device' full.said
+holds "by ENOSPC" $?
+rm "$at/file" && echo again >"$at/file" && [ "$(cat "$at/file")" = again ]
+holds "and takes files again" $?
+sound full full.img
+
+# ---- damaged images
+
+cp "$here/examples/ring.img" ring.img
+before=$(sha256sum <ring.img)
+for options in "" --mapped; do
+    # shellcheck disable=SC2086
+    mounted ring.img $options
+    holds "a damaged image is mounted $options" $?
+    grep -q 'has faults, so it can only be read' mount.said
+    holds "and says so" $?
+    touch "$at/file" 2>touch.said
+    holds "it can't be written $options" $((!$?))
+    grep -q 'Read-only file system' touch.said
+    holds "by EROFS" $?
+    ls "$at" >/dev/null
+    holds "it can be read" $?
+    unmounted
+    same "it stays as it was $options" "$before" "$(sha256sum <ring.img)"
+done
+head -c 32768 /dev/zero >zeros.img
+same "no superblock" "novafuse: $folder/zeros.img: the superblock isn't accepted: fault S2 status 2" "$(refused zeros.img | tr '\n' ' ' | sed 's/ $//')"
+same "no image" "novafuse: none.img: No such file or directory status 2" "$(refused none.img | xargs)"
+
+# ---- kills
+
+python3 "$here/mount/tests/killed.py" "$novafuse" "$built" "$kills" 1 "$folder" >killed.said 2>&1
+status=$?
+holds "$kills kills: $(tail -n 1 killed.said)" $status
+[ $status -eq 0 ] || cat killed.said
+close
