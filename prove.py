@@ -1,5 +1,6 @@
 #!/usr/bin/env python3
-"""Proves and builds a program of this repository: `nova`, or `nova_check`, its checker alone, or one of the others.
+"""Proves and builds a program of this repository: `nova`, or `nova_check`, its checker alone, or one of the others; or
+`nova_c`, the static library for C.
 
 usage: ./prove.py PROGRAM
 
@@ -8,8 +9,8 @@ each other: the more waits for a crate, the less it yields to others. What is pr
 `nova`. So an interrupted run goes on where it was, and a later run proves what changed since and the crates above. What the
 prover said of each crate stays in `out/proved/logs/` there: its last line says what is trusted.
 
-It ends with 0 if the program is built, which is then at `crates/PROGRAM/out/PROGRAM`. If all is built already, the kit isn't
-needed. What it says of its work goes to standard error.
+It ends with 0 if the program is built, which is then at `crates/PROGRAM/out/PROGRAM`, the library at
+`crates/nova_c/out/libnova_c.a`. If all is built already, the kit isn't needed. What it says of its work goes to standard error.
 """
 
 import contextlib
@@ -85,6 +86,7 @@ class Crate:
         self.name, self.line, self.below, self.of_kit = name, line, below, of_kit
         self.folder = HERE / "crates" / name
         self.is_program = (self.folder / "src/main.rt").is_file()
+        self.is_for_c = is_for_c(line)
         # the seconds that its proof and those of the longest row of crates that wait for it are likely to take
         self.waiting = 0
 
@@ -104,8 +106,11 @@ class Crate:
     def program(self):
         return self.folder / "out" / self.name
 
+    def archive(self):
+        return self.folder / f"out/lib{self.name}.a"
+
     def made(self):
-        return self.program() if self.is_program else self.library()
+        return self.program() if self.is_program else self.archive() if self.is_for_c else self.library()
 
     def sum_file(self):
         return PROVED / f"{self.name}.sum"
@@ -135,8 +140,11 @@ class Crate:
         words += ["--antt-project", f"{kit.at}/rattle/logic/antt-project.json"]
         words += ["--logic-built", f"{kit.at}/logic_built", "--links", f"{self.name}="]
         words += ["--jobs", str(processes)]
+        machine = ["--backend", "llvm", "--toolchain", f"{kit.at}/toolchain"]
         if self.is_program:
-            return [*words, "--backend", "llvm", "--toolchain", f"{kit.at}/toolchain", "-o", f"{self.program()}.o"]
+            return [*words, *machine, "-o", f"{self.program()}.o"]
+        if self.is_for_c:
+            return [*words, "--crate-type", "staticlib", *machine, "-o", str(self.archive())]
         # The crates above read what it states, and not its proofs.
         return [*words, "--statements", "-o", str(self.library())]
 
@@ -144,6 +152,11 @@ class Crate:
         words = [f"{kit.at}/bin/rattle-link", "--target", TARGET, "--toolchain", f"{kit.at}/toolchain"]
         words += ["-o", f"{self.program()}.new", f"{self.program()}.o"]
         return [*words, f"{kit.at}/c/libos_c.a", f"{kit.at}/c/liblibc_c.a"]
+
+
+def is_for_c(line):
+    """Whether a line of crates.txt is that of a static library."""
+    return "staticlib" in line.partition(":")[0].split()[1:]
 
 
 def lines_of_crates():
@@ -306,7 +319,8 @@ def program_asked_for(words):
     if words in (["--help"], ["-h"]):
         print(__doc__.strip())
         sys.exit(0)
-    programs = [name for name in lines_of_crates() if (HERE / "crates" / name / "src/main.rt").is_file()]
+    lines = lines_of_crates()
+    programs = [name for name in lines if (HERE / "crates" / name / "src/main.rt").is_file() or is_for_c(lines[name][0])]
     if len(words) != 1:
         sys.exit(f"nova: name one program, as in ./prove.py nova; there are {', '.join(programs)}")
     if words[0] not in programs:

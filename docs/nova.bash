@@ -3,10 +3,11 @@ _nova() {
     local word=${COMP_WORDS[COMP_CWORD]} before=${COMP_WORDS[COMP_CWORD - 1]} words=
     COMPREPLY=()
     if [ "$COMP_CWORD" -eq 1 ]; then
-        words="run check mkfs clean ls stat cat explain map help --help --version"
+        words="run shell check mkfs clean ls stat cat explain map help --help --version"
     else
         case ${COMP_WORDS[1]} in
-            run) words="--image --save --force --help" ;;
+            run) words="--image --save --force --strict --help" ;;
+            shell) words="--force --help" ;;
             check) words="--workers --summary --only-faults --help" ;;
             mkfs) words="--blocks --cpus --tables --force --help" ;;
             clean) words="--help" ;;
@@ -15,7 +16,7 @@ _nova() {
             cat) words="--help" ;;
             explain) words="J1 J2 I1 I2 I3 L1 L2 L3 L4 E1 E2 E3 E4 C1 C2 C3 C4 C5 B1 S1 S2 S3 S4 S5 S6 S7 --help" ;;
             map) words="--svg --force --help" ;;
-            help) words="run check mkfs clean ls stat cat explain map" ;;
+            help) words="run shell check mkfs clean ls stat cat explain map" ;;
         esac
     fi
     # A number is written by hand, and everything else may be a file.

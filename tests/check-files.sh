@@ -58,6 +58,23 @@ expect "a path that isn't UTF-8" 2 "" "cannot read $folder/a${replacement}b${new
     "$program" check "$not_utf8" --workers 2
 # What an image is refused for: what was found, and what is taken.
 "$program" mkfs "$folder/region" --blocks 16 --cpus 1 --tables 1
+sums="inodes 1, directories 1, files 0, names 0, blocks in use 1, free 12, faults 0"
+expect "several images" 2 "$folder/region: $sums${newline}$folder/short: refused S1${newline}$folder/region: $sums" \
+    "cannot read $folder/missing${newline}no such file${newline}it has 100 bytes; $lengths" \
+    "$program" check "$folder/region" "$folder/missing" "$folder/short" "$folder/region"
+# Of each image a line says what is said of it alone; a plain file and a pipe are read in different ways.
+for image in "$here/examples/ring.img" "$folder/region" "$folder/short"; do
+    for option in --summary --only-faults; do
+        alone=$("$program" check "$image" $option 2>/dev/null)
+        status=$?
+        expect "$image among several, $option" "$status" "$(sed "s|^|$image: |" <<<"$alone"; sed "s|^|/dev/stdin: |" <<<"$alone")" "" \
+            bash -c '"$1" check "$2" /dev/stdin "$3" <"$2" 2>/dev/null' bash "$program" "$image" $option
+    done
+done
+expect "several images on several threads" 0 "$folder/region: $sums${newline}$folder/region: $sums" "" "$program" check "$folder/region" "$folder/region" --workers 3
+expect "the faults of several images" 1 "$here/examples/ring.img: $("$program" check "$here/examples/ring.img" --only-faults)${newline}$folder/region: no faults" \
+    "nova explain CLASS says what a fault means, as nova explain L2 does for L2" \
+    "$program" check --only-faults "$here/examples/ring.img" "$folder/region"
 # word AT VALUE: the region, with this word of less than 256 there.
 word() {
     cp "$folder/region" "$folder/changed"
@@ -91,6 +108,25 @@ gzip -c "$folder/region" >"$folder/packed"
 expect "a compressed image" 2 "refused S1" \
     "it has $(stat -c %s "$folder/packed") bytes; $lengths${newline}by its first bytes it is compressed by gzip" "$program" check "$folder/packed"
 expect "a name that isn't there" 2 "" "refused NotFound" "$program" cat "$folder/region" /none
+
+# Names that are printed with escapes are given back with them: one with a space and a byte that isn't UTF-8, and a backslash.
+"$program" mkfs "$folder/names" --blocks 16 --cpus 1 --tables 1
+printf 'recover 1\ncreate 0 /\303\251\t\377\ncreate 0 /a\\b\nwrite 0 /a\\b 0 1 65\n' >"$folder/names.nova"
+"$program" run "$folder/names.nova" --image "$folder/names" --save "$folder/names" >/dev/null
+expect "names with escapes" 0 "\\x5cb" "" bash -c '"$1" ls "$2" | grep -o "x5cb" | sed "s/^/\\\\/"' bash "$program" "$folder/names"
+for name in $("$program" ls "$folder/names" | cut -d' ' -f1); do
+    expect "the name $name" 0 "" "" bash -c '"$1" stat "$2" "/$3" >/dev/null' bash "$program" "$folder/names" "$name"
+done
+expect "a name with a backslash" 0 "A" "" "$program" cat "$folder/names" '/a\\b'
+expect "a name with an escape" 0 "A" "" "$program" cat "$folder/names" '/\x61\x5Cb'
+for name in '/a\' '/a\b' '/\x5' '/\xg0'; do
+    expect "no escape in $name" 2 "" "in $name a backslash begins no escape; \\\\ stands for one, and \\x and two hexadecimal digits for a byte" \
+        "$program" stat "$folder/names" "$name"
+done
+
+# A strict script ends at the first command that is refused.
+expect "a strict script" 2 "ok${newline}refused Cpus" "" bash -c 'printf "time 1\nformat 65 8 1\ntime 2\n" | "$1" run --strict' bash "$program"
+expect "the same, lenient" 0 "ok${newline}refused Cpus${newline}ok" "" bash -c 'printf "time 1\nformat 65 8 1\ntime 2\n" | "$1" run' bash "$program"
 
 # Numbers that no region has.
 expect "too few blocks" 2 "" "refused Length${newline}a region has 8 to 65536 blocks" "$program" mkfs "$folder/new" --blocks 7 --cpus 1 --tables 1

@@ -93,6 +93,9 @@ def map_of(report):
 def mapped(program, image):
     """What `nova map` prints of an image, and the faults that it counts."""
     done = subprocess.run([program, "map", image], capture_output=True, text=True)
+    if done.returncode == 2 and not done.stdout:
+        # That it is refused stands on standard error, before what would help.
+        return done.stderr.splitlines(keepends=True)[0], 0
     told = re.search(r"has faults, which nova check shows: (\d+)", done.stderr)
     return done.stdout, int(told[1]) if told else 0
 

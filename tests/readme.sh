@@ -6,7 +6,7 @@
 #     tests/readme.sh --scripts FOLDER     also keeps the scripts, with what they print and their status, for rows-on-workers.py
 #
 # In docs/ a block `script` is run by `nova run`, and the block `output` after it is what it prints but for lines `ok`.
-# Commands on indented lines print the next block. `parallel` and `man` are left out if they aren't installed.
+# Commands on indented lines print the next block. `man` is left out if it isn't installed.
 set -u
 source "$(dirname "${BASH_SOURCE[0]}")/parts.sh" || exit 2
 program=$built
@@ -29,7 +29,7 @@ cases_of() {
         block == "run" { print > (name ".run"); next }
         block == "out" { print > (name ".out"); next }
         block == "skip" { next }
-        /^    (\.\/nova (run|check|mkfs|clean|ls|stat|cat|map|explain) [a-z<]|od )/ { if (!within) begin("command"); within = 1; sub(/^    /, ""); print > (name ".run"); next }
+        /^    (\.\/nova (run|shell|check|mkfs|clean|ls|stat|cat|map|explain) [a-z<]|od )/ { if (!within) begin("command"); within = 1; sub(/^    /, ""); print > (name ".run"); next }
         { within = 0 }
     ' "$1"
 }
@@ -69,13 +69,13 @@ for words in "check --help" "run --help" "--help" ""; do
     same "status of nova $words" 2 $?
     same "standard output of nova $words" "" "$(cat "$folder/said")"
 done
-for command in run check mkfs clean ls stat cat map explain; do
+for command in run shell check mkfs clean ls stat cat map explain; do
     same "usage of nova $command" "Usage: nova $command" "$("$program" $command --help 2>&1 | grep -o "^Usage: nova $command")"
     # The page has what the help says of the command and of its arguments.
     while IFS= read -r line; do
         grep -qF -- "$line" docs/nova.1
         same "docs/nova.1: $line" 0 $?
-    done < <("$program" $command --help 2>&1 | sed -nE '1p; s/^ +(-[^ ]+|<[a-z]+>|\[[a-z]+\])( <[a-z]+>)?  +//p' | grep -v '^Print help')
+    done < <("$program" $command --help 2>&1 | sed -nE '1p; s/^ +(-[^ ]+|<[a-z]+>|\[[a-z]+\])(\.\.\.| <[a-z]+>)?  +//p' | grep -v '^Print help')
 done
 
 # The version, on standard output; and the help of a command, asked for in the other way.
@@ -119,17 +119,6 @@ for class in $classes; do
     same "nova explain ${class,,}" "$said" "$("$program" explain "${class,,}")"
 done
 
-if parallel --version 2>/dev/null </dev/null | grep -q '^GNU parallel'; then
-    mkdir "$folder/images"
-    cp examples/ring.img "$folder/images/one"
-    cp examples/ring.img "$folder/images/two"
-    wanted=$(for image in one two; do "$program" check examples/ring.img | sed "s|^|images/$image\t|"; done)
-    found=$(cd "$folder" && parallel --tag "$program" check {} ::: images/* 2>/dev/null)
-    same "status of parallel over two images with faults" 2 $?
-    same "parallel over two images" "$wanted" "$(sort -s -k1,1 <<<"$found")"
-else
-    echo "left out: GNU parallel isn't installed"
-fi
 # Some systems have a program of this name that only says that there are no pages.
 if man --version 2>/dev/null </dev/null | grep -q '^man [0-9]'; then
     same "man ./docs/nova.1" "NOVA(1)" "$(man ./docs/nova.1 2>/dev/null | head -n 1 | grep -o '^NOVA(1)')"

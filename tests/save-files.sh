@@ -1,5 +1,5 @@
 #!/usr/bin/env bash
-# Tries that `nova mkfs`, `nova run --save`, `nova clean` and `nova map --svg` write a file whole or leave what was there. So it
+# Tries that `nova mkfs`, `nova run --save`, `nova shell`, `nova clean` and `nova map --svg` write a file whole or leave what was there. So it
 # is on a full disk, past a limit of the system, where the last step is refused, in a folder that can't be written, on what is
 # no file, on what the command reads, over what was changed meanwhile, by several runs at once, and with a stop at each system
 # call that writes.
@@ -69,7 +69,13 @@ begin
 echo old >"$folder/drawing"
 told "map" 0 "SSSLLD..........
 blocks in a cell 1: . free, S system, D data, L log, ! doubled" "" map "$room/image" --svg "$folder/drawing" --force
-same "map: the drawing" "3 #7f7f7f 2 #59a14f 1 #4c8ed9 10 #e6e6e6" "$(sed -n 's/^<rect .*fill="\(.*\)".*/\1/p' "$folder/drawing" | head -n 16 | uniq -c | xargs)"
+same "map: the drawing" "3 #7f7f7f 2 #59a14f 1 #4c8ed9 10 #e6e6e6" "$(sed -n 's/^<rect .*fill="\([^"]*\)" fill-opacity="1".*/\1/p' "$folder/drawing" | uniq -c | xargs)"
+same "map: the number of the first block" "0" "$(sed -n 's/^<text .*text-anchor.*>\(.*\)<.*/\1/p' "$folder/drawing")"
+same "map: the title of a cell" "blocks 3 to 3: 1 of logs, 0 free" "$(sed -n 's/.*<title>\(blocks 3 .*\)<.title>.*/\1/p' "$folder/drawing")"
+"$program" mkfs "$folder/large" --blocks 4096 --cpus 1 --tables 1
+"$program" map "$folder/large" --svg "$folder/drawing" --force >/dev/null
+same "map of a large image: few of many blocks" 'fill="#59a14f" fill-opacity=".40"><title>blocks 0 to 3: 1 of logs, 3 of the system, 0 free' "$(sed -n 's/^<rect .*\(fill=.*\)<.title>.*/\1/p' "$folder/drawing" | head -n 1)"
+same "map of a large image: the first blocks of rows" "$(seq 0 256 3840 | xargs)" "$(sed -n 's/^<text .*text-anchor.*>\(.*\)<.*/\1/p' "$folder/drawing" | xargs)"
 told "map of no region" 2 "" "refused S1
 it has 4 bytes; a region has a multiple of 4096, from 32768 to 268435456" map "$folder/short" --svg "$folder/none"
 same "map of no region: the drawing" "" "$(ls "$folder/none" 2>/dev/null)"
@@ -278,6 +284,71 @@ go_on() {
     wait "$first"
 }
 
+# A shell writes its image where a line asks for that, as often as one does, and another file over none.
+# typed LINES WORD..: a shell on the image of the room, whose lines printf reads.
+typed() {
+    local lines=$1
+    shift
+    # shellcheck disable=SC2059
+    printf "$lines" | "$program" shell "$room/image" "$@" >"$folder/out" 2>"$folder/err"
+}
+begin
+typed 'list /\nquit\nmkdir 0 /d\n'
+same "shell: status" 0 $?
+same "shell: output" "recovered inodes 2 free 10 faults 0
+hello 2" "$(cat "$folder/out")"
+same "shell: no prompt, and nothing else among the errors" "" "$(cat "$folder/err")"
+typed 'mkdir 0 /d\n'
+unchanged "a shell that saves nothing"
+typed 'move /a\nmkdir 0 /d\nlist /\nmkdir 0 /d\n'
+same "a slip in a shell: status" 0 $?
+same "a slip in a shell: output" "recovered inodes 2 free 10 faults 0
+bad line 1
+ok
+d 3
+hello 2
+refused Exists" "$(cat "$folder/out")"
+same "a slip in a shell: errors" "line 1: expected" "$(grep -o '^line 1: expected' "$folder/err")"
+unchanged "a slip in a shell"
+typed 'help\n'
+same "help in a shell" "list PATH save PATH" "$(sed -n '2p;$p' "$folder/out" | xargs)"
+typed 'mkdir 0 /d\nsave\nmkdir 0 /e\nsave\nmkdir 0 /f\n'
+same "saving in a shell: status" 0 $?
+same "saving in a shell: output" "recovered inodes 2 free 10 faults 0 ok ok ok ok ok" "$(xargs <"$folder/out")"
+same "saving in a shell: errors" "" "$(cat "$folder/err")"
+same "saving in a shell: what is there" "d 3 e 4 hello 2" "$("$program" ls "$room/image" | xargs)"
+same "saving in a shell: the folder" image "$(ls "$room")"
+if command -v script >/dev/null; then
+    same "prompts at a terminal" 2 "$(printf 'list /\nquit\n' | script -qec "$program shell $room/image" /dev/null | grep -o 'nova> ' | wc -l)"
+else
+    echo "left out: prompts at a terminal; script isn't installed"
+fi
+begin
+echo old >"$room/other"
+typed "mkdir 0 /d\nsave $room/other\nsave $room/new\nsave $room/none/new\nsave -\nsave $room\n"
+same "saving in other files from a shell: output" "recovered inodes 2 free 10 faults 0 ok not saved ok not saved not saved not saved" "$(xargs <"$folder/out")"
+same "saving in other files from a shell: errors" "cannot write $room/other: it is there already; --force replaces it
+cannot write $room/none/new: no such directory
+cannot write -: it isn't a file
+cannot write $room: it isn't a file" "$(cat "$folder/err")"
+same "saving in other files from a shell: the image" "$old" "$(sum "$room/image")"
+same "saving in other files from a shell: the other" old "$(cat "$room/other")"
+same "saving in other files from a shell: the new one" "d 3 hello 2" "$("$program" ls "$room/new" | xargs)"
+typed "save $room/other\n" --force
+same "saving in another file by force" "$old" "$(sum "$room/other")"
+ln -s image "$room/link"
+typed "mkdir 0 /d\nsave $room/./image\nsave $room/link\n"
+same "saving in the image by another name" "recovered inodes 2 free 10 faults 0 ok ok ok" "$(xargs <"$folder/out")"
+same "saving in the image by another name: what is there" "d 3 hello 2" "$("$program" ls "$room/image" | xargs)"
+same "saving in the image by another name: a link" image "$(readlink "$room/link")"
+typed "$(printf 'x%.0s' {1..4097})\nmkdir 0 /e\n"
+same "a long line in a shell" "2 bad line 1" "$? $(tail -n 1 "$folder/out")"
+"$program" shell "$folder/short" >"$folder/out" 2>"$folder/err" </dev/null
+same "a shell on no region" "2 refused S1, it has 4 bytes; a region has a multiple of 4096, from 32768 to 268435456" "$? $(cat "$folder/out"), $(cat "$folder/err")"
+"$program" shell "$room/none" >"$folder/out" 2>"$folder/err" </dev/null
+same "a shell on no file" "2  cannot read $room/none
+no such file" "$? $(cat "$folder/out") $(cat "$folder/err")"
+
 # Of two runs that are to replace one image the second is refused, by whatever name.
 begin
 ln -s image "$room/link"
@@ -285,7 +356,8 @@ waiting 'recover 1' --image "$room/image" --save "$room/image"
 told "an image in use" 2 "" "cannot write $room/image: in use by another run, which is to replace it" run "$grown" --image "$room/image" --save "$room/image"
 told "an image in use by a link" 2 "" "cannot write $room/link: in use by another run, which is to replace it" run "$grown" --force --save "$room/link"
 told "mkfs of an image in use" 2 "" "cannot write $room/image: in use by another run, which is to replace it" mkfs "$room/image" --force --blocks 8 --cpus 1 --tables 1
-told "clean of an image in use" 2 "" "cannot write $room/image: in use by another run, which is to replace it" clean "$room/image"
+told "a shell on an image in use" 2 "" "cannot write $room/image: in use by another run, which is to replace it" shell "$room/image"
+told "clean of an image in use" 2 """" "cannot write $room/image: in use by another run, which is to replace it" clean "$room/image"
 told "an image in use is read" 0 "hello 2" "" ls "$room/image"
 echo 'mkdir 0 /d' >&9
 go_on

@@ -18,7 +18,8 @@
 //! - [`Fs::mount`] takes any region, damaged or not. What it mounts is the outcome that is defined of the region as it came:
 //!   every inode in use, every free block and every fault. With faults it can only be read. An error hands the memory back.
 //!   [`Fs::mount_with`] does the same on threads.
-//! - `read`, `stat` and `list` answer what the tree of the region has at a path; `rows`, `free` and `faults` all that was found.
+//! - `read`, `stat` and `list` answer what the tree of the region has at a path; `read_inode`, `stat_inode` and `list_inode` what
+//!   it has by a number, also where no path leads to it; `rows`, `free` and `faults` all that was found.
 //! - `create`, `mkdir`, `write`, `set_size`, `set_attr`, `link`, `unlink`, `rmdir` and `rename` make of the tree what is
 //!   defined of each. A call that is refused changes nothing, and says by a [`Refusal`] why. `clean` frees log pages.
 //! - A power cut at any store of a call leaves the tree of before the call, or the one that the call makes. Once it has
@@ -39,6 +40,6 @@ pub use nv_names::Named;
 pub use nv_recover::{MOST_WORKERS, RecoverError};
 pub use nv_region::{Fuse, ImageRegion, Keep, MemRegion, Pmem, RegionRefusal, Stopped};
 pub use nv_rows::Rows;
-pub use nv_scan::Row;
+pub use nv_scan::{DeadPages, Row};
 pub use nv_super::{Fault, Kind, Owner, Run, Super, SuperFault};
 pub use nv_tree::Refusal;

@@ -1,5 +1,6 @@
 //! Cleaning the logs of the image in a file.
 
+use crate::names::path_of;
 use crate::saving::{region_of, save_region};
 use nv_cli::{Cleaned, clean_image};
 use nv_images::{
@@ -28,12 +29,16 @@ where
         path: image,
         force: true,
     };
+    let path = match path {
+        Some(path) => Some(path_of(rt.alloc(), path)?),
+        None => None,
+    };
     let held = hold(rt, target)?;
     match image_at(rt, image)? {
         Image::Bytes(bytes) => {
             let why = why_refused(rt.alloc(), &bytes);
             let region = region_of(rt.alloc(), bytes)?;
-            let cleaned = clean_image(rt.alloc(), region, path.map(|path| path.as_bytes()))?;
+            let cleaned = clean_image(rt.alloc(), region, path.as_deref())?;
             end_cleaning(rt, errors, &held, &cleaned)?;
             tell_unaccepted(rt, why);
             Ok(cleaned.status())

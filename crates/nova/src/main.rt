@@ -1,7 +1,8 @@
 //! The program `nova`: it makes, checks, cleans and shows images of the NOVA file system, and runs scripts on them.
 //!
-//! `run` runs a script, on the region of an image or on none, and saves the region that it leaves. `show` shows what is in an
-//! image, `cleaning` shortens its logs, and `saving` writes one. Checks and maps of images are those of `nova_check`.
+//! `run` runs a script, on the region of an image or on none, and saves the region that it leaves. `shell` runs the commands that
+//! are typed. `show` shows what is in an image, `cleaning` shortens its logs, `names` reads paths in it, and `saving` writes one.
+//! Checks and maps of images are those of `nova_check`.
 //!
 //! Behind a bad line, and a region that is refused for its length, a line on standard error says more.
 //!
@@ -11,20 +12,23 @@
 
 mod cleaning;
 mod hints;
+mod names;
 mod run;
 mod saving;
+mod shell;
 mod show;
 
 use cleaning::clean;
 use nv_args::{CheckOutput, Todo, VERSION, read_words};
-use nv_checking::{Blocks, Output, check_file, map_file};
+use nv_checking::{Blocks, Output, check_file, check_files, map_file};
 use nv_images::{Failure, Lock, Target, ended, explain, print_line, refuse_words, words_of};
-use run::{run, script_at, script_on};
+use run::{Images, run, script_at, script_on};
 use saving::{Numbers, mkfs};
+use shell::shell;
 use show::{Shown, show};
 use std::alloc::AllocError;
 use std::env::Env;
-use std::io::{Read, Write};
+use std::io::{IsTerminal, Read, Write};
 use std::process::ExitCode;
 use std::rt::Files;
 use std::thread::Threads;
@@ -40,7 +44,7 @@ fn main(rt: HostRuntime) -> ExitCode {
 // Fails where memory is refused for the words.
 fn act<
     H: Files + AllocGlobal + Print + Eprint + Env + Threads + Sync,
-    R: Read + Drop,
+    R: Read + IsTerminal + Drop,
     E: Write + Drop,
 >(rt: &H, input: R, errors: E) -> Result<ExitCode, AllocError>
 where
@@ -60,7 +64,7 @@ where
 fn answer<
     'a,
     H: Files + AllocGlobal + Print + Eprint + Threads + Sync,
-    R: Read + Drop,
+    R: Read + IsTerminal + Drop,
     E: Write + Drop,
 >(rt: &H, input: R, mut errors: E, todo: Todo<'a>) -> Result<u8, Failure<'a>>
 where
@@ -73,18 +77,28 @@ where
             image,
             save,
             force,
+            strict,
         } => {
             let save = save.map(|path| Target { path, force });
+            let images = Images {
+                image,
+                save,
+                strict,
+            };
             match script {
-                None | Some("-") => run(rt, &mut errors, script_on(rt, input), image, save),
-                Some(path) => run(rt, &mut errors, script_at(rt, path)?, image, save),
+                None | Some("-") => run(rt, &mut errors, script_on(rt, input), images),
+                Some(path) => run(rt, &mut errors, script_at(rt, path)?, images),
             }
         }
+        Todo::Shell { image, force } => shell(rt, input, image, force),
         Todo::Check {
-            path,
+            paths,
             workers,
             output,
-        } => check_file(rt, path, workers, output_of(output)),
+        } => match paths.as_slice() {
+            [path] => check_file(rt, path, workers, output_of(output)),
+            paths => check_files(rt, paths, workers, output_of(output)),
+        },
         Todo::Mkfs {
             image,
             blocks,
@@ -101,9 +115,9 @@ where
             mkfs(rt, target, numbers)
         }
         Todo::Clean { image, path } => clean(rt, &mut errors, image, path),
-        Todo::Ls { image, path } => show(rt, &mut errors, image, Shown::Names(path)),
-        Todo::Stat { image, path } => show(rt, &mut errors, image, Shown::Attributes(path)),
-        Todo::Cat { image, path } => show(rt, &mut errors, image, Shown::Bytes(path)),
+        Todo::Ls { image, path } => show(rt, &mut errors, image, path, Shown::Names),
+        Todo::Stat { image, path } => show(rt, &mut errors, image, path, Shown::Attributes),
+        Todo::Cat { image, path } => show(rt, &mut errors, image, path, Shown::Bytes),
         Todo::Map { image, svg, force } => {
             map_file(rt, image, svg.map(|path| Target { path, force }))
         }

@@ -2,7 +2,9 @@
 
 use crate::hints::ErrorOutput;
 use crate::saving::{region_of, save_region};
-use nv_cli::{Ended, MemRegion, ScriptError, run_script_on, run_script_to_end};
+use nv_cli::{
+    Ended, MemRegion, ScriptError, run_script_on, run_script_strictly, run_script_to_end,
+};
 use nv_images::{
     Failure, Held, Image, ImageFile, Lock, Reason, Stamp, Target, hold, open_image, read_image,
     see_ready,
@@ -23,25 +25,34 @@ pub(crate) struct Script<R: Drop> {
     pub stamp: Option<Stamp>,
 }
 
-/// Runs a script, prints what its commands answer on standard output, and answers its exit status. It begins with the region of
-/// the image in a file, or with none. The region that is there at its end is written to the file `save`; without that no file
-/// is written. The place of that file is held from the start. Where that is standard output, the answers go to the errors.
+/// What a script begins and ends with.
+#[derive(Clone, Copy, Debug)]
+pub(crate) struct Images<'a> {
+    /// The file whose region it begins with; without one there is none.
+    pub image: Option<&'a str>,
+    /// The file that the region at its end is written to; without one no file is written.
+    pub save: Option<Target<'a>>,
+    /// Whether it ends at the first command that is refused.
+    pub strict: bool,
+}
+
+/// Runs a script, prints what its commands answer on standard output, and answers its exit status. The place of the file that
+/// it is saved to is held from the start. Where that is standard output, the answers go to the errors.
 pub(crate) fn run<
     'a,
     H: Files + AllocGlobal + Print + Eprint + Threads + Sync,
     R: Read + Drop,
     E: Write,
->(
-    rt: &H,
-    errors: &mut E,
-    script: Script<R>,
-    image: Option<&'a str>,
-    save: Option<Target<'a>>,
-) -> Result<u8, Failure<'a>>
+>(rt: &H, errors: &mut E, script: Script<R>, images: Images<'a>) -> Result<u8, Failure<'a>>
 where
     H::File: Lock,
 {
     let Script { reader, stamp } = script;
+    let Images {
+        image,
+        save,
+        strict,
+    } = images;
     let held = match save {
         Some(target) => Some(hold(rt, target)?),
         None => None,
@@ -59,9 +70,9 @@ where
     };
     let is_saved_there = held.as_ref().is_some_and(|held| held.is_output());
     let Ended { status, region } = if is_saved_there {
-        run_from(rt, reader, region, errors)?
+        run_from(rt, reader, region, strict, errors)?
     } else {
-        run_from(rt, reader, region, &mut io::writer(rt))?
+        run_from(rt, reader, region, strict, &mut io::writer(rt))?
     };
     if let Some(held) = &held {
         save_end(rt, held, region)?;
@@ -102,10 +113,14 @@ fn run_from<H: AllocGlobal + Eprint + Threads + Sync, R: Read + Drop, W: Write>(
     rt: &H,
     script: R,
     region: Option<MemRegion>,
+    strict: bool,
     output: &mut W,
 ) -> Result<Ended, ScriptError> {
     let alloc = rt.alloc();
     let mut hints = ErrorOutput { rt };
+    if strict {
+        return run_script_strictly(rt, alloc, region, script, output, &mut hints);
+    }
     match region {
         Some(region) => run_script_on(rt, alloc, region, script, output, &mut hints),
         None => run_script_to_end(rt, alloc, script, output, &mut hints),

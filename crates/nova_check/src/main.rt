@@ -8,7 +8,7 @@
 #![tactic(auto)]
 
 use nv_args::{CheckOutput, Todo, VERSION, read_words};
-use nv_checking::{Blocks, Output, check_file, map_file};
+use nv_checking::{Blocks, Output, check_file, check_files, map_file};
 use nv_images::{Failure, Lock, Target, ended, explain, print_line, refuse_words, words_of};
 use std::alloc::AllocError;
 use std::env::Env;
@@ -53,10 +53,13 @@ where
     match todo {
         Todo::Version => print_line(rt, VERSION),
         Todo::Check {
-            path,
+            paths,
             workers,
             output,
-        } => check_file(rt, path, workers, output_of(output)),
+        } => match paths.as_slice() {
+            [path] => check_file(rt, path, workers, output_of(output)),
+            paths => check_files(rt, paths, workers, output_of(output)),
+        },
         Todo::Map { image, svg, force } => {
             map_file(rt, image, svg.map(|path| Target { path, force }))
         }

@@ -13,28 +13,30 @@ ghost use Rattle.nv_alloc.specs.Inside.{lists_of, bounds_of, AreBounds, TakesOnt
 use crate::pool::Pool;
 use nv_super::{Run, Super};
 use std::alloc::{AllocError, Global};
-use std::fmt;
 use std::marker::Model;
+use thiserror::Error;
 
 /// Why no blocks were taken.
-#[derive(Clone, Copy, Debug, PartialEq, Eq)]
+#[derive(Clone, Copy, Debug, PartialEq, Eq, Error)]
 pub enum AllocRefusal {
     /// All pools together have fewer blocks.
+    #[error("all pools together have fewer free blocks")]
     NoSpace,
     /// They have enough, and there is no memory for the runs.
+    #[error("out of memory")]
     Memory,
 }
 
-impl fmt::Display for AllocRefusal {
-    ghost use Rattle.std.specs.Prelude.{Some};
+impl AllocRefusal {
     ghost use Rattle.nv_alloc.specs.Names.{refusal_name};
 
-    ghost output = { λ refusal. Some (refusal_name refusal) };
-
-    fn fmt<W: fmt::Write>(&self, f: &mut fmt::Formatter<W>) -> fmt::Result {
+    /// The name that scripts print.
+    pub fn name(self) -> &'static str
+        ensures { result.now ≡ refusal_name self }
+    {
         match self {
-            AllocRefusal::NoSpace => f.write_str("NoSpace"),
-            AllocRefusal::Memory => f.write_str("Memory"),
+            AllocRefusal::NoSpace => "NoSpace",
+            AllocRefusal::Memory => "Memory",
         }
     }
 }

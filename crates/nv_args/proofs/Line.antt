@@ -1,6 +1,5 @@
 -- What a parse of the program's command line tells of its words.
-use Rattle.std.proofs.Common.{◌≡◌, ◌⊎◌, inl, inr, true, refl, sym, subst, List, [], Option, Some, None, Result, IfOk, IfErr, IfSome, IsNone, IsTrue}
-use Rattle.std.specs.Prelude.{ok_or}
+use Rattle.std.proofs.Common.{◌≡◌, ◌⊎◌, inl, inr, true, refl, sym, subst, List, [], Option, Some, None, Result, Ok, Err, IfOk, IfErr, IfSome, IsNone, IsTrue}
 use Rattle.clap.specs.Walk.{Text}
 use Rattle.clap.specs.Simple.{App, HasMatchesOf, is_simple, subcommand_rows_of}
 use Rattle.clap.specs.Faults.{fault_of, is_simple_and_free}
@@ -47,14 +46,30 @@ say_taken app words m is matches todo says =
     let rows = subst (λ app. HasMatchesOf app words m) is matches nova_is_simple in
     subst (λ met. Says met todo) (sym rows.1) says.1
 
-pub some_is_ok : {T E : Type 0} (found : Option T) (e : E) (r : Result T E) (P : T → Type 0) → r ≡ ok_or found e → IfSome found P → IfOk r P
-some_is_ok (Some x) e r P is holds = subst (λ r. IfOk r P) (sym is) holds
-some_is_ok None e r P is holds = subst (λ r. IfOk r P) (sym is) tt
+-- what is asked for is what was found
+pub asked_is_found : {T E U : Type 0} (found : Result (Option T) E) (r : Result T U) (P : T → Type 0) → IfOk r (λ x. found ≡ Ok (Some x))
+    → IfOk found (λ o. IfSome o P) → IfOk r P
+asked_is_found found (Ok x) P is holds = subst (λ f. IfOk f (λ o. IfSome o P)) is holds
+asked_is_found found (Err u) P is holds = tt
 
-pub none_is_err : {T E : Type 0} (found : Option T) (e : E) (r : Result T E) (P : E → Type 0) → r ≡ ok_or found e → (IsNone found → P e) → IfErr r P
-none_is_err (Some x) e r P is holds = subst (λ r. IfErr r P) (sym is) tt
-none_is_err None e r P is holds = subst (λ r. IfErr r P) (sym is) (holds refl)
+-- where nothing is asked for, nothing was found, or memory was refused
+pub none_is_asked : {T E U : Type 0} (found : Result (Option T) E) (r : Result T U) (Q : T → Type 0) (P : U → Type 0) → IfErr r (λ u. (found ≡ Ok None) ⊎ P u)
+    → IfOk found (λ o. IsNone o → (t : T) → Q t → ⊥) → IfErr r (λ u. (t : T) → Q t → P u)
+none_is_asked found (Ok x) Q P h none = tt
+none_is_asked found (Err u) Q P h none = elim h [
+  | inl is ↦ λ t q. (let nothing = subst (λ f. IfOk f (λ o. IsNone o → (t : _) → Q t → ⊥)) is none in absurd (nothing refl t q))
+  | inr memory ↦ λ t q. memory
+]
 
-pub some_weaker : {T : Type 0} (found : Option T) (P Q : T → Type 0) → ((x : T) → P x → Q x) → IfSome found P → IfSome found Q
+some_weaker : {T : Type 0} (found : Option T) (P Q : T → Type 0) → ((x : T) → P x → Q x) → IfSome found P → IfSome found Q
 some_weaker (Some x) P Q weaker holds = weaker x holds
 some_weaker None P Q weaker holds = tt
+
+pub ok_weaker : {T E : Type 0} (found : Result (Option T) E) (P Q : T → Type 0) → ((x : T) → P x → Q x) → IfOk found (λ o. IfSome o P) → IfOk found (λ o. IfSome o Q)
+ok_weaker (Ok o) P Q weaker holds = some_weaker o P Q weaker holds
+ok_weaker (Err e) P Q weaker holds = tt
+
+pub none_weaker : {T E : Type 0} (found : Result (Option T) E) (P Q : T → Type 0) → ((x : T) → Q x → P x) → IfOk found (λ o. IsNone o → (t : T) → P t → ⊥)
+    → IfOk found (λ o. IsNone o → (t : T) → Q t → ⊥)
+none_weaker (Ok o) P Q stronger holds = λ none t q. holds none t (stronger t q)
+none_weaker (Err e) P Q stronger holds = tt

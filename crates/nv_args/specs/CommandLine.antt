@@ -3,7 +3,7 @@ use Rattle.std.specs.Prelude.{◌^◌, ◌-◌, List, [], ◌∷◌, pos, true, 
 use Rattle.std.specs.List.{fold}
 use Rattle.clap.specs.Walk.{Rule, Text}
 use Rattle.clap.specs.Simple.{App, new_app, new_rule, with_rule, with_subcommand, on_top}
-use Rattle.clap.specs.declared.builder.action.ArgAction.TheVariants.{SetTrue}
+use Rattle.clap.specs.declared.builder.action.ArgAction.TheVariants.{SetTrue, Append}
 use Rattle.clap.specs.declared.builder.value_parser.ValueParser.TheVariants as parsers
 
 -- an argument that is written by its place
@@ -13,6 +13,10 @@ place_rule name = new_rule name
 -- one that has to be written
 abbrev pub needed_rule : Text → Rule
 needed_rule name = record (new_rule name) { required = true }
+
+-- arguments that are written by their places, one or more
+abbrev pub several_rule : Text → Rule
+several_rule name = record (needed_rule name) { action = Some Append }
 
 -- an option with a text
 abbrev pub option_rule : Text → Rule
@@ -38,13 +42,18 @@ workers_rule = threads_rule (codes "workers")
 abbrev pub command : Text → List Rule → App
 command name rules = fold with_rule (new_app name) rules
 
--- `run`: a script's file, the images that it begins with and ends with, and whether another file may be replaced
+-- `run`: a script's file, the images that it begins with and ends with, whether another file may be replaced, and whether it
+-- ends at a refusal
 abbrev pub run_app : App
-run_app = command (codes "run") (place_rule (codes "script") ∷ option_rule (codes "image") ∷ option_rule (codes "save") ∷ flag_rule (codes "force") ∷ [])
+run_app = command (codes "run") (place_rule (codes "script") ∷ option_rule (codes "image") ∷ option_rule (codes "save") ∷ flag_rule (codes "force") ∷ flag_rule (codes "strict") ∷ [])
 
--- `check`: an image's file, a number of workers, and what is printed in place of the report
+-- `shell`: an image's file, and whether another file may be replaced
+abbrev pub shell_app : App
+shell_app = command (codes "shell") (needed_rule (codes "image") ∷ flag_rule (codes "force") ∷ [])
+
+-- `check`: the files of images, a number of workers, and what is printed in place of the report
 abbrev pub check_app : App
-check_app = command (codes "check") (needed_rule (codes "path") ∷ workers_rule ∷ flag_rule (codes "summary") ∷ flag_rule (codes "only-faults") ∷ [])
+check_app = command (codes "check") (several_rule (codes "path") ∷ workers_rule ∷ flag_rule (codes "summary") ∷ flag_rule (codes "only-faults") ∷ [])
 
 -- `mkfs`: an image's file, the numbers of a new region, and whether the file may be there
 abbrev pub mkfs_app : App
@@ -80,4 +89,4 @@ image_apps = mkfs_app ∷ may_path_app (codes "clean") ∷ may_path_app (codes "
 
 -- the program with its commands
 abbrev pub nova_app : App
-nova_app = with_commands bare_app (run_app ∷ check_app ∷ image_apps)
+nova_app = with_commands bare_app (run_app ∷ shell_app ∷ check_app ∷ image_apps)

@@ -5,7 +5,7 @@ use Rattle.clap.specs.Simple.{App}
 use Rattle.clap.specs.declared.builder.arg.Arg.{Arg}
 use Rattle.clap.specs.declared.builder.command.Command.{Command}
 use Rattle.clap.specs.declared.builder.command.Command.TheViews.{out-Command}
-use Rattle.nv_args.specs.CommandLine.{command, place_rule, needed_rule, option_rule, number_rule, flag_rule, threads_rule}
+use Rattle.nv_args.specs.CommandLine.{command, place_rule, needed_rule, several_rule, option_rule, number_rule, flag_rule, threads_rule}
 use Rattle.nv_args.specs.declared.arguments.Argument.{Argument}
 use Rattle.nv_args.specs.declared.arguments.Written.{Written}
 use Rattle.nv_args.specs.declared.arguments.Written.TheVariants as ways
@@ -15,6 +15,7 @@ use Rattle.nv_args.specs.declared.command_line.CommandForm.{CommandForm}
 abbrev pub rule_as : Written → Text → Rule
 rule_as ways.ByPlace name = place_rule name
 rule_as ways.Needed name = needed_rule name
+rule_as ways.Several name = several_rule name
 rule_as ways.Option name = option_rule name
 rule_as ways.Flag name = flag_rule name
 rule_as ways.Number name = number_rule name

@@ -1,14 +1,15 @@
 -- What the words of a command line ask for.
-use Rattle.std.specs.Prelude.{◌≡◌, ◌⊎◌, ◌^◌, ℕ, ◌≤◌, ◌<◌, ◌↔◌, List, [], ◌∷◌, Option, Some, None, IsTrue, codes, option_map, unwrap_or}
+use Rattle.std.specs.Prelude.{◌≡◌, ◌⊎◌, ◌^◌, ℕ, ◌≤◌, ◌<◌, ◌↔◌, List, [], ◌∷◌, Option, Some, None, IsTrue, codes, option_map, map, unwrap_or}
+use Rattle.std.specs.Borrow.{Bor}
 use Rattle.std.specs.Str.Parse.{IsNumeral, digits_value, without_leading_plus}
-use Rattle.clap.specs.Walk.{Row, Text, first_of}
+use Rattle.clap.specs.Walk.{Row, Text, first_of, all_of}
 use Rattle.clap.specs.Simple.{subcommand_of}
 use Rattle.clap.specs.Faults.{fault_of}
 use Rattle.nv_args.specs.CommandLine.{nova_app}
 use Rattle.nv_args.specs.declared.todo.CheckOutput.{CheckOutput}
 use Rattle.nv_args.specs.declared.todo.CheckOutput.TheVariants.{Report, Summary, OnlyFaults}
 use Rattle.nv_args.specs.declared.todo.Todo.{Todo}
-use Rattle.nv_args.specs.declared.todo.Todo.TheVariants.{Version, Run, Check, Mkfs, Clean, Ls, Stat, Cat, Explain, Map}
+use Rattle.nv_args.specs.declared.todo.Todo.TheVariants.{Version, Run, Shell, Check, Mkfs, Clean, Ls, Stat, Cat, Explain, Map}
 use Rattle.nv_args.specs.UsageValue.{UsageTold}
 
 -- the written text is a decimal number below 2^64, which may have a plus sign and leading zeros
@@ -36,8 +37,9 @@ IsOutput values OnlyFaults = (¬ IsGiven (codes "summary") values) × IsGiven (c
 -- the name of the command that is to be done
 abbrev pub command_of : Todo → Text
 command_of Version = []
-command_of (Run script image save force) = codes "run"
-command_of (Check path workers output) = codes "check"
+command_of (Run script image save force strict) = codes "run"
+command_of (Shell image force) = codes "shell"
+command_of (Check paths workers output) = codes "check"
 command_of (Mkfs image blocks cpus tables force) = codes "mkfs"
 command_of (Clean image path) = codes "clean"
 command_of (Ls image path) = codes "ls"
@@ -46,18 +48,26 @@ command_of (Cat image path) = codes "cat"
 command_of (Explain class) = codes "explain"
 command_of (Map image svg force) = codes "map"
 
--- the path of a check
+-- the path, where there is one alone
+abbrev pub only_path : List (Bor Text) → Option Text
+only_path [] = None
+only_path (path ∷ []) = Some path.now
+only_path (path ∷ other ∷ paths) = None
+
+-- the path of a check of one image
 abbrev pub checked_path : Todo → Option Text
-checked_path (Check path workers output) = Some path.now
+checked_path (Check paths workers output) = only_path paths.items
 checked_path _ = None
 
 -- what is to be done has the values that are written for a command's arguments
 abbrev pub HasValues : List Row → Todo → Type 0
 HasValues values Version = ⊥
-HasValues values (Run script image save force) = (first_of (codes "script") values ≡ option_map (λ text. text.now) script)
+HasValues values (Run script image save force strict) = (first_of (codes "script") values ≡ option_map (λ text. text.now) script)
     × (first_of (codes "image") values ≡ option_map (λ text. text.now) image)
     × (first_of (codes "save") values ≡ option_map (λ text. text.now) save) × (IsTrue force ↔ IsGiven (codes "force") values)
-HasValues values (Check path workers output) = (first_of (codes "path") values ≡ Some path.now)
+    × (IsTrue strict ↔ IsGiven (codes "strict") values)
+HasValues values (Shell image force) = (first_of (codes "image") values ≡ Some image.now) × (IsTrue force ↔ IsGiven (codes "force") values)
+HasValues values (Check paths workers output) = (all_of (codes "path") values ≡ Some (map (λ path. path.now) paths.items))
     × AreWorkers (first_of (codes "workers") values) workers × IsOutput values output
 HasValues values (Mkfs image blocks cpus tables force) = (first_of (codes "image") values ≡ Some image.now)
     × IsNumber (first_of (codes "blocks") values) blocks × IsNumber (first_of (codes "cpus") values) cpus

@@ -2,7 +2,7 @@
 
 ghost use Rattle.std.specs.Prelude.{◌≡◌, ◌^◌, ◌-◌, false, pos};
 ghost use Rattle.clap.specs.Walk.{rule_of};
-ghost use Rattle.nv_args.specs.CommandLine.{place_rule, needed_rule, option_rule, number_rule, flag_rule, threads_rule};
+ghost use Rattle.nv_args.specs.CommandLine.{place_rule, needed_rule, several_rule, option_rule, number_rule, flag_rule, threads_rule};
 ghost use Rattle.nv_args.specs.Tables.{rule_by};
 
 use clap::builder::ValueParser;
@@ -16,6 +16,8 @@ pub(crate) enum Written {
     ByPlace,
     /// By its place.
     Needed,
+    /// By their places, one or more.
+    Several,
     /// `--NAME TEXT`.
     Option,
     /// `--NAME`.
@@ -42,6 +44,7 @@ pub(crate) fn arg_of<'a>(alloc: Global, argument: &Argument<'a>) -> Arg<'a>
     match argument.written {
         Written::ByPlace => place(alloc, name, help),
         Written::Needed => needed(alloc, name, help),
+        Written::Several => several(alloc, name, help),
         Written::Option => option(alloc, name, help),
         Written::Flag => flag(alloc, name, help),
         Written::Number => number(alloc, name, help),
@@ -63,6 +66,17 @@ fn needed<'a>(alloc: Global, name: &'a str, help: &'a str) -> Arg<'a>
     ensures local { result.global ≡ false }
 {
     Arg::new(alloc, name).required(true).help(help)
+}
+
+/// One argument or more, which are written by their places.
+fn several<'a>(alloc: Global, name: &'a str, help: &'a str) -> Arg<'a>
+    ensures rule { rule_of result ≡ several_rule name.entry.now }
+    ensures local { result.global ≡ false }
+{
+    Arg::new(alloc, name)
+        .required(true)
+        .help(help)
+        .action(ArgAction::Append)
 }
 
 /// `--NAME TEXT`.

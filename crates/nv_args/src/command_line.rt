@@ -4,7 +4,7 @@ ghost use Rattle.std.specs.Prelude.{◌≡◌, ◌∷◌, IfOk, map};
 ghost use Rattle.std.specs.List.{AllByRecursion};
 ghost use Rattle.clap.specs.Simple.{app_of};
 ghost use Rattle.clap.specs.Walk.{rule_of};
-ghost use Rattle.nv_args.specs.CommandLine.{bare_app, check_app, image_apps, nova_app, run_app};
+ghost use Rattle.nv_args.specs.CommandLine.{bare_app, check_app, image_apps, nova_app, run_app, shell_app};
 ghost use Rattle.nv_args.specs.Tables.{HasLocals, IsLocal, app_by, rule_by};
 
 use crate::arguments::{Argument, Written, arg_of};
@@ -15,15 +15,24 @@ const RUN_NOTES: &str = "\
 Exit status:
   0  the last recovery showed no faults, or there was none
   1  the last recovery showed faults
-  2  a bad line; the last recovery was refused; the script, the image or the output failed; or memory ran out
+  2  a bad line, or with --strict a refused one; the last recovery was refused; the script, the image or the output failed; or memory ran out
 
 docs/SCRIPT.md has the commands of a script and the lines that they print.";
+
+const SHELL_NOTES: &str = "\
+Exit status:
+  0  the last recovery showed no faults
+  1  the last recovery showed faults
+  2  the last recovery was refused; a line was too long; the image or the output failed; or memory ran out
+
+The command help lists all commands, and docs/SCRIPT.md describes them.";
 
 const CHECK_NOTES: &str = "\
 Exit status:
   0  the report shows no faults
   1  the report shows faults
   2  the image was refused; the file can't be read; the output failed; or memory ran out
+Of several images it is the greatest one.
 
 docs/SCRIPT.md has the lines of a report, docs/FAULTS.md what each fault means.";
 
@@ -46,7 +55,7 @@ struct CommandForm<'a> {
 }
 
 // In the order in which help lists them.
-const COMMANDS: [CommandForm<'static>; 9] = [
+const COMMANDS: [CommandForm<'static>; 10] = [
     CommandForm {
         name: "run",
         about: "Runs a script and prints its answers",
@@ -72,6 +81,28 @@ const COMMANDS: [CommandForm<'static>; 9] = [
                 name: "force",
                 help: SAVE_FORCE,
             },
+            Argument {
+                written: Written::Flag,
+                name: "strict",
+                help: "End at the first command that is refused, with exit status 2",
+            },
+        ],
+    },
+    CommandForm {
+        name: "shell",
+        about: "Mounts an image in memory and runs the commands of scripts that are typed",
+        notes: SHELL_NOTES,
+        arguments: &[
+            Argument {
+                written: Written::Needed,
+                name: "image",
+                help: "The file that holds the image, which is written by save alone",
+            },
+            Argument {
+                written: Written::Flag,
+                name: "force",
+                help: "Let save PATH put the region in the place of a file that is there",
+            },
         ],
     },
     CommandForm {
@@ -80,9 +111,9 @@ const COMMANDS: [CommandForm<'static>; 9] = [
         notes: CHECK_NOTES,
         arguments: &[
             Argument {
-                written: Written::Needed,
+                written: Written::Several,
                 name: "path",
-                help: IMAGE,
+                help: "The file that holds the image; of several files a line each",
             },
             Argument {
                 written: Written::Workers,
@@ -237,7 +268,7 @@ const COMMANDS: [CommandForm<'static>; 9] = [
 
 // The table, with what its forms stand for.
 fn forms() -> &'static [CommandForm<'static>]
-    ensures { map app_by result.now ≡ run_app ∷ check_app ∷ image_apps }
+    ensures { map app_by result.now ≡ run_app ∷ shell_app ∷ check_app ∷ image_apps }
 {
     &COMMANDS
 }

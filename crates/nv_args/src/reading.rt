@@ -1,7 +1,7 @@
 //! What the words of the command line ask for.
 
-ghost use Rattle.std.specs.Prelude.{◌≡◌, ◌↔◌, ℕ, IfOk, IfErr, IfSome, IsNone, IsTrue, option_map, map, codes};
-ghost use Rattle.clap.specs.Walk.{first_of, rows_of};
+ghost use Rattle.std.specs.Prelude.{◌≡◌, ◌≢◌, ◌⊎◌, ◌↔◌, ℕ, Ok, Some, None, IfOk, IfErr, IfSome, IsNone, IsTrue, option_map, map, codes};
+ghost use Rattle.clap.specs.Walk.{first_of, all_of, rows_of};
 ghost use Rattle.clap.specs.Simple.{subcommand_rows_of};
 ghost use Rattle.clap.specs.Matches.{found_of};
 ghost use Rattle.nv_args.specs.Words.{AreWorkers, AskVersion, Asks, CommandSays, IsGiven, IsNumber, IsOutput, IsVersion, Says, WordsSay, WantsMemory};
@@ -10,7 +10,7 @@ use crate::command_line::nova;
 use crate::todo::{CheckOutput, Todo};
 use crate::usage::{Cause, Usage};
 use clap::ArgMatches;
-use std::alloc::Global;
+use std::alloc::{AllocError, Global};
 
 // The text that is written for the argument of this name.
 fn text_of<'a>(values: &ArgMatches<'a>, name: &str) -> Option<&'a str>
@@ -26,6 +26,28 @@ fn is_given(values: &ArgMatches<'_>, name: &str) -> bool
         Some(text) => text == "true",
         None => false,
     }
+}
+
+// The texts that are written for the argument of this name, in their order.
+fn texts_of<'a>(
+    alloc: Global,
+    values: &ArgMatches<'a>,
+    name: &str,
+) -> Result<Option<Vec<&'a str>>, AllocError>
+    ensures { IfOk result (λ texts. all_of name.now (rows_of (found_of values.now)) ≡ option_map (λ texts. map (λ text. text.now) texts.items) texts) }
+{
+    match values.get_strs(name) {
+        Some(texts) => Ok(Some(copies(alloc, texts)?)),
+        None => Ok(None),
+    }
+}
+
+fn copies<'a>(alloc: Global, texts: &[&'a str]) -> Result<Vec<&'a str>, AllocError>
+    ensures { IfOk result (λ copies. copies.items ≡ texts.now) }
+{
+    let mut copies = Vec::new(alloc);
+    copies.extend_from_slice(texts)?;
+    Ok(copies)
 }
 
 // The number that the text writes, where it is one below 2^64.
@@ -67,21 +89,37 @@ fn run_of<'a>(values: &ArgMatches<'a>) -> Todo<'a>
         image: text_of(values, "image"),
         save: text_of(values, "save"),
         force: is_given(values, "force"),
+        strict: is_given(values, "strict"),
     }
 }
 
-fn check_of<'a>(values: &ArgMatches<'a>) -> Option<Todo<'a>>
-    ensures some { IfSome result (λ todo. Asks (codes "check") (rows_of (found_of values.now)) todo) }
-    ensures none { IsNone result → (todo : Todo) → ¬ Asks (codes "check") (rows_of (found_of values.now)) todo }
+fn shell_of<'a>(values: &ArgMatches<'a>) -> Option<Todo<'a>>
+    ensures some { IfSome result (λ todo. Asks (codes "shell") (rows_of (found_of values.now)) todo) }
+    ensures none { IsNone result → (todo : Todo) → ¬ Asks (codes "shell") (rows_of (found_of values.now)) todo }
 {
-    let path = text_of(values, "path")?;
-    let workers = worker_count(text_of(values, "workers"))?;
-    let output = output_of(values)?;
-    Some(Todo::Check {
-        path,
+    let image = text_of(values, "image")?;
+    let force = is_given(values, "force");
+    Some(Todo::Shell { image, force })
+}
+
+fn check_of<'a>(alloc: Global, values: &ArgMatches<'a>) -> Result<Option<Todo<'a>>, AllocError>
+    ensures some { IfOk result (λ found. IfSome found (λ todo. Asks (codes "check") (rows_of (found_of values.now)) todo)) }
+    ensures none { IfOk result (λ found. IsNone found → (todo : Todo) → ¬ Asks (codes "check") (rows_of (found_of values.now)) todo) }
+{
+    let Some(paths) = texts_of(alloc, values, "path")? else {
+        return Ok(None);
+    };
+    let Some(workers) = worker_count(text_of(values, "workers")) else {
+        return Ok(None);
+    };
+    let Some(output) = output_of(values) else {
+        return Ok(None);
+    };
+    Ok(Some(Todo::Check {
+        paths,
         workers,
         output,
-    })
+    }))
 }
 
 fn mkfs_of<'a>(values: &ArgMatches<'a>) -> Option<Todo<'a>>
@@ -156,14 +194,25 @@ fn map_of<'a>(values: &ArgMatches<'a>) -> Option<Todo<'a>>
     Some(Todo::Map { image, svg, force })
 }
 
-fn todo_of<'a>(matches: &ArgMatches<'a>) -> Option<Todo<'a>>
-    ensures some { IfSome result (λ todo. Says (subcommand_rows_of matches.now) todo) }
-    ensures none { IsNone result → (todo : Todo) → ¬ Says (subcommand_rows_of matches.now) todo }
+fn todo_of<'a>(alloc: Global, matches: &ArgMatches<'a>) -> Result<Option<Todo<'a>>, AllocError>
+    ensures some { IfOk result (λ found. IfSome found (λ todo. Says (subcommand_rows_of matches.now) todo)) }
+    ensures none { IfOk result (λ found. IsNone found → (todo : Todo) → ¬ Says (subcommand_rows_of matches.now) todo) }
 {
-    let (name, values) = matches.subcommand()?;
+    match matches.subcommand() {
+        Some(("check", values)) => check_of(alloc, values),
+        Some((name, values)) => Ok(command_of(name, values)),
+        None => Ok(None),
+    }
+}
+
+// What a command other than `check` asks for.
+fn command_of<'a>(name: &str, values: &ArgMatches<'a>) -> Option<Todo<'a>>
+    ensures some { IfSome result (λ todo. Asks name.now (rows_of (found_of values.now)) todo) }
+    ensures none { IsNone result → name.now ≢ codes "check" → (todo : Todo) → ¬ Asks name.now (rows_of (found_of values.now)) todo }
+{
     match name {
         "run" => Some(run_of(values)),
-        "check" => check_of(values),
+        "shell" => shell_of(values),
         "mkfs" => mkfs_of(values),
         "clean" => clean_of(values),
         "ls" => ls_of(values),
@@ -219,12 +268,22 @@ fn read_command<'a>(alloc: Global, words: &'a [&'a str]) -> Result<Todo<'a>, Usa
         });
     };
     match command.try_get_matches_from(words) {
-        // Of the words that pass, only a check that is to print two things asks for nothing.
-        Ok(matches) => todo_of(&matches).ok_or(Usage {
-            cause: Cause::TwoOutputs,
-        }),
+        Ok(matches) => asked(todo_of(alloc, &matches)),
         Err(error) => Err(Usage {
             cause: Cause::Words(error),
         }),
     }
+}
+
+// What words that pass ask for. Of these only a check that is to print two things asks for nothing.
+fn asked(found: Result<Option<Todo<'_>>, AllocError>) -> Result<Todo<'_>, Usage>
+    ensures ok { IfOk result (λ todo. found.entry ≡ Ok (Some todo)) }
+    ensures err { IfErr result (λ usage. (found.entry ≡ Ok None) ⊎ WantsMemory usage) }
+{
+    let cause = match found {
+        Ok(Some(todo)) => return Ok(todo),
+        Ok(None) => Cause::TwoOutputs,
+        Err(_) => Cause::NoMemory,
+    };
+    Err(Usage { cause })
 }

@@ -1,21 +1,30 @@
 //! What the program can be asked to do.
 
 /// What the program is to do.
-#[derive(Clone, Copy, PartialEq, Eq)]
+#[derive(Drop, PartialEq, Eq)]
 pub enum Todo<'a> {
     /// Tell the version.
     Version,
     /// Run the script in a file, or the one on standard input, on the region that an image holds, or on none, and save
-    /// the region that it leaves, or none: over the file of the image, and over another only by force.
+    /// the region that it leaves, or none: over the file of the image, and over another only by force. A strict one ends at
+    /// the first command that is refused.
     Run {
         script: Option<&'a str>,
         image: Option<&'a str>,
         save: Option<&'a str>,
         force: bool,
+        strict: bool,
     },
-    /// Recover the image in the file at this path on so many threads, from 1 to 64, and print this of what it shows.
+    /// Run the commands that are typed on standard input on the region that an image holds, and save it where one asks for
+    /// that: over the file of the image, and over another only by force.
+    Shell {
+        image: &'a str,
+        force: bool,
+    },
+    /// Recover the images in the files at these paths, of which there is one at least, on so many threads, from 1 to 64, and
+    /// print this of what they show.
     Check {
-        path: &'a str,
+        paths: Vec<&'a str>,
         workers: u32,
         output: CheckOutput,
     },
@@ -63,12 +72,15 @@ impl<'a> Todo<'a> {
     ghost use Rattle.std.specs.Prelude.{◌≡◌, option_map};
     ghost use Rattle.nv_args.specs.Words.{checked_path};
 
-    /// The path of a check. Of the words of a check only this can be one that isn't UTF-8.
+    /// The path of a check of one image. Of its words only this can be one that isn't UTF-8.
     pub fn checked_path(&self) -> Option<&'a str>
         ensures { option_map (λ path. path.now) result ≡ checked_path self.now }
     {
         match self {
-            Todo::Check { path, .. } => Some(path),
+            Todo::Check { paths, .. } => match paths.as_slice() {
+                [path] => Some(*path),
+                _ => None,
+            },
             _ => None,
         }
     }

@@ -11,7 +11,7 @@ use Rattle.nv_tree.specs.declared.refusal.Refusal.TheVariants.{Memory, NotFound,
 use Rattle.nv_tree.specs.Tree.{SameTree}
 use Rattle.nv_tree.specs.Refusals.{Path, clean_tests, first_refusal, stat_tests, IsRefusedBy}
 use Rattle.nv_paths.specs.Seen.{node_of, tree_of}
-use Rattle.nv_calls.specs.CleanCall.{ShowsCleaned, clean_inode_tests}
+use Rattle.nv_calls.specs.CleanCall.{IsKnown, ShowsCleaned, clean_inode_tests}
 use Rattle.nv_calls.specs.Mount.{Mount}
 use Rattle.nv_calls.specs.World.{world_of}
 
@@ -51,6 +51,10 @@ pub number_told : {P : Type 0} (region : P → Region) {n m : Mount P} → n ≡
 number_told {P} region {n} {m} same S row i held h block number told sound is =
     subst (λ (k : Mount P). ShowsSound (region k.memory) k.sup held → ShowsCleaned (region k.memory) S k.sup held i h block) same
     (λ shows. subst (λ (k : ℕ). ShowsCleaned (region n.memory) S n.sup held k h block) number (told held h shows (subst (λ (k : ℕ). held k ≡ Some h) (sym number) is))) sound
+
+-- What is known of a page is so of the row of the inode.
+pub known_here : {P : Type 0} (region : P → Region) {n m : Mount P} → n ≡ m → {i j : ℕ} (known : Option ℕ) → i ≡ j → IsKnown (region m.memory) m.sup j known → IsKnown (region n.memory) n.sup i known
+known_here {P} region {n} {m} same {i} {j} known number is = subst (λ (q : ℕ). IsKnown (region n.memory) n.sup q known) (sym number) (subst (λ (k : Mount P). IsKnown (region k.memory) k.sup j known) (sym same) is)
 
 -- A step that was refused is so for memory, where no test holds, or since it was stopped.
 pub step_refused : (first : Option Refusal) (e : Refusal) → first ≡ None → (e ≡ Memory) ⊎ (e ≡ Stopped) → IsRefusedBy first e

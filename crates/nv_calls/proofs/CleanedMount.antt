@@ -53,7 +53,8 @@ same_node R S {row} {new} file bytes = record {
   bytes = λ x below. ap (λ (ix : List (ℕ × Option ℕ)). byte_in S (block_at ix (x / 4096)) x) file.index ∙ bytes x;
 }
 
-held_row : {R : Region} {s : Super} {rows : List Row} {free : FreeLists} {faults : List Fault} {read_only stopped : Bool} → IsKept R s rows free faults read_only stopped → (row : Row) → Contains rows row → (held : Store) (h : Held) → held row.inode ≡ Some h
+-- a row that is kept is that of what is held of its inode
+pub held_row : {R : Region} {s : Super} {rows : List Row} {free : FreeLists} {faults : List Fault} {read_only stopped : Bool} → IsKept R s rows free faults read_only stopped → (row : Row) → Contains rows row → (held : Store) (h : Held) → held row.inode ≡ Some h
     → IsMounted R s held rows free.pools → ShowsRow R s held h row free
 held_row {R} {s} {rows} {free} kept row there held h is m =
     let w = shows_row {free = free} m kept.lists row there in

@@ -1,5 +1,5 @@
 -- What is known of a row whose log is cleaned.
-use Rattle.std.proofs.Common.{◌≡◌, ℕ, ◌*◌, ◌%◌, ◌<◌, Bool, true, false, List, length, get_or, inl, sym, subst, arith}
+use Rattle.std.proofs.Common.{◌≡◌, ℕ, ◌+◌, ◌*◌, ◌%◌, ◌<◌, Bool, true, false, List, length, get_or, inl, ap, sym, subst, arith, Option, Some, None, IfSome}
 use Rattle.std.specs.List.{Contains}
 use Rattle.std.proofs.Math.Logic.{∥∥₁_elim}
 use Rattle.std.proofs.Math.Nat.{ℕ_set}
@@ -19,6 +19,7 @@ use Rattle.nv_held.proofs.Shown.{stands_at}
 use Rattle.nv_held.proofs.nv_outcome.SuperOf.{blocks_of_super, is_equal}
 use Rattle.nv_steps.specs.LessNames.{AreOwn}
 use Rattle.nv_steps.specs.Steps.{ShowsRow}
+use Rattle.nv_calls.specs.CleanCall.{IsKnown}
 use Rattle.nv_calls.specs.Mount.{IsKept}
 use Rattle.nv_calls.proofs.Mounts.{mounted_of_kept}
 use Rattle.nv_calls.proofs.OneRow.{shows_row}
@@ -63,3 +64,18 @@ module _ {R : Region} {s : Super} {rows : List Row} {free : FreeLists} {faults :
         let high : get_or row.pages.items j 0 < s.blocks = subst (λ (t : Super). get_or row.pages.items j 0 < t.blocks) kept.lists place.1 in
         let all = region_size in
         omega (arith, high, all)
+
+    -- a page that is known to go isn't the last
+    pub known_before_last : (known : Option ℕ) → IsKnown R s row.inode known → IfSome known (λ k. k + 1 < length row.pages.items)
+    known_before_last None is = tt
+    known_before_last (Some k) is = ∥∥₁_elim (mounted_of_kept kept runs writes) prop (λ w. (
+        let v = shows_row {free = free} w.1 kept.lists row c in
+        let shows = v.1 in
+        let told = shows.told in
+        let first = is w.0 v.0 shows.sound shows.holds in
+        let dead = first.0 in
+        let pages = ap (λ (ps : List ℕ). length ps) told.pages in
+        let more = dead.more in
+        omega (arith, pages, more))) where
+          prop : IsProp (k + 1 < length row.pages.items)
+          prop = hlevel (props, ℕ_set)

@@ -11,7 +11,7 @@ use Rattle.nv_scan.specs.declared.piece.Row.{Row}
 use Rattle.nv_scan.proofs.NamesListed.{names_listed}
 use Rattle.nv_tree.specs.declared.refusal.Refusal.{Refusal}
 use Rattle.nv_tree.specs.declared.refusal.Refusal.TheVariants.{NotFound, NotDirectory}
-use Rattle.nv_tree.specs.Tree.{Node, Tree, walk, found}
+use Rattle.nv_tree.specs.Tree.{Node, Tree, walk, found, name_in}
 use Rattle.nv_tree.specs.Refusals.{Path, first_refusal, refused_walk, is_no_dir, stat_tests, list_tests}
 use Rattle.nv_paths.specs.Seen.{node_of, tree_of, LeadsTo}
 use Rattle.nv_calls.specs.Listing.{name_and_inode, ListsNamesIn}
@@ -51,20 +51,20 @@ listed lines names_of x l (Some y) e is =
     let same : y.0 ≡ x.1 = cc in
     subst (λ (i : ℕ). Contains (map name_and_inode lines) (x.0, i)) same (without_place lines (x.0, y.0, y.1) (l.all (x.0, y.0, y.1) e))
 
+-- the names of a directory, by its number
+pub lists_row : (t : Tree) (R : Region) (row : Row) (i : ℕ) (lines : List Named) → t i ≡ Some (node_of R row) → ListsNames row.names (map line_of lines) → Lists first (λ x. name_in t i x.0 ≡ Some x.1) (map name_and_inode lines)
+lists_row t R row i lines shows l =
+    let all = names_listed row.names (map line_of lines) l in
+    let named = λ (q : List ℕ). ap (option_and_then (λ (node : Node). node.names q)) shows in
+    record {
+      rising = rises lines all.rising;
+      each = λ x c. (let w = with_place lines x c in named x.0 ∙ ap (option_map (λ (y : ℕ × ℕ). y.0)) (all.each (x.0, x.1, w.0) w.1));
+      all = λ x h. listed lines (name_at row.names) x all (name_at row.names x.0) refl (sym (named x.0) ∙ h);
+    }
+
 pub lists_names : (R : Region) (rows : List Row) (names : List (List ℕ)) (row : Row) (lines : List Named) → LeadsTo (tree_of R rows) names row.inode (node_of R row) → ListsNames row.names (map line_of lines)
     → ListsNamesIn (tree_of R rows) names (map name_and_inode lines)
-lists_names R rows names row lines led l =
-    let all = names_listed row.names (map line_of lines) l in
-    let named = λ (q : List ℕ). ap (option_and_then (λ (node : Node). node.names q)) led.shows in
-    record {
-      directory = row.inode;
-      leads = led.leads;
-      lists = record {
-        rising = rises lines all.rising;
-        each = λ x c. (let w = with_place lines x c in named x.0 ∙ ap (option_map (λ (y : ℕ × ℕ). y.0)) (all.each (x.0, x.1, w.0) w.1));
-        all = λ x h. listed lines (name_at row.names) x all (name_at row.names x.0) refl (sym (named x.0) ∙ h);
-      };
-    }
+lists_names R rows names row lines led l = record { directory = row.inode; leads = led.leads; lists = lists_row (tree_of R rows) R row row.inode lines led.shows l }
 
 -- ---- refusals
 

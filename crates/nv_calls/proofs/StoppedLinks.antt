@@ -1,15 +1,5 @@
 -- What recovery finds in a region that a stop within `link` has left.
-use Rattle.std.proofs.Common.{◌≡◌, ◌≢◌, ◌⊎◌, ℕ, false, inl, inr, List, set, slice_get, refl, ap, ◌∙◌, Some, None, subst, ◌+◌, sym, Option, Ok}
-use Rattle.nv_calls.proofs.LinkedTree.{links_told}
-use Rattle.nv_calls.proofs.Kept.{rows_rise}
-use Rattle.nv_calls.proofs.InOrder.{first_as, rows_first}
-use Rattle.nv_calls.specs.InOrder.{ShowsTailFirst}
-use Rattle.nv_steps.proofs.RowOf.{row_at}
-use Rattle.nv_steps.specs.InOrder.{TailIsFirst, tail_address}
-use Rattle.nv_steps.specs.NameEntries.{links_entries}
-use Rattle.nv_tree.specs.Tree.{Node, walk}
-use Rattle.std.proofs.lemmas.Option.{same_Some}
-use Rattle.std.specs.Option.{option_map_or}
+use Rattle.std.proofs.Common.{◌≡◌, ◌≢◌, ◌⊎◌, ℕ, false, inl, inr, List, set, slice_get, refl, ap, ◌∙◌, Some, None, subst}
 use Rattle.nv_super.specs.Layout.{fixed_layout}
 use Rattle.std.proofs.Math.Logic.{∥∥₁_map}
 use Rattle.nv_region.specs.Region.{Region}
@@ -24,12 +14,12 @@ use Rattle.nv_rows.specs.Rows.{place_in}
 use Rattle.nv_rows.proofs.Places.{at_place}
 use Rattle.nv_held.specs.nv_named.Read.{row_of}
 use Rattle.nv_held.specs.Held.{Held, Store}
-use Rattle.nv_held.specs.Mounted.{IsMounted, ShowsSound}
+use Rattle.nv_held.specs.Mounted.{IsMounted}
 use Rattle.nv_commit.specs.Stopped.{LeavesEither}
 use Rattle.nv_tree.specs.Path.{IsPathName}
-use Rattle.nv_tree.specs.Calls.{linked, links_at}
+use Rattle.nv_tree.specs.Calls.{linked}
 use Rattle.nv_paths.specs.Places.{IsLinkSpot}
-use Rattle.nv_paths.specs.Seen.{tree_of, LeadsTo}
+use Rattle.nv_paths.specs.Seen.{tree_of}
 use Rattle.nv_steps.specs.MoreNames.{LinksAt}
 use Rattle.nv_steps.specs.Steps.{ShowsRow}
 use Rattle.nv_steps.specs.Stopped.{Linked}
@@ -43,8 +33,6 @@ use Rattle.nv_calls.proofs.Mounts.{mounted_of_kept}
 use Rattle.nv_calls.proofs.OneRow.{shows_row}
 use Rattle.nv_calls.proofs.Stopped.{recovers_to, still_mounted}
 use Rattle.nv_calls.proofs.TwoRows.{lifted}
-use Rattle.nv_steps.specs.Stores.{Places, StoresIn, two_logs}
-use Rattle.nv_calls.proofs.Stores.{rows_store}
 
 module _ {P : Type 0} (region : P → Region) {n m : Mount P} (same : n ≡ m) (kept : IsKept (region n.memory) n.sup n.rows n.free n.faults n.read_only n.stopped) (runs : n.stopped ≡ false) (writes : n.read_only ≡ false)
     (i j : ℕ) (file directory : Row) (at : row_of n.rows i ≡ Some file) (other_at : row_of n.rows j ≡ Some directory) (name : List ℕ) (cpu time : ℕ) (spelled : IsPathName name) (names others : List (List ℕ))
@@ -103,39 +91,3 @@ module _ {P : Type 0} (region : P → Region) {n m : Mount P} (same : n ≡ m) (
       let u = shows_row w.1 kept.lists directory there in
       let free_name = spot.spot in
       link_by left w.0 w.1 (step w.0 v.0 u.0 v.1 u.1 (not_named w.1 directory there name (free_name.absent directory directory_at)) settled left may)))
-
-  -- The file's tail is stored first.
-  pub link_ordered : (S : Region) → ((held : Store) (f h : Held) → ShowsRow R s held f file free → ShowsRow R s held h directory free → TailIsFirst R S s free.pools cpu file.inode file.tail (links_entries (file.numbers.links + 1) time) (tail_address s directory.inode))
-      → (k d : ℕ) (node : Node) (held : Store) (f : Held) → LeadsTo (tree_of (region m.memory) m.rows) names k node → walk (tree_of (region m.memory) m.rows) 1 others ≡ Ok d → ShowsSound (region m.memory) m.sup held → held k ≡ Some f
-      → ShowsTailFirst (region m.memory) S m.sup m.free.pools cpu k f (links_entries (node.links + 1) time) (tail_address m.sup d)
-  link_ordered S step k d node held f =
-      subst (λ (q : Mount P). LeadsTo (tree_of (region q.memory) q.rows) names k node → walk (tree_of (region q.memory) q.rows) 1 others ≡ Ok d → ShowsSound (region q.memory) q.sup held → held k ≡ Some f
-      → ShowsTailFirst (region q.memory) S q.sup q.free.pools cpu k f (links_entries (node.links + 1) time) (tail_address q.sup d)) same by
-    where
-      by : LeadsTo (tree_of R rows) names k node → walk (tree_of R rows) 1 others ≡ Ok d → ShowsSound R s held → held k ≡ Some f → ShowsTailFirst R S s free.pools cpu k f (links_entries (node.links + 1) time) (tail_address s d)
-      by led ended sound is =
-          let free_name = spot.spot in
-          let in_directory = free_name.directory in
-          let walked : Ok directory.inode ≡ Ok d = sym (in_directory.row directory directory_at).0 ∙ ended in
-          let there : directory.inode ≡ d = cc in
-          let one : file.inode ≡ k = same_Some _ _ (sym (spot.leads file file_at) ∙ led.leads) in
-          let links : file.numbers.links ≡ node.links = sym (links_told R rows file (row_at rows (place_in rows i) file (rows_rise R s rows free n.faults n.read_only n.stopped kept runs) file_at)) ∙ ap (λ (q : ℕ). links_at (tree_of R rows) q) one ∙ ap (λ (o : Option Node). option_map_or (λ (x : Node). x.links) o 0) led.shows in
-          first_as R f one (ap (λ (q : ℕ). links_entries (q + 1) time) links) (ap (tail_address s) there)
-          (rows_first kept runs S file directory (stands rows (place_in rows i) file file_at) (stands rows (place_in rows j) directory directory_at) cpu (links_entries (file.numbers.links + 1) time) (tail_address s directory.inode) held f sound (ap held one ∙ is) (λ a b seen other. step held a b seen other))
-
-  -- Nothing else is stored.
-  pub link_stored : (S : Region) → ((held : Store) (f h : Held) → ShowsRow R s held f file free → ShowsRow R s held h directory free → StoresIn s held (two_logs s cpu file.inode directory.inode) R S)
-      → (k d : ℕ) (node : Node) (held : Store) → LeadsTo (tree_of (region m.memory) m.rows) names k node → walk (tree_of (region m.memory) m.rows) 1 others ≡ Ok d → ShowsSound (region m.memory) m.sup held → StoresIn m.sup held (two_logs m.sup cpu k d) (region m.memory) S
-  link_stored S step k d node held =
-      subst (λ (q : Mount P). LeadsTo (tree_of (region q.memory) q.rows) names k node → walk (tree_of (region q.memory) q.rows) 1 others ≡ Ok d → ShowsSound (region q.memory) q.sup held → StoresIn q.sup held (two_logs q.sup cpu k d) (region q.memory) S) same by
-    where
-      by : LeadsTo (tree_of R rows) names k node → walk (tree_of R rows) 1 others ≡ Ok d → ShowsSound R s held → StoresIn s held (two_logs s cpu k d) R S
-      by led ended sound =
-          let free_name = spot.spot in
-          let in_directory = free_name.directory in
-          let walked : Ok directory.inode ≡ Ok d = sym (in_directory.row directory directory_at).0 ∙ ended in
-          let there : directory.inode ≡ d = cc in
-          let one : file.inode ≡ k = same_Some _ _ (sym (spot.leads file file_at) ∙ led.leads) in
-          let places : two_logs s cpu file.inode directory.inode ≡ two_logs s cpu k d = λ t. two_logs s cpu (one t) (there t) in
-          subst (λ (p : Places). StoresIn s held p R S) places
-          (rows_store kept runs S file directory (stands rows (place_in rows i) file file_at) (stands rows (place_in rows j) directory directory_at) (two_logs s cpu file.inode directory.inode) held sound (λ a b seen other. step held a b seen other))

@@ -1,12 +1,5 @@
 -- What recovery finds in a region that a stop within `rename` has left.
-use Rattle.std.proofs.Common.{◌≡◌, ◌⊎◌, ℕ, false, inl, inr, List, ◌∷◌, set, slice_get, refl, ap, ◌∙◌, subst, Some, None, ◌≢◌, sym, Ok}
-use Rattle.nv_calls.proofs.InOrder.{first_as, rows_first}
-use Rattle.nv_calls.specs.InOrder.{ShowsTailFirst}
-use Rattle.nv_steps.specs.InOrder.{TailIsFirst, tail_address}
-use Rattle.nv_steps.specs.NameEntries.{name_entries}
-use Rattle.nv_tree.specs.Tree.{Node, walk}
-use Rattle.nv_entry.specs.declared.entry.Operation.TheVariants.{Remove}
-use Rattle.std.proofs.lemmas.Option.{same_Some}
+use Rattle.std.proofs.Common.{◌≡◌, ◌⊎◌, ℕ, false, inl, inr, List, ◌∷◌, set, slice_get, refl, ap, ◌∙◌, subst, Some, None}
 use Rattle.nv_super.specs.Layout.{fixed_layout}
 use Rattle.std.proofs.Math.Logic.{∥∥₁_map}
 use Rattle.nv_region.specs.Region.{Region}
@@ -21,12 +14,12 @@ use Rattle.nv_rows.specs.Rows.{place_in}
 use Rattle.nv_rows.proofs.Places.{at_place}
 use Rattle.nv_held.specs.nv_named.Read.{row_of}
 use Rattle.nv_held.specs.Held.{Held, Store}
-use Rattle.nv_held.specs.Mounted.{IsMounted, ShowsSound}
+use Rattle.nv_held.specs.Mounted.{IsMounted}
 use Rattle.nv_commit.specs.Stopped.{LeavesEither}
-use Rattle.nv_tree.specs.Path.{IsPathName, last_name}
+use Rattle.nv_tree.specs.Path.{IsPathName}
 use Rattle.nv_tree.specs.Calls.{renamed}
 use Rattle.nv_paths.specs.MoveSpots.{IsMoveSpot}
-use Rattle.nv_paths.specs.Seen.{tree_of, LeadsTo}
+use Rattle.nv_paths.specs.Seen.{tree_of}
 use Rattle.nv_steps.specs.Steps.{ShowsRow}
 use Rattle.nv_steps.specs.Stopped.{MovedHere, MovedOver}
 use Rattle.nv_calls.specs.Mount.{IsKept, Mount}
@@ -39,8 +32,6 @@ use Rattle.nv_calls.proofs.Mounts.{mounted_of_kept}
 use Rattle.nv_calls.proofs.OneRow.{shows_row}
 use Rattle.nv_calls.proofs.Stopped.{recovers_to, still_mounted}
 use Rattle.nv_calls.proofs.TwoRows.{lifted}
-use Rattle.nv_steps.specs.Stores.{Places, StoresIn, two_logs}
-use Rattle.nv_calls.proofs.Stores.{rows_store}
 
 -- the same by another's words for it
 pub over_as : {R : Region} {s : Super} {free : FreeLists} {cpu : ℕ} {held : Store} (from to : Row) {i j : ℕ} {n name o other : List ℕ} {t time : ℕ} (S : Region) (choices : Choices) → i ≡ j → n ≡ name → o ≡ other → t ≡ time
@@ -114,48 +105,3 @@ module _ {P : Type 0} (region : P → Region) {n m : Mount P} (same : n ≡ m) (
       let u = shows_row w.1 kept.lists to there in
       let free_name = spot.spot in
       rename_by left w.0 w.1 (step w.0 v.0 u.0 v.1 u.1 (not_named w.1 to there other (free_name.absent to to_there)) settled left may)))
-
-  -- Of two directories the old one's tail is stored first.
-  pub rename_ordered : (S : Region) → ((held : Store) (h k : Held) → ShowsRow R s held h from free → ShowsRow R s held k to free → place_in rows i ≢ place_in rows e → TailIsFirst R S s free.pools cpu from.inode from.tail (name_entries Remove moved.inode name time) (tail_address s to.inode))
-      → (k d f : ℕ) (node : Node) (held : Store) (h : Held) → LeadsTo (tree_of (region m.memory) m.rows) names k node → walk (tree_of (region m.memory) m.rows) 1 names ≡ Ok d → walk (tree_of (region m.memory) m.rows) 1 (first ∷ rest) ≡ Ok f → d ≢ f → ShowsSound (region m.memory) m.sup held → held d ≡ Some h
-      → ShowsTailFirst (region m.memory) S m.sup m.free.pools cpu d h (name_entries Remove k (last_name names) time) (tail_address m.sup f)
-  rename_ordered S step k d f node held h =
-      subst (λ (q : Mount P). LeadsTo (tree_of (region q.memory) q.rows) names k node → walk (tree_of (region q.memory) q.rows) 1 names ≡ Ok d → walk (tree_of (region q.memory) q.rows) 1 (first ∷ rest) ≡ Ok f → d ≢ f → ShowsSound (region q.memory) q.sup held → held d ≡ Some h
-      → ShowsTailFirst (region q.memory) S q.sup q.free.pools cpu d h (name_entries Remove k (last_name names) time) (tail_address q.sup f)) same by
-    where
-      by : LeadsTo (tree_of R rows) names k node → walk (tree_of R rows) 1 names ≡ Ok d → walk (tree_of R rows) 1 (first ∷ rest) ≡ Ok f → d ≢ f → ShowsSound R s held → held d ≡ Some h → ShowsTailFirst R S s free.pools cpu d h (name_entries Remove k (last_name names) time) (tail_address s f)
-      by led walked ended differ sound is =
-          let there = spot.from in
-          let free_name = spot.spot in
-          let in_directory = free_name.directory in
-          let from_ends : Ok from.inode ≡ Ok d = sym (there.directory from from_there).0 ∙ walked in
-          let to_ends : Ok to.inode ≡ Ok f = sym (in_directory.row to to_there).0 ∙ ended in
-          let from_is : from.inode ≡ d = cc in
-          let to_is : to.inode ≡ f = cc in
-          let one : moved.inode ≡ k = same_Some _ _ (sym (there.leads moved moved_there) ∙ led.leads) in
-          let entries : name_entries Remove moved.inode name time ≡ name_entries Remove k (last_name names) time = λ t. name_entries Remove (one t) (there.name_is t) time in
-          let apart : place_in rows i ≢ place_in rows e = λ p. differ (sym from_is ∙ ap (λ (r : Row). r.inode) (same_Some _ _ (sym from_there ∙ ap (slice_get rows) p ∙ to_there)) ∙ to_is) in
-          first_as R h from_is entries (ap (tail_address s) to_is)
-          (rows_first kept runs S from to (stands rows (place_in rows i) from from_there) (stands rows (place_in rows e) to to_there) cpu (name_entries Remove moved.inode name time) (tail_address s to.inode) held h sound (ap held from_is ∙ is) (λ a b seen other. step held a b seen other apart))
-
-  -- Nothing else is stored.
-  pub rename_stored : (S : Region) → ((held : Store) (h k : Held) → ShowsRow R s held h from free → ShowsRow R s held k to free → place_in rows i ≢ place_in rows e → StoresIn s held (two_logs s cpu from.inode to.inode) R S)
-      → (k d f : ℕ) (node : Node) (held : Store) → LeadsTo (tree_of (region m.memory) m.rows) names k node → walk (tree_of (region m.memory) m.rows) 1 names ≡ Ok d → walk (tree_of (region m.memory) m.rows) 1 (first ∷ rest) ≡ Ok f → d ≢ f → ShowsSound (region m.memory) m.sup held
-      → StoresIn m.sup held (two_logs m.sup cpu d f) (region m.memory) S
-  rename_stored S step k d f node held =
-      subst (λ (q : Mount P). LeadsTo (tree_of (region q.memory) q.rows) names k node → walk (tree_of (region q.memory) q.rows) 1 names ≡ Ok d → walk (tree_of (region q.memory) q.rows) 1 (first ∷ rest) ≡ Ok f → d ≢ f → ShowsSound (region q.memory) q.sup held
-      → StoresIn q.sup held (two_logs q.sup cpu d f) (region q.memory) S) same by
-    where
-      by : LeadsTo (tree_of R rows) names k node → walk (tree_of R rows) 1 names ≡ Ok d → walk (tree_of R rows) 1 (first ∷ rest) ≡ Ok f → d ≢ f → ShowsSound R s held → StoresIn s held (two_logs s cpu d f) R S
-      by led walked ended differ sound =
-          let there = spot.from in
-          let free_name = spot.spot in
-          let in_directory = free_name.directory in
-          let from_ends : Ok from.inode ≡ Ok d = sym (there.directory from from_there).0 ∙ walked in
-          let to_ends : Ok to.inode ≡ Ok f = sym (in_directory.row to to_there).0 ∙ ended in
-          let from_is : from.inode ≡ d = cc in
-          let to_is : to.inode ≡ f = cc in
-          let apart : place_in rows i ≢ place_in rows e = λ p. differ (sym from_is ∙ ap (λ (r : Row). r.inode) (same_Some _ _ (sym from_there ∙ ap (slice_get rows) p ∙ to_there)) ∙ to_is) in
-          let places : two_logs s cpu from.inode to.inode ≡ two_logs s cpu d f = λ t. two_logs s cpu (from_is t) (to_is t) in
-          subst (λ (p : Places). StoresIn s held p R S) places
-          (rows_store kept runs S from to (stands rows (place_in rows i) from from_there) (stands rows (place_in rows e) to to_there) (two_logs s cpu from.inode to.inode) held sound (λ a b seen other. step held a b seen other apart))

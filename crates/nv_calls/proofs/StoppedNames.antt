@@ -1,12 +1,6 @@
 -- What recovery finds in a region that a stop within `create` has left.
-use Rattle.std.proofs.Common.{◌≡◌, ◌≢◌, ◌⊎◌, ℕ, suc, ◌<◌, nat_eq, Bool, true, false, cond, inl, inr, List, [], ◌∷◌, set, slice_get, refl, ap, sym, ◌∙◌, subst, arith, Some, None, Ok}
-use Rattle.nv_calls.proofs.InOrder.{valid_as}
-use Rattle.nv_calls.specs.InOrder.{ShowsValidFirst}
-use Rattle.nv_steps.specs.InOrder.{tail_address}
-use Rattle.nv_tree.specs.Tree.{walk}
-use Rattle.nv_journal.specs.InOrder.{FirstIsFirst}
-use Rattle.std.proofs.lemmas.Option.{same_Some}
-use Rattle.nv_super.specs.Layout.{fixed_layout, slot_address}
+use Rattle.std.proofs.Common.{◌≡◌, ◌≢◌, ◌⊎◌, ℕ, suc, ◌<◌, nat_eq, Bool, true, false, cond, inl, inr, List, [], ◌∷◌, set, slice_get, refl, ap, sym, ◌∙◌, subst, arith, Some, None}
+use Rattle.nv_super.specs.Layout.{fixed_layout}
 use Rattle.std.proofs.Math.Logic.{∥∥₁_map}
 use Rattle.std.proofs.lemmas.Bool.{cases_lt}
 use Rattle.std.proofs.lemmas.Bool.Decides.{nat_tests}
@@ -26,7 +20,7 @@ use Rattle.nv_rows.proofs.Places.{row_of_other, set_rising}
 use Rattle.nv_held.specs.nv_check.Cross.{row_key}
 use Rattle.nv_held.specs.nv_named.Read.{row_of}
 use Rattle.nv_held.specs.Held.{Held, Store}
-use Rattle.nv_held.specs.Mounted.{IsMounted, ShowsSound}
+use Rattle.nv_held.specs.Mounted.{IsMounted}
 use Rattle.nv_commit.specs.Stopped.{LeavesEither}
 use Rattle.nv_tree.specs.Path.{IsPathName}
 use Rattle.nv_tree.specs.Calls.{created}
@@ -49,8 +43,6 @@ use Rattle.nv_calls.proofs.Mounts.{mounted_of_kept}
 use Rattle.nv_calls.proofs.NewNumbers.{unused_is}
 use Rattle.nv_calls.proofs.OneRow.{shows_row}
 use Rattle.nv_calls.proofs.Stopped.{recovers_to, still_mounted}
-use Rattle.nv_steps.specs.Stores.{Places, StoresIn, one_more}
-use Rattle.nv_calls.proofs.Stores.{row_stores}
 
 -- A row whose number none has can be put in at its place.
 pub can_insert : (rows : List Row) (row : Row) → Rises row_key rows → row_of rows row.inode ≡ None → (news : List Row) × HasInserted rows news row
@@ -135,31 +127,3 @@ module _ {P : Type 0} (region : P → Region) {n m : Mount P} (same : n ≡ m) (
       let here = stands rows place row at in
       let v = shows_row w.1 kept.lists row here in
       create_by left w.0 w.1 (step w.0 v.0 v.1 (not_held w.1 j unused) (not_named w.1 row here name (spot.absent row at)) settled left may)))
-
-  -- The new inode's valid word is stored first.
-  pub create_ordered : (S : Region) → ((held : Store) (h : Held) → ShowsRow R s held h row free → held j ≡ None → FirstIsFirst R (slot_address s j) 1 (tail_address s row.inode) S)
-      → (d k : ℕ) → walk (tree_of (region m.memory) m.rows) 1 names ≡ Ok d → unused_number m.sup m.rows cpu ≡ Some k → ShowsValidFirst (region m.memory) S m.sup k d
-  create_ordered S step d k =
-      subst (λ (q : Mount P). walk (tree_of (region q.memory) q.rows) 1 names ≡ Ok d → unused_number q.sup q.rows cpu ≡ Some k → ShowsValidFirst (region q.memory) S q.sup k d) same by
-    where
-      by : walk (tree_of R rows) 1 names ≡ Ok d → unused_number s rows cpu ≡ Some k → ShowsValidFirst R S s k d
-      by ended number =
-          let walked : Ok row.inode ≡ Ok d = sym (spot.directory row at).0 ∙ ended in
-          let there : row.inode ≡ d = cc in
-          let one : j ≡ k = same_Some _ _ (sym spot.unused ∙ number) in
-          valid_as R S s one there (∥∥₁_map (mounted_of_kept kept runs writes) (λ w. (let v = shows_row w.1 kept.lists row (stands rows place row at) in step w.0 v.0 v.1 (not_held w.1 j unused))))
-
-  -- Nothing else is stored.
-  pub create_stored : (S : Region) → ((held : Store) (h : Held) → ShowsRow R s held h row free → held j ≡ None → StoresIn s held (one_more s cpu j row.inode) R S)
-      → (d k : ℕ) (held : Store) → walk (tree_of (region m.memory) m.rows) 1 names ≡ Ok d → unused_number m.sup m.rows cpu ≡ Some k → ShowsSound (region m.memory) m.sup held → StoresIn m.sup held (one_more m.sup cpu k d) (region m.memory) S
-  create_stored S step d k held =
-      subst (λ (q : Mount P). walk (tree_of (region q.memory) q.rows) 1 names ≡ Ok d → unused_number q.sup q.rows cpu ≡ Some k → ShowsSound (region q.memory) q.sup held → StoresIn q.sup held (one_more q.sup cpu k d) (region q.memory) S) same by
-    where
-      by : walk (tree_of R rows) 1 names ≡ Ok d → unused_number s rows cpu ≡ Some k → ShowsSound R s held → StoresIn s held (one_more s cpu k d) R S
-      by ended number sound =
-          let walked : Ok row.inode ≡ Ok d = sym (spot.directory row at).0 ∙ ended in
-          let there : row.inode ≡ d = cc in
-          let one : j ≡ k = same_Some _ _ (sym spot.unused ∙ number) in
-          let places : one_more s cpu j row.inode ≡ one_more s cpu k d = λ t. one_more s cpu (one t) (there t) in
-          subst (λ (p : Places). StoresIn s held p R S) places
-          (row_stores kept runs S row (stands rows place row at) (one_more s cpu j row.inode) held sound (λ m a seen. step held a seen (not_held m j unused)))

@@ -1,12 +1,6 @@
 -- What recovery finds in a region that a stop within `rmdir` or `unlink` has left.
-use Rattle.std.proofs.Common.{◌≡◌, ◌≢◌, ◌⊎◌, ℕ, ◌<◌, ◌≤◌, false, inl, inr, List, remove, set, slice_get, refl, ap, sym, ◌∙◌, subst, Some, Ok, Option}
-use Rattle.nv_calls.proofs.InOrder.{first_as, rows_first}
-use Rattle.nv_calls.specs.InOrder.{ShowsTailFirst}
-use Rattle.nv_steps.specs.InOrder.{TailIsFirst, tail_address}
-use Rattle.nv_steps.specs.NameEntries.{name_entries}
-use Rattle.nv_entry.specs.declared.entry.Operation.TheVariants.{Remove}
-use Rattle.std.specs.Option.{option_map_or}
-use Rattle.nv_super.specs.Layout.{fixed_layout, slot_address}
+use Rattle.std.proofs.Common.{◌≡◌, ◌≢◌, ◌⊎◌, ℕ, ◌<◌, ◌≤◌, false, inl, inr, List, remove, set, slice_get, refl, ap, sym, ◌∙◌, subst, Some}
+use Rattle.nv_super.specs.Layout.{fixed_layout}
 use Rattle.std.proofs.Math.Logic.{∥∥₁_map}
 use Rattle.std.proofs.lemmas.Option.{same_Some}
 use Rattle.nv_region.specs.Region.{Region}
@@ -21,13 +15,13 @@ use Rattle.nv_rows.specs.Rows.{place_in}
 use Rattle.nv_rows.proofs.Places.{at_place}
 use Rattle.nv_held.specs.nv_named.Read.{row_of}
 use Rattle.nv_held.specs.Held.{Held, Store}
-use Rattle.nv_held.specs.Mounted.{IsMounted, ShowsSound}
+use Rattle.nv_held.specs.Mounted.{IsMounted}
 use Rattle.nv_commit.specs.Stopped.{CanRecover, LeavesEither}
-use Rattle.nv_tree.specs.Path.{IsPathName, last_name}
-use Rattle.nv_tree.specs.Tree.{SameTree, Tree, Node, walk}
-use Rattle.nv_tree.specs.Calls.{removed, unlinked, links_at}
+use Rattle.nv_tree.specs.Path.{IsPathName}
+use Rattle.nv_tree.specs.Tree.{SameTree, Tree}
+use Rattle.nv_tree.specs.Calls.{removed, unlinked}
 use Rattle.nv_paths.specs.NamedAt.{IsNamedAt}
-use Rattle.nv_paths.specs.Seen.{tree_of, LeadsTo}
+use Rattle.nv_paths.specs.Seen.{tree_of}
 use Rattle.nv_steps.specs.Steps.{ShowsRow}
 use Rattle.nv_steps.specs.Stopped.{Cut, Unlinked}
 use Rattle.nv_steps.specs.Unlinks.{UnlinksAt}
@@ -47,8 +41,6 @@ use Rattle.nv_calls.proofs.Stopped.{recovers_to, still_mounted}
 use Rattle.nv_calls.proofs.TwoRows.{lifted}
 use Rattle.nv_calls.proofs.UnlinkCall.{more_mounted, more_tree, unlink_last, unlink_logs}
 use Rattle.nv_calls.proofs.UnlinkedTree.{unlinked_last}
-use Rattle.nv_steps.specs.Stores.{Places, StoresIn, one_less, two_logs}
-use Rattle.nv_calls.proofs.Stores.{rows_store}
 
 module _ {P : Type 0} (region : P → Region) {n m : Mount P} (same : n ≡ m) (kept : IsKept (region n.memory) n.sup n.rows n.free n.faults n.read_only n.stopped) (runs : n.stopped ≡ false) (writes : n.read_only ≡ false)
     (i j : ℕ) (row gone : Row) (at : row_of n.rows i ≡ Some row) (gone_at : row_of n.rows j ≡ Some gone) (name : List ℕ) (cpu time : ℕ) (spelled : IsPathName name) (names : List (List ℕ)) (spot : IsNamedAt (tree_of (region n.memory) n.rows) n.rows names (place_in n.rows i) name (place_in n.rows j)) where
@@ -85,78 +77,6 @@ module _ {P : Type 0} (region : P → Region) {n m : Mount P} (same : n ≡ m) (
         tree = is_made (tree_of (undone s left) news) (tree_is kept runs writes step spelled can_go names spot);
         logs = logged (undone s left) w.0 news step;
       }
-
-  -- The directory's tail is stored before a word of the inode's slot, where a condition on its links holds.
-  ordered : (S : Region) (word_of : ℕ → ℕ) (Links : ℕ → Type 0) → ((held : Store) (h f : Held) → ShowsRow R s held h row free → ShowsRow R s held f gone free → Links gone.numbers.links → TailIsFirst R S s free.pools cpu row.inode row.tail (name_entries Remove gone.inode name time) (word_of gone.inode))
-      → (k d : ℕ) (node : Node) (held : Store) (h : Held) → LeadsTo (tree_of R rows) names k node → walk (tree_of R rows) 1 names ≡ Ok d → ShowsSound R s held → held d ≡ Some h → Links node.links → ShowsTailFirst R S s free.pools cpu d h (name_entries Remove k (last_name names) time) (word_of k)
-  ordered S word_of Links step k d node held h led ended sound is told =
-      let walked : Ok row.inode ≡ Ok d = sym (spot.directory row row_there).0 ∙ ended in
-      let there : row.inode ≡ d = cc in
-      let one : gone.inode ≡ k = same_Some _ _ (sym (spot.leads gone gone_there) ∙ led.leads) in
-      let links : gone.numbers.links ≡ node.links = sym (links_told R rows gone (row_at rows (place_in rows j) gone (rows_rise R s rows free n.faults n.read_only n.stopped kept runs) gone_there)) ∙ ap (λ (q : ℕ). links_at (tree_of R rows) q) one ∙ ap (λ (o : Option Node). option_map_or (λ (x : Node). x.links) o 0) led.shows in
-      let entries : name_entries Remove gone.inode name time ≡ name_entries Remove k (last_name names) time = λ t. name_entries Remove (one t) (spot.name_is t) time in
-      first_as R h there entries (ap word_of one)
-      (rows_first kept runs S row gone (stands rows (place_in rows i) row row_there) (stands rows (place_in rows j) gone gone_there) cpu (name_entries Remove gone.inode name time) (word_of gone.inode) held h sound (ap held there ∙ is) (λ a b seen other. step held a b seen other (subst Links (sym links) told)))
-
-  -- that of `rmdir`
-  pub rmdir_ordered : (S : Region) → ((held : Store) (h : Held) → ShowsRow R s held h row free → TailIsFirst R S s free.pools cpu row.inode row.tail (name_entries Remove gone.inode name time) (slot_address s gone.inode))
-      → (k d : ℕ) (node : Node) (held : Store) (h : Held) → LeadsTo (tree_of (region m.memory) m.rows) names k node → walk (tree_of (region m.memory) m.rows) 1 names ≡ Ok d → ShowsSound (region m.memory) m.sup held → held d ≡ Some h
-      → ShowsTailFirst (region m.memory) S m.sup m.free.pools cpu d h (name_entries Remove k (last_name names) time) (slot_address m.sup k)
-  rmdir_ordered S step k d node held h =
-      subst (λ (q : Mount P). LeadsTo (tree_of (region q.memory) q.rows) names k node → walk (tree_of (region q.memory) q.rows) 1 names ≡ Ok d → ShowsSound (region q.memory) q.sup held → held d ≡ Some h
-      → ShowsTailFirst (region q.memory) S q.sup q.free.pools cpu d h (name_entries Remove k (last_name names) time) (slot_address q.sup k)) same
-      (λ led ended sound is. ordered S (slot_address s) (λ c. Unit {0}) (λ st a b seen other any. step st a seen) k d node held h led ended sound is tt)
-
-  -- that of `unlink`, where the file has more links
-  pub more_ordered : (S : Region) → ((held : Store) (h f : Held) → ShowsRow R s held h row free → ShowsRow R s held f gone free → 1 < gone.numbers.links → TailIsFirst R S s free.pools cpu row.inode row.tail (name_entries Remove gone.inode name time) (tail_address s gone.inode))
-      → (k d : ℕ) (node : Node) (held : Store) (h : Held) → LeadsTo (tree_of (region m.memory) m.rows) names k node → walk (tree_of (region m.memory) m.rows) 1 names ≡ Ok d → ShowsSound (region m.memory) m.sup held → held d ≡ Some h → 1 < node.links
-      → ShowsTailFirst (region m.memory) S m.sup m.free.pools cpu d h (name_entries Remove k (last_name names) time) (tail_address m.sup k)
-  more_ordered S step k d node held h =
-      subst (λ (q : Mount P). LeadsTo (tree_of (region q.memory) q.rows) names k node → walk (tree_of (region q.memory) q.rows) 1 names ≡ Ok d → ShowsSound (region q.memory) q.sup held → held d ≡ Some h → 1 < node.links
-      → ShowsTailFirst (region q.memory) S q.sup q.free.pools cpu d h (name_entries Remove k (last_name names) time) (tail_address q.sup k)) same
-      (λ led ended sound is some. ordered S (tail_address s) (λ c. 1 < c) step k d node held h led ended sound is some)
-
-  -- and where it goes with the name
-  pub last_ordered : (S : Region) → ((held : Store) (h f : Held) → ShowsRow R s held h row free → ShowsRow R s held f gone free → gone.numbers.links ≤ 1 → TailIsFirst R S s free.pools cpu row.inode row.tail (name_entries Remove gone.inode name time) (slot_address s gone.inode))
-      → (k d : ℕ) (node : Node) (held : Store) (h : Held) → LeadsTo (tree_of (region m.memory) m.rows) names k node → walk (tree_of (region m.memory) m.rows) 1 names ≡ Ok d → ShowsSound (region m.memory) m.sup held → held d ≡ Some h → node.links ≤ 1
-      → ShowsTailFirst (region m.memory) S m.sup m.free.pools cpu d h (name_entries Remove k (last_name names) time) (slot_address m.sup k)
-  last_ordered S step k d node held h =
-      subst (λ (q : Mount P). LeadsTo (tree_of (region q.memory) q.rows) names k node → walk (tree_of (region q.memory) q.rows) 1 names ≡ Ok d → ShowsSound (region q.memory) q.sup held → held d ≡ Some h → node.links ≤ 1
-      → ShowsTailFirst (region q.memory) S q.sup q.free.pools cpu d h (name_entries Remove k (last_name names) time) (slot_address q.sup k)) same
-      (λ led ended sound is few. ordered S (slot_address s) (λ c. c ≤ 1) step k d node held h led ended sound is few)
-
-  -- Nothing is stored outside places that are told of both numbers, where a condition on the links holds.
-  stored : (S : Region) (places : ℕ → ℕ → Places) (Links : ℕ → Type 0) → ((held : Store) (h f : Held) → ShowsRow R s held h row free → ShowsRow R s held f gone free → Links gone.numbers.links → StoresIn s held (places row.inode gone.inode) R S)
-      → (k d : ℕ) (node : Node) (held : Store) → LeadsTo (tree_of R rows) names k node → walk (tree_of R rows) 1 names ≡ Ok d → ShowsSound R s held → Links node.links → StoresIn s held (places d k) R S
-  stored S places Links step k d node held led ended sound told =
-      let walked : Ok row.inode ≡ Ok d = sym (spot.directory row row_there).0 ∙ ended in
-      let there : row.inode ≡ d = cc in
-      let one : gone.inode ≡ k = same_Some _ _ (sym (spot.leads gone gone_there) ∙ led.leads) in
-      let links : gone.numbers.links ≡ node.links = sym (links_told R rows gone (row_at rows (place_in rows j) gone (rows_rise R s rows free n.faults n.read_only n.stopped kept runs) gone_there)) ∙ ap (λ (q : ℕ). links_at (tree_of R rows) q) one ∙ ap (λ (o : Option Node). option_map_or (λ (x : Node). x.links) o 0) led.shows in
-      let same_places : places row.inode gone.inode ≡ places d k = λ t. places (there t) (one t) in
-      subst (λ (p : Places). StoresIn s held p R S) same_places
-      (rows_store kept runs S row gone (stands rows (place_in rows i) row row_there) (stands rows (place_in rows j) gone gone_there) (places row.inode gone.inode) held sound (λ a b seen other. step held a b seen other (subst Links (sym links) told)))
-
-  -- that of `rmdir`
-  pub rmdir_stored : (S : Region) → ((held : Store) (h : Held) → ShowsRow R s held h row free → StoresIn s held (one_less s cpu row.inode gone.inode) R S)
-      → (k d : ℕ) (node : Node) (held : Store) → LeadsTo (tree_of (region m.memory) m.rows) names k node → walk (tree_of (region m.memory) m.rows) 1 names ≡ Ok d → ShowsSound (region m.memory) m.sup held → StoresIn m.sup held (one_less m.sup cpu d k) (region m.memory) S
-  rmdir_stored S step k d node held =
-      subst (λ (q : Mount P). LeadsTo (tree_of (region q.memory) q.rows) names k node → walk (tree_of (region q.memory) q.rows) 1 names ≡ Ok d → ShowsSound (region q.memory) q.sup held → StoresIn q.sup held (one_less q.sup cpu d k) (region q.memory) S) same
-      (λ led ended sound. stored S (one_less s cpu) (λ c. Unit {0}) (λ st a b seen other any. step st a seen) k d node held led ended sound tt)
-
-  -- that of `unlink`, where the file has more links
-  pub more_stored : (S : Region) → ((held : Store) (h f : Held) → ShowsRow R s held h row free → ShowsRow R s held f gone free → 1 < gone.numbers.links → StoresIn s held (two_logs s cpu row.inode gone.inode) R S)
-      → (k d : ℕ) (node : Node) (held : Store) → LeadsTo (tree_of (region m.memory) m.rows) names k node → walk (tree_of (region m.memory) m.rows) 1 names ≡ Ok d → ShowsSound (region m.memory) m.sup held → 1 < node.links → StoresIn m.sup held (two_logs m.sup cpu d k) (region m.memory) S
-  more_stored S step k d node held =
-      subst (λ (q : Mount P). LeadsTo (tree_of (region q.memory) q.rows) names k node → walk (tree_of (region q.memory) q.rows) 1 names ≡ Ok d → ShowsSound (region q.memory) q.sup held → 1 < node.links → StoresIn q.sup held (two_logs q.sup cpu d k) (region q.memory) S) same
-      (λ led ended sound some. stored S (two_logs s cpu) (λ c. 1 < c) step k d node held led ended sound some)
-
-  -- and where it goes with the name
-  pub last_stored : (S : Region) → ((held : Store) (h f : Held) → ShowsRow R s held h row free → ShowsRow R s held f gone free → gone.numbers.links ≤ 1 → StoresIn s held (one_less s cpu row.inode gone.inode) R S)
-      → (k d : ℕ) (node : Node) (held : Store) → LeadsTo (tree_of (region m.memory) m.rows) names k node → walk (tree_of (region m.memory) m.rows) 1 names ≡ Ok d → ShowsSound (region m.memory) m.sup held → node.links ≤ 1 → StoresIn m.sup held (one_less m.sup cpu d k) (region m.memory) S
-  last_stored S step k d node held =
-      subst (λ (q : Mount P). LeadsTo (tree_of (region q.memory) q.rows) names k node → walk (tree_of (region q.memory) q.rows) 1 names ≡ Ok d → ShowsSound (region q.memory) q.sup held → node.links ≤ 1 → StoresIn q.sup held (one_less q.sup cpu d k) (region q.memory) S) same
-      (λ led ended sound few. stored S (one_less s cpu) (λ c. c ≤ 1) step k d node held led ended sound few)
 
   -- `rmdir`
   module _ (can_go : CanGo gone) where

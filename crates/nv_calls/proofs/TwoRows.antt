@@ -1,5 +1,6 @@
 -- Two rows that were lent, changed and given back, as the rows at their two places.
 use Rattle.std.proofs.Common.{◌≡◌, ◌≢◌, ℕ, List, [], ◌∷◌, set, slice_get, ap, subst, sym, ◌∙◌, Some}
+use Rattle.std.proofs.lemmas.Option.{same_Some}
 use Rattle.nv_region.specs.Region.{Region}
 use Rattle.nv_super.specs.declared.superblock.Super.{Super}
 use Rattle.nv_alloc.specs.FreeValue.{FreeLists}
@@ -28,6 +29,10 @@ module _ (rows mid : List Row) (i j : ℕ) (apart : i ≢ j) (used : IsInUse row
   -- and has the row that it had
   pub row_stays : (row : Row) → row_of mid j ≡ Some row → row_of rows j ≡ Some row
   row_stays row at = sym (others_lent rows mid i j apart used lent) ∙ at
+
+  -- What is so of both rows that were lent is so of the rows of those numbers.
+  pub of_lent : (Q : Row → Row → Type 0) (one two row other : Row) → row_of rows i ≡ Some one → row_of mid j ≡ Some two → Q one two → row_of rows i ≡ Some row → row_of rows j ≡ Some other → Q row other
+  of_lent Q one two row other one_at two_at known at other_at = subst (λ (r : Row). Q r other) (same_Some _ _ (sym one_at ∙ at)) (subst (Q one) (same_Some _ _ (sym (row_stays two two_at) ∙ other_at)) known)
 
 -- the one that was lent last can be given back
 pub last_used : (mid rest : List Row) (j : ℕ) (row : Row) → IsInUse mid j → IsLent mid rest j → row.inode ≡ j → IsInUse rest row.inode

@@ -6,6 +6,7 @@ use Rattle.nv_held.specs.nv_scan.Dead.{IsFirstDead}
 use Rattle.nv_held.specs.Held.{Held, Store, with_inode}
 use Rattle.nv_held.specs.Cleaned.{cleaned}
 use Rattle.nv_held.specs.Mounted.{ShowsSound}
+use Rattle.nv_steps.specs.Cleans.{IsKnownDead}
 use Rattle.nv_tree.specs.Tree.{Tree}
 use Rattle.nv_tree.specs.Refusals.{Tests, World}
 use Rattle.nv_tree.specs.declared.refusal.Refusal.TheVariants.{NotFound, ReadOnly}
@@ -20,6 +21,10 @@ pub record PageWent (S : Region) (s : Super) (held : Store) (i : ℕ) (h : Held)
 abbrev pub ShowsCleaned : Region → Region → Super → Store → ℕ → Held → Option ℕ → Type 0
 ShowsCleaned R S s held i h None = IsFirstDead s h.kind i h.created h.entries h.pages None × (S ≡ R)
 ShowsCleaned R S s held i h (Some b) = ∥ ((k : ℕ) × PageWent S s held i h b k) ∥₁
+
+-- what is known of the first page that the log of this inode can do without: nothing, or its place
+abbrev pub IsKnown : Region → Super → ℕ → Option ℕ → Type 0
+IsKnown R s i known = (held : Store) (h : Held) → ShowsSound R s held → held i ≡ Some h → IsKnownDead s h.kind i h.created h.entries h.pages known
 
 -- `clean_inode`: why it is refused, by the number of an inode
 abbrev pub clean_inode_tests : World → Tree → ℕ → Tests

@@ -20,6 +20,8 @@ pub mod SizeCall
 pub mod CleanCall
 pub mod Effects
 pub mod Decided
+pub mod Alike
 pub mod Stopped
 pub mod Mounting
 pub mod InOrder
+pub mod ByNumber

@@ -1,30 +1,35 @@
-//! `clean`: the first page that the log of an inode can do without is taken out of it.
+//! `clean`: the first page that the log of an inode can do without is taken out of it, and pages that go one after another.
 
-ghost use Rattle.std.specs.Prelude.{◌≡◌, ◌≤◌, ◌∷◌, ℕ, List, Option, Result, IsTrue, IfOk, IfErr, OnOk, false};
+ghost use Rattle.std.specs.Prelude.{◌≡◌, ◌⊎◌, ◌≤◌, ◌∷◌, ℕ, List, Option, Result, IsTrue, IfOk, IfErr, OnOk, false};
 ghost use Rattle.nv_region.specs.Region.{size};
 ghost use Rattle.nv_region.specs.Stops.{LeavesOnly, NothingPending};
 ghost use Rattle.nv_region.specs.Fuses.{KeepsFuse};
 ghost use Rattle.nv_held.specs.Held.{Held, Store};
+ghost use Rattle.nv_held.specs.nv_scan.Dead.{IsFirstDead};
 ghost use Rattle.nv_held.specs.Mounted.{ShowsSound};
 ghost use Rattle.nv_tree.specs.Path.{IsPath, Says};
 ghost use Rattle.nv_tree.specs.Tree.{Node, SameTree};
 ghost use Rattle.nv_tree.specs.Refusals.{Path, Tests, clean_tests, first_refusal, IsRefusedBy};
 ghost use Rattle.nv_tree.specs.declared.refusal.Refusal.{Refusal as RefusalValue};
 ghost use Rattle.nv_rows.specs.Rows.{IsInUse, row_of};
-ghost use Rattle.nv_calls.specs.CleanCall.{LosesPage, ShowsCleaned, clean_inode_tests};
+ghost use Rattle.nv_scan.specs.InTurn.{AreDeadPages};
+ghost use Rattle.nv_calls.specs.CleanCall.{IsKnown, LosesPage, ShowsCleaned, clean_inode_tests};
 ghost use Rattle.nv_calls.specs.Effects.{logs_page_less, makes_no_change};
 ghost use Rattle.nv_calls.specs.Mount.{IsKept};
 ghost use Rattle.nv_calls.specs.Same.{KeepsMount, SameMount};
 ghost use Rattle.nv_calls.specs.Stopped.{LeavesCall, StopLeaves};
 ghost use Rattle.nv_paths.specs.Seen.{LeadsTo, tree_of};
 ghost use Rattle.nv_calls.specs.World.{world_of};
+ghost use Rattle.nv_steps.specs.Stores.{StoresIn, one_page_less};
 
 use crate::Fs;
 use crate::writing::is_stop;
 use nv_paths::row_at;
 use nv_region::Pmem;
-use nv_steps::clean_log;
+use nv_scan::DeadPages;
+use nv_steps::{clean_log, dead_pages_of};
 use nv_tree::Refusal;
+use std::alloc::AllocError;
 
 impl<P: Pmem + Drop> Fs<P> {
     /// Takes the first page out of the log of the inode that a path leads to without which its state is the same and nothing
@@ -59,6 +64,10 @@ impl<P: Pmem + Drop> Fs<P> {
         ensures bad_text { ((names : List (List ℕ)) → IsPath path.now names → ⊥) → SameMount self.old self.new }
         // What was mounted with faults stays as it was.
         ensures read_only { IsTrue self.old.read_only → SameMount self.old self.new }
+        // Every word outside these places is as it was.
+        ensures wrote { (names : List (List ℕ)) (i : ℕ) (node : Node) (held : Store) (h : Held) (o : Option ℕ) → IsPath path.now names → LeadsTo (tree_of (P.region self.old.memory) self.old.rows) names i node
+            → ShowsSound (P.region self.old.memory) self.old.sup held → held i ≡ Option.Some h → IsFirstDead self.old.sup h.kind i h.created h.entries h.pages o
+            → StoresIn self.old.sup held (one_page_less self.old.sup i h.pages o) (P.region self.old.memory) (P.region self.new.memory) }
         // Whatever a stop leaves, at any exit: recovery finds what was mounted, or it without the page, without faults.
         ensures any_stop { (names : List (List ℕ)) → IsPath path.now names → self.old.stopped ≡ false → self.old.read_only ≡ false
             → LeavesOnly (P.region self.new.memory) (P.may_hold self.new.memory) (LeavesCall makes_no_change logs_page_less (P.region self.old.memory) self.old names) }
@@ -93,6 +102,46 @@ impl<P: Pmem + Drop> Fs<P> {
         ensures keeps_fuse { KeepsFuse (λ limit. size (P.region self.old.memory) ≤ limit) (P.fuse self.old.memory) (P.fuse self.new.memory) }
         // What was mounted with faults stays as it was.
         ensures read_only { IsTrue self.old.read_only → SameMount self.old self.new }
+        // Every word outside these places is as it was.
+        ensures wrote { (held : Store) (h : Held) (o : Option ℕ) → ShowsSound (P.region self.old.memory) self.old.sup held → held inode ≡ Option.Some h → IsFirstDead self.old.sup h.kind inode h.created h.entries h.pages o
+            → StoresIn self.old.sup held (one_page_less self.old.sup inode h.pages o) (P.region self.old.memory) (P.region self.new.memory) }
+        // Whatever a stop leaves, at any exit: recovery finds what was mounted, or it without the page, without faults.
+        ensures any_stop { self.old.stopped ≡ false → self.old.read_only ≡ false
+            → LeavesOnly (P.region self.new.memory) (P.may_hold self.new.memory) (StopLeaves (P.region self.old.memory) self.old.sup self.old.rows self.old.free.pools (tree_of (P.region self.old.memory) self.old.rows) (LosesPage (P.region self.old.memory) self.old.sup inode)) }
+    {
+        self.clean_page(inode, None)
+    }
+
+    /// Does what `clean_inode` does, where the place of the first page is known that the log can do without: it isn't looked for
+    /// then.
+    ///
+    /// Errors, the first that applies:
+    /// - `Stopped` after a stop
+    /// - `ReadOnly` where the region was mounted with faults
+    /// - `NotFound` where no inode in use has the number
+    ///
+    /// Besides these `Memory` where a growth was refused, and `Stopped` where the fuse burns. All but `Stopped` leave
+    /// everything as it was.
+    pub fn clean_page(&mut self, inode: u64, known: Option<usize>) -> Result<Option<u64>, Refusal>
+        requires { IsKnown (P.region self.old.memory) self.old.sup inode known }
+        ensures stopped_before { IsTrue self.old.stopped → (result ≡ Result.Err RefusalValue.Stopped) × (self.new ≡ self.old) }
+        ensures allowed { OnOk result (first_refusal (clean_inode_tests (world_of self.old) (tree_of (P.region self.old.memory) self.old.rows) inode) ≡ Option.None) }
+        ensures refused { self.old.stopped ≡ false
+            → IfErr result (IsRefusedBy (first_refusal (clean_inode_tests (world_of self.old) (tree_of (P.region self.old.memory) self.old.rows) inode))) }
+        ensures same_tree { OnOk result (SameTree (tree_of (P.region self.new.memory) self.new.rows) (tree_of (P.region self.old.memory) self.old.rows)) }
+        // Which page went, by the log of the inode.
+        ensures log { (held : Store) (h : Held) → ShowsSound (P.region self.old.memory) self.old.sup held → held inode ≡ Option.Some h → IfOk result (ShowsCleaned (P.region self.old.memory) (P.region self.new.memory) self.old.sup held inode h) }
+        ensures unchanged { IfErr result (λ e. (e ≡ RefusalValue.Stopped → ⊥) → SameMount self.old self.new) }
+        ensures stopped { self.old.stopped ≡ false → (IsTrue self.new.stopped → (result ≡ Result.Err RefusalValue.Stopped) × IsTrue (P.fuse self.new.memory).has_burnt) × (result ≡ Result.Err RefusalValue.Stopped → IsTrue self.new.stopped) }
+        ensures keeps { KeepsMount self.old self.new }
+        ensures settled { OnOk result (NothingPending (P.region self.new.memory) (P.may_hold self.new.memory)) }
+        ensures length { size (P.region self.new.memory) ≡ size (P.region self.old.memory) }
+        ensures keeps_fuse { KeepsFuse (λ limit. size (P.region self.old.memory) ≤ limit) (P.fuse self.old.memory) (P.fuse self.new.memory) }
+        // What was mounted with faults stays as it was.
+        ensures read_only { IsTrue self.old.read_only → SameMount self.old self.new }
+        // Every word outside these places is as it was.
+        ensures wrote { (held : Store) (h : Held) (o : Option ℕ) → ShowsSound (P.region self.old.memory) self.old.sup held → held inode ≡ Option.Some h → IsFirstDead self.old.sup h.kind inode h.created h.entries h.pages o
+            → StoresIn self.old.sup held (one_page_less self.old.sup inode h.pages o) (P.region self.old.memory) (P.region self.new.memory) }
         // Whatever a stop leaves, at any exit: recovery finds what was mounted, or it without the page, without faults.
         ensures any_stop { self.old.stopped ≡ false → self.old.read_only ≡ false
             → LeavesOnly (P.region self.new.memory) (P.may_hold self.new.memory) (StopLeaves (P.region self.old.memory) self.old.sup self.old.rows self.old.free.pools (tree_of (P.region self.old.memory) self.old.rows) (LosesPage (P.region self.old.memory) self.old.sup inode)) }
@@ -108,6 +157,7 @@ impl<P: Pmem + Drop> Fs<P> {
             &self.sup,
             &mut self.free,
             &mut row,
+            known,
         );
         self.rows.give_back(row);
         match cleaned {
@@ -116,6 +166,33 @@ impl<P: Pmem + Drop> Fs<P> {
                 self.stopped = is_stop(refusal);
                 Err(refusal)
             }
+        }
+    }
+
+    /// Pages that the log of the inode of this number can do without, one after another, if it has one: with `clean_page` they
+    /// go, without a search for each.
+    ///
+    /// Errors, the first that applies:
+    /// - `Stopped` after a stop
+    /// - `ReadOnly` where the region was mounted with faults
+    /// - `NotFound` where no inode in use has the number
+    ///
+    /// Besides these `Memory` where a growth was refused.
+    pub fn dead_pages(&self, inode: u64) -> Result<Option<DeadPages>, Refusal>
+        ensures stopped { IsTrue self.now.stopped → result ≡ Result.Err RefusalValue.Stopped }
+        ensures allowed { OnOk result (first_refusal (clean_inode_tests (world_of self.now) (tree_of (P.region self.now.memory) self.now.rows) inode) ≡ Option.None) }
+        ensures refused { self.now.stopped ≡ false
+            → IfErr result (λ e. (e ≡ RefusalValue.Memory) ⊎ (first_refusal (clean_inode_tests (world_of self.now) (tree_of (P.region self.now.memory) self.now.rows) inode) ≡ Option.Some e)) }
+        ensures dead { (held : Store) (h : Held) → ShowsSound (P.region self.now.memory) self.now.sup held → held inode ≡ Option.Some h → IfOk result (AreDeadPages self.now.sup h.kind inode h.created h.entries h.pages) }
+    {
+        self.cleanable()?;
+        self.in_use(inode)?;
+        // No byte stands behind the last block then.
+        let _end = self.memory.len();
+        let row = self.rows.row(inode);
+        match dead_pages_of(self.alloc, &self.memory, &self.sup, row) {
+            Ok(found) => Ok(found),
+            Err(AllocError) => Err(Refusal::Memory),
         }
     }
 

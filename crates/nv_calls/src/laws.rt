@@ -1,21 +1,34 @@
 //! What follows from the definitions alone.
 
-ghost use Rattle.std.specs.Prelude.{ℕ, List, ⊤};
+ghost use Rattle.std.specs.Prelude.{◌≡◌, ℕ, ◌+◌, List, [], Option, ⊤};
+ghost use Rattle.nv_region.specs.Region.{Region};
 ghost use Rattle.nv_super.specs.declared.superblock.Super.{Super};
 ghost use Rattle.nv_super.specs.declared.owners.Run.{Run};
 ghost use Rattle.nv_super.specs.declared.kind.Kind.{Kind};
+ghost use Rattle.nv_journal.specs.Undo.{undone};
 ghost use Rattle.nv_entry.specs.declared.entry.Entry.{Entry};
 ghost use Rattle.nv_held.specs.Held.{Held, Store};
+ghost use Rattle.nv_held.specs.nv_outcome.Outcome.{IsOutcome, Outcome};
+ghost use Rattle.nv_held.specs.nv_outcome.Same.{SameOutcome};
+ghost use Rattle.nv_paths.specs.Seen.{tree_of};
 ghost use Rattle.nv_steps.specs.declared.planning.Plan.{Plan};
 ghost use Rattle.nv_tree.specs.Tree.{Node};
+ghost use Rattle.nv_tree.specs.Refusals.{Path, clean_tests, create_tests, link_tests, rename_tests, rmdir_tests, set_attr_tests, set_size_tests, unlink_tests, write_tests};
+ghost use Rattle.nv_calls.specs.Alike.{AreAlike, IsAllowed, IsFaultlessMount, KeepsAlike, WasDone};
 ghost use Rattle.nv_calls.specs.Decided.{IsDecided};
+ghost use Rattle.nv_calls.specs.Effects.{LogsBytes, LogsUnlink, logs_attributes, logs_clean, logs_inode, logs_link, logs_removal, logs_rename, logs_size, makes_attributes, makes_bytes, makes_inode, makes_link, makes_no_change, makes_removal, makes_rename, makes_size, makes_unlink};
 ghost use Rattle.nv_calls.specs.GrownLogs.{ShowsGrownLog};
 ghost use Rattle.nv_calls.specs.LinkCalls.{ShowsBothGrew};
 ghost use Rattle.nv_calls.specs.Mount.{Mount};
+ghost use Rattle.nv_calls.specs.Listing.{ListsNamesIn};
 ghost use Rattle.nv_calls.specs.NameCalls.{ShowsCreated};
+ghost use Rattle.nv_calls.specs.Reading.{IsRead};
 ghost use Rattle.nv_calls.specs.RemoveCalls.{ShowsRemoved};
 ghost use Rattle.nv_calls.specs.SizeCall.{ShowsResizedLog};
+ghost use Rattle.nv_calls.specs.Stat.{IsStat};
+ghost use Rattle.nv_calls.specs.World.{world_of};
 ghost use Rattle.nv_calls.specs.WriteCall.{ShowsLogWrite};
+ghost use Rattle.nv_calls.specs.declared.stating.Stat.{Stat};
 
 /// What a writing call leaves is decided by what was held, the free pools, the CPU and the arguments: two regions of which its
 /// clause on logs holds show the same. So their rows, free lists and trees are the same too.
@@ -32,4 +45,33 @@ pub fn calls_are_decided()
         → IsDecided s (λ S. ShowsResizedLog S s pools cpu held i h node size time) }
     ensures written { (m : Mount ⊤) (cpu : ℕ) (held : Store) (i : ℕ) (h : Held) (plan : Plan)
         → IsDecided m.sup (λ S. ShowsLogWrite S m cpu held i h plan) }
+{}
+
+/// A region without faults in which nothing is pending is alike itself. Alike regions have one outcome, and the calls that read
+/// answer the same of both.
+pub fn alike_regions()
+    ensures itself { (R : Region) (o : Outcome) → IsOutcome R o → o.faults ≡ [] → undone o.sup R ≡ R → AreAlike R R }
+    ensures outcome { (R S : Region) (o other : Outcome) → AreAlike R S → IsOutcome R o → IsOutcome S other → SameOutcome o other }
+    ensures read { (R S : Region) (o other : Outcome) (names : List (List ℕ)) (offset count : ℕ) (bytes others : List ℕ) → AreAlike R S → IsOutcome R o → IsOutcome S other
+        → IsRead (tree_of R o.rows) names offset count bytes → IsRead (tree_of S other.rows) names offset count others → bytes ≡ others }
+    ensures stat { (R S : Region) (o other : Outcome) (names : List (List ℕ)) (stat another : Stat) → AreAlike R S → IsOutcome R o → IsOutcome S other
+        → IsStat (tree_of R o.rows) names stat → IsStat (tree_of S other.rows) names another → stat ≡ another }
+    ensures list { (R S : Region) (o other : Outcome) (names : List (List ℕ)) (lines others : List (List ℕ × ℕ)) → AreAlike R S → IsOutcome R o → IsOutcome S other
+        → ListsNamesIn (tree_of R o.rows) names lines → ListsNamesIn (tree_of S other.rows) names others → lines ≡ others }
+{}
+
+/// Of alike regions that are mounted without faults, a call that no test refuses leaves alike regions; and `clean` answers the
+/// same.
+pub fn calls_keep_regions_alike()
+    ensures create { (kind : Kind) (cpu mode time : ℕ) → KeepsAlike (λ R m p n. create_tests (world_of m) (tree_of R m.rows) cpu p n) (makes_inode kind cpu mode time) (logs_inode kind cpu mode time) }
+    ensures write { (cpu offset count : ℕ) (bytes : List ℕ) (time : ℕ) → KeepsAlike (λ R m p n. write_tests (world_of m) (tree_of R m.rows) cpu p (offset + count) n) (makes_bytes offset bytes time) (LogsBytes cpu offset count time) }
+    ensures set_size { (cpu bytes time : ℕ) → KeepsAlike (λ R m p n. set_size_tests (world_of m) (tree_of R m.rows) cpu p bytes n) (makes_size bytes time) (logs_size cpu bytes time) }
+    ensures set_attr { (cpu mode owner group time : ℕ) → KeepsAlike (λ R m p n. set_attr_tests (world_of m) (tree_of R m.rows) cpu p n) (makes_attributes mode owner group time) (logs_attributes cpu mode owner group time) }
+    ensures link { (cpu time : ℕ) (q : Path) → KeepsAlike (λ R m p n. link_tests (world_of m) (tree_of R m.rows) cpu p q n) (makes_link time q) (logs_link cpu time q) }
+    ensures unlink { (cpu time : ℕ) → KeepsAlike (λ R m p n. unlink_tests (world_of m) (tree_of R m.rows) cpu p n) (makes_unlink time) (LogsUnlink cpu time) }
+    ensures rmdir { (cpu time : ℕ) → KeepsAlike (λ R m p n. rmdir_tests (world_of m) (tree_of R m.rows) cpu p n) (makes_removal time) (logs_removal cpu time) }
+    ensures rename { (cpu time : ℕ) (q : Path) → KeepsAlike (λ R m p n. rename_tests (world_of m) (tree_of R m.rows) cpu p q n) (makes_rename time q) (logs_rename cpu time q) }
+    ensures clean { (answer : Option ℕ) → KeepsAlike (λ R m p n. clean_tests (world_of m) (tree_of R m.rows) p) makes_no_change (logs_clean answer) }
+    ensures cleaned { (answer other : Option ℕ) (R S T U : Region) (m k : Mount ⊤) (names : List (List ℕ)) → AreAlike R S → IsFaultlessMount R m → IsFaultlessMount S k → IsAllowed (λ R m p n. clean_tests (world_of m) (tree_of R m.rows) p) R m names
+        → WasDone makes_no_change (logs_clean answer) R m names T → WasDone makes_no_change (logs_clean other) S k names U → answer ≡ other }
 {}

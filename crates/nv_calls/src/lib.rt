@@ -2,6 +2,7 @@
 #![tactic(auto)]
 
 mod attributes;
+mod by_number;
 mod cleaning;
 mod creating;
 mod fs;
@@ -21,7 +22,7 @@ mod write;
 mod writing;
 
 pub use fs::Fs;
-pub use laws::calls_are_decided;
+pub use laws::{alike_regions, calls_are_decided, calls_keep_regions_alike};
 pub use nv_format::{FormatRefusal, format};
 pub use nv_recover::RecoverError;
 pub use stating::Stat;

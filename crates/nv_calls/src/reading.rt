@@ -82,7 +82,7 @@ impl<P: Pmem + Drop> Fs<P> {
     }
 
     /// The bytes of an inode, by its row.
-    fn bytes_of(&self, row: &Row, offset: u64, count: u64) -> Result<Vec<u8>, AllocError>
+    pub(crate) fn bytes_of(&self, row: &Row, offset: u64, count: u64) -> Result<Vec<u8>, AllocError>
         requires held { Contains self.now.rows row.now }
         requires runs { self.now.stopped ≡ false }
         ensures { IfOk result (λ bytes. bytes.items ≡ bytes_read offset count (node_of (P.region self.now.memory) row.now)) }

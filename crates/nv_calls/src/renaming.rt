@@ -37,7 +37,7 @@ ghost use Rattle.nv_steps.specs.InOrder.{TailIsFirst, tail_address};
 ghost use Rattle.nv_calls.specs.InOrder.{ShowsTailFirst};
 ghost use Rattle.nv_steps.specs.Fronts.{SameFrontBut};
 ghost use Rattle.nv_calls.specs.World.{world_of};
-ghost use Rattle.nv_steps.specs.Stores.{StoresIn, two_logs};
+ghost use Rattle.nv_steps.specs.Stores.{StoresIn, one_log, two_logs};
 
 use crate::Fs;
 use crate::writing::is_stop;
@@ -155,6 +155,9 @@ fn move_at<P: Pmem>(
     ensures wrote { (from to inode : RowValue) (held : Store) (h k : Held) → row_of rows.old.items moved.now.from.directory ≡ Option.Some from → row_of rows.old.items moved.now.directory ≡ Option.Some to → row_of rows.old.items moved.now.from.target ≡ Option.Some inode
         → ShowsRow (P.region memory.old) sup.now held h from free.old → ShowsRow (P.region memory.old) sup.now held k to free.old → place_in rows.old.items moved.now.from.directory ≢ place_in rows.old.items moved.now.directory
         → StoresIn sup.now held (two_logs sup.now cpu from.inode to.inode) (P.region memory.old) (P.region memory.new) }
+    // Within one directory these are the places of its log.
+    ensures within_wrote { (directory : RowValue) (held : Store) (h : Held) → row_of rows.old.items moved.now.directory ≡ Option.Some directory → ShowsRow (P.region memory.old) sup.now held h directory free.old → moved.now.from.directory ≡ moved.now.directory
+        → StoresIn sup.now held (one_log sup.now directory.inode) (P.region memory.old) (P.region memory.new) }
     // The old directory's tail is stored first.
     ensures in_order { (from to inode : RowValue) (held : Store) (h k : Held) → row_of rows.old.items moved.now.from.directory ≡ Option.Some from → row_of rows.old.items moved.now.directory ≡ Option.Some to → row_of rows.old.items moved.now.from.target ≡ Option.Some inode
         → ShowsRow (P.region memory.old) sup.now held h from free.old → ShowsRow (P.region memory.old) sup.now held k to free.old → place_in rows.old.items moved.now.from.directory ≢ place_in rows.old.items moved.now.directory
@@ -222,6 +225,9 @@ impl<P: Pmem + Drop> Fs<P> {
         ensures wrote { (names others : List (List ℕ)) (i d e : ℕ) (node : Node) (held : Store) → IsPath old.now names → IsPath new.now others → LeadsTo (tree_of (P.region self.old.memory) self.old.rows) names i node → walk (tree_of (P.region self.old.memory) self.old.rows) 1 names ≡ Result.Ok d → walk (tree_of (P.region self.old.memory) self.old.rows) 1 others ≡ Result.Ok e → d ≢ e
             → ShowsSound (P.region self.old.memory) self.old.sup held
             → StoresIn self.old.sup held (two_logs self.old.sup cpu d e) (P.region self.old.memory) (P.region self.new.memory) }
+        // Within one directory these are the places of its log.
+        ensures within_wrote { (names others : List (List ℕ)) (d : ℕ) (held : Store) → IsPath old.now names → IsPath new.now others → walk (tree_of (P.region self.old.memory) self.old.rows) 1 names ≡ Result.Ok d → walk (tree_of (P.region self.old.memory) self.old.rows) 1 others ≡ Result.Ok d
+            → ShowsSound (P.region self.old.memory) self.old.sup held → StoresIn self.old.sup held (one_log self.old.sup d) (P.region self.old.memory) (P.region self.new.memory) }
         // Of two directories the old one's tail is stored first.
         ensures in_order { (names others : List (List ℕ)) (i d e : ℕ) (node : Node) (held : Store) (h : Held) → IsPath old.now names → IsPath new.now others → LeadsTo (tree_of (P.region self.old.memory) self.old.rows) names i node → walk (tree_of (P.region self.old.memory) self.old.rows) 1 names ≡ Result.Ok d → walk (tree_of (P.region self.old.memory) self.old.rows) 1 others ≡ Result.Ok e → d ≢ e
             → ShowsSound (P.region self.old.memory) self.old.sup held → held d ≡ Option.Some h → ShowsTailFirst (P.region self.old.memory) (P.region self.new.memory) self.old.sup self.old.free.pools cpu d h (name_entries Remove i (last_name names) time) (tail_address self.old.sup e) }

@@ -21,6 +21,7 @@ ghost use Rattle.nv_calls.specs.Stopped.{LeavesCall};
 ghost use Rattle.nv_paths.specs.Seen.{LeadsTo, node_of, tree_of};
 ghost use Rattle.nv_calls.specs.SizeCall.{ShowsResizedLog, resized_blocks};
 ghost use Rattle.nv_calls.specs.World.{world_of};
+ghost use Rattle.nv_steps.specs.Stores.{StoresIn, one_log};
 
 use crate::Fs;
 use crate::writing::is_stop;
@@ -73,6 +74,9 @@ impl<P: Pmem + Drop> Fs<P> {
         ensures bad_text { ((names : List (List ℕ)) → IsPath path.now names → ⊥) → SameMount self.old self.new }
         // What was mounted with faults stays as it was.
         ensures read_only { IsTrue self.old.read_only → SameMount self.old self.new }
+        // Every word outside these places is as it was.
+        ensures wrote { (names : List (List ℕ)) (i : ℕ) (node : Node) (held : Store) → IsPath path.now names → LeadsTo (tree_of (P.region self.old.memory) self.old.rows) names i node
+            → ShowsSound (P.region self.old.memory) self.old.sup held → StoresIn self.old.sup held (one_log self.old.sup i) (P.region self.old.memory) (P.region self.new.memory) }
         // Whatever a stop leaves, at any exit: recovery finds what was mounted, or what the call makes, without faults.
         ensures any_stop { (names : List (List ℕ)) → IsPath path.now names → self.old.stopped ≡ false → self.old.read_only ≡ false
             → LeavesOnly (P.region self.new.memory) (P.may_hold self.new.memory) (LeavesCall (makes_size size time) (logs_size cpu size time) (P.region self.old.memory) self.old names) }

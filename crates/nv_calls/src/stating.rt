@@ -28,7 +28,7 @@ pub struct Stat {
 }
 
 impl Stat {
-    fn of(row: &Row) -> Stat
+    pub(crate) fn of(row: &Row) -> Stat
         ensures { (region : Region) → result ≡ stat_of row.now.inode (node_of region row.now) }
     {
         Stat {

@@ -6,7 +6,7 @@ use Rattle.nv_region.specs.Region.{region_of}
 use Rattle.nv_super.specs.declared.superblock.SuperFault.TheVariants as faults
 use Rattle.nv_text.specs.declared.refusals.Refusal.TheVariants as refusals
 use Rattle.nv_stream.specs.declared.fault.ScriptError.{ScriptError}
-use Rattle.nv_stream.specs.declared.fault.ScriptError.TheVariants.{Read, Write, Memory}
+use Rattle.nv_stream.specs.declared.fault.ScriptError.TheVariants.{Read, Write}
 use Rattle.nv_stream.specs.declared.saving.Unsaved.TheVariants as unsaveds
 use Rattle.nv_stream.specs.Streams.{AppendsFront}
 use Rattle.nv_images.specs.declared.image.Image.{Image}

@@ -14,7 +14,12 @@ abbrev pub ungathered : GatherError → BlocksError
 ungathered (gatherings.Read error) = Read error
 ungathered gatherings.Memory = Answer errors.Memory
 
--- After an error: nothing was written where the reader failed, and else what a check of the bytes leaves.
+-- After an error: what a check of the bytes leaves. A reader of bytes that are known doesn't fail.
 abbrev pub FailsBlocksCheck : Output → List ℕ → ℕ → BlocksError → Option (List ℕ) → Option (List ℕ) → Type 0
-FailsBlocksCheck output bytes workers (Read error) old new = Keeps old new
+FailsBlocksCheck output bytes workers (Read error) old new = ⊥
 FailsBlocksCheck output bytes workers (Answer error) old new = FailsCheckAs output bytes workers error old new
+
+-- nothing was written where the reader failed
+abbrev pub KeepsUnread : BlocksError → Option (List ℕ) → Option (List ℕ) → Type 0
+KeepsUnread (Read error) old new = Keeps old new
+KeepsUnread (Answer error) old new = Unit {0}

@@ -5,4 +5,5 @@ pub mod Checking
 pub mod Mapping
 pub mod Files
 pub mod Gathered
+pub mod Several
 pub use Rattle.nv_recover.specs as nv_recover

@@ -72,7 +72,7 @@ pub fn check_region_as<H: Threads + Sync, W: Write>(
     Ok(checked.status)
 }
 
-fn check_bytes<H: Threads + Sync>(
+pub(crate) fn check_bytes<H: Threads + Sync>(
     rt: &H,
     alloc: Global,
     bytes: &[u8],

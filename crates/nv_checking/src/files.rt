@@ -1,12 +1,14 @@
 //! The check of the image in a file, and its map as text and as a drawing.
 
-ghost use Rattle.std.specs.Prelude.{◌≡◌, ◌≢◌, ◌⊎◌, ◌≤◌, IfOk, IfErr};
-ghost use Rattle.nv_images.specs.Images.{IsUnsaved};
-ghost use Rattle.nv_checking.specs.Mapping.{mapped_answer};
+ghost use Rattle.std.specs.Prelude.{◌≡◌, ◌⊎◌, ◌≤◌, true, false, is_none, IfOk, IfErr};
+ghost use Rattle.std.specs.Io.KnownBytes.{Keeps};
+ghost use Rattle.nv_images.specs.Images.{IsUnsaved, IsUnanswered};
+ghost use Rattle.nv_checking.specs.Mapping.{mapped_answer, WritesMap, FailsMap};
 ghost use Rattle.nv_checking.specs.Files.{WritesImageCheck, EndsImageCheck, FailsImageCheck, IsImageMapped, IsUnchecked, IsUnmapped};
 
 use crate::answered::Answered;
 use crate::checking::check_region_as;
+use crate::gathered::write_checked;
 use crate::mapping::{Mapped, answered, map_cells, write_map};
 use crate::output::Output;
 use crate::plain::check_plain_file;
@@ -47,7 +49,7 @@ where
     ensures error { IfErr result (IsUnchecked path.entry) }
 {
     let status = match check_plain_file(rt, path, workers, output)? {
-        Some(status) => status,
+        Some(checked) => write_checked(&checked, &mut io::writer(rt))?,
         None => check_whole_file(rt, path, workers, output)?,
     };
     if status == Last::Faulty.status() {
@@ -96,7 +98,7 @@ where
     let image = read_image(rt.alloc(), file)?;
     let mapped = map_image(rt.alloc(), &image, MOST_CELLS)?;
     let is_drawn_there = held.as_ref().is_some_and(|held| held.is_output());
-    let answered = print_map(rt, &mapped, is_drawn_there)?;
+    let answered = print_map(rt.alloc(), &mapped, is_drawn_there, &mut io::writer(rt))?;
     tell_refusal(rt, &mapped);
     tell_image_refused(rt, &image, answered.status);
     tell_faults(rt, path, answered.faults);
@@ -152,23 +154,26 @@ fn map_image(alloc: Global, image: &Image, most: u64) -> Result<Mapped, AllocErr
 }
 
 // Prints the text of a map, unless the drawing goes to standard output.
-fn print_map<H: AllocGlobal + Print>(
-    rt: &H,
+fn print_map<W: Write>(
+    alloc: Global,
     mapped: &Mapped,
     is_drawn_there: bool,
+    writer: &mut W,
 ) -> Result<Answered, ScriptError>
     ensures answered { IfOk result (λ answered. answered ≡ mapped_answer mapped.now) }
-    ensures error { IfErr result (λ e. e ≢ ScriptError.Read) }
+    ensures text { is_drawn_there ≡ false → IfOk result (WritesMap mapped.now (W.contents writer.old) (W.contents writer.new)) }
+    ensures no_text { is_drawn_there ≡ true → Keeps (W.contents writer.old) (W.contents writer.new) }
+    ensures err { IfErr result (λ e. FailsMap mapped.now e (W.contents writer.old) (W.contents writer.new)) }
 {
     if is_drawn_there {
         Ok(answered(mapped))
     } else {
-        write_map(rt.alloc(), mapped, &mut io::writer(rt))
+        write_map(alloc, mapped, writer)
     }
 }
 
-// Says on standard error for what an image was refused, where an answer of this status may be that.
-fn tell_image_refused<H: Eprint + AllocGlobal>(rt: &H, image: &Image, status: u8) {
+/// Says on standard error for what an image was refused, where an answer of this status may be that.
+pub(crate) fn tell_image_refused<H: Eprint + AllocGlobal>(rt: &H, image: &Image, status: u8) {
     match image {
         Image::Bytes(bytes) => tell_refused(rt, status, bytes),
         Image::TooLong(length) => tell_length(rt, *length),
@@ -190,7 +195,8 @@ fn draw<'a, H: Files + AllocGlobal + Print>(
 ) -> Result<(), Failure<'a>>
 where
     H::File: Lock,
-    ensures { IfErr result (IsUnsaved held.now.target.path) }
+    ensures file { is_none held.now.place ≡ false → IfErr result (IsUnsaved held.now.target.path) }
+    ensures output { is_none held.now.place ≡ true → IfErr result IsUnanswered }
 {
     match mapped {
         Mapped::Cells { cells, .. } => {

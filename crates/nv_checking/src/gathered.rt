@@ -9,7 +9,7 @@ ghost use Rattle.nv_region.specs.Region.{Region, region_of};
 ghost use Rattle.nv_super.specs.Super.{IsRefused};
 ghost use Rattle.nv_metadata.specs.Gathered.{AreGathered, IsOpen};
 ghost use Rattle.nv_checking.specs.Checking.{IsCheckAs, WritesCheckAs, EndsCheckAs, FailsCheckAs};
-ghost use Rattle.nv_checking.specs.Gathered.{FailsBlocksCheck};
+ghost use Rattle.nv_checking.specs.Gathered.{FailsBlocksCheck, KeepsUnread};
 ghost use Rattle.nv_checking.specs.declared.output.Output.{Output as OutputValue};
 
 use crate::checking::{Checked, check_memory, is_worker_count, refused};
@@ -55,11 +55,11 @@ impl From<ScriptError> for BlocksError {
     }
 }
 
-/// Checks the image that a reader gives piece by piece: its metadata are read, each block once, and no other. What is written,
-/// and the exit status, are those of `check_region_as` for all its bytes.
+/// Checks the image that a reader gives piece by piece: its metadata are read, and nothing else. What is written, and the exit
+/// status, are those of `check_region_as` for all its bytes.
 ///
-/// Errors: `Read` where the length isn't told or bytes can't be read, and nothing was written then; `Answer` as of
-/// `check_region_as`.
+/// Errors: `Read` where the length isn't told or bytes can't be read, which doesn't happen where they are known, and nothing was
+/// written then; `Answer` as of `check_region_as`.
 pub fn check_blocks<B: Blocks, H: Threads + Sync, W: Write>(
     rt: &H,
     alloc: Global,
@@ -71,6 +71,7 @@ pub fn check_blocks<B: Blocks, H: Threads + Sync, W: Write>(
     ensures text { (bytes : List ℕ) → B.bytes source.now ≡ Some bytes → IfOk result (λ _. WritesCheckAs output bytes workers (W.contents writer.old) (W.contents writer.new)) }
     ensures status { (bytes : List ℕ) → B.bytes source.now ≡ Some bytes → IfOk result (λ status. EndsCheckAs output bytes workers (W.contents writer.old) (W.contents writer.new) status) }
     ensures err { (bytes : List ℕ) → B.bytes source.now ≡ Some bytes → IfErr result (λ e. FailsBlocksCheck output bytes workers e (W.contents writer.old) (W.contents writer.new)) }
+    ensures unread { IfErr result (λ e. KeepsUnread e (W.contents writer.old) (W.contents writer.new)) }
 {
     let gathered = gather(alloc, source)?;
     let status = check_gathered(rt, alloc, gathered, workers, output, writer)?;
@@ -97,8 +98,8 @@ pub fn check_gathered<H: Threads + Sync, W: Write>(
     write_checked(&checked, writer)
 }
 
-// Writes what a check prints, and answers its status.
-fn write_checked<W: Write>(checked: &Checked, writer: &mut W) -> Result<u8, ScriptError>
+/// Writes what a check prints, and answers its status.
+pub(crate) fn write_checked<W: Write>(checked: &Checked, writer: &mut W) -> Result<u8, ScriptError>
     ensures ok { IfOk result (λ status. (status ≡ checked.now.status) × Appends (W.contents writer.old) (W.contents writer.new) (string_bytes checked.now.text)) }
     ensures err { IfErr result (λ e. (e ≡ ScriptError.Write) × AppendsFront (W.contents writer.old) (W.contents writer.new) (string_bytes checked.now.text)) }
 {
@@ -106,7 +107,8 @@ fn write_checked<W: Write>(checked: &Checked, writer: &mut W) -> Result<u8, Scri
     Ok(checked.status)
 }
 
-fn check_metadata<H: Threads + Sync>(
+/// What a check of the region prints of which this was gathered, and its exit status.
+pub(crate) fn check_metadata<H: Threads + Sync>(
     rt: &H,
     alloc: Global,
     gathered: Gathered,

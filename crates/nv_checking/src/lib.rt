@@ -1,9 +1,9 @@
 //! Recoveries of a region as the commands see them, and checks and maps of images.
 //!
 //! `recovering` recovers a region, and answers what was found or why it is refused (`recovery`). `checking` recovers the bytes of
-//! a region, and writes its report, or another `output`. `gathered` does so from the metadata alone. `imaging` recovers them on this thread, for looks into them, whose answer
-//! is in `answered`, and for `mapping`, which tells what the blocks are used for. `files` checks and maps images in
-//! files, and `plain` checks those in plain files by their metadata.
+//! a region, and writes its report, or another `output`. `gathered` does so from the metadata alone. `imaging` recovers them on
+//! this thread, for looks into them, whose answer is in `answered`, and for `mapping`, which tells what the blocks are used for.
+//! `files` checks and maps images in files, `plain` checks those in plain files by their metadata, and `several` checks several.
 #![tactic(auto)]
 
 mod answered;
@@ -17,6 +17,7 @@ mod output;
 mod plain;
 mod recovering;
 mod recovery;
+mod several;
 
 pub use answered::Answered;
 pub use checking::{check_region, check_region_as};
@@ -29,3 +30,4 @@ pub use nv_metadata::Blocks;
 pub use output::Output;
 pub use recovering::{recover_alone, recover_or_stop, recover_region, replay_or_stop};
 pub use recovery::Answer;
+pub use several::check_files;

@@ -5,31 +5,32 @@ ghost use Rattle.nv_images.specs.Images.{IsUnread};
 ghost use Rattle.nv_metadata.specs.Gathered.{IsOpen};
 ghost use Rattle.nv_checking.specs.Files.{IsUnchecked};
 
-use crate::gathered::check_gathered;
+use crate::checking::Checked;
+use crate::gathered::check_metadata;
 use crate::output::Output;
 use nv_images::{Failure, Reason};
 use nv_metadata::{Blocks, GatherError, Gathered, gather};
 use nv_stream::ScriptError;
 use std::alloc::Global;
+use std::fs;
 use std::fs::OpenFile;
 use std::io::{Error, ErrorKind};
 use std::rt::Files;
 use std::thread::Threads;
-use std::{fs, io};
 
-/// Checks the image in the plain file at a path by its metadata, on so many threads, prints what a check prints, and answers the
-/// exit status. Answers nothing, and prints nothing, where the superblock is refused, and for any path that isn't a plain file's.
+/// Checks the image in the plain file at a path by its metadata, on so many threads. Answers what a check prints, and its exit
+/// status; and nothing where the superblock is refused, and for any path that isn't a plain file's.
 ///
-/// Errors: a file that can't be read, that ends early, or that was changed meanwhile; want of memory or of a place to write to.
-pub(crate) fn check_plain_file<'a, H: Files + AllocGlobal + Print + Threads + Sync>(
+/// Errors: a file that can't be read, that ends early, or that was changed meanwhile; want of memory.
+pub(crate) fn check_plain_file<'a, H: Files + AllocGlobal + Threads + Sync>(
     rt: &H,
     path: &'a str,
     workers: u32,
     output: Output,
-) -> Result<Option<u8>, Failure<'a>>
+) -> Result<Option<Checked>, Failure<'a>>
 where
     H::File: Blocks,
-    ensures status { IfOk result (λ status. IfSome status (λ status. status ≤ 2)) }
+    ensures status { IfOk result (λ found. IfSome found (λ checked. checked.status ≤ 2)) }
     ensures error { IfErr result (IsUnchecked path.entry) }
 {
     let Some(file) = plain_file(rt, path) else {
@@ -39,10 +40,8 @@ where
     if let Gathered::Refused(_) = gathered {
         return Ok(None);
     }
-    let writer = &mut io::writer(rt);
-    let workers = u64::from(workers);
-    let status = check_gathered(rt, rt.alloc(), gathered, workers, output, writer)?;
-    Ok(Some(status))
+    let checked = check_metadata(rt, rt.alloc(), gathered, u64::from(workers), output)?;
+    Ok(Some(checked))
 }
 
 // The plain file at a path, if it can be opened. Standard input, which `-` may stand for, is none.

@@ -1,12 +1,12 @@
 -- What cleaning leaves of a mount, a page after another.
-use Rattle.std.proofs.Common.{◌≡◌, ◌≢◌, ◌∙◌, ◌<◌, ◌≤◌, ℕ, ◌+◌, ◌++◌, Bool, true, false, is_none, is_some, not, IsTrue, List, [], ◌∷◌, length, ◌⊎◌, IfErr, Option, Some, None, Result, Ok, Err, refl, sym, ap, subst, inl, inr, arith}
+use Rattle.std.proofs.Common.{◌≡◌, ◌≢◌, ◌∙◌, ◌<◌, ◌≤◌, ℕ, suc, ◌+◌, ◌++◌, Bool, true, false, is_none, IsTrue, List, [], ◌∷◌, length, ◌⊎◌, IfErr, Option, Some, None, Result, Ok, Err, refl, sym, ap, subst, inl, inr, arith}
 use Rattle.std.proofs.Math.Logic.{∥∥₁_elim, ∥∥₁_map}
 use Rattle.std.proofs.Math.Nat.{ℕ_set}
 use Rattle.std.proofs.Props.{props}
 use Rattle.std.proofs.lemmas.Bool.{cases_eq, true≢false}
 use Rattle.std.proofs.lemmas.List.{length-append}
 use Rattle.std.proofs.lemmas.List.Edits.{length-remove}
-use Rattle.std.proofs.lemmas.Option.{slice_get-get_or}
+use Rattle.std.proofs.lemmas.Option.{same_Some, slice_get-get_or}
 use Rattle.std.specs.List.{filter, remove}
 use Rattle.std.specs.Option.{option_map}
 use Rattle.nv_region.specs.Region.{Region, size}
@@ -25,6 +25,8 @@ use Rattle.nv_tree.specs.declared.refusal.Refusal.{Refusal}
 use Rattle.nv_tree.specs.declared.refusal.Refusal.TheVariants.{Memory, NotFound, ReadOnly, Stopped}
 use Rattle.nv_tree.proofs.Same.{same_itself, same_transitive}
 use Rattle.nv_scan.specs.Dead.{IsDead, IsFirstDead}
+use Rattle.nv_scan.specs.InTurn.{GoInTurn}
+use Rattle.nv_scan.specs.declared.in_turn.DeadPages.{DeadPages}
 use Rattle.nv_scan.specs.declared.piece.Row.{Row}
 use Rattle.nv_held.specs.Held.{Held, Store, with_inode}
 use Rattle.nv_held.specs.Cleaned.{cleaned}
@@ -34,18 +36,20 @@ use Rattle.nv_held.proofs.Shown.{stands_at}
 use Rattle.nv_rows.specs.Rows.{place_in, row_of}
 use Rattle.nv_rows.proofs.Places.{at_place, numbered}
 use Rattle.nv_super.proofs.Members.{stands}
+use Rattle.nv_steps.proofs.CleanedLog.{one_first_dead}
 use Rattle.nv_steps.proofs.RowOf.{row_at}
 use Rattle.nv_commit.proofs.Left.{one_held}
-use Rattle.nv_calls.specs.CleanCall.{PageWent, ShowsCleaned, clean_inode_tests}
+use Rattle.nv_calls.specs.CleanCall.{IsKnown, PageWent, ShowsCleaned, clean_inode_tests}
 use Rattle.nv_calls.specs.Mount.{IsKept, Mount}
 use Rattle.nv_calls.specs.Same.{KeepsMount}
 use Rattle.nv_calls.specs.World.{world_of}
+use Rattle.nv_calls.proofs.DeadPages.{turns_prop}
 use Rattle.nv_calls.proofs.Mounts.{faultless, mounted_of_kept, mounted_with}
 use Rattle.nv_paths.specs.Seen.{node_of, tree_of}
 use Rattle.nv_session.proofs.Cleaned.{row_there}
 use Rattle.nv_session.proofs.Settled.{settled}
 use Rattle.nv_cli.specs.declared.cleaning.Logs.TheVariants as which
-use Rattle.nv_cli.specs.Cleaning.{AreShort, CameBack, CanClean, HasAtMost, IsPageOf, LogAfter, LosesPages, NeedsPages, page_count}
+use Rattle.nv_cli.specs.Cleaning.{AreShort, CameBack, CanClean, HasAtMost, HasDeadPages, HasFewer, HasTurns, IsPageOf, LosesPages, NeedsPages}
 use Rattle.nv_cli.proofs.FreedPages.{came_of_all, few_came, freed, more_came, none_came, one_came, page_before, was_page}
 
 abbrev tree : Mount RegionState → Tree
@@ -140,6 +144,13 @@ wants_memory m n i r e is can used refused stopped steady =
       ]
     ]
 
+-- The search for pages is refused for want of memory alone.
+pub memory_alone : (m : Mount RegionState) (i : ℕ) (r : Result (Option DeadPages) Refusal) (e : Refusal) → r ≡ Err e → CanClean m → is_none (tree m i) ≡ false
+    → (m.stopped ≡ false → IfErr r (λ e. (e ≡ Memory) ⊎ (first_refusal (clean_inode_tests (world_of m) (tree m) i) ≡ Some e))) → e ≡ Memory
+memory_alone m i r e is can used refused =
+    let told = subst (λ (x : Result (Option DeadPages) Refusal). IfErr x (λ e. (e ≡ Memory) ⊎ (first_refusal (clean_inode_tests (world_of m) (tree m) i) ≡ Some e))) is (refused can.runs) in
+    elim told [ inl memory ↦ memory | inr test ↦ absurd (passes m.read_only (is_none (tree m i)) e can.writes used test) ]
+
 -- the number of pages of what is held
 abbrev pages_of : Option Held → ℕ
 pages_of None = 0
@@ -149,9 +160,6 @@ pages_of (Some h) = length h.pages
 pub no_page : (m : Mount RegionState) (i : ℕ) → HasAtMost m i 0 → NeedsPages m.memory.region m.sup i
 no_page m i most held h shown there k dead = let few = most held h shown there in omega (arith, few, dead.more)
 
-regions_prop : (R S : Region) → IsProp (S ≡ R)
-regions_prop R S = hlevel (props, ℕ_set)
-
 free_prop : (R : Region) (l : Layout) (q : ℕ) → IsProp (IsFree R l q)
 free_prop R l q = hlevel (props, ℕ_set)
 
@@ -159,24 +167,19 @@ page_prop : (R : Region) (s : Super) (i b : ℕ) → IsProp (IsPageOf R s i b)
 page_prop R s i b = hlevel props
 
 module _ (m : Mount RegionState) (kept : Keeps m) (can : CanClean m) where
-  -- where the log needs each of its pages, the region is as before
-  none_went : (S : Region) (i : ℕ) → is_none (tree m i) ≡ false
-      → ((held : Store) (h : Held) → ShowsSound m.memory.region m.sup held → held i ≡ Some h → ShowsCleaned m.memory.region S m.sup held i h None) → S ≡ m.memory.region
-  none_went S i used log = by (tree m i) refl used where
-    by : (o : Option Node) → tree m i ≡ o → is_none o ≡ false → S ≡ m.memory.region
+  -- Something that is a proposition holds, if it does of what is held of an inode in use.
+  pub with_held : (i : ℕ) → is_none (tree m i) ≡ false → (A : Type 0) → IsProp A → ((held : Store) (h : Held) → ShowsSound m.memory.region m.sup held → held i ≡ Some h → A) → A
+  with_held i used A prop then = by (tree m i) refl used where
+    by : (o : Option Node) → tree m i ≡ o → is_none o ≡ false → A
     by None at there = absurd (cc)
-    by (Some node) at there = ∥∥₁_elim (mounted_of_kept kept can.runs can.writes) (regions_prop m.memory.region S) (λ w. holds w.0 w.1) where
-      holds : (held : Store) → IsMounted m.memory.region m.sup held m.rows m.free.pools → S ≡ m.memory.region
+    by (Some node) at there = ∥∥₁_elim (mounted_of_kept kept can.runs can.writes) prop (λ w. holds w.0 w.1) where
+      holds : (held : Store) → IsMounted m.memory.region m.sup held m.rows m.free.pools → A
       holds held mounted =
           let row = row_there m.memory.region m.rows i node at in
           let keeps = mounted.keeps in
           let rows = keeps.in_rows in
           let told = rows.each row.0 row.1 in
-          let there : held i ≡ Some told.0 = subst (λ (k : ℕ). held k ≡ Some told.0) row.2 told.1 in
-          (log held told.0 mounted.sound there).1
-
-  as_before : (S : Region) (s : Super) → S ≡ m.memory.region → s ≡ m.sup → (j : ℕ) → NeedsPages m.memory.region m.sup j → NeedsPages S s j
-  as_before S s same super j needs = subst (λ (x : Super). NeedsPages S x j) (sym super) (subst (λ (T : Region). NeedsPages T m.sup j) (sym same) needs)
+          then held told.0 mounted.sound (subst (λ (k : ℕ). held k ≡ Some told.0) row.2 told.1)
 
   -- a log has as many pages as its row
   pub as_in_row : (i : ℕ) (row : Row) → row_of m.rows i ≡ Some row → HasAtMost m i (length row.pages.items)
@@ -206,18 +209,7 @@ module _ (m : Mount RegionState) (kept : Keeps m) (can : CanClean m) where
       (log : (held : Store) (h : Held) → ShowsSound m.memory.region m.sup held → held i ≡ Some h → ShowsCleaned m.memory.region n.memory.region m.sup held i h (Some b)) (used : is_none (tree m i) ≡ false) where
     -- Something that is a proposition holds of what was held and went.
     by_page : (A : Type 0) → IsProp A → ((held : Store) (h : Held) (k : ℕ) → ShowsSound m.memory.region m.sup held → held i ≡ Some h → PageWent n.memory.region m.sup held i h b k → A) → A
-    by_page A prop then = by (tree m i) refl used where
-      by : (o : Option Node) → tree m i ≡ o → is_none o ≡ false → A
-      by None at there = absurd (cc)
-      by (Some node) at there = ∥∥₁_elim (mounted_of_kept kept can.runs can.writes) prop (λ w. holds w.0 w.1) where
-        holds : (held : Store) → IsMounted m.memory.region m.sup held m.rows m.free.pools → A
-        holds held mounted =
-            let row = row_there m.memory.region m.rows i node at in
-            let keeps = mounted.keeps in
-            let rows = keeps.in_rows in
-            let told = rows.each row.0 row.1 in
-            let there : held i ≡ Some told.0 = subst (λ (k : ℕ). held k ≡ Some told.0) row.2 told.1 in
-            ∥∥₁_elim (log held told.0 mounted.sound there) prop (λ v. then held told.0 v.0 mounted.sound there v.1)
+    by_page A prop then = with_held i used A prop (λ held h shown there. ∥∥₁_elim (log held h shown there) prop (λ v. then held h v.0 shown there v.1))
 
     -- and what is held now is that without the page
     held_now : (held other : Store) (h : Held) (k : ℕ) → PageWent n.memory.region m.sup held i h b k → ShowsSound n.memory.region n.sup other → other ≡ with_inode held i (Some (cleaned h k))
@@ -238,15 +230,26 @@ module _ (m : Mount RegionState) (kept : Keeps m) (can : CanClean m) where
           needs_none : (held : Store) (h : Held) (k : ℕ) → ShowsSound m.memory.region m.sup held → held i ≡ Some h → IsDead m.sup h.kind i h.created h.entries h.pages k → j ≡ i → ⊥
           needs_none held h k shown there dead same = needs held h shown (ap held same ∙ there) k (subst (λ (x : ℕ). IsDead m.sup h.kind x h.created h.entries h.pages k) (sym same) dead)
 
-    one_fewer : (count : ℕ) → HasAtMost m i (count + 1) → HasAtMost n i count
+    -- the log of the inode is that without the page
+    log_now : (held other : Store) (h g : Held) (k : ℕ) → PageWent n.memory.region m.sup held i h b k → ShowsSound n.memory.region n.sup other → other i ≡ Some g → g ≡ cleaned h k
+    log_now held other h g k went sound is = same_Some g (cleaned h k) (sym is ∙ ap (λ (st : Store). st i) (held_now held other h k went sound) ∙ same_held held i (Some (cleaned h k)))
+
+    one_fewer : HasFewer m n i 1
     one_fewer count most other g sound is = by_page (length g.pages ≤ count) (hlevel (props, ℕ_set)) (λ held h k shown there went. (
-        let same : Some g ≡ Some (cleaned h k) = sym is ∙ ap (λ (st : Store). st i) (held_now held other h k went sound) ∙ same_held held i (Some (cleaned h k)) in
-        let pages : length g.pages ≡ length (remove h.pages k) = ap pages_of same in
+        let pages : length g.pages ≡ length (remove h.pages k) = ap (λ (x : Held). length x.pages) (log_now held other h g k went sound is) in
         let first = went.first in
         let dead = first.0 in
         let before = most held h shown there in
         let fewer : length (remove h.pages k) + 1 ≡ length h.pages = length-remove h.pages k (omega (arith, dead.more)) in
         omega (arith, pages, before, fewer)))
+
+    -- and the pages behind it go on
+    turns_left : (place count : ℕ) → HasTurns m i place (suc count) → HasTurns n i place count
+    turns_left place count turns other g sound is = by_page (GoInTurn n.sup g.kind i g.created place count g.entries g.pages) (turns_prop n.sup g.kind i g.created place count g.entries g.pages) (λ held h k shown there went.
+        let now = turns held h shown there in
+        let same : k ≡ place = same_Some k place (one_first_dead m.sup h.kind i h.created h.entries h.pages (Some k) (Some place) went.first now.0) in
+        let log : g ≡ cleaned h place = log_now held other h g k went sound is ∙ ap (cleaned h) same in
+        subst (λ (z : Super × Held). GoInTurn z.0 z.1.kind i z.1.created place count z.1.entries z.1.pages) (λ t. (sym super t, sym log t)) now.1)
 
     -- the page came back, and no other block
     page_came : CameBack m.memory.region n.memory.region m.sup (λ j. j ≡ i) (b ∷ [])
@@ -262,38 +265,47 @@ module _ (m : Mount RegionState) (kept : Keeps m) (can : CanClean m) where
         (λ j q page. by_page (IsPageOf m.memory.region m.sup j q) (page_prop m.memory.region m.sup j q) (λ held h k shown there went.
         page_before m.memory.region n.memory.region m.sup held i b k h shown there went j q page))
 
-  -- what one call leaves, by its answer
-  pub page_lost : (n : Mount RegionState) (i : ℕ) (answer : Option ℕ) → is_none (tree m i) ≡ false → n.stopped ≡ false → IsTrue (is_steady n.memory) → KeepsMount m n → size n.memory.region ≡ size m.memory.region → SameTree (tree n) (tree m)
-      → ((held : Store) (h : Held) → ShowsSound m.memory.region m.sup held → held i ≡ Some h → ShowsCleaned m.memory.region n.memory.region m.sup held i h answer) → LosesPages m n (λ j. j ≡ i) (page_count answer)
-  page_lost n i None used runs steady keeps long same log = record {
-    can = record { runs = runs; writes = keeps.read_only ∙ can.writes; steady = steady };
-    as_long = long;
-    sup = keeps.sup;
-    faults = keeps.faults;
-    tree = same;
-    blocks = [];
-    count = refl;
-    came_back = subst (λ (S : Region). CameBack m.memory.region S m.sup (λ j. j ≡ i) []) (sym (none_went n.memory.region i used log)) (none_came m.memory.region m.sup (λ j. j ≡ i));
-    none = λ e. none_went n.memory.region i used log;
-    needs = λ j each. as_before n.memory.region n.sup (none_went n.memory.region i used log) keeps.sup j each;
-  }
-  page_lost n i (Some block) used runs steady keeps long same log = record {
-    can = record { runs = runs; writes = keeps.read_only ∙ can.writes; steady = steady };
-    as_long = long;
-    sup = keeps.sup;
-    faults = keeps.faults;
-    tree = same;
-    blocks = block ∷ [];
-    count = refl;
-    came_back = page_came n i block keeps.sup log used;
-    none = λ e. absurd (omega (arith, e));
-    needs = others n i block keeps.sup log used;
-  }
+  -- A page that is known to go has gone, whatever the call has answered.
+  some_went : (n : Mount RegionState) (i place : ℕ) (answer : Option ℕ) → is_none (tree m i) ≡ false → IsKnown m.memory.region m.sup i (Some place)
+      → ((held : Store) (h : Held) → ShowsSound m.memory.region m.sup held → held i ≡ Some h → ShowsCleaned m.memory.region n.memory.region m.sup held i h answer) → (block : ℕ) × (answer ≡ Some block)
+  some_went n i place (Some block) used known log = (block, refl)
+  some_went n i place None used known log = absurd (with_held i used ⊥ (hlevel props) (λ held h shown there. (
+      let none = (log held h shown there).0 in
+      let first = known held h shown there in
+      none place first.0)))
 
-  pub log_after : (n : Mount RegionState) (i : ℕ) (answer : Option ℕ) → is_none (tree m i) ≡ false → KeepsMount m n
-      → ((held : Store) (h : Held) → ShowsSound m.memory.region m.sup held → held i ≡ Some h → ShowsCleaned m.memory.region n.memory.region m.sup held i h answer) → LogAfter m n i answer
-  log_after n i None used keeps log = as_before n.memory.region n.sup (none_went n.memory.region i used log) keeps.sup i (λ held h shown there. (log held h shown there).0)
-  log_after n i (Some block) used keeps log = one_fewer n i block keeps.sup log used
+  module _ (n : Mount RegionState) (i place : ℕ) (answer : Option ℕ) (used : is_none (tree m i) ≡ false) (keeps : KeepsMount m n) (known : IsKnown m.memory.region m.sup i (Some place))
+      (log : (held : Store) (h : Held) → ShowsSound m.memory.region m.sup held → held i ≡ Some h → ShowsCleaned m.memory.region n.memory.region m.sup held i h answer) where
+    abbrev block : ℕ
+    block = (some_went n i place answer used known log).0
+
+    log_some : (held : Store) (h : Held) → ShowsSound m.memory.region m.sup held → held i ≡ Some h → ShowsCleaned m.memory.region n.memory.region m.sup held i h (Some block)
+    log_some held h shown there = subst (λ (o : Option ℕ). ShowsCleaned m.memory.region n.memory.region m.sup held i h o) (some_went n i place answer used known log).1 (log held h shown there)
+
+    -- what the call leaves
+    pub page_lost : n.stopped ≡ false → IsTrue (is_steady n.memory) → size n.memory.region ≡ size m.memory.region → SameTree (tree n) (tree m) → LosesPages m n (λ j. j ≡ i) 1
+    page_lost runs steady long same = record {
+      can = record { runs = runs; writes = keeps.read_only ∙ can.writes; steady = steady };
+      as_long = long;
+      sup = keeps.sup;
+      faults = keeps.faults;
+      tree = same;
+      blocks = block ∷ [];
+      count = refl;
+      came_back = page_came n i block keeps.sup log_some used;
+      none = λ e. absurd (omega (arith, e));
+      needs = others n i block keeps.sup log_some used;
+    }
+
+    pub page_fewer : HasFewer m n i 1
+    page_fewer = one_fewer n i block keeps.sup log_some used
+
+    pub page_turns : (count : ℕ) → HasTurns m i place (suc count) → HasTurns n i place count
+    page_turns count = turns_left n i block keeps.sup log_some used place count
+
+  -- some pages go, where some were found
+  pub some_dead : (i : ℕ) (dead : DeadPages) → is_none (tree m i) ≡ false → HasDeadPages m i (Some dead) → 0 < dead.count
+  some_dead i dead used found = with_held i used (0 < dead.count) (hlevel (props, ℕ_set)) (λ held h shown there. (found held h shown there).0)
 
   -- it shows an outcome without a fault
   pub shows_now : (doubled : List (ℕ × Owner)) × IsOutcome m.memory.region (record { sup = m.sup; rows = m.rows; free = m.free.pools; doubled = doubled; faults = [] })
@@ -312,32 +324,28 @@ module _ (m : Mount RegionState) (kept : Keeps m) (can : CanClean m) where
 pub row_used : (m : Mount RegionState) (i : ℕ) (row : Row) → row_of m.rows i ≡ Some row → is_none (tree m i) ≡ false
 row_used m i row some = ap (λ (o : Option Row). is_none (option_map (node_of m.memory.region) o)) some
 
--- what a test of an answer tells
-pub is_there : (o : Option ℕ) (b : Bool) → is_some o ≡ not b → is_none o ≡ b
-is_there None true e = refl
-is_there None false e = absurd (cc)
-is_there (Some block) true e = absurd (cc)
-is_there (Some block) false e = refl
+-- pages that went one after another
+pub fewer_none : (m : Mount RegionState) (i : ℕ) → HasFewer m m i 0
+fewer_none m i n most = (let same : 0 + n ≡ n = omega arith in subst (λ (x : ℕ). HasAtMost m i x) same most)
 
--- where no page went, all is as it was before
-pub pages_none : (a b c : Mount RegionState) (Asked : ℕ → Type 0) (n : ℕ) (block : Option ℕ) → is_none block ≡ true → LosesPages a b Asked n → LosesPages b c Asked (page_count block) → LosesPages a c Asked n
-pages_none a b c Asked n None is lost more = loses_more a b c Asked n 0 n (omega arith) lost more
-pages_none a b c Asked n (Some block) is lost more = absurd (cc)
+pub fewer_more : (a b c : Mount RegionState) (i j k n : ℕ) → j + k ≡ n → HasFewer a b i j → HasFewer b c i k → HasFewer a c i n
+fewer_more a b c i j k n is first second count most = second count (first (k + count) (let same : n + count ≡ j + (k + count) = omega (arith, is) in subst (λ (x : ℕ). HasAtMost a i x) same most))
 
-pub pages_some : (a b c : Mount RegionState) (Asked : ℕ → Type 0) (n : ℕ) (block : Option ℕ) → is_none block ≡ false → LosesPages a b Asked n → LosesPages b c Asked (page_count block) → LosesPages a c Asked (n + 1)
-pages_some a b c Asked n None is lost more = absurd (cc)
-pages_some a b c Asked n (Some block) is lost more = loses_more a b c Asked n 1 (n + 1) refl lost more
+-- so many pages may be left in the log
+pub left_fewer : (b c : Mount RegionState) (i gone more pages : ℕ) → HasFewer b c i more → ((n : ℕ) → pages ≤ gone + n → HasAtMost b i n) → (n : ℕ) → pages ≤ gone + more + n → HasAtMost c i n
+left_fewer b c i gone more pages fewer left n enough = fewer n (left (more + n) (omega (arith, enough)))
 
-pub log_none : (b c : Mount RegionState) (i : ℕ) (block : Option ℕ) → is_none block ≡ true → LogAfter b c i block → NeedsPages c.memory.region c.sup i
-log_none b c i None is log = log
-log_none b c i (Some block) is log = absurd (cc)
+-- the log needs each of its pages, where none was found
+pub none_dead : (m : Mount RegionState) (i : ℕ) (dead : Option DeadPages) → dead ≡ None → HasDeadPages m i dead → NeedsPages m.memory.region m.sup i
+none_dead m i dead is found = subst (HasDeadPages m i) is found
 
--- as many turns are left as the log may have pages
-pub left_some : (b c : Mount RegionState) (i gone pages : ℕ) (block : Option ℕ) → is_none block ≡ false → LogAfter b c i block → ((n : ℕ) → gone + n ≡ pages → HasAtMost b i n) → (n : ℕ) → gone + 1 + n ≡ pages → HasAtMost c i n
-left_some b c i gone pages None is log left n e = absurd (cc)
-left_some b c i gone pages (Some block) is log left n e = log n (left (n + 1) (omega (arith, e)))
+pub known_next : (m : Mount RegionState) (i place count : ℕ) → HasTurns m i place (suc count) → IsKnown m.memory.region m.sup i (Some place)
+known_next m i place count turns held h shown there = (turns held h shown there).0
 
-pub left_first : (m : Mount RegionState) (kept : Keeps m) (can : CanClean m) (i pages : ℕ) (row : Row) → row_of m.rows i ≡ Some row → pages ≡ length row.pages.items → (n : ℕ) → 0 + n ≡ pages → HasAtMost m i n
+pub first_turns : (m : Mount RegionState) (i : ℕ) (dead : DeadPages) → HasDeadPages m i (Some dead) → HasTurns m i dead.first dead.count
+first_turns m i dead found held h shown there = (found held h shown there).1
+
+pub left_first : (m : Mount RegionState) (kept : Keeps m) (can : CanClean m) (i pages : ℕ) (row : Row) → row_of m.rows i ≡ Some row → pages ≡ length row.pages.items → (n : ℕ) → pages ≤ 0 + n → HasAtMost m i n
 left_first m kept can i pages row some is n e held h shown there = let most = as_in_row m kept can i row some held h shown there in omega (arith, most, is, e)
 
 pub short_one : (m : Mount RegionState) (i : ℕ) → NeedsPages m.memory.region m.sup i → AreShort m (which.Of i)

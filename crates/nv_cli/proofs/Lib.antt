@@ -5,6 +5,7 @@ pub mod LineReplies
 pub mod OneTranscript
 pub mod HintReplies
 pub mod Ending
+pub mod Kept
 pub mod ShellLines
 pub mod Pieces
 pub mod Looks

@@ -1,6 +1,6 @@
 -- What the answer to a line of a shell says of the lines that are reached: `number` is the line's number, and `state` and `mid`
 -- are the states before and after it.
-use Rattle.std.proofs.Common.{◌≡◌, ◌+◌, ◌++◌, ℕ, List, [], ◌∷◌, Option, Some, None, refl, inl, inr, ap, sym, ◌∙◌, append-nil, string_bytes}
+use Rattle.std.proofs.Common.{◌≡◌, ◌+◌, ◌++◌, ℕ, List, [], ◌∷◌, Option, Some, None, refl, inl, inr, ap, sym, ◌∙◌, append_assoc, append-nil, string_bytes}
 use Rattle.std.specs.Prelude.{String}
 use Rattle.std.specs.declared.alloc.Global.{Global}
 use Rattle.std.specs.Io.KnownBytes.{Appends, Keeps}
@@ -18,92 +18,101 @@ use Rattle.nv_report.specs.Last.{status_of}
 use Rattle.nv_line.specs.Request.{Recover}
 use Rattle.nv_session.specs.Machine.{State, Step, state_with}
 use Rattle.nv_cli.specs.Transcript.{WritesAll, WritesShort, WritesWhole, FailsScript}
-use Rattle.nv_cli.specs.Shell.{ShowsLinesEnd, ShowsAnyLines, ShowsShell, ShowsAnyShell, Answers, KnownAnswers, AnswersLine}
+use Rattle.nv_cli.specs.Shell.{Kept, ShowsLinesEnd, ShowsAnyLines, ShowsShell, ShowsAnyShell, Answers, KnownAnswers, AnswersLine}
 use Rattle.nv_cli.specs.declared.shell.Answer.{Answer}
 use Rattle.nv_cli.specs.declared.shell.Answer.TheVariants.{End, Text, TooLong}
 use Rattle.nv_cli.proofs.Ending.{Weaker}
-use Rattle.nv_cli.proofs.KnownProgress.{GoesOn, Ends, EndsInside}
+use Rattle.nv_cli.proofs.KnownProgress.{KnownProgress, GoesOn, Ends, EndsInside, known_on}
 
-module _ (left after now then : Option (List ℕ)) (number : ℕ) (state mid : State) where
+module _ (left after now then : Option (List ℕ)) (number : ℕ) (state mid : State) (here : List Kept) where
   module _ (region : Option Region) where
-    pub shell_goes_on : (text : String Global) → KnownAnswers number left after state (Text text) mid → Appends now then (string_bytes text)
-        → IfKnown left after (λ input rest. GoesOn (ShowsLinesEnd number state region) (ShowsLinesEnd (number + 1) mid region) now then input rest)
-    shell_goes_on text answers added = known_map left after _ _ (λ input rest (r : Answers number input rest state (Text text) mid). record {
+    shell_goes_on : (later : List Kept) (text : String Global) → KnownAnswers number left after state (Text text) here mid → Appends now then (string_bytes text)
+        → IfKnown left after (λ input rest. GoesOn (ShowsLinesEnd number state (here ++ later) region) (ShowsLinesEnd (number + 1) mid later region) now then input rest)
+    shell_goes_on later text answers added = known_map left after _ _ (λ input rest (r : Answers number input rest state (Text text) here mid). record {
       line = r.0;
       first = string_bytes text;
       read = r.1;
       added = added;
-      step = λ more others status shown. (shown.0, inr (inr (r.2, string_bytes text, others, mid, r.3, shown.1, refl)), shown.2);
+      step = λ more others status shown. (shown.0, inr (inr (r.2, string_bytes text, others, here, later, mid, r.3, shown.1, refl, refl)), shown.2);
     }) answers
 
-    ends_with : (status : ℕ) (input rest : List ℕ) → Answers number input rest state End mid → status ≡ status_of mid.last → mid.region ≡ region → Ends (ShowsLinesEnd number state region) now now input status
-    ends_with status input rest (inl none, same) is there =
+    ends_with : (status : ℕ) (input rest : List ℕ) → Answers number input rest state End here mid → status ≡ status_of mid.last → mid.region ≡ region → Ends (ShowsLinesEnd number state here region) now now input status
+    ends_with status input rest (inl none, kept, same) is there =
         let lines : lines_of input ≡ [] = ap lines_of none in
         let last : status ≡ status_of state.last = is ∙ ap (λ (s : State). status_of s.last) same in
-        let here : state.region ≡ region = ap (λ (s : State). s.region) (sym same) ∙ there in
-        record { text = []; added = appends_none now; shown = rw lines (state, (refl, last, refl), here) }
-    ends_with status input rest (inr quit, same) is there =
+        let ended : state.region ≡ region = ap (λ (s : State). s.region) (sym same) ∙ there in
+        record { text = []; added = appends_none now; shown = rw lines (state, (kept, refl, last, refl), ended) }
+    ends_with status input rest (inr quit, kept, same) is there =
         let last : status ≡ status_of state.last = is ∙ ap (λ (s : State). status_of s.last) same in
-        let here : state.region ≡ region = ap (λ (s : State). s.region) (sym same) ∙ there in
-        record { text = []; added = appends_none now; shown = rw quit.1 (state, inl (refl, refl, last, refl), here) }
+        let ended : state.region ≡ region = ap (λ (s : State). s.region) (sym same) ∙ there in
+        record { text = []; added = appends_none now; shown = rw quit.1 (state, inl (refl, kept, refl, last, refl), ended) }
 
-    pub shell_ends : (status : ℕ) → KnownAnswers number left after state End mid → status ≡ status_of mid.last → mid.region ≡ region → IfKnown left after (λ input rest. Ends (ShowsLinesEnd number state region) now now input status)
-    shell_ends status answers is there = known_map left after _ _ (λ input rest (r : Answers number input rest state End mid). ends_with status input rest r is there) answers
+    pub shell_ends : (status : ℕ) → KnownAnswers number left after state End here mid → status ≡ status_of mid.last → mid.region ≡ region → IfKnown left after (λ input rest. Ends (ShowsLinesEnd number state here region) now now input status)
+    shell_ends status answers is there = known_map left after _ _ (λ input rest (r : Answers number input rest state End here mid). ends_with status input rest r is there) answers
 
-    pub too_long_ends : KnownAnswers number left after state TooLong mid → Appends now then (bad_line number) → mid.region ≡ region → IfKnown left after (λ input rest. Ends (ShowsLinesEnd number state region) now then input 2)
-    too_long_ends answers added there = known_map left after _ _ (λ input rest (r : Answers number input rest state TooLong mid).
-        let here : state.region ≡ region = ap (λ (s : State). s.region) (sym r.4) ∙ there in
-        record { text = bad_line number; added = added; shown = rw r.2 (state, inr (inl (r.3, refl, refl, refl)), here) }) answers
+    pub too_long_ends : KnownAnswers number left after state TooLong here mid → Appends now then (bad_line number) → mid.region ≡ region → IfKnown left after (λ input rest. Ends (ShowsLinesEnd number state here region) now then input 2)
+    too_long_ends answers added there = known_map left after _ _ (λ input rest (r : Answers number input rest state TooLong here mid).
+        let ended : state.region ≡ region = ap (λ (s : State). s.region) (sym r.5) ∙ there in
+        record { text = bad_line number; added = added; shown = rw r.2 (state, inr (inl (r.3, r.4, refl, refl, refl)), ended) }) answers
 
-  pub shell_ends_inside : (text : String Global) → KnownAnswers number left after state (Text text) mid → AppendsShort now then (string_bytes text) → IfKnown left after (λ input rest. EndsInside (ShowsLinesEnd number state mid.region) now then input)
-  shell_ends_inside text answers added = known_map left after _ _ (λ input rest (r : Answers number input rest state (Text text) mid). record {
+    -- how far the lines have come after one more
+    pub line_on : (begin : State) (given later : List Kept) (known old : Option (List ℕ)) (text : String Global)
+        → KnownProgress (ShowsLinesEnd 1 begin (given ++ (here ++ later)) region) (ShowsLinesEnd number state (here ++ later) region) known left old now
+        → KnownAnswers number left after state (Text text) here mid → Appends now then (string_bytes text)
+        → KnownProgress (ShowsLinesEnd 1 begin ((given ++ here) ++ later) region) (ShowsLinesEnd (number + 1) mid later region) known after old then
+    line_on begin given later known old text p answers added = rw (append_assoc given here later)
+        (known_on (ShowsLinesEnd 1 begin (given ++ (here ++ later)) region) old (ShowsLinesEnd number state (here ++ later) region) now (ShowsLinesEnd (number + 1) mid later region) known left after then p
+        (shell_goes_on later text answers added))
+
+  pub shell_ends_inside : (text : String Global) → KnownAnswers number left after state (Text text) here mid → AppendsShort now then (string_bytes text) → IfKnown left after (λ input rest. EndsInside (ShowsLinesEnd number state here mid.region) now then input)
+  shell_ends_inside text answers added = known_map left after _ _ (λ input rest (r : Answers number input rest state (Text text) here mid). record {
     line = r.0;
     behind = lines_of rest;
     text = string_bytes text;
     status = status_of mid.last;
     read = r.1;
     added = added;
-    shown = (mid, inr (inr (r.2, string_bytes text, [], mid, r.3, (refl, refl, refl), sym (append-nil (string_bytes text)))), refl);
+    shown = (mid, inr (inr (r.2, string_bytes text, [], here, [], mid, r.3, (refl, refl, refl, refl), sym (append-nil (string_bytes text)), sym (append-nil here))), refl);
   }) answers
 
-  pub too_long_ends_inside : KnownAnswers number left after state TooLong mid → AppendsShort now then (bad_line number) → IfKnown left after (λ input rest. EndsInside (ShowsLinesEnd number state state.region) now then input)
-  too_long_ends_inside answers added = known_map left after _ _ (λ input rest (r : Answers number input rest state TooLong mid). record {
+  pub too_long_ends_inside : KnownAnswers number left after state TooLong here mid → AppendsShort now then (bad_line number) → IfKnown left after (λ input rest. EndsInside (ShowsLinesEnd number state here state.region) now then input)
+  too_long_ends_inside answers added = known_map left after _ _ (λ input rest (r : Answers number input rest state TooLong here mid). record {
     line = r.0;
     behind = r.1;
     text = bad_line number;
     status = 2;
     read = r.2;
     added = added;
-    shown = (state, inr (inl (r.3, refl, refl, refl)), refl);
+    shown = (state, inr (inl (r.3, r.4, refl, refl, refl)), refl);
   }) answers
 
 -- ---- a line that was read
 
-pub long_line : (number : ℕ) (left after : Option (List ℕ)) (line : List ℕ) (state : State) → TakesKnownLine left after nexts.TooLong line → KnownAnswers number left after state TooLong state
-long_line number left after line state taken = known_map left after _ _ (λ input rest (t : TakesLine input rest nexts.TooLong line). (t.0, t.1, t.2, t.3, refl)) taken
+pub long_line : (number : ℕ) (left after : Option (List ℕ)) (line : List ℕ) (state : State) → TakesKnownLine left after nexts.TooLong line → KnownAnswers number left after state TooLong [] state
+long_line number left after line state taken = known_map left after _ _ (λ input rest (t : TakesLine input rest nexts.TooLong line). (t.0, t.1, t.2, t.3, refl, refl)) taken
 
-pub no_line : (number : ℕ) (left after : Option (List ℕ)) (line : List ℕ) (state : State) → TakesKnownLine left after nexts.End line → KnownAnswers number left after state End state
-no_line number left after line state taken = known_map left after _ _ (λ input rest (t : TakesLine input rest nexts.End line). (inl t, refl)) taken
+pub no_line : (number : ℕ) (left after : Option (List ℕ)) (line : List ℕ) (state : State) → TakesKnownLine left after nexts.End line → KnownAnswers number left after state End [] state
+no_line number left after line state taken = known_map left after _ _ (λ input rest (t : TakesLine input rest nexts.End line). (inl t, refl, refl)) taken
 
-pub line_answers : (number : ℕ) (left after : Option (List ℕ)) (line : List ℕ) (old new : State) (answer : Answer) → TakesKnownLine left after nexts.Line line → AnswersLine number line old answer new → KnownAnswers number left after old answer new
-line_answers number left after line old new End taken answers = known_map left after _ _ (λ input rest (t : TakesLine input rest nexts.Line line). (inr (lines_of rest, t.0 ∙ ap (λ x. x ∷ lines_of rest) answers.0), answers.1)) taken
-line_answers number left after line old new (Text text) taken answers = known_map left after _ _ (λ input rest (t : TakesLine input rest nexts.Line line). (line, t.0, t.1, answers)) taken
-line_answers number left after line old new TooLong taken answers = absurd answers
+pub line_answers : (number : ℕ) (left after : Option (List ℕ)) (line : List ℕ) (old new : State) (answer : Answer) (kept : List Kept) → TakesKnownLine left after nexts.Line line → AnswersLine number line old answer kept new → KnownAnswers number left after old answer kept new
+line_answers number left after line old new End kept taken answers = known_map left after _ _ (λ input rest (t : TakesLine input rest nexts.Line line). (inr (lines_of rest, t.0 ∙ ap (λ x. x ∷ lines_of rest) answers.0), answers.1, answers.2)) taken
+line_answers number left after line old new (Text text) kept taken answers = known_map left after _ _ (λ input rest (t : TakesLine input rest nexts.Line line). (line, t.0, t.1, answers)) taken
+line_answers number left after line old new TooLong kept taken answers = absurd answers
 
 -- ---- behind the first answer
 
-pub any_lines : (begin : State) (region : Option Region) → Weaker (ShowsLinesEnd 1 begin region) (ShowsAnyLines 1 begin)
-any_lines begin region lines text status s = (s.0, s.1)
+pub any_lines : (begin : State) (kept : List Kept) (region : Option Region) → Weaker (ShowsLinesEnd 1 begin kept region) (ShowsAnyLines 1 begin kept)
+any_lines begin kept region lines text status s = (s.0, s.1)
 
 -- a transcript that goes on behind a text
 abbrev Behind : List ℕ → (first second : List (List ℕ) → List ℕ → ℕ → Type 0) → Type 0
 Behind front first second = (lines : List (List ℕ)) (text : List ℕ) (status : ℕ) → first lines text status → second lines (front ++ text) status
 
-pub shell_behind : (R : Region) (workers : ℕ) (region : Option Region) (mid : State) (front : List ℕ) → Step (state_with R) (Recover workers) front mid → Behind front (ShowsLinesEnd 1 mid region) (ShowsShell R workers region)
-shell_behind R workers region mid front step lines text status s = (front, text, mid, step, s, refl)
+pub shell_behind : (R : Region) (workers : ℕ) (kept : List Kept) (region : Option Region) (mid : State) (front : List ℕ) → Step (state_with R) (Recover workers) front mid → Behind front (ShowsLinesEnd 1 mid kept region) (ShowsShell R workers kept region)
+shell_behind R workers kept region mid front step lines text status s = (front, text, mid, step, s, refl)
 
-pub any_behind : (R : Region) (workers : ℕ) (mid : State) (front : List ℕ) → Step (state_with R) (Recover workers) front mid → Behind front (ShowsAnyLines 1 mid) (ShowsAnyShell R workers)
-any_behind R workers mid front step lines text status s = (s.0.region, (front, text, mid, step, (s.0, s.1, refl), refl))
+pub any_behind : (R : Region) (workers : ℕ) (kept : List Kept) (mid : State) (front : List ℕ) → Step (state_with R) (Recover workers) front mid → Behind front (ShowsAnyLines 1 mid kept) (ShowsAnyShell R workers kept)
+any_behind R workers kept mid front step lines text status s = (s.0.region, (front, text, mid, step, (s.0, s.1, refl), refl))
 
 module _ (front : List ℕ) (first second : List (List ℕ) → List ℕ → ℕ → Type 0) (behind : Behind front first second) (old mid : Option (List ℕ)) (added : Appends old mid front) where
   pub all_behind : (known new : Option (List ℕ)) (status : ℕ) → WritesAll first known mid new status → WritesAll second known old new status
@@ -124,10 +133,10 @@ module _ (front : List ℕ) (first second : List (List ℕ) → List ℕ → ℕ
   fails_behind errors.Memory known new w = whole_behind known new w
 
 -- the first answer wasn't written whole
-pub first_short : (R : Region) (workers : ℕ) (mid : State) (front : List ℕ) → Step (state_with R) (Recover workers) front mid → (known old new : Option (List ℕ)) → AppendsShort old new front → WritesShort (ShowsAnyShell R workers) known old new
+pub first_short : (R : Region) (workers : ℕ) (mid : State) (front : List ℕ) → Step (state_with R) (Recover workers) front mid → (known old new : Option (List ℕ)) → AppendsShort old new front → WritesShort (ShowsAnyShell R workers []) known old new
 first_short R workers mid front step None old new added = tt
 first_short R workers mid front step (Some input) old new added =
-    (0, front, status_of mid.last, added, (mid.region, (front, [], mid, step, (mid, (refl, refl, refl), refl), sym (append-nil front))))
+    (0, front, status_of mid.last, added, (mid.region, (front, [], mid, step, (mid, (refl, refl, refl, refl), refl), sym (append-nil front))))
 
 -- nothing was written
 pub keeps_same : (known : Option (List ℕ)) → Keeps known known

@@ -7,6 +7,8 @@ use Rattle.nv_super.specs.declared.superblock.Super.{Super}
 use Rattle.nv_super.specs.declared.owners.Owner.TheVariants as owners
 use Rattle.nv_super.specs.Layout.{fixed_layout}
 use Rattle.nv_scan.specs.Dead.{IsFirstDead}
+use Rattle.nv_scan.specs.InTurn.{AreDeadPages, GoInTurn}
+use Rattle.nv_scan.specs.declared.in_turn.DeadPages.{DeadPages}
 use Rattle.nv_scan.specs.Owners.{Owns}
 use Rattle.nv_report.specs.nv_outcome.nv_journal.Undo.{undone}
 use Rattle.nv_report.specs.nv_outcome.Outcome.{Outcome, IsFree, IsOutcome}
@@ -126,10 +128,17 @@ pub record CanClean (m : Mount RegionState) : Type 0 where
 abbrev pub HasAtMost : Mount RegionState → ℕ → ℕ → Type 0
 HasAtMost m i n = (held : Store) (h : Held) → ShowsSound m.memory.region m.sup held → held i ≡ Some h → length h.pages ≤ n
 
--- where a page went, one fewer is left, and else the log needs each
-abbrev pub LogAfter : Mount RegionState → Mount RegionState → ℕ → Option ℕ → Type 0
-LogAfter old new i None = NeedsPages new.memory.region new.sup i
-LogAfter old new i (Some block) = (n : ℕ) → HasAtMost old i (n + 1) → HasAtMost new i n
+-- so many pages fewer are left in the log of this inode
+abbrev pub HasFewer : Mount RegionState → Mount RegionState → ℕ → ℕ → Type 0
+HasFewer old new i gone = (n : ℕ) → HasAtMost old i (gone + n) → HasAtMost new i n
+
+-- so many pages of the log of this inode go one after another, which have this place when they go
+abbrev pub HasTurns : Mount RegionState → ℕ → ℕ → ℕ → Type 0
+HasTurns m i k n = (held : Store) (h : Held) → ShowsSound m.memory.region m.sup held → held i ≡ Some h → GoInTurn m.sup h.kind i h.created k n h.entries h.pages
+
+-- the log of this inode needs each of its pages, or these go one after another
+abbrev pub HasDeadPages : Mount RegionState → ℕ → Option DeadPages → Type 0
+HasDeadPages m i dead = (held : Store) (h : Held) → ShowsSound m.memory.region m.sup held → held i ≡ Some h → AreDeadPages m.sup h.kind i h.created h.entries h.pages dead
 
 -- the log of this inode is one of these
 abbrev pub IsOneOf : Logs → ℕ → Type 0
@@ -139,11 +148,6 @@ IsOneOf which.All j = ⊤
 -- these logs are those that are to be cleaned
 abbrev pub AreAsked : Tree → Option (List ℕ) → Logs → Type 0
 AreAsked t path logs = (i : ℕ) → IsAskedFor t path i ↔ IsOneOf logs i
-
--- how many pages went: none or one
-abbrev pub page_count : Option ℕ → ℕ
-page_count None = 0
-page_count (Some block) = 1
 
 -- So many pages went, of these logs, and the tree is the same, as are length, superblock and faults. Where none went, the region
 -- is as before.

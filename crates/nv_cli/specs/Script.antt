@@ -1,5 +1,5 @@
 -- What a script may print, and the exit status with which it may end.
-use Rattle.std.specs.Prelude.{◌≡◌, ◌⊎◌, ◌≤◌, ◌+◌, false, ℕ, List, [], ◌∷◌, ◌++◌, length, Option}
+use Rattle.std.specs.Prelude.{◌≡◌, ◌⊎◌, ◌≤◌, ◌+◌, true, false, ⊤, ℕ, List, [], ◌∷◌, ◌++◌, length, Option}
 use Rattle.nv_region.specs.Region.{Region}
 use Rattle.std.specs.List.{AllByRecursion}
 use Rattle.nv_region.specs.declared.memory.Fuse.{Fuse}
@@ -10,6 +10,7 @@ use Rattle.nv_line.specs.Spelling.{Says}
 use Rattle.nv_line.specs.Lines.{IsSkipped, IsBad}
 use Rattle.nv_text.specs.Answers.{bad_line}
 use Rattle.nv_report.specs.Last.{status_of}
+use Rattle.nv_session.specs.Alike.{handles_words}
 use Rattle.nv_session.specs.Machine.{State, first_state, Step, writes}
 use Rattle.nv_session.specs.Sessions.{StandsFor}
 use Rattle.nv_session.specs.declared.session.Session.{Session}
@@ -57,9 +58,18 @@ FromEach session P = (state : State) → StandsFor session state → P state
 abbrev pub SetsNoStop : List (List ℕ) → Type 0
 SetsNoStop lines = AllByRecursion (λ line. (fuse : Fuse) (keep : Keep) → Says line (Stop fuse keep) → ⊥) lines
 
--- no line is a file call that writes
-abbrev pub WritesNothing : List (List ℕ) → Type 0
-WritesNothing lines = AllByRecursion (λ line. (request : Request) → Says line request → writes request ≡ false) lines
+-- no line shows or sets words by their addresses
+abbrev pub HandlesNoWords : List (List ℕ) → Type 0
+HandlesNoWords lines = AllByRecursion (λ line. (request : Request) → Says line request → handles_words request ≡ false) lines
+
+-- the line is a file call that writes
+abbrev pub CallsToWrite : List ℕ → Type 0
+CallsToWrite line = (request : Request) × Says line request × (writes request ≡ true)
+
+-- Behind a file call that writes no line shows or sets words by their addresses: no `peek`, no `poke` and no `cut`.
+abbrev pub HandlesWordsFirst : List (List ℕ) → Type 0
+HandlesWordsFirst [] = ⊤
+HandlesWordsFirst (line ∷ lines) = (CallsToWrite line → HandlesNoWords lines) × HandlesWordsFirst lines
 
 -- what a whole script may print, and its exit status
 abbrev pub ShowsScript : List (List ℕ) → List ℕ → ℕ → Type 0

@@ -1,5 +1,5 @@
 -- What a shell may print: it runs the commands of scripts and a few of its own, and a bad line doesn't end it.
-use Rattle.std.specs.Prelude.{◌≡◌, ◌⊎◌, ◌≤◌, ◌<◌, ◌+◌, ℕ, List, [], ◌∷◌, ◌++◌, length, Option, Some, None, codes, string_bytes}
+use Rattle.std.specs.Prelude.{◌≡◌, ◌⊎◌, ◌≤◌, ◌<◌, ◌+◌, ℕ, List, [], ◌∷◌, ◌++◌, length, Bool, true, false, Option, Some, None, codes, string_bytes, ⊤}
 use Rattle.std.specs.Io.KnownBytes.{Keeps}
 use Rattle.nv_region.specs.Region.{Region}
 use Rattle.nv_stream.specs.Known.{IfKnown}
@@ -18,9 +18,34 @@ use Rattle.nv_cli.specs.declared.shell.Own.TheVariants.{Help, Quit, Save, SaveAs
 use Rattle.nv_cli.specs.declared.shell.Answer.{Answer}
 use Rattle.nv_cli.specs.declared.shell.Answer.TheVariants.{End, Text, TooLong}
 
--- the line asks for the region to be kept in a file, the one that it came from or another
+-- A region that was kept, and the path of the file where that isn't the one from which the region came.
+pub record Kept : Type 0 where
+  pub region : Region
+  pub path : Option (List ℕ)
+
+-- a list of what was kept grows by this, where it is known
+abbrev pub Grows : Option (List Kept) → Option (List Kept) → List Kept → Type 0
+Grows None new more = ⊤
+Grows (Some old) None more = ⊥
+Grows (Some old) (Some new) more = new ≡ old ++ more
+
+-- it grows by some of which this holds
+abbrev pub GrowsBy : Option (List Kept) → Option (List Kept) → (List Kept → Type 0) → Type 0
+GrowsBy old new P = (more : List Kept) × Grows old new more × P more
+
+-- what is kept where one is asked to keep this, and answers so
+abbrev pub kept_by : Bool → Region → Option (List ℕ) → List Kept
+kept_by true R path = record { region = R; path = path } ∷ []
+kept_by false R path = []
+
+-- the line asks for the region to be kept in the file from which it came, or in another
+abbrev pub AsksSaveIn : List ℕ → Option (List ℕ) → Type 0
+AsksSaveIn said None = said ≡ codes "save"
+AsksSaveIn said (Some path) = said ≡ codes "save " ++ path
+
+-- the line asks for the region to be kept
 abbrev pub AsksSave : List ℕ → Type 0
-AsksSave said = (said ≡ codes "save") ⊎ ((path : List ℕ) × (said ≡ codes "save " ++ path))
+AsksSave said = (path : Option (List ℕ)) × AsksSaveIn said path
 
 -- the line is a command of the shell's own
 abbrev pub IsOwn : List ℕ → Type 0
@@ -34,53 +59,60 @@ help_text = codes "list PATH\nstat PATH\nread PATH OFFSET COUNT\ncreate CPU PATH
 abbrev pub not_saved_line : List ℕ
 not_saved_line = line (codes "not saved")
 
--- what `save` may print, where there is a region and where there is none
-abbrev pub IsSaveAnswer : Option Region → List ℕ → Type 0
-IsSaveAnswer None text = text ≡ not_saved_line
-IsSaveAnswer (Some R) text = (text ≡ ok_line) ⊎ (text ≡ not_saved_line)
+-- What `save` prints, and what is kept: `ok` where there is a region and it is kept, and else that nothing is.
+abbrev pub IsSaveAnswer : Option Region → Option (List ℕ) → List ℕ → List Kept → Type 0
+IsSaveAnswer None path text kept = (text ≡ not_saved_line) × (kept ≡ [])
+IsSaveAnswer (Some R) path text kept = ((text ≡ ok_line) × (kept ≡ kept_by true R path)) ⊎ ((text ≡ not_saved_line) × (kept ≡ []))
 
--- What the line of this number prints and leaves, if it doesn't end the shell: help, what `save` answers, nothing for a line
--- that is skipped, what a command may print, or that the line is bad.
+-- the line asks for the region to be kept, and this is the answer
+abbrev pub Saves : State → List ℕ → List ℕ → List Kept → Type 0
+Saves old said text kept = (path : Option (List ℕ)) × AsksSaveIn said path × IsSaveAnswer old.region path text kept
+
+-- What the line of this number prints and leaves that keeps nothing, and doesn't end the shell: help, nothing for a line that
+-- is skipped, what a command may print, or that the line is bad.
 abbrev pub Tells : ℕ → State → List ℕ → List ℕ → State → Type 0
 Tells number old said text new =
     ((said ≡ codes "help") × (text ≡ help_text) × (new ≡ old))
-    ⊎ (AsksSave said × IsSaveAnswer old.region text × (new ≡ old))
     ⊎ (IsSkipped said × (text ≡ []) × (new ≡ old))
     ⊎ Runs said old text new
     ⊎ ((IsOwn said → ⊥) × IsBad said × (text ≡ bad_line number) × (new ≡ old))
 
--- The lines from this number on may print this text, end with this status and in this state, from a state on. The shell ends
--- with its last line, at `quit`, or at a line that is too long, which is bad.
-abbrev pub ShowsLines : ℕ → State → List (List ℕ) → List ℕ → ℕ → State → Type 0
-ShowsLines number old [] text status end = (text ≡ []) × (status ≡ status_of old.last) × (end ≡ old)
-ShowsLines number old (said ∷ lines) text status end =
-    ((said ≡ codes "quit") × (text ≡ []) × (status ≡ status_of old.last) × (end ≡ old))
-    ⊎ ((line_limit < length said) × (text ≡ bad_line number) × (status ≡ 2) × (end ≡ old))
-    ⊎ ((length said ≤ line_limit) × (first : List ℕ) × (rest : List ℕ) × (mid : State)
-    × Tells number old said first mid × ShowsLines (number + 1) mid lines rest status end × (text ≡ first ++ rest))
+-- what a line prints, keeps and leaves that doesn't end the shell
+abbrev pub Does : ℕ → State → List ℕ → List ℕ → List Kept → State → Type 0
+Does number old said text kept new = (Saves old said text kept × (new ≡ old)) ⊎ (Tells number old said text new × (kept ≡ []))
+
+-- The lines from this number on may print this text, keep these regions, end with this status and in this state, from a state
+-- on. The shell ends with its last line, at `quit`, or at a line that is too long, which is bad.
+abbrev pub ShowsLines : ℕ → State → List Kept → List (List ℕ) → List ℕ → ℕ → State → Type 0
+ShowsLines number old kept [] text status end = (kept ≡ []) × (text ≡ []) × (status ≡ status_of old.last) × (end ≡ old)
+ShowsLines number old kept (said ∷ lines) text status end =
+    ((said ≡ codes "quit") × (kept ≡ []) × (text ≡ []) × (status ≡ status_of old.last) × (end ≡ old))
+    ⊎ ((line_limit < length said) × (kept ≡ []) × (text ≡ bad_line number) × (status ≡ 2) × (end ≡ old))
+    ⊎ ((length said ≤ line_limit) × (first : List ℕ) × (rest : List ℕ) × (here : List Kept) × (later : List Kept) × (mid : State)
+    × Does number old said first here mid × ShowsLines (number + 1) mid later lines rest status end × (text ≡ first ++ rest) × (kept ≡ here ++ later))
 
 -- the same of lines that end with this region
-abbrev pub ShowsLinesEnd : ℕ → State → Option Region → List (List ℕ) → List ℕ → ℕ → Type 0
-ShowsLinesEnd number old region lines text status = (end : State) × ShowsLines number old lines text status end × (end.region ≡ region)
+abbrev pub ShowsLinesEnd : ℕ → State → List Kept → Option Region → List (List ℕ) → List ℕ → ℕ → Type 0
+ShowsLinesEnd number old kept region lines text status = (end : State) × ShowsLines number old kept lines text status end × (end.region ≡ region)
 
 -- the same, whatever region there is at its end
-abbrev pub ShowsAnyLines : ℕ → State → List (List ℕ) → List ℕ → ℕ → Type 0
-ShowsAnyLines number old lines text status = (end : State) × ShowsLines number old lines text status end
+abbrev pub ShowsAnyLines : ℕ → State → List Kept → List (List ℕ) → List ℕ → ℕ → Type 0
+ShowsAnyLines number old kept lines text status = (end : State) × ShowsLines number old kept lines text status end
 
--- What a shell on a region may print that ends with this region, and its exit status: it recovers the region with so many
--- workers first.
-abbrev pub ShowsShell : Region → ℕ → Option Region → List (List ℕ) → List ℕ → ℕ → Type 0
-ShowsShell R workers region lines text status = (first : List ℕ) × (rest : List ℕ) × (mid : State)
-    × Step (state_with R) (Recover workers) first mid × ShowsLinesEnd 1 mid region lines rest status × (text ≡ first ++ rest)
+-- What a shell on a region may print that keeps these regions and ends with this one, and its exit status: it recovers the
+-- region with so many workers first.
+abbrev pub ShowsShell : Region → ℕ → List Kept → Option Region → List (List ℕ) → List ℕ → ℕ → Type 0
+ShowsShell R workers kept region lines text status = (first : List ℕ) × (rest : List ℕ) × (mid : State)
+    × Step (state_with R) (Recover workers) first mid × ShowsLinesEnd 1 mid kept region lines rest status × (text ≡ first ++ rest)
 
 -- the same, whatever region there is at its end
-abbrev pub ShowsAnyShell : Region → ℕ → List (List ℕ) → List ℕ → ℕ → Type 0
-ShowsAnyShell R workers lines text status = (region : Option Region) × ShowsShell R workers region lines text status
+abbrev pub ShowsAnyShell : Region → ℕ → List Kept → List (List ℕ) → List ℕ → ℕ → Type 0
+ShowsAnyShell R workers kept lines text status = (region : Option Region) × ShowsShell R workers kept region lines text status
 
--- What an error leaves: the whole output of the first lines, or less where the writer failed; and nothing where memory was
--- refused before the first answer.
-abbrev pub FailsShell : Region → ℕ → ScriptError → Option (List ℕ) → Option (List ℕ) → Option (List ℕ) → Type 0
-FailsShell R workers e known old new = ((e ≡ Memory) × Keeps old new) ⊎ FailsScript (ShowsAnyShell R workers) e known old new
+-- What an error leaves: the whole output of the first lines, which kept these regions, or less where the writer failed; and
+-- nothing where memory was refused before the first answer.
+abbrev pub FailsShell : Region → ℕ → List Kept → ScriptError → Option (List ℕ) → Option (List ℕ) → Option (List ℕ) → Type 0
+FailsShell R workers kept e known old new = ((e ≡ Memory) × (kept ≡ []) × Keeps old new) ⊎ FailsScript (ShowsAnyShell R workers kept) e known old new
 
 -- ---- within
 
@@ -91,18 +123,23 @@ Asks said Quit = said ≡ codes "quit"
 Asks said Save = said ≡ codes "save"
 Asks said (SaveAs path) = said ≡ codes "save " ++ path.now
 
--- what becomes of a line, and the state after it
-abbrev pub AnswersLine : ℕ → List ℕ → State → Answer → State → Type 0
-AnswersLine number said old End new = (said ≡ codes "quit") × (new ≡ old)
-AnswersLine number said old (Text text) new = Tells number old said (string_bytes text) new
-AnswersLine number said old TooLong new = ⊥
+-- nothing is kept for a line that prints nothing, or that is too long
+abbrev pub KeepsFor : Answer → List Kept → Type 0
+KeepsFor (Text text) kept = ⊤
+KeepsFor _ kept = kept ≡ []
+
+-- what becomes of a line, what is kept for it, and the state after it
+abbrev pub AnswersLine : ℕ → List ℕ → State → Answer → List Kept → State → Type 0
+AnswersLine number said old End kept new = (said ≡ codes "quit") × (kept ≡ []) × (new ≡ old)
+AnswersLine number said old (Text text) kept new = Does number old said (string_bytes text) kept new
+AnswersLine number said old TooLong kept new = ⊥
 
 -- from the input to what is left of it, and from a state to the next
-abbrev pub Answers : ℕ → List ℕ → List ℕ → State → Answer → State → Type 0
-Answers number input left old End new = ((input ≡ []) ⊎ ((more : List (List ℕ)) × (lines_of input ≡ codes "quit" ∷ more))) × (new ≡ old)
-Answers number input left old (Text text) new = (said : List ℕ) × (lines_of input ≡ said ∷ lines_of left) × (length said ≤ line_limit) × Tells number old said (string_bytes text) new
-Answers number input left old TooLong new = (said : List ℕ) × (more : List (List ℕ)) × (lines_of input ≡ said ∷ more) × (line_limit < length said) × (new ≡ old)
+abbrev pub Answers : ℕ → List ℕ → List ℕ → State → Answer → List Kept → State → Type 0
+Answers number input left old End kept new = ((input ≡ []) ⊎ ((more : List (List ℕ)) × (lines_of input ≡ codes "quit" ∷ more))) × (kept ≡ []) × (new ≡ old)
+Answers number input left old (Text text) kept new = (said : List ℕ) × (lines_of input ≡ said ∷ lines_of left) × (length said ≤ line_limit) × Does number old said (string_bytes text) kept new
+Answers number input left old TooLong kept new = (said : List ℕ) × (more : List (List ℕ)) × (lines_of input ≡ said ∷ more) × (line_limit < length said) × (kept ≡ []) × (new ≡ old)
 
 -- the same, where the input is known
-abbrev pub KnownAnswers : ℕ → Option (List ℕ) → Option (List ℕ) → State → Answer → State → Type 0
-KnownAnswers number known left old answer new = IfKnown known left (λ input rest. Answers number input rest old answer new)
+abbrev pub KnownAnswers : ℕ → Option (List ℕ) → Option (List ℕ) → State → Answer → List Kept → State → Type 0
+KnownAnswers number known left old answer kept new = IfKnown known left (λ input rest. Answers number input rest old answer kept new)

@@ -3,7 +3,7 @@
 //!
 //! If something is wrong with the region, or if the path leads to nothing, nothing is cleaned.
 
-ghost use Rattle.std.specs.Prelude.{◌≡◌, false, is_none, IfOk, OnOk, IsTrue, Some, option_map, string_bytes};
+ghost use Rattle.std.specs.Prelude.{◌≡◌, ◌<◌, ℕ, suc, false, is_none, IfOk, OnOk, IsTrue, Some, option_map, string_bytes};
 ghost use Rattle.std.specs.Result.{result_err};
 ghost use Rattle.nv_region.specs.Region.{Region};
 ghost use Rattle.nv_region.specs.RegionState.{is_steady};
@@ -11,12 +11,14 @@ ghost use Rattle.nv_report.specs.nv_outcome.Outcome.{Outcome};
 ghost use Rattle.nv_tree.specs.Path.{Says};
 ghost use Rattle.nv_tree.specs.Refusals.{Path, Tests, first_refusal, stat_tests};
 ghost use Rattle.nv_session.specs.nv_paths.Seen.{tree_of};
-ghost use Rattle.nv_cli.specs.Cleaning.{AreAsked, AreShort, AsksCleaning, CanClean, IsCleaned, IsOneOf, IsOpenedAs, LogAfter, LosesPages, page_count, pages_line};
+ghost use Rattle.nv_session.specs.nv_calls.CleanCall.{IsKnown};
+ghost use Rattle.nv_cli.specs.Cleaning.{AreAsked, AreShort, AsksCleaning, CanClean, HasDeadPages, HasFewer, HasTurns, IsCleaned, IsOneOf, IsOpenedAs, LosesPages, pages_line};
 ghost use Rattle.nv_cli.specs.declared.cleaning.Logs.TheVariants as which;
 
 use nv_checking::{Answer, recover_alone};
 use nv_region::MemRegion;
 use nv_report::refused_text;
+use nv_scan::DeadPages;
 use nv_session::{CallRefusal, Fs, keep_all, refused_call_text};
 use nv_text::Refusal;
 use std::alloc::{AllocError, Global};
@@ -191,25 +193,64 @@ fn clean_log(mount: &mut Fs<MemRegion>, inode: u64) -> Result<u64, AllocError>
         return Ok(0);
     };
     let pages = row.pages.len() as u64;
-    for gone in 0..pages {
-        if clean_page(mount, inode)?.is_none() {
+    let mut gone = 0;
+    while gone < pages {
+        let Some(dead) = dead_pages(mount, inode)? else {
             return Ok(gone);
-        }
+        };
+        let more = clean_run(mount, inode, dead)?;
+        gone += more;
     }
-    Ok(pages)
+    Ok(gone)
 }
 
-// Takes the first page out of the log of an inode in use that it can do without, if there is one.
-fn clean_page(mount: &mut Fs<MemRegion>, inode: u64) -> Result<Option<u64>, AllocError>
+// Pages that the log of an inode in use can do without, one after another, if it has one.
+fn dead_pages(mount: &Fs<MemRegion>, inode: u64) -> Result<Option<DeadPages>, AllocError>
+    requires can { CanClean mount.now }
+    requires used { is_none (tree_of mount.now.memory.region mount.now.rows inode) ≡ false }
+    ensures { IfOk result (HasDeadPages mount.now inode) }
+{
+    match mount.dead_pages(inode) {
+        Ok(dead) => Ok(dead),
+        Err(CallRefusal::Memory) => Err(AllocError),
+        // It may be written, and the inode is in use.
+        Err(_) => unreachable!(),
+    }
+}
+
+// Takes pages out of the log of an inode in use that go one after another. Answers how many they are.
+fn clean_run(mount: &mut Fs<MemRegion>, inode: u64, dead: DeadPages) -> Result<u64, AllocError>
     requires can { CanClean mount.old }
     requires used { is_none (tree_of mount.old.memory.region mount.old.rows inode) ≡ false }
-    ensures pages { IfOk result (λ block. LosesPages mount.old mount.new (IsOneOf (which.Of inode)) (page_count block)) }
-    ensures log { IfOk result (LogAfter mount.old mount.new inode) }
+    requires dead { HasDeadPages mount.old inode (Some dead) }
+    ensures pages { IfOk result (LosesPages mount.old mount.new (IsOneOf (which.Of inode))) }
+    ensures fewer { IfOk result (HasFewer mount.old mount.new inode) }
+    ensures some { IfOk result (λ gone. 0 < gone) }
 {
     // What it keeps is asked for below.
     mount.keeps();
-    match mount.clean_inode(inode) {
-        Ok(block) => Ok(block),
+    let count = dead.count as u64;
+    let mut gone = 0;
+    while gone < count {
+        clean_page(mount, inode, dead.first)?;
+        gone += 1;
+    }
+    Ok(gone)
+}
+
+// Takes the page of a place out of the log of an inode in use: the first that it can do without.
+fn clean_page(mount: &mut Fs<MemRegion>, inode: u64, place: usize) -> Result<(), AllocError>
+    requires can { CanClean mount.old }
+    requires used { is_none (tree_of mount.old.memory.region mount.old.rows inode) ≡ false }
+    requires known { IsKnown mount.old.memory.region mount.old.sup inode (Some place) }
+    ensures pages { OnOk result (LosesPages mount.old mount.new (IsOneOf (which.Of inode)) 1) }
+    ensures fewer { OnOk result (HasFewer mount.old mount.new inode 1) }
+    ensures rest { OnOk result ((n : ℕ) → HasTurns mount.old inode place (suc n) → HasTurns mount.new inode place n) }
+{
+    // What it keeps is asked for below.
+    mount.keeps();
+    match mount.clean_page(inode, Some(place)) {
+        Ok(_) => Ok(()),
         Err(CallRefusal::Memory) => Err(AllocError),
         // It may be written, the inode is in use, and nothing stops it.
         Err(_) => unreachable!(),

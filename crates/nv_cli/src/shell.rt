@@ -2,13 +2,13 @@
 //!
 //! As in a script, a line's whole text is made before a byte of it is written.
 
-ghost use Rattle.std.specs.Prelude.{◌≡◌, ◌≢◌, ◌++◌, IfOk, IfErr, IfSome, IfNone, option_map, string_bytes};
+ghost use Rattle.std.specs.Prelude.{◌≡◌, ◌≢◌, ◌++◌, IfOk, IfErr, IfSome, IfNone, OnErr, List, Option, None, [], option_map, string_bytes};
 ghost use Rattle.nv_session.specs.Sessions.{IsSettled, Leads, Moves, region_in};
 ghost use Rattle.nv_cli.specs.Script.{FromEach};
-ghost use Rattle.nv_cli.specs.Shell.{IsOwn, IsSaveAnswer, Tells, ShowsLinesEnd, ShowsAnyLines, ShowsShell, FailsShell, Asks, AnswersLine, KnownAnswers, help_text};
+ghost use Rattle.nv_cli.specs.Shell.{Kept, Grows, GrowsBy, kept_by, IsOwn, IsSaveAnswer, Tells, ShowsLinesEnd, ShowsAnyLines, ShowsShell, FailsShell, Asks, KeepsFor, AnswersLine, KnownAnswers, help_text};
 ghost use Rattle.nv_cli.specs.Transcript.{WritesAll, FailsScript};
 
-use crate::hinting::{Hint, Hints};
+use crate::hinting::Hint;
 use crate::script::{Ended, bad_line_text};
 use nv_line::{Command, Line, Reason, classify, why_bad};
 use nv_region::MemRegion;
@@ -26,13 +26,22 @@ const TOO_LONG_STATUS: u8 = 2;
 const HELP: &str =
     "list PATH\nstat PATH\nread PATH OFFSET COUNT\ncreate CPU PATH\nmkdir CPU PATH\nwrite CPU PATH OFFSET COUNT BYTE\nsize CPU PATH N\nattr CPU PATH MODE OWNER GROUP\nlink CPU OLD NEW\nunlink CPU PATH\nrmdir CPU PATH\nrename CPU OLD NEW\nclean PATH\ntree\nfree\nfaults\nreport\npeek AT\ntime T\nrecover WORKERS\nreplay WORKERS w w ..\nstop after|at N none|all|alternate\npoke AT VALUE\ncut LENGTH\nformat CPUS BLOCKS TABLES\nhelp\nquit\nsave\nsave PATH\n";
 
-/// What a shell leaves to the program that has it. Why a line is bad is told as a hint.
-pub trait Host: Hints {
+/// What a shell leaves to the program that has it.
+pub trait Host {
+    /// What was kept so far, where that is known.
+    ghost kept: { Self → Option (List Kept) } = { λ _. None };
+
     /// Is called before each line is read.
-    fn prompt(&mut self);
+    fn prompt(&mut self)
+        ensures { Grows (kept self.old) (kept self.new) [] };
+
+    /// Takes the reason why a line is bad.
+    fn give(&mut self, hint: Hint)
+        ensures { Grows (kept self.old) (kept self.new) [] };
 
     /// Keeps the region in the file of this path, or without one in that from which it came. Answers whether that was done.
-    fn save(&mut self, region: &MemRegion, path: Option<&[u8]>) -> bool;
+    fn save(&mut self, region: &MemRegion, path: Option<&[u8]>) -> bool
+        ensures { Grows (kept self.old) (kept self.new) (kept_by result region.now.region (option_map (λ path. path.now) path.entry)) };
 }
 
 /// Runs a shell on a region: recovers it with so many workers and prints the answer, and then reads lines, runs each, and prints
@@ -40,7 +49,7 @@ pub trait Host: Hints {
 /// that of a script, and the region that there is at the end. Nothing is pending in that.
 ///
 /// A bad line prints `bad line K`, and the host is told why. `help` prints the forms of all commands. `save` and `save PATH` ask
-/// the host to keep the region, and print `ok`, or `not saved` where it isn't kept or where there is none.
+/// the host to keep the region, and print `ok` where it is kept, and `not saved` where it isn't or where there is none.
 ///
 /// Errors: `Read` where the reader failed, `Write` where the writer failed, and `Memory` where a growth was refused; the region is
 /// gone then. With `Read` and `Memory` the whole output of the lines before was written, and with `Write` a front of it that
@@ -54,11 +63,12 @@ pub fn run_shell<H: Threads + Sync, R: Read + Drop, W: Write, P: Host>(
     writer: &mut W,
     host: &mut P,
 ) -> Result<Ended, ScriptError>
-    // What is written is what these lines may print, and status and region are those with which they may end.
-    ensures ok { IfOk result (λ ended. WritesAll (ShowsShell region.region workers (option_map (λ memory. memory.region) ended.region)) (R.remaining reader) (W.contents writer.old) (W.contents writer.new) ended.status) }
+    // What is written is what these lines may print that keep what the host has kept, and status and region are those with
+    // which they may end.
+    ensures ok { IfOk result (λ ended. GrowsBy (P.kept host.old) (P.kept host.new) (λ kept. WritesAll (ShowsShell region.region workers kept (option_map (λ memory. memory.region) ended.region)) (R.remaining reader) (W.contents writer.old) (W.contents writer.new) ended.status)) }
     // Nothing is pending in the region.
     ensures settled { IfOk result (λ ended. IfSome ended.region (λ memory. IsSettled memory)) }
-    ensures err { IfErr result (λ e. FailsShell region.region workers e (R.remaining reader) (W.contents writer.old) (W.contents writer.new)) }
+    ensures err { IfErr result (λ e. GrowsBy (P.kept host.old) (P.kept host.new) (λ kept. FailsShell region.region workers kept e (R.remaining reader) (W.contents writer.old) (W.contents writer.new))) }
 {
     let mut session = Session::with_region(region);
     let text = session.execute(rt, alloc, Command::Recover { workers })?;
@@ -79,8 +89,8 @@ fn run_in<H: Threads + Sync, R: Read + Drop, W: Write, P: Host>(
     writer: &mut W,
     host: &mut P,
 ) -> Result<u8, ScriptError>
-    ensures ok { IfOk result (λ status. FromEach session.old (λ begin. WritesAll (ShowsLinesEnd 1 begin (region_in session.new.store)) (R.remaining reader) (W.contents writer.old) (W.contents writer.new) status)) }
-    ensures err { IfErr result (λ e. FromEach session.old (λ begin. FailsScript (ShowsAnyLines 1 begin) e (R.remaining reader) (W.contents writer.old) (W.contents writer.new))) }
+    ensures ok { IfOk result (λ status. GrowsBy (P.kept host.old) (P.kept host.new) (λ kept. FromEach session.old (λ begin. WritesAll (ShowsLinesEnd 1 begin kept (region_in session.new.store)) (R.remaining reader) (W.contents writer.old) (W.contents writer.new) status))) }
+    ensures err { IfErr result (λ e. GrowsBy (P.kept host.old) (P.kept host.new) (λ kept. FromEach session.old (λ begin. FailsScript (ShowsAnyLines 1 begin kept) e (R.remaining reader) (W.contents writer.old) (W.contents writer.new)))) }
 {
     let Ok(mut reader) = BufReader::with_capacity(alloc, BUFFER_SIZE, reader) else {
         return Err(ScriptError::Memory);
@@ -110,8 +120,8 @@ fn run_lines<H: Threads + Sync, R: Read, W: Write, P: Host>(
     writer: &mut W,
     host: &mut P,
 ) -> Result<u8, ScriptError>
-    ensures ok { IfOk result (λ status. FromEach session.old (λ begin. WritesAll (ShowsLinesEnd 1 begin (region_in session.new.store)) (R.remaining reader.old) (W.contents writer.old) (W.contents writer.new) status)) }
-    ensures err { IfErr result (λ e. FromEach session.old (λ begin. FailsScript (ShowsAnyLines 1 begin) e (R.remaining reader.old) (W.contents writer.old) (W.contents writer.new))) }
+    ensures ok { IfOk result (λ status. GrowsBy (P.kept host.old) (P.kept host.new) (λ kept. FromEach session.old (λ begin. WritesAll (ShowsLinesEnd 1 begin kept (region_in session.new.store)) (R.remaining reader.old) (W.contents writer.old) (W.contents writer.new) status))) }
+    ensures err { IfErr result (λ e. GrowsBy (P.kept host.old) (P.kept host.new) (λ kept. FromEach session.old (λ begin. FailsScript (ShowsAnyLines 1 begin kept) e (R.remaining reader.old) (W.contents writer.old) (W.contents writer.new)))) }
 {
     'lines: for number in 1..u64::MAX {
         host.prompt();
@@ -138,7 +148,8 @@ fn next_answer<H: Threads + Sync, R: Read, P: Host>(
     reader: &mut R,
     host: &mut P,
 ) -> Result<Answer, ScriptError>
-    ensures answers { IfOk result (λ answer. Leads (λ old new. KnownAnswers number (R.remaining reader.old) (R.remaining reader.new) old answer new) session.old session.new) }
+    ensures answers { IfOk result (λ answer. GrowsBy (P.kept host.old) (P.kept host.new) (λ kept. KeepsFor answer kept × Leads (λ old new. KnownAnswers number (R.remaining reader.old) (R.remaining reader.new) old answer kept new) session.old session.new)) }
+    ensures none_kept { OnErr result (Grows (P.kept host.old) (P.kept host.new) []) }
     ensures kind { IfErr result (λ e. e ≢ ScriptError.Write) }
 {
     match read_line(reader, line)? {
@@ -156,11 +167,12 @@ fn answer_line<H: Threads + Sync, P: Host>(
     line: &[u8],
     host: &mut P,
 ) -> Result<Answer, AllocError>
-    ensures { IfOk result (λ answer. Leads (λ old new. AnswersLine number line.now old answer new) session.old session.new) }
+    ensures answers { IfOk result (λ answer. GrowsBy (P.kept host.old) (P.kept host.new) (λ kept. KeepsFor answer kept × Leads (λ old new. AnswersLine number line.now old answer kept new) session.old session.new)) }
+    ensures none_kept { OnErr result (Grows (P.kept host.old) (P.kept host.new) []) }
 {
     match own_command(line) {
         Some(Own::Quit) => Ok(Answer::End),
-        Some(Own::Help) => Ok(Answer::Text(help_text(alloc)?)),
+        Some(Own::Help) => Ok(Answer::Text(owned(alloc, HELP)?)),
         Some(Own::Save) => Ok(Answer::Text(save_text(alloc, session, None, host)?)),
         Some(Own::SaveAs(path)) => Ok(Answer::Text(save_text(alloc, session, Some(path), host)?)),
         None => Ok(Answer::Text(script_text(rt, alloc, session, number, line, host)?)),
@@ -199,7 +211,8 @@ fn script_text<H: Threads + Sync, P: Host>(
     host: &mut P,
 ) -> Result<String, AllocError>
     requires { IsOwn line.now → ⊥ }
-    ensures { IfOk result (λ text. Moves (λ old said new. Tells number old line.now said new) session.old (string_bytes text) session.new) }
+    ensures tells { IfOk result (λ text. Moves (λ old said new. Tells number old line.now said new) session.old (string_bytes text) session.new) }
+    ensures none_kept { Grows (P.kept host.old) (P.kept host.new) [] }
 {
     match classify(alloc, line)? {
         Line::Skipped => Ok(String::new(alloc)),
@@ -211,36 +224,32 @@ fn script_text<H: Threads + Sync, P: Host>(
     }
 }
 
-fn help_text(alloc: Global) -> Result<String, AllocError>
-    ensures { IfOk result (λ text. string_bytes text ≡ help_text) }
-{
-    let mut text = String::new(alloc);
-    text.push_str(HELP)?;
-    Ok(text)
-}
-
+// What `save` prints. Memory is taken first, so that what is kept is told.
 fn save_text<P: Host>(
     alloc: Global,
     session: &Session,
     path: Option<&[u8]>,
     host: &mut P,
 ) -> Result<String, AllocError>
-    ensures { IfOk result (λ text. IsSaveAnswer (region_in session.now.store) (string_bytes text)) }
+    ensures saved { IfOk result (λ text. GrowsBy (P.kept host.old) (P.kept host.new) (IsSaveAnswer (region_in session.now.store) (option_map (λ path. path.now) path.entry) (string_bytes text))) }
+    ensures none_kept { OnErr result (Grows (P.kept host.old) (P.kept host.new) []) }
 {
-    let mut text = String::new(alloc);
-    text.push_str(save_line(session, path, host))?;
-    Ok(text)
-}
-
-fn save_line<P: Host>(session: &Session, path: Option<&[u8]>, host: &mut P) -> &'static str
-    ensures { IsSaveAnswer (region_in session.now.store) result.now }
-{
+    let saved = owned(alloc, "ok\n")?;
+    let not_saved = owned(alloc, "not saved\n")?;
     let Some(region) = session.region() else {
-        return "not saved\n";
+        return Ok(not_saved);
     };
     if host.save(region, path) {
-        "ok\n"
+        Ok(saved)
     } else {
-        "not saved\n"
+        Ok(not_saved)
     }
+}
+
+fn owned(alloc: Global, text: &str) -> Result<String, AllocError>
+    ensures { IfOk result (λ owned. string_bytes owned ≡ text.now) }
+{
+    let mut owned = String::new(alloc);
+    owned.push_str(text)?;
+    Ok(owned)
 }

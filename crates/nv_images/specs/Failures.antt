@@ -7,7 +7,7 @@ use Rattle.nv_images.specs.Shown.{shown_text}
 use Rattle.nv_images.specs.declared.reason.Reason.{Reason}
 use Rattle.nv_images.specs.declared.reason.Reason.TheVariants.{PathNotUtf8, System}
 use Rattle.nv_images.specs.declared.failure.Failure.{Failure}
-use Rattle.nv_images.specs.declared.failure.Failure.TheVariants.{CannotRead, NothingToWrite, WordNotUtf8, NoClass}
+use Rattle.nv_images.specs.declared.failure.Failure.TheVariants.{CannotRead, NothingToWrite, WordNotUtf8, BadEscape, NoClass}
 
 -- the text for a kind of failure; no text is promised where the system's own is told
 abbrev pub kind_text : ErrorKind → Option (List ℕ)
@@ -27,5 +27,6 @@ abbrev pub failure_text : Failure → Option (List ℕ)
 failure_text (CannotRead path reason) = option_map (λ shown. codes "cannot read " ++ shown) (shown_text path.now)
 failure_text (NothingToWrite path) = option_map (λ shown. codes "cannot write " ++ shown ++ codes ": there is no region") (shown_text path.now)
 failure_text WordNotUtf8 = Some (codes "a word of the command line isn't UTF-8")
+failure_text (BadEscape path) = option_map (λ shown. codes "in " ++ shown ++ codes " a backslash begins no escape; \\\\ stands for one, and \\x and two hexadecimal digits for a byte") (shown_text path.now)
 failure_text (NoClass name) = option_map (λ shown. codes "no class of faults is named " ++ shown) (shown_text name.now)
 failure_text _ = None

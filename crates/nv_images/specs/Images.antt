@@ -43,8 +43,13 @@ IsUnread path (CannotRead place reason) = (place ≡ path) × IsSystem reason
 IsUnread path (Answer error) = error ≡ errors.Memory
 IsUnread path _ = ⊥
 
--- why the file at a path was not written: a reason other than want of memory, or that, or standard output can't be written
+-- why the file at a path was not written: a reason other than want of memory, or that
 abbrev pub IsUnsaved : Bor (List ℕ) → Failure → Type 0
 IsUnsaved path (CannotWrite place unsaved) = (place ≡ path) × (unsaved ≢ unsaveds.Memory)
-IsUnsaved path (Answer error) = error ≢ errors.Read
+IsUnsaved path (Answer error) = error ≡ errors.Memory
 IsUnsaved path _ = ⊥
+
+-- why bytes were not written to standard output: no stream is read for that
+abbrev pub IsUnanswered : Failure → Type 0
+IsUnanswered (Answer error) = error ≢ errors.Read
+IsUnanswered _ = ⊥

@@ -21,6 +21,8 @@ pub enum Failure<'a> {
     NothingToWrite(&'a str),
     /// A word isn't UTF-8. The kit opens files by text alone.
     WordNotUtf8,
+    /// In this path of an image a backslash begins no escape.
+    BadEscape(&'a str),
     /// There is no such class of faults.
     NoClass(&'a str),
     /// The answer can't be held in memory, or not be written.
@@ -120,6 +122,11 @@ impl fmt::Display for Failure<'_> {
                 write!(f, "cannot write {}: there is no region", Shown(path))
             }
             Failure::WordNotUtf8 => f.write_str("a word of the command line isn't UTF-8"),
+            Failure::BadEscape(path) => write!(
+                f,
+                "in {} a backslash begins no escape; \\\\ stands for one, and \\x and two hexadecimal digits for a byte",
+                Shown(path)
+            ),
             Failure::NoClass(name) => write!(f, "no class of faults is named {}", Shown(name)),
             Failure::Answer(error) => write!(f, "{error}"),
         }

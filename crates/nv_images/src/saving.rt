@@ -1,7 +1,7 @@
 //! Writing files: images, and what is drawn of them.
 
-ghost use Rattle.std.specs.Prelude.{◌≡◌, IfErr, IfOk};
-ghost use Rattle.nv_images.specs.Images.{IsUnsaved};
+ghost use Rattle.std.specs.Prelude.{◌≡◌, IfErr, IfOk, true, false, is_none};
+ghost use Rattle.nv_images.specs.Images.{IsUnsaved, IsUnanswered};
 
 use crate::failure::Failure;
 use crate::telling::tell_left;
@@ -102,7 +102,8 @@ pub fn save_file<'a, H: Files + AllocGlobal + Print>(
 ) -> Result<(), Failure<'a>>
 where
     H::File: Lock,
-    ensures { IfErr result (IsUnsaved held.now.target.path) }
+    ensures file { is_none held.now.place ≡ false → IfErr result (IsUnsaved held.now.target.path) }
+    ensures output { is_none held.now.place ≡ true → IfErr result IsUnanswered }
 {
     let path = held.target.path;
     let Some(place) = &held.place else {

@@ -17,7 +17,7 @@ pub fn ended<H: Eprint>(rt: &H, answer: Result<u8, Failure<'_>>) -> ExitCode
 {
     let code = exit_of(&answer);
     if let Err(failure) = answer {
-        tell(rt, failure);
+        tell_failure(rt, failure);
     }
     code
 }
@@ -62,9 +62,9 @@ pub(crate) fn tell_left<H: Eprint>(rt: &H, path: &str, left: Option<u32>) {
     }
 }
 
-// Says on standard error what ended the program. Why a file can't be read, and which classes there are, stands on a line of
-// its own.
-fn tell<H: Eprint>(rt: &H, failure: Failure<'_>) {
+/// Says on standard error what ended a command. Why a file can't be read, and which classes there are, stands on a line of its
+/// own.
+pub fn tell_failure<H: Eprint>(rt: &H, failure: Failure<'_>) {
     let _ = eprintln!(rt; "{failure}");
     match failure {
         Failure::CannotRead(_, reason) => {

@@ -2,6 +2,8 @@ pub mod Steps
 pub mod Progress
 pub mod Once
 pub mod Local
+pub mod Turned
+pub mod ToTail
 pub mod Longer
 pub mod DataBlocks
 pub mod RightLogs

@@ -5,7 +5,8 @@ ghost use Rattle.std.specs.List.{Contains, IsDistinct};
 ghost use Rattle.nv_region.specs.Region.{Region};
 ghost use Rattle.nv_region.specs.Stops.{IsMixed};
 ghost use Rattle.nv_logpage.specs.Append.{AllDiffer, AppendWords, FreshFor};
-ghost use Rattle.nv_logpage.specs.Grows.{SamePage, GoesPast};
+ghost use Rattle.nv_logpage.specs.Grows.{GoesPast};
+ghost use Rattle.nv_logpage.specs.ToTail.{SameToTail};
 ghost use Rattle.nv_logpage.specs.DataBlocks.{AreDataBlocks};
 ghost use Rattle.nv_logpage.specs.Reads.{Reads, ReadsOn, places_of};
 ghost use Rattle.nv_inode.specs.Slot.{is_right_log};
@@ -20,10 +21,11 @@ pub fn reads_once()
         → Reads region s head tail es pages x → Reads region s head tail fs others y → (es ≡ fs) × (pages ≡ others) × (x ≡ y) }
 {}
 
-/// Regions with the same words in all pages of a log have the same log.
+/// Regions with the same words in all pages of a log have the same log. Of the tail's page only the words in front of where
+/// an entry ends at most that begins before the tail have to be the same.
 pub fn reads_its_pages_alone()
     ensures { (region other : Region) (s : SuperValue) (head tail : ℕ) (es : List PlacedValue) (pages : List ℕ) (x : Option EndValue)
-        → IsTrue (is_page_start s head) → ((b : ℕ) → Contains pages b → SamePage region other b) → Reads region s head tail es pages x → Reads other s head tail es pages x }
+        → IsTrue (is_page_start s head) → ((b : ℕ) → Contains pages b → SameToTail tail region other b) → Reads region s head tail es pages x → Reads other s head tail es pages x }
 {}
 
 /// A log whose tail moved on is the log as it was, and then what follows from the old tail on.

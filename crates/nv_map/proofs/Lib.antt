@@ -3,3 +3,4 @@ mod Runs
 mod Says
 mod Made
 mod Lines
+mod Shared

@@ -11,7 +11,7 @@ use Rattle.nv_map.specs.Text.{letters, line_at}
 
 module _ {X : Type 0} (size : ℕ) (all chunk rest : List X) (parts : all ≡ chunk ++ rest) (long : length chunk ≡ min size (length all)) where
   -- the first of the pieces that a list is cut in
-  first_chunk : take size all ≡ chunk
+  pub first_chunk : take size all ≡ chunk
   first_chunk = sym (take_min size all) ∙ ap (λ (n : ℕ). take n all) (sym long) ∙ ap (λ (xs : List X). take (length chunk) xs) parts ∙ take-append_seam chunk rest
 
   -- and what is left behind it

@@ -7,7 +7,7 @@ use Rattle.nv_outcome.specs.Outcome.{Outcome}
 use Rattle.nv_map.specs.declared.uses.BlockUse.{BlockUse}
 use Rattle.nv_map.specs.declared.uses.BlockUse.TheVariants.{Free, System}
 use Rattle.nv_map.specs.declared.marks.Marks.{Marks}
-use Rattle.nv_map.specs.Map.{IsUsedBy, IsUsedTwice, IsUsed, system, owned, doubled, IsMap}
+use Rattle.nv_map.specs.Map.{IsUsedBy, IsUsedTwice, IsUsed, system, owned, doubled, AreCells}
 use Rattle.nv_map.specs.Marks.{AreFree, HasRoom, AreUsed, IsRaised, Raises, SaysOne}
 use Rattle.nv_map.proofs.Raising.{raises_both}
 use Rattle.nv_map.proofs.Runs.{few_cells}
@@ -32,9 +32,9 @@ raises_all o a b c d p q r =
     ])
     (λ n kind h. doubled h) (told o) a c d both r
 
--- cells that were free and are told of all blocks are a map
-pub is_map : (o : Outcome) (most : ℕ) (a b : Marks) → AreFree o.sup.blocks most a → HasRoom a → Raises (IsUsed o) a b → IsMap o most (record { each = b.each; uses = b.uses })
-is_map o most a b free room r = record {
+-- cells that were free and are told of all blocks are those of the outcome
+pub are_cells : (o : Outcome) (most : ℕ) (a b : Marks) → AreFree o.sup.blocks most a → HasRoom a → Raises (IsUsed o) a b → AreCells o most b.each b.uses.items
+are_cells o most a b free room r = record {
   each = r.each ∙ free.each;
   count = r.count ∙ free.count ∙ ap (λ (n : ℕ). div_ceil o.sup.blocks n) (sym r.each);
   most =

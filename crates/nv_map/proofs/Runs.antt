@@ -9,7 +9,8 @@ use Rattle.std.specs.Int.{div_ceil}
 use Rattle.nv_map.specs.declared.uses.BlockUse.{BlockUse}
 use Rattle.nv_map.specs.declared.uses.BlockUse.TheVariants.{Free}
 use Rattle.nv_map.specs.declared.marks.Marks.{Marks}
-use Rattle.nv_map.specs.Map.{rank, InCell}
+use Rattle.nv_map.specs.Map.{InCell}
+use Rattle.nv_map.specs.Rank.{rank}
 use Rattle.nv_map.specs.Marks.{raised, AreRaised, AreUsed, IsIn, IsRaised, Raises}
 
 -- a cell in front of a run's first has none of its blocks

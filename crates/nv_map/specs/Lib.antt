@@ -1,3 +1,5 @@
+pub mod Rank
+pub mod Shares
 pub mod Map
 pub mod Marks
 pub mod Text

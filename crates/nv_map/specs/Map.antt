@@ -9,14 +9,8 @@ use Rattle.nv_outcome.specs.Outcome.{Outcome}
 use Rattle.nv_map.specs.declared.uses.BlockUse.{BlockUse}
 use Rattle.nv_map.specs.declared.uses.BlockUse.TheVariants.{Free, System, Data, Log, Doubled}
 use Rattle.nv_map.specs.declared.cells.Cells.{Cells}
-
--- the order of telling: of several uses the last is told
-abbrev pub rank : BlockUse → ℕ
-rank Free = 0
-rank System = 1
-rank Data = 2
-rank Log = 3
-rank Doubled = 4
+use Rattle.nv_map.specs.Rank.{rank}
+use Rattle.nv_map.specs.Shares.{shares_of}
 
 -- The inode of a row uses a block: for a page of its file, or for a page of its log.
 pub data IsUsedBy (row : Row) (b : ℕ) : BlockUse → Type 0 where
@@ -46,9 +40,19 @@ pub record TellsCell (o : Outcome) (each place : ℕ) (kind : BlockUse) : Type 0
   pub had : kind ≢ Free → (b : ℕ) × (b < o.sup.blocks) × InCell each place b × IsUsed o b kind
   pub last : (b : ℕ) (other : BlockUse) → b < o.sup.blocks → InCell each place b → IsUsed o b other → rank other ≤ rank kind
 
--- The cells are a map of the outcome: at most as many as asked for (one, if that is 0), of as few blocks as can be.
+-- The cells of an outcome, of so many blocks each, tell these uses: at most as many cells as asked for (one, if that is 0), of as few blocks as
+-- can be.
+pub record AreCells (o : Outcome) (asked blocks : ℕ) (uses : List BlockUse) : Type 0 where
+  pub each : blocks ≡ div_ceil o.sup.blocks (max asked 1)
+  pub count : length uses ≡ div_ceil o.sup.blocks blocks
+  pub most : length uses ≤ max asked 1
+  pub tells : (place : ℕ) → place < length uses → TellsCell o blocks place (get_or uses place Free)
+
+-- These are the uses of an outcome's blocks, one by one: a block tells what a cell of it alone tells.
+abbrev pub AreBlocks : Outcome → List BlockUse → Type 0
+AreBlocks o uses = AreCells o o.sup.blocks 1 uses
+
+-- They are a map of the outcome: its cells, and how many of their blocks have each use.
 pub record IsMap (o : Outcome) (asked : ℕ) (cells : Cells) : Type 0 where
-  pub each : cells.each ≡ div_ceil o.sup.blocks (max asked 1)
-  pub count : length cells.uses.items ≡ div_ceil o.sup.blocks cells.each
-  pub most : length cells.uses.items ≤ max asked 1
-  pub tells : (place : ℕ) → place < length cells.uses.items → TellsCell o cells.each place (get_or cells.uses.items place Free)
+  pub tells : AreCells o asked cells.each cells.uses.items
+  pub shares : (uses : List BlockUse) × AreBlocks o uses × (cells.shares.items ≡ shares_of cells.each uses)

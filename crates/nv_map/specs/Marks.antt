@@ -6,7 +6,8 @@ use Rattle.nv_radix.specs.declared.extent.Extent.{Extent}
 use Rattle.nv_map.specs.declared.uses.BlockUse.{BlockUse}
 use Rattle.nv_map.specs.declared.uses.BlockUse.TheVariants.{Free, Data, Log, Doubled}
 use Rattle.nv_map.specs.declared.marks.Marks.{Marks}
-use Rattle.nv_map.specs.Map.{rank, InCell}
+use Rattle.nv_map.specs.Map.{InCell}
+use Rattle.nv_map.specs.Rank.{rank}
 
 -- no cell tells anything yet
 pub record AreFree (n most : ℕ) (m : Marks) : Type 0 where

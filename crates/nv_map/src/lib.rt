@@ -3,9 +3,11 @@
 
 mod cells;
 mod marks;
+mod shares;
 mod text;
 mod uses;
 
 pub use cells::{Cells, cells_of};
+pub use shares::Share;
 pub use text::cells_text;
 pub use uses::BlockUse;

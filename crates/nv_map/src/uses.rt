@@ -1,7 +1,7 @@
 //! What a block is used for.
 
 ghost use Rattle.std.specs.Prelude.{◌≡◌};
-ghost use Rattle.nv_map.specs.Map.{rank};
+ghost use Rattle.nv_map.specs.Rank.{rank};
 ghost use Rattle.nv_map.specs.Text.{letter};
 
 /// What a block is used for. Of several blocks, or of several uses, the last of these is told.

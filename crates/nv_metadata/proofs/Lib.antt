@@ -1,11 +1,11 @@
-pub mod Turned
 pub mod Linked
 pub mod Same
-pub mod Paged
+pub mod Pieces
 pub mod Held
 pub mod Shown
 pub mod Walked
 pub mod Refused
+pub mod HandedOn
 pub mod SameLogs
 pub mod Ready
 pub mod Whole

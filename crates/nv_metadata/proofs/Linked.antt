@@ -13,7 +13,7 @@ use Rattle.nv_logpage.specs.Reads.{ReadsOn, Reads, ends, reads, turns, link_of, 
 use Rattle.nv_logpage.proofs.DataBlocks.{contains_snoc}
 use Rattle.nv_logpage.proofs.Steps.{start_whole, Finds-onward}
 use Rattle.nv_metadata.specs.Linked.{IsLinked, first, next, link_in}
-use Rattle.nv_metadata.proofs.Turned.{IsBefore, page_turns, entry_before}
+use Rattle.nv_logpage.proofs.Turned.{IsBefore, page_turns, entry_before}
 
 module _ (R : Region) (s : Super) (head tail : ℕ) (offset : tail % 4096 ≤ 4064) where
   turned : (p a : ℕ) → IsLinked R s head tail (p / 4096) → p / 4096 ≢ tail / 4096 → word R (link_of p) ≡ a → is_page_start s (word R (link_of p)) ≡ true → IsLinked R s head tail (a / 4096)

@@ -8,7 +8,7 @@ use Rattle.nv_super.specs.Super.{IsSuper}
 use Rattle.nv_super.proofs.Accepted.{super_stays}
 use Rattle.nv_metadata.specs.Memory.{MetadataState, IsReady}
 use Rattle.nv_metadata.specs.Gathered.{SaysSuper}
-use Rattle.nv_metadata.proofs.Paged.{number_within}
+use Rattle.nv_metadata.proofs.Pieces.{number_within}
 use Rattle.nv_metadata.proofs.Refused.{accepted_there}
 
 -- regions of as many blocks are as long

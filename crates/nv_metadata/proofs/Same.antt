@@ -1,20 +1,22 @@
 -- What is gathered of a region has all of its metadata, and the same outcome.
-use Rattle.std.proofs.Common.{◌≡◌, ℕ, ◌+◌, ◌*◌, ◌/◌, ◌%◌, ◌≤◌, true, refl, ap, sym, ◌∙◌, subst, arith}
+use Rattle.std.proofs.Common.{◌≡◌, ℕ, ◌+◌, ◌*◌, ◌/◌, ◌%◌, ◌<◌, ◌≤◌, true, Some, refl, ap, sym, ◌∙◌, subst, arith}
 use Rattle.std.proofs.lemmas.Bool.Decides.{nat_tests}
 use Rattle.std.specs.List.{Contains}
 use Rattle.nv_region.specs.Region.{Region, size, word}
 use Rattle.nv_super.specs.declared.superblock.Super.{Super}
-use Rattle.nv_super.specs.Layout.{IsLayout, fixed_layout, is_page_start, system_blocks}
+use Rattle.nv_super.specs.Layout.{IsLayout, fixed_layout, is_page_start, slot_of, system_blocks}
 use Rattle.nv_super.specs.Super.{IsSuper}
 use Rattle.nv_super.proofs.Accepted.{super_stays}
 use Rattle.nv_inode.specs.Slot.{is_right_log}
 use Rattle.nv_journal.specs.Undo.{undone}
 use Rattle.nv_journal.proofs.High.{data_word}
-use Rattle.nv_logpage.specs.Grows.{SamePage}
+use Rattle.nv_logpage.specs.ToTail.{SameToTail}
 use Rattle.nv_scan.specs.Inode.{Log, IsInode, right, wrong}
 use Rattle.nv_outcome.specs.Outcome.{Outcome, IsOutcome}
 use Rattle.nv_outcome.specs.Metadata.{SameMetadata}
 use Rattle.nv_outcome.proofs.Metadata.{metadata_alone, same_inodes}
+use Rattle.nv_outcome.proofs.SameInodes.{SameInodes}
+use Rattle.nv_scan.proofs.Only.{slot_in_use}
 use Rattle.nv_outcome.proofs.SuperOf.{layout_of_super}
 use Rattle.nv_super.proofs.Members.{none_in}
 use Rattle.nv_metadata.specs.Linked.{IsLinked, first, next, link_in}
@@ -24,7 +26,7 @@ use Rattle.nv_metadata.proofs.Linked.{log_pages_linked}
 right_head : (s : Super) (head tail : ℕ) → is_right_log s head tail ≡ true → head % 4096 ≡ 0
 right_head s head tail h = grind (arith, nat_tests)
 
-right_head_behind : (s : Super) (head tail : ℕ) → is_right_log s head tail ≡ true → system_blocks s ≤ head / 4096
+pub right_head_behind : (s : Super) (head tail : ℕ) → is_right_log s head tail ≡ true → system_blocks s ≤ head / 4096
 right_head_behind s head tail h = grind (arith, nat_tests)
 
 right_tail : (s : Super) (head tail : ℕ) → is_right_log s head tail ≡ true → tail % 4096 ≤ 4064
@@ -50,12 +52,12 @@ module _ (s : Super) (R S : Region) (is : IsSuper R s) (g : IsGathered s R S) wh
   layout : IsLayout s
   layout = layout_of_super R s is
 
-  page : {i a : ℕ} {log : Log} → IsInode (undone s R) (fixed_layout s) i a log → (b : ℕ) → Contains log.pages b → SamePage R S b
+  page : {i a : ℕ} {log : Log} → IsInode (undone s R) (fixed_layout s) i a log → (b : ℕ) → Contains log.pages b → SameToTail (word (undone s R) (a + 24)) R S b
   page {i} {a} {log} (right slot used ok read) b c =
       let head : ℕ = word (undone s R) (a + 16) in
       let tail : ℕ = word (undone s R) (a + 24) in
       let linked = log_pages_linked (undone s R) s head tail (right_tail s head tail ok) (right_head s head tail ok) read b c in
-      g.logs b (head, tail, (i, a, record { kind = log.kind; slot = slot; used = used; head_is = refl; tail_is = refl; right = ok }), linked_before R s layout head tail b (right_head_behind s head tail ok) linked)
+      g.logs head tail b (i, a, record { kind = log.kind; slot = slot; used = used; head_is = refl; tail_is = refl; right = ok }) (linked_before R s layout head tail b (right_head_behind s head tail ok) linked)
   page (wrong slot used bad) b c = absurd (none_in b c)
 
   pub has_metadata : SameMetadata s R S
@@ -67,13 +69,19 @@ module _ (s : Super) (R S : Region) (is : IsSuper R s) (g : IsGathered s R S) wh
   pub gathered_super : IsSuper S s
   gathered_super = super_stays R S size_same (λ at aligned low. g.front at aligned (omega (arith, low))) s is
 
+  inodes : SameInodes (fixed_layout s) (undone s R) (undone s S)
+  inodes = same_inodes s R S is has_metadata
+
+  tail_same : (i a : ℕ) → slot_of (fixed_layout s) i ≡ Some a → word (undone s S) (a + 24) ≡ word (undone s R) (a + 24)
+  tail_same i a slot = (inodes.slots i a slot).tail
+
   -- the other way round
   back : SameMetadata s S R
   back = record {
     as_long = sym g.as_long;
     rest_as_long = sym g.rest_as_long;
     front = λ at aligned low. sym (g.front at aligned low);
-    pages = λ i a log b h c at aligned here. sym (page ((same_inodes s R S is has_metadata).back h) b c at aligned here);
+    pages = λ i a log b h c at aligned here before. sym (page (inodes.back h) b c at aligned here (λ in_tail. (let low = before (in_tail ∙ ap (λ (t : ℕ). t / 4096) (sym (tail_same i a (slot_in_use h)))) in let same = tail_same i a (slot_in_use h) in omega (arith, low, same))));
   }
 
   pub whole_outcome : (o : Outcome) → o.sup ≡ s → IsOutcome S o → IsOutcome R o

@@ -62,12 +62,17 @@ logs_there s U V layout same logs are = record {
   only = λ log c. (let l = are.only log c in (l.0, l.1, log_there s V U layout (λ at aligned low. sym (same at aligned low)) l.0 l.1 log.head log.tail l.2));
 }
 
--- a right log begins at the start of a data block
-right_start : (s : Super) (head tail : ℕ) → is_right_log s head tail ≡ true → IsTrue (is_page_start s head)
+-- the head and the tail of each are right
+pub ends_are_right : (U : Region) (s : Super) (logs : List LogEnds) → AreLogs U s logs → (log : LogEnds) → Contains logs log → IsTrue (is_right_log s log.head log.tail)
+ends_are_right U s logs are log c = (let l = are.only log c in l.2.right)
+
+-- such a log begins at the start of a data block
+pub right_start : (s : Super) (head tail : ℕ) → IsTrue (is_right_log s head tail) → IsTrue (is_page_start s head)
 right_start s head tail h = grind (arith, nat_tests)
 
-pub heads_are_starts : (U : Region) (s : Super) (logs : List LogEnds) → AreLogs U s logs → (log : LogEnds) → Contains logs log → IsTrue (is_page_start s log.head)
-heads_are_starts U s logs are log c = (let l = are.only log c in right_start s log.head log.tail l.2.right)
+-- and its tail is a word's address
+pub right_whole : (s : Super) (head tail : ℕ) → IsTrue (is_right_log s head tail) → tail % 8 ≡ 0
+right_whole s head tail h = grind (arith, nat_tests)
 
 -- ---- one inode after another
 

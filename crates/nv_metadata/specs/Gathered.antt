@@ -5,19 +5,21 @@ use Rattle.nv_region.specs.Region.{Region, HasBlocks, word}
 use Rattle.nv_super.specs.declared.superblock.Super.{Super}
 use Rattle.nv_super.specs.Layout.{system_blocks}
 use Rattle.nv_super.specs.Super.{IsSuper, IsRefused}
+use Rattle.nv_journal.specs.Undo.{undone}
 use Rattle.nv_journal.specs.Undone.{SameBefore}
-use Rattle.nv_logpage.specs.Grows.{SamePage}
-use Rattle.nv_metadata.specs.Linked.{IsLogBlock}
+use Rattle.nv_logpage.specs.ToTail.{SameToTail}
+use Rattle.nv_metadata.specs.Linked.{IsLinked, IsLog, IsLogBlock}
 use Rattle.nv_metadata.specs.Memory.{IsReady}
 use Rattle.nv_metadata.specs.declared.gathering.Gathered.{Gathered as GatheredValue}
 use Rattle.nv_metadata.specs.declared.gathering.Gathered.TheVariants.{Metadata, Refused}
 
--- S is as long as R, has R's words in front of the data blocks and in the blocks of its logs, and zeros in all other blocks.
+-- S is as long as R, has R's words in front of the data blocks and in the blocks of its logs up to their tails, and zeros in all other
+-- blocks.
 pub record IsGathered (s : Super) (R S : Region) : Type 0 where
   pub as_long : length S.words ≡ length R.words
   pub rest_as_long : length S.rest ≡ length R.rest
   pub front : SameBefore (4096 * system_blocks s) R S
-  pub logs : (b : ℕ) → IsLogBlock s R b → SamePage R S b
+  pub logs : (head tail b : ℕ) → IsLog (undone s R) s head tail → IsLinked R s head tail b → SameToTail tail R S b
   pub zeros : (at : ℕ) → at % 8 ≡ 0 → 4096 * system_blocks s ≤ at → (IsLogBlock s R (at / 4096) → ⊥) → word S at ≡ 0
 
 -- The metadata of a region with an accepted superblock, or the first fault of its superblock.

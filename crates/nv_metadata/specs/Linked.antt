@@ -1,11 +1,12 @@
 -- The blocks of logs, as the links of their pages lead to them.
-use Rattle.std.specs.Prelude.{◌≡◌, ◌≢◌, ◌+◌, ◌*◌, ◌/◌, ℕ, true, Some}
+use Rattle.std.specs.Prelude.{◌≡◌, ◌≢◌, ◌+◌, ◌*◌, ◌/◌, ◌%◌, ◌==◌, ℕ, if◌then◌else◌, min, true, Some}
 use Rattle.nv_region.specs.Region.{Region, word}
 use Rattle.nv_super.specs.declared.superblock.Super.{Super}
 use Rattle.nv_super.specs.declared.kind.Kind.{Kind}
 use Rattle.nv_super.specs.Layout.{fixed_layout, is_page_start, slot_of}
 use Rattle.nv_inode.specs.Slot.{kind_at, is_right_log}
 use Rattle.nv_journal.specs.Undo.{undone}
+use Rattle.nv_logpage.specs.ToTail.{longest_entry}
 
 -- where the page in a block leads
 abbrev pub link_in : Region → ℕ → ℕ
@@ -33,3 +34,8 @@ IsLog U s head tail = (i a : ℕ) × IsLogOf U s i a head tail
 -- a block is linked in a log of the region, whose journals are rolled back first
 abbrev pub IsLogBlock : Super → Region → ℕ → Type 0
 IsLogBlock s R b = (head tail : ℕ) × IsLog (undone s R) s head tail × IsLinked R s head tail b
+
+-- How many bytes of a log's block are wanted, from its first on: all, but of the tail's block only those in front of where an entry
+-- ends at most that begins before the tail.
+abbrev pub wanted : ℕ → ℕ → ℕ
+wanted tail b = if b == tail / 4096 then min (tail % 4096 + longest_entry) 4096 else 4096

@@ -1,6 +1,6 @@
 //! The bytes of an image, read piece by piece.
 
-ghost use Rattle.std.specs.Prelude.{◌≡◌, ℕ, List, Option, Some, None, IfOk, OnOk, length};
+ghost use Rattle.std.specs.Prelude.{◌≡◌, ◌≤◌, ◌+◌, ℕ, List, Option, Some, None, IfOk, OnOk, false, is_err, length};
 ghost use Rattle.nv_metadata.specs.Blocks.{AreBytesAt};
 
 use std::fs::File;
@@ -18,18 +18,21 @@ pub trait Blocks {
 
     /// How many bytes there are.
     ///
-    /// Errors: that of the system.
+    /// Errors: that of the system, and none where the bytes are known.
     fn len(&self) -> io::Result<u64>
-        ensures { (image : List ℕ) → bytes self.now ≡ Some image → IfOk result (λ count. count ≡ length image) };
+        ensures count { (image : List ℕ) → bytes self.now ≡ Some image → IfOk result (λ count. count ≡ length image) }
+        ensures known { (image : List ℕ) → bytes self.now ≡ Some image → is_err result ≡ false };
 
     /// Reads the bytes from `at` on, as many as `into` has room for.
     ///
-    /// Errors: that of the system, and one where the image ends before.
+    /// Errors: that of the system, and one where the image ends before: no other where the bytes are known.
     fn read(&self, at: u64, into: &mut [u8]) -> io::Result<()>
-        ensures read { (image : List ℕ) → bytes self.now ≡ Some image → OnOk result (AreBytesAt image at into.new) };
+        ensures read { (image : List ℕ) → bytes self.now ≡ Some image → OnOk result (AreBytesAt image at into.new) }
+        ensures known { (image : List ℕ) → bytes self.now ≡ Some image → at + length into.old ≤ length image → is_err result ≡ false };
 }
 
 /// Bytes in memory.
+#[derive(Drop)]
 pub struct HeldBytes<'a> {
     bytes: &'a [u8],
 }
@@ -60,7 +63,10 @@ impl Blocks for HeldBytes<'_> {
     fn read(&self, at: u64, into: &mut [u8]) -> io::Result<()> {
         let length = self.bytes.len() as u64;
         let count = into.len();
-        if at > length || count as u64 > length - at {
+        if at > length {
+            return Err(Error::from(ErrorKind::UnexpectedEof));
+        }
+        if count as u64 > length - at {
             return Err(Error::from(ErrorKind::UnexpectedEof));
         }
         let start = at as usize;

@@ -1,12 +1,14 @@
 //! The metadata of an image, gathered by a reader of its bytes.
 //!
 //! First the superblock is read, and then all blocks in front of the data blocks in one read. A copy of these is rolled back:
-//! it says where logs begin and end. From each head on the links lead to the pages, each of which is read once.
+//! it says where logs begin and end. From each head on the links lead to the pages, which are read
+//! once, that of the tail up to it.
 
-ghost use Rattle.std.specs.Prelude.{◌≡◌, ◌≤◌, ◌*◌, ◌^◌, ℕ, List, Some, IfOk, IsTrue, length};
+ghost use Rattle.std.specs.Prelude.{◌≡◌, ◌≤◌, ◌+◌, ◌*◌, ◌^◌, ℕ, List, Some, IfOk, IfErr, IsTrue, length};
 ghost use Rattle.std.specs.List.{Contains};
 ghost use Rattle.nv_region.specs.Region.{region_of};
-ghost use Rattle.nv_super.specs.Layout.{IsLayout, is_page_start, system_blocks};
+ghost use Rattle.nv_super.specs.Layout.{IsLayout, system_blocks};
+ghost use Rattle.nv_inode.specs.Slot.{is_right_log};
 ghost use Rattle.nv_journal.specs.Undo.{undone};
 ghost use Rattle.nv_metadata.specs.Blocks.{AreBytesAt};
 ghost use Rattle.nv_metadata.specs.Gathered.{AreGathered, IsOpen, SaysSuper};
@@ -31,15 +33,16 @@ pub enum Gathered {
     Refused(SuperFault),
 }
 
-/// Reads the metadata of an image: the superblock, the journals, the tables and the pages of logs, each block once. The
-/// region that they make has zeros elsewhere, and takes stores in front of the data blocks.
+/// Reads the metadata of an image: the superblock, the journals, the tables and the pages of logs up to their tails. The region
+/// that they make has zeros elsewhere, and takes stores in front of the data blocks.
 ///
 /// Where the bytes are known, that region has the same outcome as all of them, or the superblock is refused for the same fault.
 ///
-/// Errors: `Read` where the length isn't told or bytes can't be read, which is never taken for an answer; `Memory` where a
-/// growth was refused.
+/// Errors: `Read` where the length isn't told or bytes can't be read, which is never taken for an answer, nor ends a reading of
+/// bytes that are known; `Memory` where a growth was refused.
 pub fn gather<B: Blocks>(alloc: Global, source: &B) -> Result<Gathered, GatherError>
     ensures gathered { (image : List ℕ) → B.bytes source.now ≡ Some image → IfOk result (AreGathered (region_of image)) }
+    ensures known { (image : List ℕ) → B.bytes source.now ≡ Some image → IfErr result (λ e. e ≡ GatherError.Memory) }
     ensures open { IfOk result IsOpen }
 {
     let length = source.len()?;
@@ -66,6 +69,7 @@ fn gather_metadata<B: Blocks>(
     requires first { length first.items ≡ 4096 }
     requires superblock { SaysSuper first.items sup }
     ensures gathered { (image : List ℕ) → B.bytes source.now ≡ Some image → length image ≡ 4096 * sup.blocks → AreBytesAt image 0 first.items → IfOk result (AreGathered (region_of image)) }
+    ensures known { (image : List ℕ) → B.bytes source.now ≡ Some image → length image ≡ 4096 * sup.blocks → IfErr result (λ e. e ≡ GatherError.Memory) }
     ensures open { IfOk result IsOpen }
 {
     let rest = read_bytes(
@@ -92,6 +96,7 @@ fn read_bytes<B: Blocks>(
     requires { count ≤ 2 ^ 32 }
     ensures count { IfOk result (λ bytes. length bytes.items ≡ count) }
     ensures read { (image : List ℕ) → B.bytes source.now ≡ Some image → IfOk result (λ bytes. AreBytesAt image at bytes.items) }
+    ensures known { (image : List ℕ) → B.bytes source.now ≡ Some image → at + count ≤ length image → IfErr result (λ e. e ≡ GatherError.Memory) }
 {
     let mut bytes = vec![in alloc; 0; count as usize]?;
     source.read(at, &mut bytes)?;
@@ -103,7 +108,8 @@ fn logs_rolled_back(alloc: Global, sup: &Super, front: &[u8]) -> Result<Vec<LogE
     requires layout { IsLayout sup.now }
     requires front { length front.now ≡ 4096 * system_blocks sup.now }
     ensures logs { (image : List ℕ) → AreBytesAt image 0 front.now → length image ≡ 4096 * sup.now.blocks → IfOk result (λ logs. AreLogs (undone sup.now (region_of image)) sup.now logs.items) }
-    ensures heads { IfOk result (λ logs. (log : LogEndsValue) → Contains logs.items log → IsTrue (is_page_start sup.now log.head)) }
+    ensures unread { IfErr result (λ e. e ≡ GatherError.Memory) }
+    ensures right { IfOk result (λ logs. (log : LogEndsValue) → Contains logs.items log → IsTrue (is_right_log sup.now log.head log.tail)) }
 {
     let mut memory = MetadataRegion::new(alloc, sup.blocks, front)?;
     undo(alloc, &mut memory, sup)?;

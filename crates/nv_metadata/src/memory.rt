@@ -1,7 +1,8 @@
 //! A region of which the front and some blocks are held, and which has zeros elsewhere.
 //!
-//! The front is held as words, and takes stores. Of the other blocks a table says which are held and where: their bytes stand
-//! one page behind another, in the order in which they came. A store behind the front is refused as if a fuse had burnt.
+//! The front is held as words, and takes stores. Of the other blocks tables say how many bytes of each are held and where these
+//! begin: they stand one piece behind another, in the order in which they came. A store behind the front is refused as if a
+//! fuse had burnt.
 
 ghost use Rattle.std.specs.Prelude.{◌≡◌, ◌≢◌, ◌≤◌, ◌<◌, ◌+◌, ◌*◌, ◌/◌, ◌%◌, ◌^◌, ◌||◌, ◌==◌, ℕ, List, false, nat_le, IsTrue, IfOk, OnOk, OnErr, is_err, length, drop, refl};
 ghost use Rattle.std.proofs.lemmas.Bool.{false≢true};
@@ -10,7 +11,7 @@ ghost use Rattle.nv_region.specs.Region.{HasBlocks, size, word, put, words_of};
 ghost use Rattle.nv_region.specs.Stops.{NothingPending, NoneAdded, Adds, One};
 ghost use Rattle.nv_region.specs.Fuses.{KeepsFuse};
 ghost use Rattle.nv_region.specs.ImageState.{as_it_reads, fuse_state, open_not_burnt};
-ghost use Rattle.nv_metadata.specs.Memory.{holds};
+ghost use Rattle.nv_metadata.specs.Memory.{held};
 
 use byteorder::{ByteOrder, LittleEndian};
 use nv_region::{Pmem, Stopped};
@@ -18,33 +19,34 @@ use nv_super::BLOCK_SIZE;
 use std::alloc::{AllocError, Global};
 use std::marker::Model;
 
-/// A region whose front and some of whose blocks are held. Contracts see it as a region over bytes, with the blocks that it
-/// holds behind the front.
+/// A region whose front and some of whose blocks are held, each from its first byte on. Contracts see it as a region over
+/// bytes, with how many bytes it holds of each block behind the front.
 #[derive(Drop)]
 pub struct MetadataRegion {
     blocks: u64,
     front: Vec<u64>,
-    // For each block where its page ends among the pages, or 0 where it isn't held.
-    ends: Vec<usize>,
-    pages: Vec<u8>,
+    // For each block where its bytes begin, and how many of them are held.
+    starts: Vec<usize>,
+    counts: Vec<usize>,
+    bytes: Vec<u8>,
     burnt: bool,
 }
 
 impl Model for MetadataRegion {
     ghost use Rattle.std.specs.Prelude.{◌*◌, length};
     ghost use Rattle.nv_region.specs.ImageState.{with_front};
-    ghost use Rattle.nv_metadata.specs.Memory.{MetadataState, paged};
+    ghost use Rattle.nv_metadata.specs.Memory.{MetadataState, pieced};
 
     ghost Value = { MetadataState };
 
     ghost view = { λ m. record {
-      memory = record { region = with_front m.front.items (paged m.blocks m.ends.items m.pages.items); front = 8 * length m.front.items; burnt = m.burnt };
-      page_ends = m.ends.items;
+      memory = record { region = with_front m.front.items (pieced m.blocks m.starts.items m.counts.items m.bytes.items); front = 8 * length m.front.items; burnt = m.burnt };
+      counts = m.counts.items;
     } };
 
-    ghost use Rattle.nv_metadata.specs.Memory.{HasPages};
+    ghost use Rattle.nv_metadata.specs.Memory.{HasPieces};
 
-    ghost invariant = { HasPages };
+    ghost invariant = { HasPieces };
 }
 
 impl MetadataRegion {
@@ -59,61 +61,64 @@ impl MetadataRegion {
         ensures front { IfOk result (λ m. (at : ℕ) → at % 8 ≡ 0 → at + 8 ≤ length front.now → word m.memory.region at ≡ little_number 8 (drop at front.now)) }
         ensures zeros { IfOk result (λ m. (at : ℕ) → at % 8 ≡ 0 → length front.now ≤ at → word m.memory.region at ≡ 0) }
         ensures open { IfOk result (λ m. (m.memory.front ≡ length front.now) × (m.memory.burnt ≡ false)) }
-        ensures none { IfOk result (λ m. (b : ℕ) → holds m b ≡ false) }
+        ensures none { IfOk result (λ m. (b : ℕ) → held m b ≡ 0) }
     {
         Ok(MetadataRegion {
             blocks,
             front: words_of(alloc, front)?,
-            ends: vec![in alloc; 0; blocks as usize]?,
-            // Room for all blocks: pages are never moved, and what isn't used is never touched.
-            pages: Vec::with_capacity(alloc, (blocks * BLOCK_SIZE) as usize)?,
+            starts: vec![in alloc; 0; blocks as usize]?,
+            counts: vec![in alloc; 0; blocks as usize]?,
+            // Room for all blocks: their bytes are never moved, and what isn't used is never touched.
+            bytes: Vec::with_capacity(alloc, (blocks * BLOCK_SIZE) as usize)?,
             burnt: false,
         })
     }
 
-    /// Whether a block is held behind the front.
-    pub fn holds(&self, block: u64) -> bool
+    /// How many bytes of a block behind the front are held, from its first on: 0 where it isn't.
+    pub fn held(&self, block: u64) -> usize
         requires { 4096 * block < size self.now.memory.region }
-        ensures { result ≡ holds self.now block }
+        ensures { result ≡ held self.now block }
     {
-        self.ends[block as usize] != 0
+        self.counts[block as usize]
     }
 
-    /// Holds these bytes in a block behind the front.
+    /// Holds these bytes as the first of a block behind the front, whose other words are 0.
     ///
     /// Errors: `AllocError` where a growth was refused; all stays as it was.
-    pub fn hold(&mut self, block: u64, page: &[u8]) -> Result<(), AllocError>
+    pub fn hold(&mut self, block: u64, bytes: &[u8]) -> Result<(), AllocError>
         requires behind { self.old.memory.front ≤ 4096 * block }
         requires within { 4096 * block < size self.old.memory.region }
-        requires whole { length page.now ≡ 4096 }
-        ensures page { OnOk result ((at : ℕ) → at % 8 ≡ 0 → at / 4096 ≡ block → word self.new.memory.region at ≡ little_number 8 (drop (at % 4096) page.now)) }
+        requires whole { length bytes.now % 8 ≡ 0 }
+        ensures piece { OnOk result ((at : ℕ) → at % 8 ≡ 0 → at / 4096 ≡ block → at % 4096 < length bytes.now → word self.new.memory.region at ≡ little_number 8 (drop (at % 4096) bytes.now)) }
+        ensures zeros { OnOk result ((at : ℕ) → at % 8 ≡ 0 → at / 4096 ≡ block → length bytes.now ≤ at % 4096 → word self.new.memory.region at ≡ 0) }
         ensures others { OnOk result ((at : ℕ) → at % 8 ≡ 0 → at / 4096 ≢ block → word self.new.memory.region at ≡ word self.old.memory.region at) }
-        ensures holds { OnOk result ((b : ℕ) → holds self.new b ≡ (b == block || holds self.old b)) }
+        ensures held { OnOk result ((held self.new block ≡ length bytes.now) × ((b : ℕ) → b ≢ block → held self.new b ≡ held self.old b)) }
+        ensures whole { OnOk result (held self.new block % 8 ≡ 0) }
         ensures as_long { length self.new.memory.region.words ≡ length self.old.memory.region.words }
         ensures rest { self.new.memory.region.rest ≡ self.old.memory.region.rest }
         ensures open { (self.new.memory.front ≡ self.old.memory.front) × (self.new.memory.burnt ≡ self.old.memory.burnt) }
         ensures refused { OnErr result (self.new ≡ self.old) }
     {
-        self.pages.extend_from_slice(page)?;
-        self.ends[block as usize] = self.pages.len();
+        let start = self.bytes.len();
+        self.bytes.extend_from_slice(bytes)?;
+        self.starts[block as usize] = start;
+        self.counts[block as usize] = bytes.len();
         Ok(())
     }
 
     // The word at a byte address of a block that may be held.
-    fn paged_word(&self, at: u64) -> u64
+    fn piece_word(&self, at: u64) -> u64
         requires aligned { at % 8 ≡ 0 }
         requires within { at + 8 ≤ size self.now.memory.region }
         requires behind { self.now.memory.front ≤ at }
         ensures { result ≡ word self.now.memory.region at }
     {
-        let end = self.ends[(at / BLOCK_SIZE) as usize];
-        if end == 0 {
+        let block = (at / BLOCK_SIZE) as usize;
+        let offset = (at % BLOCK_SIZE) as usize;
+        if offset >= self.counts[block] {
             return 0;
         }
-        word_at(
-            &self.pages,
-            end - BLOCK_SIZE as usize + (at % BLOCK_SIZE) as usize,
-        )
+        word_at(&self.bytes, self.starts[block] + offset)
     }
 }
 
@@ -162,7 +167,7 @@ impl Pmem for MetadataRegion {
         if number < self.front.len() {
             self.front[number]
         } else {
-            self.paged_word(at)
+            self.piece_word(at)
         }
     }
 
@@ -178,7 +183,7 @@ impl Pmem for MetadataRegion {
         // A store is refused behind the front, and each one from then on.
         ensures burns { self.new.memory.burnt ≡ (self.old.memory.burnt || nat_le self.old.memory.front at) }
         ensures front { self.new.memory.front ≡ self.old.memory.front }
-        ensures pages { self.new.page_ends ≡ self.old.page_ends }
+        ensures pieces { self.new.counts ≡ self.old.counts }
     {
         let number = (at / 8) as usize;
         if self.burnt || number >= self.front.len() {

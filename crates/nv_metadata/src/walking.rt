@@ -1,11 +1,12 @@
 //! The pages of logs, fetched one after another as the links lead to them.
 
-ghost use Rattle.std.specs.Prelude.{◌≡◌, ◌≢◌, ◌≤◌, ◌<◌, ◌/◌, ◌*◌, ◌⊎◌, ◌∷◌, [], ℕ, List, Some, IfOk, OnOk, OnSome, IfSome, IfNone, IsTrue, true, false, eqb, length};
+ghost use Rattle.std.specs.Prelude.{◌≡◌, ◌≢◌, ◌≤◌, ◌<◌, ◌/◌, ◌%◌, ◌*◌, ◌∷◌, [], ℕ, List, Some, IfErr, OnOk, OnSome, IfSome, IfNone, IsTrue, true, false, eqb, length};
 ghost use Rattle.std.specs.List.{Contains, list_any};
 ghost use Rattle.nv_region.specs.Region.{HasBlocks, region_of};
 ghost use Rattle.nv_super.specs.Layout.{HasAreas, is_page_start, system_blocks};
-ghost use Rattle.nv_metadata.specs.Linked.{IsLinked, link_in};
-ghost use Rattle.nv_metadata.specs.Memory.{Shows, IsReady, holds};
+ghost use Rattle.nv_inode.specs.Slot.{is_right_log};
+ghost use Rattle.nv_metadata.specs.Linked.{IsLinked, link_in, wanted};
+ghost use Rattle.nv_metadata.specs.Memory.{Shows, IsReady, held};
 ghost use Rattle.nv_metadata.specs.Walk.{IsFetched, AreFetched};
 ghost use Rattle.nv_metadata.specs.declared.logs.LogEnds.{LogEnds as LogEndsValue};
 
@@ -21,7 +22,10 @@ use std::alloc::Global;
 
 const PAGE: usize = 4096;
 
-/// Fetches the pages of these logs, each block once. The head of each is the start of a data block.
+// The bytes of the longest entry: three words, and those of a name of 255 bytes.
+const LONGEST_ENTRY: usize = 280;
+
+/// Fetches the pages of these logs up to their tails. The head and the tail of each are right.
 ///
 /// Errors: `Read` where a block can't be read, and `Memory` where a growth was refused.
 pub(crate) fn fetch_logs<B: Blocks>(
@@ -33,9 +37,10 @@ pub(crate) fn fetch_logs<B: Blocks>(
 ) -> Result<(), GatherError>
     requires areas { HasAreas sup.now }
     requires ready { IsReady sup.now memory.old }
-    requires heads { (log : LogEndsValue) → Contains logs.now log → IsTrue (is_page_start sup.now log.head) }
+    requires right { (log : LogEndsValue) → Contains logs.now log → IsTrue (is_right_log sup.now log.head log.tail) }
     ensures ready { IsReady sup.now memory.new }
     ensures fetched { (image : List ℕ) → B.bytes source.now ≡ Some image → Shows (system_blocks sup.now) (region_of image) memory.old → OnOk result (AreFetched sup.now (region_of image) logs.now memory.old memory.new) }
+    ensures known { (image : List ℕ) → B.bytes source.now ≡ Some image → length image ≡ 4096 * sup.now.blocks → IfErr result (λ e. e ≡ GatherError.Memory) }
 {
     let mut walked = BlockList::new(alloc, sup.blocks)?;
     for log in logs {
@@ -45,6 +50,7 @@ pub(crate) fn fetch_logs<B: Blocks>(
 }
 
 // Fetches the pages of a log from its head's on, until that of its tail, or until a link isn't right or leads to a page of it.
+// Of the tail's page no more is fetched than is read of it.
 fn fetch_log<B: Blocks>(
     memory: &mut MetadataRegion,
     source: &B,
@@ -54,16 +60,17 @@ fn fetch_log<B: Blocks>(
 ) -> Result<(), GatherError>
     requires areas { HasAreas sup.now }
     requires ready { IsReady sup.now memory.old }
-    requires head { IsTrue (is_page_start sup.now log.head) }
+    requires right { IsTrue (is_right_log sup.now log.head log.tail) }
     requires all_blocks { walked.old.bound ≡ sup.now.blocks }
     ensures ready { IsReady sup.now memory.new }
     ensures all_blocks { walked.new.bound ≡ sup.now.blocks }
     ensures fetched { (image : List ℕ) → B.bytes source.now ≡ Some image → Shows (system_blocks sup.now) (region_of image) memory.old → OnOk result (IsFetched sup.now (region_of image) log.head log.tail memory.old memory.new) }
+    ensures known { (image : List ℕ) → B.bytes source.now ≡ Some image → length image ≡ 4096 * sup.now.blocks → IfErr result (λ e. e ≡ GatherError.Memory) }
 {
     let mut block = log.head / BLOCK_SIZE;
     walked.restart(block);
     'pages: loop {
-        fetch(memory, source, sup, block)?;
+        fetch(memory, source, sup, block, wanted(log.tail, block))?;
         match next_page(memory, sup, log.tail, walked, block) {
             Some(next) => {
                 walked.push(next)?;
@@ -105,28 +112,44 @@ fn next_page(
     Some(next / BLOCK_SIZE)
 }
 
-// Reads a data block, if it isn't held.
+// How many bytes of a block are wanted of a log with this tail: none behind where an entry ends at most that begins before it.
+fn wanted(tail: u64, block: u64) -> usize
+    ensures wanted { result ≡ wanted tail block }
+    ensures some { result ≤ 4096 }
+{
+    if block != tail / BLOCK_SIZE {
+        return PAGE;
+    }
+    PAGE.min((tail % BLOCK_SIZE) as usize + LONGEST_ENTRY)
+}
+
+// Reads so many bytes of a data block, if no more are held.
 fn fetch<B: Blocks>(
     memory: &mut MetadataRegion,
     source: &B,
     sup: &Super,
     block: u64,
+    count: usize,
 ) -> Result<(), GatherError>
     requires areas { HasAreas sup.now }
     requires ready { IsReady sup.now memory.old }
     requires behind { system_blocks sup.now ≤ block }
     requires inside { block < sup.now.blocks }
+    requires whole { count % 8 ≡ 0 }
+    requires few { count ≤ 4096 }
     ensures ready { IsReady sup.now memory.new }
-    ensures holds { OnOk result (IsTrue (holds memory.new block)) }
-    ensures keeps { OnOk result ((b : ℕ) → IsTrue (holds memory.old b) → IsTrue (holds memory.new b)) }
-    ensures only { OnOk result ((b : ℕ) → IsTrue (holds memory.new b) → IsTrue (holds memory.old b) ⊎ (b ≡ block)) }
+    ensures held { OnOk result (count ≤ held memory.new block) }
+    ensures keeps { OnOk result ((b : ℕ) → held memory.old b ≤ held memory.new b) }
+    ensures only { OnOk result ((b : ℕ) → b ≢ block → held memory.new b ≡ held memory.old b) }
     ensures shows { (image : List ℕ) → B.bytes source.now ≡ Some image → Shows (system_blocks sup.now) (region_of image) memory.old → OnOk result (Shows (system_blocks sup.now) (region_of image) memory.new) }
+    ensures known { (image : List ℕ) → B.bytes source.now ≡ Some image → length image ≡ 4096 * sup.now.blocks → IfErr result (λ e. e ≡ GatherError.Memory) }
 {
-    if memory.holds(block) {
+    if memory.held(block) >= count {
         return Ok(());
     }
     let mut page = [0; PAGE];
-    source.read(BLOCK_SIZE * block, &mut page)?;
-    memory.hold(block, &page)?;
+    let bytes = &mut page[..count];
+    source.read(BLOCK_SIZE * block, bytes)?;
+    memory.hold(block, bytes)?;
     Ok(())
 }

@@ -13,7 +13,7 @@ use Rattle.nv_named.specs.Step.{SameInode, SameWords}
 pub words_same : {R S : Region} {l : Layout} {j : ℕ} → SameWords R S l j → SameInode R S l j
 words_same {R} {S} {l} {j} w a log = (there a log, back) where
   there : (a : ℕ) (log : Log) → IsInode R l j a log → IsInode S l j a log
-  there a log h = IsInode-same S (w.slot a (slot_in_use h)) (w.pages a log h) h
+  there a log h = IsInode-same S (w.slot a (slot_in_use h)) (λ b c at whole here _. w.pages a log h b c at whole here) h
 
   kind_same : SameSlot R S a → kind_at S a ≡ kind_at R a
   kind_same slot = rw (slot.valid, slot.kind) refl

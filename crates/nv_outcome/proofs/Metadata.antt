@@ -19,7 +19,7 @@ use Rattle.nv_journal.specs.Undone.{SameBefore}
 use Rattle.nv_journal.proofs.Front.{journal_fault_same, same_undone}
 use Rattle.nv_journal.proofs.High.{data_word}
 use Rattle.nv_journal.proofs.Partly.{low_rule}
-use Rattle.nv_check.specs.nv_logpage.Grows.{SamePage}
+use Rattle.nv_check.specs.nv_logpage.ToTail.{SameToTail}
 use Rattle.nv_check.specs.nv_scan.Inode.{Log, IsInode}
 use Rattle.nv_check.specs.nv_scan.Owners.{by_log}
 use Rattle.nv_check.proofs.nv_scan.Alone.{IsInode-same}
@@ -66,11 +66,11 @@ module _ (s : Super) (R S : Region) (is : IsSuper R s) (same : SameMetadata s R 
     before = apart.before i a slot
 
   -- the pages of a log, once the journals are rolled back
-  log_page : {i a : ℕ} {log : Log} → IsInode (undone s R) l i a log → (b : ℕ) → Contains log.pages b → SamePage (undone s R) (undone s S) b
-  log_page {i} {a} {log} h b c at aligned here =
+  log_page : {i a : ℕ} {log : Log} → IsInode (undone s R) l i a log → (b : ℕ) → Contains log.pages b → SameToTail (word (undone s R) (a + 24)) (undone s R) (undone s S) b
+  log_page {i} {a} {log} h b c at aligned here below =
       let owned = owned_block (undone s R) l b (owners.Log i c.0) (by_log h (slice_get-get_or log.pages c.0 b c.1 ∙ ap Some c.2)) in
       let high : 4096 * system_blocks s ≤ at = (let low = owned.0 in omega (arith, low, here)) in
-      data_word s S layout at aligned high ∙ same.pages i a log b h c at aligned here ∙ sym (data_word s R layout at aligned high)
+      data_word s S layout at aligned high ∙ same.pages i a log b h c at aligned here below ∙ sym (data_word s R layout at aligned high)
 
   there : {i a : ℕ} {log : Log} → IsInode (undone s R) l i a log → IsInode (undone s S) l i a log
   there {i} {a} h = let e = slot_words i a (slot_in_use h) in IsInode-same (undone s S) (record { valid = e.valid; kind = e.kind; head = e.head; tail = e.tail }) (log_page h) h

@@ -1,18 +1,19 @@
 -- The words that the outcome of a region is read from.
-use Rattle.std.specs.Prelude.{◌≡◌, ℕ, ◌*◌, length}
+use Rattle.std.specs.Prelude.{◌≡◌, ℕ, ◌+◌, ◌*◌, length}
 use Rattle.std.specs.List.{Contains}
-use Rattle.nv_region.specs.Region.{Region}
+use Rattle.nv_region.specs.Region.{Region, word}
 use Rattle.nv_super.specs.declared.superblock.Super.{Super}
 use Rattle.nv_super.specs.Layout.{fixed_layout, system_blocks}
 use Rattle.nv_journal.specs.Undo.{undone}
 use Rattle.nv_journal.specs.Undone.{SameBefore}
-use Rattle.nv_check.specs.nv_logpage.Grows.{SamePage}
+use Rattle.nv_check.specs.nv_logpage.ToTail.{SameToTail}
 use Rattle.nv_check.specs.nv_scan.Inode.{Log, IsInode}
 
 -- The regions are of one length, and have the same words in front of the data blocks and in each page of each log, as the
--- inodes in use have them once the journals are rolled back.
+-- inodes in use have them once the journals are rolled back. A log's last page is looked at no further than the tail: up to where an
+-- entry ends at most that begins before it.
 pub record SameMetadata (s : Super) (R S : Region) : Type 0 where
   pub as_long : length S.words ≡ length R.words
   pub rest_as_long : length S.rest ≡ length R.rest
   pub front : SameBefore (4096 * system_blocks s) R S
-  pub pages : (i a : ℕ) (log : Log) (b : ℕ) → IsInode (undone s R) (fixed_layout s) i a log → Contains log.pages b → SamePage R S b
+  pub pages : (i a : ℕ) (log : Log) (b : ℕ) → IsInode (undone s R) (fixed_layout s) i a log → Contains log.pages b → SameToTail (word (undone s R) (a + 24)) R S b

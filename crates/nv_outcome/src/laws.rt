@@ -60,8 +60,8 @@ pub fn rolled_back_outcome()
     ensures same { (region : Region) (o : Outcome) → IsOutcome region o → undone o.sup (undone o.sup region) ≡ undone o.sup region }
 {}
 
-/// The outcome of a region depends on its superblock, journals and tables and on the pages of its logs, and on nothing
-/// else: a region of the same length with the same words there has the same outcome.
+/// The outcome of a region depends on its superblock, journals and tables and on the pages of its logs up to their tails, and
+/// on nothing else: a region of the same length with the same words there has the same outcome.
 pub fn outcome_reads_metadata_alone()
     ensures { (region other : Region) (o : Outcome) → SameMetadata o.sup region other → IsOutcome region o → IsOutcome other o }
 {}

@@ -14,7 +14,7 @@ pub const MOST_WORKERS: u64 = 64;
 #[derive(Clone, Copy, Debug, PartialEq, Eq, Error)]
 pub enum RecoverError {
     /// The superblock isn't accepted: its first fault. The region is as before.
-    #[error("superblock fault {0:?}")]
+    #[error("superblock fault {0}")]
     Super(SuperFault),
     /// A growth was refused. The region is as before, or its journals are rolled back.
     #[error("out of memory")]

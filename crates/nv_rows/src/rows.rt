@@ -272,3 +272,19 @@ impl Rows {
         Some((place - first) * self.sup.cpus + cpu)
     }
 }
+
+impl<'a> IntoIterator for &'a Rows {
+    ghost use Rattle.std.specs.Prelude.{◌≡◌, map};
+    ghost use Rattle.nv_rows.specs.Rows.{inodes_of};
+
+    type Item = (u64, &'a Row);
+
+    type IntoIter = Iter<'a, Row>;
+
+    ghost into_iter_gives = { λ rows left. (map (λ entry. entry.1) left ≡ rows.now.items) × (map (λ entry. entry.0) left ≡ inodes_of rows.now.items) };
+
+    /// The rows with their numbers, rising, as `iter` gives them.
+    fn into_iter(self) -> Iter<'a, Row> {
+        self.iter()
+    }
+}

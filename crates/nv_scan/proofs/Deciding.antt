@@ -7,38 +7,41 @@ use Rattle.nv_region.specs.Region.{Region}
 use Rattle.nv_super.specs.declared.superblock.Super.{Super}
 use Rattle.nv_super.specs.declared.faults.Fault.{Fault}
 use Rattle.nv_super.proofs.Rising.{Contains-head}
-use Rattle.nv_radix.specs.Pages.{block_at}
-use Rattle.nv_radix.specs.Runs.{block_by}
-use Rattle.nv_names.specs.Names.{name_at}
 use Rattle.nv_logpage.specs.declared.found.LogEnd.{LogEnd}
 use Rattle.nv_logpage.specs.declared.found.Placed.{Placed}
+use Rattle.nv_logpage.specs.Good.{good_entries}
 use Rattle.nv_logpage.specs.Unlinked.{without_page}
 use Rattle.nv_logpage.proofs.Once.{ReadsOn-only}
-use Rattle.nv_scan.specs.Dead.{CanGo, IsSaidBy}
-use Rattle.nv_scan.specs.ReadingWithout.{IsReadWithout}
+use Rattle.nv_scan.specs.Dead.{CanGo, IsSaidBy, SameState}
+use Rattle.nv_scan.specs.ReadingWithout.{IsReadWithout, SaysRow}
 use Rattle.nv_scan.specs.Fold.{Holds}
 use Rattle.nv_scan.specs.declared.fold.Fold.{Fold}
 use Rattle.nv_scan.specs.declared.numbers.Numbers.{Numbers}
 use Rattle.nv_scan.specs.declared.piece.Row.{Row}
+
+-- What is kept of these entries says the same as the row: so do the entries, as all of the log.
+pub says_same : {R : Region} {s : Super} {created : ℕ} {es : List Placed} {row : Row} (xs : List Placed) {fold : Fold} → IsSaidBy R s created es row → Holds s row.kind row.inode created xs fold → SaysRow fold row
+    → SameState created (good_entries s row.kind es) (good_entries s row.kind xs)
+says_same xs is holds says = record {
+  size = sym holds.numbers.size ∙ ap (λ (n : Numbers). n.size) says.numbers ∙ is.numbers.size;
+  mode = sym holds.numbers.mode ∙ ap (λ (n : Numbers). n.mode) says.numbers ∙ is.numbers.mode;
+  owner = sym holds.numbers.owner ∙ ap (λ (n : Numbers). n.owner) says.numbers ∙ is.numbers.owner;
+  group = sym holds.numbers.group ∙ ap (λ (n : Numbers). n.group) says.numbers ∙ is.numbers.group;
+  links = sym holds.numbers.links ∙ ap (λ (n : Numbers). n.links) says.numbers ∙ is.numbers.links;
+  time = sym holds.numbers.time ∙ ap (λ (n : Numbers). n.time) says.numbers ∙ is.numbers.time;
+  blocks = λ p. sym (holds.extents p) ∙ says.blocks p ∙ is.index p;
+  names = λ q. sym (holds.names q) ∙ says.names q ∙ is.names q;
+}
 
 module _ (R : Region) (s : Super) (created : ℕ) (es : List Placed) (row : Row) (page : ℕ) (fold : Fold) (pages : List ℕ) (fault : Option LogEnd) (is : IsSaidBy R s created es row) (w : IsReadWithout R s row created page fold pages fault) where
   holds : Holds s row.kind row.inode created (without_page page es) fold
   holds = subst (λ (xs : List Placed). Holds s row.kind row.inode created (without_page page xs) fold) (ReadsOn-only w.reads is.reads).0 w.holds
 
   -- where it says the same, and nothing is wrong
-  pub can : length fold.faults.items ≡ 0 → fold.numbers ≡ row.numbers → ((q : List ℕ) → name_at fold.names q ≡ name_at row.names q) → ((p : ℕ) → block_by fold.extents p ≡ block_at row.index p) → CanGo s row.kind row.inode created es page
-  can none numbers names blocks = record {
-    same = record {
-      size = sym holds.numbers.size ∙ ap (λ (n : Numbers). n.size) numbers ∙ is.numbers.size;
-      mode = sym holds.numbers.mode ∙ ap (λ (n : Numbers). n.mode) numbers ∙ is.numbers.mode;
-      owner = sym holds.numbers.owner ∙ ap (λ (n : Numbers). n.owner) numbers ∙ is.numbers.owner;
-      group = sym holds.numbers.group ∙ ap (λ (n : Numbers). n.group) numbers ∙ is.numbers.group;
-      links = sym holds.numbers.links ∙ ap (λ (n : Numbers). n.links) numbers ∙ is.numbers.links;
-      time = sym holds.numbers.time ∙ ap (λ (n : Numbers). n.time) numbers ∙ is.numbers.time;
-      blocks = λ p. sym (holds.extents p) ∙ blocks p ∙ is.index p;
-      names = λ q. sym (holds.names q) ∙ names q ∙ is.names q;
-    };
-    clean = λ f wrong. (let c = holds.found.all f wrong in let inside = c.1 in omega (arith, inside, none));
+  pub can : SaysRow fold row → CanGo s row.kind row.inode created es page
+  can says = record {
+    same = says_same (without_page page es) is holds says;
+    clean = λ f wrong. (let c = holds.found.all f wrong in let inside = c.1 in let none = says.clean in omega (arith, inside, none));
   }
 
   module _ (go : CanGo s row.kind row.inode created es page) where
@@ -47,10 +50,7 @@ module _ (R : Region) (s : Super) (created : ℕ) (es : List Placed) (row : Row)
     faults_are [] all = refl
     faults_are (f ∷ fs) all = absurd (go.clean f (holds.found.each f (all f (Contains-head f fs))))
 
-    pub no_faults : length fold.faults.items ≡ 0
-    no_faults = faults_are fold.faults.items (λ f c. c)
-
-    pub same_numbers : fold.numbers ≡ row.numbers
+    same_numbers : fold.numbers ≡ row.numbers
     same_numbers t = record {
       size = (holds.numbers.size ∙ go.same.size ∙ sym is.numbers.size) t;
       mode = (holds.numbers.mode ∙ go.same.mode ∙ sym is.numbers.mode) t;
@@ -60,11 +60,13 @@ module _ (R : Region) (s : Super) (created : ℕ) (es : List Placed) (row : Row)
       time = (holds.numbers.time ∙ go.same.time ∙ sym is.numbers.time) t;
     }
 
-    pub same_names : (q : List ℕ) → name_at fold.names q ≡ name_at row.names q
-    same_names q = holds.names q ∙ go.same.names q ∙ sym (is.names q)
-
-    pub same_blocks : (p : ℕ) → block_by fold.extents p ≡ block_at row.index p
-    same_blocks p = holds.extents p ∙ go.same.blocks p ∙ sym (is.index p)
+    pub says : SaysRow fold row
+    says = record {
+      clean = faults_are fold.faults.items (λ f c. c);
+      numbers = same_numbers;
+      names = λ q. holds.names q ∙ go.same.names q ∙ sym (is.names q);
+      blocks = λ p. holds.extents p ∙ go.same.blocks p ∙ sym (is.index p);
+    }
 
 -- what follows from what a call answers
 pub where_done : {T E : Type 0} (result : Result T E) (P Q : T → Type 0) → IfOk result P → ((x : T) → P x → Q x) → IfOk result Q

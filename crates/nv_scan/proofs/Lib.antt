@@ -2,6 +2,10 @@ pub mod Words
 pub mod ReadWithout
 pub mod SameIndexes
 pub mod Deciding
+pub mod InPages
+pub mod InTurn
+pub mod ReadWithoutPages
+pub mod DeadRuns
 pub mod Unspared
 pub mod Standing
 pub mod Pairing

@@ -21,6 +21,7 @@ pub mod Pairs
 pub mod Stamps
 pub mod Changes
 pub mod ReadingWithout
+pub mod InTurn
 pub use Rattle.nv_logpage.specs as nv_logpage
 pub use Rattle.nv_claimmap.specs.ClaimList
 pub use Rattle.nv_claimmap.specs.nv_claimcore

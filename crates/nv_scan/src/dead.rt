@@ -1,6 +1,6 @@
 //! The pages that a log can do without: the state of its inode is the same without their entries.
 
-ghost use Rattle.std.specs.Prelude.{◌≡◌, ◌+◌, ◌<◌, [], ℕ, List, length, IfOk, IfSome, IsTrue, Some, true, false};
+ghost use Rattle.std.specs.Prelude.{◌≡◌, ◌+◌, ◌<◌, ◌≤◌, [], ℕ, List, length, IfOk, IfSome, IsTrue, Some, true, false};
 ghost use Rattle.nv_region.specs.Region.{HasBlocks};
 ghost use Rattle.nv_super.specs.Layout.{HasAreas};
 ghost use Rattle.nv_inode.specs.Slot.{is_right_log};
@@ -9,8 +9,8 @@ ghost use Rattle.nv_logpage.specs.Progress.{at_head};
 ghost use Rattle.nv_names.specs.Names.{name_at};
 ghost use Rattle.nv_radix.specs.Pages.{block_at};
 ghost use Rattle.nv_radix.specs.Runs.{block_by};
-ghost use Rattle.nv_scan.specs.Dead.{CanGo, IsFirstDead, IsSaidBy};
-ghost use Rattle.nv_scan.specs.ReadingWithout.{IsReadWithout};
+ghost use Rattle.nv_scan.specs.Dead.{CanGo, IsDead, IsFirstDead, IsSaidBy};
+ghost use Rattle.nv_scan.specs.ReadingWithout.{IsReadWithout, SaysRow};
 ghost use Rattle.nv_scan.specs.Fold.{Holds};
 
 use crate::fold::{Fold, NameRoom};
@@ -22,16 +22,16 @@ use nv_logpage::{LightFinding, LogEnd, LogReader};
 use nv_names::NameIndex;
 use nv_radix::{Extent, ExtentMap, FileIndex};
 use nv_region::Pmem;
-use nv_super::{BLOCK_SIZE, Super};
+use nv_super::{BLOCK_SIZE, Kind, Super};
 use std::alloc::{AllocError, Global};
 
 /// The first page, by its place, that the log of a row can do without: one before the last, without whose entries the state of
 /// the inode is the same and nothing is wrong with an entry. The log has to be right, and to end at its tail.
 ///
-/// A file's log is read twice, and a directory's once, to learn which of its pages are needed for a page of the file or for a
-/// name. A directory's isn't read where each page but the last has the add of a name that is there. The log is read once more for
-/// each other page that is tried: where nothing is wrong with an entry, the one that can go and, before it, at most one for each
-/// number of the inode.
+/// A file's log is read once without its first page, which is the likeliest to go. Then it is read twice, and a directory's once,
+/// to learn which of its pages are needed for a page of the file or for a name. A directory's isn't read where each page but the
+/// last has the add of a name that is there. The log is read once more for each other page that is tried: where nothing is wrong
+/// with an entry, the one that can go and, before it, at most one for each number of the inode.
 ///
 /// Errors: `AllocError` where a growth was refused.
 pub fn first_dead_page<P: Pmem>(
@@ -47,12 +47,38 @@ pub fn first_dead_page<P: Pmem>(
     ensures before_last { IfOk result (λ found. IfSome found (λ k. k + 1 < length row.now.pages.items)) }
     ensures first { IfOk result (λ found. (es : List PlacedValue) → IsSaidBy (P.region memory.now) sup.now created es row.now → IsFirstDead sup.now row.now.kind row.now.inode created es row.now.pages.items found) }
 {
+    if row.kind == Kind::Directory || row.pages.len() < 2 {
+        return first_dead_from(alloc, memory, sup, row, created, 0);
+    }
+    if can_go(alloc, memory, sup, row, created, row.pages[0])? {
+        return Ok(Some(0));
+    }
+    first_dead_from(alloc, memory, sup, row, created, 1)
+}
+
+/// The same, where the log needs the pages before a place.
+fn first_dead_from<P: Pmem>(
+    alloc: Global,
+    memory: &P,
+    sup: &Super,
+    row: &Row,
+    created: u64,
+    from: usize,
+) -> Result<Option<usize>, AllocError>
+    requires areas { HasAreas sup.now }
+    requires blocks { HasBlocks (P.region memory.now) sup.now.blocks }
+    requires right { is_right_log sup.now row.now.head row.now.tail ≡ true }
+    requires from { from ≤ 1 }
+    requires tried { (es : List PlacedValue) → IsSaidBy (P.region memory.now) sup.now created es row.now → (j : ℕ) → j < from → IsDead sup.now row.now.kind row.now.inode created es row.now.pages.items j → ⊥ }
+    ensures before_last { IfOk result (λ found. IfSome found (λ k. k + 1 < length row.now.pages.items)) }
+    ensures first { IfOk result (λ found. (es : List PlacedValue) → IsSaidBy (P.region memory.now) sup.now created es row.now → IsFirstDead sup.now row.now.kind row.now.inode created es row.now.pages.items found) }
+{
     let pages = row.pages.as_slice();
-    if pages.len() < 2 {
+    if pages.len() < from + 2 {
         return Ok(None);
     }
     let needed = needed_pages(alloc, memory, sup, row, created)?;
-    for behind in 1..pages.len() {
+    for behind in from + 1..pages.len() {
         let page = pages[behind - 1];
         if !has_block(&needed, sup, page) && can_go(alloc, memory, sup, row, created, page)? {
             return Ok(Some(behind - 1));
@@ -79,6 +105,14 @@ fn can_go<P: Pmem>(
     let mut reader = LogReader::new(alloc, sup, row.head, row.tail)?;
     let mut fold = Fold::new(alloc, created);
     let _fault = fold_without(memory, sup, &mut reader, row, created, page, &mut fold)?;
+    says_row(alloc, &fold, row)
+}
+
+/// Whether what is kept says the same as a row, and nothing is wrong with an entry.
+pub(crate) fn says_row(alloc: Global, fold: &Fold, row: &Row) -> Result<bool, AllocError>
+    ensures yes { IfOk result (λ says. IsTrue says → SaysRow fold.now row.now) }
+    ensures no { IfOk result (λ says. says ≡ false → SaysRow fold.now row.now → ⊥) }
+{
     if !fold.faults.is_empty() {
         return Ok(false);
     }

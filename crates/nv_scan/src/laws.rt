@@ -5,7 +5,7 @@ ghost use Rattle.std.specs.List.{Contains, range_with_len};
 ghost use Rattle.nv_region.specs.Region.{Region, word};
 ghost use Rattle.nv_super.specs.Layout.{Layout, IsLayout, is_number, fixed_layout, slot_of, system_blocks};
 ghost use Rattle.nv_super.specs.declared.owners.Owner.{Owner as OwnerValue};
-ghost use Rattle.nv_logpage.specs.Grows.{SamePage};
+ghost use Rattle.nv_logpage.specs.ToTail.{SameToTail};
 ghost use Rattle.nv_super.specs.Order.{Lists};
 ghost use Rattle.nv_names.specs.Names.{Names, ListsNames, name_at};
 ghost use Rattle.nv_super.specs.declared.superblock.Super.{Super as SuperValue};
@@ -30,10 +30,11 @@ pub fn one_inode()
     ensures { (region : Region) (l : Layout) (i a b : ℕ) (x y : Log) → IsInode region l i a x → IsInode region l i b y → (a ≡ b) × (x ≡ y) }
 {}
 
-/// An inode is read from the words of its slot and from its log's pages alone. Its row rests on the creation time too.
+/// An inode is read from the words of its slot and from its log's pages alone, from that of its tail no further than where
+/// an entry ends at most that begins before the tail. Its row rests on the creation time too.
 pub fn inode_alone()
-    ensures log { (region other : Region) (l : Layout) (i a : ℕ) (log : Log) → SameSlot region other a → ((b : ℕ) → Contains log.pages b → SamePage region other b) → IsInode region l i a log → IsInode other l i a log }
-    ensures row { (region other : Region) (l : Layout) (a : ℕ) (log : Log) (row : RowValue) → SameSlot region other a → word other (a + 32) ≡ word region (a + 32) → ((b : ℕ) → Contains log.pages b → SamePage region other b) → IsRow region l a log row → IsRow other l a log row }
+    ensures log { (region other : Region) (l : Layout) (i a : ℕ) (log : Log) → SameSlot region other a → ((b : ℕ) → Contains log.pages b → SameToTail (word region (a + 24)) region other b) → IsInode region l i a log → IsInode other l i a log }
+    ensures row { (region other : Region) (l : Layout) (a : ℕ) (log : Log) (row : RowValue) → SameSlot region other a → word other (a + 32) ≡ word region (a + 32) → ((b : ℕ) → Contains log.pages b → SameToTail (word region (a + 24)) region other b) → IsRow region l a log row → IsRow other l a log row }
 {}
 
 /// An inode is in use exactly where its number has a slot, and the slot a kind; and then it has its log there.

@@ -11,6 +11,7 @@ mod claiming;
 mod claims;
 mod dead;
 mod fold;
+mod in_turn;
 mod in_use;
 mod inodes;
 mod laws;
@@ -31,6 +32,7 @@ mod working;
 
 pub use claims::{Claims, claims_of_rows};
 pub use dead::first_dead_page;
+pub use in_turn::{DeadPages, dead_pages};
 pub use inodes::{Inodes, ListedInodes};
 pub use laws::{
     directories_have_no_pages, files_have_no_names, in_use_by_the_slot, inode_alone,

@@ -24,7 +24,8 @@ use Rattle.nv_calls.proofs.Mounts.{mounted_of_kept}
 use Rattle.nv_session.specs.Calls.{FindsPage, asks_clean, finds_page}
 use Rattle.nv_session.proofs.Asking.{Allows, Refuses}
 use Rattle.nv_session.proofs.Calling.{Answers, not_true, seen}
-use Rattle.nv_session.proofs.OneCall.{first_passes, later_passes, target_there}
+use Rattle.nv_calls.proofs.Allowed.{first_passes, later_passes}
+use Rattle.nv_session.proofs.OneCall.{target_there}
 
 -- Where no test of `stat` refuses a path, it leads to an inode.
 leads_there : (t : Tree) (names : List (List ℕ)) → first_refusal (stat_tests t (Some names)) ≡ None → (i : ℕ) × (node : Node) × LeadsTo t names i node

@@ -10,3 +10,6 @@ pub mod Cleaned
 mod OneCall
 mod OneClean
 mod WriteTests
+mod SeemSame
+mod AlikeCalls
+pub mod AlikeSteps

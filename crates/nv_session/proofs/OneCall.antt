@@ -1,7 +1,7 @@
 -- A call that writes prints one text: its tests are those of the region and of what came to the recovery.
 use Rattle.std.proofs.Common.{◌≡◌, inl, inr, ℕ, ◌+◌, ◌%◌, ◌<◌, Bool, true, false, not, cond, nat_lt, nat_le, nat_eq, ◌&&◌, is_none, is_some, List, [], ◌∷◌, ◌++◌, append_assoc, length, Option, Some, None, Result, Ok, Err, refl, sym, ap, subst, ◌∙◌, arith}
 use Rattle.std.specs.Prelude.{⊤, eqb}
-use Rattle.std.specs.List.{find, list_any}
+use Rattle.std.specs.List.{list_any}
 use Rattle.std.specs.Option.{option_and_then, option_map, option_map_or}
 use Rattle.std.proofs.lemmas.Bool.{cases_lt}
 use Rattle.std.proofs.lemmas.Bool.Decides.{nat_tests}
@@ -37,7 +37,7 @@ use Rattle.nv_paths.specs.Seen.{node_of, tree_of}
 use Rattle.nv_steps.specs.Sizes.{blocks_from, end_block}
 use Rattle.nv_calls.specs.SizeCall.{resized_blocks, size_blocks}
 use Rattle.nv_calls.specs.UnlinkCalls.{has_more_links, unlink_blocks}
-use Rattle.nv_calls.specs.nv_rows.Unused.{numbers_in_table, unused_number}
+use Rattle.nv_calls.specs.nv_rows.Unused.{unused_number}
 use Rattle.nv_calls.specs.World.{world_of}
 use Rattle.nv_calls.specs.WriteCall.{WriteNeeds}
 use Rattle.nv_steps.specs.Writes.{NeedsBlocks, data_blocks, data_entries, plan_of}
@@ -46,7 +46,8 @@ use Rattle.nv_logpage.specs.Append.{needed}
 use Rattle.nv_calls.specs.Effects.{Makes, Logs}
 use Rattle.nv_session.specs.Calls.{Asks, Asked, asks_create, asks_write, asks_size, asks_attributes, asks_link, asks_unlink, asks_remove, asks_rename, asks_clean, seen_in}
 use Rattle.nv_session.specs.Machine.{State, CallsMounted}
-use Rattle.nv_session.proofs.Alike.{Alike, AreSame, alike_rows, rows_at, walk_alike, found_alike, passed_alike, directory_alike}
+use Rattle.nv_calls.proofs.Allowed.{first_passes, later_passes}
+use Rattle.nv_calls.proofs.SeenAlike.{Alike, AreSame, alike_here, rows_at, unused_same, walk_alike, found_alike, passed_alike, directory_alike}
 
 -- Two mounts that nobody can tell apart by what the tests of calls look at.
 pub record SameSeen (m k : Mount ⊤) : Type 0 where
@@ -67,22 +68,11 @@ on_target : (f g : ℕ → Bool) → ((i : ℕ) → g i ≡ f i) → (o : Option
 on_target f g same None = refl
 on_target f g same (Some i) = same i
 
-module _ (S : Region) (m k : Mount ⊤) (same : SameSeen m k) where
-  alike : Alike (tree_of S m.rows) (tree_of S k.rows)
-  alike = alike_rows S m.rows k.rows same.rows
-
+module _ (S U : Region) (m k : Mount ⊤) (same : SameSeen m k) (alike : Alike (tree_of S m.rows) (tree_of U k.rows)) where
   -- ---- what stands beside the tree
 
-  unused_same : (i : ℕ) → is_none (row_of k.rows i) ≡ is_none (row_of m.rows i)
-  unused_same i = by (row_of m.rows i) (row_of k.rows i) (rows_at m.rows k.rows same.rows i) where
-    by : (a b : Option Row) → AreSame a b → is_none b ≡ is_none a
-    by None None s = refl
-    by None (Some b) s = absurd s
-    by (Some a) None s = absurd s
-    by (Some a) (Some b) s = refl
-
   number_same : (cpu : ℕ) → unused_number k.sup k.rows cpu ≡ unused_number m.sup m.rows cpu
-  number_same cpu = ap (λ (s : Super). unused_number s k.rows cpu) same.sup ∙ (λ i. find (λ x. not (nat_eq x 0) && unused_same x i) (numbers_in_table m.sup cpu))
+  number_same cpu = unused_same m.sup k.sup m.rows k.rows same.sup same.rows cpu
 
   world_same : world_of k ≡ world_of m
   world_same = λ i. record { cpus = (same.sup i).cpus; read_only = same.read_only i; unused = λ cpu. number_same cpu i; free = all_blocks (same.pools i) }
@@ -98,9 +88,9 @@ module _ (S : Region) (m k : Mount ⊤) (same : SameSeen m k) where
     by (Some a) None s = absurd s
     by (Some a) (Some b) s = keeps a b s
 
-  target_same : (p : Path) → target (tree_of S k.rows) p ≡ target (tree_of S m.rows) p
+  target_same : (p : Path) → target (tree_of U k.rows) p ≡ target (tree_of S m.rows) p
   target_same None = refl
-  target_same (Some names) = found_alike (tree_of S m.rows) (tree_of S k.rows) alike names
+  target_same (Some names) = found_alike (tree_of S m.rows) (tree_of U k.rows) alike names
 
   rows_needed : (a b : Option Row) → AreSame a b → (e : List Entry) → row_blocks b e ≡ row_blocks a e
   rows_needed None None s e = refl
@@ -108,152 +98,152 @@ module _ (S : Region) (m k : Mount ⊤) (same : SameSeen m k) where
   rows_needed (Some a) None s e = absurd s
   rows_needed (Some a) (Some b) s e = ap (λ (x : ℕ). row_blocks (Some (record b { tail = x })) e) s.tail
 
-  ended_needs : (names : List (List ℕ)) (e : List Entry) → row_blocks (ended_row k.rows (walk (tree_of S k.rows) 1 names)) e ≡ row_blocks (ended_row m.rows (walk (tree_of S m.rows) 1 names)) e
-  ended_needs names e = ap (λ (r : Result ℕ Refusal). row_blocks (ended_row k.rows r) e) (walk_alike (tree_of S m.rows) (tree_of S k.rows) alike names 1) ∙ by (walk (tree_of S m.rows) 1 names) where
+  ended_needs : (names : List (List ℕ)) (e : List Entry) → row_blocks (ended_row k.rows (walk (tree_of U k.rows) 1 names)) e ≡ row_blocks (ended_row m.rows (walk (tree_of S m.rows) 1 names)) e
+  ended_needs names e = ap (λ (r : Result ℕ Refusal). row_blocks (ended_row k.rows r) e) (walk_alike (tree_of S m.rows) (tree_of U k.rows) alike names 1) ∙ by (walk (tree_of S m.rows) 1 names) where
     by : (r : Result ℕ Refusal) → row_blocks (ended_row k.rows r) e ≡ row_blocks (ended_row m.rows r) e
     by (Err r) = refl
     by (Ok d) = rows_needed (row_of m.rows d) (row_of k.rows d) (rows_at m.rows k.rows same.rows d) e
 
-  name_needs : (p : Path) → name_blocks k.rows (tree_of S k.rows) p ≡ name_blocks m.rows (tree_of S m.rows) p
+  name_needs : (p : Path) → name_blocks k.rows (tree_of U k.rows) p ≡ name_blocks m.rows (tree_of S m.rows) p
   name_needs None = refl
   name_needs (Some names) = ended_needs names (name_entries Add 0 (last_name names) 0)
 
-  create_needs : (p : Path) → create_blocks k.rows (tree_of S k.rows) p ≡ create_blocks m.rows (tree_of S m.rows) p
+  create_needs : (p : Path) → create_blocks k.rows (tree_of U k.rows) p ≡ create_blocks m.rows (tree_of S m.rows) p
   create_needs p = ap (λ (n : ℕ). 1 + n) (name_needs p)
 
-  links_needs : (p : Path) → links_blocks k.rows (tree_of S k.rows) p ≡ links_blocks m.rows (tree_of S m.rows) p
+  links_needs : (p : Path) → links_blocks k.rows (tree_of U k.rows) p ≡ links_blocks m.rows (tree_of S m.rows) p
   links_needs p = ap (λ (o : Option ℕ). option_map_or (λ i. row_blocks (row_of k.rows i) (links_entries 0 0)) o 0) (target_same p) ∙ by (target (tree_of S m.rows) p) where
     by : (o : Option ℕ) → option_map_or (λ i. row_blocks (row_of k.rows i) (links_entries 0 0)) o 0 ≡ option_map_or (λ i. row_blocks (row_of m.rows i) (links_entries 0 0)) o 0
     by None = refl
     by (Some i) = rows_needed (row_of m.rows i) (row_of k.rows i) (rows_at m.rows k.rows same.rows i) (links_entries 0 0)
 
-  link_needs : (p q : Path) → link_blocks k.rows (tree_of S k.rows) p q ≡ link_blocks m.rows (tree_of S m.rows) p q
+  link_needs : (p q : Path) → link_blocks k.rows (tree_of U k.rows) p q ≡ link_blocks m.rows (tree_of S m.rows) p q
   link_needs p q = λ i. links_needs p i + name_needs q i
 
-  more_links : (p : Path) → has_more_links (tree_of S k.rows) p ≡ has_more_links (tree_of S m.rows) p
-  more_links p = ap (λ (o : Option ℕ). option_map_or (λ i. nat_lt 1 (links_at (tree_of S k.rows) i)) o false) (target_same p)
-      ∙ on_target (λ i. nat_lt 1 (links_at (tree_of S m.rows) i)) (λ i. nat_lt 1 (links_at (tree_of S k.rows) i)) (λ i. ap (nat_lt 1) (alike.links i)) (target (tree_of S m.rows) p)
+  more_links : (p : Path) → has_more_links (tree_of U k.rows) p ≡ has_more_links (tree_of S m.rows) p
+  more_links p = ap (λ (o : Option ℕ). option_map_or (λ i. nat_lt 1 (links_at (tree_of U k.rows) i)) o false) (target_same p)
+      ∙ on_target (λ i. nat_lt 1 (links_at (tree_of S m.rows) i)) (λ i. nat_lt 1 (links_at (tree_of U k.rows) i)) (λ i. ap (nat_lt 1) (alike.links i)) (target (tree_of S m.rows) p)
 
-  unlink_needs : (p : Path) → unlink_blocks k.rows (tree_of S k.rows) p ≡ unlink_blocks m.rows (tree_of S m.rows) p
+  unlink_needs : (p : Path) → unlink_blocks k.rows (tree_of U k.rows) p ≡ unlink_blocks m.rows (tree_of S m.rows) p
   unlink_needs p = λ i. name_needs p i + cond (more_links p i) (links_needs p i) 0
 
-  rename_needs : (p q : Path) → rename_blocks k.rows (tree_of S k.rows) p q ≡ rename_blocks m.rows (tree_of S m.rows) p q
+  rename_needs : (p q : Path) → rename_blocks k.rows (tree_of U k.rows) p q ≡ rename_blocks m.rows (tree_of S m.rows) p q
   rename_needs None q = refl
   rename_needs (Some names) None = refl
-  rename_needs (Some names) (Some others) = λ i. cond (end_together (walk_alike (tree_of S m.rows) (tree_of S k.rows) alike names 1 i) (walk_alike (tree_of S m.rows) (tree_of S k.rows) alike others 1 i))
+  rename_needs (Some names) (Some others) = λ i. cond (end_together (walk_alike (tree_of S m.rows) (tree_of U k.rows) alike names 1 i) (walk_alike (tree_of S m.rows) (tree_of U k.rows) alike others 1 i))
       (ended_needs names (move_entries 0 (last_name names) (last_name others) 0) i) (name_needs (Some names) i + name_needs (Some others) i)
 
-  size_needs : (p : Path) (size : ℕ) → resized_blocks k.rows (tree_of S k.rows) p size ≡ resized_blocks m.rows (tree_of S m.rows) p size
+  size_needs : (p : Path) (size : ℕ) → resized_blocks k.rows (tree_of U k.rows) p size ≡ resized_blocks m.rows (tree_of S m.rows) p size
   size_needs p size = ap (λ (o : Option ℕ). option_map_or (λ (row : Row). size_blocks row size) (option_and_then (row_of k.rows) o) 0) (target_same p)
       ∙ by_rows (λ (row : Row). size_blocks row size) (λ a b s i. blocks_from (s.tail i) (record { mode = 0; size = 0; time = 0; owner = 0; group = 0 }) (end_block (λ q. s.index q i) ((s.numbers i).size) size)) (target (tree_of S m.rows) p)
 
   abbrev attributes_row : Row → ℕ
   attributes_row row = row_blocks (Some row) (attributes row.numbers.size 0 0 0 0)
 
-  attributes_needs : (p : Path) → attributes_blocks k.rows (tree_of S k.rows) p ≡ attributes_blocks m.rows (tree_of S m.rows) p
+  attributes_needs : (p : Path) → attributes_blocks k.rows (tree_of U k.rows) p ≡ attributes_blocks m.rows (tree_of S m.rows) p
   attributes_needs p = ap (λ (o : Option ℕ). option_map_or attributes_row (option_and_then (row_of k.rows) o) 0) (target_same p)
       ∙ by_rows attributes_row (λ a b s i. attributes_row (record b { tail = s.tail i; numbers = s.numbers i })) (target (tree_of S m.rows) p)
 
   -- ---- the tests of a call
 
   module _ (w : World) (cpu : ℕ) where
-    create_front : (p : Path) (n : ℕ) → first_refusal (create_tests w (tree_of S k.rows) cpu p n) ≡ first_refusal (create_tests w (tree_of S m.rows) cpu p n)
+    create_front : (p : Path) (n : ℕ) → first_refusal (create_tests w (tree_of U k.rows) cpu p n) ≡ first_refusal (create_tests w (tree_of S m.rows) cpu p n)
     create_front None n = refl
-    create_front (Some names) n = rw (walk_alike (tree_of S m.rows) (tree_of S k.rows) alike names 1, found_alike (tree_of S m.rows) (tree_of S k.rows) alike names) refl
+    create_front (Some names) n = rw (walk_alike (tree_of S m.rows) (tree_of U k.rows) alike names 1, found_alike (tree_of S m.rows) (tree_of U k.rows) alike names) refl
 
-    size_front : (p : Path) (size n : ℕ) → first_refusal (set_size_tests w (tree_of S k.rows) cpu p size n) ≡ first_refusal (set_size_tests w (tree_of S m.rows) cpu p size n)
+    size_front : (p : Path) (size n : ℕ) → first_refusal (set_size_tests w (tree_of U k.rows) cpu p size n) ≡ first_refusal (set_size_tests w (tree_of S m.rows) cpu p size n)
     size_front None size n = refl
-    size_front (Some names) size n = rw (walk_alike (tree_of S m.rows) (tree_of S k.rows) alike names 1, found_alike (tree_of S m.rows) (tree_of S k.rows) alike names, directory_alike (tree_of S m.rows) (tree_of S k.rows) alike (found (tree_of S m.rows) names)) refl
+    size_front (Some names) size n = rw (walk_alike (tree_of S m.rows) (tree_of U k.rows) alike names 1, found_alike (tree_of S m.rows) (tree_of U k.rows) alike names, directory_alike (tree_of S m.rows) (tree_of U k.rows) alike (found (tree_of S m.rows) names)) refl
 
-    write_front : (p : Path) (end n : ℕ) → first_refusal (write_tests w (tree_of S k.rows) cpu p end n) ≡ first_refusal (write_tests w (tree_of S m.rows) cpu p end n)
+    write_front : (p : Path) (end n : ℕ) → first_refusal (write_tests w (tree_of U k.rows) cpu p end n) ≡ first_refusal (write_tests w (tree_of S m.rows) cpu p end n)
     write_front None end n = refl
-    write_front (Some names) end n = rw (walk_alike (tree_of S m.rows) (tree_of S k.rows) alike names 1, found_alike (tree_of S m.rows) (tree_of S k.rows) alike names, directory_alike (tree_of S m.rows) (tree_of S k.rows) alike (found (tree_of S m.rows) names)) refl
+    write_front (Some names) end n = rw (walk_alike (tree_of S m.rows) (tree_of U k.rows) alike names 1, found_alike (tree_of S m.rows) (tree_of U k.rows) alike names, directory_alike (tree_of S m.rows) (tree_of U k.rows) alike (found (tree_of S m.rows) names)) refl
 
-    attributes_front : (p : Path) (n : ℕ) → first_refusal (set_attr_tests w (tree_of S k.rows) cpu p n) ≡ first_refusal (set_attr_tests w (tree_of S m.rows) cpu p n)
+    attributes_front : (p : Path) (n : ℕ) → first_refusal (set_attr_tests w (tree_of U k.rows) cpu p n) ≡ first_refusal (set_attr_tests w (tree_of S m.rows) cpu p n)
     attributes_front None n = refl
-    attributes_front (Some names) n = rw (walk_alike (tree_of S m.rows) (tree_of S k.rows) alike names 1, found_alike (tree_of S m.rows) (tree_of S k.rows) alike names) refl
+    attributes_front (Some names) n = rw (walk_alike (tree_of S m.rows) (tree_of U k.rows) alike names 1, found_alike (tree_of S m.rows) (tree_of U k.rows) alike names) refl
 
-    most_links : (o : Option ℕ) → option_map_or (λ i. nat_le 1000 (links_at (tree_of S k.rows) i)) o false ≡ option_map_or (λ i. nat_le 1000 (links_at (tree_of S m.rows) i)) o false
-    most_links = on_target (λ i. nat_le 1000 (links_at (tree_of S m.rows) i)) (λ i. nat_le 1000 (links_at (tree_of S k.rows) i)) (λ i. ap (nat_le 1000) (alike.links i))
+    most_links : (o : Option ℕ) → option_map_or (λ i. nat_le 1000 (links_at (tree_of U k.rows) i)) o false ≡ option_map_or (λ i. nat_le 1000 (links_at (tree_of S m.rows) i)) o false
+    most_links = on_target (λ i. nat_le 1000 (links_at (tree_of S m.rows) i)) (λ i. nat_le 1000 (links_at (tree_of U k.rows) i)) (λ i. ap (nat_le 1000) (alike.links i))
 
-    some_names : (o : Option ℕ) → option_map_or (λ i. nat_lt 0 (count_at (tree_of S k.rows) i)) o false ≡ option_map_or (λ i. nat_lt 0 (count_at (tree_of S m.rows) i)) o false
-    some_names = on_target (λ i. nat_lt 0 (count_at (tree_of S m.rows) i)) (λ i. nat_lt 0 (count_at (tree_of S k.rows) i)) alike.named
+    some_names : (o : Option ℕ) → option_map_or (λ i. nat_lt 0 (count_at (tree_of U k.rows) i)) o false ≡ option_map_or (λ i. nat_lt 0 (count_at (tree_of S m.rows) i)) o false
+    some_names = on_target (λ i. nat_lt 0 (count_at (tree_of S m.rows) i)) (λ i. nat_lt 0 (count_at (tree_of U k.rows) i)) alike.named
 
-    passes_same : (q : Path) (i : ℕ) → passes (tree_of S k.rows) q i ≡ passes (tree_of S m.rows) q i
+    passes_same : (q : Path) (i : ℕ) → passes (tree_of U k.rows) q i ≡ passes (tree_of S m.rows) q i
     passes_same None i = refl
-    passes_same (Some names) i = ap (list_any (eqb i)) (passed_alike (tree_of S m.rows) (tree_of S k.rows) alike names 1)
+    passes_same (Some names) i = ap (list_any (eqb i)) (passed_alike (tree_of S m.rows) (tree_of U k.rows) alike names 1)
 
-    into_itself : (q : Path) (o : Option ℕ) → option_map_or (λ i. is_directory_at (tree_of S k.rows) i && passes (tree_of S k.rows) q i) o false ≡ option_map_or (λ i. is_directory_at (tree_of S m.rows) i && passes (tree_of S m.rows) q i) o false
-    into_itself q = on_target (λ i. is_directory_at (tree_of S m.rows) i && passes (tree_of S m.rows) q i) (λ i. is_directory_at (tree_of S k.rows) i && passes (tree_of S k.rows) q i) (λ i j. alike.kinds i j && passes_same q i j)
+    into_itself : (q : Path) (o : Option ℕ) → option_map_or (λ i. is_directory_at (tree_of U k.rows) i && passes (tree_of U k.rows) q i) o false ≡ option_map_or (λ i. is_directory_at (tree_of S m.rows) i && passes (tree_of S m.rows) q i) o false
+    into_itself q = on_target (λ i. is_directory_at (tree_of S m.rows) i && passes (tree_of S m.rows) q i) (λ i. is_directory_at (tree_of U k.rows) i && passes (tree_of U k.rows) q i) (λ i j. alike.kinds i j && passes_same q i j)
 
-    link_front : (p q : Path) (n : ℕ) → first_refusal (link_tests w (tree_of S k.rows) cpu p q n) ≡ first_refusal (link_tests w (tree_of S m.rows) cpu p q n)
+    link_front : (p q : Path) (n : ℕ) → first_refusal (link_tests w (tree_of U k.rows) cpu p q n) ≡ first_refusal (link_tests w (tree_of S m.rows) cpu p q n)
     link_front None q n = refl
     link_front (Some names) None n = refl
     link_front (Some names) (Some []) n = refl
-    link_front (Some names) (Some (other ∷ others)) n = rw (found_alike (tree_of S m.rows) (tree_of S k.rows) alike names, found_alike (tree_of S m.rows) (tree_of S k.rows) alike (other ∷ others), walk_alike (tree_of S m.rows) (tree_of S k.rows) alike names 1, walk_alike (tree_of S m.rows) (tree_of S k.rows) alike (other ∷ others) 1, directory_alike (tree_of S m.rows) (tree_of S k.rows) alike (found (tree_of S m.rows) names), most_links (found (tree_of S m.rows) names)) refl
+    link_front (Some names) (Some (other ∷ others)) n = rw (found_alike (tree_of S m.rows) (tree_of U k.rows) alike names, found_alike (tree_of S m.rows) (tree_of U k.rows) alike (other ∷ others), walk_alike (tree_of S m.rows) (tree_of U k.rows) alike names 1, walk_alike (tree_of S m.rows) (tree_of U k.rows) alike (other ∷ others) 1, directory_alike (tree_of S m.rows) (tree_of U k.rows) alike (found (tree_of S m.rows) names), most_links (found (tree_of S m.rows) names)) refl
 
-    unlink_front : (p : Path) (n : ℕ) → first_refusal (unlink_tests w (tree_of S k.rows) cpu p n) ≡ first_refusal (unlink_tests w (tree_of S m.rows) cpu p n)
+    unlink_front : (p : Path) (n : ℕ) → first_refusal (unlink_tests w (tree_of U k.rows) cpu p n) ≡ first_refusal (unlink_tests w (tree_of S m.rows) cpu p n)
     unlink_front None n = refl
-    unlink_front (Some names) n = rw (walk_alike (tree_of S m.rows) (tree_of S k.rows) alike names 1, found_alike (tree_of S m.rows) (tree_of S k.rows) alike names, directory_alike (tree_of S m.rows) (tree_of S k.rows) alike (found (tree_of S m.rows) names)) refl
+    unlink_front (Some names) n = rw (walk_alike (tree_of S m.rows) (tree_of U k.rows) alike names 1, found_alike (tree_of S m.rows) (tree_of U k.rows) alike names, directory_alike (tree_of S m.rows) (tree_of U k.rows) alike (found (tree_of S m.rows) names)) refl
 
-    remove_front : (p : Path) (n : ℕ) → first_refusal (rmdir_tests w (tree_of S k.rows) cpu p n) ≡ first_refusal (rmdir_tests w (tree_of S m.rows) cpu p n)
+    remove_front : (p : Path) (n : ℕ) → first_refusal (rmdir_tests w (tree_of U k.rows) cpu p n) ≡ first_refusal (rmdir_tests w (tree_of S m.rows) cpu p n)
     remove_front None n = refl
-    remove_front (Some names) n = rw (walk_alike (tree_of S m.rows) (tree_of S k.rows) alike names 1, found_alike (tree_of S m.rows) (tree_of S k.rows) alike names, directory_alike (tree_of S m.rows) (tree_of S k.rows) alike (found (tree_of S m.rows) names), some_names (found (tree_of S m.rows) names)) refl
+    remove_front (Some names) n = rw (walk_alike (tree_of S m.rows) (tree_of U k.rows) alike names 1, found_alike (tree_of S m.rows) (tree_of U k.rows) alike names, directory_alike (tree_of S m.rows) (tree_of U k.rows) alike (found (tree_of S m.rows) names), some_names (found (tree_of S m.rows) names)) refl
 
-    rename_front : (p q : Path) (n : ℕ) → first_refusal (rename_tests w (tree_of S k.rows) cpu p q n) ≡ first_refusal (rename_tests w (tree_of S m.rows) cpu p q n)
+    rename_front : (p q : Path) (n : ℕ) → first_refusal (rename_tests w (tree_of U k.rows) cpu p q n) ≡ first_refusal (rename_tests w (tree_of S m.rows) cpu p q n)
     rename_front None q n = refl
     rename_front (Some []) q n = refl
     rename_front (Some (name ∷ names)) None n = refl
     rename_front (Some (name ∷ names)) (Some []) n = refl
-    rename_front (Some (name ∷ names)) (Some (other ∷ others)) n = rw (found_alike (tree_of S m.rows) (tree_of S k.rows) alike (name ∷ names), found_alike (tree_of S m.rows) (tree_of S k.rows) alike (other ∷ others), walk_alike (tree_of S m.rows) (tree_of S k.rows) alike (name ∷ names) 1, walk_alike (tree_of S m.rows) (tree_of S k.rows) alike (other ∷ others) 1, into_itself (Some (other ∷ others)) (found (tree_of S m.rows) (name ∷ names))) refl
+    rename_front (Some (name ∷ names)) (Some (other ∷ others)) n = rw (found_alike (tree_of S m.rows) (tree_of U k.rows) alike (name ∷ names), found_alike (tree_of S m.rows) (tree_of U k.rows) alike (other ∷ others), walk_alike (tree_of S m.rows) (tree_of U k.rows) alike (name ∷ names) 1, walk_alike (tree_of S m.rows) (tree_of U k.rows) alike (other ∷ others) 1, into_itself (Some (other ∷ others)) (found (tree_of S m.rows) (name ∷ names))) refl
 
-  pub create_one : (cpu : ℕ) (p : Path) (tests others : Tests) → asks_create cpu S m p tests → asks_create cpu S k p others → first_refusal others ≡ first_refusal tests
+  pub create_one : (cpu : ℕ) (p : Path) (tests others : Tests) → asks_create cpu S m p tests → asks_create cpu U k p others → first_refusal others ≡ first_refusal tests
   create_one cpu p tests others is other = ap first_refusal other
-      ∙ ap (λ (w : World). first_refusal (create_tests w (tree_of S k.rows) cpu p (create_blocks k.rows (tree_of S k.rows) p))) world_same
-      ∙ ap (λ (n : ℕ). first_refusal (create_tests (world_of m) (tree_of S k.rows) cpu p n)) (create_needs p) ∙ create_front (world_of m) cpu p _ ∙ ap first_refusal (sym is)
+      ∙ ap (λ (w : World). first_refusal (create_tests w (tree_of U k.rows) cpu p (create_blocks k.rows (tree_of U k.rows) p))) world_same
+      ∙ ap (λ (n : ℕ). first_refusal (create_tests (world_of m) (tree_of U k.rows) cpu p n)) (create_needs p) ∙ create_front (world_of m) cpu p _ ∙ ap first_refusal (sym is)
 
-  pub size_one : (cpu size : ℕ) (p : Path) (tests others : Tests) → asks_size cpu size S m p tests → asks_size cpu size S k p others → first_refusal others ≡ first_refusal tests
+  pub size_one : (cpu size : ℕ) (p : Path) (tests others : Tests) → asks_size cpu size S m p tests → asks_size cpu size U k p others → first_refusal others ≡ first_refusal tests
   size_one cpu size p tests others is other = ap first_refusal other
-      ∙ ap (λ (w : World). first_refusal (set_size_tests w (tree_of S k.rows) cpu p size (resized_blocks k.rows (tree_of S k.rows) p size))) world_same
-      ∙ ap (λ (n : ℕ). first_refusal (set_size_tests (world_of m) (tree_of S k.rows) cpu p size n)) (size_needs p size) ∙ size_front (world_of m) cpu p size _ ∙ ap first_refusal (sym is)
+      ∙ ap (λ (w : World). first_refusal (set_size_tests w (tree_of U k.rows) cpu p size (resized_blocks k.rows (tree_of U k.rows) p size))) world_same
+      ∙ ap (λ (n : ℕ). first_refusal (set_size_tests (world_of m) (tree_of U k.rows) cpu p size n)) (size_needs p size) ∙ size_front (world_of m) cpu p size _ ∙ ap first_refusal (sym is)
 
-  pub attributes_one : (cpu : ℕ) (p : Path) (tests others : Tests) → asks_attributes cpu S m p tests → asks_attributes cpu S k p others → first_refusal others ≡ first_refusal tests
+  pub attributes_one : (cpu : ℕ) (p : Path) (tests others : Tests) → asks_attributes cpu S m p tests → asks_attributes cpu U k p others → first_refusal others ≡ first_refusal tests
   attributes_one cpu p tests others is other = ap first_refusal other
-      ∙ ap (λ (w : World). first_refusal (set_attr_tests w (tree_of S k.rows) cpu p (attributes_blocks k.rows (tree_of S k.rows) p))) world_same
-      ∙ ap (λ (n : ℕ). first_refusal (set_attr_tests (world_of m) (tree_of S k.rows) cpu p n)) (attributes_needs p) ∙ attributes_front (world_of m) cpu p _ ∙ ap first_refusal (sym is)
+      ∙ ap (λ (w : World). first_refusal (set_attr_tests w (tree_of U k.rows) cpu p (attributes_blocks k.rows (tree_of U k.rows) p))) world_same
+      ∙ ap (λ (n : ℕ). first_refusal (set_attr_tests (world_of m) (tree_of U k.rows) cpu p n)) (attributes_needs p) ∙ attributes_front (world_of m) cpu p _ ∙ ap first_refusal (sym is)
 
-  pub link_one : (cpu : ℕ) (q p : Path) (tests others : Tests) → asks_link cpu q S m p tests → asks_link cpu q S k p others → first_refusal others ≡ first_refusal tests
+  pub link_one : (cpu : ℕ) (q p : Path) (tests others : Tests) → asks_link cpu q S m p tests → asks_link cpu q U k p others → first_refusal others ≡ first_refusal tests
   link_one cpu q p tests others is other = ap first_refusal other
-      ∙ ap (λ (w : World). first_refusal (link_tests w (tree_of S k.rows) cpu p q (link_blocks k.rows (tree_of S k.rows) p q))) world_same
-      ∙ ap (λ (n : ℕ). first_refusal (link_tests (world_of m) (tree_of S k.rows) cpu p q n)) (link_needs p q) ∙ link_front (world_of m) cpu p q _ ∙ ap first_refusal (sym is)
+      ∙ ap (λ (w : World). first_refusal (link_tests w (tree_of U k.rows) cpu p q (link_blocks k.rows (tree_of U k.rows) p q))) world_same
+      ∙ ap (λ (n : ℕ). first_refusal (link_tests (world_of m) (tree_of U k.rows) cpu p q n)) (link_needs p q) ∙ link_front (world_of m) cpu p q _ ∙ ap first_refusal (sym is)
 
-  pub unlink_one : (cpu : ℕ) (p : Path) (tests others : Tests) → asks_unlink cpu S m p tests → asks_unlink cpu S k p others → first_refusal others ≡ first_refusal tests
+  pub unlink_one : (cpu : ℕ) (p : Path) (tests others : Tests) → asks_unlink cpu S m p tests → asks_unlink cpu U k p others → first_refusal others ≡ first_refusal tests
   unlink_one cpu p tests others is other = ap first_refusal other
-      ∙ ap (λ (w : World). first_refusal (unlink_tests w (tree_of S k.rows) cpu p (unlink_blocks k.rows (tree_of S k.rows) p))) world_same
-      ∙ ap (λ (n : ℕ). first_refusal (unlink_tests (world_of m) (tree_of S k.rows) cpu p n)) (unlink_needs p) ∙ unlink_front (world_of m) cpu p _ ∙ ap first_refusal (sym is)
+      ∙ ap (λ (w : World). first_refusal (unlink_tests w (tree_of U k.rows) cpu p (unlink_blocks k.rows (tree_of U k.rows) p))) world_same
+      ∙ ap (λ (n : ℕ). first_refusal (unlink_tests (world_of m) (tree_of U k.rows) cpu p n)) (unlink_needs p) ∙ unlink_front (world_of m) cpu p _ ∙ ap first_refusal (sym is)
 
-  pub remove_one : (cpu : ℕ) (p : Path) (tests others : Tests) → asks_remove cpu S m p tests → asks_remove cpu S k p others → first_refusal others ≡ first_refusal tests
+  pub remove_one : (cpu : ℕ) (p : Path) (tests others : Tests) → asks_remove cpu S m p tests → asks_remove cpu U k p others → first_refusal others ≡ first_refusal tests
   remove_one cpu p tests others is other = ap first_refusal other
-      ∙ ap (λ (w : World). first_refusal (rmdir_tests w (tree_of S k.rows) cpu p (name_blocks k.rows (tree_of S k.rows) p))) world_same
-      ∙ ap (λ (n : ℕ). first_refusal (rmdir_tests (world_of m) (tree_of S k.rows) cpu p n)) (name_needs p) ∙ remove_front (world_of m) cpu p _ ∙ ap first_refusal (sym is)
+      ∙ ap (λ (w : World). first_refusal (rmdir_tests w (tree_of U k.rows) cpu p (name_blocks k.rows (tree_of U k.rows) p))) world_same
+      ∙ ap (λ (n : ℕ). first_refusal (rmdir_tests (world_of m) (tree_of U k.rows) cpu p n)) (name_needs p) ∙ remove_front (world_of m) cpu p _ ∙ ap first_refusal (sym is)
 
-  pub rename_one : (cpu : ℕ) (q p : Path) (tests others : Tests) → asks_rename cpu q S m p tests → asks_rename cpu q S k p others → first_refusal others ≡ first_refusal tests
+  pub rename_one : (cpu : ℕ) (q p : Path) (tests others : Tests) → asks_rename cpu q S m p tests → asks_rename cpu q U k p others → first_refusal others ≡ first_refusal tests
   rename_one cpu q p tests others is other = ap first_refusal other
-      ∙ ap (λ (w : World). first_refusal (rename_tests w (tree_of S k.rows) cpu p q (rename_blocks k.rows (tree_of S k.rows) p q))) world_same
-      ∙ ap (λ (n : ℕ). first_refusal (rename_tests (world_of m) (tree_of S k.rows) cpu p q n)) (rename_needs p q) ∙ rename_front (world_of m) cpu p q _ ∙ ap first_refusal (sym is)
+      ∙ ap (λ (w : World). first_refusal (rename_tests w (tree_of U k.rows) cpu p q (rename_blocks k.rows (tree_of U k.rows) p q))) world_same
+      ∙ ap (λ (n : ℕ). first_refusal (rename_tests (world_of m) (tree_of U k.rows) cpu p q n)) (rename_needs p q) ∙ rename_front (world_of m) cpu p q _ ∙ ap first_refusal (sym is)
 
-  clean_front : (w : World) (p : Path) → first_refusal (clean_tests w (tree_of S k.rows) p) ≡ first_refusal (clean_tests w (tree_of S m.rows) p)
+  clean_front : (w : World) (p : Path) → first_refusal (clean_tests w (tree_of U k.rows) p) ≡ first_refusal (clean_tests w (tree_of S m.rows) p)
   clean_front w None = refl
-  clean_front w (Some names) = rw (walk_alike (tree_of S m.rows) (tree_of S k.rows) alike names 1, found_alike (tree_of S m.rows) (tree_of S k.rows) alike names) refl
+  clean_front w (Some names) = rw (walk_alike (tree_of S m.rows) (tree_of U k.rows) alike names 1, found_alike (tree_of S m.rows) (tree_of U k.rows) alike names) refl
 
-  pub clean_one : (p : Path) (tests others : Tests) → asks_clean S m p tests → asks_clean S k p others → first_refusal others ≡ first_refusal tests
+  pub clean_one : (p : Path) (tests others : Tests) → asks_clean S m p tests → asks_clean U k p others → first_refusal others ≡ first_refusal tests
   clean_one p tests others is other = ap first_refusal other
-      ∙ ap (λ (w : World). first_refusal (clean_tests w (tree_of S k.rows) p)) world_same ∙ clean_front (world_of m) p ∙ ap first_refusal (sym is)
+      ∙ ap (λ (w : World). first_refusal (clean_tests w (tree_of U k.rows) p)) world_same ∙ clean_front (world_of m) p ∙ ap first_refusal (sym is)
 
   -- ---- a write
 
   -- what a write needs of the one it needs of the other
-  needs_too : (cpu : ℕ) (p : Path) (offset bytes time count : ℕ) → WriteNeeds S k cpu p offset bytes time count → WriteNeeds S m cpu p offset bytes time count
+  needs_too : (cpu : ℕ) (p : Path) (offset bytes time count : ℕ) → WriteNeeds U k cpu p offset bytes time count → WriteNeeds S m cpu p offset bytes time count
   needs_too cpu p offset bytes time count needs = record {
     none = needs.none;
     some = λ pos row is. by pos row is (target (tree_of S m.rows) p) refl;
@@ -287,15 +277,6 @@ after_front (x ∷ a) b c same = by x.0 same (after_front a b c) where
       → cond t (Some x.1) (first_refusal (a ++ b)) ≡ cond t (Some x.1) (first_refusal (a ++ c))
   by true same rest = refl
   by false same rest = rest same
-
--- a test that passes
-pub first_passes : (x : Bool × Refusal) (tests : Tests) → first_refusal (x ∷ tests) ≡ None → (x.0 ≡ false) × (first_refusal tests ≡ None)
-first_passes (true, e) tests none = absurd (cc)
-first_passes (false, e) tests none = (refl, none)
-
-pub later_passes : (a b : Tests) → first_refusal (a ++ b) ≡ None → first_refusal b ≡ None
-later_passes [] b none = none
-later_passes (x ∷ a) b none = later_passes a b (first_passes x (a ++ b) none).1
 
 needs_one : (pools : List (List Run)) (cpu tail : ℕ) (mapped : ℕ → Option ℕ) (size offset bytes time a b : ℕ) → cpu < length pools → NeedsBlocks pools cpu tail (plan_of mapped size offset bytes time) a → NeedsBlocks pools cpu tail (plan_of mapped size offset bytes time) b → a ≡ b
 needs_one pools cpu tail mapped size offset bytes time a b inside (inl p) (inl q) = p.1 ∙ sym q.1
@@ -354,24 +335,24 @@ module _ (S : Region) (m : Mount ⊤) (cpu : ℕ) (p : Path) (end : ℕ) where
       let four = first_passes (is_missing (tree_of S m.rows) p) (is_dir (tree_of S m.rows) p ∷ is_too_large end ∷ []) (later_passes (walk_tests (tree_of S m.rows) p) behind_walk three.1) in
       (below cpu m.sup.cpus one.0, four.0)
 
-pub write_one : (S : Region) (m k : Mount ⊤) → SameSeen m k → length m.free.pools ≡ m.sup.cpus → (cpu offset bytes time : ℕ) (p : Path) (tests others : Tests) → asks_write cpu offset bytes time S m p tests → asks_write cpu offset bytes time S k p others → first_refusal others ≡ first_refusal tests
-write_one S m k same count cpu offset bytes time p tests others (a, needs, is) (b, more, other) =
+pub write_one : (S U : Region) (m k : Mount ⊤) → SameSeen m k → Alike (tree_of S m.rows) (tree_of U k.rows) → length m.free.pools ≡ m.sup.cpus → (cpu offset bytes time : ℕ) (p : Path) (tests others : Tests) → asks_write cpu offset bytes time S m p tests → asks_write cpu offset bytes time U k p others → first_refusal others ≡ first_refusal tests
+write_one S U m k same alike count cpu offset bytes time p tests others (a, needs, is) (b, more, other) =
     ap first_refusal other
-    ∙ ap (λ (w : World). first_refusal (write_tests w (tree_of S k.rows) cpu p (offset + bytes) b)) (world_same S m k same)
-    ∙ write_front S m k same (world_of m) cpu p (offset + bytes) b
+    ∙ ap (λ (w : World). first_refusal (write_tests w (tree_of U k.rows) cpu p (offset + bytes) b)) (world_same S U m k same alike)
+    ∙ write_front S U m k same alike (world_of m) cpu p (offset + bytes) b
     ∙ ap first_refusal (whole S m cpu p (offset + bytes) b)
     ∙ after_front (front S m cpu p (offset + bytes)) _ _ (λ none. ap (λ (n : ℕ). first_refusal (has_no_space (world_of m) n ∷ [])) (same_counts none))
     ∙ sym (ap first_refusal (whole S m cpu p (offset + bytes) a))
     ∙ ap first_refusal (sym is) where
       same_counts : first_refusal (front S m cpu p (offset + bytes)) ≡ None → b ≡ a
       same_counts none = (let passes = front_passes S m cpu p (offset + bytes) none in
-          write_counts S m cpu p offset bytes time b a (subst (λ (n : ℕ). cpu < n) (sym count) passes.0) passes.1 (needs_too S m k same cpu p offset bytes time b more) needs)
+          write_counts S m cpu p offset bytes time b a (subst (λ (n : ℕ). cpu < n) (sym count) passes.0) passes.1 (needs_too S U m k same alike cpu p offset bytes time b more) needs)
 
 -- ---- the text of a call
 
--- the tests say one thing of mounts that nobody can tell apart
+-- the tests say one thing of mounts that nobody can tell apart, of which the trees show the same
 abbrev pub AskedOnce : Asks → Type 0
-AskedOnce asks = (S : Region) (m k : Mount ⊤) → SameSeen m k → length m.free.pools ≡ m.sup.cpus → (p : Path) (tests others : Tests) → asks S m p tests → asks S k p others → first_refusal others ≡ first_refusal tests
+AskedOnce asks = (S U : Region) (m k : Mount ⊤) → SameSeen m k → Alike (tree_of S m.rows) (tree_of U k.rows) → length m.free.pools ≡ m.sup.cpus → (p : Path) (tests others : Tests) → asks S m p tests → asks U k p others → first_refusal others ≡ first_refusal tests
 
 -- and what is left of the logs of such mounts is answered by one line
 abbrev pub AnsweredOnce : {A : Type 0} → (A → List ℕ) → (A → Logs ⊤) → Type 0
@@ -379,7 +360,7 @@ AnsweredOnce {A} line logs = (S : Region) (m k : Mount ⊤) → SameSeen m k →
 
 module _ {A : Type 0} (line : A → List ℕ) (asks : Asks) (makes : Makes ⊤) (logs : A → Logs ⊤) (path : List ℕ) (one : AskedOnce asks) (answered : AnsweredOnce line logs) where
   asked_one : (R S : Region) (a b : Asked asks R S path) → first_refusal b.tests ≡ first_refusal a.tests
-  asked_one R S a b = one S (seen_in a) (seen_in b) (same_seen asks R S path a b) a.of_here.free.pools a.path_is a.tests b.tests a.are
+  asked_one R S a b = one S S (seen_in a) (seen_in b) (same_seen asks R S path a b) (let same = same_seen asks R S path a b in alike_here S a.here.rows b.here.rows same.rows) a.of_here.free.pools a.path_is a.tests b.tests a.are
       (subst (λ (p : Path). asks S (seen_in b) p b.tests) (says_one path b.path_is a.path_is b.says a.says) b.are)
 
   pub called_text : (mounted region : Option Region) (old m n : State) (s t : List ℕ) → CallsMounted asks makes logs line path mounted region old s m → CallsMounted asks makes logs line path mounted region old t n → s ≡ t

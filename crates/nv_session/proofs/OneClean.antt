@@ -1,4 +1,4 @@
--- `clean` answers one thing: a region shows one thing, and of the pages that a log can do without one is the first.
+-- `clean` answers one thing of a region, which shows one thing.
 use Rattle.std.proofs.Common.{◌≡◌, inl, inr, ℕ, get_or, List, Option, Some, None, refl, sym, ap, subst, ◌∙◌, arith}
 use Rattle.std.proofs.Math.Logic.{∥∥₁_elim}
 use Rattle.std.proofs.Math.Nat.{ℕ_set}
@@ -16,27 +16,9 @@ use Rattle.nv_calls.specs.Mount.{Mount}
 use Rattle.nv_paths.specs.Seen.{tree_of}
 use Rattle.nv_text.specs.Answers.{cleaned_line}
 use Rattle.nv_session.specs.Calls.{FindsPage, finds_page}
-use Rattle.nv_session.proofs.Alike.{alike_rows, found_alike}
+use Rattle.nv_calls.proofs.CleanAlike.{went_one}
+use Rattle.nv_calls.proofs.SeenAlike.{alike_here, found_alike}
 use Rattle.nv_session.proofs.OneCall.{AnsweredOnce, SameSeen}
-
-module _ (s : Super) (i : ℕ) (h : Held) where
-  first_one : (j k : ℕ) → IsFirstDead s h.kind i h.created h.entries h.pages (Some j) → IsFirstDead s h.kind i h.created h.entries h.pages (Some k) → j ≡ k
-  first_one j k p q = elim (cases_lt j k) [
-    | inl before ↦ absurd (q.1 j before p.0)
-    | inr behind ↦ elim (cases_lt k j) [ inl after ↦ absurd (p.1 k after q.0) | inr same ↦ omega (arith, behind, same) ]
-  ]
-
-  module _ (S T U : Region) (held : Store) where
-    went_one : (x y : Option ℕ) → ShowsCleaned S T s held i h x → ShowsCleaned S U s held i h y → x ≡ y
-    went_one None None p q = refl
-    went_one None (Some c) p q = absurd (∥∥₁_elim q (hlevel props) (λ w. (let went = w.1 in let first = went.first in p.0 w.0 first.0)))
-    went_one (Some b) None p q = absurd (∥∥₁_elim p (hlevel props) (λ w. (let went = w.1 in let first = went.first in q.0 w.0 first.0)))
-    went_one (Some b) (Some c) p q = ap (λ (n : ℕ). Some n) (∥∥₁_elim p same (λ v. ∥∥₁_elim q same (λ w. (
-        let one = v.1 in
-        let other = w.1 in
-        one.block ∙ ap (λ (k : ℕ). get_or h.pages k 0) (first_one v.0 w.0 one.first other.first) ∙ sym other.block)))) where
-          same : IsProp (b ≡ c)
-          same = hlevel (props, ℕ_set)
 
 -- what is found of one region twice, by mounts that nobody can tell apart
 found_one : (S : Region) (m k : Mount ⊤) → SameSeen m k → (names : List (List ℕ)) (T U : Region) (x y : Option ℕ) → FindsPage x S m names T → FindsPage y S k names U → x ≡ y
@@ -45,10 +27,10 @@ found_one S m k same names T U x y p q =
     let second = q.leads in
     let one = p.sound in
     let other : ShowsSound S m.sup q.held = subst (λ (s : Super). ShowsSound S s q.held) same.sup q.sound in
-    let number : q.inode ≡ p.inode = (let both : Some q.inode ≡ Some p.inode = sym second.leads ∙ found_alike (tree_of S m.rows) (tree_of S k.rows) (alike_rows S m.rows k.rows same.rows) names ∙ first.leads in cc) in
+    let number : q.inode ≡ p.inode = (let both : Some q.inode ≡ Some p.inode = sym second.leads ∙ found_alike (tree_of S m.rows) (tree_of S k.rows) (alike_here S m.rows k.rows same.rows) names ∙ first.leads in cc) in
     let held : q.held ≡ p.held = one_held other.shows one.shows in
     let log : q.log ≡ p.log = (let both : Some q.log ≡ Some p.log = sym q.is ∙ (λ t. held t (number t)) ∙ p.is in cc) in
-    went_one m.sup p.inode p.log S T U p.held x y p.went
+    went_one m.sup p.inode p.log S S T U p.held x y p.went
     (subst (λ (h : Held). ShowsCleaned S U m.sup p.held p.inode h y) log
     (subst (λ (i : ℕ). ShowsCleaned S U m.sup p.held i q.log y) number
     (subst (λ (st : Store). ShowsCleaned S U m.sup st q.inode q.log y) held

@@ -5,7 +5,8 @@ use Rattle.nv_tree.specs.Refusals.{Path}
 use Rattle.nv_super.specs.declared.kind.Kind.TheVariants.{File, Directory}
 use Rattle.nv_tree.proofs.Texts.{says_one}
 use Rattle.nv_paths.specs.Seen.{tree_of}
-use Rattle.nv_session.proofs.Alike.{Alike, alike_rows, stat_one, names_one, bytes_one}
+use Rattle.nv_calls.proofs.SeenAlike.{Alike, alike_here}
+use Rattle.nv_session.proofs.Alike.{stat_one, names_one, bytes_one}
 use Rattle.nv_session.proofs.OneCall.{AskedOnce, AnsweredOnce, called_text, clean_one, create_one, write_one, size_one, attributes_one, link_one, unlink_one, remove_one, rename_one}
 use Rattle.nv_session.proofs.OneClean.{clean_answered}
 use Rattle.std.specs.Prelude.{⊤, MatchBool, codes, replicate}
@@ -107,7 +108,7 @@ reads_one : (Tells : trees.Tree → Path → List ℕ → Type 0) → ((t u : tr
 reads_one Tells one None region path old s t m n p q = given_one _ _ s t m n p q
 reads_one Tells one (Some R) None path old s t m n p q = absurd p
 reads_one Tells one (Some R) (Some S) path old s t m n p q =
-    let alike = alike_rows S p.0.rows q.0.rows (same_outcome S p.0 q.0 p.1 q.1).rows in
+    let alike = alike_here S p.0.rows q.0.rows (same_outcome S p.0 q.0 p.1 q.1).rows in
     let same = says_one path q.2 p.2 q.3 p.3 in
     (one (tree_of S p.0.rows) (tree_of S q.0.rows) alike p.2 s t p.4 (subst (λ (x : Path). Tells (tree_of S q.0.rows) x t) same q.4), p.5 ∙ sym q.5)
 
@@ -159,16 +160,16 @@ call_text_by_two asks makes logs path other one old m n s t p q =
     call_text (asks p.0) (makes p.0) (logs p.0) path (one p.0) old m n s t p.2 (subst (λ (x : Path). Calls false (asks x) (makes x) (logs x) path old t n) (says_one other q.0 p.0 q.1 p.1) q.2)
 
 does_text : (old : State) (request : Request) (m n : State) (s t : List ℕ) → Does false request old s m → Does false request old t n → s ≡ t
-does_text old (Create cpu path) m n s t p q = call_text (asks_create cpu) (makes_inode File cpu file_mode old.time) (logs_inode File cpu file_mode old.time) path (λ S m k same count. create_one S m k same cpu) old m n s t p q
-does_text old (MakeDirectory cpu path) m n s t p q = call_text (asks_create cpu) (makes_inode Directory cpu directory_mode old.time) (logs_inode Directory cpu directory_mode old.time) path (λ S m k same count. create_one S m k same cpu) old m n s t p q
-does_text old (Write cpu path offset count byte) m n s t p q = call_text (asks_write cpu offset count old.time) (makes_bytes offset (replicate count byte) old.time) (LogsBytes cpu offset count old.time) path (λ S m k same counts. write_one S m k same counts cpu offset count old.time) old m n s t p q
-does_text old (SetSize cpu path bytes) m n s t p q = call_text (asks_size cpu bytes) (makes_size bytes old.time) (logs_size cpu bytes old.time) path (λ S m k same count. size_one S m k same cpu bytes) old m n s t p q
-does_text old (SetAttributes cpu path mode owner group) m n s t p q = call_text (asks_attributes cpu) (makes_attributes mode owner group old.time) (logs_attributes cpu mode owner group old.time) path (λ S m k same count. attributes_one S m k same cpu) old m n s t p q
-does_text old (Link cpu path other) m n s t p q = call_text_by_two (asks_link cpu) (makes_link old.time) (logs_link cpu old.time) path other (λ r S m k same count. link_one S m k same cpu r) old m n s t p q
-does_text old (Unlink cpu path) m n s t p q = call_text (asks_unlink cpu) (makes_unlink old.time) (LogsUnlink cpu old.time) path (λ S m k same count. unlink_one S m k same cpu) old m n s t p q
-does_text old (RemoveDirectory cpu path) m n s t p q = call_text (asks_remove cpu) (makes_removal old.time) (logs_removal cpu old.time) path (λ S m k same count. remove_one S m k same cpu) old m n s t p q
-does_text old (Rename cpu path other) m n s t p q = call_text_by_two (asks_rename cpu) (makes_rename old.time) (logs_rename cpu old.time) path other (λ r S m k same count. rename_one S m k same cpu r) old m n s t p q
-does_text old (Clean path) m n s t p q = telling_text cleaned_line asks_clean makes_no_change finds_page logs_page_less path (λ S m k same count. clean_one S m k same) clean_answered old m n s t p q
+does_text old (Create cpu path) m n s t p q = call_text (asks_create cpu) (makes_inode File cpu file_mode old.time) (logs_inode File cpu file_mode old.time) path (λ S U m k same alike count. create_one S U m k same alike cpu) old m n s t p q
+does_text old (MakeDirectory cpu path) m n s t p q = call_text (asks_create cpu) (makes_inode Directory cpu directory_mode old.time) (logs_inode Directory cpu directory_mode old.time) path (λ S U m k same alike count. create_one S U m k same alike cpu) old m n s t p q
+does_text old (Write cpu path offset count byte) m n s t p q = call_text (asks_write cpu offset count old.time) (makes_bytes offset (replicate count byte) old.time) (LogsBytes cpu offset count old.time) path (λ S U m k same alike counts. write_one S U m k same alike counts cpu offset count old.time) old m n s t p q
+does_text old (SetSize cpu path bytes) m n s t p q = call_text (asks_size cpu bytes) (makes_size bytes old.time) (logs_size cpu bytes old.time) path (λ S U m k same alike count. size_one S U m k same alike cpu bytes) old m n s t p q
+does_text old (SetAttributes cpu path mode owner group) m n s t p q = call_text (asks_attributes cpu) (makes_attributes mode owner group old.time) (logs_attributes cpu mode owner group old.time) path (λ S U m k same alike count. attributes_one S U m k same alike cpu) old m n s t p q
+does_text old (Link cpu path other) m n s t p q = call_text_by_two (asks_link cpu) (makes_link old.time) (logs_link cpu old.time) path other (λ r S U m k same alike count. link_one S U m k same alike cpu r) old m n s t p q
+does_text old (Unlink cpu path) m n s t p q = call_text (asks_unlink cpu) (makes_unlink old.time) (LogsUnlink cpu old.time) path (λ S U m k same alike count. unlink_one S U m k same alike cpu) old m n s t p q
+does_text old (RemoveDirectory cpu path) m n s t p q = call_text (asks_remove cpu) (makes_removal old.time) (logs_removal cpu old.time) path (λ S U m k same alike count. remove_one S U m k same alike cpu) old m n s t p q
+does_text old (Rename cpu path other) m n s t p q = call_text_by_two (asks_rename cpu) (makes_rename old.time) (logs_rename cpu old.time) path other (λ r S U m k same alike count. rename_one S U m k same alike cpu r) old m n s t p q
+does_text old (Clean path) m n s t p q = telling_text cleaned_line asks_clean makes_no_change finds_page logs_page_less path (λ S U m k same alike count. clean_one S U m k same alike) clean_answered old m n s t p q
 does_text old (Format cpus blocks tables) m n s t p q = (does_one old (Format cpus blocks tables) refl s t m n p q).0
 does_text old (Time time) m n s t p q = (does_one old (Time time) refl s t m n p q).0
 does_text old (Poke at value) m n s t p q = (does_one old (Poke at value) refl s t m n p q).0

@@ -15,7 +15,7 @@ mod store;
 mod texts;
 
 pub use files::{CallText, list_text, refused_call_text, stat_text};
-pub use laws::one_step;
+pub use laws::{alike_states_answer_alike, one_step};
 pub use making::{Made, new_region};
 pub use nv_calls::{FormatRefusal, Fs};
 pub use nv_tree::Refusal as CallRefusal;

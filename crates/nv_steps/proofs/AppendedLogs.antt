@@ -95,133 +95,146 @@ module _ {R : Region} {s : Super} {free after : FreeLists} {first second row oth
   two : StandsRight R s (cut_each fresh more all).0 second
   two = stands_after other_stands.0 first_taken
 
-  -- There is room for the pages.
-  pub first_room : HasRoomFor row.pages (length fresh)
-  first_room = let room = ready.room in omega (arith, room, count)
+  -- The blocks, split where those of the first log end.
+  module _ {m : ℕ} {given_blocks front back : List ℕ} (m_is : m ≡ needed (row.tail % 4096) entries) (value : given_blocks ≡ items) (front_is : front ≡ take m given_blocks) (back_is : back ≡ drop m given_blocks) where
+    so_many : m ≡ n
+    so_many = let same = ready.same in m_is ∙ ap (λ (t : ℕ). needed (t % 4096) entries) same.tail
 
-  pub second_room : HasRoomFor other.pages (length more)
-  second_room = let room = other_ready.room in omega (arith, room, more_count)
+    front_fresh : front ≡ fresh
+    front_fresh = front_is ∙ (λ t. take (so_many t) (value t))
 
-  -- so many blocks are the first log's
-  pub count_is : (m : ℕ) → m ≡ needed (row.tail % 4096) entries → m ≡ n
-  count_is m told = let same = ready.same in told ∙ ap (λ (t : ℕ). needed (t % 4096) entries) same.tail
+    back_more : back ≡ more
+    back_more = back_is ∙ (λ t. drop (so_many t) (value t))
 
-  module _ (x y : Extension) (slot : x.slot ≡ slot_address s row.inode) (tail : x.tail ≡ row.tail) (es : x.entries.now ≡ entries) (blocks : x.fresh.now ≡ fresh)
-      (other_slot : y.slot ≡ slot_address s other.inode) (other_tail : y.tail ≡ other.tail) (other_es : y.entries.now ≡ others) (other_blocks : y.fresh.now ≡ more) where
-    slot_is : x.slot ≡ slot_address s first.inode
-    slot_is = let same = ready.same in slot ∙ ap (slot_address s) same.inode
+    -- There is room for the pages.
+    pub first_room : HasRoomFor row.pages (length front)
+    first_room = let room = ready.room in subst (λ (bs : List ℕ). HasRoomFor row.pages (length bs)) (sym front_fresh) (omega (arith, room, count))
 
-    tail_is : x.tail ≡ first.tail
-    tail_is = let same = ready.same in tail ∙ same.tail
+    pub second_room : HasRoomFor other.pages (length back)
+    second_room = let room = other_ready.room in subst (λ (bs : List ℕ). HasRoomFor other.pages (length bs)) (sym back_more) (omega (arith, room, more_count))
 
-    other_slot_is : y.slot ≡ slot_address s second.inode
-    other_slot_is = let same = other_ready.same in other_slot ∙ ap (slot_address s) same.inode
+    module _ (x y : Extension) (slot : x.slot ≡ slot_address s row.inode) (tail : x.tail ≡ row.tail) (es : x.entries.now ≡ entries) (x_blocks : x.fresh.now ≡ front)
+        (other_slot : y.slot ≡ slot_address s other.inode) (other_tail : y.tail ≡ other.tail) (other_es : y.entries.now ≡ others) (y_blocks : y.fresh.now ≡ back) where
+      blocks : x.fresh.now ≡ fresh
+      blocks = x_blocks ∙ front_fresh
 
-    other_tail_is : y.tail ≡ second.tail
-    other_tail_is = let same = other_ready.same in other_tail ∙ same.tail
+      other_blocks : y.fresh.now ≡ more
+      other_blocks = y_blocks ∙ back_more
 
-    pub first_commits : CanCommit R cpu x
-    first_commits = row_commits entries stands.0 stands.1 first_taken count given x slot_is tail_is es blocks
+      slot_is : x.slot ≡ slot_address s first.inode
+      slot_is = let same = ready.same in slot ∙ ap (slot_address s) same.inode
 
-    pub second_commits : CanCommit R cpu y
-    second_commits = row_commits others two other_stands.1 more_taken more_count more_given y other_slot_is other_tail_is other_es other_blocks
+      tail_is : x.tail ≡ first.tail
+      tail_is = let same = ready.same in tail ∙ same.tail
 
-    extends_two : (held : Store) (f h : Held) → ShowsRow R s held f first free → ShowsRow R s held h second free → CanExtendTwo R s held cpu first.inode f x second.inode h y
-    extends_two held f h shows shows_other = can_extend_two entries others fresh more (let right = stands.0 in right.lists) all count more_count given more_given (omega (arith, some)) (omega (arith, more_some)) shows shows_other (let can = stands.1 in can.cpu_below) apart blocks other_blocks
-        (λ w. as_extension entries stands.0 stands.1 first_taken count given x slot_is tail_is es blocks w) (λ w. as_extension others two other_stands.1 more_taken more_count more_given y other_slot_is other_tail_is other_es other_blocks w)
+      other_slot_is : y.slot ≡ slot_address s second.inode
+      other_slot_is = let same = other_ready.same in other_slot ∙ ap (slot_address s) same.inode
 
-    -- Memory that is open past the region is open past all that is stored.
-    pub both_within : (limit : ℕ) → size R ≤ limit → EndBy (x.tail / 4096 ∷ x.fresh.now) limit × EndBy (y.tail / 4096 ∷ y.fresh.now) limit × (x.slot + 32 ≤ limit) × (y.slot + 32 ≤ limit)
-    both_within limit past =
-        let a = first_commits in
-        let b = second_commits in
-        let append = a.append in
-        let other_append = b.append in (
-          (λ k below. (let inside = append.inside k below in omega (arith, inside, past))),
-          (λ k below. (let inside = other_append.inside k below in omega (arith, inside, past))),
-          (let inside = a.inside in omega (arith, inside, past)),
-          (let inside = b.inside in omega (arith, inside, past)),
-        )
+      other_tail_is : y.tail ≡ second.tail
+      other_tail_is = let same = other_ready.same in other_tail ∙ same.tail
 
-    -- Both logs have grown, and both rows, in a region that shows it.
-    appends_by : {S : Region} {end last : ℕ} {c d : Row} {bs cs : List ℕ} → bs ≡ fresh → cs ≡ more → end ≡ end_of x.fresh.now 0 x.tail x.entries.now → last ≡ end_of y.fresh.now 0 y.tail y.entries.now → HasGrown row bs end c → HasGrown other cs last d
-        → ((held : Store) (h g : Held) → ShowsRow R s held h first free → ShowsRow R s held g second free → ShowsNamed R S s cpu held (with_log (with_log held first.inode h entries fresh) second.inode g others more)) → AppendsLogs R S s free after cpu (first ∷ second ∷ []) (c ∷ d ∷ []) 0 entries 1 others
-    appends_by {S} {end} {last} {c} {d} {bs} {cs} settled other_settled ends other_ends grown other_grown shows = record {
-      first = first;
-      second = second;
-      step = record {
-        first_now = c;
-        second_now = d;
-        at = refl;
-        other_at = refl;
-        fresh = fresh;
-        more = more;
-        taken = all;
-        count = count;
-        more_count = more_count;
-        is = grows_same ready.same grown settled (ends ∙ (λ t. end_of (blocks t) 0 (tail_is t) (es t)));
-        other_is = grows_same other_ready.same other_grown other_settled (other_ends ∙ (λ t. end_of (other_blocks t) 0 (other_tail_is t) (other_es t)));
-        once = once_still first ready.once grown;
-        other_once = once_still second other_ready.once other_grown;
-        put = refl;
-        shows = shows;
-      };
-    }
+      pub first_commits : CanCommit R cpu x
+      first_commits = row_commits entries stands.0 stands.1 first_taken count given x slot_is tail_is es blocks
 
-    pub appends_logs : {S : Region} {end last : ℕ} {c d : Row} {bs cs : List ℕ} → bs ≡ fresh → cs ≡ more → end ≡ end_of x.fresh.now 0 x.tail x.entries.now → last ≡ end_of y.fresh.now 0 y.tail y.entries.now → HasGrown row bs end c → HasGrown other cs last d
-        → ((held : Store) (a b : ℕ) (h g : Held) → CanExtendTwo R s held cpu a h x b g y → ShowsIdle S s (with_logs held a h x b g y)) → IsMixed R (TogetherWords cpu x y) S → AppendsLogs R S s free after cpu (first ∷ second ∷ []) (c ∷ d ∷ []) 0 entries 1 others
-    appends_logs {S} settled other_settled ends other_ends grown other_grown shows mixed = appends_by settled other_settled ends other_ends grown other_grown
-        (λ held h g seen seen_other. record {
-          idle = subst (λ (st : Store). ShowsIdle S s st) (λ t. with_log (with_log held first.inode h (es t) (blocks t)) second.inode g (other_es t) (other_blocks t)) (shows held first.inode second.inode h g (extends_two held h g seen seen_other));
-          bytes = together_bytes (extends_two held h g seen seen_other) S mixed;
-          front = together_front (extends_two held h g seen seen_other) S mixed;
+      pub second_commits : CanCommit R cpu y
+      second_commits = row_commits others two other_stands.1 more_taken more_count more_given y other_slot_is other_tail_is other_es other_blocks
+
+      extends_two : (held : Store) (f h : Held) → ShowsRow R s held f first free → ShowsRow R s held h second free → CanExtendTwo R s held cpu first.inode f x second.inode h y
+      extends_two held f h shows shows_other = can_extend_two entries others fresh more (let right = stands.0 in right.lists) all count more_count given more_given (omega (arith, some)) (omega (arith, more_some)) shows shows_other (let can = stands.1 in can.cpu_below) apart blocks other_blocks
+          (λ w. as_extension entries stands.0 stands.1 first_taken count given x slot_is tail_is es blocks w) (λ w. as_extension others two other_stands.1 more_taken more_count more_given y other_slot_is other_tail_is other_es other_blocks w)
+
+      -- Memory that is open past the region is open past all that is stored.
+      pub both_within : (limit : ℕ) → size R ≤ limit → EndBy (x.tail / 4096 ∷ x.fresh.now) limit × EndBy (y.tail / 4096 ∷ y.fresh.now) limit × (x.slot + 32 ≤ limit) × (y.slot + 32 ≤ limit)
+      both_within limit past =
+          let a = first_commits in
+          let b = second_commits in
+          let append = a.append in
+          let other_append = b.append in (
+            (λ k below. (let inside = append.inside k below in omega (arith, inside, past))),
+            (λ k below. (let inside = other_append.inside k below in omega (arith, inside, past))),
+            (let inside = a.inside in omega (arith, inside, past)),
+            (let inside = b.inside in omega (arith, inside, past)),
+          )
+
+      -- Both logs have grown, and both rows, in a region that shows it.
+      appends_by : {S : Region} {end last : ℕ} {c d : Row} {bs cs : List ℕ} → bs ≡ fresh → cs ≡ more → end ≡ end_of x.fresh.now 0 x.tail x.entries.now → last ≡ end_of y.fresh.now 0 y.tail y.entries.now → HasGrown row bs end c → HasGrown other cs last d
+          → ((held : Store) (h g : Held) → ShowsRow R s held h first free → ShowsRow R s held g second free → ShowsNamed R S s cpu held (with_log (with_log held first.inode h entries fresh) second.inode g others more)) → AppendsLogs R S s free after cpu (first ∷ second ∷ []) (c ∷ d ∷ []) 0 entries 1 others
+      appends_by {S} {end} {last} {c} {d} {bs} {cs} settled other_settled ends other_ends grown other_grown shows = record {
+        first = first;
+        second = second;
+        step = record {
+          first_now = c;
+          second_now = d;
+          at = refl;
+          other_at = refl;
+          fresh = fresh;
+          more = more;
+          taken = all;
+          count = count;
+          more_count = more_count;
+          is = grows_same ready.same grown settled (ends ∙ (λ t. end_of (blocks t) 0 (tail_is t) (es t)));
+          other_is = grows_same other_ready.same other_grown other_settled (other_ends ∙ (λ t. end_of (other_blocks t) 0 (other_tail_is t) (other_es t)));
+          once = once_still first ready.once grown;
+          other_once = once_still second other_ready.once other_grown;
+          put = refl;
+          shows = shows;
+        };
+      }
+
+      pub appends_logs : {S : Region} {end last : ℕ} {c d : Row} → end ≡ end_of x.fresh.now 0 x.tail x.entries.now → last ≡ end_of y.fresh.now 0 y.tail y.entries.now → HasGrown row front end c → HasGrown other back last d
+          → ((held : Store) (a b : ℕ) (h g : Held) → CanExtendTwo R s held cpu a h x b g y → ShowsIdle S s (with_logs held a h x b g y)) → IsMixed R (TogetherWords cpu x y) S → AppendsLogs R S s free after cpu (first ∷ second ∷ []) (c ∷ d ∷ []) 0 entries 1 others
+      appends_logs {S} ends other_ends grown other_grown shows mixed = appends_by front_fresh back_more ends other_ends grown other_grown
+          (λ held h g seen seen_other. record {
+            idle = subst (λ (st : Store). ShowsIdle S s st) (λ t. with_log (with_log held first.inode h (es t) (blocks t)) second.inode g (other_es t) (other_blocks t)) (shows held first.inode second.inode h g (extends_two held h g seen seen_other));
+            bytes = together_bytes (extends_two held h g seen seen_other) S mixed;
+            front = together_front (extends_two held h g seen seen_other) S mixed;
+          })
+
+      -- Nothing else is stored.
+      pub logs_store : {S : Region} {held : Store} {h k : Held} → ShowsRow R s held h first free → ShowsRow R s held k second free → IsMixed R (TogetherWords cpu x y) S → StoresIn s held (two_logs s cpu first.inode second.inode) R S
+      logs_store {S} {held} {h} {k} here there mixed = two_stores (extends_two held h k here there) slot_is other_slot_is mixed
+
+      -- The second tail is stored after the first.
+      pub logs_in_order : {S : Region} {held : Store} {h k : Held} → ShowsRow R s held h first free → ShowsRow R s held k second free
+          → ((a b : ℕ) (f g : Held) → CanExtendTwo R s held cpu a f x b g y → FirstIsFirst R (x.slot + 24) (end_of x.fresh.now 0 x.tail x.entries.now) (y.slot + 24) S) → TailIsFirst R S s free.pools cpu first.inode first.tail entries (slot_address s second.inode + 24)
+      logs_in_order {S} {held} {h} {k} here there orders = elim (orders first.inode second.inode h k (extends_two held h k here there)) [
+        | inl still ↦ inl (subst (λ (a : ℕ). word S (a + 24) ≡ word R (a + 24)) other_slot_is still)
+        | inr stored ↦ inr (record {
+          fresh = fresh;
+          rest = (cut_each fresh more all).0.pools;
+          taken = by_rule first_taken;
+          count = count;
+          moved = subst (λ (a : ℕ). word S (a + 24) ≡ end_of fresh 0 first.tail entries) slot_is (stored ∙ (λ t. end_of (blocks t) 0 (tail_is t) (es t)));
         })
+      ]
 
-    -- Nothing else is stored.
-    pub logs_store : {S : Region} {held : Store} {h k : Held} → ShowsRow R s held h first free → ShowsRow R s held k second free → IsMixed R (TogetherWords cpu x y) S → StoresIn s held (two_logs s cpu first.inode second.inode) R S
-    logs_store {S} {held} {h} {k} here there mixed = two_stores (extends_two held h k here there) slot_is other_slot_is mixed
+      -- What a stop leaves of both.
+      module _ {held : Store} {h k : Held} (here : ShowsRow R s held h first free) (there : ShowsRow R s held k second free) (now : Region) (old new : Choices) (wrote : StoresOnly (TogetherWords cpu x y) R now old new) (settled : NothingPending R old) where
+        mixed : (left : Region) → MayBeLeft now new left → IsMixed R (TogetherWords cpu x y) left
+        mixed left may = let stored = wrote.mixed in mixed_left R now (TogetherWords cpu x y) old new stored.as_long stored.same_rest settled wrote.adds left may
 
-    -- The second tail is stored after the first.
-    pub logs_in_order : {S : Region} {held : Store} {h k : Held} → ShowsRow R s held h first free → ShowsRow R s held k second free
-        → ((a b : ℕ) (f g : Held) → CanExtendTwo R s held cpu a f x b g y → FirstIsFirst R (x.slot + 24) (end_of x.fresh.now 0 x.tail x.entries.now) (y.slot + 24) S) → TailIsFirst R S s free.pools cpu first.inode first.tail entries (slot_address s second.inode + 24)
-    logs_in_order {S} {held} {h} {k} here there orders = elim (orders first.inode second.inode h k (extends_two held h k here there)) [
-      | inl still ↦ inl (subst (λ (a : ℕ). word S (a + 24) ≡ word R (a + 24)) other_slot_is still)
-      | inr stored ↦ inr (record {
-        fresh = fresh;
-        rest = (cut_each fresh more all).0.pools;
-        taken = by_rule first_taken;
-        count = count;
-        moved = subst (λ (a : ℕ). word S (a + 24) ≡ end_of fresh 0 first.tail entries) slot_is (stored ∙ (λ t. end_of (blocks t) 0 (tail_is t) (es t)));
-      })
-    ]
+        shows_both : (left : Region) → IsMixed R (TogetherWords cpu x y) left → UndoneShows s (with_logs held first.inode h x second.inode k y) left
+            → (any : Store) (f g : Held) → ShowsRow R s any f first free → ShowsRow R s any g second free → ShowsNamed R (undone s left) s cpu any (with_log (with_log any first.inode f entries fresh) second.inode g others more)
+        shows_both left stored both any f g seen seen_other =
+            let a = here.sound in
+            let b = seen.sound in
+            let same : held ≡ any = one_held a.shows b.shows in
+            let firsts : Some h ≡ Some f = sym here.holds ∙ ap (λ (st : Store). st first.inode) same ∙ seen.holds in
+            let seconds : Some k ≡ Some g = sym there.holds ∙ ap (λ (st : Store). st second.inode) same ∙ seen_other.holds in
+            let one : h ≡ f = cc in
+            let two : k ≡ g = cc in
+            record {
+              idle = subst (λ (st : Store). ShowsIdle (undone s left) s st) (λ t. with_log (with_log (same t) first.inode (one t) (es t) (blocks t)) second.inode (two t) (other_es t) (other_blocks t)) (undone_idle both);
+              bytes = undone_files both R (together_bytes (extends_two any f g seen seen_other) left stored);
+              front = undone_front s cpu R left (layout_of_super R s b.sup) b.idle (together_front (extends_two any f g seen seen_other) left stored);
+            }
 
-    -- What a stop leaves of both.
-    module _ {held : Store} {h k : Held} (here : ShowsRow R s held h first free) (there : ShowsRow R s held k second free) (now : Region) (old new : Choices) (wrote : StoresOnly (TogetherWords cpu x y) R now old new) (settled : NothingPending R old) where
-      mixed : (left : Region) → MayBeLeft now new left → IsMixed R (TogetherWords cpu x y) left
-      mixed left may = let stored = wrote.mixed in mixed_left R now (TogetherWords cpu x y) old new stored.as_long stored.same_rest settled wrote.adds left may
+        left_by : (left : Region) → IsMixed R (TogetherWords cpu x y) left → BeforeOrBoth s held first.inode h x second.inode k y left → LeavesEither R (fixed_layout s) held (AppendedBoth R s free cpu first entries second others) left
+        left_by left stored (inl before) = inl (undone_recovers before R (together_bytes (extends_two held h k here there) left stored) (let sound = here.sound in sound.faultless))
+        left_by left stored (inr both) =
+            let end = end_of x.fresh.now 0 x.tail x.entries.now in
+            let last = end_of y.fresh.now 0 y.tail y.entries.now in
+            inr (undone_can both, (after, grown_row row fresh end, grown_row other more last, appends_by refl refl refl refl (grown_row_has row fresh end) (grown_row_has other more last) (shows_both left stored both)))
 
-      shows_both : (left : Region) → IsMixed R (TogetherWords cpu x y) left → UndoneShows s (with_logs held first.inode h x second.inode k y) left
-          → (any : Store) (f g : Held) → ShowsRow R s any f first free → ShowsRow R s any g second free → ShowsNamed R (undone s left) s cpu any (with_log (with_log any first.inode f entries fresh) second.inode g others more)
-      shows_both left stored both any f g seen seen_other =
-          let a = here.sound in
-          let b = seen.sound in
-          let same : held ≡ any = one_held a.shows b.shows in
-          let firsts : Some h ≡ Some f = sym here.holds ∙ ap (λ (st : Store). st first.inode) same ∙ seen.holds in
-          let seconds : Some k ≡ Some g = sym there.holds ∙ ap (λ (st : Store). st second.inode) same ∙ seen_other.holds in
-          let one : h ≡ f = cc in
-          let two : k ≡ g = cc in
-          record {
-            idle = subst (λ (st : Store). ShowsIdle (undone s left) s st) (λ t. with_log (with_log (same t) first.inode (one t) (es t) (blocks t)) second.inode (two t) (other_es t) (other_blocks t)) (undone_idle both);
-            bytes = undone_files both R (together_bytes (extends_two any f g seen seen_other) left stored);
-            front = undone_front s cpu R left (layout_of_super R s b.sup) b.idle (together_front (extends_two any f g seen seen_other) left stored);
-          }
-
-      left_by : (left : Region) → IsMixed R (TogetherWords cpu x y) left → BeforeOrBoth s held first.inode h x second.inode k y left → LeavesEither R (fixed_layout s) held (AppendedBoth R s free cpu first entries second others) left
-      left_by left stored (inl before) = inl (undone_recovers before R (together_bytes (extends_two held h k here there) left stored) (let sound = here.sound in sound.faultless))
-      left_by left stored (inr both) =
-          let end = end_of x.fresh.now 0 x.tail x.entries.now in
-          let last = end_of y.fresh.now 0 y.tail y.entries.now in
-          inr (undone_can both, (after, grown_row row fresh end, grown_row other more last, appends_by refl refl refl refl (grown_row_has row fresh end) (grown_row_has other more last) (shows_both left stored both)))
-
-      pub left_logs : ((a b : ℕ) (f g : Held) → CanExtendTwo R s held cpu a f x b g y → NothingPending R old → LeavesOnly now new (BeforeOrBoth s held a f x b g y)) → LeavesOnly now new (LeavesEither R (fixed_layout s) held (AppendedBoth R s free cpu first entries second others))
-      left_logs stops left may = left_by left (mixed left may) (stops first.inode second.inode h k (extends_two held h k here there) settled left may)
+        pub left_logs : ((a b : ℕ) (f g : Held) → CanExtendTwo R s held cpu a f x b g y → NothingPending R old → LeavesOnly now new (BeforeOrBoth s held a f x b g y)) → LeavesOnly now new (LeavesEither R (fixed_layout s) held (AppendedBoth R s free cpu first entries second others))
+        left_logs stops left may = left_by left (mixed left may) (stops first.inode second.inode h k (extends_two held h k here there) settled left may)

@@ -1,11 +1,11 @@
 -- What a page that goes from the log of a row makes of the row, the region and the free lists.
 use Rattle.std.proofs.Common.{◌≡◌, ◌⊎◌, inl, inr, ℕ, zero, suc, ◌+◌, ◌-◌, ◌*◌, ◌%◌, ◌<◌, ◌≤◌, false, eqb, List, length, get_or, refl, ap, sym, ◌∙◌, subst, arith, Option, Some, None, IfSome}
 use Rattle.std.specs.List.{Contains, remove}
-use Rattle.std.proofs.lemmas.Bool.{ne_eqb}
+use Rattle.std.proofs.lemmas.Bool.{cases_lt, ne_eqb}
 use Rattle.std.proofs.lemmas.List.{get_or_default}
 use Rattle.nv_region.specs.Region.{Region, put, size, word}
 use Rattle.nv_region.specs.Stored.{Stored}
-use Rattle.nv_region.specs.Stops.{Choices, LeavesOnly}
+use Rattle.nv_region.specs.Stops.{Choices, IsMixed, LeavesOnly, One}
 use Rattle.nv_region.proofs.Wordwise.{put_stored}
 use Rattle.nv_super.specs.declared.superblock.Super.{Super}
 use Rattle.nv_super.specs.declared.kind.Kind.{Kind}
@@ -19,8 +19,12 @@ use Rattle.nv_names.specs.Names.{name_at}
 use Rattle.nv_logpage.specs.Append.{EndBy}
 use Rattle.nv_logpage.specs.Good.{good_entries}
 use Rattle.nv_logpage.specs.Reads.{Reads}
+use Rattle.nv_logpage.specs.declared.found.Placed.{Placed}
 use Rattle.nv_logpage.specs.Unlinked.{head_without, page_behind, word_to}
 use Rattle.nv_scan.specs.Dead.{IsFirstDead, IsSaidBy}
+use Rattle.nv_scan.specs.Faults.{IsEntryFault}
+use Rattle.nv_scan.specs.InTurn.{AreDeadPages, IsCleanLog}
+use Rattle.nv_scan.specs.declared.in_turn.DeadPages.{DeadPages}
 use Rattle.nv_scan.specs.Rows.{AreNumbers}
 use Rattle.nv_scan.specs.State.{block_of, named}
 use Rattle.nv_scan.specs.declared.piece.Row.{Row}
@@ -32,14 +36,26 @@ use Rattle.nv_held.proofs.Cleaned.{bytes_stay, lists_cleaned, row_cleaned, sound
 use Rattle.nv_held.proofs.Shown.{holds_at}
 use Rattle.nv_commit.specs.Stopped.{LeavesEither, RollsBackTo}
 use Rattle.nv_commit.proofs.Left.{itself_recovers, made_there, one_held}
-use Rattle.nv_steps.specs.Cleans.{Cleans, HasLess, LosesNone, LosesPageAt}
+use Rattle.nv_steps.specs.Cleans.{Cleans, HasLess, IsKnownDead, LosesNone, LosesPageAt}
 use Rattle.nv_steps.specs.Grown.{StandsRight}
 use Rattle.nv_steps.specs.LessNames.{AreOwn}
 use Rattle.nv_steps.specs.Steps.{ShowsRow}
 use Rattle.nv_steps.specs.Stopped.{PageLess}
+use Rattle.nv_steps.specs.Stores.{StoresIn, one_page_less}
 use Rattle.nv_steps.proofs.LogGrows.{slot_there}
 use Rattle.nv_steps.proofs.RowsAt.{same_row}
+use Rattle.nv_steps.proofs.Stores.{link_stores}
 use Rattle.nv_steps.proofs.WriteStops.{some_kept}
+
+-- One page is the first that a log can do without, or none is.
+pub one_first_dead : (s : Super) (kind : Kind) (i created : ℕ) (es : List Placed) (pages : List ℕ) (o p : Option ℕ) → IsFirstDead s kind i created es pages o → IsFirstDead s kind i created es pages p → o ≡ p
+one_first_dead s kind i created es pages None None one other = refl
+one_first_dead s kind i created es pages None (Some k) none some = absurd (none k some.0)
+one_first_dead s kind i created es pages (Some k) None some none = absurd (none k some.0)
+one_first_dead s kind i created es pages (Some j) (Some k) one other = ap (λ (n : ℕ). Some n) (elim (cases_lt j k) [
+  | inl before ↦ absurd (other.1 j before one.0)
+  | inr behind ↦ elim (cases_lt k j) [ inl after ↦ absurd (one.1 k after other.0) | inr same ↦ omega (arith, behind, same) ]
+])
 
 module _ {R : Region} {s : Super} {held : Store} {h : Held} {row : Row} {free : FreeLists} (shows : ShowsRow R s held h row free) where
   told : KeepsRow (fixed_layout s) h row
@@ -63,14 +79,41 @@ module _ {R : Region} {s : Super} {held : Store} {h : Held} {row : Row} {free : 
     names = subst (λ (k : Kind). (q : List ℕ) → name_at row.names q ≡ named (good_entries s k h.entries) q) (sym told.kind) told.names;
   }
 
-  -- The first page that it can do without, told by what is held.
-  pub first_held : (created slot : ℕ) (found : Option ℕ) → created ≡ word R (slot + 32) → slot ≡ slot_address s row.inode → (IsSaidBy R s created h.entries row → IsFirstDead s row.kind row.inode created h.entries row.pages.items found) → IsFirstDead s h.kind row.inode h.created h.entries h.pages found
-  first_held created slot found loaded at_slot finds =
-      let same : created ≡ h.created = loaded ∙ ap (λ (a : ℕ). word R (a + 32)) at_slot ∙ holds.created in
-      subst (λ (k : Kind). IsFirstDead s k row.inode h.created h.entries h.pages found) told.kind
-      (subst (λ (ps : List ℕ). IsFirstDead s row.kind row.inode h.created h.entries ps found) told.pages
-      (subst (λ (c : ℕ). IsFirstDead s row.kind row.inode c h.entries row.pages.items found) same
-      (finds (subst (λ (c : ℕ). IsSaidBy R s c h.entries row) (sym same) said))))
+  module _ (created slot : ℕ) (loaded : created ≡ word R (slot + 32)) (at_slot : slot ≡ slot_address s row.inode) where
+    same_time : created ≡ h.created
+    same_time = loaded ∙ ap (λ (a : ℕ). word R (a + 32)) at_slot ∙ holds.created
+
+    said_then : IsSaidBy R s created h.entries row
+    said_then = subst (λ (c : ℕ). IsSaidBy R s c h.entries row) (sym same_time) said
+
+    -- What holds of the row and its log holds of what is held.
+    by_row : (Holds : Kind → ℕ → List ℕ → Type 0) → Holds row.kind created row.pages.items → Holds h.kind h.created h.pages
+    by_row Holds here = subst (λ (k : Kind). Holds k h.created h.pages) told.kind (subst (λ (ps : List ℕ). Holds row.kind h.created ps) told.pages (subst (λ (c : ℕ). Holds row.kind c row.pages.items) same_time here))
+
+    by_held : (Holds : Kind → ℕ → List ℕ → Type 0) → Holds h.kind h.created h.pages → Holds row.kind created row.pages.items
+    by_held Holds here = subst (λ (c : ℕ). Holds row.kind c row.pages.items) (sym same_time) (subst (λ (ps : List ℕ). Holds row.kind h.created ps) (sym told.pages) (subst (λ (k : Kind). Holds k h.created h.pages) (sym told.kind) here))
+
+    -- The first page that it can do without, told by what is held.
+    pub first_held : (known found : Option ℕ) → IsKnownDead s h.kind row.inode h.created h.entries h.pages known
+        → (IsSaidBy R s created h.entries row → IsKnownDead s row.kind row.inode created h.entries row.pages.items known → IsFirstDead s row.kind row.inode created h.entries row.pages.items found)
+        → IsFirstDead s h.kind row.inode h.created h.entries h.pages found
+    first_held known found dead finds = by_row (λ k c ps. IsFirstDead s k row.inode c h.entries ps found) (finds said_then (by_held (λ k c ps. IsKnownDead s k row.inode c h.entries ps known) dead))
+
+    -- and pages that go one after another
+    pub dead_held : (found : Option DeadPages) → (IsSaidBy R s created h.entries row → IsCleanLog s row.kind row.inode h.entries → AreDeadPages s row.kind row.inode created h.entries row.pages.items found)
+        → AreDeadPages s h.kind row.inode h.created h.entries h.pages found
+    dead_held found finds = by_row (λ k c ps. AreDeadPages s k row.inode c h.entries ps found) (finds said_then clean) where
+      clean : IsCleanLog s row.kind row.inode h.entries
+      clean f wrong = (
+          let sound = shows.sound in
+          let faultless = sound.faultless in
+          faultless.clean row.inode h f shows.holds (subst (λ (k : Kind). IsEntryFault s k row.inode h.entries f) told.kind wrong))
+
+  -- What is stored where a page goes.
+  pub page_stores : (S : Region) (slot k new : ℕ) (given : List ℕ) (o : Option ℕ) → slot ≡ slot_address s row.inode → slot_address s row.inode % 128 ≡ 0 → given ≡ row.pages.items
+      → IsFirstDead s h.kind row.inode h.created h.entries h.pages (Some k) → IsFirstDead s h.kind row.inode h.created h.entries h.pages o → IsMixed R (One (word_to (slot + 16) given k) new) S → StoresIn s held (one_page_less s row.inode h.pages o) R S
+  page_stores S slot k new given o at_slot whole pages first other mixed =
+      subst (λ (p : Option ℕ). StoresIn s held (one_page_less s row.inode h.pages p) R S) (one_first_dead s h.kind row.inode h.created h.entries h.pages (Some k) o first other) (link_stores s held row.inode slot k new given h.pages at_slot whole (pages ∙ told.pages) mixed)
 
   -- the row without the page is of the log without it
   told_by : (k : ℕ) (new : Row) → IsFirstDead s h.kind row.inode h.created h.entries h.pages (Some k) → HasLess row k new → KeepsRow (fixed_layout s) (cleaned h k) new

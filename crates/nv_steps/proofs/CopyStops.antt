@@ -33,6 +33,7 @@ use Rattle.nv_commit.proofs.Left.{loose_recovers}
 use Rattle.nv_steps.specs.Sizes.{CanResize, CopiesEnd, end_block, resizing}
 use Rattle.nv_steps.specs.Steps.{ShowsRow}
 use Rattle.nv_steps.specs.Stopped.{Resized}
+use Rattle.nv_steps.specs.Stores.{StoresIn, one_log}
 use Rattle.nv_steps.specs.Taken.{TakesEach}
 use Rattle.nv_steps.proofs.CopiedEnd.{copy_some, not_in_run, run_of_one}
 use Rattle.nv_steps.proofs.CopyOwed.{copies_as}
@@ -141,16 +142,22 @@ module _ {R : Region} {s : Super} {free mid : FreeLists} {cpu : ℕ} {row : Row}
       let v = copy_some {grown = grown} {new = new} x can from to end ends taken enough w.1 refl (grown_row_has row fresh end) (sized_settled grown x ((page, Some to) ∷ row.index)) (set_at page to row.index) shows in
       inr (w.0, (v.0, new, v.1, v.2))
 
+  -- the same by other names
+  can_there : {slot : ℕ} {es : List Entry} {given : List ℕ} → slot ≡ slot_address s row.inode → es ≡ entries → given ≡ fresh → CanExtend R s held row.inode h slot row.tail es given
+  can_there {slot} {es} {given} at same_entries same_pages =
+      subst (λ (a : ℕ). CanExtend R s held row.inode h a row.tail es given) (sym at)
+      (subst (λ (e : List Entry). CanExtend R s held row.inode h (slot_address s row.inode) row.tail e given) (sym same_entries) (subst (λ (bs : List ℕ). CanExtend R s held row.inode h (slot_address s row.inode) row.tail entries bs) (sym same_pages) copies_there))
+
+  -- What is stored, by what is stored of the page and the log.
+  pub copied_stores : {slot : ℕ} {es : List Entry} {given : List ℕ} → slot ≡ slot_address s row.inode → es ≡ entries → given ≡ fresh → (now : Region)
+      → (CanExtend R s held row.inode h slot row.tail es given → IsUnowned (fixed_layout s) held to → StoresIn s held (one_log s row.inode) R now) → StoresIn s held (one_log s row.inode) R now
+  copied_stores at same_entries same_pages now stores = stores (can_there at same_entries same_pages) (all_free to (Contains-head to fresh))
+
   -- What a stop leaves of the size, by what it leaves of the page and the log.
   pub left_copied : {slot : ℕ} {es : List Entry} {given : List ℕ} → slot ≡ slot_address s row.inode → es ≡ entries → given ≡ fresh → (now : Region) (last : Choices)
       → (CanExtend R s held row.inode h slot row.tail es given → IsUnowned (fixed_layout s) held to → LeavesOnly now last (LeavesEither R (fixed_layout s) held (λ S. CopiesEnd R S from to row.numbers.size slot row.tail es given)))
       → LeavesOnly now last (LeavesEither R (fixed_layout s) held (Resized R s free cpu row x))
-  left_copied {slot} {es} {given} at same_entries same_pages now last stops left may =
-      let can_there : CanExtend R s held row.inode h slot row.tail es given =
-      subst (λ (a : ℕ). CanExtend R s held row.inode h a row.tail es given) (sym at)
-      (subst (λ (e : List Entry). CanExtend R s held row.inode h (slot_address s row.inode) row.tail e given) (sym same_entries) (subst (λ (bs : List ℕ). CanExtend R s held row.inode h (slot_address s row.inode) row.tail entries bs) (sym same_pages) copies_there)) in
-      copied_by left (as_copied (stops can_there (all_free to (Contains-head to fresh)) left may))
-    where
-      as_copied : LeavesEither R (fixed_layout s) held (λ S. CopiesEnd R S from to row.numbers.size slot row.tail es given) left → LeavesEither R (fixed_layout s) held (λ S. CopiesEnd R S from to row.numbers.size (slot_address s row.inode) row.tail entries fresh) left
-      as_copied (inl same) = inl same
-      as_copied (inr w) = inr (w.0, copies_as at same_entries same_pages w.1)
+  left_copied {slot} {es} {given} at same_entries same_pages now last stops left may = copied_by left (as_copied (stops (can_there at same_entries same_pages) (all_free to (Contains-head to fresh)) left may)) where
+    as_copied : LeavesEither R (fixed_layout s) held (λ S. CopiesEnd R S from to row.numbers.size slot row.tail es given) left → LeavesEither R (fixed_layout s) held (λ S. CopiesEnd R S from to row.numbers.size (slot_address s row.inode) row.tail entries fresh) left
+    as_copied (inl same) = inl same
+    as_copied (inr w) = inr (w.0, copies_as at same_entries same_pages w.1)

@@ -31,6 +31,10 @@ use Rattle.nv_steps.proofs.LessName.{absent_without, found_without, once_without
 use Rattle.nv_steps.proofs.LinkedAt.{added_row}
 use Rattle.nv_steps.proofs.MadeNamed.{named_once}
 
+-- a row with more room for names is the same
+pub more_names : (row : Row) (names : Names) → ((q : List ℕ) → name_at names q ≡ name_at row.names q) → SameRow row (record row { names = names })
+more_names row names same = record { inode = refl; kind = refl; numbers = refl; head = refl; tail = refl; pages = refl; index = λ p. refl; names = same }
+
 -- what is known of a row is known of it with more room
 pub stands_same : {R : Region} {s : Super} {free : FreeLists} {old new : Row} → SameRow old new → StandsRight R s free old → StandsRight R s free new
 stands_same {R} {s} {free} {old} {new} same stands = record {

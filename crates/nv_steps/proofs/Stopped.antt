@@ -31,10 +31,12 @@ use Rattle.nv_commit.proofs.Left.{loose_recovers, one_held, sound_recovers}
 use Rattle.nv_steps.specs.Grown.{HasGrown}
 use Rattle.nv_steps.specs.Steps.{ShowsRow}
 use Rattle.nv_steps.specs.Stopped.{Appended, Attributed}
+use Rattle.nv_steps.specs.Stores.{StoresIn, one_log}
 use Rattle.nv_steps.specs.Taken.{TakesEach}
 use Rattle.nv_steps.specs.Written.{Commits, HoldEntries, entry_blocks}
 use Rattle.nv_steps.proofs.Attributed.{attributes_follow, has_attributes, numbers_with}
 use Rattle.nv_steps.proofs.LogGrows.{can_extend, extended_bytes}
+use Rattle.nv_steps.proofs.Stores.{one_stores}
 use Rattle.nv_steps.proofs.TakenBlocks.{taken_sup}
 
 -- a row whose log goes on
@@ -73,7 +75,11 @@ module _ {R : Region} {s : Super} {held : Store} {h : Held} {row : Row} {free af
   can : CanExtend R s held row.inode h (slot_address s row.inode) row.tail entries given
   can = can_extend entries shows lists taken_there count_there allowed some
 
-  -- What a stop leaves of their commit.
+  -- What their commit stores.
+  pub log_stores : (now : Region) → IsMixed R (ExtendWords slot row.tail entries given) now → StoresIn s held (one_log s row.inode) R now
+  log_stores now mixed = one_stores can (subst (λ (a : ℕ). IsMixed R (ExtendWords a row.tail entries given) now) at mixed)
+
+  -- What a stop leaves of it.
   pub left_log : (now : Region) (old new : Choices) → StoresOnly (ExtendWords slot row.tail entries given) R now old new → NothingPending R old
       → (CanExtend R s held row.inode h slot row.tail entries given → NothingPending R old → LeavesOnly now new (BeforeOrExtended R s held row.inode h entries given))
       → LeavesOnly now new (LeavesEither R (fixed_layout s) held (Appended R s free cpu row entries))

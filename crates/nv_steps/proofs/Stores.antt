@@ -1,17 +1,19 @@
 -- Which words a call stores: what the commits store, told of places.
-use Rattle.std.proofs.Common.{◌≡◌, ℕ, ◌+◌, ◌*◌, ◌/◌, ◌%◌, inl, inr, List, [], ◌∷◌, get_or, refl, ap, sym, ◌∙◌, subst, arith}
+use Rattle.std.proofs.Common.{◌≡◌, ℕ, ◌+◌, ◌-◌, ◌*◌, ◌/◌, ◌%◌, ◌==◌, if◌then◌else◌, inl, inr, Bool, true, false, List, [], ◌∷◌, get_or, refl, ap, sym, ◌∙◌, subst, arith, Some}
 use Rattle.std.specs.List.{Contains}
 use Rattle.std.proofs.lemmas.List.{get_or_default}
-use Rattle.nv_region.specs.Region.{Region, word}
-use Rattle.nv_region.specs.Stops.{Choices, IsMixed}
+use Rattle.nv_region.specs.Region.{Region}
+use Rattle.nv_region.specs.Stops.{Choices, IsMixed, One}
 use Rattle.nv_region.proofs.Wordwise.{mixed_word}
 use Rattle.nv_super.specs.declared.superblock.Super.{Super}
 use Rattle.nv_super.specs.Layout.{fixed_layout, slot_address}
 use Rattle.nv_super.proofs.Rising.{Contains-head, Contains-tail}
-use Rattle.nv_journal.specs.Undo.{journal}
+use Rattle.nv_super.proofs.Slots.{slot_is}
 use Rattle.nv_journal.specs.Recorded.{Changes}
 use Rattle.nv_entry.specs.declared.entry.Entry.{Entry}
+use Rattle.nv_bytes.specs.Storing.{InBlocks}
 use Rattle.nv_logpage.specs.Append.{AppendWords, end_of}
+use Rattle.nv_logpage.specs.Unlinked.{word_to}
 use Rattle.nv_held.specs.Held.{Held, Store}
 use Rattle.nv_held.specs.Blocks.{IsUnowned}
 use Rattle.nv_commit.specs.declared.together.Extension.{Extension}
@@ -21,7 +23,7 @@ use Rattle.nv_commit.specs.Together.{CanExtendTwo, TogetherWords}
 use Rattle.nv_commit.specs.Makes.{CanMake, MakeWords}
 use Rattle.nv_commit.specs.Removes.{CanRemove, RemoveWords}
 use Rattle.nv_commit.proofs.Extends.{slots}
-use Rattle.nv_steps.specs.Stores.{MayStore, Places, StoresIn, at_commit, behind_tail, in_free, in_journal, in_slot, one_less, one_log, one_more, two_logs}
+use Rattle.nv_steps.specs.Stores.{MayStore, Places, StoresIn, at_commit, behind_tail, in_free, in_journal, in_slot, one_less, one_log, one_more, one_page_less, two_logs}
 
 -- where nothing was stored
 pub stores_nothing : (s : Super) (held : Store) (p : Places) (R : Region) → StoresIn s held p R R
@@ -50,12 +52,35 @@ module _ {s : Super} {held : Store} (p : Places) where
 second_in : (a b : ℕ) → Contains (a ∷ b ∷ []) b
 second_in a b = Contains-tail a (b ∷ []) b (Contains-head b [])
 
--- one log
-pub one_stores : {R S : Region} {s : Super} {held : Store} {i : ℕ} {h : Held} {tail : ℕ} {entries : List Entry} {fresh : List ℕ} → CanExtend R s held i h (slot_address s i) tail entries fresh → IsMixed R (ExtendWords (slot_address s i) tail entries fresh) S → StoresIn s held (one_log s i) R S
-one_stores {R} {S} {s} {held} {i} {h} {tail} {entries} {fresh} can mixed = stores_in (one_log s i) R S (ExtendWords (slot_address s i) tail entries fresh) mixed (λ k v w. elim w [
-  | inl a ↦ append_in (one_log s i) can (Contains-head i []) k v a
-  | inr b ↦ (let clear = slots can in let whole = clear.whole i (slot_address s i) can.at in word_in (one_log s i) (slot_address s i + 24) (omega (arith, whole)) (Contains-head (slot_address s i + 24) []) k b.0)
-])
+-- One log: what is stored of it, in a region that is as the first one, or has other data in free blocks.
+pub one_stores : {R mid S : Region} {s : Super} {held : Store} {i : ℕ} {h : Held} {slot tail : ℕ} {entries : List Entry} {fresh : List ℕ} → CanExtend R s held i h slot tail entries fresh → IsMixed mid (ExtendWords slot tail entries fresh) S → StoresIn s held (one_log s i) mid S
+one_stores {R} {mid} {S} {s} {held} {i} {h} {slot} {tail} {entries} {fresh} can mixed =
+    let at = slot_is s i slot can.at in
+    stores_in (one_log s i) mid S (ExtendWords slot tail entries fresh) mixed (λ k v w. elim w [
+      | inl a ↦ append_in (one_log s i) can (Contains-head i []) k v a
+      | inr b ↦ (let clear = slots can in let whole = clear.whole i slot can.at in word_in (one_log s i) (slot + 24) (omega (arith, whole)) (subst (λ (a : ℕ). Contains ((a + 24) ∷ []) (slot + 24)) at.is (Contains-head (slot + 24) [])) k b.0)
+    ])
+
+-- Data in blocks that were free.
+pub data_stores : {R S : Region} (s : Super) (held : Store) (p : Places) (Is : ℕ → Type 0) → ((b : ℕ) → Is b → IsUnowned (fixed_layout s) held b) → IsMixed R (InBlocks Is) S → StoresIn s held p R S
+data_stores {R} {S} s held p Is free mixed = stores_in p R S (InBlocks Is) mixed (λ k v w. in_free (8 * k) (free (8 * k / 4096) w))
+
+-- The same of data and then of a log.
+pub data_then_log : {R mid S : Region} {s : Super} {held : Store} {i : ℕ} {h : Held} {slot tail : ℕ} {entries : List Entry} {fresh : List ℕ} (Is : ℕ → Type 0) → CanExtend R s held i h slot tail entries fresh → ((b : ℕ) → Is b → IsUnowned (fixed_layout s) held b)
+    → IsMixed R (InBlocks Is) mid → IsMixed mid (ExtendWords slot tail entries fresh) S → StoresIn s held (one_log s i) R S
+data_then_log {R} {mid} {S} {s} {held} {i} Is can free data_mixed log_mixed at whole away = one_stores {mid = mid} {S = S} can log_mixed at whole away ∙ data_stores {R = R} {S = mid} s held (one_log s i) Is free data_mixed at whole away
+
+-- The word that leads to a page of a log.
+pub link_stores : {R S : Region} (s : Super) (held : Store) (i slot place new : ℕ) (given pages : List ℕ) → slot ≡ slot_address s i → slot_address s i % 128 ≡ 0 → given ≡ pages → IsMixed R (One (word_to (slot + 16) given place) new) S → StoresIn s held (one_page_less s i pages (Some place)) R S
+link_stores {R} {S} s held i slot place new given pages at whole same mixed =
+    let link = word_to (slot + 16) given place in
+    let p = one_page_less s i pages (Some place) in
+    let there : Contains p.words link = subst (λ (ps : List ℕ). Contains p.words (word_to (slot + 16) ps place)) (sym same) (subst (λ (a : ℕ). Contains p.words (word_to (a + 16) pages place)) (sym at) (Contains-head (word_to (slot_address s i + 16) pages place) [])) in
+    stores_in p R S (One link new) mixed (λ k v w. word_in p link (to_whole (place == 0)) there k w.0)
+  where
+    to_whole : (b : Bool) → (if b then slot + 16 else 4096 * get_or given (place - 1) 0 + 4064) % 8 ≡ 0
+    to_whole true = omega (arith, whole, at)
+    to_whole false = omega arith
 
 -- two logs
 pub two_stores : {R S : Region} {s : Super} {held : Store} {cpu i : ℕ} {h : Held} {x : Extension} {j : ℕ} {g : Held} {y : Extension} → CanExtendTwo R s held cpu i h x j g y → x.slot ≡ slot_address s i → y.slot ≡ slot_address s j → IsMixed R (TogetherWords cpu x y) S → StoresIn s held (two_logs s cpu i j) R S

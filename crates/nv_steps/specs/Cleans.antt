@@ -1,10 +1,12 @@
 -- A page that was taken out of the log of a row.
-use Rattle.std.specs.Prelude.{◌≡◌, ℕ, Option, Some, None, get_or}
+use Rattle.std.specs.Prelude.{◌≡◌, ℕ, List, Option, Some, None, get_or}
 use Rattle.std.specs.List.{remove}
 use Rattle.nv_region.specs.Region.{Region}
 use Rattle.nv_super.specs.declared.superblock.Super.{Super}
+use Rattle.nv_super.specs.declared.kind.Kind.{Kind}
 use Rattle.nv_super.specs.Layout.{fixed_layout}
 use Rattle.nv_alloc.specs.FreeValue.{FreeLists}
+use Rattle.nv_logpage.specs.declared.found.Placed.{Placed}
 use Rattle.nv_logpage.specs.Unlinked.{head_without}
 use Rattle.nv_scan.specs.declared.piece.Row.{Row}
 use Rattle.nv_held.specs.nv_scan.Dead.{IsFirstDead}
@@ -15,6 +17,11 @@ use Rattle.nv_held.specs.Cleaned.{cleaned}
 use Rattle.nv_held.specs.Mounted.{KeepsRow, ShowsSound}
 use Rattle.nv_held.specs.nv_outcome.Same.{SameRow}
 use Rattle.nv_steps.specs.Taken.{SamePools}
+
+-- what is known of the first page that a log can do without: nothing, or its place
+abbrev pub IsKnownDead : Super → Kind → ℕ → ℕ → List Placed → List ℕ → Option ℕ → Type 0
+IsKnownDead s kind i created es pages None = Unit {0}
+IsKnownDead s kind i created es pages (Some k) = IsFirstDead s kind i created es pages (Some k)
 
 -- The row's log has no longer the page of this place, and there is nothing else new.
 pub record HasLess (old : Row) (k : ℕ) (new : Row) : Type 0 where

@@ -1,10 +1,12 @@
 -- Which words a call stores, by what is held before it.
-use Rattle.std.specs.Prelude.{◌≡◌, ℕ, ◌+◌, ◌/◌, ◌%◌, ◌≤◌, ◌<◌, List, [], ◌∷◌, Some}
+use Rattle.std.specs.Prelude.{◌≡◌, ℕ, ◌+◌, ◌/◌, ◌%◌, ◌≤◌, ◌<◌, List, [], ◌∷◌, Option, Some}
 use Rattle.std.specs.List.{Contains}
+use Rattle.std.specs.Option.{option_map_or}
 use Rattle.nv_region.specs.Region.{Region, word}
 use Rattle.nv_super.specs.declared.superblock.Super.{Super}
 use Rattle.nv_super.specs.Layout.{fixed_layout, slot_address}
 use Rattle.nv_journal.specs.Undo.{journal}
+use Rattle.nv_logpage.specs.Unlinked.{word_to}
 use Rattle.nv_held.specs.Held.{Held, Store}
 use Rattle.nv_held.specs.Blocks.{IsUnowned}
 use Rattle.nv_steps.specs.InOrder.{tail_address}
@@ -31,7 +33,7 @@ StoresIn s held p R S = (at : ℕ) → at % 8 ≡ 0 → (MayStore s held p at �
 
 -- ---- the places of each kind of call
 
--- one log that grows
+-- one log that grows, also one whose entries name data in blocks that were free
 abbrev pub one_log : Super → ℕ → Places
 one_log s i = record { logs = i ∷ []; slots = []; journals = []; words = tail_address s i ∷ [] }
 
@@ -46,3 +48,7 @@ one_more s cpu j d = record { logs = d ∷ []; slots = j ∷ []; journals = cpu 
 -- an inode that goes with its name
 abbrev pub one_less : Super → ℕ → ℕ → ℕ → Places
 one_less s cpu d j = record { logs = d ∷ []; slots = []; journals = cpu ∷ []; words = tail_address s d ∷ slot_address s j ∷ [] }
+
+-- a log that loses the page of this place among its pages, if there is one: the word that leads to the page
+abbrev pub one_page_less : Super → ℕ → List ℕ → Option ℕ → Places
+one_page_less s i pages o = record { logs = []; slots = []; journals = []; words = option_map_or (λ (k : ℕ). word_to (slot_address s i + 16) pages k ∷ []) o [] }

@@ -15,6 +15,7 @@ ghost use Rattle.nv_steps.specs.Attributes.{HasAttributes, attributes};
 ghost use Rattle.nv_steps.specs.Grown.{StandsRight};
 ghost use Rattle.nv_steps.specs.Steps.{LeavesStep, LogFollows, RefusesStep, ShowsRow};
 ghost use Rattle.nv_steps.specs.Stopped.{Attributed};
+ghost use Rattle.nv_steps.specs.Stores.{StoresIn, one_log};
 
 use crate::appending::append_log;
 use crate::settling::numbers_with;
@@ -55,6 +56,9 @@ pub fn change_attributes<P: Pmem>(
     ensures lists { free.new.sup ≡ free.old.sup }
     ensures length { size (P.region memory.new) ≡ size (P.region memory.old) }
     ensures keeps_fuse { KeepsFuse (λ limit. size (P.region memory.old) ≤ limit) (P.fuse memory.old) (P.fuse memory.new) }
+    // Every word outside these places is as it was.
+    ensures wrote { (held : Store) (h : Held) → ShowsRow (P.region memory.old) sup.now held h row.old free.old
+        → StoresIn sup.now held (one_log sup.now row.old.inode) (P.region memory.old) (P.region memory.new) }
     // What a stop leaves, at any exit.
     ensures any_stop { (held : Store) (h : Held) → ShowsRow (P.region memory.old) sup.now held h row.old free.old → NothingPending (P.region memory.old) (P.may_hold memory.old)
         → LeavesOnly (P.region memory.new) (P.may_hold memory.new) (LeavesEither (P.region memory.old) (fixed_layout sup.now) held (Attributed (P.region memory.old) sup.now free.old cpu row.old attributes)) }

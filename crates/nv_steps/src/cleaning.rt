@@ -1,39 +1,68 @@
-//! The first page that the log of a row can do without, taken out of it.
+//! The first page that the log of a row can do without, taken out of it, and such pages that follow one another.
 
-ghost use Rattle.std.specs.Prelude.{◌≡◌, ◌⊎◌, ◌+◌, ◌<◌, ◌≤◌, length, true, IsTrue, IfOk, IfErr, OnOk};
+ghost use Rattle.std.specs.Prelude.{◌≡◌, ◌⊎◌, ◌+◌, ◌%◌, ◌<◌, ◌≤◌, ℕ, List, length, true, Option, IsTrue, IfOk, IfErr, IfSome, OnOk};
 ghost use Rattle.nv_region.specs.Region.{HasBlocks, size};
 ghost use Rattle.nv_region.specs.Stops.{LeavesOnly, NothingPending};
 ghost use Rattle.nv_region.specs.Fuses.{KeepsFuse};
-ghost use Rattle.nv_super.specs.Layout.{fixed_layout};
+ghost use Rattle.nv_super.specs.Layout.{fixed_layout, HasAreas, IsLayout, inode_limit, slot_address};
+ghost use Rattle.nv_alloc.specs.FreeValue.{FreeLists};
 ghost use Rattle.nv_inode.specs.Slot.{is_right_log};
+ghost use Rattle.nv_logpage.specs.declared.found.Placed.{Placed as PlacedValue};
 ghost use Rattle.nv_logpage.specs.Append.{EndBy};
 ghost use Rattle.nv_logpage.specs.Unlinked.{page_behind};
+ghost use Rattle.nv_scan.specs.Dead.{IsFirstDead, IsSaidBy};
+ghost use Rattle.nv_scan.specs.InTurn.{AreDeadPages};
 ghost use Rattle.nv_held.specs.Held.{Held, Store};
 ghost use Rattle.nv_tree.specs.declared.refusal.Refusal.{Refusal as RefusalValue};
 ghost use Rattle.nv_commit.specs.Stopped.{LeavesEither};
-ghost use Rattle.nv_steps.specs.Cleans.{Cleans, HasLess, KeepsFile};
+ghost use Rattle.nv_steps.specs.Cleans.{Cleans, HasLess, IsKnownDead, KeepsFile};
 ghost use Rattle.nv_steps.specs.Grown.{StandsRight};
 ghost use Rattle.nv_steps.specs.LessNames.{AreOwn};
 ghost use Rattle.nv_steps.specs.Steps.{LeavesStep, ShowsRow};
 ghost use Rattle.nv_steps.specs.Stopped.{PageLess};
+ghost use Rattle.nv_steps.specs.Stores.{StoresIn, one_page_less};
 ghost use Rattle.nv_steps.specs.Taken.{SamePools};
 
 use crate::giving::give_block;
 use nv_alloc::Allocators;
 use nv_logpage::unlink_page;
 use nv_region::Pmem;
-use nv_scan::{Row, first_dead_page};
+use nv_scan::{DeadPages, Row, dead_pages, first_dead_page};
 use nv_super::{BLOCK_SIZE, Super};
 use nv_tree::Refusal;
-use std::alloc::Global;
+use std::alloc::{AllocError, Global};
 
 // The words of a slot, by their places in it.
 const HEAD: u64 = 16;
 
 const CREATED: u64 = 32;
 
+/// Pages that the log of a row can do without, one after another, if it has one.
+///
+/// Errors: `AllocError` where a growth was refused.
+pub fn dead_pages_of<P: Pmem>(
+    alloc: Global,
+    memory: &P,
+    sup: &Super,
+    row: &Row,
+) -> Result<Option<DeadPages>, AllocError>
+    requires layout { IsLayout sup.now }
+    requires number { row.now.inode < inode_limit sup.now }
+    requires whole { slot_address sup.now row.now.inode % 128 ≡ 0 }
+    requires inside { slot_address sup.now row.now.inode + 128 ≤ size (P.region memory.now) }
+    requires blocks { HasBlocks (P.region memory.now) sup.now.blocks }
+    requires right { is_right_log sup.now row.now.head row.now.tail ≡ true }
+    ensures { (held : Store) (h : Held) (free : FreeLists) → ShowsRow (P.region memory.now) sup.now held h row.now free → IfOk result (AreDeadPages sup.now h.kind row.now.inode h.created h.entries h.pages) }
+{
+    // The region's length is a u64, and so is each address up to it.
+    let _end = memory.len();
+    let slot = sup.slot_address(row.inode);
+    let created = memory.load(slot + CREATED);
+    dead_pages(alloc, memory, sup, row, created)
+}
+
 /// Takes the first page out of the log of a row that it can do without, and gives its block back. Answers the block, or `None`
-/// where the log needs each of its pages; then nothing is stored.
+/// where the log needs each of its pages; then nothing is stored. The page isn't looked for where its place is known.
 ///
 /// `Memory` where a growth was refused, which changes nothing. `Stopped` where the fuse has burnt.
 pub fn clean_log<P: Pmem>(
@@ -42,21 +71,26 @@ pub fn clean_log<P: Pmem>(
     sup: &Super,
     free: &mut Allocators,
     row: &mut Row,
+    known: Option<usize>,
 ) -> Result<Option<u64>, Refusal>
     requires stands { StandsRight (P.region memory.old) sup.now free.old row.old }
     requires blocks { HasBlocks (P.region memory.old) sup.now.blocks }
     requires right { is_right_log sup.now row.old.head row.old.tail ≡ true }
     requires inside { EndBy row.old.pages.items (size (P.region memory.old)) }
     requires own { AreOwn free.old row.old.pages.items }
-    ensures log { (held : Store) (h : Held) → ShowsRow (P.region memory.old) sup.now held h row.old free.old → IfOk result (Cleans (P.region memory.old) (P.region memory.new) sup.now held h row.old row.new free.old free.new) }
+    requires before_last { IfSome known (λ k. k + 1 < length row.old.pages.items) }
+    ensures log { (held : Store) (h : Held) → ShowsRow (P.region memory.old) sup.now held h row.old free.old → IsKnownDead sup.now h.kind row.old.inode h.created h.entries h.pages known → IfOk result (Cleans (P.region memory.old) (P.region memory.new) sup.now held h row.old row.new free.old free.new) }
     ensures settled { NothingPending (P.region memory.old) (P.may_hold memory.old) → OnOk result (NothingPending (P.region memory.new) (P.may_hold memory.new)) }
     ensures refused { IfErr result (λ e. (e ≡ RefusalValue.Memory) ⊎ (e ≡ RefusalValue.Stopped)) }
     // A block is given back once no log leads to it.
     ensures not_given { IfErr result (λ e. SamePools free.old free.new) }
     ensures unchanged { IfErr result (λ e. (e ≡ RefusalValue.Stopped → ⊥) → LeavesStep memory.old memory.new free.old free.new row.old row.new) }
     ensures stopped { IfErr result (λ e. e ≡ RefusalValue.Stopped → IsTrue (P.fuse memory.new).has_burnt) }
+    // Every word outside these places is as it was.
+    ensures wrote { (held : Store) (h : Held) (o : Option ℕ) → ShowsRow (P.region memory.old) sup.now held h row.old free.old → IsKnownDead sup.now h.kind row.old.inode h.created h.entries h.pages known → IsFirstDead sup.now h.kind row.old.inode h.created h.entries h.pages o
+        → StoresIn sup.now held (one_page_less sup.now row.old.inode h.pages o) (P.region memory.old) (P.region memory.new) }
     // Whatever a stop leaves: recovery finds what is held, or it without the page, without faults.
-    ensures any_stop { (held : Store) (h : Held) → ShowsRow (P.region memory.old) sup.now held h row.old free.old → NothingPending (P.region memory.old) (P.may_hold memory.old)
+    ensures any_stop { (held : Store) (h : Held) → ShowsRow (P.region memory.old) sup.now held h row.old free.old → IsKnownDead sup.now h.kind row.old.inode h.created h.entries h.pages known → NothingPending (P.region memory.old) (P.may_hold memory.old)
         → LeavesOnly (P.region memory.new) (P.may_hold memory.new) (LeavesEither (P.region memory.old) (fixed_layout sup.now) held (PageLess (P.region memory.old) sup.now free.old row.old)) }
     ensures file { KeepsFile row.old row.new }
     ensures lists { free.new.sup ≡ free.old.sup }
@@ -67,7 +101,7 @@ pub fn clean_log<P: Pmem>(
     let _end = memory.len();
     let slot = sup.slot_address(row.inode);
     let created = memory.load(slot + CREATED);
-    let Ok(found) = first_dead_page(alloc, &*memory, sup, row, created) else {
+    let Ok(found) = known_or_first(alloc, &*memory, sup, row, created, known) else {
         return Err(Refusal::Memory);
     };
     let place = match found {
@@ -85,6 +119,29 @@ pub fn clean_log<P: Pmem>(
     leave_page(row, place, next);
     give_block(free, Some(block));
     Ok(Some(block))
+}
+
+// The place of the first page that the log of a row can do without, looked for if it isn't known.
+fn known_or_first<P: Pmem>(
+    alloc: Global,
+    memory: &P,
+    sup: &Super,
+    row: &Row,
+    created: u64,
+    known: Option<usize>,
+) -> Result<Option<usize>, AllocError>
+    requires areas { HasAreas sup.now }
+    requires blocks { HasBlocks (P.region memory.now) sup.now.blocks }
+    requires right { is_right_log sup.now row.now.head row.now.tail ≡ true }
+    requires before_last { IfSome known (λ k. k + 1 < length row.now.pages.items) }
+    ensures before_last { IfOk result (λ found. IfSome found (λ k. k + 1 < length row.now.pages.items)) }
+    ensures first { IfOk result (λ found. (es : List PlacedValue) → IsSaidBy (P.region memory.now) sup.now created es row.now → IsKnownDead sup.now row.now.kind row.now.inode created es row.now.pages.items known
+        → IsFirstDead sup.now row.now.kind row.now.inode created es row.now.pages.items found) }
+{
+    match known {
+        Some(place) => Ok(Some(place)),
+        None => first_dead_page(alloc, memory, sup, row, created),
+    }
 }
 
 /// Takes the page of a place out of the log of a row. It isn't the last one, and the page behind it has this address.

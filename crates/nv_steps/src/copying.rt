@@ -23,6 +23,7 @@ ghost use Rattle.nv_tree.specs.declared.refusal.Refusal.{Refusal as RefusalValue
 ghost use Rattle.nv_steps.specs.Sizes.{CanResize, CopiesEnd, Resizes, blocks_from, end_block, resizing};
 ghost use Rattle.nv_steps.specs.Steps.{LeavesStep, RefusesStep, ShowsRow};
 ghost use Rattle.nv_steps.specs.Stopped.{Resized};
+ghost use Rattle.nv_steps.specs.Stores.{StoresIn, one_log};
 ghost use Rattle.nv_steps.specs.Taken.{SamePools, TakesEach};
 
 use crate::blocks::take_blocks;
@@ -64,6 +65,9 @@ pub(crate) fn resize_with_copy<P: Pmem>(
     ensures lists { free.new.sup ≡ free.old.sup }
     ensures length { size (P.region memory.new) ≡ size (P.region memory.old) }
     ensures keeps_fuse { KeepsFuse (λ limit. size (P.region memory.old) ≤ limit) (P.fuse memory.old) (P.fuse memory.new) }
+    // Every word outside these places is as it was.
+    ensures wrote { (held : Store) (h : Held) → ShowsRow (P.region memory.old) sup.now held h row.old free.old
+        → StoresIn sup.now held (one_log sup.now row.old.inode) (P.region memory.old) (P.region memory.new) }
     // Whatever a stop leaves: recovery finds what is held, or it with the file's new size, without faults.
     ensures any_stop { (held : Store) (h : Held) → ShowsRow (P.region memory.old) sup.now held h row.old free.old → NothingPending (P.region memory.old) (P.may_hold memory.old)
         → LeavesOnly (P.region memory.new) (P.may_hold memory.new) (LeavesEither (P.region memory.old) (fixed_layout sup.now) held (Resized (P.region memory.old) sup.now free.old cpu row.old attributes)) }
@@ -166,6 +170,9 @@ fn copy_end<P: Pmem>(
     ensures stopped { is_err result ≡ (P.fuse memory.new).has_burnt }
     ensures length { size (P.region memory.new) ≡ size (P.region memory.old) }
     ensures keeps_fuse { KeepsFuse (λ limit. size (P.region memory.old) ≤ limit) (P.fuse memory.old) (P.fuse memory.new) }
+    // Every word outside these places is as it was.
+    ensures wrote { (s : SuperValue) (held : Store) (i : ℕ) (h : Held) → CanExtend (P.region memory.old) s held i h log.now.slot log.now.tail log.now.entries.now log.now.fresh.now → IsUnowned (fixed_layout s) held to
+        → StoresIn s held (one_log s i) (P.region memory.old) (P.region memory.new) }
     // Whatever a stop leaves: recovery finds what is held, or it with the page copied and the log grown, without faults.
     ensures any_stop { (s : SuperValue) (held : Store) (i : ℕ) (h : Held) → CanExtend (P.region memory.old) s held i h log.now.slot log.now.tail log.now.entries.now log.now.fresh.now → IsUnowned (fixed_layout s) held to → NothingPending (P.region memory.old) (P.may_hold memory.old)
         → LeavesOnly (P.region memory.new) (P.may_hold memory.new) (LeavesEither (P.region memory.old) (fixed_layout s) held (λ S. CopiesEnd (P.region memory.old) S from to bytes log.now.slot log.now.tail log.now.entries.now log.now.fresh.now)) }

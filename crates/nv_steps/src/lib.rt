@@ -28,7 +28,7 @@ mod unlinking;
 mod writing;
 
 pub use attributes::change_attributes;
-pub use cleaning::clean_log;
+pub use cleaning::{clean_log, dead_pages_of};
 pub use giving::give_row;
 pub use linking::link_both;
 pub use making::{NewName, make_named};

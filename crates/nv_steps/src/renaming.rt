@@ -22,7 +22,7 @@ ghost use Rattle.nv_steps.specs.Steps.{LeavesStep, RefusesStep, ShowsRow};
 ghost use Rattle.nv_steps.specs.Stopped.{MovedHere, MovedOver};
 ghost use Rattle.nv_steps.specs.InOrder.{TailIsFirst, tail_address};
 ghost use Rattle.nv_steps.specs.Unlinks.{LosesName};
-ghost use Rattle.nv_steps.specs.Stores.{StoresIn, two_logs};
+ghost use Rattle.nv_steps.specs.Stores.{StoresIn, one_log, two_logs};
 
 use crate::appending::append_log;
 use crate::blocks::are_enough;
@@ -73,6 +73,9 @@ pub fn move_within<P: Pmem>(
     ensures lists { free.new.sup ≡ free.old.sup }
     ensures length { size (P.region memory.new) ≡ size (P.region memory.old) }
     ensures keeps_fuse { KeepsFuse (λ limit. size (P.region memory.old) ≤ limit) (P.fuse memory.old) (P.fuse memory.new) }
+    // Every word outside these places is as it was.
+    ensures wrote { (held : Store) (h : Held) → ShowsRow (P.region memory.old) sup.now held h directory.old free.old
+        → StoresIn sup.now held (one_log sup.now directory.old.inode) (P.region memory.old) (P.region memory.new) }
     // Whatever a stop leaves: recovery finds what is held, or it with the other name, without faults.
     ensures any_stop { (held : Store) (h : Held) → ShowsRow (P.region memory.old) sup.now held h directory.old free.old → name_at directory.old.names moved.now.other.now ≡ Option.None → NothingPending (P.region memory.old) (P.may_hold memory.old)
         → LeavesOnly (P.region memory.new) (P.may_hold memory.new) (LeavesEither (P.region memory.old) (fixed_layout sup.now) held (MovedHere (P.region memory.old) sup.now free.old cpu directory.old moved.now.inode moved.now.name.now moved.now.other.now moved.now.time)) }

@@ -13,6 +13,7 @@ ghost use Rattle.nv_tree.specs.declared.refusal.Refusal.{Refusal as RefusalValue
 ghost use Rattle.nv_steps.specs.Sizes.{CanResize, Resizes, blocks_from, end_block};
 ghost use Rattle.nv_steps.specs.Steps.{LeavesStep, RefusesStep, ShowsRow};
 ghost use Rattle.nv_steps.specs.Stopped.{Resized};
+ghost use Rattle.nv_steps.specs.Stores.{StoresIn, one_log};
 
 use crate::appending::append_log;
 use crate::copying::resize_with_copy;
@@ -51,6 +52,9 @@ pub fn resize<P: Pmem>(
     ensures lists { free.new.sup ≡ free.old.sup }
     ensures length { size (P.region memory.new) ≡ size (P.region memory.old) }
     ensures keeps_fuse { KeepsFuse (λ limit. size (P.region memory.old) ≤ limit) (P.fuse memory.old) (P.fuse memory.new) }
+    // Every word outside these places is as it was.
+    ensures wrote { (held : Store) (h : Held) → ShowsRow (P.region memory.old) sup.now held h row.old free.old
+        → StoresIn sup.now held (one_log sup.now row.old.inode) (P.region memory.old) (P.region memory.new) }
     // Whatever a stop leaves: recovery finds what is held, or it with the file's new size, without faults.
     ensures any_stop { (held : Store) (h : Held) → ShowsRow (P.region memory.old) sup.now held h row.old free.old → NothingPending (P.region memory.old) (P.may_hold memory.old)
         → LeavesOnly (P.region memory.new) (P.may_hold memory.new) (LeavesEither (P.region memory.old) (fixed_layout sup.now) held (Resized (P.region memory.old) sup.now free.old cpu row.old attributes)) }
@@ -97,6 +101,9 @@ fn resize_in_place<P: Pmem>(
     ensures lists { free.new.sup ≡ free.old.sup }
     ensures length { size (P.region memory.new) ≡ size (P.region memory.old) }
     ensures keeps_fuse { KeepsFuse (λ limit. size (P.region memory.old) ≤ limit) (P.fuse memory.old) (P.fuse memory.new) }
+    // Every word outside these places is as it was.
+    ensures wrote { (held : Store) (h : Held) → ShowsRow (P.region memory.old) sup.now held h row.old free.old
+        → StoresIn sup.now held (one_log sup.now row.old.inode) (P.region memory.old) (P.region memory.new) }
     // Whatever a stop leaves: recovery finds what is held, or it with the file's new size, without faults.
     ensures any_stop { (held : Store) (h : Held) → ShowsRow (P.region memory.old) sup.now held h row.old free.old → NothingPending (P.region memory.old) (P.may_hold memory.old)
         → LeavesOnly (P.region memory.new) (P.may_hold memory.new) (LeavesEither (P.region memory.old) (fixed_layout sup.now) held (Resized (P.region memory.old) sup.now free.old cpu row.old attributes)) }

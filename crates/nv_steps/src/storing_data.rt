@@ -15,6 +15,7 @@ ghost use Rattle.nv_held.specs.Blocks.{IsUnowned};
 ghost use Rattle.nv_commit.specs.Extends.{CanExtend};
 ghost use Rattle.nv_commit.specs.Stopped.{LeavesEither};
 ghost use Rattle.nv_logpage.specs.Append.{CanAppend, end_of};
+ghost use Rattle.nv_steps.specs.Stores.{StoresIn, one_log};
 ghost use Rattle.nv_steps.specs.Written.{AreSmall, Commits, HoldEntries, entry_blocks};
 
 use crate::preparing_data::Entries;
@@ -81,6 +82,9 @@ pub(crate) fn commit_data<P: Pmem>(
     ensures stopped { (P.fuse memory.old).has_burnt ≡ false → is_err result ≡ (P.fuse memory.new).has_burnt }
     ensures length { size (P.region memory.new) ≡ size (P.region memory.old) }
     ensures keeps_fuse { KeepsFuse (λ limit. size (P.region memory.old) ≤ limit) (P.fuse memory.old) (P.fuse memory.new) }
+    // Every word outside these places is as it was.
+    ensures wrote { (s : Super) (held : Store) (inode : ℕ) (h : Held) → CanExtend (P.region memory.old) s held inode h slot tail log.now.entries.items log.now.fresh.items → ((b : ℕ) → HasBlock (entry_blocks log.now.entries.items) b → IsUnowned (fixed_layout s) held b)
+        → StoresIn s held (one_log s inode) (P.region memory.old) (P.region memory.new) }
     // What a stop leaves, at any exit: the data are stored where nothing is read from, and count once the tail has moved.
     ensures any_stop { (s : Super) (held : Store) (inode : ℕ) (h : Held) → CanExtend (P.region memory.old) s held inode h slot tail log.now.entries.items log.now.fresh.items → ((b : ℕ) → HasBlock (entry_blocks log.now.entries.items) b → IsUnowned (fixed_layout s) held b)
         → NothingPending (P.region memory.old) (P.may_hold memory.old) → LeavesOnly (P.region memory.new) (P.may_hold memory.new) (LeavesEither (P.region memory.old) (fixed_layout s) held

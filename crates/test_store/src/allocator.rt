@@ -290,14 +290,8 @@ fn a_run_joins_the_two_that_it_touches(rt: HostRuntime) {
     );
 }
 
-fn is_shown_as(alloc: Global, refusal: AllocRefusal, text: &str) -> Result<bool, AllocError> {
-    Ok(format!(in alloc; "{refusal}")?.as_str() == text)
-}
-
 #[test]
 fn a_refusal_has_its_name(rt: HostRuntime) {
-    let no_space = is_shown_as(rt.alloc(), AllocRefusal::NoSpace, "NoSpace");
-    check(&rt, no_space == Ok(true), "the name of no space");
-    let memory = is_shown_as(rt.alloc(), AllocRefusal::Memory, "Memory");
-    check(&rt, memory == Ok(true), "the name of no memory");
+    check(&rt, AllocRefusal::NoSpace.name() == "NoSpace", "the name of no space");
+    check(&rt, AllocRefusal::Memory.name() == "Memory", "the name of no memory");
 }

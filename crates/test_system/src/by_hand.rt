@@ -22,6 +22,10 @@ impl Hints for Counts {
 }
 
 impl Host for Counts {
+    fn give(&mut self, _hint: Hint) {
+        self.hints = self.hints.saturating_add(1);
+    }
+
     fn prompt(&mut self) {
         self.prompts = self.prompts.saturating_add(1);
     }

@@ -3,7 +3,7 @@
 use nv_args::{CheckOutput, Todo, read_words};
 use std::alloc::Global;
 
-const REFUSED: [&[&str]; 15] = [
+const REFUSED: [&[&str]; 16] = [
     &["--version", "-V"],
     &["version"],
     &["check", "a", "--workers", "65"],
@@ -26,12 +26,13 @@ const REFUSED: [&[&str]; 15] = [
     &["ls", "i", "/", "/"],
     &["cat", "i"],
     &["map", "i", "s"],
+    &["shell", "i", "/"],
     &["explain"],
     &["--help"],
 ];
 
 /// Words, and what they ask for.
-const ASKED: [(&[&str], Todo<'static>); 17] = [
+const ASKED: [(&[&str], Todo<'static>); 16] = [
     (&["--version"], Todo::Version),
     (&["-V"], Todo::Version),
     (
@@ -41,6 +42,7 @@ const ASKED: [(&[&str], Todo<'static>); 17] = [
             image: None,
             save: None,
             force: false,
+            strict: false,
         },
     ),
     (
@@ -50,38 +52,7 @@ const ASKED: [(&[&str], Todo<'static>); 17] = [
             image: Some("i"),
             save: Some("s"),
             force: true,
-        },
-    ),
-    (
-        &["check", "a"],
-        Todo::Check {
-            path: "a",
-            workers: 1,
-            output: CheckOutput::Report,
-        },
-    ),
-    (
-        &["check", "a", "--workers", "64"],
-        Todo::Check {
-            path: "a",
-            workers: 64,
-            output: CheckOutput::Report,
-        },
-    ),
-    (
-        &["check", "--summary", "a", "--workers", "+05"],
-        Todo::Check {
-            path: "a",
-            workers: 5,
-            output: CheckOutput::Summary,
-        },
-    ),
-    (
-        &["check", "a", "--only-faults"],
-        Todo::Check {
-            path: "a",
-            workers: 1,
-            output: CheckOutput::OnlyFaults,
+            strict: false,
         },
     ),
     (
@@ -147,8 +118,90 @@ const ASKED: [(&[&str], Todo<'static>); 17] = [
             force: true,
         },
     ),
+    (
+        &["run", "--strict"],
+        Todo::Run {
+            script: None,
+            image: None,
+            save: None,
+            force: false,
+            strict: true,
+        },
+    ),
+    (
+        &["shell", "i"],
+        Todo::Shell {
+            image: "i",
+            force: false,
+        },
+    ),
+    (
+        &["shell", "--force", "i"],
+        Todo::Shell {
+            image: "i",
+            force: true,
+        },
+    ),
     (&["explain", "l2"], Todo::Explain { class: "l2" }),
 ];
+
+/// Words of checks, the paths and the number of workers that they ask for, and the output.
+const CHECKS: [(&[&str], &[&str], u32, CheckOutput); 5] = [
+    (&["check", "a"], &["a"], 1, CheckOutput::Report),
+    (
+        &["check", "a", "--workers", "64"],
+        &["a"],
+        64,
+        CheckOutput::Report,
+    ),
+    (
+        &["check", "--summary", "a", "--workers", "+05"],
+        &["a"],
+        5,
+        CheckOutput::Summary,
+    ),
+    (
+        &["check", "a", "--only-faults"],
+        &["a"],
+        1,
+        CheckOutput::OnlyFaults,
+    ),
+    (
+        &["check", "a", "--workers", "2", "b", "a"],
+        &["a", "b", "a"],
+        2,
+        CheckOutput::Report,
+    ),
+];
+
+fn check_for(
+    alloc: Global,
+    words: &[&str],
+    wanted: &[&str],
+    threads: u32,
+    printed: CheckOutput,
+) -> bool {
+    match read_words(alloc, words) {
+        Ok(
+            Todo::Check {
+                paths,
+                workers,
+                output,
+            },
+        ) => paths.as_slice() == wanted && workers == threads && output == printed,
+        _ => false,
+    }
+}
+
+#[test]
+fn words_of_checks_have_their_paths(rt: HostRuntime) {
+    for (row, (words, paths, workers, output)) in CHECKS.iter().enumerate() {
+        assert!(rt;
+            check_for(rt.alloc(), words, paths, *workers, *output),
+            "row {row}"
+        );
+    }
+}
 
 fn ask_for(alloc: Global, words: &[&str], todo: &Todo<'_>) -> bool {
     match read_words(alloc, words) {

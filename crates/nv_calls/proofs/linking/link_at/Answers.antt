@@ -16,7 +16,7 @@ use Rattle.nv_names.specs.Names.{name_at}
 use Rattle.nv_commit.specs.Stopped.{LeavesEither}
 use Rattle.nv_steps.specs.Stopped.{Linked}
 use Rattle.nv_steps.specs.Steps.{RefusesStep, ShowsRow}
-use Rattle.nv_calls.proofs.TwoRows.{first_used, last_used, left_two, lifted, row_stays, used_still}
+use Rattle.nv_calls.proofs.TwoRows.{first_used, last_used, left_two, lifted, of_lent, row_stays, used_still}
 use Rattle.nv_calls.proofs.linking.link_at.Goals as goal
 use Rattle.nv_steps.specs.Stores.{StoresIn, two_logs}
 
@@ -80,18 +80,10 @@ returns-clause-any_stop g c file directory held f h at other_at here other absen
 
 pub returns-clause-in_order : goal.returns-clause-in_order
 returns-clause-in_order g c file directory held f h at other_at here other =
-    let there = row_stays c.args.rows.now.items c.lend-file.new.self.items c.args.named.now.target c.args.named.now.directory c.requires.apart c.requires.target c.lend-file.ensures.lent c.lend-directory.result c.lend-directory.ensures.row in
-    let same : c.lend-file.result ≡ file = same_Some _ _ (sym c.lend-file.ensures.row ∙ at) in
-    let other_same : c.lend-directory.result ≡ directory = same_Some _ _ (sym there ∙ other_at) in
-    subst (λ (r : Row). ShowsRow (g.P.Pmem.region c.args.memory.now) c.args.sup.now held f r c.args.free.now → TailIsFirst (g.P.Pmem.region c.args.memory.now) (g.P.Pmem.region c.link_both-done.new.memory) c.args.sup.now c.args.free.now.pools c.args.cpu r.inode r.tail (links_entries (r.numbers.links + 1) c.args.time) (tail_address c.args.sup.now directory.inode)) same
-    (λ seen. subst (λ (d : Row). ShowsRow (g.P.Pmem.region c.args.memory.now) c.args.sup.now held h d c.args.free.now → TailIsFirst (g.P.Pmem.region c.args.memory.now) (g.P.Pmem.region c.link_both-done.new.memory) c.args.sup.now c.args.free.now.pools c.args.cpu c.lend-file.result.inode c.lend-file.result.tail (links_entries (c.lend-file.result.numbers.links + 1) c.args.time) (tail_address c.args.sup.now d.inode)) other_same
-    (λ seen_other. c.link_both-done.ensures.in_order held f h seen seen_other) other) here
+    of_lent c.args.rows.now.items c.lend-file.new.self.items c.args.named.now.target c.args.named.now.directory c.requires.apart c.requires.target c.lend-file.ensures.lent (λ (r d : Row). ShowsRow (g.P.Pmem.region c.args.memory.now) c.args.sup.now held f r c.args.free.now → ShowsRow (g.P.Pmem.region c.args.memory.now) c.args.sup.now held h d c.args.free.now → TailIsFirst (g.P.Pmem.region c.args.memory.now) (g.P.Pmem.region c.link_both-done.new.memory) c.args.sup.now c.args.free.now.pools c.args.cpu r.inode r.tail (links_entries (r.numbers.links + 1) c.args.time) (tail_address c.args.sup.now d.inode))
+    c.lend-file.result c.lend-directory.result file directory c.lend-file.ensures.row c.lend-directory.ensures.row (λ seen seen_other. c.link_both-done.ensures.in_order held f h seen seen_other) at other_at here other
 
 pub returns-clause-wrote : goal.returns-clause-wrote
 returns-clause-wrote g c file directory held f h at other_at here other =
-    let there = row_stays c.args.rows.now.items c.lend-file.new.self.items c.args.named.now.target c.args.named.now.directory c.requires.apart c.requires.target c.lend-file.ensures.lent c.lend-directory.result c.lend-directory.ensures.row in
-    let same : c.lend-file.result ≡ file = same_Some _ _ (sym c.lend-file.ensures.row ∙ at) in
-    let other_same : c.lend-directory.result ≡ directory = same_Some _ _ (sym there ∙ other_at) in
-    subst (λ (r : Row). ShowsRow (g.P.Pmem.region c.args.memory.now) c.args.sup.now held f r c.args.free.now → StoresIn c.args.sup.now held (two_logs c.args.sup.now c.args.cpu r.inode directory.inode) (g.P.Pmem.region c.args.memory.now) (g.P.Pmem.region c.link_both-done.new.memory)) same
-    (λ seen. subst (λ (d : Row). ShowsRow (g.P.Pmem.region c.args.memory.now) c.args.sup.now held h d c.args.free.now → StoresIn c.args.sup.now held (two_logs c.args.sup.now c.args.cpu c.lend-file.result.inode d.inode) (g.P.Pmem.region c.args.memory.now) (g.P.Pmem.region c.link_both-done.new.memory)) other_same
-    (λ seen_other. c.link_both-done.ensures.wrote held f h seen seen_other) other) here
+    of_lent c.args.rows.now.items c.lend-file.new.self.items c.args.named.now.target c.args.named.now.directory c.requires.apart c.requires.target c.lend-file.ensures.lent (λ (r d : Row). ShowsRow (g.P.Pmem.region c.args.memory.now) c.args.sup.now held f r c.args.free.now → ShowsRow (g.P.Pmem.region c.args.memory.now) c.args.sup.now held h d c.args.free.now → StoresIn c.args.sup.now held (two_logs c.args.sup.now c.args.cpu r.inode d.inode) (g.P.Pmem.region c.args.memory.now) (g.P.Pmem.region c.link_both-done.new.memory))
+    c.lend-file.result c.lend-directory.result file directory c.lend-file.ensures.row c.lend-directory.ensures.row (λ seen seen_other. c.link_both-done.ensures.wrote held f h seen seen_other) at other_at here other

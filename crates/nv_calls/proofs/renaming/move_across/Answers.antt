@@ -17,7 +17,7 @@ use Rattle.nv_steps.specs.Stopped.{MovedOver}
 use Rattle.nv_steps.specs.Steps.{RefusesStep, ShowsRow}
 use Rattle.nv_calls.proofs.StoppedMoves.{over_as}
 use Rattle.nv_calls.proofs.MoveAt.{both_count, moves_across}
-use Rattle.nv_calls.proofs.TwoRows.{first_used, last_used, left_two, lifted, row_stays, used_still}
+use Rattle.nv_calls.proofs.TwoRows.{first_used, last_used, left_two, lifted, of_lent, row_stays, used_still}
 use Rattle.nv_calls.proofs.renaming.move_across.Goals as goal
 use Rattle.nv_steps.specs.Stores.{StoresIn, two_logs}
 
@@ -94,22 +94,13 @@ returns-clause-any_stop g c from to inode held h k at other_at inode_at here oth
 
 pub returns-clause-in_order : goal.returns-clause-in_order
 returns-clause-in_order g c from to inode held h k at other_at inode_at here other =
-    let rows = c.args.rows.now.items in
-    let there = row_stays rows c.lend-from.new.self.items c.args.moved.now.from.directory c.args.moved.now.directory c.requires.apart c.requires.from c.lend-from.ensures.lent c.lend-to.result c.lend-to.ensures.row in
-    let same : c.lend-from.result ≡ from = same_Some _ _ (sym c.lend-from.ensures.row ∙ at) in
-    let other_same : c.lend-to.result ≡ to = same_Some _ _ (sym there ∙ other_at) in
-    let number = c.other_name-other.ensures.inode ∙ sym (numbered rows c.args.moved.now.from.target inode inode_at) in
+    let number = c.other_name-other.ensures.inode ∙ sym (numbered c.args.rows.now.items c.args.moved.now.from.target inode inode_at) in
     let entries : name_entries Remove c.other_name-other.result.inode c.other_name-other.result.name.now c.other_name-other.result.time ≡ name_entries Remove inode.inode c.args.moved.now.from.name.now c.args.time = λ t. name_entries Remove (number t) (c.other_name-other.ensures.name t) (c.other_name-other.ensures.time t) in
-    subst (λ (r : Row). ShowsRow (g.P.Pmem.region c.args.memory.now) c.args.sup.now held h r c.args.free.now → TailIsFirst (g.P.Pmem.region c.args.memory.now) (g.P.Pmem.region c.move_both-done.new.memory) c.args.sup.now c.args.free.now.pools c.args.cpu r.inode r.tail (name_entries Remove inode.inode c.args.moved.now.from.name.now c.args.time) (tail_address c.args.sup.now to.inode)) same
-    (λ seen. subst (λ (d : Row). ShowsRow (g.P.Pmem.region c.args.memory.now) c.args.sup.now held k d c.args.free.now → TailIsFirst (g.P.Pmem.region c.args.memory.now) (g.P.Pmem.region c.move_both-done.new.memory) c.args.sup.now c.args.free.now.pools c.args.cpu c.lend-from.result.inode c.lend-from.result.tail (name_entries Remove inode.inode c.args.moved.now.from.name.now c.args.time) (tail_address c.args.sup.now d.inode)) other_same
-    (λ seen_other. subst (λ (es : List Entry). TailIsFirst (g.P.Pmem.region c.args.memory.now) (g.P.Pmem.region c.move_both-done.new.memory) c.args.sup.now c.args.free.now.pools c.args.cpu c.lend-from.result.inode c.lend-from.result.tail es (tail_address c.args.sup.now c.lend-to.result.inode)) entries (c.move_both-done.ensures.in_order held h k seen seen_other)) other) here
+    of_lent c.args.rows.now.items c.lend-from.new.self.items c.args.moved.now.from.directory c.args.moved.now.directory c.requires.apart c.requires.from c.lend-from.ensures.lent (λ (r d : Row). ShowsRow (g.P.Pmem.region c.args.memory.now) c.args.sup.now held h r c.args.free.now → ShowsRow (g.P.Pmem.region c.args.memory.now) c.args.sup.now held k d c.args.free.now → TailIsFirst (g.P.Pmem.region c.args.memory.now) (g.P.Pmem.region c.move_both-done.new.memory) c.args.sup.now c.args.free.now.pools c.args.cpu r.inode r.tail (name_entries Remove inode.inode c.args.moved.now.from.name.now c.args.time) (tail_address c.args.sup.now d.inode))
+    c.lend-from.result c.lend-to.result from to c.lend-from.ensures.row c.lend-to.ensures.row
+    (λ seen seen_other. subst (λ (es : List Entry). TailIsFirst (g.P.Pmem.region c.args.memory.now) (g.P.Pmem.region c.move_both-done.new.memory) c.args.sup.now c.args.free.now.pools c.args.cpu c.lend-from.result.inode c.lend-from.result.tail es (tail_address c.args.sup.now c.lend-to.result.inode)) entries (c.move_both-done.ensures.in_order held h k seen seen_other)) at other_at here other
 
 pub returns-clause-wrote : goal.returns-clause-wrote
 returns-clause-wrote g c from to inode held h k at other_at inode_at here other =
-    let rows = c.args.rows.now.items in
-    let there = row_stays rows c.lend-from.new.self.items c.args.moved.now.from.directory c.args.moved.now.directory c.requires.apart c.requires.from c.lend-from.ensures.lent c.lend-to.result c.lend-to.ensures.row in
-    let same : c.lend-from.result ≡ from = same_Some _ _ (sym c.lend-from.ensures.row ∙ at) in
-    let other_same : c.lend-to.result ≡ to = same_Some _ _ (sym there ∙ other_at) in
-    subst (λ (r : Row). ShowsRow (g.P.Pmem.region c.args.memory.now) c.args.sup.now held h r c.args.free.now → StoresIn c.args.sup.now held (two_logs c.args.sup.now c.args.cpu r.inode to.inode) (g.P.Pmem.region c.args.memory.now) (g.P.Pmem.region c.move_both-done.new.memory)) same
-    (λ seen. subst (λ (d : Row). ShowsRow (g.P.Pmem.region c.args.memory.now) c.args.sup.now held k d c.args.free.now → StoresIn c.args.sup.now held (two_logs c.args.sup.now c.args.cpu c.lend-from.result.inode d.inode) (g.P.Pmem.region c.args.memory.now) (g.P.Pmem.region c.move_both-done.new.memory)) other_same
-    (λ seen_other. c.move_both-done.ensures.wrote held h k seen seen_other) other) here
+    of_lent c.args.rows.now.items c.lend-from.new.self.items c.args.moved.now.from.directory c.args.moved.now.directory c.requires.apart c.requires.from c.lend-from.ensures.lent (λ (r d : Row). ShowsRow (g.P.Pmem.region c.args.memory.now) c.args.sup.now held h r c.args.free.now → ShowsRow (g.P.Pmem.region c.args.memory.now) c.args.sup.now held k d c.args.free.now → StoresIn c.args.sup.now held (two_logs c.args.sup.now c.args.cpu r.inode d.inode) (g.P.Pmem.region c.args.memory.now) (g.P.Pmem.region c.move_both-done.new.memory))
+    c.lend-from.result c.lend-to.result from to c.lend-from.ensures.row c.lend-to.ensures.row (λ seen seen_other. c.move_both-done.ensures.wrote held h k seen seen_other) at other_at here other

@@ -15,6 +15,7 @@ use Rattle.nv_calls.proofs.StoppedMoves.{here_as}
 use Rattle.nv_calls.proofs.MoveAt.{across_count, here_count, moves_here, within_count}
 use Rattle.nv_calls.proofs.OneOut.{left_one}
 use Rattle.nv_calls.proofs.TwoRows.{last_used}
+use Rattle.nv_steps.specs.Stores.{StoresIn, one_log}
 use Rattle.nv_calls.proofs.renaming.move_at.Goals as goal
 
 pub give_back-requires : goal.give_back-requires
@@ -96,3 +97,12 @@ returns-then-moved-clause-wrote g c from to inode held h k at other_at inode_at 
 
 pub returns-clause-wrote : goal.returns-clause-wrote
 returns-clause-wrote g c from to inode held h k at other_at inode_at here other apart = absurd (apart (ap (place_in c.args.rows.now.items) c.if-moved.false))
+
+pub returns-then-moved-clause-within_wrote : goal.returns-then-moved-clause-within_wrote
+returns-then-moved-clause-within_wrote g c to held k other_at other same = absurd (c.if-moved.true same)
+
+pub returns-clause-within_wrote : goal.returns-clause-within_wrote
+returns-clause-within_wrote g c to held k other_at other same =
+    let two : c.lend-directory.result ≡ to = same_Some _ _ (sym c.lend-directory.ensures.row ∙ other_at) in
+    subst (λ (r : Row). ShowsRow (g.P.Pmem.region c.args.memory.now) c.args.sup.now held k r c.args.free.now → StoresIn c.args.sup.now held (one_log c.args.sup.now r.inode) (g.P.Pmem.region c.args.memory.now) (g.P.Pmem.region c.move_within-done.new.memory)) two
+    (λ shows. c.move_within-done.ensures.wrote held k shows) other

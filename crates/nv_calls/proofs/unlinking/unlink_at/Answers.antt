@@ -15,7 +15,7 @@ use Rattle.nv_region.specs.Stops.{LeavesOnly}
 use Rattle.nv_commit.specs.Stopped.{LeavesEither}
 use Rattle.nv_steps.specs.Stopped.{Unlinked}
 use Rattle.nv_steps.specs.Steps.{RefusesStep, ShowsRow}
-use Rattle.nv_calls.proofs.TwoRows.{first_used, last_used, left_two, lifted, row_stays, used_still}
+use Rattle.nv_calls.proofs.TwoRows.{first_used, last_used, left_two, lifted, of_lent, row_stays, used_still}
 use Rattle.nv_calls.proofs.unlinking.unlink_at.Goals as goal
 use Rattle.nv_steps.specs.Stores.{StoresIn, two_logs}
 
@@ -84,18 +84,10 @@ returns-clause-any_stop g c row file held h f at other_at here other settled =
 
 pub returns-clause-in_order : goal.returns-clause-in_order
 returns-clause-in_order g c row file held h f at other_at here other =
-    let there = row_stays c.args.rows.now.items c.lend-directory.new.self.items c.args.named.now.directory c.args.named.now.target c.requires.apart c.requires.directory c.lend-directory.ensures.lent c.lend-file.result c.lend-file.ensures.row in
-    let same : c.lend-directory.result ≡ row = same_Some _ _ (sym c.lend-directory.ensures.row ∙ at) in
-    let other_same : c.lend-file.result ≡ file = same_Some _ _ (sym there ∙ other_at) in
-    subst (λ (r : Row). ShowsRow (g.P.Pmem.region c.args.memory.now) c.args.sup.now held h r c.args.free.now → TailIsFirst (g.P.Pmem.region c.args.memory.now) (g.P.Pmem.region c.unlink_both-done.new.memory) c.args.sup.now c.args.free.now.pools c.args.cpu r.inode r.tail (name_entries Remove file.inode c.args.named.now.name.now c.args.time) (tail_address c.args.sup.now file.inode)) same
-    (λ seen. subst (λ (d : Row). ShowsRow (g.P.Pmem.region c.args.memory.now) c.args.sup.now held f d c.args.free.now → TailIsFirst (g.P.Pmem.region c.args.memory.now) (g.P.Pmem.region c.unlink_both-done.new.memory) c.args.sup.now c.args.free.now.pools c.args.cpu c.lend-directory.result.inode c.lend-directory.result.tail (name_entries Remove d.inode c.args.named.now.name.now c.args.time) (tail_address c.args.sup.now d.inode)) other_same
-    (λ seen_other. c.unlink_both-done.ensures.in_order held h f seen seen_other) other) here
+    of_lent c.args.rows.now.items c.lend-directory.new.self.items c.args.named.now.directory c.args.named.now.target c.requires.apart c.requires.directory c.lend-directory.ensures.lent (λ (r d : Row). ShowsRow (g.P.Pmem.region c.args.memory.now) c.args.sup.now held h r c.args.free.now → ShowsRow (g.P.Pmem.region c.args.memory.now) c.args.sup.now held f d c.args.free.now → TailIsFirst (g.P.Pmem.region c.args.memory.now) (g.P.Pmem.region c.unlink_both-done.new.memory) c.args.sup.now c.args.free.now.pools c.args.cpu r.inode r.tail (name_entries Remove d.inode c.args.named.now.name.now c.args.time) (tail_address c.args.sup.now d.inode))
+    c.lend-directory.result c.lend-file.result row file c.lend-directory.ensures.row c.lend-file.ensures.row (λ seen seen_other. c.unlink_both-done.ensures.in_order held h f seen seen_other) at other_at here other
 
 pub returns-clause-wrote : goal.returns-clause-wrote
 returns-clause-wrote g c row file held h f at other_at here other =
-    let there = row_stays c.args.rows.now.items c.lend-directory.new.self.items c.args.named.now.directory c.args.named.now.target c.requires.apart c.requires.directory c.lend-directory.ensures.lent c.lend-file.result c.lend-file.ensures.row in
-    let same : c.lend-directory.result ≡ row = same_Some _ _ (sym c.lend-directory.ensures.row ∙ at) in
-    let other_same : c.lend-file.result ≡ file = same_Some _ _ (sym there ∙ other_at) in
-    subst (λ (r : Row). ShowsRow (g.P.Pmem.region c.args.memory.now) c.args.sup.now held h r c.args.free.now → StoresIn c.args.sup.now held (two_logs c.args.sup.now c.args.cpu r.inode file.inode) (g.P.Pmem.region c.args.memory.now) (g.P.Pmem.region c.unlink_both-done.new.memory)) same
-    (λ seen. subst (λ (d : Row). ShowsRow (g.P.Pmem.region c.args.memory.now) c.args.sup.now held f d c.args.free.now → StoresIn c.args.sup.now held (two_logs c.args.sup.now c.args.cpu c.lend-directory.result.inode d.inode) (g.P.Pmem.region c.args.memory.now) (g.P.Pmem.region c.unlink_both-done.new.memory)) other_same
-    (λ seen_other. c.unlink_both-done.ensures.wrote held h f seen seen_other) other) here
+    of_lent c.args.rows.now.items c.lend-directory.new.self.items c.args.named.now.directory c.args.named.now.target c.requires.apart c.requires.directory c.lend-directory.ensures.lent (λ (r d : Row). ShowsRow (g.P.Pmem.region c.args.memory.now) c.args.sup.now held h r c.args.free.now → ShowsRow (g.P.Pmem.region c.args.memory.now) c.args.sup.now held f d c.args.free.now → StoresIn c.args.sup.now held (two_logs c.args.sup.now c.args.cpu r.inode d.inode) (g.P.Pmem.region c.args.memory.now) (g.P.Pmem.region c.unlink_both-done.new.memory))
+    c.lend-directory.result c.lend-file.result row file c.lend-directory.ensures.row c.lend-file.ensures.row (λ seen seen_other. c.unlink_both-done.ensures.wrote held h f seen seen_other) at other_at here other

@@ -1,79 +1,131 @@
-use Rattle.std.proofs.Common.{refl, ◌+◌}
+use Rattle.std.proofs.Common.{refl, ◌+◌, ◌++◌, []}
 use Rattle.std.proofs.lemmas.Result.{err_from_is_err_and}
 use Rattle.nv_report.specs.Last.{status_of}
 use Rattle.nv_session.specs.Sessions.{region_in}
 use Rattle.nv_cli.specs.Shell.{ShowsLinesEnd, ShowsAnyLines}
 use Rattle.nv_cli.proofs.Ending.{whole_so_far, short_so_far}
-use Rattle.nv_cli.proofs.KnownProgress.{known_begins, known_on, known_all, fails_whole, fails_short}
-use Rattle.nv_cli.proofs.ShellLines.{shell_goes_on, shell_ends, too_long_ends, shell_ends_inside, too_long_ends_inside, any_lines}
+use Rattle.nv_cli.proofs.Kept.{grows_none, grows_both, grows_still, grows_then}
+use Rattle.nv_cli.proofs.KnownProgress.{known_begins, known_all, fails_whole, fails_short}
+use Rattle.nv_cli.proofs.ShellLines.{line_on, shell_ends, too_long_ends, shell_ends_inside, too_long_ends_inside, any_lines}
 use Rattle.nv_cli.proofs.shell.run_lines.Goals as goal
 
 pub lines-init : goal.lines-init
-lines-init g c = λ begin stands. (begin, stands, (λ region. known_begins (ShowsLinesEnd 1 begin region) _ _))
+lines-init g c = ([], grows_none _, λ begin stands. (begin, stands, (λ later region. known_begins (ShowsLinesEnd 1 begin later region) _ _)))
 
 pub returns-in_err-next_answer-clause-err : goal.returns-in_err-next_answer-clause-err
 returns-in_err-next_answer-clause-err g c =
     let r = err_from_is_err_and c.from_residual.result c.from_residual.ensures.1 in
-    rw r.1 (λ begin stands. let at = c.lines.invariant begin stands in
-    fails_whole (ShowsAnyLines 1 begin) r.0 c.in_err-next_answer.field-0.0 _ _ _ r.2 c.in_err-next_answer.ensures.kind
-    (whole_so_far (ShowsLinesEnd 1 begin) (ShowsLinesEnd c.lines.number at.0) (ShowsAnyLines 1 begin) (any_lines begin) _ _ _ _ at.2 at.0.region (status_of at.0.last) (at.0, (refl, refl, refl), refl)))
+    let (given, grown, so_far) = c.lines.invariant in
+    let kept = given ++ [] in
+    rw r.1 (
+      kept,
+      grows_both _ _ _ given [] grown (grows_then _ _ _ [] c.prompt.ensures c.in_err-next_answer.ensures.none_kept),
+      λ begin stands. let at = so_far begin stands in
+          fails_whole (ShowsAnyLines 1 begin kept) r.0 c.in_err-next_answer.field-0.0 _ _ _ r.2 c.in_err-next_answer.ensures.kind
+          (whole_so_far (ShowsLinesEnd 1 begin kept) (ShowsLinesEnd c.lines.number at.0 []) (ShowsAnyLines 1 begin kept) (any_lines begin kept) _ _ _ _ (at.2 []) at.0.region (status_of at.0.last) (at.0, (refl, refl, refl, refl), refl)),
+    )
 
 pub returns-in-End-clause-ok : goal.returns-in-End-clause-ok
-returns-in-End-clause-ok g c = λ begin stands.
-    let at = c.lines.invariant begin stands in
-    let next = c.in_ok-next_answer.ensures.answers at.0 at.1 in
-    let region = region_in c.next_answer.new.session.store in
-    known_all (ShowsLinesEnd 1 begin region) _ (ShowsLinesEnd c.lines.number at.0 region) _ _ _ _ _ _ (at.2 region)
-    (shell_ends _ _ (g.W.Write.contents c.lines.writer) (g.W.Write.contents c.lines.writer) c.lines.number at.0 next.0 region _ (rw c.in-End.is at next.1) (c.status.ensures next.0 next.2) next.2.region)
+returns-in-End-clause-ok g c =
+    let (given, grown, so_far) = c.lines.invariant in
+    let (here, more, (none, leads)) = c.in_ok-next_answer.ensures.answers in (
+      given ++ here,
+      grows_both _ _ _ given here grown (grows_then _ _ _ here c.prompt.ensures more),
+      λ begin stands.
+          let at = so_far begin stands in
+          let next = leads at.0 at.1 in
+          let region = region_in c.next_answer.new.session.store in
+          known_all (ShowsLinesEnd 1 begin (given ++ here) region) _ (ShowsLinesEnd c.lines.number at.0 here region) _ _ _ _ _ _ (at.2 here region)
+          (shell_ends _ _ (g.W.Write.contents c.lines.writer) (g.W.Write.contents c.lines.writer) c.lines.number at.0 next.0 here region _ (rw c.in-End.is at next.1) (c.status.ensures next.0 next.2) next.2.region),
+    )
 
 pub returns-in_err-write_text-in-Text-clause-err : goal.returns-in_err-write_text-in-Text-clause-err
 returns-in_err-write_text-in-Text-clause-err g c =
     let r = err_from_is_err_and c.from_residual-in_err-write_text-in-Text.result c.from_residual-in_err-write_text-in-Text.ensures.1 in
-    rw r.1 (λ begin stands.
-    let at = c.lines.invariant begin stands in
-    let next = c.in_ok-next_answer.ensures.answers at.0 at.1 in
-    fails_short (ShowsAnyLines 1 begin) r.0 c.in_err-write_text-in-Text.field-0.0 _ _ _ r.2 c.in_err-write_text-in-Text.ensures.kind
-    (short_so_far (ShowsLinesEnd 1 begin) (ShowsLinesEnd c.lines.number at.0) (ShowsAnyLines 1 begin) (any_lines begin) _ _ _ _ at.2 next.0.region _ _
-    (shell_ends_inside _ _ _ _ c.lines.number at.0 next.0 c.in-Text.text (rw c.in-Text.is at next.1)
-    (rw c.as_bytes.ensures.value at c.in_err-write_text-in-Text.ensures.short))))
+    let (given, grown, so_far) = c.lines.invariant in
+    let (here, more, (none, leads)) = c.in_ok-next_answer.ensures.answers in
+    let kept = given ++ here in
+    rw r.1 (
+      kept,
+      grows_both _ _ _ given here grown (grows_then _ _ _ here c.prompt.ensures more),
+      λ begin stands.
+          let at = so_far begin stands in
+          let next = leads at.0 at.1 in
+          fails_short (ShowsAnyLines 1 begin kept) r.0 c.in_err-write_text-in-Text.field-0.0 _ _ _ r.2 c.in_err-write_text-in-Text.ensures.kind
+          (short_so_far (ShowsLinesEnd 1 begin kept) (ShowsLinesEnd c.lines.number at.0 here) (ShowsAnyLines 1 begin kept) (any_lines begin kept) _ _ _ _ (at.2 here) next.0.region _ _
+          (shell_ends_inside _ _ _ _ c.lines.number at.0 next.0 here c.in-Text.text (rw c.in-Text.is at next.1)
+          (rw c.as_bytes.ensures.value at c.in_err-write_text-in-Text.ensures.short))),
+    )
 
 pub returns-in_err-text-in-TooLong-clause-err : goal.returns-in_err-text-in-TooLong-clause-err
 returns-in_err-text-in-TooLong-clause-err g c =
     let r = err_from_is_err_and c.from_residual-in_err-text-in-TooLong.result c.from_residual-in_err-text-in-TooLong.ensures.1 in
-    rw (r.1, r.2) (λ begin stands. let at = c.lines.invariant begin stands in
-    whole_so_far (ShowsLinesEnd 1 begin) (ShowsLinesEnd c.lines.number at.0) (ShowsAnyLines 1 begin) (any_lines begin) _ _ _ _ at.2 at.0.region (status_of at.0.last) (at.0, (refl, refl, refl), refl))
+    let (given, grown, so_far) = c.lines.invariant in
+    let (here, more, (none, leads)) = c.in_ok-next_answer.ensures.answers in
+    let kept = given ++ here in
+    rw (r.1, r.2) (
+      kept,
+      grows_both _ _ _ given here grown (grows_then _ _ _ here c.prompt.ensures more),
+      λ begin stands.
+          let at = so_far begin stands in
+          whole_so_far (ShowsLinesEnd 1 begin kept) (ShowsLinesEnd c.lines.number at.0 here) (ShowsAnyLines 1 begin kept) (any_lines begin kept) _ _ _ _ (at.2 here) at.0.region (status_of at.0.last) (at.0, (rw c.in-TooLong.is at none, refl, refl, refl), refl),
+    )
 
 pub returns-in_err-write_text-in-TooLong-clause-err : goal.returns-in_err-write_text-in-TooLong-clause-err
 returns-in_err-write_text-in-TooLong-clause-err g c =
     let r = err_from_is_err_and c.from_residual-in_err-write_text-in-TooLong.result c.from_residual-in_err-write_text-in-TooLong.ensures.1 in
-    rw r.1 (λ begin stands.
-    let at = c.lines.invariant begin stands in
-    let next = c.in_ok-next_answer.ensures.answers at.0 at.1 in
-    fails_short (ShowsAnyLines 1 begin) r.0 c.in_err-write_text-in-TooLong.field-0.0 _ _ _ r.2 c.in_err-write_text-in-TooLong.ensures.kind
-    (short_so_far (ShowsLinesEnd 1 begin) (ShowsLinesEnd c.lines.number at.0) (ShowsAnyLines 1 begin) (any_lines begin) _ _ _ _ at.2 at.0.region _ _
-    (too_long_ends_inside _ _ _ _ c.lines.number at.0 next.0 (rw c.in-TooLong.is at next.1)
-    (rw (c.as_bytes-in-TooLong.ensures.value, c.in_ok-text-in-TooLong.ensures) at c.in_err-write_text-in-TooLong.ensures.short))))
+    let (given, grown, so_far) = c.lines.invariant in
+    let (here, more, (none, leads)) = c.in_ok-next_answer.ensures.answers in
+    let kept = given ++ here in
+    rw r.1 (
+      kept,
+      grows_both _ _ _ given here grown (grows_then _ _ _ here c.prompt.ensures more),
+      λ begin stands.
+          let at = so_far begin stands in
+          let next = leads at.0 at.1 in
+          fails_short (ShowsAnyLines 1 begin kept) r.0 c.in_err-write_text-in-TooLong.field-0.0 _ _ _ r.2 c.in_err-write_text-in-TooLong.ensures.kind
+          (short_so_far (ShowsLinesEnd 1 begin kept) (ShowsLinesEnd c.lines.number at.0 here) (ShowsAnyLines 1 begin kept) (any_lines begin kept) _ _ _ _ (at.2 here) at.0.region _ _
+          (too_long_ends_inside _ _ _ _ c.lines.number at.0 next.0 here (rw c.in-TooLong.is at next.1)
+          (rw (c.as_bytes-in-TooLong.ensures.value, c.in_ok-text-in-TooLong.ensures) at c.in_err-write_text-in-TooLong.ensures.short))),
+    )
 
 pub returns-in-TooLong-clause-ok : goal.returns-in-TooLong-clause-ok
-returns-in-TooLong-clause-ok g c = λ begin stands.
-    let at = c.lines.invariant begin stands in
-    let next = c.in_ok-next_answer.ensures.answers at.0 at.1 in
-    let region = region_in c.next_answer.new.session.store in
-    known_all (ShowsLinesEnd 1 begin region) _ (ShowsLinesEnd c.lines.number at.0 region) _ _ _ _ _ 2 (at.2 region)
-    (too_long_ends _ _ _ _ c.lines.number at.0 next.0 region (rw c.in-TooLong.is at next.1)
-    (rw (c.as_bytes-in-TooLong.ensures.value, c.in_ok-text-in-TooLong.ensures) at c.in_ok-write_text-in-TooLong.ensures.ok) next.2.region)
+returns-in-TooLong-clause-ok g c =
+    let (given, grown, so_far) = c.lines.invariant in
+    let (here, more, (none, leads)) = c.in_ok-next_answer.ensures.answers in (
+      given ++ here,
+      grows_still _ _ _ (given ++ here) (grows_both _ _ _ given here grown (grows_then _ _ _ here c.prompt.ensures more)) c.give.ensures,
+      λ begin stands.
+          let at = so_far begin stands in
+          let next = leads at.0 at.1 in
+          let region = region_in c.next_answer.new.session.store in
+          known_all (ShowsLinesEnd 1 begin (given ++ here) region) _ (ShowsLinesEnd c.lines.number at.0 here region) _ _ _ _ _ 2 (at.2 here region)
+          (too_long_ends _ _ _ _ c.lines.number at.0 next.0 here region (rw c.in-TooLong.is at next.1)
+          (rw (c.as_bytes-in-TooLong.ensures.value, c.in_ok-text-in-TooLong.ensures) at c.in_ok-write_text-in-TooLong.ensures.ok) next.2.region),
+    )
 
 pub lines-preserved : goal.lines-preserved
-lines-preserved g c = λ begin stands.
-    let at = c.lines.invariant begin stands in
-    let next = c.in_ok-next_answer.ensures.answers at.0 at.1 in (
-      next.0,
-      next.2,
-      (λ region. known_on (ShowsLinesEnd 1 begin region) _ (ShowsLinesEnd c.lines.number at.0 region) _ (ShowsLinesEnd (c.lines.number + 1) next.0 region) _ _ _ _ (at.2 region)
-          (shell_goes_on _ _ _ _ c.lines.number at.0 next.0 region c.in-Text.text (rw c.in-Text.is at next.1)
-          (rw c.as_bytes.ensures.value at c.in_ok-write_text-in-Text.ensures.ok))),
+lines-preserved g c =
+    let (given, grown, so_far) = c.lines.invariant in
+    let (here, more, (none, leads)) = c.in_ok-next_answer.ensures.answers in (
+      given ++ here,
+      grows_both _ _ _ given here grown (grows_then _ _ _ here c.prompt.ensures more),
+      λ begin stands.
+          let at = so_far begin stands in
+          let next = leads at.0 at.1 in (
+            next.0,
+            next.2,
+            (λ later region. line_on _ _ _ _ c.lines.number at.0 next.0 here region begin given later _ _ c.in-Text.text (at.2 (here ++ later) region) (rw c.in-Text.is at next.1)
+                (rw c.as_bytes.ensures.value at c.in_ok-write_text-in-Text.ensures.ok)),
+          ),
     )
 
 pub returns-clause-err : goal.returns-clause-err
-returns-clause-err g c = λ begin stands. let at = c.lines.invariant begin stands in
-    whole_so_far (ShowsLinesEnd 1 begin) (ShowsLinesEnd c.lines.number at.0) (ShowsAnyLines 1 begin) (any_lines begin) _ _ _ _ at.2 at.0.region (status_of at.0.last) (at.0, (refl, refl, refl), refl)
+returns-clause-err g c =
+    let (given, grown, so_far) = c.lines.invariant in
+    let kept = given ++ [] in (
+      kept,
+      grows_both _ _ _ given [] grown (grows_none _),
+      λ begin stands. let at = so_far begin stands in
+          whole_so_far (ShowsLinesEnd 1 begin kept) (ShowsLinesEnd c.lines.number at.0 []) (ShowsAnyLines 1 begin kept) (any_lines begin kept) _ _ _ _ (at.2 []) at.0.region (status_of at.0.last) (at.0, (refl, refl, refl, refl), refl),
+    )

@@ -1,14 +1,15 @@
 use Rattle.std.proofs.Common.{refl, inl, inr}
 use Rattle.std.proofs.lemmas.Result.{IfOk-weaker}
 use Rattle.nv_line.specs.View.{view}
+use Rattle.nv_cli.proofs.Kept.{grows_none}
 use Rattle.nv_cli.proofs.shell.script_text.Goals as goal
 
-pub returns-in-Command : goal.returns-in-Command
-returns-in-Command g c = IfOk-weaker c.execute.result _ _ (λ text moves state stands.
+pub returns-in-Command-clause-tells : goal.returns-in-Command-clause-tells
+returns-in-Command-clause-tells g c = IfOk-weaker c.execute.result _ _ (λ text moves state stands.
     let next = moves state stands in
     let read = rw c.in-Command.is at c.in_ok-classify.ensures in
-    (next.0, inr (inr (inr (inl (view c.in-Command.command, read.1, next.1)))), next.2)) c.execute.ensures
+    (next.0, inr (inr (inl (view c.in-Command.command, read.1, next.1))), next.2)) c.execute.ensures
 
-pub returns-in_ok-why_bad-in-Bad : goal.returns-in_ok-why_bad-in-Bad
-returns-in_ok-why_bad-in-Bad g c = IfOk-weaker c.bad_line_text.result _ _ (λ text is state stands.
-    (state, inr (inr (inr (inr (c.requires, rw c.in-Bad.is at c.in_ok-classify.ensures, is, refl)))), stands)) c.bad_line_text.ensures
+pub returns-in_ok-why_bad-in-Bad-clause-tells : goal.returns-in_ok-why_bad-in-Bad-clause-tells
+returns-in_ok-why_bad-in-Bad-clause-tells g c = IfOk-weaker c.bad_line_text.result _ _ (λ text is state stands.
+    (state, inr (inr (inr (c.requires, rw c.in-Bad.is at c.in_ok-classify.ensures, is, refl))), stands)) c.bad_line_text.ensures

@@ -1,16 +1,19 @@
 use Rattle.std.proofs.Common.{◌≡◌, ◌≢◌, ◌⊎◌, inl, inr, ◌<◌, ◌+◌, ◌/◌, ◌%◌, ℕ, List, length, drop, refl, sym, ap, ◌∙◌, subst, arith}
+use Rattle.std.proofs.lemmas.Bool.{true≢false}
+use Rattle.std.proofs.lemmas.Result.{err_from_is_err_and}
 use Rattle.byteorder.specs.Endian.{little_number}
 use Rattle.nv_region.specs.Region.{region_of, word}
 use Rattle.nv_region.proofs.Bytes.{size_of_bytes}
 use Rattle.nv_metadata.proofs.Refused.{length_refused, refused_there}
 use Rattle.nv_metadata.proofs.Ready.{says}
+use Rattle.nv_metadata.proofs.HandedOn.{passed_on}
 use Rattle.nv_metadata.proofs.Shown.{word_read}
 use Rattle.nv_metadata.proofs.gathering.gather.Goals as goal
 
 pub returns-then-length-ne0-clause-gathered : goal.returns-then-length-ne0-clause-gathered
 returns-then-length-ne0-clause-gathered g c image known =
     let P : ℕ → Type 0 = λ n. (n % 4096 ≢ 0) ⊎ ((n / 4096 < 8) ⊎ (65536 < n / 4096)) in
-    length_refused (region_of image) (subst P (c.in_ok-length.ensures image known ∙ sym (size_of_bytes image)) (elim c.then-length-ne0.either [
+    length_refused (region_of image) (subst P (c.in_ok-length.ensures.count image known ∙ sym (size_of_bytes image)) (elim c.then-length-ne0.either [
       | inl cut ↦ inl cut
       | inr other ↦ elim other [ inl few ↦ inr (inl few.1) | inr many ↦ inr (inr many.2) ]
     ]))
@@ -24,7 +27,7 @@ gather_metadata-requires-clause-superblock g c =
 
 pub returns-in-Ok-clause-gathered : goal.returns-in-Ok-clause-gathered
 returns-in-Ok-clause-gathered g c image known =
-    let as_long : c.in_ok-length.length ≡ length image = c.in_ok-length.ensures image known in
+    let as_long : c.in_ok-length.length ≡ length image = c.in_ok-length.ensures.count image known in
     let has = c.in-Ok.ensures.blocks in
     let made = c.in_ok-alone.ensures.blocks in
     let words = has.0 in
@@ -33,7 +36,7 @@ returns-in-Ok-clause-gathered g c image known =
 
 pub returns-in-Err-clause-gathered : goal.returns-in-Err-clause-gathered
 returns-in-Err-clause-gathered g c image known =
-    let as_long : c.in_ok-length.length ≡ length image = c.in_ok-length.ensures image known in
+    let as_long : c.in_ok-length.length ≡ length image = c.in_ok-length.ensures.count image known in
     let made = c.in_ok-alone.ensures in
     let words = made.blocks.0 in
     let rest = made.blocks.1 in
@@ -43,3 +46,21 @@ returns-in-Err-clause-gathered g c image known =
     (λ at aligned low. made.front at aligned (omega (arith, low, aligned, count)) ∙ ap (λ (l : List ℕ). little_number 8 (drop at l)) items
     ∙ word_read image c.in_ok-first.first.items 0 at (c.in_ok-first.ensures.read image known) refl aligned (omega (arith, low, aligned, c.in_ok-first.ensures.count)) ∙ ap (word (region_of image)) (let same : 0 + at ≡ at = omega arith in same))
     c.in-Err.fault c.in-Err.ensures.refused
+
+pub returns-in_err-length-clause-known : goal.returns-in_err-length-clause-known
+returns-in_err-length-clause-known g c image known = absurd (true≢false (c.in_err-length.ensures.known image known))
+
+pub returns-in_err-first-clause-known : goal.returns-in_err-first-clause-known
+returns-in_err-first-clause-known g c image known =
+    let as_long : c.in_ok-length.length ≡ length image = c.in_ok-length.ensures.count image known in
+    let error = err_from_is_err_and c.from_residual-in_err-first.result c.from_residual-in_err-first.ensures.1 in
+    passed_on c.from_residual-in_err-first.result c.in_err-first.field-0.0 error.0 error.1 error.2 (c.in_err-first.ensures.known image known (omega (arith, as_long, c.if-blocks-lt-LEAST_BLOCKS.false)))
+
+pub returns-in-Ok-clause-known : goal.returns-in-Ok-clause-known
+returns-in-Ok-clause-known g c image known =
+    let as_long : c.in_ok-length.length ≡ length image = c.in_ok-length.ensures.count image known in
+    let has = c.in-Ok.ensures.blocks in
+    let made = c.in_ok-alone.ensures.blocks in
+    let words = has.0 in
+    let same_words = made.0 in
+    c.gather_metadata.ensures.known image known (omega (arith, as_long, words, same_words, c.if-length-ne0.false))

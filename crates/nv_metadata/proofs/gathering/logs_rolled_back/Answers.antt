@@ -4,7 +4,7 @@ use Rattle.nv_super.specs.Layout.{system_blocks}
 use Rattle.nv_journal.specs.Undo.{undone}
 use Rattle.nv_metadata.specs.Walk.{AreLogs}
 use Rattle.nv_metadata.proofs.Shown.{shows_first}
-use Rattle.nv_metadata.proofs.SameLogs.{same_rolled_back, logs_there, heads_are_starts}
+use Rattle.nv_metadata.proofs.SameLogs.{same_rolled_back, logs_there, ends_are_right}
 use Rattle.nv_metadata.proofs.gathering.logs_rolled_back.Goals as goal
 
 pub returns-clause-logs : goal.returns-clause-logs
@@ -18,7 +18,7 @@ returns-clause-logs c image are long =
     logs_there s (undone s R) (undone s M) c.requires.layout (same_rolled_back s R M c.requires.layout shows.as_long shows.front) c.in_ok-right_logs.field-0.items
     (subst (λ (U : Region). AreLogs U s c.in_ok-right_logs.field-0.items) c.in_ok-undo.ensures.done (record { all = found.all; only = found.only }))
 
-pub returns-clause-heads : goal.returns-clause-heads
-returns-clause-heads c =
+pub returns-clause-right : goal.returns-clause-right
+returns-clause-right c =
     let found = c.in_ok-right_logs.ensures in
-    heads_are_starts c.undo.new.memory.memory.region c.args.sup.now c.in_ok-right_logs.field-0.items (record { all = found.all; only = found.only })
+    ends_are_right c.undo.new.memory.memory.region c.args.sup.now c.in_ok-right_logs.field-0.items (record { all = found.all; only = found.only })

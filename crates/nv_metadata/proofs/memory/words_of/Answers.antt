@@ -3,7 +3,7 @@ use Rattle.std.proofs.lemmas.List.{take_all}
 use Rattle.nv_region.specs.Region.{words_of}
 use Rattle.nv_region.proofs.Bytes.{word_at}
 use Rattle.nv_region.proofs.Fronted.{count_of_words}
-use Rattle.nv_metadata.proofs.Paged.{word_more}
+use Rattle.nv_metadata.proofs.Pieces.{word_more}
 use Rattle.nv_metadata.proofs.memory.words_of.Goals as goal
 
 pub loop-number-preserved : goal.loop-number-preserved

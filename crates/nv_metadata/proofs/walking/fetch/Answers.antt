@@ -8,7 +8,7 @@ use Rattle.nv_metadata.proofs.walking.fetch.Goals as goal
 pub returns-clause-shows : goal.returns-clause-shows
 returns-clause-shows g c image known shows =
     let held = c.in_ok-hold.ensures in
-    shows_more image c.read.new.into c.args.block (system_blocks c.args.sup.now) c.args.memory.now c.hold.new.self shows (c.in_ok-read.ensures.read image known) (omega arith) c.requires.behind held.page held.others held.holds held.as_long held.rest
+    shows_more image c.read.new.into c.args.block (system_blocks c.args.sup.now) c.args.memory.now c.hold.new.self shows (c.in_ok-read.ensures.read image known) (omega (arith, held.held.0, held.whole)) c.requires.behind held.piece held.zeros held.others held.held.0 held.held.1 held.as_long held.rest
 
 pub returns-clause-ready : goal.returns-clause-ready
 returns-clause-ready g c =

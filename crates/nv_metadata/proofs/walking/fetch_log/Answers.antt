@@ -1,9 +1,11 @@
-use Rattle.std.proofs.Common.{◌/◌, ap, ◌∙◌, sym, subst, arith, length}
+use Rattle.std.proofs.Common.{ℕ, ◌≤◌, ◌/◌, ap, ◌∙◌, sym, subst, arith, length}
 use Rattle.nv_blockset.specs.Listed.{Listed}
 use Rattle.nv_region.specs.Region.{region_of}
 use Rattle.nv_logpage.proofs.Steps.{start_inside}
 use Rattle.nv_metadata.proofs.Same.{start_behind}
 use Rattle.nv_metadata.specs.Linked.{link_in}
+use Rattle.nv_metadata.specs.Memory.{held}
+use Rattle.nv_metadata.proofs.SameLogs.{right_start, right_whole}
 use Rattle.nv_metadata.proofs.Walked.{IsWalked, walked_first, walked_on, walked_all}
 use Rattle.nv_metadata.proofs.walking.fetch_log.Goals as goal
 
@@ -11,11 +13,12 @@ pub pages-init : goal.pages-init
 pages-init g c =
     let s = c.args.sup.now in
     let head = c.args.log.head in
-    let inside = start_inside s head c.requires.head in record {
+    let start = right_start s head c.args.log.tail c.requires.right in
+    let inside = start_inside s head start in record {
       ready = c.requires.ready;
       bound = ap (λ (l : Listed). l.bound) c.restart.ensures ∙ c.requires.all_blocks;
       few = omega (arith, ap (λ (l : Listed). l.bound) c.restart.ensures, ap (λ (l : Listed). length l.blocks) c.restart.ensures, c.requires.all_blocks, inside);
-      behind = start_behind s head c.requires.head;
+      behind = start_behind s head start;
       inside = inside;
       walked = λ image known shows. subst (λ (l : Listed). IsWalked s (region_of image) head c.args.log.tail c.args.memory.now c.args.memory.now l.blocks (head / 4096)) (sym c.restart.ensures) (walked_first s (region_of image) head c.args.log.tail c.args.memory.now shows);
     }
@@ -38,7 +41,7 @@ pages-preserved g c =
           let fetched = c.in_ok-fetch.ensures in
           subst (λ (l : Listed). IsWalked s (region_of image) c.args.log.head c.args.log.tail c.args.memory.now c.fetch.new.memory l.blocks c.in-Some.next) (sym c.in_ok-push-in-Some.ensures.pushed)
           (walked_on s (region_of image) c.args.log.head c.args.log.tail c.args.memory.now c.pages.memory c.fetch.new.memory c.pages.walked.blocks c.pages.block is
-          (record { shows = fetched.shows image known is.shows; here = fetched.holds; keeps = fetched.keeps; only = fetched.only }) c.in-Some.next said.apart said.start leads));
+          (record { shows = fetched.shows image known is.shows; behind = c.pages.invariant.behind; here = subst (λ (n : ℕ). n ≤ held c.fetch.new.memory c.pages.block) c.wanted.ensures.wanted fetched.held; keeps = fetched.keeps; only = fetched.only }) c.in-Some.next said.apart said.start leads));
     }
 
 pub returns-in-None-clause-fetched : goal.returns-in-None-clause-fetched
@@ -46,4 +49,4 @@ returns-in-None-clause-fetched g c image known shows =
     let is = c.pages.invariant.walked image known shows in
     let fetched = c.in_ok-fetch.ensures in
     walked_all c.args.sup.now (region_of image) c.args.log.head c.args.log.tail c.args.memory.now c.pages.memory c.fetch.new.memory c.pages.walked.blocks c.pages.block is
-    (record { shows = fetched.shows image known is.shows; here = fetched.holds; keeps = fetched.keeps; only = fetched.only }) c.in-None.ensures.none
+    (record { shows = fetched.shows image known is.shows; behind = c.pages.invariant.behind; here = subst (λ (n : ℕ). n ≤ held c.fetch.new.memory c.pages.block) c.wanted.ensures.wanted fetched.held; keeps = fetched.keeps; only = fetched.only }) c.in-None.ensures.none

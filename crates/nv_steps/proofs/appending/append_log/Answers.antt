@@ -7,7 +7,7 @@ use Rattle.nv_steps.specs.Stopped.{Appended}
 use Rattle.nv_steps.proofs.LogGrows.{appends_log, can_append, stores_within_region}
 use Rattle.nv_steps.proofs.NumbersOwed.{slot_word_inside, slot_word_whole}
 use Rattle.nv_steps.proofs.Refusals.{no_space, memory_goes_on, no_space_goes_on}
-use Rattle.nv_steps.proofs.Stopped.{left_log}
+use Rattle.nv_steps.proofs.Stopped.{left_log, log_stores}
 use Rattle.nv_steps.proofs.TakenBlocks.{taken_sup}
 use Rattle.nv_steps.proofs.appending.append_log.Goals as goal
 
@@ -188,3 +188,15 @@ pub returns-clause-any_stop : goal.returns-clause-any_stop
 returns-clause-any_stop g c held h shows some settled =
     left_log c.args.entries.now c.in-Ok.fresh.items c.deref.result.now c.slot_address-slot.result c.deref.ensures.value c.slot_address-slot.ensures shows c.requires.stands.lists c.in-Ok.ensures.taken c.in-Ok.ensures.count c.requires.given some
     _ _ _ c.extend_log.ensures.wrote settled (c.extend_log.ensures.any_stop c.args.sup.now held c.args.row.now.inode h)
+
+pub returns-in-Err-NoSpace-clause-wrote : goal.returns-in-Err-NoSpace-clause-wrote
+returns-in-Err-NoSpace-clause-wrote g c held h shows some at whole away = refl
+
+pub returns-in-Err-Memory-clause-wrote : goal.returns-in-Err-Memory-clause-wrote
+returns-in-Err-Memory-clause-wrote g c held h shows some at whole away = refl
+
+pub returns-in-Ok-extend_log-clause-wrote : goal.returns-in-Ok-extend_log-clause-wrote
+returns-in-Ok-extend_log-clause-wrote g c held h shows some = log_stores c.args.entries.now c.in-Ok.fresh.items c.deref.result.now c.slot_address-slot.result c.deref.ensures.value c.slot_address-slot.ensures shows c.requires.stands.lists c.in-Ok.ensures.taken c.in-Ok.ensures.count c.requires.given some (g.P.Pmem.region c.extend_log.new.memory) c.extend_log.ensures.wrote.mixed
+
+pub returns-clause-wrote : goal.returns-clause-wrote
+returns-clause-wrote g c held h shows some = log_stores c.args.entries.now c.in-Ok.fresh.items c.deref.result.now c.slot_address-slot.result c.deref.ensures.value c.slot_address-slot.ensures shows c.requires.stands.lists c.in-Ok.ensures.taken c.in-Ok.ensures.count c.requires.given some (g.P.Pmem.region c.extend_log.new.memory) c.extend_log.ensures.wrote.mixed

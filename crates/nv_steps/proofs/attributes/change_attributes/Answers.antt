@@ -98,3 +98,9 @@ returns-in_err-append_log-clause-any_stop g c held h shows settled left may =
 pub returns-clause-any_stop : goal.returns-clause-any_stop
 returns-clause-any_stop g c held h shows settled left may =
     left_attributes c.args.attributes c.requires.stands.lists c.requires.mode c.requires.size left (c.in_ok-append_log.ensures.any_stop held h shows (omega arith) settled left may)
+
+pub returns-in_err-append_log-clause-wrote : goal.returns-in_err-append_log-clause-wrote
+returns-in_err-append_log-clause-wrote g c held h shows = c.in_err-append_log.ensures.wrote held h shows (omega arith)
+
+pub returns-clause-wrote : goal.returns-clause-wrote
+returns-clause-wrote g c held h shows = c.in_ok-append_log.ensures.wrote held h shows (omega arith)

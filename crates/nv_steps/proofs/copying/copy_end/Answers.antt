@@ -1,4 +1,4 @@
-use Rattle.std.proofs.Common.{◌∙◌, ◌∷◌, ◌+◌, ◌/◌, ◌≤◌, ℕ, ap, arith, is_err, subst, sym}
+use Rattle.std.proofs.Common.{◌≡◌, ◌∙◌, ◌∷◌, ◌+◌, ◌/◌, ◌≤◌, ℕ, ap, arith, is_err, subst, sym}
 use Rattle.std.proofs.lemmas.Result.{IfOk-from_err}
 use Rattle.nv_region.proofs.Fuses.{keeps_more, keeps_within}
 use Rattle.nv_logpage.specs.Append.{EndBy}
@@ -7,6 +7,10 @@ use Rattle.nv_region.specs.Region.{Region}
 use Rattle.nv_steps.specs.Sizes.{CopiesEnd}
 use Rattle.nv_steps.proofs.CopiedEnd.{copies_end}
 use Rattle.nv_steps.proofs.CopyStops.{end_left, page_left}
+use Rattle.nv_super.specs.Layout.{fixed_layout}
+use Rattle.nv_held.specs.Blocks.{IsUnowned}
+use Rattle.nv_steps.specs.Stores.{one_log}
+use Rattle.nv_steps.proofs.Stores.{data_stores, data_then_log}
 use Rattle.nv_steps.proofs.copying.copy_end.Goals as goal
 
 pub returns-clause-copies : goal.returns-clause-copies
@@ -83,3 +87,9 @@ returns-in_err-copy_page-clause-any_stop g c s held i h can free settled =
 pub returns-clause-any_stop : goal.returns-clause-any_stop
 returns-clause-any_stop g c s held i h can free settled =
     end_left c.args.from c.args.to c.args.bytes can free _ settled _ c.copy_page.ensures.wrote c.in_ok-copy_page.ensures.stored _ _ (λ there pending. c.extend_log.ensures.loose_stop s held i h there pending)
+
+pub returns-in_err-copy_page-clause-wrote : goal.returns-in_err-copy_page-clause-wrote
+returns-in_err-copy_page-clause-wrote g c s held i h can free = data_stores s held (one_log s i) (λ b. b ≡ c.args.to) (λ b is. subst (IsUnowned (fixed_layout s) held) (sym is) free) c.copy_page.ensures.wrote.mixed
+
+pub returns-clause-wrote : goal.returns-clause-wrote
+returns-clause-wrote g c s held i h can free = data_then_log (λ b. b ≡ c.args.to) can (λ b is. subst (IsUnowned (fixed_layout s) held) (sym is) free) c.copy_page.ensures.wrote.mixed c.extend_log.ensures.wrote.mixed

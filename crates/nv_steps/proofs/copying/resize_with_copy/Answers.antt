@@ -2,7 +2,7 @@ use Rattle.std.proofs.Common.{◌++◌, ◌∙◌, List, ℕ, ap, arith, refl, i
 use Rattle.nv_commit.proofs.Left.{still}
 use Rattle.nv_steps.specs.Stopped.{Resized}
 use Rattle.nv_steps.proofs.CopiedEnd.{copy_resizes}
-use Rattle.nv_steps.proofs.CopyStops.{left_copied}
+use Rattle.nv_steps.proofs.CopyStops.{copied_stores, left_copied}
 use Rattle.nv_steps.proofs.CopyOwed.{copies_as, copy_appends, end_ready, ends_as, from_joins, numbered, to_differs, to_inside}
 use Rattle.nv_steps.proofs.Refusals.{memory_goes_on, no_space_goes_on}
 use Rattle.nv_steps.proofs.TakenBlocks.{taken_sup}
@@ -169,3 +169,19 @@ pub returns-clause-any_stop : goal.returns-clause-any_stop
 returns-clause-any_stop g c held h shows settled =
     left_copied c.args.attributes c.requires.can c.args.from _ c.requires.ends c.in-Ok.ensures.taken (let count = c.in-Ok.ensures.count in omega (arith, count)) shows c.slot_address-slot.ensures c.copy_entries-entries.ensures c.deref.ensures.value _ _
     (λ can free. c.copy_end.ensures.any_stop c.args.sup.now held c.args.row.now.inode h can free settled)
+
+pub returns-in-Err-NoSpace-clause-wrote : goal.returns-in-Err-NoSpace-clause-wrote
+returns-in-Err-NoSpace-clause-wrote g c held h shows at whole away = refl
+
+pub returns-in-Err-Memory-clause-wrote : goal.returns-in-Err-Memory-clause-wrote
+returns-in-Err-Memory-clause-wrote g c held h shows at whole away = refl
+
+pub returns-in-Ok-copy_end-clause-wrote : goal.returns-in-Ok-copy_end-clause-wrote
+returns-in-Ok-copy_end-clause-wrote g c held h shows =
+    copied_stores c.args.attributes c.requires.can c.args.from _ c.requires.ends c.in-Ok.ensures.taken (let count = c.in-Ok.ensures.count in omega (arith, count)) shows c.slot_address-slot.ensures c.copy_entries-entries.ensures c.deref.ensures.value (g.P.Pmem.region c.copy_end.new.memory)
+    (λ can free. c.copy_end.ensures.wrote c.args.sup.now held c.args.row.now.inode h can free)
+
+pub returns-clause-wrote : goal.returns-clause-wrote
+returns-clause-wrote g c held h shows =
+    copied_stores c.args.attributes c.requires.can c.args.from _ c.requires.ends c.in-Ok.ensures.taken (let count = c.in-Ok.ensures.count in omega (arith, count)) shows c.slot_address-slot.ensures c.copy_entries-entries.ensures c.deref.ensures.value (g.P.Pmem.region c.copy_end.new.memory)
+    (λ can free. c.copy_end.ensures.wrote c.args.sup.now held c.args.row.now.inode h can free)

@@ -1,6 +1,5 @@
-use Rattle.std.proofs.Common.{◌∙◌, ◌+◌, ◌<◌, ◌≤◌, ℕ, List, ap, drop, length, subst, sym, take, ◌≡◌, ◌%◌, refl, inl, inr, IsTrue}
+use Rattle.std.proofs.Common.{◌∙◌, ◌+◌, ◌<◌, ◌≤◌, subst, sym, ◌≡◌, ◌%◌, refl, inl, inr, IsTrue}
 use Rattle.std.proofs.lemmas.Result.{err_from_is_err_and, IfOk-from_err}
-use Rattle.smallvec.specs.SmallVec.{HasRoomFor}
 use Rattle.nv_logpage.specs.Append.{needed}
 use Rattle.nv_held.specs.nv_outcome.Same.{SameRow}
 use Rattle.nv_held.proofs.BytesKept.{mixed_size}
@@ -13,7 +12,7 @@ use Rattle.nv_steps.specs.Steps.{LeavesStep, RefusesStep}
 use Rattle.nv_names.specs.Names.{Names}
 use Rattle.nv_region.proofs.Fuses.{keeps_within}
 use Rattle.nv_super.specs.declared.superblock.Super.{Super}
-use Rattle.nv_steps.proofs.AppendedLogs.{appends_logs, both_within, count_is, first_commits, first_room, left_logs, logs_in_order, logs_store, second_commits, second_room}
+use Rattle.nv_steps.proofs.AppendedLogs.{appends_logs, both_within, first_commits, first_room, left_logs, logs_in_order, logs_store, second_commits, second_room}
 use Rattle.nv_steps.proofs.TakenBlocks.{taken_sup}
 use Rattle.nv_steps.proofs.growing.append_logs.Goals as goal
 use Rattle.nv_steps.specs.Stores.{two_logs}
@@ -27,19 +26,11 @@ prepare_logs-requires-clause-cpu g c =
 
 pub extend_two-requires-clause-first : goal.extend_two-requires-clause-first
 extend_two-requires-clause-first g c =
-    let ready = c.in_ok-blocks.ensures.ready in
-    let count = count_is ready c.in_ok-blocks.ensures.other_ready c.requires.stands c.requires.other_stands c.in_ok-blocks.ensures.taken c.in_ok-blocks.ensures.count c.requires.apart c.requires.given.0 c.requires.more_given.0 c.requires.given.1 c.requires.more_given.1 c.blocks_for-count.result c.blocks_for-count.ensures in
-    let front = c.split_at.ensures.front ∙ ap (λ (bs : List ℕ). take c.blocks_for-count.result bs) c.deref.ensures.value ∙ ap (λ (m : ℕ). take m c.in_ok-blocks.blocks.items) count in
-    let back = c.split_at.ensures.back ∙ ap (λ (bs : List ℕ). drop c.blocks_for-count.result bs) c.deref.ensures.value ∙ ap (λ (m : ℕ). drop m c.in_ok-blocks.blocks.items) count in
-    first_commits ready c.in_ok-blocks.ensures.other_ready c.requires.stands c.requires.other_stands c.in_ok-blocks.ensures.taken c.in_ok-blocks.ensures.count c.requires.apart c.requires.given.0 c.requires.more_given.0 c.requires.given.1 c.requires.more_given.1 c.extension-one.result c.extension-two.result c.extension-one.ensures.slot c.extension-one.ensures.tail c.extension-one.ensures.entries (c.extension-one.ensures.fresh ∙ front) c.extension-two.ensures.slot c.extension-two.ensures.tail c.extension-two.ensures.entries (c.extension-two.ensures.fresh ∙ back)
+    first_commits c.in_ok-blocks.ensures.ready c.in_ok-blocks.ensures.other_ready c.requires.stands c.requires.other_stands c.in_ok-blocks.ensures.taken c.in_ok-blocks.ensures.count c.requires.apart c.requires.given.0 c.requires.more_given.0 c.requires.given.1 c.requires.more_given.1 c.blocks_for-count.ensures c.deref.ensures.value c.split_at.ensures.front c.split_at.ensures.back c.extension-one.result c.extension-two.result c.extension-one.ensures.slot c.extension-one.ensures.tail c.extension-one.ensures.entries c.extension-one.ensures.fresh c.extension-two.ensures.slot c.extension-two.ensures.tail c.extension-two.ensures.entries c.extension-two.ensures.fresh
 
 pub extend_two-requires-clause-second : goal.extend_two-requires-clause-second
 extend_two-requires-clause-second g c =
-    let ready = c.in_ok-blocks.ensures.ready in
-    let count = count_is ready c.in_ok-blocks.ensures.other_ready c.requires.stands c.requires.other_stands c.in_ok-blocks.ensures.taken c.in_ok-blocks.ensures.count c.requires.apart c.requires.given.0 c.requires.more_given.0 c.requires.given.1 c.requires.more_given.1 c.blocks_for-count.result c.blocks_for-count.ensures in
-    let front = c.split_at.ensures.front ∙ ap (λ (bs : List ℕ). take c.blocks_for-count.result bs) c.deref.ensures.value ∙ ap (λ (m : ℕ). take m c.in_ok-blocks.blocks.items) count in
-    let back = c.split_at.ensures.back ∙ ap (λ (bs : List ℕ). drop c.blocks_for-count.result bs) c.deref.ensures.value ∙ ap (λ (m : ℕ). drop m c.in_ok-blocks.blocks.items) count in
-    second_commits ready c.in_ok-blocks.ensures.other_ready c.requires.stands c.requires.other_stands c.in_ok-blocks.ensures.taken c.in_ok-blocks.ensures.count c.requires.apart c.requires.given.0 c.requires.more_given.0 c.requires.given.1 c.requires.more_given.1 c.extension-one.result c.extension-two.result c.extension-one.ensures.slot c.extension-one.ensures.tail c.extension-one.ensures.entries (c.extension-one.ensures.fresh ∙ front) c.extension-two.ensures.slot c.extension-two.ensures.tail c.extension-two.ensures.entries (c.extension-two.ensures.fresh ∙ back)
+    second_commits c.in_ok-blocks.ensures.ready c.in_ok-blocks.ensures.other_ready c.requires.stands c.requires.other_stands c.in_ok-blocks.ensures.taken c.in_ok-blocks.ensures.count c.requires.apart c.requires.given.0 c.requires.more_given.0 c.requires.given.1 c.requires.more_given.1 c.blocks_for-count.ensures c.deref.ensures.value c.split_at.ensures.front c.split_at.ensures.back c.extension-one.result c.extension-two.result c.extension-one.ensures.slot c.extension-one.ensures.tail c.extension-one.ensures.entries c.extension-one.ensures.fresh c.extension-two.ensures.slot c.extension-two.ensures.tail c.extension-two.ensures.entries c.extension-two.ensures.fresh
 
 pub returns-in_default-clause-lists : goal.returns-in_default-clause-lists
 returns-in_default-clause-lists g c = taken_sup c.in_ok-blocks.ensures.taken
@@ -49,44 +40,24 @@ returns-clause-lists g c = taken_sup c.in_ok-blocks.ensures.taken
 
 pub returns-in_default-clause-keeps_fuse : goal.returns-in_default-clause-keeps_fuse
 returns-in_default-clause-keeps_fuse g c =
-    let ready = c.in_ok-blocks.ensures.ready in
-    let count = count_is ready c.in_ok-blocks.ensures.other_ready c.requires.stands c.requires.other_stands c.in_ok-blocks.ensures.taken c.in_ok-blocks.ensures.count c.requires.apart c.requires.given.0 c.requires.more_given.0 c.requires.given.1 c.requires.more_given.1 c.blocks_for-count.result c.blocks_for-count.ensures in
-    let front = c.split_at.ensures.front ∙ ap (λ (bs : List ℕ). take c.blocks_for-count.result bs) c.deref.ensures.value ∙ ap (λ (m : ℕ). take m c.in_ok-blocks.blocks.items) count in
-    let back = c.split_at.ensures.back ∙ ap (λ (bs : List ℕ). drop c.blocks_for-count.result bs) c.deref.ensures.value ∙ ap (λ (m : ℕ). drop m c.in_ok-blocks.blocks.items) count in
-    keeps_within (both_within ready c.in_ok-blocks.ensures.other_ready c.requires.stands c.requires.other_stands c.in_ok-blocks.ensures.taken c.in_ok-blocks.ensures.count c.requires.apart c.requires.given.0 c.requires.more_given.0 c.requires.given.1 c.requires.more_given.1 c.extension-one.result c.extension-two.result c.extension-one.ensures.slot c.extension-one.ensures.tail c.extension-one.ensures.entries (c.extension-one.ensures.fresh ∙ front) c.extension-two.ensures.slot c.extension-two.ensures.tail c.extension-two.ensures.entries (c.extension-two.ensures.fresh ∙ back)) c.extend_two.ensures.keeps_fuse
+    keeps_within (both_within c.in_ok-blocks.ensures.ready c.in_ok-blocks.ensures.other_ready c.requires.stands c.requires.other_stands c.in_ok-blocks.ensures.taken c.in_ok-blocks.ensures.count c.requires.apart c.requires.given.0 c.requires.more_given.0 c.requires.given.1 c.requires.more_given.1 c.blocks_for-count.ensures c.deref.ensures.value c.split_at.ensures.front c.split_at.ensures.back c.extension-one.result c.extension-two.result c.extension-one.ensures.slot c.extension-one.ensures.tail c.extension-one.ensures.entries c.extension-one.ensures.fresh c.extension-two.ensures.slot c.extension-two.ensures.tail c.extension-two.ensures.entries c.extension-two.ensures.fresh) c.extend_two.ensures.keeps_fuse
 
 pub returns-clause-keeps_fuse : goal.returns-clause-keeps_fuse
 returns-clause-keeps_fuse g c =
-    let ready = c.in_ok-blocks.ensures.ready in
-    let count = count_is ready c.in_ok-blocks.ensures.other_ready c.requires.stands c.requires.other_stands c.in_ok-blocks.ensures.taken c.in_ok-blocks.ensures.count c.requires.apart c.requires.given.0 c.requires.more_given.0 c.requires.given.1 c.requires.more_given.1 c.blocks_for-count.result c.blocks_for-count.ensures in
-    let front = c.split_at.ensures.front ∙ ap (λ (bs : List ℕ). take c.blocks_for-count.result bs) c.deref.ensures.value ∙ ap (λ (m : ℕ). take m c.in_ok-blocks.blocks.items) count in
-    let back = c.split_at.ensures.back ∙ ap (λ (bs : List ℕ). drop c.blocks_for-count.result bs) c.deref.ensures.value ∙ ap (λ (m : ℕ). drop m c.in_ok-blocks.blocks.items) count in
-    keeps_within (both_within ready c.in_ok-blocks.ensures.other_ready c.requires.stands c.requires.other_stands c.in_ok-blocks.ensures.taken c.in_ok-blocks.ensures.count c.requires.apart c.requires.given.0 c.requires.more_given.0 c.requires.given.1 c.requires.more_given.1 c.extension-one.result c.extension-two.result c.extension-one.ensures.slot c.extension-one.ensures.tail c.extension-one.ensures.entries (c.extension-one.ensures.fresh ∙ front) c.extension-two.ensures.slot c.extension-two.ensures.tail c.extension-two.ensures.entries (c.extension-two.ensures.fresh ∙ back)) c.extend_two.ensures.keeps_fuse
+    keeps_within (both_within c.in_ok-blocks.ensures.ready c.in_ok-blocks.ensures.other_ready c.requires.stands c.requires.other_stands c.in_ok-blocks.ensures.taken c.in_ok-blocks.ensures.count c.requires.apart c.requires.given.0 c.requires.more_given.0 c.requires.given.1 c.requires.more_given.1 c.blocks_for-count.ensures c.deref.ensures.value c.split_at.ensures.front c.split_at.ensures.back c.extension-one.result c.extension-two.result c.extension-one.ensures.slot c.extension-one.ensures.tail c.extension-one.ensures.entries c.extension-one.ensures.fresh c.extension-two.ensures.slot c.extension-two.ensures.tail c.extension-two.ensures.entries c.extension-two.ensures.fresh) c.extend_two.ensures.keeps_fuse
 
 pub settle_log-requires : goal.settle_log-requires
 settle_log-requires g c =
-    let ready = c.in_ok-blocks.ensures.ready in
-    let count = count_is ready c.in_ok-blocks.ensures.other_ready c.requires.stands c.requires.other_stands c.in_ok-blocks.ensures.taken c.in_ok-blocks.ensures.count c.requires.apart c.requires.given.0 c.requires.more_given.0 c.requires.given.1 c.requires.more_given.1 c.blocks_for-count.result c.blocks_for-count.ensures in
-    let front = c.split_at.ensures.front ∙ ap (λ (bs : List ℕ). take c.blocks_for-count.result bs) c.deref.ensures.value ∙ ap (λ (m : ℕ). take m c.in_ok-blocks.blocks.items) count in
-    let back = c.split_at.ensures.back ∙ ap (λ (bs : List ℕ). drop c.blocks_for-count.result bs) c.deref.ensures.value ∙ ap (λ (m : ℕ). drop m c.in_ok-blocks.blocks.items) count in
-    subst (λ (bs : List ℕ). HasRoomFor c.prepare_logs.new.row.pages (length bs)) (sym front) (first_room ready c.in_ok-blocks.ensures.other_ready c.requires.stands c.requires.other_stands c.in_ok-blocks.ensures.taken c.in_ok-blocks.ensures.count c.requires.apart c.requires.given.0 c.requires.more_given.0 c.requires.given.1 c.requires.more_given.1)
+    first_room c.in_ok-blocks.ensures.ready c.in_ok-blocks.ensures.other_ready c.requires.stands c.requires.other_stands c.in_ok-blocks.ensures.taken c.in_ok-blocks.ensures.count c.requires.apart c.requires.given.0 c.requires.more_given.0 c.requires.given.1 c.requires.more_given.1 c.blocks_for-count.ensures c.deref.ensures.value c.split_at.ensures.front c.split_at.ensures.back
 
 pub settle_log-requires-2 : goal.settle_log-requires-2
 settle_log-requires-2 g c =
-    let ready = c.in_ok-blocks.ensures.ready in
-    let count = count_is ready c.in_ok-blocks.ensures.other_ready c.requires.stands c.requires.other_stands c.in_ok-blocks.ensures.taken c.in_ok-blocks.ensures.count c.requires.apart c.requires.given.0 c.requires.more_given.0 c.requires.given.1 c.requires.more_given.1 c.blocks_for-count.result c.blocks_for-count.ensures in
-    let front = c.split_at.ensures.front ∙ ap (λ (bs : List ℕ). take c.blocks_for-count.result bs) c.deref.ensures.value ∙ ap (λ (m : ℕ). take m c.in_ok-blocks.blocks.items) count in
-    let back = c.split_at.ensures.back ∙ ap (λ (bs : List ℕ). drop c.blocks_for-count.result bs) c.deref.ensures.value ∙ ap (λ (m : ℕ). drop m c.in_ok-blocks.blocks.items) count in
-    subst (λ (bs : List ℕ). HasRoomFor c.prepare_logs.new.other.pages (length bs)) (sym back) (second_room ready c.in_ok-blocks.ensures.other_ready c.requires.stands c.requires.other_stands c.in_ok-blocks.ensures.taken c.in_ok-blocks.ensures.count c.requires.apart c.requires.given.0 c.requires.more_given.0 c.requires.given.1 c.requires.more_given.1)
+    second_room c.in_ok-blocks.ensures.ready c.in_ok-blocks.ensures.other_ready c.requires.stands c.requires.other_stands c.in_ok-blocks.ensures.taken c.in_ok-blocks.ensures.count c.requires.apart c.requires.given.0 c.requires.more_given.0 c.requires.given.1 c.requires.more_given.1 c.blocks_for-count.ensures c.deref.ensures.value c.split_at.ensures.front c.split_at.ensures.back
 
 pub returns-clause-appended : goal.returns-clause-appended
 returns-clause-appended g c =
-    let ready = c.in_ok-blocks.ensures.ready in
-    let count = count_is ready c.in_ok-blocks.ensures.other_ready c.requires.stands c.requires.other_stands c.in_ok-blocks.ensures.taken c.in_ok-blocks.ensures.count c.requires.apart c.requires.given.0 c.requires.more_given.0 c.requires.given.1 c.requires.more_given.1 c.blocks_for-count.result c.blocks_for-count.ensures in
-    let front = c.split_at.ensures.front ∙ ap (λ (bs : List ℕ). take c.blocks_for-count.result bs) c.deref.ensures.value ∙ ap (λ (m : ℕ). take m c.in_ok-blocks.blocks.items) count in
-    let back = c.split_at.ensures.back ∙ ap (λ (bs : List ℕ). drop c.blocks_for-count.result bs) c.deref.ensures.value ∙ ap (λ (m : ℕ). drop m c.in_ok-blocks.blocks.items) count in
     let ends = c.in-Ok.ensures.ends in
-    appends_logs ready c.in_ok-blocks.ensures.other_ready c.requires.stands c.requires.other_stands c.in_ok-blocks.ensures.taken c.in_ok-blocks.ensures.count c.requires.apart c.requires.given.0 c.requires.more_given.0 c.requires.given.1 c.requires.more_given.1 c.extension-one.result c.extension-two.result c.extension-one.ensures.slot c.extension-one.ensures.tail c.extension-one.ensures.entries (c.extension-one.ensures.fresh ∙ front) c.extension-two.ensures.slot c.extension-two.ensures.tail c.extension-two.ensures.entries (c.extension-two.ensures.fresh ∙ back) front back ends.0 ends.1 c.settle_log.ensures c.settle_log-2.ensures
+    appends_logs c.in_ok-blocks.ensures.ready c.in_ok-blocks.ensures.other_ready c.requires.stands c.requires.other_stands c.in_ok-blocks.ensures.taken c.in_ok-blocks.ensures.count c.requires.apart c.requires.given.0 c.requires.more_given.0 c.requires.given.1 c.requires.more_given.1 c.blocks_for-count.ensures c.deref.ensures.value c.split_at.ensures.front c.split_at.ensures.back c.extension-one.result c.extension-two.result c.extension-one.ensures.slot c.extension-one.ensures.tail c.extension-one.ensures.entries c.extension-one.ensures.fresh c.extension-two.ensures.slot c.extension-two.ensures.tail c.extension-two.ensures.entries c.extension-two.ensures.fresh ends.0 ends.1 c.settle_log.ensures c.settle_log-2.ensures
     (λ held a b h k can. c.in-Ok.ensures.shows c.args.sup.now held a b h k can) c.extend_two.ensures.wrote.mixed
 
 pub returns-clause-room : goal.returns-clause-room
@@ -200,20 +171,12 @@ returns-in_err-blocks-clause-any_stop g c held h k here there settled = still _ 
 
 pub returns-in_default-clause-any_stop : goal.returns-in_default-clause-any_stop
 returns-in_default-clause-any_stop g c held h k here there settled =
-    let ready = c.in_ok-blocks.ensures.ready in
-    let count = count_is ready c.in_ok-blocks.ensures.other_ready c.requires.stands c.requires.other_stands c.in_ok-blocks.ensures.taken c.in_ok-blocks.ensures.count c.requires.apart c.requires.given.0 c.requires.more_given.0 c.requires.given.1 c.requires.more_given.1 c.blocks_for-count.result c.blocks_for-count.ensures in
-    let front = c.split_at.ensures.front ∙ ap (λ (bs : List ℕ). take c.blocks_for-count.result bs) c.deref.ensures.value ∙ ap (λ (m : ℕ). take m c.in_ok-blocks.blocks.items) count in
-    let back = c.split_at.ensures.back ∙ ap (λ (bs : List ℕ). drop c.blocks_for-count.result bs) c.deref.ensures.value ∙ ap (λ (m : ℕ). drop m c.in_ok-blocks.blocks.items) count in
-    left_logs ready c.in_ok-blocks.ensures.other_ready c.requires.stands c.requires.other_stands c.in_ok-blocks.ensures.taken c.in_ok-blocks.ensures.count c.requires.apart c.requires.given.0 c.requires.more_given.0 c.requires.given.1 c.requires.more_given.1 c.extension-one.result c.extension-two.result c.extension-one.ensures.slot c.extension-one.ensures.tail c.extension-one.ensures.entries (c.extension-one.ensures.fresh ∙ front) c.extension-two.ensures.slot c.extension-two.ensures.tail c.extension-two.ensures.entries (c.extension-two.ensures.fresh ∙ back)
+    left_logs c.in_ok-blocks.ensures.ready c.in_ok-blocks.ensures.other_ready c.requires.stands c.requires.other_stands c.in_ok-blocks.ensures.taken c.in_ok-blocks.ensures.count c.requires.apart c.requires.given.0 c.requires.more_given.0 c.requires.given.1 c.requires.more_given.1 c.blocks_for-count.ensures c.deref.ensures.value c.split_at.ensures.front c.split_at.ensures.back c.extension-one.result c.extension-two.result c.extension-one.ensures.slot c.extension-one.ensures.tail c.extension-one.ensures.entries c.extension-one.ensures.fresh c.extension-two.ensures.slot c.extension-two.ensures.tail c.extension-two.ensures.entries c.extension-two.ensures.fresh
     here there _ _ _ c.extend_two.ensures.wrote settled (λ a b f e can pending. c.extend_two.ensures.any_stop c.args.sup.now held a b f e can pending)
 
 pub returns-clause-any_stop : goal.returns-clause-any_stop
 returns-clause-any_stop g c held h k here there settled =
-    let ready = c.in_ok-blocks.ensures.ready in
-    let count = count_is ready c.in_ok-blocks.ensures.other_ready c.requires.stands c.requires.other_stands c.in_ok-blocks.ensures.taken c.in_ok-blocks.ensures.count c.requires.apart c.requires.given.0 c.requires.more_given.0 c.requires.given.1 c.requires.more_given.1 c.blocks_for-count.result c.blocks_for-count.ensures in
-    let front = c.split_at.ensures.front ∙ ap (λ (bs : List ℕ). take c.blocks_for-count.result bs) c.deref.ensures.value ∙ ap (λ (m : ℕ). take m c.in_ok-blocks.blocks.items) count in
-    let back = c.split_at.ensures.back ∙ ap (λ (bs : List ℕ). drop c.blocks_for-count.result bs) c.deref.ensures.value ∙ ap (λ (m : ℕ). drop m c.in_ok-blocks.blocks.items) count in
-    left_logs ready c.in_ok-blocks.ensures.other_ready c.requires.stands c.requires.other_stands c.in_ok-blocks.ensures.taken c.in_ok-blocks.ensures.count c.requires.apart c.requires.given.0 c.requires.more_given.0 c.requires.given.1 c.requires.more_given.1 c.extension-one.result c.extension-two.result c.extension-one.ensures.slot c.extension-one.ensures.tail c.extension-one.ensures.entries (c.extension-one.ensures.fresh ∙ front) c.extension-two.ensures.slot c.extension-two.ensures.tail c.extension-two.ensures.entries (c.extension-two.ensures.fresh ∙ back)
+    left_logs c.in_ok-blocks.ensures.ready c.in_ok-blocks.ensures.other_ready c.requires.stands c.requires.other_stands c.in_ok-blocks.ensures.taken c.in_ok-blocks.ensures.count c.requires.apart c.requires.given.0 c.requires.more_given.0 c.requires.given.1 c.requires.more_given.1 c.blocks_for-count.ensures c.deref.ensures.value c.split_at.ensures.front c.split_at.ensures.back c.extension-one.result c.extension-two.result c.extension-one.ensures.slot c.extension-one.ensures.tail c.extension-one.ensures.entries c.extension-one.ensures.fresh c.extension-two.ensures.slot c.extension-two.ensures.tail c.extension-two.ensures.entries c.extension-two.ensures.fresh
     here there _ _ _ c.extend_two.ensures.wrote settled (λ a b f e can pending. c.extend_two.ensures.any_stop c.args.sup.now held a b f e can pending)
 
 pub returns-in_err-blocks-clause-in_order : goal.returns-in_err-blocks-clause-in_order
@@ -221,35 +184,19 @@ returns-in_err-blocks-clause-in_order g c held h k here there = inl refl
 
 pub returns-in_default-clause-in_order : goal.returns-in_default-clause-in_order
 returns-in_default-clause-in_order g c held h k here there =
-    let ready = c.in_ok-blocks.ensures.ready in
-    let count = count_is ready c.in_ok-blocks.ensures.other_ready c.requires.stands c.requires.other_stands c.in_ok-blocks.ensures.taken c.in_ok-blocks.ensures.count c.requires.apart c.requires.given.0 c.requires.more_given.0 c.requires.given.1 c.requires.more_given.1 c.blocks_for-count.result c.blocks_for-count.ensures in
-    let front = c.split_at.ensures.front ∙ ap (λ (bs : List ℕ). take c.blocks_for-count.result bs) c.deref.ensures.value ∙ ap (λ (m : ℕ). take m c.in_ok-blocks.blocks.items) count in
-    let back = c.split_at.ensures.back ∙ ap (λ (bs : List ℕ). drop c.blocks_for-count.result bs) c.deref.ensures.value ∙ ap (λ (m : ℕ). drop m c.in_ok-blocks.blocks.items) count in
-    logs_in_order ready c.in_ok-blocks.ensures.other_ready c.requires.stands c.requires.other_stands c.in_ok-blocks.ensures.taken c.in_ok-blocks.ensures.count c.requires.apart c.requires.given.0 c.requires.more_given.0 c.requires.given.1 c.requires.more_given.1 c.extension-one.result c.extension-two.result c.extension-one.ensures.slot c.extension-one.ensures.tail c.extension-one.ensures.entries (c.extension-one.ensures.fresh ∙ front) c.extension-two.ensures.slot c.extension-two.ensures.tail c.extension-two.ensures.entries (c.extension-two.ensures.fresh ∙ back) here there (λ a b f e can. c.extend_two.ensures.in_order c.args.sup.now held a b f e can)
+    logs_in_order c.in_ok-blocks.ensures.ready c.in_ok-blocks.ensures.other_ready c.requires.stands c.requires.other_stands c.in_ok-blocks.ensures.taken c.in_ok-blocks.ensures.count c.requires.apart c.requires.given.0 c.requires.more_given.0 c.requires.given.1 c.requires.more_given.1 c.blocks_for-count.ensures c.deref.ensures.value c.split_at.ensures.front c.split_at.ensures.back c.extension-one.result c.extension-two.result c.extension-one.ensures.slot c.extension-one.ensures.tail c.extension-one.ensures.entries c.extension-one.ensures.fresh c.extension-two.ensures.slot c.extension-two.ensures.tail c.extension-two.ensures.entries c.extension-two.ensures.fresh here there (λ a b f e can. c.extend_two.ensures.in_order c.args.sup.now held a b f e can)
 
 pub returns-clause-in_order : goal.returns-clause-in_order
 returns-clause-in_order g c held h k here there =
-    let ready = c.in_ok-blocks.ensures.ready in
-    let count = count_is ready c.in_ok-blocks.ensures.other_ready c.requires.stands c.requires.other_stands c.in_ok-blocks.ensures.taken c.in_ok-blocks.ensures.count c.requires.apart c.requires.given.0 c.requires.more_given.0 c.requires.given.1 c.requires.more_given.1 c.blocks_for-count.result c.blocks_for-count.ensures in
-    let front = c.split_at.ensures.front ∙ ap (λ (bs : List ℕ). take c.blocks_for-count.result bs) c.deref.ensures.value ∙ ap (λ (m : ℕ). take m c.in_ok-blocks.blocks.items) count in
-    let back = c.split_at.ensures.back ∙ ap (λ (bs : List ℕ). drop c.blocks_for-count.result bs) c.deref.ensures.value ∙ ap (λ (m : ℕ). drop m c.in_ok-blocks.blocks.items) count in
-    logs_in_order ready c.in_ok-blocks.ensures.other_ready c.requires.stands c.requires.other_stands c.in_ok-blocks.ensures.taken c.in_ok-blocks.ensures.count c.requires.apart c.requires.given.0 c.requires.more_given.0 c.requires.given.1 c.requires.more_given.1 c.extension-one.result c.extension-two.result c.extension-one.ensures.slot c.extension-one.ensures.tail c.extension-one.ensures.entries (c.extension-one.ensures.fresh ∙ front) c.extension-two.ensures.slot c.extension-two.ensures.tail c.extension-two.ensures.entries (c.extension-two.ensures.fresh ∙ back) here there (λ a b f e can. c.extend_two.ensures.in_order c.args.sup.now held a b f e can)
+    logs_in_order c.in_ok-blocks.ensures.ready c.in_ok-blocks.ensures.other_ready c.requires.stands c.requires.other_stands c.in_ok-blocks.ensures.taken c.in_ok-blocks.ensures.count c.requires.apart c.requires.given.0 c.requires.more_given.0 c.requires.given.1 c.requires.more_given.1 c.blocks_for-count.ensures c.deref.ensures.value c.split_at.ensures.front c.split_at.ensures.back c.extension-one.result c.extension-two.result c.extension-one.ensures.slot c.extension-one.ensures.tail c.extension-one.ensures.entries c.extension-one.ensures.fresh c.extension-two.ensures.slot c.extension-two.ensures.tail c.extension-two.ensures.entries c.extension-two.ensures.fresh here there (λ a b f e can. c.extend_two.ensures.in_order c.args.sup.now held a b f e can)
 
 pub returns-in_err-blocks-clause-wrote : goal.returns-in_err-blocks-clause-wrote
 returns-in_err-blocks-clause-wrote g c held h k here there = stores_nothing c.args.sup.now held (two_logs c.args.sup.now c.args.cpu c.args.row.now.inode c.args.other.now.inode) (g.P.Pmem.region c.args.memory.now)
 
 pub returns-in_default-clause-wrote : goal.returns-in_default-clause-wrote
 returns-in_default-clause-wrote g c held h k here there =
-    let ready = c.in_ok-blocks.ensures.ready in
-    let count = count_is ready c.in_ok-blocks.ensures.other_ready c.requires.stands c.requires.other_stands c.in_ok-blocks.ensures.taken c.in_ok-blocks.ensures.count c.requires.apart c.requires.given.0 c.requires.more_given.0 c.requires.given.1 c.requires.more_given.1 c.blocks_for-count.result c.blocks_for-count.ensures in
-    let front = c.split_at.ensures.front ∙ ap (λ (bs : List ℕ). take c.blocks_for-count.result bs) c.deref.ensures.value ∙ ap (λ (m : ℕ). take m c.in_ok-blocks.blocks.items) count in
-    let back = c.split_at.ensures.back ∙ ap (λ (bs : List ℕ). drop c.blocks_for-count.result bs) c.deref.ensures.value ∙ ap (λ (m : ℕ). drop m c.in_ok-blocks.blocks.items) count in
-    logs_store ready c.in_ok-blocks.ensures.other_ready c.requires.stands c.requires.other_stands c.in_ok-blocks.ensures.taken c.in_ok-blocks.ensures.count c.requires.apart c.requires.given.0 c.requires.more_given.0 c.requires.given.1 c.requires.more_given.1 c.extension-one.result c.extension-two.result c.extension-one.ensures.slot c.extension-one.ensures.tail c.extension-one.ensures.entries (c.extension-one.ensures.fresh ∙ front) c.extension-two.ensures.slot c.extension-two.ensures.tail c.extension-two.ensures.entries (c.extension-two.ensures.fresh ∙ back) here there c.extend_two.ensures.wrote.mixed
+    logs_store c.in_ok-blocks.ensures.ready c.in_ok-blocks.ensures.other_ready c.requires.stands c.requires.other_stands c.in_ok-blocks.ensures.taken c.in_ok-blocks.ensures.count c.requires.apart c.requires.given.0 c.requires.more_given.0 c.requires.given.1 c.requires.more_given.1 c.blocks_for-count.ensures c.deref.ensures.value c.split_at.ensures.front c.split_at.ensures.back c.extension-one.result c.extension-two.result c.extension-one.ensures.slot c.extension-one.ensures.tail c.extension-one.ensures.entries c.extension-one.ensures.fresh c.extension-two.ensures.slot c.extension-two.ensures.tail c.extension-two.ensures.entries c.extension-two.ensures.fresh here there c.extend_two.ensures.wrote.mixed
 
 pub returns-clause-wrote : goal.returns-clause-wrote
 returns-clause-wrote g c held h k here there =
-    let ready = c.in_ok-blocks.ensures.ready in
-    let count = count_is ready c.in_ok-blocks.ensures.other_ready c.requires.stands c.requires.other_stands c.in_ok-blocks.ensures.taken c.in_ok-blocks.ensures.count c.requires.apart c.requires.given.0 c.requires.more_given.0 c.requires.given.1 c.requires.more_given.1 c.blocks_for-count.result c.blocks_for-count.ensures in
-    let front = c.split_at.ensures.front ∙ ap (λ (bs : List ℕ). take c.blocks_for-count.result bs) c.deref.ensures.value ∙ ap (λ (m : ℕ). take m c.in_ok-blocks.blocks.items) count in
-    let back = c.split_at.ensures.back ∙ ap (λ (bs : List ℕ). drop c.blocks_for-count.result bs) c.deref.ensures.value ∙ ap (λ (m : ℕ). drop m c.in_ok-blocks.blocks.items) count in
-    logs_store ready c.in_ok-blocks.ensures.other_ready c.requires.stands c.requires.other_stands c.in_ok-blocks.ensures.taken c.in_ok-blocks.ensures.count c.requires.apart c.requires.given.0 c.requires.more_given.0 c.requires.given.1 c.requires.more_given.1 c.extension-one.result c.extension-two.result c.extension-one.ensures.slot c.extension-one.ensures.tail c.extension-one.ensures.entries (c.extension-one.ensures.fresh ∙ front) c.extension-two.ensures.slot c.extension-two.ensures.tail c.extension-two.ensures.entries (c.extension-two.ensures.fresh ∙ back) here there c.extend_two.ensures.wrote.mixed
+    logs_store c.in_ok-blocks.ensures.ready c.in_ok-blocks.ensures.other_ready c.requires.stands c.requires.other_stands c.in_ok-blocks.ensures.taken c.in_ok-blocks.ensures.count c.requires.apart c.requires.given.0 c.requires.more_given.0 c.requires.given.1 c.requires.more_given.1 c.blocks_for-count.ensures c.deref.ensures.value c.split_at.ensures.front c.split_at.ensures.back c.extension-one.result c.extension-two.result c.extension-one.ensures.slot c.extension-one.ensures.tail c.extension-one.ensures.entries c.extension-one.ensures.fresh c.extension-two.ensures.slot c.extension-two.ensures.tail c.extension-two.ensures.entries c.extension-two.ensures.fresh here there c.extend_two.ensures.wrote.mixed

@@ -11,26 +11,16 @@ use Rattle.nv_entry.specs.declared.entry.Entry.{Entry}
 use Rattle.nv_entry.specs.declared.entry.Entry.TheVariants.{Name}
 use Rattle.nv_entry.specs.declared.entry.Operation.TheVariants.{Remove}
 use Rattle.nv_entry.specs.Spelling.{entry_length}
-use Rattle.nv_held.specs.nv_outcome.Same.{SameRow}
 use Rattle.nv_commit.specs.Stopped.{LeavesEither}
 use Rattle.nv_commit.proofs.Left.{still}
 use Rattle.nv_steps.specs.Stopped.{Appended, MovedHere}
 use Rattle.nv_steps.specs.Steps.{AppendsLog, RefusesStep}
-use Rattle.nv_steps.proofs.MovedRow.{left_here, moves_within, shows_same}
+use Rattle.nv_steps.proofs.MovedRow.{left_here, more_names, moves_within, shows_same}
 use Rattle.nv_steps.proofs.renaming.move_within.Goals as goal
 
 pub returns-clause-moved : goal.returns-clause-moved
 returns-clause-moved g c =
-    let same : SameRow c.args.directory.now (record c.args.directory.now { names = c.reserve.new.self }) = record {
-      inode = refl;
-      kind = refl;
-      numbers = refl;
-      head = refl;
-      tail = refl;
-      pages = refl;
-      index = λ p. refl;
-      names = c.reserve.ensures.names;
-    } in
+    let same = more_names c.args.directory.now c.reserve.new.self c.reserve.ensures.names in
     let one = subst (λ (x : Entry). AppendsLog (g.P.Pmem.region c.args.memory.now) (g.P.Pmem.region c.append_log.new.memory) c.args.sup.now c.args.free.now c.append_log.new.free c.args.cpu (record c.args.directory.now { names = c.reserve.new.self }) c.append_log.new.row (x ∷ c.name_entry-2.result ∷ [])) c.name_entry.ensures c.in_ok-append_log.ensures.appended in
     let both = subst (λ (x : Entry). AppendsLog (g.P.Pmem.region c.args.memory.now) (g.P.Pmem.region c.append_log.new.memory) c.args.sup.now c.args.free.now c.append_log.new.free c.args.cpu (record c.args.directory.now { names = c.reserve.new.self }) c.append_log.new.row (Name (record { operation = Remove; inode = c.args.moved.now.inode; time = c.args.moved.now.time; name = c.args.moved.now.name.now }) ∷ x ∷ [])) c.name_entry-2.ensures one in
     moves_within c.args.moved.now.inode c.args.moved.now.name.now c.args.moved.now.other.now c.args.moved.now.time same both c.length.result (c.length.ensures.value ∙ ap entry_length c.name_entry-2.ensures) c.remove_name.ensures.row c.remove_name.ensures.once c.add_name.ensures.row c.add_name.ensures.once c.len-names.ensures.each_once
@@ -150,7 +140,7 @@ pub returns-then-is_err-clause-refused : goal.returns-then-is_err-clause-refused
 returns-then-is_err-clause-refused g c = inl refl
 
 pub returns-then-is_err-clause-unchanged : goal.returns-then-is_err-clause-unchanged
-returns-then-is_err-clause-unchanged g c = λ _. record { memory = refl; free = record { sup = refl; pools = refl }; row = record { inode = refl; kind = refl; numbers = refl; head = refl; tail = refl; pages = refl; index = λ p. refl; names = c.reserve.ensures.names } }
+returns-then-is_err-clause-unchanged g c = λ _. record { memory = refl; free = record { sup = refl; pools = refl }; row = more_names c.args.directory.now c.reserve.new.self c.reserve.ensures.names }
 
 pub returns-then-is_err-clause-inode : goal.returns-then-is_err-clause-inode
 returns-then-is_err-clause-inode g c = refl
@@ -177,16 +167,7 @@ returns-then-is_err-clause-any_stop g c held h shows absent settled = still _ _ 
 
 pub returns-in_err-append_log-clause-any_stop : goal.returns-in_err-append_log-clause-any_stop
 returns-in_err-append_log-clause-any_stop g c held h shows absent settled left may =
-    let same : SameRow c.args.directory.now (record c.args.directory.now { names = c.reserve.new.self }) = record {
-      inode = refl;
-      kind = refl;
-      numbers = refl;
-      head = refl;
-      tail = refl;
-      pages = refl;
-      index = λ p. refl;
-      names = c.reserve.ensures.names;
-    } in
+    let same = more_names c.args.directory.now c.reserve.new.self c.reserve.ensures.names in
     let there = c.append_log.ensures.any_stop held h (shows_same same shows) (omega arith) settled left may in
     let one = subst (λ (x : Entry). LeavesEither (g.P.Pmem.region c.args.memory.now) (fixed_layout c.args.sup.now) held (Appended (g.P.Pmem.region c.args.memory.now) c.args.sup.now c.args.free.now c.args.cpu (record c.args.directory.now { names = c.reserve.new.self }) (x ∷ c.name_entry-2.result ∷ [])) left) c.name_entry.ensures there in
     left_here c.args.directory.now (record c.args.directory.now { names = c.reserve.new.self }) c.args.moved.now.inode c.args.moved.now.name.now c.args.moved.now.other.now c.args.moved.now.time same c.len-names.ensures.each_once absent left
@@ -194,17 +175,20 @@ returns-in_err-append_log-clause-any_stop g c held h shows absent settled left m
 
 pub returns-clause-any_stop : goal.returns-clause-any_stop
 returns-clause-any_stop g c held h shows absent settled left may =
-    let same : SameRow c.args.directory.now (record c.args.directory.now { names = c.reserve.new.self }) = record {
-      inode = refl;
-      kind = refl;
-      numbers = refl;
-      head = refl;
-      tail = refl;
-      pages = refl;
-      index = λ p. refl;
-      names = c.reserve.ensures.names;
-    } in
+    let same = more_names c.args.directory.now c.reserve.new.self c.reserve.ensures.names in
     let there = c.append_log.ensures.any_stop held h (shows_same same shows) (omega arith) settled left may in
     let one = subst (λ (x : Entry). LeavesEither (g.P.Pmem.region c.args.memory.now) (fixed_layout c.args.sup.now) held (Appended (g.P.Pmem.region c.args.memory.now) c.args.sup.now c.args.free.now c.args.cpu (record c.args.directory.now { names = c.reserve.new.self }) (x ∷ c.name_entry-2.result ∷ [])) left) c.name_entry.ensures there in
     left_here c.args.directory.now (record c.args.directory.now { names = c.reserve.new.self }) c.args.moved.now.inode c.args.moved.now.name.now c.args.moved.now.other.now c.args.moved.now.time same c.len-names.ensures.each_once absent left
     (subst (λ (x : Entry). LeavesEither (g.P.Pmem.region c.args.memory.now) (fixed_layout c.args.sup.now) held (Appended (g.P.Pmem.region c.args.memory.now) c.args.sup.now c.args.free.now c.args.cpu (record c.args.directory.now { names = c.reserve.new.self }) (Name (record { operation = Remove; inode = c.args.moved.now.inode; time = c.args.moved.now.time; name = c.args.moved.now.name.now }) ∷ x ∷ [])) left) c.name_entry-2.ensures one)
+
+pub returns-then-not-are_enough-clause-wrote : goal.returns-then-not-are_enough-clause-wrote
+returns-then-not-are_enough-clause-wrote g c held h shows at whole away = refl
+
+pub returns-then-is_err-clause-wrote : goal.returns-then-is_err-clause-wrote
+returns-then-is_err-clause-wrote g c held h shows at whole away = refl
+
+pub returns-in_err-append_log-clause-wrote : goal.returns-in_err-append_log-clause-wrote
+returns-in_err-append_log-clause-wrote g c held h shows = c.append_log.ensures.wrote held h (shows_same (more_names c.args.directory.now c.reserve.new.self c.reserve.ensures.names) shows) (omega arith)
+
+pub returns-clause-wrote : goal.returns-clause-wrote
+returns-clause-wrote g c held h shows = c.append_log.ensures.wrote held h (shows_same (more_names c.args.directory.now c.reserve.new.self c.reserve.ensures.names) shows) (omega arith)

@@ -114,3 +114,18 @@ returns-clause-any_stop g c held h shows settled left may =
     let lists = c.reserve.ensures.same in
     let same : SamePools c.args.free.now c.reserve.new.self = record { sup = lists.sup; pools = lists.pools } in
     left_sized c.args.attributes c.requires.can c.requires.stays same shows left (c.append_log.ensures.any_stop held h (shows_with c.args.attributes c.requires.can shows same) (omega arith) settled left may)
+
+pub returns-then-is_err-clause-wrote : goal.returns-then-is_err-clause-wrote
+returns-then-is_err-clause-wrote g c held h shows at whole away = refl
+
+pub returns-in_err-append_log-clause-wrote : goal.returns-in_err-append_log-clause-wrote
+returns-in_err-append_log-clause-wrote g c held h shows =
+    let lists = c.reserve.ensures.same in
+    let same : SamePools c.args.free.now c.reserve.new.self = record { sup = lists.sup; pools = lists.pools } in
+    c.append_log.ensures.wrote held h (shows_with c.args.attributes c.requires.can shows same) (omega arith)
+
+pub returns-clause-wrote : goal.returns-clause-wrote
+returns-clause-wrote g c held h shows =
+    let lists = c.reserve.ensures.same in
+    let same : SamePools c.args.free.now c.reserve.new.self = record { sup = lists.sup; pools = lists.pools } in
+    c.append_log.ensures.wrote held h (shows_with c.args.attributes c.requires.can shows same) (omega arith)

@@ -1,10 +1,15 @@
-use Rattle.std.proofs.Common.{◌∙◌, ℕ, refl, sym, subst}
+use Rattle.std.proofs.Common.{◌∙◌, List, ℕ, refl, sym, subst}
 use Rattle.nv_held.proofs.BytesKept.{mixed_size}
 use Rattle.nv_bytes.specs.Bytes.{byte_after, file_byte}
 use Rattle.nv_region.specs.Region.{Region}
-use Rattle.nv_steps.specs.Written.{AreSmall, Commits}
+use Rattle.nv_steps.specs.Written.{AreSmall, Commits, entry_blocks}
 use Rattle.nv_steps.proofs.Committed.{commits}
 use Rattle.nv_steps.proofs.Stopped.{commit_left, data_left}
+use Rattle.nv_alloc.specs.Taking.{HasBlock}
+use Rattle.nv_entry.specs.declared.entry.Entry.{Entry}
+use Rattle.nv_commit.specs.Extends.{CanExtend}
+use Rattle.nv_steps.specs.Stores.{one_log}
+use Rattle.nv_steps.proofs.Stores.{data_stores, data_then_log}
 use Rattle.nv_steps.proofs.storing_data.commit_data.Goals as goal
 
 pub store_data-requires-clause-pages : goal.store_data-requires-clause-pages
@@ -29,3 +34,13 @@ pub returns-clause-any_stop : goal.returns-clause-any_stop
 returns-clause-any_stop g c s held inode h can free settled =
     commit_left (byte_after c.args.change.now.offset c.args.change.now.bytes.now c.args.change.now.size (file_byte (g.P.Pmem.region c.args.memory.now) c.args.index.now)) c.args.log.now.entries.items c.deref.result.now c.deref-2.result.now c.args.log.now.fresh.items c.deref-3.result.now
     c.deref.ensures.value c.deref-2.ensures.value c.deref-3.ensures.value can free _ settled _ c.store_data.ensures.wrote c.in_ok-store_data.ensures.stored _ _ (λ there pending. c.extend_log.ensures.loose_stop s held inode h there pending)
+
+pub returns-in_err-store_data-clause-wrote : goal.returns-in_err-store_data-clause-wrote
+returns-in_err-store_data-clause-wrote g c s held inode h can free =
+    data_stores s held (one_log s inode) (HasBlock (entry_blocks c.deref.result.now)) (λ b w. free b (subst (λ (es : List Entry). HasBlock (entry_blocks es) b) c.deref.ensures.value w)) c.store_data.ensures.wrote.mixed
+
+pub returns-clause-wrote : goal.returns-clause-wrote
+returns-clause-wrote g c s held inode h can free =
+    data_then_log (HasBlock (entry_blocks c.deref.result.now))
+    (subst (λ (es : List Entry). CanExtend (g.P.Pmem.region c.args.memory.now) s held inode h c.args.slot c.args.tail es c.deref-3.result.now) (sym c.deref-2.ensures.value) (subst (λ (bs : List ℕ). CanExtend (g.P.Pmem.region c.args.memory.now) s held inode h c.args.slot c.args.tail c.args.log.now.entries.items bs) (sym c.deref-3.ensures.value) can))
+    (λ b w. free b (subst (λ (es : List Entry). HasBlock (entry_blocks es) b) c.deref.ensures.value w)) c.store_data.ensures.wrote.mixed c.extend_log.ensures.wrote.mixed

@@ -220,3 +220,29 @@ returns-clause-any_stop g c held h shows settled left may =
     left_write c.requires.stands c.requires.kind c.requires.file c.requires.cpu right p shows c.slot_address-slot.result mid.tail mid.inode same.inode same.tail c.slot_address-slot.ensures
     (byte_after n.offset n.bytes.now n.size (file_byte R mid.index)) n.offset c.args.plan.now.time n.bytes.now c.requires.some c.requires.plan (λ x. bytes_as R row.index mid.index n.offset n.size row.numbers.size n.bytes.now same.index c.requires.size x) left
     (c.commit_data.ensures.any_stop c.args.sup.now held row.inode h (can_there c.requires.stands c.requires.kind c.requires.file c.requires.cpu right p shows c.slot_address-slot.result mid.tail mid.inode same.inode same.tail c.slot_address-slot.ensures) (data_free shows c.requires.stands.lists c.requires.cpu right p) settled left may)
+
+pub returns-in-Err-NoSpace-clause-wrote : goal.returns-in-Err-NoSpace-clause-wrote
+returns-in-Err-NoSpace-clause-wrote g c held h shows at whole away = refl
+
+pub returns-in-Err-Memory-clause-wrote : goal.returns-in-Err-Memory-clause-wrote
+returns-in-Err-Memory-clause-wrote g c held h shows at whole away = refl
+
+pub returns-in-Ok-commit_data-clause-wrote : goal.returns-in-Ok-commit_data-clause-wrote
+returns-in-Ok-commit_data-clause-wrote g c held h shows =
+    let row = c.args.row.now in
+    let mid = c.prepare_data.new.row in
+    let same = c.prepare_data.ensures.row in
+    let n = c.args.change.now in
+    let right = subst (IsRight row) (sym c.requires.plan) (plan_right row (block_at row.index) n.offset (length n.bytes.now) c.args.plan.now.time c.requires.file.small c.requires.some c.requires.fits) in
+    let p = c.in-Ok.ensures.prepared in
+    c.commit_data.ensures.wrote c.args.sup.now held row.inode h (can_there c.requires.stands c.requires.kind c.requires.file c.requires.cpu right p shows c.slot_address-slot.result mid.tail mid.inode same.inode same.tail c.slot_address-slot.ensures) (data_free shows c.requires.stands.lists c.requires.cpu right p)
+
+pub returns-clause-wrote : goal.returns-clause-wrote
+returns-clause-wrote g c held h shows =
+    let row = c.args.row.now in
+    let mid = c.prepare_data.new.row in
+    let same = c.prepare_data.ensures.row in
+    let n = c.args.change.now in
+    let right = subst (IsRight row) (sym c.requires.plan) (plan_right row (block_at row.index) n.offset (length n.bytes.now) c.args.plan.now.time c.requires.file.small c.requires.some c.requires.fits) in
+    let p = c.in-Ok.ensures.prepared in
+    c.commit_data.ensures.wrote c.args.sup.now held row.inode h (can_there c.requires.stands c.requires.kind c.requires.file c.requires.cpu right p shows c.slot_address-slot.result mid.tail mid.inode same.inode same.tail c.slot_address-slot.ensures) (data_free shows c.requires.stands.lists c.requires.cpu right p)

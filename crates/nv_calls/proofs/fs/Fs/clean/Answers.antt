@@ -17,6 +17,7 @@ use Rattle.nv_calls.proofs.CleanCall.{no_stop, tests_said}
 use Rattle.nv_calls.proofs.Early.{same_fuse}
 use Rattle.nv_calls.proofs.RowChange.{same_mount}
 use Rattle.nv_calls.proofs.Tests.{early_reply, if_err, stat_goes_on}
+use Rattle.nv_calls.proofs.Stores.{page_less_by_path}
 use Rattle.nv_calls.proofs.fs.Fs.clean.Goals as goal
 
 pub returns-in_err-cleanable-clause-refused : goal.returns-in_err-cleanable-clause-refused
@@ -130,3 +131,15 @@ returns-clause-any_stop g c names path on able =
     let own = subst (λ (m : Mount g.row.P.Denot). LeadsTo (tree_of (g.P.Pmem.region m.memory) m.rows) names c.in_ok-inode.field-0.now.inode (node_of (g.P.Pmem.region m.memory) c.in_ok-inode.field-0.now)) c.self.view_is
     (c.in_ok-inode.ensures.row (g.P.Pmem.region c.self.inside.memory) names path) in
     left_by_path names c.in_ok-inode.field-0.now.inode (node_of (g.P.Pmem.region c.args.self.now.memory) c.in_ok-inode.field-0.now) own (c.clean_inode.ensures.any_stop on able)
+
+pub returns-in_err-cleanable-clause-wrote : goal.returns-in_err-cleanable-clause-wrote
+returns-in_err-cleanable-clause-wrote g c names i node held h o path led sound is first = λ at whole away. refl
+
+pub returns-in_err-inode-clause-wrote : goal.returns-in_err-inode-clause-wrote
+returns-in_err-inode-clause-wrote g c names i node held h o path led sound is first = λ at whole away. refl
+
+pub returns-clause-wrote : goal.returns-clause-wrote
+returns-clause-wrote g c names i node held h o path led sound is first =
+    let own = subst (λ (m : Mount g.row.P.Denot). LeadsTo (tree_of (g.P.Pmem.region m.memory) m.rows) names c.in_ok-inode.field-0.now.inode (node_of (g.P.Pmem.region m.memory) c.in_ok-inode.field-0.now)) c.self.view_is
+    (c.in_ok-inode.ensures.row (g.P.Pmem.region c.self.inside.memory) names path) in
+    page_less_by_path (g.P.Pmem.region c.args.self.now.memory) (g.P.Pmem.region c.clean_inode.new.self.memory) c.args.self.now.sup c.args.self.now.rows names c.in_ok-inode.field-0.now.inode (node_of (g.P.Pmem.region c.args.self.now.memory) c.in_ok-inode.field-0.now) own (λ st k p there known dead. c.clean_inode.ensures.wrote st k p there known dead) i node held h o led sound is first

@@ -20,7 +20,7 @@ use Rattle.nv_paths.specs.Places.{IsLinkSpot, link_spot_tests}
 use Rattle.nv_paths.specs.Seen.{LeadsTo, tree_of}
 use Rattle.nv_calls.specs.World.{world_of}
 use Rattle.nv_calls.proofs.Stopped.{call_stays, settled_or_stopped}
-use Rattle.nv_calls.proofs.StoppedLinks.{link_left, link_ordered, link_stored}
+use Rattle.nv_calls.proofs.StoppedLinks.{link_left}
 use Rattle.nv_calls.proofs.CreateCall.{kept_or_stopped, unchanged_rows}
 use Rattle.nv_calls.proofs.LinkCall.{link_allowed, link_refused, linked_kept, linked_logs, linked_tree}
 use Rattle.nv_paths.proofs.LinkSpots.{link_goes_on}
@@ -32,6 +32,7 @@ use Rattle.nv_calls.proofs.RowChange.{same_mount}
 use Rattle.nv_calls.proofs.RowNumbers.{row_commits}
 use Rattle.nv_calls.proofs.SetAttr.{late_reply, not_stop}
 use Rattle.nv_calls.proofs.Tests.{early_reply, if_err, writing_goes_on}
+use Rattle.nv_calls.proofs.TwoWords.{link_ordered, link_stored}
 use Rattle.nv_calls.proofs.fs.Fs.link.Goals as goal
 use Rattle.nv_calls.proofs.FrontsKept.{both_front}
 
@@ -245,23 +246,13 @@ returns-in_err-named-clause-in_order g c names others i d node held f path other
 
 pub returns-in-Ok-clause-in_order : goal.returns-in-Ok-clause-in_order
 returns-in-Ok-clause-in_order g c names others i d node held f path other_path led ended sound is =
-    let runs : c.self.inside.stopped ≡ false = ap (λ (m : Mount g.row.P.Denot). m.stopped) c.self.view_is ∙ c.in_ok-writable.ensures.runs in
-    let writes : c.self.inside.read_only ≡ false = ap (λ (m : Mount g.row.P.Denot). m.read_only) c.self.view_is ∙ c.in_ok-writable.ensures.writes in
-    let file = row_in_use c.self.inside.rows.items c.in_ok-named.named.target c.in_ok-named.ensures.target in
-    let directory = row_in_use c.self.inside.rows.items c.in_ok-named.named.directory c.in_ok-named.ensures.directory in
-    link_ordered g.P.Pmem.region c.self.view_is c.self.invariant.0 runs writes c.in_ok-named.named.target c.in_ok-named.named.directory file.0 directory.0 file.1 directory.1 c.in_ok-named.named.name.now c.args.cpu c.args.time c.in_ok-named.ensures.name names others
-    (c.in_ok-named.ensures.spot (g.P.Pmem.region c.self.inside.memory) names others path other_path) (g.P.Pmem.region c.link_at.new.memory)
-    (λ st a b here other. c.link_at.ensures.in_order file.0 directory.0 st a b file.1 directory.1 here other) i d node held f led ended sound is
+    link_ordered g.P.Pmem.region c.self.view_is c.self.invariant.0 c.in_ok-writable.ensures.runs (g.P.Pmem.region c.link_at.new.memory) c.args.cpu c.in_ok-named.named.target c.in_ok-named.named.directory c.in_ok-named.ensures.target c.in_ok-named.ensures.directory
+    c.args.time c.in_ok-named.named.name.now names others (c.in_ok-named.ensures.spot (g.P.Pmem.region c.self.inside.memory) names others path other_path) c.link_at.ensures.in_order i d node held f led ended sound is
 
 pub returns-in-Err-clause-in_order : goal.returns-in-Err-clause-in_order
 returns-in-Err-clause-in_order g c names others i d node held f path other_path led ended sound is =
-    let runs : c.self.inside.stopped ≡ false = ap (λ (m : Mount g.row.P.Denot). m.stopped) c.self.view_is ∙ c.in_ok-writable.ensures.runs in
-    let writes : c.self.inside.read_only ≡ false = ap (λ (m : Mount g.row.P.Denot). m.read_only) c.self.view_is ∙ c.in_ok-writable.ensures.writes in
-    let file = row_in_use c.self.inside.rows.items c.in_ok-named.named.target c.in_ok-named.ensures.target in
-    let directory = row_in_use c.self.inside.rows.items c.in_ok-named.named.directory c.in_ok-named.ensures.directory in
-    link_ordered g.P.Pmem.region c.self.view_is c.self.invariant.0 runs writes c.in_ok-named.named.target c.in_ok-named.named.directory file.0 directory.0 file.1 directory.1 c.in_ok-named.named.name.now c.args.cpu c.args.time c.in_ok-named.ensures.name names others
-    (c.in_ok-named.ensures.spot (g.P.Pmem.region c.self.inside.memory) names others path other_path) (g.P.Pmem.region c.link_at.new.memory)
-    (λ st a b here other. c.link_at.ensures.in_order file.0 directory.0 st a b file.1 directory.1 here other) i d node held f led ended sound is
+    link_ordered g.P.Pmem.region c.self.view_is c.self.invariant.0 c.in_ok-writable.ensures.runs (g.P.Pmem.region c.link_at.new.memory) c.args.cpu c.in_ok-named.named.target c.in_ok-named.named.directory c.in_ok-named.ensures.target c.in_ok-named.ensures.directory
+    c.args.time c.in_ok-named.named.name.now names others (c.in_ok-named.ensures.spot (g.P.Pmem.region c.self.inside.memory) names others path other_path) c.link_at.ensures.in_order i d node held f led ended sound is
 
 pub returns-in_err-writable-clause-wrote : goal.returns-in_err-writable-clause-wrote
 returns-in_err-writable-clause-wrote g c names others i d node held path other_path led ended sound = λ at whole away. refl
@@ -271,20 +262,10 @@ returns-in_err-named-clause-wrote g c names others i d node held path other_path
 
 pub returns-in-Ok-clause-wrote : goal.returns-in-Ok-clause-wrote
 returns-in-Ok-clause-wrote g c names others i d node held path other_path led ended sound =
-    let runs : c.self.inside.stopped ≡ false = ap (λ (m : Mount g.row.P.Denot). m.stopped) c.self.view_is ∙ c.in_ok-writable.ensures.runs in
-    let writes : c.self.inside.read_only ≡ false = ap (λ (m : Mount g.row.P.Denot). m.read_only) c.self.view_is ∙ c.in_ok-writable.ensures.writes in
-    let file = row_in_use c.self.inside.rows.items c.in_ok-named.named.target c.in_ok-named.ensures.target in
-    let directory = row_in_use c.self.inside.rows.items c.in_ok-named.named.directory c.in_ok-named.ensures.directory in
-    link_stored g.P.Pmem.region c.self.view_is c.self.invariant.0 runs writes c.in_ok-named.named.target c.in_ok-named.named.directory file.0 directory.0 file.1 directory.1 c.in_ok-named.named.name.now c.args.cpu c.args.time c.in_ok-named.ensures.name names others
-    (c.in_ok-named.ensures.spot (g.P.Pmem.region c.self.inside.memory) names others path other_path) (g.P.Pmem.region c.link_at.new.memory)
-    (λ st a b here other. c.link_at.ensures.wrote file.0 directory.0 st a b file.1 directory.1 here other) i d node held led ended sound
+    link_stored g.P.Pmem.region c.self.view_is c.self.invariant.0 c.in_ok-writable.ensures.runs (g.P.Pmem.region c.link_at.new.memory) c.args.cpu c.in_ok-named.named.target c.in_ok-named.named.directory c.in_ok-named.ensures.target c.in_ok-named.ensures.directory
+    c.args.time c.in_ok-named.named.name.now names others (c.in_ok-named.ensures.spot (g.P.Pmem.region c.self.inside.memory) names others path other_path) c.link_at.ensures.wrote i d node held led ended sound
 
 pub returns-in-Err-clause-wrote : goal.returns-in-Err-clause-wrote
 returns-in-Err-clause-wrote g c names others i d node held path other_path led ended sound =
-    let runs : c.self.inside.stopped ≡ false = ap (λ (m : Mount g.row.P.Denot). m.stopped) c.self.view_is ∙ c.in_ok-writable.ensures.runs in
-    let writes : c.self.inside.read_only ≡ false = ap (λ (m : Mount g.row.P.Denot). m.read_only) c.self.view_is ∙ c.in_ok-writable.ensures.writes in
-    let file = row_in_use c.self.inside.rows.items c.in_ok-named.named.target c.in_ok-named.ensures.target in
-    let directory = row_in_use c.self.inside.rows.items c.in_ok-named.named.directory c.in_ok-named.ensures.directory in
-    link_stored g.P.Pmem.region c.self.view_is c.self.invariant.0 runs writes c.in_ok-named.named.target c.in_ok-named.named.directory file.0 directory.0 file.1 directory.1 c.in_ok-named.named.name.now c.args.cpu c.args.time c.in_ok-named.ensures.name names others
-    (c.in_ok-named.ensures.spot (g.P.Pmem.region c.self.inside.memory) names others path other_path) (g.P.Pmem.region c.link_at.new.memory)
-    (λ st a b here other. c.link_at.ensures.wrote file.0 directory.0 st a b file.1 directory.1 here other) i d node held led ended sound
+    link_stored g.P.Pmem.region c.self.view_is c.self.invariant.0 c.in_ok-writable.ensures.runs (g.P.Pmem.region c.link_at.new.memory) c.args.cpu c.in_ok-named.named.target c.in_ok-named.named.directory c.in_ok-named.ensures.target c.in_ok-named.ensures.directory
+    c.args.time c.in_ok-named.named.name.now names others (c.in_ok-named.ensures.spot (g.P.Pmem.region c.self.inside.memory) names others path other_path) c.link_at.ensures.wrote i d node held led ended sound

@@ -22,7 +22,7 @@ use Rattle.nv_paths.specs.Seen.{tree_of}
 use Rattle.nv_rows.specs.Unused.{unused_number}
 use Rattle.nv_calls.specs.World.{world_of}
 use Rattle.nv_calls.proofs.Stopped.{call_stays, settled_or_stopped}
-use Rattle.nv_calls.proofs.StoppedNames.{create_left, create_ordered, create_stored}
+use Rattle.nv_calls.proofs.StoppedNames.{create_left}
 use Rattle.nv_calls.proofs.CreateCall.{create_allowed, create_refused, created_kept, created_log, created_tree, kept_or_stopped, unchanged_rows}
 use Rattle.nv_paths.proofs.CreateTests.{spot_goes_on, spot_refuses}
 use Rattle.nv_tree.proofs.Replies.{refused_by}
@@ -32,6 +32,7 @@ use Rattle.nv_super.proofs.Members.{stands}
 use Rattle.nv_calls.proofs.RowChange.{same_mount}
 use Rattle.nv_calls.proofs.SetAttr.{late_reply, not_stop}
 use Rattle.nv_calls.proofs.Tests.{early_reply, if_err, writing_goes_on}
+use Rattle.nv_calls.proofs.TwoWords.{create_ordered, create_stored}
 use Rattle.nv_calls.proofs.fs.Fs.make.Goals as goal
 use Rattle.nv_calls.proofs.FrontsKept.{created_front}
 
@@ -357,27 +358,13 @@ returns-in_err-spot-clause-in_order g c names d j path ended number = ∣ inl re
 
 pub returns-in-Ok-clause-in_order : goal.returns-in-Ok-clause-in_order
 returns-in-Ok-clause-in_order g c names d j path ended number =
-    let runs : c.self.inside.stopped ≡ false = ap (λ (m : Mount g.row.P.Denot). m.stopped) c.self.view_is ∙ c.in_ok-writable.ensures.runs in
-    let writes : c.self.inside.read_only ≡ false = ap (λ (m : Mount g.row.P.Denot). m.read_only) c.self.view_is ∙ c.in_ok-writable.ensures.writes in
-    let low : c.args.cpu < c.self.inside.sup.cpus = subst (λ (m : Mount g.row.P.Denot). c.args.cpu < m.sup.cpus) (sym c.self.view_is) c.in_ok-writable.ensures.cpu in
-    let spot : IsSpot (tree_of (g.P.Pmem.region c.self.inside.memory) c.self.inside.rows.items) c.self.inside.rows.items c.self.inside.sup c.args.cpu names (place_in c.self.inside.rows.items c.in_ok-spot.spot.directory) c.in_ok-spot.spot.name.now c.in_ok-spot.spot.inode =
-    subst (λ (s : Super). IsSpot (tree_of (g.P.Pmem.region c.self.inside.memory) c.self.inside.rows.items) c.self.inside.rows.items s c.args.cpu names (place_in c.self.inside.rows.items c.in_ok-spot.spot.directory) c.in_ok-spot.spot.name.now c.in_ok-spot.spot.inode) c.self.invariant.1 (c.in_ok-spot.ensures.spot (g.P.Pmem.region c.self.inside.memory) names path) in
-    let r = row_in_use c.self.inside.rows.items c.in_ok-spot.spot.directory c.in_ok-spot.ensures.in_use in
-    let at : slice_get c.self.inside.rows.items (place_in c.self.inside.rows.items c.in_ok-spot.spot.directory) ≡ Some r.0 = at_place c.self.inside.rows.items c.in_ok-spot.spot.directory ∙ r.1 in
-    create_ordered g.P.Pmem.region c.self.view_is c.self.invariant.0 runs writes (place_in c.self.inside.rows.items c.in_ok-spot.spot.directory) r.0 at c.args.kind c.args.mode c.args.time c.in_ok-spot.spot.inode c.in_ok-spot.spot.name.now c.args.cpu low c.in_ok-spot.ensures.name names spot (g.P.Pmem.region c.create_at.new.memory)
-    (λ st a shows out. c.create_at.ensures.in_order r.0 st a r.1 shows out) d j ended number
+    create_ordered g.P.Pmem.region c.self.view_is c.self.invariant.0 c.in_ok-writable.ensures.runs (g.P.Pmem.region c.create_at.new.memory) c.args.cpu c.in_ok-writable.ensures.writes c.in_ok-spot.spot.directory c.in_ok-spot.spot.inode c.in_ok-spot.ensures.in_use c.in_ok-writable.ensures.cpu _ c.self.invariant.1
+    c.in_ok-spot.spot.name.now names (c.in_ok-spot.ensures.spot (g.P.Pmem.region c.self.inside.memory) names path) c.create_at.ensures.in_order d j ended number
 
 pub returns-in-Err-clause-in_order : goal.returns-in-Err-clause-in_order
 returns-in-Err-clause-in_order g c names d j path ended number =
-    let runs : c.self.inside.stopped ≡ false = ap (λ (m : Mount g.row.P.Denot). m.stopped) c.self.view_is ∙ c.in_ok-writable.ensures.runs in
-    let writes : c.self.inside.read_only ≡ false = ap (λ (m : Mount g.row.P.Denot). m.read_only) c.self.view_is ∙ c.in_ok-writable.ensures.writes in
-    let low : c.args.cpu < c.self.inside.sup.cpus = subst (λ (m : Mount g.row.P.Denot). c.args.cpu < m.sup.cpus) (sym c.self.view_is) c.in_ok-writable.ensures.cpu in
-    let spot : IsSpot (tree_of (g.P.Pmem.region c.self.inside.memory) c.self.inside.rows.items) c.self.inside.rows.items c.self.inside.sup c.args.cpu names (place_in c.self.inside.rows.items c.in_ok-spot.spot.directory) c.in_ok-spot.spot.name.now c.in_ok-spot.spot.inode =
-    subst (λ (s : Super). IsSpot (tree_of (g.P.Pmem.region c.self.inside.memory) c.self.inside.rows.items) c.self.inside.rows.items s c.args.cpu names (place_in c.self.inside.rows.items c.in_ok-spot.spot.directory) c.in_ok-spot.spot.name.now c.in_ok-spot.spot.inode) c.self.invariant.1 (c.in_ok-spot.ensures.spot (g.P.Pmem.region c.self.inside.memory) names path) in
-    let r = row_in_use c.self.inside.rows.items c.in_ok-spot.spot.directory c.in_ok-spot.ensures.in_use in
-    let at : slice_get c.self.inside.rows.items (place_in c.self.inside.rows.items c.in_ok-spot.spot.directory) ≡ Some r.0 = at_place c.self.inside.rows.items c.in_ok-spot.spot.directory ∙ r.1 in
-    create_ordered g.P.Pmem.region c.self.view_is c.self.invariant.0 runs writes (place_in c.self.inside.rows.items c.in_ok-spot.spot.directory) r.0 at c.args.kind c.args.mode c.args.time c.in_ok-spot.spot.inode c.in_ok-spot.spot.name.now c.args.cpu low c.in_ok-spot.ensures.name names spot (g.P.Pmem.region c.create_at.new.memory)
-    (λ st a shows out. c.create_at.ensures.in_order r.0 st a r.1 shows out) d j ended number
+    create_ordered g.P.Pmem.region c.self.view_is c.self.invariant.0 c.in_ok-writable.ensures.runs (g.P.Pmem.region c.create_at.new.memory) c.args.cpu c.in_ok-writable.ensures.writes c.in_ok-spot.spot.directory c.in_ok-spot.spot.inode c.in_ok-spot.ensures.in_use c.in_ok-writable.ensures.cpu _ c.self.invariant.1
+    c.in_ok-spot.spot.name.now names (c.in_ok-spot.ensures.spot (g.P.Pmem.region c.self.inside.memory) names path) c.create_at.ensures.in_order d j ended number
 
 pub returns-in_err-writable-clause-wrote : goal.returns-in_err-writable-clause-wrote
 returns-in_err-writable-clause-wrote g c names d j held path ended number sound = λ at whole away. refl
@@ -387,24 +374,10 @@ returns-in_err-spot-clause-wrote g c names d j held path ended number sound = λ
 
 pub returns-in-Ok-clause-wrote : goal.returns-in-Ok-clause-wrote
 returns-in-Ok-clause-wrote g c names d j held path ended number sound =
-    let runs : c.self.inside.stopped ≡ false = ap (λ (m : Mount g.row.P.Denot). m.stopped) c.self.view_is ∙ c.in_ok-writable.ensures.runs in
-    let writes : c.self.inside.read_only ≡ false = ap (λ (m : Mount g.row.P.Denot). m.read_only) c.self.view_is ∙ c.in_ok-writable.ensures.writes in
-    let low : c.args.cpu < c.self.inside.sup.cpus = subst (λ (m : Mount g.row.P.Denot). c.args.cpu < m.sup.cpus) (sym c.self.view_is) c.in_ok-writable.ensures.cpu in
-    let spot : IsSpot (tree_of (g.P.Pmem.region c.self.inside.memory) c.self.inside.rows.items) c.self.inside.rows.items c.self.inside.sup c.args.cpu names (place_in c.self.inside.rows.items c.in_ok-spot.spot.directory) c.in_ok-spot.spot.name.now c.in_ok-spot.spot.inode =
-    subst (λ (s : Super). IsSpot (tree_of (g.P.Pmem.region c.self.inside.memory) c.self.inside.rows.items) c.self.inside.rows.items s c.args.cpu names (place_in c.self.inside.rows.items c.in_ok-spot.spot.directory) c.in_ok-spot.spot.name.now c.in_ok-spot.spot.inode) c.self.invariant.1 (c.in_ok-spot.ensures.spot (g.P.Pmem.region c.self.inside.memory) names path) in
-    let r = row_in_use c.self.inside.rows.items c.in_ok-spot.spot.directory c.in_ok-spot.ensures.in_use in
-    let at : slice_get c.self.inside.rows.items (place_in c.self.inside.rows.items c.in_ok-spot.spot.directory) ≡ Some r.0 = at_place c.self.inside.rows.items c.in_ok-spot.spot.directory ∙ r.1 in
-    create_stored g.P.Pmem.region c.self.view_is c.self.invariant.0 runs writes (place_in c.self.inside.rows.items c.in_ok-spot.spot.directory) r.0 at c.args.kind c.args.mode c.args.time c.in_ok-spot.spot.inode c.in_ok-spot.spot.name.now c.args.cpu low c.in_ok-spot.ensures.name names spot (g.P.Pmem.region c.create_at.new.memory)
-    (λ st a shows out. c.create_at.ensures.wrote r.0 st a r.1 shows out) d j held ended number sound
+    create_stored g.P.Pmem.region c.self.view_is c.self.invariant.0 c.in_ok-writable.ensures.runs (g.P.Pmem.region c.create_at.new.memory) c.args.cpu c.in_ok-writable.ensures.writes c.in_ok-spot.spot.directory c.in_ok-spot.spot.inode c.in_ok-spot.ensures.in_use c.in_ok-writable.ensures.cpu _ c.self.invariant.1
+    c.in_ok-spot.spot.name.now names (c.in_ok-spot.ensures.spot (g.P.Pmem.region c.self.inside.memory) names path) c.create_at.ensures.wrote d j held ended number sound
 
 pub returns-in-Err-clause-wrote : goal.returns-in-Err-clause-wrote
 returns-in-Err-clause-wrote g c names d j held path ended number sound =
-    let runs : c.self.inside.stopped ≡ false = ap (λ (m : Mount g.row.P.Denot). m.stopped) c.self.view_is ∙ c.in_ok-writable.ensures.runs in
-    let writes : c.self.inside.read_only ≡ false = ap (λ (m : Mount g.row.P.Denot). m.read_only) c.self.view_is ∙ c.in_ok-writable.ensures.writes in
-    let low : c.args.cpu < c.self.inside.sup.cpus = subst (λ (m : Mount g.row.P.Denot). c.args.cpu < m.sup.cpus) (sym c.self.view_is) c.in_ok-writable.ensures.cpu in
-    let spot : IsSpot (tree_of (g.P.Pmem.region c.self.inside.memory) c.self.inside.rows.items) c.self.inside.rows.items c.self.inside.sup c.args.cpu names (place_in c.self.inside.rows.items c.in_ok-spot.spot.directory) c.in_ok-spot.spot.name.now c.in_ok-spot.spot.inode =
-    subst (λ (s : Super). IsSpot (tree_of (g.P.Pmem.region c.self.inside.memory) c.self.inside.rows.items) c.self.inside.rows.items s c.args.cpu names (place_in c.self.inside.rows.items c.in_ok-spot.spot.directory) c.in_ok-spot.spot.name.now c.in_ok-spot.spot.inode) c.self.invariant.1 (c.in_ok-spot.ensures.spot (g.P.Pmem.region c.self.inside.memory) names path) in
-    let r = row_in_use c.self.inside.rows.items c.in_ok-spot.spot.directory c.in_ok-spot.ensures.in_use in
-    let at : slice_get c.self.inside.rows.items (place_in c.self.inside.rows.items c.in_ok-spot.spot.directory) ≡ Some r.0 = at_place c.self.inside.rows.items c.in_ok-spot.spot.directory ∙ r.1 in
-    create_stored g.P.Pmem.region c.self.view_is c.self.invariant.0 runs writes (place_in c.self.inside.rows.items c.in_ok-spot.spot.directory) r.0 at c.args.kind c.args.mode c.args.time c.in_ok-spot.spot.inode c.in_ok-spot.spot.name.now c.args.cpu low c.in_ok-spot.ensures.name names spot (g.P.Pmem.region c.create_at.new.memory)
-    (λ st a shows out. c.create_at.ensures.wrote r.0 st a r.1 shows out) d j held ended number sound
+    create_stored g.P.Pmem.region c.self.view_is c.self.invariant.0 c.in_ok-writable.ensures.runs (g.P.Pmem.region c.create_at.new.memory) c.args.cpu c.in_ok-writable.ensures.writes c.in_ok-spot.spot.directory c.in_ok-spot.spot.inode c.in_ok-spot.ensures.in_use c.in_ok-writable.ensures.cpu _ c.self.invariant.1
+    c.in_ok-spot.spot.name.now names (c.in_ok-spot.ensures.spot (g.P.Pmem.region c.self.inside.memory) names path) c.create_at.ensures.wrote d j held ended number sound

@@ -24,7 +24,7 @@ use Rattle.nv_paths.specs.Seen.{LeadsTo, tree_of}
 use Rattle.nv_region.specs.Stops.{LeavesOnly}
 use Rattle.nv_calls.specs.World.{world_of}
 use Rattle.nv_calls.proofs.Stopped.{call_stays, settled_or_stopped}
-use Rattle.nv_calls.proofs.StoppedMoves.{rename_left, rename_ordered, rename_stored}
+use Rattle.nv_calls.proofs.StoppedMoves.{rename_left}
 use Rattle.nv_calls.proofs.CreateCall.{kept_or_stopped, unchanged_rows}
 use Rattle.nv_paths.proofs.CreateTests.{long_text}
 use Rattle.nv_calls.proofs.Kept.{rows_rise}
@@ -38,6 +38,7 @@ use Rattle.nv_calls.proofs.RowNumbers.{row_commits}
 use Rattle.nv_calls.proofs.SetAttr.{late_reply, not_stop}
 use Rattle.nv_calls.proofs.Tests.{early_reply, if_err, writing_goes_on}
 use Rattle.nv_paths.proofs.Walks.{longer}
+use Rattle.nv_calls.proofs.TwoWords.{rename_ordered, rename_stored, within_stored}
 use Rattle.nv_calls.proofs.fs.Fs.rename.Goals as goal
 use Rattle.nv_calls.proofs.FrontsKept.{moved_front}
 
@@ -263,33 +264,13 @@ returns-in_err-moved-clause-in_order g c names others i d e node held h path oth
 
 pub returns-in-Ok-clause-in_order : goal.returns-in-Ok-clause-in_order
 returns-in-Ok-clause-in_order g c names others i d e node held h path other_path led walked ended differ sound is =
-    let runs : c.self.inside.stopped ≡ false = ap (λ (m : Mount g.row.P.Denot). m.stopped) c.self.view_is ∙ c.in_ok-writable.ensures.runs in
-    let writes : c.self.inside.read_only ≡ false = ap (λ (m : Mount g.row.P.Denot). m.read_only) c.self.view_is ∙ c.in_ok-writable.ensures.writes in
-    let long = long_text c.args.new.now c.in_ok-moved.ensures.paths.1 in
-    let v = longer c.args.new.now others other_path long in
-    let others_path : IsPath c.args.new.now (v.0 ∷ v.1) = subst (IsPath c.args.new.now) v.2 other_path in
-    let from = row_in_use c.self.inside.rows.items c.in_ok-moved.moved.from.directory c.in_ok-moved.ensures.from in
-    let to = row_in_use c.self.inside.rows.items c.in_ok-moved.moved.directory c.in_ok-moved.ensures.directory in
-    let inode = row_in_use c.self.inside.rows.items c.in_ok-moved.moved.from.target c.in_ok-moved.ensures.target in
-    let ended_there : walk (tree_of (g.P.Pmem.region c.args.self.now.memory) c.args.self.now.rows) 1 (v.0 ∷ v.1) ≡ Ok e = subst (λ (xs : List (List ℕ)). walk (tree_of (g.P.Pmem.region c.args.self.now.memory) c.args.self.now.rows) 1 xs ≡ Ok e) v.2 ended in
-    rename_ordered g.P.Pmem.region c.self.view_is c.self.invariant.0 runs writes c.in_ok-moved.moved.from.directory c.in_ok-moved.moved.from.target c.in_ok-moved.moved.directory from.0 inode.0 to.0 from.1 inode.1 to.1 c.in_ok-moved.moved.from.name.now c.in_ok-moved.moved.name.now c.args.cpu c.args.time c.in_ok-moved.ensures.former c.in_ok-moved.ensures.name
-    names v.0 v.1 (c.in_ok-moved.ensures.spot (g.P.Pmem.region c.self.inside.memory) names (v.0 ∷ v.1) path others_path) (g.P.Pmem.region c.move_at.new.memory)
-    (λ st a b here other apart. c.move_at.ensures.in_order from.0 to.0 inode.0 st a b from.1 to.1 inode.1 here other apart) i d e node held h led walked ended_there differ sound is
+    rename_ordered g.P.Pmem.region c.self.view_is c.self.invariant.0 c.in_ok-writable.ensures.runs (g.P.Pmem.region c.move_at.new.memory) c.args.cpu c.in_ok-moved.moved.from.directory c.in_ok-moved.moved.directory c.in_ok-moved.ensures.from c.in_ok-moved.ensures.directory c.in_ok-moved.moved.from.target c.in_ok-moved.ensures.target
+    c.args.time c.in_ok-moved.moved.from.name.now c.in_ok-moved.moved.name.now names others (c.in_ok-moved.ensures.spot (g.P.Pmem.region c.self.inside.memory) names others path other_path) c.move_at.ensures.in_order i d e node held h led walked ended differ sound is
 
 pub returns-in-Err-clause-in_order : goal.returns-in-Err-clause-in_order
 returns-in-Err-clause-in_order g c names others i d e node held h path other_path led walked ended differ sound is =
-    let runs : c.self.inside.stopped ≡ false = ap (λ (m : Mount g.row.P.Denot). m.stopped) c.self.view_is ∙ c.in_ok-writable.ensures.runs in
-    let writes : c.self.inside.read_only ≡ false = ap (λ (m : Mount g.row.P.Denot). m.read_only) c.self.view_is ∙ c.in_ok-writable.ensures.writes in
-    let long = long_text c.args.new.now c.in_ok-moved.ensures.paths.1 in
-    let v = longer c.args.new.now others other_path long in
-    let others_path : IsPath c.args.new.now (v.0 ∷ v.1) = subst (IsPath c.args.new.now) v.2 other_path in
-    let from = row_in_use c.self.inside.rows.items c.in_ok-moved.moved.from.directory c.in_ok-moved.ensures.from in
-    let to = row_in_use c.self.inside.rows.items c.in_ok-moved.moved.directory c.in_ok-moved.ensures.directory in
-    let inode = row_in_use c.self.inside.rows.items c.in_ok-moved.moved.from.target c.in_ok-moved.ensures.target in
-    let ended_there : walk (tree_of (g.P.Pmem.region c.args.self.now.memory) c.args.self.now.rows) 1 (v.0 ∷ v.1) ≡ Ok e = subst (λ (xs : List (List ℕ)). walk (tree_of (g.P.Pmem.region c.args.self.now.memory) c.args.self.now.rows) 1 xs ≡ Ok e) v.2 ended in
-    rename_ordered g.P.Pmem.region c.self.view_is c.self.invariant.0 runs writes c.in_ok-moved.moved.from.directory c.in_ok-moved.moved.from.target c.in_ok-moved.moved.directory from.0 inode.0 to.0 from.1 inode.1 to.1 c.in_ok-moved.moved.from.name.now c.in_ok-moved.moved.name.now c.args.cpu c.args.time c.in_ok-moved.ensures.former c.in_ok-moved.ensures.name
-    names v.0 v.1 (c.in_ok-moved.ensures.spot (g.P.Pmem.region c.self.inside.memory) names (v.0 ∷ v.1) path others_path) (g.P.Pmem.region c.move_at.new.memory)
-    (λ st a b here other apart. c.move_at.ensures.in_order from.0 to.0 inode.0 st a b from.1 to.1 inode.1 here other apart) i d e node held h led walked ended_there differ sound is
+    rename_ordered g.P.Pmem.region c.self.view_is c.self.invariant.0 c.in_ok-writable.ensures.runs (g.P.Pmem.region c.move_at.new.memory) c.args.cpu c.in_ok-moved.moved.from.directory c.in_ok-moved.moved.directory c.in_ok-moved.ensures.from c.in_ok-moved.ensures.directory c.in_ok-moved.moved.from.target c.in_ok-moved.ensures.target
+    c.args.time c.in_ok-moved.moved.from.name.now c.in_ok-moved.moved.name.now names others (c.in_ok-moved.ensures.spot (g.P.Pmem.region c.self.inside.memory) names others path other_path) c.move_at.ensures.in_order i d e node held h led walked ended differ sound is
 
 pub returns-in_err-writable-clause-wrote : goal.returns-in_err-writable-clause-wrote
 returns-in_err-writable-clause-wrote g c names others i d e node held path other_path led walked ended differ sound = λ at whole away. refl
@@ -299,30 +280,26 @@ returns-in_err-moved-clause-wrote g c names others i d e node held path other_pa
 
 pub returns-in-Ok-clause-wrote : goal.returns-in-Ok-clause-wrote
 returns-in-Ok-clause-wrote g c names others i d e node held path other_path led walked ended differ sound =
-    let runs : c.self.inside.stopped ≡ false = ap (λ (m : Mount g.row.P.Denot). m.stopped) c.self.view_is ∙ c.in_ok-writable.ensures.runs in
-    let writes : c.self.inside.read_only ≡ false = ap (λ (m : Mount g.row.P.Denot). m.read_only) c.self.view_is ∙ c.in_ok-writable.ensures.writes in
-    let long = long_text c.args.new.now c.in_ok-moved.ensures.paths.1 in
-    let v = longer c.args.new.now others other_path long in
-    let others_path : IsPath c.args.new.now (v.0 ∷ v.1) = subst (IsPath c.args.new.now) v.2 other_path in
-    let from = row_in_use c.self.inside.rows.items c.in_ok-moved.moved.from.directory c.in_ok-moved.ensures.from in
-    let to = row_in_use c.self.inside.rows.items c.in_ok-moved.moved.directory c.in_ok-moved.ensures.directory in
-    let inode = row_in_use c.self.inside.rows.items c.in_ok-moved.moved.from.target c.in_ok-moved.ensures.target in
-    let ended_there : walk (tree_of (g.P.Pmem.region c.args.self.now.memory) c.args.self.now.rows) 1 (v.0 ∷ v.1) ≡ Ok e = subst (λ (xs : List (List ℕ)). walk (tree_of (g.P.Pmem.region c.args.self.now.memory) c.args.self.now.rows) 1 xs ≡ Ok e) v.2 ended in
-    rename_stored g.P.Pmem.region c.self.view_is c.self.invariant.0 runs writes c.in_ok-moved.moved.from.directory c.in_ok-moved.moved.from.target c.in_ok-moved.moved.directory from.0 inode.0 to.0 from.1 inode.1 to.1 c.in_ok-moved.moved.from.name.now c.in_ok-moved.moved.name.now c.args.cpu c.args.time c.in_ok-moved.ensures.former c.in_ok-moved.ensures.name
-    names v.0 v.1 (c.in_ok-moved.ensures.spot (g.P.Pmem.region c.self.inside.memory) names (v.0 ∷ v.1) path others_path) (g.P.Pmem.region c.move_at.new.memory)
-    (λ st a b here other apart. c.move_at.ensures.wrote from.0 to.0 inode.0 st a b from.1 to.1 inode.1 here other apart) i d e node held led walked ended_there differ sound
+    rename_stored g.P.Pmem.region c.self.view_is c.self.invariant.0 c.in_ok-writable.ensures.runs (g.P.Pmem.region c.move_at.new.memory) c.args.cpu c.in_ok-moved.moved.from.directory c.in_ok-moved.moved.directory c.in_ok-moved.ensures.from c.in_ok-moved.ensures.directory c.in_ok-moved.moved.from.target c.in_ok-moved.ensures.target
+    c.args.time c.in_ok-moved.moved.from.name.now c.in_ok-moved.moved.name.now names others (c.in_ok-moved.ensures.spot (g.P.Pmem.region c.self.inside.memory) names others path other_path) c.move_at.ensures.wrote d e held walked ended differ sound
 
 pub returns-in-Err-clause-wrote : goal.returns-in-Err-clause-wrote
 returns-in-Err-clause-wrote g c names others i d e node held path other_path led walked ended differ sound =
-    let runs : c.self.inside.stopped ≡ false = ap (λ (m : Mount g.row.P.Denot). m.stopped) c.self.view_is ∙ c.in_ok-writable.ensures.runs in
-    let writes : c.self.inside.read_only ≡ false = ap (λ (m : Mount g.row.P.Denot). m.read_only) c.self.view_is ∙ c.in_ok-writable.ensures.writes in
-    let long = long_text c.args.new.now c.in_ok-moved.ensures.paths.1 in
-    let v = longer c.args.new.now others other_path long in
-    let others_path : IsPath c.args.new.now (v.0 ∷ v.1) = subst (IsPath c.args.new.now) v.2 other_path in
-    let from = row_in_use c.self.inside.rows.items c.in_ok-moved.moved.from.directory c.in_ok-moved.ensures.from in
-    let to = row_in_use c.self.inside.rows.items c.in_ok-moved.moved.directory c.in_ok-moved.ensures.directory in
-    let inode = row_in_use c.self.inside.rows.items c.in_ok-moved.moved.from.target c.in_ok-moved.ensures.target in
-    let ended_there : walk (tree_of (g.P.Pmem.region c.args.self.now.memory) c.args.self.now.rows) 1 (v.0 ∷ v.1) ≡ Ok e = subst (λ (xs : List (List ℕ)). walk (tree_of (g.P.Pmem.region c.args.self.now.memory) c.args.self.now.rows) 1 xs ≡ Ok e) v.2 ended in
-    rename_stored g.P.Pmem.region c.self.view_is c.self.invariant.0 runs writes c.in_ok-moved.moved.from.directory c.in_ok-moved.moved.from.target c.in_ok-moved.moved.directory from.0 inode.0 to.0 from.1 inode.1 to.1 c.in_ok-moved.moved.from.name.now c.in_ok-moved.moved.name.now c.args.cpu c.args.time c.in_ok-moved.ensures.former c.in_ok-moved.ensures.name
-    names v.0 v.1 (c.in_ok-moved.ensures.spot (g.P.Pmem.region c.self.inside.memory) names (v.0 ∷ v.1) path others_path) (g.P.Pmem.region c.move_at.new.memory)
-    (λ st a b here other apart. c.move_at.ensures.wrote from.0 to.0 inode.0 st a b from.1 to.1 inode.1 here other apart) i d e node held led walked ended_there differ sound
+    rename_stored g.P.Pmem.region c.self.view_is c.self.invariant.0 c.in_ok-writable.ensures.runs (g.P.Pmem.region c.move_at.new.memory) c.args.cpu c.in_ok-moved.moved.from.directory c.in_ok-moved.moved.directory c.in_ok-moved.ensures.from c.in_ok-moved.ensures.directory c.in_ok-moved.moved.from.target c.in_ok-moved.ensures.target
+    c.args.time c.in_ok-moved.moved.from.name.now c.in_ok-moved.moved.name.now names others (c.in_ok-moved.ensures.spot (g.P.Pmem.region c.self.inside.memory) names others path other_path) c.move_at.ensures.wrote d e held walked ended differ sound
+
+pub returns-in_err-writable-clause-within_wrote : goal.returns-in_err-writable-clause-within_wrote
+returns-in_err-writable-clause-within_wrote g c names others d held path other_path walked ended sound = λ at whole away. refl
+
+pub returns-in_err-moved-clause-within_wrote : goal.returns-in_err-moved-clause-within_wrote
+returns-in_err-moved-clause-within_wrote g c names others d held path other_path walked ended sound = λ at whole away. refl
+
+pub returns-in-Ok-clause-within_wrote : goal.returns-in-Ok-clause-within_wrote
+returns-in-Ok-clause-within_wrote g c names others d held path other_path walked ended sound =
+    within_stored g.P.Pmem.region c.self.view_is c.self.invariant.0 c.in_ok-writable.ensures.runs (g.P.Pmem.region c.move_at.new.memory) c.args.cpu c.in_ok-moved.moved.from.directory c.in_ok-moved.moved.directory c.in_ok-moved.ensures.from c.in_ok-moved.ensures.directory c.in_ok-moved.moved.from.target c.in_ok-moved.ensures.target
+    c.args.time c.in_ok-moved.moved.from.name.now c.in_ok-moved.moved.name.now names others (c.in_ok-moved.ensures.spot (g.P.Pmem.region c.self.inside.memory) names others path other_path) c.move_at.ensures.within_wrote d held walked ended sound
+
+pub returns-in-Err-clause-within_wrote : goal.returns-in-Err-clause-within_wrote
+returns-in-Err-clause-within_wrote g c names others d held path other_path walked ended sound =
+    within_stored g.P.Pmem.region c.self.view_is c.self.invariant.0 c.in_ok-writable.ensures.runs (g.P.Pmem.region c.move_at.new.memory) c.args.cpu c.in_ok-moved.moved.from.directory c.in_ok-moved.moved.directory c.in_ok-moved.ensures.from c.in_ok-moved.ensures.directory c.in_ok-moved.moved.from.target c.in_ok-moved.ensures.target
+    c.args.time c.in_ok-moved.moved.from.name.now c.in_ok-moved.moved.name.now names others (c.in_ok-moved.ensures.spot (g.P.Pmem.region c.self.inside.memory) names others path other_path) c.move_at.ensures.within_wrote d held walked ended sound

@@ -23,7 +23,7 @@ use Rattle.nv_calls.specs.RemoveCalls.{ShowsRemoved}
 use Rattle.nv_paths.specs.Seen.{LeadsTo, tree_of}
 use Rattle.nv_calls.specs.World.{world_of}
 use Rattle.nv_calls.proofs.Stopped.{call_stays, settled_or_stopped}
-use Rattle.nv_calls.proofs.StoppedRemovals.{rmdir_left, rmdir_ordered, rmdir_stored}
+use Rattle.nv_calls.proofs.StoppedRemovals.{rmdir_left}
 use Rattle.nv_calls.proofs.CreateCall.{kept_or_stopped, unchanged_rows}
 use Rattle.nv_tree.proofs.Replies.{refused_by}
 use Rattle.nv_calls.proofs.OneRow.{stands_right}
@@ -35,6 +35,9 @@ use Rattle.nv_calls.proofs.RowChange.{same_mount}
 use Rattle.nv_calls.proofs.SetAttr.{late_reply, not_stop}
 use Rattle.nv_calls.proofs.Tests.{early_reply, if_err, writing_goes_on}
 use Rattle.nv_calls.proofs.Tests.{space_allows, space_refuses}
+use Rattle.nv_super.specs.Layout.{slot_address}
+use Rattle.nv_steps.specs.Stores.{one_less}
+use Rattle.nv_calls.proofs.TwoWords.{gone_ordered, gone_stored}
 use Rattle.nv_calls.proofs.fs.Fs.rmdir.Goals as goal
 use Rattle.nv_calls.proofs.FrontsKept.{cut_front}
 
@@ -239,23 +242,15 @@ returns-in_err-named-clause-in_order g c names k d node held h path led ended so
 
 pub returns-in-Ok-clause-in_order : goal.returns-in-Ok-clause-in_order
 returns-in-Ok-clause-in_order g c names k d node held h path led ended sound is =
-    let runs : c.self.inside.stopped ≡ false = ap (λ (m : Mount g.row.P.Denot). m.stopped) c.self.view_is ∙ c.in_ok-writable.ensures.runs in
-    let writes : c.self.inside.read_only ≡ false = ap (λ (m : Mount g.row.P.Denot). m.read_only) c.self.view_is ∙ c.in_ok-writable.ensures.writes in
-    let r = row_in_use c.self.inside.rows.items c.in_ok-named.named.directory c.in_ok-named.ensures.directory in
-    let i = row_in_use c.self.inside.rows.items c.in_ok-named.named.target c.in_ok-named.ensures.target in
-    rmdir_ordered g.P.Pmem.region c.self.view_is c.self.invariant.0 runs writes c.in_ok-named.named.directory c.in_ok-named.named.target r.0 i.0 r.1 i.1 c.in_ok-named.named.name.now c.args.cpu c.args.time c.in_ok-named.ensures.name names
-    (c.in_ok-named.ensures.spot (g.P.Pmem.region c.self.inside.memory) names path) (g.P.Pmem.region c.remove_named.new.memory)
-    (λ st a here. c.remove_named.ensures.in_order r.0 i.0 st a r.1 i.1 here) k d node held h led ended sound is
+    gone_ordered g.P.Pmem.region c.self.view_is c.self.invariant.0 c.in_ok-writable.ensures.runs (g.P.Pmem.region c.remove_named.new.memory) c.args.cpu c.in_ok-named.named.directory c.in_ok-named.named.target c.in_ok-named.ensures.directory c.in_ok-named.ensures.target
+    c.args.time c.in_ok-named.named.name.now names (c.in_ok-named.ensures.spot (g.P.Pmem.region c.self.inside.memory) names path) (λ count. Unit {0}) slot_address
+    (λ row gone st h f at gone_at here there any. c.remove_named.ensures.in_order row gone st h at gone_at here) k d node held h led ended sound is tt
 
 pub returns-in-Err-clause-in_order : goal.returns-in-Err-clause-in_order
 returns-in-Err-clause-in_order g c names k d node held h path led ended sound is =
-    let runs : c.self.inside.stopped ≡ false = ap (λ (m : Mount g.row.P.Denot). m.stopped) c.self.view_is ∙ c.in_ok-writable.ensures.runs in
-    let writes : c.self.inside.read_only ≡ false = ap (λ (m : Mount g.row.P.Denot). m.read_only) c.self.view_is ∙ c.in_ok-writable.ensures.writes in
-    let r = row_in_use c.self.inside.rows.items c.in_ok-named.named.directory c.in_ok-named.ensures.directory in
-    let i = row_in_use c.self.inside.rows.items c.in_ok-named.named.target c.in_ok-named.ensures.target in
-    rmdir_ordered g.P.Pmem.region c.self.view_is c.self.invariant.0 runs writes c.in_ok-named.named.directory c.in_ok-named.named.target r.0 i.0 r.1 i.1 c.in_ok-named.named.name.now c.args.cpu c.args.time c.in_ok-named.ensures.name names
-    (c.in_ok-named.ensures.spot (g.P.Pmem.region c.self.inside.memory) names path) (g.P.Pmem.region c.remove_named.new.memory)
-    (λ st a here. c.remove_named.ensures.in_order r.0 i.0 st a r.1 i.1 here) k d node held h led ended sound is
+    gone_ordered g.P.Pmem.region c.self.view_is c.self.invariant.0 c.in_ok-writable.ensures.runs (g.P.Pmem.region c.remove_named.new.memory) c.args.cpu c.in_ok-named.named.directory c.in_ok-named.named.target c.in_ok-named.ensures.directory c.in_ok-named.ensures.target
+    c.args.time c.in_ok-named.named.name.now names (c.in_ok-named.ensures.spot (g.P.Pmem.region c.self.inside.memory) names path) (λ count. Unit {0}) slot_address
+    (λ row gone st h f at gone_at here there any. c.remove_named.ensures.in_order row gone st h at gone_at here) k d node held h led ended sound is tt
 
 pub returns-in_err-writable-clause-wrote : goal.returns-in_err-writable-clause-wrote
 returns-in_err-writable-clause-wrote g c names k d node held path led ended sound = λ at whole away. refl
@@ -265,20 +260,12 @@ returns-in_err-named-clause-wrote g c names k d node held path led ended sound =
 
 pub returns-in-Ok-clause-wrote : goal.returns-in-Ok-clause-wrote
 returns-in-Ok-clause-wrote g c names k d node held path led ended sound =
-    let runs : c.self.inside.stopped ≡ false = ap (λ (m : Mount g.row.P.Denot). m.stopped) c.self.view_is ∙ c.in_ok-writable.ensures.runs in
-    let writes : c.self.inside.read_only ≡ false = ap (λ (m : Mount g.row.P.Denot). m.read_only) c.self.view_is ∙ c.in_ok-writable.ensures.writes in
-    let r = row_in_use c.self.inside.rows.items c.in_ok-named.named.directory c.in_ok-named.ensures.directory in
-    let i = row_in_use c.self.inside.rows.items c.in_ok-named.named.target c.in_ok-named.ensures.target in
-    rmdir_stored g.P.Pmem.region c.self.view_is c.self.invariant.0 runs writes c.in_ok-named.named.directory c.in_ok-named.named.target r.0 i.0 r.1 i.1 c.in_ok-named.named.name.now c.args.cpu c.args.time c.in_ok-named.ensures.name names
-    (c.in_ok-named.ensures.spot (g.P.Pmem.region c.self.inside.memory) names path) (g.P.Pmem.region c.remove_named.new.memory)
-    (λ st a here. c.remove_named.ensures.wrote r.0 i.0 st a r.1 i.1 here) k d node held led ended sound
+    gone_stored g.P.Pmem.region c.self.view_is c.self.invariant.0 c.in_ok-writable.ensures.runs (g.P.Pmem.region c.remove_named.new.memory) c.args.cpu c.in_ok-named.named.directory c.in_ok-named.named.target c.in_ok-named.ensures.directory c.in_ok-named.ensures.target
+    c.args.time c.in_ok-named.named.name.now names (c.in_ok-named.ensures.spot (g.P.Pmem.region c.self.inside.memory) names path) (λ count. Unit {0}) (λ t. one_less t c.args.cpu)
+    (λ row gone st h f at gone_at here there any. c.remove_named.ensures.wrote row gone st h at gone_at here) k d node held led ended sound tt
 
 pub returns-in-Err-clause-wrote : goal.returns-in-Err-clause-wrote
 returns-in-Err-clause-wrote g c names k d node held path led ended sound =
-    let runs : c.self.inside.stopped ≡ false = ap (λ (m : Mount g.row.P.Denot). m.stopped) c.self.view_is ∙ c.in_ok-writable.ensures.runs in
-    let writes : c.self.inside.read_only ≡ false = ap (λ (m : Mount g.row.P.Denot). m.read_only) c.self.view_is ∙ c.in_ok-writable.ensures.writes in
-    let r = row_in_use c.self.inside.rows.items c.in_ok-named.named.directory c.in_ok-named.ensures.directory in
-    let i = row_in_use c.self.inside.rows.items c.in_ok-named.named.target c.in_ok-named.ensures.target in
-    rmdir_stored g.P.Pmem.region c.self.view_is c.self.invariant.0 runs writes c.in_ok-named.named.directory c.in_ok-named.named.target r.0 i.0 r.1 i.1 c.in_ok-named.named.name.now c.args.cpu c.args.time c.in_ok-named.ensures.name names
-    (c.in_ok-named.ensures.spot (g.P.Pmem.region c.self.inside.memory) names path) (g.P.Pmem.region c.remove_named.new.memory)
-    (λ st a here. c.remove_named.ensures.wrote r.0 i.0 st a r.1 i.1 here) k d node held led ended sound
+    gone_stored g.P.Pmem.region c.self.view_is c.self.invariant.0 c.in_ok-writable.ensures.runs (g.P.Pmem.region c.remove_named.new.memory) c.args.cpu c.in_ok-named.named.directory c.in_ok-named.named.target c.in_ok-named.ensures.directory c.in_ok-named.ensures.target
+    c.args.time c.in_ok-named.named.name.now names (c.in_ok-named.ensures.spot (g.P.Pmem.region c.self.inside.memory) names path) (λ count. Unit {0}) (λ t. one_less t c.args.cpu)
+    (λ row gone st h f at gone_at here there any. c.remove_named.ensures.wrote row gone st h at gone_at here) k d node held led ended sound tt

@@ -31,6 +31,7 @@ use Rattle.nv_calls.proofs.TwoRows.{last_used}
 use Rattle.nv_calls.proofs.Asked.{low_bits, low_pools}
 use Rattle.nv_calls.proofs.Early.{good_reply, same_fuse}
 use Rattle.nv_calls.proofs.TextPaths.{stat_path}
+use Rattle.nv_calls.proofs.Stores.{path_stores}
 use Rattle.nv_calls.proofs.fs.Fs.set_attr.Goals as goal
 
 pub give_back-requires : goal.give_back-requires
@@ -334,3 +335,19 @@ returns-in-Ok-clause-bad_text g c bad = absurd (let said = text_says c.args.path
 
 pub returns-in-Err-clause-bad_text : goal.returns-in-Err-clause-bad_text
 returns-in-Err-clause-bad_text g c bad = absurd (let said = text_says c.args.path.now in let path = stat_path (tree_of (g.P.Pmem.region c.self.inside.memory) c.self.inside.rows.items) c.args.path.now said.0 said.1 (c.in_ok-inode.ensures.refused (g.P.Pmem.region c.self.inside.memory) said.0 said.1) in bad path.0 path.1)
+
+pub returns-in_err-writable-clause-wrote : goal.returns-in_err-writable-clause-wrote
+returns-in_err-writable-clause-wrote g c names i node held path led sound = λ at whole away. refl
+
+pub returns-in_err-inode-clause-wrote : goal.returns-in_err-inode-clause-wrote
+returns-in_err-inode-clause-wrote g c names i node held path led sound = λ at whole away. refl
+
+pub returns-in-Ok-clause-wrote : goal.returns-in-Ok-clause-wrote
+returns-in-Ok-clause-wrote g c names i node held path led sound =
+    path_stores g.P.Pmem.region c.self.view_is c.self.invariant.0 c.in_ok-writable.ensures.runs (g.P.Pmem.region c.change_attributes-changed.new.memory) c.in_ok-inode.field-0.now.inode c.lend-row.result c.lend-row.ensures.row names c.in_ok-inode.field-0.now c.in_ok-inode.ensures.held (c.in_ok-inode.ensures.row (g.P.Pmem.region c.self.inside.memory) names path)
+    (λ st h shows. c.change_attributes-changed.ensures.wrote st h shows) i node held led sound
+
+pub returns-in-Err-clause-wrote : goal.returns-in-Err-clause-wrote
+returns-in-Err-clause-wrote g c names i node held path led sound =
+    path_stores g.P.Pmem.region c.self.view_is c.self.invariant.0 c.in_ok-writable.ensures.runs (g.P.Pmem.region c.change_attributes-changed.new.memory) c.in_ok-inode.field-0.now.inode c.lend-row.result c.lend-row.ensures.row names c.in_ok-inode.field-0.now c.in_ok-inode.ensures.held (c.in_ok-inode.ensures.row (g.P.Pmem.region c.self.inside.memory) names path)
+    (λ st h shows. c.change_attributes-changed.ensures.wrote st h shows) i node held led sound

@@ -1,4 +1,4 @@
-use Rattle.std.proofs.Common.{◌≡◌, ◌∙◌, ◌≤◌, ◌++◌, ◌∷◌, [], List, ℕ, Some, false, true, inr, ap, set, subst, sym}
+use Rattle.std.proofs.Common.{◌≡◌, ◌∙◌, ◌≤◌, ◌++◌, ◌∷◌, [], List, ℕ, Some, false, true, inr, ap, set, subst, sym, refl}
 use Rattle.std.proofs.lemmas.Result.{err_from_is_err_and}
 use Rattle.std.proofs.lemmas.Option.{same_Some}
 use Rattle.nv_alloc.specs.Taking.{all_blocks}
@@ -30,6 +30,7 @@ use Rattle.nv_calls.proofs.SizeKept.{blocks_same, bytes_after, can_resize, log_a
 use Rattle.nv_calls.proofs.Tests.{early_reply, if_err, writing_goes_on}
 use Rattle.nv_calls.proofs.TwoRows.{last_used}
 use Rattle.nv_calls.proofs.TextPaths.{front_path}
+use Rattle.nv_calls.proofs.Stores.{path_stores}
 use Rattle.nv_calls.proofs.fs.Fs.set_size.Goals as goal
 
 pub give_back-requires : goal.give_back-requires
@@ -229,3 +230,19 @@ returns-in-Ok-clause-bad_text g c bad = absurd (let said = text_says c.args.path
 
 pub returns-in-Err-clause-bad_text : goal.returns-in-Err-clause-bad_text
 returns-in-Err-clause-bad_text g c bad = absurd (let said = text_says c.args.path.now in let path = front_path (tree_of (g.P.Pmem.region c.self.inside.memory) c.self.inside.rows.items) c.args.path.now said.0 c.args.size said.1 (c.in_ok-inode.ensures.refused (g.P.Pmem.region c.self.inside.memory) said.0 said.1) in bad path.0 path.1)
+
+pub returns-in_err-writable-clause-wrote : goal.returns-in_err-writable-clause-wrote
+returns-in_err-writable-clause-wrote g c names i node held path led sound = λ at whole away. refl
+
+pub returns-in_err-inode-clause-wrote : goal.returns-in_err-inode-clause-wrote
+returns-in_err-inode-clause-wrote g c names i node held path led sound = λ at whole away. refl
+
+pub returns-in-Ok-clause-wrote : goal.returns-in-Ok-clause-wrote
+returns-in-Ok-clause-wrote g c names i node held path led sound =
+    path_stores g.P.Pmem.region c.self.view_is c.self.invariant.0 c.in_ok-writable.ensures.runs (g.P.Pmem.region c.resize-resized.new.memory) c.in_ok-inode.field-0.now.inode c.lend-row.result c.lend-row.ensures.row names c.in_ok-inode.field-0.now c.in_ok-inode.ensures.held (c.in_ok-inode.ensures.row (g.P.Pmem.region c.self.inside.memory) names path)
+    (λ st h shows. c.resize-resized.ensures.wrote st h shows) i node held led sound
+
+pub returns-in-Err-clause-wrote : goal.returns-in-Err-clause-wrote
+returns-in-Err-clause-wrote g c names i node held path led sound =
+    path_stores g.P.Pmem.region c.self.view_is c.self.invariant.0 c.in_ok-writable.ensures.runs (g.P.Pmem.region c.resize-resized.new.memory) c.in_ok-inode.field-0.now.inode c.lend-row.result c.lend-row.ensures.row names c.in_ok-inode.field-0.now c.in_ok-inode.ensures.held (c.in_ok-inode.ensures.row (g.P.Pmem.region c.self.inside.memory) names path)
+    (λ st h shows. c.resize-resized.ensures.wrote st h shows) i node held led sound

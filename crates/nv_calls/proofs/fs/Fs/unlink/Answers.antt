@@ -1,4 +1,4 @@
-use Rattle.std.proofs.Common.{◌≡◌, ◌∙◌, ◌<◌, ◌-◌, ◌++◌, ◌∷◌, [], List, ℕ, Some, None, Ok, false, true, inr, ap, slice_get, subst, sym, inl, refl}
+use Rattle.std.proofs.Common.{◌≡◌, ◌∙◌, ◌<◌, ◌≤◌, ◌-◌, ◌++◌, ◌∷◌, [], List, ℕ, Some, None, Ok, false, true, inr, ap, slice_get, subst, sym, inl, refl}
 use Rattle.std.proofs.lemmas.Result.{err_from_is_err_and}
 use Rattle.nv_super.specs.declared.kind.Kind.TheVariants.{File}
 use Rattle.nv_entry.specs.declared.entry.Operation.TheVariants.{Remove}
@@ -24,7 +24,7 @@ use Rattle.nv_calls.specs.AtPlaces.{release_blocks}
 use Rattle.nv_paths.specs.Seen.{LeadsTo, tree_of}
 use Rattle.nv_calls.specs.World.{world_of}
 use Rattle.nv_calls.proofs.Stopped.{call_stays, settled_or_stopped}
-use Rattle.nv_calls.proofs.StoppedRemovals.{unlink_left, last_ordered, more_ordered, more_stored, last_stored}
+use Rattle.nv_calls.proofs.StoppedRemovals.{unlink_left}
 use Rattle.nv_calls.proofs.CreateCall.{kept_or_stopped, unchanged_rows}
 use Rattle.nv_calls.proofs.Kept.{rows_rise}
 use Rattle.nv_tree.proofs.Replies.{refused_by}
@@ -39,6 +39,10 @@ use Rattle.nv_paths.proofs.RemoveTests.{unlink_goes_on, unlink_refuses}
 use Rattle.nv_calls.proofs.RowChange.{same_mount}
 use Rattle.nv_calls.proofs.SetAttr.{late_reply, not_stop}
 use Rattle.nv_calls.proofs.Tests.{early_reply, if_err, writing_goes_on}
+use Rattle.nv_super.specs.Layout.{slot_address}
+use Rattle.nv_steps.specs.InOrder.{tail_address}
+use Rattle.nv_steps.specs.Stores.{one_less, two_logs}
+use Rattle.nv_calls.proofs.TwoWords.{gone_ordered, gone_stored}
 use Rattle.nv_calls.proofs.fs.Fs.unlink.Goals as goal
 use Rattle.nv_calls.proofs.FrontsKept.{released_front}
 
@@ -281,23 +285,13 @@ returns-in_err-named-clause-in_order g c names k d node held h path led ended so
 
 pub returns-in-Ok-clause-in_order : goal.returns-in-Ok-clause-in_order
 returns-in-Ok-clause-in_order g c names k d node held h path led ended sound is some =
-    let runs : c.self.inside.stopped ≡ false = ap (λ (m : Mount g.row.P.Denot). m.stopped) c.self.view_is ∙ c.in_ok-writable.ensures.runs in
-    let writes : c.self.inside.read_only ≡ false = ap (λ (m : Mount g.row.P.Denot). m.read_only) c.self.view_is ∙ c.in_ok-writable.ensures.writes in
-    let r = row_in_use c.self.inside.rows.items c.in_ok-named.named.directory c.in_ok-named.ensures.directory in
-    let i = row_in_use c.self.inside.rows.items c.in_ok-named.named.target c.in_ok-named.ensures.target in
-    more_ordered g.P.Pmem.region c.self.view_is c.self.invariant.0 runs writes c.in_ok-named.named.directory c.in_ok-named.named.target r.0 i.0 r.1 i.1 c.in_ok-named.named.name.now c.args.cpu c.args.time c.in_ok-named.ensures.name names
-    (c.in_ok-named.ensures.spot (g.P.Pmem.region c.self.inside.memory) names path) (g.P.Pmem.region c.release_at.new.memory)
-    (λ st a b here other more. c.release_at.ensures.in_order r.0 i.0 st a b r.1 i.1 here other more) k d node held h led ended sound is some
+    gone_ordered g.P.Pmem.region c.self.view_is c.self.invariant.0 c.in_ok-writable.ensures.runs (g.P.Pmem.region c.release_at.new.memory) c.args.cpu c.in_ok-named.named.directory c.in_ok-named.named.target c.in_ok-named.ensures.directory c.in_ok-named.ensures.target
+    c.args.time c.in_ok-named.named.name.now names (c.in_ok-named.ensures.spot (g.P.Pmem.region c.self.inside.memory) names path) (λ count. 1 < count) tail_address c.release_at.ensures.in_order k d node held h led ended sound is some
 
 pub returns-in-Err-clause-in_order : goal.returns-in-Err-clause-in_order
 returns-in-Err-clause-in_order g c names k d node held h path led ended sound is some =
-    let runs : c.self.inside.stopped ≡ false = ap (λ (m : Mount g.row.P.Denot). m.stopped) c.self.view_is ∙ c.in_ok-writable.ensures.runs in
-    let writes : c.self.inside.read_only ≡ false = ap (λ (m : Mount g.row.P.Denot). m.read_only) c.self.view_is ∙ c.in_ok-writable.ensures.writes in
-    let r = row_in_use c.self.inside.rows.items c.in_ok-named.named.directory c.in_ok-named.ensures.directory in
-    let i = row_in_use c.self.inside.rows.items c.in_ok-named.named.target c.in_ok-named.ensures.target in
-    more_ordered g.P.Pmem.region c.self.view_is c.self.invariant.0 runs writes c.in_ok-named.named.directory c.in_ok-named.named.target r.0 i.0 r.1 i.1 c.in_ok-named.named.name.now c.args.cpu c.args.time c.in_ok-named.ensures.name names
-    (c.in_ok-named.ensures.spot (g.P.Pmem.region c.self.inside.memory) names path) (g.P.Pmem.region c.release_at.new.memory)
-    (λ st a b here other more. c.release_at.ensures.in_order r.0 i.0 st a b r.1 i.1 here other more) k d node held h led ended sound is some
+    gone_ordered g.P.Pmem.region c.self.view_is c.self.invariant.0 c.in_ok-writable.ensures.runs (g.P.Pmem.region c.release_at.new.memory) c.args.cpu c.in_ok-named.named.directory c.in_ok-named.named.target c.in_ok-named.ensures.directory c.in_ok-named.ensures.target
+    c.args.time c.in_ok-named.named.name.now names (c.in_ok-named.ensures.spot (g.P.Pmem.region c.self.inside.memory) names path) (λ count. 1 < count) tail_address c.release_at.ensures.in_order k d node held h led ended sound is some
 
 pub returns-in_err-writable-clause-last_in_order : goal.returns-in_err-writable-clause-last_in_order
 returns-in_err-writable-clause-last_in_order g c names k d node held h path led ended sound is few = ∣ inl refl ∣₁
@@ -307,23 +301,13 @@ returns-in_err-named-clause-last_in_order g c names k d node held h path led end
 
 pub returns-in-Ok-clause-last_in_order : goal.returns-in-Ok-clause-last_in_order
 returns-in-Ok-clause-last_in_order g c names k d node held h path led ended sound is few =
-    let runs : c.self.inside.stopped ≡ false = ap (λ (m : Mount g.row.P.Denot). m.stopped) c.self.view_is ∙ c.in_ok-writable.ensures.runs in
-    let writes : c.self.inside.read_only ≡ false = ap (λ (m : Mount g.row.P.Denot). m.read_only) c.self.view_is ∙ c.in_ok-writable.ensures.writes in
-    let r = row_in_use c.self.inside.rows.items c.in_ok-named.named.directory c.in_ok-named.ensures.directory in
-    let i = row_in_use c.self.inside.rows.items c.in_ok-named.named.target c.in_ok-named.ensures.target in
-    last_ordered g.P.Pmem.region c.self.view_is c.self.invariant.0 runs writes c.in_ok-named.named.directory c.in_ok-named.named.target r.0 i.0 r.1 i.1 c.in_ok-named.named.name.now c.args.cpu c.args.time c.in_ok-named.ensures.name names
-    (c.in_ok-named.ensures.spot (g.P.Pmem.region c.self.inside.memory) names path) (g.P.Pmem.region c.release_at.new.memory)
-    (λ st a b here other last. c.release_at.ensures.last_in_order r.0 i.0 st a b r.1 i.1 here other last) k d node held h led ended sound is few
+    gone_ordered g.P.Pmem.region c.self.view_is c.self.invariant.0 c.in_ok-writable.ensures.runs (g.P.Pmem.region c.release_at.new.memory) c.args.cpu c.in_ok-named.named.directory c.in_ok-named.named.target c.in_ok-named.ensures.directory c.in_ok-named.ensures.target
+    c.args.time c.in_ok-named.named.name.now names (c.in_ok-named.ensures.spot (g.P.Pmem.region c.self.inside.memory) names path) (λ count. count ≤ 1) slot_address c.release_at.ensures.last_in_order k d node held h led ended sound is few
 
 pub returns-in-Err-clause-last_in_order : goal.returns-in-Err-clause-last_in_order
 returns-in-Err-clause-last_in_order g c names k d node held h path led ended sound is few =
-    let runs : c.self.inside.stopped ≡ false = ap (λ (m : Mount g.row.P.Denot). m.stopped) c.self.view_is ∙ c.in_ok-writable.ensures.runs in
-    let writes : c.self.inside.read_only ≡ false = ap (λ (m : Mount g.row.P.Denot). m.read_only) c.self.view_is ∙ c.in_ok-writable.ensures.writes in
-    let r = row_in_use c.self.inside.rows.items c.in_ok-named.named.directory c.in_ok-named.ensures.directory in
-    let i = row_in_use c.self.inside.rows.items c.in_ok-named.named.target c.in_ok-named.ensures.target in
-    last_ordered g.P.Pmem.region c.self.view_is c.self.invariant.0 runs writes c.in_ok-named.named.directory c.in_ok-named.named.target r.0 i.0 r.1 i.1 c.in_ok-named.named.name.now c.args.cpu c.args.time c.in_ok-named.ensures.name names
-    (c.in_ok-named.ensures.spot (g.P.Pmem.region c.self.inside.memory) names path) (g.P.Pmem.region c.release_at.new.memory)
-    (λ st a b here other last. c.release_at.ensures.last_in_order r.0 i.0 st a b r.1 i.1 here other last) k d node held h led ended sound is few
+    gone_ordered g.P.Pmem.region c.self.view_is c.self.invariant.0 c.in_ok-writable.ensures.runs (g.P.Pmem.region c.release_at.new.memory) c.args.cpu c.in_ok-named.named.directory c.in_ok-named.named.target c.in_ok-named.ensures.directory c.in_ok-named.ensures.target
+    c.args.time c.in_ok-named.named.name.now names (c.in_ok-named.ensures.spot (g.P.Pmem.region c.self.inside.memory) names path) (λ count. count ≤ 1) slot_address c.release_at.ensures.last_in_order k d node held h led ended sound is few
 
 pub returns-in_err-writable-clause-wrote : goal.returns-in_err-writable-clause-wrote
 returns-in_err-writable-clause-wrote g c names k d node held path led ended sound some = λ at whole away. refl
@@ -333,23 +317,13 @@ returns-in_err-named-clause-wrote g c names k d node held path led ended sound s
 
 pub returns-in-Ok-clause-wrote : goal.returns-in-Ok-clause-wrote
 returns-in-Ok-clause-wrote g c names k d node held path led ended sound some =
-    let runs : c.self.inside.stopped ≡ false = ap (λ (m : Mount g.row.P.Denot). m.stopped) c.self.view_is ∙ c.in_ok-writable.ensures.runs in
-    let writes : c.self.inside.read_only ≡ false = ap (λ (m : Mount g.row.P.Denot). m.read_only) c.self.view_is ∙ c.in_ok-writable.ensures.writes in
-    let r = row_in_use c.self.inside.rows.items c.in_ok-named.named.directory c.in_ok-named.ensures.directory in
-    let i = row_in_use c.self.inside.rows.items c.in_ok-named.named.target c.in_ok-named.ensures.target in
-    more_stored g.P.Pmem.region c.self.view_is c.self.invariant.0 runs writes c.in_ok-named.named.directory c.in_ok-named.named.target r.0 i.0 r.1 i.1 c.in_ok-named.named.name.now c.args.cpu c.args.time c.in_ok-named.ensures.name names
-    (c.in_ok-named.ensures.spot (g.P.Pmem.region c.self.inside.memory) names path) (g.P.Pmem.region c.release_at.new.memory)
-    (λ st a b here other more. c.release_at.ensures.wrote r.0 i.0 st a b r.1 i.1 here other more) k d node held led ended sound some
+    gone_stored g.P.Pmem.region c.self.view_is c.self.invariant.0 c.in_ok-writable.ensures.runs (g.P.Pmem.region c.release_at.new.memory) c.args.cpu c.in_ok-named.named.directory c.in_ok-named.named.target c.in_ok-named.ensures.directory c.in_ok-named.ensures.target
+    c.args.time c.in_ok-named.named.name.now names (c.in_ok-named.ensures.spot (g.P.Pmem.region c.self.inside.memory) names path) (λ count. 1 < count) (λ t. two_logs t c.args.cpu) c.release_at.ensures.wrote k d node held led ended sound some
 
 pub returns-in-Err-clause-wrote : goal.returns-in-Err-clause-wrote
 returns-in-Err-clause-wrote g c names k d node held path led ended sound some =
-    let runs : c.self.inside.stopped ≡ false = ap (λ (m : Mount g.row.P.Denot). m.stopped) c.self.view_is ∙ c.in_ok-writable.ensures.runs in
-    let writes : c.self.inside.read_only ≡ false = ap (λ (m : Mount g.row.P.Denot). m.read_only) c.self.view_is ∙ c.in_ok-writable.ensures.writes in
-    let r = row_in_use c.self.inside.rows.items c.in_ok-named.named.directory c.in_ok-named.ensures.directory in
-    let i = row_in_use c.self.inside.rows.items c.in_ok-named.named.target c.in_ok-named.ensures.target in
-    more_stored g.P.Pmem.region c.self.view_is c.self.invariant.0 runs writes c.in_ok-named.named.directory c.in_ok-named.named.target r.0 i.0 r.1 i.1 c.in_ok-named.named.name.now c.args.cpu c.args.time c.in_ok-named.ensures.name names
-    (c.in_ok-named.ensures.spot (g.P.Pmem.region c.self.inside.memory) names path) (g.P.Pmem.region c.release_at.new.memory)
-    (λ st a b here other more. c.release_at.ensures.wrote r.0 i.0 st a b r.1 i.1 here other more) k d node held led ended sound some
+    gone_stored g.P.Pmem.region c.self.view_is c.self.invariant.0 c.in_ok-writable.ensures.runs (g.P.Pmem.region c.release_at.new.memory) c.args.cpu c.in_ok-named.named.directory c.in_ok-named.named.target c.in_ok-named.ensures.directory c.in_ok-named.ensures.target
+    c.args.time c.in_ok-named.named.name.now names (c.in_ok-named.ensures.spot (g.P.Pmem.region c.self.inside.memory) names path) (λ count. 1 < count) (λ t. two_logs t c.args.cpu) c.release_at.ensures.wrote k d node held led ended sound some
 
 pub returns-in_err-writable-clause-last_wrote : goal.returns-in_err-writable-clause-last_wrote
 returns-in_err-writable-clause-last_wrote g c names k d node held path led ended sound few = λ at whole away. refl
@@ -359,20 +333,10 @@ returns-in_err-named-clause-last_wrote g c names k d node held path led ended so
 
 pub returns-in-Ok-clause-last_wrote : goal.returns-in-Ok-clause-last_wrote
 returns-in-Ok-clause-last_wrote g c names k d node held path led ended sound few =
-    let runs : c.self.inside.stopped ≡ false = ap (λ (m : Mount g.row.P.Denot). m.stopped) c.self.view_is ∙ c.in_ok-writable.ensures.runs in
-    let writes : c.self.inside.read_only ≡ false = ap (λ (m : Mount g.row.P.Denot). m.read_only) c.self.view_is ∙ c.in_ok-writable.ensures.writes in
-    let r = row_in_use c.self.inside.rows.items c.in_ok-named.named.directory c.in_ok-named.ensures.directory in
-    let i = row_in_use c.self.inside.rows.items c.in_ok-named.named.target c.in_ok-named.ensures.target in
-    last_stored g.P.Pmem.region c.self.view_is c.self.invariant.0 runs writes c.in_ok-named.named.directory c.in_ok-named.named.target r.0 i.0 r.1 i.1 c.in_ok-named.named.name.now c.args.cpu c.args.time c.in_ok-named.ensures.name names
-    (c.in_ok-named.ensures.spot (g.P.Pmem.region c.self.inside.memory) names path) (g.P.Pmem.region c.release_at.new.memory)
-    (λ st a b here other last. c.release_at.ensures.last_wrote r.0 i.0 st a b r.1 i.1 here other last) k d node held led ended sound few
+    gone_stored g.P.Pmem.region c.self.view_is c.self.invariant.0 c.in_ok-writable.ensures.runs (g.P.Pmem.region c.release_at.new.memory) c.args.cpu c.in_ok-named.named.directory c.in_ok-named.named.target c.in_ok-named.ensures.directory c.in_ok-named.ensures.target
+    c.args.time c.in_ok-named.named.name.now names (c.in_ok-named.ensures.spot (g.P.Pmem.region c.self.inside.memory) names path) (λ count. count ≤ 1) (λ t. one_less t c.args.cpu) c.release_at.ensures.last_wrote k d node held led ended sound few
 
 pub returns-in-Err-clause-last_wrote : goal.returns-in-Err-clause-last_wrote
 returns-in-Err-clause-last_wrote g c names k d node held path led ended sound few =
-    let runs : c.self.inside.stopped ≡ false = ap (λ (m : Mount g.row.P.Denot). m.stopped) c.self.view_is ∙ c.in_ok-writable.ensures.runs in
-    let writes : c.self.inside.read_only ≡ false = ap (λ (m : Mount g.row.P.Denot). m.read_only) c.self.view_is ∙ c.in_ok-writable.ensures.writes in
-    let r = row_in_use c.self.inside.rows.items c.in_ok-named.named.directory c.in_ok-named.ensures.directory in
-    let i = row_in_use c.self.inside.rows.items c.in_ok-named.named.target c.in_ok-named.ensures.target in
-    last_stored g.P.Pmem.region c.self.view_is c.self.invariant.0 runs writes c.in_ok-named.named.directory c.in_ok-named.named.target r.0 i.0 r.1 i.1 c.in_ok-named.named.name.now c.args.cpu c.args.time c.in_ok-named.ensures.name names
-    (c.in_ok-named.ensures.spot (g.P.Pmem.region c.self.inside.memory) names path) (g.P.Pmem.region c.release_at.new.memory)
-    (λ st a b here other last. c.release_at.ensures.last_wrote r.0 i.0 st a b r.1 i.1 here other last) k d node held led ended sound few
+    gone_stored g.P.Pmem.region c.self.view_is c.self.invariant.0 c.in_ok-writable.ensures.runs (g.P.Pmem.region c.release_at.new.memory) c.args.cpu c.in_ok-named.named.directory c.in_ok-named.named.target c.in_ok-named.ensures.directory c.in_ok-named.ensures.target
+    c.args.time c.in_ok-named.named.name.now names (c.in_ok-named.ensures.spot (g.P.Pmem.region c.self.inside.memory) names path) (λ count. count ≤ 1) (λ t. one_less t c.args.cpu) c.release_at.ensures.last_wrote k d node held led ended sound few

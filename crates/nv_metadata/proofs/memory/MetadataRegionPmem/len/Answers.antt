@@ -5,4 +5,4 @@ use Rattle.nv_metadata.proofs.Held.{size_shown}
 use Rattle.nv_metadata.proofs.memory.MetadataRegionPmem.len.Goals as goal
 
 pub returns-clause-bytes : goal.returns-clause-bytes
-returns-clause-bytes c = sym (size_shown c.self.inside.front.items c.self.inside.blocks c.self.inside.ends.items c.self.inside.pages.items c.self.invariant.front) ∙ ap (λ (m : MetadataState). size m.memory.region) c.self.view_is
+returns-clause-bytes c = sym (size_shown c.self.inside.front.items c.self.inside.blocks c.self.inside.starts.items c.self.inside.counts.items c.self.inside.bytes.items c.self.invariant.front) ∙ ap (λ (m : MetadataState). size m.memory.region) c.self.view_is

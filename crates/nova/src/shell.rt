@@ -1,0 +1,169 @@
+//! The shell on the image in a file: the commands that are typed run on its region, which is saved where one asks for that.
+
+use crate::saving::{region_of, save_region};
+use nv_cli::{Hint, Host, MemRegion, run_shell};
+use nv_images::{
+    Failure, Held, Image, Lock, Reason, Stamp, Target, hold, image_at, see_ready, tell_failure,
+    tell_unaccepted, why_refused,
+};
+use nv_stream::Unsaved;
+use std::io::{IsTerminal, Read};
+use std::rt::Files;
+use std::thread::Threads;
+use std::{fs, io, str};
+
+// What asks for a line at a terminal.
+const PROMPT: &str = "nova> ";
+
+// How many workers recover the region at the start.
+const WORKERS: u64 = 1;
+
+/// Runs the commands on standard input on the region of an image, which is recovered first, and prints what they answer.
+/// Answers the exit status. The image's file is held from the start; it is written where a line asks for that, and another one
+/// over a file that is there only by force. Where standard input is a terminal, each line is asked for on standard error.
+pub(crate) fn shell<
+    'a,
+    H: Files + AllocGlobal + Print + Eprint + Threads + Sync,
+    R: Read + IsTerminal + Drop,
+>(rt: &H, input: R, image: &'a str, force: bool) -> Result<u8, Failure<'a>>
+where
+    H::File: Lock,
+{
+    let held = hold(rt, back_to(image))?;
+    let region = match image_at(rt, image)? {
+        Image::Bytes(bytes) => {
+            tell_unaccepted(rt, why_refused(rt.alloc(), &bytes));
+            region_of(rt.alloc(), bytes)?
+        }
+        Image::TooLong(length) => {
+            return Err(Failure::CannotRead(image, Reason::Length(length)));
+        }
+    };
+    let is_asked = input.is_terminal();
+    let mut host = FileHost {
+        rt,
+        image,
+        held: Some(held),
+        force,
+        is_asked,
+    };
+    let writer = &mut io::writer(rt);
+    let ended = run_shell(rt, rt.alloc(), region, WORKERS, input, writer, &mut host)?;
+    Ok(ended.status)
+}
+
+// The file of the image, which may be replaced.
+fn back_to(image: &str) -> Target<'_> {
+    Target {
+        path: image,
+        force: true,
+    }
+}
+
+/// Keeps regions in files, and tells the user what stands in the way on standard error.
+#[derive(Drop)]
+struct FileHost<'a, H: Files> {
+    rt: &'a H,
+    image: &'a str,
+    // The place of the image, unless another run took it behind a save.
+    held: Option<Held<'a, H::File>>,
+    // Whether another file that is there may be replaced.
+    force: bool,
+    // Whether each line is asked for.
+    is_asked: bool,
+}
+
+impl<H: Files + AllocGlobal + Print + Eprint> Host for FileHost<'_, H>
+where
+    H::File: Lock,
+{
+    fn prompt(&mut self) {
+        if self.is_asked {
+            let _ = eprint!(self.rt; "{PROMPT}");
+        }
+    }
+
+    fn give(&mut self, hint: Hint) {
+        let _ = eprintln!(self.rt; "{hint}");
+    }
+
+    fn save(&mut self, region: &MemRegion, path: Option<&[u8]>) -> bool {
+        let Some(path) = path else {
+            return is_done(self.rt, self.save_back(region));
+        };
+        let Ok(path) = str::from_utf8(path) else {
+            return is_done(self.rt, Err(Failure::WordNotUtf8));
+        };
+        if self.is_image(path) {
+            is_done(self.rt, self.save_back(region))
+        } else {
+            is_done(self.rt, self.save_as(region, path))
+        }
+    }
+}
+
+// Whether a region was saved. If it wasn't, standard error says why.
+fn is_done<H: Eprint>(rt: &H, saved: Result<(), Failure<'_>>) -> bool {
+    match saved {
+        Ok(()) => true,
+        Err(failure) => {
+            tell_failure(rt, failure);
+            false
+        }
+    }
+}
+
+impl<'a, H: Files + AllocGlobal + Print + Eprint> FileHost<'a, H>
+where
+    H::File: Lock,
+{
+    // Saves the region in the file of the image, and holds the new file there for the next time.
+    fn save_back(&mut self, region: &MemRegion) -> Result<(), Failure<'a>> {
+        let Some(held) = &self.held else {
+            return Err(Failure::unsaved(self.image, Unsaved::InUse));
+        };
+        save_at_place(self.rt, held, region, None)?;
+        self.held = hold(self.rt, back_to(self.image)).ok();
+        Ok(())
+    }
+
+    // Saves the region in another file.
+    fn save_as<'b>(&self, region: &MemRegion, path: &'b str) -> Result<(), Failure<'b>> {
+        let target = Target {
+            path,
+            force: self.force,
+        };
+        let held = hold(self.rt, target)?;
+        save_at_place(self.rt, &held, region, self.stamp())
+    }
+
+    // Whether the path leads to the file of the image.
+    fn is_image(&self, path: &str) -> bool {
+        match (fs::metadata(self.rt, path), self.stamp()) {
+            (Ok(found), Some(stamp)) => Stamp::of(&found).is_same_file(stamp),
+            _ => path == self.image,
+        }
+    }
+
+    // Of the file of the image, where it is held.
+    fn stamp(&self) -> Option<Stamp> {
+        self.held.as_ref()?.place.as_ref()?.file
+    }
+}
+
+// Saves a region at a place that is held. Standard output, where the answers go, is none.
+fn save_at_place<'a, H: Files + AllocGlobal + Print + Eprint>(
+    rt: &H,
+    held: &Held<'a, H::File>,
+    region: &MemRegion,
+    image: Option<Stamp>,
+) -> Result<(), Failure<'a>>
+where
+    H::File: Lock,
+{
+    if held.is_output() {
+        return Err(Failure::unsaved(held.target.path, Unsaved::NotFile));
+    }
+    see_ready(rt, held, None, image)?;
+    save_region(rt, held, region)
+}

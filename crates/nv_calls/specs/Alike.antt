@@ -1,0 +1,57 @@
+-- Regions that nobody can tell apart, but by words that no definition reads; and calls that leave such regions of such.
+use Rattle.std.specs.Prelude.{◌≡◌, ℕ, ◌<◌, ⊤, List, Some, None}
+use Rattle.nv_region.specs.Region.{Region}
+use Rattle.nv_super.specs.declared.superblock.Super.{Super}
+use Rattle.nv_super.specs.declared.owners.Run.{Run}
+use Rattle.nv_super.specs.Layout.{Layout, fixed_layout}
+use Rattle.nv_scan.specs.State.{size_of}
+use Rattle.nv_scan.specs.declared.piece.Row.{Row}
+use Rattle.nv_held.specs.nv_outcome.Outcome.{IsOutcome}
+use Rattle.nv_held.specs.Held.{Held, Store, good_in}
+use Rattle.nv_held.specs.Bytes.{byte_of}
+use Rattle.nv_held.specs.Mounted.{ShowsSound, faultless_outcome}
+use Rattle.nv_tree.specs.Tree.{SameTree}
+use Rattle.nv_tree.specs.Refusals.{Path, Tests, first_refusal}
+use Rattle.nv_paths.specs.Seen.{tree_of}
+use Rattle.nv_calls.specs.Effects.{Logs, Makes}
+use Rattle.nv_calls.specs.Mount.{Mount}
+
+-- each file that is held has the same bytes in both regions
+abbrev pub SameBytes : Layout → Store → Region → Region → Type 0
+SameBytes l held R S = (i x : ℕ) (h : Held) → held i ≡ Some h → x < size_of (good_in l h) → byte_of S l h x ≡ byte_of R l h x
+
+-- Both regions show this, with nothing wrong and nothing pending, and the same bytes of each file.
+pub record ShowAlike (s : Super) (held : Store) (R S : Region) : Type 0 where
+  pub first : ShowsSound R s held
+  pub second : ShowsSound S s held
+  pub bytes : SameBytes (fixed_layout s) held R S
+
+-- Two regions are alike: they have one superblock, and show the same inodes with the same logs, and the same bytes of each file.
+-- Nothing is wrong in them, and nothing is pending. They may differ in words that no definition reads: of free blocks and unused
+-- slots, behind the tails of logs, behind a file's size, in the records of journals, and in what else of a block means nothing.
+abbrev pub AreAlike : Region → Region → Type 0
+AreAlike R S = ∥ ((s : Super) × (held : Store) × ShowAlike s held R S) ∥₁
+
+-- ---- calls
+
+-- what is mounted is the region's outcome, which has no fault
+abbrev pub IsFaultlessMount : Region → Mount ⊤ → Type 0
+IsFaultlessMount R m = IsOutcome R (faultless_outcome m.sup m.rows m.free.pools)
+
+-- A call was done, by the names of a path: the region that it leaves has an outcome without faults, which shows the tree that the
+-- call makes, and its logs are those that the call leaves.
+pub record WasDone (makes : Makes ⊤) (logs : Logs ⊤) (R : Region) (m : Mount ⊤) (names : List (List ℕ)) (T : Region) : Type 0 where
+  pub rows : List Row
+  pub free : List (List Run)
+  pub shown : IsOutcome T (faultless_outcome m.sup rows free)
+  pub tree : SameTree (tree_of T rows) (makes R m names)
+  pub left : logs R m names T
+
+-- no test refuses the call that is asked so of a mounted region, whatever the number of blocks is that it needs
+abbrev pub IsAllowed : (Region → Mount ⊤ → Path → ℕ → Tests) → Region → Mount ⊤ → List (List ℕ) → Type 0
+IsAllowed tests R m names = (needed : ℕ) × (first_refusal (tests R m (Some names) needed) ≡ None)
+
+-- Of alike regions the call leaves alike regions, where no test refuses it.
+abbrev pub KeepsAlike : (Region → Mount ⊤ → Path → ℕ → Tests) → Makes ⊤ → Logs ⊤ → Type 0
+KeepsAlike tests makes logs = (R S T U : Region) (m k : Mount ⊤) (names : List (List ℕ)) → AreAlike R S → IsFaultlessMount R m → IsFaultlessMount S k → IsAllowed tests R m names
+    → WasDone makes logs R m names T → WasDone makes logs S k names U → AreAlike T U

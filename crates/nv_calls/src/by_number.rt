@@ -1,0 +1,89 @@
+//! The calls that read, for an inode's number in place of a path: also of one that no path leads to.
+
+ghost use Rattle.std.specs.Prelude.{◌≡◌, map, IsTrue, IfOk, IfErr, OnOk, Option, Result, false};
+ghost use Rattle.std.specs.List.{Contains};
+ghost use Rattle.nv_tree.specs.Refusals.{first_refusal, IsReadRefusedBy};
+ghost use Rattle.nv_tree.specs.declared.refusal.Refusal.{Refusal};
+ghost use Rattle.nv_paths.specs.Seen.{node_of, tree_of};
+ghost use Rattle.nv_calls.specs.ByNumber.{IsInodeRead, IsInodeStat, ListsInode, list_inode_tests, read_inode_tests, stat_inode_tests};
+ghost use Rattle.nv_calls.specs.Listing.{name_and_inode};
+
+use crate::Fs;
+use crate::stating::Stat;
+use nv_names::Named;
+use nv_region::Pmem;
+use nv_scan::Row;
+use nv_super::Kind;
+use nv_tree::Refusal;
+
+impl<P: Pmem + Drop> Fs<P> {
+    /// The numbers of the inode of this number. It takes no memory.
+    ///
+    /// Errors, the first that applies: `Stopped` after a stop, `NotFound` where no inode in use has the number.
+    pub fn stat_inode(&self, inode: u64) -> Result<Stat, Refusal>
+        ensures stopped { IsTrue self.now.stopped → result ≡ Result.Err Refusal.Stopped }
+        ensures ok { IfOk result (IsInodeStat (tree_of (P.region self.now.memory) self.now.rows) inode) }
+        ensures allowed { OnOk result (first_refusal (stat_inode_tests (tree_of (P.region self.now.memory) self.now.rows) inode) ≡ Option.None) }
+        ensures refused { self.now.stopped ≡ false → IfErr result (λ e. first_refusal (stat_inode_tests (tree_of (P.region self.now.memory) self.now.rows) inode) ≡ Option.Some e) }
+    {
+        Ok(Stat::of(self.row_of(inode)?))
+    }
+
+    /// The bytes of the file of this number, from an offset on up to its size, at most so many.
+    ///
+    /// Errors, the first that applies: `Stopped` after a stop, `NotFound` where no inode in use has the number, `IsDirectory`
+    /// for a directory. `Memory` where a growth was refused.
+    pub fn read_inode(&self, inode: u64, offset: u64, count: u64) -> Result<Vec<u8>, Refusal>
+        ensures stopped { IsTrue self.now.stopped → result ≡ Result.Err Refusal.Stopped }
+        ensures ok { IfOk result (λ bytes. IsInodeRead (tree_of (P.region self.now.memory) self.now.rows) inode offset count bytes.items) }
+        ensures allowed { OnOk result (first_refusal (read_inode_tests (tree_of (P.region self.now.memory) self.now.rows) inode) ≡ Option.None) }
+        ensures refused { self.now.stopped ≡ false → IfErr result (IsReadRefusedBy (first_refusal (read_inode_tests (tree_of (P.region self.now.memory) self.now.rows) inode))) }
+    {
+        let row = self.row_of(inode)?;
+        if row.kind == Kind::Directory {
+            return Err(Refusal::IsDirectory);
+        }
+        match self.bytes_of(row, offset, count) {
+            Ok(bytes) => Ok(bytes),
+            Err(_) => Err(Refusal::Memory),
+        }
+    }
+
+    /// The names of the directory of this number, rising by bytes.
+    ///
+    /// Errors, the first that applies: `Stopped` after a stop, `NotFound` where no inode in use has the number, `NotDirectory`
+    /// for a file. `Memory` where a growth was refused.
+    pub fn list_inode(&self, inode: u64) -> Result<Vec<Named<'_>>, Refusal>
+        ensures stopped { IsTrue self.now.stopped → result ≡ Result.Err Refusal.Stopped }
+        ensures ok { IfOk result (λ listed. ListsInode (tree_of (P.region self.now.memory) self.now.rows) inode (map name_and_inode listed.items)) }
+        ensures allowed { OnOk result (first_refusal (list_inode_tests (tree_of (P.region self.now.memory) self.now.rows) inode) ≡ Option.None) }
+        ensures refused { self.now.stopped ≡ false → IfErr result (IsReadRefusedBy (first_refusal (list_inode_tests (tree_of (P.region self.now.memory) self.now.rows) inode))) }
+    {
+        let row = self.row_of(inode)?;
+        if row.kind == Kind::File {
+            return Err(Refusal::NotDirectory);
+        }
+        match row.names.list() {
+            Ok(listed) => Ok(listed),
+            Err(_) => Err(Refusal::Memory),
+        }
+    }
+
+    // The row of the inode in use of this number.
+    fn row_of(&self, inode: u64) -> Result<&Row, Refusal>
+        ensures stopped { IsTrue self.now.stopped → result ≡ Result.Err Refusal.Stopped }
+        ensures runs { OnOk result (self.now.stopped ≡ false) }
+        ensures row { IfOk result (λ r. tree_of (P.region self.now.memory) self.now.rows inode ≡ Option.Some (node_of (P.region self.now.memory) r.now)) }
+        ensures number { IfOk result (λ r. r.now.inode ≡ inode) }
+        ensures held { IfOk result (λ r. Contains self.now.rows r.now) }
+        ensures refused { self.now.stopped ≡ false → IfErr result (λ e. (e ≡ Refusal.NotFound) × (tree_of (P.region self.now.memory) self.now.rows inode ≡ Option.None)) }
+    {
+        if self.stopped {
+            return Err(Refusal::Stopped);
+        }
+        match self.rows.get(inode) {
+            Some(row) => Ok(row),
+            None => Err(Refusal::NotFound),
+        }
+    }
+}

@@ -1,0 +1,7 @@
+use Rattle.nv_scan.proofs.Deciding.{where_done}
+use Rattle.nv_steps.proofs.CleanedLog as made
+use Rattle.nv_steps.proofs.cleaning.dead_pages_of.Goals as goal
+
+pub returns : goal.returns
+returns g c held h free shows =
+    where_done c.dead_pages.result _ _ c.dead_pages.ensures.dead (λ found finds. made.dead_held shows c.load-created.result c.slot_address-slot.result c.load-created.ensures c.slot_address-slot.ensures found (finds h.entries))
