@@ -29,7 +29,7 @@ head -c 100 /dev/zero >"$folder/short"
 mkdir "$folder/folder"
 truncate -s 268435456 "$folder/longest"
 truncate -s 268435457 "$folder/longer"
-lengths="a region has a multiple of 4096, from 32768 to 268435456"
+lengths="a region has a multiple of 4096, from 32768 to 1073741824"
 words="with one space between two words, and numbers in decimal up to 18446744073709551615"
 long_way=$(printf './%.0s' {1..300})
 not_utf8=$folder/$'a\xffb'
@@ -129,7 +129,7 @@ expect "a strict script" 2 "ok${newline}refused Cpus" "" bash -c 'printf "time 1
 expect "the same, lenient" 0 "ok${newline}refused Cpus${newline}ok" "" bash -c 'printf "time 1\nformat 65 8 1\ntime 2\n" | "$1" run' bash "$program"
 
 # Numbers that no region has.
-expect "too few blocks" 2 "" "refused Length${newline}a region has 8 to 65536 blocks" "$program" mkfs "$folder/new" --blocks 7 --cpus 1 --tables 1
+expect "too few blocks" 2 "" "refused Length${newline}a region has 8 to 262144 blocks" "$program" mkfs "$folder/new" --blocks 7 --cpus 1 --tables 1
 expect "65 CPUs" 2 "" "refused Cpus${newline}a region has 1 to 64 CPUs" "$program" mkfs "$folder/new" --blocks 8 --cpus 65 --tables 1
 expect "no room for the tables" 2 "" \
     "refused Tables${newline}a CPU has 1 to 64 table blocks, and a region more blocks than 1 + CPUs + CPUs * table blocks" \

@@ -77,7 +77,7 @@ same "map: the title of a cell" "blocks 3 to 3: 1 of logs, 0 free" "$(sed -n 's/
 same "map of a large image: few of many blocks" 'fill="#59a14f" fill-opacity=".40"><title>blocks 0 to 3: 1 of logs, 3 of the system, 0 free' "$(sed -n 's/^<rect .*\(fill=.*\)<.title>.*/\1/p' "$folder/drawing" | head -n 1)"
 same "map of a large image: the first blocks of rows" "$(seq 0 256 3840 | xargs)" "$(sed -n 's/^<text .*text-anchor.*>\(.*\)<.*/\1/p' "$folder/drawing" | xargs)"
 told "map of no region" 2 "" "refused S1
-it has 4 bytes; a region has a multiple of 4096, from 32768 to 268435456" map "$folder/short" --svg "$folder/none"
+it has 4 bytes; a region has a multiple of 4096, from 32768 to 1073741824" map "$folder/short" --svg "$folder/none"
 same "map of no region: the drawing" "" "$(ls "$folder/none" 2>/dev/null)"
 unchanged "map"
 
@@ -131,7 +131,7 @@ unchanged "clean of an image with faults"
 told "clean of an image with faults by a path" 2 "" "refused ReadOnly" clean "$room/image" a
 unchanged "clean of an image with faults by a path"
 told "clean of no region" 2 "" "refused S1
-it has 4 bytes; a region has a multiple of 4096, from 32768 to 268435456" clean "$folder/short"
+it has 4 bytes; a region has a multiple of 4096, from 32768 to 1073741824" clean "$folder/short"
 told "clean of what isn't there" 2 "" "cannot read $room/none
 no such file" clean "$room/none"
 
@@ -143,7 +143,7 @@ told "mkfs of no region" 2 "" "refused Cpus
 a region has 1 to 64 CPUs" mkfs "$room/image" --force --blocks 8 --cpus 65 --tables 1
 unchanged "mkfs of no region"
 told "mkfs of no length" 2 "" "refused Length
-a region has 8 to 65536 blocks" mkfs "$room/other" --blocks 7 --cpus 65 --tables 0
+a region has 8 to 262144 blocks" mkfs "$room/other" --blocks 7 --cpus 65 --tables 0
 unchanged "mkfs of no length"
 told "saving no region" 2 "" "cannot write $room/image: there is no region" run /dev/null --force --save "$room/image"
 unchanged "saving no region"
@@ -344,7 +344,7 @@ same "saving in the image by another name: a link" image "$(readlink "$room/link
 typed "$(printf 'x%.0s' {1..4097})\nmkdir 0 /e\n"
 same "a long line in a shell" "2 bad line 1" "$? $(tail -n 1 "$folder/out")"
 "$program" shell "$folder/short" >"$folder/out" 2>"$folder/err" </dev/null
-same "a shell on no region" "2 refused S1, it has 4 bytes; a region has a multiple of 4096, from 32768 to 268435456" "$? $(cat "$folder/out"), $(cat "$folder/err")"
+same "a shell on no region" "2 refused S1, it has 4 bytes; a region has a multiple of 4096, from 32768 to 1073741824" "$? $(cat "$folder/out"), $(cat "$folder/err")"
 "$program" shell "$room/none" >"$folder/out" 2>"$folder/err" </dev/null
 same "a shell on no file" "2  cannot read $room/none
 no such file" "$? $(cat "$folder/out") $(cat "$folder/err")"
@@ -433,7 +433,7 @@ told "ls of a file" 2 "" "refused NotDirectory" ls "$room/image" /hello
 told "stat of nothing" 2 "" "refused NotFound" stat "$room/image" /none
 told "cat of a directory" 2 "" "refused IsDirectory" cat "$room/image" /
 told "cat of no region" 2 "" "refused S1
-it has 4 bytes; a region has a multiple of 4096, from 32768 to 268435456" cat "$folder/short" /a
+it has 4 bytes; a region has a multiple of 4096, from 32768 to 1073741824" cat "$folder/short" /a
 
 # Each system call that writes is refused, and then the program is killed there. $new is what it would have written.
 begin

@@ -97,7 +97,7 @@ typedef struct {
 
 /* Formats so many blocks of zeros, in memory of the library's own, and mounts them: for each CPU a pool of
  * blocks, and so many table blocks, each of 32 inodes.
- * Statuses: 17 where the handle is open already; 30 where there aren't 8 to 65,536 blocks, 31 where there
+ * Statuses: 17 where the handle is open already; 30 where there aren't 8 to 262,144 blocks, 31 where there
  * aren't 1 to 64 CPUs, 32 where there aren't 1 to 64 table blocks for each or no block is left behind them;
  * 14 where memory was refused. */
 uint32_t nova_format(nova_fs *fs, uint64_t blocks, uint64_t cpus, uint64_t tables, uint64_t time);

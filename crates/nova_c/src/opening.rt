@@ -81,7 +81,7 @@ fn formatted(
 /// Formats so many blocks of zeros, in memory of the library's own, and mounts them: for each CPU a pool of blocks, and so many
 /// table blocks, each of 32 inodes.
 ///
-/// Statuses: 17 where the handle is open already; 30 where there aren't 8 to 65,536 blocks, 31 where there aren't 1 to 64 CPUs,
+/// Statuses: 17 where the handle is open already; 30 where there aren't 8 to 262,144 blocks, 31 where there aren't 1 to 64 CPUs,
 /// 32 where there aren't 1 to 64 table blocks for each or no block is left behind them; 14 where memory was refused.
 #[unsafe(no_mangle)]
 pub extern "C" fn nova_format(

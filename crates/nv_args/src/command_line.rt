@@ -145,7 +145,7 @@ const COMMANDS: [CommandForm<'static>; 10] = [
             Argument {
                 written: Written::Number,
                 name: "blocks",
-                help: "The number of blocks of 4096 bytes, from 8 to 65536",
+                help: "The number of blocks of 4096 bytes, from 8 to 262144",
             },
             Argument {
                 written: Written::Number,

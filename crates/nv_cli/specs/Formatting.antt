@@ -9,7 +9,7 @@ use Rattle.nv_cli.specs.declared.formatting.Formatted.TheVariants as formatted
 
 -- the numbers that are taken
 abbrev pub format_limits : FormatRefusal → List ℕ
-format_limits refusals.Length = codes "a region has 8 to 65536 blocks"
+format_limits refusals.Length = codes "a region has 8 to 262144 blocks"
 format_limits refusals.Cpus = codes "a region has 1 to 64 CPUs"
 format_limits refusals.Tables = codes "a CPU has 1 to 64 table blocks, and a region more blocks than 1 + CPUs + CPUs * table blocks"
 format_limits refusals.Stopped = codes "it was stopped"

@@ -12,7 +12,7 @@ pub fn format_limits(refusal: FormatRefusal) -> &'static str
     ensures { result.now ≡ format_limits refusal }
 {
     match refusal {
-        FormatRefusal::Length => "a region has 8 to 65536 blocks",
+        FormatRefusal::Length => "a region has 8 to 262144 blocks",
         FormatRefusal::Cpus => "a region has 1 to 64 CPUs",
         FormatRefusal::Tables => {
             "a CPU has 1 to 64 table blocks, and a region more blocks than 1 + CPUs + CPUs * table blocks"

@@ -30,7 +30,7 @@ const ROOT_ATTRIBUTES: u64 = 2 + 65_536 * ENTRY_LENGTH + 4_294_967_296 * 493;
 /// Why a region was not formatted, in the order in which it is tested.
 #[derive(Clone, Copy, Debug, PartialEq, Eq)]
 pub enum FormatRefusal {
-    /// The length isn't a multiple of 4096 bytes, or isn't of 8 to 65,536 blocks.
+    /// The length isn't a multiple of 4096 bytes, or isn't of 8 to 262,144 blocks.
     Length,
     /// There aren't 1 to 64 CPUs.
     Cpus,

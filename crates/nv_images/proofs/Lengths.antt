@@ -2,10 +2,11 @@
 use Rattle.std.proofs.Common.{◌≡◌, ◌≢◌, ℕ, ◌<◌, ◌/◌, ◌%◌, ◌⊎◌, inl, inr, [], replicate, arith}
 use Rattle.std.proofs.Math.ListN.{length-replicate}
 use Rattle.nv_report.specs.nv_outcome.nv_journal.Region.{Region, size}
+use Rattle.nv_super.specs.Layout.{most_blocks}
 use Rattle.nv_images.specs.Images.{IsRegionLength}
 
 abbrev IsBad : ℕ → Type 0
-IsBad bytes = (bytes % 4096 ≢ 0) ⊎ ((bytes / 4096 < 8) ⊎ (65536 < bytes / 4096))
+IsBad bytes = (bytes % 4096 ≢ 0) ⊎ ((bytes / 4096 < 8) ⊎ (most_blocks < bytes / 4096))
 
 bad : (bytes : ℕ) → IsBad bytes → IsRegionLength bytes → ⊥
 bad bytes (inl odd) good = odd good.0
@@ -16,7 +17,7 @@ good : (bytes : ℕ) → (IsBad bytes → ⊥) → IsRegionLength bytes
 good bytes h =
     let whole : bytes % 4096 ≢ 0 → ⊥ = λ odd. h (inl odd) in
     let least : bytes / 4096 < 8 → ⊥ = λ short. h (inr (inl short)) in
-    let most : 65536 < bytes / 4096 → ⊥ = λ long. h (inr (inr long)) in
+    let most : most_blocks < bytes / 4096 → ⊥ = λ long. h (inr (inr long)) in
     (grind arith, grind arith, grind arith)
 
 -- a region of so many bytes

@@ -3,7 +3,7 @@ use Rattle.std.proofs.Common.{◌≡◌, ◌≢◌, ◌+◌, ◌*◌, ◌/◌, �
 use Rattle.byteorder.specs.Endian.{little_number}
 use Rattle.nv_region.specs.Region.{Region, HasBlocks, size, word}
 use Rattle.nv_super.specs.declared.superblock.Super.{Super}
-use Rattle.nv_super.specs.Layout.{system_blocks}
+use Rattle.nv_super.specs.Layout.{most_blocks, system_blocks}
 use Rattle.nv_super.specs.Super.{IsSuper}
 use Rattle.nv_super.proofs.Accepted.{super_stays}
 use Rattle.nv_metadata.specs.Memory.{MetadataState, IsReady}
@@ -30,7 +30,7 @@ ready_more s m new block ready behind others long rest same = record {
   blocks = (long ∙ ready.blocks.0, ap length rest ∙ ready.blocks.1)
 
 -- at first
-pub ready_first : (s : Super) (first rest front : List ℕ) (m : MetadataState) → SaysSuper first s → s.blocks ≤ 65536 → front ≡ first ++ rest → length front ≡ 4096 * system_blocks s → length first ≤ length front → HasBlocks m.memory.region s.blocks
+pub ready_first : (s : Super) (first rest front : List ℕ) (m : MetadataState) → SaysSuper first s → s.blocks ≤ most_blocks → front ≡ first ++ rest → length front ≡ 4096 * system_blocks s → length first ≤ length front → HasBlocks m.memory.region s.blocks
     → ((at : ℕ) → at % 8 ≡ 0 → at + 8 ≤ length front → word m.memory.region at ≡ little_number 8 (drop at front)) → (m.memory.front ≡ length front) × (m.memory.burnt ≡ false) → IsReady s m
 ready_first s first rest front m says few joined count longer has words fresh = record {
   blocks = has;

@@ -4,7 +4,7 @@ use Rattle.std.specs.List.{range_with_len}
 use Rattle.byteorder.specs.Endian.{little_number}
 use Rattle.nv_region.specs.Region.{Region, word, HasBlocks}
 use Rattle.nv_super.specs.declared.superblock.Super.{Super}
-use Rattle.nv_super.specs.Layout.{system_blocks}
+use Rattle.nv_super.specs.Layout.{most_blocks, system_blocks}
 use Rattle.nv_super.specs.Super.{IsSuper}
 use Rattle.nv_region.specs.ImageState.{ImageState}
 use Rattle.nv_journal.specs.Undone.{SameBefore}
@@ -31,7 +31,7 @@ pieced blocks starts counts bytes = record { words = map (λ i. piece_word start
 -- the front lies within the region, and the piece of each block is whole words among the bytes that are held
 pub record HasPieces (m : Inside) : Type 0 where
   pub front : length m.front.items ≤ 512 * m.blocks
-  pub blocks : m.blocks ≤ 65536
+  pub blocks : m.blocks ≤ most_blocks
   pub starts : length m.starts.items ≡ m.blocks
   pub counts : length m.counts.items ≡ m.blocks
   pub whole : (b : ℕ) → get_or m.counts.items b 0 % 8 ≡ 0
@@ -49,7 +49,7 @@ pub record Shows (first : ℕ) (R : Region) (m : MetadataState) : Type 0 where
 -- The memory has this superblock, and takes stores just in front of the data blocks.
 pub record IsReady (s : Super) (m : MetadataState) : Type 0 where
   pub blocks : HasBlocks m.memory.region s.blocks
-  pub few : s.blocks ≤ 65536
+  pub few : s.blocks ≤ most_blocks
   pub superblock : IsSuper m.memory.region s
   pub front : m.memory.front ≡ 4096 * system_blocks s
   pub unburnt : m.memory.burnt ≡ false

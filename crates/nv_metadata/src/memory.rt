@@ -11,6 +11,7 @@ ghost use Rattle.nv_region.specs.Region.{HasBlocks, size, word, put, words_of};
 ghost use Rattle.nv_region.specs.Stops.{NothingPending, NoneAdded, Adds, One};
 ghost use Rattle.nv_region.specs.Fuses.{KeepsFuse};
 ghost use Rattle.nv_region.specs.ImageState.{as_it_reads, fuse_state, open_not_burnt};
+ghost use Rattle.nv_super.specs.Layout.{most_blocks};
 ghost use Rattle.nv_metadata.specs.Memory.{held};
 
 use byteorder::{ByteOrder, LittleEndian};
@@ -54,7 +55,7 @@ impl MetadataRegion {
     ///
     /// Errors: `AllocError` where a growth was refused.
     pub fn new(alloc: Global, blocks: u64, front: &[u8]) -> Result<MetadataRegion, AllocError>
-        requires few { blocks ≤ 65536 }
+        requires few { blocks ≤ most_blocks }
         requires within { length front.now ≤ 4096 * blocks }
         requires whole { length front.now % 8 ≡ 0 }
         ensures blocks { IfOk result (λ m. HasBlocks m.memory.region blocks) }

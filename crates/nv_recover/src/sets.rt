@@ -21,14 +21,11 @@ use nv_numbered::Chunks;
 use nv_outcome::doubled;
 use nv_radix::Extent;
 use nv_scan::{Claims, Row, claims_of_rows};
-use nv_super::{Owner, Super};
+use nv_super::{MOST_BLOCKS, Owner, Super};
 use std::alloc::{AllocError, Global};
 
 /// A run of so many blocks goes into the sets by whole words.
 const LONG: u64 = 64;
-
-/// No region has more blocks.
-const MOST_BLOCKS: u64 = 262_144;
 
 /// The blocks that were claimed so far, and those that were claimed twice or more.
 #[derive(Drop)]

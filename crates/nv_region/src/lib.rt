@@ -12,6 +12,6 @@ mod stored;
 mod words;
 
 pub use image::ImageRegion;
-pub use memory::{Fuse, Keep, MemRegion, RegionRefusal};
+pub use memory::{Fuse, Keep, MOST_BLOCKS, MemRegion, RegionRefusal};
 pub use pmem::{Pmem, Stopped};
 pub use words::{commit_word, store_word};

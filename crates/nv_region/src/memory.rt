@@ -28,7 +28,8 @@ use thiserror::Error;
 
 const WORDS_IN_BLOCK: usize = 512;
 
-const MOST_BLOCKS: u64 = 262_144;
+/// The most blocks of 4096 bytes that a region can have: 1 GiB.
+pub const MOST_BLOCKS: u64 = 262_144;
 
 const MOST_BYTES: usize = 1 << 30;
 

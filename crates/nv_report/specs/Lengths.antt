@@ -10,4 +10,4 @@ found_text (MoreThan bytes) = codes "it has more than " ++ decimal bytes ++ code
 
 -- and the lengths that are taken
 abbrev pub length_text : BadLength → List ℕ
-length_text length = found_text length ++ codes "; a region has a multiple of 4096, from 32768 to 268435456"
+length_text length = found_text length ++ codes "; a region has a multiple of 4096, from 32768 to 1073741824"

@@ -38,6 +38,6 @@ impl fmt::Display for BadLength {
             BadLength::Bytes(bytes) => write!(f, "it has {bytes} bytes")?,
             BadLength::MoreThan(bytes) => write!(f, "it has more than {bytes} bytes")?,
         }
-        f.write_str("; a region has a multiple of 4096, from 32768 to 268435456")
+        f.write_str("; a region has a multiple of 4096, from 32768 to 1073741824")
     }
 }

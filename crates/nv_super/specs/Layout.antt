@@ -32,7 +32,7 @@ is_number s i = nat_lt 0 i && nat_lt i (inode_limit s)
 
 -- the most blocks that a region can have
 abbrev pub most_blocks : ℕ
-most_blocks = 65536
+most_blocks = 262144
 
 -- numbers by which each address of the areas is small
 pub record HasAreas (s : Super) : Type 0 where

@@ -13,10 +13,10 @@ mod superblock;
 pub use faults::Fault;
 pub use kind::Kind;
 pub use laws::{pools_cover_the_data_blocks, slots_stand_apart};
-pub use nv_region::{Pmem, Stopped, store_word};
+pub use nv_region::{MOST_BLOCKS, Pmem, Stopped, store_word};
 pub use owners::{Owner, Run};
 pub use sorting::{sort_claims, sort_faults};
 pub use superblock::{
-    BLOCK_SIZE, LEAST_BLOCKS, MAGIC, MOST_BLOCKS, MOST_CPUS, MOST_TABLE_BLOCKS, SLOT_SIZE, Super,
+    BLOCK_SIZE, LEAST_BLOCKS, MAGIC, MOST_CPUS, MOST_TABLE_BLOCKS, SLOT_SIZE, Super,
     SuperFault, read_super, write_super,
 };

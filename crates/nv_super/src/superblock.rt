@@ -11,7 +11,7 @@ ghost use Rattle.nv_region.specs.Stored.{StoresOnly, Within};
 ghost use Rattle.nv_super.specs.Layout.{system_blocks, pool_start, slot_address, is_page_start, inode_limit, is_number, HasAreas, IsLayout};
 ghost use Rattle.nv_super.specs.Super.{IsSuper, IsRefused, with_numbers};
 
-use nv_region::{Pmem, Stopped};
+use nv_region::{MOST_BLOCKS, Pmem, Stopped};
 use thiserror::Error;
 
 /// The bytes of a block.
@@ -22,9 +22,6 @@ pub const MAGIC: u64 = 0x3130_4d50_4156_4f4e;
 
 /// The fewest blocks of a region.
 pub const LEAST_BLOCKS: u64 = 8;
-
-/// The most blocks of a region.
-pub const MOST_BLOCKS: u64 = 65_536;
 
 /// The most CPUs of a region.
 pub const MOST_CPUS: u64 = 64;
@@ -49,8 +46,8 @@ pub struct Super {
 /// Why a region is no file system, in the order in which the faults are looked for.
 #[derive(Clone, Copy, Debug, PartialEq, Eq, Error)]
 pub enum SuperFault {
-    /// The length isn't a multiple of 4096 bytes, or isn't of 8 to 65,536 blocks.
-    #[error("S1, the length isn't that of 8 to 65,536 blocks of 4096 bytes")]
+    /// The length isn't a multiple of 4096 bytes, or isn't of 8 to 262,144 blocks.
+    #[error("S1, the length isn't that of 8 to 262,144 blocks of 4096 bytes")]
     Length,
     /// The magic word is another.
     #[error("S2, the magic word is another")]

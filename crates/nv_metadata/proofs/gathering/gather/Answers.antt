@@ -4,6 +4,7 @@ use Rattle.std.proofs.lemmas.Result.{err_from_is_err_and}
 use Rattle.byteorder.specs.Endian.{little_number}
 use Rattle.nv_region.specs.Region.{region_of, word}
 use Rattle.nv_region.proofs.Bytes.{size_of_bytes}
+use Rattle.nv_super.specs.Layout.{most_blocks}
 use Rattle.nv_metadata.proofs.Refused.{length_refused, refused_there}
 use Rattle.nv_metadata.proofs.Ready.{says}
 use Rattle.nv_metadata.proofs.HandedOn.{passed_on}
@@ -12,7 +13,7 @@ use Rattle.nv_metadata.proofs.gathering.gather.Goals as goal
 
 pub returns-then-length-ne0-clause-gathered : goal.returns-then-length-ne0-clause-gathered
 returns-then-length-ne0-clause-gathered g c image known =
-    let P : ℕ → Type 0 = λ n. (n % 4096 ≢ 0) ⊎ ((n / 4096 < 8) ⊎ (65536 < n / 4096)) in
+    let P : ℕ → Type 0 = λ n. (n % 4096 ≢ 0) ⊎ ((n / 4096 < 8) ⊎ (most_blocks < n / 4096)) in
     length_refused (region_of image) (subst P (c.in_ok-length.ensures.count image known ∙ sym (size_of_bytes image)) (elim c.then-length-ne0.either [
       | inl cut ↦ inl cut
       | inr other ↦ elim other [ inl few ↦ inr (inl few.1) | inr many ↦ inr (inr many.2) ]
