@@ -36,12 +36,12 @@ const CLASSES: [Class; 28] = [
     Class {
         name: "H1",
         title: "a link of a table's chain leads to no data block",
-        meaning: "fault H1 cpu C at A. The link at A is to lead to the next block of the table of CPU C, but its value is neither 0 nor the start of a data block. The chain ends there; the blocks before it count. Only layout version 2 has chains, and recovery doesn't accept it yet (S3), so no report shows this fault.",
+        meaning: "fault H1 cpu C at A. In the chain of CPU C the link at A is neither 0 nor the start of a data block, so the chain ends there. Only layout version 2 has chains, and it is refused as yet (S3).",
     },
     Class {
         name: "H2",
         title: "the chain of a table leads back into itself",
-        meaning: "fault H2 cpu C at A. The link at A leads to a block that was read before in the chain of CPU C. The chain ends there; each of its blocks counts once. Only layout version 2 has chains, and recovery doesn't accept it yet (S3), so no report shows this fault.",
+        meaning: "fault H2 cpu C at A. In the chain of CPU C the link at A leads to a block that was read before, so the chain ends there. Only layout version 2 has chains, and it is refused as yet (S3).",
     },
     Class {
         name: "I1",
