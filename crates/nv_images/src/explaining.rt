@@ -22,7 +22,7 @@ struct Class {
 const REFUSED: &str =
     "The superblock isn't accepted, so nothing is read and nothing changes. Of several that apply the first is named.";
 
-const CLASSES: [Class; 26] = [
+const CLASSES: [Class; 28] = [
     Class {
         name: "J1",
         title: "a journal's pointer is wrong",
@@ -32,6 +32,16 @@ const CLASSES: [Class; 26] = [
         name: "J2",
         title: "a journal's record names a wrong word",
         meaning: "fault J2 cpu C record K. The pending record K names an address that no journal may name, so it was skipped; the other records were rolled back. Only the first recovery shows it: then no record is pending any more.",
+    },
+    Class {
+        name: "H1",
+        title: "a link of a table's chain leads to no data block",
+        meaning: "fault H1 cpu C at A. The link at A is to lead to the next block of the table of CPU C, but its value is neither 0 nor the start of a data block. The chain ends there; the blocks before it count. Only layout version 2 has chains, and recovery doesn't accept it yet (S3), so no report shows this fault.",
+    },
+    Class {
+        name: "H2",
+        title: "the chain of a table leads back into itself",
+        meaning: "fault H2 cpu C at A. The link at A leads to a block that was read before in the chain of CPU C. The chain ends there; each of its blocks counts once. Only layout version 2 has chains, and recovery doesn't accept it yet (S3), so no report shows this fault.",
     },
     Class {
         name: "I1",

@@ -13,6 +13,7 @@ pub mod High
 pub mod Front
 pub mod Recording
 pub mod Begins
+pub mod LinksStay
 pub mod OneJournal
 pub mod Both
 pub mod InOrder
