@@ -7,6 +7,7 @@ pub mod Partly
 pub mod Turns
 pub mod Listed
 pub mod Words
+pub mod Wrote
 pub mod Pointers
 pub mod SuperKept
 pub mod High
