@@ -173,5 +173,13 @@ expect_script "no command" 2 "bad line 1" \
     "line 1: expected time, format, recover, replay, poke, cut, list, stat, read, create, mkdir, write, size, attr, link, unlink, rmdir, rename, clean, tree, free, faults, report, peek or stop" 'move 0 /a /b\n'
 expect_script "a carriage return" 2 "bad line 1" \
     "line 1: it ends with a carriage return, byte 13; byte 10 alone ends a line" 'recover 1\r\n'
+expect_script "a byte order mark" 2 "bad line 1" \
+    "line 1: it begins with a byte order mark, the bytes 239, 187 and 191; a script has none" '\xef\xbb\xbftime 7\n'
+expect_script "a byte of 256" 2 "bad line 1" "line 1: word 6 is above 255, the most that may stand there" 'write 0 /a 0 1 256\n'
+expect_script "a count above a gibibyte" 2 "bad line 1" "line 1: word 5 is above 1073741824, the most that may stand there" 'write 0 /a 0 1073741825 7\n'
+expect_script "an owner of 33 bits" 2 "bad line 1" "line 1: word 5 is above 4294967295, the most that may stand there" 'attr 0 /a 420 4294967296 0\n'
+expect_script "a number of 65 bits" 2 "bad line 1" "line 1: word 2 is above 18446744073709551615, the most that may stand there" 'time 18446744073709551616\n'
+expect_script "a number of 65 bits as a name" 0 "refused NotMounted" "" 'list 18446744073709551616\n'
+expect_script "a large number and a word too many" 2 "bad line 1" "line 1: expected time T, $words" 'time 18446744073709551616 7\n'
 expect_script "a line of 4097 bytes" 2 "bad line 1" "line 1: it has more than 4096 bytes" '#%4096d\n'
 close

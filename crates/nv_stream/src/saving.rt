@@ -95,6 +95,7 @@ where
 }
 
 /// Writes a file of these bytes at a place that is held: where nothing was, or over what was there, whose permissions it gets.
+/// Answers the new file, which has its lock for as long as it is open.
 ///
 /// Errors: `Changed` where that isn't there any more as it was, and the new file stays beside it; `NoName`, the system's error
 /// and want of memory.
@@ -103,13 +104,13 @@ pub fn save_at<H: Files + AllocGlobal>(
     path: &str,
     place: &Place<H::File>,
     bytes: &[u8],
-) -> Result<(), Unsaved>
+) -> Result<H::File, Unsaved>
 where
     H::File: Lock,
 {
     let (mut new, _left) = open_beside(rt, path)?;
     match fill_and_put(rt, path, place, bytes, &mut new) {
-        Ok(()) => Ok(()),
+        Ok(()) => Ok(new.file),
         Err(Unsaved::Changed(number)) => Err(Unsaved::Changed(number)),
         Err(unsaved) => {
             let _ = fs::remove_file(rt, new.name.as_str());
