@@ -134,7 +134,11 @@ fn stores_for_both(rt: &impl Abort, alloc: Global, region: &mut NotedRegion)
 {
     check(rt, undo_noted(alloc, region) == Ok(0), "no fault is told");
     assert_noted(rt, region, 5, &BOTH_UNDONE, 4);
-    check(rt, undo_noted(alloc, region) == Ok(0), "nor by the next one");
+    check(
+        rt,
+        undo_noted(alloc, region) == Ok(0),
+        "nor by the next one",
+    );
     assert_noted(rt, region, 5, &BOTH_UNDONE, 4);
 }
 
