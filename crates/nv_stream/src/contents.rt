@@ -95,8 +95,8 @@ pub fn copy_whole<R: Read + Drop, W: Write>(
     ensures bytes { IfOk result (λ whole. IfSome (R.remaining reader) (λ bytes. AreCopied limit bytes whole (W.contents writer.old) (W.contents writer.new))) }
     ensures within { IfOk result (λ whole. CopiesWithin limit whole (W.contents writer.old) (W.contents writer.new)) }
 {
-    let mut reader = reader.take(limit as u64 + 1);
-    let count = io::copy(&mut reader, writer)?;
+    let mut front = reader.take(limit as u64 + 1);
+    let count = io::copy(&mut front, writer)?;
     Ok(count <= limit as u64)
 }
 
