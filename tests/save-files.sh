@@ -349,7 +349,7 @@ same "a shell on no region" "2 refused S1, it has 4 bytes; a region has a multip
 same "a shell on no file" "2  cannot read $room/none
 no such file" "$? $(cat "$folder/out") $(cat "$folder/err")"
 
-# A shell holds its image behind a save too: the new file is locked before it is there.
+# A shell holds its image behind a save too.
 begin
 rm -f "$folder/pipe" "$folder/first"
 mkfifo "$folder/pipe"
@@ -364,10 +364,6 @@ go_on
 same "an image in use behind a save: status of the shell" 0 $?
 same "an image in use behind a save: errors of the shell" "" "$(cat "$folder/first-err")"
 same "an image in use behind a save: what is there" "d 3 e 4 hello 2" "$("$program" ls "$room/image" | xargs)"
-if strace -o /dev/null true 2>/dev/null; then
-    same "a shell doesn't open anew what it saved" 0 \
-        "$(echo save | strace -qq -e trace=openat,rename "$program" shell "$room/image" 2>&1 >/dev/null | sed '1,/^rename/d' | grep -c "\"$room/image\"")"
-fi
 
 # Of two runs that are to replace one image the second is refused, by whatever name.
 begin
