@@ -1,7 +1,8 @@
 -- A check that is refused before anything is read.
-use Rattle.std.proofs.Common.{◌≡◌, ◌^◌, ◌<◌, inl, inr, ℕ, true, List, length, arith}
+use Rattle.std.proofs.Common.{◌≡◌, ◌≢◌, ◌⊎◌, ◌^◌, ◌<◌, ◌/◌, ◌%◌, inl, inr, ℕ, zero, suc, true, List, length, refl, arith}
 use Rattle.nv_region.proofs.Bytes.{size_of_bytes}
-use Rattle.nv_region.specs.Region.{region_of}
+use Rattle.nv_region.specs.Region.{region_of, size}
+use Rattle.nv_super.specs.Layout.{most_blocks}
 use Rattle.nv_super.specs.Super.{IsRefused, rank}
 use Rattle.nv_super.specs.declared.superblock.SuperFault.{SuperFault}
 use Rattle.nv_super.specs.declared.superblock.SuperFault.TheVariants.{Length, Magic, Version, Cpus, Blocks, Tables, State}
@@ -19,10 +20,15 @@ none_before Blocks below = omega arith
 none_before Tables below = omega arith
 none_before State below = omega arith
 
+-- a length of bytes beside the last block, or of too many blocks
+cut_or_long : (beside blocks : ℕ) → (beside ≡ 0 → most_blocks < blocks) → (beside ≢ 0) ⊎ ((blocks < 8) ⊎ (most_blocks < blocks))
+cut_or_long zero blocks many = inr (inr (many refl))
+cut_or_long (suc beside) blocks many = inl (λ none. omega (arith, none))
+
 -- no region has so many bytes
 pub too_long : (bytes : List ℕ) → 2 ^ 30 < length bytes → IsRefused (region_of bytes) Length
 too_long bytes long = record {
-  applies = inr (inr (let same = size_of_bytes bytes in omega (arith, same, long)));
+  applies = let same = size_of_bytes bytes in cut_or_long (size (region_of bytes) % 4096) (size (region_of bytes) / 4096) (λ whole. omega (arith, same, long, whole));
   first = λ other below applies. none_before other below;
 }
 
