@@ -4,3 +4,4 @@ pub mod Checked
 pub mod OneCheck
 pub mod Found
 pub mod Metadata
+pub mod Gathering

@@ -5,5 +5,6 @@ pub mod Checking
 pub mod Mapping
 pub mod Files
 pub mod Gathered
+pub mod GatheredImage
 pub mod Several
 pub use Rattle.nv_recover.specs as nv_recover

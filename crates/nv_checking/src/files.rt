@@ -2,18 +2,18 @@
 
 ghost use Rattle.std.specs.Prelude.{◌≡◌, ◌⊎◌, ◌≤◌, true, false, is_none, IfOk, IfErr};
 ghost use Rattle.std.specs.Io.KnownBytes.{Keeps};
-ghost use Rattle.nv_images.specs.Images.{IsUnsaved, IsUnanswered};
+ghost use Rattle.nv_images.specs.Images.{IsUnread, IsUnsaved, IsUnanswered};
 ghost use Rattle.nv_checking.specs.Mapping.{mapped_answer, WritesMap, FailsMap};
 ghost use Rattle.nv_checking.specs.Files.{WritesImageCheck, EndsImageCheck, FailsImageCheck, IsImageMapped, IsUnchecked, IsUnmapped};
 
 use crate::answered::Answered;
 use crate::checking::check_region_as;
-use crate::gathered::write_checked;
-use crate::mapping::{Mapped, answered, map_cells, write_map};
+use crate::gathered::check_gathered;
+use crate::mapping::{Mapped, answered, map_cells, map_gathered, write_map};
 use crate::output::Output;
-use crate::plain::check_plain_file;
+use crate::plain::gather_plain;
 use nv_images::{
-    Failure, Held, Image, Lock, Stamp, Target, hold, image_at, open_image, read_image,
+    Failure, Held, Image, ImageFile, Lock, Stamp, Target, hold, open_image, read_image,
     refuse_length, save_file, see_ready, svg_text, tell_explain, tell_faults, tell_length,
     tell_refused,
 };
@@ -48,9 +48,17 @@ where
     ensures status { IfOk result (λ status. status ≤ 2) }
     ensures error { IfErr result (IsUnchecked path.entry) }
 {
-    let status = match check_plain_file(rt, path, workers, output)? {
-        Some(checked) => write_checked(&checked, &mut io::writer(rt))?,
-        None => check_whole_file(rt, path, workers, output)?,
+    let file = open_image(rt, path)?;
+    let workers = u64::from(workers);
+    let writer = &mut io::writer(rt);
+    let status = match gather_plain(rt.alloc(), &file)? {
+        Some(gathered) => check_gathered(rt, rt.alloc(), gathered, workers, output, writer)?,
+        None => {
+            let image = read_image(rt.alloc(), file)?;
+            let status = check_image(rt, rt.alloc(), &image, workers, output, writer)?;
+            tell_image_refused(rt, &image, status);
+            status
+        }
     };
     if status == Last::Faulty.status() {
         tell_explain(rt);
@@ -58,26 +66,9 @@ where
     Ok(status)
 }
 
-// The same of a file that is read whole.
-fn check_whole_file<'a, H: Files + AllocGlobal + Print + Eprint + Threads + Sync>(
-    rt: &H,
-    path: &'a str,
-    workers: u32,
-    output: Output,
-) -> Result<u8, Failure<'a>>
-    ensures status { IfOk result (λ status. status ≤ 2) }
-    ensures error { IfErr result (IsUnchecked path.entry) }
-{
-    let image = image_at(rt, path)?;
-    let writer = &mut io::writer(rt);
-    let status = check_image(rt, rt.alloc(), &image, u64::from(workers), output, writer)?;
-    tell_image_refused(rt, &image, status);
-    Ok(status)
-}
-
 /// Recovers the image in a file in memory, and prints what its blocks are used for, or why that can't be told. With `svg` the
 /// cells are drawn in that file too, unless the image is refused; it can't be the image. A drawing on standard output stands
-/// there alone. Answers the exit status, 0 or 2.
+/// there alone. Answers the exit status, 0 or 2. The file is read as `check_file` reads it.
 ///
 /// Errors: a file that can't be read or written, and want of memory or of a place to write to.
 pub fn map_file<'a, H: Files + AllocGlobal + Print + Eprint>(
@@ -86,7 +77,7 @@ pub fn map_file<'a, H: Files + AllocGlobal + Print + Eprint>(
     svg: Option<Target<'a>>,
 ) -> Result<u8, Failure<'a>>
 where
-    H::File: Lock,
+    H::File: Blocks + Lock,
     ensures status { IfOk result (λ status. (status ≡ 0) ⊎ (status ≡ 2)) }
     ensures error { IfErr result (IsUnmapped path.entry svg.entry) }
 {
@@ -95,17 +86,31 @@ where
         Some(target) => Some(hold_drawing(rt, target, file.opened.stamp)?),
         None => None,
     };
-    let image = read_image(rt.alloc(), file)?;
-    let mapped = map_image(rt.alloc(), &image, MOST_CELLS)?;
+    let mapped = match gather_plain(rt.alloc(), &file)? {
+        Some(gathered) => map_gathered(rt.alloc(), gathered, MOST_CELLS)?,
+        None => map_whole(rt, file)?,
+    };
     let is_drawn_there = held.as_ref().is_some_and(|held| held.is_output());
     let answered = print_map(rt.alloc(), &mapped, is_drawn_there, &mut io::writer(rt))?;
-    tell_refusal(rt, &mapped);
-    tell_image_refused(rt, &image, answered.status);
     tell_faults(rt, path, answered.faults);
     if let Some(held) = &held {
         draw(rt, &mapped, held)?;
     }
     Ok(answered.status)
+}
+
+// Maps an image that is read whole. Where it is refused, standard error says so, and why.
+fn map_whole<'a, H: Files + AllocGlobal + Eprint>(
+    rt: &H,
+    file: ImageFile<'a, H::File>,
+) -> Result<Mapped, Failure<'a>>
+    ensures error { IfErr result (IsUnread file.entry.path) }
+{
+    let image = read_image(rt.alloc(), file)?;
+    let mapped = map_image(rt.alloc(), &image, MOST_CELLS)?;
+    tell_refusal(rt, &mapped);
+    tell_image_refused(rt, &image, answered(&mapped).status);
+    Ok(mapped)
 }
 
 // Holds the place of the drawing of an image, and sees that it can be written.

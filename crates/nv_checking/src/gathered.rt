@@ -55,6 +55,17 @@ impl From<ScriptError> for BlocksError {
     }
 }
 
+impl From<AllocError> for BlocksError {
+    ghost use Rattle.nv_checking.specs.declared.gathered.BlocksError.TheVariants.{Answer};
+    ghost use Rattle.nv_stream.specs.declared.fault.ScriptError.TheVariants as errors;
+
+    ghost from_gives = { λ _ e. e ≡ Answer errors.Memory };
+
+    fn from(_: AllocError) -> Self {
+        BlocksError::Answer(ScriptError::Memory)
+    }
+}
+
 /// Checks the image that a reader gives piece by piece: its metadata are read, and nothing else. What is written, and the exit
 /// status, are those of `check_region_as` for all its bytes.
 ///

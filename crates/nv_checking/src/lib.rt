@@ -2,14 +2,16 @@
 //!
 //! `recovering` recovers a region, and answers what was found or why it is refused (`recovery`). `checking` recovers the bytes of
 //! a region, and writes its report, or another `output`. `gathered` does so from the metadata alone. `imaging` recovers them on
-//! this thread, for looks into them, whose answer is in `answered`, and for `mapping`, which tells what the blocks are used for.
-//! `files` checks and maps images in files, `plain` checks those in plain files by their metadata, and `several` checks several.
+//! this thread, and `gathered_image` the metadata, for looks into them, whose answer is in `answered`, and for `mapping`, which
+//! tells what the blocks are used for. `files` checks and maps images in files, and `several` checks several. `plain` gathers the
+//! metadata of those in plain files.
 #![tactic(auto)]
 
 mod answered;
 mod checking;
 mod files;
 mod gathered;
+mod gathered_image;
 mod imaging;
 mod laws;
 mod mapping;
@@ -23,11 +25,13 @@ pub use answered::Answered;
 pub use checking::{check_region, check_region_as};
 pub use files::{check_file, map_file};
 pub use gathered::{BlocksError, check_blocks, check_gathered};
+pub use gathered_image::{GatheredImage, recover_gathered};
 pub use imaging::{Image, recover_image};
 pub use laws::one_check;
-pub use mapping::{Mapped, map_cells, write_map};
-pub use nv_metadata::Blocks;
+pub use mapping::{Mapped, map_blocks, map_cells, map_gathered, write_map};
+pub use nv_metadata::{Blocks, Gathered, gather};
 pub use output::Output;
+pub use plain::{gather_plain, see_unchanged};
 pub use recovering::{recover_alone, recover_or_stop, recover_region, replay_or_stop};
 pub use recovery::Answer;
 pub use several::check_files;

@@ -1,12 +1,15 @@
-//! The map of a region that is given as bytes: it is recovered over them, and what its blocks are used for is told.
+//! The map of a region that is given as bytes, or by a reader of them: it is recovered, and what its blocks are used for is told.
 
-ghost use Rattle.std.specs.Prelude.{◌≡◌, IfOk, IfErr, string_bytes};
-ghost use Rattle.nv_region.specs.Region.{region_of};
+ghost use Rattle.std.specs.Prelude.{◌≡◌, ℕ, List, Some, IfOk, IfErr, string_bytes};
+ghost use Rattle.nv_region.specs.Region.{Region, region_of};
+ghost use Rattle.nv_metadata.specs.Gathered.{AreGathered, IsOpen};
 ghost use Rattle.nv_checking.specs.Mapping.{IsMapped, mapped_text, mapped_answer, WritesMap, FailsMap};
 
 use crate::answered::Answered;
+use crate::gathered_image::{GatheredImage, recover_gathered};
 use crate::imaging::{Image, recover_image};
 use nv_map::{Cells, cells_of, cells_text};
+use nv_metadata::{Blocks, GatherError, Gathered, gather};
 use nv_report::Last;
 use nv_stream::{ScriptError, write_text};
 use nv_text::Refusal;
@@ -38,6 +41,38 @@ pub fn map_cells(alloc: Global, bytes: &[u8], most: u64) -> Result<Mapped, Alloc
             })
         }
         Image::Refused(refusal) => Ok(Mapped::Refused(refusal)),
+    }
+}
+
+/// Maps the region that a reader gives piece by piece, as `map_cells` does of all its bytes: its metadata are read, and nothing
+/// else.
+///
+/// Errors: `Read` where the length isn't told or bytes can't be read, which doesn't happen where they are known; `Memory` where
+/// a growth was refused.
+pub fn map_blocks<B: Blocks>(alloc: Global, source: &B, most: u64) -> Result<Mapped, GatherError>
+    ensures map { (bytes : List ℕ) → B.bytes source.now ≡ Some bytes → IfOk result (IsMapped (region_of bytes) most) }
+    ensures known { (bytes : List ℕ) → B.bytes source.now ≡ Some bytes → IfErr result (λ e. e ≡ GatherError.Memory) }
+{
+    let gathered = gather(alloc, source)?;
+    Ok(map_gathered(alloc, gathered, most)?)
+}
+
+/// Maps the region of which this was gathered, as `map_cells` does of all its bytes. Errors: `AllocError` where a growth was
+/// refused.
+pub fn map_gathered(alloc: Global, gathered: Gathered, most: u64) -> Result<Mapped, AllocError>
+    requires { IsOpen gathered }
+    ensures { (R : Region) → AreGathered R gathered → IfOk result (IsMapped R most) }
+{
+    let image = recover_gathered(alloc, gathered)?;
+    match image {
+        GatheredImage::Recovered(_memory, found) => {
+            let cells = cells_of(alloc, &found, most)?;
+            Ok(Mapped::Cells {
+                cells,
+                faults: found.faults.len(),
+            })
+        }
+        GatheredImage::Refused(refusal) => Ok(Mapped::Refused(refusal)),
     }
 }
 

@@ -1,83 +1,78 @@
-//! Checking the image in a plain file by its metadata alone.
+//! The metadata of the image in a plain file, which are read where they stand.
 
-ghost use Rattle.std.specs.Prelude.{◌≤◌, IfOk, IfErr, IfSome};
+ghost use Rattle.std.specs.Prelude.{◌≡◌, ℕ, List, Some, IfOk, IfErr, IfSome};
+ghost use Rattle.nv_region.specs.Region.{region_of};
 ghost use Rattle.nv_images.specs.Images.{IsUnread};
-ghost use Rattle.nv_metadata.specs.Gathered.{IsOpen};
-ghost use Rattle.nv_checking.specs.Files.{IsUnchecked};
+ghost use Rattle.nv_metadata.specs.Gathered.{AreGathered, IsOpen};
 
-use crate::checking::Checked;
-use crate::gathered::check_metadata;
-use crate::output::Output;
-use nv_images::{Failure, Reason};
+use nv_images::{Failure, ImageFile, Reason};
 use nv_metadata::{Blocks, GatherError, Gathered, gather};
-use nv_stream::ScriptError;
+use nv_stream::{Opened, ScriptError, Stamp};
 use std::alloc::Global;
-use std::fs;
 use std::fs::OpenFile;
+use std::io;
 use std::io::{Error, ErrorKind};
-use std::rt::Files;
-use std::thread::Threads;
 
-/// Checks the image in the plain file at a path by its metadata, on so many threads. Answers what a check prints, and its exit
-/// status; and nothing where the superblock is refused, and for any path that isn't a plain file's.
+/// Gathers the metadata of the image in an open file, where it is a plain file and the superblock is accepted. Any other file has
+/// to be read whole: of it nothing is answered, and it is read from its first byte on as before.
 ///
 /// Errors: a file that can't be read, that ends early, or that was changed meanwhile; want of memory.
-pub(crate) fn check_plain_file<'a, H: Files + AllocGlobal + Threads + Sync>(
-    rt: &H,
-    path: &'a str,
-    workers: u32,
-    output: Output,
-) -> Result<Option<Checked>, Failure<'a>>
-where
-    H::File: Blocks,
-    ensures status { IfOk result (λ found. IfSome found (λ checked. checked.status ≤ 2)) }
-    ensures error { IfErr result (IsUnchecked path.entry) }
-{
-    let Some(file) = plain_file(rt, path) else {
-        return Ok(None);
-    };
-    let gathered = gather_file(rt.alloc(), path, &file)?;
-    if let Gathered::Refused(_) = gathered {
-        return Ok(None);
-    }
-    let checked = check_metadata(rt, rt.alloc(), gathered, u64::from(workers), output)?;
-    Ok(Some(checked))
-}
-
-// The plain file at a path, if it can be opened. Standard input, which `-` may stand for, is none.
-fn plain_file<H: Files>(rt: &H, path: &str) -> Option<H::File> {
-    match fs::metadata(rt, path) {
-        Ok(told) if told.is_file() && path != "-" => fs::open(rt, path).ok(),
-        _ => None,
-    }
-}
-
-// The metadata of the image in the file that was opened at a path.
-fn gather_file<'a, F: Blocks + OpenFile>(
+pub fn gather_plain<'a, F: Blocks + OpenFile + Drop>(
     alloc: Global,
-    path: &'a str,
-    file: &F,
-) -> Result<Gathered, Failure<'a>>
-    ensures open { IfOk result IsOpen }
-    ensures error { IfErr result (IsUnread path.entry) }
+    file: &ImageFile<'a, F>,
+) -> Result<Option<Gathered>, Failure<'a>>
+    ensures open { IfOk result (λ found. IfSome found IsOpen) }
+    ensures gathered { (image : List ℕ) → F.bytes file.now.opened.file ≡ Some image → IfOk result (λ found. IfSome found (AreGathered (region_of image))) }
+    ensures error { IfErr result (IsUnread file.now.path) }
 {
-    match gather_unchanged(alloc, file) {
-        Ok(gathered) => Ok(gathered),
-        Err(GatherError::Read(error)) => Err(Failure::CannotRead(path, Reason::System(error))),
+    match gather_unchanged(alloc, &file.opened) {
+        Ok(found) => Ok(found),
+        Err(GatherError::Read(error)) => Err(cannot_read(file.path, error)),
         Err(GatherError::Memory) => Err(Failure::Answer(ScriptError::Memory)),
     }
 }
 
-// The metadata of the image in a file, unless the file was changed meanwhile.
-fn gather_unchanged<F: Blocks + OpenFile>(alloc: Global, file: &F) -> Result<Gathered, GatherError>
-    ensures { IfOk result IsOpen }
+/// Sees that an image's file is as it was when it was opened. Errors: a file that was changed since, and one of which that isn't
+/// told.
+pub fn see_unchanged<'a, F: OpenFile + Drop>(file: &ImageFile<'a, F>) -> Result<(), Failure<'a>>
+    ensures { IfErr result (IsUnread file.now.path) }
 {
-    let before = file.metadata()?;
-    let gathered = gather(alloc, file)?;
-    let after = file.metadata()?;
-    if before.len() != after.len() || before.modified()? != after.modified()? {
-        let changed = Error::new(ErrorKind::Other, "it was changed while it was read");
-        return Err(GatherError::Read(changed));
+    match keeps_stamp(&file.opened) {
+        Ok(()) => Ok(()),
+        Err(error) => Err(cannot_read(file.path, error)),
     }
-    Ok(gathered)
+}
+
+// That the image in the file at a path can't be read.
+fn cannot_read<'a>(path: &'a str, error: Error) -> Failure<'a>
+    ensures { IsUnread path.entry result }
+{
+    Failure::CannotRead(path, Reason::System(error))
+}
+
+// The metadata of the image in a plain file whose superblock is accepted, unless the file was changed meanwhile.
+fn gather_unchanged<F: Blocks + OpenFile + Drop>(
+    alloc: Global,
+    opened: &Opened<F>,
+) -> Result<Option<Gathered>, GatherError>
+    ensures open { IfOk result (λ found. IfSome found IsOpen) }
+    ensures gathered { (image : List ℕ) → F.bytes opened.now.file ≡ Some image → IfOk result (λ found. IfSome found (AreGathered (region_of image))) }
+{
+    if !opened.file.metadata()?.is_file() {
+        return Ok(None);
+    }
+    let gathered = gather(alloc, &opened.file)?;
+    if let Gathered::Refused(_) = gathered {
+        return Ok(None);
+    }
+    keeps_stamp(opened)?;
+    Ok(Some(gathered))
+}
+
+// Fails where a file isn't as it was when it was opened.
+fn keeps_stamp<F: OpenFile + Drop>(opened: &Opened<F>) -> io::Result<()> {
+    if Stamp::of(&opened.file.metadata()?) == opened.stamp {
+        return Ok(());
+    }
+    Err(Error::new(ErrorKind::Other, "it was changed while it was read"))
 }

@@ -9,9 +9,10 @@ ghost use Rattle.nv_checking.specs.Several.{IsImageCheck, WritesNamed, FailsName
 
 use crate::checking::{Checked, check_bytes, refused};
 use crate::files::tell_image_refused;
+use crate::gathered::check_metadata;
 use crate::output::Output;
-use crate::plain::check_plain_file;
-use nv_images::{Failure, Image, Shown, image_at, tell_explain, tell_failure};
+use crate::plain::gather_plain;
+use nv_images::{Failure, Image, Shown, open_image, read_image, tell_explain, tell_failure};
 use nv_metadata::Blocks;
 use nv_report::Last;
 use nv_stream::{ScriptError, write_text};
@@ -95,10 +96,12 @@ where
     let alloc = rt.alloc();
     let name = format!(in alloc; "{}: ", Shown(path))?;
     let writer = &mut io::writer(rt);
-    if let Some(checked) = check_plain_file(rt, path, workers, output)? {
+    let file = open_image(rt, path)?;
+    if let Some(gathered) = gather_plain(alloc, &file)? {
+        let checked = check_metadata(rt, alloc, gathered, u64::from(workers), output)?;
         return Ok(write_named(alloc, &name, &checked, writer)?);
     }
-    let image = image_at(rt, path)?;
+    let image = read_image(alloc, file)?;
     let status = check_named(rt, &name, &image, workers, output, writer)?;
     tell_image_refused(rt, &image, status);
     Ok(status)
