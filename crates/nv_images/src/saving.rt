@@ -112,7 +112,7 @@ where
         write_text(&mut io::writer(rt), bytes)?;
         return Ok(());
     };
-    match save_at(rt, path, place, bytes) {
+    match save_at(rt, path, place, &bytes) {
         Ok(_file) => Ok(()),
         Err(unsaved) => Err(Failure::unsaved(path, unsaved)),
     }
@@ -138,7 +138,7 @@ where
         write_text(&mut io::writer(rt), bytes)?;
         return Ok(None);
     };
-    match save_at(rt, target.path, place, bytes) {
+    match save_at(rt, target.path, place, &bytes) {
         Ok(file) => Ok(held_again(rt, target, file)),
         Err(unsaved) => Err(Failure::unsaved(target.path, unsaved)),
     }
