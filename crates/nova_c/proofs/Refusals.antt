@@ -1,7 +1,8 @@
 -- Why a region isn't mounted, by the error of its recovery.
-use Rattle.std.proofs.Common.{◌≡◌, inl, inr, ◌<◌, ◌^◌, ℕ, List, [], length, Option, Some, None, refl, arith}
+use Rattle.std.proofs.Common.{◌≡◌, ◌≢◌, ◌⊎◌, inl, inr, ◌<◌, ◌^◌, ◌/◌, ◌%◌, ℕ, zero, suc, List, [], length, Option, Some, None, refl, arith}
 use Rattle.nv_region.specs.Region.{Region, region_of, size}
 use Rattle.nv_region.proofs.Bytes.{size_of_bytes}
+use Rattle.nv_super.specs.Layout.{most_blocks}
 use Rattle.nv_super.specs.Super.{Applies, IsRefused, rank}
 use Rattle.nv_super.specs.declared.superblock.SuperFault.{SuperFault}
 use Rattle.nv_super.specs.declared.superblock.SuperFault.TheVariants as faults
@@ -40,12 +41,20 @@ none_lower faults.State low = omega (arith, low)
 pub length_is_first : (R : Region) → Applies R faults.Length → IsRefused R faults.Length
 length_is_first R applies = record { applies = applies; first = λ other low applies. none_lower other low }
 
+-- more bytes than a region can have are no whole blocks, or more blocks than it can have
+of_remainder : (bytes remainder : ℕ) → bytes % 4096 ≡ remainder → 2 ^ 30 < bytes → (bytes % 4096 ≢ 0) ⊎ ((bytes / 4096 < 8) ⊎ (most_blocks < bytes / 4096))
+of_remainder bytes zero is long = inr (inr (omega (arith, is, long)))
+of_remainder bytes (suc n) is long = inl (λ none. omega (arith, is, none))
+
+too_long : (bytes : ℕ) → 2 ^ 30 < bytes → (bytes % 4096 ≢ 0) ⊎ ((bytes / 4096 < 8) ⊎ (most_blocks < bytes / 4096))
+too_long bytes = of_remainder bytes (bytes % 4096) refl
+
 -- more words than a region can have are refused for its length
 pub words_refusal : (words : List ℕ) (e : RegionRefusal) (status : ℕ) → (e ≡ lengths.Length → 2 ^ 27 < length words) → (e ≡ lengths.Memory → ⊥)
     → (e ≡ lengths.Length → status ≡ 20) → RefusesMount (region_over words) status
 words_refusal words lengths.Length status many never is =
     let long : 2 ^ 27 < length words = many refl in
-    inr (faults.Length, is refl, length_is_first (region_over words) (inr (inr (omega (arith, long)))))
+    inr (faults.Length, is refl, length_is_first (region_over words) (too_long (size (region_over words)) (omega (arith, long))))
 words_refusal words lengths.Memory status many never is = absurd (never refl)
 
 -- more bytes too, and want of memory is said as that
@@ -54,7 +63,7 @@ pub bytes_refusal : (bytes : List ℕ) (e : RegionRefusal) (status : ℕ) → (e
 bytes_refusal bytes lengths.Length status many is memory =
     let long : 2 ^ 30 < length bytes = many refl in
     let whole : size (region_of bytes) ≡ length bytes = size_of_bytes bytes in
-    inr (faults.Length, is refl, length_is_first (region_of bytes) (inr (inr (omega (arith, long, whole)))))
+    inr (faults.Length, is refl, length_is_first (region_of bytes) (too_long (size (region_of bytes)) (omega (arith, long, whole))))
 bytes_refusal bytes lengths.Memory status many is memory = inl (memory refl)
 
 -- what was formatted isn't refused for its superblock
