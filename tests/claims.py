@@ -92,6 +92,11 @@ def check_counts(report):
 # ---- limits
 
 
+def size_in_words(size):
+    """A size in bytes as README.md writes it: in GiB if these are whole, else in MiB."""
+    return f"{size // 2**30} GiB" if size % 2**30 == 0 else f"{size // 2**20} MiB"
+
+
 def limit(crate, file, name):
     """A number that a definition stands for."""
     return int(re.search(rf"^{name} = (\d+)$", (CRATES / crate / "specs" / file).read_text(), re.M)[1])
@@ -101,7 +106,7 @@ def check_limits(report):
     """The limits of README.md are those of the definitions."""
     blocks, pages, size = (limit(*one) for one in (("nv_super", "Layout.antt", "most_blocks"), ("nv_entry", "Content.antt", "most_pages"), ("nv_entry", "Content.antt", "most_size")))
     wanted = (
-        f"| blocks of 4096 bytes | 8 | {blocks:,} ({blocks * 4096 // 2**20} MiB) |",
+        f"| blocks of 4096 bytes | 8 | {blocks:,} ({size_in_words(blocks * 4096)}) |",
         f"| pages of a file; its size in bytes | 0 | {pages:,}; {size:,} |",
     )
     for row in wanted:
