@@ -29,6 +29,8 @@ mod full;
 #[cfg(test)]
 mod images;
 #[cfg(test)]
+mod json;
+#[cfg(test)]
 mod limits;
 #[cfg(test)]
 mod line;
